@@ -1,0 +1,4 @@
+pub mod MaskLaws
+pub mod MoveLaws
+pub mod RowLaws
+pub mod EdgeLaws

@@ -1,0 +1,51 @@
+-- Moving a set of states: first over any test of the edges that an event matches, then for an event on a resource.
+use Prim.Native.Nat.{ℕ, zero, suc, _+_, _*_, _/_, _%_}
+use mathlib.Core.Bool.{Bool, true, false, not, _&&_, cond}
+use mathlib.Core.List.{List, [], _∷_}
+use lib.Dec.{eqb}
+use lib.ListN.{getD}
+use lib.Bits.{bitOr}
+use Rattle.usage.specs.declared.Edge.{Edge}
+use Rattle.usage.specs.Limits.{states}
+use Rattle.usage.specs.Tables.{from}
+use Rattle.automaton.specs.Mask.{has, single, union}
+
+-- what one edge adds to the ends of the matching edges from state q
+abbrev pub part : (Edge → Bool) → ℕ → Edge → ℕ
+part f q e = cond (f e && eqb (e .from) q) (single (e .to)) 0
+
+-- the ends of the matching edges from state q
+unfoldable pub targets : (Edge → Bool) → List Edge → ℕ → ℕ
+targets f [] q = 0
+targets f (e ∷ es) q = bitOr (part f q e) (targets f es q)
+
+-- where state q goes: to those ends, or, where there is none, it stays
+unfoldable pub image : (Edge → Bool) → List Edge → ℕ → ℕ
+image f es q = cond (eqb (targets f es q) 0) (single q) (targets f es q)
+
+-- where the states of the set m go
+unfoldable pub move : (Edge → Bool) → List Edge → ℕ → ℕ
+move f es m = union states (λ q. cond (has m q) (image f es q) 0)
+
+-- An edge's label matches an event on r; `own` says whether r is the instance's own resource.
+abbrev pub labelled : ℕ → ℕ → Bool → ℕ → Bool
+labelled zero who own r = eqb r who
+labelled (suc zero) who own r = own
+labelled (suc (suc zero)) who own r = not own
+labelled (suc (suc (suc k))) who own r = false
+
+-- the edge is of policy p and matches the event a(r)
+abbrev pub fires : ℕ → ℕ → ℕ → Bool → Edge → Bool
+fires p a r own e = (eqb (e .policy) p && eqb (e .action) a) && labelled (e .on) (e .who) own r
+
+-- the set m of states of an instance of policy p, moved by the event a(r)
+unfoldable pub moveMask : List Edge → ℕ → ℕ → ℕ → Bool → ℕ → ℕ
+moveMask es p a r own m = move (fires p a r own) es m
+
+-- The rows of an event: element 8 * p + q says where state q of policy p goes.
+unfoldable pub rowsOf : List Edge → ℕ → ℕ → Bool → List ℕ
+rowsOf es a r own = from (λ k. image (fires (k / 8) a r own) es (k % 8)) 0 64
+
+-- the set m moved by eight rows, from place k on
+unfoldable pub moveBy : List ℕ → ℕ → ℕ → ℕ
+moveBy rows k m = union states (λ q. cond (has m q) (getD rows (k + q) 0) 0)

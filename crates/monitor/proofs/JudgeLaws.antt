@@ -1,0 +1,126 @@
+-- The judge's answer to a step, case by case.
+use Prim.Native.Nat.{ℕ, zero, suc, _+_, _-_, _<_, _≤_}
+use mathlib.Core.Path.{_≡_, refl}
+use mathlib.Core.Bool.{true, false, _||_}
+use mathlib.Core.List.{List}
+use mathlib.Core.Option.{none, some}
+use native.Mathlib.Omega.{arith}
+use borrow.Author.Tests.{leb-true, le-leb, lt-leb, lt-ltb, le-ltb, eq-eqb, ne-eqb}
+use lib.Count.{trailingZeros}
+use lib.Dec.{leb, ltb}
+use lib.ListN.{getD}
+use Rattle.usage.specs.declared.Edge.{Edge}
+use Rattle.usage.specs.declared.RawStep.{RawStep}
+use Rattle.usage.specs.Past.{Step, event, opening, closing}
+use Rattle.usage.specs.Judge.{stepOf}
+use Rattle.usage.specs.Tables.{edgesOf, edgeTable}
+use Rattle.usage.proofs.Logic.{and-left}
+use Rattle.monitor.specs.declared.State.{State}
+use Rattle.monitor.specs.declared.Answer.the-variants.{Allowed, Violated}
+use Rattle.monitor.specs.Judge.{live, listed, stateOk, createdIn, movedBy, withUnclosed, after, broken, refusal, refuse, halt, settle, judgeStep, judgeRead, judgeOf}
+
+-- ── The answer ──
+
+pub settle-allowed : (bad : ℕ) (s t : State) → bad ≡ 0 → settle bad s t ≡ record { answer = Allowed; state = t }
+unfolding settle
+settle-allowed bad s t e = simp (eq-eqb bad 0 e)
+
+pub settle-violated : (bad : ℕ) (s t : State) → (bad ≡ 0 → ⊥) → settle bad s t ≡ record { answer = Violated (trailingZeros 8 bad); state = halt s }
+unfolding settle
+settle-violated bad s t e = simp (ne-eqb bad 0 e)
+
+-- ── Openings and closings ──
+
+pub count-kept : (s : State) (p n : ℕ) → withUnclosed s p n .count ≡ s .count
+unfolding withUnclosed
+count-kept s p n = refl
+
+module _ (es : List Edge) (s : State) (p : ℕ) where
+  pub opening-refused : 255 ≤ getD (s .unclosed) p 0 → judgeStep es s (opening p) (refusal s (opening p)) ≡ refuse 31 s
+  unfolding judgeStep refusal
+  opening-refused h = simp (le-leb 255 (getD (s .unclosed) p 0) h)
+
+  pub opening-taken : (t : State) → getD (s .unclosed) p 0 < 255 → t ≡ withUnclosed s p (getD (s .unclosed) p 0 + 1)
+      → judgeStep es s (opening p) (refusal s (opening p)) ≡ settle (broken t) s t
+  unfolding judgeStep refusal after
+  opening-taken t h e = simp (lt-leb 255 (getD (s .unclosed) p 0) h, e)
+
+  pub closing-refused : getD (s .unclosed) p 0 ≡ 0 → judgeStep es s (closing p) (refusal s (closing p)) ≡ refuse 25 s
+  unfolding judgeStep refusal
+  closing-refused h = simp (le-ltb 0 (getD (s .unclosed) p 0) (omega arith))
+
+  pub closing-taken : (t : State) → 0 < getD (s .unclosed) p 0 → t ≡ withUnclosed s p (getD (s .unclosed) p 0 - 1)
+      → judgeStep es s (closing p) (refusal s (closing p)) ≡ settle (broken t) s t
+  unfolding judgeStep refusal after
+  closing-taken t h e = simp (lt-ltb 0 (getD (s .unclosed) p 0) h, e)
+
+-- ── Events ──
+
+pub created-count : (s : State) (r : ℕ) → createdIn s r .count ≡ s .count + 1
+unfolding createdIn
+created-count s r = refl
+
+pub moved-count : (es : List Edge) (a r : ℕ) (s : State) → movedBy es a r s .count ≡ s .count
+unfolding movedBy
+moved-count es a r s = refl
+
+module _ (es : List Edge) (s : State) (r : ℕ) where
+  pub create-static : r < 16 → judgeStep es s (event 0 r) (refusal s (event 0 r)) ≡ refuse 22 s
+  unfolding judgeStep refusal
+  create-static h = simp (lt-ltb r 16 h)
+
+  pub create-again : 16 ≤ r → listed r (live s) ≡ true → judgeStep es s (event 0 r) (refusal s (event 0 r)) ≡ refuse 23 s
+  unfolding judgeStep refusal
+  create-again h l = simp (le-ltb r 16 h, l)
+
+  pub create-full : 16 ≤ r → listed r (live s) ≡ false → 64 ≤ s .count → judgeStep es s (event 0 r) (refusal s (event 0 r)) ≡ refuse 30 s
+  unfolding judgeStep refusal
+  create-full h l f = simp (le-ltb r 16 h, l, le-leb 64 (s .count) f)
+
+  pub create-taken : (t : State) → 16 ≤ r → listed r (live s) ≡ false → s .count < 64 → t ≡ movedBy es 0 r (createdIn s r)
+      → judgeStep es s (event 0 r) (refusal s (event 0 r)) ≡ settle (broken t) s t
+  unfolding judgeStep refusal after
+  create-taken t h l f e = simp (le-ltb r 16 h, l, lt-leb 64 (s .count) f, e)
+
+  -- another event
+  pub use-refused : (a : ℕ) → (a ≡ 0 → ⊥) → (ltb r 16 || listed r (live s)) ≡ false → judgeStep es s (event a r) (refusal s (event a r)) ≡ refuse 24 s
+  unfolding judgeStep refusal
+  use-refused zero h k = absurd (h refl)
+  use-refused (suc a) h k = simp k
+
+  pub use-taken : (a : ℕ) (t : State) → (a ≡ 0 → ⊥) → (ltb r 16 || listed r (live s)) ≡ true → t ≡ movedBy es a r s
+      → judgeStep es s (event a r) (refusal s (event a r)) ≡ settle (broken t) s t
+  unfolding judgeStep refusal after
+  use-taken zero t h k e = absurd (h refl)
+  use-taken (suc a) t h k e = simp (k, e)
+
+-- ── The step as it is handed over ──
+
+module _ (edges : List ℕ) (s : State) (raw : RawStep) where
+  pub table-refused : edgeTable edges ≡ false → judgeOf edges s raw ≡ refuse 41 s
+  unfolding judgeOf
+  table-refused e = simp e
+
+  module _ (t : edgeTable edges ≡ true) where
+    pub state-refused : stateOk s ≡ false → judgeOf edges s raw ≡ refuse 42 s
+    unfolding judgeOf
+    state-refused e = simp (t, e)
+
+    module _ (w : stateOk s ≡ true) where
+      pub halted-refused : s .halted ≡ true → judgeOf edges s raw ≡ refuse 20 s
+      unfolding judgeOf
+      halted-refused e = simp (t, w, e)
+
+      module _ (h : s .halted ≡ false) where
+        pub unread : stepOf raw ≡ none → judgeOf edges s raw ≡ refuse 21 s
+        unfolding judgeOf judgeRead
+        unread e = simp (t, w, h, e)
+
+        pub judged : (step : Step) → stepOf raw ≡ some step → judgeOf edges s raw ≡ judgeStep (edgesOf edges) s step (refusal s step)
+        unfolding judgeOf judgeRead
+        judged step e = simp (t, w, h, e)
+
+-- a sound state has at most 64 created resources
+pub count-ok : (s : State) → stateOk s ≡ true → s .count ≤ 64
+unfolding stateOk
+count-ok s e = leb-true (s .count) 64 (and-left (leb (s .count) 64) _ e)

@@ -1,0 +1,23 @@
+-- The answer is the definition's, and so the one that the past says.
+use mathlib.Core.Path.{sym, subst}
+use borrow.Author.Needs.{needs}
+use Rattle.usage.specs.Tables.{edgesOf}
+use Rattle.usage.proofs.TableLaws.{decides-edge-table}
+use Rattle.monitor.specs.Promise.{Promised}
+use Rattle.monitor.proofs.Verdict.{judge-promised}
+use Rattle.monitor.proofs.judge.Statement.{statement}
+use Rattle.monitor.proofs.judge.Tie as tie
+
+decide-requires : tie.Need-decide-requires
+decide-requires c κs = search needs
+
+returns : tie.Need-returns
+returns c =
+    let a = c .before .before .args in
+    let t = a .edges .now in (
+      c .decide .ensures,
+      λ past h ok R. subst (Promised (edgesOf t) past h (a .s) (a .step)) (sym (c .decide .ensures)) (judge-promised t (decides-edge-table t .1 ok) past h (a .s) R (a .step)),
+    )
+
+pub judge-spec : {M : Type 1} → statement M
+judge-spec = tie.close (tie.spec decide-requires returns)

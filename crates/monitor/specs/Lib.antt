@@ -1,0 +1,4 @@
+pub mod Judge
+pub mod Represents
+pub mod Promise
+pub mod Code
