@@ -1,0 +1,4 @@
+-- Document 01's cases A to L are right (AllRight); those of the check by computing its search.
+pub mod Searches
+pub mod ChecksIL
+pub mod AllRight

@@ -1,0 +1,30 @@
+use Rattle.modelcheck.proofs.CodeLaws.{place-lt}
+use denote.Ref.{now}
+use Rattle.modelcheck.specs.Mask.{joined}
+use native.Mathlib.Omega.{arith}
+use mathlib.Core.Path.{ap, _∙_}
+use Prim.Native.Nat.{ℕ}
+use borrow.Author.Needs.{needs}
+use Rattle.modelcheck.proofs.search.enter.Statement.{statement}
+use Rattle.modelcheck.proofs.search.enter.Tie as tie
+use Rattle.modelcheck.proofs.search.enter.Reads as reads
+use Rattle.modelcheck.proofs.search.enter.Lts as lts
+use Rattle.modelcheck.proofs.place.Reads as place-reads
+use Rattle.modelcheck.proofs.join.Reads as join-reads
+
+place-requires : tie.Need-place-requires
+place-requires c κs = search needs
+
+join-requires : tie.Need-join-requires
+join-requires c κs =
+    let a = c .before .before .args in
+    let p = c .before .before .pre in
+    (p .0, omega (arith, c .before .place .ensures, place-lt (a .k) (a .o) (a .m) (p .1 .0) (p .1 .1)))
+
+returns : tie.Need-returns
+returns c =
+    let a = c .before .before .before .args in
+    (c .join .ensures .0 ∙ ap (λ (i : ℕ). joined (now (a .u)) i (a .v)) (c .before .before .place .ensures), c .join .ensures .1)
+
+pub enter-spec : {M : Type 1} → statement M
+enter-spec = tie.close (tie.spec place-requires join-requires returns)
