@@ -1,0 +1,346 @@
+//! `verify`: the proved code and the plain program answer the same. `rows`: runs each case once in `measured`, for callgrind, and
+//! prints a line for each; `rows NAME` only those whose names begin so. `worst`: milliseconds of the hardest outlines. With the feature `count`,
+//! `climb SEED TURNS` looks for a harder one.
+
+mod automaton;
+mod inputs;
+mod modelcheck;
+mod monitor;
+mod rules;
+
+use inputs::{Outline, Step};
+use monitor::State;
+use reference::rng::Rng;
+use std::hint::black_box;
+use std::time::{Duration, Instant};
+
+extern "C" {
+    fn judge_parts(
+        edges: *const u8,
+        edges_len: usize,
+        sets: *mut [u8; 648],
+        created: *mut [u32; 64],
+        unclosed: *mut [u8; 8],
+        numbers: *mut [u64; 2],
+        kind: u32,
+        a: u32,
+        b: u32,
+    ) -> u32;
+    fn check_tables(edges: *const u8, edges_len: usize, nodes: *const u8, nodes_len: usize) -> u32;
+}
+
+fn proved_check(edges: &[u8], nodes: &[u8]) -> u32 {
+    unsafe { check_tables(edges.as_ptr(), edges.len(), nodes.as_ptr(), nodes.len()) }
+}
+
+/// The state as the proved code is lent it.
+struct Parts {
+    sets: [u8; 648],
+    created: [u32; 64],
+    unclosed: [u8; 8],
+    numbers: [u64; 2],
+}
+
+impl Parts {
+    fn of(state: &State) -> Parts {
+        let State { sets, created, count, unclosed, halted } = state.clone();
+        Parts { sets, created, unclosed, numbers: [count as u64, halted.into()] }
+    }
+
+    fn state(&self) -> State {
+        let Parts { sets, created, unclosed, numbers } = *self;
+        State { sets, created, count: numbers[0] as usize, unclosed, halted: numbers[1] != 0 }
+    }
+
+    fn judge(&mut self, edges: &[u8], [kind, a, b]: Step) -> u32 {
+        let Parts { sets, created, unclosed, numbers } = self;
+        unsafe { judge_parts(edges.as_ptr(), edges.len(), sets, created, unclosed, numbers, kind, a, b) }
+    }
+}
+
+fn plain_judge(state: &mut State, edges: &[u8], [kind, a, b]: Step) -> u32 {
+    monitor::judge(edges, state, kind, a, b).code()
+}
+
+/// What callgrind counts: it collects inside this function only and writes a file at each return.
+#[inline(never)]
+#[no_mangle]
+fn measured(work: &mut dyn Work) {
+    work.work();
+}
+
+trait Work {
+    fn work(&mut self);
+}
+
+impl<F: FnMut()> Work for F {
+    fn work(&mut self) {
+        self();
+    }
+}
+
+fn verify_judge(edges: &[u8], steps: &[Step]) {
+    let mut state = monitor::START;
+    let mut parts = Parts::of(&state);
+    for step in steps {
+        let proved = parts.judge(edges, *step);
+        let plain = plain_judge(&mut state, edges, *step);
+        assert_eq!(proved, plain, "the judge on {step:?}");
+        assert!(parts.state() == state, "the state after {step:?}");
+    }
+}
+
+fn verify_check(outline: &Outline) -> u32 {
+    let proved = proved_check(&outline.edges, &outline.nodes);
+    let plain = modelcheck::check(&outline.edges, &outline.nodes);
+    assert_eq!(proved, plain, "the check of {:?} under {:?}", outline.nodes, outline.edges);
+    proved
+}
+
+/// Both on all that is measured and on much more.
+fn verify() {
+    let mut rng = Rng::new(5);
+    let mut judged = 0;
+    for case in judge_cases() {
+        let steps = [case.before.clone(), case.steps.clone()].concat();
+        verify_judge(&case.edges, &steps);
+        judged += steps.len();
+    }
+    for _ in 0..300 {
+        let count = rng.below(40) as usize;
+        let mut edges = inputs::loud_edges(&mut rng, count);
+        if rng.percent(5) {
+            edges.push(rng.below(9) as u8);
+        }
+        let steps = inputs::wild_steps(&mut rng, 100);
+        verify_judge(&edges, &steps);
+        judged += steps.len();
+    }
+    let mut counts = [0; 3];
+    for (_, outlines) in check_cases() {
+        for outline in &outlines {
+            counts[verify_check(outline) as usize / 256] += 1;
+        }
+    }
+    for round in 0..3000 {
+        let (nodes, edges) = (rng.between(2, 40) as usize, rng.below(60) as usize);
+        let mut outline = inputs::grown(&mut rng, nodes, edges, false);
+        if round % 4 == 0 {
+            let at = rng.below(outline.nodes.len() as u64) as usize;
+            outline.nodes[at] = rng.below(12) as u8;
+        }
+        counts[verify_check(&outline) as usize / 256] += 1;
+    }
+    println!("equal: {judged} judged steps; outlines: {} accepted, {} broken, {} refused", counts[0], counts[1], counts[2]);
+}
+
+struct JudgeCase {
+    name: String,
+    edges: Vec<u8>,
+    before: Vec<Step>,
+    steps: Vec<Step>,
+}
+
+fn judge_cases() -> Vec<JudgeCase> {
+    let mut cases = Vec::new();
+    for edges in [0, 16, 64, 256] {
+        for created in [0, 16, 64] {
+            let mut rng = Rng::new(1);
+            cases.push(JudgeCase {
+                name: format!("step: {edges} edges, {created} created"),
+                edges: inputs::quiet_edges(&mut rng, edges, 8),
+                before: inputs::opening_steps(created),
+                steps: inputs::steps(&mut rng, 500, created, 8),
+            });
+        }
+    }
+    let mut rng = Rng::new(2);
+    let mut edges = inputs::quiet_edges(&mut rng, 256, 2);
+    edges.chunks_exact_mut(6).for_each(|edge| edge[2] = 1);
+    let steps = inputs::steps(&mut rng, 500, 64, 1);
+    cases.push(JudgeCase { name: "step: 256 edges of its action, 64 created".into(), edges, before: inputs::opening_steps(64), steps });
+    let steps = inputs::opening_steps(64).split_off(8);
+    let edges = inputs::quiet_edges(&mut rng, 64, 8);
+    cases.push(JudgeCase { name: "create: 64 edges, 0 to 63 created".into(), edges, before: inputs::opening_steps(0), steps });
+    cases
+}
+
+/// The outlines that are measured, by name.
+fn check_cases() -> Vec<(String, Vec<Outline>)> {
+    let mut cases = Vec::new();
+    for edges in [64, 256] {
+        for nodes in [8, 16, 32, 64] {
+            let mut rng = Rng::new(3);
+            let outlines = (0..8).map(|_| inputs::grown(&mut rng, nodes, edges, true)).collect();
+            cases.push((format!("typical: {nodes} nodes, {edges} edges"), outlines));
+        }
+    }
+    for nodes in [16, 32, 64] {
+        let outline = inputs::hard(&mut Rng::new(4), nodes);
+        cases.push((format!("hard: {nodes} nodes, {} edges", outline.edges.len() / 6), vec![outline]));
+    }
+    cases.push(("worst found: 64 nodes, 256 edges".into(), vec![worst_found()]));
+    cases
+}
+
+/// What `climb` found, as it printed it: the nodes in a line, and the edges in a line.
+fn worst_found() -> Outline {
+    let mut lines = include_str!("../worst.txt").lines();
+    let mut table = || lines.next().unwrap_or("").split_whitespace().map(|n| n.parse().unwrap()).collect();
+    Outline { nodes: table(), edges: table() }
+}
+
+fn rows(only: &str) {
+    let chosen = |name: &str| name.starts_with(only);
+    for JudgeCase { name, edges, before, steps } in judge_cases().into_iter().filter(|case| chosen(&case.name)) {
+        let mut state = monitor::START;
+        for step in before {
+            assert_eq!(plain_judge(&mut state, &edges, step), 0);
+        }
+        let mut parts = Parts::of(&state);
+        let mut codes = 0;
+        measured(&mut || {
+            for step in &steps {
+                codes |= black_box(parts.judge(black_box(&edges), *step));
+            }
+        });
+        measured(&mut || {
+            for step in &steps {
+                codes |= black_box(plain_judge(&mut state, black_box(&edges), *step));
+            }
+        });
+        assert_eq!(codes, 0, "every step is allowed");
+        assert!(parts.state() == state);
+        println!("{}\t{name}", steps.len());
+    }
+    for (name, outlines) in check_cases().into_iter().filter(|(name, _)| chosen(name)) {
+        measured(&mut || {
+            for outline in &outlines {
+                black_box(proved_check(black_box(&outline.edges), black_box(&outline.nodes)));
+            }
+        });
+        measured(&mut || {
+            for outline in &outlines {
+                black_box(modelcheck::check(black_box(&outline.edges), black_box(&outline.nodes)));
+            }
+        });
+        println!("{}\t{name}", outlines.len());
+    }
+}
+
+/// The least time of some runs.
+fn time(outline: &Outline, runs: usize) -> Duration {
+    let run = || {
+        let start = Instant::now();
+        black_box(proved_check(black_box(&outline.edges), black_box(&outline.nodes)));
+        start.elapsed()
+    };
+    (0..runs).map(|_| run()).min().unwrap()
+}
+
+fn worst() {
+    for (name, outlines) in check_cases() {
+        let worst = outlines.iter().map(|outline| time(outline, 5)).max().unwrap();
+        println!("{:8.3} ms  the slowest of {}  {name}", worst.as_secs_f64() * 1e3, outlines.len());
+    }
+}
+
+/// About how much work the check of an outline is, or 0 where it is refused.
+#[cfg(feature = "count")]
+fn work(outline: &Outline) -> u64 {
+    modelcheck::WORK.store(0, std::sync::atomic::Ordering::Relaxed);
+    match modelcheck::check(&outline.edges, &outline.nodes) / 256 {
+        2 => 0,
+        _ => modelcheck::WORK.load(std::sync::atomic::Ordering::Relaxed),
+    }
+}
+
+/// Changes an outline and keeps what is more work, over and over.
+#[cfg(feature = "count")]
+fn climb(seed: u64, turns: usize) {
+    let mut rng = Rng::new(seed);
+    let mut best = if seed % 2 == 0 { inputs::hard(&mut rng, 64) } else { inputs::grown(&mut rng, 64, 256, true) };
+    let mut most = work(&best);
+    for _ in 0..turns {
+        let mut next = best.clone();
+        for _ in 0..rng.between(1, 4) {
+            change(&mut rng, &mut next);
+        }
+        let found = work(&next);
+        if found >= most {
+            most = found;
+            best = next;
+        }
+    }
+    eprintln!("work {most}, {} edges", best.edges.len() / 6);
+    for table in [&best.nodes, &best.edges] {
+        println!("{}", table.iter().map(u8::to_string).collect::<Vec<_>>().join(" "));
+    }
+}
+
+#[cfg(feature = "count")]
+fn change(rng: &mut Rng, outline: &mut Outline) {
+    let k = 3 * rng.below(outline.nodes.len() as u64 / 3) as usize;
+    let i = 6 * rng.below(outline.edges.len() as u64 / 6) as usize;
+    match rng.below(10) {
+        0..=2 => {
+            let loops: Vec<u8> = (0..outline.nodes.len() / 3).filter(|n| outline.nodes[3 * n] == 5).map(|n| n as u8).collect();
+            let node = &mut outline.nodes[k..k + 3];
+            let new = match node[0] {
+                0 | 1 | 2 | 6 => match rng.below(4) {
+                    0 => [0, 0, 0],
+                    1 => [1, rng.between(1, 5) as u8, rng.below(16) as u8],
+                    2 => [2, rng.between(1, 5) as u8, rng.below(4) as u8],
+                    _ if !loops.is_empty() => [6, rng.pick(&loops), 0],
+                    _ => return,
+                },
+                3 => [4, node[1], node[2]],
+                4 => [3, node[2], node[1]],
+                5 => [8, rng.below(8) as u8, node[1]],
+                7 => [rng.pick(&[7, 8]), rng.below(4) as u8, node[2]],
+                _ => match rng.below(3) {
+                    0 => [5, node[2], 0],
+                    1 => [7, rng.below(4) as u8, node[2]],
+                    _ => [8, rng.below(8) as u8, node[2]],
+                },
+            };
+            node.copy_from_slice(&new);
+        }
+        3 => {
+            // two subtrees change places
+            let j = 3 * rng.below(outline.nodes.len() as u64 / 3) as usize;
+            if outline.nodes[k] == 3 && outline.nodes[j] == 3 {
+                outline.nodes.swap(k + 1, j + 2);
+            }
+        }
+        _ if outline.edges.is_empty() => {}
+        4 if outline.edges.len() < 6 * 256 => {
+            let edge = outline.edges[i..i + 6].to_vec();
+            outline.edges.extend(edge);
+        }
+        5 => outline.edges[i] = rng.below(8) as u8,
+        6 => outline.edges[i + 1] = rng.below(8) as u8,
+        7 => outline.edges[i + 2] = rng.below(6) as u8,
+        8 => {
+            outline.edges[i + 3] = rng.between(1, 2) as u8;
+            outline.edges[i + 4] = 0;
+        }
+        _ => outline.edges[i + 5] = rng.below(8) as u8,
+    }
+}
+
+fn main() {
+    let words: Vec<String> = std::env::args().skip(1).collect();
+    match words.iter().map(String::as_str).collect::<Vec<_>>()[..] {
+        ["verify"] => verify(),
+        ["rows"] => rows(""),
+        ["rows", only] => rows(only),
+        ["worst"] => worst(),
+        #[cfg(feature = "count")]
+        ["climb", seed, turns] => climb(seed.parse().unwrap(), turns.parse().unwrap()),
+        _ => {
+            eprintln!("usage: bench verify | rows [NAME] | worst | climb SEED TURNS");
+            std::process::exit(2);
+        }
+    }
+}

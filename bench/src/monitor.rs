@@ -1,0 +1,163 @@
+//! Plain Rust: one step of the judge, as crates/monitor has it.
+
+use crate::automaton::{edge_table_ok, image, rows};
+
+const INSTANCES: usize = 81;
+const NEVER_OCCURRED: usize = 16;
+
+#[derive(Clone, PartialEq, Eq)]
+pub struct State {
+    pub sets: [u8; 648],
+    pub created: [u32; 64],
+    pub count: usize,
+    pub unclosed: [u8; 8],
+    pub halted: bool,
+}
+
+pub enum Answer {
+    Allowed,
+    Violated(u8),
+    Refused(u8),
+}
+
+impl Answer {
+    pub fn code(&self) -> u32 {
+        match *self {
+            Answer::Allowed => 0,
+            Answer::Violated(policy) => 256 + u32::from(policy),
+            Answer::Refused(number) => 512 + u32::from(number),
+        }
+    }
+}
+
+pub const START: State = State { sets: [1; 648], created: [0; 64], count: 0, unclosed: [0; 8], halted: false };
+
+impl State {
+    fn ok(&self) -> bool {
+        if self.count > 64 {
+            return false;
+        }
+        let created = &self.created[..self.count];
+        created.iter().all(|x| (16..65536).contains(x)) && distinct(created)
+    }
+
+    /// The place of a resource's instance; 16 where it never occurred.
+    fn place(&self, resource: u32) -> usize {
+        if resource < 16 {
+            return resource as usize;
+        }
+        let created = self.created[..self.count].iter().position(|x| *x == resource);
+        created.map_or(NEVER_OCCURRED, |at| 17 + at)
+    }
+
+    /// The lowest policy that is open and not respected.
+    fn broken(&self, sets: &[u8; 648]) -> Option<u8> {
+        let mut bad = 0u8;
+        for (policy, (sets, unclosed)) in sets.chunks_exact(INSTANCES).zip(self.unclosed).enumerate() {
+            if unclosed != 0 && sets[..17 + self.count].iter().fold(0, |all, set| all | set) >= 64 {
+                bad |= 1 << policy;
+            }
+        }
+        (bad != 0).then(|| bad.trailing_zeros() as u8)
+    }
+
+    fn event(&mut self, edges: &[u8], action: u32, resource: u32) -> Answer {
+        let mut sets = self.sets;
+        let mut count = self.count;
+        let mut at = self.place(resource);
+        if action == 0 {
+            if resource < 16 {
+                return Answer::Refused(22);
+            }
+            if at != NEVER_OCCURRED {
+                return Answer::Refused(23);
+            }
+            if count >= 64 {
+                return Answer::Refused(30);
+            }
+            at = 17 + count;
+            count += 1;
+            for sets in sets.chunks_exact_mut(INSTANCES) {
+                sets[at] = sets[NEVER_OCCURRED];
+            }
+        } else if at == NEVER_OCCURRED {
+            return Answer::Refused(24);
+        }
+        let (own, other) = rows(edges, action, resource);
+        let policies = sets.chunks_exact_mut(INSTANCES).zip(own.chunks_exact(8)).zip(other.chunks_exact(8));
+        for ((sets, own), other) in policies {
+            move_policy(&mut sets[..17 + count], at, own.try_into().unwrap(), other.try_into().unwrap());
+        }
+        let before = self.count;
+        self.count = count;
+        if let Some(policy) = self.broken(&sets) {
+            self.count = before;
+            self.halted = true;
+            return Answer::Violated(policy);
+        }
+        self.sets = sets;
+        if action == 0 {
+            self.created[before] = resource;
+        }
+        Answer::Allowed
+    }
+
+    fn opening(&mut self, policy: usize) -> Answer {
+        if self.unclosed[policy] == 255 {
+            return Answer::Refused(31);
+        }
+        self.unclosed[policy] += 1;
+        if let Some(broken) = self.broken(&self.sets) {
+            self.unclosed[policy] -= 1;
+            self.halted = true;
+            return Answer::Violated(broken);
+        }
+        Answer::Allowed
+    }
+
+    fn closing(&mut self, policy: usize) -> Answer {
+        if self.unclosed[policy] == 0 {
+            return Answer::Refused(25);
+        }
+        self.unclosed[policy] -= 1;
+        if let Some(broken) = self.broken(&self.sets) {
+            self.unclosed[policy] += 1;
+            self.halted = true;
+            return Answer::Violated(broken);
+        }
+        Answer::Allowed
+    }
+}
+
+fn distinct(numbers: &[u32]) -> bool {
+    // No early exit inside, so that several are compared at once.
+    (0..numbers.len()).all(|i| !numbers[i + 1..].iter().fold(false, |found, x| found | (*x == numbers[i])))
+}
+
+/// Moves the sets of a policy by the rows `other`, but the one at `at` by the rows `own`.
+fn move_policy(sets: &mut [u8], at: usize, own: &[u8; 8], other: &[u8; 8]) {
+    let moved = image(sets[at], own);
+    for set in sets.iter_mut() {
+        *set = image(*set, other);
+    }
+    sets[at] = moved;
+}
+
+/// One step.
+pub fn judge(edges: &[u8], state: &mut State, kind: u32, a: u32, b: u32) -> Answer {
+    if !edge_table_ok(edges) {
+        return Answer::Refused(41);
+    }
+    if !state.ok() {
+        return Answer::Refused(42);
+    }
+    if state.halted {
+        return Answer::Refused(20);
+    }
+    match (kind, a, b) {
+        (0, 0..=31, 0..=65535) => state.event(edges, a, b),
+        (1, 0..=7, 0) => state.opening(a as usize),
+        (2, 0..=7, 0) => state.closing(a as usize),
+        _ => Answer::Refused(21),
+    }
+}

@@ -1,0 +1,37 @@
+-- "The judge and the check are lent the edges as a slice of records": the judge over the list of the records.
+use Prim.Native.Nat.{ℕ}
+use mathlib.Core.Bool.{Bool}
+use mathlib.Core.List.{List, [], _∷_}
+use Rattle.usage.specs.declared.Edge.{Edge}
+use Rattle.usage.specs.declared.RawStep.{RawStep}
+use Rattle.usage.specs.Policy.{EdgesOk}
+use Rattle.usage.specs.Past.{Past}
+use Rattle.modelcheck.specs.declared.Outcome.{Outcome}
+use Rattle.modelcheck.specs.Promise as Checks
+use Rattle.monitor.specs.declared.State.{State}
+use Rattle.monitor.specs.declared.Judgement.{Judgement}
+use Rattle.monitor.specs.Judge.{judgeOf}
+use Rattle.monitor.specs.Represents.{Represents}
+use Rattle.monitor.specs.Promise.{Promised}
+
+-- "An edge is a record of policy, from, action, on, who, to": the flat table of the edges, six numbers to each
+unfoldable pub flat : List Edge → List ℕ
+flat [] = []
+flat (e ∷ es) = e .policy ∷ e .from ∷ e .action ∷ e .on ∷ e .who ∷ e .to ∷ flat es
+
+-- The judge, lent the edges as records: the judge over their flat table. So more than 256 are "a table lent to be used that, taken
+-- whole, no accepted sheet gives" (41).
+unfoldable pub judgeRecords : List Edge → State → RawStep → Judgement
+judgeRecords es s raw = judgeOf (flat es) s raw
+
+-- The promise of a step, over the past alone: for every past that the state stands for, under the edges of an accepted sheet.
+abbrev pub KeepsRecords : List Edge → State → RawStep → Judgement → Type 0
+KeepsRecords es s raw j = (past : Past) (h : Bool) → EdgesOk es → Represents es past h s → Promised es past h s raw j
+
+-- What the check promises of two flat tables: the right answer, and what acceptance means for the judge.
+abbrev pub CheckedTable : List ℕ → List ℕ → Outcome → Type 0
+CheckedTable t ns r = Checks.Promised t ns r × Checks.Guarded t ns r
+
+-- The check, lent the edges as records, keeps the promise of the check over their flat table.
+abbrev pub CheckedRecords : List Edge → List ℕ → Outcome → Type 0
+CheckedRecords es ns r = CheckedTable (flat es) ns r

@@ -1,0 +1,19 @@
+-- Two sheets have one output.
+use mathlib.Core.Path.{_≡_, refl, ap}
+use mathlib.Core.List.{List, _++_}
+use Prim.Native.Nat.{ℕ}
+use Rattle.usage.proofs.CheckLaws.{checked-unique}
+use Rattle.sheets.specs.Sheet.{Result}
+use Rattle.report.specs.Lines.{names-line, verdict-row}
+use Rattle.report.specs.Outline.{NodesRow, outline-refused, outline-checked, OutlineRow, policies-refused, policies-accepted, OutlinePrinted, prints}
+
+nodes-unique : {edges : List ℕ} {o : Result} {x y : List ℕ} → NodesRow edges o x → NodesRow edges o y → x ≡ y
+nodes-unique outline-refused outline-refused = refl
+nodes-unique (outline-checked c) (outline-checked d) = ap (verdict-row 0) (checked-unique c d)
+
+row-unique : {p o : Result} {x y : List ℕ} → OutlineRow p o x → OutlineRow p o y → x ≡ y
+row-unique policies-refused policies-refused = refl
+row-unique (policies-accepted r) (policies-accepted s) = nodes-unique r s
+
+pub printed-unique : {p o x y : List ℕ} → OutlinePrinted p o x → OutlinePrinted p o y → x ≡ y
+printed-unique (prints r) (prints s) = ap (λ (l : List ℕ). names-line ++ l) (row-unique r s)

@@ -1,0 +1,34 @@
+-- What is printed for two accepted sheets is right: the answers are those that the definitions over the past give.
+use Prim.Native.Nat.{ℕ}
+use mathlib.Core.Path.{_≡_}
+use mathlib.Core.Bool.{false}
+use mathlib.Core.List.{List, [], _++_, map, flatten}
+use Rattle.usage.specs.declared.Edge.{Edge}
+use Rattle.usage.specs.declared.RawStep.{RawStep}
+use Rattle.usage.specs.Answers.{Verdict}
+use Rattle.usage.specs.Judge.{JudgedAll}
+use Rattle.usage.specs.Tables.{edgesOf, stepsOf}
+use Rattle.usage.proofs.TableLaws.{decides-edge-table}
+use Rattle.sheets.specs.Sheet.{accepted, sheet}
+use Rattle.sheets.specs.Readers.{policies, trace}
+use Rattle.monitor.specs.Judge.{verdictOf, begin, answersOf}
+use Rattle.monitor.proofs.Verdict.{all-judged-begin}
+use Rattle.report.specs.Lines.{names-line, rows}
+use Rattle.report.specs.Trace.{judged-rows, trace-rows, sheets-rows, tracePrinted}
+use Rattle.report.proofs.AcceptedLaws.{accepted-edges}
+
+-- the names, and a row for each step from line 2 on, with the right answers
+pub record Right (edges : List Edge) (steps : List RawStep) (output : List ℕ) : Type 0 where
+  pub verdicts : List Verdict
+  pub judged : JudgedAll edges [] false steps verdicts
+  pub printed : output ≡ names-line ++ rows 2 verdicts
+
+pub trace-right : (policies-text trace-text : List ℕ) (edges steps : List (List ℕ))
+    → sheet policies policies-text ≡ accepted edges → sheet trace trace-text ≡ accepted steps
+    → Right (edgesOf (flatten edges)) (stepsOf (flatten steps)) (tracePrinted policies-text trace-text)
+unfolding tracePrinted sheets-rows trace-rows judged-rows
+trace-right policies-text trace-text edges steps p t = record {
+  verdicts = map verdictOf (answersOf (flatten edges) begin (stepsOf (flatten steps)));
+  judged = all-judged-begin (flatten edges) (decides-edge-table (flatten edges) .1 (accepted-edges policies-text edges p)) (stepsOf (flatten steps));
+  printed = rw (p, t);
+}

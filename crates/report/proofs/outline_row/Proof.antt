@@ -1,0 +1,140 @@
+use native.Mathlib.Omega.{arith}
+use Prim.Native.Nat.{ℕ, _≤_}
+use denote.Ref.{now}
+use mir.Syntax.{w8}
+use mir.Val.{Fits}
+use mathlib.Core.List.{List}
+use Rattle.usage.specs.Answers.{Verdict}
+use Rattle.usage.specs.Check.{Checked}
+use Rattle.usage.specs.Tables.{edgesOf, nodesOf, EdgeTable, NodeTable}
+use Rattle.modelcheck.specs.Promise.{told}
+use Rattle.report.proofs.ReadLaws.{outline-held, outline-refused-as}
+use Rattle.report.proofs.OutlinePuts.{eight, refused-eight, put-checked, put-refused}
+use borrow.Author.Needs.{needs}
+use Rattle.report.proofs.outline_row.Statement.{statement}
+use Rattle.report.proofs.outline_row.Tie as tie
+
+slice-aggregate-read-outline : tie.Need-slice-aggregate-read-outline
+slice-aggregate-read-outline c = search needs
+
+read-outline-requires : tie.Need-read-outline-requires
+read-outline-requires c κs = search needs
+
+enum-known-reading : tie.Need-enum-known-reading
+enum-known-reading c = search needs
+
+mul-check : tie.Need-mul-check
+mul-check c =
+    let a = c .before .before .before .before .before .before .before .before .before .args in
+    let r = c .before .before .before .before .read-outline in
+    let g = c .before .reading .given in
+    let n = g .0 .0 in
+    let h = outline-held (now (a .text)) (r .last .1 .0) n (rw (g .1) at (r .ensures .0)) (r .ensures .1) in
+    let f : n ≤ 64 = h .few in
+    search needs
+
+sub-check : tie.Need-sub-check
+sub-check c = search needs
+
+part-check-start : tie.Need-part-check-start
+part-check-start c = search needs
+
+part-check-end : tie.Need-part-check-end
+part-check-end c =
+    let a = c .before .before .before .before .before .before .before .before .before .before .args in
+    let r = c .before .before .before .before .before .read-outline in
+    let g = c .before .before .reading .given in
+    let n = g .0 .0 in
+    let h = outline-held (now (a .text)) (r .last .1 .0) n (rw (g .1) at (r .ensures .0)) (r .ensures .1) in
+    let f : n ≤ 64 = h .few in
+    search needs
+
+check-requires : tie.Need-check-requires
+check-requires c κs = search needs
+
+outcome-number-requires : tie.Need-outcome-number-requires
+outcome-number-requires c κs = search needs
+
+outcome-detail-requires : tie.Need-outcome-detail-requires
+outcome-detail-requires c κs = search needs
+
+cast-row : tie.Need-cast-row
+cast-row c = search needs
+
+row-requires : tie.Need-row-requires
+row-requires c κs =
+    let m = c .before .outcome-number in
+    let d = c .outcome-detail in
+    let p = c .before .before .before .before .before .before .before .before .before .before .before .before .before .before .before .pre .1 in
+    let b : Fits w8 (d .result) = search needs in
+    omega (arith, eight (told (c .before .before .before .check .result)) (m .result) (d .result) (m .ensures) (d .ensures) (b .fits))
+
+enum-known-reading-2 : tie.Need-enum-known-reading-2
+enum-known-reading-2 c = search needs
+
+cast-row-2 : tie.Need-cast-row-2
+cast-row-2 c = search needs
+
+row-requires-2 : tie.Need-row-requires-2
+row-requires-2 c κs =
+    let a = c .before .before .before .before .before .before .before .before .before .before .args in
+    let r = c .before .before .before .before .before .read-outline in
+    let g = c .before .before .reading2 .given in
+    let p = c .before .before .before .before .before .before .before .before .before .before .pre .1 in
+    let z = outline-refused-as (now (a .text)) (g .0 .0) (g .0 .1 .0) (rw (g .1) at (r .ensures .0)) in
+    omega (arith, refused-eight (now (a .text)) (g .0 .0) (g .0 .1 .0) z)
+
+same-length : tie.Need-same-length
+same-length c = search needs
+
+returns : tie.Need-returns
+returns c =
+    let a = c .before .before .before .before .before .before .before .before .before .before .before .before .before .before .before .before .before .before .args in
+    let r = c .before .before .before .before .before .before .before .before .before .before .before .before .before .read-outline in
+    let g = c .before .before .before .before .before .before .before .before .before .before .reading .given in
+    let n = g .0 .0 in
+    let h = outline-held (now (a .text)) (r .last .1 .0) n (rw (g .1) at (r .ensures .0)) (r .ensures .1) in
+    let f : n ≤ 64 = h .few in
+    let w = c .before .before .row in
+    let m = c .before .before .before .before .outcome-number in
+    let d = c .before .before .before .outcome-detail in
+    let k = c .before .before .before .before .before .before .check in
+    let p = c .before .before .before .before .before .before .before .before .before .before .before .before .before .before .before .before .before .before .pre in
+    let b : Fits w8 (d .result) = search needs in
+    put-checked (now (a .edges)) (now (a .text)) (now (a .out)) (w .last .0) (a .at) (w .result) (p .1) (r .last .1 .0) n h (told (k .result)) (m .result) (d .result) (λ t. k .ensures .0 .right (p .0) t) (m .ensures) (d .ensures) (b .fits) (w .ensures .0) (w .ensures .1)
+
+same-length-2 : tie.Need-same-length-2
+same-length-2 c = search needs
+
+returns-2 : tie.Need-returns-2
+returns-2 c =
+    let a = c .before .before .before .before .before .before .before .before .before .before .before .before .before .args in
+    let r = c .before .before .before .before .before .before .before .before .read-outline in
+    let g = c .before .before .before .before .before .reading2 .given in
+    let w = c .before .before .row2 in
+    let z = outline-refused-as (now (a .text)) (g .0 .0) (g .0 .1 .0) (rw (g .1) at (r .ensures .0)) in
+    put-refused (now (a .edges)) (now (a .text)) (now (a .out)) (w .last .0) (a .at) (w .result) (c .before .before .before .before .before .before .before .before .before .before .before .before .before .pre .1) (g .0 .0) (g .0 .1 .0) z (w .ensures .0) (w .ensures .1)
+
+pub outline-row-spec : {M : Type 1} → statement M
+outline-row-spec =
+    tie.close
+    (tie.spec
+    slice-aggregate-read-outline
+    read-outline-requires
+    enum-known-reading
+    mul-check
+    sub-check
+    part-check-start
+    part-check-end
+    check-requires
+    outcome-number-requires
+    outcome-detail-requires
+    cast-row
+    row-requires
+    enum-known-reading-2
+    cast-row-2
+    row-requires-2
+    same-length
+    returns
+    same-length-2
+    returns-2)

@@ -1,0 +1,139 @@
+use native.Mathlib.Omega.{arith}
+use mathlib.Core.Path.{_≡_, ap, _∙_}
+use Prim.Native.Nat.{_≤_}
+use denote.Ref.{now}
+use lib.ListN.{length}
+use lib.Seq.{length-sets}
+use Rattle.report.specs.Lines.{names-line}
+use Rattle.report.specs.Outline.{no-room}
+use Rattle.report.proofs.ReadLaws.{policies-held, policies-refused}
+use Rattle.report.proofs.RowLaws.{length-names}
+use Rattle.report.proofs.OutlinePuts.{edges-held, put-outline, put-policies, policies-eight}
+use borrow.Author.Needs.{needs}
+use Rattle.report.proofs.report_outline.Statement.{statement}
+use Rattle.report.proofs.report_outline.Tie as tie
+
+returns : tie.Need-returns
+returns c = no-room (c .if1 .taken)
+
+names-requires : tie.Need-names-requires
+unfolding names-line
+names-requires c κs =
+    omega arith
+
+slice-aggregate-read-policies : tie.Need-slice-aggregate-read-policies
+slice-aggregate-read-policies c = search needs
+
+read-policies-requires : tie.Need-read-policies-requires
+read-policies-requires c κs = search needs
+
+enum-known-reading : tie.Need-enum-known-reading
+enum-known-reading c = search needs
+
+mul-outline-row : tie.Need-mul-outline-row
+mul-outline-row c =
+    let a = c .before .before .before .before .before .before .before .before .before .before .before .before .before .before .args in
+    let p = c .before .before .before .before .read-policies in
+    let g = c .before .reading .given in
+    let n = g .0 .0 in
+    let h = policies-held (now (a .policies)) (p .last .1 .0) n (rw (g .1) at (p .ensures .0)) (p .ensures .1) in
+    let f : n ≤ 256 = h .few in
+    search needs
+
+sub-outline-row : tie.Need-sub-outline-row
+sub-outline-row c = search needs
+
+part-outline-row-start : tie.Need-part-outline-row-start
+part-outline-row-start c = search needs
+
+part-outline-row-end : tie.Need-part-outline-row-end
+part-outline-row-end c =
+    let a = c .before .before .before .before .before .before .before .before .before .before .before .before .before .before .before .args in
+    let p = c .before .before .before .before .before .read-policies in
+    let g = c .before .before .reading .given in
+    let n = g .0 .0 in
+    let h = policies-held (now (a .policies)) (p .last .1 .0) n (rw (g .1) at (p .ensures .0)) (p .ensures .1) in
+    let f : n ≤ 256 = h .few in
+    search needs
+
+outline-row-requires : tie.Need-outline-row-requires
+outline-row-requires c κs =
+    let a = c .before .before .before .before .before .before .before .before .before .before .before .before .before .before .before .before .before .args in
+    let p = c .before .before .before .before .before .before .before .read-policies in
+    let g = c .before .before .before .before .reading .given in
+    let n = g .0 .0 in
+    let h = policies-held (now (a .policies)) (p .last .1 .0) n (rw (g .1) at (p .ensures .0)) (p .ensures .1) in
+    let w = c .before .before .before .before .before .before .before .before .before .before .before .names in
+    let k = ap length (w .ensures .1) ∙ length-sets _ _ names-line in
+    let v : length names-line ≡ 19 = length-names in
+    (edges-held (now (a .policies)) (p .last .1 .0) n h, omega arith)
+
+enum-known-reading-2 : tie.Need-enum-known-reading-2
+enum-known-reading-2 c = search needs
+
+cast-row : tie.Need-cast-row
+cast-row c = search needs
+
+row-requires : tie.Need-row-requires
+row-requires c κs =
+    let a = c .before .before .before .before .before .before .before .before .before .before .before .before .before .before .before .args in
+    let p = c .before .before .before .before .before .read-policies in
+    let g = c .before .before .reading2 .given in
+    let w = c .before .before .before .before .before .before .before .before .before .names in
+    let k = ap length (w .ensures .1) ∙ length-sets _ _ names-line in
+    let v : length names-line ≡ 19 = length-names in
+    let z = policies-refused (now (a .policies)) (g .0 .0) (g .0 .1 .0) (rw (g .1) at (p .ensures .0)) in
+    omega (arith, policies-eight (now (a .policies)) (g .0 .0) (g .0 .1 .0) z)
+
+same-length : tie.Need-same-length
+same-length c = search needs
+
+returns-2 : tie.Need-returns-2
+returns-2 c =
+    let a = c .before .before .before .before .before .before .before .before .before .before .before .before .before .before .before .before .before .before .before .before .args in
+    let p = c .before .before .before .before .before .before .before .before .before .before .read-policies in
+    let g = c .before .before .before .before .before .before .before .reading .given in
+    let n = g .0 .0 in
+    let h = policies-held (now (a .policies)) (p .last .1 .0) n (rw (g .1) at (p .ensures .0)) (p .ensures .1) in
+    let w = c .before .before .before .before .before .before .before .before .before .before .before .before .before .before .names in
+    let t = c .before .before .outline-row in
+    let k = ap length (w .ensures .1) ∙ length-sets _ _ names-line in
+    let l = t .ensures .room in
+    put-outline (now (a .policies)) (now (a .outline)) (now (a .out)) _ _ (c .before .before .before .before .before .before .before .before .before .before .before .before .before .before .before .before .if1 .left) (p .last .1 .0) n h (rw (w .ensures .0, w .ensures .1) at (t .ensures)) (omega arith)
+
+same-length-2 : tie.Need-same-length-2
+same-length-2 c = search needs
+
+returns-3 : tie.Need-returns-3
+returns-3 c =
+    let a = c .before .before .before .before .before .before .before .before .before .before .before .before .before .before .before .before .before .before .args in
+    let w = c .before .before .before .before .before .before .before .before .before .before .before .before .names in
+    let p = c .before .before .before .before .before .before .before .before .read-policies in
+    let g = c .before .before .before .before .before .reading2 .given in
+    let t = c .before .before .row in
+    let z = policies-refused (now (a .policies)) (g .0 .0) (g .0 .1 .0) (rw (g .1) at (p .ensures .0)) in
+    let q = policies-eight (now (a .policies)) (g .0 .0) (g .0 .1 .0) z in
+    let v : length names-line ≡ 19 = length-names in
+    put-policies (now (a .policies)) (now (a .outline)) (now (a .out)) _ _ (c .before .before .before .before .before .before .before .before .before .before .before .before .before .before .if1 .left) (g .0 .0) (g .0 .1 .0) z (rw (w .ensures .0) at (t .ensures .0)) (omega arith) (rw (w .ensures .0, w .ensures .1) at (t .ensures .1))
+
+pub report-outline-spec : {M : Type 1} → statement M
+report-outline-spec =
+    tie.close
+    (tie.spec
+    returns
+    names-requires
+    slice-aggregate-read-policies
+    read-policies-requires
+    enum-known-reading
+    mul-outline-row
+    sub-outline-row
+    part-outline-row-start
+    part-outline-row-end
+    outline-row-requires
+    enum-known-reading-2
+    cast-row
+    row-requires
+    same-length
+    returns-2
+    same-length-2
+    returns-3)

@@ -1,0 +1,142 @@
+use native.Mathlib.Omega.{arith}
+use mathlib.Core.Path.{_≡_, ap, _∙_}
+use Prim.Native.Nat.{_≤_}
+use denote.Ref.{now}
+use mir.Syntax.{w8, w64}
+use mir.Val.{Fits}
+use lib.ListN.{length}
+use lib.Seq.{length-sets}
+use Rattle.report.specs.Lines.{names-line, row}
+use Rattle.report.specs.Trace.{tracePrinted}
+use Rattle.report.proofs.ReadLaws.{policies-held, policies-refused}
+use Rattle.report.proofs.RoomLaws.{no-room, two-parts}
+use Rattle.report.proofs.RowLaws.{row-fits, length-names}
+use Rattle.report.proofs.TraceLaws.{printed-held, printed-refused}
+use borrow.Author.Needs.{needs}
+use Rattle.report.proofs.report_trace.Statement.{statement}
+use Rattle.report.proofs.report_trace.Tie as tie
+
+returns : tie.Need-returns
+returns c =
+    let a = c .before .before .before .before .args in
+    no-room 20019 (now (a .out)) (tracePrinted (now (a .policies)) (now (a .trace))) (c .if1 .taken)
+
+names-requires : tie.Need-names-requires
+unfolding names-line
+names-requires c κs =
+    omega arith
+
+slice-aggregate-read-policies : tie.Need-slice-aggregate-read-policies
+slice-aggregate-read-policies c = search needs
+
+read-policies-requires : tie.Need-read-policies-requires
+read-policies-requires c κs = search needs
+
+enum-known-reading : tie.Need-enum-known-reading
+enum-known-reading c = search needs
+
+mul-trace-rows : tie.Need-mul-trace-rows
+mul-trace-rows c =
+    let a = c .before .before .before .before .before .before .before .before .before .before .before .before .before .before .args in
+    let p = c .before .before .before .before .read-policies in
+    let g = c .before .reading .given in
+    let n = g .0 .0 in
+    let h = policies-held (now (a .policies)) (p .last .1 .0) n (rw (g .1) at (p .ensures .0)) (p .ensures .1) in
+    let f : n ≤ 256 = h .few in
+    search needs
+
+sub-trace-rows : tie.Need-sub-trace-rows
+sub-trace-rows c = search needs
+
+part-trace-rows-start : tie.Need-part-trace-rows-start
+part-trace-rows-start c = search needs
+
+part-trace-rows-end : tie.Need-part-trace-rows-end
+part-trace-rows-end c =
+    let a = c .before .before .before .before .before .before .before .before .before .before .before .before .before .before .before .args in
+    let p = c .before .before .before .before .before .read-policies in
+    let g = c .before .before .reading .given in
+    let n = g .0 .0 in
+    let h = policies-held (now (a .policies)) (p .last .1 .0) n (rw (g .1) at (p .ensures .0)) (p .ensures .1) in
+    let f : n ≤ 256 = h .few in
+    search needs
+
+trace-rows-requires : tie.Need-trace-rows-requires
+trace-rows-requires c κs =
+    let w = c .before .before .before .before .before .before .before .before .before .before .before .names in
+    let k = ap length (w .ensures .1) ∙ length-sets _ _ names-line in
+    let v : length names-line ≡ 19 = length-names in
+    omega arith
+
+enum-known-reading-2 : tie.Need-enum-known-reading-2
+enum-known-reading-2 c = search needs
+
+cast-row : tie.Need-cast-row
+cast-row c = search needs
+
+row-requires : tie.Need-row-requires
+row-requires c κs =
+    let g = c .before .before .reading2 .given in
+    let w = c .before .before .before .before .before .before .before .before .before .names in
+    let k = ap length (w .ensures .1) ∙ length-sets _ _ names-line in
+    let v : length names-line ≡ 19 = length-names in
+    let l : Fits w64 (g .0 .0) = search needs in
+    let m : Fits w8 (g .0 .1 .0) = search needs in
+    omega (arith, row-fits (g .0 .0) 3 (g .0 .1 .0) (l .fits) (omega arith) (m .fits))
+
+same-length : tie.Need-same-length
+same-length c = search needs
+
+returns-2 : tie.Need-returns-2
+returns-2 c =
+    let a = c .before .before .before .before .before .before .before .before .before .before .before .before .before .before .before .before .before .before .before .before .args in
+    let p = c .before .before .before .before .before .before .before .before .before .before .read-policies in
+    let g = c .before .before .before .before .before .before .before .reading .given in
+    let n = g .0 .0 in
+    let h = policies-held (now (a .policies)) (p .last .1 .0) n (rw (g .1) at (p .ensures .0)) (p .ensures .1) in
+    let f : n ≤ 256 = h .few in
+    let w = c .before .before .before .before .before .before .before .before .before .before .before .before .before .before .names in
+    let t = c .before .before .trace-rows in
+    let k = ap length (w .ensures .1) ∙ length-sets _ _ names-line in
+    let e = printed-held (now (a .policies)) (now (a .trace)) (p .last .1 .0) n h in
+    rw e (two-parts 20019 (now (a .out)) names-line _ _ _ (c .before .before .before .before .before .before .before .before .before .before .before .before .before .before .before .before .if1 .left) (rw (w .ensures .0) at (t .ensures .0)) (omega arith) (rw (w .ensures .0, w .ensures .1) at (t .ensures .1 .0)))
+
+same-length-2 : tie.Need-same-length-2
+same-length-2 c = search needs
+
+returns-3 : tie.Need-returns-3
+returns-3 c =
+    let a = c .before .before .before .before .before .before .before .before .before .before .before .before .before .before .before .before .before .before .args in
+    let w = c .before .before .before .before .before .before .before .before .before .before .before .before .names in
+    let p = c .before .before .before .before .before .before .before .before .read-policies in
+    let g = c .before .before .before .before .before .reading2 .given in
+    let t = c .before .before .row in
+    let l : Fits w64 (g .0 .0) = search needs in
+    let m : Fits w8 (g .0 .1 .0) = search needs in
+    let q = row-fits (g .0 .0) 3 (g .0 .1 .0) (l .fits) (omega arith) (m .fits) in
+    let z = policies-refused (now (a .policies)) (g .0 .0) (g .0 .1 .0) (rw (g .1) at (p .ensures .0)) in
+    let e = printed-refused (now (a .policies)) (now (a .trace)) (g .0 .0) (g .0 .1 .0) z in
+    let v : length names-line ≡ 19 = length-names in
+    rw e (two-parts 20019 (now (a .out)) names-line (row (g .0 .0) 3 (g .0 .1 .0)) _ _ (c .before .before .before .before .before .before .before .before .before .before .before .before .before .before .if1 .left) (rw (w .ensures .0) at (t .ensures .0)) (omega arith) (rw (w .ensures .0, w .ensures .1) at (t .ensures .1)))
+
+pub report-trace-spec : {M : Type 1} → statement M
+report-trace-spec =
+    tie.close
+    (tie.spec
+    returns
+    names-requires
+    slice-aggregate-read-policies
+    read-policies-requires
+    enum-known-reading
+    mul-trace-rows
+    sub-trace-rows
+    part-trace-rows-start
+    part-trace-rows-end
+    trace-rows-requires
+    enum-known-reading-2
+    cast-row
+    row-requires
+    same-length
+    returns-2
+    same-length-2
+    returns-3)

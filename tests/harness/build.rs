@@ -1,0 +1,10 @@
+// Links the archives that `rt staticlib` writes.
+fn main() {
+    let root = std::env::var("CARGO_MANIFEST_DIR").unwrap();
+    let archives = format!("{root}/../../target/staticlib");
+    println!("cargo:rustc-link-search=native={archives}");
+    for name in ["report", "exports"] {
+        println!("cargo:rustc-link-lib=static={name}");
+        println!("cargo:rerun-if-changed={archives}/lib{name}.a");
+    }
+}

@@ -1,0 +1,111 @@
+//! compare SEED COUNT: fresh cases from the seed, a third each of traces, outlines and direct calls of the judge.
+
+use reference::generate::{self, outlines, states, traces, Case};
+use reference::program;
+use reference::rng::Rng;
+use std::process::ExitCode;
+
+/// Cases of one kind that are made from one seed.
+const BATCH: usize = 1_000;
+
+fn main() -> ExitCode {
+    let words: Vec<String> = std::env::args().skip(1).collect();
+    let numbers: Option<Vec<u64>> = words.iter().map(|word| word.parse().ok()).collect();
+    let Some([seed, count]) = numbers.as_deref() else {
+        eprintln!("usage: compare SEED COUNT");
+        return ExitCode::from(2);
+    };
+    match compare(*seed, *count as usize) {
+        Ok(text) => {
+            println!("{text}");
+            ExitCode::SUCCESS
+        }
+        Err(text) => {
+            println!("{text}");
+            ExitCode::FAILURE
+        }
+    }
+}
+
+/// How many cases agreed, or the first difference.
+fn compare(seed: u64, count: usize) -> Result<String, String> {
+    let fixed = fixed_cases()?;
+    let mut made = [0usize; 3];
+    let mut skipped = 0;
+    let mut batch = 0;
+    while made.iter().sum::<usize>() < count {
+        let from = seed.wrapping_mul(1_000_003).wrapping_add(batch);
+        let most = BATCH.min((count - made.iter().sum::<usize>()).div_ceil(3));
+        made[0] += each_trace(from, most)?;
+        made[1] += each_outline(from, most)?;
+        let (calls, wide) = each_call(from, most)?;
+        made[2] += calls;
+        skipped += wide;
+        batch += 1;
+    }
+    let [traces, outlines, calls] = made;
+    Ok(format!("seed {seed}: {fixed} fixed cases, {traces} traces, {outlines} outlines, {calls} calls of the judge: no difference ({skipped} calls with numbers wider than the functions take were left out)"))
+}
+
+/// The cases that depend on no seed.
+fn fixed_cases() -> Result<usize, String> {
+    let traces = generate::fixed::trace_cases();
+    let outlines = generate::fixed::outline_cases();
+    for (number, case) in traces.iter().enumerate() {
+        same("fixed trace", 0, number, case, program::monitor(&case.policies, &case.other), harness::monitor(&case.policies, &case.other))?;
+    }
+    for (number, case) in outlines.iter().enumerate() {
+        same("fixed outline", 0, number, case, program::check(&case.policies, &case.other), harness::check(&case.policies, &case.other))?;
+    }
+    Ok(traces.len() + outlines.len())
+}
+
+fn each_trace(seed: u64, most: usize) -> Result<usize, String> {
+    let mut rng = Rng::new(seed);
+    for number in 0..most {
+        let case = traces::random_case(&mut rng);
+        same("trace", seed, number, &case, program::monitor(&case.policies, &case.other), harness::monitor(&case.policies, &case.other))?;
+    }
+    Ok(most)
+}
+
+fn each_outline(seed: u64, most: usize) -> Result<usize, String> {
+    let mut rng = Rng::new(seed);
+    let mut number = 0;
+    while number < most {
+        for case in outlines::random_cases(&mut rng) {
+            same("outline", seed, number, &case, program::check(&case.policies, &case.other), harness::check(&case.policies, &case.other))?;
+            number += 1;
+        }
+    }
+    Ok(number)
+}
+
+/// How many calls were compared, and how many were too wide for the functions' types.
+fn each_call(seed: u64, most: usize) -> Result<(usize, usize), String> {
+    let mut wide = 0;
+    for (number, call) in states::calls(seed, most).into_iter().enumerate() {
+        let (answer, state) = call.run();
+        let Some(found) = harness::judge(&call.edges, &call.state, call.step) else {
+            wide += 1;
+            continue;
+        };
+        if found != (answer.numbers(), state) {
+            return Err(format!("call {number} of seed {seed} differs: expected {:?}, found {:?}\n{}", answer.numbers(), found.0, call.write()));
+        }
+    }
+    Ok((most - wide, wide))
+}
+
+fn same(kind: &str, seed: u64, number: usize, case: &Case, expected: String, found: Vec<u8>) -> Result<(), String> {
+    if expected.as_bytes() == found {
+        return Ok(());
+    }
+    let found = String::from_utf8_lossy(&found);
+    let line = expected.lines().zip(found.lines()).take_while(|(a, b)| a == b).count() + 1;
+    Err(format!(
+        "{kind} {number} of seed {seed} differs at printed line {line}\n-- policies\n{}-- other sheet\n{}-- expected\n{expected}-- found\n{found}",
+        String::from_utf8_lossy(&case.policies),
+        String::from_utf8_lossy(&case.other)
+    ))
+}

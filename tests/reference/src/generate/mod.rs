@@ -1,0 +1,52 @@
+//! Cases from a seed.
+
+pub mod fixed;
+pub mod outlines;
+pub mod policies;
+pub mod states;
+pub mod traces;
+pub mod trees;
+
+use crate::damage::Text;
+use crate::rng::Rng;
+
+/// A policies sheet, and a trace or an outline.
+#[derive(Clone, Debug, PartialEq, Eq)]
+pub struct Case {
+    pub policies: Text,
+    pub other: Text,
+}
+
+/// Which program a case is for.
+#[derive(Clone, Copy, Debug, PartialEq, Eq)]
+pub enum Kind {
+    Trace,
+    Outline,
+}
+
+impl Kind {
+    /// The last letter of the second file's name.
+    pub fn letter(self) -> char {
+        match self {
+            Kind::Trace => 't',
+            Kind::Outline => 'o',
+        }
+    }
+}
+
+/// The fixed cases, then random ones.
+pub fn cases(kind: Kind, seed: u64, count: usize) -> Vec<Case> {
+    let mut rng = Rng::new(seed);
+    let mut cases = match kind {
+        Kind::Trace => fixed::trace_cases(),
+        Kind::Outline => fixed::outline_cases(),
+    };
+    while cases.len() < count {
+        match kind {
+            Kind::Trace => cases.push(traces::random_case(&mut rng)),
+            Kind::Outline => cases.extend(outlines::random_cases(&mut rng)),
+        }
+    }
+    cases.truncate(count);
+    cases
+}

@@ -1,0 +1,171 @@
+//! Random calls of the judge on states that need not have been reached.
+
+use super::policies::{random_edges, Palette};
+use crate::judge::{Step, CREATE, LARGEST_RESOURCE, MOST_CREATED};
+use crate::policy::{Edge, POLICIES, STATICS};
+use crate::rng::Rng;
+use crate::state::{Call, State};
+
+pub fn calls(seed: u64, count: usize) -> Vec<Call> {
+    let mut rng = Rng::new(seed);
+    (0..count).map(|_| random_call(&mut rng)).collect()
+}
+
+fn random_call(rng: &mut Rng) -> Call {
+    let palette = Palette::random(rng);
+    let mut edges = random_edges(rng, &palette, 8);
+    let mut state = random_state(rng, &palette);
+    let step = random_step(rng, &palette, &state);
+    if rng.percent(12) {
+        damage_state(rng, &mut state);
+    }
+    if rng.percent(10) {
+        damage_edges(rng, &mut edges);
+    }
+    Call { edges, step, state }
+}
+
+/// A state that passes 42.
+fn random_state(rng: &mut Rng, palette: &Palette) -> State {
+    let mut state = State::start();
+    state.halted = rng.percent(6);
+    state.count = match rng.below(4) {
+        0 => rng.pick(&[0, 1, 63, 64, 64, 64]),
+        1 => rng.between(0, MOST_CREATED as u64),
+        _ => rng.between(0, 8),
+    };
+    fill_created(rng, &mut state);
+    for policy in 0..POLICIES {
+        if palette.policies.contains(&(policy as u64)) && rng.percent(60) {
+            state.openings[policy] = rng.pick(&[1, 1, 2, 3, 254, 255]);
+        }
+    }
+    fill_sets(rng, &mut state);
+    state
+}
+
+/// Different resources in use; anything at all in the places beyond.
+fn fill_created(rng: &mut Rng, state: &mut State) {
+    for place in 0..MOST_CREATED {
+        if place as u64 >= state.count {
+            state.created[place] = rng.pick(&[0, 7, 16, 17, LARGEST_RESOURCE]);
+            continue;
+        }
+        loop {
+            let resource = any_dynamic(rng);
+            if !state.created[..place].contains(&resource) {
+                state.created[place] = resource;
+                break;
+            }
+        }
+    }
+}
+
+fn any_dynamic(rng: &mut Rng) -> u64 {
+    match rng.below(6) {
+        0 => rng.pick(&[STATICS, LARGEST_RESOURCE]),
+        1 | 2 => rng.between(16, 99),
+        _ => rng.between(16, LARGEST_RESOURCE),
+    }
+}
+
+/// Sets without offending states where they count and the policy is open, save in some states.
+fn fill_sets(rng: &mut Rng, state: &mut State) {
+    let careful = rng.percent(85);
+    let used = 17 + state.count as usize;
+    for (place, row) in state.sets.iter_mut().enumerate() {
+        for (mask, openings) in row.iter_mut().zip(state.openings) {
+            *mask = match rng.below(8) {
+                0..=3 => 1 << rng.below(6),
+                4 => 0,
+                5 => rng.below(256) as u8,
+                _ => rng.below(64) as u8,
+            };
+            if careful && place < used && openings > 0 {
+                *mask &= 0x3f;
+            }
+        }
+    }
+}
+
+fn random_step(rng: &mut Rng, palette: &Palette, state: &State) -> Step {
+    let action = rng.pick(&palette.actions);
+    let policy = rng.pick(&palette.policies);
+    let created = &state.created[..state.count as usize];
+    if rng.percent(20) {
+        return limit_step(rng, policy, state);
+    }
+    match rng.below(20) {
+        0..=3 => Step::event(action, rng.pick(&palette.statics)),
+        4..=7 if !created.is_empty() => Step::event(action, rng.pick(created)),
+        8..=10 => Step::event(CREATE, any_dynamic(rng)),
+        11..=12 => Step::open(policy),
+        13..=15 => Step::close(policy),
+        16 if !created.is_empty() => Step::event(CREATE, rng.pick(created)),
+        17 => Step::event(CREATE, rng.below(STATICS)),
+        18 => Step::event(action, any_dynamic(rng)),
+        _ => rng.pick(&MISFITS),
+    }
+}
+
+/// A create if no more can be created, else an opening of the policy opened most.
+fn limit_step(rng: &mut Rng, policy: u64, state: &State) -> Step {
+    if state.count == MOST_CREATED as u64 {
+        return Step::event(CREATE, any_dynamic(rng));
+    }
+    let most = (0..POLICIES as u64).max_by_key(|p| state.openings[*p as usize]);
+    Step::open(most.unwrap_or(policy))
+}
+
+/// Steps that 21 refuses.
+const MISFITS: [Step; 10] = [
+    Step { kind: 3, a: 0, b: 0 },
+    Step { kind: 255, a: 1, b: 1 },
+    Step { kind: 0, a: 32, b: 0 },
+    Step { kind: 0, a: 0, b: 65_536 },
+    Step { kind: 0, a: 32, b: 15 },
+    Step { kind: 1, a: 8, b: 0 },
+    Step { kind: 1, a: 0, b: 1 },
+    Step { kind: 2, a: 8, b: 0 },
+    Step { kind: 2, a: 7, b: 1 },
+    Step { kind: 0, a: 1, b: 70_000 },
+];
+
+/// A state that 42 refuses.
+fn damage_state(rng: &mut Rng, state: &mut State) {
+    let used = state.count.clamp(2, MOST_CREATED as u64);
+    let place = rng.below(used) as usize;
+    match rng.below(5) {
+        0 => state.count = 65,
+        1 => {
+            state.count = used;
+            let first = rng.below(used - 1) as usize;
+            state.created[used as usize - 1] = state.created[first];
+        }
+        2 => {
+            state.count = used;
+            state.created[place] = 15;
+        }
+        3 => {
+            state.count = used;
+            state.created[place] = LARGEST_RESOURCE + 1;
+        }
+        _ => state.openings[rng.below(8) as usize] = 256,
+    }
+}
+
+/// Edges that 41 refuses.
+fn damage_edges(rng: &mut Rng, edges: &mut Vec<Edge>) {
+    let at = rng.below(edges.len() as u64) as usize;
+    let edge = &mut edges[at];
+    match rng.below(7) {
+        0 => edge.policy = 8,
+        1 => edge.from = 8,
+        2 => edge.action = 32,
+        3 => edge.on = 3,
+        4 if edge.on == 0 => edge.who = 16,
+        4 => edge.who = 1,
+        5 => edge.to = 8,
+        _ => *edges = vec![Edge::new([0, 0, 1, 1, 0, 1]); 257],
+    }
+}

@@ -1,0 +1,196 @@
+//! Random traces, steered by the judge so that many go far before they are violated.
+
+use super::policies::{random_edges, Palette};
+use super::Case;
+use crate::damage::{random_damage, respaced, rows, Text};
+use crate::judge::{Answer, Judge, Step, CREATE, EVENT, LARGEST_RESOURCE, OPEN};
+use crate::policy::{Edge, STATICS};
+use crate::rng::Rng;
+use crate::sheet::{POLICY_NAMES, TRACE_NAMES};
+
+/// How often each sort of step is tried, in percent; the rest are steps to be refused.
+#[derive(Clone, Copy)]
+struct Mix {
+    events: u64,
+    creates: u64,
+    openings: u64,
+    closings: u64,
+    /// How often a step that would be violated is left out.
+    careful: u64,
+}
+
+const COMMON: Mix = Mix { events: 62, creates: 12, openings: 11, closings: 8, careful: 93 };
+const CARELESS: Mix = Mix { events: 62, creates: 12, openings: 14, closings: 6, careful: 0 };
+const CREATING: Mix = Mix { events: 20, creates: 66, openings: 5, closings: 5, careful: 98 };
+const OPENING: Mix = Mix { events: 5, creates: 2, openings: 85, closings: 6, careful: 100 };
+const NESTING: Mix = Mix { events: 30, creates: 10, openings: 30, closings: 28, careful: 97 };
+const UNOPENED: Mix = Mix { events: 78, creates: 15, openings: 0, closings: 0, careful: 0 };
+
+pub fn random_case(rng: &mut Rng) -> Case {
+    match rng.below(24) {
+        0..=5 => plain(rng, COMMON, 5, 45),
+        6..=8 => plain(rng, CARELESS, 4, 25),
+        9 => plain(rng, CREATING, 90, 130),
+        10 => plain(rng, OPENING, 290, 330),
+        11..=12 => plain(rng, NESTING, 20, 80),
+        13..=15 => opened_late(rng),
+        16..=19 => dense(rng),
+        _ => damaged(rng),
+    }
+}
+
+/// A trace of nearly `length` steps that is valid as a whole.
+pub fn long_case(rng: &mut Rng, length: usize) -> Case {
+    let palette = Palette { policies: vec![rng.below(8)], ..Palette::random(rng) };
+    let edges = random_edges(rng, &palette, 6);
+    let steps = random_steps(rng, &palette, &edges, Mix { careful: 100, ..COMMON }, length);
+    write(&edges, &steps)
+}
+
+fn plain(rng: &mut Rng, mix: Mix, shortest: u64, longest: u64) -> Case {
+    let mut palette = Palette::random(rng);
+    if mix.openings > 50 {
+        palette.policies.truncate(1);
+    }
+    let edges = random_edges(rng, &palette, 8);
+    let length = rng.between(shortest, longest) as usize;
+    let steps = random_steps(rng, &palette, &edges, mix, length);
+    let case = write(&edges, &steps);
+    if rng.percent(20) {
+        return Case { policies: respaced(rng, &case.policies), other: respaced(rng, &case.other) };
+    }
+    case
+}
+
+/// A few steps that all matter to one policy, or to several open at once.
+fn dense(rng: &mut Rng) -> Case {
+    let small = rng.percent(60);
+    let palette = if small { Palette::small(rng) } else { Palette::crowded(rng) };
+    let edges = random_edges(rng, &palette, 6);
+    let mut steps = random_steps(rng, &palette, &edges, UNOPENED, 2);
+    steps.extend(palette.policies.iter().rev().map(|p| Step::open(*p)));
+    let mut judge = Judge::new(&edges);
+    for step in &steps {
+        judge.judge(*step);
+    }
+    let length = steps.len() + rng.between(4, 14) as usize;
+    extend_steps(rng, &palette, &mut judge, Mix { careful: 60, ..COMMON }, &mut steps, length);
+    write(&edges, &steps)
+}
+
+/// Events with nothing open, then an opening of each policy, highest first.
+fn opened_late(rng: &mut Rng) -> Case {
+    let palette = Palette::random(rng);
+    let edges = random_edges(rng, &palette, 8);
+    let length = rng.between(3, 25) as usize;
+    let mut steps = random_steps(rng, &palette, &edges, UNOPENED, length);
+    steps.extend(palette.policies.iter().rev().map(|p| Step::open(*p)));
+    steps.extend(random_steps(rng, &palette, &edges, COMMON, 5));
+    write(&edges, &steps)
+}
+
+fn damaged(rng: &mut Rng) -> Case {
+    let mut case = plain(rng, COMMON, 2, 8);
+    for _ in 0..rng.between(1, 3) {
+        let sheet = if rng.percent(30) { &mut case.policies } else { &mut case.other };
+        *sheet = random_damage(rng, sheet);
+    }
+    case
+}
+
+pub fn write(edges: &[Edge], steps: &[Step]) -> Case {
+    Case { policies: write_edges(edges), other: rows(TRACE_NAMES, steps.iter().map(Step::row)) }
+}
+
+pub fn write_edges(edges: &[Edge]) -> Text {
+    rows(POLICY_NAMES, edges.iter().map(Edge::row))
+}
+
+/// Random steps, with the judge at hand.
+fn random_steps(
+    rng: &mut Rng,
+    palette: &Palette,
+    edges: &[Edge],
+    mix: Mix,
+    length: usize,
+) -> Vec<Step> {
+    let mut steps = Vec::new();
+    extend_steps(rng, palette, &mut Judge::new(edges), mix, &mut steps, length);
+    steps
+}
+
+/// Adds random steps until there are `length`. The judge has judged those before.
+fn extend_steps(
+    rng: &mut Rng,
+    palette: &Palette,
+    judge: &mut Judge,
+    mix: Mix,
+    steps: &mut Vec<Step>,
+    length: usize,
+) {
+    for _ in 0..10 * length {
+        if steps.len() >= length {
+            return;
+        }
+        let step = random_step(rng, palette, mix, judge.past());
+        let mut trial = judge.clone();
+        let violated = matches!(trial.judge(step), Answer::Violated(_));
+        if !violated || !rng.percent(mix.careful) {
+            steps.push(step);
+            *judge = trial;
+        }
+    }
+}
+
+fn random_step(rng: &mut Rng, palette: &Palette, mix: Mix, past: &[Step]) -> Step {
+    let roll = rng.below(100);
+    let (events, creates) = (mix.events, mix.events + mix.creates);
+    let (openings, closings) = (creates + mix.openings, creates + mix.openings + mix.closings);
+    if roll < events {
+        Step::event(rng.pick(&palette.actions), used_resource(rng, palette, past))
+    } else if roll < creates {
+        Step::event(CREATE, any_dynamic(rng))
+    } else if roll < openings {
+        Step::open(rng.pick(&palette.policies))
+    } else if roll < closings {
+        Step::close(opened_policy(rng, past).unwrap_or(palette.policies[0]))
+    } else {
+        refused_step(rng, palette, past)
+    }
+}
+
+/// A step that one of 22 to 25 may refuse.
+fn refused_step(rng: &mut Rng, palette: &Palette, past: &[Step]) -> Step {
+    match rng.below(4) {
+        0 => Step::event(CREATE, rng.below(STATICS)),
+        1 => Step::event(CREATE, created(past).last().copied().unwrap_or(16)),
+        2 => Step::event(rng.pick(&palette.actions), any_dynamic(rng)),
+        _ => Step::close(rng.below(8)),
+    }
+}
+
+fn created(past: &[Step]) -> Vec<u64> {
+    past.iter().filter(|s| s.kind == EVENT && s.a == CREATE).map(|s| s.b).collect()
+}
+
+fn used_resource(rng: &mut Rng, palette: &Palette, past: &[Step]) -> u64 {
+    let created = created(past);
+    if created.is_empty() || rng.percent(35) {
+        return if rng.percent(90) { rng.pick(&palette.statics) } else { rng.below(STATICS) };
+    }
+    rng.pick(&created)
+}
+
+fn any_dynamic(rng: &mut Rng) -> u64 {
+    match rng.below(10) {
+        0 => rng.pick(&[16, 17, LARGEST_RESOURCE - 1, LARGEST_RESOURCE]),
+        1..=3 => rng.between(16, 40),
+        _ => rng.between(16, LARGEST_RESOURCE),
+    }
+}
+
+/// A policy opened before, perhaps closed already.
+fn opened_policy(rng: &mut Rng, past: &[Step]) -> Option<u64> {
+    let opened: Vec<u64> = past.iter().filter(|s| s.kind == OPEN).map(|s| s.a).collect();
+    (!opened.is_empty()).then(|| rng.pick(&opened))
+}

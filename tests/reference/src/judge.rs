@@ -1,0 +1,165 @@
+//! The judge over the whole past: nothing but the steps is kept.
+
+use crate::policy::{is_static, Edge, Event, Policy, POLICIES};
+
+pub const MOST_CREATED: usize = 64;
+pub const MOST_OPENINGS: usize = 255;
+pub const LARGEST_RESOURCE: u64 = 65_535;
+
+pub const EVENT: u64 = 0;
+pub const OPEN: u64 = 1;
+pub const CLOSE: u64 = 2;
+pub const CREATE: u64 = 0;
+
+/// A step as the sheet writes it.
+#[derive(Clone, Copy, Debug, PartialEq, Eq)]
+pub struct Step {
+    pub kind: u64,
+    pub a: u64,
+    pub b: u64,
+}
+
+#[derive(Clone, Copy, Debug, PartialEq, Eq)]
+pub enum Answer {
+    Allowed,
+    Violated(usize),
+    Refused(u32),
+}
+
+impl Step {
+    pub fn event(action: u64, resource: u64) -> Step {
+        Step { kind: EVENT, a: action, b: resource }
+    }
+
+    pub fn open(policy: u64) -> Step {
+        Step { kind: OPEN, a: policy, b: 0 }
+    }
+
+    pub fn close(policy: u64) -> Step {
+        Step { kind: CLOSE, a: policy, b: 0 }
+    }
+
+    pub fn row(&self) -> [u64; 3] {
+        [self.kind, self.a, self.b]
+    }
+
+    pub fn fits(&self) -> bool {
+        match self.kind {
+            EVENT => self.a <= 31 && self.b <= LARGEST_RESOURCE,
+            OPEN | CLOSE => self.a <= 7 && self.b == 0,
+            _ => false,
+        }
+    }
+
+    pub fn as_event(&self) -> Option<Event> {
+        (self.kind == EVENT).then_some(Event { action: self.a, resource: self.b })
+    }
+}
+
+impl Answer {
+    /// The answer and its detail as printed.
+    pub fn numbers(&self) -> (u32, usize) {
+        match *self {
+            Answer::Allowed => (0, 0),
+            Answer::Violated(policy) => (1, policy),
+            Answer::Refused(number) => (2, number as usize),
+        }
+    }
+}
+
+/// The events among the steps.
+pub fn events(steps: &[Step]) -> Vec<Event> {
+    steps.iter().filter_map(Step::as_event).collect()
+}
+
+/// Has the policy more openings than closings?
+pub fn is_open(steps: &[Step], policy: usize) -> bool {
+    count(steps, Step::open(policy as u64)) > count(steps, Step::close(policy as u64))
+}
+
+/// The lowest policy that these steps leave open and not respected.
+pub fn lowest_broken(policies: &[Policy], steps: &[Step]) -> Option<usize> {
+    let events = events(steps);
+    (0..POLICIES).find(|p| is_open(steps, *p) && !policies[*p].respected(&events))
+}
+
+fn count(steps: &[Step], step: Step) -> usize {
+    steps.iter().filter(|s| **s == step).count()
+}
+
+#[derive(Clone)]
+pub struct Judge {
+    policies: Vec<Policy>,
+    past: Vec<Step>,
+    halted: bool,
+}
+
+impl Judge {
+    pub fn new(edges: &[Edge]) -> Judge {
+        Judge { policies: Policy::all(edges), past: Vec::new(), halted: false }
+    }
+
+    pub fn past(&self) -> &[Step] {
+        &self.past
+    }
+
+    pub fn halted(&self) -> bool {
+        self.halted
+    }
+
+    pub fn judge(&mut self, step: Step) -> Answer {
+        if let Some(number) = self.refusal(step) {
+            return Answer::Refused(number);
+        }
+        self.past.push(step);
+        match lowest_broken(&self.policies, &self.past) {
+            None => Answer::Allowed,
+            Some(policy) => {
+                self.past.pop();
+                self.halted = true;
+                Answer::Violated(policy)
+            }
+        }
+    }
+
+    fn refusal(&self, step: Step) -> Option<u32> {
+        if self.halted {
+            return Some(20);
+        }
+        if !step.fits() {
+            return Some(21);
+        }
+        match step.kind {
+            EVENT => self.event_refusal(step.a, step.b),
+            OPEN => self.opening_refusal(step.a),
+            _ => self.closing_refusal(step.a),
+        }
+    }
+
+    fn event_refusal(&self, action: u64, resource: u64) -> Option<u32> {
+        let created = count(&self.past, Step::event(CREATE, resource)) > 0;
+        match (action == CREATE, is_static(resource)) {
+            (true, true) => Some(22),
+            (true, false) if created => Some(23),
+            (true, false) => (self.created() >= MOST_CREATED).then_some(30),
+            (false, true) => None,
+            (false, false) => (!created).then_some(24),
+        }
+    }
+
+    fn opening_refusal(&self, policy: u64) -> Option<u32> {
+        (self.unclosed(policy) >= MOST_OPENINGS).then_some(31)
+    }
+
+    fn closing_refusal(&self, policy: u64) -> Option<u32> {
+        (self.unclosed(policy) == 0).then_some(25)
+    }
+
+    fn unclosed(&self, policy: u64) -> usize {
+        count(&self.past, Step::open(policy)) - count(&self.past, Step::close(policy))
+    }
+
+    fn created(&self) -> usize {
+        self.past.iter().filter(|s| s.kind == EVENT && s.a == CREATE).count()
+    }
+}

@@ -1,0 +1,124 @@
+//! The command line of the reference.
+
+use reference::generate::{self, Case, Kind};
+use reference::program;
+use reference::state::{write_state, Call};
+use std::fs;
+use std::io::{self, Write};
+use std::path::Path;
+use std::process::ExitCode;
+
+const USAGE: &str = "usage:
+  reference monitor DIR
+  reference check DIR
+  reference judge FILE
+  reference generate trace|outline|state SEED COUNT DIR
+  reference expect trace|outline|state DIR COUNT
+  reference borders
+";
+
+fn main() -> ExitCode {
+    let words: Vec<String> = std::env::args().skip(1).collect();
+    let words: Vec<&str> = words.iter().map(String::as_str).collect();
+    match run(&words) {
+        Some(Ok(text)) => print(&text),
+        Some(Err(error)) => fail(&format!("{error}\n")),
+        None => fail(USAGE),
+    }
+}
+
+fn print(text: &str) -> ExitCode {
+    match io::stdout().write_all(text.as_bytes()) {
+        Ok(()) => ExitCode::SUCCESS,
+        Err(_) => ExitCode::FAILURE,
+    }
+}
+
+fn fail(text: &str) -> ExitCode {
+    eprint!("{text}");
+    ExitCode::FAILURE
+}
+
+/// The text to print; none for a wrong command line.
+fn run(words: &[&str]) -> Option<io::Result<String>> {
+    match words {
+        ["monitor", dir] => Some(Ok(run_sheets(Kind::Trace, dir, "policies.txt", "trace.txt"))),
+        ["check", dir] => Some(Ok(run_sheets(Kind::Outline, dir, "policies.txt", "outline.txt"))),
+        ["judge", file] => Some(run_call(Path::new(file))),
+        ["borders"] => Some(Ok(reference::borders::lines())),
+        ["generate", "state", seed, count, dir] => {
+            Some(generate_calls(seed.parse().ok()?, count.parse().ok()?, Path::new(dir)))
+        }
+        ["generate", kind, seed, count, dir] => {
+            let (seed, count) = (seed.parse().ok()?, count.parse().ok()?);
+            Some(generate_cases(kind_of(kind)?, seed, count, Path::new(dir)))
+        }
+        ["expect", "state", dir, count] => Some(expect_calls(dir, count.parse().ok()?)),
+        ["expect", kind, dir, count] => Some(Ok(expect(kind_of(kind)?, dir, count.parse().ok()?))),
+        _ => None,
+    }
+}
+
+fn kind_of(word: &str) -> Option<Kind> {
+    match word {
+        "trace" => Some(Kind::Trace),
+        "outline" => Some(Kind::Outline),
+        _ => None,
+    }
+}
+
+/// A file that can't be opened reads as empty.
+fn read(dir: &str, name: &str) -> Vec<u8> {
+    fs::read(Path::new(dir).join(name)).unwrap_or_default()
+}
+
+fn run_sheets(kind: Kind, dir: &str, policies: &str, other: &str) -> String {
+    let (policies, other) = (read(dir, policies), read(dir, other));
+    match kind {
+        Kind::Trace => program::monitor(&policies, &other),
+        Kind::Outline => program::check(&policies, &other),
+    }
+}
+
+fn generate_cases(kind: Kind, seed: u64, count: usize, dir: &Path) -> io::Result<String> {
+    fs::create_dir_all(dir)?;
+    for (number, case) in generate::cases(kind, seed, count).into_iter().enumerate() {
+        let Case { policies, other } = case;
+        fs::write(dir.join(format!("{number:04}p")), policies)?;
+        fs::write(dir.join(format!("{number:04}{}", kind.letter())), other)?;
+    }
+    Ok(String::new())
+}
+
+fn generate_calls(seed: u64, count: usize, dir: &Path) -> io::Result<String> {
+    fs::create_dir_all(dir)?;
+    for (number, call) in generate::states::calls(seed, count).into_iter().enumerate() {
+        fs::write(dir.join(format!("{number:04}s")), call.write())?;
+    }
+    Ok(String::new())
+}
+
+fn expect(kind: Kind, dir: &str, count: usize) -> String {
+    let one = |number: usize| {
+        let (policies, other) = (format!("{number:04}p"), format!("{number:04}{}", kind.letter()));
+        format!("case {number}\n{}", run_sheets(kind, dir, &policies, &other))
+    };
+    (0..count).map(one).collect()
+}
+
+fn expect_calls(dir: &str, count: usize) -> io::Result<String> {
+    let one = |number: usize| {
+        let text = run_call(&Path::new(dir).join(format!("{number:04}s")))?;
+        Ok(format!("case {number}\n{text}"))
+    };
+    (0..count).map(one).collect()
+}
+
+/// The answer and its detail, then the state after the call.
+fn run_call(file: &Path) -> io::Result<String> {
+    let text = fs::read_to_string(file)?;
+    let call = Call::read(&text).ok_or_else(|| io::Error::other("not a call of the judge"))?;
+    let (answer, state) = call.run();
+    let (answer, detail) = answer.numbers();
+    Ok(format!("{answer} {detail}\n{}", write_state(&state)))
+}

@@ -1,0 +1,154 @@
+//! Usage policies: edges, instances and when a past respects a policy.
+
+pub const POLICIES: usize = 8;
+pub const STATES: usize = 8;
+pub const STATICS: u64 = 16;
+pub const MOST_EDGES: usize = 256;
+
+pub const ON_STATIC: u64 = 0;
+pub const ON_OWN: u64 = 1;
+pub const ON_OTHER: u64 = 2;
+
+#[derive(Clone, Copy, Debug, PartialEq, Eq)]
+pub struct Edge {
+    pub policy: u64,
+    pub from: u64,
+    pub action: u64,
+    pub on: u64,
+    pub who: u64,
+    pub to: u64,
+}
+
+#[derive(Clone, Copy, Debug, PartialEq, Eq)]
+pub struct Event {
+    pub action: u64,
+    pub resource: u64,
+}
+
+/// The resource taken as x. `None` is a dynamic resource in no event.
+pub type Own = Option<u64>;
+
+/// The states that an instance may be in.
+pub type States = [bool; STATES];
+
+pub const START: States = [true, false, false, false, false, false, false, false];
+
+pub fn is_static(resource: u64) -> bool {
+    resource < STATICS
+}
+
+pub fn is_offending(state: usize) -> bool {
+    state == 6 || state == 7
+}
+
+impl Edge {
+    pub fn new(row: [u64; 6]) -> Edge {
+        let [policy, from, action, on, who, to] = row;
+        Edge { policy, from, action, on, who, to }
+    }
+
+    pub fn row(&self) -> [u64; 6] {
+        [self.policy, self.from, self.action, self.on, self.who, self.to]
+    }
+
+    /// Is every field in its range?
+    pub fn fits(&self) -> bool {
+        self.policy <= 7 && self.from <= 7 && self.action <= 31 && self.who_fits() && self.to <= 7
+    }
+
+    fn who_fits(&self) -> bool {
+        match self.on {
+            ON_STATIC => self.who <= 15,
+            ON_OWN | ON_OTHER => self.who == 0,
+            _ => false,
+        }
+    }
+
+    pub fn matches(&self, own: Own, event: Event) -> bool {
+        self.action == event.action
+            && match self.on {
+                ON_STATIC => is_static(event.resource) && event.resource == self.who,
+                ON_OWN => own == Some(event.resource),
+                ON_OTHER => own != Some(event.resource),
+                _ => false,
+            }
+    }
+}
+
+/// Is this a table of edges that an accepted sheet gives?
+pub fn edges_fit(edges: &[Edge]) -> bool {
+    edges.len() <= MOST_EDGES && edges.iter().all(Edge::fits)
+}
+
+/// The edges of one policy.
+#[derive(Clone, Debug)]
+pub struct Policy {
+    edges: Vec<Edge>,
+}
+
+impl Policy {
+    pub fn of(edges: &[Edge], number: usize) -> Policy {
+        let edges = edges.iter().filter(|e| e.policy == number as u64).copied().collect();
+        Policy { edges }
+    }
+
+    /// All eight policies.
+    pub fn all(edges: &[Edge]) -> Vec<Policy> {
+        (0..POLICIES).map(|number| Policy::of(edges, number)).collect()
+    }
+
+    /// The ends of the matching edges from a state; the state itself if there is none.
+    pub fn successors(&self, own: Own, from: usize, event: Event) -> Vec<usize> {
+        let mut ends: Vec<usize> = self
+            .edges
+            .iter()
+            .filter(|e| e.from == from as u64 && e.matches(own, event))
+            .map(|e| e.to as usize)
+            .collect();
+        ends.sort_unstable();
+        ends.dedup();
+        if ends.is_empty() {
+            ends.push(from);
+        }
+        ends
+    }
+
+    pub fn moved(&self, own: Own, states: States, event: Event) -> States {
+        let mut stuck = states;
+        let mut after = [false; STATES];
+        for edge in &self.edges {
+            if states[edge.from as usize] && edge.matches(own, event) {
+                stuck[edge.from as usize] = false;
+                after[edge.to as usize] = true;
+            }
+        }
+        for state in 0..STATES {
+            after[state] |= stuck[state];
+        }
+        after
+    }
+
+    /// The states of the instance of `own` after all events.
+    pub fn states_after(&self, own: Own, events: &[Event]) -> States {
+        events.iter().fold(START, |states, event| self.moved(own, states, *event))
+    }
+
+    /// May no instance at all be in an offending state after these events?
+    pub fn respected(&self, events: &[Event]) -> bool {
+        instances(events).into_iter().all(|own| !offends(self.states_after(own, events)))
+    }
+}
+
+pub fn offends(states: States) -> bool {
+    (0..STATES).any(|state| states[state] && is_offending(state))
+}
+
+/// All statics, each dynamic resource of the events, and one that is in none.
+pub fn instances(events: &[Event]) -> Vec<Own> {
+    let mut dynamic: Vec<u64> =
+        events.iter().map(|e| e.resource).filter(|r| !is_static(*r)).collect();
+    dynamic.sort_unstable();
+    dynamic.dedup();
+    let occurring = (0..STATICS).chain(dynamic).map(Some);
+    occurring.chain([None]).collect()
+}

@@ -1,0 +1,216 @@
+//! The judge on a state that is handed to it, reached or not.
+
+use crate::judge::{
+    Answer, Step, CLOSE, CREATE, LARGEST_RESOURCE, MOST_CREATED, MOST_OPENINGS, OPEN,
+};
+use crate::policy::{
+    edges_fit, is_static, offends, Edge, Event, Own, Policy, States, POLICIES, STATES, STATICS,
+};
+
+pub const NEVER: usize = STATICS as usize;
+pub const INSTANCES: usize = NEVER + 1 + MOST_CREATED;
+
+#[derive(Clone, Debug, PartialEq, Eq)]
+pub struct State {
+    pub halted: bool,
+    pub count: u64,
+    pub created: [u64; MOST_CREATED],
+    pub openings: [u64; POLICIES],
+    /// Bit s of a mask: the instance may be in state s.
+    pub sets: [[u8; POLICIES]; INSTANCES],
+}
+
+impl State {
+    pub fn start() -> State {
+        State {
+            halted: false,
+            count: 0,
+            created: [0; MOST_CREATED],
+            openings: [0; POLICIES],
+            sets: [[1; POLICIES]; INSTANCES],
+        }
+    }
+
+    fn created(&self) -> &[u64] {
+        &self.created[..self.count as usize]
+    }
+
+    /// Does the state pass 42?
+    fn fits(&self) -> bool {
+        self.count <= MOST_CREATED as u64
+            && self.openings.iter().all(|n| *n <= MOST_OPENINGS as u64)
+            && self.created().iter().all(|r| (STATICS..=LARGEST_RESOURCE).contains(r))
+            && (1..self.created().len()).all(|i| !self.created[..i].contains(&self.created[i]))
+    }
+
+    /// The resource that a place of the sets stands for.
+    fn own(&self, place: usize) -> Own {
+        match place {
+            NEVER => None,
+            static_place if static_place < NEVER => Some(static_place as u64),
+            later => Some(self.created[later - NEVER - 1]),
+        }
+    }
+
+    /// How many places count: the statics, one that never occurs, the created ones.
+    fn places(&self) -> usize {
+        NEVER + 1 + self.count as usize
+    }
+
+    fn add_created(&mut self, resource: u64) {
+        self.sets[self.places()] = self.sets[NEVER];
+        self.created[self.count as usize] = resource;
+        self.count += 1;
+    }
+
+    fn move_all(&mut self, policies: &[Policy], event: Event) {
+        for place in 0..self.places() {
+            let own = self.own(place);
+            for (policy, mask) in policies.iter().zip(self.sets[place].iter_mut()) {
+                *mask = to_mask(policy.moved(own, from_mask(*mask), event));
+            }
+        }
+    }
+
+    fn lowest_broken(&self) -> Option<usize> {
+        let broken = |p: usize| (0..self.places()).any(|i| offends(from_mask(self.sets[i][p])));
+        (0..POLICIES).find(|p| self.openings[*p] > 0 && broken(*p))
+    }
+
+    fn refusal(&self, step: Step) -> Option<u32> {
+        if self.halted {
+            return Some(20);
+        }
+        if !step.fits() {
+            return Some(21);
+        }
+        match step.kind {
+            OPEN => (self.openings[step.a as usize] >= MOST_OPENINGS as u64).then_some(31),
+            CLOSE => (self.openings[step.a as usize] == 0).then_some(25),
+            _ => self.event_refusal(step.a, step.b),
+        }
+    }
+
+    fn event_refusal(&self, action: u64, resource: u64) -> Option<u32> {
+        let known = self.created().contains(&resource);
+        if action != CREATE {
+            return (!is_static(resource) && !known).then_some(24);
+        }
+        if is_static(resource) {
+            return Some(22);
+        }
+        if known {
+            return Some(23);
+        }
+        (self.count >= MOST_CREATED as u64).then_some(30)
+    }
+
+    fn after(&self, policies: &[Policy], step: Step) -> State {
+        let mut next = self.clone();
+        match step.kind {
+            OPEN => next.openings[step.a as usize] += 1,
+            CLOSE => next.openings[step.a as usize] -= 1,
+            _ => {
+                if step.a == CREATE {
+                    next.add_created(step.b);
+                }
+                next.move_all(policies, Event { action: step.a, resource: step.b });
+            }
+        }
+        next
+    }
+}
+
+/// One call of the judge.
+pub fn judge_state(edges: &[Edge], state: &State, step: Step) -> (Answer, State) {
+    if !edges_fit(edges) {
+        return (Answer::Refused(41), state.clone());
+    }
+    if !state.fits() {
+        return (Answer::Refused(42), state.clone());
+    }
+    if let Some(number) = state.refusal(step) {
+        return (Answer::Refused(number), state.clone());
+    }
+    let next = state.after(&Policy::all(edges), step);
+    match next.lowest_broken() {
+        None => (Answer::Allowed, next),
+        Some(policy) => (Answer::Violated(policy), State { halted: true, ..state.clone() }),
+    }
+}
+
+fn from_mask(mask: u8) -> States {
+    let mut states = [false; STATES];
+    for (bit, held) in states.iter_mut().enumerate() {
+        *held = mask >> bit & 1 == 1;
+    }
+    states
+}
+
+fn to_mask(states: States) -> u8 {
+    (0..STATES).filter(|bit| states[*bit]).map(|bit| 1u8 << bit).sum()
+}
+
+/// One call as text: numbers only, parted by white space.
+#[derive(Clone, Debug, PartialEq, Eq)]
+pub struct Call {
+    pub edges: Vec<Edge>,
+    pub step: Step,
+    pub state: State,
+}
+
+impl Call {
+    pub fn run(&self) -> (Answer, State) {
+        judge_state(&self.edges, &self.state, self.step)
+    }
+
+    pub fn write(&self) -> String {
+        let mut text = format!("{}\n", self.edges.len());
+        for edge in &self.edges {
+            text += &line(&edge.row());
+        }
+        text += &line(&self.step.row());
+        text + &write_state(&self.state)
+    }
+
+    pub fn read(text: &str) -> Option<Call> {
+        let mut numbers = text.split_ascii_whitespace().map(|word| word.parse::<u64>().ok());
+        let mut next = || numbers.next().flatten();
+        let mut edges = Vec::new();
+        for _ in 0..next()? {
+            edges.push(Edge::new([next()?, next()?, next()?, next()?, next()?, next()?]));
+        }
+        let step = Step { kind: next()?, a: next()?, b: next()? };
+        let state = read_state(&mut next)?;
+        Some(Call { edges, step, state })
+    }
+}
+
+fn read_state(next: &mut impl FnMut() -> Option<u64>) -> Option<State> {
+    let mut state = State::start();
+    state.halted = next()? == 1;
+    state.count = next()?;
+    for number in state.openings.iter_mut().chain(state.created.iter_mut()) {
+        *number = next()?;
+    }
+    for mask in state.sets.iter_mut().flatten() {
+        *mask = u8::try_from(next()?).ok()?;
+    }
+    Some(state)
+}
+
+/// Halted and count; the openings; the created numbers; a line of masks for each instance.
+pub fn write_state(state: &State) -> String {
+    let mut text = line(&[state.halted as u64, state.count]);
+    text += &line(&state.openings);
+    text += &line(&state.created);
+    for row in &state.sets {
+        text += &line(&row.map(u64::from));
+    }
+    text
+}
+
+fn line(numbers: &[u64]) -> String {
+    let words: Vec<String> = numbers.iter().map(u64::to_string).collect();
+    words.join(" ") + "\n"
+}

@@ -1,0 +1,123 @@
+//! The judge over the whole past against the judge over states.
+
+use reference::generate::{cases, states, Kind};
+use reference::judge::{events, is_open, Answer, Judge, Step};
+use reference::policy::{is_static, Edge, Own, Policy, POLICIES};
+use reference::sheet::{read_policies, read_trace};
+use reference::state::{judge_state, Call, State};
+
+#[test]
+fn states_agree_with_the_whole_past() {
+    let mut judged = 0;
+    for case in cases(Kind::Trace, 11, 900) {
+        let (Ok(edges), Ok(steps)) = (read_policies(&case.policies), read_trace(&case.other))
+        else {
+            continue;
+        };
+        let mut judge = Judge::new(&edges);
+        let mut state = State::start();
+        for step in steps.iter().take(500) {
+            let (answer, next) = judge_state(&edges, &state, *step);
+            assert_eq!(judge.judge(*step), answer);
+            check_step(&state, &next, answer);
+            state = next;
+            judged += 1;
+        }
+        assert_eq!(judge.halted(), state.halted);
+        assert_state(&edges, judge.past(), &state);
+    }
+    assert!(judged > 10_000, "{judged}");
+}
+
+/// A refused step changes nothing; a violated one only halts.
+fn check_step(before: &State, after: &State, answer: Answer) {
+    match answer {
+        Answer::Allowed => assert!(!after.halted),
+        Answer::Violated(_) => assert_eq!(*after, State { halted: true, ..before.clone() }),
+        Answer::Refused(_) => assert_eq!(after, before),
+    }
+}
+
+/// The state holds what the past says.
+fn assert_state(edges: &[Edge], past: &[Step], state: &State) {
+    let events = events(past);
+    let created: Vec<u64> = events.iter().filter(|e| e.action == 0).map(|e| e.resource).collect();
+    assert!(created.iter().all(|r| !is_static(*r)));
+    assert_eq!(state.created[..state.count as usize], created[..]);
+    let owns = (0..16).map(Some).chain([None]).chain(created.iter().copied().map(Some));
+    let owns: Vec<Own> = owns.collect();
+    for (number, policy) in Policy::all(edges).iter().enumerate() {
+        assert_eq!(state.openings[number] > 0, is_open(past, number));
+        for (place, own) in owns.iter().enumerate() {
+            let held = policy.states_after(*own, &events);
+            let mask = state.sets[place][number];
+            assert!((0..8).all(|s| held[s] == (mask >> s & 1 == 1)));
+        }
+    }
+    let start = State::start();
+    assert_eq!(state.sets[owns.len()..], start.sets[owns.len()..]);
+}
+
+fn edge(row: [u64; 6]) -> Edge {
+    Edge::new(row)
+}
+
+#[test]
+fn refusals_of_the_caller_come_first() {
+    let bad = [edge([8, 0, 0, 1, 0, 0])];
+    let mut state = State { halted: true, ..State::start() };
+    state.openings[3] = 256;
+    let misfit = Step { kind: 3, a: 0, b: 0 };
+    assert_eq!(judge_state(&bad, &state, misfit).0, Answer::Refused(41));
+    assert_eq!(judge_state(&[], &state, misfit).0, Answer::Refused(42));
+    state.openings[3] = 255;
+    assert_eq!(judge_state(&[], &state, misfit).0, Answer::Refused(20));
+    state.halted = false;
+    assert_eq!(judge_state(&[], &state, misfit).0, Answer::Refused(21));
+    assert_eq!(judge_state(&[], &state, Step::open(3)).0, Answer::Refused(31));
+    let many = vec![edge([0, 0, 0, 1, 0, 0]); 257];
+    assert_eq!(judge_state(&many, &state, Step::open(2)).0, Answer::Refused(41));
+    assert_eq!(judge_state(&many[..256], &state, Step::open(2)).0, Answer::Allowed);
+}
+
+#[test]
+fn places_beyond_the_created_count_for_nothing() {
+    let edges = [edge([0, 0, 1, 2, 0, 6])];
+    let mut state = State::start();
+    state.openings[0] = 1;
+    state.sets[17] = [64; POLICIES];
+    state.created[0] = 3;
+    let (answer, next) = judge_state(&edges, &state, Step::event(2, 3));
+    assert_eq!((answer, &next), (Answer::Allowed, &state));
+    let (answer, next) = judge_state(&edges, &state, Step::event(0, 16));
+    assert_eq!(answer, Answer::Allowed);
+    assert_eq!((next.sets[17], next.count, next.created[0]), ([1; POLICIES], 1, 16));
+}
+
+#[test]
+fn a_closing_can_be_violated_in_an_unreached_state() {
+    let mut state = State::start();
+    state.openings[2] = 2;
+    state.openings[5] = 1;
+    state.sets[16][2] = 128;
+    state.sets[4][5] = 64;
+    let (answer, next) = judge_state(&[], &state, Step::close(2));
+    assert_eq!(answer, Answer::Violated(2));
+    assert_eq!(next, State { halted: true, ..state.clone() });
+    state.openings[2] = 1;
+    assert_eq!(judge_state(&[], &state, Step::close(2)).0, Answer::Violated(5));
+}
+
+#[test]
+fn calls_are_written_and_read() {
+    let mut seen = std::collections::BTreeSet::new();
+    for call in states::calls(5, 2_000) {
+        assert_eq!(Call::read(&call.write()), Some(call.clone()));
+        let (answer, next) = call.run();
+        check_step(&call.state, &next, answer);
+        seen.insert(answer.numbers());
+    }
+    for number in [20, 21, 22, 23, 24, 25, 30, 31, 41, 42] {
+        assert!(seen.contains(&(2, number)), "{number}");
+    }
+}

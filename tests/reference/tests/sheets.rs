@@ -1,0 +1,142 @@
+//! The refusals of sheets, their lines and their order.
+
+use reference::damage::{crowded, padded};
+use reference::generate::fixed::{outline, policies, trace, OUTLINE_I, TRACE};
+use reference::sheet::{
+    read_outline, read_policies, read_trace, Refusal, OUTLINE_NAMES, POLICY_NAMES, TRACE_NAMES,
+};
+
+fn refused(number: u32, line: usize) -> Refusal {
+    Refusal { number, line }
+}
+
+fn trace_refusal(text: &[u8]) -> Option<Refusal> {
+    read_trace(text).err()
+}
+
+fn outline_refusal(values: &str) -> Option<Refusal> {
+    read_outline(&outline(values)).err()
+}
+
+#[test]
+fn length_comes_first() {
+    assert_eq!(trace_refusal(&padded(&trace(TRACE), 32_768)), None);
+    assert_eq!(trace_refusal(&padded(&trace(TRACE), 32_769)), Some(refused(5, 0)));
+    assert_eq!(trace_refusal(&[b'x'; 32_769]), Some(refused(5, 0)));
+    assert_eq!(trace_refusal(&[b'x'; 32_768]), Some(refused(1, 1)));
+}
+
+#[test]
+fn names_line() {
+    for text in
+        [&b""[..], b"kind a b", b"kind a b\r\n", b"kind a b \n", b"\nkind a b\n", b"Kind a b\n"]
+    {
+        assert_eq!(trace_refusal(text), Some(refused(1, 1)));
+    }
+    assert_eq!(read_trace(b"kind a b\n"), Ok(vec![]));
+}
+
+#[test]
+fn malformed_lines() {
+    let lines = [
+        "",
+        " ",
+        " 0 1 3",
+        "0 1 3 ",
+        "0\t1 3",
+        "0 1 3\r",
+        "0 1",
+        "0 1 3 0",
+        "0 1 000003",
+        "0 1 -3",
+        "0 1 3x",
+        "0 1 3\0",
+        "0 1 /",
+        "0 1 :",
+        "0,1,3",
+    ];
+    for line in lines {
+        let text = format!("kind a b\n0 1 3\n{line}\n0 1 3\n");
+        assert_eq!(trace_refusal(text.as_bytes()), Some(refused(2, 3)), "{line:?}");
+    }
+    for line in ["0  1   3", "00000 00001 00003", "0 31 65535"] {
+        assert_eq!(trace_refusal(format!("kind a b\n{line}\n").as_bytes()), None, "{line:?}");
+    }
+}
+
+#[test]
+fn last_line_feed() {
+    assert_eq!(trace_refusal(b"kind a b\n0 1 3"), Some(refused(2, 2)));
+    assert_eq!(trace_refusal(b"kind a b\n0 99 3"), Some(refused(2, 2)));
+    assert_eq!(trace_refusal(b"kind a b\n0 1 3\n\n"), Some(refused(2, 3)));
+    assert_eq!(trace_refusal(b"kind a b\n0 1 3\n "), Some(refused(2, 3)));
+}
+
+#[test]
+fn ranges() {
+    for line in ["0 32 0", "0 0 65536", "0 0 99999", "1 8 0", "1 0 1", "2 8 0", "2 0 1", "3 0 0"] {
+        let text = format!("kind a b\n{line}\nx\n");
+        assert_eq!(trace_refusal(text.as_bytes()), Some(refused(3, 2)), "{line}");
+    }
+    for line in [
+        "8 0 0 1 0 0",
+        "0 8 0 1 0 0",
+        "0 0 32 1 0 0",
+        "0 0 0 3 0 0",
+        "0 0 0 0 16 0",
+        "0 0 0 1 1 0",
+        "0 0 0 2 1 0",
+        "0 0 0 1 0 8",
+    ] {
+        assert_eq!(read_policies(&policies(line)).err(), Some(refused(3, 2)), "{line}");
+    }
+}
+
+#[test]
+fn lines_beyond_the_most() {
+    let crowds = [
+        (crowded(POLICY_NAMES, "0 0 1 1 0 1", 256), 258),
+        (crowded(TRACE_NAMES, "0 1 3", 2_000), 2_002),
+        (crowded(OUTLINE_NAMES, "0 0 0 0", 64), 66),
+    ];
+    for (sheets, beyond) in crowds {
+        let refusal = |text: &[u8]| match beyond {
+            258 => read_policies(text).err(),
+            2_002 => read_trace(text).err(),
+            _ => read_outline(text).err(),
+        };
+        for sheet in &sheets[1..8] {
+            assert_eq!(refusal(sheet), Some(refused(4, beyond)));
+        }
+        assert_eq!(refusal(&sheets[8]), Some(refused(2, beyond - 1)));
+        assert_eq!(refusal(&sheets[11]), Some(refused(2, beyond - 1)));
+    }
+}
+
+#[test]
+fn outline_without_nodes() {
+    assert_eq!(outline_refusal(""), Some(refused(9, 2)));
+}
+
+#[test]
+fn shapes() {
+    assert_eq!(outline_refusal(OUTLINE_I), None);
+    // A child equal to its parent puts the fault at the parent.
+    assert_eq!(outline_refusal("5 0 0"), Some(refused(6, 2)));
+    // A line that names a lower node makes that one a child twice.
+    assert_eq!(outline_refusal("3 1 2; 0 0 0; 5 1 0"), Some(refused(6, 3)));
+    assert_eq!(outline_refusal("5 1 0; 5 0 0"), Some(refused(6, 2)));
+    assert_eq!(outline_refusal("3 1 2; 0 0 0"), Some(refused(6, 2)));
+    assert_eq!(outline_refusal("0 0 0; 0 0 0"), Some(refused(6, 3)));
+    assert_eq!(outline_refusal("3 1 1; 0 0 0"), Some(refused(6, 3)));
+    // Backs.
+    assert_eq!(outline_refusal("6 0 0"), Some(refused(7, 2)));
+    assert_eq!(outline_refusal("5 1 0; 8 0 2; 6 1 0"), Some(refused(7, 4)));
+    assert_eq!(outline_refusal("3 1 2; 5 3 0; 6 1 0; 0 0 0"), Some(refused(7, 4)));
+    // Names.
+    assert_eq!(outline_refusal("3 1 2; 7 0 3; 2 1 0; 0 0 0"), Some(refused(8, 4)));
+    assert_eq!(outline_refusal("7 0 1; 7 0 2; 2 1 0"), Some(refused(8, 3)));
+    // 6 before 7 before 8, each over all nodes.
+    assert_eq!(outline_refusal("3 1 2; 2 1 0; 6 0 0"), Some(refused(7, 4)));
+    assert_eq!(outline_refusal("3 1 2; 6 0 0; 5 3 0"), Some(refused(6, 4)));
+}

@@ -1,0 +1,106 @@
+//! The stored cases: the expected outputs are those of the reference, and all numbers occur.
+
+use reference::policy::Policy;
+use reference::program::{check, monitor};
+use reference::pushdown::{self, replay, witness, Watched, Witness};
+use reference::sheet::{read_outline, read_policies};
+use reference::state::Call;
+use std::collections::BTreeSet;
+use std::fs;
+use std::path::PathBuf;
+
+/// The folder of the cases of a kind, and the file of what is expected for them. The sheets belong to programs of the gate.
+fn stored(kind: &str) -> (PathBuf, PathBuf) {
+    let root = PathBuf::from(env!("CARGO_MANIFEST_DIR")).join("../..");
+    if kind == "state" {
+        (root.join("tests/cases/state"), root.join("tests/cases/state.expected"))
+    } else {
+        let program = root.join("crates").join(format!("{kind}_cases"));
+        (program.join("data"), program.join("stdout"))
+    }
+}
+
+/// The expected output of each case of a kind, without its first line.
+fn expected(kind: &str) -> Vec<String> {
+    let text = fs::read_to_string(stored(kind).1).unwrap();
+    let mut cases: Vec<String> = Vec::new();
+    for line in text.lines() {
+        if line == format!("case {}", cases.len()) {
+            cases.push(String::new());
+        } else {
+            cases.last_mut().unwrap().push_str(&format!("{line}\n"));
+        }
+    }
+    cases
+}
+
+fn file(kind: &str, number: usize, letter: char) -> Vec<u8> {
+    fs::read(stored(kind).0.join(format!("{number:04}{letter}"))).unwrap()
+}
+
+/// Each answer with its detail.
+fn answers(cases: &[String]) -> BTreeSet<(u64, u64)> {
+    let lines = cases.iter().flat_map(|case| case.lines().skip(1));
+    let last_two = |line: &str| {
+        let numbers: Vec<u64> = line.split(' ').map(|word| word.parse().unwrap()).collect();
+        (numbers[1], numbers[2])
+    };
+    lines.map(last_two).collect()
+}
+
+#[test]
+fn traces() {
+    let cases = expected("trace");
+    assert!(cases.len() >= 400);
+    for (number, text) in cases.iter().enumerate() {
+        let (policies, trace) = (file("trace", number, 'p'), file("trace", number, 't'));
+        assert_eq!(monitor(&policies, &trace), *text, "case {number}");
+    }
+    let mut due: Vec<(u64, u64)> = (0..8).map(|policy| (1, policy)).collect();
+    due.extend([20, 22, 23, 24, 25, 30, 31].map(|number| (2, number)));
+    due.extend((1..=5).flat_map(|number| [(3, number), (4, number)]));
+    let seen = answers(&cases);
+    due.iter().for_each(|answer| assert!(seen.contains(answer), "{answer:?}"));
+}
+
+#[test]
+fn outlines() {
+    let cases = expected("outline");
+    assert!(cases.len() >= 400);
+    for (number, text) in cases.iter().enumerate() {
+        let (policies, outline) = (file("outline", number, 'p'), file("outline", number, 'o'));
+        assert_eq!(check(&policies, &outline), *text, "case {number}");
+        replay_refused(&policies, &outline);
+    }
+    let mut due: Vec<(u64, u64)> = (0..8).map(|policy| (1, policy)).collect();
+    due.extend((1..=9).map(|number| (5, number)));
+    due.push((0, 0));
+    let seen = answers(&cases);
+    due.iter().for_each(|answer| assert!(seen.contains(answer), "{answer:?}"));
+}
+
+/// For a refused outline some run replayed breaks the policy named.
+fn replay_refused(policies: &[u8], outline: &[u8]) {
+    let (Ok(edges), Ok(nodes)) = (read_policies(policies), read_outline(outline)) else {
+        return;
+    };
+    let Some(policy) = pushdown::check(&edges, &nodes) else {
+        return;
+    };
+    let breaks = |watched| match witness(&edges, &nodes, policy, watched, 100_000) {
+        Witness::Ways(ways) => replay(&nodes, &ways).broken(&Policy::all(&edges)).contains(&policy),
+        _ => false,
+    };
+    assert!(Watched::all().into_iter().any(breaks));
+}
+
+#[test]
+fn calls() {
+    for (number, text) in expected("state").iter().enumerate() {
+        let call = String::from_utf8(file("state", number, 's')).unwrap();
+        let (answer, state) = Call::read(&call).unwrap().run();
+        let (answer, detail) = answer.numbers();
+        let printed = format!("{answer} {detail}\n{}", reference::state::write_state(&state));
+        assert_eq!(printed, *text, "case {number}");
+    }
+}
