@@ -84,11 +84,11 @@ pub fn judge_records(edges: &[Edge], s: State, step: RawStep) -> Judgement
 fn check_flat(f: Flat, nodes: &[u8]) -> Outcome
     ensures { λ r. ⌜ CheckedFlat f (now (nodes .entry)) r ⌝ }
 {
-    let count = f.count;
-    if 256 < count {
+    let held = f.count;
+    if 256 < held {
         return Outcome::Refused(41);
     }
-    let n = 6 * count;
+    let n = 6 * held;
     let bytes = f.bytes;
     modelcheck::check(&bytes[0..n], nodes)
 }
