@@ -1,4 +1,3 @@
 pub mod MaskLaws
 pub mod MoveLaws
 pub mod RowLaws
-pub mod EdgeLaws

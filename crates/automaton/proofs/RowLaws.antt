@@ -8,7 +8,7 @@ use native.Mathlib.Omega.{arith}
 use native.Mathlib.Numerals.{add-one}
 use lib.Dec.{eqb, ltb, lit<}
 use lib.ListN.{length, getD, set, replicate, length-set, List·getD-eq-default}
-use lib.Seq.{getD-set-same, getD-set-other}
+use lib.Seq.{getD-set-same, getD-set-other, set-getD}
 use lib.Bits.{bitOr, or-zero-l, or-zero-r}
 use borrow.Author.Tests.{eq-eqb, ne-eqb, eqb-true, eqb-false, ltb-true, ltb-false, lt-ltb}
 use Rattle.usage.specs.declared.Edge.{Edge}
@@ -233,6 +233,15 @@ module _ (t : List ℕ) (a r : ℕ) (mine : Bool) where
       → m ≡ endOf (getD t (6 * i + 3) 0) (getD t (6 * i + 4) 0) (getD t (6 * i + 5) 0) mine r
       → joined s (getD t (6 * i) 0) (getD t (6 * i + 1) 0) m ≡ endsOf (from (edgeAt t) 0 (i + 1)) a r mine
   ends-join i h s m d e = rw (d, e, add-one i, edges-more t i) (ends-joined (from (edgeAt t) 0 i) (edgeAt t i) a r mine h)
+
+-- joining the empty set changes nothing
+pub joined-none : (t : List ℕ) (p q : ℕ) → joined t p q 0 ≡ t
+unfolding joined
+joined-none t p q = by-cond (ltb p 8 && ltb q 8)
+  where
+    by-cond : (b : Bool) → cond b (set t (p * 8 + q) (bitOr (getD t (p * 8 + q) 0) 0)) t ≡ t
+    by-cond true = ap (set t (p * 8 + q)) (or-zero-r (getD t (p * 8 + q) 0)) ∙ set-getD t (p * 8 + q) 0
+    by-cond false = refl
 
 -- ── States that stay ──
 

@@ -1,7 +1,7 @@
 -- A reader's answer as one number, as the judge's is: 512 + the number of a refusal, and 0 for an accepted sheet.
 use Prim.Native.Nat.{ℕ, _+_}
-use Rattle.sheets.specs.declared.Reading.{Reading}
-use Rattle.sheets.specs.declared.Reading.the-variants.{Stored, Refused}
+use Rattle.lines.specs.declared.Reading.{Reading}
+use Rattle.lines.specs.declared.Reading.the-variants.{Stored, Refused}
 
 abbrev pub readingCode : Reading → ℕ
 readingCode (Stored n) = 0

@@ -6,7 +6,7 @@ ghost use lib.ListN.{replicate, set};
 ghost use Rattle.exports.specs.Parts.{codeOf, judgeParts};
 ghost use Rattle.border_calls.specs.Codes.{readingCode};
 use libc::STDOUT_FILENO;
-use sheets::Reading;
+use lines::Reading;
 
 // The line of a call, printed; its code is handed back.
 fn show(call: u64, code: u32) -> u32

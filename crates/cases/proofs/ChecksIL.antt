@@ -18,9 +18,9 @@ use Rattle.usage.proofs.Decides.{Decides, refutes}
 use Rattle.usage.proofs.Logic.{by-cases}
 use Rattle.usage.proofs.TableLaws.{decides-edge-table}
 use Rattle.usage.proofs.OutlineExamples.{outline-I, outline-J, outline-L, I-ok, J-ok, L-ok}
-use Rattle.modelcheck.specs.Witness.{watched}
-use Rattle.modelcheck.specs.Tables.{unnamed, least, rowsIn}
-use Rattle.modelcheck.specs.Rounds.{formsIn, SearchedAll, found}
+use Rattle.witness.specs.Witness.{watched}
+use Rattle.tables.specs.Tables.{unnamed, least, rowsIn}
+use Rattle.tables.specs.Rounds.{formsIn, SearchedAll, found}
 use Rattle.modelcheck.specs.Skips.{opens}
 use Rattle.modelcheck.proofs.PolicyLaws.{shut, looked}
 use Rattle.cases.specs.Cases.{CheckCase, case-I, case-J, case-K, case-L}

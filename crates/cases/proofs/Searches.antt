@@ -14,12 +14,12 @@ use Rattle.usage.specs.Tables.{from, edgesOf}
 use Rattle.usage.specs.Tests.{some-below}
 use Rattle.usage.proofs.Logic.{false-true, and-left, and-right, not-true, last-or-lower}
 use Rattle.automaton.specs.Move.{targets, image, rowsOf}
-use Rattle.modelcheck.specs.Witness.{watched}
+use Rattle.witness.specs.Witness.{watched}
 use Rattle.automaton.specs.Mask.{has, single, union}
-use Rattle.modelcheck.specs.Mask.{offends, over, joined}
-use Rattle.modelcheck.specs.Tables.{unnamed, least, forgotten, rowsIn, endsBy, arrivals, leaves}
-use Rattle.modelcheck.specs.Rounds.{repeat, Forms, formsIn, settleNode, settleRound, entered, passNode, passRound, begins, hitNode, hitAny, Searched, SearchedAll, none-found}
-use Rattle.modelcheck.specs.RowTable.{stored, nodeRows, fillRows}
+use Rattle.tables.specs.Mask.{offends, over, joined}
+use Rattle.tables.specs.Tables.{unnamed, least, forgotten, rowsIn, endsBy, arrivals, leaves}
+use Rattle.tables.specs.Rounds.{repeat, Forms, formsIn, settleNode, settleRound, entered, passNode, passRound, begins, hitNode, hitAny, Searched, SearchedAll, none-found}
+use Rattle.tables.specs.RowTable.{stored, nodeRows, fillRows}
 
 unfoldable pub same : List ℕ → List ℕ → Bool
 same [] [] = true

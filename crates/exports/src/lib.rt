@@ -1,8 +1,7 @@
 // The judge and the check for callers in C and Rust: numbers and arrays in the place of structs. Tests and benchmarks call them.
 use modelcheck::Outcome;
 use monitor::Answer;
-use monitor::Judgement;
-use monitor::State;
+use monitor::Told;
 use usage::RawStep;
 ghost use mathlib.Core.Path.{_≡_};
 ghost use mathlib.Core.Bool.{cond};
@@ -43,29 +42,21 @@ pub extern "C" fn judge_parts(
 ) -> u32
     ensures { λ r. ⌜ Held (judgeParts (now (edges .entry)) (now (sets .entry)) (now (created .entry)) (now (unclosed .entry)) (now (numbers .entry)) kind a b) r (now (sets .exit)) (now (created .exit)) (now (unclosed .exit)) (now (numbers .exit)) ⌝ }
 {
-    let old_sets = *sets;
-    let old_created = *created;
-    let old_unclosed = *unclosed;
     let count = numbers[0] as usize;
-    let s = State {
-        sets: old_sets,
-        created: old_created,
+    let halted = numbers[1] != 0;
+    let t = monitor::judge_lent(
+        edges,
+        sets,
+        created,
+        unclosed,
         count,
-        unclosed: old_unclosed,
-        halted: numbers[1] != 0,
-    };
-    let j = monitor::judge(edges, s, RawStep { kind, a, b });
-    let t = j.state;
-    let new_sets = t.sets;
-    let new_created = t.created;
-    let new_unclosed = t.unclosed;
-    *sets = new_sets;
-    *created = new_created;
-    *unclosed = new_unclosed;
+        halted,
+        RawStep { kind, a, b },
+    );
     let n = t.count as u64;
     let h = flag(t.halted);
     *numbers = [n, h];
-    let answer = j.answer;
+    let answer = t.answer;
     code(answer)
 }
 

@@ -1,35 +1,5 @@
--- The finite account is exact (Exact.antt), and what leads there.
-pub mod Scoped
-pub mod Carry
-pub mod Meaning
-pub mod Unclosed
-pub mod Sound
-pub mod Complete
-pub mod Exact
-pub mod Example
--- Sound tables to which the rules add nothing hold exactly the account (EndsTable, ComesTable, HitsTable).
-pub mod MaskLaws
-pub mod Starts
-pub mod EndsTable
-pub mod ComesTable
-pub mod HitsTable
--- The tables that the rounds fill are such (FillEnds, FillComes), and so the search answers right (SearchLaws).
-pub mod RoundLaws
-pub mod CodeLaws
-pub mod SettleLaws
-pub mod PassLaws
-pub mod JoinLaws
-pub mod FillEnds
-pub mod FillComes
-pub mod SearchLaws
--- What the search asks of the rows and of the nodes, and when it can be left out.
-pub mod RowLaws
-pub mod RowTableLaws
-pub mod NodeLaws
+-- When the search can be left out, and the answer for the flat tables of edges and nodes.
 pub mod SkipLaws
--- The answer for the flat tables of edges and nodes.
-pub mod EventLaws
-pub mod ScopedLaws
 pub mod PolicyLaws
 pub mod AcceptedLaws
 pub mod PromiseLaws

@@ -15,19 +15,19 @@ use Rattle.usage.proofs.Decides.{Decides}
 use Rattle.usage.proofs.Logic.{false-true}
 use Rattle.automaton.specs.Move.{rowsOf}
 use Rattle.usage.proofs.TableLaws.{nodes-length}
-use Rattle.modelcheck.specs.Tables.{rowsIn}
-use Rattle.modelcheck.specs.Rounds.{formsIn, SearchedAll}
-use Rattle.modelcheck.specs.RowTable.{fillRows}
+use Rattle.tables.specs.Tables.{rowsIn}
+use Rattle.tables.specs.Rounds.{formsIn, SearchedAll}
+use Rattle.tables.specs.RowTable.{fillRows}
 use Rattle.modelcheck.specs.Skips.{opens, hasEdge}
 use Rattle.modelcheck.specs.Verdicts.{named-if, verdictOf}
-use Rattle.modelcheck.proofs.Exact.{exact}
-use Rattle.modelcheck.proofs.RowLaws.{rows-ok}
-use Rattle.modelcheck.proofs.RowTableLaws.{rows-from}
-use Rattle.modelcheck.proofs.NodeLaws.{names-ok, targets-ok, forms-of}
+use Rattle.witness.proofs.Exact.{exact}
+use Rattle.tables.proofs.RowLaws.{rows-ok}
+use Rattle.tables.proofs.RowTableLaws.{rows-from}
+use Rattle.tables.proofs.NodeLaws.{names-ok, targets-ok, forms-of}
 use Rattle.modelcheck.proofs.SkipLaws.{no-hits, not-opened, bare-leaves, never-broken}
-use Rattle.modelcheck.proofs.SearchLaws.{broken-exact}
-use Rattle.modelcheck.proofs.EventLaws.{event-image}
-use Rattle.modelcheck.proofs.ScopedLaws.{scoped}
+use Rattle.tables.proofs.SearchLaws.{broken-exact}
+use Rattle.tables.proofs.EventLaws.{event-image}
+use Rattle.witness.proofs.ScopedLaws.{scoped}
 
 module _ (e t : List ℕ) (edges : EdgesOk (edgesOf e)) (ok : OutlineOk (nodesOf t)) where
   pub few-nodes : length t / 3 ≤ 64

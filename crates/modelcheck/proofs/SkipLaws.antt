@@ -20,9 +20,9 @@ use Rattle.usage.specs.Check.{Leaves}
 use Rattle.usage.proofs.Logic.{clash, not-both, and-both}
 use Rattle.usage.proofs.TableLaws.{edges-member}
 use Rattle.automaton.proofs.MaskLaws.{some-at}
-use Rattle.modelcheck.specs.Witness.{Comes, Last, Hits}
+use Rattle.witness.specs.Witness.{Comes, Last, Hits}
 use Rattle.modelcheck.specs.Skips.{opens, hasEdge}
-use Rattle.modelcheck.proofs.NodeLaws.{forms-of}
+use Rattle.tables.proofs.NodeLaws.{forms-of}
 
 -- ── No sandbox ──
 

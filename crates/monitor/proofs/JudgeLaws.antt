@@ -3,37 +3,19 @@ use Prim.Native.Nat.{ℕ, zero, suc, _+_, _-_, _<_, _≤_}
 use mathlib.Core.Path.{_≡_, refl}
 use mathlib.Core.Bool.{true, false, _||_}
 use mathlib.Core.List.{List}
-use mathlib.Core.Option.{none, some}
 use native.Mathlib.Omega.{arith}
-use borrow.Author.Tests.{leb-true, le-leb, lt-leb, lt-ltb, le-ltb, eq-eqb, ne-eqb}
-use lib.Count.{trailingZeros}
-use lib.Dec.{leb, ltb}
+use borrow.Author.Tests.{le-leb, lt-leb, lt-ltb, le-ltb}
+use lib.Dec.{ltb}
 use lib.ListN.{getD}
 use Rattle.usage.specs.declared.Edge.{Edge}
 use Rattle.usage.specs.declared.RawStep.{RawStep}
-use Rattle.usage.specs.Past.{Step, event, opening, closing}
+use Rattle.usage.specs.Past.{event, opening, closing}
 use Rattle.usage.specs.Judge.{stepOf}
 use Rattle.usage.specs.Tables.{edgesOf, edgeTable}
-use Rattle.usage.proofs.Logic.{and-left}
 use Rattle.monitor.specs.declared.State.{State}
-use Rattle.monitor.specs.declared.Answer.the-variants.{Allowed, Violated}
-use Rattle.monitor.specs.Judge.{live, listed, stateOk, createdIn, movedBy, withUnclosed, after, broken, refusal, refuse, halt, settle, judgeStep, judgeRead, judgeOf}
-
--- ── The answer ──
-
-pub settle-allowed : (bad : ℕ) (s t : State) → bad ≡ 0 → settle bad s t ≡ record { answer = Allowed; state = t }
-unfolding settle
-settle-allowed bad s t e = simp (eq-eqb bad 0 e)
-
-pub settle-violated : (bad : ℕ) (s t : State) → (bad ≡ 0 → ⊥) → settle bad s t ≡ record { answer = Violated (trailingZeros 8 bad); state = halt s }
-unfolding settle
-settle-violated bad s t e = simp (ne-eqb bad 0 e)
+use Rattle.monitor.specs.Judge.{live, listed, stateOk, createdIn, movedBy, withUnclosed, after, broken, refusal, refuse, settle, judgeStep, judgeRead, judgeOf}
 
 -- ── Openings and closings ──
-
-pub count-kept : (s : State) (p n : ℕ) → withUnclosed s p n .count ≡ s .count
-unfolding withUnclosed
-count-kept s p n = refl
 
 module _ (es : List Edge) (s : State) (p : ℕ) where
   pub opening-refused : 255 ≤ getD (s .unclosed) p 0 → judgeStep es s (opening p) (refusal s (opening p)) ≡ refuse 31 s
@@ -55,14 +37,6 @@ module _ (es : List Edge) (s : State) (p : ℕ) where
   closing-taken t h e = simp (lt-ltb 0 (getD (s .unclosed) p 0) h, e)
 
 -- ── Events ──
-
-pub created-count : (s : State) (r : ℕ) → createdIn s r .count ≡ s .count + 1
-unfolding createdIn
-created-count s r = refl
-
-pub moved-count : (es : List Edge) (a r : ℕ) (s : State) → movedBy es a r s .count ≡ s .count
-unfolding movedBy
-moved-count es a r s = refl
 
 module _ (es : List Edge) (s : State) (r : ℕ) where
   pub create-static : r < 16 → judgeStep es s (event 0 r) (refusal s (event 0 r)) ≡ refuse 22 s
@@ -111,16 +85,6 @@ module _ (edges : List ℕ) (s : State) (raw : RawStep) where
       unfolding judgeOf
       halted-refused e = simp (t, w, e)
 
-      module _ (h : s .halted ≡ false) where
-        pub unread : stepOf raw ≡ none → judgeOf edges s raw ≡ refuse 21 s
-        unfolding judgeOf judgeRead
-        unread e = simp (t, w, h, e)
-
-        pub judged : (step : Step) → stepOf raw ≡ some step → judgeOf edges s raw ≡ judgeStep (edgesOf edges) s step (refusal s step)
-        unfolding judgeOf judgeRead
-        judged step e = simp (t, w, h, e)
-
--- a sound state has at most 64 created resources
-pub count-ok : (s : State) → stateOk s ≡ true → s .count ≤ 64
-unfolding stateOk
-count-ok s e = leb-true (s .count) 64 (and-left (leb (s .count) 64) _ e)
+      pub judged : s .halted ≡ false → judgeOf edges s raw ≡ judgeRead (edgesOf edges) s (stepOf raw)
+      unfolding judgeOf
+      judged h = simp (t, w, h)

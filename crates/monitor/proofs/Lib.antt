@@ -11,8 +11,6 @@ pub mod CasesAH
 pub mod LimitCases
 -- The laws that the proofs of the judge's functions cite.
 pub mod CreatedLaws
-pub mod SetLaws
 pub mod StepLaws
-pub mod PlaceLaws
-pub mod MovedLaws
 pub mod JudgeLaws
+pub mod LentLaws

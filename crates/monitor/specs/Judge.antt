@@ -1,5 +1,5 @@
 -- The judge as a definition that computes, over every state at all.
-use Prim.Native.Nat.{ℕ, zero, suc, _+_, _-_, _*_, _/_, _%_, _^_}
+use Prim.Native.Nat.{ℕ, zero, suc, _+_, _-_, _*_, _^_}
 use mathlib.Core.Bool.{Bool, true, false, not, _&&_, _||_, cond}
 use mathlib.Core.List.{List, [], _∷_}
 use mathlib.Core.Option.{Option, none, some}
@@ -14,7 +14,9 @@ use Rattle.usage.specs.Judge.{stepOf}
 use Rattle.usage.specs.Tests.{every, some-below}
 use Rattle.usage.specs.Tables.{from, edgesOf, edgeTable}
 use Rattle.automaton.specs.Mask.{union, offends, lowest}
-use Rattle.automaton.specs.Move.{moveMask}
+unfoldable pub use Rattle.created.specs.Created.{listed, distinct, placeFrom}
+pub use Rattle.created.specs.Created.{dynamic}
+unfoldable pub use Rattle.instances.specs.Sets.{copied, movedSets}
 use Rattle.monitor.specs.declared.State.{State}
 use Rattle.monitor.specs.declared.Answer.{Answer}
 use Rattle.monitor.specs.declared.Answer.the-variants.{Allowed, Violated, Refused}
@@ -36,28 +38,12 @@ begin = record { sets = replicate 648 1; created = replicate 64 0; count = 0; un
 abbrev pub live : State → List ℕ
 live s = take (s .count) (s .created)
 
-unfoldable pub listed : ℕ → List ℕ → Bool
-listed x [] = false
-listed x (y ∷ ys) = eqb y x || listed x ys
-
-unfoldable pub distinct : List ℕ → Bool
-distinct [] = true
-distinct (y ∷ ys) = not (listed y ys) && distinct ys
-
--- a number that a created resource may have
-abbrev pub dynamic : ℕ → Bool
-dynamic y = leb statics y && ltb y resources
-
 -- "42 a state with more than 64 resources, one listed twice or outside 16 to 65,535"; a count of openings is a byte, so none is
 -- above 255
 unfoldable pub stateOk : State → Bool
 stateOk s = leb (s .count) most-created && (every dynamic (live s) && distinct (live s))
 
 -- the place of x's instance: its own if x is static or created, else 16
-unfoldable pub placeFrom : ℕ → ℕ → List ℕ → ℕ
-placeFrom x n [] = 16
-placeFrom x n (y ∷ ys) = cond (eqb y x) n (placeFrom x (suc n) ys)
-
 unfoldable pub placeOf : State → ℕ → ℕ
 placeOf s x = cond (ltb x statics) x (placeFrom x 17 (live s))
 
@@ -71,10 +57,6 @@ setAt s p i = getD (s .sets) (p * 81 + i) 0
 
 -- ── The state after a step ──
 
--- "Before a resource is created, its instance has moved as one that never occurs."
-unfoldable pub copied : List ℕ → ℕ → List ℕ
-copied sets i = from (λ k. cond (eqb (k % 81) i) (getD sets (k / 81 * 81 + 16) 0) (getD sets k 0)) 0 648
-
 unfoldable pub createdIn : State → ℕ → State
 createdIn s r = record {
   sets = copied (s .sets) (used s);
@@ -83,10 +65,6 @@ createdIn s r = record {
   unclosed = s .unclosed;
   halted = s .halted;
 }
-
--- the instances in use move on the event a(r), instance `own` as that of r; the other places keep their contents
-unfoldable pub movedSets : List Edge → ℕ → ℕ → ℕ → ℕ → List ℕ → List ℕ
-movedSets es a r own n sets = from (λ k. cond (ltb (k % 81) n) (moveMask es (k / 81) a r (eqb (k % 81) own) (getD sets k 0)) (getD sets k 0)) 0 648
 
 unfoldable pub movedBy : List Edge → ℕ → ℕ → State → State
 movedBy es a r s = record {

@@ -12,9 +12,9 @@ use Rattle.usage.specs.Tests.{edgeOk, edgesOk}
 use Rattle.usage.specs.Tables.{edgeAt, edgesOf, EdgeTable, edgeTable}
 use Rattle.usage.proofs.Logic.{and-both}
 use Rattle.usage.proofs.TableLaws.{edges-length, every-from, decides-edge-table}
-use Rattle.sheets.specs.Sheet.{Sheet, accepted, sheet}
-use Rattle.sheets.specs.Readers.{policies}
-use Rattle.sheets.proofs.AcceptLaws.{Rows, no-row, row, sheet-accepted, flat-length}
+use Rattle.lines.specs.Sheet.{Sheet, accepted, sheet}
+use Rattle.lines.specs.Sheets.{policies}
+use Rattle.lines.proofs.AcceptLaws.{Rows, no-row, row, sheet-accepted, flat-length}
 
 -- ── A row of a flat table ──
 

@@ -20,9 +20,11 @@ use Rattle.usage.specs.Valid.{accepted as all-ruled}
 use Rattle.usage.proofs.Logic.{clash, and-both, and-right}
 use Rattle.usage.proofs.RuledLaws.{sheet-answers, answers-ruled}
 use Rattle.usage.proofs.TableLaws.{nodes-length, every-from, decides-node-table}
-use Rattle.sheets.specs.Sheet.{Result, accepted, refused, sheet}
-use Rattle.sheets.specs.Readers.{outline, node-of, ruled-by, ruled}
-use Rattle.sheets.proofs.AcceptLaws.{sheet-accepted}
+use Rattle.lines.specs.Sheet.{Result, accepted, refused, sheet}
+use Rattle.ranges.specs.Fields.{node-of}
+use Rattle.lines.specs.Sheets.{outline}
+use Rattle.sheets.specs.Readers.{ruled-by, ruled}
+use Rattle.lines.proofs.AcceptLaws.{sheet-accepted}
 use Rattle.report.proofs.AcceptedLaws.{Each, none as none-each, next, row-of, rows-each, rows-range}
 
 node-cut : (t : List ℕ) (i : ℕ) → nodeAt (take 3 (drop (3 * i) t)) 0 ≡ nodeAt t i

@@ -3,7 +3,7 @@ use mathlib.Core.Path.{_≡_, refl, ap}
 use mathlib.Core.List.{List, _++_}
 use Prim.Native.Nat.{ℕ}
 use Rattle.usage.proofs.CheckLaws.{checked-unique}
-use Rattle.sheets.specs.Sheet.{Result}
+use Rattle.lines.specs.Sheet.{Result}
 use Rattle.report.specs.Lines.{names-line, verdict-row}
 use Rattle.report.specs.Outline.{NodesRow, outline-refused, outline-checked, OutlineRow, policies-refused, policies-accepted, OutlinePrinted, prints}
 

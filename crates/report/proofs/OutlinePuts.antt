@@ -9,8 +9,9 @@ use lib.Seq.{sets}
 use Rattle.usage.specs.Answers.{Verdict, answer, detail}
 use Rattle.usage.specs.Check.{Checked}
 use Rattle.usage.specs.Tables.{edgesOf, nodesOf, EdgeTable, NodeTable}
-use Rattle.sheets.specs.Sheet.{refused, sheet}
-use Rattle.sheets.specs.Readers.{policies, outline, ruled}
+use Rattle.lines.specs.Sheet.{refused, sheet}
+use Rattle.lines.specs.Sheets.{policies, outline}
+use Rattle.sheets.specs.Readers.{ruled}
 use Rattle.report.specs.Room.{outline-room}
 use Rattle.report.specs.Lines.{names-line, row}
 use Rattle.report.specs.Outline.{outline-refused, outline-checked, OutlineRow, policies-refused, policies-accepted, prints, OutlinePut, put, RowPut}

@@ -6,10 +6,11 @@ use native.Mathlib.Omega.{arith}
 use lib.ListN.{length, take, drop, replicate, length-replicate}
 use lib.Seq.{take-at}
 use Rattle.usage.proofs.Logic.{clash}
-use Rattle.sheets.specs.Sheet.{Sheet, Result, accepted, refused, sheet}
-use Rattle.sheets.specs.Answer.{count, refusal, answered}
-use Rattle.sheets.specs.Readers.{policies, trace, outline, ruled, policiesInto, traceInto, outlineInto, stored}
-use Rattle.sheets.proofs.AcceptLaws.{sheet-accepted, flat-length}
+use Rattle.lines.specs.Sheet.{Sheet, Result, accepted, refused, sheet}
+use Rattle.lines.specs.Answer.{count, refusal, answered}
+use Rattle.lines.specs.Sheets.{policies, trace, outline}
+use Rattle.sheets.specs.Readers.{ruled, policiesInto, traceInto, outlineInto, stored}
+use Rattle.lines.proofs.AcceptLaws.{sheet-accepted, flat-length}
 use Rattle.report.proofs.AcceptedNodes.{nodes-each, nodes-few, flat-three}
 
 -- n lines were stored: the sheet is accepted, and its values are the first of the table

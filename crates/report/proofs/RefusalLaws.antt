@@ -16,10 +16,11 @@ use Rattle.usage.specs.Valid.{accepted as all-ruled}
 use Rattle.usage.proofs.Logic.{clash}
 use Rattle.usage.proofs.RuledLaws.{sheet-answers}
 use Rattle.usage.proofs.TableLaws.{nodes-length}
-use Rattle.sheets.specs.Line.{Line, linesOf, valuesOf}
-use Rattle.sheets.specs.Sheet.{Sheet, Result, accepted, refused, refuse, followed, entry, value-lines, starts-with, longest, sheet}
-use Rattle.sheets.specs.Readers.{outline, ruled-by, ruled}
-use Rattle.sheets.proofs.AcceptLaws.{sheet-accepted}
+use Rattle.values.specs.Line.{Line, linesOf, valuesOf}
+use Rattle.lines.specs.Sheet.{Sheet, Result, accepted, refused, refuse, followed, entry, value-lines, starts-with, longest, sheet}
+use Rattle.lines.specs.Sheets.{outline}
+use Rattle.sheets.specs.Readers.{ruled-by, ruled}
+use Rattle.lines.proofs.AcceptLaws.{sheet-accepted}
 use Rattle.report.proofs.AcceptedLaws.{rows-each}
 use Rattle.report.proofs.AcceptedNodes.{tails-each, flat-three}
 

@@ -12,8 +12,8 @@ use Rattle.monitor.specs.declared.State.{State}
 use Rattle.monitor.specs.declared.Judgement.{Judgement}
 use Rattle.monitor.specs.Judge.{verdictOf, begin, judgeOf, answersOf}
 use Rattle.report.specs.Lines.{names-line, row, verdict-row, rows}
-use Rattle.sheets.specs.Sheet.{refused, sheet}
-use Rattle.sheets.specs.Readers.{policies, trace}
+use Rattle.lines.specs.Sheet.{refused, sheet}
+use Rattle.lines.specs.Sheets.{policies, trace}
 use Rattle.report.specs.Trace.{judged-rows, trace-rows, sheets-rows, tracePrinted}
 use Rattle.report.proofs.ReadLaws.{Holds}
 use Rattle.report.proofs.DetailLaws.{detail-small}

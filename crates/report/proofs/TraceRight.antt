@@ -9,8 +9,8 @@ use Rattle.usage.specs.Answers.{Verdict}
 use Rattle.usage.specs.Judge.{JudgedAll}
 use Rattle.usage.specs.Tables.{edgesOf, stepsOf}
 use Rattle.usage.proofs.TableLaws.{decides-edge-table}
-use Rattle.sheets.specs.Sheet.{accepted, sheet}
-use Rattle.sheets.specs.Readers.{policies, trace}
+use Rattle.lines.specs.Sheet.{accepted, sheet}
+use Rattle.lines.specs.Sheets.{policies, trace}
 use Rattle.monitor.specs.Judge.{verdictOf, begin, answersOf}
 use Rattle.monitor.proofs.Verdict.{all-judged-begin}
 use Rattle.report.specs.Lines.{names-line, rows}

@@ -2,7 +2,7 @@
 use Prim.Native.Nat.{ℕ, suc}
 use mathlib.Core.List.{List, [], _∷_, _++_}
 use Rattle.usage.specs.Answers.{Verdict, answer, detail, Refusal}
-use Rattle.sheets.specs.Bytes.{bytes}
+use Rattle.lines.specs.Bytes.{bytes}
 use Rattle.report.specs.Decimal.{decimal}
 
 -- "It prints `line answer detail`"

@@ -7,8 +7,9 @@ use lib.Seq.{sets}
 use Rattle.usage.specs.Answers.{Verdict, Refusal}
 use Rattle.usage.specs.Check.{Checked}
 use Rattle.usage.specs.Tables.{edgesOf, nodesOf}
-use Rattle.sheets.specs.Sheet.{Result, accepted, refused, sheet}
-use Rattle.sheets.specs.Readers.{policies, outline, ruled}
+use Rattle.lines.specs.Sheet.{Result, accepted, refused, sheet}
+use Rattle.lines.specs.Sheets.{policies, outline}
+use Rattle.sheets.specs.Readers.{ruled}
 use Rattle.report.specs.Lines.{names-line, verdict-row, refusal-row}
 use Rattle.report.specs.Room.{outline-room}
 

@@ -3,8 +3,8 @@ use Prim.Native.Nat.{ℕ}
 use mathlib.Core.List.{List, _++_, map, flatten}
 use Rattle.usage.specs.declared.RawStep.{RawStep}
 use Rattle.usage.specs.Tables.{stepsOf}
-use Rattle.sheets.specs.Sheet.{Result, accepted, refused, sheet}
-use Rattle.sheets.specs.Readers.{policies, trace}
+use Rattle.lines.specs.Sheet.{Result, accepted, refused, sheet}
+use Rattle.lines.specs.Sheets.{policies, trace}
 use Rattle.monitor.specs.declared.State.{State}
 use Rattle.monitor.specs.Judge.{verdictOf, begin, answersOf}
 use Rattle.report.specs.Lines.{names-line, rows, refusal-row}

@@ -10,13 +10,14 @@ ghost use Rattle.report.specs.Decimal.{decimal};
 ghost use Rattle.report.specs.Lines.{names-line, field as Lines·field, row as Lines·row};
 ghost use Rattle.usage.specs.Tables.{stepAt, stepsOf, EdgeTable};
 ghost use Rattle.usage.specs.Answers.{answer, detail};
-ghost use Rattle.sheets.specs.Sheet.{sheet};
-ghost use Rattle.sheets.specs.Readers.{trace as Readers·trace, ruled, outline as Readers·outline};
+ghost use Rattle.lines.specs.Sheet.{sheet};
+ghost use Rattle.lines.specs.Sheets.{trace as Sheets·trace, outline as Sheets·outline};
+ghost use Rattle.sheets.specs.Readers.{ruled};
 ghost use Rattle.monitor.specs.Judge.{verdictOf, begin};
 ghost use Rattle.modelcheck.specs.Promise.{told};
+use lines::Reading;
 use modelcheck::Outcome;
 use monitor::Answer;
-use sheets::Reading;
 use usage::RawStep;
 
 // What the first program prints, from the bytes of `policies.txt` and `trace.txt`: its length, and 0 where `out` lacks the room.
@@ -164,8 +165,8 @@ fn judge_all(edges: &[u8], steps: &[u32], out: &mut [u8], at: usize) -> usize
 // The rows of a trace, or of its refusal.
 fn trace_rows(edges: &[u8], text: &[u8], out: &mut [u8], at: usize) -> usize
     requires { ⌜ at + 20000 ≤ length (now out) ⌝ }
-    ensures { λ r. ⌜ r ≡ at + length (trace-rows (now (edges .entry)) (sheet Readers·trace (now (text .entry)))) ⌝ }
-    ensures { λ r. ⌜ now (out .exit) ≡ sets (now (out .entry)) at (trace-rows (now (edges .entry)) (sheet Readers·trace (now (text .entry)))) ⌝ }
+    ensures { λ r. ⌜ r ≡ at + length (trace-rows (now (edges .entry)) (sheet Sheets·trace (now (text .entry)))) ⌝ }
+    ensures { λ r. ⌜ now (out .exit) ≡ sets (now (out .entry)) at (trace-rows (now (edges .entry)) (sheet Sheets·trace (now (text .entry)))) ⌝ }
     ensures { λ r. ⌜ r ≤ length (now (out .entry)) ⌝ }
 {
     let mut steps = [0u32; 6000];
@@ -200,7 +201,7 @@ fn outcome_detail(a: Outcome) -> u8
 fn outline_row(edges: &[u8], text: &[u8], out: &mut [u8], at: usize) -> usize
     requires { ⌜ EdgeTable (now edges) ⌝ }
     requires { ⌜ at + 8 ≤ length (now out) ⌝ }
-    ensures { λ r. ⌜ RowPut (now (edges .entry)) (ruled (sheet Readers·outline (now (text .entry)))) (now (out .entry)) at r (now (out .exit)) ⌝ }
+    ensures { λ r. ⌜ RowPut (now (edges .entry)) (ruled (sheet Sheets·outline (now (text .entry)))) (now (out .entry)) at r (now (out .exit)) ⌝ }
 {
     let mut nodes = [0u8; 192];
     let reading = sheets::read_outline(text, &mut nodes);

@@ -11,9 +11,10 @@ use Rattle.usage.specs.declared.Edge.{Edge}
 use Rattle.usage.specs.Tests.{edgeOk}
 use Rattle.usage.specs.Tables.{edgeAt}
 use Rattle.usage.proofs.Logic.{and-left, and-right}
-use Rattle.sheets.specs.Readers.{policies, edge-line}
-use Rattle.sheets.specs.Sheet.{Sheet}
-use Rattle.sheets.proofs.AcceptLaws.{Rows, no-row, row}
+use Rattle.ranges.specs.Fields.{edge-line}
+use Rattle.lines.specs.Sheets.{policies}
+use Rattle.lines.specs.Sheet.{Sheet}
+use Rattle.lines.proofs.AcceptLaws.{Rows, no-row, row}
 
 pub data Below (m : ℕ) : List ℕ → Type 0 where
   none-left : Below m []

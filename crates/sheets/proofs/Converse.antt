@@ -12,13 +12,14 @@ use borrow.Author.Tests.{eqb-true, leb-true}
 use Rattle.usage.specs.Tests.{every, edgeOk, edgesOk}
 use Rattle.usage.specs.Tables.{from, edgeAt, edgesOf, edgeTable}
 use Rattle.usage.proofs.Logic.{and-left, and-right}
-use Rattle.sheets.specs.Sheet.{accepted}
-use Rattle.sheets.specs.Readers.{policies, policiesInto}
+use Rattle.lines.specs.Sheet.{accepted}
+use Rattle.lines.specs.Sheets.{policies}
+use Rattle.sheets.specs.Readers.{policiesInto}
 use Rattle.sheets.specs.Written.{written, written-line}
-use Rattle.sheets.proofs.AcceptLaws.{Rows, no-row, row, flat-length}
+use Rattle.lines.proofs.AcceptLaws.{Rows, no-row, row, flat-length}
 use Rattle.sheets.proofs.Below.{Below, none-left, one-below, edge-below}
-use Rattle.sheets.proofs.NodeLaws.{from-length}
-use Rattle.sheets.proofs.RangeLaws.{edge-cells}
+use Rattle.tree.proofs.NodeLaws.{from-length}
+use Rattle.ranges.proofs.RangeLaws.{edge-cells}
 use Rattle.sheets.proofs.WrittenLaws.{Rows-below, none-below, row-below, written-read, lines-length}
 
 pub more-below : {m : ℕ} {vs : List ℕ} (n : ℕ) → m ≤ n → Below m vs → Below n vs

@@ -5,11 +5,12 @@ use Rattle.usage.specs.Tests.{edgeOk, nodeOk, every, between, treeOk, isChild, 
 use Rattle.usage.specs.Outline.{formOf}
 use Rattle.usage.specs.Valid.{times, timesChild}
 use Rattle.usage.specs.Tables.{from, nodesOf}
-use Rattle.sheets.specs.Bytes.{bytes}
-use Rattle.sheets.specs.Class.{classOf}
-use Rattle.sheets.specs.Line.{linesOf, read, valuesOf}
-use Rattle.sheets.specs.Sheet.{accepted, refuse, value-lines, starts-with, sheet}
-use Rattle.sheets.specs.Readers.{stepOk, ruled, policiesInto, traceInto, outlineInto}
+use Rattle.lines.specs.Bytes.{bytes}
+use Rattle.values.specs.Class.{classOf}
+use Rattle.values.specs.Line.{linesOf, read, valuesOf}
+use Rattle.lines.specs.Sheet.{accepted, refuse, value-lines, starts-with, sheet}
+use Rattle.ranges.specs.Fields.{stepOk}
+use Rattle.sheets.specs.Readers.{ruled, policiesInto, traceInto, outlineInto}
 
 -- document 01's policies P
 policies-p : policiesInto 1536 (bytes "policy from action on who to\n0 0 1 1 0 1\n0 1 3 1 0 0\n0 0 2 1 0 6\n")

@@ -14,13 +14,15 @@ use Rattle.usage.specs.Answers.{Refusal}
 use Rattle.usage.specs.Tests.{every, nodeOk, treeOk, backOk, nameOk, placeOk, is-some, first-of, lowest, or-else, numbered, no-nodes, ruledBy, ruledSheet, is-none, outlineOk}
 use Rattle.usage.specs.Tables.{from, nodeAt, nodesOf, nodeTable}
 use Rattle.usage.proofs.Logic.{clash, false-true, and-left, and-right, and-both}
-use Rattle.sheets.specs.Sheet.{accepted}
-use Rattle.sheets.specs.Readers.{outline, node-line, ruled, ruled-by, outlineInto}
+use Rattle.lines.specs.Sheet.{accepted}
+use Rattle.ranges.specs.Fields.{node-line}
+use Rattle.lines.specs.Sheets.{outline}
+use Rattle.sheets.specs.Readers.{ruled, ruled-by, outlineInto}
 use Rattle.sheets.specs.Written.{written, written-line}
-use Rattle.sheets.proofs.AcceptLaws.{Rows, no-row, row, flat-length}
-use Rattle.sheets.proofs.NodeLaws.{from-length, from-at, nodes-length}
+use Rattle.lines.proofs.AcceptLaws.{Rows, no-row, row, flat-length}
+use Rattle.tree.proofs.NodeLaws.{from-length, from-at, nodes-length}
 use Rattle.sheets.proofs.OutlineLaws.{first, node-below}
-use Rattle.sheets.proofs.RangeLaws.{cell, cell-first}
+use Rattle.ranges.proofs.RangeLaws.{cell, cell-first}
 use Rattle.sheets.proofs.WrittenLaws.{Rows-below, none-below, row-below, written-read, lines-length}
 use Rattle.sheets.proofs.Converse.{more-below, part, parts-flat}
 

@@ -14,15 +14,17 @@ use Rattle.usage.specs.Outline.{node-kinds}
 use Rattle.usage.specs.Tests.{nodeOk, fits, ruledSheet}
 use Rattle.usage.specs.Tables.{from, nodesOf}
 use Rattle.usage.proofs.Logic.{and-left, and-right, false-true}
-use Rattle.sheets.specs.Sheet.{accepted, refuse, sheet}
-use Rattle.sheets.specs.Readers.{outline, node-line, node-of, ruled, ruled-by, roomy}
-use Rattle.sheets.specs.Answer.{count}
-use Rattle.sheets.specs.Rules.{places-in, nodes-in}
-use Rattle.sheets.proofs.AcceptLaws.{Rows, no-row, row}
+use Rattle.lines.specs.Sheet.{accepted, refuse, sheet}
+use Rattle.ranges.specs.Fields.{node-line, node-of}
+use Rattle.lines.specs.Sheets.{outline}
+use Rattle.sheets.specs.Readers.{ruled, ruled-by, roomy}
+use Rattle.lines.specs.Answer.{count}
+use Rattle.sheets.specs.Nodes.{places-in, nodes-in}
+use Rattle.lines.proofs.AcceptLaws.{Rows, no-row, row}
 use Rattle.sheets.proofs.Below.{Below, at-below, rows-below}
 use Rattle.sheets.proofs.ReaderLaws.{Kept, Reads, accepted-sheet}
-use Rattle.sheets.proofs.NodeLaws.{by-kind, from-length}
-use Rattle.sheets.proofs.RangeLaws.{past-end}
+use Rattle.tree.proofs.NodeLaws.{by-kind, from-length}
+use Rattle.ranges.proofs.RangeLaws.{past-end}
 
 pub from-getD : (f : ℕ → ℕ) (k n i : ℕ) → i < n → getD (from f k n) i 0 ≡ f (k + i)
 unfolding from

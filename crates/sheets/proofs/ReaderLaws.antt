@@ -1,16 +1,16 @@
 -- From what the loops leave in the buffer to the readers' contracts.
-use Prim.Native.Nat.{ℕ, _+_, _*_, _<_, _≤_}
+use Prim.Native.Nat.{ℕ, _*_, _<_, _≤_}
 use mathlib.Core.Path.{_≡_, refl, sym, ap, _∙_}
-use mathlib.Core.List.{List, [], _++_, flatten}
+use mathlib.Core.List.{List, _++_, flatten}
 use native.Mathlib.Omega.{arith}
-use lib.ListN.{length, getD, take, drop, length-take}
-use lib.Seq.{getD-take}
+use lib.ListN.{length, getD, take, drop, replicate, length-take}
+use lib.Seq.{getD-take, take-at}
 use borrow.Author.Tests.{lt-ltb, le-ltb}
-use Rattle.sheets.specs.Sheet.{Sheet, Result, accepted, refuse, sheet}
+use Rattle.usage.proofs.Logic.{clash}
+use Rattle.lines.specs.Sheet.{Sheet, Result, accepted, refused, refuse, sheet}
 use Rattle.sheets.specs.Readers.{roomy, stored}
-use Rattle.sheets.specs.Answer.{Answer, count, refusal, answered}
-use Rattle.sheets.specs.Steps.{held, onto}
-use Rattle.sheets.proofs.AcceptLaws.{Accepted, sheet-accepted, flat-length, held-rows}
+use Rattle.lines.specs.Answer.{Answer, count, refusal, answered, filled}
+use Rattle.lines.proofs.AcceptLaws.{Accepted, sheet-accepted, flat-length}
 use Rattle.sheets.proofs.Below.{Below, below-at}
 
 -- what a reader must answer, and leave in a table
@@ -43,19 +43,38 @@ pub record Kept (s : Sheet) (text buffer : List ℕ) (n : ℕ) : Type 0 where
   pub size : length (flatten rows) ≡ n * s .fields
   pub room : n * s .fields ≤ length buffer
 
-pub kept : (s : Sheet) (text buffer : List ℕ) (n : ℕ) → held n (take (n * s .fields) buffer) ≡ onto 0 [] (sheet s text) → Kept s text buffer n
-kept s text buffer n e =
-    let k = held-rows (sheet s text) n (take (n * s .fields) buffer) e in
+-- a count is answered only for an accepted sheet
+record Counted (r : Result) (n : ℕ) : Type 0 where
+  rows : List (List ℕ)
+  result : r ≡ accepted rows
+  number : n ≡ length rows
+
+counted : (r : Result) (n : ℕ) → count n ≡ answered r → Counted r n
+unfolding answered
+counted (accepted rows) n e = record { rows = rows; result = refl; number = cc }
+counted (refused r) n e = clash (cc)
+
+pub refusal-result : (r : Result) (line number : ℕ) → refusal record { line = line; number = number } ≡ answered r → r ≡ refuse line number
+unfolding answered
+refusal-result (accepted rows) line number e = clash (cc)
+refusal-result (refused r) line number e = ap refused (cc)
+
+pub kept : (s : Sheet) (text first buffer : List ℕ) (n : ℕ) → count n ≡ answered (sheet s text) → buffer ≡ filled (sheet s text) first → Kept s text buffer n
+unfolding filled
+kept s text first buffer n e d =
+    let k = counted (sheet s text) n e in
     let ok = sheet-accepted s text (k .rows) (k .result) in
-    let size : length (flatten (k .rows)) ≡ n * s .fields = flat-length s (ok .each) ∙ ap (λ m. m * s .fields) (sym (k .count)) in
+    let size : length (flatten (k .rows)) ≡ n * s .fields = flat-length s (ok .each) ∙ ap (λ m. m * s .fields) (sym (k .number)) in
+    let all : buffer ≡ flatten (k .rows) ++ drop (length (flatten (k .rows))) (replicate 6000 0) = d ∙ ap (λ r. filled r first) (k .result) in
+    let flat : take (n * s .fields) buffer ≡ flatten (k .rows) = ap (take (n * s .fields)) all ∙ take-at (flatten (k .rows)) (drop (length (flatten (k .rows))) (replicate 6000 0)) (n * s .fields) size in
     record {
       rows = k .rows;
       result = k .result;
-      number = k .count;
-      flat = k .flat;
+      number = k .number;
+      flat = flat;
       ok = ok;
       size = size;
-      room = omega (arith, length-take (n * s .fields) buffer, ap length (k .flat), size);
+      room = omega (arith, length-take (n * s .fields) buffer, ap length flat, size);
     }
 
 module _ (s : Sheet) (text buffer : List ℕ) (n : ℕ) (k : Kept s text buffer n) where

@@ -8,7 +8,7 @@ use lib.ListN.{length, getD, take, drop, set}
 use lib.Seq.{drop-cons, set-at, append-snoc}
 use native.Mathlib.Nat.{add-zero, add-suc, suc-add, zero-add}
 use Rattle.usage.specs.Tables.{from}
-use Rattle.sheets.proofs.NodeLaws.{from-length}
+use Rattle.tree.proofs.NodeLaws.{from-length}
 
 filled-suc : (i : ℕ) (s t : List ℕ) → i < length s → i < length t → set (take i s ++ drop i t) i (getD s i 0) ≡ take (suc i) s ++ drop (suc i) t
 filled-suc i [] t h k = absurd (omega arith)

@@ -15,10 +15,11 @@ use Rattle.usage.specs.Answers.{Refusal}
 use Rattle.usage.specs.Tests.{every, edgeOk, edgesOk, nodeOk, treeOk, backOk, nameOk, placeOk, first-of, lowest, or-else, numbered, no-nodes, ruledBy, ruledSheet, is-none, outlineOk}
 use Rattle.usage.specs.Tables.{from, edgeAt, edgesOf, edgeTable, nodeAt, nodesOf, nodeTable}
 use Rattle.usage.proofs.Logic.{clash, and-both, and-right}
-use Rattle.sheets.specs.Sheet.{Result, accepted, refused, refuse, sheet}
-use Rattle.sheets.specs.Readers.{policies, outline, roomy, ruled, ruled-by, policiesInto, outlineInto}
-use Rattle.sheets.proofs.AcceptLaws.{Rows, no-row, row, Accepted, sheet-accepted, flat-length}
-use Rattle.sheets.proofs.NodeLaws.{from-length}
+use Rattle.lines.specs.Sheet.{Result, accepted, refused, refuse, sheet}
+use Rattle.lines.specs.Sheets.{policies, outline}
+use Rattle.sheets.specs.Readers.{roomy, ruled, ruled-by, policiesInto, outlineInto}
+use Rattle.lines.proofs.AcceptLaws.{Rows, no-row, row, Accepted, sheet-accepted, flat-length}
+use Rattle.tree.proofs.NodeLaws.{from-length}
 use Rattle.sheets.proofs.OutlineLaws.{Four, four, is-four, first, nodes-size}
 
 every-from : {A : Type 0} (test : A → Bool) (f : ℕ → A) (k n : ℕ) → ((i : ℕ) → i < n → test (f (k + i)) ≡ true) → every test (from f k n) ≡ true

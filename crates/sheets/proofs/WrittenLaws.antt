@@ -10,13 +10,13 @@ use lib.ListN.{length, length-append}
 use lib.Seq.{drop-append-seam, append-snoc}
 use borrow.Author.Tests.{eq-eqb, lt-ltb, le-ltb}
 use Rattle.usage.proofs.Logic.{and-both}
-use Rattle.sheets.specs.Class.{classOf}
-use Rattle.sheets.specs.Line.{counted, linesOf}
-use Rattle.sheets.specs.Sheet.{Sheet, accepted, followed, entry, value-lines, starts-with, longest, sheet}
+use Rattle.values.specs.Class.{classOf}
+use Rattle.values.specs.Line.{counted, linesOf}
+use Rattle.lines.specs.Sheet.{Sheet, accepted, followed, entry, value-lines, starts-with, longest, sheet}
 use Rattle.sheets.specs.Written.{digits, written-values, written-line, written}
-use Rattle.sheets.proofs.AcceptLaws.{Rows, no-row, row}
+use Rattle.lines.proofs.AcceptLaws.{Rows, no-row, row}
 use Rattle.sheets.proofs.Below.{Below, one-below}
-use Rattle.sheets.proofs.ScanLaws.{in-line, starts}
+use Rattle.lines.proofs.ScanLaws.{in-line, starts}
 
 digit-class : (d : ℕ) → d < 10 → classOf (48 + d) ≡ 0
 unfolding classOf

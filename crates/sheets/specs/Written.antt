@@ -1,7 +1,7 @@
 -- A sheet written from its values: each value in five digits, parted by one space.
 use Prim.Native.Nat.{ℕ, _+_, _/_, _%_}
 use mathlib.Core.List.{List, [], _∷_, _++_, map, flatten}
-use Rattle.sheets.specs.Sheet.{Sheet}
+use Rattle.lines.specs.Sheet.{Sheet}
 
 abbrev pub digits : ℕ → List ℕ
 digits v = (48 + v / 10 / 10 / 10 / 10 % 10) ∷ (48 + v / 10 / 10 / 10 % 10) ∷ (48 + v / 10 / 10 % 10) ∷ (48 + v / 10 % 10) ∷ (48 + v % 10) ∷ []

@@ -7,7 +7,7 @@ use borrow.Author.Tests.{eq-eqb, ne-eqb}
 use Rattle.usage.specs.Tests.{some-below}
 use Rattle.automaton.proofs.MaskLaws.{some-at}
 use Rattle.modelcheck.specs.Skips.{hasEdge}
-use Rattle.modelcheck.proofs.CodeLaws.{none-more}
+use Rattle.tables.proofs.CodeLaws.{none-more}
 use native.Mathlib.Omega.{arith}
 use mathlib.Core.Path.{_≡_, refl, sym}
 use lib.ListN.{length, getD}

@@ -1,4 +1,4 @@
-use Rattle.modelcheck.proofs.CodeLaws.{least-static, least-dynamic}
+use Rattle.tables.proofs.CodeLaws.{least-static, least-dynamic}
 use Rattle.modelcheck.proofs.least.Statement.{statement}
 use Rattle.modelcheck.proofs.least.Tie as tie
 use Rattle.modelcheck.proofs.least.Reads as reads

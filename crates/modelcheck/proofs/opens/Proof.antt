@@ -8,7 +8,7 @@ use Rattle.usage.specs.Tests.{some-below}
 use Rattle.usage.proofs.Logic.{by-cases, and-both}
 use Rattle.automaton.proofs.MaskLaws.{some-at}
 use Rattle.modelcheck.specs.Skips.{opens}
-use Rattle.modelcheck.proofs.CodeLaws.{none-more}
+use Rattle.tables.proofs.CodeLaws.{none-more}
 use native.Mathlib.Omega.{arith}
 use mathlib.Core.Path.{_≡_, refl, sym, ap}
 use lib.ListN.{length, getD}

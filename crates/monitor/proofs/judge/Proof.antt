@@ -8,16 +8,16 @@ use Rattle.monitor.proofs.Verdict.{judge-promised}
 use Rattle.monitor.proofs.judge.Statement.{statement}
 use Rattle.monitor.proofs.judge.Tie as tie
 
-decide-requires : tie.Need-decide-requires
-decide-requires c κs = search needs
+judge-lent-requires : tie.Need-judge-lent-requires
+judge-lent-requires c κs = search needs
 
 returns : tie.Need-returns
 returns c =
-    let a = c .before .before .args in
+    let a = c .before .before .before .before .before .before .before .before .args in
     let t = a .edges .now in (
-      c .decide .ensures,
-      λ past h ok R. subst (Promised (edgesOf t) past h (a .s) (a .step)) (sym (c .decide .ensures)) (judge-promised t (decides-edge-table t .1 ok) past h (a .s) R (a .step)),
+      c .judge-lent .ensures,
+      λ past h ok R. subst (Promised (edgesOf t) past h (a .s) (a .step)) (sym (c .judge-lent .ensures)) (judge-promised t (decides-edge-table t .1 ok) past h (a .s) R (a .step)),
     )
 
 pub judge-spec : {M : Type 1} → statement M
-judge-spec = tie.close (tie.spec decide-requires returns)
+judge-spec = tie.close (tie.spec judge-lent-requires returns)

@@ -1,6 +1,6 @@
 use native.Mathlib.Nat.{sub-zero}
 use Rattle.sheets.proofs.OutlineLaws.{front, places-length, nodes-in-length}
-use Rattle.sheets.specs.Rules.{places-in, nodes-in}
+use Rattle.sheets.specs.Nodes.{places-in, nodes-in}
 use Prim.Native.Nat.{_*_, _-_}
 use mathlib.Core.Path.{sym, _∙_}
 use borrow.Author.Needs.{needs}

@@ -1,6 +1,6 @@
 use native.Mathlib.Omega.{arith}
 use Rattle.sheets.proofs.StoreLaws.{made-more}
-use Rattle.sheets.specs.Rules.{nodes-in}
+use Rattle.sheets.specs.Nodes.{nodes-in}
 use Rattle.usage.specs.Tables.{from}
 use Prim.Native.Nat.{_*_, _/_, _+_, _-_, _≤_}
 use mathlib.Core.List.{_++_}

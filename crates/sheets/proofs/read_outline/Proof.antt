@@ -1,10 +1,10 @@
 use native.Mathlib.Omega.{arith}
 use Rattle.sheets.proofs.OutlineLaws.{nodes-below, outline-refused, outline-stores}
-use Rattle.sheets.proofs.ReaderLaws.{too-small, refused-sheet, kept, few, bounded}
-use Rattle.sheets.proofs.AcceptLaws.{refusing-result}
-use Rattle.sheets.specs.Rules.{fault}
-use Rattle.sheets.specs.Sheet.{sheet}
-use Rattle.sheets.specs.Readers.{outline, outlineInto, ruled}
+use Rattle.sheets.proofs.ReaderLaws.{too-small, refusal-result, refused-sheet, kept, few, bounded}
+use Rattle.outlines.specs.Faults.{fault}
+use Rattle.lines.specs.Sheet.{sheet}
+use Rattle.lines.specs.Sheets.{outline}
+use Rattle.sheets.specs.Readers.{outlineInto, ruled}
 use mathlib.Core.Path.{sym, ap, _∙_}
 use Prim.Native.Nat.{_-_}
 use lib.ListN.{length}
@@ -16,7 +16,7 @@ returns : tie.Need-returns
 unfolding outlineInto
 returns c =
     let a = c .before .before .before .args in
-    let h = too-small (length (a .table .now)) 192 (ruled (sheet outline (a .text .now))) (a .table .now) (c .if1 .taken) in
+    let h = too-small (length (a .table .now)) 192 (ruled (sheet outline (a .text .now))) (a .table .now) (omega (arith, c .if1 .taken)) in
     (h .answers, h .table)
 
 sheet-requires : tie.Need-sheet-requires
@@ -32,13 +32,13 @@ returns-2 : tie.Need-returns-2
 unfolding outlineInto ruled
 returns-2 c =
     let a = c .before .before .before .before .before .before .before .args in
-    let e = refusing-result (sheet outline (a .text .now)) _ _ (rw (c .enum-told .given .1) at (c .before .before .sheet .ensures)) in
+    let e = refusal-result (sheet outline (a .text .now)) _ _ (rw (c .enum-told .given .1) at (c .before .before .sheet .ensures .0)) in
     let h = refused-sheet (length (a .table .now)) 192 (ruled (sheet outline (a .text .now))) (a .table .now) (c .before .before .before .before .if1 .left) _ _ (ap ruled e) in
     (rw (c .enum-told .given .1) (h .answers), h .table)
 
 checked-requires : tie.Need-checked-requires
 checked-requires c κs =
-    let k = kept outline (c .before .before .before .before .before .before .before .before .before .args .text .now) (c .before .before .before .before .sheet .last .1 .1 .0) (c .before .before .r .given .0 .0) (rw (c .before .before .r .given .1) at (c .before .before .before .before .sheet .ensures)) in
+    let k = kept outline (c .before .before .before .before .before .before .before .before .before .args .text .now) _ (c .before .before .before .before .sheet .last .1 .1 .0) (c .before .before .r .given .0 .0) (rw (c .before .before .r .given .1) at (c .before .before .before .before .sheet .ensures .0)) (c .before .before .before .before .sheet .ensures .1) in
     let h = few outline _ _ _ k in
     (omega arith, λ i l. bounded outline _ _ _ k 256 (nodes-below (k .ok .each)) i (omega arith))
 
@@ -50,7 +50,7 @@ enum-told-2 c = search needs
 
 pick-nodes-requires : tie.Need-pick-nodes-requires
 pick-nodes-requires c κs =
-    let k = kept outline (c .before .before .before .before .before .before .before .before .before .before .before .before .before .before .args .text .now) (c .before .before .before .before .before .before .before .before .before .sheet .last .1 .1 .0) (c .before .before .before .before .before .before .before .r .given .0 .0) (rw (c .before .before .before .before .before .before .before .r .given .1) at (c .before .before .before .before .before .before .before .before .before .sheet .ensures)) in
+    let k = kept outline (c .before .before .before .before .before .before .before .before .before .before .before .before .before .before .args .text .now) _ (c .before .before .before .before .before .before .before .before .before .sheet .last .1 .1 .0) (c .before .before .before .before .before .before .before .r .given .0 .0) (rw (c .before .before .before .before .before .before .before .r .given .1) at (c .before .before .before .before .before .before .before .before .before .sheet .ensures .0)) (c .before .before .before .before .before .before .before .before .before .sheet .ensures .1) in
     let h = few outline _ _ _ k in
     let l = c .before .before .before .before .before .before .before .before .before .before .before .if1 .left in
     (omega arith, (omega arith, λ i l. bounded outline _ _ _ k 256 (nodes-below (k .ok .each)) i (omega arith)))
@@ -59,7 +59,7 @@ returns-3 : tie.Need-returns-3
 unfolding outlineInto
 returns-3 c =
     let a = c .before .before .before .before .before .before .before .before .before .before .before .before .before .args in
-    let k = kept outline (c .before .before .before .before .before .before .before .before .before .before .before .before .before .args .text .now) (c .before .before .before .before .before .before .before .before .sheet .last .1 .1 .0) (c .before .before .before .before .before .before .r .given .0 .0) (rw (c .before .before .before .before .before .before .r .given .1) at (c .before .before .before .before .before .before .before .before .sheet .ensures)) in
+    let k = kept outline (c .before .before .before .before .before .before .before .before .before .before .before .before .before .args .text .now) _ (c .before .before .before .before .before .before .before .before .sheet .last .1 .1 .0) (c .before .before .before .before .before .before .r .given .0 .0) (rw (c .before .before .before .before .before .before .r .given .1) at (c .before .before .before .before .before .before .before .before .sheet .ensures .0)) (c .before .before .before .before .before .before .before .before .sheet .ensures .1) in
     let e = outline-refused (a .text .now) (c .before .before .before .before .before .before .before .before .sheet .last .1 .1 .0) (c .before .before .before .before .before .before .r .given .0 .0) k (c .before .f .given .0 .0) (c .before .f .given .0 .1 .0) (sym (c .before .before .before .checked .ensures) ∙ ap fault (c .before .f .given .1)) in
     let h = refused-sheet (length (a .table .now)) 192 (ruled (sheet outline (a .text .now))) (a .table .now) (c .before .before .before .before .before .before .before .before .before .before .if1 .left) _ _ e in
     (h .answers, h .table)
@@ -71,7 +71,7 @@ returns-4 : tie.Need-returns-4
 unfolding outlineInto
 returns-4 c =
     let a = c .before .before .before .before .before .before .before .before .before .before .before .before .before .before .before .before .before .args in
-    let k = kept outline (c .before .before .before .before .before .before .before .before .before .before .before .before .before .before .before .before .before .args .text .now) (c .before .before .before .before .before .before .before .before .before .before .before .before .sheet .last .1 .1 .0) (c .before .before .before .before .before .before .before .before .before .before .r .given .0 .0) (rw (c .before .before .before .before .before .before .before .before .before .before .r .given .1) at (c .before .before .before .before .before .before .before .before .before .before .before .before .sheet .ensures)) in
+    let k = kept outline (c .before .before .before .before .before .before .before .before .before .before .before .before .before .before .before .before .before .args .text .now) _ (c .before .before .before .before .before .before .before .before .before .before .before .before .sheet .last .1 .1 .0) (c .before .before .before .before .before .before .before .before .before .before .r .given .0 .0) (rw (c .before .before .before .before .before .before .before .before .before .before .r .given .1) at (c .before .before .before .before .before .before .before .before .before .before .before .before .sheet .ensures .0)) (c .before .before .before .before .before .before .before .before .before .before .before .before .sheet .ensures .1) in
     let h = outline-stores (a .text .now) (c .before .before .before .before .before .before .before .before .before .before .before .before .sheet .last .1 .1 .0) (c .before .before .before .before .before .before .before .before .before .before .r .given .0 .0) k (length (a .table .now)) (a .table .now) (c .before .before .before .before .before .before .before .before .before .before .before .before .before .before .if1 .left) (sym (c .before .before .before .before .before .before .before .checked .ensures) ∙ ap fault (c .before .before .before .before .before .enum-told2 .given .1)) in
     (h .answers, c .before .before .pick-nodes .ensures ∙ h .table)
 

@@ -1,8 +1,8 @@
 use native.Mathlib.Omega.{arith}
-use Rattle.sheets.proofs.ReaderLaws.{too-small, refused-sheet, kept, few, stores}
-use Rattle.sheets.proofs.AcceptLaws.{refusing-result}
-use Rattle.sheets.specs.Sheet.{sheet}
-use Rattle.sheets.specs.Readers.{trace, traceInto}
+use Rattle.sheets.proofs.ReaderLaws.{too-small, refusal-result, refused-sheet, kept, few, stores}
+use Rattle.lines.specs.Sheet.{sheet}
+use Rattle.lines.specs.Sheets.{trace}
+use Rattle.sheets.specs.Readers.{traceInto}
 use mathlib.Core.Path.{_∙_}
 use Prim.Native.Nat.{_-_}
 use lib.ListN.{length}
@@ -14,7 +14,7 @@ returns : tie.Need-returns
 unfolding traceInto
 returns c =
     let a = c .before .before .before .args in
-    let h = too-small (length (a .table .now)) 6000 (sheet trace (a .text .now)) (a .table .now) (c .if1 .taken) in
+    let h = too-small (length (a .table .now)) 6000 (sheet trace (a .text .now)) (a .table .now) (omega (arith, c .if1 .taken)) in
     (h .answers, h .table)
 
 sheet-requires : tie.Need-sheet-requires
@@ -30,22 +30,22 @@ returns-2 : tie.Need-returns-2
 unfolding traceInto
 returns-2 c =
     let a = c .before .before .before .before .before .before .before .args in
-    let e = refusing-result (sheet trace (a .text .now)) _ _ (rw (c .enum-told .given .1) at (c .before .before .sheet .ensures)) in
+    let e = refusal-result (sheet trace (a .text .now)) _ _ (rw (c .enum-told .given .1) at (c .before .before .sheet .ensures .0)) in
     let h = refused-sheet (length (a .table .now)) 6000 (sheet trace (a .text .now)) (a .table .now) (c .before .before .before .before .if1 .left) _ _ e in
     (rw (c .enum-told .given .1) (h .answers), h .table)
 
 mul-store-numbers : tie.Need-mul-store-numbers
 mul-store-numbers c =
-    let k = kept trace (c .before .before .before .before .before .before .before .before .before .args .text .now) (c .before .before .before .before .sheet .last .1 .1 .0) (c .before .before .r .given .0 .0) (rw (c .before .before .r .given .1) at (c .before .before .before .before .sheet .ensures)) in
+    let k = kept trace (c .before .before .before .before .before .before .before .before .before .args .text .now) _ (c .before .before .before .before .sheet .last .1 .1 .0) (c .before .before .r .given .0 .0) (rw (c .before .before .r .given .1) at (c .before .before .before .before .sheet .ensures .0)) (c .before .before .before .before .sheet .ensures .1) in
     let h = few trace _ _ _ k in
     search needs
 
 store-numbers-requires : tie.Need-store-numbers-requires
 store-numbers-requires c κs =
-    let k = kept trace (c .before .before .before .before .before .before .before .before .before .before .args .text .now) (c .before .before .before .before .before .sheet .last .1 .1 .0) (c .before .before .before .r .given .0 .0) (rw (c .before .before .before .r .given .1) at (c .before .before .before .before .before .sheet .ensures)) in
+    let k = kept trace (c .before .before .before .before .before .before .before .before .before .before .args .text .now) _ (c .before .before .before .before .before .sheet .last .1 .1 .0) (c .before .before .before .r .given .0 .0) (rw (c .before .before .before .r .given .1) at (c .before .before .before .before .before .sheet .ensures .0)) (c .before .before .before .before .before .sheet .ensures .1) in
     let h = few trace _ _ _ k in
     let l = c .before .before .before .before .before .before .before .if1 .left in
-    (omega arith, (omega arith, k .room))
+    (omega arith, (omega arith, omega (arith, k .room)))
 
 same-length : tie.Need-same-length
 same-length c = search needs
@@ -54,7 +54,7 @@ returns-3 : tie.Need-returns-3
 unfolding traceInto
 returns-3 c =
     let a = c .before .before .before .before .before .before .before .before .before .before .before .before .before .args in
-    let k = kept trace (c .before .before .before .before .before .before .before .before .before .before .before .before .before .args .text .now) (c .before .before .before .before .before .before .before .before .sheet .last .1 .1 .0) (c .before .before .before .before .before .before .r .given .0 .0) (rw (c .before .before .before .before .before .before .r .given .1) at (c .before .before .before .before .before .before .before .before .sheet .ensures)) in
+    let k = kept trace (c .before .before .before .before .before .before .before .before .before .before .before .before .before .args .text .now) _ (c .before .before .before .before .before .before .before .before .sheet .last .1 .1 .0) (c .before .before .before .before .before .before .r .given .0 .0) (rw (c .before .before .before .before .before .before .r .given .1) at (c .before .before .before .before .before .before .before .before .sheet .ensures .0)) (c .before .before .before .before .before .before .before .before .sheet .ensures .1) in
     let h = stores trace (a .text .now) (c .before .before .before .before .before .before .before .before .sheet .last .1 .1 .0) (c .before .before .before .before .before .before .r .given .0 .0) k (length (a .table .now)) 6000 (a .table .now) (c .before .before .before .before .before .before .before .before .before .before .if1 .left) in
     (h .answers, c .before .before .store-numbers .ensures ∙ h .table)
 

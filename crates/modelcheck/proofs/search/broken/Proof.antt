@@ -4,8 +4,8 @@ use mathlib.Core.Bool.{Bool, false}
 use native.Mathlib.Nat.{not-suc-le-zero}
 use Prim.Native.Nat.{_/_, ℕ, _-_, _≤_, _<_}
 use borrow.Author.Count.{below-more}
-use Rattle.modelcheck.specs.Tables.{rowsIn}
-use Rattle.modelcheck.specs.Rounds.{formsIn, Searched, found, none-found}
+use Rattle.tables.specs.Tables.{rowsIn}
+use Rattle.tables.specs.Rounds.{formsIn, Searched, found, none-found}
 use native.Mathlib.Omega.{arith}
 use lib.ListN.{length}
 use borrow.Author.Needs.{needs}

@@ -1,0 +1,18 @@
+use borrow.Author.Needs.{needs}
+use Rattle.tables.proofs.CodeLaws.{kept-none, kept-some}
+use Rattle.ends.proofs.keep.Statement.{statement}
+use Rattle.ends.proofs.keep.Tie as tie
+use Rattle.ends.proofs.keep.Reads as reads
+use Rattle.ends.proofs.keep.Lts as lts
+
+mul-result : tie.Need-mul-result
+mul-result c = search needs
+
+returns : tie.Need-returns
+returns c = kept-none (c .before .args .m) (c .before .args .v) (c .if1 .taken)
+
+returns-2 : tie.Need-returns-2
+returns-2 c = kept-some (c .before .args .m) (c .before .args .v) (c .if1 .left)
+
+pub keep-spec : {M : Type 1} → statement M
+keep-spec = tie.close (tie.spec mul-result returns returns-2)

@@ -1,0 +1,2 @@
+-- In range, the functions answer what the rounds are defined by.
+pub mod EntryLaws

@@ -1,0 +1,8 @@
+-- The laws of the definitions in specs/, for the proofs of this crate and of those above it.
+pub mod ScanLaws
+pub mod StepLaws
+pub mod LinesLaws
+pub mod BeginLaws
+-- Accepted sheets, and what is stored of them.
+pub mod AcceptLaws
+pub mod SheetLaws

@@ -1,0 +1,8 @@
+-- How a sheet is read, in document 01's order ("Sheets", "Numbers by who brings them about"). Nothing is proved here; the laws
+-- are in proofs/.
+pub mod Bytes
+pub mod Sheet
+pub mod Sheets
+pub mod Answer
+-- What the functions compute.
+pub mod Steps

@@ -1,0 +1,2 @@
+-- The table of rows, for all inputs at all.
+pub mod Whole

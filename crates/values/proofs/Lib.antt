@@ -1,0 +1,4 @@
+-- The laws of the definitions in specs/, for the proofs of this crate and of those above it.
+pub mod Tabulate
+pub mod ByteLaws
+pub mod GrammarLaws

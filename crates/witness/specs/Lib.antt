@@ -1,0 +1,2 @@
+-- The finite account of an outline, as relations.
+pub mod Witness
