@@ -10,52 +10,15 @@ mod rules;
 
 use inputs::{Outline, Step};
 use monitor::State;
+use proved::{check as proved_check, Parts};
 use reference::rng::Rng;
 use std::hint::black_box;
 use std::time::{Duration, Instant};
 
-extern "C" {
-    fn judge_parts(
-        edges: *const u8,
-        edges_len: usize,
-        sets: *mut [u8; 648],
-        created: *mut [u32; 64],
-        unclosed: *mut [u8; 8],
-        numbers: *mut [u64; 2],
-        kind: u32,
-        a: u32,
-        b: u32,
-    ) -> u32;
-    fn check_tables(edges: *const u8, edges_len: usize, nodes: *const u8, nodes_len: usize) -> u32;
-}
-
-fn proved_check(edges: &[u8], nodes: &[u8]) -> u32 {
-    unsafe { check_tables(edges.as_ptr(), edges.len(), nodes.as_ptr(), nodes.len()) }
-}
-
 /// The state as the proved code is lent it.
-struct Parts {
-    sets: [u8; 648],
-    created: [u32; 64],
-    unclosed: [u8; 8],
-    numbers: [u64; 2],
-}
-
-impl Parts {
-    fn of(state: &State) -> Parts {
-        let State { sets, created, count, unclosed, halted } = state.clone();
-        Parts { sets, created, unclosed, numbers: [count as u64, halted.into()] }
-    }
-
-    fn state(&self) -> State {
-        let Parts { sets, created, unclosed, numbers } = *self;
-        State { sets, created, count: numbers[0] as usize, unclosed, halted: numbers[1] != 0 }
-    }
-
-    fn judge(&mut self, edges: &[u8], [kind, a, b]: Step) -> u32 {
-        let Parts { sets, created, unclosed, numbers } = self;
-        unsafe { judge_parts(edges.as_ptr(), edges.len(), sets, created, unclosed, numbers, kind, a, b) }
-    }
+fn parts_of(state: &State) -> Parts {
+    let State { sets, created, count, unclosed, halted } = state.clone();
+    Parts { sets, created, unclosed, numbers: [count as u64, halted.into()] }
 }
 
 fn plain_judge(state: &mut State, edges: &[u8], [kind, a, b]: Step) -> u32 {
@@ -81,12 +44,12 @@ impl<F: FnMut()> Work for F {
 
 fn verify_judge(edges: &[u8], steps: &[Step]) {
     let mut state = monitor::START;
-    let mut parts = Parts::of(&state);
+    let mut parts = parts_of(&state);
     for step in steps {
         let proved = parts.judge(edges, *step);
         let plain = plain_judge(&mut state, edges, *step);
         assert_eq!(proved, plain, "the judge on {step:?}");
-        assert!(parts.state() == state, "the state after {step:?}");
+        assert!(parts == parts_of(&state), "the state after {step:?}");
     }
 }
 
@@ -197,7 +160,7 @@ fn rows(only: &str) {
         for step in before {
             assert_eq!(plain_judge(&mut state, &edges, step), 0);
         }
-        let mut parts = Parts::of(&state);
+        let mut parts = parts_of(&state);
         let mut codes = 0;
         measured(&mut || {
             for step in &steps {
@@ -210,7 +173,7 @@ fn rows(only: &str) {
             }
         });
         assert_eq!(codes, 0, "every step is allowed");
-        assert!(parts.state() == state);
+        assert!(parts == parts_of(&state));
         println!("{}\t{name}", steps.len());
     }
     for (name, outlines) in check_cases().into_iter().filter(|(name, _)| chosen(name)) {

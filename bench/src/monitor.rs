@@ -62,8 +62,7 @@ impl State {
     }
 
     fn event(&mut self, edges: &[u8], action: u32, resource: u32) -> Answer {
-        let mut sets = self.sets;
-        let mut count = self.count;
+        let before = self.count;
         let mut at = self.place(resource);
         if action == 0 {
             if resource < 16 {
@@ -72,30 +71,32 @@ impl State {
             if at != NEVER_OCCURRED {
                 return Answer::Refused(23);
             }
-            if count >= 64 {
+            if before >= 64 {
                 return Answer::Refused(30);
-            }
-            at = 17 + count;
-            count += 1;
-            for sets in sets.chunks_exact_mut(INSTANCES) {
-                sets[at] = sets[NEVER_OCCURRED];
             }
         } else if at == NEVER_OCCURRED {
             return Answer::Refused(24);
         }
-        let (own, other) = rows(edges, action, resource);
-        let policies = sets.chunks_exact_mut(INSTANCES).zip(own.chunks_exact(8)).zip(other.chunks_exact(8));
-        for ((sets, own), other) in policies {
-            move_policy(&mut sets[..17 + count], at, own.try_into().unwrap(), other.try_into().unwrap());
+        // to be put back where the event is a violation
+        let sets_before = self.sets;
+        if action == 0 {
+            at = 17 + before;
+            self.count += 1;
+            for sets in self.sets.chunks_exact_mut(INSTANCES) {
+                sets[at] = sets[NEVER_OCCURRED];
+            }
         }
-        let before = self.count;
-        self.count = count;
-        if let Some(policy) = self.broken(&sets) {
+        let (own, other) = rows(edges, action, resource);
+        let policies = self.sets.chunks_exact_mut(INSTANCES).zip(own.chunks_exact(8)).zip(other.chunks_exact(8));
+        for ((sets, own), other) in policies {
+            move_policy(&mut sets[..17 + self.count], at, own.try_into().unwrap(), other.try_into().unwrap());
+        }
+        if let Some(policy) = self.broken(&self.sets) {
+            self.sets = sets_before;
             self.count = before;
             self.halted = true;
             return Answer::Violated(policy);
         }
-        self.sets = sets;
         if action == 0 {
             self.created[before] = resource;
         }

@@ -1,24 +1,9 @@
-//! The proved code's exported functions, behind safe wrappers. Nothing checks these declarations against the source, so they are few.
+//! The proved code, called with the reference program's types.
 
+use proved::Parts;
 use reference::judge::Step;
 use reference::policy::Edge;
 use reference::state::State;
-
-extern "C" {
-    fn report_trace(policies: *const u8, policies_len: usize, trace: *const u8, trace_len: usize, out: *mut u8, out_len: usize) -> usize;
-    fn report_outline(policies: *const u8, policies_len: usize, outline: *const u8, outline_len: usize, out: *mut u8, out_len: usize) -> usize;
-    fn judge_parts(
-        edges: *const u8,
-        edges_len: usize,
-        sets: *mut [u8; 648],
-        created: *mut [u32; 64],
-        unclosed: *mut [u8; 8],
-        numbers: *mut [u64; 2],
-        kind: u32,
-        a: u32,
-        b: u32,
-    ) -> u32;
-}
 
 /// Room for the longest report.
 const ROOM: usize = 20_019;
@@ -26,11 +11,9 @@ const ROOM: usize = 20_019;
 /// A mark that the functions never write: what comes after the report must still hold it.
 const UNTOUCHED: u8 = 0xa5;
 
-type Report = unsafe extern "C" fn(*const u8, usize, *const u8, usize, *mut u8, usize) -> usize;
-
-fn report(function: Report, policies: &[u8], other: &[u8]) -> Vec<u8> {
+fn report(function: fn(&[u8], &[u8], &mut [u8]) -> usize, policies: &[u8], other: &[u8]) -> Vec<u8> {
     let mut out = vec![UNTOUCHED; ROOM + 16];
-    let length = unsafe { function(policies.as_ptr(), policies.len(), other.as_ptr(), other.len(), out.as_mut_ptr(), out.len()) };
+    let length = function(policies, other, &mut out);
     assert!(length <= ROOM, "a report of {length} bytes");
     assert!(out[length..].iter().all(|byte| *byte == UNTOUCHED), "bytes after the report were written");
     out.truncate(length);
@@ -39,18 +22,18 @@ fn report(function: Report, policies: &[u8], other: &[u8]) -> Vec<u8> {
 
 /// What the first program prints.
 pub fn monitor(policies: &[u8], trace: &[u8]) -> Vec<u8> {
-    report(report_trace, policies, trace)
+    report(proved::trace, policies, trace)
 }
 
 /// What the second program prints.
 pub fn check(policies: &[u8], outline: &[u8]) -> Vec<u8> {
-    report(report_outline, policies, outline)
+    report(proved::outline, policies, outline)
 }
 
 /// What the first program answers, lent a buffer of this length.
 pub fn monitor_room(policies: &[u8], trace: &[u8], room: usize) -> usize {
     let mut out = vec![UNTOUCHED; room];
-    unsafe { report_trace(policies.as_ptr(), policies.len(), trace.as_ptr(), trace.len(), out.as_mut_ptr(), out.len()) }
+    proved::trace(policies, trace, &mut out)
 }
 
 /// Six bytes to an edge; none where a value is no byte.
@@ -80,8 +63,9 @@ pub fn judge(edges: &[Edge], state: &State, step: Step) -> Option<((u32, usize),
     for (place, number) in unclosed.iter_mut().zip(state.openings) {
         *place = u8::try_from(number).ok()?;
     }
-    let mut numbers = [state.count, u64::from(state.halted)];
-    let code = unsafe { judge_parts(edges.as_ptr(), edges.len(), &mut sets, &mut created, &mut unclosed, &mut numbers, kind, a, b) };
+    let mut parts = Parts { sets, created, unclosed, numbers: [state.count, u64::from(state.halted)] };
+    let code = parts.judge(&edges, [kind, a, b]);
+    let Parts { sets, created, unclosed, numbers } = parts;
     let mut after = state.clone();
     after.count = numbers[0];
     after.halted = numbers[1] != 0;

@@ -108,7 +108,7 @@ impl Judge {
     }
 
     pub fn judge(&mut self, step: Step) -> Answer {
-        if let Some(number) = self.refusal(step) {
+        if let Some(number) = refusal(self, step) {
             return Answer::Refused(number);
         }
         self.past.push(step);
@@ -121,45 +121,56 @@ impl Judge {
             }
         }
     }
+}
 
-    fn refusal(&self, step: Step) -> Option<u32> {
-        if self.halted {
-            return Some(20);
-        }
-        if !step.fits() {
-            return Some(21);
-        }
-        match step.kind {
-            EVENT => self.event_refusal(step.a, step.b),
-            OPEN => self.opening_refusal(step.a),
-            _ => self.closing_refusal(step.a),
-        }
+/// What the refusals of a step depend on: of a past, or of a state that is handed over.
+pub trait Standing {
+    fn is_halted(&self) -> bool;
+    fn is_created(&self, resource: u64) -> bool;
+    fn created_count(&self) -> usize;
+    fn unclosed(&self, policy: u64) -> usize;
+}
+
+impl Standing for Judge {
+    fn is_halted(&self) -> bool {
+        self.halted
     }
 
-    fn event_refusal(&self, action: u64, resource: u64) -> Option<u32> {
-        let created = count(&self.past, Step::event(CREATE, resource)) > 0;
-        match (action == CREATE, is_static(resource)) {
-            (true, true) => Some(22),
-            (true, false) if created => Some(23),
-            (true, false) => (self.created() >= MOST_CREATED).then_some(30),
-            (false, true) => None,
-            (false, false) => (!created).then_some(24),
-        }
+    fn is_created(&self, resource: u64) -> bool {
+        count(&self.past, Step::event(CREATE, resource)) > 0
     }
 
-    fn opening_refusal(&self, policy: u64) -> Option<u32> {
-        (self.unclosed(policy) >= MOST_OPENINGS).then_some(31)
-    }
-
-    fn closing_refusal(&self, policy: u64) -> Option<u32> {
-        (self.unclosed(policy) == 0).then_some(25)
+    fn created_count(&self) -> usize {
+        self.past.iter().filter(|s| s.kind == EVENT && s.a == CREATE).count()
     }
 
     fn unclosed(&self, policy: u64) -> usize {
         count(&self.past, Step::open(policy)) - count(&self.past, Step::close(policy))
     }
+}
 
-    fn created(&self) -> usize {
-        self.past.iter().filter(|s| s.kind == EVENT && s.a == CREATE).count()
+/// "The running routine, in order", and "The limits, last of all".
+pub fn refusal(standing: &impl Standing, step: Step) -> Option<u32> {
+    if standing.is_halted() {
+        return Some(20);
+    }
+    if !step.fits() {
+        return Some(21);
+    }
+    match step.kind {
+        EVENT => event_refusal(standing, step.a, step.b),
+        OPEN => (standing.unclosed(step.a) >= MOST_OPENINGS).then_some(31),
+        _ => (standing.unclosed(step.a) == 0).then_some(25),
+    }
+}
+
+fn event_refusal(standing: &impl Standing, action: u64, resource: u64) -> Option<u32> {
+    let created = standing.is_created(resource);
+    match (action == CREATE, is_static(resource)) {
+        (true, true) => Some(22),
+        (true, false) if created => Some(23),
+        (true, false) => (standing.created_count() >= MOST_CREATED).then_some(30),
+        (false, true) => None,
+        (false, false) => (!created).then_some(24),
     }
 }

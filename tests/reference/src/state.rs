@@ -1,10 +1,11 @@
 //! The judge on a state that is handed to it, reached or not.
 
 use crate::judge::{
-    Answer, Step, CLOSE, CREATE, LARGEST_RESOURCE, MOST_CREATED, MOST_OPENINGS, OPEN,
+    refusal, Answer, Standing, Step, CLOSE, CREATE, LARGEST_RESOURCE, MOST_CREATED, MOST_OPENINGS,
+    OPEN,
 };
 use crate::policy::{
-    edges_fit, is_static, offends, Edge, Event, Own, Policy, States, POLICIES, STATES, STATICS,
+    edges_fit, offends, Edge, Event, Own, Policy, States, POLICIES, STATES, STATICS,
 };
 
 pub const NEVER: usize = STATICS as usize;
@@ -77,34 +78,6 @@ impl State {
         (0..POLICIES).find(|p| self.openings[*p] > 0 && broken(*p))
     }
 
-    fn refusal(&self, step: Step) -> Option<u32> {
-        if self.halted {
-            return Some(20);
-        }
-        if !step.fits() {
-            return Some(21);
-        }
-        match step.kind {
-            OPEN => (self.openings[step.a as usize] >= MOST_OPENINGS as u64).then_some(31),
-            CLOSE => (self.openings[step.a as usize] == 0).then_some(25),
-            _ => self.event_refusal(step.a, step.b),
-        }
-    }
-
-    fn event_refusal(&self, action: u64, resource: u64) -> Option<u32> {
-        let known = self.created().contains(&resource);
-        if action != CREATE {
-            return (!is_static(resource) && !known).then_some(24);
-        }
-        if is_static(resource) {
-            return Some(22);
-        }
-        if known {
-            return Some(23);
-        }
-        (self.count >= MOST_CREATED as u64).then_some(30)
-    }
-
     fn after(&self, policies: &[Policy], step: Step) -> State {
         let mut next = self.clone();
         match step.kind {
@@ -121,6 +94,24 @@ impl State {
     }
 }
 
+impl Standing for State {
+    fn is_halted(&self) -> bool {
+        self.halted
+    }
+
+    fn is_created(&self, resource: u64) -> bool {
+        self.created().contains(&resource)
+    }
+
+    fn created_count(&self) -> usize {
+        self.count as usize
+    }
+
+    fn unclosed(&self, policy: u64) -> usize {
+        self.openings[policy as usize] as usize
+    }
+}
+
 /// One call of the judge.
 pub fn judge_state(edges: &[Edge], state: &State, step: Step) -> (Answer, State) {
     if !edges_fit(edges) {
@@ -129,7 +120,7 @@ pub fn judge_state(edges: &[Edge], state: &State, step: Step) -> (Answer, State)
     if !state.fits() {
         return (Answer::Refused(42), state.clone());
     }
-    if let Some(number) = state.refusal(step) {
+    if let Some(number) = refusal(state, step) {
         return (Answer::Refused(number), state.clone());
     }
     let next = state.after(&Policy::all(edges), step);
