@@ -3,7 +3,8 @@ use mathlib.Core.Path.{refl, sym, subst}
 use mathlib.Core.List.{List, [], _∷_, _++_, map, List·Memᴰ, List·Memᴰ·not-nil, List·Memᴰ·head, List·Memᴰ·tail, List·Memᴰ·cases-cons}
 use Rattle.usage.proofs.Logic.{by-cases}
 use Rattle.usage.proofs.OutlineExamples.{outline-L, L-empty}
-use Rattle.monitor.proofs.CasesAH.{JudgeCase, P, cases-AH, right-AH, valid-A}
+use Rattle.cases.specs.JudgeCases.{JudgeCase, P, cases-AH}
+use Rattle.cases.proofs.JudgeRight.{right-AH, valid-A}
 use Rattle.cases.specs.Cases.{Case, judged, valid, checked, only-empty, Right, case-I, case-J, case-K, case-L, cases}
 use Rattle.cases.proofs.ChecksIL.{right-I, right-J, right-K, right-L}
 

@@ -9,7 +9,7 @@ use Rattle.usage.specs.Tables.{edgesOf}
 use Rattle.usage.specs.Outline.{IsTrace}
 use Rattle.usage.specs.Check.{Checked}
 use Rattle.usage.proofs.OutlineExamples.{outline-I, outline-J, outline-L}
-use Rattle.monitor.proofs.CasesAH.{JudgeCase, P, case-A, case-B, case-C, case-D, case-E, case-F, case-G, case-H}
+use Rattle.cases.specs.JudgeCases.{JudgeCase, P, case-A, case-B, case-C, case-D, case-E, case-F, case-G, case-H}
 
 -- an outline under the policies of a flat table of edges, and the verdict of the check
 pub record CheckCase : Type 0 where
@@ -27,7 +27,7 @@ pub data Case : Type 0 where
 
 -- what makes it right, from the definitions of crate usage
 abbrev pub Right : Case → Type 0
-Right (judged c) = Rattle.monitor.proofs.CasesAH.Right c
+Right (judged c) = Rattle.cases.specs.JudgeCases.Right c
 Right (valid t past) = Valid (edgesOf t) past
 Right (checked c) = Checked (edgesOf (c .edges)) (c .outline) (c .verdict)
 Right (only-empty ns) = (past : Past) → IsTrace ns past → past ≡ []

@@ -1,2 +1,3 @@
--- Document 01's cases A to L, as one list.
+-- Document 01's cases A to L, as one list, and the judge's limits.
+pub mod JudgeCases
 pub mod Cases

@@ -5,11 +5,11 @@ use mathlib.Core.Bool.{not, cond}
 use mathlib.Core.List.{List, [], _∷_}
 use lib.Dec.{eqb}
 use lib.ListN.{getD}
-use Rattle.monitor.specs.declared.State.{State}
-use Rattle.monitor.specs.declared.Answer.{Answer}
-use Rattle.monitor.specs.declared.Answer.the-variants.{Allowed, Violated, Refused}
-use Rattle.monitor.specs.declared.Judgement.{Judgement}
-use Rattle.monitor.specs.Judge.{judgeOf}
+use Rattle.states.specs.declared.State.{State}
+use Rattle.states.specs.declared.Answer.{Answer}
+use Rattle.states.specs.declared.Answer.the-variants.{Allowed, Violated, Refused}
+use Rattle.states.specs.declared.Judgement.{Judgement}
+use Rattle.states.specs.Judge.{judgeOf}
 
 -- document 01's answer and detail: 256 * answer + detail
 abbrev pub codeOf : Answer → ℕ

@@ -1,7 +1,7 @@
 // The judge and the check for callers in C and Rust: numbers and arrays in the place of structs. Tests and benchmarks call them.
 use modelcheck::Outcome;
-use monitor::Answer;
-use monitor::Told;
+use states::Answer;
+use states::Told;
 use usage::RawStep;
 ghost use mathlib.Core.Path.{_≡_};
 ghost use mathlib.Core.Bool.{cond};

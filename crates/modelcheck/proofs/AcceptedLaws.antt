@@ -20,15 +20,15 @@ use Rattle.usage.specs.Check.{Leaves}
 use Rattle.usage.specs.Tables.{edgesOf, edgeTable}
 use Rattle.usage.proofs.JudgeLaws.{Fits, CaseOf, case-of}
 use Rattle.usage.proofs.TraceLaws.{StepOk, trace-tail, trace-ok}
-use Rattle.monitor.specs.declared.State.{State}
-use Rattle.monitor.specs.declared.Answer.{Answer}
-use Rattle.monitor.specs.declared.Answer.the-variants.{Allowed, Violated, Refused}
-use Rattle.monitor.specs.declared.Judgement.{Judgement}
-use Rattle.monitor.specs.Judge.{verdictOf, judgeOf, refuse, begin}
-use Rattle.monitor.specs.Represents.{Represents}
-use Rattle.monitor.specs.Promise.{Kept}
-use Rattle.monitor.proofs.StartLaws.{begin-represents}
-use Rattle.monitor.proofs.Verdict.{judge-promised, judged-is, allowed-next}
+use Rattle.states.specs.declared.State.{State}
+use Rattle.states.specs.declared.Answer.{Answer}
+use Rattle.states.specs.declared.Answer.the-variants.{Allowed, Violated, Refused}
+use Rattle.states.specs.declared.Judgement.{Judgement}
+use Rattle.states.specs.Judge.{verdictOf, judgeOf, refuse, begin}
+use Rattle.states.specs.Represents.{Represents}
+use Rattle.states.specs.Promise.{Kept}
+use Rattle.states.proofs.StartLaws.{begin-represents}
+use Rattle.states.proofs.Verdict.{judge-promised, judged-is, allowed-next}
 use Rattle.modelcheck.specs.Accepted.{rawOf, onto, Low, Beyond, create-beyond, opening-beyond, Passes, ended, allowed, beyond, NeverHalted}
 
 -- ── Beginnings ──

@@ -7,9 +7,9 @@ use Rattle.usage.specs.declared.RawStep.{RawStep}
 use Rattle.usage.specs.Limits.{resources, create, most-created, most-open}
 use Rattle.usage.specs.Past.{Step, event, opening, closing, Past, creates, openings, closings}
 use Rattle.usage.specs.Outline.{IsTrace}
-use Rattle.monitor.specs.declared.State.{State}
-use Rattle.monitor.specs.declared.Answer.the-variants.{Allowed}
-use Rattle.monitor.specs.Judge.{judgeOf, refuse, begin}
+use Rattle.states.specs.declared.State.{State}
+use Rattle.states.specs.declared.Answer.the-variants.{Allowed}
+use Rattle.states.specs.Judge.{judgeOf, refuse, begin}
 
 -- a step as a routine hands it over
 abbrev pub rawOf : Step → RawStep

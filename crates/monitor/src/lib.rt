@@ -1,4 +1,9 @@
-// The judge (document 01's word for the run-time monitor): its state, its start and one step.
+// The judge (document 01's word for the run-time monitor): its start and one step.
+use states::Answer;
+use states::Judgement;
+use states::Read;
+use states::State;
+use states::Told;
 use usage::RawStep;
 ghost use Prim.Native.Nat.{ℕ, _<_, _≤_};
 ghost use mathlib.Core.Path.{_≡_};
@@ -9,38 +14,10 @@ ghost use Rattle.usage.specs.declared.Edge.{Edge};
 ghost use Rattle.usage.specs.Past.{event, opening, closing};
 ghost use Rattle.usage.specs.Judge.{stepOf};
 ghost use Rattle.usage.specs.Tables.{edgesOf};
-ghost use Rattle.monitor.specs.Judge.{begin, judgeRead, judgeOf};
-ghost use Rattle.monitor.specs.Promise.{StandsForNothing, Keeps};
-ghost use Rattle.monitor.specs.declared.Answer.the-variants.{Refused};
-ghost use Rattle.monitor.specs.Code.{says, stateOf, judgementOf, toldOf, stepped, settledBy};
-
-// What the judge keeps between steps. Instance i of policy p has its set of states at `sets[p * 81 + i]`: instances 0 to 15 are
-// those of the static resources, 16 is that of every resource that never occurred, 17 + k that of the k-th created one.
-pub struct State {
-    pub sets: [u8; 648],
-    pub created: [u32; 64],
-    pub count: usize,
-    pub unclosed: [u8; 8],
-    pub halted: bool,
-}
-
-pub enum Answer {
-    Allowed,
-    Violated(u8),
-    Refused(u8),
-}
-
-pub struct Judgement {
-    pub answer: Answer,
-    pub state: State,
-}
-
-// A judgement without the arrays of its state, which are lent.
-pub struct Told {
-    pub answer: Answer,
-    pub count: usize,
-    pub halted: bool,
-}
+ghost use Rattle.states.specs.Judge.{begin, judgeRead, judgeOf};
+ghost use Rattle.states.specs.Promise.{StandsForNothing, Keeps};
+ghost use Rattle.states.specs.declared.Answer.the-variants.{Refused};
+ghost use Rattle.states.specs.Code.{says, stateOf, judgementOf, toldOf, stepped, settledBy};
 
 pub fn start() -> State
     ensures { λ r. ⌜ r ≡ begin ⌝ }
@@ -60,82 +37,6 @@ pub fn start() -> State
 
 // ── One step ──
 
-// A step whose numbers are in their ranges, or nothing.
-enum Read {
-    Event(u32, u32),
-    Opening(usize),
-    Closing(usize),
-    Nothing,
-}
-
-fn read_step(step: RawStep) -> Read
-    ensures { λ r. ⌜ says r ≡ stepOf step ⌝ }
-{
-    let kind = step.kind;
-    let a = step.a;
-    let b = step.b;
-    match kind {
-        0 => {
-            if 31 < a {
-                return Read::Nothing;
-            }
-            if 65535 < b {
-                return Read::Nothing;
-            }
-            Read::Event(a, b)
-        }
-        1 => {
-            if 7 < a {
-                return Read::Nothing;
-            }
-            if 0 < b {
-                return Read::Nothing;
-            }
-            Read::Opening(a as usize)
-        }
-        2 => {
-            if 7 < a {
-                return Read::Nothing;
-            }
-            if 0 < b {
-                return Read::Nothing;
-            }
-            Read::Closing(a as usize)
-        }
-        _ => Read::Nothing,
-    }
-}
-
-fn refused(n: u8, count: usize, before: bool) -> Told
-    ensures { λ r. ⌜ r ≡ record { answer = Refused n; count = count; halted = before } ⌝ }
-{
-    Told {
-        answer: Answer::Refused(n),
-        count,
-        halted: before,
-    }
-}
-
-// The answer to a step that leaves these policies open and not respected: the lowest of them, if any. `before` and `after` are
-// the numbers of created resources before the step and after it.
-fn settled(broken: u8, before: usize, after: usize) -> Told
-    ensures { λ r. ⌜ r ≡ toldOf broken before after ⌝ }
-{
-    if broken == 0 {
-        return Told {
-            answer: Answer::Allowed,
-            count: after,
-            halted: false,
-        };
-    }
-    let p = u8::trailing_zeros(broken);
-    Told {
-        answer: Answer::Violated(p as u8),
-        count: before,
-        halted: true,
-    }
-}
-
 // An opening or a closing that leaves p with n openings that are not closed. It moves no state and creates nothing, so the
 // answer is the same whatever the edges and the created resources are.
 fn judge_unclosed(sets: &[u8; 648], unclosed: &mut [u8; 8], count: usize, p: usize, n: u8) -> Told
@@ -149,7 +50,7 @@ fn judge_unclosed(sets: &[u8; 648], unclosed: &mut [u8; 8], count: usize, p: usi
     if bad == 0 {
         *unclosed = after;
     }
-    settled(bad, count, count)
+    states::settled(bad, count, count)
 }
 
 fn judge_opening(sets: &[u8; 648], unclosed: &mut [u8; 8], count: usize, p: usize) -> Told
@@ -159,7 +60,7 @@ fn judge_opening(sets: &[u8; 648], unclosed: &mut [u8; 8], count: usize, p: usiz
 {
     let n = unclosed[p];
     if 255 <= n {
-        return refused(31, count, false);
+        return states::refused(31, count, false);
     }
     judge_unclosed(sets, unclosed, count, p, n + 1)
 }
@@ -171,7 +72,7 @@ fn judge_closing(sets: &[u8; 648], unclosed: &mut [u8; 8], count: usize, p: usiz
 {
     let n = unclosed[p];
     if n == 0 {
-        return refused(25, count, false);
+        return states::refused(25, count, false);
     }
     judge_unclosed(sets, unclosed, count, p, n - 1)
 }
@@ -189,19 +90,19 @@ fn judge_create(
     ensures { λ t. ⌜ judgementOf t (now (sets .exit)) (now (created .exit)) (now (unclosed .entry)) ≡ stepped (edgesOf (now (edges .entry))) (stateOf (now (sets .entry)) (now (created .entry)) count (now (unclosed .entry)) false) (event 0 r) ⌝ }
 {
     if r < 16 {
-        return refused(22, count, false);
+        return states::refused(22, count, false);
     }
     if created::place_of(created, count, r) != 16 {
-        return refused(23, count, false);
+        return states::refused(23, count, false);
     }
     if 64 <= count {
-        return refused(30, count, false);
+        return states::refused(30, count, false);
     }
     let bad = instances::take_event(edges, sets, unclosed, 18 + count, 17 + count, 0, r);
     if bad == 0 {
         created[count] = r;
     }
-    settled(bad, count, count + 1)
+    states::settled(bad, count, count + 1)
 }
 
 fn judge_event(
@@ -222,10 +123,10 @@ fn judge_event(
     }
     let at = created::place_of(created, count, r);
     if at == 16 {
-        return refused(24, count, false);
+        return states::refused(24, count, false);
     }
     let bad = instances::take_event(edges, sets, unclosed, 17 + count, at, action, r);
-    settled(bad, count, count)
+    states::settled(bad, count, count)
 }
 
 fn judge_read(
@@ -240,12 +141,12 @@ fn judge_read(
     requires { ⌜ count ≤ 64 ⌝ }
     ensures { λ r. ⌜ judgementOf r (now (sets .exit)) (now (created .exit)) (now (unclosed .exit)) ≡ judgeRead (edgesOf (now (edges .entry))) (stateOf (now (sets .entry)) (now (created .entry)) count (now (unclosed .entry)) false) (stepOf step) ⌝ }
 {
-    let read = read_step(step);
+    let read = states::read_step(step);
     match read {
         Read::Event(action, r) => judge_event(edges, sets, created, unclosed, count, action, r),
         Read::Opening(p) => judge_opening(sets, unclosed, count, p),
         Read::Closing(p) => judge_closing(sets, unclosed, count, p),
-        Read::Nothing => refused(21, count, false),
+        Read::Nothing => states::refused(21, count, false),
     }
 }
 
@@ -263,13 +164,13 @@ pub fn judge_lent(
     ensures { λ r. ⌜ judgementOf r (now (sets .exit)) (now (created .exit)) (now (unclosed .exit)) ≡ judgeOf (now (edges .entry)) (stateOf (now (sets .entry)) (now (created .entry)) count (now (unclosed .entry)) halted) step ⌝ }
 {
     if !edges::edge_table_ok(edges) {
-        return refused(41, count, halted);
+        return states::refused(41, count, halted);
     }
     if !created::created_ok(created, count) {
-        return refused(42, count, halted);
+        return states::refused(42, count, halted);
     }
     if halted {
-        return refused(20, count, halted);
+        return states::refused(20, count, halted);
     }
     judge_read(edges, sets, created, unclosed, count, step)
 }

@@ -1,5 +1,3 @@
--- That the judge over records answers as the judge over their flat table.
-pub mod LoopLaws
-pub mod FlatLaws
+-- That the judge and the check over records answer as over their flat table.
+pub mod TableLaws
 pub mod Promises
-pub mod CallFlatten

@@ -13,13 +13,15 @@ use Rattle.usage.proofs.ValidLaws.{decides-edges}
 use Rattle.usage.proofs.TableLaws.{decides-edge-table}
 use Rattle.modelcheck.specs.declared.Outcome.{Outcome}
 use Rattle.modelcheck.specs.Promise.{told}
-use Rattle.monitor.specs.declared.State.{State}
-use Rattle.monitor.specs.Judge.{refuse, judgeOf}
-use Rattle.monitor.specs.Represents.{Represents}
-use Rattle.monitor.specs.Promise.{Promised}
-use Rattle.monitor.proofs.Verdict.{judge-promised}
-use Rattle.records.specs.Records.{flat, judgeRecords, KeepsRecords, CheckedRecords}
-use Rattle.records.proofs.FlatLaws.{edges-flat, table-flat, flat-refused}
+use Rattle.states.specs.declared.State.{State}
+use Rattle.states.specs.Judge.{refuse, judgeOf}
+use Rattle.states.specs.Represents.{Represents}
+use Rattle.states.specs.Promise.{Promised}
+use Rattle.states.proofs.Verdict.{judge-promised}
+use Rattle.flat_edges.specs.Flat.{flat}
+use Rattle.records.specs.Records.{judgeRecords, KeepsRecords, CheckedRecords}
+use Rattle.flat_edges.proofs.FlatLaws.{edges-flat, table-flat}
+use Rattle.records.proofs.TableLaws.{flat-refused}
 
 -- From every state that stands for a past under these edges: the answer is right, and the state that is returned stands for the past
 -- with the step, if it was allowed, and for the same past if not.

@@ -1,23 +1,19 @@
 -- "The judge and the check are lent the edges as a slice of records": the judge over the list of the records.
 use Prim.Native.Nat.{ℕ}
 use mathlib.Core.Bool.{Bool}
-use mathlib.Core.List.{List, [], _∷_}
+use mathlib.Core.List.{List}
 use Rattle.usage.specs.declared.Edge.{Edge}
 use Rattle.usage.specs.declared.RawStep.{RawStep}
 use Rattle.usage.specs.Policy.{EdgesOk}
 use Rattle.usage.specs.Past.{Past}
 use Rattle.modelcheck.specs.declared.Outcome.{Outcome}
 use Rattle.modelcheck.specs.Promise as Checks
-use Rattle.monitor.specs.declared.State.{State}
-use Rattle.monitor.specs.declared.Judgement.{Judgement}
-use Rattle.monitor.specs.Judge.{judgeOf}
-use Rattle.monitor.specs.Represents.{Represents}
-use Rattle.monitor.specs.Promise.{Promised}
-
--- "An edge is a record of policy, from, action, on, who, to": the flat table of the edges, six numbers to each
-unfoldable pub flat : List Edge → List ℕ
-flat [] = []
-flat (e ∷ es) = e .policy ∷ e .from ∷ e .action ∷ e .on ∷ e .who ∷ e .to ∷ flat es
+use Rattle.states.specs.declared.State.{State}
+use Rattle.states.specs.declared.Judgement.{Judgement}
+use Rattle.states.specs.Judge.{judgeOf}
+use Rattle.states.specs.Represents.{Represents}
+use Rattle.states.specs.Promise.{Promised}
+use Rattle.flat_edges.specs.Flat.{flat}
 
 -- The judge, lent the edges as records: the judge over their flat table. So more than 256 are "a table lent to be used that, taken
 -- whole, no accepted sheet gives" (41).

@@ -14,10 +14,10 @@ use Rattle.usage.specs.Past.{Step, event, opening, closing}
 use Rattle.usage.specs.Answers.{detail}
 use Rattle.usage.specs.Judge.{stepOf}
 use Rattle.usage.specs.Tables.{edgesOf, edgeTable}
-use Rattle.monitor.specs.declared.State.{State}
-use Rattle.monitor.specs.declared.Answer.the-variants.{Allowed, Violated}
-use Rattle.monitor.specs.declared.Judgement.{Judgement}
-use Rattle.monitor.specs.Judge.{verdictOf, listed, live, stateOk, after, broken, refusal, refuse, halt, settle, judgeStep, judgeRead, judgeOf}
+use Rattle.states.specs.declared.State.{State}
+use Rattle.states.specs.declared.Answer.the-variants.{Allowed, Violated}
+use Rattle.states.specs.declared.Judgement.{Judgement}
+use Rattle.states.specs.Judge.{verdictOf, listed, live, stateOk, after, broken, refusal, refuse, halt, settle, judgeStep, judgeRead, judgeOf}
 
 abbrev Short : Judgement → Type 0
 Short j = detail (verdictOf (j .answer)) < 100

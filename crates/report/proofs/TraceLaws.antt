@@ -8,9 +8,9 @@ use native.Mathlib.Nat.{sub-zero}
 use lib.ListN.{length, take}
 use Rattle.usage.specs.Tables.{from, stepAt, stepsOf}
 use Rattle.usage.specs.Answers.{answer, detail}
-use Rattle.monitor.specs.declared.State.{State}
-use Rattle.monitor.specs.declared.Judgement.{Judgement}
-use Rattle.monitor.specs.Judge.{verdictOf, begin, judgeOf, answersOf}
+use Rattle.states.specs.declared.State.{State}
+use Rattle.states.specs.declared.Judgement.{Judgement}
+use Rattle.states.specs.Judge.{verdictOf, begin, judgeOf, answersOf}
 use Rattle.report.specs.Lines.{names-line, row, verdict-row, rows}
 use Rattle.lines.specs.Sheet.{refused, sheet}
 use Rattle.lines.specs.Sheets.{policies, trace}

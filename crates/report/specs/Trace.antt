@@ -5,8 +5,8 @@ use Rattle.usage.specs.declared.RawStep.{RawStep}
 use Rattle.usage.specs.Tables.{stepsOf}
 use Rattle.lines.specs.Sheet.{Result, accepted, refused, sheet}
 use Rattle.lines.specs.Sheets.{policies, trace}
-use Rattle.monitor.specs.declared.State.{State}
-use Rattle.monitor.specs.Judge.{verdictOf, begin, answersOf}
+use Rattle.states.specs.declared.State.{State}
+use Rattle.states.specs.Judge.{verdictOf, begin, answersOf}
 use Rattle.report.specs.Lines.{names-line, rows, refusal-row}
 
 -- the rows of steps that are judged from a state on, the first on line `line`

@@ -13,11 +13,11 @@ ghost use Rattle.usage.specs.Answers.{answer, detail};
 ghost use Rattle.lines.specs.Sheet.{sheet};
 ghost use Rattle.lines.specs.Sheets.{trace as Sheets·trace, outline as Sheets·outline};
 ghost use Rattle.sheets.specs.Readers.{ruled};
-ghost use Rattle.monitor.specs.Judge.{verdictOf, begin};
+ghost use Rattle.states.specs.Judge.{verdictOf, begin};
 ghost use Rattle.modelcheck.specs.Promise.{told};
 use lines::Reading;
 use modelcheck::Outcome;
-use monitor::Answer;
+use states::Answer;
 use usage::RawStep;
 
 // What the first program prints, from the bytes of `policies.txt` and `trace.txt`: its length, and 0 where `out` lacks the room.

@@ -4,9 +4,9 @@ use mathlib.Core.Path.{_≡_, ap, ap₂, _∙_}
 use mathlib.Core.Bool.{cond}
 use mathlib.Core.List.{List, [], _∷_}
 use borrow.Author.Needs.{needs}
-use Rattle.monitor.specs.declared.Judgement.{Judgement}
-use Rattle.monitor.specs.declared.Told.{Told}
-use Rattle.monitor.specs.Code.{judgementOf}
+use Rattle.states.specs.declared.Judgement.{Judgement}
+use Rattle.states.specs.declared.Told.{Told}
+use Rattle.states.specs.Code.{judgementOf}
 use Rattle.exports.specs.Parts.{codeOf, stateOf, numbersOf, judgeParts, Held}
 use Rattle.exports.proofs.judge_parts.Statement.{statement}
 use Rattle.exports.proofs.judge_parts.Tie as tie

@@ -1,7 +1,7 @@
 use mathlib.Core.Path.{sym, _∙_}
 use mathlib.Core.Bool.{false}
 use borrow.Author.Needs.{needs}
-use Rattle.monitor.specs.Code.{stateOf}
+use Rattle.states.specs.Code.{stateOf}
 use Rattle.monitor.proofs.JudgeLaws.{closing-refused, closing-taken}
 use Rattle.instances.proofs.SetLaws.{pos}
 use Rattle.monitor.proofs.LentLaws.{refused-parts, unclosed-is}

@@ -37,21 +37,22 @@ use denote.Triple.Table.{entered, cited}
 use denote.Triple.Walked.{says, Stays, stay-none-slice, walkOf, goes-none-slice, Walks, ends-at, walked, walk-meets}
 use denote.Exit.{yes}
 use Rattle.usage.specs.declared.Edge.{Edge}
-use Rattle.records.specs.declared.Flat.{Flat}
+use Rattle.flat_edges.specs.declared.Flat.{Flat}
 use Rattle.modelcheck.specs.declared.Outcome.{Outcome}
 use Rattle.modelcheck.proofs.Outcome as N
 use Rattle.modelcheck.proofs.Outcome.Laws as N′
 use Rattle.records.specs.Records.{CheckedRecords}
-use Rattle.records.specs.Code.{zeros, flatOf, CheckedFlat}
-use Rattle.records.proofs.FlatLaws.{checked-records}
-use Rattle.records.proofs.CallFlatten.{Flatten, slice-val, slice-owns, to-flatten, goes-flatten, flat-of}
+use Rattle.flat_edges.specs.Flat.{zeros, flatOf}
+use Rattle.records.specs.Code.{CheckedFlat}
+use Rattle.records.proofs.TableLaws.{checked-records}
+use Rattle.flat_edges.proofs.CallFlatten.{Flatten, slice-val, slice-owns, to-flatten, goes-flatten, flat-of}
 use Rattle.usage.proofs.Edge as E
-use Rattle.records.proofs.Flat as F
-use Rattle.records.proofs.Flat.Laws as F′
-use Rattle.records.proofs.flatten as flatten
-use Rattle.records.proofs.flatten.Symbol as flatten-def
-use Rattle.records.proofs.flatten.Symbol.{name as #records·flatten}
-use Rattle.records.proofs.flatten.Met as flatten-thm
+use Rattle.flat_edges.proofs.Flat as F
+use Rattle.flat_edges.proofs.Flat.Laws as F′
+use Rattle.flat_edges.proofs.flatten as flatten
+use Rattle.flat_edges.proofs.flatten.Symbol as flatten-def
+use Rattle.flat_edges.proofs.flatten.Symbol.{name as #flat-edges·flatten}
+use Rattle.flat_edges.proofs.flatten.Met as flatten-thm
 use Rattle.records.proofs.check_flat as check-flat
 use Rattle.records.proofs.check_flat.Symbol as check-flat-def
 use Rattle.records.proofs.check_flat.Symbol.{name as #records·check-flat}
@@ -105,7 +106,7 @@ module _ {M : Type 1} (𝓤 : URA M) (H : Heap 𝓤) (A : Atoms 𝓤) (W : Given
       -- the tokens together; then what the parameters own; the result is left
       move ! (3 ∷ []) $ split ! $ move ! (3 ∷ []) $ move ! (1 ∷ 0 ∷ []) $ join ! $ frame ! $ move ! (2 ∷ 0 ∷ []) $ fjoin ! $ move ! (2 ∷ 0 ∷ []) $ fjoin ! $ frame ! $ done !
 
-  module _ (C : Calls 𝓤 H) (Λ : Loops 𝓤 H) (fm : FmC 𝓤 H (W .laws) C) (known-flatten : Triple 𝓤 (C #records·flatten) (Flatten 𝓤 H A mem run)) (known-check : Triple 𝓤 (C #records·check-flat) (CheckFlat 𝓤 H A mem run)) where
+  module _ (C : Calls 𝓤 H) (Λ : Loops 𝓤 H) (fm : FmC 𝓤 H (W .laws) C) (known-flatten : Triple 𝓤 (C #flat-edges·flatten) (Flatten 𝓤 H A mem run)) (known-check : Triple 𝓤 (C #records·check-flat) (CheckFlat 𝓤 H A mem run)) where
     walk : Room E.the-row (length (xe .now)) → Room u8 (length (xt .now))
         → ent 𝓤 (onEntry 𝓤 H A check-records.signature (κ, (κ′, tt)) (q, (q′, tt)) (xe, (xt, tt)) at) (WpFn 𝓤 H C Λ code.function (sliceVal (xe .ptr) (length (xe .now)) ∷ sliceVal (xt .ptr) (length (xt .now)) ∷ []) Post)
     walk ge gt =
@@ -136,7 +137,7 @@ module _ {M : Type 1} (𝓤 : URA M) (H : Heap 𝓤) (A : Atoms 𝓤) (W : Given
         move ! (11 ∷ 12 ∷ []) $ free1 ! $ move ! (9 ∷ 10 ∷ []) $ free1 ! $ move ! (7 ∷ 8 ∷ []) $ free1 ! $ move ! (5 ∷ 6 ∷ []) $ free1 ! $ free0 ! $
         by ! (exits m u (checked-records (xe .now) (xt .now) m (subst (λ (f : Flat). CheckedFlat f (xt .now) m) e e₂)))))))))))))))
 
-module _ {M : Type 1} (𝓤 : URA M) (H : Heap 𝓤) (A : Atoms 𝓤) (W : Given 𝓤 H A) (mem : Memory → SProp 𝓤) (run : Routine → Fun 𝓤) (𝓣 : Tables 𝓤 H) (known-flatten : Triple 𝓤 (𝓣 .C #records·flatten) (Flatten 𝓤 H A mem run)) (known-check : Triple 𝓤 (𝓣 .C #records·check-flat) (CheckFlat 𝓤 H A mem run)) where
+module _ {M : Type 1} (𝓤 : URA M) (H : Heap 𝓤) (A : Atoms 𝓤) (W : Given 𝓤 H A) (mem : Memory → SProp 𝓤) (run : Routine → Fun 𝓤) (𝓣 : Tables 𝓤 H) (known-flatten : Triple 𝓤 (𝓣 .C #flat-edges·flatten) (Flatten 𝓤 H A mem run)) (known-check : Triple 𝓤 (𝓣 .C #records·check-flat) (CheckFlat 𝓤 H A mem run)) where
   check-walks : Walks 𝓤 H A check-records.ended stayed (WpFn 𝓤 H (𝓣 .C) (𝓣 .Λ) code.function) (check-records.clauses 𝓤 H A mem run)
   check-walks = walked 𝓤 H A check-records.ended stayed (check-records.clauses 𝓤 H A mem run) (WpFn 𝓤 H (𝓣 .C) (𝓣 .Λ) code.function) (λ κs. (slice-vals, (slice-vals, tt)))
       (λ κs. (shr-slice-tells (named 0) (κs .0) E.the-row, (shr-slice-tells (named 1) (κs .1 .0) u8, tt)))
@@ -152,5 +153,5 @@ check-records-spec 𝓤 H 𝓜 𝓖 𝓡 =
     entered 𝓤 H (tripleOf 𝓤 H (𝓖 .A) check-records.signature (check-records.spec 𝓤 H (𝓖 .A) (𝓜 .mem) (𝓡 .run)))
     (tables 𝓤 H 𝓜 𝓡 code.env .C) (tables 𝓤 H 𝓜 𝓡 code.env .Λ) #records·check-records code.function (code.unfolded 𝓤 H 𝓜 𝓡)
     (check-meets 𝓤 H (𝓖 .A) (givenOf 𝓤 H 𝓜 𝓖) (𝓜 .mem) (𝓡 .run) (tablesOf 𝓤 H 𝓜 (tables 𝓤 H 𝓜 𝓡 code.env))
-    (cited 𝓤 H (Flatten 𝓤 H (𝓖 .A) (𝓜 .mem) (𝓡 .run)) 𝓜 𝓡 code.env #records·flatten flatten-def.routine code.calls-records·flatten (flatten-thm.met 𝓤 H 𝓜 𝓖 𝓡))
+    (cited 𝓤 H (Flatten 𝓤 H (𝓖 .A) (𝓜 .mem) (𝓡 .run)) 𝓜 𝓡 code.env #flat-edges·flatten flatten-def.routine code.calls-flat-edges·flatten (flatten-thm.met 𝓤 H 𝓜 𝓖 𝓡))
     (cited 𝓤 H (CheckFlat 𝓤 H (𝓖 .A) (𝓜 .mem) (𝓡 .run)) 𝓜 𝓡 code.env #records·check-flat check-flat-def.routine code.calls-records·check-flat (check-flat-thm.met 𝓤 H 𝓜 𝓖 𝓡)))

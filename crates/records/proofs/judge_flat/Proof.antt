@@ -4,7 +4,7 @@ use native.Mathlib.Omega.{arith}
 use lib.ListN.{length}
 use borrow.Author.Needs.{needs}
 use borrow.Author.Tests.{lt-ltb, le-ltb}
-use Rattle.monitor.specs.Judge.{refuse}
+use Rattle.states.specs.Judge.{refuse}
 use Rattle.records.specs.Code.{judgeFlat}
 use Rattle.records.proofs.judge_flat.Statement.{statement}
 use Rattle.records.proofs.judge_flat.Tie as tie

@@ -39,24 +39,25 @@ use Rattle.usage.specs.declared.RawStep.{RawStep}
 use Rattle.usage.proofs.Edge as E
 use Rattle.usage.proofs.RawStep as R
 use Rattle.usage.proofs.RawStep.Laws as R′
-use Rattle.monitor.specs.declared.State.{State}
-use Rattle.monitor.specs.declared.Judgement.{Judgement}
-use Rattle.monitor.proofs.State as S
-use Rattle.monitor.proofs.State.Laws as S′
-use Rattle.monitor.proofs.Judgement as J
-use Rattle.monitor.proofs.Judgement.Laws as J′
-use Rattle.records.specs.declared.Flat.{Flat}
+use Rattle.states.specs.declared.State.{State}
+use Rattle.states.specs.declared.Judgement.{Judgement}
+use Rattle.states.proofs.State as S
+use Rattle.states.proofs.State.Laws as S′
+use Rattle.states.proofs.Judgement as J
+use Rattle.states.proofs.Judgement.Laws as J′
+use Rattle.flat_edges.specs.declared.Flat.{Flat}
 use Rattle.records.specs.Records.{judgeRecords, KeepsRecords}
-use Rattle.records.specs.Code.{zeros, flatOf, judgeFlat}
-use Rattle.records.proofs.FlatLaws.{judge-flat-records}
+use Rattle.flat_edges.specs.Flat.{zeros, flatOf}
+use Rattle.records.specs.Code.{judgeFlat}
+use Rattle.records.proofs.TableLaws.{judge-flat-records}
 use Rattle.records.proofs.Promises.{records-promised}
-use Rattle.records.proofs.CallFlatten.{Flatten, slice-val, slice-owns, to-flatten, goes-flatten, flat-of}
-use Rattle.records.proofs.Flat as F
-use Rattle.records.proofs.Flat.Laws as F′
-use Rattle.records.proofs.flatten as flatten
-use Rattle.records.proofs.flatten.Symbol as flatten-def
-use Rattle.records.proofs.flatten.Symbol.{name as #records·flatten}
-use Rattle.records.proofs.flatten.Met as flatten-thm
+use Rattle.flat_edges.proofs.CallFlatten.{Flatten, slice-val, slice-owns, to-flatten, goes-flatten, flat-of}
+use Rattle.flat_edges.proofs.Flat as F
+use Rattle.flat_edges.proofs.Flat.Laws as F′
+use Rattle.flat_edges.proofs.flatten as flatten
+use Rattle.flat_edges.proofs.flatten.Symbol as flatten-def
+use Rattle.flat_edges.proofs.flatten.Symbol.{name as #flat-edges·flatten}
+use Rattle.flat_edges.proofs.flatten.Met as flatten-thm
 use Rattle.records.proofs.judge_flat as judge-flat
 use Rattle.records.proofs.judge_flat.Symbol as judge-flat-def
 use Rattle.records.proofs.judge_flat.Symbol.{name as #records·judge-flat}
@@ -117,7 +118,7 @@ module _ {M : Type 1} (𝓤 : URA M) (H : Heap 𝓤) (A : Atoms 𝓤) (W : Given
       use0 W (raw (fact 𝓤 (j ≡ judgeRecords (xe .now) s step))) (factI 𝓤 _ (emp 𝓤) e) $ frame ! $
       use0 W (raw (fact 𝓤 (KeepsRecords (xe .now) s step j))) (factI 𝓤 _ (emp 𝓤) promised) $ done !
 
-  module _ (C : Calls 𝓤 H) (Λ : Loops 𝓤 H) (fm : FmC 𝓤 H (W .laws) C) (known-flatten : Triple 𝓤 (C #records·flatten) (Flatten 𝓤 H A mem run)) (known-judge : Triple 𝓤 (C #records·judge-flat) (JudgeFlat 𝓤 H A mem run)) where
+  module _ (C : Calls 𝓤 H) (Λ : Loops 𝓤 H) (fm : FmC 𝓤 H (W .laws) C) (known-flatten : Triple 𝓤 (C #flat-edges·flatten) (Flatten 𝓤 H A mem run)) (known-judge : Triple 𝓤 (C #records·judge-flat) (JudgeFlat 𝓤 H A mem run)) where
     walk : Room E.the-row (length (xe .now)) → Is S.the-row s (stateVal s ∷ []) → Is R.the-row step (stepVal step ∷ [])
         → ent 𝓤 (onEntry 𝓤 H A judge-records.signature (κ, tt) (q, tt) (xe, (s, (step, tt))) at) (WpFn 𝓤 H C Λ code.function (sliceVal (xe .ptr) (length (xe .now)) ∷ stateVal s ∷ stepVal step ∷ []) Post)
     walk ge gs gr =
@@ -150,7 +151,7 @@ module _ {M : Type 1} (𝓤 : URA M) (H : Heap 𝓤) (A : Atoms 𝓤) (W : Given
         move ! (11 ∷ 12 ∷ []) $ free1 ! $ move ! (9 ∷ 10 ∷ []) $ free1 ! $ move ! (7 ∷ 8 ∷ []) $ free1 ! $ move ! (5 ∷ 6 ∷ []) $ free1 ! $ move ! (3 ∷ 4 ∷ []) $ free1 ! $ free0 ! $
         by ! (exits j u (answers r j e e₂) (subst (KeepsRecords (xe .now) s step) (sym (answers r j e e₂)) (records-promised (xe .now) s step))))))))))))))))
 
-module _ {M : Type 1} (𝓤 : URA M) (H : Heap 𝓤) (A : Atoms 𝓤) (W : Given 𝓤 H A) (mem : Memory → SProp 𝓤) (run : Routine → Fun 𝓤) (𝓣 : Tables 𝓤 H) (known-flatten : Triple 𝓤 (𝓣 .C #records·flatten) (Flatten 𝓤 H A mem run)) (known-judge : Triple 𝓤 (𝓣 .C #records·judge-flat) (JudgeFlat 𝓤 H A mem run)) where
+module _ {M : Type 1} (𝓤 : URA M) (H : Heap 𝓤) (A : Atoms 𝓤) (W : Given 𝓤 H A) (mem : Memory → SProp 𝓤) (run : Routine → Fun 𝓤) (𝓣 : Tables 𝓤 H) (known-flatten : Triple 𝓤 (𝓣 .C #flat-edges·flatten) (Flatten 𝓤 H A mem run)) (known-judge : Triple 𝓤 (𝓣 .C #records·judge-flat) (JudgeFlat 𝓤 H A mem run)) where
   judge-walks : Walks 𝓤 H A judge-records.ended stayed (WpFn 𝓤 H (𝓣 .C) (𝓣 .Λ) code.function) (judge-records.clauses 𝓤 H A mem run)
   judge-walks = walked 𝓤 H A judge-records.ended stayed (judge-records.clauses 𝓤 H A mem run) (WpFn 𝓤 H (𝓣 .C) (𝓣 .Λ) code.function)
       (λ κs. (slice-vals, (LL.vals S.the-type S′.the-laws, (LL.vals R.the-type R′.the-laws, tt))))
@@ -169,5 +170,5 @@ judge-records-spec 𝓤 H 𝓜 𝓖 𝓡 =
     entered 𝓤 H (tripleOf 𝓤 H (𝓖 .A) judge-records.signature (judge-records.spec 𝓤 H (𝓖 .A) (𝓜 .mem) (𝓡 .run)))
     (tables 𝓤 H 𝓜 𝓡 code.env .C) (tables 𝓤 H 𝓜 𝓡 code.env .Λ) #records·judge-records code.function (code.unfolded 𝓤 H 𝓜 𝓡)
     (judge-meets 𝓤 H (𝓖 .A) (givenOf 𝓤 H 𝓜 𝓖) (𝓜 .mem) (𝓡 .run) (tablesOf 𝓤 H 𝓜 (tables 𝓤 H 𝓜 𝓡 code.env))
-    (cited 𝓤 H (Flatten 𝓤 H (𝓖 .A) (𝓜 .mem) (𝓡 .run)) 𝓜 𝓡 code.env #records·flatten flatten-def.routine code.calls-records·flatten (flatten-thm.met 𝓤 H 𝓜 𝓖 𝓡))
+    (cited 𝓤 H (Flatten 𝓤 H (𝓖 .A) (𝓜 .mem) (𝓡 .run)) 𝓜 𝓡 code.env #flat-edges·flatten flatten-def.routine code.calls-flat-edges·flatten (flatten-thm.met 𝓤 H 𝓜 𝓖 𝓡))
     (cited 𝓤 H (JudgeFlat 𝓤 H (𝓖 .A) (𝓜 .mem) (𝓡 .run)) 𝓜 𝓡 code.env #records·judge-flat judge-flat-def.routine code.calls-records·judge-flat (judge-flat-thm.met 𝓤 H 𝓜 𝓖 𝓡)))

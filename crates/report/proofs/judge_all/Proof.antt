@@ -4,7 +4,7 @@ use Prim.Native.Nat.{_+_, _-_, _*_, _/_, _≤_}
 use denote.Ref.{now}
 use lib.ListN.{length, length-append}
 use lib.Seq.{sets, length-sets}
-use Rattle.monitor.specs.Judge.{begin, judgeOf}
+use Rattle.states.specs.Judge.{begin, judgeOf}
 use Rattle.report.specs.Lines.{row}
 use Rattle.report.proofs.PutLaws.{sets-append}
 use Rattle.report.proofs.TraceLaws.{left, all-left, none-left, next-row, row-ten}

@@ -1,0 +1,2 @@
+-- The flat table of a list of edges.
+pub mod Flat

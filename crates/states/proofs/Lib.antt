@@ -1,0 +1,11 @@
+-- That the judge's definition answers as the whole past says.
+pub mod ListLaws
+pub mod Places
+pub mod StartLaws
+pub mod Tracking
+pub mod Preserve
+pub mod BrokenLaws
+pub mod Refusals
+pub mod Verdict
+-- The laws of reading a step.
+pub mod StepLaws
