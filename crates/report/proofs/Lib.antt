@@ -1,8 +1,4 @@
 -- The laws of the definitions in specs/, for the proofs of this crate.
-pub mod DecimalLaws
-pub mod DecimalValue
-pub mod PutLaws
-pub mod RowLaws
 pub mod RoomLaws
 pub mod DetailLaws
 pub mod ReadLaws

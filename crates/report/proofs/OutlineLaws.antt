@@ -4,7 +4,7 @@ use mathlib.Core.List.{List, _++_}
 use Prim.Native.Nat.{ℕ}
 use Rattle.usage.proofs.CheckLaws.{checked-unique}
 use Rattle.lines.specs.Sheet.{Result}
-use Rattle.report.specs.Lines.{names-line, verdict-row}
+use Rattle.printing.specs.Lines.{names-line, verdict-row}
 use Rattle.report.specs.Outline.{NodesRow, outline-refused, outline-checked, OutlineRow, policies-refused, policies-accepted, OutlinePrinted, prints}
 
 nodes-unique : {edges : List ℕ} {o : Result} {x y : List ℕ} → NodesRow edges o x → NodesRow edges o y → x ≡ y

@@ -13,9 +13,9 @@ use Rattle.lines.specs.Sheet.{refused, sheet}
 use Rattle.lines.specs.Sheets.{policies, outline}
 use Rattle.sheets.specs.Readers.{ruled}
 use Rattle.report.specs.Room.{outline-room}
-use Rattle.report.specs.Lines.{names-line, row}
+use Rattle.printing.specs.Lines.{names-line, row}
 use Rattle.report.specs.Outline.{outline-refused, outline-checked, OutlineRow, policies-refused, policies-accepted, prints, OutlinePut, put, RowPut}
-use Rattle.report.proofs.RowLaws.{row-eight, verdict-eight}
+use Rattle.printing.proofs.RowLaws.{row-eight, verdict-eight}
 use Rattle.report.proofs.RoomLaws.{joined}
 use Rattle.report.proofs.ReadLaws.{Holds, HoldsNodes}
 use Rattle.report.proofs.AcceptedLaws.{accepted-edges}

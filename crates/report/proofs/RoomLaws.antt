@@ -8,7 +8,7 @@ use lib.ListN.{length, drop, length-append}
 use lib.Seq.{sets}
 use borrow.Author.Tests.{lt-ltb, le-ltb}
 use Rattle.report.specs.Room.{length-put, put}
-use Rattle.report.proofs.PutLaws.{sets-append, sets-front}
+use Rattle.printing.proofs.PutLaws.{sets-append, sets-front}
 
 -- a function's result r and the buffer that it leaves are those of an output
 abbrev pub Printed : ℕ → List ℕ → List ℕ → ℕ → List ℕ → Type 0

@@ -11,13 +11,13 @@ use Rattle.usage.specs.Answers.{answer, detail}
 use Rattle.states.specs.declared.State.{State}
 use Rattle.states.specs.declared.Judgement.{Judgement}
 use Rattle.states.specs.Judge.{verdictOf, begin, judgeOf, answersOf}
-use Rattle.report.specs.Lines.{names-line, row, verdict-row, rows}
+use Rattle.printing.specs.Lines.{names-line, row, verdict-row, rows}
 use Rattle.lines.specs.Sheet.{refused, sheet}
 use Rattle.lines.specs.Sheets.{policies, trace}
 use Rattle.report.specs.Trace.{judged-rows, trace-rows, sheets-rows, tracePrinted}
 use Rattle.report.proofs.ReadLaws.{Holds}
 use Rattle.report.proofs.DetailLaws.{detail-small}
-use Rattle.report.proofs.RowLaws.{verdict-short}
+use Rattle.printing.proofs.RowLaws.{verdict-short}
 
 -- the rows of the steps from i on, of n in all, judged from the state s on
 abbrev pub left : List ℕ → List ℕ → ℕ → State → ℕ → List ℕ

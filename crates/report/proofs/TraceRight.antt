@@ -13,7 +13,7 @@ use Rattle.lines.specs.Sheet.{accepted, sheet}
 use Rattle.lines.specs.Sheets.{policies, trace}
 use Rattle.states.specs.Judge.{verdictOf, begin, answersOf}
 use Rattle.states.proofs.Verdict.{all-judged-begin}
-use Rattle.report.specs.Lines.{names-line, rows}
+use Rattle.printing.specs.Lines.{names-line, rows}
 use Rattle.report.specs.Trace.{judged-rows, trace-rows, sheets-rows, tracePrinted}
 use Rattle.report.proofs.AcceptedLaws.{accepted-edges}
 

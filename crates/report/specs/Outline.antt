@@ -10,7 +10,7 @@ use Rattle.usage.specs.Tables.{edgesOf, nodesOf}
 use Rattle.lines.specs.Sheet.{Result, accepted, refused, sheet}
 use Rattle.lines.specs.Sheets.{policies, outline}
 use Rattle.sheets.specs.Readers.{ruled}
-use Rattle.report.specs.Lines.{names-line, verdict-row, refusal-row}
+use Rattle.printing.specs.Lines.{names-line, verdict-row, refusal-row}
 use Rattle.report.specs.Room.{outline-room}
 
 -- The line of an outline, with edges that an accepted sheet gave: "`0 0 0` when accepted, `0 1` and the policy when refused", or the

@@ -7,7 +7,7 @@ use Rattle.lines.specs.Sheet.{Result, accepted, refused, sheet}
 use Rattle.lines.specs.Sheets.{policies, trace}
 use Rattle.states.specs.declared.State.{State}
 use Rattle.states.specs.Judge.{verdictOf, begin, answersOf}
-use Rattle.report.specs.Lines.{names-line, rows, refusal-row}
+use Rattle.printing.specs.Lines.{names-line, rows, refusal-row}
 
 -- the rows of steps that are judged from a state on, the first on line `line`
 unfoldable pub judged-rows : List ℕ → State → ℕ → List RawStep → List ℕ

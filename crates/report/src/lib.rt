@@ -6,8 +6,6 @@ ghost use Rattle.report.specs.Room.{trace-room, length-put, put as Room�
 ghost use Prim.Native.Nat.{_+_, _≤_, _<_, _*_, _/_};
 ghost use lib.ListN.{length};
 ghost use lib.Seq.{sets};
-ghost use Rattle.report.specs.Decimal.{decimal};
-ghost use Rattle.report.specs.Lines.{names-line, field as Lines·field, row as Lines·row};
 ghost use Rattle.usage.specs.Tables.{stepAt, stepsOf, EdgeTable};
 ghost use Rattle.usage.specs.Answers.{answer, detail};
 ghost use Rattle.lines.specs.Sheet.{sheet};
@@ -29,12 +27,12 @@ pub extern "C" fn report_trace(policies: &[u8], trace: &[u8], out: &mut [u8]) ->
     if out.len() < 20019 {
         return 0;
     }
-    let at = names(out);
+    let at = printing::names(out);
     let mut edges = [0u8; 1536];
     let reading = sheets::read_policies(policies, &mut edges);
     match reading {
         Reading::Stored(n) => trace_rows(&edges[0..n * 6], trace, out, at),
-        Reading::Refused { line, number } => row(out, at, line, 3, number as usize),
+        Reading::Refused { line, number } => printing::row(out, at, line, 3, number as usize),
     }
 }
 
@@ -46,65 +44,13 @@ pub extern "C" fn report_outline(policies: &[u8], outline: &[u8], out: &mut [u8]
     if out.len() < 27 {
         return 0;
     }
-    let next = names(out);
+    let next = printing::names(out);
     let mut edges = [0u8; 1536];
     let reading = sheets::read_policies(policies, &mut edges);
     match reading {
         Reading::Stored(n) => outline_row(&edges[0..n * 6], outline, out, next),
-        Reading::Refused { line, number } => row(out, next, line, 3, number as usize),
+        Reading::Refused { line, number } => printing::row(out, next, line, 3, number as usize),
     }
-}
-
-// The digits of n, from `at` on.
-fn number(out: &mut [u8], at: usize, n: usize) -> usize
-    requires { ⌜ at + length (decimal n) ≤ length (now out) ⌝ }
-    ensures { λ r. ⌜ r ≡ at + length (decimal n) ⌝ }
-    ensures { λ r. ⌜ now (out .exit) ≡ sets (now (out .entry)) at (decimal n) ⌝ }
-{
-    if n < 10 {
-        out[at] = 48 + n as u8;
-        return at + 1;
-    }
-    let last = number(out, at, n / 10);
-    out[last] = 48 + (n % 10) as u8;
-    last + 1
-}
-
-// A number and the byte after it.
-fn field(out: &mut [u8], at: usize, n: usize, end: u8) -> usize
-    requires { ⌜ at + length (Lines·field n end) ≤ length (now out) ⌝ }
-    ensures { λ r. ⌜ r ≡ at + length (Lines·field n end) ⌝ }
-    ensures { λ r. ⌜ now (out .exit) ≡ sets (now (out .entry)) at (Lines·field n end) ⌝ }
-{
-    let last = number(out, at, n);
-    out[last] = end;
-    last + 1
-}
-
-// One printed line.
-fn row(out: &mut [u8], at: usize, line: usize, answer: usize, detail: usize) -> usize
-    requires { ⌜ at + length (Lines·row line answer detail) ≤ length (now out) ⌝ }
-    ensures { λ r. ⌜ r ≡ at + length (Lines·row line answer detail) ⌝ }
-    ensures { λ r. ⌜ now (out .exit) ≡ sets (now (out .entry)) at (Lines·row line answer detail) ⌝ }
-{
-    let second = field(out, at, line, 32);
-    let third = field(out, second, answer, 32);
-    field(out, third, detail, 10)
-}
-
-// The line of names, at the start.
-fn names(out: &mut [u8]) -> usize
-    requires { ⌜ length names-line ≤ length (now out) ⌝ }
-    ensures { λ r. ⌜ r ≡ length names-line ⌝ }
-    ensures { λ r. ⌜ now (out .exit) ≡ sets (now (out .entry)) 0 names-line ⌝ }
-{
-    let text = b"line answer detail\n";
-    let mut i: usize = 0;
-    while i < 19 {
-        out[i] = text[i];
-        i += 1;
-    }
-    i
 }
 
 // Document 01's two numbers for an answer.
@@ -155,7 +101,7 @@ fn judge_all(edges: &[u8], steps: &[u32], out: &mut [u8], at: usize) -> usize
     while i < n {
         let j = monitor::judge(edges, s, step_at(steps, i));
         let a = j.answer;
-        next = row(out, next, i + 2, number_of(a), detail_of(a));
+        next = printing::row(out, next, i + 2, number_of(a), detail_of(a));
         s = j.state;
         i += 1;
     }
@@ -173,7 +119,7 @@ fn trace_rows(edges: &[u8], text: &[u8], out: &mut [u8], at: usize) -> usize
     let reading = sheets::read_trace(text, &mut steps);
     match reading {
         Reading::Stored(n) => judge_all(edges, &steps[0..n * 3], out, at),
-        Reading::Refused { line, number } => row(out, at, line, 4, number as usize),
+        Reading::Refused { line, number } => printing::row(out, at, line, 4, number as usize),
     }
 }
 
@@ -208,8 +154,8 @@ fn outline_row(edges: &[u8], text: &[u8], out: &mut [u8], at: usize) -> usize
     match reading {
         Reading::Stored(n) => {
             let a = modelcheck::check(edges, &nodes[0..n * 3]);
-            row(out, at, 0, outcome_number(a), outcome_detail(a) as usize)
+            printing::row(out, at, 0, outcome_number(a), outcome_detail(a) as usize)
         }
-        Reading::Refused { line, number } => row(out, at, line, 5, number as usize),
+        Reading::Refused { line, number } => printing::row(out, at, line, 5, number as usize),
     }
 }

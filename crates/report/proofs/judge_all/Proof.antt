@@ -5,8 +5,9 @@ use denote.Ref.{now}
 use lib.ListN.{length, length-append}
 use lib.Seq.{sets, length-sets}
 use Rattle.states.specs.Judge.{begin, judgeOf}
-use Rattle.report.specs.Lines.{row}
-use Rattle.report.proofs.PutLaws.{sets-append}
+use Rattle.printing.specs.Lines.{row}
+use Rattle.printing.proofs.PutLaws.{sets-append}
+use Rattle.printing.proofs.FitLaws.{stored-at}
 use Rattle.report.proofs.TraceLaws.{left, all-left, none-left, next-row, row-ten}
 use borrow.Author.Needs.{needs}
 use Rattle.report.proofs.judge_all.Statement.{statement}
@@ -44,13 +45,7 @@ detail-of-requires : tie.Need-detail-of-requires Inv-loop μ-loop
 detail-of-requires c κs = search needs
 
 row-requires : tie.Need-row-requires Inv-loop μ-loop
-row-requires c κs =
-    let a = c .before .before .before .before .before .before .before .before .before .before .before .args in
-    let p = c .before .before .before .before .before .before .before .before .before .before .before .pre .0 in
-    let t = c .before .before .before .before .before .before .loop in
-    let j = c .before .before .before .judge in
-    let h = row-ten (now (a .edges)) (now (a .steps)) 0 (t .s) (t .i) (j .result) (c .before .number-of .result) (c .detail-of .result) (j .ensures .0 ∙ ap (judgeOf (now (a .edges)) (t .s)) (c .before .before .before .before .step-at .ensures)) (c .before .number-of .ensures) (c .detail-of .ensures) (omega arith) in
-    omega arith
+row-requires c κs = search needs
 
 add-i : tie.Need-add-i Inv-loop μ-loop
 add-i c = search needs
@@ -71,9 +66,10 @@ loop-again c =
     let ej = j .ensures .0 ∙ ap (judgeOf (now (a .edges)) (t .s)) (c .before .before .before .before .before .before .before .before .step-at .ensures) in
     let h = row-ten (now (a .edges)) (now (a .steps)) n (t .s) (t .i) (j .result) (m .result) (d .result) ej (m .ensures) (d .ensures) (omega arith) in
     let e = next-row (now (a .edges)) (now (a .steps)) n (t .s) (t .i) (j .result) (m .result) (d .result) ej (m .ensures) (d .ensures) (omega arith) in
-    let k = ap length (r .ensures .1) ∙ length-sets _ _ (row (t .i + 2) (m .result) (d .result)) in
+    let z = stored-at (t .out) (t .next) (row (t .i + 2) (m .result) (d .result)) (omega arith) (r .ensures .0) (r .ensures .1) in
+    let k = ap length (z .1) ∙ length-sets _ _ (row (t .i + 2) (m .result) (d .result)) in
     let g = ap length e ∙ length-append (row (t .i + 2) (m .result) (d .result)) _ in
-    (omega arith, (omega arith, (omega arith, (omega arith, rw (r .ensures .1, r .ensures .0) (sym (sets-append _ _ (row (t .i + 2) (m .result) (d .result)) _) ∙ ap (sets (t .out) (t .next)) (sym e) ∙ t .inv .1 .1 .1 .1)))))
+    (omega arith, (omega arith, (omega arith, (omega arith, rw (z .1, z .0) (sym (sets-append _ _ (row (t .i + 2) (m .result) (d .result)) _) ∙ ap (sets (t .out) (t .next)) (sym e) ∙ t .inv .1 .1 .1 .1)))))
 
 same-length : tie.Need-same-length Inv-loop μ-loop
 same-length c = search needs

@@ -10,6 +10,8 @@ use Rattle.usage.specs.Tables.{edgesOf, nodesOf, EdgeTable, NodeTable}
 use Rattle.modelcheck.specs.Promise.{told}
 use Rattle.report.proofs.ReadLaws.{outline-held, outline-refused-as}
 use Rattle.report.proofs.OutlinePuts.{eight, refused-eight, put-checked, put-refused}
+use Rattle.printing.specs.Lines.{row}
+use Rattle.printing.proofs.FitLaws.{stored-at}
 use borrow.Author.Needs.{needs}
 use Rattle.report.proofs.outline_row.Statement.{statement}
 use Rattle.report.proofs.outline_row.Tie as tie
@@ -62,12 +64,7 @@ cast-row : tie.Need-cast-row
 cast-row c = search needs
 
 row-requires : tie.Need-row-requires
-row-requires c κs =
-    let m = c .before .outcome-number in
-    let d = c .outcome-detail in
-    let p = c .before .before .before .before .before .before .before .before .before .before .before .before .before .before .before .pre .1 in
-    let b : Fits w8 (d .result) = search needs in
-    omega (arith, eight (told (c .before .before .before .check .result)) (m .result) (d .result) (m .ensures) (d .ensures) (b .fits))
+row-requires c κs = search needs
 
 enum-known-reading-2 : tie.Need-enum-known-reading-2
 enum-known-reading-2 c = search needs
@@ -76,13 +73,7 @@ cast-row-2 : tie.Need-cast-row-2
 cast-row-2 c = search needs
 
 row-requires-2 : tie.Need-row-requires-2
-row-requires-2 c κs =
-    let a = c .before .before .before .before .before .before .before .before .before .before .args in
-    let r = c .before .before .before .before .before .read-outline in
-    let g = c .before .before .reading2 .given in
-    let p = c .before .before .before .before .before .before .before .before .before .before .pre .1 in
-    let z = outline-refused-as (now (a .text)) (g .0 .0) (g .0 .1 .0) (rw (g .1) at (r .ensures .0)) in
-    omega (arith, refused-eight (now (a .text)) (g .0 .0) (g .0 .1 .0) z)
+row-requires-2 c κs = search needs
 
 same-length : tie.Need-same-length
 same-length c = search needs
@@ -101,7 +92,10 @@ returns c =
     let k = c .before .before .before .before .before .before .check in
     let p = c .before .before .before .before .before .before .before .before .before .before .before .before .before .before .before .before .before .before .pre in
     let b : Fits w8 (d .result) = search needs in
-    put-checked (now (a .edges)) (now (a .text)) (now (a .out)) (w .last .0) (a .at) (w .result) (p .1) (r .last .1 .0) n h (told (k .result)) (m .result) (d .result) (λ t. k .ensures .0 .right (p .0) t) (m .ensures) (d .ensures) (b .fits) (w .ensures .0) (w .ensures .1)
+    let l = eight (told (k .result)) (m .result) (d .result) (m .ensures) (d .ensures) (b .fits) in
+    let o = p .1 in
+    let v = stored-at (now (a .out)) (a .at) (row 0 (m .result) (d .result)) (omega arith) (w .ensures .0) (w .ensures .1) in
+    put-checked (now (a .edges)) (now (a .text)) (now (a .out)) (w .last .0) (a .at) (w .result) (p .1) (r .last .1 .0) n h (told (k .result)) (m .result) (d .result) (λ t. k .ensures .0 .right (p .0) t) (m .ensures) (d .ensures) (b .fits) (v .0) (v .1)
 
 same-length-2 : tie.Need-same-length-2
 same-length-2 c = search needs
@@ -113,7 +107,10 @@ returns-2 c =
     let g = c .before .before .before .before .before .reading2 .given in
     let w = c .before .before .row2 in
     let z = outline-refused-as (now (a .text)) (g .0 .0) (g .0 .1 .0) (rw (g .1) at (r .ensures .0)) in
-    put-refused (now (a .edges)) (now (a .text)) (now (a .out)) (w .last .0) (a .at) (w .result) (c .before .before .before .before .before .before .before .before .before .before .before .before .before .pre .1) (g .0 .0) (g .0 .1 .0) z (w .ensures .0) (w .ensures .1)
+    let l = refused-eight (now (a .text)) (g .0 .0) (g .0 .1 .0) z in
+    let o = c .before .before .before .before .before .before .before .before .before .before .before .before .before .pre .1 in
+    let v = stored-at (now (a .out)) (a .at) (row (g .0 .0) 5 (g .0 .1 .0)) (omega arith) (w .ensures .0) (w .ensures .1) in
+    put-refused (now (a .edges)) (now (a .text)) (now (a .out)) (w .last .0) (a .at) (w .result) o (g .0 .0) (g .0 .1 .0) z (v .0) (v .1)
 
 pub outline-row-spec : {M : Type 1} → statement M
 outline-row-spec =

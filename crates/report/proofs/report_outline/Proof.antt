@@ -4,11 +4,12 @@ use Prim.Native.Nat.{_≤_}
 use denote.Ref.{now}
 use lib.ListN.{length}
 use lib.Seq.{length-sets}
-use Rattle.report.specs.Lines.{names-line}
+use Rattle.printing.specs.Lines.{names-line, row}
 use Rattle.report.specs.Outline.{no-room}
 use Rattle.report.proofs.ReadLaws.{policies-held, policies-refused}
-use Rattle.report.proofs.RowLaws.{length-names}
+use Rattle.printing.proofs.RowLaws.{length-names, names-stored}
 use Rattle.report.proofs.OutlinePuts.{edges-held, put-outline, put-policies, policies-eight}
+use Rattle.printing.proofs.FitLaws.{stored-at}
 use borrow.Author.Needs.{needs}
 use Rattle.report.proofs.report_outline.Statement.{statement}
 use Rattle.report.proofs.report_outline.Tie as tie
@@ -64,7 +65,8 @@ outline-row-requires c κs =
     let n = g .0 .0 in
     let h = policies-held (now (a .policies)) (p .last .1 .0) n (rw (g .1) at (p .ensures .0)) (p .ensures .1) in
     let w = c .before .before .before .before .before .before .before .before .before .before .before .names in
-    let k = ap length (w .ensures .1) ∙ length-sets _ _ names-line in
+    let o = names-stored (now (a .out)) (omega arith) (w .ensures .0) (w .ensures .1) in
+    let k = ap length (o .1) ∙ length-sets _ _ names-line in
     let v : length names-line ≡ 19 = length-names in
     (edges-held (now (a .policies)) (p .last .1 .0) n h, omega arith)
 
@@ -75,15 +77,7 @@ cast-row : tie.Need-cast-row
 cast-row c = search needs
 
 row-requires : tie.Need-row-requires
-row-requires c κs =
-    let a = c .before .before .before .before .before .before .before .before .before .before .before .before .before .before .before .args in
-    let p = c .before .before .before .before .before .read-policies in
-    let g = c .before .before .reading2 .given in
-    let w = c .before .before .before .before .before .before .before .before .before .names in
-    let k = ap length (w .ensures .1) ∙ length-sets _ _ names-line in
-    let v : length names-line ≡ 19 = length-names in
-    let z = policies-refused (now (a .policies)) (g .0 .0) (g .0 .1 .0) (rw (g .1) at (p .ensures .0)) in
-    omega (arith, policies-eight (now (a .policies)) (g .0 .0) (g .0 .1 .0) z)
+row-requires c κs = search needs
 
 same-length : tie.Need-same-length
 same-length c = search needs
@@ -97,9 +91,10 @@ returns-2 c =
     let h = policies-held (now (a .policies)) (p .last .1 .0) n (rw (g .1) at (p .ensures .0)) (p .ensures .1) in
     let w = c .before .before .before .before .before .before .before .before .before .before .before .before .before .before .names in
     let t = c .before .before .outline-row in
-    let k = ap length (w .ensures .1) ∙ length-sets _ _ names-line in
+    let o = names-stored (now (a .out)) (omega arith) (w .ensures .0) (w .ensures .1) in
+    let k = ap length (o .1) ∙ length-sets _ _ names-line in
     let l = t .ensures .room in
-    put-outline (now (a .policies)) (now (a .outline)) (now (a .out)) _ _ (c .before .before .before .before .before .before .before .before .before .before .before .before .before .before .before .before .if1 .left) (p .last .1 .0) n h (rw (w .ensures .0, w .ensures .1) at (t .ensures)) (omega arith)
+    put-outline (now (a .policies)) (now (a .outline)) (now (a .out)) _ _ (c .before .before .before .before .before .before .before .before .before .before .before .before .before .before .before .before .if1 .left) (p .last .1 .0) n h (rw (o .0, o .1) at (t .ensures)) (omega arith)
 
 same-length-2 : tie.Need-same-length-2
 same-length-2 c = search needs
@@ -114,7 +109,10 @@ returns-3 c =
     let z = policies-refused (now (a .policies)) (g .0 .0) (g .0 .1 .0) (rw (g .1) at (p .ensures .0)) in
     let q = policies-eight (now (a .policies)) (g .0 .0) (g .0 .1 .0) z in
     let v : length names-line ≡ 19 = length-names in
-    put-policies (now (a .policies)) (now (a .outline)) (now (a .out)) _ _ (c .before .before .before .before .before .before .before .before .before .before .before .before .before .before .if1 .left) (g .0 .0) (g .0 .1 .0) z (rw (w .ensures .0) at (t .ensures .0)) (omega arith) (rw (w .ensures .0, w .ensures .1) at (t .ensures .1))
+    let o = names-stored (now (a .out)) (omega arith) (w .ensures .0) (w .ensures .1) in
+    let k = ap length (o .1) ∙ length-sets _ _ names-line in
+    let b = stored-at (w .last .0) (w .result) (row (g .0 .0) 3 (g .0 .1 .0)) (omega arith) (t .ensures .0) (t .ensures .1) in
+    put-policies (now (a .policies)) (now (a .outline)) (now (a .out)) _ _ (c .before .before .before .before .before .before .before .before .before .before .before .before .before .before .if1 .left) (g .0 .0) (g .0 .1 .0) z (rw (o .0) at (b .0)) (omega arith) (rw (o .0, o .1) at (b .1))
 
 pub report-outline-spec : {M : Type 1} → statement M
 report-outline-spec =

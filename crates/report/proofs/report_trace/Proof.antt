@@ -6,12 +6,13 @@ use mir.Syntax.{w8, w64}
 use mir.Val.{Fits}
 use lib.ListN.{length}
 use lib.Seq.{length-sets}
-use Rattle.report.specs.Lines.{names-line, row}
+use Rattle.printing.specs.Lines.{names-line, row}
 use Rattle.report.specs.Trace.{tracePrinted}
 use Rattle.report.proofs.ReadLaws.{policies-held, policies-refused}
 use Rattle.report.proofs.RoomLaws.{no-room, two-parts}
-use Rattle.report.proofs.RowLaws.{row-fits, length-names}
+use Rattle.printing.proofs.RowLaws.{row-fits, length-names, names-stored}
 use Rattle.report.proofs.TraceLaws.{printed-held, printed-refused}
+use Rattle.printing.proofs.FitLaws.{stored-at}
 use borrow.Author.Needs.{needs}
 use Rattle.report.proofs.report_trace.Statement.{statement}
 use Rattle.report.proofs.report_trace.Tie as tie
@@ -63,8 +64,10 @@ part-trace-rows-end c =
 
 trace-rows-requires : tie.Need-trace-rows-requires
 trace-rows-requires c κs =
+    let a = c .before .before .before .before .before .before .before .before .before .before .before .before .before .before .before .before .before .args in
     let w = c .before .before .before .before .before .before .before .before .before .before .before .names in
-    let k = ap length (w .ensures .1) ∙ length-sets _ _ names-line in
+    let o = names-stored (now (a .out)) (omega arith) (w .ensures .0) (w .ensures .1) in
+    let k = ap length (o .1) ∙ length-sets _ _ names-line in
     let v : length names-line ≡ 19 = length-names in
     omega arith
 
@@ -75,14 +78,7 @@ cast-row : tie.Need-cast-row
 cast-row c = search needs
 
 row-requires : tie.Need-row-requires
-row-requires c κs =
-    let g = c .before .before .reading2 .given in
-    let w = c .before .before .before .before .before .before .before .before .before .names in
-    let k = ap length (w .ensures .1) ∙ length-sets _ _ names-line in
-    let v : length names-line ≡ 19 = length-names in
-    let l : Fits w64 (g .0 .0) = search needs in
-    let m : Fits w8 (g .0 .1 .0) = search needs in
-    omega (arith, row-fits (g .0 .0) 3 (g .0 .1 .0) (l .fits) (omega arith) (m .fits))
+row-requires c κs = search needs
 
 same-length : tie.Need-same-length
 same-length c = search needs
@@ -97,9 +93,10 @@ returns-2 c =
     let f : n ≤ 256 = h .few in
     let w = c .before .before .before .before .before .before .before .before .before .before .before .before .before .before .names in
     let t = c .before .before .trace-rows in
-    let k = ap length (w .ensures .1) ∙ length-sets _ _ names-line in
+    let o = names-stored (now (a .out)) (omega arith) (w .ensures .0) (w .ensures .1) in
+    let k = ap length (o .1) ∙ length-sets _ _ names-line in
     let e = printed-held (now (a .policies)) (now (a .trace)) (p .last .1 .0) n h in
-    rw e (two-parts 20019 (now (a .out)) names-line _ _ _ (c .before .before .before .before .before .before .before .before .before .before .before .before .before .before .before .before .if1 .left) (rw (w .ensures .0) at (t .ensures .0)) (omega arith) (rw (w .ensures .0, w .ensures .1) at (t .ensures .1 .0)))
+    rw e (two-parts 20019 (now (a .out)) names-line _ _ _ (c .before .before .before .before .before .before .before .before .before .before .before .before .before .before .before .before .if1 .left) (rw (o .0) at (t .ensures .0)) (omega arith) (rw (o .0, o .1) at (t .ensures .1 .0)))
 
 same-length-2 : tie.Need-same-length-2
 same-length-2 c = search needs
@@ -117,7 +114,10 @@ returns-3 c =
     let z = policies-refused (now (a .policies)) (g .0 .0) (g .0 .1 .0) (rw (g .1) at (p .ensures .0)) in
     let e = printed-refused (now (a .policies)) (now (a .trace)) (g .0 .0) (g .0 .1 .0) z in
     let v : length names-line ≡ 19 = length-names in
-    rw e (two-parts 20019 (now (a .out)) names-line (row (g .0 .0) 3 (g .0 .1 .0)) _ _ (c .before .before .before .before .before .before .before .before .before .before .before .before .before .before .if1 .left) (rw (w .ensures .0) at (t .ensures .0)) (omega arith) (rw (w .ensures .0, w .ensures .1) at (t .ensures .1)))
+    let o = names-stored (now (a .out)) (omega arith) (w .ensures .0) (w .ensures .1) in
+    let k = ap length (o .1) ∙ length-sets _ _ names-line in
+    let b = stored-at (w .last .0) (w .result) (row (g .0 .0) 3 (g .0 .1 .0)) (omega arith) (t .ensures .0) (t .ensures .1) in
+    rw e (two-parts 20019 (now (a .out)) names-line (row (g .0 .0) 3 (g .0 .1 .0)) _ _ (c .before .before .before .before .before .before .before .before .before .before .before .before .before .before .if1 .left) (rw (o .0) at (b .0)) (omega arith) (rw (o .0, o .1) at (b .1)))
 
 pub report-trace-spec : {M : Type 1} → statement M
 report-trace-spec =

@@ -5,7 +5,9 @@ use mir.Syntax.{w8, w64}
 use mir.Val.{Fits}
 use lib.ListN.{length-take}
 use Rattle.report.proofs.ReadLaws.{trace-held, trace-refused}
-use Rattle.report.proofs.RowLaws.{row-fits}
+use Rattle.printing.specs.Lines.{row}
+use Rattle.printing.proofs.RowLaws.{row-fits}
+use Rattle.printing.proofs.FitLaws.{stored-at}
 use Rattle.report.proofs.TraceLaws.{rows-held, row-refused}
 use borrow.Author.Needs.{needs}
 use Rattle.report.proofs.trace_rows.Statement.{statement}
@@ -64,11 +66,7 @@ cast-row : tie.Need-cast-row
 cast-row c = search needs
 
 row-requires : tie.Need-row-requires
-row-requires c κs =
-    let g = c .before .before .reading2 .given in
-    let l : Fits w64 (g .0 .0) = search needs in
-    let m : Fits w8 (g .0 .1 .0) = search needs in
-    omega (arith, row-fits (g .0 .0) 4 (g .0 .1 .0) (l .fits) (omega arith) (m .fits))
+row-requires c κs = search needs
 
 same-length : tie.Need-same-length
 same-length c = search needs
@@ -98,7 +96,9 @@ returns-2 c =
     let e = row-refused (now (a .edges)) (now (a .text)) (r .last .1 .0) (g .0 .0) (g .0 .1 .0) z in
     let l : Fits w64 (g .0 .0) = search needs in
     let m : Fits w8 (g .0 .1 .0) = search needs in
-    (rw e (w .ensures .0), (rw e (w .ensures .1), omega (arith, row-fits (g .0 .0) 4 (g .0 .1 .0) (l .fits) (omega arith) (m .fits))))
+    let k = row-fits (g .0 .0) 4 (g .0 .1 .0) (l .fits) (omega arith) (m .fits) in
+    let v = stored-at (now (a .out)) (a .at) (row (g .0 .0) 4 (g .0 .1 .0)) (omega arith) (w .ensures .0) (w .ensures .1) in
+    (rw e (v .0), (rw e (v .1), omega arith))
 
 pub trace-rows-spec : {M : Type 1} → statement M
 trace-rows-spec =

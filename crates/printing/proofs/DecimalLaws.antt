@@ -7,7 +7,7 @@ use native.Mathlib.Omega.{arith}
 use lib.Dec.{ltb}
 use lib.ListN.{length, length-append}
 use borrow.Author.Tests.{lt-ltb, le-ltb, ltb-true, ltb-false}
-use Rattle.report.specs.Decimal.{digit, spelled, decimal}
+use Rattle.printing.specs.Decimal.{digit, spelled, decimal}
 
 -- one digit
 pub decimal-one : (n : ℕ) → n < 10 → decimal n ≡ digit n ∷ []

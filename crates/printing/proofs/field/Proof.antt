@@ -1,12 +1,12 @@
 use lib.Seq.{length-sets}
-use Rattle.report.specs.Decimal.{decimal}
-use Rattle.report.proofs.PutLaws.{length-field, sets-field}
+use Rattle.printing.specs.Decimal.{decimal}
+use Rattle.printing.proofs.PutLaws.{length-field, sets-field}
 use native.Mathlib.Omega.{arith}
 use mathlib.Core.Path.{sym, ap, _∙_}
 use lib.ListN.{length}
 use borrow.Author.Needs.{needs}
-use Rattle.report.proofs.field.Statement.{statement}
-use Rattle.report.proofs.field.Tie as tie
+use Rattle.printing.proofs.field.Statement.{statement}
+use Rattle.printing.proofs.field.Tie as tie
 
 number-requires : tie.Need-number-requires
 number-requires c κs =

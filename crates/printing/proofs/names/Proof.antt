@@ -1,20 +1,29 @@
+use denote.Ref.{now}
 use lib.Seq.{sets}
 use native.Mathlib.Numerals.{add-one}
-use Rattle.report.specs.Lines.{names-line}
-use Rattle.report.proofs.PutLaws.{sets-further}
+use Rattle.printing.specs.Lines.{names-line}
+use Rattle.printing.proofs.PutLaws.{sets-further}
+use Rattle.printing.proofs.FitLaws.{put-fits, end-fits, put-lacks, end-lacks}
 use native.Mathlib.Omega.{arith}
-use mathlib.Core.Path.{_≡_}
-use Prim.Native.Nat.{_-_, _≤_}
+use mathlib.Core.Path.{_≡_, sym, _∙_}
+use Prim.Native.Nat.{_-_, _≤_, _<_}
 use lib.ListN.{length, take}
 use borrow.Author.Needs.{needs}
-use Rattle.report.proofs.names.Statement.{statement}
-use Rattle.report.proofs.names.Tie as tie
+use Rattle.printing.proofs.names.Statement.{statement}
+use Rattle.printing.proofs.names.Tie as tie
 
 abbrev Inv-loop : tie.InvT-loop
 Inv-loop out₀ text i₀ out i = (i ≤ 19) × ((length out ≡ length out₀) × (out ≡ sets out₀ 0 (take i names-line)))
 
 abbrev μ-loop : tie.MeasureT-loop
 μ-loop out₀ text i₀ out i = 19 - i
+
+returns : tie.Need-returns Inv-loop μ-loop
+unfolding names-line
+returns c =
+    let b = now (c .before .args .out) in
+    let l : length b < 19 = omega arith in
+    (sym (end-lacks 19 b 0 names-line l), sym (put-lacks 19 b 0 names-line l))
 
 loop-holds : tie.Need-loop-holds Inv-loop μ-loop
 loop-holds c = search needs
@@ -41,11 +50,14 @@ loop-again c =
 same-length : tie.Need-same-length Inv-loop μ-loop
 same-length c = search needs
 
-returns : tie.Need-returns Inv-loop μ-loop
+returns-2 : tie.Need-returns-2 Inv-loop μ-loop
 unfolding names-line
-returns c =
-    let e : c .before .loop .i ≡ 19 = omega arith in
-    (e, rw e at (c .before .loop .inv .1 .1))
+returns-2 c =
+    let t = c .before .loop in
+    let b = now (c .before .before .before .before .args .out) in
+    let l : 19 ≤ length b = omega arith in
+    let e : t .i ≡ 19 = omega arith in
+    (e ∙ sym (end-fits 19 b 0 names-line l), (rw e at (t .inv .1 .1)) ∙ sym (put-fits 19 b 0 names-line l))
 
 pub names-spec : {M : Type 1} → statement M
 names-spec =
@@ -53,6 +65,7 @@ names-spec =
     (tie.spec
     Inv-loop
     μ-loop
+    returns
     loop-holds
     element-copy-out-out
     slice-write-out
@@ -60,4 +73,4 @@ names-spec =
     loop-less
     loop-again
     same-length
-    returns)
+    returns-2)

@@ -3,7 +3,7 @@ use Prim.Native.Nat.{ℕ, suc}
 use mathlib.Core.List.{List, [], _∷_, _++_}
 use Rattle.usage.specs.Answers.{Verdict, answer, detail, Refusal}
 use Rattle.lines.specs.Bytes.{bytes}
-use Rattle.report.specs.Decimal.{decimal}
+use Rattle.printing.specs.Decimal.{decimal}
 
 -- "It prints `line answer detail`"
 unfoldable pub names-line : List ℕ

@@ -7,8 +7,8 @@ use lib.ListN.{length, take, drop, set}
 use lib.Seq.{sets, sets-eq, take-suc, length-take-le}
 use lib.ListN.{length-append, getD}
 use native.Mathlib.Omega.{arith}
-use Rattle.report.specs.Decimal.{decimal}
-use Rattle.report.specs.Lines.{field, row}
+use Rattle.printing.specs.Decimal.{decimal}
+use Rattle.printing.specs.Lines.{field, row}
 
 -- one run after another
 pub sets-append : (l : List ℕ) (i : ℕ) (vs ws : List ℕ) → sets l i (vs ++ ws) ≡ sets (sets l i vs) (i + length vs) ws
@@ -55,3 +55,9 @@ unfolding row
 sets-row l i line answer detail =
     sets-append l i (field line 32) (field answer 32 ++ field detail 10)
     ∙ sets-append (sets l i (field line 32)) (i + length (field line 32)) (field answer 32) (field detail 10)
+
+-- the three numbers, and a byte after each
+pub length-digits : (line answer detail : ℕ)
+    → length (row line answer detail) ≡ length (decimal line) + length (decimal answer) + length (decimal detail) + 3
+length-digits line answer detail =
+    omega (arith, length-row line answer detail, length-field line 32, length-field answer 32, length-field detail 10)

@@ -1,12 +1,17 @@
 -- How long a line is at most.
 use Prim.Native.Nat.{ℕ, _≤_, _<_}
-use mathlib.Core.Path.{_≡_, refl}
+use mathlib.Core.Path.{_≡_, refl, _∙_}
+use mathlib.Core.List.{List}
+use native.Mathlib.Nat.{zero-add}
 use native.Mathlib.Omega.{arith}
 use lib.ListN.{length}
+use lib.Seq.{sets}
 use Rattle.usage.specs.Answers.{Verdict, allowed, violated, refused, answer, detail}
-use Rattle.report.specs.Lines.{names-line, row, verdict-row}
-use Rattle.report.proofs.DecimalLaws.{length-below}
-use Rattle.report.proofs.PutLaws.{length-field, length-row}
+use Rattle.printing.specs.Lines.{names-line, row, verdict-row}
+use Rattle.printing.proofs.DecimalLaws.{length-below}
+use Rattle.printing.specs.Put.{put-at, end-at}
+use Rattle.printing.proofs.PutLaws.{length-field, length-row}
+use Rattle.printing.proofs.FitLaws.{stored-at}
 
 -- the numbers of any line that the functions print fit in 64, 8 and 8 bits
 pub row-fits : (line answer detail : ℕ) → line < 18446744073709551616 → answer < 10 → detail < 256 → length (row line answer detail) ≤ 27
@@ -43,6 +48,13 @@ verdict-short line v h l = row-short line (answer v) (detail v) h (answer-small 
 pub length-names : length names-line ≡ 19
 unfolding names-line
 length-names = refl
+
+-- of the numbers that the function returns
+pub names-stored : {r : ℕ} {after : List ℕ} (buffer : List ℕ) → 19 ≤ length buffer → r ≡ end-at buffer 0 names-line → after ≡ put-at buffer 0 names-line
+    → (r ≡ length names-line) × (after ≡ sets buffer 0 names-line)
+names-stored buffer h e t =
+    let z = stored-at buffer 0 names-line (rw (zero-add (length names-line), length-names) h) e t in
+    (z .0 ∙ zero-add (length names-line), z .1)
 
 pub verdict-eight : (v : Verdict) → detail v < 256 → length (verdict-row 0 v) ≤ 8
 verdict-eight v h =

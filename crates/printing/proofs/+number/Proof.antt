@@ -3,18 +3,18 @@ use mathlib.Core.Path.{refl, sym, ap, _∙_}
 use Prim.Native.Nat.{_/_}
 use lib.ListN.{length}
 use lib.Seq.{length-sets}
-use Rattle.report.specs.Decimal.{decimal}
-use Rattle.report.proofs.DecimalLaws.{decimal-one, decimal-more, length-one, length-more}
-use Rattle.report.proofs.PutLaws.{sets-snoc}
+use Rattle.printing.specs.Decimal.{decimal}
+use Rattle.printing.proofs.DecimalLaws.{decimal-one, decimal-more, length-one, length-more}
+use Rattle.printing.proofs.PutLaws.{sets-snoc}
 use borrow.Author.Needs.{needs}
 use Prim.Native.Nat.{ℕ, _<_}
 use borrow.Fn.Kinds.{In}
 use borrow.Fn.PlainCycle.{Measures, is, falls, and}
-use Rattle.report.proofs.number.Reads as number
-use Rattle.report.proofs.number.Kinds as number-kinds
-use Rattle.report.proofs.+number.Lts-number as number-lts
-use Rattle.report.proofs.+number.{statement}
-use Rattle.report.proofs.+number.Tie.{close}
+use Rattle.printing.proofs.number.Reads as number
+use Rattle.printing.proofs.number.Kinds as number-kinds
+use Rattle.printing.proofs.+number.Lts-number as number-lts
+use Rattle.printing.proofs.+number.{statement}
+use Rattle.printing.proofs.+number.Tie.{close}
 
 abbrev μ-number : Measures 1 number-kinds.ps ℕ
 μ-number κs a = a .1 .1 .0
@@ -37,7 +37,7 @@ number-slice-write-out :
     (t : ℕ) →
     number-lts.Need-slice-write-out (number-below t, number.Post) (number-at t) number.Post
 number-slice-write-out t c =
-    omega (arith, length-one (c .before .before .args .n) (c .if1 .taken))
+    omega (arith, length-one (c .before .before .args .n) (omega arith))
 
 number-add-result :
     (t : ℕ) → number-lts.Need-add-result (number-below t, number.Post) (number-at t) number.Post
@@ -51,15 +51,16 @@ number-returns :
     (t : ℕ) → number-lts.Need-returns (number-below t, number.Post) (number-at t) number.Post
 number-returns t c =
     let n = c .before .before .args .n in
-    let e = length-one n (c .if1 .taken) in
-    (omega arith, rw (decimal-one n (c .if1 .taken)) refl)
+    let l : n < 10 = omega arith in
+    let e = length-one n l in
+    (omega arith, rw (decimal-one n l) refl)
 
 number-number-requires :
     (t : ℕ) →
     number-lts.Need-number-requires (number-below t, number.Post) (number-at t) number.Post
 number-number-requires t c κs =
     let n = c .before .before .before .args .n in
-    let e = length-more n (c .before .if1 .left) in
+    let e = length-more n (omega arith) in
     (omega arith, omega arith)
 
 number-cast-out-2 :
@@ -76,7 +77,7 @@ number-slice-write-out-2 : (t : ℕ) → number-lts.Need-slice-write-out-2 (
 ) (number-at t) number.Post
 number-slice-write-out-2 t c =
     let n = c .before .before .before .before .before .before .args .n in
-    let e = length-more n (c .before .before .before .before .if1 .left) in
+    let e = length-more n (omega arith) in
     let k = ap length (c .before .before .number .ensures .1) ∙ length-sets _ _ (decimal (n / 10)) in
     omega arith
 
@@ -84,7 +85,7 @@ number-add-result-2 :
     (t : ℕ) → number-lts.Need-add-result-2 (number-below t, number.Post) (number-at t) number.Post
 number-add-result-2 t c =
     let n = c .before .before .before .before .before .before .args .n in
-    let e = length-more n (c .before .before .before .before .if1 .left) in
+    let e = length-more n (omega arith) in
     let k = ap length (c .before .before .number .ensures .1) ∙ length-sets _ _ (decimal (n / 10)) in
     search needs
 
@@ -97,10 +98,9 @@ number-returns-2 :
     (t : ℕ) → number-lts.Need-returns-2 (number-below t, number.Post) (number-at t) number.Post
 number-returns-2 t c =
     let n = c .before .before .before .before .before .before .args .n in
-    let e = length-more n (c .before .before .before .before .if1 .left) in
+    let e = length-more n (omega arith) in
     let k = ap length (c .before .before .number .ensures .1) ∙ length-sets _ _ (decimal (n / 10)) in
-    let l = c .before .before .before .before .if1 .left in
-    (omega arith, rw (c .before .before .number .ensures .1, c .before .before .number .ensures .0, decimal-more n l) (sym (sets-snoc _ _ (decimal (n / 10)) _)))
+    (omega arith, rw (c .before .before .number .ensures .1, c .before .before .number .ensures .0, decimal-more n (omega arith)) (sym (sets-snoc _ _ (decimal (n / 10)) _)))
 
 pub +number-spec : {M : Type 1} → statement M
 +number-spec =

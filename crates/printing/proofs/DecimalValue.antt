@@ -7,8 +7,8 @@ use native.Mathlib.Omega.{arith}
 use lib.Dec.{ltb}
 use lib.ListN.{length, getD, List·getD-append}
 use borrow.Author.Tests.{ltb-true, ltb-false}
-use Rattle.report.specs.Decimal.{digit, decimal}
-use Rattle.report.proofs.DecimalLaws.{decimal-one, decimal-more, length-one, length-more}
+use Rattle.printing.specs.Decimal.{digit, decimal}
+use Rattle.printing.proofs.DecimalLaws.{decimal-one, decimal-more, length-one, length-more}
 
 -- the value of the digits bs after a number n
 unfoldable pub value : ℕ → List ℕ → ℕ
