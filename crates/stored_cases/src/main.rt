@@ -3,6 +3,7 @@
 ghost use mathlib.Core.Path.{_≡_};
 ghost use mathlib.Core.List.{[], _∷_};
 ghost use Prim.Native.Nat.{_+_, _%_, _/_};
+ghost use Rattle.io.specs.Counts.{Counts};
 use libc::STDOUT_FILENO;
 
 // the last digit of n
@@ -17,8 +18,8 @@ struct Path {
 }
 
 // The name of a sheet of case n: a folder, the number, which sheet.
-fn name(folder: u8, n: u64, sheet: u8) -> Path
-    ensures { λ r. ⌜ r .bytes ≡ folder ∷ 47 ∷ (48 + n / 1000 % 10) ∷ (48 + n / 100 % 10) ∷ (48 + n / 10 % 10) ∷ (48 + n % 10) ∷ sheet ∷ [] ⌝ }
+fn name(folder: u8, n: u64, which: u8) -> Path
+    ensures { λ r. ⌜ r .bytes ≡ folder ∷ 47 ∷ (48 + n / 1000 % 10) ∷ (48 + n / 100 % 10) ∷ (48 + n / 10 % 10) ∷ (48 + n % 10) ∷ which ∷ [] ⌝ }
 {
     let bytes = [
         folder,
@@ -27,7 +28,7 @@ fn name(folder: u8, n: u64, sheet: u8) -> Path
         digit(n / 100),
         digit(n / 10),
         digit(n),
-        sheet,
+        which,
     ];
     Path { bytes }
 }
@@ -42,18 +43,23 @@ fn announced(n: u64) -> u64
     n
 }
 
+// A sheet of case n, read; how many bytes it has.
+fn sheet(folder: u8, n: u64, which: u8, text: &mut [u8]) -> usize
+    ensures { λ r. ⌜ Counts r (now (text .exit)) ⌝ }
+{
+    let path = name(folder, n, which);
+    let bytes = path.bytes;
+    files::read_file(&bytes, text)
+}
+
 fn trace_case(n: u64) -> u64
     ensures { λ r. ⌜ r ≡ n ⌝ }
 {
     let mut policies = [0u8; 32769];
     let mut trace = [0u8; 32769];
     let mut out = [0u8; 20019];
-    let a = name(b't', n, b'p');
-    let first = a.bytes;
-    let b = name(b't', n, b't');
-    let second = b.bytes;
-    let p = files::read_file(&first, &mut policies);
-    let t = files::read_file(&second, &mut trace);
+    let p = sheet(b't', n, b'p', &mut policies);
+    let t = sheet(b't', n, b't', &mut trace);
     let k = report::report_trace(&policies[..p], &trace[..t], &mut out);
     announced(n);
     files::print(&out, k);
@@ -66,12 +72,8 @@ fn outline_case(n: u64) -> u64
     let mut policies = [0u8; 32769];
     let mut outline = [0u8; 32769];
     let mut out = [0u8; 27];
-    let a = name(b'o', n, b'p');
-    let first = a.bytes;
-    let b = name(b'o', n, b'o');
-    let second = b.bytes;
-    let p = files::read_file(&first, &mut policies);
-    let o = files::read_file(&second, &mut outline);
+    let p = sheet(b'o', n, b'p', &mut policies);
+    let o = sheet(b'o', n, b'o', &mut outline);
     let k = report::report_outline(&policies[..p], &outline[..o], &mut out);
     announced(n);
     files::print(&out, k);
