@@ -6,18 +6,18 @@ ghost use mathlib.Core.Bool.{true, false};
 ghost use lib.ListN.{length, replicate};
 ghost use Rattle.usage.specs.declared.Edge.{Edge};
 ghost use Rattle.usage.specs.Tables.{edgesOf};
+ghost use Rattle.automaton.specs.Mask.{single};
 ghost use Rattle.automaton.specs.Move.{rowsOf};
 ghost use Rattle.automaton.specs.Rows.{endOf, joined, endsOf, stayed};
 
-// A set joined to what stands at a state of a policy.
-fn join(table: &mut [u8; 64], policy: u8, from: u8, m: u8)
-    ensures { λ r. ⌜ now (table .exit) ≡ joined (now (table .entry)) policy from m ⌝ }
+// The end of an edge, joined to what stands at its state of its policy. One test for the three numbers: each is below 8 exactly where
+// their union as bits is; where one is not, the edge has no place or no end.
+fn join(table: &mut [u8; 64], policy: u8, from: u8, to: u8)
+    ensures { λ r. ⌜ now (table .exit) ≡ joined (now (table .entry)) policy from (single to) ⌝ }
 {
-    if policy < 8 {
-        if from < 8 {
-            let k = policy as usize * 8 + from as usize;
-            table[k] = table[k] | m;
-        }
+    if (policy | from | to) < 8 {
+        let k = policy as usize * 8 + from as usize;
+        table[k] = table[k] | 1u8 << (to as u32);
     }
 }
 
@@ -36,19 +36,18 @@ fn follow(
     ensures { λ r. ⌜ now (own .exit) ≡ joined (now (own .entry)) policy from (endOf on who to true resource) ⌝ }
     ensures { λ r. ⌜ now (other .exit) ≡ joined (now (other .entry)) policy from (endOf on who to false resource) ⌝ }
 {
-    let end = automaton::single(to);
     if on == 1 {
-        join(own, policy, from, end);
+        join(own, policy, from, to);
         return;
     }
     if on == 2 {
-        join(other, policy, from, end);
+        join(other, policy, from, to);
         return;
     }
     if on == 0 {
         if resource == who as u32 {
-            join(own, policy, from, end);
-            join(other, policy, from, end);
+            join(own, policy, from, to);
+            join(other, policy, from, to);
         }
     }
 }
@@ -95,7 +94,7 @@ fn stay(table: &mut [u8; 64])
     let mut k: usize = 0;
     while k < 64 {
         if table[k] == 0 {
-            table[k] = 1u8 << ((k % 8) as u32);
+            table[k] = automaton::single((k % 8) as u8);
         }
         k += 1;
     }

@@ -1,31 +1,23 @@
 -- `follow` meets its contract. One way for each kind of label; the table of an instance that does not match is joined the empty set.
 use mathlib.Core.Bool.{true, false}
-use mathlib.Core.Path.{_≡_, sym, ap, _∙_}
+use mathlib.Core.Path.{_≡_, sym}
 use borrow.Author.Tests.{eq-eqb, ne-eqb}
 use borrow.Author.Needs.{needs}
-use Rattle.automaton.specs.Rows.{joined}
 use Rattle.automaton.proofs.RowLaws.{label-none, joined-none}
 use Rattle.moves.proofs.follow.Statement.{statement}
 use Rattle.moves.proofs.follow.Tie as tie
-
-single-requires : tie.Need-single-requires
-single-requires c κs = search needs
 
 join-requires : tie.Need-join-requires
 join-requires c κs = search needs
 
 returns : tie.Need-returns
-returns c =
-    let end = c .before .before .before .single .ensures in
-    rw (c .before .before .if1 .taken) (c .join .ensures ∙ ap (joined _ _ _) end, sym (joined-none _ _ _))
+returns c = rw (c .before .before .if1 .taken) (c .join .ensures, sym (joined-none _ _ _))
 
 join-requires-2 : tie.Need-join-requires-2
 join-requires-2 c κs = search needs
 
 returns-2 : tie.Need-returns-2
-returns-2 c =
-    let end = c .before .before .before .before .single .ensures in
-    rw (c .before .before .if2 .taken) (sym (joined-none _ _ _), c .join2 .ensures ∙ ap (joined _ _ _) end)
+returns-2 c = rw (c .before .before .if2 .taken) (sym (joined-none _ _ _), c .join2 .ensures)
 
 join-requires-3 : tie.Need-join-requires-3
 join-requires-3 c κs = search needs
@@ -36,9 +28,7 @@ join-requires-4 c κs = search needs
 returns-3 : tie.Need-returns-3
 returns-3 c =
     let d = c .before .before .before .before in
-    let end = d .before .before .before .before .single .ensures in
-    rw (d .before .if3 .taken)
-    (simp (eq-eqb _ _ (d .if4 .taken)) (c .before .before .join3 .ensures ∙ ap (joined _ _ _) end, c .join4 .ensures ∙ ap (joined _ _ _) end))
+    rw (d .before .if3 .taken) (simp (eq-eqb _ _ (d .if4 .taken)) (c .before .before .join3 .ensures, c .join4 .ensures))
 
 returns-4 : tie.Need-returns-4
 returns-4 c =
@@ -46,7 +36,7 @@ returns-4 c =
 
 returns-5 : tie.Need-returns-5
 returns-5 c =
-    let a = c .before .before .before .before .args in
+    let a = c .before .before .before .args in
     simp (
       label-none (a .on) (a .who) true (a .resource) (c .if3 .left) (c .before .before .if1 .left) (c .before .if2 .left),
       label-none (a .on) (a .who) false (a .resource) (c .if3 .left) (c .before .before .if1 .left) (c .before .if2 .left),
@@ -57,7 +47,6 @@ pub follow-spec : {M : Type 1} → statement M
 follow-spec =
     tie.close
     (tie.spec
-    single-requires
     join-requires
     returns
     join-requires-2

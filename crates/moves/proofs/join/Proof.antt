@@ -1,35 +1,73 @@
 -- `join` meets its contract. A place is written only where there is one.
-use borrow.Author.Tests.{lt-ltb, le-ltb}
+use Prim.Native.Nat.{_<_}
+use borrow.Author.Tests.{lt-ltb}
 use borrow.Author.Needs.{needs}
 use Rattle.automaton.specs.Rows.{joined}
+use Rattle.automaton.proofs.RowLaws.{shifted-single}
+use Rattle.moves.proofs.UnionLaws.{placed, not-placed}
 use Rattle.moves.proofs.join.Statement.{statement}
 use Rattle.moves.proofs.join.Tie as tie
 
 mul-k : tie.Need-mul-k
-mul-k c = search needs
+mul-k c =
+    let a = c .before .args in
+    let h = placed (a .policy) (a .from) (a .to) (c .if1 .taken) in
+    let p : a .policy < 8 = h .policy in
+    search needs
 
 add-k : tie.Need-add-k
-add-k c = search needs
+add-k c =
+    let a = c .before .args in
+    let h = placed (a .policy) (a .from) (a .to) (c .if1 .taken) in
+    let p : a .policy < 8 = h .policy in
+    let q : a .from < 8 = h .state in
+    search needs
 
 element-copy-out-table : tie.Need-element-copy-out-table
-element-copy-out-table c = search needs
+element-copy-out-table c =
+    let a = c .before .args in
+    let h = placed (a .policy) (a .from) (a .to) (c .if1 .taken) in
+    let p : a .policy < 8 = h .policy in
+    let q : a .from < 8 = h .state in
+    search needs
+
+cast-table : tie.Need-cast-table
+cast-table c = search needs
+
+shl-table : tie.Need-shl-table
+shl-table c =
+    let a = c .before .before .args in
+    placed (a .policy) (a .from) (a .to) (c .before .if1 .taken) .end
 
 element-write-table : tie.Need-element-write-table
-element-write-table c = search needs
+element-write-table c =
+    let a = c .before .before .args in
+    let h = placed (a .policy) (a .from) (a .to) (c .before .if1 .taken) in
+    let p : a .policy < 8 = h .policy in
+    let q : a .from < 8 = h .state in
+    search needs
 
 returns : tie.Need-returns
 unfolding joined
-returns c = simp (lt-ltb _ _ (c .before .before .if1 .taken), lt-ltb _ _ (c .before .if2 .taken))
+returns c =
+    let a = c .before .before .args in
+    let h = placed (a .policy) (a .from) (a .to) (c .before .if1 .taken) in
+    simp (lt-ltb (a .policy) 8 (h .policy), lt-ltb (a .from) 8 (h .state), shifted-single (a .to) (h .end))
 
 returns-2 : tie.Need-returns-2
-unfolding joined
-returns-2 c = simp (lt-ltb _ _ (c .before .if1 .taken), le-ltb _ _ (c .if2 .left))
-
-returns-3 : tie.Need-returns-3
-unfolding joined
-returns-3 c = simp (le-ltb _ _ (c .if1 .left))
+returns-2 c =
+    let a = c .before .args in
+    not-placed _ (a .policy) (a .from) (a .to) (c .if1 .left)
 
 pub join-spec : {M : Type 1} → statement M
 join-spec =
     tie.close
-    (tie.spec mul-k add-k element-copy-out-table element-write-table returns returns-2 returns-3)
+    (tie.spec
+    mul-k
+    add-k
+    element-copy-out-table
+    cast-table
+    shl-table
+    element-write-table
+    returns
+    returns-2)

@@ -5,7 +5,7 @@ use native.Mathlib.Omega.{arith}
 use lib.ListN.{length, set}
 use borrow.Author.Needs.{needs}
 use Rattle.usage.proofs.Logic.{by-cases}
-use Rattle.automaton.proofs.RowLaws.{Staying, staying-none, staying-all, staying-left, staying-set, shifted-single}
+use Rattle.automaton.proofs.RowLaws.{Staying, staying-none, staying-all, staying-left, staying-set}
 use Rattle.moves.proofs.stay.Statement.{statement}
 use Rattle.moves.proofs.stay.Tie as tie
 
@@ -21,14 +21,11 @@ loop-holds c = (search needs, staying-none _)
 element-copy-out-if1 : tie.Need-element-copy-out-if1 Inv-loop μ-loop
 element-copy-out-if1 c = search needs
 
-cast-table : tie.Need-cast-table Inv-loop μ-loop
-cast-table c = search needs
+cast-single : tie.Need-cast-single Inv-loop μ-loop
+cast-single c = search needs
 
-cast-table-2 : tie.Need-cast-table-2 Inv-loop μ-loop
-cast-table-2 c = search needs
-
-shl-table : tie.Need-shl-table Inv-loop μ-loop
-shl-table c = search needs
+single-requires : tie.Need-single-requires Inv-loop μ-loop
+single-requires c κs = search needs
 
 element-write-table : tie.Need-element-write-table Inv-loop μ-loop
 element-write-table c = search needs
@@ -47,7 +44,7 @@ loop-again c =
     let inv = c .before .before .before .loop .inv .1 in
     let l : length t ≡ 64 = c .before .before .before .before .pre in
     by-cases (c .if1 .came)
-    (λ w. (omega arith, rw (w .1 ∙ ap (λ (v : ℕ). set s k v) (shifted-single (k % 8) (omega arith))) (staying-set t s k inv (omega arith) (w .0 .taken))))
+    (λ w. (omega arith, rw (w .2 ∙ ap (λ (v : ℕ). set s k v) (w .1 .ensures)) (staying-set t s k inv (omega arith) (w .0 .taken))))
     (λ w. (omega arith, rw (w .1) (staying-left t s k inv (w .0 .left))))
 
 returns : tie.Need-returns Inv-loop μ-loop
@@ -63,9 +60,8 @@ stay-spec =
     μ-loop
     loop-holds
     element-copy-out-if1
-    cast-table
-    cast-table-2
-    shl-table
+    cast-single
+    single-requires
     element-write-table
     add-k
     loop-less
