@@ -2,14 +2,10 @@
 use mathlib.Core.Path.{_≡_, refl, ap}
 use mathlib.Core.List.{List, _++_}
 use Prim.Native.Nat.{ℕ}
-use Rattle.usage.proofs.CheckLaws.{checked-unique}
 use Rattle.lines.specs.Sheet.{Result}
-use Rattle.printing.specs.Lines.{names-line, verdict-row}
-use Rattle.report.specs.Outline.{NodesRow, outline-refused, outline-checked, OutlineRow, policies-refused, policies-accepted, OutlinePrinted, prints}
-
-nodes-unique : {edges : List ℕ} {o : Result} {x y : List ℕ} → NodesRow edges o x → NodesRow edges o y → x ≡ y
-nodes-unique outline-refused outline-refused = refl
-nodes-unique (outline-checked c) (outline-checked d) = ap (verdict-row 0) (checked-unique c d)
+use Rattle.printing.specs.Lines.{names-line}
+use Rattle.outline_rows.proofs.OutlineLaws.{nodes-unique}
+use Rattle.report.specs.Outline.{OutlineRow, policies-refused, policies-accepted, OutlinePrinted, prints}
 
 row-unique : {p o : Result} {x y : List ℕ} → OutlineRow p o x → OutlineRow p o y → x ≡ y
 row-unique policies-refused policies-refused = refl

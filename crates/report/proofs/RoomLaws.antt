@@ -7,8 +7,13 @@ use native.Mathlib.Omega.{arith}
 use lib.ListN.{length, drop, length-append}
 use lib.Seq.{sets}
 use borrow.Author.Tests.{lt-ltb, le-ltb}
-use Rattle.report.specs.Room.{length-put, put}
+use Rattle.lines.specs.Sheet.{refused, sheet}
+use Rattle.lines.specs.Sheets.{policies}
+use Rattle.sheets.proofs.RefusalLaws.{sheet-low}
+use Rattle.printing.specs.Lines.{row}
 use Rattle.printing.proofs.PutLaws.{sets-append, sets-front}
+use Rattle.printing.proofs.RowLaws.{row-eight}
+use Rattle.report.specs.Room.{length-put, put}
 
 -- a function's result r and the buffer that it leaves are those of an output
 abbrev pub Printed : ℕ → List ℕ → List ℕ → ℕ → List ℕ → Type 0
@@ -33,3 +38,9 @@ module _ (room : ℕ) (buffer : List ℕ) where
   unfolding length-put put
   two-parts first second after r h e l t =
       rw (le-ltb (length buffer) room h) (e ∙ sym (length-append first second), t ∙ joined buffer first second (omega arith))
+
+-- the line of a refused sheet of policies has at most 8 bytes
+pub policies-eight : (text : List ℕ) (line number : ℕ) → sheet policies text ≡ refused record { line = line; number = number } → length (row line 3 number) ≤ 8
+policies-eight text line number e =
+    let l = sheet-low policies text record { line = line; number = number } e in
+    row-eight line 3 number (let h = l .line in omega arith) (omega arith) (l .number)

@@ -14,8 +14,9 @@ use Rattle.lines.specs.Sheets.{policies, trace}
 use Rattle.states.specs.Judge.{verdictOf, begin, answersOf}
 use Rattle.states.proofs.Verdict.{all-judged-begin}
 use Rattle.printing.specs.Lines.{names-line, rows}
-use Rattle.report.specs.Trace.{judged-rows, trace-rows, sheets-rows, tracePrinted}
-use Rattle.report.proofs.AcceptedLaws.{accepted-edges}
+use Rattle.sheets.proofs.AnswerLaws.{accepted-edges}
+use Rattle.trace_rows.specs.Trace.{judged-rows, trace-rows}
+use Rattle.report.specs.Trace.{sheets-rows, tracePrinted}
 
 -- the names, and a row for each step from line 2 on, with the right answers
 pub record Right (edges : List Edge) (steps : List RawStep) (output : List ℕ) : Type 0 where

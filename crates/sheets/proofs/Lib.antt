@@ -11,3 +11,6 @@ pub mod WrittenLaws
 pub mod Converse
 pub mod NodeConverse
 pub mod Examples
+-- What the readers' answers say, for the crates above.
+pub mod AnswerLaws
+pub mod RefusalLaws

@@ -4,23 +4,22 @@ use Prim.Native.Nat.{_≤_}
 use denote.Ref.{now}
 use lib.ListN.{length}
 use lib.Seq.{length-sets}
+use Rattle.sheets.proofs.AnswerLaws.{policies-held, policies-refused}
 use Rattle.printing.specs.Lines.{names-line, row}
-use Rattle.report.specs.Outline.{no-room}
-use Rattle.report.proofs.ReadLaws.{policies-held, policies-refused}
 use Rattle.printing.proofs.RowLaws.{length-names, names-stored}
-use Rattle.report.proofs.OutlinePuts.{edges-held, put-outline, put-policies, policies-eight}
 use Rattle.printing.proofs.FitLaws.{stored-at}
+use Rattle.report.specs.Outline.{no-room}
+use Rattle.report.proofs.RoomLaws.{policies-eight}
+use Rattle.report.proofs.OutlinePuts.{put-outline, put-policies}
 use borrow.Author.Needs.{needs}
 use Rattle.report.proofs.report_outline.Statement.{statement}
 use Rattle.report.proofs.report_outline.Tie as tie
 
 returns : tie.Need-returns
-returns c = no-room (c .if1 .taken)
+returns c = no-room (omega arith)
 
 names-requires : tie.Need-names-requires
-unfolding names-line
-names-requires c κs =
-    omega arith
+names-requires c κs = search needs
 
 slice-aggregate-read-policies : tie.Need-slice-aggregate-read-policies
 slice-aggregate-read-policies c = search needs
@@ -31,8 +30,8 @@ read-policies-requires c κs = search needs
 enum-known-reading : tie.Need-enum-known-reading
 enum-known-reading c = search needs
 
-mul-outline-row : tie.Need-mul-outline-row
-mul-outline-row c =
+mul-row : tie.Need-mul-row
+mul-row c =
     let a = c .before .before .before .before .before .before .before .before .before .before .before .before .before .before .args in
     let p = c .before .before .before .before .read-policies in
     let g = c .before .reading .given in
@@ -41,14 +40,14 @@ mul-outline-row c =
     let f : n ≤ 256 = h .few in
     search needs
 
-sub-outline-row : tie.Need-sub-outline-row
-sub-outline-row c = search needs
+sub-row : tie.Need-sub-row
+sub-row c = search needs
 
-part-outline-row-start : tie.Need-part-outline-row-start
-part-outline-row-start c = search needs
+part-row-start : tie.Need-part-row-start
+part-row-start c = search needs
 
-part-outline-row-end : tie.Need-part-outline-row-end
-part-outline-row-end c =
+part-row-end : tie.Need-part-row-end
+part-row-end c =
     let a = c .before .before .before .before .before .before .before .before .before .before .before .before .before .before .before .args in
     let p = c .before .before .before .before .before .read-policies in
     let g = c .before .before .reading .given in
@@ -57,18 +56,8 @@ part-outline-row-end c =
     let f : n ≤ 256 = h .few in
     search needs
 
-outline-row-requires : tie.Need-outline-row-requires
-outline-row-requires c κs =
-    let a = c .before .before .before .before .before .before .before .before .before .before .before .before .before .before .before .before .before .args in
-    let p = c .before .before .before .before .before .before .before .read-policies in
-    let g = c .before .before .before .before .reading .given in
-    let n = g .0 .0 in
-    let h = policies-held (now (a .policies)) (p .last .1 .0) n (rw (g .1) at (p .ensures .0)) (p .ensures .1) in
-    let w = c .before .before .before .before .before .before .before .before .before .before .before .names in
-    let o = names-stored (now (a .out)) (omega arith) (w .ensures .0) (w .ensures .1) in
-    let k = ap length (o .1) ∙ length-sets _ _ names-line in
-    let v : length names-line ≡ 19 = length-names in
-    (edges-held (now (a .policies)) (p .last .1 .0) n h, omega arith)
+row-requires : tie.Need-row-requires
+row-requires c κs = search needs
 
 enum-known-reading-2 : tie.Need-enum-known-reading-2
 enum-known-reading-2 c = search needs
@@ -76,8 +65,8 @@ enum-known-reading-2 c = search needs
 cast-row : tie.Need-cast-row
 cast-row c = search needs
 
-row-requires : tie.Need-row-requires
-row-requires c κs = search needs
+row-requires-2 : tie.Need-row-requires-2
+row-requires-2 c κs = search needs
 
 same-length : tie.Need-same-length
 same-length c = search needs
@@ -90,11 +79,9 @@ returns-2 c =
     let n = g .0 .0 in
     let h = policies-held (now (a .policies)) (p .last .1 .0) n (rw (g .1) at (p .ensures .0)) (p .ensures .1) in
     let w = c .before .before .before .before .before .before .before .before .before .before .before .before .before .before .names in
-    let t = c .before .before .outline-row in
+    let t = c .before .before .row in
     let o = names-stored (now (a .out)) (omega arith) (w .ensures .0) (w .ensures .1) in
-    let k = ap length (o .1) ∙ length-sets _ _ names-line in
-    let l = t .ensures .room in
-    put-outline (now (a .policies)) (now (a .outline)) (now (a .out)) _ _ (c .before .before .before .before .before .before .before .before .before .before .before .before .before .before .before .before .if1 .left) (p .last .1 .0) n h (rw (o .0, o .1) at (t .ensures)) (omega arith)
+    put-outline (now (a .policies)) (now (a .outline)) (now (a .out)) (omega arith) (p .last .1 .0) n h (rw (o .0, o .1) at (t .ensures))
 
 same-length-2 : tie.Need-same-length-2
 same-length-2 c = search needs
@@ -105,14 +92,14 @@ returns-3 c =
     let w = c .before .before .before .before .before .before .before .before .before .before .before .before .names in
     let p = c .before .before .before .before .before .before .before .before .read-policies in
     let g = c .before .before .before .before .before .reading2 .given in
-    let t = c .before .before .row in
+    let t = c .before .before .row2 in
     let z = policies-refused (now (a .policies)) (g .0 .0) (g .0 .1 .0) (rw (g .1) at (p .ensures .0)) in
     let q = policies-eight (now (a .policies)) (g .0 .0) (g .0 .1 .0) z in
-    let v : length names-line ≡ 19 = length-names in
     let o = names-stored (now (a .out)) (omega arith) (w .ensures .0) (w .ensures .1) in
     let k = ap length (o .1) ∙ length-sets _ _ names-line in
+    let v : length names-line ≡ 19 = length-names in
     let b = stored-at (w .last .0) (w .result) (row (g .0 .0) 3 (g .0 .1 .0)) (omega arith) (t .ensures .0) (t .ensures .1) in
-    put-policies (now (a .policies)) (now (a .outline)) (now (a .out)) _ _ (c .before .before .before .before .before .before .before .before .before .before .before .before .before .before .if1 .left) (g .0 .0) (g .0 .1 .0) z (rw (o .0) at (b .0)) (omega arith) (rw (o .0, o .1) at (b .1))
+    put-policies (now (a .policies)) (now (a .outline)) (now (a .out)) (omega arith) (g .0 .0) (g .0 .1 .0) z (rw (o .0) at (b .0)) (rw (o .0, o .1) at (b .1))
 
 pub report-outline-spec : {M : Type 1} → statement M
 report-outline-spec =
@@ -123,14 +110,14 @@ report-outline-spec =
     slice-aggregate-read-policies
     read-policies-requires
     enum-known-reading
-    mul-outline-row
-    sub-outline-row
-    part-outline-row-start
-    part-outline-row-end
-    outline-row-requires
+    mul-row
+    sub-row
+    part-row-start
+    part-row-end
+    row-requires
     enum-known-reading-2
     cast-row
-    row-requires
+    row-requires-2
     same-length
     returns-2
     same-length-2

@@ -1,17 +1,38 @@
 use native.Mathlib.Omega.{arith}
-use Prim.Native.Nat.{_-_, _*_, _≤_}
+use mathlib.Core.Path.{sym}
+use Prim.Native.Nat.{_+_, _-_, _*_, _≤_, _<_}
 use denote.Ref.{now}
 use mir.Syntax.{w8, w64}
 use mir.Val.{Fits}
-use lib.ListN.{length-take}
-use Rattle.report.proofs.ReadLaws.{trace-held, trace-refused}
+use lib.ListN.{length, length-take}
+use Rattle.lines.specs.Sheet.{sheet}
+use Rattle.lines.specs.Sheets.{trace}
+use Rattle.sheets.proofs.AnswerLaws.{trace-held, trace-refused}
 use Rattle.printing.specs.Lines.{row}
 use Rattle.printing.proofs.RowLaws.{row-fits}
-use Rattle.printing.proofs.FitLaws.{stored-at}
-use Rattle.report.proofs.TraceLaws.{rows-held, row-refused}
+use Rattle.printing.proofs.FitLaws.{put-fits, end-fits, put-lacks, end-lacks, stored-at}
+use Rattle.trace_rows.specs.Trace.{trace-rows, rows-room}
+use Rattle.trace_rows.proofs.TraceLaws.{rows-held, row-refused}
 use borrow.Author.Needs.{needs}
-use Rattle.report.proofs.trace_rows.Statement.{statement}
-use Rattle.report.proofs.trace_rows.Tie as tie
+use Rattle.trace_rows.proofs.rows.Statement.{statement}
+use Rattle.trace_rows.proofs.rows.Tie as tie
+
+returns : tie.Need-returns
+returns c =
+    let a = c .before .before .before .before .args in
+    let t = trace-rows (now (a .edges)) (sheet trace (now (a .text))) in
+    let l : length (now (a .out)) < a .at + rows-room = omega arith in
+    (sym (end-lacks rows-room (now (a .out)) (a .at) t l), sym (put-lacks rows-room (now (a .out)) (a .at) t l))
+
+sub-if2 : tie.Need-sub-if2
+sub-if2 c = search needs
+
+returns-2 : tie.Need-returns-2
+returns-2 c =
+    let a = c .before .before .before .before .before .args in
+    let t = trace-rows (now (a .edges)) (sheet trace (now (a .text))) in
+    let l : length (now (a .out)) < a .at + rows-room = omega arith in
+    (sym (end-lacks rows-room (now (a .out)) (a .at) t l), sym (put-lacks rows-room (now (a .out)) (a .at) t l))
 
 slice-aggregate-read-trace : tie.Need-slice-aggregate-read-trace
 slice-aggregate-read-trace c = search needs
@@ -24,7 +45,7 @@ enum-known-reading c = search needs
 
 mul-judge-all : tie.Need-mul-judge-all
 mul-judge-all c =
-    let a = c .before .before .before .before .before .before .before .before .before .args in
+    let a = c .before .before .before .before .before .before .before .before .before .before .before .args in
     let r = c .before .before .before .before .read-trace in
     let g = c .before .reading .given in
     let n = g .0 .0 in
@@ -40,7 +61,7 @@ part-judge-all-start c = search needs
 
 part-judge-all-end : tie.Need-part-judge-all-end
 part-judge-all-end c =
-    let a = c .before .before .before .before .before .before .before .before .before .before .args in
+    let a = c .before .before .before .before .before .before .before .before .before .before .before .before .args in
     let r = c .before .before .before .before .before .read-trace in
     let g = c .before .before .reading .given in
     let n = g .0 .0 in
@@ -50,7 +71,7 @@ part-judge-all-end c =
 
 judge-all-requires : tie.Need-judge-all-requires
 judge-all-requires c κs =
-    let a = c .before .before .before .before .before .before .before .before .before .before .before .before .args in
+    let a = c .before .before .before .before .before .before .before .before .before .before .before .before .before .before .args in
     let r = c .before .before .before .before .before .before .before .read-trace in
     let g = c .before .before .before .before .reading .given in
     let n = g .0 .0 in
@@ -71,24 +92,25 @@ row-requires c κs = search needs
 same-length : tie.Need-same-length
 same-length c = search needs
 
-returns : tie.Need-returns
-returns c =
-    let a = c .before .before .before .before .before .before .before .before .before .before .before .before .before .before .before .args in
+returns-3 : tie.Need-returns-3
+returns-3 c =
+    let a = c .before .before .before .before .before .before .before .before .before .before .before .before .before .before .before .before .before .args in
     let r = c .before .before .before .before .before .before .before .before .before .before .read-trace in
     let g = c .before .before .before .before .before .before .before .reading .given in
     let n = g .0 .0 in
     let h = trace-held (now (a .text)) (r .last .1 .0) n (rw (g .1) at (r .ensures .0)) (r .ensures .1) in
-    let f : n ≤ 2000 = h .few in
     let j = c .before .before .judge-all in
     let e = rows-held (now (a .edges)) (now (a .text)) (r .last .1 .0) n h in
-    (rw e (j .ensures .0), (rw e (j .ensures .1 .0), j .ensures .1 .1))
+    let x = trace-rows (now (a .edges)) (sheet trace (now (a .text))) in
+    let f : a .at + rows-room ≤ length (now (a .out)) = omega arith in
+    (rw (end-fits rows-room (now (a .out)) (a .at) x f, e) (j .ensures .0), rw (put-fits rows-room (now (a .out)) (a .at) x f, e) (j .ensures .1))
 
 same-length-2 : tie.Need-same-length-2
 same-length-2 c = search needs
 
-returns-2 : tie.Need-returns-2
-returns-2 c =
-    let a = c .before .before .before .before .before .before .before .before .before .before .before .before .before .args in
+returns-4 : tie.Need-returns-4
+returns-4 c =
+    let a = c .before .before .before .before .before .before .before .before .before .before .before .before .before .before .before .args in
     let r = c .before .before .before .before .before .before .before .before .read-trace in
     let g = c .before .before .before .before .before .reading2 .given in
     let w = c .before .before .row in
@@ -98,12 +120,17 @@ returns-2 c =
     let m : Fits w8 (g .0 .1 .0) = search needs in
     let k = row-fits (g .0 .0) 4 (g .0 .1 .0) (l .fits) (omega arith) (m .fits) in
     let v = stored-at (now (a .out)) (a .at) (row (g .0 .0) 4 (g .0 .1 .0)) (omega arith) (w .ensures .0) (w .ensures .1) in
-    (rw e (v .0), (rw e (v .1), omega arith))
+    let x = trace-rows (now (a .edges)) (sheet trace (now (a .text))) in
+    let f : a .at + rows-room ≤ length (now (a .out)) = omega arith in
+    (rw (end-fits rows-room (now (a .out)) (a .at) x f, e) (v .0), rw (put-fits rows-room (now (a .out)) (a .at) x f, e) (v .1))
 
-pub trace-rows-spec : {M : Type 1} → statement M
-trace-rows-spec =
+pub rows-spec : {M : Type 1} → statement M
+rows-spec =
     tie.close
     (tie.spec
+    returns
+    sub-if2
+    returns-2
     slice-aggregate-read-trace
     read-trace-requires
     enum-known-reading
@@ -116,6 +143,6 @@ trace-rows-spec =
     cast-row
     row-requires
     same-length
-    returns
+    returns-3
     same-length-2
-    returns-2)
+    returns-4)

@@ -1,20 +1,23 @@
 use native.Mathlib.Omega.{arith}
-use Prim.Native.Nat.{ℕ, _≤_}
+use Prim.Native.Nat.{_≤_}
 use denote.Ref.{now}
 use mir.Syntax.{w8}
 use mir.Val.{Fits}
-use mathlib.Core.List.{List}
-use Rattle.usage.specs.Answers.{Verdict}
-use Rattle.usage.specs.Check.{Checked}
-use Rattle.usage.specs.Tables.{edgesOf, nodesOf, EdgeTable, NodeTable}
-use Rattle.modelcheck.specs.Promise.{told}
-use Rattle.report.proofs.ReadLaws.{outline-held, outline-refused-as}
-use Rattle.report.proofs.OutlinePuts.{eight, refused-eight, put-checked, put-refused}
-use Rattle.printing.specs.Lines.{row}
-use Rattle.printing.proofs.FitLaws.{stored-at}
+use Rattle.sheets.proofs.AnswerLaws.{outline-held, outline-refused-as}
+use Rattle.outline_rows.specs.Outline.{room-lacks}
+use Rattle.outline_rows.proofs.OutlinePuts.{put-checked, put-refused}
 use borrow.Author.Needs.{needs}
-use Rattle.report.proofs.outline_row.Statement.{statement}
-use Rattle.report.proofs.outline_row.Tie as tie
+use Rattle.outline_rows.proofs.row.Statement.{statement}
+use Rattle.outline_rows.proofs.row.Tie as tie
+
+returns : tie.Need-returns
+returns c = room-lacks (omega arith)
+
+sub-if2 : tie.Need-sub-if2
+sub-if2 c = search needs
+
+returns-2 : tie.Need-returns-2
+returns-2 c = room-lacks (omega arith)
 
 slice-aggregate-read-outline : tie.Need-slice-aggregate-read-outline
 slice-aggregate-read-outline c = search needs
@@ -27,7 +30,7 @@ enum-known-reading c = search needs
 
 mul-check : tie.Need-mul-check
 mul-check c =
-    let a = c .before .before .before .before .before .before .before .before .before .args in
+    let a = c .before .before .before .before .before .before .before .before .before .before .before .args in
     let r = c .before .before .before .before .read-outline in
     let g = c .before .reading .given in
     let n = g .0 .0 in
@@ -43,7 +46,7 @@ part-check-start c = search needs
 
 part-check-end : tie.Need-part-check-end
 part-check-end c =
-    let a = c .before .before .before .before .before .before .before .before .before .before .args in
+    let a = c .before .before .before .before .before .before .before .before .before .before .before .before .args in
     let r = c .before .before .before .before .before .read-outline in
     let g = c .before .before .reading .given in
     let n = g .0 .0 in
@@ -78,44 +81,39 @@ row-requires-2 c κs = search needs
 same-length : tie.Need-same-length
 same-length c = search needs
 
-returns : tie.Need-returns
-returns c =
-    let a = c .before .before .before .before .before .before .before .before .before .before .before .before .before .before .before .before .before .before .args in
+returns-3 : tie.Need-returns-3
+returns-3 c =
+    let a = c .before .before .before .before .before .before .before .before .before .before .before .before .before .before .before .before .before .before .before .before .args in
     let r = c .before .before .before .before .before .before .before .before .before .before .before .before .before .read-outline in
     let g = c .before .before .before .before .before .before .before .before .before .before .reading .given in
     let n = g .0 .0 in
     let h = outline-held (now (a .text)) (r .last .1 .0) n (rw (g .1) at (r .ensures .0)) (r .ensures .1) in
-    let f : n ≤ 64 = h .few in
     let w = c .before .before .row in
     let m = c .before .before .before .before .outcome-number in
     let d = c .before .before .before .outcome-detail in
     let k = c .before .before .before .before .before .before .check in
-    let p = c .before .before .before .before .before .before .before .before .before .before .before .before .before .before .before .before .before .before .pre in
     let b : Fits w8 (d .result) = search needs in
-    let l = eight (told (k .result)) (m .result) (d .result) (m .ensures) (d .ensures) (b .fits) in
-    let o = p .1 in
-    let v = stored-at (now (a .out)) (a .at) (row 0 (m .result) (d .result)) (omega arith) (w .ensures .0) (w .ensures .1) in
-    put-checked (now (a .edges)) (now (a .text)) (now (a .out)) (w .last .0) (a .at) (w .result) (p .1) (r .last .1 .0) n h (told (k .result)) (m .result) (d .result) (λ t. k .ensures .0 .right (p .0) t) (m .ensures) (d .ensures) (b .fits) (v .0) (v .1)
+    put-checked (now (a .edges)) (now (a .text)) (now (a .out)) (w .last .0) (a .at) (w .result) (omega arith) (r .last .1 .0) n h (k .result) (m .result) (d .result) (k .ensures .0) (m .ensures) (d .ensures) (b .fits) (w .ensures .0) (w .ensures .1)
 
 same-length-2 : tie.Need-same-length-2
 same-length-2 c = search needs
 
-returns-2 : tie.Need-returns-2
-returns-2 c =
-    let a = c .before .before .before .before .before .before .before .before .before .before .before .before .before .args in
+returns-4 : tie.Need-returns-4
+returns-4 c =
+    let a = c .before .before .before .before .before .before .before .before .before .before .before .before .before .before .before .args in
     let r = c .before .before .before .before .before .before .before .before .read-outline in
     let g = c .before .before .before .before .before .reading2 .given in
     let w = c .before .before .row2 in
     let z = outline-refused-as (now (a .text)) (g .0 .0) (g .0 .1 .0) (rw (g .1) at (r .ensures .0)) in
-    let l = refused-eight (now (a .text)) (g .0 .0) (g .0 .1 .0) z in
-    let o = c .before .before .before .before .before .before .before .before .before .before .before .before .before .pre .1 in
-    let v = stored-at (now (a .out)) (a .at) (row (g .0 .0) 5 (g .0 .1 .0)) (omega arith) (w .ensures .0) (w .ensures .1) in
-    put-refused (now (a .edges)) (now (a .text)) (now (a .out)) (w .last .0) (a .at) (w .result) o (g .0 .0) (g .0 .1 .0) z (v .0) (v .1)
+    put-refused (now (a .edges)) (now (a .text)) (now (a .out)) (w .last .0) (a .at) (w .result) (omega arith) (g .0 .0) (g .0 .1 .0) z (w .ensures .0) (w .ensures .1)
 
-pub outline-row-spec : {M : Type 1} → statement M
-outline-row-spec =
+pub row-spec : {M : Type 1} → statement M
+row-spec =
     tie.close
     (tie.spec
+    returns
+    sub-if2
+    returns-2
     slice-aggregate-read-outline
     read-outline-requires
     enum-known-reading
@@ -132,6 +130,6 @@ outline-row-spec =
     cast-row-2
     row-requires-2
     same-length
-    returns
+    returns-3
     same-length-2
-    returns-2)
+    returns-4)

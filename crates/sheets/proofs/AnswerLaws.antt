@@ -1,17 +1,24 @@
--- What a reader's answer says of its sheet.
+-- What a reader's answer says of its sheet, for those who lend it a table of zeros.
 use Prim.Native.Nat.{ℕ, _*_, _≤_}
 use mathlib.Core.Path.{_≡_, refl, sym, ap, _∙_}
-use mathlib.Core.List.{List, flatten}
+use mathlib.Core.Option.{Option, none, some}
+use mathlib.Core.List.{List, map, tail, flatten}
 use native.Mathlib.Omega.{arith}
-use lib.ListN.{length, take, drop, replicate, length-replicate}
+use lib.ListN.{length, take, drop, replicate, length-replicate, length-map}
 use lib.Seq.{take-at}
+use Rattle.usage.specs.Answers.{Refusal}
+use Rattle.usage.specs.Tests.{ruledSheet}
+use Rattle.usage.specs.Tables.{nodesOf, EdgeTable, NodeTable}
 use Rattle.usage.proofs.Logic.{clash}
+use Rattle.usage.proofs.TableLaws.{decides-edge-table, decides-node-table}
 use Rattle.lines.specs.Sheet.{Sheet, Result, accepted, refused, sheet}
 use Rattle.lines.specs.Answer.{count, refusal, answered}
 use Rattle.lines.specs.Sheets.{policies, trace, outline}
-use Rattle.sheets.specs.Readers.{ruled, policiesInto, traceInto, outlineInto, stored}
-use Rattle.lines.proofs.AcceptLaws.{sheet-accepted, flat-length}
-use Rattle.report.proofs.AcceptedNodes.{nodes-each, nodes-few, flat-three}
+use Rattle.lines.proofs.AcceptLaws.{Accepted, sheet-accepted, flat-length}
+use Rattle.sheets.specs.Readers.{ruled, ruled-by, policiesInto, traceInto, outlineInto, stored}
+use Rattle.sheets.proofs.ReaderLaws.{refusal-result}
+use Rattle.sheets.proofs.OutlineLaws.{first, nodes-size}
+use Rattle.sheets.proofs.TableLaws.{policies-valid, outline-valid}
 
 -- n lines were stored: the sheet is accepted, and its values are the first of the table
 pub record Holds (s : Sheet) (text table : List ℕ) (n : ℕ) : Type 0 where
@@ -34,15 +41,6 @@ module _ (s : Sheet) (text before table : List ℕ) where
         few = rw m (a .few);
       }
   holds (refused r) k n e t = clash (cc)
-
--- the sheet is refused as the answer says
-refuses : (r : Result) (line number : ℕ) → refusal record { line = line; number = number } ≡ answered r → r ≡ refused record { line = line; number = number }
-unfolding answered
-refuses (accepted rows) line number e = clash (cc)
-refuses (refused r) line number e =
-    let l : line ≡ r .line = cc in
-    let m : number ≡ r .number = cc in
-    rw (l, m) refl
 
 -- ── The tables that are lent: as many zeros as a sheet has values at most ──
 
@@ -69,11 +67,16 @@ module _ (text : List ℕ) where
   module _ (line number : ℕ) where
     pub policies-refused : refusal record { line = line; number = number } ≡ answered (policiesInto (length (zeros 1536)) text)
         → sheet policies text ≡ refused record { line = line; number = number }
-    policies-refused e = refuses (sheet policies text) line number (e ∙ ap answered policies-into)
+    policies-refused e = refusal-result (sheet policies text) line number (e ∙ ap answered policies-into)
 
     pub trace-refused : refusal record { line = line; number = number } ≡ answered (traceInto (length (zeros 6000)) text)
         → sheet trace text ≡ refused record { line = line; number = number }
-    trace-refused e = refuses (sheet trace text) line number (e ∙ ap answered trace-into)
+    trace-refused e = refusal-result (sheet trace text) line number (e ∙ ap answered trace-into)
+
+-- what an accepted sheet of policies gives is never refused with 41
+pub accepted-edges : (text : List ℕ) (rows : List (List ℕ)) → sheet policies text ≡ accepted rows → EdgeTable (flatten rows)
+unfolding policiesInto
+accepted-edges text rows e = decides-edge-table (flatten rows) .0 (policies-valid 1536 text rows e)
 
 -- ── An outline ──
 
@@ -83,6 +86,27 @@ pub record HoldsNodes (text table : List ℕ) (n : ℕ) : Type 0 where
   pub result : ruled (sheet outline text) ≡ accepted rows
   pub flat : take (n * 3) table ≡ flatten rows
   pub few : n ≤ 64
+
+-- how many nodes an accepted outline has, and how many numbers
+abbrev Sized : List (List ℕ) → Type 0
+Sized rows = (length rows ≤ 64) × (length (flatten rows) ≡ 3 * length rows)
+
+nodes-sized : (text : List ℕ) (rows : List (List ℕ)) → ruled (sheet outline text) ≡ accepted rows → Sized rows
+unfolding ruled
+nodes-sized text rows e = go (sheet outline text) refl e
+  where
+    by : (all : List (List ℕ)) → Accepted outline all → (o : Option Refusal) → ruled-by o all ≡ accepted rows → Sized rows
+    by all a none e =
+        let z : map tail all ≡ rows = cc in
+        let f : length all ≤ 64 = a .few in
+        let m = length-map all tail in
+        let l = nodes-size (a .each) in
+        rw (← z) (omega arith, omega arith)
+    by all a (some r) e = clash (cc)
+
+    go : (r : Result) → sheet outline text ≡ r → ruled r ≡ accepted rows → Sized rows
+    go (accepted all) q e = by all (sheet-accepted outline text all q) (ruledSheet (map first all) (nodesOf (flatten (map tail all)))) e
+    go (refused r) q e = clash (cc)
 
 module _ (text : List ℕ) where
   outline-into : outlineInto (length (zeros 192)) text ≡ ruled (sheet outline text)
@@ -97,8 +121,9 @@ module _ (text : List ℕ) where
       go : (r : Result) → r ≡ ruled (sheet outline text) → count n ≡ answered r → table ≡ stored r (zeros 192) → HoldsNodes text table n
       go (accepted rows) k e t =
           let m : n ≡ length rows = cc in
-          let f = nodes-few text rows (sym k) in
-          let l = flat-three (nodes-each text rows (sym k)) in
+          let z = nodes-sized text rows (sym k) in
+          let f = z .0 in
+          let l = z .1 in
           record {
             rows = rows;
             result = sym k;
@@ -109,4 +134,9 @@ module _ (text : List ℕ) where
 
   pub outline-refused-as : (line number : ℕ) → refusal record { line = line; number = number } ≡ answered (outlineInto (length (zeros 192)) text)
       → ruled (sheet outline text) ≡ refused record { line = line; number = number }
-  outline-refused-as line number e = refuses (ruled (sheet outline text)) line number (e ∙ ap answered outline-into)
+  outline-refused-as line number e = refusal-result (ruled (sheet outline text)) line number (e ∙ ap answered outline-into)
+
+-- what an accepted outline gives is never refused with 41
+pub accepted-nodes : (text : List ℕ) (rows : List (List ℕ)) → ruled (sheet outline text) ≡ accepted rows → NodeTable (flatten rows)
+unfolding outlineInto
+accepted-nodes text rows e = decides-node-table (flatten rows) .0 (outline-valid 192 text rows e)

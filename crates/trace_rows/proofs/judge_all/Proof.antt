@@ -8,10 +8,10 @@ use Rattle.states.specs.Judge.{begin, judgeOf}
 use Rattle.printing.specs.Lines.{row}
 use Rattle.printing.proofs.PutLaws.{sets-append}
 use Rattle.printing.proofs.FitLaws.{stored-at}
-use Rattle.report.proofs.TraceLaws.{left, all-left, none-left, next-row, row-ten}
+use Rattle.trace_rows.proofs.TraceLaws.{left, all-left, none-left, next-row, row-ten}
 use borrow.Author.Needs.{needs}
-use Rattle.report.proofs.judge_all.Statement.{statement}
-use Rattle.report.proofs.judge_all.Tie as tie
+use Rattle.trace_rows.proofs.judge_all.Statement.{statement}
+use Rattle.trace_rows.proofs.judge_all.Tie as tie
 
 abbrev Inv-loop : tie.InvT-loop
 Inv-loop edges steps out₀ at n s₀ next₀ i₀ out s next i = (i ≤ n) × ((length out ≡ length out₀) × ((next + 10 * (n - i) ≤ length out)
@@ -81,7 +81,7 @@ returns c =
     let e = all-left (now (a .edges)) (now (a .steps)) in
     let z = none-left (now (a .edges)) (now (a .steps)) (length (now (a .steps)) / 3) (t .s) (t .i) (c .loop-test .left) in
     let g = ap length z in
-    (rw e (omega arith), (rw e (ap (sets (t .out) (t .next)) (sym z) ∙ t .inv .1 .1 .1 .1), omega arith))
+    (rw e (omega arith), rw e (ap (sets (t .out) (t .next)) (sym z) ∙ t .inv .1 .1 .1 .1))
 
 pub judge-all-spec : {M : Type 1} → statement M
 judge-all-spec =

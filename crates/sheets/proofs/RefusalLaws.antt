@@ -6,7 +6,7 @@ use mathlib.Core.Option.{Option, none, some}
 use mathlib.Core.List.{List, [], _∷_, map, tail, flatten}
 use native.Mathlib.Omega.{arith}
 use lib.Dec.{ltb}
-use lib.ListN.{length, getD, drop, length-map}
+use lib.ListN.{length, getD, drop}
 use Rattle.usage.specs.declared.Node.{Node}
 use Rattle.usage.specs.Answers.{Refusal}
 use Rattle.usage.specs.Tests.{ruledSheet}
@@ -19,10 +19,9 @@ use Rattle.usage.proofs.TableLaws.{nodes-length}
 use Rattle.values.specs.Line.{Line, linesOf, valuesOf}
 use Rattle.lines.specs.Sheet.{Sheet, Result, accepted, refused, refuse, followed, entry, value-lines, starts-with, longest, sheet}
 use Rattle.lines.specs.Sheets.{outline}
 use Rattle.sheets.specs.Readers.{ruled-by, ruled}
 use Rattle.lines.proofs.AcceptLaws.{sheet-accepted}
-use Rattle.report.proofs.AcceptedLaws.{rows-each}
-use Rattle.report.proofs.AcceptedNodes.{tails-each, flat-three}
+use Rattle.sheets.proofs.OutlineLaws.{nodes-size}
 
 pub record Low (most : ℕ) (r : Refusal) : Type 0 where
   pub line : r .line ≤ most
@@ -87,8 +86,7 @@ outline-low text r e = go (sheet outline text) refl e
     go : (x : Result) → sheet outline text ≡ x → ruled x ≡ refused r → Low 66 r
     go (accepted lines) k e =
         let a = sheet-accepted outline text lines k in
-        let t = flat-three (tails-each (rows-each outline (a .each))) in
-        let m = length-map lines tail in
+        let t = nodes-size (a .each) in
         let f : length lines ≤ 64 = a .few in
         by lines (rw (nodes-length (flatten (map tail lines))) (omega arith)) (ruledSheet (map (λ vs. getD vs 0 0) lines) (nodesOf (flatten (map tail lines)))) refl e
     go (refused x) k e = sheet-low outline text r (k ∙ e)
