@@ -24,7 +24,7 @@ pub data PromisedRow (edges : List ℕ) : Result → List ℕ → Type 0 where
   refusal-told : {r : Refusal} → PromisedRow edges (refused r) (refusal-row 5 r)
   promise-told : {nodes : List (List ℕ)} {r : Outcome} → Promised edges (flatten nodes) r → PromisedRow edges (accepted nodes) (verdict-row 0 (told r))
 
--- the room that any such line has: 8 bytes, as `258 3 4` and its line feed
+-- The room that is asked for: as much as `report` has for one line after the names. No such line is longer, as `66 5 4` and its line feed.
 abbrev pub row-room : ℕ
 row-room = 8
 
