@@ -11,7 +11,7 @@ pub struct Flat {
 }
 
 // No record yet.
-pub fn empty() -> Flat
+fn empty() -> Flat
     ensures { λ r. ⌜ r ≡ zeros ⌝ }
 {
     let bytes = [0u8; 1536];
@@ -19,7 +19,7 @@ pub fn empty() -> Flat
 }
 
 // One record more: its six fields at the end of the table.
-pub fn add(mut f: Flat, e: Edge) -> Flat
+fn add(mut f: Flat, e: Edge) -> Flat
     ensures { λ r. ⌜ r ≡ addOf f e ⌝ }
 {
     let n = f.count;

@@ -43,6 +43,7 @@ pub enum Read {
     Nothing,
 }
 
+// A step as it is handed over; what refusal 21 is for reads as nothing.
 pub fn read_step(step: RawStep) -> Read
     ensures { λ r. ⌜ says r ≡ stepOf step ⌝ }
 {
