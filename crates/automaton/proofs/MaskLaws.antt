@@ -12,7 +12,7 @@ use lib.Count.{trailingZeros}
 use lib.Pow.{pow-lt}
 use borrow.Author.Tests.{eq-eqb, eqb-true, le-leb, leb-true, lt-ltb}
 use Rattle.usage.specs.Tests.{some-below}
-use Rattle.usage.proofs.Logic.{false-true, not-both, or-left, or-right, or-cases, and-left, and-right, and-both, last-or-lower, not-true}
+use Rattle.usage.proofs.Logic.{false-true, not-both, or-left, or-right, or-cases, and-left, and-right, and-both, last-or-lower, not-true, both-ways}
 use Rattle.automaton.specs.Mask.{has, single, union, offends, lowest}
 
 same-test : (a b : Bool) → Bool·beq a b ≡ true → a ≡ b
@@ -123,15 +123,10 @@ pow-byte t h = pow-lt h
 
 -- the mask of the numbers below 8 that pass a test
 pub maskOf-has : (t : ℕ → Bool) (q : ℕ) → q < 8 → has (union 8 (λ i. cond (t i) (2 ^ i) 0)) q ≡ t q
-maskOf-has t q l = both (has m q) (t q) to from
+maskOf-has t q l = both-ways (has m q) (t q) to from
   where
     m : ℕ
     m = union 8 (λ i. cond (t i) (2 ^ i) 0)
-
-    both : (a b : Bool) → (a ≡ true → b ≡ true) → (b ≡ true → a ≡ true) → a ≡ b
-    both true b f g = sym (f refl)
-    both false true f g = g refl
-    both false false f g = refl
 
     here : (i : ℕ) → i < 8 → (b : Bool) → t i ≡ b → has (cond b (2 ^ i) 0) q ≡ true → t q ≡ true
     here i k true b h = ap t (sym (eqb-true i q (sym (has-pow i q k l) ∙ h))) ∙ b

@@ -9,19 +9,13 @@ use lib.Dec.{eqb, ltb, leb}
 use lib.ListN.{length, getD, set}
 use Rattle.usage.specs.declared.Edge.{Edge}
 use Rattle.usage.specs.Tables.{from}
-use Rattle.usage.proofs.Logic.{and-left, and-right, and-both}
+use Rattle.usage.proofs.Logic.{and-left, and-right, and-both, both-ways}
 use Rattle.automaton.specs.Move.{moveBy, moveMask, rowsOf}
 use Rattle.automaton.specs.Rows.{movedBy}
 use Rattle.automaton.proofs.RowLaws.{moveBy-rows}
 use Rattle.instances.specs.Sets.{movedSets}
 use Rattle.instances.specs.Code.{rowMoved, movedAt, policyMoved, allMoved}
 use Rattle.instances.proofs.PlaceLaws.{table, table-at, table-length, table-same, is-table, table-set, ltb-next, place-is}
-
--- two tests that imply each other
-both : (a b : Bool) → (a ≡ true → b ≡ true) → (b ≡ true → a ≡ true) → a ≡ b
-both true b f g = sym (f refl)
-both false true f g = g refl
-both false false f g = refl
 
 -- ── The n sets from place k on ──
 
@@ -55,7 +49,7 @@ module _ (rows : List ℕ) (k : ℕ) (sets : List ℕ) where
 
 -- the places of policy p's first n instances
 places : (k p n : ℕ) → n ≤ 81 → (leb (p * 81) k && ltb k (p * 81 + n)) ≡ (eqb (k / 81) p && ltb (k % 81) n)
-places k p n h = both (leb (p * 81) k && ltb k (p * 81 + n)) (eqb (k / 81) p && ltb (k % 81) n) to back
+places k p n h = both-ways (leb (p * 81) k && ltb k (p * 81 + n)) (eqb (k / 81) p && ltb (k % 81) n) to back
   where
     to : (leb (p * 81) k && ltb k (p * 81 + n)) ≡ true → (eqb (k / 81) p && ltb (k % 81) n) ≡ true
     to e =

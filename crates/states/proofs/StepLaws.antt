@@ -2,18 +2,31 @@
 use Prim.Native.Nat.{ℕ, zero, suc, _<_, _≤_}
 use mathlib.Core.Path.{_≡_, refl}
 use mathlib.Core.Bool.{Bool, true, false, _&&_}
-use mathlib.Core.Option.{none, some}
+use mathlib.Core.Option.{Option, none, some}
 use native.Mathlib.Omega.{arith}
-use borrow.Author.Tests.{leb-true, le-leb}
+use borrow.Author.Tests.{leb-true}
 use lib.Dec.{leb}
 use lib.ListN.{getElem?}
 use Rattle.usage.specs.declared.RawStep.{RawStep}
+use Rattle.usage.specs.Limits.{Kind}
 use Rattle.usage.specs.Past.{Step, event, opening, closing}
 use Rattle.usage.specs.Judge.{step-kinds, guard, in-range, stepOf}
+use Rattle.usage.specs.Tests.{fits}
+use Rattle.ranges.specs.Fields.{stepOk}
 use Rattle.usage.proofs.Logic.{clash, none-some, and-left, and-right}
 
-pub zero-leb : (a : ℕ) → leb 0 a ≡ true
-zero-leb a = le-leb 0 a (omega arith)
+-- three numbers that are not those of a step, and three that are
+pub not-read : (raw : RawStep) → stepOk raw ≡ false → stepOf raw ≡ none
+unfolding stepOk stepOf
+not-read raw = unfit (getElem? step-kinds (raw .kind))
+  where
+    unfit : (k : Option (Kind Step)) → fits k (raw .a) (raw .b) ≡ false → in-range k (raw .a) (raw .b) ≡ none
+    unfit none h = refl
+    unfit (some k) h = rw h
+
+pub is-read : (raw : RawStep) (k : Kind Step) → getElem? step-kinds (raw .kind) ≡ some k → stepOk raw ≡ true → stepOf raw ≡ some (k .says (raw .a) (raw .b))
+unfolding stepOk stepOf
+is-read raw k e h = rw e (rw (rw e at h))
 
 -- there is no kind above 2
 pub no-kind : (k : ℕ) → (k ≡ 0 → ⊥) → (k ≡ 1 → ⊥) → (k ≡ 2 → ⊥) → getElem? step-kinds k ≡ none

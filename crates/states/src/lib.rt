@@ -50,34 +50,13 @@ pub fn read_step(step: RawStep) -> Read
     let kind = step.kind;
     let a = step.a;
     let b = step.b;
+    if !ranges::step_fits(kind, a, b) {
+        return Read::Nothing;
+    }
     match kind {
-        0 => {
-            if 31 < a {
-                return Read::Nothing;
-            }
-            if 65535 < b {
-                return Read::Nothing;
-            }
-            Read::Event(a, b)
-        }
-        1 => {
-            if 7 < a {
-                return Read::Nothing;
-            }
-            if 0 < b {
-                return Read::Nothing;
-            }
-            Read::Opening(a as usize)
-        }
-        2 => {
-            if 7 < a {
-                return Read::Nothing;
-            }
-            if 0 < b {
-                return Read::Nothing;
-            }
-            Read::Closing(a as usize)
-        }
+        0 => Read::Event(a, b),
+        1 => Read::Opening(a as usize),
+        2 => Read::Closing(a as usize),
         _ => Read::Nothing,
     }
 }

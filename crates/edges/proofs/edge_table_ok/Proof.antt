@@ -1,5 +1,5 @@
 -- `edge_table_ok` meets its contract. The invariant: every edge before i is in range.
-use Prim.Native.Nat.{ℕ, _-_, _≤_, _<_}
+use Prim.Native.Nat.{ℕ, _+_, _*_, _-_, _≤_, _<_}
 use mathlib.Core.Bool.{true}
 use mathlib.Core.Path.{_≡_, sym}
 use native.Mathlib.Omega.{arith}
@@ -29,46 +29,64 @@ loop-holds c = (search needs, λ k l. absurd (omega arith))
 mul-k : tie.Need-mul-k Inv-loop μ-loop
 mul-k c = search needs
 
-shared-slice-read-edge-ok : tie.Need-shared-slice-read-edge-ok Inv-loop μ-loop
-shared-slice-read-edge-ok c = search needs
+shared-slice-read-edge-fits : tie.Need-shared-slice-read-edge-fits Inv-loop μ-loop
+shared-slice-read-edge-fits c = search needs
 
-add-edge-ok : tie.Need-add-edge-ok Inv-loop μ-loop
-add-edge-ok c = search needs
+cast-edge-fits : tie.Need-cast-edge-fits Inv-loop μ-loop
+cast-edge-fits c = omega (arith, c .shared-slice-known2 .given (6 * c .before .before .loop .i))
 
-shared-slice-read-edge-ok-2 : tie.Need-shared-slice-read-edge-ok-2 Inv-loop μ-loop
-shared-slice-read-edge-ok-2 c = search needs
+add-edge-fits : tie.Need-add-edge-fits Inv-loop μ-loop
+add-edge-fits c = search needs
 
-add-edge-ok-2 : tie.Need-add-edge-ok-2 Inv-loop μ-loop
-add-edge-ok-2 c = search needs
+shared-slice-read-edge-fits-2 : tie.Need-shared-slice-read-edge-fits-2 Inv-loop μ-loop
+shared-slice-read-edge-fits-2 c = search needs
 
-shared-slice-read-edge-ok-3 : tie.Need-shared-slice-read-edge-ok-3 Inv-loop μ-loop
-shared-slice-read-edge-ok-3 c = search needs
+cast-edge-fits-2 : tie.Need-cast-edge-fits-2 Inv-loop μ-loop
+cast-edge-fits-2 c = omega (arith, c .shared-slice-known3 .given (6 * c .before .before .before .loop .i + 1))
 
-add-edge-ok-3 : tie.Need-add-edge-ok-3 Inv-loop μ-loop
-add-edge-ok-3 c = search needs
+add-edge-fits-2 : tie.Need-add-edge-fits-2 Inv-loop μ-loop
+add-edge-fits-2 c = search needs
 
-shared-slice-read-edge-ok-4 : tie.Need-shared-slice-read-edge-ok-4 Inv-loop μ-loop
-shared-slice-read-edge-ok-4 c = search needs
+shared-slice-read-edge-fits-3 : tie.Need-shared-slice-read-edge-fits-3 Inv-loop μ-loop
+shared-slice-read-edge-fits-3 c = search needs
 
-add-edge-ok-4 : tie.Need-add-edge-ok-4 Inv-loop μ-loop
-add-edge-ok-4 c = search needs
+cast-edge-fits-3 : tie.Need-cast-edge-fits-3 Inv-loop μ-loop
+cast-edge-fits-3 c = omega (arith, c .shared-slice-known4 .given (6 * c .before .before .before .before .loop .i + 2))
 
-shared-slice-read-edge-ok-5 : tie.Need-shared-slice-read-edge-ok-5 Inv-loop μ-loop
-shared-slice-read-edge-ok-5 c = search needs
+add-edge-fits-3 : tie.Need-add-edge-fits-3 Inv-loop μ-loop
+add-edge-fits-3 c = search needs
 
-add-edge-ok-5 : tie.Need-add-edge-ok-5 Inv-loop μ-loop
-add-edge-ok-5 c = search needs
+shared-slice-read-edge-fits-4 : tie.Need-shared-slice-read-edge-fits-4 Inv-loop μ-loop
+shared-slice-read-edge-fits-4 c = search needs
 
-shared-slice-read-edge-ok-6 : tie.Need-shared-slice-read-edge-ok-6 Inv-loop μ-loop
-shared-slice-read-edge-ok-6 c = search needs
+cast-edge-fits-4 : tie.Need-cast-edge-fits-4 Inv-loop μ-loop
+cast-edge-fits-4 c = omega (arith, c .shared-slice-known5 .given (6 * c .before .before .before .before .before .loop .i + 3))
 
-edge-ok-requires : tie.Need-edge-ok-requires Inv-loop μ-loop
-edge-ok-requires c κs = search needs
+add-edge-fits-4 : tie.Need-add-edge-fits-4 Inv-loop μ-loop
+add-edge-fits-4 c = search needs
+
+shared-slice-read-edge-fits-5 : tie.Need-shared-slice-read-edge-fits-5 Inv-loop μ-loop
+shared-slice-read-edge-fits-5 c = search needs
+
+cast-edge-fits-5 : tie.Need-cast-edge-fits-5 Inv-loop μ-loop
+cast-edge-fits-5 c = omega (arith, c .shared-slice-known6 .given (6 * c .before .before .before .before .before .before .loop .i + 4))
+
+add-edge-fits-5 : tie.Need-add-edge-fits-5 Inv-loop μ-loop
+add-edge-fits-5 c = search needs
+
+shared-slice-read-edge-fits-6 : tie.Need-shared-slice-read-edge-fits-6 Inv-loop μ-loop
+shared-slice-read-edge-fits-6 c = search needs
+
+cast-edge-fits-6 : tie.Need-cast-edge-fits-6 Inv-loop μ-loop
+cast-edge-fits-6 c = omega (arith, c .shared-slice-known7 .given (6 * c .before .before .before .before .before .before .before .loop .i + 5))
+
+edge-fits-requires : tie.Need-edge-fits-requires Inv-loop μ-loop
+edge-fits-requires c κs = search needs
 
 returns-3 : tie.Need-returns-3 Inv-loop μ-loop
 returns-3 c =
     let t = c .before .before .before .before .before .before .before .before .before .before .before .before .before .args .edges .now in
-    sym (bad-edge t (c .before .before .before .before .before .before .before .before .before .loop .i) (c .before .edge-ok .result) (c .before .edge-ok .ensures) (c .before .before .before .before .before .before .before .before .loop-test .taken) (c .if3 .taken))
+    sym (bad-edge t (c .before .before .before .before .before .before .before .before .before .loop .i) (c .before .edge-fits .result) (c .before .edge-fits .ensures) (c .before .before .before .before .before .before .before .before .loop-test .taken) (c .if3 .taken))
 
 add-i : tie.Need-add-i Inv-loop μ-loop
 add-i c = search needs
@@ -80,7 +98,7 @@ loop-again : tie.Need-loop-again Inv-loop μ-loop
 loop-again c =
     let t = c .before .before .before .before .before .before .before .before .before .before .before .before .before .args .edges .now in
     let i = c .before .before .before .before .before .before .before .before .before .loop .i in
-    (search needs, below-more _ i (c .before .before .before .before .before .before .before .before .before .loop .inv .1) (good-edge t i (c .before .edge-ok .result) (c .before .edge-ok .ensures) (c .if3 .left)))
+    (search needs, below-more _ i (c .before .before .before .before .before .before .before .before .before .loop .inv .1) (good-edge t i (c .before .edge-fits .result) (c .before .edge-fits .ensures) (c .if3 .left)))
 
 returns-4 : tie.Need-returns-4 Inv-loop μ-loop
 returns-4 c =
@@ -97,18 +115,24 @@ edge-table-ok-spec =
     returns-2
     loop-holds
     mul-k
-    shared-slice-read-edge-ok
-    add-edge-ok
-    shared-slice-read-edge-ok-2
-    add-edge-ok-2
-    shared-slice-read-edge-ok-3
-    add-edge-ok-3
-    shared-slice-read-edge-ok-4
-    add-edge-ok-4
-    shared-slice-read-edge-ok-5
-    add-edge-ok-5
-    shared-slice-read-edge-ok-6
-    edge-ok-requires
+    shared-slice-read-edge-fits
+    cast-edge-fits
+    add-edge-fits
+    shared-slice-read-edge-fits-2
+    cast-edge-fits-2
+    add-edge-fits-2
+    shared-slice-read-edge-fits-3
+    cast-edge-fits-3
+    add-edge-fits-3
+    shared-slice-read-edge-fits-4
+    cast-edge-fits-4
+    add-edge-fits-4
+    shared-slice-read-edge-fits-5
+    cast-edge-fits-5
+    add-edge-fits-5
+    shared-slice-read-edge-fits-6
+    cast-edge-fits-6
+    edge-fits-requires
     returns-3
     add-i
     loop-less
