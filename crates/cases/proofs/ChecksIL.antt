@@ -34,7 +34,7 @@ flat (n ∷ ns) = n .kind ∷ n .a ∷ n .b ∷ flat ns
 -- ── Any case ──
 
 abbrev Verdict-right : CheckCase → Type 0
-Verdict-right c = Checked (edgesOf (c .edges)) (c .outline) (c .verdict)
+Verdict-right c = Checked false (edgesOf (c .edges)) (c .outline) (c .verdict)
 
 module _ (e : List ℕ) (ns : List Node) (edges : edgeTable e ≡ true) (whole : nodesOf (flat ns) ≡ ns) (ok : OutlineOk ns) where
   ok-flat : OutlineOk (nodesOf (flat ns))
@@ -44,22 +44,22 @@ module _ (e : List ℕ) (ns : List Node) (edges : edgeTable e ≡ true) (whole :
   edges-ok = decides-edge-table e .0 edges .edges
 
   -- a policy that no sandbox opens is never left open
-  pub not-left : (p : ℕ) → opens (flat ns) p ≡ false → Leaves (edgesOf e) ns p → ⊥
+  pub not-left : (p : ℕ) → opens (flat ns) p ≡ false → Leaves false (edgesOf e) ns p → ⊥
   not-left p h =
-      subst (λ (ns : List Node). Leaves (edgesOf e) ns p → ⊥) whole (refutes (shut e (flat ns) edges-ok ok-flat p h) refl)
+      subst (λ (ns : List Node). Leaves false (edgesOf e) ns p → ⊥) whole (refutes (shut e (flat ns) edges-ok ok-flat p h) refl)
 
-  searched : (answer : Bool) → SearchedAll (rowsIn (rowTable e (flat ns) 0)) 0 (length (flat ns) / 3) (formsIn (flat ns)) answer → Decides answer (Leaves (edgesOf e) ns 0)
+  searched : (answer : Bool) → SearchedAll (rowsIn (rowTable e (flat ns) 0)) 0 (length (flat ns) / 3) (formsIn (flat ns)) answer → Decides answer (Leaves false (edgesOf e) ns 0)
   unfolding rowTable
   searched answer h =
-      subst (λ (ns : List Node). Decides answer (Leaves (edgesOf e) ns 0)) whole
+      subst (λ (ns : List Node). Decides answer (Leaves false (edgesOf e) ns 0)) whole
       (looked e (flat ns) edges-ok ok-flat 0 (lit< tt) (rowTable e (flat ns) 0) refl answer h)
 
   -- k rounds show that policy 0 is not left open and not respected
-  pub not-broken : (k : ℕ) → ((x : ℕ) → tells-at e (flat ns) 0 x unnamed k false ≡ true) → tells-at e (flat ns) 0 watched 0 k false ≡ true → Leaves (edgesOf e) ns 0 → ⊥
+  pub not-broken : (k : ℕ) → ((x : ℕ) → tells-at e (flat ns) 0 x unnamed k false ≡ true) → tells-at e (flat ns) 0 watched 0 k false ≡ true → Leaves false (edgesOf e) ns 0 → ⊥
   not-broken k h d = refutes (searched false (none-told e (flat ns) 0 k h d)) refl
 
   -- k rounds show that it is, by the instance of resource 0
-  pub broken : (k : ℕ) → tells-at e (flat ns) 0 0 unnamed k true ≡ true → Leaves (edgesOf e) ns 0
+  pub broken : (k : ℕ) → tells-at e (flat ns) 0 0 unnamed k true ≡ true → Leaves false (edgesOf e) ns 0
   unfolding least
   broken k h = searched true (found {x = 0} (omega arith) (told-at e (flat ns) 0 0 unnamed k true refl h)) .0 refl
 
@@ -129,12 +129,12 @@ zero-or-more (suc p) = inr (omega arith)
 
 pub right-I : Verdict-right case-I
 right-I = accepts (λ p l. by-cases (zero-or-more p)
-    (λ e. not-broken (case-I .edges) outline-I table-P whole-I I-ok 3 static-I dynamic-I (subst (Leaves (edgesOf (case-I .edges)) outline-I) e l))
+    (λ e. not-broken (case-I .edges) outline-I table-P whole-I I-ok 3 static-I dynamic-I (subst (Leaves false (edgesOf (case-I .edges)) outline-I) e l))
     (λ h. not-left (case-I .edges) outline-I table-P whole-I I-ok p (shut-I p h) l))
 
 pub right-J : Verdict-right case-J
 right-J = accepts (λ p l. by-cases (zero-or-more p)
-    (λ e. not-broken (case-J .edges) outline-J table-J whole-J J-ok 3 static-J dynamic-J (subst (Leaves (edgesOf (case-J .edges)) outline-J) e l))
+    (λ e. not-broken (case-J .edges) outline-J table-J whole-J J-ok 3 static-J dynamic-J (subst (Leaves false (edgesOf (case-J .edges)) outline-J) e l))
     (λ h. not-left (case-J .edges) outline-J table-J whole-J J-ok p (shut-J p h) l))
 
 pub right-K : Verdict-right case-K

@@ -45,7 +45,7 @@ pub right-each : (cs : List JudgeCase) → every (λ c. possible (c .edges)) cs 
 unfolding run possible
 right-each cs tables gives c m =
     let table : possible (c .edges) ≡ true = d-every (λ c. possible (c .edges)) (λ c. d-same (possible (c .edges))) cs .0 tables c m in
-    subst (JudgedAll (edgesOf (c .edges)) [] false (c .steps)) (map-same (λ c. run (c .edges) (c .steps)) (λ c. c .answers) cs gives c m)
+    subst (JudgedAll false (edgesOf (c .edges)) [] false (c .steps)) (map-same (λ c. run (c .edges) (c .steps)) (λ c. c .answers) cs gives c m)
     (all-judged-begin (c .edges) table (c .steps))
 
 -- ── The cases ──
@@ -62,7 +62,7 @@ pub right-AH : (c : JudgeCase) → List·Memᴰ c cases-AH → Right c
 right-AH = right-each cases-AH tables-AH computed-AH
 
 -- "A: empty trace, valid."
-pub valid-A : Valid (edgesOf P) []
+pub valid-A : Valid false (edgesOf P) []
 valid-A = empty
 
 -- ── Limits and refusals ──

@@ -1,4 +1,5 @@
 -- Document 01's "Cases by letter", A to L, as one list: what each case says, and what makes it right.
+use mathlib.Core.Bool.{false}
 use Prim.Native.Nat.{ℕ}
 use mathlib.Core.Path.{_≡_}
 use mathlib.Core.List.{List, [], _∷_}
@@ -28,8 +29,8 @@ pub data Case : Type 0 where
 -- what makes it right, from the definitions of crate usage
 abbrev pub Right : Case → Type 0
 Right (judged c) = Rattle.cases.specs.JudgeCases.Right c
-Right (valid t past) = Valid (edgesOf t) past
-Right (checked c) = Checked (edgesOf (c .edges)) (c .outline) (c .verdict)
+Right (valid t past) = Valid false (edgesOf t) past
+Right (checked c) = Checked false (edgesOf (c .edges)) (c .outline) (c .verdict)
 Right (only-empty ns) = (past : Past) → IsTrace ns past → past ≡ []
 
 -- ── The check's cases ──

@@ -16,7 +16,7 @@ pub record JudgeCase : Type 0 where
 
 -- the answers are the right ones, from the empty past on
 abbrev pub Right : JudgeCase → Type 0
-Right c = JudgedAll (edgesOf (c .edges)) [] false (c .steps) (c .answers)
+Right c = JudgedAll false (edgesOf (c .edges)) [] false (c .steps) (c .answers)
 
 -- ── The cases ──
 

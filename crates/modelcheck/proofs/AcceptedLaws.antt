@@ -121,7 +121,7 @@ refused-whole j s n e k = λ i. record { answer = e i; state = k i }
 
 -- ── The theorem ──
 
-module _ (t : List ℕ) (table : edgeTable t ≡ true) (ns : List Node) (ok : OutlineOk ns) (none-left : (p : ℕ) → Leaves (edgesOf t) ns p → ⊥) where
+module _ (t : List ℕ) (table : edgeTable t ≡ true) (ns : List Node) (ok : OutlineOk ns) (none-left : (p : ℕ) → Leaves false (edgesOf t) ns p → ⊥) where
   passes : (steps : List Step) (past : Past) (s : State) → Represents (edgesOf t) past false s → IsTrace ns (onto steps past) → Low (onto steps past) → Passes t past s steps
   unfolding onto
   passes [] past s R tr low = ended

@@ -33,19 +33,19 @@ module _ (e t : List ℕ) (edges : EdgesOk (edgesOf e)) (ok : OutlineOk (nodesOf
   pub few-nodes : length t / 3 ≤ 64
   few-nodes = let l = ok .few in let n = nodes-length t in omega arith
 
-  refuted : (p : ℕ) → (Leaves (edgesOf e) (nodesOf t) p → ⊥) → Decides false (Leaves (edgesOf e) (nodesOf t) p)
+  refuted : (p : ℕ) → (Leaves false (edgesOf e) (nodesOf t) p → ⊥) → Decides false (Leaves false (edgesOf e) (nodesOf t) p)
   refuted p h = ((λ b. false-true b), (λ l. absurd (h l)))
 
-  pub shut : (p : ℕ) → opens t p ≡ false → Decides false (Leaves (edgesOf e) (nodesOf t) p)
+  pub shut : (p : ℕ) → opens t p ≡ false → Decides false (Leaves false (edgesOf e) (nodesOf t) p)
   shut p h = refuted p (λ l.
-      let x = exact (edgesOf e) (nodesOf t) (Scope (nodesOf t)) p edges (scoped (nodesOf t) ok) .0 l in
-      no-hits (edgesOf e) (nodesOf t) p (x .0) (not-opened t p h) (x .3))
+      let x = exact false (edgesOf e) (nodesOf t) (Scope (nodesOf t)) p edges (scoped (nodesOf t) ok) .0 l in
+      no-hits (edgesOf e) (nodesOf t) p (x .0) (not-opened t p h) (x .4))
 
-  pub bare : (p : ℕ) → hasEdge e p ≡ false → Decides false (Leaves (edgesOf e) (nodesOf t) p)
+  pub bare : (p : ℕ) → hasEdge e p ≡ false → Decides false (Leaves false (edgesOf e) (nodesOf t) p)
   bare p h = refuted p (bare-leaves e (nodesOf t) p h)
 
   pub looked : (p : ℕ) → p < 8 → (r : List ℕ) → r ≡ fillRows (rowsOf (edgesOf e)) p (length t / 3) (formsIn t) (replicate 3072 0)
-      → (answer : Bool) → SearchedAll (rowsIn r) p (length t / 3) (formsIn t) answer → Decides answer (Leaves (edgesOf e) (nodesOf t) p)
+      → (answer : Bool) → SearchedAll (rowsIn r) p (length t / 3) (formsIn t) answer → Decides answer (Leaves false (edgesOf e) (nodesOf t) p)
   looked p small r er answer h =
       let es = edgesOf e in
       let ns = nodesOf t in
@@ -58,17 +58,17 @@ module _ (e t : List ℕ) (edges : EdgesOk (edgesOf e)) (ok : OutlineOk (nodesOf
   -- ── All policies ──
 
   -- a policy above 7 has no edge
-  pub none-higher : (p : ℕ) → 8 ≤ p → Leaves (edgesOf e) (nodesOf t) p → ⊥
+  pub none-higher : (p : ℕ) → 8 ≤ p → Leaves false (edgesOf e) (nodesOf t) p → ⊥
   none-higher p h l = never-broken (edgesOf e) p (λ g m d. let s = edges .each g m .policy in omega arith) (l .2 .1)
 
-  pub named-lowest : (p : ℕ) → p < 8 → Leaves (edgesOf e) (nodesOf t) p → ((s : ℕ) → s < p → Leaves (edgesOf e) (nodesOf t) s → ⊥) → Checked (edgesOf e) (nodesOf t) (verdictOf p)
+  pub named-lowest : (p : ℕ) → p < 8 → Leaves false (edgesOf e) (nodesOf t) p → ((s : ℕ) → s < p → Leaves false (edgesOf e) (nodesOf t) s → ⊥) → Checked false (edgesOf e) (nodesOf t) (verdictOf p)
   unfolding verdictOf
-  named-lowest p h l lower = subst (λ (b : Bool). Checked (edgesOf e) (nodesOf t) (named-if b p)) (sym (lt-ltb p 8 h)) (names l lower)
+  named-lowest p h l lower = subst (λ (b : Bool). Checked false (edgesOf e) (nodesOf t) (named-if b p)) (sym (lt-ltb p 8 h)) (names l lower)
 
-  pub all-good : ((s : ℕ) → s < 8 → Leaves (edgesOf e) (nodesOf t) s → ⊥) → Checked (edgesOf e) (nodesOf t) (verdictOf 8)
+  pub all-good : ((s : ℕ) → s < 8 → Leaves false (edgesOf e) (nodesOf t) s → ⊥) → Checked false (edgesOf e) (nodesOf t) (verdictOf 8)
   unfolding verdictOf
   all-good h = accepts (λ s l. go s l (leb 8 s) refl)
     where
-      go : (s : ℕ) → Leaves (edgesOf e) (nodesOf t) s → (b : Bool) → leb 8 s ≡ b → ⊥
+      go : (s : ℕ) → Leaves false (edgesOf e) (nodesOf t) s → (b : Bool) → leb 8 s ≡ b → ⊥
       go s l true f = none-higher s (leb-true 8 s f) l
       go s l false f = h s (leb-false 8 s f) l

@@ -36,7 +36,7 @@ module _ (t n : List ℕ) where
   }
 
   -- both tables are those of accepted sheets
-  pub answered : (r : Outcome) → edgeTable t ≡ true → nodeTable n ≡ true → Checked (edgesOf t) (nodesOf n) (told r) → Promised t n r
+  pub answered : (r : Outcome) → edgeTable t ≡ true → nodeTable n ≡ true → Checked false (edgesOf t) (nodesOf n) (told r) → Promised t n r
   answered r e f c = record {
     right = λ edges nodes. c;
     no-edges = λ g. absurd (g (decides-edge-table t .0 e));
@@ -55,7 +55,7 @@ named-number p h = rw (lt-ltb p 8 h)
 
 -- ── What is accepted ──
 
-none-left : {es : List Edge} {ns : List Node} {v : Verdict} → Checked es ns v → v ≡ allowed → (p : ℕ) → Leaves es ns p → ⊥
+none-left : {es : List Edge} {ns : List Node} {v : Verdict} → Checked false es ns v → v ≡ allowed → (p : ℕ) → Leaves false es ns p → ⊥
 none-left (accepts f) e p l = f p l
 none-left (names l low) e p k = clash (cc)
 

@@ -27,7 +27,7 @@ use Rattle.tables.proofs.NodeLaws.{forms-of}
 -- ── No sandbox ──
 
 module _ (es : List Edge) (ns : List Node) (p x : ℕ) (shut : (k b : ℕ) → Is ns k (sandbox p b) → ⊥) where
-  never-open : {o : Bool} {k w : ℕ} {c : Bool} {q : ℕ} → Comes es ns p x o k w c q → o ≡ false
+  never-open : {n : ℕ} {o : Bool} {k w : ℕ} {c : Bool} {q : ℕ} → Comes false es ns p x n o k w c q → o ≡ false
   never-open Comes.begins = refl
   never-open (Comes.first i e) = never-open e
   never-open (Comes.second i e f) = never-open e
@@ -40,7 +40,7 @@ module _ (es : List Edge) (ns : List Node) (p x : ℕ) (shut : (k b : ℕ) → I
   never-open (Comes.inside {k = k} {s = s} {b = b} i e) =
       ap (λ (o : Bool). o || eqb s p) (never-open e) ∙ ne-eqb s p (λ d. shut k b (subst (λ (r : ℕ). Is ns k (sandbox r b)) d i))
 
-  pub no-hits : {last : Last} → Hits es ns p x last → ⊥
+  pub no-hits : {n : ℕ} {last : Last} → Hits false es ns p x n last → ⊥
   no-hits (Hits.at-static i c v f) = not-both true refl (never-open c)
   no-hits (Hits.at-name i c v f) = not-both true refl (never-open c)
   no-hits (Hits.at-other i c v f) = not-both true refl (never-open c)
@@ -76,7 +76,7 @@ module _ (es : List Edge) (p : ℕ) (bare : (e : Edge) → List·Memᴰ e es →
   unmoved (along e m f) = absurd (bare e m (f .policy))
   unmoved (stays n) = refl
 
-  at-start : {x : ℕ} {past : Past} {q : ℕ} → May es p (Sees x) past q → 0 ≡ q
+  at-start : {x : ℕ} {past : Past} {q : ℕ} → May false es p (Sees x) past q → 0 ≡ q
   at-start start = refl
   at-start (moved m v) = at-start m ∙ unmoved v
   at-start (opened m) = at-start m
@@ -86,7 +86,7 @@ module _ (es : List Edge) (p : ℕ) (bare : (e : Edge) → List·Memᴰ e es →
   start-good e (inl f) = omega arith
   start-good e (inr f) = omega arith
 
-  pub never-broken : {past : Past} → Broken es p past → ⊥
+  pub never-broken : {past : Past} → Broken false es p past → ⊥
   never-broken (x, q, m, f) = start-good (at-start m) f
 
 pub no-edge : (t : List ℕ) (p : ℕ) → hasEdge t p ≡ false → (e : Edge) → List·Memᴰ e (edgesOf t) → e .policy ≡ p → ⊥
@@ -96,5 +96,5 @@ no-edge t p h e m d =
     not-both (hasEdge t p) (some-at (length t / 6) (λ i. eqb (getD t (6 * i) 0) p) i l (eq-eqb (getD t (6 * i) 0) p (ap (λ (g : Edge). g .policy) (sym f) ∙ d))) h
 
 -- a policy without an edge leaves no trace
-pub bare-leaves : (t : List ℕ) (ns : List Node) (p : ℕ) → hasEdge t p ≡ false → Leaves (edgesOf t) ns p → ⊥
+pub bare-leaves : (t : List ℕ) (ns : List Node) (p : ℕ) → hasEdge t p ≡ false → Leaves false (edgesOf t) ns p → ⊥
 bare-leaves t ns p h l = never-broken (edgesOf t) p (no-edge t p h) (l .2 .1)

@@ -1,4 +1,5 @@
 -- What the check promises, for all tables at all.
+use mathlib.Core.Bool.{false}
 use Prim.Native.Nat.{ℕ}
 use mathlib.Core.Path.{_≡_}
 use mathlib.Core.List.{List}
@@ -17,7 +18,7 @@ told (Refused n) = refused n
 
 -- "41 a table lent to be used that, taken whole, no accepted sheet gives"; else the right answer, which is only one
 pub record Promised (t n : List ℕ) (r : Outcome) : Type 0 where
-  pub right : EdgeTable t → NodeTable n → Checked (edgesOf t) (nodesOf n) (told r)
+  pub right : EdgeTable t → NodeTable n → Checked false (edgesOf t) (nodesOf n) (told r)
   pub no-edges : (EdgeTable t → ⊥) → r ≡ Refused 41
   pub no-nodes : (NodeTable n → ⊥) → r ≡ Refused 41
 

@@ -1,5 +1,6 @@
 // The search: which policy is broken, with which resource watched.
 ghost use mathlib.Core.Path.{_≡_};
+ghost use mathlib.Core.Bool.{false};
 ghost use Prim.Native.Nat.{ℕ, _/_, _<_};
 ghost use lib.ListN.{length};
 ghost use Rattle.usage.specs.Policy.{EdgesOk};
@@ -47,7 +48,7 @@ fn leaves(edges: &[u8], nodes: &[u8], p: usize) -> bool
     requires { ⌜ EdgesOk (edgesOf (now edges)) ⌝ }
     requires { ⌜ OutlineOk (nodesOf (now nodes)) ⌝ }
     requires { ⌜ p < 8 ⌝ }
-    ensures { λ r. ⌜ Decides r (Leaves (edgesOf (now (edges .entry))) (nodesOf (now (nodes .entry))) p) ⌝ }
+    ensures { λ r. ⌜ Decides r (Leaves false (edgesOf (now (edges .entry))) (nodesOf (now (nodes .entry))) p) ⌝ }
 {
     if !crate::opens(nodes, p) {
         return false;
@@ -64,7 +65,7 @@ fn leaves(edges: &[u8], nodes: &[u8], p: usize) -> bool
 fn lowest(edges: &[u8], nodes: &[u8]) -> usize
     requires { ⌜ EdgesOk (edgesOf (now edges)) ⌝ }
     requires { ⌜ OutlineOk (nodesOf (now nodes)) ⌝ }
-    ensures { λ r. ⌜ Checked (edgesOf (now (edges .entry))) (nodesOf (now (nodes .entry))) (verdictOf r) ⌝ }
+    ensures { λ r. ⌜ Checked false (edgesOf (now (edges .entry))) (nodesOf (now (nodes .entry))) (verdictOf r) ⌝ }
 {
     let mut p: usize = 0;
     while p < 8 {

@@ -1,4 +1,5 @@
 -- What is printed for an outline, after the names.
+use mathlib.Core.Bool.{false}
 use Prim.Native.Nat.{ℕ, _+_, _<_, _≤_}
 use mathlib.Core.List.{List, flatten}
 use lib.ListN.{length}
@@ -15,7 +16,7 @@ use Rattle.printing.specs.Lines.{verdict-row, refusal-row}
 -- sheet's line, 5 and number. What the check answers is told by the relation `Checked`, which holds of one verdict.
 pub data NodesRow (edges : List ℕ) : Result → List ℕ → Type 0 where
   outline-refused : {r : Refusal} → NodesRow edges (refused r) (refusal-row 5 r)
-  outline-checked : {nodes : List (List ℕ)} {v : Verdict} → Checked (edgesOf edges) (nodesOf (flatten nodes)) v
+  outline-checked : {nodes : List (List ℕ)} {v : Verdict} → Checked false (edgesOf edges) (nodesOf (flatten nodes)) v
       → NodesRow edges (accepted nodes) (verdict-row 0 v)
 
 -- The line for any table of edges at all: with one that no accepted sheet gives the check answers 41, and the line tells that. What the

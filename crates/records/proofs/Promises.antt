@@ -1,4 +1,5 @@
 -- What the judge and the check promise, they promise of the edges lent as records.
+use mathlib.Core.Bool.{false}
 use Prim.Native.Nat.{ℕ}
 use mathlib.Core.Path.{_≡_, sym, subst}
 use mathlib.Core.List.{List}
@@ -38,7 +39,7 @@ unfolding judgeRecords
 records-refused es no-sheet s raw = flat-refused es s raw (refuted (edgesOk es) (decides-edges es) no-sheet)
 
 -- The check's answer, said of the records themselves.
-pub records-checked : (es : List Edge) (ns : List ℕ) (r : Outcome) → CheckedRecords es ns r → EdgesOk es → NodeTable ns → Checked es (nodesOf ns) (told r)
+pub records-checked : (es : List Edge) (ns : List ℕ) (r : Outcome) → CheckedRecords es ns r → EdgesOk es → NodeTable ns → Checked false es (nodesOf ns) (told r)
 records-checked es ns r h ok nodes =
-    subst (λ (l : List Edge). Checked l (nodesOf ns) (told r)) (edges-flat es)
+    subst (λ (l : List Edge). Checked false l (nodesOf ns) (told r)) (edges-flat es)
     (h .0 .right (decides-edge-table (flat es) .0 (rw (table-flat es) (decides-edges es .1 ok))) nodes)

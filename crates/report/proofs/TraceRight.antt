@@ -21,7 +21,7 @@ use Rattle.report.specs.Trace.{sheets-rows, tracePrinted}
 -- the names, and a row for each step from line 2 on, with the right answers
 pub record Right (edges : List Edge) (steps : List RawStep) (output : List ℕ) : Type 0 where
   pub verdicts : List Verdict
-  pub judged : JudgedAll edges [] false steps verdicts
+  pub judged : JudgedAll false edges [] false steps verdicts
   pub printed : output ≡ names-line ++ rows 2 verdicts
 
 pub trace-right : (policies-text trace-text : List ℕ) (edges steps : List (List ℕ))

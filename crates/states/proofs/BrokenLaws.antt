@@ -26,7 +26,7 @@ module _ (es : List Edge) (past : Past) (h : Bool) (s : State) (R : Represents e
   w : StateOk s
   w = state-parts s (R .well)
 
-  offended-broken : (p : ℕ) → p < policies → offended s p ≡ true → Broken es p past
+  offended-broken : (p : ℕ) → p < policies → offended s p ≡ true → Broken false es p past
   unfolding offended
   offended-broken p k o =
       let f = some-found (used s) (λ i. offends (setAt s p i)) o in
@@ -35,11 +35,11 @@ module _ (es : List Edge) (past : Past) (h : Bool) (s : State) (R : Represents e
       go (x .0) (or-cases (has m 6) (has m 7)
       (sym (has-offending m (R .bytes (p * 81 + placeOf s (x .0)))) ∙ ap (λ (i : ℕ). offends (setAt s p i)) (x .1) ∙ f .2))
     where
-      go : (x : ℕ) → (has (setAt s p (placeOf s x)) 6 ≡ true) ⊎ (has (setAt s p (placeOf s x)) 7 ≡ true) → Broken es p past
+      go : (x : ℕ) → (has (setAt s p (placeOf s x)) 6 ≡ true) ⊎ (has (setAt s p (placeOf s x)) 7 ≡ true) → Broken false es p past
       go x (inl e) = (x, 6, R .tracks x p 6 k (lit< tt) .0 e, inl refl)
       go x (inr e) = (x, 7, R .tracks x p 7 k (lit< tt) .0 e, inr refl)
 
-  broken-offended : Ends es → (p : ℕ) → p < policies → Broken es p past → offended s p ≡ true
+  broken-offended : Ends es → (p : ℕ) → p < policies → Broken false es p past → offended s p ≡ true
   unfolding offended
   broken-offended v p k b =
       some-at (used s) (λ i. offends (setAt s p i)) (placeOf s x) (place-lt s (R .created-length) w x)
@@ -75,14 +75,14 @@ module _ (es : List Edge) (past : Past) (h : Bool) (s : State) (R : Represents e
           let z : getD (s .unclosed) p 0 ≡ 0 = List·getD-eq-default (s .unclosed) 0 (subst (λ (n : ℕ). n ≤ p) (sym (R .unclosed-length)) (ltb-false p policies e)) in
           absurd (omega (arith, open-count-pos p o, z))
 
-  violates-has : Ends es → (p : ℕ) → Violates es p past → has (broken s) p ≡ true
+  violates-has : Ends es → (p : ℕ) → Violates false es p past → has (broken s) p ≡ true
   unfolding broken
   violates-has v p b =
       let l : p < policies = open-lt p (b .0) in
       maskOf-has (λ p. ltb 0 (getD (s .unclosed) p 0) && offended s p) p l
       ∙ and-both (ltb 0 (getD (s .unclosed) p 0)) (offended s p) (lt-ltb 0 (getD (s .unclosed) p 0) (open-count-pos p (b .0))) (broken-offended v p l (b .1))
 
-  has-violates : (p : ℕ) → p < policies → has (broken s) p ≡ true → Violates es p past
+  has-violates : (p : ℕ) → p < policies → has (broken s) p ≡ true → Violates false es p past
   unfolding broken
   has-violates p l e =
       let t : (ltb 0 (getD (s .unclosed) p 0) && offended s p) ≡ true = sym (maskOf-has (λ p. ltb 0 (getD (s .unclosed) p 0) && offended s p) p l) ∙ e in (
@@ -95,13 +95,13 @@ module _ (es : List Edge) (past : Past) (h : Bool) (s : State) (R : Represents e
   broken-lt = maskOf-lt (λ p. ltb 0 (getD (s .unclosed) p 0) && offended s p)
 
   -- where the set is empty every open policy is respected
-  pub none-violated : Ends es → eqb (broken s) 0 ≡ true → (p : ℕ) → Violates es p past → ⊥
+  pub none-violated : Ends es → eqb (broken s) 0 ≡ true → (p : ℕ) → Violates false es p past → ⊥
   none-violated v e p b = not-both (has 0 p) (ap (λ (m : ℕ). has m p) (sym (eqb-true (broken s) 0 e)) ∙ violates-has v p b) (has-zero p)
 
   -- else its lowest number is the lowest open policy that is not respected
   pub record First : Type 0 where
-    pub is : Violates es (lowest (broken s)) past
-    pub least : (q : ℕ) → q < lowest (broken s) → Violates es q past → ⊥
+    pub is : Violates false es (lowest (broken s)) past
+    pub least : (q : ℕ) → q < lowest (broken s) → Violates false es q past → ⊥
 
   pub first-violated : Ends es → eqb (broken s) 0 ≡ false → First
   first-violated v e =

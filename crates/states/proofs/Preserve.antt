@@ -120,7 +120,7 @@ module _ (es : List Edge) (v : Ends es) (past : Past) (h : Bool) (s : State) (R 
         u = created-ok s (R .created-length) w r (c .2) (c .1) (c .0) f
 
   -- an opening or closing changes one count alone
-  unclosed-represents : (p n : ℕ) (step : Step) → p < policies → ((x p q : ℕ) → May es p (Sees x) past q ↔ May es p (Sees x) (step ∷ past) q)
+  unclosed-represents : (p n : ℕ) (step : Step) → p < policies → ((x p q : ℕ) → May false es p (Sees x) past q ↔ May false es p (Sees x) (step ∷ past) q)
       → ((x : ℕ) → Created x past ↔ Created x (step ∷ past)) → creates (step ∷ past) ≡ creates past
       → closings p (step ∷ past) + n ≡ openings p (step ∷ past)
       → ((p′ : ℕ) → (p ≡ p′ → ⊥) → (closings p′ (step ∷ past) ≡ closings p′ past) × (openings p′ (step ∷ past) ≡ openings p′ past))

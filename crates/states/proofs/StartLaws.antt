@@ -22,26 +22,26 @@ use Rattle.states.proofs.Places.{state-parts, place-lt}
 
 -- ── The last step ──
 
-pub may-start : {es : List Edge} {p : ℕ} {sees : ℕ → ℕ → ℕ → Type 0} {q : ℕ} → May es p sees [] q → q ≡ 0
+pub may-start : {es : List Edge} {p : ℕ} {sees : ℕ → ℕ → ℕ → Type 0} {q : ℕ} → May false es p sees [] q → q ≡ 0
 may-start start = refl
 
 pub record Came (es : List Edge) (p : ℕ) (sees : ℕ → ℕ → ℕ → Type 0) (a r : ℕ) (past : Past) (q′ : ℕ) : Type 0 where
   pub q : ℕ
-  pub before : May es p sees past q
+  pub before : May false es p sees past q
   pub moves : Moves es p a (sees r) q q′
 
 pub may-event : {es : List Edge} {p : ℕ} {sees : ℕ → ℕ → ℕ → Type 0} {a r : ℕ} {past : Past} {q′ : ℕ}
-    → May es p sees (event a r ∷ past) q′ → Came es p sees a r past q′
+    → May false es p sees (event a r ∷ past) q′ → Came es p sees a r past q′
 may-event (moved {q = q} m g) = record { q = q; before = m; moves = g }
 
-pub may-opening : {es : List Edge} {p : ℕ} {sees : ℕ → ℕ → ℕ → Type 0} {s : ℕ} {past : Past} {q : ℕ} → May es p sees (opening s ∷ past) q → May es p sees past q
+pub may-opening : {es : List Edge} {p : ℕ} {sees : ℕ → ℕ → ℕ → Type 0} {s : ℕ} {past : Past} {q : ℕ} → May false es p sees (opening s ∷ past) q → May false es p sees past q
 may-opening (opened m) = m
 
-pub may-closing : {es : List Edge} {p : ℕ} {sees : ℕ → ℕ → ℕ → Type 0} {s : ℕ} {past : Past} {q : ℕ} → May es p sees (closing s ∷ past) q → May es p sees past q
+pub may-closing : {es : List Edge} {p : ℕ} {sees : ℕ → ℕ → ℕ → Type 0} {s : ℕ} {past : Past} {q : ℕ} → May false es p sees (closing s ∷ past) q → May false es p sees past q
 may-closing (closed m) = m
 
 -- an instance is in states 0 to 7 only
-pub may-lt : {es : List Edge} {p : ℕ} {sees : ℕ → ℕ → ℕ → Type 0} {past : Past} {q : ℕ} → Ends es → May es p sees past q → q < 8
+pub may-lt : {es : List Edge} {p : ℕ} {sees : ℕ → ℕ → ℕ → Type 0} {past : Past} {q : ℕ} → Ends es → May false es p sees past q → q < 8
 may-lt v start = lit< tt
 may-lt v (moved m g) = moves-lt v (may-lt v m) g
 may-lt v (opened m) = may-lt v m
@@ -72,10 +72,10 @@ begin-tracks es x p q k l = (to, back)
     one : has (setAt begin p (placeOf begin x)) q ≡ eqb 0 q
     one = ap (λ (m : ℕ). has m q) (begin-set x p k) ∙ has-pow 0 q (lit< tt) l
 
-    to : has (setAt begin p (placeOf begin x)) q ≡ true → May es p (Sees x) [] q
-    to h = subst (λ (n : ℕ). May es p (Sees x) [] n) (eqb-true 0 q (sym one ∙ h)) start
+    to : has (setAt begin p (placeOf begin x)) q ≡ true → May false es p (Sees x) [] q
+    to h = subst (λ (n : ℕ). May false es p (Sees x) [] n) (eqb-true 0 q (sym one ∙ h)) start
 
-    back : May es p (Sees x) [] q → has (setAt begin p (placeOf begin x)) q ≡ true
+    back : May false es p (Sees x) [] q → has (setAt begin p (placeOf begin x)) q ≡ true
     back m = one ∙ eq-eqb 0 q (sym (may-start m))
 
 pub begin-represents : (es : List Edge) → Represents es [] false begin

@@ -64,12 +64,12 @@ module _ (es : List Edge) (v : Ends es) (s : State) (n : length (s .created) ≡
       same : setAt (movedBy es a r s) p (placeOf (movedBy es a r s) x) ≡ moveMask es p a r (eqb (placeOf s x) (placeOf s r)) m
       same = ap (λ (i : ℕ). setAt (movedBy es a r s) p i) (place-moved es a r s x) ∙ set-moved es a r s p (placeOf s x) (w .few) k (place-lt s n w x)
 
-      to : has (setAt (movedBy es a r s) p (placeOf (movedBy es a r s) x)) q ≡ true → May es p (Sees x) (event a r ∷ past) q
+      to : has (setAt (movedBy es a r s) p (placeOf (movedBy es a r s) x)) q ≡ true → May false es p (Sees x) (event a r ∷ past) q
       to h =
           let f = moveMask-found es v p x a r (eqb (placeOf s x) (placeOf s r)) (place-own s x r kn) m q l (ap (λ (m : ℕ). has m q) (sym same) ∙ h) in
           moved (t x p (f .0) k (f .1) .0 (f .2)) (f .3)
 
-      back : May es p (Sees x) (event a r ∷ past) q → has (setAt (movedBy es a r s) p (placeOf (movedBy es a r s) x)) q ≡ true
+      back : May false es p (Sees x) (event a r ∷ past) q → has (setAt (movedBy es a r s) p (placeOf (movedBy es a r s) x)) q ≡ true
       back y =
           let c = may-event y in
           let b : c .q < 8 = may-lt v (c .before) in

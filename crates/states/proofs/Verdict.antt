@@ -130,7 +130,7 @@ judge-42 t s raw p q = rw (p, q)
 
 -- The right answer is the judge's.
 pub judged-is : (t : List ℕ) → edgeTable t ≡ true → (past : Past) (h : Bool) (s : State) → Represents (edgesOf t) past h s → (raw : RawStep) {v : Verdict}
-    → Judged (edgesOf t) past h raw v → verdictOf (judgeOf t s raw .answer) ≡ v
+    → Judged false (edgesOf t) past h raw v → verdictOf (judgeOf t s raw .answer) ≡ v
 judged-is t p past h s R raw k = judged-unique (judge-promised t p past h s R raw .answer) k
 
 allowed-is : (a : Answer) → verdictOf a ≡ allowed → a ≡ Allowed
@@ -141,7 +141,7 @@ allowed-is (Refused n) e = cc
 -- A step that nothing refuses and that breaks no open policy is allowed, and the state that is returned stands for the past with
 -- it.
 pub allowed-next : (t : List ℕ) → edgeTable t ≡ true → (past : Past) (h : Bool) (s : State) → Represents (edgesOf t) past h s
-    → (raw : RawStep) (step : Step) → stepOf raw ≡ some step → Taken past h raw → ((p : ℕ) → Violates (edgesOf t) p (step ∷ past) → ⊥)
+    → (raw : RawStep) (step : Step) → stepOf raw ≡ some step → Taken past h raw → ((p : ℕ) → Violates false (edgesOf t) p (step ∷ past) → ⊥)
     → (judgeOf t s raw .answer ≡ Allowed) × Represents (edgesOf t) (step ∷ past) h (judgeOf t s raw .state)
 allowed-next t p past h s R raw step e k x =
     let a : verdictOf (judgeOf t s raw .answer) ≡ allowed = judged-is t p past h s R raw (is-allowed k e x) in (
@@ -153,7 +153,7 @@ allowed-next t p past h s R raw step e k x =
 -- A step that only a limit may refuse and that breaks no open policy is allowed, or refused with the number of the limit.
 pub allowed-or-limit : (t : List ℕ) → edgeTable t ≡ true → (past : Past) (s : State) → Represents (edgesOf t) past false s
     → (raw : RawStep) (step : Step) → stepOf raw ≡ some step → ((n : ℕ) → Case past false raw n → 30 ≤ n)
-    → ((p : ℕ) → Violates (edgesOf t) p (step ∷ past) → ⊥)
+    → ((p : ℕ) → Violates false (edgesOf t) p (step ∷ past) → ⊥)
     → ((judgeOf t s raw .answer ≡ Allowed) × Represents (edgesOf t) (step ∷ past) false (judgeOf t s raw .state))
     ⊎ ((n : ℕ) × (30 ≤ n) × Refuses past false raw n × (judgeOf t s raw .answer ≡ Refused n))
 allowed-or-limit t p past s R raw step e only x =
@@ -163,13 +163,13 @@ allowed-or-limit t p past s R raw step e only x =
     es : List Edge
     es = edgesOf t
 
-    refuses-of : {n : ℕ} → Judged es past false raw (refused n) → Refuses past false raw n
+    refuses-of : {n : ℕ} → Judged false es past false raw (refused n) → Refuses past false raw n
     refuses-of (is-refused r) = r
 
-    none-violates : {p : ℕ} {A : Type 0} → Judged es past false raw (violated p) → A
-    none-violates (is-violated {p = p} k f y m) = absurd (x p (subst (λ (step : Step). Violates es p (step ∷ past)) (step-same f e) y))
+    none-violates : {p : ℕ} {A : Type 0} → Judged false es past false raw (violated p) → A
+    none-violates (is-violated {p = p} k f y m) = absurd (x p (subst (λ (step : Step). Violates false es p (step ∷ past)) (step-same f e) y))
 
-    go : (a : Answer) (u : State) → Judged es past false raw (verdictOf a) → Represents es (pastAfter past raw (verdictOf a)) (haltedAfter false (verdictOf a)) u
+    go : (a : Answer) (u : State) → Judged false es past false raw (verdictOf a) → Represents es (pastAfter past raw (verdictOf a)) (haltedAfter false (verdictOf a)) u
         → ((a ≡ Allowed) × Represents es (step ∷ past) false u) ⊎ ((n : ℕ) × (30 ≤ n) × Refuses past false raw n × (a ≡ Refused n))
     go Allowed u j T = inl (refl, subst (λ (o : Option Step). Represents es (then o past) false u) e T)
     go (Violated q) u j T = none-violates j
@@ -177,7 +177,7 @@ allowed-or-limit t p past s R raw step e only x =
 
 -- Every answer to a list of steps is the one that the whole past says, each step judged after those before it.
 pub all-judged : (t : List ℕ) → edgeTable t ≡ true → (past : Past) (h : Bool) (s : State) → Represents (edgesOf t) past h s
-    → (raws : List RawStep) → JudgedAll (edgesOf t) past h raws (map verdictOf (answersOf t s raws))
+    → (raws : List RawStep) → JudgedAll false (edgesOf t) past h raws (map verdictOf (answersOf t s raws))
 unfolding answersOf
 all-judged t p past h s R [] = done
 all-judged t p past h s R (raw ∷ raws) =
@@ -185,5 +185,5 @@ all-judged t p past h s R (raw ∷ raws) =
     next (k .answer) (all-judged t p _ _ (judgeOf t s raw .state) (k .state) raws)
 
 -- in particular from the start
-pub all-judged-begin : (t : List ℕ) → edgeTable t ≡ true → (raws : List RawStep) → JudgedAll (edgesOf t) [] false raws (map verdictOf (answersOf t begin raws))
+pub all-judged-begin : (t : List ℕ) → edgeTable t ≡ true → (raws : List RawStep) → JudgedAll false (edgesOf t) [] false raws (map verdictOf (answersOf t begin raws))
 all-judged-begin t p raws = all-judged t p [] false begin (begin-represents (edgesOf t)) raws

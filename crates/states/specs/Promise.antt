@@ -25,7 +25,7 @@ Kept s (Refused n) t = t ≡ s
 -- The answer is the right one after this past, and the state that is returned stands for the past that follows: with the step
 -- if it was allowed, else the same one.
 pub record Promised (es : List Edge) (past : Past) (h : Bool) (s : State) (raw : RawStep) (j : Judgement) : Type 0 where
-  pub answer : Judged es past h raw (verdictOf (j .answer))
+  pub answer : Judged false es past h raw (verdictOf (j .answer))
   pub state : Represents es (pastAfter past raw (verdictOf (j .answer))) (haltedAfter h (verdictOf (j .answer))) (j .state)
   pub kept : Kept s (j .answer) (j .state)
 

@@ -1,7 +1,7 @@
 -- What it is for a state to stand for a past.
 use Prim.Native.Nat.{ℕ, _+_, _<_}
 use mathlib.Core.Path.{_≡_}
-use mathlib.Core.Bool.{Bool, true}
+use mathlib.Core.Bool.{Bool, true, false}
 use mathlib.Core.List.{List}
 use mathlib.Core.Logic.{_↔_}
 use lib.ListN.{length, getD}
@@ -15,7 +15,7 @@ use Rattle.states.specs.Judge.{live, listed, stateOk, placeOf, setAt}
 
 -- The set at x's instance holds exactly the states that x's instance may be in: for every number x, created or not.
 abbrev pub Tracks : List Edge → Past → State → Type 0
-Tracks es past s = (x p q : ℕ) → p < policies → q < states → (has (setAt s p (placeOf s x)) q ≡ true) ↔ May es p (Sees x) past q
+Tracks es past s = (x p q : ℕ) → p < policies → q < states → (has (setAt s p (placeOf s x)) q ≡ true) ↔ May false es p (Sees x) past q
 
 -- After this past, with an earlier step violated or not as `h` says, the judge may be in this state.
 pub record Represents (es : List Edge) (past : Past) (h : Bool) (s : State) : Type 0 where

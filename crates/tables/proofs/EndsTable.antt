@@ -17,9 +17,10 @@ use Rattle.usage.specs.Outline.{Form, Is, end, on-static, on-name, sequence, ch
 use Rattle.automaton.specs.Mask.{has}
 use Rattle.automaton.proofs.MaskLaws.{has-pow}
 use Rattle.automaton.proofs.MoveLaws.{moves-lt, ends-of}
-use Rattle.witness.specs.Witness.{watched, others, no-name, meant, forget, Ends}
+use Rattle.witness.specs.Witness.{watched, others, no-name, meant, forget, Goes, ended, Ends}
+use Rattle.witness.proofs.Whole.{ends-open}
 use Rattle.tables.specs.Tables.{nameOf, made, forgotten, after, at, half, base, kept, begun, Rows, endsBy}
-use Rattle.tables.specs.Holds.{Start, Dynamic, RowsOk, NamesOk, EndsAt, HasEnd, SoundEnds, ClosedEnds, HoldsEnds}
+use Rattle.tables.specs.Holds.{Start, Dynamic, RowsOk, NamesOk, EndsFrom, EndsAt, HasEnd, SoundEnds, ClosedEnds, HoldsEnds}
 use Rattle.tables.proofs.MaskLaws.{has-left, has-right, has-either, has-none, over-found, over-at, has-half, kept-found, kept-at}
 use Rattle.tables.proofs.Starts.{stays-made, start-dynamic, start-after, start-forgotten, start-named, after-name, after-made, meant-is, forgotten-name, forgotten-made, own-watched}
 
@@ -36,20 +37,20 @@ module _ (es : List Edge) (ns : List Node) (p x : ℕ) (rows : Rows) (small : x 
       let h = ok .name i (eqb m (suc n)) (λ f. own-watched n small (names .used i) s f) q q′ l l′ in
       (λ b. subst (λ (r : ℕ). Moves es p a (Sees x r) q q′) (sym e) (h .0 b), λ v. h .1 (subst (λ (r : ℕ). Moves es p a (Sees x r) q q′) e v))
 
-  ends-made : {k w q q′ : ℕ} {c c₁ c₂ : Bool} → c₁ ≡ c₂ → Ends es ns p x k w c q c₁ q′ → Ends es ns p x k w c q c₂ q′
-  ends-made {k} {w} {q} {q′} {c} e h = subst (λ (d : Bool). Ends es ns p x k w c q d q′) e h
+  ends-made : {k w q q′ : ℕ} {c c₁ c₂ : Bool} → c₁ ≡ c₂ → EndsFrom es ns p x k w c q c₁ q′ → EndsFrom es ns p x k w c q c₂ q′
+  ends-made {k} {w} {q} {q′} {c} e h = subst (λ (d : Bool). EndsFrom es ns p x k w c q d q′) e h
 
   -- an end of a node begun after another one, and of one begun once a name is given to another resource
   ends-after : {k q q′ : ℕ} {c : Bool} (m : ℕ) (c₁ : Bool) → (made m ≡ true → c₁ ≡ true) → EndsAt es ns p x k (after m c₁) q c q′
-      → Ends es ns p x k (nameOf m) c₁ q c q′
+      → EndsFrom es ns p x k (nameOf m) c₁ q c q′
   ends-after {k} {q} {q′} {c} m c₁ keeps h =
-      subst (λ (d : Bool). Ends es ns p x k (nameOf m) d q c q′) (after-made m c₁ keeps) (subst (λ (w : ℕ). Ends es ns p x k w (made (after m c₁)) q c q′) (after-name m c₁) h)
+      subst (λ (d : Bool). EndsFrom es ns p x k (nameOf m) d q c q′) (after-made m c₁ keeps) (subst (λ (w : ℕ). EndsFrom es ns p x k w (made (after m c₁)) q c q′) (after-name m c₁) h)
 
   ends-forgotten : {k q q′ : ℕ} {c : Bool} (m n : ℕ) → n < no-name → EndsAt es ns p x k (forgotten m n) q c q′
-      → Ends es ns p x k (forget (nameOf m) n) (made m) q c q′
+      → EndsFrom es ns p x k (forget (nameOf m) n) (made m) q c q′
   ends-forgotten {k} {q} {q′} {c} m n l h =
-      subst (λ (d : Bool). Ends es ns p x k (forget (nameOf m) n) d q c q′) (forgotten-made m n)
-      (subst (λ (w : ℕ). Ends es ns p x k w (made (forgotten m n)) q c q′) (forgotten-name m n l) h)
+      subst (λ (d : Bool). EndsFrom es ns p x k (forget (nameOf m) n) d q c q′) (forgotten-made m n)
+      (subst (λ (w : ℕ). EndsFrom es ns p x k w (made (forgotten m n)) q c q′) (forgotten-name m n l) h)
 
   -- ── What the rules add ──
 
@@ -58,7 +59,7 @@ module _ (es : List Edge) (ns : List Node) (p x : ℕ) (rows : Rows) (small : x 
     sound-end {k} m q c q′ l l′ i h =
         let (e, g) = kept-found (2 ^ q) m c q′ l′ h in
         let f : q ≡ q′ = eqb-true q q′ (sym (has-pow q q′ l l′) ∙ g) in
-        ends-made e (subst (λ (r : ℕ). EndsAt es ns p x k m q (made m) r) f (Ends.ends i))
+        ends-made e (subst (λ (r : ℕ). EndsAt es ns p x k m q (made m) r) f (0, Goes.ends i))
 
     sound-sequence : {k a b : ℕ} (m q : ℕ) (c : Bool) (q′ : ℕ) (c₁ : Bool) → Start x m → q < 8 → q′ < 8 → Is ns k (sequence a b)
         → has (begun t b (after m c₁) (half c₁ (getD t (base a m + q) 0))) (at c q′) ≡ true → EndsAt es ns p x k m q c q′
@@ -66,21 +67,21 @@ module _ (es : List Edge) (ns : List Node) (p x : ℕ) (rows : Rows) (small : x 
         let v = getD t (base a m + q) 0 in
         let (j, lj, hv, ht) = over-found (λ j. getD t (base b (after m c₁) + j) 0) (half c₁ v) (at c q′) h in
         let f : EndsAt es ns p x a m q c₁ j = sound a m q c₁ j s l lj (has-half c₁ v j lj ∙ hv) in
-        Ends.sequences i f (ends-after m c₁ (stays-made f) (sound b (after m c₁) j c q′ (start-after c₁ s) lj l′ ht))
+        let g = ends-after m c₁ (stays-made (f .1)) (sound b (after m c₁) j c q′ (start-after c₁ s) lj l′ ht) in (_, Goes.sequences i (f .1) (g .1))
 
     sound-other : {k n b : ℕ} (m q : ℕ) (c : Bool) (q′ : ℕ) → Start x m → q < 8 → q′ < 8 → Is ns k (fresh n b)
         → has (begun t b (forgotten m n) (rows k false q)) (at c q′) ≡ true → EndsAt es ns p x k m q c q′
     sound-other {k} {n} {b} m q c q′ s l l′ i h =
         let (j, lj, hv, ht) = over-found (λ j. getD t (base b (forgotten m n) + j) 0) (rows k false q) (at c q′) h in
         let v : Dynamic es p x create false q j = ok .created i false (λ e. absurd (true≢false (sym e))) q j l lj .0 hv in
-        Ends.creates-other i v (ends-forgotten m n (names .given i) (sound b (forgotten m n) j c q′ (start-forgotten n s) lj l′ ht))
+        let g = ends-forgotten m n (names .given i) (sound b (forgotten m n) j c q′ (start-forgotten n s) lj l′ ht) in (_, Goes.creates-other i v (g .1))
 
     sound-own : {k n b : ℕ} (m q : ℕ) (c : Bool) (q′ : ℕ) → Start x m → q < 8 → q′ < 8 → Is ns k (fresh n b)
         → has (cond (made m) 0 (begun t b (suc n) (rows k true q))) (at c q′) ≡ true → EndsAt es ns p x k m q c q′
     sound-own {k} {n} {b} zero q c q′ s l l′ i h =
         let (j, lj, hv, ht) = over-found (λ j. getD t (base b (suc n) + j) 0) (rows k true q) (at c q′) h in
         let v : Dynamic es p x create true q j = ok .created i true (λ _. unmade-watched s) q j l lj .0 hv in
-        Ends.creates-own i v (sound b (suc n) j c q′ (start-named n (names .given i) s) lj l′ ht)
+        let g = sound b (suc n) j c q′ (start-named n (names .given i) s) lj l′ ht in (_, Goes.creates-own i v (g .1))
     sound-own (suc m) q c q′ s l l′ i h = has-none (at c q′) h
 
     pub rule-sound : (k m q : ℕ) (f : Form) → Is ns k f → Start x m → q < 8 → (c : Bool) (q′ : ℕ) → q′ < 8
@@ -89,10 +90,10 @@ module _ (es : List Edge) (ns : List Node) (p x : ℕ) (rows : Rows) (small : x 
     rule-sound k m q end i s l c q′ l′ h = sound-end m q c q′ l l′ i h
     rule-sound k m q (on-static a r) i s l c q′ l′ h =
         let (e, g) = kept-found (rows k (eqb r x) q) m c q′ l′ h in
-        ends-made e (Ends.fires-static i (ok .static i q q′ l l′ .0 g))
+        ends-made e (1, Goes.fires-static i (ok .static i q q′ l l′ .0 g))
     rule-sound k m q (on-name a n) i s l c q′ l′ h =
         let (e, g) = kept-found (rows k (eqb m (suc n)) q) m c q′ l′ h in
-        ends-made e (Ends.fires-name i (name-moves m q q′ i s l l′ .0 g))
+        ends-made e (1, Goes.fires-name i (name-moves m q q′ i s l l′ .0 g))
     rule-sound k m q (sequence a b) i s l c q′ l′ h = go (has-either _ _ (at c q′) h)
       where
         v : ℕ
@@ -105,17 +106,17 @@ module _ (es : List Edge) (ns : List Node) (p x : ℕ) (rows : Rows) (small : x 
     rule-sound k m q (choice a b) i s l c q′ l′ h = go (has-either _ _ (at c q′) h)
       where
         go : HasEnd t a m q c q′ ⊎ HasEnd t b m q c q′ → EndsAt es ns p x k m q c q′
-        go (inl g) = Ends.chooses-left i (sound a m q c q′ s l l′ g)
-        go (inr g) = Ends.chooses-right i (sound b m q c q′ s l l′ g)
-    rule-sound k m q (loop a) i s l c q′ l′ h = Ends.enters i (sound a m q c q′ s l l′ h)
-    rule-sound k m q (back a) i s l c q′ l′ h = Ends.repeats i (sound a m q c q′ s l l′ h)
+        go (inl g) = (_, Goes.chooses-left i (sound a m q c q′ s l l′ g .1))
+        go (inr g) = (_, Goes.chooses-right i (sound b m q c q′ s l l′ g .1))
+    rule-sound k m q (loop a) i s l c q′ l′ h = (_, Goes.enters i (sound a m q c q′ s l l′ h .1))
+    rule-sound k m q (back a) i s l c q′ l′ h = (_, Goes.repeats i (sound a m q c q′ s l l′ h .1))
     rule-sound k m q (fresh n b) i s l c q′ l′ h = go (has-either _ _ (at c q′) h)
       where
         go : (has (begun t b (forgotten m n) (rows k false q)) (at c q′) ≡ true) ⊎ (has (cond (made m) 0 (begun t b (suc n) (rows k true q))) (at c q′) ≡ true)
             → EndsAt es ns p x k m q c q′
         go (inl g) = sound-other m q c q′ s l l′ i g
         go (inr g) = sound-own m q c q′ s l l′ i g
-    rule-sound k m q (sandbox r b) i s l c q′ l′ h = Ends.sandboxes i (sound b m q c q′ s l l′ h)
+    rule-sound k m q (sandbox r b) i s l c q′ l′ h = (_, Goes.sandboxes i (ends-open es ns p x (sound b m q c q′ s l l′ h .1) (eqb r p)))
 
   -- ── A table to which they add nothing ──
 
@@ -158,39 +159,39 @@ module _ (es : List Edge) (ns : List Node) (p x : ℕ) (rows : Rows) (small : x 
         let h = ok .created i true (λ _. unmade-watched s) q j l lj .1 v in
         (l′, closed k 0 q (fresh n b) i s l c q′ l′ (has-right (begun t b (forgotten 0 n) (rows k false q)) (begun t b (suc n) (rows k true q)) (at c q′) (begun-at b (suc n) (rows k true q) (at c q′) j lj h g)))
 
-    full-ends : {k w q q′ : ℕ} {c c′ : Bool} → Ends es ns p x k w c q c′ q′ → (m : ℕ) → Start x m → nameOf m ≡ w → made m ≡ c → q < 8 → Full k m q c′ q′
+    full-ends : {n k w q q′ : ℕ} {o c c′ : Bool} → Ends false es ns p x n o k w c q c′ q′ → (m : ℕ) → Start x m → nameOf m ≡ w → made m ≡ c → q < 8 → Full k m q c′ q′
     unfolding endsBy
-    full-ends (Ends.ends {q = q} i) m s ew ec l = full-kept (2 ^ q) q end refl i s ec l l (has-pow q q l l ∙ eq-eqb q q refl)
-    full-ends (Ends.fires-static {k = k} {q = q} {a = a} {s = r} {q′ = q′} i v) m s ew ec l =
+    full-ends (Goes.ends {q = q} i) m s ew ec l = full-kept (2 ^ q) q end refl i s ec l l (has-pow q q l l ∙ eq-eqb q q refl)
+    full-ends (Goes.fires-static {k = k} {q = q} {a = a} {s = r} {q′ = q′} i v) m s ew ec l =
         let l′ = moves-lt (ends-of edges) l v in
         full-kept (rows k (eqb r x) q) q′ (on-static a r) refl i s ec l l′ (ok .static i q q′ l l′ .1 v)
-    full-ends (Ends.fires-name {k = k} {q = q} {a = a} {n = n} {q′ = q′} i v) m s ew ec l =
+    full-ends (Goes.fires-name {k = k} {q = q} {a = a} {m = n} {q′ = q′} i v) m s ew ec l =
         let l′ = moves-lt (ends-of edges) l v in
         let v₁ = subst (λ (w : ℕ). Moves es p a (Sees x (meant x w n)) q q′) (sym ew) v in
         full-kept (rows k (eqb m (suc n)) q) q′ (on-name a n) refl i s ec l l′ (name-moves m q q′ i s l l′ .1 v₁)
-    full-ends (Ends.sequences {q = q} {q₁ = q₁} {q₂ = q₂} {c₁ = c₁} {c₂ = c₂} i f g) m s ew ec l =
+    full-ends (Goes.sequences {q = q} {q₁ = q₁} {c₁ = c₁} {t = ended c₂ q₂} i f g) m s ew ec l =
         let h = full-ends f m s ew ec l in
         full-sequence m q c₁ q₁ c₂ q₂ i s l h
         (full-ends g (after m c₁) (start-after c₁ s) (after-name m c₁ ∙ ew) (after-made m c₁ (λ e. stays-made f (sym ec ∙ e))) (h .0))
-    full-ends (Ends.chooses-left {k = k} {q = q} {a = a} {b = b} {q₂ = q₂} {c₂ = c₂} i f) m s ew ec l =
+    full-ends (Goes.chooses-left {k = k} {q = q} {a = a} {b = b} {t = ended c₂ q₂} i f) m s ew ec l =
         let (l′, h) = full-ends f m s ew ec l in (l′, closed k m q (choice a b) i s l c₂ q₂ l′ (has-left _ _ (at c₂ q₂) h))
-    full-ends (Ends.chooses-right {k = k} {q = q} {a = a} {b = b} {q₂ = q₂} {c₂ = c₂} i f) m s ew ec l =
+    full-ends (Goes.chooses-right {k = k} {q = q} {a = a} {b = b} {t = ended c₂ q₂} i f) m s ew ec l =
         let (l′, h) = full-ends f m s ew ec l in (l′, closed k m q (choice a b) i s l c₂ q₂ l′ (has-right (getD t (base a m + q) 0) (getD t (base b m + q) 0) (at c₂ q₂) h))
-    full-ends (Ends.enters {k = k} {q = q} {a = a} {q₂ = q₂} {c₂ = c₂} i f) m s ew ec l =
+    full-ends (Goes.enters {k = k} {q = q} {a = a} {t = ended c₂ q₂} i f) m s ew ec l =
         let (l′, h) = full-ends f m s ew ec l in (l′, closed k m q (loop a) i s l c₂ q₂ l′ h)
-    full-ends (Ends.repeats {k = k} {q = q} {a = a} {q₂ = q₂} {c₂ = c₂} i f) m s ew ec l =
+    full-ends (Goes.repeats {k = k} {q = q} {a = a} {t = ended c₂ q₂} i f) m s ew ec l =
         let (l′, h) = full-ends f m s ew ec l in (l′, closed k m q (back a) i s l c₂ q₂ l′ h)
-    full-ends (Ends.creates-other {q = q} {n = n} {q₁ = q₁} {q₂ = q₂} {c₂ = c₂} i v f) m s ew ec l =
+    full-ends (Goes.creates-other {q = q} {m = n} {q₁ = q₁} {t = ended c₂ q₂} i v f) m s ew ec l =
         let l₁ = moves-lt (ends-of edges) l v in
         full-other m q q₁ c₂ q₂ i s l l₁ v
         (full-ends f (forgotten m n) (start-forgotten n s) (forgotten-name m n (names .given i) ∙ ap (λ (w : ℕ). forget w n) ew) (forgotten-made m n ∙ ec) l₁)
-    full-ends (Ends.creates-own {q = q} {n = n} {q₁ = q₁} {q₂ = q₂} {c₂ = c₂} i v f) zero s ew ec l =
+    full-ends (Goes.creates-own {q = q} {m = n} {q₁ = q₁} {t = ended c₂ q₂} i v f) zero s ew ec l =
         let l₁ = moves-lt (ends-of edges) l v in
         full-own q q₁ c₂ q₂ i s l l₁ v (full-ends f (suc n) (start-named n (names .given i) s) refl refl l₁)
-    full-ends (Ends.creates-own i v f) (suc m) s ew ec l = absurd (true≢false ec)
-    full-ends (Ends.sandboxes {k = k} {q = q} {s = r} {b = b} {q₂ = q₂} {c₂ = c₂} i f) m s ew ec l =
+    full-ends (Goes.creates-own i v f) (suc m) s ew ec l = absurd (true≢false ec)
+    full-ends (Goes.sandboxes {k = k} {q = q} {s = r} {b = b} {q₂ = q₂} {c₂ = c₂} i f) m s ew ec l =
         let (l′, h) = full-ends f m s ew ec l in (l′, closed k m q (sandbox r b) i s l c₂ q₂ l′ h)
 
     -- a sound table to which the rules add nothing holds exactly the ends
     pub holds-ends : SoundEnds es ns p x t → HoldsEnds es ns p x t
-    holds-ends sound = record { sound = sound; full = λ k m q c q′ s l e. full-ends e m s refl refl l }
+    holds-ends sound = record { sound = sound; full = λ k m q c q′ s l e. full-ends (e .1) m s refl refl l }

@@ -19,7 +19,7 @@ use Rattle.automaton.proofs.MaskLaws.{has-pow}
 use Rattle.witness.specs.Witness.{watched, Comes}
 use Rattle.tables.specs.Mask.{joined}
 use Rattle.tables.specs.Tables.{least, nameOf, made, Rows, place, Arrival, arrivals}
-use Rattle.tables.specs.Holds.{Start, RowsOk, NamesOk, HoldsEnds, ComesAt, HasCome, SoundComes, Each, Entered, ClosedComes, HoldsComes, TargetsOk}
+use Rattle.tables.specs.Holds.{Start, RowsOk, NamesOk, ComesFrom, HoldsEnds, ComesAt, HasCome, SoundComes, Each, Entered, ClosedComes, HoldsComes, TargetsOk}
 use Rattle.tables.specs.Rounds.{total, Forms, FormsOf, entered, arrivalsOf, pass, odd, passNode, passRound, begins, Filled}
 use Rattle.tables.proofs.MaskLaws.{has-none}
 use Rattle.tables.proofs.JoinLaws.{joined-found, joined-still, joined-keeps, zeros}
@@ -186,9 +186,9 @@ module _ (es : List Edge) (ns : List Node) (p x : ℕ) (rows : Rows) (small : x 
       low : least x < 6
       low = start-least x .high
 
-      at-start : Comes es ns p x false 0 (nameOf (least x)) (made (least x)) 0
-      at-start = subst (λ (c : Bool). Comes es ns p x false 0 (nameOf (least x)) c 0) (sym (least-made x))
-          (subst (λ (w : ℕ). Comes es ns p x false 0 w (ltb x statics) 0) (sym (least-name x)) Comes.begins)
+      at-start : ComesFrom es ns p x false 0 (nameOf (least x)) (made (least x)) 0
+      at-start = subst (λ (c : Bool). ComesFrom es ns p x false 0 (nameOf (least x)) c 0) (sym (least-made x))
+          (subst (λ (w : ℕ). ComesFrom es ns p x false 0 w (ltb x statics) 0) (sym (least-name x)) (0, Comes.begins))
 
       go : (has (getD (replicate 3072 0) (place k o m) 0) q ≡ true) ⊎ ((place k o m ≡ least x) × (has 1 q ≡ true)) → ComesAt es ns p x k o m q
       go (inl e) = has-none q (ap (λ (v : ℕ). has v q) (sym (zeros 3072 (place k o m))) ∙ e)
@@ -197,8 +197,8 @@ module _ (es : List Edge) (ns : List Node) (p x : ℕ) (rows : Rows) (small : x 
           let zero-place : place 0 false (least x) ≡ least x = omega arith in
           let s = same-place 0 false (least x) k o m (omega arith) (let r : m < 6 = st .high in omega arith) (zero-place ∙ sym e) in
           let eq : 0 ≡ q = eqb-true 0 q (sym (has-pow 0 q (omega arith) lq) ∙ f) in
-          let r₁ = subst (λ (j : ℕ). Comes es ns p x false j (nameOf (least x)) (made (least x)) 0) (s .node) at-start in
-          let r₂ = subst (λ (b : Bool). Comes es ns p x b k (nameOf (least x)) (made (least x)) 0) (s .opened) r₁ in
+          let r₁ = subst (λ (j : ℕ). ComesFrom es ns p x false j (nameOf (least x)) (made (least x)) 0) (s .node) at-start in
+          let r₂ = subst (λ (b : Bool). ComesFrom es ns p x b k (nameOf (least x)) (made (least x)) 0) (s .opened) r₁ in
           let r₃ = subst (λ (j : ℕ). ComesAt es ns p x k o j 0) (s .meaning) r₂ in
           subst (λ (j : ℕ). ComesAt es ns p x k o m j) eq r₃
 

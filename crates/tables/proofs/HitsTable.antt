@@ -20,7 +20,7 @@ use Rattle.automaton.specs.Mask.{has}
 use Rattle.witness.specs.Witness.{watched, meant, Last, by-action, by-opening, Hits}
 use Rattle.tables.specs.Mask.{over}
 use Rattle.tables.specs.Tables.{nameOf, made, Rows, place, leaves, lastOf}
-use Rattle.tables.specs.Holds.{Start, Dynamic, RowsOk, NamesOk, ComesAt, HasCome, HoldsComes, Struck}
+use Rattle.tables.specs.Holds.{Start, Dynamic, HitsFrom, RowsOk, NamesOk, ComesAt, HasCome, HoldsComes, Struck}
 use Rattle.tables.proofs.MaskLaws.{has-left, has-right, has-either, has-none, over-found, over-at, offends-has, has-offends}
 use Rattle.tables.proofs.EndsTable.{unmade-watched, name-moves}
 
@@ -43,49 +43,49 @@ module _ (es : List Edge) (ns : List Node) (p x : ℕ) (rows : Rows) (small : x 
       (j, comes .sound k true m j s lj hv, f j q lj l hr)
 
   hit-own : {k n b : ℕ} (m q : ℕ) → Is ns k (fresh n b) → Start x m → Offending q
-      → has (cond (made m) 0 (over (rows k true) (getD u (place k true m) 0))) q ≡ true → Hits es ns p x (by-action create)
+      → has (cond (made m) 0 (over (rows k true) (getD u (place k true m) 0))) q ≡ true → HitsFrom es ns p x (by-action create)
   hit-own zero q i s f h =
       let (j, c, v) = moved-found 0 true (Dynamic es p x create true) s (λ j q lj l. ok .created i true (λ _. unmade-watched es ns p x rows small ok names s) j q lj l .0) q (offending-lt f) h in
-      Hits.at-own i c v f
+      (_, Hits.at-own i (c .1) v f)
   hit-own (suc m) q i s f h = has-none q h
 
   hit-at : {k : ℕ} (m q : ℕ) (g : Form) → Is ns k g → Start x m → Offending q → has (leaves rows p x u k m g) q ≡ true
-      → (last : Last) → lastOf g ≡ some last → Hits es ns p x last
+      → (last : Last) → lastOf g ≡ some last → HitsFrom es ns p x last
   unfolding leaves
   hit-at m q end i s f h last e = none-some e
   hit-at m q (on-static a r) i s f h last e =
       let (j, c, v) = moved-found m (eqb r x) (λ j q. Moves es p a (Sees x r) j q) s (λ j q lj l. ok .static i j q lj l .0) q (offending-lt f) h in
-      subst (Hits es ns p x) (same-last e) (Hits.at-static i c v f)
+      subst (HitsFrom es ns p x) (same-last e) ((_, Hits.at-static i (c .1) v f))
   hit-at m q (on-name a n) i s f h last e =
       let (j, c, v) = moved-found m (eqb m (suc n)) (λ j q. Moves es p a (Sees x (meant x (nameOf m) n)) j q) s (λ j q lj l. name-moves es ns p x rows small ok names m j q i s lj l .0) q (offending-lt f) h in
-      subst (Hits es ns p x) (same-last e) (Hits.at-name i c v f)
+      subst (HitsFrom es ns p x) (same-last e) ((_, Hits.at-name i (c .1) v f))
   hit-at m q (sequence a b) i s f h last e = none-some e
   hit-at m q (choice a b) i s f h last e = none-some e
   hit-at m q (loop a) i s f h last e = none-some e
   hit-at m q (back a) i s f h last e = none-some e
-  hit-at {k} m q (fresh n b) i s f h last e = subst (Hits es ns p x) (same-last e) (go (has-either _ _ q h))
+  hit-at {k} m q (fresh n b) i s f h last e = subst (HitsFrom es ns p x) (same-last e) (go (has-either _ _ q h))
     where
       v : ℕ
       v = getD u (place k true m) 0
 
-      go : (has (over (rows k false) v) q ≡ true) ⊎ (has (cond (made m) 0 (over (rows k true) v)) q ≡ true) → Hits es ns p x (by-action create)
+      go : (has (over (rows k false) v) q ≡ true) ⊎ (has (cond (made m) 0 (over (rows k true) v)) q ≡ true) → HitsFrom es ns p x (by-action create)
       go (inl g) =
           let (j, c, v) = moved-found m false (Dynamic es p x create false) s (λ j q lj l. ok .created i false (λ e. absurd (true≢false (sym e))) j q lj l .0) q (offending-lt f) g in
-          Hits.at-other i c v f
+          (_, Hits.at-other i (c .1) v f)
       go (inr g) = hit-own m q i s f g
-  hit-at {k} m q (sandbox r b) i s f h last e = subst (Hits es ns p x) (same-last e) (go (eqb r p) refl h)
+  hit-at {k} m q (sandbox r b) i s f h last e = subst (HitsFrom es ns p x) (same-last e) (go (eqb r p) refl h)
     where
-      go : (d : Bool) → eqb r p ≡ d → has (cond d (bitOr (getD u (place k false m) 0) (getD u (place k true m) 0)) 0) q ≡ true → Hits es ns p x by-opening
+      go : (d : Bool) → eqb r p ≡ d → has (cond d (bitOr (getD u (place k false m) 0) (getD u (place k true m) 0)) 0) q ≡ true → HitsFrom es ns p x by-opening
       go true d h =
           let j = subst (λ (r : ℕ). Is ns k (sandbox r b)) (eqb-true r p d) i in
           either j (has-either (getD u (place k false m) 0) (getD u (place k true m) 0) q h)
         where
-          either : Is ns k (sandbox p b) → HasCome u k false m q ⊎ HasCome u k true m q → Hits es ns p x by-opening
-          either j (inl g) = Hits.at-opening j (comes .sound k false m q s (offending-lt f) g) f
-          either j (inr g) = Hits.at-opening j (comes .sound k true m q s (offending-lt f) g) f
+          either : Is ns k (sandbox p b) → HasCome u k false m q ⊎ HasCome u k true m q → HitsFrom es ns p x by-opening
+          either j (inl g) = (_, Hits.at-opening j (comes .sound k false m q s (offending-lt f) g .1) f)
+          either j (inr g) = (_, Hits.at-opening j (comes .sound k true m q s (offending-lt f) g .1) f)
       go false d h = has-none q h
 
-  pub struck-hits : {last : Last} → Struck ns p x rows u last → Hits es ns p x last
+  pub struck-hits : {last : Last} → Struck ns p x rows u last → HitsFrom es ns p x last
   struck-hits {last} h =
       let (q, f, g) = offends-has (leaves rows p x u (h .node) (h .meaning) (h .form)) (h .offending) in
       hit-at (h .meaning) q (h .form) (h .is) (h .start) f g last (h .step)
@@ -100,25 +100,25 @@ module _ (es : List Edge) (ns : List Node) (p x : ℕ) (rows : Rows) (small : x 
       → has (over (rows k own) (getD u (place k true m) 0)) q ≡ true
   moved-at k m own j q l h g = over-at (rows k own) (getD u (place k true m) 0) q j l h g
 
-  pub hits-struck : {last : Last} → Hits es ns p x last → Struck ns p x rows u last
+  hits-in : {n : ℕ} {last : Last} → Hits false es ns p x n last → Struck ns p x rows u last
   unfolding leaves
-  hits-struck (Hits.at-static {k = k} {q = q} {a = a} {s = r} {q′ = q′} i c v f) =
+  hits-in (Hits.at-static {k = k} {q = q} {a = a} {s = r} {q′ = q′} i c v f) =
       let h = comes .full c in
       struck (h .meaning) (on-static a r) i (h .start) refl f (moved-at k (h .meaning) (eqb r x) q q′ (h .state) (h .entered) (ok .static i q q′ (h .state) (offending-lt f) .1 v))
-  hits-struck (Hits.at-name {k = k} {q = q} {a = a} {n = n} {q′ = q′} i c v f) =
+  hits-in (Hits.at-name {k = k} {q = q} {a = a} {m = n} {q′ = q′} i c v f) =
       let h = comes .full c in
       let m = h .meaning in
       let v₁ = subst (λ (w : ℕ). Moves es p a (Sees x (meant x w n)) q q′) (sym (h .name)) v in
       struck m (on-name a n) i (h .start) refl f
       (moved-at k m (eqb m (suc n)) q q′ (h .state) (h .entered) (name-moves es ns p x rows small ok names m q q′ i (h .start) (h .state) (offending-lt f) .1 v₁))
-  hits-struck (Hits.at-other {k = k} {q = q} {n = n} {b = b} {q′ = q′} i c v f) =
+  hits-in (Hits.at-other {k = k} {q = q} {m = n} {b = b} {q′ = q′} i c v f) =
       let h = comes .full c in
       let m = h .meaning in
       let w = getD u (place k true m) 0 in
       struck m (fresh n b) i (h .start) refl f
       (has-left (over (rows k false) w) (cond (made m) 0 (over (rows k true) w)) q′
       (moved-at k m false q q′ (h .state) (h .entered) (ok .created i false (λ e. absurd (true≢false (sym e))) q q′ (h .state) (offending-lt f) .1 v)))
-  hits-struck (Hits.at-own {k = k} {q = q} {n = n} {b = b} {q′ = q′} i c v f) = let h = comes .full c in go (h .meaning) (h .start) (h .made) (h .state) (h .entered)
+  hits-in (Hits.at-own {k = k} {q = q} {m = n} {b = b} {q′ = q′} i c v f) = let h = comes .full c in go (h .meaning) (h .start) (h .made) (h .state) (h .entered)
     where
       go : (m : ℕ) → Start x m → made m ≡ false → q < 8 → HasCome u k true m q → Struck ns p x rows u (by-action create)
       go zero s ec l e =
@@ -127,7 +127,7 @@ module _ (es : List Edge) (ns : List Node) (p x : ℕ) (rows : Rows) (small : x 
           (has-right (over (rows k false) w) (over (rows k true) w) q′
           (moved-at k 0 true q q′ l e (ok .created i true (λ _. unmade-watched es ns p x rows small ok names s) q q′ l (offending-lt f) .1 v)))
       go (suc m) s ec l e = absurd (true≢false ec)
-  hits-struck (Hits.at-opening {k = k} {q = q} {b = b} {o = o} i c f) =
+  hits-in (Hits.at-opening {k = k} {q = q} {b = b} {o = o} i c f) =
       let h = comes .full c in
       let m = h .meaning in
       struck m (sandbox p b) i (h .start) refl f
@@ -138,5 +138,5 @@ module _ (es : List Edge) (ns : List Node) (p x : ℕ) (rows : Rows) (small : x 
       go m true e = has-right (getD u (place k false m) 0) (getD u (place k true m) 0) q e
 
   -- the account's hits are those that the table shows
-  pub hits-exact : (last : Last) → Hits es ns p x last ↔ Struck ns p x rows u last
-  hits-exact last = (hits-struck, struck-hits)
+  pub hits-exact : (last : Last) → HitsFrom es ns p x last ↔ Struck ns p x rows u last
+  hits-exact last = ((λ h. hits-in (h .1)), struck-hits)

@@ -18,10 +18,10 @@ use Rattle.usage.proofs.Decides.{Decides, d-map}
 use Rattle.usage.proofs.Logic.{false-true}
 use Rattle.automaton.specs.Mask.{has}
 use Rattle.automaton.proofs.MaskLaws.{some-at, some-found}
-use Rattle.witness.specs.Witness.{watched, Last, Hits}
+use Rattle.witness.specs.Witness.{watched, Last}
 use Rattle.tables.specs.Mask.{offends, joined}
 use Rattle.tables.specs.Tables.{least, Rows, place, leaves, lastOf}
-use Rattle.tables.specs.Holds.{RowsOk, NamesOk, TargetsOk, HasCome, Struck}
+use Rattle.tables.specs.Holds.{RowsOk, NamesOk, TargetsOk, HitsFrom, HasCome, Struck}
 use Rattle.tables.specs.Rounds.{Forms, FormsOf, leavesOf, hitNode, hitAny, begins, Wide, Searched, SearchedAll, found, none-found}
 use Rattle.witness.proofs.Scoped.{Scoped}
 use Rattle.witness.proofs.Exact.{exact}
@@ -104,7 +104,7 @@ module _ (ns : List Node) (p x : ℕ) (rows : Rows) (u : List ℕ) (n : ℕ) (fo
 -- ── The answer for one watched resource ──
 
 pub searched : (es : List Edge) (ns : List Node) (p x : ℕ) (rows : Rows) → x ≤ watched → EdgesOk es → RowsOk es ns p x rows → NamesOk ns → TargetsOk ns
-    → (n : ℕ) (forms : Forms) → n ≤ 64 → FormsOf ns n forms → (answer : Bool) → Searched rows p x n forms answer → Decides answer ((last : Last) × Hits es ns p x last)
+    → (n : ℕ) (forms : Forms) → n ≤ 64 → FormsOf ns n forms → (answer : Bool) → Searched rows p x n forms answer → Decides answer ((last : Last) × HitsFrom es ns p x last)
 searched es ns p x rows small edges ok names targets n forms few reads answer h =
     let ends = filled-ends es ns p x rows small ok names n forms reads edges few (h .ends) (h .ends-filled) in
     let comes = filled-comes es ns p x rows small ok names targets (h .ends) ends n forms reads edges (h .comes) (begins-has (least x) (start-least x .high)) (h .comes-filled) in (
@@ -116,15 +116,15 @@ searched es ns p x rows small edges ok names targets n forms few reads answer h 
 
 module _ (es : List Edge) (ns : List Node) (p : ℕ) (rows : Rows) (edges : EdgesOk es) (ok : (x : ℕ) → x ≤ watched → RowsOk es ns p x rows) (names : NamesOk ns) (targets : TargetsOk ns)
     (n : ℕ) (forms : Forms) (few : n ≤ 64) (reads : FormsOf ns n forms) where
-  one : (x : ℕ) → x ≤ watched → (answer : Bool) → Searched rows p x n forms answer → Decides answer ((last : Last) × Hits es ns p x last)
+  one : (x : ℕ) → x ≤ watched → (answer : Bool) → Searched rows p x n forms answer → Decides answer ((last : Last) × HitsFrom es ns p x last)
   one x l answer h = searched es ns p x rows l edges (ok x l) names targets n forms few reads answer h
 
-  pub searched-all : (answer : Bool) → SearchedAll rows p n forms answer → Decides answer ((x : ℕ) × (x ≤ watched) × (last : Last) × Hits es ns p x last)
+  pub searched-all : (answer : Bool) → SearchedAll rows p n forms answer → Decides answer ((x : ℕ) × (x ≤ watched) × (last : Last) × HitsFrom es ns p x last)
   searched-all answer (found {x = x} l h) = let (last, t) = one x l true h .0 refl in ((λ e. (x, l, last, t)), (λ e. refl))
   searched-all answer (none-found h) = ((λ e. false-true e), (λ b. one (b .0) (b .1) false (h (b .0) (b .1)) .1 (b .2, b .3)))
 
   -- some trace leaves the policy open and not respected exactly if the answer is yes
-  pub broken-exact : (scope : ℕ → ℕ → Type 0) → Scoped ns scope → (answer : Bool) → SearchedAll rows p n forms answer → Decides answer (Leaves es ns p)
+  pub broken-exact : (scope : ℕ → ℕ → Type 0) → Scoped ns scope → (answer : Bool) → SearchedAll rows p n forms answer → Decides answer (Leaves false es ns p)
   broken-exact scope scoped answer h =
-      let e = exact es ns scope p edges scoped in
-      d-map (searched-all answer h) (e .1) (e .0)
+      let e = exact false es ns scope p edges scoped in
+      d-map (searched-all answer h) (λ t. e .1 (t .0, t .1, t .3 .0, t .2, t .3 .1)) (λ l. let (x, small, n, last, k) = e .0 l in (x, small, last, (n, k)))

@@ -9,23 +9,23 @@ use borrow.Author.Tests.{eqb-true, eqb-false, eq-eqb, ne-eqb, ltb-false, le-ltb}
 use Rattle.usage.specs.declared.Edge.{Edge}
 use Rattle.usage.specs.declared.Node.{Node}
 use Rattle.usage.specs.Limits.{statics}
-use Rattle.witness.specs.Witness.{watched, others, no-name, meant, forget, Ends}
+use Rattle.witness.specs.Witness.{watched, others, no-name, meant, forget, Goes, Ends}
 use Rattle.tables.specs.Tables.{unnamed, meanings, least, nameOf, made, forgotten, after}
 use Rattle.tables.specs.Holds.{Start}
 
 -- what is made stays made
-pub stays-made : {es : List Edge} {ns : List Node} {p x k w q q′ : ℕ} {c c′ : Bool} → Ends es ns p x k w c q c′ q′ → c ≡ true → c′ ≡ true
-stays-made (Ends.ends i) e = e
-stays-made (Ends.fires-static i v) e = e
-stays-made (Ends.fires-name i v) e = e
-stays-made (Ends.sequences i f g) e = stays-made g (stays-made f e)
-stays-made (Ends.chooses-left i f) e = stays-made f e
-stays-made (Ends.chooses-right i f) e = stays-made f e
-stays-made (Ends.enters i f) e = stays-made f e
-stays-made (Ends.repeats i f) e = stays-made f e
-stays-made (Ends.creates-other i v f) e = stays-made f e
-stays-made (Ends.creates-own i v f) e = stays-made f refl
-stays-made (Ends.sandboxes i f) e = stays-made f e
+pub stays-made : {local : Bool} {es : List Edge} {ns : List Node} {p x n k w q q′ : ℕ} {o c c′ : Bool} → Ends local es ns p x n o k w c q c′ q′ → c ≡ true → c′ ≡ true
+stays-made (Goes.ends i) e = e
+stays-made (Goes.fires-static i v) e = e
+stays-made (Goes.fires-name i v) e = e
+stays-made (Goes.sequences i f g) e = stays-made g (stays-made f e)
+stays-made (Goes.chooses-left i f) e = stays-made f e
+stays-made (Goes.chooses-right i f) e = stays-made f e
+stays-made (Goes.enters i f) e = stays-made f e
+stays-made (Goes.repeats i f) e = stays-made f e
+stays-made (Goes.creates-other i v f) e = stays-made f e
+stays-made (Goes.creates-own i v f) e = stays-made f refl
+stays-made (Goes.sandboxes i f) e = stays-made f e
 
 -- ── The least meaning ──
 

@@ -13,7 +13,7 @@ use Rattle.usage.specs.Limits.{create}
 use Rattle.usage.specs.Policy.{Sees, Moves}
 use Rattle.usage.specs.Outline.{Form, Is, on-static, on-name, sequence, choice, loop, back, fresh, sandbox}
 use Rattle.automaton.specs.Mask.{has}
-use Rattle.witness.specs.Witness.{watched, others, no-name, Ends, Comes, Last}
+use Rattle.witness.specs.Witness.{watched, others, no-name, Ends, Comes, Last, Hits}
 use Rattle.tables.specs.Mask.{offends}
 use Rattle.tables.specs.Tables.{meanings, least, nameOf, made, at, base, Rows, endsBy, place, Arrival, arrivals, leaves, lastOf}
 
@@ -49,9 +49,19 @@ pub record TargetsOk (ns : List Node) : Type 0 where
   pub fresh : {k n b : ℕ} → Is ns k (fresh n b) → b < 64
   pub sandbox : {k s b : ℕ} → Is ns k (sandbox s b) → b < 64
 
+-- the account, the number of steps forgotten; where the whole past counts, ends do not depend on whether p is open
+abbrev pub EndsFrom : List Edge → List Node → ℕ → ℕ → ℕ → ℕ → Bool → ℕ → Bool → ℕ → Type 0
+EndsFrom es ns p x k w c q c′ q′ = (n : ℕ) × Ends false es ns p x n false k w c q c′ q′
+
+abbrev pub ComesFrom : List Edge → List Node → ℕ → ℕ → Bool → ℕ → ℕ → Bool → ℕ → Type 0
+ComesFrom es ns p x o k w c q = (n : ℕ) × Comes false es ns p x n o k w c q
+
+abbrev pub HitsFrom : List Edge → List Node → ℕ → ℕ → Last → Type 0
+HitsFrom es ns p x last = (n : ℕ) × Hits false es ns p x n last
+
 -- node k, begun in (m, q), can end in (c, q′): by the definitions, and by the table
 abbrev pub EndsAt : List Edge → List Node → ℕ → ℕ → ℕ → ℕ → ℕ → Bool → ℕ → Type 0
-EndsAt es ns p x k m q c q′ = Ends es ns p x k (nameOf m) (made m) q c q′
+EndsAt es ns p x k m q c q′ = EndsFrom es ns p x k (nameOf m) (made m) q c q′
 
 abbrev pub HasEnd : List ℕ → ℕ → ℕ → ℕ → Bool → ℕ → Type 0
 HasEnd t k m q c q′ = has (getD t (base k m + q) 0) (at c q′) ≡ true
@@ -72,7 +82,7 @@ pub record HoldsEnds (es : List Edge) (ns : List Node) (p x : ℕ) (t : List ℕ
 
 -- node k is come to in (m, q), p being open or not: by the definitions, and by the table
 abbrev pub ComesAt : List Edge → List Node → ℕ → ℕ → ℕ → Bool → ℕ → ℕ → Type 0
-ComesAt es ns p x k o m q = Comes es ns p x o k (nameOf m) (made m) q
+ComesAt es ns p x k o m q = ComesFrom es ns p x o k (nameOf m) (made m) q
 
 abbrev pub HasCome : List ℕ → ℕ → Bool → ℕ → ℕ → Type 0
 HasCome u k o m q = has (getD u (place k o m) 0) q ≡ true
@@ -105,7 +115,7 @@ pub record Come (x : ℕ) (u : List ℕ) (o : Bool) (k w : ℕ) (c : Bool) (q : 
 -- the table holds exactly what is come to
 pub record HoldsComes (es : List Edge) (ns : List Node) (p x : ℕ) (u : List ℕ) : Type 0 where
   pub sound : SoundComes es ns p x u
-  pub full : {o : Bool} {k w : ℕ} {c : Bool} {q : ℕ} → Comes es ns p x o k w c q → Come x u o k w c q
+  pub full : {n : ℕ} {o : Bool} {k w : ℕ} {c : Bool} {q : ℕ} → Comes false es ns p x n o k w c q → Come x u o k w c q
 
 -- A node whose step, the last one, leaves p open with an offending state, by the table of what is come to.
 pub record Struck (ns : List Node) (p x : ℕ) (rows : Rows) (u : List ℕ) (last : Last) : Type 0 where

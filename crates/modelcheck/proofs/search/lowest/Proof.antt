@@ -1,3 +1,4 @@
+use mathlib.Core.Bool.{false}
 use denote.Ref.{now}
 use native.Mathlib.Nat.{not-suc-le-zero}
 use borrow.Author.Count.{below-more}
@@ -16,7 +17,7 @@ use Rattle.modelcheck.proofs.search.lowest.Lts as lts
 use Rattle.modelcheck.proofs.search.leaves.Reads as leaves-reads
 
 abbrev Inv-loop : tie.InvT-loop
-Inv-loop edges nodes p₀ p = (p ≤ 8) × ((s : ℕ) → s < p → Leaves (edgesOf edges) (nodesOf nodes) s → ⊥)
+Inv-loop edges nodes p₀ p = (p ≤ 8) × ((s : ℕ) → s < p → Leaves false (edgesOf edges) (nodesOf nodes) s → ⊥)
 
 abbrev μ-loop : tie.MeasureT-loop
 μ-loop edges nodes p₀ p = 8 - p
@@ -45,7 +46,7 @@ loop-again : tie.Need-loop-again Inv-loop μ-loop
 loop-again c =
     let a = c .before .before .before .before .before .before .args in
     let l = c .before .before .before .loop in
-    (search needs, below-more (λ (s : ℕ). Leaves (edgesOf (now (a .edges))) (nodesOf (now (a .nodes))) s → ⊥) (l .p) (l .inv .1) (λ b. not-both (c .before .leaves .result) (c .before .leaves .ensures .1 b) (c .if1 .left)))
+    (search needs, below-more (λ (s : ℕ). Leaves false (edgesOf (now (a .edges))) (nodesOf (now (a .nodes))) s → ⊥) (l .p) (l .inv .1) (λ b. not-both (c .before .leaves .result) (c .before .leaves .ensures .1 b) (c .if1 .left)))
 
 returns-2 : tie.Need-returns-2 Inv-loop μ-loop
 returns-2 c =
