@@ -1,4 +1,4 @@
-//! Plain Rust: the check of an outline, as crates/modelcheck has it.
+//! Plain Rust: the check of an outline, as crates/checker has it.
 
 use crate::automaton::{edge_table_ok, rows};
 use crate::rules::node_table_ok;

@@ -8,6 +8,8 @@ ghost use Rattle.automaton.specs.Mask.{single};
 ghost use Rattle.automaton.specs.Move.{moveBy};
 ghost use Rattle.automaton.specs.Rows.{movedBy};
 
+pub mod moves;
+
 // The row of a state, where the state is in the set x; m is the state's bit.
 fn pick(x: u8, m: u8, row: u8) -> u8
     requires { ⌜ 0 < m ⌝ }

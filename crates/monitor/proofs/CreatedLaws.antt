@@ -8,8 +8,8 @@ use borrow.Author.Tests.{eq-eqb, ne-eqb, not-true, not-false, ltb-true}
 use lib.Dec.{eqb, ltb}
 use lib.ListN.{length, take, length-take}
 use Rattle.usage.specs.Tests.{every}
-use Rattle.states.specs.declared.State.{State}
-use Rattle.states.specs.Judge.{live, listed, placeFrom, placeOf}
+use Rattle.monitor_state.specs.declared.State.{State}
+use Rattle.monitor_state.specs.Judge.{live, listed, placeFrom, placeOf}
 
 -- ── Places ──
 

@@ -12,8 +12,8 @@ use Rattle.usage.specs.declared.RawStep.{RawStep}
 use Rattle.usage.specs.Past.{event, opening, closing}
 use Rattle.usage.specs.Judge.{stepOf}
 use Rattle.usage.specs.Tables.{edgesOf, edgeTable}
-use Rattle.states.specs.declared.State.{State}
-use Rattle.states.specs.Judge.{live, listed, stateOk, createdIn, movedBy, withUnclosed, after, broken, refusal, refuse, settle, judgeStep, judgeRead, judgeOf}
+use Rattle.monitor_state.specs.declared.State.{State}
+use Rattle.monitor_state.specs.Judge.{live, listed, stateOk, createdIn, movedBy, withUnclosed, after, broken, refusal, refuse, settle, judgeStep, judgeRead, judgeOf}
 
 -- ── Openings and closings ──
 

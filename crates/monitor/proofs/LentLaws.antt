@@ -16,14 +16,14 @@ use Rattle.usage.specs.Past.{Step, event}
 use Rattle.usage.specs.Judge.{stepOf}
 use Rattle.usage.proofs.Logic.{and-left}
 use Rattle.automaton.specs.Mask.{lowest}
-use Rattle.states.specs.declared.State.{State}
-use Rattle.states.specs.declared.Told.{Told}
-use Rattle.states.specs.declared.Answer.the-variants.{Allowed, Violated, Refused}
-use Rattle.states.specs.Judge.{listed, stateOk, placeFrom, placeOf, copied, createdIn, movedSets, movedBy, withUnclosed, broken, offended, refuse, halt, settle, judgeRead}
-use Rattle.created.specs.Created.{createdOk, placeIn}
-use Rattle.instances.specs.Code.{brokenBit, brokenIn, eventSets}
-use Rattle.states.specs.Code.{stateOf, judgementOf, stepped, settledBy, toldOf}
-use Rattle.states.proofs.ListLaws.{place-new}
+use Rattle.monitor_state.specs.declared.State.{State}
+use Rattle.monitor_state.specs.declared.Told.{Told}
+use Rattle.monitor_state.specs.declared.Answer.the-variants.{Allowed, Violated, Refused}
+use Rattle.monitor_state.specs.Judge.{listed, stateOk, placeFrom, placeOf, copied, createdIn, movedSets, movedBy, withUnclosed, broken, offended, refuse, halt, settle, judgeRead}
+use Rattle.monitor_sets.specs.Created.{createdOk, placeIn}
+use Rattle.monitor_sets.specs.Code.{brokenBit, brokenIn, eventSets}
+use Rattle.monitor_state.specs.Code.{stateOf, judgementOf, stepped, settledBy, toldOf}
+use Rattle.monitor_state.proofs.ListLaws.{place-new}
 use Rattle.monitor.proofs.CreatedLaws.{is-known}
 use Rattle.monitor.proofs.JudgeLaws.{create-taken, use-taken}
 

@@ -1,9 +1,9 @@
 // The judge (document 01's word for the run-time monitor): its start and one step.
-use states::Answer;
-use states::Judgement;
-use states::Read;
-use states::State;
-use states::Told;
+use monitor_state::Answer;
+use monitor_state::Judgement;
+use monitor_state::Read;
+use monitor_state::State;
+use monitor_state::Told;
 use usage::RawStep;
 ghost use Prim.Native.Nat.{ℕ, _<_, _≤_};
 ghost use mathlib.Core.Path.{_≡_};
@@ -14,10 +14,10 @@ ghost use Rattle.usage.specs.declared.Edge.{Edge};
 ghost use Rattle.usage.specs.Past.{event, opening, closing};
 ghost use Rattle.usage.specs.Judge.{stepOf};
 ghost use Rattle.usage.specs.Tables.{edgesOf};
-ghost use Rattle.states.specs.Judge.{begin, judgeRead, judgeOf};
-ghost use Rattle.states.specs.Promise.{StandsForNothing, Keeps};
-ghost use Rattle.states.specs.declared.Answer.the-variants.{Refused};
-ghost use Rattle.states.specs.Code.{says, stateOf, judgementOf, toldOf, stepped, settledBy};
+ghost use Rattle.monitor_state.specs.Judge.{begin, judgeRead, judgeOf};
+ghost use Rattle.monitor_state.specs.Promise.{StandsForNothing, Keeps};
+ghost use Rattle.monitor_state.specs.declared.Answer.the-variants.{Refused};
+ghost use Rattle.monitor_state.specs.Code.{says, stateOf, judgementOf, toldOf, stepped, settledBy};
 
 pub fn start() -> State
     ensures { λ r. ⌜ r ≡ begin ⌝ }
@@ -46,11 +46,11 @@ fn judge_unclosed(sets: &[u8; 648], unclosed: &mut [u8; 8], count: usize, p: usi
 {
     let mut after = *unclosed;
     after[p] = n;
-    let bad = instances::broken_set(sets, &after, 17 + count);
+    let bad = monitor_sets::instances::broken_set(sets, &after, 17 + count);
     if bad == 0 {
         *unclosed = after;
     }
-    states::settled(bad, count, count)
+    monitor_state::settled(bad, count, count)
 }
 
 fn judge_opening(sets: &[u8; 648], unclosed: &mut [u8; 8], count: usize, p: usize) -> Told
@@ -60,7 +60,7 @@ fn judge_opening(sets: &[u8; 648], unclosed: &mut [u8; 8], count: usize, p: usiz
 {
     let n = unclosed[p];
     if 255 <= n {
-        return states::refused(31, count, false);
+        return monitor_state::refused(31, count, false);
     }
     judge_unclosed(sets, unclosed, count, p, n + 1)
 }
@@ -72,7 +72,7 @@ fn judge_closing(sets: &[u8; 648], unclosed: &mut [u8; 8], count: usize, p: usiz
 {
     let n = unclosed[p];
     if n == 0 {
-        return states::refused(25, count, false);
+        return monitor_state::refused(25, count, false);
     }
     judge_unclosed(sets, unclosed, count, p, n - 1)
 }
@@ -90,19 +90,27 @@ fn judge_create(
     ensures { λ t. ⌜ judgementOf t (now (sets .exit)) (now (created .exit)) (now (unclosed .entry)) ≡ stepped (edgesOf (now (edges .entry))) (stateOf (now (sets .entry)) (now (created .entry)) count (now (unclosed .entry)) false) (event 0 r) ⌝ }
 {
     if r < 16 {
-        return states::refused(22, count, false);
+        return monitor_state::refused(22, count, false);
     }
-    if created::place_of(created, count, r) != 16 {
-        return states::refused(23, count, false);
+    if monitor_sets::created::place_of(created, count, r) != 16 {
+        return monitor_state::refused(23, count, false);
     }
     if 64 <= count {
-        return states::refused(30, count, false);
+        return monitor_state::refused(30, count, false);
     }
-    let bad = instances::take_event(edges, sets, unclosed, 18 + count, 17 + count, 0, r);
+    let bad = monitor_sets::instances::take_event(
+        edges,
+        sets,
+        unclosed,
+        18 + count,
+        17 + count,
+        0,
+        r,
+    );
     if bad == 0 {
         created[count] = r;
     }
-    states::settled(bad, count, count + 1)
+    monitor_state::settled(bad, count, count + 1)
 }
 
 fn judge_event(
@@ -121,12 +129,12 @@ fn judge_event(
     if action == 0 {
         return judge_create(edges, sets, created, unclosed, count, r);
     }
-    let at = created::place_of(created, count, r);
+    let at = monitor_sets::created::place_of(created, count, r);
     if at == 16 {
-        return states::refused(24, count, false);
+        return monitor_state::refused(24, count, false);
     }
-    let bad = instances::take_event(edges, sets, unclosed, 17 + count, at, action, r);
-    states::settled(bad, count, count)
+    let bad = monitor_sets::instances::take_event(edges, sets, unclosed, 17 + count, at, action, r);
+    monitor_state::settled(bad, count, count)
 }
 
 fn judge_read(
@@ -141,12 +149,12 @@ fn judge_read(
     requires { ⌜ count ≤ 64 ⌝ }
     ensures { λ r. ⌜ judgementOf r (now (sets .exit)) (now (created .exit)) (now (unclosed .exit)) ≡ judgeRead (edgesOf (now (edges .entry))) (stateOf (now (sets .entry)) (now (created .entry)) count (now (unclosed .entry)) false) (stepOf step) ⌝ }
 {
-    let read = states::read_step(step);
+    let read = monitor_state::read_step(step);
     match read {
         Read::Event(action, r) => judge_event(edges, sets, created, unclosed, count, action, r),
         Read::Opening(p) => judge_opening(sets, unclosed, count, p),
         Read::Closing(p) => judge_closing(sets, unclosed, count, p),
-        Read::Nothing => states::refused(21, count, false),
+        Read::Nothing => monitor_state::refused(21, count, false),
     }
 }
 
@@ -163,14 +171,14 @@ pub fn judge_lent(
 ) -> Told
     ensures { λ r. ⌜ judgementOf r (now (sets .exit)) (now (created .exit)) (now (unclosed .exit)) ≡ judgeOf (now (edges .entry)) (stateOf (now (sets .entry)) (now (created .entry)) count (now (unclosed .entry)) halted) step ⌝ }
 {
-    if !edges::edge_table_ok(edges) {
-        return states::refused(41, count, halted);
+    if !sheet_fields::edges::edge_table_ok(edges) {
+        return monitor_state::refused(41, count, halted);
     }
-    if !created::created_ok(created, count) {
-        return states::refused(42, count, halted);
+    if !monitor_sets::created::created_ok(created, count) {
+        return monitor_state::refused(42, count, halted);
     }
     if halted {
-        return states::refused(20, count, halted);
+        return monitor_state::refused(20, count, halted);
     }
     judge_read(edges, sets, created, unclosed, count, step)
 }

@@ -2,9 +2,9 @@
 use mathlib.Core.Path.{_≡_, refl, ap}
 use mathlib.Core.List.{List, _++_}
 use Prim.Native.Nat.{ℕ}
-use Rattle.lines.specs.Sheet.{Result}
-use Rattle.printing.specs.Lines.{names-line}
-use Rattle.outline_rows.proofs.OutlineLaws.{nodes-unique}
+use Rattle.sheet_lines.specs.Sheet.{Result}
+use Rattle.report_lines.specs.Lines.{names-line}
+use Rattle.report.proofs.OutlineRowLaws.{nodes-unique}
 use Rattle.report.specs.Outline.{OutlineRow, policies-refused, policies-accepted, OutlinePrinted, prints}
 
 row-unique : {p o : Result} {x y : List ℕ} → OutlineRow p o x → OutlineRow p o y → x ≡ y

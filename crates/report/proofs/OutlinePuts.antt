@@ -6,14 +6,14 @@ use native.Mathlib.Nat.{sub-zero}
 use native.Mathlib.Omega.{arith}
 use lib.ListN.{length, take, length-append}
 use lib.Seq.{sets, length-sets}
-use Rattle.lines.specs.Sheet.{refused, sheet}
-use Rattle.lines.specs.Sheets.{policies, outline}
-use Rattle.sheets.specs.Readers.{ruled}
-use Rattle.sheets.proofs.AnswerLaws.{Holds, accepted-edges}
-use Rattle.printing.specs.Lines.{names-line, row}
-use Rattle.printing.proofs.RowLaws.{length-names}
-use Rattle.outline_rows.specs.Outline.{row-room, RowPut, room-lacks, line-put}
-use Rattle.outline_rows.proofs.OutlineLaws.{right-row}
+use Rattle.sheet_lines.specs.Sheet.{refused, sheet}
+use Rattle.sheet_lines.specs.Sheets.{policies, outline}
+use Rattle.sheet_reader.specs.Readers.{ruled}
+use Rattle.sheet_reader.proofs.AnswerLaws.{Holds, accepted-edges}
+use Rattle.report_lines.specs.Lines.{names-line, row}
+use Rattle.report_lines.proofs.RowLaws.{length-names}
+use Rattle.report.specs.OutlineRows.{row-room, RowPut, room-lacks, line-put}
+use Rattle.report.proofs.OutlineRowLaws.{right-row}
 use Rattle.report.specs.Room.{outline-room}
 use Rattle.report.specs.Outline.{OutlineRow, policies-refused, policies-accepted, prints, OutlinePut, put}
 use Rattle.report.proofs.RoomLaws.{joined, policies-eight}

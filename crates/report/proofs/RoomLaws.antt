@@ -7,12 +7,12 @@ use native.Mathlib.Omega.{arith}
 use lib.ListN.{length, drop, length-append}
 use lib.Seq.{sets}
 use borrow.Author.Tests.{lt-ltb, le-ltb}
-use Rattle.lines.specs.Sheet.{refused, sheet}
-use Rattle.lines.specs.Sheets.{policies}
-use Rattle.sheets.proofs.RefusalLaws.{sheet-low}
-use Rattle.printing.specs.Lines.{row}
-use Rattle.printing.proofs.PutLaws.{sets-append, sets-front}
-use Rattle.printing.proofs.RowLaws.{row-eight}
+use Rattle.sheet_lines.specs.Sheet.{refused, sheet}
+use Rattle.sheet_lines.specs.Sheets.{policies}
+use Rattle.sheet_reader.proofs.RefusalLaws.{sheet-low}
+use Rattle.report_lines.specs.Lines.{row}
+use Rattle.report_lines.proofs.PutLaws.{sets-append, sets-front}
+use Rattle.report_lines.proofs.RowLaws.{row-eight}
 use Rattle.report.specs.Room.{length-put, put}
 
 -- a function's result r and the buffer that it leaves are those of an output

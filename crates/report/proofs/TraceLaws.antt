@@ -4,11 +4,11 @@ use mathlib.Core.Path.{_≡_, sym, ap}
 use mathlib.Core.List.{List, _++_}
 use native.Mathlib.Nat.{sub-zero}
 use lib.ListN.{take}
-use Rattle.printing.specs.Lines.{names-line, row}
-use Rattle.lines.specs.Sheet.{refused, sheet}
-use Rattle.lines.specs.Sheets.{policies, trace}
-use Rattle.sheets.proofs.AnswerLaws.{Holds}
-use Rattle.trace_rows.specs.Trace.{trace-rows}
+use Rattle.report_lines.specs.Lines.{names-line, row}
+use Rattle.sheet_lines.specs.Sheet.{refused, sheet}
+use Rattle.sheet_lines.specs.Sheets.{policies, trace}
+use Rattle.sheet_reader.proofs.AnswerLaws.{Holds}
+use Rattle.report.specs.TraceRows.{trace-rows}
 use Rattle.report.specs.Trace.{sheets-rows, tracePrinted}
 
 module _ (policies-text trace-text : List ℕ) where

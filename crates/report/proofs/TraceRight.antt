@@ -9,13 +9,13 @@ use Rattle.usage.specs.Answers.{Verdict}
 use Rattle.usage.specs.Judge.{JudgedAll}
 use Rattle.usage.specs.Tables.{edgesOf, stepsOf}
 use Rattle.usage.proofs.TableLaws.{decides-edge-table}
-use Rattle.lines.specs.Sheet.{accepted, sheet}
-use Rattle.lines.specs.Sheets.{policies, trace}
-use Rattle.states.specs.Judge.{verdictOf, begin, answersOf}
-use Rattle.states.proofs.Verdict.{all-judged-begin}
-use Rattle.printing.specs.Lines.{names-line, rows}
-use Rattle.sheets.proofs.AnswerLaws.{accepted-edges}
-use Rattle.trace_rows.specs.Trace.{judged-rows, trace-rows}
+use Rattle.sheet_lines.specs.Sheet.{accepted, sheet}
+use Rattle.sheet_lines.specs.Sheets.{policies, trace}
+use Rattle.monitor_state.specs.Judge.{verdictOf, begin, answersOf}
+use Rattle.monitor_state.proofs.Verdict.{all-judged-begin}
+use Rattle.report_lines.specs.Lines.{names-line, rows}
+use Rattle.sheet_reader.proofs.AnswerLaws.{accepted-edges}
+use Rattle.report.specs.TraceRows.{judged-rows, trace-rows}
 use Rattle.report.specs.Trace.{sheets-rows, tracePrinted}
 
 -- the names, and a row for each step from line 2 on, with the right answers

@@ -3,11 +3,11 @@ use Prim.Native.Nat.{ℕ, _<_, _≤_}
 use mathlib.Core.List.{List, _++_, flatten}
 use lib.ListN.{length, drop}
 use Rattle.usage.specs.Answers.{Refusal}
-use Rattle.lines.specs.Sheet.{Result, accepted, refused, sheet}
-use Rattle.lines.specs.Sheets.{policies, outline}
-use Rattle.sheets.specs.Readers.{ruled}
-use Rattle.printing.specs.Lines.{names-line, refusal-row}
-use Rattle.outline_rows.specs.Outline.{NodesRow}
+use Rattle.sheet_lines.specs.Sheet.{Result, accepted, refused, sheet}
+use Rattle.sheet_lines.specs.Sheets.{policies, outline}
+use Rattle.sheet_reader.specs.Readers.{ruled}
+use Rattle.report_lines.specs.Lines.{names-line, refusal-row}
+use Rattle.report.specs.OutlineRows.{NodesRow}
 use Rattle.report.specs.Room.{outline-room}
 
 -- "or a sheet's line, 3 or 5 (outline), number, policies first again"

@@ -1,10 +1,10 @@
 -- What the first program prints.
 use Prim.Native.Nat.{ℕ}
 use mathlib.Core.List.{List, _++_, flatten}
-use Rattle.lines.specs.Sheet.{Result, accepted, refused, sheet}
-use Rattle.lines.specs.Sheets.{policies, trace}
-use Rattle.printing.specs.Lines.{names-line, refusal-row}
-use Rattle.trace_rows.specs.Trace.{trace-rows}
+use Rattle.sheet_lines.specs.Sheet.{Result, accepted, refused, sheet}
+use Rattle.sheet_lines.specs.Sheets.{policies, trace}
+use Rattle.report_lines.specs.Lines.{names-line, refusal-row}
+use Rattle.report.specs.TraceRows.{trace-rows}
 
 -- "policies come first"
 unfoldable pub sheets-rows : Result → Result → List ℕ

@@ -3,7 +3,10 @@ ghost use mathlib.Core.Path.{_≡_};
 ghost use Rattle.report.specs.Outline.{OutlinePut};
 ghost use Rattle.report.specs.Trace.{tracePrinted};
 ghost use Rattle.report.specs.Room.{trace-room, length-put, put as Room·put};
-use lines::Reading;
+use sheet_lines::Reading;
+
+pub mod outline;
+pub mod trace;
 
 // What the first program prints, from the bytes of `policies.txt` and `trace.txt`: its length, and 0 where `out` lacks the room.
 #[no_mangle]
@@ -14,12 +17,12 @@ pub extern "C" fn report_trace(policies: &[u8], trace: &[u8], out: &mut [u8]) ->
     if out.len() < 20019 {
         return 0;
     }
-    let at = printing::names(out);
+    let at = report_lines::names(out);
     let mut edges = [0u8; 1536];
-    let reading = sheets::read_policies(policies, &mut edges);
+    let reading = sheet_reader::read_policies(policies, &mut edges);
     match reading {
-        Reading::Stored(n) => trace_rows::rows(&edges[0..n * 6], trace, out, at),
-        Reading::Refused { line, number } => printing::row(out, at, line, 3, number as usize),
+        Reading::Stored(n) => crate::trace::rows(&edges[0..n * 6], trace, out, at),
+        Reading::Refused { line, number } => report_lines::row(out, at, line, 3, number as usize),
     }
 }
 
@@ -31,11 +34,11 @@ pub extern "C" fn report_outline(policies: &[u8], outline: &[u8], out: &mut [u8]
     if out.len() < 27 {
         return 0;
     }
-    let next = printing::names(out);
+    let next = report_lines::names(out);
     let mut edges = [0u8; 1536];
-    let reading = sheets::read_policies(policies, &mut edges);
+    let reading = sheet_reader::read_policies(policies, &mut edges);
     match reading {
-        Reading::Stored(n) => outline_rows::row(&edges[0..n * 6], outline, out, next),
-        Reading::Refused { line, number } => printing::row(out, next, line, 3, number as usize),
+        Reading::Stored(n) => crate::outline::row(&edges[0..n * 6], outline, out, next),
+        Reading::Refused { line, number } => report_lines::row(out, next, line, 3, number as usize),
     }
 }

@@ -3,8 +3,8 @@ use mathlib.Core.Path.{sym, subst}
 use borrow.Author.Needs.{needs}
 use Rattle.usage.specs.Tables.{edgesOf}
 use Rattle.usage.proofs.TableLaws.{decides-edge-table}
-use Rattle.states.specs.Promise.{Promised}
-use Rattle.states.proofs.Verdict.{judge-promised}
+use Rattle.monitor_state.specs.Promise.{Promised}
+use Rattle.monitor_state.proofs.Verdict.{judge-promised}
 use Rattle.monitor.proofs.judge.Statement.{statement}
 use Rattle.monitor.proofs.judge.Tie as tie
 

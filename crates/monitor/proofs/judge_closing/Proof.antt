@@ -1,9 +1,9 @@
 use mathlib.Core.Path.{sym, _∙_}
 use mathlib.Core.Bool.{false}
 use borrow.Author.Needs.{needs}
-use Rattle.states.specs.Code.{stateOf}
+use Rattle.monitor_state.specs.Code.{stateOf}
 use Rattle.monitor.proofs.JudgeLaws.{closing-refused, closing-taken}
-use Rattle.instances.proofs.SetLaws.{pos}
+use Rattle.monitor_sets.proofs.SetLaws.{pos}
 use Rattle.monitor.proofs.LentLaws.{refused-parts, unclosed-is}
 use Rattle.monitor.proofs.judge_closing.Statement.{statement}
 use Rattle.monitor.proofs.judge_closing.Tie as tie

@@ -8,7 +8,7 @@ use lib.Dec.{eqb}
 use lib.ListN.{length, take, set}
 use Rattle.usage.specs.Tables.{edgesOf}
 use Rattle.usage.proofs.Logic.{by-cases}
-use Rattle.states.specs.Code.{stateOf}
+use Rattle.monitor_state.specs.Code.{stateOf}
 use Rattle.monitor.proofs.CreatedLaws.{is-listed, not-listed}
 use Rattle.monitor.proofs.JudgeLaws.{create-static, create-again, create-full}
 use Rattle.monitor.proofs.LentLaws.{place-dyn, refused-parts, taken, taken-sets, create-taken-parts, told-parts}

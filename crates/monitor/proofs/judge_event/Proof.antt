@@ -4,7 +4,7 @@ use mathlib.Core.Bool.{false}
 use native.Mathlib.Omega.{arith}
 use borrow.Author.Needs.{needs}
 use Rattle.usage.specs.Tables.{edgesOf}
-use Rattle.states.specs.Code.{stateOf}
+use Rattle.monitor_state.specs.Code.{stateOf}
 use Rattle.monitor.proofs.CreatedLaws.{not-known, place-used}
 use Rattle.monitor.proofs.JudgeLaws.{use-refused}
 use Rattle.monitor.proofs.LentLaws.{refused-parts, parts-place, taken, taken-sets, event-taken-parts, told-parts}

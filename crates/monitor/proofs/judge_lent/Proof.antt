@@ -1,7 +1,7 @@
 use mathlib.Core.Path.{sym, _∙_}
 use borrow.Author.Tests.{not-true, not-false}
 use borrow.Author.Needs.{needs}
-use Rattle.states.specs.Code.{stateOf}
+use Rattle.monitor_state.specs.Code.{stateOf}
 use Rattle.monitor.proofs.JudgeLaws.{table-refused, state-refused, halted-refused, judged}
 use Rattle.monitor.proofs.LentLaws.{parts-ok, refused-parts, created-few}
 use Rattle.monitor.proofs.judge_lent.Statement.{statement}

@@ -1,7 +1,7 @@
 use mathlib.Core.Path.{sym, _∙_}
 use mathlib.Core.Bool.{false}
 use borrow.Author.Needs.{needs}
-use Rattle.states.specs.Code.{stateOf}
+use Rattle.monitor_state.specs.Code.{stateOf}
 use Rattle.monitor.proofs.JudgeLaws.{opening-refused, opening-taken}
 use Rattle.monitor.proofs.LentLaws.{refused-parts, unclosed-is}
 use Rattle.monitor.proofs.judge_opening.Statement.{statement}

@@ -2,9 +2,9 @@ use mathlib.Core.Path.{sym, ap, _∙_}
 use mathlib.Core.Bool.{false}
 use borrow.Author.Needs.{needs}
 use Rattle.usage.specs.Tables.{edgesOf}
-use Rattle.states.specs.Code.{says, stateOf}
-use Rattle.states.specs.declared.Read.{Read}
-use Rattle.states.proofs.StepLaws.{opening-policy, closing-policy}
+use Rattle.monitor_state.specs.Code.{says, stateOf}
+use Rattle.monitor_state.specs.declared.Read.{Read}
+use Rattle.monitor_state.proofs.StepLaws.{opening-policy, closing-policy}
 use Rattle.monitor.proofs.LentLaws.{refused-parts, read-is, unread-is}
 use Rattle.monitor.proofs.judge_read.Statement.{statement}
 use Rattle.monitor.proofs.judge_read.Tie as tie

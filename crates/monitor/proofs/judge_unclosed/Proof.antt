@@ -8,8 +8,8 @@ use borrow.Author.Needs.{needs}
 use lib.Dec.{eqb}
 use lib.ListN.{set}
 use Rattle.usage.proofs.Logic.{by-cases}
-use Rattle.states.specs.declared.Told.{Told}
-use Rattle.states.specs.Code.{judgementOf}
+use Rattle.monitor_state.specs.declared.Told.{Told}
+use Rattle.monitor_state.specs.Code.{judgementOf}
 use Rattle.monitor.proofs.LentLaws.{within, unclosed-taken}
 use Rattle.monitor.proofs.judge_unclosed.Statement.{statement}
 use Rattle.monitor.proofs.judge_unclosed.Tie as tie

@@ -1,7 +1,7 @@
 -- The start is the definition's, and stands for the empty past.
 use mathlib.Core.Path.{refl}
-use Rattle.states.specs.Judge.{begin}
-use Rattle.states.proofs.StartLaws.{begin-represents}
+use Rattle.monitor_state.specs.Judge.{begin}
+use Rattle.monitor_state.proofs.StartLaws.{begin-represents}
 use Rattle.monitor.proofs.start.Statement.{statement}
 use Rattle.monitor.proofs.start.Tie as tie
 

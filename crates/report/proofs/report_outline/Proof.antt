@@ -4,10 +4,10 @@ use Prim.Native.Nat.{_≤_}
 use denote.Ref.{now}
 use lib.ListN.{length}
 use lib.Seq.{length-sets}
-use Rattle.sheets.proofs.AnswerLaws.{policies-held, policies-refused}
-use Rattle.printing.specs.Lines.{names-line, row}
-use Rattle.printing.proofs.RowLaws.{length-names, names-stored}
-use Rattle.printing.proofs.FitLaws.{stored-at}
+use Rattle.sheet_reader.proofs.AnswerLaws.{policies-held, policies-refused}
+use Rattle.report_lines.specs.Lines.{names-line, row}
+use Rattle.report_lines.proofs.RowLaws.{length-names, names-stored}
+use Rattle.report_lines.proofs.FitLaws.{stored-at}
 use Rattle.report.specs.Outline.{no-room}
 use Rattle.report.proofs.RoomLaws.{policies-eight}
 use Rattle.report.proofs.OutlinePuts.{put-outline, put-policies}

@@ -4,14 +4,14 @@ use Prim.Native.Nat.{_-_, _*_, _≤_}
 use denote.Ref.{now}
 use lib.ListN.{length, take}
 use lib.Seq.{length-sets}
-use Rattle.lines.specs.Sheet.{sheet}
-use Rattle.lines.specs.Sheets.{trace}
-use Rattle.sheets.proofs.AnswerLaws.{policies-held, policies-refused}
-use Rattle.printing.specs.Lines.{names-line, row}
-use Rattle.printing.proofs.RowLaws.{length-names, names-stored}
-use Rattle.printing.proofs.FitLaws.{stored-at, stored-within}
-use Rattle.trace_rows.specs.Trace.{trace-rows, rows-room}
-use Rattle.trace_rows.proofs.TraceLaws.{rows-fit}
+use Rattle.sheet_lines.specs.Sheet.{sheet}
+use Rattle.sheet_lines.specs.Sheets.{trace}
+use Rattle.sheet_reader.proofs.AnswerLaws.{policies-held, policies-refused}
+use Rattle.report_lines.specs.Lines.{names-line, row}
+use Rattle.report_lines.proofs.RowLaws.{length-names, names-stored}
+use Rattle.report_lines.proofs.FitLaws.{stored-at, stored-within}
+use Rattle.report.specs.TraceRows.{trace-rows, rows-room}
+use Rattle.report.proofs.TraceRowLaws.{rows-fit}
 use Rattle.report.specs.Trace.{tracePrinted}
 use Rattle.report.proofs.RoomLaws.{no-room, two-parts, policies-eight}
 use Rattle.report.proofs.TraceLaws.{printed-held, printed-refused}

@@ -1,0 +1,45 @@
+-- What the judge and the check promise, they promise of the edges lent as records.
+use mathlib.Core.Bool.{false}
+use Prim.Native.Nat.{ℕ}
+use mathlib.Core.Path.{_≡_, sym, subst}
+use mathlib.Core.List.{List}
+use Rattle.usage.specs.declared.Edge.{Edge}
+use Rattle.usage.specs.declared.RawStep.{RawStep}
+use Rattle.usage.specs.Policy.{EdgesOk}
+use Rattle.usage.specs.Check.{Checked}
+use Rattle.usage.specs.Tables.{nodesOf, NodeTable}
+use Rattle.usage.specs.Tests.{edgesOk}
+use Rattle.usage.proofs.Decides.{refuted}
+use Rattle.usage.proofs.ValidLaws.{decides-edges}
+use Rattle.usage.proofs.TableLaws.{decides-edge-table}
+use Rattle.checker.specs.declared.Outcome.{Outcome}
+use Rattle.checker.specs.Promise.{told}
+use Rattle.monitor_state.specs.declared.State.{State}
+use Rattle.monitor_state.specs.Judge.{refuse, judgeOf}
+use Rattle.monitor_state.specs.Represents.{Represents}
+use Rattle.monitor_state.specs.Promise.{Promised}
+use Rattle.monitor_state.proofs.Verdict.{judge-promised}
+use Rattle.api_records.specs.Flat.{flat}
+use Rattle.api_records.specs.Records.{judgeRecords, KeepsRecords, CheckedRecords}
+use Rattle.api_records.proofs.FlatLaws.{edges-flat, table-flat}
+use Rattle.api_records.proofs.TableLaws.{flat-refused}
+
+-- From every state that stands for a past under these edges: the answer is right, and the state that is returned stands for the past
+-- with the step, if it was allowed, and for the same past if not.
+pub records-promised : (es : List Edge) (s : State) (raw : RawStep) → KeepsRecords es s raw (judgeRecords es s raw)
+unfolding judgeRecords
+records-promised es s raw past h ok R =
+    subst (λ (l : List Edge). Promised l past h s raw (judgeOf (flat es) s raw)) (edges-flat es)
+    (judge-promised (flat es) (rw (table-flat es) (decides-edges es .1 ok)) past h s
+    (subst (λ (l : List Edge). Represents l past h s) (sym (edges-flat es)) R) raw)
+
+-- "41 a table lent to be used that, taken whole, no accepted sheet gives": and the state is returned as it was
+pub records-refused : (es : List Edge) → (EdgesOk es → ⊥) → (s : State) (raw : RawStep) → judgeRecords es s raw ≡ refuse 41 s
+unfolding judgeRecords
+records-refused es no-sheet s raw = flat-refused es s raw (refuted (edgesOk es) (decides-edges es) no-sheet)
+
+-- The check's answer, said of the records themselves.
+pub records-checked : (es : List Edge) (ns : List ℕ) (r : Outcome) → CheckedRecords es ns r → EdgesOk es → NodeTable ns → Checked false es (nodesOf ns) (told r)
+records-checked es ns r h ok nodes =
+    subst (λ (l : List Edge). Checked false l (nodesOf ns) (told r)) (edges-flat es)
+    (h .0 .right (decides-edge-table (flat es) .0 (rw (table-flat es) (decides-edges es .1 ok))) nodes)

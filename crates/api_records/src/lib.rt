@@ -1,0 +1,58 @@
+// The judge and the check over a slice of records (document 01: "The judge and the check are lent the edges as a slice of records."): each record
+// is copied into a flat table, six bytes to an edge, and what is proved over the flat table answers.
+use crate::flat::Flat;
+use checker::Outcome;
+use monitor_state::Answer;
+use monitor_state::Judgement;
+use monitor_state::State;
+use usage::Edge;
+use usage::RawStep;
+ghost use mathlib.Core.Path.{_≡_};
+ghost use Rattle.api_records.specs.Records.{judgeRecords, KeepsRecords, CheckedRecords};
+ghost use Rattle.api_records.specs.Code.{judgeFlat, CheckedFlat};
+
+pub mod flat;
+
+// The judge over the flat table.
+fn judge_flat(f: Flat, s: State, step: RawStep) -> Judgement
+    ensures { λ r. ⌜ r ≡ judgeFlat f s step ⌝ }
+{
+    let count = f.count;
+    if 256 < count {
+        let answer = Answer::Refused(41);
+        return Judgement { answer, state: s };
+    }
+    let n = 6 * count;
+    let bytes = f.bytes;
+    monitor::judge(&bytes[0..n], s, step)
+}
+
+// The judge of one step, lent the edges as a slice of records.
+pub fn judge_records(edges: &[Edge], s: State, step: RawStep) -> Judgement
+    ensures { λ r. ⌜ r ≡ judgeRecords (now (edges .entry)) s step ⌝ }
+    ensures { λ r. ⌜ KeepsRecords (now (edges .entry)) s step r ⌝ }
+{
+    let f = crate::flat::flatten(edges);
+    judge_flat(f, s, step)
+}
+
+// The check over the flat table.
+fn check_flat(f: Flat, nodes: &[u8]) -> Outcome
+    ensures { λ r. ⌜ CheckedFlat f (now (nodes .entry)) r ⌝ }
+{
+    let held = f.count;
+    if 256 < held {
+        return Outcome::Refused(41);
+    }
+    let n = 6 * held;
+    let bytes = f.bytes;
+    checker::check(&bytes[0..n], nodes)
+}
+
+// The check of an outline, lent the edges as a slice of records.
+pub fn check_records(edges: &[Edge], nodes: &[u8]) -> Outcome
+    ensures { λ r. ⌜ CheckedRecords (now (edges .entry)) (now (nodes .entry)) r ⌝ }
+{
+    let f = crate::flat::flatten(edges);
+    check_flat(f, nodes)
+}

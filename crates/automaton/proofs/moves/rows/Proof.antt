@@ -1,0 +1,39 @@
+-- `rows` meets its contract. The tables are cleared, then hold the ends of the matching edges, then the rows.
+use mathlib.Core.Path.{ap, _∙_}
+use lib.ListN.{length}
+use borrow.Author.Needs.{needs}
+use Rattle.automaton.specs.Rows.{stayed}
+use Rattle.automaton.proofs.RowLaws.{ends-length, stayed-rows}
+use Rattle.automaton.proofs.moves.rows.Statement.{statement}
+use Rattle.automaton.proofs.moves.rows.Tie as tie
+
+clear-requires : tie.Need-clear-requires
+clear-requires c κs = search needs
+
+clear-requires-2 : tie.Need-clear-requires-2
+clear-requires-2 c κs = search needs
+
+gather-requires : tie.Need-gather-requires
+gather-requires c κs = search needs
+
+stay-requires : tie.Need-stay-requires
+stay-requires c κs = ap length (c .before .gather .ensures .0) ∙ ends-length _ _ _ _
+
+stay-requires-2 : tie.Need-stay-requires-2
+stay-requires-2 c κs = ap length (c .before .before .before .gather .ensures .1) ∙ ends-length _ _ _ _
+
+returns : tie.Need-returns
+returns c =
+    let g = c .before .before .before .before .gather .ensures in
+    (c .before .before .stay .ensures ∙ ap stayed (g .0) ∙ stayed-rows _ _ _ _, c .stay2 .ensures ∙ ap stayed (g .1) ∙ stayed-rows _ _ _ _)
+
+pub rows-spec : {M : Type 1} → statement M
+rows-spec =
+    tie.close
+    (tie.spec
+    clear-requires
+    clear-requires-2
+    gather-requires
+    stay-requires
+    stay-requires-2
+    returns)

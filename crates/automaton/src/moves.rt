@@ -1,0 +1,113 @@
+// The rows of an event: where each state of each policy goes by it (document 01: "On an event, each state the instance may be in moves
+// along every matching edge, to all their ends; with no matching edge from that state it stays").
+ghost use Prim.Native.Nat.{_/_, _*_, _+_, _<_};
+ghost use mathlib.Core.Path.{_≡_};
+ghost use mathlib.Core.Bool.{true, false};
+ghost use lib.ListN.{length, replicate};
+ghost use Rattle.usage.specs.declared.Edge.{Edge};
+ghost use Rattle.usage.specs.Tables.{edgesOf};
+ghost use Rattle.automaton.specs.Mask.{single};
+ghost use Rattle.automaton.specs.Move.{rowsOf};
+ghost use Rattle.automaton.specs.Rows.{endOf, joined, endsOf, stayed};
+
+// The end of an edge, joined to what stands at its state of its policy. One test for the three numbers: each is below 8 exactly where
+// their union as bits is; where one is not, the edge has no place or no end.
+fn join(table: &mut [u8; 64], policy: u8, from: u8, to: u8)
+    ensures { λ r. ⌜ now (table .exit) ≡ joined (now (table .entry)) policy from (single to) ⌝ }
+{
+    if (policy | from | to) < 8 {
+        let k = policy as usize * 8 + from as usize;
+        table[k] = table[k] | 1u8 << (to as u32);
+    }
+}
+
+// The end of an edge that an event on the resource may match, joined to the two tables: `own` is that of the instance whose resource
+// the event is on, `other` that of the other instances.
+fn follow(
+    own: &mut [u8; 64],
+    other: &mut [u8; 64],
+    policy: u8,
+    from: u8,
+    on: u8,
+    who: u8,
+    to: u8,
+    resource: u32,
+)
+    ensures { λ r. ⌜ now (own .exit) ≡ joined (now (own .entry)) policy from (endOf on who to true resource) ⌝ }
+    ensures { λ r. ⌜ now (other .exit) ≡ joined (now (other .entry)) policy from (endOf on who to false resource) ⌝ }
+{
+    if on == 1 {
+        join(own, policy, from, to);
+        return;
+    }
+    if on == 2 {
+        join(other, policy, from, to);
+        return;
+    }
+    if on == 0 {
+        if resource == who as u32 {
+            join(own, policy, from, to);
+            join(other, policy, from, to);
+        }
+    }
+}
+
+// The ends of the matching edges, joined to two empty tables.
+fn gather(edges: &[u8], action: u32, resource: u32, own: &mut [u8; 64], other: &mut [u8; 64])
+    requires { ⌜ now own ≡ replicate 64 0 ⌝ }
+    requires { ⌜ now other ≡ replicate 64 0 ⌝ }
+    ensures { λ r. ⌜ now (own .exit) ≡ endsOf (edgesOf (now (edges .entry))) action resource true ⌝ }
+    ensures { λ r. ⌜ now (other .exit) ≡ endsOf (edgesOf (now (edges .entry))) action resource false ⌝ }
+{
+    let n = edges.len() / 6;
+    let mut i: usize = 0;
+    while i < n {
+        let k = 6 * i;
+        if edges[k + 2] as u32 == action {
+            follow(
+                own,
+                other,
+                edges[k],
+                edges[k + 1],
+                edges[k + 3],
+                edges[k + 4],
+                edges[k + 5],
+                resource,
+            );
+        }
+        i += 1;
+    }
+}
+
+// The table of 64 empty sets, whatever was there.
+fn clear(table: &mut [u8; 64])
+    ensures { λ r. ⌜ now (table .exit) ≡ replicate 64 0 ⌝ }
+{
+    *table = [0u8; 64];
+}
+
+// Where no edge leads out of a state, the state stays.
+fn stay(table: &mut [u8; 64])
+    requires { ⌜ length (now table) ≡ 64 ⌝ }
+    ensures { λ r. ⌜ now (table .exit) ≡ stayed (now (table .entry)) ⌝ }
+{
+    let mut k: usize = 0;
+    while k < 64 {
+        if table[k] == 0 {
+            table[k] = crate::single((k % 8) as u8);
+        }
+        k += 1;
+    }
+}
+
+// The rows of an event for its own resource's instance, and for every other instance. What the tables held does not matter.
+pub fn rows(edges: &[u8], action: u32, resource: u32, own: &mut [u8; 64], other: &mut [u8; 64])
+    ensures { λ r. ⌜ now (own .exit) ≡ rowsOf (edgesOf (now (edges .entry))) action resource true ⌝ }
+    ensures { λ r. ⌜ now (other .exit) ≡ rowsOf (edgesOf (now (edges .entry))) action resource false ⌝ }
+{
+    clear(own);
+    clear(other);
+    gather(edges, action, resource, own, other);
+    stay(own);
+    stay(other);
+}

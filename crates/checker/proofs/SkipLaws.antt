@@ -1,0 +1,100 @@
+-- A policy that is skipped is never left open and not respected.
+use Prim.Native.Nat.{ℕ, zero, suc, _+_, _*_, _/_}
+use mathlib.Core.Path.{_≡_, refl, sym, ap, _∙_, subst}
+use mathlib.Core.Bool.{Bool, true, false, _&&_, _||_}
+use mathlib.Core.Option.{some}
+use mathlib.Core.List.{List, List·Memᴰ}
+use mathlib.Core.Logic.{inl, inr}
+use native.Mathlib.Omega.{arith}
+use lib.Dec.{eqb}
+use lib.ListN.{length, getD, getElem?}
+use borrow.Author.Tests.{eq-eqb, ne-eqb}
+use Rattle.usage.specs.declared.Edge.{Edge}
+use Rattle.usage.specs.declared.Node.{Node}
+use Rattle.usage.specs.Policy.{Sees, Moves, along, stays, Offending}
+use Rattle.usage.specs.Past.{Past, May, start, moved, opened, closed, Broken}
+use Rattle.usage.specs.Outline.{sandbox, node-kinds, formOf, Is}
+use Rattle.usage.specs.Limits.{said}
+use Rattle.usage.specs.Tables.{edgesOf, nodesOf}
+use Rattle.usage.specs.Check.{Leaves}
+use Rattle.usage.proofs.Logic.{clash, not-both, and-both}
+use Rattle.usage.proofs.TableLaws.{edges-member}
+use Rattle.automaton.proofs.MaskLaws.{some-at}
+use Rattle.checker_account.specs.Witness.{Comes, Last, Hits}
+use Rattle.checker.specs.Skips.{opens, hasEdge}
+use Rattle.checker_account.proofs.NodeLaws.{forms-of}
+
+-- ── No sandbox ──
+
+module _ (es : List Edge) (ns : List Node) (p x : ℕ) (shut : (k b : ℕ) → Is ns k (sandbox p b) → ⊥) where
+  never-open : {n : ℕ} {o : Bool} {k w : ℕ} {c : Bool} {q : ℕ} → Comes false es ns p x n o k w c q → o ≡ false
+  never-open Comes.begins = refl
+  never-open (Comes.first i e) = never-open e
+  never-open (Comes.second i e f) = never-open e
+  never-open (Comes.left i e) = never-open e
+  never-open (Comes.right i e) = never-open e
+  never-open (Comes.body i e) = never-open e
+  never-open (Comes.again i e) = never-open e
+  never-open (Comes.other i e v) = never-open e
+  never-open (Comes.own i e v) = never-open e
+  never-open (Comes.inside {k = k} {s = s} {b = b} i e) =
+      ap (λ (o : Bool). o || eqb s p) (never-open e) ∙ ne-eqb s p (λ d. shut k b (subst (λ (r : ℕ). Is ns k (sandbox r b)) d i))
+
+  pub no-hits : {n : ℕ} {last : Last} → Hits false es ns p x n last → ⊥
+  no-hits (Hits.at-static i c v f) = not-both true refl (never-open c)
+  no-hits (Hits.at-name i c v f) = not-both true refl (never-open c)
+  no-hits (Hits.at-other i c v f) = not-both true refl (never-open c)
+  no-hits (Hits.at-own i c v f) = not-both true refl (never-open c)
+  no-hits (Hits.at-opening {k = k} {b = b} i c f) = shut k b i
+
+-- a sandbox is of kind 8
+kind-8 : (k a b p c : ℕ) → said (getElem? node-kinds k) a b ≡ some (sandbox p c) → (k ≡ 8) × (a ≡ p)
+kind-8 zero a b p c e = clash (cc)
+kind-8 (suc zero) a b p c e = clash (cc)
+kind-8 (suc (suc zero)) a b p c e = clash (cc)
+kind-8 (suc (suc (suc zero))) a b p c e = clash (cc)
+kind-8 (suc (suc (suc (suc zero)))) a b p c e = clash (cc)
+kind-8 (suc (suc (suc (suc (suc zero))))) a b p c e = clash (cc)
+kind-8 (suc (suc (suc (suc (suc (suc zero)))))) a b p c e = clash (cc)
+kind-8 (suc (suc (suc (suc (suc (suc (suc zero))))))) a b p c e = clash (cc)
+kind-8 (suc (suc (suc (suc (suc (suc (suc (suc zero)))))))) a b p c e = (refl, cc)
+kind-8 (suc (suc (suc (suc (suc (suc (suc (suc (suc k))))))))) a b p c e = clash (cc)
+
+pub not-opened : (t : List ℕ) (p : ℕ) → opens t p ≡ false → (k b : ℕ) → Is (nodesOf t) k (sandbox p b) → ⊥
+unfolding opens formOf
+not-opened t p h k b i =
+    let (l, e) = forms-of t .has k (sandbox p b) i in
+    let (e₈, eₚ) = kind-8 (getD t (3 * k) 0) (getD t (3 * k + 1) 0) (getD t (3 * k + 2) 0) p b e in
+    not-both (opens t p)
+    (some-at (length t / 3) (λ k. eqb (getD t (3 * k) 0) 8 && eqb (getD t (3 * k + 1) 0) p) k l
+    (and-both (eqb (getD t (3 * k) 0) 8) (eqb (getD t (3 * k + 1) 0) p) (eq-eqb (getD t (3 * k) 0) 8 e₈) (eq-eqb (getD t (3 * k + 1) 0) p eₚ))) h
+
+-- ── No edge ──
+
+module _ (es : List Edge) (p : ℕ) (bare : (e : Edge) → List·Memᴰ e es → e .policy ≡ p → ⊥) where
+  unmoved : {a : ℕ} {sees : ℕ → ℕ → Type 0} {q q′ : ℕ} → Moves es p a sees q q′ → q ≡ q′
+  unmoved (along e m f) = absurd (bare e m (f .policy))
+  unmoved (stays n) = refl
+
+  at-start : {x : ℕ} {past : Past} {q : ℕ} → May false es p (Sees x) past q → 0 ≡ q
+  at-start start = refl
+  at-start (moved m v) = at-start m ∙ unmoved v
+  at-start (opened m) = at-start m
+  at-start (closed m) = at-start m
+
+  start-good : {q : ℕ} → 0 ≡ q → Offending q → ⊥
+  start-good e (inl f) = omega arith
+  start-good e (inr f) = omega arith
+
+  pub never-broken : {past : Past} → Broken false es p past → ⊥
+  never-broken (x, q, m, f) = start-good (at-start m) f
+
+pub no-edge : (t : List ℕ) (p : ℕ) → hasEdge t p ≡ false → (e : Edge) → List·Memᴰ e (edgesOf t) → e .policy ≡ p → ⊥
+unfolding hasEdge
+no-edge t p h e m d =
+    let (i, l, f) = edges-member t e .0 m in
+    not-both (hasEdge t p) (some-at (length t / 6) (λ i. eqb (getD t (6 * i) 0) p) i l (eq-eqb (getD t (6 * i) 0) p (ap (λ (g : Edge). g .policy) (sym f) ∙ d))) h
+
+-- a policy without an edge leaves no trace
+pub bare-leaves : (t : List ℕ) (ns : List Node) (p : ℕ) → hasEdge t p ≡ false → Leaves false (edgesOf t) ns p → ⊥
+bare-leaves t ns p h l = never-broken (edgesOf t) p (no-edge t p h) (l .2 .1)

@@ -1,0 +1,138 @@
+-- The finite account is exact: it tells the policies that some trace leaves open and not respected, by which last steps, and after how
+-- many steps at the least.
+use Prim.Native.Nat.{ℕ, _+_, _<_, _≤_}
+use mathlib.Core.Path.{_≡_, refl, sym, _∙_, ap, subst}
+use mathlib.Core.Bool.{Bool, true, false}
+use mathlib.Core.Option.{none, some}
+use mathlib.Core.List.{List, [], _∷_}
+use mathlib.Core.Logic.{_↔_}
+use native.Mathlib.Omega.{arith}
+use native.Mathlib.Decide.{ℕ-discrete}
+use lib.Dec.{eqb}
+use lib.ListN.{length}
+use borrow.Author.Tests.{ne-eqb}
+use Rattle.usage.specs.declared.Edge.{Edge}
+use Rattle.usage.specs.declared.Node.{Node}
+use Rattle.usage.specs.Limits.{most-shown}
+use Rattle.usage.specs.Policy.{Sees, EdgesOk}
+use Rattle.usage.specs.Past.{Step, event, opening, closing, Past, add-if, count, openings, closings, Open, is-open, May, Violates, Numbered}
+use Rattle.usage.specs.Outline.{no-names, IsTrace}
+use Rattle.usage.specs.Check.{Leaves, Shortest, Shown, longer}
+use Rattle.usage.proofs.PastLaws.{before-opening, before-closing, reopened-other}
+use Rattle.usage.proofs.TraceLaws.{trace-tail}
+use Rattle.checker_account.specs.Witness.{watched, Last, by-action, by-opening, Counts, one, Hits, Made, an-event, its-opening, LeavesBy}
+use Rattle.checker_account.proofs.Scoped.{Scoped}
+use Rattle.checker_account.proofs.Ahead.{hits-exact}
+use Rattle.checker_account.proofs.Writing.{written-length, goes-written}
+use Rattle.checker_account.proofs.Sound.{sound}
+use Rattle.checker_account.proofs.Complete.{written-struck}
+
+-- ── The violation, at the step that brings it about ──
+
+module _ (local : Bool) (es : List Edge) (ns : List Node) (p : ℕ) where
+  -- by a beginning of a trace, of this many steps
+  abbrev pub Brought : ℕ → Type 0
+  Brought most = (n : ℕ) × (n ≤ most) × (last : Last) × LeavesBy local es ns p n last
+
+  brought-later : (m n : ℕ) → m ≤ n → Brought m → Brought n
+  brought-later m n l (i, k, last, b) = (i, omega arith, last, b)
+
+  -- the opening of another policy moves no state, a closing none at all
+  may-before : {x s q : ℕ} {past : Past} → (s ≡ p → ⊥) → May local es p (Sees x) (opening s ∷ past) q → May local es p (Sees x) past q
+  may-before {x} {s} {q} {past} d m =
+      let (q₀, m₀, e) = before-opening m in
+      subst (λ (t : ℕ). May local es p (Sees x) past t) (sym (reopened-other local p s (is-open p past) q₀ d) ∙ e) m₀
+
+  -- a closing opens nothing, and the opening of another policy opens not this one
+  open-before-closing : (b : Bool) (c o : ℕ) → add-if b c < o → c < o
+  open-before-closing true c o h = omega arith
+  open-before-closing false c o h = h
+
+  open-before-opening : (s : ℕ) (past : Past) → (s ≡ p → ⊥) → Open p (opening s ∷ past) → Open p past
+  unfolding count
+  open-before-opening s past d o = rw (ne-eqb s p d) at o
+
+  brought-about : (past : Past) → IsTrace ns past → Violates local es p past → Brought (length past)
+  unfolding count
+  brought-about [] t (o, b) = absurd (omega arith)
+  brought-about (event a r ∷ past) t v =
+      (length (event a r ∷ past), omega arith, by-action a, record { step = event a r; past = past; made = an-event; trace = t; violates = v; steps = refl })
+  brought-about (opening s ∷ past) t (o, (x, q, m, f)) =
+      go (ℕ-discrete s p) (λ d u. brought-about past (trace-tail t) (u, (x, q, may-before d m, f)))
+    where
+      go : Dec (s ≡ p) → ((s ≡ p → ⊥) → Open p past → Brought (length past)) → Brought (length (opening s ∷ past))
+      go (yes e) ih = (
+        length (opening s ∷ past),
+        omega arith,
+        by-opening,
+        record {
+          step = opening s;
+          past = past;
+          made = subst (λ (u : ℕ). Made p by-opening (opening u)) (sym e) its-opening;
+          trace = t;
+          violates = (o, (x, q, m, f));
+          steps = refl;
+        },
+      )
+      go (no d) ih = brought-later (length past) (length (opening s ∷ past)) (omega arith) (ih d (open-before-opening s past d o))
+  brought-about (closing s ∷ past) t (o, (x, q, m, f)) =
+      brought-later (length past) (length (closing s ∷ past)) (omega arith)
+      (brought-about past (trace-tail t) (open-before-closing (eqb s p) (closings p past) (openings p past) o, (x, q, before-closing m, f)))
+
+-- ── The theorems ──
+
+module _ (local : Bool) (es : List Edge) (ns : List Node) (scope : ℕ → ℕ → Type 0) (p : ℕ) (edges : EdgesOk es) (outline : Scoped ns scope) where
+  only-one : {last by : Last} → Counts (some last) by → by ≡ last
+  only-one one = refl
+
+  -- what the account tells can be written down
+  complete : {x n : ℕ} {last : Last} → x ≤ watched → Hits local es ns p x n last → (l : LeavesBy local es ns p n last) × Numbered (l .step ∷ l .past)
+  complete {x} {n} {last} small h =
+      let (after, u) = goes-written local es ns p x scope outline (hits-exact local es ns p x n (some last) .0 (last, one, h)) no-names (λ m s. absurd (outline .root s)) [] in
+      let d = written-struck local es ns p x scope edges outline small u in
+      let e : length (d .step ∷ d .past) ≡ n = ap length (d .same) ∙ written-length local es ns p x u ∙ zero-steps in
+      let m : Made p last (d .step) = subst (λ (l : Last). Made p l (d .step)) (only-one (d .counts)) (d .made) in
+      (record { step = d .step; past = d .past; made = m; trace = d .trace; violates = d .violates; steps = e }, d .numbered)
+    where
+      zero-steps : length {A = Step} [] + n ≡ n
+      zero-steps = omega arith
+
+  pub exact-by : (n : ℕ) (last : Last) → LeavesBy local es ns p n last ↔ ((x : ℕ) × (x ≤ watched) × Hits local es ns p x n last)
+  exact-by n last = (
+    λ l. sound local es ns scope p edges outline l,
+    λ h. complete (h .1) (h .2) .0,
+  )
+
+  -- From what the account tells one gets a trace of just so many steps, its fresh resources numbered 16, 17 and on.
+  pub shortest-sound : {x n : ℕ} {last : Last} → x ≤ watched → Hits local es ns p x n last
+      → (past : Past) × IsTrace ns past × Numbered past × Violates local es p past × (length past ≡ n)
+  shortest-sound small h = let (l, num) = complete small h in (l .step ∷ l .past, l .trace, num, l .violates, l .steps)
+
+  -- Of any trace that leaves p open and not respected the account tells, with no more steps.
+  pub shortest-complete : (past : Past) → IsTrace ns past → Violates local es p past
+      → (m : ℕ) × (m ≤ length past) × (x : ℕ) × (x ≤ watched) × (last : Last) × Hits local es ns p x m last
+  shortest-complete past t v =
+      let (m, l, last, b) = brought-about local es ns p past t v in
+      let (x, small, h) = sound local es ns scope p edges outline b in
+      (m, l, x, small, last, h)
+
+  -- Today's theorem: the number of steps is forgotten.
+  pub exact : Leaves local es ns p ↔ ((x : ℕ) × (x ≤ watched) × (n : ℕ) × (last : Last) × Hits local es ns p x n last)
+  exact = (
+    λ l. let (m, k, x, small, last, h) = shortest-complete (l .0) (l .1) (l .2) in (x, small, m, last, h),
+    λ h. let (past, t, num, v, e) = shortest-sound (h .1) (h .4) in (past, t, v),
+  )
+
+  -- The least number of steps that the account tells is the length of a shortest trace, and one of that length, numbered so, exists.
+  pub shortest : {x n : ℕ} {last : Last} → x ≤ watched → Hits local es ns p x n last
+      → ((y m : ℕ) (by : Last) → y ≤ watched → Hits local es ns p y m by → n ≤ m) → (past : Past) × Shortest local es ns p past × (length past ≡ n)
+  shortest {x} {n} small h low =
+      let (past, t, num, v, e) = shortest-sound small h in
+      (past, record { trace = t; numbered = num; violates = v; least = λ another t′ v′. at-most past e another t′ v′ }, e)
+    where
+      at-most : (past : Past) → length past ≡ n → (another : Past) → IsTrace ns another → Violates local es p another → length past ≤ length another
+      at-most past e another t v = let (m, l, y, little, by, k) = shortest-complete another t v in omega (arith, low y m by little k)
+
+  -- Where the account tells of none within 200 steps, every trace that leaves p open and not respected is longer.
+  pub all-longer : ((y m : ℕ) (by : Last) → y ≤ watched → Hits local es ns p y m by → most-shown < m) → Shown local es ns p none
+  all-longer far = longer (λ past t v. let (m, l, y, little, by, k) = shortest-complete past t v in omega (arith, far y m by little k))

@@ -1,0 +1,145 @@
+-- The laws of the sets that the check has, as bit masks.
+use Prim.Native.Nat.{ℕ, zero, suc, _+_, _*_, _-_, _/_, _%_, _^_, _<_}
+use mathlib.Core.Path.{_≡_, refl, sym, ap, _∙_, subst}
+use mathlib.Core.Bool.{Bool, true, false, cond}
+use mathlib.Core.Logic.{_⊎_, inl, inr}
+use native.Mathlib.Nat.{div-div-eq-div-mul}
+use native.Mathlib.Numerals.{add-one}
+use native.Mathlib.Omega.{arith}
+use lib.Dec.{eqb}
+use lib.Bits.{bitOr, bitAnd, or-zero-r, and-mask}
+use lib.Pow.{pow-add, field, mod-mod-pow}
+use borrow.Author.Tests.{eq-eqb, ne-eqb, eqb-true, eqb-false, ltb-true, lt-ltb}
+use Rattle.usage.specs.Policy.{Offending}
+use Rattle.usage.proofs.Logic.{not-both, or-left, or-right, or-cases}
+use Rattle.automaton.specs.Mask.{has, union}
+use Rattle.automaton.proofs.MaskLaws.{some-at, some-found, has-or, has-zero, union-has}
+use Rattle.checker_account.specs.Mask.{offends, over}
+use Rattle.checker_account.specs.Tables.{at, half, made, kept}
+
+-- ── Members of unions ──
+
+pub has-left : (a b q : ℕ) → has a q ≡ true → has (bitOr a b) q ≡ true
+has-left a b q h = has-or a b q ∙ or-left (has a q) (has b q) h
+
+pub has-right : (a b q : ℕ) → has b q ≡ true → has (bitOr a b) q ≡ true
+has-right a b q h = has-or a b q ∙ or-right (has a q) (has b q) h
+
+pub has-either : (a b q : ℕ) → has (bitOr a b) q ≡ true → (has a q ≡ true) ⊎ (has b q ≡ true)
+has-either a b q h = or-cases (has a q) (has b q) (sym (has-or a b q) ∙ h)
+
+-- nothing is in the empty set
+pub has-none : {A : Type 0} (q : ℕ) → has 0 q ≡ true → A
+has-none q h = not-both (has 0 q) h (has-zero q)
+
+-- a member of the union over a set comes from a member of the set
+pub over-found : (f : ℕ → ℕ) (m d : ℕ) → has (over f m) d ≡ true → (q : ℕ) × (q < 8) × (has m q ≡ true) × (has (f q) d ≡ true)
+unfolding over
+over-found f m d h = let r = some-found 8 _ (sym (union-has 8 (λ q. cond (has m q) (f q) 0) d) ∙ h) in go (r .0) (r .1) (has m (r .0)) refl (r .2)
+  where
+    go : (q : ℕ) → q < 8 → (b : Bool) → has m q ≡ b → has (cond b (f q) 0) d ≡ true → (q : ℕ) × (q < 8) × (has m q ≡ true) × (has (f q) d ≡ true)
+    go q l true b h = (q, l, b, h)
+    go q l false b h = has-none d h
+
+pub over-at : (f : ℕ → ℕ) (m d q : ℕ) → q < 8 → has m q ≡ true → has (f q) d ≡ true → has (over f m) d ≡ true
+unfolding over
+over-at f m d q l h g =
+    union-has 8 (λ q. cond (has m q) (f q) 0) d
+    ∙ some-at 8 (λ q. has (cond (has m q) (f q) 0) d) q l (ap (λ (b : Bool). has (cond b (f q) 0) d) h ∙ g)
+
+-- one more turn of the loop that gathers the union, by the code's test
+module _ (f : ℕ → ℕ) (v q : ℕ) where
+  abbrev part : ℕ → ℕ
+  part j = cond (has v j) (f j) 0
+
+  test-in : bitAnd (v / 2 ^ q) 1 ≡ 1 → has v q ≡ true
+  unfolding has
+  test-in h = eq-eqb (v / 2 ^ q % 2) 1 (sym (and-mask (v / 2 ^ q) 1) ∙ h)
+
+  test-out : (bitAnd (v / 2 ^ q) 1 ≡ 1 → ⊥) → has v q ≡ false
+  unfolding has
+  test-out h = ne-eqb (v / 2 ^ q % 2) 1 (λ e. h (and-mask (v / 2 ^ q) 1 ∙ e))
+
+  pub over-in : bitAnd (v / 2 ^ q) 1 ≡ 1 → bitOr (union q part) (f q) ≡ union (q + 1) part
+  unfolding union
+  over-in h = rw (add-one q) (ap (λ (b : Bool). bitOr (union q part) (cond b (f q) 0)) (sym (test-in h)))
+
+  pub over-out : (bitAnd (v / 2 ^ q) 1 ≡ 1 → ⊥) → union q part ≡ union (q + 1) part
+  unfolding union
+  over-out h = rw (add-one q) (sym (or-zero-r (union q part)) ∙ ap (λ (b : Bool). bitOr (union q part) (cond b (f q) 0)) (sym (test-out h)))
+
+-- ── Offending states ──
+
+even : (y : ℕ) → (y % 2 ≡ 1 → ⊥) → y % 2 ≡ 0
+even y d = go (y % 2) refl
+  where
+    go : (r : ℕ) → y % 2 ≡ r → y % 2 ≡ 0
+    go zero e = e
+    go (suc r) e = absurd (d (omega arith))
+
+top-bit : (y : ℕ) → 0 < y % 4 → y % 2 ≡ 0 → y / 2 % 2 ≡ 1
+top-bit y h e = omega arith
+
+-- 6 or 7 is in the set
+pub offends-has : (v : ℕ) → offends v ≡ true → (q : ℕ) × Offending q × (has v q ≡ true)
+unfolding offends has
+offends-has v h = go (eqb (v / 64 % 2) 1) refl
+  where
+    half-again : v / 64 / 2 ≡ v / 128
+    half-again = omega arith
+
+    go : (b : Bool) → eqb (v / 64 % 2) 1 ≡ b → (q : ℕ) × Offending q × (has v q ≡ true)
+    go true e = (6, inl refl, e)
+    go false e =
+        let l : 0 < v / 64 % 4 = ltb-true 0 (v / 64 % 4) h in
+        (7, inr refl, eq-eqb (v / 128 % 2) 1 (ap (λ (n : ℕ). n % 2) (sym half-again) ∙ top-bit (v / 64) l (even (v / 64) (eqb-false (v / 64 % 2) 1 e))))
+
+offends-six : (v : ℕ) → has v 6 ≡ true → offends v ≡ true
+unfolding offends has
+offends-six v h = let e : v / 64 % 2 ≡ 1 = eqb-true (v / 64 % 2) 1 h in lt-ltb 0 (v / 64 % 4) (omega arith)
+
+offends-seven : (v : ℕ) → has v 7 ≡ true → offends v ≡ true
+unfolding offends has
+offends-seven v h = let e : v / 128 % 2 ≡ 1 = eqb-true (v / 128 % 2) 1 h in lt-ltb 0 (v / 64 % 4) (omega arith)
+
+pub has-offends : (v q : ℕ) → Offending q → has v q ≡ true → offends v ≡ true
+has-offends v q (inl e) h = offends-six v (subst (λ (q : ℕ). has v q ≡ true) e h)
+has-offends v q (inr e) h = offends-seven v (subst (λ (q : ℕ). has v q ≡ true) e h)
+
+-- ── The two halves of a set of ends ──
+
+low-bit : (x q : ℕ) → q < 8 → has (x % 256) q ≡ has x q
+unfolding has
+low-bit x q h =
+    let e : (8 - (1 + q)) + (1 + q) ≡ 8 = omega arith in
+    ap (λ (n : ℕ). eqb n 1)
+    (sym (field (x % 2 ^ 8) 1 q) ∙ ap (λ (n : ℕ). n / 2 ^ q) (subst (λ (m : ℕ). x % 2 ^ m % 2 ^ (1 + q) ≡ x % 2 ^ (1 + q)) e (mod-mod-pow x (8 - (1 + q)) (1 + q))) ∙ field x 1 q)
+
+high-bit : (x q : ℕ) → has x (8 + q) ≡ has (x / 256) q
+unfolding has
+high-bit x q = ap (λ (n : ℕ). eqb (n % 2) 1) (ap (λ (n : ℕ). x / n) (pow-add 2 8 q) ∙ sym (div-div-eq-div-mul x 256 (2 ^ q)))
+
+pub has-half : (c : Bool) (v q : ℕ) → q < 8 → has v (at c q) ≡ has (half c v) q
+has-half false v q h = sym (low-bit v q h)
+has-half true v q h = high-bit v q
+
+module _ (v : ℕ) where
+  low-none : v % 256 / 256 ≡ 0
+  low-none = omega arith
+
+  high-none : v % 256 * 256 % 256 ≡ 0
+  high-none = omega arith
+
+  high-all : v % 256 * 256 / 256 ≡ v % 256
+  high-all = omega arith
+
+  -- the ends with the states of v and x as it was
+  pub kept-found : (m : ℕ) (c : Bool) (q : ℕ) → q < 8 → has (kept m v) (at c q) ≡ true → (made m ≡ c) × (has v q ≡ true)
+  kept-found zero false q l h = (refl, sym (low-bit v q l) ∙ h)
+  kept-found zero true q l h = has-none q (ap (λ (n : ℕ). has n q) (sym low-none) ∙ sym (has-half true (v % 256) q l) ∙ h)
+  kept-found (suc m) false q l h = has-none q (ap (λ (n : ℕ). has n q) (sym high-none) ∙ sym (has-half false (v % 256 * 256) q l) ∙ h)
+  kept-found (suc m) true q l h = (refl, sym (low-bit v q l) ∙ ap (λ (n : ℕ). has n q) (sym high-all) ∙ sym (has-half true (v % 256 * 256) q l) ∙ h)
+
+  pub kept-at : (m q : ℕ) → q < 8 → has v q ≡ true → has (kept m v) (at (made m) q) ≡ true
+  kept-at zero q l h = low-bit v q l ∙ h
+  kept-at (suc m) q l h = has-half true (v % 256 * 256) q l ∙ ap (λ (n : ℕ). has n q) high-all ∙ low-bit v q l ∙ h

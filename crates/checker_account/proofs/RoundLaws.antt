@@ -1,0 +1,216 @@
+-- A step of filling joins sets to a table: nothing is lost, and the table is as it was exactly if the sum of its entries is.
+use Prim.Native.Nat.{ℕ, zero, suc, _+_, _-_, _*_, _<_, _≤_}
+use mathlib.Core.Path.{_≡_, refl, sym, ap, ap₂, _∙_, subst}
+use mathlib.Core.Bool.{Bool, true, false, not, _||_, or-false}
+use mathlib.Core.List.{List, [], _∷_}
+use mathlib.Core.Logic.{_⊎_, inl, inr}
+use native.Mathlib.Nat.{not-suc-le-zero, le-of-suc-le-suc}
+use native.Mathlib.Numerals.{add-one}
+use native.Mathlib.Omega.{arith}
+use lib.Dec.{eqb, ltb, leb}
+use lib.Bits.{bitOr, or-add-and, and-le-r}
+use lib.ListN.{length, getD, set, length-set}
+use lib.Seq.{set-out, set-getD}
+use borrow.Author.Tests.{eqb-true, eqb-false, ltb-true, ltb-false, lt-ltb, le-ltb, leb-true, leb-false}
+use Rattle.usage.proofs.Logic.{last-or-lower, or-right}
+use Rattle.checker_account.specs.Mask.{joined}
+use Rattle.checker_account.specs.Rounds.{repeat, total, grown, Wide, Filled}
+
+-- ── The sum of the entries ──
+
+total-set : (t : List ℕ) (i v : ℕ) → i < length t → total (set t i v) + getD t i 0 ≡ total t + v
+unfolding total
+total-set [] i v h = absurd (not-suc-le-zero h)
+total-set (w ∷ t) zero v h = omega arith
+total-set (w ∷ t) (suc i) v h = let e = total-set t i v (le-of-suc-le-suc h) in omega arith
+
+pub total-le : (t : List ℕ) → ((i : ℕ) → getD t i 0 < 65536) → total t ≤ 65536 * length t
+unfolding total
+total-le [] h = omega arith
+total-le (w ∷ t) h = let l = h 0 in let r = total-le t (λ i. h (suc i)) in omega arith
+
+pub or-ge : (a b : ℕ) → a ≤ bitOr a b
+or-ge a b = omega (arith, or-add-and a b, and-le-r a b)
+
+-- ── Growing ──
+
+pub record Grows (t t′ : List ℕ) : Type 0 where
+  pub len : length t′ ≡ length t
+  pub up : total t ≤ total t′
+  pub still : total t′ ≡ total t → t′ ≡ t
+
+pub grows-self : (t : List ℕ) → Grows t t
+grows-self t = record { len = refl; up = omega arith; still = λ e. refl }
+
+pub grows-trans : {a b c : List ℕ} → Grows a b → Grows b c → Grows a c
+grows-trans {a} {b} {c} g h = record {
+  len = h .len ∙ g .len;
+  up = omega (arith, g .up, h .up);
+  still = λ e.
+      let u = g .up in
+      let w = h .up in
+      let eb : total b ≡ total a = omega arith in
+      let ec : total c ≡ total b = omega arith in
+      h .still ec ∙ g .still eb;
+}
+
+-- the set at i, joined
+module _ (t : List ℕ) (i v : ℕ) where
+  abbrev old : ℕ
+  old = getD t i 0
+
+  joined-in : i < length t → Grows t (joined t i v)
+  unfolding joined
+  joined-in h =
+      let e = total-set t i (bitOr old v) h in
+      let l = or-ge old v in
+      record {
+        len = length-set t i (bitOr old v);
+        up = omega arith;
+        still = λ f. let d : bitOr old v ≡ old = omega arith in ap (set t i) d ∙ set-getD t i 0;
+      }
+
+  joined-out : length t ≤ i → joined t i v ≡ t
+  unfolding joined
+  joined-out h = set-out t i (bitOr old v) h
+
+  pub joined-grows : Grows t (joined t i v)
+  joined-grows = go (leb (length t) i) refl
+    where
+      go : (b : Bool) → leb (length t) i ≡ b → Grows t (joined t i v)
+      go true e = subst (Grows t) (sym (joined-out (leb-true (length t) i e))) (grows-self t)
+      go false e = joined-in (leb-false (length t) i e)
+
+  -- whether it has changed anything
+  pub grown-joined : i < length t → grown t (joined t i v) ≡ not (eqb (bitOr old v) old)
+  unfolding joined grown
+  grown-joined h = go (eqb (bitOr old v) old) refl
+    where
+      e : total (set t i (bitOr old v)) + old ≡ total t + bitOr old v
+      e = total-set t i (bitOr old v) h
+
+      more : (bitOr old v ≡ old → ⊥) → total t < total (set t i (bitOr old v))
+      more d = go (leb (bitOr old v) old) refl
+        where
+          go : (b : Bool) → leb (bitOr old v) old ≡ b → total t < total (set t i (bitOr old v))
+          go true f = let k = leb-true (bitOr old v) old f in let l = or-ge old v in absurd (d (omega arith))
+          go false f = let k = leb-false (bitOr old v) old f in let g = e in omega arith
+
+      go : (b : Bool) → eqb (bitOr old v) old ≡ b → ltb (total t) (total (set t i (bitOr old v))) ≡ not b
+      go true f = let d = eqb-true (bitOr old v) old f in let g = e in le-ltb (total t) (total (set t i (bitOr old v))) (omega arith)
+      go false f = lt-ltb (total t) (total (set t i (bitOr old v))) (more (eqb-false (bitOr old v) old f))
+
+-- ── Whether it has grown ──
+
+pub grown-self : (t : List ℕ) → grown t t ≡ false
+unfolding grown
+grown-self t = le-ltb (total t) (total t) (omega arith)
+
+pub grown-trans : {a b c : List ℕ} → Grows a b → Grows b c → grown a c ≡ (grown a b || grown b c)
+unfolding grown
+grown-trans {a} {b} {c} g h = go (ltb (total a) (total b)) refl
+  where
+    go : (d : Bool) → ltb (total a) (total b) ≡ d → ltb (total a) (total c) ≡ (d || ltb (total b) (total c))
+    go true e = let l = ltb-true (total a) (total b) e in let w = h .up in lt-ltb (total a) (total c) (omega arith)
+    go false e =
+        let l = ltb-false (total a) (total b) e in
+        let w = g .up in
+        let f : total a ≡ total b = omega arith in
+        ap (λ (n : ℕ). ltb n (total c)) f
+
+pub grown-false : {a b : List ℕ} → Grows a b → grown a b ≡ false → b ≡ a
+unfolding grown
+grown-false {a} {b} g e = g .still (let l = ltb-false (total a) (total b) e in let w = g .up in omega arith)
+
+pub grown-true : (a b : List ℕ) → grown a b ≡ true → total a < total b
+unfolding grown
+grown-true a b e = ltb-true (total a) (total b) e
+
+-- two steps, and what the code says of each
+pub grown-two : (a b c : List ℕ) (r₁ r₂ r : Bool) → Grows a b → Grows b c → r₁ ≡ grown a b → r₂ ≡ grown b c → r ≡ (r₁ || r₂) → r ≡ grown a c
+grown-two a b c r₁ r₂ r g h e₁ e₂ e = e ∙ ap₂ (λ (x y : Bool). x || y) e₁ e₂ ∙ sym (grown-trans g h)
+
+-- a table to which a set was joined
+pub grows-joined : (t u : List ℕ) (i v : ℕ) → u ≡ joined t i v → Grows t u
+grows-joined t u i v e = subst (Grows t) (sym e) (joined-grows t i v)
+
+-- ── Many steps ──
+
+pub repeat-keeps : (P : List ℕ → Type 0) (f : ℕ → List ℕ → List ℕ) (n : ℕ) → ((i : ℕ) (t : List ℕ) → i < n → P t → P (f i t)) → (t : List ℕ) → P t → P (repeat f n t)
+unfolding repeat
+repeat-keeps P f zero h t p = p
+repeat-keeps P f (suc n) h t p = h n (repeat f n t) (omega arith) (repeat-keeps P f n (λ i t l. h i t (omega arith)) t p)
+
+module _ (f : ℕ → List ℕ → List ℕ) (grows : (i : ℕ) (t : List ℕ) → Grows t (f i t)) where
+  pub repeat-grows : (n : ℕ) (t : List ℕ) → Grows t (repeat f n t)
+  unfolding repeat
+  repeat-grows zero t = grows-self t
+  repeat-grows (suc n) t = grows-trans (repeat-grows n t) (grows n (repeat f n t))
+
+  -- where all of them together change nothing, none does
+  pub repeat-still : (n : ℕ) (t : List ℕ) → repeat f n t ≡ t → (i : ℕ) → i < n → f i t ≡ t
+  unfolding repeat
+  repeat-still zero t e i h = absurd (not-suc-le-zero h)
+  repeat-still (suc n) t e i h = go (repeat-still n t) (last-or-lower i n h)
+    where
+      same : repeat f n t ≡ t
+      same =
+          let a = repeat-grows n t in
+          let u = a .up in
+          let w = grows n (repeat f n t) .up in
+          let d : total (f n (repeat f n t)) ≡ total t = ap total e in
+          a .still (omega arith)
+
+      go : (repeat f n t ≡ t → (i : ℕ) → i < n → f i t ≡ t) → (i ≡ n) ⊎ (i < n) → f i t ≡ t
+      go ih (inl k) = ap (λ (j : ℕ). f j t) k ∙ ap (f n) (sym same) ∙ e
+      go ih (inr l) = ih same i l
+
+  -- one turn more, and whether the table has changed since the start
+  pub turn-made : (n : ℕ) (t₀ t u : List ℕ) → t ≡ repeat f n t₀ → u ≡ f n t → u ≡ repeat f (n + 1) t₀
+  unfolding repeat
+  turn-made n t₀ t u e g = rw (add-one n) (g ∙ ap (f n) e)
+
+  grown-more : (n : ℕ) (t₀ t u : List ℕ) → t ≡ repeat f n t₀ → u ≡ f n t → grown t₀ u ≡ (grown t₀ t || grown t u)
+  grown-more n t₀ t u e g = grown-trans (subst (Grows t₀) (sym e) (repeat-grows n t₀)) (subst (Grows t) (sym g) (grows n t))
+
+  pub turn-grown : (n : ℕ) (t₀ t u : List ℕ) → t ≡ repeat f n t₀ → u ≡ f n t → grown t u ≡ true → true ≡ grown t₀ u
+  turn-grown n t₀ t u e g h = sym (grown-more n t₀ t u e g ∙ or-right (grown t₀ t) (grown t u) h)
+
+  pub turn-same : (n : ℕ) (t₀ t u : List ℕ) (c : Bool) → t ≡ repeat f n t₀ → u ≡ f n t → c ≡ grown t₀ t → grown t u ≡ false → c ≡ grown t₀ u
+  turn-same n t₀ t u c e g d h = d ∙ sym (or-false (grown t₀ t)) ∙ ap (λ (b : Bool). grown t₀ t || b) (sym h) ∙ sym (grown-more n t₀ t u e g)
+
+-- ── Rounds until one changes nothing ──
+
+-- the table so far
+pub record Filling (round : List ℕ → List ℕ) (t₀ t : List ℕ) : Type 0 where
+  pub rounds : ℕ
+  pub made : t ≡ repeat (λ i. round) rounds t₀
+  pub wide : Wide t
+
+-- what a table of 3,072 entries of 16 bits can sum up to
+abbrev pub most : ℕ
+most = 201326592
+
+module _ (round : List ℕ → List ℕ) (grows : (t : List ℕ) → Grows t (round t)) where
+  pub filling-start : (t : List ℕ) → Wide t → Filling round t t
+  unfolding repeat
+  filling-start t w = record { rounds = 0; made = refl; wide = w }
+
+  pub filling-more : (t₀ t u : List ℕ) → Filling round t₀ t → u ≡ round t → Wide u → Filling round t₀ u
+  unfolding repeat
+  filling-more t₀ t u h e w = record { rounds = suc (h .rounds); made = e ∙ ap round (h .made); wide = w }
+
+  pub filling-length : (t₀ t : List ℕ) → Filling round t₀ t → length t ≡ length t₀
+  filling-length t₀ t h = ap length (h .made) ∙ repeat-grows (λ i. round) (λ i. grows) (h .rounds) t₀ .len
+
+  pub filling-ends : (t₀ t u : List ℕ) → Filling round t₀ t → u ≡ round t → grown t u ≡ false → Filled round t₀ u
+  filling-ends t₀ t u h e g =
+      let same : u ≡ t = grown-false (subst (Grows t) (sym e) (grows t)) g in
+      record { rounds = h .rounds; made = same ∙ h .made; still = ap round same ∙ sym e }
+
+  pub filling-less : (t₀ t u : List ℕ) → length t₀ ≡ 3072 → Filling round t₀ t → u ≡ round t → Wide u → grown t u ≡ true → most - total u < most - total t
+  filling-less t₀ t u l h e w g =
+      let k : length u ≡ 3072 = filling-length t₀ u (filling-more t₀ t u h e w) ∙ l in
+      let b = total-le u w in
+      let m = grown-true t u g in
+      omega arith

@@ -1,0 +1,128 @@
+-- What the tables are to hold: exactly the relations `Ends` and `Comes` of Witness.antt, at every start that occurs.
+use Prim.Native.Nat.{ℕ, _+_, _<_, _≤_}
+use mathlib.Core.Path.{_≡_}
+use mathlib.Core.Bool.{Bool, true, false, cond}
+use mathlib.Core.Option.{some}
+use mathlib.Core.List.{List, [], _∷_}
+use mathlib.Core.Logic.{_↔_}
+use lib.Dec.{eqb}
+use lib.ListN.{getD}
+use Rattle.usage.specs.declared.Edge.{Edge}
+use Rattle.usage.specs.declared.Node.{Node}
+use Rattle.usage.specs.Limits.{create}
+use Rattle.usage.specs.Policy.{Sees, Moves}
+use Rattle.usage.specs.Outline.{Form, Is, on-static, on-name, sequence, choice, loop, back, fresh, sandbox}
+use Rattle.automaton.specs.Mask.{has}
+use Rattle.checker_account.specs.Witness.{watched, others, no-name, Ends, Comes, Last, Hits}
+use Rattle.checker_account.specs.Mask.{offends}
+use Rattle.checker_account.specs.Tables.{meanings, least, nameOf, made, at, base, Rows, endsBy, place, Arrival, arrivals, leaves, lastOf}
+
+-- the meanings that occur where x is watched
+pub record Start (x m : ℕ) : Type 0 where
+  pub low : least x ≤ m
+  pub high : m < meanings
+
+-- state q moves to q′ by an event with action a, which is on x or on another dynamic resource
+abbrev pub Dynamic : List Edge → ℕ → ℕ → ℕ → Bool → ℕ → ℕ → Type 0
+Dynamic es p x a own q q′ = Moves es p a (Sees x (cond own x others)) q q′
+
+-- The rows are those of policy p. Only a dynamic x is meant by a name or created.
+pub record RowsOk (es : List Edge) (ns : List Node) (p x : ℕ) (rows : Rows) : Type 0 where
+  pub static : {k a s : ℕ} → Is ns k (on-static a s) → (q q′ : ℕ) → q < 8 → q′ < 8
+      → (has (rows k (eqb s x) q) q′ ≡ true) ↔ Moves es p a (Sees x s) q q′
+  pub name : {k a n : ℕ} → Is ns k (on-name a n) → (own : Bool) → (own ≡ true → x ≡ watched) → (q q′ : ℕ) → q < 8 → q′ < 8
+      → (has (rows k own q) q′ ≡ true) ↔ Dynamic es p x a own q q′
+  pub created : {k n b : ℕ} → Is ns k (fresh n b) → (own : Bool) → (own ≡ true → x ≡ watched) → (q q′ : ℕ) → q < 8 → q′ < 8
+      → (has (rows k own q) q′ ≡ true) ↔ Dynamic es p x create own q q′
+
+-- the names that nodes use and give are 0 to 3
+pub record NamesOk (ns : List Node) : Type 0 where
+  pub used : {k a n : ℕ} → Is ns k (on-name a n) → n < no-name
+  pub given : {k n b : ℕ} → Is ns k (fresh n b) → n < no-name
+
+-- the nodes that a node leads to are numbered 0 to 63
+pub record TargetsOk (ns : List Node) : Type 0 where
+  pub sequence : {k a b : ℕ} → Is ns k (sequence a b) → (a < 64) × (b < 64)
+  pub choice : {k a b : ℕ} → Is ns k (choice a b) → (a < 64) × (b < 64)
+  pub loop : {k a : ℕ} → Is ns k (loop a) → a < 64
+  pub back : {k a : ℕ} → Is ns k (back a) → a < 64
+  pub fresh : {k n b : ℕ} → Is ns k (fresh n b) → b < 64
+  pub sandbox : {k s b : ℕ} → Is ns k (sandbox s b) → b < 64
+
+-- the account, the number of steps forgotten; where the whole past counts, ends do not depend on whether p is open
+abbrev pub EndsFrom : List Edge → List Node → ℕ → ℕ → ℕ → ℕ → Bool → ℕ → Bool → ℕ → Type 0
+EndsFrom es ns p x k w c q c′ q′ = (n : ℕ) × Ends false es ns p x n false k w c q c′ q′
+
+abbrev pub ComesFrom : List Edge → List Node → ℕ → ℕ → Bool → ℕ → ℕ → Bool → ℕ → Type 0
+ComesFrom es ns p x o k w c q = (n : ℕ) × Comes false es ns p x n o k w c q
+
+abbrev pub HitsFrom : List Edge → List Node → ℕ → ℕ → Last → Type 0
+HitsFrom es ns p x last = (n : ℕ) × Hits false es ns p x n last
+
+-- node k, begun in (m, q), can end in (c, q′): by the definitions, and by the table
+abbrev pub EndsAt : List Edge → List Node → ℕ → ℕ → ℕ → ℕ → ℕ → Bool → ℕ → Type 0
+EndsAt es ns p x k m q c q′ = EndsFrom es ns p x k (nameOf m) (made m) q c q′
+
+abbrev pub HasEnd : List ℕ → ℕ → ℕ → ℕ → Bool → ℕ → Type 0
+HasEnd t k m q c q′ = has (getD t (base k m + q) 0) (at c q′) ≡ true
+
+-- each end in the table is one
+abbrev pub SoundEnds : List Edge → List Node → ℕ → ℕ → List ℕ → Type 0
+SoundEnds es ns p x t = (k m q : ℕ) (c : Bool) (q′ : ℕ) → Start x m → q < 8 → q′ < 8 → HasEnd t k m q c q′ → EndsAt es ns p x k m q c q′
+
+-- the rules add nothing to the table
+abbrev pub ClosedEnds : List Node → ℕ → Rows → List ℕ → Type 0
+ClosedEnds ns x rows t = (k m q : ℕ) (f : Form) → Is ns k f → Start x m → q < 8 → (c : Bool) (q′ : ℕ) → q′ < 8
+    → has (endsBy rows x t k m q f) (at c q′) ≡ true → HasEnd t k m q c q′
+
+-- the table of ends holds exactly the ends
+pub record HoldsEnds (es : List Edge) (ns : List Node) (p x : ℕ) (t : List ℕ) : Type 0 where
+  pub sound : SoundEnds es ns p x t
+  pub full : (k m q : ℕ) (c : Bool) (q′ : ℕ) → Start x m → q < 8 → EndsAt es ns p x k m q c q′ → (q′ < 8) × HasEnd t k m q c q′
+
+-- node k is come to in (m, q), p being open or not: by the definitions, and by the table
+abbrev pub ComesAt : List Edge → List Node → ℕ → ℕ → ℕ → Bool → ℕ → ℕ → Type 0
+ComesAt es ns p x k o m q = ComesFrom es ns p x o k (nameOf m) (made m) q
+
+abbrev pub HasCome : List ℕ → ℕ → Bool → ℕ → ℕ → Type 0
+HasCome u k o m q = has (getD u (place k o m) 0) q ≡ true
+
+abbrev pub SoundComes : List Edge → List Node → ℕ → ℕ → List ℕ → Type 0
+SoundComes es ns p x u = (k : ℕ) (o : Bool) (m q : ℕ) → Start x m → q < 8 → HasCome u k o m q → ComesAt es ns p x k o m q
+
+-- P holds of each arrival
+abbrev pub Each : (Arrival → Type 0) → List Arrival → Type 0
+Each P [] = Unit {0}
+Each P (g ∷ gs) = P g × Each P gs
+
+abbrev pub Entered : List ℕ → Arrival → Type 0
+Entered u g = (q : ℕ) → q < 8 → has (g .states) q ≡ true → HasCome u (g .to) (g .is-open) (g .meaning) q
+
+-- the start is in the table, and the rules add nothing to it
+pub record ClosedComes (ns : List Node) (p x : ℕ) (rows : Rows) (t u : List ℕ) : Type 0 where
+  pub begun : HasCome u 0 false (least x) 0
+  pub step : (k : ℕ) (o : Bool) (m : ℕ) (f : Form) → Is ns k f → Start x m → Each (Entered u) (arrivals rows p t k o m (getD u (place k o m) 0) f)
+
+-- a start of a node that the account tells by (w, c), in the table
+pub record Come (x : ℕ) (u : List ℕ) (o : Bool) (k w : ℕ) (c : Bool) (q : ℕ) : Type 0 where
+  pub meaning : ℕ
+  pub start : Start x meaning
+  pub name : nameOf meaning ≡ w
+  pub made : made meaning ≡ c
+  pub state : q < 8
+  pub entered : HasCome u k o meaning q
+
+-- the table holds exactly what is come to
+pub record HoldsComes (es : List Edge) (ns : List Node) (p x : ℕ) (u : List ℕ) : Type 0 where
+  pub sound : SoundComes es ns p x u
+  pub full : {n : ℕ} {o : Bool} {k w : ℕ} {c : Bool} {q : ℕ} → Comes false es ns p x n o k w c q → Come x u o k w c q
+
+-- A node whose step, the last one, leaves p open with an offending state, by the table of what is come to.
+pub record Struck (ns : List Node) (p x : ℕ) (rows : Rows) (u : List ℕ) (last : Last) : Type 0 where
+  pub node : ℕ
+  pub meaning : ℕ
+  pub form : Form
+  pub is : Is ns node form
+  pub start : Start x meaning
+  pub step : lastOf form ≡ some last
+  pub offending : offends (leaves rows p x u node meaning form) ≡ true

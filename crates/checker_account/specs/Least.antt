@@ -1,0 +1,121 @@
+-- Tables of least lengths: what they are to hold, when they are full, and how a trace is read from them.
+--
+-- An entry belongs to a node, a start (o, w, c, q) and an aim, and is a number of steps. `E n o k w c q t` says that the entry of node k,
+-- this start and aim t is n; where it is `cap` or less it counts, and else there is no entry.
+use Prim.Native.Nat.{ℕ, suc, _+_, _<_, _≤_}
+use mathlib.Core.Path.{_≡_}
+use mathlib.Core.Bool.{Bool, true, false, _||_}
+use mathlib.Core.Option.{Option, none}
+use mathlib.Core.List.{List}
+use lib.Dec.{eqb}
+use Rattle.usage.specs.declared.Edge.{Edge}
+use Rattle.usage.specs.declared.Node.{Node}
+use Rattle.usage.specs.Limits.{statics, states, create}
+use Rattle.usage.specs.Policy.{Sees, Moves, Offending}
+use Rattle.usage.specs.Past.{reopened}
+use Rattle.usage.specs.Outline.{Is, end, on-static, on-name, sequence, choice, loop, back, fresh, sandbox}
+use Rattle.checker_account.specs.Witness.{others, no-name, meant, forget, Last, by-action, by-opening, Counts, Aim, ended, broken, Goes}
+
+abbrev pub Entries : Type 1
+Entries = ℕ → Bool → ℕ → ℕ → Bool → ℕ → Aim → Type 0
+
+-- the starts that occur: only a dynamic x is meant by a name or created, and no name means one that is not created
+pub record Begun (x w : ℕ) (c : Bool) (q : ℕ) : Type 0 where
+  pub name : w ≤ no-name
+  pub unmade : c ≡ false → w ≡ no-name
+  pub static : x < statics → (w ≡ no-name) × (c ≡ true)
+  pub state : q < states
+
+-- the aims of the tables: an end, or any step that breaks p
+pub data Aimed : Aim → Type 0 where
+  at-end : {c : Bool} {q : ℕ} → Aimed (ended c q)
+  at-break : Aimed (broken none)
+
+-- One rule of `Goes`, over entries.
+pub data Rule (local : Bool) (es : List Edge) (ns : List Node) (p x : ℕ) (E : Entries) : ℕ → Bool → ℕ → ℕ → Bool → ℕ → Aim → Type 0 where
+  ends : {k w q : ℕ} {o c : Bool} → Is ns k end → Rule local es ns p x E 0 o k w c q (ended c q)
+  fires-static : {k w q a s q′ : ℕ} {o c : Bool} → Is ns k (on-static a s) → Moves es p a (Sees x s) q q′ → Rule local es ns p x E 1 o k w c q (ended c q′)
+  fires-name : {k w q a m q′ : ℕ} {o c : Bool} → Is ns k (on-name a m) → Moves es p a (Sees x (meant x w m)) q q′ → Rule local es ns p x E 1 o k w c q (ended c q′)
+  sequences : {n₁ n₂ k w q a b q₁ : ℕ} {o c c₁ : Bool} {t : Aim} → Is ns k (sequence a b)
+      → E n₁ o a w c q (ended c₁ q₁) → E n₂ o b w c₁ q₁ t → Rule local es ns p x E (n₁ + n₂) o k w c q t
+  chooses-left : {n k w q a b : ℕ} {o c : Bool} {t : Aim} → Is ns k (choice a b) → E n o a w c q t → Rule local es ns p x E n o k w c q t
+  chooses-right : {n k w q a b : ℕ} {o c : Bool} {t : Aim} → Is ns k (choice a b) → E n o b w c q t → Rule local es ns p x E n o k w c q t
+  enters : {n k w q a : ℕ} {o c : Bool} {t : Aim} → Is ns k (loop a) → E n o a w c q t → Rule local es ns p x E n o k w c q t
+  repeats : {n k w q a : ℕ} {o c : Bool} {t : Aim} → Is ns k (back a) → E n o a w c q t → Rule local es ns p x E n o k w c q t
+  creates-other : {n k w q m b q₁ : ℕ} {o c : Bool} {t : Aim} → Is ns k (fresh m b)
+      → Moves es p create (Sees x others) q q₁ → E n o b (forget w m) c q₁ t → Rule local es ns p x E (suc n) o k w c q t
+  creates-own : {n k w q m b q₁ : ℕ} {o : Bool} {t : Aim} → Is ns k (fresh m b)
+      → Moves es p create (Sees x x) q q₁ → E n o b m true q₁ t → Rule local es ns p x E (suc n) o k w false q t
+  sandboxes : {n k w q s b q₂ : ℕ} {o c c₂ : Bool} → Is ns k (sandbox s b)
+      → E n (o || eqb s p) b w c (reopened local p s o q) (ended c₂ q₂) → Rule local es ns p x E (suc (suc n)) o k w c q (ended c₂ q₂)
+  breaks-static : {k w q a s q′ : ℕ} {c : Bool} {u : Option Last} → Is ns k (on-static a s) → Moves es p a (Sees x s) q q′ → Offending q′
+      → Counts u (by-action a) → Rule local es ns p x E 1 true k w c q (broken u)
+  breaks-name : {k w q a m q′ : ℕ} {c : Bool} {u : Option Last} → Is ns k (on-name a m) → Moves es p a (Sees x (meant x w m)) q q′ → Offending q′
+      → Counts u (by-action a) → Rule local es ns p x E 1 true k w c q (broken u)
+  breaks-other : {k w q m b q′ : ℕ} {c : Bool} {u : Option Last} → Is ns k (fresh m b) → Moves es p create (Sees x others) q q′ → Offending q′
+      → Counts u (by-action create) → Rule local es ns p x E 1 true k w c q (broken u)
+  breaks-own : {k w q m b q′ : ℕ} {u : Option Last} → Is ns k (fresh m b) → Moves es p create (Sees x x) q q′ → Offending q′
+      → Counts u (by-action create) → Rule local es ns p x E 1 true k w false q (broken u)
+  breaks-opening : {k w q b : ℕ} {o c : Bool} {u : Option Last} → Is ns k (sandbox p b) → Offending (reopened local p p o q)
+      → Counts u by-opening → Rule local es ns p x E 1 o k w c q (broken u)
+  breaks-first : {n k w q a b : ℕ} {o c : Bool} {u : Option Last} → Is ns k (sequence a b) → E n o a w c q (broken u) → Rule local es ns p x E n o k w c q (broken u)
+  breaks-inside : {n k w q s b : ℕ} {o c : Bool} {u : Option Last} → Is ns k (sandbox s b)
+      → E n (o || eqb s p) b w c (reopened local p s o q) (broken u) → Rule local es ns p x E (suc n) o k w c q (broken u)
+
+-- ── What the tables are to hold ──
+
+-- Each entry is a length: what every round of filling keeps.
+pub record Lengths (local : Bool) (es : List Edge) (ns : List Node) (p x : ℕ) (cap : ℕ) (E : Entries) : Type 0 where
+  pub sound : {n : ℕ} {o : Bool} {k w : ℕ} {c : Bool} {q : ℕ} {t : Aim} → Begun x w c q → Aimed t → E n o k w c q t → Goes local es ns p x n o k w c q t
+  pub capped : {n : ℕ} {o : Bool} {k w : ℕ} {c : Bool} {q : ℕ} {t : Aim} → E n o k w c q t → n ≤ cap
+  pub one : {n m : ℕ} {o : Bool} {k w : ℕ} {c : Bool} {q : ℕ} {t : Aim} → E n o k w c q t → E m o k w c q t → n ≡ m
+
+-- The entries are the least lengths, of those that are `cap` or less.
+pub record Least (local : Bool) (es : List Edge) (ns : List Node) (p x : ℕ) (cap : ℕ) (E : Entries) : Type 0 where
+  pub lengths : Lengths local es ns p x cap E
+  pub full : {n : ℕ} {o : Bool} {k w : ℕ} {c : Bool} {q : ℕ} {t : Aim} → Begun x w c q → Aimed t → Goes local es ns p x n o k w c q t → n ≤ cap → (m : ℕ) × (m ≤ n) × E m o k w c q t
+
+-- No rule gives less than what stands there: what a round that changes nothing says.
+abbrev pub Closed : Bool → List Edge → List Node → ℕ → ℕ → ℕ → Entries → Type 0
+Closed local es ns p x cap E = (n : ℕ) (o : Bool) (k w : ℕ) (c : Bool) (q : ℕ) (t : Aim) → Begun x w c q → Aimed t → Rule local es ns p x E n o k w c q t → n ≤ cap
+    → (m : ℕ) × (m ≤ n) × E m o k w c q t
+
+-- ── How a trace is read from them ──
+
+-- the entries below `most`
+abbrev pub Less : ℕ → Entries → Entries
+Less most E n o k w c q t = (n < most) × E n o k w c q t
+
+-- node k can end with no step
+pub data Idle (ns : List Node) : ℕ → Type 0 where
+  ends : {k : ℕ} → Is ns k end → Idle ns k
+  sequences : {k a b : ℕ} → Is ns k (sequence a b) → Idle ns a → Idle ns b → Idle ns k
+  chooses-left : {k a b : ℕ} → Is ns k (choice a b) → Idle ns a → Idle ns k
+  chooses-right : {k a b : ℕ} → Is ns k (choice a b) → Idle ns b → Idle ns k
+  enters : {k a : ℕ} → Is ns k (loop a) → Idle ns a → Idle ns k
+  repeats : {k a : ℕ} → Is ns k (back a) → Idle ns a → Idle ns k
+
+-- Node k leads to node j with no step, by one move; where k is to end, nothing but an idle node is left of it after j.
+pub data Leads (ns : List Node) (whole : Bool) : ℕ → ℕ → Type 0 where
+  first : {k a b : ℕ} → Is ns k (sequence a b) → (whole ≡ true → Idle ns b) → Leads ns whole k a
+  second : {k a b : ℕ} → Is ns k (sequence a b) → Idle ns a → Leads ns whole k b
+  left : {k a b : ℕ} → Is ns k (choice a b) → Leads ns whole k a
+  right : {k a b : ℕ} → Is ns k (choice a b) → Leads ns whole k b
+  body : {k a : ℕ} → Is ns k (loop a) → Leads ns whole k a
+  again : {k a : ℕ} → Is ns k (back a) → Leads ns whole k a
+
+-- by any number of moves
+pub data Passes (ns : List Node) (whole : Bool) : ℕ → ℕ → Type 0 where
+  here : {k : ℕ} → Passes ns whole k k
+  on : {k i j : ℕ} → Leads ns whole k i → Passes ns whole i j → Passes ns whole k j
+
+-- is the node to end?
+abbrev pub ending : Aim → Bool
+ending (ended c q) = true
+ending (broken u) = false
+
+-- Where to go on from an entry: a node that k leads to with no step, and a rule there whose entries are all of fewer steps.
+pub record Onto (local : Bool) (es : List Edge) (ns : List Node) (p x : ℕ) (E : Entries) (n : ℕ) (o : Bool) (k w : ℕ) (c : Bool) (q : ℕ) (t : Aim) : Type 0 where
+  pub node : ℕ
+  pub passes : Passes ns (ending t) k node
+  pub rule : Rule local es ns p x (Less n E) n o node w c q t

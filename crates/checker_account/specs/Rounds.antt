@@ -1,0 +1,128 @@
+-- How the tables are filled: in rounds over all nodes, until a round changes nothing.
+use Prim.Native.Nat.{ℕ, zero, suc, _+_, _-_, _*_, _/_, _%_, _<_, _≤_}
+use mathlib.Core.Path.{_≡_}
+use mathlib.Core.Bool.{Bool, true, false}
+use mathlib.Core.Option.{Option, none, some}
+use mathlib.Core.List.{List, [], _∷_}
+use lib.Dec.{eqb, ltb}
+use lib.ListN.{getD, replicate}
+use Rattle.usage.specs.declared.Node.{Node}
+use Rattle.usage.specs.Outline.{Form, formOf, Is}
+use Rattle.usage.specs.Tables.{nodeAt}
+use Rattle.usage.specs.Tests.{some-below}
+use Rattle.checker_account.specs.Witness.{watched}
+use Rattle.checker_account.specs.Mask.{joined, offends}
+use Rattle.checker_account.specs.Tables.{least, Rows, endsBy, place, Arrival, arrivals, leaves}
+
+-- f 0, then f 1, …, then f (n - 1)
+unfoldable pub repeat : (ℕ → List ℕ → List ℕ) → ℕ → List ℕ → List ℕ
+repeat f zero t = t
+repeat f (suc n) t = f n (repeat f n t)
+
+-- A step of filling only joins sets, so that a table has changed exactly if the sum of its entries has grown.
+unfoldable pub total : List ℕ → ℕ
+total [] = 0
+total (v ∷ t) = v + total t
+
+unfoldable pub grown : List ℕ → List ℕ → Bool
+grown t t′ = ltb (total t) (total t′)
+
+-- what each node of a flat table says
+abbrev pub Forms : Type 0
+Forms = ℕ → Option Form
+
+-- they are the forms of n nodes
+pub record FormsOf (ns : List Node) (n : ℕ) (forms : Forms) : Type 0 where
+  pub is : (k : ℕ) (f : Form) → k < n → forms k ≡ some f → Is ns k f
+  pub has : (k : ℕ) (f : Form) → Is ns k f → (k < n) × (forms k ≡ some f)
+
+abbrev pub formsIn : List ℕ → Forms
+formsIn t k = formOf (nodeAt t k)
+
+-- ── The table of ends ──
+
+-- a node of no known kind has no end
+abbrev pub endsOf : Rows → ℕ → List ℕ → ℕ → ℕ → ℕ → Option Form → ℕ
+endsOf rows x t k m q none = 0
+endsOf rows x t k m q (some f) = endsBy rows x t k m q f
+
+-- start s of node k
+abbrev pub settle : Rows → ℕ → ℕ → Option Form → ℕ → List ℕ → List ℕ
+settle rows x k f s t = joined t (48 * k + s) (endsOf rows x t k (s / 8) (s % 8) f)
+
+-- the starts of node k from `first` on
+unfoldable pub settleNode : Rows → ℕ → ℕ → ℕ → Option Form → List ℕ → List ℕ
+settleNode rows x first k f t = repeat (λ i. settle rows x k f (first + i)) (48 - first) t
+
+-- all of n nodes, from the highest to the lowest: a child has a greater number than its parent
+unfoldable pub settleRound : Rows → ℕ → ℕ → ℕ → Forms → List ℕ → List ℕ
+settleRound rows x first n forms t = repeat (λ i. settleNode rows x first (n - 1 - i) (forms (n - 1 - i))) n t
+
+-- ── The table of what is come to ──
+
+-- each arrival, joined
+unfoldable pub entered : List Arrival → List ℕ → List ℕ
+entered [] u = u
+entered (g ∷ gs) u = entered gs (joined u (place (g .to) (g .is-open) (g .meaning)) (g .states))
+
+abbrev pub arrivalsOf : Rows → ℕ → List ℕ → ℕ → Bool → ℕ → ℕ → Option Form → List Arrival
+arrivalsOf rows p t k o m v none = []
+arrivalsOf rows p t k o m v (some f) = arrivals rows p t k o m v f
+
+-- what node k, come to with o and m, leads to
+abbrev pub pass : Rows → ℕ → List ℕ → ℕ → Option Form → Bool → ℕ → List ℕ → List ℕ
+pass rows p t k f o m u = entered (arrivalsOf rows p t k o m (getD u (place k o m) 0) f) u
+
+-- with every meaning from l on, p being open or not
+abbrev pub odd : ℕ → Bool
+odd i = eqb (i % 2) 1
+
+unfoldable pub passNode : Rows → ℕ → List ℕ → ℕ → ℕ → Option Form → List ℕ → List ℕ
+passNode rows p t l k f u = repeat (λ i. pass rows p t k f (odd i) (l + i / 2)) (2 * (6 - l)) u
+
+-- all of n nodes, from the lowest to the highest
+unfoldable pub passRound : Rows → ℕ → List ℕ → ℕ → ℕ → Forms → List ℕ → List ℕ
+passRound rows p t l n forms u = repeat (λ k. passNode rows p t l k (forms k)) n u
+
+-- at first node 0 alone is come to, in state 0, no policy being open
+abbrev pub begins : ℕ → List ℕ
+begins l = joined (replicate 3072 0) l 1
+
+-- ── Until nothing changes ──
+
+-- the entries are numbers of 16 bits
+abbrev pub Wide : List ℕ → Type 0
+Wide t = (i : ℕ) → getD t i 0 < 65536
+
+-- t′ is what rounds make of t, and one more round changes nothing
+pub record Filled (round : List ℕ → List ℕ) (t t′ : List ℕ) : Type 0 where
+  pub rounds : ℕ
+  pub made : t′ ≡ repeat (λ i. round) rounds t
+  pub still : round t′ ≡ t′
+
+-- ── The search ──
+
+abbrev pub leavesOf : Rows → ℕ → ℕ → List ℕ → ℕ → ℕ → Option Form → ℕ
+leavesOf rows p x u k m none = 0
+leavesOf rows p x u k m (some f) = leaves rows p x u k m f
+
+-- the step of node k, with some meaning from l on, leaves an offending state
+unfoldable pub hitNode : Rows → ℕ → ℕ → List ℕ → ℕ → ℕ → Option Form → Bool
+hitNode rows p x u l k f = some-below (λ i. offends (leavesOf rows p x u k (l + i) f)) (6 - l)
+
+-- that of some of n nodes does
+unfoldable pub hitAny : Rows → ℕ → ℕ → List ℕ → ℕ → ℕ → Forms → Bool
+hitAny rows p x u l n forms = some-below (λ k. hitNode rows p x u l k (forms k)) n
+
+-- the answer to whether policy p is broken for the watched resource x
+pub record Searched (rows : Rows) (p x n : ℕ) (forms : Forms) (answer : Bool) : Type 0 where
+  pub ends : List ℕ
+  pub comes : List ℕ
+  pub ends-filled : Filled (settleRound rows x (8 * least x) n forms) (replicate 3072 0) ends
+  pub comes-filled : Filled (passRound rows p ends (least x) n forms) (begins (least x)) comes
+  pub told : answer ≡ hitAny rows p x comes (least x) n forms
+
+-- the answer to whether policy p is broken: the static resources and the one dynamic resource are watched in turn
+pub data SearchedAll (rows : Rows) (p n : ℕ) (forms : Forms) : Bool → Type 0 where
+  found : {x : ℕ} → x ≤ watched → Searched rows p x n forms true → SearchedAll rows p n forms true
+  none-found : ((x : ℕ) → x ≤ watched → Searched rows p x n forms false) → SearchedAll rows p n forms false

@@ -1,0 +1,155 @@
+-- The tables of the check, for one policy p and one watched resource x, and how they are filled. What a node can end in and what
+-- it is come to in are the relations `Ends` and `Comes` of Witness.antt; a table holds them as bits.
+--
+-- A start of a node is a meaning m, 0 to 5, and a state q, 0 to 7. The meaning tells both the name that means x and whether x can
+-- still be created: 0 that it can be (then no name means it), 1 + n that name n means it, 5 that it cannot be and no name means it.
+use Prim.Native.Nat.{ℕ, zero, suc, _+_, _*_, _/_, _%_, _^_}
+use mathlib.Core.Bool.{Bool, true, false, _||_, cond}
+use mathlib.Core.Option.{Option, none, some}
+use mathlib.Core.List.{List, [], _∷_}
+use lib.Dec.{eqb, ltb}
+use lib.ListN.{getD}
+use lib.Bits.{bitOr}
+use Rattle.usage.specs.Limits.{statics, create}
+use Rattle.usage.specs.Outline.{Form, end, on-static, on-name, sequence, choice, loop, back, fresh, sandbox}
+use Rattle.checker_account.specs.Witness.{no-name, Last, by-action, by-opening}
+use Rattle.checker_account.specs.Mask.{over}
+
+-- ── Starts ──
+
+abbrev pub meanings : ℕ
+meanings = 6
+
+-- x is static, or was created, and no name means it
+abbrev pub unnamed : ℕ
+unnamed = 5
+
+abbrev pub nameOf : ℕ → ℕ
+nameOf zero = no-name
+nameOf (suc n) = n
+
+abbrev pub made : ℕ → Bool
+made zero = false
+made (suc m) = true
+
+-- the least meaning that occurs: of a static x only `unnamed` does
+unfoldable pub least : ℕ → ℕ
+least x = cond (ltb x statics) unnamed 0
+
+-- the meaning once name n is given to another resource, and after a node that ended with x made or not
+unfoldable pub forgotten : ℕ → ℕ → ℕ
+forgotten m n = cond (eqb m (suc n)) unnamed m
+
+abbrev pub after : ℕ → Bool → ℕ
+after zero false = 0
+after zero true = unnamed
+after (suc m) c = suc m
+
+-- ── The table of ends: for each node, meaning and state the set of ends ──
+
+-- the place of an end, and the set of the states in which x is so
+abbrev pub at : Bool → ℕ → ℕ
+at false q = q
+at true q = 8 + q
+
+abbrev pub half : Bool → ℕ → ℕ
+half false v = v % 256
+half true v = v / 256
+
+-- where the entries of node k with meaning m begin; that of state q is q places further
+abbrev pub base : ℕ → ℕ → ℕ
+base k m = 48 * k + 8 * m
+
+-- the ends with the states of the set v, x being made or not as before
+abbrev pub kept : ℕ → ℕ → ℕ
+kept zero v = v % 256
+kept (suc m) v = v % 256 * 256
+
+-- what node b, with meaning m, ends in when begun in a state of the set v
+abbrev pub begun : List ℕ → ℕ → ℕ → ℕ → ℕ
+begun t b m v = over (λ q. getD t (base b m + q) 0) v
+
+-- `rows k own q`: the states that q moves to by the event of node k, which is on x or not
+abbrev pub Rows : Type 0
+Rows = ℕ → Bool → ℕ → ℕ
+
+-- a table of rows: of node k, those for an event on another resource, then those for one on x
+abbrev pub rowAt : ℕ → Bool → ℕ
+rowAt k false = 48 * k
+rowAt k true = 48 * k + 8
+
+abbrev pub rowsIn : List ℕ → Rows
+rowsIn r k own q = getD r (rowAt k own + q) 0
+
+-- The rules of `Ends`: what node k of this form, begun in (m, q), ends in by what the table holds of other nodes.
+unfoldable pub endsBy : Rows → ℕ → List ℕ → ℕ → ℕ → ℕ → Form → ℕ
+endsBy rows x t k m q end = kept m (2 ^ q)
+endsBy rows x t k m q (on-static a s) = kept m (rows k (eqb s x) q)
+endsBy rows x t k m q (on-name a n) = kept m (rows k (eqb m (suc n)) q)
+endsBy rows x t k m q (sequence a b) =
+    let v = getD t (base a m + q) 0 in
+    bitOr (begun t b (after m false) (half false v)) (begun t b (after m true) (half true v))
+endsBy rows x t k m q (choice a b) = bitOr (getD t (base a m + q) 0) (getD t (base b m + q) 0)
+endsBy rows x t k m q (loop a) = getD t (base a m + q) 0
+endsBy rows x t k m q (back a) = getD t (base a m + q) 0
+endsBy rows x t k m q (fresh n b) = bitOr (begun t b (forgotten m n) (rows k false q)) (cond (made m) 0 (begun t b (suc n) (rows k true q)))
+endsBy rows x t k m q (sandbox s b) = getD t (base b m + q) 0
+
+-- ── The table of what is come to: for each node, p being open or not, and meaning, the set of states ──
+
+abbrev pub place : ℕ → Bool → ℕ → ℕ
+place k o m = 48 * k + at o m
+
+-- node `to` is come to, p being open or not, with this meaning, in these states
+pub record Arrival : Type 0 where
+  pub to : ℕ
+  pub is-open : Bool
+  pub meaning : ℕ
+  pub states : ℕ
+
+infix 40 _by_by_with_
+abbrev pub _by_by_with_ : ℕ → Bool → ℕ → ℕ → Arrival
+k by o by m with v = record { to = k; is-open = o; meaning = m; states = v }
+
+-- The rules of `Comes`: what node k of this form, come to in the states v with o and m, leads to. `t` is the table of ends.
+unfoldable pub arrivals : Rows → ℕ → List ℕ → ℕ → Bool → ℕ → ℕ → Form → List Arrival
+arrivals rows p t k o m v end = []
+arrivals rows p t k o m v (on-static a s) = []
+arrivals rows p t k o m v (on-name a n) = []
+arrivals rows p t k o m v (sequence a b) =
+    let e = begun t a m v in
+    (a by o by m with v) ∷ (b by o by after m false with half false e) ∷ (b by o by after m true with half true e) ∷ []
+arrivals rows p t k o m v (choice a b) = (a by o by m with v) ∷ (b by o by m with v) ∷ []
+arrivals rows p t k o m v (loop a) = (a by o by m with v) ∷ []
+arrivals rows p t k o m v (back a) = (a by o by m with v) ∷ []
+arrivals rows p t k o m v (fresh n b) =
+    (b by o by forgotten m n with over (rows k false) v) ∷ (b by o by suc n with cond (made m) 0 (over (rows k true) v)) ∷ []
+arrivals rows p t k o m v (sandbox s b) = (b by (o || eqb s p) by m with v) ∷ []
+
+-- ── What the step of a node leaves ──
+
+-- the states in which the instance of x may be, p being open, once node k of this form, come to with meaning m, has taken its step
+unfoldable pub leaves : Rows → ℕ → ℕ → List ℕ → ℕ → ℕ → Form → ℕ
+leaves rows p x u k m end = 0
+leaves rows p x u k m (on-static a s) = over (rows k (eqb s x)) (getD u (place k true m) 0)
+leaves rows p x u k m (on-name a n) = over (rows k (eqb m (suc n))) (getD u (place k true m) 0)
+leaves rows p x u k m (sequence a b) = 0
+leaves rows p x u k m (choice a b) = 0
+leaves rows p x u k m (loop a) = 0
+leaves rows p x u k m (back a) = 0
+leaves rows p x u k m (fresh n b) =
+    let v = getD u (place k true m) 0 in
+    bitOr (over (rows k false) v) (cond (made m) 0 (over (rows k true) v))
+leaves rows p x u k m (sandbox s b) = cond (eqb s p) (bitOr (getD u (place k false m) 0) (getD u (place k true m) 0)) 0
+
+-- the step, as the account tells it apart
+abbrev pub lastOf : Form → Option Last
+lastOf end = none
+lastOf (on-static a s) = some (by-action a)
+lastOf (on-name a n) = some (by-action a)
+lastOf (sequence a b) = none
+lastOf (choice a b) = none
+lastOf (loop a) = none
+lastOf (back a) = none
+lastOf (fresh n b) = some (by-action create)
+lastOf (sandbox s b) = some by-opening

@@ -1,0 +1,35 @@
+use Rattle.checker_account.proofs.CodeLaws.{place-lt}
+use denote.Ref.{now}
+use Rattle.checker_account.specs.Mask.{joined}
+use native.Mathlib.Omega.{arith}
+use mathlib.Core.Path.{ap, _∙_}
+use Prim.Native.Nat.{ℕ, _<_}
+use borrow.Author.Needs.{needs}
+use Rattle.checker_tables.proofs.EntryLaws.{join-made, join-grown}
+use Rattle.checker_account.specs.Tables.{place}
+use Rattle.checker_tables.proofs.arrivals.enter.Statement.{statement}
+use Rattle.checker_tables.proofs.arrivals.enter.Tie as tie
+use Rattle.checker_tables.proofs.arrivals.enter.Reads as reads
+use Rattle.checker_tables.proofs.arrivals.enter.Lts as lts
+use Rattle.checker_tables.proofs.arrivals.place.Reads as place-reads
+use Rattle.checker_tables.proofs.join.Reads as join-reads
+
+place-requires : tie.Need-place-requires
+place-requires c κs = search needs
+
+join-requires : tie.Need-join-requires
+join-requires c κs = search needs
+
+returns : tie.Need-returns
+returns c =
+    let a = c .before .before .before .args in
+    let p = c .before .before .before .pre in
+    let i = c .before .before .place .result in
+    let j = c .join in
+    let h : i < 3072 = omega (arith, c .before .before .place .ensures, place-lt (a .k) (a .o) (a .m) (p .1 .0) (p .1 .1)) in (
+      join-made (now (a .u)) i (a .v) (j .last .0) h (j .ensures .0) ∙ ap (λ (i : ℕ). joined (now (a .u)) i (a .v)) (c .before .before .place .ensures),
+      (join-grown (now (a .u)) i (a .v) (j .last .0) (j .result) (p .0) h (j .ensures .0) (j .ensures .1 .0), j .ensures .1 .1),
+    )
+
+pub enter-spec : {M : Type 1} → statement M
+enter-spec = tie.close (tie.spec place-requires join-requires returns)

@@ -1,0 +1,98 @@
+use native.Mathlib.Omega.{arith}
+use mathlib.Core.Path.{_≡_, refl, sym, subst}
+use Prim.Native.Nat.{ℕ, _+_, _-_, _≤_, _<_, _/_, _%_}
+use borrow.Author.Needs.{needs}
+use denote.Ref.{now}
+use lib.Dec.{ltb}
+use mathlib.Core.Bool.{Bool, true, false}
+use mathlib.Core.List.{List}
+use borrow.Author.Tests.{lt-ltb, le-ltb}
+use Rattle.usage.specs.Outline.{formOf}
+use Rattle.usage.specs.Tests.{some-below}
+use Rattle.automaton.proofs.MaskLaws.{some-at}
+use Rattle.checker_account.specs.Mask.{offends}
+use Rattle.checker_account.specs.Tables.{rowsIn}
+use Rattle.checker_account.specs.Rounds.{leavesOf, hitNode}
+use Rattle.checker_account.proofs.CodeLaws.{none-more}
+use Rattle.usage.specs.declared.Node.{Node}
+use Rattle.checker_tables.proofs.hits.hit_node.Statement.{statement}
+use Rattle.checker_tables.proofs.hits.hit_node.Tie as tie
+use Rattle.checker_tables.proofs.hits.hit_node.Reads as reads
+use Rattle.checker_tables.proofs.hits.hit_node.Lts as lts
+use Rattle.checker_tables.proofs.hits.leaves_by.Reads as leaves-by-reads
+
+abbrev test : List ℕ → List ℕ → ℕ → ℕ → ℕ → ℕ → Node → ℕ → Bool
+test u rows p x l k f i = offends (leavesOf (rowsIn rows) p x u k (l + i) (formOf f))
+
+hit : (v w : ℕ) → v ≡ w → 0 < v / 64 % 4 → offends w ≡ true
+unfolding offends
+hit v w e h = subst (λ (n : ℕ). ltb 0 (n / 64 % 4) ≡ true) e (lt-ltb 0 (v / 64 % 4) h)
+
+miss : (v w : ℕ) → v ≡ w → v / 64 % 4 ≤ 0 → offends w ≡ false
+unfolding offends
+miss v w e h = subst (λ (n : ℕ). ltb 0 (n / 64 % 4) ≡ false) e (le-ltb 0 (v / 64 % 4) h)
+
+abbrev Inv-loop : tie.InvT-loop
+Inv-loop u rows p x l k f n i₀ i = (i ≤ n) × (some-below (test u rows p x l k f) i ≡ false)
+
+abbrev μ-loop : tie.MeasureT-loop
+μ-loop u rows p x l k f n i₀ i = n - i
+
+sub-n : tie.Need-sub-n Inv-loop μ-loop
+sub-n c = search needs
+
+loop-holds : tie.Need-loop-holds Inv-loop μ-loop
+unfolding some-below
+loop-holds c = (search needs, refl)
+
+add-leaves-by : tie.Need-add-leaves-by Inv-loop μ-loop
+add-leaves-by c = search needs
+
+leaves-by-requires : tie.Need-leaves-by-requires Inv-loop μ-loop
+leaves-by-requires c κs = search needs
+
+returns : tie.Need-returns Inv-loop μ-loop
+unfolding hitNode
+returns c =
+    let a = c .before .before .before .before .args in
+    let i = c .before .before .before .loop .i in
+    let f = test (a .u .now) (a .rows .now) (a .p) (a .x) (a .l) (a .k) (a .f) in
+    let v = c .before .leaves-by in
+    sym (some-at (6 - a .l) f i (c .before .before .loop-test .taken) (hit (v .result) _ (v .ensures) (c .if1 .taken)))
+
+add-i : tie.Need-add-i Inv-loop μ-loop
+add-i c = search needs
+
+loop-less : tie.Need-loop-less Inv-loop μ-loop
+loop-less c = search needs
+
+loop-again : tie.Need-loop-again Inv-loop μ-loop
+loop-again c =
+    let a = c .before .before .before .before .args in
+    let i = c .before .before .before .loop .i in
+    let f = test (a .u .now) (a .rows .now) (a .p) (a .x) (a .l) (a .k) (a .f) in
+    let v = c .before .leaves-by in
+    (search needs, none-more f i (c .before .before .before .loop .inv .1) (miss (v .result) _ (v .ensures) (c .if1 .left)))
+
+returns-2 : tie.Need-returns-2 Inv-loop μ-loop
+unfolding hitNode
+returns-2 c =
+    let l = c .before .loop in
+    let e : l .i ≡ 6 - c .before .before .args .l = omega arith in
+    sym (rw e at (l .inv .1))
+
+pub hit-node-spec : {M : Type 1} → statement M
+hit-node-spec =
+    tie.close
+    (tie.spec
+    Inv-loop
+    μ-loop
+    sub-n
+    loop-holds
+    add-leaves-by
+    leaves-by-requires
+    returns
+    add-i
+    loop-less
+    loop-again
+    returns-2)

@@ -1,0 +1,39 @@
+use denote.Ref.{now}
+use mathlib.Core.Path.{subst, sym, ap, _∙_}
+use mathlib.Core.Bool.{true, false}
+use mathlib.Core.List.{List}
+use Rattle.usage.specs.Tables.{edgesOf}
+use Rattle.automaton.specs.Move.{rowsOf}
+use Rattle.automaton.proofs.RowLaws.{rows-lt}
+use Rattle.checker_account.specs.RowTable.{stored}
+use Prim.Native.Nat.{ℕ, _<_}
+use lib.ListN.{getD}
+use borrow.Author.Needs.{needs}
+use Rattle.checker_tables.proofs.rows.event_rows.Statement.{statement}
+use Rattle.checker_tables.proofs.rows.event_rows.Tie as tie
+use Rattle.checker_tables.proofs.rows.event_rows.Reads as reads
+use Rattle.checker_tables.proofs.rows.event_rows.Lts as lts
+use Rattle.automaton.proofs.moves.rows.Reads as rows-reads
+use Rattle.checker_tables.proofs.rows.store.Reads as store-reads
+
+rows-requires : tie.Need-rows-requires
+rows-requires c κs = search needs
+
+store-requires : tie.Need-store-requires
+store-requires c κs =
+    let a = c .before .before .before .before .before .before .before .args in
+    let p = c .before .before .before .before .before .before .before .pre in
+    let e = c .before .before .before .rows .ensures in
+    let es = edgesOf (now (a .edges)) in
+    (p .0, (p .1 .0, (p .1 .1, ((λ i. subst (λ (t : List ℕ). getD t i 0 < 256) (sym (e .0)) (rows-lt es (a .action) (a .resource) true i)), (λ i. subst (λ (t : List ℕ). getD t i 0 < 256) (sym (e .1)) (rows-lt es (a .action) (a .resource) false i))))))
+
+returns : tie.Need-returns
+returns c =
+    let a = c .before .before .before .before .before .before .before .before .args in
+    let e = c .before .before .before .before .rows in
+    c .store .ensures
+    ∙ ap (λ (own : List ℕ). stored (a .k) (a .p) own (e .last .1 .1 .1 .1 .0) (now (a .rows))) (e .ensures .0)
+    ∙ ap (λ (other : List ℕ). stored (a .k) (a .p) (rowsOf (edgesOf (now (a .edges))) (a .action) (a .resource) true) other (now (a .rows))) (e .ensures .1)
+
+pub event-rows-spec : {M : Type 1} → statement M
+event-rows-spec = tie.close (tie.spec rows-requires store-requires returns)

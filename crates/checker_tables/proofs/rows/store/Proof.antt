@@ -1,0 +1,125 @@
+use Prim.Native.Nat.{_*_, ℕ, _+_, _-_, _≤_}
+use mathlib.Core.List.{List}
+use native.Mathlib.Numerals.{add-one}
+use Rattle.checker_account.specs.Rounds.{repeat}
+use Rattle.checker_account.specs.RowTable.{storeRow, stored}
+use native.Mathlib.Omega.{arith}
+use mathlib.Core.Path.{_≡_, refl, ap}
+use borrow.Author.Needs.{needs}
+use Rattle.checker_tables.proofs.rows.store.Statement.{statement}
+use Rattle.checker_tables.proofs.rows.store.Tie as tie
+use Rattle.checker_tables.proofs.rows.store.Reads as reads
+use Rattle.checker_tables.proofs.rows.store.Lts as lts
+
+more : (k p : ℕ) (own other r t : List ℕ) (q : ℕ) → t ≡ repeat (storeRow k p own other) q r → storeRow k p own other q t ≡ repeat (storeRow k p own other) (q + 1) r
+unfolding repeat
+more k p own other r t q e = rw (add-one q) (ap (storeRow k p own other q) e)
+
+abbrev Inv-loop : tie.InvT-loop
+Inv-loop rows₀ k p own other q₀ rows q = (q ≤ 8) × (rows ≡ repeat (storeRow k p own other) q rows₀)
+
+abbrev μ-loop : tie.MeasureT-loop
+μ-loop rows₀ k p own other q₀ rows q = 8 - q
+
+loop-holds : tie.Need-loop-holds Inv-loop μ-loop
+unfolding repeat
+loop-holds c = (search needs, refl)
+
+mul-rows : tie.Need-mul-rows Inv-loop μ-loop
+mul-rows c = search needs
+
+add-rows : tie.Need-add-rows Inv-loop μ-loop
+add-rows c = search needs
+
+element-copy-out-rows : tie.Need-element-copy-out-rows Inv-loop μ-loop
+element-copy-out-rows c = search needs
+
+cast-rows : tie.Need-cast-rows Inv-loop μ-loop
+cast-rows c = omega (arith, c .before .before .before .pre .1 .1 .1 .1 (c .before .before .before .args .p * 8 + c .before .before .loop .q))
+
+mul-rows-2 : tie.Need-mul-rows-2 Inv-loop μ-loop
+mul-rows-2 c = search needs
+
+add-rows-2 : tie.Need-add-rows-2 Inv-loop μ-loop
+add-rows-2 c = search needs
+
+mul-rows-3 : tie.Need-mul-rows-3 Inv-loop μ-loop
+mul-rows-3 c = search needs
+
+element-write-rows : tie.Need-element-write-rows Inv-loop μ-loop
+element-write-rows c = search needs
+
+mul-rows-4 : tie.Need-mul-rows-4 Inv-loop μ-loop
+mul-rows-4 c = search needs
+
+add-rows-3 : tie.Need-add-rows-3 Inv-loop μ-loop
+add-rows-3 c = search needs
+
+element-copy-out-rows-2 : tie.Need-element-copy-out-rows-2 Inv-loop μ-loop
+element-copy-out-rows-2 c = search needs
+
+cast-rows-2 : tie.Need-cast-rows-2 Inv-loop μ-loop
+cast-rows-2 c = omega (arith, c .before .before .before .before .pre .1 .1 .1 .0 (c .before .before .before .before .args .p * 8 + c .before .before .before .loop .q))
+
+mul-rows-5 : tie.Need-mul-rows-5 Inv-loop μ-loop
+mul-rows-5 c = search needs
+
+add-rows-4 : tie.Need-add-rows-4 Inv-loop μ-loop
+add-rows-4 c = search needs
+
+add-rows-5 : tie.Need-add-rows-5 Inv-loop μ-loop
+add-rows-5 c = search needs
+
+mul-rows-6 : tie.Need-mul-rows-6 Inv-loop μ-loop
+mul-rows-6 c = search needs
+
+element-write-rows-2 : tie.Need-element-write-rows-2 Inv-loop μ-loop
+element-write-rows-2 c = search needs
+
+add-q : tie.Need-add-q Inv-loop μ-loop
+add-q c = search needs
+
+loop-less : tie.Need-loop-less Inv-loop μ-loop
+loop-less c = search needs
+
+loop-again : tie.Need-loop-again Inv-loop μ-loop
+loop-again c =
+    let a = c .before .before .before .before .args in
+    let l = c .before .before .before .loop in
+    (search needs, more (a .k) (a .p) (a .own .now) (a .other .now) (a .rows .now) (l .rows) (l .q) (l .inv .1))
+
+returns : tie.Need-returns Inv-loop μ-loop
+unfolding stored
+returns c =
+    let l = c .before .loop in
+    let e : l .q ≡ 8 = omega arith in
+    rw e at (l .inv .1)
+
+pub store-spec : {M : Type 1} → statement M
+store-spec =
+    tie.close
+    (tie.spec
+    Inv-loop
+    μ-loop
+    loop-holds
+    mul-rows
+    add-rows
+    element-copy-out-rows
+    cast-rows
+    mul-rows-2
+    add-rows-2
+    mul-rows-3
+    element-write-rows
+    mul-rows-4
+    add-rows-3
+    element-copy-out-rows-2
+    cast-rows-2
+    mul-rows-5
+    add-rows-4
+    add-rows-5
+    mul-rows-6
+    element-write-rows-2
+    add-q
+    loop-less
+    loop-again
+    returns)

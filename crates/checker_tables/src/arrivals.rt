@@ -1,0 +1,214 @@
+// The table of what is come to: in which states each node can be come to, for each meaning, the policy being open or not. It is
+// filled in rounds, until one brings nothing new.
+ghost use mathlib.Core.Path.{_≡_};
+ghost use mathlib.Core.Bool.{Bool, true, false, _||_, cond};
+ghost use Prim.Native.Nat.{ℕ, suc, _/_, _<_, _≤_};
+ghost use lib.ListN.{length};
+ghost use Rattle.usage.specs.Outline.{formOf};
+ghost use Rattle.checker_account.specs.Mask.{over, joined};
+ghost use Rattle.checker_account.specs.Tables.{made, forgotten, after, half, begun, rowsIn, place};
+ghost use Rattle.checker_account.specs.Rounds.{grown, formsIn, entered, arrivalsOf, passNode, passRound, begins, Wide};
+ghost use Rattle.checker_account.specs.Fits.{Small, SmallNodes, fits, FilledIf};
+use checker_account::Table;
+use usage::Node;
+
+// The place of a node in the table of what is come to.
+fn place(k: usize, o: bool, m: usize) -> usize
+    requires { ⌜ k < 64 ⌝ }
+    requires { ⌜ m < 6 ⌝ }
+    ensures { λ r. ⌜ r ≡ place k o m ⌝ }
+{
+    if o { 48 * k + (8 + m) } else { 48 * k + m }
+}
+
+// One or the other.
+fn either(a: bool, b: bool) -> bool
+    ensures { λ r. ⌜ r ≡ (a || b) ⌝ }
+{
+    if a { true } else { b }
+}
+
+// Node k is come to in the states v. Is that new?
+fn enter(u: &mut Table, k: usize, o: bool, m: usize, v: u16) -> bool
+    requires { ⌜ length (now u) ≡ 3072 ⌝ }
+    requires { ⌜ k < 64 ⌝ }
+    requires { ⌜ m < 6 ⌝ }
+    ensures { λ r. ⌜ now (u .exit) ≡ joined (now (u .entry)) (place k o m) v ⌝ }
+    ensures { λ r. ⌜ r ≡ grown (now (u .entry)) (now (u .exit)) ⌝ }
+    ensures { λ r. ⌜ (Wide (now (u .entry)) → Wide (now (u .exit))) ⌝ }
+{
+    let i = place(k, o, m);
+    crate::join(u, i, v)
+}
+
+// Two nodes are, in the same states.
+fn enter_two(u: &mut Table, a: usize, b: usize, o: bool, m: usize, v: u16) -> bool
+    requires { ⌜ length (now u) ≡ 3072 ⌝ }
+    requires { ⌜ a < 64 ⌝ }
+    requires { ⌜ b < 64 ⌝ }
+    requires { ⌜ m < 6 ⌝ }
+    ensures { λ r. ⌜ now (u .exit) ≡ joined (joined (now (u .entry)) (place a o m) v) (place b o m) v ⌝ }
+    ensures { λ r. ⌜ r ≡ grown (now (u .entry)) (now (u .exit)) ⌝ }
+    ensures { λ r. ⌜ (Wide (now (u .entry)) → Wide (now (u .exit))) ⌝ }
+{
+    let first = enter(u, a, o, m, v);
+    let second = enter(u, b, o, m, v);
+    either(first, second)
+}
+
+// One is in the states of the lower half of e, the resource being as it was, and of the upper half, the resource being made.
+fn enter_halves(u: &mut Table, b: usize, o: bool, m: usize, e: u16) -> bool
+    requires { ⌜ length (now u) ≡ 3072 ⌝ }
+    requires { ⌜ b < 64 ⌝ }
+    requires { ⌜ m < 6 ⌝ }
+    ensures { λ r. ⌜ now (u .exit) ≡ joined (joined (now (u .entry)) (place b o (after m false)) (half false e)) (place b o (after m true)) (half true e) ⌝ }
+    ensures { λ r. ⌜ r ≡ grown (now (u .entry)) (now (u .exit)) ⌝ }
+    ensures { λ r. ⌜ (Wide (now (u .entry)) → Wide (now (u .exit))) ⌝ }
+{
+    let n = crate::lose(m, 0);
+    let low = enter(u, b, o, m, e % 256);
+    let high = enter(u, b, o, n, e / 256);
+    either(low, high)
+}
+
+// A sequence leads to its first node, and to its second in what the first ends in.
+fn pass_sequence(u: &mut Table, t: &Table, a: usize, b: usize, o: bool, m: usize, v: u16) -> bool
+    requires { ⌜ length (now u) ≡ 3072 ⌝ }
+    requires { ⌜ a < 64 ⌝ }
+    requires { ⌜ b < 64 ⌝ }
+    requires { ⌜ m < 6 ⌝ }
+    ensures { λ r. ⌜ now (u .exit) ≡ joined (joined (joined (now (u .entry)) (place a o m) v) (place b o (after m false)) (half false (begun (now (t .entry)) a m v))) (place b o (after m true)) (half true (begun (now (t .entry)) a m v)) ⌝ }
+    ensures { λ r. ⌜ r ≡ grown (now (u .entry)) (now (u .exit)) ⌝ }
+    ensures { λ r. ⌜ (Wide (now (u .entry)) → Wide (now (u .exit))) ⌝ }
+{
+    let e = crate::gather(t, 48 * a + 8 * m, v);
+    let first = enter(u, a, o, m, v);
+    let second = enter_halves(u, b, o, m, e);
+    either(first, second)
+}
+
+// A fresh node leads to its body, another resource or the watched one being created.
+fn pass_fresh(
+    u: &mut Table,
+    rows: &Table,
+    k: usize,
+    n: usize,
+    b: usize,
+    o: bool,
+    m: usize,
+    v: u16,
+) -> bool
+    requires { ⌜ length (now u) ≡ 3072 ⌝ }
+    requires { ⌜ k < 64 ⌝ }
+    requires { ⌜ n < 4 ⌝ }
+    requires { ⌜ b < 64 ⌝ }
+    requires { ⌜ m < 6 ⌝ }
+    ensures { λ r. ⌜ now (u .exit) ≡ joined (joined (now (u .entry)) (place b o (forgotten m n)) (over (rowsIn (now (rows .entry)) k false) v)) (place b o (suc n)) (cond (made m) 0 (over (rowsIn (now (rows .entry)) k true) v)) ⌝ }
+    ensures { λ r. ⌜ r ≡ grown (now (u .entry)) (now (u .exit)) ⌝ }
+    ensures { λ r. ⌜ (Wide (now (u .entry)) → Wide (now (u .exit))) ⌝ }
+{
+    let f = crate::lose(m, n + 1);
+    let other = crate::gather(rows, 48 * k, v);
+    let own = crate::created(rows, 48 * k + 8, m, v);
+    let first = enter(u, b, o, f, other);
+    let second = enter(u, b, o, n + 1, own);
+    either(first, second)
+}
+
+// What node k, come to with o and m in the states v, leads to. Is anything of it new?
+fn pass_by(
+    u: &mut Table,
+    t: &Table,
+    rows: &Table,
+    p: usize,
+    k: usize,
+    f: Node,
+    o: bool,
+    m: usize,
+    v: u16,
+) -> bool
+    requires { ⌜ length (now u) ≡ 3072 ⌝ }
+    requires { ⌜ Small f ⌝ }
+    requires { ⌜ k < 64 ⌝ }
+    requires { ⌜ m < 6 ⌝ }
+    ensures { λ r. ⌜ now (u .exit) ≡ entered (arrivalsOf (rowsIn (now (rows .entry))) p (now (t .entry)) k o m v (formOf f)) (now (u .entry)) ⌝ }
+    ensures { λ r. ⌜ r ≡ grown (now (u .entry)) (now (u .exit)) ⌝ }
+    ensures { λ r. ⌜ (Wide (now (u .entry)) → Wide (now (u .exit))) ⌝ }
+{
+    let a = f.a as usize;
+    let b = f.b as usize;
+    let kind = f.kind;
+    match kind {
+        3 => pass_sequence(u, t, a, b, o, m, v),
+        4 => enter_two(u, a, b, o, m, v),
+        5 => enter(u, a, o, m, v),
+        6 => enter(u, a, o, m, v),
+        7 => pass_fresh(u, rows, k, a, b, o, m, v),
+        8 => enter(u, b, either(o, a == p), m, v),
+        _ => false,
+    }
+}
+
+// Node k with every meaning from l on, the policy being open or not. Is anything new?
+fn pass_node(u: &mut Table, t: &Table, rows: &Table, p: usize, l: usize, k: usize, f: Node) -> bool
+    requires { ⌜ length (now u) ≡ 3072 ⌝ }
+    requires { ⌜ Small f ⌝ }
+    requires { ⌜ l < 6 ⌝ }
+    requires { ⌜ k < 64 ⌝ }
+    ensures { λ r. ⌜ now (u .exit) ≡ passNode (rowsIn (now (rows .entry))) p (now (t .entry)) l k (formOf f) (now (u .entry)) ⌝ }
+    ensures { λ r. ⌜ r ≡ grown (now (u .entry)) (now (u .exit)) ⌝ }
+    ensures { λ r. ⌜ (Wide (now (u .entry)) → Wide (now (u .exit))) ⌝ }
+{
+    let n = 2 * (6 - l);
+    let mut changed = false;
+    let mut i: usize = 0;
+    while i < n {
+        let m = l + i / 2;
+        let o = i % 2 == 1;
+        let v = u[place(k, o, m)];
+        if pass_by(u, t, rows, p, k, f, o, m, v) {
+            changed = true;
+        }
+        i += 1;
+    }
+    changed
+}
+
+// Every node, from the lowest to the highest. Is anything new?
+fn pass_round(u: &mut Table, t: &Table, nodes: &[u8], rows: &Table, p: usize, l: usize) -> bool
+    requires { ⌜ length (now u) ≡ 3072 ⌝ }
+    requires { ⌜ SmallNodes (now nodes) ⌝ }
+    requires { ⌜ length (now nodes) / 3 ≤ 64 ⌝ }
+    requires { ⌜ l < 6 ⌝ }
+    ensures { λ r. ⌜ now (u .exit) ≡ passRound (rowsIn (now (rows .entry))) p (now (t .entry)) l (length (now (nodes .entry)) / 3) (formsIn (now (nodes .entry))) (now (u .entry)) ⌝ }
+    ensures { λ r. ⌜ r ≡ grown (now (u .entry)) (now (u .exit)) ⌝ }
+    ensures { λ r. ⌜ (Wide (now (u .entry)) → Wide (now (u .exit))) ⌝ }
+{
+    let n = nodes.len() / 3;
+    let mut changed = false;
+    let mut k: usize = 0;
+    while k < n {
+        let f = crate::node(nodes, k);
+        if pass_node(u, t, rows, p, l, k, f) {
+            changed = true;
+        }
+        k += 1;
+    }
+    changed
+}
+
+// The table, for the moves of policy p, the table of ends t and the meanings from l on. Where it has no room, all is 0.
+pub fn fill(nodes: &[u8], rows: &Table, t: &Table, p: usize, l: usize, u: &mut Table)
+    ensures { λ r. ⌜ FilledIf (fits (now (nodes .entry)) l) (passRound (rowsIn (now (rows .entry))) p (now (t .entry)) l (length (now (nodes .entry)) / 3) (formsIn (now (nodes .entry)))) (begins l) (now (u .exit)) ⌝ }
+{
+    *u = [0u16; 3072];
+    if !crate::fits(nodes, l) {
+        return;
+    }
+    crate::join(u, l, 1);
+    loop {
+        if !pass_round(u, t, nodes, rows, p, l) {
+            return;
+        }
+    }
+}

@@ -1,2 +1,0 @@
--- The flat table of a list of edges.
-pub mod Flat

@@ -1,5 +1,0 @@
--- The laws that the proofs of the functions cite.
-pub mod SetLaws
-pub mod PlaceLaws
-pub mod MovedLaws
-pub mod EventLaws

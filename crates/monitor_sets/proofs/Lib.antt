@@ -1,0 +1,7 @@
+-- The laws that the proofs of the functions cite.
+pub mod CreatedLaws
+-- The laws that the proofs of the functions cite.
+pub mod SetLaws
+pub mod PlaceLaws
+pub mod MovedLaws
+pub mod EventLaws

@@ -1,0 +1,112 @@
+-- The judge's set of broken policies is that of the open policies that the past does not respect.
+use Prim.Native.Nat.{ℕ, _+_, _*_, _<_, _≤_}
+use mathlib.Core.Path.{_≡_, refl, sym, ap, _∙_, subst}
+use mathlib.Core.Bool.{Bool, true, false, _&&_, _||_}
+use mathlib.Core.List.{List}
+use mathlib.Core.Logic.{_⊎_, inl, inr}
+use native.Mathlib.Omega.{arith}
+use lib.Dec.{eqb, ltb, lit<}
+use lib.ListN.{getD, List·getD-eq-default}
+use borrow.Author.Tests.{eqb-true, lt-ltb, ltb-true, ltb-false}
+use Rattle.usage.specs.declared.Edge.{Edge}
+use Rattle.usage.specs.Limits.{policies}
+use Rattle.usage.specs.Policy.{Offending}
+use Rattle.usage.specs.Past.{Past, Broken, Open, Violates}
+use Rattle.usage.proofs.Logic.{not-both, or-left, or-right, or-cases, and-left, and-right, and-both}
+use Rattle.automaton.specs.Mask.{has, offends, lowest}
+use Rattle.automaton.proofs.MaskLaws.{some-at, some-found, has-zero, has-offending, maskOf-has, maskOf-lt, lowest-is}
+use Rattle.automaton.proofs.MoveLaws.{Ends}
+use Rattle.monitor_state.specs.declared.State.{State}
+use Rattle.monitor_state.specs.Judge.{placeOf, used, setAt, offended, broken}
+use Rattle.monitor_state.specs.Represents.{Represents}
+use Rattle.monitor_state.proofs.Places.{StateOk, state-parts, place-lt, owner}
+use Rattle.monitor_state.proofs.StartLaws.{may-lt}
+
+module _ (es : List Edge) (past : Past) (h : Bool) (s : State) (R : Represents es past h s) where
+  w : StateOk s
+  w = state-parts s (R .well)
+
+  offended-broken : (p : ℕ) → p < policies → offended s p ≡ true → Broken false es p past
+  unfolding offended
+  offended-broken p k o =
+      let f = some-found (used s) (λ i. offends (setAt s p i)) o in
+      let x = owner s (R .created-length) w (f .0) (f .1) in
+      let m : ℕ = setAt s p (placeOf s (x .0)) in
+      go (x .0) (or-cases (has m 6) (has m 7)
+      (sym (has-offending m (R .bytes (p * 81 + placeOf s (x .0)))) ∙ ap (λ (i : ℕ). offends (setAt s p i)) (x .1) ∙ f .2))
+    where
+      go : (x : ℕ) → (has (setAt s p (placeOf s x)) 6 ≡ true) ⊎ (has (setAt s p (placeOf s x)) 7 ≡ true) → Broken false es p past
+      go x (inl e) = (x, 6, R .tracks x p 6 k (lit< tt) .0 e, inl refl)
+      go x (inr e) = (x, 7, R .tracks x p 7 k (lit< tt) .0 e, inr refl)
+
+  broken-offended : Ends es → (p : ℕ) → p < policies → Broken false es p past → offended s p ≡ true
+  unfolding offended
+  broken-offended v p k b =
+      some-at (used s) (λ i. offends (setAt s p i)) (placeOf s x) (place-lt s (R .created-length) w x)
+      (has-offending m (R .bytes (p * 81 + placeOf s x)) ∙ go (b .3))
+    where
+      x : ℕ
+      x = b .0
+
+      m : ℕ
+      m = setAt s p (placeOf s x)
+
+      in-set : has m (b .1) ≡ true
+      in-set = R .tracks x p (b .1) k (may-lt v (b .2)) .1 (b .2)
+
+      go : Offending (b .1) → (has m 6 || has m 7) ≡ true
+      go (inl e) = or-left (has m 6) (has m 7) (ap (has m) (sym e) ∙ in-set)
+      go (inr e) = or-right (has m 6) (has m 7) (ap (has m) (sym e) ∙ in-set)
+
+  -- a policy is open where its count of unclosed openings is not 0
+  pub open-count-pos : (p : ℕ) → Open p past → 0 < getD (s .unclosed) p 0
+  open-count-pos p o = omega (arith, o, R .open-count p)
+
+  pub count-pos-open : (p : ℕ) → 0 < getD (s .unclosed) p 0 → Open p past
+  count-pos-open p o = omega (arith, o, R .open-count p)
+
+  -- only policies 0 to 7 can be open
+  open-lt : (p : ℕ) → Open p past → p < policies
+  open-lt p o = go (ltb p policies) refl
+    where
+      go : (b : Bool) → ltb p policies ≡ b → p < policies
+      go true e = ltb-true p policies e
+      go false e =
+          let z : getD (s .unclosed) p 0 ≡ 0 = List·getD-eq-default (s .unclosed) 0 (subst (λ (n : ℕ). n ≤ p) (sym (R .unclosed-length)) (ltb-false p policies e)) in
+          absurd (omega (arith, open-count-pos p o, z))
+
+  violates-has : Ends es → (p : ℕ) → Violates false es p past → has (broken s) p ≡ true
+  unfolding broken
+  violates-has v p b =
+      let l : p < policies = open-lt p (b .0) in
+      maskOf-has (λ p. ltb 0 (getD (s .unclosed) p 0) && offended s p) p l
+      ∙ and-both (ltb 0 (getD (s .unclosed) p 0)) (offended s p) (lt-ltb 0 (getD (s .unclosed) p 0) (open-count-pos p (b .0))) (broken-offended v p l (b .1))
+
+  has-violates : (p : ℕ) → p < policies → has (broken s) p ≡ true → Violates false es p past
+  unfolding broken
+  has-violates p l e =
+      let t : (ltb 0 (getD (s .unclosed) p 0) && offended s p) ≡ true = sym (maskOf-has (λ p. ltb 0 (getD (s .unclosed) p 0) && offended s p) p l) ∙ e in (
+        count-pos-open p (ltb-true 0 (getD (s .unclosed) p 0) (and-left (ltb 0 (getD (s .unclosed) p 0)) (offended s p) t)),
+        offended-broken p l (and-right (ltb 0 (getD (s .unclosed) p 0)) (offended s p) t),
+      )
+
+  broken-lt : broken s < 256
+  unfolding broken
+  broken-lt = maskOf-lt (λ p. ltb 0 (getD (s .unclosed) p 0) && offended s p)
+
+  -- where the set is empty every open policy is respected
+  pub none-violated : Ends es → eqb (broken s) 0 ≡ true → (p : ℕ) → Violates false es p past → ⊥
+  none-violated v e p b = not-both (has 0 p) (ap (λ (m : ℕ). has m p) (sym (eqb-true (broken s) 0 e)) ∙ violates-has v p b) (has-zero p)
+
+  -- else its lowest number is the lowest open policy that is not respected
+  pub record First : Type 0 where
+    pub is : Violates false es (lowest (broken s)) past
+    pub least : (q : ℕ) → q < lowest (broken s) → Violates false es q past → ⊥
+
+  pub first-violated : Ends es → eqb (broken s) 0 ≡ false → First
+  first-violated v e =
+      let l = lowest-is (broken s) broken-lt e in
+      record {
+        is = has-violates (lowest (broken s)) (l .below-8) (l .inside);
+        least = λ q k b. not-both (has (broken s) q) (violates-has v q b) (l .no-lower q k);
+      }

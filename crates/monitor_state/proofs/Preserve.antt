@@ -1,0 +1,177 @@
+-- The state after a step stands for the past with that step.
+use Prim.Native.Nat.{ℕ, zero, suc, _+_, _-_, _<_, _≤_}
+use mathlib.Core.Path.{_≡_, refl, sym, ap, ap₂, _∙_, subst}
+use mathlib.Core.Bool.{Bool, true, false, _||_}
+use mathlib.Core.List.{List, _∷_, List·Memᴰ·cases-cons, List·Memᴰ·head, List·Memᴰ·tail}
+use mathlib.Core.Logic.{_⊎_, inl, inr, _↔_}
+use native.Mathlib.Numerals.{add-one}
+use native.Mathlib.Omega.{arith}
+use lib.Dec.{eqb}
+use lib.ListN.{getD, set, length-set}
+use lib.Seq.{getD-set-same, getD-set-other}
+use borrow.Author.Tests.{eq-eqb, ne-eqb, eqb-true, eqb-false}
+use Rattle.usage.specs.declared.Edge.{Edge}
+use Rattle.usage.specs.Limits.{statics, resources, policies, most-created}
+use Rattle.usage.specs.Policy.{Sees}
+use Rattle.usage.specs.Past.{Step, event, opening, closing, Past, May, opened, closed, add-if, count, creates, openings, closings, Created}
+use Rattle.usage.proofs.JudgeLaws.{Fits}
+use Rattle.usage.proofs.Logic.{clash, by-cases, or-left, or-right, or-cases}
+use Rattle.automaton.proofs.MoveLaws.{Ends}
+use Rattle.monitor_state.specs.declared.State.{State}
+use Rattle.monitor_state.specs.Judge.{live, listed, stateOk, placeOf, createdIn, movedSets, movedBy, withUnclosed, after}
+use Rattle.monitor_state.specs.Represents.{Represents}
+use Rattle.usage.proofs.TableLaws.{length-from}
+use Rattle.monitor_state.proofs.Places.{known, StateOk, state-parts, parts-state}
+use Rattle.monitor_state.proofs.StartLaws.{may-opening, may-closing}
+use Rattle.monitor_state.proofs.Tracking.{moved-tracks, created-tracks, created-listed, created-known, created-ok, moved-bytes, created-bytes}
+
+-- ── What was created ──
+
+-- what is created with a further step is created by it or was before
+created-cons : {x : ℕ} {step : Step} {past : Past} → Created x (step ∷ past) → (event 0 x ≡ step) ⊎ Created x past
+created-cons m = List·Memᴰ·cases-cons m
+
+created-event : {x r : ℕ} {past : Past} → Created x (event 0 r ∷ past) → (r ≡ x) ⊎ Created x past
+created-event {x} {r} {past} m = by-cases (created-cons m) (λ e. inl (same e)) (λ m. inr m)
+  where
+    same : event 0 x ≡ event 0 r → r ≡ x
+    same e = cc
+
+created-other : {x a r : ℕ} {past : Past} → Created x (event (suc a) r ∷ past) → Created x past
+created-other {x} {a} {r} m = by-cases (created-cons m) none-such (λ m. m)
+  where
+    none-such : {A : Type 0} → event 0 x ≡ event (suc a) r → A
+    none-such e = let z : 0 ≡ suc a = cc in absurd (omega arith)
+
+created-opening : {x p : ℕ} {past : Past} → Created x (opening p ∷ past) → Created x past
+created-opening {x} {p} m = by-cases (created-cons m) none-such (λ m. m)
+  where
+    none-such : {A : Type 0} → event 0 x ≡ opening p → A
+    none-such e = clash (cc)
+
+created-closing : {x p : ℕ} {past : Past} → Created x (closing p ∷ past) → Created x past
+created-closing {x} {p} m = by-cases (created-cons m) none-such (λ m. m)
+  where
+    none-such : {A : Type 0} → event 0 x ≡ closing p → A
+    none-such e = clash (cc)
+
+-- ── What a step must meet to be taken ──
+
+abbrev pub Ready : State → Step → Type 0
+Ready s (event zero r) = (statics ≤ r) × (listed r (live s) ≡ false) × (s .count < most-created)
+Ready s (event (suc a) r) = known s r ≡ true
+Ready s (opening p) = Unit {0}
+Ready s (closing p) = 0 < getD (s .unclosed) p 0
+
+module _ (es : List Edge) (v : Ends es) (past : Past) (h : Bool) (s : State) (R : Represents es past h s) where
+  w : StateOk s
+  w = state-parts s (R .well)
+
+  event-represents : (a r : ℕ) → known s r ≡ true → Represents es (event (suc a) r ∷ past) h (movedBy es (suc a) r s)
+  unfolding movedBy movedSets count stateOk
+  event-represents a r k = record {
+    halted = R .halted;
+    well = R .well;
+    tracks = moved-tracks es v s (R .created-length) w past (suc a) r (R .tracks) k;
+    made = λ x. (λ e. List·Memᴰ·tail (R .made x .0 e), λ m. R .made x .1 (created-other m));
+    number = R .number ∙ sym (ap (λ (b : Bool). add-if b (creates past)) (ne-eqb (suc a) 0 (λ e. omega arith)));
+    open-count = R .open-count;
+    sets-length = length-from _ 0 648;
+    created-length = R .created-length;
+    unclosed-length = R .unclosed-length;
+    bytes = moved-bytes es (suc a) r s (R .bytes);
+  }
+
+  module _ (r : ℕ) (c : Ready s (event 0 r)) (f : r < resources) where
+    create-made : (x : ℕ) → (listed x (live (createdIn s r)) ≡ true) ↔ Created x (event 0 r ∷ past)
+    create-made x = (λ e. to (or-cases (listed x (live s)) (eqb r x) (sym is ∙ e)), λ m. is ∙ back (created-event m))
+      where
+        is : listed x (live (createdIn s r)) ≡ (listed x (live s) || eqb r x)
+        is = created-listed s (R .created-length) w r (c .2) (c .1) (c .0) x
+
+        to : (listed x (live s) ≡ true) ⊎ (eqb r x ≡ true) → Created x (event 0 r ∷ past)
+        to (inl e) = List·Memᴰ·tail (R .made x .0 e)
+        to (inr e) = List·Memᴰ·head (ap (event 0) (sym (eqb-true r x e)))
+
+        back : (r ≡ x) ⊎ Created x past → (listed x (live s) || eqb r x) ≡ true
+        back (inl e) = or-right (listed x (live s)) (eqb r x) (eq-eqb r x e)
+        back (inr m) = or-left (listed x (live s)) (eqb r x) (R .made x .1 m)
+
+    create-represents : Represents es (event 0 r ∷ past) h (movedBy es 0 r (createdIn s r))
+    unfolding movedBy movedSets createdIn count stateOk
+    create-represents = record {
+      halted = R .halted;
+      well = parts-state t u;
+      tracks = moved-tracks es v t (length-set (s .created) (s .count) r ∙ R .created-length) u past 0 r
+          (created-tracks s (R .created-length) w r (c .2) (c .1) (c .0) es past (R .tracks)) (created-known s (R .created-length) w r (c .2) (c .1) (c .0));
+      made = create-made;
+      number = add-one (s .count) ∙ ap suc (R .number);
+      open-count = R .open-count;
+      sets-length = length-from _ 0 648;
+      created-length = length-set (s .created) (s .count) r ∙ R .created-length;
+      unclosed-length = R .unclosed-length;
+      bytes = moved-bytes es 0 r t (created-bytes s r (R .bytes));
+    }
+      where
+        t : State
+        t = createdIn s r
+
+        u : StateOk t
+        u = created-ok s (R .created-length) w r (c .2) (c .1) (c .0) f
+
+  -- an opening or closing changes one count alone
+  unclosed-represents : (p n : ℕ) (step : Step) → p < policies → ((x p q : ℕ) → May false es p (Sees x) past q ↔ May false es p (Sees x) (step ∷ past) q)
+      → ((x : ℕ) → Created x past ↔ Created x (step ∷ past)) → creates (step ∷ past) ≡ creates past
+      → closings p (step ∷ past) + n ≡ openings p (step ∷ past)
+      → ((p′ : ℕ) → (p ≡ p′ → ⊥) → (closings p′ (step ∷ past) ≡ closings p′ past) × (openings p′ (step ∷ past) ≡ openings p′ past))
+      → Represents es (step ∷ past) h (withUnclosed s p n)
+  unfolding withUnclosed placeOf stateOk
+  unclosed-represents p n step l may cr num own other = record {
+    halted = R .halted;
+    well = R .well;
+    tracks = λ x p q k l. (λ h. may x p q .0 (R .tracks x p q k l .0 h), λ m. R .tracks x p q k l .1 (may x p q .1 m));
+    made = λ x. (λ h. cr x .0 (R .made x .0 h), λ m. R .made x .1 (cr x .1 m));
+    number = R .number ∙ sym num;
+    open-count = λ p′. at p′ (eqb p p′) refl;
+    sets-length = R .sets-length;
+    created-length = R .created-length;
+    unclosed-length = length-set (s .unclosed) p n ∙ R .unclosed-length;
+    bytes = R .bytes;
+  }
+    where
+      at : (p′ : ℕ) (b : Bool) → eqb p p′ ≡ b → closings p′ (step ∷ past) + getD (set (s .unclosed) p n) p′ 0 ≡ openings p′ (step ∷ past)
+      at p′ true e =
+          subst (λ (k : ℕ). closings k (step ∷ past) + getD (set (s .unclosed) p n) k 0 ≡ openings k (step ∷ past)) (eqb-true p p′ e)
+          (ap (λ (k : ℕ). closings p (step ∷ past) + k) (getD-set-same (s .unclosed) p n 0 (subst (λ (k : ℕ). p < k) (sym (R .unclosed-length)) l)) ∙ own)
+      at p′ false e =
+          let o = other p′ (eqb-false p p′ e) in
+          ap₂ (λ (c k : ℕ). c + k) (o .0) (getD-set-other (s .unclosed) p p′ n 0 (λ q. eqb-false p p′ e (sym q))) ∙ R .open-count p′ ∙ sym (o .1)
+
+  opening-represents : (p : ℕ) → p < policies → Represents es (opening p ∷ past) h (withUnclosed s p (getD (s .unclosed) p 0 + 1))
+  unfolding count
+  opening-represents p l =
+      unclosed-represents p (getD (s .unclosed) p 0 + 1) (opening p) l (λ x p q. (λ m. opened m, λ m. may-opening m))
+      (λ x. (λ m. List·Memᴰ·tail m, λ m. created-opening m)) refl
+      (own ∙ sym (ap (λ (b : Bool). add-if b (openings p past)) (eq-eqb p p refl)))
+      (λ p′ h. (refl, ap (λ (b : Bool). add-if b (openings p′ past)) (ne-eqb p p′ h)))
+    where
+      own : closings p past + (getD (s .unclosed) p 0 + 1) ≡ suc (openings p past)
+      own = omega (arith, R .open-count p)
+
+  closing-represents : (p : ℕ) → p < policies → 0 < getD (s .unclosed) p 0 → Represents es (closing p ∷ past) h (withUnclosed s p (getD (s .unclosed) p 0 - 1))
+  unfolding count
+  closing-represents p l o =
+      unclosed-represents p (getD (s .unclosed) p 0 - 1) (closing p) l (λ x p q. (λ m. closed m, λ m. may-closing m))
+      (λ x. (λ m. List·Memᴰ·tail m, λ m. created-closing m)) refl
+      (ap (λ (b : Bool). add-if b (closings p past) + (getD (s .unclosed) p 0 - 1)) (eq-eqb p p refl) ∙ own)
+      (λ p′ h. (ap (λ (b : Bool). add-if b (closings p′ past)) (ne-eqb p p′ h), refl))
+    where
+      own : suc (closings p past) + (getD (s .unclosed) p 0 - 1) ≡ openings p past
+      own = omega (arith, R .open-count p)
+
+  pub after-represents : (step : Step) → Fits step → Ready s step → Represents es (step ∷ past) h (after es s step)
+  unfolding after
+  after-represents (event zero r) f c = create-represents r c (f .1)
+  after-represents (event (suc a) r) f c = event-represents a r c
+  after-represents (opening p) f c = opening-represents p f
+  after-represents (closing p) f c = closing-represents p f c

@@ -1,0 +1,129 @@
+-- The number that the judge's definition refuses a step with is the lowest whose case the past makes it.
+use Prim.Native.Nat.{ℕ, zero, suc, _+_, _<_, _≤_}
+use mathlib.Core.Path.{_≡_, refl, subst}
+use mathlib.Core.Bool.{Bool, true, false, _||_, cond}
+use mathlib.Core.List.{List}
+use mathlib.Core.Logic.{inl, inr}
+use mathlib.Core.Option.{Option, none, some}
+use native.Mathlib.Omega.{arith}
+use lib.Dec.{leb, ltb}
+use lib.ListN.{getD}
+use borrow.Author.Tests.{ltb-true, ltb-false, leb-true, leb-false}
+use Rattle.usage.specs.declared.Edge.{Edge}
+use Rattle.usage.specs.declared.RawStep.{RawStep}
+use Rattle.usage.specs.Limits.{statics, most-created, most-open}
+use Rattle.usage.specs.Past.{Step, event, opening, closing, Past, Created, openings, closings}
+use Rattle.usage.specs.Judge.{stepOf, Case, is-halted, no-step, creates-static, creates-again, not-created, not-open, too-many, too-deep, Refuses, Taken}
+use Rattle.usage.proofs.Logic.{false-true, not-both, or-left, or-right}
+use Rattle.usage.proofs.JudgeLaws.{CaseOf, case-of}
+use Rattle.monitor_state.specs.declared.State.{State}
+use Rattle.monitor_state.specs.Judge.{live, listed, refusal}
+use Rattle.monitor_state.specs.Represents.{Represents}
+use Rattle.monitor_state.proofs.Preserve.{Ready}
+use Rattle.monitor_state.proofs.BrokenLaws.{open-count-pos, count-pos-open}
+
+-- ── Nothing else is asked of a step: 20 and 21 ──
+
+pub refuses-halted : (past : Past) (raw : RawStep) → Refuses past true raw 20
+refuses-halted past raw = record { stated = is-halted refl; first = λ m l c. low m l c }
+  where
+    low : (m : ℕ) → m < 20 → Case past true raw m → ⊥
+    low _ l (is-halted e) = omega arith
+    low _ l (no-step e) = omega arith
+    low _ l (creates-static e k) = omega arith
+    low _ l (creates-again e k) = omega arith
+    low _ l (not-created e k n) = omega arith
+    low _ l (not-open e k) = omega arith
+    low _ l (too-many e k) = omega arith
+    low _ l (too-deep e k) = omega arith
+
+pub refuses-unread : (past : Past) (raw : RawStep) → stepOf raw ≡ none → Refuses past false raw 21
+refuses-unread past raw none-read = record { stated = no-step none-read; first = λ m l c. low m l c }
+  where
+    low : (m : ℕ) → m < 21 → Case past false raw m → ⊥
+    low _ l (is-halted e) = false-true e
+    low _ l (no-step e) = omega arith
+    low _ l (creates-static e k) = omega arith
+    low _ l (creates-again e k) = omega arith
+    low _ l (not-created e k n) = omega arith
+    low _ l (not-open e k) = omega arith
+    low _ l (too-many e k) = omega arith
+    low _ l (too-deep e k) = omega arith
+
+-- ── A step that was read ──
+
+-- what the judge's definition finds: a number, with the step's case and none below it, or none and the step can be taken
+pub data Settled (past : Past) (s : State) (raw : RawStep) (step : Step) : Option ℕ → Type 0 where
+  refuses : {n : ℕ} → Refuses past false raw n → Settled past s raw step (some n)
+  takes : Taken past false raw → Ready s step → Settled past s raw step none
+
+module _ (es : List Edge) (past : Past) (h : Bool) (s : State) (R : Represents es past h s) (raw : RawStep) where
+  absent : (r : ℕ) → listed r (live s) ≡ false → Created r past → ⊥
+  absent r e m = not-both (listed r (live s)) (R .made r .1 m) e
+
+  settled-create : (r : ℕ) → stepOf raw ≡ some (event 0 r) → (b : Bool) → ltb r statics ≡ b → (c : Bool) → listed r (live s) ≡ c
+      → (d : Bool) → leb most-created (s .count) ≡ d → Settled past s raw (event 0 r) (cond b (some 22) (cond c (some 23) (cond d (some 30) none)))
+  settled-create r e true b c m d f = refuses (record { stated = creates-static e (ltb-true r statics b); first = λ n l k. low n l (case-of e k) })
+    where
+      low : (n : ℕ) → n < 22 → CaseOf past (event 0 r) n → ⊥
+      low n l (inl k) = omega (arith, k .0)
+      low n l (inr (inl k)) = omega (arith, k .0)
+      low n l (inr (inr k)) = omega (arith, k .0)
+  settled-create r e false b true m d f = refuses (record { stated = creates-again e (R .made r .0 m); first = λ n l k. low n l (case-of e k) })
+    where
+      low : (n : ℕ) → n < 23 → CaseOf past (event 0 r) n → ⊥
+      low n l (inl k) = omega (arith, k .1, ltb-false r statics b)
+      low n l (inr (inl k)) = omega (arith, k .0)
+      low n l (inr (inr k)) = omega (arith, k .0)
+  settled-create r e false b false m true f =
+      refuses (record {
+        stated = too-many e (subst (λ (k : ℕ). most-created ≤ k) (R .number) (leb-true most-created (s .count) f));
+        first = λ n l k. low n l (case-of e k);
+      })
+    where
+      low : (n : ℕ) → n < 30 → CaseOf past (event 0 r) n → ⊥
+      low n l (inl k) = omega (arith, k .1, ltb-false r statics b)
+      low n l (inr (inl k)) = absent r m (k .1)
+      low n l (inr (inr k)) = omega (arith, k .0)
+  settled-create r e false b false m false f = takes (λ n k. none-holds n (case-of e k)) (ltb-false r statics b, m, leb-false most-created (s .count) f)
+    where
+      none-holds : (n : ℕ) → CaseOf past (event 0 r) n → ⊥
+      none-holds n (inl k) = omega (arith, k .1, ltb-false r statics b)
+      none-holds n (inr (inl k)) = absent r m (k .1)
+      none-holds n (inr (inr k)) = omega (arith, k .1, R .number, leb-false most-created (s .count) f)
+
+  settled-event : (a r : ℕ) → stepOf raw ≡ some (event (suc a) r) → (b : Bool) → ltb r statics ≡ b → (c : Bool) → listed r (live s) ≡ c
+      → Settled past s raw (event (suc a) r) (cond (b || c) none (some 24))
+  settled-event a r e true b c m =
+      takes (λ n k. let l : statics ≤ r = case-of e k .1 in omega (arith, ltb-true r statics b)) (or-left (ltb r statics) (listed r (live s)) b)
+  settled-event a r e false b true m = takes (λ n k. case-of e k .2 (R .made r .0 m)) (or-right (ltb r statics) (listed r (live s)) m)
+  settled-event a r e false b false m =
+      refuses (record { stated = not-created e (ltb-false r statics b) (absent r m); first = λ n l k. let z : n ≡ 24 = case-of e k .0 in omega arith })
+
+  settled-opening : (p : ℕ) → stepOf raw ≡ some (opening p) → (b : Bool) → leb most-open (getD (s .unclosed) p 0) ≡ b
+      → Settled past s raw (opening p) (cond b (some 31) none)
+  settled-opening p e true b =
+      refuses (record {
+        stated = too-deep e (omega (arith, leb-true most-open (getD (s .unclosed) p 0) b, R .open-count p));
+        first = λ n l k. let z : n ≡ 31 = case-of e k .0 in omega arith;
+      })
+  settled-opening p e false b =
+      takes (λ n k. let z : closings p past + most-open ≤ openings p past = case-of e k .1 in omega (arith, leb-false most-open (getD (s .unclosed) p 0) b, R .open-count p)) tt
+
+  settled-closing : (p : ℕ) → stepOf raw ≡ some (closing p) → (b : Bool) → ltb 0 (getD (s .unclosed) p 0) ≡ b
+      → Settled past s raw (closing p) (cond b none (some 25))
+  settled-closing p e true b =
+      let l : 0 < getD (s .unclosed) p 0 = ltb-true 0 (getD (s .unclosed) p 0) b in
+      takes (λ n k. case-of e k .1 (count-pos-open es past h s R p l)) l
+  settled-closing p e false b =
+      refuses (record {
+        stated = not-open e (λ o. let z = open-count-pos es past h s R p o in omega (arith, ltb-false 0 (getD (s .unclosed) p 0) b));
+        first = λ n l k. let z : n ≡ 25 = case-of e k .0 in omega arith;
+      })
+
+  pub settled : (step : Step) → stepOf raw ≡ some step → Settled past s raw step (refusal s step)
+  unfolding refusal
+  settled (event zero r) e = settled-create r e (ltb r statics) refl (listed r (live s)) refl (leb most-created (s .count)) refl
+  settled (event (suc a) r) e = settled-event a r e (ltb r statics) refl (listed r (live s)) refl
+  settled (opening p) e = settled-opening p e (leb most-open (getD (s .unclosed) p 0)) refl
+  settled (closing p) e = settled-closing p e (ltb 0 (getD (s .unclosed) p 0)) refl

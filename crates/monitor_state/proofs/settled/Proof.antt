@@ -1,0 +1,23 @@
+use native.Mathlib.Omega.{arith}
+use borrow.Author.Tests.{eq-eqb, ne-eqb}
+use borrow.Author.Needs.{needs}
+use lib.Count.{trailing-le}
+use Rattle.monitor_state.specs.Code.{toldOf}
+use Rattle.monitor_state.proofs.settled.Statement.{statement}
+use Rattle.monitor_state.proofs.settled.Tie as tie
+
+returns : tie.Need-returns
+unfolding toldOf
+returns c = simp (eq-eqb _ _ (c .if1 .taken))
+
+cast-t7 : tie.Need-cast-t7
+cast-t7 c =
+    let h = trailing-le 8 (c .before .args .broken) in
+    record { fits = omega arith }
+
+returns-2 : tie.Need-returns-2
+unfolding toldOf
+returns-2 c = simp (ne-eqb _ _ (c .if1 .left))
+
+pub settled-spec : {M : Type 1} → statement M
+settled-spec = tie.close (tie.spec returns cast-t7 returns-2)

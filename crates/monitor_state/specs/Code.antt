@@ -1,0 +1,44 @@
+-- What the judge's own functions compute, where Judge.antt has no name for it.
+use Prim.Native.Nat.{ℕ}
+use mathlib.Core.Bool.{Bool, true, false, cond}
+use mathlib.Core.List.{List}
+use mathlib.Core.Option.{Option, none, some}
+use lib.Dec.{eqb}
+use Rattle.usage.specs.declared.Edge.{Edge}
+use Rattle.usage.specs.Past.{Step, event, opening, closing}
+use Rattle.automaton.specs.Mask.{lowest}
+use Rattle.monitor_state.specs.declared.State.{State}
+use Rattle.monitor_state.specs.declared.Judgement.{Judgement}
+use Rattle.monitor_state.specs.declared.Told.{Told}
+use Rattle.monitor_state.specs.declared.Answer.the-variants.{Allowed, Violated}
+use Rattle.monitor_state.specs.Judge.{broken, refusal, settle, judgeStep}
+use Rattle.monitor_state.specs.declared.Read.{Read}
+use Rattle.monitor_state.specs.declared.Read.the-variants.{Event, Opening, Closing, Nothing}
+
+-- the step that was read
+abbrev pub says : Read → Option Step
+says (Event a r) = some (event a r)
+says (Opening p) = some (opening p)
+says (Closing p) = some (closing p)
+says Nothing = none
+
+-- ── A state by its parts ──
+
+abbrev pub stateOf : List ℕ → List ℕ → ℕ → List ℕ → Bool → State
+stateOf sets created count unclosed halted = record { sets = sets; created = created; count = count; unclosed = unclosed; halted = halted }
+
+-- what is told, with the arrays as they were left
+abbrev pub judgementOf : Told → List ℕ → List ℕ → List ℕ → Judgement
+judgementOf t sets created unclosed = record { answer = t .answer; state = stateOf sets created (t .count) unclosed (t .halted) }
+
+-- the judgement of a step that was read
+abbrev pub stepped : List Edge → State → Step → Judgement
+stepped es s step = judgeStep es s step (refusal s step)
+
+-- the judgement from the states before and after a step
+abbrev pub settledBy : State → State → Judgement
+settledBy s t = settle (broken t) s t
+
+-- what is told of a step that leaves the policies `bad` broken
+unfoldable pub toldOf : ℕ → ℕ → ℕ → Told
+toldOf bad before after = cond (eqb bad 0) (record { answer = Allowed; count = after; halted = false }) (record { answer = Violated (lowest bad); count = before; halted = true })

@@ -1,0 +1,134 @@
+-- The judge as a definition that computes, over every state at all.
+use Prim.Native.Nat.{ℕ, zero, suc, _+_, _-_, _*_, _^_}
+use mathlib.Core.Bool.{Bool, true, false, not, _&&_, _||_, cond}
+use mathlib.Core.List.{List, [], _∷_}
+use mathlib.Core.Option.{Option, none, some}
+use lib.Dec.{eqb, leb, ltb}
+use lib.ListN.{getD, take, set, replicate}
+use Rattle.usage.specs.declared.Edge.{Edge}
+use Rattle.usage.specs.declared.RawStep.{RawStep}
+use Rattle.usage.specs.Limits.{statics, resources, policies, most-created, most-open}
+use Rattle.usage.specs.Past.{Step, event, opening, closing}
+use Rattle.usage.specs.Answers.{Verdict, allowed, violated, refused}
+use Rattle.usage.specs.Judge.{stepOf}
+use Rattle.usage.specs.Tests.{every, some-below}
+use Rattle.usage.specs.Tables.{from, edgesOf, edgeTable}
+use Rattle.automaton.specs.Mask.{union, offends, lowest}
+unfoldable pub use Rattle.monitor_sets.specs.Created.{listed, distinct, placeFrom}
+pub use Rattle.monitor_sets.specs.Created.{dynamic}
+unfoldable pub use Rattle.monitor_sets.specs.Sets.{copied, movedSets}
+use Rattle.monitor_state.specs.declared.State.{State}
+use Rattle.monitor_state.specs.declared.Answer.{Answer}
+use Rattle.monitor_state.specs.declared.Answer.the-variants.{Allowed, Violated, Refused}
+use Rattle.monitor_state.specs.declared.Judgement.{Judgement}
+
+-- document 01's numbers for each answer
+abbrev pub verdictOf : Answer → Verdict
+verdictOf Allowed = allowed
+verdictOf (Violated p) = violated p
+verdictOf (Refused n) = refused n
+
+-- "The state starts with each instance in state 0, nothing created and nothing open."
+unfoldable pub begin : State
+begin = record { sets = replicate 648 1; created = replicate 64 0; count = 0; unclosed = replicate 8 0; halted = false }
+
+-- ── The created resources and their instances ──
+
+-- the created resources, in their order
+abbrev pub live : State → List ℕ
+live s = take (s .count) (s .created)
+
+-- "42 a state with more than 64 resources, one listed twice or outside 16 to 65,535"; a count of openings is a byte, so none is
+-- above 255
+unfoldable pub stateOk : State → Bool
+stateOk s = leb (s .count) most-created && (every dynamic (live s) && distinct (live s))
+
+-- the place of x's instance: its own if x is static or created, else 16
+unfoldable pub placeOf : State → ℕ → ℕ
+placeOf s x = cond (ltb x statics) x (placeFrom x 17 (live s))
+
+-- the instances in use: the static ones, that of the resources that never occurred, and the created ones
+abbrev pub used : State → ℕ
+used s = 17 + s .count
+
+-- the set of states of instance i of policy p
+abbrev pub setAt : State → ℕ → ℕ → ℕ
+setAt s p i = getD (s .sets) (p * 81 + i) 0
+
+-- ── The state after a step ──
+
+unfoldable pub createdIn : State → ℕ → State
+createdIn s r = record {
+  sets = copied (s .sets) (used s);
+  created = set (s .created) (s .count) r;
+  count = s .count + 1;
+  unclosed = s .unclosed;
+  halted = s .halted;
+}
+
+unfoldable pub movedBy : List Edge → ℕ → ℕ → State → State
+movedBy es a r s = record {
+  sets = movedSets es a r (placeOf s r) (used s) (s .sets);
+  created = s .created;
+  count = s .count;
+  unclosed = s .unclosed;
+  halted = s .halted;
+}
+
+unfoldable pub withUnclosed : State → ℕ → ℕ → State
+withUnclosed s p n = record { sets = s .sets; created = s .created; count = s .count; unclosed = set (s .unclosed) p n; halted = s .halted }
+
+unfoldable pub after : List Edge → State → Step → State
+after es s (event zero r) = movedBy es 0 r (createdIn s r)
+after es s (event (suc a) r) = movedBy es (suc a) r s
+after es s (opening p) = withUnclosed s p (getD (s .unclosed) p 0 + 1)
+after es s (closing p) = withUnclosed s p (getD (s .unclosed) p 0 - 1)
+
+-- ── The answer ──
+
+-- some instance in use may be in an offending state of policy p
+unfoldable pub offended : State → ℕ → Bool
+offended s p = some-below (λ i. offends (setAt s p i)) (used s)
+
+-- the open policies that are not respected, as a bit set
+unfoldable pub broken : State → ℕ
+broken s = union policies (λ p. cond (ltb 0 (getD (s .unclosed) p 0) && offended s p) (2 ^ p) 0)
+
+-- The number that refuses a step, if any.
+unfoldable pub refusal : State → Step → Option ℕ
+refusal s (event zero r) = cond (ltb r statics) (some 22) (cond (listed r (live s)) (some 23) (cond (leb most-created (s .count)) (some 30) none))
+refusal s (event (suc a) r) = cond (ltb r statics || listed r (live s)) none (some 24)
+refusal s (opening p) = cond (leb most-open (getD (s .unclosed) p 0)) (some 31) none
+refusal s (closing p) = cond (ltb 0 (getD (s .unclosed) p 0)) none (some 25)
+
+unfoldable pub refuse : ℕ → State → Judgement
+refuse n s = record { answer = Refused n; state = s }
+
+-- "a halted state that is otherwise the one before the step"
+unfoldable pub halt : State → State
+halt s = record { sets = s .sets; created = s .created; count = s .count; unclosed = s .unclosed; halted = true }
+
+-- the answer, by the broken policies after the step, from the states before and after it
+unfoldable pub settle : ℕ → State → State → Judgement
+settle bad s t = cond (eqb bad 0) (record { answer = Allowed; state = t }) (record { answer = Violated (lowest bad); state = halt s })
+
+unfoldable pub judgeStep : List Edge → State → Step → Option ℕ → Judgement
+judgeStep es s step (some n) = refuse n s
+judgeStep es s step none = settle (broken (after es s step)) s (after es s step)
+
+unfoldable pub judgeRead : List Edge → State → Option Step → Judgement
+judgeRead es s none = refuse 21 s
+judgeRead es s (some step) = judgeStep es s step (refusal s step)
+
+-- "The calling program, before all others, in this order": 41, 42; then 20, 21 and the rest
+unfoldable pub judgeOf : List ℕ → State → RawStep → Judgement
+judgeOf t s raw =
+    cond (not (edgeTable t)) (refuse 41 s)
+    (cond (not (stateOk s)) (refuse 42 s)
+    (cond (s .halted) (refuse 20 s)
+    (judgeRead (edgesOf t) s (stepOf raw))))
+
+-- a list of steps, each with the state that the last one returned
+unfoldable pub answersOf : List ℕ → State → List RawStep → List Answer
+answersOf t s [] = []
+answersOf t s (raw ∷ raws) = let j = judgeOf t s raw in j .answer ∷ answersOf t (j .state) raws

@@ -1,0 +1,31 @@
+-- What it is for a state to stand for a past.
+use Prim.Native.Nat.{ℕ, _+_, _<_}
+use mathlib.Core.Path.{_≡_}
+use mathlib.Core.Bool.{Bool, true, false}
+use mathlib.Core.List.{List}
+use mathlib.Core.Logic.{_↔_}
+use lib.ListN.{length, getD}
+use Rattle.usage.specs.declared.Edge.{Edge}
+use Rattle.usage.specs.Limits.{policies, states}
+use Rattle.usage.specs.Policy.{Sees}
+use Rattle.usage.specs.Past.{Past, May, Created, creates, openings, closings}
+use Rattle.automaton.specs.Mask.{has}
+use Rattle.monitor_state.specs.declared.State.{State}
+use Rattle.monitor_state.specs.Judge.{live, listed, stateOk, placeOf, setAt}
+
+-- The set at x's instance holds exactly the states that x's instance may be in: for every number x, created or not.
+abbrev pub Tracks : List Edge → Past → State → Type 0
+Tracks es past s = (x p q : ℕ) → p < policies → q < states → (has (setAt s p (placeOf s x)) q ≡ true) ↔ May false es p (Sees x) past q
+
+-- After this past, with an earlier step violated or not as `h` says, the judge may be in this state.
+pub record Represents (es : List Edge) (past : Past) (h : Bool) (s : State) : Type 0 where
+  pub halted : s .halted ≡ h
+  pub well : stateOk s ≡ true
+  pub tracks : Tracks es past s
+  pub made : (r : ℕ) → (listed r (live s) ≡ true) ↔ Created r past
+  pub number : s .count ≡ creates past
+  pub open-count : (p : ℕ) → closings p past + getD (s .unclosed) p 0 ≡ openings p past
+  pub sets-length : length (s .sets) ≡ 648
+  pub created-length : length (s .created) ≡ 64
+  pub unclosed-length : length (s .unclosed) ≡ 8
+  pub bytes : (k : ℕ) → getD (s .sets) k 0 < 256

@@ -1,2 +1,0 @@
--- Where there is room for it, the table is the one that the search reads.
-pub mod WholeLaws

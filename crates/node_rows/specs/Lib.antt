@@ -1,2 +1,0 @@
--- The table of rows, for all inputs at all.
-pub mod Whole

@@ -1,3 +1,0 @@
--- The laws of the definitions in specs/, for the proofs of this crate and of those above it.
-pub mod OutlinePuts
-pub mod OutlineLaws

@@ -1,0 +1,56 @@
+-- How long a line is at most.
+use Prim.Native.Nat.{ℕ, suc, _+_, _≤_, _<_}
+use mathlib.Core.Path.{_≡_, refl, _∙_}
+use mathlib.Core.List.{List}
+use native.Mathlib.Nat.{zero-add}
+use native.Mathlib.Omega.{arith}
+use lib.ListN.{length}
+use lib.Seq.{sets}
+use Rattle.usage.specs.Answers.{Verdict, allowed, violated, refused, answer, detail}
+use Rattle.report_lines.specs.Lines.{names-line, row, verdict-row}
+use Rattle.report_lines.proofs.DecimalLaws.{tens, length-below}
+use Rattle.report_lines.specs.Put.{put-at, end-at}
+use Rattle.report_lines.proofs.PutLaws.{length-field, length-row}
+use Rattle.report_lines.proofs.FitLaws.{stored-at}
+
+-- of numbers below ten to the powers i + 1, j + 1 and k + 1: their digits, and a byte after each
+row-below : (i j k line answer detail : ℕ) → line < tens (suc i) → answer < tens (suc j) → detail < tens (suc k) → length (row line answer detail) ≤ i + j + k + 6
+row-below i j k line a d hl ha hd =
+    let l = length-below i line hl in
+    let m = length-below j a ha in
+    let n = length-below k d hd in
+    omega (arith, length-row line a d, length-field line 32, length-field a 32, length-field d 10)
+
+-- the numbers of any line that the functions print fit in 64, 8 and 8 bits
+pub row-fits : (line answer detail : ℕ) → line < 18446744073709551616 → answer < 10 → detail < 256 → length (row line answer detail) ≤ 27
+row-fits line a d hl ha hd = row-below 19 0 2 line a d (omega arith) (omega arith) (omega arith)
+
+-- those of a step's are at most 2001, 2 and two digits
+pub row-short : (line answer detail : ℕ) → line < 10000 → answer < 10 → detail < 100 → length (row line answer detail) ≤ 10
+row-short line a d hl ha hd = row-below 3 0 1 line a d (omega arith) (omega arith) (omega arith)
+
+-- that of an outline is 0 with a verdict, or a sheet's refusal
+pub row-eight : (line answer detail : ℕ) → line < 1000 → answer < 10 → detail < 10 → length (row line answer detail) ≤ 8
+row-eight line a d hl ha hd = row-below 2 0 0 line a d (omega arith) (omega arith) (omega arith)
+
+answer-small : (v : Verdict) → answer v < 10
+answer-small allowed = omega arith
+answer-small (violated p) = omega arith
+answer-small (refused n) = omega arith
+
+pub verdict-short : (line : ℕ) (v : Verdict) → line < 10000 → detail v < 100 → length (verdict-row line v) ≤ 10
+verdict-short line v h l = row-short line (answer v) (detail v) h (answer-small v) l
+
+pub length-names : length names-line ≡ 19
+unfolding names-line
+length-names = refl
+
+-- of the numbers that the function returns
+pub names-stored : {r : ℕ} {after : List ℕ} (buffer : List ℕ) → 19 ≤ length buffer → r ≡ end-at buffer 0 names-line → after ≡ put-at buffer 0 names-line
+    → (r ≡ length names-line) × (after ≡ sets buffer 0 names-line)
+names-stored buffer h e t =
+    let z = stored-at buffer 0 names-line (rw (zero-add (length names-line), length-names) h) e t in
+    (z .0 ∙ zero-add (length names-line), z .1)
+
+pub verdict-eight : (v : Verdict) → detail v < 256 → length (verdict-row 0 v) ≤ 8
+verdict-eight v h = row-below 0 0 2 0 (answer v) (detail v) (omega arith) (answer-small v) (omega arith)

@@ -1,0 +1,106 @@
+use native.Mathlib.Omega.{arith}
+use mathlib.Core.Path.{sym, ap, _∙_}
+use Prim.Native.Nat.{_+_, _≤_, _<_}
+use denote.Ref.{now}
+use lib.ListN.{length}
+use lib.Seq.{length-sets}
+use Rattle.report_lines.specs.Lines.{field, row}
+use Rattle.report_lines.proofs.PutLaws.{length-row, length-digits, sets-row}
+use Rattle.report_lines.proofs.FitLaws.{put-fits, end-fits, put-lacks, end-lacks}
+use borrow.Author.Needs.{needs}
+use Rattle.report_lines.proofs.row.Statement.{statement}
+use Rattle.report_lines.proofs.row.Tie as tie
+
+returns : tie.Need-returns
+returns c =
+    let a = c .before .before .args in
+    let t = row (a .line) (a .answer) (a .detail) in
+    let l : length (now (a .out)) < a .at + length t = omega arith in
+    (sym (end-lacks (length t) (now (a .out)) (a .at) t l), sym (put-lacks (length t) (now (a .out)) (a .at) t l))
+
+width-requires : tie.Need-width-requires
+width-requires c κs = search needs
+
+width-requires-2 : tie.Need-width-requires-2
+width-requires-2 c κs = search needs
+
+add-needed : tie.Need-add-needed
+add-needed c = search needs
+
+width-requires-3 : tie.Need-width-requires-3
+width-requires-3 c κs = search needs
+
+add-needed-2 : tie.Need-add-needed-2
+add-needed-2 c = search needs
+
+add-needed-3 : tie.Need-add-needed-3
+add-needed-3 c = search needs
+
+sub-if2 : tie.Need-sub-if2
+sub-if2 c = search needs
+
+returns-2 : tie.Need-returns-2
+returns-2 c =
+    let a = c .before .before .before .before .before .before .args in
+    let t = row (a .line) (a .answer) (a .detail) in
+    let e = length-digits (a .line) (a .answer) (a .detail) in
+    let l : length (now (a .out)) < a .at + length t = omega arith in
+    (sym (end-lacks (length t) (now (a .out)) (a .at) t l), sym (put-lacks (length t) (now (a .out)) (a .at) t l))
+
+field-requires : tie.Need-field-requires
+field-requires c κs =
+    let a = c .before .before .before .before .before .before .before .args in
+    let e = length-digits (a .line) (a .answer) (a .detail) in
+    let f = length-row (a .line) (a .answer) (a .detail) in
+    omega arith
+
+field-requires-2 : tie.Need-field-requires-2
+field-requires-2 c κs =
+    let a = c .before .before .before .before .before .before .before .before .before .before .before .args in
+    let e = length-digits (a .line) (a .answer) (a .detail) in
+    let f = length-row (a .line) (a .answer) (a .detail) in
+    let k = ap length (c .before .before .before .field .ensures .1) ∙ length-sets _ _ (field (a .line) 32) in
+    omega arith
+
+field-requires-3 : tie.Need-field-requires-3
+field-requires-3 c κs =
+    let a = c .before .before .before .before .before .before .before .before .before .before .before .before .before .before .before .args in
+    let e = length-digits (a .line) (a .answer) (a .detail) in
+    let f = length-row (a .line) (a .answer) (a .detail) in
+    let k = ap length (c .before .before .before .before .before .before .before .field .ensures .1) ∙ length-sets _ _ (field (a .line) 32) in
+    let m = ap length (c .before .before .before .field2 .ensures .1) ∙ length-sets _ _ (field (a .answer) 32) in
+    omega arith
+
+same-length : tie.Need-same-length
+same-length c = search needs
+
+returns-3 : tie.Need-returns-3
+returns-3 c =
+    let a = c .before .before .before .before .before .before .before .before .before .before .before .before .before .before .before .before .before .before .args in
+    let t = row (a .line) (a .answer) (a .detail) in
+    let d = length-digits (a .line) (a .answer) (a .detail) in
+    let e = length-row (a .line) (a .answer) (a .detail) in
+    let f = c .before .before .before .before .before .before .before .before .before .before .field in
+    let g = c .before .before .before .before .before .before .field2 in
+    let h = c .before .before .field3 in
+    let l : a .at + length t ≤ length (now (a .out)) = omega arith in
+    (rw (end-fits (length t) (now (a .out)) (a .at) t l) (omega arith), rw (put-fits (length t) (now (a .out)) (a .at) t l, h .ensures .1, g .ensures .1, g .ensures .0, f .ensures .1, f .ensures .0) (sym (sets-row _ _ (a .line) (a .answer) (a .detail))))
+
+pub row-spec : {M : Type 1} → statement M
+row-spec =
+    tie.close
+    (tie.spec
+    returns
+    width-requires
+    width-requires-2
+    add-needed
+    width-requires-3
+    add-needed-2
+    add-needed-3
+    sub-if2
+    returns-2
+    field-requires
+    field-requires-2
+    field-requires-3
+    same-length
+    returns-3)

@@ -1,0 +1,31 @@
+-- The lines that are printed.
+use Prim.Native.Nat.{ℕ, suc}
+use mathlib.Core.List.{List, [], _∷_, _++_}
+use Rattle.usage.specs.Answers.{Verdict, answer, detail, Refusal}
+use Rattle.sheet_lines.specs.Bytes.{bytes}
+use Rattle.report_lines.specs.Decimal.{decimal}
+
+-- "It prints `line answer detail`"
+unfoldable pub names-line : List ℕ
+names-line = bytes "line answer detail\n"
+
+-- a number and the byte after it
+unfoldable pub field : ℕ → ℕ → List ℕ
+field n end = decimal n ++ (end ∷ [])
+
+-- a printed line: single spaces (byte 32) between the numbers, one line feed (byte 10) at the end
+unfoldable pub row : ℕ → ℕ → ℕ → List ℕ
+row line answer detail = field line 32 ++ (field answer 32 ++ field detail 10)
+
+-- "0 allowed, 1 violated or 2 refused, and the policy, the number, or 0"
+abbrev pub verdict-row : ℕ → Verdict → List ℕ
+verdict-row line v = row line (answer v) (detail v)
+
+-- "then for each value line its line number", the answer and the detail
+unfoldable pub rows : ℕ → List Verdict → List ℕ
+rows line [] = []
+rows line (v ∷ vs) = verdict-row line v ++ rows (suc line) vs
+
+-- "A refused sheet prints, after the names, only one line: line, 3 (policies) or 4 (trace), number"; "5 (outline)"
+abbrev pub refusal-row : ℕ → Refusal → List ℕ
+refusal-row sheet r = row (r .line) sheet (r .number)

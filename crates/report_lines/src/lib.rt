@@ -1,0 +1,80 @@
+// The lines that the two programs print, put into a lent buffer. Where the buffer lacks the room for one, nothing is written.
+ghost use mathlib.Core.Path.{_≡_};
+ghost use Prim.Native.Nat.{_+_, _≤_};
+ghost use lib.ListN.{length};
+ghost use lib.Seq.{sets};
+ghost use Rattle.report_lines.specs.Decimal.{decimal};
+ghost use Rattle.report_lines.specs.Lines.{names-line, field as Lines·field, row as Lines·row};
+ghost use Rattle.report_lines.specs.Put.{put-at, end-at};
+
+// The line of names, at the start: the place after it, and 0 where `out` lacks the room.
+pub fn names(out: &mut [u8]) -> usize
+    ensures { λ r. ⌜ r ≡ end-at (now (out .entry)) 0 names-line ⌝ }
+    ensures { λ r. ⌜ now (out .exit) ≡ put-at (now (out .entry)) 0 names-line ⌝ }
+{
+    if out.len() < 19 {
+        return 0;
+    }
+    let text = b"line answer detail\n";
+    let mut i: usize = 0;
+    while i < 19 {
+        out[i] = text[i];
+        i += 1;
+    }
+    i
+}
+
+// One printed line, from `at` on: the place after it, and `at` where `out` lacks the room.
+pub fn row(out: &mut [u8], at: usize, line: usize, answer: usize, detail: usize) -> usize
+    ensures { λ r. ⌜ r ≡ end-at (now (out .entry)) at (Lines·row line answer detail) ⌝ }
+    ensures { λ r. ⌜ now (out .exit) ≡ put-at (now (out .entry)) at (Lines·row line answer detail) ⌝ }
+{
+    if out.len() < at {
+        return at;
+    }
+    let needed = width(line) + width(answer) + width(detail) + 3;
+    if out.len() - at < needed {
+        return at;
+    }
+    let second = field(out, at, line, 32);
+    let third = field(out, second, answer, 32);
+    field(out, third, detail, 10)
+}
+
+// How many digits n has.
+fn width(n: usize) -> usize
+    ensures { λ r. ⌜ r ≡ length (decimal n) ⌝ }
+    ensures { λ r. ⌜ r ≤ 20 ⌝ }
+{
+    if 10 <= n {
+        let rest = width(n / 10);
+        return rest + 1;
+    }
+    1
+}
+
+// The digits of n, from `at` on.
+fn number(out: &mut [u8], at: usize, n: usize) -> usize
+    requires { ⌜ at + length (decimal n) ≤ length (now out) ⌝ }
+    ensures { λ r. ⌜ r ≡ at + length (decimal n) ⌝ }
+    ensures { λ r. ⌜ now (out .exit) ≡ sets (now (out .entry)) at (decimal n) ⌝ }
+{
+    if n < 10 {
+        out[at] = 48 + n as u8;
+        return at + 1;
+    }
+    let last = number(out, at, n / 10);
+    out[last] = 48 + (n % 10) as u8;
+    last + 1
+}
+
+// A number and the byte after it.
+fn field(out: &mut [u8], at: usize, n: usize, end: u8) -> usize
+    requires { ⌜ at + length (Lines·field n end) ≤ length (now out) ⌝ }
+    ensures { λ r. ⌜ r ≡ at + length (Lines·field n end) ⌝ }
+    ensures { λ r. ⌜ now (out .exit) ≡ sets (now (out .entry)) at (Lines·field n end) ⌝ }
+{
+    let last = number(out, at, n);
+    out[last] = end;
+    last + 1
+}

@@ -1,0 +1,38 @@
+-- Laws of one byte of a line: what the class of a digit says of the byte, and how large a value of so many digits is.
+use Prim.Native.Nat.{ℕ, zero, suc, _+_, _-_, _*_, _^_, _<_, _≤_}
+use mathlib.Core.Path.{_≡_, refl}
+use mathlib.Core.Bool.{Bool, true, false, cond}
+use native.Mathlib.Omega.{arith}
+use native.Mathlib.Nat.{pow-suc}
+use native.Mathlib.Numerals.{add-one}
+use lib.Dec.{eqb, ltb}
+use borrow.Author.Tests.{ltb-true, ltb-false}
+use Rattle.sheet_bytes.specs.Class.{classOf}
+
+pub digit-byte : (b : ℕ) → classOf b ≡ 0 → (48 ≤ b) × (b < 58)
+unfolding classOf
+digit-byte b e = go (ltb b 48) (ltb b 58) refl refl e
+  where
+    low : (x y : Bool) → _≡_ {A = ℕ} (cond x 1 (cond y 2 3)) 0 → ⊥
+    low true y e = omega arith
+    low false true e = omega arith
+    low false false e = omega arith
+
+    go : (x y : Bool) → ltb b 48 ≡ x → ltb b 58 ≡ y → _≡_ {A = ℕ} (cond x (cond (eqb b 32) 1 (cond (eqb b 10) 2 3)) (cond y 0 3)) 0 → (48 ≤ b) × (b < 58)
+    go true y p q e = absurd (low (eqb b 32) (eqb b 10) e)
+    go false true p q e = (ltb-false b 48 p, ltb-true b 58 q)
+    go false false p q e = absurd (omega arith)
+
+-- a power of ten of at most five digits
+pub five-digits : (d : ℕ) → d ≤ 5 → 10 ^ d ≤ 100000
+five-digits zero h = omega arith
+five-digits (suc zero) h = omega arith
+five-digits (suc (suc zero)) h = omega arith
+five-digits (suc (suc (suc zero))) h = omega arith
+five-digits (suc (suc (suc (suc zero)))) h = omega arith
+five-digits (suc (suc (suc (suc (suc zero))))) h = omega arith
+five-digits (suc (suc (suc (suc (suc (suc d)))))) h = absurd (omega arith)
+
+-- one more digit
+pub one-more : (v d x : ℕ) → v < 10 ^ d → x < 10 → v * 10 + x < 10 ^ (d + 1)
+one-more v d x h l = rw (add-one d, pow-suc) (omega arith)

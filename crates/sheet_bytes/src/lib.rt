@@ -1,0 +1,95 @@
+// The values of one line of a sheet, read byte by byte (refusal 2).
+ghost use mathlib.Core.Path.{_≡_};
+ghost use Rattle.sheet_bytes.specs.Class.{classOf};
+ghost use Rattle.sheet_bytes.specs.Steps.{digit-step, space-step, end-step, step-of};
+
+mod class;
+
+// What has been read of a line: how many values before, and of the value that is being read how many digits and its number so far.
+pub struct Part {
+    pub count: usize,
+    pub digits: usize,
+    pub value: u64,
+}
+
+// The line goes on, ends with its last value read, or is malformed.
+pub enum Next {
+    Goes(Part),
+    Ends,
+    Malformed,
+}
+
+// One more byte of a line of n fields.
+pub fn step(n: usize, p: Part, b: u8) -> Next
+    ensures { λ r. ⌜ r ≡ step-of n p b ⌝ }
+{
+    let k = class::class(b);
+    if k == 0 {
+        return digit(p, b);
+    }
+    if k == 1 {
+        return space(n, p);
+    }
+    if k == 2 {
+        return end(n, p);
+    }
+    Next::Malformed
+}
+
+// Document 01: "Values are 1 to 5 digits, leading zeros allowed".
+fn digit(p: Part, b: u8) -> Next
+    requires { ⌜ classOf b ≡ 0 ⌝ }
+    ensures { λ r. ⌜ r ≡ digit-step p b ⌝ }
+{
+    if 5 <= p.digits {
+        return Next::Malformed;
+    }
+    if 99999 < p.value {
+        return Next::Malformed;
+    }
+    Next::Goes(Part {
+        count: p.count,
+        digits: p.digits + 1,
+        value: p.value * 10 + (b as u64 - 48),
+    })
+}
+
+// Document 01: "parted by one or more spaces, none at either end of a line".
+fn space(n: usize, p: Part) -> Next
+    ensures { λ r. ⌜ r ≡ space-step n p ⌝ }
+{
+    if p.digits == 0 {
+        if p.count == 0 {
+            return Next::Malformed;
+        }
+        return Next::Goes(p);
+    }
+    if n <= p.count {
+        return Next::Malformed;
+    }
+    let count = p.count + 1;
+    if n <= count {
+        return Next::Malformed;
+    }
+    Next::Goes(Part {
+        count,
+        digits: 0,
+        value: 0,
+    })
+}
+
+// At the line feed the last value must have been read.
+fn end(n: usize, p: Part) -> Next
+    ensures { λ r. ⌜ r ≡ end-step n p ⌝ }
+{
+    if p.digits == 0 {
+        return Next::Malformed;
+    }
+    if n <= p.count {
+        return Next::Malformed;
+    }
+    if p.count + 1 != n {
+        return Next::Malformed;
+    }
+    Next::Ends
+}

@@ -1,0 +1,3 @@
+pub mod EdgeLaws
+-- The laws of the definitions in specs/, for the proofs of this crate and of those above it.
+pub mod RangeLaws

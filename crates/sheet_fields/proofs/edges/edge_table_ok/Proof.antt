@@ -1,0 +1,140 @@
+-- `edge_table_ok` meets its contract. The invariant: every edge before i is in range.
+use Prim.Native.Nat.{ℕ, _+_, _*_, _-_, _≤_, _<_}
+use mathlib.Core.Bool.{true}
+use mathlib.Core.Path.{_≡_, sym}
+use native.Mathlib.Omega.{arith}
+use borrow.Author.Count.{below-more}
+use borrow.Author.Needs.{needs}
+use Rattle.usage.specs.Tests.{edgeOk}
+use Rattle.usage.specs.Tables.{edgeAt}
+use Rattle.sheet_fields.proofs.EdgeLaws.{not-whole, too-long, bad-edge, good-edge, good-edges}
+use Rattle.sheet_fields.proofs.edges.edge_table_ok.Statement.{statement}
+use Rattle.sheet_fields.proofs.edges.edge_table_ok.Tie as tie
+
+abbrev Inv-loop : tie.InvT-loop
+Inv-loop edges n i₀ i = (i ≤ n) × ((k : ℕ) → k < i → edgeOk (edgeAt edges k) ≡ true)
+
+abbrev μ-loop : tie.MeasureT-loop
+μ-loop edges n i₀ i = n - i
+
+returns : tie.Need-returns Inv-loop μ-loop
+returns c = sym (not-whole _ (c .if1 .taken))
+
+returns-2 : tie.Need-returns-2 Inv-loop μ-loop
+returns-2 c = sym (too-long _ (c .if2 .taken))
+
+loop-holds : tie.Need-loop-holds Inv-loop μ-loop
+loop-holds c = (search needs, λ k l. absurd (omega arith))
+
+mul-k : tie.Need-mul-k Inv-loop μ-loop
+mul-k c = search needs
+
+shared-slice-read-edge-fits : tie.Need-shared-slice-read-edge-fits Inv-loop μ-loop
+shared-slice-read-edge-fits c = search needs
+
+cast-edge-fits : tie.Need-cast-edge-fits Inv-loop μ-loop
+cast-edge-fits c = omega (arith, c .shared-slice-known2 .given (6 * c .before .before .loop .i))
+
+add-edge-fits : tie.Need-add-edge-fits Inv-loop μ-loop
+add-edge-fits c = search needs
+
+shared-slice-read-edge-fits-2 : tie.Need-shared-slice-read-edge-fits-2 Inv-loop μ-loop
+shared-slice-read-edge-fits-2 c = search needs
+
+cast-edge-fits-2 : tie.Need-cast-edge-fits-2 Inv-loop μ-loop
+cast-edge-fits-2 c = omega (arith, c .shared-slice-known3 .given (6 * c .before .before .before .loop .i + 1))
+
+add-edge-fits-2 : tie.Need-add-edge-fits-2 Inv-loop μ-loop
+add-edge-fits-2 c = search needs
+
+shared-slice-read-edge-fits-3 : tie.Need-shared-slice-read-edge-fits-3 Inv-loop μ-loop
+shared-slice-read-edge-fits-3 c = search needs
+
+cast-edge-fits-3 : tie.Need-cast-edge-fits-3 Inv-loop μ-loop
+cast-edge-fits-3 c = omega (arith, c .shared-slice-known4 .given (6 * c .before .before .before .before .loop .i + 2))
+
+add-edge-fits-3 : tie.Need-add-edge-fits-3 Inv-loop μ-loop
+add-edge-fits-3 c = search needs
+
+shared-slice-read-edge-fits-4 : tie.Need-shared-slice-read-edge-fits-4 Inv-loop μ-loop
+shared-slice-read-edge-fits-4 c = search needs
+
+cast-edge-fits-4 : tie.Need-cast-edge-fits-4 Inv-loop μ-loop
+cast-edge-fits-4 c = omega (arith, c .shared-slice-known5 .given (6 * c .before .before .before .before .before .loop .i + 3))
+
+add-edge-fits-4 : tie.Need-add-edge-fits-4 Inv-loop μ-loop
+add-edge-fits-4 c = search needs
+
+shared-slice-read-edge-fits-5 : tie.Need-shared-slice-read-edge-fits-5 Inv-loop μ-loop
+shared-slice-read-edge-fits-5 c = search needs
+
+cast-edge-fits-5 : tie.Need-cast-edge-fits-5 Inv-loop μ-loop
+cast-edge-fits-5 c = omega (arith, c .shared-slice-known6 .given (6 * c .before .before .before .before .before .before .loop .i + 4))
+
+add-edge-fits-5 : tie.Need-add-edge-fits-5 Inv-loop μ-loop
+add-edge-fits-5 c = search needs
+
+shared-slice-read-edge-fits-6 : tie.Need-shared-slice-read-edge-fits-6 Inv-loop μ-loop
+shared-slice-read-edge-fits-6 c = search needs
+
+cast-edge-fits-6 : tie.Need-cast-edge-fits-6 Inv-loop μ-loop
+cast-edge-fits-6 c = omega (arith, c .shared-slice-known7 .given (6 * c .before .before .before .before .before .before .before .loop .i + 5))
+
+edge-fits-requires : tie.Need-edge-fits-requires Inv-loop μ-loop
+edge-fits-requires c κs = search needs
+
+returns-3 : tie.Need-returns-3 Inv-loop μ-loop
+returns-3 c =
+    let t = c .before .before .before .before .before .before .before .before .before .before .before .before .before .args .edges .now in
+    sym (bad-edge t (c .before .before .before .before .before .before .before .before .before .loop .i) (c .before .edge-fits .result) (c .before .edge-fits .ensures) (c .before .before .before .before .before .before .before .before .loop-test .taken) (c .if3 .taken))
+
+add-i : tie.Need-add-i Inv-loop μ-loop
+add-i c = search needs
+
+loop-less : tie.Need-loop-less Inv-loop μ-loop
+loop-less c = search needs
+
+loop-again : tie.Need-loop-again Inv-loop μ-loop
+loop-again c =
+    let t = c .before .before .before .before .before .before .before .before .before .before .before .before .before .args .edges .now in
+    let i = c .before .before .before .before .before .before .before .before .before .loop .i in
+    (search needs, below-more _ i (c .before .before .before .before .before .before .before .before .before .loop .inv .1) (good-edge t i (c .before .edge-fits .result) (c .before .edge-fits .ensures) (c .if3 .left)))
+
+returns-4 : tie.Need-returns-4 Inv-loop μ-loop
+returns-4 c =
+    let t = c .before .before .before .before .before .args .edges .now in
+    sym (good-edges t (c .before .before .before .if1 .left) (c .before .before .if2 .left) (λ k l. c .before .loop .inv .1 k (omega arith)))
+
+pub edge-table-ok-spec : {M : Type 1} → statement M
+edge-table-ok-spec =
+    tie.close
+    (tie.spec
+    Inv-loop
+    μ-loop
+    returns
+    returns-2
+    loop-holds
+    mul-k
+    shared-slice-read-edge-fits
+    cast-edge-fits
+    add-edge-fits
+    shared-slice-read-edge-fits-2
+    cast-edge-fits-2
+    add-edge-fits-2
+    shared-slice-read-edge-fits-3
+    cast-edge-fits-3
+    add-edge-fits-3
+    shared-slice-read-edge-fits-4
+    cast-edge-fits-4
+    add-edge-fits-4
+    shared-slice-read-edge-fits-5
+    cast-edge-fits-5
+    add-edge-fits-5
+    shared-slice-read-edge-fits-6
+    cast-edge-fits-6
+    edge-fits-requires
+    returns-3
+    add-i
+    loop-less
+    loop-again
+    returns-4)

@@ -1,0 +1,100 @@
+-- What an accepted sheet is: so many lines at most, each of so many values, in their ranges.
+use Prim.Native.Nat.{ℕ, zero, suc, _+_, _*_, _≤_}
+use mathlib.Core.Path.{_≡_, refl, sym, ap, _∙_}
+use mathlib.Core.Bool.{Bool, true, false, cond}
+use mathlib.Core.Option.{Option, none, some}
+use mathlib.Core.List.{List, [], _∷_, flatten}
+use native.Mathlib.Omega.{arith}
+use native.Mathlib.Nat.{suc-mul, zero-add}
+use lib.Dec.{eqb, ltb}
+use lib.ListN.{length, drop, length-append}
+use borrow.Author.Tests.{eqb-true}
+use Rattle.usage.proofs.Logic.{clash, and-right, false-true}
+use Rattle.sheet_bytes.specs.Line.{Line, linesOf, nothing, read, complete, counted, valuesOf}
+use Rattle.sheet_lines.specs.Sheet.{Sheet, Result, accepted, refused, refuse, followed, entry, value-lines, starts-with, longest, sheet}
+use Rattle.sheet_lines.specs.Steps.{held, refusing, onto}
+
+pub data Rows (s : Sheet) : List (List ℕ) → Type 0 where
+  no-row : Rows s []
+  row : {vs : List ℕ} {rows : List (List ℕ)} → length vs ≡ s .fields → s .in-range vs ≡ true → Rows s rows → Rows s (vs ∷ rows)
+
+pub record Accepted (s : Sheet) (rows : List (List ℕ)) : Type 0 where
+  pub each : Rows s rows
+  pub few : length rows ≤ s .most
+
+counted-length : (n : ℕ) (o : Option (List ℕ)) (vs : List ℕ) → counted n o ≡ some vs → length vs ≡ n
+counted-length n none vs e = clash (cc)
+counted-length n (some us) vs e = go (eqb (length us) n) refl e
+  where
+    go : (x : Bool) → eqb (length us) n ≡ x → cond x (some us) none ≡ some vs → length vs ≡ n
+    go true q e = let same : us ≡ vs = cc in ap length (sym same) ∙ eqb-true (length us) n q
+    go false q e = clash (cc)
+
+values-length : (n : ℕ) (l : Line) (vs : List ℕ) → valuesOf n l ≡ some vs → length vs ≡ n
+unfolding valuesOf
+values-length n l vs e = go (l .ended) e
+  where
+    go : (x : Bool) → cond x (counted n (complete (read (some nothing) (l .bytes)))) none ≡ some vs → length vs ≡ n
+    go true e = counted-length n (complete (read (some nothing) (l .bytes))) vs e
+    go false e = clash (cc)
+
+module _ (s : Sheet) where
+  pub lines-rows : (line left : ℕ) (ls : List Line) (rows : List (List ℕ)) → value-lines s line left ls ≡ accepted rows → Rows s rows × (length rows ≤ left)
+  unfolding value-lines
+  lines-rows line left [] rows e = let z : [] ≡ rows = cc in rw (← z) (no-row, omega arith)
+  lines-rows line zero (l ∷ ls) rows e = clash (cc)
+  lines-rows line (suc left) (l ∷ ls) rows e = go (valuesOf (s .fields) l) (value-lines s (suc line) left ls) (values-length (s .fields) l) (lines-rows (suc line) left ls) e
+    where
+      after : (vs : List ℕ) (r : Result) → length vs ≡ s .fields → s .in-range vs ≡ true → ((rs : List (List ℕ)) → r ≡ accepted rs → Rows s rs × (length rs ≤ left))
+          → followed vs r ≡ accepted rows → Rows s rows × (length rows ≤ suc left)
+      after vs (accepted rs) k m ih e =
+          let z : vs ∷ rs ≡ rows = cc in
+          let h = ih rs refl in
+          let h1 = h .1 in
+          rw (← z) (row k m (h .0), omega arith)
+      after vs (refused r) k m ih e = clash (cc)
+
+      go : (o : Option (List ℕ)) (r : Result) → ((vs : List ℕ) → o ≡ some vs → length vs ≡ s .fields)
+          → ((rs : List (List ℕ)) → r ≡ accepted rs → Rows s rs × (length rs ≤ left)) → entry s line o r ≡ accepted rows → Rows s rows × (length rows ≤ suc left)
+      go none r k ih e = clash (cc)
+      go (some vs) r k ih e = ranged (s .in-range vs) refl e
+        where
+          ranged : (x : Bool) → s .in-range vs ≡ x → cond x (followed vs r) (refuse line 3) ≡ accepted rows → Rows s rows × (length rows ≤ suc left)
+          ranged true q e = after vs r (k vs refl) q ih e
+          ranged false q e = clash (cc)
+
+  pub sheet-accepted : (text : List ℕ) (rows : List (List ℕ)) → sheet s text ≡ accepted rows → Accepted s rows
+  unfolding sheet
+  sheet-accepted text rows e = go (ltb longest (length text)) (starts-with (s .names) text) e
+    where
+      go : (x y : Bool) → cond x (refuse 0 5) (cond y (value-lines s 2 (s .most) (linesOf (drop (length (s .names)) text))) (refuse 1 1)) ≡ accepted rows → Accepted s rows
+      go true y e = clash (cc)
+      go false true e = let h = lines-rows 2 (s .most) (linesOf (drop (length (s .names)) text)) rows e in record { each = h .0; few = h .1 }
+      go false false e = clash (cc)
+
+  pub flat-length : {rows : List (List ℕ)} → Rows s rows → length (flatten rows) ≡ length rows * s .fields
+  unfolding flatten
+  flat-length no-row = omega arith
+  flat-length {rows} (row {vs} {rows = rs} k m r) = length-append vs (flatten rs) ∙ rw (suc-mul (length rs) (s .fields), k, flat-length r) (omega arith)
+
+-- a text that begins with another is at least as long
+pub begins-length : (names text : List ℕ) → starts-with names text ≡ true → length names ≤ length text
+unfolding starts-with
+begins-length [] text e = omega arith
+begins-length (b ∷ bs) [] e = false-true e
+begins-length (b ∷ bs) (c ∷ cs) e = let h = begins-length bs cs (and-right (eqb b c) (starts-with bs cs) e) in omega arith
+
+-- what the buffer holds after the loops is the result's values
+pub record Of-rows (r : Result) (n : ℕ) (vs : List ℕ) : Type 0 where
+  pub rows : List (List ℕ)
+  pub result : r ≡ accepted rows
+  pub count : n ≡ length rows
+  pub flat : vs ≡ flatten rows
+
+pub held-rows : (r : Result) (n : ℕ) (vs : List ℕ) → held n vs ≡ onto 0 [] r → Of-rows r n vs
+held-rows (accepted rows) n vs e = let c : n ≡ 0 + length rows = cc in record { rows = rows; result = refl; count = c ∙ zero-add (length rows); flat = cc }
+held-rows (refused r) n vs e = clash (cc)
+
+pub refusing-result : (r : Result) (line number : ℕ) → refusing line number ≡ onto 0 [] r → r ≡ refuse line number
+refusing-result (accepted rows) line number e = clash (cc)
+refusing-result (refused r) line number e = let l : line ≡ r .line = cc in let m : number ≡ r .number = cc in rw (l, m) refl

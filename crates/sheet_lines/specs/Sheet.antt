@@ -1,0 +1,58 @@
+-- A sheet: "a line of names and then lines of values in that order". What differs from sheet to sheet is a record.
+use Prim.Native.Nat.{ℕ, zero, suc}
+use mathlib.Core.Bool.{Bool, true, false, cond, _&&_}
+use mathlib.Core.Option.{Option, none, some}
+use mathlib.Core.List.{List, [], _∷_}
+use lib.Dec.{eqb, ltb}
+use lib.ListN.{length, drop}
+use Rattle.usage.specs.Answers.{Refusal}
+use Rattle.sheet_bytes.specs.Line.{Line, linesOf, valuesOf}
+
+pub record Sheet : Type 0 where
+  -- the names line, with its line feed
+  pub names : List ℕ
+  -- how many value lines are allowed
+  pub most : ℕ
+  -- how many values are on a line
+  pub fields : ℕ
+  -- whether the values of a line are in the ranges of their fields
+  pub in-range : List ℕ → Bool
+
+-- What reading a sheet gives: the values of each line, or a refusal.
+pub data Result : Type 0 where
+  accepted : List (List ℕ) → Result
+  refused : Refusal → Result
+
+-- "A refusal returns its number, for a sheet also the line, counted from 1 (0 where none)"
+abbrev pub refuse : ℕ → ℕ → Result
+refuse line number = refused record { line = line; number = number }
+
+-- the values of a line before those of the lines after it
+abbrev pub followed : List ℕ → Result → Result
+followed vs (accepted rows) = accepted (vs ∷ rows)
+followed vs (refused r) = refused r
+
+-- "2 a line malformed", "3 a value outside its field's range"
+abbrev pub entry : Sheet → ℕ → Option (List ℕ) → Result → Result
+entry s line none rest = refuse line 2
+entry s line (some vs) rest = cond (s .in-range vs) (followed vs rest) (refuse line 3)
+
+-- "then line by line 4, 2, 3": the value lines from line `line` on, of which `left` are allowed
+unfoldable pub value-lines : Sheet → ℕ → ℕ → List Line → Result
+value-lines s line left [] = accepted []
+value-lines s line zero (l ∷ ls) = refuse line 4
+value-lines s line (suc left) (l ∷ ls) = entry s line (valuesOf (s .fields) l) (value-lines s (suc line) left ls)
+
+unfoldable pub starts-with : List ℕ → List ℕ → Bool
+starts-with [] text = true
+starts-with (b ∷ bs) [] = false
+starts-with (b ∷ bs) (c ∷ cs) = eqb b c && starts-with bs cs
+
+-- "5 longer than 32,768 bytes (line 0)"
+abbrev pub longest : ℕ
+longest = 32768
+
+-- "Order: 5, 1, then line by line 4, 2, 3"; "1 names line differs, is missing or lacks its line feed (line 1)"
+unfoldable pub sheet : Sheet → List ℕ → Result
+sheet s text = cond (ltb longest (length text)) (refuse 0 5)
+    (cond (starts-with (s .names) text) (value-lines s 2 (s .most) (linesOf (drop (length (s .names)) text))) (refuse 1 1))

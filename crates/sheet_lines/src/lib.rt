@@ -1,0 +1,190 @@
+// A text of one of the three sheets is read into a buffer of values (document 01, "Sheets"; refusals 5, 1, 4, 2, 3).
+ghost use mathlib.Core.Path.{_≡_};
+ghost use mathlib.Core.List.{[]};
+ghost use Prim.Native.Nat.{_+_, _≤_};
+ghost use lib.ListN.{length, take, drop};
+ghost use Rattle.sheet_bytes.specs.Line.{linesOf};
+ghost use Rattle.sheet_lines.specs.Sheet.{value-lines, starts-with, sheet as sheet-of};
+ghost use Rattle.sheet_lines.specs.Answer.{answer, answered, filled};
+ghost use Rattle.sheet_lines.specs.Steps.{sheetOf, nothing as nothing-read, answer-after, is-stored as stored-in, gives, after, onto};
+use sheet_bytes::Next;
+use sheet_bytes::Part;
+use sheet_fields::Kind;
+
+// The answer of a reader: how many value lines it stored, or the refusal.
+pub enum Reading {
+    Stored(usize),
+    Refused { line: usize, number: u8 },
+}
+
+// A sheet is read into the buffer; a refusal leaves the buffer as it was. Document 01: "Order: 5, 1, then line by line 4, 2, 3".
+pub fn sheet(text: &[u8], kind: Kind, buffer: &mut [u32; 6000]) -> Reading
+    ensures { λ r. ⌜ answer r ≡ answered (sheet-of (sheetOf kind) (now (text .entry))) ⌝ }
+    ensures { λ r. ⌜ now (buffer .exit) ≡ filled (sheet-of (sheetOf kind) (now (text .entry))) (now (buffer .entry)) ⌝ }
+{
+    if 32768 < text.len() {
+        return Reading::Refused { line: 0, number: 5 };
+    }
+    if !named(text, kind) {
+        return Reading::Refused { line: 1, number: 1 };
+    }
+    let mut local = [0u32; 6000];
+    let r = lines(text, names_length(kind), kind, &mut local);
+    if is_stored(r) {
+        *buffer = local;
+    }
+    r
+}
+
+// How many values are on a line.
+fn fields(kind: Kind) -> usize
+    ensures { λ r. ⌜ r ≡ (sheetOf kind) .fields ⌝ }
+{
+    match kind {
+        Kind::Policies => 6,
+        Kind::Trace => 3,
+        Kind::Outline => 4,
+    }
+}
+
+// How many value lines are allowed.
+fn most(kind: Kind) -> usize
+    ensures { λ r. ⌜ r ≡ (sheetOf kind) .most ⌝ }
+{
+    match kind {
+        Kind::Policies => 256,
+        Kind::Trace => 2000,
+        Kind::Outline => 64,
+    }
+}
+
+// How long the names line is.
+fn names_length(kind: Kind) -> usize
+    ensures { λ r. ⌜ r ≡ length ((sheetOf kind) .names) ⌝ }
+{
+    match kind {
+        Kind::Policies => 29,
+        Kind::Trace => 9,
+        Kind::Outline => 14,
+    }
+}
+
+// The text begins with these bytes.
+fn begins(text: &[u8], names: &[u8]) -> bool
+    ensures { λ r. ⌜ r ≡ starts-with (now (names .entry)) (now (text .entry)) ⌝ }
+{
+    let mut i: usize = 0;
+    while i < names.len() {
+        if text.len() <= i {
+            return false;
+        }
+        if names[i] != text[i] {
+            return false;
+        }
+        i += 1;
+    }
+    true
+}
+
+// The names line is that of the sheet.
+fn named(text: &[u8], kind: Kind) -> bool
+    ensures { λ r. ⌜ r ≡ starts-with ((sheetOf kind) .names) (now (text .entry)) ⌝ }
+{
+    match kind {
+        Kind::Policies => begins(text, b"policy from action on who to\n"),
+        Kind::Trace => begins(text, b"kind a b\n"),
+        Kind::Outline => begins(text, b"node kind a b\n"),
+    }
+}
+
+// Nothing has been read of a line.
+fn nothing() -> Part
+    ensures { λ r. ⌜ r ≡ nothing-read ⌝ }
+{
+    Part {
+        count: 0,
+        digits: 0,
+        value: 0,
+    }
+}
+
+// The values of a line, which stand in the buffer from base on, are in the ranges of their fields.
+fn in_range(kind: Kind, buffer: &[u32; 6000], base: usize) -> bool
+    requires { ⌜ base + (sheetOf kind) .fields ≤ 6000 ⌝ }
+    requires { ⌜ length (now buffer) ≡ 6000 ⌝ }
+    ensures { λ r. ⌜ r ≡ (sheetOf kind) .in-range (take ((sheetOf kind) .fields) (drop base (now (buffer .entry)))) ⌝ }
+{
+    let end = base + fields(kind);
+    let all = &buffer[..];
+    sheet_fields::line_fits(kind, &all[base..end])
+}
+
+// The answer after n lines that were accepted.
+fn answer_after(n: usize, number: u8) -> Reading
+    requires { ⌜ n ≤ 2000 ⌝ }
+    ensures { λ r. ⌜ r ≡ answer-after n number ⌝ }
+{
+    if number == 0 {
+        return Reading::Stored(n);
+    }
+    Reading::Refused {
+        line: n + 2,
+        number,
+    }
+}
+
+fn is_stored(r: Reading) -> bool
+    ensures { λ s. ⌜ s ≡ stored-in r ⌝ }
+{
+    match r {
+        Reading::Stored(_) => true,
+        Reading::Refused { line: _, number: _ } => false,
+    }
+}
+
+// The value lines of a text from `from` on are read into the buffer, the values one after the other. Document 01: "then line by
+// line 4, 2, 3"; the first line that is refused ends both loops.
+fn lines(text: &[u8], from: usize, kind: Kind, buffer: &mut [u32; 6000]) -> Reading
+    requires { ⌜ from ≤ length (now text) ⌝ }
+    requires { ⌜ length (now buffer) ≡ 6000 ⌝ }
+    ensures { λ r. ⌜ gives ((sheetOf kind) .fields) r (now (buffer .exit)) ≡ onto 0 [] (value-lines (sheetOf kind) 2 ((sheetOf kind) .most) (linesOf (drop from (now (text .entry))))) ⌝ }
+    ensures { λ r. ⌜ after ((sheetOf kind) .fields) r (now (buffer .exit)) ≡ after ((sheetOf kind) .fields) r (now (buffer .entry)) ⌝ }
+{
+    let fields = fields(kind);
+    let most = most(kind);
+    let mut i = from;
+    let mut n: usize = 0;
+    let mut number: u8 = 0;
+    'lines: while i < text.len() {
+        if n == most {
+            number = 4;
+            break 'lines;
+        }
+        let base = n * fields;
+        let mut p = nothing();
+        'bytes: loop {
+            if text.len() <= i {
+                number = 2;
+                break 'lines;
+            }
+            let at = base + p.count;
+            buffer[at] = p.value as u32;
+            let next = sheet_bytes::step(fields, p, text[i]);
+            i += 1;
+            match next {
+                Next::Goes(q) => p = q,
+                Next::Ends => break 'bytes,
+                Next::Malformed => {
+                    number = 2;
+                    break 'lines;
+                }
+            }
+        }
+        if !in_range(kind, buffer, base) {
+            number = 3;
+            break 'lines;
+        }
+        n += 1;
+    }
+    answer_after(n, number)
+}

@@ -1,9 +1,0 @@
--- The tables that hold the finite account. Mask, Tables: the sets and the rules by which the tables are filled. Holds: what the tables
--- are to hold. Rounds: how they are filled, and the search. RowTable: the moves of a policy at each
--- node. Fits: what the tables have room for.
-pub mod Mask
-pub mod Tables
-pub mod Holds
-pub mod Rounds
-pub mod RowTable
-pub mod Fits

@@ -1,2 +1,0 @@
--- What the first program prints for a trace. Nothing is proved here; the laws are in proofs/.
-pub mod Trace
