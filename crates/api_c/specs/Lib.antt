@@ -1,2 +1,4 @@
+pub mod Codes
 pub mod Parts
 pub mod Check
+pub mod Code

@@ -1,37 +1,57 @@
--- A judge's state as the parts that a caller lends, and an answer as one number.
+-- The judge over a state that lies in the arrays that a caller lends.
 use Prim.Native.Nat.{ℕ, _+_}
-use mathlib.Core.Path.{_≡_}
-use mathlib.Core.Bool.{not, cond}
+use mathlib.Core.Bool.{Bool, true, false, not, cond}
 use mathlib.Core.List.{List, [], _∷_}
-use lib.Dec.{eqb}
+use lib.Dec.{eqb, leb}
 use lib.ListN.{getD}
+use Rattle.usage.specs.declared.RawStep.{RawStep}
+use Rattle.usage.specs.Answers.{Verdict, refused}
+use Rattle.usage.specs.Tables.{edgeTable}
 use Rattle.monitor_state.specs.declared.State.{State}
 use Rattle.monitor_state.specs.declared.Answer.{Answer}
 use Rattle.monitor_state.specs.declared.Answer.the-variants.{Allowed, Violated, Refused}
 use Rattle.monitor_state.specs.declared.Judgement.{Judgement}
-use Rattle.monitor_state.specs.Judge.{judgeOf}
+use Rattle.monitor_state.specs.Judge.{verdictOf, judgeOf}
 
--- document 01's answer and detail: 256 * answer + detail
-abbrev pub codeOf : Answer → ℕ
-codeOf Allowed = 0
-codeOf (Violated p) = 256 + p
-codeOf (Refused n) = 512 + n
+-- the arrays; `numbers` holds how many resources were created, and then a flag: 1 where the state is halted, 0 where it is not
+pub record Parts : Type 0 where
+  pub sets : List ℕ
+  pub created : List ℕ
+  pub unclosed : List ℕ
+  pub numbers : List ℕ
 
--- `numbers` holds the count and whether the state is halted
-unfoldable pub stateOf : List ℕ → List ℕ → List ℕ → List ℕ → State
-stateOf sets created unclosed numbers = record { sets = sets; created = created; count = getD numbers 0 0; unclosed = unclosed; halted = not (eqb (getD numbers 1 0) 0) }
+abbrev pub partsOf : List ℕ → List ℕ → List ℕ → List ℕ → Parts
+partsOf sets created unclosed numbers = record { sets = sets; created = created; unclosed = unclosed; numbers = numbers }
 
-unfoldable pub numbersOf : State → List ℕ
-numbersOf s = s .count ∷ cond (s .halted) 1 0 ∷ []
+abbrev pub flag : Parts → ℕ
+flag p = getD (p .numbers) 1 0
 
--- the judge, over the parts
-unfoldable pub judgeParts : List ℕ → List ℕ → List ℕ → List ℕ → List ℕ → ℕ → ℕ → ℕ → Judgement
-judgeParts edges sets created unclosed numbers kind a b = judgeOf edges (stateOf sets created unclosed numbers) (record { kind = kind; a = a; b = b })
+-- the state that the arrays hold, where the flag is one
+unfoldable pub heldIn : Parts → State
+heldIn p = record { sets = p .sets; created = p .created; count = getD (p .numbers) 0 0; unclosed = p .unclosed; halted = eqb (flag p) 1 }
 
--- what is answered, and what the parts then hold
-pub record Held (j : Judgement) (answer : ℕ) (sets created unclosed numbers : List ℕ) : Type 0 where
-  pub told : answer ≡ codeOf (j .answer)
-  pub sets-held : sets ≡ j .state .sets
-  pub created-held : created ≡ j .state .created
-  pub unclosed-held : unclosed ≡ j .state .unclosed
-  pub numbers-held : numbers ≡ numbersOf (j .state)
+-- the arrays that hold a state
+unfoldable pub holding : State → Parts
+holding s = partsOf (s .sets) (s .created) (s .unclosed) (s .count ∷ cond (s .halted) 1 0 ∷ [])
+
+-- what is answered, and what the arrays then hold
+pub record Answered : Type 0 where
+  pub verdict : Verdict
+  pub parts : Parts
+
+-- A refusal "stores nothing": the arrays are as they were lent.
+abbrev pub refuseParts : ℕ → Parts → Answered
+refuseParts n p = record { verdict = refused n; parts = p }
+
+-- Otherwise they hold the state that the judge returns.
+abbrev pub answeredIn : Parts → Answer → State → Answered
+answeredIn p Allowed s = record { verdict = verdictOf Allowed; parts = holding s }
+answeredIn p (Violated q) s = record { verdict = verdictOf (Violated q); parts = holding s }
+answeredIn p (Refused n) s = refuseParts n p
+
+-- The judge, over the arrays. A flag that is neither 0 nor 1 is that of no state: 42, after 41 and before 20.
+unfoldable pub judgeParts : List ℕ → Parts → RawStep → Answered
+judgeParts edges p raw =
+    cond (not (edgeTable edges)) (refuseParts 41 p)
+    (cond (not (leb (flag p) 1)) (refuseParts 42 p)
+    (answeredIn p (judgeOf edges (heldIn p) raw .answer) (judgeOf edges (heldIn p) raw .state)))

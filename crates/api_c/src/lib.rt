@@ -1,16 +1,26 @@
 // The judge and the check for callers in C and Rust: numbers and arrays in the place of structs. Tests and benchmarks call them.
 use checker::Outcome;
+use monitor_sets::SETS;
 use monitor_state::Answer;
 use monitor_state::Told;
+use usage::MOST_CREATED;
+use usage::POLICIES;
 use usage::RawStep;
 ghost use mathlib.Core.Path.{_≡_};
 ghost use mathlib.Core.Bool.{cond};
-ghost use Rattle.api_c.specs.Parts.{codeOf, judgeParts, Held};
-ghost use Rattle.api_c.specs.Check.{outcomeCode, Answers};
+ghost use Rattle.usage.specs.declared.RawStep.{RawStep};
+ghost use Rattle.usage.specs.Answers.{refused};
+ghost use Rattle.usage.specs.Tables.{edgeTable};
+ghost use Rattle.monitor_state.specs.Judge.{verdictOf};
+ghost use Rattle.checker.specs.Promise.{outcomeVerdict};
+ghost use Rattle.api_c.specs.Codes.{codeOf};
+ghost use Rattle.api_c.specs.Parts.{partsOf, judgeParts};
+ghost use Rattle.api_c.specs.Code.{isRefusal};
+ghost use Rattle.api_c.specs.Check.{Answers};
 
 // document 01's two numbers for an answer, as 256 * answer + detail
 fn code(a: Answer) -> u32
-    ensures { λ r. ⌜ r ≡ codeOf a ⌝ }
+    ensures { λ r. ⌜ r ≡ codeOf (verdictOf a) ⌝ }
 {
     match a {
         Answer::Allowed => 0,
@@ -19,50 +29,87 @@ fn code(a: Answer) -> u32
     }
 }
 
+// Is it a refusal, which stores nothing?
+fn is_refusal(a: Answer) -> bool
+    ensures { λ r. ⌜ r ≡ isRefusal a ⌝ }
+{
+    match a {
+        Answer::Allowed => false,
+        Answer::Violated(_) => false,
+        Answer::Refused(_) => true,
+    }
+}
+
 // 1 where it is so, else 0
-fn flag(b: bool) -> u64
+fn flag_of(b: bool) -> u64
     ensures { λ r. ⌜ r ≡ cond b 1 0 ⌝ }
 {
     if b { 1 } else { 0 }
 }
 
+// The refusal where the arrays hold no state. A table of edges that no sheet gives comes first.
+fn no_state(edges: &[u8]) -> u32
+    ensures { λ r. ⌜ r ≡ codeOf (refused (cond (edgeTable (now (edges .entry))) 42 41)) ⌝ }
+{
+    if sheet_fields::edges::edge_table_ok(edges) {
+        return code(Answer::Refused(42));
+    }
+    code(Answer::Refused(41))
+}
+
+// How many numbers a state has beside its arrays.
+const NUMBERS: usize = 2;
+
 // One step of the judge. The state lies in the lent parts: the sets, the created numbers and the unclosed openings, and in
-// `numbers` how many resources were created and, where it is not 0, that the state is halted. All of them then hold the state that
-// the judge returns.
+// `numbers` how many resources were created and a flag, 1 where the state is halted and 0 where it is not. All of them then hold the
+// state that the judge returns; after a refusal they are as they were lent.
 #[no_mangle]
 pub extern "C" fn judge_parts(
     edges: &[u8],
-    sets: &mut [u8; 648],
-    created: &mut [u32; 64],
-    unclosed: &mut [u8; 8],
-    numbers: &mut [u64; 2],
+    sets: &mut [u8; SETS],
+    created: &mut [u32; MOST_CREATED],
+    unclosed: &mut [u8; POLICIES],
+    numbers: &mut [u64; NUMBERS],
     kind: u32,
     a: u32,
     b: u32,
 ) -> u32
-    ensures { λ r. ⌜ Held (judgeParts (now (edges .entry)) (now (sets .entry)) (now (created .entry)) (now (unclosed .entry)) (now (numbers .entry)) kind a b) r (now (sets .exit)) (now (created .exit)) (now (unclosed .exit)) (now (numbers .exit)) ⌝ }
+    ensures { λ r.
+        ⌜ r ≡ codeOf
+        (judgeParts (now (edges .entry)) (partsOf (now (sets .entry)) (now (created .entry)) (now (unclosed .entry)) (now (numbers .entry)))
+        (record { kind = kind; a = a; b = b }) .verdict) ⌝ }
+    ensures { λ r.
+        ⌜ partsOf (now (sets .exit)) (now (created .exit)) (now (unclosed .exit)) (now (numbers .exit))
+        ≡ judgeParts (now (edges .entry))
+        (partsOf (now (sets .entry)) (now (created .entry)) (now (unclosed .entry)) (now (numbers .entry)))
+        (record { kind = kind; a = a; b = b }) .parts ⌝ }
 {
     let count = numbers[0] as usize;
-    let halted = numbers[1] != 0;
+    let flag = numbers[1];
+    if 1 < flag {
+        return no_state(edges);
+    }
     let t = monitor::judge_lent(
         edges,
         sets,
         created,
         unclosed,
         count,
-        halted,
+        flag == 1,
         RawStep { kind, a, b },
     );
-    let n = t.count as u64;
-    let h = flag(t.halted);
-    *numbers = [n, h];
     let answer = t.answer;
+    if !is_refusal(answer) {
+        let n = t.count as u64;
+        let h = flag_of(t.halted);
+        *numbers = [n, h];
+    }
     code(answer)
 }
 
 // the same for an outcome of the check
 fn outcome_code(o: Outcome) -> u32
-    ensures { λ r. ⌜ r ≡ outcomeCode o ⌝ }
+    ensures { λ r. ⌜ r ≡ codeOf (outcomeVerdict o) ⌝ }
 {
     match o {
         Outcome::Accepted => 0,

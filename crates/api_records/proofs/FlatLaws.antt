@@ -9,11 +9,12 @@ use lib.ListN.{length, getD, take, set, length-set}
 use lib.Seq.{take-suc-set}
 use borrow.Author.Tests.{lt-leb, eq-eqb}
 use Rattle.usage.specs.declared.Edge.{Edge}
-use Rattle.usage.specs.Limits.{most-edges}
+use Rattle.usage.specs.Limits.{mostEdges, edgePlaces}
 use Rattle.usage.specs.Tables.{from, edgeAt, edgesOf, edgeTable}
 use Rattle.usage.specs.Tests.{edgesOk}
 use Rattle.api_records.specs.declared.flat.Flat.{Flat}
-use Rattle.api_records.specs.Flat.{flat, stored, zeros, addOf, flatOf}
+use Rattle.api_records.specs.Flat.{flat}
+use Rattle.api_records.specs.Code.{recordStored, zeros, addOf, flatOf, flatHeld}
 
 -- ── The edges of the flat table ──
 
@@ -52,7 +53,8 @@ from-next f g h k (suc n) = rw (h k, from-next f g h (suc k) n)
 records-of-flat : (es : List Edge) → from (edgeAt (flat es)) 0 (length es) ≡ es
 unfolding flat from
 records-of-flat [] = refl
-records-of-flat (e ∷ es) = ap (λ (l : List Edge). e ∷ l) (from-next (edgeAt (fields e ++ flat es)) (edgeAt (flat es)) (next-edge e (flat es)) 0 (length es) ∙ records-of-flat es)
+records-of-flat (e ∷ es) = ap (λ (l : List Edge). e ∷ l) (from-next (edgeAt (fields e ++ flat es)) (edgeAt (flat es))
+    (next-edge e (flat es)) 0 (length es) ∙ records-of-flat es)
 
 -- the edges that are read from the flat table are those that it was made of
 pub edges-flat : (es : List Edge) → edgesOf (flat es) ≡ es
@@ -71,9 +73,9 @@ table-flat es = rw (edges-flat es, eq-eqb (length (flat es) % 6) 0 (whole (lengt
     whole m n h = omega arith
 
 -- more records than a sheet has are not those of one
-pub too-many : (es : List Edge) → most-edges < length es → edgesOk es ≡ false
+pub too-many : (es : List Edge) → mostEdges < length es → edgesOk es ≡ false
 unfolding edgesOk
-too-many es h = rw (lt-leb (length es) most-edges h)
+too-many es h = rw (lt-leb (length es) mostEdges h)
 
 -- ── The table that the loop leaves ──
 
@@ -82,7 +84,7 @@ abbrev write : List ℕ → ℕ → List ℕ → List ℕ
 write t k [] = t
 write t k (v ∷ vs) = write (set t k v) (suc k) vs
 
-stored-written : (t : List ℕ) (k : ℕ) (e : Edge) → stored t k e ≡ write t k (fields e)
+stored-written : (t : List ℕ) (k : ℕ) (e : Edge) → recordStored t k e ≡ write t k (fields e)
 stored-written t k e =
     let k₁ : k + 1 ≡ suc k = omega arith in
     let k₂ : k + 2 ≡ suc (suc k) = omega arith in
@@ -99,23 +101,19 @@ written (v ∷ vs) t k m e h =
     ∙ ap (λ (l : List ℕ). l ++ vs) (take-suc-set t k v (omega arith))
     ∙ append-assoc (take k t) (v ∷ []) vs
 
--- what the table holds so far
-abbrev pub table : Flat → List ℕ
-table f = take (6 * f .count) (f .bytes)
-
 abbrev added : Flat → Edge → Flat
-added f e = record { bytes = stored (f .bytes) (6 * f .count) e; count = f .count + 1 }
+added f e = record { bytes = recordStored (f .bytes) (6 * f .count) e; count = f .count + 1 }
 
-add-few : (f : Flat) (e : Edge) → f .count < most-edges → addOf f e ≡ added f e
+add-few : (f : Flat) (e : Edge) → f .count < mostEdges → addOf f e ≡ added f e
 unfolding addOf
-add-few f e h = rw (lt-leb most-edges (f .count) h)
+add-few f e h = rw (lt-leb mostEdges (f .count) h)
 
 -- g holds what f does, and the edges after it
 pub record Holds (f : Flat) (es : List Edge) (g : Flat) : Type 0 where
   count : g .count ≡ f .count + length es
-  bytes : table g ≡ table f ++ flat es
+  bytes : flatHeld g ≡ flatHeld f ++ flat es
 
-added-table : (f : Flat) (e : Edge) → f .count < most-edges → length (f .bytes) ≡ 1536 → table (added f e) ≡ table f ++ fields e
+added-table : (f : Flat) (e : Edge) → f .count < mostEdges → length (f .bytes) ≡ edgePlaces → flatHeld (added f e) ≡ flatHeld f ++ fields e
 added-table f e h l =
     ap (take (6 * (f .count + 1))) (stored-written (f .bytes) (6 * f .count) e)
     ∙ written (fields e) (f .bytes) (6 * f .count) (6 * (f .count + 1)) (omega arith) (omega arith)
@@ -123,39 +121,40 @@ added-table f e h l =
 added-length : (f : Flat) (e : Edge) → length (added f e .bytes) ≡ length (f .bytes)
 added-length f e = simp (length-set)
 
-few : (es : List Edge) (f : Flat) → f .count + length es ≤ most-edges → length (f .bytes) ≡ 1536 → Holds f es (flatOf f es)
+few : (es : List Edge) (f : Flat) → f .count + length es ≤ mostEdges → length (f .bytes) ≡ edgePlaces → Holds f es (flatOf f es)
 unfolding flatOf flat
-few [] f h l = record { count = omega arith; bytes = sym (append-nil (table f)) }
+few [] f h l = record { count = omega arith; bytes = sym (append-nil (flatHeld f)) }
 few (e ∷ es) f h l =
     let k : Holds (added f e) es (flatOf (added f e) es) = few es (added f e) (omega arith) (added-length f e ∙ l) in
     rw (add-few f e (omega arith)) (record {
       count = omega (arith, k .count);
-      bytes = k .bytes ∙ ap (λ (t : List ℕ). t ++ flat es) (added-table f e (omega arith) l) ∙ append-assoc (table f) (fields e) (flat es);
+      bytes = k .bytes ∙ ap (λ (t : List ℕ). t ++ flat es) (added-table f e (omega arith) l) ∙ append-assoc (flatHeld f) (fields e) (flat es);
     })
 
-add-counts : (f : Flat) (e : Edge) (n : ℕ) → most-edges < f .count + suc n → most-edges < addOf f e .count + n
+add-counts : (f : Flat) (e : Edge) (n : ℕ) → mostEdges < f .count + suc n → mostEdges < addOf f e .count + n
 unfolding addOf
-add-counts f e n h = go (leb most-edges (f .count))
+add-counts f e n h = go (leb mostEdges (f .count))
   where
-    go : (b : Bool) → most-edges < (cond b (record { bytes = f .bytes; count = most-edges + 1 }) (added f e)) .count + n
+    go : (b : Bool) → mostEdges < (cond b (record { bytes = f .bytes; count = mostEdges + 1 }) (added f e)) .count + n
     go true = omega arith
     go false = omega arith
 
-many : (es : List Edge) (f : Flat) → most-edges < f .count + length es → most-edges < flatOf f es .count
+many : (es : List Edge) (f : Flat) → mostEdges < f .count + length es → mostEdges < flatOf f es .count
 unfolding flatOf
 many [] f h = omega arith
 many (e ∷ es) f h = many es (addOf f e) (add-counts f e (length es) h)
 
 -- of at most 256 edges the loop leaves the flat table
-pub loop-few : (es : List Edge) → length es ≤ most-edges → Holds zeros es (flatOf zeros es)
+pub loop-few : (es : List Edge) → length es ≤ mostEdges → Holds zeros es (flatOf zeros es)
 unfolding zeros
 loop-few es h = few es zeros (omega arith) refl
 
-pub few-flat : (es : List Edge) → Holds zeros es (flatOf zeros es) → (flatOf zeros es .count ≡ length es) × (table (flatOf zeros es) ≡ flat es)
+pub few-flat : (es : List Edge) → Holds zeros es (flatOf zeros es) → (flatOf zeros es .count ≡ length es)
+    × (flatHeld (flatOf zeros es) ≡ flat es)
 unfolding zeros
 few-flat es k = (omega (arith, k .count), k .bytes)
 
 -- and of more than 256 a count above 256
-pub loop-many : (es : List Edge) → most-edges < length es → most-edges < flatOf zeros es .count
+pub loop-many : (es : List Edge) → mostEdges < length es → mostEdges < flatOf zeros es .count
 unfolding zeros
 loop-many es h = many es zeros (omega arith)

@@ -2,25 +2,27 @@
 use mathlib.Core.Bool.{false}
 use Prim.Native.Nat.{ℕ}
 use mathlib.Core.Path.{_≡_, sym, subst}
+use mathlib.Core.Logic.{_↔_}
 use mathlib.Core.List.{List}
 use Rattle.usage.specs.declared.Edge.{Edge}
 use Rattle.usage.specs.declared.RawStep.{RawStep}
 use Rattle.usage.specs.Policy.{EdgesOk}
+use Rattle.usage.specs.Answers.{Verdict}
 use Rattle.usage.specs.Check.{Checked}
 use Rattle.usage.specs.Tables.{nodesOf, NodeTable}
 use Rattle.usage.specs.Tests.{edgesOk}
 use Rattle.usage.proofs.Decides.{refuted}
 use Rattle.usage.proofs.ValidLaws.{decides-edges}
 use Rattle.usage.proofs.TableLaws.{decides-edge-table}
-use Rattle.checker.specs.declared.Outcome.{Outcome}
-use Rattle.checker.specs.Promise.{told}
+use Rattle.checker.specs.Promise.{CheckPromise}
+use Rattle.checker.proofs.PromiseLaws.{promise-checked}
 use Rattle.monitor_state.specs.declared.State.{State}
 use Rattle.monitor_state.specs.Judge.{refuse, judgeOf}
 use Rattle.monitor_state.specs.Represents.{Represents}
 use Rattle.monitor_state.specs.Promise.{Promised}
 use Rattle.monitor_state.proofs.Verdict.{judge-promised}
 use Rattle.api_records.specs.Flat.{flat}
-use Rattle.api_records.specs.Records.{judgeRecords, KeepsRecords, CheckedRecords}
+use Rattle.api_records.specs.Records.{judgeRecords, KeepsRecords}
 use Rattle.api_records.proofs.FlatLaws.{edges-flat, table-flat}
 use Rattle.api_records.proofs.TableLaws.{flat-refused}
 
@@ -38,8 +40,9 @@ pub records-refused : (es : List Edge) → (EdgesOk es → ⊥) → (s : State) 
 unfolding judgeRecords
 records-refused es no-sheet s raw = flat-refused es s raw (refuted (edgesOk es) (decides-edges es) no-sheet)
 
--- The check's answer, said of the records themselves.
-pub records-checked : (es : List Edge) (ns : List ℕ) (r : Outcome) → CheckedRecords es ns r → EdgesOk es → NodeTable ns → Checked false es (nodesOf ns) (told r)
-records-checked es ns r h ok nodes =
-    subst (λ (l : List Edge). Checked false l (nodesOf ns) (told r)) (edges-flat es)
-    (h .0 .right (decides-edge-table (flat es) .0 (rw (table-flat es) (decides-edges es .1 ok))) nodes)
+-- The check's answer, said of the records themselves: a verdict is right of an accepted sheet's edges and nodes exactly where it is told.
+pub records-checked : (es : List Edge) (ns : List ℕ) (v : Verdict) → CheckPromise (flat es) ns v → EdgesOk es → NodeTable ns
+    → (w : Verdict) → Checked false es (nodesOf ns) w ↔ (v ≡ w)
+records-checked es ns v h ok nodes w =
+    subst (λ (l : List Edge). Checked false l (nodesOf ns) w ↔ (v ≡ w)) (edges-flat es)
+    (promise-checked h (decides-edge-table (flat es) .0 (rw (table-flat es) (decides-edges es .1 ok))) nodes w)

@@ -1,24 +1,53 @@
--- What the functions compute on the way from the records to the judge's answer.
-use Prim.Native.Nat.{ℕ, _*_, _<_, _≤_}
+-- What the functions compute on the way from the records to the answer.
+use Prim.Native.Nat.{ℕ, _+_, _*_, _<_, _≤_}
 use mathlib.Core.Bool.{cond}
-use mathlib.Core.List.{List}
-use lib.Dec.{ltb}
-use lib.ListN.{take}
+use mathlib.Core.List.{List, [], _∷_}
+use lib.Dec.{leb, ltb}
+use lib.ListN.{set, take, replicate}
+use Rattle.usage.specs.declared.Edge.{Edge}
 use Rattle.usage.specs.declared.RawStep.{RawStep}
-use Rattle.usage.specs.Limits.{most-edges}
-use Rattle.checker.specs.declared.Outcome.{Outcome}
-use Rattle.checker.specs.declared.Outcome.the-variants.{Refused}
+use Rattle.usage.specs.Limits.{mostEdges, edgeFields, edgePlaces}
+use Rattle.usage.specs.Answers.{Verdict, refused}
+use Rattle.checker.specs.Promise.{RightVerdict}
 use Rattle.monitor_state.specs.declared.State.{State}
 use Rattle.monitor_state.specs.declared.Judgement.{Judgement}
 use Rattle.monitor_state.specs.Judge.{refuse, judgeOf}
 use Rattle.api_records.specs.declared.flat.Flat.{Flat}
-use Rattle.api_records.specs.Records.{CheckedTable}
 
--- the judge over the table
+-- ── The table of the records ──
+
+-- the table of no record
+unfoldable pub zeros : Flat
+zeros = record { bytes = replicate edgePlaces 0; count = 0 }
+
+-- six numbers stored from k on
+abbrev pub recordStored : List ℕ → ℕ → Edge → List ℕ
+recordStored t k e =
+    set (set (set (set (set (set t k (e .policy)) (k + 1) (e .from)) (k + 2) (e .action)) (k + 3) (e .on)) (k + 4) (e .who)) (k + 5) (e .to)
+
+-- the table with one record more; a count of one more than a sheet has says that there are too many
+unfoldable pub addOf : Flat → Edge → Flat
+addOf f e =
+    cond (leb mostEdges (f .count))
+    (record { bytes = f .bytes; count = mostEdges + 1 })
+    (record { bytes = recordStored (f .bytes) (edgeFields * f .count) e; count = f .count + 1 })
+
+-- the table with every record of the list, one after the other
+unfoldable pub flatOf : Flat → List Edge → Flat
+flatOf f [] = f
+flatOf f (e ∷ es) = flatOf (addOf f e) es
+
+-- the part of the table that holds records
+abbrev pub flatHeld : Flat → List ℕ
+flatHeld f = take (edgeFields * f .count) (f .bytes)
+
+-- ── The answers from the table ──
+
+-- the judge's
 unfoldable pub judgeFlat : Flat → State → RawStep → Judgement
-judgeFlat f s raw = cond (ltb most-edges (f .count)) (refuse 41 s) (judgeOf (take (6 * f .count) (f .bytes)) s raw)
+judgeFlat f s raw = cond (ltb mostEdges (f .count)) (refuse 41 s) (judgeOf (flatHeld f) s raw)
 
--- what the check answers from the table
-pub data CheckedFlat (f : Flat) (ns : List ℕ) : Outcome → Type 0 where
-  too-many : most-edges < f .count → CheckedFlat f ns (Refused 41)
-  few : {a : Outcome} → f .count ≤ most-edges → CheckedTable (take (6 * f .count) (f .bytes)) ns a → CheckedFlat f ns a
+-- the check's
+pub data RightFlat (f : Flat) (nodes : List ℕ) : Verdict → Type 0 where
+  too-many : mostEdges < f .count → RightFlat f nodes (refused 41)
+  few : {v : Verdict} → f .count ≤ mostEdges → RightVerdict (flatHeld f) nodes v → RightFlat f nodes v

@@ -1,13 +1,10 @@
 -- "The judge and the check are lent the edges as a slice of records": the judge over the list of the records.
-use Prim.Native.Nat.{ℕ}
 use mathlib.Core.Bool.{Bool}
 use mathlib.Core.List.{List}
 use Rattle.usage.specs.declared.Edge.{Edge}
 use Rattle.usage.specs.declared.RawStep.{RawStep}
 use Rattle.usage.specs.Policy.{EdgesOk}
 use Rattle.usage.specs.Past.{Past}
-use Rattle.checker.specs.declared.Outcome.{Outcome}
-use Rattle.checker.specs.Promise as Checks
 use Rattle.monitor_state.specs.declared.State.{State}
 use Rattle.monitor_state.specs.declared.Judgement.{Judgement}
 use Rattle.monitor_state.specs.Judge.{judgeOf}
@@ -23,11 +20,3 @@ judgeRecords es s raw = judgeOf (flat es) s raw
 -- The promise of a step, over the past alone: for every past that the state stands for, under the edges of an accepted sheet.
 abbrev pub KeepsRecords : List Edge → State → RawStep → Judgement → Type 0
 KeepsRecords es s raw j = (past : Past) (h : Bool) → EdgesOk es → Represents es past h s → Promised es past h s raw j
-
--- What the check promises of two flat tables: the right answer, and what acceptance means for the judge.
-abbrev pub CheckedTable : List ℕ → List ℕ → Outcome → Type 0
-CheckedTable t ns r = Checks.Promised t ns r × Checks.Guarded t ns r
-
--- The check, lent the edges as records, keeps the promise of the check over their flat table.
-abbrev pub CheckedRecords : List Edge → List ℕ → Outcome → Type 0
-CheckedRecords es ns r = CheckedTable (flat es) ns r

@@ -1,20 +1,25 @@
 // A slice of records, each an edge, copied into a flat table: six bytes to an edge.
+use usage::EDGE_FIELDS;
+use usage::EDGE_TABLE;
 use usage::Edge;
+use usage::MOST_EDGES;
 ghost use mathlib.Core.Path.{_≡_};
-ghost use Rattle.api_records.specs.Flat.{zeros, addOf, flatOf};
+ghost use Rattle.api_records.specs.Code.{zeros, addOf, flatOf};
 
-// The edges as a flat table: those of the first `count` records, where `count` is at most 256. It is 257 for any greater number of
-// records, and then the bytes say nothing.
-pub struct Flat {
-    pub bytes: [u8; 1536],
-    pub count: usize,
+// The count of records that are more than a sheet has, however many they are.
+const TOO_MANY: usize = MOST_EDGES + 1;
+
+// The edges as a flat table: those of the first `count` records. Where `count` is TOO_MANY the bytes say nothing.
+pub(crate) struct Flat {
+    pub(crate) bytes: [u8; EDGE_TABLE],
+    pub(crate) count: usize,
 }
 
 // No record yet.
 fn empty() -> Flat
     ensures { λ r. ⌜ r ≡ zeros ⌝ }
 {
-    let bytes = [0u8; 1536];
+    let bytes = [0u8; EDGE_TABLE];
     Flat { bytes, count: 0 }
 }
 
@@ -23,11 +28,11 @@ fn add(mut f: Flat, e: Edge) -> Flat
     ensures { λ r. ⌜ r ≡ addOf f e ⌝ }
 {
     let n = f.count;
-    if 256 <= n {
-        f.count = 257;
+    if MOST_EDGES <= n {
+        f.count = TOO_MANY;
         return f;
     }
-    let k = 6 * n;
+    let k = EDGE_FIELDS * n;
     f.bytes[k] = e.policy;
     f.bytes[k + 1] = e.from;
     f.bytes[k + 2] = e.action;
@@ -39,7 +44,7 @@ fn add(mut f: Flat, e: Edge) -> Flat
 }
 
 // The table of the records. (Proved by hand, as is each function over a slice of records.)
-pub fn flatten(edges: &[Edge]) -> Flat
+pub(crate) fn flatten(edges: &[Edge]) -> Flat
     ensures { λ r. ⌜ r ≡ flatOf zeros (now (edges .entry)) ⌝ }
 {
     let mut f = empty();

@@ -1,28 +1,32 @@
-// The judge and the check over a slice of records (document 01: "The judge and the check are lent the edges as a slice of records."): each record
-// is copied into a flat table, six bytes to an edge, and what is proved over the flat table answers.
+// The judge and the check over a slice of records (document 01: "The judge and the check are lent the edges as a slice of records."):
+// each record is copied into a flat table, six bytes to an edge, and what is proved over the flat table answers.
 use crate::flat::Flat;
 use checker::Outcome;
 use monitor_state::Answer;
 use monitor_state::Judgement;
 use monitor_state::State;
+use usage::EDGE_FIELDS;
 use usage::Edge;
+use usage::MOST_EDGES;
 use usage::RawStep;
 ghost use mathlib.Core.Path.{_≡_};
-ghost use Rattle.api_records.specs.Records.{judgeRecords, KeepsRecords, CheckedRecords};
-ghost use Rattle.api_records.specs.Code.{judgeFlat, CheckedFlat};
+ghost use Rattle.checker.specs.Promise.{outcomeVerdict, CheckPromise};
+ghost use Rattle.api_records.specs.Flat.{flat};
+ghost use Rattle.api_records.specs.Records.{judgeRecords, KeepsRecords};
+ghost use Rattle.api_records.specs.Code.{judgeFlat, RightFlat};
 
-pub mod flat;
+mod flat;
 
 // The judge over the flat table.
 fn judge_flat(f: Flat, s: State, step: RawStep) -> Judgement
     ensures { λ r. ⌜ r ≡ judgeFlat f s step ⌝ }
 {
     let count = f.count;
-    if 256 < count {
+    if MOST_EDGES < count {
         let answer = Answer::Refused(41);
         return Judgement { answer, state: s };
     }
-    let n = 6 * count;
+    let n = EDGE_FIELDS * count;
     let bytes = f.bytes;
     monitor::judge(&bytes[0..n], s, step)
 }
@@ -38,20 +42,20 @@ pub fn judge_records(edges: &[Edge], s: State, step: RawStep) -> Judgement
 
 // The check over the flat table.
 fn check_flat(f: Flat, nodes: &[u8]) -> Outcome
-    ensures { λ r. ⌜ CheckedFlat f (now (nodes .entry)) r ⌝ }
+    ensures { λ r. ⌜ RightFlat f (now (nodes .entry)) (outcomeVerdict r) ⌝ }
 {
     let held = f.count;
-    if 256 < held {
+    if MOST_EDGES < held {
         return Outcome::Refused(41);
     }
-    let n = 6 * held;
+    let n = EDGE_FIELDS * held;
     let bytes = f.bytes;
     checker::check(&bytes[0..n], nodes)
 }
 
 // The check of an outline, lent the edges as a slice of records.
 pub fn check_records(edges: &[Edge], nodes: &[u8]) -> Outcome
-    ensures { λ r. ⌜ CheckedRecords (now (edges .entry)) (now (nodes .entry)) r ⌝ }
+    ensures { λ r. ⌜ CheckPromise (flat (now (edges .entry))) (now (nodes .entry)) (outcomeVerdict r) ⌝ }
 {
     let f = crate::flat::flatten(edges);
     check_flat(f, nodes)

@@ -3,17 +3,18 @@ use Prim.Native.Nat.{ℕ, zero, suc, _+_, _*_, _/_, _%_, _^_, _<_, _≤_, max}
 use mathlib.Core.Path.{_≡_, refl, sym, ap, ap₂, _∙_, subst}
 use mathlib.Core.Bool.{Bool, true, false, not, _&&_, _||_, cond, Bool·beq}
 use mathlib.Core.Logic.{_⊎_, inl, inr}
-use native.Mathlib.Nat.{zero-div, zero-mod, mod-lt, lt-irrefl}
+use native.Mathlib.Nat.{zero-div, mod-lt, one-mul, mod-eq-of-lt}
 use native.Mathlib.Omega.{arith}
 use lib.Arith.{bin-ind, digits-mod}
 use lib.Dec.{eqb, ltb, leb, lit<}
-use lib.Bits.{bitOr, or-step, or-shr, or-mod, or-lt, or-zero-l, or-zero-r}
+use lib.Bits.{bitOr, or-step, or-shr, or-mod, or-lt, or-add-and, and-le-l, and-le-r}
 use lib.Count.{trailingZeros}
 use lib.Pow.{pow-lt}
 use borrow.Author.Tests.{eq-eqb, eqb-true, le-leb, leb-true, lt-ltb}
-use Rattle.usage.specs.Tests.{some-below}
-use Rattle.usage.proofs.Logic.{false-true, not-both, or-left, or-right, or-cases, and-left, and-right, and-both, last-or-lower, not-true, both-ways}
-use Rattle.automaton.specs.Mask.{has, single, union, offends, lowest}
+use Rattle.usage.specs.Tests.{someBelow}
+use Rattle.usage.proofs.Logic.{false-true, not-both, or-left, or-right, or-cases, and-left, and-right, and-both, last-or-lower, not-true}
+use Rattle.usage.proofs.Logic.{both-ways}
+use Rattle.automaton.specs.Mask.{has, single, union, offends, lowestIn}
 
 same-test : (a b : Bool) → Bool·beq a b ≡ true → a ≡ b
 same-test true true e = refl
@@ -22,11 +23,11 @@ same-test false true e = false-true e
 same-test false false e = refl
 
 -- a test passes at each number below n: what a rule that is computed over all bytes is proved by
-unfoldable pub all-below : ℕ → (ℕ → Bool) → Bool
+unfoldable all-below : ℕ → (ℕ → Bool) → Bool
 all-below zero f = true
 all-below (suc n) f = f n && all-below n f
 
-pub all-below-at : (n : ℕ) (f : ℕ → Bool) → all-below n f ≡ true → (i : ℕ) → i < n → f i ≡ true
+all-below-at : (n : ℕ) (f : ℕ → Bool) → all-below n f ≡ true → (i : ℕ) → i < n → f i ≡ true
 unfolding all-below
 all-below-at zero f e i h = absurd (omega arith)
 all-below-at (suc n) f e i h = go (all-below-at n f (and-right (f n) (all-below n f) e)) (last-or-lower i n h)
@@ -35,21 +36,21 @@ all-below-at (suc n) f e i h = go (all-below-at n f (and-right (f n) (all-below 
     go ih (inl p) = ap f p ∙ and-left (f n) (all-below n f) e
     go ih (inr l) = ih i l
 
-pub some-at : (n : ℕ) (f : ℕ → Bool) (i : ℕ) → i < n → f i ≡ true → some-below f n ≡ true
-unfolding some-below
+pub some-at : (n : ℕ) (f : ℕ → Bool) (i : ℕ) → i < n → f i ≡ true → someBelow f n ≡ true
+unfolding someBelow
 some-at zero f i h e = absurd (omega arith)
 some-at (suc n) f i h e = go (λ l. some-at n f i l e) (last-or-lower i n h)
   where
-    go : (i < n → some-below f n ≡ true) → (i ≡ n) ⊎ (i < n) → (f n || some-below f n) ≡ true
-    go ih (inl p) = or-left (f n) (some-below f n) (ap f (sym p) ∙ e)
-    go ih (inr l) = or-right (f n) (some-below f n) (ih l)
+    go : (i < n → someBelow f n ≡ true) → (i ≡ n) ⊎ (i < n) → (f n || someBelow f n) ≡ true
+    go ih (inl p) = or-left (f n) (someBelow f n) (ap f (sym p) ∙ e)
+    go ih (inr l) = or-right (f n) (someBelow f n) (ih l)
 
-pub some-found : (n : ℕ) (f : ℕ → Bool) → some-below f n ≡ true → (i : ℕ) × (i < n) × (f i ≡ true)
-unfolding some-below
+pub some-found : (n : ℕ) (f : ℕ → Bool) → someBelow f n ≡ true → (i : ℕ) × (i < n) × (f i ≡ true)
+unfolding someBelow
 some-found zero f e = false-true e
-some-found (suc n) f e = go (some-found n f) (or-cases (f n) (some-below f n) e)
+some-found (suc n) f e = go (some-found n f) (or-cases (f n) (someBelow f n) e)
   where
-    go : (some-below f n ≡ true → (i : ℕ) × (i < n) × (f i ≡ true)) → (f n ≡ true) ⊎ (some-below f n ≡ true)
+    go : (someBelow f n ≡ true → (i : ℕ) × (i < n) × (f i ≡ true)) → (f n ≡ true) ⊎ (someBelow f n ≡ true)
         → (i : ℕ) × (i < suc n) × (f i ≡ true)
     go ih (inl p) = (n, omega arith, p)
     go ih (inr p) = let r = ih p in (r .0, omega (arith, r .1), r .2)
@@ -84,7 +85,8 @@ pow-test = refl
 pub has-pow : (t q : ℕ) → t < 8 → q < 8 → has (2 ^ t) q ≡ eqb t q
 has-pow t q h k =
     same-test (has (2 ^ t) q) (eqb t q)
-    (all-below-at 8 (λ q. Bool·beq (has (2 ^ t) q) (eqb t q)) (all-below-at 8 (λ t. all-below 8 (λ q. Bool·beq (has (2 ^ t) q) (eqb t q))) pow-test t h) q k)
+    (all-below-at 8 (λ q. Bool·beq (has (2 ^ t) q) (eqb t q))
+    (all-below-at 8 (λ t. all-below 8 (λ q. Bool·beq (has (2 ^ t) q) (eqb t q))) pow-test t h) q k)
 
 -- of a byte: 6 or 7 is in it exactly if it is at least 64
 offending-test : all-below 256 (λ m. Bool·beq (leb 64 m) (has m 6 || has m 7)) ≡ true
@@ -92,7 +94,8 @@ unfolding all-below has
 offending-test = refl
 
 pub has-offending : (m : ℕ) → m < 256 → leb 64 m ≡ (has m 6 || has m 7)
-has-offending m h = same-test (leb 64 m) (has m 6 || has m 7) (all-below-at 256 (λ m. Bool·beq (leb 64 m) (has m 6 || has m 7)) offending-test m h)
+has-offending m h =
+    same-test (leb 64 m) (has m 6 || has m 7) (all-below-at 256 (λ m. Bool·beq (leb 64 m) (has m 6 || has m 7)) offending-test m h)
 
 -- of a byte that is not 0, `trailingZeros 8` is the lowest number in it
 lowest-right : ℕ → Bool
@@ -108,18 +111,23 @@ or-comm true false = refl
 or-comm false true = refl
 or-comm false false = refl
 
-pub union-has : (n : ℕ) (f : ℕ → ℕ) (q : ℕ) → has (union n f) q ≡ some-below (λ i. has (f i) q) n
-unfolding union some-below
+pub union-has : (n : ℕ) (f : ℕ → ℕ) (q : ℕ) → has (union n f) q ≡ someBelow (λ i. has (f i) q) n
+unfolding union someBelow
 union-has zero f q = has-zero q
-union-has (suc n) f q = has-or (union n f) (f n) q ∙ ap (λ b. b || has (f n) q) (union-has n f q) ∙ or-comm (some-below (λ i. has (f i) q) n) (has (f n) q)
+union-has (suc n) f q = has-or (union n f) (f n) q ∙ ap (λ b. b || has (f n) q) (union-has n f q)
+    ∙ or-comm (someBelow (λ i. has (f i) q) n) (has (f n) q)
 
 pub union-lt : (n : ℕ) (f : ℕ → ℕ) → ((i : ℕ) → i < n → f i < 256) → union n f < 256
 unfolding union
 union-lt zero f h = lit< tt
 union-lt (suc n) f h = or-lt 8 (union n f) (f n) (union-lt n f (λ i l. h i (omega arith))) (h n (omega arith))
 
-pub pow-byte : (t : ℕ) → t < 8 → 2 ^ t < 256
+pow-byte : (t : ℕ) → t < 8 → 2 ^ t < 256
 pow-byte t h = pow-lt h
+
+-- the bit of a number below 8, as the code makes it
+pub bit-shifted : (t : ℕ) → t < 8 → 1 * 2 ^ t % 2 ^ 8 ≡ 2 ^ t
+bit-shifted t h = ap (λ (n : ℕ). n % 2 ^ 8) (one-mul (2 ^ t)) ∙ mod-eq-of-lt (pow-byte t h)
 
 -- the mask of the numbers below 8 that pass a test
 pub maskOf-has : (t : ℕ → Bool) (q : ℕ) → q < 8 → has (union 8 (λ i. cond (t i) (2 ^ i) 0)) q ≡ t q
@@ -133,12 +141,14 @@ maskOf-has t q l = both-ways (has m q) (t q) to from
     here i k false b h = not-both (has 0 q) h (has-zero q)
 
     to : has m q ≡ true → t q ≡ true
-    to h = let r = some-found 8 (λ i. has (cond (t i) (2 ^ i) 0) q) (sym (union-has 8 (λ i. cond (t i) (2 ^ i) 0) q) ∙ h) in here (r .0) (r .1) (t (r .0)) refl (r .2)
+    to h = let r = some-found 8 (λ i. has (cond (t i) (2 ^ i) 0) q) (sym (union-has 8 (λ i. cond (t i) (2 ^ i) 0) q) ∙ h) in
+        here (r .0) (r .1) (t (r .0)) refl (r .2)
 
     from : t q ≡ true → has m q ≡ true
     from h =
         union-has 8 (λ i. cond (t i) (2 ^ i) 0) q
-        ∙ some-at 8 (λ i. has (cond (t i) (2 ^ i) 0) q) q l (ap (λ (b : Bool). has (cond b (2 ^ q) 0) q) h ∙ has-pow q q l l ∙ eq-eqb q q refl)
+        ∙ some-at 8 (λ i. has (cond (t i) (2 ^ i) 0) q) q l
+        (ap (λ (b : Bool). has (cond b (2 ^ q) 0) q) h ∙ has-pow q q l l ∙ eq-eqb q q refl)
 
 pub maskOf-lt : (t : ℕ → Bool) → union 8 (λ i. cond (t i) (2 ^ i) 0) < 256
 maskOf-lt t = union-lt 8 (λ i. cond (t i) (2 ^ i) 0) (λ i l. go i l (t i))
@@ -148,9 +158,9 @@ maskOf-lt t = union-lt 8 (λ i. cond (t i) (2 ^ i) 0) (λ i l. go i l (t i))
     go i l false = lit< tt
 
 pub record Lowest (m : ℕ) : Type 0 where
-  pub below-8 : lowest m < 8
-  pub inside : has m (lowest m) ≡ true
-  pub no-lower : (q : ℕ) → q < lowest m → has m q ≡ false
+  pub below-8 : lowestIn m < 8
+  pub inside : has m (lowestIn m) ≡ true
+  pub no-lower : (q : ℕ) → q < lowestIn m → has m q ≡ false
 
 pub lowest-is : (m : ℕ) → m < 256 → eqb m 0 ≡ false → Lowest m
 unfolding lowest-right
@@ -166,7 +176,9 @@ lowest-is m h nz = go (or-cases (eqb m 0) _ (all-below-at 256 lowest-right lowes
         record {
           below-8 = omega (arith, leb-true t 7 (and-right (has m t) (leb t 7) l));
           inside = and-left (has m t) (leb t 7) l;
-          no-lower = λ q k. not-true (has m q) (all-below-at t (λ q. not (has m q)) (and-right (has m t && leb t 7) (all-below t (λ q. not (has m q))) e) q k);
+          no-lower =
+              λ q k. not-true (has m q)
+              (all-below-at t (λ q. not (has m q)) (and-right (has m t && leb t 7) (all-below t (λ q. not (has m q))) e) q k);
         }
 
 -- the set of one state
@@ -185,7 +197,16 @@ single-lt q = go (ltb q 8) refl
 pub has-single : (t q : ℕ) → t < 8 → q < 8 → has (single t) q ≡ eqb t q
 has-single t q h k = ap (λ (m : ℕ). has m q) (single-is t h) ∙ has-pow t q h k
 
--- ── Unions in another order ──
+-- ── Unions as numbers ──
+
+-- a union is no less than either of the two
+pub left-le : (a b : ℕ) → a ≤ bitOr a b
+left-le a b = omega (arith, or-add-and a b, and-le-r a b)
+
+pub right-le : (a b : ℕ) → b ≤ bitOr a b
+right-le a b = omega (arith, or-add-and a b, and-le-l a b)
+
+-- in another order
 
 or-low : (a b : ℕ) → bitOr a b % 2 ≡ max (a % 2) (b % 2)
 or-low a b = ap (λ (n : ℕ). n % 2) (or-step a b) ∙ digits-mod (bitOr (a / 2) (b / 2)) (omega arith)

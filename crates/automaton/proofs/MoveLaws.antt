@@ -9,8 +9,9 @@ use lib.Dec.{eqb, lit<}
 use lib.Bits.{bitOr, or-zero-l, or-lt}
 use borrow.Author.Tests.{eq-eqb, ne-eqb, eqb-true, eqb-false}
 use Rattle.usage.specs.declared.Edge.{Edge}
+use Rattle.usage.specs.Limits.{states}
 use Rattle.usage.specs.Policy.{Sees, named, own, other, Fires, Moves, along, stays, EdgesOk}
-use Rattle.usage.specs.Tests.{some-below}
+use Rattle.usage.specs.Tests.{someBelow}
 use Rattle.usage.proofs.Logic.{false-true, not-both, or-left, or-right, or-cases, and-left, and-right, and-both}
 use Rattle.automaton.specs.Mask.{has, single, union}
 use Rattle.automaton.specs.Move.{part, targets, image, move, labelled, fires, moveMask}
@@ -33,14 +34,21 @@ cond-true b m n e = ap (λ c. cond c m n) e
 
 -- every edge ends in a state 0 to 7
 abbrev pub Ends : List Edge → Type 0
-Ends es = (e : Edge) → List·Memᴰ e es → e .to < 8
+Ends es = (e : Edge) → List·Memᴰ e es → e .to < states
 
 ends-tail : {e : Edge} {es : List Edge} → Ends (e ∷ es) → Ends es
 ends-tail h e m = h e (List·Memᴰ·tail m)
 
 module _ (f : Edge → Bool) where
   found-here : (e : Edge) (es : List Edge) (q : ℕ) → (f e && eqb (e .from) q) ≡ true → Found f (e ∷ es) q
-  found-here e es q b = record { edge = e; there = List·Memᴰ·head refl; fires = and-left (f e) (eqb (e .from) q) b; leaves = eqb-true (e .from) q (and-right (f e) (eqb (e .from) q) b) }
+  found-here e es q b =
+      record {
+        edge = e;
+        there = List·Memᴰ·head refl;
+        fires = and-left (f e) (eqb (e .from) q) b;
+        leaves = eqb-true (e .from) q
+            (and-right (f e) (eqb (e .from) q) b);
+      }
 
   found-there : {e : Edge} {es : List Edge} {q : ℕ} → Found f es q → Found f (e ∷ es) q
   found-there r = record { edge = r .edge; there = List·Memᴰ·tail (r .there); fires = r .fires; leaves = r .leaves }
@@ -50,29 +58,35 @@ module _ (f : Edge → Bool) where
   Hit es q q′ = (r : Found f es q) × (r .edge .to ≡ q′)
 
   -- a target is the end of a matching edge
-  target-found : (es : List Edge) (q q′ : ℕ) → Ends es → q′ < 8 → has (targets f es q) q′ ≡ true → Hit es q q′
+  target-found : (es : List Edge) (q q′ : ℕ) → Ends es → q′ < states → has (targets f es q) q′ ≡ true → Hit es q q′
   unfolding targets found-here found-there
   target-found [] q q′ v l h = not-both (has 0 q′) h (has-zero q′)
-  target-found (e ∷ es) q q′ v l h = go (target-found es q q′ (ends-tail v) l) (or-cases (has (part f q e) q′) (has (targets f es q) q′) (sym (has-or (part f q e) (targets f es q) q′) ∙ h))
+  target-found (e ∷ es) q q′ v l h =
+      go (target-found es q q′ (ends-tail v) l)
+      (or-cases (has (part f q e) q′) (has (targets f es q) q′) (sym (has-or (part f q e) (targets f es q) q′) ∙ h))
     where
       here : (b : Bool) → (f e && eqb (e .from) q) ≡ b → has (cond b (single (e .to)) 0) q′ ≡ true → Hit (e ∷ es) q q′
       here true b h = (found-here e es q b, eqb-true (e .to) q′ (sym (has-single (e .to) q′ (v e (List·Memᴰ·head refl)) l) ∙ h))
       here false b h = not-both (has 0 q′) h (has-zero q′)
 
-      go : (has (targets f es q) q′ ≡ true → Hit es q q′) → (has (part f q e) q′ ≡ true) ⊎ (has (targets f es q) q′ ≡ true) → Hit (e ∷ es) q q′
+      go : (has (targets f es q) q′ ≡ true → Hit es q q′) → (has (part f q e) q′ ≡ true) ⊎ (has (targets f es q) q′ ≡ true)
+          → Hit (e ∷ es) q q′
       go ih (inl h) = here (f e && eqb (e .from) q) refl h
       go ih (inr h) = let r = ih h in (found-there (r .0), r .1)
 
   -- the end of a matching edge is a target
-  part-at : (e : Edge) → e .to < 8 → f e ≡ true → has (part f (e .from) e) (e .to) ≡ true
+  part-at : (e : Edge) → e .to < states → f e ≡ true → has (part f (e .from) e) (e .to) ≡ true
   part-at e l h =
-      ap (λ (m : ℕ). has m (e .to)) (cond-true (f e && eqb (e .from) (e .from)) (single (e .to)) 0 (and-both (f e) (eqb (e .from) (e .from)) h (eq-eqb (e .from) (e .from) refl)))
+      ap (λ (m : ℕ). has m (e .to))
+      (cond-true (f e && eqb (e .from) (e .from)) (single (e .to)) 0
+      (and-both (f e) (eqb (e .from) (e .from)) h (eq-eqb (e .from) (e .from) refl)))
       ∙ has-single (e .to) (e .to) l l ∙ eq-eqb (e .to) (e .to) refl
 
   target-at : (es : List Edge) (e : Edge) → Ends es → List·Memᴰ e es → f e ≡ true → has (targets f es (e .from)) (e .to) ≡ true
   unfolding targets
   target-at [] e v m h = absurd (List·Memᴰ·not-nil m)
-  target-at (d ∷ es) e v m h = has-or (part f (e .from) d) (targets f es (e .from)) (e .to) ∙ go (λ m. target-at es e (ends-tail v) m h) (List·Memᴰ·cases-cons m)
+  target-at (d ∷ es) e v m h = has-or (part f (e .from) d) (targets f es (e .from)) (e .to)
+      ∙ go (λ m. target-at es e (ends-tail v) m h) (List·Memᴰ·cases-cons m)
     where
       a : Bool
       a = has (part f (e .from) d) (e .to)
@@ -92,25 +106,32 @@ module _ (f : Edge → Bool) where
     where
       go : (b : Bool) → (f e && eqb (e .from) q) ≡ b → (eqb (targets f es q) 0 ≡ false → Found f es q) → Found f (e ∷ es) q
       go true b ih = found-here e es q b
-      go false b ih = found-there (ih (ap (λ (m : ℕ). eqb m 0) (sym (or-zero-l (targets f es q)) ∙ ap (λ (c : Bool). bitOr (cond c (single (e .to)) 0) (targets f es q)) (sym b)) ∙ h))
+      go false b ih =
+          found-there
+          (ih (ap (λ (m : ℕ). eqb m 0)
+          (sym (or-zero-l (targets f es q)) ∙ ap (λ (c : Bool). bitOr (cond c (single (e .to)) 0) (targets f es q)) (sym b)) ∙ h))
 
-  module _ (F : Edge → Type 0) (sound : (e : Edge) → f e ≡ true → F e) (full : (e : Edge) → F e → f e ≡ true) (es : List Edge) (v : Ends es) where
-    image-found : (q q′ : ℕ) → q < 8 → q′ < 8 → has (image f es q) q′ ≡ true → Goes F es q q′
+  module _ (F : Edge → Type 0) (sound : (e : Edge) → f e ≡ true → F e) (full : (e : Edge) → F e → f e ≡ true) (es : List Edge)
+      (v : Ends es) where
+    image-found : (q q′ : ℕ) → q < states → q′ < states → has (image f es q) q′ ≡ true → Goes F es q q′
     unfolding image
     image-found q q′ l k h = go (eqb (targets f es q) 0) refl h
       where
         go : (b : Bool) → eqb (targets f es q) 0 ≡ b → has (cond b (single q) (targets f es q)) q′ ≡ true → Goes F es q q′
         go true b h = remains (λ e m x p. not-both (has 0 (e .to))
-            (ap (λ (n : ℕ). has n (e .to)) (sym (eqb-true (targets f es q) 0 b)) ∙ ap (λ (q : ℕ). has (targets f es q) (e .to)) (sym p) ∙ target-at es e v m (full e x)) (has-zero (e .to)))
+            (ap (λ (n : ℕ). has n (e .to)) (sym (eqb-true (targets f es q) 0 b)) ∙ ap (λ (q : ℕ). has (targets f es q) (e .to)) (sym p)
+            ∙ target-at es e v m (full e x)) (has-zero (e .to)))
             (eqb-true q q′ (sym (has-single q q′ l k) ∙ h))
-        go false b h = let r = target-found es q q′ v k h in follows (r .0 .edge) (r .0 .there) (sound (r .0 .edge) (r .0 .fires)) (r .0 .leaves) (r .1)
+        go false b h = let r = target-found es q q′ v k h in
+            follows (r .0 .edge) (r .0 .there) (sound (r .0 .edge) (r .0 .fires)) (r .0 .leaves) (r .1)
 
-    image-at : (q q′ : ℕ) → q < 8 → Goes F es q q′ → has (image f es q) q′ ≡ true
+    image-at : (q q′ : ℕ) → q < states → Goes F es q q′ → has (image f es q) q′ ≡ true
     unfolding image
     image-at q q′ l (follows e m x p r) = go (eqb (targets f es q) 0) refl
       where
         at : has (targets f es q) q′ ≡ true
-        at = ap (λ (n : ℕ). has (targets f es q) n) (sym r) ∙ ap (λ (n : ℕ). has (targets f es n) (e .to)) (sym p) ∙ target-at es e v m (full e x)
+        at = ap (λ (n : ℕ). has (targets f es q) n) (sym r) ∙ ap (λ (n : ℕ). has (targets f es n) (e .to)) (sym p)
+            ∙ target-at es e v m (full e x)
 
         go : (b : Bool) → eqb (targets f es q) 0 ≡ b → has (cond b (single q) (targets f es q)) q′ ≡ true
         go true b = not-both (has 0 q′) (ap (λ (n : ℕ). has n q′) (sym (eqb-true (targets f es q) 0 b)) ∙ at) (has-zero q′)
@@ -118,23 +139,26 @@ module _ (f : Edge → Bool) where
     image-at q q′ l (remains n p) = go (eqb (targets f es q) 0) refl
       where
         go : (b : Bool) → eqb (targets f es q) 0 ≡ b → has (cond b (single q) (targets f es q)) q′ ≡ true
-        go true b = has-single q q′ l (subst (λ (n : ℕ). n < 8) p l) ∙ eq-eqb q q′ p
+        go true b = has-single q q′ l (subst (λ (n : ℕ). n < states) p l) ∙ eq-eqb q q′ p
         go false b = let r = target-any es q b in absurd (n (r .edge) (r .there) (sound (r .edge) (r .fires)) (r .leaves))
 
     -- The set is moved as its members are.
-    pub move-found : (m q′ : ℕ) → q′ < 8 → has (move f es m) q′ ≡ true → (q : ℕ) × (q < 8) × (has m q ≡ true) × Goes F es q q′
+    move-found : (m q′ : ℕ) → q′ < states → has (move f es m) q′ ≡ true → (q : ℕ) × (q < states) × (has m q ≡ true) × Goes F es q q′
     unfolding move
-    move-found m q′ k h = let r = some-found 8 _ (sym (union-has 8 (λ q. cond (has m q) (image f es q) 0) q′) ∙ h) in go (r .0) (r .1) (has m (r .0)) refl (r .2)
+    move-found m q′ k h = let r = some-found 8 _ (sym (union-has 8 (λ q. cond (has m q) (image f es q) 0) q′) ∙ h) in
+        go (r .0) (r .1) (has m (r .0)) refl (r .2)
       where
-        go : (q : ℕ) → q < 8 → (b : Bool) → has m q ≡ b → has (cond b (image f es q) 0) q′ ≡ true → (q : ℕ) × (q < 8) × (has m q ≡ true) × Goes F es q q′
+        go : (q : ℕ) → q < states → (b : Bool) → has m q ≡ b → has (cond b (image f es q) 0) q′ ≡ true
+            → (q : ℕ) × (q < states) × (has m q ≡ true) × Goes F es q q′
         go q l true b h = (q, l, b, image-found q q′ l k h)
         go q l false b h = not-both (has 0 q′) h (has-zero q′)
 
-    pub move-at : (m q q′ : ℕ) → q < 8 → has m q ≡ true → Goes F es q q′ → has (move f es m) q′ ≡ true
+    move-at : (m q q′ : ℕ) → q < states → has m q ≡ true → Goes F es q q′ → has (move f es m) q′ ≡ true
     unfolding move
     move-at m q q′ l h g =
         union-has 8 (λ q. cond (has m q) (image f es q) 0) q′
-        ∙ some-at 8 (λ q. has (cond (has m q) (image f es q) 0) q′) q l (ap (λ (n : ℕ). has n q′) (cond-true (has m q) (image f es q) 0 h) ∙ image-at q q′ l g)
+        ∙ some-at 8 (λ q. has (cond (has m q) (image f es q) 0) q′) q l
+        (ap (λ (n : ℕ). has n q′) (cond-true (has m q) (image f es q) 0 h) ∙ image-at q q′ l g)
 
   targets-lt : (es : List Edge) (q : ℕ) → targets f es q < 256
   unfolding targets
@@ -154,7 +178,7 @@ module _ (f : Edge → Bool) where
       go false = targets-lt es q
 
   -- a moved set is a byte again
-  pub move-lt : (es : List Edge) (m : ℕ) → move f es m < 256
+  move-lt : (es : List Edge) (m : ℕ) → move f es m < 256
   unfolding move
   move-lt es m = union-lt 8 (λ q. cond (has m q) (image f es q) 0) (λ q l. go q (has m q))
     where
@@ -178,17 +202,20 @@ goes-moves : {es : List Edge} {p a : ℕ} {sees : ℕ → ℕ → Type 0} {q q�
 goes-moves {es} {p} {a} {sees} {q} (follows e m f h t) =
     subst (λ (n : ℕ). Moves es p a sees q n) t (along e m (record { policy = f .policy; «from» = h; action = f .action; label = f .label }))
 goes-moves {es} {p} {a} {sees} {q} (remains n t) =
-    subst (λ (n : ℕ). Moves es p a sees q n) t (stays (λ e m f. n e m (record { policy = f .policy; action = f .action; label = f .label }) (f .from)))
+    subst (λ (n : ℕ). Moves es p a sees q n) t
+    (stays (λ e m f. n e m (record { policy = f .policy; action = f .action; label = f .label }) (f .from)))
 
-module _ (es : List Edge) (v : Ends es) (p a : ℕ) (sees : ℕ → ℕ → Type 0) (f : Edge → Bool) (sound : (e : Edge) → f e ≡ true → Matches p a sees e) (full : (e : Edge) → Matches p a sees e → f e ≡ true) where
-  pub moved-found : (m q′ : ℕ) → q′ < 8 → has (move f es m) q′ ≡ true → (q : ℕ) × (q < 8) × (has m q ≡ true) × Moves es p a sees q q′
+module _ (es : List Edge) (v : Ends es) (p a : ℕ) (sees : ℕ → ℕ → Type 0) (f : Edge → Bool)
+    (sound : (e : Edge) → f e ≡ true → Matches p a sees e) (full : (e : Edge) → Matches p a sees e → f e ≡ true) where
+  pub moved-found : (m q′ : ℕ) → q′ < states → has (move f es m) q′ ≡ true
+      → (q : ℕ) × (q < states) × (has m q ≡ true) × Moves es p a sees q q′
   moved-found m q′ k h = let g = move-found f (Matches p a sees) sound full es v m q′ k h in (g .0, g .1, g .2, goes-moves (g .3))
 
-  pub moved-at : (m q q′ : ℕ) → q < 8 → has m q ≡ true → Moves es p a sees q q′ → has (move f es m) q′ ≡ true
+  pub moved-at : (m q q′ : ℕ) → q < states → has m q ≡ true → Moves es p a sees q q′ → has (move f es m) q′ ≡ true
   moved-at m q q′ l h g = move-at f (Matches p a sees) sound full es v m q q′ l h (moves-goes g)
 
 -- no state but 0 to 7 is reached
-pub moves-lt : {es : List Edge} {p a : ℕ} {sees : ℕ → ℕ → Type 0} {q q′ : ℕ} → Ends es → q < 8 → Moves es p a sees q q′ → q′ < 8
+pub moves-lt : {es : List Edge} {p a : ℕ} {sees : ℕ → ℕ → Type 0} {q q′ : ℕ} → Ends es → q < states → Moves es p a sees q q′ → q′ < states
 moves-lt v l (along e m f) = v e m
 moves-lt v l (stays n) = l
 
@@ -214,7 +241,7 @@ sees-labelled true o (other h) = absurd (h (o .is refl))
 sees-labelled false o (other h) = refl
 
 module _ (p x a r : ℕ) (mine : Bool) (o : Own x r mine) where
-  pub fires-matches : (e : Edge) → fires p a r mine e ≡ true → Matches p a (Sees x r) e
+  fires-matches : (e : Edge) → fires p a r mine e ≡ true → Matches p a (Sees x r) e
   fires-matches e h =
       let b : Bool = eqb (e .policy) p && eqb (e .action) a in
       let l : Bool = labelled (e .on) (e .who) mine r in
@@ -224,7 +251,7 @@ module _ (p x a r : ℕ) (mine : Bool) (o : Own x r mine) where
         label = labelled-sees (e .on) (e .who) x r mine o (and-right b l h);
       }
 
-  pub matches-fires : (e : Edge) → Matches p a (Sees x r) e → fires p a r mine e ≡ true
+  matches-fires : (e : Edge) → Matches p a (Sees x r) e → fires p a r mine e ≡ true
   matches-fires e m =
       and-both (eqb (e .policy) p && eqb (e .action) a) (labelled (e .on) (e .who) mine r)
       (and-both (eqb (e .policy) p) (eqb (e .action) a) (eq-eqb (e .policy) p (m .policy)) (eq-eqb (e .action) a (m .action)))
@@ -232,13 +259,16 @@ module _ (p x a r : ℕ) (mine : Bool) (o : Own x r mine) where
 
 -- What `moveMask` gives is where the members of m may move.
 module _ (es : List Edge) (v : Ends es) (p x a r : ℕ) (mine : Bool) (o : Own x r mine) where
-  pub moveMask-found : (m q′ : ℕ) → q′ < 8 → has (moveMask es p a r mine m) q′ ≡ true → (q : ℕ) × (q < 8) × (has m q ≡ true) × Moves es p a (Sees x r) q q′
+  pub moveMask-found : (m q′ : ℕ) → q′ < states → has (moveMask es p a r mine m) q′ ≡ true
+      → (q : ℕ) × (q < states) × (has m q ≡ true) × Moves es p a (Sees x r) q q′
   unfolding moveMask
-  moveMask-found m q′ k h = moved-found es v p a (Sees x r) (fires p a r mine) (fires-matches p x a r mine o) (matches-fires p x a r mine o) m q′ k h
+  moveMask-found m q′ k h =
+      moved-found es v p a (Sees x r) (fires p a r mine) (fires-matches p x a r mine o) (matches-fires p x a r mine o) m q′ k h
 
-  pub moveMask-at : (m q q′ : ℕ) → q < 8 → has m q ≡ true → Moves es p a (Sees x r) q q′ → has (moveMask es p a r mine m) q′ ≡ true
+  pub moveMask-at : (m q q′ : ℕ) → q < states → has m q ≡ true → Moves es p a (Sees x r) q q′ → has (moveMask es p a r mine m) q′ ≡ true
   unfolding moveMask
-  moveMask-at m q q′ l h g = moved-at es v p a (Sees x r) (fires p a r mine) (fires-matches p x a r mine o) (matches-fires p x a r mine o) m q q′ l h g
+  moveMask-at m q q′ l h g =
+      moved-at es v p a (Sees x r) (fires p a r mine) (fires-matches p x a r mine o) (matches-fires p x a r mine o) m q q′ l h g
 
 pub moveMask-lt : (es : List Edge) (p a r : ℕ) (mine : Bool) (m : ℕ) → moveMask es p a r mine m < 256
 unfolding moveMask

@@ -3,7 +3,7 @@ use Prim.Native.Nat.{ℕ, zero, suc, _+_, _*_, _/_, _%_, _^_, _<_, _≤_}
 use mathlib.Core.Path.{_≡_, refl, sym, ap, ap₂, _∙_, subst}
 use mathlib.Core.Bool.{Bool, true, false, _&&_, cond}
 use mathlib.Core.List.{List, [], _∷_, _++_}
-use native.Mathlib.Nat.{add-zero, zero-add, one-mul, mod-eq-of-lt}
+use native.Mathlib.Nat.{add-zero, zero-add}
 use native.Mathlib.Omega.{arith}
 use native.Mathlib.Numerals.{add-one}
 use lib.Dec.{eqb, ltb, lit<}
@@ -12,57 +12,48 @@ use lib.Seq.{getD-set-same, getD-set-other, set-getD}
 use lib.Bits.{bitOr, or-zero-l, or-zero-r}
 use borrow.Author.Tests.{eq-eqb, ne-eqb, eqb-true, eqb-false, ltb-true, ltb-false, lt-ltb}
 use Rattle.usage.specs.declared.Edge.{Edge}
+use Rattle.usage.specs.Limits.{policies, states}
 use Rattle.usage.specs.Tables.{from, edgeAt}
 use Rattle.usage.proofs.Logic.{false-true, by-cases, last-or-lower}
 use Rattle.usage.proofs.TableLaws.{length-from, getD-from, from-snoc, from-ext, is-from}
 use Rattle.automaton.specs.Mask.{has, single, union}
-use Rattle.automaton.specs.Move.{part, targets, image, move, labelled, fires, moveMask, rowsOf, moveBy}
-use Rattle.automaton.specs.Rows.{endOf, joined, endsOf, stayed, movedBy}
-use Rattle.automaton.proofs.MaskLaws.{or-assoc, union-lt, single-is, pow-byte}
+use Rattle.automaton.specs.Move.{part, targets, image, move, labelled, fires, moveMask, rowPlaces, rowsOf, moveBy}
+use Rattle.automaton.specs.Code.{endOf, joined, edgeEnds, stayed, moveByPolicy}
+use Rattle.automaton.proofs.MaskLaws.{or-assoc, bit-shifted, single-is}
 use Rattle.automaton.proofs.MoveLaws.{image-lt}
 
 -- ── Places ──
 
-place-policy : (p q : ℕ) → q < 8 → (p * 8 + q) / 8 ≡ p
+place-policy : (p q : ℕ) → q < states → (p * states + q) / states ≡ p
 place-policy p q h = omega arith
 
-place-state : (p q : ℕ) → q < 8 → (p * 8 + q) % 8 ≡ q
+place-state : (p q : ℕ) → q < states → (p * states + q) % states ≡ q
 place-state p q h = omega arith
 
 -- ── Moving by rows ──
 
-pub union-ext : (n : ℕ) (f g : ℕ → ℕ) → ((i : ℕ) → i < n → f i ≡ g i) → union n f ≡ union n g
+union-ext : (n : ℕ) (f g : ℕ → ℕ) → ((i : ℕ) → i < n → f i ≡ g i) → union n f ≡ union n g
 unfolding union
 union-ext zero f g h = refl
-union-ext (suc n) f g h = ap (λ (m : ℕ). bitOr m (f n)) (union-ext n f g (λ i l. h i (omega arith))) ∙ ap (λ (m : ℕ). bitOr (union n g) m) (h n (omega arith))
-
--- two tables that agree at the eight places
-pub moveBy-ext : (s t : List ℕ) (k j m : ℕ) → ((q : ℕ) → q < 8 → getD s (k + q) 0 ≡ getD t (j + q) 0) → moveBy s k m ≡ moveBy t j m
-unfolding moveBy
-moveBy-ext s t k j m h =
-    union-ext 8 (λ q. cond (has m q) (getD s (k + q) 0) 0) (λ q. cond (has m q) (getD t (j + q) 0) 0) (λ q l. ap (λ (n : ℕ). cond (has m q) n 0) (h q l))
+union-ext (suc n) f g h = ap (λ (m : ℕ). bitOr m (f n)) (union-ext n f g (λ i l. h i (omega arith)))
+    ∙ ap (λ (m : ℕ). bitOr (union n g) m) (h n (omega arith))
 
 -- the eight rows held as numbers
 pub moveBy-held : (s : List ℕ) (k m : ℕ)
-    → moveBy s k m ≡ moveBy (getD s k 0 ∷ getD s (k + 1) 0 ∷ getD s (k + 2) 0 ∷ getD s (k + 3) 0 ∷ getD s (k + 4) 0 ∷ getD s (k + 5) 0 ∷ getD s (k + 6) 0 ∷ getD s (k + 7) 0 ∷ []) 0 m
+    → moveBy s k m
+    ≡ moveBy (getD s k 0 ∷ getD s (k + 1) 0 ∷ getD s (k + 2) 0 ∷ getD s (k + 3) 0 ∷ getD s (k + 4) 0 ∷ getD s (k + 5) 0 ∷ getD s
+    (k + 6) 0 ∷ getD s (k + 7) 0 ∷ []) 0 m
 unfolding moveBy union
 moveBy-held s k m = rw (add-zero k)
 
 -- so of a policy
-pub movedBy-held : (s : List ℕ) (p m r : ℕ) → p < 8
-    → r ≡ moveBy (getD s (p * 8) 0 ∷ getD s (p * 8 + 1) 0 ∷ getD s (p * 8 + 2) 0 ∷ getD s (p * 8 + 3) 0 ∷ getD s (p * 8 + 4) 0 ∷ getD s (p * 8 + 5) 0 ∷ getD s (p * 8 + 6) 0 ∷ getD s (p * 8 + 7) 0 ∷ []) 0 m
-    → r ≡ movedBy s p m
-unfolding movedBy
-movedBy-held s p m r h e = e ∙ sym (moveBy-held s (p * 8) m) ∙ sym (ap (λ b. cond b (moveBy s (p * 8) m) m) (lt-ltb p 8 h))
-
--- what is moved by rows of bytes is a byte
-pub moveBy-lt : (s : List ℕ) (k m : ℕ) → ((i : ℕ) → getD s i 0 < 256) → moveBy s k m < 256
-unfolding moveBy
-moveBy-lt s k m h = union-lt 8 (λ q. cond (has m q) (getD s (k + q) 0) 0) (λ q l. go q (has m q))
-  where
-    go : (q : ℕ) (b : Bool) → cond b (getD s (k + q) 0) 0 < 256
-    go q true = h (k + q)
-    go q false = lit< tt
+pub movedBy-held : (s : List ℕ) (p m r : ℕ) → p < policies
+    → r ≡ moveBy
+    (getD s (p * states) 0 ∷ getD s (p * states + 1) 0 ∷ getD s (p * states + 2) 0 ∷ getD s (p * states + 3) 0 ∷ getD s
+    (p * states + 4) 0 ∷ getD s (p * states + 5) 0 ∷ getD s (p * states + 6) 0 ∷ getD s (p * states + 7) 0 ∷ []) 0 m
+    → r ≡ moveByPolicy s p m
+unfolding moveByPolicy
+movedBy-held s p m r h e = e ∙ sym (moveBy-held s (p * states) m) ∙ sym (ap (λ b. cond b (moveBy s (p * states) m) m) (lt-ltb p policies h))
 
 -- the eight parts of a moved set, joined in order
 or-both : {u v s t : ℕ} → u ≡ v → s ≡ t → bitOr u s ≡ bitOr v t
@@ -70,67 +61,59 @@ or-both d e = ap₂ (λ (m n : ℕ). bitOr m n) d e
 
 module _ (x a b c d e f g h : ℕ) where
   pub moveBy-parts : (p1 p2 p3 p4 p5 p6 p7 p8 : ℕ)
-      → p1 ≡ cond (eqb (x / 1 % 2) 1) a 0 → p2 ≡ cond (eqb (x / 2 % 2) 1) b 0 → p3 ≡ cond (eqb (x / 4 % 2) 1) c 0 → p4 ≡ cond (eqb (x / 8 % 2) 1) d 0 → p5 ≡ cond (eqb (x / 16 % 2) 1) e 0 → p6 ≡ cond (eqb (x / 32 % 2) 1) f 0 → p7 ≡ cond (eqb (x / 64 % 2) 1) g 0 → p8 ≡ cond (eqb (x / 128 % 2) 1) h 0
+      → p1 ≡ cond (eqb (x / 1 % 2) 1) a 0 → p2 ≡ cond (eqb (x / 2 % 2) 1) b 0 → p3 ≡ cond (eqb (x / 4 % 2) 1) c 0
+      → p4 ≡ cond (eqb (x / 8 % 2) 1) d 0 → p5 ≡ cond (eqb (x / 16 % 2) 1) e 0 → p6 ≡ cond (eqb (x / 32 % 2) 1) f 0
+      → p7 ≡ cond (eqb (x / 64 % 2) 1) g 0 → p8 ≡ cond (eqb (x / 128 % 2) 1) h 0
       → bitOr (bitOr (bitOr (bitOr (bitOr (bitOr (bitOr p1 p2) p3) p4) p5) p6) p7) p8 ≡ moveBy (a ∷ b ∷ c ∷ d ∷ e ∷ f ∷ g ∷ h ∷ []) 0 x
   unfolding moveBy union has
-  moveBy-parts p1 p2 p3 p4 p5 p6 p7 p8 e1 e2 e3 e4 e5 e6 e7 e8 = or-both (or-both (or-both (or-both (or-both (or-both (or-both (e1 ∙ sym (or-zero-l _)) e2) e3) e4) e5) e6) e7) e8
+  moveBy-parts p1 p2 p3 p4 p5 p6 p7 p8 e1 e2 e3 e4 e5 e6 e7 e8 =
+      or-both (or-both (or-both (or-both (or-both (or-both (or-both (e1 ∙ sym (or-zero-l _)) e2) e3) e4) e5) e6) e7) e8
 
 module _ (es : List Edge) (a r : ℕ) (mine : Bool) where
-  pub rows-length : length (rowsOf es a r mine) ≡ 64
+  rows-length : length (rowsOf es a r mine) ≡ rowPlaces
   unfolding rowsOf
-  rows-length = length-from (λ k. image (fires (k / 8) a r mine) es (k % 8)) 0 64
+  rows-length = length-from (λ k. image (fires (k / states) a r mine) es (k % states)) 0 rowPlaces
 
-  pub rows-at : (k : ℕ) → k < 64 → getD (rowsOf es a r mine) k 0 ≡ image (fires (k / 8) a r mine) es (k % 8)
+  rows-at : (k : ℕ) → k < rowPlaces → getD (rowsOf es a r mine) k 0 ≡ image (fires (k / states) a r mine) es (k % states)
   unfolding rowsOf
-  rows-at k h = getD-from (λ k. image (fires (k / 8) a r mine) es (k % 8)) 0 64 k 0 h ∙ ap (λ (k : ℕ). image (fires (k / 8) a r mine) es (k % 8)) (zero-add k)
+  rows-at k h = getD-from (λ k. image (fires (k / states) a r mine) es (k % states)) 0 rowPlaces k 0 h
+      ∙ ap (λ (k : ℕ). image (fires (k / states) a r mine) es (k % states)) (zero-add k)
 
-  pub rows-place : (p q : ℕ) → p < 8 → q < 8 → getD (rowsOf es a r mine) (p * 8 + q) 0 ≡ image (fires p a r mine) es q
+  rows-place : (p q : ℕ) → p < policies → q < states → getD (rowsOf es a r mine) (p * states + q) 0 ≡ image (fires p a r mine) es q
   rows-place p q h l =
-      rows-at (p * 8 + q) (omega arith)
-      ∙ ap (λ (n : ℕ). image (fires n a r mine) es ((p * 8 + q) % 8)) (place-policy p q l)
+      rows-at (p * states + q) (omega arith)
+      ∙ ap (λ (n : ℕ). image (fires n a r mine) es ((p * states + q) % states)) (place-policy p q l)
       ∙ ap (λ (n : ℕ). image (fires p a r mine) es n) (place-state p q l)
 
   pub rows-lt : (k : ℕ) → getD (rowsOf es a r mine) k 0 < 256
-  rows-lt k = go (ltb k 64) refl
+  rows-lt k = go (ltb k rowPlaces) refl
     where
-      go : (b : Bool) → ltb k 64 ≡ b → getD (rowsOf es a r mine) k 0 < 256
-      go true b = subst (λ (n : ℕ). n < 256) (sym (rows-at k (ltb-true k 64 b))) (image-lt (fires (k / 8) a r mine) es (k % 8))
+      go : (b : Bool) → ltb k rowPlaces ≡ b → getD (rowsOf es a r mine) k 0 < 256
+      go true b =
+          subst (λ (n : ℕ). n < 256) (sym (rows-at k (ltb-true k rowPlaces b))) (image-lt (fires (k / states) a r mine) es (k % states))
       go false b =
           let e = rows-length in
-          let l = ltb-false k 64 b in
+          let l = ltb-false k rowPlaces b in
           subst (λ (n : ℕ). n < 256) (sym (List·getD-eq-default (rowsOf es a r mine) 0 (omega arith))) (lit< tt)
 
   -- a set is moved by the rows of its policy as it is moved by the edges
-  pub moveBy-rows : (p m : ℕ) → p < 8 → moveBy (rowsOf es a r mine) (p * 8) m ≡ moveMask es p a r mine m
+  pub moveBy-rows : (p m : ℕ) → p < policies → moveBy (rowsOf es a r mine) (p * states) m ≡ moveMask es p a r mine m
   unfolding moveBy moveMask move
   moveBy-rows p m h =
-      union-ext 8 (λ q. cond (has m q) (getD (rowsOf es a r mine) (p * 8 + q) 0) 0) (λ q. cond (has m q) (image (fires p a r mine) es q) 0)
+      union-ext states (λ q. cond (has m q) (getD (rowsOf es a r mine) (p * states + q) 0) 0)
+      (λ q. cond (has m q) (image (fires p a r mine) es q) 0)
       (λ q l. ap (λ (n : ℕ). cond (has m q) n 0) (rows-place p q h l))
-
-  -- so with the eight rows held as numbers, which is what `image` gives
-  pub moveMask-held : (s : List ℕ) (p m : ℕ) → s ≡ rowsOf es a r mine → p < 8
-      → moveBy (getD s (p * 8) 0 ∷ getD s (p * 8 + 1) 0 ∷ getD s (p * 8 + 2) 0 ∷ getD s (p * 8 + 3) 0 ∷ getD s (p * 8 + 4) 0 ∷ getD s (p * 8 + 5) 0 ∷ getD s (p * 8 + 6) 0 ∷ getD s (p * 8 + 7) 0 ∷ []) 0 m
-      ≡ moveMask es p a r mine m
-  moveMask-held s p m e h = sym (moveBy-held s (p * 8) m) ∙ ap (λ (t : List ℕ). moveBy t (p * 8) m) e ∙ moveBy-rows p m h
-
-  -- and of a table of rows, by `move_set`
-  pub moveMask-moved : (s : List ℕ) (p m : ℕ) → s ≡ rowsOf es a r mine → p < 8 → movedBy s p m ≡ moveMask es p a r mine m
-  unfolding movedBy
-  moveMask-moved s p m e h = ap (λ b. cond b (moveBy s (p * 8) m) m) (lt-ltb p 8 h) ∙ ap (λ (t : List ℕ). moveBy t (p * 8) m) e ∙ moveBy-rows p m h
 
 -- ── The ends of one more edge ──
 
-pub targets-snoc : (f : Edge → Bool) (es : List Edge) (e : Edge) (q : ℕ) → targets f (es ++ (e ∷ [])) q ≡ bitOr (targets f es q) (part f q e)
+targets-snoc : (f : Edge → Bool) (es : List Edge) (e : Edge) (q : ℕ) → targets f (es ++ (e ∷ [])) q ≡ bitOr (targets f es q) (part f q e)
 unfolding targets
 targets-snoc f [] e q = or-zero-r (part f q e) ∙ sym (or-zero-l (part f q e))
-targets-snoc f (d ∷ es) e q = ap (λ (m : ℕ). bitOr (part f q d) m) (targets-snoc f es e q) ∙ sym (or-assoc (part f q d) (targets f es q) (part f q e))
+targets-snoc f (d ∷ es) e q = ap (λ (m : ℕ). bitOr (part f q d) m) (targets-snoc f es e q)
+    ∙ sym (or-assoc (part f q d) (targets f es q) (part f q e))
 
 edges-more : (t : List ℕ) (i : ℕ) → from (edgeAt t) 0 (suc i) ≡ from (edgeAt t) 0 i ++ (edgeAt t i ∷ [])
 edges-more t i = from-snoc (edgeAt t) 0 i ∙ ap (λ (j : ℕ). from (edgeAt t) 0 i ++ (edgeAt t j ∷ [])) (zero-add i)
-
-pub targets-more : (f : Edge → Bool) (t : List ℕ) (i q : ℕ)
-    → targets f (from (edgeAt t) 0 (i + 1)) q ≡ bitOr (targets f (from (edgeAt t) 0 i) q) (part f q (edgeAt t i))
-targets-more f t i q = rw (add-one i, edges-more t i) (targets-snoc f (from (edgeAt t) 0 i) (edgeAt t i) q)
 
 -- the tests of an edge: of its policy (b), action (c), label (l) and state (d)
 gate-on : (b c l d : Bool) → b ≡ true → c ≡ true → d ≡ true → (((b && c) && l) && d) ≡ l
@@ -148,53 +131,61 @@ gate-off true true false d e = refl
 
 module _ (es : List Edge) (e : Edge) (a r : ℕ) (mine : Bool) where
   abbrev old : ℕ → ℕ
-  old k = targets (fires (k / 8) a r mine) es (k % 8)
+  old k = targets (fires (k / states) a r mine) es (k % states)
 
   abbrev new : ℕ → ℕ
-  new k = targets (fires (k / 8) a r mine) (es ++ (e ∷ [])) (k % 8)
+  new k = targets (fires (k / states) a r mine) (es ++ (e ∷ [])) (k % states)
 
   -- the edge leaves the state of place k, and has the action
   abbrev tests : ℕ → Bool
-  tests k = eqb (e .action) a && (eqb (e .policy) (k / 8) && eqb (e .from) (k % 8))
+  tests k = eqb (e .action) a && (eqb (e .policy) (k / states) && eqb (e .from) (k % states))
 
   unmet : (k : ℕ) → tests k ≡ false → new k ≡ old k
   unmet k h =
-      targets-snoc (fires (k / 8) a r mine) es e (k % 8)
-      ∙ ap (λ b. bitOr (old k) (cond b (single (e .to)) 0)) (gate-off (eqb (e .policy) (k / 8)) (eqb (e .action) a) (labelled (e .on) (e .who) mine r) (eqb (e .from) (k % 8)) h)
+      targets-snoc (fires (k / states) a r mine) es e (k % states)
+      ∙ ap (λ b. bitOr (old k) (cond b (single (e .to)) 0))
+      (gate-off (eqb (e .policy) (k / states)) (eqb (e .action) a) (labelled (e .on) (e .who) mine r) (eqb (e .from) (k % states)) h)
       ∙ or-zero-r (old k)
 
-  met : (k : ℕ) → e .action ≡ a → e .policy ≡ k / 8 → e .from ≡ k % 8 → new k ≡ bitOr (old k) (endOf (e .on) (e .who) (e .to) mine r)
+  met : (k : ℕ) → e .action ≡ a → e .policy ≡ k / states → e .from ≡ k % states
+      → new k ≡ bitOr (old k) (endOf (e .on) (e .who) (e .to) mine r)
   met k x y z =
-      targets-snoc (fires (k / 8) a r mine) es e (k % 8)
-      ∙ ap (λ b. bitOr (old k) (cond b (single (e .to)) 0)) (gate-on (eqb (e .policy) (k / 8)) (eqb (e .action) a) (labelled (e .on) (e .who) mine r) (eqb (e .from) (k % 8)) (eq-eqb _ _ y) (eq-eqb _ _ x) (eq-eqb _ _ z))
+      targets-snoc (fires (k / states) a r mine) es e (k % states)
+      ∙ ap (λ b. bitOr (old k) (cond b (single (e .to)) 0))
+      (gate-on (eqb (e .policy) (k / states)) (eqb (e .action) a) (labelled (e .on) (e .who) mine r) (eqb (e .from) (k % states))
+      (eq-eqb _ _ y) (eq-eqb _ _ x) (eq-eqb _ _ z))
 
   -- an edge with another action adds nothing
-  ends-other : (e .action ≡ a → ⊥) → endsOf (es ++ (e ∷ [])) a r mine ≡ endsOf es a r mine
-  unfolding endsOf
-  ends-other h = from-ext new old 0 64 (λ i l. unmet (0 + i) (ap (λ b. b && (eqb (e .policy) ((0 + i) / 8) && eqb (e .from) ((0 + i) % 8))) (ne-eqb _ _ h)))
+  ends-other : (e .action ≡ a → ⊥) → edgeEnds (es ++ (e ∷ [])) a r mine ≡ edgeEnds es a r mine
+  unfolding edgeEnds
+  ends-other h =
+      from-ext new old 0 rowPlaces
+      (λ i l. unmet (0 + i) (ap (λ b. b && (eqb (e .policy) ((0 + i) / states) && eqb (e .from) ((0 + i) % states))) (ne-eqb _ _ h)))
 
   -- an edge with the action is joined at its place, where it has one
-  ends-joined : e .action ≡ a → joined (endsOf es a r mine) (e .policy) (e .from) (endOf (e .on) (e .who) (e .to) mine r) ≡ endsOf (es ++ (e ∷ [])) a r mine
-  unfolding joined endsOf
-  ends-joined x = go (ltb (e .policy) 8) (ltb (e .from) 8) refl refl
+  ends-joined : e .action ≡ a
+      → joined (edgeEnds es a r mine) (e .policy) (e .from) (endOf (e .on) (e .who) (e .to) mine r) ≡ edgeEnds (es ++ (e ∷ [])) a r mine
+  unfolding joined edgeEnds
+  ends-joined x = go (ltb (e .policy) policies) (ltb (e .from) states) refl refl
     where
       at : ℕ
-      at = e .policy * 8 + e .from
+      at = e .policy * states + e .from
 
       all : List ℕ
-      all = from old 0 64
+      all = from old 0 rowPlaces
 
       more : List ℕ
       more = set all at (bitOr (getD all at 0) (endOf (e .on) (e .who) (e .to) mine r))
 
-      all-length : length all ≡ 64
-      all-length = length-from old 0 64
+      all-length : length all ≡ rowPlaces
+      all-length = length-from old 0 rowPlaces
 
-      all-at : (k : ℕ) → k < 64 → getD all k 0 ≡ old k
-      all-at k l = getD-from old 0 64 k 0 l ∙ ap old (zero-add k)
+      all-at : (k : ℕ) → k < rowPlaces → getD all k 0 ≡ old k
+      all-at k l = getD-from old 0 rowPlaces k 0 l ∙ ap old (zero-add k)
 
-      elsewhere : (k : ℕ) → ((e .policy ≡ k / 8) × (e .from ≡ k % 8) → ⊥) → tests k ≡ false
-      elsewhere k n = both (eqb (e .action) a) (eqb (e .policy) (k / 8)) (eqb (e .from) (k % 8)) (λ y z. n (eqb-true _ _ y, eqb-true _ _ z))
+      elsewhere : (k : ℕ) → ((e .policy ≡ k / states) × (e .from ≡ k % states) → ⊥) → tests k ≡ false
+      elsewhere k n =
+          both (eqb (e .action) a) (eqb (e .policy) (k / states)) (eqb (e .from) (k % states)) (λ y z. n (eqb-true _ _ y, eqb-true _ _ z))
         where
           both : (x b d : Bool) → (b ≡ true → d ≡ true → ⊥) → (x && (b && d)) ≡ false
           both false b d f = refl
@@ -202,10 +193,10 @@ module _ (es : List Edge) (e : Edge) (a r : ℕ) (mine : Bool) where
           both true true false f = refl
           both true true true f = absurd (f refl refl)
 
-      each : e .policy < 8 → e .from < 8 → (k : ℕ) → k < 64 → (b : Bool) → eqb k at ≡ b → getD more k 0 ≡ new k
+      each : e .policy < policies → e .from < states → (k : ℕ) → k < rowPlaces → (b : Bool) → eqb k at ≡ b → getD more k 0 ≡ new k
       each y z k l true b =
           let i : k ≡ at = eqb-true k at b in
-          let j : at < 64 = omega arith in
+          let j : at < rowPlaces = omega arith in
           ap (λ (n : ℕ). getD more n 0) i
           ∙ getD-set-same all at _ 0 (subst (λ (n : ℕ). at < n) (sym all-length) j)
           ∙ ap (λ (n : ℕ). bitOr n (endOf (e .on) (e .who) (e .to) mine r)) (all-at at j)
@@ -215,38 +206,46 @@ module _ (es : List Edge) (e : Edge) (a r : ℕ) (mine : Bool) where
           let i = eqb-false k at b in
           getD-set-other all at k _ 0 i ∙ all-at k l ∙ sym (unmet k (elsewhere k (λ w. let u = w .0 in let v = w .1 in i (omega arith))))
 
-      go : (b d : Bool) → ltb (e .policy) 8 ≡ b → ltb (e .from) 8 ≡ d → cond (b && d) more all ≡ from new 0 64
-      go true true y z = is-from new 0 64 more (length-set all at _ ∙ all-length) (λ k l. each (ltb-true _ _ y) (ltb-true _ _ z) k l (eqb k at) refl)
-      go true false y z = from-ext old new 0 64 (λ i l. sym (unmet (0 + i) (elsewhere (0 + i) (λ w. let u = w .1 in let v = ltb-false (e .from) 8 z in omega arith))))
-      go false d y z = from-ext old new 0 64 (λ i l. sym (unmet (0 + i) (elsewhere (0 + i) (λ w. let u = w .0 in let v = ltb-false (e .policy) 8 y in omega arith))))
+      go : (b d : Bool) → ltb (e .policy) policies ≡ b → ltb (e .from) states ≡ d → cond (b && d) more all ≡ from new 0 rowPlaces
+      go true true y z =
+          is-from new 0 rowPlaces more (length-set all at _ ∙ all-length)
+          (λ k l. each (ltb-true _ _ y) (ltb-true _ _ z) k l (eqb k at) refl)
+      go true false y z =
+          from-ext old new 0 rowPlaces
+          (λ i l. sym (unmet (0 + i) (elsewhere (0 + i) (λ w. let u = w .1 in let v = ltb-false (e .from) states z in omega arith))))
+      go false d y z =
+          from-ext old new 0 rowPlaces
+          (λ i l. sym
+          (unmet (0 + i) (elsewhere (0 + i) (λ w. let u = w .0 in let v = ltb-false (e .policy) policies y in omega arith))))
 
 -- the same over the first i edges of a table
 module _ (t : List ℕ) (a r : ℕ) (mine : Bool) where
-  pub ends-none : replicate 64 0 ≡ endsOf (from (edgeAt t) 0 0) a r mine
-  unfolding endsOf from targets
+  pub ends-none : replicate rowPlaces 0 ≡ edgeEnds (from (edgeAt t) 0 0) a r mine
+  unfolding edgeEnds from targets
   ends-none = refl
 
-  pub ends-skip : (i : ℕ) → (getD t (6 * i + 2) 0 ≡ a → ⊥) → endsOf (from (edgeAt t) 0 i) a r mine ≡ endsOf (from (edgeAt t) 0 (i + 1)) a r mine
+  pub ends-skip : (i : ℕ) → (getD t (6 * i + 2) 0 ≡ a → ⊥)
+      → edgeEnds (from (edgeAt t) 0 i) a r mine ≡ edgeEnds (from (edgeAt t) 0 (i + 1)) a r mine
   ends-skip i h = rw (add-one i, edges-more t i) (sym (ends-other (from (edgeAt t) 0 i) (edgeAt t i) a r mine h))
 
-  pub ends-join : (i : ℕ) → getD t (6 * i + 2) 0 ≡ a → (s : List ℕ) (m : ℕ) → s ≡ endsOf (from (edgeAt t) 0 i) a r mine
+  pub ends-join : (i : ℕ) → getD t (6 * i + 2) 0 ≡ a → (s : List ℕ) (m : ℕ) → s ≡ edgeEnds (from (edgeAt t) 0 i) a r mine
       → m ≡ endOf (getD t (6 * i + 3) 0) (getD t (6 * i + 4) 0) (getD t (6 * i + 5) 0) mine r
-      → joined s (getD t (6 * i) 0) (getD t (6 * i + 1) 0) m ≡ endsOf (from (edgeAt t) 0 (i + 1)) a r mine
+      → joined s (getD t (6 * i) 0) (getD t (6 * i + 1) 0) m ≡ edgeEnds (from (edgeAt t) 0 (i + 1)) a r mine
   ends-join i h s m d e = rw (d, e, add-one i, edges-more t i) (ends-joined (from (edgeAt t) 0 i) (edgeAt t i) a r mine h)
 
 -- joining the empty set changes nothing
 pub joined-none : (t : List ℕ) (p q : ℕ) → joined t p q 0 ≡ t
 unfolding joined
-joined-none t p q = by-cond (ltb p 8 && ltb q 8)
+joined-none t p q = by-cond (ltb p policies && ltb q states)
   where
-    by-cond : (b : Bool) → cond b (set t (p * 8 + q) (bitOr (getD t (p * 8 + q) 0) 0)) t ≡ t
-    by-cond true = ap (set t (p * 8 + q)) (or-zero-r (getD t (p * 8 + q) 0)) ∙ set-getD t (p * 8 + q) 0
+    by-cond : (b : Bool) → cond b (set t (p * states + q) (bitOr (getD t (p * states + q) 0) 0)) t ≡ t
+    by-cond true = ap (set t (p * states + q)) (or-zero-r (getD t (p * states + q) 0)) ∙ set-getD t (p * states + q) 0
     by-cond false = refl
 
 -- ── States that stay ──
 
 abbrev stayAt : List ℕ → ℕ → ℕ
-stayAt t k = cond (eqb (getD t k 0) 0) (single (k % 8)) (getD t k 0)
+stayAt t k = cond (eqb (getD t k 0) 0) (single (k % states)) (getD t k 0)
 
 -- the table s is t, with the places below k as they are to be
 pub record Staying (t s : List ℕ) (k : ℕ) : Type 0 where
@@ -258,9 +257,9 @@ module _ (t : List ℕ) where
   pub staying-none : Staying t t 0
   staying-none = record { size = refl; done = λ j l. absurd (omega arith); ahead = λ j l. refl }
 
-  pub staying-all : (s : List ℕ) → length t ≡ 64 → Staying t s 64 → s ≡ stayed t
+  pub staying-all : (s : List ℕ) → length t ≡ rowPlaces → Staying t s rowPlaces → s ≡ stayed t
   unfolding stayed
-  staying-all s e h = is-from (stayAt t) 0 64 s (h .size ∙ e) (h .done)
+  staying-all s e h = is-from (stayAt t) 0 rowPlaces s (h .size ∙ e) (h .done)
 
   module _ (s : List ℕ) (k : ℕ) (h : Staying t s k) where
     -- a place with an end is left
@@ -268,41 +267,43 @@ module _ (t : List ℕ) where
     staying-left n = record {
       size = h .size;
       done = λ j l. by-cases (last-or-lower j k (omega arith))
-          (λ e. rw e (h .ahead k (omega arith) ∙ sym (ap (λ b. cond b (single (k % 8)) (getD t k 0)) (ne-eqb (getD t k 0) 0 (λ z. n (h .ahead k (omega arith) ∙ z))))))
+          (λ e. rw e
+          (h .ahead k (omega arith)
+          ∙ sym (ap (λ b. cond b (single (k % states)) (getD t k 0)) (ne-eqb (getD t k 0) 0 (λ z. n (h .ahead k (omega arith) ∙ z))))))
           (λ i. h .done j i);
       ahead = λ j l. h .ahead j (omega arith);
     }
 
     -- a place with none takes its state
-    pub staying-set : k < length t → getD s k 0 ≡ 0 → Staying t (set s k (single (k % 8))) (k + 1)
+    pub staying-set : k < length t → getD s k 0 ≡ 0 → Staying t (set s k (single (k % states))) (k + 1)
     staying-set b n = record {
-      size = length-set s k (single (k % 8)) ∙ h .size;
+      size = length-set s k (single (k % states)) ∙ h .size;
       done = λ j l. by-cases (last-or-lower j k (omega arith))
-          (λ e. rw e (getD-set-same s k (single (k % 8)) 0 (subst (λ (m : ℕ). k < m) (sym (h .size)) b) ∙ sym (ap (λ b. cond b (single (k % 8)) (getD t k 0)) (eq-eqb (getD t k 0) 0 (sym (h .ahead k (omega arith)) ∙ n)))))
-          (λ i. getD-set-other s k j (single (k % 8)) 0 (λ z. omega arith) ∙ h .done j i);
-      ahead = λ j l. getD-set-other s k j (single (k % 8)) 0 (λ z. omega arith) ∙ h .ahead j (omega arith);
+          (λ e. rw e
+          (getD-set-same s k (single (k % states)) 0 (subst (λ (m : ℕ). k < m) (sym (h .size)) b)
+          ∙ sym (ap (λ b. cond b (single (k % states)) (getD t k 0)) (eq-eqb (getD t k 0) 0 (sym (h .ahead k (omega arith)) ∙ n)))))
+          (λ i. getD-set-other s k j (single (k % states)) 0 (λ z. omega arith) ∙ h .done j i);
+      ahead = λ j l. getD-set-other s k j (single (k % states)) 0 (λ z. omega arith) ∙ h .ahead j (omega arith);
     }
 
-pub ends-length : (es : List Edge) (a r : ℕ) (mine : Bool) → length (endsOf es a r mine) ≡ 64
-unfolding endsOf
-ends-length es a r mine = length-from (λ k. targets (fires (k / 8) a r mine) es (k % 8)) 0 64
+pub ends-length : (es : List Edge) (a r : ℕ) (mine : Bool) → length (edgeEnds es a r mine) ≡ rowPlaces
+unfolding edgeEnds
+ends-length es a r mine = length-from (λ k. targets (fires (k / states) a r mine) es (k % states)) 0 rowPlaces
 
 -- the ends, with the states that stay, are the rows
-pub stayed-rows : (es : List Edge) (a r : ℕ) (mine : Bool) → stayed (endsOf es a r mine) ≡ rowsOf es a r mine
-unfolding stayed endsOf rowsOf image
+pub stayed-rows : (es : List Edge) (a r : ℕ) (mine : Bool) → stayed (edgeEnds es a r mine) ≡ rowsOf es a r mine
+unfolding stayed edgeEnds rowsOf image
 stayed-rows es a r mine =
-    from-ext (stayAt (from ends 0 64)) (λ k. cond (eqb (ends k) 0) (single (k % 8)) (ends k)) 0 64
-    (λ i l. ap (λ (n : ℕ). cond (eqb n 0) (single ((0 + i) % 8)) n) (getD-from ends 0 64 (0 + i) 0 (omega arith) ∙ ap ends (zero-add (0 + i))))
+    from-ext (stayAt (from ends 0 rowPlaces)) (λ k. cond (eqb (ends k) 0) (single (k % states)) (ends k)) 0 rowPlaces
+    (λ i l. ap (λ (n : ℕ). cond (eqb n 0) (single ((0 + i) % states)) n)
+    (getD-from ends 0 rowPlaces (0 + i) 0 (omega arith) ∙ ap ends (zero-add (0 + i))))
   where
     ends : ℕ → ℕ
-    ends k = targets (fires (k / 8) a r mine) es (k % 8)
+    ends k = targets (fires (k / states) a r mine) es (k % states)
 
 -- a bit shifted to a state's place is the set of that state
-pub shifted-single : (q : ℕ) → q < 8 → 1 * 2 ^ q % 2 ^ 8 ≡ single q
-shifted-single q h = one-shl q h ∙ sym (single-is q h)
-  where
-    one-shl : (q : ℕ) → q < 8 → 1 * 2 ^ q % 2 ^ 8 ≡ 2 ^ q
-    one-shl q h = ap (λ (n : ℕ). n % 2 ^ 8) (one-mul (2 ^ q)) ∙ mod-eq-of-lt (pow-byte q h)
+pub shifted-single : (q : ℕ) → q < states → 1 * 2 ^ q % 2 ^ 8 ≡ single q
+shifted-single q h = bit-shifted q h ∙ sym (single-is q h)
 
 -- an `on` above 2 matches nothing
 pub label-none : (on who : ℕ) (mine : Bool) (r : ℕ) → (on ≡ 0 → ⊥) → (on ≡ 1 → ⊥) → (on ≡ 2 → ⊥) → labelled on who mine r ≡ false

@@ -4,27 +4,22 @@ use mathlib.Core.Path.{_≡_, refl, sym, ap, _∙_}
 use mathlib.Core.Bool.{Bool, true, false}
 use mathlib.Core.List.{List}
 use native.Mathlib.Omega.{arith}
-use lib.Bits.{bitOr, or-lt, or-add-and, and-le-l, and-le-r}
+use lib.Bits.{bitOr, or-lt}
 use lib.Dec.{ltb}
 use borrow.Author.Tests.{ltb-true, ltb-false, le-ltb}
+use Rattle.usage.specs.Limits.{policies, states}
 use Rattle.automaton.specs.Mask.{single}
-use Rattle.automaton.specs.Rows.{joined}
+use Rattle.automaton.specs.Code.{joined}
+use Rattle.automaton.proofs.MaskLaws.{left-le, right-le}
 use Rattle.automaton.proofs.RowLaws.{joined-none}
-
--- a union is no less than either of the two
-left-le : (a b : ℕ) → a ≤ bitOr a b
-left-le a b = omega (arith, or-add-and a b, and-le-r a b)
-
-right-le : (a b : ℕ) → b ≤ bitOr a b
-right-le a b = omega (arith, or-add-and a b, and-le-l a b)
 
 -- the numbers of an edge that has a place in the tables, and an end
 pub record Placed (p q t : ℕ) : Type 0 where
-  pub policy : p < 8
-  pub state : q < 8
-  pub end : t < 8
+  pub policy : p < policies
+  pub state : q < states
+  pub end : t < states
 
-pub placed : (p q t : ℕ) → bitOr (bitOr p q) t < 8 → Placed p q t
+pub placed : (p q t : ℕ) → bitOr (bitOr p q) t < states → Placed p q t
 placed p q t h =
     let l = left-le (bitOr p q) t in
     record {
@@ -33,24 +28,25 @@ placed p q t h =
       end = omega (arith, right-le (bitOr p q) t);
     }
 
-no-end : (t : ℕ) → 8 ≤ t → single t ≡ 0
+no-end : (t : ℕ) → states ≤ t → single t ≡ 0
 unfolding single
-no-end t h = rw (le-ltb t 8 h)
+no-end t h = rw (le-ltb t states h)
 
 -- a number that is no policy or no state has no place
-no-place : (s : List ℕ) (p q m : ℕ) → (p < 8 → q < 8 → ⊥) → s ≡ joined s p q m
+no-place : (s : List ℕ) (p q m : ℕ) → (p < policies → q < states → ⊥) → s ≡ joined s p q m
 unfolding joined
-no-place s p q m h = go (ltb p 8) refl (ltb q 8) refl
+no-place s p q m h = go (ltb p policies) refl (ltb q states) refl
   where
-    go : (x : Bool) → ltb p 8 ≡ x → (y : Bool) → ltb q 8 ≡ y → s ≡ joined s p q m
-    go true e true f = absurd (h (ltb-true p 8 e) (ltb-true q 8 f))
+    go : (x : Bool) → ltb p policies ≡ x → (y : Bool) → ltb q states ≡ y → s ≡ joined s p q m
+    go true e true f = absurd (h (ltb-true p policies e) (ltb-true q states f))
     go true e false f = rw (e, f) refl
     go false e y f = rw e refl
 
 -- an edge without a place or an end changes nothing
 pub not-placed : (s : List ℕ) (p q t : ℕ) → 8 ≤ bitOr (bitOr p q) t → s ≡ joined s p q (single t)
-not-placed s p q t h = go (ltb t 8) refl
+not-placed s p q t h = go (ltb t states) refl
   where
-    go : (b : Bool) → ltb t 8 ≡ b → s ≡ joined s p q (single t)
-    go true e = no-place s p q (single t) (λ hp hq. absurd (omega (arith, h, or-lt 3 (bitOr p q) t (or-lt 3 p q hp hq) (ltb-true t 8 e))))
-    go false e = sym (joined-none s p q) ∙ ap (joined s p q) (sym (no-end t (ltb-false t 8 e)))
+    go : (b : Bool) → ltb t states ≡ b → s ≡ joined s p q (single t)
+    go true e =
+        no-place s p q (single t) (λ hp hq. absurd (omega (arith, h, or-lt 3 (bitOr p q) t (or-lt 3 p q hp hq) (ltb-true t states e))))
+    go false e = sym (joined-none s p q) ∙ ap (joined s p q) (sym (no-end t (ltb-false t states e)))

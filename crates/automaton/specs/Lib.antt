@@ -1,3 +1,3 @@
 pub mod Mask
 pub mod Move
-pub mod Rows
+pub mod Code

@@ -24,5 +24,5 @@ abbrev pub offends : ℕ → Bool
 offends m = leb 64 m
 
 -- the lowest number in a set that is not empty
-abbrev pub lowest : ℕ → ℕ
-lowest m = trailingZeros 8 m
+abbrev pub lowestIn : ℕ → ℕ
+lowestIn m = trailingZeros 8 m

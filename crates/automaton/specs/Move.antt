@@ -6,7 +6,7 @@ use lib.Dec.{eqb}
 use lib.ListN.{getD}
 use lib.Bits.{bitOr}
 use Rattle.usage.specs.declared.Edge.{Edge}
-use Rattle.usage.specs.Limits.{states}
+use Rattle.usage.specs.Limits.{policies, states}
 use Rattle.usage.specs.Tables.{from}
 use Rattle.automaton.specs.Mask.{has, single, union}
 
@@ -42,9 +42,13 @@ fires p a r own e = (eqb (e .policy) p && eqb (e .action) a) && labelled (e .on)
 unfoldable pub moveMask : List Edge → ℕ → ℕ → ℕ → Bool → ℕ → ℕ
 moveMask es p a r own m = move (fires p a r own) es m
 
--- The rows of an event: element 8 * p + q says where state q of policy p goes.
+-- the places of a table of rows: one for each state of each policy
+abbrev pub rowPlaces : ℕ
+rowPlaces = policies * states
+
+-- The rows of an event: element p * states + q says where state q of policy p goes.
 unfoldable pub rowsOf : List Edge → ℕ → ℕ → Bool → List ℕ
-rowsOf es a r own = from (λ k. image (fires (k / 8) a r own) es (k % 8)) 0 64
+rowsOf es a r own = from (λ k. image (fires (k / states) a r own) es (k % states)) 0 rowPlaces
 
 -- the set m moved by eight rows, from place k on
 unfoldable pub moveBy : List ℕ → ℕ → ℕ → ℕ

@@ -1,14 +1,18 @@
 // Sets of states as bit masks, and how a set is moved: the leaf functions that both the judge and the check call.
+use usage::POLICIES;
+use usage::STATES;
 ghost use Prim.Native.Nat.{_/_, _%_, _<_};
 ghost use mathlib.Core.Path.{_≡_};
 ghost use mathlib.Core.Bool.{cond};
 ghost use mathlib.Core.List.{List, [], _∷_};
 ghost use lib.Dec.{eqb};
-ghost use Rattle.automaton.specs.Mask.{single};
 ghost use Rattle.automaton.specs.Move.{moveBy};
-ghost use Rattle.automaton.specs.Rows.{movedBy};
+ghost use Rattle.automaton.specs.Code.{moveByPolicy};
 
 pub mod moves;
+
+// The places of a table of rows: one for each state of each policy.
+pub const ROWS: usize = POLICIES * STATES;
 
 // The row of a state, where the state is in the set x; m is the state's bit.
 fn pick(x: u8, m: u8, row: u8) -> u8
@@ -19,7 +23,7 @@ fn pick(x: u8, m: u8, row: u8) -> u8
 }
 
 // The union of the rows of the states in x.
-pub fn image(x: u8, a: u8, b: u8, c: u8, d: u8, e: u8, f: u8, g: u8, h: u8) -> u8
+pub fn move_by_rows(x: u8, a: u8, b: u8, c: u8, d: u8, e: u8, f: u8, g: u8, h: u8) -> u8
     ensures { λ r. ⌜ r ≡ moveBy (a ∷ b ∷ c ∷ d ∷ e ∷ f ∷ g ∷ h ∷ []) 0 x ⌝ }
 {
     pick(x, 1, a)
@@ -33,14 +37,14 @@ pub fn image(x: u8, a: u8, b: u8, c: u8, d: u8, e: u8, f: u8, g: u8, h: u8) -> u
 }
 
 // The set x moved by the rows of a policy.
-pub fn move_set(rows: &[u8; 64], policy: usize, x: u8) -> u8
-    ensures { λ r. ⌜ r ≡ movedBy (now (rows .entry)) policy x ⌝ }
+pub fn move_set(rows: &[u8; ROWS], policy: usize, x: u8) -> u8
+    ensures { λ r. ⌜ r ≡ moveByPolicy (now (rows .entry)) policy x ⌝ }
 {
-    if 8 <= policy {
+    if POLICIES <= policy {
         return x;
     }
-    let k = policy * 8;
-    image(
+    let k = policy * STATES;
+    move_by_rows(
         x,
         rows[k],
         rows[k + 1],
@@ -51,14 +55,4 @@ pub fn move_set(rows: &[u8; 64], policy: usize, x: u8) -> u8
         rows[k + 6],
         rows[k + 7],
     )
-}
-
-// The set of one state.
-pub fn single(q: u8) -> u8
-    ensures { λ r. ⌜ r ≡ single q ⌝ }
-{
-    if 8 <= q {
-        return 0;
-    }
-    1u8 << (q as u32)
 }

@@ -1,5 +1,8 @@
 // The rows of an event: where each state of each policy goes by it (document 01: "On an event, each state the instance may be in moves
 // along every matching edge, to all their ends; with no matching edge from that state it stays").
+use crate::ROWS;
+use usage::EDGE_FIELDS;
+use usage::STATES;
 ghost use Prim.Native.Nat.{_/_, _*_, _+_, _<_};
 ghost use mathlib.Core.Path.{_≡_};
 ghost use mathlib.Core.Bool.{true, false};
@@ -7,16 +10,16 @@ ghost use lib.ListN.{length, replicate};
 ghost use Rattle.usage.specs.declared.Edge.{Edge};
 ghost use Rattle.usage.specs.Tables.{edgesOf};
 ghost use Rattle.automaton.specs.Mask.{single};
-ghost use Rattle.automaton.specs.Move.{rowsOf};
-ghost use Rattle.automaton.specs.Rows.{endOf, joined, endsOf, stayed};
+ghost use Rattle.automaton.specs.Move.{rowPlaces, rowsOf};
+ghost use Rattle.automaton.specs.Code.{endOf, joined, edgeEnds, stayed};
 
 // The end of an edge, joined to what stands at its state of its policy. One test for the three numbers: each is below 8 exactly where
 // their union as bits is; where one is not, the edge has no place or no end.
-fn join(table: &mut [u8; 64], policy: u8, from: u8, to: u8)
+fn join(table: &mut [u8; ROWS], policy: u8, from: u8, to: u8)
     ensures { λ r. ⌜ now (table .exit) ≡ joined (now (table .entry)) policy from (single to) ⌝ }
 {
     if (policy | from | to) < 8 {
-        let k = policy as usize * 8 + from as usize;
+        let k = policy as usize * STATES + from as usize;
         table[k] = table[k] | 1u8 << (to as u32);
     }
 }
@@ -24,8 +27,8 @@ fn join(table: &mut [u8; 64], policy: u8, from: u8, to: u8)
 // The end of an edge that an event on the resource may match, joined to the two tables: `own` is that of the instance whose resource
 // the event is on, `other` that of the other instances.
 fn follow(
-    own: &mut [u8; 64],
-    other: &mut [u8; 64],
+    own: &mut [u8; ROWS],
+    other: &mut [u8; ROWS],
     policy: u8,
     from: u8,
     on: u8,
@@ -53,16 +56,22 @@ fn follow(
 }
 
 // The ends of the matching edges, joined to two empty tables.
-fn gather(edges: &[u8], action: u32, resource: u32, own: &mut [u8; 64], other: &mut [u8; 64])
-    requires { ⌜ now own ≡ replicate 64 0 ⌝ }
-    requires { ⌜ now other ≡ replicate 64 0 ⌝ }
-    ensures { λ r. ⌜ now (own .exit) ≡ endsOf (edgesOf (now (edges .entry))) action resource true ⌝ }
-    ensures { λ r. ⌜ now (other .exit) ≡ endsOf (edgesOf (now (edges .entry))) action resource false ⌝ }
+fn collect_ends(
+    edges: &[u8],
+    action: u32,
+    resource: u32,
+    own: &mut [u8; ROWS],
+    other: &mut [u8; ROWS],
+)
+    requires { ⌜ now own ≡ replicate rowPlaces 0 ⌝ }
+    requires { ⌜ now other ≡ replicate rowPlaces 0 ⌝ }
+    ensures { λ r. ⌜ now (own .exit) ≡ edgeEnds (edgesOf (now (edges .entry))) action resource true ⌝ }
+    ensures { λ r. ⌜ now (other .exit) ≡ edgeEnds (edgesOf (now (edges .entry))) action resource false ⌝ }
 {
-    let n = edges.len() / 6;
+    let n = edges.len() / EDGE_FIELDS;
     let mut i: usize = 0;
     while i < n {
-        let k = 6 * i;
+        let k = EDGE_FIELDS * i;
         if edges[k + 2] as u32 == action {
             follow(
                 own,
@@ -79,35 +88,35 @@ fn gather(edges: &[u8], action: u32, resource: u32, own: &mut [u8; 64], other: &
     }
 }
 
-// The table of 64 empty sets, whatever was there.
-fn clear(table: &mut [u8; 64])
-    ensures { λ r. ⌜ now (table .exit) ≡ replicate 64 0 ⌝ }
+// The table of empty sets, whatever was there.
+fn clear(table: &mut [u8; ROWS])
+    ensures { λ r. ⌜ now (table .exit) ≡ replicate rowPlaces 0 ⌝ }
 {
-    *table = [0u8; 64];
+    *table = [0u8; ROWS];
 }
 
 // Where no edge leads out of a state, the state stays.
-fn stay(table: &mut [u8; 64])
-    requires { ⌜ length (now table) ≡ 64 ⌝ }
+fn stay(table: &mut [u8; ROWS])
+    requires { ⌜ length (now table) ≡ rowPlaces ⌝ }
     ensures { λ r. ⌜ now (table .exit) ≡ stayed (now (table .entry)) ⌝ }
 {
     let mut k: usize = 0;
-    while k < 64 {
+    while k < ROWS {
         if table[k] == 0 {
-            table[k] = crate::single((k % 8) as u8);
+            table[k] = 1u8 << ((k % STATES) as u32);
         }
         k += 1;
     }
 }
 
 // The rows of an event for its own resource's instance, and for every other instance. What the tables held does not matter.
-pub fn rows(edges: &[u8], action: u32, resource: u32, own: &mut [u8; 64], other: &mut [u8; 64])
+pub fn rows(edges: &[u8], action: u32, resource: u32, own: &mut [u8; ROWS], other: &mut [u8; ROWS])
     ensures { λ r. ⌜ now (own .exit) ≡ rowsOf (edgesOf (now (edges .entry))) action resource true ⌝ }
     ensures { λ r. ⌜ now (other .exit) ≡ rowsOf (edgesOf (now (edges .entry))) action resource false ⌝ }
 {
     clear(own);
     clear(other);
-    gather(edges, action, resource, own, other);
+    collect_ends(edges, action, resource, own, other);
     stay(own);
     stay(other);
 }

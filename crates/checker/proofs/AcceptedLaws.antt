@@ -10,7 +10,7 @@ use native.Mathlib.Decide.{decLe}
 use borrow.Author.Tests.{le-leb}
 use Rattle.usage.specs.declared.Node.{Node}
 use Rattle.usage.specs.declared.RawStep.{RawStep}
-use Rattle.usage.specs.Limits.{create, most-created, most-open}
+use Rattle.usage.specs.Limits.{create, mostCreated, mostOpen}
 use Rattle.usage.specs.Past.{Step, event, opening, closing, Past, creates, openings, closings}
 use Rattle.usage.specs.Answers.{refused}
 use Rattle.usage.specs.Judge.{stepOf, Case, too-many, too-deep, Refuses, is-refused}
@@ -24,12 +24,13 @@ use Rattle.monitor_state.specs.declared.State.{State}
 use Rattle.monitor_state.specs.declared.Answer.{Answer}
 use Rattle.monitor_state.specs.declared.Answer.the-variants.{Allowed, Violated, Refused}
 use Rattle.monitor_state.specs.declared.Judgement.{Judgement}
-use Rattle.monitor_state.specs.Judge.{verdictOf, judgeOf, refuse, begin}
+use Rattle.monitor_state.specs.Judge.{verdictOf, judgeOf, refuse, startState}
 use Rattle.monitor_state.specs.Represents.{Represents}
 use Rattle.monitor_state.specs.Promise.{Kept}
 use Rattle.monitor_state.proofs.StartLaws.{begin-represents}
 use Rattle.monitor_state.proofs.Verdict.{judge-promised, judged-is, allowed-next}
-use Rattle.checker.specs.Accepted.{rawOf, onto, Low, Beyond, create-beyond, opening-beyond, Passes, ended, allowed, beyond, NeverHalted}
+use Rattle.checker.specs.Accepted.{rawOf, onto, Low, Beyond, create-beyond, opening-beyond, Passes, ended, allowed, beyond}
+use Rattle.checker.specs.Accepted.{NeverHalted}
 
 -- ── Beginnings ──
 
@@ -54,7 +55,13 @@ step-fits (closing p) past h low = h .1
 
 step-read : (step : Step) → Fits step → stepOf (rawOf step) ≡ some step
 unfolding stepOf
-step-read (event a r) (l, k) = rw (le-leb 0 a (omega arith), le-leb a 31 (omega arith), le-leb 0 r (omega arith), le-leb r 65535 (omega arith))
+step-read (event a r) (l, k) = rw (
+  le-leb 0 a (omega arith),
+  le-leb a 31 (omega arith),
+  le-leb 0 r (omega arith),
+  le-leb r 65535
+      (omega arith),
+)
 step-read (opening p) l = rw (le-leb 0 p (omega arith), le-leb p 7 (omega arith))
 step-read (closing p) l = rw (le-leb 0 p (omega arith), le-leb p 7 (omega arith))
 
@@ -80,24 +87,25 @@ beyond-case e (create-beyond l) = too-many e l
 beyond-case e (opening-beyond l) = too-deep e l
 
 beyond? : (step : Step) (past : Past) → ((n : ℕ) × Beyond past step n) ⊎ ((n : ℕ) → Beyond past step n → ⊥)
-beyond? (event zero r) past = go (decLe most-created (creates past))
+beyond? (event zero r) past = go (decLe mostCreated (creates past))
   where
-    none-else : (most-created ≤ creates past → ⊥) → (n : ℕ) → Beyond past (event zero r) n → ⊥
+    none-else : (mostCreated ≤ creates past → ⊥) → (n : ℕ) → Beyond past (event zero r) n → ⊥
     none-else d n (create-beyond l) = d l
 
-    go : Dec (most-created ≤ creates past) → ((n : ℕ) × Beyond past (event zero r) n) ⊎ ((n : ℕ) → Beyond past (event zero r) n → ⊥)
+    go : Dec (mostCreated ≤ creates past) → ((n : ℕ) × Beyond past (event zero r) n) ⊎ ((n : ℕ) → Beyond past (event zero r) n → ⊥)
     go (yes l) = inl (30, create-beyond l)
     go (no d) = inr (none-else d)
 beyond? (event (suc a) r) past = inr none-other
   where
     none-other : (n : ℕ) → Beyond past (event (suc a) r) n → ⊥
     none-other n = elim [ ]
-beyond? (opening p) past = go (decLe (closings p past + most-open) (openings p past))
+beyond? (opening p) past = go (decLe (closings p past + mostOpen) (openings p past))
   where
-    none-else : (closings p past + most-open ≤ openings p past → ⊥) → (n : ℕ) → Beyond past (opening p) n → ⊥
+    none-else : (closings p past + mostOpen ≤ openings p past → ⊥) → (n : ℕ) → Beyond past (opening p) n → ⊥
     none-else d n (opening-beyond l) = d l
 
-    go : Dec (closings p past + most-open ≤ openings p past) → ((n : ℕ) × Beyond past (opening p) n) ⊎ ((n : ℕ) → Beyond past (opening p) n → ⊥)
+    go : Dec (closings p past + mostOpen ≤ openings p past)
+        → ((n : ℕ) × Beyond past (opening p) n) ⊎ ((n : ℕ) → Beyond past (opening p) n → ⊥)
     go (yes l) = inl (31, opening-beyond l)
     go (no d) = inr (none-else d)
 beyond? (closing p) past = inr none-other
@@ -121,8 +129,10 @@ refused-whole j s n e k = λ i. record { answer = e i; state = k i }
 
 -- ── The theorem ──
 
-module _ (t : List ℕ) (table : edgeTable t ≡ true) (ns : List Node) (ok : OutlineOk ns) (none-left : (p : ℕ) → Leaves false (edgesOf t) ns p → ⊥) where
-  passes : (steps : List Step) (past : Past) (s : State) → Represents (edgesOf t) past false s → IsTrace ns (onto steps past) → Low (onto steps past) → Passes t past s steps
+module _ (t : List ℕ) (table : edgeTable t ≡ true) (ns : List Node) (ok : OutlineOk ns)
+    (none-left : (p : ℕ) → Leaves false (edgesOf t) ns p → ⊥) where
+  passes : (steps : List Step) (past : Past) (s : State) → Represents (edgesOf t) past false s → IsTrace ns (onto steps past)
+      → Low (onto steps past) → Passes t past s steps
   unfolding onto
   passes [] past s R tr low = ended
   passes (step ∷ steps) past s R tr low = go (beyond? step past) (passes steps (step ∷ past))
@@ -143,16 +153,20 @@ module _ (t : List ℕ) (table : edgeTable t ≡ true) (ns : List Node) (ok : Ou
             first = λ m l c. absurd (let e = beyond-once b (only-beyond step past m fine (case-of reads c)) in omega arith);
           } in
           let a = refused-is (judgeOf t s (rawOf step) .answer) n (judged-is t table past false s R (rawOf step) (is-refused r)) in
-          beyond b (refused-whole (judgeOf t s (rawOf step)) s n a (kept-refused s _ (judgeOf t s (rawOf step) .answer) n a (judge-promised t table past false s R (rawOf step) .kept)))
+          beyond b (refused-whole (judgeOf t s (rawOf step)) s n a
+          (kept-refused s _ (judgeOf t s (rawOf step) .answer) n a (judge-promised t table past false s R (rawOf step) .kept)))
 
       go : ((n : ℕ) × Beyond past step n) ⊎ ((n : ℕ) → Beyond past step n → ⊥)
-          → ((u : State) → Represents (edgesOf t) (step ∷ past) false u → IsTrace ns (onto steps (step ∷ past)) → Low (onto steps (step ∷ past)) → Passes t (step ∷ past) u steps)
+          → ((u : State) → Represents (edgesOf t) (step ∷ past) false u → IsTrace ns (onto steps (step ∷ past)) → Low
+          (onto steps (step ∷ past)) → Passes t (step ∷ past) u steps)
           → Passes t past s (step ∷ steps)
       go (inl (n, b)) rest = stopped n b
       go (inr d) rest =
-          let k = allowed-next t table past false s R (rawOf step) step reads (λ n c. d n (only-beyond step past n fine (case-of reads c))) (λ p v. none-left p (step ∷ past, here, v)) in
-          allowed (k .0) (rest (judgeOf t s (rawOf step) .state) (k .1) tr low)
+          let k =
+          allowed-next t table past false s R (rawOf step) step reads (λ n c. d n (only-beyond step past n fine (case-of reads c)))
+          (λ p v. none-left p (step ∷ past, here, v)) in
+          allowed d (k .0) (rest (judgeOf t s (rawOf step) .state) (k .1) tr low)
 
   -- What the check accepts, the judge never halts.
   pub never-halted : NeverHalted t ns
-  never-halted steps tr low = passes steps [] begin (begin-represents (edgesOf t)) tr low
+  never-halted steps tr low = passes steps [] startState (begin-represents (edgesOf t)) tr low

@@ -1,25 +1,25 @@
 -- The answer for one policy, from the flat tables of edges and nodes.
 use Prim.Native.Nat.{ℕ, _/_, _<_, _≤_}
-use mathlib.Core.Path.{_≡_, refl, sym, subst}
+use mathlib.Core.Path.{_≡_, refl, subst}
 use mathlib.Core.Bool.{Bool, true, false}
 use mathlib.Core.List.{List}
 use native.Mathlib.Omega.{arith}
 use lib.Dec.{leb}
 use borrow.Author.Tests.{lt-ltb, leb-true, leb-false}
 use lib.ListN.{length, replicate}
+use Rattle.usage.specs.Limits.{policies, mostNodes, nodeFields}
 use Rattle.usage.specs.Policy.{EdgesOk}
 use Rattle.usage.specs.Valid.{Scope, OutlineOk}
 use Rattle.usage.specs.Tables.{edgesOf, nodesOf}
 use Rattle.usage.specs.Check.{Leaves, Checked, accepts, names}
-use Rattle.usage.proofs.Decides.{Decides}
+use Rattle.usage.specs.Tests.{Decides}
 use Rattle.usage.proofs.Logic.{false-true}
 use Rattle.automaton.specs.Move.{rowsOf}
 use Rattle.usage.proofs.TableLaws.{nodes-length}
 use Rattle.checker_account.specs.Tables.{rowsIn}
 use Rattle.checker_account.specs.Rounds.{formsIn, SearchedAll}
 use Rattle.checker_account.specs.RowTable.{fillRows}
-use Rattle.checker.specs.Skips.{opens, hasEdge}
-use Rattle.checker.specs.Verdicts.{named-if, verdictOf}
+use Rattle.checker.specs.Code.{opens, hasEdge, policyVerdict}
 use Rattle.checker_account.proofs.Exact.{exact}
 use Rattle.checker_account.proofs.RowLaws.{rows-ok}
 use Rattle.checker_account.proofs.RowTableLaws.{rows-from}
@@ -30,7 +30,7 @@ use Rattle.checker_account.proofs.EventLaws.{event-image}
 use Rattle.checker_account.proofs.ScopedLaws.{scoped}
 
 module _ (e t : List ℕ) (edges : EdgesOk (edgesOf e)) (ok : OutlineOk (nodesOf t)) where
-  pub few-nodes : length t / 3 ≤ 64
+  pub few-nodes : length t / nodeFields ≤ mostNodes
   few-nodes = let l = ok .few in let n = nodes-length t in omega arith
 
   refuted : (p : ℕ) → (Leaves false (edgesOf e) (nodesOf t) p → ⊥) → Decides false (Leaves false (edgesOf e) (nodesOf t) p)
@@ -44,31 +44,35 @@ module _ (e t : List ℕ) (edges : EdgesOk (edgesOf e)) (ok : OutlineOk (nodesOf
   pub bare : (p : ℕ) → hasEdge e p ≡ false → Decides false (Leaves false (edgesOf e) (nodesOf t) p)
   bare p h = refuted p (bare-leaves e (nodesOf t) p h)
 
-  pub looked : (p : ℕ) → p < 8 → (r : List ℕ) → r ≡ fillRows (rowsOf (edgesOf e)) p (length t / 3) (formsIn t) (replicate 3072 0)
-      → (answer : Bool) → SearchedAll (rowsIn r) p (length t / 3) (formsIn t) answer → Decides answer (Leaves false (edgesOf e) (nodesOf t) p)
+  pub looked : (p : ℕ) → p < policies → (r : List ℕ) → r ≡ fillRows (rowsOf (edgesOf e)) p (length t / 3) (formsIn t) (replicate 3072 0)
+      → (answer : Bool) → SearchedAll (rowsIn r) p (length t / 3) (formsIn t) answer
+      → Decides answer (Leaves false (edgesOf e) (nodesOf t) p)
   looked p small r er answer h =
       let es = edgesOf e in
       let ns = nodesOf t in
       let made = rows-from (rowsOf es) p (formsIn t) (replicate 3072 0) refl ns (length t / 3) few-nodes (forms-of t) in
       let rows = subst (λ (u : List ℕ). SearchedAll (rowsIn u) p (length t / 3) (formsIn t) answer) er h in
       broken-exact es ns p (rowsIn (fillRows (rowsOf es) p (length t / 3) (formsIn t) (replicate 3072 0))) edges
-      (λ x l. rows-ok es ns p x (rowsIn (fillRows (rowsOf es) p (length t / 3) (formsIn t) (replicate 3072 0))) _ l edges (event-image es edges p small) made)
+      (λ x l. rows-ok es ns p x (rowsIn (fillRows (rowsOf es) p (length t / 3) (formsIn t) (replicate 3072 0))) _ l edges
+      (event-image es edges p small) made)
       (names-ok ns ok) (targets-ok ns ok) (length t / 3) (formsIn t) few-nodes (forms-of t) (Scope ns) (scoped ns ok) answer rows
 
   -- ── All policies ──
 
-  -- a policy above 7 has no edge
-  pub none-higher : (p : ℕ) → 8 ≤ p → Leaves false (edgesOf e) (nodesOf t) p → ⊥
+  -- a number that is no policy has no edge
+  pub none-higher : (p : ℕ) → policies ≤ p → Leaves false (edgesOf e) (nodesOf t) p → ⊥
   none-higher p h l = never-broken (edgesOf e) p (λ g m d. let s = edges .each g m .policy in omega arith) (l .2 .1)
 
-  pub named-lowest : (p : ℕ) → p < 8 → Leaves false (edgesOf e) (nodesOf t) p → ((s : ℕ) → s < p → Leaves false (edgesOf e) (nodesOf t) s → ⊥) → Checked false (edgesOf e) (nodesOf t) (verdictOf p)
-  unfolding verdictOf
-  named-lowest p h l lower = subst (λ (b : Bool). Checked false (edgesOf e) (nodesOf t) (named-if b p)) (sym (lt-ltb p 8 h)) (names l lower)
+  pub named-lowest : (p : ℕ) → p < policies → Leaves false (edgesOf e) (nodesOf t) p
+      → ((s : ℕ) → s < p → Leaves false (edgesOf e) (nodesOf t) s → ⊥) → Checked false (edgesOf e) (nodesOf t) (policyVerdict p)
+  unfolding policyVerdict
+  named-lowest p h l lower = rw (lt-ltb p policies h) (names l lower)
 
-  pub all-good : ((s : ℕ) → s < 8 → Leaves false (edgesOf e) (nodesOf t) s → ⊥) → Checked false (edgesOf e) (nodesOf t) (verdictOf 8)
-  unfolding verdictOf
-  all-good h = accepts (λ s l. go s l (leb 8 s) refl)
+  pub all-good : ((s : ℕ) → s < policies → Leaves false (edgesOf e) (nodesOf t) s → ⊥)
+      → Checked false (edgesOf e) (nodesOf t) (policyVerdict policies)
+  unfolding policyVerdict
+  all-good h = accepts (λ s l. go s l (leb policies s) refl)
     where
-      go : (s : ℕ) → Leaves false (edgesOf e) (nodesOf t) s → (b : Bool) → leb 8 s ≡ b → ⊥
-      go s l true f = none-higher s (leb-true 8 s f) l
-      go s l false f = h s (leb-false 8 s f) l
+      go : (s : ℕ) → Leaves false (edgesOf e) (nodesOf t) s → (b : Bool) → leb policies s ≡ b → ⊥
+      go s l true f = none-higher s (leb-true policies s f) l
+      go s l false f = h s (leb-false policies s f) l

@@ -13,7 +13,7 @@ use Rattle.usage.specs.declared.Edge.{Edge}
 use Rattle.usage.specs.declared.Node.{Node}
 use Rattle.usage.specs.Policy.{Sees, Moves, along, stays, Offending}
 use Rattle.usage.specs.Past.{Past, May, start, moved, opened, closed, Broken}
-use Rattle.usage.specs.Outline.{sandbox, node-kinds, formOf, Is}
+use Rattle.usage.specs.Outline.{sandbox, nodeKinds, formOf, Is}
 use Rattle.usage.specs.Limits.{said}
 use Rattle.usage.specs.Tables.{edgesOf, nodesOf}
 use Rattle.usage.specs.Check.{Leaves}
@@ -21,7 +21,7 @@ use Rattle.usage.proofs.Logic.{clash, not-both, and-both}
 use Rattle.usage.proofs.TableLaws.{edges-member}
 use Rattle.automaton.proofs.MaskLaws.{some-at}
 use Rattle.checker_account.specs.Witness.{Comes, Last, Hits}
-use Rattle.checker.specs.Skips.{opens, hasEdge}
+use Rattle.checker.specs.Code.{opens, hasEdge}
 use Rattle.checker_account.proofs.NodeLaws.{forms-of}
 
 -- ── No sandbox ──
@@ -48,7 +48,7 @@ module _ (es : List Edge) (ns : List Node) (p x : ℕ) (shut : (k b : ℕ) → I
   no-hits (Hits.at-opening {k = k} {b = b} i c f) = shut k b i
 
 -- a sandbox is of kind 8
-kind-8 : (k a b p c : ℕ) → said (getElem? node-kinds k) a b ≡ some (sandbox p c) → (k ≡ 8) × (a ≡ p)
+kind-8 : (k a b p c : ℕ) → said (getElem? nodeKinds k) a b ≡ some (sandbox p c) → (k ≡ 8) × (a ≡ p)
 kind-8 zero a b p c e = clash (cc)
 kind-8 (suc zero) a b p c e = clash (cc)
 kind-8 (suc (suc zero)) a b p c e = clash (cc)
@@ -67,7 +67,8 @@ not-opened t p h k b i =
     let (e₈, eₚ) = kind-8 (getD t (3 * k) 0) (getD t (3 * k + 1) 0) (getD t (3 * k + 2) 0) p b e in
     not-both (opens t p)
     (some-at (length t / 3) (λ k. eqb (getD t (3 * k) 0) 8 && eqb (getD t (3 * k + 1) 0) p) k l
-    (and-both (eqb (getD t (3 * k) 0) 8) (eqb (getD t (3 * k + 1) 0) p) (eq-eqb (getD t (3 * k) 0) 8 e₈) (eq-eqb (getD t (3 * k + 1) 0) p eₚ))) h
+    (and-both (eqb (getD t (3 * k) 0) 8) (eqb (getD t (3 * k + 1) 0) p) (eq-eqb (getD t (3 * k) 0) 8 e₈)
+    (eq-eqb (getD t (3 * k + 1) 0) p eₚ))) h
 
 -- ── No edge ──
 
@@ -93,7 +94,8 @@ pub no-edge : (t : List ℕ) (p : ℕ) → hasEdge t p ≡ false → (e : Edge) 
 unfolding hasEdge
 no-edge t p h e m d =
     let (i, l, f) = edges-member t e .0 m in
-    not-both (hasEdge t p) (some-at (length t / 6) (λ i. eqb (getD t (6 * i) 0) p) i l (eq-eqb (getD t (6 * i) 0) p (ap (λ (g : Edge). g .policy) (sym f) ∙ d))) h
+    not-both (hasEdge t p) (some-at (length t / 6) (λ i. eqb (getD t (6 * i) 0) p) i l
+    (eq-eqb (getD t (6 * i) 0) p (ap (λ (g : Edge). g .policy) (sym f) ∙ d))) h
 
 -- a policy without an edge leaves no trace
 pub bare-leaves : (t : List ℕ) (ns : List Node) (p : ℕ) → hasEdge t p ≡ false → Leaves false (edgesOf t) ns p → ⊥

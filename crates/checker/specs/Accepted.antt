@@ -4,12 +4,12 @@ use mathlib.Core.Path.{_≡_}
 use mathlib.Core.List.{List, [], _∷_, List·Memᴰ}
 use Rattle.usage.specs.declared.Node.{Node}
 use Rattle.usage.specs.declared.RawStep.{RawStep}
-use Rattle.usage.specs.Limits.{resources, create, most-created, most-open}
+use Rattle.usage.specs.Limits.{resources, create, mostCreated, mostOpen}
 use Rattle.usage.specs.Past.{Step, event, opening, closing, Past, creates, openings, closings}
 use Rattle.usage.specs.Outline.{IsTrace}
 use Rattle.monitor_state.specs.declared.State.{State}
 use Rattle.monitor_state.specs.declared.Answer.the-variants.{Allowed}
-use Rattle.monitor_state.specs.Judge.{judgeOf, refuse, begin}
+use Rattle.monitor_state.specs.Judge.{judgeOf, refuse, startState}
 
 -- a step as a routine hands it over
 abbrev pub rawOf : Step → RawStep
@@ -28,18 +28,19 @@ pub record Low (past : Past) : Type 0 where
 
 -- a create or an opening beyond the judge's limits, with its number
 pub data Beyond (past : Past) : Step → ℕ → Type 0 where
-  create-beyond : {r : ℕ} → most-created ≤ creates past → Beyond past (event create r) 30
-  opening-beyond : {p : ℕ} → closings p past + most-open ≤ openings p past → Beyond past (opening p) 31
+  create-beyond : {r : ℕ} → mostCreated ≤ creates past → Beyond past (event create r) 30
+  opening-beyond : {p : ℕ} → closings p past + mostOpen ≤ openings p past → Beyond past (opening p) 31
 
 -- Handed to the judge one after the other, each with the state that the last one returned, every step is allowed up to the first
--- beyond the judge's limits, which is refused with its number.
+-- beyond the judge's limits, which is refused with its number. A step is allowed only where it is within them.
 pub data Passes (t : List ℕ) : Past → State → List Step → Type 0 where
   ended : {past : Past} {s : State} → Passes t past s []
-  allowed : {past : Past} {s : State} {step : Step} {steps : List Step} → judgeOf t s (rawOf step) .answer ≡ Allowed
-      → Passes t (step ∷ past) (judgeOf t s (rawOf step) .state) steps → Passes t past s (step ∷ steps)
+  allowed : {past : Past} {s : State} {step : Step} {steps : List Step} → ((n : ℕ) → Beyond past step n → ⊥)
+      → judgeOf t s (rawOf step) .answer ≡ Allowed → Passes t (step ∷ past) (judgeOf t s (rawOf step) .state) steps
+      → Passes t past s (step ∷ steps)
   beyond : {past : Past} {s : State} {step : Step} {steps : List Step} {n : ℕ} → Beyond past step n
       → judgeOf t s (rawOf step) ≡ refuse n s → Passes t past s (step ∷ steps)
 
 -- every trace of the outline whose numbers the judge takes, from the judge's start
 abbrev pub NeverHalted : List ℕ → List Node → Type 0
-NeverHalted t ns = (steps : List Step) → IsTrace ns (onto steps []) → Low (onto steps []) → Passes t [] begin steps
+NeverHalted t ns = (steps : List Step) → IsTrace ns (onto steps []) → Low (onto steps []) → Passes t [] startState steps

@@ -1,5 +1,4 @@
--- Skips: policies that need no search. Accepted, Promise: what the check promises.
-pub mod Skips
-pub mod Verdicts
+-- Promise: what the check promises; Accepted: what its acceptance means for the judge. Code: what its functions compute.
 pub mod Accepted
 pub mod Promise
+pub mod Code

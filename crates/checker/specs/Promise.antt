@@ -2,6 +2,7 @@
 use mathlib.Core.Bool.{false}
 use Prim.Native.Nat.{ℕ}
 use mathlib.Core.Path.{_≡_}
+use mathlib.Core.Logic.{_↔_}
 use mathlib.Core.List.{List}
 use Rattle.usage.specs.Answers.{Verdict, allowed, violated, refused}
 use Rattle.usage.specs.Check.{Checked}
@@ -11,17 +12,20 @@ use Rattle.checker.specs.declared.Outcome.the-variants.{Accepted, Named,
 use Rattle.checker.specs.Accepted.{NeverHalted}
 
 -- document 01's numbers for each answer
-abbrev pub told : Outcome → Verdict
-told Accepted = allowed
-told (Named p) = violated p
-told (Refused n) = refused n
+abbrev pub outcomeVerdict : Outcome → Verdict
+outcomeVerdict Accepted = allowed
+outcomeVerdict (Named p) = violated p
+outcomeVerdict (Refused n) = refused n
 
--- "41 a table lent to be used that, taken whole, no accepted sheet gives"; else the right answer, which is only one
-pub record Promised (t n : List ℕ) (r : Outcome) : Type 0 where
-  pub right : EdgeTable t → NodeTable n → Checked false (edgesOf t) (nodesOf n) (told r)
-  pub no-edges : (EdgeTable t → ⊥) → r ≡ Refused 41
-  pub no-nodes : (NodeTable n → ⊥) → r ≡ Refused 41
+-- The right verdict of two lent tables: "41 a table lent to be used that, taken whole, no accepted sheet gives"; else that of the
+-- outline under the edges. No two are right (`right-unique` of proofs/PromiseLaws).
+pub data RightVerdict (edges nodes : List ℕ) : Verdict → Type 0 where
+  no-edges : (EdgeTable edges → ⊥) → RightVerdict edges nodes (refused 41)
+  no-nodes : (NodeTable nodes → ⊥) → RightVerdict edges nodes (refused 41)
+  checked : {v : Verdict} → EdgeTable edges → NodeTable nodes → Checked false (edgesOf edges) (nodesOf nodes) v → RightVerdict edges nodes v
 
--- What it accepts, the judge never halts.
-abbrev pub Guarded : List ℕ → List ℕ → Outcome → Type 0
-Guarded t n r = EdgeTable t → NodeTable n → r ≡ Accepted → NeverHalted t (nodesOf n)
+-- The promise of whoever tells the verdict v of two lent tables. A verdict is right exactly where it is the one that is told.
+pub record CheckPromise (edges nodes : List ℕ) (v : Verdict) : Type 0 where
+  pub exact : (w : Verdict) → RightVerdict edges nodes w ↔ (v ≡ w)
+  -- "What the check accepts, the judge never halts"
+  pub guarded : v ≡ allowed → NeverHalted edges (nodesOf nodes)

@@ -1,12 +1,16 @@
-// The static check of outlines: document 01's check. For each policy and watched resource three crates do the work: `ends` and `arrivals`
-// fill the tables, and `hits` looks for a violation in them.
+// The static check of outlines: document 01's check. For each policy and watched resource the crate `checker_tables` fills the tables of
+// the account and looks for a violation in them.
 ghost use mathlib.Core.Path.{_≡_};
 ghost use Prim.Native.Nat.{ℕ};
-ghost use Rattle.checker_account.specs.Tables.{least};
-ghost use Rattle.checker.specs.Skips.{opens, hasEdge};
-ghost use Rattle.checker.specs.Promise.{Promised, Guarded};
+ghost use Rattle.checker.specs.Promise.{outcomeVerdict, CheckPromise};
+ghost use Rattle.checker.specs.Code.{opens, hasEdge};
+use usage::EDGE_FIELDS;
+use usage::NODE_FIELDS;
 
 mod search;
+
+// The kind of a node that is a sandbox.
+const SANDBOX: u8 = 8;
 
 // The answer of the check: accepted; refused with the lowest policy that some trace leaves open and not respected; or a refusal with
 // its number.
@@ -16,22 +20,15 @@ pub enum Outcome {
     Refused(u8),
 }
 
-// The least meaning that occurs: of a static resource only the last one does.
-fn least(x: usize) -> usize
-    ensures { λ r. ⌜ r ≡ least x ⌝ }
-{
-    if x < 16 { 5 } else { 0 }
-}
-
 // Does a sandbox open policy p?
 fn opens(nodes: &[u8], p: usize) -> bool
     ensures { λ r. ⌜ r ≡ opens (now (nodes .entry)) p ⌝ }
 {
-    let n = nodes.len() / 3;
+    let n = nodes.len() / NODE_FIELDS;
     let mut k: usize = 0;
     while k < n {
-        if nodes[3 * k] == 8 {
-            if nodes[3 * k + 1] as usize == p {
+        if nodes[NODE_FIELDS * k] == SANDBOX {
+            if nodes[NODE_FIELDS * k + 1] as usize == p {
                 return true;
             }
         }
@@ -44,10 +41,10 @@ fn opens(nodes: &[u8], p: usize) -> bool
 fn has_edge(edges: &[u8], p: usize) -> bool
     ensures { λ r. ⌜ r ≡ hasEdge (now (edges .entry)) p ⌝ }
 {
-    let n = edges.len() / 6;
+    let n = edges.len() / EDGE_FIELDS;
     let mut i: usize = 0;
     while i < n {
-        if edges[6 * i] as usize == p {
+        if edges[EDGE_FIELDS * i] as usize == p {
             return true;
         }
         i += 1;
@@ -57,8 +54,7 @@ fn has_edge(edges: &[u8], p: usize) -> bool
 
 // The check of an outline, as a flat table of nodes, under a flat table of edges.
 pub fn check(edges: &[u8], nodes: &[u8]) -> Outcome
-    ensures { λ r. ⌜ Promised (now (edges .entry)) (now (nodes .entry)) r ⌝ }
-    ensures { λ r. ⌜ Guarded (now (edges .entry)) (now (nodes .entry)) r ⌝ }
+    ensures { λ r. ⌜ CheckPromise (now (edges .entry)) (now (nodes .entry)) (outcomeVerdict r) ⌝ }
 {
     search::checked(edges, nodes)
 }

@@ -10,20 +10,19 @@ use lib.Dec.{ltb}
 use Rattle.usage.specs.declared.Edge.{Edge}
 use Rattle.usage.specs.declared.Node.{Node}
 use Rattle.usage.specs.Limits.{statics, create}
-use Rattle.checker_account.specs.Witness.{no-name, Last, by-action, by-opening, Counts, Aim, Goes, Breaks, Comes, Hits}
+use Rattle.checker_account.specs.Witness.{noName, Last, by-action, by-opening, Counts, Aim, Goes, Breaks, Comes, Hits}
 
 module _ (local : Bool) (es : List Edge) (ns : List Node) (p x : ℕ) where
   abbrev pub Root : ℕ → Option Last → Type 0
-  Root n u = Breaks local es ns p x n false 0 no-name (ltb x statics) 0 u
+  Root n u = Breaks local es ns p x n false 0 noName (ltb x statics) 0 u
 
-  pub goes-in : {n m : ℕ} {o : Bool} {k w : ℕ} {c : Bool} {q : ℕ} {t : Aim} → n ≡ m → Goes local es ns p x n o k w c q t → Goes local es ns p x m o k w c q t
+  pub goes-in : {n m : ℕ} {o : Bool} {k w : ℕ} {c : Bool} {q : ℕ} {t : Aim} → n ≡ m → Goes local es ns p x n o k w c q t
+      → Goes local es ns p x m o k w c q t
   goes-in {o = o} {k = k} {w = w} {c = c} {q = q} {t = t} e d = subst (λ (n : ℕ). Goes local es ns p x n o k w c q t) e d
 
-  comes-in : {n m : ℕ} {o : Bool} {k w : ℕ} {c : Bool} {q : ℕ} → n ≡ m → Comes local es ns p x n o k w c q → Comes local es ns p x m o k w c q
-  comes-in {o = o} {k = k} {w = w} {c = c} {q = q} e d = subst (λ (n : ℕ). Comes local es ns p x n o k w c q) e d
-
   -- a node that is come to and can break p: so can the root
-  from-root : {n m : ℕ} {o : Bool} {k w : ℕ} {c : Bool} {q : ℕ} {u : Option Last} → Comes local es ns p x n o k w c q → Breaks local es ns p x m o k w c q u → Root (n + m) u
+  from-root : {n m : ℕ} {o : Bool} {k w : ℕ} {c : Bool} {q : ℕ} {u : Option Last} → Comes local es ns p x n o k w c q
+      → Breaks local es ns p x m o k w c q u → Root (n + m) u
   from-root Comes.begins d = goes-in (omega arith) d
   from-root (Comes.first i e) d = from-root e (Goes.breaks-first i d)
   from-root (Comes.second i e f) d = goes-in (omega arith) (from-root e (Goes.sequences i f d))
@@ -49,7 +48,8 @@ module _ (local : Bool) (es : List Edge) (ns : List Node) (p x : ℕ) where
   hit-in : {n m : ℕ} {u : Option Last} → n ≡ m → Hit n u → Hit m u
   hit-in {u = u} e d = subst (λ (n : ℕ). Hit n u) e d
 
-  to-hits : {n m : ℕ} {o : Bool} {k w : ℕ} {c : Bool} {q : ℕ} {u : Option Last} → Breaks local es ns p x m o k w c q u → Comes local es ns p x n o k w c q → Hit (n + m) u
+  to-hits : {n m : ℕ} {o : Bool} {k w : ℕ} {c : Bool} {q : ℕ} {u : Option Last} → Breaks local es ns p x m o k w c q u
+      → Comes local es ns p x n o k w c q → Hit (n + m) u
   to-hits {n} (Goes.sequences {n₁ = n₁} {n₂ = n₂} i f d) e = hit-in (omega arith) (to-hits d (Comes.second i e f))
   to-hits (Goes.chooses-left i d) e = to-hits d (Comes.left i e)
   to-hits (Goes.chooses-right i d) e = to-hits d (Comes.right i e)

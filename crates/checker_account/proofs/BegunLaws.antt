@@ -13,11 +13,12 @@ use Rattle.usage.specs.Limits.{statics, states}
 use Rattle.usage.specs.Policy.{Moves, along, stays, EdgesOk}
 use Rattle.usage.specs.Past.{reopened}
 use Rattle.usage.proofs.Logic.{false-true}
-use Rattle.checker_account.specs.Witness.{no-name, forget, Aim, ended, Goes, Ends}
+use Rattle.checker_account.specs.Witness.{noName, forget, Aim, ended, Goes, Ends}
 use Rattle.checker_account.specs.Least.{Begun}
 use Rattle.checker_account.proofs.Meaning.{forget-same, forget-other}
 
-pub moves-states : {es : List Edge} {p a : ℕ} {sees : ℕ → ℕ → Type 0} {q q′ : ℕ} → EdgesOk es → Moves es p a sees q q′ → q < states → q′ < states
+pub moves-states : {es : List Edge} {p a : ℕ} {sees : ℕ → ℕ → Type 0} {q q′ : ℕ} → EdgesOk es → Moves es p a sees q q′ → q < states
+    → q′ < states
 moves-states ok (along e m f) l = ok .each e m .to
 moves-states ok (stays none) l = l
 
@@ -28,7 +29,7 @@ reopened-states local p s o q l = go (local && (eqb s p && not o))
     go true = lit< tt
     go false = l
 
-pub begun-root : (x : ℕ) → Begun x no-name (ltb x statics) 0
+pub begun-root : (x : ℕ) → Begun x noName (ltb x statics) 0
 begun-root x = record {
   name = omega arith;
   unmade = λ e. refl;
@@ -41,13 +42,15 @@ module _ {x w : ℕ} {c : Bool} {q : ℕ} (h : Begun x w c q) where
   begun-other m q₁ l = go (ℕ-discrete w m)
     where
       go : Dec (w ≡ m) → Begun x (forget w m) c q₁
-      go (yes e) = rw (forget-same w m e) (record { name = omega arith; unmade = λ f. refl; static = λ f. (refl, h .static f .1); state = l })
+      go (yes e) =
+          rw (forget-same w m e) (record { name = omega arith; unmade = λ f. refl; static = λ f. (refl, h .static f .1); state = l })
       go (no d) = rw (forget-other w m d) (record { name = h .name; unmade = h .unmade; static = h .static; state = l })
 
   pub begun-opened : (local : Bool) (p s : ℕ) (o : Bool) → Begun x w c (reopened local p s o q)
-  begun-opened local p s o = record { name = h .name; unmade = h .unmade; static = h .static; state = reopened-states local p s o q (h .state) }
+  begun-opened local p s o =
+      record { name = h .name; unmade = h .unmade; static = h .static; state = reopened-states local p s o q (h .state) }
 
-pub begun-own : {x w q : ℕ} → Begun x w false q → (m q₁ : ℕ) → m < no-name → q₁ < states → Begun x m true q₁
+pub begun-own : {x w q : ℕ} → Begun x w false q → (m q₁ : ℕ) → m < noName → q₁ < states → Begun x m true q₁
 begun-own h m q₁ k l = record { name = omega arith; unmade = λ e. false-true (sym e); static = λ f. false-true (h .static f .1); state = l }
 
 module _ (local : Bool) (es : List Edge) (ns : List Node) (p x : ℕ) (edges : EdgesOk es) where
@@ -80,11 +83,13 @@ module _ (local : Bool) (es : List Edge) (ns : List Node) (p x : ℕ) (edges : E
   goes-kept (Goes.breaks-first i d) = tt
   goes-kept (Goes.breaks-inside i d) = tt
 
-  pub begun-ended : {n : ℕ} {o : Bool} {k w : ℕ} {c : Bool} {q : ℕ} {c′ : Bool} {q′ : ℕ} → Begun x w c q → Ends local es ns p x n o k w c q c′ q′ → Begun x w c′ q′
+  pub begun-ended : {n : ℕ} {o : Bool} {k w : ℕ} {c : Bool} {q : ℕ} {c′ : Bool} {q′ : ℕ} → Begun x w c q
+      → Ends local es ns p x n o k w c q c′ q′ → Begun x w c′ q′
   begun-ended {w = w} {c = c} {c′ = c′} h d =
       let g = goes-kept d in
-      record { name = h .name; unmade = λ e. go c refl (g .0) e; static = λ f. (h .static f .0, g .0 (h .static f .1)); state = g .1 (h .state) }
+      record
+      { name = h .name; unmade = λ e. go c refl (g .0) e; static = λ f. (h .static f .0, g .0 (h .static f .1)); state = g .1 (h .state) }
     where
-      go : (b : Bool) → c ≡ b → (c ≡ true → c′ ≡ true) → c′ ≡ false → w ≡ no-name
+      go : (b : Bool) → c ≡ b → (c ≡ true → c′ ≡ true) → c′ ≡ false → w ≡ noName
       go true e f g = false-true (sym g ∙ f e)
       go false e f g = h .unmade e

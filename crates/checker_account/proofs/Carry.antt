@@ -24,10 +24,12 @@ sees-carry {x} {r} {y} {s} h small named = subst (λ (v : ℕ). Sees y s 0 v) (h
 sees-carry h small (own e) = own (h .to e)
 sees-carry h small (other d) = other (λ e. d (h .from e))
 
-fires-carry : {x r y s : ℕ} → Same x r y s → {e : Edge} {p a q : ℕ} → (e .on ≡ 0 → e .who < statics) → Fires e p a (Sees x r) q → Fires e p a (Sees y s) q
+fires-carry : {x r y s : ℕ} → Same x r y s → {e : Edge} {p a q : ℕ} → (e .on ≡ 0 → e .who < statics) → Fires e p a (Sees x r) q
+    → Fires e p a (Sees y s) q
 fires-carry h small f = record { policy = f .policy; «from» = f .from; action = f .action; label = sees-carry h small (f .label) }
 
-pub carry : {es : List Edge} → EdgesOk es → {p x r y s a q q′ : ℕ} → Same x r y s → Moves es p a (Sees x r) q q′ → Moves es p a (Sees y s) q q′
+pub carry : {es : List Edge} → EdgesOk es → {p x r y s a q q′ : ℕ} → Same x r y s → Moves es p a (Sees x r) q q′
+    → Moves es p a (Sees y s) q q′
 carry ok h (along e m f) = along e m (fires-carry h (ok .each e m .who-static) f)
 carry ok h (stays none) = stays (λ e m f. none e m (fires-carry (turn h) (ok .each e m .who-static) f))
 
@@ -40,4 +42,5 @@ pub same-own : (x r : ℕ) → r ≡ x → Same x r (min x watched) (min x watch
 same-own x r h = record { to = λ e. refl; «from» = λ e. h; static-to = λ v l e. omega arith; static-from = λ v l e. omega arith }
 
 pub same-other : (x r : ℕ) → statics ≤ r → (r ≡ x → ⊥) → Same x r (min x watched) others
-same-other x r l d = record { to = λ e. absurd (d e); «from» = λ e. omega arith; static-to = λ v k e. omega arith; static-from = λ v k e. omega arith }
+same-other x r l d =
+    record { to = λ e. absurd (d e); «from» = λ e. omega arith; static-to = λ v k e. omega arith; static-from = λ v k e. omega arith }

@@ -8,18 +8,20 @@ use native.Mathlib.Omega.{arith}
 use lib.ListN.{getD}
 use Rattle.usage.specs.declared.Edge.{Edge}
 use Rattle.usage.specs.declared.Node.{Node}
-use Rattle.usage.specs.Limits.{create}
+use Rattle.usage.specs.Limits.{create, states}
 use Rattle.usage.specs.Policy.{Sees, Moves, EdgesOk}
 use Rattle.usage.specs.Outline.{Form, Is, end, on-static, on-name, sequence, choice, loop, back, fresh, sandbox}
 use Rattle.automaton.specs.Mask.{has}
 use Rattle.automaton.proofs.MoveLaws.{moves-lt, ends-of}
 use Rattle.checker_account.specs.Witness.{watched, others, forget, Ends, Comes}
 use Rattle.checker_account.proofs.Whole.{ends-open}
-use Rattle.checker_account.specs.Mask.{over}
-use Rattle.checker_account.specs.Tables.{least, nameOf, made, forgotten, after, at, half, base, begun, Rows, place, Arrival, arrivals}
-use Rattle.checker_account.specs.Holds.{Start, Dynamic, RowsOk, NamesOk, EndsFrom, ComesFrom, HoldsEnds, ComesAt, HasCome, SoundComes, Each, ClosedComes, Come, HoldsComes}
+use Rattle.checker_account.specs.Tables.{least, nameOf, made, forgotten, meaningAfter, at, half, base, begun, Rows, place, Arrival, arrivals}
+use Rattle.checker_account.specs.Tables.{over}
+use Rattle.checker_account.specs.Holds.{Start, Dynamic, RowsOk, NamesOk, EndsFrom, ComesFrom, HoldsEnds, ComesAt, HasCome, SoundComes}
+use Rattle.checker_account.specs.Holds.{Each, ClosedComes, Come, HoldsComes}
 use Rattle.checker_account.proofs.MaskLaws.{has-none, over-found, over-at, has-half}
-use Rattle.checker_account.proofs.Starts.{stays-made, start-least, least-name, least-made, start-after, start-forgotten, start-named, after-name, after-made, forgotten-name, forgotten-made}
+use Rattle.checker_account.proofs.Starts.{stays-made, start-least, least-name, least-made, start-after, start-forgotten, start-named}
+use Rattle.checker_account.proofs.Starts.{after-name, after-made, forgotten-name, forgotten-made}
 use Rattle.checker_account.proofs.EndsTable.{unmade-watched}
 
 module _ (es : List Edge) (ns : List Node) (p x : ℕ) (rows : Rows) (small : x ≤ watched) (ok : RowsOk es ns p x rows) (names : NamesOk ns)
@@ -28,39 +30,45 @@ module _ (es : List Edge) (ns : List Node) (p x : ℕ) (rows : Rows) (small : x 
 
   -- each state of the arrival is come to
   abbrev pub Right : Arrival → Type 0
-  Right g = (q : ℕ) → q < 8 → has (g .states) q ≡ true → ComesAt es ns p x (g .to) (g .is-open) (g .meaning) q
+  Right g = (q : ℕ) → q < states → has (g .states) q ≡ true → ComesAt es ns p x (g .to) (g .is-open) (g .meaning) q
 
-  other-right : {k n b : ℕ} (o : Bool) (m v : ℕ) → Is ns k (fresh n b) → ((q : ℕ) → q < 8 → has v q ≡ true → ComesAt es ns p x k o m q)
-      → (q : ℕ) → q < 8 → has (over (rows k false) v) q ≡ true → ComesAt es ns p x b o (forgotten m n) q
+  other-right : {k n b : ℕ} (o : Bool) (m v : ℕ) → Is ns k (fresh n b) → ((q : ℕ) → q < states → has v q ≡ true → ComesAt es ns p x k o m q)
+      → (q : ℕ) → q < states → has (over (rows k false) v) q ≡ true → ComesAt es ns p x b o (forgotten m n) q
   other-right {k} {n} {b} o m v i h q l g =
       let (j, lj, hv, hr) = over-found (rows k false) v q g in
       let e : Dynamic es p x create false j q = ok .created i false (λ e. absurd (true≢false (sym e))) j q lj l .0 hr in
       subst (λ (c : Bool). ComesFrom es ns p x o b (nameOf (forgotten m n)) c q) (sym (forgotten-made m n))
-      (subst (λ (w : ℕ). ComesFrom es ns p x o b w (made m) q) (sym (forgotten-name m n (names .given i))) (_, Comes.other i (h j lj hv .1) e))
+      (subst (λ (w : ℕ). ComesFrom es ns p x o b w (made m) q) (sym (forgotten-name m n (names .given i)))
+      (_, Comes.other i (h j lj hv .1) e))
 
-  own-right : {k n b : ℕ} (o : Bool) (m v : ℕ) → Is ns k (fresh n b) → Start x m → ((q : ℕ) → q < 8 → has v q ≡ true → ComesAt es ns p x k o m q)
-      → (q : ℕ) → q < 8 → has (cond (made m) 0 (over (rows k true) v)) q ≡ true → ComesAt es ns p x b o (suc n) q
+  own-right : {k n b : ℕ} (o : Bool) (m v : ℕ) → Is ns k (fresh n b) → Start x m
+      → ((q : ℕ) → q < states → has v q ≡ true → ComesAt es ns p x k o m q)
+      → (q : ℕ) → q < states → has (cond (made m) 0 (over (rows k true) v)) q ≡ true → ComesAt es ns p x b o (suc n) q
   own-right {k} o zero v i s h q l g =
       let (j, lj, hv, hr) = over-found (rows k true) v q g in
       let e : Dynamic es p x create true j q = ok .created i true (λ _. unmade-watched es ns p x rows small ok names s) j q lj l .0 hr in
       (_, Comes.own i (h j lj hv .1) e)
   own-right o (suc m) v i s h q l g = has-none q g
 
-  second-right : {k a b : ℕ} (o : Bool) (m v : ℕ) (c : Bool) → Is ns k (sequence a b) → Start x m → ((q : ℕ) → q < 8 → has v q ≡ true → ComesAt es ns p x k o m q)
-      → (q : ℕ) → q < 8 → has (half c (begun t a m v)) q ≡ true → ComesAt es ns p x b o (after m c) q
+  second-right : {k a b : ℕ} (o : Bool) (m v : ℕ) (c : Bool) → Is ns k (sequence a b) → Start x m
+      → ((q : ℕ) → q < states → has v q ≡ true → ComesAt es ns p x k o m q)
+      → (q : ℕ) → q < states → has (half c (begun t a m v)) q ≡ true → ComesAt es ns p x b o (meaningAfter m c) q
   second-right {a = a} {b = b} o m v c i s h q l g =
       let (j, lj, hv, ht) = over-found (λ j. getD t (base a m + j) 0) v (at c q) (has-half c (begun t a m v) q l ∙ g) in
       let f : EndsFrom es ns p x a (nameOf m) (made m) j c q = ends .sound a m j c q s lj l ht in
-      subst (λ (d : Bool). ComesFrom es ns p x o b (nameOf (after m c)) d q) (sym (after-made m c (stays-made (f .1))))
-      (subst (λ (w : ℕ). ComesFrom es ns p x o b w c q) (sym (after-name m c)) (_, Comes.second i (h j lj hv .1) (ends-open es ns p x (f .1) o)))
+      subst (λ (d : Bool). ComesFrom es ns p x o b (nameOf (meaningAfter m c)) d q) (sym (after-made m c (stays-made (f .1))))
+      (subst (λ (w : ℕ). ComesFrom es ns p x o b w c q) (sym (after-name m c))
+      (_, Comes.second i (h j lj hv .1) (ends-open es ns p x (f .1) o)))
 
-  pub arrivals-right : (k : ℕ) (o : Bool) (m v : ℕ) (f : Form) → Is ns k f → Start x m → ((q : ℕ) → q < 8 → has v q ≡ true → ComesAt es ns p x k o m q)
+  pub arrivals-right : (k : ℕ) (o : Bool) (m v : ℕ) (f : Form) → Is ns k f → Start x m
+      → ((q : ℕ) → q < states → has v q ≡ true → ComesAt es ns p x k o m q)
       → Each Right (arrivals rows p t k o m v f)
   unfolding arrivals
   arrivals-right k o m v end i s h = tt
   arrivals-right k o m v (on-static a r) i s h = tt
   arrivals-right k o m v (on-name a n) i s h = tt
-  arrivals-right k o m v (sequence a b) i s h = ((λ q l g. (_, Comes.first i (h q l g .1))), (second-right o m v false i s h, (second-right o m v true i s h, tt)))
+  arrivals-right k o m v (sequence a b) i s h =
+      ((λ q l g. (_, Comes.first i (h q l g .1))), (second-right o m v false i s h, (second-right o m v true i s h, tt)))
   arrivals-right k o m v (choice a b) i s h = ((λ q l g. (_, Comes.left i (h q l g .1))), ((λ q l g. (_, Comes.right i (h q l g .1))), tt))
   arrivals-right k o m v (loop a) i s h = ((λ q l g. (_, Comes.body i (h q l g .1))), tt)
   arrivals-right k o m v (back a) i s h = ((λ q l g. (_, Comes.again i (h q l g .1))), tt)
@@ -70,23 +78,26 @@ module _ (es : List Edge) (ns : List Node) (p x : ℕ) (rows : Rows) (small : x 
   -- ── A table to which they add nothing ──
 
   module _ (edges : EdgesOk es) (u : List ℕ) (closed : ClosedComes ns p x rows t u) where
-    come-child : {o o′ : Bool} {k a w : ℕ} {c : Bool} {q : ℕ} → (h : Come x u o k w c q) → HasCome u a o′ (h .meaning) q → Come x u o′ a w c q
+    come-child : {o o′ : Bool} {k a w : ℕ} {c : Bool} {q : ℕ} → (h : Come x u o k w c q) → HasCome u a o′ (h .meaning) q
+        → Come x u o′ a w c q
     come-child h e = record { meaning = h .meaning; start = h .start; name = h .name; made = h .made; state = h .state; entered = e }
 
-    come-second : {o : Bool} {k w a b : ℕ} {c c₁ : Bool} {q q₁ : ℕ} → Is ns k (sequence a b) → Come x u o k w c q → EndsFrom es ns p x a w c q c₁ q₁ → Come x u o b w c₁ q₁
+    come-second : {o : Bool} {k w a b : ℕ} {c c₁ : Bool} {q q₁ : ℕ} → Is ns k (sequence a b) → Come x u o k w c q
+        → EndsFrom es ns p x a w c q c₁ q₁ → Come x u o b w c₁ q₁
     unfolding arrivals
     come-second {o} {k} {w} {a} {b} {c} {c₁} {q} {q₁} i h f = go (h .meaning) (h .start) (h .name) (h .made) (h .entered)
       where
         go : (m : ℕ) → Start x m → nameOf m ≡ w → made m ≡ c → HasCome u k o m q → Come x u o b w c₁ q₁
         go m s ew ec e =
             let f₁ : EndsFrom es ns p x a (nameOf m) (made m) q c₁ q₁ =
-            subst (λ (d : Bool). EndsFrom es ns p x a (nameOf m) d q c₁ q₁) (sym ec) (subst (λ (n : ℕ). EndsFrom es ns p x a n c q c₁ q₁) (sym ew) f) in
+            subst (λ (d : Bool). EndsFrom es ns p x a (nameOf m) d q c₁ q₁) (sym ec)
+            (subst (λ (n : ℕ). EndsFrom es ns p x a n c q c₁ q₁) (sym ew) f) in
             let (l₁, g) = ends .full a m q c₁ q₁ s (h .state) f₁ in
             let v = getD u (place k o m) 0 in
             let d : has (half c₁ (begun t a m v)) q₁ ≡ true =
             sym (has-half c₁ (begun t a m v) q₁ l₁) ∙ over-at (λ j. getD t (base a m + j) 0) v (at c₁ q₁) q (h .state) e g in
             record {
-              meaning = after m c₁;
+              meaning = meaningAfter m c₁;
               start = start-after c₁ s;
               name = after-name m c₁ ∙ ew;
               made = after-made m c₁ (stays-made (f₁ .1));
@@ -94,11 +105,13 @@ module _ (es : List Edge) (ns : List Node) (p x : ℕ) (rows : Rows) (small : x 
               entered = pick c₁ d l₁;
             }
           where
-            pick : (c₁ : Bool) → has (half c₁ (begun t a m (getD u (place k o m) 0))) q₁ ≡ true → q₁ < 8 → HasCome u b o (after m c₁) q₁
+            pick : (c₁ : Bool) → has (half c₁ (begun t a m (getD u (place k o m) 0))) q₁ ≡ true → q₁ < states
+                → HasCome u b o (meaningAfter m c₁) q₁
             pick false d l = closed .step k o m (sequence a b) i s .1 .0 q₁ l d
             pick true d l = closed .step k o m (sequence a b) i s .1 .1 .0 q₁ l d
 
-    come-other : {o : Bool} {k w n b : ℕ} {c : Bool} {q q₁ : ℕ} → Is ns k (fresh n b) → Come x u o k w c q → Moves es p create (Sees x others) q q₁
+    come-other : {o : Bool} {k w n b : ℕ} {c : Bool} {q q₁ : ℕ} → Is ns k (fresh n b) → Come x u o k w c q
+        → Moves es p create (Sees x others) q q₁
         → Come x u o b (forget w n) c q₁
     unfolding arrivals
     come-other {o} {k} {n = n} {b = b} {q = q} {q₁ = q₁} i h v =
@@ -111,10 +124,12 @@ module _ (es : List Edge) (ns : List Node) (p x : ℕ) (rows : Rows) (small : x 
           made = forgotten-made m n ∙ h .made;
           state = l;
           entered = closed .step k o m (fresh n b) i (h .start) .0 q₁ l
-              (over-at (rows k false) (getD u (place k o m) 0) q₁ q (h .state) (h .entered) (ok .created i false (λ e. absurd (true≢false (sym e))) q q₁ (h .state) l .1 v));
+              (over-at (rows k false) (getD u (place k o m) 0) q₁ q (h .state) (h .entered)
+              (ok .created i false (λ e. absurd (true≢false (sym e))) q q₁ (h .state) l .1 v));
         }
 
-    come-own : {o : Bool} {k w n b : ℕ} {q q₁ : ℕ} → Is ns k (fresh n b) → Come x u o k w false q → Moves es p create (Sees x x) q q₁ → Come x u o b n true q₁
+    come-own : {o : Bool} {k w n b : ℕ} {q q₁ : ℕ} → Is ns k (fresh n b) → Come x u o k w false q → Moves es p create (Sees x x) q q₁
+        → Come x u o b n true q₁
     unfolding arrivals
     come-own {o} {k} {w} {n} {b} {q} {q₁} i h v = go (h .meaning) (h .start) (h .made) (h .entered)
       where
@@ -128,13 +143,16 @@ module _ (es : List Edge) (ns : List Node) (p x : ℕ) (rows : Rows) (small : x 
               made = refl;
               state = l;
               entered = closed .step k o 0 (fresh n b) i s .1 .0 q₁ l
-                  (over-at (rows k true) (getD u (place k o 0) 0) q₁ q (h .state) e (ok .created i true (λ _. unmade-watched es ns p x rows small ok names s) q q₁ (h .state) l .1 v));
+                  (over-at (rows k true) (getD u (place k o 0) 0) q₁ q (h .state) e
+                  (ok .created i true (λ _. unmade-watched es ns p x rows small ok names s) q q₁ (h .state) l .1 v));
             }
         go (suc m) s ec e = absurd (true≢false ec)
 
     full-comes : {n : ℕ} {o : Bool} {k w : ℕ} {c : Bool} {q : ℕ} → Comes false es ns p x n o k w c q → Come x u o k w c q
     unfolding arrivals
-    full-comes Comes.begins = record { meaning = least x; start = start-least x; name = least-name x; made = least-made x; state = omega arith; entered = closed .begun }
+    full-comes Comes.begins =
+        record
+        { meaning = least x; start = start-least x; name = least-name x; made = least-made x; state = omega arith; entered = closed .begun }
     full-comes (Comes.first {k = k} {q = q} {a = a} {b = b} {o = o} i e) =
         let h = full-comes e in come-child h (closed .step k o (h .meaning) (sequence a b) i (h .start) .0 q (h .state) (h .entered))
     full-comes (Comes.second i e f) = come-second i (full-comes e) (_, ends-open es ns p x f false)

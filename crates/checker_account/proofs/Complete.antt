@@ -13,16 +13,19 @@ use Rattle.usage.specs.declared.Edge.{Edge}
 use Rattle.usage.specs.declared.Node.{Node}
 use Rattle.usage.specs.Limits.{statics, create}
 use Rattle.usage.specs.Policy.{Sees, Moves, Offending, EdgesOk}
-use Rattle.usage.specs.Past.{Step, event, opening, closing, Past, add-if, count, creates, is-open, reopened, May, start, moved, opened, closed, Occurs, Violates, Numbered}
-use Rattle.usage.specs.Outline.{Is, on-name, fresh, Names, no-names, give, Part, node, close, Advance, Runs, IsTrace}
+use Rattle.usage.specs.Past.{Step, event, opening, closing, Past, addIf, count, creates, isOpen, reopened, May, start, moved, opened}
+use Rattle.usage.specs.Past.{closed, Occurs, Violates, Numbered}
+use Rattle.usage.specs.Outline.{Is, on-name, fresh, Names, noNames, give, Part, node, close, Advance, Runs, IsTrace}
 use Rattle.usage.proofs.Logic.{clash}
-use Rattle.usage.proofs.PastLaws.{occurs-later, unseen}
+use Rattle.usage.proofs.PastLaws.{occurs-later, unseen, occurs-none, occurs-event, occurs-opening, occurs-closing}
 use Rattle.usage.proofs.TraceLaws.{closings-to-run}
-use Rattle.checker_account.specs.Witness.{watched, others, no-name, meant, forget, Last, Counts, Aim, ended, broken, Made, an-event, its-opening}
+use Rattle.checker_account.specs.Witness.{watched, others, noName, meant, forget, Last, Counts, Aim, ended, broken, Made, an-event}
+use Rattle.checker_account.specs.Witness.{its-opening}
 use Rattle.checker_account.specs.Written.{next, Written}
 use Rattle.checker_account.proofs.Scoped.{Scoped}
 use Rattle.checker_account.proofs.Carry.{turn, carry, same-static, same-own, same-other}
-use Rattle.checker_account.proofs.Meaning.{meant-own, meant-other, Means, means-none, means-other, means-own, Known, known-none, known-more, known-give}
+use Rattle.checker_account.proofs.Meaning.{meant-own, meant-other, Means, means-none, means-other, means-own, Known, known-none}
+use Rattle.checker_account.proofs.Meaning.{known-more, known-give}
 use Rattle.checker_account.proofs.Unclosed.{open-more, unclosed-open, open-level}
 
 -- what occurs once the newest step is taken away
@@ -36,35 +39,11 @@ not-opening a r s e = clash (cc)
 not-closing : (a r s : ℕ) → _≡_ {A = Step} (event a r) (closing s) → ⊥
 not-closing a r s e = clash (cc)
 
-occurs-none : (r : ℕ) → Occurs r [] → ⊥
-occurs-none r o = List·Memᴰ·not-nil (o .1)
-
-occurs-event : (r a s : ℕ) (past : Past) → Occurs r (event a s ∷ past) → (r ≡ s) ⊎ Occurs r past
-occurs-event r a s past (b, m) = go (List·Memᴰ·cases-cons m)
-  where
-    go : (_≡_ {A = Step} (event b r) (event a s)) ⊎ List·Memᴰ (event b r) past → (r ≡ s) ⊎ Occurs r past
-    go (inl e) = inl (same-resource b r a s e)
-    go (inr m) = inr (b, m)
-
-occurs-opening : (r s : ℕ) (past : Past) → Occurs r (opening s ∷ past) → Occurs r past
-occurs-opening r s past (b, m) = go (List·Memᴰ·cases-cons m)
-  where
-    go : (_≡_ {A = Step} (event b r) (opening s)) ⊎ List·Memᴰ (event b r) past → Occurs r past
-    go (inl e) = absurd (not-opening b r s e)
-    go (inr m) = (b, m)
-
-occurs-closing : (r s : ℕ) (past : Past) → Occurs r (closing s ∷ past) → Occurs r past
-occurs-closing r s past (b, m) = go (List·Memᴰ·cases-cons m)
-  where
-    go : (_≡_ {A = Step} (event b r) (closing s)) ⊎ List·Memᴰ (event b r) past → Occurs r past
-    go (inl e) = absurd (not-closing b r s e)
-    go (inr m) = (b, m)
-
 -- the numbers of fresh resources
 
 next-event : (a r : ℕ) (past : Past) → 1 ≤ a → next (event a r ∷ past) ≡ next past
 unfolding count
-next-event a r past l = ap (λ (b : Bool). statics + add-if b (creates past)) (ne-eqb a create (λ e. omega arith))
+next-event a r past l = ap (λ (b : Bool). statics + addIf b (creates past)) (ne-eqb a create (λ e. omega arith))
 
 next-create : (r : ℕ) (past : Past) → next (event create r ∷ past) ≡ suc (next past)
 unfolding count
@@ -129,15 +108,18 @@ module _ (local : Bool) (es : List Edge) (ns : List Node) (p x : ℕ) where
   Got past y rest (broken u) after = Struck u after
 
   onward-then : {past past₁ past₂ : Past} {y y₁ y₂ : ℕ} → Onward past y past₁ y₁ → Onward past₁ y₁ past₂ y₂ → Onward past y past₂ y₂
-  onward-then {past} {past₁} {past₂} {y} {y₁} {y₂} f g = record { keeps = go (f .keeps) (g .keeps); more = λ r o. g .more r (f .more r o); grown = omega (arith, f .grown, g .grown) }
+  onward-then {past} {past₁} {past₂} {y} {y₁} {y₂} f g =
+      record { keeps = go (f .keeps) (g .keeps); more = λ r o. g .more r (f .more r o); grown = omega (arith, f .grown, g .grown) }
     where
-      go : (y ≡ y₁) ⊎ ((next past ≤ y) × (next past ≤ y₁)) → (y₁ ≡ y₂) ⊎ ((next past₁ ≤ y₁) × (next past₁ ≤ y₂)) → (y ≡ y₂) ⊎ ((next past ≤ y) × (next past ≤ y₂))
+      go : (y ≡ y₁) ⊎ ((next past ≤ y) × (next past ≤ y₁)) → (y₁ ≡ y₂) ⊎ ((next past₁ ≤ y₁) × (next past₁ ≤ y₂))
+          → (y ≡ y₂) ⊎ ((next past ≤ y) × (next past ≤ y₂))
       go (inl a) (inl b) = inl (a ∙ b)
       go (inl a) (inr b) = inr (omega (arith, f .grown), omega (arith, f .grown))
       go (inr a) (inl b) = inr (a .0, omega arith)
       go (inr a) (inr b) = inr (a .0, omega (arith, f .grown))
 
-  got-after : {past past₁ : Past} {y y₁ : ℕ} (rest : List Part) (t : Aim) (after : Past) → Onward past y past₁ y₁ → Got past₁ y₁ rest t after → Got past y rest t after
+  got-after : {past past₁ : Past} {y y₁ : ℕ} (rest : List Part) (t : Aim) (after : Past) → Onward past y past₁ y₁
+      → Got past₁ y₁ rest t after → Got past y rest t after
   got-after rest (ended c q) after f d = record { y′ = d .y′; runs = d .runs; watch = d .watch; onward = onward-then f (d .onward) }
   got-after rest (broken u) after f d = d
 
@@ -147,7 +129,8 @@ module _ (local : Bool) (es : List Edge) (ns : List Node) (p x : ℕ) where
   -- the names of a part, later on
   named-after : {past after : Past} {names : Names} {y y′ w : ℕ} → ((r : ℕ) → Occurs r past → r < next past) → Onward past y after y′
       → Named past names y w → Named after names y′ w
-  named-after {past} {after} {names} {y} {y′} {w} below f h = record { means = go (f .keeps); known = record { dynamic = h .known .dynamic; occurs = λ m r e. f .more r (h .known .occurs m r e) } }
+  named-after {past} {after} {names} {y} {y′} {w} below f h =
+      record { means = go (f .keeps); known = record { dynamic = h .known .dynamic; occurs = λ m r e. f .more r (h .known .occurs m r e) } }
     where
       go : (y ≡ y′) ⊎ ((next past ≤ y) × (next past ≤ y′)) → Means names y′ w
       go (inl e) = subst (λ (t : ℕ). Means names t w) e (h .means)
@@ -170,7 +153,8 @@ module _ (local : Bool) (es : List Edge) (ns : List Node) (p x : ℕ) where
         may = unseen (λ o. omega (arith, h .below y o)) (λ o. omega (arith, h .below y′ o)) (h .may);
       }
 
-  watch-event : {past : Past} {c : Bool} {q y a r q′ : ℕ} → 1 ≤ a → r < next past → Watch past c q y → Moves es p a (Sees y r) q q′ → Watch (event a r ∷ past) c q′ y
+  watch-event : {past : Past} {c : Bool} {q y a r q′ : ℕ} → 1 ≤ a → r < next past → Watch past c q y → Moves es p a (Sees y r) q q′
+      → Watch (event a r ∷ past) c q′ y
   watch-event {past} {c} {y = y} {a = a} {r = r} l k h v =
       let e = next-event a r past l in
       record {
@@ -185,7 +169,8 @@ module _ (local : Bool) (es : List Edge) (ns : List Node) (p x : ℕ) where
       go t (inl f) = omega (arith, next-event a r past l)
       go t (inr o) = omega (arith, next-event a r past l, h .below t o)
 
-  below-create : {past : Past} (r : ℕ) → r ≡ next past → ((t : ℕ) → Occurs t past → t < next past) → (t : ℕ) → Occurs t (event create r ∷ past) → t < next (event create r ∷ past)
+  below-create : {past : Past} (r : ℕ) → r ≡ next past → ((t : ℕ) → Occurs t past → t < next past) → (t : ℕ)
+      → Occurs t (event create r ∷ past) → t < next (event create r ∷ past)
   below-create {past} r e h t o = go (occurs-event t create r past o)
     where
       go : (t ≡ r) ⊎ Occurs t past → t < next (event create r ∷ past)
@@ -212,7 +197,8 @@ module _ (local : Bool) (es : List Edge) (ns : List Node) (p x : ℕ) where
     may = moved (h .may) v;
   }
 
-  watch-opening : {past : Past} {c o : Bool} {q y : ℕ} (s : ℕ) → is-open p past ≡ o → Watch past c q y → Watch (opening s ∷ past) c (reopened local p s o q) y
+  watch-opening : {past : Past} {c o : Bool} {q y : ℕ} (s : ℕ) → isOpen p past ≡ o → Watch past c q y
+      → Watch (opening s ∷ past) c (reopened local p s o q) y
   watch-opening {past} {q = q} {y = y} s e h = record {
     role = h .role;
     below = λ t o. omega (arith, next-opening s past, h .below t (occurs-opening t s past o));
@@ -234,24 +220,30 @@ module _ (local : Bool) (es : List Edge) (ns : List Node) (p x : ℕ) where
     -- ── The moves of the watched resource's instance ──
 
     real-static : {y a s q q′ : ℕ} → min y watched ≡ x → s < statics → Moves es p a (Sees x s) q q′ → Moves es p a (Sees y s) q q′
-    real-static {y} {a} {s} {q} {q′} e l v = carry edges (turn (same-static y s l)) (subst (λ (t : ℕ). Moves es p a (Sees t s) q q′) (sym e) v)
+    real-static {y} {a} {s} {q} {q′} e l v =
+        carry edges (turn (same-static y s l)) (subst (λ (t : ℕ). Moves es p a (Sees t s) q q′) (sym e) v)
 
     real-own : {y a q q′ : ℕ} → min y watched ≡ x → Moves es p a (Sees x x) q q′ → Moves es p a (Sees y y) q q′
     real-own {y} {a} {q} {q′} e v = carry edges (turn (same-own y y refl)) (subst (λ (t : ℕ). Moves es p a (Sees t t) q q′) (sym e) v)
 
-    real-other : {y a r q q′ : ℕ} → min y watched ≡ x → statics ≤ r → (r ≡ y → ⊥) → Moves es p a (Sees x others) q q′ → Moves es p a (Sees y r) q q′
-    real-other {y} {a} {r} {q} {q′} e l d v = carry edges (turn (same-other y r l d)) (subst (λ (t : ℕ). Moves es p a (Sees t others) q q′) (sym e) v)
+    real-other : {y a r q q′ : ℕ} → min y watched ≡ x → statics ≤ r → (r ≡ y → ⊥) → Moves es p a (Sees x others) q q′
+        → Moves es p a (Sees y r) q q′
+    real-other {y} {a} {r} {q} {q′} e l d v =
+        carry edges (turn (same-other y r l d)) (subst (λ (t : ℕ). Moves es p a (Sees t others) q q′) (sym e) v)
 
-    real-name : {past : Past} {names : Names} {y w k a m r q q′ : ℕ} → min y watched ≡ x → Named past names y w → Is ns k (on-name a m) → names m ≡ some r
+    real-name : {past : Past} {names : Names} {y w k a m r q q′ : ℕ} → min y watched ≡ x → Named past names y w → Is ns k (on-name a m)
+        → names m ≡ some r
         → Dec (w ≡ m) → Moves es p a (Sees x (meant x w m)) q q′ → Moves es p a (Sees y r) q q′
     real-name {y = y} {w = w} {a = a} {m = m} {r = r} {q = q} {q′ = q′} e h i g (yes f) v =
         let d : y ≡ r = Option·some-injective y r (sym (h .means .there m (outline .name-small i) f) ∙ g) in
-        subst (λ (t : ℕ). Moves es p a (Sees y t) q q′) d (real-own e (subst (λ (t : ℕ). Moves es p a (Sees x t) q q′) (meant-own x w m f) v))
+        subst (λ (t : ℕ). Moves es p a (Sees y t) q q′) d
+        (real-own e (subst (λ (t : ℕ). Moves es p a (Sees x t) q q′) (meant-own x w m f) v))
     real-name {y = y} {w = w} {a = a} {m = m} {r = r} {q = q} {q′ = q′} e h i g (no f) v =
         let d : r ≡ y → ⊥ = λ t. f (h .means .only m (outline .name-small i) (g ∙ ap {B = Option ℕ} some t)) in
         real-other e (h .known .dynamic m r g) d (subst (λ (t : ℕ). Moves es p a (Sees x t) q q′) (meant-other x w m f) v)
 
-    name-below : {past : Past} {names : Names} {c : Bool} {q y w m r : ℕ} → Watch past c q y → Named past names y w → names m ≡ some r → r < next past
+    name-below : {past : Past} {names : Names} {c : Bool} {q y w m r : ℕ} → Watch past c q y → Named past names y w → names m ≡ some r
+        → r < next past
     name-below {m = m} {r = r} h g e = h .below r (g .known .occurs m r e)
 
     -- ── Creating ──
@@ -290,7 +282,8 @@ module _ (local : Bool) (es : List Edge) (ns : List Node) (p x : ℕ) where
             later f (beside-at i (λ e. omega arith) v (rewatch (suc (next past)) (omega arith) u) (named-after (u .below) f g))
 
     -- the watched resource takes the next number
-    module _ {past : Past} {names : Names} {q q′ y w : ℕ} (v : Moves es p create (Sees x x) q q′) (h : Watch past false q y) (g : Named past names y w) where
+    module _ {past : Past} {names : Names} {q q′ y w : ℕ} (v : Moves es p create (Sees x x) q q′) (h : Watch past false q y)
+        (g : Named past names y w) where
       own-onward : Onward past y past (next past)
       own-onward = record { keeps = inr (ltb-false y (next past) (h .made), omega arith); more = λ r o. o; grown = omega arith }
 
@@ -321,7 +314,8 @@ module _ (local : Bool) (es : List Edge) (ns : List Node) (p x : ℕ) where
       numbered = num;
     }
 
-    done-step : {past : Past} {c : Bool} {q q′ y : ℕ} {rest : List Part} (a r : ℕ) → 1 ≤ a → r < next past → Watch past c q y → Moves es p a (Sees y r) q q′
+    done-step : {past : Past} {c : Bool} {q q′ y : ℕ} {rest : List Part} (a r : ℕ) → 1 ≤ a → r < next past → Watch past c q y
+        → Moves es p a (Sees y r) q q′
         → Runs ns (record { past = event a r ∷ past; parts = rest }) → Done past y rest c q′ (event a r ∷ past)
     done-step {past} {y = y} a r l k h v rs = record {
       y′ = y;
@@ -330,7 +324,8 @@ module _ (local : Bool) (es : List Edge) (ns : List Node) (p x : ℕ) where
       onward = onward-event a r past y (omega (arith, next-event a r past l));
     }
 
-    done-closed : {past after : Past} {s y : ℕ} {rest : List Part} {c : Bool} {q : ℕ} → Done (opening s ∷ past) y (close s ∷ rest) c q after → Done past y rest c q (closing s ∷ after)
+    done-closed : {past after : Past} {s y : ℕ} {rest : List Part} {c : Bool} {q : ℕ} → Done (opening s ∷ past) y (close s ∷ rest) c q after
+        → Done past y rest c q (closing s ∷ after)
     done-closed {past} {after} {s} {y} d = record {
       y′ = d .y′;
       runs = Runs.moved (d .runs) Advance.closes;
@@ -342,12 +337,14 @@ module _ (local : Bool) (es : List Edge) (ns : List Node) (p x : ℕ) where
       };
     }
 
-    inside-level : (s : ℕ) {o : Bool} (rest : List Part) → ltb 0 (closings-to-run p rest) ≡ o → ltb 0 (closings-to-run p (close s ∷ rest)) ≡ (o || eqb s p)
+    inside-level : (s : ℕ) {o : Bool} (rest : List Part) → ltb 0 (closings-to-run p rest) ≡ o
+        → ltb 0 (closings-to-run p (close s ∷ rest)) ≡ (o || eqb s p)
     unfolding closings-to-run
     inside-level s rest e = open-more (eqb s p) (closings-to-run p rest) ∙ ap (λ (t : Bool). t || eqb s p) e
 
-    node-level : {past : Past} {k : ℕ} {names : Names} {rest : List Part} {o : Bool} → Runs ns (record { past = past; parts = node k names ∷ rest })
-        → ltb 0 (closings-to-run p rest) ≡ o → is-open p past ≡ o
+    node-level : {past : Past} {k : ℕ} {names : Names} {rest : List Part} {o : Bool}
+        → Runs ns (record { past = past; parts = node k names ∷ rest })
+        → ltb 0 (closings-to-run p rest) ≡ o → isOpen p past ≡ o
     unfolding closings-to-run
     node-level rs e = open-level ns p rs ∙ e
 
@@ -370,9 +367,11 @@ module _ (local : Bool) (es : List Edge) (ns : List Node) (p x : ℕ) where
     }
     runs-written (Written.fires-static {a = a} {s = s} {past = past} i v) h g rs l =
         let k = outline .static-small i in
-        done-step a s (outline .static-acts i) (omega (arith, next-dynamic past)) h (real-static (h .role) k v) (Runs.moved rs (Advance.fires-static i))
+        done-step a s (outline .static-acts i) (omega (arith, next-dynamic past)) h (real-static (h .role) k v)
+        (Runs.moved rs (Advance.fires-static i))
     runs-written (Written.fires-name {w = w} {a = a} {m = m} {r = r} i e v) h g rs l =
-        done-step a r (outline .name-acts i) (name-below h g e) h (real-name (h .role) g i e (ℕ-discrete w m) v) (Runs.moved rs (Advance.fires-name i e))
+        done-step a r (outline .name-acts i) (name-below h g e) h (real-name (h .role) g i e (ℕ-discrete w m) v)
+        (Runs.moved rs (Advance.fires-name i e))
     runs-written (Written.sequences {past₂ = after} {t = t} i u v) h g {rest} rs l =
         let d = runs-written u h g (Runs.moved rs (Advance.sequences i)) l in
         got-after rest t after (d .onward) (runs-written v (d .watch) (named-after (h .below) (d .onward) g) (d .runs) l)
@@ -382,12 +381,16 @@ module _ (local : Bool) (es : List Edge) (ns : List Node) (p x : ℕ) where
     runs-written (Written.repeats i u) h g rs l = runs-written u h g (Runs.moved rs (Advance.repeats i)) l
     runs-written (Written.creates-other {past = past} {past₁ = after} {t = t} i v u) h g {rest} rs l =
         let d = beside i v h g in
-        got-after rest t after (d .onward) (runs-written u (d .watch) (d .named) (Runs.moved rs (Advance.creates i (next-dynamic past) (λ o. omega (arith, h .below (next past) o)))) l)
+        got-after rest t after (d .onward)
+        (runs-written u (d .watch) (d .named)
+        (Runs.moved rs (Advance.creates i (next-dynamic past) (λ o. omega (arith, h .below (next past) o)))) l)
     runs-written (Written.creates-own {m = m} {past = past} {past₁ = after} {t = t} i v u) h g {rest} rs l =
         got-after rest t after (onward-then (own-onward v h g) (onward-create past (next past)))
-        (runs-written u (own-watch v h g) (own-named v h g m) (Runs.moved rs (Advance.creates i (next-dynamic past) (λ o. omega (arith, h .below (next past) o)))) l)
+        (runs-written u (own-watch v h g) (own-named v h g m)
+        (Runs.moved rs (Advance.creates i (next-dynamic past) (λ o. omega (arith, h .below (next past) o)))) l)
     runs-written (Written.sandboxes {s = s} i u) h g {rest} rs l =
-        done-closed (runs-written u (watch-opening s (node-level rs l) h) (named-opening s g) (Runs.moved rs (Advance.opens i)) (inside-level s rest l))
+        done-closed
+        (runs-written u (watch-opening s (node-level rs l) h) (named-opening s g) (Runs.moved rs (Advance.opens i)) (inside-level s rest l))
     runs-written (Written.breaks-static {a = a} {s = s} {past = past} i v f z) h g rs l =
         let k = outline .static-small i in
         let u = watch-event (outline .static-acts i) (omega (arith, next-dynamic past)) h (real-static (h .role) k v) in
@@ -397,10 +400,12 @@ module _ (local : Bool) (es : List Edge) (ns : List Node) (p x : ℕ) where
         struck an-event z (Runs.moved rs (Advance.fires-name i e)) l (u .may) (u .numbered) f
     runs-written (Written.breaks-other {past = past} i v f z) h g rs l =
         let d = beside i v h g in
-        struck an-event z (Runs.moved rs (Advance.creates i (next-dynamic past) (λ o. omega (arith, h .below (next past) o)))) l (d .watch .may) (d .watch .numbered) f
+        struck an-event z (Runs.moved rs (Advance.creates i (next-dynamic past) (λ o. omega (arith, h .below (next past) o)))) l
+        (d .watch .may) (d .watch .numbered) f
     runs-written (Written.breaks-own {past = past} i v f z) h g rs l =
         let u = own-watch v h g in
-        struck an-event z (Runs.moved rs (Advance.creates i (next-dynamic past) (λ o. omega (arith, h .below (next past) o)))) l (u .may) (u .numbered) f
+        struck an-event z (Runs.moved rs (Advance.creates i (next-dynamic past) (λ o. omega (arith, h .below (next past) o)))) l (u .may)
+        (u .numbered) f
     runs-written (Written.breaks-opening {o = o} i f z) h g {rest} rs l =
         let u = watch-opening p (node-level rs l) h in
         struck its-opening z (Runs.moved rs (Advance.opens i)) (inside-level p rest l ∙ opening-level o) (u .may) (u .numbered) f
@@ -415,6 +420,6 @@ module _ (local : Bool) (es : List Edge) (ns : List Node) (p x : ℕ) where
     watch-begin small = record { role = omega arith; below = λ r o. absurd (occurs-none r o); numbered = tt; made = refl; may = start }
 
     pub written-struck : x ≤ watched → {n : ℕ} {u : Option Last} {after : Past}
-        → Written local es ns p x n false 0 no-names no-name (ltb x statics) 0 [] (broken u) after → Struck u after
+        → Written local es ns p x n false 0 noNames noName (ltb x statics) 0 [] (broken u) after → Struck u after
     unfolding closings-to-run
     written-struck small u = runs-written u (watch-begin small) (record { means = means-none x; known = known-none }) Runs.started refl

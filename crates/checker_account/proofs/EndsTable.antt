@@ -11,26 +11,29 @@ use lib.Bits.{bitOr}
 use borrow.Author.Tests.{eqb-true, eq-eqb}
 use Rattle.usage.specs.declared.Edge.{Edge}
 use Rattle.usage.specs.declared.Node.{Node}
-use Rattle.usage.specs.Limits.{create}
+use Rattle.usage.specs.Limits.{create, states}
 use Rattle.usage.specs.Policy.{Sees, Moves, EdgesOk}
 use Rattle.usage.specs.Outline.{Form, Is, end, on-static, on-name, sequence, choice, loop, back, fresh, sandbox}
 use Rattle.automaton.specs.Mask.{has}
 use Rattle.automaton.proofs.MaskLaws.{has-pow}
 use Rattle.automaton.proofs.MoveLaws.{moves-lt, ends-of}
-use Rattle.checker_account.specs.Witness.{watched, others, no-name, meant, forget, Goes, ended, Ends}
+use Rattle.checker_account.specs.Witness.{watched, others, noName, meant, forget, Goes, ended, Ends}
 use Rattle.checker_account.proofs.Whole.{ends-open}
-use Rattle.checker_account.specs.Tables.{nameOf, made, forgotten, after, at, half, base, kept, begun, Rows, endsBy}
+use Rattle.checker_account.specs.Tables.{nameOf, made, forgotten, meaningAfter, at, half, base, kept, begun, Rows, endsBy}
 use Rattle.checker_account.specs.Holds.{Start, Dynamic, RowsOk, NamesOk, EndsFrom, EndsAt, HasEnd, SoundEnds, ClosedEnds, HoldsEnds}
-use Rattle.checker_account.proofs.MaskLaws.{has-left, has-right, has-either, has-none, over-found, over-at, has-half, kept-found, kept-at}
-use Rattle.checker_account.proofs.Starts.{stays-made, start-dynamic, start-after, start-forgotten, start-named, after-name, after-made, meant-is, forgotten-name, forgotten-made, own-watched}
+use Rattle.checker_account.proofs.MaskLaws.{has-left, has-right, has-either, has-none, over-found, over-at, has-half, kept-found}
+use Rattle.checker_account.proofs.MaskLaws.{kept-at}
+use Rattle.checker_account.proofs.Starts.{stays-made, start-dynamic, start-after, start-forgotten, start-named, after-name}
+use Rattle.checker_account.proofs.Starts.{after-made, meant-is, forgotten-name, forgotten-made, own-watched}
 
-module _ (es : List Edge) (ns : List Node) (p x : ℕ) (rows : Rows) (small : x ≤ watched) (ok : RowsOk es ns p x rows) (names : NamesOk ns) where
+module _ (es : List Edge) (ns : List Node) (p x : ℕ) (rows : Rows) (small : x ≤ watched) (ok : RowsOk es ns p x rows)
+    (names : NamesOk ns) where
   -- the watched resource, where it can still be created
   pub unmade-watched : Start x 0 → x ≡ watched
   unmade-watched s = let l = start-dynamic s (omega arith) in omega arith
 
   -- the move of a node's event on a name, and of its row
-  pub name-moves : {k a n : ℕ} (m q q′ : ℕ) → Is ns k (on-name a n) → Start x m → q < 8 → q′ < 8
+  pub name-moves : {k a n : ℕ} (m q q′ : ℕ) → Is ns k (on-name a n) → Start x m → q < states → q′ < states
       → (has (rows k (eqb m (suc n)) q) q′ ≡ true) ↔ Moves es p a (Sees x (meant x (nameOf m) n)) q q′
   name-moves {a = a} {n = n} m q q′ i s l l′ =
       let e = meant-is x m n (names .used i) in
@@ -41,12 +44,13 @@ module _ (es : List Edge) (ns : List Node) (p x : ℕ) (rows : Rows) (small : x 
   ends-made {k} {w} {q} {q′} {c} e h = subst (λ (d : Bool). EndsFrom es ns p x k w c q d q′) e h
 
   -- an end of a node begun after another one, and of one begun once a name is given to another resource
-  ends-after : {k q q′ : ℕ} {c : Bool} (m : ℕ) (c₁ : Bool) → (made m ≡ true → c₁ ≡ true) → EndsAt es ns p x k (after m c₁) q c q′
+  ends-after : {k q q′ : ℕ} {c : Bool} (m : ℕ) (c₁ : Bool) → (made m ≡ true → c₁ ≡ true) → EndsAt es ns p x k (meaningAfter m c₁) q c q′
       → EndsFrom es ns p x k (nameOf m) c₁ q c q′
   ends-after {k} {q} {q′} {c} m c₁ keeps h =
-      subst (λ (d : Bool). EndsFrom es ns p x k (nameOf m) d q c q′) (after-made m c₁ keeps) (subst (λ (w : ℕ). EndsFrom es ns p x k w (made (after m c₁)) q c q′) (after-name m c₁) h)
+      subst (λ (d : Bool). EndsFrom es ns p x k (nameOf m) d q c q′) (after-made m c₁ keeps)
+      (subst (λ (w : ℕ). EndsFrom es ns p x k w (made (meaningAfter m c₁)) q c q′) (after-name m c₁) h)
 
-  ends-forgotten : {k q q′ : ℕ} {c : Bool} (m n : ℕ) → n < no-name → EndsAt es ns p x k (forgotten m n) q c q′
+  ends-forgotten : {k q q′ : ℕ} {c : Bool} (m n : ℕ) → n < noName → EndsAt es ns p x k (forgotten m n) q c q′
       → EndsFrom es ns p x k (forget (nameOf m) n) (made m) q c q′
   ends-forgotten {k} {q} {q′} {c} m n l h =
       subst (λ (d : Bool). EndsFrom es ns p x k (forget (nameOf m) n) d q c q′) (forgotten-made m n)
@@ -55,28 +59,29 @@ module _ (es : List Edge) (ns : List Node) (p x : ℕ) (rows : Rows) (small : x 
   -- ── What the rules add ──
 
   module _ (t : List ℕ) (sound : SoundEnds es ns p x t) where
-    sound-end : {k : ℕ} (m q : ℕ) (c : Bool) (q′ : ℕ) → q < 8 → q′ < 8 → Is ns k end → has (kept m (2 ^ q)) (at c q′) ≡ true → EndsAt es ns p x k m q c q′
+    sound-end : {k : ℕ} (m q : ℕ) (c : Bool) (q′ : ℕ) → q < states → q′ < states → Is ns k end → has (kept m (2 ^ q)) (at c q′) ≡ true
+        → EndsAt es ns p x k m q c q′
     sound-end {k} m q c q′ l l′ i h =
         let (e, g) = kept-found (2 ^ q) m c q′ l′ h in
         let f : q ≡ q′ = eqb-true q q′ (sym (has-pow q q′ l l′) ∙ g) in
         ends-made e (subst (λ (r : ℕ). EndsAt es ns p x k m q (made m) r) f (0, Goes.ends i))
 
-    sound-sequence : {k a b : ℕ} (m q : ℕ) (c : Bool) (q′ : ℕ) (c₁ : Bool) → Start x m → q < 8 → q′ < 8 → Is ns k (sequence a b)
-        → has (begun t b (after m c₁) (half c₁ (getD t (base a m + q) 0))) (at c q′) ≡ true → EndsAt es ns p x k m q c q′
+    sound-sequence : {k a b : ℕ} (m q : ℕ) (c : Bool) (q′ : ℕ) (c₁ : Bool) → Start x m → q < states → q′ < states → Is ns k (sequence a b)
+        → has (begun t b (meaningAfter m c₁) (half c₁ (getD t (base a m + q) 0))) (at c q′) ≡ true → EndsAt es ns p x k m q c q′
     sound-sequence {a = a} {b = b} m q c q′ c₁ s l l′ i h =
         let v = getD t (base a m + q) 0 in
-        let (j, lj, hv, ht) = over-found (λ j. getD t (base b (after m c₁) + j) 0) (half c₁ v) (at c q′) h in
+        let (j, lj, hv, ht) = over-found (λ j. getD t (base b (meaningAfter m c₁) + j) 0) (half c₁ v) (at c q′) h in
         let f : EndsAt es ns p x a m q c₁ j = sound a m q c₁ j s l lj (has-half c₁ v j lj ∙ hv) in
-        let g = ends-after m c₁ (stays-made (f .1)) (sound b (after m c₁) j c q′ (start-after c₁ s) lj l′ ht) in (_, Goes.sequences i (f .1) (g .1))
+        let g = ends-after m c₁ (stays-made (f .1)) (sound b (meaningAfter m c₁) j c q′ (start-after c₁ s) lj l′ ht) in (_, Goes.sequences i (f .1) (g .1))
 
-    sound-other : {k n b : ℕ} (m q : ℕ) (c : Bool) (q′ : ℕ) → Start x m → q < 8 → q′ < 8 → Is ns k (fresh n b)
+    sound-other : {k n b : ℕ} (m q : ℕ) (c : Bool) (q′ : ℕ) → Start x m → q < states → q′ < states → Is ns k (fresh n b)
         → has (begun t b (forgotten m n) (rows k false q)) (at c q′) ≡ true → EndsAt es ns p x k m q c q′
     sound-other {k} {n} {b} m q c q′ s l l′ i h =
         let (j, lj, hv, ht) = over-found (λ j. getD t (base b (forgotten m n) + j) 0) (rows k false q) (at c q′) h in
         let v : Dynamic es p x create false q j = ok .created i false (λ e. absurd (true≢false (sym e))) q j l lj .0 hv in
         let g = ends-forgotten m n (names .given i) (sound b (forgotten m n) j c q′ (start-forgotten n s) lj l′ ht) in (_, Goes.creates-other i v (g .1))
 
-    sound-own : {k n b : ℕ} (m q : ℕ) (c : Bool) (q′ : ℕ) → Start x m → q < 8 → q′ < 8 → Is ns k (fresh n b)
+    sound-own : {k n b : ℕ} (m q : ℕ) (c : Bool) (q′ : ℕ) → Start x m → q < states → q′ < states → Is ns k (fresh n b)
         → has (cond (made m) 0 (begun t b (suc n) (rows k true q))) (at c q′) ≡ true → EndsAt es ns p x k m q c q′
     sound-own {k} {n} {b} zero q c q′ s l l′ i h =
         let (j, lj, hv, ht) = over-found (λ j. getD t (base b (suc n) + j) 0) (rows k true q) (at c q′) h in
@@ -84,7 +89,7 @@ module _ (es : List Edge) (ns : List Node) (p x : ℕ) (rows : Rows) (small : x 
         let g = sound b (suc n) j c q′ (start-named n (names .given i) s) lj l′ ht in (_, Goes.creates-own i v (g .1))
     sound-own (suc m) q c q′ s l l′ i h = has-none (at c q′) h
 
-    pub rule-sound : (k m q : ℕ) (f : Form) → Is ns k f → Start x m → q < 8 → (c : Bool) (q′ : ℕ) → q′ < 8
+    pub rule-sound : (k m q : ℕ) (f : Form) → Is ns k f → Start x m → q < states → (c : Bool) (q′ : ℕ) → q′ < states
         → has (endsBy rows x t k m q f) (at c q′) ≡ true → EndsAt es ns p x k m q c q′
     unfolding endsBy
     rule-sound k m q end i s l c q′ l′ h = sound-end m q c q′ l l′ i h
@@ -99,7 +104,8 @@ module _ (es : List Edge) (ns : List Node) (p x : ℕ) (rows : Rows) (small : x 
         v : ℕ
         v = getD t (base a m + q) 0
 
-        go : (has (begun t b (after m false) (half false v)) (at c q′) ≡ true) ⊎ (has (begun t b (after m true) (half true v)) (at c q′) ≡ true)
+        go : (has (begun t b (meaningAfter m false) (half false v)) (at c q′) ≡ true)
+            ⊎ (has (begun t b (meaningAfter m true) (half true v)) (at c q′) ≡ true)
             → EndsAt es ns p x k m q c q′
         go (inl g) = sound-sequence m q c q′ false s l l′ i g
         go (inr g) = sound-sequence m q c q′ true s l l′ i g
@@ -112,7 +118,8 @@ module _ (es : List Edge) (ns : List Node) (p x : ℕ) (rows : Rows) (small : x 
     rule-sound k m q (back a) i s l c q′ l′ h = (_, Goes.repeats i (sound a m q c q′ s l l′ h .1))
     rule-sound k m q (fresh n b) i s l c q′ l′ h = go (has-either _ _ (at c q′) h)
       where
-        go : (has (begun t b (forgotten m n) (rows k false q)) (at c q′) ≡ true) ⊎ (has (cond (made m) 0 (begun t b (suc n) (rows k true q))) (at c q′) ≡ true)
+        go : (has (begun t b (forgotten m n) (rows k false q)) (at c q′) ≡ true)
+            ⊎ (has (cond (made m) 0 (begun t b (suc n) (rows k true q))) (at c q′) ≡ true)
             → EndsAt es ns p x k m q c q′
         go (inl g) = sound-other m q c q′ s l l′ i g
         go (inr g) = sound-own m q c q′ s l l′ i g
@@ -121,45 +128,51 @@ module _ (es : List Edge) (ns : List Node) (p x : ℕ) (rows : Rows) (small : x 
   -- ── A table to which they add nothing ──
 
   module _ (edges : EdgesOk es) (t : List ℕ) (closed : ClosedEnds ns x rows t) where
-    begun-at : (b m v d j : ℕ) → j < 8 → has v j ≡ true → has (getD t (base b m + j) 0) d ≡ true → has (begun t b m v) d ≡ true
+    begun-at : (b m v d j : ℕ) → j < states → has v j ≡ true → has (getD t (base b m + j) 0) d ≡ true → has (begun t b m v) d ≡ true
     begun-at b m v d j l h g = over-at (λ j. getD t (base b m + j) 0) v d j l h g
 
     abbrev Full : ℕ → ℕ → ℕ → Bool → ℕ → Type 0
-    Full k m q c q′ = (q′ < 8) × HasEnd t k m q c q′
+    Full k m q c q′ = (q′ < states) × HasEnd t k m q c q′
 
-    full-kept : {k m q : ℕ} {c : Bool} (v q′ : ℕ) (f : Form) → endsBy rows x t k m q f ≡ kept m v → Is ns k f → Start x m → made m ≡ c → q < 8
-        → q′ < 8 → has v q′ ≡ true → Full k m q c q′
+    full-kept : {k m q : ℕ} {c : Bool} (v q′ : ℕ) (f : Form) → endsBy rows x t k m q f ≡ kept m v → Is ns k f → Start x m → made m ≡ c
+        → q < states
+        → q′ < states → has v q′ ≡ true → Full k m q c q′
     full-kept {k} {m} {q} {c} v q′ f d i s e l l′ h =
         (l′, subst (λ (b : Bool). HasEnd t k m q b q′) e (closed k m q f i s l (made m) q′ l′ (ap (λ (n : ℕ). has n (at (made m) q′)) d ∙ kept-at v m q′ l′ h)))
 
-    full-sequence : {k a b : ℕ} (m q : ℕ) (c₁ : Bool) (j : ℕ) (c : Bool) (q′ : ℕ) → Is ns k (sequence a b) → Start x m → q < 8
-        → Full a m q c₁ j → Full b (after m c₁) j c q′ → Full k m q c q′
+    full-sequence : {k a b : ℕ} (m q : ℕ) (c₁ : Bool) (j : ℕ) (c : Bool) (q′ : ℕ) → Is ns k (sequence a b) → Start x m → q < states
+        → Full a m q c₁ j → Full b (meaningAfter m c₁) j c q′ → Full k m q c q′
     unfolding endsBy
-    full-sequence {k} {a} {b} m q c₁ j c q′ i s l (lj, f) (l′, g) = (l′, closed k m q (sequence a b) i s l c q′ l′ (go c₁ (begun-at b (after m c₁) (half c₁ v) (at c q′) j lj (sym (has-half c₁ v j lj) ∙ f) g)))
+    full-sequence {k} {a} {b} m q c₁ j c q′ i s l (lj, f) (l′, g) =
+        let h = begun-at b (meaningAfter m c₁) (half c₁ v) (at c q′) j lj (sym (has-half c₁ v j lj) ∙ f) g in
+        (l′, closed k m q (sequence a b) i s l c q′ l′ (go c₁ h))
       where
         v : ℕ
         v = getD t (base a m + q) 0
 
-        go : (d : Bool) → has (begun t b (after m d) (half d v)) (at c q′) ≡ true
-            → has (bitOr (begun t b (after m false) (half false v)) (begun t b (after m true) (half true v))) (at c q′) ≡ true
-        go false h = has-left (begun t b (after m false) (half false v)) (begun t b (after m true) (half true v)) (at c q′) h
-        go true h = has-right (begun t b (after m false) (half false v)) (begun t b (after m true) (half true v)) (at c q′) h
+        go : (d : Bool) → has (begun t b (meaningAfter m d) (half d v)) (at c q′) ≡ true
+            → has (bitOr (begun t b (meaningAfter m false) (half false v)) (begun t b (meaningAfter m true) (half true v))) (at c q′) ≡ true
+        go false h = has-left (begun t b (meaningAfter m false) (half false v)) (begun t b (meaningAfter m true) (half true v)) (at c q′) h
+        go true h = has-right (begun t b (meaningAfter m false) (half false v)) (begun t b (meaningAfter m true) (half true v)) (at c q′) h
 
-    full-other : {k n b : ℕ} (m q j : ℕ) (c : Bool) (q′ : ℕ) → Is ns k (fresh n b) → Start x m → q < 8 → j < 8
+    full-other : {k n b : ℕ} (m q j : ℕ) (c : Bool) (q′ : ℕ) → Is ns k (fresh n b) → Start x m → q < states → j < states
         → Moves es p create (Sees x others) q j → Full b (forgotten m n) j c q′ → Full k m q c q′
     unfolding endsBy
     full-other {k} {n} {b} m q j c q′ i s l lj v (l′, g) =
         let h = ok .created i false (λ e. absurd (true≢false (sym e))) q j l lj .1 v in
         (l′, closed k m q (fresh n b) i s l c q′ l′ (has-left _ _ (at c q′) (begun-at b (forgotten m n) (rows k false q) (at c q′) j lj h g)))
 
-    full-own : {k n b : ℕ} (q j : ℕ) (c : Bool) (q′ : ℕ) → Is ns k (fresh n b) → Start x 0 → q < 8 → j < 8
+    full-own : {k n b : ℕ} (q j : ℕ) (c : Bool) (q′ : ℕ) → Is ns k (fresh n b) → Start x 0 → q < states → j < states
         → Moves es p create (Sees x x) q j → Full b (suc n) j c q′ → Full k 0 q c q′
     unfolding endsBy
     full-own {k} {n} {b} q j c q′ i s l lj v (l′, g) =
         let h = ok .created i true (λ _. unmade-watched s) q j l lj .1 v in
-        (l′, closed k 0 q (fresh n b) i s l c q′ l′ (has-right (begun t b (forgotten 0 n) (rows k false q)) (begun t b (suc n) (rows k true q)) (at c q′) (begun-at b (suc n) (rows k true q) (at c q′) j lj h g)))
+        let e = begun-at b (suc n) (rows k true q) (at c q′) j lj h g in
+        let other = begun t b (forgotten 0 n) (rows k false q) in
+        (l′, closed k 0 q (fresh n b) i s l c q′ l′ (has-right other (begun t b (suc n) (rows k true q)) (at c q′) e))
 
-    full-ends : {n k w q q′ : ℕ} {o c c′ : Bool} → Ends false es ns p x n o k w c q c′ q′ → (m : ℕ) → Start x m → nameOf m ≡ w → made m ≡ c → q < 8 → Full k m q c′ q′
+    full-ends : {n k w q q′ : ℕ} {o c c′ : Bool} → Ends false es ns p x n o k w c q c′ q′ → (m : ℕ) → Start x m → nameOf m ≡ w → made m ≡ c
+        → q < states → Full k m q c′ q′
     unfolding endsBy
     full-ends (Goes.ends {q = q} i) m s ew ec l = full-kept (2 ^ q) q end refl i s ec l l (has-pow q q l l ∙ eq-eqb q q refl)
     full-ends (Goes.fires-static {k = k} {q = q} {a = a} {s = r} {q′ = q′} i v) m s ew ec l =
@@ -172,7 +185,7 @@ module _ (es : List Edge) (ns : List Node) (p x : ℕ) (rows : Rows) (small : x 
     full-ends (Goes.sequences {q = q} {q₁ = q₁} {c₁ = c₁} {t = ended c₂ q₂} i f g) m s ew ec l =
         let h = full-ends f m s ew ec l in
         full-sequence m q c₁ q₁ c₂ q₂ i s l h
-        (full-ends g (after m c₁) (start-after c₁ s) (after-name m c₁ ∙ ew) (after-made m c₁ (λ e. stays-made f (sym ec ∙ e))) (h .0))
+        (full-ends g (meaningAfter m c₁) (start-after c₁ s) (after-name m c₁ ∙ ew) (after-made m c₁ (λ e. stays-made f (sym ec ∙ e))) (h .0))
     full-ends (Goes.chooses-left {k = k} {q = q} {a = a} {b = b} {t = ended c₂ q₂} i f) m s ew ec l =
         let (l′, h) = full-ends f m s ew ec l in (l′, closed k m q (choice a b) i s l c₂ q₂ l′ (has-left _ _ (at c₂ q₂) h))
     full-ends (Goes.chooses-right {k = k} {q = q} {a = a} {b = b} {t = ended c₂ q₂} i f) m s ew ec l =
@@ -184,7 +197,8 @@ module _ (es : List Edge) (ns : List Node) (p x : ℕ) (rows : Rows) (small : x 
     full-ends (Goes.creates-other {q = q} {m = n} {q₁ = q₁} {t = ended c₂ q₂} i v f) m s ew ec l =
         let l₁ = moves-lt (ends-of edges) l v in
         full-other m q q₁ c₂ q₂ i s l l₁ v
-        (full-ends f (forgotten m n) (start-forgotten n s) (forgotten-name m n (names .given i) ∙ ap (λ (w : ℕ). forget w n) ew) (forgotten-made m n ∙ ec) l₁)
+        (full-ends f (forgotten m n) (start-forgotten n s) (forgotten-name m n (names .given i) ∙ ap (λ (w : ℕ). forget w n) ew)
+        (forgotten-made m n ∙ ec) l₁)
     full-ends (Goes.creates-own {q = q} {m = n} {q₁ = q₁} {t = ended c₂ q₂} i v f) zero s ew ec l =
         let l₁ = moves-lt (ends-of edges) l v in
         full-own q q₁ c₂ q₂ i s l l₁ v (full-ends f (suc n) (start-named n (names .given i) s) refl refl l₁)

@@ -13,14 +13,15 @@ use lib.ListN.{length}
 use borrow.Author.Tests.{ne-eqb}
 use Rattle.usage.specs.declared.Edge.{Edge}
 use Rattle.usage.specs.declared.Node.{Node}
-use Rattle.usage.specs.Limits.{most-shown}
+use Rattle.usage.specs.Limits.{mostShown}
 use Rattle.usage.specs.Policy.{Sees, EdgesOk}
-use Rattle.usage.specs.Past.{Step, event, opening, closing, Past, add-if, count, openings, closings, Open, is-open, May, Violates, Numbered}
-use Rattle.usage.specs.Outline.{no-names, IsTrace}
+use Rattle.usage.specs.Past.{Step, event, opening, closing, Past, addIf, count, openings, closings, Open, isOpen, May, Violates, Numbered}
+use Rattle.usage.specs.Outline.{noNames, IsTrace}
 use Rattle.usage.specs.Check.{Leaves, Shortest, Shown, longer}
 use Rattle.usage.proofs.PastLaws.{before-opening, before-closing, reopened-other}
 use Rattle.usage.proofs.TraceLaws.{trace-tail}
-use Rattle.checker_account.specs.Witness.{watched, Last, by-action, by-opening, Counts, one, Hits, Made, an-event, its-opening, LeavesBy}
+use Rattle.checker_account.specs.Witness.{watched, Last, by-action, by-opening, Counts, one, Hits, Made, an-event, its-opening}
+use Rattle.checker_account.specs.Witness.{LeavesBy}
 use Rattle.checker_account.proofs.Scoped.{Scoped}
 use Rattle.checker_account.proofs.Ahead.{hits-exact}
 use Rattle.checker_account.proofs.Writing.{written-length, goes-written}
@@ -41,10 +42,10 @@ module _ (local : Bool) (es : List Edge) (ns : List Node) (p : ℕ) where
   may-before : {x s q : ℕ} {past : Past} → (s ≡ p → ⊥) → May local es p (Sees x) (opening s ∷ past) q → May local es p (Sees x) past q
   may-before {x} {s} {q} {past} d m =
       let (q₀, m₀, e) = before-opening m in
-      subst (λ (t : ℕ). May local es p (Sees x) past t) (sym (reopened-other local p s (is-open p past) q₀ d) ∙ e) m₀
+      subst (λ (t : ℕ). May local es p (Sees x) past t) (sym (reopened-other local p s (isOpen p past) q₀ d) ∙ e) m₀
 
   -- a closing opens nothing, and the opening of another policy opens not this one
-  open-before-closing : (b : Bool) (c o : ℕ) → add-if b c < o → c < o
+  open-before-closing : (b : Bool) (c o : ℕ) → addIf b c < o → c < o
   open-before-closing true c o h = omega arith
   open-before-closing false c o h = h
 
@@ -81,14 +82,18 @@ module _ (local : Bool) (es : List Edge) (ns : List Node) (p : ℕ) where
 
 -- ── The theorems ──
 
-module _ (local : Bool) (es : List Edge) (ns : List Node) (scope : ℕ → ℕ → Type 0) (p : ℕ) (edges : EdgesOk es) (outline : Scoped ns scope) where
+module _ (local : Bool) (es : List Edge) (ns : List Node) (scope : ℕ → ℕ → Type 0) (p : ℕ) (edges : EdgesOk es)
+    (outline : Scoped ns scope) where
   only-one : {last by : Last} → Counts (some last) by → by ≡ last
   only-one one = refl
 
   -- what the account tells can be written down
-  complete : {x n : ℕ} {last : Last} → x ≤ watched → Hits local es ns p x n last → (l : LeavesBy local es ns p n last) × Numbered (l .step ∷ l .past)
+  complete : {x n : ℕ} {last : Last} → x ≤ watched → Hits local es ns p x n last
+      → (l : LeavesBy local es ns p n last) × Numbered (l .step ∷ l .past)
   complete {x} {n} {last} small h =
-      let (after, u) = goes-written local es ns p x scope outline (hits-exact local es ns p x n (some last) .0 (last, one, h)) no-names (λ m s. absurd (outline .root s)) [] in
+      let (after, u) =
+      goes-written local es ns p x scope outline (hits-exact local es ns p x n (some last) .0 (last, one, h)) noNames
+      (λ m s. absurd (outline .root s)) [] in
       let d = written-struck local es ns p x scope edges outline small u in
       let e : length (d .step ∷ d .past) ≡ n = ap length (d .same) ∙ written-length local es ns p x u ∙ zero-steps in
       let m : Made p last (d .step) = subst (λ (l : Last). Made p l (d .step)) (only-one (d .counts)) (d .made) in
@@ -125,14 +130,16 @@ module _ (local : Bool) (es : List Edge) (ns : List Node) (scope : ℕ → ℕ �
 
   -- The least number of steps that the account tells is the length of a shortest trace, and one of that length, numbered so, exists.
   pub shortest : {x n : ℕ} {last : Last} → x ≤ watched → Hits local es ns p x n last
-      → ((y m : ℕ) (by : Last) → y ≤ watched → Hits local es ns p y m by → n ≤ m) → (past : Past) × Shortest local es ns p past × (length past ≡ n)
+      → ((y m : ℕ) (by : Last) → y ≤ watched → Hits local es ns p y m by → n ≤ m)
+      → (past : Past) × Shortest local es ns p past × (length past ≡ n)
   shortest {x} {n} small h low =
       let (past, t, num, v, e) = shortest-sound small h in
       (past, record { trace = t; numbered = num; violates = v; least = λ another t′ v′. at-most past e another t′ v′ }, e)
     where
-      at-most : (past : Past) → length past ≡ n → (another : Past) → IsTrace ns another → Violates local es p another → length past ≤ length another
+      at-most : (past : Past) → length past ≡ n → (another : Past) → IsTrace ns another → Violates local es p another
+          → length past ≤ length another
       at-most past e another t v = let (m, l, y, little, by, k) = shortest-complete another t v in omega (arith, low y m by little k)
 
   -- Where the account tells of none within 200 steps, every trace that leaves p open and not respected is longer.
-  pub all-longer : ((y m : ℕ) (by : Last) → y ≤ watched → Hits local es ns p y m by → most-shown < m) → Shown local es ns p none
+  pub all-longer : ((y m : ℕ) (by : Last) → y ≤ watched → Hits local es ns p y m by → mostShown < m) → Shown local es ns p none
   all-longer far = longer (λ past t v. let (m, l, y, little, by, k) = shortest-complete past t v in omega (arith, far y m by little k))

@@ -12,21 +12,20 @@ use lib.Bits.{bitOr}
 use borrow.Author.Tests.{eqb-true, eq-eqb}
 use Rattle.usage.specs.declared.Edge.{Edge}
 use Rattle.usage.specs.declared.Node.{Node}
-use Rattle.usage.specs.Limits.{create}
+use Rattle.usage.specs.Limits.{create, states}
 use Rattle.usage.specs.Policy.{Sees, Moves, Offending, EdgesOk}
 use Rattle.usage.specs.Outline.{Form, Is, end, on-static, on-name, sequence, choice, loop, back, fresh, sandbox}
 use Rattle.usage.proofs.Logic.{none-some}
 use Rattle.automaton.specs.Mask.{has}
 use Rattle.checker_account.specs.Witness.{watched, meant, Last, by-action, by-opening, Hits}
-use Rattle.checker_account.specs.Mask.{over}
-use Rattle.checker_account.specs.Tables.{nameOf, made, Rows, place, leaves, lastOf}
+use Rattle.checker_account.specs.Tables.{nameOf, made, Rows, place, leaves, lastOf, over}
 use Rattle.checker_account.specs.Holds.{Start, Dynamic, HitsFrom, RowsOk, NamesOk, ComesAt, HasCome, HoldsComes, Struck}
 use Rattle.checker_account.proofs.MaskLaws.{has-left, has-right, has-either, has-none, over-found, over-at, offends-has, has-offends}
 use Rattle.checker_account.proofs.EndsTable.{unmade-watched, name-moves}
 
 module _ (es : List Edge) (ns : List Node) (p x : ℕ) (rows : Rows) (small : x ≤ watched) (ok : RowsOk es ns p x rows) (names : NamesOk ns)
     (edges : EdgesOk es) (u : List ℕ) (comes : HoldsComes es ns p x u) where
-  offending-lt : {q : ℕ} → Offending q → q < 8
+  offending-lt : {q : ℕ} → Offending q → q < states
   offending-lt (inl e) = omega arith
   offending-lt (inr e) = omega arith
 
@@ -36,8 +35,9 @@ module _ (es : List Edge) (ns : List Node) (p x : ℕ) (rows : Rows) (small : x 
   -- ── What the table says is a hit ──
 
   -- where a set of states, moved by a row that tells the moves of an event, has q
-  moved-found : {k : ℕ} (m : ℕ) (own : Bool) (P : ℕ → ℕ → Type 0) → Start x m → ((j q : ℕ) → j < 8 → q < 8 → has (rows k own j) q ≡ true → P j q)
-      → (q : ℕ) → q < 8 → has (over (rows k own) (getD u (place k true m) 0)) q ≡ true → (j : ℕ) × ComesAt es ns p x k true m j × P j q
+  moved-found : {k : ℕ} (m : ℕ) (own : Bool) (P : ℕ → ℕ → Type 0) → Start x m
+      → ((j q : ℕ) → j < states → q < states → has (rows k own j) q ≡ true → P j q)
+      → (q : ℕ) → q < states → has (over (rows k own) (getD u (place k true m) 0)) q ≡ true → (j : ℕ) × ComesAt es ns p x k true m j × P j q
   moved-found {k} m own P s f q l h =
       let (j, lj, hv, hr) = over-found (rows k own) (getD u (place k true m) 0) q h in
       (j, comes .sound k true m j s lj hv, f j q lj l hr)
@@ -45,7 +45,9 @@ module _ (es : List Edge) (ns : List Node) (p x : ℕ) (rows : Rows) (small : x 
   hit-own : {k n b : ℕ} (m q : ℕ) → Is ns k (fresh n b) → Start x m → Offending q
       → has (cond (made m) 0 (over (rows k true) (getD u (place k true m) 0))) q ≡ true → HitsFrom es ns p x (by-action create)
   hit-own zero q i s f h =
-      let (j, c, v) = moved-found 0 true (Dynamic es p x create true) s (λ j q lj l. ok .created i true (λ _. unmade-watched es ns p x rows small ok names s) j q lj l .0) q (offending-lt f) h in
+      let (j, c, v) =
+      moved-found 0 true (Dynamic es p x create true) s
+      (λ j q lj l. ok .created i true (λ _. unmade-watched es ns p x rows small ok names s) j q lj l .0) q (offending-lt f) h in
       (_, Hits.at-own i (c .1) v f)
   hit-own (suc m) q i s f h = has-none q h
 
@@ -54,10 +56,13 @@ module _ (es : List Edge) (ns : List Node) (p x : ℕ) (rows : Rows) (small : x 
   unfolding leaves
   hit-at m q end i s f h last e = none-some e
   hit-at m q (on-static a r) i s f h last e =
-      let (j, c, v) = moved-found m (eqb r x) (λ j q. Moves es p a (Sees x r) j q) s (λ j q lj l. ok .static i j q lj l .0) q (offending-lt f) h in
+      let (j, c, v) =
+      moved-found m (eqb r x) (λ j q. Moves es p a (Sees x r) j q) s (λ j q lj l. ok .static i j q lj l .0) q (offending-lt f) h in
       subst (HitsFrom es ns p x) (same-last e) ((_, Hits.at-static i (c .1) v f))
   hit-at m q (on-name a n) i s f h last e =
-      let (j, c, v) = moved-found m (eqb m (suc n)) (λ j q. Moves es p a (Sees x (meant x (nameOf m) n)) j q) s (λ j q lj l. name-moves es ns p x rows small ok names m j q i s lj l .0) q (offending-lt f) h in
+      let (j, c, v) =
+      moved-found m (eqb m (suc n)) (λ j q. Moves es p a (Sees x (meant x (nameOf m) n)) j q) s
+      (λ j q lj l. name-moves es ns p x rows small ok names m j q i s lj l .0) q (offending-lt f) h in
       subst (HitsFrom es ns p x) (same-last e) ((_, Hits.at-name i (c .1) v f))
   hit-at m q (sequence a b) i s f h last e = none-some e
   hit-at m q (choice a b) i s f h last e = none-some e
@@ -68,14 +73,18 @@ module _ (es : List Edge) (ns : List Node) (p x : ℕ) (rows : Rows) (small : x 
       v : ℕ
       v = getD u (place k true m) 0
 
-      go : (has (over (rows k false) v) q ≡ true) ⊎ (has (cond (made m) 0 (over (rows k true) v)) q ≡ true) → HitsFrom es ns p x (by-action create)
+      go : (has (over (rows k false) v) q ≡ true) ⊎ (has (cond (made m) 0 (over (rows k true) v)) q ≡ true)
+          → HitsFrom es ns p x (by-action create)
       go (inl g) =
-          let (j, c, v) = moved-found m false (Dynamic es p x create false) s (λ j q lj l. ok .created i false (λ e. absurd (true≢false (sym e))) j q lj l .0) q (offending-lt f) g in
+          let (j, c, v) =
+          moved-found m false (Dynamic es p x create false) s
+          (λ j q lj l. ok .created i false (λ e. absurd (true≢false (sym e))) j q lj l .0) q (offending-lt f) g in
           (_, Hits.at-other i (c .1) v f)
       go (inr g) = hit-own m q i s f g
   hit-at {k} m q (sandbox r b) i s f h last e = subst (HitsFrom es ns p x) (same-last e) (go (eqb r p) refl h)
     where
-      go : (d : Bool) → eqb r p ≡ d → has (cond d (bitOr (getD u (place k false m) 0) (getD u (place k true m) 0)) 0) q ≡ true → HitsFrom es ns p x by-opening
+      go : (d : Bool) → eqb r p ≡ d → has (cond d (bitOr (getD u (place k false m) 0) (getD u (place k true m) 0)) 0) q ≡ true
+          → HitsFrom es ns p x by-opening
       go true d h =
           let j = subst (λ (r : ℕ). Is ns k (sandbox r b)) (eqb-true r p d) i in
           either j (has-either (getD u (place k false m) 0) (getD u (place k true m) 0) q h)
@@ -92,11 +101,13 @@ module _ (es : List Edge) (ns : List Node) (p x : ℕ) (rows : Rows) (small : x 
 
   -- ── A hit is in the table ──
 
-  struck : {last : Last} {k q : ℕ} (m : ℕ) (g : Form) → Is ns k g → Start x m → lastOf g ≡ some last → Offending q → has (leaves rows p x u k m g) q ≡ true
+  struck : {last : Last} {k q : ℕ} (m : ℕ) (g : Form) → Is ns k g → Start x m → lastOf g ≡ some last → Offending q
+      → has (leaves rows p x u k m g) q ≡ true
       → Struck ns p x rows u last
-  struck {k = k} {q = q} m g i s e f h = record { node = k; meaning = m; form = g; is = i; start = s; step = e; offending = has-offends (leaves rows p x u k m g) q f h }
+  struck {k = k} {q = q} m g i s e f h =
+      record { node = k; meaning = m; form = g; is = i; start = s; step = e; offending = has-offends (leaves rows p x u k m g) q f h }
 
-  moved-at : (k m : ℕ) (own : Bool) (j q : ℕ) → j < 8 → HasCome u k true m j → has (rows k own j) q ≡ true
+  moved-at : (k m : ℕ) (own : Bool) (j q : ℕ) → j < states → HasCome u k true m j → has (rows k own j) q ≡ true
       → has (over (rows k own) (getD u (place k true m) 0)) q ≡ true
   moved-at k m own j q l h g = over-at (rows k own) (getD u (place k true m) 0) q j l h g
 
@@ -104,23 +115,27 @@ module _ (es : List Edge) (ns : List Node) (p x : ℕ) (rows : Rows) (small : x 
   unfolding leaves
   hits-in (Hits.at-static {k = k} {q = q} {a = a} {s = r} {q′ = q′} i c v f) =
       let h = comes .full c in
-      struck (h .meaning) (on-static a r) i (h .start) refl f (moved-at k (h .meaning) (eqb r x) q q′ (h .state) (h .entered) (ok .static i q q′ (h .state) (offending-lt f) .1 v))
+      struck (h .meaning) (on-static a r) i (h .start) refl f
+      (moved-at k (h .meaning) (eqb r x) q q′ (h .state) (h .entered) (ok .static i q q′ (h .state) (offending-lt f) .1 v))
   hits-in (Hits.at-name {k = k} {q = q} {a = a} {m = n} {q′ = q′} i c v f) =
       let h = comes .full c in
       let m = h .meaning in
       let v₁ = subst (λ (w : ℕ). Moves es p a (Sees x (meant x w n)) q q′) (sym (h .name)) v in
       struck m (on-name a n) i (h .start) refl f
-      (moved-at k m (eqb m (suc n)) q q′ (h .state) (h .entered) (name-moves es ns p x rows small ok names m q q′ i (h .start) (h .state) (offending-lt f) .1 v₁))
+      (moved-at k m (eqb m (suc n)) q q′ (h .state) (h .entered)
+      (name-moves es ns p x rows small ok names m q q′ i (h .start) (h .state) (offending-lt f) .1 v₁))
   hits-in (Hits.at-other {k = k} {q = q} {m = n} {b = b} {q′ = q′} i c v f) =
       let h = comes .full c in
       let m = h .meaning in
       let w = getD u (place k true m) 0 in
       struck m (fresh n b) i (h .start) refl f
       (has-left (over (rows k false) w) (cond (made m) 0 (over (rows k true) w)) q′
-      (moved-at k m false q q′ (h .state) (h .entered) (ok .created i false (λ e. absurd (true≢false (sym e))) q q′ (h .state) (offending-lt f) .1 v)))
-  hits-in (Hits.at-own {k = k} {q = q} {m = n} {b = b} {q′ = q′} i c v f) = let h = comes .full c in go (h .meaning) (h .start) (h .made) (h .state) (h .entered)
+      (moved-at k m false q q′ (h .state) (h .entered)
+      (ok .created i false (λ e. absurd (true≢false (sym e))) q q′ (h .state) (offending-lt f) .1 v)))
+  hits-in (Hits.at-own {k = k} {q = q} {m = n} {b = b} {q′ = q′} i c v f) =
+      let h = comes .full c in go (h .meaning) (h .start) (h .made) (h .state) (h .entered)
     where
-      go : (m : ℕ) → Start x m → made m ≡ false → q < 8 → HasCome u k true m q → Struck ns p x rows u (by-action create)
+      go : (m : ℕ) → Start x m → made m ≡ false → q < states → HasCome u k true m q → Struck ns p x rows u (by-action create)
       go zero s ec l e =
           let w = getD u (place k true 0) 0 in
           struck 0 (fresh n b) i s refl f
@@ -131,7 +146,8 @@ module _ (es : List Edge) (ns : List Node) (p x : ℕ) (rows : Rows) (small : x 
       let h = comes .full c in
       let m = h .meaning in
       struck m (sandbox p b) i (h .start) refl f
-      (ap (λ (d : Bool). has (cond d (bitOr (getD u (place k false m) 0) (getD u (place k true m) 0)) 0) q) (eq-eqb p p refl) ∙ go m o (h .entered))
+      (ap (λ (d : Bool). has (cond d (bitOr (getD u (place k false m) 0) (getD u (place k true m) 0)) 0) q) (eq-eqb p p refl)
+      ∙ go m o (h .entered))
     where
       go : (m : ℕ) (o : Bool) → HasCome u k o m q → has (bitOr (getD u (place k false m) 0) (getD u (place k true m) 0)) q ≡ true
       go m false e = has-left (getD u (place k false m) 0) (getD u (place k true m) 0) q e

@@ -11,18 +11,23 @@ use lib.ListN.{length, getD, set, replicate}
 use lib.Seq.{getD-set-same, getD-set-other, set-out}
 use borrow.Author.Tests.{leb-true, leb-false}
 use Rattle.automaton.specs.Mask.{has}
-use Rattle.checker_account.specs.Mask.{joined}
 use Rattle.checker_account.specs.Rounds.{Wide}
 use Rattle.checker_account.proofs.MaskLaws.{has-left, has-right, has-either}
+use Rattle.checker_account.specs.Tables.{joinedAt}
 
 module _ (t : List ℕ) (i v : ℕ) where
   -- a member of an entry was there, or came with the set
-  pub joined-found : (j d : ℕ) → has (getD (joined t i v) j 0) d ≡ true → (has (getD t j 0) d ≡ true) ⊎ ((j ≡ i) × (has v d ≡ true))
-  unfolding joined
+  pub joined-found : (j d : ℕ) → has (getD (joinedAt t i v) j 0) d ≡ true → (has (getD t j 0) d ≡ true) ⊎ ((j ≡ i) × (has v d ≡ true))
+  unfolding joinedAt
   joined-found j d h = go (leb (length t) i) refl
     where
       inside : i < length t → Dec (j ≡ i) → (has (getD t j 0) d ≡ true) ⊎ ((j ≡ i) × (has v d ≡ true))
-      inside l (yes e) = either (has-either (getD t i 0) v d (ap (λ (n : ℕ). has n d) (sym (getD-set-same t i (bitOr (getD t i 0) v) 0 l) ∙ ap (λ (n : ℕ). getD (set t i (bitOr (getD t i 0) v)) n 0) (sym e)) ∙ h))
+      inside l (yes e) =
+          either
+          (has-either (getD t i 0) v d
+          (ap (λ (n : ℕ). has n d)
+          (sym (getD-set-same t i (bitOr (getD t i 0) v) 0 l) ∙ ap (λ (n : ℕ). getD (set t i (bitOr (getD t i 0) v)) n 0) (sym e))
+          ∙ h))
         where
           either : (has (getD t i 0) d ≡ true) ⊎ (has v d ≡ true) → (has (getD t j 0) d ≡ true) ⊎ ((j ≡ i) × (has v d ≡ true))
           either (inl g) = inl (ap (λ (n : ℕ). has (getD t n 0) d) e ∙ g)
@@ -34,8 +39,8 @@ module _ (t : List ℕ) (i v : ℕ) where
       go false e = inside (leb-false (length t) i e) (ℕ-discrete j i)
 
   -- where joining changes nothing, the set was there
-  pub joined-still : i < length t → joined t i v ≡ t → (d : ℕ) → has v d ≡ true → has (getD t i 0) d ≡ true
-  unfolding joined
+  pub joined-still : i < length t → joinedAt t i v ≡ t → (d : ℕ) → has v d ≡ true → has (getD t i 0) d ≡ true
+  unfolding joinedAt
   joined-still l e d h =
       let f : bitOr (getD t i 0) v ≡ getD t i 0 = sym (getD-set-same t i (bitOr (getD t i 0) v) 0 l) ∙ ap (λ (u : List ℕ). getD u i 0) e in
       ap (λ (n : ℕ). has n d) (sym f) ∙ has-right (getD t i 0) v d h
@@ -63,8 +68,8 @@ set-wide t i v small w j = go (leb (length t) i) refl
     go false e = inside (leb-false (length t) i e) (ℕ-discrete j i)
 
 -- what was in the table stays
-pub joined-keeps : (t : List ℕ) (i v j d : ℕ) → has (getD t j 0) d ≡ true → has (getD (joined t i v) j 0) d ≡ true
-unfolding joined
+pub joined-keeps : (t : List ℕ) (i v j d : ℕ) → has (getD t j 0) d ≡ true → has (getD (joinedAt t i v) j 0) d ≡ true
+unfolding joinedAt
 joined-keeps t i v j d h = go (leb (length t) i) refl
   where
     inside : i < length t → Dec (j ≡ i) → has (getD (set t i (bitOr (getD t i 0) v)) j 0) d ≡ true

@@ -11,24 +11,29 @@ use Rattle.checker_account.specs.Least.{Entries, Begun, Aimed, at-end, R
 use Rattle.checker_account.proofs.Scoped.{Scoped}
 use Rattle.checker_account.proofs.BegunLaws.{moves-states, begun-other, begun-opened, begun-own, begun-ended}
 
-module _ (local : Bool) (es : List Edge) (ns : List Node) (p x : ℕ) (scope : ℕ → ℕ → Type 0) (edges : EdgesOk es) (outline : Scoped ns scope) (cap : ℕ) (E : Entries) where
+module _ (local : Bool) (es : List Edge) (ns : List Node) (p x : ℕ) (scope : ℕ → ℕ → Type 0) (edges : EdgesOk es)
+    (outline : Scoped ns scope) (cap : ℕ) (E : Entries) where
   -- n or less stands there
   abbrev Has : ℕ → Bool → ℕ → ℕ → Bool → ℕ → Aim → Type 0
   Has n o k w c q t = (m : ℕ) × (m ≤ n) × E m o k w c q t
 
   -- What a rule makes of entries that are lengths is a length: so a round keeps `Lengths`.
-  pub rule-sound : {n : ℕ} {o : Bool} {k w : ℕ} {c : Bool} {q : ℕ} {t : Aim} → Lengths local es ns p x cap E → Begun x w c q → Aimed t → Rule local es ns p x E n o k w c q t
+  pub rule-sound : {n : ℕ} {o : Bool} {k w : ℕ} {c : Bool} {q : ℕ} {t : Aim} → Lengths local es ns p x cap E → Begun x w c q → Aimed t
+      → Rule local es ns p x E n o k w c q t
       → Goes local es ns p x n o k w c q t
   rule-sound s h a (Rule.ends i) = Goes.ends i
   rule-sound s h a (Rule.fires-static i v) = Goes.fires-static i v
   rule-sound s h a (Rule.fires-name i v) = Goes.fires-name i v
-  rule-sound s h a (Rule.sequences i d f) = let u = s .sound h at-end d in Goes.sequences i u (s .sound (begun-ended local es ns p x edges h u) a f)
+  rule-sound s h a (Rule.sequences i d f) =
+      let u = s .sound h at-end d in Goes.sequences i u (s .sound (begun-ended local es ns p x edges h u) a f)
   rule-sound s h a (Rule.chooses-left i d) = Goes.chooses-left i (s .sound h a d)
   rule-sound s h a (Rule.chooses-right i d) = Goes.chooses-right i (s .sound h a d)
   rule-sound s h a (Rule.enters i d) = Goes.enters i (s .sound h a d)
   rule-sound s h a (Rule.repeats i d) = Goes.repeats i (s .sound h a d)
-  rule-sound s h a (Rule.creates-other {m = m} {q₁ = q₁} i v d) = Goes.creates-other i v (s .sound (begun-other h m q₁ (moves-states edges v (h .state))) a d)
-  rule-sound s h a (Rule.creates-own {m = m} {q₁ = q₁} i v d) = Goes.creates-own i v (s .sound (begun-own h m q₁ (outline .fresh-small i) (moves-states edges v (h .state))) a d)
+  rule-sound s h a (Rule.creates-other {m = m} {q₁ = q₁} i v d) =
+      Goes.creates-other i v (s .sound (begun-other h m q₁ (moves-states edges v (h .state))) a d)
+  rule-sound s h a (Rule.creates-own {m = m} {q₁ = q₁} i v d) =
+      Goes.creates-own i v (s .sound (begun-own h m q₁ (outline .fresh-small i) (moves-states edges v (h .state))) a d)
   rule-sound s h a (Rule.sandboxes {s = s₁} {o = o} i d) = Goes.sandboxes i (s .sound (begun-opened h local p s₁ o) at-end d)
   rule-sound s h a (Rule.breaks-static i v f z) = Goes.breaks-static i v f z
   rule-sound s h a (Rule.breaks-name i v f z) = Goes.breaks-name i v f z
@@ -40,10 +45,12 @@ module _ (local : Bool) (es : List Edge) (ns : List Node) (p x : ℕ) (scope : �
 
   module _ (closed : Closed local es ns p x cap E) where
     -- by a rule, from what stands there
-    by-rule : {m n : ℕ} {o : Bool} {k w : ℕ} {c : Bool} {q : ℕ} {t : Aim} → Begun x w c q → Aimed t → Rule local es ns p x E m o k w c q t → m ≤ n → n ≤ cap → Has n o k w c q t
+    by-rule : {m n : ℕ} {o : Bool} {k w : ℕ} {c : Bool} {q : ℕ} {t : Aim} → Begun x w c q → Aimed t → Rule local es ns p x E m o k w c q t
+        → m ≤ n → n ≤ cap → Has n o k w c q t
     by-rule {m} {n} {o} {k} {w} {c} {q} {t} h a r l s = let (i, j, e) = closed m o k w c q t h a r (omega arith) in (i, omega arith, e)
 
-    goes-has : {n : ℕ} {o : Bool} {k w : ℕ} {c : Bool} {q : ℕ} {t : Aim} → Goes local es ns p x n o k w c q t → Begun x w c q → Aimed t → n ≤ cap → Has n o k w c q t
+    goes-has : {n : ℕ} {o : Bool} {k w : ℕ} {c : Bool} {q : ℕ} {t : Aim} → Goes local es ns p x n o k w c q t → Begun x w c q → Aimed t
+        → n ≤ cap → Has n o k w c q t
     goes-has (Goes.ends i) h a s = by-rule h a (Rule.ends i) (omega arith) s
     goes-has (Goes.fires-static i v) h a s = by-rule h a (Rule.fires-static i v) (omega arith) s
     goes-has (Goes.fires-name i v) h a s = by-rule h a (Rule.fires-name i v) (omega arith) s

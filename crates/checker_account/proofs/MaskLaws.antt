@@ -9,13 +9,13 @@ use native.Mathlib.Omega.{arith}
 use lib.Dec.{eqb}
 use lib.Bits.{bitOr, bitAnd, or-zero-r, and-mask}
 use lib.Pow.{pow-add, field, mod-mod-pow}
-use borrow.Author.Tests.{eq-eqb, ne-eqb, eqb-true, eqb-false, ltb-true, lt-ltb}
+use borrow.Author.Tests.{eq-eqb, ne-eqb}
+use Rattle.usage.specs.Limits.{states}
 use Rattle.usage.specs.Policy.{Offending}
 use Rattle.usage.proofs.Logic.{not-both, or-left, or-right, or-cases}
-use Rattle.automaton.specs.Mask.{has, union}
-use Rattle.automaton.proofs.MaskLaws.{some-at, some-found, has-or, has-zero, union-has}
-use Rattle.checker_account.specs.Mask.{offends, over}
-use Rattle.checker_account.specs.Tables.{at, half, made, kept}
+use Rattle.automaton.specs.Mask.{has, union, offends}
+use Rattle.automaton.proofs.MaskLaws.{some-at, some-found, has-or, has-zero, has-offending, union-has}
+use Rattle.checker_account.specs.Tables.{at, half, made, kept, over}
 
 -- ── Members of unions ──
 
@@ -33,19 +33,21 @@ pub has-none : {A : Type 0} (q : ℕ) → has 0 q ≡ true → A
 has-none q h = not-both (has 0 q) h (has-zero q)
 
 -- a member of the union over a set comes from a member of the set
-pub over-found : (f : ℕ → ℕ) (m d : ℕ) → has (over f m) d ≡ true → (q : ℕ) × (q < 8) × (has m q ≡ true) × (has (f q) d ≡ true)
+pub over-found : (f : ℕ → ℕ) (m d : ℕ) → has (over f m) d ≡ true → (q : ℕ) × (q < states) × (has m q ≡ true) × (has (f q) d ≡ true)
 unfolding over
-over-found f m d h = let r = some-found 8 _ (sym (union-has 8 (λ q. cond (has m q) (f q) 0) d) ∙ h) in go (r .0) (r .1) (has m (r .0)) refl (r .2)
+over-found f m d h =
+    let r = some-found states _ (sym (union-has states (λ q. cond (has m q) (f q) 0) d) ∙ h) in go (r .0) (r .1) (has m (r .0)) refl (r .2)
   where
-    go : (q : ℕ) → q < 8 → (b : Bool) → has m q ≡ b → has (cond b (f q) 0) d ≡ true → (q : ℕ) × (q < 8) × (has m q ≡ true) × (has (f q) d ≡ true)
+    go : (q : ℕ) → q < states → (b : Bool) → has m q ≡ b → has (cond b (f q) 0) d ≡ true
+        → (q : ℕ) × (q < states) × (has m q ≡ true) × (has (f q) d ≡ true)
     go q l true b h = (q, l, b, h)
     go q l false b h = has-none d h
 
-pub over-at : (f : ℕ → ℕ) (m d q : ℕ) → q < 8 → has m q ≡ true → has (f q) d ≡ true → has (over f m) d ≡ true
+pub over-at : (f : ℕ → ℕ) (m d q : ℕ) → q < states → has m q ≡ true → has (f q) d ≡ true → has (over f m) d ≡ true
 unfolding over
 over-at f m d q l h g =
-    union-has 8 (λ q. cond (has m q) (f q) 0) d
-    ∙ some-at 8 (λ q. has (cond (has m q) (f q) 0) d) q l (ap (λ (b : Bool). has (cond b (f q) 0) d) h ∙ g)
+    union-has states (λ q. cond (has m q) (f q) 0) d
+    ∙ some-at states (λ q. has (cond (has m q) (f q) 0) d) q l (ap (λ (b : Bool). has (cond b (f q) 0) d) h ∙ g)
 
 -- one more turn of the loop that gathers the union, by the code's test
 module _ (f : ℕ → ℕ) (v q : ℕ) where
@@ -68,58 +70,22 @@ module _ (f : ℕ → ℕ) (v q : ℕ) where
   unfolding union
   over-out h = rw (add-one q) (sym (or-zero-r (union q part)) ∙ ap (λ (b : Bool). bitOr (union q part) (cond b (f q) 0)) (sym (test-out h)))
 
--- ── Offending states ──
-
-even : (y : ℕ) → (y % 2 ≡ 1 → ⊥) → y % 2 ≡ 0
-even y d = go (y % 2) refl
-  where
-    go : (r : ℕ) → y % 2 ≡ r → y % 2 ≡ 0
-    go zero e = e
-    go (suc r) e = absurd (d (omega arith))
-
-top-bit : (y : ℕ) → 0 < y % 4 → y % 2 ≡ 0 → y / 2 % 2 ≡ 1
-top-bit y h e = omega arith
-
--- 6 or 7 is in the set
-pub offends-has : (v : ℕ) → offends v ≡ true → (q : ℕ) × Offending q × (has v q ≡ true)
-unfolding offends has
-offends-has v h = go (eqb (v / 64 % 2) 1) refl
-  where
-    half-again : v / 64 / 2 ≡ v / 128
-    half-again = omega arith
-
-    go : (b : Bool) → eqb (v / 64 % 2) 1 ≡ b → (q : ℕ) × Offending q × (has v q ≡ true)
-    go true e = (6, inl refl, e)
-    go false e =
-        let l : 0 < v / 64 % 4 = ltb-true 0 (v / 64 % 4) h in
-        (7, inr refl, eq-eqb (v / 128 % 2) 1 (ap (λ (n : ℕ). n % 2) (sym half-again) ∙ top-bit (v / 64) l (even (v / 64) (eqb-false (v / 64 % 2) 1 e))))
-
-offends-six : (v : ℕ) → has v 6 ≡ true → offends v ≡ true
-unfolding offends has
-offends-six v h = let e : v / 64 % 2 ≡ 1 = eqb-true (v / 64 % 2) 1 h in lt-ltb 0 (v / 64 % 4) (omega arith)
-
-offends-seven : (v : ℕ) → has v 7 ≡ true → offends v ≡ true
-unfolding offends has
-offends-seven v h = let e : v / 128 % 2 ≡ 1 = eqb-true (v / 128 % 2) 1 h in lt-ltb 0 (v / 64 % 4) (omega arith)
-
-pub has-offends : (v q : ℕ) → Offending q → has v q ≡ true → offends v ≡ true
-has-offends v q (inl e) h = offends-six v (subst (λ (q : ℕ). has v q ≡ true) e h)
-has-offends v q (inr e) h = offends-seven v (subst (λ (q : ℕ). has v q ≡ true) e h)
-
 -- ── The two halves of a set of ends ──
 
-low-bit : (x q : ℕ) → q < 8 → has (x % 256) q ≡ has x q
+low-bit : (x q : ℕ) → q < states → has (x % 256) q ≡ has x q
 unfolding has
 low-bit x q h =
     let e : (8 - (1 + q)) + (1 + q) ≡ 8 = omega arith in
     ap (λ (n : ℕ). eqb n 1)
-    (sym (field (x % 2 ^ 8) 1 q) ∙ ap (λ (n : ℕ). n / 2 ^ q) (subst (λ (m : ℕ). x % 2 ^ m % 2 ^ (1 + q) ≡ x % 2 ^ (1 + q)) e (mod-mod-pow x (8 - (1 + q)) (1 + q))) ∙ field x 1 q)
+    (sym (field (x % 2 ^ 8) 1 q)
+    ∙ ap (λ (n : ℕ). n / 2 ^ q) (subst (λ (m : ℕ). x % 2 ^ m % 2 ^ (1 + q) ≡ x % 2 ^ (1 + q)) e (mod-mod-pow x (8 - (1 + q)) (1 + q)))
+    ∙ field x 1 q)
 
 high-bit : (x q : ℕ) → has x (8 + q) ≡ has (x / 256) q
 unfolding has
 high-bit x q = ap (λ (n : ℕ). eqb (n % 2) 1) (ap (λ (n : ℕ). x / n) (pow-add 2 8 q) ∙ sym (div-div-eq-div-mul x 256 (2 ^ q)))
 
-pub has-half : (c : Bool) (v q : ℕ) → q < 8 → has v (at c q) ≡ has (half c v) q
+pub has-half : (c : Bool) (v q : ℕ) → q < states → has v (at c q) ≡ has (half c v) q
 has-half false v q h = sym (low-bit v q h)
 has-half true v q h = high-bit v q
 
@@ -134,12 +100,29 @@ module _ (v : ℕ) where
   high-all = omega arith
 
   -- the ends with the states of v and x as it was
-  pub kept-found : (m : ℕ) (c : Bool) (q : ℕ) → q < 8 → has (kept m v) (at c q) ≡ true → (made m ≡ c) × (has v q ≡ true)
+  pub kept-found : (m : ℕ) (c : Bool) (q : ℕ) → q < states → has (kept m v) (at c q) ≡ true → (made m ≡ c) × (has v q ≡ true)
   kept-found zero false q l h = (refl, sym (low-bit v q l) ∙ h)
   kept-found zero true q l h = has-none q (ap (λ (n : ℕ). has n q) (sym low-none) ∙ sym (has-half true (v % 256) q l) ∙ h)
   kept-found (suc m) false q l h = has-none q (ap (λ (n : ℕ). has n q) (sym high-none) ∙ sym (has-half false (v % 256 * 256) q l) ∙ h)
-  kept-found (suc m) true q l h = (refl, sym (low-bit v q l) ∙ ap (λ (n : ℕ). has n q) (sym high-all) ∙ sym (has-half true (v % 256 * 256) q l) ∙ h)
+  kept-found (suc m) true q l h =
+      (refl, sym (low-bit v q l) ∙ ap (λ (n : ℕ). has n q) (sym high-all) ∙ sym (has-half true (v % 256 * 256) q l) ∙ h)
 
-  pub kept-at : (m q : ℕ) → q < 8 → has v q ≡ true → has (kept m v) (at (made m) q) ≡ true
+  pub kept-at : (m q : ℕ) → q < states → has v q ≡ true → has (kept m v) (at (made m) q) ≡ true
   kept-at zero q l h = low-bit v q l ∙ h
   kept-at (suc m) q l h = has-half true (v % 256 * 256) q l ∙ ap (λ (n : ℕ). has n q) high-all ∙ low-bit v q l ∙ h
+
+-- ── Offending states ──
+
+-- 6 or 7 is among the states of a set of ends
+pub offends-has : (v : ℕ) → offends (half false v) ≡ true → (q : ℕ) × Offending q × (has v q ≡ true)
+offends-has v h = go (or-cases (has (v % 256) 6) (has (v % 256) 7) (sym (has-offending (v % 256) (omega arith)) ∙ h))
+  where
+    go : (has (v % 256) 6 ≡ true) ⊎ (has (v % 256) 7 ≡ true) → (q : ℕ) × Offending q × (has v q ≡ true)
+    go (inl e) = (6, inl refl, sym (low-bit v 6 (omega arith)) ∙ e)
+    go (inr e) = (7, inr refl, sym (low-bit v 7 (omega arith)) ∙ e)
+
+pub has-offends : (v q : ℕ) → Offending q → has v q ≡ true → offends (half false v) ≡ true
+has-offends v q (inl e) h = has-offending (v % 256) (omega arith)
+    ∙ or-left (has (v % 256) 6) (has (v % 256) 7) (low-bit v 6 (omega arith) ∙ ap (has v) (sym e) ∙ h)
+has-offends v q (inr e) h = has-offending (v % 256) (omega arith)
+    ∙ or-right (has (v % 256) 6) (has (v % 256) 7) (low-bit v 7 (omega arith) ∙ ap (has v) (sym e) ∙ h)

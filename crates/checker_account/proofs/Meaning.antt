@@ -8,10 +8,10 @@ use native.Mathlib.Decide.{ℕ-discrete}
 use borrow.Author.Tests.{eq-eqb, ne-eqb}
 use Rattle.usage.specs.Limits.{statics, create}
 use Rattle.usage.specs.Past.{Step, event, Past, Occurs}
-use Rattle.usage.specs.Outline.{Names, no-names, give}
+use Rattle.usage.specs.Outline.{Names, noNames, give}
 use Rattle.usage.proofs.PastLaws.{occurs-later}
 use Rattle.usage.proofs.TraceLaws.{give-same, give-other}
-use Rattle.checker_account.specs.Witness.{others, no-name, meant, forget}
+use Rattle.checker_account.specs.Witness.{others, noName, meant, forget}
 
 -- the tests, by the fact tested
 
@@ -23,7 +23,7 @@ pub meant-other : (x w n : ℕ) → (w ≡ n → ⊥) → meant x w n ≡ others
 unfolding meant
 meant-other x w n d = rw (ne-eqb w n d)
 
-pub forget-same : (w n : ℕ) → w ≡ n → forget w n ≡ no-name
+pub forget-same : (w n : ℕ) → w ≡ n → forget w n ≡ noName
 unfolding forget
 forget-same w n e = rw (eq-eqb w n e)
 
@@ -33,23 +33,23 @@ forget-other w n d = rw (ne-eqb w n d)
 
 -- of the names 0 to 3, w means x and no other does
 pub record Means (names : Names) (x w : ℕ) : Type 0 where
-  pub only : (m : ℕ) → m < no-name → names m ≡ some x → w ≡ m
-  pub there : (m : ℕ) → m < no-name → w ≡ m → names m ≡ some x
+  pub only : (m : ℕ) → m < noName → names m ≡ some x → w ≡ m
+  pub there : (m : ℕ) → m < noName → w ≡ m → names m ≡ some x
 
-pub means-none : (x : ℕ) → Means no-names x no-name
+pub means-none : (x : ℕ) → Means noNames x noName
 means-none x = record {
   only = λ m l e. absurd (Option·none-ne-some x e);
   there = λ m l e. absurd (omega arith);
 }
 
-module _ {names : Names} {x w : ℕ} (n r : ℕ) (small : n < no-name) (d : r ≡ x → ⊥) (h : Means names x w) where
-  other-only : (m : ℕ) → m < no-name → Dec (m ≡ n) → Dec (w ≡ n) → give names n r m ≡ some x → forget w n ≡ m
+module _ {names : Names} {x w : ℕ} (n r : ℕ) (small : n < noName) (d : r ≡ x → ⊥) (h : Means names x w) where
+  other-only : (m : ℕ) → m < noName → Dec (m ≡ n) → Dec (w ≡ n) → give names n r m ≡ some x → forget w n ≡ m
   other-only m l (yes e) v g = absurd (d (Option·some-injective r x (sym (give-same names n r m e) ∙ g)))
   other-only m l (no e) (yes v) g = absurd (e (sym (h .only m l (sym (give-other names n r m e) ∙ g)) ∙ v))
   other-only m l (no e) (no v) g = forget-other w n v ∙ h .only m l (sym (give-other names n r m e) ∙ g)
 
-  other-there : (m : ℕ) → m < no-name → Dec (w ≡ n) → forget w n ≡ m → give names n r m ≡ some x
-  other-there m l (yes v) f = let e : no-name ≡ m = sym (forget-same w n v) ∙ f in absurd (omega arith)
+  other-there : (m : ℕ) → m < noName → Dec (w ≡ n) → forget w n ≡ m → give names n r m ≡ some x
+  other-there m l (yes v) f = let e : noName ≡ m = sym (forget-same w n v) ∙ f in absurd (omega arith)
   other-there m l (no v) f =
       let e : w ≡ m = sym (forget-other w n v) ∙ f in
       give-other names n r m (λ k. v (e ∙ k)) ∙ h .there m l e
@@ -83,7 +83,7 @@ pub record Known (past : Past) (names : Names) : Type 0 where
   pub dynamic : (m r : ℕ) → names m ≡ some r → statics ≤ r
   pub occurs : (m r : ℕ) → names m ≡ some r → Occurs r past
 
-pub known-none : Known [] no-names
+pub known-none : Known [] noNames
 known-none = record { dynamic = λ m r e. absurd (Option·none-ne-some r e); occurs = λ m r e. absurd (Option·none-ne-some r e) }
 
 pub known-more : {past : Past} {names : Names} (s : Step) → Known past names → Known (s ∷ past) names

@@ -9,8 +9,8 @@ use lib.Dec.{leb}
 use lib.ListN.{length, getElem?}
 use borrow.Author.Tests.{leb-true, leb-false}
 use Rattle.usage.specs.declared.Node.{Node}
-use Rattle.usage.specs.Limits.{fit}
-use Rattle.usage.specs.Outline.{Form, node-kinds, formIn, formAt}
+use Rattle.usage.specs.Limits.{fit, nodeFields}
+use Rattle.usage.specs.Outline.{Form, nodeKinds, formIn, formAt}
 use Rattle.usage.specs.Valid.{NodeOk, OutlineOk}
 use Rattle.usage.specs.Tables.{nodeAt, nodesOf}
 use Rattle.usage.proofs.Logic.{none-some}
@@ -18,22 +18,6 @@ use Rattle.usage.proofs.FormLaws.{form-ok}
 use Rattle.usage.proofs.TableLaws.{nodes-at, nodes-past, nodes-member}
 use Rattle.checker_account.specs.Holds.{NamesOk, TargetsOk}
 use Rattle.checker_account.specs.Rounds.{FormsOf, formsIn}
-use Rattle.checker_account.specs.Fits.{Small, SmallNodes}
-
--- ── Fields in range ──
-
-module _ (a b : ℕ) where
-  small-kind : (k : ℕ) → fit (getElem? node-kinds k) a b → Small (record { kind = k; a = a; b = b })
-  small-kind zero h = record { a-node = omega (arith, h .0 .most); b-node = omega (arith, h .1 .most); a-name = λ e. absurd (omega arith) }
-  small-kind (suc zero) h = record { a-node = omega (arith, h .0 .most); b-node = omega (arith, h .1 .most); a-name = λ e. absurd (omega arith) }
-  small-kind (suc (suc zero)) h = record { a-node = omega (arith, h .0 .most); b-node = omega (arith, h .1 .most); a-name = λ e. absurd (omega arith) }
-  small-kind (suc (suc (suc zero))) h = record { a-node = omega (arith, h .0 .most); b-node = omega (arith, h .1 .most); a-name = λ e. absurd (omega arith) }
-  small-kind (suc (suc (suc (suc zero)))) h = record { a-node = omega (arith, h .0 .most); b-node = omega (arith, h .1 .most); a-name = λ e. absurd (omega arith) }
-  small-kind (suc (suc (suc (suc (suc zero))))) h = record { a-node = omega (arith, h .0 .most); b-node = omega (arith, h .1 .most); a-name = λ e. absurd (omega arith) }
-  small-kind (suc (suc (suc (suc (suc (suc zero)))))) h = record { a-node = omega (arith, h .0 .most); b-node = omega (arith, h .1 .most); a-name = λ e. absurd (omega arith) }
-  small-kind (suc (suc (suc (suc (suc (suc (suc zero))))))) h = record { a-node = omega (arith, h .0 .most); b-node = omega (arith, h .1 .most); a-name = λ e. omega (arith, h .0 .most) }
-  small-kind (suc (suc (suc (suc (suc (suc (suc (suc zero)))))))) h = record { a-node = omega (arith, h .0 .most); b-node = omega (arith, h .1 .most); a-name = λ e. absurd (omega arith) }
-  small-kind (suc (suc (suc (suc (suc (suc (suc (suc (suc k))))))))) h = absurd h
 
 module _ (ns : List Node) (ok : OutlineOk ns) where
   pub names-ok : NamesOk ns
@@ -52,18 +36,13 @@ module _ (ns : List Node) (ok : OutlineOk ns) where
 -- ── The flat table ──
 
 module _ (t : List ℕ) where
-  pub forms-of : FormsOf (nodesOf t) (length t / 3) (formsIn t)
+  pub forms-of : FormsOf (nodesOf t) (length t / nodeFields) (formsIn t)
   forms-of = record {
     is = λ k f l e. record { form = ap formIn (nodes-at t k l) ∙ e };
-    has = λ k f i. go k f (i .form) (leb (length t / 3) k) refl;
+    has = λ k f i. go k f (i .form) (leb (length t / nodeFields) k) refl;
   }
     where
-      go : (k : ℕ) (f : Form) → formAt (nodesOf t) k ≡ some f → (b : Bool) → leb (length t / 3) k ≡ b → (k < length t / 3) × (formsIn t k ≡ some f)
-      go k f h true e = none-some (ap formIn (sym (nodes-past t k (leb-true (length t / 3) k e))) ∙ h)
-      go k f h false e = let l = leb-false (length t / 3) k e in (l, ap formIn (sym (nodes-at t k l)) ∙ h)
-
-  pub small-nodes : OutlineOk (nodesOf t) → SmallNodes t
-  unfolding NodeOk
-  small-nodes ok k l =
-      let n = nodeAt t k in
-      small-kind (n .a) (n .b) (n .kind) (ok .fields n (nodes-member t n .1 (k, l, refl)))
+      go : (k : ℕ) (f : Form) → formAt (nodesOf t) k ≡ some f → (b : Bool) → leb (length t / nodeFields) k ≡ b
+          → (k < length t / nodeFields) × (formsIn t k ≡ some f)
+      go k f h true e = none-some (ap formIn (sym (nodes-past t k (leb-true (length t / nodeFields) k e))) ∙ h)
+      go k f h false e = let l = leb-false (length t / nodeFields) k e in (l, ap formIn (sym (nodes-at t k l)) ∙ h)

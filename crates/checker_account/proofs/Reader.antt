@@ -10,14 +10,14 @@ use lib.Dec.{ltb}
 use lib.ListN.{length}
 use Rattle.usage.specs.declared.Edge.{Edge}
 use Rattle.usage.specs.declared.Node.{Node}
-use Rattle.usage.specs.Limits.{statics, create, most-shown}
+use Rattle.usage.specs.Limits.{statics, create, mostShown}
 use Rattle.usage.specs.Policy.{EdgesOk}
 use Rattle.usage.specs.Past.{Step, event, opening, Past, Violates}
-use Rattle.usage.specs.Outline.{Is, sequence, Names, no-names, give, IsTrace}
+use Rattle.usage.specs.Outline.{Is, sequence, Names, noNames, give, IsTrace}
 use Rattle.usage.specs.Check.{Shown, this}
-use Rattle.checker_account.specs.Witness.{watched, no-name, each, Aim, ended, broken}
+use Rattle.checker_account.specs.Witness.{watched, noName, each, Aim, ended, broken}
 use Rattle.checker_account.specs.Written.{next, Written}
-use Rattle.checker_account.specs.Least.{Entries, Begun, Aimed, at-end, at-break, Rule, Least, Less, Idle, Leads, Passes, ending}
+use Rattle.checker_account.specs.Least.{Entries, Begun, Aimed, at-end, at-break, Rule, Least, Less, Idle, Leads, PassesAll, ending}
 use Rattle.checker_account.proofs.Scoped.{Scoped}
 use Rattle.checker_account.proofs.Ahead.{Root, hits-exact}
 use Rattle.checker_account.proofs.Writing.{Given, given-child, given-fresh, written-length}
@@ -34,7 +34,8 @@ module _ (local : Bool) (es : List Edge) (ns : List Node) (p x : ℕ) where
   written-in {o = o} {k = k} {names = names} {w = w} {c = c} {q = q} {past = past} {t = t} {after = after} e d =
       subst (λ (n : ℕ). Written local es ns p x n o k names w c q past t after) e d
 
-  pub idle-written : {o : Bool} {k : ℕ} {names : Names} {w : ℕ} {c : Bool} {q : ℕ} {past : Past} → Idle ns k → Written local es ns p x 0 o k names w c q past (ended c q) past
+  pub idle-written : {o : Bool} {k : ℕ} {names : Names} {w : ℕ} {c : Bool} {q : ℕ} {past : Past} → Idle ns k
+      → Written local es ns p x 0 o k names w c q past (ended c q) past
   idle-written (Idle.ends i) = Written.ends i
   idle-written (Idle.sequences i d f) = written-in (omega arith) (Written.sequences i (idle-written d) (idle-written f))
   idle-written (Idle.chooses-left i d) = Written.chooses-left i (idle-written d)
@@ -42,12 +43,15 @@ module _ (local : Bool) (es : List Edge) (ns : List Node) (p x : ℕ) where
   idle-written (Idle.enters i d) = Written.enters i (idle-written d)
   idle-written (Idle.repeats i d) = Written.repeats i (idle-written d)
 
-  first-written : {n : ℕ} {o : Bool} {k a b : ℕ} {names : Names} {w : ℕ} {c : Bool} {q : ℕ} {past : Past} {after : Past} (t : Aim) → Is ns k (sequence a b)
-      → (ending t ≡ true → Idle ns b) → Written local es ns p x n o a names w c q past t after → Written local es ns p x n o k names w c q past t after
+  first-written : {n : ℕ} {o : Bool} {k a b : ℕ} {names : Names} {w : ℕ} {c : Bool} {q : ℕ} {past : Past} {after : Past} (t : Aim)
+      → Is ns k (sequence a b)
+      → (ending t ≡ true → Idle ns b) → Written local es ns p x n o a names w c q past t after
+      → Written local es ns p x n o k names w c q past t after
   first-written (ended c q) i idle d = written-in (omega arith) (Written.sequences i d (idle-written (idle refl)))
   first-written (broken u) i idle d = Written.breaks-first i d
 
-  leads-written : {n : ℕ} {o : Bool} {k j : ℕ} {names : Names} {w : ℕ} {c : Bool} {q : ℕ} {past : Past} {after : Past} (t : Aim) → Leads ns (ending t) k j
+  leads-written : {n : ℕ} {o : Bool} {k j : ℕ} {names : Names} {w : ℕ} {c : Bool} {q : ℕ} {past : Past} {after : Past} (t : Aim)
+      → Leads ns (ending t) k j
       → Written local es ns p x n o j names w c q past t after → Written local es ns p x n o k names w c q past t after
   leads-written t (Leads.first i idle) d = first-written t i idle d
   leads-written t (Leads.second i idle) d = written-in (omega arith) (Written.sequences i (idle-written idle) d)
@@ -56,10 +60,11 @@ module _ (local : Bool) (es : List Edge) (ns : List Node) (p x : ℕ) where
   leads-written t (Leads.body i) d = Written.enters i d
   leads-written t (Leads.again i) d = Written.repeats i d
 
-  pub passes-written : {n : ℕ} {o : Bool} {k j : ℕ} {names : Names} {w : ℕ} {c : Bool} {q : ℕ} {past : Past} {after : Past} (t : Aim) → Passes ns (ending t) k j
+  pub passes-written : {n : ℕ} {o : Bool} {k j : ℕ} {names : Names} {w : ℕ} {c : Bool} {q : ℕ} {past : Past} {after : Past} (t : Aim)
+      → PassesAll ns (ending t) k j
       → Written local es ns p x n o j names w c q past t after → Written local es ns p x n o k names w c q past t after
-  passes-written t Passes.here d = d
-  passes-written t (Passes.on l s) d = leads-written t l (passes-written t s d)
+  passes-written t PassesAll.here d = d
+  passes-written t (PassesAll.on l s) d = leads-written t l (passes-written t s d)
 
   module _ (scope : ℕ → ℕ → Type 0) (edges : EdgesOk es) (outline : Scoped ns scope) where
     abbrev Names-at : ℕ → Names → Type 0
@@ -73,7 +78,7 @@ module _ (local : Bool) (es : List Edge) (ns : List Node) (p x : ℕ) where
     leads-given (Leads.body {k = k} {a = a} i) g = given-child local es ns p x scope outline k a (outline .body i) g
     leads-given (Leads.again {k = k} {a = a} i) g = given-child local es ns p x scope outline k a (outline .again i) g
 
-    passes-given : {whole : Bool} {k j : ℕ} {names : Names} → Passes ns whole k j → Names-at k names → Names-at j names
+    passes-given : {whole : Bool} {k j : ℕ} {names : Names} → PassesAll ns whole k j → Names-at k names → Names-at j names
     passes-given {names = names} s g = passes-all (λ (i : ℕ). Names-at i names) (λ a b h l. leads-given l h) g s
 
     module _ (cap : ℕ) (E : Entries) (h : Least local es ns p x cap E) where
@@ -83,15 +88,19 @@ module _ (local : Bool) (es : List Edge) (ns : List Node) (p x : ℕ) where
           → (names : Names) → Names-at k names → (past : Past) → (after : Past) × Written local es ns p x n o k names w c q past t after
 
       -- one rule, the entries of which can be written
-      by-rule : {most n : ℕ} {o : Bool} {k w : ℕ} {c : Bool} {q : ℕ} {t : Aim} → Writes most → Begun x w c q → Aimed t → Rule local es ns p x (Less most E) n o k w c q t
+      by-rule : {most n : ℕ} {o : Bool} {k w : ℕ} {c : Bool} {q : ℕ} {t : Aim} → Writes most → Begun x w c q → Aimed t
+          → Rule local es ns p x (Less most E) n o k w c q t
           → (names : Names) → Names-at k names → (past : Past) → (after : Past) × Written local es ns p x n o k names w c q past t after
       by-rule r b a (Rule.ends i) names g past = (past, Written.ends i)
       by-rule r b a (Rule.fires-static i v) names g past = (_, Written.fires-static i v)
       by-rule r b a (Rule.fires-name {m = m} i v) names g past = let (s, e) = g m (outline .used i) in (_, Written.fires-name i e v)
       by-rule r b a (Rule.sequences {n₁ = n₁} {n₂ = n₂} {k = k} {w = w} {q = q} {a = a₁} {b = b₁} {q₁ = q₁} {o = o} {c = c} {c₁ = c₁} {t = t} i (l₁, e₁) (l₂, e₂)) names g past =
           let d = h .lengths .sound b at-end e₁ in
-          let (mid, u) = r n₁ o a₁ w c q (ended c₁ q₁) l₁ b at-end e₁ names (given-child local es ns p x scope outline k a₁ (outline .first i) g) past in
-          let (after, v) = r n₂ o b₁ w c₁ q₁ t l₂ (begun-ended local es ns p x edges b d) a e₂ names (given-child local es ns p x scope outline k b₁ (outline .second i) g) mid in
+          let (mid, u) =
+          r n₁ o a₁ w c q (ended c₁ q₁) l₁ b at-end e₁ names (given-child local es ns p x scope outline k a₁ (outline .first i) g) past in
+          let (after, v) =
+          r n₂ o b₁ w c₁ q₁ t l₂ (begun-ended local es ns p x edges b d) a e₂ names
+          (given-child local es ns p x scope outline k b₁ (outline .second i) g) mid in
           (after, Written.sequences i u v)
       by-rule r b a (Rule.chooses-left {n = n} {k = k} {w = w} {q = q} {a = a₁} {o = o} {c = c} {t = t} i (l, e)) names g past =
           let (after, u) = r n o a₁ w c q t l b a e names (given-child local es ns p x scope outline k a₁ (outline .left i) g) past in (after, Written.chooses-left i u)
@@ -110,17 +119,22 @@ module _ (local : Bool) (es : List Edge) (ns : List Node) (p x : ℕ) where
           (given-fresh local es ns p x scope outline k m (next past) b₁ (outline .given i) g) (event create (next past) ∷ past) in
           (after, Written.creates-own i v u)
       by-rule r b a (Rule.sandboxes {n = n} {k = k} {s = s} {b = b₁} {o = o} i (l, e)) names g past =
-          let (after, u) = r n _ b₁ _ _ _ _ l (begun-opened b local p s o) at-end e names (given-child local es ns p x scope outline k b₁ (outline .inside i) g) (opening s ∷ past) in
+          let (after, u) =
+          r n _ b₁ _ _ _ _ l (begun-opened b local p s o) at-end e names
+          (given-child local es ns p x scope outline k b₁ (outline .inside i) g) (opening s ∷ past) in
           (_, Written.sandboxes i u)
       by-rule r b a (Rule.breaks-static i v f z) names g past = (_, Written.breaks-static i v f z)
-      by-rule r b a (Rule.breaks-name {m = m} i v f z) names g past = let (s, e) = g m (outline .used i) in (_, Written.breaks-name i e v f z)
+      by-rule r b a (Rule.breaks-name {m = m} i v f z) names g past =
+          let (s, e) = g m (outline .used i) in (_, Written.breaks-name i e v f z)
       by-rule r b a (Rule.breaks-other i v f z) names g past = (_, Written.breaks-other i v f z)
       by-rule r b a (Rule.breaks-own i v f z) names g past = (_, Written.breaks-own i v f z)
       by-rule r b a (Rule.breaks-opening i f z) names g past = (_, Written.breaks-opening i f z)
       by-rule r b a (Rule.breaks-first {n = n} {k = k} {w = w} {q = q} {a = a₁} {o = o} {c = c} {u = u} i (l, e)) names g past =
           let (after, d) = r n o a₁ w c q (broken u) l b a e names (given-child local es ns p x scope outline k a₁ (outline .first i) g) past in (after, Written.breaks-first i d)
       by-rule r b a (Rule.breaks-inside {n = n} {k = k} {s = s} {b = b₁} {o = o} {u = u} i (l, e)) names g past =
-          let (after, d) = r n _ b₁ _ _ _ (broken u) l (begun-opened b local p s o) a e names (given-child local es ns p x scope outline k b₁ (outline .inside i) g) (opening s ∷ past) in
+          let (after, d) =
+          r n _ b₁ _ _ _ (broken u) l (begun-opened b local p s o) a e names
+          (given-child local es ns p x scope outline k b₁ (outline .inside i) g) (opening s ∷ past) in
           (after, Written.breaks-inside i d)
 
       -- An entry of no step writes nothing. Any other: a node that k leads to with no step, and there a rule whose entries have fewer steps.
@@ -142,9 +156,11 @@ module _ (local : Bool) (es : List Edge) (ns : List Node) (p x : ℕ) where
 
 -- ── What L1 asks for ──
 
-module _ (local : Bool) (es : List Edge) (ns : List Node) (scope : ℕ → ℕ → Type 0) (p : ℕ) (edges : EdgesOk es) (outline : Scoped ns scope) where
+module _ (local : Bool) (es : List Edge) (ns : List Node) (scope : ℕ → ℕ → Type 0) (p : ℕ) (edges : EdgesOk es)
+    (outline : Scoped ns scope) where
   -- What is written from the root on is shown, where no watched resource gives fewer steps.
-  pub written-shown : {x n : ℕ} {after : Past} → x ≤ watched → Written local es ns p x n false 0 no-names no-name (ltb x statics) 0 [] (broken none) after → n ≤ most-shown
+  pub written-shown : {x n : ℕ} {after : Past} → x ≤ watched
+      → Written local es ns p x n false 0 noNames noName (ltb x statics) 0 [] (broken none) after → n ≤ mostShown
       → ((y m : ℕ) → y ≤ watched → Root local es ns p y m none → n ≤ m) → Shown local es ns p (some after)
   written-shown {x} {n} {after} small u few low =
       let d = written-struck local es ns p x scope edges outline small u in
@@ -156,40 +172,45 @@ module _ (local : Bool) (es : List Edge) (ns : List Node) (scope : ℕ → ℕ �
       zero-steps : length {A = Step} [] + n ≡ n
       zero-steps = omega arith
 
-      at-200 : (past : Past) → length past ≡ n → length past ≤ most-shown
+      at-200 : (past : Past) → length past ≡ n → length past ≤ mostShown
       at-200 past e = omega arith
 
-      at-most : (past : Past) → length past ≡ n → (another : Past) → IsTrace ns another → Violates local es p another → length past ≤ length another
+      at-most : (past : Past) → length past ≡ n → (another : Past) → IsTrace ns another → Violates local es p another
+          → length past ≤ length another
       at-most past e another t v =
           let (m, l, y, little, by, k) = shortest-complete local es ns scope p edges outline another t v in
           omega (arith, low y m little (hits-exact local es ns p y m none .0 (by, each, k)))
 
   -- with a table of least lengths for each watched resource
-  module _ (E : ℕ → Entries) (h : (x : ℕ) → x ≤ watched → Least local es ns p x most-shown (E x)) where
+  module _ (E : ℕ → Entries) (h : (x : ℕ) → x ≤ watched → Least local es ns p x mostShown (E x)) where
     -- the entry of the root
     abbrev Told : ℕ → ℕ → Type 0
-    Told x n = E x n false 0 no-name (ltb x statics) 0 (broken none)
+    Told x n = E x n false 0 noName (ltb x statics) 0 (broken none)
 
-    told-least : {n : ℕ} → ((y m : ℕ) → y ≤ watched → Told y m → n ≤ m) → n ≤ most-shown → (y m : ℕ) → y ≤ watched → Root local es ns p y m none → n ≤ m
-    told-least {n} low few y m little d = go (decLe m most-shown)
+    told-least : {n : ℕ} → ((y m : ℕ) → y ≤ watched → Told y m → n ≤ m) → n ≤ mostShown → (y m : ℕ) → y ≤ watched
+        → Root local es ns p y m none → n ≤ m
+    told-least {n} low few y m little d = go (decLe m mostShown)
       where
-        go : Dec (m ≤ most-shown) → n ≤ m
+        go : Dec (m ≤ mostShown) → n ≤ m
         go (yes l) = let (i, j, e) = h y little .full (begun-root y) at-break d l in omega (arith, low y i little e)
         go (no l) = omega arith
 
-    pub tables-shown : {x n : ℕ} → x ≤ watched → Told x n → ((y m : ℕ) → y ≤ watched → Told y m → n ≤ m) → (after : Past) × Shown local es ns p (some after) × (length after ≡ n)
+    pub tables-shown : {x n : ℕ} → x ≤ watched → Told x n → ((y m : ℕ) → y ≤ watched → Told y m → n ≤ m)
+        → (after : Past) × Shown local es ns p (some after) × (length after ≡ n)
     tables-shown {x} {n} small e low =
         let few = h x small .lengths .capped e in
-        let (after, u) = reads local es ns p x scope edges outline most-shown (E x) (h x small) (suc n) n false 0 no-name (ltb x statics) 0 (broken none) (omega arith)
-        (begun-root x) at-break e no-names (λ m s. absurd (outline .root s)) [] in
+        let (after, u) = reads local es ns p x scope edges outline mostShown (E x) (h x small) (suc n) n false 0 noName (ltb x statics) 0 (broken none) (omega arith)
+        (begun-root x) at-break e noNames (λ m s. absurd (outline .root s)) [] in
         (after, written-shown small u few (told-least low few), written-length local es ns p x u ∙ zero-steps)
       where
         zero-steps : length {A = Step} [] + n ≡ n
         zero-steps = omega arith
 
     pub tables-longer : ((y m : ℕ) → y ≤ watched → Told y m → ⊥) → Shown local es ns p none
-    tables-longer never = all-longer local es ns scope p edges outline (λ y m by little k. go y m little (hits-exact local es ns p y m none .0 (by, each, k)) (decLe m most-shown))
+    tables-longer never =
+        all-longer local es ns scope p edges outline
+        (λ y m by little k. go y m little (hits-exact local es ns p y m none .0 (by, each, k)) (decLe m mostShown))
       where
-        go : (y m : ℕ) → y ≤ watched → Root local es ns p y m none → Dec (m ≤ most-shown) → most-shown < m
+        go : (y m : ℕ) → y ≤ watched → Root local es ns p y m none → Dec (m ≤ mostShown) → mostShown < m
         go y m little d (yes l) = let (i, j, e) = h y little .full (begun-root y) at-break d l in absurd (never y i little e)
         go y m little d (no l) = omega arith

@@ -13,7 +13,7 @@ use Rattle.usage.specs.Policy.{EdgesOk}
 use Rattle.usage.specs.Outline.{Is, sequence}
 use Rattle.usage.proofs.Logic.{clash, false-true}
 use Rattle.checker_account.specs.Witness.{Last, Aim, ended, broken, Goes}
-use Rattle.checker_account.specs.Least.{Entries, Begun, Aimed, at-end, Rule, Least, Less, Idle, Leads, Passes, ending, Onto}
+use Rattle.checker_account.specs.Least.{Entries, Begun, Aimed, at-end, Rule, Least, Less, Idle, Leads, PassesAll, ending, Onto}
 use Rattle.checker_account.proofs.Scoped.{Scoped}
 use Rattle.checker_account.proofs.Ahead.{goes-in}
 use Rattle.checker_account.proofs.BegunLaws.{moves-states, begun-other, begun-opened, begun-own, begun-ended}
@@ -34,13 +34,14 @@ never-both : {A : Type 0} {u : Option Last} {c : Bool} {q : ℕ} → broken u �
 never-both e = clash (cc)
 
 -- what holds of k, and of whatever a node leads to that it holds of, holds of all that k leads to; and one more move
-pub passes-all : {ns : List Node} {whole : Bool} {k j : ℕ} (P : ℕ → Type 0) → ((a b : ℕ) → P a → Leads ns whole a b → P b) → P k → Passes ns whole k j → P j
-passes-all P f h Passes.here = h
-passes-all P f h (Passes.on {k = k} {i = i} l s) = passes-all P f (f k i h l) s
+pub passes-all : {ns : List Node} {whole : Bool} {k j : ℕ} (P : ℕ → Type 0) → ((a b : ℕ) → P a → Leads ns whole a b → P b) → P k
+    → PassesAll ns whole k j → P j
+passes-all P f h PassesAll.here = h
+passes-all P f h (PassesAll.on {k = k} {i = i} l s) = passes-all P f (f k i h l) s
 
-pub passes-more : {ns : List Node} {whole : Bool} {k i j : ℕ} → Passes ns whole k i → Leads ns whole i j → Passes ns whole k j
-passes-more Passes.here l = Passes.on l Passes.here
-passes-more (Passes.on m s) l = Passes.on m (passes-more s l)
+pub passes-more : {ns : List Node} {whole : Bool} {k i j : ℕ} → PassesAll ns whole k i → Leads ns whole i j → PassesAll ns whole k j
+passes-more PassesAll.here l = PassesAll.on l PassesAll.here
+passes-more (PassesAll.on m s) l = PassesAll.on m (passes-more s l)
 
 module _ (local : Bool) (es : List Edge) (ns : List Node) (p x : ℕ) where
   -- ── Nodes that take no step ──
@@ -88,7 +89,8 @@ module _ (local : Bool) (es : List Edge) (ns : List Node) (p x : ℕ) where
   first-goes (ended c q) i idle d = goes-in local es ns p x (omega arith) (Goes.sequences i d (idle-goes (idle refl)))
   first-goes (broken u) i idle d = Goes.breaks-first i d
 
-  leads-goes : {n : ℕ} {o : Bool} {k j w : ℕ} {c : Bool} {q : ℕ} (t : Aim) → Leads ns (ending t) k j → Goes local es ns p x n o j w c q t → Goes local es ns p x n o k w c q t
+  leads-goes : {n : ℕ} {o : Bool} {k j w : ℕ} {c : Bool} {q : ℕ} (t : Aim) → Leads ns (ending t) k j → Goes local es ns p x n o j w c q t
+      → Goes local es ns p x n o k w c q t
   leads-goes t (Leads.first i idle) d = first-goes t i idle d
   leads-goes t (Leads.second i idle) d = goes-in local es ns p x (omega arith) (Goes.sequences i (idle-goes idle) d)
   leads-goes t (Leads.left i) d = Goes.chooses-left i d
@@ -96,9 +98,10 @@ module _ (local : Bool) (es : List Edge) (ns : List Node) (p x : ℕ) where
   leads-goes t (Leads.body i) d = Goes.enters i d
   leads-goes t (Leads.again i) d = Goes.repeats i d
 
-  passes-goes : {n : ℕ} {o : Bool} {k j w : ℕ} {c : Bool} {q : ℕ} (t : Aim) → Passes ns (ending t) k j → Goes local es ns p x n o j w c q t → Goes local es ns p x n o k w c q t
-  passes-goes t Passes.here d = d
-  passes-goes t (Passes.on l s) d = leads-goes t l (passes-goes t s d)
+  passes-goes : {n : ℕ} {o : Bool} {k j w : ℕ} {c : Bool} {q : ℕ} (t : Aim) → PassesAll ns (ending t) k j → Goes local es ns p x n o j w c q t
+      → Goes local es ns p x n o k w c q t
+  passes-goes t PassesAll.here d = d
+  passes-goes t (PassesAll.on l s) d = leads-goes t l (passes-goes t s d)
 
   -- ── A step is taken somewhere ──
 
@@ -119,7 +122,7 @@ module _ (local : Bool) (es : List Edge) (ns : List Node) (p x : ℕ) where
         let s = goes-still d e in
         let m : n₂ ≡ n₁ + n₂ = omega arith in
         let r = onto-in m (same-made c₁ c q₁ q (s .same)) (same-state c₁ c q₁ q (s .same)) (right (omega arith)) in
-        record { node = r .node; passes = Passes.on (Leads.second i (s .idle)) (r .passes); rule = r .rule }
+        record { node = r .node; passes = PassesAll.on (Leads.second i (s .idle)) (r .passes); rule = r .rule }
 
     acts-first : n₂ ≡ 0 → Onto local es ns p x (Goes local es ns p x) (n₁ + n₂) o k w c q t
     acts-first e =
@@ -127,44 +130,52 @@ module _ (local : Bool) (es : List Edge) (ns : List Node) (p x : ℕ) where
         let r = subst (λ (u : Aim). Onto local es ns p x (Goes local es ns p x) n₁ o a w c q u) (sym (s .same)) (left (omega arith)) in
         let m : n₁ ≡ n₁ + n₂ = omega arith in
         let v = onto-in m refl refl r in
-        record { node = v .node; passes = Passes.on (Leads.first i (λ _. s .idle)) (v .passes); rule = v .rule }
+        record { node = v .node; passes = PassesAll.on (Leads.first i (λ _. s .idle)) (v .passes); rule = v .rule }
 
     acts-both : (n₁ ≡ 0 → ⊥) → (n₂ ≡ 0 → ⊥) → Onto local es ns p x (Goes local es ns p x) (n₁ + n₂) o k w c q t
     acts-both l m =
         let u : n₁ < n₁ + n₂ = omega arith in
         let v : n₂ < n₁ + n₂ = omega arith in
-        record { node = k; passes = Passes.here; rule = Rule.sequences i (u, d) (v, f) }
+        record { node = k; passes = PassesAll.here; rule = Rule.sequences i (u, d) (v, f) }
 
     acts-sequence : Dec (n₁ ≡ 0) → Dec (n₂ ≡ 0) → Onto local es ns p x (Goes local es ns p x) (n₁ + n₂) o k w c q t
     acts-sequence (yes e) h = acts-second e
     acts-sequence (no l) (yes e) = acts-first e
     acts-sequence (no l) (no m) = acts-both l m
 
-  acts : {n : ℕ} {o : Bool} {k w : ℕ} {c : Bool} {q : ℕ} {t : Aim} → Goes local es ns p x n o k w c q t → 1 ≤ n → Onto local es ns p x (Goes local es ns p x) n o k w c q t
+  acts : {n : ℕ} {o : Bool} {k w : ℕ} {c : Bool} {q : ℕ} {t : Aim} → Goes local es ns p x n o k w c q t → 1 ≤ n
+      → Onto local es ns p x (Goes local es ns p x) n o k w c q t
   acts (Goes.ends i) l = absurd (omega arith)
-  acts (Goes.fires-static {k = k} i v) l = record { node = k; passes = Passes.here; rule = Rule.fires-static i v }
-  acts (Goes.fires-name {k = k} i v) l = record { node = k; passes = Passes.here; rule = Rule.fires-name i v }
-  acts (Goes.sequences {n₁ = n₁} {n₂ = n₂} i d f) l = acts-sequence i d f (λ m. acts d m) (λ m. acts f m) l (ℕ-discrete n₁ 0) (ℕ-discrete n₂ 0)
-  acts (Goes.chooses-left i d) l = let r = acts d l in record { node = r .node; passes = Passes.on (Leads.left i) (r .passes); rule = r .rule }
-  acts (Goes.chooses-right i d) l = let r = acts d l in record { node = r .node; passes = Passes.on (Leads.right i) (r .passes); rule = r .rule }
-  acts (Goes.enters i d) l = let r = acts d l in record { node = r .node; passes = Passes.on (Leads.body i) (r .passes); rule = r .rule }
-  acts (Goes.repeats i d) l = let r = acts d l in record { node = r .node; passes = Passes.on (Leads.again i) (r .passes); rule = r .rule }
-  acts (Goes.creates-other {n = n} {k = k} i v d) l = record { node = k; passes = Passes.here; rule = Rule.creates-other i v (one-more n, d) }
-  acts (Goes.creates-own {n = n} {k = k} i v d) l = record { node = k; passes = Passes.here; rule = Rule.creates-own i v (one-more n, d) }
-  acts (Goes.sandboxes {n = n} {k = k} i d) l = record { node = k; passes = Passes.here; rule = Rule.sandboxes i (two-more n, d) }
-  acts (Goes.breaks-static {k = k} i v f z) l = record { node = k; passes = Passes.here; rule = Rule.breaks-static i v f z }
-  acts (Goes.breaks-name {k = k} i v f z) l = record { node = k; passes = Passes.here; rule = Rule.breaks-name i v f z }
-  acts (Goes.breaks-other {k = k} i v f z) l = record { node = k; passes = Passes.here; rule = Rule.breaks-other i v f z }
-  acts (Goes.breaks-own {k = k} i v f z) l = record { node = k; passes = Passes.here; rule = Rule.breaks-own i v f z }
-  acts (Goes.breaks-opening {k = k} i f z) l = record { node = k; passes = Passes.here; rule = Rule.breaks-opening i f z }
-  acts (Goes.breaks-first i d) l = let r = acts d l in record { node = r .node; passes = Passes.on (Leads.first i (λ e. false-true e)) (r .passes); rule = r .rule }
-  acts (Goes.breaks-inside {n = n} {k = k} i d) l = record { node = k; passes = Passes.here; rule = Rule.breaks-inside i (one-more n, d) }
+  acts (Goes.fires-static {k = k} i v) l = record { node = k; passes = PassesAll.here; rule = Rule.fires-static i v }
+  acts (Goes.fires-name {k = k} i v) l = record { node = k; passes = PassesAll.here; rule = Rule.fires-name i v }
+  acts (Goes.sequences {n₁ = n₁} {n₂ = n₂} i d f) l =
+      acts-sequence i d f (λ m. acts d m) (λ m. acts f m) l (ℕ-discrete n₁ 0) (ℕ-discrete n₂ 0)
+  acts (Goes.chooses-left i d) l =
+      let r = acts d l in record { node = r .node; passes = PassesAll.on (Leads.left i) (r .passes); rule = r .rule }
+  acts (Goes.chooses-right i d) l =
+      let r = acts d l in record { node = r .node; passes = PassesAll.on (Leads.right i) (r .passes); rule = r .rule }
+  acts (Goes.enters i d) l = let r = acts d l in record { node = r .node; passes = PassesAll.on (Leads.body i) (r .passes); rule = r .rule }
+  acts (Goes.repeats i d) l = let r = acts d l in record { node = r .node; passes = PassesAll.on (Leads.again i) (r .passes); rule = r .rule }
+  acts (Goes.creates-other {n = n} {k = k} i v d) l =
+      record { node = k; passes = PassesAll.here; rule = Rule.creates-other i v (one-more n, d) }
+  acts (Goes.creates-own {n = n} {k = k} i v d) l = record { node = k; passes = PassesAll.here; rule = Rule.creates-own i v (one-more n, d) }
+  acts (Goes.sandboxes {n = n} {k = k} i d) l = record { node = k; passes = PassesAll.here; rule = Rule.sandboxes i (two-more n, d) }
+  acts (Goes.breaks-static {k = k} i v f z) l = record { node = k; passes = PassesAll.here; rule = Rule.breaks-static i v f z }
+  acts (Goes.breaks-name {k = k} i v f z) l = record { node = k; passes = PassesAll.here; rule = Rule.breaks-name i v f z }
+  acts (Goes.breaks-other {k = k} i v f z) l = record { node = k; passes = PassesAll.here; rule = Rule.breaks-other i v f z }
+  acts (Goes.breaks-own {k = k} i v f z) l = record { node = k; passes = PassesAll.here; rule = Rule.breaks-own i v f z }
+  acts (Goes.breaks-opening {k = k} i f z) l = record { node = k; passes = PassesAll.here; rule = Rule.breaks-opening i f z }
+  acts (Goes.breaks-first i d) l =
+      let r = acts d l in record { node = r .node; passes = PassesAll.on (Leads.first i (λ e. false-true e)) (r .passes); rule = r .rule }
+  acts (Goes.breaks-inside {n = n} {k = k} i d) l = record { node = k; passes = PassesAll.here; rule = Rule.breaks-inside i (one-more n, d) }
 
   -- ── From an entry to entries of fewer steps ──
 
-  module _ (scope : ℕ → ℕ → Type 0) (edges : EdgesOk es) (outline : Scoped ns scope) (cap : ℕ) (E : Entries) (h : Least local es ns p x cap E) where
+  module _ (scope : ℕ → ℕ → Type 0) (edges : EdgesOk es) (outline : Scoped ns scope) (cap : ℕ) (E : Entries)
+      (h : Least local es ns p x cap E) where
     -- an entry is not more than any length
-    pub entry-least : {n m : ℕ} {o : Bool} {k w : ℕ} {c : Bool} {q : ℕ} {t : Aim} → Begun x w c q → Aimed t → E n o k w c q t → Goes local es ns p x m o k w c q t → n ≤ m
+    pub entry-least : {n m : ℕ} {o : Bool} {k w : ℕ} {c : Bool} {q : ℕ} {t : Aim} → Begun x w c q → Aimed t → E n o k w c q t
+        → Goes local es ns p x m o k w c q t → n ≤ m
     entry-least {n} {m} {o} {k} {w} {c} {q} {t} b a e d = go (decLe m cap)
       where
         go : Dec (m ≤ cap) → n ≤ m
@@ -175,7 +186,8 @@ module _ (local : Bool) (es : List Edge) (ns : List Node) (p x : ℕ) where
     entry-in {o = o} {k = k} {w = w} {c = c} {q = q} {t = t} e d = subst (λ (n : ℕ). E n o k w c q t) e d
 
     -- the rule that a least derivation begins with, over the entries
-    entries : {n m : ℕ} {o : Bool} {k j w : ℕ} {c : Bool} {q : ℕ} {t : Aim} → Begun x w c q → Aimed t → E n o k w c q t → Passes ns (ending t) k j
+    entries : {n m : ℕ} {o : Bool} {k j w : ℕ} {c : Bool} {q : ℕ} {t : Aim} → Begun x w c q → Aimed t → E n o k w c q t
+        → PassesAll ns (ending t) k j
         → Rule local es ns p x (Less n (Goes local es ns p x)) m o j w c q t → m ≡ n → Rule local es ns p x (Less n E) m o j w c q t
     entries b a e s (Rule.ends i) f = Rule.ends i
     entries b a e s (Rule.fires-static i v) f = Rule.fires-static i v
@@ -229,7 +241,8 @@ module _ (local : Bool) (es : List Edge) (ns : List Node) (p x : ℕ) where
         Rule.breaks-inside i (l, entry-in same e₁)
 
     -- The key to reading: an entry of a step or more leads on to entries of fewer steps, which add up.
-    pub found : {n : ℕ} {o : Bool} {k w : ℕ} {c : Bool} {q : ℕ} {t : Aim} → Begun x w c q → Aimed t → E n o k w c q t → 1 ≤ n → Onto local es ns p x E n o k w c q t
+    pub found : {n : ℕ} {o : Bool} {k w : ℕ} {c : Bool} {q : ℕ} {t : Aim} → Begun x w c q → Aimed t → E n o k w c q t → 1 ≤ n
+        → Onto local es ns p x E n o k w c q t
     found b a e l =
         let r = acts (h .lengths .sound b a e) l in
         record { node = r .node; passes = r .passes; rule = entries b a e (r .passes) (r .rule) refl }

@@ -8,13 +8,14 @@ use native.Mathlib.Nat.{not-suc-le-zero, le-of-suc-le-suc}
 use native.Mathlib.Numerals.{add-one}
 use native.Mathlib.Omega.{arith}
 use lib.Dec.{eqb, ltb, leb}
-use lib.Bits.{bitOr, or-add-and, and-le-r}
+use lib.Bits.{bitOr}
 use lib.ListN.{length, getD, set, length-set}
 use lib.Seq.{set-out, set-getD}
 use borrow.Author.Tests.{eqb-true, eqb-false, ltb-true, ltb-false, lt-ltb, le-ltb, leb-true, leb-false}
-use Rattle.usage.proofs.Logic.{last-or-lower, or-right}
-use Rattle.checker_account.specs.Mask.{joined}
+use Rattle.usage.proofs.Logic.{by-cases, last-or-lower, or-right}
+use Rattle.automaton.proofs.MaskLaws.{left-le}
 use Rattle.checker_account.specs.Rounds.{repeat, total, grown, Wide, Filled}
+use Rattle.checker_account.specs.Tables.{joinedAt, places}
 
 -- ── The sum of the entries ──
 
@@ -28,9 +29,6 @@ pub total-le : (t : List ℕ) → ((i : ℕ) → getD t i 0 < 65536) → total t
 unfolding total
 total-le [] h = omega arith
 total-le (w ∷ t) h = let l = h 0 in let r = total-le t (λ i. h (suc i)) in omega arith
-
-pub or-ge : (a b : ℕ) → a ≤ bitOr a b
-or-ge a b = omega (arith, or-add-and a b, and-le-r a b)
 
 -- ── Growing ──
 
@@ -59,31 +57,31 @@ module _ (t : List ℕ) (i v : ℕ) where
   abbrev old : ℕ
   old = getD t i 0
 
-  joined-in : i < length t → Grows t (joined t i v)
-  unfolding joined
+  joined-in : i < length t → Grows t (joinedAt t i v)
+  unfolding joinedAt
   joined-in h =
       let e = total-set t i (bitOr old v) h in
-      let l = or-ge old v in
+      let l = left-le old v in
       record {
         len = length-set t i (bitOr old v);
         up = omega arith;
         still = λ f. let d : bitOr old v ≡ old = omega arith in ap (set t i) d ∙ set-getD t i 0;
       }
 
-  joined-out : length t ≤ i → joined t i v ≡ t
-  unfolding joined
+  joined-out : length t ≤ i → joinedAt t i v ≡ t
+  unfolding joinedAt
   joined-out h = set-out t i (bitOr old v) h
 
-  pub joined-grows : Grows t (joined t i v)
+  pub joined-grows : Grows t (joinedAt t i v)
   joined-grows = go (leb (length t) i) refl
     where
-      go : (b : Bool) → leb (length t) i ≡ b → Grows t (joined t i v)
+      go : (b : Bool) → leb (length t) i ≡ b → Grows t (joinedAt t i v)
       go true e = subst (Grows t) (sym (joined-out (leb-true (length t) i e))) (grows-self t)
       go false e = joined-in (leb-false (length t) i e)
 
   -- whether it has changed anything
-  pub grown-joined : i < length t → grown t (joined t i v) ≡ not (eqb (bitOr old v) old)
-  unfolding joined grown
+  pub grown-joined : i < length t → grown t (joinedAt t i v) ≡ not (eqb (bitOr old v) old)
+  unfolding joinedAt grown
   grown-joined h = go (eqb (bitOr old v) old) refl
     where
       e : total (set t i (bitOr old v)) + old ≡ total t + bitOr old v
@@ -93,7 +91,7 @@ module _ (t : List ℕ) (i v : ℕ) where
       more d = go (leb (bitOr old v) old) refl
         where
           go : (b : Bool) → leb (bitOr old v) old ≡ b → total t < total (set t i (bitOr old v))
-          go true f = let k = leb-true (bitOr old v) old f in let l = or-ge old v in absurd (d (omega arith))
+          go true f = let k = leb-true (bitOr old v) old f in let l = left-le old v in absurd (d (omega arith))
           go false f = let k = leb-false (bitOr old v) old f in let g = e in omega arith
 
       go : (b : Bool) → eqb (bitOr old v) old ≡ b → ltb (total t) (total (set t i (bitOr old v))) ≡ not b
@@ -131,15 +129,21 @@ pub grown-two : (a b c : List ℕ) (r₁ r₂ r : Bool) → Grows a b → Grows 
 grown-two a b c r₁ r₂ r g h e₁ e₂ e = e ∙ ap₂ (λ (x y : Bool). x || y) e₁ e₂ ∙ sym (grown-trans g h)
 
 -- a table to which a set was joined
-pub grows-joined : (t u : List ℕ) (i v : ℕ) → u ≡ joined t i v → Grows t u
+pub grows-joined : (t u : List ℕ) (i v : ℕ) → u ≡ joinedAt t i v → Grows t u
 grows-joined t u i v e = subst (Grows t) (sym e) (joined-grows t i v)
 
 -- ── Many steps ──
 
-pub repeat-keeps : (P : List ℕ → Type 0) (f : ℕ → List ℕ → List ℕ) (n : ℕ) → ((i : ℕ) (t : List ℕ) → i < n → P t → P (f i t)) → (t : List ℕ) → P t → P (repeat f n t)
+pub repeat-keeps : (P : List ℕ → Type 0) (f : ℕ → List ℕ → List ℕ) (n : ℕ) → ((i : ℕ) (t : List ℕ) → i < n → P t → P (f i t)) → (t : List ℕ)
+    → P t → P (repeat f n t)
 unfolding repeat
 repeat-keeps P f zero h t p = p
 repeat-keeps P f (suc n) h t p = h n (repeat f n t) (omega arith) (repeat-keeps P f n (λ i t l. h i t (omega arith)) t p)
+
+-- one turn more
+pub repeat-more : (f : ℕ → List ℕ → List ℕ) (n : ℕ) (t₀ t u : List ℕ) → t ≡ repeat f n t₀ → u ≡ f n t → u ≡ repeat f (n + 1) t₀
+unfolding repeat
+repeat-more f n t₀ t u e g = rw (add-one n) (g ∙ ap (f n) e)
 
 module _ (f : ℕ → List ℕ → List ℕ) (grows : (i : ℕ) (t : List ℕ) → Grows t (f i t)) where
   pub repeat-grows : (n : ℕ) (t : List ℕ) → Grows t (repeat f n t)
@@ -165,19 +169,22 @@ module _ (f : ℕ → List ℕ → List ℕ) (grows : (i : ℕ) (t : List ℕ) �
       go ih (inl k) = ap (λ (j : ℕ). f j t) k ∙ ap (f n) (sym same) ∙ e
       go ih (inr l) = ih same i l
 
-  -- one turn more, and whether the table has changed since the start
-  pub turn-made : (n : ℕ) (t₀ t u : List ℕ) → t ≡ repeat f n t₀ → u ≡ f n t → u ≡ repeat f (n + 1) t₀
-  unfolding repeat
-  turn-made n t₀ t u e g = rw (add-one n) (g ∙ ap (f n) e)
+  pub repeat-length : (n : ℕ) (t₀ t : List ℕ) → t ≡ repeat f n t₀ → length t ≡ length t₀
+  repeat-length n t₀ t e = ap length e ∙ repeat-grows n t₀ .len
 
-  grown-more : (n : ℕ) (t₀ t u : List ℕ) → t ≡ repeat f n t₀ → u ≡ f n t → grown t₀ u ≡ (grown t₀ t || grown t u)
-  grown-more n t₀ t u e g = grown-trans (subst (Grows t₀) (sym e) (repeat-grows n t₀)) (subst (Grows t) (sym g) (grows n t))
+  -- one turn more of a loop that notes in c, and then in c′, whether the table has changed since the start; r: whether it has in this turn
+  pub turn : (n : ℕ) (t₀ t u : List ℕ) (c c′ r : Bool) → (t ≡ repeat f n t₀) × (c ≡ grown t₀ t) → u ≡ f n t → r ≡ grown t u
+      → ((r ≡ true) × (c′ ≡ true)) ⊎ ((r ≡ false) × (c′ ≡ c)) → (u ≡ repeat f (n + 1) t₀) × (c′ ≡ grown t₀ u)
+  turn n t₀ t u c c′ r (e, d) g k came = (repeat-more f n t₀ t u e g, by-cases came noted kept)
+    where
+      more : grown t₀ u ≡ (grown t₀ t || grown t u)
+      more = grown-trans (subst (Grows t₀) (sym e) (repeat-grows n t₀)) (subst (Grows t) (sym g) (grows n t))
 
-  pub turn-grown : (n : ℕ) (t₀ t u : List ℕ) → t ≡ repeat f n t₀ → u ≡ f n t → grown t u ≡ true → true ≡ grown t₀ u
-  turn-grown n t₀ t u e g h = sym (grown-more n t₀ t u e g ∙ or-right (grown t₀ t) (grown t u) h)
+      noted : (r ≡ true) × (c′ ≡ true) → c′ ≡ grown t₀ u
+      noted (h, m) = m ∙ sym (more ∙ or-right (grown t₀ t) (grown t u) (sym k ∙ h))
 
-  pub turn-same : (n : ℕ) (t₀ t u : List ℕ) (c : Bool) → t ≡ repeat f n t₀ → u ≡ f n t → c ≡ grown t₀ t → grown t u ≡ false → c ≡ grown t₀ u
-  turn-same n t₀ t u c e g d h = d ∙ sym (or-false (grown t₀ t)) ∙ ap (λ (b : Bool). grown t₀ t || b) (sym h) ∙ sym (grown-more n t₀ t u e g)
+      kept : (r ≡ false) × (c′ ≡ c) → c′ ≡ grown t₀ u
+      kept (h, m) = m ∙ d ∙ sym (or-false (grown t₀ t)) ∙ ap (λ (b : Bool). grown t₀ t || b) (sym h ∙ k) ∙ sym more
 
 -- ── Rounds until one changes nothing ──
 
@@ -187,9 +194,9 @@ pub record Filling (round : List ℕ → List ℕ) (t₀ t : List ℕ) : Type 0 
   pub made : t ≡ repeat (λ i. round) rounds t₀
   pub wide : Wide t
 
--- what a table of 3,072 entries of 16 bits can sum up to
+-- what a table of entries of 16 bits can sum up to
 abbrev pub most : ℕ
-most = 201326592
+most = 65536 * places
 
 module _ (round : List ℕ → List ℕ) (grows : (t : List ℕ) → Grows t (round t)) where
   pub filling-start : (t : List ℕ) → Wide t → Filling round t t
@@ -208,9 +215,10 @@ module _ (round : List ℕ → List ℕ) (grows : (t : List ℕ) → Grows t (ro
       let same : u ≡ t = grown-false (subst (Grows t) (sym e) (grows t)) g in
       record { rounds = h .rounds; made = same ∙ h .made; still = ap round same ∙ sym e }
 
-  pub filling-less : (t₀ t u : List ℕ) → length t₀ ≡ 3072 → Filling round t₀ t → u ≡ round t → Wide u → grown t u ≡ true → most - total u < most - total t
+  pub filling-less : (t₀ t u : List ℕ) → length t₀ ≡ places → Filling round t₀ t → u ≡ round t → Wide u → grown t u ≡ true
+      → most - total u < most - total t
   filling-less t₀ t u l h e w g =
-      let k : length u ≡ 3072 = filling-length t₀ u (filling-more t₀ t u h e w) ∙ l in
+      let k : length u ≡ places = filling-length t₀ u (filling-more t₀ t u h e w) ∙ l in
       let b = total-le u w in
       let m = grown-true t u g in
       omega arith

@@ -10,7 +10,7 @@ use lib.Dec.{eqb}
 use borrow.Author.Tests.{eqb-true, eqb-false}
 use Rattle.usage.specs.declared.Edge.{Edge}
 use Rattle.usage.specs.declared.Node.{Node}
-use Rattle.usage.specs.Limits.{create}
+use Rattle.usage.specs.Limits.{create, states}
 use Rattle.usage.specs.Policy.{Sees, Moves, EdgesOk}
 use Rattle.usage.specs.Outline.{Is, on-static, on-name, fresh}
 use Rattle.usage.proofs.Logic.{false-true, not-both}
@@ -23,27 +23,31 @@ use Rattle.checker_account.proofs.Carry.{Same, carry}
 
 -- the states that q moves to by the event a(r) of policy p
 pub record Image (es : List Edge) (p : ℕ) (image : ℕ → ℕ → Bool → ℕ → ℕ) : Type 0 where
-  pub right : (x a r : ℕ) (mine : Bool) → Own x r mine → (q q′ : ℕ) → q < 8 → q′ < 8 → (has (image a r mine q) q′ ≡ true) ↔ Moves es p a (Sees x r) q q′
+  pub right : (x a r : ℕ) (mine : Bool) → Own x r mine → (q q′ : ℕ) → q < states → q′ < states
+      → (has (image a r mine q) q′ ≡ true) ↔ Moves es p a (Sees x r) q q′
 
 -- the rows are these sets, at each node with an event
 pub record RowsFrom (ns : List Node) (image : ℕ → ℕ → Bool → ℕ → ℕ) (rows : Rows) : Type 0 where
-  pub static : {k a s : ℕ} → Is ns k (on-static a s) → (own : Bool) (q : ℕ) → q < 8 → rows k own q ≡ image a s own q
-  pub name : {k a n : ℕ} → Is ns k (on-name a n) → (own : Bool) (q : ℕ) → q < 8 → rows k own q ≡ image a others own q
-  pub created : {k n b : ℕ} → Is ns k (fresh n b) → (own : Bool) (q : ℕ) → q < 8 → rows k own q ≡ image create others own q
+  pub static : {k a s : ℕ} → Is ns k (on-static a s) → (own : Bool) (q : ℕ) → q < states → rows k own q ≡ image a s own q
+  pub name : {k a n : ℕ} → Is ns k (on-name a n) → (own : Bool) (q : ℕ) → q < states → rows k own q ≡ image a others own q
+  pub created : {k n b : ℕ} → Is ns k (fresh n b) → (own : Bool) (q : ℕ) → q < states → rows k own q ≡ image create others own q
 
 own-test : (x s : ℕ) → Own x s (eqb s x)
 own-test x s = record { is = eqb-true s x; not = eqb-false s x }
 
 -- 17 is seen by 17 as x is by x, where no edge names x
 same-watched : (x : ℕ) → x ≡ watched → Same others others x x
-same-watched x e = record { to = λ d. refl; «from» = λ d. refl; static-to = λ v l d. absurd (omega arith); static-from = λ v l d. absurd (omega arith) }
+same-watched x e =
+    record { to = λ d. refl; «from» = λ d. refl; static-to = λ v l d. absurd (omega arith); static-from = λ v l d. absurd (omega arith) }
 
 same-back : (x : ℕ) → x ≡ watched → Same x x others others
-same-back x e = record { to = λ d. refl; «from» = λ d. refl; static-to = λ v l d. absurd (omega arith); static-from = λ v l d. absurd (omega arith) }
+same-back x e =
+    record { to = λ d. refl; «from» = λ d. refl; static-to = λ v l d. absurd (omega arith); static-from = λ v l d. absurd (omega arith) }
 
 module _ (es : List Edge) (ns : List Node) (p x : ℕ) (rows : Rows) (image : ℕ → ℕ → Bool → ℕ → ℕ) (small : x ≤ watched) (edges : EdgesOk es)
     (right : Image es p image) (made : RowsFrom ns image rows) where
-  dynamic : (a : ℕ) (own : Bool) → (own ≡ true → x ≡ watched) → (q q′ : ℕ) → q < 8 → q′ < 8 → (has (image a others own q) q′ ≡ true) ↔ Dynamic es p x a own q q′
+  dynamic : (a : ℕ) (own : Bool) → (own ≡ true → x ≡ watched) → (q q′ : ℕ) → q < states → q′ < states
+      → (has (image a others own q) q′ ≡ true) ↔ Dynamic es p x a own q q′
   dynamic a true e q q′ l l′ =
       let h = right .right others a others true (record { is = λ d. refl; not = λ d. not-both true refl d }) q q′ l l′ in
       ((λ b. carry edges (same-watched x (e refl)) (h .0 b)), (λ v. h .1 (carry edges (same-back x (e refl)) v)))

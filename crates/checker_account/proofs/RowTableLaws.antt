@@ -12,13 +12,13 @@ use borrow.Author.Tests.{leb-true, leb-false}
 use lib.ListN.{length, getD, set, length-set}
 use lib.Seq.{getD-set-same, getD-set-other}
 use Rattle.usage.specs.declared.Node.{Node}
-use Rattle.usage.specs.Limits.{create}
-use Rattle.usage.specs.Outline.{Form, end, on-static, on-name, sequence, choice, loop, back, fresh, sandbox, formOf, Is}
+use Rattle.usage.specs.Limits.{create, states, mostNodes}
+use Rattle.usage.specs.Outline.{Form, end, on-static, on-name, sequence, choice, loop, back, fresh, sandbox, Is}
 use Rattle.usage.proofs.Logic.{by-cases, last-or-lower}
 use Rattle.checker_account.specs.Witness.{others}
-use Rattle.checker_account.specs.Tables.{rowAt, rowsIn}
+use Rattle.checker_account.specs.Tables.{rowAt, rowsIn, starts, places}
 use Rattle.checker_account.specs.Rounds.{repeat, Forms, FormsOf}
-use Rattle.checker_account.specs.RowTable.{EventTables, imageIn, storeRow, stored, eventRows, nodeRows, fillRows}
+use Rattle.checker_account.specs.RowTable.{EventTables, imageIn, storeRow, rowsStored, eventRows, nodeRows, fillRows}
 use Rattle.checker_account.proofs.RowLaws.{RowsFrom}
 
 -- ── One node ──
@@ -26,77 +26,67 @@ use Rattle.checker_account.proofs.RowLaws.{RowsFrom}
 -- what r′ holds, once the first j rows of node k were stored in r
 pub record Storing (k p : ℕ) (own other : List ℕ) (j : ℕ) (r r′ : List ℕ) : Type 0 where
   pub len : length r′ ≡ length r
-  pub others : (q : ℕ) → q < j → getD r′ (48 * k + q) 0 ≡ getD other (p * 8 + q) 0
-  pub owns : (q : ℕ) → q < j → getD r′ (48 * k + 8 + q) 0 ≡ getD own (p * 8 + q) 0
-  pub before : (i : ℕ) → i < 48 * k → getD r′ i 0 ≡ getD r i 0
-  pub after : (i : ℕ) → 48 * k + 16 ≤ i → getD r′ i 0 ≡ getD r i 0
+  pub others : (q : ℕ) → q < j → getD r′ (starts * k + q) 0 ≡ getD other (p * states + q) 0
+  pub owns : (q : ℕ) → q < j → getD r′ (starts * k + states + q) 0 ≡ getD own (p * states + q) 0
+  pub before : (i : ℕ) → i < starts * k → getD r′ i 0 ≡ getD r i 0
+  pub after : (i : ℕ) → starts * k + 16 ≤ i → getD r′ i 0 ≡ getD r i 0
 
-module _ (k p : ℕ) (own other : List ℕ) (r : List ℕ) (room : 48 * k + 16 ≤ length r) where
-  module _ (j : ℕ) (small : j < 8) (t : List ℕ) (h : Storing k p own other j r t) where
+module _ (k p : ℕ) (own other : List ℕ) (r : List ℕ) (room : starts * k + 16 ≤ length r) where
+  module _ (j : ℕ) (small : j < states) (t : List ℕ) (h : Storing k p own other j r t) where
     v : ℕ
-    v = getD other (p * 8 + j) 0
+    v = getD other (p * states + j) 0
 
     w : ℕ
-    w = getD own (p * 8 + j) 0
+    w = getD own (p * states + j) 0
 
     u : List ℕ
     u = storeRow k p own other j t
 
     -- a place that is neither of the two stays as it was
-    apart : (i : ℕ) → (i ≡ 48 * k + j → ⊥) → (i ≡ 48 * k + 8 + j → ⊥) → getD u i 0 ≡ getD t i 0
+    apart : (i : ℕ) → (i ≡ starts * k + j → ⊥) → (i ≡ starts * k + states + j → ⊥) → getD u i 0 ≡ getD t i 0
     unfolding u
     apart i d e =
-        getD-set-other (set t (48 * k + j) (getD other (p * 8 + j) 0)) (48 * k + 8 + j) i (getD own (p * 8 + j) 0) 0 e
-        ∙ getD-set-other t (48 * k + j) i (getD other (p * 8 + j) 0) 0 d
+        getD-set-other (set t (starts * k + j) (getD other (p * states + j) 0)) (starts * k + states + j) i
+        (getD own (p * states + j) 0) 0 e
+        ∙ getD-set-other t (starts * k + j) i (getD other (p * states + j) 0) 0 d
 
-    here-other : getD u (48 * k + j) 0 ≡ getD other (p * 8 + j) 0
+    here-other : getD u (starts * k + j) 0 ≡ getD other (p * states + j) 0
     unfolding u
     here-other =
-        getD-set-other (set t (48 * k + j) (getD other (p * 8 + j) 0)) (48 * k + 8 + j) (48 * k + j) (getD own (p * 8 + j) 0) 0 (λ e. omega arith)
-        ∙ getD-set-same t (48 * k + j) (getD other (p * 8 + j) 0) 0 (let l = h .len in omega arith)
+        getD-set-other (set t (starts * k + j) (getD other (p * states + j) 0)) (starts * k + states + j) (starts * k + j)
+        (getD own (p * states + j) 0) 0 (λ e. omega arith)
+        ∙ getD-set-same t (starts * k + j) (getD other (p * states + j) 0) 0 (let l = h .len in omega arith)
 
-    here-own : getD u (48 * k + 8 + j) 0 ≡ getD own (p * 8 + j) 0
+    here-own : getD u (starts * k + states + j) 0 ≡ getD own (p * states + j) 0
     unfolding u
-    here-own = getD-set-same (set t (48 * k + j) (getD other (p * 8 + j) 0)) (48 * k + 8 + j) (getD own (p * 8 + j) 0) 0
-        (let l = h .len in let m = length-set t (48 * k + j) (getD other (p * 8 + j) 0) in omega arith)
+    here-own =
+        getD-set-same (set t (starts * k + j) (getD other (p * states + j) 0)) (starts * k + states + j) (getD own (p * states + j) 0) 0
+        (let l = h .len in let m = length-set t (starts * k + j) (getD other (p * states + j) 0) in omega arith)
 
     pub storing-more : Storing k p own other (suc j) r (storeRow k p own other j t)
     unfolding u
     storing-more = record {
-      len = length-set (set t (48 * k + j) (getD other (p * 8 + j) 0)) (48 * k + 8 + j) (getD own (p * 8 + j) 0) ∙ length-set t (48 * k + j) (getD other (p * 8 + j) 0) ∙ h .len;
+      len = length-set (set t (starts * k + j) (getD other (p * states + j) 0)) (starts * k + states + j) (getD own (p * states + j) 0) ∙ length-set t (starts * k + j) (getD other (p * states + j) 0) ∙ h .len;
       others = λ q l. by-cases (last-or-lower q j l)
-          (λ e. ap (λ (i : ℕ). getD u (48 * k + i) 0) e ∙ here-other ∙ ap (λ (i : ℕ). getD other (p * 8 + i) 0) (sym e))
-          (λ m. apart (48 * k + q) (λ e. omega arith) (λ e. omega arith) ∙ h .others q m);
+          (λ e. ap (λ (i : ℕ). getD u (starts * k + i) 0) e ∙ here-other ∙ ap (λ (i : ℕ). getD other (p * states + i) 0) (sym e))
+          (λ m. apart (starts * k + q) (λ e. omega arith) (λ e. omega arith) ∙ h .others q m);
       owns = λ q l. by-cases (last-or-lower q j l)
-          (λ e. ap (λ (i : ℕ). getD u (48 * k + 8 + i) 0) e ∙ here-own ∙ ap (λ (i : ℕ). getD own (p * 8 + i) 0) (sym e))
-          (λ m. apart (48 * k + 8 + q) (λ e. omega arith) (λ e. omega arith) ∙ h .owns q m);
+          (λ e. ap (λ (i : ℕ). getD u (starts * k + states + i) 0) e ∙ here-own ∙ ap (λ (i : ℕ). getD own (p * states + i) 0) (sym e))
+          (λ m. apart (starts * k + states + q) (λ e. omega arith) (λ e. omega arith) ∙ h .owns q m);
       before = λ i l. apart i (λ e. omega arith) (λ e. omega arith) ∙ h .before i l;
       after = λ i l. apart i (λ e. omega arith) (λ e. omega arith) ∙ h .after i l;
     }
 
-  storing : (j : ℕ) → j ≤ 8 → Storing k p own other j r (repeat (storeRow k p own other) j r)
+  storing : (j : ℕ) → j ≤ states → Storing k p own other j r (repeat (storeRow k p own other) j r)
   unfolding repeat
-  storing zero l = record { len = refl; others = λ q h. absurd (not-suc-le-zero h); owns = λ q h. absurd (not-suc-le-zero h); before = λ i h. refl; after = λ i h. refl }
+  storing zero l =
+      record
+      { len = refl; others = λ q h. absurd (not-suc-le-zero h); owns = λ q h. absurd (not-suc-le-zero h); before = λ i h. refl; after = λ i h. refl }
   storing (suc j) l = storing-more j (omega arith) (repeat (storeRow k p own other) j r) (storing j (omega arith))
 
-  pub stored-is : Storing k p own other 8 r (stored k p own other r)
-  unfolding stored
-  stored-is = storing 8 (omega arith)
-
--- a node of a kind other than 1, 2 and 7 has no event
-pub no-rows : (tables : EventTables) (p k : ℕ) (r : List ℕ) (n a b : ℕ) → (n ≡ 1 → ⊥) → (n ≡ 2 → ⊥) → (n ≡ 7 → ⊥)
-    → nodeRows tables p k (formOf (record { kind = n; a = a; b = b })) r ≡ r
-unfolding formOf nodeRows
-no-rows tables p k r zero a b d₁ d₂ d₇ = refl
-no-rows tables p k r (suc zero) a b d₁ d₂ d₇ = absurd (d₁ refl)
-no-rows tables p k r (suc (suc zero)) a b d₁ d₂ d₇ = absurd (d₂ refl)
-no-rows tables p k r (suc (suc (suc zero))) a b d₁ d₂ d₇ = refl
-no-rows tables p k r (suc (suc (suc (suc zero)))) a b d₁ d₂ d₇ = refl
-no-rows tables p k r (suc (suc (suc (suc (suc zero))))) a b d₁ d₂ d₇ = refl
-no-rows tables p k r (suc (suc (suc (suc (suc (suc zero)))))) a b d₁ d₂ d₇ = refl
-no-rows tables p k r (suc (suc (suc (suc (suc (suc (suc zero))))))) a b d₁ d₂ d₇ = absurd (d₇ refl)
-no-rows tables p k r (suc (suc (suc (suc (suc (suc (suc (suc zero)))))))) a b d₁ d₂ d₇ = refl
-no-rows tables p k r (suc (suc (suc (suc (suc (suc (suc (suc (suc n))))))))) a b d₁ d₂ d₇ = refl
+  pub stored-is : Storing k p own other states r (rowsStored k p own other r)
+  unfolding rowsStored
+  stored-is = storing states (omega arith)
 
 -- ── All nodes ──
 
@@ -104,19 +94,19 @@ no-rows tables p k r (suc (suc (suc (suc (suc (suc (suc (suc (suc n))))))))) a b
 abbrev pub HasRows : EventTables → ℕ → ℕ → Option Form → List ℕ → Type 0
 HasRows tables p k none r = Unit {0}
 HasRows tables p k (some end) r = Unit {0}
-HasRows tables p k (some (on-static a s)) r = (own : Bool) (q : ℕ) → q < 8 → rowsIn r k own q ≡ imageIn tables p a s own q
-HasRows tables p k (some (on-name a n)) r = (own : Bool) (q : ℕ) → q < 8 → rowsIn r k own q ≡ imageIn tables p a others own q
+HasRows tables p k (some (on-static a s)) r = (own : Bool) (q : ℕ) → q < states → rowsIn r k own q ≡ imageIn tables p a s own q
+HasRows tables p k (some (on-name a n)) r = (own : Bool) (q : ℕ) → q < states → rowsIn r k own q ≡ imageIn tables p a others own q
 HasRows tables p k (some (sequence a b)) r = Unit {0}
 HasRows tables p k (some (choice a b)) r = Unit {0}
 HasRows tables p k (some (loop a)) r = Unit {0}
 HasRows tables p k (some (back a)) r = Unit {0}
-HasRows tables p k (some (fresh n b)) r = (own : Bool) (q : ℕ) → q < 8 → rowsIn r k own q ≡ imageIn tables p create others own q
+HasRows tables p k (some (fresh n b)) r = (own : Bool) (q : ℕ) → q < states → rowsIn r k own q ≡ imageIn tables p create others own q
 HasRows tables p k (some (sandbox s b)) r = Unit {0}
 
 -- r′ differs from r at most in the rows of node k
 pub record Elsewhere (k : ℕ) (r r′ : List ℕ) : Type 0 where
   pub len : length r′ ≡ length r
-  pub same : (j : ℕ) (own : Bool) (q : ℕ) → (j ≡ k → ⊥) → q < 8 → rowsIn r′ j own q ≡ rowsIn r j own q
+  pub same : (j : ℕ) (own : Bool) (q : ℕ) → (j ≡ k → ⊥) → q < states → rowsIn r′ j own q ≡ rowsIn r j own q
 
 elsewhere-self : (k : ℕ) (r : List ℕ) → Elsewhere k r r
 elsewhere-self k r = record { len = refl; same = λ j own q d l. refl }
@@ -129,19 +119,19 @@ apart-nodes j k d = go (leb j k) refl
     go false e = inr (leb-false j k e)
 
 -- the rows of another node lie before or after those of node k
-away : (j k i : ℕ) → (j ≡ k → ⊥) → 48 * j ≤ i → i < 48 * j + 16 → (i < 48 * k) ⊎ (48 * k + 16 ≤ i)
+away : (j k i : ℕ) → (j ≡ k → ⊥) → starts * j ≤ i → i < starts * j + 16 → (i < starts * k) ⊎ (starts * k + 16 ≤ i)
 away j k i d low high = by-cases (apart-nodes j k d) (λ m. inl (omega arith)) (λ m. inr (omega arith))
 
-row-low : (j : ℕ) (own : Bool) (q : ℕ) → 48 * j ≤ rowAt j own + q
+row-low : (j : ℕ) (own : Bool) (q : ℕ) → starts * j ≤ rowAt j own + q
 row-low j false q = omega arith
 row-low j true q = omega arith
 
-row-high : (j : ℕ) (own : Bool) (q : ℕ) → q < 8 → rowAt j own + q < 48 * j + 16
+row-high : (j : ℕ) (own : Bool) (q : ℕ) → q < states → rowAt j own + q < starts * j + 16
 row-high j false q l = omega arith
 row-high j true q l = omega arith
 
-module _ (k p : ℕ) (own other r : List ℕ) (room : 48 * k + 16 ≤ length r) where
-  stored-elsewhere : Elsewhere k r (stored k p own other r)
+module _ (k p : ℕ) (own other r : List ℕ) (room : starts * k + 16 ≤ length r) where
+  stored-elsewhere : Elsewhere k r (rowsStored k p own other r)
   stored-elsewhere =
       let h = stored-is k p own other r room in
       record {
@@ -149,18 +139,19 @@ module _ (k p : ℕ) (own other r : List ℕ) (room : 48 * k + 16 ≤ length r) 
         same = λ j mine q d l. by-cases (away j k (rowAt j mine + q) d (row-low j mine q) (row-high j mine q l)) (λ m. h .before (rowAt j mine + q) m) (λ m. h .after (rowAt j mine + q) m);
       }
 
-  stored-own : (q : ℕ) → q < 8 → rowsIn (stored k p own other r) k true q ≡ getD own (p * 8 + q) 0
+  stored-own : (q : ℕ) → q < states → rowsIn (rowsStored k p own other r) k true q ≡ getD own (p * states + q) 0
   stored-own q l = stored-is k p own other r room .owns q l
 
-  stored-other : (q : ℕ) → q < 8 → rowsIn (stored k p own other r) k false q ≡ getD other (p * 8 + q) 0
+  stored-other : (q : ℕ) → q < states → rowsIn (rowsStored k p own other r) k false q ≡ getD other (p * states + q) 0
   stored-other q l = stored-is k p own other r room .others q l
 
 module _ (tables : EventTables) (p : ℕ) where
-  event-has : (k a s : ℕ) (r : List ℕ) → 48 * k + 16 ≤ length r → (own : Bool) (q : ℕ) → q < 8 → rowsIn (eventRows tables p k a s r) k own q ≡ imageIn tables p a s own q
+  event-has : (k a s : ℕ) (r : List ℕ) → starts * k + 16 ≤ length r → (own : Bool) (q : ℕ) → q < states
+      → rowsIn (eventRows tables p k a s r) k own q ≡ imageIn tables p a s own q
   event-has k a s r room true q l = stored-own k p (tables a s true) (tables a s false) r room q l
   event-has k a s r room false q l = stored-other k p (tables a s true) (tables a s false) r room q l
 
-  node-elsewhere : (k : ℕ) (f : Option Form) (r : List ℕ) → 48 * k + 16 ≤ length r → Elsewhere k r (nodeRows tables p k f r)
+  node-elsewhere : (k : ℕ) (f : Option Form) (r : List ℕ) → starts * k + 16 ≤ length r → Elsewhere k r (nodeRows tables p k f r)
   unfolding nodeRows
   node-elsewhere k none r room = elsewhere-self k r
   node-elsewhere k (some end) r room = elsewhere-self k r
@@ -173,7 +164,7 @@ module _ (tables : EventTables) (p : ℕ) where
   node-elsewhere k (some (fresh n b)) r room = stored-elsewhere k p (tables create others true) (tables create others false) r room
   node-elsewhere k (some (sandbox s b)) r room = elsewhere-self k r
 
-  node-has : (k : ℕ) (f : Option Form) (r : List ℕ) → 48 * k + 16 ≤ length r → HasRows tables p k f (nodeRows tables p k f r)
+  node-has : (k : ℕ) (f : Option Form) (r : List ℕ) → starts * k + 16 ≤ length r → HasRows tables p k f (nodeRows tables p k f r)
   unfolding nodeRows
   node-has k none r room = tt
   node-has k (some end) r room = tt
@@ -187,7 +178,8 @@ module _ (tables : EventTables) (p : ℕ) where
   node-has k (some (sandbox s b)) r room = tt
 
   -- what node j has, another node's rows do not change
-  has-stays : (j k : ℕ) (f : Option Form) (r r′ : List ℕ) → (j ≡ k → ⊥) → Elsewhere k r r′ → HasRows tables p j f r → HasRows tables p j f r′
+  has-stays : (j k : ℕ) (f : Option Form) (r r′ : List ℕ) → (j ≡ k → ⊥) → Elsewhere k r r′ → HasRows tables p j f r
+      → HasRows tables p j f r′
   has-stays j k none r r′ d e h = tt
   has-stays j k (some end) r r′ d e h = tt
   has-stays j k (some (on-static a s)) r r′ d e h = λ own q l. e .same j own q d l ∙ h own q l
@@ -199,29 +191,35 @@ module _ (tables : EventTables) (p : ℕ) where
   has-stays j k (some (fresh n b)) r r′ d e h = λ own q l. e .same j own q d l ∙ h own q l
   has-stays j k (some (sandbox s b)) r r′ d e h = tt
 
-  module _ (forms : Forms) (r : List ℕ) (len : length r ≡ 3072) where
+  module _ (forms : Forms) (r : List ℕ) (len : length r ≡ places) where
     abbrev pub upTo : ℕ → List ℕ
     upTo n = repeat (λ k. nodeRows tables p k (forms k)) n r
 
-    pub filled-length : (n : ℕ) → n ≤ 64 → length (upTo n) ≡ 3072
+    pub filled-length : (n : ℕ) → n ≤ mostNodes → length (upTo n) ≡ places
     unfolding repeat
     filled-length zero few = len
     filled-length (suc n) few = let l = filled-length n (omega arith) in node-elsewhere n (forms n) (upTo n) (omega arith) .len ∙ l
 
-    filled-has : (n : ℕ) → n ≤ 64 → (j : ℕ) → j < n → HasRows tables p j (forms j) (upTo n)
+    filled-has : (n : ℕ) → n ≤ mostNodes → (j : ℕ) → j < n → HasRows tables p j (forms j) (upTo n)
     unfolding repeat
     filled-has zero few j h = absurd (not-suc-le-zero h)
     filled-has (suc n) few j h = go (filled-has n (omega arith) j) (last-or-lower j n h)
       where
-        room : 48 * n + 16 ≤ length (upTo n)
+        room : starts * n + 16 ≤ length (upTo n)
         room = let l = filled-length n (omega arith) in omega arith
 
-        go : (j < n → HasRows tables p j (forms j) (upTo n)) → (j ≡ n) ⊎ (j < n) → HasRows tables p j (forms j) (nodeRows tables p n (forms n) (upTo n))
-        go ih (inl e) = subst (λ (i : ℕ). HasRows tables p i (forms i) (nodeRows tables p n (forms n) (upTo n))) (sym e) (node-has n (forms n) (upTo n) room)
-        go ih (inr l) = has-stays j n (forms j) (upTo n) (nodeRows tables p n (forms n) (upTo n)) (λ e. omega arith) (node-elsewhere n (forms n) (upTo n) room) (ih l)
+        go : (j < n → HasRows tables p j (forms j) (upTo n)) → (j ≡ n) ⊎ (j < n)
+            → HasRows tables p j (forms j) (nodeRows tables p n (forms n) (upTo n))
+        go ih (inl e) =
+            subst (λ (i : ℕ). HasRows tables p i (forms i) (nodeRows tables p n (forms n) (upTo n))) (sym e)
+            (node-has n (forms n) (upTo n) room)
+        go ih (inr l) =
+            has-stays j n (forms j) (upTo n) (nodeRows tables p n (forms n) (upTo n)) (λ e. omega arith)
+            (node-elsewhere n (forms n) (upTo n) room) (ih l)
 
     -- the table of rows, filled, has the rows of each node's event
-    pub rows-from : (ns : List Node) (n : ℕ) → n ≤ 64 → FormsOf ns n forms → RowsFrom ns (imageIn tables p) (rowsIn (fillRows tables p n forms r))
+    pub rows-from : (ns : List Node) (n : ℕ) → n ≤ mostNodes → FormsOf ns n forms
+        → RowsFrom ns (imageIn tables p) (rowsIn (fillRows tables p n forms r))
     unfolding fillRows
     rows-from ns n few reads = record {
       static = λ {k} {a} {s} i own q l. has-form k (on-static a s) i own q l;
@@ -230,4 +228,5 @@ module _ (tables : EventTables) (p : ℕ) where
     }
       where
         has-form : (k : ℕ) (f : Form) → Is ns k f → HasRows tables p k (some f) (upTo n)
-        has-form k f i = let (l, e) = reads .has k f i in subst (λ (o : Option Form). HasRows tables p k o (upTo n)) e (filled-has n few k l)
+        has-form k f i =
+            let (l, e) = reads .has k f i in subst (λ (o : Option Form). HasRows tables p k o (upTo n)) e (filled-has n few k l)

@@ -3,7 +3,8 @@ use mathlib.Core.List.{List}
 use Rattle.usage.specs.declared.Node.{Node}
 use Rattle.usage.specs.Valid.{Scope, OutlineOk}
 use Rattle.usage.proofs.FormLaws.{form-ok}
-use Rattle.usage.proofs.ScopeLaws.{scope-root, scope-used, scope-sequence-first, scope-sequence-second, scope-choice-left, scope-choice-right, scope-loop, scope-sandbox, scope-fresh, scope-back}
+use Rattle.usage.proofs.ScopeLaws.{scope-root, scope-used, scope-sequence-first, scope-sequence-second, scope-choice-left}
+use Rattle.usage.proofs.ScopeLaws.{scope-choice-right, scope-loop, scope-sandbox, scope-fresh, scope-back}
 use Rattle.checker_account.proofs.Scoped.{Scoped}
 
 pub scoped : (ns : List Node) → OutlineOk ns → Scoped ns (Scope ns)

@@ -9,20 +9,22 @@ use lib.Dec.{lit<}
 use lib.ListN.{getD, replicate}
 use lib.Seq.{getD-set-same}
 use lib.Bits.{bitOr}
+use Rattle.usage.specs.Limits.{mostNodes}
 use Rattle.usage.specs.declared.Edge.{Edge}
 use Rattle.usage.specs.declared.Node.{Node}
 use Rattle.usage.specs.Policy.{EdgesOk}
 use Rattle.usage.specs.Check.{Leaves}
 use Rattle.usage.specs.Outline.{Form, end, on-static, on-name, sequence, choice, loop, back, fresh, sandbox}
-use Rattle.usage.proofs.Decides.{Decides, d-map}
+use Rattle.usage.specs.Tests.{Decides}
+use Rattle.usage.proofs.Decides.{d-map}
 use Rattle.usage.proofs.Logic.{false-true}
-use Rattle.automaton.specs.Mask.{has}
+use Rattle.automaton.specs.Mask.{has, offends}
 use Rattle.automaton.proofs.MaskLaws.{some-at, some-found}
 use Rattle.checker_account.specs.Witness.{watched, Last}
-use Rattle.checker_account.specs.Mask.{offends, joined}
-use Rattle.checker_account.specs.Tables.{least, Rows, place, leaves, lastOf}
+use Rattle.checker_account.specs.Tables.{half, least, Rows, place, leaves, lastOf, joinedAt, places, meanings}
 use Rattle.checker_account.specs.Holds.{RowsOk, NamesOk, TargetsOk, HitsFrom, HasCome, Struck}
-use Rattle.checker_account.specs.Rounds.{Forms, FormsOf, leavesOf, hitNode, hitAny, begins, Wide, Searched, SearchedAll, found, none-found}
+use Rattle.checker_account.specs.Rounds.{Forms, FormsOf, leavesOf, hitNode, hitAny, begins, Wide, Searched, SearchedAll, found}
+use Rattle.checker_account.specs.Rounds.{none-found}
 use Rattle.checker_account.proofs.Scoped.{Scoped}
 use Rattle.checker_account.proofs.Exact.{exact}
 use Rattle.checker_account.proofs.Starts.{start-least}
@@ -35,23 +37,24 @@ use Rattle.checker_account.proofs.HitsTable.{hits-exact}
 -- ── Tables of 16 bits ──
 
 pub begins-wide : (l : ℕ) → Wide (begins l)
-begins-wide l = joined-wide (replicate 3072 0) l 1 (lit< tt) (zeros-wide 3072)
+begins-wide l = joined-wide (replicate places 0) l 1 (lit< tt) (zeros-wide places)
 
 -- ── The start is in the table ──
 
-pub begins-has : (l : ℕ) → l < 6 → HasCome (begins l) 0 false l 0
-unfolding joined has
+pub begins-has : (l : ℕ) → l < meanings → HasCome (begins l) 0 false l 0
+unfolding joinedAt has
 begins-has l h =
     let e : place 0 false l ≡ l = omega arith in
     ap (λ (j : ℕ). has (getD (begins l) j 0) 0) e
-    ∙ ap (λ (v : ℕ). has v 0) (getD-set-same (replicate 3072 0) l (bitOr (getD (replicate 3072 0) l 0) 1) 0 (omega arith))
-    ∙ ap (λ (v : ℕ). has (bitOr v 1) 0) (zeros 3072 l)
+    ∙ ap (λ (v : ℕ). has v 0) (getD-set-same (replicate places 0) l (bitOr (getD (replicate places 0) l 0) 1) 0 (omega arith))
+    ∙ ap (λ (v : ℕ). has (bitOr v 1) 0) (zeros places l)
 
 -- ── A hit, by the table ──
 
 -- a form without a step leaves nothing
-no-leaves : (rows : Rows) (p x : ℕ) (u : List ℕ) (k m : ℕ) (f : Form) → offends (leaves rows p x u k m f) ≡ true → (last : Last) × (lastOf f ≡ some last)
-unfolding leaves offends
+no-leaves : (rows : Rows) (p x : ℕ) (u : List ℕ) (k m : ℕ) (f : Form) → offends (half false (leaves rows p x u k m f)) ≡ true
+    → (last : Last) × (lastOf f ≡ some last)
+unfolding leaves
 no-leaves rows p x u k m end h = false-true h
 no-leaves rows p x u k m (on-static a s) h = (_, refl)
 no-leaves rows p x u k m (on-name a n) h = (_, refl)
@@ -63,8 +66,8 @@ no-leaves rows p x u k m (fresh n b) h = (_, refl)
 no-leaves rows p x u k m (sandbox s b) h = (_, refl)
 
 module _ (ns : List Node) (p x : ℕ) (rows : Rows) (u : List ℕ) (n : ℕ) (forms : Forms) (reads : FormsOf ns n forms) where
-  found-at : (k i : ℕ) (f : Option Form) → forms k ≡ f → k < n → i < 6 - least x → offends (leavesOf rows p x u k (least x + i) f) ≡ true → (last : Last) × Struck ns p x rows u last
-  unfolding offends
+  found-at : (k i : ℕ) (f : Option Form) → forms k ≡ f → k < n → i < meanings - least x
+      → offends (half false (leavesOf rows p x u k (least x + i) f)) ≡ true → (last : Last) × Struck ns p x rows u last
   found-at k i none e l h o = false-true o
   found-at k i (some f) e l h o =
       let (last, g) = no-leaves rows p x u k (least x + i) f o in (
@@ -84,7 +87,7 @@ module _ (ns : List Node) (p x : ℕ) (rows : Rows) (u : List ℕ) (n : ℕ) (fo
   unfolding hitAny hitNode
   hit-found h =
       let (k, l, g) = some-found n (λ k. hitNode rows p x u (least x) k (forms k)) h in
-      let (i, b, o) = some-found (6 - least x) (λ i. offends (leavesOf rows p x u k (least x + i) (forms k))) g in
+      let (i, b, o) = some-found (meanings - least x) (λ i. offends (half false (leavesOf rows p x u k (least x + i) (forms k)))) g in
       found-at k i (forms k) refl l b o
 
   hit-at : {last : Last} → Struck ns p x rows u last → hitAny rows p x u (least x) n forms ≡ true
@@ -94,17 +97,21 @@ module _ (ns : List Node) (p x : ℕ) (rows : Rows) (u : List ℕ) (n : ℕ) (fo
       let m = h .meaning in
       let (l, e) = reads .has k (h .form) (h .is) in
       let low : least x ≤ m = h .start .low in
-      let high : m < 6 = h .start .high in
+      let high : m < meanings = h .start .high in
       let em : least x + (m - least x) ≡ m = omega arith in
-      let o : offends (leavesOf rows p x u k (least x + (m - least x)) (forms k)) ≡ true =
-      ap (λ (f : Option Form). offends (leavesOf rows p x u k (least x + (m - least x)) f)) e ∙ ap (λ (j : ℕ). offends (leaves rows p x u k j (h .form))) em ∙ h .offending in
+      let o : offends (half false (leavesOf rows p x u k (least x + (m - least x)) (forms k))) ≡ true =
+      ap (λ (f : Option Form). offends (half false (leavesOf rows p x u k (least x + (m - least x)) f))) e
+      ∙ ap (λ (j : ℕ). offends (half false (leaves rows p x u k j (h .form)))) em
+      ∙ h .offending in
       some-at n (λ k. hitNode rows p x u (least x) k (forms k)) k l
-      (some-at (6 - least x) (λ i. offends (leavesOf rows p x u k (least x + i) (forms k))) (m - least x) (omega arith) o)
+      (some-at (meanings - least x) (λ i. offends (half false (leavesOf rows p x u k (least x + i) (forms k)))) (m - least x) (omega arith) o)
 
 -- ── The answer for one watched resource ──
 
-pub searched : (es : List Edge) (ns : List Node) (p x : ℕ) (rows : Rows) → x ≤ watched → EdgesOk es → RowsOk es ns p x rows → NamesOk ns → TargetsOk ns
-    → (n : ℕ) (forms : Forms) → n ≤ 64 → FormsOf ns n forms → (answer : Bool) → Searched rows p x n forms answer → Decides answer ((last : Last) × HitsFrom es ns p x last)
+pub searched : (es : List Edge) (ns : List Node) (p x : ℕ) (rows : Rows) → x ≤ watched → EdgesOk es → RowsOk es ns p x rows → NamesOk ns
+    → TargetsOk ns
+    → (n : ℕ) (forms : Forms) → n ≤ mostNodes → FormsOf ns n forms → (answer : Bool) → Searched rows p x n forms answer
+    → Decides answer ((last : Last) × HitsFrom es ns p x last)
 searched es ns p x rows small edges ok names targets n forms few reads answer h =
     let ends = filled-ends es ns p x rows small ok names n forms reads edges few (h .ends) (h .ends-filled) in
     let comes = filled-comes es ns p x rows small ok names targets (h .ends) ends n forms reads edges (h .comes) (begins-has (least x) (start-least x .high)) (h .comes-filled) in (
@@ -114,17 +121,22 @@ searched es ns p x rows small edges ok names targets n forms few reads answer h 
 
 -- ── The answer for a policy ──
 
-module _ (es : List Edge) (ns : List Node) (p : ℕ) (rows : Rows) (edges : EdgesOk es) (ok : (x : ℕ) → x ≤ watched → RowsOk es ns p x rows) (names : NamesOk ns) (targets : TargetsOk ns)
-    (n : ℕ) (forms : Forms) (few : n ≤ 64) (reads : FormsOf ns n forms) where
-  one : (x : ℕ) → x ≤ watched → (answer : Bool) → Searched rows p x n forms answer → Decides answer ((last : Last) × HitsFrom es ns p x last)
+module _ (es : List Edge) (ns : List Node) (p : ℕ) (rows : Rows) (edges : EdgesOk es) (ok : (x : ℕ) → x ≤ watched → RowsOk es ns p x rows)
+    (names : NamesOk ns) (targets : TargetsOk ns)
+    (n : ℕ) (forms : Forms) (few : n ≤ mostNodes) (reads : FormsOf ns n forms) where
+  one : (x : ℕ) → x ≤ watched → (answer : Bool) → Searched rows p x n forms answer
+      → Decides answer ((last : Last) × HitsFrom es ns p x last)
   one x l answer h = searched es ns p x rows l edges (ok x l) names targets n forms few reads answer h
 
-  pub searched-all : (answer : Bool) → SearchedAll rows p n forms answer → Decides answer ((x : ℕ) × (x ≤ watched) × (last : Last) × HitsFrom es ns p x last)
+  pub searched-all : (answer : Bool) → SearchedAll rows p n forms answer
+      → Decides answer ((x : ℕ) × (x ≤ watched) × (last : Last) × HitsFrom es ns p x last)
   searched-all answer (found {x = x} l h) = let (last, t) = one x l true h .0 refl in ((λ e. (x, l, last, t)), (λ e. refl))
   searched-all answer (none-found h) = ((λ e. false-true e), (λ b. one (b .0) (b .1) false (h (b .0) (b .1)) .1 (b .2, b .3)))
 
   -- some trace leaves the policy open and not respected exactly if the answer is yes
-  pub broken-exact : (scope : ℕ → ℕ → Type 0) → Scoped ns scope → (answer : Bool) → SearchedAll rows p n forms answer → Decides answer (Leaves false es ns p)
+  pub broken-exact : (scope : ℕ → ℕ → Type 0) → Scoped ns scope → (answer : Bool) → SearchedAll rows p n forms answer
+      → Decides answer (Leaves false es ns p)
   broken-exact scope scoped answer h =
       let e = exact false es ns scope p edges scoped in
-      d-map (searched-all answer h) (λ t. e .1 (t .0, t .1, t .3 .0, t .2, t .3 .1)) (λ l. let (x, small, n, last, k) = e .0 l in (x, small, last, (n, k)))
+      d-map (searched-all answer h) (λ t. e .1 (t .0, t .1, t .3 .0, t .2, t .3 .1))
+      (λ l. let (x, small, n, last, k) = e .0 l in (x, small, last, (n, k)))

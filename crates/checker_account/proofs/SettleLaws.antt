@@ -7,26 +7,29 @@ use native.Mathlib.Omega.{arith}
 use lib.Dec.{eqb, lit<}
 use lib.Bits.{bitOr, or-lt}
 use lib.ListN.{getD}
+use Rattle.usage.specs.Limits.{states}
 use Rattle.usage.specs.Outline.{Form, end, on-static, on-name, sequence, choice, loop, back, fresh, sandbox}
 use Rattle.automaton.specs.Mask.{has, union}
-use Rattle.checker_account.specs.Mask.{over, joined}
-use Rattle.checker_account.specs.Tables.{made, kept, Rows, endsBy}
-use Rattle.checker_account.specs.Rounds.{Forms, endsOf, settle, settleNode, settleRound, Wide}
+use Rattle.checker_account.specs.Tables.{made, kept, Rows, endsBy, over, joinedAt, starts}
+use Rattle.checker_account.specs.Rounds.{Forms, endsOf, settleStart, settleNode, settleRound, Wide}
 use Rattle.checker_account.proofs.RoundLaws.{Grows, joined-grows, repeat-grows, repeat-keeps}
 use Rattle.checker_account.proofs.JoinLaws.{set-wide}
 
 -- ── They grow ──
 
-pub settle-grows : (rows : Rows) (x k : ℕ) (f : Option Form) (s : ℕ) (t : List ℕ) → Grows t (settle rows x k f s t)
-settle-grows rows x k f s t = joined-grows t (48 * k + s) (endsOf rows x t k (s / 8) (s % 8) f)
+pub settle-grows : (rows : Rows) (x k : ℕ) (f : Option Form) (s : ℕ) (t : List ℕ) → Grows t (settleStart rows x k f s t)
+settle-grows rows x k f s t = joined-grows t (starts * k + s) (endsOf rows x t k (s / states) (s % states) f)
 
 pub node-grows : (rows : Rows) (x first k : ℕ) (f : Option Form) (t : List ℕ) → Grows t (settleNode rows x first k f t)
 unfolding settleNode
-node-grows rows x first k f t = repeat-grows (λ i. settle rows x k f (first + i)) (λ i. settle-grows rows x k f (first + i)) (48 - first) t
+node-grows rows x first k f t =
+    repeat-grows (λ i. settleStart rows x k f (first + i)) (λ i. settle-grows rows x k f (first + i)) (starts - first) t
 
 pub round-grows : (rows : Rows) (x first n : ℕ) (forms : Forms) (t : List ℕ) → Grows t (settleRound rows x first n forms t)
 unfolding settleRound
-round-grows rows x first n forms t = repeat-grows (λ i. settleNode rows x first (n - 1 - i) (forms (n - 1 - i))) (λ i. node-grows rows x first (n - 1 - i) (forms (n - 1 - i))) n t
+round-grows rows x first n forms t =
+    repeat-grows (λ i. settleNode rows x first (n - 1 - i) (forms (n - 1 - i)))
+    (λ i. node-grows rows x first (n - 1 - i) (forms (n - 1 - i))) n t
 
 -- ── The entries stay within 16 bits ──
 
@@ -37,7 +40,7 @@ union-lt (suc n) f h = or-lt 16 (union n f) (f n) (union-lt n f h) (h n)
 
 pub over-lt : (f : ℕ → ℕ) (v : ℕ) → ((q : ℕ) → f q < 65536) → over f v < 65536
 unfolding over
-over-lt f v h = union-lt 8 (λ q. cond (has v q) (f q) 0) (λ q. go q (has v q))
+over-lt f v h = union-lt states (λ q. cond (has v q) (f q) 0) (λ q. go q (has v q))
   where
     go : (q : ℕ) (b : Bool) → cond b (f q) 0 < 65536
     go q true = h q
@@ -51,8 +54,8 @@ kept-lt : (m v : ℕ) → kept m v < 65536
 kept-lt zero v = omega arith
 kept-lt (suc m) v = omega arith
 
-pub joined-wide : (t : List ℕ) (i v : ℕ) → v < 65536 → Wide t → Wide (joined t i v)
-unfolding joined
+pub joined-wide : (t : List ℕ) (i v : ℕ) → v < 65536 → Wide t → Wide (joinedAt t i v)
+unfolding joinedAt
 joined-wide t i v small wide = set-wide t i (bitOr (getD t i 0) v) (or-lt 16 (getD t i 0) v (wide i) small) wide
 
 module _ (rows : Rows) (x : ℕ) where
@@ -69,14 +72,17 @@ module _ (rows : Rows) (x : ℕ) where
   ends-lt t k m q (some (fresh n b)) w = or-lt 16 _ _ (over-lt _ _ (λ j. w _)) (cond-lt (made m) _ (over-lt _ _ (λ j. w _)))
   ends-lt t k m q (some (sandbox s b)) w = w _
 
-  settle-wide : (k : ℕ) (f : Option Form) (s : ℕ) (t : List ℕ) → Wide t → Wide (settle rows x k f s t)
-  settle-wide k f s t w = joined-wide t (48 * k + s) (endsOf rows x t k (s / 8) (s % 8) f) (ends-lt t k (s / 8) (s % 8) f w) w
+  settle-wide : (k : ℕ) (f : Option Form) (s : ℕ) (t : List ℕ) → Wide t → Wide (settleStart rows x k f s t)
+  settle-wide k f s t w =
+      joined-wide t (starts * k + s) (endsOf rows x t k (s / states) (s % states) f) (ends-lt t k (s / states) (s % states) f w) w
 
   node-wide : (first k : ℕ) (f : Option Form) (t : List ℕ) → Wide t → Wide (settleNode rows x first k f t)
   unfolding settleNode
-  node-wide first k f t w = repeat-keeps Wide (λ i. settle rows x k f (first + i)) (48 - first) (λ i t l w. settle-wide k f (first + i) t w) t w
+  node-wide first k f t w =
+      repeat-keeps Wide (λ i. settleStart rows x k f (first + i)) (starts - first) (λ i t l w. settle-wide k f (first + i) t w) t w
 
   pub round-wide : (first n : ℕ) (forms : Forms) (t : List ℕ) → Wide t → Wide (settleRound rows x first n forms t)
   unfolding settleRound
   round-wide first n forms t w =
-      repeat-keeps Wide (λ i. settleNode rows x first (n - 1 - i) (forms (n - 1 - i))) n (λ i t l w. node-wide first (n - 1 - i) (forms (n - 1 - i)) t w) t w
+      repeat-keeps Wide (λ i. settleNode rows x first (n - 1 - i) (forms (n - 1 - i))) n
+      (λ i t l w. node-wide first (n - 1 - i) (forms (n - 1 - i)) t w) t w

@@ -14,14 +14,17 @@ use Rattle.usage.specs.declared.Edge.{Edge}
 use Rattle.usage.specs.declared.Node.{Node}
 use Rattle.usage.specs.Limits.{statics, create}
 use Rattle.usage.specs.Policy.{Sees, Moves, Offending, EdgesOk}
-use Rattle.usage.specs.Past.{Step, event, opening, closing, Past, add-if, count, Open, is-open, reopened, May, Occurs, Violates}
-use Rattle.usage.specs.Outline.{Is, end, on-static, on-name, sequence, choice, loop, back, fresh, sandbox, Names, no-names, give, Part, node, close, Run, Advance, Runs, IsTrace}
+use Rattle.usage.specs.Past.{Step, event, opening, closing, Past, addIf, count, Open, isOpen, reopened, May, Occurs, Violates}
+use Rattle.usage.specs.Outline.{Is, end, on-static, on-name, sequence, choice, loop, back, fresh, sandbox, Names, noNames, give, Part}
+use Rattle.usage.specs.Outline.{node, close, Run, Advance, Runs, IsTrace}
 use Rattle.usage.proofs.PastLaws.{before-all, before-event, before-opening, before-closing, occurs-later}
 use Rattle.usage.proofs.TraceLaws.{closings-to-run}
-use Rattle.checker_account.specs.Witness.{watched, meant, forget, Goes, Ends, Comes, Last, by-action, by-opening, Hits, Made, an-event, its-opening, LeavesBy}
+use Rattle.checker_account.specs.Witness.{watched, meant, forget, Goes, Ends, Comes, Last, by-action, by-opening, Hits, Made}
+use Rattle.checker_account.specs.Witness.{an-event, its-opening, LeavesBy}
 use Rattle.checker_account.proofs.Scoped.{Scoped}
 use Rattle.checker_account.proofs.Carry.{carry, same-static, same-own, same-other}
-use Rattle.checker_account.proofs.Meaning.{meant-own, meant-other, Means, means-none, means-other, means-own, occurs-now, Known, known-none, known-more, known-give}
+use Rattle.checker_account.proofs.Meaning.{meant-own, meant-other, Means, means-none, means-other, means-own, occurs-now, Known}
+use Rattle.checker_account.proofs.Meaning.{known-none, known-more, known-give}
 use Rattle.checker_account.proofs.Unclosed.{open-more, open-unclosed, open-level}
 
 -- the names of all parts mean what occurs
@@ -85,18 +88,27 @@ module _ (local : Bool) (es : List Edge) (ns : List Node) (p x : ℕ) where
       }
 
       here-left : {a b : ℕ} → Is ns k (choice a b) → Here i n c q a names T
-      here-left f = record { w = h .w; means = h .means; comes = Comes.left f (h .comes); goes = λ j t c₂ q₂ e d. h .goes j t c₂ q₂ e (Goes.chooses-left f d) }
+      here-left f =
+          record
+          { w = h .w; means = h .means; comes = Comes.left f (h .comes); goes = λ j t c₂ q₂ e d. h .goes j t c₂ q₂ e (Goes.chooses-left f d) }
 
       here-right : {a b : ℕ} → Is ns k (choice a b) → Here i n c q b names T
-      here-right f = record { w = h .w; means = h .means; comes = Comes.right f (h .comes); goes = λ j t c₂ q₂ e d. h .goes j t c₂ q₂ e (Goes.chooses-right f d) }
+      here-right f =
+          record
+          { w = h .w; means = h .means; comes = Comes.right f (h .comes); goes = λ j t c₂ q₂ e d. h .goes j t c₂ q₂ e (Goes.chooses-right f d) }
 
       here-body : {a : ℕ} → Is ns k (loop a) → Here i n c q a names T
-      here-body f = record { w = h .w; means = h .means; comes = Comes.body f (h .comes); goes = λ j t c₂ q₂ e d. h .goes j t c₂ q₂ e (Goes.enters f d) }
+      here-body f =
+          record
+          { w = h .w; means = h .means; comes = Comes.body f (h .comes); goes = λ j t c₂ q₂ e d. h .goes j t c₂ q₂ e (Goes.enters f d) }
 
       here-again : {a : ℕ} → Is ns k (back a) → Here i n c q a names T
-      here-again f = record { w = h .w; means = h .means; comes = Comes.again f (h .comes); goes = λ j t c₂ q₂ e d. h .goes j t c₂ q₂ e (Goes.repeats f d) }
+      here-again f =
+          record
+          { w = h .w; means = h .means; comes = Comes.again f (h .comes); goes = λ j t c₂ q₂ e d. h .goes j t c₂ q₂ e (Goes.repeats f d) }
 
-      here-inside : {s b : ℕ} → Is ns k (sandbox s b) → Here (suc i) (add-if (eqb s p) n) c (reopened local p s (ltb 0 n) q) b names (λ t c₂ q₂. T (suc t) c₂ q₂)
+      here-inside : {s b : ℕ} → Is ns k (sandbox s b)
+          → Here (suc i) (addIf (eqb s p) n) c (reopened local p s (ltb 0 n) q) b names (λ t c₂ q₂. T (suc t) c₂ q₂)
       here-inside {s} {b} f = record {
         w = h .w;
         means = h .means;
@@ -120,9 +132,11 @@ module _ (local : Bool) (es : List Edge) (ns : List Node) (p x : ℕ) where
       here-static {q′ = q′} f v = h .goes 1 (suc i) c q′ (omega arith) (Goes.fires-static f (static-move f v))
 
       here-name : {a m r q′ : ℕ} → Is ns k (on-name a m) → statics ≤ r → names m ≡ some r → Moves es p a (Sees x r) q q′ → T (suc i) c q′
-      here-name {r = r} {q′ = q′} f big e v = h .goes 1 (suc i) c q′ (omega arith) (Goes.fires-name f (name-move f big e (ℕ-discrete r x) v))
+      here-name {r = r} {q′ = q′} f big e v =
+          h .goes 1 (suc i) c q′ (omega arith) (Goes.fires-name f (name-move f big e (ℕ-discrete r x) v))
 
-      here-other : {m b r q′ : ℕ} → Is ns k (fresh m b) → statics ≤ r → (r ≡ x → ⊥) → Moves es p create (Sees x r) q q′ → Here (suc i) n c q′ b (give names m r) T
+      here-other : {m b r q′ : ℕ} → Is ns k (fresh m b) → statics ≤ r → (r ≡ x → ⊥) → Moves es p create (Sees x r) q q′
+          → Here (suc i) n c q′ b (give names m r) T
       here-other {m = m} {r = r} f big d v =
           let u = carry edges (same-other x r big d) v in
           record {
@@ -145,7 +159,8 @@ module _ (local : Bool) (es : List Edge) (ns : List Node) (p x : ℕ) where
         }
 
     -- x is created: it was not before
-    unmade : (past : Past) (r : ℕ) (c : Bool) → (c ≡ true → (x < statics) ⊎ Occurs x past) → r ≡ x → statics ≤ r → (Occurs r past → ⊥) → c ≡ false
+    unmade : (past : Past) (r : ℕ) (c : Bool) → (c ≡ true → (x < statics) ⊎ Occurs x past) → r ≡ x → statics ≤ r → (Occurs r past → ⊥)
+        → c ≡ false
     unmade past r false seen d big unseen = refl
     unmade past r true seen d big unseen = absurd (go (seen refl))
       where
@@ -167,7 +182,8 @@ module _ (local : Bool) (es : List Edge) (ns : List Node) (p x : ℕ) where
         → {m b r q′ : ℕ} → Is ns k (fresh m b) → statics ≤ r → (Occurs r past → ⊥) → Dec (r ≡ x) → Moves es p create (Sees x r) q q′
         → At (event create r ∷ past) (node b (give names m r) ∷ rest) q′
     at-created {past} {k} {names} {rest} {q} g h {r = r} i big unseen (yes d) v =
-        let t : Here (length past) (closings-to-run p rest) false q k names (Stack rest) = rw (unmade past r (h .c) (h .seen) d big unseen) at (h .stack) in
+        let t : Here (length past) (closings-to-run p rest) false q k names (Stack rest) =
+        rw (unmade past r (h .c) (h .seen) d big unseen) at (h .stack) in
         record {
           c = true;
           seen = λ _. inr (occurs-now create r x past (sym d));
@@ -179,8 +195,9 @@ module _ (local : Bool) (es : List Edge) (ns : List Node) (p x : ℕ) where
       stack = here-other (h .stack) i big d v;
     }
 
-    at-opened : {past : Past} {k : ℕ} {names : Names} {rest : List Part} {q q′ s b : ℕ} → Runs ns (record { past = past; parts = node k names ∷ rest })
-        → At past (node k names ∷ rest) q → Is ns k (sandbox s b) → reopened local p s (is-open p past) q ≡ q′
+    at-opened : {past : Past} {k : ℕ} {names : Names} {rest : List Part} {q q′ s b : ℕ}
+        → Runs ns (record { past = past; parts = node k names ∷ rest })
+        → At past (node k names ∷ rest) q → Is ns k (sandbox s b) → reopened local p s (isOpen p past) q ≡ q′
         → At (opening s ∷ past) (node b names ∷ close s ∷ rest) q′
     unfolding closings-to-run
     at-opened {past} {q = q} {s = s} rs h i e = record {
@@ -194,7 +211,8 @@ module _ (local : Bool) (es : List Edge) (ns : List Node) (p x : ℕ) where
 
     step : {r r′ : Run} → Runs ns r → Advance ns r r′ → Inv r → Inv r′
     unfolding closings-to-run
-    step rs (Advance.ends {k = k} i) v = record { known = v .known .1; at = λ q m. let h = v .at q m in record { c = h .c; seen = h .seen; stack = here-end (h .stack) i } }
+    step rs (Advance.ends {k = k} i) v =
+        record { known = v .known .1; at = λ q m. let h = v .at q m in record { c = h .c; seen = h .seen; stack = here-end (h .stack) i } }
     step rs (Advance.fires-static {k = k} {a = a} {s = s} {past = past} {rest = rest} i) v = record {
       known = givens-more (event a s) past rest (v .known .1);
       at = λ q m. let (q₀, m₀, mv) = before-event m in let h = v .at q₀ m₀ in at-event a s q h (here-static (h .stack) i mv);
@@ -207,10 +225,14 @@ module _ (local : Bool) (es : List Edge) (ns : List Node) (p x : ℕ) where
       known = (v .known .0, (v .known .0, v .known .1));
       at = λ q m. let h = v .at q m in record { c = h .c; seen = h .seen; stack = here-first (h .stack) i };
     }
-    step rs (Advance.chooses-left {k = k} i) v = record { known = v .known; at = λ q m. let h = v .at q m in record { c = h .c; seen = h .seen; stack = here-left (h .stack) i } }
-    step rs (Advance.chooses-right {k = k} i) v = record { known = v .known; at = λ q m. let h = v .at q m in record { c = h .c; seen = h .seen; stack = here-right (h .stack) i } }
-    step rs (Advance.enters {k = k} i) v = record { known = v .known; at = λ q m. let h = v .at q m in record { c = h .c; seen = h .seen; stack = here-body (h .stack) i } }
-    step rs (Advance.repeats {k = k} i) v = record { known = v .known; at = λ q m. let h = v .at q m in record { c = h .c; seen = h .seen; stack = here-again (h .stack) i } }
+    step rs (Advance.chooses-left {k = k} i) v =
+        record { known = v .known; at = λ q m. let h = v .at q m in record { c = h .c; seen = h .seen; stack = here-left (h .stack) i } }
+    step rs (Advance.chooses-right {k = k} i) v =
+        record { known = v .known; at = λ q m. let h = v .at q m in record { c = h .c; seen = h .seen; stack = here-right (h .stack) i } }
+    step rs (Advance.enters {k = k} i) v =
+        record { known = v .known; at = λ q m. let h = v .at q m in record { c = h .c; seen = h .seen; stack = here-body (h .stack) i } }
+    step rs (Advance.repeats {k = k} i) v =
+        record { known = v .known; at = λ q m. let h = v .at q m in record { c = h .c; seen = h .seen; stack = here-again (h .stack) i } }
     step rs (Advance.creates {k = k} {n = n} {b = b} {r = r} {past = past} {rest = rest} i big unseen) v = record {
       known = (known-give n r big (v .known .0), givens-more (event create r) past rest (v .known .1));
       at = λ q m. let (q₀, m₀, mv) = before-event m in at-created (v .known .0) (v .at q₀ m₀) i big unseen (ℕ-discrete r x) mv;
@@ -224,9 +246,9 @@ module _ (local : Bool) (es : List Edge) (ns : List Node) (p x : ℕ) where
       at = λ q m. at-closed (v .at q (before-closing m));
     }
 
-    at-begin : {q : ℕ} → 0 ≡ q → At [] (node 0 no-names ∷ []) q
+    at-begin : {q : ℕ} → 0 ≡ q → At [] (node 0 noNames ∷ []) q
     unfolding closings-to-run
-    at-begin e = subst (λ (q : ℕ). At [] (node 0 no-names ∷ []) q) e (record {
+    at-begin e = subst (λ (q : ℕ). At [] (node 0 noNames ∷ []) q) e (record {
       c = ltb (min x watched) 16;
       seen = λ f. let l : min x watched < 16 = ltb-true (min x watched) 16 f in inl (omega arith);
       stack = record { w = 4; means = means-none x; comes = Comes.begins; goes = λ j t c q e f. tt };
@@ -237,12 +259,15 @@ module _ (local : Bool) (es : List Edge) (ns : List Node) (p x : ℕ) where
     invariant (Runs.moved rs m) = step rs m (invariant rs)
 
     -- the first node, where p is open
-    comes-open : {past : Past} {k : ℕ} {names : Names} {rest : List Part} {q : ℕ} → Runs ns (record { past = past; parts = node k names ∷ rest })
-        → Open p past → (h : At past (node k names ∷ rest) q) → Comes local es ns p (min x watched) (length past) true k (h .stack .w) (h .c) q
+    comes-open : {past : Past} {k : ℕ} {names : Names} {rest : List Part} {q : ℕ}
+        → Runs ns (record { past = past; parts = node k names ∷ rest })
+        → Open p past → (h : At past (node k names ∷ rest) q)
+        → Comes local es ns p (min x watched) (length past) true k (h .stack .w) (h .c) q
     unfolding closings-to-run
     comes-open {rest = rest} rs o h = rw (lt-ltb 0 (closings-to-run p rest) (open-unclosed ns p rs o)) at (h .stack .comes)
 
-    hit-created : {past : Past} {k : ℕ} {names : Names} {rest : List Part} {q : ℕ} → Runs ns (record { past = past; parts = node k names ∷ rest })
+    hit-created : {past : Past} {k : ℕ} {names : Names} {rest : List Part} {q : ℕ}
+        → Runs ns (record { past = past; parts = node k names ∷ rest })
         → At past (node k names ∷ rest) q
         → {m b r q′ : ℕ} → Is ns k (fresh m b) → statics ≤ r → (Occurs r past → ⊥) → Dec (r ≡ x) → Moves es p create (Sees x r) q q′
         → Open p past → Offending q′ → Hits local es ns p (min x watched) (suc (length past)) (by-action create)
@@ -250,15 +275,17 @@ module _ (local : Bool) (es : List Edge) (ns : List Node) (p x : ℕ) where
         Hits.at-own i (rw (unmade past r (h .c) (h .seen) d big unseen) at (comes-open rs o h)) (carry edges (same-own x r d) v) f
     hit-created rs h {r = r} i big unseen (no d) v o f = Hits.at-other i (comes-open rs o h) (carry edges (same-other x r big d) v) f
 
-    opens-hit : {past : Past} {k : ℕ} {names : Names} {rest : List Part} {s b q : ℕ} → Runs ns (record { past = past; parts = node k names ∷ rest })
-        → Is ns k (sandbox s b) → s ≡ p → May local es p (Sees x) (opening s ∷ past) q → Offending q → Hits local es ns p (min x watched) (suc (length past)) by-opening
+    opens-hit : {past : Past} {k : ℕ} {names : Names} {rest : List Part} {s b q : ℕ}
+        → Runs ns (record { past = past; parts = node k names ∷ rest })
+        → Is ns k (sandbox s b) → s ≡ p → May local es p (Sees x) (opening s ∷ past) q → Offending q
+        → Hits local es ns p (min x watched) (suc (length past)) by-opening
     unfolding closings-to-run
     opens-hit {past} {k} {rest = rest} {s = s} {b = b} rs i e m f =
         let (q₀, m₀, g) = before-opening m in
         let h = invariant rs .at q₀ m₀ in
         Hits.at-opening (subst (λ (t : ℕ). Is ns k (sandbox t b)) e i) (h .stack .comes)
         (subst (λ (o : Bool). Offending (reopened local p p o q₀)) (open-level ns p rs)
-        (subst (λ (t : ℕ). Offending (reopened local p t (is-open p past) q₀)) e (subst Offending (sym g) f)))
+        (subst (λ (t : ℕ). Offending (reopened local p t (isOpen p past) q₀)) e (subst Offending (sym g) f)))
 
     told-next : {r r′ : Run} → Runs ns r → Advance ns r r′ → Told (r .past) → Told (r′ .past)
     told-next rs (Advance.ends i) h = h
@@ -281,7 +308,8 @@ module _ (local : Bool) (es : List Edge) (ns : List Node) (p x : ℕ) where
     told Runs.started = tt
     told (Runs.moved rs m) = told-next rs m (told rs)
 
-module _ (local : Bool) (es : List Edge) (ns : List Node) (scope : ℕ → ℕ → Type 0) (p : ℕ) (edges : EdgesOk es) (outline : Scoped ns scope) where
+module _ (local : Bool) (es : List Edge) (ns : List Node) (scope : ℕ → ℕ → Type 0) (p : ℕ) (edges : EdgesOk es)
+    (outline : Scoped ns scope) where
   sound-step : {last : Last} {step : Step} {past : Past} → Made p last step → IsTrace ns (step ∷ past) → Violates local es p (step ∷ past)
       → (x : ℕ) × (x ≤ watched) × Hits local es ns p x (suc (length past)) last
   unfolding count

@@ -9,12 +9,13 @@ use borrow.Author.Tests.{eqb-true, eqb-false, eq-eqb, ne-eqb, ltb-false, le-ltb}
 use Rattle.usage.specs.declared.Edge.{Edge}
 use Rattle.usage.specs.declared.Node.{Node}
 use Rattle.usage.specs.Limits.{statics}
-use Rattle.checker_account.specs.Witness.{watched, others, no-name, meant, forget, Goes, Ends}
-use Rattle.checker_account.specs.Tables.{unnamed, meanings, least, nameOf, made, forgotten, after}
+use Rattle.checker_account.specs.Witness.{watched, others, noName, meant, forget, Goes, Ends}
+use Rattle.checker_account.specs.Tables.{unnamed, meanings, least, nameOf, made, forgotten, meaningAfter, starts}
 use Rattle.checker_account.specs.Holds.{Start}
 
 -- what is made stays made
-pub stays-made : {local : Bool} {es : List Edge} {ns : List Node} {p x n k w q q′ : ℕ} {o c c′ : Bool} → Ends local es ns p x n o k w c q c′ q′ → c ≡ true → c′ ≡ true
+pub stays-made : {local : Bool} {es : List Edge} {ns : List Node} {p x n k w q q′ : ℕ} {o c c′ : Bool}
+    → Ends local es ns p x n o k w c q c′ q′ → c ≡ true → c′ ≡ true
 stays-made (Goes.ends i) e = e
 stays-made (Goes.fires-static i v) e = e
 stays-made (Goes.fires-name i v) e = e
@@ -55,7 +56,7 @@ start-any x m big h = record { low = rw (le-ltb x statics big) (omega arith); hi
 
 -- ── The next start ──
 
-pub start-after : {x m : ℕ} (c : Bool) → Start x m → Start x (after m c)
+pub start-after : {x m : ℕ} (c : Bool) → Start x m → Start x (meaningAfter m c)
 start-after {m = zero} false s = s
 start-after {x} {m = zero} true s = start-unnamed x
 start-after {m = suc m} c s = s
@@ -69,38 +70,38 @@ start-forgotten {x} {m} n s = go (eqb m (suc n))
     go false = s
 
 -- x is created: it is named n
-pub start-named : {x : ℕ} (n : ℕ) → n < no-name → Start x 0 → Start x (suc n)
+pub start-named : {x : ℕ} (n : ℕ) → n < noName → Start x 0 → Start x (suc n)
 start-named {x} n h s = start-any x (suc n) (start-dynamic s (omega arith)) (omega arith)
 
 -- ── What a meaning says ──
 
-pub after-name : (m : ℕ) (c : Bool) → nameOf (after m c) ≡ nameOf m
+pub after-name : (m : ℕ) (c : Bool) → nameOf (meaningAfter m c) ≡ nameOf m
 after-name zero false = refl
 after-name zero true = refl
 after-name (suc m) c = refl
 
-pub after-made : (m : ℕ) (c : Bool) → (made m ≡ true → c ≡ true) → made (after m c) ≡ c
+pub after-made : (m : ℕ) (c : Bool) → (made m ≡ true → c ≡ true) → made (meaningAfter m c) ≡ c
 after-made zero false h = refl
 after-made zero true h = refl
 after-made (suc m) c h = sym (h refl)
 
-same-name : (m n : ℕ) → n < no-name → eqb (nameOf m) n ≡ eqb m (suc n)
-same-name zero n h = ne-eqb no-name n (λ e. omega arith) ∙ sym (ne-eqb 0 (suc n) (λ e. omega arith))
+same-name : (m n : ℕ) → n < noName → eqb (nameOf m) n ≡ eqb m (suc n)
+same-name zero n h = ne-eqb noName n (λ e. omega arith) ∙ sym (ne-eqb 0 (suc n) (λ e. omega arith))
 same-name (suc m) n h = go (eqb m n) refl
   where
     go : (b : Bool) → eqb m n ≡ b → eqb m n ≡ eqb (suc m) (suc n)
     go true e = e ∙ sym (eq-eqb (suc m) (suc n) (ap suc (eqb-true m n e)))
     go false e = e ∙ sym (ne-eqb (suc m) (suc n) (λ f. eqb-false m n e (omega arith)))
 
-pub meant-is : (x m n : ℕ) → n < no-name → meant x (nameOf m) n ≡ cond (eqb m (suc n)) x others
+pub meant-is : (x m n : ℕ) → n < noName → meant x (nameOf m) n ≡ cond (eqb m (suc n)) x others
 unfolding meant
 meant-is x m n h = ap (λ (b : Bool). cond b x others) (same-name m n h)
 
-pub forgotten-name : (m n : ℕ) → n < no-name → nameOf (forgotten m n) ≡ forget (nameOf m) n
+pub forgotten-name : (m n : ℕ) → n < noName → nameOf (forgotten m n) ≡ forget (nameOf m) n
 unfolding forgotten forget
-forgotten-name m n h = go (eqb m (suc n)) ∙ ap (λ (b : Bool). cond b no-name (nameOf m)) (sym (same-name m n h))
+forgotten-name m n h = go (eqb m (suc n)) ∙ ap (λ (b : Bool). cond b noName (nameOf m)) (sym (same-name m n h))
   where
-    go : (b : Bool) → nameOf (cond b unnamed m) ≡ cond b no-name (nameOf m)
+    go : (b : Bool) → nameOf (cond b unnamed m) ≡ cond b noName (nameOf m)
     go true = refl
     go false = refl
 
@@ -114,7 +115,7 @@ forgotten-made (suc m) n = go (eqb (suc m) (suc n))
     go false = refl
 
 -- x is meant by a name: it is the watched dynamic resource
-pub own-watched : {x m : ℕ} (n : ℕ) → x ≤ watched → n < no-name → Start x m → eqb m (suc n) ≡ true → x ≡ watched
+pub own-watched : {x m : ℕ} (n : ℕ) → x ≤ watched → n < noName → Start x m → eqb m (suc n) ≡ true → x ≡ watched
 own-watched {x} {m} n small h s e =
     let f : m ≡ suc n = eqb-true m (suc n) e in
     let g : statics ≤ x = start-dynamic s (omega arith) in
@@ -125,11 +126,11 @@ own-watched {x} {m} n small h s e =
 pub start-least : (x : ℕ) → Start x (least x)
 start-least x = record { low = omega arith; high = omega (arith, least-le x) }
 
-pub least-name : (x : ℕ) → nameOf (least x) ≡ no-name
+pub least-name : (x : ℕ) → nameOf (least x) ≡ noName
 unfolding least
 least-name x = go (ltb x statics)
   where
-    go : (b : Bool) → nameOf (cond b unnamed 0) ≡ no-name
+    go : (b : Bool) → nameOf (cond b unnamed 0) ≡ noName
     go true = refl
     go false = refl
 

@@ -8,7 +8,8 @@ use Rattle.usage.specs.declared.Node.{Node}
 use Rattle.checker_account.specs.Witness.{Goes, Ends}
 
 module _ (es : List Edge) (ns : List Node) (p x : ℕ) where
-  pub ends-open : {n : ℕ} {o : Bool} {k w : ℕ} {c : Bool} {q : ℕ} {c′ : Bool} {q′ : ℕ} → Ends false es ns p x n o k w c q c′ q′ → (o′ : Bool) → Ends false es ns p x n o′ k w c q c′ q′
+  pub ends-open : {n : ℕ} {o : Bool} {k w : ℕ} {c : Bool} {q : ℕ} {c′ : Bool} {q′ : ℕ} → Ends false es ns p x n o k w c q c′ q′
+      → (o′ : Bool) → Ends false es ns p x n o′ k w c q c′ q′
   ends-open (Goes.ends i) o′ = Goes.ends i
   ends-open (Goes.fires-static i v) o′ = Goes.fires-static i v
   ends-open (Goes.fires-name i v) o′ = Goes.fires-name i v

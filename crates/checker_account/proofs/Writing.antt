@@ -97,10 +97,12 @@ module _ (local : Bool) (es : List Edge) (ns : List Node) (p x : ℕ) where
     goes-written (Goes.repeats {k = k} {a = a} i d) names g past =
         let (after, u) = goes-written d names (given-child k a (outline .again i) g) past in (after, Written.repeats i u)
     goes-written (Goes.creates-other {k = k} {m = m} {b = b} i v d) names g past =
-        let (after, u) = goes-written d (give names m (next past)) (given-fresh k m (next past) b (outline .given i) g) (event create (next past) ∷ past) in
+        let (after, u) =
+        goes-written d (give names m (next past)) (given-fresh k m (next past) b (outline .given i) g) (event create (next past) ∷ past) in
         (after, Written.creates-other i v u)
     goes-written (Goes.creates-own {k = k} {m = m} {b = b} i v d) names g past =
-        let (after, u) = goes-written d (give names m (next past)) (given-fresh k m (next past) b (outline .given i) g) (event create (next past) ∷ past) in
+        let (after, u) =
+        goes-written d (give names m (next past)) (given-fresh k m (next past) b (outline .given i) g) (event create (next past) ∷ past) in
         (after, Written.creates-own i v u)
     goes-written (Goes.sandboxes {k = k} {s = s} {b = b} i d) names g past =
         let (after, u) = goes-written d names (given-child k b (outline .inside i) g) (opening s ∷ past) in (_, Written.sandboxes i u)

@@ -9,13 +9,13 @@ use lib.Dec.{eqb}
 use lib.ListN.{getD}
 use Rattle.usage.specs.declared.Edge.{Edge}
 use Rattle.usage.specs.declared.Node.{Node}
-use Rattle.usage.specs.Limits.{create}
+use Rattle.usage.specs.Limits.{create, states, mostNodes}
 use Rattle.usage.specs.Policy.{Sees, Moves}
 use Rattle.usage.specs.Outline.{Form, Is, on-static, on-name, sequence, choice, loop, back, fresh, sandbox}
-use Rattle.automaton.specs.Mask.{has}
-use Rattle.checker_account.specs.Witness.{watched, others, no-name, Ends, Comes, Last, Hits}
-use Rattle.checker_account.specs.Mask.{offends}
-use Rattle.checker_account.specs.Tables.{meanings, least, nameOf, made, at, base, Rows, endsBy, place, Arrival, arrivals, leaves, lastOf}
+use Rattle.automaton.specs.Mask.{has, offends}
+use Rattle.checker_account.specs.Witness.{watched, others, noName, Ends, Comes, Last, Hits}
+use Rattle.checker_account.specs.Tables.{meanings, least, nameOf, made, at, half, base, Rows, endsBy, place, Arrival, arrivals}
+use Rattle.checker_account.specs.Tables.{leaves, lastOf}
 
 -- the meanings that occur where x is watched
 pub record Start (x m : ℕ) : Type 0 where
@@ -28,26 +28,26 @@ Dynamic es p x a own q q′ = Moves es p a (Sees x (cond own x others)) q q′
 
 -- The rows are those of policy p. Only a dynamic x is meant by a name or created.
 pub record RowsOk (es : List Edge) (ns : List Node) (p x : ℕ) (rows : Rows) : Type 0 where
-  pub static : {k a s : ℕ} → Is ns k (on-static a s) → (q q′ : ℕ) → q < 8 → q′ < 8
+  pub static : {k a s : ℕ} → Is ns k (on-static a s) → (q q′ : ℕ) → q < states → q′ < states
       → (has (rows k (eqb s x) q) q′ ≡ true) ↔ Moves es p a (Sees x s) q q′
-  pub name : {k a n : ℕ} → Is ns k (on-name a n) → (own : Bool) → (own ≡ true → x ≡ watched) → (q q′ : ℕ) → q < 8 → q′ < 8
+  pub name : {k a n : ℕ} → Is ns k (on-name a n) → (own : Bool) → (own ≡ true → x ≡ watched) → (q q′ : ℕ) → q < states → q′ < states
       → (has (rows k own q) q′ ≡ true) ↔ Dynamic es p x a own q q′
-  pub created : {k n b : ℕ} → Is ns k (fresh n b) → (own : Bool) → (own ≡ true → x ≡ watched) → (q q′ : ℕ) → q < 8 → q′ < 8
+  pub created : {k n b : ℕ} → Is ns k (fresh n b) → (own : Bool) → (own ≡ true → x ≡ watched) → (q q′ : ℕ) → q < states → q′ < states
       → (has (rows k own q) q′ ≡ true) ↔ Dynamic es p x create own q q′
 
 -- the names that nodes use and give are 0 to 3
 pub record NamesOk (ns : List Node) : Type 0 where
-  pub used : {k a n : ℕ} → Is ns k (on-name a n) → n < no-name
-  pub given : {k n b : ℕ} → Is ns k (fresh n b) → n < no-name
+  pub used : {k a n : ℕ} → Is ns k (on-name a n) → n < noName
+  pub given : {k n b : ℕ} → Is ns k (fresh n b) → n < noName
 
 -- the nodes that a node leads to are numbered 0 to 63
 pub record TargetsOk (ns : List Node) : Type 0 where
-  pub sequence : {k a b : ℕ} → Is ns k (sequence a b) → (a < 64) × (b < 64)
-  pub choice : {k a b : ℕ} → Is ns k (choice a b) → (a < 64) × (b < 64)
-  pub loop : {k a : ℕ} → Is ns k (loop a) → a < 64
-  pub back : {k a : ℕ} → Is ns k (back a) → a < 64
-  pub fresh : {k n b : ℕ} → Is ns k (fresh n b) → b < 64
-  pub sandbox : {k s b : ℕ} → Is ns k (sandbox s b) → b < 64
+  pub sequence : {k a b : ℕ} → Is ns k (sequence a b) → (a < mostNodes) × (b < mostNodes)
+  pub choice : {k a b : ℕ} → Is ns k (choice a b) → (a < mostNodes) × (b < mostNodes)
+  pub loop : {k a : ℕ} → Is ns k (loop a) → a < mostNodes
+  pub back : {k a : ℕ} → Is ns k (back a) → a < mostNodes
+  pub fresh : {k n b : ℕ} → Is ns k (fresh n b) → b < mostNodes
+  pub sandbox : {k s b : ℕ} → Is ns k (sandbox s b) → b < mostNodes
 
 -- the account, the number of steps forgotten; where the whole past counts, ends do not depend on whether p is open
 abbrev pub EndsFrom : List Edge → List Node → ℕ → ℕ → ℕ → ℕ → Bool → ℕ → Bool → ℕ → Type 0
@@ -68,17 +68,18 @@ HasEnd t k m q c q′ = has (getD t (base k m + q) 0) (at c q′) ≡ true
 
 -- each end in the table is one
 abbrev pub SoundEnds : List Edge → List Node → ℕ → ℕ → List ℕ → Type 0
-SoundEnds es ns p x t = (k m q : ℕ) (c : Bool) (q′ : ℕ) → Start x m → q < 8 → q′ < 8 → HasEnd t k m q c q′ → EndsAt es ns p x k m q c q′
+SoundEnds es ns p x t =
+    (k m q : ℕ) (c : Bool) (q′ : ℕ) → Start x m → q < states → q′ < states → HasEnd t k m q c q′ → EndsAt es ns p x k m q c q′
 
 -- the rules add nothing to the table
 abbrev pub ClosedEnds : List Node → ℕ → Rows → List ℕ → Type 0
-ClosedEnds ns x rows t = (k m q : ℕ) (f : Form) → Is ns k f → Start x m → q < 8 → (c : Bool) (q′ : ℕ) → q′ < 8
+ClosedEnds ns x rows t = (k m q : ℕ) (f : Form) → Is ns k f → Start x m → q < states → (c : Bool) (q′ : ℕ) → q′ < states
     → has (endsBy rows x t k m q f) (at c q′) ≡ true → HasEnd t k m q c q′
 
 -- the table of ends holds exactly the ends
 pub record HoldsEnds (es : List Edge) (ns : List Node) (p x : ℕ) (t : List ℕ) : Type 0 where
   pub sound : SoundEnds es ns p x t
-  pub full : (k m q : ℕ) (c : Bool) (q′ : ℕ) → Start x m → q < 8 → EndsAt es ns p x k m q c q′ → (q′ < 8) × HasEnd t k m q c q′
+  pub full : (k m q : ℕ) (c : Bool) (q′ : ℕ) → Start x m → q < states → EndsAt es ns p x k m q c q′ → (q′ < states) × HasEnd t k m q c q′
 
 -- node k is come to in (m, q), p being open or not: by the definitions, and by the table
 abbrev pub ComesAt : List Edge → List Node → ℕ → ℕ → ℕ → Bool → ℕ → ℕ → Type 0
@@ -88,7 +89,7 @@ abbrev pub HasCome : List ℕ → ℕ → Bool → ℕ → ℕ → Type 0
 HasCome u k o m q = has (getD u (place k o m) 0) q ≡ true
 
 abbrev pub SoundComes : List Edge → List Node → ℕ → ℕ → List ℕ → Type 0
-SoundComes es ns p x u = (k : ℕ) (o : Bool) (m q : ℕ) → Start x m → q < 8 → HasCome u k o m q → ComesAt es ns p x k o m q
+SoundComes es ns p x u = (k : ℕ) (o : Bool) (m q : ℕ) → Start x m → q < states → HasCome u k o m q → ComesAt es ns p x k o m q
 
 -- P holds of each arrival
 abbrev pub Each : (Arrival → Type 0) → List Arrival → Type 0
@@ -96,12 +97,13 @@ Each P [] = Unit {0}
 Each P (g ∷ gs) = P g × Each P gs
 
 abbrev pub Entered : List ℕ → Arrival → Type 0
-Entered u g = (q : ℕ) → q < 8 → has (g .states) q ≡ true → HasCome u (g .to) (g .is-open) (g .meaning) q
+Entered u g = (q : ℕ) → q < states → has (g .states) q ≡ true → HasCome u (g .to) (g .is-open) (g .meaning) q
 
 -- the start is in the table, and the rules add nothing to it
 pub record ClosedComes (ns : List Node) (p x : ℕ) (rows : Rows) (t u : List ℕ) : Type 0 where
   pub begun : HasCome u 0 false (least x) 0
-  pub step : (k : ℕ) (o : Bool) (m : ℕ) (f : Form) → Is ns k f → Start x m → Each (Entered u) (arrivals rows p t k o m (getD u (place k o m) 0) f)
+  pub step : (k : ℕ) (o : Bool) (m : ℕ) (f : Form) → Is ns k f → Start x m
+      → Each (Entered u) (arrivals rows p t k o m (getD u (place k o m) 0) f)
 
 -- a start of a node that the account tells by (w, c), in the table
 pub record Come (x : ℕ) (u : List ℕ) (o : Bool) (k w : ℕ) (c : Bool) (q : ℕ) : Type 0 where
@@ -109,7 +111,7 @@ pub record Come (x : ℕ) (u : List ℕ) (o : Bool) (k w : ℕ) (c : Bool) (q : 
   pub start : Start x meaning
   pub name : nameOf meaning ≡ w
   pub made : made meaning ≡ c
-  pub state : q < 8
+  pub state : q < states
   pub entered : HasCome u k o meaning q
 
 -- the table holds exactly what is come to
@@ -125,4 +127,4 @@ pub record Struck (ns : List Node) (p x : ℕ) (rows : Rows) (u : List ℕ) (las
   pub is : Is ns node form
   pub start : Start x meaning
   pub step : lastOf form ≡ some last
-  pub offending : offends (leaves rows p x u node meaning form) ≡ true
+  pub offending : offends (half false (leaves rows p x u node meaning form)) ≡ true

@@ -14,16 +14,17 @@ use Rattle.usage.specs.Limits.{statics, states, create}
 use Rattle.usage.specs.Policy.{Sees, Moves, Offending}
 use Rattle.usage.specs.Past.{reopened}
 use Rattle.usage.specs.Outline.{Is, end, on-static, on-name, sequence, choice, loop, back, fresh, sandbox}
-use Rattle.checker_account.specs.Witness.{others, no-name, meant, forget, Last, by-action, by-opening, Counts, Aim, ended, broken, Goes}
+use Rattle.checker_account.specs.Witness.{others, noName, meant, forget, Last, by-action, by-opening, Counts, Aim, ended, broken}
+use Rattle.checker_account.specs.Witness.{Goes}
 
 abbrev pub Entries : Type 1
 Entries = ℕ → Bool → ℕ → ℕ → Bool → ℕ → Aim → Type 0
 
 -- the starts that occur: only a dynamic x is meant by a name or created, and no name means one that is not created
 pub record Begun (x w : ℕ) (c : Bool) (q : ℕ) : Type 0 where
-  pub name : w ≤ no-name
-  pub unmade : c ≡ false → w ≡ no-name
-  pub static : x < statics → (w ≡ no-name) × (c ≡ true)
+  pub name : w ≤ noName
+  pub unmade : c ≡ false → w ≡ noName
+  pub static : x < statics → (w ≡ noName) × (c ≡ true)
   pub state : q < states
 
 -- the aims of the tables: an end, or any step that breaks p
@@ -34,8 +35,10 @@ pub data Aimed : Aim → Type 0 where
 -- One rule of `Goes`, over entries.
 pub data Rule (local : Bool) (es : List Edge) (ns : List Node) (p x : ℕ) (E : Entries) : ℕ → Bool → ℕ → ℕ → Bool → ℕ → Aim → Type 0 where
   ends : {k w q : ℕ} {o c : Bool} → Is ns k end → Rule local es ns p x E 0 o k w c q (ended c q)
-  fires-static : {k w q a s q′ : ℕ} {o c : Bool} → Is ns k (on-static a s) → Moves es p a (Sees x s) q q′ → Rule local es ns p x E 1 o k w c q (ended c q′)
-  fires-name : {k w q a m q′ : ℕ} {o c : Bool} → Is ns k (on-name a m) → Moves es p a (Sees x (meant x w m)) q q′ → Rule local es ns p x E 1 o k w c q (ended c q′)
+  fires-static : {k w q a s q′ : ℕ} {o c : Bool} → Is ns k (on-static a s) → Moves es p a (Sees x s) q q′
+      → Rule local es ns p x E 1 o k w c q (ended c q′)
+  fires-name : {k w q a m q′ : ℕ} {o c : Bool} → Is ns k (on-name a m) → Moves es p a (Sees x (meant x w m)) q q′
+      → Rule local es ns p x E 1 o k w c q (ended c q′)
   sequences : {n₁ n₂ k w q a b q₁ : ℕ} {o c c₁ : Bool} {t : Aim} → Is ns k (sequence a b)
       → E n₁ o a w c q (ended c₁ q₁) → E n₂ o b w c₁ q₁ t → Rule local es ns p x E (n₁ + n₂) o k w c q t
   chooses-left : {n k w q a b : ℕ} {o c : Bool} {t : Aim} → Is ns k (choice a b) → E n o a w c q t → Rule local es ns p x E n o k w c q t
@@ -50,15 +53,18 @@ pub data Rule (local : Bool) (es : List Edge) (ns : List Node) (p x : ℕ) (E : 
       → E n (o || eqb s p) b w c (reopened local p s o q) (ended c₂ q₂) → Rule local es ns p x E (suc (suc n)) o k w c q (ended c₂ q₂)
   breaks-static : {k w q a s q′ : ℕ} {c : Bool} {u : Option Last} → Is ns k (on-static a s) → Moves es p a (Sees x s) q q′ → Offending q′
       → Counts u (by-action a) → Rule local es ns p x E 1 true k w c q (broken u)
-  breaks-name : {k w q a m q′ : ℕ} {c : Bool} {u : Option Last} → Is ns k (on-name a m) → Moves es p a (Sees x (meant x w m)) q q′ → Offending q′
+  breaks-name : {k w q a m q′ : ℕ} {c : Bool} {u : Option Last} → Is ns k (on-name a m) → Moves es p a (Sees x (meant x w m)) q q′
+      → Offending q′
       → Counts u (by-action a) → Rule local es ns p x E 1 true k w c q (broken u)
-  breaks-other : {k w q m b q′ : ℕ} {c : Bool} {u : Option Last} → Is ns k (fresh m b) → Moves es p create (Sees x others) q q′ → Offending q′
+  breaks-other : {k w q m b q′ : ℕ} {c : Bool} {u : Option Last} → Is ns k (fresh m b) → Moves es p create (Sees x others) q q′
+      → Offending q′
       → Counts u (by-action create) → Rule local es ns p x E 1 true k w c q (broken u)
   breaks-own : {k w q m b q′ : ℕ} {u : Option Last} → Is ns k (fresh m b) → Moves es p create (Sees x x) q q′ → Offending q′
       → Counts u (by-action create) → Rule local es ns p x E 1 true k w false q (broken u)
   breaks-opening : {k w q b : ℕ} {o c : Bool} {u : Option Last} → Is ns k (sandbox p b) → Offending (reopened local p p o q)
       → Counts u by-opening → Rule local es ns p x E 1 o k w c q (broken u)
-  breaks-first : {n k w q a b : ℕ} {o c : Bool} {u : Option Last} → Is ns k (sequence a b) → E n o a w c q (broken u) → Rule local es ns p x E n o k w c q (broken u)
+  breaks-first : {n k w q a b : ℕ} {o c : Bool} {u : Option Last} → Is ns k (sequence a b) → E n o a w c q (broken u)
+      → Rule local es ns p x E n o k w c q (broken u)
   breaks-inside : {n k w q s b : ℕ} {o c : Bool} {u : Option Last} → Is ns k (sandbox s b)
       → E n (o || eqb s p) b w c (reopened local p s o q) (broken u) → Rule local es ns p x E (suc n) o k w c q (broken u)
 
@@ -66,18 +72,21 @@ pub data Rule (local : Bool) (es : List Edge) (ns : List Node) (p x : ℕ) (E : 
 
 -- Each entry is a length: what every round of filling keeps.
 pub record Lengths (local : Bool) (es : List Edge) (ns : List Node) (p x : ℕ) (cap : ℕ) (E : Entries) : Type 0 where
-  pub sound : {n : ℕ} {o : Bool} {k w : ℕ} {c : Bool} {q : ℕ} {t : Aim} → Begun x w c q → Aimed t → E n o k w c q t → Goes local es ns p x n o k w c q t
+  pub sound : {n : ℕ} {o : Bool} {k w : ℕ} {c : Bool} {q : ℕ} {t : Aim} → Begun x w c q → Aimed t → E n o k w c q t
+      → Goes local es ns p x n o k w c q t
   pub capped : {n : ℕ} {o : Bool} {k w : ℕ} {c : Bool} {q : ℕ} {t : Aim} → E n o k w c q t → n ≤ cap
   pub one : {n m : ℕ} {o : Bool} {k w : ℕ} {c : Bool} {q : ℕ} {t : Aim} → E n o k w c q t → E m o k w c q t → n ≡ m
 
 -- The entries are the least lengths, of those that are `cap` or less.
 pub record Least (local : Bool) (es : List Edge) (ns : List Node) (p x : ℕ) (cap : ℕ) (E : Entries) : Type 0 where
   pub lengths : Lengths local es ns p x cap E
-  pub full : {n : ℕ} {o : Bool} {k w : ℕ} {c : Bool} {q : ℕ} {t : Aim} → Begun x w c q → Aimed t → Goes local es ns p x n o k w c q t → n ≤ cap → (m : ℕ) × (m ≤ n) × E m o k w c q t
+  pub full : {n : ℕ} {o : Bool} {k w : ℕ} {c : Bool} {q : ℕ} {t : Aim} → Begun x w c q → Aimed t → Goes local es ns p x n o k w c q t
+      → n ≤ cap → (m : ℕ) × (m ≤ n) × E m o k w c q t
 
 -- No rule gives less than what stands there: what a round that changes nothing says.
 abbrev pub Closed : Bool → List Edge → List Node → ℕ → ℕ → ℕ → Entries → Type 0
-Closed local es ns p x cap E = (n : ℕ) (o : Bool) (k w : ℕ) (c : Bool) (q : ℕ) (t : Aim) → Begun x w c q → Aimed t → Rule local es ns p x E n o k w c q t → n ≤ cap
+Closed local es ns p x cap E =
+    (n : ℕ) (o : Bool) (k w : ℕ) (c : Bool) (q : ℕ) (t : Aim) → Begun x w c q → Aimed t → Rule local es ns p x E n o k w c q t → n ≤ cap
     → (m : ℕ) × (m ≤ n) × E m o k w c q t
 
 -- ── How a trace is read from them ──
@@ -105,9 +114,9 @@ pub data Leads (ns : List Node) (whole : Bool) : ℕ → ℕ → Type 0 where
   again : {k a : ℕ} → Is ns k (back a) → Leads ns whole k a
 
 -- by any number of moves
-pub data Passes (ns : List Node) (whole : Bool) : ℕ → ℕ → Type 0 where
-  here : {k : ℕ} → Passes ns whole k k
-  on : {k i j : ℕ} → Leads ns whole k i → Passes ns whole i j → Passes ns whole k j
+pub data PassesAll (ns : List Node) (whole : Bool) : ℕ → ℕ → Type 0 where
+  here : {k : ℕ} → PassesAll ns whole k k
+  on : {k i j : ℕ} → Leads ns whole k i → PassesAll ns whole i j → PassesAll ns whole k j
 
 -- is the node to end?
 abbrev pub ending : Aim → Bool
@@ -115,7 +124,8 @@ ending (ended c q) = true
 ending (broken u) = false
 
 -- Where to go on from an entry: a node that k leads to with no step, and a rule there whose entries are all of fewer steps.
-pub record Onto (local : Bool) (es : List Edge) (ns : List Node) (p x : ℕ) (E : Entries) (n : ℕ) (o : Bool) (k w : ℕ) (c : Bool) (q : ℕ) (t : Aim) : Type 0 where
+pub record Onto (local : Bool) (es : List Edge) (ns : List Node) (p x : ℕ) (E : Entries) (n : ℕ) (o : Bool) (k w : ℕ) (c : Bool) (q : ℕ)
+    (t : Aim) : Type 0 where
   pub node : ℕ
-  pub passes : Passes ns (ending t) k node
+  pub passes : PassesAll ns (ending t) k node
   pub rule : Rule local es ns p x (Less n E) n o node w c q t

@@ -1,13 +1,13 @@
--- The tables that hold the finite account. Mask, Tables: the sets and the rules by which the tables are filled. Holds: what the tables
--- are to hold. Rounds: how they are filled, and the search. RowTable: the moves of a policy at each
--- node. Fits: what the tables have room for.
-pub mod Mask
+-- The finite account of an outline, as relations, one watched resource at a time.
+pub mod Witness
+-- A trace written down along the account.
+pub mod Written
+-- Tables of least lengths: what they hold, and how a trace is read from them.
+pub mod Least
+-- The tables of the check: their layout and the rules by which they are filled; how they are filled, and the search in them; the table of
+-- a policy's moves at each node.
 pub mod Tables
-pub mod Holds
 pub mod Rounds
 pub mod RowTable
-pub mod Fits
--- The finite account of an outline, as relations; a trace written down along it; tables of least lengths, and reading a trace from them.
-pub mod Witness
-pub mod Written
-pub mod Least
+-- What the filled tables hold: exactly the account.
+pub mod Holds

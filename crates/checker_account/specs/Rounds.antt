@@ -1,4 +1,4 @@
--- How the tables are filled: in rounds over all nodes, until a round changes nothing.
+-- How the tables are filled: in rounds over all nodes, until a round changes nothing. Then the search for a violation in them.
 use Prim.Native.Nat.{ℕ, zero, suc, _+_, _-_, _*_, _/_, _%_, _<_, _≤_}
 use mathlib.Core.Path.{_≡_}
 use mathlib.Core.Bool.{Bool, true, false}
@@ -6,13 +6,15 @@ use mathlib.Core.Option.{Option, none, some}
 use mathlib.Core.List.{List, [], _∷_}
 use lib.Dec.{eqb, ltb}
 use lib.ListN.{getD, replicate}
+use Rattle.usage.specs.Limits.{states}
 use Rattle.usage.specs.declared.Node.{Node}
 use Rattle.usage.specs.Outline.{Form, formOf, Is}
 use Rattle.usage.specs.Tables.{nodeAt}
-use Rattle.usage.specs.Tests.{some-below}
+use Rattle.usage.specs.Tests.{someBelow}
 use Rattle.checker_account.specs.Witness.{watched}
-use Rattle.checker_account.specs.Mask.{joined, offends}
-use Rattle.checker_account.specs.Tables.{least, Rows, endsBy, place, Arrival, arrivals, leaves}
+use Rattle.automaton.specs.Mask.{offends}
+use Rattle.checker_account.specs.Tables.{joinedAt, meanings, starts, places, least, half, Rows, endsBy, place, Arrival, arrivals}
+use Rattle.checker_account.specs.Tables.{leaves}
 
 -- f 0, then f 1, …, then f (n - 1)
 unfoldable pub repeat : (ℕ → List ℕ → List ℕ) → ℕ → List ℕ → List ℕ
@@ -47,12 +49,12 @@ endsOf rows x t k m q none = 0
 endsOf rows x t k m q (some f) = endsBy rows x t k m q f
 
 -- start s of node k
-abbrev pub settle : Rows → ℕ → ℕ → Option Form → ℕ → List ℕ → List ℕ
-settle rows x k f s t = joined t (48 * k + s) (endsOf rows x t k (s / 8) (s % 8) f)
+abbrev pub settleStart : Rows → ℕ → ℕ → Option Form → ℕ → List ℕ → List ℕ
+settleStart rows x k f s t = joinedAt t (starts * k + s) (endsOf rows x t k (s / states) (s % states) f)
 
 -- the starts of node k from `first` on
 unfoldable pub settleNode : Rows → ℕ → ℕ → ℕ → Option Form → List ℕ → List ℕ
-settleNode rows x first k f t = repeat (λ i. settle rows x k f (first + i)) (48 - first) t
+settleNode rows x first k f t = repeat (λ i. settleStart rows x k f (first + i)) (starts - first) t
 
 -- all of n nodes, from the highest to the lowest: a child has a greater number than its parent
 unfoldable pub settleRound : Rows → ℕ → ℕ → ℕ → Forms → List ℕ → List ℕ
@@ -63,7 +65,7 @@ settleRound rows x first n forms t = repeat (λ i. settleNode rows x first (n - 
 -- each arrival, joined
 unfoldable pub entered : List Arrival → List ℕ → List ℕ
 entered [] u = u
-entered (g ∷ gs) u = entered gs (joined u (place (g .to) (g .is-open) (g .meaning)) (g .states))
+entered (g ∷ gs) u = entered gs (joinedAt u (place (g .to) (g .is-open) (g .meaning)) (g .states))
 
 abbrev pub arrivalsOf : Rows → ℕ → List ℕ → ℕ → Bool → ℕ → ℕ → Option Form → List Arrival
 arrivalsOf rows p t k o m v none = []
@@ -78,15 +80,15 @@ abbrev pub odd : ℕ → Bool
 odd i = eqb (i % 2) 1
 
 unfoldable pub passNode : Rows → ℕ → List ℕ → ℕ → ℕ → Option Form → List ℕ → List ℕ
-passNode rows p t l k f u = repeat (λ i. pass rows p t k f (odd i) (l + i / 2)) (2 * (6 - l)) u
+passNode rows p t l k f u = repeat (λ i. pass rows p t k f (odd i) (l + i / 2)) (2 * (meanings - l)) u
 
--- all of n nodes, from the lowest to the highest
+-- all of n nodes, from the lowest to the highest: what is come to goes from a parent to its children
 unfoldable pub passRound : Rows → ℕ → List ℕ → ℕ → ℕ → Forms → List ℕ → List ℕ
 passRound rows p t l n forms u = repeat (λ k. passNode rows p t l k (forms k)) n u
 
 -- at first node 0 alone is come to, in state 0, no policy being open
 abbrev pub begins : ℕ → List ℕ
-begins l = joined (replicate 3072 0) l 1
+begins l = joinedAt (replicate places 0) l 1
 
 -- ── Until nothing changes ──
 
@@ -108,17 +110,17 @@ leavesOf rows p x u k m (some f) = leaves rows p x u k m f
 
 -- the step of node k, with some meaning from l on, leaves an offending state
 unfoldable pub hitNode : Rows → ℕ → ℕ → List ℕ → ℕ → ℕ → Option Form → Bool
-hitNode rows p x u l k f = some-below (λ i. offends (leavesOf rows p x u k (l + i) f)) (6 - l)
+hitNode rows p x u l k f = someBelow (λ i. offends (half false (leavesOf rows p x u k (l + i) f))) (meanings - l)
 
 -- that of some of n nodes does
 unfoldable pub hitAny : Rows → ℕ → ℕ → List ℕ → ℕ → ℕ → Forms → Bool
-hitAny rows p x u l n forms = some-below (λ k. hitNode rows p x u l k (forms k)) n
+hitAny rows p x u l n forms = someBelow (λ k. hitNode rows p x u l k (forms k)) n
 
 -- the answer to whether policy p is broken for the watched resource x
 pub record Searched (rows : Rows) (p x n : ℕ) (forms : Forms) (answer : Bool) : Type 0 where
   pub ends : List ℕ
   pub comes : List ℕ
-  pub ends-filled : Filled (settleRound rows x (8 * least x) n forms) (replicate 3072 0) ends
+  pub ends-filled : Filled (settleRound rows x (states * least x) n forms) (replicate places 0) ends
   pub comes-filled : Filled (passRound rows p ends (least x) n forms) (begins (least x)) comes
   pub told : answer ≡ hitAny rows p x comes (least x) n forms
 

@@ -1,5 +1,5 @@
--- The tables of the check, for one policy p and one watched resource x, and how they are filled. What a node can end in and what
--- it is come to in are the relations `Ends` and `Comes` of Witness.antt; a table holds them as bits.
+-- The tables of the check, for one policy p and one watched resource x: how they are laid out, and by which rules they are filled. What
+-- a node can end in and what it is come to in are the relations `Ends` and `Comes` of Witness.antt; a table holds them as bits.
 --
 -- A start of a node is a meaning m, 0 to 5, and a state q, 0 to 7. The meaning tells both the name that means x and whether x can
 -- still be created: 0 that it can be (then no name means it), 1 + n that name n means it, 5 that it cannot be and no name means it.
@@ -8,24 +8,42 @@ use mathlib.Core.Bool.{Bool, true, false, _||_, cond}
 use mathlib.Core.Option.{Option, none, some}
 use mathlib.Core.List.{List, [], _∷_}
 use lib.Dec.{eqb, ltb}
-use lib.ListN.{getD}
+use lib.ListN.{getD, set}
 use lib.Bits.{bitOr}
-use Rattle.usage.specs.Limits.{statics, create}
+use Rattle.usage.specs.Limits.{statics, create, states, mostNodes}
 use Rattle.usage.specs.Outline.{Form, end, on-static, on-name, sequence, choice, loop, back, fresh, sandbox}
-use Rattle.checker_account.specs.Witness.{no-name, Last, by-action, by-opening}
-use Rattle.checker_account.specs.Mask.{over}
+use Rattle.automaton.specs.Mask.{has, union}
+use Rattle.checker_account.specs.Witness.{noName, Last, by-action, by-opening}
+
+-- ── Sets: of states, and of ends, which are twice as many ──
+
+-- the union of f q over the states q in the set m
+unfoldable pub over : (ℕ → ℕ) → ℕ → ℕ
+over f m = union states (λ q. cond (has m q) (f q) 0)
+
+-- the table with the set m joined to what stands at place i
+unfoldable pub joinedAt : List ℕ → ℕ → ℕ → List ℕ
+joinedAt t i m = set t i (bitOr (getD t i 0) m)
 
 -- ── Starts ──
 
-abbrev pub meanings : ℕ
-meanings = 6
-
--- x is static, or was created, and no name means it
+-- the last meaning: x is static, or was created, and no name means it
 abbrev pub unnamed : ℕ
-unnamed = 5
+unnamed = suc noName
+
+abbrev pub meanings : ℕ
+meanings = suc unnamed
+
+-- the starts of a node
+abbrev pub starts : ℕ
+starts = meanings * states
+
+-- an entry for each start of each node
+abbrev pub places : ℕ
+places = mostNodes * starts
 
 abbrev pub nameOf : ℕ → ℕ
-nameOf zero = no-name
+nameOf zero = noName
 nameOf (suc n) = n
 
 abbrev pub made : ℕ → Bool
@@ -40,17 +58,17 @@ least x = cond (ltb x statics) unnamed 0
 unfoldable pub forgotten : ℕ → ℕ → ℕ
 forgotten m n = cond (eqb m (suc n)) unnamed m
 
-abbrev pub after : ℕ → Bool → ℕ
-after zero false = 0
-after zero true = unnamed
-after (suc m) c = suc m
+abbrev pub meaningAfter : ℕ → Bool → ℕ
+meaningAfter zero false = 0
+meaningAfter zero true = unnamed
+meaningAfter (suc m) c = suc m
 
 -- ── The table of ends: for each node, meaning and state the set of ends ──
 
 -- the place of an end, and the set of the states in which x is so
 abbrev pub at : Bool → ℕ → ℕ
 at false q = q
-at true q = 8 + q
+at true q = states + q
 
 abbrev pub half : Bool → ℕ → ℕ
 half false v = v % 256
@@ -58,7 +76,7 @@ half true v = v / 256
 
 -- where the entries of node k with meaning m begin; that of state q is q places further
 abbrev pub base : ℕ → ℕ → ℕ
-base k m = 48 * k + 8 * m
+base k m = starts * k + states * m
 
 -- the ends with the states of the set v, x being made or not as before
 abbrev pub kept : ℕ → ℕ → ℕ
@@ -73,32 +91,42 @@ begun t b m v = over (λ q. getD t (base b m + q) 0) v
 abbrev pub Rows : Type 0
 Rows = ℕ → Bool → ℕ → ℕ
 
+-- the states after the creation of x by node k, from those of the set v, where it can still be created
+abbrev pub ownCreated : Rows → ℕ → ℕ → ℕ → ℕ
+ownCreated rows k m v = cond (made m) 0 (over (rows k true) v)
+
 -- a table of rows: of node k, those for an event on another resource, then those for one on x
 abbrev pub rowAt : ℕ → Bool → ℕ
-rowAt k false = 48 * k
-rowAt k true = 48 * k + 8
+rowAt k false = starts * k
+rowAt k true = starts * k + states
 
 abbrev pub rowsIn : List ℕ → Rows
 rowsIn r k own q = getD r (rowAt k own + q) 0
+
+-- what node b ends in after a node that ended in v: with x as it was, and with x made
+abbrev pub secondEnds : List ℕ → ℕ → ℕ → ℕ → ℕ
+secondEnds t b m v = bitOr (begun t b (meaningAfter m false) (half false v)) (begun t b (meaningAfter m true) (half true v))
+
+-- what the body b of a fresh node k ends in, name n given to another resource or to x
+abbrev pub freshEnds : Rows → List ℕ → ℕ → ℕ → ℕ → ℕ → ℕ → ℕ
+freshEnds rows t k n b m q = bitOr (begun t b (forgotten m n) (rows k false q)) (cond (made m) 0 (begun t b (suc n) (rows k true q)))
 
 -- The rules of `Ends`: what node k of this form, begun in (m, q), ends in by what the table holds of other nodes.
 unfoldable pub endsBy : Rows → ℕ → List ℕ → ℕ → ℕ → ℕ → Form → ℕ
 endsBy rows x t k m q end = kept m (2 ^ q)
 endsBy rows x t k m q (on-static a s) = kept m (rows k (eqb s x) q)
 endsBy rows x t k m q (on-name a n) = kept m (rows k (eqb m (suc n)) q)
-endsBy rows x t k m q (sequence a b) =
-    let v = getD t (base a m + q) 0 in
-    bitOr (begun t b (after m false) (half false v)) (begun t b (after m true) (half true v))
+endsBy rows x t k m q (sequence a b) = secondEnds t b m (getD t (base a m + q) 0)
 endsBy rows x t k m q (choice a b) = bitOr (getD t (base a m + q) 0) (getD t (base b m + q) 0)
 endsBy rows x t k m q (loop a) = getD t (base a m + q) 0
 endsBy rows x t k m q (back a) = getD t (base a m + q) 0
-endsBy rows x t k m q (fresh n b) = bitOr (begun t b (forgotten m n) (rows k false q)) (cond (made m) 0 (begun t b (suc n) (rows k true q)))
+endsBy rows x t k m q (fresh n b) = freshEnds rows t k n b m q
 endsBy rows x t k m q (sandbox s b) = getD t (base b m + q) 0
 
 -- ── The table of what is come to: for each node, p being open or not, and meaning, the set of states ──
 
 abbrev pub place : ℕ → Bool → ℕ → ℕ
-place k o m = 48 * k + at o m
+place k o m = starts * k + at o m
 
 -- node `to` is come to, p being open or not, with this meaning, in these states
 pub record Arrival : Type 0 where
@@ -111,19 +139,24 @@ infix 40 _by_by_with_
 abbrev pub _by_by_with_ : ℕ → Bool → ℕ → ℕ → Arrival
 k by o by m with v = record { to = k; is-open = o; meaning = m; states = v }
 
+-- node b after one that ended in e, with x as it was and with x made
+abbrev pub halves : ℕ → Bool → ℕ → ℕ → List Arrival
+halves b o m e = (b by o by meaningAfter m false with half false e) ∷ (b by o by meaningAfter m true with half true e) ∷ []
+
+-- the body of a fresh node that gives name n to another resource, or to x
+abbrev pub freshArrivals : Rows → ℕ → ℕ → ℕ → Bool → ℕ → ℕ → List Arrival
+freshArrivals rows k n b o m v = (b by o by forgotten m n with over (rows k false) v) ∷ (b by o by suc n with ownCreated rows k m v) ∷ []
+
 -- The rules of `Comes`: what node k of this form, come to in the states v with o and m, leads to. `t` is the table of ends.
 unfoldable pub arrivals : Rows → ℕ → List ℕ → ℕ → Bool → ℕ → ℕ → Form → List Arrival
 arrivals rows p t k o m v end = []
 arrivals rows p t k o m v (on-static a s) = []
 arrivals rows p t k o m v (on-name a n) = []
-arrivals rows p t k o m v (sequence a b) =
-    let e = begun t a m v in
-    (a by o by m with v) ∷ (b by o by after m false with half false e) ∷ (b by o by after m true with half true e) ∷ []
+arrivals rows p t k o m v (sequence a b) = (a by o by m with v) ∷ halves b o m (begun t a m v)
 arrivals rows p t k o m v (choice a b) = (a by o by m with v) ∷ (b by o by m with v) ∷ []
 arrivals rows p t k o m v (loop a) = (a by o by m with v) ∷ []
 arrivals rows p t k o m v (back a) = (a by o by m with v) ∷ []
-arrivals rows p t k o m v (fresh n b) =
-    (b by o by forgotten m n with over (rows k false) v) ∷ (b by o by suc n with cond (made m) 0 (over (rows k true) v)) ∷ []
+arrivals rows p t k o m v (fresh n b) = freshArrivals rows k n b o m v
 arrivals rows p t k o m v (sandbox s b) = (b by (o || eqb s p) by m with v) ∷ []
 
 -- ── What the step of a node leaves ──
@@ -139,7 +172,7 @@ leaves rows p x u k m (loop a) = 0
 leaves rows p x u k m (back a) = 0
 leaves rows p x u k m (fresh n b) =
     let v = getD u (place k true m) 0 in
-    bitOr (over (rows k false) v) (cond (made m) 0 (over (rows k true) v))
+    bitOr (over (rows k false) v) (ownCreated rows k m v)
 leaves rows p x u k m (sandbox s b) = cond (eqb s p) (bitOr (getD u (place k false m) 0) (getD u (place k true m) 0)) 0
 
 -- the step, as the account tells it apart

@@ -19,13 +19,15 @@ next past = statics + creates past
 
 -- Node k, begun in (o, w, c, q) with these names after `past`, can come to the aim after the last past here, by n steps more.
 pub data Written (local : Bool) (es : List Edge) (ns : List Node) (p x : ℕ) : ℕ → Bool → ℕ → Names → ℕ → Bool → ℕ → Past → Aim → Past → Type 0 where
-  ends : {k w q : ℕ} {names : Names} {o c : Bool} {past : Past} → Is ns k end → Written local es ns p x 0 o k names w c q past (ended c q) past
+  ends : {k w q : ℕ} {names : Names} {o c : Bool} {past : Past} → Is ns k end
+      → Written local es ns p x 0 o k names w c q past (ended c q) past
   fires-static : {k w q a s q′ : ℕ} {names : Names} {o c : Bool} {past : Past} → Is ns k (on-static a s)
       → Moves es p a (Sees x s) q q′ → Written local es ns p x 1 o k names w c q past (ended c q′) (event a s ∷ past)
   fires-name : {k w q a m r q′ : ℕ} {names : Names} {o c : Bool} {past : Past} → Is ns k (on-name a m) → names m ≡ some r
       → Moves es p a (Sees x (meant x w m)) q q′ → Written local es ns p x 1 o k names w c q past (ended c q′) (event a r ∷ past)
   sequences : {n₁ n₂ k w q a b q₁ : ℕ} {names : Names} {o c c₁ : Bool} {past past₁ past₂ : Past} {t : Aim} → Is ns k (sequence a b)
-      → Written local es ns p x n₁ o a names w c q past (ended c₁ q₁) past₁ → Written local es ns p x n₂ o b names w c₁ q₁ past₁ t past₂ → Written local es ns p x (n₁ + n₂) o k names w c q past t past₂
+      → Written local es ns p x n₁ o a names w c q past (ended c₁ q₁) past₁ → Written local es ns p x n₂ o b names w c₁ q₁ past₁ t past₂
+      → Written local es ns p x (n₁ + n₂) o k names w c q past t past₂
   chooses-left : {n k w q a b : ℕ} {names : Names} {o c : Bool} {past past₁ : Past} {t : Aim} → Is ns k (choice a b)
       → Written local es ns p x n o a names w c q past t past₁ → Written local es ns p x n o k names w c q past t past₁
   chooses-right : {n k w q a b : ℕ} {names : Names} {o c : Bool} {past past₁ : Past} {t : Aim} → Is ns k (choice a b)

@@ -1,4 +1,6 @@
--- In range, the functions answer what the rounds are defined by.
-pub mod EntryLaws
--- Where there is room for it, the table is the one that the search reads.
+-- What the tables have room for, and that the nodes of an accepted outline fit.
+pub mod FitLaws
+-- Meanings that no longer occur.
+pub mod MeaningLaws
+-- Where there is room for it, the table of rows is the one that the search reads.
 pub mod WholeLaws

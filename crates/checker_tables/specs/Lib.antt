@@ -1,4 +1,2 @@
--- What the functions on single entries and nodes answer, for all places at all.
-pub mod Entries
--- The table of rows, for all inputs at all.
-pub mod Whole
+-- What the functions compute, and their answers for all inputs at all. The tables and how they are filled are checker_account's.
+pub mod Code

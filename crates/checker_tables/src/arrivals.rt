@@ -1,24 +1,43 @@
 // The table of what is come to: in which states each node can be come to, for each meaning, the policy being open or not. It is
-// filled in rounds, until one brings nothing new.
+// filled in rounds over all nodes, from the lowest to the highest, until one brings nothing new.
 ghost use mathlib.Core.Path.{_≡_};
-ghost use mathlib.Core.Bool.{Bool, true, false, _||_, cond};
-ghost use Prim.Native.Nat.{ℕ, suc, _/_, _<_, _≤_};
-ghost use lib.ListN.{length};
+ghost use mathlib.Core.Bool.{Bool, _||_};
+ghost use mathlib.Core.List.{List, [], _∷_};
+ghost use Prim.Native.Nat.{ℕ, _<_};
+ghost use lib.ListN.{length, getD, replicate};
+ghost use Rattle.usage.specs.Limits.{mostNodes};
 ghost use Rattle.usage.specs.Outline.{formOf};
-ghost use Rattle.checker_account.specs.Mask.{over, joined};
-ghost use Rattle.checker_account.specs.Tables.{made, forgotten, after, half, begun, rowsIn, place};
-ghost use Rattle.checker_account.specs.Rounds.{grown, formsIn, entered, arrivalsOf, passNode, passRound, begins, Wide};
-ghost use Rattle.checker_account.specs.Fits.{Small, SmallNodes, fits, FilledIf};
+ghost use Rattle.checker_account.specs.Witness.{noName};
+ghost use Rattle.checker_account.specs.Tables.{meanings, places, begun, rowsIn, joinedAt, place, _by_by_with_, halves, freshArrivals};
+ghost use Rattle.checker_account.specs.Rounds.{grown, entered, arrivalsOf, passNode, begins, Wide, Filled};
+ghost use Rattle.checker_tables.specs.Code.{Small, NodesFit, comesRound};
+use checker_account::MEANINGS;
+use checker_account::STARTS;
 use checker_account::Table;
+use usage::NODE_FIELDS;
 use usage::Node;
+use usage::STATES;
 
 // The place of a node in the table of what is come to.
 fn place(k: usize, o: bool, m: usize) -> usize
-    requires { ⌜ k < 64 ⌝ }
-    requires { ⌜ m < 6 ⌝ }
+    requires { ⌜ k < mostNodes ⌝ }
+    requires { ⌜ m < meanings ⌝ }
     ensures { λ r. ⌜ r ≡ place k o m ⌝ }
 {
-    if o { 48 * k + (8 + m) } else { 48 * k + m }
+    if o {
+        STARTS * k + (STATES + m)
+    } else {
+        STARTS * k + m
+    }
+}
+
+// The states in which node k is come to, by the table.
+pub(crate) fn come_to(u: &Table, k: usize, o: bool, m: usize) -> u16
+    requires { ⌜ k < mostNodes ⌝ }
+    requires { ⌜ m < meanings ⌝ }
+    ensures { λ r. ⌜ r ≡ getD (now (u .entry)) (place k o m) 0 ⌝ }
+{
+    u[place(k, o, m)]
 }
 
 // One or the other.
@@ -30,10 +49,10 @@ fn either(a: bool, b: bool) -> bool
 
 // Node k is come to in the states v. Is that new?
 fn enter(u: &mut Table, k: usize, o: bool, m: usize, v: u16) -> bool
-    requires { ⌜ length (now u) ≡ 3072 ⌝ }
-    requires { ⌜ k < 64 ⌝ }
-    requires { ⌜ m < 6 ⌝ }
-    ensures { λ r. ⌜ now (u .exit) ≡ joined (now (u .entry)) (place k o m) v ⌝ }
+    requires { ⌜ length (now u) ≡ places ⌝ }
+    requires { ⌜ k < mostNodes ⌝ }
+    requires { ⌜ m < meanings ⌝ }
+    ensures { λ r. ⌜ now (u .exit) ≡ joinedAt (now (u .entry)) (place k o m) v ⌝ }
     ensures { λ r. ⌜ r ≡ grown (now (u .entry)) (now (u .exit)) ⌝ }
     ensures { λ r. ⌜ (Wide (now (u .entry)) → Wide (now (u .exit))) ⌝ }
 {
@@ -43,11 +62,11 @@ fn enter(u: &mut Table, k: usize, o: bool, m: usize, v: u16) -> bool
 
 // Two nodes are, in the same states.
 fn enter_two(u: &mut Table, a: usize, b: usize, o: bool, m: usize, v: u16) -> bool
-    requires { ⌜ length (now u) ≡ 3072 ⌝ }
-    requires { ⌜ a < 64 ⌝ }
-    requires { ⌜ b < 64 ⌝ }
-    requires { ⌜ m < 6 ⌝ }
-    ensures { λ r. ⌜ now (u .exit) ≡ joined (joined (now (u .entry)) (place a o m) v) (place b o m) v ⌝ }
+    requires { ⌜ length (now u) ≡ places ⌝ }
+    requires { ⌜ a < mostNodes ⌝ }
+    requires { ⌜ b < mostNodes ⌝ }
+    requires { ⌜ m < meanings ⌝ }
+    ensures { λ r. ⌜ now (u .exit) ≡ entered ((a by o by m with v) ∷ (b by o by m with v) ∷ []) (now (u .entry)) ⌝ }
     ensures { λ r. ⌜ r ≡ grown (now (u .entry)) (now (u .exit)) ⌝ }
     ensures { λ r. ⌜ (Wide (now (u .entry)) → Wide (now (u .exit))) ⌝ }
 {
@@ -58,10 +77,10 @@ fn enter_two(u: &mut Table, a: usize, b: usize, o: bool, m: usize, v: u16) -> bo
 
 // One is in the states of the lower half of e, the resource being as it was, and of the upper half, the resource being made.
 fn enter_halves(u: &mut Table, b: usize, o: bool, m: usize, e: u16) -> bool
-    requires { ⌜ length (now u) ≡ 3072 ⌝ }
-    requires { ⌜ b < 64 ⌝ }
-    requires { ⌜ m < 6 ⌝ }
-    ensures { λ r. ⌜ now (u .exit) ≡ joined (joined (now (u .entry)) (place b o (after m false)) (half false e)) (place b o (after m true)) (half true e) ⌝ }
+    requires { ⌜ length (now u) ≡ places ⌝ }
+    requires { ⌜ b < mostNodes ⌝ }
+    requires { ⌜ m < meanings ⌝ }
+    ensures { λ r. ⌜ now (u .exit) ≡ entered (halves b o m e) (now (u .entry)) ⌝ }
     ensures { λ r. ⌜ r ≡ grown (now (u .entry)) (now (u .exit)) ⌝ }
     ensures { λ r. ⌜ (Wide (now (u .entry)) → Wide (now (u .exit))) ⌝ }
 {
@@ -73,15 +92,15 @@ fn enter_halves(u: &mut Table, b: usize, o: bool, m: usize, e: u16) -> bool
 
 // A sequence leads to its first node, and to its second in what the first ends in.
 fn pass_sequence(u: &mut Table, t: &Table, a: usize, b: usize, o: bool, m: usize, v: u16) -> bool
-    requires { ⌜ length (now u) ≡ 3072 ⌝ }
-    requires { ⌜ a < 64 ⌝ }
-    requires { ⌜ b < 64 ⌝ }
-    requires { ⌜ m < 6 ⌝ }
-    ensures { λ r. ⌜ now (u .exit) ≡ joined (joined (joined (now (u .entry)) (place a o m) v) (place b o (after m false)) (half false (begun (now (t .entry)) a m v))) (place b o (after m true)) (half true (begun (now (t .entry)) a m v)) ⌝ }
+    requires { ⌜ length (now u) ≡ places ⌝ }
+    requires { ⌜ a < mostNodes ⌝ }
+    requires { ⌜ b < mostNodes ⌝ }
+    requires { ⌜ m < meanings ⌝ }
+    ensures { λ r. ⌜ now (u .exit) ≡ entered ((a by o by m with v) ∷ halves b o m (begun (now (t .entry)) a m v)) (now (u .entry)) ⌝ }
     ensures { λ r. ⌜ r ≡ grown (now (u .entry)) (now (u .exit)) ⌝ }
     ensures { λ r. ⌜ (Wide (now (u .entry)) → Wide (now (u .exit))) ⌝ }
 {
-    let e = crate::gather(t, 48 * a + 8 * m, v);
+    let e = crate::ends::begun(t, a, m, v);
     let first = enter(u, a, o, m, v);
     let second = enter_halves(u, b, o, m, e);
     either(first, second)
@@ -98,18 +117,18 @@ fn pass_fresh(
     m: usize,
     v: u16,
 ) -> bool
-    requires { ⌜ length (now u) ≡ 3072 ⌝ }
-    requires { ⌜ k < 64 ⌝ }
-    requires { ⌜ n < 4 ⌝ }
-    requires { ⌜ b < 64 ⌝ }
-    requires { ⌜ m < 6 ⌝ }
-    ensures { λ r. ⌜ now (u .exit) ≡ joined (joined (now (u .entry)) (place b o (forgotten m n)) (over (rowsIn (now (rows .entry)) k false) v)) (place b o (suc n)) (cond (made m) 0 (over (rowsIn (now (rows .entry)) k true) v)) ⌝ }
+    requires { ⌜ length (now u) ≡ places ⌝ }
+    requires { ⌜ k < mostNodes ⌝ }
+    requires { ⌜ n < noName ⌝ }
+    requires { ⌜ b < mostNodes ⌝ }
+    requires { ⌜ m < meanings ⌝ }
+    ensures { λ r. ⌜ now (u .exit) ≡ entered (freshArrivals (rowsIn (now (rows .entry))) k n b o m v) (now (u .entry)) ⌝ }
     ensures { λ r. ⌜ r ≡ grown (now (u .entry)) (now (u .exit)) ⌝ }
     ensures { λ r. ⌜ (Wide (now (u .entry)) → Wide (now (u .exit))) ⌝ }
 {
     let f = crate::lose(m, n + 1);
-    let other = crate::gather(rows, 48 * k, v);
-    let own = crate::created(rows, 48 * k + 8, m, v);
+    let other = crate::rows::moved_set(rows, k, false, v);
+    let own = crate::rows::own_created(rows, k, m, v);
     let first = enter(u, b, o, f, other);
     let second = enter(u, b, o, n + 1, own);
     either(first, second)
@@ -127,11 +146,12 @@ fn pass_by(
     m: usize,
     v: u16,
 ) -> bool
-    requires { ⌜ length (now u) ≡ 3072 ⌝ }
+    requires { ⌜ length (now u) ≡ places ⌝ }
     requires { ⌜ Small f ⌝ }
-    requires { ⌜ k < 64 ⌝ }
-    requires { ⌜ m < 6 ⌝ }
-    ensures { λ r. ⌜ now (u .exit) ≡ entered (arrivalsOf (rowsIn (now (rows .entry))) p (now (t .entry)) k o m v (formOf f)) (now (u .entry)) ⌝ }
+    requires { ⌜ k < mostNodes ⌝ }
+    requires { ⌜ m < meanings ⌝ }
+    ensures { λ r. ⌜ now (u .exit)
+        ≡ entered (arrivalsOf (rowsIn (now (rows .entry))) p (now (t .entry)) k o m v (formOf f)) (now (u .entry)) ⌝ }
     ensures { λ r. ⌜ r ≡ grown (now (u .entry)) (now (u .exit)) ⌝ }
     ensures { λ r. ⌜ (Wide (now (u .entry)) → Wide (now (u .exit))) ⌝ }
 {
@@ -151,21 +171,21 @@ fn pass_by(
 
 // Node k with every meaning from l on, the policy being open or not. Is anything new?
 fn pass_node(u: &mut Table, t: &Table, rows: &Table, p: usize, l: usize, k: usize, f: Node) -> bool
-    requires { ⌜ length (now u) ≡ 3072 ⌝ }
+    requires { ⌜ length (now u) ≡ places ⌝ }
     requires { ⌜ Small f ⌝ }
-    requires { ⌜ l < 6 ⌝ }
-    requires { ⌜ k < 64 ⌝ }
+    requires { ⌜ l < meanings ⌝ }
+    requires { ⌜ k < mostNodes ⌝ }
     ensures { λ r. ⌜ now (u .exit) ≡ passNode (rowsIn (now (rows .entry))) p (now (t .entry)) l k (formOf f) (now (u .entry)) ⌝ }
     ensures { λ r. ⌜ r ≡ grown (now (u .entry)) (now (u .exit)) ⌝ }
     ensures { λ r. ⌜ (Wide (now (u .entry)) → Wide (now (u .exit))) ⌝ }
 {
-    let n = 2 * (6 - l);
+    let n = 2 * (MEANINGS - l);
     let mut changed = false;
     let mut i: usize = 0;
     while i < n {
         let m = l + i / 2;
         let o = i % 2 == 1;
-        let v = u[place(k, o, m)];
+        let v = come_to(u, k, o, m);
         if pass_by(u, t, rows, p, k, f, o, m, v) {
             changed = true;
         }
@@ -176,15 +196,14 @@ fn pass_node(u: &mut Table, t: &Table, rows: &Table, p: usize, l: usize, k: usiz
 
 // Every node, from the lowest to the highest. Is anything new?
 fn pass_round(u: &mut Table, t: &Table, nodes: &[u8], rows: &Table, p: usize, l: usize) -> bool
-    requires { ⌜ length (now u) ≡ 3072 ⌝ }
-    requires { ⌜ SmallNodes (now nodes) ⌝ }
-    requires { ⌜ length (now nodes) / 3 ≤ 64 ⌝ }
-    requires { ⌜ l < 6 ⌝ }
-    ensures { λ r. ⌜ now (u .exit) ≡ passRound (rowsIn (now (rows .entry))) p (now (t .entry)) l (length (now (nodes .entry)) / 3) (formsIn (now (nodes .entry))) (now (u .entry)) ⌝ }
+    requires { ⌜ length (now u) ≡ places ⌝ }
+    requires { ⌜ NodesFit (now nodes) ⌝ }
+    requires { ⌜ l < meanings ⌝ }
+    ensures { λ r. ⌜ now (u .exit) ≡ comesRound (now (nodes .entry)) (now (rows .entry)) (now (t .entry)) p l (now (u .entry)) ⌝ }
     ensures { λ r. ⌜ r ≡ grown (now (u .entry)) (now (u .exit)) ⌝ }
     ensures { λ r. ⌜ (Wide (now (u .entry)) → Wide (now (u .exit))) ⌝ }
 {
-    let n = nodes.len() / 3;
+    let n = nodes.len() / NODE_FIELDS;
     let mut changed = false;
     let mut k: usize = 0;
     while k < n {
@@ -197,14 +216,13 @@ fn pass_round(u: &mut Table, t: &Table, nodes: &[u8], rows: &Table, p: usize, l:
     changed
 }
 
-// The table, for the moves of policy p, the table of ends t and the meanings from l on. Where it has no room, all is 0.
-pub fn fill(nodes: &[u8], rows: &Table, t: &Table, p: usize, l: usize, u: &mut Table)
-    ensures { λ r. ⌜ FilledIf (fits (now (nodes .entry)) l) (passRound (rowsIn (now (rows .entry))) p (now (t .entry)) l (length (now (nodes .entry)) / 3) (formsIn (now (nodes .entry)))) (begins l) (now (u .exit)) ⌝ }
+// The table, for the moves of policy p, the table of ends t and the meanings from l on; u is empty at first.
+pub(crate) fn fill(nodes: &[u8], rows: &Table, t: &Table, p: usize, l: usize, u: &mut Table)
+    requires { ⌜ NodesFit (now nodes) ⌝ }
+    requires { ⌜ l < meanings ⌝ }
+    requires { ⌜ now u ≡ replicate places 0 ⌝ }
+    ensures { λ r. ⌜ Filled (comesRound (now (nodes .entry)) (now (rows .entry)) (now (t .entry)) p l) (begins l) (now (u .exit)) ⌝ }
 {
-    *u = [0u16; 3072];
-    if !crate::fits(nodes, l) {
-        return;
-    }
     crate::join(u, l, 1);
     loop {
         if !pass_round(u, t, nodes, rows, p, l) {

@@ -1,26 +1,38 @@
-// Single entries of the check's tables, and single nodes: what the table of ends, the table of what is come to and the search share.
+// Is a policy broken, with one resource watched? The tables of the account are filled (`ends`, `arrivals`) by the policy's moves
+// (`rows`), and a violation is looked for in them (`hits`). Here stand the search, and what the modules share: single entries of a
+// table, single nodes, and whether the tables have room for them.
 ghost use mathlib.Core.Path.{_≡_};
-ghost use Rattle.checker_account.specs.Rounds.{Wide};
-ghost use Rattle.checker_account.specs.Fits.{smallNode, fits};
-ghost use Rattle.checker_tables.specs.Entries.{gathered, createdBy, joinedAt, adds, lost, nodeIn};
+ghost use mathlib.Core.Bool.{Bool};
+ghost use Prim.Native.Nat.{ℕ, _+_, _/_, _<_, _≤_};
+ghost use lib.ListN.{length, getD};
+ghost use Rattle.usage.specs.Limits.{states, nodeFields};
+ghost use Rattle.usage.specs.Tables.{nodeAt};
+ghost use Rattle.checker_account.specs.Tables.{over, joinedAt, places, least};
+ghost use Rattle.checker_account.specs.Rounds.{grown, Wide};
+ghost use Rattle.checker_tables.specs.Code.{lost, smallNode, hasRoom, SearchedIf};
+use checker_account::NAMES;
+use checker_account::PLACES;
 use checker_account::Table;
+use checker_account::UNNAMED;
+use checker_account::WATCHED;
+use usage::MOST_NODES;
+use usage::NODE_FIELDS;
 use usage::Node;
+use usage::STATES;
 
-pub mod arrivals;
-pub mod ends;
-pub mod hits;
+mod arrivals;
+mod ends;
+mod hits;
 pub mod rows;
 
 // The union of the eight sets from place i on, over the states in v.
-pub fn gather(t: &Table, i: usize, v: u16) -> u16
-    ensures { λ r. ⌜ r ≡ gathered (now (t .entry)) i v ⌝ }
+fn union_over(t: &Table, i: usize, v: u16) -> u16
+    requires { ⌜ i + states ≤ places ⌝ }
+    ensures { λ r. ⌜ r ≡ over (λ q. getD (now (t .entry)) (i + q) 0) v ⌝ }
 {
-    if 3064 < i {
-        return 0;
-    }
     let mut r: u16 = 0;
     let mut q: usize = 0;
-    while q < 8 {
+    while q < STATES {
         if (v >> (q as u32)) & 1 == 1 {
             r |= t[i + q];
         }
@@ -29,22 +41,14 @@ pub fn gather(t: &Table, i: usize, v: u16) -> u16
     r
 }
 
-// The same by the creation of the watched resource, where it can still be created.
-pub fn created(t: &Table, i: usize, m: usize, v: u16) -> u16
-    ensures { λ r. ⌜ r ≡ createdBy (now (t .entry)) i m v ⌝ }
-{
-    if m == 0 { gather(t, i, v) } else { 0 }
-}
-
 // A set joined to the one at place i. Did that change?
-pub fn join(t: &mut Table, i: usize, v: u16) -> bool
+fn join(t: &mut Table, i: usize, v: u16) -> bool
+    requires { ⌜ length (now t) ≡ places ⌝ }
+    requires { ⌜ i < places ⌝ }
     ensures { λ r. ⌜ now (t .exit) ≡ joinedAt (now (t .entry)) i v ⌝ }
-    ensures { λ r. ⌜ r ≡ adds (now (t .entry)) i v ⌝ }
+    ensures { λ r. ⌜ r ≡ grown (now (t .entry)) (now (t .exit)) ⌝ }
     ensures { λ r. ⌜ (Wide (now (t .entry)) → Wide (now (t .exit))) ⌝ }
 {
-    if 3072 <= i {
-        return false;
-    }
     let old = t[i];
     let new = old | v;
     t[i] = new;
@@ -52,27 +56,28 @@ pub fn join(t: &mut Table, i: usize, v: u16) -> bool
 }
 
 // Meaning m once meaning n no longer occurs: 1 + a name that is given to another resource, or 0 once the resource was created.
-pub fn lose(m: usize, n: usize) -> usize
+fn lose(m: usize, n: usize) -> usize
     ensures { λ r. ⌜ r ≡ lost m n ⌝ }
 {
-    if m == n { 5 } else { m }
+    if m == n { UNNAMED } else { m }
+}
+
+// The least meaning that occurs: of a static resource only the last one does.
+fn least(x: usize) -> usize
+    ensures { λ r. ⌜ r ≡ least x ⌝ }
+{
+    if x < WATCHED { UNNAMED } else { 0 }
 }
 
 // Node k of a flat table.
-pub fn node(nodes: &[u8], k: usize) -> Node
-    ensures { λ r. ⌜ r ≡ nodeIn (now (nodes .entry)) k ⌝ }
+fn node(nodes: &[u8], k: usize) -> Node
+    requires { ⌜ k < length (now nodes) / nodeFields ⌝ }
+    ensures { λ r. ⌜ r ≡ nodeAt (now (nodes .entry)) k ⌝ }
 {
-    if nodes.len() / 3 <= k {
-        return Node {
-            kind: 0,
-            a: 0,
-            b: 0,
-        };
-    }
     Node {
-        kind: nodes[3 * k],
-        a: nodes[3 * k + 1],
-        b: nodes[3 * k + 2],
+        kind: nodes[NODE_FIELDS * k],
+        a: nodes[NODE_FIELDS * k + 1],
+        b: nodes[NODE_FIELDS * k + 2],
     }
 }
 
@@ -80,27 +85,26 @@ pub fn node(nodes: &[u8], k: usize) -> Node
 fn small(n: Node) -> bool
     ensures { λ r. ⌜ r ≡ smallNode n ⌝ }
 {
-    if 64 <= n.a {
+    let a = n.a as usize;
+    let b = n.b as usize;
+    if MOST_NODES <= a {
         return false;
     }
-    if 64 <= n.b {
+    if MOST_NODES <= b {
         return false;
     }
     if n.kind == 7 {
-        return n.a < 4;
+        return a < NAMES;
     }
     true
 }
 
-// Do the tables have room for these nodes, and for the meanings from l on?
-pub fn fits(nodes: &[u8], l: usize) -> bool
-    ensures { λ r. ⌜ r ≡ fits (now (nodes .entry)) l ⌝ }
+// Do the tables have room for these nodes?
+fn fits(nodes: &[u8]) -> bool
+    ensures { λ r. ⌜ r ≡ hasRoom (now (nodes .entry)) ⌝ }
 {
-    let n = nodes.len() / 3;
-    if 64 < n {
-        return false;
-    }
-    if 5 < l {
+    let n = nodes.len() / NODE_FIELDS;
+    if MOST_NODES < n {
         return false;
     }
     let mut k: usize = 0;
@@ -112,4 +116,20 @@ pub fn fits(nodes: &[u8], l: usize) -> bool
         k += 1;
     }
     true
+}
+
+// Is policy p, whose moves the table of rows has, broken with the resource x watched? Where the tables have no room for the nodes, it
+// is not.
+pub fn breaks(nodes: &[u8], rows: &Table, p: usize, x: usize) -> bool
+    ensures { λ r. ⌜ SearchedIf (hasRoom (now (nodes .entry))) (now (nodes .entry)) (now (rows .entry)) p x r ⌝ }
+{
+    if !fits(nodes) {
+        return false;
+    }
+    let l = least(x);
+    let mut t = [0u16; PLACES];
+    ends::fill(nodes, rows, x, l, &mut t);
+    let mut u = [0u16; PLACES];
+    arrivals::fill(nodes, rows, &t, p, l, &mut u);
+    hits::any(nodes, rows, &u, p, x, l)
 }

@@ -1,50 +1,104 @@
 // The table of rows: of each node with an event, the states that each state of policy p moves to by it.
 ghost use mathlib.Core.Path.{_≡_};
+ghost use mathlib.Core.Bool.{Bool};
 ghost use Prim.Native.Nat.{ℕ, _<_};
 ghost use lib.ListN.{length};
+ghost use Rattle.usage.specs.Limits.{policies, states, mostNodes};
 ghost use Rattle.usage.specs.Outline.{formOf};
 ghost use Rattle.usage.specs.Tables.{edgesOf};
 ghost use Rattle.automaton.specs.Move.{rowsOf};
-ghost use Rattle.checker_account.specs.RowTable.{Bytes, stored, eventRows, nodeRows};
-ghost use Rattle.checker_tables.specs.Whole.{rowTable};
+ghost use Rattle.checker_account.specs.Tables.{over, places, ownCreated, rowsIn};
+ghost use Rattle.checker_account.specs.RowTable.{Bytes, rowsStored, eventRows, nodeRows};
+ghost use Rattle.checker_tables.specs.Code.{rowTable};
+use checker_account::OTHERS;
+use checker_account::PLACES;
+use checker_account::STARTS;
 use checker_account::Table;
+use usage::MOST_NODES;
+use usage::NODE_FIELDS;
 use usage::Node;
+use usage::POLICIES;
+use usage::STATES;
+
+// The places of an event's table: each state of each policy.
+const EVENT_TABLE: usize = POLICIES * STATES;
+
+// ── Reading it ──
+
+// The states that q moves to by the event of node k, which is on the watched resource or not.
+pub(crate) fn moved_states(rows: &Table, k: usize, own: bool, q: usize) -> u16
+    requires { ⌜ k < mostNodes ⌝ }
+    requires { ⌜ q < states ⌝ }
+    ensures { λ r. ⌜ r ≡ rowsIn (now (rows .entry)) k own q ⌝ }
+{
+    if own {
+        rows[STARTS * k + STATES + q]
+    } else {
+        rows[STARTS * k + q]
+    }
+}
+
+// The states that those of the set v move to.
+pub(crate) fn moved_set(rows: &Table, k: usize, own: bool, v: u16) -> u16
+    requires { ⌜ k < mostNodes ⌝ }
+    ensures { λ r. ⌜ r ≡ over (rowsIn (now (rows .entry)) k own) v ⌝ }
+{
+    if own {
+        crate::union_over(rows, STARTS * k + STATES, v)
+    } else {
+        crate::union_over(rows, STARTS * k, v)
+    }
+}
+
+// The same by the creation of the watched resource, where it can still be created.
+pub(crate) fn own_created(rows: &Table, k: usize, m: usize, v: u16) -> u16
+    requires { ⌜ k < mostNodes ⌝ }
+    ensures { λ r. ⌜ r ≡ ownCreated (rowsIn (now (rows .entry))) k m v ⌝ }
+{
+    if m == 0 {
+        moved_set(rows, k, true, v)
+    } else {
+        0
+    }
+}
+
+// ── Filling it ──
 
 // The rows of policy p out of the two tables of an event, stored for node k.
-fn store(rows: &mut Table, k: usize, p: usize, own: &[u8; 64], other: &[u8; 64])
-    requires { ⌜ length (now rows) ≡ 3072 ⌝ }
-    requires { ⌜ k < 64 ⌝ }
-    requires { ⌜ p < 8 ⌝ }
+fn store(rows: &mut Table, k: usize, p: usize, own: &[u8; EVENT_TABLE], other: &[u8; EVENT_TABLE])
+    requires { ⌜ length (now rows) ≡ places ⌝ }
+    requires { ⌜ k < mostNodes ⌝ }
+    requires { ⌜ p < policies ⌝ }
     requires { ⌜ Bytes (now own) ⌝ }
     requires { ⌜ Bytes (now other) ⌝ }
-    ensures { λ r. ⌜ now (rows .exit) ≡ stored k p (now (own .entry)) (now (other .entry)) (now (rows .entry)) ⌝ }
+    ensures { λ r. ⌜ now (rows .exit) ≡ rowsStored k p (now (own .entry)) (now (other .entry)) (now (rows .entry)) ⌝ }
 {
     let mut q: usize = 0;
-    while q < 8 {
-        rows[48 * k + q] = other[p * 8 + q] as u16;
-        rows[48 * k + 8 + q] = own[p * 8 + q] as u16;
+    while q < STATES {
+        rows[STARTS * k + q] = other[p * STATES + q] as u16;
+        rows[STARTS * k + STATES + q] = own[p * STATES + q] as u16;
         q += 1;
     }
 }
 
 // Those of the event of node k.
 fn event_rows(rows: &mut Table, edges: &[u8], p: usize, k: usize, action: u32, resource: u32)
-    requires { ⌜ length (now rows) ≡ 3072 ⌝ }
-    requires { ⌜ k < 64 ⌝ }
-    requires { ⌜ p < 8 ⌝ }
+    requires { ⌜ length (now rows) ≡ places ⌝ }
+    requires { ⌜ k < mostNodes ⌝ }
+    requires { ⌜ p < policies ⌝ }
     ensures { λ r. ⌜ now (rows .exit) ≡ eventRows (rowsOf (edgesOf (now (edges .entry)))) p k action resource (now (rows .entry)) ⌝ }
 {
-    let mut own = [0u8; 64];
-    let mut other = [0u8; 64];
+    let mut own = [0u8; EVENT_TABLE];
+    let mut other = [0u8; EVENT_TABLE];
     automaton::moves::rows(edges, action, resource, &mut own, &mut other);
     store(rows, k, p, &own, &other);
 }
 
 // Those of node k, if it has an event. A name and a creation are on a resource that no edge names.
 fn of_node(rows: &mut Table, edges: &[u8], p: usize, k: usize, f: Node)
-    requires { ⌜ length (now rows) ≡ 3072 ⌝ }
-    requires { ⌜ k < 64 ⌝ }
-    requires { ⌜ p < 8 ⌝ }
+    requires { ⌜ length (now rows) ≡ places ⌝ }
+    requires { ⌜ k < mostNodes ⌝ }
+    requires { ⌜ p < policies ⌝ }
     ensures { λ r. ⌜ now (rows .exit) ≡ nodeRows (rowsOf (edgesOf (now (edges .entry)))) p k (formOf f) (now (rows .entry)) ⌝ }
 {
     let a = f.a as u32;
@@ -52,8 +106,8 @@ fn of_node(rows: &mut Table, edges: &[u8], p: usize, k: usize, f: Node)
     let kind = f.kind;
     match kind {
         1 => event_rows(rows, edges, p, k, a, b),
-        2 => event_rows(rows, edges, p, k, a, 17),
-        7 => event_rows(rows, edges, p, k, 0, 17),
+        2 => event_rows(rows, edges, p, k, a, OTHERS),
+        7 => event_rows(rows, edges, p, k, 0, OTHERS),
         _ => {}
     }
 }
@@ -62,12 +116,12 @@ fn of_node(rows: &mut Table, edges: &[u8], p: usize, k: usize, f: Node)
 pub fn fill(edges: &[u8], nodes: &[u8], p: usize, rows: &mut Table)
     ensures { λ r. ⌜ now (rows .exit) ≡ rowTable (rowsOf (edgesOf (now (edges .entry)))) p (now (nodes .entry)) ⌝ }
 {
-    *rows = [0u16; 3072];
-    let n = nodes.len() / 3;
-    if 8 <= p {
+    *rows = [0u16; PLACES];
+    let n = nodes.len() / NODE_FIELDS;
+    if POLICIES <= p {
         return;
     }
-    if 64 < n {
+    if MOST_NODES < n {
         return;
     }
     let mut k: usize = 0;

@@ -1,72 +1,80 @@
 -- The judge's answer to a step, case by case.
-use Prim.Native.Nat.{ℕ, zero, suc, _+_, _-_, _<_, _≤_}
+use Prim.Native.Nat.{ℕ, zero, suc, _<_, _≤_}
 use mathlib.Core.Path.{_≡_, refl}
-use mathlib.Core.Bool.{true, false, _||_}
+use mathlib.Core.Bool.{true, false}
 use mathlib.Core.List.{List}
+use mathlib.Core.Option.{none, some}
 use native.Mathlib.Omega.{arith}
 use borrow.Author.Tests.{le-leb, lt-leb, lt-ltb, le-ltb}
-use lib.Dec.{ltb}
 use lib.ListN.{getD}
 use Rattle.usage.specs.declared.Edge.{Edge}
 use Rattle.usage.specs.declared.RawStep.{RawStep}
-use Rattle.usage.specs.Past.{event, opening, closing}
+use Rattle.usage.specs.Limits.{statics, mostCreated, mostOpen}
+use Rattle.usage.specs.Past.{Step, event, opening, closing}
 use Rattle.usage.specs.Judge.{stepOf}
 use Rattle.usage.specs.Tables.{edgesOf, edgeTable}
 use Rattle.monitor_state.specs.declared.State.{State}
-use Rattle.monitor_state.specs.Judge.{live, listed, stateOk, createdIn, movedBy, withUnclosed, after, broken, refusal, refuse, settle, judgeStep, judgeRead, judgeOf}
+use Rattle.monitor_state.specs.Judge.{live, listed, stateOk, after, refusal, refuse, judgeStep, judgeRead, judgeOf}
+use Rattle.monitor_state.specs.Code.{stepped, settledBy}
+use Rattle.monitor_state.proofs.Places.{known}
 
--- ── Openings and closings ──
+-- ── A step that was read ──
 
-module _ (es : List Edge) (s : State) (p : ℕ) where
-  pub opening-refused : 255 ≤ getD (s .unclosed) p 0 → judgeStep es s (opening p) (refusal s (opening p)) ≡ refuse 31 s
-  unfolding judgeStep refusal
-  opening-refused h = simp (le-leb 255 (getD (s .unclosed) p 0) h)
+module _ (es : List Edge) (s : State) (step : Step) where
+  pub step-refused : (n : ℕ) → refusal s step ≡ some n → stepped es s step ≡ refuse n s
+  unfolding judgeStep
+  step-refused n e = rw e
 
-  pub opening-taken : (t : State) → getD (s .unclosed) p 0 < 255 → t ≡ withUnclosed s p (getD (s .unclosed) p 0 + 1)
-      → judgeStep es s (opening p) (refusal s (opening p)) ≡ settle (broken t) s t
-  unfolding judgeStep refusal after
-  opening-taken t h e = simp (lt-leb 255 (getD (s .unclosed) p 0) h, e)
+  pub step-taken : (t : State) → refusal s step ≡ none → t ≡ after es s step → stepped es s step ≡ settledBy s t
+  unfolding judgeStep
+  step-taken t e f = rw (e, f)
 
-  pub closing-refused : getD (s .unclosed) p 0 ≡ 0 → judgeStep es s (closing p) (refusal s (closing p)) ≡ refuse 25 s
-  unfolding judgeStep refusal
-  closing-refused h = simp (le-ltb 0 (getD (s .unclosed) p 0) (omega arith))
+-- ── The number that refuses it ──
 
-  pub closing-taken : (t : State) → 0 < getD (s .unclosed) p 0 → t ≡ withUnclosed s p (getD (s .unclosed) p 0 - 1)
-      → judgeStep es s (closing p) (refusal s (closing p)) ≡ settle (broken t) s t
-  unfolding judgeStep refusal after
-  closing-taken t h e = simp (lt-ltb 0 (getD (s .unclosed) p 0) h, e)
+module _ (s : State) (p : ℕ) where
+  pub opening-deep : mostOpen ≤ getD (s .unclosed) p 0 → refusal s (opening p) ≡ some 31
+  unfolding refusal
+  opening-deep h = simp (le-leb mostOpen (getD (s .unclosed) p 0) h)
 
--- ── Events ──
+  pub opening-free : getD (s .unclosed) p 0 < mostOpen → refusal s (opening p) ≡ none
+  unfolding refusal
+  opening-free h = simp (lt-leb mostOpen (getD (s .unclosed) p 0) h)
 
-module _ (es : List Edge) (s : State) (r : ℕ) where
-  pub create-static : r < 16 → judgeStep es s (event 0 r) (refusal s (event 0 r)) ≡ refuse 22 s
-  unfolding judgeStep refusal
-  create-static h = simp (lt-ltb r 16 h)
+  pub closing-closed : getD (s .unclosed) p 0 ≡ 0 → refusal s (closing p) ≡ some 25
+  unfolding refusal
+  closing-closed h = simp (le-ltb 0 (getD (s .unclosed) p 0) (omega arith))
 
-  pub create-again : 16 ≤ r → listed r (live s) ≡ true → judgeStep es s (event 0 r) (refusal s (event 0 r)) ≡ refuse 23 s
-  unfolding judgeStep refusal
-  create-again h l = simp (le-ltb r 16 h, l)
+  pub closing-open : 0 < getD (s .unclosed) p 0 → refusal s (closing p) ≡ none
+  unfolding refusal
+  closing-open h = simp (lt-ltb 0 (getD (s .unclosed) p 0) h)
 
-  pub create-full : 16 ≤ r → listed r (live s) ≡ false → 64 ≤ s .count → judgeStep es s (event 0 r) (refusal s (event 0 r)) ≡ refuse 30 s
-  unfolding judgeStep refusal
-  create-full h l f = simp (le-ltb r 16 h, l, le-leb 64 (s .count) f)
+module _ (s : State) (r : ℕ) where
+  pub create-static : r < statics → refusal s (event 0 r) ≡ some 22
+  unfolding refusal
+  create-static h = simp (lt-ltb r statics h)
 
-  pub create-taken : (t : State) → 16 ≤ r → listed r (live s) ≡ false → s .count < 64 → t ≡ movedBy es 0 r (createdIn s r)
-      → judgeStep es s (event 0 r) (refusal s (event 0 r)) ≡ settle (broken t) s t
-  unfolding judgeStep refusal after
-  create-taken t h l f e = simp (le-ltb r 16 h, l, lt-leb 64 (s .count) f, e)
+  pub create-again : statics ≤ r → listed r (live s) ≡ true → refusal s (event 0 r) ≡ some 23
+  unfolding refusal
+  create-again h l = simp (le-ltb r statics h, l)
+
+  pub create-full : statics ≤ r → listed r (live s) ≡ false → mostCreated ≤ s .count → refusal s (event 0 r) ≡ some 30
+  unfolding refusal
+  create-full h l f = simp (le-ltb r statics h, l, le-leb mostCreated (s .count) f)
+
+  pub create-free : statics ≤ r → listed r (live s) ≡ false → s .count < mostCreated → refusal s (event 0 r) ≡ none
+  unfolding refusal
+  create-free h l f = simp (le-ltb r statics h, l, lt-leb mostCreated (s .count) f)
 
   -- another event
-  pub use-refused : (a : ℕ) → (a ≡ 0 → ⊥) → (ltb r 16 || listed r (live s)) ≡ false → judgeStep es s (event a r) (refusal s (event a r)) ≡ refuse 24 s
-  unfolding judgeStep refusal
-  use-refused zero h k = absurd (h refl)
-  use-refused (suc a) h k = simp k
+  pub use-unknown : (a : ℕ) → (a ≡ 0 → ⊥) → known s r ≡ false → refusal s (event a r) ≡ some 24
+  unfolding refusal
+  use-unknown zero h k = absurd (h refl)
+  use-unknown (suc a) h k = simp k
 
-  pub use-taken : (a : ℕ) (t : State) → (a ≡ 0 → ⊥) → (ltb r 16 || listed r (live s)) ≡ true → t ≡ movedBy es a r s
-      → judgeStep es s (event a r) (refusal s (event a r)) ≡ settle (broken t) s t
-  unfolding judgeStep refusal after
-  use-taken zero t h k e = absurd (h refl)
-  use-taken (suc a) t h k e = simp (k, e)
+  pub use-known : (a : ℕ) → (a ≡ 0 → ⊥) → known s r ≡ true → refusal s (event a r) ≡ none
+  unfolding refusal
+  use-known zero h k = absurd (h refl)
+  use-known (suc a) h k = simp k
 
 -- ── The step as it is handed over ──
 

@@ -1,4 +1,3 @@
--- The laws that the proofs of the judge's functions cite.
-pub mod CreatedLaws
+-- The laws that the proofs of the functions cite.
 pub mod JudgeLaws
 pub mod LentLaws

@@ -1,31 +1,39 @@
 // The judge (document 01's word for the run-time monitor): its start and one step.
+use monitor_sets::FIRST_CREATED;
+use monitor_sets::SETS;
+use monitor_sets::UNSEEN;
 use monitor_state::Answer;
 use monitor_state::Judgement;
 use monitor_state::Read;
 use monitor_state::State;
 use monitor_state::Told;
+use usage::MOST_CREATED;
+use usage::MOST_OPEN;
+use usage::POLICIES;
 use usage::RawStep;
+use usage::STATICS;
 ghost use Prim.Native.Nat.{ℕ, _<_, _≤_};
 ghost use mathlib.Core.Path.{_≡_};
 ghost use mathlib.Core.List.{List};
 ghost use mathlib.Core.Bool.{false};
 ghost use lib.ListN.{length, set};
 ghost use Rattle.usage.specs.declared.Edge.{Edge};
+ghost use Rattle.usage.specs.Limits.{policies, mostCreated};
 ghost use Rattle.usage.specs.Past.{event, opening, closing};
 ghost use Rattle.usage.specs.Judge.{stepOf};
 ghost use Rattle.usage.specs.Tables.{edgesOf};
-ghost use Rattle.monitor_state.specs.Judge.{begin, judgeRead, judgeOf};
+ghost use Rattle.monitor_state.specs.Judge.{startState, judgeRead, judgeOf};
 ghost use Rattle.monitor_state.specs.Promise.{StandsForNothing, Keeps};
 ghost use Rattle.monitor_state.specs.declared.Answer.the-variants.{Refused};
 ghost use Rattle.monitor_state.specs.Code.{says, stateOf, judgementOf, toldOf, stepped, settledBy};
 
 pub fn start() -> State
-    ensures { λ r. ⌜ r ≡ begin ⌝ }
+    ensures { λ r. ⌜ r ≡ startState ⌝ }
     ensures { λ r. ⌜ StandsForNothing r ⌝ }
 {
-    let sets = [1u8; 648];
-    let created = [0u32; 64];
-    let unclosed = [0u8; 8];
+    let sets = [1u8; SETS];
+    let created = [0u32; MOST_CREATED];
+    let unclosed = [0u8; POLICIES];
     State {
         sets,
         created,
@@ -39,36 +47,50 @@ pub fn start() -> State
 
 // An opening or a closing that leaves p with n openings that are not closed. It moves no state and creates nothing, so the
 // answer is the same whatever the edges and the created resources are.
-fn judge_unclosed(sets: &[u8; 648], unclosed: &mut [u8; 8], count: usize, p: usize, n: u8) -> Told
-    requires { ⌜ p < 8 ⌝ }
-    requires { ⌜ count ≤ 64 ⌝ }
-    ensures { λ r. ⌜ ((created : List ℕ) → judgementOf r (now (sets .entry)) created (now (unclosed .exit)) ≡ settledBy (stateOf (now (sets .entry)) created count (now (unclosed .entry)) false) (stateOf (now (sets .entry)) created count (set (now (unclosed .entry)) p n) false)) ⌝ }
+fn judge_unclosed(
+    sets: &[u8; SETS],
+    unclosed: &mut [u8; POLICIES],
+    count: usize,
+    p: usize,
+    n: u8,
+) -> Told
+    requires { ⌜ p < policies ⌝ }
+    requires { ⌜ count ≤ mostCreated ⌝ }
+    ensures { λ r. ⌜ ((created : List ℕ) → judgementOf r (now (sets .entry)) created (now (unclosed .exit))
+        ≡ settledBy (stateOf (now (sets .entry)) created count (now (unclosed .entry)) false)
+        (stateOf (now (sets .entry)) created count (set (now (unclosed .entry)) p n) false)) ⌝ }
 {
     let mut after = *unclosed;
     after[p] = n;
-    let bad = monitor_sets::instances::broken_set(sets, &after, 17 + count);
+    let bad = monitor_sets::instances::broken_set(sets, &after, FIRST_CREATED + count);
     if bad == 0 {
         *unclosed = after;
     }
     monitor_state::settled(bad, count, count)
 }
 
-fn judge_opening(sets: &[u8; 648], unclosed: &mut [u8; 8], count: usize, p: usize) -> Told
-    requires { ⌜ p < 8 ⌝ }
-    requires { ⌜ count ≤ 64 ⌝ }
-    ensures { λ r. ⌜ ((es : List Edge) (created : List ℕ) → judgementOf r (now (sets .entry)) created (now (unclosed .exit)) ≡ stepped es (stateOf (now (sets .entry)) created count (now (unclosed .entry)) false) (opening p)) ⌝ }
+fn judge_opening(sets: &[u8; SETS], unclosed: &mut [u8; POLICIES], count: usize, p: usize) -> Told
+    requires { ⌜ p < policies ⌝ }
+    requires { ⌜ count ≤ mostCreated ⌝ }
+    ensures { λ r.
+        ⌜ ((es : List Edge) (created : List ℕ)
+        → judgementOf r (now (sets .entry)) created (now (unclosed .exit))
+        ≡ stepped es (stateOf (now (sets .entry)) created count (now (unclosed .entry)) false) (opening p)) ⌝ }
 {
     let n = unclosed[p];
-    if 255 <= n {
+    if MOST_OPEN <= n {
         return monitor_state::refused(31, count, false);
     }
     judge_unclosed(sets, unclosed, count, p, n + 1)
 }
 
-fn judge_closing(sets: &[u8; 648], unclosed: &mut [u8; 8], count: usize, p: usize) -> Told
-    requires { ⌜ p < 8 ⌝ }
-    requires { ⌜ count ≤ 64 ⌝ }
-    ensures { λ r. ⌜ ((es : List Edge) (created : List ℕ) → judgementOf r (now (sets .entry)) created (now (unclosed .exit)) ≡ stepped es (stateOf (now (sets .entry)) created count (now (unclosed .entry)) false) (closing p)) ⌝ }
+fn judge_closing(sets: &[u8; SETS], unclosed: &mut [u8; POLICIES], count: usize, p: usize) -> Told
+    requires { ⌜ p < policies ⌝ }
+    requires { ⌜ count ≤ mostCreated ⌝ }
+    ensures { λ r.
+        ⌜ ((es : List Edge) (created : List ℕ)
+        → judgementOf r (now (sets .entry)) created (now (unclosed .exit))
+        ≡ stepped es (stateOf (now (sets .entry)) created count (now (unclosed .entry)) false) (closing p)) ⌝ }
 {
     let n = unclosed[p];
     if n == 0 {
@@ -79,34 +101,30 @@ fn judge_closing(sets: &[u8; 648], unclosed: &mut [u8; 8], count: usize, p: usiz
 
 fn judge_create(
     edges: &[u8],
-    sets: &mut [u8; 648],
-    created: &mut [u32; 64],
-    unclosed: &[u8; 8],
+    sets: &mut [u8; SETS],
+    created: &mut [u32; MOST_CREATED],
+    unclosed: &[u8; POLICIES],
     count: usize,
     r: u32,
 ) -> Told
-    requires { ⌜ length (now created) ≡ 64 ⌝ }
-    requires { ⌜ count ≤ 64 ⌝ }
-    ensures { λ t. ⌜ judgementOf t (now (sets .exit)) (now (created .exit)) (now (unclosed .entry)) ≡ stepped (edgesOf (now (edges .entry))) (stateOf (now (sets .entry)) (now (created .entry)) count (now (unclosed .entry)) false) (event 0 r) ⌝ }
+    requires { ⌜ length (now created) ≡ mostCreated ⌝ }
+    requires { ⌜ count ≤ mostCreated ⌝ }
+    ensures { λ t.
+        ⌜ judgementOf t (now (sets .exit)) (now (created .exit)) (now (unclosed .entry))
+        ≡ stepped (edgesOf (now (edges .entry))) (stateOf (now (sets .entry)) (now (created .entry)) count (now (unclosed .entry)) false)
+        (event 0 r) ⌝ }
 {
-    if r < 16 {
+    if r < STATICS {
         return monitor_state::refused(22, count, false);
     }
-    if monitor_sets::created::place_of(created, count, r) != 16 {
+    if monitor_sets::created::place_of(created, count, r) != UNSEEN {
         return monitor_state::refused(23, count, false);
     }
-    if 64 <= count {
+    if MOST_CREATED <= count {
         return monitor_state::refused(30, count, false);
     }
-    let bad = monitor_sets::instances::take_event(
-        edges,
-        sets,
-        unclosed,
-        18 + count,
-        17 + count,
-        0,
-        r,
-    );
+    let at = FIRST_CREATED + count;
+    let bad = monitor_sets::instances::take_event(edges, sets, unclosed, at + 1, at, 0, r);
     if bad == 0 {
         created[count] = r;
     }
@@ -115,39 +133,46 @@ fn judge_create(
 
 fn judge_event(
     edges: &[u8],
-    sets: &mut [u8; 648],
-    created: &mut [u32; 64],
-    unclosed: &[u8; 8],
+    sets: &mut [u8; SETS],
+    created: &mut [u32; MOST_CREATED],
+    unclosed: &[u8; POLICIES],
     count: usize,
     action: u32,
     r: u32,
 ) -> Told
-    requires { ⌜ length (now created) ≡ 64 ⌝ }
-    requires { ⌜ count ≤ 64 ⌝ }
-    ensures { λ t. ⌜ judgementOf t (now (sets .exit)) (now (created .exit)) (now (unclosed .entry)) ≡ stepped (edgesOf (now (edges .entry))) (stateOf (now (sets .entry)) (now (created .entry)) count (now (unclosed .entry)) false) (event action r) ⌝ }
+    requires { ⌜ length (now created) ≡ mostCreated ⌝ }
+    requires { ⌜ count ≤ mostCreated ⌝ }
+    ensures { λ t.
+        ⌜ judgementOf t (now (sets .exit)) (now (created .exit)) (now (unclosed .entry))
+        ≡ stepped (edgesOf (now (edges .entry))) (stateOf (now (sets .entry)) (now (created .entry)) count (now (unclosed .entry)) false)
+        (event action r) ⌝ }
 {
     if action == 0 {
         return judge_create(edges, sets, created, unclosed, count, r);
     }
     let at = monitor_sets::created::place_of(created, count, r);
-    if at == 16 {
+    if at == UNSEEN {
         return monitor_state::refused(24, count, false);
     }
-    let bad = monitor_sets::instances::take_event(edges, sets, unclosed, 17 + count, at, action, r);
+    let n = FIRST_CREATED + count;
+    let bad = monitor_sets::instances::take_event(edges, sets, unclosed, n, at, action, r);
     monitor_state::settled(bad, count, count)
 }
 
 fn judge_read(
     edges: &[u8],
-    sets: &mut [u8; 648],
-    created: &mut [u32; 64],
-    unclosed: &mut [u8; 8],
+    sets: &mut [u8; SETS],
+    created: &mut [u32; MOST_CREATED],
+    unclosed: &mut [u8; POLICIES],
     count: usize,
     step: RawStep,
 ) -> Told
-    requires { ⌜ length (now created) ≡ 64 ⌝ }
-    requires { ⌜ count ≤ 64 ⌝ }
-    ensures { λ r. ⌜ judgementOf r (now (sets .exit)) (now (created .exit)) (now (unclosed .exit)) ≡ judgeRead (edgesOf (now (edges .entry))) (stateOf (now (sets .entry)) (now (created .entry)) count (now (unclosed .entry)) false) (stepOf step) ⌝ }
+    requires { ⌜ length (now created) ≡ mostCreated ⌝ }
+    requires { ⌜ count ≤ mostCreated ⌝ }
+    ensures { λ r.
+        ⌜ judgementOf r (now (sets .exit)) (now (created .exit)) (now (unclosed .exit))
+        ≡ judgeRead (edgesOf (now (edges .entry))) (stateOf (now (sets .entry)) (now (created .entry)) count (now (unclosed .entry)) false)
+        (stepOf step) ⌝ }
 {
     let read = monitor_state::read_step(step);
     match read {
@@ -162,14 +187,16 @@ fn judge_read(
 // program hands over come first, then the halted state, then the step.
 pub fn judge_lent(
     edges: &[u8],
-    sets: &mut [u8; 648],
-    created: &mut [u32; 64],
-    unclosed: &mut [u8; 8],
+    sets: &mut [u8; SETS],
+    created: &mut [u32; MOST_CREATED],
+    unclosed: &mut [u8; POLICIES],
     count: usize,
     halted: bool,
     step: RawStep,
 ) -> Told
-    ensures { λ r. ⌜ judgementOf r (now (sets .exit)) (now (created .exit)) (now (unclosed .exit)) ≡ judgeOf (now (edges .entry)) (stateOf (now (sets .entry)) (now (created .entry)) count (now (unclosed .entry)) halted) step ⌝ }
+    ensures { λ r.
+        ⌜ judgementOf r (now (sets .exit)) (now (created .exit)) (now (unclosed .exit))
+        ≡ judgeOf (now (edges .entry)) (stateOf (now (sets .entry)) (now (created .entry)) count (now (unclosed .entry)) halted) step ⌝ }
 {
     if !sheet_fields::edges::edge_table_ok(edges) {
         return monitor_state::refused(41, count, halted);

@@ -1,6 +1,5 @@
 -- The laws that the proofs of the functions cite.
 pub mod CreatedLaws
--- The laws that the proofs of the functions cite.
 pub mod SetLaws
 pub mod PlaceLaws
 pub mod MovedLaws

@@ -1,4 +1,4 @@
--- The laws of the table of sets: place p * 81 + i is that of instance i of policy p.
+-- The laws of the table of sets: place p * instances + i is that of instance i of policy p.
 use Prim.Native.Nat.{ℕ, _+_, _*_, _/_, _%_, _<_}
 use mathlib.Core.Path.{_≡_, refl, sym, ap, _∙_}
 use mathlib.Core.Bool.{Bool, true, false, _&&_, cond}
@@ -9,32 +9,35 @@ use borrow.Author.Tests.{eq-eqb, eqb-true, eqb-false, lt-ltb, le-ltb, ltb-true, 
 use lib.Dec.{eqb, ltb}
 use lib.ListN.{length, getD, set, length-set}
 use lib.Seq.{getD-set-same, getD-set-other}
+use Rattle.usage.specs.Limits.{policies}
 use Rattle.usage.specs.Tables.{from}
 use Rattle.usage.proofs.Logic.{by-cases}
 use Rattle.usage.proofs.TableLaws.{length-from, getD-from, is-from, from-ext}
+use Rattle.monitor_sets.specs.Instances.{unseen, instances, setPlaces}
 use Rattle.monitor_sets.specs.Sets.{copied}
 
 -- the table of the sets f 0, f 1, …
 abbrev pub table : (ℕ → ℕ) → List ℕ
-table f = from f 0 648
+table f = from f 0 setPlaces
 
-pub table-at : (f : ℕ → ℕ) (k : ℕ) → k < 648 → getD (table f) k 0 ≡ f k
-table-at f k h = getD-from f 0 648 k 0 h ∙ ap f (zero-add k)
+pub table-at : (f : ℕ → ℕ) (k : ℕ) → k < setPlaces → getD (table f) k 0 ≡ f k
+table-at f k h = getD-from f 0 setPlaces k 0 h ∙ ap f (zero-add k)
 
-pub table-length : (f : ℕ → ℕ) → length (table f) ≡ 648
-table-length f = length-from f 0 648
+pub table-length : (f : ℕ → ℕ) → length (table f) ≡ setPlaces
+table-length f = length-from f 0 setPlaces
 
-pub table-same : (f g : ℕ → ℕ) → ((k : ℕ) → k < 648 → f k ≡ g k) → table f ≡ table g
-table-same f g h = from-ext f g 0 648 (λ i l. ap f (zero-add i) ∙ h i l ∙ ap g (sym (zero-add i)))
+pub table-same : (f g : ℕ → ℕ) → ((k : ℕ) → k < setPlaces → f k ≡ g k) → table f ≡ table g
+table-same f g h = from-ext f g 0 setPlaces (λ i l. ap f (zero-add i) ∙ h i l ∙ ap g (sym (zero-add i)))
 
-pub is-table : (f : ℕ → ℕ) (l : List ℕ) → length l ≡ 648 → ((k : ℕ) → k < 648 → getD l k 0 ≡ f k) → l ≡ table f
-is-table f l e h = is-from f 0 648 l e h
+pub is-table : (f : ℕ → ℕ) (l : List ℕ) → length l ≡ setPlaces → ((k : ℕ) → k < setPlaces → getD l k 0 ≡ f k) → l ≡ table f
+is-table f l e h = is-from f 0 setPlaces l e h
 
 -- a store at place j
-pub table-set : (f g : ℕ → ℕ) (j v : ℕ) → j < 648 → v ≡ g j → ((k : ℕ) → k < 648 → (k ≡ j → ⊥) → f k ≡ g k) → set (table f) j v ≡ table g
+pub table-set : (f g : ℕ → ℕ) (j v : ℕ) → j < setPlaces → v ≡ g j → ((k : ℕ) → k < setPlaces → (k ≡ j → ⊥) → f k ≡ g k)
+    → set (table f) j v ≡ table g
 table-set f g j v l e h = is-table g (set (table f) j v) (length-set (table f) j v ∙ table-length f) (λ k b. go k b (eqb k j) refl)
   where
-    go : (k : ℕ) → k < 648 → (b : Bool) → eqb k j ≡ b → getD (set (table f) j v) k 0 ≡ g k
+    go : (k : ℕ) → k < setPlaces → (b : Bool) → eqb k j ≡ b → getD (set (table f) j v) k 0 ≡ g k
     go k b true q =
         let i : k ≡ j = eqb-true k j q in
         let m : j < length (table f) = rw (table-length f) l in
@@ -42,7 +45,7 @@ table-set f g j v l e h = is-table g (set (table f) j v) (length-set (table f) j
     go k b false q = getD-set-other (table f) j k v 0 (eqb-false k j q) ∙ table-at f k b ∙ h k b (eqb-false k j q)
 
 -- two tests that agree where a third one passes
-pub same-and : (x y t : Bool) → (t ≡ true → x ≡ y) → (x && t) ≡ (y && t)
+same-and : (x y t : Bool) → (t ≡ true → x ≡ y) → (x && t) ≡ (y && t)
 same-and x y true f = ap (λ b. b && true) (f refl)
 same-and true true false f = refl
 same-and true false false f = refl
@@ -58,42 +61,56 @@ ltb-next a n h = go (ltb a n) refl
     go false e = by-cases (eq-or-lt-of-le (ltb-false a n e)) (λ q. absurd (h (sym q))) (λ l. sym (le-ltb a (n + 1) (omega arith)))
 
 -- the place of instance i of policy p
-pub place-is : (k p i : ℕ) → k / 81 ≡ p → k % 81 ≡ i → k ≡ p * 81 + i
+pub place-is : (k p i : ℕ) → k / instances ≡ p → k % instances ≡ i → k ≡ p * instances + i
 place-is k p i a b = omega arith
 
 -- ── A new instance ──
 
 -- instance i copied in the first p policies
 abbrev pub copiedTo : ℕ → List ℕ → ℕ → ℕ → ℕ
-copiedTo p sets i k = cond (ltb (k / 81) p && eqb (k % 81) i) (getD sets (k / 81 * 81 + 16) 0) (getD sets k 0)
+copiedTo p sets i k =
+    cond (ltb (k / instances) p && eqb (k % instances) i) (getD sets (k / instances * instances + unseen) 0) (getD sets k 0)
 
 module _ (sets : List ℕ) (i : ℕ) where
-  pub copied-none : length sets ≡ 648 → sets ≡ table (copiedTo 0 sets i)
-  copied-none e = is-table (copiedTo 0 sets i) sets e (λ k l. sym (ap (λ b. cond (b && eqb (k % 81) i) (getD sets (k / 81 * 81 + 16) 0) (getD sets k 0)) (le-ltb (k / 81) 0 (omega arith))))
+  pub copied-none : length sets ≡ setPlaces → sets ≡ table (copiedTo 0 sets i)
+  copied-none e =
+      is-table (copiedTo 0 sets i) sets e
+      (λ k l. sym
+      (ap (λ b. cond (b && eqb (k % instances) i) (getD sets (k / instances * instances + unseen) 0) (getD sets k 0))
+      (le-ltb (k / instances) 0 (omega arith))))
 
-  pub copied-all : table (copiedTo 8 sets i) ≡ copied sets i
+  pub copied-all : table (copiedTo policies sets i) ≡ copied sets i
   unfolding copied
-  copied-all = table-same (copiedTo 8 sets i) (λ k. cond (eqb (k % 81) i) (getD sets (k / 81 * 81 + 16) 0) (getD sets k 0)) (λ k l.
-      ap (λ b. cond (b && eqb (k % 81) i) (getD sets (k / 81 * 81 + 16) 0) (getD sets k 0)) (lt-ltb (k / 81) 8 (omega arith)))
+  copied-all =
+      table-same (copiedTo policies sets i)
+      (λ k. cond (eqb (k % instances) i) (getD sets (k / instances * instances + unseen) 0) (getD sets k 0)) (λ k l.
+      ap (λ b. cond (b && eqb (k % instances) i) (getD sets (k / instances * instances + unseen) 0) (getD sets k 0))
+      (lt-ltb (k / instances) policies (omega arith)))
 
   -- policy p has not been reached
-  pub copied-source : (p : ℕ) → p < 8 → getD (table (copiedTo p sets i)) (p * 81 + 16) 0 ≡ getD sets (p * 81 + 16) 0
+  pub copied-source : (p : ℕ) → p < policies
+      → getD (table (copiedTo p sets i)) (p * instances + unseen) 0 ≡ getD sets (p * instances + unseen) 0
   copied-source p h =
-      let q : (p * 81 + 16) / 81 ≡ p = omega arith in
-      table-at (copiedTo p sets i) (p * 81 + 16) (omega arith)
-      ∙ ap (λ b. cond (b && eqb ((p * 81 + 16) % 81) i) (getD sets ((p * 81 + 16) / 81 * 81 + 16) 0) (getD sets (p * 81 + 16) 0)) (le-ltb ((p * 81 + 16) / 81) p (omega arith))
+      let q : (p * instances + unseen) / instances ≡ p = omega arith in
+      table-at (copiedTo p sets i) (p * instances + unseen) (omega arith)
+      ∙ ap (λ b. cond (b && eqb ((p * instances + unseen) % instances) i)
+      (getD sets ((p * instances + unseen) / instances * instances + unseen) 0) (getD sets (p * instances + unseen) 0))
+      (le-ltb ((p * instances + unseen) / instances) p (omega arith))
 
-  pub copied-more : (p : ℕ) → p < 8 → i < 81 → set (table (copiedTo p sets i)) (p * 81 + i) (getD sets (p * 81 + 16) 0) ≡ table (copiedTo (p + 1) sets i)
+  pub copied-more : (p : ℕ) → p < policies → i < instances
+      → set (table (copiedTo p sets i)) (p * instances + i) (getD sets (p * instances + unseen) 0) ≡ table (copiedTo (p + 1) sets i)
   copied-more p h l =
-      table-set (copiedTo p sets i) (copiedTo (p + 1) sets i) (p * 81 + i) (getD sets (p * 81 + 16) 0) (omega arith) here other
+      table-set (copiedTo p sets i) (copiedTo (p + 1) sets i) (p * instances + i) (getD sets (p * instances + unseen) 0)
+      (omega arith) here other
     where
-      here : getD sets (p * 81 + 16) 0 ≡ copiedTo (p + 1) sets i (p * 81 + i)
+      here : getD sets (p * instances + unseen) 0 ≡ copiedTo (p + 1) sets i (p * instances + i)
       here =
-          let q : (p * 81 + i) / 81 ≡ p = omega arith in
-          let r : (p * 81 + i) % 81 ≡ i = omega arith in
+          let q : (p * instances + i) / instances ≡ p = omega arith in
+          let r : (p * instances + i) % instances ≡ i = omega arith in
           rw (q, r) (simp (lt-ltb p (p + 1) (omega arith), eq-eqb i i refl))
 
-      other : (k : ℕ) → k < 648 → (k ≡ p * 81 + i → ⊥) → copiedTo p sets i k ≡ copiedTo (p + 1) sets i k
+      other : (k : ℕ) → k < setPlaces → (k ≡ p * instances + i → ⊥) → copiedTo p sets i k ≡ copiedTo (p + 1) sets i k
       other k b n =
-          ap (λ t. cond t (getD sets (k / 81 * 81 + 16) 0) (getD sets k 0))
-          (same-and (ltb (k / 81) p) (ltb (k / 81) (p + 1)) (eqb (k % 81) i) (λ e. ltb-next (k / 81) p (λ q. n (place-is k p i q (eqb-true (k % 81) i e)))))
+          ap (λ t. cond t (getD sets (k / instances * instances + unseen) 0) (getD sets k 0))
+          (same-and (ltb (k / instances) p) (ltb (k / instances) (p + 1)) (eqb (k % instances) i)
+          (λ e. ltb-next (k / instances) p (λ q. n (place-is k p i q (eqb-true (k % instances) i e)))))

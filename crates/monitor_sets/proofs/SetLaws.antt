@@ -6,22 +6,18 @@ use mathlib.Core.List.{List}
 use native.Mathlib.Numerals.{add-one}
 use native.Mathlib.Omega.{arith}
 use borrow.Author.Tests.{leb-true, leb-false, le-leb, lt-leb, lt-ltb}
-use lib.Bits.{bitOr, or-lt, or-add-and, and-le-l, and-le-r}
+use lib.Bits.{bitOr, or-lt}
 use lib.Dec.{leb}
 use lib.ListN.{getD}
-use Rattle.usage.specs.Tests.{some-below}
+use Rattle.usage.specs.Tests.{someBelow}
 use Rattle.automaton.specs.Mask.{union, offends}
-use Rattle.automaton.proofs.MaskLaws.{single-is}
-use Rattle.automaton.proofs.RowLaws.{shifted-single}
+use Rattle.automaton.proofs.MaskLaws.{left-le, right-le}
+use Rattle.monitor_sets.specs.Instances.{instances}
 use Rattle.monitor_sets.specs.Code.{brokenBit}
 
 pub pos : (n : ℕ) → (n ≡ 0 → ⊥) → 0 < n
 pos zero h = absurd (h refl)
 pos (suc n) h = omega arith
-
--- the bit of a policy, as the code makes it
-pub one-shl : (p : ℕ) → p < 8 → 1 * 2 ^ p % 256 ≡ 2 ^ p
-one-shl p h = shifted-single p h ∙ single-is p h
 
 -- one more set in a union
 pub union-more : (n : ℕ) (f : ℕ → ℕ) → bitOr (union n f) (f n) ≡ union (n + 1) f
@@ -33,12 +29,12 @@ or-offends : (a b : ℕ) → offends (bitOr a b) ≡ (offends b || offends a)
 or-offends a b = go (leb 64 b) refl (leb 64 a) refl
   where
     go : (x : Bool) → leb 64 b ≡ x → (y : Bool) → leb 64 a ≡ y → leb 64 (bitOr a b) ≡ (x || y)
-    go true p y q = le-leb 64 (bitOr a b) (omega (arith, leb-true 64 b p, or-add-and a b, and-le-l a b))
-    go false p true q = le-leb 64 (bitOr a b) (omega (arith, leb-true 64 a q, or-add-and a b, and-le-r a b))
+    go true p y q = le-leb 64 (bitOr a b) (omega (arith, leb-true 64 b p, right-le a b))
+    go false p true q = le-leb 64 (bitOr a b) (omega (arith, leb-true 64 a q, left-le a b))
     go false p false q = lt-leb 64 (bitOr a b) (or-lt 6 a b (leb-false 64 a q) (leb-false 64 b p))
 
-pub union-offends : (n : ℕ) (f : ℕ → ℕ) → offends (union n f) ≡ some-below (λ i. offends (f i)) n
-unfolding union some-below
+union-offends : (n : ℕ) (f : ℕ → ℕ) → offends (union n f) ≡ someBelow (λ i. offends (f i)) n
+unfolding union someBelow
 union-offends zero f = refl
 union-offends (suc n) f = or-offends (union n f) (f n) ∙ ap (λ b. offends (f n) || b) (union-offends n f)
 
@@ -48,9 +44,9 @@ module _ (sets : List ℕ) (n : ℕ) where
   unfolding brokenBit
   bit-closed openings p e = rw e
 
-  module _ (openings p : ℕ) (m : ℕ) (e : m ≡ union n (λ i. getD sets (p * 81 + i) 0)) where
-    offended : some-below (λ i. offends (getD sets (p * 81 + i) 0)) n ≡ offends m
-    offended = sym (union-offends n (λ i. getD sets (p * 81 + i) 0)) ∙ ap (λ (k : ℕ). offends k) (sym e)
+  module _ (openings p : ℕ) (m : ℕ) (e : m ≡ union n (λ i. getD sets (p * instances + i) 0)) where
+    offended : someBelow (λ i. offends (getD sets (p * instances + i) 0)) n ≡ offends m
+    offended = sym (union-offends n (λ i. getD sets (p * instances + i) 0)) ∙ ap (λ (k : ℕ). offends k) (sym e)
 
     pub bit-respected : 0 < openings → m < 64 → brokenBit sets n openings p ≡ 0
     unfolding brokenBit

@@ -4,8 +4,9 @@ use mathlib.Core.Bool.{Bool, true, false, not, _&&_, _||_, cond}
 use mathlib.Core.List.{List, [], _∷_}
 use lib.Dec.{eqb, leb, ltb}
 use lib.ListN.{take}
-use Rattle.usage.specs.Limits.{statics, resources}
+use Rattle.usage.specs.Limits.{statics, resources, mostCreated}
 use Rattle.usage.specs.Tests.{every}
+use Rattle.monitor_sets.specs.Instances.{unseen, firstCreated}
 
 unfoldable pub listed : ℕ → List ℕ → Bool
 listed x [] = false
@@ -19,15 +20,15 @@ distinct (y ∷ ys) = not (listed y ys) && distinct ys
 abbrev pub dynamic : ℕ → Bool
 dynamic y = leb statics y && ltb y resources
 
--- the place of x among the created resources, from n on; 16 where it is none of them
+-- the place of x among the created resources, from n on; that of the unseen ones where it is none of them
 unfoldable pub placeFrom : ℕ → ℕ → List ℕ → ℕ
-placeFrom x n [] = 16
+placeFrom x n [] = unseen
 placeFrom x n (y ∷ ys) = cond (eqb y x) n (placeFrom x (suc n) ys)
 
 -- a state whose created resources are these is sound
 unfoldable pub createdOk : ℕ → List ℕ → Bool
-createdOk count created = leb count 64 && (every dynamic (take count created) && distinct (take count created))
+createdOk count created = leb count mostCreated && (every dynamic (take count created) && distinct (take count created))
 
 -- the place of x's instance, where these are created
 unfoldable pub placeIn : ℕ → List ℕ → ℕ
-placeIn x live = cond (ltb x 16) x (placeFrom x 17 live)
+placeIn x live = cond (ltb x statics) x (placeFrom x firstCreated live)

@@ -1,3 +1,4 @@
+pub mod Instances
 pub mod Created
 pub mod Sets
 pub mod Code

@@ -1,4 +1,4 @@
--- How the sets of states change.
+-- How the sets of states change. Place k is that of instance k % instances of policy k / instances.
 use Prim.Native.Nat.{ℕ, _+_, _*_, _/_, _%_}
 use mathlib.Core.Bool.{cond}
 use mathlib.Core.List.{List}
@@ -6,12 +6,15 @@ use lib.Dec.{eqb, ltb}
 use lib.ListN.{getD}
 use Rattle.usage.specs.declared.Edge.{Edge}
 use Rattle.usage.specs.Tables.{from}
+use Rattle.monitor_sets.specs.Instances.{unseen, instances, setPlaces}
 use Rattle.automaton.specs.Move.{moveMask}
 
 -- "Before a resource is created, its instance has moved as one that never occurs."
 unfoldable pub copied : List ℕ → ℕ → List ℕ
-copied sets i = from (λ k. cond (eqb (k % 81) i) (getD sets (k / 81 * 81 + 16) 0) (getD sets k 0)) 0 648
+copied sets i = from (λ k. cond (eqb (k % instances) i) (getD sets (k / instances * instances + unseen) 0) (getD sets k 0)) 0 setPlaces
 
 -- the instances in use move on the event a(r), instance `own` as that of r; the other places keep their contents
 unfoldable pub movedSets : List Edge → ℕ → ℕ → ℕ → ℕ → List ℕ → List ℕ
-movedSets es a r own n sets = from (λ k. cond (ltb (k % 81) n) (moveMask es (k / 81) a r (eqb (k % 81) own) (getD sets k 0)) (getD sets k 0)) 0 648
+movedSets es a r own n sets =
+    from (λ k. cond (ltb (k % instances) n) (moveMask es (k / instances) a r (eqb (k % instances) own) (getD sets k 0))
+    (getD sets k 0)) 0 setPlaces

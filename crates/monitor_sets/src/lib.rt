@@ -1,3 +1,19 @@
 // What the judge keeps of the past, array by array: the created resources, and the sets of states of the instances.
+use usage::MOST_CREATED;
+use usage::POLICIES;
+use usage::STATICS;
+
 pub mod created;
 pub mod instances;
+
+// The instance of every resource that never occurred; those below are the static resources'.
+pub const UNSEEN: usize = STATICS as usize;
+
+// The instance of the first created resource; the others' follow.
+pub const FIRST_CREATED: usize = UNSEEN + 1;
+
+// The instances of a policy.
+pub const INSTANCES: usize = FIRST_CREATED + MOST_CREATED;
+
+// The places of the table of sets: instance i of policy p has its set at p * INSTANCES + i.
+pub const SETS: usize = POLICIES * INSTANCES;

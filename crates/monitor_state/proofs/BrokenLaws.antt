@@ -13,14 +13,20 @@ use Rattle.usage.specs.Limits.{policies}
 use Rattle.usage.specs.Policy.{Offending}
 use Rattle.usage.specs.Past.{Past, Broken, Open, Violates}
 use Rattle.usage.proofs.Logic.{not-both, or-left, or-right, or-cases, and-left, and-right, and-both}
-use Rattle.automaton.specs.Mask.{has, offends, lowest}
+use Rattle.automaton.specs.Mask.{has, offends, lowestIn}
 use Rattle.automaton.proofs.MaskLaws.{some-at, some-found, has-zero, has-offending, maskOf-has, maskOf-lt, lowest-is}
 use Rattle.automaton.proofs.MoveLaws.{Ends}
+use Rattle.monitor_sets.specs.Instances.{instances}
 use Rattle.monitor_state.specs.declared.State.{State}
 use Rattle.monitor_state.specs.Judge.{placeOf, used, setAt, offended, broken}
 use Rattle.monitor_state.specs.Represents.{Represents}
 use Rattle.monitor_state.proofs.Places.{StateOk, state-parts, place-lt, owner}
 use Rattle.monitor_state.proofs.StartLaws.{may-lt}
+
+-- the set of broken policies is a byte, from every state at all
+pub broken-lt : (s : State) → broken s < 256
+unfolding broken
+broken-lt s = maskOf-lt (λ p. ltb 0 (getD (s .unclosed) p 0) && offended s p)
 
 module _ (es : List Edge) (past : Past) (h : Bool) (s : State) (R : Represents es past h s) where
   w : StateOk s
@@ -33,7 +39,7 @@ module _ (es : List Edge) (past : Past) (h : Bool) (s : State) (R : Represents e
       let x = owner s (R .created-length) w (f .0) (f .1) in
       let m : ℕ = setAt s p (placeOf s (x .0)) in
       go (x .0) (or-cases (has m 6) (has m 7)
-      (sym (has-offending m (R .bytes (p * 81 + placeOf s (x .0)))) ∙ ap (λ (i : ℕ). offends (setAt s p i)) (x .1) ∙ f .2))
+      (sym (has-offending m (R .bytes (p * instances + placeOf s (x .0)))) ∙ ap (λ (i : ℕ). offends (setAt s p i)) (x .1) ∙ f .2))
     where
       go : (x : ℕ) → (has (setAt s p (placeOf s x)) 6 ≡ true) ⊎ (has (setAt s p (placeOf s x)) 7 ≡ true) → Broken false es p past
       go x (inl e) = (x, 6, R .tracks x p 6 k (lit< tt) .0 e, inl refl)
@@ -42,8 +48,8 @@ module _ (es : List Edge) (past : Past) (h : Bool) (s : State) (R : Represents e
   broken-offended : Ends es → (p : ℕ) → p < policies → Broken false es p past → offended s p ≡ true
   unfolding offended
   broken-offended v p k b =
-      some-at (used s) (λ i. offends (setAt s p i)) (placeOf s x) (place-lt s (R .created-length) w x)
-      (has-offending m (R .bytes (p * 81 + placeOf s x)) ∙ go (b .3))
+      some-at (used s) (λ i. offends (setAt s p i)) (placeOf s x) (place-lt s x)
+      (has-offending m (R .bytes (p * instances + placeOf s x)) ∙ go (b .3))
     where
       x : ℕ
       x = b .0
@@ -72,7 +78,8 @@ module _ (es : List Edge) (past : Past) (h : Bool) (s : State) (R : Represents e
       go : (b : Bool) → ltb p policies ≡ b → p < policies
       go true e = ltb-true p policies e
       go false e =
-          let z : getD (s .unclosed) p 0 ≡ 0 = List·getD-eq-default (s .unclosed) 0 (subst (λ (n : ℕ). n ≤ p) (sym (R .unclosed-length)) (ltb-false p policies e)) in
+          let z : getD (s .unclosed) p 0 ≡ 0 =
+          List·getD-eq-default (s .unclosed) 0 (subst (λ (n : ℕ). n ≤ p) (sym (R .unclosed-length)) (ltb-false p policies e)) in
           absurd (omega (arith, open-count-pos p o, z))
 
   violates-has : Ends es → (p : ℕ) → Violates false es p past → has (broken s) p ≡ true
@@ -80,19 +87,17 @@ module _ (es : List Edge) (past : Past) (h : Bool) (s : State) (R : Represents e
   violates-has v p b =
       let l : p < policies = open-lt p (b .0) in
       maskOf-has (λ p. ltb 0 (getD (s .unclosed) p 0) && offended s p) p l
-      ∙ and-both (ltb 0 (getD (s .unclosed) p 0)) (offended s p) (lt-ltb 0 (getD (s .unclosed) p 0) (open-count-pos p (b .0))) (broken-offended v p l (b .1))
+      ∙ and-both (ltb 0 (getD (s .unclosed) p 0)) (offended s p) (lt-ltb 0 (getD (s .unclosed) p 0) (open-count-pos p (b .0)))
+      (broken-offended v p l (b .1))
 
   has-violates : (p : ℕ) → p < policies → has (broken s) p ≡ true → Violates false es p past
   unfolding broken
   has-violates p l e =
-      let t : (ltb 0 (getD (s .unclosed) p 0) && offended s p) ≡ true = sym (maskOf-has (λ p. ltb 0 (getD (s .unclosed) p 0) && offended s p) p l) ∙ e in (
+      let t : (ltb 0 (getD (s .unclosed) p 0) && offended s p) ≡ true =
+      sym (maskOf-has (λ p. ltb 0 (getD (s .unclosed) p 0) && offended s p) p l) ∙ e in (
         count-pos-open p (ltb-true 0 (getD (s .unclosed) p 0) (and-left (ltb 0 (getD (s .unclosed) p 0)) (offended s p) t)),
         offended-broken p l (and-right (ltb 0 (getD (s .unclosed) p 0)) (offended s p) t),
       )
-
-  broken-lt : broken s < 256
-  unfolding broken
-  broken-lt = maskOf-lt (λ p. ltb 0 (getD (s .unclosed) p 0) && offended s p)
 
   -- where the set is empty every open policy is respected
   pub none-violated : Ends es → eqb (broken s) 0 ≡ true → (p : ℕ) → Violates false es p past → ⊥
@@ -100,13 +105,13 @@ module _ (es : List Edge) (past : Past) (h : Bool) (s : State) (R : Represents e
 
   -- else its lowest number is the lowest open policy that is not respected
   pub record First : Type 0 where
-    pub is : Violates false es (lowest (broken s)) past
-    pub least : (q : ℕ) → q < lowest (broken s) → Violates false es q past → ⊥
+    pub is : Violates false es (lowestIn (broken s)) past
+    pub least : (q : ℕ) → q < lowestIn (broken s) → Violates false es q past → ⊥
 
   pub first-violated : Ends es → eqb (broken s) 0 ≡ false → First
   first-violated v e =
-      let l = lowest-is (broken s) broken-lt e in
+      let l = lowest-is (broken s) (broken-lt s) e in
       record {
-        is = has-violates (lowest (broken s)) (l .below-8) (l .inside);
+        is = has-violates (lowestIn (broken s)) (l .below-8) (l .inside);
         least = λ q k b. not-both (has (broken s) q) (violates-has v q b) (l .no-lower q k);
       }

@@ -1,4 +1,4 @@
--- That the judge's definition answers as the whole past says.
+-- That the judge's definition answers as the whole past says, and the laws of reading a step.
 pub mod ListLaws
 pub mod Places
 pub mod StartLaws
@@ -7,5 +7,5 @@ pub mod Preserve
 pub mod BrokenLaws
 pub mod Refusals
 pub mod Verdict
--- The laws of reading a step.
+pub mod KeptLaws
 pub mod StepLaws

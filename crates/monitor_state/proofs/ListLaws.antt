@@ -9,6 +9,7 @@ use native.Mathlib.Omega.{arith}
 use lib.Dec.{eqb}
 use lib.ListN.{length, getD}
 use borrow.Author.Tests.{eq-eqb, ne-eqb, eqb-true, eqb-false}
+use Rattle.monitor_sets.specs.Instances.{unseen}
 use Rattle.usage.specs.Tests.{every}
 use Rattle.usage.proofs.Logic.{false-true, not-both, or-left, or-right, or-cases, and-left, and-right, and-both}
 use Rattle.monitor_state.specs.Judge.{listed, distinct, placeFrom}
@@ -31,13 +32,16 @@ listed-snoc x r (y ∷ l) = ap (λ (b : Bool). eqb y x || b) (listed-snoc x r l)
 pub every-snoc : (test : ℕ → Bool) (r : ℕ) (l : List ℕ) → every test l ≡ true → test r ≡ true → every test (l ++ (r ∷ [])) ≡ true
 unfolding every
 every-snoc test r [] h t = and-both (test r) true t refl
-every-snoc test r (y ∷ l) h t = and-both (test y) (every test (l ++ (r ∷ []))) (and-left (test y) (every test l) h) (every-snoc test r l (and-right (test y) (every test l) h) t)
+every-snoc test r (y ∷ l) h t =
+    and-both (test y) (every test (l ++ (r ∷ []))) (and-left (test y) (every test l) h)
+    (every-snoc test r l (and-right (test y) (every test l) h) t)
 
 pub distinct-snoc : (r : ℕ) (l : List ℕ) → distinct l ≡ true → listed r l ≡ false → distinct (l ++ (r ∷ [])) ≡ true
 unfolding distinct listed
 distinct-snoc r [] h n = refl
 distinct-snoc r (y ∷ l) h n =
-    and-both (not (listed y (l ++ (r ∷ [])))) (distinct (l ++ (r ∷ []))) (ap not (listed-snoc y r l ∙ other (listed y l) (eqb r y) (and-left (not (listed y l)) (distinct l) h) apart))
+    and-both (not (listed y (l ++ (r ∷ [])))) (distinct (l ++ (r ∷ [])))
+    (ap not (listed-snoc y r l ∙ other (listed y l) (eqb r y) (and-left (not (listed y l)) (distinct l) h) apart))
     (distinct-snoc r l (and-right (not (listed y l)) (distinct l) h) (rest (eqb y r) (listed r l) n))
   where
     rest : (a b : Bool) → (a || b) ≡ false → b ≡ false
@@ -74,12 +78,13 @@ listed-at (y ∷ l) (suc i) h = or-right (eqb y (getD l i 0)) (listed (getD l i 
 
 -- ── Places ──
 
-pub place-absent : (x n : ℕ) (l : List ℕ) → listed x l ≡ false → placeFrom x n l ≡ 16
+pub place-absent : (x n : ℕ) (l : List ℕ) → listed x l ≡ false → placeFrom x n l ≡ unseen
 unfolding placeFrom listed
 place-absent x n [] h = refl
 place-absent x n (y ∷ l) h = go (eqb y x) h (place-absent x (suc n) l)
   where
-    go : (b : Bool) → (b || listed x l) ≡ false → (listed x l ≡ false → placeFrom x (suc n) l ≡ 16) → cond b n (placeFrom x (suc n) l) ≡ 16
+    go : (b : Bool) → (b || listed x l) ≡ false → (listed x l ≡ false → placeFrom x (suc n) l ≡ unseen)
+        → cond b n (placeFrom x (suc n) l) ≡ unseen
     go true h ih = false-true (sym h)
     go false h ih = ih h
 
@@ -96,7 +101,14 @@ place-present x n [] h = false-true h
 place-present x n (y ∷ l) h = go (eqb y x) refl h (place-present x (suc n) l)
   where
     go : (b : Bool) → eqb y x ≡ b → (b || listed x l) ≡ true → (listed x l ≡ true → Place x (suc n) l) → Place x n (y ∷ l)
-    go true e h ih = record { index = 0; inside = omega arith; has = eqb-true y x e; place = ap (λ (b : Bool). cond b n (placeFrom x (suc n) l)) e ∙ sym (add-zero n) }
+    go true e h ih =
+        record {
+          index = 0;
+          inside = omega arith;
+          has = eqb-true y x e;
+          place = ap (λ (b : Bool). cond b n (placeFrom x (suc n) l)) e
+              ∙ sym (add-zero n);
+        }
     go false e h ih =
         let r = ih h in
         record {
@@ -108,12 +120,12 @@ place-present x n (y ∷ l) h = go (eqb y x) refl h (place-present x (suc n) l)
 
 pub place-other : (x r n : ℕ) (l : List ℕ) → eqb r x ≡ false → placeFrom x n (l ++ (r ∷ [])) ≡ placeFrom x n l
 unfolding placeFrom
-place-other x r n [] h = ap (λ (b : Bool). cond b n 16) h
+place-other x r n [] h = ap (λ (b : Bool). cond b n unseen) h
 place-other x r n (y ∷ l) h = ap (λ (m : ℕ). cond (eqb y x) n m) (place-other x r (suc n) l h)
 
 pub place-new : (r n : ℕ) (l : List ℕ) → listed r l ≡ false → placeFrom r n (l ++ (r ∷ [])) ≡ n + length l
 unfolding placeFrom listed
-place-new r n [] h = ap (λ (b : Bool). cond b n 16) (eq-eqb r r refl) ∙ sym (add-zero n)
+place-new r n [] h = ap (λ (b : Bool). cond b n unseen) (eq-eqb r r refl) ∙ sym (add-zero n)
 place-new r n (y ∷ l) h = go (eqb y r) h (place-new r (suc n) l)
   where
     go : (b : Bool) → (b || listed r l) ≡ false → (listed r l ≡ false → placeFrom r (suc n) (l ++ (r ∷ [])) ≡ suc n + length l)
@@ -131,4 +143,6 @@ place-of (y ∷ l) n (suc i) d h =
     ∙ place-of l (suc n) i (and-right (not (listed y l)) (distinct l) d) (le-of-suc-le-suc h) ∙ suc-add n i ∙ sym (add-suc n i)
   where
     apart : y ≡ getD l i 0 → ⊥
-    apart e = not-both (not (listed y l)) (and-left (not (listed y l)) (distinct l) d) (ap not (ap (λ (x : ℕ). listed x l) e ∙ listed-at l i (le-of-suc-le-suc h)))
+    apart e =
+        not-both (not (listed y l)) (and-left (not (listed y l)) (distinct l) d)
+        (ap not (ap (λ (x : ℕ). listed x l) e ∙ listed-at l i (le-of-suc-le-suc h)))

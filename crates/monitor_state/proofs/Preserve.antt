@@ -11,54 +11,35 @@ use lib.ListN.{getD, set, length-set}
 use lib.Seq.{getD-set-same, getD-set-other}
 use borrow.Author.Tests.{eq-eqb, ne-eqb, eqb-true, eqb-false}
 use Rattle.usage.specs.declared.Edge.{Edge}
-use Rattle.usage.specs.Limits.{statics, resources, policies, most-created}
+use Rattle.usage.specs.Limits.{statics, resources, policies, mostCreated}
 use Rattle.usage.specs.Policy.{Sees}
-use Rattle.usage.specs.Past.{Step, event, opening, closing, Past, May, opened, closed, add-if, count, creates, openings, closings, Created}
+use Rattle.usage.specs.Past.{Step, event, opening, closing, Past, May, opened, closed, addIf, count, creates, openings, closings, Created}
+use Rattle.usage.proofs.PastLaws.{before-opening, before-closing, member-event}
 use Rattle.usage.proofs.JudgeLaws.{Fits}
 use Rattle.usage.proofs.Logic.{clash, by-cases, or-left, or-right, or-cases}
 use Rattle.automaton.proofs.MoveLaws.{Ends}
+use Rattle.monitor_sets.specs.Instances.{setPlaces}
 use Rattle.monitor_state.specs.declared.State.{State}
-use Rattle.monitor_state.specs.Judge.{live, listed, stateOk, placeOf, createdIn, movedSets, movedBy, withUnclosed, after}
+use Rattle.monitor_state.specs.Judge.{live, listed, stateOk, placeOf, createdIn, movedSets, movedIn, withUnclosed, after}
 use Rattle.monitor_state.specs.Represents.{Represents}
 use Rattle.usage.proofs.TableLaws.{length-from}
 use Rattle.monitor_state.proofs.Places.{known, StateOk, state-parts, parts-state}
-use Rattle.monitor_state.proofs.StartLaws.{may-opening, may-closing}
-use Rattle.monitor_state.proofs.Tracking.{moved-tracks, created-tracks, created-listed, created-known, created-ok, moved-bytes, created-bytes}
+use Rattle.monitor_state.proofs.Tracking.{moved-tracks, created-tracks, created-listed, created-known, created-ok, moved-bytes}
+use Rattle.monitor_state.proofs.Tracking.{created-bytes}
 
 -- ── What was created ──
 
--- what is created with a further step is created by it or was before
-created-cons : {x : ℕ} {step : Step} {past : Past} → Created x (step ∷ past) → (event 0 x ≡ step) ⊎ Created x past
-created-cons m = List·Memᴰ·cases-cons m
-
 created-event : {x r : ℕ} {past : Past} → Created x (event 0 r ∷ past) → (r ≡ x) ⊎ Created x past
-created-event {x} {r} {past} m = by-cases (created-cons m) (λ e. inl (same e)) (λ m. inr m)
-  where
-    same : event 0 x ≡ event 0 r → r ≡ x
-    same e = cc
+created-event m = by-cases (member-event m) (λ e. inl (sym (e .1))) inr
 
-created-other : {x a r : ℕ} {past : Past} → Created x (event (suc a) r ∷ past) → Created x past
-created-other {x} {a} {r} m = by-cases (created-cons m) none-such (λ m. m)
-  where
-    none-such : {A : Type 0} → event 0 x ≡ event (suc a) r → A
-    none-such e = let z : 0 ≡ suc a = cc in absurd (omega arith)
-
-created-opening : {x p : ℕ} {past : Past} → Created x (opening p ∷ past) → Created x past
-created-opening {x} {p} m = by-cases (created-cons m) none-such (λ m. m)
-  where
-    none-such : {A : Type 0} → event 0 x ≡ opening p → A
-    none-such e = clash (cc)
-
-created-closing : {x p : ℕ} {past : Past} → Created x (closing p ∷ past) → Created x past
-created-closing {x} {p} m = by-cases (created-cons m) none-such (λ m. m)
-  where
-    none-such : {A : Type 0} → event 0 x ≡ closing p → A
-    none-such e = clash (cc)
+-- a step that does not create x
+created-before : {x : ℕ} {step : Step} {past : Past} → (event 0 x ≡ step → ⊥) → Created x (step ∷ past) → Created x past
+created-before n m = by-cases (List·Memᴰ·cases-cons m) (λ e. absurd (n e)) (λ m. m)
 
 -- ── What a step must meet to be taken ──
 
 abbrev pub Ready : State → Step → Type 0
-Ready s (event zero r) = (statics ≤ r) × (listed r (live s) ≡ false) × (s .count < most-created)
+Ready s (event zero r) = (statics ≤ r) × (listed r (live s) ≡ false) × (s .count < mostCreated)
 Ready s (event (suc a) r) = known s r ≡ true
 Ready s (opening p) = Unit {0}
 Ready s (closing p) = 0 < getD (s .unclosed) p 0
@@ -67,20 +48,23 @@ module _ (es : List Edge) (v : Ends es) (past : Past) (h : Bool) (s : State) (R 
   w : StateOk s
   w = state-parts s (R .well)
 
-  event-represents : (a r : ℕ) → known s r ≡ true → Represents es (event (suc a) r ∷ past) h (movedBy es (suc a) r s)
-  unfolding movedBy movedSets count stateOk
+  event-represents : (a r : ℕ) → known s r ≡ true → Represents es (event (suc a) r ∷ past) h (movedIn es (suc a) r s)
+  unfolding movedIn movedSets count stateOk
   event-represents a r k = record {
     halted = R .halted;
     well = R .well;
     tracks = moved-tracks es v s (R .created-length) w past (suc a) r (R .tracks) k;
-    made = λ x. (λ e. List·Memᴰ·tail (R .made x .0 e), λ m. R .made x .1 (created-other m));
-    number = R .number ∙ sym (ap (λ (b : Bool). add-if b (creates past)) (ne-eqb (suc a) 0 (λ e. omega arith)));
+    made = λ x. (λ e. List·Memᴰ·tail (R .made x .0 e), λ m. R .made x .1 (created-before (λ e. not-create e) m));
+    number = R .number ∙ sym (ap (λ (b : Bool). addIf b (creates past)) (ne-eqb (suc a) 0 (λ e. omega arith)));
     open-count = R .open-count;
-    sets-length = length-from _ 0 648;
+    sets-length = length-from _ 0 setPlaces;
     created-length = R .created-length;
     unclosed-length = R .unclosed-length;
     bytes = moved-bytes es (suc a) r s (R .bytes);
   }
+    where
+      not-create : {x : ℕ} → event 0 x ≡ event (suc a) r → ⊥
+      not-create e = let z : 0 ≡ suc a = cc in omega arith
 
   module _ (r : ℕ) (c : Ready s (event 0 r)) (f : r < resources) where
     create-made : (x : ℕ) → (listed x (live (createdIn s r)) ≡ true) ↔ Created x (event 0 r ∷ past)
@@ -97,17 +81,18 @@ module _ (es : List Edge) (v : Ends es) (past : Past) (h : Bool) (s : State) (R 
         back (inl e) = or-right (listed x (live s)) (eqb r x) (eq-eqb r x e)
         back (inr m) = or-left (listed x (live s)) (eqb r x) (R .made x .1 m)
 
-    create-represents : Represents es (event 0 r ∷ past) h (movedBy es 0 r (createdIn s r))
-    unfolding movedBy movedSets createdIn count stateOk
+    create-represents : Represents es (event 0 r ∷ past) h (movedIn es 0 r (createdIn s r))
+    unfolding movedIn movedSets createdIn count stateOk
     create-represents = record {
       halted = R .halted;
       well = parts-state t u;
       tracks = moved-tracks es v t (length-set (s .created) (s .count) r ∙ R .created-length) u past 0 r
-          (created-tracks s (R .created-length) w r (c .2) (c .1) (c .0) es past (R .tracks)) (created-known s (R .created-length) w r (c .2) (c .1) (c .0));
+          (created-tracks s (R .created-length) w r (c .2) (c .1) (c .0) es past (R .tracks))
+          (created-known s (R .created-length) w r (c .2) (c .1) (c .0));
       made = create-made;
       number = add-one (s .count) ∙ ap suc (R .number);
       open-count = R .open-count;
-      sets-length = length-from _ 0 648;
+      sets-length = length-from _ 0 setPlaces;
       created-length = length-set (s .created) (s .count) r ∙ R .created-length;
       unclosed-length = R .unclosed-length;
       bytes = moved-bytes es 0 r t (created-bytes s r (R .bytes));
@@ -120,7 +105,8 @@ module _ (es : List Edge) (v : Ends es) (past : Past) (h : Bool) (s : State) (R 
         u = created-ok s (R .created-length) w r (c .2) (c .1) (c .0) f
 
   -- an opening or closing changes one count alone
-  unclosed-represents : (p n : ℕ) (step : Step) → p < policies → ((x p q : ℕ) → May false es p (Sees x) past q ↔ May false es p (Sees x) (step ∷ past) q)
+  unclosed-represents : (p n : ℕ) (step : Step) → p < policies
+      → ((x p q : ℕ) → May false es p (Sees x) past q ↔ May false es p (Sees x) (step ∷ past) q)
       → ((x : ℕ) → Created x past ↔ Created x (step ∷ past)) → creates (step ∷ past) ≡ creates past
       → closings p (step ∷ past) + n ≡ openings p (step ∷ past)
       → ((p′ : ℕ) → (p ≡ p′ → ⊥) → (closings p′ (step ∷ past) ≡ closings p′ past) × (openings p′ (step ∷ past) ≡ openings p′ past))
@@ -142,29 +128,32 @@ module _ (es : List Edge) (v : Ends es) (past : Past) (h : Bool) (s : State) (R 
       at : (p′ : ℕ) (b : Bool) → eqb p p′ ≡ b → closings p′ (step ∷ past) + getD (set (s .unclosed) p n) p′ 0 ≡ openings p′ (step ∷ past)
       at p′ true e =
           subst (λ (k : ℕ). closings k (step ∷ past) + getD (set (s .unclosed) p n) k 0 ≡ openings k (step ∷ past)) (eqb-true p p′ e)
-          (ap (λ (k : ℕ). closings p (step ∷ past) + k) (getD-set-same (s .unclosed) p n 0 (subst (λ (k : ℕ). p < k) (sym (R .unclosed-length)) l)) ∙ own)
+          (ap (λ (k : ℕ). closings p (step ∷ past) + k)
+          (getD-set-same (s .unclosed) p n 0 (subst (λ (k : ℕ). p < k) (sym (R .unclosed-length)) l)) ∙ own)
       at p′ false e =
           let o = other p′ (eqb-false p p′ e) in
-          ap₂ (λ (c k : ℕ). c + k) (o .0) (getD-set-other (s .unclosed) p p′ n 0 (λ q. eqb-false p p′ e (sym q))) ∙ R .open-count p′ ∙ sym (o .1)
+          ap₂ (λ (c k : ℕ). c + k) (o .0) (getD-set-other (s .unclosed) p p′ n 0 (λ q. eqb-false p p′ e (sym q))) ∙ R .open-count p′
+          ∙ sym (o .1)
 
   opening-represents : (p : ℕ) → p < policies → Represents es (opening p ∷ past) h (withUnclosed s p (getD (s .unclosed) p 0 + 1))
   unfolding count
   opening-represents p l =
-      unclosed-represents p (getD (s .unclosed) p 0 + 1) (opening p) l (λ x p q. (λ m. opened m, λ m. may-opening m))
-      (λ x. (λ m. List·Memᴰ·tail m, λ m. created-opening m)) refl
-      (own ∙ sym (ap (λ (b : Bool). add-if b (openings p past)) (eq-eqb p p refl)))
-      (λ p′ h. (refl, ap (λ (b : Bool). add-if b (openings p′ past)) (ne-eqb p p′ h)))
+      unclosed-represents p (getD (s .unclosed) p 0 + 1) (opening p) l (λ x p q. (λ m. opened m, λ m. let (q₀, m₀, f) = before-opening m in subst (May false es p (Sees x) past) f m₀))
+      (λ x. (λ m. List·Memᴰ·tail m, λ m. created-before (λ e. clash (cc)) m)) refl
+      (own ∙ sym (ap (λ (b : Bool). addIf b (openings p past)) (eq-eqb p p refl)))
+      (λ p′ h. (refl, ap (λ (b : Bool). addIf b (openings p′ past)) (ne-eqb p p′ h)))
     where
       own : closings p past + (getD (s .unclosed) p 0 + 1) ≡ suc (openings p past)
       own = omega (arith, R .open-count p)
 
-  closing-represents : (p : ℕ) → p < policies → 0 < getD (s .unclosed) p 0 → Represents es (closing p ∷ past) h (withUnclosed s p (getD (s .unclosed) p 0 - 1))
+  closing-represents : (p : ℕ) → p < policies → 0 < getD (s .unclosed) p 0
+      → Represents es (closing p ∷ past) h (withUnclosed s p (getD (s .unclosed) p 0 - 1))
   unfolding count
   closing-represents p l o =
-      unclosed-represents p (getD (s .unclosed) p 0 - 1) (closing p) l (λ x p q. (λ m. closed m, λ m. may-closing m))
-      (λ x. (λ m. List·Memᴰ·tail m, λ m. created-closing m)) refl
-      (ap (λ (b : Bool). add-if b (closings p past) + (getD (s .unclosed) p 0 - 1)) (eq-eqb p p refl) ∙ own)
-      (λ p′ h. (ap (λ (b : Bool). add-if b (closings p′ past)) (ne-eqb p p′ h), refl))
+      unclosed-represents p (getD (s .unclosed) p 0 - 1) (closing p) l (λ x p q. (λ m. closed m, λ m. before-closing m))
+      (λ x. (λ m. List·Memᴰ·tail m, λ m. created-before (λ e. clash (cc)) m)) refl
+      (ap (λ (b : Bool). addIf b (closings p past) + (getD (s .unclosed) p 0 - 1)) (eq-eqb p p refl) ∙ own)
+      (λ p′ h. (ap (λ (b : Bool). addIf b (closings p′ past)) (ne-eqb p p′ h), refl))
     where
       own : suc (closings p past) + (getD (s .unclosed) p 0 - 1) ≡ openings p past
       own = omega (arith, R .open-count p)

@@ -3,7 +3,7 @@ use Prim.Native.Nat.{ℕ, zero, suc, _+_, _<_, _≤_}
 use mathlib.Core.Path.{_≡_, refl, subst}
 use mathlib.Core.Bool.{Bool, true, false, _||_, cond}
 use mathlib.Core.List.{List}
-use mathlib.Core.Logic.{inl, inr}
+use mathlib.Core.Logic.{_⊎_, inl, inr}
 use mathlib.Core.Option.{Option, none, some}
 use native.Mathlib.Omega.{arith}
 use lib.Dec.{leb, ltb}
@@ -11,10 +11,11 @@ use lib.ListN.{getD}
 use borrow.Author.Tests.{ltb-true, ltb-false, leb-true, leb-false}
 use Rattle.usage.specs.declared.Edge.{Edge}
 use Rattle.usage.specs.declared.RawStep.{RawStep}
-use Rattle.usage.specs.Limits.{statics, most-created, most-open}
+use Rattle.usage.specs.Limits.{statics, mostCreated, mostOpen}
 use Rattle.usage.specs.Past.{Step, event, opening, closing, Past, Created, openings, closings}
-use Rattle.usage.specs.Judge.{stepOf, Case, is-halted, no-step, creates-static, creates-again, not-created, not-open, too-many, too-deep, Refuses, Taken}
-use Rattle.usage.proofs.Logic.{false-true, not-both, or-left, or-right}
+use Rattle.usage.specs.Judge.{stepOf, Case, is-halted, no-step, creates-static, creates-again, not-created, not-open, too-many, too-deep}
+use Rattle.usage.specs.Judge.{Refuses, Taken}
+use Rattle.usage.proofs.Logic.{by-cases, false-true, not-both, or-left, or-right}
 use Rattle.usage.proofs.JudgeLaws.{CaseOf, case-of}
 use Rattle.monitor_state.specs.declared.State.{State}
 use Rattle.monitor_state.specs.Judge.{live, listed, refusal}
@@ -24,31 +25,24 @@ use Rattle.monitor_state.proofs.BrokenLaws.{open-count-pos, count-pos-o
 
 -- ── Nothing else is asked of a step: 20 and 21 ──
 
+-- the least number is that of a halted state
+case-from : {past : Past} {h : Bool} {raw : RawStep} {n : ℕ} → Case past h raw n → ((h ≡ true) × (n ≡ 20)) ⊎ (21 ≤ n)
+case-from (is-halted e) = inl (e, refl)
+case-from (no-step e) = inr (omega arith)
+case-from (creates-static e k) = inr (omega arith)
+case-from (creates-again e k) = inr (omega arith)
+case-from (not-created e k n) = inr (omega arith)
+case-from (not-open e k) = inr (omega arith)
+case-from (too-many e k) = inr (omega arith)
+case-from (too-deep e k) = inr (omega arith)
+
 pub refuses-halted : (past : Past) (raw : RawStep) → Refuses past true raw 20
-refuses-halted past raw = record { stated = is-halted refl; first = λ m l c. low m l c }
-  where
-    low : (m : ℕ) → m < 20 → Case past true raw m → ⊥
-    low _ l (is-halted e) = omega arith
-    low _ l (no-step e) = omega arith
-    low _ l (creates-static e k) = omega arith
-    low _ l (creates-again e k) = omega arith
-    low _ l (not-created e k n) = omega arith
-    low _ l (not-open e k) = omega arith
-    low _ l (too-many e k) = omega arith
-    low _ l (too-deep e k) = omega arith
+refuses-halted past raw =
+    record { stated = is-halted refl; first = λ m l c. by-cases (case-from c) (λ k. omega (arith, k .1)) (λ k. omega arith) }
 
 pub refuses-unread : (past : Past) (raw : RawStep) → stepOf raw ≡ none → Refuses past false raw 21
-refuses-unread past raw none-read = record { stated = no-step none-read; first = λ m l c. low m l c }
-  where
-    low : (m : ℕ) → m < 21 → Case past false raw m → ⊥
-    low _ l (is-halted e) = false-true e
-    low _ l (no-step e) = omega arith
-    low _ l (creates-static e k) = omega arith
-    low _ l (creates-again e k) = omega arith
-    low _ l (not-created e k n) = omega arith
-    low _ l (not-open e k) = omega arith
-    low _ l (too-many e k) = omega arith
-    low _ l (too-deep e k) = omega arith
+refuses-unread past raw none-read =
+    record { stated = no-step none-read; first = λ m l c. by-cases (case-from c) (λ k. false-true (k .0)) (λ k. omega arith) }
 
 -- ── A step that was read ──
 
@@ -62,14 +56,17 @@ module _ (es : List Edge) (past : Past) (h : Bool) (s : State) (R : Represents e
   absent r e m = not-both (listed r (live s)) (R .made r .1 m) e
 
   settled-create : (r : ℕ) → stepOf raw ≡ some (event 0 r) → (b : Bool) → ltb r statics ≡ b → (c : Bool) → listed r (live s) ≡ c
-      → (d : Bool) → leb most-created (s .count) ≡ d → Settled past s raw (event 0 r) (cond b (some 22) (cond c (some 23) (cond d (some 30) none)))
-  settled-create r e true b c m d f = refuses (record { stated = creates-static e (ltb-true r statics b); first = λ n l k. low n l (case-of e k) })
+      → (d : Bool) → leb mostCreated (s .count) ≡ d
+      → Settled past s raw (event 0 r) (cond b (some 22) (cond c (some 23) (cond d (some 30) none)))
+  settled-create r e true b c m d f =
+      refuses (record { stated = creates-static e (ltb-true r statics b); first = λ n l k. low n l (case-of e k) })
     where
       low : (n : ℕ) → n < 22 → CaseOf past (event 0 r) n → ⊥
       low n l (inl k) = omega (arith, k .0)
       low n l (inr (inl k)) = omega (arith, k .0)
       low n l (inr (inr k)) = omega (arith, k .0)
-  settled-create r e false b true m d f = refuses (record { stated = creates-again e (R .made r .0 m); first = λ n l k. low n l (case-of e k) })
+  settled-create r e false b true m d f =
+      refuses (record { stated = creates-again e (R .made r .0 m); first = λ n l k. low n l (case-of e k) })
     where
       low : (n : ℕ) → n < 23 → CaseOf past (event 0 r) n → ⊥
       low n l (inl k) = omega (arith, k .1, ltb-false r statics b)
@@ -77,7 +74,7 @@ module _ (es : List Edge) (past : Past) (h : Bool) (s : State) (R : Represents e
       low n l (inr (inr k)) = omega (arith, k .0)
   settled-create r e false b false m true f =
       refuses (record {
-        stated = too-many e (subst (λ (k : ℕ). most-created ≤ k) (R .number) (leb-true most-created (s .count) f));
+        stated = too-many e (subst (λ (k : ℕ). mostCreated ≤ k) (R .number) (leb-true mostCreated (s .count) f));
         first = λ n l k. low n l (case-of e k);
       })
     where
@@ -85,30 +82,37 @@ module _ (es : List Edge) (past : Past) (h : Bool) (s : State) (R : Represents e
       low n l (inl k) = omega (arith, k .1, ltb-false r statics b)
       low n l (inr (inl k)) = absent r m (k .1)
       low n l (inr (inr k)) = omega (arith, k .0)
-  settled-create r e false b false m false f = takes (λ n k. none-holds n (case-of e k)) (ltb-false r statics b, m, leb-false most-created (s .count) f)
+  settled-create r e false b false m false f =
+      takes (λ n k. none-holds n (case-of e k)) (ltb-false r statics b, m, leb-false mostCreated (s .count) f)
     where
       none-holds : (n : ℕ) → CaseOf past (event 0 r) n → ⊥
       none-holds n (inl k) = omega (arith, k .1, ltb-false r statics b)
       none-holds n (inr (inl k)) = absent r m (k .1)
-      none-holds n (inr (inr k)) = omega (arith, k .1, R .number, leb-false most-created (s .count) f)
+      none-holds n (inr (inr k)) = omega (arith, k .1, R .number, leb-false mostCreated (s .count) f)
 
   settled-event : (a r : ℕ) → stepOf raw ≡ some (event (suc a) r) → (b : Bool) → ltb r statics ≡ b → (c : Bool) → listed r (live s) ≡ c
       → Settled past s raw (event (suc a) r) (cond (b || c) none (some 24))
   settled-event a r e true b c m =
-      takes (λ n k. let l : statics ≤ r = case-of e k .1 in omega (arith, ltb-true r statics b)) (or-left (ltb r statics) (listed r (live s)) b)
+      takes (λ n k. let l : statics ≤ r = case-of e k .1 in omega (arith, ltb-true r statics b))
+      (or-left (ltb r statics) (listed r (live s)) b)
   settled-event a r e false b true m = takes (λ n k. case-of e k .2 (R .made r .0 m)) (or-right (ltb r statics) (listed r (live s)) m)
   settled-event a r e false b false m =
-      refuses (record { stated = not-created e (ltb-false r statics b) (absent r m); first = λ n l k. let z : n ≡ 24 = case-of e k .0 in omega arith })
+      refuses (record {
+        stated = not-created e (ltb-false r statics b) (absent r m);
+        first = λ n l k. let z : n ≡ 24 = case-of e k .0 in
+            omega arith;
+      })
 
-  settled-opening : (p : ℕ) → stepOf raw ≡ some (opening p) → (b : Bool) → leb most-open (getD (s .unclosed) p 0) ≡ b
+  settled-opening : (p : ℕ) → stepOf raw ≡ some (opening p) → (b : Bool) → leb mostOpen (getD (s .unclosed) p 0) ≡ b
       → Settled past s raw (opening p) (cond b (some 31) none)
   settled-opening p e true b =
       refuses (record {
-        stated = too-deep e (omega (arith, leb-true most-open (getD (s .unclosed) p 0) b, R .open-count p));
+        stated = too-deep e (omega (arith, leb-true mostOpen (getD (s .unclosed) p 0) b, R .open-count p));
         first = λ n l k. let z : n ≡ 31 = case-of e k .0 in omega arith;
       })
   settled-opening p e false b =
-      takes (λ n k. let z : closings p past + most-open ≤ openings p past = case-of e k .1 in omega (arith, leb-false most-open (getD (s .unclosed) p 0) b, R .open-count p)) tt
+      takes (λ n k. let z : closings p past + mostOpen ≤ openings p past = case-of e k .1 in
+      omega (arith, leb-false mostOpen (getD (s .unclosed) p 0) b, R .open-count p)) tt
 
   settled-closing : (p : ℕ) → stepOf raw ≡ some (closing p) → (b : Bool) → ltb 0 (getD (s .unclosed) p 0) ≡ b
       → Settled past s raw (closing p) (cond b none (some 25))
@@ -123,7 +127,7 @@ module _ (es : List Edge) (past : Past) (h : Bool) (s : State) (R : Represents e
 
   pub settled : (step : Step) → stepOf raw ≡ some step → Settled past s raw step (refusal s step)
   unfolding refusal
-  settled (event zero r) e = settled-create r e (ltb r statics) refl (listed r (live s)) refl (leb most-created (s .count)) refl
+  settled (event zero r) e = settled-create r e (ltb r statics) refl (listed r (live s)) refl (leb mostCreated (s .count)) refl
   settled (event (suc a) r) e = settled-event a r e (ltb r statics) refl (listed r (live s)) refl
-  settled (opening p) e = settled-opening p e (leb most-open (getD (s .unclosed) p 0)) refl
+  settled (opening p) e = settled-opening p e (leb mostOpen (getD (s .unclosed) p 0)) refl
   settled (closing p) e = settled-closing p e (ltb 0 (getD (s .unclosed) p 0)) refl

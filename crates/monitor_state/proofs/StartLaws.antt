@@ -9,6 +9,7 @@ use lib.Dec.{eqb, lit<}
 use lib.ListN.{length, getD, replicate, length-replicate, getD-replicate}
 use borrow.Author.Tests.{eq-eqb, eqb-true}
 use Rattle.usage.specs.declared.Edge.{Edge}
+use Rattle.usage.specs.Limits.{policies, states, mostCreated}
 use Rattle.usage.specs.Policy.{Sees, Moves}
 use Rattle.usage.specs.Past.{Past, event, opening, closing, May, start, moved, opened, closed, count}
 use Rattle.usage.specs.Tests.{every}
@@ -16,13 +17,14 @@ use Rattle.usage.proofs.Logic.{false-true}
 use Rattle.automaton.specs.Mask.{has}
 use Rattle.automaton.proofs.MaskLaws.{has-pow}
 use Rattle.automaton.proofs.MoveLaws.{Ends, moves-lt}
-use Rattle.monitor_state.specs.Judge.{listed, distinct, stateOk, placeOf, setAt, begin}
+use Rattle.monitor_sets.specs.Instances.{instances, setPlaces}
+use Rattle.monitor_state.specs.Judge.{listed, distinct, stateOk, placeOf, setAt, startState}
 use Rattle.monitor_state.specs.Represents.{Tracks, Represents}
-use Rattle.monitor_state.proofs.Places.{state-parts, place-lt}
+use Rattle.monitor_state.proofs.Places.{place-lt}
 
 -- ── The last step ──
 
-pub may-start : {es : List Edge} {p : ℕ} {sees : ℕ → ℕ → ℕ → Type 0} {q : ℕ} → May false es p sees [] q → q ≡ 0
+may-start : {es : List Edge} {p : ℕ} {sees : ℕ → ℕ → ℕ → Type 0} {q : ℕ} → May false es p sees [] q → q ≡ 0
 may-start start = refl
 
 pub record Came (es : List Edge) (p : ℕ) (sees : ℕ → ℕ → ℕ → Type 0) (a r : ℕ) (past : Past) (q′ : ℕ) : Type 0 where
@@ -34,14 +36,8 @@ pub may-event : {es : List Edge} {p : ℕ} {sees : ℕ → ℕ → ℕ → Type 
     → May false es p sees (event a r ∷ past) q′ → Came es p sees a r past q′
 may-event (moved {q = q} m g) = record { q = q; before = m; moves = g }
 
-pub may-opening : {es : List Edge} {p : ℕ} {sees : ℕ → ℕ → ℕ → Type 0} {s : ℕ} {past : Past} {q : ℕ} → May false es p sees (opening s ∷ past) q → May false es p sees past q
-may-opening (opened m) = m
-
-pub may-closing : {es : List Edge} {p : ℕ} {sees : ℕ → ℕ → ℕ → Type 0} {s : ℕ} {past : Past} {q : ℕ} → May false es p sees (closing s ∷ past) q → May false es p sees past q
-may-closing (closed m) = m
-
 -- an instance is in states 0 to 7 only
-pub may-lt : {es : List Edge} {p : ℕ} {sees : ℕ → ℕ → ℕ → Type 0} {past : Past} {q : ℕ} → Ends es → May false es p sees past q → q < 8
+pub may-lt : {es : List Edge} {p : ℕ} {sees : ℕ → ℕ → ℕ → Type 0} {past : Past} {q : ℕ} → Ends es → May false es p sees past q → q < states
 may-lt v start = lit< tt
 may-lt v (moved m g) = moves-lt v (may-lt v m) g
 may-lt v (opened m) = may-lt v m
@@ -54,43 +50,43 @@ replicate-below zero a b k h = omega arith
 replicate-below (suc n) a b zero h = h
 replicate-below (suc n) a b (suc k) h = replicate-below n a b k h
 
-begin-ok : stateOk begin ≡ true
-unfolding stateOk begin every distinct
+begin-ok : stateOk startState ≡ true
+unfolding stateOk startState every distinct
 begin-ok = refl
 
-begin-created : length (begin .created) ≡ 64
-unfolding begin
+begin-created : length (startState .created) ≡ mostCreated
+unfolding startState
 begin-created = refl
 
-begin-set : (x p : ℕ) → p < 8 → setAt begin p (placeOf begin x) ≡ 1
-unfolding begin
-begin-set x p h = getD-replicate 648 (p * 81 + placeOf begin x) 1 0 (omega (arith, place-lt begin begin-created (state-parts begin begin-ok) x))
+begin-set : (x p : ℕ) → p < policies → setAt startState p (placeOf startState x) ≡ 1
+unfolding startState
+begin-set x p h = getD-replicate setPlaces (p * instances + placeOf startState x) 1 0 (omega (arith, place-lt startState x))
 
-begin-tracks : (es : List Edge) → Tracks es [] begin
+begin-tracks : (es : List Edge) → Tracks es [] startState
 begin-tracks es x p q k l = (to, back)
   where
-    one : has (setAt begin p (placeOf begin x)) q ≡ eqb 0 q
+    one : has (setAt startState p (placeOf startState x)) q ≡ eqb 0 q
     one = ap (λ (m : ℕ). has m q) (begin-set x p k) ∙ has-pow 0 q (lit< tt) l
 
-    to : has (setAt begin p (placeOf begin x)) q ≡ true → May false es p (Sees x) [] q
+    to : has (setAt startState p (placeOf startState x)) q ≡ true → May false es p (Sees x) [] q
     to h = subst (λ (n : ℕ). May false es p (Sees x) [] n) (eqb-true 0 q (sym one ∙ h)) start
 
-    back : May false es p (Sees x) [] q → has (setAt begin p (placeOf begin x)) q ≡ true
+    back : May false es p (Sees x) [] q → has (setAt startState p (placeOf startState x)) q ≡ true
     back m = one ∙ eq-eqb 0 q (sym (may-start m))
 
-pub begin-represents : (es : List Edge) → Represents es [] false begin
-unfolding begin count listed
+pub begin-represents : (es : List Edge) → Represents es [] false startState
+unfolding startState count listed
 begin-represents es = record {
   halted = refl;
   well = begin-ok;
   tracks = begin-tracks es;
   made = λ r. (λ e. false-true e, λ m. absurd (List·Memᴰ·not-nil m));
   number = refl;
-  open-count = λ p. zero-add (getD (replicate 8 0) p 0) ∙ zero-of (replicate-below 8 0 1 p (lit< tt));
-  sets-length = length-replicate {A = ℕ} 648 1;
+  open-count = λ p. zero-add (getD (replicate policies 0) p 0) ∙ zero-of (replicate-below policies 0 1 p (lit< tt));
+  sets-length = length-replicate {A = ℕ} setPlaces 1;
   created-length = begin-created;
   unclosed-length = refl;
-  bytes = λ k. replicate-below 648 1 256 k (lit< tt);
+  bytes = λ k. replicate-below setPlaces 1 256 k (lit< tt);
 }
   where
     zero-of : {n : ℕ} → n < 1 → n ≡ 0

@@ -12,7 +12,7 @@ use lib.ListN.{length, getD, take, set}
 use lib.Seq.{take-suc-set}
 use borrow.Author.Tests.{eq-eqb, ne-eqb, eqb-true, lt-ltb, ltb-true, ltb-false, le-leb}
 use Rattle.usage.specs.declared.Edge.{Edge}
-use Rattle.usage.specs.Limits.{statics, resources, most-created}
+use Rattle.usage.specs.Limits.{statics, resources, policies, states, mostCreated}
 use Rattle.usage.specs.Policy.{Sees}
 use Rattle.usage.specs.Past.{Past, event, May, moved}
 use Rattle.usage.specs.Tables.{from}
@@ -21,84 +21,98 @@ use Rattle.usage.proofs.Logic.{or-right, and-both}
 use Rattle.automaton.specs.Mask.{has}
 use Rattle.automaton.specs.Move.{moveMask}
 use Rattle.automaton.proofs.MoveLaws.{Ends, moveMask-found, moveMask-at, moveMask-lt}
+use Rattle.monitor_sets.specs.Instances.{unseen, firstCreated, instances, setPlaces}
 use Rattle.monitor_state.specs.declared.State.{State}
-use Rattle.monitor_state.specs.Judge.{live, listed, distinct, dynamic, placeFrom, placeOf, used, setAt, copied, createdIn, movedSets, movedBy}
+use Rattle.monitor_state.specs.Judge.{live, listed, distinct, dynamic, placeFrom, placeOf, used, setAt, copied, createdIn, movedSets}
+use Rattle.monitor_state.specs.Judge.{movedIn}
 use Rattle.monitor_state.specs.Represents.{Tracks}
 use Rattle.usage.proofs.TableLaws.{getD-from, from-below}
 use Rattle.monitor_state.proofs.ListLaws.{listed-snoc, every-snoc, distinct-snoc, place-absent, place-other, place-new}
 use Rattle.monitor_state.proofs.Places.{place-static, place-dynamic, known, place-own, StateOk, live-length, place-lt}
 use Rattle.monitor_state.proofs.StartLaws.{may-event, may-lt}
 
--- place p * 81 + i of a table of 648
-at-div : (p i : ℕ) → i < 81 → (p * 81 + i) / 81 ≡ p
+-- place p * instances + i of a table of sets
+at-div : (p i : ℕ) → i < instances → (p * instances + i) / instances ≡ p
 at-div p i h = digits-div p h
 
-at-mod : (p i : ℕ) → i < 81 → (p * 81 + i) % 81 ≡ i
+at-mod : (p i : ℕ) → i < instances → (p * instances + i) % instances ≡ i
 at-mod p i h = digits-mod p h
 
-getD-table : (f : ℕ → ℕ) (p i : ℕ) → p < 8 → i < 81 → getD (from f 0 648) (p * 81 + i) 0 ≡ f (p * 81 + i)
-getD-table f p i h k = getD-from f 0 648 (p * 81 + i) 0 (omega arith) ∙ ap f (zero-add (p * 81 + i))
+getD-table : (f : ℕ → ℕ) (p i : ℕ) → p < policies → i < instances → getD (from f 0 setPlaces) (p * instances + i) 0 ≡ f (p * instances + i)
+getD-table f p i h k = getD-from f 0 setPlaces (p * instances + i) 0 (omega arith) ∙ ap f (zero-add (p * instances + i))
 
 -- ── Events ──
 
-place-moved : (es : List Edge) (a r : ℕ) (s : State) (x : ℕ) → placeOf (movedBy es a r s) x ≡ placeOf s x
-unfolding placeOf movedBy
+place-moved : (es : List Edge) (a r : ℕ) (s : State) (x : ℕ) → placeOf (movedIn es a r s) x ≡ placeOf s x
+unfolding placeOf movedIn
 place-moved es a r s x = refl
 
-set-moved : (es : List Edge) (a r : ℕ) (s : State) (p i : ℕ) → s .count ≤ 64 → p < 8 → i < used s
-    → setAt (movedBy es a r s) p i ≡ moveMask es p a r (eqb i (placeOf s r)) (setAt s p i)
-unfolding movedBy movedSets
+set-moved : (es : List Edge) (a r : ℕ) (s : State) (p i : ℕ) → s .count ≤ mostCreated → p < policies → i < used s
+    → setAt (movedIn es a r s) p i ≡ moveMask es p a r (eqb i (placeOf s r)) (setAt s p i)
+unfolding movedIn movedSets
 set-moved es a r s p i c k h =
-    let l : i < 81 = omega arith in
-    getD-table (λ k. cond (ltb (k % 81) (used s)) (moveMask es (k / 81) a r (eqb (k % 81) (placeOf s r)) (getD (s .sets) k 0)) (getD (s .sets) k 0)) p i k l
-    ∙ ap₂ (λ (u v : ℕ). cond (ltb v (used s)) (moveMask es u a r (eqb v (placeOf s r)) (setAt s p i)) (setAt s p i)) (at-div p i l) (at-mod p i l)
+    let l : i < instances = omega arith in
+    getD-table
+    (λ k. cond (ltb (k % instances) (used s)) (moveMask es (k / instances) a r (eqb (k % instances) (placeOf s r)) (getD (s .sets) k 0))
+    (getD (s .sets) k 0)) p i k l
+    ∙ ap₂ (λ (u v : ℕ). cond (ltb v (used s)) (moveMask es u a r (eqb v (placeOf s r)) (setAt s p i)) (setAt s p i)) (at-div p i l)
+    (at-mod p i l)
     ∙ ap (λ (b : Bool). cond b (moveMask es p a r (eqb i (placeOf s r)) (setAt s p i)) (setAt s p i)) (lt-ltb i (used s) h)
 
-module _ (es : List Edge) (v : Ends es) (s : State) (n : length (s .created) ≡ 64) (w : StateOk s) where
-  pub moved-tracks : (past : Past) (a r : ℕ) → Tracks es past s → known s r ≡ true → Tracks es (event a r ∷ past) (movedBy es a r s)
+module _ (es : List Edge) (v : Ends es) (s : State) (n : length (s .created) ≡ mostCreated) (w : StateOk s) where
+  pub moved-tracks : (past : Past) (a r : ℕ) → Tracks es past s → known s r ≡ true → Tracks es (event a r ∷ past) (movedIn es a r s)
   moved-tracks past a r t kn x p q k l = (to, back)
     where
       m : ℕ
       m = setAt s p (placeOf s x)
 
-      same : setAt (movedBy es a r s) p (placeOf (movedBy es a r s) x) ≡ moveMask es p a r (eqb (placeOf s x) (placeOf s r)) m
-      same = ap (λ (i : ℕ). setAt (movedBy es a r s) p i) (place-moved es a r s x) ∙ set-moved es a r s p (placeOf s x) (w .few) k (place-lt s n w x)
+      same : setAt (movedIn es a r s) p (placeOf (movedIn es a r s) x) ≡ moveMask es p a r (eqb (placeOf s x) (placeOf s r)) m
+      same = ap (λ (i : ℕ). setAt (movedIn es a r s) p i) (place-moved es a r s x)
+          ∙ set-moved es a r s p (placeOf s x) (w .few) k (place-lt s x)
 
-      to : has (setAt (movedBy es a r s) p (placeOf (movedBy es a r s) x)) q ≡ true → May false es p (Sees x) (event a r ∷ past) q
+      to : has (setAt (movedIn es a r s) p (placeOf (movedIn es a r s) x)) q ≡ true → May false es p (Sees x) (event a r ∷ past) q
       to h =
-          let f = moveMask-found es v p x a r (eqb (placeOf s x) (placeOf s r)) (place-own s x r kn) m q l (ap (λ (m : ℕ). has m q) (sym same) ∙ h) in
+          let f = moveMask-found es v p x a r (eqb (placeOf s x) (placeOf s r)) (place-own s x r kn) m q l
+          (ap (λ (m : ℕ). has m q) (sym same) ∙ h) in
           moved (t x p (f .0) k (f .1) .0 (f .2)) (f .3)
 
-      back : May false es p (Sees x) (event a r ∷ past) q → has (setAt (movedBy es a r s) p (placeOf (movedBy es a r s) x)) q ≡ true
+      back : May false es p (Sees x) (event a r ∷ past) q → has (setAt (movedIn es a r s) p (placeOf (movedIn es a r s) x)) q ≡ true
       back y =
           let c = may-event y in
-          let b : c .q < 8 = may-lt v (c .before) in
-          ap (λ (m : ℕ). has m q) same ∙ moveMask-at es v p x a r (eqb (placeOf s x) (placeOf s r)) (place-own s x r kn) m (c .q) q b (t x p (c .q) k b .1 (c .before)) (c .moves)
+          let b : c .q < states = may-lt v (c .before) in
+          ap (λ (m : ℕ). has m q) same
+          ∙ moveMask-at es v p x a r (eqb (placeOf s x) (placeOf s r)) (place-own s x r kn) m (c .q) q b
+          (t x p (c .q) k b .1 (c .before)) (c .moves)
 
 -- ── Creates ──
 
-module _ (s : State) (n : length (s .created) ≡ 64) (w : StateOk s) (r : ℕ) (room : s .count < most-created) (new : listed r (live s) ≡ false) (dyn : statics ≤ r) where
+module _ (s : State) (n : length (s .created) ≡ mostCreated) (w : StateOk s) (r : ℕ) (room : s .count < mostCreated)
+    (new : listed r (live s) ≡ false) (dyn : statics ≤ r) where
   live-created : live (createdIn s r) ≡ live s ++ (r ∷ [])
   unfolding createdIn
-  live-created = ap (λ (k : ℕ). take k (set (s .created) (s .count) r)) (add-one (s .count)) ∙ take-suc-set (s .created) (s .count) r (omega arith)
+  live-created = ap (λ (k : ℕ). take k (set (s .created) (s .count) r)) (add-one (s .count))
+      ∙ take-suc-set (s .created) (s .count) r (omega arith)
 
-  set-copied : (p i : ℕ) → p < 8 → i < 81 → setAt (createdIn s r) p i ≡ cond (eqb i (used s)) (setAt s p 16) (setAt s p i)
+  set-copied : (p i : ℕ) → p < policies → i < instances → setAt (createdIn s r) p i ≡ cond (eqb i (used s)) (setAt s p unseen) (setAt s p i)
   unfolding createdIn copied
   set-copied p i h k =
-      getD-table (λ k. cond (eqb (k % 81) (used s)) (getD (s .sets) (k / 81 * 81 + 16) 0) (getD (s .sets) k 0)) p i h k
-      ∙ ap₂ (λ (u v : ℕ). cond (eqb v (used s)) (setAt s u 16) (setAt s p i)) (at-div p i k) (at-mod p i k)
+      getD-table
+      (λ k. cond (eqb (k % instances) (used s)) (getD (s .sets) (k / instances * instances + unseen) 0) (getD (s .sets) k 0)) p i h k
+      ∙ ap₂ (λ (u v : ℕ). cond (eqb v (used s)) (setAt s u unseen) (setAt s p i)) (at-div p i k) (at-mod p i k)
 
-  set-kept : (p i : ℕ) → p < 8 → i < used s → setAt (createdIn s r) p i ≡ setAt s p i
-  set-kept p i h k = set-copied p i h (omega arith) ∙ ap (λ (b : Bool). cond b (setAt s p 16) (setAt s p i)) (ne-eqb i (used s) lower)
+  set-kept : (p i : ℕ) → p < policies → i < used s → setAt (createdIn s r) p i ≡ setAt s p i
+  set-kept p i h k = set-copied p i h (omega arith) ∙ ap (λ (b : Bool). cond b (setAt s p unseen) (setAt s p i)) (ne-eqb i (used s) lower)
     where
       lower : i ≡ used s → ⊥
       lower e = omega arith
 
-  set-new : (p : ℕ) → p < 8 → setAt (createdIn s r) p (used s) ≡ setAt s p 16
-  set-new p h = set-copied p (used s) h (omega arith) ∙ ap (λ (b : Bool). cond b (setAt s p 16) (setAt s p (used s))) (eq-eqb (used s) (used s) refl)
+  set-new : (p : ℕ) → p < policies → setAt (createdIn s r) p (used s) ≡ setAt s p unseen
+  set-new p h = set-copied p (used s) h (omega arith)
+      ∙ ap (λ (b : Bool). cond b (setAt s p unseen) (setAt s p (used s))) (eq-eqb (used s) (used s) refl)
 
   place-created : placeOf (createdIn s r) r ≡ used s
-  place-created = place-dynamic (createdIn s r) r dyn ∙ ap (placeFrom r 17) live-created ∙ place-new r 17 (live s) new ∙ ap (λ (k : ℕ). 17 + k) (live-length s n w)
+  place-created = place-dynamic (createdIn s r) r dyn ∙ ap (placeFrom r firstCreated) live-created ∙ place-new r firstCreated (live s) new
+      ∙ ap (λ (k : ℕ). firstCreated + k) (live-length s n w)
 
   place-kept : (x : ℕ) → eqb r x ≡ false → placeOf (createdIn s r) x ≡ placeOf s x
   place-kept x e = go (ltb x statics) refl
@@ -106,39 +120,44 @@ module _ (s : State) (n : length (s .created) ≡ 64) (w : StateOk s) (r : ℕ) 
       go : (b : Bool) → ltb x statics ≡ b → placeOf (createdIn s r) x ≡ placeOf s x
       go true h = place-static (createdIn s r) x (ltb-true x statics h) ∙ sym (place-static s x (ltb-true x statics h))
       go false h =
-          place-dynamic (createdIn s r) x (ltb-false x statics h) ∙ ap (placeFrom x 17) live-created ∙ place-other x r 17 (live s) e
+          place-dynamic (createdIn s r) x (ltb-false x statics h) ∙ ap (placeFrom x firstCreated) live-created
+          ∙ place-other x r firstCreated (live s) e
           ∙ sym (place-dynamic s x (ltb-false x statics h))
 
   -- Each resource's instance holds what it held: the new one what the instance of the resources that never occurred holds.
-  created-set : (x p : ℕ) → p < 8 → setAt (createdIn s r) p (placeOf (createdIn s r) x) ≡ setAt s p (placeOf s x)
+  created-set : (x p : ℕ) → p < policies → setAt (createdIn s r) p (placeOf (createdIn s r) x) ≡ setAt s p (placeOf s x)
   created-set x p k = go (eqb r x) refl
     where
       own : setAt (createdIn s r) p (placeOf (createdIn s r) r) ≡ setAt s p (placeOf s r)
       own =
           ap (λ (i : ℕ). setAt (createdIn s r) p i) place-created ∙ set-new p k
-          ∙ ap (λ (i : ℕ). setAt s p i) (sym (place-dynamic s r dyn ∙ place-absent r 17 (live s) new))
+          ∙ ap (λ (i : ℕ). setAt s p i) (sym (place-dynamic s r dyn ∙ place-absent r firstCreated (live s) new))
 
       go : (b : Bool) → eqb r x ≡ b → setAt (createdIn s r) p (placeOf (createdIn s r) x) ≡ setAt s p (placeOf s x)
       go true e = subst (λ (x : ℕ). setAt (createdIn s r) p (placeOf (createdIn s r) x) ≡ setAt s p (placeOf s x)) (eqb-true r x e) own
-      go false e = ap (λ (i : ℕ). setAt (createdIn s r) p i) (place-kept x e) ∙ set-kept p (placeOf s x) k (place-lt s n w x)
+      go false e = ap (λ (i : ℕ). setAt (createdIn s r) p i) (place-kept x e) ∙ set-kept p (placeOf s x) k (place-lt s x)
 
   pub created-tracks : (es : List Edge) (past : Past) → Tracks es past s → Tracks es past (createdIn s r)
   created-tracks es past t x p q k l =
-      let same : has (setAt (createdIn s r) p (placeOf (createdIn s r) x)) q ≡ has (setAt s p (placeOf s x)) q = ap (λ (m : ℕ). has m q) (created-set x p k) in
+      let same : has (setAt (createdIn s r) p (placeOf (createdIn s r) x)) q ≡ has (setAt s p (placeOf s x)) q =
+      ap (λ (m : ℕ). has m q) (created-set x p k) in
       (λ h. t x p q k l .0 (sym same ∙ h), λ m. same ∙ t x p q k l .1 m)
 
   pub created-listed : (x : ℕ) → listed x (live (createdIn s r)) ≡ (listed x (live s) || eqb r x)
   created-listed x = ap (listed x) live-created ∙ listed-snoc x r (live s)
 
   pub created-known : known (createdIn s r) r ≡ true
-  created-known = or-right (ltb r statics) (listed r (live (createdIn s r))) (created-listed r ∙ or-right (listed r (live s)) (eqb r r) (eq-eqb r r refl))
+  created-known =
+      or-right (ltb r statics) (listed r (live (createdIn s r)))
+      (created-listed r ∙ or-right (listed r (live s)) (eqb r r) (eq-eqb r r refl))
 
   pub created-ok : r < resources → StateOk (createdIn s r)
   unfolding createdIn
   created-ok h = record {
     few = omega arith;
     range = subst (λ (l : List ℕ). every dynamic l ≡ true) (sym live-created)
-        (every-snoc dynamic r (live s) (w .range) (and-both (leb statics r) (ltb r resources) (le-leb statics r dyn) (lt-ltb r resources h)));
+        (every-snoc dynamic r (live s) (w .range)
+        (and-both (leb statics r) (ltb r resources) (le-leb statics r dyn) (lt-ltb r resources h)));
     apart = subst (λ (l : List ℕ). distinct l ≡ true) (sym live-created) (distinct-snoc r (live s) (w .apart) new);
   }
 
@@ -147,22 +166,26 @@ module _ (s : State) (n : length (s .created) ≡ 64) (w : StateOk s) (r : ℕ) 
 abbrev Bytes : State → Type 0
 Bytes s = (k : ℕ) → getD (s .sets) k 0 < 256
 
-pub moved-bytes : (es : List Edge) (a r : ℕ) (s : State) → Bytes s → Bytes (movedBy es a r s)
-unfolding movedBy movedSets
+pub moved-bytes : (es : List Edge) (a r : ℕ) (s : State) → Bytes s → Bytes (movedIn es a r s)
+unfolding movedIn movedSets
 moved-bytes es a r s b i =
-    from-below (λ k. cond (ltb (k % 81) (used s)) (moveMask es (k / 81) a r (eqb (k % 81) (placeOf s r)) (getD (s .sets) k 0)) (getD (s .sets) k 0)) 256 (lit< tt)
-    (λ k. go k (ltb (k % 81) (used s))) 0 648 i
+    from-below
+    (λ k. cond (ltb (k % instances) (used s)) (moveMask es (k / instances) a r (eqb (k % instances) (placeOf s r)) (getD (s .sets) k 0))
+    (getD (s .sets) k 0)) 256 (lit< tt)
+    (λ k. go k (ltb (k % instances) (used s))) 0 setPlaces i
   where
-    go : (k : ℕ) (c : Bool) → cond c (moveMask es (k / 81) a r (eqb (k % 81) (placeOf s r)) (getD (s .sets) k 0)) (getD (s .sets) k 0) < 256
-    go k true = moveMask-lt es (k / 81) a r (eqb (k % 81) (placeOf s r)) (getD (s .sets) k 0)
+    go : (k : ℕ) (c : Bool)
+        → cond c (moveMask es (k / instances) a r (eqb (k % instances) (placeOf s r)) (getD (s .sets) k 0)) (getD (s .sets) k 0) < 256
+    go k true = moveMask-lt es (k / instances) a r (eqb (k % instances) (placeOf s r)) (getD (s .sets) k 0)
     go k false = b k
 
 pub created-bytes : (s : State) (r : ℕ) → Bytes s → Bytes (createdIn s r)
 unfolding createdIn copied
 created-bytes s r b i =
-    from-below (λ k. cond (eqb (k % 81) (used s)) (getD (s .sets) (k / 81 * 81 + 16) 0) (getD (s .sets) k 0)) 256 (lit< tt)
-    (λ k. go k (eqb (k % 81) (used s))) 0 648 i
+    from-below (λ k. cond (eqb (k % instances) (used s)) (getD (s .sets) (k / instances * instances + unseen) 0) (getD (s .sets) k 0)) 256
+    (lit< tt)
+    (λ k. go k (eqb (k % instances) (used s))) 0 setPlaces i
   where
-    go : (k : ℕ) (c : Bool) → cond c (getD (s .sets) (k / 81 * 81 + 16) 0) (getD (s .sets) k 0) < 256
-    go k true = b (k / 81 * 81 + 16)
+    go : (k : ℕ) (c : Bool) → cond c (getD (s .sets) (k / instances * instances + unseen) 0) (getD (s .sets) k 0) < 256
+    go k true = b (k / instances * instances + unseen)
     go k false = b k

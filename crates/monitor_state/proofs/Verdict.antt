@@ -10,21 +10,23 @@ use lib.ListN.{length}
 use borrow.Author.Tests.{ltb-true}
 use Rattle.usage.specs.declared.Edge.{Edge}
 use Rattle.usage.specs.declared.RawStep.{RawStep}
-use Rattle.usage.specs.Limits.{statics, actions, policies, states, most-edges}
+use Rattle.usage.specs.Limits.{statics, actions, policies, states, mostEdges}
 use Rattle.usage.specs.Past.{Step, Past, Violates}
 use Rattle.usage.specs.Answers.{Verdict, allowed, violated, refused}
-use Rattle.usage.specs.Judge.{stepOf, Case, Refuses, Taken, Judged, is-refused, is-violated, is-allowed, then, pastAfter, haltedAfter, JudgedAll, done, next}
+use Rattle.usage.specs.Judge.{stepOf, Case, Refuses, Taken, Judged, is-refused, is-violated, is-allowed, then, pastAfter, haltedAfter}
+use Rattle.usage.specs.Judge.{JudgedAll, done, next}
 use Rattle.usage.specs.Tables.{edgesOf, edgeTable}
 use Rattle.usage.specs.Tests.{every, edgeOk, edgesOk}
 use Rattle.usage.proofs.Logic.{and-left, and-right}
 use Rattle.usage.proofs.Decides.{d-every, d-same}
 use Rattle.usage.proofs.JudgeLaws.{step-fits, step-same, judged-unique}
-use Rattle.automaton.specs.Mask.{lowest}
+use Rattle.automaton.specs.Mask.{lowestIn}
 use Rattle.automaton.proofs.MoveLaws.{Ends}
 use Rattle.monitor_state.specs.declared.State.{State}
 use Rattle.monitor_state.specs.declared.Answer.{Answer}
 use Rattle.monitor_state.specs.declared.Answer.the-variants.{Allowed, Violated, Refused}
-use Rattle.monitor_state.specs.Judge.{verdictOf, stateOk, placeOf, halt, after, broken, refusal, refuse, settle, judgeStep, judgeRead, judgeOf, answersOf, begin}
+use Rattle.monitor_state.specs.Judge.{verdictOf, stateOk, placeOf, halt, after, broken, refusal, refuse, settle, judgeStep, judgeRead}
+use Rattle.monitor_state.specs.Judge.{judgeOf, answersOf, startState}
 use Rattle.monitor_state.specs.Represents.{Represents}
 use Rattle.monitor_state.specs.Promise.{Promised}
 use Rattle.monitor_state.proofs.StartLaws.{begin-represents}
@@ -34,7 +36,7 @@ use Rattle.monitor_state.proofs.Refusals.{refuses-halted, refuses-unrea
 
 -- ── The edges of a table that an accepted sheet gives end in states 0 to 7 ──
 
-edge-ends : (e : Edge) → edgeOk e ≡ true → e .to < 8
+edge-ends : (e : Edge) → edgeOk e ≡ true → e .to < states
 unfolding edgeOk
 edge-ends e h =
     let a : Bool = ltb (e .policy) policies in
@@ -44,12 +46,13 @@ edge-ends e h =
     let o : Bool = ltb (e .on) 3 && cond (eqb (e .on) 0) (ltb (e .who) statics) (eqb (e .who) 0) in
     ltb-true (e .to) states (and-right c d (and-right b (c && d) (and-right a (b && (c && d)) (and-left (a && (b && (c && d))) o h))))
 
-pub table-ends : (t : List ℕ) → edgeTable t ≡ true → Ends (edgesOf t)
+table-ends : (t : List ℕ) → edgeTable t ≡ true → Ends (edgesOf t)
 unfolding edgeTable edgesOk
 table-ends t h e m =
     let es : List Edge = edgesOf t in
-    let k : (leb (length es) most-edges && every edgeOk es) ≡ true = and-right (eqb (length t % 6) 0) (leb (length es) most-edges && every edgeOk es) h in
-    edge-ends e (d-every edgeOk (λ e. d-same (edgeOk e)) es .0 (and-right (leb (length es) most-edges) (every edgeOk es) k) e m)
+    let k : (leb (length es) mostEdges && every edgeOk es) ≡ true =
+    and-right (eqb (length t % 6) 0) (leb (length es) mostEdges && every edgeOk es) h in
+    edge-ends e (d-every edgeOk (λ e. d-same (edgeOk e)) es .0 (and-right (leb (length es) mostEdges) (every edgeOk es) k) e m)
 
 -- ── One step ──
 
@@ -75,7 +78,8 @@ module _ (es : List Edge) (v : Ends es) (past : Past) (s : State) (R : Represent
   settle-promised step t e k T = go (eqb (broken t) 0) refl
     where
       go : (b : Bool) → eqb (broken t) 0 ≡ b
-          → Promised es past false s raw (cond b (record { answer = Allowed; state = t }) (record { answer = Violated (lowest (broken t)); state = halt s }))
+          → Promised es past false s raw
+          (cond b (record { answer = Allowed; state = t }) (record { answer = Violated (lowestIn (broken t)); state = halt s }))
       go true b = record {
         answer = is-allowed k e (none-violated es (step ∷ past) false t T v b);
         state = subst (λ (o : Option Step). Represents es (then o past) false t) (sym e) T;
@@ -85,10 +89,12 @@ module _ (es : List Edge) (v : Ends es) (past : Past) (s : State) (R : Represent
           let x = first-violated es (step ∷ past) false t T v b in
           record { answer = is-violated k e (x .is) (x .least); state = halt-represents es past false s R; kept = refl }
 
-  step-promised : (step : Step) → stepOf raw ≡ some step → (o : Option ℕ) → Settled past s raw step o → Promised es past false s raw (judgeStep es s step o)
+  step-promised : (step : Step) → stepOf raw ≡ some step → (o : Option ℕ) → Settled past s raw step o
+      → Promised es past false s raw (judgeStep es s step o)
   unfolding judgeStep refuse
   step-promised step e _ (refuses r) = record { answer = is-refused r; state = R; kept = refl }
-  step-promised step e _ (takes k ready) = settle-promised step (after es s step) e k (after-represents es v past false s R step (step-fits raw step e) ready)
+  step-promised step e _ (takes k ready) =
+      settle-promised step (after es s step) e k (after-represents es v past false s R step (step-fits raw step e) ready)
 
   read-promised : (o : Option Step) → stepOf raw ≡ o → Promised es past false s raw (judgeRead es s o)
   unfolding judgeRead refuse
@@ -108,28 +114,22 @@ pub judge-promised : (t : List ℕ) → edgeTable t ≡ true → (past : Past) (
 unfolding refuse
 judge-promised t p past h s R raw = subst (Promised (edgesOf t) past h s raw) (sym (judge-is t s raw p (R .well))) (go h R)
   where
-    go : (h : Bool) → Represents (edgesOf t) past h s → Promised (edgesOf t) past h s raw (cond (s .halted) (refuse 20 s) (judgeRead (edgesOf t) s (stepOf raw)))
+    go : (h : Bool) → Represents (edgesOf t) past h s
+        → Promised (edgesOf t) past h s raw (cond (s .halted) (refuse 20 s) (judgeRead (edgesOf t) s (stepOf raw)))
     go true R =
-        subst (λ (b : Bool). Promised (edgesOf t) past true s raw (cond b (refuse 20 s) (judgeRead (edgesOf t) s (stepOf raw)))) (sym (R .halted))
+        subst (λ (b : Bool). Promised (edgesOf t) past true s raw (cond b (refuse 20 s) (judgeRead (edgesOf t) s (stepOf raw))))
+        (sym (R .halted))
         (record { answer = is-refused (refuses-halted past raw); state = R; kept = refl })
     go false R =
-        subst (λ (b : Bool). Promised (edgesOf t) past false s raw (cond b (refuse 20 s) (judgeRead (edgesOf t) s (stepOf raw)))) (sym (R .halted))
+        subst (λ (b : Bool). Promised (edgesOf t) past false s raw (cond b (refuse 20 s) (judgeRead (edgesOf t) s (stepOf raw))))
+        (sym (R .halted))
         (read-promised (edgesOf t) (table-ends t p) past s R raw (stepOf raw) refl)
-
--- "The calling program, before all others, in this order": 41 for a table that no sheet gives, then 42 for a state that is none
--- of the judge's.
-pub judge-41 : (t : List ℕ) (s : State) (raw : RawStep) → edgeTable t ≡ false → judgeOf t s raw ≡ refuse 41 s
-unfolding judgeOf
-judge-41 t s raw p = rw p
-
-pub judge-42 : (t : List ℕ) (s : State) (raw : RawStep) → edgeTable t ≡ true → stateOk s ≡ false → judgeOf t s raw ≡ refuse 42 s
-unfolding judgeOf
-judge-42 t s raw p q = rw (p, q)
 
 -- ── Conversely, and over many steps ──
 
 -- The right answer is the judge's.
-pub judged-is : (t : List ℕ) → edgeTable t ≡ true → (past : Past) (h : Bool) (s : State) → Represents (edgesOf t) past h s → (raw : RawStep) {v : Verdict}
+pub judged-is : (t : List ℕ) → edgeTable t ≡ true → (past : Past) (h : Bool) (s : State) → Represents (edgesOf t) past h s
+    → (raw : RawStep) {v : Verdict}
     → Judged false (edgesOf t) past h raw v → verdictOf (judgeOf t s raw .answer) ≡ v
 judged-is t p past h s R raw k = judged-unique (judge-promised t p past h s R raw .answer) k
 
@@ -147,36 +147,12 @@ allowed-next t p past h s R raw step e k x =
     let a : verdictOf (judgeOf t s raw .answer) ≡ allowed = judged-is t p past h s R raw (is-allowed k e x) in (
       allowed-is (judgeOf t s raw .answer) a,
       subst (λ (o : Option Step). Represents (edgesOf t) (then o past) h (judgeOf t s raw .state)) e
-          (subst (λ (v : Verdict). Represents (edgesOf t) (pastAfter past raw v) (haltedAfter h v) (judgeOf t s raw .state)) a (judge-promised t p past h s R raw .state)),
+          (subst (λ (v : Verdict). Represents (edgesOf t) (pastAfter past raw v) (haltedAfter h v) (judgeOf t s raw .state)) a
+          (judge-promised t p past h s R raw .state)),
     )
 
--- A step that only a limit may refuse and that breaks no open policy is allowed, or refused with the number of the limit.
-pub allowed-or-limit : (t : List ℕ) → edgeTable t ≡ true → (past : Past) (s : State) → Represents (edgesOf t) past false s
-    → (raw : RawStep) (step : Step) → stepOf raw ≡ some step → ((n : ℕ) → Case past false raw n → 30 ≤ n)
-    → ((p : ℕ) → Violates false (edgesOf t) p (step ∷ past) → ⊥)
-    → ((judgeOf t s raw .answer ≡ Allowed) × Represents (edgesOf t) (step ∷ past) false (judgeOf t s raw .state))
-    ⊎ ((n : ℕ) × (30 ≤ n) × Refuses past false raw n × (judgeOf t s raw .answer ≡ Refused n))
-allowed-or-limit t p past s R raw step e only x =
-    let k = judge-promised t p past false s R raw in
-    go (judgeOf t s raw .answer) (judgeOf t s raw .state) (k .answer) (k .state)
-  where
-    es : List Edge
-    es = edgesOf t
-
-    refuses-of : {n : ℕ} → Judged false es past false raw (refused n) → Refuses past false raw n
-    refuses-of (is-refused r) = r
-
-    none-violates : {p : ℕ} {A : Type 0} → Judged false es past false raw (violated p) → A
-    none-violates (is-violated {p = p} k f y m) = absurd (x p (subst (λ (step : Step). Violates false es p (step ∷ past)) (step-same f e) y))
-
-    go : (a : Answer) (u : State) → Judged false es past false raw (verdictOf a) → Represents es (pastAfter past raw (verdictOf a)) (haltedAfter false (verdictOf a)) u
-        → ((a ≡ Allowed) × Represents es (step ∷ past) false u) ⊎ ((n : ℕ) × (30 ≤ n) × Refuses past false raw n × (a ≡ Refused n))
-    go Allowed u j T = inl (refl, subst (λ (o : Option Step). Represents es (then o past) false u) e T)
-    go (Violated q) u j T = none-violates j
-    go (Refused n) u j T = let r = refuses-of j in inr (n, only n (r .stated), r, refl)
-
 -- Every answer to a list of steps is the one that the whole past says, each step judged after those before it.
-pub all-judged : (t : List ℕ) → edgeTable t ≡ true → (past : Past) (h : Bool) (s : State) → Represents (edgesOf t) past h s
+all-judged : (t : List ℕ) → edgeTable t ≡ true → (past : Past) (h : Bool) (s : State) → Represents (edgesOf t) past h s
     → (raws : List RawStep) → JudgedAll false (edgesOf t) past h raws (map verdictOf (answersOf t s raws))
 unfolding answersOf
 all-judged t p past h s R [] = done
@@ -185,5 +161,6 @@ all-judged t p past h s R (raw ∷ raws) =
     next (k .answer) (all-judged t p _ _ (judgeOf t s raw .state) (k .state) raws)
 
 -- in particular from the start
-pub all-judged-begin : (t : List ℕ) → edgeTable t ≡ true → (raws : List RawStep) → JudgedAll false (edgesOf t) [] false raws (map verdictOf (answersOf t begin raws))
-all-judged-begin t p raws = all-judged t p [] false begin (begin-represents (edgesOf t)) raws
+pub all-judged-begin : (t : List ℕ) → edgeTable t ≡ true → (raws : List RawStep)
+    → JudgedAll false (edgesOf t) [] false raws (map verdictOf (answersOf t startState raws))
+all-judged-begin t p raws = all-judged t p [] false startState (begin-represents (edgesOf t)) raws

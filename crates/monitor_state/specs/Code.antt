@@ -6,7 +6,7 @@ use mathlib.Core.Option.{Option, none, some}
 use lib.Dec.{eqb}
 use Rattle.usage.specs.declared.Edge.{Edge}
 use Rattle.usage.specs.Past.{Step, event, opening, closing}
-use Rattle.automaton.specs.Mask.{lowest}
+use Rattle.automaton.specs.Mask.{lowestIn}
 use Rattle.monitor_state.specs.declared.State.{State}
 use Rattle.monitor_state.specs.declared.Judgement.{Judgement}
 use Rattle.monitor_state.specs.declared.Told.{Told}
@@ -41,4 +41,6 @@ settledBy s t = settle (broken t) s t
 
 -- what is told of a step that leaves the policies `bad` broken
 unfoldable pub toldOf : ℕ → ℕ → ℕ → Told
-toldOf bad before after = cond (eqb bad 0) (record { answer = Allowed; count = after; halted = false }) (record { answer = Violated (lowest bad); count = before; halted = true })
+toldOf bad before after =
+    cond (eqb bad 0) (record { answer = Allowed; count = after; halted = false })
+    (record { answer = Violated (lowestIn bad); count = before; halted = true })

@@ -7,13 +7,14 @@ use lib.Dec.{eqb, leb, ltb}
 use lib.ListN.{getD, take, set, replicate}
 use Rattle.usage.specs.declared.Edge.{Edge}
 use Rattle.usage.specs.declared.RawStep.{RawStep}
-use Rattle.usage.specs.Limits.{statics, resources, policies, most-created, most-open}
+use Rattle.usage.specs.Limits.{statics, resources, policies, mostCreated, mostOpen}
 use Rattle.usage.specs.Past.{Step, event, opening, closing}
 use Rattle.usage.specs.Answers.{Verdict, allowed, violated, refused}
 use Rattle.usage.specs.Judge.{stepOf}
-use Rattle.usage.specs.Tests.{every, some-below}
+use Rattle.usage.specs.Tests.{every, someBelow}
 use Rattle.usage.specs.Tables.{from, edgesOf, edgeTable}
-use Rattle.automaton.specs.Mask.{union, offends, lowest}
+use Rattle.monitor_sets.specs.Instances.{firstCreated, instances, setPlaces}
+use Rattle.automaton.specs.Mask.{union, offends, lowestIn}
 unfoldable pub use Rattle.monitor_sets.specs.Created.{listed, distinct, placeFrom}
 pub use Rattle.monitor_sets.specs.Created.{dynamic}
 unfoldable pub use Rattle.monitor_sets.specs.Sets.{copied, movedSets}
@@ -29,8 +30,14 @@ verdictOf (Violated p) = violated p
 verdictOf (Refused n) = refused n
 
 -- "The state starts with each instance in state 0, nothing created and nothing open."
-unfoldable pub begin : State
-begin = record { sets = replicate 648 1; created = replicate 64 0; count = 0; unclosed = replicate 8 0; halted = false }
+unfoldable pub startState : State
+startState = record {
+  sets = replicate setPlaces 1;
+  created = replicate mostCreated 0;
+  count = 0;
+  unclosed = replicate policies 0;
+  halted = false;
+}
 
 -- ── The created resources and their instances ──
 
@@ -41,19 +48,19 @@ live s = take (s .count) (s .created)
 -- "42 a state with more than 64 resources, one listed twice or outside 16 to 65,535"; a count of openings is a byte, so none is
 -- above 255
 unfoldable pub stateOk : State → Bool
-stateOk s = leb (s .count) most-created && (every dynamic (live s) && distinct (live s))
+stateOk s = leb (s .count) mostCreated && (every dynamic (live s) && distinct (live s))
 
--- the place of x's instance: its own if x is static or created, else 16
+-- the place of x's instance: its own if x is static or created, else that of the unseen ones
 unfoldable pub placeOf : State → ℕ → ℕ
-placeOf s x = cond (ltb x statics) x (placeFrom x 17 (live s))
+placeOf s x = cond (ltb x statics) x (placeFrom x firstCreated (live s))
 
 -- the instances in use: the static ones, that of the resources that never occurred, and the created ones
 abbrev pub used : State → ℕ
-used s = 17 + s .count
+used s = firstCreated + s .count
 
 -- the set of states of instance i of policy p
 abbrev pub setAt : State → ℕ → ℕ → ℕ
-setAt s p i = getD (s .sets) (p * 81 + i) 0
+setAt s p i = getD (s .sets) (p * instances + i) 0
 
 -- ── The state after a step ──
 
@@ -66,8 +73,8 @@ createdIn s r = record {
   halted = s .halted;
 }
 
-unfoldable pub movedBy : List Edge → ℕ → ℕ → State → State
-movedBy es a r s = record {
+unfoldable pub movedIn : List Edge → ℕ → ℕ → State → State
+movedIn es a r s = record {
   sets = movedSets es a r (placeOf s r) (used s) (s .sets);
   created = s .created;
   count = s .count;
@@ -79,8 +86,8 @@ unfoldable pub withUnclosed : State → ℕ → ℕ → State
 withUnclosed s p n = record { sets = s .sets; created = s .created; count = s .count; unclosed = set (s .unclosed) p n; halted = s .halted }
 
 unfoldable pub after : List Edge → State → Step → State
-after es s (event zero r) = movedBy es 0 r (createdIn s r)
-after es s (event (suc a) r) = movedBy es (suc a) r s
+after es s (event zero r) = movedIn es 0 r (createdIn s r)
+after es s (event (suc a) r) = movedIn es (suc a) r s
 after es s (opening p) = withUnclosed s p (getD (s .unclosed) p 0 + 1)
 after es s (closing p) = withUnclosed s p (getD (s .unclosed) p 0 - 1)
 
@@ -88,7 +95,7 @@ after es s (closing p) = withUnclosed s p (getD (s .unclosed) p 0 - 1)
 
 -- some instance in use may be in an offending state of policy p
 unfoldable pub offended : State → ℕ → Bool
-offended s p = some-below (λ i. offends (setAt s p i)) (used s)
+offended s p = someBelow (λ i. offends (setAt s p i)) (used s)
 
 -- the open policies that are not respected, as a bit set
 unfoldable pub broken : State → ℕ
@@ -96,9 +103,10 @@ broken s = union policies (λ p. cond (ltb 0 (getD (s .unclosed) p 0) && offende
 
 -- The number that refuses a step, if any.
 unfoldable pub refusal : State → Step → Option ℕ
-refusal s (event zero r) = cond (ltb r statics) (some 22) (cond (listed r (live s)) (some 23) (cond (leb most-created (s .count)) (some 30) none))
+refusal s (event zero r) =
+    cond (ltb r statics) (some 22) (cond (listed r (live s)) (some 23) (cond (leb mostCreated (s .count)) (some 30) none))
 refusal s (event (suc a) r) = cond (ltb r statics || listed r (live s)) none (some 24)
-refusal s (opening p) = cond (leb most-open (getD (s .unclosed) p 0)) (some 31) none
+refusal s (opening p) = cond (leb mostOpen (getD (s .unclosed) p 0)) (some 31) none
 refusal s (closing p) = cond (ltb 0 (getD (s .unclosed) p 0)) none (some 25)
 
 unfoldable pub refuse : ℕ → State → Judgement
@@ -110,7 +118,7 @@ halt s = record { sets = s .sets; created = s .created; count = s .count; unclos
 
 -- the answer, by the broken policies after the step, from the states before and after it
 unfoldable pub settle : ℕ → State → State → Judgement
-settle bad s t = cond (eqb bad 0) (record { answer = Allowed; state = t }) (record { answer = Violated (lowest bad); state = halt s })
+settle bad s t = cond (eqb bad 0) (record { answer = Allowed; state = t }) (record { answer = Violated (lowestIn bad); state = halt s })
 
 unfoldable pub judgeStep : List Edge → State → Step → Option ℕ → Judgement
 judgeStep es s step (some n) = refuse n s

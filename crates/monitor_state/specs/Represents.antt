@@ -6,9 +6,10 @@ use mathlib.Core.List.{List}
 use mathlib.Core.Logic.{_↔_}
 use lib.ListN.{length, getD}
 use Rattle.usage.specs.declared.Edge.{Edge}
-use Rattle.usage.specs.Limits.{policies, states}
+use Rattle.usage.specs.Limits.{policies, states, mostCreated}
 use Rattle.usage.specs.Policy.{Sees}
 use Rattle.usage.specs.Past.{Past, May, Created, creates, openings, closings}
+use Rattle.monitor_sets.specs.Instances.{setPlaces}
 use Rattle.automaton.specs.Mask.{has}
 use Rattle.monitor_state.specs.declared.State.{State}
 use Rattle.monitor_state.specs.Judge.{live, listed, stateOk, placeOf, setAt}
@@ -25,7 +26,7 @@ pub record Represents (es : List Edge) (past : Past) (h : Bool) (s : State) : Ty
   pub made : (r : ℕ) → (listed r (live s) ≡ true) ↔ Created r past
   pub number : s .count ≡ creates past
   pub open-count : (p : ℕ) → closings p past + getD (s .unclosed) p 0 ≡ openings p past
-  pub sets-length : length (s .sets) ≡ 648
-  pub created-length : length (s .created) ≡ 64
-  pub unclosed-length : length (s .unclosed) ≡ 8
+  pub sets-length : length (s .sets) ≡ setPlaces
+  pub created-length : length (s .created) ≡ mostCreated
+  pub unclosed-length : length (s .unclosed) ≡ policies
   pub bytes : (k : ℕ) → getD (s .sets) k 0 < 256

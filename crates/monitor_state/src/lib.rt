@@ -1,5 +1,8 @@
 // The judge's state and its answers (document 01's judge is the run-time monitor): what it keeps between steps, a step as it is
 // read, and the answer to it. The definition of the judge stands in specs/, and proofs/ has that it answers as the whole past says.
+use monitor_sets::SETS;
+use usage::MOST_CREATED;
+use usage::POLICIES;
 use usage::RawStep;
 ghost use Prim.Native.Nat.{ℕ};
 ghost use mathlib.Core.Path.{_≡_};
@@ -7,13 +10,13 @@ ghost use Rattle.usage.specs.Judge.{stepOf};
 ghost use Rattle.monitor_state.specs.declared.Answer.the-variants.{Refused};
 ghost use Rattle.monitor_state.specs.Code.{says, toldOf};
 
-// What the judge keeps between steps. Instance i of policy p has its set of states at `sets[p * 81 + i]`: instances 0 to 15 are
-// those of the static resources, 16 is that of every resource that never occurred, 17 + k that of the k-th created one.
+// What the judge keeps between steps: the sets of states of the instances, as `monitor_sets::instances` lays them out; the created
+// resources, which are the first `count` numbers; for each policy its openings that are not closed; and whether a step was violated.
 pub struct State {
-    pub sets: [u8; 648],
-    pub created: [u32; 64],
+    pub sets: [u8; SETS],
+    pub created: [u32; MOST_CREATED],
     pub count: usize,
-    pub unclosed: [u8; 8],
+    pub unclosed: [u8; POLICIES],
     pub halted: bool,
 }
 

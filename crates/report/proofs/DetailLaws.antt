@@ -9,7 +9,7 @@ use lib.ListN.{getD}
 use lib.Count.{trailingZeros, trailing-le}
 use Rattle.usage.specs.declared.Edge.{Edge}
 use Rattle.usage.specs.declared.RawStep.{RawStep}
-use Rattle.usage.specs.Limits.{statics, most-created, most-open}
+use Rattle.usage.specs.Limits.{statics, mostCreated, mostOpen}
 use Rattle.usage.specs.Past.{Step, event, opening, closing}
 use Rattle.usage.specs.Answers.{detail}
 use Rattle.usage.specs.Judge.{stepOf}
@@ -17,7 +17,8 @@ use Rattle.usage.specs.Tables.{edgesOf, edgeTable}
 use Rattle.monitor_state.specs.declared.State.{State}
 use Rattle.monitor_state.specs.declared.Answer.the-variants.{Allowed, Violated}
 use Rattle.monitor_state.specs.declared.Judgement.{Judgement}
-use Rattle.monitor_state.specs.Judge.{verdictOf, listed, live, stateOk, after, broken, refusal, refuse, halt, settle, judgeStep, judgeRead, judgeOf}
+use Rattle.monitor_state.specs.Judge.{verdictOf, listed, live, stateOk, after, broken, refusal, refuse, halt, settle, judgeStep, judgeRead}
+use Rattle.monitor_state.specs.Judge.{judgeOf}
 
 abbrev Short : Judgement → Type 0
 Short j = detail (verdictOf (j .answer)) < 100
@@ -34,7 +35,8 @@ settle-short : (bad : ℕ) (s t : State) → Short (settle bad s t)
 unfolding settle
 settle-short bad s t =
     let h = trailing-le 8 bad in
-    either (eqb bad 0) (record { answer = Allowed; state = t }) (record { answer = Violated (trailingZeros 8 bad); state = halt s }) (omega arith) (omega arith)
+    either (eqb bad 0) (record { answer = Allowed; state = t }) (record { answer = Violated (trailingZeros 8 bad); state = halt s })
+    (omega arith) (omega arith)
 
 -- ── The numbers of the refusals ──
 
@@ -49,11 +51,11 @@ number false x y h k = k
 refusal-number : (s : State) (step : Step) → Number (refusal s step)
 unfolding refusal
 refusal-number s (event zero r) =
-    number (ltb r statics) (some 22) (cond (listed r (live s)) (some 23) (cond (leb most-created (s .count)) (some 30) none)) (omega arith)
-    (number (listed r (live s)) (some 23) (cond (leb most-created (s .count)) (some 30) none) (omega arith)
-    (number (leb most-created (s .count)) (some 30) none (omega arith) tt))
+    number (ltb r statics) (some 22) (cond (listed r (live s)) (some 23) (cond (leb mostCreated (s .count)) (some 30) none)) (omega arith)
+    (number (listed r (live s)) (some 23) (cond (leb mostCreated (s .count)) (some 30) none) (omega arith)
+    (number (leb mostCreated (s .count)) (some 30) none (omega arith) tt))
 refusal-number s (event (suc a) r) = number (ltb r statics || listed r (live s)) none (some 24) tt (omega arith)
-refusal-number s (opening p) = number (leb most-open (getD (s .unclosed) p 0)) (some 31) none (omega arith) tt
+refusal-number s (opening p) = number (leb mostOpen (getD (s .unclosed) p 0)) (some 31) none (omega arith) tt
 refusal-number s (closing p) = number (ltb 0 (getD (s .unclosed) p 0)) none (some 25) tt (omega arith)
 
 step-short : (es : List Edge) (s : State) (step : Step) (o : Option ℕ) → Number o → Short (judgeStep es s step o)

@@ -10,26 +10,27 @@ use Rattle.usage.specs.Judge.{JudgedAll}
 use Rattle.usage.specs.Tables.{edgesOf, stepsOf}
 use Rattle.usage.proofs.TableLaws.{decides-edge-table}
 use Rattle.sheet_lines.specs.Sheet.{accepted, sheet}
-use Rattle.sheet_lines.specs.Sheets.{policies, trace}
-use Rattle.monitor_state.specs.Judge.{verdictOf, begin, answersOf}
+use Rattle.sheet_lines.specs.Sheets.{policySheet, traceSheet}
+use Rattle.monitor_state.specs.Judge.{verdictOf, startState, answersOf}
 use Rattle.monitor_state.proofs.Verdict.{all-judged-begin}
-use Rattle.report_lines.specs.Lines.{names-line, rows}
+use Rattle.report_lines.specs.Lines.{namesLine, rows}
 use Rattle.sheet_reader.proofs.AnswerLaws.{accepted-edges}
-use Rattle.report.specs.TraceRows.{judged-rows, trace-rows}
-use Rattle.report.specs.Trace.{sheets-rows, tracePrinted}
+use Rattle.report.specs.Output.{printed}
+use Rattle.report.specs.Trace.{judgedRows, traceRows, tracePrinted}
 
 -- the names, and a row for each step from line 2 on, with the right answers
 pub record Right (edges : List Edge) (steps : List RawStep) (output : List ℕ) : Type 0 where
   pub verdicts : List Verdict
   pub judged : JudgedAll false edges [] false steps verdicts
-  pub printed : output ≡ names-line ++ rows 2 verdicts
+  pub printed : output ≡ namesLine ++ rows 2 verdicts
 
 pub trace-right : (policies-text trace-text : List ℕ) (edges steps : List (List ℕ))
-    → sheet policies policies-text ≡ accepted edges → sheet trace trace-text ≡ accepted steps
+    → sheet policySheet policies-text ≡ accepted edges → sheet traceSheet trace-text ≡ accepted steps
     → Right (edgesOf (flatten edges)) (stepsOf (flatten steps)) (tracePrinted policies-text trace-text)
-unfolding tracePrinted sheets-rows trace-rows judged-rows
+unfolding printed tracePrinted traceRows judgedRows
 trace-right policies-text trace-text edges steps p t = record {
-  verdicts = map verdictOf (answersOf (flatten edges) begin (stepsOf (flatten steps)));
-  judged = all-judged-begin (flatten edges) (decides-edge-table (flatten edges) .1 (accepted-edges policies-text edges p)) (stepsOf (flatten steps));
+  verdicts = map verdictOf (answersOf (flatten edges) startState (stepsOf (flatten steps)));
+  judged = all-judged-begin (flatten edges) (decides-edge-table (flatten edges) .1 (accepted-edges policies-text edges p))
+      (stepsOf (flatten steps));
   printed = rw (p, t);
 }

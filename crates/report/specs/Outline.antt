@@ -1,27 +1,38 @@
--- What the second program prints.
-use Prim.Native.Nat.{ℕ, _<_, _≤_}
-use mathlib.Core.List.{List, _++_, flatten}
-use lib.ListN.{length, drop}
-use Rattle.usage.specs.Answers.{Refusal}
+-- What the second program prints, by the verdict that is right of its two sheets.
+use Prim.Native.Nat.{ℕ}
+use mathlib.Core.List.{List, flatten}
+use Rattle.usage.specs.Answers.{Verdict}
 use Rattle.sheet_lines.specs.Sheet.{Result, accepted, refused, sheet}
-use Rattle.sheet_lines.specs.Sheets.{policies, outline}
-use Rattle.sheet_reader.specs.Readers.{ruled}
-use Rattle.report_lines.specs.Lines.{names-line, refusal-row}
-use Rattle.report.specs.OutlineRows.{NodesRow}
-use Rattle.report.specs.Room.{outline-room}
+use Rattle.sheet_lines.specs.Sheets.{policySheet, outlineSheet}
+use Rattle.sheet_reader.specs.Readers.{ruledResult}
+use Rattle.checker.specs.Promise.{RightVerdict}
+use Rattle.report_lines.specs.Lines.{verdictRow, refusalRow}
+use Rattle.report.specs.Output.{printed}
 
--- "or a sheet's line, 3 or 5 (outline), number, policies first again"
-pub data OutlineRow : Result → Result → List ℕ → Type 0 where
-  policies-refused : {r : Refusal} {o : Result} → OutlineRow (refused r) o (refusal-row 3 r)
-  policies-accepted : {edges : List (List ℕ)} {o : Result} {line : List ℕ} → NodesRow (flatten edges) o line → OutlineRow (accepted edges) o line
+-- ── Which verdict is right ──
 
--- the whole output, from the bytes of `policies.txt` and `outline.txt`
-pub data OutlinePrinted (policies-text outline-text : List ℕ) : List ℕ → Type 0 where
-  prints : {line : List ℕ} → OutlineRow (sheet policies policies-text) (ruled (sheet outline outline-text)) line
-      → OutlinePrinted policies-text outline-text (names-line ++ line)
+-- under a table of edges; of a refused outline no verdict is told, so any will do
+unfoldable pub RightNodes : List ℕ → Result → Verdict → Type 0
+RightNodes edges (accepted nodes) v = RightVerdict edges (flatten nodes) v
+RightNodes edges (refused r) v = Unit {0}
 
--- The length of the output and what the buffer then holds; 0, which no output has, where the buffer lacks the room.
-pub data OutlinePut (policies-text outline-text buffer : List ℕ) : ℕ → List ℕ → Type 0 where
-  no-room : length buffer < outline-room → OutlinePut policies-text outline-text buffer 0 buffer
-  put : {output : List ℕ} → outline-room ≤ length buffer → OutlinePrinted policies-text outline-text output
-      → OutlinePut policies-text outline-text buffer (length output) (output ++ drop (length output) buffer)
+-- under a sheet of policies, and again any will do where it is refused
+unfoldable pub RightSheets : Result → Result → Verdict → Type 0
+RightSheets (accepted edges) nodes v = RightNodes (flatten edges) nodes v
+RightSheets (refused r) nodes v = Unit {0}
+
+-- of the bytes of `policies.txt` and `outline.txt`
+abbrev pub RightTexts : List ℕ → List ℕ → Verdict → Type 0
+RightTexts policies-text outline-text v = RightSheets (sheet policySheet policies-text) (ruledResult (sheet outlineSheet outline-text)) v
+
+-- ── What is printed of it ──
+
+-- "`0 0 0` when accepted, `0 1` and the policy when refused, or a sheet's line, .. 5 (outline), number"
+unfoldable pub nodesRow : Result → Verdict → List ℕ
+nodesRow (accepted nodes) v = verdictRow 0 v
+nodesRow (refused r) v = refusalRow 5 r
+
+-- the whole output
+unfoldable pub outlinePrinted : List ℕ → List ℕ → Verdict → List ℕ
+outlinePrinted policies-text outline-text v =
+    printed (sheet policySheet policies-text) (λ edges. nodesRow (ruledResult (sheet outlineSheet outline-text)) v)

@@ -1,16 +1,25 @@
 -- What the first program prints.
 use Prim.Native.Nat.{ℕ}
-use mathlib.Core.List.{List, _++_, flatten}
+use mathlib.Core.List.{List, map, flatten}
+use Rattle.usage.specs.declared.RawStep.{RawStep}
+use Rattle.usage.specs.Tables.{stepsOf}
 use Rattle.sheet_lines.specs.Sheet.{Result, accepted, refused, sheet}
-use Rattle.sheet_lines.specs.Sheets.{policies, trace}
-use Rattle.report_lines.specs.Lines.{names-line, refusal-row}
-use Rattle.report.specs.TraceRows.{trace-rows}
+use Rattle.sheet_lines.specs.Sheets.{policySheet, traceSheet}
+use Rattle.monitor_state.specs.declared.State.{State}
+use Rattle.monitor_state.specs.Judge.{verdictOf, startState, answersOf}
+use Rattle.report_lines.specs.Lines.{rows, refusalRow}
+use Rattle.report.specs.Output.{printed}
 
--- "policies come first"
-unfoldable pub sheets-rows : Result → Result → List ℕ
-sheets-rows (accepted edges) t = trace-rows (flatten edges) t
-sheets-rows (refused r) t = refusal-row 3 r
+-- the rows of steps that are judged from a state on, the first on line `line`
+unfoldable pub judgedRows : List ℕ → State → ℕ → List RawStep → List ℕ
+judgedRows edges s line steps = rows line (map verdictOf (answersOf edges s steps))
+
+-- Each step is judged with the state that the last one returned. Line 1 is that of the names, so the first step stands on line 2.
+-- "line, .. 4 (trace), number"
+unfoldable pub traceRows : List ℕ → Result → List ℕ
+traceRows edges (accepted steps) = judgedRows edges startState 2 (stepsOf (flatten steps))
+traceRows edges (refused r) = refusalRow 4 r
 
 -- the whole output, from the bytes of `policies.txt` and `trace.txt`
 unfoldable pub tracePrinted : List ℕ → List ℕ → List ℕ
-tracePrinted policies-text trace-text = names-line ++ sheets-rows (sheet policies policies-text) (sheet trace trace-text)
+tracePrinted policies-text trace-text = printed (sheet policySheet policies-text) (λ edges. traceRows edges (sheet traceSheet trace-text))

@@ -1,44 +1,69 @@
 // What the two programs print: the bytes of the sheets in, the bytes of the printed lines out.
+ghost use Prim.Native.Nat.{_<_};
 ghost use mathlib.Core.Path.{_≡_};
-ghost use Rattle.report.specs.Outline.{OutlinePut};
+ghost use Rattle.usage.specs.Answers.{Verdict};
+ghost use Rattle.report.specs.Output.{traceRoom, outlineRoom, lengthPut, put as Output·put};
 ghost use Rattle.report.specs.Trace.{tracePrinted};
-ghost use Rattle.report.specs.Room.{trace-room, length-put, put as Room·put};
+ghost use Rattle.report.specs.Outline.{RightTexts, outlinePrinted};
+use report_lines::NAMES;
 use sheet_lines::Reading;
+use usage::EDGE_FIELDS;
+use usage::EDGE_TABLE;
+use usage::MOST_STEPS;
 
-pub mod outline;
-pub mod trace;
+mod outline;
+mod trace;
+
+// ── Sizes ── as specs/Output has them.
+
+// The bytes of a line at most: of a step's, and of an outline's or of refused policies'.
+const LONGEST_STEP_ROW: usize = 10;
+
+const LONGEST_OUTLINE_ROW: usize = 8;
+
+// The bytes of the longest output of each program.
+pub const TRACE_ROOM: usize = NAMES + MOST_STEPS * LONGEST_STEP_ROW;
+
+pub const OUTLINE_ROOM: usize = NAMES + LONGEST_OUTLINE_ROW;
 
 // What the first program prints, from the bytes of `policies.txt` and `trace.txt`: its length, and 0 where `out` lacks the room.
 #[no_mangle]
 pub extern "C" fn report_trace(policies: &[u8], trace: &[u8], out: &mut [u8]) -> usize
-    ensures { λ r. ⌜ r ≡ length-put trace-room (now (out .entry)) (tracePrinted (now (policies .entry)) (now (trace .entry))) ⌝ }
-    ensures { λ r. ⌜ now (out .exit) ≡ Room·put trace-room (now (out .entry)) (tracePrinted (now (policies .entry)) (now (trace .entry))) ⌝ }
+    ensures { λ r. ⌜ r ≡ lengthPut traceRoom (now (out .entry)) (tracePrinted (now (policies .entry)) (now (trace .entry))) ⌝ }
+    ensures { λ r. ⌜ now (out .exit) ≡ Output·put traceRoom (now (out .entry))
+        (tracePrinted (now (policies .entry)) (now (trace .entry))) ⌝ }
 {
-    if out.len() < 20019 {
+    if out.len() < TRACE_ROOM {
         return 0;
     }
     let at = report_lines::names(out);
-    let mut edges = [0u8; 1536];
+    let mut edges = [0u8; EDGE_TABLE];
     let reading = sheet_reader::read_policies(policies, &mut edges);
     match reading {
-        Reading::Stored(n) => crate::trace::rows(&edges[0..n * 6], trace, out, at),
+        Reading::Stored(n) => crate::trace::rows(&edges[0..n * EDGE_FIELDS], trace, out, at),
         Reading::Refused { line, number } => report_lines::row(out, at, line, 3, number as usize),
     }
 }
 
 // What the second program prints, from the bytes of `policies.txt` and `outline.txt`: its length, and 0 where `out` lacks the room.
+// It is told by whichever verdict is right; where anything is printed, one is.
 #[no_mangle]
 pub extern "C" fn report_outline(policies: &[u8], outline: &[u8], out: &mut [u8]) -> usize
-    ensures { λ r. ⌜ OutlinePut (now (policies .entry)) (now (outline .entry)) (now (out .entry)) r (now (out .exit)) ⌝ }
+    ensures { λ r. ⌜ ((v : Verdict) → RightTexts (now (policies .entry)) (now (outline .entry)) v
+        → r ≡ lengthPut outlineRoom (now (out .entry)) (outlinePrinted (now (policies .entry)) (now (outline .entry)) v)) ⌝ }
+    ensures { λ r. ⌜ ((v : Verdict) → RightTexts (now (policies .entry)) (now (outline .entry)) v
+        → now (out .exit) ≡ Output·put outlineRoom (now (out .entry))
+        (outlinePrinted (now (policies .entry)) (now (outline .entry)) v)) ⌝ }
+    ensures { λ r. ⌜ (0 < r → (v : Verdict) × RightTexts (now (policies .entry)) (now (outline .entry)) v) ⌝ }
 {
-    if out.len() < 27 {
+    if out.len() < OUTLINE_ROOM {
         return 0;
     }
     let next = report_lines::names(out);
-    let mut edges = [0u8; 1536];
+    let mut edges = [0u8; EDGE_TABLE];
     let reading = sheet_reader::read_policies(policies, &mut edges);
     match reading {
-        Reading::Stored(n) => crate::outline::row(&edges[0..n * 6], outline, out, next),
+        Reading::Stored(n) => crate::outline::row(&edges[0..n * EDGE_FIELDS], outline, out, next),
         Reading::Refused { line, number } => report_lines::row(out, next, line, 3, number as usize),
     }
 }

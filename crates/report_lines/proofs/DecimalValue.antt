@@ -7,7 +7,7 @@ use native.Mathlib.Omega.{arith}
 use lib.Dec.{ltb}
 use lib.ListN.{length, getD, List·getD-append}
 use borrow.Author.Tests.{ltb-true, ltb-false}
-use Rattle.report_lines.specs.Decimal.{digit, decimal}
+use Rattle.report_lines.specs.Decimal.{digitByte, decimal}
 use Rattle.report_lines.proofs.DecimalLaws.{decimal-one, decimal-more, length-one, length-more}
 
 -- the value of the digits bs after a number n
@@ -25,14 +25,14 @@ unfolding value
 value-one n h = rw (decimal-one n h) (omega arith)
 
 value-more : (n : ℕ) → 10 ≤ n → value 0 (decimal (n / 10)) ≡ n / 10 → value 0 (decimal n) ≡ n
-value-more n h e = ap (value 0) (decimal-more n h) ∙ value-last 0 (decimal (n / 10)) (digit (n % 10)) ∙ rw e (omega arith)
+value-more n h e = ap (value 0) (decimal-more n h) ∙ value-last 0 (decimal (n / 10)) (digitByte (n % 10)) ∙ rw e (omega arith)
 
 -- the first digit
 lead-one : (n : ℕ) → 0 < n → n < 10 → 48 < getD (decimal n) 0 0
 lead-one n h l = rw (decimal-one n l) (omega arith)
 
 lead-more : (n : ℕ) → 10 ≤ n → 0 < length (decimal (n / 10)) → 48 < getD (decimal (n / 10)) 0 0 → 48 < getD (decimal n) 0 0
-lead-more n h l e = rw (decimal-more n h, List·getD-append (decimal (n / 10)) (digit (n % 10) ∷ []) 0 0 l) e
+lead-more n h l e = rw (decimal-more n h, List·getD-append (decimal (n / 10)) (digitByte (n % 10) ∷ []) 0 0 l) e
 
 some-digit : (n : ℕ) → 0 < length (decimal n)
 some-digit n = go (ltb n 10) refl

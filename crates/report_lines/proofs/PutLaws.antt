@@ -50,11 +50,14 @@ sets-field l i n end = sets-snoc l i (decimal n) end
 
 pub sets-row : (l : List ℕ) (i line answer detail : ℕ)
     → sets l i (row line answer detail)
-    ≡ sets (sets (sets l i (field line 32)) (i + length (field line 32)) (field answer 32)) (i + length (field line 32) + length (field answer 32)) (field detail 10)
+    ≡ sets (sets (sets l i (field line 32)) (i + length (decimal line) + 1) (field answer 32))
+    (i + length (decimal line) + 1 + length (decimal answer) + 1) (field detail 10)
 unfolding row
 sets-row l i line answer detail =
+    let one : (k n end : ℕ) → k + length (field n end) ≡ k + length (decimal n) + 1 = λ k n end. omega (arith, length-field n end) in
     sets-append l i (field line 32) (field answer 32 ++ field detail 10)
     ∙ sets-append (sets l i (field line 32)) (i + length (field line 32)) (field answer 32) (field detail 10)
+    ∙ rw (one i line 32, one (i + length (decimal line) + 1) answer 32)
 
 -- the three numbers, and a byte after each
 pub length-digits : (line answer detail : ℕ)

@@ -7,14 +7,15 @@ use native.Mathlib.Omega.{arith}
 use lib.ListN.{length}
 use lib.Seq.{sets}
 use Rattle.usage.specs.Answers.{Verdict, allowed, violated, refused, answer, detail}
-use Rattle.report_lines.specs.Lines.{names-line, row, verdict-row}
+use Rattle.report_lines.specs.Lines.{namesLine, namesRoom, row, verdictRow}
 use Rattle.report_lines.proofs.DecimalLaws.{tens, length-below}
-use Rattle.report_lines.specs.Put.{put-at, end-at}
+use Rattle.report_lines.specs.Put.{putAt, endAt}
 use Rattle.report_lines.proofs.PutLaws.{length-field, length-row}
 use Rattle.report_lines.proofs.FitLaws.{stored-at}
 
 -- of numbers below ten to the powers i + 1, j + 1 and k + 1: their digits, and a byte after each
-row-below : (i j k line answer detail : ℕ) → line < tens (suc i) → answer < tens (suc j) → detail < tens (suc k) → length (row line answer detail) ≤ i + j + k + 6
+row-below : (i j k line answer detail : ℕ) → line < tens (suc i) → answer < tens (suc j) → detail < tens (suc k)
+    → length (row line answer detail) ≤ i + j + k + 6
 row-below i j k line a d hl ha hd =
     let l = length-below i line hl in
     let m = length-below j a ha in
@@ -38,19 +39,20 @@ answer-small allowed = omega arith
 answer-small (violated p) = omega arith
 answer-small (refused n) = omega arith
 
-pub verdict-short : (line : ℕ) (v : Verdict) → line < 10000 → detail v < 100 → length (verdict-row line v) ≤ 10
+pub verdict-short : (line : ℕ) (v : Verdict) → line < 10000 → detail v < 100 → length (verdictRow line v) ≤ 10
 verdict-short line v h l = row-short line (answer v) (detail v) h (answer-small v) l
 
-pub length-names : length names-line ≡ 19
-unfolding names-line
+pub length-names : length namesLine ≡ namesRoom
+unfolding namesLine
 length-names = refl
 
 -- of the numbers that the function returns
-pub names-stored : {r : ℕ} {after : List ℕ} (buffer : List ℕ) → 19 ≤ length buffer → r ≡ end-at buffer 0 names-line → after ≡ put-at buffer 0 names-line
-    → (r ≡ length names-line) × (after ≡ sets buffer 0 names-line)
+pub names-stored : {r : ℕ} {after : List ℕ} (buffer : List ℕ) → namesRoom ≤ length buffer → r ≡ endAt buffer 0 namesLine → after
+    ≡ putAt buffer 0 namesLine
+    → (r ≡ length namesLine) × (after ≡ sets buffer 0 namesLine)
 names-stored buffer h e t =
-    let z = stored-at buffer 0 names-line (rw (zero-add (length names-line), length-names) h) e t in
-    (z .0 ∙ zero-add (length names-line), z .1)
+    let z = stored-at buffer 0 namesLine (rw (zero-add (length namesLine), length-names) h) e t in
+    (z .0 ∙ zero-add (length namesLine), z .1)
 
-pub verdict-eight : (v : Verdict) → detail v < 256 → length (verdict-row 0 v) ≤ 8
+pub verdict-eight : (v : Verdict) → detail v < 256 → length (verdictRow 0 v) ≤ 8
 verdict-eight v h = row-below 0 0 2 0 (answer v) (detail v) (omega arith) (answer-small v) (omega arith)

@@ -6,8 +6,12 @@ use Rattle.sheet_lines.specs.Bytes.{bytes}
 use Rattle.report_lines.specs.Decimal.{decimal}
 
 -- "It prints `line answer detail`"
-unfoldable pub names-line : List ℕ
-names-line = bytes "line answer detail\n"
+unfoldable pub namesLine : List ℕ
+namesLine = bytes "line answer detail\n"
+
+-- its bytes (`length-names` of proofs/RowLaws)
+abbrev pub namesRoom : ℕ
+namesRoom = 19
 
 -- a number and the byte after it
 unfoldable pub field : ℕ → ℕ → List ℕ
@@ -18,14 +22,14 @@ unfoldable pub row : ℕ → ℕ → ℕ → List ℕ
 row line answer detail = field line 32 ++ (field answer 32 ++ field detail 10)
 
 -- "0 allowed, 1 violated or 2 refused, and the policy, the number, or 0"
-abbrev pub verdict-row : ℕ → Verdict → List ℕ
-verdict-row line v = row line (answer v) (detail v)
+abbrev pub verdictRow : ℕ → Verdict → List ℕ
+verdictRow line v = row line (answer v) (detail v)
 
 -- "then for each value line its line number", the answer and the detail
 unfoldable pub rows : ℕ → List Verdict → List ℕ
 rows line [] = []
-rows line (v ∷ vs) = verdict-row line v ++ rows (suc line) vs
+rows line (v ∷ vs) = verdictRow line v ++ rows (suc line) vs
 
 -- "A refused sheet prints, after the names, only one line: line, 3 (policies) or 4 (trace), number"; "5 (outline)"
-abbrev pub refusal-row : ℕ → Refusal → List ℕ
-refusal-row sheet r = row (r .line) sheet (r .number)
+abbrev pub refusalRow : ℕ → Refusal → List ℕ
+refusalRow sheet r = row (r .line) sheet (r .number)

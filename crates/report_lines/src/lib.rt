@@ -1,23 +1,26 @@
 // The lines that the two programs print, put into a lent buffer. Where the buffer lacks the room for one, nothing is written.
 ghost use mathlib.Core.Path.{_≡_};
-ghost use Prim.Native.Nat.{_+_, _≤_};
+ghost use Prim.Native.Nat.{_+_, _<_, _≤_};
 ghost use lib.ListN.{length};
 ghost use lib.Seq.{sets};
 ghost use Rattle.report_lines.specs.Decimal.{decimal};
-ghost use Rattle.report_lines.specs.Lines.{names-line, field as Lines·field, row as Lines·row};
-ghost use Rattle.report_lines.specs.Put.{put-at, end-at};
+ghost use Rattle.report_lines.specs.Lines.{namesLine, field as Lines·field, row as Lines·row};
+ghost use Rattle.report_lines.specs.Put.{putAt, endAt};
+
+// The bytes of the line of names.
+pub const NAMES: usize = 19;
 
 // The line of names, at the start: the place after it, and 0 where `out` lacks the room.
 pub fn names(out: &mut [u8]) -> usize
-    ensures { λ r. ⌜ r ≡ end-at (now (out .entry)) 0 names-line ⌝ }
-    ensures { λ r. ⌜ now (out .exit) ≡ put-at (now (out .entry)) 0 names-line ⌝ }
+    ensures { λ r. ⌜ r ≡ endAt (now (out .entry)) 0 namesLine ⌝ }
+    ensures { λ r. ⌜ now (out .exit) ≡ putAt (now (out .entry)) 0 namesLine ⌝ }
 {
-    if out.len() < 19 {
+    if out.len() < NAMES {
         return 0;
     }
     let text = b"line answer detail\n";
     let mut i: usize = 0;
-    while i < 19 {
+    while i < NAMES {
         out[i] = text[i];
         i += 1;
     }
@@ -26,8 +29,8 @@ pub fn names(out: &mut [u8]) -> usize
 
 // One printed line, from `at` on: the place after it, and `at` where `out` lacks the room.
 pub fn row(out: &mut [u8], at: usize, line: usize, answer: usize, detail: usize) -> usize
-    ensures { λ r. ⌜ r ≡ end-at (now (out .entry)) at (Lines·row line answer detail) ⌝ }
-    ensures { λ r. ⌜ now (out .exit) ≡ put-at (now (out .entry)) at (Lines·row line answer detail) ⌝ }
+    ensures { λ r. ⌜ r ≡ endAt (now (out .entry)) at (Lines·row line answer detail) ⌝ }
+    ensures { λ r. ⌜ now (out .exit) ≡ putAt (now (out .entry)) at (Lines·row line answer detail) ⌝ }
 {
     if out.len() < at {
         return at;
@@ -36,9 +39,9 @@ pub fn row(out: &mut [u8], at: usize, line: usize, answer: usize, detail: usize)
     if out.len() - at < needed {
         return at;
     }
-    let second = field(out, at, line, 32);
-    let third = field(out, second, answer, 32);
-    field(out, third, detail, 10)
+    let second = field(out, at, line, b' ');
+    let third = field(out, second, answer, b' ');
+    field(out, third, detail, b'\n')
 }
 
 // How many digits n has.
@@ -60,19 +63,20 @@ fn number(out: &mut [u8], at: usize, n: usize) -> usize
     ensures { λ r. ⌜ now (out .exit) ≡ sets (now (out .entry)) at (decimal n) ⌝ }
 {
     if n < 10 {
-        out[at] = 48 + n as u8;
+        out[at] = b'0' + n as u8;
         return at + 1;
     }
     let last = number(out, at, n / 10);
-    out[last] = 48 + (n % 10) as u8;
+    out[last] = b'0' + (n % 10) as u8;
     last + 1
 }
 
 // A number and the byte after it.
 fn field(out: &mut [u8], at: usize, n: usize, end: u8) -> usize
-    requires { ⌜ at + length (Lines·field n end) ≤ length (now out) ⌝ }
-    ensures { λ r. ⌜ r ≡ at + length (Lines·field n end) ⌝ }
+    requires { ⌜ at + length (decimal n) < length (now out) ⌝ }
+    ensures { λ r. ⌜ r ≡ at + length (decimal n) + 1 ⌝ }
     ensures { λ r. ⌜ now (out .exit) ≡ sets (now (out .entry)) at (Lines·field n end) ⌝ }
+    ensures { λ r. ⌜ length (now (out .exit)) ≡ length (now (out .entry)) ⌝ }
 {
     let last = number(out, at, n);
     out[last] = end;

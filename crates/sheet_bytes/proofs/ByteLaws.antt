@@ -1,5 +1,5 @@
 -- Laws of one byte of a line: what the class of a digit says of the byte, and how large a value of so many digits is.
-use Prim.Native.Nat.{ℕ, zero, suc, _+_, _-_, _*_, _^_, _<_, _≤_}
+use Prim.Native.Nat.{ℕ, zero, suc, _+_, _*_, _^_, _<_, _≤_}
 use mathlib.Core.Path.{_≡_, refl}
 use mathlib.Core.Bool.{Bool, true, false, cond}
 use native.Mathlib.Omega.{arith}
@@ -7,7 +7,9 @@ use native.Mathlib.Nat.{pow-suc}
 use native.Mathlib.Numerals.{add-one}
 use lib.Dec.{eqb, ltb}
 use borrow.Author.Tests.{ltb-true, ltb-false}
+use Rattle.usage.specs.Limits.{mostDigits}
 use Rattle.sheet_bytes.specs.Class.{classOf}
+use Rattle.sheet_bytes.specs.Code.{valueLimit}
 
 pub digit-byte : (b : ℕ) → classOf b ≡ 0 → (48 ≤ b) × (b < 58)
 unfolding classOf
@@ -23,15 +25,19 @@ digit-byte b e = go (ltb b 48) (ltb b 58) refl refl e
     go false true p q e = (ltb-false b 48 p, ltb-true b 58 q)
     go false false p q e = absurd (omega arith)
 
--- a power of ten of at most five digits
-pub five-digits : (d : ℕ) → d ≤ 5 → 10 ^ d ≤ 100000
-five-digits zero h = omega arith
-five-digits (suc zero) h = omega arith
-five-digits (suc (suc zero)) h = omega arith
-five-digits (suc (suc (suc zero))) h = omega arith
-five-digits (suc (suc (suc (suc zero)))) h = omega arith
-five-digits (suc (suc (suc (suc (suc zero))))) h = omega arith
-five-digits (suc (suc (suc (suc (suc (suc d)))))) h = absurd (omega arith)
+-- fewer digits, smaller numbers
+ten-pos : (n : ℕ) → 1 ≤ 10 ^ n
+ten-pos zero = omega arith
+ten-pos (suc n) = let h = ten-pos n in rw (pow-suc 10 n) (omega arith)
+
+pub ten-le : (d n : ℕ) → d ≤ n → 10 ^ d ≤ 10 ^ n
+ten-le zero n h = ten-pos n
+ten-le (suc d) zero h = absurd (omega arith)
+ten-le (suc d) (suc n) h = let l = ten-le d n (omega arith) in rw (pow-suc 10 d, pow-suc 10 n) (omega arith)
+
+-- a value of at most so many digits
+pub few-digits : (d v : ℕ) → d ≤ mostDigits → v < 10 ^ d → v < valueLimit
+few-digits d v h l = let m = ten-le d mostDigits h in omega arith
 
 -- one more digit
 pub one-more : (v d x : ℕ) → v < 10 ^ d → x < 10 → v * 10 + x < 10 ^ (d + 1)

@@ -9,6 +9,7 @@ use native.Mathlib.Omega.{arith}
 use lib.Dec.{eqb, ltb}
 use lib.Seq.{append-snoc}
 use borrow.Author.Tests.{eqb-true, ne-eqb, lt-ltb, ltb-true}
+use Rattle.usage.specs.Limits.{mostDigits}
 use Rattle.usage.proofs.Logic.{clash, by-cases}
 use Rattle.sheet_bytes.specs.Class.{classOf}
 use Rattle.sheet_bytes.specs.Line.{Progress, nothing, further, byte, read, complete}
@@ -24,10 +25,10 @@ unfolding read
 read-append o [] bs = refl
 read-append o (x ∷ xs) bs = read-append (byte o x) xs bs
 
-digit-byte : (us : List ℕ) (n v b : ℕ) → classOf b ≡ 0 → n < 5 → byte (some (at us n v)) b ≡ some (at us (n + 1) (v * 10 + (b - 48)))
-digit-byte us n v b k h = rw (k, lt-ltb n 5 h) refl
+digit-byte : (us : List ℕ) (n v b : ℕ) → classOf b ≡ 0 → n < mostDigits → byte (some (at us n v)) b ≡ some (at us (n + 1) (v * 10 + (b - 48)))
+digit-byte us n v b k h = rw (k, lt-ltb n mostDigits h) refl
 
-digits-read : (us : List ℕ) {n v : ℕ} {cs : List ℕ} → Digits n v cs → n ≤ 5 → read (some (at us 0 0)) cs ≡ some (at us n v)
+digits-read : (us : List ℕ) {n v : ℕ} {cs : List ℕ} → Digits n v cs → n ≤ mostDigits → read (some (at us 0 0)) cs ≡ some (at us n v)
 unfolding read
 digits-read us no-digit h = refl
 digits-read us (one-more {n} {v} {bs} b k d) h =
@@ -84,7 +85,7 @@ abbrev After : List ℕ → List ℕ → Type 0
 After bs ws = Values ws bs ⊎ ((sp : List ℕ) × (cs : List ℕ) × Spaces sp × (bs ≡ sp ++ cs) × Values ws cs)
 
 abbrev Within-law : List ℕ → List ℕ → Type 0
-Within-law vs bs = (us : List ℕ) (n v : ℕ) (cs : List ℕ) → Digits (n + 1) v cs → n < 5 → complete (read (some (at us (n + 1) v)) bs) ≡ some vs → Goes-on us vs (λ ws. Values ws (cs ++ bs))
+Within-law vs bs = (us : List ℕ) (n v : ℕ) (cs : List ℕ) → Digits (n + 1) v cs → n < mostDigits → complete (read (some (at us (n + 1) v)) bs) ≡ some vs → Goes-on us vs (λ ws. Values ws (cs ++ bs))
 
 abbrev After-law : List ℕ → List ℕ → Type 0
 After-law vs bs = (u : ℕ) (us : List ℕ) → complete (read (some (at (u ∷ us) 0 0)) bs) ≡ some vs → Goes-on (u ∷ us) vs (After bs)
@@ -93,7 +94,7 @@ module _ (vs : List ℕ) where
   -- one more byte within a value
   within-step : (b : ℕ) (bs : List ℕ) → Within-law vs bs → After-law vs bs → Within-law vs (b ∷ bs)
   unfolding read
-  within-step b bs wi af us n v cs d h e = go (eqb (classOf b) 0) (eqb (classOf b) 1) (ltb (n + 1) 5) (eqb (n + 1) 0) refl refl refl refl e
+  within-step b bs wi af us n v cs d h e = go (eqb (classOf b) 0) (eqb (classOf b) 1) (ltb (n + 1) mostDigits) (eqb (n + 1) 0) refl refl refl refl e
     where
       value : Value v cs
       value = record { count = n + 1; some-digit = omega arith; few = omega arith; digits = d }
@@ -105,11 +106,11 @@ module _ (vs : List ℕ) where
       none-zero : n + 1 ≡ 0 → ⊥
       none-zero z = omega arith
 
-      go : (x y l z : Bool) → eqb (classOf b) 0 ≡ x → eqb (classOf b) 1 ≡ y → ltb (n + 1) 5 ≡ l → eqb (n + 1) 0 ≡ z
+      go : (x y l z : Bool) → eqb (classOf b) 0 ≡ x → eqb (classOf b) 1 ≡ y → ltb (n + 1) mostDigits ≡ l → eqb (n + 1) 0 ≡ z
           → complete (read (cond x (cond l (some (at us (n + 1 + 1) (v * 10 + (b - 48)))) none) (cond y (cond z (further (at us (n + 1) v) us) (some (at (us ++ (v ∷ [])) 0 0))) none)) bs) ≡ some vs
           → Goes-on us vs (λ ws. Values ws (cs ++ (b ∷ bs)))
       go true y true z p q r t e =
-          let g = wi us (n + 1) (v * 10 + (b - 48)) (cs ++ (b ∷ [])) (one-more b (eqb-true (classOf b) 0 p) d) (ltb-true (n + 1) 5 r) e in
+          let g = wi us (n + 1) (v * 10 + (b - 48)) (cs ++ (b ∷ [])) (one-more b (eqb-true (classOf b) 0 p) d) (ltb-true (n + 1) mostDigits r) e in
           record { ws = g .ws; whole = g .whole; rest = rw (append-snoc cs b bs) at (g .rest) }
       go true y false z p q r t e = read-none bs vs e
       go false true l true p q r t e = absurd (none-zero (eqb-true (n + 1) 0 t))

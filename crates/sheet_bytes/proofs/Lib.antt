@@ -1,4 +1,3 @@
 -- The laws of the definitions in specs/, for the proofs of this crate and of those above it.
-pub mod Tabulate
 pub mod ByteLaws
 pub mod GrammarLaws

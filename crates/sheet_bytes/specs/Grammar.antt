@@ -2,6 +2,7 @@
 use Prim.Native.Nat.{ℕ, _+_, _-_, _*_, _≤_}
 use mathlib.Core.Path.{_≡_}
 use mathlib.Core.List.{List, [], _∷_, _++_}
+use Rattle.usage.specs.Limits.{mostDigits}
 use Rattle.sheet_bytes.specs.Class.{classOf}
 
 -- n digits with the number v
@@ -13,7 +14,7 @@ pub data Digits : ℕ → ℕ → List ℕ → Type 0 where
 pub record Value (v : ℕ) (bs : List ℕ) : Type 0 where
   pub count : ℕ
   pub some-digit : 1 ≤ count
-  pub few : count ≤ 5
+  pub few : count ≤ mostDigits
   pub digits : Digits count v bs
 
 -- "one or more spaces"

@@ -3,5 +3,5 @@ pub mod Class
 pub mod Line
 -- The same lines as rules.
 pub mod Grammar
--- What the functions compute.
-pub mod Steps
+-- What only the functions compute.
+pub mod Code

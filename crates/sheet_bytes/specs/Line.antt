@@ -5,6 +5,7 @@ use mathlib.Core.Option.{Option, none, some}
 use mathlib.Core.List.{List, [], _∷_, _++_}
 use lib.Dec.{eqb, ltb}
 use lib.ListN.{length}
+use Rattle.usage.specs.Limits.{mostDigits}
 use Rattle.sheet_bytes.specs.Class.{classOf}
 
 -- ── The lines of a text ──
@@ -42,7 +43,7 @@ nothing = record { values = []; digits = 0; value = 0 }
 
 -- "Values are 1 to 5 digits, leading zeros allowed"
 abbrev pub digit : Progress → ℕ → Option Progress
-digit p b = cond (ltb (p .digits) 5)
+digit p b = cond (ltb (p .digits) mostDigits)
     (some record { values = p .values; digits = p .digits + 1; value = p .value * 10 + (b - 48) })
     none
 

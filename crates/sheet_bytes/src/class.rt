@@ -2,7 +2,10 @@
 ghost use mathlib.Core.Path.{_≡_};
 ghost use Rattle.sheet_bytes.specs.Class.{classOf};
 
-const CLASSES: [u8; 256] = [
+// How many bytes there are.
+const BYTES: usize = 256;
+
+const CLASSES: [u8; BYTES] = [
     3,
     3,
     3,
@@ -261,7 +264,7 @@ const CLASSES: [u8; 256] = [
     3,
 ];
 
-pub fn class(b: u8) -> u8
+pub(crate) fn class(b: u8) -> u8
     ensures { λ r. ⌜ r ≡ classOf b ⌝ }
 {
     CLASSES[b as usize]

@@ -1,9 +1,15 @@
 // The values of one line of a sheet, read byte by byte (refusal 2).
 ghost use mathlib.Core.Path.{_≡_};
 ghost use Rattle.sheet_bytes.specs.Class.{classOf};
-ghost use Rattle.sheet_bytes.specs.Steps.{digit-step, space-step, end-step, step-of};
+ghost use Rattle.sheet_bytes.specs.Code.{digitStep, spaceStep, endStep, byteStep};
 
 mod class;
+
+// Document 01: "Values are 1 to 5 digits", as usage's `most-digits` has it.
+const MOST_DIGITS: usize = 5;
+
+// A value of so many digits is below this.
+const VALUES: u64 = 100000;
 
 // What has been read of a line: how many values before, and of the value that is being read how many digits and its number so far.
 pub struct Part {
@@ -21,7 +27,7 @@ pub enum Next {
 
 // One more byte of a line of n fields.
 pub fn step(n: usize, p: Part, b: u8) -> Next
-    ensures { λ r. ⌜ r ≡ step-of n p b ⌝ }
+    ensures { λ r. ⌜ r ≡ byteStep n p b ⌝ }
 {
     let k = class::class(b);
     if k == 0 {
@@ -39,12 +45,12 @@ pub fn step(n: usize, p: Part, b: u8) -> Next
 // Document 01: "Values are 1 to 5 digits, leading zeros allowed".
 fn digit(p: Part, b: u8) -> Next
     requires { ⌜ classOf b ≡ 0 ⌝ }
-    ensures { λ r. ⌜ r ≡ digit-step p b ⌝ }
+    ensures { λ r. ⌜ r ≡ digitStep p b ⌝ }
 {
-    if 5 <= p.digits {
+    if MOST_DIGITS <= p.digits {
         return Next::Malformed;
     }
-    if 99999 < p.value {
+    if VALUES <= p.value {
         return Next::Malformed;
     }
     Next::Goes(Part {
@@ -56,7 +62,7 @@ fn digit(p: Part, b: u8) -> Next
 
 // Document 01: "parted by one or more spaces, none at either end of a line".
 fn space(n: usize, p: Part) -> Next
-    ensures { λ r. ⌜ r ≡ space-step n p ⌝ }
+    ensures { λ r. ⌜ r ≡ spaceStep n p ⌝ }
 {
     if p.digits == 0 {
         if p.count == 0 {
@@ -80,7 +86,7 @@ fn space(n: usize, p: Part) -> Next
 
 // At the line feed the last value must have been read.
 fn end(n: usize, p: Part) -> Next
-    ensures { λ r. ⌜ r ≡ end-step n p ⌝ }
+    ensures { λ r. ⌜ r ≡ endStep n p ⌝ }
 {
     if p.digits == 0 {
         return Next::Malformed;

@@ -1,3 +1,5 @@
-pub mod EdgeLaws
 -- The laws of the definitions in specs/, for the proofs of this crate and of those above it.
 pub mod RangeLaws
+-- Every record of a table passes a test; tables of edges.
+pub mod EveryLaws
+pub mod EdgeLaws

@@ -3,13 +3,42 @@ ghost use mathlib.Core.Path.{_≡_};
 ghost use mathlib.Core.Bool.{true, false, _&&_};
 ghost use lib.Dec.{eqb};
 ghost use lib.ListN.{length, getElem?};
-ghost use Rattle.usage.specs.Judge.{step-kinds};
-ghost use Rattle.usage.specs.Outline.{node-kinds};
+ghost use Rattle.usage.specs.Limits.{edgeFields, stepFields};
+ghost use Rattle.usage.specs.Judge.{stepKinds};
+ghost use Rattle.usage.specs.Outline.{nodeKinds};
 ghost use Rattle.usage.specs.Tests.{edgeOk, nodeOk};
-ghost use Rattle.sheet_fields.specs.Fields.{stepOk, edge-line, step-line, node-line, line-fits};
-ghost use Rattle.sheet_fields.specs.Spans.{spansOf, in-span, in-spans};
+ghost use Rattle.sheet_fields.specs.Fields.{stepOk, edgeLine, stepLine, nodeLine, nodeLineFields, lineFits};
+ghost use Rattle.sheet_fields.specs.Code.{spansOf, inSpan, inSpans};
+use usage::ACTIONS;
+use usage::EDGE_FIELDS;
+use usage::STATICS;
+use usage::STEP_FIELDS;
 
 pub mod edges;
+
+// How many values are on a node's line: its number, and those of the record.
+pub const NODE_LINE_FIELDS: usize = usage::NODE_FIELDS + 1;
+
+// What a field of that name may hold is below this.
+const POLICIES: u32 = usage::POLICIES as u32;
+
+const STATES: u32 = usage::STATES as u32;
+
+const NODES: u32 = usage::MOST_NODES as u32;
+
+// The last number of each.
+const LAST_ACTION: u32 = ACTIONS - 1;
+
+const LAST_STATIC: u32 = STATICS - 1;
+
+const LAST_RESOURCE: u32 = usage::RESOURCES - 1;
+
+const LAST_POLICY: u32 = POLICIES - 1;
+
+const LAST_NODE: u32 = NODES - 1;
+
+// Document 01: "name b (0 to 3)".
+const LAST_NAME: u32 = 3;
 
 // Which sheet is read.
 pub enum Kind {
@@ -19,20 +48,20 @@ pub enum Kind {
 }
 
 // The values that a field may hold.
-pub struct Span {
+struct Span {
     pub least: u32,
     pub most: u32,
 }
 
 // The ranges of the fields a and b of a kind; not known where there is no such kind.
-pub struct Spans {
+struct Spans {
     pub known: bool,
     pub a: Span,
     pub b: Span,
 }
 
 fn within(v: u32, s: Span) -> bool
-    ensures { λ r. ⌜ r ≡ in-span s v ⌝ }
+    ensures { λ r. ⌜ r ≡ inSpan s v ⌝ }
 {
     if v < s.least {
         return false;
@@ -41,7 +70,7 @@ fn within(v: u32, s: Span) -> bool
 }
 
 fn fit(s: Spans, a: u32, b: u32) -> bool
-    ensures { λ r. ⌜ r ≡ in-spans s a b ⌝ }
+    ensures { λ r. ⌜ r ≡ inSpans s a b ⌝ }
 {
     if !s.known {
         return false;
@@ -76,30 +105,30 @@ fn no_spans() -> Spans
 
 // Document 01: "The kinds, with fields a and b (0 when unused)".
 fn node_spans(kind: u32) -> Spans
-    ensures { λ r. ⌜ r ≡ spansOf (getElem? node-kinds kind) ⌝ }
+    ensures { λ r. ⌜ r ≡ spansOf (getElem? nodeKinds kind) ⌝ }
 {
     match kind {
         0 => both(0, 0, 0, 0),
-        1 => both(1, 31, 0, 15),
-        2 => both(1, 31, 0, 3),
-        3 => both(0, 63, 0, 63),
-        4 => both(0, 63, 0, 63),
-        5 => both(0, 63, 0, 0),
-        6 => both(0, 63, 0, 0),
-        7 => both(0, 3, 0, 63),
-        8 => both(0, 7, 0, 63),
+        1 => both(1, LAST_ACTION, 0, LAST_STATIC),
+        2 => both(1, LAST_ACTION, 0, LAST_NAME),
+        3 => both(0, LAST_NODE, 0, LAST_NODE),
+        4 => both(0, LAST_NODE, 0, LAST_NODE),
+        5 => both(0, LAST_NODE, 0, 0),
+        6 => both(0, LAST_NODE, 0, 0),
+        7 => both(0, LAST_NAME, 0, LAST_NODE),
+        8 => both(0, LAST_POLICY, 0, LAST_NODE),
         _ => no_spans(),
     }
 }
 
 // Document 01: "kind 0 event (action 0 to 31, resource 0 to 65,535), 1 open (policy 0 to 7, 0), 2 close (policy 0 to 7, 0)".
 fn step_spans(kind: u32) -> Spans
-    ensures { λ r. ⌜ r ≡ spansOf (getElem? step-kinds kind) ⌝ }
+    ensures { λ r. ⌜ r ≡ spansOf (getElem? stepKinds kind) ⌝ }
 {
     match kind {
-        0 => both(0, 31, 0, 65535),
-        1 => both(0, 7, 0, 0),
-        2 => both(0, 7, 0, 0),
+        0 => both(0, LAST_ACTION, 0, LAST_RESOURCE),
+        1 => both(0, LAST_POLICY, 0, 0),
+        2 => both(0, LAST_POLICY, 0, 0),
         _ => no_spans(),
     }
 }
@@ -119,33 +148,33 @@ pub fn step_fits(kind: u32, a: u32, b: u32) -> bool
 }
 
 // The six numbers of an edge are in range, on a line or in a lent table.
-pub fn edge_fits(policy: u32, from: u32, action: u32, on: u32, who: u32, to: u32) -> bool
+fn edge_fits(policy: u32, from: u32, action: u32, on: u32, who: u32, to: u32) -> bool
     ensures { λ r. ⌜ r ≡ edgeOk (record { policy = policy; «from» = from; action = action; on = on; who = who; to = to }) ⌝ }
 {
-    if 8 <= policy {
+    if POLICIES <= policy {
         return false;
     }
-    if 8 <= from {
+    if STATES <= from {
         return false;
     }
-    if 32 <= action {
+    if ACTIONS <= action {
         return false;
     }
-    if 8 <= to {
+    if STATES <= to {
         return false;
     }
     if 3 <= on {
         return false;
     }
     if on == 0 {
-        return who < 16;
+        return who < STATICS;
     }
     who == 0
 }
 
 // The values of one line are as many as its fields, each in its range.
 pub fn line_fits(kind: Kind, values: &[u32]) -> bool
-    ensures { λ r. ⌜ r ≡ line-fits kind (now (values .entry)) ⌝ }
+    ensures { λ r. ⌜ r ≡ lineFits kind (now (values .entry)) ⌝ }
 {
     match kind {
         Kind::Policies => edge_line(values),
@@ -155,9 +184,9 @@ pub fn line_fits(kind: Kind, values: &[u32]) -> bool
 }
 
 fn edge_line(values: &[u32]) -> bool
-    ensures { λ r. ⌜ r ≡ eqb (length (now (values .entry))) 6 && edge-line (now (values .entry)) ⌝ }
+    ensures { λ r. ⌜ r ≡ eqb (length (now (values .entry))) edgeFields && edgeLine (now (values .entry)) ⌝ }
 {
-    if values.len() != 6 {
+    if values.len() != EDGE_FIELDS {
         return false;
     }
     edge_fits(
@@ -171,21 +200,21 @@ fn edge_line(values: &[u32]) -> bool
 }
 
 fn step_line(values: &[u32]) -> bool
-    ensures { λ r. ⌜ r ≡ eqb (length (now (values .entry))) 3 && step-line (now (values .entry)) ⌝ }
+    ensures { λ r. ⌜ r ≡ eqb (length (now (values .entry))) stepFields && stepLine (now (values .entry)) ⌝ }
 {
-    if values.len() != 3 {
+    if values.len() != STEP_FIELDS {
         return false;
     }
     step_fits(values[0], values[1], values[2])
 }
 
 fn node_line(values: &[u32]) -> bool
-    ensures { λ r. ⌜ r ≡ eqb (length (now (values .entry))) 4 && node-line (now (values .entry)) ⌝ }
+    ensures { λ r. ⌜ r ≡ eqb (length (now (values .entry))) nodeLineFields && nodeLine (now (values .entry)) ⌝ }
 {
-    if values.len() != 4 {
+    if values.len() != NODE_LINE_FIELDS {
         return false;
     }
-    if 63 < values[0] {
+    if NODES <= values[0] {
         return false;
     }
     node_fits(values[1], values[2], values[3])

@@ -9,10 +9,11 @@ use native.Mathlib.Nat.{suc-mul, zero-add}
 use lib.Dec.{eqb, ltb}
 use lib.ListN.{length, drop, length-append}
 use borrow.Author.Tests.{eqb-true}
+use Rattle.usage.specs.Limits.{longestSheet}
 use Rattle.usage.proofs.Logic.{clash, and-right, false-true}
 use Rattle.sheet_bytes.specs.Line.{Line, linesOf, nothing, read, complete, counted, valuesOf}
-use Rattle.sheet_lines.specs.Sheet.{Sheet, Result, accepted, refused, refuse, followed, entry, value-lines, starts-with, longest, sheet}
-use Rattle.sheet_lines.specs.Steps.{held, refusing, onto}
+use Rattle.sheet_lines.specs.Sheet.{Sheet, Result, accepted, refused, refuseAt, followed, entry, valueLines, startsWith, sheet}
+use Rattle.sheet_lines.specs.Code.{held, refusing, heldOnto}
 
 pub data Rows (s : Sheet) : List (List ℕ) → Type 0 where
   no-row : Rows s []
@@ -39,11 +40,11 @@ values-length n l vs e = go (l .ended) e
     go false e = clash (cc)
 
 module _ (s : Sheet) where
-  pub lines-rows : (line left : ℕ) (ls : List Line) (rows : List (List ℕ)) → value-lines s line left ls ≡ accepted rows → Rows s rows × (length rows ≤ left)
-  unfolding value-lines
+  pub lines-rows : (line left : ℕ) (ls : List Line) (rows : List (List ℕ)) → valueLines s line left ls ≡ accepted rows → Rows s rows × (length rows ≤ left)
+  unfolding valueLines
   lines-rows line left [] rows e = let z : [] ≡ rows = cc in rw (← z) (no-row, omega arith)
   lines-rows line zero (l ∷ ls) rows e = clash (cc)
-  lines-rows line (suc left) (l ∷ ls) rows e = go (valuesOf (s .fields) l) (value-lines s (suc line) left ls) (values-length (s .fields) l) (lines-rows (suc line) left ls) e
+  lines-rows line (suc left) (l ∷ ls) rows e = go (valuesOf (s .fields) l) (valueLines s (suc line) left ls) (values-length (s .fields) l) (lines-rows (suc line) left ls) e
     where
       after : (vs : List ℕ) (r : Result) → length vs ≡ s .fields → s .in-range vs ≡ true → ((rs : List (List ℕ)) → r ≡ accepted rs → Rows s rs × (length rs ≤ left))
           → followed vs r ≡ accepted rows → Rows s rows × (length rows ≤ suc left)
@@ -59,15 +60,15 @@ module _ (s : Sheet) where
       go none r k ih e = clash (cc)
       go (some vs) r k ih e = ranged (s .in-range vs) refl e
         where
-          ranged : (x : Bool) → s .in-range vs ≡ x → cond x (followed vs r) (refuse line 3) ≡ accepted rows → Rows s rows × (length rows ≤ suc left)
+          ranged : (x : Bool) → s .in-range vs ≡ x → cond x (followed vs r) (refuseAt line 3) ≡ accepted rows → Rows s rows × (length rows ≤ suc left)
           ranged true q e = after vs r (k vs refl) q ih e
           ranged false q e = clash (cc)
 
   pub sheet-accepted : (text : List ℕ) (rows : List (List ℕ)) → sheet s text ≡ accepted rows → Accepted s rows
   unfolding sheet
-  sheet-accepted text rows e = go (ltb longest (length text)) (starts-with (s .names) text) e
+  sheet-accepted text rows e = go (ltb longestSheet (length text)) (startsWith (s .names) text) e
     where
-      go : (x y : Bool) → cond x (refuse 0 5) (cond y (value-lines s 2 (s .most) (linesOf (drop (length (s .names)) text))) (refuse 1 1)) ≡ accepted rows → Accepted s rows
+      go : (x y : Bool) → cond x (refuseAt 0 5) (cond y (valueLines s 2 (s .most) (linesOf (drop (length (s .names)) text))) (refuseAt 1 1)) ≡ accepted rows → Accepted s rows
       go true y e = clash (cc)
       go false true e = let h = lines-rows 2 (s .most) (linesOf (drop (length (s .names)) text)) rows e in record { each = h .0; few = h .1 }
       go false false e = clash (cc)
@@ -78,11 +79,11 @@ module _ (s : Sheet) where
   flat-length {rows} (row {vs} {rows = rs} k m r) = length-append vs (flatten rs) ∙ rw (suc-mul (length rs) (s .fields), k, flat-length r) (omega arith)
 
 -- a text that begins with another is at least as long
-pub begins-length : (names text : List ℕ) → starts-with names text ≡ true → length names ≤ length text
-unfolding starts-with
+pub begins-length : (names text : List ℕ) → startsWith names text ≡ true → length names ≤ length text
+unfolding startsWith
 begins-length [] text e = omega arith
 begins-length (b ∷ bs) [] e = false-true e
-begins-length (b ∷ bs) (c ∷ cs) e = let h = begins-length bs cs (and-right (eqb b c) (starts-with bs cs) e) in omega arith
+begins-length (b ∷ bs) (c ∷ cs) e = let h = begins-length bs cs (and-right (eqb b c) (startsWith bs cs) e) in omega arith
 
 -- what the buffer holds after the loops is the result's values
 pub record Of-rows (r : Result) (n : ℕ) (vs : List ℕ) : Type 0 where
@@ -91,10 +92,10 @@ pub record Of-rows (r : Result) (n : ℕ) (vs : List ℕ) : Type 0 where
   pub count : n ≡ length rows
   pub flat : vs ≡ flatten rows
 
-pub held-rows : (r : Result) (n : ℕ) (vs : List ℕ) → held n vs ≡ onto 0 [] r → Of-rows r n vs
+pub held-rows : (r : Result) (n : ℕ) (vs : List ℕ) → held n vs ≡ heldOnto 0 [] r → Of-rows r n vs
 held-rows (accepted rows) n vs e = let c : n ≡ 0 + length rows = cc in record { rows = rows; result = refl; count = c ∙ zero-add (length rows); flat = cc }
 held-rows (refused r) n vs e = clash (cc)
 
-pub refusing-result : (r : Result) (line number : ℕ) → refusing line number ≡ onto 0 [] r → r ≡ refuse line number
+pub refusing-result : (r : Result) (line number : ℕ) → refusing line number ≡ heldOnto 0 [] r → r ≡ refuseAt line number
 refusing-result (accepted rows) line number e = clash (cc)
 refusing-result (refused r) line number e = let l : line ≡ r .line = cc in let m : number ≡ r .number = cc in rw (l, m) refl

@@ -12,34 +12,37 @@ use lib.Dec.{eqb}
 use lib.ListN.{length, take, drop, set, getD, length-append, length-take, length-drop, length-set, drop-of-length-le}
 use lib.Seq.{take-set-le, drop-set-add, drop-set-lt, drop-drop, take-suc-set, take-take, take-add}
 use borrow.Author.Tests.{eq-eqb, eqb-true, eqb-false}
+use Rattle.usage.specs.Limits.{mostSteps}
 use Rattle.usage.proofs.Logic.{and-right}
 use Rattle.sheet_bytes.specs.declared.Part.{Part}
 use Rattle.sheet_bytes.specs.declared.Next.{Next}
 use Rattle.sheet_bytes.specs.declared.Next.the-variants.{Goes, Ends, Malformed}
 use Rattle.sheet_fields.specs.declared.Kind.{Kind}
 use Rattle.sheet_fields.specs.declared.Kind.the-variants.{Policies, Trace, Outline}
-use Rattle.sheet_fields.specs.Fields.{line-fits}
+use Rattle.sheet_fields.specs.Fields.{lineFits}
 use Rattle.sheet_bytes.specs.Class.{classOf}
 use Rattle.sheet_bytes.specs.Line.{Line, linesOf, cut, byte, complete, counted}
-use Rattle.sheet_lines.specs.Sheet.{Sheet, Result, accepted, refused, refuse, followed, entry, value-lines}
-use Rattle.sheet_bytes.specs.Steps.{is-complete, step-of}
-use Rattle.sheet_lines.specs.Steps.{sheetOf, nothing, answer-after, Held, held, refusing, gives, after, onto}
+use Rattle.sheet_lines.specs.Answer.{mostValues}
+use Rattle.sheet_lines.specs.Sheet.{Sheet, Result, accepted, refused, refuseAt, followed, entry, valueLines}
+use Rattle.sheet_bytes.specs.Code.{isComplete, byteStep}
+use Rattle.sheet_lines.specs.Sheets.{sheetOf}
+use Rattle.sheet_lines.specs.Code.{emptyPart, answerAfter, Held, held, refusing, heldBy, restAfter, heldOnto}
 use Rattle.sheet_lines.proofs.ScanLaws.{in-line, starts, cut-off, ends, more, full}
 use Rattle.sheet_lines.proofs.StepLaws.{at, Sound, Stepped, stepped, goes-on, ends-at, not-complete}
 
 -- the values of every line that is allowed have a place in the buffer
-pub places : (k : Kind) (n : ℕ) → n < (sheetOf k) .most → n * (sheetOf k) .fields + (sheetOf k) .fields ≤ 6000
+pub places : (k : Kind) (n : ℕ) → n < (sheetOf k) .most → n * (sheetOf k) .fields + (sheetOf k) .fields ≤ mostValues
 places Policies n h = omega arith
 places Trace n h = omega arith
 places Outline n h = omega arith
 
-pub few-lines : (k : Kind) → (sheetOf k) .most ≤ 2000
+pub few-lines : (k : Kind) → (sheetOf k) .most ≤ mostSteps
 few-lines Policies = omega arith
 few-lines Trace = omega arith
 few-lines Outline = omega arith
 
 abbrev pub whole : Sheet → List ℕ → Held
-whole s rest = onto 0 [] (value-lines s 2 (s .most) (linesOf rest))
+whole s rest = heldOnto 0 [] (valueLines s 2 (s .most) (linesOf rest))
 
 -- two lists that are the same from m on are the same from any later place on
 drop-later : {A : Type 0} (m k : ℕ) (l r : List A) → m ≤ k → drop m l ≡ drop m r → drop k l ≡ drop k r
@@ -51,10 +54,10 @@ drop-later m k l r h e =
 -- In the buffer, the places after the values are as they were when it was lent.
 pub record At-line (s : Sheet) (text : List ℕ) (from : ℕ) (lent buffer : List ℕ) (i n : ℕ) : Type 0 where
   pub few : n ≤ s .most
-  pub size : length buffer ≡ 6000
+  pub size : length buffer ≡ mostValues
   pub begun : i ≤ length text
   pub rest : drop (n * s .fields) buffer ≡ drop (n * s .fields) lent
-  pub same : onto n (take (n * s .fields) buffer) (value-lines s (n + 2) (s .most - n) (linesOf (drop i text))) ≡ whole s (drop from text)
+  pub same : heldOnto n (take (n * s .fields) buffer) (valueLines s (n + 2) (s .most - n) (linesOf (drop i text))) ≡ whole s (drop from text)
 
 -- the values before in line n
 abbrev pub before : Sheet → List ℕ → ℕ → Part → List ℕ
@@ -63,22 +66,22 @@ before s buffer n p = take (p .count) (drop (n * s .fields) buffer)
 -- Within value line n, at i in the text; `first` is the buffer at the start of the line.
 pub record In-line (s : Sheet) (text : List ℕ) (from : ℕ) (first buffer : List ℕ) (i n : ℕ) (p : Part) : Type 0 where
   pub room : n < s .most
-  pub size : length buffer ≡ 6000
+  pub size : length buffer ≡ mostValues
   pub begun : i ≤ length text
   pub sound : Sound (s .fields) p
   pub rest : drop (n * s .fields + p .count + 1) buffer ≡ drop (n * s .fields + p .count + 1) first
-  pub same : onto n (take (n * s .fields) buffer) (in-line s (n + 2) (s .most - (n + 1)) (some (at (before s buffer n p) p)) (drop i text)) ≡ whole s (drop from text)
+  pub same : heldOnto n (take (n * s .fields) buffer) (in-line s (n + 2) (s .most - (n + 1)) (some (at (before s buffer n p) p)) (drop i text)) ≡ whole s (drop from text)
 
-pub begin : (s : Sheet) (text : List ℕ) (from : ℕ) (buffer : List ℕ) → length buffer ≡ 6000 → from ≤ length text → At-line s text from buffer buffer from 0
+pub begin : (s : Sheet) (text : List ℕ) (from : ℕ) (buffer : List ℕ) → length buffer ≡ mostValues → from ≤ length text → At-line s text from buffer buffer from 0
 begin s text from buffer l h = record { few = omega arith; size = l; begun = h; rest = refl; same = rw (zero-mul (s .fields), sub-zero (s .most)) refl }
 
 -- a line is not empty where a byte is left
-first-line : (s : Sheet) (line : ℕ) (bs : List ℕ) → 0 < length bs → value-lines s line 0 (linesOf bs) ≡ refuse line 4
-unfolding linesOf value-lines
+first-line : (s : Sheet) (line : ℕ) (bs : List ℕ) → 0 < length bs → valueLines s line 0 (linesOf bs) ≡ refuseAt line 4
+unfolding linesOf valueLines
 first-line s line [] h = absurd (omega arith)
 first-line s line (b ∷ bs) h = go (eqb (classOf b) 2) (linesOf bs)
   where
-    go : (x : Bool) (ls : List Line) → value-lines s line 0 (cut x b ls) ≡ refuse line 4
+    go : (x : Bool) (ls : List Line) → valueLines s line 0 (cut x b ls) ≡ refuseAt line 4
     go true ls = refl
     go false [] = refl
     go false (l ∷ ls) = refl
@@ -86,7 +89,7 @@ first-line s line (b ∷ bs) h = go (eqb (classOf b) 2) (linesOf bs)
 module _ (s : Sheet) (text : List ℕ) (from : ℕ) (lent buffer : List ℕ) (i n : ℕ) (inv : At-line s text from lent buffer i n) where
   -- the text has ended
   pub line-end : length text ≤ i → held n (take (n * s .fields) buffer) ≡ whole s (drop from text)
-  unfolding value-lines linesOf flatten
+  unfolding valueLines linesOf flatten
   line-end h = sym (rw (drop-of-length-le text h) (rw (add-zero n, append-nil (take (n * s .fields) buffer)) refl)) ∙ inv .same
 
   -- "4 more value lines than allowed"
@@ -94,16 +97,16 @@ module _ (s : Sheet) (text : List ℕ) (from : ℕ) (lent buffer : List ℕ) (i 
   too-many h e =
       let z : s .most - n ≡ 0 = omega arith in
       let l : 0 < length (drop i text) = omega (arith, length-drop i text) in
-      ap (onto n (take (n * s .fields) buffer)) (sym (ap (λ m. value-lines s (n + 2) m (linesOf (drop i text))) z ∙ first-line s (n + 2) (drop i text) l)) ∙ inv .same
+      ap (heldOnto n (take (n * s .fields) buffer)) (sym (ap (λ m. valueLines s (n + 2) m (linesOf (drop i text))) z ∙ first-line s (n + 2) (drop i text) l)) ∙ inv .same
 
-  pub enter : 0 < s .fields → i < length text → n < s .most → In-line s text from buffer buffer i n nothing
+  pub enter : 0 < s .fields → i < length text → n < s .most → In-line s text from buffer buffer i n emptyPart
   enter f h r = record {
     room = r;
     size = inv .size;
     begun = inv .begun;
     sound = record { few = f; small = omega arith; short = omega arith };
     rest = refl;
-    same = ap (onto n (take (n * s .fields) buffer)) (sym (ap (λ m. value-lines s (n + 2) m (linesOf (drop i text))) left ∙ starts s (n + 2) (s .most - (n + 1)) text i h)) ∙ inv .same;
+    same = ap (heldOnto n (take (n * s .fields) buffer)) (sym (ap (λ m. valueLines s (n + 2) m (linesOf (drop i text))) left ∙ starts s (n + 2) (s .most - (n + 1)) text i h)) ∙ inv .same;
   }
     where
       left : s .most - n ≡ suc (s .most - (n + 1))
@@ -116,13 +119,13 @@ some-field Trace = omega arith
 some-field Outline = omega arith
 
 -- a line of all its values is in range where it fits
-pub fits-in-range : (k : Kind) (vs : List ℕ) → length vs ≡ (sheetOf k) .fields → line-fits k vs ≡ (sheetOf k) .in-range vs
+pub fits-in-range : (k : Kind) (vs : List ℕ) → length vs ≡ (sheetOf k) .fields → lineFits k vs ≡ (sheetOf k) .in-range vs
 fits-in-range Policies vs h = simp (eq-eqb _ _ h)
 fits-in-range Trace vs h = simp (eq-eqb _ _ h)
 fits-in-range Outline vs h = simp (eq-eqb _ _ h)
 
 -- the values at the line feed
-completes : (f : ℕ) (vs : List ℕ) (p : Part) → length vs ≡ p .count → counted f (complete (some (at vs p))) ≡ cond (is-complete f p) (some (vs ++ (p .value ∷ []))) none
+completes : (f : ℕ) (vs : List ℕ) (p : Part) → length vs ≡ p .count → counted f (complete (some (at vs p))) ≡ cond (isComplete f p) (some (vs ++ (p .value ∷ []))) none
 completes f vs p len = go (eqb (p .digits) 0)
   where
     longer : length (vs ++ (p .value ∷ [])) ≡ p .count + 1
@@ -133,13 +136,13 @@ completes f vs p len = go (eqb (p .digits) 0)
     go false = rw longer refl
 
 -- one more line before the rest
-onto-more : (n : ℕ) (done vs : List ℕ) (r : Result) → onto n done (followed vs r) ≡ onto (n + 1) (done ++ vs) r
+onto-more : (n : ℕ) (done vs : List ℕ) (r : Result) → heldOnto n done (followed vs r) ≡ heldOnto (n + 1) (done ++ vs) r
 unfolding flatten
 onto-more n done vs (accepted rows) = rw (add-one n, add-suc n (length rows), suc-add n (length rows), append-assoc done vs (flatten rows)) refl
 onto-more n done vs (refused r) = refl
 
 module _ (s : Sheet) (text : List ℕ) (from : ℕ) (first buffer : List ℕ) (i n : ℕ) (p : Part)
-    (inv : In-line s text from first buffer i n p) (fits : n * s .fields + s .fields ≤ 6000) where
+    (inv : In-line s text from first buffer i n p) (fits : n * s .fields + s .fields ≤ mostValues) where
   -- the buffer with the value so far in its place
   abbrev pub written : List ℕ
   written = set buffer (n * s .fields + p .count) (p .value)
@@ -162,21 +165,21 @@ module _ (s : Sheet) (text : List ℕ) (from : ℕ) (first buffer : List ℕ) (i
 
   -- "2 .. the last line feed missing"
   pub unended : length text ≤ i → refusing (n + 2) 2 ≡ whole s (drop from text)
-  unended h = sym (ap (onto n (take (n * s .fields) buffer)) (cut-off s (n + 2) (s .most - (n + 1)) text i (some (at (before s buffer n p) p)) h)) ∙ inv .same
+  unended h = sym (ap (heldOnto n (take (n * s .fields) buffer)) (cut-off s (n + 2) (s .most - (n + 1)) text i (some (at (before s buffer n p) p)) h)) ∙ inv .same
 
   module _ (h : i < length text) where
     -- a byte other than a line feed
     module _ (e : classOf (getD text i 0) ≡ 2 → ⊥) where
-      onward : onto n (take (n * s .fields) buffer) (in-line s (n + 2) (s .most - (n + 1)) (byte (some (at (before s buffer n p) p)) (getD text i 0)) (drop (i + 1) text)) ≡ whole s (drop from text)
-      onward = ap (onto n (take (n * s .fields) buffer)) (sym (more s (n + 2) (s .most - (n + 1)) text i (some (at (before s buffer n p) p)) h e)) ∙ inv .same
+      onward : heldOnto n (take (n * s .fields) buffer) (in-line s (n + 2) (s .most - (n + 1)) (byte (some (at (before s buffer n p) p)) (getD text i 0)) (drop (i + 1) text)) ≡ whole s (drop from text)
+      onward = ap (heldOnto n (take (n * s .fields) buffer)) (sym (more s (n + 2) (s .most - (n + 1)) text i (some (at (before s buffer n p) p)) h e)) ∙ inv .same
 
-      took : (next : Next) → step-of (s .fields) p (getD text i 0) ≡ next → Stepped (s .fields) (before s buffer n p) p (byte (some (at (before s buffer n p) p)) (getD text i 0)) next
+      took : (next : Next) → byteStep (s .fields) p (getD text i 0) ≡ next → Stepped (s .fields) (before s buffer n p) p (byte (some (at (before s buffer n p) p)) (getD text i 0)) next
       took next q = rw (← q) (stepped (s .fields) (before s buffer n p) p (getD text i 0) len (inv .sound))
 
-      stops : step-of (s .fields) p (getD text i 0) ≡ Malformed → refusing (n + 2) 2 ≡ whole s (drop from text)
-      stops q = sym (ap (onto n (take (n * s .fields) buffer)) (full s (n + 2) (s .most - (n + 1)) (drop (i + 1) text) (byte (some (at (before s buffer n p) p)) (getD text i 0)) (took Malformed q))) ∙ onward
+      stops : byteStep (s .fields) p (getD text i 0) ≡ Malformed → refusing (n + 2) 2 ≡ whole s (drop from text)
+      stops q = sym (ap (heldOnto n (take (n * s .fields) buffer)) (full s (n + 2) (s .most - (n + 1)) (drop (i + 1) text) (byte (some (at (before s buffer n p) p)) (getD text i 0)) (took Malformed q))) ∙ onward
 
-    pub goes : (q : Part) → step-of (s .fields) p (getD text i 0) ≡ Goes q → In-line s text from first written (i + 1) n q
+    pub goes : (q : Part) → byteStep (s .fields) p (getD text i 0) ≡ Goes q → In-line s text from first written (i + 1) n q
     goes q g =
         let e = goes-on (s .fields) p (getD text i 0) q g in
         let t = took e (Goes q) g in
@@ -192,27 +195,27 @@ module _ (s : Sheet) (text : List ℕ) (from : ℕ) (first buffer : List ℕ) (i
 
     -- the line feed
     module _ (e : classOf (getD text i 0) ≡ 2) where
-      closed : onto n (take (n * s .fields) written) (entry s (n + 2) (cond (is-complete (s .fields) p) (some (take (p .count + 1) (drop (n * s .fields) written))) none)
-          (value-lines s (suc (n + 2)) (s .most - (n + 1)) (linesOf (drop (i + 1) text)))) ≡ whole s (drop from text)
-      closed = rw (done-same, cells, ← (completes (s .fields) (before s buffer n p) p len)) (ap (onto n (take (n * s .fields) buffer)) (sym (ends s (n + 2) (s .most - (n + 1)) text i (some (at (before s buffer n p) p)) h e)) ∙ inv .same)
+      closed : heldOnto n (take (n * s .fields) written) (entry s (n + 2) (cond (isComplete (s .fields) p) (some (take (p .count + 1) (drop (n * s .fields) written))) none)
+          (valueLines s (suc (n + 2)) (s .most - (n + 1)) (linesOf (drop (i + 1) text)))) ≡ whole s (drop from text)
+      closed = rw (done-same, cells, ← (completes (s .fields) (before s buffer n p) p len)) (ap (heldOnto n (take (n * s .fields) buffer)) (sym (ends s (n + 2) (s .most - (n + 1)) text i (some (at (before s buffer n p) p)) h e)) ∙ inv .same)
 
-      incomplete : is-complete (s .fields) p ≡ false → refusing (n + 2) 2 ≡ whole s (drop from text)
+      incomplete : isComplete (s .fields) p ≡ false → refusing (n + 2) 2 ≡ whole s (drop from text)
       incomplete q = rw q at closed
 
     -- "2 a line malformed"
-    pub malformed : step-of (s .fields) p (getD text i 0) ≡ Malformed → refusing (n + 2) 2 ≡ whole s (drop from text)
+    pub malformed : byteStep (s .fields) p (getD text i 0) ≡ Malformed → refusing (n + 2) 2 ≡ whole s (drop from text)
     malformed q = go (eqb (classOf (getD text i 0)) 2) refl
       where
         go : (z : Bool) → eqb (classOf (getD text i 0)) 2 ≡ z → refusing (n + 2) 2 ≡ whole s (drop from text)
         go true z = let e = eqb-true (classOf (getD text i 0)) 2 z in incomplete e (not-complete (s .fields) p (getD text i 0) e q)
         go false z = stops (eqb-false (classOf (getD text i 0)) 2 z) q
 
-    module _ (q : step-of (s .fields) p (getD text i 0) ≡ Ends) where
+    module _ (q : byteStep (s .fields) p (getD text i 0) ≡ Ends) where
       all-read : p .count + 1 ≡ s .fields
       all-read = eqb-true (p .count + 1) (s .fields) (and-right (not (eqb (p .digits) 0)) (eqb (p .count + 1) (s .fields)) (ends-at (s .fields) p (getD text i 0) q .complete))
 
-      ended : onto n (take (n * s .fields) written) (entry s (n + 2) (some (take (s .fields) (drop (n * s .fields) written)))
-          (value-lines s (suc (n + 2)) (s .most - (n + 1)) (linesOf (drop (i + 1) text)))) ≡ whole s (drop from text)
+      ended : heldOnto n (take (n * s .fields) written) (entry s (n + 2) (some (take (s .fields) (drop (n * s .fields) written)))
+          (valueLines s (suc (n + 2)) (s .most - (n + 1)) (linesOf (drop (i + 1) text)))) ≡ whole s (drop from text)
       ended = let d = ends-at (s .fields) p (getD text i 0) q in rw (d .complete, all-read) at (closed (d .feed))
 
       -- "3 a value outside its field's range"
@@ -226,7 +229,7 @@ module _ (s : Sheet) (text : List ℕ) (from : ℕ) (first buffer : List ℕ) (i
         begun = omega arith;
         rest = drop-later (n * s .fields + p .count + 1) ((n + 1) * s .fields) written first (omega (arith, longer, all-read)) rest-same
             ∙ drop-later (n * s .fields) ((n + 1) * s .fields) first lent (omega (arith, longer)) z;
-        same = rw (longer, take-add (n * s .fields) (s .fields) written, line) (sym (onto-more n (take (n * s .fields) written) (take (s .fields) (drop (n * s .fields) written)) (value-lines s (suc (n + 2)) (s .most - (n + 1)) (linesOf (drop (i + 1) text)))) ∙ rw r at ended);
+        same = rw (longer, take-add (n * s .fields) (s .fields) written, line) (sym (onto-more n (take (n * s .fields) written) (take (s .fields) (drop (n * s .fields) written)) (valueLines s (suc (n + 2)) (s .most - (n + 1)) (linesOf (drop (i + 1) text)))) ∙ rw r at ended);
       }
         where
           longer : (n + 1) * s .fields ≡ n * s .fields + s .fields
@@ -237,5 +240,5 @@ module _ (s : Sheet) (text : List ℕ) (from : ℕ) (first buffer : List ℕ) (i
 
 -- what the loops leave: the answer, and the places after the values as they were
 pub record Answers (s : Sheet) (text : List ℕ) (from : ℕ) (lent buffer : List ℕ) (n number : ℕ) : Type 0 where
-  pub gives : gives (s .fields) (answer-after n number) buffer ≡ whole s (drop from text)
-  pub after : after (s .fields) (answer-after n number) buffer ≡ after (s .fields) (answer-after n number) lent
+  pub gives : heldBy (s .fields) (answerAfter n number) buffer ≡ whole s (drop from text)
+  pub after : restAfter (s .fields) (answerAfter n number) buffer ≡ restAfter (s .fields) (answerAfter n number) lent

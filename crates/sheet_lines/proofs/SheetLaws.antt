@@ -5,43 +5,44 @@ use mathlib.Core.Bool.{true, false}
 use mathlib.Core.List.{List, [], _++_, flatten}
 use lib.ListN.{length, take, drop, replicate, take-append-drop}
 use borrow.Author.Tests.{lt-ltb, le-ltb}
+use Rattle.usage.specs.Limits.{longestSheet}
 use Rattle.usage.proofs.Logic.{clash}
 use Rattle.sheet_bytes.specs.Line.{linesOf}
 use Rattle.sheet_lines.specs.declared.Reading.{Reading}
 use Rattle.sheet_lines.specs.declared.Reading.the-variants.{Stored, Refused}
-use Rattle.sheet_lines.specs.Sheet.{Sheet, Result, refuse, value-lines, starts-with, longest, sheet}
-use Rattle.sheet_lines.specs.Answer.{Answer, count, refusal, answer, answered, filled}
-use Rattle.sheet_lines.specs.Steps.{is-stored, held, gives, after, onto}
+use Rattle.sheet_lines.specs.Sheet.{Sheet, Result, refuseAt, valueLines, startsWith, sheet}
+use Rattle.sheet_lines.specs.Answer.{mostValues, Answer, count, refusal, readingAnswer, answered, filled}
+use Rattle.sheet_lines.specs.Code.{isStored, held, heldBy, restAfter, heldOnto}
 use Rattle.sheet_lines.proofs.AcceptLaws.{sheet-accepted, flat-length, held-rows, refusing-result}
 
 -- what must be answered, and left in the buffer
-pub record Fills (r : Result) (a : Answer) (before after : List ℕ) : Type 0 where
+pub record Fills (r : Result) (a : Answer) (before restAfter : List ℕ) : Type 0 where
   pub answers : a ≡ answered r
-  pub buffer : after ≡ filled r before
+  pub buffer : restAfter ≡ filled r before
 
-pub refused-fills : (r : Result) (line number : ℕ) (t : List ℕ) → r ≡ refuse line number → Fills r (refusal record { line = line; number = number }) t t
+pub refused-fills : (r : Result) (line number : ℕ) (t : List ℕ) → r ≡ refuseAt line number → Fills r (refusal record { line = line; number = number }) t t
 unfolding answered filled
 refused-fills r line number t e = rw e (record { answers = refl; buffer = refl })
 
 abbrev zeros : List ℕ
-zeros = replicate 6000 0
+zeros = replicate mostValues 0
 
 module _ (s : Sheet) (text : List ℕ) where
-  pub too-long : (t : List ℕ) → longest < length text → Fills (sheet s text) (refusal record { line = 0; number = 5 }) t t
+  pub too-long : (t : List ℕ) → longestSheet < length text → Fills (sheet s text) (refusal record { line = 0; number = 5 }) t t
   unfolding sheet
   too-long t h = refused-fills (sheet s text) 0 5 t (simp (lt-ltb _ _ h))
 
-  module _ (h : length text ≤ longest) where
-    pub other-names : (t : List ℕ) → starts-with (s .names) text ≡ false → Fills (sheet s text) (refusal record { line = 1; number = 1 }) t t
+  module _ (h : length text ≤ longestSheet) where
+    pub other-names : (t : List ℕ) → startsWith (s .names) text ≡ false → Fills (sheet s text) (refusal record { line = 1; number = 1 }) t t
     unfolding sheet
     other-names t e = refused-fills (sheet s text) 1 1 t (simp (le-ltb _ _ h, e))
 
-    pub after-names : starts-with (s .names) text ≡ true → sheet s text ≡ value-lines s 2 (s .most) (linesOf (drop (length (s .names)) text))
+    pub after-names : startsWith (s .names) text ≡ true → sheet s text ≡ valueLines s 2 (s .most) (linesOf (drop (length (s .names)) text))
     unfolding sheet
     after-names e = simp (le-ltb _ _ h, e)
 
   module _ (first last : List ℕ) where
-    values-stored : (n : ℕ) → held n (take (n * s .fields) last) ≡ onto 0 [] (sheet s text) → drop (n * s .fields) last ≡ drop (n * s .fields) zeros → Fills (sheet s text) (count n) first last
+    values-stored : (n : ℕ) → held n (take (n * s .fields) last) ≡ heldOnto 0 [] (sheet s text) → drop (n * s .fields) last ≡ drop (n * s .fields) zeros → Fills (sheet s text) (count n) first last
     unfolding answered filled
     values-stored n e d =
         let k = held-rows (sheet s text) n (take (n * s .fields) last) e in
@@ -53,11 +54,11 @@ module _ (s : Sheet) (text : List ℕ) where
         }
 
     -- the buffer is kept where lines were stored, and else left as it was
-    pub keeps : (r : Reading) → is-stored r ≡ true → gives (s .fields) r last ≡ onto 0 [] (sheet s text) → after (s .fields) r last ≡ after (s .fields) r zeros
-        → Fills (sheet s text) (answer r) first last
+    pub keeps : (r : Reading) → isStored r ≡ true → heldBy (s .fields) r last ≡ heldOnto 0 [] (sheet s text) → restAfter (s .fields) r last ≡ restAfter (s .fields) r zeros
+        → Fills (sheet s text) (readingAnswer r) first last
     keeps (Stored n) q e d = values-stored n e d
     keeps (Refused line number) q e d = clash (cc)
 
-    pub leaves : (r : Reading) → is-stored r ≡ false → gives (s .fields) r last ≡ onto 0 [] (sheet s text) → Fills (sheet s text) (answer r) first first
+    pub leaves : (r : Reading) → isStored r ≡ false → heldBy (s .fields) r last ≡ heldOnto 0 [] (sheet s text) → Fills (sheet s text) (readingAnswer r) first first
     leaves (Stored n) q e = clash (cc)
     leaves (Refused line number) q e = refused-fills (sheet s text) line number first (refusing-result (sheet s text) line number e)

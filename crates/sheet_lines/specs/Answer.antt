@@ -2,6 +2,7 @@
 use Prim.Native.Nat.{ℕ}
 use mathlib.Core.List.{List, _++_, flatten}
 use lib.ListN.{length, drop, replicate}
+use Rattle.usage.specs.Limits.{stepPlaces}
 use Rattle.usage.specs.Answers.{Refusal}
 use Rattle.sheet_lines.specs.declared.Reading.{Reading}
 use Rattle.sheet_lines.specs.declared.Reading.the-variants.{Stored, Refused}
@@ -12,15 +13,19 @@ pub data Answer : Type 0 where
   count : ℕ → Answer
   refusal : Refusal → Answer
 
-abbrev pub answer : Reading → Answer
-answer (Stored n) = count n
-answer (Refused line number) = refusal record { line = line; number = number }
+abbrev pub readingAnswer : Reading → Answer
+readingAnswer (Stored n) = count n
+readingAnswer (Refused line number) = refusal record { line = line; number = number }
 
 unfoldable pub answered : Result → Answer
 answered (accepted rows) = count (length rows)
 answered (refused r) = refusal r
 
--- a buffer of 6,000 places: the values, and 0 in the places after them; a refusal leaves it as it was
+-- the values of the largest sheet: a trace has the most
+abbrev pub mostValues : ℕ
+mostValues = stepPlaces
+
+-- a buffer of so many places: the values, and 0 in the places after them; a refusal leaves it as it was
 unfoldable pub filled : Result → List ℕ → List ℕ
-filled (accepted rows) buffer = flatten rows ++ drop (length (flatten rows)) (replicate 6000 0)
+filled (accepted rows) buffer = flatten rows ++ drop (length (flatten rows)) (replicate mostValues 0)
 filled (refused r) buffer = buffer

@@ -4,5 +4,5 @@ pub mod Bytes
 pub mod Sheet
 pub mod Sheets
 pub mod Answer
--- What the functions compute.
-pub mod Steps
+-- What only the functions compute.
+pub mod Code

@@ -5,6 +5,7 @@ use mathlib.Core.Option.{Option, none, some}
 use mathlib.Core.List.{List, [], _∷_}
 use lib.Dec.{eqb, ltb}
 use lib.ListN.{length, drop}
+use Rattle.usage.specs.Limits.{longestSheet}
 use Rattle.usage.specs.Answers.{Refusal}
 use Rattle.sheet_bytes.specs.Line.{Line, linesOf, valuesOf}
 
@@ -24,8 +25,8 @@ pub data Result : Type 0 where
   refused : Refusal → Result
 
 -- "A refusal returns its number, for a sheet also the line, counted from 1 (0 where none)"
-abbrev pub refuse : ℕ → ℕ → Result
-refuse line number = refused record { line = line; number = number }
+abbrev pub refuseAt : ℕ → ℕ → Result
+refuseAt line number = refused record { line = line; number = number }
 
 -- the values of a line before those of the lines after it
 abbrev pub followed : List ℕ → Result → Result
@@ -34,25 +35,21 @@ followed vs (refused r) = refused r
 
 -- "2 a line malformed", "3 a value outside its field's range"
 abbrev pub entry : Sheet → ℕ → Option (List ℕ) → Result → Result
-entry s line none rest = refuse line 2
-entry s line (some vs) rest = cond (s .in-range vs) (followed vs rest) (refuse line 3)
+entry s line none rest = refuseAt line 2
+entry s line (some vs) rest = cond (s .in-range vs) (followed vs rest) (refuseAt line 3)
 
 -- "then line by line 4, 2, 3": the value lines from line `line` on, of which `left` are allowed
-unfoldable pub value-lines : Sheet → ℕ → ℕ → List Line → Result
-value-lines s line left [] = accepted []
-value-lines s line zero (l ∷ ls) = refuse line 4
-value-lines s line (suc left) (l ∷ ls) = entry s line (valuesOf (s .fields) l) (value-lines s (suc line) left ls)
+unfoldable pub valueLines : Sheet → ℕ → ℕ → List Line → Result
+valueLines s line left [] = accepted []
+valueLines s line zero (l ∷ ls) = refuseAt line 4
+valueLines s line (suc left) (l ∷ ls) = entry s line (valuesOf (s .fields) l) (valueLines s (suc line) left ls)
 
-unfoldable pub starts-with : List ℕ → List ℕ → Bool
-starts-with [] text = true
-starts-with (b ∷ bs) [] = false
-starts-with (b ∷ bs) (c ∷ cs) = eqb b c && starts-with bs cs
+unfoldable pub startsWith : List ℕ → List ℕ → Bool
+startsWith [] text = true
+startsWith (b ∷ bs) [] = false
+startsWith (b ∷ bs) (c ∷ cs) = eqb b c && startsWith bs cs
 
--- "5 longer than 32,768 bytes (line 0)"
-abbrev pub longest : ℕ
-longest = 32768
-
--- "Order: 5, 1, then line by line 4, 2, 3"; "1 names line differs, is missing or lacks its line feed (line 1)"
+-- "Order: 5, 1, then line by line 4, 2, 3"; "5 longer than 32,768 bytes (line 0)"; "1 names line differs, is missing or lacks its line feed (line 1)"
 unfoldable pub sheet : Sheet → List ℕ → Result
-sheet s text = cond (ltb longest (length text)) (refuse 0 5)
-    (cond (starts-with (s .names) text) (value-lines s 2 (s .most) (linesOf (drop (length (s .names)) text))) (refuse 1 1))
+sheet s text = cond (ltb longestSheet (length text)) (refuseAt 0 5)
+    (cond (startsWith (s .names) text) (valueLines s 2 (s .most) (linesOf (drop (length (s .names)) text))) (refuseAt 1 1))

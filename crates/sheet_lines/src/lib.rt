@@ -3,13 +3,28 @@ ghost use mathlib.Core.Path.{_≡_};
 ghost use mathlib.Core.List.{[]};
 ghost use Prim.Native.Nat.{_+_, _≤_};
 ghost use lib.ListN.{length, take, drop};
+ghost use Rattle.usage.specs.Limits.{mostSteps};
 ghost use Rattle.sheet_bytes.specs.Line.{linesOf};
-ghost use Rattle.sheet_lines.specs.Sheet.{value-lines, starts-with, sheet as sheet-of};
-ghost use Rattle.sheet_lines.specs.Answer.{answer, answered, filled};
-ghost use Rattle.sheet_lines.specs.Steps.{sheetOf, nothing as nothing-read, answer-after, is-stored as stored-in, gives, after, onto};
+ghost use Rattle.sheet_lines.specs.Sheet.{valueLines, startsWith, sheet as sheet-of};
+ghost use Rattle.sheet_lines.specs.Sheets.{sheetOf};
+ghost use Rattle.sheet_lines.specs.Answer.{readingAnswer, answered, mostValues, filled};
+ghost use Rattle.sheet_lines.specs.Code.{emptyPart as nothing-read, answerAfter, isStored as stored-in, heldBy, restAfter, heldOnto};
 use sheet_bytes::Next;
 use sheet_bytes::Part;
 use sheet_fields::Kind;
+use sheet_fields::NODE_LINE_FIELDS;
+use usage::EDGE_FIELDS;
+use usage::MOST_EDGES;
+use usage::MOST_NODES;
+use usage::MOST_STEPS;
+use usage::STEP_FIELDS;
+use usage::STEP_TABLE;
+
+// How many values a sheet has at most: a trace has the most.
+pub const MOST_VALUES: usize = STEP_TABLE;
+
+// Document 01: "5 longer than 32,768 bytes", as usage's `longest-sheet` has it.
+const LONGEST_SHEET: usize = 32768;
 
 // The answer of a reader: how many value lines it stored, or the refusal.
 pub enum Reading {
@@ -18,17 +33,17 @@ pub enum Reading {
 }
 
 // A sheet is read into the buffer; a refusal leaves the buffer as it was. Document 01: "Order: 5, 1, then line by line 4, 2, 3".
-pub fn sheet(text: &[u8], kind: Kind, buffer: &mut [u32; 6000]) -> Reading
-    ensures { λ r. ⌜ answer r ≡ answered (sheet-of (sheetOf kind) (now (text .entry))) ⌝ }
+pub fn sheet(text: &[u8], kind: Kind, buffer: &mut [u32; MOST_VALUES]) -> Reading
+    ensures { λ r. ⌜ readingAnswer r ≡ answered (sheet-of (sheetOf kind) (now (text .entry))) ⌝ }
     ensures { λ r. ⌜ now (buffer .exit) ≡ filled (sheet-of (sheetOf kind) (now (text .entry))) (now (buffer .entry)) ⌝ }
 {
-    if 32768 < text.len() {
+    if LONGEST_SHEET < text.len() {
         return Reading::Refused { line: 0, number: 5 };
     }
     if !named(text, kind) {
         return Reading::Refused { line: 1, number: 1 };
     }
-    let mut local = [0u32; 6000];
+    let mut local = [0u32; MOST_VALUES];
     let r = lines(text, names_length(kind), kind, &mut local);
     if is_stored(r) {
         *buffer = local;
@@ -41,9 +56,9 @@ fn fields(kind: Kind) -> usize
     ensures { λ r. ⌜ r ≡ (sheetOf kind) .fields ⌝ }
 {
     match kind {
-        Kind::Policies => 6,
-        Kind::Trace => 3,
-        Kind::Outline => 4,
+        Kind::Policies => EDGE_FIELDS,
+        Kind::Trace => STEP_FIELDS,
+        Kind::Outline => NODE_LINE_FIELDS,
     }
 }
 
@@ -52,9 +67,9 @@ fn most(kind: Kind) -> usize
     ensures { λ r. ⌜ r ≡ (sheetOf kind) .most ⌝ }
 {
     match kind {
-        Kind::Policies => 256,
-        Kind::Trace => 2000,
-        Kind::Outline => 64,
+        Kind::Policies => MOST_EDGES,
+        Kind::Trace => MOST_STEPS,
+        Kind::Outline => MOST_NODES,
     }
 }
 
@@ -71,7 +86,7 @@ fn names_length(kind: Kind) -> usize
 
 // The text begins with these bytes.
 fn begins(text: &[u8], names: &[u8]) -> bool
-    ensures { λ r. ⌜ r ≡ starts-with (now (names .entry)) (now (text .entry)) ⌝ }
+    ensures { λ r. ⌜ r ≡ startsWith (now (names .entry)) (now (text .entry)) ⌝ }
 {
     let mut i: usize = 0;
     while i < names.len() {
@@ -88,7 +103,7 @@ fn begins(text: &[u8], names: &[u8]) -> bool
 
 // The names line is that of the sheet.
 fn named(text: &[u8], kind: Kind) -> bool
-    ensures { λ r. ⌜ r ≡ starts-with ((sheetOf kind) .names) (now (text .entry)) ⌝ }
+    ensures { λ r. ⌜ r ≡ startsWith ((sheetOf kind) .names) (now (text .entry)) ⌝ }
 {
     match kind {
         Kind::Policies => begins(text, b"policy from action on who to\n"),
@@ -109,9 +124,9 @@ fn nothing() -> Part
 }
 
 // The values of a line, which stand in the buffer from base on, are in the ranges of their fields.
-fn in_range(kind: Kind, buffer: &[u32; 6000], base: usize) -> bool
-    requires { ⌜ base + (sheetOf kind) .fields ≤ 6000 ⌝ }
-    requires { ⌜ length (now buffer) ≡ 6000 ⌝ }
+fn in_range(kind: Kind, buffer: &[u32; MOST_VALUES], base: usize) -> bool
+    requires { ⌜ base + (sheetOf kind) .fields ≤ mostValues ⌝ }
+    requires { ⌜ length (now buffer) ≡ mostValues ⌝ }
     ensures { λ r. ⌜ r ≡ (sheetOf kind) .in-range (take ((sheetOf kind) .fields) (drop base (now (buffer .entry)))) ⌝ }
 {
     let end = base + fields(kind);
@@ -121,8 +136,8 @@ fn in_range(kind: Kind, buffer: &[u32; 6000], base: usize) -> bool
 
 // The answer after n lines that were accepted.
 fn answer_after(n: usize, number: u8) -> Reading
-    requires { ⌜ n ≤ 2000 ⌝ }
-    ensures { λ r. ⌜ r ≡ answer-after n number ⌝ }
+    requires { ⌜ n ≤ mostSteps ⌝ }
+    ensures { λ r. ⌜ r ≡ answerAfter n number ⌝ }
 {
     if number == 0 {
         return Reading::Stored(n);
@@ -144,11 +159,11 @@ fn is_stored(r: Reading) -> bool
 
 // The value lines of a text from `from` on are read into the buffer, the values one after the other. Document 01: "then line by
 // line 4, 2, 3"; the first line that is refused ends both loops.
-fn lines(text: &[u8], from: usize, kind: Kind, buffer: &mut [u32; 6000]) -> Reading
+fn lines(text: &[u8], from: usize, kind: Kind, buffer: &mut [u32; MOST_VALUES]) -> Reading
     requires { ⌜ from ≤ length (now text) ⌝ }
-    requires { ⌜ length (now buffer) ≡ 6000 ⌝ }
-    ensures { λ r. ⌜ gives ((sheetOf kind) .fields) r (now (buffer .exit)) ≡ onto 0 [] (value-lines (sheetOf kind) 2 ((sheetOf kind) .most) (linesOf (drop from (now (text .entry))))) ⌝ }
-    ensures { λ r. ⌜ after ((sheetOf kind) .fields) r (now (buffer .exit)) ≡ after ((sheetOf kind) .fields) r (now (buffer .entry)) ⌝ }
+    requires { ⌜ length (now buffer) ≡ mostValues ⌝ }
+    ensures { λ r. ⌜ heldBy ((sheetOf kind) .fields) r (now (buffer .exit)) ≡ heldOnto 0 [] (valueLines (sheetOf kind) 2 ((sheetOf kind) .most) (linesOf (drop from (now (text .entry))))) ⌝ }
+    ensures { λ r. ⌜ restAfter ((sheetOf kind) .fields) r (now (buffer .exit)) ≡ restAfter ((sheetOf kind) .fields) r (now (buffer .entry)) ⌝ }
 {
     let fields = fields(kind);
     let most = most(kind);

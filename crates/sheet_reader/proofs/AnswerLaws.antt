@@ -6,6 +6,7 @@ use mathlib.Core.List.{List, map, tail, flatten}
 use native.Mathlib.Omega.{arith}
 use lib.ListN.{length, take, drop, replicate, length-replicate, length-map}
 use lib.Seq.{take-at}
+use Rattle.usage.specs.Limits.{mostNodes, nodeFields, edgePlaces, nodePlaces, stepPlaces}
 use Rattle.usage.specs.Answers.{Refusal}
 use Rattle.usage.specs.Tests.{ruledSheet}
 use Rattle.usage.specs.Tables.{nodesOf, EdgeTable, NodeTable}
@@ -13,9 +14,9 @@ use Rattle.usage.proofs.Logic.{clash}
 use Rattle.usage.proofs.TableLaws.{decides-edge-table, decides-node-table}
 use Rattle.sheet_lines.specs.Sheet.{Sheet, Result, accepted, refused, sheet}
 use Rattle.sheet_lines.specs.Answer.{count, refusal, answered}
-use Rattle.sheet_lines.specs.Sheets.{policies, trace, outline}
+use Rattle.sheet_lines.specs.Sheets.{policySheet, traceSheet, outlineSheet}
 use Rattle.sheet_lines.proofs.AcceptLaws.{Accepted, sheet-accepted, flat-length}
-use Rattle.sheet_reader.specs.Readers.{ruled, ruled-by, policiesInto, traceInto, outlineInto, stored}
+use Rattle.sheet_reader.specs.Readers.{ruledResult, ruledRows, policiesInto, traceInto, outlineInto, stored}
 use Rattle.sheet_reader.proofs.ReaderLaws.{refusal-result}
 use Rattle.sheet_reader.proofs.OutlineLaws.{first, nodes-size}
 use Rattle.sheet_reader.proofs.TableLaws.{policies-valid, outline-valid}
@@ -48,77 +49,77 @@ abbrev pub zeros : ℕ → List ℕ
 zeros n = replicate n 0
 
 module _ (text : List ℕ) where
-  policies-into : policiesInto (length (zeros 1536)) text ≡ sheet policies text
+  policies-into : policiesInto (length (zeros edgePlaces)) text ≡ sheet policySheet text
   unfolding policiesInto
-  policies-into = ap (λ (p : ℕ). policiesInto p text) (length-replicate {A = ℕ} 1536 0)
+  policies-into = ap (λ (p : ℕ). policiesInto p text) (length-replicate {A = ℕ} edgePlaces 0)
 
-  trace-into : traceInto (length (zeros 6000)) text ≡ sheet trace text
+  trace-into : traceInto (length (zeros stepPlaces)) text ≡ sheet traceSheet text
   unfolding traceInto
-  trace-into = ap (λ (p : ℕ). traceInto p text) (length-replicate {A = ℕ} 6000 0)
+  trace-into = ap (λ (p : ℕ). traceInto p text) (length-replicate {A = ℕ} stepPlaces 0)
 
-  pub policies-held : (table : List ℕ) (n : ℕ) → count n ≡ answered (policiesInto (length (zeros 1536)) text)
-      → table ≡ stored (policiesInto (length (zeros 1536)) text) (zeros 1536) → Holds policies text table n
-  policies-held table n e t = holds policies text (zeros 1536) table (policiesInto (length (zeros 1536)) text) policies-into n e t
+  pub policies-held : (table : List ℕ) (n : ℕ) → count n ≡ answered (policiesInto (length (zeros edgePlaces)) text)
+      → table ≡ stored (policiesInto (length (zeros edgePlaces)) text) (zeros edgePlaces) → Holds policySheet text table n
+  policies-held table n e t = holds policySheet text (zeros edgePlaces) table (policiesInto (length (zeros edgePlaces)) text) policies-into n e t
 
-  pub trace-held : (table : List ℕ) (n : ℕ) → count n ≡ answered (traceInto (length (zeros 6000)) text)
-      → table ≡ stored (traceInto (length (zeros 6000)) text) (zeros 6000) → Holds trace text table n
-  trace-held table n e t = holds trace text (zeros 6000) table (traceInto (length (zeros 6000)) text) trace-into n e t
+  pub trace-held : (table : List ℕ) (n : ℕ) → count n ≡ answered (traceInto (length (zeros stepPlaces)) text)
+      → table ≡ stored (traceInto (length (zeros stepPlaces)) text) (zeros stepPlaces) → Holds traceSheet text table n
+  trace-held table n e t = holds traceSheet text (zeros stepPlaces) table (traceInto (length (zeros stepPlaces)) text) trace-into n e t
 
   module _ (line number : ℕ) where
-    pub policies-refused : refusal record { line = line; number = number } ≡ answered (policiesInto (length (zeros 1536)) text)
-        → sheet policies text ≡ refused record { line = line; number = number }
-    policies-refused e = refusal-result (sheet policies text) line number (e ∙ ap answered policies-into)
+    pub policies-refused : refusal record { line = line; number = number } ≡ answered (policiesInto (length (zeros edgePlaces)) text)
+        → sheet policySheet text ≡ refused record { line = line; number = number }
+    policies-refused e = refusal-result (sheet policySheet text) line number (e ∙ ap answered policies-into)
 
-    pub trace-refused : refusal record { line = line; number = number } ≡ answered (traceInto (length (zeros 6000)) text)
-        → sheet trace text ≡ refused record { line = line; number = number }
-    trace-refused e = refusal-result (sheet trace text) line number (e ∙ ap answered trace-into)
+    pub trace-refused : refusal record { line = line; number = number } ≡ answered (traceInto (length (zeros stepPlaces)) text)
+        → sheet traceSheet text ≡ refused record { line = line; number = number }
+    trace-refused e = refusal-result (sheet traceSheet text) line number (e ∙ ap answered trace-into)
 
 -- what an accepted sheet of policies gives is never refused with 41
-pub accepted-edges : (text : List ℕ) (rows : List (List ℕ)) → sheet policies text ≡ accepted rows → EdgeTable (flatten rows)
+pub accepted-edges : (text : List ℕ) (rows : List (List ℕ)) → sheet policySheet text ≡ accepted rows → EdgeTable (flatten rows)
 unfolding policiesInto
-accepted-edges text rows e = decides-edge-table (flatten rows) .0 (policies-valid 1536 text rows e)
+accepted-edges text rows e = decides-edge-table (flatten rows) .0 (policies-valid edgePlaces text rows e)
 
 -- ── An outline ──
 
 -- n nodes were stored: the sheet is accepted, and their values are the first of the table
 pub record HoldsNodes (text table : List ℕ) (n : ℕ) : Type 0 where
   pub rows : List (List ℕ)
-  pub result : ruled (sheet outline text) ≡ accepted rows
-  pub flat : take (n * 3) table ≡ flatten rows
-  pub few : n ≤ 64
+  pub result : ruledResult (sheet outlineSheet text) ≡ accepted rows
+  pub flat : take (n * nodeFields) table ≡ flatten rows
+  pub few : n ≤ mostNodes
 
 -- how many nodes an accepted outline has, and how many numbers
 abbrev Sized : List (List ℕ) → Type 0
-Sized rows = (length rows ≤ 64) × (length (flatten rows) ≡ 3 * length rows)
+Sized rows = (length rows ≤ mostNodes) × (length (flatten rows) ≡ length rows * nodeFields)
 
-nodes-sized : (text : List ℕ) (rows : List (List ℕ)) → ruled (sheet outline text) ≡ accepted rows → Sized rows
-unfolding ruled
-nodes-sized text rows e = go (sheet outline text) refl e
+nodes-sized : (text : List ℕ) (rows : List (List ℕ)) → ruledResult (sheet outlineSheet text) ≡ accepted rows → Sized rows
+unfolding ruledResult
+nodes-sized text rows e = go (sheet outlineSheet text) refl e
   where
-    by : (all : List (List ℕ)) → Accepted outline all → (o : Option Refusal) → ruled-by o all ≡ accepted rows → Sized rows
+    by : (all : List (List ℕ)) → Accepted outlineSheet all → (o : Option Refusal) → ruledRows o all ≡ accepted rows → Sized rows
     by all a none e =
         let z : map tail all ≡ rows = cc in
-        let f : length all ≤ 64 = a .few in
+        let f : length all ≤ mostNodes = a .few in
         let m = length-map all tail in
         let l = nodes-size (a .each) in
         rw (← z) (omega arith, omega arith)
     by all a (some r) e = clash (cc)
 
-    go : (r : Result) → sheet outline text ≡ r → ruled r ≡ accepted rows → Sized rows
-    go (accepted all) q e = by all (sheet-accepted outline text all q) (ruledSheet (map first all) (nodesOf (flatten (map tail all)))) e
+    go : (r : Result) → sheet outlineSheet text ≡ r → ruledResult r ≡ accepted rows → Sized rows
+    go (accepted all) q e = by all (sheet-accepted outlineSheet text all q) (ruledSheet (map first all) (nodesOf (flatten (map tail all)))) e
     go (refused r) q e = clash (cc)
 
 module _ (text : List ℕ) where
-  outline-into : outlineInto (length (zeros 192)) text ≡ ruled (sheet outline text)
+  outline-into : outlineInto (length (zeros nodePlaces)) text ≡ ruledResult (sheet outlineSheet text)
   unfolding outlineInto
-  outline-into = ap (λ (p : ℕ). outlineInto p text) (length-replicate {A = ℕ} 192 0)
+  outline-into = ap (λ (p : ℕ). outlineInto p text) (length-replicate {A = ℕ} nodePlaces 0)
 
-  pub outline-held : (table : List ℕ) (n : ℕ) → count n ≡ answered (outlineInto (length (zeros 192)) text)
-      → table ≡ stored (outlineInto (length (zeros 192)) text) (zeros 192) → HoldsNodes text table n
+  pub outline-held : (table : List ℕ) (n : ℕ) → count n ≡ answered (outlineInto (length (zeros nodePlaces)) text)
+      → table ≡ stored (outlineInto (length (zeros nodePlaces)) text) (zeros nodePlaces) → HoldsNodes text table n
   unfolding answered stored
-  outline-held table n e t = go (outlineInto (length (zeros 192)) text) outline-into e t
+  outline-held table n e t = go (outlineInto (length (zeros nodePlaces)) text) outline-into e t
     where
-      go : (r : Result) → r ≡ ruled (sheet outline text) → count n ≡ answered r → table ≡ stored r (zeros 192) → HoldsNodes text table n
+      go : (r : Result) → r ≡ ruledResult (sheet outlineSheet text) → count n ≡ answered r → table ≡ stored r (zeros nodePlaces) → HoldsNodes text table n
       go (accepted rows) k e t =
           let m : n ≡ length rows = cc in
           let z = nodes-sized text rows (sym k) in
@@ -127,16 +128,16 @@ module _ (text : List ℕ) where
           record {
             rows = rows;
             result = sym k;
-            flat = ap (take (n * 3)) t ∙ take-at (flatten rows) (drop (length (flatten rows)) (zeros 192)) (n * 3) (omega arith);
+            flat = ap (take (n * nodeFields)) t ∙ take-at (flatten rows) (drop (length (flatten rows)) (zeros nodePlaces)) (n * nodeFields) (omega arith);
             few = omega arith;
           }
       go (refused r) k e t = clash (cc)
 
-  pub outline-refused-as : (line number : ℕ) → refusal record { line = line; number = number } ≡ answered (outlineInto (length (zeros 192)) text)
-      → ruled (sheet outline text) ≡ refused record { line = line; number = number }
-  outline-refused-as line number e = refusal-result (ruled (sheet outline text)) line number (e ∙ ap answered outline-into)
+  pub outline-refused-as : (line number : ℕ) → refusal record { line = line; number = number } ≡ answered (outlineInto (length (zeros nodePlaces)) text)
+      → ruledResult (sheet outlineSheet text) ≡ refused record { line = line; number = number }
+  outline-refused-as line number e = refusal-result (ruledResult (sheet outlineSheet text)) line number (e ∙ ap answered outline-into)
 
 -- what an accepted outline gives is never refused with 41
-pub accepted-nodes : (text : List ℕ) (rows : List (List ℕ)) → ruled (sheet outline text) ≡ accepted rows → NodeTable (flatten rows)
+pub accepted-nodes : (text : List ℕ) (rows : List (List ℕ)) → ruledResult (sheet outlineSheet text) ≡ accepted rows → NodeTable (flatten rows)
 unfolding outlineInto
-accepted-nodes text rows e = decides-node-table (flatten rows) .0 (outline-valid 192 text rows e)
+accepted-nodes text rows e = decides-node-table (flatten rows) .0 (outline-valid nodePlaces text rows e)

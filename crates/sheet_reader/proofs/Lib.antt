@@ -7,6 +7,7 @@ pub mod ReaderLaws
 pub mod OutlineLaws
 -- Accepted sheets store valid tables, and every valid table is what some accepted sheet gives.
 pub mod TableLaws
+pub mod Written
 pub mod WrittenLaws
 pub mod Converse
 pub mod NodeConverse

@@ -8,6 +8,7 @@ use native.Mathlib.Omega.{arith}
 use lib.Dec.{ltb}
 use lib.ListN.{length, getD, drop}
 use Rattle.usage.specs.declared.Node.{Node}
+use Rattle.usage.specs.Limits.{mostNodes, longestSheet}
 use Rattle.usage.specs.Answers.{Refusal}
 use Rattle.usage.specs.Tests.{ruledSheet}
 use Rattle.usage.specs.Tables.{nodesOf}
@@ -17,9 +18,9 @@ use Rattle.usage.proofs.Logic.{clash}
 use Rattle.usage.proofs.RuledLaws.{sheet-answers}
 use Rattle.usage.proofs.TableLaws.{nodes-length}
 use Rattle.sheet_bytes.specs.Line.{Line, linesOf, valuesOf}
-use Rattle.sheet_lines.specs.Sheet.{Sheet, Result, accepted, refused, refuse, followed, entry, value-lines, starts-with, longest, sheet}
-use Rattle.sheet_lines.specs.Sheets.{outline}
-use Rattle.sheet_reader.specs.Readers.{ruled-by, ruled}
+use Rattle.sheet_lines.specs.Sheet.{Sheet, Result, accepted, refused, refuseAt, followed, entry, valueLines, startsWith, sheet}
+use Rattle.sheet_lines.specs.Sheets.{outlineSheet}
+use Rattle.sheet_reader.specs.Readers.{ruledRows, ruledResult}
 use Rattle.sheet_lines.proofs.AcceptLaws.{sheet-accepted}
 use Rattle.sheet_reader.proofs.OutlineLaws.{nodes-size}
 
@@ -28,22 +29,22 @@ pub record Low (most : ℕ) (r : Refusal) : Type 0 where
   pub number : r .number < 10
 
 -- a refusal that is written out
-stated : (most line number : ℕ) (r : Refusal) → line ≤ most → number < 10 → refuse line number ≡ refused r → Low most r
+stated : (most line number : ℕ) (r : Refusal) → line ≤ most → number < 10 → refuseAt line number ≡ refused r → Low most r
 stated most line number r h k e = let z : record { line = line; number = number } ≡ r = cc in rw (← z) (record { line = h; number = k })
 
 module _ (s : Sheet) where
-  lines-low : (line left : ℕ) (ls : List Line) (r : Refusal) → value-lines s line left ls ≡ refused r → Low (line + left) r
-  unfolding value-lines
+  lines-low : (line left : ℕ) (ls : List Line) (r : Refusal) → valueLines s line left ls ≡ refused r → Low (line + left) r
+  unfolding valueLines
   lines-low line left [] r e = clash (cc)
   lines-low line zero (l ∷ ls) r e = stated (line + 0) line 4 r (omega arith) (omega arith) e
-  lines-low line (suc left) (l ∷ ls) r e = go (valuesOf (s .fields) l) (value-lines s (suc line) left ls) (lines-low (suc line) left ls r) e
+  lines-low line (suc left) (l ∷ ls) r e = go (valuesOf (s .fields) l) (valueLines s (suc line) left ls) (lines-low (suc line) left ls r) e
     where
       later : (vs : List ℕ) (rest : Result) → (rest ≡ refused r → Low (suc line + left) r) → followed vs rest ≡ refused r → Low (line + suc left) r
       later vs (accepted rows) ih e = clash (cc)
       later vs (refused q) ih e = let l = ih e in record { line = let h = l .line in omega arith; number = l .number }
 
       ranged : (vs : List ℕ) (rest : Result) (x : Bool) → (rest ≡ refused r → Low (suc line + left) r)
-          → cond x (followed vs rest) (refuse line 3) ≡ refused r → Low (line + suc left) r
+          → cond x (followed vs rest) (refuseAt line 3) ≡ refused r → Low (line + suc left) r
       ranged vs rest true ih e = later vs rest ih e
       ranged vs rest false ih e = stated (line + suc left) line 3 r (omega arith) (omega arith) e
 
@@ -53,16 +54,16 @@ module _ (s : Sheet) where
 
   pub sheet-low : (text : List ℕ) (r : Refusal) → sheet s text ≡ refused r → Low (2 + s .most) r
   unfolding sheet
-  sheet-low text r e = go (ltb longest (length text)) (starts-with (s .names) text) e
+  sheet-low text r e = go (ltb longestSheet (length text)) (startsWith (s .names) text) e
     where
-      go : (x y : Bool) → cond x (refuse 0 5) (cond y (value-lines s 2 (s .most) (linesOf (drop (length (s .names)) text))) (refuse 1 1)) ≡ refused r → Low (2 + s .most) r
+      go : (x y : Bool) → cond x (refuseAt 0 5) (cond y (valueLines s 2 (s .most) (linesOf (drop (length (s .names)) text))) (refuseAt 1 1)) ≡ refused r → Low (2 + s .most) r
       go true y e = stated (2 + s .most) 0 5 r (omega arith) (omega arith) e
       go false true e = lines-low 2 (s .most) (linesOf (drop (length (s .names)) text)) r e
       go false false e = stated (2 + s .most) 1 1 r (omega arith) (omega arith) e
 
 -- ── Of an outline ──
 
-ruled-low : {ns : List Node} {P : ℕ → Type 0} {o : Option Refusal} → Ruled ns P o → length ns ≤ 64 → (r : Refusal) → o ≡ some r → Low 66 r
+ruled-low : {ns : List Node} {P : ℕ → Type 0} {o : Option Refusal} → Ruled ns P o → length ns ≤ mostNodes → (r : Refusal) → o ≡ some r → Low (2 + mostNodes) r
 ruled-low (no-node e) f r q = let z : record { line = 2; number = 9 } ≡ r = cc in rw (← z) (record { line = omega arith; number = omega arith })
 ruled-low (bad-tree {k} h w) f r q =
     let l = w .is-node in let z : record { line = k + 2; number = 6 } ≡ r = cc in rw (← z) (record { line = omega arith; number = omega arith })
@@ -72,21 +73,21 @@ ruled-low (bad-name {k} h t b w) f r q =
     let l = w .is-node in let z : record { line = k + 2; number = 8 } ≡ r = cc in rw (← z) (record { line = omega arith; number = omega arith })
 ruled-low (all-ruled h t b n) f r q = clash (cc)
 
-pub outline-low : (text : List ℕ) (r : Refusal) → ruled (sheet outline text) ≡ refused r → Low 66 r
-unfolding ruled
-outline-low text r e = go (sheet outline text) refl e
+pub outline-low : (text : List ℕ) (r : Refusal) → ruledResult (sheet outlineSheet text) ≡ refused r → Low (2 + mostNodes) r
+unfolding ruledResult
+outline-low text r e = go (sheet outlineSheet text) refl e
   where
-    by : (lines : List (List ℕ)) → length (nodesOf (flatten (map tail lines))) ≤ 64 → (o : Option Refusal)
-        → ruledSheet (map (λ vs. getD vs 0 0) lines) (nodesOf (flatten (map tail lines))) ≡ o → ruled-by o lines ≡ refused r → Low 66 r
+    by : (lines : List (List ℕ)) → length (nodesOf (flatten (map tail lines))) ≤ mostNodes → (o : Option Refusal)
+        → ruledSheet (map (λ vs. getD vs 0 0) lines) (nodesOf (flatten (map tail lines))) ≡ o → ruledRows o lines ≡ refused r → Low (2 + mostNodes) r
     by lines f none q e = clash (cc)
     by lines f (some x) q e =
         let z : x ≡ r = cc in
         ruled-low (sheet-answers (nodesOf (flatten (map tail lines))) (map (λ vs. getD vs 0 0) lines)) f r (q ∙ ap some z)
 
-    go : (x : Result) → sheet outline text ≡ x → ruled x ≡ refused r → Low 66 r
+    go : (x : Result) → sheet outlineSheet text ≡ x → ruledResult x ≡ refused r → Low (2 + mostNodes) r
     go (accepted lines) k e =
-        let a = sheet-accepted outline text lines k in
+        let a = sheet-accepted outlineSheet text lines k in
         let t = nodes-size (a .each) in
-        let f : length lines ≤ 64 = a .few in
+        let f : length lines ≤ mostNodes = a .few in
         by lines (rw (nodes-length (flatten (map tail lines))) (omega arith)) (ruledSheet (map (λ vs. getD vs 0 0) lines) (nodesOf (flatten (map tail lines)))) refl e
-    go (refused x) k e = sheet-low outline text r (k ∙ e)
+    go (refused x) k e = sheet-low outlineSheet text r (k ∙ e)

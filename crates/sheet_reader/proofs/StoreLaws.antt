@@ -1,34 +1,54 @@
--- A table that is filled from the front: one more value.
-use Prim.Native.Nat.{ℕ, zero, suc, _+_, _<_}
+-- A table that is filled from the front with what a function gives at 0, 1, 2 and on: what holds in the loop, for numbers and for bytes.
+use Prim.Native.Nat.{ℕ, suc, _+_, _*_, _<_, _≤_}
 use mathlib.Core.Path.{_≡_, refl, sym, ap, _∙_}
 use mathlib.Core.List.{List, [], _∷_, _++_}
 use native.Mathlib.Omega.{arith}
+use native.Mathlib.Nat.{zero-add}
 use native.Mathlib.Numerals.{add-one}
-use lib.ListN.{length, getD, take, drop, set}
+use lib.ListN.{length, getD, drop, set, length-set, List·getD-append}
 use lib.Seq.{drop-cons, set-at, append-snoc}
-use native.Mathlib.Nat.{add-zero, add-suc, suc-add, zero-add}
+use Rattle.usage.specs.Limits.{mostEdges}
 use Rattle.usage.specs.Tables.{from}
-use Rattle.sheet_rules.proofs.NodeLaws.{from-length}
+use Rattle.usage.proofs.TableLaws.{length-from, from-snoc, is-from}
+use Rattle.sheet_lines.specs.Answer.{mostValues}
+use Rattle.sheet_reader.specs.declared.Pick.{Pick}
+use Rattle.sheet_reader.specs.declared.Pick.the-variants.{Edges, Numbers, Nodes}
+use Rattle.sheet_reader.specs.Code.{widthOf, bufferPlace}
 
-filled-suc : (i : ℕ) (s t : List ℕ) → i < length s → i < length t → set (take i s ++ drop i t) i (getD s i 0) ≡ take (suc i) s ++ drop (suc i) t
-filled-suc i [] t h k = absurd (omega arith)
-filled-suc i (x ∷ s) [] h k = absurd (omega arith)
-filled-suc zero (x ∷ s) (y ∷ t) h k = refl
-filled-suc (suc i) (x ∷ s) (y ∷ t) h k = ap (λ (l : List ℕ). x ∷ l) (filled-suc i s t (omega arith) (omega arith))
+-- the first i of m places are filled, and the others are as they were before
+abbrev pub Filled : (ℕ → ℕ) → List ℕ → ℕ → List ℕ → ℕ → Type 0
+Filled f before m table i = (i ≤ m) × ((length table ≡ length before) × (table ≡ from f 0 i ++ drop i before))
 
-pub filled-more : (i : ℕ) (s t : List ℕ) → i < length s → i < length t → set (take i s ++ drop i t) i (getD s i 0) ≡ take (i + 1) s ++ drop (i + 1) t
-filled-more i s t h k = rw (add-one i) (filled-suc i s t h k)
+module _ (f : ℕ → ℕ) (before : List ℕ) (m : ℕ) where
+  pub none-filled : Filled f before m before 0
+  unfolding from
+  none-filled = (omega arith, (refl, refl))
 
--- ── A table that is filled with what a function gives at 0, 1, 2 and on ──
+  module _ (table : List ℕ) (i : ℕ) (inv : Filled f before m table i) where
+    pub one-filled : i < m → m ≤ length before → Filled f before m (set table i (f i)) (i + 1)
+    one-filled h l = (omega arith, (length-set table i (f i) ∙ inv .1 .0, rw (inv .1 .1) more))
+      where
+        more : set (from f 0 i ++ drop i before) i (f i) ≡ from f 0 (i + 1) ++ drop (i + 1) before
+        more =
+            rw (add-one i, drop-cons before i 0 (omega arith))
+            (set-at (from f 0 i) (getD before i 0) (drop (suc i) before) (f i) i (length-from f 0 i)
+            ∙ sym (append-snoc (from f 0 i) (f i) (drop (suc i) before))
+            ∙ ap (λ l. l ++ drop (suc i) before) (sym (from-snoc f 0 i ∙ ap (λ j. from f 0 i ++ (f j ∷ [])) (zero-add i))))
 
-from-snoc : (f : ℕ → ℕ) (k n : ℕ) → from f k (suc n) ≡ from f k n ++ (f (k + n) ∷ [])
-unfolding from
-from-snoc f k zero = ap (λ j. f j ∷ []) (sym (add-zero k))
-from-snoc f k (suc n) = ap (λ (l : List ℕ). f k ∷ l) (from-snoc f (suc k) n ∙ ap (λ j. from f (suc k) n ++ (f j ∷ [])) (suc-add k n ∙ sym (add-suc k n)))
+    pub all-filled : m ≤ i → table ≡ from f 0 m ++ drop m before
+    all-filled h = let e : i ≡ m = let l = inv .0 in omega arith in rw e at (inv .1 .1)
 
-pub made-more : (f : ℕ → ℕ) (t : List ℕ) (i : ℕ) → i < length t → set (from f 0 i ++ drop i t) i (f i) ≡ from f 0 (i + 1) ++ drop (i + 1) t
-made-more f t i h =
-    rw (add-one i, drop-cons t i 0 h)
-    (set-at (from f 0 i) (getD t i 0) (drop (suc i) t) (f i) i (from-length f 0 i)
-    ∙ sym (append-snoc (from f 0 i) (f i) (drop (suc i) t))
-    ∙ ap (λ l. l ++ drop (suc i) t) (sym (from-snoc f 0 i ∙ ap (λ j. from f 0 i ++ (f j ∷ [])) (zero-add i))))
+-- the values at the front of a list
+pub from-front : (l p q : List ℕ) (n : ℕ) → l ≡ p ++ q → length p ≡ n → from (λ i. getD l i 0) 0 n ≡ p
+from-front l p q n e h = sym (is-from (λ i. getD l i 0) 0 n p h (λ i k. sym (ap (λ s. getD s i 0) e ∙ List·getD-append p q 0 i (omega arith))))
+
+-- what is picked of n lines stands in the buffer
+pub place-fits : (pick : Pick) (n i : ℕ) → n ≤ mostEdges → i < n * widthOf pick → bufferPlace pick i < mostValues
+place-fits Edges n i h l = omega arith
+place-fits Numbers n i h l = omega arith
+place-fits Nodes n i h l = omega arith
+
+pub few-bytes : (pick : Pick) (n : ℕ) → n ≤ mostEdges → n * widthOf pick ≤ mostValues
+few-bytes Edges n h = omega arith
+few-bytes Numbers n h = omega arith
+few-bytes Nodes n h = omega arith

@@ -1,41 +1,41 @@
 -- What the three readers answer and store.
-use Prim.Native.Nat.{ℕ, _*_}
+use Prim.Native.Nat.{ℕ}
 use mathlib.Core.Bool.{cond}
 use mathlib.Core.Option.{Option, none, some}
 use mathlib.Core.List.{List, _++_, map, tail, flatten}
 use lib.Dec.{ltb}
 use lib.ListN.{length, getD, drop}
-use Rattle.usage.specs.Limits.{most-edges, most-steps, most-nodes}
+use Rattle.usage.specs.Limits.{edgePlaces, nodePlaces, stepPlaces}
 use Rattle.usage.specs.Answers.{Refusal}
 use Rattle.usage.specs.Tests.{ruledSheet}
 use Rattle.usage.specs.Tables.{nodesOf}
-use Rattle.sheet_lines.specs.Sheet.{Result, accepted, refused, refuse, sheet}
-use Rattle.sheet_lines.specs.Sheets.{policies, trace, outline}
+use Rattle.sheet_lines.specs.Sheet.{Result, accepted, refused, refuseAt, sheet}
+use Rattle.sheet_lines.specs.Sheets.{policySheet, traceSheet, outlineSheet}
 
 -- "then 9, 6, 7, 8, each over all nodes": of the lines' node numbers and the nodes themselves. The number of an accepted node
 -- is its place, so the table leaves it out.
-abbrev pub ruled-by : Option Refusal → List (List ℕ) → Result
-ruled-by none rows = accepted (map tail rows)
-ruled-by (some r) rows = refused r
+abbrev pub ruledRows : Option Refusal → List (List ℕ) → Result
+ruledRows none rows = accepted (map tail rows)
+ruledRows (some r) rows = refused r
 
-unfoldable pub ruled : Result → Result
-ruled (accepted rows) = ruled-by (ruledSheet (map (λ vs. getD vs 0 0) rows) (nodesOf (flatten (map tail rows)))) rows
-ruled (refused r) = refused r
+unfoldable pub ruledResult : Result → Result
+ruledResult (accepted rows) = ruledRows (ruledSheet (map (λ vs. getD vs 0 0) rows) (nodesOf (flatten (map tail rows)))) rows
+ruledResult (refused r) = refused r
 
 -- ── Reading into a table of so many places ──
 
 -- "40 a table lent to be filled that is smaller than its sheet's largest count", before all others
 abbrev pub roomy : ℕ → ℕ → Result → Result
-roomy places needed r = cond (ltb places needed) (refuse 0 40) r
+roomy places needed r = cond (ltb places needed) (refuseAt 0 40) r
 
 unfoldable pub policiesInto : ℕ → List ℕ → Result
-policiesInto places text = roomy places (6 * most-edges) (sheet policies text)
+policiesInto places text = roomy places edgePlaces (sheet policySheet text)
 
 unfoldable pub traceInto : ℕ → List ℕ → Result
-traceInto places text = roomy places (3 * most-steps) (sheet trace text)
+traceInto places text = roomy places stepPlaces (sheet traceSheet text)
 
 unfoldable pub outlineInto : ℕ → List ℕ → Result
-outlineInto places text = roomy places (3 * most-nodes) (ruled (sheet outline text))
+outlineInto places text = roomy places nodePlaces (ruledResult (sheet outlineSheet text))
 
 -- "Reading answers how many value lines it stored in the lent table; places after these keep their contents." A refusal "stores
 -- nothing".

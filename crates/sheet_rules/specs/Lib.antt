@@ -1,6 +1,6 @@
--- Document 01's numbers for the refusal of a table of nodes. Nothing is proved here; the laws are in proofs/.
-pub mod Faults
--- What the functions compute. Nothing is proved here; the laws are in proofs/.
+-- The rules of an outline, and document 01's numbers for the refusal of a table of nodes. Nothing is proved here; the laws are in
+-- proofs/.
 pub mod Rules
--- What the functions compute. Nothing is proved here; the laws are in proofs/.
-pub mod Children
+pub mod Faults
+-- What only the functions compute.
+pub mod Code

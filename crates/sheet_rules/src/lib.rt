@@ -6,10 +6,11 @@ ghost use Rattle.usage.specs.Tests.{every, nodeOk, ruledBy};
 ghost use Rattle.sheet_rules.specs.Rules.{passes as passes-of};
 ghost use Rattle.sheet_rules.specs.Faults.{fault};
 use crate::node_rules::Found;
-use crate::node_rules::Rule;
+use usage::NODE_FIELDS;
+use usage::NODE_TABLE;
 
-pub mod node_rules;
-pub mod tree;
+mod node_rules;
+mod tree;
 
 // The refusal of a table of nodes.
 pub enum Fault {
@@ -17,11 +18,19 @@ pub enum Fault {
     Refused { line: usize, number: u8 },
 }
 
+// One rule, asked of a node. `Place` is refusal 6 of a sheet, whose lines hold node numbers of their own, and `Tree` that of a table.
+pub enum Rule {
+    Place,
+    Tree,
+    Back,
+    Name,
+}
+
 // Document 01: "then 9, 6, 7, 8, each over all nodes". The first rule is the one for 6.
 pub fn ruled(table: &[u8], places: &[u8], first: Rule) -> Fault
     ensures { λ r. ⌜ fault r ≡ ruledBy (passes-of first (now (places .entry)) (nodesOf (now (table .entry)))) (nodesOf (now (table .entry))) ⌝ }
 {
-    if table.len() < 3 {
+    if table.len() < NODE_FIELDS {
         return Fault::Refused { line: 2, number: 9 };
     }
     let six = crate::node_rules::lowest(table, places, first);
@@ -52,13 +61,13 @@ pub fn ruled(table: &[u8], places: &[u8], first: Rule) -> Fault
 fn all_fit(table: &[u8]) -> bool
     ensures { λ r. ⌜ r ≡ every nodeOk (nodesOf (now (table .entry))) ⌝ }
 {
-    let n = table.len() / 3;
+    let n = table.len() / NODE_FIELDS;
     let mut k: usize = 0;
     while k < n {
         if !sheet_fields::node_fits(
-            table[3 * k] as u32,
-            table[3 * k + 1] as u32,
-            table[3 * k + 2] as u32,
+            table[NODE_FIELDS * k] as u32,
+            table[NODE_FIELDS * k + 1] as u32,
+            table[NODE_FIELDS * k + 2] as u32,
         ) {
             return false;
         }
@@ -71,10 +80,10 @@ fn all_fit(table: &[u8]) -> bool
 pub fn node_table_ok(table: &[u8]) -> bool
     ensures { λ r. ⌜ r ≡ nodeTable (now (table .entry)) ⌝ }
 {
-    if table.len() % 3 != 0 {
+    if table.len() % NODE_FIELDS != 0 {
         return false;
     }
-    if 192 < table.len() {
+    if NODE_TABLE < table.len() {
         return false;
     }
     if !all_fit(table) {

@@ -2,48 +2,52 @@
 ghost use mathlib.Core.Path.{_≡_};
 ghost use Prim.Native.Nat.{_/_, _<_, _≤_};
 ghost use lib.ListN.{length};
+ghost use Rattle.usage.specs.Limits.{nodeFields};
 ghost use Rattle.usage.specs.Tables.{nodesOf};
-ghost use Rattle.usage.specs.Tests.{backOk, nameOk, placeOk, lowest as lowest-of, above, some-below, givesName};
-ghost use Rattle.sheet_rules.specs.Rules.{passes as passes-of, found, sought};
-
-// One rule, asked of a node. `Place` is refusal 6 of a sheet, whose lines hold node numbers of their own, and `Tree` that of a table.
-pub enum Rule {
-    Place,
-    Tree,
-    Back,
-    Name,
-}
+ghost use Rattle.usage.specs.Tests.{backOk, nameOk, placeOk, lowestFailing as lowest-of, allOf, above, someBelow, givesName};
+ghost use Rattle.sheet_rules.specs.Rules.{passes as passes-of};
+ghost use Rattle.sheet_rules.specs.Code.{found, sought, fieldOf};
+use crate::Rule;
+use usage::NODE_FIELDS;
 
 // The lowest node that breaks a rule.
-pub enum Found {
+pub(crate) enum Found {
     At(usize),
     Nothing,
 }
 
-// Document 01: "lowest back not inside a loop node of that number".
-fn back_ok(table: &[u8], k: usize) -> bool
-    requires { ⌜ k < length (now table) / 3 ⌝ }
-    ensures { λ r. ⌜ r ≡ backOk (nodesOf (now (table .entry))) k ⌝ }
+// Where node k is of that kind, it lies inside the node that a field of it names: by its number, or by the name that it gives.
+fn named_above(nodes: &[u8], what: Ancestor, kind: u8, field: usize, k: usize) -> bool
+    requires { ⌜ k < length (now nodes) / nodeFields ⌝ }
+    requires { ⌜ field < nodeFields ⌝ }
+    ensures { λ r. ⌜ r ≡ allOf (λ x. above (nodesOf (now (nodes .entry))) (sought what (nodesOf (now (nodes .entry))) x) k k) (fieldOf (now (nodes .entry)) k kind field) ⌝ }
 {
-    if table[3 * k] != 6 {
+    if nodes[NODE_FIELDS * k] != kind {
         return true;
     }
-    inside(table, Ancestor::Loop, table[3 * k + 1], k)
+    inside(nodes, what, nodes[NODE_FIELDS * k + field], k)
+}
+
+// Document 01: "lowest back not inside a loop node of that number".
+fn back_ok(table: &[u8], k: usize) -> bool
+    requires { ⌜ k < length (now table) / nodeFields ⌝ }
+    ensures { λ r. ⌜ r ≡ backOk (nodesOf (now (table .entry))) k ⌝ }
+{
+    named_above(table, Ancestor::Loop, 6, 1, k)
 }
 
 // Document 01: "uses a name outside its fresh node, or gives one that a lower node gives".
 fn name_ok(table: &[u8], k: usize) -> bool
-    requires { ⌜ k < length (now table) / 3 ⌝ }
+    requires { ⌜ k < length (now table) / nodeFields ⌝ }
     ensures { λ r. ⌜ r ≡ nameOk (nodesOf (now (table .entry))) k ⌝ }
 {
-    let kind = table[3 * k];
-    if kind == 2 {
-        return inside(table, Ancestor::Giver, table[3 * k + 2], k);
+    if !named_above(table, Ancestor::Giver, 2, 2, k) {
+        return false;
     }
-    if kind == 7 {
-        return !given_below(table, table[3 * k + 1], k);
+    if table[NODE_FIELDS * k] != 7 {
+        return true;
     }
-    true
+    !given_below(table, table[NODE_FIELDS * k + 1], k)
 }
 
 // Document 01: "whose number is not its place".
@@ -57,7 +61,7 @@ fn placed(places: &[u8], k: usize) -> bool
 }
 
 fn place_and_tree_ok(table: &[u8], places: &[u8], k: usize) -> bool
-    requires { ⌜ k < length (now table) / 3 ⌝ }
+    requires { ⌜ k < length (now table) / nodeFields ⌝ }
     ensures { λ r. ⌜ r ≡ passes-of Rule.Place (now (places .entry)) (nodesOf (now (table .entry))) k ⌝ }
 {
     if !placed(places, k) {
@@ -67,7 +71,7 @@ fn place_and_tree_ok(table: &[u8], places: &[u8], k: usize) -> bool
 }
 
 fn passes(table: &[u8], places: &[u8], rule: Rule, k: usize) -> bool
-    requires { ⌜ k < length (now table) / 3 ⌝ }
+    requires { ⌜ k < length (now table) / nodeFields ⌝ }
     ensures { λ r. ⌜ r ≡ passes-of rule (now (places .entry)) (nodesOf (now (table .entry))) k ⌝ }
 {
     match rule {
@@ -79,10 +83,10 @@ fn passes(table: &[u8], places: &[u8], rule: Rule, k: usize) -> bool
 }
 
 // The lowest node that breaks a rule.
-pub fn lowest(table: &[u8], places: &[u8], rule: Rule) -> Found
-    ensures { λ r. ⌜ found r ≡ lowest-of (passes-of rule (now (places .entry)) (nodesOf (now (table .entry)))) 0 (length (now (table .entry)) / 3) ⌝ }
+pub(crate) fn lowest(table: &[u8], places: &[u8], rule: Rule) -> Found
+    ensures { λ r. ⌜ found r ≡ lowest-of (passes-of rule (now (places .entry)) (nodesOf (now (table .entry)))) 0 (length (now (table .entry)) / nodeFields) ⌝ }
 {
-    let n = table.len() / 3;
+    let n = table.len() / NODE_FIELDS;
     let mut k: usize = 0;
     while k < n {
         if !passes(table, places, rule, k) {
@@ -101,28 +105,28 @@ enum Ancestor {
 
 // Node j is a loop.
 fn is_loop(nodes: &[u8], x: usize, j: usize) -> bool
-    requires { ⌜ j < length (now nodes) / 3 ⌝ }
+    requires { ⌜ j < length (now nodes) / nodeFields ⌝ }
     ensures { λ r. ⌜ r ≡ sought Ancestor.Loop (nodesOf (now (nodes .entry))) x j ⌝ }
 {
     if j != x {
         return false;
     }
-    nodes[3 * j] == 5
+    nodes[NODE_FIELDS * j] == 5
 }
 
 // Node j gives name x.
 fn gives_name(nodes: &[u8], x: u8, j: usize) -> bool
-    requires { ⌜ j < length (now nodes) / 3 ⌝ }
+    requires { ⌜ j < length (now nodes) / nodeFields ⌝ }
     ensures { λ r. ⌜ r ≡ givesName (nodesOf (now (nodes .entry))) x j ⌝ }
 {
-    if nodes[3 * j] != 7 {
+    if nodes[NODE_FIELDS * j] != 7 {
         return false;
     }
-    nodes[3 * j + 1] == x
+    nodes[NODE_FIELDS * j + 1] == x
 }
 
 fn is_sought(nodes: &[u8], what: Ancestor, x: u8, j: usize) -> bool
-    requires { ⌜ j < length (now nodes) / 3 ⌝ }
+    requires { ⌜ j < length (now nodes) / nodeFields ⌝ }
     ensures { λ r. ⌜ r ≡ sought what (nodesOf (now (nodes .entry))) x j ⌝ }
 {
     match what {
@@ -134,7 +138,7 @@ fn is_sought(nodes: &[u8], what: Ancestor, x: u8, j: usize) -> bool
 // Node k lies inside a node that is sought. Every parent is lower than its child, so one way down from k meets all of them; `at` is
 // the highest met so far.
 fn inside(nodes: &[u8], what: Ancestor, x: u8, k: usize) -> bool
-    requires { ⌜ k < length (now nodes) / 3 ⌝ }
+    requires { ⌜ k < length (now nodes) / nodeFields ⌝ }
     ensures { λ r. ⌜ r ≡ above (nodesOf (now (nodes .entry))) (sought what (nodesOf (now (nodes .entry))) x) k k ⌝ }
 {
     let mut at = k;
@@ -153,8 +157,8 @@ fn inside(nodes: &[u8], what: Ancestor, x: u8, k: usize) -> bool
 
 // A node below k gives name x.
 fn given_below(nodes: &[u8], x: u8, k: usize) -> bool
-    requires { ⌜ k ≤ length (now nodes) / 3 ⌝ }
-    ensures { λ r. ⌜ r ≡ some-below (givesName (nodesOf (now (nodes .entry))) x) k ⌝ }
+    requires { ⌜ k ≤ length (now nodes) / nodeFields ⌝ }
+    ensures { λ r. ⌜ r ≡ someBelow (givesName (nodesOf (now (nodes .entry))) x) k ⌝ }
 {
     let mut j = k;
     while 0 < j {

@@ -1,19 +1,29 @@
 // Which nodes of a flat table are children, three numbers to a node, and refusal 6 of a node.
 ghost use mathlib.Core.Path.{_≡_};
-ghost use Prim.Native.Nat.{ℕ, _≤_};
+ghost use Prim.Native.Nat.{ℕ, _/_, _<_, _≤_};
 ghost use mathlib.Core.List.{[]};
 ghost use lib.ListN.{length};
+ghost use Rattle.usage.specs.Limits.{nodeFields};
 ghost use Rattle.usage.specs.Tables.{nodesOf};
 ghost use Rattle.usage.specs.Tests.{treeOk, between, isChild};
-ghost use Rattle.usage.specs.Outline.{formOf, formAt};
+ghost use Rattle.usage.specs.Outline.{formOf};
 ghost use Rattle.usage.specs.Valid.{childrenOf, times, timesChild};
-ghost use Rattle.sheet_rules.specs.Children.{listed};
+ghost use Rattle.sheet_rules.specs.Code.{childIf};
+use usage::NODE_FIELDS;
 
 // Document 01: "whose child is not greater or does not exist, or which is not a child exactly once (node 0: a child at all)".
-pub fn tree_ok(table: &[u8], k: usize) -> bool
+pub(crate) fn tree_ok(table: &[u8], k: usize) -> bool
+    requires { ⌜ k < length (now table) / nodeFields ⌝ }
     ensures { λ r. ⌜ r ≡ treeOk (nodesOf (now (table .entry))) k ⌝ }
 {
-    if !children_ok(table, k) {
+    let n = table.len() / NODE_FIELDS;
+    if !children_between(
+        table[NODE_FIELDS * k],
+        table[NODE_FIELDS * k + 1],
+        table[NODE_FIELDS * k + 2],
+        k,
+        n,
+    ) {
         return false;
     }
     let times = times_child(table, k);
@@ -24,24 +34,17 @@ pub fn tree_ok(table: &[u8], k: usize) -> bool
 }
 
 // Node c is a child of node p.
-pub fn is_child(nodes: &[u8], p: usize, c: usize) -> bool
+pub(crate) fn is_child(nodes: &[u8], p: usize, c: usize) -> bool
+    requires { ⌜ p < length (now nodes) / nodeFields ⌝ }
     ensures { λ r. ⌜ r ≡ isChild (nodesOf (now (nodes .entry))) p c ⌝ }
 {
-    if nodes.len() / 3 <= p {
-        return false;
-    }
-    0 < names_child(nodes[3 * p], nodes[3 * p + 1], nodes[3 * p + 2], c)
-}
-
-// The children of node k are greater than k, and exist. There is nothing to ask of a node that does not exist.
-fn children_ok(table: &[u8], k: usize) -> bool
-    ensures { λ r. ⌜ r ≡ between k (length (nodesOf (now (table .entry)))) (childrenOf (formAt (nodesOf (now (table .entry))) k)) ⌝ }
-{
-    let n = table.len() / 3;
-    if n <= k {
-        return true;
-    }
-    children_between(table[3 * k], table[3 * k + 1], table[3 * k + 2], k, n)
+    let times = names_child(
+        nodes[NODE_FIELDS * p],
+        nodes[NODE_FIELDS * p + 1],
+        nodes[NODE_FIELDS * p + 2],
+        c,
+    );
+    0 < times
 }
 
 // Which fields of a kind are child numbers.
@@ -51,7 +54,7 @@ struct ChildFields {
 }
 
 fn child_fields(kind: u8) -> ChildFields
-    ensures { λ r. ⌜ ((a b : ℕ) → childrenOf (formOf (record { kind = kind; a = a; b = b })) ≡ listed (r .a) a (listed (r .b) b [])) ⌝ }
+    ensures { λ r. ⌜ ((a b : ℕ) → childrenOf (formOf (record { kind = kind; a = a; b = b })) ≡ childIf (r .a) a (childIf (r .b) b [])) ⌝ }
 {
     match kind {
         3 => ChildFields { a: true, b: true },
@@ -65,7 +68,7 @@ fn child_fields(kind: u8) -> ChildFields
 
 // How often a field names node c.
 fn names(child: bool, x: u8, c: usize) -> usize
-    ensures { λ r. ⌜ r ≡ times c (listed child x []) ⌝ }
+    ensures { λ r. ⌜ r ≡ times c (childIf child x []) ⌝ }
     ensures { λ r. ⌜ r ≤ 1 ⌝ }
 {
     if child {
@@ -87,7 +90,7 @@ fn names_child(kind: u8, a: u8, b: u8, c: usize) -> usize
 
 // A field that is a child number lies between k and n.
 fn lies_between(child: bool, x: u8, k: usize, n: usize) -> bool
-    ensures { λ r. ⌜ r ≡ between k n (listed child x []) ⌝ }
+    ensures { λ r. ⌜ r ≡ between k n (childIf child x []) ⌝ }
 {
     if !child {
         return true;
@@ -114,11 +117,16 @@ fn children_between(kind: u8, a: u8, b: u8, k: usize, n: usize) -> bool
 fn times_child(nodes: &[u8], c: usize) -> usize
     ensures { λ r. ⌜ r ≡ timesChild c (nodesOf (now (nodes .entry))) ⌝ }
 {
-    let n = nodes.len() / 3;
+    let n = nodes.len() / NODE_FIELDS;
     let mut count: usize = 0;
     let mut j: usize = 0;
     while j < n {
-        count += names_child(nodes[3 * j], nodes[3 * j + 1], nodes[3 * j + 2], c);
+        count += names_child(
+            nodes[NODE_FIELDS * j],
+            nodes[NODE_FIELDS * j + 1],
+            nodes[NODE_FIELDS * j + 2],
+            c,
+        );
         j += 1;
     }
     count

@@ -8,18 +8,18 @@ use native.Mathlib.Omega.{arith}
 use lib.Dec.{eqb}
 use lib.ListN.{length, replicate}
 use borrow.Author.Tests.{eqb-true, lt-ltb}
-use Rattle.usage.specs.Limits.{statics}
+use Rattle.usage.specs.Limits.{statics, states, nodeFields}
 use Rattle.usage.specs.Outline.{formOf}
 use Rattle.usage.specs.Tables.{from, edgesOf}
-use Rattle.usage.specs.Tests.{some-below}
+use Rattle.usage.specs.Tests.{someBelow}
 use Rattle.usage.proofs.Logic.{false-true, and-left, and-right, not-true, last-or-lower}
 use Rattle.automaton.specs.Move.{targets, image, rowsOf}
 use Rattle.checker_account.specs.Witness.{watched}
 use Rattle.automaton.specs.Mask.{has, single, union}
-use Rattle.checker_account.specs.Mask.{offends, over, joined}
-use Rattle.checker_account.specs.Tables.{unnamed, least, forgotten, rowsIn, endsBy, arrivals, leaves}
-use Rattle.checker_account.specs.Rounds.{repeat, Forms, formsIn, settleNode, settleRound, entered, passNode, passRound, begins, hitNode, hitAny, Searched, SearchedAll, none-found}
-use Rattle.checker_account.specs.RowTable.{stored, nodeRows, fillRows}
+use Rattle.checker_account.specs.Tables.{over, joinedAt, unnamed, least, forgotten, rowsIn, endsBy, arrivals, leaves}
+use Rattle.checker_account.specs.Rounds.{repeat, Forms, formsIn, settleNode, settleRound, entered, passNode, passRound}
+use Rattle.checker_account.specs.Rounds.{begins, hitNode, hitAny, Searched, SearchedAll, none-found}
+use Rattle.checker_account.specs.RowTable.{rowsStored, nodeRows, fillRows}
 
 unfoldable pub same : List ℕ → List ℕ → Bool
 same [] [] = true
@@ -48,14 +48,14 @@ is-true false b h = sym (not-true b h)
 -- r is the table of rows of policy p, x the watched resource, l the least meaning that occurs; k rounds are made
 module _ (r : List ℕ) (p x l n : ℕ) (forms : Forms) (k : ℕ) where
   unfoldable pub ends-by : List ℕ
-  ends-by = repeat (λ i. settleRound (rowsIn r) x (8 * l) n forms) k (replicate 3072 0)
+  ends-by = repeat (λ i. settleRound (rowsIn r) x (states * l) n forms) k (replicate 3072 0)
 
   unfoldable pub comes-by : List ℕ → List ℕ
   comes-by ends = repeat (λ i. passRound (rowsIn r) p ends l n forms) k (begins l)
 
   unfoldable pub complete : Bool → List ℕ → List ℕ → Bool
   complete answer ends comes =
-      same (settleRound (rowsIn r) x (8 * l) n forms ends) ends
+      same (settleRound (rowsIn r) x (states * l) n forms ends) ends
       && (same (passRound (rowsIn r) p ends l n forms comes) comes && is answer (hitAny (rowsIn r) p x comes l n forms))
 
   unfoldable pub from-ends : Bool → List ℕ → Bool
@@ -71,7 +71,7 @@ unfolding ends-by comes-by complete from-ends tells
 told r p x n forms k answer h =
     let ends = ends-by r p x (least x) n forms k in
     let comes = comes-by r p x (least x) n forms k ends in
-    let e = same (settleRound (rowsIn r) x (8 * least x) n forms ends) ends in
+    let e = same (settleRound (rowsIn r) x (states * least x) n forms ends) ends in
     let c = same (passRound (rowsIn r) p ends (least x) n forms comes) comes in
     let a = is answer (hitAny (rowsIn r) p x comes (least x) n forms) in
     let later : (c && a) ≡ true = and-right e (c && a) h in
@@ -87,27 +87,32 @@ told r p x n forms k answer h =
 
 module _ (e t : List ℕ) (p : ℕ) where
   unfoldable pub rowTable : List ℕ
-  unfolding stored nodeRows fillRows repeat rowsOf image targets single from edgesOf formOf
-  rowTable = fillRows (rowsOf (edgesOf e)) p (length t / 3) (formsIn t) (replicate 3072 0)
+  unfolding rowsStored nodeRows fillRows repeat rowsOf image targets single from edgesOf formOf
+  rowTable = fillRows (rowsOf (edgesOf e)) p (length t / nodeFields) (formsIn t) (replicate 3072 0)
 
   unfoldable pub tells-by : List ℕ → ℕ → ℕ → ℕ → Bool → Bool
-  unfolding tells ends-by comes-by complete from-ends same repeat settleNode settleRound entered passNode passRound hitNode hitAny some-below forgotten endsBy arrivals leaves has union offends over joined formOf
-  tells-by r x l k answer = tells r p x l (length t / 3) (formsIn t) k answer
+  unfolding tells ends-by comes-by complete from-ends same repeat settleNode settleRound entered passNode passRound hitNode hitAny
+      someBelow forgotten endsBy arrivals leaves has union over joinedAt formOf
+  tells-by r x l k answer = tells r p x l (length t / nodeFields) (formsIn t) k answer
 
   unfoldable pub tells-at : ℕ → ℕ → ℕ → Bool → Bool
   tells-at x l k answer = tells-by rowTable x l k answer
 
-  pub told-at : (x l k : ℕ) (answer : Bool) → least x ≡ l → tells-at x l k answer ≡ true → Searched (rowsIn rowTable) p x (length t / 3) (formsIn t) answer
+  pub told-at : (x l k : ℕ) (answer : Bool) → least x ≡ l → tells-at x l k answer ≡ true
+      → Searched (rowsIn rowTable) p x (length t / nodeFields) (formsIn t) answer
   unfolding tells-by tells-at
   told-at x l k answer d h =
-      told rowTable p x (length t / 3) (formsIn t) k answer (subst (λ (l : ℕ). tells rowTable p x l (length t / 3) (formsIn t) k answer ≡ true) (sym d) h)
+      told rowTable p x (length t / nodeFields) (formsIn t) k answer
+      (subst (λ (l : ℕ). tells rowTable p x l (length t / nodeFields) (formsIn t) k answer ≡ true) (sym d) h)
 
   -- Where no node is on a static resource, the tables are the same for each of them.
   pub none-told : (k : ℕ) → ((x : ℕ) → tells-at x unnamed k false ≡ true) → tells-at watched 0 k false ≡ true
-      → SearchedAll (rowsIn rowTable) p (length t / 3) (formsIn t) false
+      → SearchedAll (rowsIn rowTable) p (length t / nodeFields) (formsIn t) false
   unfolding least
   none-told k h d = none-found (λ x l. go x (last-or-lower x watched (omega arith)))
     where
-      go : (x : ℕ) → (x ≡ watched) ⊎ (x < watched) → Searched (rowsIn rowTable) p x (length t / 3) (formsIn t) false
-      go x (inl e) = subst (λ (x : ℕ). Searched (rowsIn rowTable) p x (length t / 3) (formsIn t) false) (sym e) (told-at watched 0 k false refl d)
+      go : (x : ℕ) → (x ≡ watched) ⊎ (x < watched) → Searched (rowsIn rowTable) p x (length t / nodeFields) (formsIn t) false
+      go x (inl e) =
+          subst (λ (x : ℕ). Searched (rowsIn rowTable) p x (length t / nodeFields) (formsIn t) false) (sym e)
+          (told-at watched 0 k false refl d)
       go x (inr l) = told-at x unnamed k false (ap (λ (b : Bool). cond b unnamed 0) (lt-ltb x statics l)) (h x)

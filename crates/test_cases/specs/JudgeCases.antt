@@ -1,4 +1,5 @@
--- The judge's cases: document 01's A to H ("Cases by letter"), and its limits and the other refusals of a running routine.
+-- The judge's cases: document 01's A to H ("Cases by letter"), and its limits and the other refusals of a running routine, in
+-- document 01's own numbers.
 use Prim.Native.Nat.{ℕ}
 use mathlib.Core.Bool.{false}
 use mathlib.Core.List.{List, [], _∷_, _++_}
@@ -6,7 +7,7 @@ use lib.ListN.{replicate}
 use Rattle.usage.specs.declared.RawStep.{RawStep}
 use Rattle.usage.specs.Answers.{Verdict, allowed, violated, refused}
 use Rattle.usage.specs.Judge.{JudgedAll}
-use Rattle.usage.specs.Tables.{from, edgesOf}
+use Rattle.usage.specs.Tables.{from, edgesOf, EdgeTable}
 
 -- One case: the flat table of edges, the steps from the start on, and the answers to them.
 pub record JudgeCase : Type 0 where
@@ -14,9 +15,10 @@ pub record JudgeCase : Type 0 where
   pub steps : List RawStep
   pub answers : List Verdict
 
--- the answers are the right ones, from the empty past on
-abbrev pub Right : JudgeCase → Type 0
-Right c = JudgedAll false (edgesOf (c .edges)) [] false (c .steps) (c .answers)
+-- the table is one that an accepted sheet gives (not 41), and the answers are the right ones, from the empty past on
+pub record JudgedRight (c : JudgeCase) : Type 0 where
+  pub table : EdgeTable (c .edges)
+  pub judged : JudgedAll false (edgesOf (c .edges)) [] false (c .steps) (c .answers)
 
 -- ── The cases ──
 
@@ -25,64 +27,88 @@ step k a b = record { kind = k; a = a; b = b }
 
 -- "Policies P"
 abbrev pub P : List ℕ
-P = 0 ∷ 0 ∷ 1 ∷ 1 ∷ 0 ∷ 1 ∷ 0 ∷ 1 ∷ 3 ∷ 1 ∷ 0 ∷ 0 ∷ 0 ∷ 0 ∷ 2 ∷ 1 ∷ 0 ∷ 6 ∷ []
+P =
+    0 ∷ 0 ∷ 1 ∷ 1 ∷ 0 ∷ 1
+    ∷ 0 ∷ 1 ∷ 3 ∷ 1 ∷ 0 ∷ 0
+    ∷ 0 ∷ 0 ∷ 2 ∷ 1 ∷ 0 ∷ 6 ∷ []
 
 -- "A: empty trace, valid."
-abbrev pub case-A : JudgeCase
-case-A = record { edges = P; steps = []; answers = [] }
+abbrev pub caseA : JudgeCase
+caseA = record { edges = P; steps = []; answers = [] }
 
 -- "B: the trace above, line 7."
-abbrev pub case-B : JudgeCase
-case-B = record {
+abbrev pub caseB : JudgeCase
+caseB = record {
   edges = P;
   steps = step 1 0 0 ∷ step 0 0 16 ∷ step 0 1 16 ∷ step 0 2 16 ∷ step 0 0 17 ∷ step 0 2 17 ∷ step 0 3 16 ∷ [];
   answers = allowed ∷ allowed ∷ allowed ∷ allowed ∷ allowed ∷ violated 0 ∷ refused 20 ∷ [];
 }
 
 -- "C: P; read 3 (action 2), then open 0: violated at the opening."
-abbrev pub case-C : JudgeCase
-case-C = record { edges = P; steps = step 0 2 3 ∷ step 1 0 0 ∷ []; answers = allowed ∷ violated 0 ∷ [] }
+abbrev pub caseC : JudgeCase
+caseC = record { edges = P; steps = step 0 2 3 ∷ step 1 0 0 ∷ []; answers = allowed ∷ violated 0 ∷ [] }
 
 -- "D: P and an edge 0 6 3 1 0 0; read 3, action 3 on 3, open 0: allowed."
-abbrev pub case-D : JudgeCase
-case-D = record { edges = P ++ (0 ∷ 6 ∷ 3 ∷ 1 ∷ 0 ∷ 0 ∷ []); steps = step 0 2 3 ∷ step 0 3 3 ∷ step 1 0 0 ∷ []; answers = allowed ∷ allowed ∷ allowed ∷ [] }
+abbrev pub caseD : JudgeCase
+caseD = record {
+  edges = P ++ (0 ∷ 6 ∷ 3 ∷ 1 ∷ 0 ∷ 0 ∷ []);
+  steps = step 0 2 3 ∷ step 0 3 3 ∷ step 1 0 0 ∷ [];
+  answers = allowed ∷ allowed ∷ allowed ∷ [];
+}
 
 -- "E: P; open 0, open 0, close 0, read 3: violated."
-abbrev pub case-E : JudgeCase
-case-E = record { edges = P; steps = step 1 0 0 ∷ step 1 0 0 ∷ step 2 0 0 ∷ step 0 2 3 ∷ []; answers = allowed ∷ allowed ∷ allowed ∷ violated 0 ∷ [] }
+abbrev pub caseE : JudgeCase
+caseE = record {
+  edges = P;
+  steps = step 1 0 0 ∷ step 1 0 0 ∷ step 2 0 0 ∷ step 0 2 3 ∷ [];
+  answers = allowed ∷ allowed ∷ allowed ∷ violated 0 ∷ [];
+}
 
 -- "F: edge 0 0 4 2 0 6 only; open 0, action 4 on 3: violated, by an instance other than 3's."
-abbrev pub case-F : JudgeCase
-case-F = record { edges = 0 ∷ 0 ∷ 4 ∷ 2 ∷ 0 ∷ 6 ∷ []; steps = step 1 0 0 ∷ step 0 4 3 ∷ []; answers = allowed ∷ violated 0 ∷ [] }
+abbrev pub caseF : JudgeCase
+caseF = record { edges = 0 ∷ 0 ∷ 4 ∷ 2 ∷ 0 ∷ 6 ∷ []; steps = step 1 0 0 ∷ step 0 4 3 ∷ []; answers = allowed ∷ violated 0 ∷ [] }
 
 -- "G: edges 0 0 2 1 0 1 and 0 0 2 1 0 6; open 0, read 3: violated."
-abbrev pub case-G : JudgeCase
-case-G = record { edges = 0 ∷ 0 ∷ 2 ∷ 1 ∷ 0 ∷ 1 ∷ 0 ∷ 0 ∷ 2 ∷ 1 ∷ 0 ∷ 6 ∷ []; steps = step 1 0 0 ∷ step 0 2 3 ∷ []; answers = allowed ∷ violated 0 ∷ [] }
+abbrev pub caseG : JudgeCase
+caseG = record {
+  edges = 0 ∷ 0 ∷ 2 ∷ 1 ∷ 0 ∷ 1 ∷ 0 ∷ 0 ∷ 2 ∷ 1 ∷ 0 ∷ 6 ∷ [];
+  steps = step 1 0 0 ∷ step 0 2 3 ∷ [];
+  answers = allowed ∷ violated 0 ∷ [];
+}
 
 -- "H: create 15 gives 22; create 16 twice gives 23; read 16 uncreated gives 24."
-abbrev pub case-H : JudgeCase
-case-H = record { edges = P; steps = step 0 0 15 ∷ step 0 2 16 ∷ step 0 0 16 ∷ step 0 0 16 ∷ []; answers = refused 22 ∷ refused 24 ∷ allowed ∷ refused 23 ∷ [] }
-
-abbrev pub cases-AH : List JudgeCase
-cases-AH = case-A ∷ case-B ∷ case-C ∷ case-D ∷ case-E ∷ case-F ∷ case-G ∷ case-H ∷ []
+abbrev pub caseH : JudgeCase
+caseH = record {
+  edges = P;
+  steps = step 0 0 15 ∷ step 0 2 16 ∷ step 0 0 16 ∷ step 0 0 16 ∷ [];
+  answers = refused 22 ∷ refused 24 ∷ allowed ∷ refused 23 ∷ [];
+}
 
 -- ── Limits and refusals ──
 
 -- "The 64th create passes and the 65th gives 30"
-abbrev pub creates-65 : JudgeCase
-creates-65 = record { edges = []; steps = from (λ r. step 0 0 r) 16 65; answers = replicate 64 allowed ++ (refused 30 ∷ []) }
+abbrev pub creates65 : JudgeCase
+creates65 = record {
+  edges = [];
+  steps = from (λ r. step 0 0 r) 16 65;
+  answers = replicate 64 allowed ++ (refused 30 ∷ []);
+}
 
 -- "the 255th opening passes and the 256th gives 31"
-abbrev pub openings-256 : JudgeCase
-openings-256 = record { edges = []; steps = replicate 256 (step 1 0 0); answers = replicate 255 allowed ++ (refused 31 ∷ []) }
+abbrev pub openings256 : JudgeCase
+openings256 = record {
+  edges = [];
+  steps = replicate 256 (step 1 0 0);
+  answers = replicate 255 allowed ++ (refused 31 ∷ []);
+}
 
 -- "21 kind above 2, or a value out of range, or b not 0 in an opening or closing", "25 closing a policy that is not open"
-abbrev pub no-steps : JudgeCase
-no-steps = record {
+abbrev pub noSteps : JudgeCase
+noSteps = record {
   edges = P;
   steps = step 3 0 0 ∷ step 0 32 0 ∷ step 0 1 65536 ∷ step 1 8 0 ∷ step 1 0 1 ∷ step 2 8 0 ∷ step 2 0 1 ∷ step 2 7 0 ∷ [];
   answers = refused 21 ∷ refused 21 ∷ refused 21 ∷ refused 21 ∷ refused 21 ∷ refused 21 ∷ refused 21 ∷ refused 25 ∷ [];
 }
 
-abbrev pub cases-limits : List JudgeCase
-cases-limits = creates-65 ∷ openings-256 ∷ no-steps ∷ []
+abbrev pub casesLimits : List JudgeCase
+casesLimits = creates65 ∷ openings256 ∷ noSteps ∷ []

@@ -13,7 +13,8 @@ pub const INSTANCES: usize = NEVER + 1 + MOST_CREATED;
 
 #[derive(Clone, Debug, PartialEq, Eq)]
 pub struct State {
-    pub halted: bool,
+    /// 1 where the state is halted, 0 where it is not; no state is told by another number.
+    pub halted: u64,
     pub count: u64,
     pub created: [u64; MOST_CREATED],
     pub openings: [u64; POLICIES],
@@ -24,7 +25,7 @@ pub struct State {
 impl State {
     pub fn start() -> State {
         State {
-            halted: false,
+            halted: 0,
             count: 0,
             created: [0; MOST_CREATED],
             openings: [0; POLICIES],
@@ -38,7 +39,8 @@ impl State {
 
     /// Does the state pass 42?
     fn fits(&self) -> bool {
-        self.count <= MOST_CREATED as u64
+        self.halted <= 1
+            && self.count <= MOST_CREATED as u64
             && self.openings.iter().all(|n| *n <= MOST_OPENINGS as u64)
             && self.created().iter().all(|r| (STATICS..=LARGEST_RESOURCE).contains(r))
             && (1..self.created().len()).all(|i| !self.created[..i].contains(&self.created[i]))
@@ -96,7 +98,7 @@ impl State {
 
 impl Standing for State {
     fn is_halted(&self) -> bool {
-        self.halted
+        self.halted == 1
     }
 
     fn is_created(&self, resource: u64) -> bool {
@@ -126,7 +128,7 @@ pub fn judge_state(edges: &[Edge], state: &State, step: Step) -> (Answer, State)
     let next = state.after(&Policy::all(edges), step);
     match next.lowest_broken() {
         None => (Answer::Allowed, next),
-        Some(policy) => (Answer::Violated(policy), State { halted: true, ..state.clone() }),
+        Some(policy) => (Answer::Violated(policy), State { halted: 1, ..state.clone() }),
     }
 }
 
@@ -179,7 +181,7 @@ impl Call {
 
 fn read_state(next: &mut impl FnMut() -> Option<u64>) -> Option<State> {
     let mut state = State::start();
-    state.halted = next()? == 1;
+    state.halted = next()?;
     state.count = next()?;
     for number in state.openings.iter_mut().chain(state.created.iter_mut()) {
         *number = next()?;
@@ -192,7 +194,7 @@ fn read_state(next: &mut impl FnMut() -> Option<u64>) -> Option<State> {
 
 /// Halted and count; the openings; the created numbers; a line of masks for each instance.
 pub fn write_state(state: &State) -> String {
-    let mut text = line(&[state.halted as u64, state.count]);
+    let mut text = line(&[state.halted, state.count]);
     text += &line(&state.openings);
     text += &line(&state.created);
     for row in &state.sets {

@@ -23,7 +23,7 @@ fn states_agree_with_the_whole_past() {
             state = next;
             judged += 1;
         }
-        assert_eq!(judge.halted(), state.halted);
+        assert_eq!(u64::from(judge.halted()), state.halted);
         assert_state(&edges, judge.past(), &state);
     }
     assert!(judged > 10_000, "{judged}");
@@ -32,8 +32,8 @@ fn states_agree_with_the_whole_past() {
 /// A refused step changes nothing; a violated one only halts.
 fn check_step(before: &State, after: &State, answer: Answer) {
     match answer {
-        Answer::Allowed => assert!(!after.halted),
-        Answer::Violated(_) => assert_eq!(*after, State { halted: true, ..before.clone() }),
+        Answer::Allowed => assert_eq!(after.halted, 0),
+        Answer::Violated(_) => assert_eq!(*after, State { halted: 1, ..before.clone() }),
         Answer::Refused(_) => assert_eq!(after, before),
     }
 }
@@ -65,14 +65,19 @@ fn edge(row: [u64; 6]) -> Edge {
 #[test]
 fn refusals_of_the_caller_come_first() {
     let bad = [edge([8, 0, 0, 1, 0, 0])];
-    let mut state = State { halted: true, ..State::start() };
+    let mut state = State { halted: 1, ..State::start() };
     state.openings[3] = 256;
     let misfit = Step { kind: 3, a: 0, b: 0 };
     assert_eq!(judge_state(&bad, &state, misfit).0, Answer::Refused(41));
     assert_eq!(judge_state(&[], &state, misfit).0, Answer::Refused(42));
     state.openings[3] = 255;
     assert_eq!(judge_state(&[], &state, misfit).0, Answer::Refused(20));
-    state.halted = false;
+    for flag in [2, 7, 256, 1 << 32] {
+        state.halted = flag;
+        assert_eq!(judge_state(&bad, &state, misfit).0, Answer::Refused(41));
+        assert_eq!(judge_state(&[], &state, misfit), (Answer::Refused(42), state.clone()));
+    }
+    state.halted = 0;
     assert_eq!(judge_state(&[], &state, misfit).0, Answer::Refused(21));
     assert_eq!(judge_state(&[], &state, Step::open(3)).0, Answer::Refused(31));
     let many = vec![edge([0, 0, 0, 1, 0, 0]); 257];
@@ -103,7 +108,7 @@ fn a_closing_can_be_violated_in_an_unreached_state() {
     state.sets[4][5] = 64;
     let (answer, next) = judge_state(&[], &state, Step::close(2));
     assert_eq!(answer, Answer::Violated(2));
-    assert_eq!(next, State { halted: true, ..state.clone() });
+    assert_eq!(next, State { halted: 1, ..state.clone() });
     state.openings[2] = 1;
     assert_eq!(judge_state(&[], &state, Step::close(2)).0, Answer::Violated(5));
 }

@@ -1,5 +1,6 @@
 //! The stored cases: the expected outputs are those of the reference, and all numbers occur.
 
+use reference::borders;
 use reference::policy::Policy;
 use reference::program::{check, monitor};
 use reference::pushdown::{self, replay, witness, Watched, Witness};
@@ -9,22 +10,34 @@ use std::collections::BTreeSet;
 use std::fs;
 use std::path::PathBuf;
 
-/// The folder of the cases of a kind, and the file of what is expected for them. The sheets belong to programs of the gate.
-fn stored(kind: &str) -> (PathBuf, PathBuf) {
-    let root = PathBuf::from(env!("CARGO_MANIFEST_DIR")).join("../..");
+fn root() -> PathBuf {
+    PathBuf::from(env!("CARGO_MANIFEST_DIR")).join("../..")
+}
+
+/// The folder of the cases of a kind. The sheets belong to a program of the gate.
+fn stored(kind: &str) -> PathBuf {
+    root().join(match kind {
+        "trace" => "crates/test_stored/data/t",
+        "outline" => "crates/test_stored/data/o",
+        _ => "tests/cases/state",
+    })
+}
+
+/// What is expected for the cases of a kind. The program's output has the traces, the outlines and the border calls.
+fn text_of(kind: &str) -> String {
     if kind == "state" {
-        (root.join("tests/cases/state"), root.join("tests/cases/state.expected"))
-    } else {
-        let program = root.join("crates").join(format!("{kind}_cases"));
-        (program.join("data"), program.join("stdout"))
+        return fs::read_to_string(root().join("tests/cases/state.expected")).unwrap();
     }
+    let text = fs::read_to_string(root().join("crates/test_stored/stdout")).unwrap();
+    let sheets = text.strip_suffix(&borders::lines()).expect("the border calls come last");
+    let outlines = sheets.rfind("case 0\n").unwrap();
+    if kind == "trace" { sheets[..outlines].into() } else { sheets[outlines..].into() }
 }
 
 /// The expected output of each case of a kind, without its first line.
 fn expected(kind: &str) -> Vec<String> {
-    let text = fs::read_to_string(stored(kind).1).unwrap();
     let mut cases: Vec<String> = Vec::new();
-    for line in text.lines() {
+    for line in text_of(kind).lines() {
         if line == format!("case {}", cases.len()) {
             cases.push(String::new());
         } else {
@@ -35,7 +48,7 @@ fn expected(kind: &str) -> Vec<String> {
 }
 
 fn file(kind: &str, number: usize, letter: char) -> Vec<u8> {
-    fs::read(stored(kind).0.join(format!("{number:04}{letter}"))).unwrap()
+    fs::read(stored(kind).join(format!("{number:04}{letter}"))).unwrap()
 }
 
 /// Each answer with its detail.

@@ -1,7 +1,9 @@
 -- One number for each case of the answer.
 use mathlib.Core.Path.{sym, ap, _∙_}
 use borrow.Author.Needs.{needs}
-use Rattle.api_c.specs.Parts.{codeOf}
+use Rattle.monitor_state.specs.declared.Answer.{Answer}
+use Rattle.monitor_state.specs.Judge.{verdictOf}
+use Rattle.api_c.specs.Codes.{codeOf}
 use Rattle.api_c.proofs.code.Statement.{statement}
 use Rattle.api_c.proofs.code.Tie as tie
 
@@ -27,13 +29,14 @@ add-result-2 : tie.Need-add-result-2
 add-result-2 c = search needs
 
 returns : tie.Need-returns
-returns c = search needs
+returns c = sym (ap (λ (a : Answer). codeOf (verdictOf a)) (c .enum-told .given .1))
 
 returns-2 : tie.Need-returns-2
-returns-2 c = sym (ap codeOf (c .before .a .given .1))
+returns-2 c = sym (ap (λ (a : Answer). codeOf (verdictOf a)) (c .before .a .given .1))
 
 returns-3 : tie.Need-returns-3
-returns-3 c = sym (ap codeOf (c .before .a2 .given .1))
+returns-3 c = sym (ap (λ (a : Answer). codeOf (verdictOf a)) (c .before .a2 .given .1))
 
 pub code-spec : {M : Type 1} → statement M
-code-spec = tie.close (tie.spec enum-told enum-known-a cast-result add-result enum-known-a-2 cast-result-2 add-result-2 returns returns-2 returns-3)
+code-spec =
+    tie.close (tie.spec enum-told enum-known-a cast-result add-result enum-known-a-2 cast-result-2 add-result-2 returns returns-2 returns-3)

@@ -1,46 +1,76 @@
--- The parts hold what the judge returns.
-use Prim.Native.Nat.{ℕ}
-use mathlib.Core.Path.{_≡_, ap, ap₂, _∙_}
-use mathlib.Core.Bool.{cond}
-use mathlib.Core.List.{List, [], _∷_}
+-- The answer is the definition's, and the arrays hold what it says.
+use mathlib.Core.Path.{_≡_, sym, ap, _∙_}
+use mathlib.Core.List.{List}
+use borrow.Author.Tests.{not-true, not-false}
+use native.Mathlib.Omega.{arith}
 use borrow.Author.Needs.{needs}
-use Rattle.monitor_state.specs.declared.Judgement.{Judgement}
-use Rattle.monitor_state.specs.declared.Told.{Told}
-use Rattle.monitor_state.specs.Code.{judgementOf}
-use Rattle.api_c.specs.Parts.{codeOf, stateOf, numbersOf, judgeParts, Held}
+use Prim.Native.Nat.{ℕ, _<_, _≤_}
+use Rattle.usage.specs.declared.RawStep.{RawStep}
+use Rattle.usage.specs.Answers.{Verdict}
+use Rattle.usage.proofs.Logic.{by-cases}
+use Rattle.api_c.specs.Codes.{codeOf}
+use Rattle.api_c.specs.Parts.{Parts, partsOf, flag, heldIn, Answered, judgeParts}
+use Rattle.api_c.proofs.PartLaws.{flag-refused, told-verdict, refused-left, taken-left}
 use Rattle.api_c.proofs.judge_parts.Statement.{statement}
 use Rattle.api_c.proofs.judge_parts.Tie as tie
 
 element-copy-out-count : tie.Need-element-copy-out-count
 element-copy-out-count c = search needs
 
-element-copy-out-halted : tie.Need-element-copy-out-halted
-element-copy-out-halted c = search needs
+element-copy-out-flag : tie.Need-element-copy-out-flag
+element-copy-out-flag c = search needs
+
+no-state-requires : tie.Need-no-state-requires
+no-state-requires c κs = search needs
+
+returns : tie.Need-returns
+returns c =
+    let a = c .before .before .before .before .before .args in
+    let p = partsOf (a .sets .now) (a .created .now) (a .unclosed .now) (a .numbers .now) in
+    let h : 1 < flag p = omega (arith, c .before .if1 .taken) in
+    let e = flag-refused (a .edges .now) p (record { kind = a .kind; a = a .a; b = a .b }) h in
+    (c .no-state .ensures ∙ sym (ap (λ (r : Answered). codeOf (r .verdict)) e), sym (ap (λ (r : Answered). r .parts) e))
 
 judge-lent-requires : tie.Need-judge-lent-requires
 judge-lent-requires c κs = search needs
 
-flag-requires : tie.Need-flag-requires
-flag-requires c κs = search needs
+is-refusal-requires : tie.Need-is-refusal-requires
+is-refusal-requires c κs = search needs
+
+flag-of-requires : tie.Need-flag-of-requires
+flag-of-requires c κs = search needs
 
 code-requires : tie.Need-code-requires
 code-requires c κs = search needs
 
--- what is told, where it is the definition's judgement
-held : (j : Judgement) (t : Told) (sets created unclosed : List ℕ) (answer h : ℕ) → judgementOf t sets created unclosed ≡ j → answer ≡ codeOf (t .answer) → h ≡ cond (t .halted) 1 0
-    → Held j answer sets created unclosed (t .count ∷ h ∷ [])
-unfolding numbersOf
-held j t sets created unclosed answer h e a f = record {
-  told = a ∙ ap (λ (k : Judgement). codeOf (k .answer)) e;
-  sets-held = ap (λ (k : Judgement). k .state .sets) e;
-  created-held = ap (λ (k : Judgement). k .state .created) e;
-  unclosed-held = ap (λ (k : Judgement). k .state .unclosed) e;
-  numbers-held = ap (λ (n : ℕ). t .count ∷ n ∷ []) f ∙ ap (λ (k : Judgement). numbersOf (k .state)) e;
-}
-
-returns : tie.Need-returns
-unfolding judgeParts stateOf
-returns c = held _ (c .before .before .before .judge-lent .result) _ _ _ (c .code .result) (c .before .before .flag .result) (c .before .before .before .judge-lent .ensures) (c .code .ensures) (c .before .before .flag .ensures)
+returns-2 : tie.Need-returns-2
+unfolding heldIn
+returns-2 c =
+    let a = c .before .before .before .before .before .before .before .before .before .before .before .args in
+    let p = partsOf (a .sets .now) (a .created .now) (a .unclosed .now) (a .numbers .now) in
+    let raw : RawStep = record { kind = a .kind; a = a .a; b = a .b } in
+    let h : flag p ≤ 1 = omega (arith, c .before .before .before .before .before .before .before .if1 .left) in
+    let j = c .before .before .before .judge-lent in
+    let r = c .before .before .is-refusal in (
+      c .code .ensures ∙ ap codeOf (told-verdict (a .edges .now) p raw h (j .result) _ _ _ (j .ensures)),
+      by-cases (c .before .if2 .came)
+          (λ w. ap (λ (l : List ℕ). partsOf (j .last .1 .0) (j .last .1 .1 .0) (j .last .1 .1 .1 .0) l) (w .3)
+          ∙ taken-left (a .edges .now) p raw h (j .result) _ _ _ (j .ensures) (w .1 .result)
+          (sym (r .ensures) ∙ not-true (r .result) (w .0 .taken)) (w .1 .ensures))
+          (λ w. ap (λ (l : List ℕ). partsOf (j .last .1 .0) (j .last .1 .1 .0) (j .last .1 .1 .1 .0) l) (w .1)
+          ∙ refused-left (a .edges .now) p raw h (j .result) _ _ _ (j .ensures) (sym (r .ensures) ∙ not-false (r .result) (w .0 .left))),
+    )
 
 pub judge-parts-spec : {M : Type 1} → statement M
-judge-parts-spec = tie.close (tie.spec element-copy-out-count element-copy-out-halted judge-lent-requires flag-requires code-requires returns)
+judge-parts-spec =
+    tie.close
+    (tie.spec
+    element-copy-out-count
+    element-copy-out-flag
+    no-state-requires
+    returns
+    judge-lent-requires
+    is-refusal-requires
+    flag-of-requires
+    code-requires
+    returns-2)

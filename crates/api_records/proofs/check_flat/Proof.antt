@@ -1,14 +1,14 @@
 use native.Mathlib.Omega.{arith}
-use mathlib.Core.Path.{_≡_, refl, sym, ap, _∙_}
-use Prim.Native.Nat.{ℕ, suc, _+_, _-_, _≤_, _<_}
-use lib.ListN.{length, getD, take, drop, set}
+use mathlib.Core.Path.{_≡_}
+use Prim.Native.Nat.{_-_}
+use lib.ListN.{length}
 use native.Mathlib.Nat.{sub-zero}
+use Rattle.usage.specs.Limits.{edgePlaces}
+use Rattle.checker.proofs.PromiseLaws.{promised-right}
 use Rattle.api_records.specs.Code.{few, too-many}
 use borrow.Author.Needs.{needs}
 use Rattle.api_records.proofs.check_flat.Statement.{statement}
 use Rattle.api_records.proofs.check_flat.Tie as tie
-use Rattle.api_records.proofs.check_flat.Reads as reads
-use Rattle.api_records.proofs.check_flat.Lts as lts
 
 returns : tie.Need-returns
 returns c = too-many (c .if1 .taken)
@@ -24,14 +24,14 @@ part-check-start c = search needs
 
 part-check-end : tie.Need-part-check-end
 part-check-end c =
-    let k : length (c .before .before .before .before .args .f .bytes) ≡ 1536 = search needs in
+    let k : length (c .before .before .before .before .args .f .bytes) ≡ edgePlaces = search needs in
     omega (arith, k)
 
 check-requires : tie.Need-check-requires
 check-requires c κs = search needs
 
 returns-2 : tie.Need-returns-2
-returns-2 c = few (c .before .before .before .before .if1 .left) (simp sub-zero at (c .check .ensures))
+returns-2 c = few (c .before .before .before .before .if1 .left) (promised-right (simp sub-zero at (c .check .ensures)))
 
 pub check-flat-spec : {M : Type 1} → statement M
 check-flat-spec =

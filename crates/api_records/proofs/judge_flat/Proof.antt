@@ -4,6 +4,7 @@ use native.Mathlib.Omega.{arith}
 use lib.ListN.{length}
 use borrow.Author.Needs.{needs}
 use borrow.Author.Tests.{lt-ltb, le-ltb}
+use Rattle.usage.specs.Limits.{edgePlaces}
 use Rattle.monitor_state.specs.Judge.{refuse}
 use Rattle.api_records.specs.Code.{judgeFlat}
 use Rattle.api_records.proofs.judge_flat.Statement.{statement}
@@ -24,7 +25,7 @@ part-judge-start c = search needs
 
 part-judge-end : tie.Need-part-judge-end
 part-judge-end c =
-    let k : length (c .before .before .before .args .f .bytes) ≡ 1536 = search needs in
+    let k : length (c .before .before .before .args .f .bytes) ≡ edgePlaces = search needs in
     omega (arith, k)
 
 judge-requires : tie.Need-judge-requires

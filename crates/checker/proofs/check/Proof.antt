@@ -1,6 +1,7 @@
--- The check's promise, and what follows from it for the judge.
+-- The verdict is right, so it is the only one; and what follows from it for the judge.
 use borrow.Author.Needs.{needs}
-use Rattle.checker.proofs.PromiseLaws.{guarded}
+use Rattle.checker.specs.Promise.{outcomeVerdict}
+use Rattle.checker.proofs.PromiseLaws.{right-promised}
 use Rattle.checker.proofs.check.Statement.{statement}
 use Rattle.checker.proofs.check.Tie as tie
 
@@ -10,7 +11,7 @@ checked-requires c κs = search needs
 returns : tie.Need-returns
 returns c =
     let a = c .before .before .before .args in
-    (c .checked .ensures, guarded (a .edges .now) (a .nodes .now) (c .checked .result) (c .checked .ensures))
+    right-promised (a .edges .now) (a .nodes .now) (outcomeVerdict (c .checked .result)) (c .checked .ensures)
 
 pub check-spec : {M : Type 1} → statement M
 check-spec = tie.close (tie.spec checked-requires returns)

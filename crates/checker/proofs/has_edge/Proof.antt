@@ -4,9 +4,9 @@ use mathlib.Core.Bool.{Bool, false}
 use mathlib.Core.List.{List}
 use Prim.Native.Nat.{_*_, _/_, ℕ, _-_, _≤_}
 use borrow.Author.Tests.{eq-eqb, ne-eqb}
-use Rattle.usage.specs.Tests.{some-below}
+use Rattle.usage.specs.Tests.{someBelow}
 use Rattle.automaton.proofs.MaskLaws.{some-at}
-use Rattle.checker.specs.Skips.{hasEdge}
+use Rattle.checker.specs.Code.{hasEdge}
 use Rattle.checker_account.proofs.CodeLaws.{none-more}
 use native.Mathlib.Omega.{arith}
 use mathlib.Core.Path.{_≡_, refl, sym}
@@ -14,20 +14,18 @@ use lib.ListN.{length, getD}
 use borrow.Author.Needs.{needs}
 use Rattle.checker.proofs.has_edge.Statement.{statement}
 use Rattle.checker.proofs.has_edge.Tie as tie
-use Rattle.checker.proofs.has_edge.Reads as reads
-use Rattle.checker.proofs.has_edge.Lts as lts
 
 abbrev test : List ℕ → ℕ → ℕ → Bool
 test t p i = eqb (getD t (6 * i) 0) p
 
 abbrev Inv-loop : tie.InvT-loop
-Inv-loop edges p n i₀ i = (i ≤ n) × (some-below (test edges p) i ≡ false)
+Inv-loop edges p n i₀ i = (i ≤ n) × (someBelow (test edges p) i ≡ false)
 
 abbrev μ-loop : tie.MeasureT-loop
 μ-loop edges p n i₀ i = n - i
 
 loop-holds : tie.Need-loop-holds Inv-loop μ-loop
-unfolding some-below
+unfolding someBelow
 loop-holds c = (search needs, refl)
 
 mul-if1 : tie.Need-mul-if1 Inv-loop μ-loop
@@ -44,7 +42,8 @@ unfolding hasEdge
 returns c =
     let a = c .before .before .before .before .args in
     let i = c .before .before .before .loop .i in
-    sym (some-at (length (a .edges .now) / 6) (test (a .edges .now) (a .p)) i (c .before .before .loop-test .taken) (eq-eqb (getD (a .edges .now) (6 * i) 0) (a .p) (c .if1 .taken)))
+    sym (some-at (length (a .edges .now) / 6) (test (a .edges .now) (a .p)) i (c .before .before .loop-test .taken)
+    (eq-eqb (getD (a .edges .now) (6 * i) 0) (a .p) (c .if1 .taken)))
 
 add-i : tie.Need-add-i Inv-loop μ-loop
 add-i c = search needs
@@ -55,8 +54,11 @@ loop-less c = search needs
 loop-again : tie.Need-loop-again Inv-loop μ-loop
 loop-again c =
     let a = c .before .before .before .before .args in
-    let l = c .before .before .before .loop in
-    (search needs, none-more (test (a .edges .now) (a .p)) (l .i) (l .inv .1) (ne-eqb (getD (a .edges .now) (6 * l .i) 0) (a .p) (c .if1 .left)))
+    let l = c .before .before .before .loop in (
+      search needs,
+      none-more (test (a .edges .now) (a .p)) (l .i) (l .inv .1)
+          (ne-eqb (getD (a .edges .now) (6 * l .i) 0) (a .p) (c .if1 .left)),
+    )
 
 returns-2 : tie.Need-returns-2 Inv-loop μ-loop
 unfolding hasEdge

@@ -4,10 +4,10 @@ use mathlib.Core.Bool.{Bool, true, false, _&&_}
 use mathlib.Core.List.{List}
 use Prim.Native.Nat.{_*_, _/_, ℕ, _+_, _-_, _≤_}
 use borrow.Author.Tests.{eq-eqb, ne-eqb}
-use Rattle.usage.specs.Tests.{some-below}
-use Rattle.usage.proofs.Logic.{by-cases, and-both}
+use Rattle.usage.specs.Tests.{someBelow}
+use Rattle.usage.proofs.Logic.{by-cases, and-both, and-false}
 use Rattle.automaton.proofs.MaskLaws.{some-at}
-use Rattle.checker.specs.Skips.{opens}
+use Rattle.checker.specs.Code.{opens}
 use Rattle.checker_account.proofs.CodeLaws.{none-more}
 use native.Mathlib.Omega.{arith}
 use mathlib.Core.Path.{_≡_, refl, sym, ap}
@@ -15,24 +15,18 @@ use lib.ListN.{length, getD}
 use borrow.Author.Needs.{needs}
 use Rattle.checker.proofs.opens.Statement.{statement}
 use Rattle.checker.proofs.opens.Tie as tie
-use Rattle.checker.proofs.opens.Reads as reads
-use Rattle.checker.proofs.opens.Lts as lts
 
 abbrev test : List ℕ → ℕ → ℕ → Bool
 test t p k = eqb (getD t (3 * k) 0) 8 && eqb (getD t (3 * k + 1) 0) p
 
-right-false : (a b : Bool) → b ≡ false → (a && b) ≡ false
-right-false true b e = e
-right-false false b e = refl
-
 abbrev Inv-loop : tie.InvT-loop
-Inv-loop nodes p n k₀ k = (k ≤ n) × (some-below (test nodes p) k ≡ false)
+Inv-loop nodes p n k₀ k = (k ≤ n) × (someBelow (test nodes p) k ≡ false)
 
 abbrev μ-loop : tie.MeasureT-loop
 μ-loop nodes p n k₀ k = n - k
 
 loop-holds : tie.Need-loop-holds Inv-loop μ-loop
-unfolding some-below
+unfolding someBelow
 loop-holds c = (search needs, refl)
 
 mul-if1 : tie.Need-mul-if1 Inv-loop μ-loop
@@ -59,7 +53,8 @@ returns c =
     let a = c .before .before .before .before .before .before .args in
     let k = c .before .before .before .before .before .loop .k in
     sym (some-at (length (a .nodes .now) / 3) (test (a .nodes .now) (a .p)) k (c .before .before .before .before .loop-test .taken)
-    (and-both (eqb (getD (a .nodes .now) (3 * k) 0) 8) (eqb (getD (a .nodes .now) (3 * k + 1) 0) (a .p)) (eq-eqb (getD (a .nodes .now) (3 * k) 0) 8 (c .before .before .if1 .taken))
+    (and-both (eqb (getD (a .nodes .now) (3 * k) 0) 8) (eqb (getD (a .nodes .now) (3 * k + 1) 0) (a .p))
+    (eq-eqb (getD (a .nodes .now) (3 * k) 0) 8 (c .before .before .if1 .taken))
     (eq-eqb (getD (a .nodes .now) (3 * k + 1) 0) (a .p) (c .if2 .taken))))
 
 add-k : tie.Need-add-k Inv-loop μ-loop
@@ -75,8 +70,16 @@ loop-again c =
     let x = getD (a .nodes .now) (3 * l .k) 0 in
     let y = getD (a .nodes .now) (3 * l .k + 1) 0 in
     by-cases (c .if1 .came)
-    (λ w. (search needs, none-more (test (a .nodes .now) (a .p)) (l .k) (l .inv .1) (right-false (eqb x 8) (eqb y (a .p)) (ne-eqb y (a .p) (w .2 .left)))))
-    (λ w. (search needs, none-more (test (a .nodes .now) (a .p)) (l .k) (l .inv .1) (ap (λ (b : Bool). b && eqb y (a .p)) (ne-eqb x 8 (w .left)))))
+    (λ w. (
+      search needs,
+      none-more (test (a .nodes .now) (a .p)) (l .k) (l .inv .1)
+          (and-false (eqb x 8) (eqb y (a .p)) (ne-eqb y (a .p) (w .2 .left))),
+    ))
+    (λ w. (
+      search needs,
+      none-more (test (a .nodes .now) (a .p)) (l .k) (l .inv .1)
+          (ap (λ (b : Bool). b && eqb y (a .p)) (ne-eqb x 8 (w .left))),
+    ))
 
 returns-2 : tie.Need-returns-2 Inv-loop μ-loop
 unfolding opens

@@ -5,15 +5,14 @@ use lib.ListN.{length}
 use mathlib.Core.List.{List}
 use mathlib.Core.Bool.{Bool, true, false, not}
 use borrow.Author.Tests.{le-leb, lt-leb}
+use Rattle.usage.specs.Limits.{mostNodes, nodeFields}
 use Rattle.usage.specs.declared.Node.{Node}
 use Rattle.usage.specs.Tables.{nodeAt}
 use Rattle.usage.proofs.Logic.{not-true, not-false}
-use Rattle.checker_tables.specs.Entries.{nodeIn}
-use Rattle.usage.specs.Tests.{some-below}
+use Rattle.usage.specs.Tests.{someBelow}
 use Rattle.automaton.proofs.MaskLaws.{some-at}
-use Rattle.checker_account.specs.Fits.{smallNode, fits}
+use Rattle.checker_tables.specs.Code.{smallNode, hasRoom}
 use Rattle.checker_account.proofs.CodeLaws.{none-more}
-use Rattle.checker_tables.proofs.EntryLaws.{node-in}
 use borrow.Author.Needs.{needs}
 use Rattle.checker_tables.proofs.fits.Statement.{statement}
 use Rattle.checker_tables.proofs.fits.Tie as tie
@@ -26,25 +25,23 @@ abbrev big : List ℕ → ℕ → Bool
 big t k = not (smallNode (nodeAt t k))
 
 -- what the code says of node k
-small-of : (t : List ℕ) (k : ℕ) → k < length t / 3 → (n : Node) (r : Bool) {b : Bool} → n ≡ nodeIn t k → b ≡ r → b ≡ smallNode n → smallNode (nodeAt t k) ≡ r
-small-of t k h n r e g f = ap smallNode (sym (e ∙ node-in t k h)) ∙ sym f ∙ g
+small-of : (t : List ℕ) (k : ℕ) (n : Node) (r : Bool) {b : Bool} → n ≡ nodeAt t k → b ≡ r → b ≡ smallNode n → smallNode (nodeAt t k) ≡ r
+small-of t k n r e g f = ap smallNode (sym e) ∙ sym f ∙ g
 
 abbrev Inv-loop : tie.InvT-loop
-Inv-loop nodes l n k₀ k = (k ≤ n) × (some-below (big nodes) k ≡ false)
+Inv-loop nodes n k₀ k = (k ≤ n) × (someBelow (big nodes) k ≡ false)
 
 abbrev μ-loop : tie.MeasureT-loop
-μ-loop nodes l n k₀ k = n - k
+μ-loop nodes n k₀ k = n - k
 
 returns : tie.Need-returns Inv-loop μ-loop
-unfolding fits
-returns c = simp (lt-leb _ _ (c .if1 .taken))
-
-returns-2 : tie.Need-returns-2 Inv-loop μ-loop
-unfolding fits
-returns-2 c = simp (le-leb _ _ (c .before .if1 .left), lt-leb _ 5 (c .if2 .taken))
+unfolding hasRoom
+returns c =
+    let n = length (c .before .before .args .nodes .now) / nodeFields in
+    simp (lt-leb n mostNodes (omega (arith, c .if1 .taken)))
 
 loop-holds : tie.Need-loop-holds Inv-loop μ-loop
-unfolding some-below
+unfolding someBelow
 loop-holds c = (search needs, refl)
 
 node-requires : tie.Need-node-requires Inv-loop μ-loop
@@ -53,15 +50,18 @@ node-requires c κs = search needs
 small-requires : tie.Need-small-requires Inv-loop μ-loop
 small-requires c κs = search needs
 
-returns-3 : tie.Need-returns-3 Inv-loop μ-loop
-unfolding fits
-returns-3 c =
-    let a = c .before .before .before .before .before .before .before .before .args in
+returns-2 : tie.Need-returns-2 Inv-loop μ-loop
+unfolding hasRoom
+returns-2 c =
+    let a = c .before .before .before .before .before .before .before .args in
     let k = c .before .before .before .before .loop .k in
     let h = c .before .before .before .loop-test .taken in
-    let s : smallNode (nodeAt (a .nodes .now) k) ≡ false = small-of (a .nodes .now) k h (c .before .before .node .result) false (c .before .before .node .ensures) (not-true (c .before .small .result) (c .if3 .taken)) (c .before .small .ensures) in
-    let e = some-at (length (a .nodes .now) / 3) (big (a .nodes .now)) k h (ap not s) in
-    simp (le-leb _ _ (c .before .before .before .before .before .before .if1 .left), le-leb _ 5 (c .before .before .before .before .before .if2 .left), e)
+    let s : smallNode (nodeAt (a .nodes .now) k) ≡ false =
+    small-of (a .nodes .now) k (c .before .before .node .result) false (c .before .before .node .ensures)
+    (not-true (c .before .small .result) (c .if2 .taken)) (c .before .small .ensures) in
+    let e = some-at (length (a .nodes .now) / nodeFields) (big (a .nodes .now)) k h (ap not s) in
+    let few : length (a .nodes .now) / nodeFields ≤ mostNodes = omega (arith, c .before .before .before .before .before .if1 .left) in
+    simp (le-leb (length (a .nodes .now) / nodeFields) mostNodes few, e)
 
 add-k : tie.Need-add-k Inv-loop μ-loop
 add-k c = search needs
@@ -71,18 +71,22 @@ loop-less c = search needs
 
 loop-again : tie.Need-loop-again Inv-loop μ-loop
 loop-again c =
-    let a = c .before .before .before .before .before .before .before .before .args in
+    let a = c .before .before .before .before .before .before .before .args in
     let k = c .before .before .before .before .loop .k in
     let h = c .before .before .before .loop-test .taken in
-    let s : smallNode (nodeAt (a .nodes .now) k) ≡ true = small-of (a .nodes .now) k h (c .before .before .node .result) true (c .before .before .node .ensures) (not-false (c .before .small .result) (c .if3 .left)) (c .before .small .ensures) in
+    let s : smallNode (nodeAt (a .nodes .now) k) ≡ true =
+    small-of (a .nodes .now) k (c .before .before .node .result) true (c .before .before .node .ensures)
+    (not-false (c .before .small .result) (c .if2 .left)) (c .before .small .ensures) in
     (search needs, none-more (big (a .nodes .now)) k (c .before .before .before .before .loop .inv .1) (ap not s))
 
-returns-4 : tie.Need-returns-4 Inv-loop μ-loop
-unfolding fits
-returns-4 c =
+returns-3 : tie.Need-returns-3 Inv-loop μ-loop
+unfolding hasRoom
+returns-3 c =
     let l = c .before .loop in
-    let e : l .k ≡ length (c .before .before .before .before .before .args .nodes .now) / 3 = omega arith in
-    simp (le-leb _ _ (c .before .before .before .if1 .left), le-leb _ 5 (c .before .before .if2 .left), rw e at (l .inv .1))
+    let n = length (c .before .before .before .before .args .nodes .now) / nodeFields in
+    let e : l .k ≡ n = omega arith in
+    let few : n ≤ mostNodes = omega (arith, c .before .before .if1 .left) in
+    simp (le-leb n mostNodes few, rw e at (l .inv .1))
 
 pub fits-spec : {M : Type 1} → statement M
 fits-spec =
@@ -91,12 +95,11 @@ fits-spec =
     Inv-loop
     μ-loop
     returns
-    returns-2
     loop-holds
     node-requires
     small-requires
-    returns-3
+    returns-2
     add-k
     loop-less
     loop-again
-    returns-4)
+    returns-3)

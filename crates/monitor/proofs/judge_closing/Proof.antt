@@ -1,10 +1,12 @@
-use mathlib.Core.Path.{sym, _∙_}
+use mathlib.Core.Path.{refl}
 use mathlib.Core.Bool.{false}
 use borrow.Author.Needs.{needs}
-use Rattle.monitor_state.specs.Code.{stateOf}
-use Rattle.monitor.proofs.JudgeLaws.{closing-refused, closing-taken}
+use Rattle.usage.specs.Past.{closing}
 use Rattle.monitor_sets.proofs.SetLaws.{pos}
-use Rattle.monitor.proofs.LentLaws.{refused-parts, unclosed-is}
+use Rattle.monitor_state.specs.Judge.{withUnclosed, after}
+use Rattle.monitor_state.specs.Code.{stateOf}
+use Rattle.monitor.proofs.JudgeLaws.{closing-closed, closing-open}
+use Rattle.monitor.proofs.LentLaws.{refused-step, unclosed-step}
 use Rattle.monitor.proofs.judge_closing.Statement.{statement}
 use Rattle.monitor.proofs.judge_closing.Tie as tie
 
@@ -18,8 +20,8 @@ returns : tie.Need-returns
 returns c =
     let a = c .before .before .before .args in
     λ es created.
-    refused-parts (a .sets .now) created (a .count) (a .unclosed .now) false 25 (c .refused .result) (c .refused .ensures)
-    ∙ sym (closing-refused es (stateOf (a .sets .now) created (a .count) (a .unclosed .now) false) (a .p) (c .before .if1 .taken))
+    refused-step es (a .sets .now) created (a .count) (a .unclosed .now) (closing (a .p)) 25 (c .refused .result) (c .refused .ensures)
+    (closing-closed (stateOf (a .sets .now) created (a .count) (a .unclosed .now) false) (a .p) (c .before .if1 .taken))
 
 sub-judge-unclosed : tie.Need-sub-judge-unclosed
 sub-judge-unclosed c = search needs
@@ -28,11 +30,12 @@ judge-unclosed-requires : tie.Need-judge-unclosed-requires
 judge-unclosed-requires c κs = search needs
 
 returns-2 : tie.Need-returns-2
+unfolding withUnclosed after
 returns-2 c =
     let a = c .before .before .before .before .args in
     λ es created.
-    c .judge-unclosed .ensures created
-    ∙ sym (closing-taken es (stateOf (a .sets .now) created (a .count) (a .unclosed .now) false) (a .p) _ (pos _ (c .before .before .if1 .left)) (unclosed-is (a .sets .now) created (a .count) (a .unclosed .now) false (a .p) _))
+    unclosed-step es (a .sets .now) created (a .count) (a .unclosed .now) (closing (a .p)) (a .p) _ _ (c .judge-unclosed .ensures created)
+    (closing-open (stateOf (a .sets .now) created (a .count) (a .unclosed .now) false) (a .p) (pos _ (c .before .before .if1 .left))) refl
 
 pub judge-closing-spec : {M : Type 1} → statement M
 judge-closing-spec =

@@ -6,12 +6,15 @@ use borrow.Author.Tests.{eq-eqb, ne-eqb}
 use borrow.Author.Needs.{needs}
 use lib.Dec.{eqb}
 use lib.ListN.{length, take, set}
+use Rattle.usage.specs.Limits.{mostCreated}
+use Rattle.usage.specs.Past.{event}
 use Rattle.usage.specs.Tables.{edgesOf}
 use Rattle.usage.proofs.Logic.{by-cases}
+use Rattle.monitor_sets.specs.Instances.{firstCreated, instances}
 use Rattle.monitor_state.specs.Code.{stateOf}
-use Rattle.monitor.proofs.CreatedLaws.{is-listed, not-listed}
+use Rattle.monitor_state.proofs.Places.{is-listed, not-listed}
 use Rattle.monitor.proofs.JudgeLaws.{create-static, create-again, create-full}
-use Rattle.monitor.proofs.LentLaws.{place-dyn, refused-parts, taken, taken-sets, create-taken-parts, told-parts}
+use Rattle.monitor.proofs.LentLaws.{refused-step, parts-place, taken, taken-sets, create-taken-parts, told-parts}
 use Rattle.monitor.proofs.judge_create.Statement.{statement}
 use Rattle.monitor.proofs.judge_create.Tie as tie
 
@@ -21,8 +24,9 @@ refused-requires c κs = search needs
 returns : tie.Need-returns
 returns c =
     let a = c .before .before .before .args in
-    refused-parts (a .sets .now) (a .created .now) (a .count) (a .unclosed .now) false 22 (c .refused .result) (c .refused .ensures)
-    ∙ sym (create-static (edgesOf (a .edges .now)) (stateOf (a .sets .now) (a .created .now) (a .count) (a .unclosed .now) false) (a .r) (c .before .if1 .taken))
+    refused-step (edgesOf (a .edges .now)) (a .sets .now) (a .created .now) (a .count) (a .unclosed .now) (event 0 (a .r)) 22
+    (c .refused .result) (c .refused .ensures)
+    (create-static (stateOf (a .sets .now) (a .created .now) (a .count) (a .unclosed .now) false) (a .r) (c .before .if1 .taken))
 
 place-of-requires : tie.Need-place-of-requires
 place-of-requires c κs = search needs
@@ -33,9 +37,13 @@ refused-requires-2 c κs = search needs
 returns-2 : tie.Need-returns-2
 returns-2 c =
     let a = c .before .before .before .before .before .before .args in
-    refused-parts (a .sets .now) (a .created .now) (a .count) (a .unclosed .now) false 23 (c .refused2 .result) (c .refused2 .ensures)
-    ∙ sym (create-again (edgesOf (a .edges .now)) (stateOf (a .sets .now) (a .created .now) (a .count) (a .unclosed .now) false) (a .r) (c .before .before .before .before .if1 .left)
-    (is-listed (a .r) (take (a .count) (a .created .now)) (λ q. c .before .if2 .taken (c .before .before .place-of .ensures ∙ place-dyn (a .r) _ (c .before .before .before .before .if1 .left) ∙ q))))
+    let s = stateOf (a .sets .now) (a .created .now) (a .count) (a .unclosed .now) false in
+    let dyn = c .before .before .before .before .if1 .left in
+    let place = c .before .before .place-of .ensures
+    ∙ sym (parts-place (a .sets .now) (a .created .now) (a .count) (a .unclosed .now) false (a .r)) in
+    refused-step (edgesOf (a .edges .now)) (a .sets .now) (a .created .now) (a .count) (a .unclosed .now) (event 0 (a .r)) 23
+    (c .refused2 .result) (c .refused2 .ensures)
+    (create-again s (a .r) dyn (is-listed s (a .r) dyn (λ q. c .before .if2 .taken (place ∙ q))))
 
 refused-requires-3 : tie.Need-refused-requires-3
 refused-requires-3 c κs = search needs
@@ -43,15 +51,19 @@ refused-requires-3 c κs = search needs
 returns-3 : tie.Need-returns-3
 returns-3 c =
     let a = c .before .before .before .before .before .before .before .args in
-    refused-parts (a .sets .now) (a .created .now) (a .count) (a .unclosed .now) false 30 (c .refused3 .result) (c .refused3 .ensures)
-    ∙ sym (create-full (edgesOf (a .edges .now)) (stateOf (a .sets .now) (a .created .now) (a .count) (a .unclosed .now) false) (a .r) (c .before .before .before .before .before .if1 .left)
-    (not-listed (a .r) (take (a .count) (a .created .now)) (sym (place-dyn (a .r) _ (c .before .before .before .before .before .if1 .left)) ∙ sym (c .before .before .before .place-of .ensures) ∙ c .before .before .if2 .left)) (c .before .if3 .taken))
+    let s = stateOf (a .sets .now) (a .created .now) (a .count) (a .unclosed .now) false in
+    let dyn = c .before .before .before .before .before .if1 .left in
+    let place = c .before .before .before .place-of .ensures
+    ∙ sym (parts-place (a .sets .now) (a .created .now) (a .count) (a .unclosed .now) false (a .r)) in
+    refused-step (edgesOf (a .edges .now)) (a .sets .now) (a .created .now) (a .count) (a .unclosed .now) (event 0 (a .r)) 30
+    (c .refused3 .result) (c .refused3 .ensures)
+    (create-full s (a .r) dyn (not-listed s (a .r) dyn (sym place ∙ c .before .before .if2 .left)) (c .before .if3 .taken))
+
+add-at : tie.Need-add-at
+add-at c = search needs
 
 add-take-event : tie.Need-add-take-event
 add-take-event c = search needs
-
-add-take-event-2 : tie.Need-add-take-event-2
-add-take-event-2 c = search needs
 
 take-event-requires : tie.Need-take-event-requires
 take-event-requires c κs = search needs
@@ -79,14 +91,19 @@ returns-4 c =
     by-cases (c .before .if4 .came)
     (λ w. w .1 ∙ sym (ap (λ (b : Bool). cond b new (a .created .now)) (eq-eqb _ _ (w .0 .taken))))
     (λ w. w .1 ∙ sym (ap (λ (b : Bool). cond b new (a .created .now)) (ne-eqb _ _ (w .0 .left)))) in
-    let room : a .count < 64 = c .before .before .before .before .if3 .left in
+    let s = stateOf (a .sets .now) (a .created .now) (a .count) (a .unclosed .now) false in
+    let room : a .count < mostCreated = c .before .before .before .before .if3 .left in
     let l : a .count < length (a .created .now) = omega arith in
-    let m : 18 + a .count ≤ 81 = omega arith in
-    let k : 17 + a .count < 18 + a .count = omega arith in
-    told-parts (c .settled .ensures) (event .ensures .1 ∙ taken-sets (18 + a .count) (17 + a .count) bad _ _ m k) e
-    ∙ create-taken-parts (edgesOf (a .edges .now)) (a .sets .now) (a .created .now) (a .count) (a .unclosed .now) (a .r) bad l room (c .before .before .before .before .before .before .before .before .if1 .left)
-    (not-listed (a .r) (take (a .count) (a .created .now)) (sym (place-dyn (a .r) _ (c .before .before .before .before .before .before .before .before .if1 .left)) ∙ sym (c .before .before .before .before .before .before .place-of .ensures) ∙ c .before .before .before .before .before .if2 .left))
-    (event .ensures .0 ∙ taken (18 + a .count) (17 + a .count) _ _ m k)
+    let at = firstCreated + a .count in
+    let m : at + 1 ≤ instances = omega arith in
+    let k : at < at + 1 = omega arith in
+    let dyn = c .before .before .before .before .before .before .before .before .if1 .left in
+    let place = c .before .before .before .before .before .before .place-of .ensures
+    ∙ sym (parts-place (a .sets .now) (a .created .now) (a .count) (a .unclosed .now) false (a .r)) in
+    told-parts (c .settled .ensures) (event .ensures .1 ∙ taken-sets (at + 1) at bad _ _ m k) e
+    ∙ create-taken-parts (edgesOf (a .edges .now)) (a .sets .now) (a .created .now) (a .count) (a .unclosed .now) (a .r) bad l room dyn
+    (not-listed s (a .r) dyn (sym place ∙ c .before .before .before .before .before .if2 .left))
+    (event .ensures .0 ∙ taken (at + 1) at _ _ m k)
 
 pub judge-create-spec : {M : Type 1} → statement M
 judge-create-spec =
@@ -99,8 +116,8 @@ judge-create-spec =
     returns-2
     refused-requires-3
     returns-3
+    add-at
     add-take-event
-    add-take-event-2
     take-event-requires
     mul-created
     element-write-created

@@ -1,9 +1,11 @@
-use mathlib.Core.Path.{sym, _∙_}
+use mathlib.Core.Path.{refl}
 use mathlib.Core.Bool.{false}
 use borrow.Author.Needs.{needs}
+use Rattle.usage.specs.Past.{opening}
+use Rattle.monitor_state.specs.Judge.{withUnclosed, after}
 use Rattle.monitor_state.specs.Code.{stateOf}
-use Rattle.monitor.proofs.JudgeLaws.{opening-refused, opening-taken}
-use Rattle.monitor.proofs.LentLaws.{refused-parts, unclosed-is}
+use Rattle.monitor.proofs.JudgeLaws.{opening-deep, opening-free}
+use Rattle.monitor.proofs.LentLaws.{refused-step, unclosed-step}
 use Rattle.monitor.proofs.judge_opening.Statement.{statement}
 use Rattle.monitor.proofs.judge_opening.Tie as tie
 
@@ -17,8 +19,8 @@ returns : tie.Need-returns
 returns c =
     let a = c .before .before .before .args in
     λ es created.
-    refused-parts (a .sets .now) created (a .count) (a .unclosed .now) false 31 (c .refused .result) (c .refused .ensures)
-    ∙ sym (opening-refused es (stateOf (a .sets .now) created (a .count) (a .unclosed .now) false) (a .p) (c .before .if1 .taken))
+    refused-step es (a .sets .now) created (a .count) (a .unclosed .now) (opening (a .p)) 31 (c .refused .result) (c .refused .ensures)
+    (opening-deep (stateOf (a .sets .now) created (a .count) (a .unclosed .now) false) (a .p) (c .before .if1 .taken))
 
 add-judge-unclosed : tie.Need-add-judge-unclosed
 add-judge-unclosed c = search needs
@@ -27,11 +29,12 @@ judge-unclosed-requires : tie.Need-judge-unclosed-requires
 judge-unclosed-requires c κs = search needs
 
 returns-2 : tie.Need-returns-2
+unfolding withUnclosed after
 returns-2 c =
     let a = c .before .before .before .before .args in
     λ es created.
-    c .judge-unclosed .ensures created
-    ∙ sym (opening-taken es (stateOf (a .sets .now) created (a .count) (a .unclosed .now) false) (a .p) _ (c .before .before .if1 .left) (unclosed-is (a .sets .now) created (a .count) (a .unclosed .now) false (a .p) _))
+    unclosed-step es (a .sets .now) created (a .count) (a .unclosed .now) (opening (a .p)) (a .p) _ _ (c .judge-unclosed .ensures created)
+    (opening-free (stateOf (a .sets .now) created (a .count) (a .unclosed .now) false) (a .p) (c .before .before .if1 .left)) refl
 
 pub judge-opening-spec : {M : Type 1} → statement M
 judge-opening-spec =

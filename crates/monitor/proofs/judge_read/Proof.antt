@@ -4,7 +4,8 @@ use borrow.Author.Needs.{needs}
 use Rattle.usage.specs.Tables.{edgesOf}
 use Rattle.monitor_state.specs.Code.{says, stateOf}
 use Rattle.monitor_state.specs.declared.Read.{Read}
-use Rattle.monitor_state.proofs.StepLaws.{opening-policy, closing-policy}
+use Rattle.usage.specs.Past.{opening, closing}
+use Rattle.usage.proofs.JudgeLaws.{step-fits}
 use Rattle.monitor.proofs.LentLaws.{refused-parts, read-is, unread-is}
 use Rattle.monitor.proofs.judge_read.Statement.{statement}
 use Rattle.monitor.proofs.judge_read.Tie as tie
@@ -23,7 +24,9 @@ enum-known-read-2 c = search needs
 
 judge-opening-requires : tie.Need-judge-opening-requires
 judge-opening-requires c κs = (
-  opening-policy (c .before .before .before .before .before .before .before .args .step) _ (sym (c .before .before .before .before .before .read-step .ensures) ∙ ap (λ (x : Read). says x) (c .before .before .before .read2 .given .1)),
+  step-fits (c .before .before .before .before .before .before .before .args .step) (opening _)
+      (sym (c .before .before .before .before .before .read-step .ensures)
+      ∙ ap (λ (x : Read). says x) (c .before .before .before .read2 .given .1)),
   search needs,
 )
 
@@ -32,7 +35,9 @@ enum-known-read-3 c = search needs
 
 judge-closing-requires : tie.Need-judge-closing-requires
 judge-closing-requires c κs = (
-  closing-policy (c .before .before .before .before .before .before .before .args .step) _ (sym (c .before .before .before .before .before .read-step .ensures) ∙ ap (λ (x : Read). says x) (c .before .before .before .read3 .given .1)),
+  step-fits (c .before .before .before .before .before .before .before .args .step) (closing _)
+      (sym (c .before .before .before .before .before .read-step .ensures)
+      ∙ ap (λ (x : Read). says x) (c .before .before .before .read3 .given .1)),
   search needs,
 )
 
@@ -46,25 +51,32 @@ returns : tie.Need-returns
 returns c =
     let a = c .before .before .before .before .before .before .before .before .before .args in
     c .judge-event .ensures
-    ∙ read-is (a .sets .now) (a .created .now) (a .count) (a .unclosed .now) _ (edgesOf (a .edges .now)) (a .step) (sym (c .before .before .before .before .before .before .before .read-step .ensures) ∙ ap (λ (x : Read). says x) (c .before .before .before .before .before .read .given .1))
+    ∙ read-is (a .sets .now) (a .created .now) (a .count) (a .unclosed .now) _ (edgesOf (a .edges .now)) (a .step)
+    (sym (c .before .before .before .before .before .before .before .read-step .ensures)
+    ∙ ap (λ (x : Read). says x) (c .before .before .before .before .before .read .given .1))
 
 returns-2 : tie.Need-returns-2
 returns-2 c =
     let a = c .before .before .before .before .before .before .before .before .args in
     c .judge-opening .ensures (edgesOf (a .edges .now)) (a .created .now)
-    ∙ read-is (a .sets .now) (a .created .now) (a .count) (a .unclosed .now) _ (edgesOf (a .edges .now)) (a .step) (sym (c .before .before .before .before .before .before .read-step .ensures) ∙ ap (λ (x : Read). says x) (c .before .before .before .before .read2 .given .1))
+    ∙ read-is (a .sets .now) (a .created .now) (a .count) (a .unclosed .now) _ (edgesOf (a .edges .now)) (a .step)
+    (sym (c .before .before .before .before .before .before .read-step .ensures)
+    ∙ ap (λ (x : Read). says x) (c .before .before .before .before .read2 .given .1))
 
 returns-3 : tie.Need-returns-3
 returns-3 c =
     let a = c .before .before .before .before .before .before .before .before .args in
     c .judge-closing .ensures (edgesOf (a .edges .now)) (a .created .now)
-    ∙ read-is (a .sets .now) (a .created .now) (a .count) (a .unclosed .now) _ (edgesOf (a .edges .now)) (a .step) (sym (c .before .before .before .before .before .before .read-step .ensures) ∙ ap (λ (x : Read). says x) (c .before .before .before .before .read3 .given .1))
+    ∙ read-is (a .sets .now) (a .created .now) (a .count) (a .unclosed .now) _ (edgesOf (a .edges .now)) (a .step)
+    (sym (c .before .before .before .before .before .before .read-step .ensures)
+    ∙ ap (λ (x : Read). says x) (c .before .before .before .before .read3 .given .1))
 
 returns-4 : tie.Need-returns-4
 returns-4 c =
     let a = c .before .before .before .before .before .args in
     refused-parts (a .sets .now) (a .created .now) (a .count) (a .unclosed .now) false 21 (c .refused .result) (c .refused .ensures)
-    ∙ unread-is (edgesOf (a .edges .now)) (stateOf (a .sets .now) (a .created .now) (a .count) (a .unclosed .now) false) (a .step) (sym (c .before .before .before .read-step .ensures) ∙ ap (λ (x : Read). says x) (c .before .enum-told .given .1))
+    ∙ unread-is (edgesOf (a .edges .now)) (stateOf (a .sets .now) (a .created .now) (a .count) (a .unclosed .now) false) (a .step)
+    (sym (c .before .before .before .read-step .ensures) ∙ ap (λ (x : Read). says x) (c .before .enum-told .given .1))
 
 pub judge-read-spec : {M : Type 1} → statement M
 judge-read-spec =

@@ -8,6 +8,7 @@ use borrow.Author.Needs.{needs}
 use lib.Dec.{eqb}
 use lib.ListN.{set}
 use Rattle.usage.proofs.Logic.{by-cases}
+use Rattle.monitor_sets.specs.Instances.{firstCreated}
 use Rattle.monitor_state.specs.declared.Told.{Told}
 use Rattle.monitor_state.specs.Code.{judgementOf}
 use Rattle.monitor.proofs.LentLaws.{within, unclosed-taken}
@@ -35,7 +36,9 @@ returns c =
     by-cases (c .before .if1 .came)
     (λ w. w .1 ∙ sym (ap (λ (b : Bool). cond b new (a .unclosed .now)) (eq-eqb _ _ (w .0 .taken))))
     (λ w. w .1 ∙ sym (ap (λ (b : Bool). cond b new (a .unclosed .now)) (ne-eqb _ _ (w .0 .left)))) in
-    λ created. ap₂ (λ (t : Told) (l : List ℕ). judgementOf t (a .sets .now) created l) (c .settled .ensures) e ∙ unclosed-taken (a .sets .now) created (a .count) (a .unclosed .now) new (bad .result) (bad .ensures ∙ within (17 + a .count) _ _ (omega arith))
+    λ created. ap₂ (λ (t : Told) (l : List ℕ). judgementOf t (a .sets .now) created l) (c .settled .ensures) e
+    ∙ unclosed-taken (a .sets .now) created (a .count) (a .unclosed .now) new (bad .result)
+    (bad .ensures ∙ within (firstCreated + a .count) _ _ (omega arith))
 
 pub judge-unclosed-spec : {M : Type 1} → statement M
 judge-unclosed-spec =

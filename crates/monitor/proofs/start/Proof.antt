@@ -1,12 +1,12 @@
 -- The start is the definition's, and stands for the empty past.
 use mathlib.Core.Path.{refl}
-use Rattle.monitor_state.specs.Judge.{begin}
+use Rattle.monitor_state.specs.Judge.{startState}
 use Rattle.monitor_state.proofs.StartLaws.{begin-represents}
 use Rattle.monitor.proofs.start.Statement.{statement}
 use Rattle.monitor.proofs.start.Tie as tie
 
 returns : tie.Need-returns
-unfolding begin
+unfolding startState
 returns c = (refl, begin-represents)
 
 pub start-spec : {M : Type 1} → statement M

@@ -2,7 +2,7 @@
 use mathlib.Core.Path.{_≡_, sym, ap, _∙_}
 use borrow.Author.Needs.{needs}
 use lib.ListN.{getElem?}
-use Rattle.usage.specs.Judge.{step-kinds, stepOf}
+use Rattle.usage.specs.Judge.{stepKinds, stepOf}
 use Rattle.usage.proofs.Logic.{not-true, not-false}
 use Rattle.monitor_state.proofs.StepLaws.{not-read, is-read, no-kind}
 use Rattle.monitor_state.proofs.read_step.Statement.{statement}
@@ -22,19 +22,23 @@ cast-t9 c = search needs
 
 returns-2 : tie.Need-returns-2
 returns-2 c =
-    sym (is-read _ _ (ap (getElem? step-kinds) (c .match .keys1)) (sym (c .before .before .step-fits .ensures) ∙ not-false _ (c .before .if1 .left)))
+    sym (is-read _ _ (ap (getElem? stepKinds) (c .match .keys1))
+    (sym (c .before .before .step-fits .ensures) ∙ not-false _ (c .before .if1 .left)))
 
 returns-3 : tie.Need-returns-3
 returns-3 c =
-    sym (is-read _ _ (ap (getElem? step-kinds) (c .match .keys2)) (sym (c .before .before .step-fits .ensures) ∙ not-false _ (c .before .if1 .left)))
+    sym (is-read _ _ (ap (getElem? stepKinds) (c .match .keys2))
+    (sym (c .before .before .step-fits .ensures) ∙ not-false _ (c .before .if1 .left)))
 
 returns-4 : tie.Need-returns-4
 returns-4 c =
-    sym (is-read _ _ (ap (getElem? step-kinds) (c .match .keys3)) (sym (c .before .before .step-fits .ensures) ∙ not-false _ (c .before .if1 .left)))
+    sym (is-read _ _ (ap (getElem? stepKinds) (c .match .keys3))
+    (sym (c .before .before .step-fits .ensures) ∙ not-false _ (c .before .if1 .left)))
 
 returns-5 : tie.Need-returns-5
 unfolding stepOf
-returns-5 c = rw (no-kind (c .before .before .before .args .step .kind) (c .match .rest .0 .0 .1) (c .match .rest .0 .1) (c .match .rest .1))
+returns-5 c =
+    rw (no-kind (c .before .before .before .args .step .kind) (c .match .rest .0 .0 .1) (c .match .rest .0 .1) (c .match .rest .1))
 
 pub read-step-spec : {M : Type 1} → statement M
 read-step-spec =

@@ -1,7 +1,8 @@
-use native.Mathlib.Omega.{arith}
+use native.Mathlib.Nat.{lt-of-le-of-lt}
 use borrow.Author.Tests.{eq-eqb, ne-eqb}
 use borrow.Author.Needs.{needs}
 use lib.Count.{trailing-le}
+use lib.Dec.{lit<}
 use Rattle.monitor_state.specs.Code.{toldOf}
 use Rattle.monitor_state.proofs.settled.Statement.{statement}
 use Rattle.monitor_state.proofs.settled.Tie as tie
@@ -11,9 +12,7 @@ unfolding toldOf
 returns c = simp (eq-eqb _ _ (c .if1 .taken))
 
 cast-t7 : tie.Need-cast-t7
-cast-t7 c =
-    let h = trailing-le 8 (c .before .args .broken) in
-    record { fits = omega arith }
+cast-t7 c = record { fits = lt-of-le-of-lt (trailing-le 8 _) (lit< tt) }
 
 returns-2 : tie.Need-returns-2
 unfolding toldOf

@@ -1,22 +1,29 @@
 use native.Mathlib.Omega.{arith}
-use mathlib.Core.Path.{_≡_, ap, _∙_}
-use Prim.Native.Nat.{_≤_}
+use Prim.Native.Nat.{ℕ, _≤_}
+use mathlib.Core.List.{List}
 use denote.Ref.{now}
-use lib.ListN.{length}
-use lib.Seq.{length-sets}
+use Rattle.usage.specs.Limits.{mostEdges}
+use Rattle.usage.specs.Answers.{Verdict, allowed}
+use Rattle.sheet_lines.specs.Sheet.{sheet}
+use Rattle.sheet_lines.specs.Sheets.{outlineSheet}
+use Rattle.sheet_reader.specs.Readers.{ruledResult}
 use Rattle.sheet_reader.proofs.AnswerLaws.{policies-held, policies-refused}
-use Rattle.report_lines.specs.Lines.{names-line, row}
-use Rattle.report_lines.proofs.RowLaws.{length-names, names-stored}
-use Rattle.report_lines.proofs.FitLaws.{stored-at}
-use Rattle.report.specs.Outline.{no-room}
-use Rattle.report.proofs.RoomLaws.{policies-eight}
-use Rattle.report.proofs.OutlinePuts.{put-outline, put-policies}
+use Rattle.report.specs.Output.{outlineRoom}
+use Rattle.report.specs.Outline.{nodesRow, outlinePrinted}
+use Rattle.report.proofs.OutputLaws.{names-end, names-length, printed-held, printed-refused}
+use Rattle.report.proofs.OutlineLaws.{outline-no-room, outline-put, right-held, right-refused}
 use borrow.Author.Needs.{needs}
 use Rattle.report.proofs.report_outline.Statement.{statement}
 use Rattle.report.proofs.report_outline.Tie as tie
 
+-- what is printed with the edges, by the verdict that is right
+abbrev rest : List ℕ → Verdict → List ℕ → List ℕ
+rest text v edges = nodesRow (ruledResult (sheet outlineSheet text)) v
+
 returns : tie.Need-returns
-returns c = no-room (omega arith)
+returns c =
+    let a = c .before .before .before .before .args in
+    outline-no-room (now (a .policies)) (now (a .outline)) (now (a .out)) (omega arith)
 
 names-requires : tie.Need-names-requires
 names-requires c κs = search needs
@@ -37,7 +44,7 @@ mul-row c =
     let g = c .before .reading .given in
     let n = g .0 .0 in
     let h = policies-held (now (a .policies)) (p .last .1 .0) n (rw (g .1) at (p .ensures .0)) (p .ensures .1) in
-    let f : n ≤ 256 = h .few in
+    let f : n ≤ mostEdges = h .few in
     search needs
 
 sub-row : tie.Need-sub-row
@@ -48,16 +55,24 @@ part-row-start c = search needs
 
 part-row-end : tie.Need-part-row-end
 part-row-end c =
-    let a = c .before .before .before .before .before .before .before .before .before .before .before .before .before .before .before .args in
+    let a =
+    c .before .before .before .before .before .before .before .before .before .before .before .before .before .before .before .args in
     let p = c .before .before .before .before .before .read-policies in
     let g = c .before .before .reading .given in
     let n = g .0 .0 in
     let h = policies-held (now (a .policies)) (p .last .1 .0) n (rw (g .1) at (p .ensures .0)) (p .ensures .1) in
-    let f : n ≤ 256 = h .few in
+    let f : n ≤ mostEdges = h .few in
     search needs
 
 row-requires : tie.Need-row-requires
-row-requires c κs = search needs
+row-requires c κs =
+    let a =
+    c .before .before .before .before .before .before .before .before .before .before .before .before .before .before .before .before
+    .before .args in
+    let w = c .before .before .before .before .before .before .before .before .before .before .before .names in
+    let e = names-end (now (a .out)) (omega arith) (w .result) (w .last .0) (w .ensures .0) (w .ensures .1) in
+    let l = names-length (now (a .out)) (omega arith) (w .result) (w .last .0) (w .ensures .0) (w .ensures .1) in
+    omega arith
 
 enum-known-reading-2 : tie.Need-enum-known-reading-2
 enum-known-reading-2 c = search needs
@@ -72,34 +87,45 @@ same-length : tie.Need-same-length
 same-length c = search needs
 
 returns-2 : tie.Need-returns-2
+unfolding outlinePrinted
 returns-2 c =
-    let a = c .before .before .before .before .before .before .before .before .before .before .before .before .before .before .before .before .before .before .before .before .args in
+    let a =
+    c .before .before .before .before .before .before .before .before .before .before .before .before .before .before .before .before
+    .before .before .before .before .args in
+    let w = c .before .before .before .before .before .before .before .before .before .before .before .before .before .before .names in
     let p = c .before .before .before .before .before .before .before .before .before .before .read-policies in
     let g = c .before .before .before .before .before .before .before .reading .given in
+    let t = c .before .before .row in
     let n = g .0 .0 in
     let h = policies-held (now (a .policies)) (p .last .1 .0) n (rw (g .1) at (p .ensures .0)) (p .ensures .1) in
-    let w = c .before .before .before .before .before .before .before .before .before .before .before .before .before .before .names in
-    let t = c .before .before .row in
-    let o = names-stored (now (a .out)) (omega arith) (w .ensures .0) (w .ensures .1) in
-    put-outline (now (a .policies)) (now (a .outline)) (now (a .out)) (omega arith) (p .last .1 .0) n h (rw (o .0, o .1) at (t .ensures))
+    let right = right-held (now (a .policies)) (now (a .outline)) (p .last .1 .0) n h in
+    let w₀ = t .ensures .1 .1 .0 .0 in
+    outline-put (now (a .policies)) (now (a .outline)) (now (a .out)) (t .result) _ w₀ (right w₀ .1 (t .ensures .1 .1 .0 .1)) (λ v l.
+    let r = t .ensures .0 v (right v .0 l) in
+    let b = t .ensures .1 .1 .1 in
+    printed-held (now (a .out)) (omega arith) (w .result) (w .last .0) (w .ensures .0) (w .ensures .1) outlineRoom (now (a .policies))
+    (rest (now (a .outline)) v)
+    (omega arith) (omega arith) (p .last .1 .0) n h r (t .ensures .1 .0 v (right v .0 l)) (omega arith))
 
 same-length-2 : tie.Need-same-length-2
 same-length-2 c = search needs
 
 returns-3 : tie.Need-returns-3
+unfolding outlinePrinted
 returns-3 c =
-    let a = c .before .before .before .before .before .before .before .before .before .before .before .before .before .before .before .before .before .before .args in
+    let a =
+    c .before .before .before .before .before .before .before .before .before .before .before .before .before .before .before .before
+    .before .before .args in
     let w = c .before .before .before .before .before .before .before .before .before .before .before .before .names in
     let p = c .before .before .before .before .before .before .before .before .read-policies in
     let g = c .before .before .before .before .before .reading2 .given in
     let t = c .before .before .row2 in
     let z = policies-refused (now (a .policies)) (g .0 .0) (g .0 .1 .0) (rw (g .1) at (p .ensures .0)) in
-    let q = policies-eight (now (a .policies)) (g .0 .0) (g .0 .1 .0) z in
-    let o = names-stored (now (a .out)) (omega arith) (w .ensures .0) (w .ensures .1) in
-    let k = ap length (o .1) ∙ length-sets _ _ names-line in
-    let v : length names-line ≡ 19 = length-names in
-    let b = stored-at (w .last .0) (w .result) (row (g .0 .0) 3 (g .0 .1 .0)) (omega arith) (t .ensures .0) (t .ensures .1) in
-    put-policies (now (a .policies)) (now (a .outline)) (now (a .out)) (omega arith) (g .0 .0) (g .0 .1 .0) z (rw (o .0) at (b .0)) (rw (o .0, o .1) at (b .1))
+    let right = right-refused (now (a .policies)) (now (a .outline)) (g .0 .0) (g .0 .1 .0) z in
+    outline-put (now (a .policies)) (now (a .outline)) (now (a .out)) (t .result) _ allowed (right allowed) (λ v l.
+    printed-refused (now (a .out)) (omega arith) (w .result) (w .last .0) (w .ensures .0) (w .ensures .1) outlineRoom (now (a .policies))
+    (rest (now (a .outline)) v)
+    (omega arith) (omega arith) (g .0 .0) (g .0 .1 .0) z (t .ensures .0) (t .ensures .1))
 
 pub report-outline-spec : {M : Type 1} → statement M
 report-outline-spec =

@@ -99,8 +99,11 @@ number-returns-2 :
 number-returns-2 t c =
     let n = c .before .before .before .before .before .before .args .n in
     let e = length-more n (omega arith) in
-    let k = ap length (c .before .before .number .ensures .1) ∙ length-sets _ _ (decimal (n / 10)) in
-    (omega arith, rw (c .before .before .number .ensures .1, c .before .before .number .ensures .0, decimal-more n (omega arith)) (sym (sets-snoc _ _ (decimal (n / 10)) _)))
+    let k = ap length (c .before .before .number .ensures .1) ∙ length-sets _ _ (decimal (n / 10)) in (
+      omega arith,
+      rw (c .before .before .number .ensures .1, c .before .before .number .ensures .0, decimal-more n (omega arith))
+          (sym (sets-snoc _ _ (decimal (n / 10)) _)),
+    )
 
 pub +number-spec : {M : Type 1} → statement M
 +number-spec =

@@ -1,7 +1,6 @@
 use borrow.Author.Tests.{lt-ltb, le-ltb}
 use Rattle.sheet_bytes.proofs.ByteLaws.{digit-byte}
 use native.Mathlib.Omega.{arith}
-use Prim.Native.Nat.{_≤_, _<_}
 use borrow.Author.Needs.{needs}
 use Rattle.sheet_bytes.proofs.digit.Statement.{statement}
 use Rattle.sheet_bytes.proofs.digit.Tie as tie
@@ -10,7 +9,7 @@ returns : tie.Need-returns
 returns c = simp (le-ltb _ _ (c .if1 .taken))
 
 returns-2 : tie.Need-returns-2
-returns-2 c = let l : 100000 ≤ c .before .before .before .before .args .p .value = omega arith in simp (lt-ltb _ _ (c .before .before .if1 .left), le-ltb _ _ l)
+returns-2 c = simp (lt-ltb _ _ (c .before .before .if1 .left), le-ltb _ _ (c .if2 .taken))
 
 add-t4 : tie.Need-add-t4
 add-t4 c = search needs
@@ -25,7 +24,7 @@ add-t8 : tie.Need-add-t8
 add-t8 c = search needs
 
 returns-3 : tie.Need-returns-3
-returns-3 c = let l : c .before .before .before .before .before .before .args .p .value < 100000 = omega arith in simp (lt-ltb _ _ (c .before .before .before .before .if1 .left), lt-ltb _ _ l)
+returns-3 c = simp (lt-ltb _ _ (c .before .before .before .before .if1 .left), lt-ltb _ _ (c .before .before .if2 .left))
 
 pub digit-spec : {M : Type 1} → statement M
 digit-spec = tie.close (tie.spec returns returns-2 add-t4 mul-t5 sub-t7 add-t8 returns-3)

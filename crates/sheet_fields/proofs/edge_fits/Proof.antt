@@ -1,6 +1,5 @@
 use borrow.Author.Tests.{lt-ltb, le-ltb, eq-eqb, ne-eqb}
 use Rattle.usage.specs.Tests.{edgeOk}
-use Prim.Native.Nat.{_-_}
 use Rattle.sheet_fields.proofs.edge_fits.Statement.{statement}
 use Rattle.sheet_fields.proofs.edge_fits.Tie as tie
 

@@ -1,4 +1,4 @@
-use borrow.Author.Tests.{eq-eqb, ne-eqb, le-leb, lt-leb}
+use borrow.Author.Tests.{eq-eqb, ne-eqb, lt-ltb, le-ltb}
 use mathlib.Core.Path.{sym, _∙_}
 use borrow.Author.Needs.{needs}
 use Rattle.sheet_fields.proofs.node_line.Statement.{statement}
@@ -11,7 +11,7 @@ shared-slice-read-if2 : tie.Need-shared-slice-read-if2
 shared-slice-read-if2 c = search needs
 
 returns-2 : tie.Need-returns-2
-returns-2 c = simp (eq-eqb _ _ (c .before .before .if1 .left), lt-leb _ _ (c .if2 .taken))
+returns-2 c = simp (eq-eqb _ _ (c .before .before .if1 .left), le-ltb _ _ (c .if2 .taken))
 
 shared-slice-read-node-fits : tie.Need-shared-slice-read-node-fits
 shared-slice-read-node-fits c = search needs
@@ -26,7 +26,7 @@ node-fits-requires : tie.Need-node-fits-requires
 node-fits-requires c κs = search needs
 
 returns-3 : tie.Need-returns-3
-returns-3 c = c .node-fits .ensures ∙ sym (simp (eq-eqb _ _ (c .before .before .before .before .before .before .if1 .left), le-leb _ _ (c .before .before .before .before .if2 .left)))
+returns-3 c = c .node-fits .ensures ∙ sym (simp (eq-eqb _ _ (c .before .before .before .before .before .before .if1 .left), lt-ltb _ _ (c .before .before .before .before .if2 .left)))
 
 pub node-line-spec : {M : Type 1} → statement M
 node-line-spec =

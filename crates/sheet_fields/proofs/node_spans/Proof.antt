@@ -1,7 +1,5 @@
-use Rattle.usage.specs.Outline.{node-kinds}
-use Rattle.sheet_fields.proofs.RangeLaws.{past-end, nine-up}
-use mathlib.Core.Path.{sym, _∙_}
-use Prim.Native.Nat.{_-_}
+use Rattle.usage.specs.Outline.{nodeKinds}
+use Rattle.sheet_fields.proofs.RangeLaws.{kind-spans, no-kind}
 use borrow.Author.Needs.{needs}
 use Rattle.sheet_fields.proofs.node_spans.Statement.{statement}
 use Rattle.sheet_fields.proofs.node_spans.Tie as tie
@@ -37,34 +35,34 @@ no-spans-requires : tie.Need-no-spans-requires
 no-spans-requires c κs = search needs
 
 returns : tie.Need-returns
-returns c = c .both .ensures ∙ sym (rw (c .before .match .keys1))
+returns c = kind-spans nodeKinds _ _ 0 (c .before .match .keys1) (c .both .ensures)
 
 returns-2 : tie.Need-returns-2
-returns-2 c = c .both2 .ensures ∙ sym (rw (c .before .match .keys2))
+returns-2 c = kind-spans nodeKinds _ _ 1 (c .before .match .keys2) (c .both2 .ensures)
 
 returns-3 : tie.Need-returns-3
-returns-3 c = c .both3 .ensures ∙ sym (rw (c .before .match .keys3))
+returns-3 c = kind-spans nodeKinds _ _ 2 (c .before .match .keys3) (c .both3 .ensures)
 
 returns-4 : tie.Need-returns-4
-returns-4 c = c .both4 .ensures ∙ sym (rw (c .before .match .keys4))
+returns-4 c = kind-spans nodeKinds _ _ 3 (c .before .match .keys4) (c .both4 .ensures)
 
 returns-5 : tie.Need-returns-5
-returns-5 c = c .both5 .ensures ∙ sym (rw (c .before .match .keys5))
+returns-5 c = kind-spans nodeKinds _ _ 4 (c .before .match .keys5) (c .both5 .ensures)
 
 returns-6 : tie.Need-returns-6
-returns-6 c = c .both6 .ensures ∙ sym (rw (c .before .match .keys6))
+returns-6 c = kind-spans nodeKinds _ _ 5 (c .before .match .keys6) (c .both6 .ensures)
 
 returns-7 : tie.Need-returns-7
-returns-7 c = c .both7 .ensures ∙ sym (rw (c .before .match .keys7))
+returns-7 c = kind-spans nodeKinds _ _ 6 (c .before .match .keys7) (c .both7 .ensures)
 
 returns-8 : tie.Need-returns-8
-returns-8 c = c .both8 .ensures ∙ sym (rw (c .before .match .keys8))
+returns-8 c = kind-spans nodeKinds _ _ 7 (c .before .match .keys8) (c .both8 .ensures)
 
 returns-9 : tie.Need-returns-9
-returns-9 c = c .both9 .ensures ∙ sym (rw (c .before .match .keys9))
+returns-9 c = kind-spans nodeKinds _ _ 8 (c .before .match .keys9) (c .both9 .ensures)
 
 returns-10 : tie.Need-returns-10
-returns-10 c = c .no-spans .ensures ∙ sym (rw (past-end node-kinds (c .before .before .args .kind) (nine-up _ (c .before .match .rest .0 .0 .0 .0 .0 .0 .0 .0 .1) (c .before .match .rest .0 .0 .0 .0 .0 .0 .0 .1) (c .before .match .rest .0 .0 .0 .0 .0 .0 .1) (c .before .match .rest .0 .0 .0 .0 .0 .1) (c .before .match .rest .0 .0 .0 .0 .1) (c .before .match .rest .0 .0 .0 .1) (c .before .match .rest .0 .0 .1) (c .before .match .rest .0 .1) (c .before .match .rest .1))))
+returns-10 c = no-kind nodeKinds _ _ (c .before .match .rest) (c .no-spans .ensures)
 
 pub node-spans-spec : {M : Type 1} → statement M
 node-spans-spec =

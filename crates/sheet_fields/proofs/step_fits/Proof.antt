@@ -1,10 +1,8 @@
-use Rattle.usage.specs.Judge.{step-kinds}
+use Rattle.usage.specs.Judge.{stepKinds}
 use lib.ListN.{getElem?}
 use Rattle.sheet_fields.specs.Fields.{stepOk}
-use Rattle.sheet_fields.specs.Spans.{in-spans}
 use Rattle.sheet_fields.proofs.RangeLaws.{spans-fit}
-use mathlib.Core.Path.{ap, _∙_}
-use Prim.Native.Nat.{_-_}
+use mathlib.Core.Path.{_∙_}
 use borrow.Author.Needs.{needs}
 use Rattle.sheet_fields.proofs.step_fits.Statement.{statement}
 use Rattle.sheet_fields.proofs.step_fits.Tie as tie
@@ -17,7 +15,7 @@ fit-requires c κs = search needs
 
 returns : tie.Need-returns
 unfolding stepOk
-returns c = c .fit .ensures ∙ ap (λ s. in-spans s (c .before .before .args .a) (c .before .before .args .b)) (c .before .step-spans .ensures) ∙ spans-fit (getElem? step-kinds (c .before .before .args .kind)) (c .before .before .args .a) (c .before .before .args .b)
+returns c = c .fit .ensures ∙ spans-fit (getElem? stepKinds (c .before .before .args .kind)) _ _ _ (c .before .step-spans .ensures)
 
 pub step-fits-spec : {M : Type 1} → statement M
 step-fits-spec = tie.close (tie.spec step-spans-requires fit-requires returns)

@@ -1,8 +1,5 @@
-use native.Mathlib.Omega.{arith}
-use Rattle.usage.specs.Judge.{step-kinds}
-use Rattle.sheet_fields.proofs.RangeLaws.{past-end}
-use mathlib.Core.Path.{sym, _∙_}
-use Prim.Native.Nat.{_-_}
+use Rattle.usage.specs.Judge.{stepKinds}
+use Rattle.sheet_fields.proofs.RangeLaws.{kind-spans, no-kind}
 use borrow.Author.Needs.{needs}
 use Rattle.sheet_fields.proofs.step_spans.Statement.{statement}
 use Rattle.sheet_fields.proofs.step_spans.Tie as tie
@@ -20,16 +17,16 @@ no-spans-requires : tie.Need-no-spans-requires
 no-spans-requires c κs = search needs
 
 returns : tie.Need-returns
-returns c = c .both .ensures ∙ sym (rw (c .before .match .keys1))
+returns c = kind-spans stepKinds _ _ 0 (c .before .match .keys1) (c .both .ensures)
 
 returns-2 : tie.Need-returns-2
-returns-2 c = c .both2 .ensures ∙ sym (rw (c .before .match .keys2))
+returns-2 c = kind-spans stepKinds _ _ 1 (c .before .match .keys2) (c .both2 .ensures)
 
 returns-3 : tie.Need-returns-3
-returns-3 c = c .both3 .ensures ∙ sym (rw (c .before .match .keys3))
+returns-3 c = kind-spans stepKinds _ _ 2 (c .before .match .keys3) (c .both3 .ensures)
 
 returns-4 : tie.Need-returns-4
-returns-4 c = c .no-spans .ensures ∙ sym (rw (past-end step-kinds (c .before .before .args .kind) (omega arith)))
+returns-4 c = no-kind stepKinds _ _ (c .before .match .rest) (c .no-spans .ensures)
 
 pub step-spans-spec : {M : Type 1} → statement M
 step-spans-spec =

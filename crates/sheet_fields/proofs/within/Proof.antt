@@ -1,5 +1,4 @@
 use borrow.Author.Tests.{lt-leb, le-leb}
-use Prim.Native.Nat.{_-_}
 use Rattle.sheet_fields.proofs.within.Statement.{statement}
 use Rattle.sheet_fields.proofs.within.Tie as tie
 

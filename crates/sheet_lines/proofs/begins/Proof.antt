@@ -1,4 +1,4 @@
-use Rattle.sheet_lines.specs.Sheet.{starts-with}
+use Rattle.sheet_lines.specs.Sheet.{startsWith}
 use Rattle.sheet_lines.proofs.BeginLaws.{all-same, too-short, differs, equal}
 use mathlib.Core.Path.{_≡_, refl, sym, _∙_}
 use Prim.Native.Nat.{_-_, _≤_}
@@ -8,7 +8,7 @@ use Rattle.sheet_lines.proofs.begins.Statement.{statement}
 use Rattle.sheet_lines.proofs.begins.Tie as tie
 
 abbrev Inv-loop : tie.InvT-loop
-Inv-loop text names i₀ i = (i ≤ length names) × (starts-with (drop i names) (drop i text) ≡ starts-with names text)
+Inv-loop text names i₀ i = (i ≤ length names) × (startsWith (drop i names) (drop i text) ≡ startsWith names text)
 
 abbrev μ-loop : tie.MeasureT-loop
 μ-loop text names i₀ i = length names - i

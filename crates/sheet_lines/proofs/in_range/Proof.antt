@@ -1,4 +1,4 @@
-use Rattle.sheet_lines.specs.Steps.{sheetOf}
+use Rattle.sheet_lines.specs.Sheets.{sheetOf}
 use Rattle.sheet_lines.proofs.LinesLaws.{fits-in-range}
 use native.Mathlib.Omega.{arith}
 use mathlib.Core.Path.{_≡_, _∙_}

@@ -1,7 +1,8 @@
-use Rattle.sheet_bytes.proofs.ByteLaws.{five-digits}
+use Rattle.sheet_bytes.proofs.ByteLaws.{few-digits}
 use Rattle.sheet_bytes.specs.declared.Next.the-variants.{Ends}
-use Rattle.sheet_bytes.specs.Steps.{step-of}
-use Rattle.sheet_lines.specs.Steps.{sheetOf}
+use Rattle.sheet_bytes.specs.Code.{byteStep}
+use Rattle.sheet_lines.specs.Answer.{mostValues}
+use Rattle.sheet_lines.specs.Sheets.{sheetOf}
 use Rattle.usage.proofs.Logic.{by-cases}
 use borrow.Author.Tests.{not-true, not-false}
 use Rattle.sheet_lines.proofs.LinesLaws as laws
@@ -76,7 +77,7 @@ cast-buffer : tie.Need-cast-buffer Inv-bytes μ-bytes Inv-lines μ-lines
 cast-buffer c =
     let t = c .before .before .before .bytes in
     let s = t .inv .1 .1 .sound in
-    let v : t .p .value < 100000 = omega (arith, five-digits (t .p .digits) (s .short), s .small) in
+    let v = few-digits (t .p .digits) (t .p .value) (s .short) (s .small) in
     search needs
 
 mul-buffer : tie.Need-mul-buffer Inv-bytes μ-bytes Inv-lines μ-lines
@@ -127,7 +128,7 @@ bytes-again c =
     let first = c .before .before .before .before .before .before .before .before .before .before .before .before .lines .buffer in
     let f = c .before .before .before .before .before .before .before .before .before .before .before .before .before .before .fields .ensures in
     let h = places (a .kind) n (inv .room) in
-    let g : step-of ((sheetOf (a .kind)) .fields) (t .p) (getD (a .text .now) (t .i) 0) ≡ _ = rw f at (sym (c .before .before .before .step .ensures) ∙ c .before .next .given .1) in
+    let g : byteStep ((sheetOf (a .kind)) .fields) (t .p) (getD (a .text .now) (t .i) 0) ≡ _ = rw f at (sym (c .before .before .before .step .ensures) ∙ c .before .next .given .1) in
     (search needs, (t .inv .1 .0, rw f (laws.goes (sheetOf (a .kind)) (a .text .now) (a .from) first (t .buffer) (t .i) n (t .p) inv h (c .before .before .before .before .before .before .before .if2 .left) _ g)))
 
 enum-told : tie.Need-enum-told Inv-bytes μ-bytes Inv-lines μ-lines
@@ -145,7 +146,7 @@ in-range-requires c κs =
     let first = c .before .before .before .before .before .before .before .before .before .before .before .before .lines .buffer in
     let f = c .before .before .before .before .before .before .before .before .before .before .before .before .before .before .fields .ensures in
     let h = places (a .kind) n (inv .room) in
-    let l : length (t .buffer) ≡ 6000 = inv .size in
+    let l : length (t .buffer) ≡ mostValues = inv .size in
     (rw f h, search needs)
 
 add-n : tie.Need-add-n Inv-bytes μ-bytes Inv-lines μ-lines
@@ -163,7 +164,7 @@ lines-again c =
     let first = c .before .before .before .before .before .before .before .before .before .before .before .before .before .before .lines .buffer in
     let f = c .before .before .before .before .before .before .before .before .before .before .before .before .before .before .before .before .fields .ensures in
     let h = places (a .kind) n (inv .room) in
-    let e : step-of ((sheetOf (a .kind)) .fields) (t .p) (getD (a .text .now) (t .i) 0) ≡ Ends = rw f at (sym (c .before .before .before .before .before .step .ensures) ∙ c .before .before .before .enum-told .given .1) in
+    let e : byteStep ((sheetOf (a .kind)) .fields) (t .p) (getD (a .text .now) (t .i) 0) ≡ Ends = rw f at (sym (c .before .before .before .before .before .step .ensures) ∙ c .before .before .before .enum-told .given .1) in
     (t .inv .1 .0, rw f (laws.next-line (sheetOf (a .kind)) (a .text .now) (a .from) first (t .buffer) (t .i) n (t .p) inv h (c .before .before .before .before .before .before .before .before .before .if2 .left) e (rw f at (sym (c .before .in-range .ensures) ∙ not-false (c .before .in-range .result) (c .if3 .left))) (a .buffer .now) (c .before .before .before .before .before .before .before .before .before .before .before .before .before .before .lines .inv .1 .rest)))
 
 answer-after-requires : tie.Need-answer-after-requires Inv-bytes μ-bytes Inv-lines μ-lines

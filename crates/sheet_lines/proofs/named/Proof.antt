@@ -1,5 +1,4 @@
 use mathlib.Core.Path.{sym, _∙_}
-use Prim.Native.Nat.{_-_}
 use borrow.Author.Needs.{needs}
 use Rattle.sheet_lines.proofs.named.Statement.{statement}
 use Rattle.sheet_lines.proofs.named.Tie as tie

@@ -1,6 +1,7 @@
 use mathlib.Core.List.{[]}
 use borrow.Author.Tests.{not-true, not-false}
-use Rattle.sheet_lines.specs.Steps.{sheetOf, onto}
+use Rattle.sheet_lines.specs.Sheets.{sheetOf}
+use Rattle.sheet_lines.specs.Code.{heldOnto}
 use Rattle.sheet_lines.proofs.AcceptLaws.{begins-length}
 use Rattle.sheet_lines.proofs.SheetLaws.{too-long, other-names, after-names, keeps, leaves}
 use mathlib.Core.Path.{sym, ap, _∙_}
@@ -34,7 +35,7 @@ returns-3 c =
     let s = sheetOf (a .kind) in
     let r = c .before .before .lines .result in
     let e = after-names s (a .text .now) (c .before .before .before .before .before .before .before .if1 .left) (sym (c .before .before .before .before .before .before .named .ensures) ∙ not-false (c .before .before .before .before .before .before .named .result) (c .before .before .before .before .before .if2 .left)) in
-    let g = rw (c .before .before .before .before .names-length .ensures) at (c .before .before .lines .ensures .0) ∙ sym (ap (onto 0 []) e) in
+    let g = rw (c .before .before .before .before .names-length .ensures) at (c .before .before .lines .ensures .0) ∙ sym (ap (heldOnto 0 []) e) in
     let h = keeps s (a .text .now) (a .buffer .now) _ r (sym (c .before .is-stored .ensures) ∙ c .if3 .taken) g (c .before .before .lines .ensures .1) in
     (h .answers, h .buffer)
 
@@ -44,7 +45,7 @@ returns-4 c =
     let s = sheetOf (a .kind) in
     let r = c .before .before .lines .result in
     let e = after-names s (a .text .now) (c .before .before .before .before .before .before .before .if1 .left) (sym (c .before .before .before .before .before .before .named .ensures) ∙ not-false (c .before .before .before .before .before .before .named .result) (c .before .before .before .before .before .if2 .left)) in
-    let g = rw (c .before .before .before .before .names-length .ensures) at (c .before .before .lines .ensures .0) ∙ sym (ap (onto 0 []) e) in
+    let g = rw (c .before .before .before .before .names-length .ensures) at (c .before .before .lines .ensures .0) ∙ sym (ap (heldOnto 0 []) e) in
     let h = leaves s (a .text .now) (a .buffer .now) _ r (sym (c .before .is-stored .ensures) ∙ c .if3 .left) g in
     (h .answers, h .buffer)
 

@@ -1,54 +1,69 @@
-use native.Mathlib.Omega.{arith}
-use Rattle.sheet_reader.proofs.StoreLaws.{filled-more}
-use mathlib.Core.List.{_++_}
-use mathlib.Core.Path.{_≡_}
-use Prim.Native.Nat.{_+_, _-_, _≤_}
-use lib.ListN.{length, take, drop}
+use Prim.Native.Nat.{_*_}
+use Rattle.usage.specs.Limits.{stepFields}
+use Rattle.sheet_reader.proofs.StoreLaws.{Filled, none-filled, one-filled, all-filled}
+use Prim.Native.Nat.{_-_}
+use lib.ListN.{getD}
 use borrow.Author.Needs.{needs}
 use Rattle.sheet_reader.proofs.store_numbers.Statement.{statement}
 use Rattle.sheet_reader.proofs.store_numbers.Tie as tie
+use Rattle.sheet_reader.proofs.store_numbers.Reads as reads
+use Rattle.sheet_reader.proofs.store_numbers.Lts as lts
 
 abbrev Inv-loop : tie.InvT-loop
-Inv-loop buffer n table₀ i₀ table i = (i ≤ n) × ((length table ≡ length table₀) × (table ≡ take i buffer ++ drop i table₀))
+Inv-loop buffer n table₀ m i₀ table i = Filled (λ i. getD buffer i 0) table₀ m table i
 
 abbrev μ-loop : tie.MeasureT-loop
-μ-loop buffer n table₀ i₀ table i = n - i
+μ-loop buffer n table₀ m i₀ table i = m - i
 
+-- src/lib.rt:168:13
+mul-m : tie.Need-mul-m Inv-loop μ-loop
+mul-m c = search needs
+
+-- src/lib.rt:170:5
 loop-holds : tie.Need-loop-holds Inv-loop μ-loop
-loop-holds c = search needs
+loop-holds c = none-filled _ _ _
 
+-- src/lib.rt:171:20
 mul-table : tie.Need-mul-table Inv-loop μ-loop
 mul-table c = search needs
 
+-- src/lib.rt:171:20
 element-copy-out-table : tie.Need-element-copy-out-table Inv-loop μ-loop
 element-copy-out-table c = search needs
 
+-- src/lib.rt:171:9
 mul-table-2 : tie.Need-mul-table-2 Inv-loop μ-loop
 mul-table-2 c = search needs
 
+-- src/lib.rt:171:9
 slice-write-table : tie.Need-slice-write-table Inv-loop μ-loop
 slice-write-table c = search needs
 
+-- src/lib.rt:172:9
 add-i : tie.Need-add-i Inv-loop μ-loop
 add-i c = search needs
 
+-- src/lib.rt:170:5
 loop-less : tie.Need-loop-less Inv-loop μ-loop
 loop-less c = search needs
 
+-- src/lib.rt:170:5
 loop-again : tie.Need-loop-again Inv-loop μ-loop
 loop-again c =
     let a = c .before .before .before .args in
     let t = c .before .before .loop in
-    let l = t .inv .1 .0 in
-    (omega arith, (search needs, rw (t .inv .1 .1) (filled-more (t .i) (a .buffer .now) (a .table .now) (omega arith) (omega arith))))
+    one-filled (λ i. getD (a .buffer .now) i 0) (a .table .now) (a .n * stepFields) (t .table) (t .i) (t .inv) (c .before .loop-test .taken) (c .before .before .before .pre .1)
 
+-- src/lib.rt:163:1
 same-length : tie.Need-same-length Inv-loop μ-loop
 same-length c = search needs
 
+-- src/lib.rt:163:1
 returns : tie.Need-returns Inv-loop μ-loop
 returns c =
-    let e : c .before .loop .i ≡ c .before .before .args .n = omega arith in
-    rw e at (c .before .loop .inv .1 .1)
+    let a = c .before .before .args in
+    let t = c .before .loop in
+    all-filled (λ i. getD (a .buffer .now) i 0) (a .table .now) (a .n * stepFields) (t .table) (t .i) (t .inv) (c .loop-test .left)
 
 pub store-numbers-spec : {M : Type 1} → statement M
 store-numbers-spec =
@@ -56,6 +71,7 @@ store-numbers-spec =
     (tie.spec
     Inv-loop
     μ-loop
+    mul-m
     loop-holds
     mul-table
     element-copy-out-table

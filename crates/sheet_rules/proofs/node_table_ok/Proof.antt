@@ -1,9 +1,8 @@
 use Rattle.sheet_rules.specs.Faults.{fault}
-use Rattle.usage.specs.Tests.{is-none}
+use Rattle.usage.specs.Tests.{isNone}
 use borrow.Author.Tests.{not-true, not-false}
 use Rattle.sheet_rules.proofs.FaultLaws.{part-left, too-many-nodes, no-fit, fit}
 use mathlib.Core.Path.{sym, ap, _∙_}
-use Prim.Native.Nat.{_-_}
 use borrow.Author.Needs.{needs}
 use Rattle.sheet_rules.proofs.node_table_ok.Statement.{statement}
 use Rattle.sheet_rules.proofs.node_table_ok.Tie as tie
@@ -33,10 +32,10 @@ enum-told-2 : tie.Need-enum-told-2
 enum-told-2 c = search needs
 
 returns-4 : tie.Need-returns-4
-returns-4 c = sym (fit (c .before .before .before .before .before .before .before .before .before .args .table .now) (c .before .before .before .before .before .before .before .if1 .left) (c .before .before .before .before .before .before .if2 .left) (sym (c .before .before .before .before .before .all-fit .ensures) ∙ not-false (c .before .before .before .before .before .all-fit .result) (c .before .before .before .before .if3 .left)) ∙ ap is-none (sym (c .before .before .ruled .ensures) ∙ ap fault (c .enum-told .given .1)))
+returns-4 c = sym (fit (c .before .before .before .before .before .before .before .before .before .args .table .now) (c .before .before .before .before .before .before .before .if1 .left) (c .before .before .before .before .before .before .if2 .left) (sym (c .before .before .before .before .before .all-fit .ensures) ∙ not-false (c .before .before .before .before .before .all-fit .result) (c .before .before .before .before .if3 .left)) ∙ ap isNone (sym (c .before .before .ruled .ensures) ∙ ap fault (c .enum-told .given .1)))
 
 returns-5 : tie.Need-returns-5
-returns-5 c = sym (fit (c .before .before .before .before .before .before .before .before .before .args .table .now) (c .before .before .before .before .before .before .before .if1 .left) (c .before .before .before .before .before .before .if2 .left) (sym (c .before .before .before .before .before .all-fit .ensures) ∙ not-false (c .before .before .before .before .before .all-fit .result) (c .before .before .before .before .if3 .left)) ∙ ap is-none (sym (c .before .before .ruled .ensures) ∙ ap fault (c .enum-told2 .given .1)))
+returns-5 c = sym (fit (c .before .before .before .before .before .before .before .before .before .args .table .now) (c .before .before .before .before .before .before .before .if1 .left) (c .before .before .before .before .before .before .if2 .left) (sym (c .before .before .before .before .before .all-fit .ensures) ∙ not-false (c .before .before .before .before .before .all-fit .result) (c .before .before .before .before .if3 .left)) ∙ ap isNone (sym (c .before .before .ruled .ensures) ∙ ap fault (c .enum-told2 .given .1)))
 
 pub node-table-ok-spec : {M : Type 1} → statement M
 node-table-ok-spec =

@@ -1,7 +1,9 @@
-use Rattle.sheet_rules.specs.Rules.{passes, found}
+use Rattle.sheet_rules.specs.Rules.{passes}
+use Rattle.sheet_rules.specs.Code.{found}
+use Rattle.usage.specs.Limits.{nodeFields}
 use Rattle.usage.specs.Tables.{nodesOf}
 use Rattle.usage.specs.Tests.{backOk, nameOk}
-use Prim.Native.Nat.{_/_, _-_}
+use Prim.Native.Nat.{_/_}
 use Rattle.sheet_rules.proofs.FaultLaws.{no-node, at-six, at-seven, at-eight, clean}
 use Rattle.sheet_rules.proofs.RuleLaws.{lowest-below}
 use mathlib.Core.Path.{sym, ap, _∙_}
@@ -28,7 +30,7 @@ add-t12 c =
     let a = c .before .before .before .before .before .before .before .args in
     let ns = nodesOf (a .table .now) in
     let test = passes (a .first) (a .places .now) ns in
-    let l = lowest-below test 0 (length (a .table .now) / 3) (c .before .six .given .0 .0) (sym (c .before .before .before .lowest .ensures) ∙ ap found (c .before .six .given .1)) in
+    let l = lowest-below test 0 (length (a .table .now) / nodeFields) (c .before .six .given .0 .0) (sym (c .before .before .before .lowest .ensures) ∙ ap found (c .before .six .given .1)) in
     search needs
 
 returns-2 : tie.Need-returns-2
@@ -52,7 +54,7 @@ add-t14 c =
     let a = c .before .before .before .before .before .before .before .before .before .before .args in
     let ns = nodesOf (a .table .now) in
     let test = passes (a .first) (a .places .now) ns in
-    let l = lowest-below (backOk ns) 0 (length (a .table .now) / 3) (c .before .seven .given .0 .0) (sym (c .before .before .before .lowest2 .ensures) ∙ ap found (c .before .seven .given .1)) in
+    let l = lowest-below (backOk ns) 0 (length (a .table .now) / nodeFields) (c .before .seven .given .0 .0) (sym (c .before .before .before .lowest2 .ensures) ∙ ap found (c .before .seven .given .1)) in
     search needs
 
 returns-3 : tie.Need-returns-3
@@ -76,7 +78,7 @@ add-t15 c =
     let a = c .before .before .before .before .before .before .before .before .before .before .before .before .before .args in
     let ns = nodesOf (a .table .now) in
     let test = passes (a .first) (a .places .now) ns in
-    let l = lowest-below (nameOk ns) 0 (length (a .table .now) / 3) (c .before .eight .given .0 .0) (sym (c .before .before .before .lowest3 .ensures) ∙ ap found (c .before .eight .given .1)) in
+    let l = lowest-below (nameOk ns) 0 (length (a .table .now) / nodeFields) (c .before .eight .given .0 .0) (sym (c .before .before .before .lowest3 .ensures) ∙ ap found (c .before .eight .given .1)) in
     search needs
 
 returns-4 : tie.Need-returns-4

@@ -28,7 +28,7 @@ fn random_call(rng: &mut Rng) -> Call {
 /// A state that passes 42.
 fn random_state(rng: &mut Rng, palette: &Palette) -> State {
     let mut state = State::start();
-    state.halted = rng.percent(6);
+    state.halted = rng.percent(6).into();
     state.count = match rng.below(4) {
         0 => rng.pick(&[0, 1, 63, 64, 64, 64]),
         1 => rng.between(0, MOST_CREATED as u64),
@@ -135,7 +135,7 @@ const MISFITS: [Step; 10] = [
 fn damage_state(rng: &mut Rng, state: &mut State) {
     let used = state.count.clamp(2, MOST_CREATED as u64);
     let place = rng.below(used) as usize;
-    match rng.below(5) {
+    match rng.below(6) {
         0 => state.count = 65,
         1 => {
             state.count = used;
@@ -150,6 +150,7 @@ fn damage_state(rng: &mut Rng, state: &mut State) {
             state.count = used;
             state.created[place] = LARGEST_RESOURCE + 1;
         }
+        4 => state.halted = rng.pick(&[2, 3, 7, 255, 256, 1 << 32, (1 << 32) + 1, u64::MAX]),
         _ => state.openings[rng.below(8) as usize] = 256,
     }
 }

@@ -1,6 +1,6 @@
 use borrow.Author.Needs.{needs}
 use borrow.Author.Tests.{le-leb, lt-leb}
-use Rattle.api_records.specs.Flat.{addOf}
+use Rattle.api_records.specs.Code.{addOf}
 use Rattle.api_records.proofs.flat.add.Statement.{statement}
 use Rattle.api_records.proofs.flat.add.Tie as tie
 

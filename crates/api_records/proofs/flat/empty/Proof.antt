@@ -1,5 +1,5 @@
 use mathlib.Core.Path.{refl}
-use Rattle.api_records.specs.Flat.{zeros}
+use Rattle.api_records.specs.Code.{zeros}
 use Rattle.api_records.proofs.flat.empty.Statement.{statement}
 use Rattle.api_records.proofs.flat.empty.Tie as tie
 

@@ -2,7 +2,7 @@
 use Prim.Native.Nat.{_<_}
 use borrow.Author.Tests.{lt-ltb}
 use borrow.Author.Needs.{needs}
-use Rattle.automaton.specs.Rows.{joined}
+use Rattle.automaton.specs.Code.{joined}
 use Rattle.automaton.proofs.RowLaws.{shifted-single}
 use Rattle.automaton.proofs.UnionLaws.{placed, not-placed}
 use Rattle.automaton.proofs.moves.join.Statement.{statement}

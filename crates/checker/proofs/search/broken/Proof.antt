@@ -1,36 +1,50 @@
 use denote.Ref.{now}
-use mathlib.Core.Path.{subst, _≡_}
-use mathlib.Core.Bool.{Bool, false}
+use mathlib.Core.Path.{_≡_, subst}
+use mathlib.Core.Bool.{Bool, true, false}
+use mathlib.Core.List.{List}
 use native.Mathlib.Nat.{not-suc-le-zero}
-use Prim.Native.Nat.{_/_, ℕ, _-_, _≤_, _<_}
+use Prim.Native.Nat.{ℕ, suc, _-_, _≤_, _<_}
 use borrow.Author.Count.{below-more}
-use Rattle.checker_account.specs.Tables.{rowsIn}
-use Rattle.checker_account.specs.Rounds.{formsIn, Searched, found, none-found}
+use Rattle.usage.specs.Valid.{OutlineOk}
+use Rattle.usage.specs.Tables.{nodesOf}
+use Rattle.checker_account.specs.Witness.{watched}
+use Rattle.checker_account.specs.Rounds.{found, none-found}
+use Rattle.checker_tables.specs.Code.{hasRoom, SearchedIn, SearchedIf}
+use Rattle.checker_tables.proofs.FitLaws.{outline-fits}
 use native.Mathlib.Omega.{arith}
-use lib.ListN.{length}
 use borrow.Author.Needs.{needs}
 use Rattle.checker.proofs.search.broken.Statement.{statement}
 use Rattle.checker.proofs.search.broken.Tie as tie
 use Rattle.checker.proofs.search.broken.Reads as reads
 use Rattle.checker.proofs.search.broken.Lts as lts
-use Rattle.checker.proofs.search.breaks.Reads as breaks-reads
+use Rattle.checker_tables.proofs.breaks.Reads as breaks-reads
+
+-- the nodes of an accepted outline fit
+told : (nodes rows : List ℕ) (p x : ℕ) (r answer : Bool) → OutlineOk (nodesOf nodes) → SearchedIf (hasRoom nodes) nodes rows p x r → r ≡ answer
+    → SearchedIn nodes rows p x answer
+told nodes rows p x r answer ok h e =
+    subst (SearchedIn nodes rows p x) e (subst (λ (b : Bool). SearchedIf b nodes rows p x r) (outline-fits nodes ok) h)
 
 abbrev Inv-loop : tie.InvT-loop
-Inv-loop nodes rows p x₀ x = (x ≤ 17) × ((y : ℕ) → y < x → Searched (rowsIn rows) p y (length nodes / 3) (formsIn nodes) false)
+Inv-loop nodes rows p x₀ x = (x ≤ suc watched) × ((y : ℕ) → y < x → SearchedIn nodes rows p y false)
 
 abbrev μ-loop : tie.MeasureT-loop
-μ-loop nodes rows p x₀ x = 17 - x
+μ-loop nodes rows p x₀ x = suc watched - x
 
 loop-holds : tie.Need-loop-holds Inv-loop μ-loop
 loop-holds c = (search needs, λ y h. absurd (not-suc-le-zero h))
 
 breaks-requires : tie.Need-breaks-requires Inv-loop μ-loop
-breaks-requires c κs = c .before .before .before .pre
+breaks-requires c κs = search needs
 
 returns : tie.Need-returns Inv-loop μ-loop
-returns c = found {x = c .before .before .before .loop .x} (let h = c .before .before .loop-test .taken in omega arith) (
+returns c =
     let a = c .before .before .before .before .before .args in
-    subst (λ (b : Bool). Searched (rowsIn (now (a .rows))) (a .p) (c .before .before .before .loop .x) (length (now (a .nodes)) / 3) (formsIn (now (a .nodes))) b) (c .if1 .taken) (c .before .breaks .ensures))
+    let x = c .before .before .before .loop .x in
+    let b = c .before .breaks in
+    found {x = x} (let h = c .before .before .loop-test .taken in omega arith)
+    (told (now (a .nodes)) (now (a .rows)) (a .p) x (b .result) true (c .before .before .before .before .before .pre) (b .ensures)
+    (c .if1 .taken))
 
 add-x : tie.Need-add-x Inv-loop μ-loop
 add-x c = search needs
@@ -40,15 +54,18 @@ loop-less c = search needs
 
 loop-again : tie.Need-loop-again Inv-loop μ-loop
 loop-again c =
-    let l = c .before .before .before .loop in
     let a = c .before .before .before .before .before .args in
-    let s = subst (λ (b : Bool). Searched (rowsIn (now (a .rows))) (a .p) (l .x) (length (now (a .nodes)) / 3) (formsIn (now (a .nodes))) b) (c .if1 .left) (c .before .breaks .ensures) in
-    (search needs, below-more (λ (y : ℕ). Searched (rowsIn (now (a .rows))) (a .p) y (length (now (a .nodes)) / 3) (formsIn (now (a .nodes))) false) (l .x) (l .inv .1) s)
+    let l = c .before .before .before .loop in
+    let b = c .before .breaks in
+    let s =
+    told (now (a .nodes)) (now (a .rows)) (a .p) (l .x) (b .result) false (c .before .before .before .before .before .pre) (b .ensures)
+    (c .if1 .left) in
+    (search needs, below-more (λ (y : ℕ). SearchedIn (now (a .nodes)) (now (a .rows)) (a .p) y false) (l .x) (l .inv .1) s)
 
 returns-2 : tie.Need-returns-2 Inv-loop μ-loop
 returns-2 c =
     let l = c .before .loop in
-    let e : l .x ≡ 17 = omega arith in
+    let e : l .x ≡ suc watched = omega arith in
     none-found (λ y h. l .inv .1 y (omega arith))
 
 pub broken-spec : {M : Type 1} → statement M

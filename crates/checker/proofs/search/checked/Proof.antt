@@ -43,7 +43,8 @@ returns-3 c =
     let e = c .before .before .before .before .before .edge-table-ok in
     let n = c .before .before .before .node-table-ok in
     let p = c .before .lowest in
-    answered (a .edges .now) (a .nodes .now) _ (sym (e .ensures) ∙ not-false (e .result) (c .before .before .before .before .if1 .left)) (sym (n .ensures) ∙ not-false (n .result) (c .before .before .if2 .left))
+    answered (a .edges .now) (a .nodes .now) (sym (e .ensures) ∙ not-false (e .result) (c .before .before .before .before .if1 .left))
+    (sym (n .ensures) ∙ not-false (n .result) (c .before .before .if2 .left))
     (subst (Checked false (edgesOf (a .edges .now)) (nodesOf (a .nodes .now))) (accepted-number (p .result) (c .if3 .taken)) (p .ensures))
 
 cast-t6 : tie.Need-cast-t6
@@ -55,8 +56,10 @@ returns-4 c =
     let e = c .before .before .before .before .before .edge-table-ok in
     let n = c .before .before .before .node-table-ok in
     let p = c .before .lowest in
-    answered (a .edges .now) (a .nodes .now) _ (sym (e .ensures) ∙ not-false (e .result) (c .before .before .before .before .if1 .left)) (sym (n .ensures) ∙ not-false (n .result) (c .before .before .if2 .left))
+    answered (a .edges .now) (a .nodes .now) (sym (e .ensures) ∙ not-false (e .result) (c .before .before .before .before .if1 .left))
+    (sym (n .ensures) ∙ not-false (n .result) (c .before .before .if2 .left))
     (subst (Checked false (edgesOf (a .edges .now)) (nodesOf (a .nodes .now))) (named-number (p .result) (c .if3 .left)) (p .ensures))
 
 pub checked-spec : {M : Type 1} → statement M
-checked-spec = tie.close (tie.spec edge-table-ok-requires returns node-table-ok-requires returns-2 lowest-requires returns-3 cast-t6 returns-4)
+checked-spec = tie.close (tie.spec edge-table-ok-requires returns node-table-ok-requires returns-2 lowest-requires returns-3 cast-t6
+    returns-4)

@@ -8,12 +8,6 @@ use borrow.Author.Needs.{needs}
 use Rattle.checker_tables.proofs.WholeLaws.{whole-in}
 use Rattle.checker.proofs.search.leaves.Statement.{statement}
 use Rattle.checker.proofs.search.leaves.Tie as tie
-use Rattle.checker.proofs.search.leaves.Reads as reads
-use Rattle.checker.proofs.search.leaves.Lts as lts
-use Rattle.checker_tables.proofs.rows.fill.Reads as fill-reads
-use Rattle.checker.proofs.search.broken.Reads as broken-reads
-use Rattle.checker.proofs.has_edge.Reads as has-edge-reads
-use Rattle.checker.proofs.opens.Reads as opens-reads
 
 opens-requires : tie.Need-opens-requires
 opens-requires c κs = search needs
@@ -46,8 +40,11 @@ returns-3 c =
     let a = c .before .before .before .before .before .before .before .before .before .before .args in
     let p = c .before .before .before .before .before .before .before .before .before .before .pre in
     let f = c .before .before .fill in
-    let e = f .ensures ∙ whole-in (rowsOf (edgesOf (now (a .edges)))) (a .p) (now (a .nodes)) (p .1 .1) (few-nodes (now (a .edges)) (now (a .nodes)) (p .0) (p .1 .0)) in
-    looked (now (a .edges)) (now (a .nodes)) (p .0) (p .1 .0) (a .p) (p .1 .1) (f .last .1 .1 .1 .0) e (c .broken .result) (c .broken .ensures)
+    let e =
+    f .ensures ∙ whole-in (rowsOf (edgesOf (now (a .edges)))) (a .p) (now (a .nodes)) (p .1 .1)
+    (few-nodes (now (a .edges)) (now (a .nodes)) (p .0) (p .1 .0)) in
+    looked (now (a .edges)) (now (a .nodes)) (p .0) (p .1 .0) (a .p) (p .1 .1) (f .last .1 .1 .1 .0) e (c .broken .result)
+    (c .broken .ensures)
 
 pub leaves-spec : {M : Type 1} → statement M
 leaves-spec =

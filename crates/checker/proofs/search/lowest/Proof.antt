@@ -2,6 +2,7 @@ use mathlib.Core.Bool.{false}
 use denote.Ref.{now}
 use native.Mathlib.Nat.{not-suc-le-zero}
 use borrow.Author.Count.{below-more}
+use Rattle.usage.specs.Limits.{policies}
 use Rattle.usage.specs.Tables.{edgesOf, nodesOf}
 use Rattle.usage.specs.Check.{Leaves}
 use Rattle.usage.proofs.Logic.{not-both}
@@ -12,21 +13,21 @@ use Prim.Native.Nat.{ℕ, _-_, _≤_, _<_}
 use borrow.Author.Needs.{needs}
 use Rattle.checker.proofs.search.lowest.Statement.{statement}
 use Rattle.checker.proofs.search.lowest.Tie as tie
-use Rattle.checker.proofs.search.lowest.Reads as reads
-use Rattle.checker.proofs.search.lowest.Lts as lts
-use Rattle.checker.proofs.search.leaves.Reads as leaves-reads
 
 abbrev Inv-loop : tie.InvT-loop
-Inv-loop edges nodes p₀ p = (p ≤ 8) × ((s : ℕ) → s < p → Leaves false (edgesOf edges) (nodesOf nodes) s → ⊥)
+Inv-loop edges nodes p₀ p = (p ≤ policies) × ((s : ℕ) → s < p → Leaves false (edgesOf edges) (nodesOf nodes) s → ⊥)
 
 abbrev μ-loop : tie.MeasureT-loop
-μ-loop edges nodes p₀ p = 8 - p
+μ-loop edges nodes p₀ p = policies - p
 
 loop-holds : tie.Need-loop-holds Inv-loop μ-loop
 loop-holds c = (search needs, λ s h l. not-suc-le-zero h)
 
 leaves-requires : tie.Need-leaves-requires Inv-loop μ-loop
-leaves-requires c κs = (c .before .before .before .before .pre .0, (c .before .before .before .before .pre .1, (let h = c .loop-test .taken in omega arith)))
+leaves-requires c κs = (
+  c .before .before .before .before .pre .0,
+  (c .before .before .before .before .pre .1, (let h = c .loop-test .taken in omega arith)),
+)
 
 returns : tie.Need-returns Inv-loop μ-loop
 returns c =
@@ -34,7 +35,8 @@ returns c =
     let h = c .before .before .before .before .before .before .pre in
     let l = c .before .before .before .loop in
     let k = c .before .before .loop-test .taken in
-    named-lowest (now (a .edges)) (now (a .nodes)) (h .0) (h .1) (l .p) (omega arith) (c .before .leaves .ensures .0 (c .if1 .taken)) (l .inv .1)
+    named-lowest (now (a .edges)) (now (a .nodes)) (h .0) (h .1) (l .p) (omega arith) (c .before .leaves .ensures .0 (c .if1 .taken))
+    (l .inv .1)
 
 add-p : tie.Need-add-p Inv-loop μ-loop
 add-p c = search needs
@@ -45,15 +47,18 @@ loop-less c = search needs
 loop-again : tie.Need-loop-again Inv-loop μ-loop
 loop-again c =
     let a = c .before .before .before .before .before .before .args in
-    let l = c .before .before .before .loop in
-    (search needs, below-more (λ (s : ℕ). Leaves false (edgesOf (now (a .edges))) (nodesOf (now (a .nodes))) s → ⊥) (l .p) (l .inv .1) (λ b. not-both (c .before .leaves .result) (c .before .leaves .ensures .1 b) (c .if1 .left)))
+    let l = c .before .before .before .loop in (
+      search needs,
+      below-more (λ (s : ℕ). Leaves false (edgesOf (now (a .edges))) (nodesOf (now (a .nodes))) s → ⊥) (l .p) (l .inv .1)
+          (λ b. not-both (c .before .leaves .result) (c .before .leaves .ensures .1 b) (c .if1 .left)),
+    )
 
 returns-2 : tie.Need-returns-2 Inv-loop μ-loop
 returns-2 c =
     let a = c .before .before .before .before .args in
     let h = c .before .before .before .before .pre in
     let l = c .before .loop in
-    let e : l .p ≡ 8 = omega arith in
+    let e : l .p ≡ policies = omega arith in
     all-good (now (a .edges)) (now (a .nodes)) (h .0) (h .1) (λ s k. l .inv .1 s (omega arith))
 
 pub lowest-spec : {M : Type 1} → statement M

@@ -1,12 +1,10 @@
 use Rattle.checker_account.proofs.CodeLaws.{place-lt}
 use denote.Ref.{now}
-use Rattle.checker_account.specs.Mask.{joined}
 use native.Mathlib.Omega.{arith}
 use mathlib.Core.Path.{ap, _∙_}
-use Prim.Native.Nat.{ℕ, _<_}
+use Prim.Native.Nat.{ℕ}
 use borrow.Author.Needs.{needs}
-use Rattle.checker_tables.proofs.EntryLaws.{join-made, join-grown}
-use Rattle.checker_account.specs.Tables.{place}
+use Rattle.checker_account.specs.Tables.{place, joinedAt, places}
 use Rattle.checker_tables.proofs.arrivals.enter.Statement.{statement}
 use Rattle.checker_tables.proofs.arrivals.enter.Tie as tie
 use Rattle.checker_tables.proofs.arrivals.enter.Reads as reads
@@ -18,18 +16,15 @@ place-requires : tie.Need-place-requires
 place-requires c κs = search needs
 
 join-requires : tie.Need-join-requires
-join-requires c κs = search needs
+join-requires c κs =
+    let a = c .before .before .args in
+    let p = c .before .before .pre in
+    (p .0, omega (arith, c .before .place .ensures, place-lt (a .k) (a .o) (a .m) (p .1 .0) (p .1 .1)))
 
 returns : tie.Need-returns
 returns c =
     let a = c .before .before .before .args in
-    let p = c .before .before .before .pre in
-    let i = c .before .before .place .result in
-    let j = c .join in
-    let h : i < 3072 = omega (arith, c .before .before .place .ensures, place-lt (a .k) (a .o) (a .m) (p .1 .0) (p .1 .1)) in (
-      join-made (now (a .u)) i (a .v) (j .last .0) h (j .ensures .0) ∙ ap (λ (i : ℕ). joined (now (a .u)) i (a .v)) (c .before .before .place .ensures),
-      (join-grown (now (a .u)) i (a .v) (j .last .0) (j .result) (p .0) h (j .ensures .0) (j .ensures .1 .0), j .ensures .1 .1),
-    )
+    (c .join .ensures .0 ∙ ap (λ (i : ℕ). joinedAt (now (a .u)) i (a .v)) (c .before .before .place .ensures), c .join .ensures .1)
 
 pub enter-spec : {M : Type 1} → statement M
 enter-spec = tie.close (tie.spec place-requires join-requires returns)

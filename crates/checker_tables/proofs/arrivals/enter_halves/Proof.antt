@@ -4,12 +4,12 @@ use denote.Ref.{now}
 use mathlib.Core.Bool.{true}
 use Prim.Native.Nat.{_/_, _%_, ℕ}
 use mathlib.Core.List.{List}
-use Rattle.checker_account.specs.Mask.{joined}
-use Rattle.checker_account.specs.Tables.{place, after}
+use Rattle.checker_account.specs.Rounds.{entered}
+use Rattle.checker_account.specs.Tables.{place, meaningAfter, joinedAt}
 use native.Mathlib.Omega.{arith}
 use mathlib.Core.Path.{sym, ap, _∙_}
 use borrow.Author.Needs.{needs}
-use Rattle.checker_tables.proofs.EntryLaws.{lost-created}
+use Rattle.checker_tables.proofs.MeaningLaws.{lost-created}
 use Rattle.checker_tables.proofs.arrivals.enter_halves.Statement.{statement}
 use Rattle.checker_tables.proofs.arrivals.enter_halves.Tie as tie
 use Rattle.checker_tables.proofs.arrivals.enter_halves.Reads as reads
@@ -37,19 +37,21 @@ either-requires : tie.Need-either-requires
 either-requires c κs = search needs
 
 returns : tie.Need-returns
+unfolding entered
 returns c =
     let a = c .before .before .before .before .before .before .args in
     let n = c .before .before .before .before .before .lose in
     let s = c .before .before .before .enter in
     let t = c .before .enter2 in (
       t .ensures .0
-          ∙ ap (λ (m : ℕ). joined (s .last .0) (place (a .b) (a .o) m) (a .e / 256)) (n .ensures ∙ lost-created (a .m))
-          ∙ ap (λ (u : List ℕ). joined u (place (a .b) (a .o) (after (a .m) true)) (a .e / 256))
-          (s .ensures .0 ∙ ap (λ (m : ℕ). joined (now (a .u)) (place (a .b) (a .o) m) (a .e % 256)) (sym (after-false (a .m)))),
+          ∙ ap (λ (m : ℕ). joinedAt (s .last .0) (place (a .b) (a .o) m) (a .e / 256)) (n .ensures ∙ lost-created (a .m))
+          ∙ ap (λ (u : List ℕ). joinedAt u (place (a .b) (a .o) (meaningAfter (a .m) true)) (a .e / 256))
+          (s .ensures .0 ∙ ap (λ (m : ℕ). joinedAt (now (a .u)) (place (a .b) (a .o) m) (a .e % 256)) (sym (after-false (a .m)))),
       (
         grown-two (now (a .u)) (s .last .0) (t .last .0) (s .result) (t .result) (c .either .result)
             (grows-joined (now (a .u)) (s .last .0) (place (a .b) (a .o) (a .m)) (a .e % 256) (s .ensures .0))
-            (grows-joined (s .last .0) (t .last .0) (place (a .b) (a .o) (n .result)) (a .e / 256) (t .ensures .0)) (s .ensures .1 .0) (t .ensures .1 .0) (c .either .ensures),
+            (grows-joined (s .last .0) (t .last .0) (place (a .b) (a .o) (n .result)) (a .e / 256) (t .ensures .0)) (s .ensures .1 .0)
+            (t .ensures .1 .0) (c .either .ensures),
         λ w. t .ensures .1 .1 (s .ensures .1 .1 w),
       ),
     )

@@ -1,8 +1,8 @@
 use Rattle.checker_account.proofs.RoundLaws.{grows-joined, grown-two}
 use denote.Ref.{now}
 use mathlib.Core.List.{List}
-use Rattle.checker_account.specs.Mask.{joined}
-use Rattle.checker_account.specs.Tables.{place}
+use Rattle.checker_account.specs.Rounds.{entered}
+use Rattle.checker_account.specs.Tables.{place, joinedAt}
 use mathlib.Core.Path.{ap, _∙_}
 use Prim.Native.Nat.{ℕ}
 use borrow.Author.Needs.{needs}
@@ -27,15 +27,17 @@ either-requires : tie.Need-either-requires
 either-requires c κs = search needs
 
 returns : tie.Need-returns
+unfolding entered
 returns c =
     let a = c .before .before .before .before .before .args in
     let s = c .before .before .before .enter in
     let t = c .before .enter2 in (
-      t .ensures .0 ∙ ap (λ (u : List ℕ). joined u (place (a .b) (a .o) (a .m)) (a .v)) (s .ensures .0),
+      t .ensures .0 ∙ ap (λ (u : List ℕ). joinedAt u (place (a .b) (a .o) (a .m)) (a .v)) (s .ensures .0),
       (
         grown-two (now (a .u)) (s .last .0) (t .last .0) (s .result) (t .result) (c .either .result)
             (grows-joined (now (a .u)) (s .last .0) (place (a .a) (a .o) (a .m)) (a .v) (s .ensures .0))
-            (grows-joined (s .last .0) (t .last .0) (place (a .b) (a .o) (a .m)) (a .v) (t .ensures .0)) (s .ensures .1 .0) (t .ensures .1 .0) (c .either .ensures),
+            (grows-joined (s .last .0) (t .last .0) (place (a .b) (a .o) (a .m)) (a .v) (t .ensures .0)) (s .ensures .1 .0)
+            (t .ensures .1 .0) (c .either .ensures),
         λ w. t .ensures .1 .1 (s .ensures .1 .1 w),
       ),
     )

@@ -4,8 +4,7 @@ use denote.Ref.{now}
 use mathlib.Core.List.{List}
 use mathlib.Core.Bool.{Bool}
 use Rattle.usage.specs.Outline.{formOf}
-use Rattle.checker_account.specs.Mask.{joined}
-use Rattle.checker_account.specs.Tables.{place, rowsIn, Arrival, arrivals}
+use Rattle.checker_account.specs.Tables.{place, rowsIn, Arrival, arrivals, joinedAt}
 use Rattle.checker_account.specs.Rounds.{entered}
 use Rattle.checker_account.proofs.RoundLaws.{grown-self}
 use Rattle.checker_account.proofs.CodeLaws.{no-arrivals}
@@ -72,7 +71,8 @@ returns-6 : tie.Need-returns-6
 unfolding formOf arrivals entered
 returns-6 c =
     let a = c .before .before .before .before .before .before .args in (
-      rw (c .before .before .before .match .keys6) (c .enter3 .ensures .0 ∙ ap (λ (o : Bool). joined (now (a .u)) (place (a .f .b) o (a .m)) (a .v)) (c .before .either .ensures)),
+      rw (c .before .before .before .match .keys6)
+          (c .enter3 .ensures .0 ∙ ap (λ (o : Bool). joinedAt (now (a .u)) (place (a .f .b) o (a .m)) (a .v)) (c .before .either .ensures)),
       c .enter3 .ensures .1,
     )
 

@@ -5,11 +5,12 @@ use lib.ListN.{length, getD}
 use borrow.Author.Needs.{needs}
 use denote.Ref.{now}
 use mathlib.Core.List.{List}
+use mathlib.Core.Logic.{inl, inr}
 use Rattle.usage.proofs.Logic.{by-cases}
 use Rattle.usage.specs.Outline.{formOf}
-use Rattle.checker_account.specs.Tables.{rowsIn, place}
+use Rattle.checker_account.specs.Tables.{rowsIn, place, meanings}
 use Rattle.checker_account.specs.Rounds.{repeat, grown, entered, arrivalsOf, pass, odd, passNode, Wide}
-use Rattle.checker_account.proofs.RoundLaws.{Grows, repeat-grows, grown-self, turn-made, turn-grown, turn-same}
+use Rattle.checker_account.proofs.RoundLaws.{Grows, grown-self, repeat-length, turn}
 use Rattle.checker_account.proofs.PassLaws.{pass-grows}
 use Rattle.checker_account.proofs.CodeLaws.{place-lt}
 use Rattle.usage.specs.declared.Node.{Node}
@@ -18,7 +19,7 @@ use Rattle.checker_tables.proofs.arrivals.pass_node.Tie as tie
 use Rattle.checker_tables.proofs.arrivals.pass_node.Reads as reads
 use Rattle.checker_tables.proofs.arrivals.pass_node.Lts as lts
 use Rattle.checker_tables.proofs.arrivals.pass_by.Reads as pass-by-reads
-use Rattle.checker_tables.proofs.arrivals.place.Reads as place-reads
+use Rattle.checker_tables.proofs.arrivals.come_to.Reads as come-to-reads
 
 abbrev steps : List ℕ → List ℕ → ℕ → ℕ → ℕ → Node → ℕ → List ℕ → List ℕ
 steps t rows p l k f i = pass (rowsIn rows) p t k (formOf f) (odd i) (l + i / 2)
@@ -26,11 +27,9 @@ steps t rows p l k f i = pass (rowsIn rows) p t k (formOf f) (odd i) (l + i / 2)
 steps-grow : (t rows : List ℕ) (p l k : ℕ) (f : Node) (i : ℕ) (u : List ℕ) → Grows u (steps t rows p l k f i u)
 steps-grow t rows p l k f i u = pass-grows (rowsIn rows) p t k (formOf f) (odd i) (l + i / 2) u
 
-same-length : (t rows : List ℕ) (p l k : ℕ) (f : Node) (i : ℕ) (u₀ u : List ℕ) → u ≡ repeat (steps t rows p l k f) i u₀ → length u ≡ length u₀
-same-length t rows p l k f i u₀ u e = ap length e ∙ repeat-grows (steps t rows p l k f) (steps-grow t rows p l k f) i u₀ .len
-
 abbrev Inv-loop : tie.InvT-loop
-Inv-loop u₀ t rows p l k f n changed₀ i₀ u changed i = (i ≤ n) × ((u ≡ repeat (steps t rows p l k f) i u₀) × ((changed ≡ grown u₀ u) × (Wide u₀ → Wide u)))
+Inv-loop u₀ t rows p l k f n changed₀ i₀ u changed i =
+    (i ≤ n) × ((u ≡ repeat (steps t rows p l k f) i u₀) × ((changed ≡ grown u₀ u) × (Wide u₀ → Wide u)))
 
 abbrev μ-loop : tie.MeasureT-loop
 μ-loop u₀ t rows p l k f n changed₀ i₀ u changed i = n - i
@@ -48,34 +47,18 @@ loop-holds c = (search needs, (refl, (sym (grown-self (c .args .u .now)), λ w. 
 add-m : tie.Need-add-m Inv-loop μ-loop
 add-m c = search needs
 
-place-requires : tie.Need-place-requires Inv-loop μ-loop
-place-requires c κs = search needs
-
-mul-v : tie.Need-mul-v Inv-loop μ-loop
-mul-v c =
-    let a = c .before .before .before .args in
-    let i = c .before .before .loop .i in
-    let p = c .before .before .before .pre in
-    let h = c .before .loop-test .taken in
-    let m : a .l + i / 2 < 6 = omega arith in
-    omega (arith, c .place .ensures, place-lt (a .k) (odd i) (a .l + i / 2) (p .1 .1 .1) m)
-
-element-copy-out-v : tie.Need-element-copy-out-v Inv-loop μ-loop
-element-copy-out-v c =
-    let a = c .before .before .before .args in
-    let i = c .before .before .loop .i in
-    let p = c .before .before .before .pre in
-    let h = c .before .loop-test .taken in
-    let m : a .l + i / 2 < 6 = omega arith in
-    omega (arith, c .place .ensures, place-lt (a .k) (odd i) (a .l + i / 2) (p .1 .1 .1) m)
+come-to-requires : tie.Need-come-to-requires Inv-loop μ-loop
+come-to-requires c κs = search needs
 
 pass-by-requires : tie.Need-pass-by-requires Inv-loop μ-loop
 pass-by-requires c κs =
     let a = c .before .before .before .before .before .args in
+    let f = steps (a .t .now) (a .rows .now) (a .p) (a .l) (a .k) (a .f) in
+    let grows = steps-grow (a .t .now) (a .rows .now) (a .p) (a .l) (a .k) (a .f) in
     let l = c .before .before .before .before .loop in
     let p = c .before .before .before .before .before .pre in
     let h = c .before .before .before .loop-test .taken in
-    (same-length (a .t .now) (a .rows .now) (a .p) (a .l) (a .k) (a .f) (l .i) (a .u .now) (l .u) (l .inv .1 .0) ∙ p .0, (p .1 .0, (p .1 .1 .1, omega arith)))
+    (repeat-length f grows (l .i) (a .u .now) (l .u) (l .inv .1 .0) ∙ p .0, (p .1 .0, (p .1 .1 .1, omega arith)))
 
 add-i : tie.Need-add-i Inv-loop μ-loop
 add-i c = search needs
@@ -93,20 +76,19 @@ loop-again c =
     let m = a .l + l .i / 2 in
     let e : w ≡ f (l .i) (l .u) =
     c .before .pass-by .ensures .0
-    ∙ ap (λ (j : ℕ). entered (arrivalsOf (rowsIn (a .rows .now)) (a .p) (a .t .now) (a .k) (odd (l .i)) m (getD (l .u) j 0) (formOf (a .f))) (l .u))
-    (c .before .before .before .before .place .ensures) in
-    let g = c .before .pass-by .ensures .1 .0 in
+    ∙ ap (λ (v : ℕ). entered (arrivalsOf (rowsIn (a .rows .now)) (a .p) (a .t .now) (a .k) (odd (l .i)) m v (formOf (a .f))) (l .u))
+    (c .before .before .before .come-to .ensures) in
     let wide : Wide (a .u .now) → Wide w = λ h. c .before .pass-by .ensures .1 .1 (l .inv .1 .1 .1 h) in
-    let o = l .inv .1 .0 in
-    by-cases (c .if1 .came)
-    (λ r. (search needs, (turn-made f grows (l .i) (a .u .now) (l .u) w o e, (r .1 ∙ turn-grown f grows (l .i) (a .u .now) (l .u) w o e (sym g ∙ r .0 .taken), wide))))
-    (λ r. (search needs, (turn-made f grows (l .i) (a .u .now) (l .u) w o e, (r .1 ∙ turn-same f grows (l .i) (a .u .now) (l .u) w (l .changed) o e (l .inv .1 .1 .0) (sym g ∙ r .0 .left), wide))))
+    let made = turn f grows (l .i) (a .u .now) (l .u) w (l .changed) (c .if1 .changed)
+    (c .before .pass-by .result) (l .inv .1 .0, l .inv .1 .1 .0) e (c .before .pass-by .ensures .1 .0)
+    (by-cases (c .if1 .came) (λ w. inl (w .0 .taken, w .1)) (λ w. inr (w .0 .left, w .1))) in
+    (search needs, (made .0, (made .1, wide)))
 
 returns : tie.Need-returns Inv-loop μ-loop
 unfolding passNode
 returns c =
     let l = c .before .loop in
-    let e : l .i ≡ 2 * (6 - c .before .before .args .l) = omega arith in
+    let e : l .i ≡ 2 * (meanings - c .before .before .args .l) = omega arith in
     (rw e at (l .inv .1 .0), l .inv .1 .1)
 
 pub pass-node-spec : {M : Type 1} → statement M
@@ -119,9 +101,7 @@ pass-node-spec =
     mul-n
     loop-holds
     add-m
-    place-requires
-    mul-v
-    element-copy-out-v
+    come-to-requires
     pass-by-requires
     add-i
     loop-less

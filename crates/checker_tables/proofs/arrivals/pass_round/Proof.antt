@@ -5,15 +5,16 @@ use lib.ListN.{length}
 use borrow.Author.Needs.{needs}
 use denote.Ref.{now}
 use mathlib.Core.List.{List}
+use Rattle.usage.specs.Limits.{mostNodes, nodeFields}
+use mathlib.Core.Logic.{inl, inr}
 use Rattle.usage.proofs.Logic.{by-cases}
 use Rattle.checker_account.specs.Tables.{rowsIn}
 use Rattle.checker_account.specs.Rounds.{repeat, grown, formsIn, passNode, passRound, Wide}
-use Rattle.checker_account.proofs.RoundLaws.{Grows, repeat-grows, grown-self, turn-made, turn-grown, turn-same}
+use Rattle.checker_account.proofs.RoundLaws.{Grows, grown-self, repeat-length, turn}
 use Rattle.checker_account.proofs.PassLaws.{pass-node-grows}
 use Rattle.usage.specs.declared.Node.{Node}
 use Rattle.usage.specs.Outline.{formOf}
-use Rattle.checker_account.specs.Fits.{Small}
-use Rattle.checker_tables.proofs.EntryLaws.{node-in}
+use Rattle.checker_tables.specs.Code.{Small}
 use Rattle.checker_tables.proofs.arrivals.pass_round.Statement.{statement}
 use Rattle.checker_tables.proofs.arrivals.pass_round.Tie as tie
 use Rattle.checker_tables.proofs.arrivals.pass_round.Reads as reads
@@ -27,11 +28,9 @@ steps t nodes rows p l k = passNode (rowsIn rows) p t l k (formsIn nodes k)
 steps-grow : (t nodes rows : List ℕ) (p l k : ℕ) (u : List ℕ) → Grows u (steps t nodes rows p l k u)
 steps-grow t nodes rows p l k u = pass-node-grows (rowsIn rows) p t l k (formsIn nodes k) u
 
-same-length : (t nodes rows : List ℕ) (p l k : ℕ) (u₀ u : List ℕ) → u ≡ repeat (steps t nodes rows p l) k u₀ → length u ≡ length u₀
-same-length t nodes rows p l k u₀ u e = ap length e ∙ repeat-grows (steps t nodes rows p l) (steps-grow t nodes rows p l) k u₀ .len
-
 abbrev Inv-loop : tie.InvT-loop
-Inv-loop u₀ t nodes rows p l n changed₀ k₀ u changed k = (k ≤ n) × ((u ≡ repeat (steps t nodes rows p l) k u₀) × ((changed ≡ grown u₀ u) × (Wide u₀ → Wide u)))
+Inv-loop u₀ t nodes rows p l n changed₀ k₀ u changed k =
+    (k ≤ n) × ((u ≡ repeat (steps t nodes rows p l) k u₀) × ((changed ≡ grown u₀ u) × (Wide u₀ → Wide u)))
 
 abbrev μ-loop : tie.MeasureT-loop
 μ-loop u₀ t nodes rows p l n changed₀ k₀ u changed k = n - k
@@ -46,12 +45,14 @@ node-requires c κs = search needs
 pass-node-requires : tie.Need-pass-node-requires Inv-loop μ-loop
 pass-node-requires c κs =
     let a = c .before .before .before .before .before .args in
+    let f = steps (a .t .now) (a .nodes .now) (a .rows .now) (a .p) (a .l) in
+    let grows = steps-grow (a .t .now) (a .nodes .now) (a .rows .now) (a .p) (a .l) in
     let l = c .before .before .before .loop in
     let p = c .before .before .before .before .before .pre in
     let h = c .before .before .loop-test .taken in
-    let few : length (a .nodes .now) / 3 ≤ 64 = p .1 .1 .0 in (
-      same-length (a .t .now) (a .nodes .now) (a .rows .now) (a .p) (a .l) (l .k) (a .u .now) (l .u) (l .inv .1 .0) ∙ p .0,
-      (subst Small (sym (c .before .node .ensures ∙ node-in (a .nodes .now) (l .k) h)) (p .1 .0 (l .k) h), (p .1 .1 .1, omega arith)),
+    let few : length (a .nodes .now) / nodeFields ≤ mostNodes = p .1 .0 .few in (
+      repeat-length f grows (l .k) (a .u .now) (l .u) (l .inv .1 .0) ∙ p .0,
+      (subst Small (sym (c .before .node .ensures)) (p .1 .0 .small (l .k) h), (p .1 .1, omega arith)),
     )
 
 add-k : tie.Need-add-k Inv-loop μ-loop
@@ -70,19 +71,19 @@ loop-again c =
     let h = c .before .before .before .before .loop-test .taken in
     let e : w ≡ f (l .k) (l .u) =
     c .before .pass-node .ensures .0
-    ∙ ap (λ (d : Node). passNode (rowsIn (a .rows .now)) (a .p) (a .t .now) (a .l) (l .k) (formOf d) (l .u)) (c .before .before .before .node .ensures ∙ node-in (a .nodes .now) (l .k) h) in
-    let g = c .before .pass-node .ensures .1 .0 in
+    ∙ ap (λ (d : Node). passNode (rowsIn (a .rows .now)) (a .p) (a .t .now) (a .l) (l .k) (formOf d) (l .u))
+    (c .before .before .before .node .ensures) in
     let wide : Wide (a .u .now) → Wide w = λ h. c .before .pass-node .ensures .1 .1 (l .inv .1 .1 .1 h) in
-    let o = l .inv .1 .0 in
-    by-cases (c .if1 .came)
-    (λ r. (search needs, (turn-made f grows (l .k) (a .u .now) (l .u) w o e, (r .1 ∙ turn-grown f grows (l .k) (a .u .now) (l .u) w o e (sym g ∙ r .0 .taken), wide))))
-    (λ r. (search needs, (turn-made f grows (l .k) (a .u .now) (l .u) w o e, (r .1 ∙ turn-same f grows (l .k) (a .u .now) (l .u) w (l .changed) o e (l .inv .1 .1 .0) (sym g ∙ r .0 .left), wide))))
+    let made = turn f grows (l .k) (a .u .now) (l .u) w (l .changed) (c .if1 .changed)
+    (c .before .pass-node .result) (l .inv .1 .0, l .inv .1 .1 .0) e (c .before .pass-node .ensures .1 .0)
+    (by-cases (c .if1 .came) (λ w. inl (w .0 .taken, w .1)) (λ w. inr (w .0 .left, w .1))) in
+    (search needs, (made .0, (made .1, wide)))
 
 returns : tie.Need-returns Inv-loop μ-loop
 unfolding passRound
 returns c =
     let l = c .before .loop in
-    let e : l .k ≡ length (c .before .before .before .args .nodes .now) / 3 = omega arith in
+    let e : l .k ≡ length (c .before .before .before .args .nodes .now) / nodeFields = omega arith in
     (rw e at (l .inv .1 .0), l .inv .1 .1)
 
 pub pass-round-spec : {M : Type 1} → statement M

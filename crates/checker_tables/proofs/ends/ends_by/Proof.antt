@@ -6,7 +6,7 @@ use lib.Dec.{eqb}
 use lib.Bits.{bitOr}
 use native.Mathlib.Numerals.{add-one}
 use Rattle.usage.specs.Outline.{formOf}
-use Rattle.checker_account.specs.Tables.{kept, rowsIn, begun, after, half, endsBy}
+use Rattle.checker_account.specs.Tables.{kept, rowsIn, begun, meaningAfter, half, endsBy}
 use mathlib.Core.Bool.{true, false}
 use Rattle.checker_account.specs.Rounds.{endsOf}
 use Rattle.checker_account.proofs.CodeLaws.{shl-one, no-form}
@@ -17,7 +17,7 @@ use Rattle.checker_tables.proofs.ends.ends_by.Lts as lts
 use Rattle.checker_tables.proofs.ends.entry.Reads as entry-reads
 use Rattle.checker_tables.proofs.ends.fresh_ends.Reads as fresh-ends-reads
 use Rattle.checker_tables.proofs.ends.keep.Reads as keep-reads
-use Rattle.checker_tables.proofs.ends.row.Reads as row-reads
+use Rattle.checker_tables.proofs.rows.moved_states.Reads as moved-states-reads
 use Rattle.checker_tables.proofs.ends.second_ends.Reads as second-ends-reads
 
 cast-a : tie.Need-cast-a
@@ -38,17 +38,17 @@ shl-keep c = search needs
 keep-requires : tie.Need-keep-requires
 keep-requires c κs = search needs
 
-row-requires : tie.Need-row-requires
-row-requires c κs = search needs
+moved-states-requires : tie.Need-moved-states-requires
+moved-states-requires c κs = search needs
 
 keep-requires-2 : tie.Need-keep-requires-2
 keep-requires-2 c κs = search needs
 
-add-row : tie.Need-add-row
-add-row c = search needs
+add-moved-states : tie.Need-add-moved-states
+add-moved-states c = search needs
 
-row-requires-2 : tie.Need-row-requires-2
-row-requires-2 c κs = search needs
+moved-states-requires-2 : tie.Need-moved-states-requires-2
+moved-states-requires-2 c κs = search needs
 
 keep-requires-3 : tie.Need-keep-requires-3
 keep-requires-3 c κs = search needs
@@ -72,7 +72,8 @@ entry-requires-5 : tie.Need-entry-requires-5
 entry-requires-5 c κs = search needs
 
 fresh-ends-requires : tie.Need-fresh-ends-requires
-fresh-ends-requires c κs = let p = c .before .before .before .pre in (p .1 .0, (p .0 .a-name (c .match .keys8), (p .0 .b-node, (p .1 .1 .0, p .1 .1 .1))))
+fresh-ends-requires c κs =
+    let p = c .before .before .before .pre in (p .1 .0, (p .0 .a-name (c .match .keys8), (p .0 .b-node, (p .1 .1 .0, p .1 .1 .1))))
 
 entry-requires-6 : tie.Need-entry-requires-6
 entry-requires-6 c κs = search needs
@@ -85,13 +86,18 @@ returns c =
 
 returns-2 : tie.Need-returns-2
 unfolding formOf endsBy
-returns-2 c = rw (c .before .before .match .keys2) (c .keep2 .ensures ∙ ap (kept (c .before .before .before .before .before .args .m)) (c .before .row .ensures))
+returns-2 c =
+    rw (c .before .before .match .keys2)
+    (c .keep2 .ensures ∙ ap (kept (c .before .before .before .before .before .args .m)) (c .before .moved-states .ensures))
 
 returns-3 : tie.Need-returns-3
 unfolding formOf endsBy
 returns-3 c =
     let a = c .before .before .before .before .before .args in
-    rw (c .before .before .match .keys3) (c .keep3 .ensures ∙ ap (kept (a .m)) (c .before .row2 .ensures) ∙ ap (λ (n : ℕ). kept (a .m) (rowsIn (now (a .rows)) (a .k) (eqb (a .m) n) (a .q))) (add-one (a .f .b)))
+    rw (c .before .before .match .keys3)
+    (c .keep3 .ensures
+    ∙ ap (kept (a .m)) (c .before .moved-states2 .ensures)
+    ∙ ap (λ (n : ℕ). kept (a .m) (rowsIn (now (a .rows)) (a .k) (eqb (a .m) n) (a .q))) (add-one (a .f .b)))
 
 returns-4 : tie.Need-returns-4
 unfolding formOf endsBy
@@ -100,7 +106,8 @@ returns-4 c =
     let t = now (a .t) in
     rw (c .before .before .match .keys4)
     (c .second-ends .ensures
-    ∙ ap (λ (v : ℕ). bitOr (begun t (a .f .b) (after (a .m) false) (half false v)) (begun t (a .f .b) (after (a .m) true) (half true v))) (c .before .entry .ensures))
+    ∙ ap (λ (v : ℕ). bitOr (begun t (a .f .b) (meaningAfter (a .m) false) (half false v)) (begun t (a .f .b) (meaningAfter (a .m) true) (half true v)))
+    (c .before .entry .ensures))
 
 returns-5 : tie.Need-returns-5
 unfolding formOf endsBy
@@ -128,7 +135,8 @@ returns-10 c =
     let f = a .f in
     let n = c .match .rest in
     sym (ap (endsOf (rowsIn (now (a .rows))) (a .x) (now (a .t)) (a .k) (a .m) (a .q))
-    (no-form (f .kind) (f .a) (f .b) (n .0 .0 .0 .0 .0 .0 .0 .0 .1) (n .0 .0 .0 .0 .0 .0 .0 .1) (n .0 .0 .0 .0 .0 .0 .1) (n .0 .0 .0 .0 .0 .1) (n .0 .0 .0 .0 .1) (n .0 .0 .0 .1) (n .0 .0 .1) (n .0 .1) (n .1)))
+    (no-form (f .kind) (f .a) (f .b) (n .0 .0 .0 .0 .0 .0 .0 .0 .1) (n .0 .0 .0 .0 .0 .0 .0 .1) (n .0 .0 .0 .0 .0 .0 .1)
+    (n .0 .0 .0 .0 .0 .1) (n .0 .0 .0 .0 .1) (n .0 .0 .0 .1) (n .0 .0 .1) (n .0 .1) (n .1)))
 
 pub ends-by-spec : {M : Type 1} → statement M
 ends-by-spec =
@@ -140,10 +148,10 @@ ends-by-spec =
     cast-keep-2
     shl-keep
     keep-requires
-    row-requires
+    moved-states-requires
     keep-requires-2
-    add-row
-    row-requires-2
+    add-moved-states
+    moved-states-requires-2
     keep-requires-3
     entry-requires
     second-ends-requires

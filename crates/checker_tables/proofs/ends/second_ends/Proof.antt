@@ -7,7 +7,7 @@ use lib.Bits.{bitOr}
 use mathlib.Core.Bool.{true}
 use Rattle.checker_account.specs.Tables.{begun}
 use Rattle.checker_account.proofs.CodeLaws.{after-lt, after-false}
-use Rattle.checker_tables.proofs.EntryLaws.{lost-created}
+use Rattle.checker_tables.proofs.MeaningLaws.{lost-created}
 use Rattle.checker_tables.proofs.ends.second_ends.Statement.{statement}
 use Rattle.checker_tables.proofs.ends.second_ends.Tie as tie
 use Rattle.checker_tables.proofs.ends.second_ends.Reads as reads
@@ -22,7 +22,10 @@ begun-requires : tie.Need-begun-requires
 begun-requires c κs = search needs
 
 begun-requires-2 : tie.Need-begun-requires-2
-begun-requires-2 c κs = (c .before .before .pre .0, omega (arith, c .before .lose .ensures, lost-created (c .before .before .args .m), after-lt (c .before .before .args .m) true (c .before .before .pre .1)))
+begun-requires-2 c κs =
+    let m = c .before .before .args .m in
+    let p = c .before .before .pre in
+    (p .0, omega (arith, c .before .lose .ensures, lost-created m, after-lt m true (p .1)))
 
 returns : tie.Need-returns
 returns c =

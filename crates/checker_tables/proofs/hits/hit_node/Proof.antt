@@ -1,17 +1,15 @@
 use native.Mathlib.Omega.{arith}
 use mathlib.Core.Path.{_≡_, refl, sym, subst}
-use Prim.Native.Nat.{ℕ, _+_, _-_, _≤_, _<_, _/_, _%_}
+use Prim.Native.Nat.{ℕ, _+_, _-_, _≤_, _<_, _%_}
 use borrow.Author.Needs.{needs}
 use denote.Ref.{now}
-use lib.Dec.{ltb}
 use mathlib.Core.Bool.{Bool, true, false}
 use mathlib.Core.List.{List}
-use borrow.Author.Tests.{lt-ltb, le-ltb}
+use borrow.Author.Tests.{le-leb, lt-leb}
 use Rattle.usage.specs.Outline.{formOf}
-use Rattle.usage.specs.Tests.{some-below}
+use Rattle.usage.specs.Tests.{someBelow}
 use Rattle.automaton.proofs.MaskLaws.{some-at}
-use Rattle.checker_account.specs.Mask.{offends}
-use Rattle.checker_account.specs.Tables.{rowsIn}
+use Rattle.checker_account.specs.Tables.{half, rowsIn, meanings}
 use Rattle.checker_account.specs.Rounds.{leavesOf, hitNode}
 use Rattle.checker_account.proofs.CodeLaws.{none-more}
 use Rattle.usage.specs.declared.Node.{Node}
@@ -20,20 +18,19 @@ use Rattle.checker_tables.proofs.hits.hit_node.Tie as tie
 use Rattle.checker_tables.proofs.hits.hit_node.Reads as reads
 use Rattle.checker_tables.proofs.hits.hit_node.Lts as lts
 use Rattle.checker_tables.proofs.hits.leaves_by.Reads as leaves-by-reads
+use Rattle.automaton.specs.Mask.{offends}
 
 abbrev test : List ℕ → List ℕ → ℕ → ℕ → ℕ → ℕ → Node → ℕ → Bool
-test u rows p x l k f i = offends (leavesOf (rowsIn rows) p x u k (l + i) (formOf f))
+test u rows p x l k f i = offends (half false (leavesOf (rowsIn rows) p x u k (l + i) (formOf f)))
 
-hit : (v w : ℕ) → v ≡ w → 0 < v / 64 % 4 → offends w ≡ true
-unfolding offends
-hit v w e h = subst (λ (n : ℕ). ltb 0 (n / 64 % 4) ≡ true) e (lt-ltb 0 (v / 64 % 4) h)
+hit : (v w : ℕ) → v ≡ w → 64 ≤ v % 256 → offends (half false w) ≡ true
+hit v w e h = subst (λ (n : ℕ). offends (half false n) ≡ true) e (le-leb 64 (v % 256) h)
 
-miss : (v w : ℕ) → v ≡ w → v / 64 % 4 ≤ 0 → offends w ≡ false
-unfolding offends
-miss v w e h = subst (λ (n : ℕ). ltb 0 (n / 64 % 4) ≡ false) e (le-ltb 0 (v / 64 % 4) h)
+miss : (v w : ℕ) → v ≡ w → v % 256 < 64 → offends (half false w) ≡ false
+miss v w e h = subst (λ (n : ℕ). offends (half false n) ≡ false) e (lt-leb 64 (v % 256) h)
 
 abbrev Inv-loop : tie.InvT-loop
-Inv-loop u rows p x l k f n i₀ i = (i ≤ n) × (some-below (test u rows p x l k f) i ≡ false)
+Inv-loop u rows p x l k f n i₀ i = (i ≤ n) × (someBelow (test u rows p x l k f) i ≡ false)
 
 abbrev μ-loop : tie.MeasureT-loop
 μ-loop u rows p x l k f n i₀ i = n - i
@@ -42,7 +39,7 @@ sub-n : tie.Need-sub-n Inv-loop μ-loop
 sub-n c = search needs
 
 loop-holds : tie.Need-loop-holds Inv-loop μ-loop
-unfolding some-below
+unfolding someBelow
 loop-holds c = (search needs, refl)
 
 add-leaves-by : tie.Need-add-leaves-by Inv-loop μ-loop
@@ -58,7 +55,9 @@ returns c =
     let i = c .before .before .before .loop .i in
     let f = test (a .u .now) (a .rows .now) (a .p) (a .x) (a .l) (a .k) (a .f) in
     let v = c .before .leaves-by in
-    sym (some-at (6 - a .l) f i (c .before .before .loop-test .taken) (hit (v .result) _ (v .ensures) (c .if1 .taken)))
+    let h : i < meanings - a .l = omega (arith, c .before .before .loop-test .taken) in
+    let m : 64 ≤ v .result % 256 = omega (arith, c .if1 .taken) in
+    sym (some-at (meanings - a .l) f i h (hit (v .result) _ (v .ensures) m))
 
 add-i : tie.Need-add-i Inv-loop μ-loop
 add-i c = search needs
@@ -72,13 +71,14 @@ loop-again c =
     let i = c .before .before .before .loop .i in
     let f = test (a .u .now) (a .rows .now) (a .p) (a .x) (a .l) (a .k) (a .f) in
     let v = c .before .leaves-by in
-    (search needs, none-more f i (c .before .before .before .loop .inv .1) (miss (v .result) _ (v .ensures) (c .if1 .left)))
+    let m : v .result % 256 < 64 = omega (arith, c .if1 .left) in
+    (search needs, none-more f i (c .before .before .before .loop .inv .1) (miss (v .result) _ (v .ensures) m))
 
 returns-2 : tie.Need-returns-2 Inv-loop μ-loop
 unfolding hitNode
 returns-2 c =
     let l = c .before .loop in
-    let e : l .i ≡ 6 - c .before .before .args .l = omega arith in
+    let e : l .i ≡ meanings - c .before .before .args .l = omega arith in
     sym (rw e at (l .inv .1))
 
 pub hit-node-spec : {M : Type 1} → statement M

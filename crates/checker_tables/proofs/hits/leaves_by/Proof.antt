@@ -1,22 +1,22 @@
-use mathlib.Core.Path.{sym, ap, _∙_}
+use mathlib.Core.Path.{sym, ap, ap₂, _∙_}
+use mathlib.Core.Bool.{false}
 use Prim.Native.Nat.{ℕ}
-use lib.ListN.{getD}
-use borrow.Author.Needs.{needs}
-use denote.Ref.{now}
-use lib.Dec.{eqb}
-use mathlib.Core.Bool.{true}
 use native.Mathlib.Numerals.{add-one}
+use lib.Bits.{bitOr}
+use lib.Dec.{eqb}
+use denote.Ref.{now}
 use Rattle.usage.specs.Outline.{formOf}
-use Rattle.checker_account.specs.Mask.{over}
-use Rattle.checker_account.specs.Tables.{rowsIn, place, leaves}
+use Rattle.checker_account.specs.Tables.{over, ownCreated, rowsIn, leaves}
 use Rattle.checker_account.proofs.CodeLaws.{no-step}
+use borrow.Author.Needs.{needs}
 use Rattle.checker_tables.proofs.hits.leaves_by.Statement.{statement}
 use Rattle.checker_tables.proofs.hits.leaves_by.Tie as tie
 use Rattle.checker_tables.proofs.hits.leaves_by.Reads as reads
 use Rattle.checker_tables.proofs.hits.leaves_by.Lts as lts
-use Rattle.checker_tables.proofs.hits.made.Reads as made-reads
-use Rattle.checker_tables.proofs.hits.moved.Reads as moved-reads
+use Rattle.checker_tables.proofs.arrivals.come_to.Reads as come-to-reads
 use Rattle.checker_tables.proofs.hits.opened.Reads as opened-reads
+use Rattle.checker_tables.proofs.rows.moved_set.Reads as moved-set-reads
+use Rattle.checker_tables.proofs.rows.own_created.Reads as own-created-reads
 
 cast-a : tie.Need-cast-a
 cast-a c = search needs
@@ -24,34 +24,50 @@ cast-a c = search needs
 cast-b : tie.Need-cast-b
 cast-b c = search needs
 
-moved-requires : tie.Need-moved-requires
-moved-requires c κs = search needs
+come-to-requires : tie.Need-come-to-requires
+come-to-requires c κs = search needs
 
-add-moved : tie.Need-add-moved
-add-moved c = search needs
+moved-set-requires : tie.Need-moved-set-requires
+moved-set-requires c κs = search needs
 
-moved-requires-2 : tie.Need-moved-requires-2
-moved-requires-2 c κs = search needs
+add-moved-set : tie.Need-add-moved-set
+add-moved-set c = search needs
 
-made-requires : tie.Need-made-requires
-made-requires c κs = search needs
+moved-set-requires-2 : tie.Need-moved-set-requires-2
+moved-set-requires-2 c κs = search needs
+
+moved-set-requires-3 : tie.Need-moved-set-requires-3
+moved-set-requires-3 c κs = search needs
+
+own-created-requires : tie.Need-own-created-requires
+own-created-requires c κs = search needs
 
 opened-requires : tie.Need-opened-requires
 opened-requires c κs = search needs
 
 returns : tie.Need-returns
 unfolding formOf leaves
-returns c = rw (c .before .match .keys1) (c .moved .ensures)
+returns c =
+    let a = c .before .before .before .before .before .args in
+    rw (c .before .match .keys1)
+    (c .moved-set .ensures ∙ ap (over (rowsIn (now (a .rows)) (a .k) (eqb (a .f .b) (a .x)))) (c .before .before .come-to .ensures))
 
 returns-2 : tie.Need-returns-2
 unfolding formOf leaves
 returns-2 c =
-    let a = c .before .before .before .before .args in
-    rw (c .before .match .keys2) (c .moved2 .ensures ∙ ap (λ (n : ℕ). over (rowsIn (now (a .rows)) (a .k) (eqb (a .m) n)) (getD (now (a .u)) (place (a .k) true (a .m)) 0)) (add-one (a .f .b)))
+    let a = c .before .before .before .before .before .args in
+    rw (c .before .match .keys2)
+    (c .moved-set2 .ensures
+    ∙ ap₂ (λ (n v : ℕ). over (rowsIn (now (a .rows)) (a .k) (eqb (a .m) n)) v) (add-one (a .f .b)) (c .before .before .come-to .ensures))
 
 returns-3 : tie.Need-returns-3
 unfolding formOf leaves
-returns-3 c = rw (c .before .match .keys3) (c .made .ensures)
+returns-3 c =
+    let a = c .before .before .before .before .before .before .args in
+    let e = c .before .before .before .come-to .ensures in
+    rw (c .before .before .match .keys3)
+    (ap₂ (λ (x y : ℕ). bitOr x y) (c .before .moved-set3 .ensures ∙ ap (over (rowsIn (now (a .rows)) (a .k) false)) e)
+    (c .own-created .ensures ∙ ap (ownCreated (rowsIn (now (a .rows))) (a .k) (a .m)) e))
 
 returns-4 : tie.Need-returns-4
 unfolding formOf leaves
@@ -59,9 +75,11 @@ returns-4 c = rw (c .before .match .keys4) (c .opened .ensures)
 
 returns-5 : tie.Need-returns-5
 returns-5 c =
-    let a = c .before .before .before .args in
+    let a = c .before .before .before .before .args in
     let n = c .match .rest in
-    sym (no-step (rowsIn (now (a .rows))) (a .p) (a .x) (now (a .u)) (a .k) (a .m) (a .f .kind) (a .f .a) (a .f .b) (n .0 .0 .0 .1) (n .0 .0 .1) (n .0 .1) (n .1))
+    sym
+    (no-step (rowsIn (now (a .rows))) (a .p) (a .x) (now (a .u)) (a .k) (a .m) (a .f .kind) (a .f .a) (a .f .b) (n .0 .0 .0 .1) (n .0 .0 .1)
+    (n .0 .1) (n .1))
 
 pub leaves-by-spec : {M : Type 1} → statement M
 leaves-by-spec =
@@ -69,10 +87,12 @@ leaves-by-spec =
     (tie.spec
     cast-a
     cast-b
-    moved-requires
-    add-moved
-    moved-requires-2
-    made-requires
+    come-to-requires
+    moved-set-requires
+    add-moved-set
+    moved-set-requires-2
+    moved-set-requires-3
+    own-created-requires
     opened-requires
     returns
     returns-2

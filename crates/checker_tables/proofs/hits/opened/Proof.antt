@@ -1,54 +1,24 @@
+use mathlib.Core.Path.{ap₂}
+use Prim.Native.Nat.{ℕ}
+use lib.Bits.{bitOr}
 use borrow.Author.Needs.{needs}
 use Rattle.checker_tables.proofs.hits.opened.Statement.{statement}
 use Rattle.checker_tables.proofs.hits.opened.Tie as tie
 use Rattle.checker_tables.proofs.hits.opened.Reads as reads
 use Rattle.checker_tables.proofs.hits.opened.Lts as lts
+use Rattle.checker_tables.proofs.arrivals.come_to.Reads as come-to-reads
 
-mul-result : tie.Need-mul-result
-mul-result c = search needs
+come-to-requires : tie.Need-come-to-requires
+come-to-requires c κs = search needs
 
-add-result : tie.Need-add-result
-add-result c = search needs
-
-mul-result-2 : tie.Need-mul-result-2
-mul-result-2 c = search needs
-
-element-copy-out-result : tie.Need-element-copy-out-result
-element-copy-out-result c = search needs
-
-mul-result-3 : tie.Need-mul-result-3
-mul-result-3 c = search needs
-
-add-result-2 : tie.Need-add-result-2
-add-result-2 c = search needs
-
-add-result-3 : tie.Need-add-result-3
-add-result-3 c = search needs
-
-mul-result-4 : tie.Need-mul-result-4
-mul-result-4 c = search needs
-
-element-copy-out-result-2 : tie.Need-element-copy-out-result-2
-element-copy-out-result-2 c = search needs
+come-to-requires-2 : tie.Need-come-to-requires-2
+come-to-requires-2 c κs = search needs
 
 returns : tie.Need-returns
-returns c = rw (c .before .before .if1 .taken)
+returns c = rw (c .before .before .if1 .taken) (ap₂ (λ (x y : ℕ). bitOr x y) (c .before .come-to .ensures) (c .come-to2 .ensures))
 
 returns-2 : tie.Need-returns-2
-returns-2 c = search needs
+returns-2 c = rw (c .if1 .left)
 
 pub opened-spec : {M : Type 1} → statement M
-opened-spec =
-    tie.close
-    (tie.spec
-    mul-result
-    add-result
-    mul-result-2
-    element-copy-out-result
-    mul-result-3
-    add-result-2
-    add-result-3
-    mul-result-4
-    element-copy-out-result-2
-    returns
-    returns-2)
+opened-spec = tie.close (tie.spec come-to-requires come-to-requires-2 returns returns-2)

@@ -1,19 +1,19 @@
 use native.Mathlib.Omega.{arith}
 use mathlib.Core.Path.{_≡_, refl, sym, ap, _∙_}
-use Prim.Native.Nat.{ℕ, _+_, _-_, _≤_, _/_}
+use Prim.Native.Nat.{ℕ, _-_, _≤_, _/_}
 use lib.ListN.{length, replicate}
 use borrow.Author.Needs.{needs}
 use denote.Ref.{now}
 use mathlib.Core.List.{List}
-use native.Mathlib.Numerals.{add-one}
+use Rattle.usage.specs.Limits.{mostNodes, nodeFields}
 use Rattle.usage.specs.declared.Node.{Node}
 use Rattle.usage.specs.Outline.{formOf}
 use Rattle.usage.specs.Tables.{edgesOf}
 use Rattle.automaton.specs.Move.{rowsOf}
 use Rattle.checker_account.specs.Rounds.{repeat, formsIn}
 use Rattle.checker_account.specs.RowTable.{nodeRows, fillRows}
+use Rattle.checker_account.proofs.RoundLaws.{repeat-more}
 use Rattle.checker_account.proofs.RowTableLaws.{filled-length}
-use Rattle.checker_tables.proofs.EntryLaws.{node-in}
 use Rattle.checker_tables.proofs.WholeLaws.{whole-in, no-policy, no-room}
 use Rattle.checker_tables.proofs.rows.fill.Statement.{statement}
 use Rattle.checker_tables.proofs.rows.fill.Tie as tie
@@ -21,16 +21,13 @@ use Rattle.checker_tables.proofs.rows.fill.Reads as reads
 use Rattle.checker_tables.proofs.rows.fill.Lts as lts
 use Rattle.checker_tables.proofs.node.Reads as node-reads
 use Rattle.checker_tables.proofs.rows.of_node.Reads as of-node-reads
+use Rattle.checker_account.specs.Tables.{places}
 
 abbrev steps : List ℕ → List ℕ → ℕ → ℕ → List ℕ → List ℕ
 steps edges nodes p k = nodeRows (rowsOf (edgesOf edges)) p k (formsIn nodes k)
 
-more : (edges nodes : List ℕ) (p k : ℕ) (r t u : List ℕ) → t ≡ repeat (steps edges nodes p) k r → u ≡ steps edges nodes p k t → u ≡ repeat (steps edges nodes p) (k + 1) r
-unfolding repeat
-more edges nodes p k r t u e g = rw (add-one k) (g ∙ ap (steps edges nodes p k) e)
-
 abbrev Inv-loop : tie.InvT-loop
-Inv-loop edges nodes p rows₀ n k₀ rows k = (k ≤ n) × (rows ≡ repeat (steps edges nodes p) k (replicate 3072 0))
+Inv-loop edges nodes p rows₀ n k₀ rows k = (k ≤ n) × (rows ≡ repeat (steps edges nodes p) k (replicate places 0))
 
 abbrev μ-loop : tie.MeasureT-loop
 μ-loop edges nodes p rows₀ n k₀ rows k = n - k
@@ -57,8 +54,9 @@ of-node-requires c κs =
     let a = c .before .before .before .before .before .before .before .before .before .args in
     let l = c .before .before .before .loop in
     let h = c .before .before .loop-test .taken in
-    let few : length (a .nodes .now) / 3 ≤ 64 = c .before .before .before .before .if2 .left in
-    (ap length (l .inv .1) ∙ filled-length (rowsOf (edgesOf (a .edges .now))) (a .p) (formsIn (a .nodes .now)) (replicate 3072 0) refl (l .k) (omega arith), (omega arith, c .before .before .before .before .before .if1 .left))
+    let few : length (a .nodes .now) / nodeFields ≤ mostNodes = c .before .before .before .before .if2 .left in
+    let len = filled-length (rowsOf (edgesOf (a .edges .now))) (a .p) (formsIn (a .nodes .now)) (replicate places 0) refl (l .k) (omega arith) in
+    (ap length (l .inv .1) ∙ len, (omega arith, c .before .before .before .before .before .if1 .left))
 
 add-k : tie.Need-add-k Inv-loop μ-loop
 add-k c = search needs
@@ -71,16 +69,23 @@ loop-again c =
     let a = c .before .before .before .before .before .before .before .before .before .before .args in
     let l = c .before .before .before .before .loop in
     let h = c .before .before .before .loop-test .taken in
-    let e = c .of-node .ensures ∙ ap (λ (d : Node). nodeRows (rowsOf (edgesOf (a .edges .now))) (a .p) (l .k) (formOf d) (l .rows)) (c .before .before .node .ensures ∙ node-in (a .nodes .now) (l .k) h) in
-    (search needs, more (a .edges .now) (a .nodes .now) (a .p) (l .k) (replicate 3072 0) (l .rows) (c .of-node .last .0) (l .inv .1) e)
+    let e =
+    c .of-node .ensures
+    ∙ ap (λ (d : Node). nodeRows (rowsOf (edgesOf (a .edges .now))) (a .p) (l .k) (formOf d) (l .rows))
+    (c .before .before .node .ensures) in
+    let f = steps (a .edges .now) (a .nodes .now) (a .p) in
+    (search needs, repeat-more f (l .k) (replicate places 0) (l .rows) (c .of-node .last .0) (l .inv .1) e)
 
 returns-3 : tie.Need-returns-3 Inv-loop μ-loop
 unfolding fillRows
 returns-3 c =
     let a = c .before .before .before .before .before .before .before .args in
     let l = c .before .loop in
-    let e : l .k ≡ length (a .nodes .now) / 3 = omega arith in
-    (rw e at (l .inv .1)) ∙ sym (whole-in (rowsOf (edgesOf (now (a .edges)))) (a .p) (now (a .nodes)) (c .before .before .before .if1 .left) (c .before .before .if2 .left))
+    let e : l .k ≡ length (a .nodes .now) / nodeFields = omega arith in
+    (rw e at (l .inv .1))
+    ∙ sym
+    (whole-in (rowsOf (edgesOf (now (a .edges)))) (a .p) (now (a .nodes)) (c .before .before .before .if1 .left)
+    (c .before .before .if2 .left))
 
 pub fill-spec : {M : Type 1} → statement M
 fill-spec =

@@ -5,7 +5,7 @@ use Rattle.usage.specs.Outline.{formOf}
 use Rattle.usage.specs.Tables.{edgesOf}
 use Rattle.automaton.specs.Move.{rowsOf}
 use Rattle.checker_account.specs.RowTable.{nodeRows}
-use Rattle.checker_account.proofs.RowTableLaws.{no-rows}
+use Rattle.checker_account.proofs.CodeLaws.{no-rows}
 use Rattle.checker_tables.proofs.rows.of_node.Statement.{statement}
 use Rattle.checker_tables.proofs.rows.of_node.Tie as tie
 use Rattle.checker_tables.proofs.rows.of_node.Reads as reads
@@ -43,7 +43,8 @@ returns-4 : tie.Need-returns-4
 returns-4 c =
     let a = c .before .before .before .before .args in
     let n = c .match .rest in
-    sym (no-rows (rowsOf (edgesOf (now (a .edges)))) (a .p) (a .k) (now (a .rows)) (a .f .kind) (a .f .a) (a .f .b) (n .0 .0 .1) (n .0 .1) (n .1))
+    sym
+    (no-rows (rowsOf (edgesOf (now (a .edges)))) (a .p) (a .k) (now (a .rows)) (a .f .kind) (a .f .a) (a .f .b) (n .0 .0 .1) (n .0 .1) (n .1))
 
 pub of-node-spec : {M : Type 1} → statement M
 of-node-spec =

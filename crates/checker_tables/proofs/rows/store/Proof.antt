@@ -1,25 +1,21 @@
-use Prim.Native.Nat.{_*_, ℕ, _+_, _-_, _≤_}
-use mathlib.Core.List.{List}
-use native.Mathlib.Numerals.{add-one}
+use Rattle.usage.specs.Limits.{states}
+use Prim.Native.Nat.{_*_, _+_, _-_, _≤_}
 use Rattle.checker_account.specs.Rounds.{repeat}
-use Rattle.checker_account.specs.RowTable.{storeRow, stored}
+use Rattle.checker_account.proofs.RoundLaws.{repeat-more}
+use Rattle.checker_account.specs.RowTable.{storeRow, rowsStored}
 use native.Mathlib.Omega.{arith}
-use mathlib.Core.Path.{_≡_, refl, ap}
+use mathlib.Core.Path.{_≡_, refl}
 use borrow.Author.Needs.{needs}
 use Rattle.checker_tables.proofs.rows.store.Statement.{statement}
 use Rattle.checker_tables.proofs.rows.store.Tie as tie
 use Rattle.checker_tables.proofs.rows.store.Reads as reads
 use Rattle.checker_tables.proofs.rows.store.Lts as lts
 
-more : (k p : ℕ) (own other r t : List ℕ) (q : ℕ) → t ≡ repeat (storeRow k p own other) q r → storeRow k p own other q t ≡ repeat (storeRow k p own other) (q + 1) r
-unfolding repeat
-more k p own other r t q e = rw (add-one q) (ap (storeRow k p own other q) e)
-
 abbrev Inv-loop : tie.InvT-loop
-Inv-loop rows₀ k p own other q₀ rows q = (q ≤ 8) × (rows ≡ repeat (storeRow k p own other) q rows₀)
+Inv-loop rows₀ k p own other q₀ rows q = (q ≤ states) × (rows ≡ repeat (storeRow k p own other) q rows₀)
 
 abbrev μ-loop : tie.MeasureT-loop
-μ-loop rows₀ k p own other q₀ rows q = 8 - q
+μ-loop rows₀ k p own other q₀ rows q = states - q
 
 loop-holds : tie.Need-loop-holds Inv-loop μ-loop
 unfolding repeat
@@ -35,7 +31,8 @@ element-copy-out-rows : tie.Need-element-copy-out-rows Inv-loop μ-loop
 element-copy-out-rows c = search needs
 
 cast-rows : tie.Need-cast-rows Inv-loop μ-loop
-cast-rows c = omega (arith, c .before .before .before .pre .1 .1 .1 .1 (c .before .before .before .args .p * 8 + c .before .before .loop .q))
+cast-rows c =
+    omega (arith, c .before .before .before .pre .1 .1 .1 .1 (c .before .before .before .args .p * states + c .before .before .loop .q))
 
 mul-rows-2 : tie.Need-mul-rows-2 Inv-loop μ-loop
 mul-rows-2 c = search needs
@@ -59,7 +56,9 @@ element-copy-out-rows-2 : tie.Need-element-copy-out-rows-2 Inv-loop μ-loop
 element-copy-out-rows-2 c = search needs
 
 cast-rows-2 : tie.Need-cast-rows-2 Inv-loop μ-loop
-cast-rows-2 c = omega (arith, c .before .before .before .before .pre .1 .1 .1 .0 (c .before .before .before .before .args .p * 8 + c .before .before .before .loop .q))
+cast-rows-2 c =
+    omega
+    (arith, c .before .before .before .before .pre .1 .1 .1 .0 (c .before .before .before .before .args .p * states + c .before .before .before .loop .q))
 
 mul-rows-5 : tie.Need-mul-rows-5 Inv-loop μ-loop
 mul-rows-5 c = search needs
@@ -86,13 +85,14 @@ loop-again : tie.Need-loop-again Inv-loop μ-loop
 loop-again c =
     let a = c .before .before .before .before .args in
     let l = c .before .before .before .loop in
-    (search needs, more (a .k) (a .p) (a .own .now) (a .other .now) (a .rows .now) (l .rows) (l .q) (l .inv .1))
+    let f = storeRow (a .k) (a .p) (a .own .now) (a .other .now) in
+    (search needs, repeat-more f (l .q) (a .rows .now) (l .rows) (f (l .q) (l .rows)) (l .inv .1) refl)
 
 returns : tie.Need-returns Inv-loop μ-loop
-unfolding stored
+unfolding rowsStored
 returns c =
     let l = c .before .loop in
-    let e : l .q ≡ 8 = omega arith in
+    let e : l .q ≡ states = omega arith in
     rw e at (l .inv .1)
 
 pub store-spec : {M : Type 1} → statement M

@@ -11,7 +11,8 @@ use Rattle.monitor_sets.proofs.created.later.Statement.{statement}
 use Rattle.monitor_sets.proofs.created.later.Tie as tie
 
 abbrev Inv-loop : tie.InvT-loop
-Inv-loop created k count x found₀ i₀ found i = (k ≤ i) × ((i ≤ count) × ((found || listed x (drop i (take count created))) ≡ listed x (drop k (take count created))))
+Inv-loop created k count x found₀ i₀ found i =
+    (k ≤ i) × ((i ≤ count) × ((found || listed x (drop i (take count created))) ≡ listed x (drop k (take count created))))
 
 abbrev μ-loop : tie.MeasureT-loop
 μ-loop created k count x found₀ i₀ found i = count - i
@@ -39,8 +40,12 @@ loop-again c =
       (
         search needs,
         by-cases (c .if1 .came)
-            (λ w. rw (w .1) (sym (or-right (t .found) _ (listed-here (a .created .now) (a .count) (omega arith) (a .x) (t .i) (omega arith) (w .0 .taken))) ∙ t .inv .1 .1))
-            (λ w. rw (w .1) (ap (λ b. t .found || b) (sym (listed-more (a .created .now) (a .count) (omega arith) (a .x) (t .i) (omega arith) (w .0 .left))) ∙ t .inv .1 .1)),
+            (λ w. rw (w .1)
+            (sym (or-right (t .found) _ (listed-here (a .created .now) (a .count) (omega arith) (a .x) (t .i) (omega arith) (w .0 .taken)))
+            ∙ t .inv .1 .1))
+            (λ w. rw (w .1)
+            (ap (λ b. t .found || b) (sym (listed-more (a .created .now) (a .count) (omega arith) (a .x) (t .i) (omega arith) (w .0 .left)))
+            ∙ t .inv .1 .1)),
       ),
     )
 

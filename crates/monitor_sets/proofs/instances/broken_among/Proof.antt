@@ -3,6 +3,7 @@ use mathlib.Core.Path.{_≡_, refl}
 use native.Mathlib.Omega.{arith}
 use borrow.Author.Needs.{needs}
 use lib.ListN.{getD}
+use Rattle.usage.specs.Limits.{policies}
 use Rattle.automaton.specs.Mask.{union}
 use Rattle.monitor_sets.specs.Code.{brokenBit, brokenIn}
 use Rattle.monitor_sets.proofs.SetLaws.{union-more}
@@ -10,10 +11,10 @@ use Rattle.monitor_sets.proofs.instances.broken_among.Statement.{statem
 use Rattle.monitor_sets.proofs.instances.broken_among.Tie as tie
 
 abbrev Inv-loop : tie.InvT-loop
-Inv-loop sets unclosed n bad₀ p₀ bad p = (p ≤ 8) × (bad ≡ union p (λ q. brokenBit sets n (getD unclosed q 0) q))
+Inv-loop sets unclosed n bad₀ p₀ bad p = (p ≤ policies) × (bad ≡ union p (λ q. brokenBit sets n (getD unclosed q 0) q))
 
 abbrev μ-loop : tie.MeasureT-loop
-μ-loop sets unclosed n bad₀ p₀ bad p = 8 - p
+μ-loop sets unclosed n bad₀ p₀ bad p = policies - p
 
 loop-holds : tie.Need-loop-holds Inv-loop μ-loop
 unfolding union
@@ -34,13 +35,16 @@ loop-less c = search needs
 loop-again : tie.Need-loop-again Inv-loop μ-loop
 loop-again c =
     let a = c .before .before .before .before .args in
-    let t = c .before .before .before .loop in
-    (search needs, rw (t .inv .1, c .broken-bit .ensures) (union-more (t .p) (λ q. brokenBit (a .sets .now) (a .n) (getD (a .unclosed .now) q 0) q)))
+    let t = c .before .before .before .loop in (
+      search needs,
+      rw (t .inv .1, c .broken-bit .ensures)
+          (union-more (t .p) (λ q. brokenBit (a .sets .now) (a .n) (getD (a .unclosed .now) q 0) q)),
+    )
 
 returns : tie.Need-returns Inv-loop μ-loop
 unfolding brokenIn
 returns c =
-    let e : c .before .loop .p ≡ 8 = omega arith in
+    let e : c .before .loop .p ≡ policies = omega arith in
     rw e at (c .before .loop .inv .1)
 
 pub broken-among-spec : {M : Type 1} → statement M

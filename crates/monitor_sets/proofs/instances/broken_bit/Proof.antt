@@ -1,23 +1,25 @@
 use mathlib.Core.Path.{sym, _∙_}
 use native.Mathlib.Omega.{arith}
 use borrow.Author.Needs.{needs}
-use Rattle.monitor_sets.proofs.SetLaws.{pos, bit-closed, bit-respected, bit-broken, one-shl}
+use Rattle.automaton.proofs.MaskLaws.{bit-shifted}
+use Rattle.monitor_sets.proofs.SetLaws.{pos, bit-closed, bit-respected, bit-broken}
 use Rattle.monitor_sets.proofs.instances.broken_bit.Statement.{statement}
 use Rattle.monitor_sets.proofs.instances.broken_bit.Tie as tie
 
 returns : tie.Need-returns
 returns c = let a = c .before .args in sym (bit-closed (a .sets .now) (a .n) (a .openings) (a .p) (c .if1 .taken))
 
-mul-gather : tie.Need-mul-gather
-mul-gather c = search needs
+mul-union-from : tie.Need-mul-union-from
+mul-union-from c = search needs
 
-gather-requires : tie.Need-gather-requires
-gather-requires c κs = search needs
+union-from-requires : tie.Need-union-from-requires
+union-from-requires c κs = search needs
 
 returns-2 : tie.Need-returns-2
 returns-2 c =
     let a = c .before .before .before .args in
-    sym (bit-respected (a .sets .now) (a .n) (a .openings) (a .p) _ (c .before .gather .ensures) (pos _ (c .before .before .if1 .left)) (c .if2 .taken))
+    sym (bit-respected (a .sets .now) (a .n) (a .openings) (a .p) _ (c .before .union-from .ensures) (pos _ (c .before .before .if1 .left))
+    (c .if2 .taken))
 
 cast-result : tie.Need-cast-result
 cast-result c = search needs
@@ -31,15 +33,17 @@ shl-result c = search needs
 returns-3 : tie.Need-returns-3
 returns-3 c =
     let a = c .before .before .before .args in
-    one-shl (a .p) (omega arith) ∙ sym (bit-broken (a .sets .now) (a .n) (a .openings) (a .p) _ (c .before .gather .ensures) (pos _ (c .before .before .if1 .left)) (c .if2 .left))
+    bit-shifted (a .p) (omega arith)
+    ∙ sym (bit-broken (a .sets .now) (a .n) (a .openings) (a .p) _ (c .before .union-from .ensures) (pos _ (c .before .before .if1 .left))
+    (c .if2 .left))
 
 pub broken-bit-spec : {M : Type 1} → statement M
 broken-bit-spec =
     tie.close
     (tie.spec
     returns
-    mul-gather
-    gather-requires
+    mul-union-from
+    union-from-requires
     returns-2
     cast-result
     cast-result-2

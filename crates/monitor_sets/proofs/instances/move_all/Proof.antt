@@ -3,16 +3,17 @@ use mathlib.Core.Path.{_≡_, ap, _∙_}
 use native.Mathlib.Omega.{arith}
 use borrow.Author.Needs.{needs}
 use lib.ListN.{length}
+use Rattle.usage.specs.Limits.{policies}
 use Rattle.monitor_sets.specs.Code.{allMoved}
 use Rattle.monitor_sets.proofs.MovedLaws.{all-none, all-length, all-more}
 use Rattle.monitor_sets.proofs.instances.move_all.Statement.{statement}
 use Rattle.monitor_sets.proofs.instances.move_all.Tie as tie
 
 abbrev Inv-loop : tie.InvT-loop
-Inv-loop sets₀ n at own other p₀ sets p = (p ≤ 8) × (sets ≡ allMoved own other n at p sets₀)
+Inv-loop sets₀ n at own other p₀ sets p = (p ≤ policies) × (sets ≡ allMoved own other n at p sets₀)
 
 abbrev μ-loop : tie.MeasureT-loop
-μ-loop sets₀ n at own other p₀ sets p = 8 - p
+μ-loop sets₀ n at own other p₀ sets p = policies - p
 
 loop-holds : tie.Need-loop-holds Inv-loop μ-loop
 loop-holds c = let a = c .args in (search needs, all-none (a .own .now) (a .other .now) (a .n) (a .at) (a .sets .now) (c .pre .0))
@@ -20,8 +21,11 @@ loop-holds c = let a = c .args in (search needs, all-none (a .own .now) (a .othe
 move-policy-requires : tie.Need-move-policy-requires Inv-loop μ-loop
 move-policy-requires c κs =
     let a = c .before .before .before .args in
-    let t = c .before .before .loop in
-    (ap length (t .inv .1) ∙ all-length (a .own .now) (a .other .now) (a .n) (a .at) (a .sets .now) (t .p), (search needs, (search needs, search needs)))
+    let t = c .before .before .loop in (
+      ap length (t .inv .1)
+          ∙ all-length (a .own .now) (a .other .now) (a .n) (a .at) (a .sets .now) (t .p),
+      (search needs, (search needs, search needs)),
+    )
 
 add-p : tie.Need-add-p Inv-loop μ-loop
 add-p c = search needs
@@ -37,7 +41,7 @@ loop-again c =
 
 returns : tie.Need-returns Inv-loop μ-loop
 returns c =
-    let e : c .before .loop .p ≡ 8 = omega arith in
+    let e : c .before .loop .p ≡ policies = omega arith in
     rw e at (c .before .loop .inv .1)
 
 pub move-all-spec : {M : Type 1} → statement M

@@ -2,6 +2,7 @@ use Prim.Native.Nat.{_*_}
 use mathlib.Core.Path.{_∙_}
 use native.Mathlib.Omega.{arith}
 use borrow.Author.Needs.{needs}
+use Rattle.usage.specs.Limits.{states}
 use Rattle.automaton.proofs.RowLaws.{moveBy-held}
 use Rattle.monitor_sets.proofs.MovedLaws.{moved-policy, policy-moved}
 use Rattle.monitor_sets.proofs.instances.move_policy.Statement.{statement}
@@ -81,7 +82,8 @@ returns c =
     let a = c .before .before .before .before .before .before .before .before .before .before .before .before .args in
     let m = c .before .before .before .before .before .before .before .before .before .before .move-set in
     rw (c .move-row .ensures)
-    (policy-moved (a .own .now) (a .other .now) (a .n) (a .at) (a .sets .now) (a .p) _ (m .result) (omega arith) (omega arith) (omega arith) (moveBy-held (a .other .now) (a .p * 8))
+    (policy-moved (a .own .now) (a .other .now) (a .n) (a .at) (a .sets .now) (a .p) _ (m .result) (omega arith) (omega arith) (omega arith)
+    (moveBy-held (a .other .now) (a .p * states))
     (m .ensures ∙ moved-policy (a .own .now) (a .p) _ (omega arith)))
 
 pub move-policy-spec : {M : Type 1} → statement M

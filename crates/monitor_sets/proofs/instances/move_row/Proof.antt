@@ -3,6 +3,7 @@ use mathlib.Core.List.{List, [], _∷_}
 use mathlib.Core.Path.{_≡_}
 use native.Mathlib.Omega.{arith}
 use borrow.Author.Needs.{needs}
+use Rattle.monitor_sets.specs.Instances.{setPlaces}
 use Rattle.monitor_sets.specs.Code.{rowMoved}
 use Rattle.monitor_sets.proofs.MovedLaws.{row-none, row-next, row-more}
 use Rattle.monitor_sets.proofs.instances.move_row.Statement.{statement}
@@ -17,14 +18,14 @@ abbrev μ-loop : tie.MeasureT-loop
 loop-holds : tie.Need-loop-holds Inv-loop μ-loop
 loop-holds c = (search needs, row-none _ (c .args .k) (c .args .sets .now) (c .pre .0))
 
-add-image : tie.Need-add-image Inv-loop μ-loop
-add-image c = search needs
+add-move-by-rows : tie.Need-add-move-by-rows Inv-loop μ-loop
+add-move-by-rows c = search needs
 
-element-copy-out-image : tie.Need-element-copy-out-image Inv-loop μ-loop
-element-copy-out-image c = search needs
+element-copy-out-move-by-rows : tie.Need-element-copy-out-move-by-rows Inv-loop μ-loop
+element-copy-out-move-by-rows c = search needs
 
-image-requires : tie.Need-image-requires Inv-loop μ-loop
-image-requires c κs = search needs
+move-by-rows-requires : tie.Need-move-by-rows-requires Inv-loop μ-loop
+move-by-rows-requires c κs = search needs
 
 add-sets : tie.Need-add-sets Inv-loop μ-loop
 add-sets c = search needs
@@ -43,8 +44,11 @@ loop-again c =
     let a = c .before .before .before .before .args in
     let t = c .before .before .before .loop in
     let rows : List ℕ = a .a ∷ a .b ∷ a .c ∷ a .d ∷ a .e ∷ a .f ∷ a .g ∷ a .h ∷ [] in
-    let l : a .k + t .i < 648 = omega arith in
-    (search needs, rw (c .image .ensures, t .inv .1, row-next rows (a .k) (a .sets .now) (t .i) l) (row-more rows (a .k) (a .sets .now) (t .i) l))
+    let l : a .k + t .i < setPlaces = omega arith in (
+      search needs,
+      rw (c .move-by-rows .ensures, t .inv .1, row-next rows (a .k) (a .sets .now) (t .i) l)
+          (row-more rows (a .k) (a .sets .now) (t .i) l),
+    )
 
 returns : tie.Need-returns Inv-loop μ-loop
 returns c =
@@ -59,9 +63,9 @@ move-row-spec =
     Inv-loop
     μ-loop
     loop-holds
-    add-image
-    element-copy-out-image
-    image-requires
+    add-move-by-rows
+    element-copy-out-move-by-rows
+    move-by-rows-requires
     add-sets
     element-write-sets
     add-i

@@ -28,8 +28,11 @@ move-all-requires c κs =
     let e : j .if1 .sets ≡ begun (eqb (a .action) 0) (a .sets .now) (a .at) =
     by-cases (j .if1 .came)
     (λ w. w .3 ∙ w .2 .ensures ∙ sym (ap (λ (b : Bool). begun b (a .sets .now) (a .at)) (eq-eqb _ _ (w .0 .taken))))
-    (λ w. w .1 ∙ sym (ap (λ (b : Bool). begun b (a .sets .now) (a .at)) (ne-eqb _ _ (w .0 .left)))) in
-    (ap (λ (l : List ℕ). length l) e ∙ begun-length (eqb (a .action) 0) (a .sets .now) (a .at) (j .before .before .pre .0), (search needs, search needs))
+    (λ w. w .1 ∙ sym (ap (λ (b : Bool). begun b (a .sets .now) (a .at)) (ne-eqb _ _ (w .0 .left)))) in (
+      ap (λ (l : List ℕ). length l) e
+          ∙ begun-length (eqb (a .action) 0) (a .sets .now) (a .at) (j .before .before .pre .0),
+      (search needs, search needs),
+    )
 
 returns : tie.Need-returns
 unfolding eventSets
@@ -41,7 +44,8 @@ returns c =
     by-cases (j .if1 .came)
     (λ w. w .3 ∙ w .2 .ensures ∙ sym (ap (λ (b : Bool). begun b (a .sets .now) (a .at)) (eq-eqb _ _ (w .0 .taken))))
     (λ w. w .1 ∙ sym (ap (λ (b : Bool). begun b (a .sets .now) (a .at)) (ne-eqb _ _ (w .0 .left)))) in
-    c .move-all .ensures ∙ rw (rows .ensures .0, rows .ensures .1, e) (all-moved (edgesOf (a .edges .now)) (a .action) (a .r) (a .n) (a .at) _)
+    c .move-all .ensures
+    ∙ rw (rows .ensures .0, rows .ensures .1, e) (all-moved (edgesOf (a .edges .now)) (a .action) (a .r) (a .n) (a .at) _)
 
 pub move-sets-spec : {M : Type 1} → statement M
 move-sets-spec = tie.close (tie.spec copy-unseen-requires rows-requires move-all-requires returns)

@@ -20,16 +20,23 @@ returns c =
     let a = c .before .before .before .before .before .before .before .args in
     let moved = c .before .before .before .move-sets in
     let new = eventSets (edgesOf (a .edges .now)) (a .action) (a .r) (a .at) (a .n) (a .sets .now) in
-    let bad = c .before .broken-among in
-    (bad .ensures ∙ ap (λ (l : List ℕ). brokenIn l (a .n) (a .unclosed .now)) (moved .ensures), sym (ap (λ (b : Bool). cond b new (a .sets .now)) (ne-eqb (bad .result) 0 (c .if1 .taken))))
+    let bad = c .before .broken-among in (
+      bad .ensures
+          ∙ ap (λ (l : List ℕ). brokenIn l (a .n) (a .unclosed .now)) (moved .ensures),
+      sym
+          (ap (λ (b : Bool). cond b new (a .sets .now)) (ne-eqb (bad .result) 0 (c .if1 .taken))),
+    )
 
 returns-2 : tie.Need-returns-2
 returns-2 c =
     let a = c .before .before .before .before .before .before .before .args in
     let moved = c .before .before .before .move-sets in
     let new = eventSets (edgesOf (a .edges .now)) (a .action) (a .r) (a .at) (a .n) (a .sets .now) in
-    let bad = c .before .broken-among in
-    (bad .ensures ∙ ap (λ (l : List ℕ). brokenIn l (a .n) (a .unclosed .now)) (moved .ensures), moved .ensures ∙ sym (ap (λ (b : Bool). cond b new (a .sets .now)) (eq-eqb (bad .result) 0 (c .if1 .left))))
+    let bad = c .before .broken-among in (
+      bad .ensures ∙ ap (λ (l : List ℕ). brokenIn l (a .n) (a .unclosed .now)) (moved .ensures),
+      moved .ensures
+          ∙ sym (ap (λ (b : Bool). cond b new (a .sets .now)) (eq-eqb (bad .result) 0 (c .if1 .left))),
+    )
 
 pub take-spec : {M : Type 1} → statement M
 take-spec = tie.close (tie.spec move-sets-requires broken-among-requires returns returns-2)

@@ -7,13 +7,17 @@ returns : tie.Need-returns
 returns c = (simp (lt-leb _ _ (c .if1 .taken)), simp (lt-leb _ _ (c .if1 .taken)))
 
 returns-2 : tie.Need-returns-2
-returns-2 c = (simp (le-leb _ _ (c .before .if1 .left), le-ltb _ _ (c .if2 .taken)), simp (le-leb _ _ (c .before .if1 .left), le-ltb _ _ (c .if2 .taken)))
+returns-2 c = (
+  simp (le-leb _ _ (c .before .if1 .left), le-ltb _ _ (c .if2 .taken)),
+  simp
+      (le-leb _ _ (c .before .if1 .left), le-ltb _ _ (c .if2 .taken)),
+)
 
-has-648-requires : tie.Need-has-648-requires
-has-648-requires c κs = search needs
+sets-length-requires : tie.Need-sets-length-requires
+sets-length-requires c κs = search needs
 
 take-requires : tie.Need-take-requires
-take-requires c κs = (c .before .has-648 .ensures, search needs)
+take-requires c κs = (c .before .sets-length .ensures, search needs)
 
 returns-3 : tie.Need-returns-3
 returns-3 c =
@@ -22,4 +26,4 @@ returns-3 c =
     (simp (le-leb _ _ few, lt-ltb _ _ in-use) (c .take .ensures .0), simp (le-leb _ _ few, lt-ltb _ _ in-use) (c .take .ensures .1))
 
 pub take-event-spec : {M : Type 1} → statement M
-take-event-spec = tie.close (tie.spec returns returns-2 has-648-requires take-requires returns-3)
+take-event-spec = tie.close (tie.spec returns returns-2 sets-length-requires take-requires returns-3)

@@ -3,21 +3,14 @@ use Prim.Native.Nat.{_≤_}
 use denote.Ref.{now}
 use mir.Syntax.{w8}
 use mir.Val.{Fits}
+use Rattle.usage.specs.Limits.{mostNodes}
+use Rattle.usage.specs.Answers.{allowed}
 use Rattle.sheet_reader.proofs.AnswerLaws.{outline-held, outline-refused-as}
-use Rattle.report.specs.OutlineRows.{room-lacks}
-use Rattle.report.proofs.OutlineRowPuts.{put-checked, put-refused}
+use Rattle.checker.specs.Promise.{outcomeVerdict}
+use Rattle.report.proofs.OutlineLaws.{put-checked, put-refused}
 use borrow.Author.Needs.{needs}
 use Rattle.report.proofs.outline.row.Statement.{statement}
 use Rattle.report.proofs.outline.row.Tie as tie
-
-returns : tie.Need-returns
-returns c = room-lacks (omega arith)
-
-sub-if2 : tie.Need-sub-if2
-sub-if2 c = search needs
-
-returns-2 : tie.Need-returns-2
-returns-2 c = room-lacks (omega arith)
 
 slice-aggregate-read-outline : tie.Need-slice-aggregate-read-outline
 slice-aggregate-read-outline c = search needs
@@ -30,12 +23,12 @@ enum-known-reading c = search needs
 
 mul-check : tie.Need-mul-check
 mul-check c =
-    let a = c .before .before .before .before .before .before .before .before .before .before .before .args in
+    let a = c .before .before .before .before .before .before .before .before .before .args in
     let r = c .before .before .before .before .read-outline in
     let g = c .before .reading .given in
     let n = g .0 .0 in
     let h = outline-held (now (a .text)) (r .last .1 .0) n (rw (g .1) at (r .ensures .0)) (r .ensures .1) in
-    let f : n ≤ 64 = h .few in
+    let f : n ≤ mostNodes = h .few in
     search needs
 
 sub-check : tie.Need-sub-check
@@ -46,12 +39,12 @@ part-check-start c = search needs
 
 part-check-end : tie.Need-part-check-end
 part-check-end c =
-    let a = c .before .before .before .before .before .before .before .before .before .before .before .before .args in
+    let a = c .before .before .before .before .before .before .before .before .before .before .args in
     let r = c .before .before .before .before .before .read-outline in
     let g = c .before .before .reading .given in
     let n = g .0 .0 in
     let h = outline-held (now (a .text)) (r .last .1 .0) n (rw (g .1) at (r .ensures .0)) (r .ensures .1) in
-    let f : n ≤ 64 = h .few in
+    let f : n ≤ mostNodes = h .few in
     search needs
 
 check-requires : tie.Need-check-requires
@@ -81,9 +74,11 @@ row-requires-2 c κs = search needs
 same-length : tie.Need-same-length
 same-length c = search needs
 
-returns-3 : tie.Need-returns-3
-returns-3 c =
-    let a = c .before .before .before .before .before .before .before .before .before .before .before .before .before .before .before .before .before .before .before .before .args in
+returns : tie.Need-returns
+returns c =
+    let a =
+    c .before .before .before .before .before .before .before .before .before .before .before .before .before .before .before .before
+    .before .before .args in
     let r = c .before .before .before .before .before .before .before .before .before .before .before .before .before .read-outline in
     let g = c .before .before .before .before .before .before .before .before .before .before .reading .given in
     let n = g .0 .0 in
@@ -93,27 +88,26 @@ returns-3 c =
     let d = c .before .before .before .outcome-detail in
     let k = c .before .before .before .before .before .before .check in
     let b : Fits w8 (d .result) = search needs in
-    put-checked (now (a .edges)) (now (a .text)) (now (a .out)) (w .last .0) (a .at) (w .result) (omega arith) (r .last .1 .0) n h (k .result) (m .result) (d .result) (k .ensures .0) (m .ensures) (d .ensures) (b .fits) (w .ensures .0) (w .ensures .1)
+    put-checked (now (a .edges)) (now (a .text)) (now (a .out)) (w .last .0) (a .at) (w .result) (omega arith) (r .last .1 .0) n h
+    (outcomeVerdict (k .result)) (m .result) (d .result) (k .ensures) (m .ensures) (d .ensures) (b .fits) (w .ensures .0) (w .ensures .1)
 
 same-length-2 : tie.Need-same-length-2
 same-length-2 c = search needs
 
-returns-4 : tie.Need-returns-4
-returns-4 c =
-    let a = c .before .before .before .before .before .before .before .before .before .before .before .before .before .before .before .args in
+returns-2 : tie.Need-returns-2
+returns-2 c =
+    let a = c .before .before .before .before .before .before .before .before .before .before .before .before .before .args in
     let r = c .before .before .before .before .before .before .before .before .read-outline in
     let g = c .before .before .before .before .before .reading2 .given in
     let w = c .before .before .row2 in
     let z = outline-refused-as (now (a .text)) (g .0 .0) (g .0 .1 .0) (rw (g .1) at (r .ensures .0)) in
-    put-refused (now (a .edges)) (now (a .text)) (now (a .out)) (w .last .0) (a .at) (w .result) (omega arith) (g .0 .0) (g .0 .1 .0) z (w .ensures .0) (w .ensures .1)
+    put-refused (now (a .edges)) (now (a .text)) (now (a .out)) (w .last .0) (a .at) (w .result) (omega arith) (g .0 .0) (g .0 .1 .0) z
+    allowed (w .ensures .0) (w .ensures .1)
 
 pub row-spec : {M : Type 1} → statement M
 row-spec =
     tie.close
     (tie.spec
-    returns
-    sub-if2
-    returns-2
     slice-aggregate-read-outline
     read-outline-requires
     enum-known-reading
@@ -130,6 +124,6 @@ row-spec =
     cast-row-2
     row-requires-2
     same-length
-    returns-3
+    returns
     same-length-2
-    returns-4)
+    returns-2)

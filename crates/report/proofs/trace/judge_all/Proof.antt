@@ -4,36 +4,41 @@ use Prim.Native.Nat.{_+_, _-_, _*_, _/_, _≤_}
 use denote.Ref.{now}
 use lib.ListN.{length, length-append}
 use lib.Seq.{sets, length-sets}
-use Rattle.monitor_state.specs.Judge.{begin, judgeOf}
+use Rattle.monitor_state.specs.Judge.{startState, judgeOf}
+use Rattle.monitor_state.specs.Code.{stateOf, judgementOf}
 use Rattle.report_lines.specs.Lines.{row}
 use Rattle.report_lines.proofs.PutLaws.{sets-append}
 use Rattle.report_lines.proofs.FitLaws.{stored-at}
-use Rattle.report.proofs.TraceRowLaws.{left, all-left, none-left, next-row, row-ten}
+use Rattle.report.specs.Output.{longestStepRow}
+use Rattle.report.proofs.TraceLaws.{left, all-left, none-left, next-row, row-ten}
 use borrow.Author.Needs.{needs}
 use Rattle.report.proofs.trace.judge_all.Statement.{statement}
 use Rattle.report.proofs.trace.judge_all.Tie as tie
 
+-- the state lies in its parts: the sets, the created resources, their count, the unclosed openings, and whether it is halted
 abbrev Inv-loop : tie.InvT-loop
-Inv-loop edges steps out₀ at n s₀ next₀ i₀ out s next i = (i ≤ n) × ((length out ≡ length out₀) × ((next + 10 * (n - i) ≤ length out)
-    × ((next + length (left edges steps n s i) ≡ at + length (left edges steps n begin 0))
-    × (sets out next (left edges steps n s i) ≡ sets out₀ at (left edges steps n begin 0)))))
+Inv-loop edges steps out₀ at n sets₀ created₀ unclosed₀ count₀ halted₀ next₀ i₀ out ss created unclosed count halted next i =
+    let s = stateOf ss created count unclosed halted in
+    (i ≤ n) × ((length out ≡ length out₀) × ((next + longestStepRow * (n - i) ≤ length out)
+    × ((next + length (left edges steps n s i) ≡ at + length (left edges steps n startState 0))
+    × (sets out next (left edges steps n s i) ≡ sets out₀ at (left edges steps n startState 0)))))
 
 abbrev μ-loop : tie.MeasureT-loop
-μ-loop edges steps out₀ at n s₀ next₀ i₀ out s next i = n - i
+μ-loop edges steps out₀ at n sets₀ created₀ unclosed₀ count₀ halted₀ next₀ i₀ out ss created unclosed count halted next i = n - i
 
 start-requires : tie.Need-start-requires Inv-loop μ-loop
 start-requires c κs = search needs
 
 loop-holds : tie.Need-loop-holds Inv-loop μ-loop
 loop-holds c =
-    let e = c .start .ensures .0 in
+    let e = c .before .before .before .start .ensures .0 in
     (omega arith, (refl, (omega arith, (rw e, rw e))))
 
 step-at-requires : tie.Need-step-at-requires Inv-loop μ-loop
 step-at-requires c κs = search needs
 
-judge-requires : tie.Need-judge-requires Inv-loop μ-loop
-judge-requires c κs = search needs
+judge-lent-requires : tie.Need-judge-lent-requires Inv-loop μ-loop
+judge-lent-requires c κs = search needs
 
 add-row : tie.Need-add-row Inv-loop μ-loop
 add-row c = search needs
@@ -55,31 +60,44 @@ loop-less c = search needs
 
 loop-again : tie.Need-loop-again Inv-loop μ-loop
 loop-again c =
-    let a = c .before .before .before .before .before .before .before .before .before .before .before .before .before .before .before .args in
-    let p = c .before .before .before .before .before .before .before .before .before .before .before .before .before .before .before .pre .0 in
-    let t = c .before .before .before .before .before .before .before .before .before .before .loop in
-    let j = c .before .before .before .before .before .before .before .judge in
-    let r = c .before .before .before .row in
-    let m = c .before .before .before .before .before .number-of in
-    let d = c .before .before .before .before .detail-of in
+    let a =
+    c .before .before .before .before .before .before .before .before .before .before .before .before .before .before .before .before
+    .before .before .before .before .args in
+    let p =
+    c .before .before .before .before .before .before .before .before .before .before .before .before .before .before .before .before
+    .before .before .before .before .pre .0 in
+    let t = c .before .before .before .before .before .before .before .before .before .before .before .before .loop in
+    let q = c .before .before .before .before .before .before .before .before .before .before .before .loop-test .taken in
+    let i₁ = t .inv .1 .0 in
+    let i₂ = t .inv .1 .1 .0 in
+    let i₃ = t .inv .1 .1 .1 .0 in
+    let k = c .before .before .before .before .before .before .judge-lent in
+    let j = judgementOf (k .result) (k .last .1 .0) (k .last .1 .1 .0) (k .last .1 .1 .1 .0) in
+    let r = c .before .before .row in
+    let m = c .before .before .before .before .number-of in
+    let d = c .before .before .before .detail-of in
     let n = length (now (a .steps)) / 3 in
-    let ej = j .ensures .0 ∙ ap (judgeOf (now (a .edges)) (t .s)) (c .before .before .before .before .before .before .before .before .step-at .ensures) in
-    let h = row-ten (now (a .edges)) (now (a .steps)) n (t .s) (t .i) (j .result) (m .result) (d .result) ej (m .ensures) (d .ensures) (omega arith) in
-    let e = next-row (now (a .edges)) (now (a .steps)) n (t .s) (t .i) (j .result) (m .result) (d .result) ej (m .ensures) (d .ensures) (omega arith) in
-    let z = stored-at (t .out) (t .next) (row (t .i + 2) (m .result) (d .result)) (omega arith) (r .ensures .0) (r .ensures .1) in
-    let k = ap length (z .1) ∙ length-sets _ _ (row (t .i + 2) (m .result) (d .result)) in
-    let g = ap length e ∙ length-append (row (t .i + 2) (m .result) (d .result)) _ in
-    (omega arith, (omega arith, (omega arith, (omega arith, rw (z .1, z .0) (sym (sets-append _ _ (row (t .i + 2) (m .result) (d .result)) _) ∙ ap (sets (t .out) (t .next)) (sym e) ∙ t .inv .1 .1 .1 .1)))))
+    let s = stateOf (t .sets) (t .created) (t .count) (t .unclosed) (t .halted) in
+    let line = row (t .i + 2) (m .result) (d .result) in
+    let ej = k .ensures ∙ ap (judgeOf (now (a .edges)) s) (c .before .before .before .before .before .before .before .step-at .ensures) in
+    let h = row-ten (now (a .edges)) (now (a .steps)) n s (t .i) j (m .result) (d .result) ej (m .ensures) (d .ensures) (omega arith) in
+    let e = next-row (now (a .edges)) (now (a .steps)) n s (t .i) j (m .result) (d .result) ej (m .ensures) (d .ensures) (omega arith) in
+    let z = stored-at (t .out) (t .next) line (omega arith) (r .ensures .0) (r .ensures .1) in
+    let l = ap length (z .1) ∙ length-sets _ _ line in
+    let g = ap length e ∙ length-append line _ in
+    let kept = sym (sets-append _ _ line _) ∙ ap (sets (t .out) (t .next)) (sym e) ∙ t .inv .1 .1 .1 .1 in
+    (omega arith, (omega arith, (omega arith, (omega arith, rw (z .1, z .0) kept))))
 
 same-length : tie.Need-same-length Inv-loop μ-loop
 same-length c = search needs
 
 returns : tie.Need-returns Inv-loop μ-loop
 returns c =
-    let a = c .before .before .before .before .before .before .args in
+    let a = c .before .before .before .before .before .before .before .before .before .args in
     let t = c .before .loop in
+    let s = stateOf (t .sets) (t .created) (t .count) (t .unclosed) (t .halted) in
     let e = all-left (now (a .edges)) (now (a .steps)) in
-    let z = none-left (now (a .edges)) (now (a .steps)) (length (now (a .steps)) / 3) (t .s) (t .i) (c .loop-test .left) in
+    let z = none-left (now (a .edges)) (now (a .steps)) (length (now (a .steps)) / 3) s (t .i) (c .loop-test .left) in
     let g = ap length z in
     (rw e (omega arith), rw e (ap (sets (t .out) (t .next)) (sym z) ∙ t .inv .1 .1 .1 .1))
 
@@ -92,7 +110,7 @@ judge-all-spec =
     start-requires
     loop-holds
     step-at-requires
-    judge-requires
+    judge-lent-requires
     add-row
     number-of-requires
     detail-of-requires

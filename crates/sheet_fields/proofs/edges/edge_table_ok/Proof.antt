@@ -1,13 +1,16 @@
 -- `edge_table_ok` meets its contract. The invariant: every edge before i is in range.
-use Prim.Native.Nat.{ℕ, _+_, _*_, _-_, _≤_, _<_}
+use Prim.Native.Nat.{ℕ, _+_, _*_, _/_, _-_, _≤_, _<_}
 use mathlib.Core.Bool.{true}
-use mathlib.Core.Path.{_≡_, sym}
+use mathlib.Core.Path.{_≡_, sym, _∙_}
 use native.Mathlib.Omega.{arith}
 use borrow.Author.Count.{below-more}
 use borrow.Author.Needs.{needs}
+use lib.ListN.{length}
+use Rattle.usage.specs.Limits.{edgeFields}
 use Rattle.usage.specs.Tests.{edgeOk}
 use Rattle.usage.specs.Tables.{edgeAt}
-use Rattle.sheet_fields.proofs.EdgeLaws.{not-whole, too-long, bad-edge, good-edge, good-edges}
+use Rattle.sheet_fields.proofs.EdgeLaws.{not-whole, too-long, each-edge}
+use Rattle.sheet_fields.proofs.EveryLaws.{one-fails, one-passes, all-pass}
 use Rattle.sheet_fields.proofs.edges.edge_table_ok.Statement.{statement}
 use Rattle.sheet_fields.proofs.edges.edge_table_ok.Tie as tie
 
@@ -33,7 +36,7 @@ shared-slice-read-edge-fits : tie.Need-shared-slice-read-edge-fits Inv-loop μ-l
 shared-slice-read-edge-fits c = search needs
 
 cast-edge-fits : tie.Need-cast-edge-fits Inv-loop μ-loop
-cast-edge-fits c = omega (arith, c .shared-slice-known2 .given (6 * c .before .before .loop .i))
+cast-edge-fits c = omega (arith, c .shared-slice-known2 .given (edgeFields * c .before .before .loop .i))
 
 add-edge-fits : tie.Need-add-edge-fits Inv-loop μ-loop
 add-edge-fits c = search needs
@@ -42,7 +45,7 @@ shared-slice-read-edge-fits-2 : tie.Need-shared-slice-read-edge-fits-2 Inv-loop 
 shared-slice-read-edge-fits-2 c = search needs
 
 cast-edge-fits-2 : tie.Need-cast-edge-fits-2 Inv-loop μ-loop
-cast-edge-fits-2 c = omega (arith, c .shared-slice-known3 .given (6 * c .before .before .before .loop .i + 1))
+cast-edge-fits-2 c = omega (arith, c .shared-slice-known3 .given (edgeFields * c .before .before .before .loop .i + 1))
 
 add-edge-fits-2 : tie.Need-add-edge-fits-2 Inv-loop μ-loop
 add-edge-fits-2 c = search needs
@@ -51,7 +54,7 @@ shared-slice-read-edge-fits-3 : tie.Need-shared-slice-read-edge-fits-3 Inv-loop 
 shared-slice-read-edge-fits-3 c = search needs
 
 cast-edge-fits-3 : tie.Need-cast-edge-fits-3 Inv-loop μ-loop
-cast-edge-fits-3 c = omega (arith, c .shared-slice-known4 .given (6 * c .before .before .before .before .loop .i + 2))
+cast-edge-fits-3 c = omega (arith, c .shared-slice-known4 .given (edgeFields * c .before .before .before .before .loop .i + 2))
 
 add-edge-fits-3 : tie.Need-add-edge-fits-3 Inv-loop μ-loop
 add-edge-fits-3 c = search needs
@@ -60,7 +63,7 @@ shared-slice-read-edge-fits-4 : tie.Need-shared-slice-read-edge-fits-4 Inv-loop 
 shared-slice-read-edge-fits-4 c = search needs
 
 cast-edge-fits-4 : tie.Need-cast-edge-fits-4 Inv-loop μ-loop
-cast-edge-fits-4 c = omega (arith, c .shared-slice-known5 .given (6 * c .before .before .before .before .before .loop .i + 3))
+cast-edge-fits-4 c = omega (arith, c .shared-slice-known5 .given (edgeFields * c .before .before .before .before .before .loop .i + 3))
 
 add-edge-fits-4 : tie.Need-add-edge-fits-4 Inv-loop μ-loop
 add-edge-fits-4 c = search needs
@@ -69,7 +72,7 @@ shared-slice-read-edge-fits-5 : tie.Need-shared-slice-read-edge-fits-5 Inv-loop 
 shared-slice-read-edge-fits-5 c = search needs
 
 cast-edge-fits-5 : tie.Need-cast-edge-fits-5 Inv-loop μ-loop
-cast-edge-fits-5 c = omega (arith, c .shared-slice-known6 .given (6 * c .before .before .before .before .before .before .loop .i + 4))
+cast-edge-fits-5 c = omega (arith, c .shared-slice-known6 .given (edgeFields * c .before .before .before .before .before .before .loop .i + 4))
 
 add-edge-fits-5 : tie.Need-add-edge-fits-5 Inv-loop μ-loop
 add-edge-fits-5 c = search needs
@@ -78,15 +81,18 @@ shared-slice-read-edge-fits-6 : tie.Need-shared-slice-read-edge-fits-6 Inv-loop 
 shared-slice-read-edge-fits-6 c = search needs
 
 cast-edge-fits-6 : tie.Need-cast-edge-fits-6 Inv-loop μ-loop
-cast-edge-fits-6 c = omega (arith, c .shared-slice-known7 .given (6 * c .before .before .before .before .before .before .before .loop .i + 5))
+cast-edge-fits-6 c = omega (arith, c .shared-slice-known7 .given (edgeFields * c .before .before .before .before .before .before .before .loop .i + 5))
 
 edge-fits-requires : tie.Need-edge-fits-requires Inv-loop μ-loop
 edge-fits-requires c κs = search needs
 
 returns-3 : tie.Need-returns-3 Inv-loop μ-loop
 returns-3 c =
-    let t = c .before .before .before .before .before .before .before .before .before .before .before .before .before .args .edges .now in
-    sym (bad-edge t (c .before .before .before .before .before .before .before .before .before .loop .i) (c .before .edge-fits .result) (c .before .edge-fits .ensures) (c .before .before .before .before .before .before .before .before .loop-test .taken) (c .if3 .taken))
+    let b = c .before .before .before .before .before .before .before .before in
+    let t = b .before .before .before .before .before .args .edges .now in
+    let s = c .before .edge-fits in
+    sym (each-edge t (b .before .before .before .if1 .left) (b .before .before .if2 .left)
+    ∙ one-fails edgeOk (edgeAt t) (length t / edgeFields) (b .before .loop .i) (s .result) (s .ensures) (b .loop-test .taken) (c .if3 .taken))
 
 add-i : tie.Need-add-i Inv-loop μ-loop
 add-i c = search needs
@@ -96,14 +102,16 @@ loop-less c = search needs
 
 loop-again : tie.Need-loop-again Inv-loop μ-loop
 loop-again c =
-    let t = c .before .before .before .before .before .before .before .before .before .before .before .before .before .args .edges .now in
-    let i = c .before .before .before .before .before .before .before .before .before .loop .i in
-    (search needs, below-more _ i (c .before .before .before .before .before .before .before .before .before .loop .inv .1) (good-edge t i (c .before .edge-fits .result) (c .before .edge-fits .ensures) (c .if3 .left)))
+    let b = c .before .before .before .before .before .before .before .before .before in
+    let t = b .before .before .before .before .args .edges .now in
+    let s = c .before .edge-fits in
+    (search needs, below-more _ (b .loop .i) (b .loop .inv .1) (one-passes edgeOk (edgeAt t) (length t / edgeFields) (b .loop .i) (s .result) (s .ensures) (c .if3 .left)))
 
 returns-4 : tie.Need-returns-4 Inv-loop μ-loop
 returns-4 c =
     let t = c .before .before .before .before .before .args .edges .now in
-    sym (good-edges t (c .before .before .before .if1 .left) (c .before .before .if2 .left) (λ k l. c .before .loop .inv .1 k (omega arith)))
+    sym (each-edge t (c .before .before .before .if1 .left) (c .before .before .if2 .left)
+    ∙ all-pass edgeOk (edgeAt t) (length t / edgeFields) (λ k l. c .before .loop .inv .1 k (omega arith)))
 
 pub edge-table-ok-spec : {M : Type 1} → statement M
 edge-table-ok-spec =

@@ -1,43 +1,19 @@
-use Rattle.sheet_rules.proofs.RuleLaws.{back-no, back-yes}
+use Rattle.sheet_rules.proofs.RuleLaws.{back-by}
 use mathlib.Core.Path.{sym, _∙_}
-use Prim.Native.Nat.{_-_}
 use borrow.Author.Needs.{needs}
 use Rattle.sheet_rules.proofs.node_rules.back_ok.Statement.{statement}
 use Rattle.sheet_rules.proofs.node_rules.back_ok.Tie as tie
+use Rattle.sheet_rules.proofs.node_rules.back_ok.Reads as reads
+use Rattle.sheet_rules.proofs.node_rules.back_ok.Lts as lts
+use Rattle.sheet_rules.proofs.node_rules.named_above.Reads as named-above-reads
 
-mul-if1 : tie.Need-mul-if1
-mul-if1 c = search needs
+-- src/node_rules.rt:36:5
+named-above-requires : tie.Need-named-above-requires
+named-above-requires c κs = search needs
 
-shared-slice-read-if1 : tie.Need-shared-slice-read-if1
-shared-slice-read-if1 c = search needs
-
+-- src/node_rules.rt:32:1
 returns : tie.Need-returns
-returns c = sym (back-no (c .before .before .before .args .table .now) (c .before .before .before .args .k) (c .before .before .before .pre) (c .if1 .taken))
-
-mul-inside : tie.Need-mul-inside
-mul-inside c = search needs
-
-add-inside : tie.Need-add-inside
-add-inside c = search needs
-
-shared-slice-read-inside : tie.Need-shared-slice-read-inside
-shared-slice-read-inside c = search needs
-
-inside-requires : tie.Need-inside-requires
-inside-requires c κs = search needs
-
-returns-2 : tie.Need-returns-2
-returns-2 c = c .inside .ensures ∙ sym (back-yes (c .before .before .before .before .before .args .table .now) (c .before .before .before .before .before .args .k) (c .before .before .before .before .before .pre) (c .before .before .if1 .left))
+returns c = c .named-above .ensures ∙ sym (back-by (c .before .before .args .table .now) (c .before .before .args .k) (c .before .before .pre))
 
 pub back-ok-spec : {M : Type 1} → statement M
-back-ok-spec =
-    tie.close
-    (tie.spec
-    mul-if1
-    shared-slice-read-if1
-    returns
-    mul-inside
-    add-inside
-    shared-slice-read-inside
-    inside-requires
-    returns-2)
+back-ok-spec = tie.close (tie.spec named-above-requires returns)

@@ -1,15 +1,15 @@
 use native.Mathlib.Omega.{arith}
 use Rattle.usage.specs.Tables.{nodesOf}
-use Rattle.usage.specs.Tests.{some-below, givesName}
+use Rattle.usage.specs.Tests.{someBelow, givesName}
 use Rattle.sheet_rules.proofs.NodeLaws.{found-below, on-below}
 use mathlib.Core.Path.{_≡_, refl, sym, _∙_}
-use Prim.Native.Nat.{_-_, _≤_}
+use Prim.Native.Nat.{_≤_}
 use borrow.Author.Needs.{needs}
 use Rattle.sheet_rules.proofs.node_rules.given_below.Statement.{statement}
 use Rattle.sheet_rules.proofs.node_rules.given_below.Tie as tie
 
 abbrev Inv-loop : tie.InvT-loop
-Inv-loop nodes x k j₀ j = (j ≤ k) × (some-below (givesName (nodesOf nodes) x) j ≡ some-below (givesName (nodesOf nodes) x) k)
+Inv-loop nodes x k j₀ j = (j ≤ k) × (someBelow (givesName (nodesOf nodes) x) j ≡ someBelow (givesName (nodesOf nodes) x) k)
 
 abbrev μ-loop : tie.MeasureT-loop
 μ-loop nodes x k j₀ j = j
@@ -39,7 +39,7 @@ loop-again c =
     (omega arith, sym (on-below ns (givesName ns (a .x)) 0 (c .before .before .before .loop .j) (c .before .before .loop-test .taken) (sym (c .before .gives-name .ensures) ∙ c .if1 .left)) ∙ c .before .before .before .loop .inv .1)
 
 returns-2 : tie.Need-returns-2 Inv-loop μ-loop
-unfolding some-below
+unfolding someBelow
 returns-2 c =
     let z : c .before .loop .j ≡ 0 = omega arith in
     rw z at (c .before .loop .inv .1)

@@ -1,10 +1,10 @@
 use native.Mathlib.Omega.{arith}
-use Rattle.sheet_rules.specs.Rules.{sought}
+use Rattle.sheet_rules.specs.Code.{sought}
 use Rattle.usage.specs.Tables.{nodesOf}
 use Rattle.usage.specs.Tests.{above}
 use Rattle.sheet_rules.proofs.NodeLaws.{found-above, up-above, on-above}
 use mathlib.Core.Path.{_≡_, refl, sym, _∙_}
-use Prim.Native.Nat.{_-_, _≤_}
+use Prim.Native.Nat.{_≤_}
 use borrow.Author.Needs.{needs}
 use Rattle.sheet_rules.proofs.node_rules.inside.Statement.{statement}
 use Rattle.sheet_rules.proofs.node_rules.inside.Tie as tie

@@ -1,7 +1,6 @@
 use borrow.Author.Tests.{eq-eqb, ne-eqb}
 use Rattle.sheet_rules.proofs.NodeLaws.{loop-at}
 use mathlib.Core.Path.{sym}
-use Prim.Native.Nat.{_-_}
 use borrow.Author.Needs.{needs}
 use Rattle.sheet_rules.proofs.node_rules.is_loop.Statement.{statement}
 use Rattle.sheet_rules.proofs.node_rules.is_loop.Tie as tie

@@ -1,64 +1,75 @@
 use mathlib.Core.Bool.{not}
-use Rattle.sheet_rules.proofs.RuleLaws.{name-uses, name-gives, name-other}
+use Rattle.sheet_rules.proofs.RuleLaws.{name-outside, gives-none, gives-one}
 use mathlib.Core.Path.{sym, ap, _∙_}
-use Prim.Native.Nat.{_-_}
 use borrow.Author.Needs.{needs}
 use Rattle.sheet_rules.proofs.node_rules.name_ok.Statement.{statement}
 use Rattle.sheet_rules.proofs.node_rules.name_ok.Tie as tie
+use Rattle.sheet_rules.proofs.node_rules.name_ok.Reads as reads
+use Rattle.sheet_rules.proofs.node_rules.name_ok.Lts as lts
+use Rattle.sheet_rules.proofs.node_rules.given_below.Reads as given-below-reads
+use Rattle.sheet_rules.proofs.node_rules.named_above.Reads as named-above-reads
 
-mul-kind : tie.Need-mul-kind
-mul-kind c = search needs
+-- src/node_rules.rt:44:9
+named-above-requires : tie.Need-named-above-requires
+named-above-requires c κs = search needs
 
-shared-slice-read-kind : tie.Need-shared-slice-read-kind
-shared-slice-read-kind c = search needs
-
-mul-inside : tie.Need-mul-inside
-mul-inside c = search needs
-
-add-inside : tie.Need-add-inside
-add-inside c = search needs
-
-shared-slice-read-inside : tie.Need-shared-slice-read-inside
-shared-slice-read-inside c = search needs
-
-inside-requires : tie.Need-inside-requires
-inside-requires c κs = search needs
-
+-- src/node_rules.rt:45:9
 returns : tie.Need-returns
-returns c = c .inside .ensures ∙ sym (name-uses (c .before .before .before .before .before .args .table .now) (c .before .before .before .before .before .args .k) (c .before .before .before .before .before .pre) (c .before .before .if1 .taken))
+returns c =
+    let b = c .before .before .before in
+    let r = c .before .named-above in
+    sym (name-outside (b .args .table .now) (b .args .k) (b .pre) (r .result) (r .ensures) (c .if1 .taken))
 
+-- src/node_rules.rt:47:14
+mul-if2 : tie.Need-mul-if2
+mul-if2 c = search needs
+
+-- src/node_rules.rt:47:8
+shared-slice-read-if2 : tie.Need-shared-slice-read-if2
+shared-slice-read-if2 c = search needs
+
+-- src/node_rules.rt:48:9
+returns-2 : tie.Need-returns-2
+returns-2 c =
+    let b = c .before .before .before .before .before in
+    let r = c .before .before .before .named-above in
+    sym (gives-none (b .args .table .now) (b .args .k) (b .pre) (r .result) (r .ensures) (c .before .before .if1 .left) (c .if2 .taken))
+
+-- src/node_rules.rt:50:31
 mul-given-below : tie.Need-mul-given-below
 mul-given-below c = search needs
 
+-- src/node_rules.rt:50:31
 add-given-below : tie.Need-add-given-below
 add-given-below c = search needs
 
+-- src/node_rules.rt:50:25
 shared-slice-read-given-below : tie.Need-shared-slice-read-given-below
 shared-slice-read-given-below c = search needs
 
+-- src/node_rules.rt:50:6
 given-below-requires : tie.Need-given-below-requires
 given-below-requires c κs = search needs
 
-returns-2 : tie.Need-returns-2
-returns-2 c = ap not (c .given-below .ensures) ∙ sym (name-gives (c .before .before .before .before .before .before .args .table .now) (c .before .before .before .before .before .before .args .k) (c .before .before .before .before .before .before .pre) (c .before .before .if2 .taken))
-
+-- src/node_rules.rt:40:1
 returns-3 : tie.Need-returns-3
-returns-3 c = sym (name-other (c .before .before .before .before .args .table .now) (c .before .before .before .before .args .k) (c .before .before .before .before .pre) (c .before .if1 .left) (c .if2 .left))
+returns-3 c =
+    let b = c .before .before .before .before .before .before .before in
+    let r = c .before .before .before .before .before .named-above in
+    ap not (c .given-below .ensures)
+    ∙ sym (gives-one (b .args .table .now) (b .args .k) (b .pre) (r .result) (r .ensures) (c .before .before .before .before .if1 .left) (c .before .before .if2 .left))
 
 pub name-ok-spec : {M : Type 1} → statement M
 name-ok-spec =
     tie.close
     (tie.spec
-    mul-kind
-    shared-slice-read-kind
-    mul-inside
-    add-inside
-    shared-slice-read-inside
-    inside-requires
+    named-above-requires
     returns
+    mul-if2
+    shared-slice-read-if2
+    returns-2
     mul-given-below
     add-given-below
     shared-slice-read-given-below
     given-below-requires
-    returns-2
     returns-3)

@@ -1,5 +1,4 @@
 use mathlib.Core.Path.{refl, sym, _∙_}
-use Prim.Native.Nat.{_-_}
 use borrow.Author.Needs.{needs}
 use Rattle.sheet_rules.proofs.node_rules.passes.Statement.{statement}
 use Rattle.sheet_rules.proofs.node_rules.passes.Tie as tie

@@ -3,7 +3,6 @@ use Rattle.usage.specs.Tests.{treeOk}
 use mathlib.Core.Bool.{_&&_}
 use borrow.Author.Tests.{not-true, not-false}
 use mathlib.Core.Path.{sym, ap, _∙_}
-use Prim.Native.Nat.{_-_}
 use borrow.Author.Needs.{needs}
 use Rattle.sheet_rules.proofs.node_rules.place_and_tree_ok.Statement.{statement}
 use Rattle.sheet_rules.proofs.node_rules.place_and_tree_ok.Tie as tie

@@ -1,7 +1,6 @@
 use native.Mathlib.Omega.{arith}
 use Rattle.sheet_rules.proofs.RuleLaws.{place-none, place-some}
 use mathlib.Core.Path.{sym}
-use Prim.Native.Nat.{_-_}
 use borrow.Author.Needs.{needs}
 use Rattle.sheet_rules.proofs.node_rules.placed.Statement.{statement}
 use Rattle.sheet_rules.proofs.node_rules.placed.Tie as tie

@@ -1,7 +1,6 @@
 use Rattle.usage.specs.Outline.{formOf}
 use Rattle.sheet_rules.proofs.NodeLaws.{no-children}
 use mathlib.Core.Path.{refl}
-use Prim.Native.Nat.{_-_}
 use Rattle.sheet_rules.proofs.tree.child_fields.Statement.{statement}
 use Rattle.sheet_rules.proofs.tree.child_fields.Tie as tie
 

@@ -1,7 +1,6 @@
 use borrow.Author.Tests.{not-true, not-false}
 use Rattle.sheet_rules.proofs.NodeLaws.{between-two}
 use mathlib.Core.Path.{refl}
-use Prim.Native.Nat.{_-_}
 use borrow.Author.Needs.{needs}
 use Rattle.sheet_rules.proofs.tree.children_between.Statement.{statement}
 use Rattle.sheet_rules.proofs.tree.children_between.Tie as tie

@@ -1,13 +1,9 @@
 use lib.Dec.{ltb}
-use Rattle.sheet_rules.proofs.ChildLaws.{no-child}
 use Rattle.sheet_rules.proofs.NodeLaws.{child-at}
 use mathlib.Core.Path.{sym, ap, _∙_}
 use borrow.Author.Needs.{needs}
 use Rattle.sheet_rules.proofs.tree.is_child.Statement.{statement}
 use Rattle.sheet_rules.proofs.tree.is_child.Tie as tie
-
-returns : tie.Need-returns
-returns c = sym (no-child (c .before .before .args .nodes .now) (c .before .before .args .p) (c .before .before .args .c) (c .if1 .taken))
 
 mul-names-child : tie.Need-mul-names-child
 mul-names-child c = search needs
@@ -36,14 +32,15 @@ shared-slice-read-names-child-3 c = search needs
 names-child-requires : tie.Need-names-child-requires
 names-child-requires c κs = search needs
 
-returns-2 : tie.Need-returns-2
-returns-2 c = ap (ltb 0) (c .names-child .ensures .0) ∙ sym (child-at (c .before .before .before .before .before .before .args .nodes .now) (c .before .before .before .before .before .before .args .p) (c .before .before .before .before .if1 .left) (c .before .before .before .before .before .before .args .c))
+returns : tie.Need-returns
+returns c =
+    let a = c .before .before .before .before .before .args in
+    ap (ltb 0) (c .names-child .ensures .0) ∙ sym (child-at (a .nodes .now) (a .p) (c .before .before .before .before .before .pre) (a .c))
 
 pub is-child-spec : {M : Type 1} → statement M
 is-child-spec =
     tie.close
     (tie.spec
-    returns
     mul-names-child
     shared-slice-read-names-child
     mul-names-child-2
@@ -53,4 +50,4 @@ is-child-spec =
     add-names-child-2
     shared-slice-read-names-child-3
     names-child-requires
-    returns-2)
+    returns)

@@ -3,7 +3,6 @@ use mathlib.Core.Bool.{and-true}
 use Rattle.usage.specs.Tests.{between, every}
 use borrow.Author.Tests.{lt-ltb, le-ltb, not-true, not-false}
 use mathlib.Core.Path.{sym}
-use Prim.Native.Nat.{_-_}
 use Rattle.sheet_rules.proofs.tree.lies_between.Statement.{statement}
 use Rattle.sheet_rules.proofs.tree.lies_between.Tie as tie
 

@@ -1,6 +1,5 @@
 use Rattle.usage.specs.Valid.{times}
 use borrow.Author.Tests.{eq-eqb, ne-eqb}
-use Prim.Native.Nat.{_-_}
 use borrow.Author.Needs.{needs}
 use Rattle.sheet_rules.proofs.tree.names.Statement.{statement}
 use Rattle.sheet_rules.proofs.tree.names.Tie as tie

@@ -1,6 +1,5 @@
 use Rattle.sheet_rules.proofs.NodeLaws.{times-two}
 use mathlib.Core.Path.{refl}
-use Prim.Native.Nat.{_-_}
 use borrow.Author.Needs.{needs}
 use Rattle.sheet_rules.proofs.tree.names_child.Statement.{statement}
 use Rattle.sheet_rules.proofs.tree.names_child.Tie as tie

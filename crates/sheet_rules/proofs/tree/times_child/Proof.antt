@@ -1,4 +1,5 @@
 use native.Mathlib.Omega.{arith}
+use Rattle.usage.specs.Limits.{nodeFields}
 use Rattle.usage.specs.Tables.{from, nodeAt, nodesOf}
 use Rattle.usage.specs.Valid.{timesChild}
 use native.Mathlib.Nat.{zero-add}
@@ -59,7 +60,7 @@ loop-again : tie.Need-loop-again Inv-loop μ-loop
 loop-again c =
     let a = c .before .before .before .before .before .before .before .args in
     let t = c .before .before .before .before .before .loop in
-    let n = length (a .nodes .now) / 3 in
+    let n = length (a .nodes .now) / nodeFields in
     let m = times-more (a .nodes .now) (a .c) n (t .j) (c .before .before .before .before .loop-test .taken) in
     let e = t .inv .1 .1 in
     let r = c .names-child .ensures in
@@ -69,7 +70,7 @@ returns : tie.Need-returns Inv-loop μ-loop
 returns c =
     let a = c .before .before .before .args in
     let t = c .before .loop in
-    let m = times-end (a .nodes .now) (a .c) (length (a .nodes .now) / 3) (t .j) (c .loop-test .left) in
+    let m = times-end (a .nodes .now) (a .c) (length (a .nodes .now) / nodeFields) (t .j) (c .loop-test .left) in
     let e = t .inv .1 .1 in
     omega (arith, m, e)
 

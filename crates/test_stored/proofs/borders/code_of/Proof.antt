@@ -1,7 +1,7 @@
 -- One number for each case of a reader's answer.
 use mathlib.Core.Path.{sym, ap}
 use borrow.Author.Needs.{needs}
-use Rattle.test_stored.specs.Codes.{readingCode}
+use Rattle.test_stored.specs.Code.{readingCode}
 use Rattle.test_stored.proofs.borders.code_of.Statement.{statement}
 use Rattle.test_stored.proofs.borders.code_of.Tie as tie
 

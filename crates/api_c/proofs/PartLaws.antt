@@ -1,0 +1,119 @@
+-- The laws of the judge over lent arrays.
+use Prim.Native.Nat.{ℕ, _<_, _≤_}
+use mathlib.Core.Path.{_≡_, refl, sym, ap, _∙_}
+use mathlib.Core.Bool.{Bool, true, false, not, cond}
+use mathlib.Core.List.{List, [], _∷_}
+use borrow.Author.Tests.{le-leb, lt-leb}
+use lib.Dec.{eqb, leb}
+use lib.ListN.{getD}
+use Rattle.usage.specs.declared.RawStep.{RawStep}
+use Rattle.usage.specs.Answers.{Verdict, allowed, violated, refused}
+use Rattle.usage.specs.Tables.{edgeTable}
+use Rattle.usage.proofs.Logic.{clash, false-true}
+use Rattle.monitor_state.specs.declared.State.{State}
+use Rattle.monitor_state.specs.declared.Answer.{Answer}
+use Rattle.monitor_state.specs.declared.Answer.the-variants.{Allowed, Violated, Refused}
+use Rattle.monitor_state.specs.declared.Judgement.{Judgement}
+use Rattle.monitor_state.specs.declared.Told.{Told}
+use Rattle.monitor_state.specs.Judge.{verdictOf, refuse, judgeOf}
+use Rattle.monitor_state.specs.Code.{judgementOf}
+use Rattle.monitor_state.proofs.KeptLaws.{refused-kept}
+use Rattle.monitor.proofs.JudgeLaws.{table-refused}
+use Rattle.api_c.specs.Parts.{Parts, partsOf, flag, heldIn, holding, Answered, refuseParts, answeredIn, judgeParts}
+use Rattle.api_c.specs.Code.{isRefusal}
+
+-- ── A refusal leaves the arrays as they were lent ──
+
+abbrev Keeps : Parts → ℕ → Answered → Type 0
+Keeps p n r = r .verdict ≡ refused n → r .parts ≡ p
+
+either-keeps : (p : Parts) (n : ℕ) (b : Bool) (x y : Answered) → Keeps p n x → Keeps p n y → Keeps p n (cond b x y)
+either-keeps p n true x y f g = f
+either-keeps p n false x y f g = g
+
+answered-keeps : (p : Parts) (n : ℕ) (a : Answer) (s : State) → Keeps p n (answeredIn p a s)
+answered-keeps p n Allowed s e = clash (cc)
+answered-keeps p n (Violated q) s e = clash (cc)
+answered-keeps p n (Refused m) s e = refl
+
+-- Demand 1, of every array that the caller lent, for all inputs.
+pub refusal-keeps : (edges : List ℕ) (p : Parts) (raw : RawStep) (n : ℕ) → judgeParts edges p raw .verdict ≡ refused n
+    → judgeParts edges p raw .parts ≡ p
+unfolding judgeParts
+refusal-keeps edges p raw n =
+    either-keeps p n (not (edgeTable edges)) (refuseParts 41 p) (cond (not (leb (flag p) 1)) (refuseParts 42 p) judged) (λ e. refl)
+    (either-keeps p n (not (leb (flag p) 1)) (refuseParts 42 p) judged (λ e. refl)
+    (answered-keeps p n (judgeOf edges (heldIn p) raw .answer) (judgeOf edges (heldIn p) raw .state)))
+  where
+    judged : Answered
+    judged = answeredIn p (judgeOf edges (heldIn p) raw .answer) (judgeOf edges (heldIn p) raw .state)
+
+-- ── The answer by the flag ──
+
+module _ (edges : List ℕ) (p : Parts) (raw : RawStep) where
+  -- a flag that is none
+  pub flag-refused : 1 < flag p → judgeParts edges p raw ≡ refuseParts (cond (edgeTable edges) 42 41) p
+  unfolding judgeParts
+  flag-refused h = go (edgeTable edges) _
+    where
+      go : (b : Bool) (r : Answered)
+          → cond (not b) (refuseParts 41 p) (cond (not (leb (flag p) 1)) (refuseParts 42 p) r) ≡ refuseParts (cond b 42 41) p
+      go true r = simp (lt-leb (flag p) 1 h)
+      go false r = refl
+
+  -- else the answer is the judge's, 41 too
+  flag-judged : flag p ≤ 1 → judgeParts edges p raw ≡ answeredIn p (judgeOf edges (heldIn p) raw .answer) (judgeOf edges (heldIn p) raw .state)
+  unfolding judgeParts refuse
+  flag-judged h = go (edgeTable edges) refl
+    where
+      go : (b : Bool) → edgeTable edges ≡ b
+          → cond (not b) (refuseParts 41 p)
+          (cond (not (leb (flag p) 1)) (refuseParts 42 p)
+          (answeredIn p (judgeOf edges (heldIn p) raw .answer) (judgeOf edges (heldIn p) raw .state)))
+          ≡ answeredIn p (judgeOf edges (heldIn p) raw .answer) (judgeOf edges (heldIn p) raw .state)
+      go true e = simp (le-leb (flag p) 1 h)
+      go false e = sym (ap (λ (j : Judgement). answeredIn p (j .answer) (j .state)) (table-refused edges (heldIn p) raw e))
+
+  -- ── What is told, and what is left in the arrays ──
+
+  module _ (h : flag p ≤ 1) (t : Told) (sets created unclosed : List ℕ)
+      (is : judgementOf t sets created unclosed ≡ judgeOf edges (heldIn p) raw) where
+    pub told-verdict : verdictOf (t .answer) ≡ judgeParts edges p raw .verdict
+    told-verdict =
+        sym (same (t .answer) (judgeOf edges (heldIn p) raw .state))
+        ∙ ap (λ (a : Answer). answeredIn p a (judgeOf edges (heldIn p) raw .state) .verdict) (ap (λ (j : Judgement). j .answer) is)
+        ∙ sym (ap (λ (r : Answered). r .verdict) (flag-judged h))
+      where
+        same : (a : Answer) (s : State) → answeredIn p a s .verdict ≡ verdictOf a
+        same Allowed s = refl
+        same (Violated q) s = refl
+        same (Refused n) s = refl
+
+    left : {q : Parts} → q ≡ answeredIn p (t .answer) (judgementOf t sets created unclosed .state) .parts → q ≡ judgeParts edges p raw .parts
+    left e = e ∙ ap (λ (j : Judgement). answeredIn p (j .answer) (j .state) .parts) is ∙ sym (ap (λ (r : Answered). r .parts) (flag-judged h))
+
+    -- a refusal: the arrays are those of the state that was lent
+    pub refused-left : isRefusal (t .answer) ≡ true → partsOf sets created unclosed (p .numbers) ≡ judgeParts edges p raw .parts
+    unfolding heldIn
+    refused-left r = left (by-answer (t .answer) r refl)
+      where
+        by-answer : (a : Answer) → isRefusal a ≡ true → t .answer ≡ a
+            → partsOf sets created unclosed (p .numbers) ≡ answeredIn p a (judgementOf t sets created unclosed .state) .parts
+        by-answer Allowed r e = false-true r
+        by-answer (Violated q) r e = false-true r
+        by-answer (Refused n) r e =
+            let same : judgementOf t sets created unclosed .state ≡ heldIn p =
+            ap (λ (j : Judgement). j .state) is ∙ refused-kept edges (heldIn p) raw n (ap (λ (j : Judgement). j .answer) (sym is) ∙ e) in
+            ap (λ (s : State). partsOf (s .sets) (s .created) (s .unclosed) (p .numbers)) same
+
+    -- otherwise the numbers are those of the new state
+    pub taken-left : (f : ℕ) → isRefusal (t .answer) ≡ false → f ≡ cond (t .halted) 1 0
+        → partsOf sets created unclosed (t .count ∷ f ∷ []) ≡ judgeParts edges p raw .parts
+    unfolding holding
+    taken-left f r e = left (ap (λ (n : ℕ). partsOf sets created unclosed (t .count ∷ n ∷ [])) e ∙ by-answer (t .answer) r)
+      where
+        by-answer : (a : Answer) → isRefusal a ≡ false
+            → holding (judgementOf t sets created unclosed .state) ≡ answeredIn p a (judgementOf t sets created unclosed .state) .parts
+        by-answer Allowed r = refl
+        by-answer (Violated q) r = refl
+        by-answer (Refused n) r = false-true (sym r)

@@ -1,0 +1,73 @@
+-- What the functions compute beside the tables of checker_account: meanings that are lost, what the tables have room for, and the
+-- answers for inputs for which they have none.
+use Prim.Native.Nat.{ℕ, _/_, _<_, _≤_}
+use mathlib.Core.Path.{_≡_}
+use mathlib.Core.Bool.{Bool, true, false, not, _&&_, cond}
+use mathlib.Core.List.{List}
+use lib.Dec.{eqb, ltb, leb}
+use lib.ListN.{length, replicate}
+use Rattle.usage.specs.declared.Node.{Node}
+use Rattle.usage.specs.Limits.{policies, mostNodes, nodeFields}
+use Rattle.usage.specs.Tables.{nodeAt}
+use Rattle.usage.specs.Tests.{someBelow}
+use Rattle.checker_account.specs.Witness.{noName}
+use Rattle.checker_account.specs.Tables.{unnamed, places, rowsIn}
+use Rattle.checker_account.specs.Rounds.{formsIn, settleRound, passRound, hitAny, Searched}
+use Rattle.checker_account.specs.RowTable.{EventTables, fillRows}
+
+-- meaning m once meaning n no longer occurs
+unfoldable pub lost : ℕ → ℕ → ℕ
+lost m n = cond (eqb m n) unnamed m
+
+-- ── What the tables have room for ──
+
+-- the fields of a node, small enough for the tables: as a rule, and as a test that computes
+pub record Small (n : Node) : Type 0 where
+  pub a-node : n .a < mostNodes
+  pub b-node : n .b < mostNodes
+  pub a-name : n .kind ≡ 7 → n .a < noName
+
+unfoldable pub smallNode : Node → Bool
+smallNode n = ltb (n .a) mostNodes && (ltb (n .b) mostNodes && cond (eqb (n .kind) 7) (ltb (n .a) noName) true)
+
+-- the same of a flat table of nodes: "An outline is a tree of 1 to 64 nodes"
+pub record NodesFit (t : List ℕ) : Type 0 where
+  pub few : length t / nodeFields ≤ mostNodes
+  pub small : (k : ℕ) → k < length t / nodeFields → Small (nodeAt t k)
+
+unfoldable pub hasRoom : List ℕ → Bool
+hasRoom t = leb (length t / nodeFields) mostNodes && not (someBelow (λ k. not (smallNode (nodeAt t k))) (length t / nodeFields))
+
+-- ── Over the flat tables that the code has: `rows` of a policy's moves, and `nodes` ──
+
+-- a round of filling the table of ends, and one of filling the table of what is come to
+abbrev pub endsRound : List ℕ → List ℕ → ℕ → ℕ → List ℕ → List ℕ
+endsRound nodes rows x first = settleRound (rowsIn rows) x first (length nodes / nodeFields) (formsIn nodes)
+
+abbrev pub comesRound : List ℕ → List ℕ → List ℕ → ℕ → ℕ → List ℕ → List ℕ
+comesRound nodes rows t p l = passRound (rowsIn rows) p t l (length nodes / nodeFields) (formsIn nodes)
+
+-- the step of some node leaves an offending state
+abbrev pub hitIn : List ℕ → List ℕ → List ℕ → ℕ → ℕ → ℕ → Bool
+hitIn nodes rows u p x l = hitAny (rowsIn rows) p x u l (length nodes / nodeFields) (formsIn nodes)
+
+-- the answer to whether policy p is broken for the watched resource x
+abbrev pub SearchedIn : List ℕ → List ℕ → ℕ → ℕ → Bool → Type 0
+SearchedIn nodes rows p x answer = Searched (rowsIn rows) p x (length nodes / nodeFields) (formsIn nodes) answer
+
+-- ── For all inputs at all ──
+
+-- a policy is not broken where the tables have no room for the nodes
+abbrev pub SearchedIf : Bool → List ℕ → List ℕ → ℕ → ℕ → Bool → Type 0
+SearchedIf true nodes rows p x answer = SearchedIn nodes rows p x answer
+SearchedIf false nodes rows p x answer = answer ≡ false
+
+-- the table of rows is one of zeros where there is no such policy or no room for the nodes
+abbrev pub wholeIf : Bool → List ℕ → List ℕ
+wholeIf true r = r
+wholeIf false r = replicate places 0
+
+unfoldable pub rowTable : EventTables → ℕ → List ℕ → List ℕ
+rowTable tables p nodes =
+    wholeIf (ltb p policies && leb (length nodes / nodeFields) mostNodes)
+    (fillRows tables p (length nodes / nodeFields) (formsIn nodes) (replicate places 0))

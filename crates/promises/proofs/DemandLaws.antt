@@ -1,0 +1,66 @@
+-- The three demands hold.
+use Prim.Native.Nat.{ℕ}
+use mathlib.Core.Path.{_≡_, refl, subst}
+use mathlib.Core.Bool.{false}
+use mathlib.Core.List.{List, [], map, flatten}
+use mathlib.Core.Logic.{_↔_}
+use Rattle.usage.specs.declared.Edge.{Edge}
+use Rattle.usage.specs.declared.Node.{Node}
+use Rattle.usage.specs.Limits.{edgePlaces, nodePlaces}
+use Rattle.usage.specs.Answers.{Verdict, allowed}
+use Rattle.usage.specs.Judge.{JudgedAll}
+use Rattle.usage.specs.Check.{Leaves, Checked, accepts}
+use Rattle.usage.specs.Tables.{edgesOf, nodesOf, EdgeTable, NodeTable}
+use Rattle.usage.proofs.JudgeLaws.{judged-all-unique}
+use Rattle.usage.proofs.TableLaws.{decides-edge-table, decides-node-table}
+use Rattle.monitor_state.proofs.Verdict.{all-judged-begin}
+use Rattle.sheet_reader.specs.Readers.{policiesInto, outlineInto}
+use Rattle.sheet_reader.proofs.TableLaws.{policies-valid, outline-valid}
+use Rattle.sheet_reader.proofs.Converse.{edges-given}
+use Rattle.sheet_reader.proofs.NodeConverse.{nodes-given}
+use Rattle.checker.proofs.AcceptedLaws.{never-halted}
+use Rattle.promises.specs.Demands.{GivenBy, Demand1, Demand2, Demand3, Demands}
+use Rattle.promises.proofs.JudgeNumbers.{judge-refuses}
+use Rattle.promises.proofs.SheetNumbers.{policies-refuses, trace-refuses, outline-refuses}
+
+edges-sheet : (t : List ℕ) → EdgeTable t ↔ GivenBy edgePlaces policiesInto t
+edges-sheet t = (λ e. let g = edges-given t (decides-edge-table t .1 e) in record { text = g .text; rows = g .rows; accepts = g .accepts; table-is = g .table }, back)
+  where
+    back : GivenBy edgePlaces policiesInto t → EdgeTable t
+    back g = subst EdgeTable (g .table-is) (decides-edge-table (flatten (g .rows)) .0 (policies-valid edgePlaces (g .text) (g .rows) (g .accepts)))
+
+nodes-sheet : (t : List ℕ) → NodeTable t ↔ GivenBy nodePlaces outlineInto t
+nodes-sheet t = (λ e. let g = nodes-given t (decides-node-table t .1 e) in record { text = g .text; rows = g .rows; accepts = g .accepts; table-is = g .table }, back)
+  where
+    back : GivenBy nodePlaces outlineInto t → NodeTable t
+    back g = subst NodeTable (g .table-is) (decides-node-table (flatten (g .rows)) .0 (outline-valid nodePlaces (g .text) (g .rows) (g .accepts)))
+
+pub demand-1 : Demand1
+demand-1 = record {
+  judge = judge-refuses;
+  policies-reader = policies-refuses;
+  trace-reader = trace-refuses;
+  outline-reader = outline-refuses;
+  edges-given = edges-sheet;
+  nodes-given = nodes-sheet;
+}
+
+pub demand-2 : Demand2
+demand-2 t edges raws vs =
+    let j = all-judged-begin t (decides-edge-table t .1 edges) raws in (
+      λ e. subst (JudgedAll false (edgesOf t) [] false raws) e j,
+      λ k. judged-all-unique j k,
+    )
+
+pub demand-3 : Demand3
+demand-3 = record {
+  right = λ t n v c. c .exact v .1 refl;
+  no-other = λ t n v w c r. c .exact w .0 r;
+  never-halted = λ t n edges nodes c. never-halted t (decides-edge-table t .1 edges) (nodesOf n) (nodes .outline) (none-left c);
+}
+  where
+    none-left : {es : List Edge} {ns : List Node} → Checked false es ns allowed → (p : ℕ) → Leaves false es ns p → ⊥
+    none-left (accepts f) = f
+
+pub demands : Demands
+demands = record { first = demand-1; second = demand-2; third = demand-3 }

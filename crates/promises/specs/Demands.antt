@@ -1,0 +1,100 @@
+-- The three demands on the product, stated over the definitions that the public functions' contracts are equations with: the judge answers
+-- `judgeOf` (`monitor::judge` and `judge_lent`, `api_records`, `api_c`), the readers answer and store `policiesInto`, `traceInto` and
+-- `outlineInto` (`sheet_reader`), and the check answers the one verdict that `Checked` holds of (`checker::check`). proofs/ has the proof
+-- of each. That no function reads outside its memory or runs on without end is what the language asks of each before it is built.
+use Prim.Native.Nat.{ℕ, suc, _<_}
+use mathlib.Core.Path.{_≡_}
+use mathlib.Core.Bool.{true, false}
+use mathlib.Core.List.{List, [], _∷_, _++_, map, flatten, List·Memᴰ}
+use mathlib.Core.Logic.{_↔_}
+use Rattle.usage.specs.declared.RawStep.{RawStep}
+use Rattle.usage.specs.Limits.{policies, edgePlaces, stepPlaces, nodePlaces}
+use Rattle.usage.specs.Answers.{Verdict, allowed, violated, refused, Refusal}
+use Rattle.usage.specs.Judge.{JudgedAll}
+use Rattle.usage.specs.Check.{Checked}
+use Rattle.usage.specs.Tables.{edgesOf, nodesOf, EdgeTable, NodeTable}
+use Rattle.monitor_state.specs.declared.State.{State}
+use Rattle.monitor_state.specs.declared.Answer.the-variants.{Violated, Refused}
+use Rattle.monitor_state.specs.Judge.{verdictOf, stateOk, halt, judgeOf, answersOf, startState}
+use Rattle.sheet_lines.specs.Sheet.{Result, accepted, refused as sheet-refused}
+use Rattle.sheet_reader.specs.Readers.{policiesInto, traceInto, outlineInto, stored}
+use Rattle.checker.specs.Accepted.{NeverHalted}
+use Rattle.checker.specs.Promise.{RightVerdict, CheckPromise}
+
+-- ── Demand 1 ──
+
+-- "The running routine, in order", "The limits, last of all", "The calling program": the numbers that the judge has
+abbrev pub judgeNumbers : List ℕ
+judgeNumbers = 20 ∷ 21 ∷ 22 ∷ 23 ∷ 24 ∷ 25 ∷ 30 ∷ 31 ∷ 41 ∷ 42 ∷ []
+
+-- "The author of a sheet", and 40: the numbers that a sheet has, and those that an outline has besides
+abbrev pub sheetNumbers : List ℕ
+sheetNumbers = 40 ∷ 5 ∷ 1 ∷ 4 ∷ 2 ∷ 3 ∷ []
+
+abbrev pub outlineNumbers : List ℕ
+outlineNumbers = sheetNumbers ++ (9 ∷ 6 ∷ 7 ∷ 8 ∷ [])
+
+-- "answer outside its list": an answer of the judge is allowed, violated with one of the eight policies, or refused with one of the numbers
+abbrev pub Listed : List ℕ → Verdict → Type 0
+Listed numbers allowed = Unit {0}
+Listed numbers (violated p) = p < policies
+Listed numbers (refused n) = List·Memᴰ n numbers
+
+-- "A refusal has its number, in its stated case only, and changes nothing in the state or in what the caller lent": of every table of edges,
+-- every state and every step at all.
+pub record JudgeRefuses : Type 0 where
+  pub listed : (t : List ℕ) (s : State) (raw : RawStep) → Listed judgeNumbers (verdictOf (judgeOf t s raw .answer))
+  pub keeps : (t : List ℕ) (s : State) (raw : RawStep) (n : ℕ) → judgeOf t s raw .answer ≡ Refused n → judgeOf t s raw .state ≡ s
+  -- "a halted state that is otherwise the one before the step"
+  pub halts : (t : List ℕ) (s : State) (raw : RawStep) (p : ℕ) → judgeOf t s raw .answer ≡ Violated p → judgeOf t s raw .state ≡ halt s
+  -- the cases of the numbers that no past tells; those of the others are in demand 2
+  pub no-table : (t : List ℕ) (s : State) (raw : RawStep) → (judgeOf t s raw .answer ≡ Refused 41) ↔ (EdgeTable t → ⊥)
+  pub no-state : (t : List ℕ) (s : State) (raw : RawStep) → (judgeOf t s raw .answer ≡ Refused 42) ↔ (EdgeTable t × (stateOk s ≡ false))
+
+-- The same of a reader, which is lent a table of so many places to fill and the bytes of a sheet.
+pub record ReaderRefuses (numbers : List ℕ) (needed : ℕ) (into : ℕ → List ℕ → Result) : Type 0 where
+  pub listed : (places : ℕ) (text : List ℕ) (r : Refusal) → into places text ≡ sheet-refused r → List·Memᴰ (r .number) numbers
+  pub keeps : (places : ℕ) (text table : List ℕ) (r : Refusal) → into places text ≡ sheet-refused r → stored (into places text) table ≡ table
+  -- "40 a table lent to be filled that is smaller than its sheet's largest count"
+  pub no-room : (places : ℕ) (text : List ℕ) → (into places text ≡ sheet-refused record { line = 0; number = 40 }) ↔ (places < needed)
+
+-- "41 a table lent to be used that, taken whole, no accepted sheet gives": some sheet, read into a table of so many places, gives this table
+pub record GivenBy (needed : ℕ) (into : ℕ → List ℕ → Result) (table : List ℕ) : Type 0 where
+  pub text : List ℕ
+  pub rows : List (List ℕ)
+  pub accepts : into needed text ≡ accepted rows
+  pub table-is : flatten rows ≡ table
+
+-- "No sheet, step, table or state, however malformed, makes it .. answer outside its list", and a refusal changes nothing.
+pub record Demand1 : Type 0 where
+  pub judge : JudgeRefuses
+  pub policies-reader : ReaderRefuses sheetNumbers edgePlaces policiesInto
+  pub trace-reader : ReaderRefuses sheetNumbers stepPlaces traceInto
+  pub outline-reader : ReaderRefuses outlineNumbers nodePlaces outlineInto
+  -- the tables that 41 does not refuse are those that the sheets give
+  pub edges-given : (t : List ℕ) → EdgeTable t ↔ GivenBy edgePlaces policiesInto t
+  pub nodes-given : (t : List ℕ) → NodeTable t ↔ GivenBy nodePlaces outlineInto t
+
+-- ── Demand 2 ──
+
+-- "Each step is judged as the published definition of usage policies says, over the whole past and every choice of the policy's resource":
+-- from the judge's start, for every list of steps at all, the answers are the right ones after the past that the steps before left, and no
+-- others are.
+abbrev pub Demand2 : Type 0
+Demand2 = (t : List ℕ) → EdgeTable t → (raws : List RawStep) (vs : List Verdict)
+    → (map verdictOf (answersOf t startState raws) ≡ vs) ↔ JudgedAll false (edgesOf t) [] false raws vs
+
+-- ── Demand 3 ──
+
+-- "What the check accepts, the judge never halts: one theorem over whole traces; and the check is exact, naming the lowest policy at fault."
+-- The check tells v where `CheckPromise` holds of v. Then v is right, no other verdict is, and acceptance means what it says.
+pub record Demand3 : Type 0 where
+  pub right : (t n : List ℕ) (v : Verdict) → CheckPromise t n v → RightVerdict t n v
+  pub no-other : (t n : List ℕ) (v w : Verdict) → CheckPromise t n v → RightVerdict t n w → v ≡ w
+  pub never-halted : (t n : List ℕ) → EdgeTable t → NodeTable n → Checked false (edgesOf t) (nodesOf n) allowed → NeverHalted t (nodesOf n)
+
+-- All three.
+pub record Demands : Type 0 where
+  pub first : Demand1
+  pub second : Demand2
+  pub third : Demand3

@@ -1,0 +1,2 @@
+-- The three demands on the product, in one file.
+pub mod Demands

@@ -1,0 +1,90 @@
+-- Laws of what both programs print, and of the lent buffer.
+use Prim.Native.Nat.{ℕ, _+_, _-_, _*_, _≤_, _<_}
+use mathlib.Core.Path.{_≡_, sym, ap, _∙_}
+use mathlib.Core.List.{List, _++_}
+use native.Mathlib.Nat.{zero-add, sub-zero}
+use native.Mathlib.Omega.{arith}
+use lib.ListN.{length, take, drop, length-append}
+use lib.Seq.{sets, length-sets}
+use borrow.Author.Tests.{lt-ltb, le-ltb}
+use Rattle.sheet_lines.specs.Sheet.{refused, sheet}
+use Rattle.sheet_lines.specs.Sheets.{policySheet}
+use Rattle.sheet_reader.proofs.AnswerLaws.{Holds}
+use Rattle.sheet_reader.proofs.RefusalLaws.{sheet-low}
+use Rattle.report_lines.specs.Lines.{namesLine, namesRoom, row}
+use Rattle.report_lines.specs.Put.{putAt, endAt}
+use Rattle.report_lines.proofs.PutLaws.{sets-append, sets-front}
+use Rattle.report_lines.proofs.RowLaws.{row-eight, length-names, names-stored}
+use Rattle.report_lines.proofs.FitLaws.{stored-at}
+use Rattle.report.specs.Output.{afterPolicies, printed, longestOutlineRow, outlineRoom, lengthPut, put}
+
+-- a function's result r and the buffer that it leaves are those of an output
+abbrev pub Printed : ℕ → List ℕ → List ℕ → ℕ → List ℕ → Type 0
+Printed room buffer output r after = (r ≡ lengthPut room buffer output) × (after ≡ put room buffer output)
+
+-- two parts that are stored one after the other
+joined : (buffer first second : List ℕ) → length first + length second ≤ length buffer
+    → sets (sets buffer 0 first) (length first) second ≡ (first ++ second) ++ drop (length (first ++ second)) buffer
+joined buffer first second l =
+    let k = length-append first second in
+    ap (λ (i : ℕ). sets (sets buffer 0 first) i second) (sym (zero-add (length first)))
+    ∙ sym (sets-append buffer 0 first second)
+    ∙ sets-front (first ++ second) buffer (omega arith)
+
+module _ (room : ℕ) (buffer : List ℕ) where
+  pub no-room : (output : List ℕ) → length buffer < room → Printed room buffer output 0 buffer
+  unfolding lengthPut put
+  no-room output h = (rw (lt-ltb (length buffer) room h), rw (lt-ltb (length buffer) room h))
+
+  two-parts : (first second after : List ℕ) (r : ℕ) → room ≤ length buffer → r ≡ length first + length second → r ≤ length buffer
+      → after ≡ sets (sets buffer 0 first) (length first) second → Printed room buffer (first ++ second) r after
+  unfolding lengthPut put
+  two-parts first second after r h e l t =
+      rw (le-ltb (length buffer) room h) (e ∙ sym (length-append first second), t ∙ joined buffer first second (omega arith))
+
+-- the line of a refused sheet of policies is no longer than that of an outline
+policies-short : (text : List ℕ) (line number : ℕ) → sheet policySheet text ≡ refused record { line = line; number = number }
+    → length (row line 3 number) ≤ longestOutlineRow
+policies-short text line number e =
+    let l = sheet-low policySheet text record { line = line; number = number } e in
+    row-eight line 3 number (let h = l .line in omega arith) (omega arith) (l .number)
+
+-- ── After the names, from what the functions return: the place `at` after them, and the buffer `named` that holds them ──
+
+module _ (buffer : List ℕ) (fits : namesRoom ≤ length buffer) (at : ℕ) (named : List ℕ) (ea : at ≡ endAt buffer 0 namesLine)
+    (en : named ≡ putAt buffer 0 namesLine) where
+  pub names-end : at ≡ namesRoom
+  names-end = names-stored buffer fits ea en .0 ∙ length-names
+
+  pub names-length : length named ≡ length buffer
+  names-length = ap length (names-stored buffer fits ea en .1) ∙ length-sets buffer 0 namesLine
+
+  module _ (room : ℕ) (text : List ℕ) (rest : List ℕ → List ℕ) (enough : room ≤ length buffer) (least : outlineRoom ≤ room) where
+    -- a part that is stored after the names
+    then-part : (part after : List ℕ) (r : ℕ) → afterPolicies (sheet policySheet text) rest ≡ part → r ≡ at + length part → after
+        ≡ sets named at part
+        → namesRoom + length part ≤ room → Printed room buffer (printed (sheet policySheet text) rest) r after
+    unfolding printed
+    then-part part after r e er eo l =
+        let o = names-stored buffer fits ea en in
+        let k = names-end in
+        rw e (two-parts room buffer namesLine part after r enough (rw (o .0) at er) (omega arith) (rw (o .0, o .1) at eo))
+
+    -- the rest, with the edges of an accepted sheet of policies
+    pub printed-held : (table : List ℕ) (n : ℕ) → Holds policySheet text table n → {r : ℕ} {after : List ℕ}
+        → r ≡ at + length (rest (take (n * 6 - 0) table)) → after ≡ sets named at (rest (take (n * 6 - 0) table))
+        → namesRoom + length (rest (take (n * 6 - 0) table)) ≤ room → Printed room buffer (printed (sheet policySheet text) rest) r after
+    printed-held table n h {r} {after} er eo l =
+        then-part (rest (take (n * 6 - 0) table)) after r (rw (h .result, sub-zero (n * 6)) (ap rest (sym (h .flat)))) er eo l
+
+    -- the line of a refused one
+    pub printed-refused : (line number : ℕ) → sheet policySheet text ≡ refused record { line = line; number = number }
+        → {r : ℕ} {after : List ℕ}
+        → r ≡ endAt named at (row line 3 number) → after ≡ putAt named at (row line 3 number)
+        → Printed room buffer (printed (sheet policySheet text) rest) r after
+    printed-refused line number e {r} {after} er eo =
+        let f = policies-short text line number e in
+        let k = names-end in
+        let m = names-length in
+        let b = stored-at named at (row line 3 number) (omega arith) er eo in
+        then-part (row line 3 number) after r (rw e) (b .0) (b .1) (omega arith)

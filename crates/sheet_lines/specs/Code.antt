@@ -1,0 +1,43 @@
+-- What only the functions behind `sheet` compute.
+use Prim.Native.Nat.{ℕ, _+_, _*_}
+use mathlib.Core.List.{List, [], _++_, flatten}
+use mathlib.Core.Bool.{Bool, true, false, cond}
+use lib.Dec.{eqb}
+use lib.ListN.{length, take, drop}
+use Rattle.sheet_bytes.specs.declared.Part.{Part}
+use Rattle.sheet_lines.specs.declared.Reading.{Reading}
+use Rattle.sheet_lines.specs.declared.Reading.the-variants.{Stored, Refused}
+use Rattle.sheet_lines.specs.Sheet.{Result, accepted, refused}
+
+abbrev pub emptyPart : Part
+emptyPart = record { count = 0; digits = 0; value = 0 }
+
+-- the answer after n accepted lines; number 0 is no refusal
+abbrev pub answerAfter : ℕ → ℕ → Reading
+answerAfter n number = cond (eqb number 0) (Stored n) (Refused (n + 2) number)
+
+abbrev pub isStored : Reading → Bool
+isStored (Stored count) = true
+isStored (Refused line number) = false
+
+-- ── What a text is read into ──
+
+-- so many lines, with these values one after the other; or a refusal
+pub data Held : Type 0 where
+  held : ℕ → List ℕ → Held
+  refusing : ℕ → ℕ → Held
+
+-- the answer of the code with what stands in its buffer, n values to a line; after a refusal the buffer does not count
+abbrev pub heldBy : ℕ → Reading → List ℕ → Held
+heldBy n (Stored count) buffer = held count (take (count * n) buffer)
+heldBy n (Refused line number) buffer = refusing line number
+
+-- what stands in the buffer after the values
+abbrev pub restAfter : ℕ → Reading → List ℕ → List ℕ
+restAfter n (Stored count) buffer = drop (count * n) buffer
+restAfter n (Refused line number) buffer = []
+
+-- a result after so many lines with these values
+abbrev pub heldOnto : ℕ → List ℕ → Result → Held
+heldOnto n done (accepted rows) = held (n + length rows) (done ++ flatten rows)
+heldOnto n done (refused r) = refusing (r .line) (r .number)

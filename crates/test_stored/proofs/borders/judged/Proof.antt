@@ -1,0 +1,47 @@
+-- The numbers that are handed back are those that the arrays then hold.
+use Prim.Native.Nat.{ℕ}
+use mathlib.Core.Path.{ap}
+use lib.ListN.{getD}
+use borrow.Author.Needs.{needs}
+use Rattle.api_c.specs.Parts.{Parts}
+use Rattle.test_stored.proofs.borders.judged.Statement.{statement}
+use Rattle.test_stored.proofs.borders.judged.Tie as tie
+
+array-write-edges : tie.Need-array-write-edges
+array-write-edges c = search needs
+
+array-write-created : tie.Need-array-write-created
+array-write-created c = search needs
+
+array-write-created-2 : tie.Need-array-write-created-2
+array-write-created-2 c = search needs
+
+slice-aggregate-judge-parts : tie.Need-slice-aggregate-judge-parts
+slice-aggregate-judge-parts c = search needs
+
+judge-parts-requires : tie.Need-judge-parts-requires
+judge-parts-requires c κs = search needs
+
+array-read-t29 : tie.Need-array-read-t29
+array-read-t29 c = search needs
+
+array-read-t32 : tie.Need-array-read-t32
+array-read-t32 c = search needs
+
+returns : tie.Need-returns
+returns c =
+    let e = c .judge-parts .ensures in
+    (e .0, (ap (λ (p : Parts). getD (p .numbers) 0 0) (e .1), ap (λ (p : Parts). getD (p .numbers) 1 0) (e .1)))
+
+pub judged-spec : {M : Type 1} → statement M
+judged-spec =
+    tie.close
+    (tie.spec
+    array-write-edges
+    array-write-created
+    array-write-created-2
+    slice-aggregate-judge-parts
+    judge-parts-requires
+    array-read-t29
+    array-read-t32
+    returns)

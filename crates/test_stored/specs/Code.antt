@@ -1,0 +1,25 @@
+-- What the border calls are made on, and a reader's answer as one number.
+use Prim.Native.Nat.{ℕ}
+use mathlib.Core.List.{List, [], _∷_}
+use lib.ListN.{replicate, set}
+use Rattle.usage.specs.Limits.{policies, mostCreated, edgeFields}
+use Rattle.usage.specs.Answers.{allowed, refused}
+use Rattle.sheet_lines.specs.declared.Reading.{Reading}
+use Rattle.sheet_lines.specs.declared.Reading.the-variants.{Stored, Refused}
+use Rattle.monitor_sets.specs.Instances.{setPlaces}
+use Rattle.api_c.specs.Codes.{codeOf}
+use Rattle.api_c.specs.Parts.{Parts, partsOf}
+
+-- as the judge's answer is told: refused with the number, or allowed where the sheet was accepted
+abbrev pub readingCode : Reading → ℕ
+readingCode (Stored n) = codeOf allowed
+readingCode (Refused line number) = codeOf (refused number)
+
+-- one edge of zeros, but for its end
+abbrev pub edgeTo : ℕ → List ℕ
+edgeTo to = set (replicate edgeFields 0) 5 to
+
+-- a state like the start, but for the count, the flag and the first two created numbers
+abbrev pub bordering : ℕ → ℕ → ℕ → ℕ → Parts
+bordering count flag first second =
+    partsOf (replicate setPlaces 1) (set (set (replicate mostCreated 0) 0 first) 1 second) (replicate policies 0) (count ∷ flag ∷ [])
