@@ -10,10 +10,10 @@ mod rules;
 
 use inputs::{Outline, Step};
 use monitor::State;
-use proved::{check as proved_check, Parts};
 use reference::rng::Rng;
 use std::hint::black_box;
 use std::time::{Duration, Instant};
+use wiforekun::{check_code as proved_check, State as Parts};
 
 /// The state as the proved code is lent it.
 fn parts_of(state: &State) -> Parts {
@@ -46,7 +46,7 @@ fn verify_judge(edges: &[u8], steps: &[Step]) {
     let mut state = monitor::START;
     let mut parts = parts_of(&state);
     for step in steps {
-        let proved = parts.judge(edges, *step);
+        let proved = parts.judge_code(edges, *step);
         let plain = plain_judge(&mut state, edges, *step);
         assert_eq!(proved, plain, "the judge on {step:?}");
         assert!(parts == parts_of(&state), "the state after {step:?}");
@@ -164,7 +164,7 @@ fn rows(only: &str) {
         let mut codes = 0;
         measured(&mut || {
             for step in &steps {
-                codes |= black_box(parts.judge(black_box(&edges), *step));
+                codes |= black_box(parts.judge_code(black_box(&edges), *step));
             }
         });
         measured(&mut || {

@@ -1,20 +1,20 @@
 //! The proved code, called with the reference program's types.
 
-use proved::Parts;
 use reference::judge::Step;
 use reference::policy::Edge;
 use reference::state::State;
+use wiforekun::{CREATED_LENGTH, SETS_LENGTH, TRACE_ROOM, UNCLOSED_LENGTH};
 
-/// Room for the longest report.
-const ROOM: usize = 20_019;
+/// The sets of one policy: one for each instance.
+const INSTANCES: usize = SETS_LENGTH / UNCLOSED_LENGTH;
 
 /// A mark that the functions never write: what comes after the report must still hold it.
 const UNTOUCHED: u8 = 0xa5;
 
 fn report(function: fn(&[u8], &[u8], &mut [u8]) -> usize, policies: &[u8], other: &[u8]) -> Vec<u8> {
-    let mut out = vec![UNTOUCHED; ROOM + 16];
+    let mut out = vec![UNTOUCHED; TRACE_ROOM + 16];
     let length = function(policies, other, &mut out);
-    assert!(length <= ROOM, "a report of {length} bytes");
+    assert!(length <= TRACE_ROOM, "a report of {length} bytes");
     assert!(out[length..].iter().all(|byte| *byte == UNTOUCHED), "bytes after the report were written");
     out.truncate(length);
     out
@@ -22,18 +22,18 @@ fn report(function: fn(&[u8], &[u8], &mut [u8]) -> usize, policies: &[u8], other
 
 /// What the first program prints.
 pub fn monitor(policies: &[u8], trace: &[u8]) -> Vec<u8> {
-    report(proved::trace, policies, trace)
+    report(wiforekun::print_trace, policies, trace)
 }
 
 /// What the second program prints.
 pub fn check(policies: &[u8], outline: &[u8]) -> Vec<u8> {
-    report(proved::outline, policies, outline)
+    report(wiforekun::print_outline, policies, outline)
 }
 
 /// What the first program answers, lent a buffer of this length.
 pub fn monitor_room(policies: &[u8], trace: &[u8], room: usize) -> usize {
     let mut out = vec![UNTOUCHED; room];
-    proved::trace(policies, trace, &mut out)
+    wiforekun::print_trace(policies, trace, &mut out)
 }
 
 /// Six bytes to an edge; none where a value is no byte.
@@ -49,31 +49,31 @@ pub fn judge(edges: &[Edge], state: &State, step: Step) -> Option<((u32, usize),
     let narrow = |value: u64| u32::try_from(value).ok();
     let [kind, a, b] = step.row();
     let (kind, a, b) = (narrow(kind)?, narrow(a)?, narrow(b)?);
-    let mut sets = [0u8; 648];
+    let mut sets = [0u8; SETS_LENGTH];
     for (instance, row) in state.sets.iter().enumerate() {
         for (policy, mask) in row.iter().enumerate() {
-            sets[policy * 81 + instance] = *mask;
+            sets[policy * INSTANCES + instance] = *mask;
         }
     }
-    let mut created = [0u32; 64];
+    let mut created = [0u32; CREATED_LENGTH];
     for (place, number) in created.iter_mut().zip(state.created) {
         *place = narrow(number)?;
     }
-    let mut unclosed = [0u8; 8];
+    let mut unclosed = [0u8; UNCLOSED_LENGTH];
     for (place, number) in unclosed.iter_mut().zip(state.openings) {
         *place = u8::try_from(number).ok()?;
     }
-    let mut parts = Parts { sets, created, unclosed, numbers: [state.count, u64::from(state.halted)] };
-    let code = parts.judge(&edges, [kind, a, b]);
-    let Parts { sets, created, unclosed, numbers } = parts;
+    let mut parts = wiforekun::State { sets, created, unclosed, numbers: [state.count, state.halted] };
+    let code = parts.judge_code(&edges, [kind, a, b]);
+    let wiforekun::State { sets, created, unclosed, numbers } = parts;
     let mut after = state.clone();
     after.count = numbers[0];
-    after.halted = numbers[1] != 0;
+    after.halted = numbers[1];
     after.created = created.map(u64::from);
     after.openings = unclosed.map(u64::from);
     for (instance, row) in after.sets.iter_mut().enumerate() {
         for (policy, mask) in row.iter_mut().enumerate() {
-            *mask = sets[policy * 81 + instance];
+            *mask = sets[policy * INSTANCES + instance];
         }
     }
     Some(((code / 256, (code % 256) as usize), after))

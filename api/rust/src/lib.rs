@@ -1,0 +1,162 @@
+//! The proved monitor and checker of usage policies, as safe functions over those that the proved code exports. `docs/SHEETS.md` has the
+//! meaning of all values and numbers.
+//!
+//! A table of edges has [`EDGE_BYTES`] bytes for each edge (policy, from, action, on, who, to), a table of nodes [`NODE_BYTES`] for each
+//! node (kind, a, b), node 0 first.
+//!
+//! ```
+//! use wiforekun::{check, Answer, Outcome, State};
+//!
+//! // read (2) only what was taken (1)
+//! let edges = [0, 0, 1, 1, 0, 1, 0, 0, 2, 1, 0, 6];
+//! let mut state = State::START;
+//! assert_eq!(state.judge(&edges, [1, 0, 0]), Answer::Allowed);
+//! assert_eq!(state.judge(&edges, [0, 2, 3]), Answer::Violated(0));
+//! assert_eq!(state.judge(&edges, [0, 1, 3]), Answer::Refused(20));
+//! // a sandbox around taking and reading static resource 3
+//! assert_eq!(check(&edges, &[8, 0, 1, 3, 2, 3, 1, 1, 3, 1, 2, 3]), Outcome::Accepted);
+//! ```
+
+pub const EDGE_BYTES: usize = 6;
+pub const NODE_BYTES: usize = 3;
+
+/// The lengths of a state's arrays.
+pub const SETS_LENGTH: usize = 648;
+pub const CREATED_LENGTH: usize = 64;
+pub const UNCLOSED_LENGTH: usize = 8;
+pub const NUMBERS_LENGTH: usize = 2;
+
+/// The room that the longest output of each program takes.
+pub const TRACE_ROOM: usize = 20_019;
+pub const OUTLINE_ROOM: usize = 27;
+
+// Nothing but tests/api checks these declarations against the proved code, so they stand here alone.
+extern "C" {
+    fn judge_parts(
+        edges: *const u8,
+        edges_length: usize,
+        sets: *mut [u8; SETS_LENGTH],
+        created: *mut [u32; CREATED_LENGTH],
+        unclosed: *mut [u8; UNCLOSED_LENGTH],
+        numbers: *mut [u64; NUMBERS_LENGTH],
+        kind: u32,
+        a: u32,
+        b: u32,
+    ) -> u32;
+    fn check_tables(edges: *const u8, edges_length: usize, nodes: *const u8, nodes_length: usize) -> u32;
+}
+
+#[cfg(feature = "report")]
+extern "C" {
+    fn report_trace(
+        policies: *const u8,
+        policies_length: usize,
+        trace: *const u8,
+        trace_length: usize,
+        out: *mut u8,
+        out_length: usize,
+    ) -> usize;
+    fn report_outline(
+        policies: *const u8,
+        policies_length: usize,
+        outline: *const u8,
+        outline_length: usize,
+        out: *mut u8,
+        out_length: usize,
+    ) -> usize;
+}
+
+/// What the monitor answers to a step.
+#[derive(Clone, Copy, Debug, PartialEq, Eq)]
+pub enum Answer {
+    Allowed,
+    /// The lowest open policy that is not respected.
+    Violated(u8),
+    /// The number of the refusal.
+    Refused(u8),
+}
+
+/// What the checker answers to an outline.
+#[derive(Clone, Copy, Debug, PartialEq, Eq)]
+pub enum Outcome {
+    Accepted,
+    /// The lowest policy that some run leaves open and not respected.
+    Named(u8),
+    /// The number of the refusal.
+    Refused(u8),
+}
+
+/// A state of the monitor. Its fields are open to callers that store it; a state that the monitor never makes is refused with 42 or judged
+/// by what it holds.
+#[derive(Clone, Debug, PartialEq, Eq)]
+pub struct State {
+    /// The states that each instance may be in, as bits.
+    pub sets: [u8; SETS_LENGTH],
+    /// The dynamic resources that were created, in their order.
+    pub created: [u32; CREATED_LENGTH],
+    /// For each policy its openings that are not closed.
+    pub unclosed: [u8; UNCLOSED_LENGTH],
+    /// How many resources were created, and 1 where the run is halted.
+    pub numbers: [u64; NUMBERS_LENGTH],
+}
+
+impl State {
+    /// Each instance in state 0, nothing created, nothing open.
+    pub const START: State =
+        State { sets: [1; SETS_LENGTH], created: [0; CREATED_LENGTH], unclosed: [0; UNCLOSED_LENGTH], numbers: [0; NUMBERS_LENGTH] };
+
+    /// One step (kind, a, b). The state after it is the new one where it is allowed, halted where it is violated, and unchanged where it is
+    /// refused.
+    #[inline]
+    pub fn judge(&mut self, edges: &[u8], step: [u32; 3]) -> Answer {
+        let code = self.judge_code(edges, step);
+        match code / 256 {
+            0 => Answer::Allowed,
+            1 => Answer::Violated(detail(code)),
+            _ => Answer::Refused(detail(code)),
+        }
+    }
+
+    /// The same as one number: 256 times the answer (0 allowed, 1 violated, 2 refused), and the detail.
+    #[inline]
+    pub fn judge_code(&mut self, edges: &[u8], [kind, a, b]: [u32; 3]) -> u32 {
+        let State { sets, created, unclosed, numbers } = self;
+        // sound: slices and exclusive references to arrays of the declared lengths; the proved code keeps to these
+        unsafe { judge_parts(edges.as_ptr(), edges.len(), sets, created, unclosed, numbers, kind, a, b) }
+    }
+}
+
+fn detail(code: u32) -> u8 {
+    (code % 256) as u8
+}
+
+/// The check of a table of nodes under a table of edges.
+pub fn check(edges: &[u8], nodes: &[u8]) -> Outcome {
+    let code = check_code(edges, nodes);
+    match code / 256 {
+        0 => Outcome::Accepted,
+        1 => Outcome::Named(detail(code)),
+        _ => Outcome::Refused(detail(code)),
+    }
+}
+
+/// The same as one number: 256 times the answer (0 accepted, 1 named, 2 refused), and the detail.
+#[inline]
+pub fn check_code(edges: &[u8], nodes: &[u8]) -> u32 {
+    // sound: two slices to read
+    unsafe { check_tables(edges.as_ptr(), edges.len(), nodes.as_ptr(), nodes.len()) }
+}
+
+/// What the first program prints for these sheets, put into `out`: its length, or 0 where `out` is shorter than [`TRACE_ROOM`].
+#[cfg(feature = "report")]
+pub fn print_trace(policies: &[u8], trace: &[u8], out: &mut [u8]) -> usize {
+    // sound: two slices to read and one to write
+    unsafe { report_trace(policies.as_ptr(), policies.len(), trace.as_ptr(), trace.len(), out.as_mut_ptr(), out.len()) }
+}
+
+/// What the second program prints for these sheets, put into `out`: its length, or 0 where `out` is shorter than [`OUTLINE_ROOM`].
+#[cfg(feature = "report")]
+pub fn print_outline(policies: &[u8], outline: &[u8], out: &mut [u8]) -> usize {
+    // sound: two slices to read and one to write
+    unsafe { report_outline(policies.as_ptr(), policies.len(), outline.as_ptr(), outline.len(), out.as_mut_ptr(), out.len()) }
+}

@@ -1,0 +1,65 @@
+//! The safe functions, on cases whose answers are worked by hand.
+
+use wiforekun::{check, Answer, Outcome, State};
+
+/// Read (2) only what was taken (1) and not given back (3).
+const P: [u8; 18] = [0, 0, 1, 1, 0, 1, 0, 1, 3, 1, 0, 0, 0, 0, 2, 1, 0, 6];
+
+fn answers(edges: &[u8], steps: &[[u32; 3]]) -> Vec<Answer> {
+    let mut state = State::START;
+    steps.iter().map(|step| state.judge(edges, *step)).collect()
+}
+
+#[test]
+fn each_resource_has_an_instance_of_its_own() {
+    use Answer::{Allowed, Refused, Violated};
+    let steps = [[1, 0, 0], [0, 0, 16], [0, 1, 16], [0, 2, 16], [0, 0, 17], [0, 2, 17], [0, 3, 16]];
+    assert_eq!(answers(&P, &steps), [Allowed, Allowed, Allowed, Allowed, Allowed, Violated(0), Refused(20)]);
+}
+
+#[test]
+fn a_refused_step_changes_nothing() {
+    let mut state = State::START;
+    assert_eq!(state.judge(&P, [0, 0, 16]), Answer::Allowed);
+    assert_eq!(state.judge(&P, [0, 1, 3]), Answer::Allowed);
+    let before = state.clone();
+    for (step, number) in [([3, 0, 0], 21), ([0, 0, 15], 22), ([0, 0, 16], 23), ([0, 1, 17], 24), ([2, 0, 0], 25)] {
+        assert_eq!(state.judge(&P, step), Answer::Refused(number));
+        assert!(state == before, "the state after refusal {number}");
+    }
+    assert_eq!(state.judge(&P[..17], [0, 1, 3]), Answer::Refused(41));
+    assert!(state == before);
+}
+
+#[test]
+fn a_violation_halts_and_changes_nothing_else() {
+    let mut state = State::START;
+    assert_eq!(state.judge(&P, [1, 0, 0]), Answer::Allowed);
+    let mut halted = state.clone();
+    halted.numbers[1] = 1;
+    assert_eq!(state.judge(&P, [0, 2, 3]), Answer::Violated(0));
+    assert!(state == halted);
+}
+
+#[test]
+fn outlines() {
+    // a sandbox around: read static 3; take it and read it; and a table that is no outline
+    assert_eq!(check(&P, &[8, 0, 1, 1, 2, 3]), Outcome::Named(0));
+    assert_eq!(check(&P, &[8, 0, 1, 3, 2, 3, 1, 1, 3, 1, 2, 3]), Outcome::Accepted);
+    assert_eq!(check(&P, &[]), Outcome::Refused(41));
+}
+
+#[cfg(feature = "report")]
+#[test]
+fn printed() {
+    let policies = b"policy from action on who to\n0 0 1 1 0 1\n0 1 3 1 0 0\n0 0 2 1 0 6\n";
+    let mut out = [0xa5; wiforekun::TRACE_ROOM];
+    let length = wiforekun::print_trace(policies, b"kind a b\n0 2 3\n1 0 0\n", &mut out);
+    assert_eq!(&out[..length], b"line answer detail\n2 0 0\n3 1 0\n");
+    assert!(out[length..].iter().all(|byte| *byte == 0xa5));
+    assert_eq!(wiforekun::print_trace(policies, b"kind a b\n", &mut out[1..]), 0);
+    let mut out = [0xa5; wiforekun::OUTLINE_ROOM];
+    let length = wiforekun::print_outline(policies, b"node kind a b\n0 6 0 0\n", &mut out);
+    assert_eq!(&out[..length], b"line answer detail\n2 5 7\n");
+    assert_eq!(wiforekun::print_outline(policies, b"node kind a b\n", &mut out[1..]), 0);
+}

@@ -1,0 +1,88 @@
+/* The monitor and the checker for programs in C: the functions that the proved code exports.
+ *
+ *   rt staticlib api_c    proves and writes target/staticlib/libapi_c.a: judge_parts, check_tables
+ *   rt staticlib report   proves and writes target/staticlib/libreport.a: report_trace, report_outline
+ *   cc -Iapi program.c target/staticlib/libapi_c.a
+ *
+ * They are for x86-64. No function keeps anything between calls, allocates, reads or writes anything but what it is lent, or has a case
+ * in which it does not return. They may be called from several threads, each with a state of its own.
+ *
+ * Asked of every call, and not tested: a pointer is not null and points to as many elements as is told, also where that is 0; it has its
+ * type's alignment; and an array that is lent to be changed overlaps no other.
+ *
+ * docs/SHEETS.md has the meaning of all values and numbers. tests/api holds the lengths below to the proved code. */
+#ifndef WIFOREKUN_H
+#define WIFOREKUN_H
+
+#include <stddef.h>
+#include <stdint.h>
+#include <string.h>
+
+#ifdef __cplusplus
+extern "C" {
+#endif
+
+/* A table of edges: six bytes for each (policy, from, action, on, who, to), in the order of the sheet. */
+#define WIFOREKUN_EDGE_BYTES 6
+#define WIFOREKUN_MOST_EDGES 256
+/* A table of nodes: three bytes for each (kind, a, b), node 0 first. */
+#define WIFOREKUN_NODE_BYTES 3
+#define WIFOREKUN_MOST_NODES 64
+
+/* The state of the monitor: the lengths of its arrays, in elements, and their alignments, in bytes. */
+#define WIFOREKUN_SETS_LENGTH 648
+#define WIFOREKUN_SETS_ALIGN 1
+#define WIFOREKUN_CREATED_LENGTH 64
+#define WIFOREKUN_CREATED_ALIGN 4
+#define WIFOREKUN_UNCLOSED_LENGTH 8
+#define WIFOREKUN_UNCLOSED_ALIGN 1
+#define WIFOREKUN_NUMBERS_LENGTH 2
+#define WIFOREKUN_NUMBERS_ALIGN 8
+
+struct wiforekun_state {
+    uint8_t sets[WIFOREKUN_SETS_LENGTH];         /* the states that each instance may be in, as bits */
+    uint32_t created[WIFOREKUN_CREATED_LENGTH];  /* the dynamic resources that were created, in their order */
+    uint8_t unclosed[WIFOREKUN_UNCLOSED_LENGTH]; /* for each policy its openings that are not closed */
+    uint64_t numbers[WIFOREKUN_NUMBERS_LENGTH];  /* how many were created; 1 where the run is halted, else 0 */
+};
+
+/* The start: each instance in state 0 (the set with bit 0 alone), nothing created, nothing open, not halted. */
+static inline void wiforekun_start(struct wiforekun_state *state) {
+    memset(state, 0, sizeof *state);
+    memset(state->sets, 1, sizeof state->sets);
+}
+
+/* An answer: 0 allowed or accepted, 1 violated or refused with a policy, 2 refused with a number. Its detail: 0, the policy or the
+ * number. */
+#define WIFOREKUN_ANSWER(code) ((code) / 256u)
+#define WIFOREKUN_DETAIL(code) ((code) % 256u)
+
+/* One step of the monitor, under a table of edges (its length in bytes). The state's arrays are lent one by one. Where the step is allowed
+ * they hold the new state; where it is violated only the halted flag changes, to 1; where it is refused with a number nothing changes.
+ * Of the numbers 40 to 42: 41 where no accepted sheet gives the table; 42 where the state has more than 64 resources created, one twice or
+ * outside 16 to 65535, or a halted flag other than 0 and 1. A state that passes but was never reached is judged by the sets that it holds.
+ * Elements of `created` from the count on are not looked at. */
+uint32_t judge_parts(const uint8_t *edges, size_t edges_length, uint8_t *sets, uint32_t *created, uint8_t *unclosed, uint64_t *numbers,
+                     uint32_t kind, uint32_t a, uint32_t b);
+
+static inline uint32_t wiforekun_judge(struct wiforekun_state *state, const uint8_t *edges, size_t edges_length, uint32_t kind, uint32_t a,
+                                       uint32_t b) {
+    return judge_parts(edges, edges_length, state->sets, state->created, state->unclosed, state->numbers, kind, a, b);
+}
+
+/* The check of a table of nodes under a table of edges (lengths in bytes). 41 where no accepted sheet gives one of the tables. */
+uint32_t check_tables(const uint8_t *edges, size_t edges_length, const uint8_t *nodes, size_t nodes_length);
+
+/* What the two programs print, from the bytes of the sheets: the text is written to `out`, and its length is the answer. Bytes after it
+ * keep their contents. Where `out` is shorter than the room below, nothing is written and the answer is 0. */
+#define WIFOREKUN_TRACE_ROOM 20019
+#define WIFOREKUN_OUTLINE_ROOM 27
+size_t report_trace(const uint8_t *policies, size_t policies_length, const uint8_t *trace, size_t trace_length, uint8_t *out,
+                    size_t out_length);
+size_t report_outline(const uint8_t *policies, size_t policies_length, const uint8_t *outline, size_t outline_length, uint8_t *out,
+                      size_t out_length);
+
+#ifdef __cplusplus
+}
+#endif
+#endif

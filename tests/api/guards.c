@@ -1,0 +1,248 @@
+/* The exported functions keep to the lengths and need no more than the alignments of wiforekun.h. Each lent array lies in a page of its own
+ * between two pages that can't be touched: at its end, at its beginning, and inside at the least alignment; the rest of the page is a mark
+ * that must stay. Tables that are lent to be read lie at the end of a page that can't be written to. A run beside, on a plain state, must
+ * give the same answers and states. */
+#define _DEFAULT_SOURCE
+#include "wiforekun.h"
+#include <stdio.h>
+#include <stdlib.h>
+#include <sys/mman.h>
+#include <unistd.h>
+
+#define MARK 0xa5
+#define STEPS 8000
+
+static size_t page;
+
+#define REQUIRE(fact)                                                          \
+    do {                                                                       \
+        if (!(fact)) {                                                         \
+            fprintf(stderr, "%s:%d: not so: %s\n", __FILE__, __LINE__, #fact); \
+            exit(1);                                                           \
+        }                                                                      \
+    } while (0)
+
+enum place { END, BEGINNING, LEAST_ALIGNED, PLACES };
+
+struct lent {
+    uint8_t *ground; /* the page, between two that can't be touched */
+    uint8_t *bytes;
+    size_t size;
+};
+
+static uint8_t *ground(void) {
+    uint8_t *three = mmap(NULL, 3 * page, PROT_NONE, MAP_PRIVATE | MAP_ANONYMOUS, -1, 0);
+    REQUIRE(three != MAP_FAILED);
+    REQUIRE(mprotect(three + page, page, PROT_READ | PROT_WRITE) == 0);
+    memset(three + page, MARK, page);
+    return three + page;
+}
+
+static struct lent lend(const void *from, size_t size, size_t align, enum place place) {
+    struct lent lent = {ground(), NULL, size};
+    REQUIRE(size + 2 * align <= page);
+    lent.bytes = place == END ? lent.ground + page - size : place == BEGINNING ? lent.ground : lent.ground + align;
+    REQUIRE((uintptr_t)lent.bytes % align == 0);
+    /* no more than its alignment */
+    REQUIRE(place != LEAST_ALIGNED || (uintptr_t)lent.bytes % (2 * align) != 0);
+    memcpy(lent.bytes, from, size);
+    return lent;
+}
+
+static void give_back(struct lent lent) {
+    for (uint8_t *at = lent.ground; at < lent.ground + page; at++)
+        REQUIRE((at >= lent.bytes && at < lent.bytes + lent.size) || *at == MARK);
+    REQUIRE(munmap(lent.ground - page, 3 * page) == 0);
+}
+
+static struct lent lend_to_read(const void *from, size_t size) {
+    struct lent lent = lend(from, size, 1, END);
+    REQUIRE(mprotect(lent.ground, page, PROT_READ) == 0);
+    return lent;
+}
+
+static uint32_t seed;
+
+static uint32_t below(uint32_t most) {
+    seed ^= seed << 13;
+    seed ^= seed >> 17;
+    seed ^= seed << 5;
+    return seed % most;
+}
+
+struct parts {
+    struct lent sets, created, unclosed, numbers;
+};
+
+static struct parts lend_state(const struct wiforekun_state *state, enum place place) {
+    struct parts parts = {
+        lend(state->sets, sizeof state->sets, WIFOREKUN_SETS_ALIGN, place),
+        lend(state->created, sizeof state->created, WIFOREKUN_CREATED_ALIGN, place),
+        lend(state->unclosed, sizeof state->unclosed, WIFOREKUN_UNCLOSED_ALIGN, place),
+        lend(state->numbers, sizeof state->numbers, WIFOREKUN_NUMBERS_ALIGN, place),
+    };
+    return parts;
+}
+
+static int same(const struct parts *parts, const struct wiforekun_state *state) {
+    return !memcmp(parts->sets.bytes, state->sets, sizeof state->sets) &&
+           !memcmp(parts->created.bytes, state->created, sizeof state->created) &&
+           !memcmp(parts->unclosed.bytes, state->unclosed, sizeof state->unclosed) &&
+           !memcmp(parts->numbers.bytes, state->numbers, sizeof state->numbers);
+}
+
+static uint32_t judge(const struct parts *parts, struct lent edges, const uint32_t step[3]) {
+    return judge_parts(edges.bytes, edges.size, parts->sets.bytes, (uint32_t *)parts->created.bytes, parts->unclosed.bytes,
+                       (uint64_t *)parts->numbers.bytes, step[0], step[1], step[2]);
+}
+
+static void give_state_back(const struct parts *parts) {
+    give_back(parts->sets);
+    give_back(parts->created);
+    give_back(parts->unclosed);
+    give_back(parts->numbers);
+}
+
+/* A run of many kinds of step, refused ones too, lent and plain. No edge leads to an offending state, so it is never halted. */
+static void run(enum place place) {
+    uint8_t edges[WIFOREKUN_MOST_EDGES][WIFOREKUN_EDGE_BYTES];
+    for (unsigned i = 0; i < WIFOREKUN_MOST_EDGES; i++) {
+        uint8_t on = (uint8_t)below(3), to = (uint8_t)below(6);
+        uint8_t edge[] = {(uint8_t)below(8), (uint8_t)below(6), (uint8_t)below(8), on, on ? 0 : (uint8_t)below(16), to};
+        memcpy(edges[i], edge, sizeof edge);
+    }
+    struct wiforekun_state plain;
+    wiforekun_start(&plain);
+    struct lent table = lend_to_read(edges, sizeof edges);
+    struct parts parts = lend_state(&plain, place);
+    int last_set = 0, last_unclosed = 0;
+    for (unsigned i = 0; i < STEPS; i++) {
+        uint32_t kind = below(4), step[3] = {kind, below(9), kind == 0 || below(9) == 0 ? below(120) : 0};
+        struct wiforekun_state before = plain;
+        uint32_t code = judge(&parts, table, step);
+        REQUIRE(code == wiforekun_judge(&plain, *edges, sizeof edges, step[0], step[1], step[2]));
+        REQUIRE(same(&parts, &plain));
+        REQUIRE(WIFOREKUN_ANSWER(code) != 2 || same(&parts, &before));
+        last_set |= plain.sets[WIFOREKUN_SETS_LENGTH - 1] != 1;
+        last_unclosed |= plain.unclosed[WIFOREKUN_UNCLOSED_LENGTH - 1] > 0;
+    }
+    /* the whole of each array is in use */
+    REQUIRE(plain.numbers[0] == WIFOREKUN_CREATED_LENGTH && plain.created[WIFOREKUN_CREATED_LENGTH - 1] >= 16);
+    REQUIRE(last_set && last_unclosed);
+    give_state_back(&parts);
+    REQUIRE(munmap(table.ground - page, 3 * page) == 0);
+}
+
+/* A violation: only the halted flag changes. */
+static void violation(enum place place) {
+    static const uint8_t edges[] = {5, 0, 1, 2, 0, 6};
+    static const uint32_t opening[3] = {1, 5, 0}, event[3] = {0, 1, 2};
+    struct wiforekun_state plain;
+    wiforekun_start(&plain);
+    struct lent table = lend_to_read(edges, sizeof edges);
+    struct parts parts = lend_state(&plain, place);
+    REQUIRE(judge(&parts, table, opening) == 0);
+    plain.unclosed[5] = 1;
+    REQUIRE(same(&parts, &plain));
+    REQUIRE(judge(&parts, table, event) == 256 + 5);
+    plain.numbers[1] = 1;
+    REQUIRE(same(&parts, &plain));
+    REQUIRE(judge(&parts, table, event) == 512 + 20);
+    REQUIRE(same(&parts, &plain));
+    give_state_back(&parts);
+    REQUIRE(munmap(table.ground - page, 3 * page) == 0);
+}
+
+static void refused_with(uint32_t number, const char *what, const struct wiforekun_state *state, const uint8_t *edges, size_t length) {
+    static const uint32_t event[3] = {0, 1, 2};
+    for (enum place place = END; place < PLACES; place++) {
+        struct lent table = lend_to_read(edges, length);
+        struct parts parts = lend_state(state, place);
+        uint32_t code = judge(&parts, table, event);
+        if (code != 512 + number || !same(&parts, state)) {
+            fprintf(stderr, "tests/api/guards: %s is not refused with %u and left as it is, but answered %u %u\n", what, (unsigned)number,
+                    (unsigned)WIFOREKUN_ANSWER(code), (unsigned)WIFOREKUN_DETAIL(code));
+            exit(1);
+        }
+        give_state_back(&parts);
+        REQUIRE(munmap(table.ground - page, 3 * page) == 0);
+    }
+}
+
+/* Tables and states that are refused with 41 and 42, and stay as they are. */
+static void refusals(void) {
+    static const uint8_t edges[] = {0, 0, 1, 1, 0, 1}, high[] = {8, 0, 1, 1, 0, 1};
+    static const uint8_t many[(WIFOREKUN_MOST_EDGES + 1) * WIFOREKUN_EDGE_BYTES];
+    struct wiforekun_state state;
+    wiforekun_start(&state);
+    refused_with(41, "a table that ends inside an edge", &state, edges, sizeof edges - 1);
+    refused_with(41, "a table with policy 8", &state, high, sizeof high);
+    refused_with(41, "a table of too many edges", &state, many, sizeof many);
+    state.numbers[0] = WIFOREKUN_CREATED_LENGTH + 1;
+    refused_with(42, "a count above the most", &state, edges, sizeof edges);
+    state.numbers[0] = UINT64_MAX;
+    refused_with(42, "the highest count", &state, edges, sizeof edges);
+    state.numbers[0] = 2;
+    state.created[0] = state.created[1] = 20;
+    refused_with(42, "a resource created twice", &state, edges, sizeof edges);
+    state.created[1] = 15;
+    refused_with(42, "a static resource created", &state, edges, sizeof edges);
+    state.created[1] = 65536;
+    refused_with(42, "a resource above the highest", &state, edges, sizeof edges);
+    state.created[1] = 21;
+    state.numbers[1] = 1;
+    refused_with(20, "a halted state", &state, edges, sizeof edges);
+    state.numbers[1] = 2;
+    refused_with(42, "a halted flag of 2", &state, edges, sizeof edges);
+    state.numbers[1] = UINT64_MAX;
+    refused_with(42, "the highest halted flag", &state, edges, sizeof edges);
+}
+
+/* The check reads no more than its tables. */
+static void outlines(void) {
+    static const uint8_t edges[] = {0, 0, 2, 1, 0, 6}, nodes[] = {8, 0, 1, 1, 2, 3};
+    struct lent table = lend_to_read(edges, sizeof edges), tree = lend_to_read(nodes, sizeof nodes);
+    REQUIRE(check_tables(table.bytes, table.size, tree.bytes, tree.size) == 256);
+    REQUIRE(check_tables(table.bytes, 0, tree.bytes, tree.size) == 0);
+    REQUIRE(check_tables(table.bytes, table.size, tree.bytes, tree.size - 1) == 512 + 41);
+    REQUIRE(check_tables(table.bytes, table.size, tree.bytes, 0) == 512 + 41);
+    REQUIRE(check_tables(table.bytes, table.size - 1, tree.bytes, tree.size) == 512 + 41);
+}
+
+#ifdef REPORT
+/* The report writes no more than it tells, and nothing where the room is one byte less than the header tells. */
+static void reports(void) {
+    static const char policies[] = "policy from action on who to\n0 0 2 1 0 6\n", trace[] = "kind a b\n1 0 0\n0 2 3\n";
+    static const char outline[] = "node kind a b\n0 8 0 1\n1 1 2 3\n";
+    static const char judged[] = "line answer detail\n2 0 0\n3 1 0\n", checked[] = "line answer detail\n0 1 0\n";
+    uint8_t *out = malloc(WIFOREKUN_TRACE_ROOM);
+    REQUIRE(out != NULL);
+    memset(out, MARK, WIFOREKUN_TRACE_ROOM);
+    struct lent p = lend_to_read(policies, strlen(policies)), t = lend_to_read(trace, strlen(trace));
+    struct lent o = lend_to_read(outline, strlen(outline));
+    REQUIRE(report_trace(p.bytes, p.size, t.bytes, t.size, out, WIFOREKUN_TRACE_ROOM - 1) == 0);
+    REQUIRE(report_outline(p.bytes, p.size, o.bytes, o.size, out, WIFOREKUN_OUTLINE_ROOM - 1) == 0);
+    for (size_t i = 0; i < WIFOREKUN_TRACE_ROOM; i++) REQUIRE(out[i] == MARK);
+    REQUIRE(report_trace(p.bytes, p.size, t.bytes, t.size, out, WIFOREKUN_TRACE_ROOM) == strlen(judged));
+    REQUIRE(!memcmp(out, judged, strlen(judged)) && out[strlen(judged)] == MARK);
+    REQUIRE(report_outline(p.bytes, p.size, o.bytes, o.size, out, WIFOREKUN_OUTLINE_ROOM) == strlen(checked));
+    REQUIRE(!memcmp(out, checked, strlen(checked)) && out[strlen(checked)] == judged[strlen(checked)]);
+}
+#endif
+
+int main(void) {
+    page = (size_t)sysconf(_SC_PAGESIZE);
+    REQUIRE(sizeof(uint32_t) == WIFOREKUN_CREATED_ALIGN && sizeof(uint64_t) == WIFOREKUN_NUMBERS_ALIGN);
+    for (enum place place = END; place < PLACES; place++) {
+        seed = 2463534242u + place;
+        run(place);
+        violation(place);
+    }
+    outlines();
+#ifdef REPORT
+    reports();
+#endif
+    refusals();
+    puts("tests/api/guards: no byte outside of what was lent was touched");
+    return 0;
+}

@@ -1,0 +1,188 @@
+"""The picture of a trace over a policy: the states that instances went through, step by step. Plain SVG, made here."""
+
+import html
+import os
+import sys
+
+import sheets
+from instances import UNSEEN, Past
+from sheets import EVENT, OFFENDING, OPEN
+
+FONT = "Helvetica,Arial,sans-serif"
+COLUMN, ROW = 64, 34
+LEFT, TITLE, GAP, FOOT = 70, 30, 26, 34
+# labels stand at a slant; about so wide is a letter of theirs, along it and upwards
+SLANT, ALONG, UPWARDS = 38, 5.2, 4.1
+MOST_STEPS = 200
+INK, RED, GREY = "#2f4b6e", "#c0182b", "#9aa3ad"
+VIOLATED, REFUSED = 1, 2
+
+
+class Canvas:
+    """Lines of an SVG picture."""
+
+    def __init__(self):
+        self.lines = []
+
+    def put(self, name, text=None, **marks):
+        marks = " ".join(f'{key.rstrip("_").replace("_", "-")}="{html.escape(str(value))}"' for key, value in marks.items())
+        self.lines.append(f"<{name} {marks}/>" if text is None else f"<{name} {marks}>{html.escape(text)}</{name}>")
+
+    def text(self, x, y, text, size=12, **marks):
+        self.put("text", text, x=x, y=y, font_size=size, **{"fill": "#333333", **marks})
+
+
+def read_answers(path, steps):
+    """The (answer, detail) of each step, as the monitor printed it."""
+    if path is None:
+        raise ValueError("a trace is drawn with --answers FILE, what the monitor printed for it (docs/SHEETS.md)")
+    with sys.stdin if path == "-" else open(path, encoding="ascii") as file:
+        lines = file.read().split("\n")
+    rows = [line.split(" ") for line in lines[1:-1]]
+    wanted = [str(line) for line in range(2, len(steps) + 2)]
+    if lines[0] != "line answer detail" or [row[0] for row in rows] != wanted or any(len(row) != 3 for row in rows):
+        raise ValueError(f"{path} is not what the monitor prints for this trace")
+    return [(int(answer), int(detail)) for _, answer, detail in rows]
+
+
+class Column:
+    """One step of the trace: what it is, what was answered, and whether each policy is open after it."""
+
+    def __init__(self, line, step, answer):
+        self.line = line
+        self.step = step
+        self.answer, self.detail = answer
+        self.open = [False] * sheets.POLICIES
+
+    def label(self, names):
+        kind, a, b = self.step
+        if kind == EVENT:
+            action = names.get("action", a) or f"action {a}"
+            return f"{action}({names.get('resource', b) or b})"
+        return ("open " if kind == OPEN else "close ") + (names.get("policy", a) or f"policy {a}")
+
+    def told(self):
+        return {VIOLATED: "violated", REFUSED: f"refused {self.detail}"}.get(self.answer, "allowed")
+
+
+def follow(edges, steps, answers):
+    """The columns, and the past as far as it was judged."""
+    past = Past(edges)
+    columns = []
+    for line, (step, answer) in enumerate(zip(steps, answers), 2):
+        column = Column(line, step, answer)
+        if column.answer != REFUSED:
+            past.take(line, step)
+        column.open = [unclosed > 0 for unclosed in past.unclosed]
+        columns.append(column)
+    return columns, past
+
+
+def chosen(arguments, columns, past):
+    """The policy and the resources to draw."""
+    violated = [column for column in columns if column.answer == VIOLATED]
+    policy = arguments.policy
+    if policy is None:
+        opened = [column.step[1] for column in columns if column.step[0] == OPEN]
+        drawn = [number for number in range(sheets.POLICIES) if past.edges[number]]
+        policy = violated[0].detail if violated else min([p for p in opened if p in drawn] or drawn or [0])
+    if arguments.resource:
+        return policy, arguments.resource
+    if violated and past.breakers(policy):
+        return policy, [past.breaker(policy, violated[0].step)]
+    moved = [x for x in sorted(past.seen) if any(edge for move in past.moves(policy, x) for _, edge, _ in move.steps)]
+    return policy, moved or [UNSEEN]
+
+
+def centre(number):
+    """Where column NUMBER stands; 0 is the start."""
+    return LEFT + COLUMN // 2 + number * COLUMN
+
+
+def put_labels(canvas, columns, names, top):
+    canvas.text(centre(0), top - 12, "start", text_anchor="middle")
+    for number, column in enumerate(columns, 1):
+        place = f"rotate(-{SLANT} {centre(number) - 4} {top - 16})"
+        colour = GREY if column.answer == REFUSED else "#333333"
+        canvas.text(centre(number) - 4, top - 16, column.label(names), transform=place, fill=colour)
+        canvas.text(centre(number), top - 2, str(column.line), 10, text_anchor="middle", fill=GREY)
+
+
+def put_ground(canvas, columns, policy, states, top):
+    """While the policy is open, up to a violation; the rows of the states, offending ones in red."""
+    height = ROW * len(states)
+    for number, column in enumerate(columns, 1):
+        if column.open[policy]:
+            canvas.put("rect", x=centre(number) - COLUMN // 2, y=top, width=COLUMN, height=height, fill="#fff1d6")
+        if column.answer == VIOLATED:
+            break
+    for row, state in enumerate(reversed(states)):
+        y = top + row * ROW + ROW // 2
+        colour = RED if state in OFFENDING else "#333333"
+        line = "#e7b7bc" if state in OFFENDING else "#e3e7ec"
+        canvas.put("line", x1=LEFT, y1=y, x2=centre(len(columns)) + COLUMN // 2, y2=y, stroke=line)
+        canvas.text(LEFT - 10, y + 4, f"state {state}", text_anchor="end", fill=colour)
+
+
+def put_dot(canvas, number, y, state):
+    colour = RED if state in OFFENDING else INK
+    canvas.put("circle", cx=centre(number), cy=y, r=6, fill="#fde8ea" if state in OFFENDING else "#eef4fb", stroke=colour, stroke_width=1.6)
+
+
+def put_moves(canvas, columns, past, policy, x, height_of):
+    """The states of one instance after each step, and what led from one to the next."""
+    moves = {move.line: move for move in past.moves(policy, x)}
+    states = frozenset([0])
+    put_dot(canvas, 0, height_of(0), 0)
+    for number, column in enumerate(columns, 1):
+        move = moves.get(column.line)
+        steps = move.steps if move else [(state, None, state) for state in sorted(states)]
+        for state, edge, to in steps:
+            colour = GREY if edge is None else RED if to in OFFENDING else INK
+            y1, y2 = height_of(state), height_of(to)
+            width = 1 if edge is None else 2
+            canvas.put("line", x1=centre(number - 1) + 6, y1=y1, x2=centre(number) - 6, y2=y2, stroke=colour, stroke_width=width)
+            if edge is not None:
+                # beside the line, on the side that it slopes away from
+                side, anchor = {-1: (-4, "end"), 0: (0, "middle"), 1: (4, "start")}[(y2 > y1) - (y2 < y1)]
+                canvas.text(centre(number) - COLUMN // 2 + side, (y1 + y2) // 2 - 5, f"edge {edge}", 10, text_anchor=anchor, fill=colour)
+        states = move.after if move else states
+        for state in sorted(states):
+            put_dot(canvas, number, height_of(state), state)
+        if column.answer == VIOLATED:
+            return
+
+
+def put_answers(canvas, columns, y):
+    for number, column in enumerate(columns, 1):
+        colour = {VIOLATED: RED, REFUSED: GREY}.get(column.answer, "#3b7a40")
+        canvas.text(centre(number), y, column.told(), 10, text_anchor="middle", fill=colour)
+
+
+def trace(folder, steps, names, arguments):
+    """The picture of a trace."""
+    if len(steps) > MOST_STEPS:
+        raise ValueError(f"a trace of at most {MOST_STEPS} steps can be drawn")
+    try:
+        edges = sheets.read_sheet(sheets.POLICY_SHEET, sheets.load(os.path.join(folder, "policies.txt")))[1]
+    except sheets.Refused as wrong:
+        raise ValueError(f"policies.txt, {wrong}") from None
+    columns, past = follow(edges, steps, read_answers(arguments.answers, steps))
+    policy, resources = chosen(arguments, columns, past)
+    states = sorted({0} | {state for _, edge in past.edges[policy] for state in (edge[1], edge[5])})
+    canvas = Canvas()
+    longest = max([len(column.label(names)) for column in columns], default=0)
+    panel, labels = TITLE + ROW * len(states) + GAP, 34 + int(UPWARDS * longest)
+    width, height = centre(len(columns)) + COLUMN + int(ALONG * longest), labels + panel * len(resources) + FOOT
+    put_labels(canvas, columns, names, labels)
+    for number, x in enumerate(resources):
+        top = labels + number * panel + TITLE
+        told = f"resource {past.unseen_number()}, as any that is in no step" if x is UNSEEN else names.tell("resource", x)
+        canvas.text(LEFT, top - 8, f"{names.tell('policy', policy)}, the instance for x = {told[len('resource ') :]}", 13, font_weight="bold")
+        put_ground(canvas, columns, policy, states, top)
+        put_moves(canvas, columns, past, policy, x, lambda state, top=top: top + ROW * (len(states) - 1 - states.index(state)) + ROW // 2)
+    put_answers(canvas, columns, labels + panel * len(resources) + 2)
+    canvas.text(LEFT, height - 12, f"shaded: policy {policy} is open.  edge N: line N of policies.txt", 11, fill="#666666")
+    head = f'<svg xmlns="http://www.w3.org/2000/svg" width="{width}" height="{height}" viewBox="0 0 {width} {height}" font-family="{FONT}">'
+    ground = f'<rect width="{width}" height="{height}" fill="white"/>'
+    return "\n".join(['<?xml version="1.0" encoding="UTF-8"?>', head, ground, *canvas.lines, "</svg>"]) + "\n"
