@@ -16,18 +16,18 @@ use Rattle.usage.proofs.Logic.{false-true, not-both, or-left, or-right, or-case
 use Rattle.usage.proofs.Logic.{both-ways}
 use Rattle.automaton.specs.Mask.{has, single, union, offends, lowestIn}
 
-same-test : (a b : Bool) → Bool·beq a b ≡ true → a ≡ b
+pub same-test : (a b : Bool) → Bool·beq a b ≡ true → a ≡ b
 same-test true true e = refl
 same-test true false e = false-true e
 same-test false true e = false-true e
 same-test false false e = refl
 
 -- a test passes at each number below n: what a rule that is computed over all bytes is proved by
-unfoldable all-below : ℕ → (ℕ → Bool) → Bool
+unfoldable pub all-below : ℕ → (ℕ → Bool) → Bool
 all-below zero f = true
 all-below (suc n) f = f n && all-below n f
 
-all-below-at : (n : ℕ) (f : ℕ → Bool) → all-below n f ≡ true → (i : ℕ) → i < n → f i ≡ true
+pub all-below-at : (n : ℕ) (f : ℕ → Bool) → all-below n f ≡ true → (i : ℕ) → i < n → f i ≡ true
 unfolding all-below
 all-below-at zero f e i h = absurd (omega arith)
 all-below-at (suc n) f e i h = go (all-below-at n f (and-right (f n) (all-below n f) e)) (last-or-lower i n h)

@@ -18,7 +18,7 @@ use Rattle.usage.proofs.TableLaws.{nodes-length, nodes-member}
 use Rattle.automaton.proofs.MaskLaws.{some-at, some-found}
 use Rattle.checker_account.specs.Witness.{noName}
 use Rattle.checker_account.proofs.CodeLaws.{by-kind}
-use Rattle.checker_tables.specs.Code.{Small, smallNode, NodesFit, hasRoom}
+use Rattle.checker_tables.specs.Search.{Small, smallNode, NodesFit, hasRoom}
 
 -- ── One node ──
 

@@ -7,7 +7,7 @@ use native.Mathlib.Numerals.{add-one}
 use lib.Dec.{eqb}
 use borrow.Author.Tests.{ne-eqb}
 use Rattle.checker_account.specs.Tables.{unnamed, meaningAfter, forgotten}
-use Rattle.checker_tables.specs.Code.{lost}
+use Rattle.checker_tables.specs.Search.{lost}
 
 pub lost-created : (m : ℕ) → lost m 0 ≡ meaningAfter m true
 unfolding lost

@@ -10,7 +10,7 @@ ghost use Rattle.usage.specs.Outline.{formOf};
 ghost use Rattle.checker_account.specs.Witness.{noName};
 ghost use Rattle.checker_account.specs.Tables.{meanings, places, begun, rowsIn, joinedAt, place, _by_by_with_, halves, freshArrivals};
 ghost use Rattle.checker_account.specs.Rounds.{grown, entered, arrivalsOf, passNode, begins, Wide, Filled};
-ghost use Rattle.checker_tables.specs.Code.{Small, NodesFit, comesRound};
+ghost use Rattle.checker_tables.specs.Search.{Small, NodesFit, comesRound};
 use checker_account::MEANINGS;
 use checker_account::STARTS;
 use checker_account::Table;

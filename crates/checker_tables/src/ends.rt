@@ -9,7 +9,7 @@ ghost use Rattle.usage.specs.Outline.{formOf};
 ghost use Rattle.checker_account.specs.Witness.{noName};
 ghost use Rattle.checker_account.specs.Tables.{meanings, starts, places, base, kept, begun, rowsIn, secondEnds, freshEnds};
 ghost use Rattle.checker_account.specs.Rounds.{grown, endsOf, settleNode, Filled};
-ghost use Rattle.checker_tables.specs.Code.{Small, NodesFit, endsRound};
+ghost use Rattle.checker_tables.specs.Search.{Small, NodesFit, endsRound};
 use checker_account::STARTS;
 use checker_account::Table;
 use usage::NODE_FIELDS;

@@ -8,7 +8,7 @@ ghost use Rattle.usage.specs.Limits.{mostNodes};
 ghost use Rattle.usage.specs.Outline.{formOf};
 ghost use Rattle.checker_account.specs.Tables.{meanings, rowsIn, place};
 ghost use Rattle.checker_account.specs.Rounds.{leavesOf, hitNode};
-ghost use Rattle.checker_tables.specs.Code.{Small, NodesFit, hitIn};
+ghost use Rattle.checker_tables.specs.Search.{Small, NodesFit, hitIn};
 use checker_account::MEANINGS;
 use checker_account::Table;
 use usage::NODE_FIELDS;

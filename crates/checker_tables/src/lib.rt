@@ -9,7 +9,7 @@ ghost use Rattle.usage.specs.Limits.{states, nodeFields};
 ghost use Rattle.usage.specs.Tables.{nodeAt};
 ghost use Rattle.checker_account.specs.Tables.{over, joinedAt, places, least};
 ghost use Rattle.checker_account.specs.Rounds.{grown, Wide};
-ghost use Rattle.checker_tables.specs.Code.{lost, smallNode, hasRoom, SearchedIf};
+ghost use Rattle.checker_tables.specs.Search.{lost, smallNode, hasRoom, SearchedIf};
 use checker_account::NAMES;
 use checker_account::PLACES;
 use checker_account::Table;
@@ -56,14 +56,14 @@ fn join(t: &mut Table, i: usize, v: u16) -> bool
 }
 
 // Meaning m once meaning n no longer occurs: 1 + a name that is given to another resource, or 0 once the resource was created.
-fn lose(m: usize, n: usize) -> usize
+pub fn lose(m: usize, n: usize) -> usize
     ensures { λ r. ⌜ r ≡ lost m n ⌝ }
 {
     if m == n { UNNAMED } else { m }
 }
 
 // The least meaning that occurs: of a static resource only the last one does.
-fn least(x: usize) -> usize
+pub fn least(x: usize) -> usize
     ensures { λ r. ⌜ r ≡ least x ⌝ }
 {
     if x < WATCHED { UNNAMED } else { 0 }

@@ -9,7 +9,7 @@ ghost use Rattle.usage.specs.Tables.{edgesOf};
 ghost use Rattle.automaton.specs.Move.{rowsOf};
 ghost use Rattle.checker_account.specs.Tables.{over, places, ownCreated, rowsIn};
 ghost use Rattle.checker_account.specs.RowTable.{Bytes, rowsStored, eventRows, nodeRows};
-ghost use Rattle.checker_tables.specs.Code.{rowTable};
+ghost use Rattle.checker_tables.specs.Search.{rowTable};
 use checker_account::OTHERS;
 use checker_account::PLACES;
 use checker_account::STARTS;

@@ -7,7 +7,7 @@ fn main() {
     let mut outline = [0u8; 32769];
     let p = files::read_file(b"policies.txt", &mut policies);
     let o = files::read_file(b"outline.txt", &mut outline);
-    let mut out = [0u8; 27];
+    let mut out = [0u8; report::OUTLINE_ROOM];
     let n = report::report_outline(&policies[..p], &outline[..o], &mut out);
     files::print(&out, n);
 }

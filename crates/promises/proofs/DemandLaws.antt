@@ -16,8 +16,7 @@ use Rattle.usage.proofs.TableLaws.{decides-edge-table, decides-node-table}
 use Rattle.monitor_state.proofs.Verdict.{all-judged-begin}
 use Rattle.sheet_reader.specs.Readers.{policiesInto, outlineInto}
 use Rattle.sheet_reader.proofs.TableLaws.{policies-valid, outline-valid}
-use Rattle.sheet_reader.proofs.Converse.{edges-given}
-use Rattle.sheet_reader.proofs.NodeConverse.{nodes-given}
+use Rattle.sheet_reader.proofs.Converse.{edges-given, nodes-given}
 use Rattle.checker.proofs.AcceptedLaws.{never-halted}
 use Rattle.promises.specs.Demands.{GivenBy, Demand1, Demand2, Demand3, Demands}
 use Rattle.promises.proofs.JudgeNumbers.{judge-refuses}

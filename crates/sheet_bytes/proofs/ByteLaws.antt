@@ -20,7 +20,8 @@ digit-byte b e = go (ltb b 48) (ltb b 58) refl refl e
     low false true e = omega arith
     low false false e = omega arith
 
-    go : (x y : Bool) → ltb b 48 ≡ x → ltb b 58 ≡ y → _≡_ {A = ℕ} (cond x (cond (eqb b 32) 1 (cond (eqb b 10) 2 3)) (cond y 0 3)) 0 → (48 ≤ b) × (b < 58)
+    go : (x y : Bool) → ltb b 48 ≡ x → ltb b 58 ≡ y → _≡_ {A = ℕ} (cond x (cond (eqb b 32) 1 (cond (eqb b 10) 2 3)) (cond y 0 3)) 0
+        → (48 ≤ b) × (b < 58)
     go true y p q e = absurd (low (eqb b 32) (eqb b 10) e)
     go false true p q e = (ltb-false b 48 p, ltb-true b 58 q)
     go false false p q e = absurd (omega arith)

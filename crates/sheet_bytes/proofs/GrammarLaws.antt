@@ -13,7 +13,8 @@ use Rattle.usage.specs.Limits.{mostDigits}
 use Rattle.usage.proofs.Logic.{clash, by-cases}
 use Rattle.sheet_bytes.specs.Class.{classOf}
 use Rattle.sheet_bytes.specs.Line.{Progress, nothing, further, byte, read, complete}
-use Rattle.sheet_bytes.specs.Grammar.{Digits, no-digit, one-more, Value, Spaces, one-space, further-space, Values, last-value, next-value}
+use Rattle.sheet_bytes.specs.Grammar.{Digits, no-digit, one-more, Value, Spaces, one-space, further-space, Values, last-value}
+use Rattle.sheet_bytes.specs.Grammar.{next-value}
 
 abbrev at : List ℕ → ℕ → ℕ → Progress
 at us n v = record { values = us; digits = n; value = v }
@@ -25,7 +26,8 @@ unfolding read
 read-append o [] bs = refl
 read-append o (x ∷ xs) bs = read-append (byte o x) xs bs
 
-digit-byte : (us : List ℕ) (n v b : ℕ) → classOf b ≡ 0 → n < mostDigits → byte (some (at us n v)) b ≡ some (at us (n + 1) (v * 10 + (b - 48)))
+digit-byte : (us : List ℕ) (n v b : ℕ) → classOf b ≡ 0 → n < mostDigits
+    → byte (some (at us n v)) b ≡ some (at us (n + 1) (v * 10 + (b - 48)))
 digit-byte us n v b k h = rw (k, lt-ltb n mostDigits h) refl
 
 digits-read : (us : List ℕ) {n v : ℕ} {cs : List ℕ} → Digits n v cs → n ≤ mostDigits → read (some (at us 0 0)) cs ≡ some (at us n v)
@@ -85,7 +87,9 @@ abbrev After : List ℕ → List ℕ → Type 0
 After bs ws = Values ws bs ⊎ ((sp : List ℕ) × (cs : List ℕ) × Spaces sp × (bs ≡ sp ++ cs) × Values ws cs)
 
 abbrev Within-law : List ℕ → List ℕ → Type 0
-Within-law vs bs = (us : List ℕ) (n v : ℕ) (cs : List ℕ) → Digits (n + 1) v cs → n < mostDigits → complete (read (some (at us (n + 1) v)) bs) ≡ some vs → Goes-on us vs (λ ws. Values ws (cs ++ bs))
+Within-law vs bs =
+    (us : List ℕ) (n v : ℕ) (cs : List ℕ) → Digits (n + 1) v cs → n < mostDigits → complete (read (some (at us (n + 1) v)) bs) ≡ some vs
+    → Goes-on us vs (λ ws. Values ws (cs ++ bs))
 
 abbrev After-law : List ℕ → List ℕ → Type 0
 After-law vs bs = (u : ℕ) (us : List ℕ) → complete (read (some (at (u ∷ us) 0 0)) bs) ≡ some vs → Goes-on (u ∷ us) vs (After bs)
@@ -94,7 +98,8 @@ module _ (vs : List ℕ) where
   -- one more byte within a value
   within-step : (b : ℕ) (bs : List ℕ) → Within-law vs bs → After-law vs bs → Within-law vs (b ∷ bs)
   unfolding read
-  within-step b bs wi af us n v cs d h e = go (eqb (classOf b) 0) (eqb (classOf b) 1) (ltb (n + 1) mostDigits) (eqb (n + 1) 0) refl refl refl refl e
+  within-step b bs wi af us n v cs d h e =
+      go (eqb (classOf b) 0) (eqb (classOf b) 1) (ltb (n + 1) mostDigits) (eqb (n + 1) 0) refl refl refl refl e
     where
       value : Value v cs
       value = record { count = n + 1; some-digit = omega arith; few = omega arith; digits = d }
@@ -107,10 +112,12 @@ module _ (vs : List ℕ) where
       none-zero z = omega arith
 
       go : (x y l z : Bool) → eqb (classOf b) 0 ≡ x → eqb (classOf b) 1 ≡ y → ltb (n + 1) mostDigits ≡ l → eqb (n + 1) 0 ≡ z
-          → complete (read (cond x (cond l (some (at us (n + 1 + 1) (v * 10 + (b - 48)))) none) (cond y (cond z (further (at us (n + 1) v) us) (some (at (us ++ (v ∷ [])) 0 0))) none)) bs) ≡ some vs
+          → complete (read (cond x (cond l (some (at us (n + 1 + 1) (v * 10 + (b - 48)))) none)
+          (cond y (cond z (further (at us (n + 1) v) us) (some (at (us ++ (v ∷ [])) 0 0))) none)) bs) ≡ some vs
           → Goes-on us vs (λ ws. Values ws (cs ++ (b ∷ bs)))
       go true y true z p q r t e =
-          let g = wi us (n + 1) (v * 10 + (b - 48)) (cs ++ (b ∷ [])) (one-more b (eqb-true (classOf b) 0 p) d) (ltb-true (n + 1) mostDigits r) e in
+          let g = wi us (n + 1) (v * 10 + (b - 48)) (cs ++ (b ∷ [])) (one-more b (eqb-true (classOf b) 0 p) d)
+          (ltb-true (n + 1) mostDigits r) e in
           record { ws = g .ws; whole = g .whole; rest = rw (append-snoc cs b bs) at (g .rest) }
       go true y false z p q r t e = read-none bs vs e
       go false true l true p q r t e = absurd (none-zero (eqb-true (n + 1) 0 t))
@@ -120,7 +127,9 @@ module _ (vs : List ℕ) where
           record {
             ws = v ∷ g .ws;
             whole = g .whole ∙ append-snoc us v (g .ws);
-            rest = by-cases (g .rest) (λ w. next-value value (one-space b k) w) (λ w. subst (λ (l : List ℕ). Values (v ∷ g .ws) (cs ++ (b ∷ l))) (sym (w .3)) (next-value value (further-space b k (w .2)) (w .4)));
+            rest = by-cases (g .rest) (λ w. next-value value (one-space b k) w)
+                (λ w. subst (λ (l : List ℕ). Values (v ∷ g .ws) (cs ++ (b ∷ l))) (sym (w .3))
+                (next-value value (further-space b k (w .2)) (w .4)));
           }
       go false false l z p q r t e = read-none bs vs e
 
@@ -141,7 +150,8 @@ module _ (vs : List ℕ) where
           record {
             ws = g .ws;
             whole = g .whole;
-            rest = by-cases (g .rest) (λ w. inr (b ∷ [], bs, one-space b k, refl, w)) (λ w. inr (b ∷ w .0, w .1, further-space b k (w .2), ap (λ (l : List ℕ). b ∷ l) (w .3), w .4));
+            rest = by-cases (g .rest) (λ w. inr (b ∷ [], bs, one-space b k, refl, w))
+                (λ w. inr (b ∷ w .0, w .1, further-space b k (w .2), ap (λ (l : List ℕ). b ∷ l) (w .3), w .4));
           }
       go false false p q e = read-none bs vs e
 
@@ -164,7 +174,8 @@ module _ (vs : List ℕ) where
   read-values [] e = clash (cc)
   read-values (b ∷ bs) e = go (eqb (classOf b) 0) (eqb (classOf b) 1) refl e
     where
-      go : (x y : Bool) → eqb (classOf b) 0 ≡ x → complete (read (cond x (some (at [] (0 + 1) (0 * 10 + (b - 48)))) (cond y none none)) bs) ≡ some vs → Values vs (b ∷ bs)
+      go : (x y : Bool) → eqb (classOf b) 0 ≡ x
+          → complete (read (cond x (some (at [] (0 + 1) (0 * 10 + (b - 48)))) (cond y none none)) bs) ≡ some vs → Values vs (b ∷ bs)
       go true y p e =
           let g = both bs .0 [] 0 (0 * 10 + (b - 48)) (b ∷ []) (one-more b (eqb-true (classOf b) 0 p) no-digit) (omega arith) e in
           rw (g .whole) (g .rest)

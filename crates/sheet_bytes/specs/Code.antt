@@ -14,7 +14,8 @@ valueLimit = 10 ^ mostDigits
 
 abbrev pub digitStep : Part → ℕ → Next
 digitStep p b = cond (ltb (p .digits) mostDigits)
-    (cond (ltb (p .value) valueLimit) (Goes record { count = p .count; digits = p .digits + 1; value = p .value * 10 + (b - 48) }) Malformed)
+    (cond (ltb (p .value) valueLimit)
+    (Goes record { count = p .count; digits = p .digits + 1; value = p .value * 10 + (b - 48) }) Malformed)
     Malformed
 
 -- a space after the last value of a line of n fields ends the line or parts it from a value too many
@@ -31,4 +32,6 @@ abbrev pub endStep : ℕ → Part → Next
 endStep n p = cond (isComplete n p) Ends Malformed
 
 unfoldable pub byteStep : ℕ → Part → ℕ → Next
-byteStep n p b = cond (eqb (classOf b) 0) (digitStep p b) (cond (eqb (classOf b) 1) (spaceStep n p) (cond (eqb (classOf b) 2) (endStep n p) Malformed))
+byteStep n p b =
+    cond (eqb (classOf b) 0) (digitStep p b)
+    (cond (eqb (classOf b) 1) (spaceStep n p) (cond (eqb (classOf b) 2) (endStep n p) Malformed))

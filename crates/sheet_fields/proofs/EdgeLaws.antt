@@ -21,7 +21,8 @@ module _ (t : List ℕ) where
   unfolding edgeTable edgesOk
   too-long h =
       and-false (eqb (length t % edgeFields) 0) _
-      (ap (λ b. b && every edgeOk (edgesOf t)) (ap (λ (n : ℕ). leb n mostEdges) (edges-length t) ∙ lt-leb (length t / edgeFields) mostEdges h))
+      (ap (λ b. b && every edgeOk (edgesOf t))
+      (ap (λ (n : ℕ). leb n mostEdges) (edges-length t) ∙ lt-leb (length t / edgeFields) mostEdges h))
 
   module _ (w : length t % edgeFields ≡ 0) (l : length t / edgeFields ≤ mostEdges) where
     -- a table of so many whole edges is as good as each of its edges
@@ -29,4 +30,5 @@ module _ (t : List ℕ) where
     unfolding edgeTable edgesOk edgesOf
     each-edge =
         ap (λ b. b && (leb (length (edgesOf t)) mostEdges && every edgeOk (edgesOf t))) (eq-eqb (length t % edgeFields) 0 w)
-        ∙ ap (λ b. b && every edgeOk (edgesOf t)) (ap (λ (n : ℕ). leb n mostEdges) (edges-length t) ∙ le-leb (length t / edgeFields) mostEdges l)
+        ∙ ap (λ b. b && every edgeOk (edgesOf t))
+        (ap (λ (n : ℕ). leb n mostEdges) (edges-length t) ∙ le-leb (length t / edgeFields) mostEdges l)

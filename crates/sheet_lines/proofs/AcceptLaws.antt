@@ -40,13 +40,16 @@ values-length n l vs e = go (l .ended) e
     go false e = clash (cc)
 
 module _ (s : Sheet) where
-  pub lines-rows : (line left : ℕ) (ls : List Line) (rows : List (List ℕ)) → valueLines s line left ls ≡ accepted rows → Rows s rows × (length rows ≤ left)
+  pub lines-rows : (line left : ℕ) (ls : List Line) (rows : List (List ℕ)) → valueLines s line left ls ≡ accepted rows
+      → Rows s rows × (length rows ≤ left)
   unfolding valueLines
   lines-rows line left [] rows e = let z : [] ≡ rows = cc in rw (← z) (no-row, omega arith)
   lines-rows line zero (l ∷ ls) rows e = clash (cc)
-  lines-rows line (suc left) (l ∷ ls) rows e = go (valuesOf (s .fields) l) (valueLines s (suc line) left ls) (values-length (s .fields) l) (lines-rows (suc line) left ls) e
+  lines-rows line (suc left) (l ∷ ls) rows e =
+      go (valuesOf (s .fields) l) (valueLines s (suc line) left ls) (values-length (s .fields) l) (lines-rows (suc line) left ls) e
     where
-      after : (vs : List ℕ) (r : Result) → length vs ≡ s .fields → s .in-range vs ≡ true → ((rs : List (List ℕ)) → r ≡ accepted rs → Rows s rs × (length rs ≤ left))
+      after : (vs : List ℕ) (r : Result) → length vs ≡ s .fields → s .in-range vs ≡ true
+          → ((rs : List (List ℕ)) → r ≡ accepted rs → Rows s rs × (length rs ≤ left))
           → followed vs r ≡ accepted rows → Rows s rows × (length rows ≤ suc left)
       after vs (accepted rs) k m ih e =
           let z : vs ∷ rs ≡ rows = cc in
@@ -56,11 +59,13 @@ module _ (s : Sheet) where
       after vs (refused r) k m ih e = clash (cc)
 
       go : (o : Option (List ℕ)) (r : Result) → ((vs : List ℕ) → o ≡ some vs → length vs ≡ s .fields)
-          → ((rs : List (List ℕ)) → r ≡ accepted rs → Rows s rs × (length rs ≤ left)) → entry s line o r ≡ accepted rows → Rows s rows × (length rows ≤ suc left)
+          → ((rs : List (List ℕ)) → r ≡ accepted rs → Rows s rs × (length rs ≤ left)) → entry s line o r ≡ accepted rows → Rows s rows
+          × (length rows ≤ suc left)
       go none r k ih e = clash (cc)
       go (some vs) r k ih e = ranged (s .in-range vs) refl e
         where
-          ranged : (x : Bool) → s .in-range vs ≡ x → cond x (followed vs r) (refuseAt line 3) ≡ accepted rows → Rows s rows × (length rows ≤ suc left)
+          ranged : (x : Bool) → s .in-range vs ≡ x → cond x (followed vs r) (refuseAt line 3) ≡ accepted rows
+              → Rows s rows × (length rows ≤ suc left)
           ranged true q e = after vs r (k vs refl) q ih e
           ranged false q e = clash (cc)
 
@@ -68,15 +73,18 @@ module _ (s : Sheet) where
   unfolding sheet
   sheet-accepted text rows e = go (ltb longestSheet (length text)) (startsWith (s .names) text) e
     where
-      go : (x y : Bool) → cond x (refuseAt 0 5) (cond y (valueLines s 2 (s .most) (linesOf (drop (length (s .names)) text))) (refuseAt 1 1)) ≡ accepted rows → Accepted s rows
+      go : (x y : Bool) → cond x (refuseAt 0 5) (cond y (valueLines s 2 (s .most) (linesOf (drop (length (s .names)) text))) (refuseAt 1 1))
+          ≡ accepted rows → Accepted s rows
       go true y e = clash (cc)
-      go false true e = let h = lines-rows 2 (s .most) (linesOf (drop (length (s .names)) text)) rows e in record { each = h .0; few = h .1 }
+      go false true e =
+          let h = lines-rows 2 (s .most) (linesOf (drop (length (s .names)) text)) rows e in record { each = h .0; few = h .1 }
       go false false e = clash (cc)
 
   pub flat-length : {rows : List (List ℕ)} → Rows s rows → length (flatten rows) ≡ length rows * s .fields
   unfolding flatten
   flat-length no-row = omega arith
-  flat-length {rows} (row {vs} {rows = rs} k m r) = length-append vs (flatten rs) ∙ rw (suc-mul (length rs) (s .fields), k, flat-length r) (omega arith)
+  flat-length {rows} (row {vs} {rows =
+      rs} k m r) = length-append vs (flatten rs) ∙ rw (suc-mul (length rs) (s .fields), k, flat-length r) (omega arith)
 
 -- a text that begins with another is at least as long
 pub begins-length : (names text : List ℕ) → startsWith names text ≡ true → length names ≤ length text
@@ -93,7 +101,8 @@ pub record Of-rows (r : Result) (n : ℕ) (vs : List ℕ) : Type 0 where
   pub flat : vs ≡ flatten rows
 
 pub held-rows : (r : Result) (n : ℕ) (vs : List ℕ) → held n vs ≡ heldOnto 0 [] r → Of-rows r n vs
-held-rows (accepted rows) n vs e = let c : n ≡ 0 + length rows = cc in record { rows = rows; result = refl; count = c ∙ zero-add (length rows); flat = cc }
+held-rows (accepted rows) n vs e =
+    let c : n ≡ 0 + length rows = cc in record { rows = rows; result = refl; count = c ∙ zero-add (length rows); flat = cc }
 held-rows (refused r) n vs e = clash (cc)
 
 pub refusing-result : (r : Result) (line number : ℕ) → refusing line number ≡ heldOnto 0 [] r → r ≡ refuseAt line number

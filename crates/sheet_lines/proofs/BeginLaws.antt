@@ -23,6 +23,7 @@ module _ (names text : List ℕ) (i : ℕ) where
     unfolding startsWith
     differs k e = rw (drop-cons names i 0 h, drop-cons text i 0 k) (simp (ne-eqb _ _ e))
 
-    pub equal : i < length text → getD names i 0 ≡ getD text i 0 → startsWith (drop i names) (drop i text) ≡ startsWith (drop (i + 1) names) (drop (i + 1) text)
+    pub equal : i < length text → getD names i 0 ≡ getD text i 0
+        → startsWith (drop i names) (drop i text) ≡ startsWith (drop (i + 1) names) (drop (i + 1) text)
     unfolding startsWith
     equal k e = rw (drop-cons names i 0 h, drop-cons text i 0 k, add-one i) (simp (eq-eqb _ _ e))

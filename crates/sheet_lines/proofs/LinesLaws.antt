@@ -70,10 +70,13 @@ pub record In-line (s : Sheet) (text : List ℕ) (from : ℕ) (first buffer : Li
   pub begun : i ≤ length text
   pub sound : Sound (s .fields) p
   pub rest : drop (n * s .fields + p .count + 1) buffer ≡ drop (n * s .fields + p .count + 1) first
-  pub same : heldOnto n (take (n * s .fields) buffer) (in-line s (n + 2) (s .most - (n + 1)) (some (at (before s buffer n p) p)) (drop i text)) ≡ whole s (drop from text)
+  pub same : heldOnto n (take (n * s .fields) buffer) (in-line s (n + 2) (s .most - (n + 1)) (some (at (before s buffer n p) p)) (drop i text))
+      ≡ whole s (drop from text)
 
-pub begin : (s : Sheet) (text : List ℕ) (from : ℕ) (buffer : List ℕ) → length buffer ≡ mostValues → from ≤ length text → At-line s text from buffer buffer from 0
-begin s text from buffer l h = record { few = omega arith; size = l; begun = h; rest = refl; same = rw (zero-mul (s .fields), sub-zero (s .most)) refl }
+pub begin : (s : Sheet) (text : List ℕ) (from : ℕ) (buffer : List ℕ) → length buffer ≡ mostValues → from ≤ length text
+    → At-line s text from buffer buffer from 0
+begin s text from buffer l h =
+    record { few = omega arith; size = l; begun = h; rest = refl; same = rw (zero-mul (s .fields), sub-zero (s .most)) refl }
 
 -- a line is not empty where a byte is left
 first-line : (s : Sheet) (line : ℕ) (bs : List ℕ) → 0 < length bs → valueLines s line 0 (linesOf bs) ≡ refuseAt line 4
@@ -97,7 +100,8 @@ module _ (s : Sheet) (text : List ℕ) (from : ℕ) (lent buffer : List ℕ) (i 
   too-many h e =
       let z : s .most - n ≡ 0 = omega arith in
       let l : 0 < length (drop i text) = omega (arith, length-drop i text) in
-      ap (heldOnto n (take (n * s .fields) buffer)) (sym (ap (λ m. valueLines s (n + 2) m (linesOf (drop i text))) z ∙ first-line s (n + 2) (drop i text) l)) ∙ inv .same
+      ap (heldOnto n (take (n * s .fields) buffer))
+      (sym (ap (λ m. valueLines s (n + 2) m (linesOf (drop i text))) z ∙ first-line s (n + 2) (drop i text) l)) ∙ inv .same
 
   pub enter : 0 < s .fields → i < length text → n < s .most → In-line s text from buffer buffer i n emptyPart
   enter f h r = record {
@@ -106,7 +110,8 @@ module _ (s : Sheet) (text : List ℕ) (from : ℕ) (lent buffer : List ℕ) (i 
     begun = inv .begun;
     sound = record { few = f; small = omega arith; short = omega arith };
     rest = refl;
-    same = ap (heldOnto n (take (n * s .fields) buffer)) (sym (ap (λ m. valueLines s (n + 2) m (linesOf (drop i text))) left ∙ starts s (n + 2) (s .most - (n + 1)) text i h)) ∙ inv .same;
+    same = ap (heldOnto n (take (n * s .fields) buffer))
+        (sym (ap (λ m. valueLines s (n + 2) m (linesOf (drop i text))) left ∙ starts s (n + 2) (s .most - (n + 1)) text i h)) ∙ inv .same;
   }
     where
       left : s .most - n ≡ suc (s .most - (n + 1))
@@ -125,20 +130,23 @@ fits-in-range Trace vs h = simp (eq-eqb _ _ h)
 fits-in-range Outline vs h = simp (eq-eqb _ _ h)
 
 -- the values at the line feed
-completes : (f : ℕ) (vs : List ℕ) (p : Part) → length vs ≡ p .count → counted f (complete (some (at vs p))) ≡ cond (isComplete f p) (some (vs ++ (p .value ∷ []))) none
+completes : (f : ℕ) (vs : List ℕ) (p : Part) → length vs ≡ p .count
+    → counted f (complete (some (at vs p))) ≡ cond (isComplete f p) (some (vs ++ (p .value ∷ []))) none
 completes f vs p len = go (eqb (p .digits) 0)
   where
     longer : length (vs ++ (p .value ∷ [])) ≡ p .count + 1
     longer = omega (arith, length-append vs (p .value ∷ []))
 
-    go : (z : Bool) → counted f (cond z none (some (vs ++ (p .value ∷ [])))) ≡ cond (not z && eqb (p .count + 1) f) (some (vs ++ (p .value ∷ []))) none
+    go : (z : Bool) → counted f (cond z none (some (vs ++ (p .value ∷ [])))) ≡ cond (not z && eqb (p .count + 1) f)
+        (some (vs ++ (p .value ∷ []))) none
     go true = refl
     go false = rw longer refl
 
 -- one more line before the rest
 onto-more : (n : ℕ) (done vs : List ℕ) (r : Result) → heldOnto n done (followed vs r) ≡ heldOnto (n + 1) (done ++ vs) r
 unfolding flatten
-onto-more n done vs (accepted rows) = rw (add-one n, add-suc n (length rows), suc-add n (length rows), append-assoc done vs (flatten rows)) refl
+onto-more n done vs (accepted rows) =
+    rw (add-one n, add-suc n (length rows), suc-add n (length rows), append-assoc done vs (flatten rows)) refl
 onto-more n done vs (refused r) = refl
 
 module _ (s : Sheet) (text : List ℕ) (from : ℕ) (first buffer : List ℕ) (i n : ℕ) (p : Part)
@@ -148,7 +156,9 @@ module _ (s : Sheet) (text : List ℕ) (from : ℕ) (first buffer : List ℕ) (i
   written = set buffer (n * s .fields + p .count) (p .value)
 
   len : length (before s buffer n p) ≡ p .count
-  len = let h = inv .sound .few in let l = inv .size in omega (arith, length-take (p .count) (drop (n * s .fields) buffer), length-drop (n * s .fields) buffer)
+  len =
+      let h = inv .sound .few in let l = inv .size in
+      omega (arith, length-take (p .count) (drop (n * s .fields) buffer), length-drop (n * s .fields) buffer)
 
   done-same : take (n * s .fields) written ≡ take (n * s .fields) buffer
   done-same = take-set-le (n * s .fields) buffer (n * s .fields + p .count) (p .value) (omega arith)
@@ -158,46 +168,63 @@ module _ (s : Sheet) (text : List ℕ) (from : ℕ) (first buffer : List ℕ) (i
       let h = inv .sound .few in
       let k = inv .size in
       let l : p .count < length (drop (n * s .fields) buffer) = omega (arith, length-drop (n * s .fields) buffer) in
-      rw (add-one (p .count), drop-set-add (n * s .fields) buffer (p .count) (p .value)) (take-suc-set (drop (n * s .fields) buffer) (p .count) (p .value) l)
+      rw (add-one (p .count), drop-set-add (n * s .fields) buffer (p .count) (p .value))
+      (take-suc-set (drop (n * s .fields) buffer) (p .count) (p .value) l)
 
   rest-same : drop (n * s .fields + p .count + 1) written ≡ drop (n * s .fields + p .count + 1) first
   rest-same = drop-set-lt (n * s .fields + p .count + 1) buffer (n * s .fields + p .count) (p .value) (omega arith) ∙ inv .rest
 
   -- "2 .. the last line feed missing"
   pub unended : length text ≤ i → refusing (n + 2) 2 ≡ whole s (drop from text)
-  unended h = sym (ap (heldOnto n (take (n * s .fields) buffer)) (cut-off s (n + 2) (s .most - (n + 1)) text i (some (at (before s buffer n p) p)) h)) ∙ inv .same
+  unended h =
+      sym (ap (heldOnto n (take (n * s .fields) buffer)) (cut-off s (n + 2) (s .most - (n + 1)) text i (some (at (before s buffer n p) p)) h))
+      ∙ inv .same
 
   module _ (h : i < length text) where
     -- a byte other than a line feed
     module _ (e : classOf (getD text i 0) ≡ 2 → ⊥) where
-      onward : heldOnto n (take (n * s .fields) buffer) (in-line s (n + 2) (s .most - (n + 1)) (byte (some (at (before s buffer n p) p)) (getD text i 0)) (drop (i + 1) text)) ≡ whole s (drop from text)
-      onward = ap (heldOnto n (take (n * s .fields) buffer)) (sym (more s (n + 2) (s .most - (n + 1)) text i (some (at (before s buffer n p) p)) h e)) ∙ inv .same
+      onward : heldOnto n (take (n * s .fields) buffer)
+          (in-line s (n + 2) (s .most - (n + 1)) (byte (some (at (before s buffer n p) p)) (getD text i 0)) (drop (i + 1) text)) ≡ whole s
+          (drop from text)
+      onward =
+          ap (heldOnto n (take (n * s .fields) buffer))
+          (sym (more s (n + 2) (s .most - (n + 1)) text i (some (at (before s buffer n p) p)) h e)) ∙ inv .same
 
-      took : (next : Next) → byteStep (s .fields) p (getD text i 0) ≡ next → Stepped (s .fields) (before s buffer n p) p (byte (some (at (before s buffer n p) p)) (getD text i 0)) next
+      took : (next : Next) → byteStep (s .fields) p (getD text i 0) ≡ next
+          → Stepped (s .fields) (before s buffer n p) p (byte (some (at (before s buffer n p) p)) (getD text i 0)) next
       took next q = rw (← q) (stepped (s .fields) (before s buffer n p) p (getD text i 0) len (inv .sound))
 
       stops : byteStep (s .fields) p (getD text i 0) ≡ Malformed → refusing (n + 2) 2 ≡ whole s (drop from text)
-      stops q = sym (ap (heldOnto n (take (n * s .fields) buffer)) (full s (n + 2) (s .most - (n + 1)) (drop (i + 1) text) (byte (some (at (before s buffer n p) p)) (getD text i 0)) (took Malformed q))) ∙ onward
+      stops q =
+          sym (ap (heldOnto n (take (n * s .fields) buffer))
+          (full s (n + 2) (s .most - (n + 1)) (drop (i + 1) text) (byte (some (at (before s buffer n p) p)) (getD text i 0))
+          (took Malformed q))) ∙ onward
 
     pub goes : (q : Part) → byteStep (s .fields) p (getD text i 0) ≡ Goes q → In-line s text from first written (i + 1) n q
     goes q g =
         let e = goes-on (s .fields) p (getD text i 0) q g in
         let t = took e (Goes q) g in
-        let k : take (q .count) (before s buffer n p ++ (p .value ∷ [])) ≡ before s written n q = ap (take (q .count)) (sym cells) ∙ take-take (q .count) (p .count + 1) (drop (n * s .fields) written) (t .1 .1 .0) in
+        let k : take (q .count) (before s buffer n p ++ (p .value ∷ [])) ≡ before s written n q = ap (take (q .count)) (sym cells)
+        ∙ take-take (q .count) (p .count + 1) (drop (n * s .fields) written) (t .1 .1 .0) in
         record {
           room = inv .room;
           size = length-set buffer (n * s .fields + p .count) (p .value) ∙ inv .size;
           begun = omega arith;
           sound = t .1 .0;
-          rest = drop-later (n * s .fields + p .count + 1) (n * s .fields + q .count + 1) written first (omega (arith, t .1 .1 .1)) rest-same;
+          rest = drop-later (n * s .fields + p .count + 1) (n * s .fields + q .count + 1) written first
+              (omega (arith, t .1 .1 .1)) rest-same;
           same = rw (done-same, ← k, ← (t .0)) (onward e);
         }
 
     -- the line feed
     module _ (e : classOf (getD text i 0) ≡ 2) where
-      closed : heldOnto n (take (n * s .fields) written) (entry s (n + 2) (cond (isComplete (s .fields) p) (some (take (p .count + 1) (drop (n * s .fields) written))) none)
+      closed : heldOnto n (take (n * s .fields) written)
+          (entry s (n + 2) (cond (isComplete (s .fields) p) (some (take (p .count + 1) (drop (n * s .fields) written))) none)
           (valueLines s (suc (n + 2)) (s .most - (n + 1)) (linesOf (drop (i + 1) text)))) ≡ whole s (drop from text)
-      closed = rw (done-same, cells, ← (completes (s .fields) (before s buffer n p) p len)) (ap (heldOnto n (take (n * s .fields) buffer)) (sym (ends s (n + 2) (s .most - (n + 1)) text i (some (at (before s buffer n p) p)) h e)) ∙ inv .same)
+      closed =
+          rw (done-same, cells, ← (completes (s .fields) (before s buffer n p) p len))
+          (ap (heldOnto n (take (n * s .fields) buffer))
+          (sym (ends s (n + 2) (s .most - (n + 1)) text i (some (at (before s buffer n p) p)) h e)) ∙ inv .same)
 
       incomplete : isComplete (s .fields) p ≡ false → refusing (n + 2) 2 ≡ whole s (drop from text)
       incomplete q = rw q at closed
@@ -212,7 +239,9 @@ module _ (s : Sheet) (text : List ℕ) (from : ℕ) (first buffer : List ℕ) (i
 
     module _ (q : byteStep (s .fields) p (getD text i 0) ≡ Ends) where
       all-read : p .count + 1 ≡ s .fields
-      all-read = eqb-true (p .count + 1) (s .fields) (and-right (not (eqb (p .digits) 0)) (eqb (p .count + 1) (s .fields)) (ends-at (s .fields) p (getD text i 0) q .complete))
+      all-read =
+          eqb-true (p .count + 1) (s .fields)
+          (and-right (not (eqb (p .digits) 0)) (eqb (p .count + 1) (s .fields)) (ends-at (s .fields) p (getD text i 0) q .complete))
 
       ended : heldOnto n (take (n * s .fields) written) (entry s (n + 2) (some (take (s .fields) (drop (n * s .fields) written)))
           (valueLines s (suc (n + 2)) (s .most - (n + 1)) (linesOf (drop (i + 1) text)))) ≡ whole s (drop from text)
@@ -222,14 +251,17 @@ module _ (s : Sheet) (text : List ℕ) (from : ℕ) (first buffer : List ℕ) (i
       pub outside : s .in-range (take (s .fields) (drop (n * s .fields) written)) ≡ false → refusing (n + 2) 3 ≡ whole s (drop from text)
       outside r = rw r at ended
 
-      pub next-line : s .in-range (take (s .fields) (drop (n * s .fields) written)) ≡ true → (lent : List ℕ) → drop (n * s .fields) first ≡ drop (n * s .fields) lent → At-line s text from lent written (i + 1) (n + 1)
+      pub next-line : s .in-range (take (s .fields) (drop (n * s .fields) written)) ≡ true → (lent : List ℕ)
+          → drop (n * s .fields) first ≡ drop (n * s .fields) lent → At-line s text from lent written (i + 1) (n + 1)
       next-line r lent z = record {
         few = let r = inv .room in omega arith;
         size = length-set buffer (n * s .fields + p .count) (p .value) ∙ inv .size;
         begun = omega arith;
         rest = drop-later (n * s .fields + p .count + 1) ((n + 1) * s .fields) written first (omega (arith, longer, all-read)) rest-same
             ∙ drop-later (n * s .fields) ((n + 1) * s .fields) first lent (omega (arith, longer)) z;
-        same = rw (longer, take-add (n * s .fields) (s .fields) written, line) (sym (onto-more n (take (n * s .fields) written) (take (s .fields) (drop (n * s .fields) written)) (valueLines s (suc (n + 2)) (s .most - (n + 1)) (linesOf (drop (i + 1) text)))) ∙ rw r at ended);
+        same = rw (longer, take-add (n * s .fields) (s .fields) written, line)
+            (sym (onto-more n (take (n * s .fields) written) (take (s .fields) (drop (n * s .fields) written))
+            (valueLines s (suc (n + 2)) (s .most - (n + 1)) (linesOf (drop (i + 1) text)))) ∙ rw r at ended);
       }
         where
           longer : (n + 1) * s .fields ≡ n * s .fields + s .fields

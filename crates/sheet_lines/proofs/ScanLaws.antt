@@ -51,7 +51,8 @@ module _ (s : Sheet) (line left : ℕ) where
   -- the same after the text is split into lines
   abbrev goes-on : Option Progress → List Line → Result
   goes-on p [] = refuseAt line 2
-  goes-on p (l ∷ ls) = entry s line (cond (l .ended) (counted (s .fields) (complete (read p (l .bytes)))) none) (valueLines s (suc line) left ls)
+  goes-on p (l ∷ ls) =
+      entry s line (cond (l .ended) (counted (s .fields) (complete (read p (l .bytes)))) none) (valueLines s (suc line) left ls)
 
   split : (bs : List ℕ) (p : Option Progress) → in-line s line left p bs ≡ goes-on p (linesOf bs)
   unfolding in-line linesOf read
@@ -74,7 +75,8 @@ module _ (s : Sheet) (line left : ℕ) where
       go false [] = refl
       go false (l ∷ ls) = refl
 
-  ends-full : (o : Option Progress) (rest : Result) → Full (s .fields) o → entry s line (counted (s .fields) (complete o)) rest ≡ refuseAt line 2
+  ends-full : (o : Option Progress) (rest : Result) → Full (s .fields) o
+      → entry s line (counted (s .fields) (complete o)) rest ≡ refuseAt line 2
   ends-full none rest h = refl
   ends-full (some p) rest h = go (eqb (p .digits) 0)
     where
@@ -91,21 +93,25 @@ module _ (s : Sheet) (line left : ℕ) where
   full (b ∷ bs) o h = go (eqb (classOf b) 2) (full bs (byte o b) (byte-full (s .fields) o b h))
     where
       go : (x : Bool) → in-line s line left (byte o b) bs ≡ refuseAt line 2
-          → cond x (entry s line (counted (s .fields) (complete o)) (valueLines s (suc line) left (linesOf bs))) (in-line s line left (byte o b) bs) ≡ refuseAt line 2
+          → cond x (entry s line (counted (s .fields) (complete o)) (valueLines s (suc line) left (linesOf bs)))
+          (in-line s line left (byte o b) bs) ≡ refuseAt line 2
       go true ih = ends-full o (valueLines s (suc line) left (linesOf bs)) h
       go false ih = ih
 
   -- one law for each way of the code, at what is left of a text from i on
   module _ (text : List ℕ) (i : ℕ) where
     pub starts : i < length text → valueLines s line (suc left) (linesOf (drop i text)) ≡ in-line s line left (some nothing) (drop i text)
-    starts h = rw (drop-cons text i 0 h) (first (getD text i 0) (drop (suc i) text) ∙ sym (split (getD text i 0 ∷ drop (suc i) text) (some nothing)))
+    starts h =
+        rw (drop-cons text i 0 h) (first (getD text i 0) (drop (suc i) text)
+        ∙ sym (split (getD text i 0 ∷ drop (suc i) text) (some nothing)))
 
     pub cut-off : (o : Option Progress) → length text ≤ i → in-line s line left o (drop i text) ≡ refuseAt line 2
     unfolding in-line
     cut-off o h = rw (drop-of-length-le text h)
 
     pub ends : (o : Option Progress) → i < length text → classOf (getD text i 0) ≡ 2
-        → in-line s line left o (drop i text) ≡ entry s line (counted (s .fields) (complete o)) (valueLines s (suc line) left (linesOf (drop (i + 1) text)))
+        → in-line s line left o (drop i text) ≡ entry s line (counted (s .fields) (complete o))
+        (valueLines s (suc line) left (linesOf (drop (i + 1) text)))
     unfolding in-line
     ends o h e = rw (drop-cons text i 0 h, add-one i) (simp (eq-eqb _ _ e))
 

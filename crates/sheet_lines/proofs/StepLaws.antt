@@ -34,7 +34,8 @@ pub record Sound (n : ℕ) (p : Part) : Type 0 where
 abbrev pub Stepped : ℕ → List ℕ → Part → Option Progress → Next → Type 0
 Stepped n vs p o Malformed = Full n o
 Stepped n vs p o Ends = Unit {0}
-Stepped n vs p o (Goes q) = (o ≡ some (at (take (q .count) (vs ++ (p .value ∷ []))) q)) × (Sound n q × ((q .count ≤ p .count + 1) × (p .count ≤ q .count)))
+Stepped n vs p o (Goes q) =
+    (o ≡ some (at (take (q .count) (vs ++ (p .value ∷ []))) q)) × (Sound n q × ((q .count ≤ p .count + 1) × (p .count ≤ q .count)))
 
 module _ (n : ℕ) (vs : List ℕ) (p : Part) (b : ℕ) (len : length vs ≡ p .count) (ok : Sound n p) where
   same : take (p .count) (vs ++ (p .value ∷ [])) ≡ vs
@@ -57,7 +58,8 @@ module _ (n : ℕ) (vs : List ℕ) (p : Part) (b : ℕ) (len : length vs ≡ p .
       (omega arith, omega arith),
     ),
   )
-  of-digit true false e q k = absurd (omega (arith, ltb-false (p .value) valueLimit q, few-digits (p .digits) (p .value) (ok .short) (ok .small)))
+  of-digit true false e q k =
+      absurd (omega (arith, ltb-false (p .value) valueLimit q, few-digits (p .digits) (p .value) (ok .short) (ok .small)))
   of-digit false v e q k = tt
 
   of-further : (us : List ℕ) (z : Bool) → us ≡ vs → eqb (p .count) 0 ≡ z → Stepped n vs p (further (at vs p) us) (cond z Malformed (Goes p))
@@ -70,7 +72,8 @@ module _ (n : ℕ) (vs : List ℕ) (p : Part) (b : ℕ) (len : length vs ≡ p .
       (cond z (further (at vs p) vs) (some record { values = vs ++ (p .value ∷ []); digits = 0; value = 0 }))
       (cond z (cond (eqb (p .count) 0) Malformed (Goes p)) (cond l (Goes record { count = p .count + 1; digits = 0; value = 0 }) Malformed))
   of-space true l e m = of-further vs (eqb (p .count) 0) refl refl
-  of-space false true e m = (rw all refl, (record { few = ltb-true (p .count + 1) n m; small = omega arith; short = omega arith }, (omega arith, omega arith)))
+  of-space false true e m =
+      (rw all refl, (record { few = ltb-true (p .count + 1) n m; small = omega arith; short = omega arith }, (omega arith, omega arith)))
   of-space false false e m = omega (arith, length-append vs (p .value ∷ []), ltb-false (p .count + 1) n m)
 
   pub stepped : Stepped n vs p (byte (some (at vs p)) b) (byteStep n p b)
@@ -78,7 +81,8 @@ module _ (n : ℕ) (vs : List ℕ) (p : Part) (b : ℕ) (len : length vs ≡ p .
   stepped = go (eqb (classOf b) 0) (eqb (classOf b) 1) (eqb (classOf b) 2) (isComplete n p) refl
     where
       go : (x y z w : Bool) → eqb (classOf b) 0 ≡ x
-          → Stepped n vs p (cond x (digit (at vs p) b) (cond y (space (at vs p)) none)) (cond x (digitStep p b) (cond y (spaceStep n p) (cond z (cond w Ends Malformed) Malformed)))
+          → Stepped n vs p (cond x (digit (at vs p) b) (cond y (space (at vs p)) none))
+          (cond x (digitStep p b) (cond y (spaceStep n p) (cond z (cond w Ends Malformed) Malformed)))
       go true y z w e = of-digit (ltb (p .digits) mostDigits) (ltb (p .value) valueLimit) refl refl (eqb-true (classOf b) 0 e)
       go false true z w e = of-space (eqb (p .digits) 0) (ltb (p .count + 1) n) refl refl
       go false false true true e = tt

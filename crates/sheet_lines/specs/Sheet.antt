@@ -49,7 +49,8 @@ startsWith [] text = true
 startsWith (b ∷ bs) [] = false
 startsWith (b ∷ bs) (c ∷ cs) = eqb b c && startsWith bs cs
 
--- "Order: 5, 1, then line by line 4, 2, 3"; "5 longer than 32,768 bytes (line 0)"; "1 names line differs, is missing or lacks its line feed (line 1)"
+-- "Order: 5, 1, then line by line 4, 2, 3"; "5 longer than 32,768 bytes (line 0)"; "1 names line differs, is missing or lacks
+-- its line feed (line 1)"
 unfoldable pub sheet : Sheet → List ℕ → Result
 sheet s text = cond (ltb longestSheet (length text)) (refuseAt 0 5)
     (cond (startsWith (s .names) text) (valueLines s 2 (s .most) (linesOf (drop (length (s .names)) text))) (refuseAt 1 1))

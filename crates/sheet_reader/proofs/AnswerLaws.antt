@@ -38,7 +38,8 @@ module _ (s : Sheet) (text before table : List ℕ) where
         rows = rows;
         result = sym k;
         flat = ap (take (n * s .fields)) t
-            ∙ take-at (flatten rows) (drop (length (flatten rows)) before) (n * s .fields) (flat-length s (a .each) ∙ ap (λ (i : ℕ). i * s .fields) (sym m));
+            ∙ take-at (flatten rows) (drop (length (flatten rows)) before) (n * s .fields)
+            (flat-length s (a .each) ∙ ap (λ (i : ℕ). i * s .fields) (sym m));
         few = rw m (a .few);
       }
   holds (refused r) k n e t = clash (cc)
@@ -59,7 +60,8 @@ module _ (text : List ℕ) where
 
   pub policies-held : (table : List ℕ) (n : ℕ) → count n ≡ answered (policiesInto (length (zeros edgePlaces)) text)
       → table ≡ stored (policiesInto (length (zeros edgePlaces)) text) (zeros edgePlaces) → Holds policySheet text table n
-  policies-held table n e t = holds policySheet text (zeros edgePlaces) table (policiesInto (length (zeros edgePlaces)) text) policies-into n e t
+  policies-held table n e t =
+      holds policySheet text (zeros edgePlaces) table (policiesInto (length (zeros edgePlaces)) text) policies-into n e t
 
   pub trace-held : (table : List ℕ) (n : ℕ) → count n ≡ answered (traceInto (length (zeros stepPlaces)) text)
       → table ≡ stored (traceInto (length (zeros stepPlaces)) text) (zeros stepPlaces) → Holds traceSheet text table n
@@ -119,7 +121,8 @@ module _ (text : List ℕ) where
   unfolding answered stored
   outline-held table n e t = go (outlineInto (length (zeros nodePlaces)) text) outline-into e t
     where
-      go : (r : Result) → r ≡ ruledResult (sheet outlineSheet text) → count n ≡ answered r → table ≡ stored r (zeros nodePlaces) → HoldsNodes text table n
+      go : (r : Result) → r ≡ ruledResult (sheet outlineSheet text) → count n ≡ answered r → table ≡ stored r (zeros nodePlaces)
+          → HoldsNodes text table n
       go (accepted rows) k e t =
           let m : n ≡ length rows = cc in
           let z = nodes-sized text rows (sym k) in
@@ -128,12 +131,14 @@ module _ (text : List ℕ) where
           record {
             rows = rows;
             result = sym k;
-            flat = ap (take (n * nodeFields)) t ∙ take-at (flatten rows) (drop (length (flatten rows)) (zeros nodePlaces)) (n * nodeFields) (omega arith);
+            flat = ap (take (n * nodeFields)) t ∙ take-at (flatten rows) (drop (length (flatten rows)) (zeros nodePlaces))
+                (n * nodeFields) (omega arith);
             few = omega arith;
           }
       go (refused r) k e t = clash (cc)
 
-  pub outline-refused-as : (line number : ℕ) → refusal record { line = line; number = number } ≡ answered (outlineInto (length (zeros nodePlaces)) text)
+  pub outline-refused-as : (line number : ℕ)
+      → refusal record { line = line; number = number } ≡ answered (outlineInto (length (zeros nodePlaces)) text)
       → ruledResult (sheet outlineSheet text) ≡ refused record { line = line; number = number }
   outline-refused-as line number e = refusal-result (ruledResult (sheet outlineSheet text)) line number (e ∙ ap answered outline-into)
 

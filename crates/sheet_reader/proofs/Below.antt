@@ -98,7 +98,8 @@ kinds-most m (x ∷ ks) e zero a b h =
     let v = h .1 .most in
     (omega arith, (omega arith, omega arith))
 kinds-most m (x ∷ ks) e (suc k) a b h =
-    let r = kinds-most m ks (and-right (leb (x .a .most) m && leb (x .b .most) m) (every (λ k. leb (k .a .most) m && leb (k .b .most) m) ks) e) k a b h in
+    let r = kinds-most m ks (and-right (leb (x .a .most) m && leb (x .b .most) m)
+    (every (λ k. leb (k .a .most) m && leb (k .b .most) m) ks) e) k a b h in
     let l = r .0 in
     (omega arith, r .1)
 
@@ -113,7 +114,9 @@ node-below vs k e = at-below 256 vs (λ i l. go i (omega arith))
     place = ltb-true (getD vs 0 0) mostNodes (and-left (ltb (getD vs 0 0) mostNodes) (nodeOk (nodeOf vs)) e)
 
     fields : (getD vs 1 0 < length nodeKinds) × ((getD vs 2 0 ≤ 255) × (getD vs 3 0 ≤ 255))
-    fields = node-most (getD vs 2 0) (getD vs 3 0) (getD vs 1 0) (decides-node (nodeOf vs) .0 (and-right (ltb (getD vs 0 0) mostNodes) (nodeOk (nodeOf vs)) e))
+    fields =
+        node-most (getD vs 2 0) (getD vs 3 0) (getD vs 1 0)
+        (decides-node (nodeOf vs) .0 (and-right (ltb (getD vs 0 0) mostNodes) (nodeOk (nodeOf vs)) e))
 
     go : (i : ℕ) → i < nodeLineFields → getD vs i 0 < 256
     go zero h = omega (arith, place)

@@ -22,7 +22,8 @@ policies-p = refl
 
 -- and its trace
 trace-b : traceInto stepPlaces (bytes "kind a b\n1 0 0\n0 0 16\n0 1 16\n0 2 16\n0 0 17\n0 2 17\n0 3 16\n")
-    ≡ accepted ((1 ∷ 0 ∷ 0 ∷ []) ∷ (0 ∷ 0 ∷ 16 ∷ []) ∷ (0 ∷ 1 ∷ 16 ∷ []) ∷ (0 ∷ 2 ∷ 16 ∷ []) ∷ (0 ∷ 0 ∷ 17 ∷ []) ∷ (0 ∷ 2 ∷ 17 ∷ []) ∷ (0 ∷ 3 ∷ 16 ∷ []) ∷ [])
+    ≡ accepted ((1 ∷ 0 ∷ 0 ∷ []) ∷ (0 ∷ 0 ∷ 16 ∷ []) ∷ (0 ∷ 1 ∷ 16 ∷ []) ∷ (0 ∷ 2 ∷ 16 ∷ []) ∷ (0 ∷ 0 ∷ 17 ∷ []) ∷ (0 ∷ 2 ∷ 17 ∷ []) ∷
+    (0 ∷ 3 ∷ 16 ∷ []) ∷ [])
 unfolding traceInto sheet startsWith valueLines linesOf valuesOf read classOf stepOk
 trace-b = refl
 

@@ -10,7 +10,6 @@ pub mod TableLaws
 pub mod Written
 pub mod WrittenLaws
 pub mod Converse
-pub mod NodeConverse
 pub mod Examples
 -- What the readers' answers say, for the crates above.
 pub mod AnswerLaws

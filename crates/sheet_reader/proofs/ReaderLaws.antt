@@ -26,7 +26,8 @@ module _ (r : Result) (t : List ℕ) where
   unfolding answered stored
   refused-reads line number e = rw e (record { answers = refl; table = refl })
 
-  pub accepted-reads : (rows : List (List ℕ)) → r ≡ accepted rows → Reads r (count (length rows)) t (flatten rows ++ drop (length (flatten rows)) t)
+  pub accepted-reads : (rows : List (List ℕ)) → r ≡ accepted rows
+      → Reads r (count (length rows)) t (flatten rows ++ drop (length (flatten rows)) t)
   unfolding answered stored
   accepted-reads rows e = rw e (record { answers = refl; table = refl })
 
@@ -105,5 +106,6 @@ module _ (s : Sheet) (places needed : ℕ) (text buffer : List ℕ) (n : ℕ) (k
   all-values = from-front buffer (flatten (k .rows)) _ (n * s .fields) (k .values) (k .size)
 
   -- stored as they stand in the buffer
-  pub stores : (t : List ℕ) → Reads (roomy places needed (sheet s text)) (count n) t (from (λ i. getD buffer i 0) 0 (n * s .fields) ++ drop (n * s .fields) t)
+  pub stores : (t : List ℕ) → Reads (roomy places needed (sheet s text)) (count n) t
+      (from (λ i. getD buffer i 0) 0 (n * s .fields) ++ drop (n * s .fields) t)
   stores t = rw (all-values, ← (k .size), k .number) (accepted-reads (roomy places needed (sheet s text)) t (k .rows) (k .read))

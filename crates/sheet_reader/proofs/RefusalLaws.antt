@@ -39,7 +39,8 @@ module _ (s : Sheet) where
   lines-low line zero (l ∷ ls) r e = stated (line + 0) line 4 r (omega arith) (omega arith) e
   lines-low line (suc left) (l ∷ ls) r e = go (valuesOf (s .fields) l) (valueLines s (suc line) left ls) (lines-low (suc line) left ls r) e
     where
-      later : (vs : List ℕ) (rest : Result) → (rest ≡ refused r → Low (suc line + left) r) → followed vs rest ≡ refused r → Low (line + suc left) r
+      later : (vs : List ℕ) (rest : Result) → (rest ≡ refused r → Low (suc line + left) r) → followed vs rest ≡ refused r
+          → Low (line + suc left) r
       later vs (accepted rows) ih e = clash (cc)
       later vs (refused q) ih e = let l = ih e in record { line = let h = l .line in omega arith; number = l .number }
 
@@ -48,7 +49,8 @@ module _ (s : Sheet) where
       ranged vs rest true ih e = later vs rest ih e
       ranged vs rest false ih e = stated (line + suc left) line 3 r (omega arith) (omega arith) e
 
-      go : (o : Option (List ℕ)) (rest : Result) → (rest ≡ refused r → Low (suc line + left) r) → entry s line o rest ≡ refused r → Low (line + suc left) r
+      go : (o : Option (List ℕ)) (rest : Result) → (rest ≡ refused r → Low (suc line + left) r) → entry s line o rest ≡ refused r
+          → Low (line + suc left) r
       go none rest ih e = stated (line + suc left) line 2 r (omega arith) (omega arith) e
       go (some vs) rest ih e = ranged vs rest (s .in-range vs) ih e
 
@@ -56,21 +58,27 @@ module _ (s : Sheet) where
   unfolding sheet
   sheet-low text r e = go (ltb longestSheet (length text)) (startsWith (s .names) text) e
     where
-      go : (x y : Bool) → cond x (refuseAt 0 5) (cond y (valueLines s 2 (s .most) (linesOf (drop (length (s .names)) text))) (refuseAt 1 1)) ≡ refused r → Low (2 + s .most) r
+      go : (x y : Bool) → cond x (refuseAt 0 5) (cond y (valueLines s 2 (s .most) (linesOf (drop (length (s .names)) text))) (refuseAt 1 1))
+          ≡ refused r → Low (2 + s .most) r
       go true y e = stated (2 + s .most) 0 5 r (omega arith) (omega arith) e
       go false true e = lines-low 2 (s .most) (linesOf (drop (length (s .names)) text)) r e
       go false false e = stated (2 + s .most) 1 1 r (omega arith) (omega arith) e
 
 -- ── Of an outline ──
 
-ruled-low : {ns : List Node} {P : ℕ → Type 0} {o : Option Refusal} → Ruled ns P o → length ns ≤ mostNodes → (r : Refusal) → o ≡ some r → Low (2 + mostNodes) r
-ruled-low (no-node e) f r q = let z : record { line = 2; number = 9 } ≡ r = cc in rw (← z) (record { line = omega arith; number = omega arith })
+ruled-low : {ns : List Node} {P : ℕ → Type 0} {o : Option Refusal} → Ruled ns P o → length ns ≤ mostNodes → (r : Refusal) → o ≡ some r
+    → Low (2 + mostNodes) r
+ruled-low (no-node e) f r q =
+    let z : record { line = 2; number = 9 } ≡ r = cc in rw (← z) (record { line = omega arith; number = omega arith })
 ruled-low (bad-tree {k} h w) f r q =
-    let l = w .is-node in let z : record { line = k + 2; number = 6 } ≡ r = cc in rw (← z) (record { line = omega arith; number = omega arith })
+    let l = w .is-node in let z : record { line = k + 2; number = 6 } ≡ r = cc in
+    rw (← z) (record { line = omega arith; number = omega arith })
 ruled-low (bad-back {k} h t w) f r q =
-    let l = w .is-node in let z : record { line = k + 2; number = 7 } ≡ r = cc in rw (← z) (record { line = omega arith; number = omega arith })
+    let l = w .is-node in let z : record { line = k + 2; number = 7 } ≡ r = cc in
+    rw (← z) (record { line = omega arith; number = omega arith })
 ruled-low (bad-name {k} h t b w) f r q =
-    let l = w .is-node in let z : record { line = k + 2; number = 8 } ≡ r = cc in rw (← z) (record { line = omega arith; number = omega arith })
+    let l = w .is-node in let z : record { line = k + 2; number = 8 } ≡ r = cc in
+    rw (← z) (record { line = omega arith; number = omega arith })
 ruled-low (all-ruled h t b n) f r q = clash (cc)
 
 pub outline-low : (text : List ℕ) (r : Refusal) → ruledResult (sheet outlineSheet text) ≡ refused r → Low (2 + mostNodes) r
@@ -78,7 +86,8 @@ unfolding ruledResult
 outline-low text r e = go (sheet outlineSheet text) refl e
   where
     by : (lines : List (List ℕ)) → length (nodesOf (flatten (map tail lines))) ≤ mostNodes → (o : Option Refusal)
-        → ruledSheet (map (λ vs. getD vs 0 0) lines) (nodesOf (flatten (map tail lines))) ≡ o → ruledRows o lines ≡ refused r → Low (2 + mostNodes) r
+        → ruledSheet (map (λ vs. getD vs 0 0) lines) (nodesOf (flatten (map tail lines))) ≡ o → ruledRows o lines ≡ refused r → Low
+        (2 + mostNodes) r
     by lines f none q e = clash (cc)
     by lines f (some x) q e =
         let z : x ≡ r = cc in
@@ -89,5 +98,6 @@ outline-low text r e = go (sheet outlineSheet text) refl e
         let a = sheet-accepted outlineSheet text lines k in
         let t = nodes-size (a .each) in
         let f : length lines ≤ mostNodes = a .few in
-        by lines (rw (nodes-length (flatten (map tail lines))) (omega arith)) (ruledSheet (map (λ vs. getD vs 0 0) lines) (nodesOf (flatten (map tail lines)))) refl e
+        by lines (rw (nodes-length (flatten (map tail lines))) (omega arith))
+        (ruledSheet (map (λ vs. getD vs 0 0) lines) (nodesOf (flatten (map tail lines)))) refl e
     go (refused x) k e = sheet-low outlineSheet text r (k ∙ e)

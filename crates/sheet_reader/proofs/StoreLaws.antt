@@ -40,7 +40,8 @@ module _ (f : ℕ → ℕ) (before : List ℕ) (m : ℕ) where
 
 -- the values at the front of a list
 pub from-front : (l p q : List ℕ) (n : ℕ) → l ≡ p ++ q → length p ≡ n → from (λ i. getD l i 0) 0 n ≡ p
-from-front l p q n e h = sym (is-from (λ i. getD l i 0) 0 n p h (λ i k. sym (ap (λ s. getD s i 0) e ∙ List·getD-append p q 0 i (omega arith))))
+from-front l p q n e h =
+    sym (is-from (λ i. getD l i 0) 0 n p h (λ i k. sym (ap (λ s. getD s i 0) e ∙ List·getD-append p q 0 i (omega arith))))
 
 -- what is picked of n lines stands in the buffer
 pub place-fits : (pick : Pick) (n i : ℕ) → n ≤ mostEdges → i < n * widthOf pick → bufferPlace pick i < mostValues

@@ -1,26 +1,29 @@
 -- What an accepted sheet of policies or outline stores is a table that may be lent to be used (else 41).
 use Prim.Native.Nat.{ℕ, zero, suc, _+_, _*_, _/_, _%_, _<_}
 use mathlib.Core.Path.{_≡_, refl, ap, _∙_}
-use mathlib.Core.Bool.{Bool, true, false, _&&_}
+use mathlib.Core.Bool.{Bool, true, _&&_}
 use mathlib.Core.Option.{Option, none, some}
 use mathlib.Core.List.{List, _∷_, _++_, map, tail, flatten}
 use native.Mathlib.Omega.{arith}
-use native.Mathlib.Nat.{zero-add}
 use lib.Dec.{eqb, ltb, leb}
 use lib.ListN.{length, getD, List·getD-append}
 use lib.Seq.{getD-append-add}
 use borrow.Author.Tests.{eq-eqb, le-leb}
 use Rattle.usage.specs.declared.Node.{Node}
-use Rattle.usage.specs.Limits.{mostEdges, mostNodes, edgeFields, nodeFields, edgePlaces, nodePlaces}
+use Rattle.usage.specs.Limits.{mostNodes, edgeFields, nodeFields, edgePlaces, nodePlaces}
 use Rattle.usage.specs.Answers.{Refusal}
-use Rattle.usage.specs.Tests.{every, edgeOk, edgesOk, nodeOk, treeOk, backOk, nameOk, placeOk, firstOf, lowestFailing, orElse, numbered, noNodes, ruledBy, ruledSheet, isNone, outlineOk}
-use Rattle.usage.specs.Tables.{from, edgeAt, edgesOf, edgeTable, nodeAt, nodesOf, nodeTable}
+use Rattle.usage.specs.Tests.{every, edgeOk, nodeOk, treeOk, backOk, nameOk, placeOk, lowestFailing, orElse, numbered, noNodes, ruledBy}
+use Rattle.usage.specs.Tests.{ruledSheet, isNone, outlineOk}
+use Rattle.usage.specs.Tables.{from, edgeAt, edgeTable, nodeAt, nodesOf, nodeTable}
 use Rattle.usage.proofs.Logic.{clash, and-both, and-right}
 use Rattle.sheet_lines.specs.Sheet.{Result, accepted, refused, sheet}
 use Rattle.sheet_lines.specs.Sheets.{policySheet, outlineSheet}
 use Rattle.sheet_reader.specs.Readers.{ruledResult, ruledRows, policiesInto, outlineInto}
 use Rattle.sheet_lines.proofs.AcceptLaws.{Rows, no-row, row, Accepted, sheet-accepted, flat-length}
-use Rattle.usage.proofs.TableLaws.{length-from, every-from}
+use Rattle.usage.proofs.RuledLaws.{lowest-none, none-lowest}
+use Rattle.usage.proofs.TableLaws.{length-from}
+use Rattle.sheet_fields.proofs.EveryLaws.{all-pass}
+use Rattle.sheet_fields.proofs.EdgeLaws.{each-edge}
 use Rattle.sheet_reader.proofs.ReaderLaws.{within-room}
 use Rattle.sheet_reader.proofs.OutlineLaws.{Four, four, is-four, first, nodes-size}
 
@@ -37,7 +40,16 @@ module _ (vs rest : List ℕ) (k : length vs ≡ edgeFields) where
       index = omega arith
 
   first-edge : edgeAt (vs ++ rest) 0 ≡ edgeAt vs 0
-  first-edge = rw (here 0 (omega arith), here 1 (omega arith), here 2 (omega arith), here 3 (omega arith), here 4 (omega arith), here 5 (omega arith)) refl
+  first-edge =
+      rw (
+        here 0 (omega arith),
+        here 1 (omega arith),
+        here 2 (omega arith),
+        here 3 (omega arith),
+        here 4 (omega arith),
+        here 5
+            (omega arith),
+      ) refl
 
   later-edge : (i : ℕ) → edgeAt (vs ++ rest) (suc i) ≡ edgeAt rest i
   later-edge i = rw (
@@ -56,22 +68,18 @@ edge-ok (row {vs} {rows} k m r) zero h = ap edgeOk (first-edge vs (flatten rows)
 edge-ok (row {vs} {rows} k m r) (suc i) h = ap edgeOk (later-edge vs (flatten rows) k i) ∙ edge-ok r i (omega arith)
 
 rows-edges : {rows : List (List ℕ)} → Accepted policySheet rows → edgeTable (flatten rows) ≡ true
-unfolding edgeTable edgesOk edgesOf
 rows-edges {rows} a =
     let t = flatten rows in
     let size = flat-length policySheet (a .each) in
     let few = a .few in
-    let n = length t / edgeFields in
-    and-both (eqb (length t % edgeFields) 0) (leb (length (from (edgeAt t) 0 n)) mostEdges && every edgeOk (from (edgeAt t) 0 n))
-    (eq-eqb (length t % edgeFields) 0 (omega arith))
-    (and-both (leb (length (from (edgeAt t) 0 n)) mostEdges) (every edgeOk (from (edgeAt t) 0 n))
-    (le-leb (length (from (edgeAt t) 0 n)) mostEdges (omega (arith, length-from (edgeAt t) 0 n)))
-    (every-from (edgeAt t) edgeOk 0 n (λ i l. ap (λ j. edgeOk (edgeAt t j)) (zero-add i) ∙ edge-ok (a .each) i (omega arith))))
+    each-edge t (omega arith) (omega arith) ∙ all-pass edgeOk (edgeAt t) (length t / edgeFields) (λ i l. edge-ok (a .each) i (omega arith))
 
 -- every accepted sheet of policies stores a valid table of edges
-pub policies-valid : (places : ℕ) (text : List ℕ) (rows : List (List ℕ)) → policiesInto places text ≡ accepted rows → edgeTable (flatten rows) ≡ true
+pub policies-valid : (places : ℕ) (text : List ℕ) (rows : List (List ℕ)) → policiesInto places text ≡ accepted rows
+    → edgeTable (flatten rows) ≡ true
 unfolding policiesInto
-policies-valid places text rows e = rows-edges (sheet-accepted policySheet text rows (within-room places edgePlaces (sheet policySheet text) rows e .1))
+policies-valid places text rows e =
+    rows-edges (sheet-accepted policySheet text rows (within-room places edgePlaces (sheet policySheet text) rows e .1))
 
 -- ── Nodes ──
 
@@ -80,7 +88,8 @@ unfolding flatten
 node-ok no-row i h = absurd (omega arith)
 node-ok (row {vs} {rows} k m r) i h = go (node-ok r) vs (is-four vs k) m i h
   where
-    go : ((j : ℕ) → j < length rows → nodeOk (nodeAt (flatten (map tail rows)) j) ≡ true) → (us : List ℕ) → Four us → outlineSheet .in-range us ≡ true
+    go : ((j : ℕ) → j < length rows → nodeOk (nodeAt (flatten (map tail rows)) j) ≡ true) → (us : List ℕ) → Four us
+        → outlineSheet .in-range us ≡ true
         → (i : ℕ) → i < suc (length rows) → nodeOk (nodeAt (tail us ++ flatten (map tail rows)) i) ≡ true
     go ih us (four a b c d) m zero h = and-right (ltb a mostNodes) (nodeOk (record { kind = b; a = c; b = d })) m
     go ih us (four a b c d) m (suc i) h = ap nodeOk later ∙ ih i (omega arith)
@@ -89,34 +98,31 @@ node-ok (row {vs} {rows} k m r) i h = go (node-ok r) vs (is-four vs k) m i h
         step m j e = ap (λ i. getD (b ∷ c ∷ d ∷ flatten (map tail rows)) i 0) e
 
         later : nodeAt (b ∷ c ∷ d ∷ flatten (map tail rows)) (suc i) ≡ nodeAt (flatten (map tail rows)) i
-        later = rw (step (nodeFields * suc i) (nodeFields * i) (omega arith), step (nodeFields * suc i + 1) (nodeFields * i + 1) (omega arith), step (nodeFields * suc i + 2) (nodeFields * i + 2) (omega arith)) refl
+        later =
+            rw (
+              step (nodeFields * suc i) (nodeFields * i) (omega arith),
+              step (nodeFields * suc i + 1) (nodeFields * i + 1)
+                  (omega arith),
+              step (nodeFields * suc i + 2) (nodeFields * i + 2) (omega arith),
+            ) refl
 
--- a weaker test fails nowhere either
-weaker : (test test′ : ℕ → Bool) → ((k : ℕ) → test k ≡ true → test′ k ≡ true) → (k m : ℕ) → lowestFailing test k m ≡ none → lowestFailing test′ k m ≡ none
-unfolding lowestFailing
-weaker test test′ f k zero e = refl
-weaker test test′ f k (suc m) e = go (test k) refl (weaker test test′ f (suc k) m) e
-  where
-    go : (z : Bool) → test k ≡ z → (lowestFailing test (suc k) m ≡ none → lowestFailing test′ (suc k) m ≡ none) → firstOf z k (lowestFailing test (suc k) m) ≡ none
-        → firstOf (test′ k) k (lowestFailing test′ (suc k) m) ≡ none
-    go true q ih e = ap (λ z. firstOf z k (lowestFailing test′ (suc k) m)) (f k q) ∙ ih e
-    go false q ih e = clash (cc)
-
--- a sheet's outline that no rule refuses is a table's
-sheet-ruled : (places : List ℕ) (ns : List Node) → ruledSheet places ns ≡ none → isNone (ruledBy (treeOk ns) ns) ≡ true
+-- a rule in the place of 6 that asks no more of the nodes refuses no more
+pub ruled-kept : (test test′ : ℕ → Bool) (ns : List Node) → ((k : ℕ) → k < length ns → test k ≡ true → test′ k ≡ true)
+    → ruledBy test ns ≡ none → ruledBy test′ ns ≡ none
 unfolding ruledBy
-sheet-ruled places ns e =
-    go (noNodes ns) (lowestFailing (λ k. placeOk places k && treeOk ns k) 0 (length ns)) (lowestFailing (treeOk ns) 0 (length ns))
+ruled-kept test test′ ns f e =
+    go (noNodes ns) (lowestFailing test 0 (length ns)) (lowestFailing test′ 0 (length ns))
     (orElse (numbered 7 (lowestFailing (backOk ns) 0 (length ns))) (numbered 8 (lowestFailing (nameOk ns) 0 (length ns))))
-    (weaker (λ k. placeOk places k && treeOk ns k) (treeOk ns) (λ k q. and-right (placeOk places k) (treeOk ns k) q) 0 (length ns)) e
+    (λ q. none-lowest test′ 0 (length ns) (λ i a b. f i (omega arith) (lowest-none test 0 (length ns) i q a b))) e
   where
     go : (x : Option Refusal) (y z : Option ℕ) (w : Option Refusal) → (y ≡ none → z ≡ none) → orElse x (orElse (numbered 6 y) w) ≡ none
-        → isNone (orElse x (orElse (numbered 6 z) w)) ≡ true
+        → orElse x (orElse (numbered 6 z) w) ≡ none
     go (some x) y z w f e = clash (cc)
     go none (some y) z w f e = clash (cc)
-    go none none z w f e = ap (λ o. isNone (orElse (numbered 6 o) w)) (f refl) ∙ ap isNone e
+    go none none z w f e = ap (λ o. orElse (numbered 6 o) w) (f refl) ∙ e
 
-rows-nodes : {rows : List (List ℕ)} → Accepted outlineSheet rows → ruledSheet (map first rows) (nodesOf (flatten (map tail rows))) ≡ none → nodeTable (flatten (map tail rows)) ≡ true
+rows-nodes : {rows : List (List ℕ)} → Accepted outlineSheet rows → ruledSheet (map first rows) (nodesOf (flatten (map tail rows))) ≡ none
+    → nodeTable (flatten (map tail rows)) ≡ true
 unfolding nodeTable outlineOk nodesOf
 rows-nodes {rows} a e =
     let t = flatten (map tail rows) in
@@ -124,24 +130,29 @@ rows-nodes {rows} a e =
     let few = a .few in
     let n = length t / nodeFields in
     let ns = from (nodeAt t) 0 n in
+    let shaped = ruled-kept (λ k. placeOk (map first rows) k && treeOk ns k) (treeOk ns) ns
+    (λ k h q. and-right (placeOk (map first rows) k) (treeOk ns k) q) e in
     and-both (eqb (length t % nodeFields) 0) (leb (length ns) mostNodes && (every nodeOk ns && isNone (ruledBy (treeOk ns) ns)))
     (eq-eqb (length t % nodeFields) 0 (omega arith))
     (and-both (leb (length ns) mostNodes) (every nodeOk ns && isNone (ruledBy (treeOk ns) ns))
     (le-leb (length ns) mostNodes (omega (arith, length-from (nodeAt t) 0 n)))
     (and-both (every nodeOk ns) (isNone (ruledBy (treeOk ns) ns))
-    (every-from (nodeAt t) nodeOk 0 n (λ i l. ap (λ j. nodeOk (nodeAt t j)) (zero-add i) ∙ node-ok (a .each) i (omega arith)))
-    (sheet-ruled (map first rows) ns e)))
+    (all-pass nodeOk (nodeAt t) n (λ i l. node-ok (a .each) i (omega arith)))
+    (ap isNone shaped)))
 
 -- every accepted outline sheet stores a valid table of nodes
-pub outline-valid : (places : ℕ) (text : List ℕ) (rows : List (List ℕ)) → outlineInto places text ≡ accepted rows → nodeTable (flatten rows) ≡ true
+pub outline-valid : (places : ℕ) (text : List ℕ) (rows : List (List ℕ)) → outlineInto places text ≡ accepted rows
+    → nodeTable (flatten rows) ≡ true
 unfolding outlineInto ruledResult
 outline-valid places text rows e = go (sheet outlineSheet text) refl (within-room places nodePlaces (ruledResult (sheet outlineSheet text)) rows e .1)
   where
-    by : (all : List (List ℕ)) → Accepted outlineSheet all → (o : Option Refusal) → ruledSheet (map first all) (nodesOf (flatten (map tail all))) ≡ o
+    by : (all : List (List ℕ)) → Accepted outlineSheet all → (o : Option Refusal)
+        → ruledSheet (map first all) (nodesOf (flatten (map tail all))) ≡ o
         → ruledRows o all ≡ accepted rows → nodeTable (flatten rows) ≡ true
     by all a none q e = let z : map tail all ≡ rows = cc in rw (← z) (rows-nodes a q)
     by all a (some r) q e = clash (cc)
 
     go : (r : Result) → sheet outlineSheet text ≡ r → ruledResult r ≡ accepted rows → nodeTable (flatten rows) ≡ true
-    go (accepted all) q e = by all (sheet-accepted outlineSheet text all q) (ruledSheet (map first all) (nodesOf (flatten (map tail all)))) refl e
+    go (accepted all) q e =
+        by all (sheet-accepted outlineSheet text all q) (ruledSheet (map first all) (nodesOf (flatten (map tail all)))) refl e
     go (refused r) q e = clash (cc)

@@ -35,14 +35,16 @@ digits-length (suc n) v = omega (arith, length-append (digits n (v / 10)) ((48 +
 values-length : (v : ℕ) (vs : List ℕ) → length (written-values v vs) ≡ suc mostDigits * length (v ∷ vs)
 unfolding written-values
 values-length v [] = omega (arith, length-append (digits mostDigits v) (10 ∷ []), digits-length mostDigits v)
-values-length v (w ∷ vs) = omega (arith, length-append (digits mostDigits v) (32 ∷ written-values w vs), digits-length mostDigits v, values-length w vs)
+values-length v (w ∷ vs) =
+    omega (arith, length-append (digits mostDigits v) (32 ∷ written-values w vs), digits-length mostDigits v, values-length w vs)
 
 some-byte : (v : ℕ) (vs bs : List ℕ) → 0 < length (written-values v vs ++ bs)
 some-byte v vs bs = omega (arith, length-append (written-values v vs) bs, values-length v vs)
 
 module _ (s : Sheet) (line left : ℕ) where
   one-digit : (us : List ℕ) (n v d : ℕ) (bs : List ℕ) → n < mostDigits → d < 10
-      → in-line s line left (some record { values = us; digits = n; value = v }) ((48 + d) ∷ bs) ≡ in-line s line left (some record { values = us; digits = n + 1; value = v * 10 + d }) bs
+      → in-line s line left (some record { values = us; digits = n; value = v }) ((48 + d) ∷ bs) ≡ in-line s line left
+      (some record { values = us; digits = n + 1; value = v * 10 + d }) bs
   unfolding in-line
   one-digit us n v d bs h k =
       let e : 48 + d - 48 ≡ d = omega arith in
@@ -51,13 +53,20 @@ module _ (s : Sheet) (line left : ℕ) where
   next-digit : (us : List ℕ) (n q : ℕ) (bs : List ℕ) → n < mostDigits
       → in-line s line left (some record { values = us; digits = n; value = q / 10 }) ((48 + q % 10) ∷ bs)
       ≡ in-line s line left (some record { values = us; digits = n + 1; value = q }) bs
-  next-digit us n q bs h = one-digit us n (q / 10) (q % 10) bs h (omega arith) ∙ ap (λ x. in-line s line left (some record { values = us; digits = n + 1; value = x }) bs) tens
+  next-digit us n q bs h =
+      one-digit us n (q / 10) (q % 10) bs h (omega arith) ∙ ap (λ x. in-line s line left (some record {
+        values =
+            us;
+        digits = n + 1;
+        value = x;
+      }) bs) tens
     where
       tens : q / 10 * 10 + q % 10 ≡ q
       tens = omega arith
 
   digits-read : (us : List ℕ) (n v : ℕ) (bs : List ℕ) → n ≤ mostDigits → v < 10 ^ n
-      → in-line s line left (some record { values = us; digits = 0; value = 0 }) (digits n v ++ bs) ≡ in-line s line left (some record { values = us; digits = n; value = v }) bs
+      → in-line s line left (some record { values = us; digits = 0; value = 0 }) (digits n v ++ bs) ≡ in-line s line left
+      (some record { values = us; digits = n; value = v }) bs
   unfolding digits
   digits-read us zero v bs k h = ap (λ x. in-line s line left (some record { values = us; digits = 0; value = x }) bs) none
     where
@@ -73,12 +82,14 @@ module _ (s : Sheet) (line left : ℕ) where
       fewer l = omega arith
 
   space-read : (us : List ℕ) (v : ℕ) (bs : List ℕ)
-      → in-line s line left (some record { values = us; digits = mostDigits; value = v }) (32 ∷ bs) ≡ in-line s line left (some record { values = us ++ (v ∷ []); digits = 0; value = 0 }) bs
+      → in-line s line left (some record { values = us; digits = mostDigits; value = v }) (32 ∷ bs) ≡ in-line s line left
+      (some record { values = us ++ (v ∷ []); digits = 0; value = 0 }) bs
   unfolding in-line classOf
   space-read us v bs = refl
 
   feed-read : (us : List ℕ) (v : ℕ) (bs : List ℕ)
-      → in-line s line left (some record { values = us; digits = mostDigits; value = v }) (10 ∷ bs) ≡ entry s line (counted (s .fields) (some (us ++ (v ∷ [])))) (valueLines s (suc line) left (linesOf bs))
+      → in-line s line left (some record { values = us; digits = mostDigits; value = v }) (10 ∷ bs) ≡ entry s line
+      (counted (s .fields) (some (us ++ (v ∷ [])))) (valueLines s (suc line) left (linesOf bs))
   unfolding in-line classOf
   feed-read us v bs = refl
 
@@ -90,8 +101,14 @@ module _ (s : Sheet) (line left : ℕ) where
       ap (in-line s line left (some record { values = us; digits = 0; value = 0 })) (append-snoc (digits mostDigits v) 10 bs)
       ∙ digits-read us mostDigits v (10 ∷ bs) (omega arith) h ∙ feed-read us v bs
   values-read v (w ∷ vs) us bs (one-below h b) =
-      ap (in-line s line left (some record { values = us; digits = 0; value = 0 })) (append-assoc (digits mostDigits v) (32 ∷ written-values w vs) bs)
-      ∙ digits-read us mostDigits v (32 ∷ (written-values w vs ++ bs)) (omega arith) h ∙ space-read us v (written-values w vs ++ bs) ∙ values-read w vs (us ++ (v ∷ [])) bs b
+      ap (in-line s line left (some record {
+        values =
+            us;
+        digits = 0;
+        value = 0;
+      })) (append-assoc (digits mostDigits v) (32 ∷ written-values w vs) bs)
+      ∙ digits-read us mostDigits v (32 ∷ (written-values w vs ++ bs)) (omega arith) h ∙ space-read us v (written-values w vs ++ bs)
+      ∙ values-read w vs (us ++ (v ∷ [])) bs b
       ∙ ap (λ l. entry s line (counted (s .fields) (some l)) (valueLines s (suc line) left (linesOf bs))) (append-snoc us v (w ∷ vs))
 
   -- one line in range
@@ -111,7 +128,8 @@ nothing-left : (s : Sheet) (line left : ℕ) → valueLines s line left (linesOf
 unfolding valueLines linesOf
 nothing-left s line left = refl
 
-rows-read : (s : Sheet) (line left : ℕ) {rows : List (List ℕ)} → 0 < s .fields → Rows s rows → Rows-below valueLimit rows → length rows ≤ left
+rows-read : (s : Sheet) (line left : ℕ) {rows : List (List ℕ)} → 0 < s .fields → Rows s rows → Rows-below valueLimit rows
+    → length rows ≤ left
     → valueLines s line left (linesOf (flatten (map written-line rows))) ≡ accepted rows
 unfolding flatten
 rows-read s line left f no-row none-below h = nothing-left s line left
@@ -125,14 +143,21 @@ starts-self [] rest = refl
 starts-self (b ∷ bs) rest = and-both (eqb b b) (startsWith bs (bs ++ rest)) (eq-eqb b b refl) (starts-self bs rest)
 
 -- the sheet that is written from rows in range is accepted with these rows
-pub written-read : (s : Sheet) (rows : List (List ℕ)) → 0 < s .fields → Rows s rows → Rows-below valueLimit rows → length rows ≤ s .most → length (written s rows) ≤ longestSheet
+pub written-read : (s : Sheet) (rows : List (List ℕ)) → 0 < s .fields → Rows s rows → Rows-below valueLimit rows → length rows ≤ s .most
+    → length (written s rows) ≤ longestSheet
     → sheet s (written s rows) ≡ accepted rows
 unfolding sheet
 written-read s rows f r b few short =
-    rw (le-ltb longestSheet (length (written s rows)) short, starts-self (s .names) (flatten (map written-line rows)), drop-append-seam (s .names) (flatten (map written-line rows)))
+    rw (
+      le-ltb longestSheet (length (written s rows)) short,
+      starts-self (s .names) (flatten (map written-line rows)),
+      drop-append-seam
+          (s .names) (flatten (map written-line rows)),
+    )
     (rows-read s 2 (s .most) f r b few)
 
-pub lines-length : (s : Sheet) {rows : List (List ℕ)} → 0 < s .fields → Rows s rows → length (flatten (map written-line rows)) ≡ length (flatten rows) * suc mostDigits
+pub lines-length : (s : Sheet) {rows : List (List ℕ)} → 0 < s .fields → Rows s rows
+    → length (flatten (map written-line rows)) ≡ length (flatten rows) * suc mostDigits
 unfolding flatten
 lines-length s f no-row = refl
 lines-length s f (row {vs} {rows} k m r) = go vs k (lines-length s f r)
@@ -140,4 +165,11 @@ lines-length s f (row {vs} {rows} k m r) = go vs k (lines-length s f r)
     go : (us : List ℕ) → length us ≡ s .fields → length (flatten (map written-line rows)) ≡ length (flatten rows) * suc mostDigits
         → length (written-line us ++ flatten (map written-line rows)) ≡ length (us ++ flatten rows) * suc mostDigits
     go [] k ih = absurd (omega arith)
-    go (v ∷ vs) k ih = omega (arith, length-append (written-values v vs) (flatten (map written-line rows)), length-append (v ∷ vs) (flatten rows), values-length v vs, ih)
+    go (v ∷ vs) k ih =
+        omega (
+          arith,
+          length-append (written-values v vs) (flatten (map written-line rows)),
+          length-append (v ∷ vs) (flatten rows),
+          values-length v vs,
+          ih,
+        )

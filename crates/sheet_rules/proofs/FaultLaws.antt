@@ -31,7 +31,8 @@ module _ (t : List ℕ) (test : ℕ → Bool) where
   -- after 9
   abbrev pub after-nine : Option Refusal
   after-nine = orElse (numbered 6 (lowestFailing test 0 (length t / nodeFields)))
-      (orElse (numbered 7 (lowestFailing (backOk (nodesOf t)) 0 (length t / nodeFields))) (numbered 8 (lowestFailing (nameOk (nodesOf t)) 0 (length t / nodeFields))))
+      (orElse (numbered 7 (lowestFailing (backOk (nodesOf t)) 0 (length t / nodeFields)))
+      (numbered 8 (lowestFailing (nameOk (nodesOf t)) 0 (length t / nodeFields))))
 
   pub ruled-nodes : nodeFields ≤ length t → ruledBy test (nodesOf t) ≡ after-nine
   unfolding ruledBy
@@ -48,17 +49,24 @@ module _ (t : List ℕ) where
   part-left e = ap (λ z. z && outlineOk (nodesOf t)) (ne-eqb (length t % nodeFields) 0 e)
 
   module _ (e : length t % nodeFields ≡ 0) where
-    whole : nodeTable t ≡ leb (length t / nodeFields) mostNodes && (every nodeOk (nodesOf t) && isNone (ruledBy (treeOk (nodesOf t)) (nodesOf t)))
+    whole : nodeTable t ≡ leb (length t / nodeFields) mostNodes
+        && (every nodeOk (nodesOf t) && isNone (ruledBy (treeOk (nodesOf t)) (nodesOf t)))
     unfolding nodeTable outlineOk
-    whole = ap (λ z. z && (leb (length (nodesOf t)) mostNodes && (every nodeOk (nodesOf t) && isNone (ruledBy (treeOk (nodesOf t)) (nodesOf t))))) (eq-eqb (length t % nodeFields) 0 e)
+    whole =
+        ap (λ z. z && (leb (length (nodesOf t)) mostNodes
+        && (every nodeOk (nodesOf t) && isNone (ruledBy (treeOk (nodesOf t)) (nodesOf t))))) (eq-eqb (length t % nodeFields) 0 e)
         ∙ ap (λ n. leb n mostNodes && (every nodeOk (nodesOf t) && isNone (ruledBy (treeOk (nodesOf t)) (nodesOf t)))) (nodes-length t)
 
     pub too-many-nodes : nodePlaces < length t → nodeTable t ≡ false
-    too-many-nodes h = whole ∙ ap (λ z. z && (every nodeOk (nodesOf t) && isNone (ruledBy (treeOk (nodesOf t)) (nodesOf t)))) (lt-leb (length t / nodeFields) mostNodes (omega arith))
+    too-many-nodes h =
+        whole ∙ ap (λ z. z && (every nodeOk (nodesOf t) && isNone (ruledBy (treeOk (nodesOf t)) (nodesOf t))))
+        (lt-leb (length t / nodeFields) mostNodes (omega arith))
 
     module _ (h : length t ≤ nodePlaces) where
       few-nodes : nodeTable t ≡ every nodeOk (nodesOf t) && isNone (ruledBy (treeOk (nodesOf t)) (nodesOf t))
-      few-nodes = whole ∙ ap (λ z. z && (every nodeOk (nodesOf t) && isNone (ruledBy (treeOk (nodesOf t)) (nodesOf t)))) (le-leb (length t / nodeFields) mostNodes (omega arith))
+      few-nodes =
+          whole ∙ ap (λ z. z && (every nodeOk (nodesOf t) && isNone (ruledBy (treeOk (nodesOf t)) (nodesOf t))))
+          (le-leb (length t / nodeFields) mostNodes (omega arith))
 
       pub no-fit : every nodeOk (nodesOf t) ≡ false → nodeTable t ≡ false
       no-fit q = few-nodes ∙ ap (λ z. z && isNone (ruledBy (treeOk (nodesOf t)) (nodesOf t))) q
@@ -69,15 +77,18 @@ module _ (t : List ℕ) where
 -- ── The refusal, by what is found ──
 
 module _ (t : List ℕ) (test : ℕ → Bool) (h : nodeFields ≤ length t) where
-  pub at-six : (k : ℕ) → lowestFailing test 0 (length t / nodeFields) ≡ some k → ruledBy test (nodesOf t) ≡ some record { line = k + 2; number = 6 }
+  pub at-six : (k : ℕ) → lowestFailing test 0 (length t / nodeFields) ≡ some k
+      → ruledBy test (nodesOf t) ≡ some record { line = k + 2; number = 6 }
   at-six k e = ruled-nodes t test h ∙ rw e refl
 
   module _ (e : lowestFailing test 0 (length t / nodeFields) ≡ none) where
-    pub at-seven : (k : ℕ) → lowestFailing (backOk (nodesOf t)) 0 (length t / nodeFields) ≡ some k → ruledBy test (nodesOf t) ≡ some record { line = k + 2; number = 7 }
+    pub at-seven : (k : ℕ) → lowestFailing (backOk (nodesOf t)) 0 (length t / nodeFields) ≡ some k
+        → ruledBy test (nodesOf t) ≡ some record { line = k + 2; number = 7 }
     at-seven k f = ruled-nodes t test h ∙ rw (e, f) refl
 
     module _ (f : lowestFailing (backOk (nodesOf t)) 0 (length t / nodeFields) ≡ none) where
-      pub at-eight : (k : ℕ) → lowestFailing (nameOk (nodesOf t)) 0 (length t / nodeFields) ≡ some k → ruledBy test (nodesOf t) ≡ some record { line = k + 2; number = 8 }
+      pub at-eight : (k : ℕ) → lowestFailing (nameOk (nodesOf t)) 0 (length t / nodeFields) ≡ some k
+          → ruledBy test (nodesOf t) ≡ some record { line = k + 2; number = 8 }
       at-eight k g = ruled-nodes t test h ∙ rw (e, f, g) refl
 
       pub clean : lowestFailing (nameOk (nodesOf t)) 0 (length t / nodeFields) ≡ none → ruledBy test (nodesOf t) ≡ none

@@ -38,7 +38,8 @@ by-kind P p0 p1 p2 p3 p4 p5 p6 p7 p8 p (suc (suc (suc (suc (suc zero))))) = p5
 by-kind P p0 p1 p2 p3 p4 p5 p6 p7 p8 p (suc (suc (suc (suc (suc (suc zero)))))) = p6
 by-kind P p0 p1 p2 p3 p4 p5 p6 p7 p8 p (suc (suc (suc (suc (suc (suc (suc zero))))))) = p7
 by-kind P p0 p1 p2 p3 p4 p5 p6 p7 p8 p (suc (suc (suc (suc (suc (suc (suc (suc zero)))))))) = p8
-by-kind P p0 p1 p2 p3 p4 p5 p6 p7 p8 p (suc (suc (suc (suc (suc (suc (suc (suc (suc k))))))))) = p (suc (suc (suc (suc (suc (suc (suc (suc (suc k))))))))) (omega arith)
+by-kind P p0 p1 p2 p3 p4 p5 p6 p7 p8 p (suc (suc (suc (suc (suc (suc (suc (suc (suc k))))))))) =
+    p (suc (suc (suc (suc (suc (suc (suc (suc (suc k))))))))) (omega arith)
 
 no-form : (k a b : ℕ) → 9 ≤ k → formOf (record { kind = k; a = a; b = b }) ≡ none
 unfolding formOf
@@ -56,7 +57,8 @@ module _ (a b : ℕ) where
       → childrenOf (formOf (record { kind = k; a = a; b = b })) ≡ []
   unfolding formOf
   no-children = by-kind
-      (λ k. (k ≡ 3 → ⊥) → (k ≡ 4 → ⊥) → (k ≡ 5 → ⊥) → (k ≡ 7 → ⊥) → (k ≡ 8 → ⊥) → childrenOf (formOf (record { kind = k; a = a; b = b })) ≡ [])
+      (λ k. (k ≡ 3 → ⊥) → (k ≡ 4 → ⊥) → (k ≡ 5 → ⊥) → (k ≡ 7 → ⊥) → (k ≡ 8 → ⊥) → childrenOf (formOf (record { kind = k; a = a; b = b }))
+      ≡ [])
       (λ h3 h4 h5 h7 h8. refl)
       (λ h3 h4 h5 h7 h8. refl)
       (λ h3 h4 h5 h7 h8. refl)
@@ -106,7 +108,8 @@ times-two c true q x y = add-first (eqb x c) (times c (childIf q y []))
     add-first false n = omega arith
 times-two c false q x y = omega arith
 
-pub between-two : (k n : ℕ) (p q : Bool) (x y : ℕ) → between k n (childIf p x (childIf q y [])) ≡ between k n (childIf p x []) && between k n (childIf q y [])
+pub between-two : (k n : ℕ) (p q : Bool) (x y : ℕ)
+    → between k n (childIf p x (childIf q y [])) ≡ between k n (childIf p x []) && between k n (childIf q y [])
 unfolding between every
 between-two k n true q x y = sym (ap (λ z. z && every (λ c. ltb k c && ltb c n) (childIf q y [])) (and-true (ltb k x && ltb x n)))
 between-two k n false q x y = refl
@@ -169,7 +172,8 @@ module _ (t : List ℕ) (j : ℕ) (h : j < length t / nodeFields) where
 
 -- one more node counted
 pub times-more : (t : List ℕ) (c n j : ℕ) → j < n
-    → timesChild c (from (nodeAt t) j (n - j)) ≡ times c (childrenOf (formOf (nodeAt t j))) + timesChild c (from (nodeAt t) (j + 1) (n - (j + 1)))
+    → timesChild c (from (nodeAt t) j (n - j)) ≡ times c (childrenOf (formOf (nodeAt t j))) + timesChild c
+    (from (nodeAt t) (j + 1) (n - (j + 1)))
 unfolding from timesChild
 times-more t c n j h = ap (λ m. timesChild c (from (nodeAt t) j m)) left ∙ rw (add-one j) refl
   where

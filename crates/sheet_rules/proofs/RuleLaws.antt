@@ -46,7 +46,8 @@ module _ (t : List ℕ) (k : ℕ) (h : k < length t / nodeFields) where
       pub gives-none : (getD t (nodeFields * k) 0 ≡ 7 → ⊥) → nameOk (nodesOf t) k ≡ true
       gives-none z = name-inside ∙ ap (allOf (λ n. not (someBelow (givesName (nodesOf t) n) k))) (other-kind t k 7 1 z)
 
-      pub gives-one : getD t (nodeFields * k) 0 ≡ 7 → nameOk (nodesOf t) k ≡ not (someBelow (givesName (nodesOf t) (getD t (nodeFields * k + 1) 0)) k)
+      pub gives-one : getD t (nodeFields * k) 0 ≡ 7
+          → nameOk (nodesOf t) k ≡ not (someBelow (givesName (nodesOf t) (getD t (nodeFields * k + 1) 0)) k)
       gives-one z = name-inside ∙ ap (allOf (λ n. not (someBelow (givesName (nodesOf t) n) k))) (this-kind t k 7 1 z)
 
 element : (l : List ℕ) (k : ℕ) → k < length l → getElem? l k ≡ some (getD l k 0)
@@ -84,7 +85,9 @@ module _ (test : ℕ → Bool) (n : ℕ) where
 
       pub lowest-more : test k ≡ true → lowestFailing test k (n - k) ≡ lowestFailing test (k + 1) (n - (k + 1))
       unfolding lowestFailing
-      lowest-more e = ap (lowestFailing test k) left ∙ ap (λ z. firstOf z k (lowestFailing test (suc k) (n - (k + 1)))) e ∙ ap (λ m. lowestFailing test m (n - (k + 1))) (sym (add-one k))
+      lowest-more e =
+          ap (lowestFailing test k) left ∙ ap (λ z. firstOf z k (lowestFailing test (suc k) (n - (k + 1)))) e ∙ ap (λ m. lowestFailing test m (n - (k + 1)))
+          (sym (add-one k))
 
 pub lowest-below : (test : ℕ → Bool) (k m j : ℕ) → lowestFailing test k m ≡ some j → j < k + m
 unfolding lowestFailing

@@ -16,7 +16,7 @@ use Rattle.usage.proofs.Logic.{false-true, and-left, and-right, not-true, last-
 use Rattle.automaton.specs.Move.{targets, image, rowsOf}
 use Rattle.checker_account.specs.Witness.{watched}
 use Rattle.automaton.specs.Mask.{has, single, union}
-use Rattle.checker_account.specs.Tables.{over, joinedAt, unnamed, least, forgotten, rowsIn, endsBy, arrivals, leaves}
+use Rattle.checker_account.specs.Tables.{places, over, joinedAt, unnamed, least, forgotten, rowsIn, endsBy, arrivals, leaves}
 use Rattle.checker_account.specs.Rounds.{repeat, Forms, formsIn, settleNode, settleRound, entered, passNode, passRound}
 use Rattle.checker_account.specs.Rounds.{begins, hitNode, hitAny, Searched, SearchedAll, none-found}
 use Rattle.checker_account.specs.RowTable.{rowsStored, nodeRows, fillRows}
@@ -48,7 +48,7 @@ is-true false b h = sym (not-true b h)
 -- r is the table of rows of policy p, x the watched resource, l the least meaning that occurs; k rounds are made
 module _ (r : List ℕ) (p x l n : ℕ) (forms : Forms) (k : ℕ) where
   unfoldable pub ends-by : List ℕ
-  ends-by = repeat (λ i. settleRound (rowsIn r) x (states * l) n forms) k (replicate 3072 0)
+  ends-by = repeat (λ i. settleRound (rowsIn r) x (states * l) n forms) k (replicate places 0)
 
   unfoldable pub comes-by : List ℕ → List ℕ
   comes-by ends = repeat (λ i. passRound (rowsIn r) p ends l n forms) k (begins l)
@@ -88,7 +88,7 @@ told r p x n forms k answer h =
 module _ (e t : List ℕ) (p : ℕ) where
   unfoldable pub rowTable : List ℕ
   unfolding rowsStored nodeRows fillRows repeat rowsOf image targets single from edgesOf formOf
-  rowTable = fillRows (rowsOf (edgesOf e)) p (length t / nodeFields) (formsIn t) (replicate 3072 0)
+  rowTable = fillRows (rowsOf (edgesOf e)) p (length t / nodeFields) (formsIn t) (replicate places 0)
 
   unfoldable pub tells-by : List ℕ → ℕ → ℕ → ℕ → Bool → Bool
   unfolding tells ends-by comes-by complete from-ends same repeat settleNode settleRound entered passNode passRound hitNode hitAny

@@ -57,7 +57,7 @@ fn trace_case(n: u64) -> u64
 {
     let mut policies = [0u8; 32769];
     let mut trace = [0u8; 32769];
-    let mut out = [0u8; 20019];
+    let mut out = [0u8; report::TRACE_ROOM];
     let p = sheet(b't', n, b'p', &mut policies);
     let t = sheet(b't', n, b't', &mut trace);
     let k = report::report_trace(&policies[..p], &trace[..t], &mut out);
@@ -71,7 +71,7 @@ fn outline_case(n: u64) -> u64
 {
     let mut policies = [0u8; 32769];
     let mut outline = [0u8; 32769];
-    let mut out = [0u8; 27];
+    let mut out = [0u8; report::OUTLINE_ROOM];
     let p = sheet(b'o', n, b'p', &mut policies);
     let o = sheet(b'o', n, b'o', &mut outline);
     let k = report::report_outline(&policies[..p], &outline[..o], &mut out);

@@ -7,7 +7,7 @@ fn main() {
     let mut trace = [0u8; 32769];
     let p = files::read_file(b"policies.txt", &mut policies);
     let t = files::read_file(b"trace.txt", &mut trace);
-    let mut out = [0u8; 20019];
+    let mut out = [0u8; report::TRACE_ROOM];
     let n = report::report_trace(&policies[..p], &trace[..t], &mut out);
     files::print(&out, n);
 }

@@ -9,7 +9,7 @@ use Rattle.usage.proofs.Logic.{not-true, not-false}
 use Rattle.checker_account.specs.Tables.{meanings, places}
 use Rattle.checker_account.specs.Rounds.{begins, Filled}
 use Rattle.checker_account.proofs.Starts.{least-le}
-use Rattle.checker_tables.specs.Code.{hasRoom, endsRound, comesRound, hitIn, SearchedIf}
+use Rattle.checker_tables.specs.Search.{hasRoom, endsRound, comesRound, hitIn, SearchedIf}
 use Rattle.checker_tables.proofs.FitLaws.{fits-rule}
 use borrow.Author.Needs.{needs}
 use Rattle.checker_tables.proofs.breaks.Statement.{statement}

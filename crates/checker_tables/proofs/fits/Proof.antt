@@ -11,7 +11,7 @@ use Rattle.usage.specs.Tables.{nodeAt}
 use Rattle.usage.proofs.Logic.{not-true, not-false}
 use Rattle.usage.specs.Tests.{someBelow}
 use Rattle.automaton.proofs.MaskLaws.{some-at}
-use Rattle.checker_tables.specs.Code.{smallNode, hasRoom}
+use Rattle.checker_tables.specs.Search.{smallNode, hasRoom}
 use Rattle.checker_account.proofs.CodeLaws.{none-more}
 use borrow.Author.Needs.{needs}
 use Rattle.checker_tables.proofs.fits.Statement.{statement}

@@ -1,5 +1,5 @@
 use borrow.Author.Tests.{eq-eqb, ne-eqb}
-use Rattle.checker_tables.specs.Code.{lost}
+use Rattle.checker_tables.specs.Search.{lost}
 use Rattle.checker_tables.proofs.lose.Statement.{statement}
 use Rattle.checker_tables.proofs.lose.Tie as tie
 use Rattle.checker_tables.proofs.lose.Reads as reads

@@ -18,7 +18,9 @@ mul-t5 : tie.Need-mul-t5
 mul-t5 c = search needs
 
 sub-t7 : tie.Need-sub-t7
-sub-t7 c = let h = digit-byte (c .before .before .before .before .before .before .args .b) (c .before .before .before .before .before .before .pre) in omega arith
+sub-t7 c =
+    let h = digit-byte (c .before .before .before .before .before .before .args .b)
+    (c .before .before .before .before .before .before .pre) in omega arith
 
 add-t8 : tie.Need-add-t8
 add-t8 c = search needs

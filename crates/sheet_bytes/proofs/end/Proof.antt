@@ -13,7 +13,12 @@ beyond : (count n : ℕ) → n ≤ count → count + 1 ≡ n → ⊥
 beyond count n h e = omega arith
 
 returns-2 : tie.Need-returns-2
-returns-2 c = simp (ne-eqb _ _ (c .before .before .if1 .left), ne-eqb (c .before .before .before .before .args .p .count + 1) (c .before .before .before .before .args .n) (λ e. beyond _ _ (c .if2 .taken) e))
+returns-2 c =
+    simp (
+      ne-eqb _ _ (c .before .before .if1 .left),
+      ne-eqb (c .before .before .before .before .args .p .count + 1)
+          (c .before .before .before .before .args .n) (λ e. beyond _ _ (c .if2 .taken) e),
+    )
 
 add-if3 : tie.Need-add-if3
 add-if3 c = search needs

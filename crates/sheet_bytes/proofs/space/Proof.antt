@@ -12,7 +12,9 @@ returns-2 : tie.Need-returns-2
 returns-2 c = simp (eq-eqb _ _ (c .before .before .if1 .taken), ne-eqb _ _ (c .if2 .left))
 
 returns-3 : tie.Need-returns-3
-returns-3 c = let l : c .before .before .before .before .args .n ≤ c .before .before .before .before .args .p .count + 1 = omega arith in simp (ne-eqb _ _ (c .before .before .if1 .left), le-ltb _ _ l)
+returns-3 c =
+    let l : c .before .before .before .before .args .n ≤ c .before .before .before .before .args .p .count + 1 = omega arith in
+    simp (ne-eqb _ _ (c .before .before .if1 .left), le-ltb _ _ l)
 
 add-count : tie.Need-add-count
 add-count c = search needs

@@ -20,18 +20,37 @@ space-requires c κs = search needs
 
 returns-2 : tie.Need-returns-2
 unfolding byteStep
-returns-2 c = c .space .ensures ∙ sym (simp (ne-eqb _ _ (λ e. c .before .before .if1 .left (c .before .before .before .class .ensures ∙ e)), eq-eqb _ _ (sym (c .before .before .before .class .ensures) ∙ c .before .if2 .taken)))
+returns-2 c =
+    c .space .ensures ∙ sym (simp (
+      ne-eqb _ _ (λ e. c .before .before .if1 .left (c .before .before .before .class .ensures ∙ e)),
+      eq-eqb _ _ (sym (c .before .before .before .class .ensures) ∙ c .before .if2 .taken),
+    ))
 
 end-requires : tie.Need-end-requires
 end-requires c κs = search needs
 
 returns-3 : tie.Need-returns-3
 unfolding byteStep
-returns-3 c = c .end .ensures ∙ sym (simp (ne-eqb _ _ (λ e. c .before .before .before .if1 .left (c .before .before .before .before .class .ensures ∙ e)), ne-eqb _ _ (λ e. c .before .before .if2 .left (c .before .before .before .before .class .ensures ∙ e)), eq-eqb _ _ (sym (c .before .before .before .before .class .ensures) ∙ c .before .if3 .taken)))
+returns-3 c =
+    c .end .ensures ∙ sym (simp (
+      ne-eqb _ _
+          (λ e. c .before .before .before .if1 .left (c .before .before .before .before .class .ensures ∙ e)),
+      ne-eqb _ _
+          (λ e. c .before .before .if2 .left (c .before .before .before .before .class .ensures ∙ e)),
+      eq-eqb _ _
+          (sym (c .before .before .before .before .class .ensures) ∙ c .before .if3 .taken),
+    ))
 
 returns-4 : tie.Need-returns-4
 unfolding byteStep
-returns-4 c = simp (ne-eqb _ _ (λ e. c .before .before .if1 .left (c .before .before .before .class .ensures ∙ e)), ne-eqb _ _ (λ e. c .before .if2 .left (c .before .before .before .class .ensures ∙ e)), ne-eqb _ _ (λ e. c .if3 .left (c .before .before .before .class .ensures ∙ e)))
+returns-4 c =
+    simp (
+      ne-eqb _ _ (λ e. c .before .before .if1 .left (c .before .before .before .class .ensures ∙ e)),
+      ne-eqb _ _
+          (λ e. c .before .if2 .left (c .before .before .before .class .ensures ∙ e)),
+      ne-eqb _ _
+          (λ e. c .if3 .left (c .before .before .before .class .ensures ∙ e)),
+    )
 
 pub step-spec : {M : Type 1} → statement M
 step-spec =

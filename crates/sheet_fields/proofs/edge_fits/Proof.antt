@@ -17,19 +17,49 @@ returns-3 c = simp (lt-ltb _ _ (c .before .before .if1 .left), lt-ltb _ _ (c .be
 
 returns-4 : tie.Need-returns-4
 unfolding edgeOk
-returns-4 c = simp (lt-ltb _ _ (c .before .before .before .if1 .left), lt-ltb _ _ (c .before .before .if2 .left), lt-ltb _ _ (c .before .if3 .left), le-ltb _ _ (c .if4 .taken))
+returns-4 c =
+    simp (
+      lt-ltb _ _ (c .before .before .before .if1 .left),
+      lt-ltb _ _ (c .before .before .if2 .left),
+      lt-ltb _ _ (c .before .if3 .left),
+      le-ltb _ _ (c .if4 .taken),
+    )
 
 returns-5 : tie.Need-returns-5
 unfolding edgeOk
-returns-5 c = simp (lt-ltb _ _ (c .before .before .before .before .if1 .left), lt-ltb _ _ (c .before .before .before .if2 .left), lt-ltb _ _ (c .before .before .if3 .left), lt-ltb _ _ (c .before .if4 .left), le-ltb _ _ (c .if5 .taken))
+returns-5 c =
+    simp (
+      lt-ltb _ _ (c .before .before .before .before .if1 .left),
+      lt-ltb _ _ (c .before .before .before .if2 .left),
+      lt-ltb _ _
+          (c .before .before .if3 .left),
+      lt-ltb _ _ (c .before .if4 .left),
+      le-ltb _ _ (c .if5 .taken),
+    )
 
 returns-6 : tie.Need-returns-6
 unfolding edgeOk
-returns-6 c = simp (lt-ltb _ _ (c .before .before .before .before .before .if1 .left), lt-ltb _ _ (c .before .before .before .before .if2 .left), lt-ltb _ _ (c .before .before .before .if3 .left), lt-ltb _ _ (c .before .before .if4 .left), lt-ltb _ _ (c .before .if5 .left), eq-eqb _ _ (c .if6 .taken))
+returns-6 c =
+    simp (
+      lt-ltb _ _ (c .before .before .before .before .before .if1 .left),
+      lt-ltb _ _ (c .before .before .before .before .if2 .left),
+      lt-ltb _ _ (c .before .before .before .if3 .left),
+      lt-ltb _ _ (c .before .before .if4 .left),
+      lt-ltb _ _ (c .before .if5 .left),
+      eq-eqb _ _ (c .if6 .taken),
+    )
 
 returns-7 : tie.Need-returns-7
 unfolding edgeOk
-returns-7 c = simp (lt-ltb _ _ (c .before .before .before .before .before .if1 .left), lt-ltb _ _ (c .before .before .before .before .if2 .left), lt-ltb _ _ (c .before .before .before .if3 .left), lt-ltb _ _ (c .before .before .if4 .left), lt-ltb _ _ (c .before .if5 .left), ne-eqb _ _ (c .if6 .left))
+returns-7 c =
+    simp (
+      lt-ltb _ _ (c .before .before .before .before .before .if1 .left),
+      lt-ltb _ _ (c .before .before .before .before .if2 .left),
+      lt-ltb _ _ (c .before .before .before .if3 .left),
+      lt-ltb _ _ (c .before .before .if4 .left),
+      lt-ltb _ _ (c .before .if5 .left),
+      ne-eqb _ _ (c .if6 .left),
+    )
 
 pub edge-fits-spec : {M : Type 1} → statement M
 edge-fits-spec =

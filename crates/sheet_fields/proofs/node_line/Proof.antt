@@ -26,7 +26,9 @@ node-fits-requires : tie.Need-node-fits-requires
 node-fits-requires c κs = search needs
 
 returns-3 : tie.Need-returns-3
-returns-3 c = c .node-fits .ensures ∙ sym (simp (eq-eqb _ _ (c .before .before .before .before .before .before .if1 .left), lt-ltb _ _ (c .before .before .before .before .if2 .left)))
+returns-3 c =
+    c .node-fits .ensures ∙ sym (simp
+    (eq-eqb _ _ (c .before .before .before .before .before .before .if1 .left), lt-ltb _ _ (c .before .before .before .before .if2 .left)))
 
 pub node-line-spec : {M : Type 1} → statement M
 node-line-spec =

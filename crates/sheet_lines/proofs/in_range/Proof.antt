@@ -36,7 +36,13 @@ returns c =
     let n = (sheetOf (a .kind)) .fields in
     let vs = take n (drop (a .base) (a .buffer .now)) in
     let pre = c .before .before .before .before .pre in
-    let long : length vs ≡ n = omega (arith, length-take n (drop (a .base) (a .buffer .now)), length-drop (a .base) (a .buffer .now), pre .0, pre .1) in
+    let long : length vs ≡ n = omega (
+      arith,
+      length-take n (drop (a .base) (a .buffer .now)),
+      length-drop (a .base) (a .buffer .now),
+      pre .0,
+      pre .1,
+    ) in
     let size : a .base + n - a .base ≡ n = omega arith in
     rw (f, size) at (c .line-fits .ensures) ∙ fits-in-range (a .kind) vs long
 

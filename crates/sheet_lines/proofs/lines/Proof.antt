@@ -16,13 +16,15 @@ use Rattle.sheet_lines.proofs.lines.Statement.{statement}
 use Rattle.sheet_lines.proofs.lines.Tie as tie
 
 abbrev Inv-bytes : tie.InvT-bytes
-Inv-bytes text from kind buffer₀ fields most i₀ n number₀ base p₀ buffer i number p = (i₀ ≤ i) × ((number ≡ 0) × In-line (sheetOf kind) text from buffer₀ buffer i n p)
+Inv-bytes text from kind buffer₀ fields most i₀ n number₀ base p₀ buffer i number p =
+    (i₀ ≤ i) × ((number ≡ 0) × In-line (sheetOf kind) text from buffer₀ buffer i n p)
 
 abbrev μ-bytes : tie.MeasureT-bytes
 μ-bytes text from kind buffer₀ fields most i₀ n number₀ base p₀ buffer i number p = length text - i
 
 abbrev Inv-lines : tie.InvT-lines
-Inv-lines text from kind buffer₀ fields most i₀ n₀ number₀ buffer i n number = (number ≡ 0) × At-line (sheetOf kind) text from buffer₀ buffer i n
+Inv-lines text from kind buffer₀ fields most i₀ n₀ number₀ buffer i n number =
+    (number ≡ 0) × At-line (sheetOf kind) text from buffer₀ buffer i n
 
 abbrev μ-lines : tie.MeasureT-lines
 μ-lines text from kind buffer₀ fields most i₀ n₀ number₀ buffer i n number = length text - i
@@ -58,8 +60,15 @@ bytes-holds c =
     let t = c .before .before .before .lines in
     let most = c .before .before .before .before .most .ensures in
     let few = t .inv .1 .few in
-    let r : t .n < (sheetOf (a .kind)) .most = omega (arith, most, few) in
-    (search needs, (t .inv .0, rw (c .nothing .ensures) (laws.enter (sheetOf (a .kind)) (a .text .now) (a .from) (a .buffer .now) (t .buffer) (t .i) (t .n) (t .inv .1) (some-field (a .kind)) (c .before .before .lines-test .taken) r)))
+    let r : t .n < (sheetOf (a .kind)) .most = omega (arith, most, few) in (
+      search needs,
+      (
+        t .inv .0,
+        rw (c .nothing .ensures)
+            (laws.enter (sheetOf (a .kind)) (a .text .now) (a .from) (a .buffer .now) (t .buffer) (t .i) (t .n) (t .inv .1) (some-field (a .kind))
+            (c .before .before .lines-test .taken) r),
+      ),
+    )
 
 add-at : tie.Need-add-at Inv-bytes μ-bytes Inv-lines μ-lines
 add-at c =
@@ -128,8 +137,16 @@ bytes-again c =
     let first = c .before .before .before .before .before .before .before .before .before .before .before .before .lines .buffer in
     let f = c .before .before .before .before .before .before .before .before .before .before .before .before .before .before .fields .ensures in
     let h = places (a .kind) n (inv .room) in
-    let g : byteStep ((sheetOf (a .kind)) .fields) (t .p) (getD (a .text .now) (t .i) 0) ≡ _ = rw f at (sym (c .before .before .before .step .ensures) ∙ c .before .next .given .1) in
-    (search needs, (t .inv .1 .0, rw f (laws.goes (sheetOf (a .kind)) (a .text .now) (a .from) first (t .buffer) (t .i) n (t .p) inv h (c .before .before .before .before .before .before .before .if2 .left) _ g)))
+    let g : byteStep ((sheetOf (a .kind)) .fields) (t .p) (getD (a .text .now) (t .i) 0)
+    ≡ _ = rw f at (sym (c .before .before .before .step .ensures) ∙ c .before .next .given .1) in (
+      search needs,
+      (
+        t .inv .1 .0,
+        rw f
+            (laws.goes (sheetOf (a .kind)) (a .text .now) (a .from) first (t .buffer) (t .i) n (t .p) inv h
+            (c .before .before .before .before .before .before .before .if2 .left) _ g),
+      ),
+    )
 
 enum-told : tie.Need-enum-told Inv-bytes μ-bytes Inv-lines μ-lines
 enum-told c = search needs
@@ -164,8 +181,15 @@ lines-again c =
     let first = c .before .before .before .before .before .before .before .before .before .before .before .before .before .before .lines .buffer in
     let f = c .before .before .before .before .before .before .before .before .before .before .before .before .before .before .before .before .fields .ensures in
     let h = places (a .kind) n (inv .room) in
-    let e : byteStep ((sheetOf (a .kind)) .fields) (t .p) (getD (a .text .now) (t .i) 0) ≡ Ends = rw f at (sym (c .before .before .before .before .before .step .ensures) ∙ c .before .before .before .enum-told .given .1) in
-    (t .inv .1 .0, rw f (laws.next-line (sheetOf (a .kind)) (a .text .now) (a .from) first (t .buffer) (t .i) n (t .p) inv h (c .before .before .before .before .before .before .before .before .before .if2 .left) e (rw f at (sym (c .before .in-range .ensures) ∙ not-false (c .before .in-range .result) (c .if3 .left))) (a .buffer .now) (c .before .before .before .before .before .before .before .before .before .before .before .before .before .before .lines .inv .1 .rest)))
+    let e : byteStep ((sheetOf (a .kind)) .fields) (t .p) (getD (a .text .now) (t .i) 0)
+    ≡ Ends =
+    rw f at (sym (c .before .before .before .before .before .step .ensures) ∙ c .before .before .before .enum-told .given .1) in (
+      t .inv .1 .0,
+      rw f (laws.next-line (sheetOf (a .kind)) (a .text .now) (a .from) first (t .buffer) (t .i) n (t .p) inv h
+          (c .before .before .before .before .before .before .before .before .before .if2 .left) e
+          (rw f at (sym (c .before .in-range .ensures) ∙ not-false (c .before .in-range .result) (c .if3 .left))) (a .buffer .now)
+          (c .before .before .before .before .before .before .before .before .before .before .before .before .before .before .lines .inv .1 .rest)),
+    )
 
 answer-after-requires : tie.Need-answer-after-requires Inv-bytes μ-bytes Inv-lines μ-lines
 answer-after-requires c κs =
@@ -175,7 +199,9 @@ answer-after-requires c κs =
 
 -- the five ways out of the loops meet here
 answered : (c : tie.Left-lines Inv-bytes μ-bytes Inv-lines μ-lines)
-    → laws.Answers (sheetOf (c .before .before .before .before .before .args .kind)) (c .before .before .before .before .before .args .text .now) (c .before .before .before .before .before .args .from) (c .before .before .before .before .before .args .buffer .now) (c .lines-test .buffer) (c .before .lines .n) (c .lines-test .number)
+    → laws.Answers (sheetOf (c .before .before .before .before .before .args .kind))
+    (c .before .before .before .before .before .args .text .now) (c .before .before .before .before .before .args .from)
+    (c .before .before .before .before .before .args .buffer .now) (c .lines-test .buffer) (c .before .lines .n) (c .lines-test .number)
 answered c =
     let a = c .before .before .before .before .before .args in
     let s = sheetOf (a .kind) in
@@ -184,30 +210,53 @@ answered c =
     let f = c .before .before .before .fields .ensures in
     by-cases (c .lines-test .came)
     (λ w.
-    rw (w .1, w .3 ∙ t .inv .0) (record { gives = laws.line-end s (a .text .now) (a .from) (a .buffer .now) (t .buffer) (t .i) n (t .inv .1) (w .0 .left); after = t .inv .1 .rest }))
+    rw (w .1, w .3 ∙ t .inv .0) (record {
+      gives =
+          laws.line-end s (a .text .now) (a .from) (a .buffer .now) (t .buffer) (t .i) n (t .inv .1) (w .0 .left);
+      after = t .inv .1 .rest;
+    }))
     (λ v.
     by-cases v
     (λ w.
-    rw (w .4) (record { gives = laws.too-many s (a .text .now) (a .from) (a .buffer .now) (t .buffer) (t .i) n (t .inv .1) (w .0 .taken) (w .1 .taken ∙ c .before .before .most .ensures); after = refl }))
+    rw (w .4) (record {
+      gives =
+          laws.too-many s (a .text .now) (a .from) (a .buffer .now) (t .buffer) (t .i) n (t .inv .1) (w .0 .taken) (w .1 .taken ∙ c .before .before .most .ensures);
+      after =
+          refl;
+    }))
     (λ v.
     by-cases v
     (λ w.
     let b = w .3 in
     let inv = b .inv .1 .1 in
     let h = places (a .kind) n (inv .room) in
-    rw (w .7) (record { gives = laws.unended s (a .text .now) (a .from) (t .buffer) (b .buffer) (b .i) n (b .p) inv h (w .4 .taken); after = refl }))
+    rw (w .7) (record {
+      gives =
+          laws.unended s (a .text .now) (a .from) (t .buffer) (b .buffer) (b .i) n (b .p) inv h (w .4 .taken);
+      after = refl;
+    }))
     (λ v.
     by-cases v
     (λ w.
     let b = w .3 in
     let inv = b .inv .1 .1 in
     let h = places (a .kind) n (inv .room) in
-    rw (w .13) (record { gives = laws.malformed s (a .text .now) (a .from) (t .buffer) (b .buffer) (b .i) n (b .p) inv h (w .4 .left) (rw f at (sym (w .8 .ensures) ∙ w .10 .given .1)); after = refl }))
+    rw (w .13) (record {
+      gives =
+          laws.malformed s (a .text .now) (a .from) (t .buffer) (b .buffer) (b .i) n (b .p) inv h (w .4 .left) (rw f at (sym (w .8 .ensures) ∙ w .10 .given .1));
+      after =
+          refl;
+    }))
     (λ w.
     let b = w .3 in
     let inv = b .inv .1 .1 in
     let h = places (a .kind) n (inv .room) in
-    rw (w .16) (record { gives = laws.outside s (a .text .now) (a .from) (t .buffer) (b .buffer) (b .i) n (b .p) inv h (w .4 .left) (rw f at (sym (w .8 .ensures) ∙ w .10 .given .1)) (rw f at (sym (w .12 .ensures) ∙ not-true (w .12 .result) (w .13 .taken))); after = refl })))))
+    rw (w .16) (record {
+      gives =
+          laws.outside s (a .text .now) (a .from) (t .buffer) (b .buffer) (b .i) n (b .p) inv h (w .4 .left) (rw f at (sym (w .8 .ensures) ∙ w .10 .given .1)) (rw f at (sym (w .12 .ensures) ∙ not-true (w .12 .result) (w .13 .taken)));
+      after =
+          refl;
+    })))))
 
 returns : tie.Need-returns Inv-bytes μ-bytes Inv-lines μ-lines
 returns c = let h = answered (c .before) in rw (c .answer-after .ensures) (h .gives, h .after)

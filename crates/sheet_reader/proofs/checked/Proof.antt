@@ -12,66 +12,54 @@ use Rattle.sheet_reader.proofs.checked.Statement.{statement}
 use Rattle.sheet_reader.proofs.checked.Tie as tie
 use Rattle.sheet_reader.proofs.checked.Reads as reads
 use Rattle.sheet_reader.proofs.checked.Lts as lts
-use Rattle.sheet_reader.proofs.store_bytes.Reads as store-bytes-reads
-use Rattle.sheet_rules.proofs.ruled.Reads as ruled-reads
 
--- src/lib.rt:110:43
 slice-aggregate-store-bytes : tie.Need-slice-aggregate-store-bytes
 slice-aggregate-store-bytes c = search needs
 
--- src/lib.rt:110:5
 store-bytes-requires : tie.Need-store-bytes-requires
 store-bytes-requires c κs = search needs
 
--- src/lib.rt:112:41
 slice-aggregate-store-bytes-2 : tie.Need-slice-aggregate-store-bytes-2
 slice-aggregate-store-bytes-2 c = search needs
 
--- src/lib.rt:112:5
 store-bytes-requires-2 : tie.Need-store-bytes-requires-2
 store-bytes-requires-2 c κs = search needs
 
--- src/lib.rt:113:13
 mul-m : tie.Need-mul-m
 mul-m c = search needs
 
--- src/lib.rt:114:24
 sub-ruled : tie.Need-sub-ruled
 sub-ruled c = search needs
 
--- src/lib.rt:114:24
 part-ruled-start : tie.Need-part-ruled-start
 part-ruled-start c = search needs
 
--- src/lib.rt:114:24
 part-ruled-end : tie.Need-part-ruled-end
 part-ruled-end c = search needs
 
--- src/lib.rt:114:38
 sub-ruled-2 : tie.Need-sub-ruled-2
 sub-ruled-2 c = search needs
 
--- src/lib.rt:114:38
 part-ruled-start-2 : tie.Need-part-ruled-start-2
 part-ruled-start-2 c = search needs
 
--- src/lib.rt:114:38
 part-ruled-end-2 : tie.Need-part-ruled-end-2
 part-ruled-end-2 c = search needs
 
--- src/lib.rt:114:5
 ruled-requires : tie.Need-ruled-requires
 ruled-requires c κs = search needs
 
--- src/lib.rt:104:1
 returns : tie.Need-returns
 returns c =
     let a = c .before .before .before .before .before .before .before .before .before .before .before .args in
     let n = a .n in
     let numbers = picked Numbers (a .buffer .now) n in
     let nodes = picked Nodes (a .buffer .now) (n * nodeFields) in
-    let p = front _ numbers _ (n - 0) (rw (mul-one n) at (c .before .before .before .before .before .before .before .before .before .store-bytes .ensures)) (length-from _ 0 n ∙ sym (sub-zero n)) in
-    let q = front _ nodes _ (n * nodeFields - 0) (c .before .before .before .before .before .before .store-bytes2 .ensures) (length-from _ 0 (n * nodeFields) ∙ sym (sub-zero (n * nodeFields))) in
+    let p = front _ numbers _ (n - 0)
+    (rw (mul-one n) at (c .before .before .before .before .before .before .before .before .before .store-bytes .ensures))
+    (length-from _ 0 n ∙ sym (sub-zero n)) in
+    let q = front _ nodes _ (n * nodeFields - 0) (c .before .before .before .before .before .before .store-bytes2 .ensures)
+    (length-from _ 0 (n * nodeFields) ∙ sym (sub-zero (n * nodeFields))) in
     rw (← p, ← q) (c .ruled .ensures)
 
 pub checked-spec : {M : Type 1} → statement M

@@ -9,14 +9,10 @@ use Rattle.sheet_reader.proofs.read.Statement.{statement}
 use Rattle.sheet_reader.proofs.read.Tie as tie
 use Rattle.sheet_reader.proofs.read.Reads as reads
 use Rattle.sheet_reader.proofs.read.Lts as lts
-use Rattle.sheet_lines.proofs.sheet.Reads as sheet-reads
-use Rattle.sheet_reader.proofs.largest.Reads as largest-reads
 
--- src/lib.rt:83:17
 largest-requires : tie.Need-largest-requires
 largest-requires c κs = search needs
 
--- src/lib.rt:84:9
 returns : tie.Need-returns
 returns c =
     let a = c .before .before .before .args in
@@ -25,11 +21,9 @@ returns c =
     (too-small (a .places) (needed (a .kind)) r (rw (c .before .largest .ensures) at (c .if1 .taken))) in
     (h .answers, h .buffer)
 
--- src/lib.rt:89:5
 sheet-requires : tie.Need-sheet-requires
 sheet-requires c κs = search needs
 
--- src/lib.rt:79:1
 returns-2 : tie.Need-returns-2
 returns-2 c =
     let a = c .before .before .before .before .before .args in

@@ -14,28 +14,25 @@ use Rattle.sheet_reader.proofs.read_outline.Statement.{statement}
 use Rattle.sheet_reader.proofs.read_outline.Tie as tie
 use Rattle.sheet_reader.proofs.read_outline.Reads as reads
 use Rattle.sheet_reader.proofs.read_outline.Lts as lts
-use Rattle.sheet_reader.proofs.checked.Reads as checked-reads
-use Rattle.sheet_reader.proofs.read.Reads as read-reads
-use Rattle.sheet_reader.proofs.store_bytes.Reads as store-bytes-reads
 
--- src/lib.rt:64:9
 -- what stands in the buffer after an accepted sheet
 held : (c : tie.After-known-told)
-    → Kept outlineSheet (length (c .before .before .before .before .before .before .before .args .table .now)) nodePlaces (c .before .before .before .before .before .before .before .args .text .now) (c .before .before .before .read .last .1 .1 .1 .0) (c .before .r .given .0 .0)
-held c = kept outlineSheet _ nodePlaces _ _ _ _ (rw (c .before .r .given .1) at (c .before .before .before .read .ensures .0)) (c .before .before .before .read .ensures .1)
+    → Kept outlineSheet (length (c .before .before .before .before .before .before .before .args .table .now)) nodePlaces
+    (c .before .before .before .before .before .before .before .args .text .now) (c .before .before .before .read .last .1 .1 .1 .0)
+    (c .before .r .given .0 .0)
+held c =
+    kept outlineSheet _ nodePlaces _ _ _ _ (rw (c .before .r .given .1) at (c .before .before .before .read .ensures .0))
+    (c .before .before .before .read .ensures .1)
 
 read-requires : tie.Need-read-requires
 read-requires c κs = search needs
 
--- src/lib.rt:65:25
 enum-known-r : tie.Need-enum-known-r
 enum-known-r c = search needs
 
--- src/lib.rt:66:9
 enum-told : tie.Need-enum-told
 enum-told c = search needs
 
--- src/lib.rt:66:9
 returns : tie.Need-returns
 unfolding outlineInto
 returns c =
@@ -46,21 +43,17 @@ returns c =
     let h = refused-reads (roomy p nodePlaces (ruledResult r)) (a .table .now) _ _ (refused-before p nodePlaces r _ _ e) in
     (rw (c .enum-told .given .1) (h .answers), h .table)
 
--- src/lib.rt:68:9
 checked-requires : tie.Need-checked-requires
 checked-requires c κs =
     let k = held (c .before) in
     (few outlineSheet _ _ _ _ _ k, bounded outlineSheet _ _ _ _ _ k 256 (omega arith) (nodes-below (k .ok .each)))
 
--- src/lib.rt:70:26
 enum-known-f : tie.Need-enum-known-f
 enum-known-f c = search needs
 
--- src/lib.rt:72:25
 enum-told-2 : tie.Need-enum-told-2
 enum-told-2 c = search needs
 
--- src/lib.rt:72:13
 store-bytes-requires : tie.Need-store-bytes-requires
 store-bytes-requires c κs =
     let k = held (c .before .before .before .before .before .before) in
@@ -68,25 +61,26 @@ store-bytes-requires c κs =
     let l = k .room in
     (omega arith, (omega arith, bounded outlineSheet _ _ _ _ _ k 256 (omega arith) (nodes-below (k .ok .each))))
 
--- src/lib.rt:59:1
 returns-2 : tie.Need-returns-2
 unfolding outlineInto
 returns-2 c =
     let a = c .before .before .before .before .before .before .before .before .before .before .before .before .args in
     let k = held (c .before .before .before .before .before) in
-    let e = outline-refused _ _ _ _ _ k (c .before .f .given .0 .0) (c .before .f .given .0 .1 .0) (sym (c .before .before .before .checked .ensures) ∙ ap fault (c .before .f .given .1)) in
+    let e = outline-refused _ _ _ _ _ k (c .before .f .given .0 .0) (c .before .f .given .0 .1 .0)
+    (sym (c .before .before .before .checked .ensures) ∙ ap fault (c .before .f .given .1)) in
     let h = refused-reads (roomy (length (a .table .now)) nodePlaces (ruledResult (sheet outlineSheet (a .text .now)))) (a .table .now) _ _ e in
     (h .answers, h .table)
 
--- src/lib.rt:59:1
 same-length : tie.Need-same-length
 same-length c = search needs
 
--- src/lib.rt:59:1
 returns-3 : tie.Need-returns-3
 unfolding outlineInto
 returns-3 c =
-    let h = outline-stores _ _ _ _ _ (held (c .before .before .before .before .before .before .before .before .before)) (c .before .before .before .before .before .before .before .before .before .before .before .before .before .before .before .before .args .table .now) (sym (c .before .before .before .before .before .before .before .checked .ensures) ∙ ap fault (c .before .before .before .before .before .enum-told2 .given .1)) in
+    let b = c .before .before .before .before .before .before .before in
+    let t = b .before .before .before .before .before .before .before .before .before .args .table .now in
+    let h = outline-stores _ _ _ _ _ (held (b .before .before)) t
+    (sym (b .checked .ensures) ∙ ap fault (c .before .before .before .before .before .enum-told2 .given .1)) in
     (h .answers, c .before .before .store-bytes .ensures ∙ h .table)
 
 pub read-outline-spec : {M : Type 1} → statement M

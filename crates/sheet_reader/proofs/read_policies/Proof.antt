@@ -12,36 +12,34 @@ use Rattle.sheet_reader.proofs.read_policies.Statement.{statement}
 use Rattle.sheet_reader.proofs.read_policies.Tie as tie
 use Rattle.sheet_reader.proofs.read_policies.Reads as reads
 use Rattle.sheet_reader.proofs.read_policies.Lts as lts
-use Rattle.sheet_reader.proofs.read.Reads as read-reads
-use Rattle.sheet_reader.proofs.store_bytes.Reads as store-bytes-reads
 
--- src/lib.rt:35:9
 -- what stands in the buffer after an accepted sheet
 held : (c : tie.After-known-told)
-    → Kept policySheet (length (c .before .before .before .before .before .before .before .args .table .now)) edgePlaces (c .before .before .before .before .before .before .before .args .text .now) (c .before .before .before .read .last .1 .1 .1 .0) (c .before .r .given .0 .0)
-held c = kept policySheet _ edgePlaces _ _ _ _ (rw (c .before .r .given .1) at (c .before .before .before .read .ensures .0)) (c .before .before .before .read .ensures .1)
+    → Kept policySheet (length (c .before .before .before .before .before .before .before .args .table .now)) edgePlaces
+    (c .before .before .before .before .before .before .before .args .text .now) (c .before .before .before .read .last .1 .1 .1 .0)
+    (c .before .r .given .0 .0)
+held c =
+    kept policySheet _ edgePlaces _ _ _ _ (rw (c .before .r .given .1) at (c .before .before .before .read .ensures .0))
+    (c .before .before .before .read .ensures .1)
 
 read-requires : tie.Need-read-requires
 read-requires c κs = search needs
 
--- src/lib.rt:36:25
 enum-known-r : tie.Need-enum-known-r
 enum-known-r c = search needs
 
--- src/lib.rt:37:9
 enum-told : tie.Need-enum-told
 enum-told c = search needs
 
--- src/lib.rt:37:9
 returns : tie.Need-returns
 unfolding policiesInto
 returns c =
     let a = c .before .before .before .before .before .before .args in
     let r = roomy (length (a .table .now)) edgePlaces (sheet policySheet (a .text .now)) in
-    let h = refused-reads r (a .table .now) _ _ (refusal-result r _ _ (rw (c .enum-told .given .1) at (c .before .before .read .ensures .0))) in
+    let h = refused-reads r (a .table .now) _ _
+    (refusal-result r _ _ (rw (c .enum-told .given .1) at (c .before .before .read .ensures .0))) in
     (rw (c .enum-told .given .1) (h .answers), h .table)
 
--- src/lib.rt:39:5
 store-bytes-requires : tie.Need-store-bytes-requires
 store-bytes-requires c κs =
     let k = held (c .before .before) in
@@ -49,15 +47,14 @@ store-bytes-requires c κs =
     let l = k .room in
     (omega arith, (omega arith, bounded policySheet _ _ _ _ _ k 256 (omega arith) (edges-below (k .ok .each))))
 
--- src/lib.rt:30:1
 same-length : tie.Need-same-length
 same-length c = search needs
 
--- src/lib.rt:30:1
 returns-2 : tie.Need-returns-2
 unfolding policiesInto
 returns-2 c =
-    let h = stores policySheet _ _ _ _ _ (held (c .before .before .before .before .before)) (c .before .before .before .before .before .before .before .before .before .before .before .before .args .table .now) in
+    let h = stores policySheet _ _ _ _ _ (held (c .before .before .before .before .before))
+    (c .before .before .before .before .before .before .before .before .before .before .before .before .args .table .now) in
     (h .answers, c .before .before .store-bytes .ensures ∙ h .table)
 
 pub read-policies-spec : {M : Type 1} → statement M

@@ -11,36 +11,34 @@ use Rattle.sheet_reader.proofs.read_trace.Statement.{statement}
 use Rattle.sheet_reader.proofs.read_trace.Tie as tie
 use Rattle.sheet_reader.proofs.read_trace.Reads as reads
 use Rattle.sheet_reader.proofs.read_trace.Lts as lts
-use Rattle.sheet_reader.proofs.read.Reads as read-reads
-use Rattle.sheet_reader.proofs.store_numbers.Reads as store-numbers-reads
 
--- src/lib.rt:49:9
 -- what stands in the buffer after an accepted sheet
 held : (c : tie.After-known-told)
-    → Kept traceSheet (length (c .before .before .before .before .before .before .before .args .table .now)) stepPlaces (c .before .before .before .before .before .before .before .args .text .now) (c .before .before .before .read .last .1 .1 .1 .0) (c .before .r .given .0 .0)
-held c = kept traceSheet _ stepPlaces _ _ _ _ (rw (c .before .r .given .1) at (c .before .before .before .read .ensures .0)) (c .before .before .before .read .ensures .1)
+    → Kept traceSheet (length (c .before .before .before .before .before .before .before .args .table .now)) stepPlaces
+    (c .before .before .before .before .before .before .before .args .text .now) (c .before .before .before .read .last .1 .1 .1 .0)
+    (c .before .r .given .0 .0)
+held c =
+    kept traceSheet _ stepPlaces _ _ _ _ (rw (c .before .r .given .1) at (c .before .before .before .read .ensures .0))
+    (c .before .before .before .read .ensures .1)
 
 read-requires : tie.Need-read-requires
 read-requires c κs = search needs
 
--- src/lib.rt:50:25
 enum-known-r : tie.Need-enum-known-r
 enum-known-r c = search needs
 
--- src/lib.rt:51:9
 enum-told : tie.Need-enum-told
 enum-told c = search needs
 
--- src/lib.rt:51:9
 returns : tie.Need-returns
 unfolding traceInto
 returns c =
     let a = c .before .before .before .before .before .before .args in
     let r = roomy (length (a .table .now)) stepPlaces (sheet traceSheet (a .text .now)) in
-    let h = refused-reads r (a .table .now) _ _ (refusal-result r _ _ (rw (c .enum-told .given .1) at (c .before .before .read .ensures .0))) in
+    let h = refused-reads r (a .table .now) _ _
+    (refusal-result r _ _ (rw (c .enum-told .given .1) at (c .before .before .read .ensures .0))) in
     (rw (c .enum-told .given .1) (h .answers), h .table)
 
--- src/lib.rt:53:5
 store-numbers-requires : tie.Need-store-numbers-requires
 store-numbers-requires c κs =
     let k = held (c .before .before) in
@@ -48,15 +46,14 @@ store-numbers-requires c κs =
     let l = k .room in
     (omega arith, omega arith)
 
--- src/lib.rt:44:1
 same-length : tie.Need-same-length
 same-length c = search needs
 
--- src/lib.rt:44:1
 returns-2 : tie.Need-returns-2
 unfolding traceInto
 returns-2 c =
-    let h = stores traceSheet _ _ _ _ _ (held (c .before .before .before .before .before)) (c .before .before .before .before .before .before .before .before .before .before .before .before .args .table .now) in
+    let h = stores traceSheet _ _ _ _ _ (held (c .before .before .before .before .before))
+    (c .before .before .before .before .before .before .before .before .before .before .before .before .args .table .now) in
     (h .answers, c .before .before .store-numbers .ensures ∙ h .table)
 
 pub read-trace-spec : {M : Type 1} → statement M

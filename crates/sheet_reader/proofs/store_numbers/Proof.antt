@@ -6,7 +6,6 @@ use lib.ListN.{getD}
 use borrow.Author.Needs.{needs}
 use Rattle.sheet_reader.proofs.store_numbers.Statement.{statement}
 use Rattle.sheet_reader.proofs.store_numbers.Tie as tie
-use Rattle.sheet_reader.proofs.store_numbers.Reads as reads
 use Rattle.sheet_reader.proofs.store_numbers.Lts as lts
 
 abbrev Inv-loop : tie.InvT-loop
@@ -15,50 +14,40 @@ Inv-loop buffer n table₀ m i₀ table i = Filled (λ i. getD buffer i 0) table
 abbrev μ-loop : tie.MeasureT-loop
 μ-loop buffer n table₀ m i₀ table i = m - i
 
--- src/lib.rt:168:13
 mul-m : tie.Need-mul-m Inv-loop μ-loop
 mul-m c = search needs
 
--- src/lib.rt:170:5
 loop-holds : tie.Need-loop-holds Inv-loop μ-loop
 loop-holds c = none-filled _ _ _
 
--- src/lib.rt:171:20
 mul-table : tie.Need-mul-table Inv-loop μ-loop
 mul-table c = search needs
 
--- src/lib.rt:171:20
 element-copy-out-table : tie.Need-element-copy-out-table Inv-loop μ-loop
 element-copy-out-table c = search needs
 
--- src/lib.rt:171:9
 mul-table-2 : tie.Need-mul-table-2 Inv-loop μ-loop
 mul-table-2 c = search needs
 
--- src/lib.rt:171:9
 slice-write-table : tie.Need-slice-write-table Inv-loop μ-loop
 slice-write-table c = search needs
 
--- src/lib.rt:172:9
 add-i : tie.Need-add-i Inv-loop μ-loop
 add-i c = search needs
 
--- src/lib.rt:170:5
 loop-less : tie.Need-loop-less Inv-loop μ-loop
 loop-less c = search needs
 
--- src/lib.rt:170:5
 loop-again : tie.Need-loop-again Inv-loop μ-loop
 loop-again c =
     let a = c .before .before .before .args in
     let t = c .before .before .loop in
-    one-filled (λ i. getD (a .buffer .now) i 0) (a .table .now) (a .n * stepFields) (t .table) (t .i) (t .inv) (c .before .loop-test .taken) (c .before .before .before .pre .1)
+    one-filled (λ i. getD (a .buffer .now) i 0) (a .table .now) (a .n * stepFields) (t .table) (t .i) (t .inv)
+    (c .before .loop-test .taken) (c .before .before .before .pre .1)
 
--- src/lib.rt:163:1
 same-length : tie.Need-same-length Inv-loop μ-loop
 same-length c = search needs
 
--- src/lib.rt:163:1
 returns : tie.Need-returns Inv-loop μ-loop
 returns c =
     let a = c .before .before .args in

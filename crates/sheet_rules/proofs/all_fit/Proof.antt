@@ -63,7 +63,8 @@ returns c =
     let l = c .before .before .before .before .before .before .before .before .args .table .now in
     let t = c .before .before .before .before .before .before .loop in
     let r = c .before .node-fits in
-    sym (one-fails nodeOk (nodeAt l) (length l / nodeFields) (t .k) (r .result) (r .ensures) (c .before .before .before .before .before .loop-test .taken) (c .if1 .taken))
+    sym (one-fails nodeOk (nodeAt l) (length l / nodeFields) (t .k) (r .result) (r .ensures)
+    (c .before .before .before .before .before .loop-test .taken) (c .if1 .taken))
 
 add-k : tie.Need-add-k Inv-loop μ-loop
 add-k c = search needs
@@ -75,8 +76,11 @@ loop-again : tie.Need-loop-again Inv-loop μ-loop
 loop-again c =
     let l = c .before .before .before .before .before .before .before .before .args .table .now in
     let t = c .before .before .before .before .before .before .loop in
-    let r = c .before .node-fits in
-    (search needs, below-more _ (t .k) (t .inv .1) (one-passes nodeOk (nodeAt l) (length l / nodeFields) (t .k) (r .result) (r .ensures) (c .if1 .left)))
+    let r = c .before .node-fits in (
+      search needs,
+      below-more _ (t .k) (t .inv .1)
+          (one-passes nodeOk (nodeAt l) (length l / nodeFields) (t .k) (r .result) (r .ensures) (c .if1 .left)),
+    )
 
 returns-2 : tie.Need-returns-2 Inv-loop μ-loop
 unfolding nodesOf

@@ -17,7 +17,9 @@ all-fit-requires : tie.Need-all-fit-requires
 all-fit-requires c κs = search needs
 
 returns-3 : tie.Need-returns-3
-returns-3 c = sym (no-fit (c .before .before .before .before .before .args .table .now) (c .before .before .before .if1 .left) (c .before .before .if2 .left) (sym (c .before .all-fit .ensures) ∙ not-true (c .before .all-fit .result) (c .if3 .taken)))
+returns-3 c =
+    sym (no-fit (c .before .before .before .before .before .args .table .now) (c .before .before .before .if1 .left)
+    (c .before .before .if2 .left) (sym (c .before .all-fit .ensures) ∙ not-true (c .before .all-fit .result) (c .if3 .taken)))
 
 slice-aggregate-ruled : tie.Need-slice-aggregate-ruled
 slice-aggregate-ruled c = search needs
@@ -32,10 +34,20 @@ enum-told-2 : tie.Need-enum-told-2
 enum-told-2 c = search needs
 
 returns-4 : tie.Need-returns-4
-returns-4 c = sym (fit (c .before .before .before .before .before .before .before .before .before .args .table .now) (c .before .before .before .before .before .before .before .if1 .left) (c .before .before .before .before .before .before .if2 .left) (sym (c .before .before .before .before .before .all-fit .ensures) ∙ not-false (c .before .before .before .before .before .all-fit .result) (c .before .before .before .before .if3 .left)) ∙ ap isNone (sym (c .before .before .ruled .ensures) ∙ ap fault (c .enum-told .given .1)))
+returns-4 c =
+    sym (fit (c .before .before .before .before .before .before .before .before .before .args .table .now)
+    (c .before .before .before .before .before .before .before .if1 .left) (c .before .before .before .before .before .before .if2 .left)
+    (sym (c .before .before .before .before .before .all-fit .ensures) ∙ not-false
+    (c .before .before .before .before .before .all-fit .result) (c .before .before .before .before .if3 .left)) ∙ ap isNone
+    (sym (c .before .before .ruled .ensures) ∙ ap fault (c .enum-told .given .1)))
 
 returns-5 : tie.Need-returns-5
-returns-5 c = sym (fit (c .before .before .before .before .before .before .before .before .before .args .table .now) (c .before .before .before .before .before .before .before .if1 .left) (c .before .before .before .before .before .before .if2 .left) (sym (c .before .before .before .before .before .all-fit .ensures) ∙ not-false (c .before .before .before .before .before .all-fit .result) (c .before .before .before .before .if3 .left)) ∙ ap isNone (sym (c .before .before .ruled .ensures) ∙ ap fault (c .enum-told2 .given .1)))
+returns-5 c =
+    sym (fit (c .before .before .before .before .before .before .before .before .before .args .table .now)
+    (c .before .before .before .before .before .before .before .if1 .left) (c .before .before .before .before .before .before .if2 .left)
+    (sym (c .before .before .before .before .before .all-fit .ensures) ∙ not-false
+    (c .before .before .before .before .before .all-fit .result) (c .before .before .before .before .if3 .left)) ∙ ap isNone
+    (sym (c .before .before .ruled .ensures) ∙ ap fault (c .enum-told2 .given .1)))
 
 pub node-table-ok-spec : {M : Type 1} → statement M
 node-table-ok-spec =

@@ -30,7 +30,8 @@ add-t12 c =
     let a = c .before .before .before .before .before .before .before .args in
     let ns = nodesOf (a .table .now) in
     let test = passes (a .first) (a .places .now) ns in
-    let l = lowest-below test 0 (length (a .table .now) / nodeFields) (c .before .six .given .0 .0) (sym (c .before .before .before .lowest .ensures) ∙ ap found (c .before .six .given .1)) in
+    let l = lowest-below test 0 (length (a .table .now) / nodeFields) (c .before .six .given .0 .0)
+    (sym (c .before .before .before .lowest .ensures) ∙ ap found (c .before .six .given .1)) in
     search needs
 
 returns-2 : tie.Need-returns-2
@@ -38,7 +39,8 @@ returns-2 c =
     let a = c .before .before .before .before .before .before .before .args in
     let ns = nodesOf (a .table .now) in
     let test = passes (a .first) (a .places .now) ns in
-    sym (at-six (a .table .now) test (c .before .before .before .before .if1 .left) (c .before .six .given .0 .0) (sym (c .before .before .before .lowest .ensures) ∙ ap found (c .before .six .given .1)))
+    sym (at-six (a .table .now) test (c .before .before .before .before .if1 .left) (c .before .six .given .0 .0)
+    (sym (c .before .before .before .lowest .ensures) ∙ ap found (c .before .six .given .1)))
 
 enum-told : tie.Need-enum-told
 enum-told c = search needs
@@ -54,7 +56,8 @@ add-t14 c =
     let a = c .before .before .before .before .before .before .before .before .before .before .args in
     let ns = nodesOf (a .table .now) in
     let test = passes (a .first) (a .places .now) ns in
-    let l = lowest-below (backOk ns) 0 (length (a .table .now) / nodeFields) (c .before .seven .given .0 .0) (sym (c .before .before .before .lowest2 .ensures) ∙ ap found (c .before .seven .given .1)) in
+    let l = lowest-below (backOk ns) 0 (length (a .table .now) / nodeFields) (c .before .seven .given .0 .0)
+    (sym (c .before .before .before .lowest2 .ensures) ∙ ap found (c .before .seven .given .1)) in
     search needs
 
 returns-3 : tie.Need-returns-3
@@ -62,7 +65,10 @@ returns-3 c =
     let a = c .before .before .before .before .before .before .before .before .before .before .args in
     let ns = nodesOf (a .table .now) in
     let test = passes (a .first) (a .places .now) ns in
-    sym (at-seven (a .table .now) test (c .before .before .before .before .before .before .before .if1 .left) (sym (c .before .before .before .before .before .before .lowest .ensures) ∙ ap found (c .before .before .before .before .enum-told .given .1)) (c .before .seven .given .0 .0) (sym (c .before .before .before .lowest2 .ensures) ∙ ap found (c .before .seven .given .1)))
+    sym (at-seven (a .table .now) test (c .before .before .before .before .before .before .before .if1 .left)
+    (sym (c .before .before .before .before .before .before .lowest .ensures) ∙ ap found
+    (c .before .before .before .before .enum-told .given .1)) (c .before .seven .given .0 .0)
+    (sym (c .before .before .before .lowest2 .ensures) ∙ ap found (c .before .seven .given .1)))
 
 enum-told-2 : tie.Need-enum-told-2
 enum-told-2 c = search needs
@@ -78,7 +84,8 @@ add-t15 c =
     let a = c .before .before .before .before .before .before .before .before .before .before .before .before .before .args in
     let ns = nodesOf (a .table .now) in
     let test = passes (a .first) (a .places .now) ns in
-    let l = lowest-below (nameOk ns) 0 (length (a .table .now) / nodeFields) (c .before .eight .given .0 .0) (sym (c .before .before .before .lowest3 .ensures) ∙ ap found (c .before .eight .given .1)) in
+    let l = lowest-below (nameOk ns) 0 (length (a .table .now) / nodeFields) (c .before .eight .given .0 .0)
+    (sym (c .before .before .before .lowest3 .ensures) ∙ ap found (c .before .eight .given .1)) in
     search needs
 
 returns-4 : tie.Need-returns-4
@@ -86,7 +93,12 @@ returns-4 c =
     let a = c .before .before .before .before .before .before .before .before .before .before .before .before .before .args in
     let ns = nodesOf (a .table .now) in
     let test = passes (a .first) (a .places .now) ns in
-    sym (at-eight (a .table .now) test (c .before .before .before .before .before .before .before .before .before .before .if1 .left) (sym (c .before .before .before .before .before .before .before .before .before .lowest .ensures) ∙ ap found (c .before .before .before .before .before .before .before .enum-told .given .1)) (sym (c .before .before .before .before .before .before .lowest2 .ensures) ∙ ap found (c .before .before .before .before .enum-told2 .given .1)) (c .before .eight .given .0 .0) (sym (c .before .before .before .lowest3 .ensures) ∙ ap found (c .before .eight .given .1)))
+    sym (at-eight (a .table .now) test (c .before .before .before .before .before .before .before .before .before .before .if1 .left)
+    (sym (c .before .before .before .before .before .before .before .before .before .lowest .ensures) ∙ ap found
+    (c .before .before .before .before .before .before .before .enum-told .given .1))
+    (sym (c .before .before .before .before .before .before .lowest2 .ensures) ∙ ap found
+    (c .before .before .before .before .enum-told2 .given .1)) (c .before .eight .given .0 .0)
+    (sym (c .before .before .before .lowest3 .ensures) ∙ ap found (c .before .eight .given .1)))
 
 enum-told-3 : tie.Need-enum-told-3
 enum-told-3 c = search needs
@@ -96,7 +108,11 @@ returns-5 c =
     let a = c .before .before .before .before .before .before .before .before .before .before .before .before .args in
     let ns = nodesOf (a .table .now) in
     let test = passes (a .first) (a .places .now) ns in
-    sym (clean (a .table .now) test (c .before .before .before .before .before .before .before .before .before .if1 .left) (sym (c .before .before .before .before .before .before .before .before .lowest .ensures) ∙ ap found (c .before .before .before .before .before .before .enum-told .given .1)) (sym (c .before .before .before .before .before .lowest2 .ensures) ∙ ap found (c .before .before .before .enum-told2 .given .1)) (sym (c .before .before .lowest3 .ensures) ∙ ap found (c .enum-told3 .given .1)))
+    sym (clean (a .table .now) test (c .before .before .before .before .before .before .before .before .before .if1 .left)
+    (sym (c .before .before .before .before .before .before .before .before .lowest .ensures) ∙ ap found
+    (c .before .before .before .before .before .before .enum-told .given .1))
+    (sym (c .before .before .before .before .before .lowest2 .ensures) ∙ ap found (c .before .before .before .enum-told2 .given .1))
+    (sym (c .before .before .lowest3 .ensures) ∙ ap found (c .enum-told3 .given .1)))
 
 pub ruled-spec : {M : Type 1} → statement M
 ruled-spec =

@@ -7,7 +7,7 @@ use Rattle.usage.specs.Limits.{nodeFields}
 use Rattle.usage.proofs.Logic.{not-true, not-false}
 use Rattle.checker_account.specs.Tables.{places, joinedAt, rowsIn}
 use Rattle.checker_account.specs.Rounds.{total, formsIn, begins}
-use Rattle.checker_tables.specs.Code.{comesRound}
+use Rattle.checker_tables.specs.Search.{comesRound}
 use Rattle.checker_account.proofs.RoundLaws.{Grows, Filling, most, joined-grows, filling-start, filling-more, filling-length, filling-ends}
 use Rattle.checker_account.proofs.RoundLaws.{filling-less}
 use Rattle.checker_account.proofs.PassLaws.{pass-round-grows}

@@ -14,7 +14,7 @@ use Rattle.checker_account.proofs.RoundLaws.{Grows, grown-self, repeat-length, 
 use Rattle.checker_account.proofs.PassLaws.{pass-node-grows}
 use Rattle.usage.specs.declared.Node.{Node}
 use Rattle.usage.specs.Outline.{formOf}
-use Rattle.checker_tables.specs.Code.{Small}
+use Rattle.checker_tables.specs.Search.{Small}
 use Rattle.checker_tables.proofs.arrivals.pass_round.Statement.{statement}
 use Rattle.checker_tables.proofs.arrivals.pass_round.Tie as tie
 use Rattle.checker_tables.proofs.arrivals.pass_round.Reads as reads

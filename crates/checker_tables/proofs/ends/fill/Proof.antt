@@ -7,7 +7,7 @@ use Rattle.usage.specs.Limits.{states, nodeFields}
 use Rattle.usage.proofs.Logic.{not-true, not-false}
 use Rattle.checker_account.specs.Tables.{places, rowsIn}
 use Rattle.checker_account.specs.Rounds.{total, formsIn, Wide}
-use Rattle.checker_tables.specs.Code.{endsRound}
+use Rattle.checker_tables.specs.Search.{endsRound}
 use Rattle.checker_account.proofs.JoinLaws.{zeros-wide}
 use Rattle.checker_account.proofs.RoundLaws.{Grows, Filling, most, filling-start, filling-more, filling-length, filling-ends, filling-less}
 use Rattle.checker_account.proofs.SettleLaws.{round-grows, round-wide}

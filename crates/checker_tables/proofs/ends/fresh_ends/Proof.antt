@@ -8,7 +8,7 @@ use lib.Bits.{bitOr, or-zero-r}
 use denote.Ref.{now}
 use Rattle.checker_account.specs.Tables.{begun, forgotten, rowsIn, freshEnds}
 use Rattle.checker_account.proofs.CodeLaws.{forgotten-lt, made-none, made-some}
-use Rattle.checker_tables.specs.Code.{lost}
+use Rattle.checker_tables.specs.Search.{lost}
 use Rattle.checker_tables.proofs.MeaningLaws.{lost-name}
 use borrow.Author.Needs.{needs}
 use Rattle.checker_tables.proofs.ends.fresh_ends.Statement.{statement}

@@ -11,7 +11,7 @@ use Rattle.usage.proofs.Logic.{by-cases}
 use Rattle.usage.specs.declared.Node.{Node}
 use Rattle.usage.specs.Outline.{formOf}
 use Rattle.checker_account.specs.Tables.{rowsIn}
-use Rattle.checker_tables.specs.Code.{Small}
+use Rattle.checker_tables.specs.Search.{Small}
 use Rattle.checker_account.specs.Rounds.{repeat, grown, formsIn, settleNode, settleRound}
 use Rattle.checker_account.proofs.RoundLaws.{Grows, grown-self, repeat-length, turn}
 use Rattle.checker_account.proofs.SettleLaws.{node-grows}

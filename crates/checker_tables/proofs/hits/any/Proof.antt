@@ -13,7 +13,7 @@ use Rattle.automaton.proofs.MaskLaws.{some-at}
 use Rattle.checker_account.specs.Tables.{rowsIn}
 use Rattle.checker_account.specs.Rounds.{formsIn, hitNode, hitAny}
 use Rattle.checker_account.proofs.CodeLaws.{none-more}
-use Rattle.checker_tables.specs.Code.{Small}
+use Rattle.checker_tables.specs.Search.{Small}
 use borrow.Author.Needs.{needs}
 use Rattle.checker_tables.proofs.hits.any.Statement.{statement}
 use Rattle.checker_tables.proofs.hits.any.Tie as tie

@@ -72,7 +72,8 @@ shared-slice-read-edge-fits-5 : tie.Need-shared-slice-read-edge-fits-5 Inv-loop 
 shared-slice-read-edge-fits-5 c = search needs
 
 cast-edge-fits-5 : tie.Need-cast-edge-fits-5 Inv-loop μ-loop
-cast-edge-fits-5 c = omega (arith, c .shared-slice-known6 .given (edgeFields * c .before .before .before .before .before .before .loop .i + 4))
+cast-edge-fits-5 c =
+    omega (arith, c .shared-slice-known6 .given (edgeFields * c .before .before .before .before .before .before .loop .i + 4))
 
 add-edge-fits-5 : tie.Need-add-edge-fits-5 Inv-loop μ-loop
 add-edge-fits-5 c = search needs
@@ -81,7 +82,8 @@ shared-slice-read-edge-fits-6 : tie.Need-shared-slice-read-edge-fits-6 Inv-loop 
 shared-slice-read-edge-fits-6 c = search needs
 
 cast-edge-fits-6 : tie.Need-cast-edge-fits-6 Inv-loop μ-loop
-cast-edge-fits-6 c = omega (arith, c .shared-slice-known7 .given (edgeFields * c .before .before .before .before .before .before .before .loop .i + 5))
+cast-edge-fits-6 c =
+    omega (arith, c .shared-slice-known7 .given (edgeFields * c .before .before .before .before .before .before .before .loop .i + 5))
 
 edge-fits-requires : tie.Need-edge-fits-requires Inv-loop μ-loop
 edge-fits-requires c κs = search needs
@@ -92,7 +94,8 @@ returns-3 c =
     let t = b .before .before .before .before .before .args .edges .now in
     let s = c .before .edge-fits in
     sym (each-edge t (b .before .before .before .if1 .left) (b .before .before .if2 .left)
-    ∙ one-fails edgeOk (edgeAt t) (length t / edgeFields) (b .before .loop .i) (s .result) (s .ensures) (b .loop-test .taken) (c .if3 .taken))
+    ∙ one-fails edgeOk (edgeAt t) (length t / edgeFields) (b .before .loop .i) (s .result) (s .ensures) (b .loop-test .taken)
+    (c .if3 .taken))
 
 add-i : tie.Need-add-i Inv-loop μ-loop
 add-i c = search needs
@@ -104,8 +107,11 @@ loop-again : tie.Need-loop-again Inv-loop μ-loop
 loop-again c =
     let b = c .before .before .before .before .before .before .before .before .before in
     let t = b .before .before .before .before .args .edges .now in
-    let s = c .before .edge-fits in
-    (search needs, below-more _ (b .loop .i) (b .loop .inv .1) (one-passes edgeOk (edgeAt t) (length t / edgeFields) (b .loop .i) (s .result) (s .ensures) (c .if3 .left)))
+    let s = c .before .edge-fits in (
+      search needs,
+      below-more _ (b .loop .i) (b .loop .inv .1)
+          (one-passes edgeOk (edgeAt t) (length t / edgeFields) (b .loop .i) (s .result) (s .ensures) (c .if3 .left)),
+    )
 
 returns-4 : tie.Need-returns-4 Inv-loop μ-loop
 returns-4 c =

@@ -5,15 +5,13 @@ use Rattle.sheet_rules.proofs.node_rules.back_ok.Statement.{statement}
 use Rattle.sheet_rules.proofs.node_rules.back_ok.Tie as tie
 use Rattle.sheet_rules.proofs.node_rules.back_ok.Reads as reads
 use Rattle.sheet_rules.proofs.node_rules.back_ok.Lts as lts
-use Rattle.sheet_rules.proofs.node_rules.named_above.Reads as named-above-reads
 
--- src/node_rules.rt:36:5
 named-above-requires : tie.Need-named-above-requires
 named-above-requires c κs = search needs
 
--- src/node_rules.rt:32:1
 returns : tie.Need-returns
-returns c = c .named-above .ensures ∙ sym (back-by (c .before .before .args .table .now) (c .before .before .args .k) (c .before .before .pre))
+returns c =
+    c .named-above .ensures ∙ sym (back-by (c .before .before .args .table .now) (c .before .before .args .k) (c .before .before .pre))
 
 pub back-ok-spec : {M : Type 1} → statement M
 back-ok-spec = tie.close (tie.spec named-above-requires returns)

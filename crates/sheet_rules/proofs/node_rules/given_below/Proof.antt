@@ -27,7 +27,8 @@ returns : tie.Need-returns Inv-loop μ-loop
 returns c =
     let a = c .before .before .before .before .before .args in
     let ns = nodesOf (a .nodes .now) in
-    sym (sym (c .before .before .before .loop .inv .1) ∙ found-below ns (givesName ns (a .x)) 0 (c .before .before .before .loop .j) (c .before .before .loop-test .taken) (sym (c .before .gives-name .ensures) ∙ c .if1 .taken))
+    sym (sym (c .before .before .before .loop .inv .1) ∙ found-below ns (givesName ns (a .x)) 0 (c .before .before .before .loop .j)
+    (c .before .before .loop-test .taken) (sym (c .before .gives-name .ensures) ∙ c .if1 .taken))
 
 loop-less : tie.Need-loop-less Inv-loop μ-loop
 loop-less c = omega arith
@@ -35,8 +36,11 @@ loop-less c = omega arith
 loop-again : tie.Need-loop-again Inv-loop μ-loop
 loop-again c =
     let a = c .before .before .before .before .before .args in
-    let ns = nodesOf (a .nodes .now) in
-    (omega arith, sym (on-below ns (givesName ns (a .x)) 0 (c .before .before .before .loop .j) (c .before .before .loop-test .taken) (sym (c .before .gives-name .ensures) ∙ c .if1 .left)) ∙ c .before .before .before .loop .inv .1)
+    let ns = nodesOf (a .nodes .now) in (
+      omega arith,
+      sym (on-below ns (givesName ns (a .x)) 0 (c .before .before .before .loop .j) (c .before .before .loop-test .taken)
+          (sym (c .before .gives-name .ensures) ∙ c .if1 .left)) ∙ c .before .before .before .loop .inv .1,
+    )
 
 returns-2 : tie.Need-returns-2 Inv-loop μ-loop
 unfolding someBelow

@@ -14,7 +14,8 @@ shared-slice-read-if1 c = search needs
 returns : tie.Need-returns
 returns c =
     let a = c .before .before .args in
-    sym (name-at (a .nodes .now) (a .j) (c .before .before .pre) (a .x) ∙ ap (λ o. isSome o (a .x)) (other-kind (a .nodes .now) (a .j) 7 1 (c .if1 .taken)))
+    sym (name-at (a .nodes .now) (a .j) (c .before .before .pre) (a .x) ∙ ap (λ o. isSome o (a .x))
+    (other-kind (a .nodes .now) (a .j) 7 1 (c .if1 .taken)))
 
 mul-result : tie.Need-mul-result
 mul-result c = search needs
@@ -28,7 +29,8 @@ shared-slice-read-result c = search needs
 returns-2 : tie.Need-returns-2
 returns-2 c =
     let a = c .before .before .before .args in
-    sym (name-at (a .nodes .now) (a .j) (c .before .before .before .pre) (a .x) ∙ ap (λ o. isSome o (a .x)) (this-kind (a .nodes .now) (a .j) 7 1 (c .before .if1 .left)))
+    sym (name-at (a .nodes .now) (a .j) (c .before .before .before .pre) (a .x) ∙ ap (λ o. isSome o (a .x))
+    (this-kind (a .nodes .now) (a .j) 7 1 (c .before .if1 .left)))
 
 pub gives-name-spec : {M : Type 1} → statement M
 gives-name-spec =

@@ -10,7 +10,8 @@ use Rattle.sheet_rules.proofs.node_rules.inside.Statement.{statement}
 use Rattle.sheet_rules.proofs.node_rules.inside.Tie as tie
 
 abbrev Inv-loop : tie.InvT-loop
-Inv-loop nodes what x k at₀ j₀ at j = (j ≤ k) × (above (nodesOf nodes) (sought what (nodesOf nodes) x) at j ≡ above (nodesOf nodes) (sought what (nodesOf nodes) x) k k)
+Inv-loop nodes what x k at₀ j₀ at j =
+    (j ≤ k) × (above (nodesOf nodes) (sought what (nodesOf nodes) x) at j ≡ above (nodesOf nodes) (sought what (nodesOf nodes) x) k k)
 
 abbrev μ-loop : tie.MeasureT-loop
 μ-loop nodes what x k at₀ j₀ at j = j
@@ -33,7 +34,9 @@ returns c =
     let t = c .before .before .before .before .before .loop in
     let ns = nodesOf (a .nodes .now) in
     let test = sought (a .what) ns (a .x) in
-    sym (sym (t .inv .1) ∙ found-above ns test (t .at) (t .j) (c .before .before .before .before .loop-test .taken) (sym (c .before .before .before .is-child .ensures) ∙ c .before .before .if1 .taken) (sym (c .before .is-sought .ensures) ∙ c .if2 .taken))
+    sym (sym (t .inv .1) ∙ found-above ns test (t .at) (t .j) (c .before .before .before .before .loop-test .taken)
+    (sym (c .before .before .before .is-child .ensures) ∙ c .before .before .if1 .taken)
+    (sym (c .before .is-sought .ensures) ∙ c .if2 .taken))
 
 loop-less : tie.Need-loop-less Inv-loop μ-loop
 loop-less c = omega arith
@@ -43,8 +46,12 @@ loop-again c =
     let a = c .before .before .before .before .before .before .before .args in
     let t = c .before .before .before .before .before .loop in
     let ns = nodesOf (a .nodes .now) in
-    let test = sought (a .what) ns (a .x) in
-    (omega arith, sym (up-above ns test (t .at) (t .j) (c .before .before .before .before .loop-test .taken) (sym (c .before .before .before .is-child .ensures) ∙ c .before .before .if1 .taken) (sym (c .before .is-sought .ensures) ∙ c .if2 .left)) ∙ t .inv .1)
+    let test = sought (a .what) ns (a .x) in (
+      omega arith,
+      sym (up-above ns test (t .at) (t .j) (c .before .before .before .before .loop-test .taken)
+          (sym (c .before .before .before .is-child .ensures) ∙ c .before .before .if1 .taken)
+          (sym (c .before .is-sought .ensures) ∙ c .if2 .left)) ∙ t .inv .1,
+    )
 
 loop-less-2 : tie.Need-loop-less-2 Inv-loop μ-loop
 loop-less-2 c = omega arith
@@ -54,8 +61,11 @@ loop-again-2 c =
     let a = c .before .before .before .before .before .args in
     let t = c .before .before .before .loop in
     let ns = nodesOf (a .nodes .now) in
-    let test = sought (a .what) ns (a .x) in
-    (omega arith, sym (on-above ns test (t .at) (t .j) (c .before .before .loop-test .taken) (sym (c .before .is-child .ensures) ∙ c .if1 .left)) ∙ t .inv .1)
+    let test = sought (a .what) ns (a .x) in (
+      omega arith,
+      sym (on-above ns test (t .at) (t .j) (c .before .before .loop-test .taken)
+          (sym (c .before .is-child .ensures) ∙ c .if1 .left)) ∙ t .inv .1,
+    )
 
 returns-2 : tie.Need-returns-2 Inv-loop μ-loop
 unfolding above

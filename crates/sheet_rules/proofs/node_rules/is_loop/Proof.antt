@@ -15,7 +15,9 @@ shared-slice-read-result : tie.Need-shared-slice-read-result
 shared-slice-read-result c = search needs
 
 returns-2 : tie.Need-returns-2
-returns-2 c = sym (simp (eq-eqb _ _ (c .before .if1 .left)) (loop-at (c .before .before .args .nodes .now) (c .before .before .args .j) (c .before .before .pre)))
+returns-2 c =
+    sym (simp (eq-eqb _ _ (c .before .if1 .left))
+    (loop-at (c .before .before .args .nodes .now) (c .before .before .args .j) (c .before .before .pre)))
 
 pub is-loop-spec : {M : Type 1} → statement M
 is-loop-spec = tie.close (tie.spec returns mul-result shared-slice-read-result returns-2)

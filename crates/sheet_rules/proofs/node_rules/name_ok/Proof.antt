@@ -6,58 +6,47 @@ use Rattle.sheet_rules.proofs.node_rules.name_ok.Statement.{statement}
 use Rattle.sheet_rules.proofs.node_rules.name_ok.Tie as tie
 use Rattle.sheet_rules.proofs.node_rules.name_ok.Reads as reads
 use Rattle.sheet_rules.proofs.node_rules.name_ok.Lts as lts
-use Rattle.sheet_rules.proofs.node_rules.given_below.Reads as given-below-reads
-use Rattle.sheet_rules.proofs.node_rules.named_above.Reads as named-above-reads
 
--- src/node_rules.rt:44:9
 named-above-requires : tie.Need-named-above-requires
 named-above-requires c κs = search needs
 
--- src/node_rules.rt:45:9
 returns : tie.Need-returns
 returns c =
     let b = c .before .before .before in
     let r = c .before .named-above in
     sym (name-outside (b .args .table .now) (b .args .k) (b .pre) (r .result) (r .ensures) (c .if1 .taken))
 
--- src/node_rules.rt:47:14
 mul-if2 : tie.Need-mul-if2
 mul-if2 c = search needs
 
--- src/node_rules.rt:47:8
 shared-slice-read-if2 : tie.Need-shared-slice-read-if2
 shared-slice-read-if2 c = search needs
 
--- src/node_rules.rt:48:9
 returns-2 : tie.Need-returns-2
 returns-2 c =
     let b = c .before .before .before .before .before in
     let r = c .before .before .before .named-above in
     sym (gives-none (b .args .table .now) (b .args .k) (b .pre) (r .result) (r .ensures) (c .before .before .if1 .left) (c .if2 .taken))
 
--- src/node_rules.rt:50:31
 mul-given-below : tie.Need-mul-given-below
 mul-given-below c = search needs
 
--- src/node_rules.rt:50:31
 add-given-below : tie.Need-add-given-below
 add-given-below c = search needs
 
--- src/node_rules.rt:50:25
 shared-slice-read-given-below : tie.Need-shared-slice-read-given-below
 shared-slice-read-given-below c = search needs
 
--- src/node_rules.rt:50:6
 given-below-requires : tie.Need-given-below-requires
 given-below-requires c κs = search needs
 
--- src/node_rules.rt:40:1
 returns-3 : tie.Need-returns-3
 returns-3 c =
     let b = c .before .before .before .before .before .before .before in
     let r = c .before .before .before .before .before .named-above in
     ap not (c .given-below .ensures)
-    ∙ sym (gives-one (b .args .table .now) (b .args .k) (b .pre) (r .result) (r .ensures) (c .before .before .before .before .if1 .left) (c .before .before .if2 .left))
+    ∙ sym (gives-one (b .args .table .now) (b .args .k) (b .pre) (r .result) (r .ensures) (c .before .before .before .before .if1 .left)
+    (c .before .before .if2 .left))
 
 pub name-ok-spec : {M : Type 1} → statement M
 name-ok-spec =

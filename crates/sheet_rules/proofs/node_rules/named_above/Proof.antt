@@ -8,46 +8,39 @@ use Rattle.sheet_rules.proofs.node_rules.named_above.Statement.{stateme
 use Rattle.sheet_rules.proofs.node_rules.named_above.Tie as tie
 use Rattle.sheet_rules.proofs.node_rules.named_above.Reads as reads
 use Rattle.sheet_rules.proofs.node_rules.named_above.Lts as lts
-use Rattle.sheet_rules.proofs.node_rules.inside.Reads as inside-reads
 
--- src/node_rules.rt:25:14
 mul-if1 : tie.Need-mul-if1
 mul-if1 c = search needs
 
--- src/node_rules.rt:25:8
 shared-slice-read-if1 : tie.Need-shared-slice-read-if1
 shared-slice-read-if1 c = search needs
 
--- src/node_rules.rt:26:9
 returns : tie.Need-returns
 returns c =
     let a = c .before .before .before .args in
     let ns = nodesOf (a .nodes .now) in
-    sym (ap (allOf (λ x. above ns (sought (a .what) ns x) (a .k) (a .k))) (other-kind (a .nodes .now) (a .k) (a .kind) (a .field) (c .if1 .taken)))
+    sym (ap (allOf (λ x. above ns (sought (a .what) ns x) (a .k) (a .k)))
+    (other-kind (a .nodes .now) (a .k) (a .kind) (a .field) (c .if1 .taken)))
 
--- src/node_rules.rt:28:31
 mul-inside : tie.Need-mul-inside
 mul-inside c = search needs
 
--- src/node_rules.rt:28:31
 add-inside : tie.Need-add-inside
 add-inside c = search needs
 
--- src/node_rules.rt:28:25
 shared-slice-read-inside : tie.Need-shared-slice-read-inside
 shared-slice-read-inside c = search needs
 
--- src/node_rules.rt:28:5
 inside-requires : tie.Need-inside-requires
 inside-requires c κs = search needs
 
--- src/node_rules.rt:20:1
 returns-2 : tie.Need-returns-2
 returns-2 c =
     let a = c .before .before .before .before .before .args in
     let ns = nodesOf (a .nodes .now) in
     c .inside .ensures
-    ∙ sym (ap (allOf (λ x. above ns (sought (a .what) ns x) (a .k) (a .k))) (this-kind (a .nodes .now) (a .k) (a .kind) (a .field) (c .before .before .if1 .left)))
+    ∙ sym (ap (allOf (λ x. above ns (sought (a .what) ns x) (a .k) (a .k)))
+    (this-kind (a .nodes .now) (a .k) (a .kind) (a .field) (c .before .before .if1 .left)))
 
 pub named-above-spec : {M : Type 1} → statement M
 named-above-spec =

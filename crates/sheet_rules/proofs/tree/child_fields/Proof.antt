@@ -25,7 +25,9 @@ unfolding formOf
 returns-5 c = λ a b. rw (c .match .keys5) refl
 
 returns-6 : tie.Need-returns-6
-returns-6 c = λ a b. no-children a b (c .before .args .kind) (c .match .rest .0 .0 .0 .0 .1) (c .match .rest .0 .0 .0 .1) (c .match .rest .0 .0 .1) (c .match .rest .0 .1) (c .match .rest .1)
+returns-6 c =
+    λ a b. no-children a b (c .before .args .kind) (c .match .rest .0 .0 .0 .0 .1) (c .match .rest .0 .0 .0 .1) (c .match .rest .0 .0 .1)
+    (c .match .rest .0 .1) (c .match .rest .1)
 
 pub child-fields-spec : {M : Type 1} → statement M
 child-fields-spec = tie.close (tie.spec returns returns-2 returns-3 returns-4 returns-5 returns-6)

@@ -16,7 +16,9 @@ returns-2 c = simp (not-false (c .before .before .args .child) (c .before .if1 .
 
 returns-3 : tie.Need-returns-3
 unfolding between every
-returns-3 c = sym (simp (not-false (c .before .before .args .child) (c .before .if1 .left), lt-ltb _ _ (c .if2 .left)) (and-true (ltb (c .before .before .args .x) (c .before .before .args .n))))
+returns-3 c =
+    sym (simp (not-false (c .before .before .args .child) (c .before .if1 .left), lt-ltb _ _ (c .if2 .left))
+    (and-true (ltb (c .before .before .args .x) (c .before .before .args .n))))
 
 pub lies-between-spec : {M : Type 1} → statement M
 lies-between-spec = tie.close (tie.spec returns returns-2 returns-3)

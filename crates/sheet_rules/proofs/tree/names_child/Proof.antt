@@ -19,8 +19,15 @@ add-result c = search needs
 returns : tie.Need-returns
 returns c =
     let a = c .before .before .before .args in
-    let f = c .before .before .child-fields in
-    (rw (f .ensures (a .a) (a .b), times-two (a .c) (f .result .a) (f .result .b) (a .a) (a .b), ← (c .before .names .ensures .0), ← (c .names2 .ensures .0)) refl, search needs)
+    let f = c .before .before .child-fields in (
+      rw (
+        f .ensures (a .a) (a .b),
+        times-two (a .c) (f .result .a) (f .result .b) (a .a) (a .b),
+        ← (c .before .names .ensures .0),
+        ← (c .names2 .ensures .0),
+      ) refl,
+      search needs,
+    )
 
 pub names-child-spec : {M : Type 1} → statement M
 names-child-spec =

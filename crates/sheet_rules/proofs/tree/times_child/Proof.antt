@@ -12,7 +12,8 @@ use Rattle.sheet_rules.proofs.tree.times_child.Statement.{statement}
 use Rattle.sheet_rules.proofs.tree.times_child.Tie as tie
 
 abbrev Inv-loop : tie.InvT-loop
-Inv-loop nodes c n count₀ j₀ count j = (j ≤ n) × ((count ≤ 2 * j) × (count + timesChild c (from (nodeAt nodes) j (n - j)) ≡ timesChild c (nodesOf nodes)))
+Inv-loop nodes c n count₀ j₀ count j =
+    (j ≤ n) × ((count ≤ 2 * j) × (count + timesChild c (from (nodeAt nodes) j (n - j)) ≡ timesChild c (nodesOf nodes)))
 
 abbrev μ-loop : tie.MeasureT-loop
 μ-loop nodes c n count₀ j₀ count j = n - j

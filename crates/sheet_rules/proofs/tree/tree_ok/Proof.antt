@@ -6,57 +6,43 @@ use Rattle.sheet_rules.proofs.tree.tree_ok.Statement.{statement}
 use Rattle.sheet_rules.proofs.tree.tree_ok.Tie as tie
 use Rattle.sheet_rules.proofs.tree.tree_ok.Reads as reads
 use Rattle.sheet_rules.proofs.tree.tree_ok.Lts as lts
-use Rattle.sheet_rules.proofs.tree.children_between.Reads as children-between-reads
-use Rattle.sheet_rules.proofs.tree.times_child.Reads as times-child-reads
 
--- src/tree.rt:21:15
 mul-children-between : tie.Need-mul-children-between
 mul-children-between c = search needs
 
--- src/tree.rt:21:9
 shared-slice-read-children-between : tie.Need-shared-slice-read-children-between
 shared-slice-read-children-between c = search needs
 
--- src/tree.rt:22:15
 mul-children-between-2 : tie.Need-mul-children-between-2
 mul-children-between-2 c = search needs
 
--- src/tree.rt:22:15
 add-children-between : tie.Need-add-children-between
 add-children-between c = search needs
 
--- src/tree.rt:22:9
 shared-slice-read-children-between-2 : tie.Need-shared-slice-read-children-between-2
 shared-slice-read-children-between-2 c = search needs
 
--- src/tree.rt:23:15
 mul-children-between-3 : tie.Need-mul-children-between-3
 mul-children-between-3 c = search needs
 
--- src/tree.rt:23:15
 add-children-between-2 : tie.Need-add-children-between-2
 add-children-between-2 c = search needs
 
--- src/tree.rt:23:9
 shared-slice-read-children-between-3 : tie.Need-shared-slice-read-children-between-3
 shared-slice-read-children-between-3 c = search needs
 
--- src/tree.rt:20:9
 children-between-requires : tie.Need-children-between-requires
 children-between-requires c κs = search needs
 
--- src/tree.rt:27:9
 returns : tie.Need-returns
 returns c =
     let b = c .before .before .before .before .before .before in
     let r = c .before .children-between in
     sym (tree-no (b .args .table .now) (b .args .k) (b .pre) (r .result) (r .ensures) (c .if1 .taken))
 
--- src/tree.rt:29:9
 times-child-requires : tie.Need-times-child-requires
 times-child-requires c κs = search needs
 
--- src/tree.rt:31:9
 returns-2 : tie.Need-returns-2
 returns-2 c =
     let b = c .before .before .before .before .before .before .before .before in
@@ -64,7 +50,6 @@ returns-2 c =
     ap (λ n. eqb n 0) (c .before .times-child .ensures)
     ∙ sym (tree-root (b .args .table .now) (b .args .k) (b .pre) (r .result) (r .ensures) (c .before .before .if1 .left) (c .if2 .taken))
 
--- src/tree.rt:15:1
 returns-3 : tie.Need-returns-3
 returns-3 c =
     let b = c .before .before .before .before .before .before .before .before in
