@@ -1,6 +1,6 @@
 /* The monitor and the checker for programs in C: the functions that the proved code exports.
  *
- *   rt staticlib api_c    proves and writes target/staticlib/libapi_c.a: judge_parts, check_tables
+ *   rt staticlib api_c    proves and writes target/staticlib/libapi_c.a: judge_parts, check_tables, check_counterexample
  *   rt staticlib report   proves and writes target/staticlib/libreport.a: report_trace, report_outline
  *   cc -Iapi program.c target/staticlib/libapi_c.a
  *
@@ -53,8 +53,9 @@ static inline void wiforekun_start(struct wiforekun_state *state) {
 }
 
 /* An answer: 0 allowed or accepted, 1 violated or refused with a policy, 2 refused with a number. Its detail: 0, the policy or the
- * number. */
-#define WIFOREKUN_ANSWER(code) ((code) / 256u)
+ * number. Of check_counterexample also the length of what was written, in steps. */
+#define WIFOREKUN_LENGTH(code) ((code) / 65536u)
+#define WIFOREKUN_ANSWER(code) ((code) / 256u % 256u)
 #define WIFOREKUN_DETAIL(code) ((code) % 256u)
 
 /* One step of the monitor, under a table of edges (its length in bytes). The state's arrays are lent one by one. Where the step is allowed
@@ -72,6 +73,17 @@ static inline uint32_t wiforekun_judge(struct wiforekun_state *state, const uint
 
 /* The check of a table of nodes under a table of edges (lengths in bytes). 41 where no accepted sheet gives one of the tables. */
 uint32_t check_tables(const uint8_t *edges, size_t edges_length, const uint8_t *nodes, size_t nodes_length);
+
+/* The same check, with a counterexample. Where it names a policy and a trace of at most 200 steps leaves that policy open and not respected,
+ * a shortest such trace is written to `trace`: three numbers for each step (kind, a, b), the oldest step first, fresh resources numbered 16,
+ * 17 and on as they are created. WIFOREKUN_LENGTH tells its steps; numbers after it keep their contents. Which of several shortest traces
+ * it is, is left free. The length is 0, and nothing is written, where the outline is accepted, where a number refuses the call, and where
+ * the policy is named but every such trace is longer.
+ * `trace_length` is in numbers, not in bytes. 40 where it is below the room, before 41. */
+#define WIFOREKUN_STEP_NUMBERS 3
+#define WIFOREKUN_COUNTEREXAMPLE_ROOM 600
+uint32_t check_counterexample(const uint8_t *edges, size_t edges_length, const uint8_t *nodes, size_t nodes_length, uint32_t *trace,
+                              size_t trace_length);
 
 /* What the two programs print, from the bytes of the sheets: the text is written to `out`, and its length is the answer. Bytes after it
  * keep their contents. Where `out` is shorter than the room below, nothing is written and the answer is 0. */

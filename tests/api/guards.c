@@ -209,6 +209,41 @@ static void outlines(void) {
     REQUIRE(check_tables(table.bytes, table.size - 1, tree.bytes, tree.size) == 512 + 41);
 }
 
+#ifdef COUNTEREXAMPLE
+/* What the numbers after a counterexample of so many steps must hold: what they held before. */
+static int kept(const struct lent *trace, const uint32_t *before, size_t steps) {
+    size_t from = steps * WIFOREKUN_STEP_NUMBERS * sizeof *before;
+    return !memcmp(trace->bytes + from, (const uint8_t *)before + from, trace->size - from);
+}
+
+/* The counterexample is written into its table alone, as many steps of it as is told. */
+static void counterexamples(enum place place) {
+    static const uint8_t edges[] = {5, 0, 2, 1, 0, 6}, none[] = {0};
+    static const uint8_t nodes[] = {8, 5, 1, 1, 2, 3}, accepted[] = {8, 5, 1, 1, 3, 3}, unopened[] = {3, 1, 2, 1, 2, 3, 8, 5, 3, 0, 0, 0};
+    static const uint32_t steps[] = {1, 5, 0, 0, 2, 3}, opened_last[] = {0, 2, 3, 1, 5, 0};
+    uint32_t before[WIFOREKUN_COUNTEREXAMPLE_ROOM];
+    for (uint32_t i = 0; i < WIFOREKUN_COUNTEREXAMPLE_ROOM; i++) before[i] = 0x01020304u * (i + 1);
+    struct lent table = lend_to_read(edges, sizeof edges), tree = lend_to_read(nodes, sizeof nodes);
+    struct lent other = lend_to_read(accepted, sizeof accepted), late = lend_to_read(unopened, sizeof unopened);
+    struct lent trace = lend(before, sizeof before, sizeof *before, place);
+    uint32_t *numbers = (uint32_t *)trace.bytes;
+    uint32_t code = check_counterexample(table.bytes, table.size, other.bytes, other.size, numbers, WIFOREKUN_COUNTEREXAMPLE_ROOM);
+    REQUIRE(code == 0 && kept(&trace, before, 0));
+    code = check_counterexample(table.bytes, table.size, tree.bytes, tree.size - 1, numbers, WIFOREKUN_COUNTEREXAMPLE_ROOM);
+    REQUIRE(code == 512 + 41 && kept(&trace, before, 0));
+    code = check_counterexample(table.bytes, table.size, tree.bytes, tree.size, numbers, WIFOREKUN_COUNTEREXAMPLE_ROOM - 1);
+    REQUIRE(code == 512 + 40 && kept(&trace, before, 0));
+    code = check_counterexample(none, 1, none, 1, numbers, 0);
+    REQUIRE(code == 512 + 40 && kept(&trace, before, 0));
+    code = check_counterexample(table.bytes, table.size, tree.bytes, tree.size, numbers, WIFOREKUN_COUNTEREXAMPLE_ROOM);
+    REQUIRE(WIFOREKUN_LENGTH(code) == 2 && WIFOREKUN_ANSWER(code) == 1 && WIFOREKUN_DETAIL(code) == 5);
+    REQUIRE(!memcmp(numbers, steps, sizeof steps) && kept(&trace, before, 2));
+    code = check_counterexample(table.bytes, table.size, late.bytes, late.size, numbers, WIFOREKUN_COUNTEREXAMPLE_ROOM);
+    REQUIRE(code == 2 * 65536 + 256 + 5 && !memcmp(numbers, opened_last, sizeof opened_last) && kept(&trace, before, 2));
+    give_back(trace);
+}
+#endif
+
 #ifdef REPORT
 /* The report writes no more than it tells, and nothing where the room is one byte less than the header tells. */
 static void reports(void) {
@@ -239,6 +274,9 @@ int main(void) {
         violation(place);
     }
     outlines();
+#ifdef COUNTEREXAMPLE
+    for (enum place place = END; place < PLACES; place++) counterexamples(place);
+#endif
 #ifdef REPORT
     reports();
 #endif

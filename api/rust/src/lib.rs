@@ -26,6 +26,10 @@ pub const CREATED_LENGTH: usize = 64;
 pub const UNCLOSED_LENGTH: usize = 8;
 pub const NUMBERS_LENGTH: usize = 2;
 
+/// The numbers of a step (kind, a, b), and of the table that a counterexample is written to.
+pub const STEP_NUMBERS: usize = 3;
+pub const COUNTEREXAMPLE_ROOM: usize = 600;
+
 /// The room that the longest output of each program takes.
 pub const TRACE_ROOM: usize = 20_019;
 pub const OUTLINE_ROOM: usize = 27;
@@ -44,6 +48,14 @@ extern "C" {
         b: u32,
     ) -> u32;
     fn check_tables(edges: *const u8, edges_length: usize, nodes: *const u8, nodes_length: usize) -> u32;
+    fn check_counterexample(
+        edges: *const u8,
+        edges_length: usize,
+        nodes: *const u8,
+        nodes_length: usize,
+        trace: *mut u32,
+        trace_length: usize,
+    ) -> u32;
 }
 
 #[cfg(feature = "report")]
@@ -84,6 +96,24 @@ pub enum Outcome {
     Named(u8),
     /// The number of the refusal.
     Refused(u8),
+}
+
+/// What the checker answers to an outline, with a counterexample.
+#[derive(Clone, Debug, PartialEq, Eq)]
+pub enum Explained {
+    Accepted,
+    /// The number of the refusal.
+    Refused(u8),
+    /// The lowest policy that some run leaves open and not respected, and a shortest trace that does: its steps (kind, a, b), the oldest
+    /// first. Which of several shortest traces it is, is left free.
+    Broken {
+        policy: u8,
+        trace: Vec<[u32; STEP_NUMBERS]>,
+    },
+    /// The same, where every such trace has more than 200 steps.
+    BrokenLonger {
+        policy: u8,
+    },
 }
 
 /// A state of the monitor. Its fields are open to callers that store it; a state that the monitor never makes is refused with 42 or judged
@@ -145,6 +175,31 @@ pub fn check(edges: &[u8], nodes: &[u8]) -> Outcome {
 pub fn check_code(edges: &[u8], nodes: &[u8]) -> u32 {
     // sound: two slices to read
     unsafe { check_tables(edges.as_ptr(), edges.len(), nodes.as_ptr(), nodes.len()) }
+}
+
+/// The check of a table of nodes under a table of edges, with a shortest counterexample.
+pub fn explain(edges: &[u8], nodes: &[u8]) -> Explained {
+    let mut trace = [0; COUNTEREXAMPLE_ROOM];
+    let code = explain_code(edges, nodes, &mut trace);
+    let policy = detail(code);
+    match (code / 256 % 256, (code / 65536) as usize) {
+        (0, _) => Explained::Accepted,
+        (1, 0) => Explained::BrokenLonger { policy },
+        (1, length) => {
+            let steps = trace.chunks_exact(STEP_NUMBERS).take(length);
+            Explained::Broken { policy, trace: steps.map(|step| [step[0], step[1], step[2]]).collect() }
+        }
+        _ => Explained::Refused(policy),
+    }
+}
+
+/// The same as one number: 65536 times the length in steps, 256 times the answer (0 accepted, 1 named, 2 refused), and the detail. The
+/// steps are written to `trace`, and what is after them stays; refused with 40 where it is shorter than [`COUNTEREXAMPLE_ROOM`]. The
+/// length is 0 where nothing is written.
+#[inline]
+pub fn explain_code(edges: &[u8], nodes: &[u8], trace: &mut [u32]) -> u32 {
+    // sound: two slices to read and one to write
+    unsafe { check_counterexample(edges.as_ptr(), edges.len(), nodes.as_ptr(), nodes.len(), trace.as_mut_ptr(), trace.len()) }
 }
 
 /// What the first program prints for these sheets, put into `out`: its length, or 0 where `out` is shorter than [`TRACE_ROOM`].

@@ -1,5 +1,6 @@
 // The judge and the check for callers in C and Rust: numbers and arrays in the place of structs. Tests and benchmarks call them.
 use checker::Outcome;
+use checker::counterexample::Explanation;
 use monitor_sets::SETS;
 use monitor_state::Answer;
 use monitor_state::Told;
@@ -13,10 +14,10 @@ ghost use Rattle.usage.specs.Answers.{refused};
 ghost use Rattle.usage.specs.Tables.{edgeTable};
 ghost use Rattle.monitor_state.specs.Judge.{verdictOf};
 ghost use Rattle.checker.specs.Promise.{outcomeVerdict};
-ghost use Rattle.api_c.specs.Codes.{codeOf};
+ghost use Rattle.api_c.specs.Codes.{codeOf, explanationCode};
 ghost use Rattle.api_c.specs.Parts.{partsOf, judgeParts};
 ghost use Rattle.api_c.specs.Code.{isRefusal};
-ghost use Rattle.api_c.specs.Check.{Answers};
+ghost use Rattle.api_c.specs.Check.{Answers, Explains};
 
 // document 01's two numbers for an answer, as 256 * answer + detail
 fn code(a: Answer) -> u32
@@ -125,4 +126,27 @@ pub extern "C" fn check_tables(edges: &[u8], nodes: &[u8]) -> u32
 {
     let o = checker::check(edges, nodes);
     outcome_code(o)
+}
+
+// the same for an explanation, with the number of steps that were written
+fn explanation_code(e: Explanation) -> u32
+    ensures { λ r. ⌜ r ≡ explanationCode e ⌝ }
+{
+    match e {
+        Explanation::Accepted => 0,
+        Explanation::Shown { policy, steps } => 65536 * steps as u32 + (256 + policy as u32),
+        Explanation::Longer { policy } => 256 + policy as u32,
+        Explanation::Refused(number) => 512 + number as u32,
+    }
+}
+
+// The check of an outline, and where it names a policy a shortest trace that leaves that policy open and not respected: three numbers to
+// a step, the oldest first. Answers 65536 times the number of steps written, which is 0 where none are, and document 01's two numbers as
+// `check_tables` does. The table needs room for 200 steps, 600 numbers (else 40); what comes after the trace is left as it was.
+#[no_mangle]
+pub extern "C" fn check_counterexample(edges: &[u8], nodes: &[u8], trace: &mut [u32]) -> u32
+    ensures { λ r. ⌜ Explains (now (edges .entry)) (now (nodes .entry)) (now (trace .entry)) r (now (trace .exit)) ⌝ }
+{
+    let e = checker::counterexample::check_with_counterexample(edges, nodes, trace);
+    explanation_code(e)
 }

@@ -3,3 +3,4 @@ pub mod SkipLaws
 pub mod PolicyLaws
 pub mod AcceptedLaws
 pub mod PromiseLaws
+pub mod ExplainedLaws

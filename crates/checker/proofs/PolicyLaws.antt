@@ -16,7 +16,7 @@ use Rattle.usage.specs.Tests.{Decides}
 use Rattle.usage.proofs.Logic.{false-true}
 use Rattle.automaton.specs.Move.{rowsOf}
 use Rattle.usage.proofs.TableLaws.{nodes-length}
-use Rattle.checker_account.specs.Tables.{rowsIn}
+use Rattle.checker_account.specs.Tables.{places, rowsIn}
 use Rattle.checker_account.specs.Rounds.{formsIn, SearchedAll}
 use Rattle.checker_account.specs.RowTable.{fillRows}
 use Rattle.checker.specs.Code.{opens, hasEdge, policyVerdict}
@@ -44,16 +44,16 @@ module _ (e t : List ℕ) (edges : EdgesOk (edgesOf e)) (ok : OutlineOk (nodesOf
   pub bare : (p : ℕ) → hasEdge e p ≡ false → Decides false (Leaves false (edgesOf e) (nodesOf t) p)
   bare p h = refuted p (bare-leaves e (nodesOf t) p h)
 
-  pub looked : (p : ℕ) → p < policies → (r : List ℕ) → r ≡ fillRows (rowsOf (edgesOf e)) p (length t / 3) (formsIn t) (replicate 3072 0)
+  pub looked : (p : ℕ) → p < policies → (r : List ℕ) → r ≡ fillRows (rowsOf (edgesOf e)) p (length t / 3) (formsIn t) (replicate places 0)
       → (answer : Bool) → SearchedAll (rowsIn r) p (length t / 3) (formsIn t) answer
       → Decides answer (Leaves false (edgesOf e) (nodesOf t) p)
   looked p small r er answer h =
       let es = edgesOf e in
       let ns = nodesOf t in
-      let made = rows-from (rowsOf es) p (formsIn t) (replicate 3072 0) refl ns (length t / 3) few-nodes (forms-of t) in
+      let made = rows-from (rowsOf es) p (formsIn t) (replicate places 0) refl ns (length t / 3) few-nodes (forms-of t) in
       let rows = subst (λ (u : List ℕ). SearchedAll (rowsIn u) p (length t / 3) (formsIn t) answer) er h in
-      broken-exact es ns p (rowsIn (fillRows (rowsOf es) p (length t / 3) (formsIn t) (replicate 3072 0))) edges
-      (λ x l. rows-ok es ns p x (rowsIn (fillRows (rowsOf es) p (length t / 3) (formsIn t) (replicate 3072 0))) _ l edges
+      broken-exact es ns p (rowsIn (fillRows (rowsOf es) p (length t / 3) (formsIn t) (replicate places 0))) edges
+      (λ x l. rows-ok es ns p x (rowsIn (fillRows (rowsOf es) p (length t / 3) (formsIn t) (replicate places 0))) _ l edges
       (event-image es edges p small) made)
       (names-ok ns ok) (targets-ok ns ok) (length t / 3) (formsIn t) few-nodes (forms-of t) (Scope ns) (scoped ns ok) answer rows
 

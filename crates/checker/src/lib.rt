@@ -7,6 +7,7 @@ ghost use Rattle.checker.specs.Code.{opens, hasEdge};
 use usage::EDGE_FIELDS;
 use usage::NODE_FIELDS;
 
+pub mod counterexample;
 mod search;
 
 // The kind of a node that is a sandbox.

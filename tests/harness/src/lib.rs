@@ -1,6 +1,7 @@
 //! The proved code, called with the reference program's types.
 
-use reference::judge::Step;
+use reference::judge::{Answer, Step};
+use reference::outline::Node;
 use reference::policy::Edge;
 use reference::state::State;
 use wiforekun::{CREATED_LENGTH, SETS_LENGTH, TRACE_ROOM, UNCLOSED_LENGTH};
@@ -77,4 +78,30 @@ pub fn judge(edges: &[Edge], state: &State, step: Step) -> Option<((u32, usize),
         }
     }
     Some(((code / 256, (code % 256) as usize), after))
+}
+
+/// Three bytes to a node; none where a value is no byte.
+pub fn flat_nodes(nodes: &[Node]) -> Option<Vec<u8>> {
+    let bytes = nodes.iter().flat_map(|node| [node.kind, node.a, node.b]).map(|value| u8::try_from(value).ok());
+    bytes.collect()
+}
+
+/// The answer, the detail and the length of the check with a counterexample, lent a table of so many numbers, and what the table holds
+/// then. Each number of it was `mark` plus its place.
+#[cfg(counterexample)]
+pub fn explained(edges: &[u8], nodes: &[u8], numbers: usize, mark: u32) -> ((u32, usize, usize), Vec<u32>) {
+    let mut trace: Vec<u32> = (0..numbers as u32).map(|place| mark + place).collect();
+    let code = wiforekun::explain_code(edges, nodes, &mut trace);
+    ((code / 256 % 256, (code % 256) as usize, (code / 65536) as usize), trace)
+}
+
+/// What the proved judge answers to each of these steps, from the start on.
+pub fn judged(edges: &[u8], steps: &[Step]) -> Vec<Answer> {
+    let mut state = wiforekun::State::START;
+    let answer = |step: &Step| match state.judge(edges, step.row().map(|value| value as u32)) {
+        wiforekun::Answer::Allowed => Answer::Allowed,
+        wiforekun::Answer::Violated(policy) => Answer::Violated(usize::from(policy)),
+        wiforekun::Answer::Refused(number) => Answer::Refused(u32::from(number)),
+    };
+    steps.iter().map(answer).collect()
 }

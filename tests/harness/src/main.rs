@@ -1,5 +1,27 @@
-//! compare SEED COUNT: fresh cases from the seed, a third each of traces, outlines and direct calls of the judge.
+//! compare SEED COUNT: fresh cases from the seed, a third each of traces, outlines and direct calls of the judge. Of each outline the
+//! counterexample is compared too.
 
+#[cfg(counterexample)]
+mod counterexamples;
+
+#[cfg(not(counterexample))]
+mod counterexamples {
+    //! The archive lacks the function: nothing is compared.
+    #[derive(Default)]
+    pub struct Tally;
+
+    impl Tally {
+        pub fn compare(&mut self, _: &reference::generate::Case) -> Result<(), String> {
+            Ok(())
+        }
+
+        pub fn told(&self) -> String {
+            "counterexamples left out: the archive has no check_counterexample".into()
+        }
+    }
+}
+
+use counterexamples::Tally;
 use reference::generate::{self, outlines, states, traces, Case};
 use reference::program;
 use reference::rng::Rng;
@@ -29,7 +51,8 @@ fn main() -> ExitCode {
 
 /// How many cases agreed, or the first difference.
 fn compare(seed: u64, count: usize) -> Result<String, String> {
-    let fixed = fixed_cases()?;
+    let mut tally = Tally::default();
+    let fixed = fixed_cases(&mut tally)?;
     let mut made = [0usize; 3];
     let mut skipped = 0;
     let mut batch = 0;
@@ -37,25 +60,26 @@ fn compare(seed: u64, count: usize) -> Result<String, String> {
         let from = seed.wrapping_mul(1_000_003).wrapping_add(batch);
         let most = BATCH.min((count - made.iter().sum::<usize>()).div_ceil(3));
         made[0] += each_trace(from, most)?;
-        made[1] += each_outline(from, most)?;
+        made[1] += each_outline(from, most, &mut tally)?;
         let (calls, wide) = each_call(from, most)?;
         made[2] += calls;
         skipped += wide;
         batch += 1;
     }
     let [traces, outlines, calls] = made;
-    Ok(format!("seed {seed}: {fixed} fixed cases, {traces} traces, {outlines} outlines, {calls} calls of the judge: no difference ({skipped} calls with numbers wider than the functions take were left out)"))
+    Ok(format!("seed {seed}: {fixed} fixed cases, {traces} traces, {outlines} outlines, {calls} calls of the judge: no difference ({skipped} calls with numbers wider than the functions take were left out); {}", tally.told()))
 }
 
 /// The cases that depend on no seed.
-fn fixed_cases() -> Result<usize, String> {
+fn fixed_cases(tally: &mut Tally) -> Result<usize, String> {
     let traces = generate::fixed::trace_cases();
-    let outlines = generate::fixed::outline_cases();
+    let outlines: Vec<Case> = [generate::fixed::outline_cases(), generate::counterexamples::fixed_cases()].concat();
     for (number, case) in traces.iter().enumerate() {
         same("fixed trace", 0, number, case, program::monitor(&case.policies, &case.other), harness::monitor(&case.policies, &case.other))?;
     }
     for (number, case) in outlines.iter().enumerate() {
         same("fixed outline", 0, number, case, program::check(&case.policies, &case.other), harness::check(&case.policies, &case.other))?;
+        tally.compare(case)?;
     }
     Ok(traces.len() + outlines.len())
 }
@@ -69,12 +93,13 @@ fn each_trace(seed: u64, most: usize) -> Result<usize, String> {
     Ok(most)
 }
 
-fn each_outline(seed: u64, most: usize) -> Result<usize, String> {
+fn each_outline(seed: u64, most: usize, tally: &mut Tally) -> Result<usize, String> {
     let mut rng = Rng::new(seed);
     let mut number = 0;
     while number < most {
         for case in outlines::random_cases(&mut rng) {
             same("outline", seed, number, &case, program::check(&case.policies, &case.other), harness::check(&case.policies, &case.other))?;
+            tally.compare(&case)?;
             number += 1;
         }
     }

@@ -1,9 +1,11 @@
 //! A separately written judge and outline check for usage policies.
 
 pub mod borders;
+pub mod counterexample;
 pub mod damage;
 pub mod generate;
 pub mod judge;
+pub mod least;
 pub mod outline;
 pub mod policy;
 pub mod program;

@@ -1,7 +1,9 @@
 //! The command line of the reference.
 
+use reference::counterexample::shown_fault;
 use reference::generate::{self, Case, Kind};
 use reference::program;
+use reference::sheet::read_trace;
 use reference::state::{write_state, Call};
 use std::fs;
 use std::io::{self, Write};
@@ -11,9 +13,11 @@ use std::process::ExitCode;
 const USAGE: &str = "usage:
   reference monitor DIR
   reference check DIR
+  reference why DIR
+  reference accepts DIR SHEET
   reference judge FILE
-  reference generate trace|outline|state SEED COUNT DIR
-  reference expect trace|outline|state DIR COUNT
+  reference generate trace|outline|counterexample|state SEED COUNT DIR
+  reference expect trace|outline|counterexample|state DIR COUNT
   reference borders
 ";
 
@@ -44,6 +48,10 @@ fn run(words: &[&str]) -> Option<io::Result<String>> {
     match words {
         ["monitor", dir] => Some(Ok(run_sheets(Kind::Trace, dir, "policies.txt", "trace.txt"))),
         ["check", dir] => Some(Ok(run_sheets(Kind::Outline, dir, "policies.txt", "outline.txt"))),
+        ["why", dir] => {
+            Some(Ok(program::why(&read(dir, "policies.txt"), &read(dir, "outline.txt"))))
+        }
+        ["accepts", dir, sheet] => Some(accepts(dir, sheet)),
         ["judge", file] => Some(run_call(Path::new(file))),
         ["borders"] => Some(Ok(reference::borders::lines())),
         ["generate", "state", seed, count, dir] => {
@@ -63,6 +71,7 @@ fn kind_of(word: &str) -> Option<Kind> {
     match word {
         "trace" => Some(Kind::Trace),
         "outline" => Some(Kind::Outline),
+        "counterexample" => Some(Kind::Counterexample),
         _ => None,
     }
 }
@@ -77,7 +86,26 @@ fn run_sheets(kind: Kind, dir: &str, policies: &str, other: &str) -> String {
     match kind {
         Kind::Trace => program::monitor(&policies, &other),
         Kind::Outline => program::check(&policies, &other),
+        Kind::Counterexample => program::shown(&policies, &other),
     }
+}
+
+/// Its length, where a sheet is what the third program may print for a folder; else why it is not.
+fn accepts(dir: &str, sheet: &str) -> io::Result<String> {
+    let (policies, outline) = (read(dir, "policies.txt"), read(dir, "outline.txt"));
+    let printed = fs::read(sheet)?;
+    let told = match program::tables(&policies, &outline) {
+        Err(_) if printed == program::why(&policies, &outline).as_bytes() => Ok(0),
+        Err(_) => Err("a sheet is refused, and it is not told so".to_string()),
+        Ok((edges, nodes)) => match read_trace(&printed) {
+            Err(refusal) => {
+                Err(format!("line {} is refused with {}", refusal.line, refusal.number))
+            }
+            Ok(steps) => shown_fault(&edges, &nodes, &steps).map_or(Ok(steps.len()), Err),
+        },
+    };
+    told.map(|length| format!("{length}\n"))
+        .map_err(|why| io::Error::other(format!("{sheet}: {why}")))
 }
 
 fn generate_cases(kind: Kind, seed: u64, count: usize, dir: &Path) -> io::Result<String> {

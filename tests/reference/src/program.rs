@@ -1,8 +1,12 @@
-//! What the two programs print.
+//! What the programs print.
 
-use crate::judge::Judge;
+use crate::counterexample::{counterexample, Counterexample};
+use crate::damage::rows;
+use crate::judge::{Judge, Step};
+use crate::outline::Node;
+use crate::policy::Edge;
 use crate::pushdown;
-use crate::sheet::{read_outline, read_policies, read_trace, Refusal};
+use crate::sheet::{read_outline, read_policies, read_trace, Refusal, TRACE_NAMES};
 
 const NAMES: &str = "line answer detail\n";
 
@@ -29,20 +33,44 @@ pub fn monitor(policies: &[u8], trace: &[u8]) -> String {
     text
 }
 
+/// The tables of two sheets, or the answer that tells which is refused, policies first, and why.
+pub fn tables(policies: &[u8], outline: &[u8]) -> Result<(Vec<Edge>, Vec<Node>), (u32, Refusal)> {
+    let edges = read_policies(policies).map_err(|refusal| (POLICIES_REFUSED, refusal))?;
+    let nodes = read_outline(outline).map_err(|refusal| (OUTLINE_REFUSED, refusal))?;
+    Ok((edges, nodes))
+}
+
 /// The second program: an outline checked.
 pub fn check(policies: &[u8], outline: &[u8]) -> String {
-    let edges = match read_policies(policies) {
-        Ok(edges) => edges,
-        Err(refusal) => return refused(POLICIES_REFUSED, refusal),
-    };
-    let nodes = match read_outline(outline) {
-        Ok(nodes) => nodes,
-        Err(refusal) => return refused(OUTLINE_REFUSED, refusal),
-    };
-    match pushdown::check(&edges, &nodes) {
-        None => format!("{NAMES}0 0 0\n"),
-        Some(policy) => format!("{NAMES}0 1 {policy}\n"),
+    match tables(policies, outline) {
+        Err((sheet, refusal)) => refused(sheet, refusal),
+        Ok((edges, nodes)) => match pushdown::check(&edges, &nodes) {
+            None => format!("{NAMES}0 0 0\n"),
+            Some(policy) => format!("{NAMES}0 1 {policy}\n"),
+        },
     }
+}
+
+/// The third program: a shortest counterexample as a trace sheet, of which any may be printed.
+pub fn why(policies: &[u8], outline: &[u8]) -> String {
+    let steps = match tables(policies, outline) {
+        Err((sheet, refusal)) => return refused(sheet, refusal),
+        Ok((edges, nodes)) => match counterexample(&edges, &nodes) {
+            Counterexample::Shown { steps, .. } => steps,
+            _ => vec![],
+        },
+    };
+    String::from_utf8(rows(TRACE_NAMES, steps.iter().map(Step::row))).expect("a sheet is ASCII")
+}
+
+/// What is the same for every such program: the verdict's two numbers and the length shown, in one line; for a refused sheet the answer
+/// and the detail of the second program, and 0.
+pub fn shown(policies: &[u8], outline: &[u8]) -> String {
+    let (answer, detail, length) = match tables(policies, outline) {
+        Err((sheet, refusal)) => (sheet, refusal.number as usize, 0),
+        Ok((edges, nodes)) => counterexample(&edges, &nodes).numbers(),
+    };
+    format!("{answer} {detail} {length}\n")
 }
 
 fn refused(sheet: u32, refusal: Refusal) -> String {

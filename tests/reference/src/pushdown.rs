@@ -36,7 +36,7 @@ impl Watched {
 
     /// The resources to watch for an outline. A static in none of its events moves as a
     /// dynamic resource that is never created.
-    fn of(nodes: &[Node]) -> Vec<Watched> {
+    pub(crate) fn of(nodes: &[Node]) -> Vec<Watched> {
         let fired = |who: u64| nodes.iter().any(|n| n.kind == STATIC_EVENT && n.b == who);
         let statics = (0..STATICS).filter(|who| fired(*who)).map(Watched::Static);
         statics.chain([Watched::Dynamic]).collect()
@@ -57,10 +57,10 @@ struct Control {
     created: bool,
 }
 
-const CONTROLS: usize = 4 * STATES;
+pub(crate) const CONTROLS: usize = 4 * STATES;
 /// The one accepting state of the automaton.
-const ACCEPT: usize = CONTROLS;
-const PLACES: usize = CONTROLS + 1;
+pub(crate) const ACCEPT: usize = CONTROLS;
+pub(crate) const PLACES: usize = CONTROLS + 1;
 
 impl Control {
     const FIRST: Control = Control { state: 0, open: false, created: false };
@@ -121,24 +121,35 @@ impl Symbol {
     }
 }
 
-/// A rule: control and top symbol, and what takes their place.
-struct Rule {
-    control: usize,
-    symbol: usize,
-    next: usize,
-    put: Vec<usize>,
-    way: Way,
+/// A rule: control and top symbol, and what takes their place. `steps` is how many steps the move
+/// adds, 0 or 1.
+pub(crate) struct Rule {
+    pub(crate) control: usize,
+    pub(crate) symbol: usize,
+    pub(crate) next: usize,
+    pub(crate) put: Vec<usize>,
+    pub(crate) way: Way,
+    pub(crate) steps: u64,
 }
 
-struct System<'a> {
-    nodes: &'a [Node],
-    policy: &'a Policy,
-    number: usize,
-    watched: Watched,
+pub(crate) struct System<'a> {
+    pub(crate) nodes: &'a [Node],
+    pub(crate) policy: &'a Policy,
+    pub(crate) number: usize,
+    pub(crate) watched: Watched,
 }
 
 impl System<'_> {
-    fn symbols(&self) -> usize {
+    /// The configuration of one symbol in which every run begins.
+    pub(crate) fn first() -> (usize, usize) {
+        (Control::FIRST.index(), Symbol::Node { number: 0, mine: None }.index())
+    }
+
+    pub(crate) fn bad_controls(&self) -> Vec<usize> {
+        (0..self.controls()).filter(|control| Control::at(*control).is_bad()).collect()
+    }
+
+    pub(crate) fn symbols(&self) -> usize {
         CLOSINGS + MEANINGS * self.nodes.len()
     }
 
@@ -149,7 +160,7 @@ impl System<'_> {
         }
     }
 
-    fn rules(&self) -> Vec<Rule> {
+    pub(crate) fn rules(&self) -> Vec<Rule> {
         let mut rules = Vec::new();
         for control in 0..self.controls() {
             for symbol in 0..self.symbols() {
@@ -160,8 +171,10 @@ impl System<'_> {
     }
 
     fn add_rules(&self, control: Control, symbol: Symbol, rules: &mut Vec<Rule>) {
+        let steps = self.steps(symbol);
         let mut add = |next: Control, put: &[Symbol], way: Way| {
             rules.push(Rule {
+                steps,
                 control: control.index(),
                 symbol: symbol.index(),
                 next: next.index(),
@@ -212,6 +225,17 @@ impl System<'_> {
         }
     }
 
+    /// How many steps the move of a part adds.
+    fn steps(&self, symbol: Symbol) -> u64 {
+        match symbol {
+            Symbol::InnerClosing | Symbol::LastClosing => 1,
+            Symbol::Node { number, .. } => match self.nodes[number].kind {
+                STATIC_EVENT | NAMED_EVENT | FRESH | SANDBOX => 1,
+                _ => 0,
+            },
+        }
+    }
+
     /// The controls after an event.
     fn fired(&self, control: Control, action: u64, resource: u64) -> Vec<Control> {
         let event = Event { action, resource };
@@ -239,11 +263,11 @@ impl System<'_> {
 }
 
 /// A transition of the automaton over the stack.
-type Transition = (usize, usize, usize);
+pub(crate) type Transition = (usize, usize, usize);
 
 /// Why a transition is there.
 #[derive(Clone, Copy)]
-enum Reason {
+pub(crate) enum Reason {
     Absent,
     /// It belongs to the bad configurations.
     Bad,
@@ -385,7 +409,7 @@ impl Saturation {
 }
 
 /// The transitions that stand for one gained by a rule, the first one last.
-fn replacement(rule: &Rule, middle: usize, to: usize) -> Vec<Transition> {
+pub(crate) fn replacement(rule: &Rule, middle: usize, to: usize) -> Vec<Transition> {
     match rule.put[..] {
         [] => vec![],
         [only] => vec![(rule.next, only, to)],
@@ -394,7 +418,7 @@ fn replacement(rule: &Rule, middle: usize, to: usize) -> Vec<Transition> {
     }
 }
 
-fn by_rule(rule: u32, middle: usize) -> Reason {
+pub(crate) fn by_rule(rule: u32, middle: usize) -> Reason {
     Reason::Rule { rule, middle: middle as u8 }
 }
 

@@ -9,7 +9,7 @@ use crate::policy::{Policy, POLICIES, STATICS};
 /// What each name means.
 pub type Meaning = [Option<u64>; NAMES];
 
-#[derive(Clone, Debug, PartialEq, Eq)]
+#[derive(Clone, Debug, PartialEq, Eq, Hash)]
 pub enum Part {
     Node(usize, Meaning),
     Closing(u64),
@@ -36,6 +36,10 @@ impl Run {
 
     pub fn is_over(&self) -> bool {
         self.parts.is_empty()
+    }
+
+    pub fn parts(&self) -> &[Part] {
+        &self.parts
     }
 
     /// Is the first part a choice?

@@ -1,9 +1,10 @@
 //! Explicit search over runs, breadth first, up to a bound.
 
+use crate::judge::events;
 use crate::outline::Node;
-use crate::policy::{Edge, Policy, POLICIES};
-use crate::run::{Run, Way};
-use std::collections::VecDeque;
+use crate::policy::{instances, Edge, Policy, States, POLICIES};
+use crate::run::{Part, Run, Way};
+use std::collections::{HashSet, VecDeque};
 
 pub struct Found {
     /// The policies that some trace seen leaves open and not respected.
@@ -44,4 +45,81 @@ fn successors(nodes: &[Node], run: &Run) -> Vec<Run> {
         next
     };
     ways.iter().map(advanced).collect()
+}
+
+/// What a search for a shortest trace has seen.
+#[derive(Clone, Copy, Debug, PartialEq, Eq)]
+pub struct Seen {
+    /// The steps of the shortest trace seen that leaves the policy open and not respected.
+    pub length: Option<u64>,
+    /// All traces of fewer steps than this were seen.
+    pub whole_below: u64,
+    /// Were all traces seen?
+    pub all: bool,
+}
+
+/// Two runs of as many steps that agree in this go on alike: the parts still to run, whether the
+/// policy is open, and the states of its instances.
+type Standing = (Vec<Part>, u64, Vec<States>);
+
+fn standing(policy: &Policy, number: usize, run: &Run) -> Standing {
+    let events = events(&run.steps);
+    let states = instances(&events).into_iter().map(|own| policy.states_after(own, &events));
+    let unclosed = run.steps.iter().fold(0, |count, step| match (step.kind, step.a as usize) {
+        (crate::judge::OPEN, a) if a == number => count + 1,
+        (crate::judge::CLOSE, a) if a == number => count - 1,
+        _ => count,
+    });
+    (run.parts().to_vec(), unclosed, states.collect())
+}
+
+/// The shortest trace that leaves the policy open and not respected, by going through all runs of no
+/// step, of one step, of two and on. Looks at up to `bound` runs, of at most `most_parts` parts each.
+pub fn shortest(
+    edges: &[Edge],
+    nodes: &[Node],
+    number: usize,
+    bound: usize,
+    most_parts: usize,
+) -> Seen {
+    let policies = Policy::all(edges);
+    let mut looked = 0;
+    let mut whole = true;
+    let mut seen = Seen { length: None, whole_below: 1, all: false };
+    let mut level = vec![Run::start()];
+    for steps in 0.. {
+        let mut next = Vec::new();
+        let mut met: HashSet<Standing> = HashSet::new();
+        while let Some(run) = level.pop() {
+            looked += 1;
+            if looked > bound || run.parts().len() > most_parts {
+                whole = false;
+                continue;
+            }
+            for after in successors(nodes, &run) {
+                if after.steps.len() > run.steps.len() {
+                    next.push(after);
+                } else if met.insert(standing(&policies[number], number, &after)) {
+                    level.push(after);
+                }
+            }
+        }
+        if whole {
+            // all traces of steps + 1 steps are those of `next`
+            seen.whole_below = steps + 2;
+        }
+        if next.iter().any(|run| run.broken(&policies).contains(&number)) {
+            return Seen { length: Some(steps + 1), ..seen };
+        }
+        let mut met: HashSet<Standing> = HashSet::new();
+        next.retain(|run| met.insert(standing(&policies[number], number, run)));
+        if next.is_empty() {
+            return Seen { all: whole, ..seen };
+        }
+        if looked > bound {
+            return seen;
+        }
+        level = next;
+    }
+    unreachable!("the levels have no end")
 }

@@ -38,7 +38,7 @@ fn trace_case(edges: &str, steps: &str) -> Case {
     Case { policies: policies(edges), other: trace(steps) }
 }
 
-fn outline_case(edges: &str, nodes: &str) -> Case {
+pub(super) fn outline_case(edges: &str, nodes: &str) -> Case {
     Case { policies: policies(edges), other: outline(nodes) }
 }
 
@@ -431,7 +431,7 @@ fn misshapen() -> Vec<Text> {
 }
 
 /// A sandbox of policy 0 around action 1 on each static, then action 4 on static 3.
-fn all_statics() -> Text {
+pub(super) fn all_statics() -> Text {
     let node = |n: u64| match n {
         0 => [0, 8, 0, 1],
         33 => [33, 1, 4, 3],
@@ -585,7 +585,7 @@ fn checked_examples() -> Vec<Case> {
 }
 
 /// Policies and the other sheet both wrong: the policies come first.
-fn both_refused(other: &Text) -> Vec<Case> {
+pub(super) fn both_refused(other: &Text) -> Vec<Case> {
     let wrong = |text: &Text| text[..text.len() - 1].to_vec();
     let large = |text: &Text| crate::damage::padded(text, 32_769);
     let p = policies(P);

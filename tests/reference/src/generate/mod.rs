@@ -1,5 +1,6 @@
 //! Cases from a seed.
 
+pub mod counterexamples;
 pub mod fixed;
 pub mod outlines;
 pub mod policies;
@@ -22,6 +23,8 @@ pub struct Case {
 pub enum Kind {
     Trace,
     Outline,
+    /// An outline again, of which the verdict and the length of a shortest counterexample are told.
+    Counterexample,
 }
 
 impl Kind {
@@ -29,7 +32,7 @@ impl Kind {
     pub fn letter(self) -> char {
         match self {
             Kind::Trace => 't',
-            Kind::Outline => 'o',
+            Kind::Outline | Kind::Counterexample => 'o',
         }
     }
 }
@@ -40,11 +43,13 @@ pub fn cases(kind: Kind, seed: u64, count: usize) -> Vec<Case> {
     let mut cases = match kind {
         Kind::Trace => fixed::trace_cases(),
         Kind::Outline => fixed::outline_cases(),
+        Kind::Counterexample => counterexamples::fixed_cases(),
     };
     while cases.len() < count {
         match kind {
             Kind::Trace => cases.push(traces::random_case(&mut rng)),
             Kind::Outline => cases.extend(outlines::random_cases(&mut rng)),
+            Kind::Counterexample => cases.extend(counterexamples::random_cases(&mut rng)),
         }
     }
     cases.truncate(count);

@@ -264,7 +264,7 @@ fn random_event(rng: &mut Rng, palette: &Palette, name: Option<u64>) -> Tree {
 }
 
 /// A refused draft and an accepted one, one change apart.
-fn pair(rng: &mut Rng, draft: fn(&mut Rng) -> Draft) -> Vec<Case> {
+pub(super) fn pair(rng: &mut Rng, draft: fn(&mut Rng) -> Draft) -> Vec<Case> {
     loop {
         let first = draft(rng);
         let accepted = check(&first.edges, &first.nodes).is_none();
@@ -311,7 +311,7 @@ fn respaced_case(rng: &mut Rng) -> Case {
 }
 
 /// Values in their ranges, but some children, backs or names that may be wrong.
-fn reshaped(rng: &mut Rng) -> Case {
+pub(super) fn reshaped(rng: &mut Rng) -> Case {
     let size = rng.between(6, 14) as usize;
     let mut draft = sized_draft(rng, size, 4);
     let shape = rng.percent(40);

@@ -9,7 +9,7 @@ use Rattle.usage.specs.Valid.{OutlineOk}
 use Rattle.usage.specs.Tables.{nodesOf}
 use Rattle.checker_account.specs.Witness.{watched}
 use Rattle.checker_account.specs.Rounds.{found, none-found}
-use Rattle.checker_tables.specs.Code.{hasRoom, SearchedIn, SearchedIf}
+use Rattle.checker_tables.specs.Search.{hasRoom, SearchedIn, SearchedIf}
 use Rattle.checker_tables.proofs.FitLaws.{outline-fits}
 use native.Mathlib.Omega.{arith}
 use borrow.Author.Needs.{needs}

@@ -1,0 +1,79 @@
+//! Counterexamples, on outlines whose shortest ones are worked by hand.
+#![cfg(counterexample)]
+
+use wiforekun::{check_code, explain, explain_code, Explained, COUNTEREXAMPLE_ROOM};
+
+/// Read (2) only what was taken (1).
+const EDGES: [u8; 12] = [5, 0, 1, 1, 0, 1, 5, 0, 2, 1, 0, 6];
+/// A sandbox of policy 5 around a read of static 3; around taking and reading it.
+const READ: [u8; 6] = [8, 5, 1, 1, 2, 3];
+const TAKEN: [u8; 12] = [8, 5, 1, 3, 2, 3, 1, 1, 3, 1, 2, 3];
+/// A sandbox around: fresh name 0, take it, fresh name 1, read that.
+const OTHER: [u8; 18] = [8, 5, 1, 7, 0, 2, 3, 3, 4, 2, 1, 0, 7, 1, 5, 2, 2, 1];
+
+#[test]
+fn answers() {
+    assert_eq!(explain(&EDGES, &READ), Explained::Broken { policy: 5, trace: vec![[1, 5, 0], [0, 2, 3]] });
+    assert_eq!(explain(&EDGES, &TAKEN), Explained::Accepted);
+    assert_eq!(explain(&EDGES, &[]), Explained::Refused(41));
+    assert_eq!(explain(&EDGES[1..], &READ), Explained::Refused(41));
+}
+
+#[test]
+fn fresh_resources_are_numbered_from_16_on() {
+    let trace = vec![[1, 5, 0], [0, 0, 16], [0, 1, 16], [0, 0, 17], [0, 2, 17]];
+    assert_eq!(explain(&EDGES, &OTHER), Explained::Broken { policy: 5, trace });
+}
+
+#[test]
+fn what_is_after_the_steps_stays() {
+    for room in [COUNTEREXAMPLE_ROOM, COUNTEREXAMPLE_ROOM + 5] {
+        let mut trace: Vec<u32> = (1_000..1_000 + room as u32).collect();
+        let mut due = trace.clone();
+        due[..6].copy_from_slice(&[1, 5, 0, 0, 2, 3]);
+        assert_eq!(explain_code(&EDGES, &READ, &mut trace), 2 * 65536 + 256 + 5);
+        assert_eq!(trace, due);
+    }
+}
+
+#[test]
+fn nothing_is_written() {
+    let mut trace: Vec<u32> = (1_000..1_600).collect();
+    let before = trace.clone();
+    assert_eq!(explain_code(&EDGES, &TAKEN, &mut trace), 0);
+    assert_eq!(trace, before);
+    assert_eq!(explain_code(&EDGES, &[9, 0, 0], &mut trace), 512 + 41);
+    assert_eq!(trace, before);
+    // 40 comes before 41, and before the check
+    for (edges, nodes) in [(&EDGES[..], &READ[..]), (&EDGES, &TAKEN), (&EDGES[1..], &READ), (&EDGES, &[])] {
+        assert_eq!(explain_code(edges, nodes, &mut trace[..599]), 512 + 40);
+        assert_eq!(explain_code(edges, nodes, &mut []), 512 + 40);
+        assert_eq!(trace, before);
+    }
+}
+
+/// A sandbox around a loop without an end, in which `rest` sandboxes, one inside the other, come before the event that offends at the
+/// sixth time: 1 + 6 * (2 * rest + 1) steps.
+fn long(rest: u8) -> (Vec<u8>, Vec<u8>) {
+    let edges = (0..6).flat_map(|state| [2, state, 1, 0, 3, state + 1]).collect();
+    let end = 3 + rest;
+    let mut nodes = vec![8, 2, 1, 5, 2, 0, 3, 3, end + 1];
+    nodes.extend((3..end).flat_map(|node| [8, 3 + node % 5, node + 1]));
+    nodes.extend([0, 0, 0, 3, end + 2, end + 3, 1, 1, 3, 6, 1, 0]);
+    (edges, nodes)
+}
+
+#[test]
+fn two_hundred_steps_and_more() {
+    let (edges, nodes) = long(16);
+    let Explained::Broken { policy: 2, trace } = explain(&edges, &nodes) else { panic!("199 steps are shown") };
+    assert_eq!(trace.len(), 199);
+    assert_eq!((trace[0], trace[1], trace[198]), ([1, 2, 0], [1, 6, 0], [0, 1, 3]));
+    let (edges, nodes) = long(17);
+    assert_eq!(explain(&edges, &nodes), Explained::BrokenLonger { policy: 2 });
+    assert_eq!(check_code(&edges, &nodes), 256 + 2);
+    let mut trace: Vec<u32> = (1_000..1_600).collect();
+    let before = trace.clone();
+    assert_eq!(explain_code(&edges, &nodes, &mut trace), 256 + 2);
+    assert_eq!(trace, before);
+}

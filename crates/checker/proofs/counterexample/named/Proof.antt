@@ -1,0 +1,60 @@
+use mathlib.Core.Path.{subst}
+use mathlib.Core.Bool.{false}
+use Rattle.checker_trace.specs.declared.Length.{Length}
+use Rattle.checker_trace.specs.Answer.{Told}
+use Rattle.checker.specs.Explained.{NamedBy}
+use native.Mathlib.Omega.{arith}
+use mathlib.Core.Path.{_≡_, refl, sym, ap, _∙_}
+use Prim.Native.Nat.{ℕ, suc, _+_, _-_, _≤_, _<_}
+use lib.ListN.{length, getD, take, drop, set}
+use borrow.Author.Needs.{needs}
+use Rattle.checker.proofs.counterexample.named.Statement.{statement}
+use Rattle.checker.proofs.counterexample.named.Tie as tie
+use Rattle.checker.proofs.counterexample.named.Reads as reads
+use Rattle.checker.proofs.counterexample.named.Lts as lts
+use Rattle.checker_trace.proofs.counterexample.Reads as counterexample-reads
+
+counterexample-requires : tie.Need-counterexample-requires
+counterexample-requires c κs = search needs
+
+enum-known-l : tie.Need-enum-known-l
+enum-known-l c = search needs
+
+enum-told : tie.Need-enum-told
+enum-told c = search needs
+
+enum-known-l-2 : tie.Need-enum-known-l-2
+enum-known-l-2 c = search needs
+
+same-length : tie.Need-same-length
+same-length c = search needs
+
+returns : tie.Need-returns
+returns c = NamedBy.told-shown (let a = c .before .before .before .before .before .before .before .before .before .before .args in subst (λ (y : Length). Told (a .edges .now) (a .nodes .now) false (a .p) (a .trace .now) y (c .before .before .before .before .before .counterexample .last .1 .1 .1 .1 .0)) (c .before .l .given .1) (c .before .before .before .before .before .counterexample .ensures))
+
+same-length-2 : tie.Need-same-length-2
+same-length-2 c = search needs
+
+returns-2 : tie.Need-returns-2
+returns-2 c = NamedBy.told-longer (let a = c .before .before .before .before .before .before .before .before .before .args in subst (λ (y : Length). Told (a .edges .now) (a .nodes .now) false (a .p) (a .trace .now) y (c .before .before .before .before .counterexample .last .1 .1 .1 .1 .0)) (c .enum-told .given .1) (c .before .before .before .before .counterexample .ensures))
+
+same-length-3 : tie.Need-same-length-3
+same-length-3 c = search needs
+
+returns-3 : tie.Need-returns-3
+returns-3 c = NamedBy.told-refused (let a = c .before .before .before .before .before .before .before .before .before .before .args in subst (λ (y : Length). Told (a .edges .now) (a .nodes .now) false (a .p) (a .trace .now) y (c .before .before .before .before .before .counterexample .last .1 .1 .1 .1 .0)) (c .before .l2 .given .1) (c .before .before .before .before .before .counterexample .ensures))
+
+pub named-spec : {M : Type 1} → statement M
+named-spec =
+    tie.close
+    (tie.spec
+    counterexample-requires
+    enum-known-l
+    enum-told
+    enum-known-l-2
+    same-length
+    returns
+    same-length-2
+    returns-2
+    same-length-3
+    returns-3)

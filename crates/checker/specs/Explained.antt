@@ -1,0 +1,46 @@
+-- What the check with a counterexample promises: the check's verdict, and the trace.
+use Prim.Native.Nat.{ℕ, _<_, _≤_}
+use mathlib.Core.Bool.{false}
+use mathlib.Core.Option.{none, some}
+use mathlib.Core.List.{List}
+use lib.ListN.{length}
+use Rattle.usage.specs.Past.{Past}
+use Rattle.usage.specs.Check as usage
+use Rattle.usage.specs.Tables.{edgesOf, nodesOf, EdgeTable, NodeTable}
+use Rattle.checker_trace.specs.Steps.{laid}
+use Rattle.checker_trace.specs.Answer.{mostNumbers}
+use Rattle.checker_trace.specs.Answer as trace
+use Rattle.checker_trace.specs.declared.Length.the-variants as lengths
+use Rattle.usage.specs.Answers.{Verdict, allowed, violated, refused}
+use Rattle.checker.specs.declared.counterexample.Explanation.{Explanation}
+use Rattle.checker.specs.declared.counterexample.Explanation.the-variants.{Accepted, Shown, Longer, Refused}
+use Rattle.checker.specs.Promise.{CheckPromise}
+
+-- what `counterexample` tells, as an answer
+pub data NamedBy (e n : List ℕ) (p : ℕ) (t : List ℕ) : Explanation → List ℕ → Type 0 where
+  told-shown : {s : ℕ} {t′ : List ℕ} → trace.Told e n false p t (lengths.Of s) t′ → NamedBy e n p t (Shown p s) t′
+  told-longer : {t′ : List ℕ} → trace.Told e n false p t lengths.Longer t′ → NamedBy e n p t (Longer p) t′
+  told-refused : {k : ℕ} {t′ : List ℕ} → trace.Told e n false p t (lengths.Refused k) t′ → NamedBy e n p t (Refused k) t′
+
+-- e and n are the tables of edges and nodes, t and t′ the lent table before and after. "40 also covers a lent trace table below 200
+-- places"; else the check's own verdict, and where it names a policy what is shown with that
+pub data Explained (e n t : List ℕ) : Explanation → List ℕ → Type 0 where
+  too-small : length t < mostNumbers → Explained e n t (Refused 40) t
+  refused-with : {k : ℕ} → mostNumbers ≤ length t → CheckPromise e n (refused k) → Explained e n t (Refused k) t
+  accepted : mostNumbers ≤ length t → CheckPromise e n allowed → Explained e n t Accepted t
+  longer : {p : ℕ} → mostNumbers ≤ length t → CheckPromise e n (violated p) → usage.Shown false (edgesOf e) (nodesOf n) p none → Explained e n t (Longer p) t
+  this-long : {p : ℕ} {past : Past} → mostNumbers ≤ length t → CheckPromise e n (violated p) → usage.Shown false (edgesOf e) (nodesOf n) p (some past)
+      → Explained e n t (Shown p (length past)) (laid t past)
+
+-- document 01's numbers for each answer, and how many steps were written
+abbrev pub explanationVerdict : Explanation → Verdict
+explanationVerdict Accepted = allowed
+explanationVerdict (Shown p n) = violated p
+explanationVerdict (Longer p) = violated p
+explanationVerdict (Refused n) = refused n
+
+abbrev pub stepsWritten : Explanation → ℕ
+stepsWritten Accepted = 0
+stepsWritten (Shown p n) = n
+stepsWritten (Longer p) = 0
+stepsWritten (Refused n) = 0

@@ -1,0 +1,130 @@
+-- Entries: their bounds and places, and what the code on them computes.
+use Prim.Native.Nat.{ℕ, suc, _+_, _-_, _*_, _/_, _%_, _<_, _≤_}
+use mathlib.Core.Path.{_≡_, refl, sym, ap, _∙_}
+use mathlib.Core.Bool.{Bool, true, false, _&&_, cond}
+use mathlib.Core.List.{List}
+use native.Mathlib.Omega.{arith}
+use native.Mathlib.Decide.{decLe}
+use lib.Dec.{eqb, ltb, leb}
+use lib.ListN.{getD}
+use borrow.Author.Tests.{ltb-true, lt-ltb, le-ltb, le-leb, lt-leb, eq-eqb, ne-eqb}
+use Rattle.usage.proofs.Logic.{and-left, and-right, and-both, not-both}
+use Rattle.checker_lengths.specs.declared.Entry.{Entry}
+use Rattle.checker_account.specs.Tables.{made}
+use Rattle.checker_lengths.specs.Offers.{toward, lowEnd}
+use Rattle.checker_lengths.specs.Entries.{size, noLength, entryOf, nodesBefore, linear, inTable, below, held, plus}
+
+pub record Bounds (e : Entry) : Type 0 where
+  pub node : e .node < 64
+  pub meaning : e .meaning < 6
+  pub state : e .state < 8
+  pub aim : e .aim < 17
+
+pub bounds : (e : Entry) → inTable e ≡ true → Bounds e
+unfolding inTable
+bounds e h =
+    let h₁ = and-right (ltb (e .node) 64) (ltb (e .meaning) 6 && (ltb (e .state) 8 && ltb (e .aim) 17)) h in
+    let h₂ = and-right (ltb (e .meaning) 6) (ltb (e .state) 8 && ltb (e .aim) 17) h₁ in
+    record {
+      node = ltb-true (e .node) 64 (and-left (ltb (e .node) 64) (ltb (e .meaning) 6 && (ltb (e .state) 8 && ltb (e .aim) 17)) h);
+      meaning = ltb-true (e .meaning) 6 (and-left (ltb (e .meaning) 6) (ltb (e .state) 8 && ltb (e .aim) 17) h₁);
+      state = ltb-true (e .state) 8 (and-left (ltb (e .state) 8) (ltb (e .aim) 17) h₂);
+      aim = ltb-true (e .aim) 17 (and-right (ltb (e .state) 8) (ltb (e .aim) 17) h₂);
+    }
+
+pub in-table : (e : Entry) → e .node < 64 → e .meaning < 6 → e .state < 8 → e .aim < 17 → inTable e ≡ true
+unfolding inTable
+in-table e a b c d = simp (lt-ltb _ _ a, lt-ltb _ _ b, lt-ltb _ _ c, lt-ltb _ _ d)
+
+-- the same start with another aim
+pub toward-in : (s : Entry) (i : ℕ) → inTable (toward s 0) ≡ true → i < 17 → inTable (toward s i) ≡ true
+toward-in s i h l = let b = bounds (toward s 0) h in in-table (toward s i) (b .node) (b .meaning) (b .state) l
+
+pub low-end-le : (m : ℕ) → lowEnd m ≤ 8
+low-end-le m = go (made m)
+  where
+    go : (b : Bool) → cond b 8 0 ≤ 8
+    go true = omega arith
+    go false = omega arith
+
+half-le : (o : Bool) → nodesBefore o ≤ 64
+half-le true = omega arith
+half-le false = omega arith
+
+pub linear-lt : (e : Entry) → inTable e ≡ true → linear e < 104448
+linear-lt e h = let b = bounds e h in omega (arith, half-le (e .opened))
+
+-- ── What is held ──
+
+module _ (t : List ℕ) (most : ℕ) (e : Entry) where
+  pub held-out : inTable e ≡ false → noLength ≡ held t most e
+  unfolding held
+  held-out h = rw h
+
+  held-in : inTable e ≡ true → held t most e ≡ below most (getD t (linear e) 0)
+  unfolding held
+  held-in h = rw h
+
+  pub held-less : (at : ℕ) → inTable e ≡ true → at ≡ linear e → getD t at 0 < most → getD t at 0 ≡ held t most e
+  unfolding below
+  held-less at h f l = sym (held-in h ∙ ap (λ (i : ℕ). below most (getD t i 0)) (sym f) ∙ ap (λ (b : Bool). cond b (getD t at 0) noLength) (lt-ltb (getD t at 0) most l))
+
+  pub held-more : (at : ℕ) → inTable e ≡ true → at ≡ linear e → most ≤ getD t at 0 → noLength ≡ held t most e
+  unfolding below
+  held-more at h f l = sym (held-in h ∙ ap (λ (i : ℕ). below most (getD t i 0)) (sym f) ∙ ap (λ (b : Bool). cond b (getD t at 0) noLength) (le-ltb (getD t at 0) most l))
+
+  -- a length that is held stands in the table
+  pub held-is : (n : ℕ) → held t most e ≡ n → n < noLength → (inTable e ≡ true) × (getD t (linear e) 0 ≡ n) × (n < most)
+  held-is n h l = go (inTable e) refl
+    where
+      stands : inTable e ≡ true → Dec (getD t (linear e) 0 < most) → (inTable e ≡ true) × (getD t (linear e) 0 ≡ n) × (n < most)
+      stands f (yes k) = let s = held-less (linear e) f refl k in (f, omega arith, omega arith)
+      stands f (no k) = let s = held-more (linear e) f refl (omega arith) in absurd (omega arith)
+
+      go : (b : Bool) → inTable e ≡ b → (inTable e ≡ true) × (getD t (linear e) 0 ≡ n) × (n < most)
+      go false f = let g = held-out f in absurd (omega arith)
+      go true f = stands f (decLe (suc (getD t (linear e) 0)) most)
+
+-- ── Sums ──
+
+pub plus-none : (a b : ℕ) → 200 < a + b → noLength ≡ plus a b
+unfolding plus
+plus-none a b h = rw (lt-leb (a + b) 200 h)
+
+pub plus-some : (a b : ℕ) → a + b ≤ 200 → a + b ≡ plus a b
+unfolding plus
+plus-some a b h = rw (le-leb (a + b) 200 h)
+
+pub plus-is : (a b n : ℕ) → plus a b ≡ n → n ≤ 200 → a + b ≡ n
+plus-is a b n h l = go (decLe (a + b) 200)
+  where
+    go : Dec (a + b ≤ 200) → a + b ≡ n
+    go (yes f) = plus-some a b f ∙ h
+    go (no f) = let g = plus-none a b (omega arith) in absurd (omega arith)
+
+-- ── The starts of a node, in the order in which they are settled ──
+
+abbrev pub startAt : ℕ → ℕ → ℕ → Entry
+startAt l k i = entryOf k (eqb (i % 2) 1) ((8 * l + i / 2) / 8) ((8 * l + i / 2) % 8) 0
+
+abbrev odd : Bool → ℕ
+odd false = 0
+odd true = 1
+
+odd-is : (o : Bool) (n : ℕ) → eqb ((2 * n + odd o) % 2) 1 ≡ o
+odd-is false n = ne-eqb ((2 * n + 0) % 2) 1 (λ e. absurd (omega arith))
+odd-is true n = eq-eqb ((2 * n + 1) % 2) 1 (omega arith)
+
+odd-lt : (o : Bool) → odd o < 2
+odd-lt false = omega arith
+odd-lt true = omega arith
+
+-- every start has its turn
+pub start-turn : (l k : ℕ) (o : Bool) (m q : ℕ) → l ≤ m → m < 6 → q < 8 → (i : ℕ) × (i < 2 * (48 - 8 * l)) × (startAt l k i ≡ entryOf k o m q 0)
+start-turn l k o m q low high small =
+    let n = 8 * (m - l) + q in
+    let i = 2 * n + odd o in
+    let b = odd-lt o in
+    let em : (8 * l + i / 2) / 8 ≡ m = omega arith in
+    let eq : (8 * l + i / 2) % 8 ≡ q = omega arith in
+    (i, omega arith, rw (odd-is o n, em, eq))

@@ -1,0 +1,29 @@
+use Rattle.checker_lengths.proofs.EntryLaws.{bounds, linear-lt, held-out, held-less, held-more, plus-none, plus-some}
+use native.Mathlib.Omega.{arith}
+use mathlib.Core.Path.{_≡_, refl, sym, ap, _∙_}
+use Prim.Native.Nat.{ℕ, suc, _+_, _-_, _≤_, _<_}
+use lib.ListN.{length, getD, take, drop, set}
+use borrow.Author.Needs.{needs}
+use Rattle.checker_lengths.proofs.entries.plus.Statement.{statement}
+use Rattle.checker_lengths.proofs.entries.plus.Tie as tie
+use Rattle.checker_lengths.proofs.entries.plus.Reads as reads
+use Rattle.checker_lengths.proofs.entries.plus.Lts as lts
+
+-- src/entries.rt:55:9
+returns : tie.Need-returns
+returns c = plus-none _ _ (omega arith)
+
+-- src/entries.rt:58:9
+returns-2 : tie.Need-returns-2
+returns-2 c = plus-none _ _ (omega arith)
+
+-- src/entries.rt:60:5
+add-result : tie.Need-add-result
+add-result c = search needs
+
+-- src/entries.rt:51:1
+returns-3 : tie.Need-returns-3
+returns-3 c = plus-some _ _ (omega arith)
+
+pub plus-spec : {M : Type 1} → statement M
+plus-spec = tie.close (tie.spec returns returns-2 add-result returns-3)

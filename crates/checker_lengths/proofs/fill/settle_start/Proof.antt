@@ -1,0 +1,83 @@
+use denote.Ref.{now}
+use mathlib.Core.Path.{subst}
+use mathlib.Core.Bool.{true, false}
+use mathlib.Core.List.{List}
+use mathlib.Core.Logic.{inl, inr}
+use borrow.Author.Count.{below-more}
+use Rattle.usage.specs.Outline.{formOf}
+use Rattle.usage.proofs.Logic.{by-cases, not-true}
+use Rattle.checker_lengths.specs.declared.Entry.{Entry}
+use Rattle.checker_lengths.specs.Entries.{inTable, entryOf, linear}
+use Rattle.checker_lengths.specs.Offers.{toward, lowEnd, waysOf}
+use Rattle.checker_lengths.specs.Code.{Lowers, Onward, Pass}
+use Rattle.checker_lengths.specs.Rounds.{Settled, RuleSettled, StartSettled, NodeSettled, RoundSettled}
+use Rattle.checker_lengths.proofs.PassLaws.{pass-then, pass-none, pass-map}
+use Rattle.checker_lengths.proofs.EntryLaws.{in-table, bounds, toward-in, low-end-le}
+use native.Mathlib.Omega.{arith}
+use mathlib.Core.Path.{_≡_, refl, sym, ap, _∙_}
+use Prim.Native.Nat.{ℕ, suc, _+_, _-_, _≤_, _<_}
+use lib.ListN.{length, getD, take, drop, set}
+use borrow.Author.Needs.{needs}
+use Rattle.checker_lengths.proofs.fill.settle_start.Statement.{statement}
+use Rattle.checker_lengths.proofs.fill.settle_start.Tie as tie
+use Rattle.checker_lengths.proofs.fill.settle_start.Reads as reads
+use Rattle.checker_lengths.proofs.fill.settle_start.Lts as lts
+use Rattle.checker_lengths.proofs.fill.settle_rule.Reads as settle-rule-reads
+use Rattle.checker_lengths.proofs.offers.ways.Reads as ways-reads
+
+abbrev Inv-loop : tie.InvT-loop
+Inv-loop t₀ rows w f s n changed₀ c₀ t changed c = (c ≤ n) × Pass (Lowers w rows (s .node) (formOf f)) (λ u. (j : ℕ) → j < c → RuleSettled w rows (formOf f) u s j) t₀ t changed
+
+abbrev μ-loop : tie.MeasureT-loop
+μ-loop t₀ rows w f s n changed₀ c₀ t changed c = n - c
+
+-- src/fill.rt:66:9
+ways-requires : tie.Need-ways-requires Inv-loop μ-loop
+ways-requires c κs = search needs
+
+-- src/fill.rt:69:5
+loop-holds : tie.Need-loop-holds Inv-loop μ-loop
+loop-holds c = (search needs, pass-none (λ nodes h f r. r) (λ j k. absurd (omega arith)))
+
+-- src/fill.rt:70:12
+settle-rule-requires : tie.Need-settle-rule-requires Inv-loop μ-loop
+settle-rule-requires c κs = (c .before .before .loop .inv .1 .same-size ∙ c .before .before .before .before .pre .0, c .before .before .before .before .pre .1)
+
+-- src/fill.rt:73:9
+add-c : tie.Need-add-c Inv-loop μ-loop
+add-c c = search needs
+
+-- src/fill.rt:69:5
+loop-less : tie.Need-loop-less Inv-loop μ-loop
+loop-less c = search needs
+
+-- src/fill.rt:69:5
+loop-again : tie.Need-loop-again Inv-loop μ-loop
+loop-again c =
+    let a = c .before .before .before .before .before .before .args in
+    let l = c .before .before .before .before .loop in
+    let k = c .before .before .before .loop-test .taken in
+    let f = formOf (a .f) in (
+      omega arith,
+      pass-then (λ x y nodes h g r. y nodes h g (x nodes h g r))
+          (λ x y. below-more (λ (j : ℕ). RuleSettled (a .w) (a .rows .now) f (a .t .now) (a .s) j) (l .c) x y)
+          (l .inv .1) (c .before .settle-rule .ensures) (by-cases (c .if1 .came) (λ u. inl (u .0 .taken, u .1)) (λ u. inr (u .0 .left, u .1))),
+    )
+
+-- src/fill.rt:61:1
+returns : tie.Need-returns Inv-loop μ-loop
+returns c = let l = c .before .loop in let e = c .before .before .ways .ensures in pass-map (λ x. x) (λ h j k. h j (omega arith)) (l .inv .1)
+
+pub settle-start-spec : {M : Type 1} → statement M
+settle-start-spec =
+    tie.close
+    (tie.spec
+    Inv-loop
+    μ-loop
+    ways-requires
+    loop-holds
+    settle-rule-requires
+    add-c
+    loop-less
+    loop-again
+    returns)

@@ -1,0 +1,31 @@
+use Rattle.checker_lengths.proofs.OfferLaws as laws
+use Rattle.usage.proofs.Logic.{not-true, not-false, by-cases, false-true}
+use native.Mathlib.Omega.{arith}
+use mathlib.Core.Path.{_≡_, refl, sym, ap, _∙_}
+use Prim.Native.Nat.{ℕ, suc, _+_, _-_, _≤_, _<_}
+use lib.ListN.{length, getD, take, drop, set}
+use borrow.Author.Needs.{needs}
+use Rattle.checker_lengths.proofs.offers.body.Statement.{statement}
+use Rattle.checker_lengths.proofs.offers.body.Tie as tie
+use Rattle.checker_lengths.proofs.offers.body.Reads as reads
+use Rattle.checker_lengths.proofs.offers.body.Lts as lts
+use Rattle.checker_tables.proofs.lose.Reads as lose-reads
+
+-- src/offers.rt:177:15
+add-own : tie.Need-add-own
+add-own c = search needs
+
+-- src/offers.rt:180:9
+lose-requires : tie.Need-lose-requires
+lose-requires c κs = search needs
+
+-- src/offers.rt:174:1
+returns : tie.Need-returns
+returns c = let a = c .before .args in let e = a .e in
+    laws.body-is e (a .n) (a .b) (a .c) (c .if1 .m)
+    (by-cases (c .if1 .came)
+    (λ u. u .2 ∙ u .1 .ensures ∙ laws.named-other (e .meaning) (a .n) (a .c) (u .0 .taken))
+    (λ u. u .1 ∙ laws.named-own (e .meaning) (a .n) (a .c) (u .0 .left)))
+
+pub body-spec : {M : Type 1} → statement M
+body-spec = tie.close (tie.spec add-own lose-requires returns)

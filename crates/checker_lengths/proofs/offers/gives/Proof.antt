@@ -1,0 +1,78 @@
+use Rattle.checker_lengths.specs.Entries.{inTable, held, plus, entryOf, noLength, linear}
+use Rattle.checker_lengths.specs.Offers as spec
+use Rattle.checker_lengths.proofs.OfferLaws as laws
+use Rattle.automaton.specs.Mask.{has}
+use Prim.Native.Nat.{_%_}
+use Rattle.usage.specs.Outline.{formOf}
+use borrow.Author.Tests.{leb-false}
+use Rattle.usage.proofs.Logic.{not-true, not-false, by-cases, false-true}
+use native.Mathlib.Omega.{arith}
+use mathlib.Core.Path.{_≡_, refl, sym, ap, _∙_}
+use Prim.Native.Nat.{ℕ, suc, _+_, _-_, _≤_, _<_}
+use lib.ListN.{length, getD, take, drop, set}
+use borrow.Author.Needs.{needs}
+use Rattle.checker_lengths.proofs.offers.gives.Statement.{statement}
+use Rattle.checker_lengths.proofs.offers.gives.Tie as tie
+use Rattle.checker_lengths.proofs.offers.gives.Reads as reads
+use Rattle.checker_lengths.proofs.offers.gives.Lts as lts
+use Rattle.checker_lengths.proofs.entries.get.Reads as get-reads
+use Rattle.checker_lengths.proofs.offers.born.Reads as born-reads
+use Rattle.checker_lengths.proofs.offers.first.Reads as first-reads
+use Rattle.checker_lengths.proofs.offers.has.Reads as has-reads
+
+-- src/offers.rt:301:9
+returns : tie.Need-returns
+returns c = λ e. false-true (sym e)
+
+-- src/offers.rt:304:37
+first-requires : tie.Need-first-requires
+first-requires c κs = search needs
+
+-- src/offers.rt:304:16
+get-requires : tie.Need-get-requires
+get-requires c κs = search needs
+
+-- src/offers.rt:304:9
+returns-2 : tie.Need-returns-2
+unfolding formOf spec.offerOf
+returns-2 c = λ g w i.
+    let a = c .before .before .before .before .before .args in
+    let look = held (a .t .now) 201 in
+    let s = spec.toward (a .s) i in
+    let v = c .get .ensures ∙ ap look (c .before .first .ensures) in
+    let l = leb-false (c .get .result) 200 g in
+    rw (c .before .before .if2 .taken) (sym (laws.sequence-dead look s (a .f .a) (a .f .b) (a .c) (c .before .before .before .before .if1 .left) (omega (arith, v))))
+
+-- src/offers.rt:307:20
+born-requires : tie.Need-born-requires
+born-requires c κs = search needs
+
+-- src/offers.rt:307:9
+has-requires : tie.Need-has-requires
+has-requires c κs = search needs
+
+-- src/offers.rt:307:9
+returns-3 : tie.Need-returns-3
+unfolding formOf spec.offerOf spec.born spec.moved
+returns-3 c = λ g w i.
+    let a = c .before .before .before .before .before .before .before .args in
+    let look = held (a .t .now) 201 in
+    let s = spec.toward (a .s) i in
+    rw (c .before .before .if3 .taken) (sym (laws.fresh-dead (a .rows .now) look s (a .f .a) (a .f .b) (a .c) (c .before .before .before .before .before .before .if1 .left) (sym (ap (λ (v : ℕ). has v (a .c % 8)) (c .before .born .ensures)) ∙ sym (c .has .ensures) ∙ g)))
+
+-- src/offers.rt:297:1
+returns-4 : tie.Need-returns-4
+returns-4 c = λ e. false-true (sym e)
+
+pub gives-spec : {M : Type 1} → statement M
+gives-spec =
+    tie.close
+    (tie.spec
+    returns
+    first-requires
+    get-requires
+    returns-2
+    born-requires
+    has-requires
+    returns-3
+    returns-4)

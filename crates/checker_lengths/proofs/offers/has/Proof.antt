@@ -1,0 +1,29 @@
+use Rattle.checker_lengths.proofs.OfferLaws as laws
+use native.Mathlib.Omega.{arith}
+use mathlib.Core.Path.{_≡_, refl, sym, ap, _∙_}
+use Prim.Native.Nat.{ℕ, suc, _+_, _-_, _≤_, _<_}
+use lib.ListN.{length, getD, take, drop, set}
+use borrow.Author.Needs.{needs}
+use Rattle.checker_lengths.proofs.offers.has.Statement.{statement}
+use Rattle.checker_lengths.proofs.offers.has.Tie as tie
+use Rattle.checker_lengths.proofs.offers.has.Reads as reads
+use Rattle.checker_lengths.proofs.offers.has.Lts as lts
+
+-- src/offers.rt:61:12
+cast-result : tie.Need-cast-result
+cast-result c = search needs
+
+-- src/offers.rt:61:12
+cast-result-2 : tie.Need-cast-result-2
+cast-result-2 c = search needs
+
+-- src/offers.rt:61:6
+shr-result : tie.Need-shr-result
+shr-result c = search needs
+
+-- src/offers.rt:57:1
+returns : tie.Need-returns
+returns c = laws.has-bit _ _
+
+pub has-spec : {M : Type 1} → statement M
+has-spec = tie.close (tie.spec cast-result cast-result-2 shr-result returns)

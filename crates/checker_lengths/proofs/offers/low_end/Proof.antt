@@ -1,0 +1,21 @@
+use Rattle.checker_account.proofs.CodeLaws.{made-some}
+use native.Mathlib.Omega.{arith}
+use mathlib.Core.Path.{_≡_, refl, sym, ap, _∙_}
+use Prim.Native.Nat.{ℕ, suc, _+_, _-_, _≤_, _<_}
+use lib.ListN.{length, getD, take, drop, set}
+use borrow.Author.Needs.{needs}
+use Rattle.checker_lengths.proofs.offers.low_end.Statement.{statement}
+use Rattle.checker_lengths.proofs.offers.low_end.Tie as tie
+use Rattle.checker_lengths.proofs.offers.low_end.Reads as reads
+use Rattle.checker_lengths.proofs.offers.low_end.Lts as lts
+
+-- src/offers.rt:50:1
+returns : tie.Need-returns
+returns c = search needs
+
+-- src/offers.rt:50:1
+returns-2 : tie.Need-returns-2
+returns-2 c = rw (made-some _ (c .if1 .left))
+
+pub low-end-spec : {M : Type 1} → statement M
+low-end-spec = tie.close (tie.spec returns returns-2)

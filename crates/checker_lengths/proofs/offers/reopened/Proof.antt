@@ -1,0 +1,30 @@
+use borrow.Author.Tests.{lt-ltb, le-ltb, le-leb, lt-leb, eq-eqb, ne-eqb}
+use Rattle.usage.proofs.Logic.{not-true, not-false, by-cases, false-true}
+use native.Mathlib.Omega.{arith}
+use mathlib.Core.Path.{_≡_, refl, sym, ap, _∙_}
+use Prim.Native.Nat.{ℕ, suc, _+_, _-_, _≤_, _<_}
+use lib.ListN.{length, getD, take, drop, set}
+use borrow.Author.Needs.{needs}
+use Rattle.checker_lengths.proofs.offers.reopened.Statement.{statement}
+use Rattle.checker_lengths.proofs.offers.reopened.Tie as tie
+use Rattle.checker_lengths.proofs.offers.reopened.Reads as reads
+use Rattle.checker_lengths.proofs.offers.reopened.Lts as lts
+
+-- src/offers.rt:196:9
+returns : tie.Need-returns
+returns c = simp (not-true (c .before .before .args .w .local) (c .if1 .taken))
+
+-- src/offers.rt:199:9
+returns-2 : tie.Need-returns-2
+returns-2 c = simp (not-false (c .before .before .before .before .args .w .local) (c .before .before .if1 .left), ne-eqb _ _ (c .if2 .taken))
+
+-- src/offers.rt:192:1
+returns-3 : tie.Need-returns-3
+returns-3 c = simp (not-false (c .before .before .before .before .before .args .w .local) (c .before .before .before .if1 .left), eq-eqb _ _ (c .before .if2 .left), c .if3 .taken)
+
+-- src/offers.rt:192:1
+returns-4 : tie.Need-returns-4
+returns-4 c = simp (not-false (c .before .before .before .before .before .args .w .local) (c .before .before .before .if1 .left), eq-eqb _ _ (c .before .if2 .left), c .if3 .left)
+
+pub reopened-spec : {M : Type 1} → statement M
+reopened-spec = tie.close (tie.spec returns returns-2 returns-3 returns-4)

@@ -1,0 +1,52 @@
+-- How a table of lengths is filled: each entry falls to what a rule gives, until no rule gives less. `nodes` is the flat table of nodes,
+-- and `rows` the table of rows of the policy.
+use Prim.Native.Nat.{ℕ, _/_, _<_, _≤_}
+use mathlib.Core.Path.{_≡_}
+use mathlib.Core.Bool.{Bool, true, false}
+use mathlib.Core.Option.{Option}
+use mathlib.Core.List.{List}
+use lib.ListN.{length, getD, set, replicate}
+use Rattle.usage.specs.Limits.{states, mostShown, nodeFields}
+use Rattle.usage.specs.Outline.{Form, formOf}
+use Rattle.checker_account.specs.Tables.{meanings, least}
+use Rattle.checker_lengths.specs.Nodes.{nodeIn}
+use Rattle.checker_lengths.specs.declared.Entry.{Entry}
+use Rattle.checker_lengths.specs.declared.Watch.{Watch}
+use Rattle.checker_lengths.specs.Entries.{aims, size, noLength, allLengths, entryOf, linear, inTable, held}
+use Rattle.checker_lengths.specs.Offers.{lowEnd, toward, offerFrom, waysOf}
+
+abbrev pub formHere : List ℕ → ℕ → Option Form
+formHere nodes k = formOf (nodeIn nodes k)
+
+-- the tables that filling comes to: each entry falls to what a rule of its node gives
+pub data Reach (w : Watch) (rows nodes : List ℕ) : List ℕ → Type 0 where
+  start : Reach w rows nodes (replicate size noLength)
+  falls : {t : List ℕ} (e : Entry) (c : ℕ) {v : ℕ} → Reach w rows nodes t → inTable e ≡ true → e .node < length nodes / nodeFields
+      → v ≡ offerFrom w rows (held t allLengths) e c (formHere nodes (e .node)) → Reach w rows nodes (set t (linear e) v)
+
+-- rule c gives no length that is less than what stands there
+abbrev pub Settled : Watch → List ℕ → Option Form → List ℕ → Entry → ℕ → Type 0
+Settled w rows f t e c = offerFrom w rows (held t allLengths) e c f ≤ mostShown → getD t (linear e) 0 ≤ offerFrom w rows (held t allLengths) e c f
+
+-- for no aim of a start (an end is one only if it keeps it that the watched resource was created); no rule does; and so on
+abbrev pub RuleSettled : Watch → List ℕ → Option Form → List ℕ → Entry → ℕ → Type 0
+RuleSettled w rows f t s c = (i : ℕ) → lowEnd (s .meaning) ≤ i → i < aims → Settled w rows f t (toward s i) c
+
+abbrev pub StartSettled : Watch → List ℕ → Option Form → List ℕ → Entry → Type 0
+StartSettled w rows f t s = (c : ℕ) → c < waysOf f → RuleSettled w rows f t s c
+
+-- the starts of node k with a meaning from l on
+abbrev pub NodeSettled : Watch → List ℕ → Option Form → List ℕ → ℕ → ℕ → Type 0
+NodeSettled w rows f t l k = (o : Bool) (m q : ℕ) → l ≤ m → m < meanings → q < states → StartSettled w rows f t (entryOf k o m q 0)
+
+abbrev pub RoundSettled : Watch → List ℕ → List ℕ → List ℕ → ℕ → Type 0
+RoundSettled w rows nodes t l = (k : ℕ) → k < length nodes / nodeFields → NodeSettled w rows (formHere nodes k) t l k
+
+-- The table is full: filling has come to it, and no rule gives less for any entry.
+pub record Full (w : Watch) (rows nodes t : List ℕ) : Type 0 where
+  pub reach : Reach w rows nodes t
+  pub settled : RoundSettled w rows nodes t (least (w .resource))
+
+abbrev pub FullIf : Bool → Watch → List ℕ → List ℕ → List ℕ → Type 0
+FullIf true w rows nodes t = Full w rows nodes t
+FullIf false w rows nodes t = t ≡ replicate size noLength

@@ -1,0 +1,337 @@
+// What the rules give for an entry by the entries that stand. Each rule of a node has a number, c: a sequence has one for each end of
+// its first node, a fresh node one for each state after its creation, and so on.
+ghost use mathlib.Core.Path.{_≡_};
+ghost use mathlib.Core.Bool.{Bool, false, _||_};
+ghost use Prim.Native.Nat.{ℕ, _<_};
+ghost use Rattle.usage.specs.Outline.{formOf};
+ghost use Rattle.usage.specs.Past.{reopened};
+ghost use Rattle.automaton.specs.Mask.{has};
+ghost use Rattle.checker_lengths.specs.declared.Watch.{Watch};
+ghost use Rattle.usage.specs.Limits.{states};
+ghost use Rattle.checker_lengths.specs.Entries.{noLength, allLengths, held};
+ghost use Rattle.checker_lengths.specs.Offers.{atNode, toward, lowEnd, moved, born, endingOf, breaking, eventOf, stillOf, firstEntry, secondEntry, bodyEntry, innerEntry, sequenceOf, freshOf, sandboxOf, offerFrom, waysOf};
+use crate::AIMS;
+use crate::ALL;
+use crate::BROKEN;
+use crate::Entry;
+use crate::FRESH_RULES;
+use crate::Lengths;
+use crate::MOST;
+use crate::NONE;
+use crate::OWN_BREAK;
+use crate::Watch;
+use crate::entries;
+use checker_account::STARTS;
+use checker_account::Table;
+use checker_account::UNNAMED;
+use usage::MOST_NODES;
+use usage::Node;
+use usage::STATES;
+
+// The same start and aim at node k.
+fn at(e: Entry, k: u8) -> Entry
+    ensures { λ r. ⌜ r ≡ atNode e k ⌝ }
+{
+    Entry {
+        node: k as usize,
+        opened: e.opened,
+        meaning: e.meaning,
+        state: e.state,
+        aim: e.aim,
+    }
+}
+
+// The same start with aim i.
+pub(crate) fn toward(e: Entry, i: usize) -> Entry
+    ensures { λ r. ⌜ r ≡ toward e i ⌝ }
+{
+    Entry {
+        node: e.node,
+        opened: e.opened,
+        meaning: e.meaning,
+        state: e.state,
+        aim: i,
+    }
+}
+
+// Where the ends begin that a start with this meaning can come to.
+pub fn low_end(m: usize) -> usize
+    ensures { λ r. ⌜ r ≡ lowEnd m ⌝ }
+{
+    if m == 0 { 0 } else { STATES }
+}
+
+// Is state j in the set v?
+fn has(v: u16, j: usize) -> bool
+    requires { ⌜ j < states ⌝ }
+    ensures { λ r. ⌜ r ≡ has v j ⌝ }
+{
+    (v >> (j as u32)) & 1 == 1
+}
+
+// The states after the event of the entry's node, which is on the watched resource or not.
+fn moved(rows: &Table, e: Entry, own: bool) -> u16
+    ensures { λ r. ⌜ r ≡ moved (now (rows .entry)) e own ⌝ }
+{
+    let k = e.node;
+    let q = e.state;
+    if MOST_NODES <= k {
+        return 0;
+    }
+    if STATES <= q {
+        return 0;
+    }
+    if own {
+        rows[STARTS * k + STATES + q]
+    } else {
+        rows[STARTS * k + q]
+    }
+}
+
+// The states after a creation: none for that of the watched resource where it can no longer be created.
+fn born(rows: &Table, e: Entry, own: bool) -> u16
+    ensures { λ r. ⌜ r ≡ born (now (rows .entry)) e own ⌝ }
+{
+    if own {
+        if 0 < e.meaning {
+            return 0;
+        }
+    }
+    moved(rows, e, own)
+}
+
+// One step, after which the node has ended in a state of v.
+fn ending(v: u16, e: Entry) -> u8
+    ensures { λ r. ⌜ r ≡ endingOf v e ⌝ }
+{
+    let low = low_end(e.meaning);
+    if e.aim < low {
+        return NONE;
+    }
+    let j = e.aim - low;
+    if STATES <= j {
+        return NONE;
+    }
+    if has(v, j) { 1 } else { NONE }
+}
+
+// One step that leaves the policy open in an offending state of v.
+fn breaking(v: u16, e: Entry) -> u8
+    ensures { λ r. ⌜ r ≡ breaking v e ⌝ }
+{
+    if e.aim != BROKEN {
+        return NONE;
+    }
+    if !e.opened {
+        return NONE;
+    }
+    if 64 <= v % 256 { 1 } else { NONE }
+}
+
+// An event, by which the states v are moved to.
+fn event(v: u16, e: Entry, c: usize) -> u8
+    ensures { λ r. ⌜ r ≡ eventOf v e c ⌝ }
+{
+    if c == 0 { ending(v, e) } else { breaking(v, e) }
+}
+
+// The end, which takes no step.
+fn still(e: Entry) -> u8
+    ensures { λ r. ⌜ r ≡ stillOf e ⌝ }
+{
+    let low = low_end(e.meaning);
+    if e.aim < low {
+        return NONE;
+    }
+    if e.aim - low == e.state { 0 } else { NONE }
+}
+
+// ── The entries that a rule leads to ──
+
+// The first node of a sequence, to end in way c.
+pub fn first(e: Entry, a: u8, c: usize) -> Entry
+    ensures { λ r. ⌜ r ≡ firstEntry e a c ⌝ }
+{
+    Entry {
+        node: a as usize,
+        opened: e.opened,
+        meaning: e.meaning,
+        state: e.state,
+        aim: c,
+    }
+}
+
+// The second, after an end in way c.
+pub fn second(e: Entry, b: u8, c: usize) -> Entry
+    ensures { λ r. ⌜ r ≡ secondEntry e b c ⌝ }
+{
+    let mut m: usize = 0;
+    if STATES <= c {
+        m = if e.meaning == 0 { UNNAMED } else { e.meaning };
+    }
+    Entry {
+        node: b as usize,
+        opened: e.opened,
+        meaning: m,
+        state: c % STATES,
+        aim: e.aim,
+    }
+}
+
+// The body of a fresh node for name n, after the creation of another resource or of the watched one, in state c % 8.
+pub fn body(e: Entry, n: u8, b: u8, c: usize) -> Entry
+    ensures { λ r. ⌜ r ≡ bodyEntry e n b c ⌝ }
+{
+    let own = n as usize + 1;
+    let mut m = own;
+    if c < STATES {
+        m = checker_tables::lose(e.meaning, own);
+    }
+    Entry {
+        node: b as usize,
+        opened: e.opened,
+        meaning: m,
+        state: c % STATES,
+        aim: e.aim,
+    }
+}
+
+// The state after an opening of policy s.
+fn reopened(w: Watch, s: u8, o: bool, q: usize) -> usize
+    ensures { λ r. ⌜ r ≡ reopened (w .local) (w .policy) s o q ⌝ }
+{
+    if !w.local {
+        return q;
+    }
+    if s as usize != w.policy {
+        return q;
+    }
+    if o { q } else { 0 }
+}
+
+// The body of a sandbox of policy s.
+pub fn inner(w: Watch, e: Entry, s: u8, b: u8) -> Entry
+    ensures { λ r. ⌜ r ≡ innerEntry w e s b ⌝ }
+{
+    let q = reopened(w, s, e.opened, e.state);
+    let o = if e.opened {
+        true
+    } else {
+        s as usize == w.policy
+    };
+    Entry {
+        node: b as usize,
+        opened: o,
+        meaning: e.meaning,
+        state: q,
+        aim: e.aim,
+    }
+}
+
+// ── Rules ──
+
+// A sequence: its first node ends in way c, and its second comes to the aim; or the first breaks the policy.
+fn sequence(t: &Lengths, most: u8, e: Entry, a: u8, b: u8, c: usize) -> u8
+    ensures { λ r. ⌜ r ≡ sequenceOf (held (now (t .entry)) most) e a b c ⌝ }
+{
+    if BROKEN <= c {
+        if e.aim != BROKEN {
+            return NONE;
+        }
+        return entries::get(t, most, at(e, a));
+    }
+    let v = entries::get(t, most, first(e, a, c));
+    if MOST < v {
+        return NONE;
+    }
+    entries::plus(v, entries::get(t, most, second(e, b, c)))
+}
+
+// A fresh node for name n: its creation leads to a state, and its body from there to the aim; or the creation breaks the policy.
+fn fresh(t: &Lengths, rows: &Table, most: u8, e: Entry, n: u8, b: u8, c: usize) -> u8
+    ensures { λ r. ⌜ r ≡ freshOf (now (rows .entry)) (held (now (t .entry)) most) e n b c ⌝ }
+{
+    if BROKEN <= c {
+        return breaking(born(rows, e, OWN_BREAK <= c), e);
+    }
+    if !has(born(rows, e, STATES <= c), c % STATES) {
+        return NONE;
+    }
+    entries::plus(1, entries::get(t, most, body(e, n, b, c)))
+}
+
+// A sandbox of policy s: its body comes to the aim, and where it ends there is the closing; or its opening breaks the policy.
+fn sandbox(t: &Lengths, w: Watch, most: u8, e: Entry, s: u8, b: u8, c: usize) -> u8
+    ensures { λ r. ⌜ r ≡ sandboxOf w (held (now (t .entry)) most) e s b c ⌝ }
+{
+    if c == 0 {
+        let around = if e.aim == BROKEN { 1 } else { 2 };
+        return entries::plus(around, entries::get(t, most, inner(w, e, s, b)));
+    }
+    if e.aim != BROKEN {
+        return NONE;
+    }
+    if s as usize != w.policy {
+        return NONE;
+    }
+    if 6 <= reopened(w, s, e.opened, e.state) {
+        1
+    } else {
+        NONE
+    }
+}
+
+// What rule c of the entry's node gives, f being that node, by the lengths below `most`.
+pub fn offer(t: &Lengths, rows: &Table, w: Watch, most: u8, f: Node, e: Entry, c: usize) -> u8
+    ensures { λ r. ⌜ r ≡ offerFrom w (now (rows .entry)) (held (now (t .entry)) most) e c (formOf f) ⌝ }
+{
+    let kind = f.kind;
+    match kind {
+        0 => still(e),
+        1 => event(moved(rows, e, f.b as usize == w.resource), e, c),
+        2 => event(moved(rows, e, e.meaning == f.b as usize + 1), e, c),
+        3 => sequence(t, most, e, f.a, f.b, c),
+        4 => entries::get(t, most, at(e, if c == 0 { f.a } else { f.b })),
+        5 => entries::get(t, most, at(e, f.a)),
+        6 => entries::get(t, most, at(e, f.a)),
+        7 => fresh(t, rows, most, e, f.a, f.b, c),
+        8 => sandbox(t, w, most, e, f.a, f.b, c),
+        _ => NONE,
+    }
+}
+
+// Can rule c of node f give anything from this start, whatever the aim? It cannot where the first node of a sequence has no such end,
+// or where a creation leads to no such state.
+pub(crate) fn gives(t: &Lengths, rows: &Table, f: Node, s: Entry, c: usize) -> bool
+    ensures { λ r. ⌜ (r ≡ false → (w : Watch) (i : ℕ) → offerFrom w (now (rows .entry)) (held (now (t .entry)) allLengths) (toward s i) c (formOf f) ≡ noLength) ⌝ }
+{
+    if BROKEN <= c {
+        return true;
+    }
+    if f.kind == 3 {
+        return entries::get(t, ALL, first(s, f.a, c)) <= MOST;
+    }
+    if f.kind == 7 {
+        return has(born(rows, s, STATES <= c), c % STATES);
+    }
+    true
+}
+
+// How many rules a node of this kind has.
+pub fn ways(f: Node) -> usize
+    ensures { λ r. ⌜ r ≡ waysOf (formOf f) ⌝ }
+{
+    let kind = f.kind;
+    match kind {
+        0 => 1,
+        1 => 2,
+        2 => 2,
+        3 => AIMS,
+        4 => 2,
+        5 => 1,
+        6 => 1,
+        7 => FRESH_RULES,
+        8 => 2,
+        _ => 0,
+    }
+}

@@ -1,0 +1,11 @@
+-- Sets of nodes as bits, and that the code's set is what a node leads to.
+pub mod BitLaws
+pub mod LeadLaws
+-- The steps that are written.
+pub mod StepLaws
+pub mod WriteLaws
+pub mod PartLaws
+pub mod FreshLaws
+pub mod KindLaws
+-- What is shown.
+pub mod ShownLaws

@@ -1,0 +1,197 @@
+-- The least length of all watched resources, and the trace of that length, are what is to be shown.
+use Prim.Native.Nat.{ℕ, _/_, _+_, _<_, _≤_}
+use mathlib.Core.Path.{_≡_, refl, sym, ap, _∙_, subst}
+use mathlib.Core.Bool.{Bool, true, false, not, _&&_, cond}
+use mathlib.Core.Option.{none, some}
+use mathlib.Core.List.{List, [], _∷_, List·Memᴰ}
+use mathlib.Core.Logic.{inl, inr}
+use native.Mathlib.Omega.{arith}
+use native.Mathlib.Decide.{decLe}
+use borrow.Author.Count.{below-more}
+use lib.Dec.{eqb, ltb}
+use lib.ListN.{length, replicate}
+use Rattle.usage.specs.declared.Edge.{Edge}
+use Rattle.usage.specs.Limits.{statics, mostShown}
+use Rattle.usage.specs.Policy.{Sees, Moves, along, stays, Offending, EdgesOk}
+use Rattle.usage.specs.Past.{Past, count, isOpen, May, start, moved, opened, closed}
+use Rattle.usage.specs.Outline.{noNames}
+use Rattle.usage.specs.Valid.{Scope, OutlineOk}
+use Rattle.usage.specs.Tables.{edgesOf, nodesOf}
+use Rattle.usage.specs.Check.{Shown, longer}
+use Rattle.usage.proofs.TableLaws.{nodes-length}
+use Rattle.automaton.specs.Move.{rowsOf}
+use Rattle.checker_account.specs.Witness.{watched, noName, each, Last, Aim, broken, Hits}
+use Rattle.checker_account.specs.Written.{Written}
+use Rattle.checker_account.specs.Tables.{least, rowsIn}
+use Rattle.checker_account.specs.Rounds.{formsIn}
+use Rattle.checker_account.specs.RowTable.{fillRows}
+use Rattle.checker_account.specs.Least.{Least, at-break}
+use Rattle.checker_account.proofs.Ahead.{Root, hits-exact}
+use Rattle.checker_account.proofs.BegunLaws.{begun-root}
+use Rattle.checker_account.proofs.EventLaws.{event-image}
+use Rattle.checker_account.proofs.Exact.{all-longer}
+use Rattle.checker_account.proofs.NodeLaws.{forms-of}
+use Rattle.checker_account.proofs.Reader.{written-shown}
+use Rattle.checker_account.proofs.RowLaws.{rows-ok}
+use Rattle.checker_account.proofs.RowTableLaws.{rows-from}
+use Rattle.checker_account.proofs.ScopedLaws.{scoped}
+use Rattle.checker_tables.specs.Search.{rowTable}
+use Rattle.checker_tables.proofs.WholeLaws.{whole-in}
+use Rattle.checker_lengths.specs.declared.Entry.{Entry}
+use Rattle.checker_lengths.specs.declared.Watch.{Watch}
+use Rattle.checker_lengths.specs.Entries.{noLength, allLengths, entryOf, held}
+use Rattle.checker_lengths.specs.Rounds.{Full}
+use Rattle.checker_lengths.specs.Held.{aimAt, meaningOf, entriesIn, watchOf, Source}
+use Rattle.checker_lengths.proofs.FullLaws.{full-least}
+use Rattle.checker_trace.specs.declared.Shortest.{Shortest}
+use Rattle.checker_trace.specs.declared.Spot.{Spot}
+use Rattle.checker_trace.specs.declared.Names.{Names}
+use Rattle.checker_trace.specs.Code.{Spotted, Writes, rootOf, StepsIs, ShortestIs, Shows}
+use Rattle.checker_trace.proofs.StepLaws.{laid-none}
+
+-- the entry of the root, as the account tells it
+pub root-meaning : (x : ℕ) → least x ≡ meaningOf noName (ltb x statics)
+unfolding least
+root-meaning x = go (ltb x statics)
+  where
+    go : (b : Bool) → cond b 5 0 ≡ meaningOf noName b
+    go true = refl
+    go false = refl
+
+pub root-is : (x : ℕ) → rootOf x ≡ entryOf 0 false (meaningOf noName (ltb x statics)) 0 (aimAt (broken none))
+root-is x = ap (λ (m : ℕ). entryOf 0 false m 0 16) (root-meaning x)
+
+-- ── From the flat tables ──
+
+module _ (e t : List ℕ) (edges : EdgesOk (edgesOf e)) (ok : OutlineOk (nodesOf t)) (p : ℕ) (policy : p < 8) (rows : List ℕ) (filled : rows ≡ rowTable (rowsOf (edgesOf e)) p t) where
+  pub few-nodes : length t / 3 ≤ 64
+  few-nodes = let l = ok .few in let n = nodes-length t in omega arith
+
+  pub source-of : (x : ℕ) → x ≤ watched → Source (edgesOf e) (nodesOf t) p x rows
+  source-of x l =
+      let es = edgesOf e in
+      let made = rows-from (rowsOf es) p (formsIn t) (replicate 3072 0) refl (nodesOf t) (length t / 3) few-nodes (forms-of t) in
+      let right = rows-ok es (nodesOf t) p x (rowsIn (fillRows (rowsOf es) p (length t / 3) (formsIn t) (replicate 3072 0))) _ l edges (event-image es edges p policy) made in
+      subst (λ (r : List ℕ). Source es (nodesOf t) p x r) (sym (filled ∙ whole-in (rowsOf es) p t policy few-nodes)) (record { edges = edges; outline = ok; small = l; moves = right })
+
+module _ (local : Bool) (es : List Edge) (nodes : List ℕ) (p : ℕ) (rows : List ℕ) where
+  -- a run of m steps that breaks the policy is not shorter than the least length
+  pub steps-least : (x : ℕ) → Source es (nodesOf nodes) p x rows → (v : ℕ) → StepsIs (watchOf local p x) rows nodes v → (m : ℕ) → Root local es (nodesOf nodes) p x m none → m ≤ mostShown → v ≤ m
+  steps-least x src v (t, full, h) m d l =
+      let f = full-least local es nodes p x rows src t full in
+      let (i, k, g) = f .full (begun-root x) at-break d l in
+      let same : v ≡ i = h ∙ ap (held t allLengths) (root-is x) ∙ g .0 in
+      omega arith
+
+  -- the least length is one
+  pub steps-goes : (x : ℕ) → Source es (nodesOf nodes) p x rows → (v : ℕ) → StepsIs (watchOf local p x) rows nodes v → v ≤ mostShown → Root local es (nodesOf nodes) p x v none
+  steps-goes x src v (t, full, h) l =
+      let f = full-least local es nodes p x rows src t full in
+      f .lengths .sound (begun-root x) at-break (sym (h ∙ ap (held t allLengths) (root-is x)), l)
+
+  -- two full tables tell the same length
+  pub steps-one : (x : ℕ) → Source es (nodesOf nodes) p x rows → (v u : ℕ) → StepsIs (watchOf local p x) rows nodes v → StepsIs (watchOf local p x) rows nodes u → v ≤ mostShown → u ≡ v
+  steps-one x src v u hv hu l =
+      let a = steps-least x src u hu v (steps-goes x src v hv l) l in
+      let b = steps-least x src v hv u (steps-goes x src u hu (omega arith)) (omega arith) in
+      omega arith
+
+module _ (local : Bool) (es : List Edge) (nodes : List ℕ) (p : ℕ) (rows : List ℕ) (src : (x : ℕ) → x ≤ watched → Source es (nodesOf nodes) p x rows) (r : Shortest) (h : ShortestIs local p rows nodes r) where
+  none-shorter : (y m : ℕ) → y ≤ watched → Root local es (nodesOf nodes) p y m none → m ≤ mostShown → r .length ≤ m
+  none-shorter y m l d few = let (v, s, k) = h .least y l in let g = steps-least local es nodes p rows y (src y l) v s m d few in omega arith
+
+  pub shown-some : (x : ℕ) → x ≤ watched → (edges : EdgesOk es) (ok : OutlineOk (nodesOf nodes)) → r .length ≤ mostShown → (after : Past)
+      → Written local es (nodesOf nodes) p x (r .length) false 0 noNames noName (ltb x statics) 0 [] (broken none) after → Shown local es (nodesOf nodes) p (some after)
+  shown-some x small edges ok few after d =
+      written-shown local es (nodesOf nodes) (Scope (nodesOf nodes)) p edges (scoped (nodesOf nodes) ok) small d few (λ y m l g. go y m l g (decLe m mostShown))
+    where
+      go : (y m : ℕ) → y ≤ watched → Root local es (nodesOf nodes) p y m none → Dec (m ≤ mostShown) → r .length ≤ m
+      go y m l g (yes k) = none-shorter y m l g k
+      go y m l g (no k) = omega arith
+
+  pub shown-none : (edges : EdgesOk es) (ok : OutlineOk (nodesOf nodes)) → mostShown < r .length → Shown local es (nodesOf nodes) p none
+  shown-none edges ok big =
+      all-longer local es (nodesOf nodes) (Scope (nodesOf nodes)) p edges (scoped (nodesOf nodes) ok) (λ y m by little k. go y m little (hits-exact local es (nodesOf nodes) p y m none .0 (by, each, k)) (decLe m mostShown))
+    where
+      go : (y m : ℕ) → y ≤ watched → Root local es (nodesOf nodes) p y m none → Dec (m ≤ mostShown) → mostShown < m
+      go y m l d (yes k) = let g = none-shorter y m l d k in absurd (omega arith)
+      go y m l d (no k) = omega arith
+
+-- ── A number that is no policy ──
+
+module _ (local : Bool) (es : List Edge) (edges : EdgesOk es) (p : ℕ) (big : 8 ≤ p) where
+  unmoved : {a : ℕ} {sees : ℕ → ℕ → Type 0} {q q′ : ℕ} → Moves es p a sees q q′ → q ≡ q′
+  unmoved (along e m f) = let l = edges .each e m .policy in let g = f .policy in absurd (omega arith)
+  unmoved (stays n) = refl
+
+  stays-reset : (b : Bool) (q : ℕ) → 0 ≡ q → 0 ≡ cond b 0 q
+  stays-reset true q e = refl
+  stays-reset false q e = e
+
+  at-start : {x : ℕ} {past : Past} {q : ℕ} → May local es p (Sees x) past q → 0 ≡ q
+  at-start start = refl
+  at-start (moved m v) = at-start m ∙ unmoved v
+  at-start (opened {s = s} {past = past} {q = q} m) = stays-reset (local && (eqb s p && not (isOpen p past))) q (at-start m)
+  at-start (closed m) = at-start m
+
+  start-good : {q : ℕ} → 0 ≡ q → Offending q → ⊥
+  start-good e (inl f) = omega arith
+  start-good e (inr f) = omega arith
+
+  pub no-policy-shown : (nodes : List ℕ) → Shown local es (nodesOf nodes) p none
+  no-policy-shown nodes = longer (λ past t v. absurd (start-good (at-start (v .1 .2)) (v .1 .3)))
+
+-- ── The watched resources in turn ──
+
+module _ (local : Bool) (p : ℕ) (rows nodes : List ℕ) where
+  -- the least of those below x
+  pub record Least-below (x resource length : ℕ) : Type 0 where
+    pub told : length < noLength → (resource ≤ watched) × StepsIs (watchOf local p resource) rows nodes length
+    pub least : (y : ℕ) → y < x → (v : ℕ) × StepsIs (watchOf local p y) rows nodes v × (length ≤ v)
+
+  abbrev no-more : ℕ → ℕ → Type 0
+  no-more length y = (v : ℕ) × StepsIs (watchOf local p y) rows nodes v × (length ≤ v)
+
+  pub least-take : {x resource length : ℕ} → Least-below x resource length → x ≤ watched → (v : ℕ) → StepsIs (watchOf local p x) rows nodes v → v < length → Least-below (x + 1) x v
+  least-take {x} {resource} {length} h l v s k = record {
+    told = λ _. (l, s);
+    least = below-more (no-more v) x (λ y m. let (u, g, z) = h .least y m in (u, g, at-most z)) (v, s, le-refl v);
+  }
+    where
+      at-most : {u : ℕ} → length ≤ u → v ≤ u
+      at-most z = omega arith
+
+      le-refl : (v : ℕ) → v ≤ v
+      le-refl v = omega arith
+
+  pub least-keep : {x resource length : ℕ} → Least-below x resource length → (v : ℕ) → StepsIs (watchOf local p x) rows nodes v → length ≤ v → Least-below (x + 1) resource length
+  least-keep {x} {resource} {length} h v s k = record { told = h .told; least = below-more (no-more length) x (h .least) (v, s, k) }
+
+-- ── The root ──
+
+abbrev pub none-given : Names
+none-given = record { numbers = 0 ∷ 0 ∷ 0 ∷ 0 ∷ [] }
+
+abbrev pub at-first : Spot
+at-first = record { at = 0; next = 16 }
+
+none-some : {A : Type 0} {r : ℕ} → _≡_ {A = _} none (some r) → A
+none-some e = absurd (omega (arith, apart e))
+  where
+    apart : {r : ℕ} → _≡_ {A = _} none (some r) → _≡_ {A = ℕ} 0 1
+    apart e = cc
+
+first-spot : Spotted [] at-first
+unfolding count
+first-spot = record { at = refl; next = refl }
+
+pub root-shows : (w : Watch) (rows nodes t : List ℕ) (n : ℕ) (trace : List ℕ) (r : Spot) (trace′ : List ℕ) → Full w rows nodes t → n ≤ mostShown → 600 ≤ length trace
+    → Writes w rows nodes t (rootOf (w .resource)) n none-given at-first trace r trace′ → Shows w rows nodes n trace trace′
+root-shows w rows nodes t n trace r trace′ full few room d es src steps =
+    let x = w .resource in
+    let least-is = full-least (w .local) es nodes (w .policy) x rows src t full in
+    let same : held t allLengths (rootOf x) ≡ n = steps-one (w .local) es nodes (w .policy) rows x src n (held t allLengths (rootOf x)) steps (t, full, refl) few in
+    let (after, run, spot, laid-is) = d es noName (ltb x statics) (broken none) noNames trace [] (record { source = src; least = least-is })
+    (record { meaning = root-meaning x; number = refl; begun = begun-root x; aimed = at-break }) same
+    (λ m s. absurd (scoped (nodesOf nodes) (src .outline) .root s)) (λ m v e. none-some e) first-spot (laid-none trace) (omega arith) in
+    (after, run, laid-is)

@@ -1,0 +1,33 @@
+use Rattle.checker_trace.proofs.BitLaws as laws
+use native.Mathlib.Omega.{arith}
+use mathlib.Core.Path.{_≡_, refl, sym, ap, _∙_}
+use Prim.Native.Nat.{ℕ, suc, _+_, _-_, _≤_, _<_}
+use lib.ListN.{length, getD, take, drop, set}
+use borrow.Author.Needs.{needs}
+use Rattle.checker_trace.proofs.find.bit.Statement.{statement}
+use Rattle.checker_trace.proofs.find.bit.Tie as tie
+use Rattle.checker_trace.proofs.find.bit.Reads as reads
+use Rattle.checker_trace.proofs.find.bit.Lts as lts
+
+-- src/find.rt:49:26
+cast-result : tie.Need-cast-result
+cast-result c = search needs
+
+-- src/find.rt:49:26
+cast-result-2 : tie.Need-cast-result-2
+cast-result-2 c = search needs
+
+-- src/find.rt:49:17
+shl-result : tie.Need-shl-result
+shl-result c = search needs
+
+-- src/find.rt:46:1
+returns : tie.Need-returns
+returns c = laws.shl-bit (c .before .args .k) (c .if1 .taken)
+
+-- src/find.rt:46:1
+returns-2 : tie.Need-returns-2
+returns-2 c = sym (laws.no-bit (c .before .args .k) (c .if1 .left))
+
+pub bit-spec : {M : Type 1} → statement M
+bit-spec = tie.close (tie.spec cast-result cast-result-2 shl-result returns returns-2)

@@ -1,0 +1,29 @@
+use Rattle.checker_lengths.proofs.OfferLaws.{has-bit}
+use native.Mathlib.Omega.{arith}
+use mathlib.Core.Path.{_≡_, refl, sym, ap, _∙_}
+use Prim.Native.Nat.{ℕ, suc, _+_, _-_, _≤_, _<_}
+use lib.ListN.{length, getD, take, drop, set}
+use borrow.Author.Needs.{needs}
+use Rattle.checker_trace.proofs.find.has.Statement.{statement}
+use Rattle.checker_trace.proofs.find.has.Tie as tie
+use Rattle.checker_trace.proofs.find.has.Reads as reads
+use Rattle.checker_trace.proofs.find.has.Lts as lts
+
+-- src/find.rt:57:12
+cast-result : tie.Need-cast-result
+cast-result c = search needs
+
+-- src/find.rt:57:12
+cast-result-2 : tie.Need-cast-result-2
+cast-result-2 c = search needs
+
+-- src/find.rt:57:6
+shr-result : tie.Need-shr-result
+shr-result c = search needs
+
+-- src/find.rt:53:1
+returns : tie.Need-returns
+returns c = has-bit _ _
+
+pub has-spec : {M : Type 1} → statement M
+has-spec = tie.close (tie.spec cast-result cast-result-2 shr-result returns)

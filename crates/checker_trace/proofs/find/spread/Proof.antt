@@ -1,0 +1,89 @@
+use Rattle.usage.proofs.Logic.{not-true, not-false, by-cases, false-true}
+use Prim.Native.Nat.{_/_}
+use native.Mathlib.Numerals.{add-one}
+use mathlib.Core.Path.{ap₂}
+use mathlib.Core.Bool.{Bool}
+use lib.Bits.{bitOr}
+use Rattle.automaton.specs.Mask.{has}
+use Rattle.usage.specs.declared.Node.{Node}
+use Rattle.usage.specs.Outline.{formOf}
+use Rattle.checker_lengths.specs.Rounds.{formHere}
+use Rattle.checker_trace.specs.Code.{spreadTo, joinIf, leadsFrom}
+use native.Mathlib.Omega.{arith}
+use mathlib.Core.Path.{_≡_, refl, sym, ap, _∙_}
+use Prim.Native.Nat.{ℕ, suc, _+_, _-_, _≤_, _<_}
+use lib.ListN.{length, getD, take, drop, set}
+use borrow.Author.Needs.{needs}
+use Rattle.checker_trace.proofs.find.spread.Statement.{statement}
+use Rattle.checker_trace.proofs.find.spread.Tie as tie
+use Rattle.checker_trace.proofs.find.spread.Reads as reads
+use Rattle.checker_trace.proofs.find.spread.Lts as lts
+use Rattle.checker_lengths.proofs.nodes.node.Reads as node-reads
+use Rattle.checker_trace.proofs.find.has.Reads as has-reads
+use Rattle.checker_trace.proofs.find.leads.Reads as leads-reads
+
+abbrev Inv-loop : tie.InvT-loop
+Inv-loop t nodes e s n r₀ k₀ r k = (k ≤ n) × (r ≡ spreadTo t nodes e k s)
+
+abbrev μ-loop : tie.MeasureT-loop
+μ-loop t nodes e s n r₀ k₀ r k = n - k
+
+-- src/find.rt:97:5
+loop-holds : tie.Need-loop-holds Inv-loop μ-loop
+unfolding spreadTo
+loop-holds c = (search needs, refl)
+
+-- src/find.rt:98:12
+has-requires : tie.Need-has-requires Inv-loop μ-loop
+has-requires c κs = search needs
+
+-- src/find.rt:99:30
+node-requires : tie.Need-node-requires Inv-loop μ-loop
+node-requires c κs = search needs
+
+-- src/find.rt:99:18
+leads-requires : tie.Need-leads-requires Inv-loop μ-loop
+leads-requires c κs = search needs
+
+-- src/find.rt:101:9
+add-k : tie.Need-add-k Inv-loop μ-loop
+add-k c = search needs
+
+-- src/find.rt:97:5
+loop-less : tie.Need-loop-less Inv-loop μ-loop
+loop-less c = search needs
+
+-- src/find.rt:97:5
+loop-again : tie.Need-loop-again Inv-loop μ-loop
+unfolding spreadTo joinIf
+loop-again c =
+    let a = c .before .before .before .before .before .args in
+    let l = c .before .before .before .loop in
+    let k = c .before .before .loop-test .taken in
+    let u = spreadTo (a .t .now) (a .nodes .now) (a .e) (l .k) (a .s) in
+    let h : has u (l .k) ≡ c .before .has .result = sym (c .before .has .ensures ∙ ap (λ (v : ℕ). has v (l .k)) (l .inv .1)) in (
+      omega arith,
+      rw (add-one (l .k))
+          (by-cases (c .if1 .came)
+          (λ v. v .3 ∙ ap₂ bitOr (l .inv .1) (v .2 .ensures ∙ ap (λ (f : Node). leadsFrom (a .t .now) (a .e) (formOf f)) (v .1 .ensures)) ∙ sym (ap (λ (b : Bool). joinIf b u (leadsFrom (a .t .now) (a .e) (formHere (a .nodes .now) (l .k)))) (h ∙ v .0 .taken)))
+          (λ v. v .1 ∙ l .inv .1 ∙ sym (ap (λ (b : Bool). joinIf b u (leadsFrom (a .t .now) (a .e) (formHere (a .nodes .now) (l .k)))) (h ∙ v .0 .left)))),
+    )
+
+-- src/find.rt:90:1
+returns : tie.Need-returns Inv-loop μ-loop
+returns c = let l = c .before .loop in let e : l .k ≡ length (c .before .before .before .args .nodes .now) / 3 = omega arith in rw e at (l .inv .1)
+
+pub spread-spec : {M : Type 1} → statement M
+spread-spec =
+    tie.close
+    (tie.spec
+    Inv-loop
+    μ-loop
+    loop-holds
+    has-requires
+    node-requires
+    leads-requires
+    add-k
+    loop-less
+    loop-again
+    returns)

@@ -1,0 +1,23 @@
+use mathlib.Core.Bool.{false}
+use Rattle.checker_lengths.specs.Entries.{atBreak, entryOf}
+use native.Mathlib.Omega.{arith}
+use mathlib.Core.Path.{_≡_, refl, sym, ap, _∙_}
+use Prim.Native.Nat.{ℕ, suc, _+_, _-_, _≤_, _<_}
+use lib.ListN.{length, getD, take, drop, set}
+use borrow.Author.Needs.{needs}
+use Rattle.checker_trace.proofs.root.Statement.{statement}
+use Rattle.checker_trace.proofs.root.Tie as tie
+use Rattle.checker_trace.proofs.root.Reads as reads
+use Rattle.checker_trace.proofs.root.Lts as lts
+use Rattle.checker_tables.proofs.least.Reads as least-reads
+
+-- src/lib.rt:50:1
+least-requires : tie.Need-least-requires
+least-requires c κs = search needs
+
+-- src/lib.rt:50:1
+returns : tie.Need-returns
+returns c = ap (λ (m : ℕ). entryOf 0 false m 0 atBreak) (c .least .ensures)
+
+pub root-spec : {M : Type 1} → statement M
+root-spec = tie.close (tie.spec least-requires returns)

@@ -1,0 +1,31 @@
+use Rattle.checker_trace.specs.declared.Spot.{Spot}
+use Rattle.checker_trace.proofs.BitLaws.{spot}
+use native.Mathlib.Omega.{arith}
+use mathlib.Core.Path.{_≡_, refl, sym, ap, _∙_}
+use Prim.Native.Nat.{ℕ, suc, _+_, _-_, _≤_, _<_}
+use lib.ListN.{length, getD, take, drop, set}
+use borrow.Author.Needs.{needs}
+use Rattle.checker_trace.proofs.write.create.Statement.{statement}
+use Rattle.checker_trace.proofs.write.create.Tie as tie
+use Rattle.checker_trace.proofs.write.create.Reads as reads
+use Rattle.checker_trace.proofs.write.create.Lts as lts
+use Rattle.checker_trace.proofs.write.step.Reads as step-reads
+
+-- src/write.rt:63:9
+step-requires : tie.Need-step-requires
+step-requires c κs = search needs
+
+-- src/write.rt:66:15
+add-t6 : tie.Need-add-t6
+add-t6 c = search needs
+
+-- src/write.rt:57:1
+same-length : tie.Need-same-length
+same-length c = search needs
+
+-- src/write.rt:57:1
+returns : tie.Need-returns
+returns c = (c .before .before .before .step .ensures .0, ap (λ (r : Spot). spot (r .at) (c .before .before .before .before .before .before .args .s .next + 1)) (c .before .before .before .step .ensures .1))
+
+pub create-spec : {M : Type 1} → statement M
+create-spec = tie.close (tie.spec step-requires add-t6 same-length returns)

@@ -1,0 +1,166 @@
+// A shortest trace that leaves a policy open and not respected, a counterexample to the outline, read from tables of least lengths.
+// find: where to go on from an entry. write: the steps.
+ghost use mathlib.Core.Path.{_≡_};
+ghost use mathlib.Core.Bool.{Bool};
+ghost use Prim.Native.Nat.{ℕ, _/_, _<_, _≤_};
+ghost use lib.ListN.{length};
+ghost use Rattle.usage.specs.Limits.{mostNodes, nodeFields, mostShown};
+ghost use Rattle.checker_trace.specs.Answer.{mostNumbers, Told};
+ghost use Rattle.checker_trace.specs.Code.{rootOf, StepsIs, ShortestIs, Shows};
+use checker_account::NAMES;
+use checker_account::PLACES;
+use checker_account::Table;
+use checker_account::WATCHED;
+use checker_lengths::ALL;
+use checker_lengths::BROKEN;
+use checker_lengths::Entry;
+use checker_lengths::MOST;
+use checker_lengths::NONE;
+use checker_lengths::SIZE;
+use checker_lengths::Watch;
+use usage::POLICIES;
+use usage::STATICS;
+use usage::STEP_FIELDS;
+
+mod find;
+mod write;
+
+// The room of the lent table: that of 200 steps, the most that are shown.
+pub const MOST_NUMBERS: usize = MOST as usize * STEP_FIELDS;
+
+// The answer: a trace of this many steps was written; every such trace is longer than 200 steps, also where there is none; or a
+// refusal with its number.
+pub enum Length {
+    Of(u8),
+    Longer,
+    Refused(u8),
+}
+
+// The watched resource with the least length, and that length; 255 where there is none.
+pub struct Shortest {
+    pub resource: usize,
+    pub length: u8,
+}
+
+// Where to go on: by a rule of a node, or nowhere.
+pub enum Onto {
+    By { node: usize, rule: usize },
+    Nothing,
+}
+
+// How many steps are written, and the number of the next fresh resource.
+pub struct Spot {
+    pub at: usize,
+    pub next: u32,
+}
+
+// The number of the resource that each name means; 0 where none is given.
+pub struct Names {
+    pub numbers: [u32; NAMES],
+}
+
+// The entry of the whole outline: to break the policy.
+fn root(x: usize) -> Entry
+    ensures { λ r. ⌜ r ≡ rootOf x ⌝ }
+{
+    Entry {
+        node: 0,
+        opened: false,
+        meaning: checker_tables::least(x),
+        state: 0,
+        aim: BROKEN,
+    }
+}
+
+// The least length with one resource watched.
+fn steps(nodes: &[u8], rows: &Table, w: Watch) -> u8
+    requires { ⌜ length (now nodes) / nodeFields ≤ mostNodes ⌝ }
+    ensures { λ r. ⌜ StepsIs w (now (rows .entry)) (now (nodes .entry)) r ⌝ }
+{
+    let mut t = [NONE; SIZE];
+    checker_lengths::fill::fill(nodes, rows, w, &mut t);
+    checker_lengths::entries::get(&t, ALL, root(w.resource))
+}
+
+// The least of all watched resources.
+fn least(nodes: &[u8], rows: &Table, local: bool, p: usize) -> Shortest
+    requires { ⌜ length (now nodes) / nodeFields ≤ mostNodes ⌝ }
+    ensures { λ r. ⌜ ShortestIs local p (now (rows .entry)) (now (nodes .entry)) r ⌝ }
+{
+    let mut resource: usize = 0;
+    let mut length: u8 = NONE;
+    let mut x: usize = 0;
+    while x <= WATCHED {
+        let w = Watch {
+            local,
+            policy: p,
+            resource: x,
+        };
+        let v = steps(nodes, rows, w);
+        if v < length {
+            resource = x;
+            length = v;
+        }
+        x += 1;
+    }
+    Shortest { resource, length }
+}
+
+// The trace of n steps.
+fn show(nodes: &[u8], rows: &Table, w: Watch, n: u8, trace: &mut [u32])
+    requires { ⌜ length (now nodes) / nodeFields ≤ mostNodes ⌝ }
+    requires { ⌜ n ≤ mostShown ⌝ }
+    requires { ⌜ mostNumbers ≤ length (now trace) ⌝ }
+    ensures { λ r. ⌜ length (now (trace .exit)) ≡ length (now (trace .entry)) ⌝ }
+    ensures { λ r. ⌜ Shows w (now (rows .entry)) (now (nodes .entry)) n (now (trace .entry)) (now (trace .exit)) ⌝ }
+{
+    let mut t = [NONE; SIZE];
+    checker_lengths::fill::fill(nodes, rows, w, &mut t);
+    let none = Names {
+        numbers: [0u32; NAMES],
+    };
+    let start = Spot {
+        at: 0,
+        next: STATICS,
+    };
+    write::write(&t, nodes, rows, w, trace, root(w.resource), n, none, start);
+}
+
+// A shortest trace of the outline that leaves policy p open and not respected, written into the lent table, three numbers to a step;
+// `local` is the choice of past. 40 and 41 as in document 01.
+pub fn counterexample(
+    edges: &[u8],
+    nodes: &[u8],
+    local: bool,
+    p: usize,
+    trace: &mut [u32],
+) -> Length
+    ensures { λ r. ⌜ Told (now (edges .entry)) (now (nodes .entry)) local p (now (trace .entry)) r (now (trace .exit)) ⌝ }
+{
+    if trace.len() < MOST_NUMBERS {
+        return Length::Refused(40);
+    }
+    if !sheet_fields::edges::edge_table_ok(edges) {
+        return Length::Refused(41);
+    }
+    if !sheet_rules::node_table_ok(nodes) {
+        return Length::Refused(41);
+    }
+    if POLICIES <= p {
+        return Length::Longer;
+    }
+    let mut rows = [0u16; PLACES];
+    checker_tables::rows::fill(edges, nodes, p, &mut rows);
+    let found = least(nodes, &rows, local, p);
+    let n = found.length;
+    if MOST < n {
+        return Length::Longer;
+    }
+    let w = Watch {
+        local,
+        policy: p,
+        resource: found.resource,
+    };
+    show(nodes, &rows, w, n, trace);
+    Length::Of(n)
+}

@@ -1,0 +1,117 @@
+//! The counterexample of an outline: its length is the reference program's, and what was written is held to the definition of a run and
+//! to the proved judge. Which of several shortest traces is written is left free.
+
+use reference::counterexample::{counterexample, fault, Counterexample, TABLE_NUMBERS};
+use reference::generate::Case;
+use reference::judge::{Answer, Judge, Step, CREATE, EVENT, MOST_CREATED};
+use reference::outline::Node;
+use reference::policy::Edge;
+use reference::program::tables;
+
+/// What a table holds before the call; no step has such numbers.
+const MARK: u32 = 1_000_000;
+
+#[derive(Default)]
+pub struct Tally {
+    outlines: usize,
+    shown: usize,
+    longer: usize,
+    halted_before: usize,
+    beyond_limits: usize,
+}
+
+impl Tally {
+    /// One case; sheets that are refused give no tables to call with.
+    pub fn compare(&mut self, case: &Case) -> Result<(), String> {
+        let Ok((edges, nodes)) = tables(&case.policies, &case.other) else {
+            return Ok(());
+        };
+        self.compare_tables(&edges, &nodes).map_err(|why| {
+            let [policies, outline] = [&case.policies, &case.other].map(|sheet| String::from_utf8_lossy(sheet));
+            format!("counterexample: {why}\n-- policies\n{policies}-- outline\n{outline}")
+        })
+    }
+
+    fn compare_tables(&mut self, edges: &[Edge], nodes: &[Node]) -> Result<(), String> {
+        let (flat, flat_nodes) = (harness::flat(edges).unwrap(), harness::flat_nodes(nodes).unwrap());
+        let due = counterexample(edges, nodes);
+        self.outlines += 1;
+        // one number too few: nothing is done; more than is needed: the same
+        let (told, table) = harness::explained(&flat, &flat_nodes, TABLE_NUMBERS - 1, MARK);
+        if told != (2, 40, 0) {
+            return Err(format!("a table of {} numbers is answered with {told:?}", table.len()));
+        }
+        untouched(&table, 0)?;
+        for numbers in [TABLE_NUMBERS + 7, TABLE_NUMBERS] {
+            let (told, table) = harness::explained(&flat, &flat_nodes, numbers, MARK);
+            if told != due.numbers() {
+                return Err(format!("expected {:?}, found {told:?}", due.numbers()));
+            }
+            untouched(&table, told.2)?;
+            if let Counterexample::Shown { policy, .. } = due {
+                let followed = written(edges, nodes, policy, &steps_of(&table[..3 * told.2]))?;
+                if numbers == TABLE_NUMBERS {
+                    self.shown += 1;
+                    self.halted_before += usize::from(followed == Followed::HaltedBefore);
+                    self.beyond_limits += usize::from(followed == Followed::BeyondLimits);
+                }
+            }
+        }
+        self.longer += usize::from(matches!(due, Counterexample::Longer { .. }));
+        Ok(())
+    }
+
+    pub fn told(&self) -> String {
+        let Tally { outlines, shown, longer, halted_before, beyond_limits } = self;
+        format!(
+            "counterexamples of {outlines} outlines: {shown} shown, {longer} longer, each with two tables; the judge halts before the end in {halted_before}, {beyond_limits} are beyond its limits"
+        )
+    }
+}
+
+/// How far the judge follows a counterexample.
+#[derive(PartialEq, Eq)]
+enum Followed {
+    ToTheEnd,
+    HaltedBefore,
+    BeyondLimits,
+}
+
+/// The steps that were written are a counterexample, and the proved judge halts at the last of them, or before for another policy.
+fn written(edges: &[Edge], nodes: &[Node], policy: usize, steps: &[Step]) -> Result<Followed, String> {
+    let show = || steps.iter().map(|step| format!("{:?}", step.row())).collect::<Vec<_>>().join(" ");
+    if let Some(why) = fault(edges, nodes, policy, steps) {
+        return Err(format!("what was written is no counterexample for policy {policy}: {why:?}: {}", show()));
+    }
+    let creates = steps.iter().filter(|step| step.kind == EVENT && step.a == CREATE).count();
+    if creates > MOST_CREATED {
+        return Ok(Followed::BeyondLimits);
+    }
+    let answers = harness::judged(&harness::flat(edges).unwrap(), steps);
+    let mut judge = Judge::new(edges);
+    let due: Vec<Answer> = steps.iter().map(|step| judge.judge(*step)).collect();
+    let stop = answers.iter().position(|answer| *answer != Answer::Allowed);
+    let followed = match stop.map(|stop| (answers[stop], stop + 1 == steps.len())) {
+        Some((Answer::Violated(named), true)) if named == policy => Some(Followed::ToTheEnd),
+        // the policy named is the lowest that any trace breaks
+        Some((Answer::Violated(named), false)) if named > policy => Some(Followed::HaltedBefore),
+        _ => None,
+    };
+    followed
+        .filter(|_| answers == due)
+        .ok_or_else(|| format!("the judge answers {answers:?}, for policy {policy}: {}", show()))
+}
+
+/// The numbers after so many steps are as they were.
+fn untouched(table: &[u32], steps: usize) -> Result<(), String> {
+    let kept = |place: usize| table[place] == MARK + place as u32;
+    match (3 * steps..table.len()).find(|place| !kept(*place)) {
+        None => Ok(()),
+        Some(place) => Err(format!("{steps} steps are told, but number {place} of the table was written")),
+    }
+}
+
+fn steps_of(numbers: &[u32]) -> Vec<Step> {
+    let step = |row: &[u32]| Step { kind: row[0].into(), a: row[1].into(), b: row[2].into() };
+    numbers.chunks(3).map(step).collect()
+}
