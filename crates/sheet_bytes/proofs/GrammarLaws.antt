@@ -21,7 +21,7 @@ at us n v = record { values = us; digits = n; value = v }
 
 -- ── What the grammar has is read ──
 
-read-append : (o : Option Progress) (xs bs : List ℕ) → read o (xs ++ bs) ≡ read (read o xs) bs
+pub read-append : (o : Option Progress) (xs bs : List ℕ) → read o (xs ++ bs) ≡ read (read o xs) bs
 unfolding read
 read-append o [] bs = refl
 read-append o (x ∷ xs) bs = read-append (byte o x) xs bs

@@ -1,5 +1,5 @@
 -- What only the functions compute: one more byte of a line of n fields.
-use Prim.Native.Nat.{ℕ, _+_, _-_, _*_, _^_}
+use Prim.Native.Nat.{ℕ, _+_, _-_, _*_, _%_, _^_}
 use mathlib.Core.Bool.{Bool, cond, not, _&&_}
 use lib.Dec.{eqb, ltb}
 use Rattle.usage.specs.Limits.{mostDigits}
@@ -12,26 +12,53 @@ use Rattle.sheet_bytes.specs.Class.{classOf}
 abbrev pub valueLimit : ℕ
 valueLimit = 10 ^ mostDigits
 
-abbrev pub digitStep : Part → ℕ → Next
+-- and so below this
+abbrev pub valueRoom : ℕ
+valueRoom = 4294967296
+
+-- ── The gravest fault of a line so far ──
+
+-- none is 0, and of two the greater is told: the reverse of "11, 12, 2"
+abbrev pub ofForm : ℕ
+ofForm = 1
+
+abbrev pub ofLength : ℕ
+ofLength = 2
+
+abbrev pub ofByte : ℕ
+ofByte = 3
+
+abbrev pub faultNumber : ℕ → ℕ
+faultNumber f = cond (eqb f ofForm) 2 (cond (eqb f ofByte) 11 12)
+
+abbrev pub withFault : Part → ℕ → Part
+withFault p f =
+    cond (ltb (p .fault) f) record { count = p .count; digits = p .digits; value = p .value; fault = f } p
+
+-- ── One more byte ──
+
+abbrev pub digitStep : Part → ℕ → Part
 digitStep p b = cond (ltb (p .digits) mostDigits)
-    (cond (ltb (p .value) valueLimit)
-    (Goes record { count = p .count; digits = p .digits + 1; value = p .value * 10 + (b - 48) }) Malformed)
-    Malformed
+    record { count = p .count; digits = p .digits + 1; value = p .value % valueRoom * 10 + (b - 48); fault = p .fault }
+    (withFault p ofLength)
 
 -- a space after the last value of a line of n fields ends the line or parts it from a value too many
-abbrev pub spaceStep : ℕ → Part → Next
+abbrev pub spaceStep : ℕ → Part → Part
 spaceStep n p = cond (eqb (p .digits) 0)
-    (cond (eqb (p .count) 0) Malformed (Goes p))
-    (cond (ltb (p .count + 1) n) (Goes record { count = p .count + 1; digits = 0; value = 0 }) Malformed)
+    (cond (eqb (p .count) 0) (withFault p ofForm) p)
+    (cond (ltb (p .count + 1) n) record { count = p .count + 1; digits = 0; value = 0; fault = p .fault }
+    (withFault record { count = p .count; digits = 0; value = 0; fault = p .fault } ofForm))
 
 -- at the line feed the last of n values must have been read
 abbrev pub isComplete : ℕ → Part → Bool
 isComplete n p = not (eqb (p .digits) 0) && eqb (p .count + 1) n
 
 abbrev pub endStep : ℕ → Part → Next
-endStep n p = cond (isComplete n p) Ends Malformed
+endStep n p = cond (eqb (p .fault) 0) (cond (isComplete n p) Ends (Malformed 2)) (Malformed (faultNumber (p .fault)))
+
+-- of a byte other than a line feed
+abbrev pub partStep : ℕ → Part → ℕ → Part
+partStep n p b = cond (eqb (classOf b) 0) (digitStep p b) (cond (eqb (classOf b) 1) (spaceStep n p) (withFault p ofByte))
 
 unfoldable pub byteStep : ℕ → Part → ℕ → Next
-byteStep n p b =
-    cond (eqb (classOf b) 0) (digitStep p b)
-    (cond (eqb (classOf b) 1) (spaceStep n p) (cond (eqb (classOf b) 2) (endStep n p) Malformed))
+byteStep n p b = cond (eqb (classOf b) 2) (endStep n p) (Goes (partStep n p b))

@@ -3,5 +3,7 @@ pub mod Class
 pub mod Line
 -- The same lines as rules.
 pub mod Grammar
+-- What is wrong with the others.
+pub mod Fault
 -- What only the functions compute.
 pub mod Code

@@ -75,6 +75,6 @@ abbrev pub counted : ℕ → Option (List ℕ) → Option (List ℕ)
 counted n none = none
 counted n (some vs) = cond (eqb (length vs) n) (some vs) none
 
--- "2 a line malformed, or the last line feed missing": the values of a line of n fields, and none of a malformed line
+-- the values of a line of n fields; none of a malformed line (Fault.antt tells malformed lines apart)
 unfoldable pub valuesOf : ℕ → Line → Option (List ℕ)
 valuesOf n l = cond (l .ended) (counted n (complete (read (some nothing) (l .bytes)))) none

@@ -2,16 +2,16 @@
 use Prim.Native.Nat.{ℕ, zero, suc, _+_, _*_, _≤_}
 use mathlib.Core.Path.{_≡_, refl, sym, ap, _∙_}
 use mathlib.Core.Bool.{Bool, true, false, cond}
-use mathlib.Core.Option.{Option, none, some}
 use mathlib.Core.List.{List, [], _∷_, flatten}
 use native.Mathlib.Omega.{arith}
 use native.Mathlib.Nat.{suc-mul, zero-add}
 use lib.Dec.{eqb, ltb}
 use lib.ListN.{length, drop, length-append}
-use borrow.Author.Tests.{eqb-true}
 use Rattle.usage.specs.Limits.{longestSheet}
 use Rattle.usage.proofs.Logic.{clash, and-right, false-true}
-use Rattle.sheet_bytes.specs.Line.{Line, linesOf, nothing, read, complete, counted, valuesOf}
+use Rattle.sheet_bytes.specs.Line.{Line, linesOf}
+use Rattle.sheet_bytes.specs.Fault.{LineRead, has-values, has-fault, readLine}
+use Rattle.sheet_bytes.proofs.FaultLaws.{decides-values}
 use Rattle.sheet_lines.specs.Sheet.{Sheet, Result, accepted, refused, refuseAt, followed, entry, valueLines, startsWith, sheet}
 use Rattle.sheet_lines.specs.Code.{held, refusing, heldOnto}
 
@@ -23,22 +23,6 @@ pub record Accepted (s : Sheet) (rows : List (List ℕ)) : Type 0 where
   pub each : Rows s rows
   pub few : length rows ≤ s .most
 
-counted-length : (n : ℕ) (o : Option (List ℕ)) (vs : List ℕ) → counted n o ≡ some vs → length vs ≡ n
-counted-length n none vs e = clash (cc)
-counted-length n (some us) vs e = go (eqb (length us) n) refl e
-  where
-    go : (x : Bool) → eqb (length us) n ≡ x → cond x (some us) none ≡ some vs → length vs ≡ n
-    go true q e = let same : us ≡ vs = cc in ap length (sym same) ∙ eqb-true (length us) n q
-    go false q e = clash (cc)
-
-values-length : (n : ℕ) (l : Line) (vs : List ℕ) → valuesOf n l ≡ some vs → length vs ≡ n
-unfolding valuesOf
-values-length n l vs e = go (l .ended) e
-  where
-    go : (x : Bool) → cond x (counted n (complete (read (some nothing) (l .bytes)))) none ≡ some vs → length vs ≡ n
-    go true e = counted-length n (complete (read (some nothing) (l .bytes))) vs e
-    go false e = clash (cc)
-
 module _ (s : Sheet) where
   pub lines-rows : (line left : ℕ) (ls : List Line) (rows : List (List ℕ)) → valueLines s line left ls ≡ accepted rows
       → Rows s rows × (length rows ≤ left)
@@ -46,7 +30,8 @@ module _ (s : Sheet) where
   lines-rows line left [] rows e = let z : [] ≡ rows = cc in rw (← z) (no-row, omega arith)
   lines-rows line zero (l ∷ ls) rows e = clash (cc)
   lines-rows line (suc left) (l ∷ ls) rows e =
-      go (valuesOf (s .fields) l) (valueLines s (suc line) left ls) (values-length (s .fields) l) (lines-rows (suc line) left ls) e
+      go (readLine (s .fields) l) (valueLines s (suc line) left ls) (λ vs q. decides-values (s .fields) l vs .0 q .all-fields)
+      (lines-rows (suc line) left ls) e
     where
       after : (vs : List ℕ) (r : Result) → length vs ≡ s .fields → s .in-range vs ≡ true
           → ((rs : List (List ℕ)) → r ≡ accepted rs → Rows s rs × (length rs ≤ left))
@@ -58,11 +43,11 @@ module _ (s : Sheet) where
           rw (← z) (row k m (h .0), omega arith)
       after vs (refused r) k m ih e = clash (cc)
 
-      go : (o : Option (List ℕ)) (r : Result) → ((vs : List ℕ) → o ≡ some vs → length vs ≡ s .fields)
+      go : (o : LineRead) (r : Result) → ((vs : List ℕ) → o ≡ has-values vs → length vs ≡ s .fields)
           → ((rs : List (List ℕ)) → r ≡ accepted rs → Rows s rs × (length rs ≤ left)) → entry s line o r ≡ accepted rows → Rows s rows
           × (length rows ≤ suc left)
-      go none r k ih e = clash (cc)
-      go (some vs) r k ih e = ranged (s .in-range vs) refl e
+      go (has-fault number) r k ih e = clash (cc)
+      go (has-values vs) r k ih e = ranged (s .in-range vs) refl e
         where
           ranged : (x : Bool) → s .in-range vs ≡ x → cond x (followed vs r) (refuseAt line 3) ≡ accepted rows
               → Rows s rows × (length rows ≤ suc left)

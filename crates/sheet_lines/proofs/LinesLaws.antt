@@ -2,8 +2,7 @@
 -- code makes of it.
 use Prim.Native.Nat.{ℕ, suc, _+_, _-_, _*_, _<_, _≤_}
 use mathlib.Core.Path.{_≡_, refl, sym, ap, _∙_}
-use mathlib.Core.Bool.{Bool, true, false, cond, not, _&&_}
-use mathlib.Core.Option.{none, some}
+use mathlib.Core.Bool.{Bool, true, false}
 use mathlib.Core.List.{List, [], _∷_, _++_, flatten, append-nil, append-assoc}
 use native.Mathlib.Omega.{arith}
 use native.Mathlib.Nat.{add-zero, add-suc, suc-add, suc-mul, zero-mul, sub-zero}
@@ -11,9 +10,9 @@ use native.Mathlib.Numerals.{add-one}
 use lib.Dec.{eqb}
 use lib.ListN.{length, take, drop, set, getD, length-append, length-take, length-drop, length-set, drop-of-length-le}
 use lib.Seq.{take-set-le, drop-set-add, drop-set-lt, drop-drop, take-suc-set, take-take, take-add}
-use borrow.Author.Tests.{eq-eqb, eqb-true, eqb-false}
+use borrow.Author.Tests.{eq-eqb}
 use Rattle.usage.specs.Limits.{mostSteps}
-use Rattle.usage.proofs.Logic.{and-right}
+use Rattle.usage.proofs.Logic.{clash}
 use Rattle.sheet_bytes.specs.declared.Part.{Part}
 use Rattle.sheet_bytes.specs.declared.Next.{Next}
 use Rattle.sheet_bytes.specs.declared.Next.the-variants.{Goes, Ends, Malformed}
@@ -21,14 +20,17 @@ use Rattle.sheet_fields.specs.declared.Kind.{Kind}
 use Rattle.sheet_fields.specs.declared.Kind.the-variants.{Policies, Trace, Outline}
 use Rattle.sheet_fields.specs.Fields.{lineFits}
 use Rattle.sheet_bytes.specs.Class.{classOf}
-use Rattle.sheet_bytes.specs.Line.{Line, linesOf, cut, byte, complete, counted}
+use Rattle.sheet_bytes.specs.Line.{Line, linesOf, cut, read}
+use Rattle.sheet_bytes.specs.Fault.{hasOther, hasOverlong, LineRead, has-values, has-fault}
+use Rattle.sheet_bytes.proofs.MoreLaws.{last-run}
 use Rattle.sheet_lines.specs.Answer.{mostValues}
 use Rattle.sheet_lines.specs.Sheet.{Sheet, Result, accepted, refused, refuseAt, followed, entry, valueLines}
-use Rattle.sheet_bytes.specs.Code.{isComplete, byteStep}
+use Rattle.sheet_bytes.specs.Code.{endStep, byteStep}
 use Rattle.sheet_lines.specs.Sheets.{sheetOf}
 use Rattle.sheet_lines.specs.Code.{emptyPart, answerAfter, Held, held, refusing, heldBy, restAfter, heldOnto}
-use Rattle.sheet_lines.proofs.ScanLaws.{in-line, starts, cut-off, ends, more, full}
-use Rattle.sheet_lines.proofs.StepLaws.{at, Sound, Stepped, stepped, goes-on, ends-at, not-complete}
+use Rattle.sheet_lines.proofs.ScanLaws.{in-line, starts, cut-off, ends, more}
+use Rattle.sheet_lines.proofs.StepLaws.{Sound, Said, all-well, moved, says, read-end, said-end, ends-well, ends-malformed}
+use Rattle.sheet_lines.proofs.StepLaws.{goes-on, at-feed}
 
 -- the values of every line that is allowed have a place in the buffer
 pub places : (k : Kind) (n : ℕ) → n < (sheetOf k) .most → n * (sheetOf k) .fields + (sheetOf k) .fields ≤ mostValues
@@ -57,21 +59,23 @@ pub record At-line (s : Sheet) (text : List ℕ) (from : ℕ) (lent buffer : Lis
   pub size : length buffer ≡ mostValues
   pub begun : i ≤ length text
   pub rest : drop (n * s .fields) buffer ≡ drop (n * s .fields) lent
-  pub same : heldOnto n (take (n * s .fields) buffer) (valueLines s (n + 2) (s .most - n) (linesOf (drop i text))) ≡ whole s (drop from text)
+  pub same : heldOnto n (take (n * s .fields) buffer) (valueLines s (n + 2) (s .most - n) (linesOf (drop i text))) ≡ whole s
+      (drop from text)
 
 -- the values before in line n
 abbrev pub before : Sheet → List ℕ → ℕ → Part → List ℕ
 before s buffer n p = take (p .count) (drop (n * s .fields) buffer)
 
--- Within value line n, at i in the text; `first` is the buffer at the start of the line.
+-- Within value line n, at i in the text, after the bytes `done` of the line; `first` is the buffer at the start of the line.
 pub record In-line (s : Sheet) (text : List ℕ) (from : ℕ) (first buffer : List ℕ) (i n : ℕ) (p : Part) : Type 0 where
   pub room : n < s .most
   pub size : length buffer ≡ mostValues
   pub begun : i ≤ length text
   pub sound : Sound (s .fields) p
   pub rest : drop (n * s .fields + p .count + 1) buffer ≡ drop (n * s .fields + p .count + 1) first
-  pub same : heldOnto n (take (n * s .fields) buffer) (in-line s (n + 2) (s .most - (n + 1)) (some (at (before s buffer n p) p)) (drop i text))
-      ≡ whole s (drop from text)
+  pub done : List ℕ
+  pub said : Said (s .fields) done (before s buffer n p) p
+  pub same : heldOnto n (take (n * s .fields) buffer) (in-line s (n + 2) (s .most - (n + 1)) done (drop i text)) ≡ whole s (drop from text)
 
 pub begin : (s : Sheet) (text : List ℕ) (from : ℕ) (buffer : List ℕ) → length buffer ≡ mostValues → from ≤ length text
     → At-line s text from buffer buffer from 0
@@ -104,12 +108,15 @@ module _ (s : Sheet) (text : List ℕ) (from : ℕ) (lent buffer : List ℕ) (i 
       (sym (ap (λ m. valueLines s (n + 2) m (linesOf (drop i text))) z ∙ first-line s (n + 2) (drop i text) l)) ∙ inv .same
 
   pub enter : 0 < s .fields → i < length text → n < s .most → In-line s text from buffer buffer i n emptyPart
+  unfolding hasOther hasOverlong last-run read
   enter f h r = record {
     room = r;
     size = inv .size;
     begun = inv .begun;
     sound = record { few = f; small = omega arith; short = omega arith };
     rest = refl;
+    done = [];
+    said = all-well refl record { no-other = refl; no-overlong = refl; run = refl } refl;
     same = ap (heldOnto n (take (n * s .fields) buffer))
         (sym (ap (λ m. valueLines s (n + 2) m (linesOf (drop i text))) left ∙ starts s (n + 2) (s .most - (n + 1)) text i h)) ∙ inv .same;
   }
@@ -128,19 +135,6 @@ pub fits-in-range : (k : Kind) (vs : List ℕ) → length vs ≡ (sheetOf k) .fi
 fits-in-range Policies vs h = simp (eq-eqb _ _ h)
 fits-in-range Trace vs h = simp (eq-eqb _ _ h)
 fits-in-range Outline vs h = simp (eq-eqb _ _ h)
-
--- the values at the line feed
-completes : (f : ℕ) (vs : List ℕ) (p : Part) → length vs ≡ p .count
-    → counted f (complete (some (at vs p))) ≡ cond (isComplete f p) (some (vs ++ (p .value ∷ []))) none
-completes f vs p len = go (eqb (p .digits) 0)
-  where
-    longer : length (vs ++ (p .value ∷ [])) ≡ p .count + 1
-    longer = omega (arith, length-append vs (p .value ∷ []))
-
-    go : (z : Bool) → counted f (cond z none (some (vs ++ (p .value ∷ [])))) ≡ cond (not z && eqb (p .count + 1) f)
-        (some (vs ++ (p .value ∷ []))) none
-    go true = refl
-    go false = rw longer refl
 
 -- one more line before the rest
 onto-more : (n : ℕ) (done vs : List ℕ) (r : Result) → heldOnto n done (followed vs r) ≡ heldOnto (n + 1) (done ++ vs) r
@@ -174,78 +168,61 @@ module _ (s : Sheet) (text : List ℕ) (from : ℕ) (first buffer : List ℕ) (i
   rest-same : drop (n * s .fields + p .count + 1) written ≡ drop (n * s .fields + p .count + 1) first
   rest-same = drop-set-lt (n * s .fields + p .count + 1) buffer (n * s .fields + p .count) (p .value) (omega arith) ∙ inv .rest
 
-  -- "2 .. the last line feed missing"
-  pub unended : length text ≤ i → refusing (n + 2) 2 ≡ whole s (drop from text)
-  unended h =
-      sym (ap (heldOnto n (take (n * s .fields) buffer)) (cut-off s (n + 2) (s .most - (n + 1)) text i (some (at (before s buffer n p) p)) h))
-      ∙ inv .same
+  -- "13 last line feed missing"
+  pub unended : length text ≤ i → refusing (n + 2) 13 ≡ whole s (drop from text)
+  unended h = sym (ap (heldOnto n (take (n * s .fields) buffer)) (cut-off s (n + 2) (s .most - (n + 1)) text i (inv .done) h)) ∙ inv .same
 
   module _ (h : i < length text) where
     -- a byte other than a line feed
-    module _ (e : classOf (getD text i 0) ≡ 2 → ⊥) where
-      onward : heldOnto n (take (n * s .fields) buffer)
-          (in-line s (n + 2) (s .most - (n + 1)) (byte (some (at (before s buffer n p) p)) (getD text i 0)) (drop (i + 1) text)) ≡ whole s
-          (drop from text)
-      onward =
-          ap (heldOnto n (take (n * s .fields) buffer))
-          (sym (more s (n + 2) (s .most - (n + 1)) text i (some (at (before s buffer n p) p)) h e)) ∙ inv .same
-
-      took : (next : Next) → byteStep (s .fields) p (getD text i 0) ≡ next
-          → Stepped (s .fields) (before s buffer n p) p (byte (some (at (before s buffer n p) p)) (getD text i 0)) next
-      took next q = rw (← q) (stepped (s .fields) (before s buffer n p) p (getD text i 0) len (inv .sound))
-
-      stops : byteStep (s .fields) p (getD text i 0) ≡ Malformed → refusing (n + 2) 2 ≡ whole s (drop from text)
-      stops q =
-          sym (ap (heldOnto n (take (n * s .fields) buffer))
-          (full s (n + 2) (s .most - (n + 1)) (drop (i + 1) text) (byte (some (at (before s buffer n p) p)) (getD text i 0))
-          (took Malformed q))) ∙ onward
-
     pub goes : (q : Part) → byteStep (s .fields) p (getD text i 0) ≡ Goes q → In-line s text from first written (i + 1) n q
     goes q g =
-        let e = goes-on (s .fields) p (getD text i 0) q g in
-        let t = took e (Goes q) g in
-        let k : take (q .count) (before s buffer n p ++ (p .value ∷ [])) ≡ before s written n q = ap (take (q .count)) (sym cells)
-        ∙ take-take (q .count) (p .count + 1) (drop (n * s .fields) written) (t .1 .1 .0) in
-        record {
-          room = inv .room;
-          size = length-set buffer (n * s .fields + p .count) (p .value) ∙ inv .size;
-          begun = omega arith;
-          sound = t .1 .0;
-          rest = drop-later (n * s .fields + p .count + 1) (n * s .fields + q .count + 1) written first
-              (omega (arith, t .1 .1 .1)) rest-same;
-          same = rw (done-same, ← k, ← (t .0)) (onward e);
-        }
+        let b = getD text i 0 in
+        let t = goes-on (s .fields) p b q g in
+        let m = moved (s .fields) p (inv .sound) b in
+        let v = says (s .fields) (inv .done) (before s buffer n p) p b len (inv .sound) (t .0) (inv .said) in
+        goes-to q (t .0) (rw (t .1) at (m .0)) (rw (t .1) at (m .1)) (rw (t .1) at v)
+      where
+        goes-to : (q : Part) → (classOf (getD text i 0) ≡ 2 → ⊥) → Sound (s .fields) q → (q .count ≤ p .count + 1) × (p .count ≤ q .count)
+            → Said (s .fields) (inv .done ++ (getD text i 0 ∷ [])) (take (q .count) (before s buffer n p ++ (p .value ∷ []))) q
+            → In-line s text from first written (i + 1) n q
+        goes-to q e o near v =
+            let k : take (q .count) (before s buffer n p ++ (p .value ∷ [])) ≡ before s written n q = ap (take (q .count)) (sym cells)
+            ∙ take-take (q .count) (p .count + 1) (drop (n * s .fields) written) (near .0) in
+            record {
+              room = inv .room;
+              size = length-set buffer (n * s .fields + p .count) (p .value) ∙ inv .size;
+              begun = omega arith;
+              sound = o;
+              rest = drop-later (n * s .fields + p .count + 1) (n * s .fields + q .count + 1) written first
+                  (omega (arith, near .1)) rest-same;
+              done = inv .done ++ (getD text i 0 ∷ []);
+              said = rw k at v;
+              same = rw done-same
+                  (ap (heldOnto n (take (n * s .fields) buffer)) (sym (more s (n + 2) (s .most - (n + 1)) text i (inv .done) h e))
+                  ∙ inv .same);
+            }
 
     -- the line feed
-    module _ (e : classOf (getD text i 0) ≡ 2) where
-      closed : heldOnto n (take (n * s .fields) written)
-          (entry s (n + 2) (cond (isComplete (s .fields) p) (some (take (p .count + 1) (drop (n * s .fields) written))) none)
-          (valueLines s (suc (n + 2)) (s .most - (n + 1)) (linesOf (drop (i + 1) text)))) ≡ whole s (drop from text)
-      closed =
-          rw (done-same, cells, ← (completes (s .fields) (before s buffer n p) p len))
-          (ap (heldOnto n (take (n * s .fields) buffer))
-          (sym (ends s (n + 2) (s .most - (n + 1)) text i (some (at (before s buffer n p) p)) h e)) ∙ inv .same)
-
-      incomplete : isComplete (s .fields) p ≡ false → refusing (n + 2) 2 ≡ whole s (drop from text)
-      incomplete q = rw q at closed
-
-    -- "2 a line malformed"
-    pub malformed : byteStep (s .fields) p (getD text i 0) ≡ Malformed → refusing (n + 2) 2 ≡ whole s (drop from text)
-    malformed q = go (eqb (classOf (getD text i 0)) 2) refl
-      where
-        go : (z : Bool) → eqb (classOf (getD text i 0)) 2 ≡ z → refusing (n + 2) 2 ≡ whole s (drop from text)
-        go true z = let e = eqb-true (classOf (getD text i 0)) 2 z in incomplete e (not-complete (s .fields) p (getD text i 0) e q)
-        go false z = stops (eqb-false (classOf (getD text i 0)) 2 z) q
+    closed : (r : LineRead) → classOf (getD text i 0) ≡ 2 → read-end (s .fields) (before s buffer n p) p ≡ r
+        → heldOnto n (take (n * s .fields) written)
+        (entry s (n + 2) r (valueLines s (suc (n + 2)) (s .most - (n + 1)) (linesOf (drop (i + 1) text)))) ≡ whole s (drop from text)
+    closed r e q =
+        rw (done-same, ← q, ← (said-end (s .fields) (before s buffer n p) p (inv .done) len (inv .said)))
+        (ap (heldOnto n (take (n * s .fields) buffer)) (sym (ends s (n + 2) (s .most - (n + 1)) text i (inv .done) h e)) ∙ inv .same)
 
     module _ (q : byteStep (s .fields) p (getD text i 0) ≡ Ends) where
-      all-read : p .count + 1 ≡ s .fields
-      all-read =
-          eqb-true (p .count + 1) (s .fields)
-          (and-right (not (eqb (p .digits) 0)) (eqb (p .count + 1) (s .fields)) (ends-at (s .fields) p (getD text i 0) q .complete))
+      feed : (classOf (getD text i 0) ≡ 2) × (endStep (s .fields) p ≡ Ends)
+      feed = at-feed (s .fields) p (getD text i 0) Ends q (λ q e. clash (cc))
 
-      ended : heldOnto n (take (n * s .fields) written) (entry s (n + 2) (some (take (s .fields) (drop (n * s .fields) written)))
+      all-read : p .count + 1 ≡ s .fields
+      all-read = ends-well (s .fields) (before s buffer n p) p (feed .1) .1
+
+      ended : heldOnto n (take (n * s .fields) written) (entry s (n + 2) (has-values (take (s .fields) (drop (n * s .fields) written)))
           (valueLines s (suc (n + 2)) (s .most - (n + 1)) (linesOf (drop (i + 1) text)))) ≡ whole s (drop from text)
-      ended = let d = ends-at (s .fields) p (getD text i 0) q in rw (d .complete, all-read) at (closed (d .feed))
+      ended =
+          closed (has-values (take (s .fields) (drop (n * s .fields) written))) (feed .0)
+          (ends-well (s .fields) (before s buffer n p) p (feed .1) .0
+          ∙ ap has-values (sym cells ∙ ap (λ m. take m (drop (n * s .fields) written)) all-read))
 
       -- "3 a value outside its field's range"
       pub outside : s .in-range (take (s .fields) (drop (n * s .fields) written)) ≡ false → refusing (n + 2) 3 ≡ whole s (drop from text)
@@ -274,3 +251,13 @@ module _ (s : Sheet) (text : List ℕ) (from : ℕ) (first buffer : List ℕ) (i
 pub record Answers (s : Sheet) (text : List ℕ) (from : ℕ) (lent buffer : List ℕ) (n number : ℕ) : Type 0 where
   pub gives : heldBy (s .fields) (answerAfter n number) buffer ≡ whole s (drop from text)
   pub after : restAfter (s .fields) (answerAfter n number) buffer ≡ restAfter (s .fields) (answerAfter n number) lent
+
+-- "11 byte that is no digit, space or line feed, 12 value of more than five digits", 2
+pub malformed : (s : Sheet) (text : List ℕ) (from : ℕ) (first buffer : List ℕ) (i n : ℕ) (p : Part)
+    → In-line s text from first buffer i n p → n * s .fields + s .fields ≤ mostValues → i < length text
+    → (number : ℕ) → byteStep (s .fields) p (getD text i 0) ≡ Malformed number → (lent left : List ℕ)
+    → Answers s text from lent left n number
+malformed s text from first buffer i n p inv fits h number q lent left =
+    let f = at-feed (s .fields) p (getD text i 0) (Malformed number) q (λ q e. clash (cc)) in
+    let m = ends-malformed (s .fields) (before s buffer n p) p number (f .1) in
+    record { gives = rw (m .1) (closed s text from first buffer i n p inv fits h (has-fault number) (f .0) (m .0)); after = rw (m .1) refl }

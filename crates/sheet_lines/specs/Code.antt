@@ -10,7 +10,7 @@ use Rattle.sheet_lines.specs.declared.Reading.the-variants.{Stored, Refu
 use Rattle.sheet_lines.specs.Sheet.{Result, accepted, refused}
 
 abbrev pub emptyPart : Part
-emptyPart = record { count = 0; digits = 0; value = 0 }
+emptyPart = record { count = 0; digits = 0; value = 0; fault = 0 }
 
 -- the answer after n accepted lines; number 0 is no refusal
 abbrev pub answerAfter : ℕ → ℕ → Reading

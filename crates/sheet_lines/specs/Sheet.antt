@@ -1,13 +1,13 @@
 -- A sheet: "a line of names and then lines of values in that order". What differs from sheet to sheet is a record.
 use Prim.Native.Nat.{ℕ, zero, suc}
 use mathlib.Core.Bool.{Bool, true, false, cond, _&&_}
-use mathlib.Core.Option.{Option, none, some}
 use mathlib.Core.List.{List, [], _∷_}
 use lib.Dec.{eqb, ltb}
 use lib.ListN.{length, drop}
 use Rattle.usage.specs.Limits.{longestSheet}
 use Rattle.usage.specs.Answers.{Refusal}
-use Rattle.sheet_bytes.specs.Line.{Line, linesOf, valuesOf}
+use Rattle.sheet_bytes.specs.Line.{Line, linesOf}
+use Rattle.sheet_bytes.specs.Fault.{LineRead, has-values, has-fault, readLine}
 
 pub record Sheet : Type 0 where
   -- the names line, with its line feed
@@ -33,16 +33,16 @@ abbrev pub followed : List ℕ → Result → Result
 followed vs (accepted rows) = accepted (vs ∷ rows)
 followed vs (refused r) = refused r
 
--- "2 a line malformed", "3 a value outside its field's range"
-abbrev pub entry : Sheet → ℕ → Option (List ℕ) → Result → Result
-entry s line none rest = refuseAt line 2
-entry s line (some vs) rest = cond (s .in-range vs) (followed vs rest) (refuseAt line 3)
+-- the fault of a line (02, L2: "13, 11, 12, 2, where 2 stood"), then "3 a value outside its field's range"
+abbrev pub entry : Sheet → ℕ → LineRead → Result → Result
+entry s line (has-fault number) rest = refuseAt line number
+entry s line (has-values vs) rest = cond (s .in-range vs) (followed vs rest) (refuseAt line 3)
 
 -- "then line by line 4, 2, 3": the value lines from line `line` on, of which `left` are allowed
 unfoldable pub valueLines : Sheet → ℕ → ℕ → List Line → Result
 valueLines s line left [] = accepted []
 valueLines s line zero (l ∷ ls) = refuseAt line 4
-valueLines s line (suc left) (l ∷ ls) = entry s line (valuesOf (s .fields) l) (valueLines s (suc line) left ls)
+valueLines s line (suc left) (l ∷ ls) = entry s line (readLine (s .fields) l) (valueLines s (suc line) left ls)
 
 unfoldable pub startsWith : List ℕ → List ℕ → Bool
 startsWith [] text = true

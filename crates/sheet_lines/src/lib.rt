@@ -1,4 +1,4 @@
-// A text of one of the three sheets is read into a buffer of values (document 01, "Sheets"; refusals 5, 1, 4, 2, 3).
+// A text of one of the three sheets is read into a buffer of values (document 01, "Sheets"; refusals 5, 1, 4, 13, 11, 12, 2, 3).
 ghost use mathlib.Core.Path.{_≡_};
 ghost use mathlib.Core.List.{[]};
 ghost use Prim.Native.Nat.{_+_, _≤_};
@@ -120,6 +120,7 @@ fn nothing() -> Part
         count: 0,
         digits: 0,
         value: 0,
+        fault: 0,
     }
 }
 
@@ -158,7 +159,7 @@ fn is_stored(r: Reading) -> bool
 }
 
 // The value lines of a text from `from` on are read into the buffer, the values one after the other. Document 01: "then line by
-// line 4, 2, 3"; the first line that is refused ends both loops.
+// line 4, 2, 3", and 02, L2: "13, 11, 12, 2, where 2 stood". The first line that is refused ends both loops, at its end.
 fn lines(text: &[u8], from: usize, kind: Kind, buffer: &mut [u32; MOST_VALUES]) -> Reading
     requires { ⌜ from ≤ length (now text) ⌝ }
     requires { ⌜ length (now buffer) ≡ mostValues ⌝ }
@@ -179,7 +180,7 @@ fn lines(text: &[u8], from: usize, kind: Kind, buffer: &mut [u32; MOST_VALUES]) 
         let mut p = nothing();
         'bytes: loop {
             if text.len() <= i {
-                number = 2;
+                number = 13;
                 break 'lines;
             }
             let at = base + p.count;
@@ -189,8 +190,8 @@ fn lines(text: &[u8], from: usize, kind: Kind, buffer: &mut [u32; MOST_VALUES]) 
             match next {
                 Next::Goes(q) => p = q,
                 Next::Ends => break 'bytes,
-                Next::Malformed => {
-                    number = 2;
+                Next::Malformed(fault) => {
+                    number = fault;
                     break 'lines;
                 }
             }

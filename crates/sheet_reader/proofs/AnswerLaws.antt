@@ -108,7 +108,8 @@ nodes-sized text rows e = go (sheet outlineSheet text) refl e
     by all a (some r) e = clash (cc)
 
     go : (r : Result) → sheet outlineSheet text ≡ r → ruledResult r ≡ accepted rows → Sized rows
-    go (accepted all) q e = by all (sheet-accepted outlineSheet text all q) (ruledSheet (map first all) (nodesOf (flatten (map tail all)))) e
+    go (accepted all) q e = by all (sheet-accepted outlineSheet text all q)
+        (ruledSheet (map first all) (nodesOf (flatten (map tail all)))) e
     go (refused r) q e = clash (cc)
 
 module _ (text : List ℕ) where
@@ -143,6 +144,7 @@ module _ (text : List ℕ) where
   outline-refused-as line number e = refusal-result (ruledResult (sheet outlineSheet text)) line number (e ∙ ap answered outline-into)
 
 -- what an accepted outline gives is never refused with 41
-pub accepted-nodes : (text : List ℕ) (rows : List (List ℕ)) → ruledResult (sheet outlineSheet text) ≡ accepted rows → NodeTable (flatten rows)
+pub accepted-nodes : (text : List ℕ) (rows : List (List ℕ)) → ruledResult (sheet outlineSheet text) ≡ accepted rows
+    → NodeTable (flatten rows)
 unfolding outlineInto
 accepted-nodes text rows e = decides-node-table (flatten rows) .0 (outline-valid nodePlaces text rows e)

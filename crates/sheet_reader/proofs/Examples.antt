@@ -10,6 +10,7 @@ use Rattle.usage.specs.Tables.{from, nodesOf}
 use Rattle.sheet_lines.specs.Bytes.{bytes}
 use Rattle.sheet_bytes.specs.Class.{classOf}
 use Rattle.sheet_bytes.specs.Line.{linesOf, read, valuesOf}
+use Rattle.sheet_bytes.specs.Fault.{hasOther, hasOverlong, readLine}
 use Rattle.sheet_lines.specs.Sheet.{accepted, refuseAt, valueLines, startsWith, sheet}
 use Rattle.sheet_fields.specs.Fields.{stepOk}
 use Rattle.sheet_reader.specs.Readers.{ruledResult, policiesInto, traceInto, outlineInto}
@@ -17,14 +18,14 @@ use Rattle.sheet_reader.specs.Readers.{ruledResult, policiesInto, traceI
 -- document 01's policies P
 policies-p : policiesInto edgePlaces (bytes "policy from action on who to\n0 0 1 1 0 1\n0 1 3 1 0 0\n0 0 2 1 0 6\n")
     ≡ accepted ((0 ∷ 0 ∷ 1 ∷ 1 ∷ 0 ∷ 1 ∷ []) ∷ (0 ∷ 1 ∷ 3 ∷ 1 ∷ 0 ∷ 0 ∷ []) ∷ (0 ∷ 0 ∷ 2 ∷ 1 ∷ 0 ∷ 6 ∷ []) ∷ [])
-unfolding policiesInto sheet startsWith valueLines linesOf valuesOf read classOf edgeOk
+unfolding policiesInto sheet startsWith valueLines linesOf readLine hasOther hasOverlong valuesOf read classOf edgeOk
 policies-p = refl
 
 -- and its trace
 trace-b : traceInto stepPlaces (bytes "kind a b\n1 0 0\n0 0 16\n0 1 16\n0 2 16\n0 0 17\n0 2 17\n0 3 16\n")
     ≡ accepted ((1 ∷ 0 ∷ 0 ∷ []) ∷ (0 ∷ 0 ∷ 16 ∷ []) ∷ (0 ∷ 1 ∷ 16 ∷ []) ∷ (0 ∷ 2 ∷ 16 ∷ []) ∷ (0 ∷ 0 ∷ 17 ∷ []) ∷ (0 ∷ 2 ∷ 17 ∷ []) ∷
     (0 ∷ 3 ∷ 16 ∷ []) ∷ [])
-unfolding traceInto sheet startsWith valueLines linesOf valuesOf read classOf stepOk
+unfolding traceInto sheet startsWith valueLines linesOf readLine hasOther hasOverlong valuesOf read classOf stepOk
 trace-b = refl
 
 -- no value line; an empty file; a names line without its line feed
@@ -45,39 +46,86 @@ too-small : traceInto (stepPlaces - 1) [] ≡ refuseAt 0 40
 unfolding traceInto sheet startsWith
 too-small = refl
 
--- 2: an empty line, a space at either end, six digits, a value too many, the last line feed missing
-malformed-empty : traceInto stepPlaces (bytes "kind a b\n1 0 0\n\n") ≡ refuseAt 3 2
-unfolding traceInto sheet startsWith valueLines linesOf valuesOf read classOf stepOk
-malformed-empty = refl
+-- 2: an empty line, a space at either end, a value too many or too few
+form-empty : traceInto stepPlaces (bytes "kind a b\n1 0 0\n\n") ≡ refuseAt 3 2
+unfolding traceInto sheet startsWith valueLines linesOf readLine hasOther hasOverlong valuesOf read classOf stepOk
+form-empty = refl
 
-malformed-front : traceInto stepPlaces (bytes "kind a b\n 1 0 0\n") ≡ refuseAt 2 2
-unfolding traceInto sheet startsWith valueLines linesOf valuesOf read classOf stepOk
-malformed-front = refl
+form-front : traceInto stepPlaces (bytes "kind a b\n 1 0 0\n") ≡ refuseAt 2 2
+unfolding traceInto sheet startsWith valueLines linesOf readLine hasOther hasOverlong valuesOf read classOf stepOk
+form-front = refl
 
-malformed-end : traceInto stepPlaces (bytes "kind a b\n1 0 0 \n") ≡ refuseAt 2 2
-unfolding traceInto sheet startsWith valueLines linesOf valuesOf read classOf stepOk
-malformed-end = refl
+form-end : traceInto stepPlaces (bytes "kind a b\n1 0 0 \n") ≡ refuseAt 2 2
+unfolding traceInto sheet startsWith valueLines linesOf readLine hasOther hasOverlong valuesOf read classOf stepOk
+form-end = refl
 
-malformed-digits : traceInto stepPlaces (bytes "kind a b\n1 0 000000\n") ≡ refuseAt 2 2
-unfolding traceInto sheet startsWith valueLines linesOf valuesOf read classOf stepOk
-malformed-digits = refl
+form-spaces : traceInto stepPlaces (bytes "kind a b\n  \n") ≡ refuseAt 2 2
+unfolding traceInto sheet startsWith valueLines linesOf readLine hasOther hasOverlong valuesOf read classOf stepOk
+form-spaces = refl
 
-malformed-before-range : traceInto stepPlaces (bytes "kind a b\n9 9 9 9\n") ≡ refuseAt 2 2
-unfolding traceInto sheet startsWith valueLines linesOf valuesOf read classOf stepOk
-malformed-before-range = refl
+form-count : traceInto stepPlaces (bytes "kind a b\n9 9 9 9\n") ≡ refuseAt 2 2
+unfolding traceInto sheet startsWith valueLines linesOf readLine hasOther hasOverlong valuesOf read classOf stepOk
+form-count = refl
 
-malformed-last : traceInto stepPlaces (bytes "kind a b\n1 0 0") ≡ refuseAt 2 2
-unfolding traceInto sheet startsWith valueLines linesOf valuesOf read classOf stepOk
-malformed-last = refl
+form-few : traceInto stepPlaces (bytes "kind a b\n1 0\n") ≡ refuseAt 2 2
+unfolding traceInto sheet startsWith valueLines linesOf readLine hasOther hasOverlong valuesOf read classOf stepOk
+form-few = refl
+
+-- 12: six digits, wherever they stand, and before 2 and 3
+digits-last : traceInto stepPlaces (bytes "kind a b\n1 0 000000\n") ≡ refuseAt 2 12
+unfolding traceInto sheet startsWith valueLines linesOf readLine hasOther hasOverlong valuesOf read classOf stepOk
+digits-last = refl
+
+digits-first : traceInto stepPlaces (bytes "kind a b\n000001 0 0\n") ≡ refuseAt 2 12
+unfolding traceInto sheet startsWith valueLines linesOf readLine hasOther hasOverlong valuesOf read classOf stepOk
+digits-first = refl
+
+digits-before-form : traceInto stepPlaces (bytes "kind a b\n1  000001\n") ≡ refuseAt 2 12
+unfolding traceInto sheet startsWith valueLines linesOf readLine hasOther hasOverlong valuesOf read classOf stepOk
+digits-before-form = refl
+
+-- 11: another byte, before 12, 2 and 3
+byte-tab : traceInto stepPlaces (bytes "kind a b\n1\t0 0\n") ≡ refuseAt 2 11
+unfolding traceInto sheet startsWith valueLines linesOf readLine hasOther hasOverlong valuesOf read classOf stepOk
+byte-tab = refl
+
+byte-before-digits : traceInto stepPlaces (bytes "kind a b\n1 2x 0000001\n") ≡ refuseAt 2 11
+unfolding traceInto sheet startsWith valueLines linesOf readLine hasOther hasOverlong valuesOf read classOf stepOk
+byte-before-digits = refl
+
+byte-after-digits : traceInto stepPlaces (bytes "kind a b\n0000001 x\n") ≡ refuseAt 2 11
+unfolding traceInto sheet startsWith valueLines linesOf readLine hasOther hasOverlong valuesOf read classOf stepOk
+byte-after-digits = refl
+
+byte-before-form : traceInto stepPlaces (bytes "kind a b\n 1 0 0 -\n") ≡ refuseAt 2 11
+unfolding traceInto sheet startsWith valueLines linesOf readLine hasOther hasOverlong valuesOf read classOf stepOk
+byte-before-form = refl
+
+-- 13: the last line feed missing, whatever else is in the line; but 1 to 3 on a line before it come first
+feed-only : traceInto stepPlaces (bytes "kind a b\n1 0 0") ≡ refuseAt 2 13
+unfolding traceInto sheet startsWith valueLines linesOf readLine hasOther hasOverlong valuesOf read classOf stepOk
+feed-only = refl
+
+feed-before-byte : traceInto stepPlaces (bytes "kind a b\n1 0 0\nx") ≡ refuseAt 3 13
+unfolding traceInto sheet startsWith valueLines linesOf readLine hasOther hasOverlong valuesOf read classOf stepOk
+feed-before-byte = refl
+
+feed-before-digits : traceInto stepPlaces (bytes "kind a b\n1 0 000000") ≡ refuseAt 2 13
+unfolding traceInto sheet startsWith valueLines linesOf readLine hasOther hasOverlong valuesOf read classOf stepOk
+feed-before-digits = refl
+
+feed-after-line : traceInto stepPlaces (bytes "kind a b\n 1 0 0\n1 0") ≡ refuseAt 2 2
+unfolding traceInto sheet startsWith valueLines linesOf readLine hasOther hasOverlong valuesOf read classOf stepOk
+feed-after-line = refl
 
 -- leading zeros and further spaces are allowed
 zeros : traceInto stepPlaces (bytes "kind a b\n00001  00  0\n") ≡ accepted ((1 ∷ 0 ∷ 0 ∷ []) ∷ [])
-unfolding traceInto sheet startsWith valueLines linesOf valuesOf read classOf stepOk
+unfolding traceInto sheet startsWith valueLines linesOf readLine hasOther hasOverlong valuesOf read classOf stepOk
 zeros = refl
 
 -- 3, at the first such line
 outside : traceInto stepPlaces (bytes "kind a b\n1 0 0\n0 32 0\n0 99999 0\n") ≡ refuseAt 3 3
-unfolding traceInto sheet startsWith valueLines linesOf valuesOf read classOf stepOk
+unfolding traceInto sheet startsWith valueLines linesOf readLine hasOther hasOverlong valuesOf read classOf stepOk
 outside = refl
 
 -- 9, 6, 7 and 8
@@ -86,19 +134,19 @@ unfolding outlineInto ruledResult sheet startsWith valueLines linesOf classOf fl
 no-nodes = refl
 
 not-its-place : outlineInto nodePlaces (bytes "node kind a b\n1 0 0 0\n") ≡ refuseAt 2 6
-unfolding outlineInto ruledResult sheet startsWith valueLines linesOf valuesOf read classOf nodeOk flatten nodesOf from ruledBy lowestFailing treeOk between every timesChild times formOf backOk nameOk
+unfolding outlineInto ruledResult sheet startsWith valueLines linesOf readLine hasOther hasOverlong valuesOf read classOf nodeOk flatten nodesOf from ruledBy lowestFailing treeOk between every timesChild times formOf backOk nameOk
 not-its-place = refl
 
 -- a back to a loop beside it: 0 is node 1 then node 3, 1 a loop over node 2, 3 a back to 1
 beside : outlineInto nodePlaces (bytes "node kind a b\n0 3 1 3\n1 5 2 0\n2 0 0 0\n3 6 1 0\n") ≡ refuseAt 5 7
-unfolding outlineInto ruledResult sheet startsWith valueLines linesOf valuesOf read classOf nodeOk flatten nodesOf from ruledBy lowestFailing treeOk between every timesChild times formOf backOk above isChild nameOk
+unfolding outlineInto ruledResult sheet startsWith valueLines linesOf readLine hasOther hasOverlong valuesOf read classOf nodeOk flatten nodesOf from ruledBy lowestFailing treeOk between every timesChild times formOf backOk above isChild nameOk
 beside = refl
 
 not-given : outlineInto nodePlaces (bytes "node kind a b\n0 2 1 0\n") ≡ refuseAt 2 8
-unfolding outlineInto ruledResult sheet startsWith valueLines linesOf valuesOf read classOf nodeOk flatten nodesOf from ruledBy lowestFailing treeOk between every timesChild times formOf backOk nameOk above
+unfolding outlineInto ruledResult sheet startsWith valueLines linesOf readLine hasOther hasOverlong valuesOf read classOf nodeOk flatten nodesOf from ruledBy lowestFailing treeOk between every timesChild times formOf backOk nameOk above
 not-given = refl
 
 -- a loop around its own back, one node stored after the other without its number
 loop-back : outlineInto nodePlaces (bytes "node kind a b\n0 5 1 0\n1 6 0 0\n") ≡ accepted ((5 ∷ 1 ∷ 0 ∷ []) ∷ (6 ∷ 0 ∷ 0 ∷ []) ∷ [])
-unfolding outlineInto ruledResult sheet startsWith valueLines linesOf valuesOf read classOf nodeOk flatten nodesOf from ruledBy lowestFailing treeOk between every timesChild times formOf backOk above isChild nameOk
+unfolding outlineInto ruledResult sheet startsWith valueLines linesOf readLine hasOther hasOverlong valuesOf read classOf nodeOk flatten nodesOf from ruledBy lowestFailing treeOk between every timesChild times formOf backOk above isChild nameOk
 loop-back = refl

@@ -115,7 +115,8 @@ module _ (places needed : ℕ) (text buffer : List ℕ) (n : ℕ) (k : Kept outl
       ∙ sym (nodes-size (k .ok .each)) in
       let many : n ≡ length (map tail (k .rows)) = k .number ∙ sym (length-map (k .rows) tail) in
       rw (nodes-picked, long, many)
-      (accepted-reads (roomy places needed (ruledResult (sheet outlineSheet text))) t (map tail (k .rows)) (checks ∙ ap (λ o. ruledRows o (k .rows)) e))
+      (accepted-reads (roomy places needed (ruledResult (sheet outlineSheet text))) t (map tail (k .rows))
+      (checks ∙ ap (λ o. ruledRows o (k .rows)) e))
 
 -- a sheet that is refused before its rules are asked
 pub refused-before : (places needed : ℕ) (r : Result) (line number : ℕ) → roomy places needed r ≡ refuseAt line number

@@ -61,7 +61,8 @@ unfolding answered
 counted (accepted rows) n e = record { rows = rows; result = refl; number = cc }
 counted (refused r) n e = clash (cc)
 
-pub refusal-result : (r : Result) (line number : ℕ) → refusal record { line = line; number = number } ≡ answered r → r ≡ refuseAt line number
+pub refusal-result : (r : Result) (line number : ℕ) → refusal record { line = line; number = number } ≡ answered r
+    → r ≡ refuseAt line number
 unfolding answered
 refusal-result (accepted rows) line number e = clash (cc)
 refusal-result (refused r) line number e = ap refused (cc)

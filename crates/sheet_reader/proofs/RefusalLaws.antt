@@ -17,7 +17,9 @@ use Rattle.usage.specs.Valid.{accepted as all-ruled}
 use Rattle.usage.proofs.Logic.{clash}
 use Rattle.usage.proofs.RuledLaws.{sheet-answers}
 use Rattle.usage.proofs.TableLaws.{nodes-length}
-use Rattle.sheet_bytes.specs.Line.{Line, linesOf, valuesOf}
+use Rattle.sheet_bytes.specs.Line.{Line, linesOf}
+use Rattle.sheet_bytes.specs.Fault.{LineFault, no-feed, other-byte, overlong, form, LineRead, has-values, has-fault, readLine}
+use Rattle.sheet_bytes.proofs.FaultLaws.{decides-fault}
 use Rattle.sheet_lines.specs.Sheet.{Sheet, Result, accepted, refused, refuseAt, followed, entry, valueLines, startsWith, sheet}
 use Rattle.sheet_lines.specs.Sheets.{outlineSheet}
 use Rattle.sheet_reader.specs.Readers.{ruledRows, ruledResult}
@@ -26,18 +28,25 @@ use Rattle.sheet_reader.proofs.OutlineLaws.{nodes-size}
 
 pub record Low (most : ℕ) (r : Refusal) : Type 0 where
   pub line : r .line ≤ most
-  pub number : r .number < 10
+  pub number : r .number < 100
 
 -- a refusal that is written out
-stated : (most line number : ℕ) (r : Refusal) → line ≤ most → number < 10 → refuseAt line number ≡ refused r → Low most r
+stated : (most line number : ℕ) (r : Refusal) → line ≤ most → number < 100 → refuseAt line number ≡ refused r → Low most r
 stated most line number r h k e = let z : record { line = line; number = number } ≡ r = cc in rw (← z) (record { line = h; number = k })
+
+fault-low : {n number : ℕ} {l : Line} → LineFault n l number → number < 100
+fault-low (no-feed p) = omega arith
+fault-low (other-byte p h) = omega arith
+fault-low (overlong p f h) = omega arith
+fault-low (form p f g w) = omega arith
 
 module _ (s : Sheet) where
   lines-low : (line left : ℕ) (ls : List Line) (r : Refusal) → valueLines s line left ls ≡ refused r → Low (line + left) r
   unfolding valueLines
   lines-low line left [] r e = clash (cc)
   lines-low line zero (l ∷ ls) r e = stated (line + 0) line 4 r (omega arith) (omega arith) e
-  lines-low line (suc left) (l ∷ ls) r e = go (valuesOf (s .fields) l) (valueLines s (suc line) left ls) (lines-low (suc line) left ls r) e
+  lines-low line (suc left) (l ∷ ls) r e = go (readLine (s .fields) l) refl (valueLines s (suc line) left ls)
+      (lines-low (suc line) left ls r) e
     where
       later : (vs : List ℕ) (rest : Result) → (rest ≡ refused r → Low (suc line + left) r) → followed vs rest ≡ refused r
           → Low (line + suc left) r
@@ -49,10 +58,11 @@ module _ (s : Sheet) where
       ranged vs rest true ih e = later vs rest ih e
       ranged vs rest false ih e = stated (line + suc left) line 3 r (omega arith) (omega arith) e
 
-      go : (o : Option (List ℕ)) (rest : Result) → (rest ≡ refused r → Low (suc line + left) r) → entry s line o rest ≡ refused r
-          → Low (line + suc left) r
-      go none rest ih e = stated (line + suc left) line 2 r (omega arith) (omega arith) e
-      go (some vs) rest ih e = ranged vs rest (s .in-range vs) ih e
+      go : (o : LineRead) → readLine (s .fields) l ≡ o → (rest : Result) → (rest ≡ refused r → Low (suc line + left) r)
+          → entry s line o rest ≡ refused r → Low (line + suc left) r
+      go (has-fault number) q rest ih e =
+          stated (line + suc left) line number r (omega arith) (fault-low (decides-fault (s .fields) l number .0 q)) e
+      go (has-values vs) q rest ih e = ranged vs rest (s .in-range vs) ih e
 
   pub sheet-low : (text : List ℕ) (r : Refusal) → sheet s text ≡ refused r → Low (2 + s .most) r
   unfolding sheet

@@ -144,7 +144,8 @@ rows-nodes {rows} a e =
 pub outline-valid : (places : ℕ) (text : List ℕ) (rows : List (List ℕ)) → outlineInto places text ≡ accepted rows
     → nodeTable (flatten rows) ≡ true
 unfolding outlineInto ruledResult
-outline-valid places text rows e = go (sheet outlineSheet text) refl (within-room places nodePlaces (ruledResult (sheet outlineSheet text)) rows e .1)
+outline-valid places text rows e = go (sheet outlineSheet text) refl
+    (within-room places nodePlaces (ruledResult (sheet outlineSheet text)) rows e .1)
   where
     by : (all : List (List ℕ)) → Accepted outlineSheet all → (o : Option Refusal)
         → ruledSheet (map first all) (nodesOf (flatten (map tail all))) ≡ o

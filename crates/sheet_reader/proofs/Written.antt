@@ -9,14 +9,14 @@ unfoldable pub digits : ℕ → ℕ → List ℕ
 digits zero v = []
 digits (suc n) v = digits n (v / 10) ++ ((48 + v % 10) ∷ [])
 
--- a value and those after it in a line, with the line feed
+-- a value and those after it in a line
 unfoldable pub written-values : ℕ → List ℕ → List ℕ
-written-values v [] = digits mostDigits v ++ (10 ∷ [])
+written-values v [] = digits mostDigits v
 written-values v (w ∷ vs) = digits mostDigits v ++ (32 ∷ written-values w vs)
 
 abbrev pub written-line : List ℕ → List ℕ
 written-line [] = 10 ∷ []
-written-line (v ∷ vs) = written-values v vs
+written-line (v ∷ vs) = written-values v vs ++ (10 ∷ [])
 
 abbrev pub written : Sheet → List (List ℕ) → List ℕ
 written s rows = s .names ++ flatten (map written-line rows)

@@ -1,9 +1,8 @@
 -- A sheet that is written from values in range is read back as these values.
 use Prim.Native.Nat.{ℕ, zero, suc, _+_, _-_, _*_, _/_, _%_, _^_, _<_, _≤_}
-use mathlib.Core.Path.{_≡_, refl, ap, _∙_}
+use mathlib.Core.Path.{_≡_, refl, sym, ap, _∙_}
 use mathlib.Core.Bool.{true}
-use mathlib.Core.Option.{some}
-use mathlib.Core.List.{List, [], _∷_, _++_, map, flatten, append-assoc}
+use mathlib.Core.List.{List, [], _∷_, _++_, map, flatten, append-nil, append-assoc}
 use native.Mathlib.Omega.{arith}
 use native.Mathlib.Nat.{pow-suc}
 use native.Mathlib.Numerals.{add-one}
@@ -15,14 +14,16 @@ use Rattle.usage.specs.Limits.{mostDigits, longestSheet}
 use Rattle.usage.proofs.Logic.{and-both}
 use Rattle.sheet_bytes.specs.Class.{classOf}
 use Rattle.sheet_bytes.specs.Code.{valueLimit}
-use Rattle.sheet_bytes.specs.Line.{counted, linesOf}
+use Rattle.sheet_bytes.specs.Line.{Line, prefixed, linesOf}
+use Rattle.sheet_bytes.specs.Grammar.{Digits, no-digit, one-more, Value, one-space, Values, last-value, next-value}
+use Rattle.sheet_bytes.proofs.FaultLaws.{decides-values}
 use Rattle.sheet_lines.specs.Sheet.{Sheet, accepted, followed, entry, valueLines, startsWith, sheet}
 use Rattle.sheet_reader.proofs.Written.{digits, written-values, written-line, written}
 use Rattle.sheet_lines.proofs.AcceptLaws.{Rows, no-row, row}
 use Rattle.sheet_reader.proofs.Below.{Below, one-below}
-use Rattle.sheet_lines.proofs.ScanLaws.{in-line, starts}
+use Rattle.sheet_lines.proofs.ScanLaws.{fed}
 
-digit-class : (d : ℕ) → d < 10 → classOf (48 + d) ≡ 0
+pub digit-class : (d : ℕ) → d < 10 → classOf (48 + d) ≡ 0
 unfolding classOf
 digit-class d h = rw (le-ltb (48 + d) 48 (omega arith), lt-ltb (48 + d) 58 (omega arith)) refl
 
@@ -32,99 +33,98 @@ digits-length zero v = refl
 digits-length (suc n) v = omega (arith, length-append (digits n (v / 10)) ((48 + v % 10) ∷ []), digits-length n (v / 10))
 
 -- its digits and one byte to a value
-values-length : (v : ℕ) (vs : List ℕ) → length (written-values v vs) ≡ suc mostDigits * length (v ∷ vs)
+values-length : (v : ℕ) (vs : List ℕ) → length (written-line (v ∷ vs)) ≡ suc mostDigits * length (v ∷ vs)
 unfolding written-values
 values-length v [] = omega (arith, length-append (digits mostDigits v) (10 ∷ []), digits-length mostDigits v)
 values-length v (w ∷ vs) =
-    omega (arith, length-append (digits mostDigits v) (32 ∷ written-values w vs), digits-length mostDigits v, values-length w vs)
+    omega (
+      arith,
+      length-append (digits mostDigits v ++ (32 ∷ written-values w vs)) (10 ∷ []),
+      length-append (digits mostDigits v) (32 ∷ written-values w vs),
+      digits-length mostDigits v,
+      length-append (written-values w vs) (10 ∷ []),
+      values-length w vs,
+    )
 
-some-byte : (v : ℕ) (vs bs : List ℕ) → 0 < length (written-values v vs ++ bs)
-some-byte v vs bs = omega (arith, length-append (written-values v vs) bs, values-length v vs)
+-- ── What is written is in the grammar ──
 
-module _ (s : Sheet) (line left : ℕ) where
-  one-digit : (us : List ℕ) (n v d : ℕ) (bs : List ℕ) → n < mostDigits → d < 10
-      → in-line s line left (some record { values = us; digits = n; value = v }) ((48 + d) ∷ bs) ≡ in-line s line left
-      (some record { values = us; digits = n + 1; value = v * 10 + d }) bs
-  unfolding in-line
-  one-digit us n v d bs h k =
-      let e : 48 + d - 48 ≡ d = omega arith in
-      rw (digit-class d k, lt-ltb n mostDigits h, e) refl
+digits-written : (n v : ℕ) → v < 10 ^ n → Digits n v (digits n v)
+unfolding digits
+digits-written zero v h = let z : 0 ≡ v = omega arith in rw (← z) no-digit
+digits-written (suc n) v h =
+    rw (tens, add-one n) at (one-more (48 + v % 10) (digit-class (v % 10) (omega arith))
+    (digits-written n (v / 10) (fewer (rw (pow-suc 10 n) at h))))
+  where
+    tens : v / 10 * 10 + (48 + v % 10 - 48) ≡ v
+    tens = omega arith
 
-  next-digit : (us : List ℕ) (n q : ℕ) (bs : List ℕ) → n < mostDigits
-      → in-line s line left (some record { values = us; digits = n; value = q / 10 }) ((48 + q % 10) ∷ bs)
-      ≡ in-line s line left (some record { values = us; digits = n + 1; value = q }) bs
-  next-digit us n q bs h =
-      one-digit us n (q / 10) (q % 10) bs h (omega arith) ∙ ap (λ x. in-line s line left (some record {
-        values =
-            us;
-        digits = n + 1;
-        value = x;
-      }) bs) tens
-    where
-      tens : q / 10 * 10 + q % 10 ≡ q
-      tens = omega arith
+    fewer : v < 10 ^ n * 10 → v / 10 < 10 ^ n
+    fewer l = omega arith
 
-  digits-read : (us : List ℕ) (n v : ℕ) (bs : List ℕ) → n ≤ mostDigits → v < 10 ^ n
-      → in-line s line left (some record { values = us; digits = 0; value = 0 }) (digits n v ++ bs) ≡ in-line s line left
-      (some record { values = us; digits = n; value = v }) bs
-  unfolding digits
-  digits-read us zero v bs k h = ap (λ x. in-line s line left (some record { values = us; digits = 0; value = x }) bs) none
-    where
-      none : 0 ≡ v
-      none = omega arith
-  digits-read us (suc n) v bs k h =
-      ap (in-line s line left (some record { values = us; digits = 0; value = 0 })) (append-snoc (digits n (v / 10)) (48 + v % 10) bs)
-      ∙ digits-read us n (v / 10) ((48 + v % 10) ∷ bs) (omega arith) (fewer (rw (pow-suc 10 n) at h))
-      ∙ next-digit us n v bs (omega arith)
-      ∙ ap (λ m. in-line s line left (some record { values = us; digits = m; value = v }) bs) (add-one n)
-    where
-      fewer : v < 10 ^ n * 10 → v / 10 < 10 ^ n
-      fewer l = omega arith
+value-written : (v : ℕ) → v < valueLimit → Value v (digits mostDigits v)
+value-written v h =
+    record { count = mostDigits; some-digit = omega arith; few = omega arith; digits = digits-written mostDigits v h }
 
-  space-read : (us : List ℕ) (v : ℕ) (bs : List ℕ)
-      → in-line s line left (some record { values = us; digits = mostDigits; value = v }) (32 ∷ bs) ≡ in-line s line left
-      (some record { values = us ++ (v ∷ []); digits = 0; value = 0 }) bs
-  unfolding in-line classOf
-  space-read us v bs = refl
+values-written : (v : ℕ) (vs : List ℕ) → Below valueLimit (v ∷ vs) → Values (v ∷ vs) (written-values v vs)
+unfolding written-values classOf
+values-written v [] (one-below h b) = last-value (value-written v h)
+values-written v (w ∷ vs) (one-below h b) = next-value (value-written v h) (one-space 32 refl) (values-written w vs b)
 
-  feed-read : (us : List ℕ) (v : ℕ) (bs : List ℕ)
-      → in-line s line left (some record { values = us; digits = mostDigits; value = v }) (10 ∷ bs) ≡ entry s line
-      (counted (s .fields) (some (us ++ (v ∷ [])))) (valueLines s (suc line) left (linesOf bs))
-  unfolding in-line classOf
-  feed-read us v bs = refl
+-- ── It is one line ──
 
-  values-read : (v : ℕ) (vs us bs : List ℕ) → Below valueLimit (v ∷ vs)
-      → in-line s line left (some record { values = us; digits = 0; value = 0 }) (written-values v vs ++ bs)
-      ≡ entry s line (counted (s .fields) (some (us ++ (v ∷ vs)))) (valueLines s (suc line) left (linesOf bs))
-  unfolding written-values
-  values-read v [] us bs (one-below h b) =
-      ap (in-line s line left (some record { values = us; digits = 0; value = 0 })) (append-snoc (digits mostDigits v) 10 bs)
-      ∙ digits-read us mostDigits v (10 ∷ bs) (omega arith) h ∙ feed-read us v bs
-  values-read v (w ∷ vs) us bs (one-below h b) =
-      ap (in-line s line left (some record {
-        values =
-            us;
-        digits = 0;
-        value = 0;
-      })) (append-assoc (digits mostDigits v) (32 ∷ written-values w vs) bs)
-      ∙ digits-read us mostDigits v (32 ∷ (written-values w vs ++ bs)) (omega arith) h ∙ space-read us v (written-values w vs ++ bs)
-      ∙ values-read w vs (us ++ (v ∷ [])) bs b
-      ∙ ap (λ l. entry s line (counted (s .fields) (some l)) (valueLines s (suc line) left (linesOf bs))) (append-snoc us v (w ∷ vs))
+-- digits before the first line of a text
+pub digits-lines : {n v : ℕ} {ds : List ℕ} → Digits n v ds → (bs : List ℕ) (l : Line) (ls : List Line) → linesOf bs ≡ l ∷ ls
+    → linesOf (ds ++ bs) ≡ record { bytes = ds ++ l .bytes; ended = l .ended } ∷ ls
+unfolding linesOf
+digits-lines no-digit bs l ls e = e
+digits-lines (one-more {bs = ds} b c d) bs l ls e =
+    ap linesOf (append-snoc ds b bs)
+    ∙ digits-lines d (b ∷ bs) record { bytes = b ∷ l .bytes; ended = l .ended } ls (rw (c, e) refl)
+    ∙ ap (λ (xs : List ℕ). record { bytes = xs; ended = l .ended } ∷ ls) (sym (append-snoc ds b (l .bytes)))
 
-  -- one line in range
-  line-read : (vs bs : List ℕ) → length vs ≡ s .fields → 0 < s .fields → s .in-range vs ≡ true → Below valueLimit vs
-      → valueLines s line (suc left) (linesOf (written-line vs ++ bs)) ≡ followed vs (valueLines s (suc line) left (linesOf bs))
-  line-read [] bs k f m b = absurd (omega arith)
-  line-read (v ∷ vs) bs k f m b =
-      starts s line left (written-values v vs ++ bs) 0 (some-byte v vs bs)
-      ∙ values-read v vs [] bs b
-      ∙ rw (eq-eqb (length (v ∷ vs)) (s .fields) k, m) refl
+digits-before : (n v : ℕ) (bs : List ℕ) (l : Line) (ls : List Line) → linesOf bs ≡ l ∷ ls
+    → linesOf (digits n v ++ bs) ≡ record { bytes = digits n v ++ l .bytes; ended = l .ended } ∷ ls
+unfolding digits linesOf
+digits-before zero v bs l ls e = e
+digits-before (suc n) v bs l ls e =
+    ap linesOf (append-snoc (digits n (v / 10)) (48 + v % 10) bs)
+    ∙ digits-before n (v / 10) ((48 + v % 10) ∷ bs) record { bytes = (48 + v % 10) ∷ l .bytes; ended = l .ended } ls one
+    ∙ ap (λ (xs : List ℕ). record { bytes = xs; ended = l .ended } ∷ ls) (sym (append-snoc (digits n (v / 10)) (48 + v % 10) (l .bytes)))
+  where
+    one : linesOf ((48 + v % 10) ∷ bs) ≡ record { bytes = (48 + v % 10) ∷ l .bytes; ended = l .ended } ∷ ls
+    one = rw (digit-class (v % 10) (omega arith), e) refl
+
+values-line : (v : ℕ) (vs bs : List ℕ) → linesOf (written-values v vs ++ (10 ∷ bs)) ≡ fed (written-values v vs) ∷ linesOf bs
+unfolding written-values linesOf classOf
+values-line v [] bs =
+    digits-before mostDigits v (10 ∷ bs) (fed []) (linesOf bs) refl
+    ∙ ap (λ (xs : List ℕ). fed xs ∷ linesOf bs) (append-nil (digits mostDigits v))
+values-line v (w ∷ vs) bs =
+    ap linesOf (append-assoc (digits mostDigits v) (32 ∷ written-values w vs) (10 ∷ bs))
+    ∙ digits-before mostDigits v (32 ∷ (written-values w vs ++ (10 ∷ bs))) (fed (32 ∷ written-values w vs)) (linesOf bs)
+    (ap (prefixed 32) (values-line w vs bs))
+
+-- one line in range
+line-read : (s : Sheet) (line left : ℕ) (vs bs : List ℕ) → length vs ≡ s .fields → 0 < s .fields → s .in-range vs ≡ true
+    → Below valueLimit vs
+    → valueLines s line (suc left) (linesOf (written-line vs ++ bs)) ≡ followed vs (valueLines s (suc line) left (linesOf bs))
+unfolding valueLines
+line-read s line left [] bs k f m b = absurd (omega arith)
+line-read s line left (v ∷ vs) bs k f m b =
+    let w = decides-values (s .fields) (fed (written-values v vs)) (v ∷ vs) .1 record {
+      is-ended = refl;
+      has = values-written v vs b;
+      all-fields = k;
+    } in
+    ap (λ (xs : List ℕ). valueLines s line (suc left) (linesOf xs)) (append-snoc (written-values v vs) 10 bs)
+    ∙ ap (valueLines s line (suc left)) (values-line v vs bs)
+    ∙ rw (w, m) refl
 
 pub data Rows-below (m : ℕ) : List (List ℕ) → Type 0 where
   none-below : Rows-below m []
   row-below : {vs : List ℕ} {rows : List (List ℕ)} → Below m vs → Rows-below m rows → Rows-below m (vs ∷ rows)
 
-nothing-left : (s : Sheet) (line left : ℕ) → valueLines s line left (linesOf []) ≡ accepted []
+pub nothing-left : (s : Sheet) (line left : ℕ) → valueLines s line left (linesOf []) ≡ accepted []
 unfolding valueLines linesOf
 nothing-left s line left = refl
 
@@ -142,19 +142,18 @@ unfolding startsWith
 starts-self [] rest = refl
 starts-self (b ∷ bs) rest = and-both (eqb b b) (startsWith bs (bs ++ rest)) (eq-eqb b b refl) (starts-self bs rest)
 
+-- a text that begins with the names line is read by its value lines
+pub names-read : (s : Sheet) (rest : List ℕ) → length (s .names ++ rest) ≤ longestSheet
+    → sheet s (s .names ++ rest) ≡ valueLines s 2 (s .most) (linesOf rest)
+unfolding sheet
+names-read s rest short =
+    rw (le-ltb longestSheet (length (s .names ++ rest)) short, starts-self (s .names) rest, drop-append-seam (s .names) rest)
+
 -- the sheet that is written from rows in range is accepted with these rows
 pub written-read : (s : Sheet) (rows : List (List ℕ)) → 0 < s .fields → Rows s rows → Rows-below valueLimit rows → length rows ≤ s .most
     → length (written s rows) ≤ longestSheet
     → sheet s (written s rows) ≡ accepted rows
-unfolding sheet
-written-read s rows f r b few short =
-    rw (
-      le-ltb longestSheet (length (written s rows)) short,
-      starts-self (s .names) (flatten (map written-line rows)),
-      drop-append-seam
-          (s .names) (flatten (map written-line rows)),
-    )
-    (rows-read s 2 (s .most) f r b few)
+written-read s rows f r b few short = names-read s (flatten (map written-line rows)) short ∙ rows-read s 2 (s .most) f r b few
 
 pub lines-length : (s : Sheet) {rows : List (List ℕ)} → 0 < s .fields → Rows s rows
     → length (flatten (map written-line rows)) ≡ length (flatten rows) * suc mostDigits
@@ -168,7 +167,7 @@ lines-length s f (row {vs} {rows} k m r) = go vs k (lines-length s f r)
     go (v ∷ vs) k ih =
         omega (
           arith,
-          length-append (written-values v vs) (flatten (map written-line rows)),
+          length-append (written-line (v ∷ vs)) (flatten (map written-line rows)),
           length-append (v ∷ vs) (flatten rows),
           values-length v vs,
           ih,

@@ -1,32 +1,32 @@
 use borrow.Author.Tests.{lt-ltb, le-ltb}
 use Rattle.sheet_bytes.proofs.ByteLaws.{digit-byte}
 use native.Mathlib.Omega.{arith}
+use mathlib.Core.Path.{sym, _∙_}
 use borrow.Author.Needs.{needs}
 use Rattle.sheet_bytes.proofs.digit.Statement.{statement}
 use Rattle.sheet_bytes.proofs.digit.Tie as tie
 
-returns : tie.Need-returns
-returns c = simp (le-ltb _ _ (c .if1 .taken))
+with-fault-requires : tie.Need-with-fault-requires
+with-fault-requires c κs = search needs
 
-returns-2 : tie.Need-returns-2
-returns-2 c = simp (lt-ltb _ _ (c .before .before .if1 .left), le-ltb _ _ (c .if2 .taken))
+returns : tie.Need-returns
+returns c = c .with-fault .ensures ∙ sym (simp (le-ltb _ _ (c .before .if1 .taken)))
 
 add-t4 : tie.Need-add-t4
 add-t4 c = search needs
 
-mul-t5 : tie.Need-mul-t5
-mul-t5 c = search needs
+mul-t6 : tie.Need-mul-t6
+mul-t6 c = search needs
 
-sub-t7 : tie.Need-sub-t7
-sub-t7 c =
-    let h = digit-byte (c .before .before .before .before .before .before .args .b)
-    (c .before .before .before .before .before .before .pre) in omega arith
+sub-t8 : tie.Need-sub-t8
+sub-t8 c =
+    let h = digit-byte (c .before .before .before .before .args .b) (c .before .before .before .before .pre) in omega arith
 
-add-t8 : tie.Need-add-t8
-add-t8 c = search needs
+add-t9 : tie.Need-add-t9
+add-t9 c = search needs
 
-returns-3 : tie.Need-returns-3
-returns-3 c = simp (lt-ltb _ _ (c .before .before .before .before .if1 .left), lt-ltb _ _ (c .before .before .if2 .left))
+returns-2 : tie.Need-returns-2
+returns-2 c = simp (lt-ltb _ _ (c .before .before .if1 .left))
 
 pub digit-spec : {M : Type 1} → statement M
-digit-spec = tie.close (tie.spec returns returns-2 add-t4 mul-t5 sub-t7 add-t8 returns-3)
+digit-spec = tie.close (tie.spec with-fault-requires returns add-t4 mul-t6 sub-t8 add-t9 returns-2)

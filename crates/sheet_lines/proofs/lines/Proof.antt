@@ -65,7 +65,8 @@ bytes-holds c =
       (
         t .inv .0,
         rw (c .nothing .ensures)
-            (laws.enter (sheetOf (a .kind)) (a .text .now) (a .from) (a .buffer .now) (t .buffer) (t .i) (t .n) (t .inv .1) (some-field (a .kind))
+            (laws.enter (sheetOf (a .kind)) (a .text .now) (a .from) (a .buffer .now) (t .buffer) (t .i) (t .n) (t .inv .1)
+            (some-field (a .kind))
             (c .before .before .lines-test .taken) r),
       ),
     )
@@ -151,8 +152,8 @@ bytes-again c =
 enum-told : tie.Need-enum-told Inv-bytes μ-bytes Inv-lines μ-lines
 enum-told c = search needs
 
-enum-told-2 : tie.Need-enum-told-2 Inv-bytes μ-bytes Inv-lines μ-lines
-enum-told-2 c = search needs
+enum-known-next-2 : tie.Need-enum-known-next-2 Inv-bytes μ-bytes Inv-lines μ-lines
+enum-known-next-2 c = search needs
 
 in-range-requires : tie.Need-in-range-requires Inv-bytes μ-bytes Inv-lines μ-lines
 in-range-requires c κs =
@@ -220,7 +221,8 @@ answered c =
     (λ w.
     rw (w .4) (record {
       gives =
-          laws.too-many s (a .text .now) (a .from) (a .buffer .now) (t .buffer) (t .i) n (t .inv .1) (w .0 .taken) (w .1 .taken ∙ c .before .before .most .ensures);
+          laws.too-many s (a .text .now) (a .from) (a .buffer .now) (t .buffer) (t .i) n (t .inv .1) (w .0 .taken)
+          (w .1 .taken ∙ c .before .before .most .ensures);
       after =
           refl;
     }))
@@ -241,19 +243,17 @@ answered c =
     let b = w .3 in
     let inv = b .inv .1 .1 in
     let h = places (a .kind) n (inv .room) in
-    rw (w .13) (record {
-      gives =
-          laws.malformed s (a .text .now) (a .from) (t .buffer) (b .buffer) (b .i) n (b .p) inv h (w .4 .left) (rw f at (sym (w .8 .ensures) ∙ w .10 .given .1));
-      after =
-          refl;
-    }))
+    rw (w .14)
+    (laws.malformed s (a .text .now) (a .from) (t .buffer) (b .buffer) (b .i) n (b .p) inv h (w .4 .left) _
+    (rw f at (sym (w .8 .ensures) ∙ w .10 .given .1)) (a .buffer .now) (c .lines-test .buffer)))
     (λ w.
     let b = w .3 in
     let inv = b .inv .1 .1 in
     let h = places (a .kind) n (inv .room) in
     rw (w .16) (record {
       gives =
-          laws.outside s (a .text .now) (a .from) (t .buffer) (b .buffer) (b .i) n (b .p) inv h (w .4 .left) (rw f at (sym (w .8 .ensures) ∙ w .10 .given .1)) (rw f at (sym (w .12 .ensures) ∙ not-true (w .12 .result) (w .13 .taken)));
+          laws.outside s (a .text .now) (a .from) (t .buffer) (b .buffer) (b .i) n (b .p) inv h (w .4 .left)
+          (rw f at (sym (w .8 .ensures) ∙ w .10 .given .1)) (rw f at (sym (w .12 .ensures) ∙ not-true (w .12 .result) (w .13 .taken)));
       after =
           refl;
     })))))
@@ -286,7 +286,7 @@ lines-spec =
     bytes-less
     bytes-again
     enum-told
-    enum-told-2
+    enum-known-next-2
     in-range-requires
     add-n
     lines-less

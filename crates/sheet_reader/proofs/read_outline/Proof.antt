@@ -68,7 +68,8 @@ returns-2 c =
     let k = held (c .before .before .before .before .before) in
     let e = outline-refused _ _ _ _ _ k (c .before .f .given .0 .0) (c .before .f .given .0 .1 .0)
     (sym (c .before .before .before .checked .ensures) ∙ ap fault (c .before .f .given .1)) in
-    let h = refused-reads (roomy (length (a .table .now)) nodePlaces (ruledResult (sheet outlineSheet (a .text .now)))) (a .table .now) _ _ e in
+    let h = refused-reads (roomy (length (a .table .now)) nodePlaces (ruledResult (sheet outlineSheet (a .text .now))))
+    (a .table .now) _ _ e in
     (h .answers, h .table)
 
 same-length : tie.Need-same-length

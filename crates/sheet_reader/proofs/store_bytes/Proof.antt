@@ -88,7 +88,8 @@ returns c =
     let a = c .before .before .before .before .args in
     let t = c .before .loop in
     let w = c .before .before .width in
-    rw (w .ensures) at (all-filled (λ i. getD (a .buffer .now) (bufferPlace (a .pick) i) 0) (a .table .now) (a .n * w .result) (t .table) (t .k)
+    rw (w .ensures) at (all-filled (λ i. getD (a .buffer .now) (bufferPlace (a .pick) i) 0) (a .table .now) (a .n * w .result) (t .table)
+    (t .k)
     (t .inv) (c .loop-test .left))
 
 pub store-bytes-spec : {M : Type 1} → statement M
