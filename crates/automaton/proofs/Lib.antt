@@ -2,4 +2,5 @@
 pub mod MaskLaws
 pub mod MoveLaws
 pub mod RowLaws
+pub mod SameLaws
 pub mod UnionLaws

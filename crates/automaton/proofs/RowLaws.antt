@@ -9,17 +9,17 @@ use native.Mathlib.Numerals.{add-one}
 use lib.Dec.{eqb, ltb, lit<}
 use lib.ListN.{length, getD, set, replicate, length-set, List·getD-eq-default}
 use lib.Seq.{getD-set-same, getD-set-other, set-getD}
-use lib.Bits.{bitOr, or-zero-l, or-zero-r}
+use lib.Bits.{bitOr, bitXor, or-zero-l, or-zero-r, and-le-l, and-le-r, xor-add-and}
 use borrow.Author.Tests.{eq-eqb, ne-eqb, eqb-true, eqb-false, ltb-true, ltb-false, lt-ltb}
 use Rattle.usage.specs.declared.Edge.{Edge}
-use Rattle.usage.specs.Limits.{policies, states}
+use Rattle.usage.specs.Limits.{policies, states, edgeFields}
 use Rattle.usage.specs.Tables.{from, edgeAt}
 use Rattle.usage.proofs.Logic.{false-true, by-cases, last-or-lower}
 use Rattle.usage.proofs.TableLaws.{length-from, getD-from, from-snoc, from-ext, is-from}
 use Rattle.automaton.specs.Mask.{has, single, union}
 use Rattle.automaton.specs.Move.{part, targets, image, move, labelled, fires, moveMask, rowPlaces, rowsOf, moveBy}
-use Rattle.automaton.specs.Code.{endOf, joined, edgeEnds, stayed, moveByPolicy}
-use Rattle.automaton.proofs.MaskLaws.{or-assoc, bit-shifted, single-is}
+use Rattle.automaton.specs.Code.{endOf, joined, followed, edgeEnds, stayed, changed, moveByPolicy}
+use Rattle.automaton.proofs.MaskLaws.{or-assoc, bit-shifted, single-is, left-le, right-le, all-below, all-below-at}
 use Rattle.automaton.proofs.MoveLaws.{image-lt}
 
 -- ── Places ──
@@ -32,7 +32,7 @@ place-state p q h = omega arith
 
 -- ── Moving by rows ──
 
-union-ext : (n : ℕ) (f g : ℕ → ℕ) → ((i : ℕ) → i < n → f i ≡ g i) → union n f ≡ union n g
+pub union-ext : (n : ℕ) (f g : ℕ → ℕ) → ((i : ℕ) → i < n → f i ≡ g i) → union n f ≡ union n g
 unfolding union
 union-ext zero f g h = refl
 union-ext (suc n) f g h = ap (λ (m : ℕ). bitOr m (f n)) (union-ext n f g (λ i l. h i (omega arith)))
@@ -54,6 +54,55 @@ pub movedBy-held : (s : List ℕ) (p m r : ℕ) → p < policies
     → r ≡ moveByPolicy s p m
 unfolding moveByPolicy
 movedBy-held s p m r h e = e ∙ sym (moveBy-held s (p * states) m) ∙ sym (ap (λ b. cond b (moveBy s (p * states) m) m) (lt-ltb p policies h))
+
+-- ── Rows that leave every state where it is ──
+
+abbrev pub stayRows : List ℕ
+stayRows = 1 ∷ 2 ∷ 4 ∷ 8 ∷ 16 ∷ 32 ∷ 64 ∷ 128 ∷ []
+
+differ-none : (a b : ℕ) → bitXor a b ≡ 0 → a ≡ b
+differ-none a b e = omega (arith, xor-add-and a b, and-le-l a b, and-le-r a b)
+
+join-none : (a b : ℕ) → bitOr a b ≡ 0 → (a ≡ 0) × (b ≡ 0)
+join-none a b e = (omega (arith, left-le a b), omega (arith, right-le a b))
+
+pub changed-none : (a b c d e f g h : ℕ) → changed a b c d e f g h ≡ 0 → (a ∷ b ∷ c ∷ d ∷ e ∷ f ∷ g ∷ h ∷ []) ≡ stayRows
+changed-none a b c d e f g h z =
+    let z7 = join-none _ (bitXor h 128) z in
+    let z6 = join-none _ (bitXor g 64) (z7 .0) in
+    let z5 = join-none _ (bitXor f 32) (z6 .0) in
+    let z4 = join-none _ (bitXor e 16) (z5 .0) in
+    let z3 = join-none _ (bitXor d 8) (z4 .0) in
+    let z2 = join-none _ (bitXor c 4) (z3 .0) in
+    let z1 = join-none (bitXor a 1) (bitXor b 2) (z2 .0) in
+    rw (
+      differ-none a 1 (z1 .0),
+      differ-none b 2 (z1 .1),
+      differ-none c 4 (z2 .1),
+      differ-none d 8 (z3 .1),
+      differ-none e 16 (z4 .1),
+      differ-none f 32 (z5 .1),
+      differ-none g 64 (z6 .1),
+      differ-none h 128 (z7 .1),
+    ) refl
+
+stay-test : all-below 256 (λ m. eqb (moveBy stayRows 0 m) m) ≡ true
+unfolding all-below moveBy union has
+stay-test = refl
+
+pub stay-moves : (m : ℕ) → m < 256 → moveBy stayRows 0 m ≡ m
+stay-moves m l = eqb-true (moveBy stayRows 0 m) m (all-below-at 256 (λ m. eqb (moveBy stayRows 0 m) m) stay-test m l)
+
+-- so of a policy whose rows change nothing
+pub stays-held : (s : List ℕ) (p m : ℕ) → p < policies → m < 256
+    → changed (getD s (p * states) 0) (getD s (p * states + 1) 0) (getD s (p * states + 2) 0) (getD s (p * states + 3) 0)
+    (getD s (p * states + 4) 0) (getD s (p * states + 5) 0) (getD s (p * states + 6) 0) (getD s (p * states + 7) 0) ≡ 0
+    → m ≡ moveByPolicy s p m
+stays-held s p m h l z =
+    movedBy-held s p m m h
+    (sym (ap (λ r. moveBy r 0 m) (changed-none (getD s (p * states) 0) (getD s (p * states + 1) 0) (getD s (p * states + 2) 0)
+    (getD s (p * states + 3) 0) (getD s (p * states + 4) 0) (getD s (p * states + 5) 0) (getD s (p * states + 6) 0)
+    (getD s (p * states + 7) 0) z) ∙ stay-moves m l))
 
 -- the eight parts of a moved set, joined in order
 or-both : {u v s t : ℕ} → u ≡ v → s ≡ t → bitOr u s ≡ bitOr v t
@@ -218,20 +267,59 @@ module _ (es : List Edge) (e : Edge) (a r : ℕ) (mine : Bool) where
           (λ i l. sym
           (unmet (0 + i) (elsewhere (0 + i) (λ w. let u = w .0 in let v = ltb-false (e .policy) policies y in omega arith))))
 
+-- an edge is followed exactly where it has the action
+module _ (t : List ℕ) (e : Edge) (a r : ℕ) (mine : Bool) where
+  pub followed-met : e .action ≡ a → followed t e a r mine ≡ joined t (e .policy) (e .from) (endOf (e .on) (e .who) (e .to) mine r)
+  unfolding followed
+  followed-met q = ap (λ b. cond b (joined t (e .policy) (e .from) (endOf (e .on) (e .who) (e .to) mine r)) t) (eq-eqb _ _ q)
+
+  pub followed-unmet : (e .action ≡ a → ⊥) → followed t e a r mine ≡ t
+  unfolding followed
+  followed-unmet q = ap (λ b. cond b (joined t (e .policy) (e .from) (endOf (e .on) (e .who) (e .to) mine r)) t) (ne-eqb _ _ q)
+
 -- the same over the first i edges of a table
 module _ (t : List ℕ) (a r : ℕ) (mine : Bool) where
   pub ends-none : replicate rowPlaces 0 ≡ edgeEnds (from (edgeAt t) 0 0) a r mine
   unfolding edgeEnds from targets
   ends-none = refl
 
-  pub ends-skip : (i : ℕ) → (getD t (6 * i + 2) 0 ≡ a → ⊥)
-      → edgeEnds (from (edgeAt t) 0 i) a r mine ≡ edgeEnds (from (edgeAt t) 0 (i + 1)) a r mine
-  ends-skip i h = rw (add-one i, edges-more t i) (sym (ends-other (from (edgeAt t) 0 i) (edgeAt t i) a r mine h))
+  -- one more edge
+  pub ends-more : (i : ℕ) (s : List ℕ) → s ≡ edgeEnds (from (edgeAt t) 0 i) a r mine
+      → followed s (edgeAt t i) a r mine ≡ edgeEnds (from (edgeAt t) 0 (i + 1)) a r mine
+  ends-more i s d = rw (d, add-one i, edges-more t i) (go (eqb (edgeAt t i .action) a) refl)
+    where
+      old : List ℕ
+      old = edgeEnds (from (edgeAt t) 0 i) a r mine
 
-  pub ends-join : (i : ℕ) → getD t (6 * i + 2) 0 ≡ a → (s : List ℕ) (m : ℕ) → s ≡ edgeEnds (from (edgeAt t) 0 i) a r mine
-      → m ≡ endOf (getD t (6 * i + 3) 0) (getD t (6 * i + 4) 0) (getD t (6 * i + 5) 0) mine r
-      → joined s (getD t (6 * i) 0) (getD t (6 * i + 1) 0) m ≡ edgeEnds (from (edgeAt t) 0 (i + 1)) a r mine
-  ends-join i h s m d e = rw (d, e, add-one i, edges-more t i) (ends-joined (from (edgeAt t) 0 i) (edgeAt t i) a r mine h)
+      go : (b : Bool) → eqb (edgeAt t i .action) a ≡ b
+          → followed old (edgeAt t i) a r mine ≡ edgeEnds (from (edgeAt t) 0 i ++ (edgeAt t i ∷ [])) a r mine
+      go true q =
+          let x = eqb-true (edgeAt t i .action) a q in
+          followed-met old (edgeAt t i) a r mine x ∙ ends-joined (from (edgeAt t) 0 i) (edgeAt t i) a r mine x
+      go false q =
+          let x = eqb-false (edgeAt t i .action) a q in
+          followed-unmet old (edgeAt t i) a r mine x ∙ sym (ends-other (from (edgeAt t) 0 i) (edgeAt t i) a r mine x)
+
+  -- four more
+  pub ends-four : (i : ℕ) (s s₁ s₂ s₃ s₄ : List ℕ) → s ≡ edgeEnds (from (edgeAt t) 0 (4 * i)) a r mine
+      → s₁ ≡ followed s (edgeAt t (4 * i)) a r mine → s₂ ≡ followed s₁ (edgeAt t (4 * i + 1)) a r mine
+      → s₃ ≡ followed s₂ (edgeAt t (4 * i + 2)) a r mine → s₄ ≡ followed s₃ (edgeAt t (4 * i + 3)) a r mine
+      → s₄ ≡ edgeEnds (from (edgeAt t) 0 (4 * (i + 1))) a r mine
+  ends-four i s s₁ s₂ s₃ s₄ e e₁ e₂ e₃ e₄ =
+      let f₁ = e₁ ∙ ends-more (4 * i) s e in
+      let f₂ = e₂ ∙ ends-more (4 * i + 1) s₁ f₁ ∙ again (4 * i + 1 + 1) (4 * i + 2) (omega arith) in
+      let f₃ = e₃ ∙ ends-more (4 * i + 2) s₂ f₂ ∙ again (4 * i + 2 + 1) (4 * i + 3) (omega arith) in
+      e₄ ∙ ends-more (4 * i + 3) s₃ f₃ ∙ again (4 * i + 3 + 1) (4 * (i + 1)) (omega arith)
+    where
+      again : (m n : ℕ) → m ≡ n → edgeEnds (from (edgeAt t) 0 m) a r mine ≡ edgeEnds (from (edgeAt t) 0 n) a r mine
+      again m n q = ap (λ (n : ℕ). edgeEnds (from (edgeAt t) 0 n) a r mine) q
+
+  -- an action that no edge has
+  pub ends-wide : (n : ℕ) → ((k : ℕ) → getD t k 0 < a) → replicate rowPlaces 0 ≡ edgeEnds (from (edgeAt t) 0 n) a r mine
+  ends-wide zero h = ends-none
+  ends-wide (suc n) h = ends-wide n h
+      ∙ rw (edges-more t n) (sym (ends-other (from (edgeAt t) 0 n) (edgeAt t n) a r mine
+      (λ e. absurd (omega (arith, e, h (edgeFields * n + 2))))))
 
 -- joining the empty set changes nothing
 pub joined-none : (t : List ℕ) (p q : ℕ) → joined t p q 0 ≡ t
@@ -262,28 +350,16 @@ module _ (t : List ℕ) where
   staying-all s e h = is-from (stayAt t) 0 rowPlaces s (h .size ∙ e) (h .done)
 
   module _ (s : List ℕ) (k : ℕ) (h : Staying t s k) where
-    -- a place with an end is left
-    pub staying-left : (getD s k 0 ≡ 0 → ⊥) → Staying t s (k + 1)
-    staying-left n = record {
-      size = h .size;
+    -- one more place: what it holds, or its state where it holds nothing
+    pub staying-more : k < length t → Staying t (set s k (cond (eqb (getD s k 0) 0) (single (k % states)) (getD s k 0))) (k + 1)
+    staying-more b = record {
+      size = length-set s k _ ∙ h .size;
       done = λ j l. by-cases (last-or-lower j k (omega arith))
           (λ e. rw e
-          (h .ahead k (omega arith)
-          ∙ sym (ap (λ b. cond b (single (k % states)) (getD t k 0)) (ne-eqb (getD t k 0) 0 (λ z. n (h .ahead k (omega arith) ∙ z))))))
-          (λ i. h .done j i);
-      ahead = λ j l. h .ahead j (omega arith);
-    }
-
-    -- a place with none takes its state
-    pub staying-set : k < length t → getD s k 0 ≡ 0 → Staying t (set s k (single (k % states))) (k + 1)
-    staying-set b n = record {
-      size = length-set s k (single (k % states)) ∙ h .size;
-      done = λ j l. by-cases (last-or-lower j k (omega arith))
-          (λ e. rw e
-          (getD-set-same s k (single (k % states)) 0 (subst (λ (m : ℕ). k < m) (sym (h .size)) b)
-          ∙ sym (ap (λ b. cond b (single (k % states)) (getD t k 0)) (eq-eqb (getD t k 0) 0 (sym (h .ahead k (omega arith)) ∙ n)))))
-          (λ i. getD-set-other s k j (single (k % states)) 0 (λ z. omega arith) ∙ h .done j i);
-      ahead = λ j l. getD-set-other s k j (single (k % states)) 0 (λ z. omega arith) ∙ h .ahead j (omega arith);
+          (getD-set-same s k _ 0 (subst (λ (m : ℕ). k < m) (sym (h .size)) b)
+          ∙ ap (λ (v : ℕ). cond (eqb v 0) (single (k % states)) v) (h .ahead k (omega arith))))
+          (λ i. getD-set-other s k j _ 0 (λ z. omega arith) ∙ h .done j i);
+      ahead = λ j l. getD-set-other s k j _ 0 (λ z. omega arith) ∙ h .ahead j (omega arith);
     }
 
 pub ends-length : (es : List Edge) (a r : ℕ) (mine : Bool) → length (edgeEnds es a r mine) ≡ rowPlaces

@@ -7,7 +7,7 @@ ghost use mathlib.Core.Bool.{cond};
 ghost use mathlib.Core.List.{List, [], _∷_};
 ghost use lib.Dec.{eqb};
 ghost use Rattle.automaton.specs.Move.{moveBy};
-ghost use Rattle.automaton.specs.Code.{moveByPolicy};
+ghost use Rattle.automaton.specs.Code.{changed, moveByPolicy};
 
 pub mod moves;
 
@@ -36,6 +36,13 @@ pub fn move_by_rows(x: u8, a: u8, b: u8, c: u8, d: u8, e: u8, f: u8, g: u8, h: u
         | pick(x, 128, h)
 }
 
+// Do eight rows leave every state where it is? Most events move few policies, and the test costs less than moving.
+pub fn stays(a: u8, b: u8, c: u8, d: u8, e: u8, f: u8, g: u8, h: u8) -> bool
+    ensures { λ r. ⌜ r ≡ eqb (changed a b c d e f g h) 0 ⌝ }
+{
+    (a ^ 1) | (b ^ 2) | (c ^ 4) | (d ^ 8) | (e ^ 16) | (f ^ 32) | (g ^ 64) | (h ^ 128) == 0
+}
+
 // The set x moved by the rows of a policy.
 pub fn move_set(rows: &[u8; ROWS], policy: usize, x: u8) -> u8
     ensures { λ r. ⌜ r ≡ moveByPolicy (now (rows .entry)) policy x ⌝ }
@@ -44,6 +51,18 @@ pub fn move_set(rows: &[u8; ROWS], policy: usize, x: u8) -> u8
         return x;
     }
     let k = policy * STATES;
+    if stays(
+        rows[k],
+        rows[k + 1],
+        rows[k + 2],
+        rows[k + 3],
+        rows[k + 4],
+        rows[k + 5],
+        rows[k + 6],
+        rows[k + 7],
+    ) {
+        return x;
+    }
     move_by_rows(
         x,
         rows[k],

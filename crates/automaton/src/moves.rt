@@ -3,15 +3,17 @@
 use crate::ROWS;
 use usage::EDGE_FIELDS;
 use usage::STATES;
-ghost use Prim.Native.Nat.{_/_, _*_, _+_, _<_};
+ghost use Prim.Native.Nat.{_/_, _*_, _+_, _<_, _≤_};
 ghost use mathlib.Core.Path.{_≡_};
-ghost use mathlib.Core.Bool.{true, false};
+ghost use mathlib.Core.Bool.{true, false, cond};
+ghost use lib.Dec.{eqb};
 ghost use lib.ListN.{length, replicate};
 ghost use Rattle.usage.specs.declared.Edge.{Edge};
-ghost use Rattle.usage.specs.Tables.{edgesOf};
+ghost use Rattle.usage.specs.Limits.{states, edgeFields};
+ghost use Rattle.usage.specs.Tables.{from, edgeAt, edgesOf};
 ghost use Rattle.automaton.specs.Mask.{single};
 ghost use Rattle.automaton.specs.Move.{rowPlaces, rowsOf};
-ghost use Rattle.automaton.specs.Code.{endOf, joined, edgeEnds, stayed};
+ghost use Rattle.automaton.specs.Code.{endOf, joined, followed, edgeEnds, stayed};
 
 // The end of an edge, joined to what stands at its state of its policy. One test for the three numbers: each is below 8 exactly where
 // their union as bits is; where one is not, the edge has no place or no end.
@@ -55,7 +57,60 @@ fn follow(
     }
 }
 
-// The ends of the matching edges, joined to two empty tables.
+// The end of edge i, joined to the two tables where its action is a.
+fn follow_edge(
+    edges: &[u8],
+    i: usize,
+    a: u8,
+    resource: u32,
+    own: &mut [u8; ROWS],
+    other: &mut [u8; ROWS],
+)
+    requires { ⌜ edgeFields * i + edgeFields ≤ length (now edges) ⌝ }
+    ensures { λ r. ⌜ now (own .exit) ≡ followed (now (own .entry)) (edgeAt (now (edges .entry)) i) a resource true ⌝ }
+    ensures { λ r. ⌜ now (other .exit) ≡ followed (now (other .entry)) (edgeAt (now (edges .entry)) i) a resource false ⌝ }
+{
+    let k = EDGE_FIELDS * i;
+    if edges[k + 2] == a {
+        follow(
+            own,
+            other,
+            edges[k],
+            edges[k + 1],
+            edges[k + 3],
+            edges[k + 4],
+            edges[k + 5],
+            resource,
+        );
+    }
+}
+
+// Those of n edges from edge i on, four at a turn: few edges have the action, and so the turns are what costs.
+fn follow_fours(
+    edges: &[u8],
+    n: usize,
+    a: u8,
+    resource: u32,
+    own: &mut [u8; ROWS],
+    other: &mut [u8; ROWS],
+)
+    requires { ⌜ edgeFields * (4 * n) ≤ length (now edges) ⌝ }
+    requires { ⌜ now own ≡ replicate rowPlaces 0 ⌝ }
+    requires { ⌜ now other ≡ replicate rowPlaces 0 ⌝ }
+    ensures { λ r. ⌜ now (own .exit) ≡ edgeEnds (from (edgeAt (now (edges .entry))) 0 (4 * n)) a resource true ⌝ }
+    ensures { λ r. ⌜ now (other .exit) ≡ edgeEnds (from (edgeAt (now (edges .entry))) 0 (4 * n)) a resource false ⌝ }
+{
+    let mut i: usize = 0;
+    while i < n {
+        follow_edge(edges, 4 * i, a, resource, own, other);
+        follow_edge(edges, 4 * i + 1, a, resource, own, other);
+        follow_edge(edges, 4 * i + 2, a, resource, own, other);
+        follow_edge(edges, 4 * i + 3, a, resource, own, other);
+        i += 1;
+    }
+}
+
+// The ends of the matching edges, joined to two empty tables. An action is compared as a byte, and no edge has a greater one.
 fn collect_ends(
     edges: &[u8],
     action: u32,
@@ -68,22 +123,16 @@ fn collect_ends(
     ensures { λ r. ⌜ now (own .exit) ≡ edgeEnds (edgesOf (now (edges .entry))) action resource true ⌝ }
     ensures { λ r. ⌜ now (other .exit) ≡ edgeEnds (edgesOf (now (edges .entry))) action resource false ⌝ }
 {
+    if 255 < action {
+        return;
+    }
+    let a = action as u8;
     let n = edges.len() / EDGE_FIELDS;
-    let mut i: usize = 0;
+    let fours = n / 4;
+    follow_fours(edges, fours, a, resource, own, other);
+    let mut i = 4 * fours;
     while i < n {
-        let k = EDGE_FIELDS * i;
-        if edges[k + 2] as u32 == action {
-            follow(
-                own,
-                other,
-                edges[k],
-                edges[k + 1],
-                edges[k + 3],
-                edges[k + 4],
-                edges[k + 5],
-                resource,
-            );
-        }
+        follow_edge(edges, i, a, resource, own, other);
         i += 1;
     }
 }
@@ -95,16 +144,22 @@ fn clear(table: &mut [u8; ROWS])
     *table = [0u8; ROWS];
 }
 
-// Where no edge leads out of a state, the state stays.
+// The set, or the state q alone where it is empty.
+fn or_state(v: u8, q: u32) -> u8
+    requires { ⌜ q < states ⌝ }
+    ensures { λ r. ⌜ r ≡ cond (eqb v 0) (single q) v ⌝ }
+{
+    if v == 0 { 1u8 << q } else { v }
+}
+
+// Where no edge leads out of a state, the state stays. A value is stored at every place, so that several are at once.
 fn stay(table: &mut [u8; ROWS])
     requires { ⌜ length (now table) ≡ rowPlaces ⌝ }
     ensures { λ r. ⌜ now (table .exit) ≡ stayed (now (table .entry)) ⌝ }
 {
     let mut k: usize = 0;
     while k < ROWS {
-        if table[k] == 0 {
-            table[k] = 1u8 << ((k % STATES) as u32);
-        }
+        table[k] = or_state(table[k], (k % STATES) as u32);
         k += 1;
     }
 }

@@ -24,18 +24,23 @@ ghost use Rattle.usage.specs.Judge.{stepOf};
 ghost use Rattle.usage.specs.Tables.{edgesOf};
 ghost use Rattle.monitor_state.specs.Judge.{startState, judgeRead, judgeOf};
 ghost use Rattle.monitor_state.specs.Promise.{StandsForNothing, Keeps};
+ghost use Rattle.monitor_state.specs.Renamed.{SameAnswers};
 ghost use Rattle.monitor_state.specs.declared.Answer.the-variants.{Refused};
 ghost use Rattle.monitor_state.specs.Code.{says, stateOf, judgementOf, toldOf, stepped, settledBy};
 
+// The start stands for the empty past, and from it no answer depends on how the dynamic resources are numbered.
 pub fn start() -> State
     ensures { λ r. ⌜ r ≡ startState ⌝ }
     ensures { λ r. ⌜ StandsForNothing r ⌝ }
+    ensures { λ r. ⌜ SameAnswers r ⌝ }
 {
     let sets = [1u8; SETS];
+    let possible = [1u8; POLICIES];
     let created = [0u32; MOST_CREATED];
     let unclosed = [0u8; POLICIES];
     State {
         sets,
+        possible,
         created,
         count: 0,
         unclosed,
@@ -45,63 +50,71 @@ pub fn start() -> State
 
 // ── One step ──
 
-// An opening or a closing that leaves p with n openings that are not closed. It moves no state and creates nothing, so the
-// answer is the same whatever the edges and the created resources are.
+// An opening or a closing that leaves p with n openings that are not closed. It moves no state and creates nothing, and what the policies
+// may be in is kept; so the answer is the same whatever the edges, the sets and the created resources are.
 fn judge_unclosed(
-    sets: &[u8; SETS],
+    possible: &[u8; POLICIES],
     unclosed: &mut [u8; POLICIES],
     count: usize,
     p: usize,
     n: u8,
 ) -> Told
     requires { ⌜ p < policies ⌝ }
-    requires { ⌜ count ≤ mostCreated ⌝ }
-    ensures { λ r. ⌜ ((created : List ℕ) → judgementOf r (now (sets .entry)) created (now (unclosed .exit))
-        ≡ settledBy (stateOf (now (sets .entry)) created count (now (unclosed .entry)) false)
-        (stateOf (now (sets .entry)) created count (set (now (unclosed .entry)) p n) false)) ⌝ }
+    ensures { λ r. ⌜ ((sets created : List ℕ) → judgementOf r sets (now (possible .entry)) created (now (unclosed .exit))
+        ≡ settledBy (stateOf sets (now (possible .entry)) created count (now (unclosed .entry)) false)
+        (stateOf sets (now (possible .entry)) created count (set (now (unclosed .entry)) p n) false)) ⌝ }
 {
     let mut after = *unclosed;
     after[p] = n;
-    let bad = monitor_sets::instances::broken_set(sets, &after, FIRST_CREATED + count);
+    let bad = monitor_sets::instances::broken_set(possible, &after);
     if bad == 0 {
         *unclosed = after;
     }
     monitor_state::settled(bad, count, count)
 }
 
-fn judge_opening(sets: &[u8; SETS], unclosed: &mut [u8; POLICIES], count: usize, p: usize) -> Told
+fn judge_opening(
+    possible: &[u8; POLICIES],
+    unclosed: &mut [u8; POLICIES],
+    count: usize,
+    p: usize,
+) -> Told
     requires { ⌜ p < policies ⌝ }
-    requires { ⌜ count ≤ mostCreated ⌝ }
     ensures { λ r.
-        ⌜ ((es : List Edge) (created : List ℕ)
-        → judgementOf r (now (sets .entry)) created (now (unclosed .exit))
-        ≡ stepped es (stateOf (now (sets .entry)) created count (now (unclosed .entry)) false) (opening p)) ⌝ }
+        ⌜ ((es : List Edge) (sets created : List ℕ)
+        → judgementOf r sets (now (possible .entry)) created (now (unclosed .exit))
+        ≡ stepped es (stateOf sets (now (possible .entry)) created count (now (unclosed .entry)) false) (opening p)) ⌝ }
 {
     let n = unclosed[p];
     if MOST_OPEN <= n {
         return monitor_state::refused(31, count, false);
     }
-    judge_unclosed(sets, unclosed, count, p, n + 1)
+    judge_unclosed(possible, unclosed, count, p, n + 1)
 }
 
-fn judge_closing(sets: &[u8; SETS], unclosed: &mut [u8; POLICIES], count: usize, p: usize) -> Told
+fn judge_closing(
+    possible: &[u8; POLICIES],
+    unclosed: &mut [u8; POLICIES],
+    count: usize,
+    p: usize,
+) -> Told
     requires { ⌜ p < policies ⌝ }
-    requires { ⌜ count ≤ mostCreated ⌝ }
     ensures { λ r.
-        ⌜ ((es : List Edge) (created : List ℕ)
-        → judgementOf r (now (sets .entry)) created (now (unclosed .exit))
-        ≡ stepped es (stateOf (now (sets .entry)) created count (now (unclosed .entry)) false) (closing p)) ⌝ }
+        ⌜ ((es : List Edge) (sets created : List ℕ)
+        → judgementOf r sets (now (possible .entry)) created (now (unclosed .exit))
+        ≡ stepped es (stateOf sets (now (possible .entry)) created count (now (unclosed .entry)) false) (closing p)) ⌝ }
 {
     let n = unclosed[p];
     if n == 0 {
         return monitor_state::refused(25, count, false);
     }
-    judge_unclosed(sets, unclosed, count, p, n - 1)
+    judge_unclosed(possible, unclosed, count, p, n - 1)
 }
 
 fn judge_create(
     edges: &[u8],
     sets: &mut [u8; SETS],
+    possible: &mut [u8; POLICIES],
     created: &mut [u32; MOST_CREATED],
     unclosed: &[u8; POLICIES],
     count: usize,
@@ -110,9 +123,9 @@ fn judge_create(
     requires { ⌜ length (now created) ≡ mostCreated ⌝ }
     requires { ⌜ count ≤ mostCreated ⌝ }
     ensures { λ t.
-        ⌜ judgementOf t (now (sets .exit)) (now (created .exit)) (now (unclosed .entry))
-        ≡ stepped (edgesOf (now (edges .entry))) (stateOf (now (sets .entry)) (now (created .entry)) count (now (unclosed .entry)) false)
-        (event 0 r) ⌝ }
+        ⌜ judgementOf t (now (sets .exit)) (now (possible .exit)) (now (created .exit)) (now (unclosed .entry))
+        ≡ stepped (edgesOf (now (edges .entry)))
+        (stateOf (now (sets .entry)) (now (possible .entry)) (now (created .entry)) count (now (unclosed .entry)) false) (event 0 r) ⌝ }
 {
     if r < STATICS {
         return monitor_state::refused(22, count, false);
@@ -124,7 +137,16 @@ fn judge_create(
         return monitor_state::refused(30, count, false);
     }
     let at = FIRST_CREATED + count;
-    let bad = monitor_sets::instances::take_event(edges, sets, unclosed, at + 1, at, 0, r);
+    let bad = monitor_sets::instances::take_event(
+        edges,
+        sets,
+        possible,
+        unclosed,
+        at + 1,
+        at,
+        0,
+        r,
+    );
     if bad == 0 {
         created[count] = r;
     }
@@ -134,6 +156,7 @@ fn judge_create(
 fn judge_event(
     edges: &[u8],
     sets: &mut [u8; SETS],
+    possible: &mut [u8; POLICIES],
     created: &mut [u32; MOST_CREATED],
     unclosed: &[u8; POLICIES],
     count: usize,
@@ -143,25 +166,35 @@ fn judge_event(
     requires { ⌜ length (now created) ≡ mostCreated ⌝ }
     requires { ⌜ count ≤ mostCreated ⌝ }
     ensures { λ t.
-        ⌜ judgementOf t (now (sets .exit)) (now (created .exit)) (now (unclosed .entry))
-        ≡ stepped (edgesOf (now (edges .entry))) (stateOf (now (sets .entry)) (now (created .entry)) count (now (unclosed .entry)) false)
-        (event action r) ⌝ }
+        ⌜ judgementOf t (now (sets .exit)) (now (possible .exit)) (now (created .exit)) (now (unclosed .entry))
+        ≡ stepped (edgesOf (now (edges .entry)))
+        (stateOf (now (sets .entry)) (now (possible .entry)) (now (created .entry)) count (now (unclosed .entry)) false) (event action r) ⌝ }
 {
     if action == 0 {
-        return judge_create(edges, sets, created, unclosed, count, r);
+        return judge_create(edges, sets, possible, created, unclosed, count, r);
     }
     let at = monitor_sets::created::place_of(created, count, r);
     if at == UNSEEN {
         return monitor_state::refused(24, count, false);
     }
     let n = FIRST_CREATED + count;
-    let bad = monitor_sets::instances::take_event(edges, sets, unclosed, n, at, action, r);
+    let bad = monitor_sets::instances::take_event(
+        edges,
+        sets,
+        possible,
+        unclosed,
+        n,
+        at,
+        action,
+        r,
+    );
     monitor_state::settled(bad, count, count)
 }
 
 fn judge_read(
     edges: &[u8],
     sets: &mut [u8; SETS],
+    possible: &mut [u8; POLICIES],
     created: &mut [u32; MOST_CREATED],
     unclosed: &mut [u8; POLICIES],
     count: usize,
@@ -170,15 +203,24 @@ fn judge_read(
     requires { ⌜ length (now created) ≡ mostCreated ⌝ }
     requires { ⌜ count ≤ mostCreated ⌝ }
     ensures { λ r.
-        ⌜ judgementOf r (now (sets .exit)) (now (created .exit)) (now (unclosed .exit))
-        ≡ judgeRead (edgesOf (now (edges .entry))) (stateOf (now (sets .entry)) (now (created .entry)) count (now (unclosed .entry)) false)
-        (stepOf step) ⌝ }
+        ⌜ judgementOf r (now (sets .exit)) (now (possible .exit)) (now (created .exit)) (now (unclosed .exit))
+        ≡ judgeRead (edgesOf (now (edges .entry)))
+        (stateOf (now (sets .entry)) (now (possible .entry)) (now (created .entry)) count (now (unclosed .entry)) false) (stepOf step) ⌝ }
 {
     let read = monitor_state::read_step(step);
     match read {
-        Read::Event(action, r) => judge_event(edges, sets, created, unclosed, count, action, r),
-        Read::Opening(p) => judge_opening(sets, unclosed, count, p),
-        Read::Closing(p) => judge_closing(sets, unclosed, count, p),
+        Read::Event(action, r) => judge_event(
+            edges,
+            sets,
+            possible,
+            created,
+            unclosed,
+            count,
+            action,
+            r,
+        ),
+        Read::Opening(p) => judge_opening(possible, unclosed, count, p),
+        Read::Closing(p) => judge_closing(possible, unclosed, count, p),
         Read::Nothing => monitor_state::refused(21, count, false),
     }
 }
@@ -188,6 +230,7 @@ fn judge_read(
 pub fn judge_lent(
     edges: &[u8],
     sets: &mut [u8; SETS],
+    possible: &mut [u8; POLICIES],
     created: &mut [u32; MOST_CREATED],
     unclosed: &mut [u8; POLICIES],
     count: usize,
@@ -195,8 +238,9 @@ pub fn judge_lent(
     step: RawStep,
 ) -> Told
     ensures { λ r.
-        ⌜ judgementOf r (now (sets .exit)) (now (created .exit)) (now (unclosed .exit))
-        ≡ judgeOf (now (edges .entry)) (stateOf (now (sets .entry)) (now (created .entry)) count (now (unclosed .entry)) halted) step ⌝ }
+        ⌜ judgementOf r (now (sets .exit)) (now (possible .exit)) (now (created .exit)) (now (unclosed .exit))
+        ≡ judgeOf (now (edges .entry))
+        (stateOf (now (sets .entry)) (now (possible .entry)) (now (created .entry)) count (now (unclosed .entry)) halted) step ⌝ }
 {
     if !sheet_fields::edges::edge_table_ok(edges) {
         return monitor_state::refused(41, count, halted);
@@ -207,7 +251,7 @@ pub fn judge_lent(
     if halted {
         return monitor_state::refused(20, count, halted);
     }
-    judge_read(edges, sets, created, unclosed, count, step)
+    judge_read(edges, sets, possible, created, unclosed, count, step)
 }
 
 // One step. From every state at all it answers as its definition says; from a state that stands for a past, as the past says.
@@ -216,11 +260,13 @@ pub fn judge(edges: &[u8], s: State, step: RawStep) -> Judgement
     ensures { λ r. ⌜ Keeps (now (edges .entry)) s step r ⌝ }
 {
     let mut sets = s.sets;
+    let mut possible = s.possible;
     let mut created = s.created;
     let mut unclosed = s.unclosed;
     let t = judge_lent(
         edges,
         &mut sets,
+        &mut possible,
         &mut created,
         &mut unclosed,
         s.count,
@@ -230,6 +276,7 @@ pub fn judge(edges: &[u8], s: State, step: RawStep) -> Judgement
     let answer = t.answer;
     let state = State {
         sets,
+        possible,
         created,
         count: t.count,
         unclosed,

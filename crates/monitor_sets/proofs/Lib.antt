@@ -4,3 +4,5 @@ pub mod SetLaws
 pub mod PlaceLaws
 pub mod MovedLaws
 pub mod EventLaws
+-- The union of many sets, sixteen at a time.
+pub mod LaneLaws

@@ -32,17 +32,23 @@ table-same f g h = from-ext f g 0 setPlaces (λ i l. ap f (zero-add i) ∙ h i l
 pub is-table : (f : ℕ → ℕ) (l : List ℕ) → length l ≡ setPlaces → ((k : ℕ) → k < setPlaces → getD l k 0 ≡ f k) → l ≡ table f
 is-table f l e h = is-from f 0 setPlaces l e h
 
--- a store at place j
-pub table-set : (f g : ℕ → ℕ) (j v : ℕ) → j < setPlaces → v ≡ g j → ((k : ℕ) → k < setPlaces → (k ≡ j → ⊥) → f k ≡ g k)
-    → set (table f) j v ≡ table g
-table-set f g j v l e h = is-table g (set (table f) j v) (length-set (table f) j v ∙ table-length f) (λ k b. go k b (eqb k j) refl)
+-- a store at place j of n
+pub from-set : (n : ℕ) (f g : ℕ → ℕ) (j v : ℕ) → j < n → v ≡ g j → ((k : ℕ) → k < n → (k ≡ j → ⊥) → f k ≡ g k)
+    → set (from f 0 n) j v ≡ from g 0 n
+from-set n f g j v l e h =
+    is-from g 0 n (set (from f 0 n) j v) (length-set (from f 0 n) j v ∙ length-from f 0 n) (λ k b. go k b (eqb k j) refl)
   where
-    go : (k : ℕ) → k < setPlaces → (b : Bool) → eqb k j ≡ b → getD (set (table f) j v) k 0 ≡ g k
+    go : (k : ℕ) → k < n → (b : Bool) → eqb k j ≡ b → getD (set (from f 0 n) j v) k 0 ≡ g k
     go k b true q =
         let i : k ≡ j = eqb-true k j q in
-        let m : j < length (table f) = rw (table-length f) l in
-        ap (λ (n : ℕ). getD (set (table f) j v) n 0) i ∙ getD-set-same (table f) j v 0 m ∙ e ∙ ap g (sym i)
-    go k b false q = getD-set-other (table f) j k v 0 (eqb-false k j q) ∙ table-at f k b ∙ h k b (eqb-false k j q)
+        let m : j < length (from f 0 n) = rw (length-from f 0 n) l in
+        ap (λ (n' : ℕ). getD (set (from f 0 n) j v) n' 0) i ∙ getD-set-same (from f 0 n) j v 0 m ∙ e ∙ ap g (sym i)
+    go k b false q =
+        getD-set-other (from f 0 n) j k v 0 (eqb-false k j q) ∙ getD-from f 0 n k 0 b ∙ ap f (zero-add k) ∙ h k b (eqb-false k j q)
+
+pub table-set : (f g : ℕ → ℕ) (j v : ℕ) → j < setPlaces → v ≡ g j → ((k : ℕ) → k < setPlaces → (k ≡ j → ⊥) → f k ≡ g k)
+    → set (table f) j v ≡ table g
+table-set = from-set setPlaces
 
 -- two tests that agree where a third one passes
 same-and : (x y t : Bool) → (t ≡ true → x ≡ y) → (x && t) ≡ (y && t)

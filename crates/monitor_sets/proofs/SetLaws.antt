@@ -1,18 +1,15 @@
 -- The laws of unions of sets, and of the bit set of the broken policies.
-use Prim.Native.Nat.{ℕ, zero, suc, _+_, _*_, _<_, _≤_, _^_, _%_}
-use mathlib.Core.Path.{_≡_, refl, sym, ap, _∙_}
-use mathlib.Core.Bool.{Bool, true, false, _||_}
-use mathlib.Core.List.{List}
+use Prim.Native.Nat.{ℕ, zero, suc, _+_, _<_, _≤_, _^_}
+use mathlib.Core.Path.{_≡_, refl, sym, ap, ap₂, _∙_}
+use mathlib.Core.Logic.{_⊎_, inl, inr}
 use native.Mathlib.Numerals.{add-one}
 use native.Mathlib.Omega.{arith}
-use borrow.Author.Tests.{leb-true, leb-false, le-leb, lt-leb, lt-ltb}
-use lib.Bits.{bitOr, or-lt}
-use lib.Dec.{leb}
-use lib.ListN.{getD}
-use Rattle.usage.specs.Tests.{someBelow}
-use Rattle.automaton.specs.Mask.{union, offends}
-use Rattle.automaton.proofs.MaskLaws.{left-le, right-le}
-use Rattle.monitor_sets.specs.Instances.{instances}
+use borrow.Author.Tests.{le-leb, lt-leb, lt-ltb}
+use lib.Bits.{bitOr, or-zero-r, or-comm}
+use Rattle.usage.proofs.Logic.{last-or-lower}
+use Rattle.automaton.specs.Mask.{union}
+use Rattle.automaton.proofs.MaskLaws.{or-assoc}
+use Rattle.automaton.proofs.RowLaws.{union-ext}
 use Rattle.monitor_sets.specs.Code.{brokenBit}
 
 pub pos : (n : ℕ) → (n ≡ 0 → ⊥) → 0 < n
@@ -24,34 +21,36 @@ pub union-more : (n : ℕ) (f : ℕ → ℕ) → bitOr (union n f) (f n) ≡ uni
 unfolding union
 union-more n f = rw (add-one n)
 
--- a union offends where one of its sets does
-or-offends : (a b : ℕ) → offends (bitOr a b) ≡ (offends b || offends a)
-or-offends a b = go (leb 64 b) refl (leb 64 a) refl
+or-exchange : (a b c : ℕ) → bitOr (bitOr a b) c ≡ bitOr (bitOr a c) b
+or-exchange a b c = or-assoc a b c ∙ ap (bitOr a) (or-comm b c) ∙ sym (or-assoc a c b)
+
+-- a union in which one set is empty, with the set v that belongs there
+pub union-with : (n at v : ℕ) (f g : ℕ → ℕ) → at < n → f at ≡ 0 → g at ≡ v → ((i : ℕ) → i < n → (i ≡ at → ⊥) → f i ≡ g i)
+    → bitOr (union n f) v ≡ union n g
+unfolding union
+union-with zero at v f g h a b e = absurd (omega arith)
+union-with (suc n) at v f g h a b e = go (last-or-lower at n h) (λ l. union-with n at v f g l a b (λ i k. e i (omega arith)))
   where
-    go : (x : Bool) → leb 64 b ≡ x → (y : Bool) → leb 64 a ≡ y → leb 64 (bitOr a b) ≡ (x || y)
-    go true p y q = le-leb 64 (bitOr a b) (omega (arith, leb-true 64 b p, right-le a b))
-    go false p true q = le-leb 64 (bitOr a b) (omega (arith, leb-true 64 a q, left-le a b))
-    go false p false q = lt-leb 64 (bitOr a b) (or-lt 6 a b (leb-false 64 a q) (leb-false 64 b p))
+    lower : (i k : ℕ) → i < k → i ≡ k → ⊥
+    lower i k l q = omega arith
 
-union-offends : (n : ℕ) (f : ℕ → ℕ) → offends (union n f) ≡ someBelow (λ i. offends (f i)) n
-unfolding union someBelow
-union-offends zero f = refl
-union-offends (suc n) f = or-offends (union n f) (f n) ∙ ap (λ b. offends (f n) || b) (union-offends n f)
+    go : (at ≡ n) ⊎ (at < n) → (at < n → bitOr (union n f) v ≡ union n g) → bitOr (bitOr (union n f) (f n)) v ≡ bitOr (union n g) (g n)
+    go (inl q) ih =
+        ap (λ (m : ℕ). bitOr (bitOr (union n f) m) v) (ap f (sym q) ∙ a) ∙ ap (λ (m : ℕ). bitOr m v) (or-zero-r (union n f))
+        ∙ ap₂ (λ (m k : ℕ). bitOr m k) (union-ext n f g (λ i l. e i (omega arith) (λ z. lower i n l (z ∙ q)))) (sym b ∙ ap g q)
+    go (inr l) ih =
+        or-exchange (union n f) (f n) v ∙ ap₂ (λ (m k : ℕ). bitOr m k) (ih l) (e n (omega arith) (λ z. lower at n l (sym z)))
 
--- the bit of a policy, from the union of its sets
-module _ (sets : List ℕ) (n : ℕ) where
-  pub bit-closed : (openings p : ℕ) → openings ≡ 0 → brokenBit sets n openings p ≡ 0
+-- the bit of a policy
+module _ (possible openings p : ℕ) where
+  pub bit-closed : openings ≡ 0 → brokenBit possible openings p ≡ 0
   unfolding brokenBit
-  bit-closed openings p e = rw e
+  bit-closed e = rw e
 
-  module _ (openings p : ℕ) (m : ℕ) (e : m ≡ union n (λ i. getD sets (p * instances + i) 0)) where
-    offended : someBelow (λ i. offends (getD sets (p * instances + i) 0)) n ≡ offends m
-    offended = sym (union-offends n (λ i. getD sets (p * instances + i) 0)) ∙ ap (λ (k : ℕ). offends k) (sym e)
+  pub bit-respected : 0 < openings → possible < 64 → brokenBit possible openings p ≡ 0
+  unfolding brokenBit
+  bit-respected o l = simp (lt-ltb 0 openings o, lt-leb 64 possible l)
 
-    pub bit-respected : 0 < openings → m < 64 → brokenBit sets n openings p ≡ 0
-    unfolding brokenBit
-    bit-respected o l = simp (lt-ltb 0 openings o, offended, lt-leb 64 m l)
-
-    pub bit-broken : 0 < openings → 64 ≤ m → brokenBit sets n openings p ≡ 2 ^ p
-    unfolding brokenBit
-    bit-broken o l = simp (lt-ltb 0 openings o, offended, le-leb 64 m l)
+  pub bit-broken : 0 < openings → 64 ≤ possible → brokenBit possible openings p ≡ 2 ^ p
+  unfolding brokenBit
+  bit-broken o l = simp (lt-ltb 0 openings o, le-leb 64 possible l)

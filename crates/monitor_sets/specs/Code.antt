@@ -1,27 +1,41 @@
 -- What the functions compute, where Sets.antt has no name for it.
-use Prim.Native.Nat.{ℕ, _+_, _*_, _/_, _%_, _^_}
-use mathlib.Core.Bool.{_&&_, cond}
+use Prim.Native.Nat.{ℕ, zero, suc, _+_, _*_, _/_, _%_, _^_}
+use mathlib.Core.Bool.{Bool, true, _&&_, cond}
 use mathlib.Core.List.{List}
 use lib.Dec.{eqb, leb, ltb}
 use lib.ListN.{getD}
 use Rattle.usage.specs.declared.Edge.{Edge}
 use Rattle.usage.specs.Limits.{policies, states}
-use Rattle.usage.specs.Tests.{someBelow}
 use Rattle.usage.specs.Tables.{from}
 use Rattle.automaton.specs.Mask.{union, offends}
 use Rattle.automaton.specs.Move.{moveBy}
 use Rattle.monitor_sets.specs.Instances.{instances, setPlaces}
 use Rattle.monitor_sets.specs.Sets.{copied, movedSets}
 
+-- ── Created resources ──
+
+-- each of the n numbers after the first is above the one before it
+unfoldable pub rises : List ℕ → ℕ → Bool
+rises l zero = true
+rises l (suc i) = rises l i && ltb (getD l i 0) (getD l (suc i) 0)
+
+-- how many endings of numbers are told apart
+abbrev pub endings : ℕ
+endings = 1024
+
 -- ── Broken policies ──
 
--- the bit of policy p, if it is open and one of its first n instances may be in an offending state
-unfoldable pub brokenBit : List ℕ → ℕ → ℕ → ℕ → ℕ
-brokenBit sets n openings p = cond (ltb 0 openings && someBelow (λ i. offends (getD sets (p * instances + i) 0)) n) (2 ^ p) 0
+-- how many sets are joined at once
+abbrev pub lanes : ℕ
+lanes = 16
 
--- the open policies that are not respected by their first n instances, as a bit set
-unfoldable pub brokenIn : List ℕ → ℕ → List ℕ → ℕ
-brokenIn sets n unclosed = union policies (λ p. brokenBit sets n (getD unclosed p 0) p)
+-- the bit of policy p, if it is open and an offending state is among its possible ones
+unfoldable pub brokenBit : ℕ → ℕ → ℕ → ℕ
+brokenBit possible openings p = cond (ltb 0 openings && offends possible) (2 ^ p) 0
+
+-- the open policies that are not respected, as a bit set
+unfoldable pub brokenIn : List ℕ → List ℕ → ℕ
+brokenIn possible unclosed = union policies (λ p. brokenBit (getD possible p 0) (getD unclosed p 0) p)
 
 -- ── Moving the sets ──
 

@@ -5,8 +5,10 @@ use mathlib.Core.List.{List}
 use lib.Dec.{eqb, ltb}
 use lib.ListN.{getD}
 use Rattle.usage.specs.declared.Edge.{Edge}
+use Rattle.usage.specs.Limits.{policies}
 use Rattle.usage.specs.Tables.{from}
 use Rattle.monitor_sets.specs.Instances.{unseen, instances, setPlaces}
+use Rattle.automaton.specs.Mask.{union}
 use Rattle.automaton.specs.Move.{moveMask}
 
 -- "Before a resource is created, its instance has moved as one that never occurs."
@@ -18,3 +20,11 @@ unfoldable pub movedSets : List Edge → ℕ → ℕ → ℕ → ℕ → List �
 movedSets es a r own n sets =
     from (λ k. cond (ltb (k % instances) n) (moveMask es (k / instances) a r (eqb (k % instances) own) (getD sets k 0))
     (getD sets k 0)) 0 setPlaces
+
+-- "for each policy, the set of states that any instance may be in": the union of the sets of its first n instances
+abbrev pub gatheredAt : ℕ → List ℕ → ℕ → ℕ
+gatheredAt n sets p = union n (λ i. getD sets (p * instances + i) 0)
+
+-- "Every event gathers it from the moved instances"
+unfoldable pub gathered : ℕ → List ℕ → List ℕ
+gathered n sets = from (gatheredAt n sets) 0 policies

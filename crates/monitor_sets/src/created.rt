@@ -5,14 +5,18 @@ use crate::UNSEEN;
 use usage::MOST_CREATED;
 use usage::RESOURCES;
 use usage::STATICS;
-ghost use Prim.Native.Nat.{_≤_, min};
+ghost use Prim.Native.Nat.{_-_, _≤_, min};
 ghost use mathlib.Core.Path.{_≡_};
-ghost use mathlib.Core.Bool.{_&&_};
+ghost use mathlib.Core.Bool.{true, _&&_};
 ghost use lib.ListN.{length, take, drop};
 ghost use Rattle.usage.specs.Limits.{mostCreated};
 ghost use Rattle.usage.specs.Tests.{every};
 ghost use Rattle.monitor_sets.specs.Instances.{firstCreated};
 ghost use Rattle.monitor_sets.specs.Created.{listed, distinct, dynamic, placeFrom, placeIn, createdOk};
+ghost use Rattle.monitor_sets.specs.Code.{rises};
+
+// How many endings of numbers are told apart where numbers are compared.
+const ENDINGS: usize = 1024;
 
 // The place of x's instance among those of the created resources; that of the unseen ones where x is none of them.
 fn place(created: &[u32; MOST_CREATED], count: usize, x: u32) -> usize
@@ -48,25 +52,64 @@ fn later(created: &[u32; MOST_CREATED], k: usize, count: usize, x: u32) -> bool
     found
 }
 
-// Is every created resource's number a dynamic one, and none of them listed twice?
+// Is each number above the one before it? No early exit, so that several are compared at once.
+fn rising(created: &[u32; MOST_CREATED], count: usize) -> bool
+    requires { ⌜ length (now created) ≡ mostCreated ⌝ }
+    requires { ⌜ count ≤ mostCreated ⌝ }
+    ensures { λ r. ⌜ r ≡ rises (now (created .entry)) (count - 1) ⌝ }
+{
+    let mut falls = false;
+    let mut i: usize = 1;
+    while i < count {
+        if created[i] <= created[i - 1] {
+            falls = true;
+        }
+        i += 1;
+    }
+    !falls
+}
+
+// Of rising numbers only the first and the last can be out of range, and none is listed twice.
+fn rising_sound(created: &[u32; MOST_CREATED], count: usize) -> bool
+    requires { ⌜ length (now created) ≡ mostCreated ⌝ }
+    requires { ⌜ count ≤ mostCreated ⌝ }
+    requires { ⌜ rises (now created) (count - 1) ≡ true ⌝ }
+    ensures { λ r. ⌜ r ≡ (every dynamic (take count (now (created .entry))) && distinct (take count (now (created .entry)))) ⌝ }
+{
+    if count == 0 {
+        return true;
+    }
+    if created[0] < STATICS {
+        return false;
+    }
+    created[count - 1] < RESOURCES
+}
+
+// Is every created resource's number a dynamic one, and none of them listed twice? From the last to the first. Numbers with
+// different last bits are different, so a number is compared with later ones only where one of them has its last bits.
 fn all_sound(created: &[u32; MOST_CREATED], count: usize) -> bool
     requires { ⌜ length (now created) ≡ mostCreated ⌝ }
     requires { ⌜ count ≤ mostCreated ⌝ }
     ensures { λ r. ⌜ r ≡ (every dynamic (take count (now (created .entry))) && distinct (take count (now (created .entry)))) ⌝ }
 {
-    let mut i: usize = 0;
-    while i < count {
-        let x = created[i];
+    let mut seen = [false; ENDINGS];
+    let mut i = count;
+    while 0 < i {
+        let x = created[i - 1];
         if x < STATICS {
             return false;
         }
         if RESOURCES <= x {
             return false;
         }
-        if later(created, i + 1, count, x) {
-            return false;
+        let e = x as usize % ENDINGS;
+        if seen[e] {
+            if later(created, i, count, x) {
+                return false;
+            }
         }
-        i += 1;
+        seen[e] = true;
+        i -= 1;
     }
     true
 }
@@ -108,6 +151,9 @@ pub fn created_ok(created: &[u32; MOST_CREATED], count: usize) -> bool
     created_length(all);
     if MOST_CREATED < count {
         return false;
+    }
+    if rising(created, count) {
+        return rising_sound(created, count);
     }
     all_sound(created, count)
 }

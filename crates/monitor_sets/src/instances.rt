@@ -1,13 +1,15 @@
-// The sets of states of the instances. Instance i of policy p has its set at place p * INSTANCES + i: first the static resources'
-// instances, then at UNSEEN that of every resource that never occurred, then at FIRST_CREATED + k that of the k-th created one. A
-// proof has no length of an array behind a reference from its type, so the private functions that change one require it.
+// The sets of states of the instances, and for each policy what any of its instances may be in. Instance i of policy p has its set at
+// place p * INSTANCES + i: first the static resources' instances, then at UNSEEN that of every resource that never occurred, then at
+// FIRST_CREATED + k that of the k-th created one. A proof has no length of an array behind a reference from its type, so the private
+// functions that change one require it.
 use crate::INSTANCES;
 use crate::SETS;
 use crate::UNSEEN;
 use automaton::ROWS;
 use usage::POLICIES;
 use usage::STATES;
-ghost use Prim.Native.Nat.{_+_, _<_, _≤_};
+ghost use Prim.Native.Nat.{ℕ, _+_, _<_, _≤_};
+ghost use lib.Bits.{bitOr};
 ghost use mathlib.Core.Path.{_≡_};
 ghost use mathlib.Core.Bool.{_&&_, cond};
 ghost use mathlib.Core.List.{List, [], _∷_};
@@ -16,12 +18,44 @@ ghost use lib.ListN.{length, getD};
 ghost use Rattle.usage.specs.Limits.{policies};
 ghost use Rattle.usage.specs.Tables.{edgesOf};
 ghost use Rattle.automaton.specs.Mask.{union};
+ghost use Rattle.automaton.specs.Move.{moveBy};
 ghost use Rattle.monitor_sets.specs.Instances.{instances, setPlaces};
-ghost use Rattle.monitor_sets.specs.Sets.{copied};
-ghost use Rattle.monitor_sets.specs.Code.{brokenBit, brokenIn, rowMoved, policyMoved, allMoved, eventSets};
+ghost use Rattle.monitor_sets.specs.Sets.{copied, gatheredAt, gathered};
+ghost use Rattle.monitor_sets.specs.Code.{lanes, brokenBit, brokenIn, rowMoved, policyMoved, allMoved, eventSets};
 
-// The union of the n sets from place k on.
-fn union_from(sets: &[u8; SETS], k: usize, n: usize) -> u8
+// How many sets one instruction joins.
+const LANES: usize = 16;
+
+// As many sets from place k on, joined to as many others.
+fn join_lanes(all: &mut [u8; LANES], sets: &[u8; SETS], k: usize)
+    requires { ⌜ length (now all) ≡ lanes ⌝ }
+    requires { ⌜ k + lanes ≤ setPlaces ⌝ }
+    ensures { λ r. ⌜ length (now (all .exit)) ≡ lanes ⌝ }
+    ensures { λ r. ⌜ union lanes (λ i. getD (now (all .exit)) i 0)
+        ≡ bitOr (union lanes (λ i. getD (now (all .entry)) i 0)) (union lanes (λ i. getD (now (sets .entry)) (k + i) 0)) ⌝ }
+{
+    let mut i: usize = 0;
+    while i < LANES {
+        all[i] = all[i] | sets[k + i];
+        i += 1;
+    }
+}
+
+// The union of all of them.
+fn union_lanes(all: &[u8; LANES]) -> u8
+    ensures { λ r. ⌜ r ≡ union lanes (λ i. getD (now (all .entry)) i 0) ⌝ }
+{
+    let mut m: u8 = 0;
+    let mut i: usize = 0;
+    while i < LANES {
+        m = m | all[i];
+        i += 1;
+    }
+    m
+}
+
+// The union of the n sets from place k on, one after the other.
+fn union_few(sets: &[u8; SETS], k: usize, n: usize) -> u8
     requires { ⌜ k + n ≤ setPlaces ⌝ }
     ensures { λ r. ⌜ r ≡ union n (λ i. getD (now (sets .entry)) (k + i) 0) ⌝ }
 {
@@ -34,31 +68,47 @@ fn union_from(sets: &[u8; SETS], k: usize, n: usize) -> u8
     m
 }
 
-// The bit of policy p, if it is open and one of its first n instances may be in an offending state.
-fn broken_bit(sets: &[u8; SETS], openings: u8, p: usize, n: usize) -> u8
+// The same, many at once. The last ones reach back over some that are joined already, which changes nothing.
+fn union_from(sets: &[u8; SETS], k: usize, n: usize) -> u8
+    requires { ⌜ k + n ≤ setPlaces ⌝ }
+    ensures { λ r. ⌜ r ≡ union n (λ i. getD (now (sets .entry)) (k + i) 0) ⌝ }
+{
+    if n < LANES {
+        return union_few(sets, k, n);
+    }
+    let mut all = [0u8; LANES];
+    let whole = n / LANES;
+    let mut i: usize = 0;
+    while i < whole {
+        join_lanes(&mut all, sets, k + LANES * i);
+        i += 1;
+    }
+    join_lanes(&mut all, sets, k + (n - LANES));
+    union_lanes(&all)
+}
+
+// The bit of policy p, if it is open and an offending state is among its possible ones.
+fn broken_bit(possible: u8, openings: u8, p: usize) -> u8
     requires { ⌜ p < policies ⌝ }
-    requires { ⌜ n ≤ instances ⌝ }
-    ensures { λ r. ⌜ r ≡ brokenBit (now (sets .entry)) n openings p ⌝ }
+    ensures { λ r. ⌜ r ≡ brokenBit possible openings p ⌝ }
 {
     if openings == 0 {
         return 0;
     }
-    let m = union_from(sets, p * INSTANCES, n);
-    if m < 64 {
+    if possible < 64 {
         return 0;
     }
     1u8 << (p as u32)
 }
 
-// The open policies that are not respected, as a bit set.
-fn broken_among(sets: &[u8; SETS], unclosed: &[u8; POLICIES], n: usize) -> u8
-    requires { ⌜ n ≤ instances ⌝ }
-    ensures { λ r. ⌜ r ≡ brokenIn (now (sets .entry)) n (now (unclosed .entry)) ⌝ }
+// The open policies that are not respected, as a bit set: those with an offending state among their possible ones.
+pub fn broken_set(possible: &[u8; POLICIES], unclosed: &[u8; POLICIES]) -> u8
+    ensures { λ r. ⌜ r ≡ brokenIn (now (possible .entry)) (now (unclosed .entry)) ⌝ }
 {
     let mut bad: u8 = 0;
     let mut p: usize = 0;
     while p < POLICIES {
-        bad = bad | broken_bit(sets, unclosed[p], p, n);
+        bad = bad | broken_bit(possible[p], unclosed[p], p);
         p += 1;
     }
     bad
@@ -78,7 +128,14 @@ fn copy_unseen(sets: &mut [u8; SETS], i: usize)
     }
 }
 
-// Moves the n sets from place k on by eight rows, held as numbers so that several sets are moved at once.
+// A proof is told the length and the range of an array that is passed by value, and not of a lent one. Compiled, it copies nothing.
+fn sets_known(sets: [u8; SETS])
+    ensures { λ r. ⌜ length sets ≡ setPlaces ⌝ }
+    ensures { λ r. ⌜ ((i : ℕ) → getD sets i 0 < 256) ⌝ }
+{}
+
+// Moves the n sets from place k on by eight rows, held as numbers so that several sets are moved at once. The union of the moved sets is
+// handed back.
 fn move_row(
     sets: &mut [u8; SETS],
     k: usize,
@@ -91,19 +148,30 @@ fn move_row(
     f: u8,
     g: u8,
     h: u8,
-)
+) -> u8
     requires { ⌜ length (now sets) ≡ setPlaces ⌝ }
     requires { ⌜ k + n ≤ setPlaces ⌝ }
     ensures { λ r. ⌜ now (sets .exit) ≡ rowMoved (a ∷ b ∷ c ∷ d ∷ e ∷ f ∷ g ∷ h ∷ []) k n (now (sets .entry)) ⌝ }
+    ensures { λ r. ⌜ r ≡ union n (λ i. moveBy (a ∷ b ∷ c ∷ d ∷ e ∷ f ∷ g ∷ h ∷ []) 0 (getD (now (sets .entry)) (k + i) 0)) ⌝ }
 {
+    if automaton::stays(a, b, c, d, e, f, g, h) {
+        let all = *sets;
+        sets_known(all);
+        return union_from(sets, k, n);
+    }
+    let mut all: u8 = 0;
     let mut i: usize = 0;
     while i < n {
-        sets[k + i] = automaton::move_by_rows(sets[k + i], a, b, c, d, e, f, g, h);
+        let moved = automaton::move_by_rows(sets[k + i], a, b, c, d, e, f, g, h);
+        sets[k + i] = moved;
+        all = all | moved;
         i += 1;
     }
+    all
 }
 
-// Moves the first n instances of policy p, instance `at` by the rows `own` and the others by the rows `other`.
+// Moves the first n instances of policy p, instance `at` by the rows `own` and the others by the rows `other`. The union of their sets is
+// handed back; while the others move, the set of `at` is empty, and so adds nothing to it.
 fn move_policy(
     sets: &mut [u8; SETS],
     p: usize,
@@ -111,17 +179,19 @@ fn move_policy(
     at: usize,
     own: &[u8; ROWS],
     other: &[u8; ROWS],
-)
+) -> u8
     requires { ⌜ length (now sets) ≡ setPlaces ⌝ }
     requires { ⌜ p < policies ⌝ }
     requires { ⌜ n ≤ instances ⌝ }
     requires { ⌜ at < n ⌝ }
     ensures { λ r. ⌜ now (sets .exit) ≡ policyMoved (now (own .entry)) (now (other .entry)) n at p (now (sets .entry)) ⌝ }
+    ensures { λ r. ⌜ r ≡ gatheredAt n (policyMoved (now (own .entry)) (now (other .entry)) n at p (now (sets .entry))) p ⌝ }
 {
     let k = p * INSTANCES;
     let q = p * STATES;
     let moved = automaton::move_set(own, p, sets[k + at]);
-    move_row(
+    sets[k + at] = 0;
+    let others = move_row(
         sets,
         k,
         n,
@@ -135,28 +205,47 @@ fn move_policy(
         other[q + 7],
     );
     sets[k + at] = moved;
+    others | moved
 }
 
-fn move_all(sets: &mut [u8; SETS], n: usize, at: usize, own: &[u8; ROWS], other: &[u8; ROWS])
+// The same of all policies. The union of each one's sets is handed back.
+fn move_all(
+    sets: &mut [u8; SETS],
+    n: usize,
+    at: usize,
+    own: &[u8; ROWS],
+    other: &[u8; ROWS],
+) -> [u8; POLICIES]
     requires { ⌜ length (now sets) ≡ setPlaces ⌝ }
     requires { ⌜ n ≤ instances ⌝ }
     requires { ⌜ at < n ⌝ }
     ensures { λ r. ⌜ now (sets .exit) ≡ allMoved (now (own .entry)) (now (other .entry)) n at policies (now (sets .entry)) ⌝ }
+    ensures { λ r. ⌜ r ≡ gathered n (allMoved (now (own .entry)) (now (other .entry)) n at policies (now (sets .entry))) ⌝ }
 {
+    let mut possible = [0u8; POLICIES];
     let mut p: usize = 0;
     while p < POLICIES {
-        move_policy(sets, p, n, at, own, other);
+        possible[p] = move_policy(sets, p, n, at, own, other);
         p += 1;
     }
+    possible
 }
 
 // The sets after the event: the first n instances of each policy move, instance `at` by the rows of its own events. A created
-// resource's instance is first what that of a resource that never occurred is.
-fn move_sets(edges: &[u8], sets: &mut [u8; SETS], n: usize, at: usize, action: u32, r: u32)
+// resource's instance is first what that of a resource that never occurred is. What each policy may then be in is handed back.
+fn move_sets(
+    edges: &[u8],
+    sets: &mut [u8; SETS],
+    n: usize,
+    at: usize,
+    action: u32,
+    r: u32,
+) -> [u8; POLICIES]
     requires { ⌜ length (now sets) ≡ setPlaces ⌝ }
     requires { ⌜ n ≤ instances ⌝ }
     requires { ⌜ at < n ⌝ }
     ensures { λ u. ⌜ now (sets .exit) ≡ eventSets (edgesOf (now (edges .entry))) action r at n (now (sets .entry)) ⌝ }
+    ensures { λ u. ⌜ u ≡ gathered n (eventSets (edgesOf (now (edges .entry))) action r at n (now (sets .entry))) ⌝ }
 {
     if action == 0 {
         copy_unseen(sets, at);
@@ -164,12 +253,13 @@ fn move_sets(edges: &[u8], sets: &mut [u8; SETS], n: usize, at: usize, action: u
     let mut own = [0u8; ROWS];
     let mut other = [0u8; ROWS];
     automaton::moves::rows(edges, action, r, &mut own, &mut other);
-    move_all(sets, n, at, &own, &other);
+    move_all(sets, n, at, &own, &other)
 }
 
 fn take(
     edges: &[u8],
     sets: &mut [u8; SETS],
+    possible: &mut [u8; POLICIES],
     unclosed: &[u8; POLICIES],
     n: usize,
     at: usize,
@@ -179,41 +269,34 @@ fn take(
     requires { ⌜ length (now sets) ≡ setPlaces ⌝ }
     requires { ⌜ n ≤ instances ⌝ }
     requires { ⌜ at < n ⌝ }
-    ensures { λ bad.
-        ⌜ bad ≡ brokenIn (eventSets (edgesOf (now (edges .entry))) action r at n (now (sets .entry))) n (now (unclosed .entry)) ⌝ }
+    ensures { λ bad. ⌜ bad ≡ brokenIn (gathered n (eventSets (edgesOf (now (edges .entry))) action r at n (now (sets .entry))))
+        (now (unclosed .entry)) ⌝ }
     ensures { λ bad.
         ⌜ now (sets .exit)
         ≡ cond (eqb bad 0) (eventSets (edgesOf (now (edges .entry))) action r at n (now (sets .entry))) (now (sets .entry)) ⌝ }
+    ensures { λ bad.
+        ⌜ now (possible .exit)
+        ≡ cond (eqb bad 0) (gathered n (eventSets (edgesOf (now (edges .entry))) action r at n (now (sets .entry))))
+        (now (possible .entry)) ⌝ }
 {
     let old = *sets;
-    move_sets(edges, sets, n, at, action, r);
-    let bad = broken_among(sets, unclosed, n);
+    let after = move_sets(edges, sets, n, at, action, r);
+    let bad = broken_set(&after, unclosed);
     if bad != 0 {
         *sets = old;
+        return bad;
     }
+    *possible = after;
     bad
 }
 
-// A proof is told the length of an array that is passed by value, and not that of a lent one. Compiled, it copies nothing.
-fn sets_length(sets: [u8; SETS])
-    ensures { λ r. ⌜ length sets ≡ setPlaces ⌝ }
-{}
-
-// The open policies that are not respected by their first n instances, as a bit set; none where a policy has fewer instances.
-pub fn broken_set(sets: &[u8; SETS], unclosed: &[u8; POLICIES], n: usize) -> u8
-    ensures { λ r. ⌜ r ≡ cond (leb n instances) (brokenIn (now (sets .entry)) n (now (unclosed .entry))) 0 ⌝ }
-{
-    if INSTANCES < n {
-        return 0;
-    }
-    broken_among(sets, unclosed, n)
-}
-
-// Moves the sets of the first n instances on an event, instance `at` as that of its resource, and says which open policies are
-// then not respected. Where one is not, the sets stay as they were; so they do where there are not n instances, or n is not above `at`.
+// Moves the sets of the first n instances on an event, instance `at` as that of its resource, gathers what each policy may then be in, and
+// says which open policies are then not respected. Where one is not, both stay as they were; so they do where there are not n instances, or
+// n is not above `at`.
 pub fn take_event(
     edges: &[u8],
     sets: &mut [u8; SETS],
+    possible: &mut [u8; POLICIES],
     unclosed: &[u8; POLICIES],
     n: usize,
     at: usize,
@@ -222,11 +305,15 @@ pub fn take_event(
 ) -> u8
     ensures { λ bad.
         ⌜ bad ≡ cond (leb n instances && ltb at n)
-        (brokenIn (eventSets (edgesOf (now (edges .entry))) action r at n (now (sets .entry))) n (now (unclosed .entry))) 0 ⌝ }
+        (brokenIn (gathered n (eventSets (edgesOf (now (edges .entry))) action r at n (now (sets .entry)))) (now (unclosed .entry))) 0 ⌝ }
     ensures { λ bad.
         ⌜ now (sets .exit)
         ≡ cond ((leb n instances && ltb at n) && eqb bad 0) (eventSets (edgesOf (now (edges .entry))) action r at n (now (sets .entry)))
         (now (sets .entry)) ⌝ }
+    ensures { λ bad.
+        ⌜ now (possible .exit)
+        ≡ cond ((leb n instances && ltb at n) && eqb bad 0)
+        (gathered n (eventSets (edgesOf (now (edges .entry))) action r at n (now (sets .entry)))) (now (possible .entry)) ⌝ }
 {
     if INSTANCES < n {
         return 0;
@@ -235,6 +322,6 @@ pub fn take_event(
         return 0;
     }
     let old = *sets;
-    sets_length(old);
-    take(edges, sets, unclosed, n, at, action, r)
+    sets_known(old);
+    take(edges, sets, possible, unclosed, n, at, action, r)
 }

@@ -1,5 +1,5 @@
 -- The judge's set of broken policies is that of the open policies that the past does not respect.
-use Prim.Native.Nat.{ℕ, _+_, _*_, _<_, _≤_}
+use Prim.Native.Nat.{ℕ, _<_, _≤_}
 use mathlib.Core.Path.{_≡_, refl, sym, ap, _∙_, subst}
 use mathlib.Core.Bool.{Bool, true, false, _&&_, _||_}
 use mathlib.Core.List.{List}
@@ -14,51 +14,36 @@ use Rattle.usage.specs.Policy.{Offending}
 use Rattle.usage.specs.Past.{Past, Broken, Open, Violates}
 use Rattle.usage.proofs.Logic.{not-both, or-left, or-right, or-cases, and-left, and-right, and-both}
 use Rattle.automaton.specs.Mask.{has, offends, lowestIn}
-use Rattle.automaton.proofs.MaskLaws.{some-at, some-found, has-zero, has-offending, maskOf-has, maskOf-lt, lowest-is}
+use Rattle.automaton.proofs.MaskLaws.{has-zero, has-offending, maskOf-has, maskOf-lt, lowest-is}
 use Rattle.automaton.proofs.MoveLaws.{Ends}
-use Rattle.monitor_sets.specs.Instances.{instances}
 use Rattle.monitor_state.specs.declared.State.{State}
-use Rattle.monitor_state.specs.Judge.{placeOf, used, setAt, offended, broken}
+use Rattle.monitor_state.specs.Judge.{possibleIn, broken}
 use Rattle.monitor_state.specs.Represents.{Represents}
-use Rattle.monitor_state.proofs.Places.{StateOk, state-parts, place-lt, owner}
 use Rattle.monitor_state.proofs.StartLaws.{may-lt}
 
 -- the set of broken policies is a byte, from every state at all
 pub broken-lt : (s : State) → broken s < 256
 unfolding broken
-broken-lt s = maskOf-lt (λ p. ltb 0 (getD (s .unclosed) p 0) && offended s p)
+broken-lt s = maskOf-lt (λ p. ltb 0 (getD (s .unclosed) p 0) && offends (possibleIn s p))
 
 module _ (es : List Edge) (past : Past) (h : Bool) (s : State) (R : Represents es past h s) where
-  w : StateOk s
-  w = state-parts s (R .well)
-
-  offended-broken : (p : ℕ) → p < policies → offended s p ≡ true → Broken false es p past
-  unfolding offended
-  offended-broken p k o =
-      let f = some-found (used s) (λ i. offends (setAt s p i)) o in
-      let x = owner s (R .created-length) w (f .0) (f .1) in
-      let m : ℕ = setAt s p (placeOf s (x .0)) in
-      go (x .0) (or-cases (has m 6) (has m 7)
-      (sym (has-offending m (R .bytes (p * instances + placeOf s (x .0)))) ∙ ap (λ (i : ℕ). offends (setAt s p i)) (x .1) ∙ f .2))
+  -- an offending state is among the possible ones exactly where some instance may be in it
+  offends-broken : (p : ℕ) → p < policies → offends (possibleIn s p) ≡ true → Broken false es p past
+  offends-broken p k o =
+      go (or-cases (has (possibleIn s p) 6) (has (possibleIn s p) 7) (sym (has-offending (possibleIn s p) (R .possible-bytes p)) ∙ o))
     where
-      go : (x : ℕ) → (has (setAt s p (placeOf s x)) 6 ≡ true) ⊎ (has (setAt s p (placeOf s x)) 7 ≡ true) → Broken false es p past
-      go x (inl e) = (x, 6, R .tracks x p 6 k (lit< tt) .0 e, inl refl)
-      go x (inr e) = (x, 7, R .tracks x p 7 k (lit< tt) .0 e, inr refl)
+      go : (has (possibleIn s p) 6 ≡ true) ⊎ (has (possibleIn s p) 7 ≡ true) → Broken false es p past
+      go (inl e) = let m = R .gathers p 6 k (lit< tt) .0 e in (m .0, 6, m .1, inl refl)
+      go (inr e) = let m = R .gathers p 7 k (lit< tt) .0 e in (m .0, 7, m .1, inr refl)
 
-  broken-offended : Ends es → (p : ℕ) → p < policies → Broken false es p past → offended s p ≡ true
-  unfolding offended
-  broken-offended v p k b =
-      some-at (used s) (λ i. offends (setAt s p i)) (placeOf s x) (place-lt s x)
-      (has-offending m (R .bytes (p * instances + placeOf s x)) ∙ go (b .3))
+  broken-offends : Ends es → (p : ℕ) → p < policies → Broken false es p past → offends (possibleIn s p) ≡ true
+  broken-offends v p k b = has-offending m (R .possible-bytes p) ∙ go (b .3)
     where
-      x : ℕ
-      x = b .0
-
       m : ℕ
-      m = setAt s p (placeOf s x)
+      m = possibleIn s p
 
       in-set : has m (b .1) ≡ true
-      in-set = R .tracks x p (b .1) k (may-lt v (b .2)) .1 (b .2)
+      in-set = R .gathers p (b .1) k (may-lt v (b .2)) .1 (b .0, b .2)
 
       go : Offending (b .1) → (has m 6 || has m 7) ≡ true
       go (inl e) = or-left (has m 6) (has m 7) (ap (has m) (sym e) ∙ in-set)
@@ -86,17 +71,17 @@ module _ (es : List Edge) (past : Past) (h : Bool) (s : State) (R : Represents e
   unfolding broken
   violates-has v p b =
       let l : p < policies = open-lt p (b .0) in
-      maskOf-has (λ p. ltb 0 (getD (s .unclosed) p 0) && offended s p) p l
-      ∙ and-both (ltb 0 (getD (s .unclosed) p 0)) (offended s p) (lt-ltb 0 (getD (s .unclosed) p 0) (open-count-pos p (b .0)))
-      (broken-offended v p l (b .1))
+      maskOf-has (λ p. ltb 0 (getD (s .unclosed) p 0) && offends (possibleIn s p)) p l
+      ∙ and-both (ltb 0 (getD (s .unclosed) p 0)) (offends (possibleIn s p)) (lt-ltb 0 (getD (s .unclosed) p 0) (open-count-pos p (b .0)))
+      (broken-offends v p l (b .1))
 
   has-violates : (p : ℕ) → p < policies → has (broken s) p ≡ true → Violates false es p past
   unfolding broken
   has-violates p l e =
-      let t : (ltb 0 (getD (s .unclosed) p 0) && offended s p) ≡ true =
-      sym (maskOf-has (λ p. ltb 0 (getD (s .unclosed) p 0) && offended s p) p l) ∙ e in (
-        count-pos-open p (ltb-true 0 (getD (s .unclosed) p 0) (and-left (ltb 0 (getD (s .unclosed) p 0)) (offended s p) t)),
-        offended-broken p l (and-right (ltb 0 (getD (s .unclosed) p 0)) (offended s p) t),
+      let t : (ltb 0 (getD (s .unclosed) p 0) && offends (possibleIn s p)) ≡ true =
+      sym (maskOf-has (λ p. ltb 0 (getD (s .unclosed) p 0) && offends (possibleIn s p)) p l) ∙ e in (
+        count-pos-open p (ltb-true 0 (getD (s .unclosed) p 0) (and-left (ltb 0 (getD (s .unclosed) p 0)) (offends (possibleIn s p)) t)),
+        offends-broken p l (and-right (ltb 0 (getD (s .unclosed) p 0)) (offends (possibleIn s p)) t),
       )
 
   -- where the set is empty every open policy is respected

@@ -3,9 +3,13 @@ pub mod ListLaws
 pub mod Places
 pub mod StartLaws
 pub mod Tracking
+pub mod Gathering
 pub mod Preserve
 pub mod BrokenLaws
 pub mod Refusals
 pub mod Verdict
 pub mod KeptLaws
 pub mod StepLaws
+-- That it answers the same where the dynamic numbers are renamed.
+pub mod AlikeLaws
+pub mod RenamedExamples

@@ -20,12 +20,25 @@ use Rattle.usage.proofs.Logic.{clash, by-cases, or-left, or-right, or-cases}
 use Rattle.automaton.proofs.MoveLaws.{Ends}
 use Rattle.monitor_sets.specs.Instances.{setPlaces}
 use Rattle.monitor_state.specs.declared.State.{State}
-use Rattle.monitor_state.specs.Judge.{live, listed, stateOk, placeOf, createdIn, movedSets, movedIn, withUnclosed, after}
-use Rattle.monitor_state.specs.Represents.{Represents}
+use Rattle.monitor_state.specs.Judge.{
+  live,
+  listed,
+  stateOk,
+  placeOf,
+  used,
+  createdIn,
+  movedSets,
+  gathered,
+  movedIn,
+  withUnclosed,
+  after,
+}
+use Rattle.monitor_state.specs.Represents.{Tracks, Represents}
 use Rattle.usage.proofs.TableLaws.{length-from}
 use Rattle.monitor_state.proofs.Places.{known, StateOk, state-parts, parts-state}
 use Rattle.monitor_state.proofs.Tracking.{moved-tracks, created-tracks, created-listed, created-known, created-ok, moved-bytes}
-use Rattle.monitor_state.proofs.Tracking.{created-bytes}
+use Rattle.monitor_state.proofs.Tracking.{moved-ok, created-bytes}
+use Rattle.monitor_state.proofs.Gathering.{gathered-gathers, gathered-bytes}
 
 -- ── What was created ──
 
@@ -49,20 +62,29 @@ module _ (es : List Edge) (v : Ends es) (past : Past) (h : Bool) (s : State) (R 
   w = state-parts s (R .well)
 
   event-represents : (a r : ℕ) → known s r ≡ true → Represents es (event (suc a) r ∷ past) h (movedIn es (suc a) r s)
-  unfolding movedIn movedSets count stateOk
+  unfolding movedIn movedSets gathered count stateOk
   event-represents a r k = record {
     halted = R .halted;
     well = R .well;
-    tracks = moved-tracks es v s (R .created-length) w past (suc a) r (R .tracks) k;
+    tracks = tracks;
+    gathers = gathered-gathers es (event (suc a) r ∷ past) t (R .created-length) (moved-ok es (suc a) r s w) tracks refl;
     made = λ x. (λ e. List·Memᴰ·tail (R .made x .0 e), λ m. R .made x .1 (created-before (λ e. not-create e) m));
     number = R .number ∙ sym (ap (λ (b : Bool). addIf b (creates past)) (ne-eqb (suc a) 0 (λ e. omega arith)));
     open-count = R .open-count;
     sets-length = length-from _ 0 setPlaces;
+    possible-length = length-from _ 0 policies;
     created-length = R .created-length;
     unclosed-length = R .unclosed-length;
     bytes = moved-bytes es (suc a) r s (R .bytes);
+    possible-bytes = gathered-bytes (used s) (t .sets) (moved-bytes es (suc a) r s (R .bytes));
   }
     where
+      t : State
+      t = movedIn es (suc a) r s
+
+      tracks : Tracks es (event (suc a) r ∷ past) t
+      tracks = moved-tracks es v s (R .created-length) w past (suc a) r (R .tracks) k
+
       not-create : {x : ℕ} → event 0 x ≡ event (suc a) r → ⊥
       not-create e = let z : 0 ≡ suc a = cc in omega arith
 
@@ -82,20 +104,22 @@ module _ (es : List Edge) (v : Ends es) (past : Past) (h : Bool) (s : State) (R 
         back (inr m) = or-left (listed x (live s)) (eqb r x) (R .made x .1 m)
 
     create-represents : Represents es (event 0 r ∷ past) h (movedIn es 0 r (createdIn s r))
-    unfolding movedIn movedSets createdIn count stateOk
+    unfolding movedIn movedSets gathered createdIn count stateOk
     create-represents = record {
       halted = R .halted;
       well = parts-state t u;
-      tracks = moved-tracks es v t (length-set (s .created) (s .count) r ∙ R .created-length) u past 0 r
-          (created-tracks s (R .created-length) w r (c .2) (c .1) (c .0) es past (R .tracks))
-          (created-known s (R .created-length) w r (c .2) (c .1) (c .0));
+      tracks = tracks;
+      gathers = gathered-gathers es (event 0 r ∷ past) (movedIn es 0 r t) (length-set (s .created) (s .count) r ∙ R .created-length)
+          (moved-ok es 0 r t u) tracks refl;
       made = create-made;
       number = add-one (s .count) ∙ ap suc (R .number);
       open-count = R .open-count;
       sets-length = length-from _ 0 setPlaces;
+      possible-length = length-from _ 0 policies;
       created-length = length-set (s .created) (s .count) r ∙ R .created-length;
       unclosed-length = R .unclosed-length;
       bytes = moved-bytes es 0 r t (created-bytes s r (R .bytes));
+      possible-bytes = gathered-bytes (used t) (movedIn es 0 r t .sets) (moved-bytes es 0 r t (created-bytes s r (R .bytes)));
     }
       where
         t : State
@@ -103,6 +127,12 @@ module _ (es : List Edge) (v : Ends es) (past : Past) (h : Bool) (s : State) (R 
 
         u : StateOk t
         u = created-ok s (R .created-length) w r (c .2) (c .1) (c .0) f
+
+        tracks : Tracks es (event 0 r ∷ past) (movedIn es 0 r t)
+        tracks =
+            moved-tracks es v t (length-set (s .created) (s .count) r ∙ R .created-length) u past 0 r
+            (created-tracks s (R .created-length) w r (c .2) (c .1) (c .0) es past (R .tracks))
+            (created-known s (R .created-length) w r (c .2) (c .1) (c .0))
 
   -- an opening or closing changes one count alone
   unclosed-represents : (p n : ℕ) (step : Step) → p < policies
@@ -116,13 +146,19 @@ module _ (es : List Edge) (v : Ends es) (past : Past) (h : Bool) (s : State) (R 
     halted = R .halted;
     well = R .well;
     tracks = λ x p q k l. (λ h. may x p q .0 (R .tracks x p q k l .0 h), λ m. R .tracks x p q k l .1 (may x p q .1 m));
+    gathers = λ p q k l. (
+      λ h. let m = R .gathers p q k l .0 h in (m .0, may (m .0) p q .0 (m .1)),
+      λ m. R .gathers p q k l .1 (m .0, may (m .0) p q .1 (m .1)),
+    );
     made = λ x. (λ h. cr x .0 (R .made x .0 h), λ m. R .made x .1 (cr x .1 m));
     number = R .number ∙ sym num;
     open-count = λ p′. at p′ (eqb p p′) refl;
     sets-length = R .sets-length;
+    possible-length = R .possible-length;
     created-length = R .created-length;
     unclosed-length = length-set (s .unclosed) p n ∙ R .unclosed-length;
     bytes = R .bytes;
+    possible-bytes = R .possible-bytes;
   }
     where
       at : (p′ : ℕ) (b : Bool) → eqb p p′ ≡ b → closings p′ (step ∷ past) + getD (set (s .unclosed) p n) p′ 0 ≡ openings p′ (step ∷ past)
@@ -138,7 +174,8 @@ module _ (es : List Edge) (v : Ends es) (past : Past) (h : Bool) (s : State) (R 
   opening-represents : (p : ℕ) → p < policies → Represents es (opening p ∷ past) h (withUnclosed s p (getD (s .unclosed) p 0 + 1))
   unfolding count
   opening-represents p l =
-      unclosed-represents p (getD (s .unclosed) p 0 + 1) (opening p) l (λ x p q. (λ m. opened m, λ m. let (q₀, m₀, f) = before-opening m in subst (May false es p (Sees x) past) f m₀))
+      unclosed-represents p (getD (s .unclosed) p 0 + 1) (opening p) l
+      (λ x p q. (λ m. opened m, λ m. let (q₀, m₀, f) = before-opening m in subst (May false es p (Sees x) past) f m₀))
       (λ x. (λ m. List·Memᴰ·tail m, λ m. created-before (λ e. clash (cc)) m)) refl
       (own ∙ sym (ap (λ (b : Bool). addIf b (openings p past)) (eq-eqb p p refl)))
       (λ p′ h. (refl, ap (λ (b : Bool). addIf b (openings p′ past)) (ne-eqb p p′ h)))

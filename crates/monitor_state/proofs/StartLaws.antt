@@ -18,8 +18,8 @@ use Rattle.automaton.specs.Mask.{has}
 use Rattle.automaton.proofs.MaskLaws.{has-pow}
 use Rattle.automaton.proofs.MoveLaws.{Ends, moves-lt}
 use Rattle.monitor_sets.specs.Instances.{instances, setPlaces}
-use Rattle.monitor_state.specs.Judge.{listed, distinct, stateOk, placeOf, setAt, startState}
-use Rattle.monitor_state.specs.Represents.{Tracks, Represents}
+use Rattle.monitor_state.specs.Judge.{listed, distinct, stateOk, placeOf, setAt, possibleIn, startState}
+use Rattle.monitor_state.specs.Represents.{Tracks, Gathers, Represents}
 use Rattle.monitor_state.proofs.Places.{place-lt}
 
 -- ── The last step ──
@@ -74,19 +74,38 @@ begin-tracks es x p q k l = (to, back)
     back : May false es p (Sees x) [] q → has (setAt startState p (placeOf startState x)) q ≡ true
     back m = one ∙ eq-eqb 0 q (sym (may-start m))
 
+begin-possible : (p : ℕ) → p < policies → possibleIn startState p ≡ 1
+unfolding startState
+begin-possible p h = getD-replicate policies p 1 0 h
+
+begin-gathers : (es : List Edge) → Gathers es [] startState
+begin-gathers es p q k l = (to, back)
+  where
+    one : has (possibleIn startState p) q ≡ eqb 0 q
+    one = ap (λ (m : ℕ). has m q) (begin-possible p k) ∙ has-pow 0 q (lit< tt) l
+
+    to : has (possibleIn startState p) q ≡ true → (x : ℕ) × May false es p (Sees x) [] q
+    to h = (0, subst (λ (n : ℕ). May false es p (Sees 0) [] n) (eqb-true 0 q (sym one ∙ h)) start)
+
+    back : ((x : ℕ) × May false es p (Sees x) [] q) → has (possibleIn startState p) q ≡ true
+    back m = one ∙ eq-eqb 0 q (sym (may-start (m .1)))
+
 pub begin-represents : (es : List Edge) → Represents es [] false startState
 unfolding startState count listed
 begin-represents es = record {
   halted = refl;
   well = begin-ok;
   tracks = begin-tracks es;
+  gathers = begin-gathers es;
   made = λ r. (λ e. false-true e, λ m. absurd (List·Memᴰ·not-nil m));
   number = refl;
   open-count = λ p. zero-add (getD (replicate policies 0) p 0) ∙ zero-of (replicate-below policies 0 1 p (lit< tt));
   sets-length = length-replicate {A = ℕ} setPlaces 1;
+  possible-length = refl;
   created-length = begin-created;
   unclosed-length = refl;
   bytes = λ k. replicate-below setPlaces 1 256 k (lit< tt);
+  possible-bytes = λ p. replicate-below policies 1 256 p (lit< tt);
 }
   where
     zero-of : {n : ℕ} → n < 1 → n ≡ 0

@@ -161,6 +161,10 @@ module _ (s : State) (n : length (s .created) ≡ mostCreated) (w : StateOk s) (
     apart = subst (λ (l : List ℕ). distinct l ≡ true) (sym live-created) (distinct-snoc r (live s) (w .apart) new);
   }
 
+pub moved-ok : (es : List Edge) (a r : ℕ) (s : State) → StateOk s → StateOk (movedIn es a r s)
+unfolding movedIn
+moved-ok es a r s w = record { few = w .few; range = w .range; apart = w .apart }
+
 -- ── Sets stay bytes ──
 
 abbrev Bytes : State → Type 0

@@ -62,13 +62,16 @@ halt-represents es past h s R = record {
   halted = refl;
   well = R .well;
   tracks = R .tracks;
+  gathers = R .gathers;
   made = R .made;
   number = R .number;
   open-count = R .open-count;
   sets-length = R .sets-length;
+  possible-length = R .possible-length;
   created-length = R .created-length;
   unclosed-length = R .unclosed-length;
   bytes = R .bytes;
+  possible-bytes = R .possible-bytes;
 }
 
 module _ (es : List Edge) (v : Ends es) (past : Past) (s : State) (R : Represents es past false s) (raw : RawStep) where

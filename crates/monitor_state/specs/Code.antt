@@ -24,12 +24,20 @@ says Nothing = none
 
 -- ── A state by its parts ──
 
-abbrev pub stateOf : List ℕ → List ℕ → ℕ → List ℕ → Bool → State
-stateOf sets created count unclosed halted = record { sets = sets; created = created; count = count; unclosed = unclosed; halted = halted }
+abbrev pub stateOf : List ℕ → List ℕ → List ℕ → ℕ → List ℕ → Bool → State
+stateOf sets possible created count unclosed halted = record {
+  sets = sets;
+  possible = possible;
+  created = created;
+  count = count;
+  unclosed = unclosed;
+  halted = halted;
+}
 
 -- what is told, with the arrays as they were left
-abbrev pub judgementOf : Told → List ℕ → List ℕ → List ℕ → Judgement
-judgementOf t sets created unclosed = record { answer = t .answer; state = stateOf sets created (t .count) unclosed (t .halted) }
+abbrev pub judgementOf : Told → List ℕ → List ℕ → List ℕ → List ℕ → Judgement
+judgementOf t sets possible created unclosed =
+    record { answer = t .answer; state = stateOf sets possible created (t .count) unclosed (t .halted) }
 
 -- the judgement of a step that was read
 abbrev pub stepped : List Edge → State → Step → Judgement

@@ -11,13 +11,13 @@ use Rattle.usage.specs.Limits.{statics, resources, policies, mostCreated, mostO
 use Rattle.usage.specs.Past.{Step, event, opening, closing}
 use Rattle.usage.specs.Answers.{Verdict, allowed, violated, refused}
 use Rattle.usage.specs.Judge.{stepOf}
-use Rattle.usage.specs.Tests.{every, someBelow}
+use Rattle.usage.specs.Tests.{every}
 use Rattle.usage.specs.Tables.{from, edgesOf, edgeTable}
 use Rattle.monitor_sets.specs.Instances.{firstCreated, instances, setPlaces}
 use Rattle.automaton.specs.Mask.{union, offends, lowestIn}
 unfoldable pub use Rattle.monitor_sets.specs.Created.{listed, distinct, placeFrom}
 pub use Rattle.monitor_sets.specs.Created.{dynamic}
-unfoldable pub use Rattle.monitor_sets.specs.Sets.{copied, movedSets}
+unfoldable pub use Rattle.monitor_sets.specs.Sets.{copied, movedSets, gathered}
 use Rattle.monitor_state.specs.declared.State.{State}
 use Rattle.monitor_state.specs.declared.Answer.{Answer}
 use Rattle.monitor_state.specs.declared.Answer.the-variants.{Allowed, Violated, Refused}
@@ -29,10 +29,11 @@ verdictOf Allowed = allowed
 verdictOf (Violated p) = violated p
 verdictOf (Refused n) = refused n
 
--- "The state starts with each instance in state 0, nothing created and nothing open."
+-- "The state starts with each instance in state 0, nothing created and nothing open." So each policy may be in state 0 alone.
 unfoldable pub startState : State
 startState = record {
   sets = replicate setPlaces 1;
+  possible = replicate policies 1;
   created = replicate mostCreated 0;
   count = 0;
   unclosed = replicate policies 0;
@@ -67,15 +68,18 @@ setAt s p i = getD (s .sets) (p * instances + i) 0
 unfoldable pub createdIn : State → ℕ → State
 createdIn s r = record {
   sets = copied (s .sets) (used s);
+  possible = s .possible;
   created = set (s .created) (s .count) r;
   count = s .count + 1;
   unclosed = s .unclosed;
   halted = s .halted;
 }
 
+-- "Every event gathers it from the moved instances": whatever was stored
 unfoldable pub movedIn : List Edge → ℕ → ℕ → State → State
 movedIn es a r s = record {
   sets = movedSets es a r (placeOf s r) (used s) (s .sets);
+  possible = gathered (used s) (movedSets es a r (placeOf s r) (used s) (s .sets));
   created = s .created;
   count = s .count;
   unclosed = s .unclosed;
@@ -83,7 +87,14 @@ movedIn es a r s = record {
 }
 
 unfoldable pub withUnclosed : State → ℕ → ℕ → State
-withUnclosed s p n = record { sets = s .sets; created = s .created; count = s .count; unclosed = set (s .unclosed) p n; halted = s .halted }
+withUnclosed s p n = record {
+  sets = s .sets;
+  possible = s .possible;
+  created = s .created;
+  count = s .count;
+  unclosed = set (s .unclosed) p n;
+  halted = s .halted;
+}
 
 unfoldable pub after : List Edge → State → Step → State
 after es s (event zero r) = movedIn es 0 r (createdIn s r)
@@ -93,13 +104,13 @@ after es s (closing p) = withUnclosed s p (getD (s .unclosed) p 0 - 1)
 
 -- ── The answer ──
 
--- some instance in use may be in an offending state of policy p
-unfoldable pub offended : State → ℕ → Bool
-offended s p = someBelow (λ i. offends (setAt s p i)) (used s)
+-- "the set of states that any instance may be in", of policy p
+abbrev pub possibleIn : State → ℕ → ℕ
+possibleIn s p = getD (s .possible) p 0
 
--- the open policies that are not respected, as a bit set
+-- "the judge looks only at it": the open policies with an offending state among their possible ones, as a bit set
 unfoldable pub broken : State → ℕ
-broken s = union policies (λ p. cond (ltb 0 (getD (s .unclosed) p 0) && offended s p) (2 ^ p) 0)
+broken s = union policies (λ p. cond (ltb 0 (getD (s .unclosed) p 0) && offends (possibleIn s p)) (2 ^ p) 0)
 
 -- The number that refuses a step, if any.
 unfoldable pub refusal : State → Step → Option ℕ
@@ -114,7 +125,7 @@ refuse n s = record { answer = Refused n; state = s }
 
 -- "a halted state that is otherwise the one before the step"
 unfoldable pub halt : State → State
-halt s = record { sets = s .sets; created = s .created; count = s .count; unclosed = s .unclosed; halted = true }
+halt s = record { sets = s .sets; possible = s .possible; created = s .created; count = s .count; unclosed = s .unclosed; halted = true }
 
 -- the answer, by the broken policies after the step, from the states before and after it
 unfoldable pub settle : ℕ → State → State → Judgement

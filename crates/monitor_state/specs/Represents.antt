@@ -12,21 +12,28 @@ use Rattle.usage.specs.Past.{Past, May, Created, creates, openings, closings}
 use Rattle.monitor_sets.specs.Instances.{setPlaces}
 use Rattle.automaton.specs.Mask.{has}
 use Rattle.monitor_state.specs.declared.State.{State}
-use Rattle.monitor_state.specs.Judge.{live, listed, stateOk, placeOf, setAt}
+use Rattle.monitor_state.specs.Judge.{live, listed, stateOk, placeOf, setAt, possibleIn}
 
 -- The set at x's instance holds exactly the states that x's instance may be in: for every number x, created or not.
 abbrev pub Tracks : List Edge → Past → State → Type 0
 Tracks es past s = (x p q : ℕ) → p < policies → q < states → (has (setAt s p (placeOf s x)) q ≡ true) ↔ May false es p (Sees x) past q
+
+-- The set that is kept of p holds exactly the states that some instance of it, of any number x at all, may be in.
+abbrev pub Gathers : List Edge → Past → State → Type 0
+Gathers es past s = (p q : ℕ) → p < policies → q < states → (has (possibleIn s p) q ≡ true) ↔ ((x : ℕ) × May false es p (Sees x) past q)
 
 -- After this past, with an earlier step violated or not as `h` says, the judge may be in this state.
 pub record Represents (es : List Edge) (past : Past) (h : Bool) (s : State) : Type 0 where
   pub halted : s .halted ≡ h
   pub well : stateOk s ≡ true
   pub tracks : Tracks es past s
+  pub gathers : Gathers es past s
   pub made : (r : ℕ) → (listed r (live s) ≡ true) ↔ Created r past
   pub number : s .count ≡ creates past
   pub open-count : (p : ℕ) → closings p past + getD (s .unclosed) p 0 ≡ openings p past
   pub sets-length : length (s .sets) ≡ setPlaces
+  pub possible-length : length (s .possible) ≡ policies
   pub created-length : length (s .created) ≡ mostCreated
   pub unclosed-length : length (s .unclosed) ≡ policies
   pub bytes : (k : ℕ) → getD (s .sets) k 0 < 256
+  pub possible-bytes : (p : ℕ) → possibleIn s p < 256

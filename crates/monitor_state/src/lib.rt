@@ -10,10 +10,12 @@ ghost use Rattle.usage.specs.Judge.{stepOf};
 ghost use Rattle.monitor_state.specs.declared.Answer.the-variants.{Refused};
 ghost use Rattle.monitor_state.specs.Code.{says, toldOf};
 
-// What the judge keeps between steps: the sets of states of the instances, as `monitor_sets::instances` lays them out; the created
-// resources, which are the first `count` numbers; for each policy its openings that are not closed; and whether a step was violated.
+// What the judge keeps between steps: the sets of states of the instances, as `monitor_sets::instances` lays them out; for each policy the
+// set of states that any of its instances may be in; the created resources, which are the first `count` numbers; for each policy its
+// openings that are not closed; and whether a step was violated.
 pub struct State {
     pub sets: [u8; SETS],
+    pub possible: [u8; POLICIES],
     pub created: [u32; MOST_CREATED],
     pub count: usize,
     pub unclosed: [u8; POLICIES],

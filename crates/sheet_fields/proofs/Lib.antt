@@ -3,3 +3,5 @@ pub mod RangeLaws
 -- Every record of a table passes a test; tables of edges.
 pub mod EveryLaws
 pub mod EdgeLaws
+-- Edges tested eight at a time.
+pub mod BlockLaws

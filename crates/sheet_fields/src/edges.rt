@@ -2,6 +2,7 @@
 // which the judge and the check refuse a table with 41.
 ghost use mathlib.Core.Path.{_≡_};
 ghost use Rattle.usage.specs.Tables.{edgeTable};
+use crate::blocks::BLOCK_EDGES;
 use usage::EDGE_FIELDS;
 use usage::MOST_EDGES;
 
@@ -16,7 +17,15 @@ pub fn edge_table_ok(edges: &[u8]) -> bool
     if MOST_EDGES < n {
         return false;
     }
-    let mut i: usize = 0;
+    if n == 0 {
+        return true;
+    }
+    // the last block is tested edge by edge: it has no byte beyond it
+    let blocks = (n - 1) / BLOCK_EDGES;
+    if !crate::blocks::blocks_ok(edges, blocks) {
+        return false;
+    }
+    let mut i = BLOCK_EDGES * blocks;
     while i < n {
         let k = EDGE_FIELDS * i;
         if !crate::edge_fits(

@@ -14,6 +14,7 @@ use usage::EDGE_FIELDS;
 use usage::STATICS;
 use usage::STEP_FIELDS;
 
+mod blocks;
 pub mod edges;
 
 // How many values are on a node's line: its number, and those of the record.

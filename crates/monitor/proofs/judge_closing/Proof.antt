@@ -19,9 +19,10 @@ refused-requires c κs = search needs
 returns : tie.Need-returns
 returns c =
     let a = c .before .before .before .args in
-    λ es created.
-    refused-step es (a .sets .now) created (a .count) (a .unclosed .now) (closing (a .p)) 25 (c .refused .result) (c .refused .ensures)
-    (closing-closed (stateOf (a .sets .now) created (a .count) (a .unclosed .now) false) (a .p) (c .before .if1 .taken))
+    λ es sets created.
+    refused-step es sets (a .possible .now) created (a .count) (a .unclosed .now) (closing (a .p)) 25 (c .refused .result)
+    (c .refused .ensures)
+    (closing-closed (stateOf sets (a .possible .now) created (a .count) (a .unclosed .now) false) (a .p) (c .before .if1 .taken))
 
 sub-judge-unclosed : tie.Need-sub-judge-unclosed
 sub-judge-unclosed c = search needs
@@ -33,9 +34,11 @@ returns-2 : tie.Need-returns-2
 unfolding withUnclosed after
 returns-2 c =
     let a = c .before .before .before .before .args in
-    λ es created.
-    unclosed-step es (a .sets .now) created (a .count) (a .unclosed .now) (closing (a .p)) (a .p) _ _ (c .judge-unclosed .ensures created)
-    (closing-open (stateOf (a .sets .now) created (a .count) (a .unclosed .now) false) (a .p) (pos _ (c .before .before .if1 .left))) refl
+    λ es sets created.
+    unclosed-step es sets (a .possible .now) created (a .count) (a .unclosed .now) (closing (a .p)) (a .p) _ _
+    (c .judge-unclosed .ensures sets created)
+    (closing-open (stateOf sets (a .possible .now) created (a .count) (a .unclosed .now) false) (a .p)
+    (pos _ (c .before .before .if1 .left))) refl
 
 pub judge-closing-spec : {M : Type 1} → statement M
 judge-closing-spec =

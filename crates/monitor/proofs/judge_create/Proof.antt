@@ -24,9 +24,11 @@ refused-requires c κs = search needs
 returns : tie.Need-returns
 returns c =
     let a = c .before .before .before .args in
-    refused-step (edgesOf (a .edges .now)) (a .sets .now) (a .created .now) (a .count) (a .unclosed .now) (event 0 (a .r)) 22
+    refused-step (edgesOf (a .edges .now)) (a .sets .now) (a .possible .now) (a .created .now) (a .count) (a .unclosed .now)
+    (event 0 (a .r)) 22
     (c .refused .result) (c .refused .ensures)
-    (create-static (stateOf (a .sets .now) (a .created .now) (a .count) (a .unclosed .now) false) (a .r) (c .before .if1 .taken))
+    (create-static (stateOf (a .sets .now) (a .possible .now) (a .created .now) (a .count) (a .unclosed .now) false) (a .r)
+    (c .before .if1 .taken))
 
 place-of-requires : tie.Need-place-of-requires
 place-of-requires c κs = search needs
@@ -37,11 +39,12 @@ refused-requires-2 c κs = search needs
 returns-2 : tie.Need-returns-2
 returns-2 c =
     let a = c .before .before .before .before .before .before .args in
-    let s = stateOf (a .sets .now) (a .created .now) (a .count) (a .unclosed .now) false in
+    let s = stateOf (a .sets .now) (a .possible .now) (a .created .now) (a .count) (a .unclosed .now) false in
     let dyn = c .before .before .before .before .if1 .left in
     let place = c .before .before .place-of .ensures
-    ∙ sym (parts-place (a .sets .now) (a .created .now) (a .count) (a .unclosed .now) false (a .r)) in
-    refused-step (edgesOf (a .edges .now)) (a .sets .now) (a .created .now) (a .count) (a .unclosed .now) (event 0 (a .r)) 23
+    ∙ sym (parts-place (a .sets .now) (a .possible .now) (a .created .now) (a .count) (a .unclosed .now) false (a .r)) in
+    refused-step (edgesOf (a .edges .now)) (a .sets .now) (a .possible .now) (a .created .now) (a .count) (a .unclosed .now)
+    (event 0 (a .r)) 23
     (c .refused2 .result) (c .refused2 .ensures)
     (create-again s (a .r) dyn (is-listed s (a .r) dyn (λ q. c .before .if2 .taken (place ∙ q))))
 
@@ -51,11 +54,12 @@ refused-requires-3 c κs = search needs
 returns-3 : tie.Need-returns-3
 returns-3 c =
     let a = c .before .before .before .before .before .before .before .args in
-    let s = stateOf (a .sets .now) (a .created .now) (a .count) (a .unclosed .now) false in
+    let s = stateOf (a .sets .now) (a .possible .now) (a .created .now) (a .count) (a .unclosed .now) false in
     let dyn = c .before .before .before .before .before .if1 .left in
     let place = c .before .before .before .place-of .ensures
-    ∙ sym (parts-place (a .sets .now) (a .created .now) (a .count) (a .unclosed .now) false (a .r)) in
-    refused-step (edgesOf (a .edges .now)) (a .sets .now) (a .created .now) (a .count) (a .unclosed .now) (event 0 (a .r)) 30
+    ∙ sym (parts-place (a .sets .now) (a .possible .now) (a .created .now) (a .count) (a .unclosed .now) false (a .r)) in
+    refused-step (edgesOf (a .edges .now)) (a .sets .now) (a .possible .now) (a .created .now) (a .count) (a .unclosed .now)
+    (event 0 (a .r)) 30
     (c .refused3 .result) (c .refused3 .ensures)
     (create-full s (a .r) dyn (not-listed s (a .r) dyn (sym place ∙ c .before .before .if2 .left)) (c .before .if3 .taken))
 
@@ -82,8 +86,8 @@ settled-requires c κs = search needs
 
 returns-4 : tie.Need-returns-4
 returns-4 c =
-    let a = c .before .before .before .before .before .before .before .before .before .before .args in
-    let pre = c .before .before .before .before .before .before .before .before .before .before .pre in
+    let a = c .before .before .before .before .before .before .before .before .before .before .before .args in
+    let pre = c .before .before .before .before .before .before .before .before .before .before .before .pre in
     let event = c .before .before .take-event in
     let bad = event .result in
     let new = set (a .created .now) (a .count) (a .r) in
@@ -91,18 +95,20 @@ returns-4 c =
     by-cases (c .before .if4 .came)
     (λ w. w .1 ∙ sym (ap (λ (b : Bool). cond b new (a .created .now)) (eq-eqb _ _ (w .0 .taken))))
     (λ w. w .1 ∙ sym (ap (λ (b : Bool). cond b new (a .created .now)) (ne-eqb _ _ (w .0 .left)))) in
-    let s = stateOf (a .sets .now) (a .created .now) (a .count) (a .unclosed .now) false in
-    let room : a .count < mostCreated = c .before .before .before .before .if3 .left in
+    let s = stateOf (a .sets .now) (a .possible .now) (a .created .now) (a .count) (a .unclosed .now) false in
+    let room : a .count < mostCreated = c .before .before .before .before .before .if3 .left in
     let l : a .count < length (a .created .now) = omega arith in
     let at = firstCreated + a .count in
     let m : at + 1 ≤ instances = omega arith in
     let k : at < at + 1 = omega arith in
-    let dyn = c .before .before .before .before .before .before .before .before .if1 .left in
-    let place = c .before .before .before .before .before .before .place-of .ensures
-    ∙ sym (parts-place (a .sets .now) (a .created .now) (a .count) (a .unclosed .now) false (a .r)) in
-    told-parts (c .settled .ensures) (event .ensures .1 ∙ taken-sets (at + 1) at bad _ _ m k) e
-    ∙ create-taken-parts (edgesOf (a .edges .now)) (a .sets .now) (a .created .now) (a .count) (a .unclosed .now) (a .r) bad l room dyn
-    (not-listed s (a .r) dyn (sym place ∙ c .before .before .before .before .before .if2 .left))
+    let dyn = c .before .before .before .before .before .before .before .before .before .if1 .left in
+    let place = c .before .before .before .before .before .before .before .place-of .ensures
+    ∙ sym (parts-place (a .sets .now) (a .possible .now) (a .created .now) (a .count) (a .unclosed .now) false (a .r)) in
+    told-parts (c .settled .ensures) (event .ensures .1 .0 ∙ taken-sets (at + 1) at bad _ _ m k)
+    (event .ensures .1 .1 ∙ taken-sets (at + 1) at bad _ _ m k) e
+    ∙ create-taken-parts (edgesOf (a .edges .now)) (a .sets .now) (a .possible .now) (a .created .now) (a .count) (a .unclosed .now)
+    (a .r) bad l room dyn
+    (not-listed s (a .r) dyn (sym place ∙ c .before .before .before .before .before .before .if2 .left))
     (event .ensures .0 ∙ taken (at + 1) at _ _ m k)
 
 pub judge-create-spec : {M : Type 1} → statement M

@@ -18,9 +18,10 @@ refused-requires c κs = search needs
 returns : tie.Need-returns
 returns c =
     let a = c .before .before .before .args in
-    λ es created.
-    refused-step es (a .sets .now) created (a .count) (a .unclosed .now) (opening (a .p)) 31 (c .refused .result) (c .refused .ensures)
-    (opening-deep (stateOf (a .sets .now) created (a .count) (a .unclosed .now) false) (a .p) (c .before .if1 .taken))
+    λ es sets created.
+    refused-step es sets (a .possible .now) created (a .count) (a .unclosed .now) (opening (a .p)) 31 (c .refused .result)
+    (c .refused .ensures)
+    (opening-deep (stateOf sets (a .possible .now) created (a .count) (a .unclosed .now) false) (a .p) (c .before .if1 .taken))
 
 add-judge-unclosed : tie.Need-add-judge-unclosed
 add-judge-unclosed c = search needs
@@ -32,9 +33,10 @@ returns-2 : tie.Need-returns-2
 unfolding withUnclosed after
 returns-2 c =
     let a = c .before .before .before .before .args in
-    λ es created.
-    unclosed-step es (a .sets .now) created (a .count) (a .unclosed .now) (opening (a .p)) (a .p) _ _ (c .judge-unclosed .ensures created)
-    (opening-free (stateOf (a .sets .now) created (a .count) (a .unclosed .now) false) (a .p) (c .before .before .if1 .left)) refl
+    λ es sets created.
+    unclosed-step es sets (a .possible .now) created (a .count) (a .unclosed .now) (opening (a .p)) (a .p) _ _
+    (c .judge-unclosed .ensures sets created)
+    (opening-free (stateOf sets (a .possible .now) created (a .count) (a .unclosed .now) false) (a .p) (c .before .before .if1 .left)) refl
 
 pub judge-opening-spec : {M : Type 1} → statement M
 judge-opening-spec =

@@ -1,13 +1,14 @@
--- The start is the definition's, and stands for the empty past.
+-- The start is the definition's, stands for the empty past, and answers the same where the dynamic numbers are renamed.
 use mathlib.Core.Path.{refl}
 use Rattle.monitor_state.specs.Judge.{startState}
 use Rattle.monitor_state.proofs.StartLaws.{begin-represents}
+use Rattle.monitor_state.proofs.AlikeLaws.{start-same}
 use Rattle.monitor.proofs.start.Statement.{statement}
 use Rattle.monitor.proofs.start.Tie as tie
 
 returns : tie.Need-returns
 unfolding startState
-returns c = (refl, begin-represents)
+returns c = (refl, (begin-represents, start-same))
 
 pub start-spec : {M : Type 1} → statement M
 start-spec = tie.close (tie.spec returns)

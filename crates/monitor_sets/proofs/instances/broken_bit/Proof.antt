@@ -7,19 +7,12 @@ use Rattle.monitor_sets.proofs.instances.broken_bit.Statement.{statemen
 use Rattle.monitor_sets.proofs.instances.broken_bit.Tie as tie
 
 returns : tie.Need-returns
-returns c = let a = c .before .args in sym (bit-closed (a .sets .now) (a .n) (a .openings) (a .p) (c .if1 .taken))
-
-mul-union-from : tie.Need-mul-union-from
-mul-union-from c = search needs
-
-union-from-requires : tie.Need-union-from-requires
-union-from-requires c κs = search needs
+returns c = let a = c .before .args in sym (bit-closed (a .possible) (a .openings) (a .p) (c .if1 .taken))
 
 returns-2 : tie.Need-returns-2
 returns-2 c =
-    let a = c .before .before .before .args in
-    sym (bit-respected (a .sets .now) (a .n) (a .openings) (a .p) _ (c .before .union-from .ensures) (pos _ (c .before .before .if1 .left))
-    (c .if2 .taken))
+    let a = c .before .before .args in
+    sym (bit-respected (a .possible) (a .openings) (a .p) (pos _ (c .before .if1 .left)) (c .if2 .taken))
 
 cast-result : tie.Need-cast-result
 cast-result c = search needs
@@ -32,20 +25,9 @@ shl-result c = search needs
 
 returns-3 : tie.Need-returns-3
 returns-3 c =
-    let a = c .before .before .before .args in
+    let a = c .before .before .args in
     bit-shifted (a .p) (omega arith)
-    ∙ sym (bit-broken (a .sets .now) (a .n) (a .openings) (a .p) _ (c .before .union-from .ensures) (pos _ (c .before .before .if1 .left))
-    (c .if2 .left))
+    ∙ sym (bit-broken (a .possible) (a .openings) (a .p) (pos _ (c .before .if1 .left)) (c .if2 .left))
 
 pub broken-bit-spec : {M : Type 1} → statement M
-broken-bit-spec =
-    tie.close
-    (tie.spec
-    returns
-    mul-union-from
-    union-from-requires
-    returns-2
-    cast-result
-    cast-result-2
-    shl-result
-    returns-3)
+broken-bit-spec = tie.close (tie.spec returns returns-2 cast-result cast-result-2 shl-result returns-3)
