@@ -28,8 +28,10 @@ pub data Explained (e n t : List ℕ) : Explanation → List ℕ → Type 0 wher
   too-small : length t < mostNumbers → Explained e n t (Refused 40) t
   refused-with : {k : ℕ} → mostNumbers ≤ length t → CheckPromise e n (refused k) → Explained e n t (Refused k) t
   accepted : mostNumbers ≤ length t → CheckPromise e n allowed → Explained e n t Accepted t
-  longer : {p : ℕ} → mostNumbers ≤ length t → CheckPromise e n (violated p) → usage.Shown false (edgesOf e) (nodesOf n) p none → Explained e n t (Longer p) t
-  this-long : {p : ℕ} {past : Past} → mostNumbers ≤ length t → CheckPromise e n (violated p) → usage.Shown false (edgesOf e) (nodesOf n) p (some past)
+  longer : {p : ℕ} → mostNumbers ≤ length t → CheckPromise e n (violated p) → usage.Shown false (edgesOf e) (nodesOf n) p none
+      → Explained e n t (Longer p) t
+  this-long : {p : ℕ} {past : Past} → mostNumbers ≤ length t → CheckPromise e n (violated p)
+      → usage.Shown false (edgesOf e) (nodesOf n) p (some past)
       → Explained e n t (Shown p (length past)) (laid t past)
 
 -- document 01's numbers for each answer, and how many steps were written

@@ -27,8 +27,10 @@ fn broken(nodes: &[u8], rows: &Table, p: usize) -> bool
 {
     let mut x: usize = 0;
     while x <= WATCHED {
-        if checker_tables::breaks(nodes, rows, p, x) {
-            return true;
+        if checker_tables::touched(nodes, x) {
+            if checker_tables::breaks(nodes, rows, p, x) {
+                return true;
+            }
         }
         x += 1;
     }

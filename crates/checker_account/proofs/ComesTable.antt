@@ -15,7 +15,21 @@ use Rattle.automaton.specs.Mask.{has}
 use Rattle.automaton.proofs.MoveLaws.{moves-lt, ends-of}
 use Rattle.checker_account.specs.Witness.{watched, others, forget, Ends, Comes}
 use Rattle.checker_account.proofs.Whole.{ends-open}
-use Rattle.checker_account.specs.Tables.{least, nameOf, made, forgotten, meaningAfter, at, half, base, begun, Rows, place, Arrival, arrivals}
+use Rattle.checker_account.specs.Tables.{
+  least,
+  nameOf,
+  made,
+  forgotten,
+  meaningAfter,
+  at,
+  half,
+  base,
+  begun,
+  Rows,
+  place,
+  Arrival,
+  arrivals,
+}
 use Rattle.checker_account.specs.Tables.{over}
 use Rattle.checker_account.specs.Holds.{Start, Dynamic, RowsOk, NamesOk, EndsFrom, ComesFrom, HoldsEnds, ComesAt, HasCome, SoundComes}
 use Rattle.checker_account.specs.Holds.{Each, ClosedComes, Come, HoldsComes}

@@ -263,7 +263,10 @@ module _ (local : Bool) (es : List Edge) (ns : List Node) (p x : ℕ) where
     beside-at {past} {names} {y = y} {w = w} {m = m} i d v h g = record {
       y′ = y;
       watch = watch-other d h (real-other (h .role) (next-dynamic past) (λ e. d (sym e)) v);
-      named = record { means = means-other m (next past) (outline .fresh-small i) (λ e. d (sym e)) (g .means); known = known-give m (next past) (next-dynamic past) (g .known) };
+      named = record {
+        means = means-other m (next past) (outline .fresh-small i) (λ e. d (sym e)) (g .means);
+        known = known-give m (next past) (next-dynamic past) (g .known);
+      };
       onward = onward-create past y;
     }
 
@@ -292,7 +295,8 @@ module _ (local : Bool) (es : List Edge) (ns : List Node) (p x : ℕ) where
 
       own-named : (m : ℕ) → Named (event create (next past) ∷ past) (give names m (next past)) (next past) m
       own-named m = record {
-        means = means-own names (next past) m (next past) refl (λ t e. omega (arith, h .below (next past) (g .known .occurs t (next past) e)));
+        means = means-own names (next past) m (next past) refl
+            (λ t e. omega (arith, h .below (next past) (g .known .occurs t (next past) e)));
         known = known-give m (next past) (next-dynamic past) (g .known);
       }
 

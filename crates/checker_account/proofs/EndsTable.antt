@@ -37,8 +37,10 @@ module _ (es : List Edge) (ns : List Node) (p x : ℕ) (rows : Rows) (small : x 
       → (has (rows k (eqb m (suc n)) q) q′ ≡ true) ↔ Moves es p a (Sees x (meant x (nameOf m) n)) q q′
   name-moves {a = a} {n = n} m q q′ i s l l′ =
       let e = meant-is x m n (names .used i) in
-      let h = ok .name i (eqb m (suc n)) (λ f. own-watched n small (names .used i) s f) q q′ l l′ in
-      (λ b. subst (λ (r : ℕ). Moves es p a (Sees x r) q q′) (sym e) (h .0 b), λ v. h .1 (subst (λ (r : ℕ). Moves es p a (Sees x r) q q′) e v))
+      let h = ok .name i (eqb m (suc n)) (λ f. own-watched n small (names .used i) s f) q q′ l l′ in (
+        λ b. subst (λ (r : ℕ). Moves es p a (Sees x r) q q′) (sym e) (h .0 b),
+        λ v. h .1 (subst (λ (r : ℕ). Moves es p a (Sees x r) q q′) e v),
+      )
 
   ends-made : {k w q q′ : ℕ} {c c₁ c₂ : Bool} → c₁ ≡ c₂ → EndsFrom es ns p x k w c q c₁ q′ → EndsFrom es ns p x k w c q c₂ q′
   ends-made {k} {w} {q} {q′} {c} e h = subst (λ (d : Bool). EndsFrom es ns p x k w c q d q′) e h
@@ -72,14 +74,16 @@ module _ (es : List Edge) (ns : List Node) (p x : ℕ) (rows : Rows) (small : x 
         let v = getD t (base a m + q) 0 in
         let (j, lj, hv, ht) = over-found (λ j. getD t (base b (meaningAfter m c₁) + j) 0) (half c₁ v) (at c q′) h in
         let f : EndsAt es ns p x a m q c₁ j = sound a m q c₁ j s l lj (has-half c₁ v j lj ∙ hv) in
-        let g = ends-after m c₁ (stays-made (f .1)) (sound b (meaningAfter m c₁) j c q′ (start-after c₁ s) lj l′ ht) in (_, Goes.sequences i (f .1) (g .1))
+        let g = ends-after m c₁ (stays-made (f .1)) (sound b (meaningAfter m c₁) j c q′ (start-after c₁ s) lj l′ ht) in
+        (_, Goes.sequences i (f .1) (g .1))
 
     sound-other : {k n b : ℕ} (m q : ℕ) (c : Bool) (q′ : ℕ) → Start x m → q < states → q′ < states → Is ns k (fresh n b)
         → has (begun t b (forgotten m n) (rows k false q)) (at c q′) ≡ true → EndsAt es ns p x k m q c q′
     sound-other {k} {n} {b} m q c q′ s l l′ i h =
         let (j, lj, hv, ht) = over-found (λ j. getD t (base b (forgotten m n) + j) 0) (rows k false q) (at c q′) h in
         let v : Dynamic es p x create false q j = ok .created i false (λ e. absurd (true≢false (sym e))) q j l lj .0 hv in
-        let g = ends-forgotten m n (names .given i) (sound b (forgotten m n) j c q′ (start-forgotten n s) lj l′ ht) in (_, Goes.creates-other i v (g .1))
+        let g = ends-forgotten m n (names .given i) (sound b (forgotten m n) j c q′ (start-forgotten n s) lj l′ ht) in
+        (_, Goes.creates-other i v (g .1))
 
     sound-own : {k n b : ℕ} (m q : ℕ) (c : Bool) (q′ : ℕ) → Start x m → q < states → q′ < states → Is ns k (fresh n b)
         → has (cond (made m) 0 (begun t b (suc n) (rows k true q))) (at c q′) ≡ true → EndsAt es ns p x k m q c q′
@@ -137,8 +141,11 @@ module _ (es : List Edge) (ns : List Node) (p x : ℕ) (rows : Rows) (small : x 
     full-kept : {k m q : ℕ} {c : Bool} (v q′ : ℕ) (f : Form) → endsBy rows x t k m q f ≡ kept m v → Is ns k f → Start x m → made m ≡ c
         → q < states
         → q′ < states → has v q′ ≡ true → Full k m q c q′
-    full-kept {k} {m} {q} {c} v q′ f d i s e l l′ h =
-        (l′, subst (λ (b : Bool). HasEnd t k m q b q′) e (closed k m q f i s l (made m) q′ l′ (ap (λ (n : ℕ). has n (at (made m) q′)) d ∙ kept-at v m q′ l′ h)))
+    full-kept {k} {m} {q} {c} v q′ f d i s e l l′ h = (
+      l′,
+      subst (λ (b : Bool). HasEnd t k m q b q′) e
+          (closed k m q f i s l (made m) q′ l′ (ap (λ (n : ℕ). has n (at (made m) q′)) d ∙ kept-at v m q′ l′ h)),
+    )
 
     full-sequence : {k a b : ℕ} (m q : ℕ) (c₁ : Bool) (j : ℕ) (c : Bool) (q′ : ℕ) → Is ns k (sequence a b) → Start x m → q < states
         → Full a m q c₁ j → Full b (meaningAfter m c₁) j c q′ → Full k m q c q′
@@ -159,8 +166,11 @@ module _ (es : List Edge) (ns : List Node) (p x : ℕ) (rows : Rows) (small : x 
         → Moves es p create (Sees x others) q j → Full b (forgotten m n) j c q′ → Full k m q c q′
     unfolding endsBy
     full-other {k} {n} {b} m q j c q′ i s l lj v (l′, g) =
-        let h = ok .created i false (λ e. absurd (true≢false (sym e))) q j l lj .1 v in
-        (l′, closed k m q (fresh n b) i s l c q′ l′ (has-left _ _ (at c q′) (begun-at b (forgotten m n) (rows k false q) (at c q′) j lj h g)))
+        let h = ok .created i false (λ e. absurd (true≢false (sym e))) q j l lj .1 v in (
+          l′,
+          closed k m q (fresh n b) i s l c q′ l′
+              (has-left _ _ (at c q′) (begun-at b (forgotten m n) (rows k false q) (at c q′) j lj h g)),
+        )
 
     full-own : {k n b : ℕ} (q j : ℕ) (c : Bool) (q′ : ℕ) → Is ns k (fresh n b) → Start x 0 → q < states → j < states
         → Moves es p create (Sees x x) q j → Full b (suc n) j c q′ → Full k 0 q c q′
@@ -185,11 +195,15 @@ module _ (es : List Edge) (ns : List Node) (p x : ℕ) (rows : Rows) (small : x 
     full-ends (Goes.sequences {q = q} {q₁ = q₁} {c₁ = c₁} {t = ended c₂ q₂} i f g) m s ew ec l =
         let h = full-ends f m s ew ec l in
         full-sequence m q c₁ q₁ c₂ q₂ i s l h
-        (full-ends g (meaningAfter m c₁) (start-after c₁ s) (after-name m c₁ ∙ ew) (after-made m c₁ (λ e. stays-made f (sym ec ∙ e))) (h .0))
+        (full-ends g (meaningAfter m c₁) (start-after c₁ s) (after-name m c₁ ∙ ew) (after-made m c₁ (λ e. stays-made f (sym ec ∙ e)))
+        (h .0))
     full-ends (Goes.chooses-left {k = k} {q = q} {a = a} {b = b} {t = ended c₂ q₂} i f) m s ew ec l =
         let (l′, h) = full-ends f m s ew ec l in (l′, closed k m q (choice a b) i s l c₂ q₂ l′ (has-left _ _ (at c₂ q₂) h))
     full-ends (Goes.chooses-right {k = k} {q = q} {a = a} {b = b} {t = ended c₂ q₂} i f) m s ew ec l =
-        let (l′, h) = full-ends f m s ew ec l in (l′, closed k m q (choice a b) i s l c₂ q₂ l′ (has-right (getD t (base a m + q) 0) (getD t (base b m + q) 0) (at c₂ q₂) h))
+        let (l′, h) = full-ends f m s ew ec l in (
+          l′,
+          closed k m q (choice a b) i s l c₂ q₂ l′ (has-right (getD t (base a m + q) 0) (getD t (base b m + q) 0) (at c₂ q₂) h),
+        )
     full-ends (Goes.enters {k = k} {q = q} {a = a} {t = ended c₂ q₂} i f) m s ew ec l =
         let (l′, h) = full-ends f m s ew ec l in (l′, closed k m q (loop a) i s l c₂ q₂ l′ h)
     full-ends (Goes.repeats {k = k} {q = q} {a = a} {t = ended c₂ q₂} i f) m s ew ec l =

@@ -56,8 +56,12 @@ module _ (local : Bool) (es : List Edge) (ns : List Node) (p : ℕ) where
   brought-about : (past : Past) → IsTrace ns past → Violates local es p past → Brought (length past)
   unfolding count
   brought-about [] t (o, b) = absurd (omega arith)
-  brought-about (event a r ∷ past) t v =
-      (length (event a r ∷ past), omega arith, by-action a, record { step = event a r; past = past; made = an-event; trace = t; violates = v; steps = refl })
+  brought-about (event a r ∷ past) t v = (
+    length (event a r ∷ past),
+    omega arith,
+    by-action a,
+    record { step = event a r; past = past; made = an-event; trace = t; violates = v; steps = refl },
+  )
   brought-about (opening s ∷ past) t (o, (x, q, m, f)) =
       go (ℕ-discrete s p) (λ d u. brought-about past (trace-tail t) (u, (x, q, may-before d m, f)))
     where

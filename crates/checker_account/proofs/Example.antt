@@ -122,7 +122,8 @@ outline = record {
 created : Moves es 0 0 (Sees 16 16) 0 0
 created =
     stays
-    (λ e m (f : Fires e 0 0 (Sees 16 16) 0). let g : e ≡ edge = List·Memᴰ·eq-of-singleton m in let a : e .action ≡ 2 = cc in let b : e .action ≡ 0 = f .action in omega arith)
+    (λ e m (f : Fires e 0 0 (Sees 16 16) 0). let g : e ≡ edge = List·Memᴰ·eq-of-singleton m in let a : e .action ≡ 2 = cc in
+    let b : e .action ≡ 0 = f .action in omega arith)
 
 -- action 2 on x does
 used : Moves es 0 2 (Sees 16 (meant 16 0 0)) 0 6

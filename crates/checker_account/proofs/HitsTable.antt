@@ -140,7 +140,8 @@ module _ (es : List Edge) (ns : List Node) (p x : ℕ) (rows : Rows) (small : x 
           let w = getD u (place k true 0) 0 in
           struck 0 (fresh n b) i s refl f
           (has-right (over (rows k false) w) (over (rows k true) w) q′
-          (moved-at k 0 true q q′ l e (ok .created i true (λ _. unmade-watched es ns p x rows small ok names s) q q′ l (offending-lt f) .1 v)))
+          (moved-at k 0 true q q′ l e (ok .created i true (λ _. unmade-watched es ns p x rows small ok names s) q q′ l
+          (offending-lt f) .1 v)))
       go (suc m) s ec l e = absurd (true≢false ec)
   hits-in (Hits.at-opening {k = k} {q = q} {b = b} {o = o} i c f) =
       let h = comes .full c in

@@ -1,12 +1,12 @@
 -- What is in a table once a set is joined to it, and the empty table.
-use Prim.Native.Nat.{ℕ, zero, suc, _<_}
+use Prim.Native.Nat.{ℕ, zero, suc, _^_, _<_}
 use mathlib.Core.Path.{_≡_, refl, sym, ap, _∙_, subst}
 use mathlib.Core.Bool.{Bool, true, false}
 use mathlib.Core.List.{List}
 use mathlib.Core.Logic.{_⊎_, inl, inr}
 use native.Mathlib.Decide.{ℕ-discrete}
 use lib.Dec.{leb, lit<}
-use lib.Bits.{bitOr}
+use lib.Bits.{bitOr, or-lt}
 use lib.ListN.{length, getD, set, replicate}
 use lib.Seq.{getD-set-same, getD-set-other, set-out}
 use borrow.Author.Tests.{leb-true, leb-false}
@@ -55,17 +55,25 @@ zeros (suc n) (suc i) = zeros n i
 pub zeros-wide : (n : ℕ) → Wide (replicate n 0)
 zeros-wide n i = subst (λ (v : ℕ). v < 65536) (sym (zeros n i)) (lit< tt)
 
--- an entry of 16 bits, stored
-pub set-wide : (t : List ℕ) (i v : ℕ) → v < 65536 → Wide t → Wide (set t i v)
-set-wide t i v small w j = go (leb (length t) i) refl
+-- an entry below a bound, stored
+set-below : (b : ℕ) (t : List ℕ) (i v : ℕ) → v < b → ((j : ℕ) → getD t j 0 < b) → (j : ℕ) → getD (set t i v) j 0 < b
+set-below b t i v small w j = go (leb (length t) i) refl
   where
-    inside : i < length t → Dec (j ≡ i) → getD (set t i v) j 0 < 65536
-    inside l (yes e) = subst (λ (n : ℕ). n < 65536) (sym (ap (λ (n : ℕ). getD (set t i v) n 0) e ∙ getD-set-same t i v 0 l)) small
-    inside l (no d) = subst (λ (n : ℕ). n < 65536) (sym (getD-set-other t i j v 0 d)) (w j)
+    inside : i < length t → Dec (j ≡ i) → getD (set t i v) j 0 < b
+    inside l (yes e) = subst (λ (n : ℕ). n < b) (sym (ap (λ (n : ℕ). getD (set t i v) n 0) e ∙ getD-set-same t i v 0 l)) small
+    inside l (no d) = subst (λ (n : ℕ). n < b) (sym (getD-set-other t i j v 0 d)) (w j)
 
-    go : (b : Bool) → leb (length t) i ≡ b → getD (set t i v) j 0 < 65536
-    go true e = subst (λ (u : List ℕ). getD u j 0 < 65536) (sym (set-out t i v (leb-true (length t) i e))) (w j)
+    go : (a : Bool) → leb (length t) i ≡ a → getD (set t i v) j 0 < b
+    go true e = subst (λ (u : List ℕ). getD u j 0 < b) (sym (set-out t i v (leb-true (length t) i e))) (w j)
     go false e = inside (leb-false (length t) i e) (ℕ-discrete j i)
+
+pub set-wide : (t : List ℕ) (i v : ℕ) → v < 65536 → Wide t → Wide (set t i v)
+set-wide t i v small w = set-below 65536 t i v small w
+
+-- a set of numbers below n, joined to such sets
+pub joined-below : (n : ℕ) (t : List ℕ) (i v : ℕ) → v < 2 ^ n → ((j : ℕ) → getD t j 0 < 2 ^ n) → (j : ℕ) → getD (joinedAt t i v) j 0 < 2 ^ n
+unfolding joinedAt
+joined-below n t i v small h = set-below (2 ^ n) t i (bitOr (getD t i 0) v) (or-lt n (getD t i 0) v (h i) small) h
 
 -- what was in the table stays
 pub joined-keeps : (t : List ℕ) (i v j d : ℕ) → has (getD t j 0) d ≡ true → has (getD (joinedAt t i v) j 0) d ≡ true

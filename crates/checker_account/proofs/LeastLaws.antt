@@ -63,7 +63,8 @@ module _ (local : Bool) (es : List Edge) (ns : List Node) (p x : ℕ) (scope : �
     goes-has (Goes.enters i d) h a s = let (m, l, e) = goes-has d h a s in by-rule h a (Rule.enters i e) l s
     goes-has (Goes.repeats i d) h a s = let (m, l, e) = goes-has d h a s in by-rule h a (Rule.repeats i e) l s
     goes-has (Goes.creates-other {m = m} {q₁ = q₁} i v d) h a s =
-        let (j, l, e) = goes-has d (begun-other h m q₁ (moves-states edges v (h .state))) a (omega arith) in by-rule h a (Rule.creates-other i v e) (omega arith) s
+        let (j, l, e) = goes-has d (begun-other h m q₁ (moves-states edges v (h .state))) a (omega arith) in
+        by-rule h a (Rule.creates-other i v e) (omega arith) s
     goes-has (Goes.creates-own {m = m} {q₁ = q₁} i v d) h a s =
         let (j, l, e) = goes-has d (begun-own h m q₁ (outline .fresh-small i) (moves-states edges v (h .state))) a (omega arith) in
         by-rule h a (Rule.creates-own i v e) (omega arith) s

@@ -13,6 +13,8 @@ pub mod Writing
 pub mod Complete
 pub mod Exact
 pub mod Whole
+-- Static resources that need not be watched.
+pub mod UntouchedLaws
 pub mod Example
 -- Tables of least lengths: filled, and a trace read from them.
 pub mod BegunLaws
@@ -25,11 +27,12 @@ pub mod Starts
 pub mod EndsTable
 pub mod ComesTable
 pub mod HitsTable
--- Filled tables hold the account: a step of filling joins sets, so that rounds end (RoundLaws to PassLaws); what rounds fill is sound, and
--- the rules add nothing to it (FillEnds, FillComes); so the search answers right (SearchLaws).
+-- Filled tables hold the account: filling only joins sets that the rules give, so that it ends (RoundLaws to PassLaws; which nodes are done,
+-- SettledLaws); what is derived is sound, and what no rule adds to is whole (FillEnds, FillComes); so the search answers right (SearchLaws).
 pub mod JoinLaws
 pub mod RoundLaws
 pub mod SettleLaws
+pub mod SettledLaws
 pub mod PassLaws
 pub mod CodeLaws
 pub mod FillEnds

@@ -54,11 +54,11 @@ module _ (f : ℕ → ℕ) (v q : ℕ) where
   abbrev part : ℕ → ℕ
   part j = cond (has v j) (f j) 0
 
-  test-in : bitAnd (v / 2 ^ q) 1 ≡ 1 → has v q ≡ true
+  pub test-in : bitAnd (v / 2 ^ q) 1 ≡ 1 → has v q ≡ true
   unfolding has
   test-in h = eq-eqb (v / 2 ^ q % 2) 1 (sym (and-mask (v / 2 ^ q) 1) ∙ h)
 
-  test-out : (bitAnd (v / 2 ^ q) 1 ≡ 1 → ⊥) → has v q ≡ false
+  pub test-out : (bitAnd (v / 2 ^ q) 1 ≡ 1 → ⊥) → has v q ≡ false
   unfolding has
   test-out h = ne-eqb (v / 2 ^ q % 2) 1 (λ e. h (and-mask (v / 2 ^ q) 1 ∙ e))
 

@@ -94,7 +94,8 @@ module _ (local : Bool) (es : List Edge) (ns : List Node) (p x : ℕ) where
       by-rule r b a (Rule.ends i) names g past = (past, Written.ends i)
       by-rule r b a (Rule.fires-static i v) names g past = (_, Written.fires-static i v)
       by-rule r b a (Rule.fires-name {m = m} i v) names g past = let (s, e) = g m (outline .used i) in (_, Written.fires-name i e v)
-      by-rule r b a (Rule.sequences {n₁ = n₁} {n₂ = n₂} {k = k} {w = w} {q = q} {a = a₁} {b = b₁} {q₁ = q₁} {o = o} {c = c} {c₁ = c₁} {t = t} i (l₁, e₁) (l₂, e₂)) names g past =
+      by-rule r b a (Rule.sequences {n₁ = n₁} {n₂ = n₂} {k = k} {w = w} {q = q} {a = a₁} {b = b₁} {q₁ = q₁} {o = o} {c = c} {c₁ = c₁} {t =
+          t} i (l₁, e₁) (l₂, e₂)) names g past =
           let d = h .lengths .sound b at-end e₁ in
           let (mid, u) =
           r n₁ o a₁ w c q (ended c₁ q₁) l₁ b at-end e₁ names (given-child local es ns p x scope outline k a₁ (outline .first i) g) past in
@@ -103,19 +104,24 @@ module _ (local : Bool) (es : List Edge) (ns : List Node) (p x : ℕ) where
           (given-child local es ns p x scope outline k b₁ (outline .second i) g) mid in
           (after, Written.sequences i u v)
       by-rule r b a (Rule.chooses-left {n = n} {k = k} {w = w} {q = q} {a = a₁} {o = o} {c = c} {t = t} i (l, e)) names g past =
-          let (after, u) = r n o a₁ w c q t l b a e names (given-child local es ns p x scope outline k a₁ (outline .left i) g) past in (after, Written.chooses-left i u)
+          let (after, u) = r n o a₁ w c q t l b a e names (given-child local es ns p x scope outline k a₁ (outline .left i) g) past in
+          (after, Written.chooses-left i u)
       by-rule r b a (Rule.chooses-right {n = n} {k = k} {w = w} {q = q} {b = b₁} {o = o} {c = c} {t = t} i (l, e)) names g past =
-          let (after, u) = r n o b₁ w c q t l b a e names (given-child local es ns p x scope outline k b₁ (outline .right i) g) past in (after, Written.chooses-right i u)
+          let (after, u) = r n o b₁ w c q t l b a e names (given-child local es ns p x scope outline k b₁ (outline .right i) g) past in
+          (after, Written.chooses-right i u)
       by-rule r b a (Rule.enters {n = n} {k = k} {w = w} {q = q} {a = a₁} {o = o} {c = c} {t = t} i (l, e)) names g past =
-          let (after, u) = r n o a₁ w c q t l b a e names (given-child local es ns p x scope outline k a₁ (outline .body i) g) past in (after, Written.enters i u)
+          let (after, u) = r n o a₁ w c q t l b a e names (given-child local es ns p x scope outline k a₁ (outline .body i) g) past in
+          (after, Written.enters i u)
       by-rule r b a (Rule.repeats {n = n} {k = k} {w = w} {q = q} {a = a₁} {o = o} {c = c} {t = t} i (l, e)) names g past =
-          let (after, u) = r n o a₁ w c q t l b a e names (given-child local es ns p x scope outline k a₁ (outline .again i) g) past in (after, Written.repeats i u)
+          let (after, u) = r n o a₁ w c q t l b a e names (given-child local es ns p x scope outline k a₁ (outline .again i) g) past in
+          (after, Written.repeats i u)
       by-rule r b a (Rule.creates-other {n = n} {k = k} {m = m} {b = b₁} {q₁ = q₁} {t = t} i v (l, e)) names g past =
           let (after, u) = r n _ b₁ _ _ q₁ t l (begun-other b m q₁ (moves-states edges v (b .state))) a e (give names m (next past))
           (given-fresh local es ns p x scope outline k m (next past) b₁ (outline .given i) g) (event create (next past) ∷ past) in
           (after, Written.creates-other i v u)
       by-rule r b a (Rule.creates-own {n = n} {k = k} {m = m} {b = b₁} {q₁ = q₁} {t = t} i v (l, e)) names g past =
-          let (after, u) = r n _ b₁ m true q₁ t l (begun-own b m q₁ (outline .fresh-small i) (moves-states edges v (b .state))) a e (give names m (next past))
+          let (after, u) = r n _ b₁ m true q₁ t l (begun-own b m q₁ (outline .fresh-small i) (moves-states edges v (b .state))) a e
+          (give names m (next past))
           (given-fresh local es ns p x scope outline k m (next past) b₁ (outline .given i) g) (event create (next past) ∷ past) in
           (after, Written.creates-own i v u)
       by-rule r b a (Rule.sandboxes {n = n} {k = k} {s = s} {b = b₁} {o = o} i (l, e)) names g past =
@@ -130,7 +136,8 @@ module _ (local : Bool) (es : List Edge) (ns : List Node) (p x : ℕ) where
       by-rule r b a (Rule.breaks-own i v f z) names g past = (_, Written.breaks-own i v f z)
       by-rule r b a (Rule.breaks-opening i f z) names g past = (_, Written.breaks-opening i f z)
       by-rule r b a (Rule.breaks-first {n = n} {k = k} {w = w} {q = q} {a = a₁} {o = o} {c = c} {u = u} i (l, e)) names g past =
-          let (after, d) = r n o a₁ w c q (broken u) l b a e names (given-child local es ns p x scope outline k a₁ (outline .first i) g) past in (after, Written.breaks-first i d)
+          let (after, d) = r n o a₁ w c q (broken u) l b a e names
+          (given-child local es ns p x scope outline k a₁ (outline .first i) g) past in (after, Written.breaks-first i d)
       by-rule r b a (Rule.breaks-inside {n = n} {k = k} {s = s} {b = b₁} {o = o} {u = u} i (l, e)) names g past =
           let (after, d) =
           r n _ b₁ _ _ _ (broken u) l (begun-opened b local p s o) a e names
@@ -150,8 +157,11 @@ module _ (local : Bool) (es : List Edge) (ns : List Node) (p x : ℕ) where
 
           go : Dec (n ≡ 0) → Writes n → (after : Past) × Written local es ns p x n o k names w c q past t after
           go (yes f) r =
-              let s = goes-still local es ns p x (h .lengths .sound b a e) f in
-              (past, subst (λ (u : Aim). Written local es ns p x n o k names w c q past u past) (sym (s .same)) (written-in (sym f) (idle-written (s .idle))))
+              let s = goes-still local es ns p x (h .lengths .sound b a e) f in (
+                past,
+                subst (λ (u : Aim). Written local es ns p x n o k names w c q past u past) (sym (s .same))
+                    (written-in (sym f) (idle-written (s .idle))),
+              )
           go (no d) r = fewer r (omega arith)
 
 -- ── What L1 asks for ──
@@ -166,7 +176,12 @@ module _ (local : Bool) (es : List Edge) (ns : List Node) (scope : ℕ → ℕ �
       let d = written-struck local es ns p x scope edges outline small u in
       let e : length after ≡ n = written-length local es ns p x u ∙ zero-steps in
       subst (λ (t : Past). Shown local es ns p (some t)) (d .same)
-      (this (record { trace = d .trace; numbered = d .numbered; violates = d .violates; least = λ another t v. at-most (d .step ∷ d .past) (ap length (d .same) ∙ e) another t v })
+      (this (record {
+        trace = d .trace;
+        numbered = d .numbered;
+        violates = d .violates;
+        least = λ another t v. at-most (d .step ∷ d .past) (ap length (d .same) ∙ e) another t v;
+      })
       (at-200 (d .step ∷ d .past) (ap length (d .same) ∙ e)))
     where
       zero-steps : length {A = Step} [] + n ≡ n
@@ -199,7 +214,8 @@ module _ (local : Bool) (es : List Edge) (ns : List Node) (scope : ℕ → ℕ �
         → (after : Past) × Shown local es ns p (some after) × (length after ≡ n)
     tables-shown {x} {n} small e low =
         let few = h x small .lengths .capped e in
-        let (after, u) = reads local es ns p x scope edges outline mostShown (E x) (h x small) (suc n) n false 0 noName (ltb x statics) 0 (broken none) (omega arith)
+        let (after, u) = reads local es ns p x scope edges outline mostShown (E x) (h x small) (suc n) n false 0 noName (ltb x statics) 0
+        (broken none) (omega arith)
         (begun-root x) at-break e noNames (λ m s. absurd (outline .root s)) [] in
         (after, written-shown small u few (told-least low few), written-length local es ns p x u ∙ zero-steps)
       where

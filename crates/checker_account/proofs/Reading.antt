@@ -98,7 +98,8 @@ module _ (local : Bool) (es : List Edge) (ns : List Node) (p x : ℕ) where
   leads-goes t (Leads.body i) d = Goes.enters i d
   leads-goes t (Leads.again i) d = Goes.repeats i d
 
-  passes-goes : {n : ℕ} {o : Bool} {k j w : ℕ} {c : Bool} {q : ℕ} (t : Aim) → PassesAll ns (ending t) k j → Goes local es ns p x n o j w c q t
+  passes-goes : {n : ℕ} {o : Bool} {k j w : ℕ} {c : Bool} {q : ℕ} (t : Aim) → PassesAll ns (ending t) k j
+      → Goes local es ns p x n o j w c q t
       → Goes local es ns p x n o k w c q t
   passes-goes t PassesAll.here d = d
   passes-goes t (PassesAll.on l s) d = leads-goes t l (passes-goes t s d)
@@ -155,10 +156,15 @@ module _ (local : Bool) (es : List Edge) (ns : List Node) (p x : ℕ) where
   acts (Goes.chooses-right i d) l =
       let r = acts d l in record { node = r .node; passes = PassesAll.on (Leads.right i) (r .passes); rule = r .rule }
   acts (Goes.enters i d) l = let r = acts d l in record { node = r .node; passes = PassesAll.on (Leads.body i) (r .passes); rule = r .rule }
-  acts (Goes.repeats i d) l = let r = acts d l in record { node = r .node; passes = PassesAll.on (Leads.again i) (r .passes); rule = r .rule }
+  acts (Goes.repeats i d) l = let r = acts d l in record {
+    node = r .node;
+    passes = PassesAll.on (Leads.again i) (r .passes);
+    rule = r .rule;
+  }
   acts (Goes.creates-other {n = n} {k = k} i v d) l =
       record { node = k; passes = PassesAll.here; rule = Rule.creates-other i v (one-more n, d) }
-  acts (Goes.creates-own {n = n} {k = k} i v d) l = record { node = k; passes = PassesAll.here; rule = Rule.creates-own i v (one-more n, d) }
+  acts (Goes.creates-own {n = n} {k = k} i v d) l =
+      record { node = k; passes = PassesAll.here; rule = Rule.creates-own i v (one-more n, d) }
   acts (Goes.sandboxes {n = n} {k = k} i d) l = record { node = k; passes = PassesAll.here; rule = Rule.sandboxes i (two-more n, d) }
   acts (Goes.breaks-static {k = k} i v f z) l = record { node = k; passes = PassesAll.here; rule = Rule.breaks-static i v f z }
   acts (Goes.breaks-name {k = k} i v f z) l = record { node = k; passes = PassesAll.here; rule = Rule.breaks-name i v f z }
@@ -167,7 +173,8 @@ module _ (local : Bool) (es : List Edge) (ns : List Node) (p x : ℕ) where
   acts (Goes.breaks-opening {k = k} i f z) l = record { node = k; passes = PassesAll.here; rule = Rule.breaks-opening i f z }
   acts (Goes.breaks-first i d) l =
       let r = acts d l in record { node = r .node; passes = PassesAll.on (Leads.first i (λ e. false-true e)) (r .passes); rule = r .rule }
-  acts (Goes.breaks-inside {n = n} {k = k} i d) l = record { node = k; passes = PassesAll.here; rule = Rule.breaks-inside i (one-more n, d) }
+  acts (Goes.breaks-inside {n = n} {k = k} i d) l =
+      record { node = k; passes = PassesAll.here; rule = Rule.breaks-inside i (one-more n, d) }
 
   -- ── From an entry to entries of fewer steps ──
 

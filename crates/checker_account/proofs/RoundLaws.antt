@@ -14,7 +14,7 @@ use lib.Seq.{set-out, set-getD}
 use borrow.Author.Tests.{eqb-true, eqb-false, ltb-true, ltb-false, lt-ltb, le-ltb, leb-true, leb-false}
 use Rattle.usage.proofs.Logic.{by-cases, last-or-lower, or-right}
 use Rattle.automaton.proofs.MaskLaws.{left-le}
-use Rattle.checker_account.specs.Rounds.{repeat, total, grown, Wide, Filled}
+use Rattle.checker_account.specs.Rounds.{repeat, total, grown, Wide, Derived, start, joins}
 use Rattle.checker_account.specs.Tables.{joinedAt, places}
 
 -- ── The sum of the entries ──
@@ -145,6 +145,13 @@ pub repeat-more : (f : ℕ → List ℕ → List ℕ) (n : ℕ) (t₀ t u : List
 unfolding repeat
 repeat-more f n t₀ t u e g = rw (add-one n) (g ∙ ap (f n) e)
 
+-- steps that do the same
+pub repeat-same : (f g : ℕ → List ℕ → List ℕ) (n : ℕ) → ((i : ℕ) (t : List ℕ) → i < n → f i t ≡ g i t) → (t : List ℕ)
+    → repeat f n t ≡ repeat g n t
+unfolding repeat
+repeat-same f g zero h t = refl
+repeat-same f g (suc n) h t = h n (repeat f n t) (omega arith) ∙ ap (g n) (repeat-same f g n (λ i t l. h i t (omega arith)) t)
+
 module _ (f : ℕ → List ℕ → List ℕ) (grows : (i : ℕ) (t : List ℕ) → Grows t (f i t)) where
   pub repeat-grows : (n : ℕ) (t : List ℕ) → Grows t (repeat f n t)
   unfolding repeat
@@ -186,39 +193,34 @@ module _ (f : ℕ → List ℕ → List ℕ) (grows : (i : ℕ) (t : List ℕ) �
       kept : (r ≡ false) × (c′ ≡ c) → c′ ≡ grown t₀ u
       kept (h, m) = m ∙ d ∙ sym (or-false (grown t₀ t)) ∙ ap (λ (b : Bool). grown t₀ t || b) (sym h ∙ k) ∙ sym more
 
--- ── Rounds until one changes nothing ──
+-- ── Tables that rules make ──
+
+module _ (Rule : List ℕ → ℕ → ℕ → Type 0) (t₀ : List ℕ) where
+  pub derived-grows : {t : List ℕ} → Derived Rule t₀ t → Grows t₀ t
+  derived-grows start = grows-self t₀
+  derived-grows (joins {t = t} {i = i} {v = v} d e r) = grows-trans (derived-grows d) (joined-grows t i v)
+
+  -- what holds of the first, and still holds once what a rule gives is joined, holds of all of them
+  pub derived-keeps : (P : List ℕ → Type 0) → P t₀ → ((t by : List ℕ) (i v : ℕ) → P t → P by → Rule by i v → P (joinedAt t i v))
+      → {t : List ℕ} → Derived Rule t₀ t → P t
+  derived-keeps P p h start = p
+  derived-keeps P p h (joins {t = t} {by = by} {i = i} {v = v} d e r) =
+      h t by i v (derived-keeps P p h d) (derived-keeps P p h e) r
 
 -- the table so far
-pub record Filling (round : List ℕ → List ℕ) (t₀ t : List ℕ) : Type 0 where
-  pub rounds : ℕ
-  pub made : t ≡ repeat (λ i. round) rounds t₀
+pub record Filling (Rule : List ℕ → ℕ → ℕ → Type 0) (t₀ t : List ℕ) : Type 0 where
+  pub derived : Derived Rule t₀ t
   pub wide : Wide t
 
--- what a table of entries of 16 bits can sum up to
+pub filling-length : (Rule : List ℕ → ℕ → ℕ → Type 0) (t₀ t : List ℕ) → length t₀ ≡ places → Filling Rule t₀ t → length t ≡ places
+filling-length Rule t₀ t l h = derived-grows Rule t₀ (h .derived) .len ∙ l
+
+-- what a table of entries of 16 bits can sum up to; one that grows comes nearer to it
 abbrev pub most : ℕ
 most = 65536 * places
 
-module _ (round : List ℕ → List ℕ) (grows : (t : List ℕ) → Grows t (round t)) where
-  pub filling-start : (t : List ℕ) → Wide t → Filling round t t
-  unfolding repeat
-  filling-start t w = record { rounds = 0; made = refl; wide = w }
-
-  pub filling-more : (t₀ t u : List ℕ) → Filling round t₀ t → u ≡ round t → Wide u → Filling round t₀ u
-  unfolding repeat
-  filling-more t₀ t u h e w = record { rounds = suc (h .rounds); made = e ∙ ap round (h .made); wide = w }
-
-  pub filling-length : (t₀ t : List ℕ) → Filling round t₀ t → length t ≡ length t₀
-  filling-length t₀ t h = ap length (h .made) ∙ repeat-grows (λ i. round) (λ i. grows) (h .rounds) t₀ .len
-
-  pub filling-ends : (t₀ t u : List ℕ) → Filling round t₀ t → u ≡ round t → grown t u ≡ false → Filled round t₀ u
-  filling-ends t₀ t u h e g =
-      let same : u ≡ t = grown-false (subst (Grows t) (sym e) (grows t)) g in
-      record { rounds = h .rounds; made = same ∙ h .made; still = ap round same ∙ sym e }
-
-  pub filling-less : (t₀ t u : List ℕ) → length t₀ ≡ places → Filling round t₀ t → u ≡ round t → Wide u → grown t u ≡ true
-      → most - total u < most - total t
-  filling-less t₀ t u l h e w g =
-      let k : length u ≡ places = filling-length t₀ u (filling-more t₀ t u h e w) ∙ l in
-      let b = total-le u w in
-      let m = grown-true t u g in
-      omega arith
+pub nearer : (t u : List ℕ) → length u ≡ places → Wide u → grown t u ≡ true → most - total u < most - total t
+nearer t u l w g =
+    let b = total-le u w in
+    let m = grown-true t u g in
+    omega arith

@@ -66,7 +66,8 @@ module _ (k p : ℕ) (own other : List ℕ) (r : List ℕ) (room : starts * k + 
     pub storing-more : Storing k p own other (suc j) r (storeRow k p own other j t)
     unfolding u
     storing-more = record {
-      len = length-set (set t (starts * k + j) (getD other (p * states + j) 0)) (starts * k + states + j) (getD own (p * states + j) 0) ∙ length-set t (starts * k + j) (getD other (p * states + j) 0) ∙ h .len;
+      len = length-set (set t (starts * k + j) (getD other (p * states + j) 0)) (starts * k + states + j) (getD own (p * states + j) 0)
+          ∙ length-set t (starts * k + j) (getD other (p * states + j) 0) ∙ h .len;
       others = λ q l. by-cases (last-or-lower q j l)
           (λ e. ap (λ (i : ℕ). getD u (starts * k + i) 0) e ∙ here-other ∙ ap (λ (i : ℕ). getD other (p * states + i) 0) (sym e))
           (λ m. apart (starts * k + q) (λ e. omega arith) (λ e. omega arith) ∙ h .others q m);
@@ -80,8 +81,13 @@ module _ (k p : ℕ) (own other : List ℕ) (r : List ℕ) (room : starts * k + 
   storing : (j : ℕ) → j ≤ states → Storing k p own other j r (repeat (storeRow k p own other) j r)
   unfolding repeat
   storing zero l =
-      record
-      { len = refl; others = λ q h. absurd (not-suc-le-zero h); owns = λ q h. absurd (not-suc-le-zero h); before = λ i h. refl; after = λ i h. refl }
+      record {
+        len = refl;
+        others = λ q h. absurd (not-suc-le-zero h);
+        owns = λ q h. absurd (not-suc-le-zero h);
+        before = λ i h. refl;
+        after = λ i h. refl;
+      }
   storing (suc j) l = storing-more j (omega arith) (repeat (storeRow k p own other) j r) (storing j (omega arith))
 
   pub stored-is : Storing k p own other states r (rowsStored k p own other r)
@@ -136,7 +142,8 @@ module _ (k p : ℕ) (own other r : List ℕ) (room : starts * k + 16 ≤ length
       let h = stored-is k p own other r room in
       record {
         len = h .len;
-        same = λ j mine q d l. by-cases (away j k (rowAt j mine + q) d (row-low j mine q) (row-high j mine q l)) (λ m. h .before (rowAt j mine + q) m) (λ m. h .after (rowAt j mine + q) m);
+        same = λ j mine q d l. by-cases (away j k (rowAt j mine + q) d (row-low j mine q) (row-high j mine q l))
+            (λ m. h .before (rowAt j mine + q) m) (λ m. h .after (rowAt j mine + q) m);
       }
 
   stored-own : (q : ℕ) → q < states → rowsIn (rowsStored k p own other r) k true q ≡ getD own (p * states + q) 0

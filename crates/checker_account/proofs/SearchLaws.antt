@@ -4,6 +4,7 @@ use mathlib.Core.Path.{_≡_, refl, sym, ap, _∙_}
 use mathlib.Core.Bool.{Bool, true, false}
 use mathlib.Core.Option.{Option, none, some}
 use mathlib.Core.List.{List}
+use mathlib.Core.Logic.{_⊎_, inl, inr}
 use native.Mathlib.Omega.{arith}
 use lib.Dec.{lit<}
 use lib.ListN.{getD, replicate}
@@ -14,7 +15,7 @@ use Rattle.usage.specs.declared.Edge.{Edge}
 use Rattle.usage.specs.declared.Node.{Node}
 use Rattle.usage.specs.Policy.{EdgesOk}
 use Rattle.usage.specs.Check.{Leaves}
-use Rattle.usage.specs.Outline.{Form, end, on-static, on-name, sequence, choice, loop, back, fresh, sandbox}
+use Rattle.usage.specs.Outline.{Form, Is, end, on-static, on-name, sequence, choice, loop, back, fresh, sandbox}
 use Rattle.usage.specs.Tests.{Decides}
 use Rattle.usage.proofs.Decides.{d-map}
 use Rattle.usage.proofs.Logic.{false-true}
@@ -24,9 +25,10 @@ use Rattle.checker_account.specs.Witness.{watched, Last}
 use Rattle.checker_account.specs.Tables.{half, least, Rows, place, leaves, lastOf, joinedAt, places, meanings}
 use Rattle.checker_account.specs.Holds.{RowsOk, NamesOk, TargetsOk, HitsFrom, HasCome, Struck}
 use Rattle.checker_account.specs.Rounds.{Forms, FormsOf, leavesOf, hitNode, hitAny, begins, Wide, Searched, SearchedAll, found}
-use Rattle.checker_account.specs.Rounds.{none-found}
+use Rattle.checker_account.specs.Rounds.{none-found, Untouched}
 use Rattle.checker_account.proofs.Scoped.{Scoped}
 use Rattle.checker_account.proofs.Exact.{exact}
+use Rattle.checker_account.proofs.UntouchedLaws.{hits-watched}
 use Rattle.checker_account.proofs.Starts.{start-least}
 use Rattle.checker_account.proofs.JoinLaws.{zeros, zeros-wide}
 use Rattle.checker_account.proofs.SettleLaws.{joined-wide}
@@ -104,7 +106,8 @@ module _ (ns : List Node) (p x : ℕ) (rows : Rows) (u : List ℕ) (n : ℕ) (fo
       ∙ ap (λ (j : ℕ). offends (half false (leaves rows p x u k j (h .form)))) em
       ∙ h .offending in
       some-at n (λ k. hitNode rows p x u (least x) k (forms k)) k l
-      (some-at (meanings - least x) (λ i. offends (half false (leavesOf rows p x u k (least x + i) (forms k)))) (m - least x) (omega arith) o)
+      (some-at (meanings - least x) (λ i. offends (half false (leavesOf rows p x u k (least x + i) (forms k)))) (m - least x)
+      (omega arith) o)
 
 -- ── The answer for one watched resource ──
 
@@ -114,9 +117,12 @@ pub searched : (es : List Edge) (ns : List Node) (p x : ℕ) (rows : Rows) → x
     → Decides answer ((last : Last) × HitsFrom es ns p x last)
 searched es ns p x rows small edges ok names targets n forms few reads answer h =
     let ends = filled-ends es ns p x rows small ok names n forms reads edges few (h .ends) (h .ends-filled) in
-    let comes = filled-comes es ns p x rows small ok names targets (h .ends) ends n forms reads edges (h .comes) (begins-has (least x) (start-least x .high)) (h .comes-filled) in (
-      (λ a. let (last, s) = hit-found ns p x rows (h .comes) n forms reads (sym (h .told) ∙ a) in (last, hits-exact es ns p x rows small ok names edges (h .comes) comes last .1 s)),
-      (λ b. h .told ∙ hit-at ns p x rows (h .comes) n forms reads (hits-exact es ns p x rows small ok names edges (h .comes) comes (b .0) .0 (b .1))),
+    let comes = filled-comes es ns p x rows small ok names targets (h .ends) ends n forms reads edges (h .comes)
+    (begins-has (least x) (start-least x .high)) (h .comes-filled) in (
+      (λ a. let (last, s) = hit-found ns p x rows (h .comes) n forms reads (sym (h .told) ∙ a) in
+          (last, hits-exact es ns p x rows small ok names edges (h .comes) comes last .1 s)),
+      (λ b. h .told ∙ hit-at ns p x rows (h .comes) n forms reads
+          (hits-exact es ns p x rows small ok names edges (h .comes) comes (b .0) .0 (b .1))),
     )
 
 -- ── The answer for a policy ──
@@ -128,15 +134,30 @@ module _ (es : List Edge) (ns : List Node) (p : ℕ) (rows : Rows) (edges : Edge
       → Decides answer ((last : Last) × HitsFrom es ns p x last)
   one x l answer h = searched es ns p x rows l edges (ok x l) names targets n forms few reads answer h
 
-  pub searched-all : (answer : Bool) → SearchedAll rows p n forms answer
+  pub searched-all : (scope : ℕ → ℕ → Type 0) → Scoped ns scope → (answer : Bool) → SearchedAll rows p n forms answer
       → Decides answer ((x : ℕ) × (x ≤ watched) × (last : Last) × HitsFrom es ns p x last)
-  searched-all answer (found {x = x} l h) = let (last, t) = one x l true h .0 refl in ((λ e. (x, l, last, t)), (λ e. refl))
-  searched-all answer (none-found h) = ((λ e. false-true e), (λ b. one (b .0) (b .1) false (h (b .0) (b .1)) .1 (b .2, b .3)))
+  searched-all scope scoped answer (found {x = x} l h) =
+      let (last, t) = one x l true h .0 refl in ((λ e. (x, l, last, t)), (λ e. refl))
+  searched-all scope scoped answer (none-found h) =
+      ((λ e. false-true e), (λ b. missed (b .0) (b .1) (b .2) (b .3) (h (b .0) (b .1))))
+    where
+      dynamic : (last : Last) → HitsFrom es ns p watched last → Untouched n forms watched ⊎ Searched rows p watched n forms false
+          → false ≡ true
+      dynamic last t (inl u) = let l = u .static in absurd (omega arith)
+      dynamic last t (inr s) = one watched (omega arith) false s .1 (last, t)
+
+      -- what an instance that was not watched would have shown, the dynamic one shows
+      missed : (x : ℕ) → x ≤ watched → (last : Last) → HitsFrom es ns p x last → Untouched n forms x ⊎ Searched rows p x n forms false
+          → false ≡ true
+      missed x l last t (inl u) =
+          let off : (k a : ℕ) → Is ns k (on-static a x) → ⊥ = λ k a i. let (b, e) = reads .has k (on-static a x) i in u .no-event k a b e in
+          dynamic last (t .0, hits-watched false es ns p x scope edges scoped (u .static) off (t .1)) (h watched (omega arith))
+      missed x l last t (inr s) = one x l false s .1 (last, t)
 
   -- some trace leaves the policy open and not respected exactly if the answer is yes
   pub broken-exact : (scope : ℕ → ℕ → Type 0) → Scoped ns scope → (answer : Bool) → SearchedAll rows p n forms answer
       → Decides answer (Leaves false es ns p)
   broken-exact scope scoped answer h =
       let e = exact false es ns scope p edges scoped in
-      d-map (searched-all answer h) (λ t. e .1 (t .0, t .1, t .3 .0, t .2, t .3 .1))
+      d-map (searched-all scope scoped answer h) (λ t. e .1 (t .0, t .1, t .3 .0, t .2, t .3 .1))
       (λ l. let (x, small, n, last, k) = e .0 l in (x, small, last, (n, k)))

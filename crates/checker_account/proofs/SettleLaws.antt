@@ -1,5 +1,6 @@
--- Filling the table of ends: each step of it only joins sets, and keeps the entries within 16 bits.
-use Prim.Native.Nat.{ℕ, zero, suc, _+_, _-_, _*_, _/_, _%_, _^_, _<_}
+-- Filling the table of ends: each step of it only joins sets, and those that the rules give, and keeps the entries within 16 bits.
+use Prim.Native.Nat.{ℕ, zero, suc, _+_, _-_, _*_, _/_, _%_, _^_, _<_, _≤_}
+use mathlib.Core.Path.{_≡_, refl, sym, ap, _∙_, subst}
 use mathlib.Core.Bool.{Bool, true, false, cond}
 use mathlib.Core.Option.{Option, none, some}
 use mathlib.Core.List.{List}
@@ -10,26 +11,100 @@ use lib.ListN.{getD}
 use Rattle.usage.specs.Limits.{states}
 use Rattle.usage.specs.Outline.{Form, end, on-static, on-name, sequence, choice, loop, back, fresh, sandbox}
 use Rattle.automaton.specs.Mask.{has, union}
-use Rattle.checker_account.specs.Tables.{made, kept, Rows, endsBy, over, joinedAt, starts}
-use Rattle.checker_account.specs.Rounds.{Forms, endsOf, settleStart, settleNode, settleRound, Wide}
-use Rattle.checker_account.proofs.RoundLaws.{Grows, joined-grows, repeat-grows, repeat-keeps}
+use Rattle.checker_account.specs.Tables.{made, base, kept, Rows, endsBy, over, joinedAt, meanings}
+use Rattle.checker_account.specs.Rounds.{
+  Forms,
+  Derived,
+  joins,
+  joinedEach,
+  endsOf,
+  EndsRule,
+  ends-of,
+  settleMeaning,
+  settleNode,
+  settleRound,
+}
+use Rattle.checker_account.specs.Rounds.{Wide}
+use Rattle.checker_account.proofs.RoundLaws.{Grows, joined-grows, repeat-grows, repeat-keeps, repeat-still, repeat-same}
 use Rattle.checker_account.proofs.JoinLaws.{set-wide}
 
 -- ── They grow ──
 
-pub settle-grows : (rows : Rows) (x k : ℕ) (f : Option Form) (s : ℕ) (t : List ℕ) → Grows t (settleStart rows x k f s t)
-settle-grows rows x k f s t = joined-grows t (starts * k + s) (endsOf rows x t k (s / states) (s % states) f)
+module _ (t : List ℕ) (i : ℕ) (f : ℕ → ℕ) where
+  pub each-grows : Grows t (joinedEach t i f)
+  unfolding joinedEach
+  each-grows = repeat-grows (λ q u. joinedAt u (i + q) (f q)) (λ q u. joined-grows u (i + q) (f q)) states t
 
-pub node-grows : (rows : Rows) (x first k : ℕ) (f : Option Form) (t : List ℕ) → Grows t (settleNode rows x first k f t)
+  pub each-still : joinedEach t i f ≡ t → (q : ℕ) → q < states → joinedAt t (i + q) (f q) ≡ t
+  unfolding joinedEach
+  each-still e q l = repeat-still (λ q u. joinedAt u (i + q) (f q)) (λ q u. joined-grows u (i + q) (f q)) states t e q l
+
+  pub each-same : (g : ℕ → ℕ) → ((q : ℕ) → q < states → f q ≡ g q) → joinedEach t i f ≡ joinedEach t i g
+  unfolding joinedEach
+  each-same g h =
+      repeat-same (λ q u. joinedAt u (i + q) (f q)) (λ q u. joinedAt u (i + q) (g q)) states (λ q u l. ap (joinedAt u (i + q)) (h q l)) t
+
+pub meaning-grows : (rows : Rows) (x k : ℕ) (f : Option Form) (m : ℕ) (t : List ℕ) → Grows t (settleMeaning rows x k f m t)
+meaning-grows rows x k f m t = each-grows t (base k m) (λ q. endsOf rows x t k m q f)
+
+pub node-grows : (rows : Rows) (x l k : ℕ) (f : Option Form) (t : List ℕ) → Grows t (settleNode rows x l k f t)
 unfolding settleNode
-node-grows rows x first k f t =
-    repeat-grows (λ i. settleStart rows x k f (first + i)) (λ i. settle-grows rows x k f (first + i)) (starts - first) t
+node-grows rows x l k f t =
+    repeat-grows (λ i. settleMeaning rows x k f (l + i)) (λ i. meaning-grows rows x k f (l + i)) (meanings - l) t
 
-pub round-grows : (rows : Rows) (x first n : ℕ) (forms : Forms) (t : List ℕ) → Grows t (settleRound rows x first n forms t)
+pub round-grows : (rows : Rows) (x l n : ℕ) (forms : Forms) (t : List ℕ) → Grows t (settleRound rows x l n forms t)
 unfolding settleRound
-round-grows rows x first n forms t =
-    repeat-grows (λ i. settleNode rows x first (n - 1 - i) (forms (n - 1 - i)))
-    (λ i. node-grows rows x first (n - 1 - i) (forms (n - 1 - i))) n t
+round-grows rows x l n forms t =
+    repeat-grows (λ i. settleNode rows x l (n - 1 - i) (forms (n - 1 - i))) (λ i. node-grows rows x l (n - 1 - i) (forms (n - 1 - i))) n t
+
+-- ── They derive, and where a round changes nothing, no rule adds anything ──
+
+-- one start of a node that settling leaves as it is
+pub node-closed : (rows : Rows) (x l k : ℕ) (f : Option Form) (t : List ℕ) → settleNode rows x l k f t ≡ t → (m q : ℕ) → l ≤ m
+    → m < meanings
+    → q < states → joinedAt t (base k m + q) (endsOf rows x t k m q f) ≡ t
+unfolding settleNode
+node-closed rows x l k f t still m q low high lq =
+    let e : l + (m - l) ≡ m = omega arith in
+    each-still t (base k m) (λ q. endsOf rows x t k m q f)
+    (subst (λ (j : ℕ). settleMeaning rows x k f j t ≡ t) e
+    (repeat-still (λ i. settleMeaning rows x k f (l + i)) (λ i. meaning-grows rows x k f (l + i)) (meanings - l) t still (m - l)
+    (omega arith))) q lq
+
+module _ (rows : Rows) (x l n : ℕ) (forms : Forms) where
+  module _ (t₀ : List ℕ) where
+    abbrev Made : List ℕ → Type 0
+    Made = Derived (EndsRule rows x l n forms) t₀
+
+    meaning-derived : (k m : ℕ) (t : List ℕ) → k < n → l ≤ m → m < meanings → Made t → Made (settleMeaning rows x k (forms k) m t)
+    unfolding joinedEach
+    meaning-derived k m t b low high d =
+        repeat-keeps Made (λ q u. joinedAt u (base k m + q) (endsOf rows x t k m q (forms k))) states
+        (λ q u h e. joins e d (ends-of k m q b low high h)) t d
+
+    pub node-derived : (k : ℕ) (t : List ℕ) → k < n → Made t → Made (settleNode rows x l k (forms k) t)
+    unfolding settleNode
+    node-derived k t b d =
+        repeat-keeps Made (λ i. settleMeaning rows x k (forms k) (l + i)) (meanings - l)
+        (λ i t h d. meaning-derived k (l + i) t b (omega arith) (omega arith) d) t d
+
+    pub round-derived : (t : List ℕ) → Made t → Made (settleRound rows x l n forms t)
+    unfolding settleRound
+    round-derived t d =
+        repeat-keeps Made (λ i. settleNode rows x l (n - 1 - i) (forms (n - 1 - i))) n
+        (λ i t h d. node-derived (n - 1 - i) t (omega arith) d) t d
+
+  module _ (t : List ℕ) (still : settleRound rows x l n forms t ≡ t) where
+    node-still : (k : ℕ) → k < n → settleNode rows x l k (forms k) t ≡ t
+    unfolding settleRound
+    node-still k b =
+        let e : n - 1 - (n - 1 - k) ≡ k = omega arith in
+        subst (λ (j : ℕ). settleNode rows x l j (forms j) t ≡ t) e
+        (repeat-still (λ i. settleNode rows x l (n - 1 - i) (forms (n - 1 - i)))
+        (λ i. node-grows rows x l (n - 1 - i) (forms (n - 1 - i))) n t still (n - 1 - k) (omega arith))
+
+    pub round-closed : (i v : ℕ) → EndsRule rows x l n forms t i v → joinedAt t i v ≡ t
+    round-closed i v (ends-of k m q b low high lq) = node-closed rows x l k (forms k) t (node-still k b) m q low high lq
 
 -- ── The entries stay within 16 bits ──
 
@@ -72,17 +147,19 @@ module _ (rows : Rows) (x : ℕ) where
   ends-lt t k m q (some (fresh n b)) w = or-lt 16 _ _ (over-lt _ _ (λ j. w _)) (cond-lt (made m) _ (over-lt _ _ (λ j. w _)))
   ends-lt t k m q (some (sandbox s b)) w = w _
 
-  settle-wide : (k : ℕ) (f : Option Form) (s : ℕ) (t : List ℕ) → Wide t → Wide (settleStart rows x k f s t)
-  settle-wide k f s t w =
-      joined-wide t (starts * k + s) (endsOf rows x t k (s / states) (s % states) f) (ends-lt t k (s / states) (s % states) f w) w
+  meaning-wide : (k : ℕ) (f : Option Form) (m : ℕ) (t : List ℕ) → Wide t → Wide (settleMeaning rows x k f m t)
+  unfolding joinedEach
+  meaning-wide k f m t w =
+      repeat-keeps Wide (λ q u. joinedAt u (base k m + q) (endsOf rows x t k m q f)) states
+      (λ q u l v. joined-wide u (base k m + q) (endsOf rows x t k m q f) (ends-lt t k m q f w) v) t w
 
-  node-wide : (first k : ℕ) (f : Option Form) (t : List ℕ) → Wide t → Wide (settleNode rows x first k f t)
+  pub node-wide : (l k : ℕ) (f : Option Form) (t : List ℕ) → Wide t → Wide (settleNode rows x l k f t)
   unfolding settleNode
-  node-wide first k f t w =
-      repeat-keeps Wide (λ i. settleStart rows x k f (first + i)) (starts - first) (λ i t l w. settle-wide k f (first + i) t w) t w
+  node-wide l k f t w =
+      repeat-keeps Wide (λ i. settleMeaning rows x k f (l + i)) (meanings - l) (λ i t h w. meaning-wide k f (l + i) t w) t w
 
-  pub round-wide : (first n : ℕ) (forms : Forms) (t : List ℕ) → Wide t → Wide (settleRound rows x first n forms t)
+  pub round-wide : (l n : ℕ) (forms : Forms) (t : List ℕ) → Wide t → Wide (settleRound rows x l n forms t)
   unfolding settleRound
-  round-wide first n forms t w =
-      repeat-keeps Wide (λ i. settleNode rows x first (n - 1 - i) (forms (n - 1 - i))) n
-      (λ i t l w. node-wide first (n - 1 - i) (forms (n - 1 - i)) t w) t w
+  round-wide l n forms t w =
+      repeat-keeps Wide (λ i. settleNode rows x l (n - 1 - i) (forms (n - 1 - i))) n
+      (λ i t h w. node-wide l (n - 1 - i) (forms (n - 1 - i)) t w) t w

@@ -63,8 +63,10 @@ module _ (local : Bool) (es : List Edge) (ns : List Node) (p x : ℕ) where
   -- what is to be shown of a past, by its newest step
   abbrev Told : Past → Type 0
   Told [] = Unit {0}
-  Told (event a r ∷ past) = Open p past → (q : ℕ) → May local es p (Sees x) (event a r ∷ past) q → Offending q → Hits local es ns p (min x watched) (suc (length past)) (by-action a)
-  Told (opening s ∷ past) = s ≡ p → (q : ℕ) → May local es p (Sees x) (opening s ∷ past) q → Offending q → Hits local es ns p (min x watched) (suc (length past)) by-opening
+  Told (event a r ∷ past) = Open p past → (q : ℕ) → May local es p (Sees x) (event a r ∷ past) q → Offending q
+      → Hits local es ns p (min x watched) (suc (length past)) (by-action a)
+  Told (opening s ∷ past) = s ≡ p → (q : ℕ) → May local es p (Sees x) (opening s ∷ past) q → Offending q
+      → Hits local es ns p (min x watched) (suc (length past)) by-opening
   Told (closing s ∷ past) = Unit {0}
 
   module _ (scope : ℕ → ℕ → Type 0) (edges : EdgesOk es) (outline : Scoped ns scope) where
@@ -89,13 +91,21 @@ module _ (local : Bool) (es : List Edge) (ns : List Node) (p x : ℕ) where
 
       here-left : {a b : ℕ} → Is ns k (choice a b) → Here i n c q a names T
       here-left f =
-          record
-          { w = h .w; means = h .means; comes = Comes.left f (h .comes); goes = λ j t c₂ q₂ e d. h .goes j t c₂ q₂ e (Goes.chooses-left f d) }
+          record {
+            w = h .w;
+            means = h .means;
+            comes = Comes.left f (h .comes);
+            goes = λ j t c₂ q₂ e d. h .goes j t c₂ q₂ e (Goes.chooses-left f d);
+          }
 
       here-right : {a b : ℕ} → Is ns k (choice a b) → Here i n c q b names T
       here-right f =
-          record
-          { w = h .w; means = h .means; comes = Comes.right f (h .comes); goes = λ j t c₂ q₂ e d. h .goes j t c₂ q₂ e (Goes.chooses-right f d) }
+          record {
+            w = h .w;
+            means = h .means;
+            comes = Comes.right f (h .comes);
+            goes = λ j t c₂ q₂ e d. h .goes j t c₂ q₂ e (Goes.chooses-right f d);
+          }
 
       here-body : {a : ℕ} → Is ns k (loop a) → Here i n c q a names T
       here-body f =
@@ -219,7 +229,8 @@ module _ (local : Bool) (es : List Edge) (ns : List Node) (p x : ℕ) where
     }
     step rs (Advance.fires-name {k = k} {a = a} {n = n} {r = r} {past = past} {rest = rest} i e) v = record {
       known = givens-more (event a r) past rest (v .known .1);
-      at = λ q m. let (q₀, m₀, mv) = before-event m in let h = v .at q₀ m₀ in at-event a r q h (here-name (h .stack) i (v .known .0 .dynamic n r e) e mv);
+      at = λ q m. let (q₀, m₀, mv) = before-event m in let h = v .at q₀ m₀ in
+          at-event a r q h (here-name (h .stack) i (v .known .0 .dynamic n r e) e mv);
     }
     step rs (Advance.sequences {k = k} i) v = record {
       known = (v .known .0, (v .known .0, v .known .1));
@@ -290,7 +301,8 @@ module _ (local : Bool) (es : List Edge) (ns : List Node) (p x : ℕ) where
     told-next : {r r′ : Run} → Runs ns r → Advance ns r r′ → Told (r .past) → Told (r′ .past)
     told-next rs (Advance.ends i) h = h
     told-next rs (Advance.fires-static i) h = λ o q m f.
-        let (q₀, m₀, mv) = before-event m in let h = invariant rs .at q₀ m₀ in Hits.at-static i (comes-open rs o h) (static-move (h .stack) i mv) f
+        let (q₀, m₀, mv) = before-event m in let h = invariant rs .at q₀ m₀ in
+        Hits.at-static i (comes-open rs o h) (static-move (h .stack) i mv) f
     told-next rs (Advance.fires-name {n = n} {r = r} i e) h = λ o q m f.
         let (q₀, m₀, mv) = before-event m in let v = invariant rs in let h = v .at q₀ m₀ in
         Hits.at-name i (comes-open rs o h) (name-move (h .stack) i (v .known .0 .dynamic n r e) e (ℕ-discrete r x) mv) f
@@ -317,4 +329,5 @@ module _ (local : Bool) (es : List Edge) (ns : List Node) (scope : ℕ → ℕ �
   sound-step its-opening t (o, (x, q, m, f)) = (min x watched, omega arith, told local es ns p x scope edges outline (t .1) refl q m f)
 
   pub sound : {n : ℕ} {last : Last} → LeavesBy local es ns p n last → (x : ℕ) × (x ≤ watched) × Hits local es ns p x n last
-  sound {last = last} l = let (x, small, h) = sound-step (l .made) (l .trace) (l .violates) in (x, small, subst (λ (t : ℕ). Hits local es ns p x t last) (l .steps) h)
+  sound {last = last} l = let (x, small, h) = sound-step (l .made) (l .trace) (l .violates) in
+      (x, small, subst (λ (t : ℕ). Hits local es ns p x t last) (l .steps) h)

@@ -114,4 +114,5 @@ module _ (local : Bool) (es : List Edge) (ns : List Node) (p x : ℕ) where
     goes-written (Goes.breaks-first {k = k} {a = a} i d) names g past =
         let (after, u) = goes-written d names (given-child k a (outline .first i) g) past in (after, Written.breaks-first i u)
     goes-written (Goes.breaks-inside {k = k} {s = s} {b = b} i d) names g past =
-        let (after, u) = goes-written d names (given-child k b (outline .inside i) g) (opening s ∷ past) in (after, Written.breaks-inside i u)
+        let (after, u) = goes-written d names (given-child k b (outline .inside i) g) (opening s ∷ past) in
+        (after, Written.breaks-inside i u)

@@ -1,19 +1,21 @@
--- How the tables are filled: in rounds over all nodes, until a round changes nothing. Then the search for a violation in them.
+-- How the tables are filled: by rules that join a set to an entry, until no rule adds anything; in which order they are applied does not
+-- matter. Then the steps in which the code applies them, and the search for a violation in the tables.
 use Prim.Native.Nat.{ℕ, zero, suc, _+_, _-_, _*_, _/_, _%_, _<_, _≤_}
 use mathlib.Core.Path.{_≡_}
 use mathlib.Core.Bool.{Bool, true, false}
 use mathlib.Core.Option.{Option, none, some}
-use mathlib.Core.List.{List, [], _∷_}
+use mathlib.Core.List.{List, [], _∷_, List·Memᴰ}
+use mathlib.Core.Logic.{_⊎_}
 use lib.Dec.{eqb, ltb}
 use lib.ListN.{getD, replicate}
-use Rattle.usage.specs.Limits.{states}
+use Rattle.usage.specs.Limits.{statics, states}
 use Rattle.usage.specs.declared.Node.{Node}
-use Rattle.usage.specs.Outline.{Form, formOf, Is}
+use Rattle.usage.specs.Outline.{Form, on-static, formOf, Is}
 use Rattle.usage.specs.Tables.{nodeAt}
 use Rattle.usage.specs.Tests.{someBelow}
 use Rattle.checker_account.specs.Witness.{watched}
 use Rattle.automaton.specs.Mask.{offends}
-use Rattle.checker_account.specs.Tables.{joinedAt, meanings, starts, places, least, half, Rows, endsBy, place, Arrival, arrivals}
+use Rattle.checker_account.specs.Tables.{joinedAt, meanings, places, least, half, base, Rows, endsBy, place, Arrival, arrivals}
 use Rattle.checker_account.specs.Tables.{leaves}
 
 -- f 0, then f 1, …, then f (n - 1)
@@ -29,6 +31,10 @@ total (v ∷ t) = v + total t
 unfoldable pub grown : List ℕ → List ℕ → Bool
 grown t t′ = ltb (total t) (total t′)
 
+-- a set for each state joined, f q to the entry q places after i
+unfoldable pub joinedEach : List ℕ → ℕ → (ℕ → ℕ) → List ℕ
+joinedEach t i f = repeat (λ q u. joinedAt u (i + q) (f q)) states t
+
 -- what each node of a flat table says
 abbrev pub Forms : Type 0
 Forms = ℕ → Option Form
@@ -41,6 +47,22 @@ pub record FormsOf (ns : List Node) (n : ℕ) (forms : Forms) : Type 0 where
 abbrev pub formsIn : List ℕ → Forms
 formsIn t k = formOf (nodeAt t k)
 
+-- the entries are numbers of 16 bits
+abbrev pub Wide : List ℕ → Type 0
+Wide t = (i : ℕ) → getD t i 0 < 65536
+
+-- ── A filled table: every entry is derived, and no rule adds anything ──
+
+-- `Rule t i v`: by the table t, a rule gives the set v for place i. What rules make of the table t₀: t₀ itself, and such a table with the
+-- set joined to it that a rule gives by such a table.
+pub data Derived (Rule : List ℕ → ℕ → ℕ → Type 0) (t₀ : List ℕ) : List ℕ → Type 0 where
+  start : Derived Rule t₀ t₀
+  joins : {t by : List ℕ} {i v : ℕ} → Derived Rule t₀ t → Derived Rule t₀ by → Rule by i v → Derived Rule t₀ (joinedAt t i v)
+
+pub record Filled (Rule : List ℕ → ℕ → ℕ → Type 0) (t₀ t : List ℕ) : Type 0 where
+  pub derived : Derived Rule t₀ t
+  pub closed : (i v : ℕ) → Rule t i v → joinedAt t i v ≡ t
+
 -- ── The table of ends ──
 
 -- a node of no known kind has no end
@@ -48,17 +70,23 @@ abbrev pub endsOf : Rows → ℕ → List ℕ → ℕ → ℕ → ℕ → Option
 endsOf rows x t k m q none = 0
 endsOf rows x t k m q (some f) = endsBy rows x t k m q f
 
--- start s of node k
-abbrev pub settleStart : Rows → ℕ → ℕ → Option Form → ℕ → List ℕ → List ℕ
-settleStart rows x k f s t = joinedAt t (starts * k + s) (endsOf rows x t k (s / states) (s % states) f)
+-- its rules: what each of n nodes ends in, from each start with a meaning from l on
+pub data EndsRule (rows : Rows) (x l n : ℕ) (forms : Forms) (t : List ℕ) : ℕ → ℕ → Type 0 where
+  ends-of : (k m q : ℕ) → k < n → l ≤ m → m < meanings → q < states
+      → EndsRule rows x l n forms t (base k m + q) (endsOf rows x t k m q (forms k))
 
--- the starts of node k from `first` on
+-- the eight starts of node k with meaning m, each by the table as it was
+abbrev pub settleMeaning : Rows → ℕ → ℕ → Option Form → ℕ → List ℕ → List ℕ
+settleMeaning rows x k f m t = joinedEach t (base k m) (λ q. endsOf rows x t k m q f)
+
+-- the starts of node k with a meaning from l on
 unfoldable pub settleNode : Rows → ℕ → ℕ → ℕ → Option Form → List ℕ → List ℕ
-settleNode rows x first k f t = repeat (λ i. settleStart rows x k f (first + i)) (starts - first) t
+settleNode rows x l k f t = repeat (λ i. settleMeaning rows x k f (l + i)) (meanings - l) t
 
--- all of n nodes, from the highest to the lowest: a child has a greater number than its parent
+-- all of n nodes, from the highest to the lowest, since a child has a greater number than its parent: one order in which the table can be
+-- filled, by which cases are computed
 unfoldable pub settleRound : Rows → ℕ → ℕ → ℕ → Forms → List ℕ → List ℕ
-settleRound rows x first n forms t = repeat (λ i. settleNode rows x first (n - 1 - i) (forms (n - 1 - i))) n t
+settleRound rows x l n forms t = repeat (λ i. settleNode rows x l (n - 1 - i) (forms (n - 1 - i))) n t
 
 -- ── The table of what is come to ──
 
@@ -70,6 +98,12 @@ entered (g ∷ gs) u = entered gs (joinedAt u (place (g .to) (g .is-open) (g .me
 abbrev pub arrivalsOf : Rows → ℕ → List ℕ → ℕ → Bool → ℕ → ℕ → Option Form → List Arrival
 arrivalsOf rows p t k o m v none = []
 arrivalsOf rows p t k o m v (some f) = arrivals rows p t k o m v f
+
+-- its rules: what each of n nodes, come to with a meaning from l on, leads to
+pub data ComesRule (rows : Rows) (p : ℕ) (t : List ℕ) (l n : ℕ) (forms : Forms) (u : List ℕ) : ℕ → ℕ → Type 0 where
+  leads-to : (k : ℕ) (o : Bool) (m : ℕ) (g : Arrival) → k < n → l ≤ m → m < meanings
+      → List·Memᴰ g (arrivalsOf rows p t k o m (getD u (place k o m) 0) (forms k))
+      → ComesRule rows p t l n forms u (place (g .to) (g .is-open) (g .meaning)) (g .states)
 
 -- what node k, come to with o and m, leads to
 abbrev pub pass : Rows → ℕ → List ℕ → ℕ → Option Form → Bool → ℕ → List ℕ → List ℕ
@@ -90,18 +124,6 @@ passRound rows p t l n forms u = repeat (λ k. passNode rows p t l k (forms k)) 
 abbrev pub begins : ℕ → List ℕ
 begins l = joinedAt (replicate places 0) l 1
 
--- ── Until nothing changes ──
-
--- the entries are numbers of 16 bits
-abbrev pub Wide : List ℕ → Type 0
-Wide t = (i : ℕ) → getD t i 0 < 65536
-
--- t′ is what rounds make of t, and one more round changes nothing
-pub record Filled (round : List ℕ → List ℕ) (t t′ : List ℕ) : Type 0 where
-  pub rounds : ℕ
-  pub made : t′ ≡ repeat (λ i. round) rounds t
-  pub still : round t′ ≡ t′
-
 -- ── The search ──
 
 abbrev pub leavesOf : Rows → ℕ → ℕ → List ℕ → ℕ → ℕ → Option Form → ℕ
@@ -120,11 +142,16 @@ hitAny rows p x u l n forms = someBelow (λ k. hitNode rows p x u l k (forms k))
 pub record Searched (rows : Rows) (p x n : ℕ) (forms : Forms) (answer : Bool) : Type 0 where
   pub ends : List ℕ
   pub comes : List ℕ
-  pub ends-filled : Filled (settleRound rows x (states * least x) n forms) (replicate places 0) ends
-  pub comes-filled : Filled (passRound rows p ends (least x) n forms) (begins (least x)) comes
+  pub ends-filled : Filled (EndsRule rows x (least x) n forms) (replicate places 0) ends
+  pub comes-filled : Filled (ComesRule rows p ends (least x) n forms) (begins (least x)) comes
   pub told : answer ≡ hitAny rows p x comes (least x) n forms
 
--- the answer to whether policy p is broken: the static resources and the one dynamic resource are watched in turn
+-- a static resource that no event is on: watching the dynamic one shows all that watching this one would (proofs/UntouchedLaws)
+pub record Untouched (n : ℕ) (forms : Forms) (x : ℕ) : Type 0 where
+  pub static : x < statics
+  pub no-event : (k a : ℕ) → k < n → forms k ≡ some (on-static a x) → ⊥
+
+-- the answer to whether policy p is broken: the static resources that an event is on and the one dynamic resource are watched in turn
 pub data SearchedAll (rows : Rows) (p n : ℕ) (forms : Forms) : Bool → Type 0 where
   found : {x : ℕ} → x ≤ watched → Searched rows p x n forms true → SearchedAll rows p n forms true
-  none-found : ((x : ℕ) → x ≤ watched → Searched rows p x n forms false) → SearchedAll rows p n forms false
+  none-found : ((x : ℕ) → x ≤ watched → Untouched n forms x ⊎ Searched rows p x n forms false) → SearchedAll rows p n forms false

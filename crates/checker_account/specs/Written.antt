@@ -18,7 +18,8 @@ abbrev pub next : Past → ℕ
 next past = statics + creates past
 
 -- Node k, begun in (o, w, c, q) with these names after `past`, can come to the aim after the last past here, by n steps more.
-pub data Written (local : Bool) (es : List Edge) (ns : List Node) (p x : ℕ) : ℕ → Bool → ℕ → Names → ℕ → Bool → ℕ → Past → Aim → Past → Type 0 where
+pub data Written (local : Bool) (es : List Edge) (ns : List Node) (p x : ℕ) : ℕ → Bool → ℕ → Names → ℕ → Bool → ℕ → Past → Aim → Past
+    → Type 0 where
   ends : {k w q : ℕ} {names : Names} {o c : Bool} {past : Past} → Is ns k end
       → Written local es ns p x 0 o k names w c q past (ended c q) past
   fires-static : {k w q a s q′ : ℕ} {names : Names} {o c : Bool} {past : Past} → Is ns k (on-static a s)

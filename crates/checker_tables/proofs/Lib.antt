@@ -4,3 +4,9 @@ pub mod FitLaws
 pub mod MeaningLaws
 -- Where there is room for it, the table of rows is the one that the search reads.
 pub mod WholeLaws
+-- Eight sets at once.
+pub mod ByStateLaws
+-- The nodes that are left, and those that read a node.
+pub mod WorkLaws
+-- Resources that need not be watched.
+pub mod TouchedLaws

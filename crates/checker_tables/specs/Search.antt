@@ -1,23 +1,31 @@
 -- What the functions compute beside the tables of checker_account: meanings that are lost, what the tables have room for, and the
 -- answers for inputs for which they have none.
-use Prim.Native.Nat.{ℕ, _/_, _<_, _≤_}
+use Prim.Native.Nat.{ℕ, _+_, _*_, _/_, _<_, _≤_}
 use mathlib.Core.Path.{_≡_}
-use mathlib.Core.Bool.{Bool, true, false, not, _&&_, cond}
+use mathlib.Core.Bool.{Bool, true, false, not, _&&_, _||_, cond}
 use mathlib.Core.List.{List}
 use lib.Dec.{eqb, ltb, leb}
-use lib.ListN.{length, replicate}
+use lib.ListN.{length, getD, replicate}
 use Rattle.usage.specs.declared.Node.{Node}
 use Rattle.usage.specs.Limits.{policies, mostNodes, nodeFields}
 use Rattle.usage.specs.Tables.{nodeAt}
 use Rattle.usage.specs.Tests.{someBelow}
-use Rattle.checker_account.specs.Witness.{noName}
+use Rattle.checker_account.specs.Witness.{watched, noName}
 use Rattle.checker_account.specs.Tables.{unnamed, places, rowsIn}
-use Rattle.checker_account.specs.Rounds.{formsIn, settleRound, passRound, hitAny, Searched}
+use Rattle.checker_account.specs.Rounds.{formsIn, EndsRule, ComesRule, passRound, hitAny, Searched}
 use Rattle.checker_account.specs.RowTable.{EventTables, fillRows}
 
 -- meaning m once meaning n no longer occurs
 unfoldable pub lost : ℕ → ℕ → ℕ
 lost m n = cond (eqb m n) unnamed m
+
+-- ── Resources that need not be watched: a static one that no event is on ──
+
+-- x is the dynamic resource, or some node of the flat table is an event on it (kind 1)
+unfoldable pub touched : List ℕ → ℕ → Bool
+touched t x =
+    leb watched x
+    || someBelow (λ k. eqb (getD t (nodeFields * k) 0) 1 && eqb (getD t (nodeFields * k + 2) 0) x) (length t / nodeFields)
 
 -- ── What the tables have room for ──
 
@@ -40,10 +48,14 @@ hasRoom t = leb (length t / nodeFields) mostNodes && not (someBelow (λ k. not (
 
 -- ── Over the flat tables that the code has: `rows` of a policy's moves, and `nodes` ──
 
--- a round of filling the table of ends, and one of filling the table of what is come to
-abbrev pub endsRound : List ℕ → List ℕ → ℕ → ℕ → List ℕ → List ℕ
-endsRound nodes rows x first = settleRound (rowsIn rows) x first (length nodes / nodeFields) (formsIn nodes)
+-- the rules of the table of ends, and of the table of what is come to
+abbrev pub EndsBy : List ℕ → List ℕ → ℕ → ℕ → List ℕ → ℕ → ℕ → Type 0
+EndsBy nodes rows x l = EndsRule (rowsIn rows) x l (length nodes / nodeFields) (formsIn nodes)
 
+abbrev pub ComesBy : List ℕ → List ℕ → List ℕ → ℕ → ℕ → List ℕ → ℕ → ℕ → Type 0
+ComesBy nodes rows t p l = ComesRule (rowsIn rows) p t l (length nodes / nodeFields) (formsIn nodes)
+
+-- a round of filling the table of what is come to
 abbrev pub comesRound : List ℕ → List ℕ → List ℕ → ℕ → ℕ → List ℕ → List ℕ
 comesRound nodes rows t p l = passRound (rowsIn rows) p t l (length nodes / nodeFields) (formsIn nodes)
 

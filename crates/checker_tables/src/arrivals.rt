@@ -9,8 +9,8 @@ ghost use Rattle.usage.specs.Limits.{mostNodes};
 ghost use Rattle.usage.specs.Outline.{formOf};
 ghost use Rattle.checker_account.specs.Witness.{noName};
 ghost use Rattle.checker_account.specs.Tables.{meanings, places, begun, rowsIn, joinedAt, place, _by_by_with_, halves, freshArrivals};
-ghost use Rattle.checker_account.specs.Rounds.{grown, entered, arrivalsOf, passNode, begins, Wide, Filled};
-ghost use Rattle.checker_tables.specs.Search.{Small, NodesFit, comesRound};
+ghost use Rattle.checker_account.specs.Rounds.{grown, entered, arrivalsOf, pass, passNode, begins, Wide, Filled};
+ghost use Rattle.checker_tables.specs.Search.{Small, NodesFit, comesRound, ComesBy};
 use checker_account::MEANINGS;
 use checker_account::STARTS;
 use checker_account::Table;
@@ -169,6 +169,33 @@ fn pass_by(
     }
 }
 
+// What node k, with o and m, leads to. A node that is not come to leads to nothing: most of the table is empty and passed over by one
+// test. Is anything of it new?
+fn pass(
+    u: &mut Table,
+    t: &Table,
+    rows: &Table,
+    p: usize,
+    k: usize,
+    f: Node,
+    o: bool,
+    m: usize,
+) -> bool
+    requires { ⌜ length (now u) ≡ places ⌝ }
+    requires { ⌜ Small f ⌝ }
+    requires { ⌜ k < mostNodes ⌝ }
+    requires { ⌜ m < meanings ⌝ }
+    ensures { λ r. ⌜ now (u .exit) ≡ pass (rowsIn (now (rows .entry))) p (now (t .entry)) k (formOf f) o m (now (u .entry)) ⌝ }
+    ensures { λ r. ⌜ r ≡ grown (now (u .entry)) (now (u .exit)) ⌝ }
+    ensures { λ r. ⌜ (Wide (now (u .entry)) → Wide (now (u .exit))) ⌝ }
+{
+    let v = come_to(u, k, o, m);
+    if v == 0 {
+        return false;
+    }
+    pass_by(u, t, rows, p, k, f, o, m, v)
+}
+
 // Node k with every meaning from l on, the policy being open or not. Is anything new?
 fn pass_node(u: &mut Table, t: &Table, rows: &Table, p: usize, l: usize, k: usize, f: Node) -> bool
     requires { ⌜ length (now u) ≡ places ⌝ }
@@ -185,8 +212,7 @@ fn pass_node(u: &mut Table, t: &Table, rows: &Table, p: usize, l: usize, k: usiz
     while i < n {
         let m = l + i / 2;
         let o = i % 2 == 1;
-        let v = come_to(u, k, o, m);
-        if pass_by(u, t, rows, p, k, f, o, m, v) {
+        if pass(u, t, rows, p, k, f, o, m) {
             changed = true;
         }
         i += 1;
@@ -221,7 +247,7 @@ pub(crate) fn fill(nodes: &[u8], rows: &Table, t: &Table, p: usize, l: usize, u:
     requires { ⌜ NodesFit (now nodes) ⌝ }
     requires { ⌜ l < meanings ⌝ }
     requires { ⌜ now u ≡ replicate places 0 ⌝ }
-    ensures { λ r. ⌜ Filled (comesRound (now (nodes .entry)) (now (rows .entry)) (now (t .entry)) p l) (begins l) (now (u .exit)) ⌝ }
+    ensures { λ r. ⌜ Filled (ComesBy (now (nodes .entry)) (now (rows .entry)) (now (t .entry)) p l) (begins l) (now (u .exit)) ⌝ }
 {
     crate::join(u, l, 1);
     loop {

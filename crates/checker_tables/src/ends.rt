@@ -1,40 +1,31 @@
-// The table of ends: what each node can end in, for each start. It is filled in rounds over all nodes, from the highest to the lowest,
-// until one changes nothing.
+// The table of ends: what each node can end in, for each start. The eight starts of a node with the same meaning are settled together
+// (`sets`), and a node is settled again only where the ends that its rule reads have changed (`work`).
 ghost use mathlib.Core.Path.{_≡_};
-ghost use mathlib.Core.Bool.{Bool};
-ghost use Prim.Native.Nat.{ℕ, _+_, _*_, _<_, _≤_};
+ghost use mathlib.Core.Bool.{Bool, cond};
+ghost use Prim.Native.Nat.{ℕ, _+_, _*_, _<_, _≤_, _/_};
 ghost use lib.ListN.{length, getD, replicate};
+ghost use lib.Bits.{bitOr};
 ghost use Rattle.usage.specs.Limits.{states, mostNodes};
 ghost use Rattle.usage.specs.Outline.{formOf};
+ghost use Rattle.automaton.specs.Mask.{has};
 ghost use Rattle.checker_account.specs.Witness.{noName};
-ghost use Rattle.checker_account.specs.Tables.{meanings, starts, places, base, kept, begun, rowsIn, secondEnds, freshEnds};
-ghost use Rattle.checker_account.specs.Rounds.{grown, endsOf, settleNode, Filled};
-ghost use Rattle.checker_tables.specs.Search.{Small, NodesFit, endsRound};
+ghost use Rattle.checker_account.specs.Tables.{meanings, places, over, base, kept, begun, rowsIn, secondEnds, freshEnds};
+ghost use Rattle.checker_account.specs.Rounds.{grown, endsOf, joinedEach, settleNode, Filled};
+ghost use Rattle.checker_tables.specs.Search.{Small, NodesFit, EndsBy};
+ghost use Rattle.checker_tables.specs.ByState.{ByState};
+use crate::sets::PerState;
+use checker_account::MEANINGS;
 use checker_account::STARTS;
 use checker_account::Table;
+use checker_account::UNNAMED;
+use usage::MOST_NODES;
 use usage::NODE_FIELDS;
 use usage::Node;
 use usage::STATES;
 
-// The states v as ends, with the resource as it was.
-fn keep(m: usize, v: u16) -> u16
-    ensures { λ r. ⌜ r ≡ kept m v ⌝ }
-{
-    let w = v % 256;
-    if m == 0 { w } else { w * 256 }
-}
+// ── The rules ──
 
-// What the table holds of node k and one start.
-fn entry(t: &Table, k: usize, m: usize, q: usize) -> u16
-    requires { ⌜ k < mostNodes ⌝ }
-    requires { ⌜ m < meanings ⌝ }
-    requires { ⌜ q < states ⌝ }
-    ensures { λ r. ⌜ r ≡ getD (now (t .entry)) (base k m + q) 0 ⌝ }
-{
-    t[STARTS * k + STATES * m + q]
-}
-
-// The same of all starts with a state in v.
+// What the table holds of all starts of node k with a state in v.
 pub(crate) fn begun(t: &Table, k: usize, m: usize, v: u16) -> u16
     requires { ⌜ k < mostNodes ⌝ }
     requires { ⌜ m < meanings ⌝ }
@@ -43,76 +34,124 @@ pub(crate) fn begun(t: &Table, k: usize, m: usize, v: u16) -> u16
     crate::union_over(t, STARTS * k + STATES * m, v)
 }
 
-// By node b after a node whose ends are v.
-fn second_ends(t: &Table, b: usize, m: usize, v: u16) -> u16
+// By node b after node a. With a resource that was made, both halves of what a ends in begin b with the same meaning.
+fn second_ends(t: &Table, a: usize, b: usize, m: usize) -> PerState
+    requires { ⌜ a < mostNodes ⌝ }
     requires { ⌜ b < mostNodes ⌝ }
     requires { ⌜ m < meanings ⌝ }
-    ensures { λ r. ⌜ r ≡ secondEnds (now (t .entry)) b m v ⌝ }
+    ensures { λ r. ⌜ ByState states (λ q. secondEnds (now (t .entry)) b m (getD (now (t .entry)) (base a m + q) 0)) r ⌝ }
 {
-    let n = crate::lose(m, 0);
-    let low = begun(t, b, m, v % 256);
-    let high = begun(t, b, n, v / 256);
-    low | high
+    let v = crate::sets::entries(t, STARTS * a + STATES * m);
+    let high = crate::sets::upper_each(v);
+    if m == 0 {
+        let same = crate::sets::union_each(t, STARTS * b + STATES * m, v);
+        let made = crate::sets::union_each(t, STARTS * b + STATES * UNNAMED, high);
+        return crate::sets::join_each(same, made);
+    }
+    let both = crate::sets::join_each(v, high);
+    crate::sets::union_each(t, STARTS * b + STATES * m, both)
 }
 
 // By creating a resource, another one or the watched one, and then node b.
-fn fresh_ends(t: &Table, rows: &Table, k: usize, n: usize, b: usize, m: usize, q: usize) -> u16
+fn fresh_ends(t: &Table, rows: &Table, k: usize, n: usize, b: usize, m: usize) -> PerState
     requires { ⌜ k < mostNodes ⌝ }
     requires { ⌜ n < noName ⌝ }
     requires { ⌜ b < mostNodes ⌝ }
     requires { ⌜ m < meanings ⌝ }
-    requires { ⌜ q < states ⌝ }
-    ensures { λ r. ⌜ r ≡ freshEnds (rowsIn (now (rows .entry))) (now (t .entry)) k n b m q ⌝ }
+    ensures { λ r. ⌜ ByState states (freshEnds (rowsIn (now (rows .entry))) (now (t .entry)) k n b m) r ⌝ }
 {
     let f = crate::lose(m, n + 1);
-    let other = begun(t, b, f, crate::rows::moved_states(rows, k, false, q));
+    let v = crate::rows::moved_each(rows, k, false);
+    let other = crate::sets::union_each(t, STARTS * b + STATES * f, v);
     if m != 0 {
         return other;
     }
-    other | begun(t, b, n + 1, crate::rows::moved_states(rows, k, true, q))
+    let w = crate::rows::moved_each(rows, k, true);
+    let own = crate::sets::union_each(t, STARTS * b + STATES * (n + 1), w);
+    crate::sets::join_each(other, own)
 }
 
-// By one rule: what node k ends in from one start.
-fn ends_by(t: &Table, rows: &Table, x: usize, k: usize, f: Node, m: usize, q: usize) -> u16
+// By one of two nodes.
+fn either_ends(t: &Table, a: usize, b: usize, m: usize) -> PerState
+    requires { ⌜ a < mostNodes ⌝ }
+    requires { ⌜ b < mostNodes ⌝ }
+    requires { ⌜ m < meanings ⌝ }
+    ensures { λ r. ⌜ ByState states (λ q. bitOr (getD (now (t .entry)) (base a m + q) 0) (getD (now (t .entry)) (base b m + q) 0)) r ⌝ }
+{
+    let v = crate::sets::entries(t, STARTS * a + STATES * m);
+    let w = crate::sets::entries(t, STARTS * b + STATES * m);
+    crate::sets::join_each(v, w)
+}
+
+// By an event, on the watched resource or another.
+fn event_ends(rows: &Table, k: usize, own: bool, m: usize) -> PerState
+    requires { ⌜ k < mostNodes ⌝ }
+    ensures { λ r. ⌜ ByState states (λ q. kept m (rowsIn (now (rows .entry)) k own q)) r ⌝ }
+{
+    let v = crate::rows::moved_each(rows, k, own);
+    crate::sets::keep_each(m, v)
+}
+
+// By one rule: what node k ends in from the starts with meaning m.
+fn ends_by(t: &Table, rows: &Table, x: usize, k: usize, f: Node, m: usize) -> PerState
     requires { ⌜ Small f ⌝ }
     requires { ⌜ k < mostNodes ⌝ }
     requires { ⌜ m < meanings ⌝ }
-    requires { ⌜ q < states ⌝ }
-    ensures { λ r. ⌜ r ≡ endsOf (rowsIn (now (rows .entry))) x (now (t .entry)) k m q (formOf f) ⌝ }
+    ensures { λ r. ⌜ ByState states (λ q. endsOf (rowsIn (now (rows .entry))) x (now (t .entry)) k m q (formOf f)) r ⌝ }
 {
     let a = f.a as usize;
     let b = f.b as usize;
     let kind = f.kind;
     match kind {
-        0 => keep(m, 1u16 << (q as u32)),
-        1 => keep(m, crate::rows::moved_states(rows, k, b == x, q)),
-        2 => keep(m, crate::rows::moved_states(rows, k, m == b + 1, q)),
-        3 => second_ends(t, b, m, entry(t, a, m, q)),
-        4 => entry(t, a, m, q) | entry(t, b, m, q),
-        5 => entry(t, a, m, q),
-        6 => entry(t, a, m, q),
-        7 => fresh_ends(t, rows, k, a, b, m, q),
-        8 => entry(t, b, m, q),
-        _ => 0,
+        0 => crate::sets::keep_each(m, [1u16, 2, 4, 8, 16, 32, 64, 128]),
+        1 => event_ends(rows, k, b == x, m),
+        2 => event_ends(rows, k, m == b + 1, m),
+        3 => second_ends(t, a, b, m),
+        4 => either_ends(t, a, b, m),
+        5 => crate::sets::entries(t, STARTS * a + STATES * m),
+        6 => crate::sets::entries(t, STARTS * a + STATES * m),
+        7 => fresh_ends(t, rows, k, a, b, m),
+        8 => crate::sets::entries(t, STARTS * b + STATES * m),
+        _ => [0u16; STATES],
     }
 }
 
-// Every start of node k from `first` on. Did that change the table?
-fn settle_node(t: &mut Table, rows: &Table, x: usize, first: usize, k: usize, f: Node) -> bool
+// ── Filling ──
+
+// Eight sets joined to those from place i on. Did that change the table?
+fn join_sets(t: &mut Table, i: usize, v: PerState) -> bool
+    requires { ⌜ length (now t) ≡ places ⌝ }
+    requires { ⌜ i + states ≤ places ⌝ }
+    ensures { λ r. ⌜ now (t .exit) ≡ joinedEach (now (t .entry)) i (λ q. getD v q 0) ⌝ }
+    ensures { λ r. ⌜ r ≡ grown (now (t .entry)) (now (t .exit)) ⌝ }
+{
+    let mut changed = false;
+    let mut q: usize = 0;
+    while q < STATES {
+        if crate::join(t, i + q, v[q]) {
+            changed = true;
+        }
+        q += 1;
+    }
+    changed
+}
+
+// Every start of node k with a meaning from l on. Did that change the table?
+fn settle_node(t: &mut Table, rows: &Table, x: usize, l: usize, k: usize, f: Node) -> bool
     requires { ⌜ length (now t) ≡ places ⌝ }
     requires { ⌜ Small f ⌝ }
-    requires { ⌜ first < starts ⌝ }
+    requires { ⌜ l < meanings ⌝ }
     requires { ⌜ k < mostNodes ⌝ }
-    ensures { λ r. ⌜ now (t .exit) ≡ settleNode (rowsIn (now (rows .entry))) x first k (formOf f) (now (t .entry)) ⌝ }
+    ensures { λ r. ⌜ now (t .exit) ≡ settleNode (rowsIn (now (rows .entry))) x l k (formOf f) (now (t .entry)) ⌝ }
     ensures { λ r. ⌜ r ≡ grown (now (t .entry)) (now (t .exit)) ⌝ }
 {
-    let n = STARTS - first;
+    let n = MEANINGS - l;
     let mut changed = false;
     let mut i: usize = 0;
     while i < n {
-        let s = first + i;
-        let v = ends_by(t, rows, x, k, f, s / STATES, s % STATES);
-        if crate::join(t, STARTS * k + s, v) {
+        let m = l + i;
+        let v = ends_by(t, rows, x, k, f, m);
+        if join_sets(t, STARTS * k + STATES * m, v) {
             changed = true;
         }
         i += 1;
@@ -120,38 +159,25 @@ fn settle_node(t: &mut Table, rows: &Table, x: usize, first: usize, k: usize, f:
     changed
 }
 
-// Every node, from the highest to the lowest. Did that change the table?
-fn settle_round(t: &mut Table, nodes: &[u8], rows: &Table, x: usize, first: usize) -> bool
-    requires { ⌜ length (now t) ≡ places ⌝ }
-    requires { ⌜ NodesFit (now nodes) ⌝ }
-    requires { ⌜ first < starts ⌝ }
-    ensures { λ r. ⌜ now (t .exit) ≡ endsRound (now (nodes .entry)) (now (rows .entry)) x first (now (t .entry)) ⌝ }
-    ensures { λ r. ⌜ r ≡ grown (now (t .entry)) (now (t .exit)) ⌝ }
-{
-    let n = nodes.len() / NODE_FIELDS;
-    let mut changed = false;
-    let mut i: usize = 0;
-    while i < n {
-        let k = n - 1 - i;
-        let f = crate::node(nodes, k);
-        if settle_node(t, rows, x, first, k, f) {
-            changed = true;
-        }
-        i += 1;
-    }
-    changed
-}
-
-// The table, for the moves of a policy, the watched resource x and the meanings from l on; t is empty at first.
+// The table, for the moves of a policy, the watched resource x and the meanings from l on; t is empty at first. The highest node that is
+// left is settled first, since a child has a greater number than its parent and ends come from the children; where that changes
+// something, the nodes that read it are left again.
 pub(crate) fn fill(nodes: &[u8], rows: &Table, x: usize, l: usize, t: &mut Table)
     requires { ⌜ NodesFit (now nodes) ⌝ }
     requires { ⌜ l < meanings ⌝ }
     requires { ⌜ now t ≡ replicate places 0 ⌝ }
-    ensures { λ r. ⌜ Filled (endsRound (now (nodes .entry)) (now (rows .entry)) x (states * l)) (replicate places 0) (now (t .exit)) ⌝ }
+    ensures { λ r. ⌜ Filled (EndsBy (now (nodes .entry)) (now (rows .entry)) x l) (replicate places 0) (now (t .exit)) ⌝ }
 {
-    loop {
-        if !settle_round(t, nodes, rows, x, STATES * l) {
-            return;
+    let n = nodes.len() / NODE_FIELDS;
+    let mut readers = [0u64; MOST_NODES];
+    crate::work::readers(nodes, &mut readers);
+    let mut left = crate::work::all(n);
+    while left != 0 {
+        let k = crate::work::highest(left);
+        left -= 1u64 << (k as u32);
+        let f = crate::node(nodes, k);
+        if settle_node(t, rows, x, l, k, f) {
+            left |= readers[k];
         }
     }
 }

@@ -9,7 +9,7 @@ ghost use Rattle.usage.specs.Limits.{states, nodeFields};
 ghost use Rattle.usage.specs.Tables.{nodeAt};
 ghost use Rattle.checker_account.specs.Tables.{over, joinedAt, places, least};
 ghost use Rattle.checker_account.specs.Rounds.{grown, Wide};
-ghost use Rattle.checker_tables.specs.Search.{lost, smallNode, hasRoom, SearchedIf};
+ghost use Rattle.checker_tables.specs.Search.{lost, touched, smallNode, hasRoom, SearchedIf};
 use checker_account::NAMES;
 use checker_account::PLACES;
 use checker_account::Table;
@@ -24,6 +24,11 @@ mod arrivals;
 mod ends;
 mod hits;
 pub mod rows;
+mod sets;
+mod work;
+
+// The kind of a node that is an event on a static resource.
+const ON_STATIC: u8 = 1;
 
 // The union of the eight sets from place i on, over the states in v.
 fn union_over(t: &Table, i: usize, v: u16) -> u16
@@ -67,6 +72,27 @@ pub fn least(x: usize) -> usize
     ensures { λ r. ⌜ r ≡ least x ⌝ }
 {
     if x < WATCHED { UNNAMED } else { 0 }
+}
+
+// Is an event on the resource x? One may be on the dynamic resource. A static resource that none is on need not be watched: its instance
+// moves as that of a dynamic resource that never occurs.
+pub fn touched(nodes: &[u8], x: usize) -> bool
+    ensures { λ r. ⌜ r ≡ touched (now (nodes .entry)) x ⌝ }
+{
+    if WATCHED <= x {
+        return true;
+    }
+    let n = nodes.len() / NODE_FIELDS;
+    let mut k: usize = 0;
+    while k < n {
+        if nodes[NODE_FIELDS * k] == ON_STATIC {
+            if nodes[NODE_FIELDS * k + 2] as usize == x {
+                return true;
+            }
+        }
+        k += 1;
+    }
+    false
 }
 
 // Node k of a flat table.

@@ -10,6 +10,8 @@ ghost use Rattle.automaton.specs.Move.{rowsOf};
 ghost use Rattle.checker_account.specs.Tables.{over, places, ownCreated, rowsIn};
 ghost use Rattle.checker_account.specs.RowTable.{Bytes, rowsStored, eventRows, nodeRows};
 ghost use Rattle.checker_tables.specs.Search.{rowTable};
+ghost use Rattle.checker_tables.specs.ByState.{ByState};
+use crate::sets::PerState;
 use checker_account::OTHERS;
 use checker_account::PLACES;
 use checker_account::STARTS;
@@ -25,16 +27,15 @@ const EVENT_TABLE: usize = POLICIES * STATES;
 
 // ── Reading it ──
 
-// The states that q moves to by the event of node k, which is on the watched resource or not.
-pub(crate) fn moved_states(rows: &Table, k: usize, own: bool, q: usize) -> u16
+// The states that each state moves to by the event of node k, which is on the watched resource or not.
+pub(crate) fn moved_each(rows: &Table, k: usize, own: bool) -> PerState
     requires { ⌜ k < mostNodes ⌝ }
-    requires { ⌜ q < states ⌝ }
-    ensures { λ r. ⌜ r ≡ rowsIn (now (rows .entry)) k own q ⌝ }
+    ensures { λ r. ⌜ ByState states (rowsIn (now (rows .entry)) k own) r ⌝ }
 {
     if own {
-        rows[STARTS * k + STATES + q]
+        crate::sets::entries(rows, STARTS * k + STATES)
     } else {
-        rows[STARTS * k + q]
+        crate::sets::entries(rows, STARTS * k)
     }
 }
 

@@ -4,12 +4,11 @@ use mathlib.Core.Bool.{Bool, true, false}
 use Prim.Native.Nat.{ℕ, _*_, _<_}
 use lib.ListN.{replicate}
 use denote.Ref.{now}
-use Rattle.usage.specs.Limits.{states}
 use Rattle.usage.proofs.Logic.{not-true, not-false}
 use Rattle.checker_account.specs.Tables.{meanings, places}
 use Rattle.checker_account.specs.Rounds.{begins, Filled}
 use Rattle.checker_account.proofs.Starts.{least-le}
-use Rattle.checker_tables.specs.Search.{hasRoom, endsRound, comesRound, hitIn, SearchedIf}
+use Rattle.checker_tables.specs.Search.{hasRoom, EndsBy, ComesBy, hitIn, SearchedIf}
 use Rattle.checker_tables.proofs.FitLaws.{fits-rule}
 use borrow.Author.Needs.{needs}
 use Rattle.checker_tables.proofs.breaks.Statement.{statement}
@@ -40,7 +39,8 @@ fill-requires c κs =
     let l = c .before .least in
     let ok =
     fits-rule (now (a .nodes))
-    (sym (c .before .before .before .fits2 .ensures) ∙ not-false (c .before .before .before .fits2 .result) (c .before .before .if1 .left)) in
+    (sym (c .before .before .before .fits2 .ensures)
+    ∙ not-false (c .before .before .before .fits2 .result) (c .before .before .if1 .left)) in
     let low : l .result < meanings = omega (arith, l .ensures, least-le (a .x)) in
     (ok, (low, refl))
 
@@ -51,7 +51,8 @@ fill-requires-2 c κs =
     let ok =
     fits-rule (now (a .nodes))
     (sym (c .before .before .before .before .before .before .fits2 .ensures)
-    ∙ not-false (c .before .before .before .before .before .before .fits2 .result) (c .before .before .before .before .before .if1 .left)) in
+    ∙ not-false (c .before .before .before .before .before .before .fits2 .result)
+    (c .before .before .before .before .before .if1 .left)) in
     let low : l .result < meanings = omega (arith, l .ensures, least-le (a .x)) in
     (ok, (low, refl))
 
@@ -83,8 +84,9 @@ returns-2 c =
     subst (λ (b : Bool). SearchedIf b (now (a .nodes)) (now (a .rows)) (a .p) (a .x) (c .any .result)) (sym ok) (record {
       ends = t;
       comes = u;
-      ends-filled = subst (λ (m : ℕ). Filled (endsRound nodes rows (a .x) (states * m)) (replicate places 0) t) e (c .before .before .before .before .before .fill .ensures);
-      comes-filled = subst (λ (m : ℕ). Filled (comesRound nodes rows t (a .p) m) (begins m) u) e (c .before .before .fill2 .ensures);
+      ends-filled = subst (λ (m : ℕ). Filled (EndsBy nodes rows (a .x) m) (replicate places 0) t) e
+          (c .before .before .before .before .before .fill .ensures);
+      comes-filled = subst (λ (m : ℕ). Filled (ComesBy nodes rows t (a .p) m) (begins m) u) e (c .before .before .fill2 .ensures);
       told = c .any .ensures ∙ ap (λ (m : ℕ). hitIn nodes rows u (a .p) (a .x) m) e;
     })
 

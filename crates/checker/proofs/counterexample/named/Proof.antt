@@ -30,19 +30,28 @@ same-length : tie.Need-same-length
 same-length c = search needs
 
 returns : tie.Need-returns
-returns c = NamedBy.told-shown (let a = c .before .before .before .before .before .before .before .before .before .before .args in subst (λ (y : Length). Told (a .edges .now) (a .nodes .now) false (a .p) (a .trace .now) y (c .before .before .before .before .before .counterexample .last .1 .1 .1 .1 .0)) (c .before .l .given .1) (c .before .before .before .before .before .counterexample .ensures))
+returns c = NamedBy.told-shown (let a = c .before .before .before .before .before .before .before .before .before .before .args in
+    subst (λ (y : Length). Told (a .edges .now) (a .nodes .now) false (a .p) (a .trace .now) y
+    (c .before .before .before .before .before .counterexample .last .1 .1 .1 .1 .0)) (c .before .l .given .1)
+    (c .before .before .before .before .before .counterexample .ensures))
 
 same-length-2 : tie.Need-same-length-2
 same-length-2 c = search needs
 
 returns-2 : tie.Need-returns-2
-returns-2 c = NamedBy.told-longer (let a = c .before .before .before .before .before .before .before .before .before .args in subst (λ (y : Length). Told (a .edges .now) (a .nodes .now) false (a .p) (a .trace .now) y (c .before .before .before .before .counterexample .last .1 .1 .1 .1 .0)) (c .enum-told .given .1) (c .before .before .before .before .counterexample .ensures))
+returns-2 c = NamedBy.told-longer (let a = c .before .before .before .before .before .before .before .before .before .args in
+    subst (λ (y : Length). Told (a .edges .now) (a .nodes .now) false (a .p) (a .trace .now) y
+    (c .before .before .before .before .counterexample .last .1 .1 .1 .1 .0)) (c .enum-told .given .1)
+    (c .before .before .before .before .counterexample .ensures))
 
 same-length-3 : tie.Need-same-length-3
 same-length-3 c = search needs
 
 returns-3 : tie.Need-returns-3
-returns-3 c = NamedBy.told-refused (let a = c .before .before .before .before .before .before .before .before .before .before .args in subst (λ (y : Length). Told (a .edges .now) (a .nodes .now) false (a .p) (a .trace .now) y (c .before .before .before .before .before .counterexample .last .1 .1 .1 .1 .0)) (c .before .l2 .given .1) (c .before .before .before .before .before .counterexample .ensures))
+returns-3 c = NamedBy.told-refused (let a = c .before .before .before .before .before .before .before .before .before .before .args in
+    subst (λ (y : Length). Told (a .edges .now) (a .nodes .now) false (a .p) (a .trace .now) y
+    (c .before .before .before .before .before .counterexample .last .1 .1 .1 .1 .0)) (c .before .l2 .given .1)
+    (c .before .before .before .before .before .counterexample .ensures))
 
 pub named-spec : {M : Type 1} → statement M
 named-spec =

@@ -6,11 +6,10 @@ use lib.ListN.{length, replicate}
 use Rattle.usage.specs.Limits.{nodeFields}
 use Rattle.usage.proofs.Logic.{not-true, not-false}
 use Rattle.checker_account.specs.Tables.{places, joinedAt, rowsIn}
-use Rattle.checker_account.specs.Rounds.{total, formsIn, begins}
-use Rattle.checker_tables.specs.Search.{comesRound}
-use Rattle.checker_account.proofs.RoundLaws.{Grows, Filling, most, joined-grows, filling-start, filling-more, filling-length, filling-ends}
-use Rattle.checker_account.proofs.RoundLaws.{filling-less}
-use Rattle.checker_account.proofs.PassLaws.{pass-round-grows}
+use Rattle.checker_account.specs.Rounds.{total, formsIn, begins, Derived, start, Filled}
+use Rattle.checker_tables.specs.Search.{comesRound, ComesBy}
+use Rattle.checker_account.proofs.RoundLaws.{Grows, Filling, most, joined-grows, grown-false, filling-length, nearer}
+use Rattle.checker_account.proofs.PassLaws.{pass-round-grows, pass-round-derived, pass-round-closed}
 use Rattle.checker_account.proofs.SearchLaws.{begins-wide}
 use borrow.Author.Needs.{needs}
 use Rattle.checker_tables.proofs.arrivals.fill.Statement.{statement}
@@ -27,7 +26,7 @@ begins-length : (l : ℕ) → length (begins l) ≡ places
 begins-length l = joined-grows (replicate places 0) l 1 .len
 
 abbrev Inv-loop : tie.InvT-loop
-Inv-loop nodes rows t p l u₀ u = Filling (comesRound nodes rows t p l) (begins l) u
+Inv-loop nodes rows t p l u₀ u = Filling (ComesBy nodes rows t p l) (begins l) u
 
 abbrev μ-loop : tie.MeasureT-loop
 μ-loop nodes rows t p l u₀ u = most - total u
@@ -40,49 +39,59 @@ join-requires c κs =
 loop-holds : tie.Need-loop-holds Inv-loop μ-loop
 loop-holds c =
     let a = c .before .before .before .args in
-    let r = comesRound (a .nodes .now) (a .rows .now) (a .t .now) (a .p) (a .l) in
-    let g = grows (a .t .now) (a .nodes .now) (a .rows .now) (a .p) (a .l) in
+    let r = ComesBy (a .nodes .now) (a .rows .now) (a .t .now) (a .p) (a .l) in
     let m : c .join .last .0 ≡ begins (a .l) =
     c .join .ensures .0 ∙ ap (λ (u : List ℕ). joinedAt u (a .l) 1) (c .before .before .before .pre .1 .1) in
-    subst (Filling r (begins (a .l))) (sym m) (filling-start r g (begins (a .l)) (begins-wide (a .l)))
+    subst (Filling r (begins (a .l))) (sym m) (record { derived = start; wide = begins-wide (a .l) })
 
 pass-round-requires : tie.Need-pass-round-requires Inv-loop μ-loop
 pass-round-requires c κs =
     let a = c .before .before .before .before .before .args in
     let p = c .before .before .before .before .before .pre in
-    let r = comesRound (a .nodes .now) (a .rows .now) (a .t .now) (a .p) (a .l) in
-    let g = grows (a .t .now) (a .nodes .now) (a .rows .now) (a .p) (a .l) in
+    let r = ComesBy (a .nodes .now) (a .rows .now) (a .t .now) (a .p) (a .l) in
     let l = c .before .loop in
-    (filling-length r g (begins (a .l)) (l .u) (l .inv) ∙ begins-length (a .l), (p .0, p .1 .0))
+    (filling-length r (begins (a .l)) (l .u) (begins-length (a .l)) (l .inv), (p .0, p .1 .0))
 
 returns : tie.Need-returns Inv-loop μ-loop
 returns c =
     let a = c .before .before .before .before .before .before .before .args in
-    let r = comesRound (a .nodes .now) (a .rows .now) (a .t .now) (a .p) (a .l) in
     let g = grows (a .t .now) (a .nodes .now) (a .rows .now) (a .p) (a .l) in
     let l = c .before .before .before .loop in
     let s = c .before .pass-round in
-    filling-ends r g (begins (a .l)) (l .u) (s .last .0) (l .inv) (s .ensures .0)
-    (sym (s .ensures .1 .0) ∙ not-true (s .result) (c .if1 .taken))
+    let same : s .last .0 ≡ l .u =
+    grown-false (subst (Grows (l .u)) (sym (s .ensures .0)) (g (l .u))) (sym (s .ensures .1 .0) ∙ not-true (s .result) (c .if1 .taken)) in
+    subst (Filled (ComesBy (a .nodes .now) (a .rows .now) (a .t .now) (a .p) (a .l)) (begins (a .l))) (sym same) (record {
+      derived = l .inv .derived;
+      closed =
+          pass-round-closed (rowsIn (a .rows .now)) (a .p) (a .t .now) (a .l) (length (a .nodes .now) / nodeFields)
+          (formsIn (a .nodes .now)) (l .u)
+          (sym (s .ensures .0) ∙ same);
+    })
 
 loop-less : tie.Need-loop-less Inv-loop μ-loop
 loop-less c =
     let a = c .before .before .before .before .before .before .before .args in
-    let r = comesRound (a .nodes .now) (a .rows .now) (a .t .now) (a .p) (a .l) in
+    let r = ComesBy (a .nodes .now) (a .rows .now) (a .t .now) (a .p) (a .l) in
     let g = grows (a .t .now) (a .nodes .now) (a .rows .now) (a .p) (a .l) in
     let l = c .before .before .before .loop in
     let s = c .before .pass-round in
-    filling-less r g (begins (a .l)) (l .u) (s .last .0) (begins-length (a .l)) (l .inv) (s .ensures .0) (s .ensures .1 .1 (l .inv .wide))
-    (sym (s .ensures .1 .0) ∙ not-false (s .result) (c .if1 .left))
+    let len = subst (Grows (l .u)) (sym (s .ensures .0)) (g (l .u)) .len
+    ∙ filling-length r (begins (a .l)) (l .u) (begins-length (a .l)) (l .inv) in
+    nearer (l .u) (s .last .0) len (s .ensures .1 .1 (l .inv .wide)) (sym (s .ensures .1 .0) ∙ not-false (s .result) (c .if1 .left))
 
 loop-again : tie.Need-loop-again Inv-loop μ-loop
 loop-again c =
     let a = c .before .before .before .before .before .before .before .args in
-    let r = comesRound (a .nodes .now) (a .rows .now) (a .t .now) (a .p) (a .l) in
-    let g = grows (a .t .now) (a .nodes .now) (a .rows .now) (a .p) (a .l) in
     let l = c .before .before .before .loop in
     let s = c .before .pass-round in
-    filling-more r g (begins (a .l)) (l .u) (s .last .0) (l .inv) (s .ensures .0) (s .ensures .1 .1 (l .inv .wide))
+    record {
+      derived =
+          subst (Derived (ComesBy (a .nodes .now) (a .rows .now) (a .t .now) (a .p) (a .l)) (begins (a .l))) (sym (s .ensures .0))
+          (pass-round-derived (rowsIn (a .rows .now)) (a .p) (a .t .now) (a .l) (length (a .nodes .now) / nodeFields)
+          (formsIn (a .nodes .now)) (begins (a .l))
+          (l .u) (l .inv .derived));
+      wide = s .ensures .1 .1 (l .inv .wide);
+    }
 
 pub fill-spec : {M : Type 1} → statement M
 fill-spec =

@@ -36,8 +36,18 @@ own-created-requires c κs = search needs
 enter-requires : tie.Need-enter-requires
 enter-requires c κs =
     let a = c .before .before .before .before .args in
-    let p = c .before .before .before .before .pre in
-    (p .0, (p .1 .1 .1 .0, omega (arith, c .before .before .before .lose .ensures, lost-name (a .m) (a .n), forgotten-lt (a .m) (a .n) (p .1 .1 .1 .1))))
+    let p = c .before .before .before .before .pre in (
+      p .0,
+      (
+        p .1 .1 .1 .0,
+        omega (
+          arith,
+          c .before .before .before .lose .ensures,
+          lost-name (a .m) (a .n),
+          forgotten-lt (a .m) (a .n) (p .1 .1 .1 .1),
+        ),
+      ),
+    )
 
 add-enter : tie.Need-add-enter
 add-enter c = search needs

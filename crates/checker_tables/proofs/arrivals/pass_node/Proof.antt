@@ -18,8 +18,7 @@ use Rattle.checker_tables.proofs.arrivals.pass_node.Statement.{statemen
 use Rattle.checker_tables.proofs.arrivals.pass_node.Tie as tie
 use Rattle.checker_tables.proofs.arrivals.pass_node.Reads as reads
 use Rattle.checker_tables.proofs.arrivals.pass_node.Lts as lts
-use Rattle.checker_tables.proofs.arrivals.pass_by.Reads as pass-by-reads
-use Rattle.checker_tables.proofs.arrivals.come_to.Reads as come-to-reads
+use Rattle.checker_tables.proofs.arrivals.pass.Reads as pass-reads
 
 abbrev steps : List ℕ → List ℕ → ℕ → ℕ → ℕ → Node → ℕ → List ℕ → List ℕ
 steps t rows p l k f i = pass (rowsIn rows) p t k (formOf f) (odd i) (l + i / 2)
@@ -47,17 +46,14 @@ loop-holds c = (search needs, (refl, (sym (grown-self (c .args .u .now)), λ w. 
 add-m : tie.Need-add-m Inv-loop μ-loop
 add-m c = search needs
 
-come-to-requires : tie.Need-come-to-requires Inv-loop μ-loop
-come-to-requires c κs = search needs
-
-pass-by-requires : tie.Need-pass-by-requires Inv-loop μ-loop
-pass-by-requires c κs =
-    let a = c .before .before .before .before .before .args in
+pass-requires : tie.Need-pass-requires Inv-loop μ-loop
+pass-requires c κs =
+    let a = c .before .before .before .args in
     let f = steps (a .t .now) (a .rows .now) (a .p) (a .l) (a .k) (a .f) in
     let grows = steps-grow (a .t .now) (a .rows .now) (a .p) (a .l) (a .k) (a .f) in
-    let l = c .before .before .before .before .loop in
-    let p = c .before .before .before .before .before .pre in
-    let h = c .before .before .before .loop-test .taken in
+    let l = c .before .before .loop in
+    let p = c .before .before .before .pre in
+    let h = c .before .loop-test .taken in
     (repeat-length f grows (l .i) (a .u .now) (l .u) (l .inv .1 .0) ∙ p .0, (p .1 .0, (p .1 .1 .1, omega arith)))
 
 add-i : tie.Need-add-i Inv-loop μ-loop
@@ -68,19 +64,15 @@ loop-less c = search needs
 
 loop-again : tie.Need-loop-again Inv-loop μ-loop
 loop-again c =
-    let a = c .before .before .before .before .before .before .before .args in
-    let l = c .before .before .before .before .before .before .loop in
+    let a = c .before .before .before .before .before .args in
+    let l = c .before .before .before .before .loop in
     let f = steps (a .t .now) (a .rows .now) (a .p) (a .l) (a .k) (a .f) in
     let grows = steps-grow (a .t .now) (a .rows .now) (a .p) (a .l) (a .k) (a .f) in
-    let w = c .before .pass-by .last .0 in
-    let m = a .l + l .i / 2 in
-    let e : w ≡ f (l .i) (l .u) =
-    c .before .pass-by .ensures .0
-    ∙ ap (λ (v : ℕ). entered (arrivalsOf (rowsIn (a .rows .now)) (a .p) (a .t .now) (a .k) (odd (l .i)) m v (formOf (a .f))) (l .u))
-    (c .before .before .before .come-to .ensures) in
-    let wide : Wide (a .u .now) → Wide w = λ h. c .before .pass-by .ensures .1 .1 (l .inv .1 .1 .1 h) in
+    let w = c .before .pass .last .0 in
+    let e : w ≡ f (l .i) (l .u) = c .before .pass .ensures .0 in
+    let wide : Wide (a .u .now) → Wide w = λ h. c .before .pass .ensures .1 .1 (l .inv .1 .1 .1 h) in
     let made = turn f grows (l .i) (a .u .now) (l .u) w (l .changed) (c .if1 .changed)
-    (c .before .pass-by .result) (l .inv .1 .0, l .inv .1 .1 .0) e (c .before .pass-by .ensures .1 .0)
+    (c .before .pass .result) (l .inv .1 .0, l .inv .1 .1 .0) e (c .before .pass .ensures .1 .0)
     (by-cases (c .if1 .came) (λ w. inl (w .0 .taken, w .1)) (λ w. inr (w .0 .left, w .1))) in
     (search needs, (made .0, (made .1, wide)))
 
@@ -101,8 +93,7 @@ pass-node-spec =
     mul-n
     loop-holds
     add-m
-    come-to-requires
-    pass-by-requires
+    pass-requires
     add-i
     loop-less
     loop-again

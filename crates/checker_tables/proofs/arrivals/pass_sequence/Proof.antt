@@ -25,8 +25,10 @@ enter-requires c κs = search needs
 enter-halves-requires : tie.Need-enter-halves-requires
 enter-halves-requires c κs =
     let a = c .before .before .before .before .args in
-    let p = c .before .before .before .before .pre in
-    (grows-joined (now (a .u)) (c .before .enter .last .0) (place (a .a) (a .o) (a .m)) (a .v) (c .before .enter .ensures .0) .len ∙ p .0, (p .1 .1 .0, p .1 .1 .1))
+    let p = c .before .before .before .before .pre in (
+      grows-joined (now (a .u)) (c .before .enter .last .0) (place (a .a) (a .o) (a .m)) (a .v) (c .before .enter .ensures .0) .len ∙ p .0,
+      (p .1 .1 .0, p .1 .1 .1),
+    )
 
 either-requires : tie.Need-either-requires
 either-requires c κs = search needs

@@ -1,24 +1,30 @@
-use mathlib.Core.Path.{sym, ap, _∙_, ap₂}
-use Prim.Native.Nat.{ℕ}
-use borrow.Author.Needs.{needs}
+use mathlib.Core.Path.{refl, sym, ap, subst}
+use mathlib.Core.Option.{Option}
+use mathlib.Core.List.{[], _∷_}
+use Prim.Native.Nat.{ℕ, _^_}
+use native.Mathlib.Numerals.{add-one}
 use denote.Ref.{now}
 use lib.Dec.{eqb}
-use lib.Bits.{bitOr}
-use native.Mathlib.Numerals.{add-one}
-use Rattle.usage.specs.Outline.{formOf}
-use Rattle.checker_account.specs.Tables.{kept, rowsIn, begun, meaningAfter, half, endsBy}
-use mathlib.Core.Bool.{true, false}
+use lib.ListN.{getD, replicate}
+use Rattle.usage.specs.Limits.{states}
+use Rattle.usage.specs.Outline.{Form, formOf}
+use Rattle.checker_account.specs.Tables.{kept, rowsIn, endsBy}
 use Rattle.checker_account.specs.Rounds.{endsOf}
-use Rattle.checker_account.proofs.CodeLaws.{shl-one, no-form}
+use Rattle.checker_account.proofs.CodeLaws.{no-form}
+use Rattle.checker_account.proofs.JoinLaws.{zeros}
+use Rattle.checker_tables.specs.ByState.{ByState}
+use Rattle.checker_tables.proofs.ByStateLaws.{by-as, singles}
+use borrow.Author.Needs.{needs}
 use Rattle.checker_tables.proofs.ends.ends_by.Statement.{statement}
 use Rattle.checker_tables.proofs.ends.ends_by.Tie as tie
 use Rattle.checker_tables.proofs.ends.ends_by.Reads as reads
 use Rattle.checker_tables.proofs.ends.ends_by.Lts as lts
-use Rattle.checker_tables.proofs.ends.entry.Reads as entry-reads
+use Rattle.checker_tables.proofs.ends.either_ends.Reads as either-ends-reads
+use Rattle.checker_tables.proofs.ends.event_ends.Reads as event-ends-reads
 use Rattle.checker_tables.proofs.ends.fresh_ends.Reads as fresh-ends-reads
-use Rattle.checker_tables.proofs.ends.keep.Reads as keep-reads
-use Rattle.checker_tables.proofs.rows.moved_states.Reads as moved-states-reads
 use Rattle.checker_tables.proofs.ends.second_ends.Reads as second-ends-reads
+use Rattle.checker_tables.proofs.sets.entries.Reads as entries-reads
+use Rattle.checker_tables.proofs.sets.keep_each.Reads as keep-each-reads
 
 cast-a : tie.Need-cast-a
 cast-a c = search needs
@@ -26,100 +32,99 @@ cast-a c = search needs
 cast-b : tie.Need-cast-b
 cast-b c = search needs
 
-cast-keep : tie.Need-cast-keep
-cast-keep c = search needs
+keep-each-requires : tie.Need-keep-each-requires
+keep-each-requires c κs = search needs
 
-cast-keep-2 : tie.Need-cast-keep-2
-cast-keep-2 c = search needs
+event-ends-requires : tie.Need-event-ends-requires
+event-ends-requires c κs = search needs
 
-shl-keep : tie.Need-shl-keep
-shl-keep c = search needs
+add-event-ends : tie.Need-add-event-ends
+add-event-ends c = search needs
 
-keep-requires : tie.Need-keep-requires
-keep-requires c κs = search needs
-
-moved-states-requires : tie.Need-moved-states-requires
-moved-states-requires c κs = search needs
-
-keep-requires-2 : tie.Need-keep-requires-2
-keep-requires-2 c κs = search needs
-
-add-moved-states : tie.Need-add-moved-states
-add-moved-states c = search needs
-
-moved-states-requires-2 : tie.Need-moved-states-requires-2
-moved-states-requires-2 c κs = search needs
-
-keep-requires-3 : tie.Need-keep-requires-3
-keep-requires-3 c κs = search needs
-
-entry-requires : tie.Need-entry-requires
-entry-requires c κs = search needs
+event-ends-requires-2 : tie.Need-event-ends-requires-2
+event-ends-requires-2 c κs = search needs
 
 second-ends-requires : tie.Need-second-ends-requires
 second-ends-requires c κs = search needs
 
-entry-requires-2 : tie.Need-entry-requires-2
-entry-requires-2 c κs = search needs
+either-ends-requires : tie.Need-either-ends-requires
+either-ends-requires c κs = search needs
 
-entry-requires-3 : tie.Need-entry-requires-3
-entry-requires-3 c κs = search needs
+mul-entries : tie.Need-mul-entries
+mul-entries c = search needs
 
-entry-requires-4 : tie.Need-entry-requires-4
-entry-requires-4 c κs = search needs
+mul-entries-2 : tie.Need-mul-entries-2
+mul-entries-2 c = search needs
 
-entry-requires-5 : tie.Need-entry-requires-5
-entry-requires-5 c κs = search needs
+add-entries : tie.Need-add-entries
+add-entries c = search needs
+
+entries-requires : tie.Need-entries-requires
+entries-requires c κs = search needs
+
+mul-entries-3 : tie.Need-mul-entries-3
+mul-entries-3 c = search needs
+
+mul-entries-4 : tie.Need-mul-entries-4
+mul-entries-4 c = search needs
+
+add-entries-2 : tie.Need-add-entries-2
+add-entries-2 c = search needs
+
+entries-requires-2 : tie.Need-entries-requires-2
+entries-requires-2 c κs = search needs
 
 fresh-ends-requires : tie.Need-fresh-ends-requires
 fresh-ends-requires c κs =
-    let p = c .before .before .before .pre in (p .1 .0, (p .0 .a-name (c .match .keys8), (p .0 .b-node, (p .1 .1 .0, p .1 .1 .1))))
+    let p = c .before .before .before .pre in (p .1 .0, (p .0 .a-name (c .match .keys8), (p .0 .b-node, p .1 .1)))
 
-entry-requires-6 : tie.Need-entry-requires-6
-entry-requires-6 c κs = search needs
+mul-entries-5 : tie.Need-mul-entries-5
+mul-entries-5 c = search needs
+
+mul-entries-6 : tie.Need-mul-entries-6
+mul-entries-6 c = search needs
+
+add-entries-3 : tie.Need-add-entries-3
+add-entries-3 c = search needs
+
+entries-requires-3 : tie.Need-entries-requires-3
+entries-requires-3 c κs = search needs
 
 returns : tie.Need-returns
 unfolding formOf endsBy
 returns c =
     let a = c .before .before .before .before .args in
-    rw (c .before .match .keys1) (c .keep .ensures ∙ ap (kept (a .m)) (shl-one (a .q) (c .before .before .before .before .pre .1 .1 .1)))
+    rw (c .before .match .keys1)
+    (by-as (λ q. kept (a .m) (2 ^ q)) (λ q. kept (a .m) (getD (1 ∷ 2 ∷ 4 ∷ 8 ∷ 16 ∷ 32 ∷ 64 ∷ 128 ∷ []) q 0)) (c .keep-each .result)
+    (c .keep-each .ensures) (λ q l. ap (kept (a .m)) (singles q l)))
 
 returns-2 : tie.Need-returns-2
 unfolding formOf endsBy
-returns-2 c =
-    rw (c .before .before .match .keys2)
-    (c .keep2 .ensures ∙ ap (kept (c .before .before .before .before .before .args .m)) (c .before .moved-states .ensures))
+returns-2 c = rw (c .before .match .keys2) (c .event-ends .ensures)
 
 returns-3 : tie.Need-returns-3
 unfolding formOf endsBy
 returns-3 c =
-    let a = c .before .before .before .before .before .args in
-    rw (c .before .before .match .keys3)
-    (c .keep3 .ensures
-    ∙ ap (kept (a .m)) (c .before .moved-states2 .ensures)
-    ∙ ap (λ (n : ℕ). kept (a .m) (rowsIn (now (a .rows)) (a .k) (eqb (a .m) n) (a .q))) (add-one (a .f .b)))
+    let a = c .before .before .before .before .args in
+    rw (c .before .match .keys3)
+    (subst (λ (n : ℕ). ByState states (λ q. kept (a .m) (rowsIn (now (a .rows)) (a .k) (eqb (a .m) n) q)) (c .event-ends2 .result))
+    (add-one (a .f .b)) (c .event-ends2 .ensures))
 
 returns-4 : tie.Need-returns-4
 unfolding formOf endsBy
-returns-4 c =
-    let a = c .before .before .before .before .before .args in
-    let t = now (a .t) in
-    rw (c .before .before .match .keys4)
-    (c .second-ends .ensures
-    ∙ ap (λ (v : ℕ). bitOr (begun t (a .f .b) (meaningAfter (a .m) false) (half false v)) (begun t (a .f .b) (meaningAfter (a .m) true) (half true v)))
-    (c .before .entry .ensures))
+returns-4 c = rw (c .before .match .keys4) (c .second-ends .ensures)
 
 returns-5 : tie.Need-returns-5
 unfolding formOf endsBy
-returns-5 c = rw (c .before .before .match .keys5) (ap₂ (λ (x y : ℕ). bitOr x y) (c .before .entry2 .ensures) (c .entry3 .ensures))
+returns-5 c = rw (c .before .match .keys5) (c .either-ends .ensures)
 
 returns-6 : tie.Need-returns-6
 unfolding formOf endsBy
-returns-6 c = rw (c .before .match .keys6) (c .entry4 .ensures)
+returns-6 c = rw (c .before .match .keys6) (c .entries .ensures)
 
 returns-7 : tie.Need-returns-7
 unfolding formOf endsBy
-returns-7 c = rw (c .before .match .keys7) (c .entry5 .ensures)
+returns-7 c = rw (c .before .match .keys7) (c .entries2 .ensures)
 
 returns-8 : tie.Need-returns-8
 unfolding formOf endsBy
@@ -127,16 +132,18 @@ returns-8 c = rw (c .before .match .keys8) (c .fresh-ends .ensures)
 
 returns-9 : tie.Need-returns-9
 unfolding formOf endsBy
-returns-9 c = rw (c .before .match .keys9) (c .entry6 .ensures)
+returns-9 c = rw (c .before .match .keys9) (c .entries3 .ensures)
 
 returns-10 : tie.Need-returns-10
 returns-10 c =
     let a = c .before .before .before .args in
     let f = a .f in
     let n = c .match .rest in
-    sym (ap (endsOf (rowsIn (now (a .rows))) (a .x) (now (a .t)) (a .k) (a .m) (a .q))
-    (no-form (f .kind) (f .a) (f .b) (n .0 .0 .0 .0 .0 .0 .0 .0 .1) (n .0 .0 .0 .0 .0 .0 .0 .1) (n .0 .0 .0 .0 .0 .0 .1)
+    subst (λ (o : Option Form). ByState states (λ q. endsOf (rowsIn (now (a .rows))) (a .x) (now (a .t)) (a .k) (a .m) q o)
+    (replicate states 0))
+    (sym (no-form (f .kind) (f .a) (f .b) (n .0 .0 .0 .0 .0 .0 .0 .0 .1) (n .0 .0 .0 .0 .0 .0 .0 .1) (n .0 .0 .0 .0 .0 .0 .1)
     (n .0 .0 .0 .0 .0 .1) (n .0 .0 .0 .0 .1) (n .0 .0 .0 .1) (n .0 .0 .1) (n .0 .1) (n .1)))
+    (record { len = refl; held = λ q l. zeros states q })
 
 pub ends-by-spec : {M : Type 1} → statement M
 ends-by-spec =
@@ -144,23 +151,25 @@ ends-by-spec =
     (tie.spec
     cast-a
     cast-b
-    cast-keep
-    cast-keep-2
-    shl-keep
-    keep-requires
-    moved-states-requires
-    keep-requires-2
-    add-moved-states
-    moved-states-requires-2
-    keep-requires-3
-    entry-requires
+    keep-each-requires
+    event-ends-requires
+    add-event-ends
+    event-ends-requires-2
     second-ends-requires
-    entry-requires-2
-    entry-requires-3
-    entry-requires-4
-    entry-requires-5
+    either-ends-requires
+    mul-entries
+    mul-entries-2
+    add-entries
+    entries-requires
+    mul-entries-3
+    mul-entries-4
+    add-entries-2
+    entries-requires-2
     fresh-ends-requires
-    entry-requires-6
+    mul-entries-5
+    mul-entries-6
+    add-entries-3
+    entries-requires-3
     returns
     returns-2
     returns-3

@@ -1,86 +1,260 @@
 use native.Mathlib.Omega.{arith}
-use mathlib.Core.Path.{refl, sym, _∙_, subst}
+use mathlib.Core.Path.{_≡_, refl, sym, ap, ap₂, _∙_, subst}
+use mathlib.Core.Bool.{Bool, true, false}
 use mathlib.Core.List.{List}
-use Prim.Native.Nat.{ℕ, _-_, _*_, _/_}
-use lib.ListN.{length, replicate}
-use Rattle.usage.specs.Limits.{states, nodeFields}
-use Rattle.usage.proofs.Logic.{not-true, not-false}
-use Rattle.checker_account.specs.Tables.{places, rowsIn}
-use Rattle.checker_account.specs.Rounds.{total, formsIn, Wide}
-use Rattle.checker_tables.specs.Search.{endsRound}
-use Rattle.checker_account.proofs.JoinLaws.{zeros-wide}
-use Rattle.checker_account.proofs.RoundLaws.{Grows, Filling, most, filling-start, filling-more, filling-length, filling-ends, filling-less}
-use Rattle.checker_account.proofs.SettleLaws.{round-grows, round-wide}
+use Prim.Native.Nat.{ℕ, suc, _-_, _*_, _/_, _%_, _^_, _≤_, _<_}
+use lib.Bits.{bitOr}
+use lib.Pow.{pow-mono}
+use lib.ListN.{length, getD, replicate}
+use Rattle.usage.specs.Limits.{mostNodes, nodeFields}
+use Rattle.usage.specs.declared.Node.{Node}
+use Rattle.usage.specs.Outline.{formOf}
+use Rattle.checker_account.specs.Tables.{places, meanings, rowsIn}
+use Rattle.checker_account.specs.Rounds.{grown, formsIn, settleNode}
+use Rattle.checker_tables.specs.Search.{Small, NodesFit}
+use Rattle.checker_tables.specs.Work.{readersOf}
+use Rattle.checker_tables.proofs.WorkLaws.{
+  Working,
+  leftOf,
+  shl-node,
+  highest-lt,
+  named-forms,
+  working-start,
+  working-length,
+  working-ends,
+}
+use Rattle.checker_tables.proofs.WorkLaws.{still-working, still-less, more-working, more-less}
 use borrow.Author.Needs.{needs}
 use Rattle.checker_tables.proofs.ends.fill.Statement.{statement}
 use Rattle.checker_tables.proofs.ends.fill.Tie as tie
 use Rattle.checker_tables.proofs.ends.fill.Reads as reads
 use Rattle.checker_tables.proofs.ends.fill.Lts as lts
-use Rattle.checker_tables.proofs.ends.settle_round.Reads as settle-round-reads
+use Rattle.checker_tables.proofs.ends.settle_node.Reads as settle-node-reads
+use Rattle.checker_tables.proofs.node.Reads as node-reads
+use Rattle.checker_tables.proofs.work.all.Reads as all-reads
+use Rattle.checker_tables.proofs.work.highest.Reads as highest-reads
+use Rattle.checker_tables.proofs.work.readers.Reads as readers-reads
 
-abbrev grows : (nodes rows : List ℕ) (x l : ℕ) (t : List ℕ) → Grows t (endsRound nodes rows x (states * l) t)
-grows nodes rows x l = round-grows (rowsIn rows) x (states * l) (length nodes / nodeFields) (formsIn nodes)
+abbrev Done : List ℕ → List ℕ → ℕ → ℕ → List ℕ → ℕ → Type 0
+Done nodes rows x l = Working (rowsIn rows) x l (length nodes / nodeFields) (formsIn nodes)
 
-abbrev wide : (nodes rows : List ℕ) (x l : ℕ) (t : List ℕ) → Wide t → Wide (endsRound nodes rows x (states * l) t)
-wide nodes rows x l = round-wide (rowsIn rows) x (states * l) (length nodes / nodeFields) (formsIn nodes)
+positive : (s : ℕ) → (s ≡ 0 → ⊥) → 0 < s
+positive s d = omega arith
+
+-- the highest node that is left
+module _ (nodes rows : List ℕ) (x l : ℕ) (fit : NodesFit nodes) (t : List ℕ) (s k : ℕ) (w : Done nodes rows x l t s) (low : 2 ^ k ≤ s)
+    (high : s < 2 ^ suc k) where
+  abbrev n : ℕ
+  n = length nodes / nodeFields
+
+  inside : k < n
+  inside = highest-lt s k low high n (w .nodes)
+
+  small : k < mostNodes
+  small = let b = inside in let f = fit .few in omega arith
+
+  abbrev bit : ℕ
+  bit = 1 * 2 ^ k % 2 ^ 64
+
+  bit-low : bit ≤ s
+  bit-low = omega (arith, shl-node k small)
+
+  module _ (u : List ℕ) (e : u ≡ settleNode (rowsIn rows) x l k (formsIn nodes k) t) where
+    still : grown t u ≡ false → Done nodes rows x l u (s - bit)
+    still g =
+        subst (λ (b : ℕ). Done nodes rows x l u (s - b)) (sym (shl-node k small))
+        (still-working (rowsIn rows) x l n (formsIn nodes) (fit .few) t u s k w low high e g)
+
+    still-falls : grown t u ≡ false → leftOf u (s - bit) < leftOf t s
+    still-falls g =
+        subst (λ (b : ℕ). leftOf u (s - b) < leftOf t s) (sym (shl-node k small))
+        (still-less (rowsIn rows) x l n (formsIn nodes) (fit .few) t u s k w low high e g)
+
+    module _ (less : l < meanings) (readers : List ℕ) (r : readers ≡ readersOf n (formsIn nodes)) (g : grown t u ≡ true) where
+      more : Done nodes rows x l u (bitOr (s - bit) (getD readers k 0))
+      more =
+          subst (Done nodes rows x l u)
+          (ap₂ (λ (b : ℕ) (m : List ℕ). bitOr (s - b) (getD m k 0)) (sym (shl-node k small)) (sym r))
+          (more-working (rowsIn rows) x l n (formsIn nodes) (fit .few) t u s k w low high e (named-forms nodes fit) (omega arith) g)
+
+      more-falls : leftOf u (bitOr (s - bit) (getD readers k 0)) < leftOf t s
+      more-falls =
+          let b : 2 ^ n ≤ 18446744073709551616 = pow-mono (fit .few) in
+          more-less (rowsIn rows) x l n (formsIn nodes) (fit .few) t u s k w low high e (named-forms nodes fit) (omega arith) g
+          (bitOr (s - bit) (getD readers k 0)) (omega (arith, more .nodes))
 
 abbrev Inv-loop : tie.InvT-loop
-Inv-loop nodes rows x l t₀ t = Filling (endsRound nodes rows x (states * l)) (replicate places 0) t
+Inv-loop nodes rows x l t₀ n readers left₀ t left = Done nodes rows x l t left
 
 abbrev μ-loop : tie.MeasureT-loop
-μ-loop nodes rows x l t₀ t = most - total t
+μ-loop nodes rows x l t₀ n readers left₀ t left = leftOf t left
+
+readers-requires : tie.Need-readers-requires Inv-loop μ-loop
+readers-requires c κs = (c .before .before .pre .0, refl)
+
+all-requires : tie.Need-all-requires Inv-loop μ-loop
+all-requires c κs = c .before .before .before .pre .0 .few
 
 loop-holds : tie.Need-loop-holds Inv-loop μ-loop
 loop-holds c =
-    let a = c .before .args in
-    let r = endsRound (a .nodes .now) (a .rows .now) (a .x) (states * a .l) in
-    let g = grows (a .nodes .now) (a .rows .now) (a .x) (a .l) in
-    subst (Filling r (replicate places 0)) (sym (c .before .pre .1 .1)) (filling-start r g (replicate places 0) (zeros-wide places))
+    let a = c .before .before .before .before .args in
+    let p = c .before .before .before .before .pre in
+    subst (Done (a .nodes .now) (a .rows .now) (a .x) (a .l) (a .t .now)) (sym (c .all .ensures))
+    (subst (λ (u : List ℕ). Done (a .nodes .now) (a .rows .now) (a .x) (a .l) u (2 ^ (length (a .nodes .now) / nodeFields) - 1))
+    (sym (p .1 .1))
+    (working-start (rowsIn (a .rows .now)) (a .x) (a .l) (length (a .nodes .now) / nodeFields) (formsIn (a .nodes .now)) (p .0 .few)))
 
-mul-settle-round : tie.Need-mul-settle-round Inv-loop μ-loop
-mul-settle-round c = search needs
+highest-requires : tie.Need-highest-requires Inv-loop μ-loop
+highest-requires c κs = positive (c .before .loop .left) (c .loop-test .taken)
 
-settle-round-requires : tie.Need-settle-round-requires Inv-loop μ-loop
-settle-round-requires c κs =
-    let a = c .before .before .before .args in
-    let p = c .before .before .before .pre in
-    let r = endsRound (a .nodes .now) (a .rows .now) (a .x) (states * a .l) in
-    let g = grows (a .nodes .now) (a .rows .now) (a .x) (a .l) in
-    let l = c .before .loop in
-    (filling-length r g (replicate places 0) (l .t) (l .inv), (p .0, omega (arith, p .1 .0)))
+cast-left : tie.Need-cast-left Inv-loop μ-loop
+cast-left c =
+    let a = c .before .before .before .before .before .before .before .args in
+    let p = c .before .before .before .before .before .before .before .pre in
+    let l = c .before .before .loop in
+    let h = c .highest in
+    let k = small (a .nodes .now) (a .rows .now) (a .x) (a .l) (p .0) (l .t) (l .left) (h .result) (l .inv) (h .ensures .0)
+    (h .ensures .1) in
+    omega arith
 
-returns : tie.Need-returns Inv-loop μ-loop
-returns c =
-    let a = c .before .before .before .before .before .args in
-    let r = endsRound (a .nodes .now) (a .rows .now) (a .x) (states * a .l) in
-    let g = grows (a .nodes .now) (a .rows .now) (a .x) (a .l) in
-    let l = c .before .before .before .loop in
-    let s = c .before .settle-round in
-    filling-ends r g (replicate places 0) (l .t) (s .last .0) (l .inv) (s .ensures .0)
-    (sym (s .ensures .1) ∙ not-true (s .result) (c .if1 .taken))
+cast-left-2 : tie.Need-cast-left-2 Inv-loop μ-loop
+cast-left-2 c =
+    let a = c .before .before .before .before .before .before .before .args in
+    let p = c .before .before .before .before .before .before .before .pre in
+    let l = c .before .before .loop in
+    let h = c .highest in
+    let k = small (a .nodes .now) (a .rows .now) (a .x) (a .l) (p .0) (l .t) (l .left) (h .result) (l .inv) (h .ensures .0)
+    (h .ensures .1) in
+    omega arith
+
+shl-left : tie.Need-shl-left Inv-loop μ-loop
+shl-left c =
+    let a = c .before .before .before .before .before .before .before .args in
+    let p = c .before .before .before .before .before .before .before .pre in
+    let l = c .before .before .loop in
+    let h = c .highest in
+    let k = small (a .nodes .now) (a .rows .now) (a .x) (a .l) (p .0) (l .t) (l .left) (h .result) (l .inv) (h .ensures .0)
+    (h .ensures .1) in
+    omega arith
+
+sub-left : tie.Need-sub-left Inv-loop μ-loop
+sub-left c =
+    let a = c .before .before .before .before .before .before .before .args in
+    let p = c .before .before .before .before .before .before .before .pre in
+    let l = c .before .before .loop in
+    let h = c .highest in
+    bit-low (a .nodes .now) (a .rows .now) (a .x) (a .l) (p .0) (l .t) (l .left) (h .result) (l .inv) (h .ensures .0)
+    (h .ensures .1)
+
+node-requires : tie.Need-node-requires Inv-loop μ-loop
+node-requires c κs =
+    let a = c .before .before .before .before .before .before .before .args in
+    let p = c .before .before .before .before .before .before .before .pre in
+    let l = c .before .before .loop in
+    let h = c .highest in
+    inside (a .nodes .now) (a .rows .now) (a .x) (a .l) (p .0) (l .t) (l .left) (h .result) (l .inv) (h .ensures .0)
+    (h .ensures .1)
+
+settle-node-requires : tie.Need-settle-node-requires Inv-loop μ-loop
+settle-node-requires c κs =
+    let a = c .before .before .before .before .before .before .before .before .before .args in
+    let p = c .before .before .before .before .before .before .before .before .before .pre in
+    let l = c .before .before .before .before .loop in
+    let h = c .before .before .highest in
+    let k = inside (a .nodes .now) (a .rows .now) (a .x) (a .l) (p .0) (l .t) (l .left) (h .result) (l .inv) (h .ensures .0)
+    (h .ensures .1) in
+    let few : length (a .nodes .now) / nodeFields ≤ mostNodes = p .0 .few in (
+      working-length (rowsIn (a .rows .now)) (a .x) (a .l) (length (a .nodes .now) / nodeFields) (formsIn (a .nodes .now)) (p .0 .few)
+          (l .inv),
+      (subst Small (sym (c .before .node .ensures)) (p .0 .small (h .result) k), (p .1 .0, omega arith)),
+    )
+
+mul-left : tie.Need-mul-left Inv-loop μ-loop
+mul-left c =
+    let a = c .before .before .before .before .before .before .before .before .before .before .before .args in
+    let p = c .before .before .before .before .before .before .before .before .before .before .before .pre in
+    let l = c .before .before .before .before .before .before .loop in
+    let h = c .before .before .before .before .highest in
+    let k = small (a .nodes .now) (a .rows .now) (a .x) (a .l) (p .0) (l .t) (l .left) (h .result) (l .inv) (h .ensures .0)
+    (h .ensures .1) in
+    omega arith
+
+array-read-left : tie.Need-array-read-left Inv-loop μ-loop
+array-read-left c =
+    let a = c .before .before .before .before .before .before .before .before .before .before .before .args in
+    let p = c .before .before .before .before .before .before .before .before .before .before .before .pre in
+    let l = c .before .before .before .before .before .before .loop in
+    let h = c .before .before .before .before .highest in
+    small (a .nodes .now) (a .rows .now) (a .x) (a .l) (p .0) (l .t) (l .left) (h .result) (l .inv) (h .ensures .0)
+    (h .ensures .1)
 
 loop-less : tie.Need-loop-less Inv-loop μ-loop
 loop-less c =
-    let a = c .before .before .before .before .before .args in
-    let r = endsRound (a .nodes .now) (a .rows .now) (a .x) (states * a .l) in
-    let g = grows (a .nodes .now) (a .rows .now) (a .x) (a .l) in
-    let l = c .before .before .before .loop in
-    let s = c .before .settle-round in
-    let w : Wide (s .last .0) =
-    subst Wide (sym (s .ensures .0)) (wide (a .nodes .now) (a .rows .now) (a .x) (a .l) (l .t) (l .inv .wide)) in
-    filling-less r g (replicate places 0) (l .t) (s .last .0) refl (l .inv) (s .ensures .0) w
-    (sym (s .ensures .1) ∙ not-false (s .result) (c .if1 .left))
+    let a = c .before .before .before .before .before .before .before .before .before .before .before .args in
+    let p = c .before .before .before .before .before .before .before .before .before .before .before .pre in
+    let r = c .before .before .before .before .before .before .before .before .readers2 in
+    let l = c .before .before .before .before .before .before .loop in
+    let h = c .before .before .before .before .highest in
+    let s = c .before .settle-node in
+    let e : s .last .0 ≡ settleNode (rowsIn (a .rows .now)) (a .x) (a .l) (h .result) (formsIn (a .nodes .now) (h .result)) (l .t) =
+    s .ensures .0
+    ∙ ap (λ (d : Node). settleNode (rowsIn (a .rows .now)) (a .x) (a .l) (h .result) (formOf d) (l .t))
+    (c .before .before .before .node .ensures) in
+    more-falls (a .nodes .now) (a .rows .now) (a .x) (a .l) (p .0) (l .t) (l .left) (h .result) (l .inv) (h .ensures .0)
+    (h .ensures .1) (s .last .0) e (p .1 .0) (r .last .1 .0) (r .ensures)
+    (sym (s .ensures .1) ∙ c .if1 .taken)
 
 loop-again : tie.Need-loop-again Inv-loop μ-loop
 loop-again c =
-    let a = c .before .before .before .before .before .args in
-    let r = endsRound (a .nodes .now) (a .rows .now) (a .x) (states * a .l) in
-    let g = grows (a .nodes .now) (a .rows .now) (a .x) (a .l) in
-    let l = c .before .before .before .loop in
-    let s = c .before .settle-round in
-    let w : Wide (s .last .0) =
-    subst Wide (sym (s .ensures .0)) (wide (a .nodes .now) (a .rows .now) (a .x) (a .l) (l .t) (l .inv .wide)) in
-    filling-more r g (replicate places 0) (l .t) (s .last .0) (l .inv) (s .ensures .0) w
+    let a = c .before .before .before .before .before .before .before .before .before .before .before .args in
+    let p = c .before .before .before .before .before .before .before .before .before .before .before .pre in
+    let r = c .before .before .before .before .before .before .before .before .readers2 in
+    let l = c .before .before .before .before .before .before .loop in
+    let h = c .before .before .before .before .highest in
+    let s = c .before .settle-node in
+    let e : s .last .0 ≡ settleNode (rowsIn (a .rows .now)) (a .x) (a .l) (h .result) (formsIn (a .nodes .now) (h .result)) (l .t) =
+    s .ensures .0
+    ∙ ap (λ (d : Node). settleNode (rowsIn (a .rows .now)) (a .x) (a .l) (h .result) (formOf d) (l .t))
+    (c .before .before .before .node .ensures) in
+    more (a .nodes .now) (a .rows .now) (a .x) (a .l) (p .0) (l .t) (l .left) (h .result) (l .inv) (h .ensures .0)
+    (h .ensures .1) (s .last .0) e (p .1 .0) (r .last .1 .0) (r .ensures)
+    (sym (s .ensures .1) ∙ c .if1 .taken)
+
+loop-less-2 : tie.Need-loop-less-2 Inv-loop μ-loop
+loop-less-2 c =
+    let a = c .before .before .before .before .before .before .before .before .before .before .before .args in
+    let p = c .before .before .before .before .before .before .before .before .before .before .before .pre in
+    let l = c .before .before .before .before .before .before .loop in
+    let h = c .before .before .before .before .highest in
+    let s = c .before .settle-node in
+    let e : s .last .0 ≡ settleNode (rowsIn (a .rows .now)) (a .x) (a .l) (h .result) (formsIn (a .nodes .now) (h .result)) (l .t) =
+    s .ensures .0
+    ∙ ap (λ (d : Node). settleNode (rowsIn (a .rows .now)) (a .x) (a .l) (h .result) (formOf d) (l .t))
+    (c .before .before .before .node .ensures) in
+    still-falls (a .nodes .now) (a .rows .now) (a .x) (a .l) (p .0) (l .t) (l .left) (h .result) (l .inv) (h .ensures .0)
+    (h .ensures .1) (s .last .0) e (sym (s .ensures .1) ∙ c .if1 .left)
+
+loop-again-2 : tie.Need-loop-again-2 Inv-loop μ-loop
+loop-again-2 c =
+    let a = c .before .before .before .before .before .before .before .before .before .before .before .args in
+    let p = c .before .before .before .before .before .before .before .before .before .before .before .pre in
+    let l = c .before .before .before .before .before .before .loop in
+    let h = c .before .before .before .before .highest in
+    let s = c .before .settle-node in
+    let e : s .last .0 ≡ settleNode (rowsIn (a .rows .now)) (a .x) (a .l) (h .result) (formsIn (a .nodes .now) (h .result)) (l .t) =
+    s .ensures .0
+    ∙ ap (λ (d : Node). settleNode (rowsIn (a .rows .now)) (a .x) (a .l) (h .result) (formOf d) (l .t))
+    (c .before .before .before .node .ensures) in
+    still (a .nodes .now) (a .rows .now) (a .x) (a .l) (p .0) (l .t) (l .left) (h .result) (l .inv) (h .ensures .0)
+    (h .ensures .1) (s .last .0) e (sym (s .ensures .1) ∙ c .if1 .left)
+
+returns : tie.Need-returns Inv-loop μ-loop
+returns c =
+    let a = c .before .before .before .before .before .before .args in
+    let l = c .before .loop in
+    working-ends (rowsIn (a .rows .now)) (a .x) (a .l) (length (a .nodes .now) / nodeFields) (formsIn (a .nodes .now))
+    (c .before .before .before .before .before .before .pre .0 .few)
+    (subst (Done (a .nodes .now) (a .rows .now) (a .x) (a .l) (l .t)) (c .loop-test .left) (l .inv))
 
 pub fill-spec : {M : Type 1} → statement M
 fill-spec =
@@ -88,9 +262,20 @@ fill-spec =
     (tie.spec
     Inv-loop
     μ-loop
+    readers-requires
+    all-requires
     loop-holds
-    mul-settle-round
-    settle-round-requires
-    returns
+    highest-requires
+    cast-left
+    cast-left-2
+    shl-left
+    sub-left
+    node-requires
+    settle-node-requires
+    mul-left
+    array-read-left
     loop-less
-    loop-again)
+    loop-again
+    loop-less-2
+    loop-again-2
+    returns)

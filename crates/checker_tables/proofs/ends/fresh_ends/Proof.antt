@@ -1,43 +1,24 @@
 use native.Mathlib.Omega.{arith}
-use native.Mathlib.Numerals.{add-one}
-use mathlib.Core.Path.{_≡_, sym, ap, ap₂, _∙_}
-use mathlib.Core.Bool.{Bool, true, false, cond}
-use mathlib.Core.List.{List}
-use Prim.Native.Nat.{ℕ, suc, _+_}
-use lib.Bits.{bitOr, or-zero-r}
+use mathlib.Core.Path.{_≡_, _∙_}
+use Prim.Native.Nat.{ℕ, _+_, _<_}
 use denote.Ref.{now}
-use Rattle.checker_account.specs.Tables.{begun, forgotten, rowsIn, freshEnds}
-use Rattle.checker_account.proofs.CodeLaws.{forgotten-lt, made-none, made-some}
+use Rattle.checker_account.specs.Tables.{rowsIn, meanings}
+use Rattle.checker_account.proofs.CodeLaws.{forgotten-lt}
 use Rattle.checker_tables.specs.Search.{lost}
 use Rattle.checker_tables.proofs.MeaningLaws.{lost-name}
+use Rattle.checker_tables.proofs.ByStateLaws.{fresh-later, fresh-first}
 use borrow.Author.Needs.{needs}
 use Rattle.checker_tables.proofs.ends.fresh_ends.Statement.{statement}
 use Rattle.checker_tables.proofs.ends.fresh_ends.Tie as tie
 use Rattle.checker_tables.proofs.ends.fresh_ends.Reads as reads
 use Rattle.checker_tables.proofs.ends.fresh_ends.Lts as lts
-use Rattle.checker_tables.proofs.ends.begun.Reads as begun-reads
 use Rattle.checker_tables.proofs.lose.Reads as lose-reads
-use Rattle.checker_tables.proofs.rows.moved_states.Reads as moved-states-reads
+use Rattle.checker_tables.proofs.rows.moved_each.Reads as moved-each-reads
+use Rattle.checker_tables.proofs.sets.join_each.Reads as join-each-reads
+use Rattle.checker_tables.proofs.sets.union_each.Reads as union-each-reads
 
--- what the code has of the body with name n given to another resource, and to the watched one
-module _ (t rows : List ℕ) (k n b m q f v e : ℕ) where
-  abbrev other : ℕ
-  other = begun t b (forgotten m n) (rowsIn rows k false q)
-
-  abbrev own : ℕ
-  own = begun t b (suc n) (rowsIn rows k true q)
-
-  other-is : f ≡ lost m (n + 1) → v ≡ rowsIn rows k false q → e ≡ begun t b f v → e ≡ other
-  other-is d g h = h ∙ ap₂ (begun t b) (d ∙ lost-name m n) g
-
-  made-before : (m ≡ 0 → ⊥) → e ≡ other → e ≡ freshEnds (rowsIn rows) t k n b m q
-  made-before d h = h ∙ sym (or-zero-r other) ∙ ap (λ (c : Bool). bitOr other (cond c 0 own)) (sym (made-some m d))
-
-  made-now : (w g : ℕ) → m ≡ 0 → e ≡ other → w ≡ rowsIn rows k true q → g ≡ begun t b (n + 1) w
-      → bitOr e g ≡ freshEnds (rowsIn rows) t k n b m q
-  made-now w g z h x y =
-      ap₂ (λ (i j : ℕ). bitOr i j) h (y ∙ ap₂ (begun t b) (add-one n) x)
-      ∙ ap (λ (c : Bool). bitOr other (cond c 0 own)) (sym (made-none m z))
+low : (m n f : ℕ) → f ≡ lost m (n + 1) → m < meanings → f < meanings
+low m n f e h = omega (arith, e, lost-name m n, forgotten-lt m n h)
 
 add-lose : tie.Need-add-lose
 add-lose c = search needs
@@ -45,47 +26,71 @@ add-lose c = search needs
 lose-requires : tie.Need-lose-requires
 lose-requires c κs = search needs
 
-moved-states-requires : tie.Need-moved-states-requires
-moved-states-requires c κs = search needs
+moved-each-requires : tie.Need-moved-each-requires
+moved-each-requires c κs = search needs
 
-begun-requires : tie.Need-begun-requires
-begun-requires c κs =
+mul-union-each : tie.Need-mul-union-each
+mul-union-each c = search needs
+
+mul-union-each-2 : tie.Need-mul-union-each-2
+mul-union-each-2 c =
     let a = c .before .before .args in
     let p = c .before .before .pre in
-    (p .1 .1 .0, omega (arith, c .before .lose .ensures, lost-name (a .m) (a .n), forgotten-lt (a .m) (a .n) (p .1 .1 .1 .0)))
+    omega (arith, p .1 .1 .0, low (a .m) (a .n) (c .before .lose .result) (c .before .lose .ensures) (p .1 .1 .1))
+
+add-union-each : tie.Need-add-union-each
+add-union-each c =
+    let a = c .before .before .args in
+    let p = c .before .before .pre in
+    omega (arith, p .1 .1 .0, low (a .m) (a .n) (c .before .lose .result) (c .before .lose .ensures) (p .1 .1 .1))
+
+union-each-requires : tie.Need-union-each-requires
+union-each-requires c κs =
+    let a = c .before .before .args in
+    let p = c .before .before .pre in
+    omega (arith, p .1 .1 .0, low (a .m) (a .n) (c .before .lose .result) (c .before .lose .ensures) (p .1 .1 .1))
 
 returns : tie.Need-returns
 returns c =
     let a = c .before .before .before .before .args in
     let f = c .before .before .before .lose in
-    let v = c .before .before .moved-states in
-    let e = c .before .begun in
-    made-before (now (a .t)) (now (a .rows)) (a .k) (a .n) (a .b) (a .m) (a .q) (f .result) (v .result) (e .result) (c .if1 .taken)
-    (other-is (now (a .t)) (now (a .rows)) (a .k) (a .n) (a .b) (a .m) (a .q) (f .result) (v .result) (e .result) (f .ensures) (v .ensures)
-    (e .ensures))
+    let v = c .before .before .moved-each in
+    let other = c .before .union-each in
+    fresh-later (now (a .t)) (rowsIn (now (a .rows))) (a .k) (a .n) (a .b) (a .m) (f .result) (v .result) (other .result)
+    (f .ensures ∙ lost-name (a .m) (a .n)) (v .ensures) (other .ensures) (c .if1 .taken)
 
-add-begun : tie.Need-add-begun
-add-begun c = search needs
+moved-each-requires-2 : tie.Need-moved-each-requires-2
+moved-each-requires-2 c κs = search needs
 
-moved-states-requires-2 : tie.Need-moved-states-requires-2
-moved-states-requires-2 c κs = search needs
+mul-union-each-3 : tie.Need-mul-union-each-3
+mul-union-each-3 c = search needs
 
-begun-requires-2 : tie.Need-begun-requires-2
-begun-requires-2 c κs = search needs
+add-union-each-2 : tie.Need-add-union-each-2
+add-union-each-2 c = search needs
+
+mul-union-each-4 : tie.Need-mul-union-each-4
+mul-union-each-4 c = search needs
+
+add-union-each-3 : tie.Need-add-union-each-3
+add-union-each-3 c = search needs
+
+union-each-requires-2 : tie.Need-union-each-requires-2
+union-each-requires-2 c κs = search needs
+
+join-each-requires : tie.Need-join-each-requires
+join-each-requires c κs = search needs
 
 returns-2 : tie.Need-returns-2
 returns-2 c =
-    let a = c .before .before .before .before .before .before .args in
-    let f = c .before .before .before .before .before .lose in
-    let v = c .before .before .before .before .moved-states in
-    let e = c .before .before .before .begun in
-    let w = c .before .moved-states2 in
-    let g = c .begun2 in
-    made-now (now (a .t)) (now (a .rows)) (a .k) (a .n) (a .b) (a .m) (a .q) (f .result) (v .result) (e .result) (w .result) (g .result)
-    (c .before .before .if1 .left)
-    (other-is (now (a .t)) (now (a .rows)) (a .k) (a .n) (a .b) (a .m) (a .q) (f .result) (v .result) (e .result) (f .ensures) (v .ensures)
-    (e .ensures))
-    (w .ensures) (g .ensures)
+    let a = c .before .before .before .before .before .before .before .args in
+    let f = c .before .before .before .before .before .before .lose in
+    let v = c .before .before .before .before .before .moved-each in
+    let other = c .before .before .before .before .union-each in
+    let w = c .before .before .moved-each2 in
+    let own = c .before .union-each2 in
+    fresh-first (now (a .t)) (rowsIn (now (a .rows))) (a .k) (a .n) (a .b) (a .m) (f .result) (v .result) (other .result)
+    (f .ensures ∙ lost-name (a .m) (a .n)) (v .ensures) (other .ensures) (w .result) (own .result) (c .join-each .result)
+    (c .before .before .before .if1 .left) (w .ensures) (own .ensures) (c .join-each .ensures)
 
 pub fresh-ends-spec : {M : Type 1} → statement M
 fresh-ends-spec =
@@ -93,10 +98,17 @@ fresh-ends-spec =
     (tie.spec
     add-lose
     lose-requires
-    moved-states-requires
-    begun-requires
+    moved-each-requires
+    mul-union-each
+    mul-union-each-2
+    add-union-each
+    union-each-requires
     returns
-    add-begun
-    moved-states-requires-2
-    begun-requires-2
+    moved-each-requires-2
+    mul-union-each-3
+    add-union-each-2
+    mul-union-each-4
+    add-union-each-3
+    union-each-requires-2
+    join-each-requires
     returns-2)

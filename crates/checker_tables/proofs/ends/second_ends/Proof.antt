@@ -1,39 +1,115 @@
-use native.Mathlib.Omega.{arith}
-use mathlib.Core.Path.{sym, ap, _∙_, ap₂}
-use Prim.Native.Nat.{ℕ, _/_, _%_}
-use borrow.Author.Needs.{needs}
 use denote.Ref.{now}
-use lib.Bits.{bitOr}
-use mathlib.Core.Bool.{true}
-use Rattle.checker_account.specs.Tables.{begun}
-use Rattle.checker_account.proofs.CodeLaws.{after-lt, after-false}
-use Rattle.checker_tables.proofs.MeaningLaws.{lost-created}
+use Rattle.checker_tables.proofs.ByStateLaws.{second-first, second-later}
+use borrow.Author.Needs.{needs}
 use Rattle.checker_tables.proofs.ends.second_ends.Statement.{statement}
 use Rattle.checker_tables.proofs.ends.second_ends.Tie as tie
 use Rattle.checker_tables.proofs.ends.second_ends.Reads as reads
 use Rattle.checker_tables.proofs.ends.second_ends.Lts as lts
-use Rattle.checker_tables.proofs.ends.begun.Reads as begun-reads
-use Rattle.checker_tables.proofs.lose.Reads as lose-reads
+use Rattle.checker_tables.proofs.sets.entries.Reads as entries-reads
+use Rattle.checker_tables.proofs.sets.join_each.Reads as join-each-reads
+use Rattle.checker_tables.proofs.sets.union_each.Reads as union-each-reads
+use Rattle.checker_tables.proofs.sets.upper_each.Reads as upper-each-reads
 
-lose-requires : tie.Need-lose-requires
-lose-requires c κs = search needs
+mul-entries : tie.Need-mul-entries
+mul-entries c = search needs
 
-begun-requires : tie.Need-begun-requires
-begun-requires c κs = search needs
+mul-entries-2 : tie.Need-mul-entries-2
+mul-entries-2 c = search needs
 
-begun-requires-2 : tie.Need-begun-requires-2
-begun-requires-2 c κs =
-    let m = c .before .before .args .m in
-    let p = c .before .before .pre in
-    (p .0, omega (arith, c .before .lose .ensures, lost-created m, after-lt m true (p .1)))
+add-entries : tie.Need-add-entries
+add-entries c = search needs
+
+entries-requires : tie.Need-entries-requires
+entries-requires c κs = search needs
+
+upper-each-requires : tie.Need-upper-each-requires
+upper-each-requires c κs = search needs
+
+mul-union-each : tie.Need-mul-union-each
+mul-union-each c = search needs
+
+mul-union-each-2 : tie.Need-mul-union-each-2
+mul-union-each-2 c = search needs
+
+add-union-each : tie.Need-add-union-each
+add-union-each c = search needs
+
+union-each-requires : tie.Need-union-each-requires
+union-each-requires c κs = search needs
+
+mul-union-each-3 : tie.Need-mul-union-each-3
+mul-union-each-3 c = search needs
+
+mul-union-each-4 : tie.Need-mul-union-each-4
+mul-union-each-4 c = search needs
+
+add-union-each-2 : tie.Need-add-union-each-2
+add-union-each-2 c = search needs
+
+union-each-requires-2 : tie.Need-union-each-requires-2
+union-each-requires-2 c κs = search needs
+
+join-each-requires : tie.Need-join-each-requires
+join-each-requires c κs = search needs
 
 returns : tie.Need-returns
 returns c =
-    let a = c .before .before .before .args in
-    let t = now (a .t) in
-    ap₂ (λ (x y : ℕ). bitOr x y)
-    (c .before .begun .ensures ∙ ap (λ (m : ℕ). begun t (a .b) m (a .v % 256)) (sym (after-false (a .m))))
-    (c .begun2 .ensures ∙ ap (λ (m : ℕ). begun t (a .b) m (a .v / 256)) (c .before .before .lose .ensures ∙ lost-created (a .m)))
+    let a = c .before .before .before .before .before .before .args in
+    let v = c .before .before .before .before .before .entries in
+    let high = c .before .before .before .before .upper-each in
+    let same = c .before .before .union-each in
+    let made = c .before .union-each2 in
+    second-first (now (a .t)) (a .a) (a .b) (a .m) (v .result) (high .result) (c .join-each .result) (v .ensures) (high .ensures)
+    (same .result)
+    (made .result) (c .before .before .before .if1 .taken) (same .ensures) (made .ensures) (c .join-each .ensures)
+
+join-each-requires-2 : tie.Need-join-each-requires-2
+join-each-requires-2 c κs = search needs
+
+mul-union-each-5 : tie.Need-mul-union-each-5
+mul-union-each-5 c = search needs
+
+mul-union-each-6 : tie.Need-mul-union-each-6
+mul-union-each-6 c = search needs
+
+add-union-each-3 : tie.Need-add-union-each-3
+add-union-each-3 c = search needs
+
+union-each-requires-3 : tie.Need-union-each-requires-3
+union-each-requires-3 c κs = search needs
+
+returns-2 : tie.Need-returns-2
+returns-2 c =
+    let a = c .before .before .before .before .before .args in
+    let v = c .before .before .before .before .entries in
+    let high = c .before .before .before .upper-each in
+    let both = c .before .join-each2 in
+    second-later (now (a .t)) (a .a) (a .b) (a .m) (v .result) (high .result) (c .union-each3 .result) (v .ensures) (high .ensures)
+    (both .result)
+    (c .before .before .if1 .left) (both .ensures) (c .union-each3 .ensures)
 
 pub second-ends-spec : {M : Type 1} → statement M
-second-ends-spec = tie.close (tie.spec lose-requires begun-requires begun-requires-2 returns)
+second-ends-spec =
+    tie.close
+    (tie.spec
+    mul-entries
+    mul-entries-2
+    add-entries
+    entries-requires
+    upper-each-requires
+    mul-union-each
+    mul-union-each-2
+    add-union-each
+    union-each-requires
+    mul-union-each-3
+    mul-union-each-4
+    add-union-each-2
+    union-each-requires-2
+    join-each-requires
+    returns
+    join-each-requires-2
+    mul-union-each-5
+    mul-union-each-6
+    add-union-each-3
+    union-each-requires-3
+    returns-2)

@@ -37,7 +37,8 @@ returns c =
     let e = c .before .before .before .before .rows in
     c .store .ensures
     ∙ ap (λ (own : List ℕ). rowsStored (a .k) (a .p) own (e .last .1 .1 .1 .1 .0) (now (a .rows))) (e .ensures .0)
-    ∙ ap (λ (other : List ℕ). rowsStored (a .k) (a .p) (rowsOf (edgesOf (now (a .edges))) (a .action) (a .resource) true) other (now (a .rows)))
+    ∙ ap (λ (other : List ℕ). rowsStored (a .k) (a .p) (rowsOf (edgesOf (now (a .edges))) (a .action) (a .resource) true) other
+    (now (a .rows)))
     (e .ensures .1)
 
 pub event-rows-spec : {M : Type 1} → statement M

@@ -55,7 +55,8 @@ of-node-requires c κs =
     let l = c .before .before .before .loop in
     let h = c .before .before .loop-test .taken in
     let few : length (a .nodes .now) / nodeFields ≤ mostNodes = c .before .before .before .before .if2 .left in
-    let len = filled-length (rowsOf (edgesOf (a .edges .now))) (a .p) (formsIn (a .nodes .now)) (replicate places 0) refl (l .k) (omega arith) in
+    let len = filled-length (rowsOf (edgesOf (a .edges .now))) (a .p) (formsIn (a .nodes .now)) (replicate places 0) refl (l .k)
+    (omega arith) in
     (ap length (l .inv .1) ∙ len, (omega arith, c .before .before .before .before .before .if1 .left))
 
 add-k : tie.Need-add-k Inv-loop μ-loop

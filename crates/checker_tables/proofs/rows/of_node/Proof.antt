@@ -44,7 +44,8 @@ returns-4 c =
     let a = c .before .before .before .before .args in
     let n = c .match .rest in
     sym
-    (no-rows (rowsOf (edgesOf (now (a .edges)))) (a .p) (a .k) (now (a .rows)) (a .f .kind) (a .f .a) (a .f .b) (n .0 .0 .1) (n .0 .1) (n .1))
+    (no-rows (rowsOf (edgesOf (now (a .edges)))) (a .p) (a .k) (now (a .rows)) (a .f .kind) (a .f .a) (a .f .b) (n .0 .0 .1) (n .0 .1)
+    (n .1))
 
 pub of-node-spec : {M : Type 1} → statement M
 of-node-spec =

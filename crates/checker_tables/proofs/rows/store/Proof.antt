@@ -57,8 +57,11 @@ element-copy-out-rows-2 c = search needs
 
 cast-rows-2 : tie.Need-cast-rows-2 Inv-loop μ-loop
 cast-rows-2 c =
-    omega
-    (arith, c .before .before .before .before .pre .1 .1 .1 .0 (c .before .before .before .before .args .p * states + c .before .before .before .loop .q))
+    omega (
+      arith,
+      c .before .before .before .before .pre .1 .1 .1 .0
+          (c .before .before .before .before .args .p * states + c .before .before .before .loop .q),
+    )
 
 mul-rows-5 : tie.Need-mul-rows-5 Inv-loop μ-loop
 mul-rows-5 c = search needs

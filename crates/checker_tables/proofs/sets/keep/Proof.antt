@@ -1,9 +1,9 @@
 use borrow.Author.Needs.{needs}
 use Rattle.checker_account.proofs.CodeLaws.{kept-none, kept-some}
-use Rattle.checker_tables.proofs.ends.keep.Statement.{statement}
-use Rattle.checker_tables.proofs.ends.keep.Tie as tie
-use Rattle.checker_tables.proofs.ends.keep.Reads as reads
-use Rattle.checker_tables.proofs.ends.keep.Lts as lts
+use Rattle.checker_tables.proofs.sets.keep.Statement.{statement}
+use Rattle.checker_tables.proofs.sets.keep.Tie as tie
+use Rattle.checker_tables.proofs.sets.keep.Reads as reads
+use Rattle.checker_tables.proofs.sets.keep.Lts as lts
 
 mul-result : tie.Need-mul-result
 mul-result c = search needs

@@ -1,0 +1,97 @@
+// Which nodes are left to settle, as bits of a number, and which are to be settled again once the ends of a node have changed: those whose
+// rules read them.
+ghost use mathlib.Core.Path.{_≡_};
+ghost use Prim.Native.Nat.{ℕ, suc, _-_, _/_, _^_, _<_, _≤_};
+ghost use lib.ListN.{length, replicate};
+ghost use Rattle.usage.specs.Limits.{mostNodes, nodeFields};
+ghost use Rattle.usage.specs.Outline.{formOf};
+ghost use Rattle.checker_account.specs.Tables.{joinedAt};
+ghost use Rattle.checker_account.specs.Rounds.{formsIn};
+ghost use Rattle.checker_tables.specs.Search.{Small, NodesFit};
+ghost use Rattle.checker_tables.specs.Work.{noted, readersOf};
+use usage::MOST_NODES;
+use usage::NODE_FIELDS;
+use usage::Node;
+
+// Of each node, the nodes that read it.
+pub(crate) type Masks = [u64; MOST_NODES];
+
+// Node k joined to the set of node j.
+fn note(masks: &mut Masks, j: usize, k: usize)
+    requires { ⌜ length (now masks) ≡ mostNodes ⌝ }
+    requires { ⌜ j < mostNodes ⌝ }
+    requires { ⌜ k < mostNodes ⌝ }
+    ensures { λ r. ⌜ now (masks .exit) ≡ joinedAt (now (masks .entry)) j (2 ^ k) ⌝ }
+{
+    let old = masks[j];
+    masks[j] = old | (1u64 << (k as u32));
+}
+
+// The same of two nodes.
+fn note_both(masks: &mut Masks, a: usize, b: usize, k: usize)
+    requires { ⌜ length (now masks) ≡ mostNodes ⌝ }
+    requires { ⌜ a < mostNodes ⌝ }
+    requires { ⌜ b < mostNodes ⌝ }
+    requires { ⌜ k < mostNodes ⌝ }
+    ensures { λ r. ⌜ now (masks .exit) ≡ joinedAt (joinedAt (now (masks .entry)) a (2 ^ k)) b (2 ^ k) ⌝ }
+{
+    note(masks, a, k);
+    note(masks, b, k);
+}
+
+// The same of the nodes that the rule of node k reads.
+fn note_parts(masks: &mut Masks, k: usize, f: Node)
+    requires { ⌜ length (now masks) ≡ mostNodes ⌝ }
+    requires { ⌜ Small f ⌝ }
+    requires { ⌜ k < mostNodes ⌝ }
+    ensures { λ r. ⌜ now (masks .exit) ≡ noted k (formOf f) (now (masks .entry)) ⌝ }
+{
+    let a = f.a as usize;
+    let b = f.b as usize;
+    let kind = f.kind;
+    match kind {
+        3 => note_both(masks, a, b, k),
+        4 => note_both(masks, a, b, k),
+        5 => note(masks, a, k),
+        6 => note(masks, a, k),
+        7 => note(masks, b, k),
+        8 => note(masks, b, k),
+        _ => {}
+    }
+}
+
+// Which nodes read which; the sets are empty at first.
+pub(crate) fn readers(nodes: &[u8], masks: &mut Masks)
+    requires { ⌜ NodesFit (now nodes) ⌝ }
+    requires { ⌜ now masks ≡ replicate mostNodes 0 ⌝ }
+    ensures { λ r. ⌜ now (masks .exit) ≡ readersOf (length (now (nodes .entry)) / nodeFields) (formsIn (now (nodes .entry))) ⌝ }
+{
+    let n = nodes.len() / NODE_FIELDS;
+    let mut k: usize = 0;
+    while k < n {
+        let f = crate::node(nodes, k);
+        note_parts(masks, k, f);
+        k += 1;
+    }
+}
+
+// All of n nodes.
+pub(crate) fn all(n: usize) -> u64
+    requires { ⌜ n ≤ mostNodes ⌝ }
+    ensures { λ r. ⌜ r ≡ 2 ^ n - 1 ⌝ }
+{
+    if n == MOST_NODES {
+        18446744073709551615
+    } else {
+        (1u64 << (n as u32)) - 1
+    }
+}
+
+// The highest node of a set that is not empty.
+pub(crate) fn highest(s: u64) -> usize
+    requires { ⌜ 0 < s ⌝ }
+    ensures { λ r. ⌜ 2 ^ r ≤ s ⌝ }
+    ensures { λ r. ⌜ s < 2 ^ suc r ⌝ }
+{
+    63 - u64::leading_zeros(s) as usize
+}
