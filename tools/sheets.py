@@ -28,7 +28,7 @@ END, STATIC, NAMED, THEN, EITHER, LOOP, BACK, FRESH, SANDBOX = range(9)
 ON_STATIC, ON_X, ON_OTHERS = range(3)
 
 # the numbers of a malformed line, by what is wrong with it, in the order in which they are looked for
-NO_FEED = OTHER_BYTE = OVERLONG = FORM = 2
+NO_FEED, OTHER_BYTE, OVERLONG, FORM = 13, 11, 12, 2
 
 
 class Refused(Exception):
@@ -159,7 +159,7 @@ def out_of_range(kind, line, values):
 
 
 def read_values(kind, text, names):
-    """Refusals 4, 2 and 3, line by line. The rows of values."""
+    """Refusals 4, 13, 11, 12, 2 and 3, line by line. The rows of values."""
     lines = text.split("\n")
     last = lines.pop()
     rows = []

@@ -128,7 +128,8 @@ few (e ∷ es) f h l =
     let k : Holds (added f e) es (flatOf (added f e) es) = few es (added f e) (omega arith) (added-length f e ∙ l) in
     rw (add-few f e (omega arith)) (record {
       count = omega (arith, k .count);
-      bytes = k .bytes ∙ ap (λ (t : List ℕ). t ++ flat es) (added-table f e (omega arith) l) ∙ append-assoc (flatHeld f) (fields e) (flat es);
+      bytes = k .bytes ∙ ap (λ (t : List ℕ). t ++ flat es) (added-table f e (omega arith) l)
+          ∙ append-assoc (flatHeld f) (fields e) (flat es);
     })
 
 add-counts : (f : Flat) (e : Edge) (n : ℕ) → mostEdges < f .count + suc n → mostEdges < addOf f e .count + n

@@ -10,16 +10,18 @@ use borrow.Author.Tests.{leb-true, leb-false, lt-ltb, le-ltb}
 use Rattle.usage.specs.declared.Edge.{Edge}
 use Rattle.usage.specs.declared.RawStep.{RawStep}
 use Rattle.usage.specs.Limits.{mostEdges}
-use Rattle.usage.specs.Answers.{Verdict}
+use Rattle.usage.specs.Answers.{Verdict, refused}
 use Rattle.usage.specs.Tests.{edgesOk}
 use Rattle.checker.specs.Promise.{RightVerdict, CheckPromise}
+use Rattle.checker.specs.declared.counterexample.Explanation.{Explanation}
+use Rattle.checker.specs.Explained.{Explained}
 use Rattle.checker.proofs.PromiseLaws.{edges-refused, right-promised}
 use Rattle.monitor_state.specs.declared.State.{State}
 use Rattle.monitor_state.specs.Judge.{refuse, judgeOf}
 use Rattle.api_records.specs.Flat.{flat}
 use Rattle.api_records.proofs.FlatLaws.{table-flat, too-many, loop-few, few-flat, loop-many}
 use Rattle.api_records.specs.Records.{judgeRecords}
-use Rattle.api_records.specs.Code.{zeros, flatOf, judgeFlat, RightFlat}
+use Rattle.api_records.specs.Code.{zeros, flatOf, judgeFlat, RightFlat, ExplainedFlat}
 
 -- ── The judge ──
 
@@ -63,3 +65,25 @@ right-records es ns v h = go (leb (length es) mostEdges) refl h
 
 pub checked-records : (es : List Edge) (ns : List ℕ) (v : Verdict) → RightFlat (flatOf zeros es) ns v → CheckPromise (flat es) ns v
 checked-records es ns v h = right-promised (flat es) ns v (right-records es ns v h)
+
+-- and with a counterexample
+pub explained-records : (es : List Edge) (ns t : List ℕ) {r : Explanation} {t′ : List ℕ} → ExplainedFlat (flatOf zeros es) ns t r t′
+    → Explained (flat es) ns t r t′
+explained-records es ns t h = go (leb (length es) mostEdges) refl h
+  where
+    go : (b : Bool) → leb (length es) mostEdges ≡ b → {r : Explanation} {t′ : List ℕ} → ExplainedFlat (flatOf zeros es) ns t r t′
+        → Explained (flat es) ns t r t′
+    go true q (ExplainedFlat.no-room l) = Explained.too-small l
+    go true q (ExplainedFlat.too-many-edges l m) =
+        let k : length es ≤ mostEdges = leb-true (length es) mostEdges q in
+        absurd (omega (arith, few-flat es (loop-few es k) .0))
+    go true q (ExplainedFlat.few-edges {r} {t′} l c) =
+        subst (λ (e : List ℕ). Explained e ns t r t′) (few-flat es (loop-few es (leb-true (length es) mostEdges q)) .1) c
+    go false q (ExplainedFlat.no-room l) = Explained.too-small l
+    go false q (ExplainedFlat.too-many-edges l m) =
+        Explained.refused-with l
+        (right-promised (flat es) ns (refused 41)
+        (edges-refused (flat es) ns (table-flat es ∙ too-many es (leb-false (length es) mostEdges q))))
+    go false q (ExplainedFlat.few-edges l c) =
+        let k : mostEdges < length es = leb-false (length es) mostEdges q in
+        absurd (omega (arith, loop-many es k))

@@ -3,12 +3,16 @@ use Prim.Native.Nat.{ℕ, _+_, _*_, _<_, _≤_}
 use mathlib.Core.Bool.{cond}
 use mathlib.Core.List.{List, [], _∷_}
 use lib.Dec.{leb, ltb}
-use lib.ListN.{set, take, replicate}
+use lib.ListN.{length, set, take, replicate}
 use Rattle.usage.specs.declared.Edge.{Edge}
 use Rattle.usage.specs.declared.RawStep.{RawStep}
 use Rattle.usage.specs.Limits.{mostEdges, edgeFields, edgePlaces}
 use Rattle.usage.specs.Answers.{Verdict, refused}
 use Rattle.checker.specs.Promise.{RightVerdict}
+use Rattle.checker.specs.declared.counterexample.Explanation.{Explanation}
+use Rattle.checker.specs.declared.counterexample.Explanation.the-variants as explanation
+use Rattle.checker.specs.Explained.{Explained}
+use Rattle.checker_trace.specs.Answer.{mostNumbers}
 use Rattle.monitor_state.specs.declared.State.{State}
 use Rattle.monitor_state.specs.declared.Judgement.{Judgement}
 use Rattle.monitor_state.specs.Judge.{refuse, judgeOf}
@@ -51,3 +55,9 @@ judgeFlat f s raw = cond (ltb mostEdges (f .count)) (refuse 41 s) (judgeOf (flat
 pub data RightFlat (f : Flat) (nodes : List ℕ) : Verdict → Type 0 where
   too-many : mostEdges < f .count → RightFlat f nodes (refused 41)
   few : {v : Verdict} → f .count ≤ mostEdges → RightVerdict (flatHeld f) nodes v → RightFlat f nodes v
+
+-- the same with a counterexample: t and t′ are the lent trace table before and after; 40 comes before 41
+pub data ExplainedFlat (f : Flat) (nodes t : List ℕ) : Explanation → List ℕ → Type 0 where
+  no-room : length t < mostNumbers → ExplainedFlat f nodes t (explanation.Refused 40) t
+  too-many-edges : mostNumbers ≤ length t → mostEdges < f .count → ExplainedFlat f nodes t (explanation.Refused 41) t
+  few-edges : {r : Explanation} {t′ : List ℕ} → f .count ≤ mostEdges → Explained (flatHeld f) nodes t r t′ → ExplainedFlat f nodes t r t′

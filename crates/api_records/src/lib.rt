@@ -2,6 +2,8 @@
 // each record is copied into a flat table, six bytes to an edge, and what is proved over the flat table answers.
 use crate::flat::Flat;
 use checker::Outcome;
+use checker::counterexample::Explanation;
+use checker_trace::MOST_NUMBERS;
 use monitor_state::Answer;
 use monitor_state::Judgement;
 use monitor_state::State;
@@ -11,9 +13,10 @@ use usage::MOST_EDGES;
 use usage::RawStep;
 ghost use mathlib.Core.Path.{_≡_};
 ghost use Rattle.checker.specs.Promise.{outcomeVerdict, CheckPromise};
+ghost use Rattle.checker.specs.Explained.{Explained};
 ghost use Rattle.api_records.specs.Flat.{flat};
 ghost use Rattle.api_records.specs.Records.{judgeRecords, KeepsRecords};
-ghost use Rattle.api_records.specs.Code.{judgeFlat, RightFlat};
+ghost use Rattle.api_records.specs.Code.{judgeFlat, RightFlat, ExplainedFlat};
 
 mod flat;
 
@@ -59,4 +62,32 @@ pub fn check_records(edges: &[Edge], nodes: &[u8]) -> Outcome
 {
     let f = crate::flat::flatten(edges);
     check_flat(f, nodes)
+}
+
+// The check with a counterexample over the flat table.
+fn explain_flat(f: Flat, nodes: &[u8], trace: &mut [u32]) -> Explanation
+    ensures { λ r. ⌜ ExplainedFlat f (now (nodes .entry)) (now (trace .entry)) r (now (trace .exit)) ⌝ }
+{
+    if trace.len() < MOST_NUMBERS {
+        return Explanation::Refused(40);
+    }
+    let records = f.count;
+    if MOST_EDGES < records {
+        return Explanation::Refused(41);
+    }
+    let n = EDGE_FIELDS * records;
+    let bytes = f.bytes;
+    checker::counterexample::check_with_counterexample(&bytes[0..n], nodes, trace)
+}
+
+// The check of an outline with room for the steps of a counterexample, lent the edges as a slice of records.
+pub fn check_records_with_counterexample(
+    edges: &[Edge],
+    nodes: &[u8],
+    trace: &mut [u32],
+) -> Explanation
+    ensures { λ r. ⌜ Explained (flat (now (edges .entry))) (now (nodes .entry)) (now (trace .entry)) r (now (trace .exit)) ⌝ }
+{
+    let f = crate::flat::flatten(edges);
+    explain_flat(f, nodes, trace)
 }

@@ -67,11 +67,13 @@ module _ (t : List ℕ) (most : ℕ) (e : Entry) where
 
   pub held-less : (at : ℕ) → inTable e ≡ true → at ≡ linear e → getD t at 0 < most → getD t at 0 ≡ held t most e
   unfolding below
-  held-less at h f l = sym (held-in h ∙ ap (λ (i : ℕ). below most (getD t i 0)) (sym f) ∙ ap (λ (b : Bool). cond b (getD t at 0) noLength) (lt-ltb (getD t at 0) most l))
+  held-less at h f l = sym (held-in h ∙ ap (λ (i : ℕ). below most (getD t i 0)) (sym f)
+      ∙ ap (λ (b : Bool). cond b (getD t at 0) noLength) (lt-ltb (getD t at 0) most l))
 
   pub held-more : (at : ℕ) → inTable e ≡ true → at ≡ linear e → most ≤ getD t at 0 → noLength ≡ held t most e
   unfolding below
-  held-more at h f l = sym (held-in h ∙ ap (λ (i : ℕ). below most (getD t i 0)) (sym f) ∙ ap (λ (b : Bool). cond b (getD t at 0) noLength) (le-ltb (getD t at 0) most l))
+  held-more at h f l = sym (held-in h ∙ ap (λ (i : ℕ). below most (getD t i 0)) (sym f)
+      ∙ ap (λ (b : Bool). cond b (getD t at 0) noLength) (le-ltb (getD t at 0) most l))
 
   -- a length that is held stands in the table
   pub held-is : (n : ℕ) → held t most e ≡ n → n < noLength → (inTable e ≡ true) × (getD t (linear e) 0 ≡ n) × (n < most)
@@ -120,7 +122,8 @@ odd-lt false = omega arith
 odd-lt true = omega arith
 
 -- every start has its turn
-pub start-turn : (l k : ℕ) (o : Bool) (m q : ℕ) → l ≤ m → m < 6 → q < 8 → (i : ℕ) × (i < 2 * (48 - 8 * l)) × (startAt l k i ≡ entryOf k o m q 0)
+pub start-turn : (l k : ℕ) (o : Bool) (m q : ℕ) → l ≤ m → m < 6 → q < 8 → (i : ℕ) × (i < 2 * (48 - 8 * l))
+    × (startAt l k i ≡ entryOf k o m q 0)
 start-turn l k o m q low high small =
     let n = 8 * (m - l) + q in
     let i = 2 * n + odd o in

@@ -15,9 +15,36 @@ use Rattle.automaton.specs.Mask.{has, offends}
 use Rattle.checker_lengths.specs.declared.Entry.{Entry}
 use Rattle.checker_lengths.specs.declared.Watch.{Watch}
 use Rattle.checker_lengths.specs.Entries.{noLength, plus}
-use Rattle.checker_lengths.specs.Offers.{lowEnd, oneIf, atNode, firstEntry, secondEntry, bodyEntry, innerEntry, stateIn, around, born, endingOf, breaking, eventOf, stillOf, sequenceOf, freshOf, sandboxOf}
+use Rattle.checker_lengths.specs.Offers.{
+  lowEnd,
+  oneIf,
+  atNode,
+  firstEntry,
+  secondEntry,
+  bodyEntry,
+  innerEntry,
+  stateIn,
+  around,
+  born,
+  endingOf,
+  breaking,
+  eventOf,
+  stillOf,
+  sequenceOf,
+  freshOf,
+  sandboxOf,
+}
 use Rattle.checker_lengths.proofs.EntryLaws.{plus-is}
-use Rattle.checker_lengths.proofs.OfferLaws.{sequence-not, sequence-first, sequence-both, fresh-breaks, fresh-dead, fresh-on, sandbox-on, sandbox-breaks}
+use Rattle.checker_lengths.proofs.OfferLaws.{
+  sequence-not,
+  sequence-first,
+  sequence-both,
+  fresh-breaks,
+  fresh-dead,
+  fresh-on,
+  sandbox-on,
+  sandbox-breaks,
+}
 
 one-is : (b : Bool) (n : ℕ) → oneIf b ≡ n → n ≤ 200 → (b ≡ true) × (n ≡ 1)
 one-is true n h l = (refl, sym h)
@@ -52,39 +79,56 @@ module _ (e : Entry) (n : ℕ) (few : n ≤ 200) where
   unfolding breaking
   breaking-inv v h =
       let (b, z) = one-is (eqb (e .aim) 16 && (e .opened && offends (half false v))) n h few in
-      let u = and-right (eqb (e .aim) 16) (e .opened && offends (half false v)) b in
-      (z, eqb-true (e .aim) 16 (and-left (eqb (e .aim) 16) (e .opened && offends (half false v)) b), and-left (e .opened) (offends (half false v)) u, and-right (e .opened) (offends (half false v)) u)
+      let u = and-right (eqb (e .aim) 16) (e .opened && offends (half false v)) b in (
+        z,
+        eqb-true (e .aim) 16 (and-left (eqb (e .aim) 16) (e .opened && offends (half false v)) b),
+        and-left (e .opened) (offends (half false v)) u,
+        and-right (e .opened) (offends (half false v)) u,
+      )
 
   pub sequence-inv : (look : Entry → ℕ) (a b r : ℕ) → sequenceOf look e a b r ≡ n
       → ((r < 16) × (look (firstEntry e a r) + look (secondEntry e b r) ≡ n)) ⊎ ((e .aim ≡ 16) × (look (atNode e a) ≡ n))
   sequence-inv look a b r h = go (decLe 16 r) (ℕ-discrete (e .aim) 16)
     where
-      go : Dec (16 ≤ r) → Dec (e .aim ≡ 16) → ((r < 16) × (look (firstEntry e a r) + look (secondEntry e b r) ≡ n)) ⊎ ((e .aim ≡ 16) × (look (atNode e a) ≡ n))
+      go : Dec (16 ≤ r) → Dec (e .aim ≡ 16) → ((r < 16) × (look (firstEntry e a r) + look (secondEntry e b r) ≡ n))
+          ⊎ ((e .aim ≡ 16) × (look (atNode e a) ≡ n))
       go (yes l) (yes f) = inr (f, sequence-first look e a b r l f ∙ h)
       go (yes l) (no f) = let g = sequence-not look e a b r l f in absurd (omega arith)
-      go (no l) d = let k : r < 16 = omega arith in inl (k, plus-is (look (firstEntry e a r)) (look (secondEntry e b r)) n (sequence-both look e a b r k ∙ h) few)
+      go (no l) d = let k : r < 16 = omega arith in
+          inl (k, plus-is (look (firstEntry e a r)) (look (secondEntry e b r)) n (sequence-both look e a b r k ∙ h) few)
 
   pub fresh-inv : (rows : List ℕ) (look : Entry → ℕ) (m b r : ℕ) → freshOf rows look e m b r ≡ n
-      → ((r < 16) × (has (born rows e (leb 8 r)) (r % 8) ≡ true) × (1 + look (bodyEntry e m b r) ≡ n)) ⊎ ((16 ≤ r) × (breaking (born rows e (leb 17 r)) e ≡ n))
+      → ((r < 16) × (has (born rows e (leb 8 r)) (r % 8) ≡ true) × (1 + look (bodyEntry e m b r) ≡ n))
+      ⊎ ((16 ≤ r) × (breaking (born rows e (leb 17 r)) e ≡ n))
   fresh-inv rows look m b r h = go (decLe 16 r) (has (born rows e (leb 8 r)) (r % 8)) refl
     where
       go : Dec (16 ≤ r) → (d : Bool) → has (born rows e (leb 8 r)) (r % 8) ≡ d
-          → ((r < 16) × (has (born rows e (leb 8 r)) (r % 8) ≡ true) × (1 + look (bodyEntry e m b r) ≡ n)) ⊎ ((16 ≤ r) × (breaking (born rows e (leb 17 r)) e ≡ n))
+          → ((r < 16) × (has (born rows e (leb 8 r)) (r % 8) ≡ true) × (1 + look (bodyEntry e m b r) ≡ n))
+          ⊎ ((16 ≤ r) × (breaking (born rows e (leb 17 r)) e ≡ n))
       go (yes l) d f = inr (l, fresh-breaks rows look e m b r l ∙ h)
-      go (no l) true f = let k : r < 16 = omega arith in inl (k, f, plus-is 1 (look (bodyEntry e m b r)) n (fresh-on rows look e m b r k f ∙ h) few)
+      go (no l) true f = let k : r < 16 = omega arith in
+          inl (k, f, plus-is 1 (look (bodyEntry e m b r)) n (fresh-on rows look e m b r k f ∙ h) few)
       go (no l) false f = let g = fresh-dead rows look e m b r (omega arith) f in absurd (omega arith)
 
   pub sandbox-inv : (w : Watch) (look : Entry → ℕ) (s b r : ℕ) → sandboxOf w look e s b r ≡ n
-      → ((r ≡ 0) × (around e + look (innerEntry w e s b) ≡ n)) ⊎ ((r ≡ 0 → ⊥) × (n ≡ 1) × (e .aim ≡ 16) × (s ≡ w .policy) × (6 ≤ stateIn w e s))
+      → ((r ≡ 0) × (around e + look (innerEntry w e s b) ≡ n))
+      ⊎ ((r ≡ 0 → ⊥) × (n ≡ 1) × (e .aim ≡ 16) × (s ≡ w .policy) × (6 ≤ stateIn w e s))
   sandbox-inv w look s b r h = go (ℕ-discrete r 0)
     where
-      go : Dec (r ≡ 0) → ((r ≡ 0) × (around e + look (innerEntry w e s b) ≡ n)) ⊎ ((r ≡ 0 → ⊥) × (n ≡ 1) × (e .aim ≡ 16) × (s ≡ w .policy) × (6 ≤ stateIn w e s))
+      go : Dec (r ≡ 0) → ((r ≡ 0) × (around e + look (innerEntry w e s b) ≡ n))
+          ⊎ ((r ≡ 0 → ⊥) × (n ≡ 1) × (e .aim ≡ 16) × (s ≡ w .policy) × (6 ≤ stateIn w e s))
       go (yes f) = inl (f, plus-is (around e) (look (innerEntry w e s b)) n (sandbox-on w look e s b r f ∙ h) few)
       go (no f) =
           let t = eqb (e .aim) 16 && (eqb s (w .policy) && leb 6 (stateIn w e s)) in
           let (g, z) = one-is t n (sandbox-breaks w look e s b r t f refl ∙ h) few in
           let u = and-right (eqb (e .aim) 16) (eqb s (w .policy) && leb 6 (stateIn w e s)) g in
-          inr (f, z, eqb-true (e .aim) 16 (and-left (eqb (e .aim) 16) (eqb s (w .policy) && leb 6 (stateIn w e s)) g), eqb-true s (w .policy) (and-left (eqb s (w .policy)) (leb 6 (stateIn w e s)) u), leb-true 6 (stateIn w e s) (and-right (eqb s (w .policy)) (leb 6 (stateIn w e s)) u))
+          inr (
+            f,
+            z,
+            eqb-true (e .aim) 16 (and-left (eqb (e .aim) 16) (eqb s (w .policy) && leb 6 (stateIn w e s)) g),
+            eqb-true s (w .policy) (and-left (eqb s (w .policy)) (leb 6 (stateIn w e s)) u),
+            leb-true 6 (stateIn w e s) (and-right (eqb s (w .policy)) (leb 6 (stateIn w e s)) u),
+          )
 
   pub event-inv : (v r : ℕ) → eventOf v e r ≡ n → (endingOf v e ≡ n) ⊎ (breaking v e ≡ n)
   unfolding eventOf

@@ -57,7 +57,8 @@ aim-one t t′ (at-end {c = c} {q = q}) (at-end {c = c′} {q = q′}) h e =
     let l′ = aim-state c′ q′ (subst (λ (n : ℕ). n < 17) e h) in
     same-at c c′ q q′ l l′ (sym (aim-ended c q l) ∙ e ∙ aim-ended c′ q′ l′)
 aim-one t t′ (at-end {c} {q}) at-break h e = let l = aim-state c q h in absurd (omega (arith, at-lt c q l, aim-ended c q l))
-aim-one t t′ at-break (at-end {c} {q}) h e = let l = aim-state c q (subst (λ (n : ℕ). n < 17) e h) in absurd (omega (arith, at-lt c q l, aim-ended c q l))
+aim-one t t′ at-break (at-end {c} {q}) h e = let l = aim-state c q (subst (λ (n : ℕ). n < 17) e h) in
+    absurd (omega (arith, at-lt c q l, aim-ended c q l))
 aim-one t t′ at-break at-break h e = refl
 
 -- ── Starts ──

@@ -19,7 +19,24 @@ use Rattle.checker_tables.proofs.MeaningLaws.{lost-name}
 use Rattle.checker_lengths.specs.declared.Entry.{Entry}
 use Rattle.checker_lengths.specs.declared.Watch.{Watch}
 use Rattle.checker_lengths.specs.Entries.{noLength, entryOf, held, plus}
-use Rattle.checker_lengths.specs.Offers.{lowEnd, oneIf, toward, moved, born, endingOf, breaking, stillOf, heir, named, sequenceOf, freshOf, sandboxOf, secondEntry, bodyEntry, innerEntry}
+use Rattle.checker_lengths.specs.Offers.{
+  lowEnd,
+  oneIf,
+  toward,
+  moved,
+  born,
+  endingOf,
+  breaking,
+  stillOf,
+  heir,
+  named,
+  sequenceOf,
+  freshOf,
+  sandboxOf,
+  secondEntry,
+  bodyEntry,
+  innerEntry,
+}
 use Rattle.checker_lengths.proofs.EntryLaws.{plus-none}
 
 -- ── Sets of states ──
@@ -101,7 +118,8 @@ second-is e b c m h = ap (λ (i : ℕ). entryOf b (e .opened) i (c % 8) (e .aim)
 pub body-is : (e : Entry) (n b c m : ℕ) → m ≡ named (e .meaning) n c → entryOf b (e .opened) m (c % 8) (e .aim) ≡ bodyEntry e n b c
 body-is e n b c m h = ap (λ (i : ℕ). entryOf b (e .opened) i (c % 8) (e .aim)) h
 
-pub inner-is : (w : Watch) (e : Entry) (s b q : ℕ) (o : Bool) → o ≡ (e .opened || eqb s (w .policy)) → q ≡ reopened (w .local) (w .policy) s (e .opened) (e .state)
+pub inner-is : (w : Watch) (e : Entry) (s b q : ℕ) (o : Bool) → o ≡ (e .opened || eqb s (w .policy))
+    → q ≡ reopened (w .local) (w .policy) s (e .opened) (e .state)
     → entryOf b o (e .meaning) q (e .aim) ≡ innerEntry w e s b
 inner-is w e s b q o f g = rw (f, g)
 
@@ -116,12 +134,14 @@ module _ (look : Entry → ℕ) (e : Entry) (a b c : ℕ) where
   unfolding sequenceOf
   sequence-first l d = rw (le-leb 16 c l, eq-eqb (e .aim) 16 d)
 
-  pub sequence-both : c < 16 → plus (look (entryOf a (e .opened) (e .meaning) (e .state) c)) (look (secondEntry e b c)) ≡ sequenceOf look e a b c
+  pub sequence-both : c < 16 → plus (look (entryOf a (e .opened) (e .meaning) (e .state) c))
+      (look (secondEntry e b c)) ≡ sequenceOf look e a b c
   unfolding sequenceOf
   sequence-both l = rw (lt-leb 16 c l)
 
   pub sequence-dead : c < 16 → 200 < look (entryOf a (e .opened) (e .meaning) (e .state) c) → noLength ≡ sequenceOf look e a b c
-  sequence-dead l d = plus-none (look (entryOf a (e .opened) (e .meaning) (e .state) c)) (look (secondEntry e b c)) (omega arith) ∙ sequence-both l
+  sequence-dead l d = plus-none (look (entryOf a (e .opened) (e .meaning) (e .state) c)) (look (secondEntry e b c)) (omega arith)
+      ∙ sequence-both l
 
 module _ (rows : List ℕ) (look : Entry → ℕ) (e : Entry) (n b c : ℕ) where
   pub fresh-breaks : 16 ≤ c → breaking (born rows e (leb 17 c)) e ≡ freshOf rows look e n b c
@@ -141,15 +161,19 @@ module _ (w : Watch) (look : Entry → ℕ) (e : Entry) (s b c : ℕ) where
   unfolding sandboxOf
   sandbox-on h = rw (eq-eqb c 0 h)
 
-  pub sandbox-breaks : (r : Bool) → (c ≡ 0 → ⊥) → (eqb (e .aim) 16 && (eqb s (w .policy) && leb 6 (reopened (w .local) (w .policy) s (e .opened) (e .state)))) ≡ r
+  pub sandbox-breaks : (r : Bool) → (c ≡ 0 → ⊥) → (eqb (e .aim) 16 &&
+      (eqb s (w .policy) && leb 6 (reopened (w .local) (w .policy) s (e .opened) (e .state)))) ≡ r
       → oneIf r ≡ sandboxOf w look e s b c
   unfolding sandboxOf
   sandbox-breaks r h g = rw (ne-eqb c 0 h, g)
 
-  module _ (q : ℕ) (h : c ≡ 0 → ⊥) (aim : e .aim ≡ 16) (own : s ≡ w .policy) (g : q ≡ reopened (w .local) (w .policy) s (e .opened) (e .state)) where
-    hits : (r : Bool) → leb 6 q ≡ r → (eqb (e .aim) 16 && (eqb s (w .policy) && leb 6 (reopened (w .local) (w .policy) s (e .opened) (e .state)))) ≡ r
+  module _ (q : ℕ) (h : c ≡ 0 → ⊥) (aim : e .aim ≡ 16) (own : s ≡ w .policy)
+      (g : q ≡ reopened (w .local) (w .policy) s (e .opened) (e .state)) where
+    hits : (r : Bool) → leb 6 q ≡ r → (eqb (e .aim) 16 &&
+        (eqb s (w .policy) && leb 6 (reopened (w .local) (w .policy) s (e .opened) (e .state)))) ≡ r
     hits r l =
-        ap (λ (b : Bool). b && (eqb s (w .policy) && leb 6 (reopened (w .local) (w .policy) s (e .opened) (e .state)))) (eq-eqb (e .aim) 16 aim)
+        ap (λ (b : Bool). b && (eqb s (w .policy) && leb 6 (reopened (w .local) (w .policy) s (e .opened) (e .state))))
+        (eq-eqb (e .aim) 16 aim)
         ∙ ap (λ (b : Bool). b && leb 6 (reopened (w .local) (w .policy) s (e .opened) (e .state))) (eq-eqb s (w .policy) own)
         ∙ ap (leb 6) (sym g) ∙ l
 

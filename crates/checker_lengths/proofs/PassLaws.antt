@@ -36,7 +36,8 @@ less-or-same : {R : List ℕ → List ℕ → Type 0} {C : List ℕ → Type 0} 
 less-or-same {t = t} {u = u} true p = let l = p .lower refl in omega arith
 less-or-same {t = t} {u = u} false p = let e : total u ≡ total t = ap total (p .kept refl) in omega arith
 
-pub pass-then : {R : List ℕ → List ℕ → Type 0} {C D F : List ℕ → Type 0} {t u v : List ℕ} {r s z : Bool} → (R t u → R u v → R t v) → (C t → D t → F t)
+pub pass-then : {R : List ℕ → List ℕ → Type 0} {C D F : List ℕ → Type 0} {t u v : List ℕ} {r s z : Bool} → (R t u → R u v → R t v)
+    → (C t → D t → F t)
     → Pass R C t u r → Pass R D u v s → Either r s z → Pass R F t v z
 pass-then {t = t} {u = u} {v = v} {r = r} {z = z} trans join p q (inl (e, f)) = record {
   same-size = q .same-size ∙ p .same-size;
@@ -56,8 +57,15 @@ pass-then {D = D} {t = t} {u = u} {v = v} {r = r} {z = z} trans join p q (inr (e
 pub pass-none : {R : List ℕ → List ℕ → Type 0} {C : List ℕ → Type 0} {t : List ℕ} → R t t → C t → Pass R C t t false
 pass-none r h = record { same-size = refl; changes = r; kept = λ e. refl; settled = λ e. h; lower = λ e. false-true e }
 
-pub pass-map : {R Q : List ℕ → List ℕ → Type 0} {C D : List ℕ → Type 0} {t u : List ℕ} {r : Bool} → (R t u → Q t u) → (C t → D t) → Pass R C t u r → Pass Q D t u r
-pass-map f g p = record { same-size = p .same-size; changes = f (p .changes); kept = p .kept; settled = λ e. g (p .settled e); lower = p .lower }
+pub pass-map : {R Q : List ℕ → List ℕ → Type 0} {C D : List ℕ → Type 0} {t u : List ℕ} {r : Bool} → (R t u → Q t u) → (C t → D t)
+    → Pass R C t u r → Pass Q D t u r
+pass-map f g p = record {
+  same-size = p .same-size;
+  changes = f (p .changes);
+  kept = p .kept;
+  settled = λ e. g (p .settled e);
+  lower = p .lower;
+}
 
 -- ── A single entry ──
 
@@ -65,9 +73,11 @@ module _ (w : Watch) (rows : List ℕ) (f : Option Form) (e : Entry) (c : ℕ) (
     (offered : v ≡ offerFrom w rows (held t allLengths) e c f) where
   pub pass-kept : getD t at 0 ≤ v → Pass (Lowers w rows (e .node) f) (λ u. Settled w rows f u e c) t t false
   pass-kept l =
-      pass-none (λ nodes h g r. r) (λ _. subst (λ (i : ℕ). getD t i 0 ≤ offerFrom w rows (held t allLengths) e c f) place (subst (λ (n : ℕ). getD t at 0 ≤ n) offered l))
+      pass-none (λ nodes h g r. r) (λ _. subst (λ (i : ℕ). getD t i 0 ≤ offerFrom w rows (held t allLengths) e c f) place
+      (subst (λ (n : ℕ). getD t at 0 ≤ n) offered l))
 
-  pub pass-falls : at < length t → inTable e ≡ true → v < getD t at 0 → Pass (Lowers w rows (e .node) f) (λ u. Settled w rows f u e c) t (set t at v) true
+  pub pass-falls : at < length t → inTable e ≡ true → v < getD t at 0
+      → Pass (Lowers w rows (e .node) f) (λ u. Settled w rows f u e c) t (set t at v) true
   pass-falls small inside l = record {
     same-size = length-set t at v;
     changes = λ nodes h g r. subst (λ (i : ℕ). Reach w rows nodes (set t i v)) (sym place)

@@ -78,7 +78,8 @@ innerEntry w e s b = entryOf b (e .opened || eqb s (w .policy)) (e .meaning) (st
 
 unfoldable pub sequenceOf : (Entry → ℕ) → Entry → ℕ → ℕ → ℕ → ℕ
 sequenceOf look e a b c =
-    cond (leb atBreak c) (cond (eqb (e .aim) atBreak) (look (atNode e a)) noLength) (plus (look (firstEntry e a c)) (look (secondEntry e b c)))
+    cond (leb atBreak c) (cond (eqb (e .aim) atBreak) (look (atNode e a)) noLength)
+    (plus (look (firstEntry e a c)) (look (secondEntry e b c)))
 
 -- the rule of a fresh node by which the creation of the watched resource breaks the policy; that before it is of another's creation
 abbrev pub ownBreak : ℕ

@@ -26,7 +26,8 @@ pub data Reach (w : Watch) (rows nodes : List ℕ) : List ℕ → Type 0 where
 
 -- rule c gives no length that is less than what stands there
 abbrev pub Settled : Watch → List ℕ → Option Form → List ℕ → Entry → ℕ → Type 0
-Settled w rows f t e c = offerFrom w rows (held t allLengths) e c f ≤ mostShown → getD t (linear e) 0 ≤ offerFrom w rows (held t allLengths) e c f
+Settled w rows f t e c = offerFrom w rows (held t allLengths) e c f ≤ mostShown
+    → getD t (linear e) 0 ≤ offerFrom w rows (held t allLengths) e c f
 
 -- for no aim of a start (an end is one only if it keeps it that the watched resource was created); no rule does; and so on
 abbrev pub RuleSettled : Watch → List ℕ → Option Form → List ℕ → Entry → ℕ → Type 0

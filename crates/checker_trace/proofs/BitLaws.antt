@@ -49,7 +49,8 @@ pow-test = refl
 pow-has : (k j : ℕ) → k < 64 → j < 64 → has (2 ^ k) j ≡ eqb k j
 pow-has k j l m =
     same-test (has (2 ^ k) j) (eqb k j)
-    (all-below-at 64 (λ j. Bool·beq (has (2 ^ k) j) (eqb k j)) (all-below-at 64 (λ k. all-below 64 (λ j. Bool·beq (has (2 ^ k) j) (eqb k j))) pow-test k l) j m)
+    (all-below-at 64 (λ j. Bool·beq (has (2 ^ k) j) (eqb k j))
+    (all-below-at 64 (λ k. all-below 64 (λ j. Bool·beq (has (2 ^ k) j) (eqb k j))) pow-test k l) j m)
 
 pub bit-at : (k : ℕ) → k < 64 → has (bitOf k) k ≡ true
 bit-at k l = ap (λ (s : ℕ). has s k) (bit-in k l) ∙ pow-has k k l l ∙ eq-eqb k k refl
@@ -97,7 +98,8 @@ module _ (t nodes : List ℕ) (e : Entry) where
   pub spread-has : (n s j : ℕ) → has s j ≡ true → has (spreadTo t nodes e n s) j ≡ true
   unfolding spreadTo
   spread-has zero s j h = h
-  spread-has (suc n) s j h = join-has (has (spreadTo t nodes e n s) n) (spreadTo t nodes e n s) (leadsFrom t e (formHere nodes n)) j (spread-has n s j h)
+  spread-has (suc n) s j h = join-has (has (spreadTo t nodes e n s) n) (spreadTo t nodes e n s) (leadsFrom t e (formHere nodes n)) j
+      (spread-has n s j h)
 
   -- where nothing is added, nothing was added on the way
   spread-same : (n s : ℕ) → spreadTo t nodes e (suc n) s ≡ s → spreadTo t nodes e n s ≡ s
@@ -105,18 +107,21 @@ module _ (t nodes : List ℕ) (e : Entry) where
   spread-same n s h =
       omega (arith, spread-ge n s, join-ge (has (spreadTo t nodes e n s) n) (spreadTo t nodes e n s) (leadsFrom t e (formHere nodes n)), h)
 
-  pub spread-still : (n s : ℕ) → spreadTo t nodes e n s ≡ s → (k : ℕ) → k < n → has s k ≡ true → (j : ℕ) → has (leadsFrom t e (formHere nodes k)) j ≡ true → has s j ≡ true
+  pub spread-still : (n s : ℕ) → spreadTo t nodes e n s ≡ s → (k : ℕ) → k < n → has s k ≡ true → (j : ℕ)
+      → has (leadsFrom t e (formHere nodes k)) j ≡ true → has s j ≡ true
   unfolding spreadTo
   spread-still zero s h k l a j b = absurd (omega arith)
   spread-still (suc n) s h k l a j b =
       let g = spread-same n s h in
       by-cases (last-or-lower k n l)
       (λ f. join-still (has s n) s (leadsFrom t e (formHere nodes n)) j (subst (λ (i : ℕ). has s i ≡ true) f a)
-      (subst (λ (u : ℕ). joinIf (has u n) u (leadsFrom t e (formHere nodes n)) ≡ s) g h) (subst (λ (i : ℕ). has (leadsFrom t e (formHere nodes i)) j ≡ true) f b))
+      (subst (λ (u : ℕ). joinIf (has u n) u (leadsFrom t e (formHere nodes n)) ≡ s) g h)
+      (subst (λ (i : ℕ). has (leadsFrom t e (formHere nodes i)) j ≡ true) f b))
       (λ m. spread-still n s g k m a j b)
 
   module _ (P : ℕ → Type 0) where
-    spread-all : (n s : ℕ) → n ≤ 64 → ((j : ℕ) → j < 64 → has s j ≡ true → P j) → ((k : ℕ) → k < n → P k → (j : ℕ) → j < 64 → has (leadsFrom t e (formHere nodes k)) j ≡ true → P j)
+    spread-all : (n s : ℕ) → n ≤ 64 → ((j : ℕ) → j < 64 → has s j ≡ true → P j)
+        → ((k : ℕ) → k < n → P k → (j : ℕ) → j < 64 → has (leadsFrom t e (formHere nodes k)) j ≡ true → P j)
         → (j : ℕ) → j < 64 → has (spreadTo t nodes e n s) j ≡ true → P j
     unfolding spreadTo
     spread-all zero s few h f j l a = h j l a
@@ -128,7 +133,8 @@ module _ (t nodes : List ℕ) (e : Entry) where
 
     -- what holds of the entry's node, and of all that a node leads to that it holds of, holds of the closure
     pub spreads-all : {s : ℕ} → Spreads t nodes e s → length nodes / 3 ≤ 64 → P (e .node)
-        → ((k : ℕ) → k < length nodes / 3 → P k → (j : ℕ) → j < 64 → has (leadsFrom t e (formHere nodes k)) j ≡ true → P j) → (j : ℕ) → j < 64 → has s j ≡ true → P j
+        → ((k : ℕ) → k < length nodes / 3 → P k → (j : ℕ) → j < 64 → has (leadsFrom t e (formHere nodes k)) j ≡ true → P j) → (j : ℕ)
+        → j < 64 → has s j ≡ true → P j
     spreads-all begins few h f j l a = subst P (bit-is (e .node) j l a) h
     spreads-all (further {s = s} d) few h f j l a = spread-all (length nodes / 3) s few (λ i m b. spreads-all d few h f i m b) f j l a
 
@@ -137,7 +143,8 @@ module _ (t nodes : List ℕ) (e : Entry) where
   spreads-node (further {s = s} d) l = spread-has (length nodes / 3) s (e .node) (spreads-node d l)
 
 -- a node of another kind leads nowhere
-pub no-leads : (t : List ℕ) (e : Entry) (k a b : ℕ) → (k ≡ 3 → ⊥) → (k ≡ 4 → ⊥) → (k ≡ 5 → ⊥) → (k ≡ 6 → ⊥) → 0 ≡ leadsFrom t e (formOf (record { kind = k; a = a; b = b }))
+pub no-leads : (t : List ℕ) (e : Entry) (k a b : ℕ) → (k ≡ 3 → ⊥) → (k ≡ 4 → ⊥) → (k ≡ 5 → ⊥) → (k ≡ 6 → ⊥)
+    → 0 ≡ leadsFrom t e (formOf (record { kind = k; a = a; b = b }))
 unfolding formOf leadsOf
 no-leads t e zero a b h₃ h₄ h₅ h₆ = refl
 no-leads t e (suc zero) a b h₃ h₄ h₅ h₆ = refl

@@ -34,7 +34,8 @@ module _ (f : Node) where
 
 -- a node of another kind gives no step from entries of fewer steps
 module _ (w : Watch) (rows nodes t : List ℕ) (e : Entry) (n r : ℕ) (few : n ≤ 200) (one : 1 ≤ n) (a b : ℕ) where
-  pub chosen-other : (k : ℕ) → (k ≡ 1 → ⊥) → (k ≡ 2 → ⊥) → (k ≡ 3 → ⊥) → (k ≡ 7 → ⊥) → (k ≡ 8 → ⊥) → Chosen w rows nodes t e n (formOf (record { kind = k; a = a; b = b })) r → ⊥
+  pub chosen-other : (k : ℕ) → (k ≡ 1 → ⊥) → (k ≡ 2 → ⊥) → (k ≡ 3 → ⊥) → (k ≡ 7 → ⊥) → (k ≡ 8 → ⊥)
+      → Chosen w rows nodes t e n (formOf (record { kind = k; a = a; b = b })) r → ⊥
   unfolding formOf
   chosen-other zero h₁ h₂ h₃ h₇ h₈ ch = let z = chosen-end w rows nodes t e n r few ch in omega arith
   chosen-other (suc zero) h₁ h₂ h₃ h₇ h₈ ch = h₁ refl

@@ -36,7 +36,19 @@ use Rattle.checker_lengths.proofs.Numbers.{aim-end}
 use Rattle.checker_lengths.proofs.RuleLaws.{Reads, offered, small-node}
 use Rattle.checker_lengths.proofs.RuledLaws.{break-is}
 use Rattle.checker_lengths.proofs.FullLaws.{form-here, here-form}
-use Rattle.checker_trace.specs.Code.{idleIn, endIn, bitOf, bitIf, sequenceLeads, leadsOf, leadsFrom, spreadTo, Spreads, Closure, OntoIs}
+use Rattle.checker_trace.specs.Code.{
+  idleIn,
+  endIn,
+  bitOf,
+  bitIf,
+  sequenceLeads,
+  leadsOf,
+  leadsFrom,
+  spreadTo,
+  Spreads,
+  Closure,
+  OntoIs,
+}
 use Rattle.checker_trace.specs.declared.Onto.the-variants.{Nothing}
 use Rattle.checker_trace.proofs.BitLaws.{bit-at, bit-is, spread-still, spreads-all, spreads-node}
 
@@ -54,7 +66,8 @@ bit-if-is true k j l h = (refl, bit-is k j l h)
 bit-if-is false k j l h = has-none j h
 
 module _ (local : Bool) (es : List Edge) (nodes : List ℕ) (p x : ℕ) (rows t : List ℕ) (src : Source es (nodesOf nodes) p x rows)
-    (least : Least local es (nodesOf nodes) p x mostShown (entriesIn t allLengths)) (o : Bool) (k m : ℕ) (c : Bool) (q : ℕ) (aim : Aim) (b : Begun x m c q) (a : Aimed aim) where
+    (least : Least local es (nodesOf nodes) p x mostShown (entriesIn t allLengths)) (o : Bool) (k m : ℕ) (c : Bool) (q : ℕ) (aim : Aim)
+    (b : Begun x m c q) (a : Aimed aim) where
   abbrev here : Entry
   here = entryOf k o (meaningOf m c) q (aimAt aim)
 
@@ -70,14 +83,17 @@ module _ (local : Bool) (es : List Edge) (nodes : List ℕ) (p x : ℕ) (rows t 
   unfolding idleIn
   idle-at j h =
       let e = held-cut t 1 allLengths (endIn here j) 0 (eqb-true (held t 1 (endIn here j)) 0 h) (omega arith) (omega arith) in
-      idle-exact local es (nodesOf nodes) p x (Scope (nodesOf nodes)) (src .edges) (scoped (nodesOf nodes) (src .outline)) mostShown (entriesIn t allLengths) least {o = o} b .0
+      idle-exact local es (nodesOf nodes) p x (Scope (nodesOf nodes)) (src .edges) (scoped (nodesOf nodes) (src .outline)) mostShown
+      (entriesIn t allLengths) least {o = o} b .0
       (sym (ap (held t allLengths) (same-end j)) ∙ e, omega arith)
 
   pub at-idle : (j : ℕ) → Idle (nodesOf nodes) j → idleIn t here j ≡ true
   unfolding idleIn
   at-idle j d =
-      let e = idle-exact local es (nodesOf nodes) p x (Scope (nodesOf nodes)) (src .edges) (scoped (nodesOf nodes) (src .outline)) mostShown (entriesIn t allLengths) least {o = o} b .1 d in
-      eq-eqb (held t 1 (endIn here j)) 0 (held-cut t allLengths 1 (endIn here j) 0 (ap (held t allLengths) (same-end j) ∙ e .0) (omega arith) (omega arith))
+      let e = idle-exact local es (nodesOf nodes) p x (Scope (nodesOf nodes)) (src .edges) (scoped (nodesOf nodes) (src .outline)) mostShown
+      (entriesIn t allLengths) least {o = o} b .1 d in
+      eq-eqb (held t 1 (endIn here j)) 0 (held-cut t allLengths 1 (endIn here j) 0 (ap (held t allLengths) (same-end j) ∙ e .0)
+      (omega arith) (omega arith))
 
   -- ── One move ──
 
@@ -94,15 +110,18 @@ module _ (local : Bool) (es : List Edge) (nodes : List ℕ) (p x : ℕ) (rows t 
       go u at-end e = or-right (eqb (aimAt aim) 16) (idleIn t here j) (at-idle j (h (ap ending e)))
       go u at-break e = or-left (eqb (aimAt aim) 16) (idleIn t here j) (eq-eqb (aimAt aim) 16 (ap aimAt e))
 
-  pub leads-of : (i j : ℕ) (f : Form) → Is (nodesOf nodes) i f → j < 64 → has (leadsOf t here f) j ≡ true → Leads (nodesOf nodes) (ending aim) i j
+  pub leads-of : (i j : ℕ) (f : Form) → Is (nodesOf nodes) i f → j < 64 → has (leadsOf t here f) j ≡ true
+      → Leads (nodesOf nodes) (ending aim) i j
   unfolding leadsOf sequenceLeads
   leads-of i j end is l h = has-none j h
   leads-of i j (on-static d s) is l h = has-none j h
   leads-of i j (on-name d n) is l h = has-none j h
   leads-of i j (sequence d s) is l h =
       by-cases (has-either (bitIf (eqb (aimAt aim) 16 || idleIn t here s) d) (bitIf (idleIn t here d) s) j h)
-      (λ g. let (u, e) = bit-if-is (eqb (aimAt aim) 16 || idleIn t here s) d j l g in subst (λ (y : ℕ). Leads (nodesOf nodes) (ending aim) i y) e (Leads.first is (first-idle s u)))
-      (λ g. let (u, e) = bit-if-is (idleIn t here d) s j l g in subst (λ (y : ℕ). Leads (nodesOf nodes) (ending aim) i y) e (Leads.second is (idle-at d u)))
+      (λ g. let (u, e) = bit-if-is (eqb (aimAt aim) 16 || idleIn t here s) d j l g in
+      subst (λ (y : ℕ). Leads (nodesOf nodes) (ending aim) i y) e (Leads.first is (first-idle s u)))
+      (λ g. let (u, e) = bit-if-is (idleIn t here d) s j l g in
+      subst (λ (y : ℕ). Leads (nodesOf nodes) (ending aim) i y) e (Leads.second is (idle-at d u)))
   leads-of i j (choice d s) is l h =
       by-cases (has-either (bitOf d) (bitOf s) j h)
       (λ g. subst (λ (y : ℕ). Leads (nodesOf nodes) (ending aim) i y) (bit-is d j l g) (Leads.left is))
@@ -112,17 +131,23 @@ module _ (local : Bool) (es : List Edge) (nodes : List ℕ) (p x : ℕ) (rows t 
   leads-of i j (fresh n s) is l h = has-none j h
   leads-of i j (sandbox d s) is l h = has-none j h
 
-  from-form : (i j : ℕ) (f : Form) → Is (nodesOf nodes) i f → has (leadsOf t here f) j ≡ true → has (leadsFrom t here (formHere nodes i)) j ≡ true
-  from-form i j f is h = subst (λ (y : Option Form). has (leadsFrom t here y) j ≡ true) (sym (form-here local es nodes p x rows src i f is .1)) h
+  from-form : (i j : ℕ) (f : Form) → Is (nodesOf nodes) i f → has (leadsOf t here f) j ≡ true
+      → has (leadsFrom t here (formHere nodes i)) j ≡ true
+  from-form i j f is h = subst (λ (y : Option Form). has (leadsFrom t here y) j ≡ true)
+      (sym (form-here local es nodes p x rows src i f is .1)) h
 
   pub of-leads : (i j : ℕ) → Leads (nodesOf nodes) (ending aim) i j → has (leadsFrom t here (formHere nodes i)) j ≡ true
   unfolding leadsOf sequenceLeads
   of-leads i j (Leads.first {a = d} {b = s} is h) =
-      from-form i j (sequence d s) is (has-left (bitIf (eqb (aimAt aim) 16 || idleIn t here s) d) (bitIf (idleIn t here d) s) j (bit-if-at (eqb (aimAt aim) 16 || idleIn t here s) d (idle-first s h) (form-ok (src .outline) is .0)))
+      from-form i j (sequence d s) is (has-left (bitIf (eqb (aimAt aim) 16 || idleIn t here s) d) (bitIf (idleIn t here d) s) j
+      (bit-if-at (eqb (aimAt aim) 16 || idleIn t here s) d (idle-first s h) (form-ok (src .outline) is .0)))
   of-leads i j (Leads.second {a = d} {b = s} is h) =
-      from-form i j (sequence d s) is (has-right (bitIf (eqb (aimAt aim) 16 || idleIn t here s) d) (bitIf (idleIn t here d) s) j (bit-if-at (idleIn t here d) s (at-idle d h) (form-ok (src .outline) is .1)))
-  of-leads i j (Leads.left {a = d} {b = s} is) = from-form i j (choice d s) is (has-left (bitOf d) (bitOf s) j (bit-at d (form-ok (src .outline) is .0)))
-  of-leads i j (Leads.right {a = d} {b = s} is) = from-form i j (choice d s) is (has-right (bitOf d) (bitOf s) j (bit-at s (form-ok (src .outline) is .1)))
+      from-form i j (sequence d s) is (has-right (bitIf (eqb (aimAt aim) 16 || idleIn t here s) d) (bitIf (idleIn t here d) s) j
+      (bit-if-at (idleIn t here d) s (at-idle d h) (form-ok (src .outline) is .1)))
+  of-leads i j (Leads.left {a = d} {b = s} is) = from-form i j (choice d s) is
+      (has-left (bitOf d) (bitOf s) j (bit-at d (form-ok (src .outline) is .0)))
+  of-leads i j (Leads.right {a = d} {b = s} is) = from-form i j (choice d s) is
+      (has-right (bitOf d) (bitOf s) j (bit-at s (form-ok (src .outline) is .1)))
   of-leads i j (Leads.body {a = d} is) = from-form i j (loop d) is (bit-at d (form-ok (src .outline) is))
   of-leads i j (Leads.again {a = d} is) = from-form i j (back d) is (bit-at d (form-ok (src .outline) is))
 
@@ -136,13 +161,15 @@ module _ (local : Bool) (es : List Edge) (nodes : List ℕ) (p x : ℕ) (rows t 
       spreads-all t nodes here (PassesAll (nodesOf nodes) (ending aim) k) (h .spreads) few-nodes PassesAll.here
       (λ i u d j v w. passes-more d (go i j u v (formHere nodes i) refl w)) j l g
     where
-      go : (i j : ℕ) → i < length nodes / 3 → j < 64 → (f : Option Form) → formHere nodes i ≡ f → has (leadsFrom t here f) j ≡ true → Leads (nodesOf nodes) (ending aim) i j
+      go : (i j : ℕ) → i < length nodes / 3 → j < 64 → (f : Option Form) → formHere nodes i ≡ f → has (leadsFrom t here f) j ≡ true
+          → Leads (nodesOf nodes) (ending aim) i j
       go i j u v none e w = has-none j w
       go i j u v (some f) e w = leads-of i j f (here-form local es nodes p x rows src i f u e) v w
 
   pub passes-closure : (s : ℕ) → Closure t nodes here s → k < 64 → (j : ℕ) → PassesAll (nodesOf nodes) (ending aim) k j → has s j ≡ true
   passes-closure s h l j d =
-      passes-all (λ (i : ℕ). has s i ≡ true) (λ i y g u. spread-still t nodes here (length nodes / 3) s (h .still) i (leads-node u) g y (of-leads i y u)) (spreads-node t nodes here (h .spreads) l) d
+      passes-all (λ (i : ℕ). has s i ≡ true) (λ i y g u. spread-still t nodes here (length nodes / 3) s (h .still) i (leads-node u) g y
+      (of-leads i y u)) (spreads-node t nodes here (h .spreads) l) d
     where
       node-of : (i : ℕ) (f : Form) → Is (nodesOf nodes) i f → i < length nodes / 3
       node-of i f is = form-here local es nodes p x rows src i f is .0
@@ -169,12 +196,17 @@ module _ (local : Bool) (es : List Edge) (nodes : List ℕ) (p x : ℕ) (rows t 
       below-none i l = omega arith
 
   -- an entry of a step or more is not without a rule
-  pub never-nothing : (n : ℕ) → held t allLengths here ≡ n → n ≤ mostShown → 1 ≤ n → OntoIs (watchOf local p x) rows nodes t here n Nothing → ⊥
+  pub never-nothing : (n : ℕ) → held t allLengths here ≡ n → n ≤ mostShown → 1 ≤ n → OntoIs (watchOf local p x) rows nodes t here n Nothing
+      → ⊥
   never-nothing n h few one (s, closed, dead) =
-      let on = found local es (nodesOf nodes) p x (Scope (nodesOf nodes)) (src .edges) (scoped (nodesOf nodes) (src .outline)) mostShown (entriesIn t allLengths) least b a (h, few) one in
-      let f = offered local es (nodesOf nodes) p x rows src (held t n) (Less n (entriesIn t allLengths)) (reads-below n) b a (on .rule) few in
+      let on = found local es (nodesOf nodes) p x (Scope (nodesOf nodes)) (src .edges) (scoped (nodesOf nodes) (src .outline)) mostShown
+      (entriesIn t allLengths) least b a (h, few) one in
+      let f = offered local es (nodesOf nodes) p x rows src (held t n) (Less n (entriesIn t allLengths)) (reads-below n) b a
+      (on .rule) few in
       let j = on .node in
       let (l, e) = form-here local es nodes p x rows src j (f .form) (f .is) in
       let (inside, g, u) = held-is t allLengths here n h (omega arith) in
-      dead j l (passes-closure s closed (bounds here inside .node) j (on .passes)) (f .rule) (subst (λ (y : Option Form). f .rule < waysOf y) (sym e) (f .listed))
-      (subst (λ (y : Option Form). offerFrom (watchOf local p x) rows (held t n) (entryOf j o (meaningOf m c) q (aimAt aim)) (f .rule) y ≡ n) (sym e) (f .gives))
+      dead j l (passes-closure s closed (bounds here inside .node) j (on .passes)) (f .rule)
+      (subst (λ (y : Option Form). f .rule < waysOf y) (sym e) (f .listed))
+      (subst (λ (y : Option Form). offerFrom (watchOf local p x) rows (held t n) (entryOf j o (meaningOf m c) q (aimAt aim))
+      (f .rule) y ≡ n) (sym e) (f .gives))

@@ -14,10 +14,11 @@ use Rattle.usage.specs.declared.Edge.{Edge}
 use Rattle.usage.specs.Limits.{statics, mostShown}
 use Rattle.usage.specs.Policy.{Sees, Moves, along, stays, Offending, EdgesOk}
 use Rattle.usage.specs.Past.{Past, count, isOpen, May, start, moved, opened, closed}
-use Rattle.usage.specs.Outline.{noNames}
+use Rattle.usage.specs.Outline.{on-static, noNames}
 use Rattle.usage.specs.Valid.{Scope, OutlineOk}
 use Rattle.usage.specs.Tables.{edgesOf, nodesOf}
 use Rattle.usage.specs.Check.{Shown, longer}
+use Rattle.usage.proofs.Logic.{false-true}
 use Rattle.usage.proofs.TableLaws.{nodes-length}
 use Rattle.automaton.specs.Move.{rowsOf}
 use Rattle.checker_account.specs.Witness.{watched, noName, each, Last, Aim, broken, Hits}
@@ -35,7 +36,10 @@ use Rattle.checker_account.proofs.Reader.{written-shown}
 use Rattle.checker_account.proofs.RowLaws.{rows-ok}
 use Rattle.checker_account.proofs.RowTableLaws.{rows-from}
 use Rattle.checker_account.proofs.ScopedLaws.{scoped}
-use Rattle.checker_tables.specs.Search.{rowTable}
+use borrow.Author.Tests.{lt-ltb}
+use Rattle.checker_account.proofs.UntouchedLaws.{goes-watched}
+use Rattle.checker_tables.specs.Search.{rowTable, touched}
+use Rattle.checker_tables.proofs.TouchedLaws.{untouched, dynamic-touched}
 use Rattle.checker_tables.proofs.WholeLaws.{whole-in}
 use Rattle.checker_lengths.specs.declared.Entry.{Entry}
 use Rattle.checker_lengths.specs.declared.Watch.{Watch}
@@ -46,7 +50,7 @@ use Rattle.checker_lengths.proofs.FullLaws.{full-least}
 use Rattle.checker_trace.specs.declared.Shortest.{Shortest}
 use Rattle.checker_trace.specs.declared.Spot.{Spot}
 use Rattle.checker_trace.specs.declared.Names.{Names}
-use Rattle.checker_trace.specs.Code.{Spotted, Writes, rootOf, StepsIs, ShortestIs, Shows}
+use Rattle.checker_trace.specs.Code.{Spotted, Writes, rootOf, StepsIs, StepsIf, ShortestIs, Shows}
 use Rattle.checker_trace.proofs.StepLaws.{laid-none}
 
 -- the entry of the root, as the account tells it
@@ -63,7 +67,8 @@ root-is x = ap (λ (m : ℕ). entryOf 0 false m 0 16) (root-meaning x)
 
 -- ── From the flat tables ──
 
-module _ (e t : List ℕ) (edges : EdgesOk (edgesOf e)) (ok : OutlineOk (nodesOf t)) (p : ℕ) (policy : p < 8) (rows : List ℕ) (filled : rows ≡ rowTable (rowsOf (edgesOf e)) p t) where
+module _ (e t : List ℕ) (edges : EdgesOk (edgesOf e)) (ok : OutlineOk (nodesOf t)) (p : ℕ) (policy : p < 8) (rows : List ℕ)
+    (filled : rows ≡ rowTable (rowsOf (edgesOf e)) p t) where
   pub few-nodes : length t / 3 ≤ 64
   few-nodes = let l = ok .few in let n = nodes-length t in omega arith
 
@@ -71,12 +76,15 @@ module _ (e t : List ℕ) (edges : EdgesOk (edgesOf e)) (ok : OutlineOk (nodesOf
   source-of x l =
       let es = edgesOf e in
       let made = rows-from (rowsOf es) p (formsIn t) (replicate 3072 0) refl (nodesOf t) (length t / 3) few-nodes (forms-of t) in
-      let right = rows-ok es (nodesOf t) p x (rowsIn (fillRows (rowsOf es) p (length t / 3) (formsIn t) (replicate 3072 0))) _ l edges (event-image es edges p policy) made in
-      subst (λ (r : List ℕ). Source es (nodesOf t) p x r) (sym (filled ∙ whole-in (rowsOf es) p t policy few-nodes)) (record { edges = edges; outline = ok; small = l; moves = right })
+      let right = rows-ok es (nodesOf t) p x (rowsIn (fillRows (rowsOf es) p (length t / 3) (formsIn t) (replicate 3072 0))) _ l edges
+      (event-image es edges p policy) made in
+      subst (λ (r : List ℕ). Source es (nodesOf t) p x r) (sym (filled ∙ whole-in (rowsOf es) p t policy few-nodes))
+      (record { edges = edges; outline = ok; small = l; moves = right })
 
 module _ (local : Bool) (es : List Edge) (nodes : List ℕ) (p : ℕ) (rows : List ℕ) where
   -- a run of m steps that breaks the policy is not shorter than the least length
-  pub steps-least : (x : ℕ) → Source es (nodesOf nodes) p x rows → (v : ℕ) → StepsIs (watchOf local p x) rows nodes v → (m : ℕ) → Root local es (nodesOf nodes) p x m none → m ≤ mostShown → v ≤ m
+  pub steps-least : (x : ℕ) → Source es (nodesOf nodes) p x rows → (v : ℕ) → StepsIs (watchOf local p x) rows nodes v → (m : ℕ)
+      → Root local es (nodesOf nodes) p x m none → m ≤ mostShown → v ≤ m
   steps-least x src v (t, full, h) m d l =
       let f = full-least local es nodes p x rows src t full in
       let (i, k, g) = f .full (begun-root x) at-break d l in
@@ -84,26 +92,45 @@ module _ (local : Bool) (es : List Edge) (nodes : List ℕ) (p : ℕ) (rows : Li
       omega arith
 
   -- the least length is one
-  pub steps-goes : (x : ℕ) → Source es (nodesOf nodes) p x rows → (v : ℕ) → StepsIs (watchOf local p x) rows nodes v → v ≤ mostShown → Root local es (nodesOf nodes) p x v none
+  pub steps-goes : (x : ℕ) → Source es (nodesOf nodes) p x rows → (v : ℕ) → StepsIs (watchOf local p x) rows nodes v → v ≤ mostShown
+      → Root local es (nodesOf nodes) p x v none
   steps-goes x src v (t, full, h) l =
       let f = full-least local es nodes p x rows src t full in
       f .lengths .sound (begun-root x) at-break (sym (h ∙ ap (held t allLengths) (root-is x)), l)
 
   -- two full tables tell the same length
-  pub steps-one : (x : ℕ) → Source es (nodesOf nodes) p x rows → (v u : ℕ) → StepsIs (watchOf local p x) rows nodes v → StepsIs (watchOf local p x) rows nodes u → v ≤ mostShown → u ≡ v
+  pub steps-one : (x : ℕ) → Source es (nodesOf nodes) p x rows → (v u : ℕ) → StepsIs (watchOf local p x) rows nodes v
+      → StepsIs (watchOf local p x) rows nodes u → v ≤ mostShown → u ≡ v
   steps-one x src v u hv hu l =
       let a = steps-least x src u hu v (steps-goes x src v hv l) l in
       let b = steps-least x src v hv u (steps-goes x src u hu (omega arith)) (omega arith) in
       omega arith
 
-module _ (local : Bool) (es : List Edge) (nodes : List ℕ) (p : ℕ) (rows : List ℕ) (src : (x : ℕ) → x ≤ watched → Source es (nodesOf nodes) p x rows) (r : Shortest) (h : ShortestIs local p rows nodes r) where
+module _ (local : Bool) (es : List Edge) (nodes : List ℕ) (p : ℕ) (rows : List ℕ)
+    (src : (x : ℕ) → x ≤ watched → Source es (nodesOf nodes) p x rows) (r : Shortest) (h : ShortestIs local p rows nodes r) where
+  at-least : (y m : ℕ) (l : y ≤ watched) → touched nodes y ≡ true → Root local es (nodesOf nodes) p y m none → m ≤ mostShown → r .length ≤ m
+  at-least y m l w d few =
+      let (v, s, k) = h .least y l w in let g = steps-least local es nodes p rows y (src y l) v s m d few in omega arith
+
+  -- of a static that need not be watched, the dynamic resource tells
   none-shorter : (y m : ℕ) → y ≤ watched → Root local es (nodesOf nodes) p y m none → m ≤ mostShown → r .length ≤ m
-  none-shorter y m l d few = let (v, s, k) = h .least y l in let g = steps-least local es nodes p rows y (src y l) v s m d few in omega arith
+  none-shorter y m l d few = go (touched nodes y) refl
+    where
+      go : (b : Bool) → touched nodes y ≡ b → r .length ≤ m
+      go true e = at-least y m l e d few
+      go false e =
+          let u = untouched nodes y e in
+          let s = src y l in
+          at-least watched m (omega arith) (dynamic-touched nodes)
+          (goes-watched local es (nodesOf nodes) p y (Scope (nodesOf nodes)) (s .edges) (scoped (nodesOf nodes) (s .outline)) (u .static)
+          (λ k a i. let (b, f) = forms-of nodes .has k (on-static a y) i in u .no-event k a b f) d refl (lt-ltb y statics (u .static))) few
 
   pub shown-some : (x : ℕ) → x ≤ watched → (edges : EdgesOk es) (ok : OutlineOk (nodesOf nodes)) → r .length ≤ mostShown → (after : Past)
-      → Written local es (nodesOf nodes) p x (r .length) false 0 noNames noName (ltb x statics) 0 [] (broken none) after → Shown local es (nodesOf nodes) p (some after)
+      → Written local es (nodesOf nodes) p x (r .length) false 0 noNames noName (ltb x statics) 0 [] (broken none) after
+      → Shown local es (nodesOf nodes) p (some after)
   shown-some x small edges ok few after d =
-      written-shown local es (nodesOf nodes) (Scope (nodesOf nodes)) p edges (scoped (nodesOf nodes) ok) small d few (λ y m l g. go y m l g (decLe m mostShown))
+      written-shown local es (nodesOf nodes) (Scope (nodesOf nodes)) p edges (scoped (nodesOf nodes) ok) small d few
+      (λ y m l g. go y m l g (decLe m mostShown))
     where
       go : (y m : ℕ) → y ≤ watched → Root local es (nodesOf nodes) p y m none → Dec (m ≤ mostShown) → r .length ≤ m
       go y m l g (yes k) = none-shorter y m l g k
@@ -111,7 +138,8 @@ module _ (local : Bool) (es : List Edge) (nodes : List ℕ) (p : ℕ) (rows : Li
 
   pub shown-none : (edges : EdgesOk es) (ok : OutlineOk (nodesOf nodes)) → mostShown < r .length → Shown local es (nodesOf nodes) p none
   shown-none edges ok big =
-      all-longer local es (nodesOf nodes) (Scope (nodesOf nodes)) p edges (scoped (nodesOf nodes) ok) (λ y m by little k. go y m little (hits-exact local es (nodesOf nodes) p y m none .0 (by, each, k)) (decLe m mostShown))
+      all-longer local es (nodesOf nodes) (Scope (nodesOf nodes)) p edges (scoped (nodesOf nodes) ok)
+      (λ y m by little k. go y m little (hits-exact local es (nodesOf nodes) p y m none .0 (by, each, k)) (decLe m mostShown))
     where
       go : (y m : ℕ) → y ≤ watched → Root local es (nodesOf nodes) p y m none → Dec (m ≤ mostShown) → mostShown < m
       go y m l d (yes k) = let g = none-shorter y m l d k in absurd (omega arith)
@@ -144,19 +172,34 @@ module _ (local : Bool) (es : List Edge) (edges : EdgesOk es) (p : ℕ) (big : 8
 -- ── The watched resources in turn ──
 
 module _ (local : Bool) (p : ℕ) (rows nodes : List ℕ) where
-  -- the least of those below x
+  -- the least of those below x that are watched
   pub record Least-below (x resource length : ℕ) : Type 0 where
+    pub fits : length ≤ noLength
     pub told : length < noLength → (resource ≤ watched) × StepsIs (watchOf local p resource) rows nodes length
-    pub least : (y : ℕ) → y < x → (v : ℕ) × StepsIs (watchOf local p y) rows nodes v × (length ≤ v)
+    pub least : (y : ℕ) → y < x → touched nodes y ≡ true → (v : ℕ) × StepsIs (watchOf local p y) rows nodes v × (length ≤ v)
 
   abbrev no-more : ℕ → ℕ → Type 0
-  no-more length y = (v : ℕ) × StepsIs (watchOf local p y) rows nodes v × (length ≤ v)
+  no-more length y = touched nodes y ≡ true → (v : ℕ) × StepsIs (watchOf local p y) rows nodes v × (length ≤ v)
 
-  pub least-take : {x resource length : ℕ} → Least-below x resource length → x ≤ watched → (v : ℕ) → StepsIs (watchOf local p x) rows nodes v → v < length → Least-below (x + 1) x v
-  least-take {x} {resource} {length} h l v s k = record {
-    told = λ _. (l, s);
-    least = below-more (no-more v) x (λ y m. let (u, g, z) = h .least y m in (u, g, at-most z)) (v, s, le-refl v);
-  }
+  -- a length is told only where it is asked for
+  steps-asked : (b : Bool) (w : Watch) (v : ℕ) → StepsIf b w rows nodes v → b ≡ true → StepsIs w rows nodes v
+  steps-asked true w v s e = s
+  steps-asked false w v s e = false-true e
+
+  steps-told : (b : Bool) (w : Watch) (v : ℕ) → StepsIf b w rows nodes v → v < noLength → StepsIs w rows nodes v
+  steps-told true w v s l = s
+  steps-told false w v s l = absurd (omega arith)
+
+  pub least-take : {x resource length : ℕ} → Least-below x resource length → x ≤ watched → (v : ℕ)
+      → StepsIf (touched nodes x) (watchOf local p x) rows nodes v → v < length → Least-below (x + 1) x v
+  least-take {x} {resource} {length} h l v s k =
+      let f = h .fits in
+      record {
+        fits = omega arith;
+        told = λ _. (l, steps-told (touched nodes x) (watchOf local p x) v s (omega arith));
+        least = below-more (no-more v) x (λ y m w. let (u, g, z) = h .least y m w in (u, g, at-most z))
+            (λ w. (v, steps-asked (touched nodes x) (watchOf local p x) v s w, le-refl v));
+      }
     where
       at-most : {u : ℕ} → length ≤ u → v ≤ u
       at-most z = omega arith
@@ -164,8 +207,13 @@ module _ (local : Bool) (p : ℕ) (rows nodes : List ℕ) where
       le-refl : (v : ℕ) → v ≤ v
       le-refl v = omega arith
 
-  pub least-keep : {x resource length : ℕ} → Least-below x resource length → (v : ℕ) → StepsIs (watchOf local p x) rows nodes v → length ≤ v → Least-below (x + 1) resource length
-  least-keep {x} {resource} {length} h v s k = record { told = h .told; least = below-more (no-more length) x (h .least) (v, s, k) }
+  pub least-keep : {x resource length : ℕ} → Least-below x resource length → (v : ℕ)
+      → StepsIf (touched nodes x) (watchOf local p x) rows nodes v → length ≤ v → Least-below (x + 1) resource length
+  least-keep {x} {resource} {length} h v s k = record {
+    fits = h .fits;
+    told = h .told;
+    least = below-more (no-more length) x (h .least) (λ w. (v, steps-asked (touched nodes x) (watchOf local p x) v s w, k));
+  }
 
 -- ── The root ──
 
@@ -185,12 +233,14 @@ first-spot : Spotted [] at-first
 unfolding count
 first-spot = record { at = refl; next = refl }
 
-pub root-shows : (w : Watch) (rows nodes t : List ℕ) (n : ℕ) (trace : List ℕ) (r : Spot) (trace′ : List ℕ) → Full w rows nodes t → n ≤ mostShown → 600 ≤ length trace
+pub root-shows : (w : Watch) (rows nodes t : List ℕ) (n : ℕ) (trace : List ℕ) (r : Spot) (trace′ : List ℕ) → Full w rows nodes t
+    → n ≤ mostShown → 600 ≤ length trace
     → Writes w rows nodes t (rootOf (w .resource)) n none-given at-first trace r trace′ → Shows w rows nodes n trace trace′
 root-shows w rows nodes t n trace r trace′ full few room d es src steps =
     let x = w .resource in
     let least-is = full-least (w .local) es nodes (w .policy) x rows src t full in
-    let same : held t allLengths (rootOf x) ≡ n = steps-one (w .local) es nodes (w .policy) rows x src n (held t allLengths (rootOf x)) steps (t, full, refl) few in
+    let same : held t allLengths (rootOf x) ≡ n = steps-one (w .local) es nodes (w .policy) rows x src n
+    (held t allLengths (rootOf x)) steps (t, full, refl) few in
     let (after, run, spot, laid-is) = d es noName (ltb x statics) (broken none) noNames trace [] (record { source = src; least = least-is })
     (record { meaning = root-meaning x; number = refl; begun = begun-root x; aimed = at-break }) same
     (λ m s. absurd (scoped (nodesOf nodes) (src .outline) .root s)) (λ m v e. none-some e) first-spot (laid-none trace) (omega arith) in

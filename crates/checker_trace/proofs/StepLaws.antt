@@ -37,13 +37,15 @@ laid-none t = refl
 pub laid-length : (t : List ℕ) (past : Past) → 3 * length past ≤ length t → length (laid t past) ≡ length t
 unfolding laid
 laid-length t past h =
-    length-append (numbers past) (drop (3 * length past) t) ∙ let l = numbers-length past in let k = length-drop (3 * length past) t in omega arith
+    length-append (numbers past) (drop (3 * length past) t)
+    ∙ let l = numbers-length past in let k = length-drop (3 * length past) t in omega arith
 
 laid-front : (t : List ℕ) (past : Past) → take (3 * length past) (laid t past) ≡ numbers past
 unfolding laid
 laid-front t past = take-at (numbers past) (drop (3 * length past) t) (3 * length past) (numbers-length past)
 
-laid-rest : (t : List ℕ) (past : Past) (vs : List ℕ) → length vs ≡ 3 → drop (3 * length past + length vs) (laid t past) ≡ drop (3 * length past + 3) t
+laid-rest : (t : List ℕ) (past : Past) (vs : List ℕ) → length vs ≡ 3
+    → drop (3 * length past + length vs) (laid t past) ≡ drop (3 * length past + 3) t
 unfolding laid
 laid-rest t past vs e =
     ap (λ (i : ℕ). drop (3 * length past + i) (numbers past ++ drop (3 * length past) t)) e
@@ -52,7 +54,8 @@ laid-rest t past vs e =
 
 laid-step : (t : List ℕ) (past : Past) (s : Step) → (numbers past ++ three s) ++ drop (3 * length past + 3) t ≡ laid t (s ∷ past)
 unfolding laid numbers
-laid-step t past s = let e : 3 * length past + 3 ≡ 3 * suc (length past) = omega arith in ap (λ (i : ℕ). (numbers past ++ three s) ++ drop i t) e
+laid-step t past s = let e : 3 * length past + 3 ≡ 3 * suc (length past) = omega arith in
+    ap (λ (i : ℕ). (numbers past ++ three s) ++ drop i t) e
 
 -- three numbers stored after those of a past are those of one step more
 laid-set : (t : List ℕ) (past : Past) (vs : List ℕ) → length vs ≡ 3 → 3 * (length past + 1) ≤ length t
@@ -64,7 +67,8 @@ laid-set t past vs e h =
     ∙ ap (λ (u : List ℕ). u ++ vs ++ drop (3 * length past + length vs) (laid t past)) (laid-front t past)
     ∙ ap (λ (u : List ℕ). numbers past ++ vs ++ u) (laid-rest t past vs e)
 
-pub laid-more : (t : List ℕ) (past : Past) (s : Step) (kind a b i : ℕ) (trace : List ℕ) → three s ≡ kind ∷ a ∷ b ∷ [] → i ≡ length past → trace ≡ laid t past → 3 * (length past + 1) ≤ length t
+pub laid-more : (t : List ℕ) (past : Past) (s : Step) (kind a b i : ℕ) (trace : List ℕ) → three s ≡ kind ∷ a ∷ b ∷ [] → i ≡ length past
+    → trace ≡ laid t past → 3 * (length past + 1) ≤ length t
     → storedStep trace i kind a b ≡ laid t (s ∷ past)
 laid-more t past s kind a b i trace e f g h =
     let one : 3 * length past + 1 ≡ suc (3 * length past) = omega arith in
@@ -100,15 +104,18 @@ spotted-create past s r h = record { at = let e = h .at in omega arith; next = l
 
 -- ── Names ──
 
-pub agree-give : (names : outline.Names) (g : Names) (m v : ℕ) → length (g .numbers) ≡ 4 → m < 4 → Agree names g → Agree (outline.give names m v) (given g m v)
+pub agree-give : (names : outline.Names) (g : Names) (m v : ℕ) → length (g .numbers) ≡ 4 → m < 4 → Agree names g
+    → Agree (outline.give names m v) (given g m v)
 agree-give names g m v len small h i r e = go (ℕ-discrete i m)
   where
     same-some : {a b : ℕ} → _≡_ {A = _} (some a) (some b) → a ≡ b
     same-some f = cc
 
     go : Dec (i ≡ m) → getD (set (g .numbers) m v) i 0 ≡ r
-    go (yes f) = ap (λ (j : ℕ). getD (set (g .numbers) m v) j 0) f ∙ getD-set-same (g .numbers) m v 0 (omega arith) ∙ same-some (sym (give-same names m v i f) ∙ e)
+    go (yes f) = ap (λ (j : ℕ). getD (set (g .numbers) m v) j 0) f ∙ getD-set-same (g .numbers) m v 0 (omega arith)
+        ∙ same-some (sym (give-same names m v i f) ∙ e)
     go (no f) = getD-set-other (g .numbers) m i v 0 f ∙ h i r (sym (give-other names m v i f) ∙ e)
 
 pub stored-length : (t : List ℕ) (i kind a b : ℕ) → length (storedStep t i kind a b) ≡ length t
-stored-length t i kind a b = length-set (set (set t (3 * i) kind) (3 * i + 1) a) (3 * i + 2) b ∙ length-set (set t (3 * i) kind) (3 * i + 1) a ∙ length-set t (3 * i) kind
+stored-length t i kind a b = length-set (set (set t (3 * i) kind) (3 * i + 1) a) (3 * i + 2) b
+    ∙ length-set (set t (3 * i) kind) (3 * i + 1) a ∙ length-set t (3 * i) kind

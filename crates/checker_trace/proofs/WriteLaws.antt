@@ -61,18 +61,22 @@ module _ (w : Watch) (rows nodes t : List ℕ) (e : Entry) where
     pub is : Is (nodesOf nodes) j f
     pub gives : offerOf w rows (held t n) (entryOf j (e .opened) (meaningOf m c) (e .state) (aimAt aim)) r f ≡ n
 
-  pub arrive : (n j r : ℕ) (f : Form) → length nodes / 3 ≤ 64 → OntoIs w rows nodes t e n (By j r) → formHere nodes j ≡ some f → {es : List Edge} {m : ℕ} {c : Bool} {aim : Aim} → Ready w es rows nodes t
+  pub arrive : (n j r : ℕ) (f : Form) → length nodes / 3 ≤ 64 → OntoIs w rows nodes t e n (By j r) → formHere nodes j ≡ some f
+      → {es : List Edge} {m : ℕ} {c : Bool} {aim : Aim} → Ready w es rows nodes t
       → Tells (w .resource) e m c aim → Arrived es n m c aim j r f
   arrive n j r f few on g {es} {m} {c} {aim} ready tells =
       let (s, closed, l, h, offer) = subst (λ (y : Entry). OntoIs w rows nodes t y n (By j r)) (tells-is tells) on in
       record {
-        passes = closure-passes (w .local) es nodes (w .policy) (w .resource) rows t (ready .source) (ready .least) (e .opened) (e .node) m c (e .state) aim (tells .begun) (tells .aimed) s closed j (omega arith) h;
+        passes = closure-passes (w .local) es nodes (w .policy) (w .resource) rows t (ready .source) (ready .least) (e .opened)
+            (e .node) m c (e .state) aim (tells .begun) (tells .aimed) s closed j (omega arith) h;
         is = here-form (w .local) es nodes (w .policy) (w .resource) rows (ready .source) j f l g;
-        gives = subst (λ (y : Option Form). offerFrom w rows (held t n) (entryOf j (e .opened) (meaningOf m c) (e .state) (aimAt aim)) r y ≡ n) g offer;
+        gives = subst (λ (y : Option Form). offerFrom w rows (held t n)
+            (entryOf j (e .opened) (meaningOf m c) (e .state) (aimAt aim)) r y ≡ n) g offer;
       }
 
   -- the names that are in scope where a node leads to
-  leads-scope : {es : List Edge} → Ready w es rows nodes t → {whole : Bool} {i j : ℕ} → Leads (nodesOf nodes) whole i j → (m : ℕ) → Scope (nodesOf nodes) j m → Scope (nodesOf nodes) i m
+  leads-scope : {es : List Edge} → Ready w es rows nodes t → {whole : Bool} {i j : ℕ} → Leads (nodesOf nodes) whole i j → (m : ℕ)
+      → Scope (nodesOf nodes) j m → Scope (nodesOf nodes) i m
   leads-scope ready (Leads.first is h) = scoped (nodesOf nodes) (ready .source .outline) .first is
   leads-scope ready (Leads.second is h) = scoped (nodesOf nodes) (ready .source .outline) .second is
   leads-scope ready (Leads.left is) = scoped (nodesOf nodes) (ready .source .outline) .left is
@@ -80,8 +84,10 @@ module _ (w : Watch) (rows nodes t : List ℕ) (e : Entry) where
   leads-scope ready (Leads.body is) = scoped (nodesOf nodes) (ready .source .outline) .body is
   leads-scope ready (Leads.again is) = scoped (nodesOf nodes) (ready .source .outline) .again is
 
-  pub passes-names : {es : List Edge} → Ready w es rows nodes t → {whole : Bool} {k j : ℕ} {names : outline.Names} → PassesAll (nodesOf nodes) whole k j → NamesAt (nodesOf nodes) k names → NamesAt (nodesOf nodes) j names
-  passes-names ready {whole} {k} {j} {names} d h = passes-all (λ (i : ℕ). NamesAt (nodesOf nodes) i names) (λ a b g l m u. g m (leads-scope ready l m u)) h d
+  pub passes-names : {es : List Edge} → Ready w es rows nodes t → {whole : Bool} {k j : ℕ} {names : outline.Names}
+      → PassesAll (nodesOf nodes) whole k j → NamesAt (nodesOf nodes) k names → NamesAt (nodesOf nodes) j names
+  passes-names ready {whole} {k} {j} {names} d h =
+      passes-all (λ (i : ℕ). NamesAt (nodesOf nodes) i names) (λ a b g l m u. g m (leads-scope ready l m u)) h d
 
   module _ (n : ℕ) (g : Names) (s : Spot) (trace : List ℕ) where
     abbrev Wrote : Spot → List ℕ → Type 0
@@ -92,10 +98,13 @@ module _ (w : Watch) (rows nodes t : List ℕ) (e : Entry) where
     wrote-none z es m c aim names t₀ past ready tells h named agree spotted same room =
         let L = ready .least .lengths in
         let here : held t allLengths (told m c aim) ≡ n = sym (ap (held t allLengths) (tells-is tells)) ∙ h in
-        let d = goes-still (w .local) es (nodesOf nodes) (w .policy) (w .resource) (L .sound (tells .begun) (tells .aimed) (here, omega arith)) z in (
+        let d = goes-still (w .local) es (nodesOf nodes) (w .policy) (w .resource)
+        (L .sound (tells .begun) (tells .aimed) (here, omega arith)) z in (
           past,
-          subst (λ (u : Aim). Written (w .local) es (nodesOf nodes) (w .policy) (w .resource) n (e .opened) (e .node) names m c (e .state) past u past) (sym (d .same))
-              (subst (λ (i : ℕ). Written (w .local) es (nodesOf nodes) (w .policy) (w .resource) i (e .opened) (e .node) names m c (e .state) past (ended c (e .state)) past) (sym z)
+          subst (λ (u : Aim). Written (w .local) es (nodesOf nodes) (w .policy) (w .resource) n (e .opened) (e .node) names m c
+              (e .state) past u past) (sym (d .same))
+              (subst (λ (i : ℕ). Written (w .local) es (nodesOf nodes) (w .policy) (w .resource) i (e .opened) (e .node) names m c
+              (e .state) past (ended c (e .state)) past) (sym z)
               (idle-written (w .local) es (nodesOf nodes) (w .policy) (w .resource) (d .idle))),
           spotted,
           same,
@@ -104,8 +113,10 @@ module _ (w : Watch) (rows nodes t : List ℕ) (e : Entry) where
     -- there always is a rule
     pub wrote-nowhere : OntoIs w rows nodes t e n Nothing → n ≤ 200 → 1 ≤ n → (r : Spot) (trace′ : List ℕ) → Wrote r trace′
     wrote-nowhere on few one r trace′ es m c aim names t₀ past ready tells h named agree spotted same room =
-        absurd (never-nothing (w .local) es nodes (w .policy) (w .resource) rows t (ready .source) (ready .least) (e .opened) (e .node) m c (e .state) aim (tells .begun) (tells .aimed) n
-        (sym (ap (held t allLengths) (tells-is tells)) ∙ h) few one (subst (λ (y : Entry). OntoIs w rows nodes t y n Nothing) (tells-is tells) on))
+        absurd (never-nothing (w .local) es nodes (w .policy) (w .resource) rows t (ready .source) (ready .least) (e .opened) (e .node) m c
+        (e .state) aim (tells .begun) (tells .aimed) n
+        (sym (ap (held t allLengths) (tells-is tells)) ∙ h) few one
+        (subst (λ (y : Entry). OntoIs w rows nodes t y n Nothing) (tells-is tells) on))
 
     module _ (few-nodes : length nodes / 3 ≤ 64) (few : n ≤ 200) (j r : ℕ) (on : OntoIs w rows nodes t e n (By j r)) where
       abbrev at-node : Bool → ℕ → Aim → ℕ → Entry
@@ -113,70 +124,90 @@ module _ (w : Watch) (rows nodes t : List ℕ) (e : Entry) where
 
       -- the aim has a number, since the entry is in the table
       pub range-of : {m : ℕ} {c : Bool} {aim : Aim} → held t allLengths e ≡ n → Tells (w .resource) e m c aim → aimAt aim < 17
-      range-of h tells = let (i, y, l) = held-is t allLengths e n h (omega arith) in subst (λ (y : ℕ). y < 17) (tells .number) (bounds e i .aim)
+      range-of h tells = let (i, y, l) = held-is t allLengths e n h (omega arith) in
+          subst (λ (y : ℕ). y < 17) (tells .number) (bounds e i .aim)
 
       -- the number of steps of an event
       event-steps : (z : ℕ) (y : Entry) → (ends-by z y ≡ n) ⊎ (breaking z y ≡ n) → n ≡ 1
       event-steps z y (inl g) = ending-inv y n few z g .0
       event-steps z y (inr g) = breaking-inv y n few z g .0
 
-      module _ (es : List Edge) (m : ℕ) (c : Bool) (aim : Aim) (names : outline.Names) (past : Past) (ready : Ready w es rows nodes t) (tells : Tells (w .resource) e m c aim) (range : aimAt aim < 17) where
+      module _ (es : List Edge) (m : ℕ) (c : Bool) (aim : Aim) (names : outline.Names) (past : Past) (ready : Ready w es rows nodes t)
+          (tells : Tells (w .resource) e m c aim) (range : aimAt aim < 17) where
         abbrev Here : Past → Type 0
         Here after = Written (w .local) es (nodesOf nodes) (w .policy) (w .resource) n (e .opened) j names m c (e .state) past aim after
 
-        written-end : (q : ℕ) (after : Past) → n ≡ 1 → aim ≡ ended c q → Written (w .local) es (nodesOf nodes) (w .policy) (w .resource) 1 (e .opened) j names m c (e .state) past (ended c q) after → Here after
+        written-end : (q : ℕ) (after : Past) → n ≡ 1 → aim ≡ ended c q
+            → Written (w .local) es (nodesOf nodes) (w .policy) (w .resource) 1 (e .opened) j names m c (e .state) past (ended c q) after
+            → Here after
         written-end q after z f d =
-            subst (λ (u : Aim). Written (w .local) es (nodesOf nodes) (w .policy) (w .resource) n (e .opened) j names m c (e .state) past u after) (sym f)
-            (subst (λ (i : ℕ). Written (w .local) es (nodesOf nodes) (w .policy) (w .resource) i (e .opened) j names m c (e .state) past (ended c q) after) (sym z) d)
+            subst (λ (u : Aim). Written (w .local) es (nodesOf nodes) (w .policy) (w .resource) n (e .opened) j names m c
+            (e .state) past u after) (sym f)
+            (subst (λ (i : ℕ). Written (w .local) es (nodesOf nodes) (w .policy) (w .resource) i (e .opened) j names m c (e .state) past
+            (ended c q) after) (sym z) d)
 
         written-break : (after : Past) → n ≡ 1 → e .opened ≡ true → aim ≡ broken none
-            → Written (w .local) es (nodesOf nodes) (w .policy) (w .resource) 1 true j names m c (e .state) past (broken none) after → Here after
+            → Written (w .local) es (nodesOf nodes) (w .policy) (w .resource) 1 true j names m c (e .state) past (broken none) after
+            → Here after
         written-break after z o f d =
-            subst (λ (u : Aim). Written (w .local) es (nodesOf nodes) (w .policy) (w .resource) n (e .opened) j names m c (e .state) past u after) (sym f)
-            (subst (λ (i : ℕ). Written (w .local) es (nodesOf nodes) (w .policy) (w .resource) i (e .opened) j names m c (e .state) past (broken none) after) (sym z)
-            (subst (λ (y : Bool). Written (w .local) es (nodesOf nodes) (w .policy) (w .resource) 1 y j names m c (e .state) past (broken none) after) (sym o) d))
+            subst (λ (u : Aim). Written (w .local) es (nodesOf nodes) (w .policy) (w .resource) n (e .opened) j names m c
+            (e .state) past u after) (sym f)
+            (subst (λ (i : ℕ). Written (w .local) es (nodesOf nodes) (w .policy) (w .resource) i (e .opened) j names m c (e .state) past
+            (broken none) after) (sym z)
+            (subst (λ (y : Bool). Written (w .local) es (nodesOf nodes) (w .policy) (w .resource) 1 y j names m c (e .state) past
+            (broken none) after) (sym o) d))
 
         at-static : (d i : ℕ) → Is (nodesOf nodes) j (on-static d i)
-            → (ends-by (moved rows (at-node c m aim j) (eqb i (w .resource))) (at-node c m aim j) ≡ n) ⊎ (breaking (moved rows (at-node c m aim j) (eqb i (w .resource))) (at-node c m aim j) ≡ n)
+            → (ends-by (moved rows (at-node c m aim j) (eqb i (w .resource))) (at-node c m aim j) ≡ n)
+            ⊎ (breaking (moved rows (at-node c m aim j) (eqb i (w .resource))) (at-node c m aim j) ≡ n)
             → Here (event d i ∷ past)
         at-static d i is (inl g) =
             let (z, y, l, h, f) = ending-inv (at-node c m aim j) n few (moved rows (at-node c m aim j) (eqb i (w .resource))) g in
             written-end y (event d i ∷ past) z (end-is aim m c y (tells .aimed) range l f)
-            (Written.fires-static is (static-moves (w .local) es (nodesOf nodes) (w .policy) (w .resource) rows (ready .source) j (e .opened) (aimAt aim) y (tells .begun) l is h))
+            (Written.fires-static is (static-moves (w .local) es (nodesOf nodes) (w .policy) (w .resource) rows (ready .source) j
+            (e .opened) (aimAt aim) y (tells .begun) l is h))
         at-static d i is (inr g) =
             let (z, f, o, v) = breaking-inv (at-node c m aim j) n few (moved rows (at-node c m aim j) (eqb i (w .resource))) g in
             let (y, off, h) = offends-has (moved rows (at-node c m aim j) (eqb i (w .resource))) v in
             written-break (event d i ∷ past) z o (break-is aim (tells .aimed) f)
-            (Written.breaks-static is (static-moves (w .local) es (nodesOf nodes) (w .policy) (w .resource) rows (ready .source) j (e .opened) (aimAt aim) y (tells .begun) (offending-small y off) is h) off each)
+            (Written.breaks-static is (static-moves (w .local) es (nodesOf nodes) (w .policy) (w .resource) rows (ready .source) j
+            (e .opened) (aimAt aim) y (tells .begun) (offending-small y off) is h) off each)
 
         at-name : (d i v : ℕ) → Is (nodesOf nodes) j (on-name d i) → names i ≡ some v
-            → (ends-by (moved rows (at-node c m aim j) (eqb (meaningOf m c) (suc i))) (at-node c m aim j) ≡ n) ⊎ (breaking (moved rows (at-node c m aim j) (eqb (meaningOf m c) (suc i))) (at-node c m aim j) ≡ n)
+            → (ends-by (moved rows (at-node c m aim j) (eqb (meaningOf m c) (suc i))) (at-node c m aim j) ≡ n)
+            ⊎ (breaking (moved rows (at-node c m aim j) (eqb (meaningOf m c) (suc i))) (at-node c m aim j) ≡ n)
             → Here (event d v ∷ past)
         at-name d i v is nm (inl g) =
             let (z, y, l, h, f) = ending-inv (at-node c m aim j) n few (moved rows (at-node c m aim j) (eqb (meaningOf m c) (suc i))) g in
             written-end y (event d v ∷ past) z (end-is aim m c y (tells .aimed) range l f)
-            (Written.fires-name is nm (name-moves (w .local) es (nodesOf nodes) (w .policy) (w .resource) rows (ready .source) j (e .opened) (aimAt aim) y (tells .begun) l is h))
+            (Written.fires-name is nm (name-moves (w .local) es (nodesOf nodes) (w .policy) (w .resource) rows (ready .source) j (e .opened)
+            (aimAt aim) y (tells .begun) l is h))
         at-name d i v is nm (inr g) =
             let (z, f, o, u) = breaking-inv (at-node c m aim j) n few (moved rows (at-node c m aim j) (eqb (meaningOf m c) (suc i))) g in
             let (y, off, h) = offends-has (moved rows (at-node c m aim j) (eqb (meaningOf m c) (suc i))) u in
             written-break (event d v ∷ past) z o (break-is aim (tells .aimed) f)
-            (Written.breaks-name is nm (name-moves (w .local) es (nodesOf nodes) (w .policy) (w .resource) rows (ready .source) j (e .opened) (aimAt aim) y (tells .begun) (offending-small y off) is h) off each)
+            (Written.breaks-name is nm (name-moves (w .local) es (nodesOf nodes) (w .policy) (w .resource) rows (ready .source) j
+            (e .opened) (aimAt aim) y (tells .begun) (offending-small y off) is h) off each)
 
       -- an event on a static resource
-      pub wrote-static : (d i : ℕ) → formHere nodes j ≡ some (on-static d i) → (r′ : Spot) → r′ ≡ onward s → (trace′ : List ℕ) → trace′ ≡ storedStep trace (s .at) 0 d i → Wrote r′ trace′
+      pub wrote-static : (d i : ℕ) → formHere nodes j ≡ some (on-static d i) → (r′ : Spot) → r′ ≡ onward s → (trace′ : List ℕ)
+          → trace′ ≡ storedStep trace (s .at) 0 d i → Wrote r′ trace′
       unfolding offerOf
       wrote-static d i form r′ er trace′ et es m c aim names t₀ past ready tells h named agree spotted same room =
           let v = arrive n j r (on-static d i) few-nodes on form ready tells in
           let u = event-inv (at-node c m aim j) n few (moved rows (at-node c m aim j) (eqb i (w .resource))) r (v .gives) in
           let z = event-steps (moved rows (at-node c m aim j) (eqb i (w .resource))) (at-node c m aim j) u in (
             event d i ∷ past,
-            passes-written (w .local) es (nodesOf nodes) (w .policy) (w .resource) aim (v .passes) (at-static es m c aim names past ready tells (range-of h tells) d i (v .is) u),
-            subst (Spotted (event d i ∷ past)) (sym er) (spotted-event past s d i (scoped (nodesOf nodes) (ready .source .outline) .static-acts (v .is)) spotted),
+            passes-written (w .local) es (nodesOf nodes) (w .policy) (w .resource) aim (v .passes)
+                (at-static es m c aim names past ready tells (range-of h tells) d i (v .is) u),
+            subst (Spotted (event d i ∷ past)) (sym er)
+                (spotted-event past s d i (scoped (nodesOf nodes) (ready .source .outline) .static-acts (v .is)) spotted),
             et ∙ laid-more t₀ past (event d i) 0 d i (s .at) trace refl (spotted .at) same (omega arith),
           )
 
       -- on what a name means
-      pub wrote-name : (d i : ℕ) → formHere nodes j ≡ some (on-name d i) → (r′ : Spot) → r′ ≡ onward s → (trace′ : List ℕ) → trace′ ≡ storedStep trace (s .at) 0 d (getD (g .numbers) i 0) → Wrote r′ trace′
+      pub wrote-name : (d i : ℕ) → formHere nodes j ≡ some (on-name d i) → (r′ : Spot) → r′ ≡ onward s → (trace′ : List ℕ)
+          → trace′ ≡ storedStep trace (s .at) 0 d (getD (g .numbers) i 0) → Wrote r′ trace′
       unfolding offerOf
       wrote-name d i form r′ er trace′ et es m c aim names t₀ past ready tells h named agree spotted same room =
           let v = arrive n j r (on-name d i) few-nodes on form ready tells in
@@ -184,7 +215,10 @@ module _ (w : Watch) (rows nodes t : List ℕ) (e : Entry) where
           let z = event-steps (moved rows (at-node c m aim j) (eqb (meaningOf m c) (suc i))) (at-node c m aim j) u in
           let (x, nm) = passes-names ready (v .passes) named i (scoped (nodesOf nodes) (ready .source .outline) .used (v .is)) in (
             event d x ∷ past,
-            passes-written (w .local) es (nodesOf nodes) (w .policy) (w .resource) aim (v .passes) (at-name es m c aim names past ready tells (range-of h tells) d i x (v .is) nm u),
-            subst (Spotted (event d x ∷ past)) (sym er) (spotted-event past s d x (scoped (nodesOf nodes) (ready .source .outline) .name-acts (v .is)) spotted),
-            et ∙ ap (λ (y : ℕ). storedStep trace (s .at) 0 d y) (agree i x nm) ∙ laid-more t₀ past (event d x) 0 d x (s .at) trace refl (spotted .at) same (omega arith),
+            passes-written (w .local) es (nodesOf nodes) (w .policy) (w .resource) aim (v .passes)
+                (at-name es m c aim names past ready tells (range-of h tells) d i x (v .is) nm u),
+            subst (Spotted (event d x ∷ past)) (sym er)
+                (spotted-event past s d x (scoped (nodesOf nodes) (ready .source .outline) .name-acts (v .is)) spotted),
+            et ∙ ap (λ (y : ℕ). storedStep trace (s .at) 0 d y) (agree i x nm)
+                ∙ laid-more t₀ past (event d x) 0 d x (s .at) trace refl (spotted .at) same (omega arith),
           )

@@ -10,6 +10,7 @@ use lib.ListN.{length, set, getD}
 use Rattle.usage.specs.Limits.{mostNodes, states, nodeFields, stepFields, mostShown, statics}
 use Rattle.usage.specs.Outline.{Form, end, on-static, on-name, sequence, choice, loop, back, fresh, sandbox, noNames}
 use Rattle.automaton.specs.Mask.{has}
+use Rattle.checker_tables.specs.Search.{touched}
 use Rattle.checker_lengths.specs.declared.Entry.{Entry}
 use Rattle.checker_lengths.specs.declared.Watch.{Watch}
 use Rattle.checker_lengths.specs.Entries.{atBreak, entryOf, held, allLengths, noLength}
@@ -157,7 +158,8 @@ Writes w rows nodes t e n g s trace r trace′ =
     → Ready w es rows nodes t → Tells (w .resource) e m c aim
     → held t allLengths e ≡ n → NamesAt (nodesOf nodes) (e .node) names → Agree names g → Spotted past s → trace ≡ laid t₀ past
     → stepFields * (length past + n) ≤ length t₀
-    → (after : Past) × Written (w .local) es (nodesOf nodes) (w .policy) (w .resource) n (e .opened) (e .node) names m c (e .state) past aim after
+    → (after : Past) × Written (w .local) es (nodesOf nodes) (w .policy) (w .resource) n (e .opened) (e .node) names m c
+    (e .state) past aim after
     × Spotted after r × (trace′ ≡ laid t₀ after)
 
 -- rule c of a node of this form is where to go on from an entry of n steps
@@ -173,13 +175,19 @@ rootOf x = entryOf 0 false (least x) 0 atBreak
 abbrev pub StepsIs : Watch → List ℕ → List ℕ → ℕ → Type 0
 StepsIs w rows nodes r = (t : List ℕ) × Full w rows nodes t × (r ≡ held t allLengths (rootOf (w .resource)))
 
+-- the same where it is asked for, and else no length
+abbrev pub StepsIf : Bool → Watch → List ℕ → List ℕ → ℕ → Type 0
+StepsIf true w rows nodes r = StepsIs w rows nodes r
+StepsIf false w rows nodes r = r ≡ noLength
+
 pub record ShortestIs (local : Bool) (p : ℕ) (rows nodes : List ℕ) (r : Shortest) : Type 0 where
   pub told : r .length < noLength → (r .resource ≤ watched) × StepsIs (watchOf local p (r .resource)) rows nodes (r .length)
-  pub least : (x : ℕ) → x ≤ watched → (v : ℕ) × StepsIs (watchOf local p x) rows nodes v × (r .length ≤ v)
+  pub least : (x : ℕ) → x ≤ watched → touched nodes x ≡ true → (v : ℕ) × StepsIs (watchOf local p x) rows nodes v × (r .length ≤ v)
 
 -- what is written where n is that length
 abbrev pub Shows : Watch → List ℕ → List ℕ → ℕ → List ℕ → List ℕ → Type 0
 Shows w rows nodes n trace trace′ =
     (es : List Edge) → Source es (nodesOf nodes) (w .policy) (w .resource) rows → StepsIs w rows nodes n
-    → (after : Past) × Written (w .local) es (nodesOf nodes) (w .policy) (w .resource) n false 0 noNames noName (ltb (w .resource) statics) 0 [] (broken none) after
+    → (after : Past) × Written (w .local) es (nodesOf nodes) (w .policy) (w .resource) n false 0 noNames noName
+    (ltb (w .resource) statics) 0 [] (broken none) after
     × (trace′ ≡ laid trace after)

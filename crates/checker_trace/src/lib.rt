@@ -5,8 +5,9 @@ ghost use mathlib.Core.Bool.{Bool};
 ghost use Prim.Native.Nat.{ℕ, _/_, _<_, _≤_};
 ghost use lib.ListN.{length};
 ghost use Rattle.usage.specs.Limits.{mostNodes, nodeFields, mostShown};
+ghost use Rattle.checker_tables.specs.Search.{touched};
 ghost use Rattle.checker_trace.specs.Answer.{mostNumbers, Told};
-ghost use Rattle.checker_trace.specs.Code.{rootOf, StepsIs, ShortestIs, Shows};
+ghost use Rattle.checker_trace.specs.Code.{rootOf, StepsIf, ShortestIs, Shows};
 use checker_account::NAMES;
 use checker_account::PLACES;
 use checker_account::Table;
@@ -72,11 +73,14 @@ fn root(x: usize) -> Entry
     }
 }
 
-// The least length with one resource watched.
+// The least length with one resource watched; none where it need not be.
 fn steps(nodes: &[u8], rows: &Table, w: Watch) -> u8
     requires { ⌜ length (now nodes) / nodeFields ≤ mostNodes ⌝ }
-    ensures { λ r. ⌜ StepsIs w (now (rows .entry)) (now (nodes .entry)) r ⌝ }
+    ensures { λ r. ⌜ StepsIf (touched (now (nodes .entry)) (w .resource)) w (now (rows .entry)) (now (nodes .entry)) r ⌝ }
 {
+    if !checker_tables::touched(nodes, w.resource) {
+        return NONE;
+    }
     let mut t = [NONE; SIZE];
     checker_lengths::fill::fill(nodes, rows, w, &mut t);
     checker_lengths::entries::get(&t, ALL, root(w.resource))

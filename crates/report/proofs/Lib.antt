@@ -3,5 +3,9 @@ pub mod OutputLaws
 pub mod DetailLaws
 pub mod TraceLaws
 pub mod OutlineLaws
+pub mod NumberedLaws
+pub mod CounterexampleLaws
 -- What is printed for two accepted sheets is right.
 pub mod TraceRight
+-- What is printed of a counterexample is read back as its steps.
+pub mod CounterexampleRead

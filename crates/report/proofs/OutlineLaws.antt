@@ -20,13 +20,21 @@ use Rattle.checker.specs.Promise.{checked, CheckPromise}
 use Rattle.checker.proofs.PromiseLaws.{right-unique, right-checked, promised-right}
 use Rattle.report_lines.specs.Lines.{row, verdictRow}
 use Rattle.report_lines.specs.Put.{putAt, endAt}
-use Rattle.report_lines.proofs.RowLaws.{row-eight, verdict-eight}
+use Rattle.report_lines.proofs.RowLaws.{row-nine, verdict-eight}
 use Rattle.report_lines.proofs.FitLaws.{stored-at}
 use Rattle.report.specs.Output.{printed, longestOutlineRow, outlineRoom, lengthPut, put}
 use Rattle.report.specs.Outline.{RightNodes, RightSheets, RightTexts, nodesRow, outlinePrinted}
 use Rattle.report.proofs.OutputLaws.{Printed, no-room}
 
 -- ── The line of an outline ──
+
+-- that of a refused one is short
+pub outline-short : (text : List ℕ) (line number : ℕ)
+    → ruledResult (sheet outlineSheet text) ≡ refused record { line = line; number = number }
+    → length (row line 5 number) ≤ longestOutlineRow
+outline-short text line number e =
+    let w = outline-low text record { line = line; number = number } e in
+    row-nine line 5 number (let h = w .line in omega arith) (omega arith) (w .number)
 
 -- What the function ensures of its result r and the buffer that it leaves.
 abbrev pub RowPut : List ℕ → Result → List ℕ → ℕ → ℕ → List ℕ → Type 0
@@ -60,13 +68,13 @@ module _ (edges text buffer after : List ℕ) (at r : ℕ) (room : at + longestO
       rw (h .result) (row-put (accepted (h .rows)) (row 0 a d) (λ w k. ap (verdictRow 0) (right-unique k right) ∙ sym v) q right
       (let l = verdict-eight q (rw ed at small) in let k = ap length v in omega arith) er eo)
 
-  pub put-refused : (line number : ℕ) → ruledResult (sheet outlineSheet text) ≡ refused record { line = line; number = number } → (v : Verdict)
+  pub put-refused : (line number : ℕ) → ruledResult (sheet outlineSheet text) ≡ refused record { line = line; number = number }
+      → (v : Verdict)
       → r ≡ endAt buffer at (row line 5 number) → after ≡ putAt buffer at (row line 5 number)
       → RowPut edges (ruledResult (sheet outlineSheet text)) buffer at r after
   unfolding RightNodes nodesRow
   put-refused line number e v er eo =
-      let w = outline-low text record { line = line; number = number } e in
-      let l = row-eight line 5 number (let h = w .line in omega arith) (omega arith) (w .number) in
+      let l = outline-short text line number e in
       rw e (row-put (refused record { line = line; number = number }) (row line 5 number) (λ w k. refl) v tt l er eo)
 
 -- ── The whole output ──

@@ -1,4 +1,4 @@
--- Laws of what both programs print, and of the lent buffer.
+-- Laws of what the programs print, and of the lent buffer.
 use Prim.Native.Nat.{ℕ, _+_, _-_, _*_, _≤_, _<_}
 use mathlib.Core.Path.{_≡_, sym, ap, _∙_}
 use mathlib.Core.List.{List, _++_}
@@ -14,9 +14,9 @@ use Rattle.sheet_reader.proofs.RefusalLaws.{sheet-low}
 use Rattle.report_lines.specs.Lines.{namesLine, namesRoom, row}
 use Rattle.report_lines.specs.Put.{putAt, endAt}
 use Rattle.report_lines.proofs.PutLaws.{sets-append, sets-front}
-use Rattle.report_lines.proofs.RowLaws.{row-eight, length-names, names-stored}
+use Rattle.report_lines.proofs.RowLaws.{row-nine, length-names, begin-stored, names-stored}
 use Rattle.report_lines.proofs.FitLaws.{stored-at}
-use Rattle.report.specs.Output.{afterPolicies, printed, longestOutlineRow, outlineRoom, lengthPut, put}
+use Rattle.report.specs.Output.{afterPolicies, printed, longestOutlineRow, outlineRoom, fronted, lengthPut, put}
 
 -- a function's result r and the buffer that it leaves are those of an output
 abbrev pub Printed : ℕ → List ℕ → List ℕ → ℕ → List ℕ → Type 0
@@ -24,7 +24,7 @@ Printed room buffer output r after = (r ≡ lengthPut room buffer output) × (af
 
 -- two parts that are stored one after the other
 joined : (buffer first second : List ℕ) → length first + length second ≤ length buffer
-    → sets (sets buffer 0 first) (length first) second ≡ (first ++ second) ++ drop (length (first ++ second)) buffer
+    → sets (sets buffer 0 first) (length first) second ≡ fronted buffer (first ++ second)
 joined buffer first second l =
     let k = length-append first second in
     ap (λ (i : ℕ). sets (sets buffer 0 first) i second) (sym (zero-add (length first)))
@@ -42,12 +42,35 @@ module _ (room : ℕ) (buffer : List ℕ) where
   two-parts first second after r h e l t =
       rw (le-ltb (length buffer) room h) (e ∙ sym (length-append first second), t ∙ joined buffer first second (omega arith))
 
+-- the same from what the functions return: the place `at` after the first part, and the buffer `named` that holds it
+module _ (buffer first : List ℕ) (at : ℕ) (named : List ℕ) (ea : at ≡ endAt buffer 0 first) (en : named ≡ putAt buffer 0 first)
+    (fits : length first ≤ length buffer) where
+  pub first-end : at ≡ length first
+  first-end = begin-stored buffer first fits ea en .0
+
+  pub first-length : length named ≡ length buffer
+  first-length = ap length (begin-stored buffer first fits ea en .1) ∙ length-sets buffer 0 first
+
+  pub then-stored : (second : List ℕ) {r : ℕ} {after : List ℕ} → length first + length second ≤ length buffer → r ≡ at + length second
+      → after ≡ sets named at second → (r ≡ length (first ++ second)) × (after ≡ fronted buffer (first ++ second))
+  then-stored second l er eo =
+      let o = begin-stored buffer first fits ea en in
+      (rw (o .0) at er ∙ sym (length-append first second), (rw (o .0, o .1) at eo) ∙ joined buffer first second l)
+
+  pub then-put : (second : List ℕ) {r : ℕ} {after : List ℕ} → length first + length second ≤ length buffer → r ≡ endAt named at second
+      → after ≡ putAt named at second → (r ≡ length (first ++ second)) × (after ≡ fronted buffer (first ++ second))
+  then-put second l er eo =
+      let k = first-end in
+      let m = first-length in
+      let z = stored-at named at second (omega arith) er eo in
+      then-stored second l (z .0) (z .1)
+
 -- the line of a refused sheet of policies is no longer than that of an outline
-policies-short : (text : List ℕ) (line number : ℕ) → sheet policySheet text ≡ refused record { line = line; number = number }
+pub policies-short : (text : List ℕ) (line number : ℕ) → sheet policySheet text ≡ refused record { line = line; number = number }
     → length (row line 3 number) ≤ longestOutlineRow
 policies-short text line number e =
     let l = sheet-low policySheet text record { line = line; number = number } e in
-    row-eight line 3 number (let h = l .line in omega arith) (omega arith) (l .number)
+    row-nine line 3 number (let h = l .line in omega arith) (omega arith) (l .number)
 
 -- ── After the names, from what the functions return: the place `at` after them, and the buffer `named` that holds them ──
 

@@ -1,4 +1,5 @@
--- What the two programs print ("The two programs"). Nothing is proved here; the laws are in proofs/.
+-- What the programs print ("The two programs"; 02, L1). Nothing is proved here; the laws are in proofs/.
 pub mod Output
 pub mod Trace
 pub mod Outline
+pub mod Counterexample

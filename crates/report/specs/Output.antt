@@ -1,4 +1,4 @@
--- What both programs print, and what is done with a lent buffer ("The two programs").
+-- What the programs print, and what is done with a lent buffer ("The two programs").
 use Prim.Native.Nat.{ℕ, _+_, _*_}
 use mathlib.Core.Bool.{cond}
 use mathlib.Core.List.{List, _++_, flatten}
@@ -20,12 +20,12 @@ printed policies rest = namesLine ++ afterPolicies policies rest
 
 -- ── The lent buffer ──
 
--- The bytes of a line at most: of a step's, as `2001 2 42` and its line feed; of an outline's, as `66 5 4`, or `258 3 4` for policies.
+-- The bytes of a line at most: of a step's, as `2001 2 42` and its line feed; of an outline's, as `65 5 12`, or `257 3 12` for policies.
 abbrev pub longestStepRow : ℕ
 longestStepRow = 10
 
 abbrev pub longestOutlineRow : ℕ
-longestOutlineRow = 8
+longestOutlineRow = 9
 
 -- what follows the names of a trace
 abbrev pub stepsRoom : ℕ
@@ -42,6 +42,10 @@ outlineRoom = namesRoom + longestOutlineRow
 unfoldable pub lengthPut : ℕ → List ℕ → List ℕ → ℕ
 lengthPut room buffer output = cond (ltb (length buffer) room) 0 (length output)
 
--- the buffer begins with the output, and keeps its contents after it; where it lacks the room it keeps all
+-- the buffer begins with the output, and keeps its contents after it
+abbrev pub fronted : List ℕ → List ℕ → List ℕ
+fronted buffer output = output ++ drop (length output) buffer
+
+-- where it lacks the room it keeps all
 unfoldable pub put : ℕ → List ℕ → List ℕ → List ℕ
-put room buffer output = cond (ltb (length buffer) room) buffer (output ++ drop (length output) buffer)
+put room buffer output = cond (ltb (length buffer) room) buffer (fronted buffer output)

@@ -1,30 +1,43 @@
-// What the two programs print: the bytes of the sheets in, the bytes of the printed lines out.
-ghost use Prim.Native.Nat.{_<_};
+// What the programs print: the bytes of the sheets in, the bytes of the printed lines out.
+ghost use Prim.Native.Nat.{_<_, _≤_};
 ghost use mathlib.Core.Path.{_≡_};
+ghost use lib.ListN.{length};
 ghost use Rattle.usage.specs.Answers.{Verdict};
 ghost use Rattle.report.specs.Output.{traceRoom, outlineRoom, lengthPut, put as Output·put};
 ghost use Rattle.report.specs.Trace.{tracePrinted};
 ghost use Rattle.report.specs.Outline.{RightTexts, outlinePrinted};
+ghost use Rattle.report.specs.Counterexample.{RightExplanation, counterexamplePrinted, counterexampleRoom, Prints};
+use checker_trace::MOST_NUMBERS;
 use report_lines::NAMES;
+use report_lines::TRACE_NAMES;
 use sheet_lines::Reading;
 use usage::EDGE_FIELDS;
 use usage::EDGE_TABLE;
 use usage::MOST_STEPS;
+use usage::STEP_FIELDS;
 
+mod counterexample;
 mod outline;
 mod trace;
 
-// ── Sizes ── as specs/Output has them.
+// ── Sizes ── as specs/Output and specs/Counterexample have them.
 
-// The bytes of a line at most: of a step's, and of an outline's or of refused policies'.
+// The bytes of a line at most: of a step's answer, of an outline's or of refused policies', and of a step of a counterexample.
 const LONGEST_STEP_ROW: usize = 10;
 
-const LONGEST_OUTLINE_ROW: usize = 8;
+const LONGEST_OUTLINE_ROW: usize = 9;
+
+const LONGEST_SHOWN_ROW: usize = 9;
+
+// The steps of a counterexample at most.
+const MOST_SHOWN: usize = MOST_NUMBERS / STEP_FIELDS;
 
 // The bytes of the longest output of each program.
 pub const TRACE_ROOM: usize = NAMES + MOST_STEPS * LONGEST_STEP_ROW;
 
 pub const OUTLINE_ROOM: usize = NAMES + LONGEST_OUTLINE_ROW;
+
+pub const COUNTEREXAMPLE_ROOM: usize = TRACE_NAMES + MOST_SHOWN * LONGEST_SHOWN_ROW;
 
 // What the first program prints, from the bytes of `policies.txt` and `trace.txt`: its length, and 0 where `out` lacks the room.
 #[no_mangle]
@@ -65,5 +78,30 @@ pub extern "C" fn report_outline(policies: &[u8], outline: &[u8], out: &mut [u8]
     match reading {
         Reading::Stored(n) => crate::outline::row(&edges[0..n * EDGE_FIELDS], outline, out, next),
         Reading::Refused { line, number } => report_lines::row(out, next, line, 3, number as usize),
+    }
+}
+
+// What the third program prints, from the bytes of `policies.txt` and `outline.txt`: a shortest counterexample as a trace sheet. Its
+// length, and 0 where `out` lacks the room.
+#[no_mangle]
+pub extern "C" fn report_counterexample(policies: &[u8], outline: &[u8], out: &mut [u8]) -> usize
+    ensures { λ r. ⌜ (length (now (out .entry)) < counterexampleRoom → (r ≡ 0) × (now (out .exit) ≡ now (out .entry))) ⌝ }
+    ensures { λ r. ⌜ (counterexampleRoom ≤ length (now (out .entry)) → Prints
+        (RightExplanation (now (policies .entry)) (now (outline .entry)))
+        (counterexamplePrinted (now (policies .entry)) (now (outline .entry)))
+        (now (out .entry)) r (now (out .exit))) ⌝ }
+{
+    if out.len() < COUNTEREXAMPLE_ROOM {
+        return 0;
+    }
+    let mut edges = [0u8; EDGE_TABLE];
+    let reading = sheet_reader::read_policies(policies, &mut edges);
+    match reading {
+        Reading::Stored(n) => crate::counterexample::of_text(
+            &edges[0..n * EDGE_FIELDS],
+            outline,
+            out,
+        ),
+        Reading::Refused { line, number } => crate::counterexample::refused(out, line, 3, number),
     }
 }

@@ -42,6 +42,7 @@ fn judge_all(edges: &[u8], steps: &[u32], out: &mut [u8], at: usize) -> usize
     let n = steps.len() / STEP_FIELDS;
     let s = monitor::start();
     let mut sets = s.sets;
+    let mut possible = s.possible;
     let mut created = s.created;
     let mut unclosed = s.unclosed;
     let mut count = s.count;
@@ -52,6 +53,7 @@ fn judge_all(edges: &[u8], steps: &[u32], out: &mut [u8], at: usize) -> usize
         let t = monitor::judge_lent(
             edges,
             &mut sets,
+            &mut possible,
             &mut created,
             &mut unclosed,
             count,
@@ -89,7 +91,7 @@ fn detail_of(a: Answer) -> usize
 }
 
 // Step i of the table.
-fn step_at(steps: &[u32], i: usize) -> RawStep
+pub(crate) fn step_at(steps: &[u32], i: usize) -> RawStep
     requires { ⌜ stepFields * i + 2 < length (now steps) ⌝ }
     ensures { λ r. ⌜ r ≡ stepAt (now (steps .entry)) i ⌝ }
 {

@@ -36,7 +36,8 @@ pub decimal-more : (n : ℕ) → 10 ≤ n → decimal n ≡ decimal (n / 10) ++ 
 unfolding decimal spelled
 decimal-more zero h = absurd (omega arith)
 decimal-more (suc k) h = rw (le-ltb (suc k) 10 h)
-    (ap (λ (l : List ℕ). l ++ (digitByte (suc k % 10) ∷ [])) (spelled-more k (suc k / 10) (ltb (suc k / 10) 10) (suc k / 10) refl (omega arith)
+    (ap (λ (l : List ℕ). l ++ (digitByte (suc k % 10) ∷ []))
+    (spelled-more k (suc k / 10) (ltb (suc k / 10) 10) (suc k / 10) refl (omega arith)
     (omega arith)))
 
 pub length-more : (n : ℕ) → 10 ≤ n → length (decimal n) ≡ length (decimal (n / 10)) + 1

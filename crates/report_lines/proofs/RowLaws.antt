@@ -7,7 +7,7 @@ use native.Mathlib.Omega.{arith}
 use lib.ListN.{length}
 use lib.Seq.{sets}
 use Rattle.usage.specs.Answers.{Verdict, allowed, violated, refused, answer, detail}
-use Rattle.report_lines.specs.Lines.{namesLine, namesRoom, row, verdictRow}
+use Rattle.report_lines.specs.Lines.{namesLine, namesRoom, traceNamesLine, traceNamesRoom, row, verdictRow}
 use Rattle.report_lines.proofs.DecimalLaws.{tens, length-below}
 use Rattle.report_lines.specs.Put.{putAt, endAt}
 use Rattle.report_lines.proofs.PutLaws.{length-field, length-row}
@@ -31,8 +31,12 @@ pub row-short : (line answer detail : ℕ) → line < 10000 → answer < 10 → 
 row-short line a d hl ha hd = row-below 3 0 1 line a d (omega arith) (omega arith) (omega arith)
 
 -- that of an outline is 0 with a verdict, or a sheet's refusal
-pub row-eight : (line answer detail : ℕ) → line < 1000 → answer < 10 → detail < 10 → length (row line answer detail) ≤ 8
-row-eight line a d hl ha hd = row-below 2 0 0 line a d (omega arith) (omega arith) (omega arith)
+pub row-nine : (line answer detail : ℕ) → line < 1000 → answer < 10 → detail < 100 → length (row line answer detail) ≤ 9
+row-nine line a d hl ha hd = row-below 2 0 1 line a d (omega arith) (omega arith) (omega arith)
+
+-- those of a step of a counterexample are a kind, an action or a policy, and a resource
+pub step-nine : (kind a b : ℕ) → kind < 10 → a < 100 → b < 1000 → length (row kind a b) ≤ 9
+step-nine kind a b hk ha hb = row-below 0 1 2 kind a b (omega arith) (omega arith) (omega arith)
 
 answer-small : (v : Verdict) → answer v < 10
 answer-small allowed = omega arith
@@ -46,13 +50,22 @@ pub length-names : length namesLine ≡ namesRoom
 unfolding namesLine
 length-names = refl
 
--- of the numbers that the function returns
+pub length-trace-names : length traceNamesLine ≡ traceNamesRoom
+unfolding traceNamesLine
+length-trace-names = refl
+
+-- a text at the start, of the numbers that the functions return
+pub begin-stored : {r : ℕ} {after : List ℕ} (buffer text : List ℕ) → length text ≤ length buffer → r ≡ endAt buffer 0 text → after
+    ≡ putAt buffer 0 text
+    → (r ≡ length text) × (after ≡ sets buffer 0 text)
+begin-stored buffer text h e t =
+    let z = stored-at buffer 0 text (rw (zero-add (length text)) h) e t in
+    (z .0 ∙ zero-add (length text), z .1)
+
 pub names-stored : {r : ℕ} {after : List ℕ} (buffer : List ℕ) → namesRoom ≤ length buffer → r ≡ endAt buffer 0 namesLine → after
     ≡ putAt buffer 0 namesLine
     → (r ≡ length namesLine) × (after ≡ sets buffer 0 namesLine)
-names-stored buffer h e t =
-    let z = stored-at buffer 0 namesLine (rw (zero-add (length namesLine), length-names) h) e t in
-    (z .0 ∙ zero-add (length namesLine), z .1)
+names-stored buffer h e t = begin-stored buffer namesLine (rw length-names h) e t
 
 pub verdict-eight : (v : Verdict) → detail v < 256 → length (verdictRow 0 v) ≤ 8
 verdict-eight v h = row-below 0 0 2 0 (answer v) (detail v) (omega arith) (answer-small v) (omega arith)

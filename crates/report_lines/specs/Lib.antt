@@ -1,4 +1,4 @@
--- The lines that the two programs print ("The two programs"). Nothing is proved here; the laws are in proofs/.
+-- The lines that the programs print ("The two programs"). Nothing is proved here; the laws are in proofs/.
 pub mod Decimal
 pub mod Lines
 -- What is done with a lent buffer.

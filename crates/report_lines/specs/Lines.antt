@@ -3,6 +3,7 @@ use Prim.Native.Nat.{ℕ, suc}
 use mathlib.Core.List.{List, [], _∷_, _++_}
 use Rattle.usage.specs.Answers.{Verdict, answer, detail, Refusal}
 use Rattle.sheet_lines.specs.Bytes.{bytes}
+use Rattle.sheet_lines.specs.Sheets.{traceSheet}
 use Rattle.report_lines.specs.Decimal.{decimal}
 
 -- "It prints `line answer detail`"
@@ -12,6 +13,13 @@ namesLine = bytes "line answer detail\n"
 -- its bytes (`length-names` of proofs/RowLaws)
 abbrev pub namesRoom : ℕ
 namesRoom = 19
+
+-- the names line of a trace sheet, where steps are printed, and its bytes (`length-trace-names` of proofs/RowLaws)
+unfoldable pub traceNamesLine : List ℕ
+traceNamesLine = traceSheet .names
+
+abbrev pub traceNamesRoom : ℕ
+traceNamesRoom = 9
 
 -- a number and the byte after it
 unfoldable pub field : ℕ → ℕ → List ℕ

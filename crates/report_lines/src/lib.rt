@@ -1,26 +1,43 @@
-// The lines that the two programs print, put into a lent buffer. Where the buffer lacks the room for one, nothing is written.
+// The lines that the programs print, put into a lent buffer. Where the buffer lacks the room for one, nothing is written.
 ghost use mathlib.Core.Path.{_≡_};
 ghost use Prim.Native.Nat.{_+_, _<_, _≤_};
 ghost use lib.ListN.{length};
 ghost use lib.Seq.{sets};
 ghost use Rattle.report_lines.specs.Decimal.{decimal};
-ghost use Rattle.report_lines.specs.Lines.{namesLine, field as Lines·field, row as Lines·row};
+ghost use Rattle.report_lines.specs.Lines.{namesLine, traceNamesLine, field as Lines·field, row as Lines·row};
 ghost use Rattle.report_lines.specs.Put.{putAt, endAt};
 
-// The bytes of the line of names.
+// The bytes of the line of names, and of that of a trace sheet.
 pub const NAMES: usize = 19;
+
+pub const TRACE_NAMES: usize = 9;
 
 // The line of names, at the start: the place after it, and 0 where `out` lacks the room.
 pub fn names(out: &mut [u8]) -> usize
     ensures { λ r. ⌜ r ≡ endAt (now (out .entry)) 0 namesLine ⌝ }
     ensures { λ r. ⌜ now (out .exit) ≡ putAt (now (out .entry)) 0 namesLine ⌝ }
 {
-    if out.len() < NAMES {
+    begin(out, b"line answer detail\n")
+}
+
+// The same with the names line of a trace sheet.
+pub fn trace_names(out: &mut [u8]) -> usize
+    ensures { λ r. ⌜ r ≡ endAt (now (out .entry)) 0 traceNamesLine ⌝ }
+    ensures { λ r. ⌜ now (out .exit) ≡ putAt (now (out .entry)) 0 traceNamesLine ⌝ }
+{
+    begin(out, b"kind a b\n")
+}
+
+// A text, at the start.
+fn begin(out: &mut [u8], text: &[u8]) -> usize
+    ensures { λ r. ⌜ r ≡ endAt (now (out .entry)) 0 (now (text .entry)) ⌝ }
+    ensures { λ r. ⌜ now (out .exit) ≡ putAt (now (out .entry)) 0 (now (text .entry)) ⌝ }
+{
+    if out.len() < text.len() {
         return 0;
     }
-    let text = b"line answer detail\n";
     let mut i: usize = 0;
-    while i < NAMES {
+    while i < text.len() {
         out[i] = text[i];
         i += 1;
     }

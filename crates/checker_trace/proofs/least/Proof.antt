@@ -20,7 +20,7 @@ abbrev μ-loop : tie.MeasureT-loop
 
 -- src/lib.rt:80:5
 loop-holds : tie.Need-loop-holds Inv-loop μ-loop
-loop-holds c = (search needs, record { told = λ h. absurd (omega arith); least = λ y l. absurd (omega arith) })
+loop-holds c = (search needs, record { fits = omega arith; told = λ h. absurd (omega arith); least = λ y l w. absurd (omega arith) })
 
 -- src/lib.rt:86:13
 steps-requires : tie.Need-steps-requires Inv-loop μ-loop
@@ -45,17 +45,20 @@ loop-again c =
     (λ u. (
       omega arith,
       subst (λ (i : ℕ). laws.Least-below (a .local) (a .p) (a .rows .now) (a .nodes .now) (l .x + 1) (c .if1 .resource) i) (sym (u .2))
-          (subst (λ (i : ℕ). laws.Least-below (a .local) (a .p) (a .rows .now) (a .nodes .now) (l .x + 1) i v) (sym (u .1)) (laws.least-take (a .local) (a .p) (a .rows .now) (a .nodes .now) (l .inv .1) (omega arith) v (c .before .steps .ensures) (u .0 .taken))),
+          (subst (λ (i : ℕ). laws.Least-below (a .local) (a .p) (a .rows .now) (a .nodes .now) (l .x + 1) i v) (sym (u .1))
+          (laws.least-take (a .local) (a .p) (a .rows .now) (a .nodes .now) (l .inv .1) (omega arith) v (c .before .steps .ensures)
+          (u .0 .taken))),
     ))
     (λ u. (
       omega arith,
       subst (λ (i : ℕ). laws.Least-below (a .local) (a .p) (a .rows .now) (a .nodes .now) (l .x + 1) (c .if1 .resource) i) (sym (u .2))
-          (subst (λ (i : ℕ). laws.Least-below (a .local) (a .p) (a .rows .now) (a .nodes .now) (l .x + 1) i (l .length)) (sym (u .1)) (laws.least-keep (a .local) (a .p) (a .rows .now) (a .nodes .now) (l .inv .1) v (c .before .steps .ensures) (u .0 .left))),
+          (subst (λ (i : ℕ). laws.Least-below (a .local) (a .p) (a .rows .now) (a .nodes .now) (l .x + 1) i (l .length)) (sym (u .1))
+          (laws.least-keep (a .local) (a .p) (a .rows .now) (a .nodes .now) (l .inv .1) v (c .before .steps .ensures) (u .0 .left))),
     ))
 
 -- src/lib.rt:73:1
 returns : tie.Need-returns Inv-loop μ-loop
-returns c = let l = c .before .loop in record { told = l .inv .1 .told; least = λ y k. l .inv .1 .least y (omega arith) }
+returns c = let l = c .before .loop in record { told = l .inv .1 .told; least = λ y k w. l .inv .1 .least y (omega arith) w }
 
 pub least-spec : {M : Type 1} → statement M
 least-spec =

@@ -30,7 +30,8 @@ root-requires c κs = search needs
 
 -- src/lib.rt:116:5
 write-requires : tie.Need-write-requires
-write-requires c κs = let p = c .before .before .before .before .before .before .before .pre in (p .0, (p .1 .0, (omega arith, omega arith)))
+write-requires c κs = let p = c .before .before .before .before .before .before .before .pre in
+    (p .0, (p .1 .0, (omega arith, omega arith)))
 
 -- src/lib.rt:100:1
 same-length : tie.Need-same-length
@@ -38,7 +39,20 @@ same-length c = c .before .before .write .ensures .0
 
 -- src/lib.rt:100:1
 returns : tie.Need-returns
-returns c = let a = c .before .before .before .before .before .before .before .before .before .before .args in let p = c .before .before .before .before .before .before .before .before .before .before .pre in (c .before .before .write .ensures .0, laws.root-shows (a .w) (a .rows .now) (a .nodes .now) (c .before .before .before .before .before .before .fill .last .1 .1 .1 .0) (a .n) (a .trace .now) (c .before .before .write .result) (c .before .before .write .last .1 .1 .1 .1 .0) (subst (λ (b : Bool). FullIf b (a .w) (a .rows .now) (a .nodes .now) (c .before .before .before .before .before .before .fill .last .1 .1 .1 .0)) (le-leb (length (a .nodes .now) / 3) 64 (p .0)) (c .before .before .before .before .before .before .fill .ensures)) (p .1 .0) (p .1 .1) (subst (λ (y : Entry). Writes (a .w) (a .rows .now) (a .nodes .now) (c .before .before .before .before .before .before .fill .last .1 .1 .1 .0) y (a .n) laws.none-given laws.at-first (a .trace .now) (c .before .before .write .result) (c .before .before .write .last .1 .1 .1 .1 .0)) (c .before .before .before .root .ensures) (c .before .before .write .ensures .1 .1)))
+returns c = let a = c .before .before .before .before .before .before .before .before .before .before .args in let p =
+    c .before .before .before .before .before .before .before .before .before .before .pre in (
+      c .before .before .write .ensures .0,
+      laws.root-shows (a .w) (a .rows .now) (a .nodes .now)
+          (c .before .before .before .before .before .before .fill .last .1 .1 .1 .0) (a .n) (a .trace .now) (c .before .before .write .result)
+          (c .before .before .write .last .1 .1 .1 .1 .0)
+          (subst (λ (b : Bool). FullIf b (a .w) (a .rows .now) (a .nodes .now)
+          (c .before .before .before .before .before .before .fill .last .1 .1 .1 .0)) (le-leb (length (a .nodes .now) / 3) 64 (p .0))
+          (c .before .before .before .before .before .before .fill .ensures)) (p .1 .0) (p .1 .1)
+          (subst (λ (y : Entry). Writes (a .w) (a .rows .now) (a .nodes .now)
+          (c .before .before .before .before .before .before .fill .last .1 .1 .1 .0) y (a .n) laws.none-given laws.at-first (a .trace .now)
+          (c .before .before .write .result) (c .before .before .write .last .1 .1 .1 .1 .0)) (c .before .before .before .root .ensures)
+          (c .before .before .write .ensures .1 .1)),
+    )
 
 pub show-spec : {M : Type 1} → statement M
 show-spec = tie.close (tie.spec fill-requires root-requires write-requires same-length returns)

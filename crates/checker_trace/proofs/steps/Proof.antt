@@ -1,5 +1,8 @@
 use Prim.Native.Nat.{_/_}
 use mathlib.Core.Path.{subst}
+use Rattle.usage.proofs.Logic.{not-true, not-false}
+use Rattle.checker_lengths.specs.Entries.{noLength}
+use Rattle.checker_trace.specs.Code.{StepsIf}
 use mathlib.Core.Bool.{Bool}
 use borrow.Author.Tests.{le-leb}
 use Rattle.checker_lengths.specs.declared.Entry.{Entry}
@@ -18,21 +21,36 @@ use Rattle.checker_lengths.proofs.entries.get.Reads as get-reads
 use Rattle.checker_lengths.proofs.fill.fill.Reads as fill-reads
 use Rattle.checker_trace.proofs.root.Reads as root-reads
 
--- src/lib.rt:68:5
+touched-requires : tie.Need-touched-requires
+touched-requires c κs = search needs
+
+returns : tie.Need-returns
+returns c =
+    let a = c .before .before .before .args in
+    let k = c .before .touched in
+    subst (λ (b : Bool). StepsIf b (a .w) (a .rows .now) (a .nodes .now) noLength)
+    (sym (sym (k .ensures) ∙ not-true (k .result) (c .if1 .taken))) refl
+
 fill-requires : tie.Need-fill-requires
 fill-requires c κs = search needs
 
--- src/lib.rt:69:44
 root-requires : tie.Need-root-requires
 root-requires c κs = search needs
 
--- src/lib.rt:69:5
 get-requires : tie.Need-get-requires
 get-requires c κs = search needs
 
--- src/lib.rt:63:1
-returns : tie.Need-returns
-returns c = let a = c .before .before .before .before .before .before .args in (c .before .before .before .fill .last .1 .1 .1 .0, subst (λ (b : Bool). FullIf b (a .w) (a .rows .now) (a .nodes .now) (c .before .before .before .fill .last .1 .1 .1 .0)) (le-leb (length (a .nodes .now) / 3) 64 (c .before .before .before .before .before .before .pre)) (c .before .before .before .fill .ensures), c .get .ensures ∙ ap (held (c .before .before .before .fill .last .1 .1 .1 .0) 201) (c .before .root .ensures))
+returns-2 : tie.Need-returns-2
+returns-2 c =
+    let a = c .before .before .before .before .before .before .before .before .args in
+    let k = c .before .before .before .before .before .before .touched in
+    let t = c .before .before .before .fill .last .1 .1 .1 .0 in
+    let full = subst (λ (b : Bool). FullIf b (a .w) (a .rows .now) (a .nodes .now) t)
+    (le-leb (length (a .nodes .now) / 3) 64 (c .before .before .before .before .before .before .before .before .pre))
+    (c .before .before .before .fill .ensures) in
+    subst (λ (b : Bool). StepsIf b (a .w) (a .rows .now) (a .nodes .now) (c .get .result))
+    (sym (sym (k .ensures) ∙ not-false (k .result) (c .before .before .before .before .before .if1 .left)))
+    (t, full, c .get .ensures ∙ ap (held t 201) (c .before .root .ensures))
 
 pub steps-spec : {M : Type 1} → statement M
-steps-spec = tie.close (tie.spec fill-requires root-requires get-requires returns)
+steps-spec = tie.close (tie.spec touched-requires returns fill-requires root-requires get-requires returns-2)

@@ -26,15 +26,18 @@ place-requires c κs = sym (c .before .inside .ensures) ∙ not-false _ (c .if1 
 
 -- src/entries.rt:46:13
 element-copy-out-v : tie.Need-element-copy-out-v
-element-copy-out-v c = let h = linear-lt (c .before .before .before .args .e) (sym (c .before .before .inside .ensures) ∙ not-false _ (c .before .if1 .left)) in omega (arith, c .place .ensures)
+element-copy-out-v c = let h = linear-lt (c .before .before .before .args .e)
+    (sym (c .before .before .inside .ensures) ∙ not-false _ (c .before .if1 .left)) in omega (arith, c .place .ensures)
 
 -- src/entries.rt:40:1
 returns-2 : tie.Need-returns-2
-returns-2 c = held-less _ _ _ _ (sym (c .before .before .before .before .inside .ensures) ∙ not-false _ (c .before .before .before .if1 .left)) (c .before .before .place .ensures) (c .if2 .taken)
+returns-2 c = held-less _ _ _ _ (sym (c .before .before .before .before .inside .ensures)
+    ∙ not-false _ (c .before .before .before .if1 .left)) (c .before .before .place .ensures) (c .if2 .taken)
 
 -- src/entries.rt:40:1
 returns-3 : tie.Need-returns-3
-returns-3 c = held-more _ _ _ _ (sym (c .before .before .before .before .inside .ensures) ∙ not-false _ (c .before .before .before .if1 .left)) (c .before .before .place .ensures) (c .if2 .left)
+returns-3 c = held-more _ _ _ _ (sym (c .before .before .before .before .inside .ensures)
+    ∙ not-false _ (c .before .before .before .if1 .left)) (c .before .before .place .ensures) (c .if2 .left)
 
 pub get-spec : {M : Type 1} → statement M
 get-spec =

@@ -23,12 +23,20 @@ returns-2 c = simp (lt-ltb _ _ (c .before .before .if1 .left), le-ltb _ _ (c .if
 -- src/entries.rt:22:9
 returns-3 : tie.Need-returns-3
 unfolding inTable
-returns-3 c = simp (lt-ltb _ _ (c .before .before .before .before .if1 .left), lt-ltb _ _ (c .before .before .if2 .left), le-ltb _ _ (c .if3 .taken))
+returns-3 c = simp (
+  lt-ltb _ _ (c .before .before .before .before .if1 .left),
+  lt-ltb _ _ (c .before .before .if2 .left),
+  le-ltb _ _ (c .if3 .taken),
+)
 
 -- src/entries.rt:12:1
 returns-4 : tie.Need-returns-4
 unfolding inTable
-returns-4 c = rw (lt-ltb _ _ (c .before .before .before .before .before .if1 .left), lt-ltb _ _ (c .before .before .before .if2 .left), lt-ltb _ _ (c .before .if3 .left))
+returns-4 c = rw (
+  lt-ltb _ _ (c .before .before .before .before .before .if1 .left),
+  lt-ltb _ _ (c .before .before .before .if2 .left),
+  lt-ltb _ _ (c .before .if3 .left),
+)
 
 pub inside-spec : {M : Type 1} → statement M
 inside-spec = tie.close (tie.spec returns returns-2 returns-3 returns-4)

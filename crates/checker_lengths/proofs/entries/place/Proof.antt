@@ -35,7 +35,8 @@ mul-result-3 c = let b = bounds (c .before .before .before .before .args .e) (c 
 
 -- src/entries.rt:33:9
 add-result-4 : tie.Need-add-result-4
-add-result-4 c = let b = bounds (c .before .before .before .before .before .args .e) (c .before .before .before .before .before .pre) in omega arith
+add-result-4 c = let b = bounds (c .before .before .before .before .before .args .e) (c .before .before .before .before .before .pre) in
+    omega arith
 
 -- src/entries.rt:35:10
 mul-result-4 : tie.Need-mul-result-4
@@ -59,7 +60,8 @@ mul-result-6 c = let b = bounds (c .before .before .before .before .args .e) (c 
 
 -- src/entries.rt:35:9
 add-result-7 : tie.Need-add-result-7
-add-result-7 c = let b = bounds (c .before .before .before .before .before .args .e) (c .before .before .before .before .before .pre) in omega arith
+add-result-7 c = let b = bounds (c .before .before .before .before .before .args .e) (c .before .before .before .before .before .pre) in
+    omega arith
 
 -- src/entries.rt:28:1
 returns : tie.Need-returns

@@ -42,7 +42,9 @@ abbrev μ-loop : tie.MeasureT-loop
 
 -- src/fill.rt:138:9
 returns : tie.Need-returns Inv-loop μ-loop
-returns c = let a = c .before .before .before .args in subst (λ (b : Bool). FullIf b (a .w) (a .rows .now) (a .nodes .now) (replicate 104448 255)) (sym (lt-leb (length (a .nodes .now) / 3) 64 (c .if1 .taken))) refl
+returns c = let a = c .before .before .before .args in
+    subst (λ (b : Bool). FullIf b (a .w) (a .rows .now) (a .nodes .now) (replicate 104448 255))
+    (sym (lt-leb (length (a .nodes .now) / 3) 64 (c .if1 .taken))) refl
 
 -- src/fill.rt:140:9
 least-requires : tie.Need-least-requires Inv-loop μ-loop
@@ -54,7 +56,9 @@ loop-holds c = (length-replicate {A = ℕ} 104448 255, start)
 
 -- src/fill.rt:142:13
 settle-round-requires : tie.Need-settle-round-requires Inv-loop μ-loop
-settle-round-requires c κs = let e = c .before .before .least .ensures in let m = least-le (c .before .before .before .before .before .before .args .w .resource) in (c .before .loop .inv .0, (omega arith, c .before .before .before .if1 .left))
+settle-round-requires c κs = let e = c .before .before .least .ensures in let m =
+    least-le (c .before .before .before .before .before .before .args .w .resource) in
+    (c .before .loop .inv .0, (omega arith, c .before .before .before .if1 .left))
 
 -- src/fill.rt:143:13
 returns-2 : tie.Need-returns-2 Inv-loop μ-loop
@@ -63,12 +67,14 @@ returns-2 c =
     let l = c .before .before .before .loop in
     let p = c .before .settle-round .ensures in
     let f = not-true (c .before .settle-round .result) (c .if2 .taken) in
-    subst (λ (b : Bool). FullIf b (a .w) (a .rows .now) (a .nodes .now) (c .before .settle-round .last .0)) (sym (le-leb (length (a .nodes .now) / 3) 64 (c .before .before .before .before .before .if1 .left)))
+    subst (λ (b : Bool). FullIf b (a .w) (a .rows .now) (a .nodes .now) (c .before .settle-round .last .0))
+    (sym (le-leb (length (a .nodes .now) / 3) 64 (c .before .before .before .before .before .if1 .left)))
     (record {
       reach = p .changes (l .inv .1);
       settled =
           subst (λ (u : List ℕ). RoundSettled (a .w) (a .rows .now) (a .nodes .now) u (least (a .w .resource))) (sym (p .kept f))
-          (subst (λ (m : ℕ). RoundSettled (a .w) (a .rows .now) (a .nodes .now) (l .t) m) (c .before .before .before .before .least .ensures) (p .settled f));
+          (subst (λ (m : ℕ). RoundSettled (a .w) (a .rows .now) (a .nodes .now) (l .t) m)
+          (c .before .before .before .before .least .ensures) (p .settled f));
     })
 
 -- src/fill.rt:141:5
@@ -77,7 +83,8 @@ loop-less c = c .before .settle-round .ensures .lower (not-false (c .before .set
 
 -- src/fill.rt:141:5
 loop-again : tie.Need-loop-again Inv-loop μ-loop
-loop-again c = let p = c .before .settle-round .ensures in (p .same-size ∙ c .before .before .before .loop .inv .0, p .changes (c .before .before .before .loop .inv .1))
+loop-again c = let p = c .before .settle-round .ensures in
+    (p .same-size ∙ c .before .before .before .loop .inv .0, p .changes (c .before .before .before .loop .inv .1))
 
 pub fill-spec : {M : Type 1} → statement M
 fill-spec =

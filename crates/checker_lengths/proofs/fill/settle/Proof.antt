@@ -23,19 +23,28 @@ place-requires c κs = c .before .before .pre .1
 
 -- src/fill.rt:31:12
 element-copy-out-if1 : tie.Need-element-copy-out-if1
-element-copy-out-if1 c = let h = linear-lt (c .before .before .before .args .e) (c .before .before .before .pre .1) in omega (arith, c .place .ensures)
+element-copy-out-if1 c = let h = linear-lt (c .before .before .before .args .e) (c .before .before .before .pre .1) in
+    omega (arith, c .place .ensures)
 
 -- src/fill.rt:32:9
 element-write-t : tie.Need-element-write-t
-element-write-t c = let h = linear-lt (c .before .before .before .before .before .args .e) (c .before .before .before .before .before .pre .1) in omega (arith, c .before .before .place .ensures)
+element-write-t c = let h = linear-lt (c .before .before .before .before .before .args .e)
+    (c .before .before .before .before .before .pre .1) in omega (arith, c .before .before .place .ensures)
 
 -- src/fill.rt:24:1
 returns : tie.Need-returns
-returns c = let a = c .before .before .before .before .before .args in let h = linear-lt (a .e) (c .before .before .before .before .before .pre .1) in pass-falls (a .w) (a .rows .now) (formOf (a .f)) (a .e) (a .c) (a .t .now) (c .before .before .place .result) (c .before .before .before .offer .result) (c .before .before .place .ensures) (c .before .before .before .offer .ensures) (omega (arith, c .before .before .place .ensures)) (c .before .before .before .before .before .pre .1) (c .if1 .taken)
+returns c = let a = c .before .before .before .before .before .args in let h =
+    linear-lt (a .e) (c .before .before .before .before .before .pre .1) in
+    pass-falls (a .w) (a .rows .now) (formOf (a .f)) (a .e) (a .c) (a .t .now) (c .before .before .place .result)
+    (c .before .before .before .offer .result) (c .before .before .place .ensures) (c .before .before .before .offer .ensures)
+    (omega (arith, c .before .before .place .ensures)) (c .before .before .before .before .before .pre .1) (c .if1 .taken)
 
 -- src/fill.rt:24:1
 returns-2 : tie.Need-returns-2
-returns-2 c = let a = c .before .before .before .before .before .args in pass-kept (a .w) (a .rows .now) (formOf (a .f)) (a .e) (a .c) (a .t .now) (c .before .before .place .result) (c .before .before .before .offer .result) (c .before .before .place .ensures) (c .before .before .before .offer .ensures) (c .if1 .left)
+returns-2 c = let a = c .before .before .before .before .before .args in
+    pass-kept (a .w) (a .rows .now) (formOf (a .f)) (a .e) (a .c) (a .t .now) (c .before .before .place .result)
+    (c .before .before .before .offer .result) (c .before .before .place .ensures) (c .before .before .before .offer .ensures)
+    (c .if1 .left)
 
 pub settle-spec : {M : Type 1} → statement M
 settle-spec =

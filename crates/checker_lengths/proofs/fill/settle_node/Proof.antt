@@ -26,7 +26,8 @@ use Rattle.checker_lengths.proofs.fill.settle_node.Lts as lts
 use Rattle.checker_lengths.proofs.fill.settle_start.Reads as settle-start-reads
 
 abbrev Inv-loop : tie.InvT-loop
-Inv-loop t₀ rows w f l k n changed₀ i₀ t changed i = (i ≤ n) × Pass (Lowers w rows k (formOf f)) (λ u. (j : ℕ) → j < i → StartSettled w rows (formOf f) u (startAt l k j)) t₀ t changed
+Inv-loop t₀ rows w f l k n changed₀ i₀ t changed i = (i ≤ n)
+    × Pass (Lowers w rows k (formOf f)) (λ u. (j : ℕ) → j < i → StartSettled w rows (formOf f) u (startAt l k j)) t₀ t changed
 
 abbrev μ-loop : tie.MeasureT-loop
 μ-loop t₀ rows w f l k n changed₀ i₀ t changed i = n - i
@@ -57,7 +58,11 @@ add-j c = search needs
 
 -- src/fill.rt:97:12
 settle-start-requires : tie.Need-settle-start-requires Inv-loop μ-loop
-settle-start-requires c κs = let l = c .before .before .loop in let i = c .before .loop-test .taken in (l .inv .1 .same-size ∙ c .before .before .before .pre .0, in-table (toward (startAt (c .before .before .before .args .l) (c .before .before .before .args .k) (l .i)) 0) (c .before .before .before .pre .1 .1) (omega arith) (omega arith) (omega arith))
+settle-start-requires c κs = let l = c .before .before .loop in let i = c .before .loop-test .taken in (
+  l .inv .1 .same-size ∙ c .before .before .before .pre .0,
+  in-table (toward (startAt (c .before .before .before .args .l) (c .before .before .before .args .k) (l .i)) 0)
+      (c .before .before .before .pre .1 .1) (omega arith) (omega arith) (omega arith),
+)
 
 -- src/fill.rt:100:9
 add-i : tie.Need-add-i Inv-loop μ-loop
@@ -77,7 +82,8 @@ loop-again c =
       omega arith,
       pass-then (λ x y nodes h g r. y nodes h g (x nodes h g r))
           (λ x y. below-more (λ (j : ℕ). StartSettled (a .w) (a .rows .now) f (a .t .now) (startAt (a .l) (a .k) j)) (l .i) x y)
-          (l .inv .1) (c .before .settle-start .ensures) (by-cases (c .if1 .came) (λ u. inl (u .0 .taken, u .1)) (λ u. inr (u .0 .left, u .1))),
+          (l .inv .1) (c .before .settle-start .ensures)
+          (by-cases (c .if1 .came) (λ u. inl (u .0 .taken, u .1)) (λ u. inr (u .0 .left, u .1))),
     )
 
 -- src/fill.rt:79:1

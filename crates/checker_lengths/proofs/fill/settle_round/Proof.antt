@@ -29,7 +29,8 @@ use Rattle.checker_lengths.proofs.fill.settle_node.Reads as settle-node
 use Rattle.checker_lengths.proofs.nodes.node.Reads as node-reads
 
 abbrev Inv-loop : tie.InvT-loop
-Inv-loop t₀ nodes rows w l n changed₀ i₀ t changed i = (i ≤ n) × Pass (Onward w rows nodes) (λ u. (j : ℕ) → j < i → NodeSettled w rows (formHere nodes (n - 1 - j)) u l (n - 1 - j)) t₀ t changed
+Inv-loop t₀ nodes rows w l n changed₀ i₀ t changed i = (i ≤ n)
+    × Pass (Onward w rows nodes) (λ u. (j : ℕ) → j < i → NodeSettled w rows (formHere nodes (n - 1 - j)) u l (n - 1 - j)) t₀ t changed
 
 abbrev μ-loop : tie.MeasureT-loop
 μ-loop t₀ nodes rows w l n changed₀ i₀ t changed i = n - i
@@ -52,7 +53,11 @@ node-requires c κs = search needs
 
 -- src/fill.rt:117:12
 settle-node-requires : tie.Need-settle-node-requires Inv-loop μ-loop
-settle-node-requires c κs = let l = c .before .before .before .loop in let i = c .before .before .loop-test .taken in let few = c .before .before .before .before .before .pre .1 .1 in (l .inv .1 .same-size ∙ c .before .before .before .before .before .pre .0, (c .before .before .before .before .before .pre .1 .0, omega arith))
+settle-node-requires c κs = let l = c .before .before .before .loop in let i = c .before .before .loop-test .taken in let few =
+    c .before .before .before .before .before .pre .1 .1 in (
+      l .inv .1 .same-size ∙ c .before .before .before .before .before .pre .0,
+      (c .before .before .before .before .before .pre .1 .0, omega arith),
+    )
 
 -- src/fill.rt:120:9
 add-i : tie.Need-add-i Inv-loop μ-loop
@@ -71,11 +76,14 @@ loop-again c =
     let n = length (a .nodes .now) / 3 in
     let k = n - 1 - l .i in
     let e = c .before .before .node .ensures in
-    let p = pass-map {Q = Onward (a .w) (a .rows .now) (a .nodes .now)} {D = λ u. NodeSettled (a .w) (a .rows .now) (formHere (a .nodes .now) k) u (a .l) k} (λ x. x (a .nodes .now) (omega arith) (ap formOf (sym e)))
+    let p = pass-map {Q = Onward (a .w) (a .rows .now) (a .nodes .now)} {D =
+    λ u. NodeSettled (a .w) (a .rows .now) (formHere (a .nodes .now) k) u (a .l) k}
+    (λ x. x (a .nodes .now) (omega arith) (ap formOf (sym e)))
     (λ x. subst (λ (f : Node). NodeSettled (a .w) (a .rows .now) (formOf f) (l .t) (a .l) k) e x) (c .before .settle-node .ensures) in (
       omega arith,
       pass-then (λ x y r. y (x r))
-          (λ x y. below-more (λ (j : ℕ). NodeSettled (a .w) (a .rows .now) (formHere (a .nodes .now) (n - 1 - j)) (a .t .now) (a .l) (n - 1 - j)) (l .i) x y)
+          (λ x y. below-more (λ (j : ℕ). NodeSettled (a .w) (a .rows .now) (formHere (a .nodes .now) (n - 1 - j)) (a .t .now) (a .l)
+          (n - 1 - j)) (l .i) x y)
           (l .inv .1) p (by-cases (c .if1 .came) (λ u. inl (u .0 .taken, u .1)) (λ u. inr (u .0 .left, u .1))),
     )
 
@@ -87,7 +95,8 @@ returns c =
     let n = length (a .nodes .now) / 3 in
     pass-map (λ x. x) (λ h k low.
     let e : n - 1 - (n - 1 - k) ≡ k = omega arith in
-    subst (λ (j : ℕ). NodeSettled (a .w) (a .rows .now) (formHere (a .nodes .now) j) (a .t .now) (a .l) j) e (h (n - 1 - k) (omega arith))) (l .inv .1)
+    subst (λ (j : ℕ). NodeSettled (a .w) (a .rows .now) (formHere (a .nodes .now) j) (a .t .now) (a .l) j) e (h (n - 1 - k) (omega arith)))
+    (l .inv .1)
 
 pub settle-round-spec : {M : Type 1} → statement M
 settle-round-spec =

@@ -28,7 +28,9 @@ use Rattle.checker_lengths.proofs.offers.low_end.Reads as low-end-reads
 use Rattle.checker_lengths.proofs.offers.toward.Reads as toward-reads
 
 abbrev Inv-loop : tie.InvT-loop
-Inv-loop t₀ rows w f s c changed₀ i₀ t changed i = (i ≤ 17) × Pass (Lowers w rows (s .node) (formOf f)) (λ u. (j : ℕ) → j < i → lowEnd (s .meaning) ≤ j → Settled w rows (formOf f) u (toward s j) c) t₀ t changed
+Inv-loop t₀ rows w f s c changed₀ i₀ t changed i = (i ≤ 17)
+    × Pass (Lowers w rows (s .node) (formOf f)) (λ u. (j : ℕ) → j < i → lowEnd (s .meaning) ≤ j
+    → Settled w rows (formOf f) u (toward s j) c) t₀ t changed
 
 abbrev μ-loop : tie.MeasureT-loop
 μ-loop t₀ rows w f s c changed₀ i₀ t changed i = 17 - i
@@ -50,7 +52,8 @@ low-end-requires c κs = search needs
 
 -- src/fill.rt:51:5
 loop-holds : tie.Need-loop-holds Inv-loop μ-loop
-loop-holds c = let g = c .low-end .ensures in let m = low-end-le (c .before .before .before .before .args .s .meaning) in (omega arith, pass-none (λ nodes h f r. r) (λ j k l. absurd (omega arith)))
+loop-holds c = let g = c .low-end .ensures in let m = low-end-le (c .before .before .before .before .args .s .meaning) in
+    (omega arith, pass-none (λ nodes h f r. r) (λ j k l. absurd (omega arith)))
 
 -- src/fill.rt:52:34
 toward-requires : tie.Need-toward-requires Inv-loop μ-loop
@@ -58,7 +61,12 @@ toward-requires c κs = search needs
 
 -- src/fill.rt:52:12
 settle-requires : tie.Need-settle-requires Inv-loop μ-loop
-settle-requires c κs = let l = c .before .before .before .loop in (l .inv .1 .same-size ∙ c .before .before .before .before .before .before .before .before .pre .0, subst (λ (e : Entry). inTable e ≡ true) (sym (c .toward .ensures)) (toward-in (c .before .before .before .before .before .before .before .before .args .s) (l .i) (c .before .before .before .before .before .before .before .before .pre .1) (c .before .before .loop-test .taken)))
+settle-requires c κs = let l = c .before .before .before .loop in (
+  l .inv .1 .same-size ∙ c .before .before .before .before .before .before .before .before .pre .0,
+  subst (λ (e : Entry). inTable e ≡ true) (sym (c .toward .ensures))
+      (toward-in (c .before .before .before .before .before .before .before .before .args .s) (l .i)
+      (c .before .before .before .before .before .before .before .before .pre .1) (c .before .before .loop-test .taken)),
+)
 
 -- src/fill.rt:55:9
 add-i : tie.Need-add-i Inv-loop μ-loop
@@ -75,10 +83,12 @@ loop-again c =
     let l = c .before .before .before .before .before .loop in
     let k = c .before .before .before .before .loop-test .taken in
     let f = formOf (a .f) in
-    let p = subst (λ (e : Entry). Pass (Lowers (a .w) (a .rows .now) (e .node) f) (λ u. Settled (a .w) (a .rows .now) f u e (a .c)) (l .t) (c .before .settle .last .0) (c .before .settle .result)) (c .before .before .toward .ensures) (c .before .settle .ensures) in (
+    let p = subst (λ (e : Entry). Pass (Lowers (a .w) (a .rows .now) (e .node) f) (λ u. Settled (a .w) (a .rows .now) f u e (a .c)) (l .t)
+    (c .before .settle .last .0) (c .before .settle .result)) (c .before .before .toward .ensures) (c .before .settle .ensures) in (
       omega arith,
       pass-then (λ x y nodes h g r. y nodes h g (x nodes h g r))
-          (λ x y. below-more (λ (j : ℕ). lowEnd (a .s .meaning) ≤ j → Settled (a .w) (a .rows .now) f (a .t .now) (toward (a .s) j) (a .c)) (l .i) x (λ _. y))
+          (λ x y. below-more (λ (j : ℕ). lowEnd (a .s .meaning) ≤ j → Settled (a .w) (a .rows .now) f (a .t .now) (toward (a .s) j) (a .c))
+          (l .i) x (λ _. y))
           (l .inv .1) p (by-cases (c .if2 .came) (λ u. inl (u .0 .taken, u .1)) (λ u. inr (u .0 .left, u .1))),
     )
 

@@ -26,7 +26,8 @@ use Rattle.checker_lengths.proofs.fill.settle_rule.Reads as settle-rule
 use Rattle.checker_lengths.proofs.offers.ways.Reads as ways-reads
 
 abbrev Inv-loop : tie.InvT-loop
-Inv-loop t₀ rows w f s n changed₀ c₀ t changed c = (c ≤ n) × Pass (Lowers w rows (s .node) (formOf f)) (λ u. (j : ℕ) → j < c → RuleSettled w rows (formOf f) u s j) t₀ t changed
+Inv-loop t₀ rows w f s n changed₀ c₀ t changed c = (c ≤ n)
+    × Pass (Lowers w rows (s .node) (formOf f)) (λ u. (j : ℕ) → j < c → RuleSettled w rows (formOf f) u s j) t₀ t changed
 
 abbrev μ-loop : tie.MeasureT-loop
 μ-loop t₀ rows w f s n changed₀ c₀ t changed c = n - c
@@ -41,7 +42,10 @@ loop-holds c = (search needs, pass-none (λ nodes h f r. r) (λ j k. absurd (ome
 
 -- src/fill.rt:70:12
 settle-rule-requires : tie.Need-settle-rule-requires Inv-loop μ-loop
-settle-rule-requires c κs = (c .before .before .loop .inv .1 .same-size ∙ c .before .before .before .before .pre .0, c .before .before .before .before .pre .1)
+settle-rule-requires c κs = (
+  c .before .before .loop .inv .1 .same-size ∙ c .before .before .before .before .pre .0,
+  c .before .before .before .before .pre .1,
+)
 
 -- src/fill.rt:73:9
 add-c : tie.Need-add-c Inv-loop μ-loop
@@ -61,12 +65,14 @@ loop-again c =
       omega arith,
       pass-then (λ x y nodes h g r. y nodes h g (x nodes h g r))
           (λ x y. below-more (λ (j : ℕ). RuleSettled (a .w) (a .rows .now) f (a .t .now) (a .s) j) (l .c) x y)
-          (l .inv .1) (c .before .settle-rule .ensures) (by-cases (c .if1 .came) (λ u. inl (u .0 .taken, u .1)) (λ u. inr (u .0 .left, u .1))),
+          (l .inv .1) (c .before .settle-rule .ensures)
+          (by-cases (c .if1 .came) (λ u. inl (u .0 .taken, u .1)) (λ u. inr (u .0 .left, u .1))),
     )
 
 -- src/fill.rt:61:1
 returns : tie.Need-returns Inv-loop μ-loop
-returns c = let l = c .before .loop in let e = c .before .before .ways .ensures in pass-map (λ x. x) (λ h j k. h j (omega arith)) (l .inv .1)
+returns c = let l = c .before .loop in let e = c .before .before .ways .ensures in
+    pass-map (λ x. x) (λ h j k. h j (omega arith)) (l .inv .1)
 
 pub settle-start-spec : {M : Type 1} → statement M
 settle-start-spec =

@@ -30,11 +30,13 @@ has-requires c κs = search needs
 
 -- src/offers.rt:96:1
 returns-3 : tie.Need-returns-3
-returns-3 c = laws.ending-by _ _ _ (c .before .before .before .before .before .before .low-end .ensures) true (c .before .before .before .before .if1 .left) (c .before .before .if2 .left) (sym (c .before .has .ensures) ∙ c .if3 .taken)
+returns-3 c = laws.ending-by _ _ _ (c .before .before .before .before .before .before .low-end .ensures) true
+    (c .before .before .before .before .if1 .left) (c .before .before .if2 .left) (sym (c .before .has .ensures) ∙ c .if3 .taken)
 
 -- src/offers.rt:96:1
 returns-4 : tie.Need-returns-4
-returns-4 c = laws.ending-by _ _ _ (c .before .before .before .before .before .before .low-end .ensures) false (c .before .before .before .before .if1 .left) (c .before .before .if2 .left) (sym (c .before .has .ensures) ∙ c .if3 .left)
+returns-4 c = laws.ending-by _ _ _ (c .before .before .before .before .before .before .low-end .ensures) false
+    (c .before .before .before .before .if1 .left) (c .before .before .if2 .left) (sym (c .before .has .ensures) ∙ c .if3 .left)
 
 pub ending-spec : {M : Type 1} → statement M
 ending-spec =

@@ -30,7 +30,8 @@ breaking-requires c κs = search needs
 
 -- src/offers.rt:247:9
 returns : tie.Need-returns
-returns c = c .breaking .ensures ∙ ap (λ (v : ℕ). breaking v (c .before .before .before .args .e)) (c .before .born .ensures) ∙ laws.fresh-breaks _ _ _ _ _ _ (c .before .before .if1 .taken)
+returns c = c .breaking .ensures ∙ ap (λ (v : ℕ). breaking v (c .before .before .before .args .e)) (c .before .born .ensures)
+    ∙ laws.fresh-breaks _ _ _ _ _ _ (c .before .before .if1 .taken)
 
 -- src/offers.rt:249:13
 born-requires-2 : tie.Need-born-requires-2
@@ -42,7 +43,10 @@ has-requires c κs = search needs
 
 -- src/offers.rt:250:9
 returns-2 : tie.Need-returns-2
-returns-2 c = let a = c .before .before .before .before .args in let look = held (a .t .now) (a .most) in laws.fresh-dead (a .rows .now) look (a .e) (a .n) (a .b) (a .c) (c .before .before .before .if1 .left) (sym (c .before .has .ensures ∙ ap (λ (v : ℕ). has v (a .c % 8)) (c .before .before .born2 .ensures)) ∙ not-true (c .before .has .result) (c .if2 .taken))
+returns-2 c = let a = c .before .before .before .before .args in let look = held (a .t .now) (a .most) in
+    laws.fresh-dead (a .rows .now) look (a .e) (a .n) (a .b) (a .c) (c .before .before .before .if1 .left)
+    (sym (c .before .has .ensures ∙ ap (λ (v : ℕ). has v (a .c % 8)) (c .before .before .born2 .ensures))
+    ∙ not-true (c .before .has .result) (c .if2 .taken))
 
 -- src/offers.rt:252:44
 body-requires : tie.Need-body-requires
@@ -60,7 +64,10 @@ plus-requires c κs = search needs
 returns-3 : tie.Need-returns-3
 returns-3 c = let a = c .before .before .before .before .before .before .before .args in let look = held (a .t .now) (a .most) in
     c .plus .ensures ∙ ap (plus 1) (c .before .get .ensures ∙ ap look (c .before .before .body .ensures))
-    ∙ laws.fresh-on (a .rows .now) look (a .e) (a .n) (a .b) (a .c) (c .before .before .before .before .before .before .if1 .left) (sym (c .before .before .before .before .has .ensures ∙ ap (λ (v : ℕ). has v (a .c % 8)) (c .before .before .before .before .before .born2 .ensures)) ∙ not-false (c .before .before .before .before .has .result) (c .before .before .before .if2 .left))
+    ∙ laws.fresh-on (a .rows .now) look (a .e) (a .n) (a .b) (a .c) (c .before .before .before .before .before .before .if1 .left)
+    (sym (c .before .before .before .before .has .ensures
+    ∙ ap (λ (v : ℕ). has v (a .c % 8)) (c .before .before .before .before .before .born2 .ensures))
+    ∙ not-false (c .before .before .before .before .has .result) (c .before .before .before .if2 .left))
 
 pub fresh-spec : {M : Type 1} → statement M
 fresh-spec =

@@ -41,7 +41,8 @@ returns-2 c = λ g w i.
     let s = spec.toward (a .s) i in
     let v = c .get .ensures ∙ ap look (c .before .first .ensures) in
     let l = leb-false (c .get .result) 200 g in
-    rw (c .before .before .if2 .taken) (sym (laws.sequence-dead look s (a .f .a) (a .f .b) (a .c) (c .before .before .before .before .if1 .left) (omega (arith, v))))
+    rw (c .before .before .if2 .taken) (sym (laws.sequence-dead look s (a .f .a) (a .f .b) (a .c)
+    (c .before .before .before .before .if1 .left) (omega (arith, v))))
 
 -- src/offers.rt:307:20
 born-requires : tie.Need-born-requires
@@ -58,7 +59,9 @@ returns-3 c = λ g w i.
     let a = c .before .before .before .before .before .before .before .args in
     let look = held (a .t .now) 201 in
     let s = spec.toward (a .s) i in
-    rw (c .before .before .if3 .taken) (sym (laws.fresh-dead (a .rows .now) look s (a .f .a) (a .f .b) (a .c) (c .before .before .before .before .before .before .if1 .left) (sym (ap (λ (v : ℕ). has v (a .c % 8)) (c .before .born .ensures)) ∙ sym (c .has .ensures) ∙ g)))
+    rw (c .before .before .if3 .taken) (sym (laws.fresh-dead (a .rows .now) look s (a .f .a) (a .f .b) (a .c)
+    (c .before .before .before .before .before .before .if1 .left)
+    (sym (ap (λ (v : ℕ). has v (a .c % 8)) (c .before .born .ensures)) ∙ sym (c .has .ensures) ∙ g)))
 
 -- src/offers.rt:297:1
 returns-4 : tie.Need-returns-4

@@ -19,7 +19,11 @@ reopened-requires c κs = search needs
 
 -- src/offers.rt:205:1
 returns : tie.Need-returns
-returns c = laws.inner-is (c .before .before .args .w) (c .before .before .args .e) (c .before .before .args .s) (c .before .before .args .b) _ _ (by-cases (c .if1 .came) (λ w. w .1 ∙ sym (ap (λ (b : Bool). b || eqb (c .before .before .args .s) (c .before .before .args .w .policy)) (w .0 .taken))) (λ w. w .2 ∙ sym (ap (λ (b : Bool). b || eqb (c .before .before .args .s) (c .before .before .args .w .policy)) (w .0 .left)))) (c .before .reopened .ensures)
+returns c = laws.inner-is (c .before .before .args .w) (c .before .before .args .e) (c .before .before .args .s)
+    (c .before .before .args .b) _ _ (by-cases (c .if1 .came)
+    (λ w. w .1 ∙ sym (ap (λ (b : Bool). b || eqb (c .before .before .args .s) (c .before .before .args .w .policy)) (w .0 .taken)))
+    (λ w. w .2 ∙ sym (ap (λ (b : Bool). b || eqb (c .before .before .args .s) (c .before .before .args .w .policy)) (w .0 .left))))
+    (c .before .reopened .ensures)
 
 pub inner-spec : {M : Type 1} → statement M
 inner-spec = tie.close (tie.spec reopened-requires returns)

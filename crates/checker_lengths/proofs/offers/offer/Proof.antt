@@ -101,12 +101,18 @@ returns c = rw (c .before .match .keys1) (c .still .ensures)
 -- src/offers.rt:277:1
 returns-2 : tie.Need-returns-2
 unfolding formOf spec.offerOf
-returns-2 c = rw (c .before .before .match .keys2) (c .event .ensures ∙ ap (λ (v : ℕ). spec.eventOf v (c .before .before .before .args .e) (c .before .before .before .args .c)) (c .before .moved .ensures))
+returns-2 c = rw (c .before .before .match .keys2)
+    (c .event .ensures ∙ ap (λ (v : ℕ). spec.eventOf v (c .before .before .before .args .e) (c .before .before .before .args .c))
+    (c .before .moved .ensures))
 
 -- src/offers.rt:277:1
 returns-3 : tie.Need-returns-3
 unfolding formOf spec.offerOf
-returns-3 c = rw (c .before .before .match .keys3) (c .event2 .ensures ∙ ap (λ (v : ℕ). spec.eventOf v (c .before .before .before .args .e) (c .before .before .before .args .c)) (c .before .moved2 .ensures ∙ ap (λ (j : ℕ). spec.moved (c .before .before .before .args .rows .now) (c .before .before .before .args .e) (eqb (c .before .before .before .args .e .meaning) j)) (add-one (c .before .before .before .args .f .b))))
+returns-3 c = rw (c .before .before .match .keys3)
+    (c .event2 .ensures ∙ ap (λ (v : ℕ). spec.eventOf v (c .before .before .before .args .e) (c .before .before .before .args .c))
+    (c .before .moved2 .ensures ∙ ap (λ (j : ℕ). spec.moved (c .before .before .before .args .rows .now)
+    (c .before .before .before .args .e) (eqb (c .before .before .before .args .e .meaning) j))
+    (add-one (c .before .before .before .args .f .b))))
 
 -- src/offers.rt:277:1
 returns-4 : tie.Need-returns-4
@@ -119,17 +125,21 @@ unfolding formOf spec.offerOf
 returns-5 c = let a = c .before .before .before .before .args in let look = held (a .t .now) (a .most) in
     rw (c .before .before .before .match .keys5)
     (c .get .ensures ∙ ap look (c .before .at .ensures
-    ∙ ap (spec.atNode (a .e)) (by-cases (c .before .before .if1 .came) (λ u. u .1 ∙ sym (ap (λ (b : Bool). cond b (a .f .a) (a .f .b)) (eq-eqb (a .c) 0 (u .0 .taken)))) (λ u. u .1 ∙ sym (ap (λ (b : Bool). cond b (a .f .a) (a .f .b)) (ne-eqb (a .c) 0 (u .0 .left)))))))
+    ∙ ap (spec.atNode (a .e)) (by-cases (c .before .before .if1 .came)
+    (λ u. u .1 ∙ sym (ap (λ (b : Bool). cond b (a .f .a) (a .f .b)) (eq-eqb (a .c) 0 (u .0 .taken))))
+    (λ u. u .1 ∙ sym (ap (λ (b : Bool). cond b (a .f .a) (a .f .b)) (ne-eqb (a .c) 0 (u .0 .left)))))))
 
 -- src/offers.rt:277:1
 returns-6 : tie.Need-returns-6
 unfolding formOf spec.offerOf
-returns-6 c = let a = c .before .before .before .args in let look = held (a .t .now) (a .most) in rw (c .before .before .match .keys6) (c .get2 .ensures ∙ ap look (c .before .at2 .ensures))
+returns-6 c = let a = c .before .before .before .args in let look = held (a .t .now) (a .most) in
+    rw (c .before .before .match .keys6) (c .get2 .ensures ∙ ap look (c .before .at2 .ensures))
 
 -- src/offers.rt:277:1
 returns-7 : tie.Need-returns-7
 unfolding formOf spec.offerOf
-returns-7 c = let a = c .before .before .before .args in let look = held (a .t .now) (a .most) in rw (c .before .before .match .keys7) (c .get3 .ensures ∙ ap look (c .before .at3 .ensures))
+returns-7 c = let a = c .before .before .before .args in let look = held (a .t .now) (a .most) in
+    rw (c .before .before .match .keys7) (c .get3 .ensures ∙ ap look (c .before .at3 .ensures))
 
 -- src/offers.rt:277:1
 returns-8 : tie.Need-returns-8
@@ -143,7 +153,11 @@ returns-9 c = rw (c .before .match .keys9) (c .sandbox .ensures)
 
 -- src/offers.rt:277:1
 returns-10 : tie.Need-returns-10
-returns-10 c = sym (ap (spec.offerFrom (c .before .args .w) (c .before .args .rows .now) (held (c .before .args .t .now) (c .before .args .most)) (c .before .args .e) (c .before .args .c)) (let n = c .match .rest in no-form (c .before .args .f .kind) (c .before .args .f .a) (c .before .args .f .b) (n .0 .0 .0 .0 .0 .0 .0 .0 .1) (n .0 .0 .0 .0 .0 .0 .0 .1) (n .0 .0 .0 .0 .0 .0 .1) (n .0 .0 .0 .0 .0 .1) (n .0 .0 .0 .0 .1) (n .0 .0 .0 .1) (n .0 .0 .1) (n .0 .1) (n .1)))
+returns-10 c = sym (ap (spec.offerFrom (c .before .args .w) (c .before .args .rows .now)
+    (held (c .before .args .t .now) (c .before .args .most)) (c .before .args .e) (c .before .args .c))
+    (let n = c .match .rest in no-form (c .before .args .f .kind) (c .before .args .f .a) (c .before .args .f .b)
+    (n .0 .0 .0 .0 .0 .0 .0 .0 .1) (n .0 .0 .0 .0 .0 .0 .0 .1) (n .0 .0 .0 .0 .0 .0 .1) (n .0 .0 .0 .0 .0 .1) (n .0 .0 .0 .0 .1)
+    (n .0 .0 .0 .1) (n .0 .0 .1) (n .0 .1) (n .1)))
 
 pub offer-spec : {M : Type 1} → statement M
 offer-spec =

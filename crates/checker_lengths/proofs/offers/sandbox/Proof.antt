@@ -35,7 +35,9 @@ plus-requires c κs = search needs
 returns : tie.Need-returns
 returns c = let a = c .before .before .before .before .before .before .args in let look = held (a .t .now) (a .most) in
     c .plus .ensures
-    ∙ ap₂ plus (by-cases (c .before .before .before .if2 .came) (λ u. u .1 ∙ sym (ap (λ (b : Bool). cond b 1 2) (eq-eqb (a .e .aim) 16 (u .0 .taken)))) (λ u. u .1 ∙ sym (ap (λ (b : Bool). cond b 1 2) (ne-eqb (a .e .aim) 16 (u .0 .left)))))
+    ∙ ap₂ plus (by-cases (c .before .before .before .if2 .came)
+    (λ u. u .1 ∙ sym (ap (λ (b : Bool). cond b 1 2) (eq-eqb (a .e .aim) 16 (u .0 .taken))))
+    (λ u. u .1 ∙ sym (ap (λ (b : Bool). cond b 1 2) (ne-eqb (a .e .aim) 16 (u .0 .left)))))
     (c .before .get .ensures ∙ ap look (c .before .before .inner .ensures))
     ∙ laws.sandbox-on (a .w) look (a .e) (a .s) (a .b) (a .c) (c .before .before .before .before .before .if1 .taken)
 
@@ -45,7 +47,8 @@ returns-2 c = laws.sandbox-breaks _ _ _ _ _ _ false (c .before .before .if1 .lef
 
 -- src/offers.rt:267:9
 returns-3 : tie.Need-returns-3
-returns-3 c = laws.sandbox-breaks _ _ _ _ _ _ false (c .before .before .before .before .if1 .left) (simp (eq-eqb _ _ (c .before .before .if3 .left), ne-eqb _ _ (c .if4 .taken)))
+returns-3 c = laws.sandbox-breaks _ _ _ _ _ _ false (c .before .before .before .before .if1 .left)
+    (simp (eq-eqb _ _ (c .before .before .if3 .left), ne-eqb _ _ (c .if4 .taken)))
 
 -- src/offers.rt:269:13
 reopened-requires : tie.Need-reopened-requires
@@ -53,11 +56,15 @@ reopened-requires c κs = search needs
 
 -- src/offers.rt:256:1
 returns-4 : tie.Need-returns-4
-returns-4 c = let a = c .before .before .before .before .before .before .before .args in let look = held (a .t .now) (a .most) in laws.sandbox-hits (a .w) look (a .e) (a .s) (a .b) (a .c) _ (c .before .before .before .before .before .before .if1 .left) (c .before .before .before .before .if3 .left) (c .before .before .if4 .left) (c .before .reopened .ensures) (c .if5 .taken)
+returns-4 c = let a = c .before .before .before .before .before .before .before .args in let look = held (a .t .now) (a .most) in
+    laws.sandbox-hits (a .w) look (a .e) (a .s) (a .b) (a .c) _ (c .before .before .before .before .before .before .if1 .left)
+    (c .before .before .before .before .if3 .left) (c .before .before .if4 .left) (c .before .reopened .ensures) (c .if5 .taken)
 
 -- src/offers.rt:256:1
 returns-5 : tie.Need-returns-5
-returns-5 c = let a = c .before .before .before .before .before .before .before .args in let look = held (a .t .now) (a .most) in laws.sandbox-safe (a .w) look (a .e) (a .s) (a .b) (a .c) _ (c .before .before .before .before .before .before .if1 .left) (c .before .before .before .before .if3 .left) (c .before .before .if4 .left) (c .before .reopened .ensures) (c .if5 .left)
+returns-5 c = let a = c .before .before .before .before .before .before .before .args in let look = held (a .t .now) (a .most) in
+    laws.sandbox-safe (a .w) look (a .e) (a .s) (a .b) (a .c) _ (c .before .before .before .before .before .before .if1 .left)
+    (c .before .before .before .before .if3 .left) (c .before .before .if4 .left) (c .before .reopened .ensures) (c .if5 .left)
 
 pub sandbox-spec : {M : Type 1} → statement M
 sandbox-spec =

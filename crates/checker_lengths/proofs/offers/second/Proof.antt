@@ -16,7 +16,8 @@ returns c = let a = c .before .args in let e = a .e in
     laws.second-is e (a .b) (a .c) (c .if1 .m)
     (by-cases (c .if1 .came)
     (λ u. u .3 ∙ laws.heir-new (e .meaning) (a .c) (u .0 .taken) (u .2 .taken))
-    (λ v. by-cases v (λ u. u .3 ∙ laws.heir-old (e .meaning) (a .c) (u .0 .taken) (u .2 .left)) (λ u. u .1 ∙ laws.heir-low (e .meaning) (a .c) (u .0 .left))))
+    (λ v. by-cases v (λ u. u .3 ∙ laws.heir-old (e .meaning) (a .c) (u .0 .taken) (u .2 .left))
+    (λ u. u .1 ∙ laws.heir-low (e .meaning) (a .c) (u .0 .left))))
 
 pub second-spec : {M : Type 1} → statement M
 second-spec = tie.close (tie.spec returns)

@@ -30,7 +30,9 @@ get-requires c κs = search needs
 
 -- src/offers.rt:233:9
 returns-2 : tie.Need-returns-2
-returns-2 c = let a = c .before .before .before .before .before .args in let look = held (a .t .now) (a .most) in c .get .ensures ∙ ap look (c .before .at .ensures) ∙ laws.sequence-first look (a .e) (a .a) (a .b) (a .c) (c .before .before .before .before .if1 .taken) (c .before .before .if2 .left)
+returns-2 c = let a = c .before .before .before .before .before .args in let look = held (a .t .now) (a .most) in c .get .ensures
+    ∙ ap look (c .before .at .ensures) ∙ laws.sequence-first look (a .e) (a .a) (a .b) (a .c)
+    (c .before .before .before .before .if1 .taken) (c .before .before .if2 .left)
 
 -- src/offers.rt:235:35
 first-requires : tie.Need-first-requires
@@ -42,7 +44,9 @@ get-requires-2 c κs = search needs
 
 -- src/offers.rt:237:9
 returns-3 : tie.Need-returns-3
-returns-3 c = let a = c .before .before .before .before .args in let look = held (a .t .now) (a .most) in let g = c .before .get2 .ensures ∙ ap look (c .before .before .first .ensures) in laws.sequence-dead look (a .e) (a .a) (a .b) (a .c) (c .before .before .before .if1 .left) (omega (arith, g))
+returns-3 c = let a = c .before .before .before .before .args in let look = held (a .t .now) (a .most) in let g = c .before .get2 .ensures
+    ∙ ap look (c .before .before .first .ensures) in
+    laws.sequence-dead look (a .e) (a .a) (a .b) (a .c) (c .before .before .before .if1 .left) (omega (arith, g))
 
 -- src/offers.rt:239:44
 second-requires : tie.Need-second-requires
@@ -58,7 +62,11 @@ plus-requires c κs = search needs
 
 -- src/offers.rt:226:1
 returns-4 : tie.Need-returns-4
-returns-4 c = let a = c .before .before .before .before .before .before .before .args in let look = held (a .t .now) (a .most) in c .plus .ensures ∙ ap₂ plus (c .before .before .before .before .get2 .ensures ∙ ap look (c .before .before .before .before .before .first .ensures)) (c .before .get3 .ensures ∙ ap look (c .before .before .second .ensures)) ∙ laws.sequence-both look (a .e) (a .a) (a .b) (a .c) (c .before .before .before .before .before .before .if1 .left)
+returns-4 c = let a = c .before .before .before .before .before .before .before .args in let look = held (a .t .now) (a .most) in
+    c .plus .ensures ∙ ap₂ plus (c .before .before .before .before .get2 .ensures
+    ∙ ap look (c .before .before .before .before .before .first .ensures))
+    (c .before .get3 .ensures ∙ ap look (c .before .before .second .ensures))
+    ∙ laws.sequence-both look (a .e) (a .a) (a .b) (a .c) (c .before .before .before .before .before .before .if1 .left)
 
 pub sequence-spec : {M : Type 1} → statement M
 sequence-spec =

@@ -20,11 +20,13 @@ returns c = laws.still-low 0 _ _ (c .before .before .low-end .ensures) (c .if1 .
 
 -- src/offers.rt:131:1
 returns-2 : tie.Need-returns-2
-returns-2 c = laws.still-here 0 _ _ (c .before .before .before .before .before .low-end .ensures) (c .before .before .before .if1 .left) (c .if2 .taken)
+returns-2 c = laws.still-here 0 _ _ (c .before .before .before .before .before .low-end .ensures) (c .before .before .before .if1 .left)
+    (c .if2 .taken)
 
 -- src/offers.rt:131:1
 returns-3 : tie.Need-returns-3
-returns-3 c = laws.still-other 0 _ _ (c .before .before .before .before .before .low-end .ensures) (c .before .before .before .if1 .left) (c .if2 .left)
+returns-3 c = laws.still-other 0 _ _ (c .before .before .before .before .before .low-end .ensures) (c .before .before .before .if1 .left)
+    (c .if2 .left)
 
 pub still-spec : {M : Type 1} → statement M
 still-spec = tie.close (tie.spec low-end-requires returns returns-2 returns-3)

@@ -58,7 +58,10 @@ returns-9 c = rw (c .match .keys9)
 
 -- src/offers.rt:313:1
 returns-10 : tie.Need-returns-10
-returns-10 c = sym (ap waysOf (let n = c .match .rest in no-form (c .before .args .f .kind) (c .before .args .f .a) (c .before .args .f .b) (n .0 .0 .0 .0 .0 .0 .0 .0 .1) (n .0 .0 .0 .0 .0 .0 .0 .1) (n .0 .0 .0 .0 .0 .0 .1) (n .0 .0 .0 .0 .0 .1) (n .0 .0 .0 .0 .1) (n .0 .0 .0 .1) (n .0 .0 .1) (n .0 .1) (n .1)))
+returns-10 c = sym (ap waysOf (let n = c .match .rest in
+    no-form (c .before .args .f .kind) (c .before .args .f .a) (c .before .args .f .b) (n .0 .0 .0 .0 .0 .0 .0 .0 .1)
+    (n .0 .0 .0 .0 .0 .0 .0 .1) (n .0 .0 .0 .0 .0 .0 .1) (n .0 .0 .0 .0 .0 .1) (n .0 .0 .0 .0 .1) (n .0 .0 .0 .1) (n .0 .0 .1) (n .0 .1)
+    (n .1)))
 
 pub ways-spec : {M : Type 1} → statement M
 ways-spec =

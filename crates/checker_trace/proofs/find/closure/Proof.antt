@@ -28,7 +28,8 @@ bit-requires c κs = search needs
 
 -- src/find.rt:112:5
 loop-holds : tie.Need-loop-holds Inv-loop μ-loop
-loop-holds c = subst (Spreads (c .before .before .args .t .now) (c .before .before .args .nodes .now) (c .before .before .args .e)) (sym (c .bit .ensures)) begins
+loop-holds c = subst (Spreads (c .before .before .args .t .now) (c .before .before .args .nodes .now) (c .before .before .args .e))
+    (sym (c .bit .ensures)) begins
 
 -- src/find.rt:113:13
 spread-requires : tie.Need-spread-requires Inv-loop μ-loop
@@ -48,7 +49,9 @@ loop-less c =
 
 -- src/find.rt:112:5
 loop-again : tie.Need-loop-again Inv-loop μ-loop
-loop-again c = subst (Spreads (c .before .before .before .before .before .args .t .now) (c .before .before .before .before .before .args .nodes .now) (c .before .before .before .before .before .args .e)) (sym (c .before .spread .ensures)) (further (c .before .before .loop .inv))
+loop-again c = subst (Spreads (c .before .before .before .before .before .args .t .now)
+    (c .before .before .before .before .before .args .nodes .now) (c .before .before .before .before .before .args .e))
+    (sym (c .before .spread .ensures)) (further (c .before .before .loop .inv))
 
 pub closure-spec : {M : Type 1} → statement M
 closure-spec =

@@ -27,7 +27,9 @@ use Rattle.checker_trace.proofs.find.has.Reads as has-reads
 use Rattle.checker_trace.proofs.find.rule.Reads as rule-reads
 
 abbrev Inv-loop : tie.InvT-loop
-Inv-loop t nodes rows w e n s count k₀ k = (k ≤ count) × ((j : ℕ) → j < k → has s j ≡ true → (i : ℕ) → i < waysOf (formHere nodes j) → offerBelow w rows t (formHere nodes j) (atNode e j) n i ≡ n → ⊥)
+Inv-loop t nodes rows w e n s count k₀ k = (k ≤ count)
+    × ((j : ℕ) → j < k → has s j ≡ true → (i : ℕ) → i < waysOf (formHere nodes j)
+    → offerBelow w rows t (formHere nodes j) (atNode e j) n i ≡ n → ⊥)
 
 abbrev μ-loop : tie.MeasureT-loop
 μ-loop t nodes rows w e n s count k₀ k = count - k
@@ -66,10 +68,18 @@ returns c =
     let a = c .before .before .before .before .before .before .before .before .before .before .before .args in
     let l = c .before .before .before .before .before .before .before .before .loop in
     let k = c .before .before .before .before .before .before .before .loop-test .taken in
-    let r = subst (λ (f : Node). RuleIs (a .w) (a .rows .now) (a .t .now) (formOf f) (atNode (a .e) (l .k)) (a .n) (c .before .before .rule .result)) (c .before .before .before .before .node .ensures)
-    (subst (λ (y : Entry). RuleIs (a .w) (a .rows .now) (a .t .now) (formOf (c .before .before .before .before .node .result)) y (a .n) (c .before .before .rule .result)) (c .before .before .before .at .ensures) (c .before .before .rule .ensures)) in
-    let g : c .before .ways .result ≡ waysOf (formHere (a .nodes .now) (l .k)) = c .before .ways .ensures ∙ ap (λ (f : Node). waysOf (formOf f)) (c .before .before .before .before .node .ensures) in
-    (c .before .before .before .before .before .before .before .before .before .closure .result, c .before .before .before .before .before .before .before .before .before .closure .ensures, omega arith, sym (c .before .before .before .before .before .before .has .ensures) ∙ c .before .before .before .before .before .if1 .taken, r .here (subst (λ (i : ℕ). c .before .before .rule .result < i) g (c .if2 .taken)))
+    let r = subst (λ (f : Node). RuleIs (a .w) (a .rows .now) (a .t .now) (formOf f) (atNode (a .e) (l .k)) (a .n)
+    (c .before .before .rule .result)) (c .before .before .before .before .node .ensures)
+    (subst (λ (y : Entry). RuleIs (a .w) (a .rows .now) (a .t .now) (formOf (c .before .before .before .before .node .result)) y (a .n)
+    (c .before .before .rule .result)) (c .before .before .before .at .ensures) (c .before .before .rule .ensures)) in
+    let g : c .before .ways .result ≡ waysOf (formHere (a .nodes .now) (l .k)) = c .before .ways .ensures
+    ∙ ap (λ (f : Node). waysOf (formOf f)) (c .before .before .before .before .node .ensures) in (
+      c .before .before .before .before .before .before .before .before .before .closure .result,
+      c .before .before .before .before .before .before .before .before .before .closure .ensures,
+      omega arith,
+      sym (c .before .before .before .before .before .before .has .ensures) ∙ c .before .before .before .before .before .if1 .taken,
+      r .here (subst (λ (i : ℕ). c .before .before .rule .result < i) g (c .if2 .taken)),
+    )
 
 -- src/find.rt:152:9
 add-k : tie.Need-add-k Inv-loop μ-loop
@@ -88,11 +98,14 @@ loop-again c =
     let nodes = a .nodes .now in
     let s = c .before .before .before .before .closure .result in (
       omega arith,
-      below-more (λ (j : ℕ). has s j ≡ true → (i : ℕ) → i < waysOf (formHere nodes j) → offerBelow (a .w) (a .rows .now) (a .t .now) (formHere nodes j) (atNode (a .e) j) (a .n) i ≡ a .n → ⊥) (l .k) (l .inv .1)
+      below-more (λ (j : ℕ). has s j ≡ true → (i : ℕ) → i < waysOf (formHere nodes j)
+          → offerBelow (a .w) (a .rows .now) (a .t .now) (formHere nodes j) (atNode (a .e) j) (a .n) i ≡ a .n → ⊥) (l .k) (l .inv .1)
           (by-cases (c .if1 .came)
           (λ v h.
-          let r = subst (λ (f : Node). RuleIs (a .w) (a .rows .now) (a .t .now) (formOf f) (atNode (a .e) (l .k)) (a .n) (v .3 .result)) (v .1 .ensures)
-          (subst (λ (y : Entry). RuleIs (a .w) (a .rows .now) (a .t .now) (formOf (v .1 .result)) y (a .n) (v .3 .result)) (v .2 .ensures) (v .3 .ensures)) in
+          let r = subst (λ (f : Node). RuleIs (a .w) (a .rows .now) (a .t .now) (formOf f) (atNode (a .e) (l .k)) (a .n) (v .3 .result))
+          (v .1 .ensures)
+          (subst (λ (y : Entry). RuleIs (a .w) (a .rows .now) (a .t .now) (formOf (v .1 .result)) y (a .n) (v .3 .result)) (v .2 .ensures)
+          (v .3 .ensures)) in
           let g : v .4 .result ≡ waysOf (formHere nodes (l .k)) = v .4 .ensures ∙ ap (λ (f : Node). waysOf (formOf f)) (v .1 .ensures) in
           r .none-there (subst (λ (i : ℕ). i ≤ v .3 .result) g (v .5 .left)))
           (λ v h. not-both (c .before .has .result) (c .before .has .ensures ∙ h) (v .left))),

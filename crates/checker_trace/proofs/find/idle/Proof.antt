@@ -30,7 +30,10 @@ get-requires c κs = search needs
 -- src/find.rt:19:1
 returns : tie.Need-returns
 unfolding idleIn
-returns c = ap (λ (v : ℕ). eqb v 0) (c .get .ensures ∙ ap (λ (i : ℕ). held (c .before .before .before .args .t .now) 1 (entryOf (c .before .before .before .args .k) (c .before .before .before .args .e .opened) (c .before .before .before .args .e .meaning) (c .before .before .before .args .e .state) (i + c .before .before .before .args .e .state % 8))) (c .before .before .low-end .ensures))
+returns c = ap (λ (v : ℕ). eqb v 0) (c .get .ensures
+    ∙ ap (λ (i : ℕ). held (c .before .before .before .args .t .now) 1
+    (entryOf (c .before .before .before .args .k) (c .before .before .before .args .e .opened) (c .before .before .before .args .e .meaning)
+    (c .before .before .before .args .e .state) (i + c .before .before .before .args .e .state % 8))) (c .before .before .low-end .ensures))
 
 pub idle-spec : {M : Type 1} → statement M
 idle-spec = tie.close (tie.spec low-end-requires add-t8 get-requires returns)

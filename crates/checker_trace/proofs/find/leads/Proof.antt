@@ -73,7 +73,8 @@ returns-4 c = rw (c .before .before .match .keys4) (c .bit4 .ensures)
 
 -- src/find.rt:76:1
 returns-5 : tie.Need-returns-5
-returns-5 c = let n = c .match .rest in no-leads (c .before .args .t .now) (c .before .args .e) (c .before .args .f .kind) (c .before .args .f .a) (c .before .args .f .b) (n .0 .0 .0 .1) (n .0 .0 .1) (n .0 .1) (n .1)
+returns-5 c = let n = c .match .rest in no-leads (c .before .args .t .now) (c .before .args .e) (c .before .args .f .kind)
+    (c .before .args .f .a) (c .before .args .f .b) (n .0 .0 .0 .1) (n .0 .0 .1) (n .0 .1) (n .1)
 
 pub leads-spec : {M : Type 1} → statement M
 leads-spec =

@@ -52,8 +52,11 @@ loop-less c = search needs
 loop-again : tie.Need-loop-again Inv-loop μ-loop
 loop-again c =
     let a = c .before .before .before .before .before .args in
-    let l = c .before .before .before .loop in
-    (search needs, below-more (λ (i : ℕ). offerBelow (a .w) (a .rows .now) (a .t .now) (formOf (a .f)) (a .e) (a .n) i ≡ a .n → ⊥) (l .c) (l .inv .1) (λ h. c .if1 .left (c .before .offer .ensures ∙ h)))
+    let l = c .before .before .before .loop in (
+      search needs,
+      below-more (λ (i : ℕ). offerBelow (a .w) (a .rows .now) (a .t .now) (formOf (a .f)) (a .e) (a .n) i ≡ a .n → ⊥) (l .c)
+          (l .inv .1) (λ h. c .if1 .left (c .before .offer .ensures ∙ h)),
+    )
 
 -- src/find.rt:122:1
 returns-2 : tie.Need-returns-2 Inv-loop μ-loop

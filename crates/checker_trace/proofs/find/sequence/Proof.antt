@@ -43,7 +43,8 @@ returns c =
     by-cases (c .before .before .before .if1 .came)
     (λ v. v .1 ∙ sym (ap (λ (z : Bool). z || idle (a .b)) (eq-eqb (a .e .aim) 16 (v .0 .taken))))
     (λ v. v .2 ∙ v .1 .ensures ∙ sym (ap (λ (z : Bool). z || idle (a .b)) (ne-eqb (a .e .aim) 16 (v .0 .left)))) in
-    ap₂ bitOr (c .before .before .bit-if .ensures ∙ ap (λ (z : Bool). bitIf z (a .a)) first) (c .bit-if2 .ensures ∙ ap (λ (z : Bool). bitIf z (a .b)) (c .before .idle2 .ensures))
+    ap₂ bitOr (c .before .before .bit-if .ensures ∙ ap (λ (z : Bool). bitIf z (a .a)) first)
+    (c .bit-if2 .ensures ∙ ap (λ (z : Bool). bitIf z (a .b)) (c .before .idle2 .ensures))
 
 pub sequence-spec : {M : Type 1} → statement M
 sequence-spec =

@@ -65,13 +65,16 @@ loop-again c =
       omega arith,
       rw (add-one (l .k))
           (by-cases (c .if1 .came)
-          (λ v. v .3 ∙ ap₂ bitOr (l .inv .1) (v .2 .ensures ∙ ap (λ (f : Node). leadsFrom (a .t .now) (a .e) (formOf f)) (v .1 .ensures)) ∙ sym (ap (λ (b : Bool). joinIf b u (leadsFrom (a .t .now) (a .e) (formHere (a .nodes .now) (l .k)))) (h ∙ v .0 .taken)))
-          (λ v. v .1 ∙ l .inv .1 ∙ sym (ap (λ (b : Bool). joinIf b u (leadsFrom (a .t .now) (a .e) (formHere (a .nodes .now) (l .k)))) (h ∙ v .0 .left)))),
+          (λ v. v .3 ∙ ap₂ bitOr (l .inv .1) (v .2 .ensures ∙ ap (λ (f : Node). leadsFrom (a .t .now) (a .e) (formOf f)) (v .1 .ensures))
+          ∙ sym (ap (λ (b : Bool). joinIf b u (leadsFrom (a .t .now) (a .e) (formHere (a .nodes .now) (l .k)))) (h ∙ v .0 .taken)))
+          (λ v. v .1 ∙ l .inv .1 ∙ sym (ap (λ (b : Bool). joinIf b u (leadsFrom (a .t .now) (a .e) (formHere (a .nodes .now) (l .k))))
+          (h ∙ v .0 .left)))),
     )
 
 -- src/find.rt:90:1
 returns : tie.Need-returns Inv-loop μ-loop
-returns c = let l = c .before .loop in let e : l .k ≡ length (c .before .before .before .args .nodes .now) / 3 = omega arith in rw e at (l .inv .1)
+returns c = let l = c .before .loop in let e : l .k ≡ length (c .before .before .before .args .nodes .now) / 3 = omega arith in
+    rw e at (l .inv .1)
 
 pub spread-spec : {M : Type 1} → statement M
 spread-spec =

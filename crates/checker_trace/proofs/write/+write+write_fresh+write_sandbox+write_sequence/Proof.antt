@@ -14,7 +14,17 @@ use Rattle.checker_trace.specs.declared.Names.{Names}
 use Rattle.checker_trace.specs.declared.Onto.{Onto}
 use Rattle.checker_trace.specs.Code.{OntoIs, storedStep, onward, created, given, WithinSteps, Writes, Chosen}
 use Rattle.checker_trace.proofs.WriteLaws as laws
-use Rattle.checker_trace.proofs.PartLaws.{chosen-sequence, chosen-fresh, chosen-sandbox, wrote-sequence, wrote-opening, wrote-inside, wrote-sandbox, around-break, around-end}
+use Rattle.checker_trace.proofs.PartLaws.{
+  chosen-sequence,
+  chosen-fresh,
+  chosen-sandbox,
+  wrote-sequence,
+  wrote-opening,
+  wrote-inside,
+  wrote-sandbox,
+  around-break,
+  around-end,
+}
 use Rattle.checker_trace.proofs.FreshLaws.{wrote-born, wrote-fresh}
 use Rattle.checker_trace.proofs.KindLaws.{form-1, form-2, form-3, form-7, form-8, chosen-other}
 use native.Mathlib.Omega.{arith}
@@ -168,8 +178,13 @@ write-returns t c = let a = c .before .before .before .args in
     let mz = c .before .before .before .pre .0 in
     let few = p .1 .0 in
     let room = p .1 .1 .0 in
-    let fresh-room = p .1 .1 .1 in
-    (refl, (record { at = omega arith; next = omega arith }, laws.wrote-none (a .w) (a .rows .now) (a .nodes .now) (a .t .now) (a .e) (a .n) (a .g) (a .s) (a .trace .now) (c .if1 .taken)))
+    let fresh-room = p .1 .1 .1 in (
+      refl,
+      (
+        record { at = omega arith; next = omega arith },
+        laws.wrote-none (a .w) (a .rows .now) (a .nodes .now) (a .t .now) (a .e) (a .n) (a .g) (a .s) (a .trace .now) (c .if1 .taken),
+      ),
+    )
 
 -- src/write.rt:216:9
 write-find-requires : (t : ℕ) → write-lts.Need-find-requires (write-known t) (write-at t) write.Post
@@ -191,8 +206,15 @@ write-returns-2 t c = let a = c .before .before .before .before .before .before 
     let few = p .1 .0 in
     let room = p .1 .1 .0 in
     let fresh-room = p .1 .1 .1 in
-    let one : 1 ≤ a .n = omega (arith, c .before .before .before .if1 .left) in
-    (refl, (record { at = omega arith; next = omega arith }, laws.wrote-nowhere (a .w) (a .rows .now) (a .nodes .now) (a .t .now) (a .e) (a .n) (a .g) (a .s) (a .trace .now) (subst (OntoIs (a .w) (a .rows .now) (a .nodes .now) (a .t .now) (a .e) (a .n)) (c .enum-told .given .1) (c .before .before .find .ensures)) few one (a .s) (a .trace .now)))
+    let one : 1 ≤ a .n = omega (arith, c .before .before .before .if1 .left) in (
+      refl,
+      (
+        record { at = omega arith; next = omega arith },
+        laws.wrote-nowhere (a .w) (a .rows .now) (a .nodes .now) (a .t .now) (a .e) (a .n) (a .g) (a .s) (a .trace .now)
+            (subst (OntoIs (a .w) (a .rows .now) (a .nodes .now) (a .t .now) (a .e) (a .n)) (c .enum-told .given .1)
+            (c .before .before .find .ensures)) few one (a .s) (a .trace .now),
+      ),
+    )
 
 -- src/write.rt:220:9
 write-node-requires : (t : ℕ) → write-lts.Need-node-requires (write-known t) (write-at t) write.Post
@@ -208,7 +230,8 @@ write-cast-step-2 t c = search needs
 
 -- src/write.rt:223:14
 write-step-requires : (t : ℕ) → write-lts.Need-step-requires (write-known t) (write-at t) write.Post
-write-step-requires t c κs = let a = c .before .before .before .before .before .before .before .before .before .before .before .before .args in
+write-step-requires t c κs = let a =
+    c .before .before .before .before .before .before .before .before .before .before .before .before .args in
     let p = c .before .before .before .before .before .before .before .before .before .before .before .before .pre .1 in
     let mz = c .before .before .before .before .before .before .before .before .before .before .before .before .pre .0 in
     let few = p .1 .0 in
@@ -227,7 +250,8 @@ write-name-requires t c κs = search needs
 
 -- src/write.rt:224:14
 write-step-requires-2 : (t : ℕ) → write-lts.Need-step-requires-2 (write-known t) (write-at t) write.Post
-write-step-requires-2 t c κs = let a = c .before .before .before .before .before .before .before .before .before .before .before .before .args in
+write-step-requires-2 t c κs = let a =
+    c .before .before .before .before .before .before .before .before .before .before .before .before .args in
     let p = c .before .before .before .before .before .before .before .before .before .before .before .before .pre .1 in
     let mz = c .before .before .before .before .before .before .before .before .before .before .before .before .pre .0 in
     let few = p .1 .0 in
@@ -244,7 +268,8 @@ write-write-sequence-requires t c κs = let a = c .before .before .before .befor
     let few = p .1 .0 in
     let room = p .1 .1 .0 in
     let fresh-room = p .1 .1 .1 in
-    let on = subst (OntoIs (a .w) (a .rows .now) (a .nodes .now) (a .t .now) (a .e) (a .n)) (c .before .before .before .before .o .given .1) (c .before .before .before .before .before .before .find .ensures) in
+    let on = subst (OntoIs (a .w) (a .rows .now) (a .nodes .now) (a .t .now) (a .e) (a .n)) (c .before .before .before .before .o .given .1)
+    (c .before .before .before .before .before .before .find .ensures) in
     let k = c .before .before .before .before .o .given .0 .0 in
     let r = c .before .before .before .before .o .given .0 .1 .0 in
     let fm : formHere (a .nodes .now) k ≡ formOf (c .before .before .node .result) = sym (ap formOf (c .before .before .node .ensures)) in
@@ -260,7 +285,8 @@ write-write-fresh-requires t c κs = let a = c .before .before .before .before .
     let few = p .1 .0 in
     let room = p .1 .1 .0 in
     let fresh-room = p .1 .1 .1 in
-    let on = subst (OntoIs (a .w) (a .rows .now) (a .nodes .now) (a .t .now) (a .e) (a .n)) (c .before .before .before .before .o .given .1) (c .before .before .before .before .before .before .find .ensures) in
+    let on = subst (OntoIs (a .w) (a .rows .now) (a .nodes .now) (a .t .now) (a .e) (a .n)) (c .before .before .before .before .o .given .1)
+    (c .before .before .before .before .before .before .find .ensures) in
     let k = c .before .before .before .before .o .given .0 .0 in
     let r = c .before .before .before .before .o .given .0 .1 .0 in
     let fm : formHere (a .nodes .now) k ≡ formOf (c .before .before .node .result) = sym (ap formOf (c .before .before .node .ensures)) in
@@ -276,7 +302,8 @@ write-write-sandbox-requires t c κs = let a = c .before .before .before .before
     let few = p .1 .0 in
     let room = p .1 .1 .0 in
     let fresh-room = p .1 .1 .1 in
-    let on = subst (OntoIs (a .w) (a .rows .now) (a .nodes .now) (a .t .now) (a .e) (a .n)) (c .before .before .before .before .o .given .1) (c .before .before .before .before .before .before .find .ensures) in
+    let on = subst (OntoIs (a .w) (a .rows .now) (a .nodes .now) (a .t .now) (a .e) (a .n)) (c .before .before .before .before .o .given .1)
+    (c .before .before .before .before .before .before .find .ensures) in
     let k = c .before .before .before .before .o .given .0 .0 in
     let r = c .before .before .before .before .o .given .0 .1 .0 in
     let fm : formHere (a .nodes .now) k ≡ formOf (c .before .before .node .result) = sym (ap formOf (c .before .before .node .ensures)) in
@@ -286,70 +313,100 @@ write-write-sandbox-requires t c κs = let a = c .before .before .before .before
 
 -- src/write.rt:194:1
 write-same-length : (t : ℕ) → write-lts.Need-same-length (write-known t) (write-at t) write.Post
-write-same-length t c = let a = c .before .before .before .before .before .before .before .before .before .before .before .before .before .before .before .args in
+write-same-length t c = let a =
+    c .before .before .before .before .before .before .before .before .before .before .before .before .before .before .before .args in
     let p = c .before .before .before .before .before .before .before .before .before .before .before .before .before .before .before .pre .1 in
     let mz = c .before .before .before .before .before .before .before .before .before .before .before .before .before .before .before .pre .0 in
     let few = p .1 .0 in
     let room = p .1 .1 .0 in
     let fresh-room = p .1 .1 .1 in
-    ap length (c .before .before .step .ensures .0) ∙ stored-length (a .trace .now) (a .s .at) 0 (c .before .before .before .before .before .before .before .node .result .a) (c .before .before .before .before .before .before .before .node .result .b)
+    ap length (c .before .before .step .ensures .0)
+    ∙ stored-length (a .trace .now) (a .s .at) 0 (c .before .before .before .before .before .before .before .node .result .a)
+    (c .before .before .before .before .before .before .before .node .result .b)
 
 -- src/write.rt:194:1
 write-returns-3 : (t : ℕ) → write-lts.Need-returns-3 (write-known t) (write-at t) write.Post
-write-returns-3 t c = let a = c .before .before .before .before .before .before .before .before .before .before .before .before .before .before .before .args in
+write-returns-3 t c = let a =
+    c .before .before .before .before .before .before .before .before .before .before .before .before .before .before .before .args in
     let p = c .before .before .before .before .before .before .before .before .before .before .before .before .before .before .before .pre .1 in
     let mz = c .before .before .before .before .before .before .before .before .before .before .before .before .before .before .before .pre .0 in
     let few = p .1 .0 in
     let room = p .1 .1 .0 in
     let fresh-room = p .1 .1 .1 in
-    let one : 1 ≤ a .n = omega (arith, c .before .before .before .before .before .before .before .before .before .before .before .before .if1 .left) in
-    let on = subst (OntoIs (a .w) (a .rows .now) (a .nodes .now) (a .t .now) (a .e) (a .n)) (c .before .before .before .before .before .before .before .before .before .o .given .1) (c .before .before .before .before .before .before .before .before .before .before .before .find .ensures) in
+    let one : 1 ≤ a .n = omega
+    (arith, c .before .before .before .before .before .before .before .before .before .before .before .before .if1 .left) in
+    let on = subst (OntoIs (a .w) (a .rows .now) (a .nodes .now) (a .t .now) (a .e) (a .n))
+    (c .before .before .before .before .before .before .before .before .before .o .given .1)
+    (c .before .before .before .before .before .before .before .before .before .before .before .find .ensures) in
     let k = c .before .before .before .before .before .before .before .before .before .o .given .0 .0 in
     let r = c .before .before .before .before .before .before .before .before .before .o .given .0 .1 .0 in
-    let fm : formHere (a .nodes .now) k ≡ formOf (c .before .before .before .before .before .before .before .node .result) = sym (ap formOf (c .before .before .before .before .before .before .before .node .ensures)) in
-    let form = fm ∙ form-1 (c .before .before .before .before .before .before .before .node .result) (c .before .before .before .before .before .before .match2 .keys1) in
+    let fm : formHere (a .nodes .now) k ≡ formOf (c .before .before .before .before .before .before .before .node .result) =
+    sym (ap formOf (c .before .before .before .before .before .before .before .node .ensures)) in
+    let form = fm ∙ form-1 (c .before .before .before .before .before .before .before .node .result)
+    (c .before .before .before .before .before .before .match2 .keys1) in
     let made = c .before .before .step .ensures .1 in
     let at = ap (λ (y : Spot). y .at) made in
     let nx = ap (λ (y : Spot). y .next) made in (
-      ap length (c .before .before .step .ensures .0) ∙ stored-length (a .trace .now) (a .s .at) 0 (c .before .before .before .before .before .before .before .node .result .a) (c .before .before .before .before .before .before .before .node .result .b),
+      ap length (c .before .before .step .ensures .0)
+          ∙ stored-length (a .trace .now) (a .s .at) 0 (c .before .before .before .before .before .before .before .node .result .a)
+          (c .before .before .before .before .before .before .before .node .result .b),
       (
         record { at = omega arith; next = omega arith },
-        laws.wrote-static (a .w) (a .rows .now) (a .nodes .now) (a .t .now) (a .e) (a .n) (a .g) (a .s) (a .trace .now) (p .0) few k r on (c .before .before .before .before .before .before .before .node .result .a) (c .before .before .before .before .before .before .before .node .result .b) form (c .before .before .step .result) made (c .before .before .step .last .0) (c .before .before .step .ensures .0),
+        laws.wrote-static (a .w) (a .rows .now) (a .nodes .now) (a .t .now) (a .e) (a .n) (a .g) (a .s) (a .trace .now) (p .0) few k r on
+            (c .before .before .before .before .before .before .before .node .result .a)
+            (c .before .before .before .before .before .before .before .node .result .b) form (c .before .before .step .result) made
+            (c .before .before .step .last .0) (c .before .before .step .ensures .0),
       ),
     )
 
 -- src/write.rt:194:1
 write-same-length-2 : (t : ℕ) → write-lts.Need-same-length-2 (write-known t) (write-at t) write.Post
-write-same-length-2 t c = let a = c .before .before .before .before .before .before .before .before .before .before .before .before .before .before .before .args in
+write-same-length-2 t c = let a =
+    c .before .before .before .before .before .before .before .before .before .before .before .before .before .before .before .args in
     let p = c .before .before .before .before .before .before .before .before .before .before .before .before .before .before .before .pre .1 in
     let mz = c .before .before .before .before .before .before .before .before .before .before .before .before .before .before .before .pre .0 in
     let few = p .1 .0 in
     let room = p .1 .1 .0 in
     let fresh-room = p .1 .1 .1 in
-    ap length (c .before .before .step2 .ensures .0) ∙ stored-length (a .trace .now) (a .s .at) 0 (c .before .before .before .before .before .before .before .node .result .a) (c .before .before .before .name .result)
+    ap length (c .before .before .step2 .ensures .0)
+    ∙ stored-length (a .trace .now) (a .s .at) 0 (c .before .before .before .before .before .before .before .node .result .a)
+    (c .before .before .before .name .result)
 
 -- src/write.rt:194:1
 write-returns-4 : (t : ℕ) → write-lts.Need-returns-4 (write-known t) (write-at t) write.Post
-write-returns-4 t c = let a = c .before .before .before .before .before .before .before .before .before .before .before .before .before .before .before .args in
+write-returns-4 t c = let a =
+    c .before .before .before .before .before .before .before .before .before .before .before .before .before .before .before .args in
     let p = c .before .before .before .before .before .before .before .before .before .before .before .before .before .before .before .pre .1 in
     let mz = c .before .before .before .before .before .before .before .before .before .before .before .before .before .before .before .pre .0 in
     let few = p .1 .0 in
     let room = p .1 .1 .0 in
     let fresh-room = p .1 .1 .1 in
-    let one : 1 ≤ a .n = omega (arith, c .before .before .before .before .before .before .before .before .before .before .before .before .if1 .left) in
-    let on = subst (OntoIs (a .w) (a .rows .now) (a .nodes .now) (a .t .now) (a .e) (a .n)) (c .before .before .before .before .before .before .before .before .before .o .given .1) (c .before .before .before .before .before .before .before .before .before .before .before .find .ensures) in
+    let one : 1 ≤ a .n = omega
+    (arith, c .before .before .before .before .before .before .before .before .before .before .before .before .if1 .left) in
+    let on = subst (OntoIs (a .w) (a .rows .now) (a .nodes .now) (a .t .now) (a .e) (a .n))
+    (c .before .before .before .before .before .before .before .before .before .o .given .1)
+    (c .before .before .before .before .before .before .before .before .before .before .before .find .ensures) in
     let k = c .before .before .before .before .before .before .before .before .before .o .given .0 .0 in
     let r = c .before .before .before .before .before .before .before .before .before .o .given .0 .1 .0 in
-    let fm : formHere (a .nodes .now) k ≡ formOf (c .before .before .before .before .before .before .before .node .result) = sym (ap formOf (c .before .before .before .before .before .before .before .node .ensures)) in
-    let form = fm ∙ form-2 (c .before .before .before .before .before .before .before .node .result) (c .before .before .before .before .before .before .match2 .keys2) in
+    let fm : formHere (a .nodes .now) k ≡ formOf (c .before .before .before .before .before .before .before .node .result) =
+    sym (ap formOf (c .before .before .before .before .before .before .before .node .ensures)) in
+    let form = fm ∙ form-2 (c .before .before .before .before .before .before .before .node .result)
+    (c .before .before .before .before .before .before .match2 .keys2) in
     let made = c .before .before .step2 .ensures .1 in
     let at = ap (λ (y : Spot). y .at) made in
     let nx = ap (λ (y : Spot). y .next) made in (
-      ap length (c .before .before .step2 .ensures .0) ∙ stored-length (a .trace .now) (a .s .at) 0 (c .before .before .before .before .before .before .before .node .result .a) (c .before .before .before .name .result),
+      ap length (c .before .before .step2 .ensures .0)
+          ∙ stored-length (a .trace .now) (a .s .at) 0 (c .before .before .before .before .before .before .before .node .result .a)
+          (c .before .before .before .name .result),
       (
         record { at = omega arith; next = omega arith },
-        laws.wrote-name (a .w) (a .rows .now) (a .nodes .now) (a .t .now) (a .e) (a .n) (a .g) (a .s) (a .trace .now) (p .0) few k r on (c .before .before .before .before .before .before .before .node .result .a) (c .before .before .before .before .before .before .before .node .result .b) form (c .before .before .step2 .result) made (c .before .before .step2 .last .0)
-            (c .before .before .step2 .ensures .0 ∙ ap (λ (y : ℕ). storedStep (a .trace .now) (a .s .at) 0 (c .before .before .before .before .before .before .before .node .result .a) y) (c .before .before .before .name .ensures)),
+        laws.wrote-name (a .w) (a .rows .now) (a .nodes .now) (a .t .now) (a .e) (a .n) (a .g) (a .s) (a .trace .now) (p .0) few k r on
+            (c .before .before .before .before .before .before .before .node .result .a)
+            (c .before .before .before .before .before .before .before .node .result .b) form (c .before .before .step2 .result) made
+            (c .before .before .step2 .last .0)
+            (c .before .before .step2 .ensures .0 ∙ ap
+            (λ (y : ℕ). storedStep (a .trace .now) (a .s .at) 0
+            (c .before .before .before .before .before .before .before .node .result .a) y) (c .before .before .before .name .ensures)),
       ),
     )
 
@@ -386,12 +443,14 @@ write-returns-8 t c = let a = c .before .before .before .before .before .before 
     let room = p .1 .1 .0 in
     let fresh-room = p .1 .1 .1 in
     let one : 1 ≤ a .n = omega (arith, c .before .before .before .before .before .before .if1 .left) in
-    let on = subst (OntoIs (a .w) (a .rows .now) (a .nodes .now) (a .t .now) (a .e) (a .n)) (c .before .before .before .o .given .1) (c .before .before .before .before .before .find .ensures) in
+    let on = subst (OntoIs (a .w) (a .rows .now) (a .nodes .now) (a .t .now) (a .e) (a .n)) (c .before .before .before .o .given .1)
+    (c .before .before .before .before .before .find .ensures) in
     let k = c .before .before .before .o .given .0 .0 in
     let r = c .before .before .before .o .given .0 .1 .0 in
     let rest = c .match2 .rest in
     let f = c .before .node .result in
-    absurd (chosen-other (a .w) (a .rows .now) (a .nodes .now) (a .t .now) (a .e) (a .n) r few one (f .a) (f .b) (f .kind) (rest .0 .0 .0 .0 .1) (rest .0 .0 .0 .1) (rest .0 .0 .1) (rest .0 .1) (rest .1) (k, on, sym (ap formOf (c .before .node .ensures))))
+    absurd (chosen-other (a .w) (a .rows .now) (a .nodes .now) (a .t .now) (a .e) (a .n) r few one (f .a) (f .b) (f .kind)
+    (rest .0 .0 .0 .0 .1) (rest .0 .0 .0 .1) (rest .0 .0 .1) (rest .0 .1) (rest .1) (k, on, sym (ap formOf (c .before .node .ensures))))
 
 -- src/write.rt:138:9
 write-fresh-create-requires : (t : ℕ) → write-fresh-lts.Need-create-requires (write-fresh-known t) (write-fresh-at t) write-fresh.Post
@@ -431,8 +490,14 @@ write-fresh-returns t c = let a = c .before .before .before .before .before .bef
     let at = ap (λ (y : Spot). y .at) made in
     let nx = ap (λ (y : Spot). y .next) made in
     let tr = c .before .before .before .create .ensures .0 in
-    let len = ap length tr ∙ stored-length (a .trace .now) (a .s .at) 0 0 (a .s .next) in
-    (len, (record { at = omega arith; next = omega arith }, wrote-born (a .w) (a .rows .now) (a .nodes .now) (a .t .now) (a .e) (a .n) (a .c) (p .0) few (a .a) (a .b) ch (c .if1 .taken) (a .g) (a .s) (a .trace .now) (c .before .before .before .create .result) made (c .before .before .before .create .last .0) tr))
+    let len = ap length tr ∙ stored-length (a .trace .now) (a .s .at) 0 0 (a .s .next) in (
+      len,
+      (
+        record { at = omega arith; next = omega arith },
+        wrote-born (a .w) (a .rows .now) (a .nodes .now) (a .t .now) (a .e) (a .n) (a .c) (p .0) few (a .a) (a .b) ch (c .if1 .taken) (a .g)
+            (a .s) (a .trace .now) (c .before .before .before .create .result) made (c .before .before .before .create .last .0) tr,
+      ),
+    )
 
 -- src/write.rt:142:9
 write-fresh-give-requires : (t : ℕ) → write-fresh-lts.Need-give-requires (write-fresh-known t) (write-fresh-at t) write-fresh.Post
@@ -473,7 +538,8 @@ write-fresh-write-requires t c κs = let a = c .before .before .before .before .
 
 -- src/write.rt:114:1
 write-fresh-same-length-2 : (t : ℕ) → write-fresh-lts.Need-same-length-2 (write-fresh-known t) (write-fresh-at t) write-fresh.Post
-write-fresh-same-length-2 t c = let a = c .before .before .before .before .before .before .before .before .before .before .before .before .before .args in
+write-fresh-same-length-2 t c = let a =
+    c .before .before .before .before .before .before .before .before .before .before .before .before .before .args in
     let p = c .before .before .before .before .before .before .before .before .before .before .before .before .before .pre .1 in
     let mz = c .before .before .before .before .before .before .before .before .before .before .before .before .before .pre .0 in
     let few = p .1 .0 in
@@ -481,11 +547,14 @@ write-fresh-same-length-2 t c = let a = c .before .before .before .before .befor
     let fresh-room = p .1 .1 .1 .0 in
     let ch = p .1 .1 .1 .1 .0 in
     let one = p .1 .1 .1 .1 .1 in
-    c .before .before .write .ensures .0 ∙ ap length (c .before .before .before .before .before .before .before .before .before .create .ensures .0) ∙ stored-length (a .trace .now) (a .s .at) 0 0 (a .s .next)
+    c .before .before .write .ensures .0 ∙ ap length
+    (c .before .before .before .before .before .before .before .before .before .create .ensures .0)
+    ∙ stored-length (a .trace .now) (a .s .at) 0 0 (a .s .next)
 
 -- src/write.rt:114:1
 write-fresh-returns-2 : (t : ℕ) → write-fresh-lts.Need-returns-2 (write-fresh-known t) (write-fresh-at t) write-fresh.Post
-write-fresh-returns-2 t c = let a = c .before .before .before .before .before .before .before .before .before .before .before .before .before .args in
+write-fresh-returns-2 t c = let a =
+    c .before .before .before .before .before .before .before .before .before .before .before .before .before .args in
     let p = c .before .before .before .before .before .before .before .before .before .before .before .before .before .pre .1 in
     let mz = c .before .before .before .before .before .before .before .before .before .before .before .before .before .pre .0 in
     let few = p .1 .0 in
@@ -499,15 +568,28 @@ write-fresh-returns-2 t c = let a = c .before .before .before .before .before .b
     let tr = c .before .before .before .before .before .before .before .before .before .create .ensures .0 in
     let len = ap length tr ∙ stored-length (a .trace .now) (a .s .at) 0 0 (a .s .next) in
     let wi = c .before .before .write .ensures .1 .0 in
-    let four : length (a .g .numbers) ≡ 4 = sym (length-set (a .g .numbers) (a .a) (a .s .next)) ∙ sym (ap (λ (y : Names). length (y .numbers)) (c .before .before .before .before .before .give .ensures .0)) ∙ c .before .before .before .before .before .give .ensures .1 in
-    let inside = subst (λ (y : Entry). Writes (a .w) (a .rows .now) (a .nodes .now) (a .t .now) y (a .n - 1) (given (a .g) (a .a) (a .s .next)) (created (a .s)) (storedStep (a .trace .now) (a .s .at) 0 0 (a .s .next)) (c .before .before .write .result) (c .before .before .write .last .1 .1 .1 .1 .0)) (c .before .before .before .body .ensures)
-    (subst (λ (y : Names). Writes (a .w) (a .rows .now) (a .nodes .now) (a .t .now) (c .before .before .before .body .result) (a .n - 1) y (created (a .s)) (storedStep (a .trace .now) (a .s .at) 0 0 (a .s .next)) (c .before .before .write .result) (c .before .before .write .last .1 .1 .1 .1 .0)) (c .before .before .before .before .before .give .ensures .0)
-    (subst (λ (y : Spot). Writes (a .w) (a .rows .now) (a .nodes .now) (a .t .now) (c .before .before .before .body .result) (a .n - 1) (c .before .before .before .before .before .give .result) y (storedStep (a .trace .now) (a .s .at) 0 0 (a .s .next)) (c .before .before .write .result) (c .before .before .write .last .1 .1 .1 .1 .0)) made
-    (subst (λ (y : List ℕ). Writes (a .w) (a .rows .now) (a .nodes .now) (a .t .now) (c .before .before .before .body .result) (a .n - 1) (c .before .before .before .before .before .give .result) (c .before .before .before .before .before .before .before .before .before .create .result) y (c .before .before .write .result) (c .before .before .write .last .1 .1 .1 .1 .0)) tr (c .before .before .write .ensures .1 .1)))) in (
+    let four : length (a .g .numbers) ≡ 4 = sym (length-set (a .g .numbers) (a .a) (a .s .next))
+    ∙ sym (ap (λ (y : Names). length (y .numbers)) (c .before .before .before .before .before .give .ensures .0))
+    ∙ c .before .before .before .before .before .give .ensures .1 in
+    let inside = subst (λ (y : Entry). Writes (a .w) (a .rows .now) (a .nodes .now) (a .t .now) y (a .n - 1)
+    (given (a .g) (a .a) (a .s .next)) (created (a .s)) (storedStep (a .trace .now) (a .s .at) 0 0 (a .s .next))
+    (c .before .before .write .result) (c .before .before .write .last .1 .1 .1 .1 .0)) (c .before .before .before .body .ensures)
+    (subst (λ (y : Names). Writes (a .w) (a .rows .now) (a .nodes .now) (a .t .now) (c .before .before .before .body .result) (a .n - 1) y
+    (created (a .s)) (storedStep (a .trace .now) (a .s .at) 0 0 (a .s .next)) (c .before .before .write .result)
+    (c .before .before .write .last .1 .1 .1 .1 .0)) (c .before .before .before .before .before .give .ensures .0)
+    (subst (λ (y : Spot). Writes (a .w) (a .rows .now) (a .nodes .now) (a .t .now) (c .before .before .before .body .result) (a .n - 1)
+    (c .before .before .before .before .before .give .result) y (storedStep (a .trace .now) (a .s .at) 0 0 (a .s .next))
+    (c .before .before .write .result) (c .before .before .write .last .1 .1 .1 .1 .0)) made
+    (subst (λ (y : List ℕ). Writes (a .w) (a .rows .now) (a .nodes .now) (a .t .now) (c .before .before .before .body .result) (a .n - 1)
+    (c .before .before .before .before .before .give .result)
+    (c .before .before .before .before .before .before .before .before .before .create .result) y (c .before .before .write .result)
+    (c .before .before .write .last .1 .1 .1 .1 .0)) tr (c .before .before .write .ensures .1 .1)))) in (
       c .before .before .write .ensures .0 ∙ len,
       (
         record { at = omega arith; next = omega arith },
-        wrote-fresh (a .w) (a .rows .now) (a .nodes .now) (a .t .now) (a .e) (a .n) (a .c) (p .0) few (a .a) (a .b) ch (c .before .before .before .before .before .before .if1 .left) (a .g) four (a .s) (a .trace .now) (c .before .before .write .result) (c .before .before .write .last .1 .1 .1 .1 .0) inside,
+        wrote-fresh (a .w) (a .rows .now) (a .nodes .now) (a .t .now) (a .e) (a .n) (a .c) (p .0) few (a .a) (a .b) ch
+            (c .before .before .before .before .before .before .if1 .left) (a .g) four (a .s) (a .trace .now)
+            (c .before .before .write .result) (c .before .before .write .last .1 .1 .1 .1 .0) inside,
       ),
     )
 
@@ -549,11 +631,18 @@ write-sandbox-returns t c = let a = c .before .before .before .before .before .b
     let at = ap (λ (y : Spot). y .at) made in
     let nx = ap (λ (y : Spot). y .next) made in
     let tr = c .before .before .before .step .ensures .0 in
-    let len = ap length tr ∙ stored-length (a .trace .now) (a .s .at) 1 (a .a) 0 in
-    (len, (record { at = omega arith; next = omega arith }, wrote-opening (a .w) (a .rows .now) (a .nodes .now) (a .t .now) (a .e) (a .n) (a .c) (p .0) few (a .a) (a .b) ch (c .if1 .taken) (a .g) (a .s) (a .trace .now) (c .before .before .before .step .result) made (c .before .before .before .step .last .0) tr))
+    let len = ap length tr ∙ stored-length (a .trace .now) (a .s .at) 1 (a .a) 0 in (
+      len,
+      (
+        record { at = omega arith; next = omega arith },
+        wrote-opening (a .w) (a .rows .now) (a .nodes .now) (a .t .now) (a .e) (a .n) (a .c) (p .0) few (a .a) (a .b) ch (c .if1 .taken) (a .g)
+            (a .s) (a .trace .now) (c .before .before .before .step .result) made (c .before .before .before .step .last .0) tr,
+      ),
+    )
 
 -- src/write.rt:185:9
-write-sandbox-inner-requires : (t : ℕ) → write-sandbox-lts.Need-inner-requires (write-sandbox-known t) (write-sandbox-at t) write-sandbox.Post
+write-sandbox-inner-requires : (t : ℕ) → write-sandbox-lts.Need-inner-requires (write-sandbox-known t)
+    (write-sandbox-at t) write-sandbox.Post
 write-sandbox-inner-requires t c κs = search needs
 
 -- src/write.rt:187:55
@@ -569,8 +658,10 @@ write-sandbox-sub-write t c = let a = c .before .before .before .before .before 
     omega arith
 
 -- src/write.rt:187:9
-write-sandbox-write-requires : (t : ℕ) → write-sandbox-lts.Need-write-requires (write-sandbox-known t) (write-sandbox-at t) write-sandbox.Post
-write-sandbox-write-requires t c κs = let a = c .before .before .before .before .before .before .before .before .before .before .before .args in
+write-sandbox-write-requires : (t : ℕ) → write-sandbox-lts.Need-write-requires (write-sandbox-known t)
+    (write-sandbox-at t) write-sandbox.Post
+write-sandbox-write-requires t c κs = let a =
+    c .before .before .before .before .before .before .before .before .before .before .before .args in
     let p = c .before .before .before .before .before .before .before .before .before .before .before .pre .1 in
     let mz = c .before .before .before .before .before .before .before .before .before .before .before .pre .0 in
     let few = p .1 .0 in
@@ -587,7 +678,8 @@ write-sandbox-write-requires t c κs = let a = c .before .before .before .before
 
 -- src/write.rt:187:9
 write-sandbox-same-length-2 : (t : ℕ) → write-sandbox-lts.Need-same-length-2 (write-sandbox-known t) (write-sandbox-at t) write-sandbox.Post
-write-sandbox-same-length-2 t c = let a = c .before .before .before .before .before .before .before .before .before .before .before .before .before .before .args in
+write-sandbox-same-length-2 t c = let a =
+    c .before .before .before .before .before .before .before .before .before .before .before .before .before .before .args in
     let p = c .before .before .before .before .before .before .before .before .before .before .before .before .before .before .pre .1 in
     let mz = c .before .before .before .before .before .before .before .before .before .before .before .before .before .before .pre .0 in
     let few = p .1 .0 in
@@ -595,11 +687,14 @@ write-sandbox-same-length-2 t c = let a = c .before .before .before .before .bef
     let fresh-room = p .1 .1 .1 .0 in
     let ch = p .1 .1 .1 .1 .0 in
     let one = p .1 .1 .1 .1 .1 in
-    c .before .before .write .ensures .0 ∙ ap length (c .before .before .before .before .before .before .before .before .before .before .step .ensures .0) ∙ stored-length (a .trace .now) (a .s .at) 1 (a .a) 0
+    c .before .before .write .ensures .0 ∙ ap length
+    (c .before .before .before .before .before .before .before .before .before .before .step .ensures .0)
+    ∙ stored-length (a .trace .now) (a .s .at) 1 (a .a) 0
 
 -- src/write.rt:187:9
 write-sandbox-returns-2 : (t : ℕ) → write-sandbox-lts.Need-returns-2 (write-sandbox-known t) (write-sandbox-at t) write-sandbox.Post
-write-sandbox-returns-2 t c = let a = c .before .before .before .before .before .before .before .before .before .before .before .before .before .before .args in
+write-sandbox-returns-2 t c = let a =
+    c .before .before .before .before .before .before .before .before .before .before .before .before .before .before .args in
     let p = c .before .before .before .before .before .before .before .before .before .before .before .before .before .before .pre .1 in
     let mz = c .before .before .before .before .before .before .before .before .before .before .before .before .before .before .pre .0 in
     let few = p .1 .0 in
@@ -615,13 +710,23 @@ write-sandbox-returns-2 t c = let a = c .before .before .before .before .before 
     let zero-c : a .c ≡ 0 = omega (arith, c .before .before .before .before .before .before .before .if1 .left) in
     let sum = chosen-sandbox (a .w) (a .rows .now) (a .nodes .now) (a .t .now) (a .e) (a .n) (a .c) few (a .a) (a .b) ch zero-c in
     let wi = c .before .before .write .ensures .1 .0 in
-    let inside = subst (λ (y : Entry). Writes (a .w) (a .rows .now) (a .nodes .now) (a .t .now) y (a .n - 1) (a .g) (onward (a .s)) (storedStep (a .trace .now) (a .s .at) 1 (a .a) 0) (c .before .before .write .result) (c .before .before .write .last .1 .1 .1 .1 .0)) (c .before .before .before .before .before .before .inner .ensures)
-    (subst (λ (y : Spot). Writes (a .w) (a .rows .now) (a .nodes .now) (a .t .now) (c .before .before .before .before .before .before .inner .result) (a .n - 1) (a .g) y (storedStep (a .trace .now) (a .s .at) 1 (a .a) 0) (c .before .before .write .result) (c .before .before .write .last .1 .1 .1 .1 .0)) made
-    (subst (λ (y : List ℕ). Writes (a .w) (a .rows .now) (a .nodes .now) (a .t .now) (c .before .before .before .before .before .before .inner .result) (a .n - 1) (a .g) (c .before .before .before .before .before .before .before .before .before .before .step .result) y (c .before .before .write .result) (c .before .before .write .last .1 .1 .1 .1 .0)) tr (c .before .before .write .ensures .1 .1))) in (
+    let inside = subst (λ (y : Entry). Writes (a .w) (a .rows .now) (a .nodes .now) (a .t .now) y (a .n - 1) (a .g) (onward (a .s))
+    (storedStep (a .trace .now) (a .s .at) 1 (a .a) 0) (c .before .before .write .result)
+    (c .before .before .write .last .1 .1 .1 .1 .0)) (c .before .before .before .before .before .before .inner .ensures)
+    (subst (λ (y : Spot). Writes (a .w) (a .rows .now) (a .nodes .now) (a .t .now)
+    (c .before .before .before .before .before .before .inner .result) (a .n - 1) (a .g) y
+    (storedStep (a .trace .now) (a .s .at) 1 (a .a) 0) (c .before .before .write .result)
+    (c .before .before .write .last .1 .1 .1 .1 .0)) made
+    (subst (λ (y : List ℕ). Writes (a .w) (a .rows .now) (a .nodes .now) (a .t .now)
+    (c .before .before .before .before .before .before .inner .result) (a .n - 1) (a .g)
+    (c .before .before .before .before .before .before .before .before .before .before .step .result) y (c .before .before .write .result)
+    (c .before .before .write .last .1 .1 .1 .1 .0)) tr (c .before .before .write .ensures .1 .1))) in (
       c .before .before .write .ensures .0 ∙ len,
       (
         record { at = omega arith; next = omega arith },
-        wrote-inside (a .w) (a .rows .now) (a .nodes .now) (a .t .now) (a .e) (a .n) (a .c) (p .0) few (a .a) (a .b) ch zero-c (c .before .before .before .before .if2 .taken) (a .g) (a .s) (a .trace .now) (c .before .before .write .result) (c .before .before .write .last .1 .1 .1 .1 .0) inside,
+        wrote-inside (a .w) (a .rows .now) (a .nodes .now) (a .t .now) (a .e) (a .n) (a .c) (p .0) few (a .a) (a .b) ch zero-c
+            (c .before .before .before .before .if2 .taken) (a .g) (a .s) (a .trace .now) (c .before .before .write .result)
+            (c .before .before .write .last .1 .1 .1 .1 .0) inside,
       ),
     )
 
@@ -641,8 +746,10 @@ write-sandbox-sub-write-2 t c = let a = c .before .before .before .before .befor
     omega arith
 
 -- src/write.rt:189:9
-write-sandbox-write-requires-2 : (t : ℕ) → write-sandbox-lts.Need-write-requires-2 (write-sandbox-known t) (write-sandbox-at t) write-sandbox.Post
-write-sandbox-write-requires-2 t c κs = let a = c .before .before .before .before .before .before .before .before .before .before .before .args in
+write-sandbox-write-requires-2 : (t : ℕ) → write-sandbox-lts.Need-write-requires-2 (write-sandbox-known t)
+    (write-sandbox-at t) write-sandbox.Post
+write-sandbox-write-requires-2 t c κs = let a =
+    c .before .before .before .before .before .before .before .before .before .before .before .args in
     let p = c .before .before .before .before .before .before .before .before .before .before .before .pre .1 in
     let mz = c .before .before .before .before .before .before .before .before .before .before .before .pre .0 in
     let few = p .1 .0 in
@@ -661,8 +768,10 @@ write-sandbox-write-requires-2 t c κs = let a = c .before .before .before .befo
     (omega arith, (p .0, (omega arith, (omega arith, omega arith))))
 
 -- src/write.rt:190:5
-write-sandbox-step-requires-2 : (t : ℕ) → write-sandbox-lts.Need-step-requires-2 (write-sandbox-known t) (write-sandbox-at t) write-sandbox.Post
-write-sandbox-step-requires-2 t c κs = let a = c .before .before .before .before .before .before .before .before .before .before .before .before .before .before .before .args in
+write-sandbox-step-requires-2 : (t : ℕ) → write-sandbox-lts.Need-step-requires-2 (write-sandbox-known t)
+    (write-sandbox-at t) write-sandbox.Post
+write-sandbox-step-requires-2 t c κs = let a =
+    c .before .before .before .before .before .before .before .before .before .before .before .before .before .before .before .args in
     let p = c .before .before .before .before .before .before .before .before .before .before .before .before .before .before .before .pre .1 in
     let mz = c .before .before .before .before .before .before .before .before .before .before .before .before .before .before .before .pre .0 in
     let few = p .1 .0 in
@@ -677,14 +786,16 @@ write-sandbox-step-requires-2 t c κs = let a = c .before .before .before .befor
     let len = ap length tr ∙ stored-length (a .trace .now) (a .s .at) 1 (a .a) 0 in
     let zero-c : a .c ≡ 0 = omega (arith, c .before .before .before .before .before .before .before .before .if1 .left) in
     let sum = chosen-sandbox (a .w) (a .rows .now) (a .nodes .now) (a .t .now) (a .e) (a .n) (a .c) few (a .a) (a .b) ch zero-c in
-    let ar = around-end (a .w) (a .rows .now) (a .nodes .now) (a .t .now) (a .e) (a .n) (a .c) (p .0) few (c .before .before .before .before .before .if2 .left) in
+    let ar = around-end (a .w) (a .rows .now) (a .nodes .now) (a .t .now) (a .e) (a .n) (a .c) (p .0) few
+    (c .before .before .before .before .before .if2 .left) in
     let wi = c .before .before .before .write2 .ensures .1 .0 in
     let len2 = c .before .before .before .write2 .ensures .0 in
     omega arith
 
 -- src/write.rt:157:1
 write-sandbox-same-length-3 : (t : ℕ) → write-sandbox-lts.Need-same-length-3 (write-sandbox-known t) (write-sandbox-at t) write-sandbox.Post
-write-sandbox-same-length-3 t c = let a = c .before .before .before .before .before .before .before .before .before .before .before .before .before .before .before .before .before .before .args in
+write-sandbox-same-length-3 t c = let a =
+    c .before .before .before .before .before .before .before .before .before .before .before .before .before .before .before .before .before .before .args in
     let p = c .before .before .before .before .before .before .before .before .before .before .before .before .before .before .before .before .before .before .pre .1 in
     let mz = c .before .before .before .before .before .before .before .before .before .before .before .before .before .before .before .before .before .before .pre .0 in
     let few = p .1 .0 in
@@ -692,11 +803,16 @@ write-sandbox-same-length-3 t c = let a = c .before .before .before .before .bef
     let fresh-room = p .1 .1 .1 .0 in
     let ch = p .1 .1 .1 .1 .0 in
     let one = p .1 .1 .1 .1 .1 in
-    ap length (c .before .before .step2 .ensures .0) ∙ stored-length (c .before .before .before .before .before .before .write2 .last .1 .1 .1 .1 .0) (c .before .before .before .before .before .before .write2 .result .at) 2 (a .a) 0 ∙ c .before .before .before .before .before .before .write2 .ensures .0 ∙ ap length (c .before .before .before .before .before .before .before .before .before .before .before .before .before .before .step .ensures .0) ∙ stored-length (a .trace .now) (a .s .at) 1 (a .a) 0
+    ap length (c .before .before .step2 .ensures .0)
+    ∙ stored-length (c .before .before .before .before .before .before .write2 .last .1 .1 .1 .1 .0)
+    (c .before .before .before .before .before .before .write2 .result .at) 2 (a .a) 0
+    ∙ c .before .before .before .before .before .before .write2 .ensures .0
+    ∙ ap length (c .before .before .before .before .before .before .before .before .before .before .before .before .before .before .step .ensures .0) ∙ stored-length (a .trace .now) (a .s .at) 1 (a .a) 0
 
 -- src/write.rt:157:1
 write-sandbox-returns-3 : (t : ℕ) → write-sandbox-lts.Need-returns-3 (write-sandbox-known t) (write-sandbox-at t) write-sandbox.Post
-write-sandbox-returns-3 t c = let a = c .before .before .before .before .before .before .before .before .before .before .before .before .before .before .before .before .before .before .args in
+write-sandbox-returns-3 t c = let a =
+    c .before .before .before .before .before .before .before .before .before .before .before .before .before .before .before .before .before .before .args in
     let p = c .before .before .before .before .before .before .before .before .before .before .before .before .before .before .before .before .before .before .pre .1 in
     let mz = c .before .before .before .before .before .before .before .before .before .before .before .before .before .before .before .before .before .before .pre .0 in
     let few = p .1 .0 in
@@ -709,33 +825,56 @@ write-sandbox-returns-3 t c = let a = c .before .before .before .before .before 
     let nx = ap (λ (y : Spot). y .next) made in
     let tr = c .before .before .before .before .before .before .before .before .before .before .before .before .before .before .step .ensures .0 in
     let len = ap length tr ∙ stored-length (a .trace .now) (a .s .at) 1 (a .a) 0 in
-    let zero-c : a .c ≡ 0 = omega (arith, c .before .before .before .before .before .before .before .before .before .before .before .if1 .left) in
+    let zero-c : a .c ≡ 0 =
+    omega (arith, c .before .before .before .before .before .before .before .before .before .before .before .if1 .left) in
     let sum = chosen-sandbox (a .w) (a .rows .now) (a .nodes .now) (a .t .now) (a .e) (a .n) (a .c) few (a .a) (a .b) ch zero-c in
-    let ar = around-end (a .w) (a .rows .now) (a .nodes .now) (a .t .now) (a .e) (a .n) (a .c) (p .0) few (c .before .before .before .before .before .before .before .before .if2 .left) in
+    let ar = around-end (a .w) (a .rows .now) (a .nodes .now) (a .t .now) (a .e) (a .n) (a .c) (p .0) few
+    (c .before .before .before .before .before .before .before .before .if2 .left) in
     let wi = c .before .before .before .before .before .before .write2 .ensures .1 .0 in
-    let inside = subst (λ (y : Entry). Writes (a .w) (a .rows .now) (a .nodes .now) (a .t .now) y (a .n - 2) (a .g) (onward (a .s)) (storedStep (a .trace .now) (a .s .at) 1 (a .a) 0) (c .before .before .before .before .before .before .write2 .result) (c .before .before .before .before .before .before .write2 .last .1 .1 .1 .1 .0)) (c .before .before .before .before .before .before .before .before .before .before .inner .ensures)
-    (subst (λ (y : Spot). Writes (a .w) (a .rows .now) (a .nodes .now) (a .t .now) (c .before .before .before .before .before .before .before .before .before .before .inner .result) (a .n - 2) (a .g) y (storedStep (a .trace .now) (a .s .at) 1 (a .a) 0) (c .before .before .before .before .before .before .write2 .result) (c .before .before .before .before .before .before .write2 .last .1 .1 .1 .1 .0)) made
-    (subst (λ (y : List ℕ). Writes (a .w) (a .rows .now) (a .nodes .now) (a .t .now) (c .before .before .before .before .before .before .before .before .before .before .inner .result) (a .n - 2) (a .g) (c .before .before .before .before .before .before .before .before .before .before .before .before .before .before .step .result) y (c .before .before .before .before .before .before .write2 .result) (c .before .before .before .before .before .before .write2 .last .1 .1 .1 .1 .0)) tr (c .before .before .before .before .before .before .write2 .ensures .1 .1))) in
+    let inside = subst (λ (y : Entry). Writes (a .w) (a .rows .now) (a .nodes .now) (a .t .now) y (a .n - 2) (a .g) (onward (a .s))
+    (storedStep (a .trace .now) (a .s .at) 1 (a .a) 0) (c .before .before .before .before .before .before .write2 .result)
+    (c .before .before .before .before .before .before .write2 .last .1 .1 .1 .1 .0))
+    (c .before .before .before .before .before .before .before .before .before .before .inner .ensures)
+    (subst (λ (y : Spot). Writes (a .w) (a .rows .now) (a .nodes .now) (a .t .now)
+    (c .before .before .before .before .before .before .before .before .before .before .inner .result) (a .n - 2) (a .g) y
+    (storedStep (a .trace .now) (a .s .at) 1 (a .a) 0) (c .before .before .before .before .before .before .write2 .result)
+    (c .before .before .before .before .before .before .write2 .last .1 .1 .1 .1 .0)) made
+    (subst (λ (y : List ℕ). Writes (a .w) (a .rows .now) (a .nodes .now) (a .t .now)
+    (c .before .before .before .before .before .before .before .before .before .before .inner .result) (a .n - 2) (a .g)
+    (c .before .before .before .before .before .before .before .before .before .before .before .before .before .before .step .result) y
+    (c .before .before .before .before .before .before .write2 .result)
+    (c .before .before .before .before .before .before .write2 .last .1 .1 .1 .1 .0)) tr
+    (c .before .before .before .before .before .before .write2 .ensures .1 .1))) in
     let last = c .before .before .step2 .ensures .1 in
     let at2 = ap (λ (y : Spot). y .at) last in
     let nx2 = ap (λ (y : Spot). y .next) last in (
-      ap length (c .before .before .step2 .ensures .0) ∙ stored-length (c .before .before .before .before .before .before .write2 .last .1 .1 .1 .1 .0) (c .before .before .before .before .before .before .write2 .result .at) 2 (a .a) 0 ∙ c .before .before .before .before .before .before .write2 .ensures .0 ∙ len,
+      ap length (c .before .before .step2 .ensures .0)
+          ∙ stored-length (c .before .before .before .before .before .before .write2 .last .1 .1 .1 .1 .0)
+          (c .before .before .before .before .before .before .write2 .result .at) 2 (a .a) 0
+          ∙ c .before .before .before .before .before .before .write2 .ensures .0 ∙ len,
       (
         record { at = omega arith; next = omega arith },
-        wrote-sandbox (a .w) (a .rows .now) (a .nodes .now) (a .t .now) (a .e) (a .n) (a .c) (p .0) few (a .a) (a .b) ch zero-c (c .before .before .before .before .before .before .before .before .if2 .left) (a .g) (a .s) (a .trace .now) (c .before .before .before .before .before .before .write2 .result) (c .before .before .before .before .before .before .write2 .last .1 .1 .1 .1 .0) inside (c .before .before .step2 .result) last (c .before .before .step2 .last .0) (c .before .before .step2 .ensures .0),
+        wrote-sandbox (a .w) (a .rows .now) (a .nodes .now) (a .t .now) (a .e) (a .n) (a .c) (p .0) few (a .a) (a .b) ch zero-c
+            (c .before .before .before .before .before .before .before .before .if2 .left) (a .g) (a .s) (a .trace .now)
+            (c .before .before .before .before .before .before .write2 .result)
+            (c .before .before .before .before .before .before .write2 .last .1 .1 .1 .1 .0) inside (c .before .before .step2 .result) last
+            (c .before .before .step2 .last .0) (c .before .before .step2 .ensures .0),
       ),
     )
 
 -- src/write.rt:97:9
-write-sequence-first-requires : (t : ℕ) → write-sequence-lts.Need-first-requires (write-sequence-known t) (write-sequence-at t) write-sequence.Post
+write-sequence-first-requires : (t : ℕ) → write-sequence-lts.Need-first-requires (write-sequence-known t)
+    (write-sequence-at t) write-sequence.Post
 write-sequence-first-requires t c κs = search needs
 
 -- src/write.rt:98:9
-write-sequence-get-requires : (t : ℕ) → write-sequence-lts.Need-get-requires (write-sequence-known t) (write-sequence-at t) write-sequence.Post
+write-sequence-get-requires : (t : ℕ) → write-sequence-lts.Need-get-requires (write-sequence-known t)
+    (write-sequence-at t) write-sequence.Post
 write-sequence-get-requires t c κs = search needs
 
 -- src/write.rt:99:9
-write-sequence-write-requires : (t : ℕ) → write-sequence-lts.Need-write-requires (write-sequence-known t) (write-sequence-at t) write-sequence.Post
+write-sequence-write-requires : (t : ℕ) → write-sequence-lts.Need-write-requires (write-sequence-known t)
+    (write-sequence-at t) write-sequence.Post
 write-sequence-write-requires t c κs = let a = c .before .before .before .before .before .args in
     let p = c .before .before .before .before .before .pre .1 in
     let mz = c .before .before .before .before .before .pre .0 in
@@ -752,7 +891,8 @@ write-sequence-write-requires t c κs = let a = c .before .before .before .befor
     (omega arith, (p .0, (omega arith, (omega arith, omega arith))))
 
 -- src/write.rt:106:9
-write-sequence-second-requires : (t : ℕ) → write-sequence-lts.Need-second-requires (write-sequence-known t) (write-sequence-at t) write-sequence.Post
+write-sequence-second-requires : (t : ℕ) → write-sequence-lts.Need-second-requires (write-sequence-known t)
+    (write-sequence-at t) write-sequence.Post
 write-sequence-second-requires t c κs = search needs
 
 -- src/write.rt:107:9
@@ -769,11 +909,13 @@ write-sequence-sub-write t c = let a = c .before .before .before .before .before
     let l₁ = sp .2 in
     let l₂ = sp .3 in
     let sum = sp .1 in
-    let gv = c .before .before .before .before .before .before .get .ensures ∙ ap (held (a .t .now) (a .n)) (c .before .before .before .before .before .before .before .first .ensures) in
+    let gv = c .before .before .before .before .before .before .get .ensures
+    ∙ ap (held (a .t .now) (a .n)) (c .before .before .before .before .before .before .before .first .ensures) in
     omega arith
 
 -- src/write.rt:100:5
-write-sequence-write-requires-2 : (t : ℕ) → write-sequence-lts.Need-write-requires-2 (write-sequence-known t) (write-sequence-at t) write-sequence.Post
+write-sequence-write-requires-2 : (t : ℕ) → write-sequence-lts.Need-write-requires-2 (write-sequence-known t)
+    (write-sequence-at t) write-sequence.Post
 write-sequence-write-requires-2 t c κs = let a = c .before .before .before .before .before .before .before .before .before .before .args in
     let p = c .before .before .before .before .before .before .before .before .before .before .pre .1 in
     let mz = c .before .before .before .before .before .before .before .before .before .before .pre .0 in
@@ -786,18 +928,22 @@ write-sequence-write-requires-2 t c κs = let a = c .before .before .before .bef
     let l₁ = sp .2 in
     let l₂ = sp .3 in
     let sum = sp .1 in
-    let gv = c .before .before .before .before .before .before .get .ensures ∙ ap (held (a .t .now) (a .n)) (c .before .before .before .before .before .before .before .first .ensures) in
+    let gv = c .before .before .before .before .before .before .get .ensures
+    ∙ ap (held (a .t .now) (a .n)) (c .before .before .before .before .before .before .before .first .ensures) in
     let len = c .before .before .before .before .write .ensures .0 in
     let wi = c .before .before .before .before .write .ensures .1 .0 in
     (omega arith, (p .0, (omega arith, (omega arith, omega arith))))
 
 -- src/write.rt:73:1
-write-sequence-same-length : (t : ℕ) → write-sequence-lts.Need-same-length (write-sequence-known t) (write-sequence-at t) write-sequence.Post
-write-sequence-same-length t c = c .before .before .write2 .ensures .0 ∙ c .before .before .before .before .before .before .before .write .ensures .0
+write-sequence-same-length : (t : ℕ) → write-sequence-lts.Need-same-length (write-sequence-known t)
+    (write-sequence-at t) write-sequence.Post
+write-sequence-same-length t c = c .before .before .write2 .ensures .0
+    ∙ c .before .before .before .before .before .before .before .write .ensures .0
 
 -- src/write.rt:73:1
 write-sequence-returns : (t : ℕ) → write-sequence-lts.Need-returns (write-sequence-known t) (write-sequence-at t) write-sequence.Post
-write-sequence-returns t c = let a = c .before .before .before .before .before .before .before .before .before .before .before .before .before .args in
+write-sequence-returns t c = let a =
+    c .before .before .before .before .before .before .before .before .before .before .before .before .before .args in
     let p = c .before .before .before .before .before .before .before .before .before .before .before .before .before .pre .1 in
     let mz = c .before .before .before .before .before .before .before .before .before .before .before .before .before .pre .0 in
     let few = p .1 .0 in
@@ -809,15 +955,31 @@ write-sequence-returns t c = let a = c .before .before .before .before .before .
     let l₁ = sp .2 in
     let l₂ = sp .3 in
     let sum = sp .1 in
-    let gv = c .before .before .before .before .before .before .before .before .before .get .ensures ∙ ap (held (a .t .now) (a .n)) (c .before .before .before .before .before .before .before .before .before .before .first .ensures) in
+    let gv = c .before .before .before .before .before .before .before .before .before .get .ensures
+    ∙ ap (held (a .t .now) (a .n))
+    (c .before .before .before .before .before .before .before .before .before .before .first .ensures) in
     let wi = c .before .before .before .before .before .before .before .write .ensures .1 .0 in
     let wj = c .before .before .write2 .ensures .1 .0 in
-    let first = subst (λ (y : Entry). Writes (a .w) (a .rows .now) (a .nodes .now) (a .t .now) y (c .before .before .before .before .before .before .before .before .before .get .result) (a .g) (a .s) (a .trace .now) (c .before .before .before .before .before .before .before .write .result) (c .before .before .before .before .before .before .before .write .last .1 .1 .1 .1 .0)) (c .before .before .before .before .before .before .before .before .before .before .first .ensures) (c .before .before .before .before .before .before .before .write .ensures .1 .1) in
-    let second = subst (λ (y : Entry). Writes (a .w) (a .rows .now) (a .nodes .now) (a .t .now) y (a .n - c .before .before .before .before .before .before .before .before .before .get .result) (a .g) (c .before .before .before .before .before .before .before .write .result) (c .before .before .before .before .before .before .before .write .last .1 .1 .1 .1 .0) (c .before .before .write2 .result) (c .before .before .write2 .last .1 .1 .1 .1 .0)) (c .before .before .before .second .ensures) (c .before .before .write2 .ensures .1 .1) in (
+    let first = subst (λ (y : Entry). Writes (a .w) (a .rows .now) (a .nodes .now) (a .t .now) y
+    (c .before .before .before .before .before .before .before .before .before .get .result) (a .g) (a .s) (a .trace .now)
+    (c .before .before .before .before .before .before .before .write .result)
+    (c .before .before .before .before .before .before .before .write .last .1 .1 .1 .1 .0))
+    (c .before .before .before .before .before .before .before .before .before .before .first .ensures)
+    (c .before .before .before .before .before .before .before .write .ensures .1 .1) in
+    let second = subst (λ (y : Entry). Writes (a .w) (a .rows .now) (a .nodes .now) (a .t .now) y
+    (a .n - c .before .before .before .before .before .before .before .before .before .get .result) (a .g)
+    (c .before .before .before .before .before .before .before .write .result)
+    (c .before .before .before .before .before .before .before .write .last .1 .1 .1 .1 .0) (c .before .before .write2 .result)
+    (c .before .before .write2 .last .1 .1 .1 .1 .0)) (c .before .before .before .second .ensures)
+    (c .before .before .write2 .ensures .1 .1) in (
       c .before .before .write2 .ensures .0 ∙ c .before .before .before .before .before .before .before .write .ensures .0,
       (
         record { at = omega arith; next = omega arith },
-        wrote-sequence (a .w) (a .rows .now) (a .nodes .now) (a .t .now) (a .e) (a .n) (a .c) (p .0) few (a .a) (a .b) ch (a .g) (a .s) (a .trace .now) (c .before .before .before .before .before .before .before .before .before .get .result) gv (c .before .before .before .before .before .before .before .write .result) (c .before .before .before .before .before .before .before .write .last .1 .1 .1 .1 .0) first (c .before .before .write2 .result) (c .before .before .write2 .last .1 .1 .1 .1 .0) second,
+        wrote-sequence (a .w) (a .rows .now) (a .nodes .now) (a .t .now) (a .e) (a .n) (a .c) (p .0) few (a .a) (a .b) ch (a .g) (a .s)
+            (a .trace .now) (c .before .before .before .before .before .before .before .before .before .get .result) gv
+            (c .before .before .before .before .before .before .before .write .result)
+            (c .before .before .before .before .before .before .before .write .last .1 .1 .1 .1 .0) first
+            (c .before .before .write2 .result) (c .before .before .write2 .last .1 .1 .1 .1 .0) second,
       ),
     )
 

@@ -25,7 +25,11 @@ same-length c = search needs
 
 -- src/write.rt:57:1
 returns : tie.Need-returns
-returns c = (c .before .before .before .step .ensures .0, ap (λ (r : Spot). spot (r .at) (c .before .before .before .before .before .before .args .s .next + 1)) (c .before .before .before .step .ensures .1))
+returns c = (
+  c .before .before .before .step .ensures .0,
+  ap (λ (r : Spot). spot (r .at) (c .before .before .before .before .before .before .args .s .next + 1))
+      (c .before .before .before .step .ensures .1),
+)
 
 pub create-spec : {M : Type 1} → statement M
 create-spec = tie.close (tie.spec step-requires add-t6 same-length returns)

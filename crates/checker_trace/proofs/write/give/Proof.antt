@@ -22,11 +22,15 @@ element-write-g c = search needs
 
 -- src/write.rt:30:1
 returns : tie.Need-returns
-returns c = let k : length (c .before .args .t1 .numbers) ≡ 4 = search needs in (refl, length-set (c .before .args .t1 .numbers) (c .before .args .i) (c .before .args .v) ∙ k)
+returns c = let k : length (c .before .args .t1 .numbers) ≡ 4 = search needs in
+    (refl, length-set (c .before .args .t1 .numbers) (c .before .args .i) (c .before .args .v) ∙ k)
 
 -- src/write.rt:30:1
 returns-2 : tie.Need-returns-2
-returns-2 c = let k : length (c .before .args .t1 .numbers) ≡ 4 = search needs in (ap (λ (l : List ℕ). names-of l) (sym (set-out (c .before .args .t1 .numbers) (c .before .args .i) (c .before .args .v) (omega arith))), k)
+returns-2 c = let k : length (c .before .args .t1 .numbers) ≡ 4 = search needs in (
+  ap (λ (l : List ℕ). names-of l) (sym (set-out (c .before .args .t1 .numbers) (c .before .args .i) (c .before .args .v) (omega arith))),
+  k,
+)
 
 pub give-spec : {M : Type 1} → statement M
 give-spec = tie.close (tie.spec mul-g element-write-g returns returns-2)

@@ -11,7 +11,8 @@ use Rattle.checker_trace.proofs.write.name.Lts as lts
 
 -- src/write.rt:24:9
 returns : tie.Need-returns
-returns c = let k : length (c .before .args .t1 .numbers) ≡ 4 = search needs in sym (List·getD-eq-default (c .before .args .t1 .numbers) 0 (omega arith))
+returns c = let k : length (c .before .args .t1 .numbers) ≡ 4 = search needs in
+    sym (List·getD-eq-default (c .before .args .t1 .numbers) 0 (omega arith))
 
 -- src/write.rt:26:5
 mul-result : tie.Need-mul-result

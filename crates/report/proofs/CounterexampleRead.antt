@@ -1,0 +1,224 @@
+-- What is printed of a counterexample is an accepted trace sheet, and reading it gives the steps that were written.
+use Prim.Native.Nat.{ℕ, zero, suc, _+_, _-_, _*_, _/_, _%_, _<_, _≤_}
+use mathlib.Core.Path.{_≡_, refl, sym, ap, subst, _∙_}
+use mathlib.Core.Bool.{Bool, true, false}
+use mathlib.Core.List.{List, [], _∷_, _++_, map, append-nil, append-assoc}
+use native.Mathlib.Omega.{arith}
+use lib.Dec.{ltb}
+use lib.ListN.{length, length-append}
+use lib.Seq.{append-snoc}
+use borrow.Author.Tests.{ltb-true, ltb-false, le-leb}
+use Rattle.usage.specs.declared.RawStep.{RawStep}
+use Rattle.usage.specs.Limits.{mostSteps}
+use Rattle.usage.specs.Past.{Step, event, opening, closing, Past}
+use Rattle.usage.specs.Tables.{from, stepAt}
+use Rattle.usage.proofs.Logic.{clash}
+use Rattle.usage.proofs.JudgeLaws.{Fits}
+use Rattle.sheet_fields.specs.Fields.{stepLine, stepOk}
+use Rattle.sheet_bytes.specs.Class.{classOf}
+use Rattle.sheet_bytes.specs.Line.{Line, prefixed, linesOf}
+use Rattle.sheet_bytes.specs.Grammar.{Digits, no-digit, one-more, Value, one-space, Values, last-value, next-value}
+use Rattle.sheet_bytes.proofs.FaultLaws.{decides-values}
+use Rattle.sheet_lines.specs.Sheet.{Result, accepted, refused, followed, valueLines, sheet}
+use Rattle.sheet_lines.specs.Sheets.{policySheet, traceSheet, outlineSheet}
+use Rattle.sheet_lines.proofs.ScanLaws.{fed}
+use Rattle.sheet_reader.specs.Readers.{ruledResult}
+use Rattle.sheet_reader.proofs.WrittenLaws.{digit-class, digits-lines, nothing-left, names-read}
+use Rattle.checker.specs.declared.counterexample.Explanation.{Explanation}
+use Rattle.checker.specs.Accepted.{rawOf}
+use Rattle.checker.specs.Explained.{Explained, stepsWritten}
+use Rattle.report_lines.specs.Decimal.{digitByte, decimal}
+use Rattle.report_lines.specs.Lines.{field, row, traceNamesLine}
+use Rattle.report_lines.proofs.DecimalLaws.{tens, decimal-one, decimal-more, length-one, length-more, length-below}
+use Rattle.report.specs.Counterexample.{
+  noSteps,
+  RightTrace,
+  RightTraceOf,
+  RightExplanation,
+  stepRow,
+  stepRows,
+  shownSheet,
+  nodesSheet,
+}
+use Rattle.report.specs.Counterexample.{sheetsSheet, counterexamplePrinted}
+use Rattle.report.proofs.CounterexampleLaws.{rawsOf, Low-step, Low, no-step, one-more as low-more, explained-held, held-short}
+
+-- ── A printed number is a value ──
+
+digits-one : (n : ℕ) → n < 10 → Digits (length (decimal n)) n (decimal n)
+digits-one n h =
+    let e : 0 * 10 + (48 + n - 48) ≡ n = omega arith in
+    subst (λ (bs : List ℕ). Digits (length bs) n bs) (sym (decimal-one n h))
+    (subst (λ (v : ℕ). Digits 1 v (digitByte n ∷ [])) e (one-more (48 + n) (digit-class n h) no-digit))
+
+digits-more : (n : ℕ) → 10 ≤ n → Digits (length (decimal (n / 10))) (n / 10) (decimal (n / 10)) → Digits (length (decimal n)) n (decimal n)
+digits-more n h d =
+    let xs = decimal (n / 10) ++ (digitByte (n % 10) ∷ []) in
+    let e : n / 10 * 10 + (48 + n % 10 - 48) ≡ n = omega arith in
+    let k : length (decimal (n / 10)) + 1 ≡ length xs = omega (arith, length-append (decimal (n / 10)) (digitByte (n % 10) ∷ [])) in
+    subst (λ (bs : List ℕ). Digits (length bs) n bs) (sym (decimal-more n h))
+    (subst (λ (c : ℕ). Digits c n xs) k
+    (subst (λ (v : ℕ). Digits (length (decimal (n / 10)) + 1) v xs) e (one-more (48 + n % 10) (digit-class (n % 10) (omega arith)) d)))
+
+-- of at most k + 1 digits
+decimal-digits : (k n : ℕ) → n < tens (suc k) → Digits (length (decimal n)) n (decimal n)
+decimal-digits zero n h = digits-one n (omega arith)
+decimal-digits (suc k) n h = go (ltb n 10) refl (decimal-digits k (n / 10))
+  where
+    go : (b : Bool) → ltb n 10 ≡ b → (n / 10 < tens (suc k) → Digits (length (decimal (n / 10))) (n / 10) (decimal (n / 10)))
+        → Digits (length (decimal n)) n (decimal n)
+    go true e ih = digits-one n (ltb-true n 10 e)
+    go false e ih = digits-more n (ltb-false n 10 e) (ih (omega arith))
+
+some-digit : (n : ℕ) → 0 < length (decimal n)
+some-digit n = go (ltb n 10) refl
+  where
+    go : (b : Bool) → ltb n 10 ≡ b → 0 < length (decimal n)
+    go true e = omega (arith, length-one n (ltb-true n 10 e))
+    go false e = omega (arith, length-more n (ltb-false n 10 e))
+
+decimal-value : (n : ℕ) → n < 100000 → Value n (decimal n)
+decimal-value n h = record {
+  count = length (decimal n);
+  some-digit = some-digit n;
+  few = omega (arith, length-below 4 n (omega arith));
+  digits = decimal-digits 4 n (omega arith);
+}
+
+-- ── A printed row is one line ──
+
+-- the bytes of a line of three numbers
+abbrev threeBytes : ℕ → ℕ → ℕ → List ℕ
+threeBytes a b c = decimal a ++ (32 ∷ (decimal b ++ (32 ∷ decimal c)))
+
+space-line : (n : ℕ) → n < 100000 → (bs cs : List ℕ) (ls : List Line) → linesOf bs ≡ fed cs ∷ ls
+    → linesOf (field n 32 ++ bs) ≡ fed (decimal n ++ (32 ∷ cs)) ∷ ls
+unfolding field linesOf classOf
+space-line n h bs cs ls e =
+    ap linesOf (append-snoc (decimal n) 32 bs)
+    ∙ digits-lines (decimal-digits 4 n (omega arith)) (32 ∷ bs) (fed (32 ∷ cs)) ls (ap (prefixed 32) e)
+
+feed-line : (n : ℕ) → n < 100000 → (bs : List ℕ) → linesOf (field n 10 ++ bs) ≡ fed (decimal n) ∷ linesOf bs
+unfolding field linesOf classOf
+feed-line n h bs =
+    ap linesOf (append-snoc (decimal n) 10 bs)
+    ∙ digits-lines (decimal-digits 4 n (omega arith)) (10 ∷ bs) (fed []) (linesOf bs) refl
+    ∙ ap (λ (xs : List ℕ). fed xs ∷ linesOf bs) (append-nil (decimal n))
+
+row-line : (a b c : ℕ) → a < 100000 → b < 100000 → c < 100000 → (bs : List ℕ)
+    → linesOf (row a b c ++ bs) ≡ fed (threeBytes a b c) ∷ linesOf bs
+unfolding row
+row-line a b c ha hb hc bs =
+    ap linesOf (append-assoc (field a 32) (field b 32 ++ field c 10) bs)
+    ∙ space-line a ha ((field b 32 ++ field c 10) ++ bs) (decimal b ++ (32 ∷ decimal c)) (linesOf bs)
+    (ap linesOf (append-assoc (field b 32) (field c 10) bs)
+    ∙ space-line b hb (field c 10 ++ bs) (decimal c) (linesOf bs) (feed-line c hc bs))
+
+three-values : (a b c : ℕ) → a < 100000 → b < 100000 → c < 100000 → Values (a ∷ b ∷ c ∷ []) (threeBytes a b c)
+unfolding classOf
+three-values a b c ha hb hc =
+    next-value (decimal-value a ha) (one-space 32 refl)
+    (next-value (decimal-value b hb) (one-space 32 refl) (last-value (decimal-value c hc)))
+
+-- ── The lines of a trace sheet ──
+
+-- the values of a step's line
+abbrev pub stepValues : RawStep → List ℕ
+stepValues s = s .kind ∷ s .a ∷ s .b ∷ []
+
+record Readable (s : RawStep) : Type 0 where
+  kind : s .kind < 100000
+  a : s .a < 100000
+  b : s .b < 100000
+  ranged : stepLine (stepValues s) ≡ true
+
+step-read : (line left : ℕ) (s : RawStep) (bs : List ℕ) → Readable s
+    → valueLines traceSheet line (suc left) (linesOf (stepRow s ++ bs)) ≡ followed (stepValues s)
+    (valueLines traceSheet (suc line) left (linesOf bs))
+unfolding valueLines
+step-read line left s bs h =
+    let w = decides-values (traceSheet .fields) (fed (threeBytes (s .kind) (s .a) (s .b))) (stepValues s) .1 record {
+      is-ended = refl;
+      has = three-values (s .kind) (s .a) (s .b) (h .kind) (h .a) (h .b);
+      all-fields = refl;
+    } in
+    ap (valueLines traceSheet line (suc left)) (row-line (s .kind) (s .a) (s .b) (h .kind) (h .a) (h .b) bs) ∙ rw (w, h .ranged) refl
+
+data All-readable : List RawStep → Type 0 where
+  none-left : All-readable []
+  and-more : {s : RawStep} {steps : List RawStep} → Readable s → All-readable steps → All-readable (s ∷ steps)
+
+readable-snoc : {steps : List RawStep} {s : RawStep} → All-readable steps → Readable s → All-readable (steps ++ (s ∷ []))
+readable-snoc none-left h = and-more h none-left
+readable-snoc (and-more k ks) h = and-more k (readable-snoc ks h)
+
+steps-read : (line left : ℕ) {steps : List RawStep} → All-readable steps → length steps ≤ left
+    → valueLines traceSheet line left (linesOf (stepRows steps)) ≡ accepted (map stepValues steps)
+unfolding stepRows
+steps-read line left none-left few = nothing-left traceSheet line left
+steps-read line zero (and-more h hs) few = absurd (omega arith)
+steps-read line (suc left) (and-more {s} {steps} h hs) few =
+    step-read line left s (stepRows steps) h ∙ ap (followed (stepValues s)) (steps-read (suc line) left hs (omega arith))
+
+-- ── The steps of a counterexample ──
+
+step-ranged : (s : Step) → Fits s → stepLine (stepValues (rawOf s)) ≡ true
+unfolding stepOk
+step-ranged (event a r) (l, k) =
+    rw (le-leb 0 a (omega arith), le-leb a 31 (omega arith), le-leb 0 r (omega arith), le-leb r 65535 (omega arith))
+step-ranged (opening p) l = rw (le-leb 0 p (omega arith), le-leb p 7 (omega arith))
+step-ranged (closing p) l = rw (le-leb 0 p (omega arith), le-leb p 7 (omega arith))
+
+step-readable : (s : Step) → Low-step s → Readable (rawOf s)
+step-readable (event a r) l =
+    let h = l .fits .0 in
+    let k = l .b in
+    record { kind = omega arith; a = omega arith; b = omega arith; ranged = step-ranged (event a r) (l .fits) }
+step-readable (opening p) l =
+    let h = l .fits in
+    record { kind = omega arith; a = omega arith; b = omega arith; ranged = step-ranged (opening p) (l .fits) }
+step-readable (closing p) l =
+    let h = l .fits in
+    record { kind = omega arith; a = omega arith; b = omega arith; ranged = step-ranged (closing p) (l .fits) }
+
+low-readable : {past : Past} → Low past → All-readable (rawsOf past)
+unfolding rawsOf
+low-readable no-step = none-left
+low-readable (low-more {s} l ls) = readable-snoc (low-readable ls) (step-readable s l)
+
+raws-length : (past : Past) → length (rawsOf past) ≡ length past
+unfolding rawsOf
+raws-length [] = refl
+raws-length (s ∷ past) = omega (arith, length-append (rawsOf past) (rawOf s ∷ []), raws-length past)
+
+-- The text of a counterexample is a trace sheet that is accepted, and its values are the steps of the table.
+pub shown-read : {e n t : List ℕ} {x : Explanation} → Explained e n noSteps x t
+    → sheet traceSheet (shownSheet x t) ≡ accepted (map stepValues (from (stepAt t) 0 (stepsWritten x)))
+unfolding traceNamesLine
+shown-read {t = t} {x = x} d =
+    let h = explained-held d in
+    let short = held-short h in
+    let rows = stepRows (from (stepAt t) 0 (stepsWritten x)) in
+    let l = length-append (traceSheet .names) rows in
+    let m = raws-length (h .past) in
+    let c = h .count in
+    let f = h .few in
+    names-read traceSheet rows (omega arith)
+    ∙ rw (h .steps) (steps-read 2 mostSteps (low-readable (h .low)) (omega arith))
+
+-- the same of what is printed for two accepted sheets: the first program can judge it as it is
+pub counterexample-read : (policies-text outline-text : List ℕ) (edges nodes : List (List ℕ))
+    → sheet policySheet policies-text ≡ accepted edges
+    → ruledResult (sheet outlineSheet outline-text) ≡ accepted nodes → (x : Explanation) (t : List ℕ)
+    → RightExplanation policies-text outline-text x t
+    → sheet traceSheet (counterexamplePrinted policies-text outline-text x t) ≡ accepted
+    (map stepValues (from (stepAt t) 0 (stepsWritten x)))
+unfolding RightTrace RightTraceOf nodesSheet sheetsSheet
+counterexample-read policies-text outline-text edges nodes p o x t h =
+    go (sheet policySheet policies-text) (ruledResult (sheet outlineSheet outline-text)) p o h
+  where
+    go : (a b : Result) → a ≡ accepted edges → b ≡ accepted nodes → RightTraceOf a b x t
+        → sheet traceSheet (sheetsSheet a b x t) ≡ accepted (map stepValues (from (stepAt t) 0 (stepsWritten x)))
+    go (accepted es) (accepted ns) e f h = shown-read h
+    go (accepted es) (refused r) e f h = clash (cc)
+    go (refused r) b e f h = clash (cc)
