@@ -1,7 +1,8 @@
 /* The monitor and the checker for programs in C: the functions that the proved code exports.
  *
  *   rt staticlib api_c    proves and writes target/staticlib/libapi_c.a: judge_parts, check_tables, check_counterexample
- *   rt staticlib report   proves and writes target/staticlib/libreport.a: report_trace, report_outline
+ *   rt staticlib report   proves and writes target/staticlib/libreport.a: report_trace, report_outline,
+ *                         report_counterexample
  *   cc -Iapi program.c target/staticlib/libapi_c.a
  *
  * They are for x86-64. No function keeps anything between calls, allocates, reads or writes anything but what it is lent, or has a case
@@ -32,6 +33,8 @@ extern "C" {
 /* The state of the monitor: the lengths of its arrays, in elements, and their alignments, in bytes. */
 #define WIFOREKUN_SETS_LENGTH 648
 #define WIFOREKUN_SETS_ALIGN 1
+#define WIFOREKUN_POSSIBLE_LENGTH 8
+#define WIFOREKUN_POSSIBLE_ALIGN 1
 #define WIFOREKUN_CREATED_LENGTH 64
 #define WIFOREKUN_CREATED_ALIGN 4
 #define WIFOREKUN_UNCLOSED_LENGTH 8
@@ -41,15 +44,17 @@ extern "C" {
 
 struct wiforekun_state {
     uint8_t sets[WIFOREKUN_SETS_LENGTH];         /* the states that each instance may be in, as bits */
+    uint8_t possible[WIFOREKUN_POSSIBLE_LENGTH]; /* for each policy the states that any of its instances may be in, as bits */
     uint32_t created[WIFOREKUN_CREATED_LENGTH];  /* the dynamic resources that were created, in their order */
     uint8_t unclosed[WIFOREKUN_UNCLOSED_LENGTH]; /* for each policy its openings that are not closed */
     uint64_t numbers[WIFOREKUN_NUMBERS_LENGTH];  /* how many were created; 1 where the run is halted, else 0 */
 };
 
-/* The start: each instance in state 0 (the set with bit 0 alone), nothing created, nothing open, not halted. */
+/* The start: each instance in state 0 (the set with bit 0 alone), and so each policy; nothing created, nothing open, not halted. */
 static inline void wiforekun_start(struct wiforekun_state *state) {
     memset(state, 0, sizeof *state);
     memset(state->sets, 1, sizeof state->sets);
+    memset(state->possible, 1, sizeof state->possible);
 }
 
 /* An answer: 0 allowed or accepted, 1 violated or refused with a policy, 2 refused with a number. Its detail: 0, the policy or the
@@ -61,14 +66,15 @@ static inline void wiforekun_start(struct wiforekun_state *state) {
 /* One step of the monitor, under a table of edges (its length in bytes). The state's arrays are lent one by one. Where the step is allowed
  * they hold the new state; where it is violated only the halted flag changes, to 1; where it is refused with a number nothing changes.
  * Of the numbers 40 to 42: 41 where no accepted sheet gives the table; 42 where the state has more than 64 resources created, one twice or
- * outside 16 to 65535, or a halted flag other than 0 and 1. A state that passes but was never reached is judged by the sets that it holds.
- * Elements of `created` from the count on are not looked at. */
-uint32_t judge_parts(const uint8_t *edges, size_t edges_length, uint8_t *sets, uint32_t *created, uint8_t *unclosed, uint64_t *numbers,
-                     uint32_t kind, uint32_t a, uint32_t b);
+ * outside 16 to 65535, or a halted flag other than 0 and 1. A state that passes but was never reached is judged by the sets that it holds:
+ * an event by `sets`, from which it gathers `possible` anew, an opening or a closing by `possible` as it is. Elements of `created` from the
+ * count on are not looked at. */
+uint32_t judge_parts(const uint8_t *edges, size_t edges_length, uint8_t *sets, uint8_t *possible, uint32_t *created, uint8_t *unclosed,
+                     uint64_t *numbers, uint32_t kind, uint32_t a, uint32_t b);
 
 static inline uint32_t wiforekun_judge(struct wiforekun_state *state, const uint8_t *edges, size_t edges_length, uint32_t kind, uint32_t a,
                                        uint32_t b) {
-    return judge_parts(edges, edges_length, state->sets, state->created, state->unclosed, state->numbers, kind, a, b);
+    return judge_parts(edges, edges_length, state->sets, state->possible, state->created, state->unclosed, state->numbers, kind, a, b);
 }
 
 /* The check of a table of nodes under a table of edges (lengths in bytes). 41 where no accepted sheet gives one of the tables. */
@@ -85,14 +91,17 @@ uint32_t check_tables(const uint8_t *edges, size_t edges_length, const uint8_t *
 uint32_t check_counterexample(const uint8_t *edges, size_t edges_length, const uint8_t *nodes, size_t nodes_length, uint32_t *trace,
                               size_t trace_length);
 
-/* What the two programs print, from the bytes of the sheets: the text is written to `out`, and its length is the answer. Bytes after it
+/* What the programs print, from the bytes of the sheets: the text is written to `out`, and its length is the answer. Bytes after it
  * keep their contents. Where `out` is shorter than the room below, nothing is written and the answer is 0. */
 #define WIFOREKUN_TRACE_ROOM 20019
-#define WIFOREKUN_OUTLINE_ROOM 27
+#define WIFOREKUN_OUTLINE_ROOM 28
+#define WIFOREKUN_COUNTEREXAMPLE_TEXT_ROOM 1809
 size_t report_trace(const uint8_t *policies, size_t policies_length, const uint8_t *trace, size_t trace_length, uint8_t *out,
                     size_t out_length);
 size_t report_outline(const uint8_t *policies, size_t policies_length, const uint8_t *outline, size_t outline_length, uint8_t *out,
                       size_t out_length);
+size_t report_counterexample(const uint8_t *policies, size_t policies_length, const uint8_t *outline, size_t outline_length, uint8_t *out,
+                             size_t out_length);
 
 #ifdef __cplusplus
 }

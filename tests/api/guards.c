@@ -71,12 +71,13 @@ static uint32_t below(uint32_t most) {
 }
 
 struct parts {
-    struct lent sets, created, unclosed, numbers;
+    struct lent sets, possible, created, unclosed, numbers;
 };
 
 static struct parts lend_state(const struct wiforekun_state *state, enum place place) {
     struct parts parts = {
         lend(state->sets, sizeof state->sets, WIFOREKUN_SETS_ALIGN, place),
+        lend(state->possible, sizeof state->possible, WIFOREKUN_POSSIBLE_ALIGN, place),
         lend(state->created, sizeof state->created, WIFOREKUN_CREATED_ALIGN, place),
         lend(state->unclosed, sizeof state->unclosed, WIFOREKUN_UNCLOSED_ALIGN, place),
         lend(state->numbers, sizeof state->numbers, WIFOREKUN_NUMBERS_ALIGN, place),
@@ -86,18 +87,20 @@ static struct parts lend_state(const struct wiforekun_state *state, enum place p
 
 static int same(const struct parts *parts, const struct wiforekun_state *state) {
     return !memcmp(parts->sets.bytes, state->sets, sizeof state->sets) &&
+           !memcmp(parts->possible.bytes, state->possible, sizeof state->possible) &&
            !memcmp(parts->created.bytes, state->created, sizeof state->created) &&
            !memcmp(parts->unclosed.bytes, state->unclosed, sizeof state->unclosed) &&
            !memcmp(parts->numbers.bytes, state->numbers, sizeof state->numbers);
 }
 
 static uint32_t judge(const struct parts *parts, struct lent edges, const uint32_t step[3]) {
-    return judge_parts(edges.bytes, edges.size, parts->sets.bytes, (uint32_t *)parts->created.bytes, parts->unclosed.bytes,
-                       (uint64_t *)parts->numbers.bytes, step[0], step[1], step[2]);
+    return judge_parts(edges.bytes, edges.size, parts->sets.bytes, parts->possible.bytes, (uint32_t *)parts->created.bytes,
+                       parts->unclosed.bytes, (uint64_t *)parts->numbers.bytes, step[0], step[1], step[2]);
 }
 
 static void give_state_back(const struct parts *parts) {
     give_back(parts->sets);
+    give_back(parts->possible);
     give_back(parts->created);
     give_back(parts->unclosed);
     give_back(parts->numbers);
@@ -115,7 +118,7 @@ static void run(enum place place) {
     wiforekun_start(&plain);
     struct lent table = lend_to_read(edges, sizeof edges);
     struct parts parts = lend_state(&plain, place);
-    int last_set = 0, last_unclosed = 0;
+    int last_set = 0, last_possible = 0, last_unclosed = 0;
     for (unsigned i = 0; i < STEPS; i++) {
         uint32_t kind = below(4), step[3] = {kind, below(9), kind == 0 || below(9) == 0 ? below(120) : 0};
         struct wiforekun_state before = plain;
@@ -124,11 +127,12 @@ static void run(enum place place) {
         REQUIRE(same(&parts, &plain));
         REQUIRE(WIFOREKUN_ANSWER(code) != 2 || same(&parts, &before));
         last_set |= plain.sets[WIFOREKUN_SETS_LENGTH - 1] != 1;
+        last_possible |= plain.possible[WIFOREKUN_POSSIBLE_LENGTH - 1] != 1;
         last_unclosed |= plain.unclosed[WIFOREKUN_UNCLOSED_LENGTH - 1] > 0;
     }
     /* the whole of each array is in use */
     REQUIRE(plain.numbers[0] == WIFOREKUN_CREATED_LENGTH && plain.created[WIFOREKUN_CREATED_LENGTH - 1] >= 16);
-    REQUIRE(last_set && last_unclosed);
+    REQUIRE(last_set && last_possible && last_unclosed);
     give_state_back(&parts);
     REQUIRE(munmap(table.ground - page, 3 * page) == 0);
 }
@@ -250,6 +254,7 @@ static void reports(void) {
     static const char policies[] = "policy from action on who to\n0 0 2 1 0 6\n", trace[] = "kind a b\n1 0 0\n0 2 3\n";
     static const char outline[] = "node kind a b\n0 8 0 1\n1 1 2 3\n";
     static const char judged[] = "line answer detail\n2 0 0\n3 1 0\n", checked[] = "line answer detail\n0 1 0\n";
+    static const char shown[] = "kind a b\n1 0 0\n0 2 3\n";
     uint8_t *out = malloc(WIFOREKUN_TRACE_ROOM);
     REQUIRE(out != NULL);
     memset(out, MARK, WIFOREKUN_TRACE_ROOM);
@@ -257,11 +262,15 @@ static void reports(void) {
     struct lent o = lend_to_read(outline, strlen(outline));
     REQUIRE(report_trace(p.bytes, p.size, t.bytes, t.size, out, WIFOREKUN_TRACE_ROOM - 1) == 0);
     REQUIRE(report_outline(p.bytes, p.size, o.bytes, o.size, out, WIFOREKUN_OUTLINE_ROOM - 1) == 0);
+    REQUIRE(report_counterexample(p.bytes, p.size, o.bytes, o.size, out, WIFOREKUN_COUNTEREXAMPLE_TEXT_ROOM - 1) == 0);
     for (size_t i = 0; i < WIFOREKUN_TRACE_ROOM; i++) REQUIRE(out[i] == MARK);
     REQUIRE(report_trace(p.bytes, p.size, t.bytes, t.size, out, WIFOREKUN_TRACE_ROOM) == strlen(judged));
     REQUIRE(!memcmp(out, judged, strlen(judged)) && out[strlen(judged)] == MARK);
     REQUIRE(report_outline(p.bytes, p.size, o.bytes, o.size, out, WIFOREKUN_OUTLINE_ROOM) == strlen(checked));
     REQUIRE(!memcmp(out, checked, strlen(checked)) && out[strlen(checked)] == judged[strlen(checked)]);
+    memset(out, MARK, WIFOREKUN_TRACE_ROOM);
+    REQUIRE(report_counterexample(p.bytes, p.size, o.bytes, o.size, out, WIFOREKUN_COUNTEREXAMPLE_TEXT_ROOM) == strlen(shown));
+    REQUIRE(!memcmp(out, shown, strlen(shown)) && out[strlen(shown)] == MARK);
 }
 #endif
 

@@ -22,6 +22,7 @@ pub const NODE_BYTES: usize = 3;
 
 /// The lengths of a state's arrays.
 pub const SETS_LENGTH: usize = 648;
+pub const POSSIBLE_LENGTH: usize = 8;
 pub const CREATED_LENGTH: usize = 64;
 pub const UNCLOSED_LENGTH: usize = 8;
 pub const NUMBERS_LENGTH: usize = 2;
@@ -32,7 +33,8 @@ pub const COUNTEREXAMPLE_ROOM: usize = 600;
 
 /// The room that the longest output of each program takes.
 pub const TRACE_ROOM: usize = 20_019;
-pub const OUTLINE_ROOM: usize = 27;
+pub const OUTLINE_ROOM: usize = 28;
+pub const COUNTEREXAMPLE_TEXT_ROOM: usize = 1_809;
 
 // Nothing but tests/api checks these declarations against the proved code, so they stand here alone.
 extern "C" {
@@ -40,6 +42,7 @@ extern "C" {
         edges: *const u8,
         edges_length: usize,
         sets: *mut [u8; SETS_LENGTH],
+        possible: *mut [u8; POSSIBLE_LENGTH],
         created: *mut [u32; CREATED_LENGTH],
         unclosed: *mut [u8; UNCLOSED_LENGTH],
         numbers: *mut [u64; NUMBERS_LENGTH],
@@ -69,6 +72,14 @@ extern "C" {
         out_length: usize,
     ) -> usize;
     fn report_outline(
+        policies: *const u8,
+        policies_length: usize,
+        outline: *const u8,
+        outline_length: usize,
+        out: *mut u8,
+        out_length: usize,
+    ) -> usize;
+    fn report_counterexample(
         policies: *const u8,
         policies_length: usize,
         outline: *const u8,
@@ -122,6 +133,9 @@ pub enum Explained {
 pub struct State {
     /// The states that each instance may be in, as bits.
     pub sets: [u8; SETS_LENGTH],
+    /// For each policy the states that any of its instances may be in, as bits: what each event gathers anew, and what openings and closings
+    /// are judged by.
+    pub possible: [u8; POSSIBLE_LENGTH],
     /// The dynamic resources that were created, in their order.
     pub created: [u32; CREATED_LENGTH],
     /// For each policy its openings that are not closed.
@@ -132,8 +146,13 @@ pub struct State {
 
 impl State {
     /// Each instance in state 0, nothing created, nothing open.
-    pub const START: State =
-        State { sets: [1; SETS_LENGTH], created: [0; CREATED_LENGTH], unclosed: [0; UNCLOSED_LENGTH], numbers: [0; NUMBERS_LENGTH] };
+    pub const START: State = State {
+        sets: [1; SETS_LENGTH],
+        possible: [1; POSSIBLE_LENGTH],
+        created: [0; CREATED_LENGTH],
+        unclosed: [0; UNCLOSED_LENGTH],
+        numbers: [0; NUMBERS_LENGTH],
+    };
 
     /// One step (kind, a, b). The state after it is the new one where it is allowed, halted where it is violated, and unchanged where it is
     /// refused.
@@ -150,9 +169,9 @@ impl State {
     /// The same as one number: 256 times the answer (0 allowed, 1 violated, 2 refused), and the detail.
     #[inline]
     pub fn judge_code(&mut self, edges: &[u8], [kind, a, b]: [u32; 3]) -> u32 {
-        let State { sets, created, unclosed, numbers } = self;
+        let State { sets, possible, created, unclosed, numbers } = self;
         // sound: slices and exclusive references to arrays of the declared lengths; the proved code keeps to these
-        unsafe { judge_parts(edges.as_ptr(), edges.len(), sets, created, unclosed, numbers, kind, a, b) }
+        unsafe { judge_parts(edges.as_ptr(), edges.len(), sets, possible, created, unclosed, numbers, kind, a, b) }
     }
 }
 
@@ -214,4 +233,12 @@ pub fn print_trace(policies: &[u8], trace: &[u8], out: &mut [u8]) -> usize {
 pub fn print_outline(policies: &[u8], outline: &[u8], out: &mut [u8]) -> usize {
     // sound: two slices to read and one to write
     unsafe { report_outline(policies.as_ptr(), policies.len(), outline.as_ptr(), outline.len(), out.as_mut_ptr(), out.len()) }
+}
+
+/// What the third program prints for these sheets, a counterexample as a trace sheet, put into `out`: its length, or 0 where `out` is
+/// shorter than [`COUNTEREXAMPLE_TEXT_ROOM`].
+#[cfg(feature = "report")]
+pub fn print_counterexample(policies: &[u8], outline: &[u8], out: &mut [u8]) -> usize {
+    // sound: two slices to read and one to write
+    unsafe { report_counterexample(policies.as_ptr(), policies.len(), outline.as_ptr(), outline.len(), out.as_mut_ptr(), out.len()) }
 }

@@ -62,4 +62,13 @@ fn printed() {
     let length = wiforekun::print_outline(policies, b"node kind a b\n0 6 0 0\n", &mut out);
     assert_eq!(&out[..length], b"line answer detail\n2 5 7\n");
     assert_eq!(wiforekun::print_outline(policies, b"node kind a b\n", &mut out[1..]), 0);
+    let mut out = [0xa5; wiforekun::COUNTEREXAMPLE_TEXT_ROOM];
+    let length = wiforekun::print_counterexample(policies, b"node kind a b\n0 8 0 1\n1 1 2 3\n", &mut out);
+    assert_eq!(&out[..length], b"kind a b\n1 0 0\n0 2 3\n");
+    assert!(out[length..].iter().all(|byte| *byte == 0xa5));
+    assert_eq!(wiforekun::print_counterexample(policies, b"node kind a b\n", &mut out[1..]), 0);
+    let length = wiforekun::print_counterexample(policies, b"node kind a b\n0 0 0 0\n", &mut out);
+    assert_eq!(&out[..length], b"kind a b\n");
+    let length = wiforekun::print_counterexample(policies, b"node kind a b\n0 6 0 0\n", &mut out);
+    assert_eq!(&out[..length], b"line answer detail\n2 5 7\n");
 }

@@ -16,23 +16,32 @@ use Rattle.monitor_state.specs.Judge.{verdictOf, judgeOf}
 -- the arrays; `numbers` holds how many resources were created, and then a flag: 1 where the state is halted, 0 where it is not
 pub record Parts : Type 0 where
   pub sets : List ℕ
+  pub possible : List ℕ
   pub created : List ℕ
   pub unclosed : List ℕ
   pub numbers : List ℕ
 
-abbrev pub partsOf : List ℕ → List ℕ → List ℕ → List ℕ → Parts
-partsOf sets created unclosed numbers = record { sets = sets; created = created; unclosed = unclosed; numbers = numbers }
+abbrev pub partsOf : List ℕ → List ℕ → List ℕ → List ℕ → List ℕ → Parts
+partsOf sets possible created unclosed numbers =
+    record { sets = sets; possible = possible; created = created; unclosed = unclosed; numbers = numbers }
 
 abbrev pub flag : Parts → ℕ
 flag p = getD (p .numbers) 1 0
 
 -- the state that the arrays hold, where the flag is one
 unfoldable pub heldIn : Parts → State
-heldIn p = record { sets = p .sets; created = p .created; count = getD (p .numbers) 0 0; unclosed = p .unclosed; halted = eqb (flag p) 1 }
+heldIn p = record {
+  sets = p .sets;
+  possible = p .possible;
+  created = p .created;
+  count = getD (p .numbers) 0 0;
+  unclosed = p .unclosed;
+  halted = eqb (flag p) 1;
+}
 
 -- the arrays that hold a state
 unfoldable pub holding : State → Parts
-holding s = partsOf (s .sets) (s .created) (s .unclosed) (s .count ∷ cond (s .halted) 1 0 ∷ [])
+holding s = partsOf (s .sets) (s .possible) (s .created) (s .unclosed) (s .count ∷ cond (s .halted) 1 0 ∷ [])
 
 -- what is answered, and what the arrays then hold
 pub record Answered : Type 0 where

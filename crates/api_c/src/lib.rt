@@ -61,13 +61,14 @@ fn no_state(edges: &[u8]) -> u32
 // How many numbers a state has beside its arrays.
 const NUMBERS: usize = 2;
 
-// One step of the judge. The state lies in the lent parts: the sets, the created numbers and the unclosed openings, and in
-// `numbers` how many resources were created and a flag, 1 where the state is halted and 0 where it is not. All of them then hold the
-// state that the judge returns; after a refusal they are as they were lent.
+// One step of the judge. The state lies in the lent parts: the sets, what each policy may be in, the created numbers and the unclosed
+// openings, and in `numbers` how many resources were created and a flag, 1 where the state is halted and 0 where it is not. All of them
+// then hold the state that the judge returns; after a refusal they are as they were lent.
 #[no_mangle]
 pub extern "C" fn judge_parts(
     edges: &[u8],
     sets: &mut [u8; SETS],
+    possible: &mut [u8; POLICIES],
     created: &mut [u32; MOST_CREATED],
     unclosed: &mut [u8; POLICIES],
     numbers: &mut [u64; NUMBERS],
@@ -77,12 +78,13 @@ pub extern "C" fn judge_parts(
 ) -> u32
     ensures { λ r.
         ⌜ r ≡ codeOf
-        (judgeParts (now (edges .entry)) (partsOf (now (sets .entry)) (now (created .entry)) (now (unclosed .entry)) (now (numbers .entry)))
+        (judgeParts (now (edges .entry))
+        (partsOf (now (sets .entry)) (now (possible .entry)) (now (created .entry)) (now (unclosed .entry)) (now (numbers .entry)))
         (record { kind = kind; a = a; b = b }) .verdict) ⌝ }
     ensures { λ r.
-        ⌜ partsOf (now (sets .exit)) (now (created .exit)) (now (unclosed .exit)) (now (numbers .exit))
+        ⌜ partsOf (now (sets .exit)) (now (possible .exit)) (now (created .exit)) (now (unclosed .exit)) (now (numbers .exit))
         ≡ judgeParts (now (edges .entry))
-        (partsOf (now (sets .entry)) (now (created .entry)) (now (unclosed .entry)) (now (numbers .entry)))
+        (partsOf (now (sets .entry)) (now (possible .entry)) (now (created .entry)) (now (unclosed .entry)) (now (numbers .entry)))
         (record { kind = kind; a = a; b = b }) .parts ⌝ }
 {
     let count = numbers[0] as usize;
@@ -93,6 +95,7 @@ pub extern "C" fn judge_parts(
     let t = monitor::judge_lent(
         edges,
         sets,
+        possible,
         created,
         unclosed,
         count,

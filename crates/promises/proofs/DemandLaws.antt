@@ -23,16 +23,26 @@ use Rattle.promises.proofs.JudgeNumbers.{judge-refuses}
 use Rattle.promises.proofs.SheetNumbers.{policies-refuses, trace-refuses, outline-refuses}
 
 edges-sheet : (t : List ℕ) → EdgeTable t ↔ GivenBy edgePlaces policiesInto t
-edges-sheet t = (λ e. let g = edges-given t (decides-edge-table t .1 e) in record { text = g .text; rows = g .rows; accepts = g .accepts; table-is = g .table }, back)
+edges-sheet t = (
+  λ e. let g = edges-given t (decides-edge-table t .1 e) in
+      record { text = g .text; rows = g .rows; accepts = g .accepts; table-is = g .table },
+  back,
+)
   where
     back : GivenBy edgePlaces policiesInto t → EdgeTable t
-    back g = subst EdgeTable (g .table-is) (decides-edge-table (flatten (g .rows)) .0 (policies-valid edgePlaces (g .text) (g .rows) (g .accepts)))
+    back g = subst EdgeTable (g .table-is) (decides-edge-table (flatten (g .rows)) .0
+        (policies-valid edgePlaces (g .text) (g .rows) (g .accepts)))
 
 nodes-sheet : (t : List ℕ) → NodeTable t ↔ GivenBy nodePlaces outlineInto t
-nodes-sheet t = (λ e. let g = nodes-given t (decides-node-table t .1 e) in record { text = g .text; rows = g .rows; accepts = g .accepts; table-is = g .table }, back)
+nodes-sheet t = (
+  λ e. let g = nodes-given t (decides-node-table t .1 e) in
+      record { text = g .text; rows = g .rows; accepts = g .accepts; table-is = g .table },
+  back,
+)
   where
     back : GivenBy nodePlaces outlineInto t → NodeTable t
-    back g = subst NodeTable (g .table-is) (decides-node-table (flatten (g .rows)) .0 (outline-valid nodePlaces (g .text) (g .rows) (g .accepts)))
+    back g = subst NodeTable (g .table-is) (decides-node-table (flatten (g .rows)) .0
+        (outline-valid nodePlaces (g .text) (g .rows) (g .accepts)))
 
 pub demand-1 : Demand1
 demand-1 = record {

@@ -79,7 +79,8 @@ settle-fine : (s t : State) (bad : ℕ) → bad < 256 → Fine s (settle bad s t
 unfolding settle
 settle-fine s t bad l = go (eqb bad 0) refl
   where
-    go : (b : Bool) → eqb bad 0 ≡ b → Fine s (cond b (record { answer = Allowed; state = t }) (record { answer = Violated (lowestIn bad); state = halt s }))
+    go : (b : Bool) → eqb bad 0 ≡ b → Fine s (cond b (record { answer = Allowed; state = t })
+        (record { answer = Violated (lowestIn bad); state = halt s }))
     go true e = record { listed = tt; keeps = λ n e. allows e; halts = λ p e. allows-all e }
     go false e = record { listed = lowest-is bad l e .below-8; keeps = λ n e. no-refusal e; halts = λ p e. refl }
 
@@ -118,7 +119,10 @@ settle-low s t bad = cond-low (eqb bad 0) _ _ (λ n e. allows e) (λ n e. no-ref
 module _ (es : List Edge) (s : State) where
   step-fine : (step : Step) (o : Option ℕ) → Routine o → Fine s (judgeStep es s step o) × Low (judgeStep es s step o)
   unfolding judgeStep
-  step-fine step none r = (settle-fine s (after es s step) (broken (after es s step)) (broken-lt (after es s step)), settle-low s (after es s step) (broken (after es s step)))
+  step-fine step none r = (
+    settle-fine s (after es s step) (broken (after es s step)) (broken-lt (after es s step)),
+    settle-low s (after es s step) (broken (after es s step)),
+  )
   step-fine step (some n) r = (refuse-fine s n (r .0), refuse-low s n (r .1))
 
   read-fine : (o : Option Step) → Fine s (judgeRead es s o) × Low (judgeRead es s o)

@@ -3,7 +3,20 @@ use Prim.Native.Nat.{ℕ, zero, suc, _*_, _<_, _≤_}
 use mathlib.Core.Path.{_≡_, refl, sym, subst, _∙_, ap}
 use mathlib.Core.Bool.{Bool, true, false, cond}
 use mathlib.Core.Option.{Option, none, some}
-use mathlib.Core.List.{List, [], _∷_, _++_, map, tail, flatten, List·Memᴰ, List·Memᴰ·head, List·Memᴰ·tail, List·Memᴰ·cases-cons, List·Memᴰ·not-nil}
+use mathlib.Core.List.{
+  List,
+  [],
+  _∷_,
+  _++_,
+  map,
+  tail,
+  flatten,
+  List·Memᴰ,
+  List·Memᴰ·head,
+  List·Memᴰ·tail,
+  List·Memᴰ·cases-cons,
+  List·Memᴰ·not-nil,
+}
 use mathlib.Core.Logic.{_⊎_, inl, inr, _↔_}
 use native.Mathlib.Omega.{arith}
 use lib.Dec.{ltb, lit<}
@@ -15,7 +28,9 @@ use Rattle.usage.specs.Answers.{Refusal}
 use Rattle.usage.specs.Tables.{nodesOf}
 use Rattle.usage.specs.Tests.{ruledBy, ruledSheet, backOk, nameOk, lowestFailing, orElse, numbered, noNodes}
 use Rattle.usage.proofs.Logic.{clash, by-cases}
-use Rattle.sheet_bytes.specs.Line.{Line, linesOf, valuesOf}
+use Rattle.sheet_bytes.specs.Line.{Line, linesOf}
+use Rattle.sheet_bytes.specs.Fault.{LineFault, no-feed, other-byte, overlong, form, LineRead, has-values, has-fault, readLine}
+use Rattle.sheet_bytes.proofs.FaultLaws.{decides-fault}
 use Rattle.sheet_lines.specs.Sheet.{Sheet, Result, accepted, refused, refuseAt, followed, entry, valueLines, startsWith, sheet}
 use Rattle.sheet_lines.specs.Sheets.{policySheet, traceSheet, outlineSheet}
 use Rattle.sheet_reader.specs.Readers.{ruledRows, ruledResult, roomy, policiesInto, traceInto, outlineInto, stored}
@@ -41,16 +56,24 @@ module _ (l : List ℕ) (in-list : (n : ℕ) → List·Memᴰ n sheetNumbers →
   followed-numbers vs (accepted rows) n = no-number
   followed-numbers vs (refused r) n = n
 
-  entry-numbers : (s : Sheet) (line : ℕ) (o : Option (List ℕ)) (rest : Result) → Numbers l rest → Numbers l (entry s line o rest)
-  entry-numbers s line none rest n = a-number (in-list 2 (nth 4 sheetNumbers refl), lit< tt)
-  entry-numbers s line (some vs) rest n =
-      cond-numbers (s .in-range vs) (followed-numbers vs rest n) (a-number (in-list 3 (nth 5 sheetNumbers refl), lit< tt))
+  fault-number : {k number : ℕ} {x : Line} → LineFault k x number → Number l number
+  fault-number (no-feed p) = (in-list 13 (nth 4 sheetNumbers refl), lit< tt)
+  fault-number (other-byte p h) = (in-list 11 (nth 5 sheetNumbers refl), lit< tt)
+  fault-number (overlong p f h) = (in-list 12 (nth 6 sheetNumbers refl), lit< tt)
+  fault-number (form p f g w) = (in-list 2 (nth 7 sheetNumbers refl), lit< tt)
+
+  entry-numbers : (s : Sheet) (line : ℕ) (x : Line) (o : LineRead) → readLine (s .fields) x ≡ o → (rest : Result) → Numbers l rest
+      → Numbers l (entry s line o rest)
+  entry-numbers s line x (has-fault number) q rest n = a-number (fault-number (decides-fault (s .fields) x number .0 q))
+  entry-numbers s line x (has-values vs) q rest n =
+      cond-numbers (s .in-range vs) (followed-numbers vs rest n) (a-number (in-list 3 (nth 8 sheetNumbers refl), lit< tt))
 
   lines-numbers : (s : Sheet) (line left : ℕ) (ls : List Line) → Numbers l (valueLines s line left ls)
   unfolding valueLines
   lines-numbers s line left [] = no-number
   lines-numbers s line zero (x ∷ ls) = a-number (in-list 4 (nth 3 sheetNumbers refl), lit< tt)
-  lines-numbers s line (suc left) (x ∷ ls) = entry-numbers s line (valuesOf (s .fields) x) _ (lines-numbers s (suc line) left ls)
+  lines-numbers s line (suc left) (x ∷ ls) =
+      entry-numbers s line x (readLine (s .fields) x) refl _ (lines-numbers s (suc line) left ls)
 
   pub sheet-numbers : (s : Sheet) (text : List ℕ) → Numbers l (sheet s text)
   unfolding sheet
@@ -74,7 +97,7 @@ numbered-rules number m none = no-rule
 numbered-rules number m (some k) = a-rule m
 
 no-nodes-rules : (ns : List Node) → OfRules (noNodes ns)
-no-nodes-rules [] = a-rule (nth 6 outlineNumbers refl, lit< tt)
+no-nodes-rules [] = a-rule (nth 9 outlineNumbers refl, lit< tt)
 no-nodes-rules (n ∷ ns) = no-rule
 
 ruled-rules : (test : ℕ → Bool) (ns : List Node) → OfRules (ruledBy test ns)
@@ -84,9 +107,9 @@ ruled-rules test ns =
     let seven : Option Refusal = numbered 7 (lowestFailing (backOk ns) 0 (length ns)) in
     let eight : Option Refusal = numbered 8 (lowestFailing (nameOk ns) 0 (length ns)) in
     or-else-rules (noNodes ns) (orElse six (orElse seven eight)) (no-nodes-rules ns)
-    (or-else-rules six (orElse seven eight) (numbered-rules 6 (nth 7 outlineNumbers refl, lit< tt) (lowestFailing test 0 (length ns)))
-    (or-else-rules seven eight (numbered-rules 7 (nth 8 outlineNumbers refl, lit< tt) (lowestFailing (backOk ns) 0 (length ns)))
-    (numbered-rules 8 (nth 9 outlineNumbers refl, lit< tt) (lowestFailing (nameOk ns) 0 (length ns)))))
+    (or-else-rules six (orElse seven eight) (numbered-rules 6 (nth 10 outlineNumbers refl, lit< tt) (lowestFailing test 0 (length ns)))
+    (or-else-rules seven eight (numbered-rules 7 (nth 11 outlineNumbers refl, lit< tt) (lowestFailing (backOk ns) 0 (length ns)))
+    (numbered-rules 8 (nth 12 outlineNumbers refl, lit< tt) (lowestFailing (nameOk ns) 0 (length ns)))))
 
 ruled-by-numbers : (o : Option Refusal) (rows : List (List ℕ)) → OfRules o → Numbers outlineNumbers (ruledRows o rows)
 ruled-by-numbers none rows f = no-number
@@ -94,7 +117,8 @@ ruled-by-numbers (some r) rows (a-rule m) = a-number m
 
 result-numbers : (r : Result) → Numbers outlineNumbers r → Numbers outlineNumbers (ruledResult r)
 unfolding ruledResult
-result-numbers (accepted rows) n = ruled-by-numbers (ruledSheet (map (λ vs. getD vs 0 0) rows) (nodesOf (flatten (map tail rows)))) rows (ruled-rules _ (nodesOf (flatten (map tail rows))))
+result-numbers (accepted rows) n = ruled-by-numbers (ruledSheet (map (λ vs. getD vs 0 0) rows) (nodesOf (flatten (map tail rows)))) rows
+    (ruled-rules _ (nodesOf (flatten (map tail rows))))
 result-numbers (refused r) n = n
 
 -- ── A reader ──
@@ -110,7 +134,8 @@ unfolding stored
 keeps-any (accepted rows) table r e = not-accepted e
 keeps-any (refused u) table r e = refl
 
-module _ (l : List ℕ) (forty : List·Memᴰ 40 l) (needed : ℕ) (read : List ℕ → Result) (numbers : (text : List ℕ) → Numbers l (read text)) where
+module _ (l : List ℕ) (forty : List·Memᴰ 40 l) (needed : ℕ) (read : List ℕ → Result)
+    (numbers : (text : List ℕ) → Numbers l (read text)) where
   number-in : {x : Result} {r : Refusal} → Numbers l x → x ≡ refused r → Number l (r .number)
   number-in no-number e = not-accepted e
   number-in (a-number n) e = subst (λ (v : Refusal). Number l (v .number)) (injective e) n
@@ -125,7 +150,8 @@ module _ (l : List ℕ) (forty : List·Memᴰ 40 l) (needed : ℕ) (read : List 
   roomy-40 : (places : ℕ) (text : List ℕ) → (roomy places needed (read text) ≡ refused record { line = 0; number = 40 }) ↔ (places < needed)
   roomy-40 places text = (go (ltb places needed) refl, λ h. rw (lt-ltb places needed h))
     where
-      go : (b : Bool) → ltb places needed ≡ b → cond b (refuseAt 0 40) (read text) ≡ refused record { line = 0; number = 40 } → places < needed
+      go : (b : Bool) → ltb places needed ≡ b → cond b (refuseAt 0 40) (read text) ≡ refused record { line = 0; number = 40 }
+          → places < needed
       go true h e = ltb-true places needed h
       go false h e = let k = number-in (numbers text) e .1 in absurd (omega arith)
 

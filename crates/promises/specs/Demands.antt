@@ -1,7 +1,8 @@
--- The three demands on the product, stated over the definitions that the public functions' contracts are equations with: the judge answers
--- `judgeOf` (`monitor::judge` and `judge_lent`, `api_records`, `api_c`), the readers answer and store `policiesInto`, `traceInto` and
--- `outlineInto` (`sheet_reader`), and the check answers the one verdict that `Checked` holds of (`checker::check`). proofs/ has the proof
--- of each. That no function reads outside its memory or runs on without end is what the language asks of each before it is built.
+-- The three demands on the product, and what later requests promise of the whole, stated over the definitions that the public functions'
+-- contracts are equations with: the judge answers `judgeOf` (`monitor::judge` and `judge_lent`, `api_records`, `api_c`), the readers answer
+-- and store `policiesInto`, `traceInto` and `outlineInto` (`sheet_reader`), the check answers the one verdict that `Checked` holds of
+-- (`checker::check`), and the first program prints `tracePrinted` (`report`). proofs/ has the proof of each. That no function reads outside
+-- its memory or runs on without end is what the language asks of each before it is built.
 use Prim.Native.Nat.{ℕ, suc, _<_}
 use mathlib.Core.Path.{_≡_}
 use mathlib.Core.Bool.{true, false}
@@ -12,14 +13,17 @@ use Rattle.usage.specs.Limits.{policies, edgePlaces, stepPlaces, nodePlaces}
 use Rattle.usage.specs.Answers.{Verdict, allowed, violated, refused, Refusal}
 use Rattle.usage.specs.Judge.{JudgedAll}
 use Rattle.usage.specs.Check.{Checked}
-use Rattle.usage.specs.Tables.{edgesOf, nodesOf, EdgeTable, NodeTable}
+use Rattle.usage.specs.Tables.{edgesOf, nodesOf, stepsOf, EdgeTable, NodeTable}
 use Rattle.monitor_state.specs.declared.State.{State}
 use Rattle.monitor_state.specs.declared.Answer.the-variants.{Violated, Refused}
 use Rattle.monitor_state.specs.Judge.{verdictOf, stateOk, halt, judgeOf, answersOf, startState}
-use Rattle.sheet_lines.specs.Sheet.{Result, accepted, refused as sheet-refused}
+use Rattle.monitor_state.specs.Renamed.{Renaming, renamedStep, SameAnswers}
+use Rattle.sheet_lines.specs.Sheet.{Result, accepted, refused as sheet-refused, sheet}
+use Rattle.sheet_lines.specs.Sheets.{traceSheet}
 use Rattle.sheet_reader.specs.Readers.{policiesInto, traceInto, outlineInto, stored}
 use Rattle.checker.specs.Accepted.{NeverHalted}
 use Rattle.checker.specs.Promise.{RightVerdict, CheckPromise}
+use Rattle.report.specs.Trace.{tracePrinted}
 
 -- ── Demand 1 ──
 
@@ -27,9 +31,9 @@ use Rattle.checker.specs.Promise.{RightVerdict, CheckPromise}
 abbrev pub judgeNumbers : List ℕ
 judgeNumbers = 20 ∷ 21 ∷ 22 ∷ 23 ∷ 24 ∷ 25 ∷ 30 ∷ 31 ∷ 41 ∷ 42 ∷ []
 
--- "The author of a sheet", and 40: the numbers that a sheet has, and those that an outline has besides
+-- "The author of a sheet", 02, L2, and 40: the numbers that a sheet has, and those that an outline has besides
 abbrev pub sheetNumbers : List ℕ
-sheetNumbers = 40 ∷ 5 ∷ 1 ∷ 4 ∷ 2 ∷ 3 ∷ []
+sheetNumbers = 40 ∷ 5 ∷ 1 ∷ 4 ∷ 13 ∷ 11 ∷ 12 ∷ 2 ∷ 3 ∷ []
 
 abbrev pub outlineNumbers : List ℕ
 outlineNumbers = sheetNumbers ++ (9 ∷ 6 ∷ 7 ∷ 8 ∷ [])
@@ -54,7 +58,8 @@ pub record JudgeRefuses : Type 0 where
 -- The same of a reader, which is lent a table of so many places to fill and the bytes of a sheet.
 pub record ReaderRefuses (numbers : List ℕ) (needed : ℕ) (into : ℕ → List ℕ → Result) : Type 0 where
   pub listed : (places : ℕ) (text : List ℕ) (r : Refusal) → into places text ≡ sheet-refused r → List·Memᴰ (r .number) numbers
-  pub keeps : (places : ℕ) (text table : List ℕ) (r : Refusal) → into places text ≡ sheet-refused r → stored (into places text) table ≡ table
+  pub keeps : (places : ℕ) (text table : List ℕ) (r : Refusal) → into places text ≡ sheet-refused r
+      → stored (into places text) table ≡ table
   -- "40 a table lent to be filled that is smaller than its sheet's largest count"
   pub no-room : (places : ℕ) (text : List ℕ) → (into places text ≡ sheet-refused record { line = 0; number = 40 }) ↔ (places < needed)
 
@@ -93,7 +98,19 @@ pub record Demand3 : Type 0 where
   pub no-other : (t n : List ℕ) (v w : Verdict) → CheckPromise t n v → RightVerdict t n w → v ≡ w
   pub never-halted : (t n : List ℕ) → EdgeTable t → NodeTable n → Checked false (edgesOf t) (nodesOf n) allowed → NeverHalted t (nodesOf n)
 
--- All three.
+-- ── Renumbered channels (02, L3) ──
+
+-- "Let the dynamic numbers of a trace be renamed one to one among 16 to 65,535; then every step must get the same answer as before"
+pub record Renumbered : Type 0 where
+  -- "This holds from the judge's start, for traces of any length."
+  pub answers : SameAnswers startState
+  -- so for the program: two accepted trace sheets whose steps differ by a renaming are printed the same, byte for byte
+  pub printed : (policies-text trace-text renamed-text : List ℕ) (rows renamed-rows : List (List ℕ)) (f : ℕ → ℕ) → Renaming f
+      → sheet traceSheet trace-text ≡ accepted rows → sheet traceSheet renamed-text ≡ accepted renamed-rows
+      → stepsOf (flatten renamed-rows) ≡ map (renamedStep f) (stepsOf (flatten rows))
+      → tracePrinted policies-text renamed-text ≡ tracePrinted policies-text trace-text
+
+-- All three demands.
 pub record Demands : Type 0 where
   pub first : Demand1
   pub second : Demand2

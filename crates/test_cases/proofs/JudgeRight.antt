@@ -16,7 +16,7 @@ use Rattle.usage.proofs.TableLaws.{decides-edge-table}
 use Rattle.automaton.specs.Mask.{has, single, union}
 use Rattle.automaton.specs.Move.{targets, image, move, moveMask}
 use Rattle.monitor_state.specs.Judge.{verdictOf, startState, listed, distinct, stateOk, placeFrom, placeOf, copied}
-use Rattle.monitor_state.specs.Judge.{createdIn, movedSets, movedIn, withUnclosed, after, offended, broken, refusal}
+use Rattle.monitor_state.specs.Judge.{createdIn, movedSets, movedIn, withUnclosed, after, gathered, broken, refusal}
 use Rattle.monitor_state.specs.Judge.{refuse, halt, settle, judgeStep, judgeRead, judgeOf, answersOf}
 use Rattle.monitor_state.proofs.Verdict.{all-judged-begin}
 use Rattle.test_cases.specs.JudgeCases.{JudgeCase, JudgedRight, P, caseA, caseB, caseC, caseD}
@@ -25,7 +25,7 @@ use Rattle.test_cases.specs.JudgeCases.{caseE, caseF, caseG, caseH, case
 -- the judge's definition, computed
 unfoldable pub run : List ℕ → List RawStep → List Verdict
 unfolding stepOf from edgesOf edgeTable every someBelow edgeOk edgesOk has single union targets image move moveMask startState listed distinct
-    stateOk placeFrom placeOf copied createdIn movedSets movedIn withUnclosed after offended broken refusal refuse halt settle judgeStep
+    stateOk placeFrom placeOf copied createdIn movedSets movedIn withUnclosed after gathered broken refusal refuse halt settle judgeStep
     judgeRead judgeOf answersOf trailingZeros
 run t raws = map verdictOf (answersOf t startState raws)
 

@@ -1,5 +1,5 @@
 -- The search of the check, computed: tables that some rounds fill and one more round does not change.
-use Prim.Native.Nat.{ℕ, _*_, _/_, _<_}
+use Prim.Native.Nat.{ℕ, _/_, _<_}
 use mathlib.Core.Path.{_≡_, refl, sym, ap, subst}
 use mathlib.Core.Bool.{Bool, true, false, _&&_, not, cond}
 use mathlib.Core.List.{List, [], _∷_}
@@ -8,7 +8,7 @@ use native.Mathlib.Omega.{arith}
 use lib.Dec.{eqb}
 use lib.ListN.{length, replicate}
 use borrow.Author.Tests.{eqb-true, lt-ltb}
-use Rattle.usage.specs.Limits.{statics, states, nodeFields}
+use Rattle.usage.specs.Limits.{statics, nodeFields}
 use Rattle.usage.specs.Outline.{formOf}
 use Rattle.usage.specs.Tables.{from, edgesOf}
 use Rattle.usage.specs.Tests.{someBelow}
@@ -17,9 +17,12 @@ use Rattle.automaton.specs.Move.{targets, image, rowsOf}
 use Rattle.checker_account.specs.Witness.{watched}
 use Rattle.automaton.specs.Mask.{has, single, union}
 use Rattle.checker_account.specs.Tables.{places, over, joinedAt, unnamed, least, forgotten, rowsIn, endsBy, arrivals, leaves}
-use Rattle.checker_account.specs.Rounds.{repeat, Forms, formsIn, settleNode, settleRound, entered, passNode, passRound}
-use Rattle.checker_account.specs.Rounds.{begins, hitNode, hitAny, Searched, SearchedAll, none-found}
+use Rattle.checker_account.specs.Rounds.{repeat, joinedEach, Forms, formsIn, settleNode, settleRound, entered, passNode, passRound}
+use Rattle.checker_account.specs.Rounds.{begins, Derived, start, EndsRule, ComesRule, hitNode, hitAny, Searched, SearchedAll, none-found}
 use Rattle.checker_account.specs.RowTable.{rowsStored, nodeRows, fillRows}
+use Rattle.checker_account.proofs.RoundLaws.{repeat-keeps}
+use Rattle.checker_account.proofs.SettleLaws.{round-derived, round-closed}
+use Rattle.checker_account.proofs.PassLaws.{pass-round-derived, pass-round-closed}
 
 unfoldable pub same : List ℕ → List ℕ → Bool
 same [] [] = true
@@ -48,14 +51,14 @@ is-true false b h = sym (not-true b h)
 -- r is the table of rows of policy p, x the watched resource, l the least meaning that occurs; k rounds are made
 module _ (r : List ℕ) (p x l n : ℕ) (forms : Forms) (k : ℕ) where
   unfoldable pub ends-by : List ℕ
-  ends-by = repeat (λ i. settleRound (rowsIn r) x (states * l) n forms) k (replicate places 0)
+  ends-by = repeat (λ i. settleRound (rowsIn r) x l n forms) k (replicate places 0)
 
   unfoldable pub comes-by : List ℕ → List ℕ
   comes-by ends = repeat (λ i. passRound (rowsIn r) p ends l n forms) k (begins l)
 
   unfoldable pub complete : Bool → List ℕ → List ℕ → Bool
   complete answer ends comes =
-      same (settleRound (rowsIn r) x (states * l) n forms ends) ends
+      same (settleRound (rowsIn r) x l n forms ends) ends
       && (same (passRound (rowsIn r) p ends l n forms comes) comes && is answer (hitAny (rowsIn r) p x comes l n forms))
 
   unfoldable pub from-ends : Bool → List ℕ → Bool
@@ -71,15 +74,27 @@ unfolding ends-by comes-by complete from-ends tells
 told r p x n forms k answer h =
     let ends = ends-by r p x (least x) n forms k in
     let comes = comes-by r p x (least x) n forms k ends in
-    let e = same (settleRound (rowsIn r) x (states * least x) n forms ends) ends in
+    let e = same (settleRound (rowsIn r) x (least x) n forms ends) ends in
     let c = same (passRound (rowsIn r) p ends (least x) n forms comes) comes in
     let a = is answer (hitAny (rowsIn r) p x comes (least x) n forms) in
     let later : (c && a) ≡ true = and-right e (c && a) h in
     record {
       ends = ends;
       comes = comes;
-      ends-filled = record { rounds = k; made = refl; still = same-true _ ends (and-left e (c && a) h) };
-      comes-filled = record { rounds = k; made = refl; still = same-true _ comes (and-left c a later) };
+      ends-filled = record {
+        derived =
+            repeat-keeps (Derived (EndsRule (rowsIn r) x (least x) n forms) (replicate places 0))
+            (λ i. settleRound (rowsIn r) x (least x) n forms) k
+            (λ i t l d. round-derived (rowsIn r) x (least x) n forms (replicate places 0) t d) (replicate places 0) start;
+        closed = round-closed (rowsIn r) x (least x) n forms ends (same-true _ ends (and-left e (c && a) h));
+      };
+      comes-filled = record {
+        derived =
+            repeat-keeps (Derived (ComesRule (rowsIn r) p ends (least x) n forms) (begins (least x)))
+            (λ i. passRound (rowsIn r) p ends (least x) n forms) k
+            (λ i u l d. pass-round-derived (rowsIn r) p ends (least x) n forms (begins (least x)) u d) (begins (least x)) start;
+        closed = pass-round-closed (rowsIn r) p ends (least x) n forms comes (same-true _ comes (and-left c a later));
+      };
       told = is-true answer _ (and-right c a later);
     }
 
@@ -91,7 +106,7 @@ module _ (e t : List ℕ) (p : ℕ) where
   rowTable = fillRows (rowsOf (edgesOf e)) p (length t / nodeFields) (formsIn t) (replicate places 0)
 
   unfoldable pub tells-by : List ℕ → ℕ → ℕ → ℕ → Bool → Bool
-  unfolding tells ends-by comes-by complete from-ends same repeat settleNode settleRound entered passNode passRound hitNode hitAny
+  unfolding tells ends-by comes-by complete from-ends same repeat joinedEach settleNode settleRound entered passNode passRound hitNode hitAny
       someBelow forgotten endsBy arrivals leaves has union over joinedAt formOf
   tells-by r x l k answer = tells r p x l (length t / nodeFields) (formsIn t) k answer
 
@@ -109,7 +124,7 @@ module _ (e t : List ℕ) (p : ℕ) where
   pub none-told : (k : ℕ) → ((x : ℕ) → tells-at x unnamed k false ≡ true) → tells-at watched 0 k false ≡ true
       → SearchedAll (rowsIn rowTable) p (length t / nodeFields) (formsIn t) false
   unfolding least
-  none-told k h d = none-found (λ x l. go x (last-or-lower x watched (omega arith)))
+  none-told k h d = none-found (λ x l. inr (go x (last-or-lower x watched (omega arith))))
     where
       go : (x : ℕ) → (x ≡ watched) ⊎ (x < watched) → Searched (rowsIn rowTable) p x (length t / nodeFields) (formsIn t) false
       go x (inl e) =
