@@ -1,7 +1,37 @@
 //! Plain Rust: the rows of an event, as crates/automaton has them.
 
 pub fn edge_table_ok(edges: &[u8]) -> bool {
-    edges.len() % 6 == 0 && edges.len() / 6 <= 256 && edges.chunks_exact(6).all(edge_ok)
+    if edges.len() % 6 != 0 || edges.len() / 6 > 256 {
+        return false;
+    }
+    // eight edges and a byte beyond them, without a branch, so that several bytes are compared at once
+    let blocks = edges.len().saturating_sub(1) / BLOCK;
+    (0..blocks).all(|i| block_ok(edges[BLOCK * i..=BLOCK * i + BLOCK].try_into().unwrap())) && edges[BLOCK * blocks..].chunks_exact(6).all(edge_ok)
+}
+
+const BLOCK: usize = 48;
+
+/// A value for each byte of a block, by its field.
+const fn by_field(fields: [u8; 6]) -> [u8; BLOCK] {
+    let mut all = [0; BLOCK];
+    let mut j = 0;
+    while j < BLOCK {
+        all[j] = fields[j % 6];
+        j += 1;
+    }
+    all
+}
+
+/// The highest number of each field; and all bits at `on`, which is 0 or the next one is.
+static MOST: [u8; BLOCK] = by_field([7, 7, 31, 2, 15, 7]);
+static PAIRED: [u8; BLOCK] = by_field([0, 0, 0, 255, 0, 0]);
+
+fn block_ok(bytes: &[u8; BLOCK + 1]) -> bool {
+    let mut bad = 0;
+    for j in 0..BLOCK {
+        bad |= bytes[j].saturating_sub(MOST[j]) | (bytes[j].min(bytes[j + 1]) & PAIRED[j]);
+    }
+    bad == 0
 }
 
 fn edge_ok(edge: &[u8]) -> bool {
@@ -44,9 +74,7 @@ pub fn rows(edges: &[u8], action: u32, resource: u32) -> ([u8; 64], [u8; 64]) {
 /// Where no edge leads out of a state, the state stays.
 fn stay(rows: &mut [u8; 64]) {
     for (at, row) in rows.iter_mut().enumerate() {
-        if *row == 0 {
-            *row = 1 << (at % 8);
-        }
+        *row = if *row == 0 { 1 << (at % 8) } else { *row };
     }
 }
 

@@ -64,6 +64,16 @@ pub fn steps(rng: &mut Rng, count: usize, created: u32, actions: u64) -> Vec<Ste
     steps
 }
 
+/// The same without openings and closings.
+pub fn events(rng: &mut Rng, count: usize, created: u32, actions: u64) -> Vec<Step> {
+    steps(rng, 2 * count, created, actions).into_iter().filter(|step| step[0] == 0).take(count).collect()
+}
+
+/// An opening and its closing, of one policy after the other.
+pub fn sandboxes(count: usize) -> Vec<Step> {
+    (0..count as u32).map(|n| [1 + n % 2, n / 2 % 8, 0]).collect()
+}
+
 /// Steps of all sorts, many of them refused.
 pub fn wild_steps(rng: &mut Rng, count: usize) -> Vec<Step> {
     let step = |rng: &mut Rng| match rng.below(20) {
@@ -125,4 +135,12 @@ pub fn hard(rng: &mut Rng, nodes: usize) -> Outline {
     let named = (0..4).fold(tree, |tree, name| fresh(name, tree));
     let body = looped(0, choice(Tree::End, named));
     counting(rng, body)
+}
+
+/// The same, but that a policy goes on from the last state that does not offend to one that does.
+pub fn hard_refused(rng: &mut Rng, nodes: usize, policy: u8) -> Outline {
+    let mut outline = hard(rng, nodes);
+    let last = |edge: &&mut [u8]| edge[0] == policy && edge[1] == 5;
+    outline.edges.chunks_exact_mut(6).filter(last).for_each(|edge| edge[5] = 6);
+    outline
 }

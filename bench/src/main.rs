@@ -1,24 +1,27 @@
 //! `verify`: the proved code and the plain program answer the same. `rows`: runs each case once in `measured`, for callgrind, and
-//! prints a line for each; `rows NAME` only those whose names begin so. `worst`: milliseconds of the hardest outlines. With the feature `count`,
-//! `climb SEED TURNS` looks for a harder one.
+//! prints a line for each; `rows NAME` only those whose names begin so. `worst`: milliseconds of the hardest outlines. With the feature
+//! `count`, `climb SEED TURNS` looks for a harder one.
 
 mod automaton;
 mod inputs;
 mod modelcheck;
 mod monitor;
+mod outlines;
+mod reading;
 mod rules;
+mod shortest;
 
 use inputs::{Outline, Step};
 use monitor::State;
 use reference::rng::Rng;
 use std::hint::black_box;
 use std::time::{Duration, Instant};
-use wiforekun::{check_code as proved_check, State as Parts};
+use wiforekun::{check_code as proved_check, explain_code as proved_explain, State as Parts, COUNTEREXAMPLE_ROOM};
 
 /// The state as the proved code is lent it.
 fn parts_of(state: &State) -> Parts {
-    let State { sets, created, count, unclosed, halted } = state.clone();
-    Parts { sets, created, unclosed, numbers: [count as u64, halted.into()] }
+    let State { sets, possible, created, count, unclosed, halted } = state.clone();
+    Parts { sets, possible, created, unclosed, numbers: [count as u64, halted.into()] }
 }
 
 fn plain_judge(state: &mut State, edges: &[u8], [kind, a, b]: Step) -> u32 {
@@ -60,6 +63,15 @@ fn verify_check(outline: &Outline) -> u32 {
     proved
 }
 
+/// The check with a counterexample: the same number, and the same in the lent table.
+fn verify_explain(outline: &Outline) -> u32 {
+    let (mut proved, mut plain) = ([u32::MAX; COUNTEREXAMPLE_ROOM], [u32::MAX; COUNTEREXAMPLE_ROOM]);
+    let code = proved_explain(&outline.edges, &outline.nodes, &mut proved);
+    assert_eq!(code, shortest::explain(&outline.edges, &outline.nodes, &mut plain), "{:?} under {:?}", outline.nodes, outline.edges);
+    assert!(proved == plain, "the trace of {:?} under {:?}", outline.nodes, outline.edges);
+    code
+}
+
 /// Both on all that is measured and on much more.
 fn verify() {
     let mut rng = Rng::new(5);
@@ -80,7 +92,7 @@ fn verify() {
         judged += steps.len();
     }
     let mut counts = [0; 3];
-    for (_, outlines) in check_cases() {
+    for (_, outlines) in outlines::cases() {
         for outline in &outlines {
             counts[verify_check(outline) as usize / 256] += 1;
         }
@@ -95,6 +107,16 @@ fn verify() {
         counts[verify_check(&outline) as usize / 256] += 1;
     }
     println!("equal: {judged} judged steps; outlines: {} accepted, {} broken, {} refused", counts[0], counts[1], counts[2]);
+    println!("equal: {} refused sheets", reading::verify());
+    let mut shown = 0;
+    for (_, outlines) in refused_cases() {
+        shown += outlines.iter().filter(|outline| verify_explain(outline) >= 65536).count();
+    }
+    for _ in 0..300 {
+        let (nodes, edges) = (rng.between(2, 40) as usize, rng.below(60) as usize);
+        shown += usize::from(verify_explain(&inputs::grown(&mut rng, nodes, edges, false)) >= 65536);
+    }
+    println!("equal: {shown} traces");
 }
 
 struct JudgeCase {
@@ -117,6 +139,17 @@ fn judge_cases() -> Vec<JudgeCase> {
             });
         }
     }
+    // the same resources, created in no order
+    let mut rng = Rng::new(1);
+    let mut before = inputs::opening_steps(64);
+    let created = &mut before[8..];
+    (1..created.len()).rev().for_each(|i| created.swap(i, i * 37 % 64 % (i + 1)));
+    cases.push(JudgeCase {
+        name: "step: 256 edges, 64 created in no order".into(),
+        edges: inputs::quiet_edges(&mut rng, 256, 8),
+        before,
+        steps: inputs::steps(&mut rng, 500, 64, 8),
+    });
     let mut rng = Rng::new(2);
     let mut edges = inputs::quiet_edges(&mut rng, 256, 2);
     edges.chunks_exact_mut(6).for_each(|edge| edge[2] = 1);
@@ -125,32 +158,34 @@ fn judge_cases() -> Vec<JudgeCase> {
     let steps = inputs::opening_steps(64).split_off(8);
     let edges = inputs::quiet_edges(&mut rng, 64, 8);
     cases.push(JudgeCase { name: "create: 64 edges, 0 to 63 created".into(), edges, before: inputs::opening_steps(0), steps });
+    for created in [0, 16, 64] {
+        let mut rng = Rng::new(6);
+        let edges = inputs::quiet_edges(&mut rng, 64, 8);
+        let before = inputs::opening_steps(created);
+        let events = inputs::events(&mut rng, 500, created, 8);
+        cases.push(JudgeCase { name: format!("event: 64 edges, {created} created"), edges: edges.clone(), before: before.clone(), steps: events });
+        cases.push(JudgeCase { name: format!("opening or closing: 64 edges, {created} created"), edges, before, steps: inputs::sandboxes(500) });
+    }
     cases
 }
 
-/// The outlines that are measured, by name.
-fn check_cases() -> Vec<(String, Vec<Outline>)> {
+/// Outlines that are refused with a policy, and whose trace is written, by name.
+fn refused_cases() -> Vec<(String, Vec<Outline>)> {
     let mut cases = Vec::new();
     for edges in [64, 256] {
         for nodes in [8, 16, 32, 64] {
             let mut rng = Rng::new(3);
-            let outlines = (0..8).map(|_| inputs::grown(&mut rng, nodes, edges, true)).collect();
-            cases.push((format!("typical: {nodes} nodes, {edges} edges"), outlines));
+            let grown = std::iter::repeat_with(|| inputs::grown(&mut rng, nodes, edges, false));
+            let shown = |outline: &Outline| shortest::explain(&outline.edges, &outline.nodes, &mut [0; COUNTEREXAMPLE_ROOM]) >= 65536;
+            cases.push((format!("{nodes} nodes, {edges} edges"), grown.filter(shown).take(8).collect()));
         }
     }
-    for nodes in [16, 32, 64] {
-        let outline = inputs::hard(&mut Rng::new(4), nodes);
-        cases.push((format!("hard: {nodes} nodes, {} edges", outline.edges.len() / 6), vec![outline]));
+    for policy in [0, 7] {
+        let outline = inputs::hard_refused(&mut Rng::new(4), 64, policy);
+        let edges = outline.edges.len() / 6;
+        cases.push((format!("hard, policy {policy}, 64 nodes, {edges} edges"), vec![outline]));
     }
-    cases.push(("worst found: 64 nodes, 256 edges".into(), vec![worst_found()]));
     cases
-}
-
-/// What `climb` found, as it printed it: the nodes in a line, and the edges in a line.
-fn worst_found() -> Outline {
-    let mut lines = include_str!("../worst.txt").lines();
-    let mut table = || lines.next().unwrap_or("").split_whitespace().map(|n| n.parse().unwrap()).collect();
-    Outline { nodes: table(), edges: table() }
 }
 
 fn rows(only: &str) {
@@ -176,35 +211,67 @@ fn rows(only: &str) {
         assert!(parts == parts_of(&state));
         println!("{}\t{name}", steps.len());
     }
-    for (name, outlines) in check_cases().into_iter().filter(|(name, _)| chosen(name)) {
-        measured(&mut || {
-            for outline in &outlines {
-                black_box(proved_check(black_box(&outline.edges), black_box(&outline.nodes)));
-            }
-        });
-        measured(&mut || {
-            for outline in &outlines {
-                black_box(modelcheck::check(black_box(&outline.edges), black_box(&outline.nodes)));
-            }
-        });
-        println!("{}\t{name}", outlines.len());
+    for (name, outlines) in outlines::cases().into_iter().filter(|(name, _)| chosen(name)) {
+        measure_check(&name, &outlines);
     }
+    for (name, outlines) in refused_cases().into_iter().filter(|(name, _)| chosen(&format!("refused: {name}"))) {
+        measure_check(&format!("refused: {name}"), &outlines);
+        measure_explain(&format!("trace: {name}"), &outlines);
+    }
+    reading::rows(chosen);
+}
+
+/// The check of outlines, the proved one and the plain one.
+fn measure_check(name: &str, outlines: &[Outline]) {
+    for check in [proved_check, modelcheck::check] {
+        measured(&mut || {
+            for outline in outlines {
+                black_box(check(black_box(&outline.edges), black_box(&outline.nodes)));
+            }
+        });
+    }
+    println!("{}\t{name}", outlines.len());
+}
+
+/// The same with a counterexample.
+fn measure_explain(name: &str, outlines: &[Outline]) {
+    for explain in [proved_explain, shortest::explain] {
+        let mut trace = [0; COUNTEREXAMPLE_ROOM];
+        measured(&mut || {
+            for outline in outlines {
+                black_box(explain(black_box(&outline.edges), black_box(&outline.nodes), &mut trace));
+            }
+        });
+    }
+    println!("{}\t{name}", outlines.len());
 }
 
 /// The least time of some runs.
-fn time(outline: &Outline, runs: usize) -> Duration {
+fn time(work: impl Fn(), runs: usize) -> Duration {
     let run = || {
         let start = Instant::now();
-        black_box(proved_check(black_box(&outline.edges), black_box(&outline.nodes)));
+        work();
         start.elapsed()
     };
     (0..runs).map(|_| run()).min().unwrap()
 }
 
+fn slowest(name: &str, outlines: &[Outline], work: fn(&Outline)) {
+    let worst = outlines.iter().map(|outline| time(|| work(outline), 5)).max().unwrap();
+    println!("{:8.3} ms  the slowest of {}  {name}", worst.as_secs_f64() * 1e3, outlines.len());
+}
+
 fn worst() {
-    for (name, outlines) in check_cases() {
-        let worst = outlines.iter().map(|outline| time(outline, 5)).max().unwrap();
-        println!("{:8.3} ms  the slowest of {}  {name}", worst.as_secs_f64() * 1e3, outlines.len());
+    for (name, outlines) in outlines::cases() {
+        slowest(&name, &outlines, |outline| {
+            black_box(proved_check(black_box(&outline.edges), black_box(&outline.nodes)));
+        });
+    }
+    for (name, outlines) in refused_cases() {
+        slowest(&format!("trace: {name}"), &outlines, |outline| {
+            let mut trace = [0; COUNTEREXAMPLE_ROOM];
+            black_box(proved_explain(black_box(&outline.edges), black_box(&outline.nodes), &mut trace));
+        });
     }
 }
 

@@ -5,25 +5,25 @@ use crate::rules::node_table_ok;
 
 /// 48 sets to a node. Of what a node ends in: eight starts to each of six meanings. Of the rows: eight for others' events and eight for
 /// own ones. Of what a node is come to in: one to a meaning, the policy closed, and eight places later open.
-type Table = [u16; 3072];
+pub type Table = [u16; 3072];
 
 /// The resource that is watched and the policy.
 #[derive(Clone, Copy)]
-struct Watch {
-    policy: usize,
-    resource: usize,
-    least: usize,
+pub struct Watch {
+    pub policy: usize,
+    pub resource: usize,
+    pub least: usize,
 }
 
 #[derive(Clone, Copy)]
-struct Node {
-    number: usize,
-    kind: u8,
-    a: usize,
-    b: usize,
+pub struct Node {
+    pub number: usize,
+    pub kind: u8,
+    pub a: usize,
+    pub b: usize,
 }
 
-fn node(nodes: &[u8], number: usize) -> Node {
+pub fn node(nodes: &[u8], number: usize) -> Node {
     let [kind, a, b] = nodes[3 * number..][..3] else { unreachable!() };
     Node { number, kind, a: a.into(), b: b.into() }
 }
@@ -45,7 +45,7 @@ fn join(t: &mut Table, i: usize, v: u16) -> bool {
     t[i] != old
 }
 
-fn forget(m: usize, name: usize) -> usize {
+pub fn forget(m: usize, name: usize) -> usize {
     if m == name + 1 {
         5
     } else {
@@ -53,7 +53,7 @@ fn forget(m: usize, name: usize) -> usize {
     }
 }
 
-fn later(m: usize) -> usize {
+pub fn later(m: usize) -> usize {
     if m == 0 {
         5
     } else {
@@ -77,29 +77,64 @@ fn place(k: usize, open: bool, m: usize) -> usize {
     48 * k + m + if open { 8 } else { 0 }
 }
 
-/// What a node ends in from one start.
-fn ends_by(t: &Table, rows: &Table, x: usize, node: Node, m: usize, q: usize) -> u16 {
+/// A set for each state of a start.
+type Eight = [u16; 8];
+
+fn entries(t: &Table, i: usize) -> Eight {
+    let mut r = [0; 8];
+    r.copy_from_slice(&t[i..i + 8]);
+    r
+}
+
+fn each(mut v: Eight, f: impl Fn(u16) -> u16) -> Eight {
+    v.iter_mut().for_each(|set| *set = f(*set));
+    v
+}
+
+fn join_each(mut v: Eight, w: Eight) -> Eight {
+    v.iter_mut().zip(w).for_each(|(set, more)| *set |= more);
+    v
+}
+
+/// The union of the eight entries from place i on, over the states of each of the sets v.
+fn union_each(t: &Table, i: usize, v: Eight) -> Eight {
+    let mut r = [0; 8];
+    for (s, set) in entries(t, i).into_iter().enumerate() {
+        for q in 0..8 {
+            r[q] |= if v[q] >> s & 1 == 1 { set } else { 0 };
+        }
+    }
+    r
+}
+
+/// What a node ends in from the eight starts with one meaning.
+fn ends_by(t: &Table, rows: &Table, x: usize, node: Node, m: usize) -> Eight {
     let Node { number: k, kind, a, b } = node;
     match kind {
-        0 => keep(m, 1 << q),
-        1 => keep(m, rows[row_at(k, b == x) + q]),
-        2 => keep(m, rows[row_at(k, m == b + 1) + q]),
+        0 => each([1, 2, 4, 8, 16, 32, 64, 128], |v| keep(m, v)),
+        1 => each(entries(rows, row_at(k, b == x)), |v| keep(m, v)),
+        2 => each(entries(rows, row_at(k, m == b + 1)), |v| keep(m, v)),
         3 => {
-            let v = t[48 * a + 8 * m + q];
-            gather(t, 48 * b + 8 * m, v % 256) | gather(t, 48 * b + 8 * later(m), v / 256)
-        }
-        4 => t[48 * a + 8 * m + q] | t[48 * b + 8 * m + q],
-        5 | 6 => t[48 * a + 8 * m + q],
-        7 => {
-            let other = gather(t, 48 * b + 8 * forget(m, a), rows[48 * k + q]);
+            let v = entries(t, 48 * a + 8 * m);
+            let high = each(v, |v| v / 256);
             if m == 0 {
-                other | gather(t, 48 * b + 8 * (a + 1), rows[48 * k + 8 + q])
+                join_each(union_each(t, 48 * b, v), union_each(t, 48 * b + 40, high))
+            } else {
+                union_each(t, 48 * b + 8 * m, join_each(v, high))
+            }
+        }
+        4 => join_each(entries(t, 48 * a + 8 * m), entries(t, 48 * b + 8 * m)),
+        5 | 6 => entries(t, 48 * a + 8 * m),
+        7 => {
+            let other = union_each(t, 48 * b + 8 * forget(m, a), entries(rows, 48 * k));
+            if m == 0 {
+                join_each(other, union_each(t, 48 * b + 8 * (a + 1), entries(rows, 48 * k + 8)))
             } else {
                 other
             }
         }
-        8 => t[48 * b + 8 * m + q],
-        _ => 0,
+        8 => entries(t, 48 * b + 8 * m),
+        _ => [0; 8],
     }
 }
 
@@ -110,20 +145,44 @@ pub static WORK: std::sync::atomic::AtomicU64 = std::sync::atomic::AtomicU64::ne
 fn settle_node(t: &mut Table, rows: &Table, watch: Watch, node: Node) -> bool {
     #[cfg(feature = "count")]
     WORK.fetch_add((6 - watch.least as u64) * if matches!(node.kind, 3 | 7) { 4 } else { 1 }, std::sync::atomic::Ordering::Relaxed);
-    let mut changed = false;
-    for s in 8 * watch.least..48 {
-        let v = ends_by(t, rows, watch.resource, node, s / 8, s % 8);
-        changed |= join(t, 48 * node.number + s, v);
+    let mut more = 0;
+    for m in watch.least..6 {
+        let v = ends_by(t, rows, watch.resource, node, m);
+        for (entry, set) in t[48 * node.number + 8 * m..][..8].iter_mut().zip(v) {
+            let old = *entry;
+            *entry |= set;
+            more |= *entry ^ old;
+        }
     }
-    changed
+    more != 0
 }
 
-fn settle_round(t: &mut Table, nodes: &[u8], rows: &Table, watch: Watch) -> bool {
-    let mut changed = false;
-    for k in (0..nodes.len() / 3).rev() {
-        changed |= settle_node(t, rows, watch, node(nodes, k));
+/// The nodes whose rules read the ends of a node, as a bit set for each node.
+fn readers(nodes: &[u8]) -> [u64; 64] {
+    let mut readers = [0; 64];
+    for k in 0..nodes.len() / 3 {
+        let Node { kind, a, b, .. } = node(nodes, k);
+        if matches!(kind, 3..=6) {
+            readers[a] |= 1 << k;
+        }
+        if matches!(kind, 3 | 4 | 7 | 8) {
+            readers[b] |= 1 << k;
+        }
     }
-    changed
+    readers
+}
+
+/// A node is settled again only where the ends of a node that its rule reads have changed.
+fn settle(t: &mut Table, nodes: &[u8], rows: &Table, watch: Watch) {
+    let readers = readers(nodes);
+    let mut left = u64::MAX >> (64 - nodes.len() / 3);
+    while left != 0 {
+        let k = 63 - left.leading_zeros() as usize;
+        left -= 1 << k;
+        if settle_node(t, rows, watch, node(nodes, k)) {
+            left |= readers[k];
+        }
+    }
 }
 
 fn enter_halves(u: &mut Table, b: usize, open: bool, m: usize, e: u16) -> bool {
@@ -170,7 +229,9 @@ fn pass_node(u: &mut Table, t: &Table, rows: &Table, watch: Watch, node: Node) -
     for m in watch.least..6 {
         for open in [false, true] {
             let v = u[place(node.number, open, m)];
-            changed |= pass_by(u, t, rows, watch.policy, node, open, m, v);
+            if v != 0 {
+                changed |= pass_by(u, t, rows, watch.policy, node, open, m, v);
+            }
         }
     }
     changed
@@ -206,17 +267,26 @@ fn hit_any(u: &Table, nodes: &[u8], rows: &Table, watch: Watch) -> bool {
     })
 }
 
+/// The least meaning that occurs.
+pub fn least(resource: usize) -> usize {
+    if resource < 16 {
+        5
+    } else {
+        0
+    }
+}
+
 fn breaks(nodes: &[u8], rows: &Table, policy: usize, resource: usize) -> bool {
-    let watch = Watch { policy, resource, least: if resource < 16 { 5 } else { 0 } };
+    let watch = Watch { policy, resource, least: least(resource) };
     let mut t = [0; 3072];
-    while settle_round(&mut t, nodes, rows, watch) {}
+    settle(&mut t, nodes, rows, watch);
     let mut u = [0; 3072];
     u[watch.least] = 1;
     while pass_round(&mut u, &t, nodes, rows, watch) {}
     hit_any(&u, nodes, rows, watch)
 }
 
-fn fill_rows(table: &mut Table, edges: &[u8], nodes: &[u8], p: usize) {
+pub fn fill_rows(table: &mut Table, edges: &[u8], nodes: &[u8], p: usize) {
     for (k, node) in nodes.chunks_exact(3).enumerate() {
         let (action, resource) = match node[0] {
             1 => (node[1], node[2]),
@@ -232,6 +302,11 @@ fn fill_rows(table: &mut Table, edges: &[u8], nodes: &[u8], p: usize) {
     }
 }
 
+/// A static resource that no event is on need not be watched.
+fn touched(nodes: &[u8], x: usize) -> bool {
+    x == 16 || nodes.chunks_exact(3).any(|node| node[0] == 1 && usize::from(node[2]) == x)
+}
+
 fn leaves(edges: &[u8], nodes: &[u8], p: usize) -> bool {
     if !nodes.chunks_exact(3).any(|node| node[0] == 8 && usize::from(node[1]) == p) {
         return false;
@@ -241,7 +316,7 @@ fn leaves(edges: &[u8], nodes: &[u8], p: usize) -> bool {
     }
     let mut table = [0; 3072];
     fill_rows(&mut table, edges, nodes, p);
-    (0..17).any(|x| breaks(nodes, &table, p, x))
+    (0..17).any(|x| touched(nodes, x) && breaks(nodes, &table, p, x))
 }
 
 /// 0 where the outline is accepted, 256 + the lowest policy that some trace leaves open and not respected, or 512 + a refusal.

@@ -8,6 +8,8 @@ const NEVER_OCCURRED: usize = 16;
 #[derive(Clone, PartialEq, Eq)]
 pub struct State {
     pub sets: [u8; 648],
+    /// For each policy what any of its instances may be in.
+    pub possible: [u8; 8],
     pub created: [u32; 64],
     pub count: usize,
     pub unclosed: [u8; 8],
@@ -30,7 +32,7 @@ impl Answer {
     }
 }
 
-pub const START: State = State { sets: [1; 648], created: [0; 64], count: 0, unclosed: [0; 8], halted: false };
+pub const START: State = State { sets: [1; 648], possible: [1; 8], created: [0; 64], count: 0, unclosed: [0; 8], halted: false };
 
 impl State {
     fn ok(&self) -> bool {
@@ -38,6 +40,10 @@ impl State {
             return false;
         }
         let created = &self.created[..self.count];
+        let [first, .., last] = created else { return created.iter().all(|x| (16..65536).contains(x)) };
+        if rising(created) {
+            return *first >= 16 && *last < 65536;
+        }
         created.iter().all(|x| (16..65536).contains(x)) && distinct(created)
     }
 
@@ -50,11 +56,11 @@ impl State {
         created.map_or(NEVER_OCCURRED, |at| 17 + at)
     }
 
-    /// The lowest policy that is open and not respected.
-    fn broken(&self, sets: &[u8; 648]) -> Option<u8> {
+    /// The lowest policy that is open and not respected, where each may be in these states.
+    fn broken(&self, possible: &[u8; 8]) -> Option<u8> {
         let mut bad = 0u8;
-        for (policy, (sets, unclosed)) in sets.chunks_exact(INSTANCES).zip(self.unclosed).enumerate() {
-            if unclosed != 0 && sets[..17 + self.count].iter().fold(0, |all, set| all | set) >= 64 {
+        for (policy, (possible, unclosed)) in possible.iter().zip(self.unclosed).enumerate() {
+            if unclosed != 0 && *possible >= 64 {
                 bad |= 1 << policy;
             }
         }
@@ -87,16 +93,18 @@ impl State {
             }
         }
         let (own, other) = rows(edges, action, resource);
+        let mut possible = [0; 8];
         let policies = self.sets.chunks_exact_mut(INSTANCES).zip(own.chunks_exact(8)).zip(other.chunks_exact(8));
-        for ((sets, own), other) in policies {
-            move_policy(&mut sets[..17 + self.count], at, own.try_into().unwrap(), other.try_into().unwrap());
+        for (((sets, own), other), possible) in policies.zip(&mut possible) {
+            *possible = move_policy(&mut sets[..17 + self.count], at, own.try_into().unwrap(), other.try_into().unwrap());
         }
-        if let Some(policy) = self.broken(&self.sets) {
+        if let Some(policy) = self.broken(&possible) {
             self.sets = sets_before;
             self.count = before;
             self.halted = true;
             return Answer::Violated(policy);
         }
+        self.possible = possible;
         if action == 0 {
             self.created[before] = resource;
         }
@@ -108,7 +116,7 @@ impl State {
             return Answer::Refused(31);
         }
         self.unclosed[policy] += 1;
-        if let Some(broken) = self.broken(&self.sets) {
+        if let Some(broken) = self.broken(&self.possible) {
             self.unclosed[policy] -= 1;
             self.halted = true;
             return Answer::Violated(broken);
@@ -121,7 +129,7 @@ impl State {
             return Answer::Refused(25);
         }
         self.unclosed[policy] -= 1;
-        if let Some(broken) = self.broken(&self.sets) {
+        if let Some(broken) = self.broken(&self.possible) {
             self.unclosed[policy] += 1;
             self.halted = true;
             return Answer::Violated(broken);
@@ -130,18 +138,43 @@ impl State {
     }
 }
 
-fn distinct(numbers: &[u32]) -> bool {
-    // No early exit inside, so that several are compared at once.
-    (0..numbers.len()).all(|i| !numbers[i + 1..].iter().fold(false, |found, x| found | (*x == numbers[i])))
+/// Is each number above the one before it? No early exit, so that several are compared at once.
+fn rising(numbers: &[u32]) -> bool {
+    numbers.windows(2).fold(true, |rises, pair| rises & (pair[0] < pair[1]))
 }
 
-/// Moves the sets of a policy by the rows `other`, but the one at `at` by the rows `own`.
-fn move_policy(sets: &mut [u8], at: usize, own: &[u8; 8], other: &[u8; 8]) {
-    let moved = image(sets[at], own);
-    for set in sets.iter_mut() {
-        *set = image(*set, other);
+/// Numbers with different last bits are different, so a number is compared with later ones only where one of them has its last bits.
+fn distinct(numbers: &[u32]) -> bool {
+    let mut seen = [false; 1024];
+    for (i, x) in numbers.iter().enumerate().rev() {
+        let ending = *x as usize % seen.len();
+        if seen[ending] && numbers[i + 1..].iter().fold(false, |found, y| found | (x == y)) {
+            return false;
+        }
+        seen[ending] = true;
+    }
+    true
+}
+
+/// What eight rows are that leave every state where it is.
+const STAY: [u8; 8] = [1, 2, 4, 8, 16, 32, 64, 128];
+
+/// Moves the sets of a policy by the rows `other`, but the one at `at` by the rows `own`: their union.
+fn move_policy(sets: &mut [u8], at: usize, own: &[u8; 8], other: &[u8; 8]) -> u8 {
+    let moved = if *own == STAY { sets[at] } else { image(sets[at], own) };
+    // the empty set moves to the empty set
+    sets[at] = 0;
+    let mut all = 0;
+    if *other == STAY {
+        all = sets.iter().fold(0, |all, set| all | set);
+    } else {
+        for set in sets.iter_mut() {
+            *set = image(*set, other);
+            all |= *set;
+        }
     }
     sets[at] = moved;
+    all | moved
 }
 
 /// One step.

@@ -99,7 +99,8 @@ module _ (a b : ℕ) where
 
 -- ── Children ──
 
-pub times-two : (c : ℕ) (p q : Bool) (x y : ℕ) → times c (childIf p x (childIf q y [])) ≡ times c (childIf p x []) + times c (childIf q y [])
+pub times-two : (c : ℕ) (p q : Bool) (x y : ℕ) → times c (childIf p x (childIf q y [])) ≡ times c (childIf p x []) + times c
+    (childIf q y [])
 unfolding times
 times-two c true q x y = add-first (eqb x c) (times c (childIf q y []))
   where

@@ -86,7 +86,8 @@ module _ (test : ℕ → Bool) (n : ℕ) where
       pub lowest-more : test k ≡ true → lowestFailing test k (n - k) ≡ lowestFailing test (k + 1) (n - (k + 1))
       unfolding lowestFailing
       lowest-more e =
-          ap (lowestFailing test k) left ∙ ap (λ z. firstOf z k (lowestFailing test (suc k) (n - (k + 1)))) e ∙ ap (λ m. lowestFailing test m (n - (k + 1)))
+          ap (lowestFailing test k) left ∙ ap (λ z. firstOf z k (lowestFailing test (suc k) (n - (k + 1)))) e
+          ∙ ap (λ m. lowestFailing test m (n - (k + 1)))
           (sym (add-one k))
 
 pub lowest-below : (test : ℕ → Bool) (k m j : ℕ) → lowestFailing test k m ≡ some j → j < k + m
@@ -94,6 +95,7 @@ unfolding lowestFailing
 lowest-below test k zero j e = clash (cc)
 lowest-below test k (suc m) j e = go (test k) (lowest-below test (suc k) m j) e
   where
-    go : (z : Bool) → (lowestFailing test (suc k) m ≡ some j → j < suc k + m) → firstOf z k (lowestFailing test (suc k) m) ≡ some j → j < k + suc m
+    go : (z : Bool) → (lowestFailing test (suc k) m ≡ some j → j < suc k + m) → firstOf z k (lowestFailing test (suc k) m) ≡ some j
+        → j < k + suc m
     go true ih q = let l = ih q in omega arith
     go false ih q = let z : k ≡ j = cc in omega arith

@@ -22,4 +22,11 @@ edgeTo to = set (replicate edgeFields 0) 5 to
 -- a state like the start, but for the count, the flag and the first two created numbers
 abbrev pub bordering : ℕ → ℕ → ℕ → ℕ → Parts
 bordering count flag first second =
-    partsOf (replicate setPlaces 1) (set (set (replicate mostCreated 0) 0 first) 1 second) (replicate policies 0) (count ∷ flag ∷ [])
+    partsOf (replicate setPlaces 1) (replicate policies 1) (set (set (replicate mostCreated 0) 0 first) 1 second) (replicate policies 0)
+    (count ∷ flag ∷ [])
+
+-- a state like the start, but that policy 0 has two openings, may be in the states `kept`, and its instance of resource 0 in those of m
+abbrev pub disagreeing : ℕ → ℕ → Parts
+disagreeing kept m =
+    partsOf (set (replicate setPlaces 1) 0 m) (set (replicate policies 1) 0 kept) (replicate mostCreated 0) (set (replicate policies 0) 0 2)
+    (0 ∷ 0 ∷ [])

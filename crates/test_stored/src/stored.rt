@@ -4,6 +4,7 @@ ghost use mathlib.Core.Path.{_≡_};
 ghost use mathlib.Core.List.{[], _∷_};
 ghost use Prim.Native.Nat.{_+_, _%_, _/_};
 ghost use Rattle.io.specs.Counts.{Counts};
+use crate::print;
 use libc::STDOUT_FILENO;
 
 // the last digit of n
@@ -34,17 +35,15 @@ fn name(folder: u8, n: u64, which: u8) -> Path
 }
 
 // The line before a case, printed; its number is handed back.
-fn announced(n: u64) -> u64
+pub(crate) fn announced(n: u64) -> u64
     ensures { λ r. ⌜ r ≡ n ⌝ }
 {
     io::write_all(STDOUT_FILENO, b"case ");
-    io::print_decimal(STDOUT_FILENO, n);
-    io::write_all(STDOUT_FILENO, b"\n");
-    n
+    print::number(n, b"\n")
 }
 
 // A sheet of case n, read; how many bytes it has.
-fn sheet(folder: u8, n: u64, which: u8, text: &mut [u8]) -> usize
+pub(crate) fn sheet(folder: u8, n: u64, which: u8, text: &mut [u8]) -> usize
     ensures { λ r. ⌜ Counts r (now (text .exit)) ⌝ }
 {
     let path = name(folder, n, which);

@@ -6,7 +6,7 @@ use reference::generate::Case;
 use reference::judge::{Answer, Judge, Step, CREATE, EVENT, MOST_CREATED};
 use reference::outline::Node;
 use reference::policy::Edge;
-use reference::program::tables;
+use reference::program::{self, tables};
 
 /// What a table holds before the call; no step has such numbers.
 const MARK: u32 = 1_000_000;
@@ -21,18 +21,21 @@ pub struct Tally {
 }
 
 impl Tally {
-    /// One case; sheets that are refused give no tables to call with.
+    /// One case; sheets that are refused give no tables to call with, and are printed as the second program prints them.
     pub fn compare(&mut self, case: &Case) -> Result<(), String> {
-        let Ok((edges, nodes)) = tables(&case.policies, &case.other) else {
-            return Ok(());
+        let printed = harness::why(&case.policies, &case.other);
+        let compared = match tables(&case.policies, &case.other) {
+            Ok((edges, nodes)) => self.compare_tables(&edges, &nodes).and_then(|table| same_sheet(&sheet(&table), &printed)),
+            Err(_) => same_sheet(&program::check(&case.policies, &case.other), &printed),
         };
-        self.compare_tables(&edges, &nodes).map_err(|why| {
+        compared.map_err(|why| {
             let [policies, outline] = [&case.policies, &case.other].map(|sheet| String::from_utf8_lossy(sheet));
             format!("counterexample: {why}\n-- policies\n{policies}-- outline\n{outline}")
         })
     }
 
-    fn compare_tables(&mut self, edges: &[Edge], nodes: &[Node]) -> Result<(), String> {
+    /// The numbers of the steps that were written.
+    fn compare_tables(&mut self, edges: &[Edge], nodes: &[Node]) -> Result<Vec<u32>, String> {
         let (flat, flat_nodes) = (harness::flat(edges).unwrap(), harness::flat_nodes(nodes).unwrap());
         let due = counterexample(edges, nodes);
         self.outlines += 1;
@@ -42,6 +45,7 @@ impl Tally {
             return Err(format!("a table of {} numbers is answered with {told:?}", table.len()));
         }
         untouched(&table, 0)?;
+        let mut steps = Vec::new();
         for numbers in [TABLE_NUMBERS + 7, TABLE_NUMBERS] {
             let (told, table) = harness::explained(&flat, &flat_nodes, numbers, MARK);
             if told != due.numbers() {
@@ -56,9 +60,10 @@ impl Tally {
                     self.beyond_limits += usize::from(followed == Followed::BeyondLimits);
                 }
             }
+            steps = table[..3 * told.2].to_vec();
         }
         self.longer += usize::from(matches!(due, Counterexample::Longer { .. }));
-        Ok(())
+        Ok(steps)
     }
 
     pub fn told(&self) -> String {
@@ -100,6 +105,20 @@ fn written(edges: &[Edge], nodes: &[Node], policy: usize, steps: &[Step]) -> Res
     followed
         .filter(|_| answers == due)
         .ok_or_else(|| format!("the judge answers {answers:?}, for policy {policy}: {}", show()))
+}
+
+/// The trace sheet of these steps, three numbers to each.
+fn sheet(numbers: &[u32]) -> String {
+    let line = |row: &[u32]| format!("{} {} {}\n", row[0], row[1], row[2]);
+    "kind a b\n".to_string() + &numbers.chunks(3).map(line).collect::<String>()
+}
+
+/// What the third program printed is this text.
+fn same_sheet(due: &str, printed: &[u8]) -> Result<(), String> {
+    if due.as_bytes() == printed {
+        return Ok(());
+    }
+    Err(format!("expected the text\n{due}-- found\n{}", String::from_utf8_lossy(printed)))
 }
 
 /// The numbers after so many steps are as they were.

@@ -31,6 +31,11 @@ pub fn check(policies: &[u8], outline: &[u8]) -> Vec<u8> {
     report(wiforekun::print_outline, policies, outline)
 }
 
+/// What the third program prints.
+pub fn why(policies: &[u8], outline: &[u8]) -> Vec<u8> {
+    report(wiforekun::print_counterexample, policies, outline)
+}
+
 /// What the first program answers, lent a buffer of this length.
 pub fn monitor_room(policies: &[u8], trace: &[u8], room: usize) -> usize {
     let mut out = vec![UNTOUCHED; room];
@@ -64,10 +69,11 @@ pub fn judge(edges: &[Edge], state: &State, step: Step) -> Option<((u32, usize),
     for (place, number) in unclosed.iter_mut().zip(state.openings) {
         *place = u8::try_from(number).ok()?;
     }
-    let mut parts = wiforekun::State { sets, created, unclosed, numbers: [state.count, state.halted] };
+    let mut parts = wiforekun::State { sets, possible: state.kept, created, unclosed, numbers: [state.count, state.halted] };
     let code = parts.judge_code(&edges, [kind, a, b]);
-    let wiforekun::State { sets, created, unclosed, numbers } = parts;
+    let wiforekun::State { sets, possible, created, unclosed, numbers } = parts;
     let mut after = state.clone();
+    after.kept = possible;
     after.count = numbers[0];
     after.halted = numbers[1];
     after.created = created.map(u64::from);

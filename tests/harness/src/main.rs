@@ -1,8 +1,11 @@
-//! compare SEED COUNT: fresh cases from the seed, a third each of traces, outlines and direct calls of the judge. Of each outline the
-//! counterexample is compared too.
+//! compare SEED COUNT [judge]: fresh cases from the seed. Half of them are direct calls of the judge, on states that need not have been
+//! reached; the others are traces and outlines, as many of each, or with the word `judge` traces alone; and as many pairs of a trace and an
+//! outline with a malformed line. Of each outline the counterexample
+//! is compared too, and each trace again with its dynamic numbers renamed.
 
 #[cfg(counterexample)]
 mod counterexamples;
+mod renamings;
 
 #[cfg(not(counterexample))]
 mod counterexamples {
@@ -22,7 +25,7 @@ mod counterexamples {
 }
 
 use counterexamples::Tally;
-use reference::generate::{self, outlines, states, traces, Case};
+use reference::generate::{self, malformed, outlines, states, traces, Case};
 use reference::program;
 use reference::rng::Rng;
 use std::process::ExitCode;
@@ -31,13 +34,15 @@ use std::process::ExitCode;
 const BATCH: usize = 1_000;
 
 fn main() -> ExitCode {
-    let words: Vec<String> = std::env::args().skip(1).collect();
+    let mut words: Vec<String> = std::env::args().skip(1).collect();
+    let judge = words.len() == 3 && words[2] == "judge";
+    words.truncate(if judge { 2 } else { words.len() });
     let numbers: Option<Vec<u64>> = words.iter().map(|word| word.parse().ok()).collect();
     let Some([seed, count]) = numbers.as_deref() else {
-        eprintln!("usage: compare SEED COUNT");
+        eprintln!("usage: compare SEED COUNT [judge]");
         return ExitCode::from(2);
     };
-    match compare(*seed, *count as usize) {
+    match compare(*seed, *count as usize, judge) {
         Ok(text) => {
             println!("{text}");
             ExitCode::SUCCESS
@@ -50,32 +55,40 @@ fn main() -> ExitCode {
 }
 
 /// How many cases agreed, or the first difference.
-fn compare(seed: u64, count: usize) -> Result<String, String> {
+fn compare(seed: u64, count: usize, judge: bool) -> Result<String, String> {
     let mut tally = Tally::default();
-    let fixed = fixed_cases(&mut tally)?;
+    let mut renamed = renamings::Tally::default();
+    let fixed = fixed_cases(&mut tally, &mut renamed)?;
     let mut made = [0usize; 3];
     let mut skipped = 0;
+    let mut garbled = 0;
     let mut batch = 0;
     while made.iter().sum::<usize>() < count {
         let from = seed.wrapping_mul(1_000_003).wrapping_add(batch);
-        let most = BATCH.min((count - made.iter().sum::<usize>()).div_ceil(3));
-        made[0] += each_trace(from, most)?;
-        made[1] += each_outline(from, most, &mut tally)?;
-        let (calls, wide) = each_call(from, most)?;
+        let sheets = if judge { 1 } else { 2 };
+        let most = BATCH.min((count - made.iter().sum::<usize>()).div_ceil(2 * sheets));
+        made[0] += each_trace(from, most, &mut renamed)?;
+        if !judge {
+            made[1] += each_outline(from, most, &mut tally)?;
+        }
+        let (calls, wide) = each_call(from, sheets * most)?;
         made[2] += calls;
         skipped += wide;
+        garbled += each_garbled(from, most)?;
         batch += 1;
     }
     let [traces, outlines, calls] = made;
-    Ok(format!("seed {seed}: {fixed} fixed cases, {traces} traces, {outlines} outlines, {calls} calls of the judge: no difference ({skipped} calls with numbers wider than the functions take were left out); {}", tally.told()))
+    Ok(format!("seed {seed}: {fixed} fixed cases, {traces} traces, {outlines} outlines, {calls} calls of the judge, {garbled} sheets with malformed lines: no difference ({skipped} calls with numbers wider than the functions take were left out); {}; {}", renamed.told(), tally.told()))
 }
 
 /// The cases that depend on no seed.
-fn fixed_cases(tally: &mut Tally) -> Result<usize, String> {
+fn fixed_cases(tally: &mut Tally, renamed: &mut renamings::Tally) -> Result<usize, String> {
+    let mut rng = Rng::new(0);
     let traces = generate::fixed::trace_cases();
     let outlines: Vec<Case> = [generate::fixed::outline_cases(), generate::counterexamples::fixed_cases()].concat();
     for (number, case) in traces.iter().enumerate() {
         same("fixed trace", 0, number, case, program::monitor(&case.policies, &case.other), harness::monitor(&case.policies, &case.other))?;
+        renamed.compare(&mut rng, case)?;
     }
     for (number, case) in outlines.iter().enumerate() {
         same("fixed outline", 0, number, case, program::check(&case.policies, &case.other), harness::check(&case.policies, &case.other))?;
@@ -84,11 +97,12 @@ fn fixed_cases(tally: &mut Tally) -> Result<usize, String> {
     Ok(traces.len() + outlines.len())
 }
 
-fn each_trace(seed: u64, most: usize) -> Result<usize, String> {
+fn each_trace(seed: u64, most: usize, renamed: &mut renamings::Tally) -> Result<usize, String> {
     let mut rng = Rng::new(seed);
     for number in 0..most {
         let case = traces::random_case(&mut rng);
         same("trace", seed, number, &case, program::monitor(&case.policies, &case.other), harness::monitor(&case.policies, &case.other))?;
+        renamed.compare(&mut rng, &case)?;
     }
     Ok(most)
 }
@@ -104,6 +118,19 @@ fn each_outline(seed: u64, most: usize, tally: &mut Tally) -> Result<usize, Stri
         }
     }
     Ok(number)
+}
+
+/// Two sheets a turn, that the programs mostly refuse.
+fn each_garbled(seed: u64, most: usize) -> Result<usize, String> {
+    let mut rng = Rng::new(seed);
+    for number in 0..most {
+        let [trace, outline] = malformed::random_cases(&mut rng);
+        let found = harness::monitor(&trace.policies, &trace.other);
+        same("malformed trace", seed, number, &trace, program::monitor(&trace.policies, &trace.other), found)?;
+        let found = harness::check(&outline.policies, &outline.other);
+        same("malformed outline", seed, number, &outline, program::check(&outline.policies, &outline.other), found)?;
+    }
+    Ok(2 * most)
 }
 
 /// How many calls were compared, and how many were too wide for the functions' types.

@@ -1,5 +1,7 @@
-//! Calls of the functions themselves, at the borders of the refusals that no sheet can bring about: 21, 40, 41 and 42.
+//! Calls of the functions themselves: at the borders of the refusals that no sheet can bring about, 21, 40, 41 and 42; what the check with a
+//! counterexample leaves in the table that it is lent; and on states whose kept sets disagree with their instance sets.
 
+use crate::counterexample::counterexample_tables;
 use crate::judge::Step;
 use crate::outline::Node;
 use crate::policy::Edge;
@@ -19,6 +21,16 @@ fn judged(to: u64, [count, halted]: [u64; 2], [first, second]: [u64; 2], [kind, 
     format!("{} {} {}", told(answer.numbers()), after.count, after.halted)
 }
 
+/// A step from a state like the start, but that policy 0 has two openings, a kept set of its own and another set for resource 0's instance.
+fn kept(kept: u8, set: u8, [kind, a, b]: [u64; 3]) -> String {
+    let mut state = State::start();
+    state.openings[0] = 2;
+    state.kept[0] = kept;
+    state.sets[0][0] = set;
+    let (answer, _) = judge_state(&[Edge::new([0, 0, 0, 0, 0, 7])], &state, Step { kind, a, b });
+    told(answer.numbers())
+}
+
 fn told((answer, detail): Line) -> String {
     format!("{answer} {detail}")
 }
@@ -31,19 +43,50 @@ fn read(places: usize, needed: usize, number: Option<u32>) -> String {
     told(number.map_or((0, 0), |number| (2, number as usize)))
 }
 
-/// The check on flat tables, of which a part of a record makes no table.
-fn checked(edges: &[u64], nodes: &[u64]) -> String {
+/// The records of flat tables; a part of a record makes no table.
+fn records(edges: &[u64], nodes: &[u64]) -> Option<(Vec<Edge>, Vec<Node>)> {
     if edges.len() % 6 != 0 || nodes.len() % 3 != 0 {
-        return told((2, 41));
+        return None;
     }
-    let edges: Vec<Edge> = edges.chunks(6).map(|row| Edge::new(row.try_into().unwrap())).collect();
+    let edges = edges.chunks(6).map(|row| Edge::new(row.try_into().unwrap())).collect();
     let node = |(place, row): (usize, &[u64])| Node { number: place as u64, kind: row[0], a: row[1], b: row[2] };
-    let nodes: Vec<Node> = nodes.chunks(3).enumerate().map(node).collect();
-    told(match check_tables(&edges, &nodes) {
+    Some((edges, nodes.chunks(3).enumerate().map(node).collect()))
+}
+
+fn checked(edges: &[u64], nodes: &[u64]) -> String {
+    let verdict = records(edges, nodes).map_or(Err(41), |(edges, nodes)| check_tables(&edges, &nodes));
+    told(match verdict {
         Ok(None) => (0, 0),
         Ok(Some(policy)) => (1, policy),
         Err(number) => (2, number as usize),
     })
+}
+
+/// The check with a counterexample, lent a table of so many numbers. After the answer and its detail come the length, how many numbers
+/// of the table are written, and how many keep what they held.
+fn explained(edges: &[u64], nodes: &[u64], numbers: usize) -> String {
+    // tables of no record are none, as those of a part of one
+    let (edges, nodes) = records(edges, nodes).unwrap_or_default();
+    let (answer, detail, length) = match counterexample_tables(&edges, &nodes, numbers) {
+        Ok(due) => due.numbers(),
+        Err(number) => (2, number as usize, 0),
+    };
+    format!("{} {length} {} {}", told((answer, detail)), 3 * length, numbers - 3 * length)
+}
+
+/// Action 2 on static 3 breaks policy 0, in its sandbox.
+const BROKEN: ([u64; 6], [u64; 6]) = ([0, 0, 2, 0, 3, 6], [8, 0, 1, 1, 2, 3]);
+
+/// A policy that offends at the sixth action 1 on static 3.
+const SIXTH: [u64; 36] =
+    [0, 0, 1, 0, 3, 1, 0, 1, 1, 0, 3, 2, 0, 2, 1, 0, 3, 3, 0, 3, 1, 0, 3, 4, 0, 4, 1, 0, 3, 5, 0, 5, 1, 0, 3, 6];
+
+/// An opening, the node `second`, another opening, and then a loop of 33 steps: sixteen sandboxes, one inside the other, and the event.
+fn rounds(second: [u64; 3]) -> Vec<u64> {
+    let mut nodes = vec![[8, 1, 1], second, [8, 0, 3], [5, 4, 0], [3, 5, 22]];
+    nodes.extend((5..21).map(|place| [8, 1, place + 1]));
+    nodes.extend([[0, 0, 0], [3, 23, 24], [1, 1, 3], [6, 3, 0]]);
+    nodes.concat()
 }
 
 /// The lines that the program of these calls prints.
@@ -85,6 +128,24 @@ pub fn lines() -> String {
         checked(&[0; 6], &[0; 3]),
         checked(&[0; 5], &[0; 3]),
         checked(&[0; 6], &[9; 3]),
+        explained(&BROKEN.0, &BROKEN.1, 600),
+        explained(&BROKEN.0, &BROKEN.1, 601),
+        explained(&BROKEN.0, &BROKEN.1, 599),
+        explained(&BROKEN.0, &BROKEN.1, 0),
+        explained(&[0; 5], &[0; 3], 599),
+        explained(&[0; 5], &[0; 3], 600),
+        explained(&[0; 6], &[9; 3], 600),
+        explained(&[0; 6], &[9; 3], 599),
+        explained(&[0; 6], &[0; 3], 600),
+        explained(&[0; 6], &[0; 3], 599),
+        explained(&SIXTH, &rounds([5, 2, 0]), 600),
+        explained(&SIXTH, &rounds([8, 1, 2]), 600),
+        kept(64, 1, [1, 0, 0]),
+        kept(64, 1, [2, 0, 0]),
+        kept(64, 1, [0, 1, 0]),
+        kept(1, 64, [1, 0, 0]),
+        kept(1, 64, [2, 0, 0]),
+        kept(1, 64, [0, 1, 0]),
     ];
     lines.iter().enumerate().map(|(number, line)| format!("{} {line}\n", number + 1)).collect()
 }

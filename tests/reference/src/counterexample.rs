@@ -1,6 +1,6 @@
 //! Counterexamples: what is shown for an outline, and whether a list of steps is one.
 
-use crate::judge::{is_open, Step, CREATE, EVENT};
+use crate::judge::{is_open, Answer, Judge, Step, CREATE, EVENT};
 use crate::least::shortest_run;
 use crate::outline::{
     nodes_fit, Node, BACK, CHOICE, END, FRESH, LOOP, NAMED_EVENT, NAMES, SANDBOX, SEQUENCE,
@@ -110,6 +110,33 @@ pub fn shown_fault(edges: &[Edge], nodes: &[Node], steps: &[Step]) -> Option<Str
             fault(edges, nodes, policy, steps).map(|why| format!("policy {policy}: {why:?}"))
         }
         _ => None,
+    }
+}
+
+/// How many of these steps the judge is past, from the first on, when it does not allow one, and its answer to that one. Those that
+/// `judged` leaves out are passed over.
+fn follow(edges: &[Edge], steps: &[Step], judged: impl Fn(&Step) -> bool) -> (usize, Answer) {
+    let mut judge = Judge::new(edges);
+    let mut answer = |step: &Step| if judged(step) { judge.judge(*step) } else { Answer::Allowed };
+    let answers = steps.iter().map(|step| answer(step)).enumerate();
+    let mut stops = answers.filter(|(_, answer)| *answer != Answer::Allowed);
+    stops.next().unwrap_or((steps.len(), Answer::Allowed))
+}
+
+/// The same where other policies are never opened. Every shortest counterexample to the policy is followed to its last step, which
+/// violates the policy; or, with more than 64 creates, to the 65th.
+pub fn follow_alone(edges: &[Edge], policy: usize, steps: &[Step]) -> (usize, Answer) {
+    follow(edges, steps, |step| step.kind == EVENT || step.a == policy as u64)
+}
+
+/// Does the judge stop where it may, on a shortest counterexample to the lowest policy that any trace breaks? At the last step, for that
+/// policy; before, for a higher one; or at a create beyond its limit. Which of these it is depends on the trace that is shown.
+pub fn stops_rightly(edges: &[Edge], policy: usize, steps: &[Step]) -> bool {
+    match follow(edges, steps, |_| true) {
+        (_, Answer::Refused(number)) => number == 30,
+        (past, Answer::Violated(named)) if past + 1 == steps.len() => named == policy,
+        (_, Answer::Violated(named)) => named > policy,
+        (_, Answer::Allowed) => false,
     }
 }
 

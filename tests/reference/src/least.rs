@@ -10,7 +10,7 @@
 use crate::outline::{Node, SANDBOX};
 use crate::policy::{Edge, Policy};
 use crate::pushdown::{
-    by_rule, replacement, Reason, Rule, System, Transition, Watched, ACCEPT, CONTROLS, PLACES,
+    by_rule, heads, replacement, Reason, Rule, System, Transition, Watched, ACCEPT, PLACES,
 };
 use crate::run::{Run, Way};
 use std::cmp::Reverse;
@@ -36,12 +36,7 @@ impl Least {
     fn new(system: &System) -> Least {
         let rules = system.rules();
         let symbols = system.symbols();
-        let mut heads = vec![Vec::new(); CONTROLS * symbols];
-        for (index, rule) in rules.iter().enumerate() {
-            if let Some(first) = rule.put.first() {
-                heads[rule.next * symbols + first].push(index as u32);
-            }
-        }
+        let heads = heads(&rules, symbols);
         let slots = PLACES * symbols * PLACES;
         let mut least = Least {
             rules,

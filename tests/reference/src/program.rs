@@ -1,6 +1,6 @@
 //! What the programs print.
 
-use crate::counterexample::{counterexample, Counterexample};
+use crate::counterexample::{counterexample, follow_alone, stops_rightly, Counterexample};
 use crate::damage::rows;
 use crate::judge::{Judge, Step};
 use crate::outline::Node;
@@ -63,14 +63,28 @@ pub fn why(policies: &[u8], outline: &[u8]) -> String {
     String::from_utf8(rows(TRACE_NAMES, steps.iter().map(Step::row))).expect("a sheet is ASCII")
 }
 
-/// What is the same for every such program: the verdict's two numbers and the length shown, in one line; for a refused sheet the answer
-/// and the detail of the second program, and 0.
+/// What is the same whichever shortest trace is shown: the verdict's two numbers and the length, in one line; for a refused sheet the
+/// answer and the detail of the second program, and 0. Where a trace is shown, a second line of what the judge says of it: how many
+/// steps it is past when only that policy is opened, its answer and its detail there; and 1 where it stops rightly with all policies.
 pub fn shown(policies: &[u8], outline: &[u8]) -> String {
-    let (answer, detail, length) = match tables(policies, outline) {
-        Err((sheet, refusal)) => (sheet, refusal.number as usize, 0),
-        Ok((edges, nodes)) => counterexample(&edges, &nodes).numbers(),
+    let (edges, nodes) = match tables(policies, outline) {
+        Err((sheet, refusal)) => return format!("{sheet} {} 0\n", refusal.number),
+        Ok(tables) => tables,
     };
-    format!("{answer} {detail} {length}\n")
+    let due = counterexample(&edges, &nodes);
+    let (answer, detail, length) = due.numbers();
+    let told = format!("{answer} {detail} {length}\n");
+    match due {
+        Counterexample::Shown { policy, steps } => told + &judged(&edges, policy, &steps),
+        _ => told,
+    }
+}
+
+fn judged(edges: &[Edge], policy: usize, steps: &[Step]) -> String {
+    let (past, answer) = follow_alone(edges, policy, steps);
+    let (answer, detail) = answer.numbers();
+    let rightly = u32::from(stops_rightly(edges, policy, steps));
+    format!("{past} {answer} {detail} {rightly}\n")
 }
 
 fn refused(sheet: u32, refusal: Refusal) -> String {

@@ -296,12 +296,7 @@ impl Saturation {
     fn new(system: &System) -> Saturation {
         let rules = system.rules();
         let symbols = system.symbols();
-        let mut heads = vec![Vec::new(); CONTROLS * symbols];
-        for (index, rule) in rules.iter().enumerate() {
-            if let Some(first) = rule.put.first() {
-                heads[rule.next * symbols + first].push(index as u32);
-            }
-        }
+        let heads = heads(&rules, symbols);
         let mut saturation = Saturation {
             rules,
             symbols,
@@ -406,6 +401,17 @@ impl Saturation {
         }
         unreachable!("the last transition of a path is a bad one or comes by a rule")
     }
+}
+
+/// For each control and symbol the rules that put the symbol first of all, at that control.
+pub(crate) fn heads(rules: &[Rule], symbols: usize) -> Vec<Vec<u32>> {
+    let mut heads = vec![Vec::new(); CONTROLS * symbols];
+    for (index, rule) in rules.iter().enumerate() {
+        if let Some(first) = rule.put.first() {
+            heads[rule.next * symbols + first].push(index as u32);
+        }
+    }
+    heads
 }
 
 /// The transitions that stand for one gained by a rule, the first one last.

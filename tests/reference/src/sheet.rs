@@ -11,6 +11,7 @@ pub const OUTLINE_NAMES: &str = "node kind a b";
 pub const MOST_EDGES: usize = 256;
 pub const MOST_STEPS: usize = 2_000;
 pub const MOST_NODES: usize = 64;
+pub const MOST_DIGITS: usize = 5;
 
 const FIRST_LINE: usize = 2;
 
@@ -67,9 +68,7 @@ fn read<const N: usize, T>(
         if index >= most {
             return refuse(4, number);
         }
-        let Some(row) = line.strip_suffix(b"\n").and_then(fields) else {
-            return refuse(2, number);
-        };
+        let row = fields(line).or_else(|fault| refuse(fault, number))?;
         match record(row) {
             Some(record) => records.push(record),
             None => return refuse(3, number),
@@ -78,19 +77,24 @@ fn read<const N: usize, T>(
     Ok(records)
 }
 
-/// Exactly N values of 1 to 5 digits, parted by spaces, none at either end.
-fn fields<const N: usize>(line: &[u8]) -> Option<[u64; N]> {
-    if line.first() == Some(&b' ') || line.last() == Some(&b' ') {
-        return None;
+/// The N values of a line, or the number of what is wrong with it. One line may have several faults; the order is 13, 11, 12, 2.
+fn fields<const N: usize>(line: &[u8]) -> Result<[u64; N], u32> {
+    let bytes = line.strip_suffix(b"\n").ok_or(13_u32)?;
+    if !bytes.iter().all(|byte| byte.is_ascii_digit() || *byte == b' ') {
+        return Err(11);
     }
-    let words = line.split(|byte| *byte == b' ').filter(|word| !word.is_empty());
-    let values: Option<Vec<u64>> = words.map(value).collect();
-    values?.try_into().ok()
+    // What stands between single spaces; it is empty before a space at the start, after one at the end and between two.
+    let words: Vec<&[u8]> = bytes.split(|byte| *byte == b' ').collect();
+    if words.iter().any(|word| word.len() > MOST_DIGITS) {
+        return Err(12);
+    }
+    if words[0].is_empty() || words[words.len() - 1].is_empty() {
+        return Err(2);
+    }
+    let values: Vec<u64> = words.into_iter().filter(|word| !word.is_empty()).map(value).collect();
+    values.try_into().map_err(|_| 2)
 }
 
-fn value(word: &[u8]) -> Option<u64> {
-    if word.len() > 5 || !word.iter().all(u8::is_ascii_digit) {
-        return None;
-    }
-    std::str::from_utf8(word).ok()?.parse().ok()
+fn value(digits: &[u8]) -> u64 {
+    digits.iter().fold(0, |value, digit| 10 * value + u64::from(digit - b'0'))
 }

@@ -20,6 +20,8 @@ pub struct State {
     pub openings: [u64; POLICIES],
     /// Bit s of a mask: the instance may be in state s.
     pub sets: [[u8; POLICIES]; INSTANCES],
+    /// For each policy the states that any instance may be in, as the last event gathered them.
+    pub kept: [u8; POLICIES],
 }
 
 impl State {
@@ -30,6 +32,7 @@ impl State {
             created: [0; MOST_CREATED],
             openings: [0; POLICIES],
             sets: [[1; POLICIES]; INSTANCES],
+            kept: [1; POLICIES],
         }
     }
 
@@ -75,9 +78,17 @@ impl State {
         }
     }
 
+    /// "Every event gathers it from the moved instances".
+    fn gather(&mut self) {
+        for policy in 0..POLICIES {
+            let may = |state: usize| (0..self.places()).any(|i| from_mask(self.sets[i][policy])[state]);
+            self.kept[policy] = to_mask(std::array::from_fn(may));
+        }
+    }
+
+    /// "the judge looks only at it".
     fn lowest_broken(&self) -> Option<usize> {
-        let broken = |p: usize| (0..self.places()).any(|i| offends(from_mask(self.sets[i][p])));
-        (0..POLICIES).find(|p| self.openings[*p] > 0 && broken(*p))
+        (0..POLICIES).find(|p| self.openings[*p] > 0 && offends(from_mask(self.kept[*p])))
     }
 
     fn after(&self, policies: &[Policy], step: Step) -> State {
@@ -90,6 +101,7 @@ impl State {
                     next.add_created(step.b);
                 }
                 next.move_all(policies, Event { action: step.a, resource: step.b });
+                next.gather();
             }
         }
         next
@@ -186,17 +198,18 @@ fn read_state(next: &mut impl FnMut() -> Option<u64>) -> Option<State> {
     for number in state.openings.iter_mut().chain(state.created.iter_mut()) {
         *number = next()?;
     }
-    for mask in state.sets.iter_mut().flatten() {
+    for mask in state.kept.iter_mut().chain(state.sets.iter_mut().flatten()) {
         *mask = u8::try_from(next()?).ok()?;
     }
     Some(state)
 }
 
-/// Halted and count; the openings; the created numbers; a line of masks for each instance.
+/// Halted and count; the openings; the created numbers; the kept masks; a line of masks for each instance.
 pub fn write_state(state: &State) -> String {
     let mut text = line(&[state.halted, state.count]);
     text += &line(&state.openings);
     text += &line(&state.created);
+    text += &line(&state.kept.map(u64::from));
     for row in &state.sets {
         text += &line(&row.map(u64::from));
     }

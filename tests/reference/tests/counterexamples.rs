@@ -396,7 +396,7 @@ impl Has {
 fn printed() {
     let k = (policies(POLICIES_K), outline(OUTLINE_I));
     assert_eq!(program::why(&k.0, &k.1), String::from_utf8(trace(SHORTEST_K)).unwrap());
-    assert_eq!(program::shown(&k.0, &k.1), "1 0 8\n");
+    assert_eq!(program::shown(&k.0, &k.1), "1 0 8\n7 1 0 1\n");
     assert_eq!(program::why(&policies(P), &k.1), "kind a b\n");
     assert_eq!(program::shown(&policies(P), &k.1), "0 0 0\n");
     assert_eq!(program::why(b"", &k.1), "line answer detail\n1 3 1\n");

@@ -104,13 +104,28 @@ fn a_closing_can_be_violated_in_an_unreached_state() {
     let mut state = State::start();
     state.openings[2] = 2;
     state.openings[5] = 1;
-    state.sets[16][2] = 128;
-    state.sets[4][5] = 64;
+    state.kept[2] = 128;
+    state.kept[5] = 64;
     let (answer, next) = judge_state(&[], &state, Step::close(2));
     assert_eq!(answer, Answer::Violated(2));
     assert_eq!(next, State { halted: 1, ..state.clone() });
     state.openings[2] = 1;
     assert_eq!(judge_state(&[], &state, Step::close(2)).0, Answer::Violated(5));
+}
+
+#[test]
+fn an_event_gathers_anew_what_openings_and_closings_look_at() {
+    let mut state = State::start();
+    state.openings[2] = 2;
+    state.kept[2] = 64;
+    let (answer, next) = judge_state(&[], &state, Step::event(1, 3));
+    assert_eq!((answer, next.kept), (Answer::Allowed, [1; POLICIES]));
+    state.kept[2] = 1;
+    state.sets[16][2] = 128;
+    assert_eq!(judge_state(&[], &state, Step::open(2)).0, Answer::Allowed);
+    assert_eq!(judge_state(&[], &state, Step::close(2)).0, Answer::Allowed);
+    let (answer, next) = judge_state(&[], &state, Step::event(1, 3));
+    assert_eq!((answer, next), (Answer::Violated(2), State { halted: 1, ..state.clone() }));
 }
 
 #[test]

@@ -2,6 +2,7 @@
 
 use reference::damage::{crowded, padded};
 use reference::generate::fixed::{outline, policies, trace, OUTLINE_I, TRACE};
+use reference::generate::malformed;
 use reference::sheet::{
     read_outline, read_policies, read_trace, Refusal, OUTLINE_NAMES, POLICY_NAMES, TRACE_NAMES,
 };
@@ -36,29 +37,38 @@ fn names_line() {
     assert_eq!(read_trace(b"kind a b\n"), Ok(vec![]));
 }
 
+/// A sheet of three lines is refused at the second with this number.
+fn second_refused(line: &str, number: u32) {
+    let text = format!("kind a b\n0 1 3\n{line}\n0 1 3\n");
+    assert_eq!(trace_refusal(text.as_bytes()), Some(refused(number, 3)), "{line:?}");
+}
+
 #[test]
 fn malformed_lines() {
-    let lines = [
-        "",
-        " ",
-        " 0 1 3",
-        "0 1 3 ",
+    for line in ["", " ", "   ", " 0 1 3", "0 1 3 ", "0 1", "0 1 3 0", "0 1 3 99999", "99999 1"] {
+        second_refused(line, 2);
+    }
+    for line in ["0 1 000003", "000000 1 3", "0000001", " 0 1 000003", "000003 ", "0  000001 99999"]
+    {
+        second_refused(line, 12);
+    }
+    let other = [
         "0\t1 3",
         "0 1 3\r",
-        "0 1",
-        "0 1 3 0",
-        "0 1 000003",
         "0 1 -3",
         "0 1 3x",
         "0 1 3\0",
         "0 1 /",
         "0 1 :",
         "0,1,3",
+        "1 2x 0000001",
+        "0000001 x",
+        " 0 1 3 0x",
     ];
-    for line in lines {
-        let text = format!("kind a b\n0 1 3\n{line}\n0 1 3\n");
-        assert_eq!(trace_refusal(text.as_bytes()), Some(refused(2, 3)), "{line:?}");
+    for line in other {
+        second_refused(line, 11);
     }
+    assert_eq!(trace_refusal(b"kind a b\n0 1 \xff\n"), Some(refused(11, 2)));
     for line in ["0  1   3", "00000 00001 00003", "0 31 65535"] {
         assert_eq!(trace_refusal(format!("kind a b\n{line}\n").as_bytes()), None, "{line:?}");
     }
@@ -66,10 +76,45 @@ fn malformed_lines() {
 
 #[test]
 fn last_line_feed() {
-    assert_eq!(trace_refusal(b"kind a b\n0 1 3"), Some(refused(2, 2)));
-    assert_eq!(trace_refusal(b"kind a b\n0 99 3"), Some(refused(2, 2)));
+    for line in ["0 1 3", "0 99 3", " ", "x", "000000 x", "0 1"] {
+        assert_eq!(
+            trace_refusal(format!("kind a b\n{line}").as_bytes()),
+            Some(refused(13, 2)),
+            "{line:?}"
+        );
+        assert_eq!(
+            trace_refusal(format!("kind a b\n0 1 3\n{line}").as_bytes()),
+            Some(refused(13, 3)),
+            "{line:?}"
+        );
+    }
     assert_eq!(trace_refusal(b"kind a b\n0 1 3\n\n"), Some(refused(2, 3)));
-    assert_eq!(trace_refusal(b"kind a b\n0 1 3\n "), Some(refused(2, 3)));
+    assert_eq!(trace_refusal(b"kind a b\n0 1 3 \nx"), Some(refused(2, 2)));
+}
+
+/// What is made to be malformed is refused, and with every number that a malformed line has, on many lines.
+#[test]
+fn made_malformed() {
+    let made: [(Vec<Option<Refusal>>, usize); 3] = [
+        (malformed::policies().iter().map(|text| read_policies(text).err()).collect(), 256),
+        (malformed::traces().iter().map(|text| read_trace(text).err()).collect(), 2_000),
+        (malformed::outlines().iter().map(|text| read_outline(text).err()).collect(), 64),
+    ];
+    for (refusals, most) in made {
+        assert!(refusals.iter().all(Option::is_some));
+        for number in [11, 12, 2] {
+            for line in [2, 4, 6, most + 1] {
+                assert!(refusals.contains(&Some(refused(number, line))), "{number} on line {line}");
+            }
+        }
+        for line in [2, 4, most + 1] {
+            assert!(refusals.contains(&Some(refused(13, line))), "13 on line {line}");
+        }
+        assert_eq!(
+            refusals.iter().filter(|refusal| **refusal == Some(refused(4, most + 2))).count(),
+            4
+        );
+    }
 }
 
 #[test]
@@ -108,8 +153,8 @@ fn lines_beyond_the_most() {
         for sheet in &sheets[1..8] {
             assert_eq!(refusal(sheet), Some(refused(4, beyond)));
         }
-        assert_eq!(refusal(&sheets[8]), Some(refused(2, beyond - 1)));
-        assert_eq!(refusal(&sheets[11]), Some(refused(2, beyond - 1)));
+        assert_eq!(refusal(&sheets[8]), Some(refused(11, beyond - 1)));
+        assert_eq!(refusal(&sheets[11]), Some(refused(13, beyond - 1)));
     }
 }
 

@@ -1,8 +1,9 @@
 //! The stored cases: the expected outputs are those of the reference, and all numbers occur.
 
 use reference::borders;
+use reference::least::shortest_length;
 use reference::policy::Policy;
-use reference::program::{check, monitor};
+use reference::program::{check, monitor, shown, tables};
 use reference::pushdown::{self, replay, witness, Watched, Witness};
 use reference::sheet::{read_outline, read_policies};
 use reference::state::Call;
@@ -19,19 +20,27 @@ fn stored(kind: &str) -> PathBuf {
     root().join(match kind {
         "trace" => "crates/test_stored/data/t",
         "outline" => "crates/test_stored/data/o",
+        "counterexample" => "crates/test_stored/data/c",
         _ => "tests/cases/state",
     })
 }
 
-/// What is expected for the cases of a kind. The program's output has the traces, the outlines and the border calls.
+/// What is expected for the cases of a kind. The program's output has the traces, the outlines, the counterexamples and the border calls.
 fn text_of(kind: &str) -> String {
     if kind == "state" {
         return fs::read_to_string(root().join("tests/cases/state.expected")).unwrap();
     }
     let text = fs::read_to_string(root().join("crates/test_stored/stdout")).unwrap();
     let sheets = text.strip_suffix(&borders::lines()).expect("the border calls come last");
-    let outlines = sheets.rfind("case 0\n").unwrap();
-    if kind == "trace" { sheets[..outlines].into() } else { sheets[outlines..].into() }
+    let first = "case 0\n";
+    let parts: Vec<&str> = sheets.split(first).collect();
+    let ["", traces, outlines, counterexamples] = parts[..] else { panic!("three kinds of cases") };
+    let part = match kind {
+        "trace" => traces,
+        "outline" => outlines,
+        _ => counterexamples,
+    };
+    format!("{first}{part}")
 }
 
 /// The expected output of each case of a kind, without its first line.
@@ -55,7 +64,7 @@ fn file(kind: &str, number: usize, letter: char) -> Vec<u8> {
 fn answers(cases: &[String]) -> BTreeSet<(u64, u64)> {
     let lines = cases.iter().flat_map(|case| case.lines().skip(1));
     let last_two = |line: &str| {
-        let numbers: Vec<u64> = line.split(' ').map(|word| word.parse().unwrap()).collect();
+        let numbers = numbers(line);
         (numbers[1], numbers[2])
     };
     lines.map(last_two).collect()
@@ -105,6 +114,45 @@ fn replay_refused(policies: &[u8], outline: &[u8]) {
         _ => false,
     };
     assert!(Watched::all().into_iter().any(breaks));
+}
+
+/// Every border of the length, verdicts of all sorts, and traces that the judge follows to the end, or not.
+#[test]
+fn counterexamples() {
+    let cases = expected("counterexample");
+    let mut seen = BTreeSet::new();
+    let mut longer = BTreeSet::new();
+    let mut past_limits = 0;
+    for (number, text) in cases.iter().enumerate() {
+        let (policies, outline) = (file("counterexample", number, 'p'), file("counterexample", number, 'o'));
+        assert_eq!(shown(&policies, &outline), *text, "case {number}");
+        let lines: Vec<Vec<u64>> = text.lines().map(numbers).collect();
+        seen.insert((lines[0][0], lines[0][2]));
+        let Some(judged) = lines.get(1) else {
+            if lines[0][0] == 1 {
+                longer.insert(least(&policies, &outline, lines[0][1] as usize));
+            }
+            continue;
+        };
+        // the judge is past all steps but the last, which it answers with the policy named; or stops at the 65th create
+        let whole = judged[..] == [lines[0][2] - 1, 1, lines[0][1], 1];
+        assert!(whole || judged[1..] == [2, 30, 1], "case {number}");
+        // with so few steps no shortest trace has 65 creates: an opening and an event are needed beside them
+        assert!(whole || lines[0][2] >= 67, "case {number}");
+        past_limits += usize::from(!whole);
+    }
+    assert!([(0, 0), (1, 2), (1, 3), (1, 199), (1, 200), (3, 0), (5, 0)].iter().all(|due| seen.contains(due)), "{seen:?}");
+    assert!([201, 202].iter().all(|length| longer.contains(length)), "{longer:?}");
+    assert_eq!(past_limits, 1);
+}
+
+fn numbers(line: &str) -> Vec<u64> {
+    line.split(' ').map(|word| word.parse().unwrap()).collect()
+}
+
+fn least(policies: &[u8], outline: &[u8], policy: usize) -> u64 {
+    let (edges, nodes) = tables(policies, outline).unwrap();
+    shortest_length(&edges, &nodes, policy).unwrap()
 }
 
 #[test]

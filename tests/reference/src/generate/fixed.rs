@@ -1,5 +1,6 @@
 //! Cases that come with every seed: the paper's examples and all borders.
 
+use super::malformed;
 use super::traces::long_case;
 use super::Case;
 use crate::damage::{crowded, damaged, rows, sheet, Text};
@@ -65,6 +66,8 @@ pub fn trace_cases() -> Vec<Case> {
     cases.extend(with_policies(wrong, &trace(TRACE)));
     cases.extend(with_other(&policies(P), two_wrong_lines(TRACE_NAMES, "0 1 3", "0 32 3")));
     cases.extend(both_refused(&trace(TRACE)));
+    cases.extend(with_policies(malformed::policies(), &trace(TRACE)));
+    cases.extend(with_other(&policies(P), malformed::traces()));
     cases
 }
 
@@ -84,6 +87,7 @@ pub fn outline_cases() -> Vec<Case> {
     let policy_damage = damaged(&policies(P)).into_iter().step_by(5).collect();
     cases.extend(with_policies(policy_damage, &outline(OUTLINE_I)));
     cases.extend(both_refused(&outline(OUTLINE_I)));
+    cases.extend(with_other(&policies(P), malformed::outlines()));
     cases
 }
 

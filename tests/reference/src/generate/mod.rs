@@ -2,6 +2,7 @@
 
 pub mod counterexamples;
 pub mod fixed;
+pub mod malformed;
 pub mod outlines;
 pub mod policies;
 pub mod states;

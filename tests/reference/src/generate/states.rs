@@ -6,9 +6,44 @@ use crate::policy::{Edge, POLICIES, STATICS};
 use crate::rng::Rng;
 use crate::state::{Call, State};
 
+/// The fixed calls, then random ones.
 pub fn calls(seed: u64, count: usize) -> Vec<Call> {
     let mut rng = Rng::new(seed);
-    (0..count).map(|_| random_call(&mut rng)).collect()
+    let random = std::iter::repeat_with(|| random_call(&mut rng));
+    fixed_calls().into_iter().chain(random).take(count).collect()
+}
+
+/// States whose kept sets disagree with their instance sets, either way: an offending state that is kept and that no instance may be in,
+/// or one that an instance may be in and that is not kept. At an opening, a closing and events of a policy that is open, on a static and on
+/// a created resource and at a create; the event is an offending one, one that leaves the offending state, or one that moves nothing.
+fn fixed_calls() -> Vec<Call> {
+    let edges = vec![Edge::new([2, 0, 1, 1, 0, 6]), Edge::new([2, 6, 2, 1, 0, 0])];
+    let steps = [
+        Step::open(2),
+        Step::open(3),
+        Step::close(2),
+        Step::close(3),
+        Step::event(1, 5),
+        Step::event(2, 5),
+        Step::event(3, 5),
+        Step::event(2, 40),
+        Step::event(3, 40),
+        Step::event(CREATE, 41),
+    ];
+    let mut calls = Vec::new();
+    for step in steps {
+        for (kept, of_5, of_40) in [(64, 1, 1), (128, 1, 1), (1, 64, 1), (1, 1, 128), (0, 65, 1), (65, 64, 1), (1, 1, 1)] {
+            let mut state = State { count: 1, ..State::start() };
+            state.created[0] = 40;
+            state.openings[2] = 2;
+            state.openings[3] = 1;
+            state.kept[2] = kept;
+            state.sets[5][2] = of_5;
+            state.sets[17][2] = of_40;
+            calls.push(Call { edges: edges.clone(), step, state });
+        }
+    }
+    calls
 }
 
 fn random_call(rng: &mut Rng) -> Call {
@@ -41,6 +76,7 @@ fn random_state(rng: &mut Rng, palette: &Palette) -> State {
         }
     }
     fill_sets(rng, &mut state);
+    fill_kept(rng, &mut state);
     state
 }
 
@@ -85,6 +121,23 @@ fn fill_sets(rng: &mut Rng, state: &mut State) {
                 *mask &= 0x3f;
             }
         }
+    }
+}
+
+/// What the instances in use may be in, in half of the states; else fewer, more, or anything at all.
+fn fill_kept(rng: &mut Rng, state: &mut State) {
+    let used = 17 + state.count as usize;
+    let sort = rng.below(10);
+    for policy in 0..POLICIES {
+        let gathered = state.sets[..used].iter().fold(0, |all, row| all | row[policy]);
+        let any = rng.below(256) as u8;
+        state.kept[policy] = match sort {
+            0..=4 => gathered,
+            5..=6 => gathered & any,
+            7 => gathered | any,
+            8 => gathered | any & 0x3f,
+            _ => any,
+        };
     }
 }
 
