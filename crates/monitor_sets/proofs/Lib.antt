@@ -1,5 +1,6 @@
 -- The laws that the proofs of the functions cite.
 pub mod CreatedLaws
+pub mod OrderLaws
 pub mod SetLaws
 pub mod PlaceLaws
 pub mod MovedLaws

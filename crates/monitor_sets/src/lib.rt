@@ -1,10 +1,11 @@
-// What the judge keeps of the past, array by array: the created resources, and the sets of states of the instances.
+// What the judge keeps of the past, array by array: the created resources, the sets of states of the instances, and the order of openings.
 use usage::MOST_CREATED;
 use usage::POLICIES;
 use usage::STATICS;
 
 pub mod created;
 pub mod instances;
+pub mod order;
 
 // The instance of every resource that never occurred; those below are the static resources'.
 pub const UNSEEN: usize = STATICS as usize;
