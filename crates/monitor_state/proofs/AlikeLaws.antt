@@ -10,7 +10,7 @@ use lib.ListN.{getD, getElem?, take, set}
 use borrow.Author.Tests.{eq-eqb, eqb-true, lt-leb, le-leb, leb-true, le-ltb, ltb-true}
 use Rattle.usage.specs.declared.Edge.{Edge}
 use Rattle.usage.specs.declared.RawStep.{RawStep}
-use Rattle.usage.specs.Limits.{statics, resources, actions, policies, mostCreated, mostOpen, within, _until_, unused}
+use Rattle.usage.specs.Limits.{statics, resources, actions, policies, mostCreated, mostUnclosed, within, _until_, unused}
 use Rattle.usage.specs.Past.{Step, event, opening, closing}
 use Rattle.usage.specs.Judge.{stepKinds, guard, inRange, stepOf}
 use Rattle.usage.specs.Tables.{edgesOf, edgeTable}
@@ -25,8 +25,8 @@ use Rattle.monitor_state.specs.declared.State.{State}
 use Rattle.monitor_state.specs.declared.Answer.{Answer}
 use Rattle.monitor_state.specs.declared.Answer.the-variants.{Allowed, Violated}
 use Rattle.monitor_state.specs.declared.Judgement.{Judgement}
-use Rattle.monitor_state.specs.Judge.{startState, live, listed, distinct, dynamic, stateOk, placeFrom, placeOf, used, movedSets}
-use Rattle.monitor_state.specs.Judge.{createdIn, movedIn, gathered, withUnclosed, after, broken, refusal, refuse, halt, settle}
+use Rattle.monitor_state.specs.Judge.{startState, live, listed, distinct, dynamic, createdOk, orderOk, stateOk, placeFrom, placeOf}
+use Rattle.monitor_state.specs.Judge.{used, movedSets, createdIn, movedIn, gathered, withOpenings, after, broken, refusal, refuse, halt, settle}
 use Rattle.monitor_state.specs.Judge.{judgeStep, judgeRead, judgeOf, answersOf}
 use Rattle.monitor_state.specs.Renamed.{Renaming, renamed, renamedStep, SameAnswers}
 
@@ -74,6 +74,8 @@ renamedState f s = record {
   created = map (renamed f) (s .created);
   count = s .count;
   unclosed = s .unclosed;
+  order = s .order;
+  depth = s .depth;
   halted = s .halted;
 }
 
@@ -184,10 +186,11 @@ module _ (f : ℕ → ℕ) (R : Renaming f) where
   live-renamed s = take-map (renamed f) (s .count) (s .created)
 
   state-renamed : (s : State) → stateOk (renamedState f s) ≡ stateOk s
-  unfolding stateOk
+  unfolding stateOk createdOk
   state-renamed s =
-      ap (λ (l : List ℕ). leb (s .count) mostCreated && (every dynamic l && distinct l)) (live-renamed s)
-      ∙ ap₂ (λ (b c : Bool). leb (s .count) mostCreated && (b && c)) (every-map (renamed f) dynamic dynamic-same (live s))
+      let o : Bool = orderOk (s .depth) (s .order) (s .unclosed) in
+      ap (λ (l : List ℕ). (leb (s .count) mostCreated && (every dynamic l && distinct l)) && o) (live-renamed s)
+      ∙ ap₂ (λ (b c : Bool). (leb (s .count) mostCreated && (b && c)) && o) (every-map (renamed f) dynamic dynamic-same (live s))
       (distinct-map (renamed f) number-same (live s))
 
   listed-renamed : (s : State) (r : ℕ) → listed (renamed f r) (live (renamedState f s)) ≡ listed r (live s)
@@ -227,7 +230,7 @@ module _ (f : ℕ → ℕ) (R : Renaming f) where
     moved-renamed a r s = rw (place-renamed s r, sets-renamed a r (placeOf s r) (used s) (s .sets))
 
     after-renamed : (s : State) (step : Step) → after es (renamedState f s) (renamedRead f step) ≡ renamedState f (after es s step)
-    unfolding after withUnclosed
+    unfolding after withOpenings
     after-renamed s (event zero r) = ap (movedIn es 0 (renamed f r)) (created-renamed s r) ∙ moved-renamed 0 r (createdIn s r)
     after-renamed s (event (suc a) r) = moved-renamed (suc a) r s
     after-renamed s (opening p) = refl

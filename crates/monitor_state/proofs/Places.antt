@@ -14,7 +14,7 @@ use Rattle.usage.specs.Tests.{every}
 use Rattle.usage.proofs.Logic.{not-both, or-left, or-right, or-cases, and-left, and-right, and-both}
 use Rattle.automaton.proofs.MoveLaws.{Own}
 use Rattle.monitor_state.specs.declared.State.{State}
-use Rattle.monitor_state.specs.Judge.{live, listed, distinct, dynamic, stateOk, placeFrom, placeOf, used}
+use Rattle.monitor_state.specs.Judge.{live, listed, distinct, dynamic, createdOk, orderOk, stateOk, placeFrom, placeOf, used}
 use Rattle.monitor_state.proofs.ListLaws.{every-at, listed-at, place-absent, place-present, place-of}
 
 pub place-static : (s : State) (x : ℕ) → x < statics → placeOf s x ≡ x
@@ -116,23 +116,29 @@ pub record StateOk (s : State) : Type 0 where
   pub few : s .count ≤ mostCreated
   pub range : every dynamic (live s) ≡ true
   pub apart : distinct (live s) ≡ true
+  pub ordered : orderOk (s .depth) (s .order) (s .unclosed) ≡ true
 
 pub state-parts : (s : State) → stateOk s ≡ true → StateOk s
-unfolding stateOk
+unfolding stateOk createdOk
 state-parts s h =
+    let o : Bool = orderOk (s .depth) (s .order) (s .unclosed) in
+    let c : createdOk (s .count) (s .created) ≡ true = and-left (createdOk (s .count) (s .created)) o h in
     let b : (every dynamic (live s) && distinct (live s)) ≡ true =
-    and-right (leb (s .count) mostCreated) (every dynamic (live s) && distinct (live s)) h in
+    and-right (leb (s .count) mostCreated) (every dynamic (live s) && distinct (live s)) c in
     record {
-      few = leb-true (s .count) mostCreated (and-left (leb (s .count) mostCreated) (every dynamic (live s) && distinct (live s)) h);
+      few = leb-true (s .count) mostCreated (and-left (leb (s .count) mostCreated) (every dynamic (live s) && distinct (live s)) c);
       range = and-left (every dynamic (live s)) (distinct (live s)) b;
       apart = and-right (every dynamic (live s)) (distinct (live s)) b;
+      ordered = and-right (createdOk (s .count) (s .created)) o h;
     }
 
 pub parts-state : (s : State) → StateOk s → stateOk s ≡ true
-unfolding stateOk
+unfolding stateOk createdOk
 parts-state s p =
-    and-both (leb (s .count) mostCreated) (every dynamic (live s) && distinct (live s)) (le-leb (s .count) mostCreated (p .few))
-    (and-both (every dynamic (live s)) (distinct (live s)) (p .range) (p .apart))
+    and-both (createdOk (s .count) (s .created)) (orderOk (s .depth) (s .order) (s .unclosed))
+    (and-both (leb (s .count) mostCreated) (every dynamic (live s) && distinct (live s)) (le-leb (s .count) mostCreated (p .few))
+    (and-both (every dynamic (live s)) (distinct (live s)) (p .range) (p .apart)))
+    (p .ordered)
 
 module _ (s : State) (n : length (s .created) ≡ mostCreated) (p : StateOk s) where
   pub live-length : length (live s) ≡ s .count

@@ -7,18 +7,21 @@ use mathlib.Core.Logic.{_⊎_, inl, inr, _↔_}
 use native.Mathlib.Numerals.{add-one}
 use native.Mathlib.Omega.{arith}
 use lib.Dec.{eqb}
-use lib.ListN.{getD, set, length-set}
+use lib.ListN.{length, getD, set, length-set}
 use lib.Seq.{getD-set-same, getD-set-other}
 use borrow.Author.Tests.{eq-eqb, ne-eqb, eqb-true, eqb-false}
 use Rattle.usage.specs.declared.Edge.{Edge}
-use Rattle.usage.specs.Limits.{statics, resources, policies, mostCreated}
+use Rattle.usage.specs.Limits.{statics, resources, policies, mostCreated, mostUnclosed}
 use Rattle.usage.specs.Policy.{Sees}
 use Rattle.usage.specs.Past.{Step, event, opening, closing, Past, May, opened, closed, addIf, count, creates, openings, closings, Created}
+use Rattle.usage.specs.Past.{without, openStack}
 use Rattle.usage.proofs.PastLaws.{before-opening, before-closing, member-event}
 use Rattle.usage.proofs.JudgeLaws.{Fits}
+use Rattle.usage.proofs.StackLaws.{without-first}
 use Rattle.usage.proofs.Logic.{clash, by-cases, or-left, or-right, or-cases}
 use Rattle.automaton.proofs.MoveLaws.{Ends}
 use Rattle.monitor_sets.specs.Instances.{setPlaces}
+use Rattle.monitor_sets.proofs.OrderLaws.{OrderOk, order-parts, parts-order, order-some, opened-ok, closed-ok, stack-more, stack-top}
 use Rattle.monitor_state.specs.declared.State.{State}
 use Rattle.monitor_state.specs.Judge.{
   live,
@@ -30,7 +33,10 @@ use Rattle.monitor_state.specs.Judge.{
   movedSets,
   gathered,
   movedIn,
-  withUnclosed,
+  withOpenings,
+  openingsOf,
+  stackIn,
+  lastOpened,
   after,
 }
 use Rattle.monitor_state.specs.Represents.{Tracks, Represents}
@@ -54,15 +60,15 @@ created-before n m = by-cases (List·Memᴰ·cases-cons m) (λ e. absurd (n e)) 
 abbrev pub Ready : State → Step → Type 0
 Ready s (event zero r) = (statics ≤ r) × (listed r (live s) ≡ false) × (s .count < mostCreated)
 Ready s (event (suc a) r) = known s r ≡ true
-Ready s (opening p) = Unit {0}
-Ready s (closing p) = 0 < getD (s .unclosed) p 0
+Ready s (opening p) = s .depth < mostUnclosed
+Ready s (closing p) = (0 < openingsOf s p) × (lastOpened s ≡ p)
 
 module _ (es : List Edge) (v : Ends es) (past : Past) (h : Bool) (s : State) (R : Represents es past h s) where
   w : StateOk s
   w = state-parts s (R .well)
 
   event-represents : (a r : ℕ) → known s r ≡ true → Represents es (event (suc a) r ∷ past) h (movedIn es (suc a) r s)
-  unfolding movedIn movedSets gathered count stateOk
+  unfolding movedIn movedSets gathered count openStack stateOk
   event-represents a r k = record {
     halted = R .halted;
     well = R .well;
@@ -71,10 +77,12 @@ module _ (es : List Edge) (v : Ends es) (past : Past) (h : Bool) (s : State) (R 
     made = λ x. (λ e. List·Memᴰ·tail (R .made x .0 e), λ m. R .made x .1 (created-before (λ e. not-create e) m));
     number = R .number ∙ sym (ap (λ (b : Bool). addIf b (creates past)) (ne-eqb (suc a) 0 (λ e. omega arith)));
     open-count = R .open-count;
+    stack = R .stack;
     sets-length = length-from _ 0 setPlaces;
     possible-length = length-from _ 0 policies;
     created-length = R .created-length;
     unclosed-length = R .unclosed-length;
+    order-length = R .order-length;
     bytes = moved-bytes es (suc a) r s (R .bytes);
     possible-bytes = gathered-bytes (used s) (t .sets) (moved-bytes es (suc a) r s (R .bytes));
   }
@@ -104,7 +112,7 @@ module _ (es : List Edge) (v : Ends es) (past : Past) (h : Bool) (s : State) (R 
         back (inr m) = or-left (listed x (live s)) (eqb r x) (R .made x .1 m)
 
     create-represents : Represents es (event 0 r ∷ past) h (movedIn es 0 r (createdIn s r))
-    unfolding movedIn movedSets gathered createdIn count stateOk
+    unfolding movedIn movedSets gathered createdIn count openStack stateOk
     create-represents = record {
       halted = R .halted;
       well = parts-state t u;
@@ -114,10 +122,12 @@ module _ (es : List Edge) (v : Ends es) (past : Past) (h : Bool) (s : State) (R 
       made = create-made;
       number = add-one (s .count) ∙ ap suc (R .number);
       open-count = R .open-count;
+      stack = R .stack;
       sets-length = length-from _ 0 setPlaces;
       possible-length = length-from _ 0 policies;
       created-length = length-set (s .created) (s .count) r ∙ R .created-length;
       unclosed-length = R .unclosed-length;
+      order-length = R .order-length;
       bytes = moved-bytes es 0 r t (created-bytes s r (R .bytes));
       possible-bytes = gathered-bytes (used t) (movedIn es 0 r t .sets) (moved-bytes es 0 r t (created-bytes s r (R .bytes)));
     }
@@ -134,17 +144,19 @@ module _ (es : List Edge) (v : Ends es) (past : Past) (h : Bool) (s : State) (R 
             (created-tracks s (R .created-length) w r (c .2) (c .1) (c .0) es past (R .tracks))
             (created-known s (R .created-length) w r (c .2) (c .1) (c .0))
 
-  -- an opening or closing changes one count alone
-  unclosed-represents : (p n : ℕ) (step : Step) → p < policies
+  -- an opening or closing changes one count and the order alone
+  openings-represents : (p n : ℕ) (order : List ℕ) (depth : ℕ) (step : Step) → p < policies
       → ((x p q : ℕ) → May false es p (Sees x) past q ↔ May false es p (Sees x) (step ∷ past) q)
       → ((x : ℕ) → Created x past ↔ Created x (step ∷ past)) → creates (step ∷ past) ≡ creates past
       → closings p (step ∷ past) + n ≡ openings p (step ∷ past)
       → ((p′ : ℕ) → (p ≡ p′ → ⊥) → (closings p′ (step ∷ past) ≡ closings p′ past) × (openings p′ (step ∷ past) ≡ openings p′ past))
-      → Represents es (step ∷ past) h (withUnclosed s p n)
-  unfolding withUnclosed placeOf stateOk
-  unclosed-represents p n step l may cr num own other = record {
+      → OrderOk depth order (set (s .unclosed) p n) → stackIn depth order ≡ openStack (step ∷ past) → length order ≡ mostUnclosed
+      → Represents es (step ∷ past) h (withOpenings s (set (s .unclosed) p n) order depth)
+  unfolding withOpenings placeOf
+  openings-represents p n order depth step l may cr num own other ok stack long = record {
     halted = R .halted;
-    well = R .well;
+    well = parts-state (withOpenings s (set (s .unclosed) p n) order depth)
+        (record { few = w .few; range = w .range; apart = w .apart; ordered = parts-order depth order (set (s .unclosed) p n) ok });
     tracks = λ x p q k l. (λ h. may x p q .0 (R .tracks x p q k l .0 h), λ m. R .tracks x p q k l .1 (may x p q .1 m));
     gathers = λ p q k l. (
       λ h. let m = R .gathers p q k l .0 h in (m .0, may (m .0) p q .0 (m .1)),
@@ -153,10 +165,12 @@ module _ (es : List Edge) (v : Ends es) (past : Past) (h : Bool) (s : State) (R 
     made = λ x. (λ h. cr x .0 (R .made x .0 h), λ m. R .made x .1 (cr x .1 m));
     number = R .number ∙ sym num;
     open-count = λ p′. at p′ (eqb p p′) refl;
+    stack = stack;
     sets-length = R .sets-length;
     possible-length = R .possible-length;
     created-length = R .created-length;
     unclosed-length = length-set (s .unclosed) p n ∙ R .unclosed-length;
+    order-length = long;
     bytes = R .bytes;
     possible-bytes = R .possible-bytes;
   }
@@ -171,33 +185,45 @@ module _ (es : List Edge) (v : Ends es) (past : Past) (h : Bool) (s : State) (R 
           ap₂ (λ (c k : ℕ). c + k) (o .0) (getD-set-other (s .unclosed) p p′ n 0 (λ q. eqb-false p p′ e (sym q))) ∙ R .open-count p′
           ∙ sym (o .1)
 
-  opening-represents : (p : ℕ) → p < policies → Represents es (opening p ∷ past) h (withUnclosed s p (getD (s .unclosed) p 0 + 1))
-  unfolding count
-  opening-represents p l =
-      unclosed-represents p (getD (s .unclosed) p 0 + 1) (opening p) l
+  in-order : OrderOk (s .depth) (s .order) (s .unclosed)
+  in-order = order-parts (s .depth) (s .order) (s .unclosed) (w .ordered)
+
+  opening-represents : (p : ℕ) → p < policies → s .depth < mostUnclosed → Represents es (opening p ∷ past) h (after es s (opening p))
+  unfolding after count openStack
+  opening-represents p l room =
+      openings-represents p (openingsOf s p + 1) (set (s .order) (s .depth) p) (s .depth + 1) (opening p) l
       (λ x p q. (λ m. opened m, λ m. let (q₀, m₀, f) = before-opening m in subst (May false es p (Sees x) past) f m₀))
       (λ x. (λ m. List·Memᴰ·tail m, λ m. created-before (λ e. clash (cc)) m)) refl
       (own ∙ sym (ap (λ (b : Bool). addIf b (openings p past)) (eq-eqb p p refl)))
       (λ p′ h. (refl, ap (λ (b : Bool). addIf b (openings p′ past)) (ne-eqb p p′ h)))
+      (opened-ok (s .depth) (s .order) (s .unclosed) p l (R .unclosed-length) in-order (R .order-length) room)
+      (stack-more (s .depth) (s .order) p (omega (arith, R .order-length)) ∙ ap (λ (l : List ℕ). p ∷ l) (R .stack))
+      (length-set (s .order) (s .depth) p ∙ R .order-length)
     where
-      own : closings p past + (getD (s .unclosed) p 0 + 1) ≡ suc (openings p past)
+      own : closings p past + (openingsOf s p + 1) ≡ suc (openings p past)
       own = omega (arith, R .open-count p)
 
-  closing-represents : (p : ℕ) → p < policies → 0 < getD (s .unclosed) p 0
-      → Represents es (closing p ∷ past) h (withUnclosed s p (getD (s .unclosed) p 0 - 1))
-  unfolding count
-  closing-represents p l o =
-      unclosed-represents p (getD (s .unclosed) p 0 - 1) (closing p) l (λ x p q. (λ m. closed m, λ m. before-closing m))
+  closing-represents : (p : ℕ) → p < policies → 0 < openingsOf s p → lastOpened s ≡ p
+      → Represents es (closing p ∷ past) h (after es s (closing p))
+  unfolding after count openStack
+  closing-represents p l o last =
+      openings-represents p (openingsOf s p - 1) (s .order) (s .depth - 1) (closing p) l (λ x p q. (λ m. closed m, λ m. before-closing m))
       (λ x. (λ m. List·Memᴰ·tail m, λ m. created-before (λ e. clash (cc)) m)) refl
-      (ap (λ (b : Bool). addIf b (closings p past) + (getD (s .unclosed) p 0 - 1)) (eq-eqb p p refl) ∙ own)
+      (ap (λ (b : Bool). addIf b (closings p past) + (openingsOf s p - 1)) (eq-eqb p p refl) ∙ own)
       (λ p′ h. (ap (λ (b : Bool). addIf b (closings p′ past)) (ne-eqb p p′ h), refl))
+      (closed-ok (s .depth) (s .order) (s .unclosed) p l (R .unclosed-length) in-order o last)
+      (sym (ap (without p) (sym (R .stack) ∙ stack-top (s .depth) (s .order) some last) ∙ without-first p (stackIn (s .depth - 1) (s .order))))
+      (R .order-length)
     where
-      own : suc (closings p past) + (getD (s .unclosed) p 0 - 1) ≡ openings p past
+      some : 0 < s .depth
+      some = order-some (s .depth) (s .order) (s .unclosed) in-order p l o
+
+      own : suc (closings p past) + (openingsOf s p - 1) ≡ openings p past
       own = omega (arith, R .open-count p)
 
   pub after-represents : (step : Step) → Fits step → Ready s step → Represents es (step ∷ past) h (after es s step)
   unfolding after
   after-represents (event zero r) f c = create-represents r c (f .1)
   after-represents (event (suc a) r) f c = event-represents a r c
-  after-represents (opening p) f c = opening-represents p f
-  after-represents (closing p) f c = closing-represents p f c
+  after-represents (opening p) f c = opening-represents p f c
+  after-represents (closing p) f c = closing-represents p f (c .0) (c .1)

@@ -1,25 +1,28 @@
 -- The number that the judge's definition refuses a step with is the lowest whose case the past makes it.
-use Prim.Native.Nat.{ℕ, zero, suc, _+_, _<_, _≤_}
-use mathlib.Core.Path.{_≡_, refl, subst}
+use Prim.Native.Nat.{ℕ, zero, suc, _<_, _≤_}
+use mathlib.Core.Path.{_≡_, refl, sym, ap, _∙_, subst}
 use mathlib.Core.Bool.{Bool, true, false, _||_, cond}
 use mathlib.Core.List.{List}
 use mathlib.Core.Logic.{_⊎_, inl, inr}
-use mathlib.Core.Option.{Option, none, some}
+use mathlib.Core.Option.{Option, none, some, Option·some-injective}
 use native.Mathlib.Omega.{arith}
-use lib.Dec.{leb, ltb}
-use lib.ListN.{getD}
-use borrow.Author.Tests.{ltb-true, ltb-false, leb-true, leb-false}
+use lib.Dec.{eqb, leb, ltb}
+use lib.ListN.{length, getElem?}
+use borrow.Author.Tests.{eqb-true, eqb-false, ltb-true, ltb-false, leb-true, leb-false}
 use Rattle.usage.specs.declared.Edge.{Edge}
 use Rattle.usage.specs.declared.RawStep.{RawStep}
-use Rattle.usage.specs.Limits.{statics, mostCreated, mostOpen}
-use Rattle.usage.specs.Past.{Step, event, opening, closing, Past, Created, openings, closings}
-use Rattle.usage.specs.Judge.{stepOf, Case, is-halted, no-step, creates-static, creates-again, not-created, not-open, too-many, too-deep}
+use Rattle.usage.specs.Limits.{statics, policies, mostCreated, mostUnclosed}
+use Rattle.usage.specs.Past.{Step, event, opening, closing, Past, Created, openStack}
+use Rattle.usage.specs.Judge.{stepOf, Case, is-halted, no-step, creates-static, creates-again, not-created, not-open, not-last, too-many}
+use Rattle.usage.specs.Judge.{too-deep}
 use Rattle.usage.specs.Judge.{Refuses, Taken}
 use Rattle.usage.proofs.Logic.{by-cases, false-true, not-both, or-left, or-right}
-use Rattle.usage.proofs.JudgeLaws.{CaseOf, case-of}
+use Rattle.usage.proofs.JudgeLaws.{CaseOf, case-of, step-fits}
+use Rattle.monitor_sets.proofs.OrderLaws.{length-stack, stack-top, order-parts, order-some}
 use Rattle.monitor_state.specs.declared.State.{State}
-use Rattle.monitor_state.specs.Judge.{live, listed, refusal}
+use Rattle.monitor_state.specs.Judge.{live, listed, openingsOf, lastOpened, refusal}
 use Rattle.monitor_state.specs.Represents.{Represents}
+use Rattle.monitor_state.proofs.Places.{state-parts}
 use Rattle.monitor_state.proofs.Preserve.{Ready}
 use Rattle.monitor_state.proofs.BrokenLaws.{open-count-pos, count-pos-open}
 
@@ -33,6 +36,7 @@ case-from (creates-static e k) = inr (omega arith)
 case-from (creates-again e k) = inr (omega arith)
 case-from (not-created e k n) = inr (omega arith)
 case-from (not-open e k) = inr (omega arith)
+case-from (not-last e k n) = inr (omega arith)
 case-from (too-many e k) = inr (omega arith)
 case-from (too-deep e k) = inr (omega arith)
 
@@ -103,31 +107,53 @@ module _ (es : List Edge) (past : Past) (h : Bool) (s : State) (R : Represents e
             omega arith;
       })
 
-  settled-opening : (p : ℕ) → stepOf raw ≡ some (opening p) → (b : Bool) → leb mostOpen (getD (s .unclosed) p 0) ≡ b
-      → Settled past s raw (opening p) (cond b (some 31) none)
+  -- as many openings are unclosed as the order has
+  stack-length : length (openStack past) ≡ s .depth
+  stack-length = ap length (sym (R .stack)) ∙ length-stack (s .depth) (s .order)
+
+  settled-opening : (p : ℕ) → stepOf raw ≡ some (opening p) → (b : Bool) → leb mostUnclosed (s .depth) ≡ b
+      → Settled past s raw (opening p) (cond b (some 32) none)
   settled-opening p e true b =
       refuses (record {
-        stated = too-deep e (omega (arith, leb-true mostOpen (getD (s .unclosed) p 0) b, R .open-count p));
-        first = λ n l k. let z : n ≡ 31 = case-of e k .0 in omega arith;
+        stated = too-deep e (omega (arith, leb-true mostUnclosed (s .depth) b, stack-length));
+        first = λ n l k. let z : n ≡ 32 = case-of e k .0 in omega arith;
       })
   settled-opening p e false b =
-      takes (λ n k. let z : closings p past + mostOpen ≤ openings p past = case-of e k .1 in
-      omega (arith, leb-false mostOpen (getD (s .unclosed) p 0) b, R .open-count p)) tt
+      takes (λ n k. let z : mostUnclosed ≤ length (openStack past) = case-of e k .1 in
+      omega (arith, leb-false mostUnclosed (s .depth) b, stack-length)) (leb-false mostUnclosed (s .depth) b)
 
-  settled-closing : (p : ℕ) → stepOf raw ≡ some (closing p) → (b : Bool) → ltb 0 (getD (s .unclosed) p 0) ≡ b
-      → Settled past s raw (closing p) (cond b none (some 25))
-  settled-closing p e true b =
-      let l : 0 < getD (s .unclosed) p 0 = ltb-true 0 (getD (s .unclosed) p 0) b in
-      takes (λ n k. case-of e k .1 (count-pos-open es past h s R p l)) l
-  settled-closing p e false b =
+  -- the policy opened last, where something is open
+  last-is : (p : ℕ) → p < policies → 0 < openingsOf s p → getElem? (openStack past) 0 ≡ some (lastOpened s)
+  last-is p l o =
+      let w = order-parts (s .depth) (s .order) (s .unclosed) (state-parts s (R .well) .ordered) in
+      ap (λ (l : List ℕ). getElem? l 0)
+      (sym (R .stack) ∙ stack-top (s .depth) (s .order) (order-some (s .depth) (s .order) (s .unclosed) w p l o) refl)
+
+  settled-closing : (p : ℕ) → stepOf raw ≡ some (closing p) → (b : Bool) → ltb 0 (openingsOf s p) ≡ b
+      → (c : Bool) → eqb (lastOpened s) p ≡ c
+      → Settled past s raw (closing p) (cond b (cond c none (some 26)) (some 25))
+  settled-closing p e true b true c =
+      let l : 0 < openingsOf s p = ltb-true 0 (openingsOf s p) b in
+      let last : lastOpened s ≡ p = eqb-true (lastOpened s) p c in
+      takes (λ n k. by-cases (case-of e k) (λ t. t .1 (count-pos-open es past h s R p l))
+      (λ t. t .2 (last-is p (step-fits raw (closing p) e) l ∙ ap some last))) (l, last)
+  settled-closing p e true b false c =
+      let l : 0 < openingsOf s p = ltb-true 0 (openingsOf s p) b in
+      let o = count-pos-open es past h s R p l in
       refuses (record {
-        stated = not-open e (λ o. let z = open-count-pos es past h s R p o in omega (arith, ltb-false 0 (getD (s .unclosed) p 0) b));
-        first = λ n l k. let z : n ≡ 25 = case-of e k .0 in omega arith;
+        stated = not-last e o (λ t. eqb-false (lastOpened s) p c
+            (Option·some-injective _ _ (sym (last-is p (step-fits raw (closing p) e) l) ∙ t)));
+        first = λ n k c. by-cases (case-of e c) (λ t. t .1 o) (λ t. omega (arith, t .0));
+      })
+  settled-closing p e false b c f =
+      refuses (record {
+        stated = not-open e (λ o. let z = open-count-pos es past h s R p o in omega (arith, ltb-false 0 (openingsOf s p) b));
+        first = λ n l k. by-cases (case-of e k) (λ t. omega (arith, t .0)) (λ t. omega (arith, t .0));
       })
 
   pub settled : (step : Step) → stepOf raw ≡ some step → Settled past s raw step (refusal s step)
   unfolding refusal
   settled (event zero r) e = settled-create r e (ltb r statics) refl (listed r (live s)) refl (leb mostCreated (s .count)) refl
   settled (event (suc a) r) e = settled-event a r e (ltb r statics) refl (listed r (live s)) refl
-  settled (opening p) e = settled-opening p e (leb mostOpen (getD (s .unclosed) p 0)) refl
-  settled (closing p) e = settled-closing p e (ltb 0 (getD (s .unclosed) p 0)) refl
+  settled (opening p) e = settled-opening p e (leb mostUnclosed (s .depth)) refl
+  settled (closing p) e = settled-closing p e (ltb 0 (openingsOf s p)) refl (eqb (lastOpened s) p) refl

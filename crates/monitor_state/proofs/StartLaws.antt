@@ -11,14 +11,15 @@ use borrow.Author.Tests.{eq-eqb, eqb-true}
 use Rattle.usage.specs.declared.Edge.{Edge}
 use Rattle.usage.specs.Limits.{policies, states, mostCreated}
 use Rattle.usage.specs.Policy.{Sees, Moves}
-use Rattle.usage.specs.Past.{Past, event, opening, closing, May, start, moved, opened, closed, count}
+use Rattle.usage.specs.Past.{Past, event, opening, closing, May, start, moved, opened, closed, count, openStack, occurrences}
 use Rattle.usage.specs.Tests.{every}
 use Rattle.usage.proofs.Logic.{false-true}
 use Rattle.automaton.specs.Mask.{has}
 use Rattle.automaton.proofs.MaskLaws.{has-pow}
 use Rattle.automaton.proofs.MoveLaws.{Ends, moves-lt}
 use Rattle.monitor_sets.specs.Instances.{instances, setPlaces}
-use Rattle.monitor_state.specs.Judge.{listed, distinct, stateOk, placeOf, setAt, possibleIn, startState}
+use Rattle.monitor_sets.specs.Order.{agreeBelow}
+use Rattle.monitor_state.specs.Judge.{listed, distinct, createdOk, stackIn, orderOk, stateOk, placeOf, setAt, possibleIn, startState}
 use Rattle.monitor_state.specs.Represents.{Tracks, Gathers, Represents}
 use Rattle.monitor_state.proofs.Places.{place-lt}
 
@@ -51,7 +52,7 @@ replicate-below (suc n) a b zero h = h
 replicate-below (suc n) a b (suc k) h = replicate-below n a b k h
 
 begin-ok : stateOk startState ≡ true
-unfolding stateOk startState every distinct
+unfolding stateOk startState createdOk orderOk stackIn agreeBelow occurrences every distinct
 begin-ok = refl
 
 begin-created : length (startState .created) ≡ mostCreated
@@ -91,7 +92,7 @@ begin-gathers es p q k l = (to, back)
     back m = one ∙ eq-eqb 0 q (sym (may-start (m .1)))
 
 pub begin-represents : (es : List Edge) → Represents es [] false startState
-unfolding startState count listed
+unfolding startState count listed stackIn openStack
 begin-represents es = record {
   halted = refl;
   well = begin-ok;
@@ -99,11 +100,13 @@ begin-represents es = record {
   gathers = begin-gathers es;
   made = λ r. (λ e. false-true e, λ m. absurd (List·Memᴰ·not-nil m));
   number = refl;
+  stack = refl;
   open-count = λ p. zero-add (getD (replicate policies 0) p 0) ∙ zero-of (replicate-below policies 0 1 p (lit< tt));
   sets-length = length-replicate {A = ℕ} setPlaces 1;
   possible-length = refl;
   created-length = begin-created;
   unclosed-length = refl;
+  order-length = refl;
   bytes = λ k. replicate-below setPlaces 1 256 k (lit< tt);
   possible-bytes = λ p. replicate-below policies 1 256 p (lit< tt);
 }

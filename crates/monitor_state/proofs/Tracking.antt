@@ -159,11 +159,12 @@ module _ (s : State) (n : length (s .created) ≡ mostCreated) (w : StateOk s) (
         (every-snoc dynamic r (live s) (w .range)
         (and-both (leb statics r) (ltb r resources) (le-leb statics r dyn) (lt-ltb r resources h)));
     apart = subst (λ (l : List ℕ). distinct l ≡ true) (sym live-created) (distinct-snoc r (live s) (w .apart) new);
+    ordered = w .ordered;
   }
 
 pub moved-ok : (es : List Edge) (a r : ℕ) (s : State) → StateOk s → StateOk (movedIn es a r s)
 unfolding movedIn
-moved-ok es a r s w = record { few = w .few; range = w .range; apart = w .apart }
+moved-ok es a r s w = record { few = w .few; range = w .range; apart = w .apart; ordered = w .ordered }
 
 -- ── Sets stay bytes ──
 

@@ -66,10 +66,12 @@ halt-represents es past h s R = record {
   made = R .made;
   number = R .number;
   open-count = R .open-count;
+  stack = R .stack;
   sets-length = R .sets-length;
   possible-length = R .possible-length;
   created-length = R .created-length;
   unclosed-length = R .unclosed-length;
+  order-length = R .order-length;
   bytes = R .bytes;
   possible-bytes = R .possible-bytes;
 }

@@ -10,6 +10,7 @@ use Rattle.automaton.specs.Mask.{lowestIn}
 use Rattle.monitor_state.specs.declared.State.{State}
 use Rattle.monitor_state.specs.declared.Judgement.{Judgement}
 use Rattle.monitor_state.specs.declared.Told.{Told}
+use Rattle.monitor_state.specs.declared.Sizes.{Sizes}
 use Rattle.monitor_state.specs.declared.Answer.the-variants.{Allowed, Violated}
 use Rattle.monitor_state.specs.Judge.{broken, refusal, settle, judgeStep}
 use Rattle.monitor_state.specs.declared.Read.{Read}
@@ -24,20 +25,22 @@ says Nothing = none
 
 -- ── A state by its parts ──
 
-abbrev pub stateOf : List ℕ → List ℕ → List ℕ → ℕ → List ℕ → Bool → State
-stateOf sets possible created count unclosed halted = record {
+abbrev pub stateOf : List ℕ → List ℕ → List ℕ → ℕ → List ℕ → List ℕ → ℕ → Bool → State
+stateOf sets possible created count unclosed order depth halted = record {
   sets = sets;
   possible = possible;
   created = created;
   count = count;
   unclosed = unclosed;
+  order = order;
+  depth = depth;
   halted = halted;
 }
 
 -- what is told, with the arrays as they were left
-abbrev pub judgementOf : Told → List ℕ → List ℕ → List ℕ → List ℕ → Judgement
-judgementOf t sets possible created unclosed =
-    record { answer = t .answer; state = stateOf sets possible created (t .count) unclosed (t .halted) }
+abbrev pub judgementOf : Told → List ℕ → List ℕ → List ℕ → List ℕ → List ℕ → Judgement
+judgementOf t sets possible created unclosed order =
+    record { answer = t .answer; state = stateOf sets possible created (t .count) unclosed order (t .depth) (t .halted) }
 
 -- the judgement of a step that was read
 abbrev pub stepped : List Edge → State → Step → Judgement
@@ -48,7 +51,7 @@ abbrev pub settledBy : State → State → Judgement
 settledBy s t = settle (broken t) s t
 
 -- what is told of a step that leaves the policies `bad` broken
-unfoldable pub toldOf : ℕ → ℕ → ℕ → Told
+unfoldable pub toldOf : ℕ → Sizes → Sizes → Told
 toldOf bad before after =
-    cond (eqb bad 0) (record { answer = Allowed; count = after; halted = false })
-    (record { answer = Violated (lowestIn bad); count = before; halted = true })
+    cond (eqb bad 0) (record { answer = Allowed; count = after .count; depth = after .depth; halted = false })
+    (record { answer = Violated (lowestIn bad); count = before .count; depth = before .depth; halted = true })

@@ -7,7 +7,7 @@ use lib.Dec.{eqb, leb, ltb}
 use lib.ListN.{getD, take, set, replicate}
 use Rattle.usage.specs.declared.Edge.{Edge}
 use Rattle.usage.specs.declared.RawStep.{RawStep}
-use Rattle.usage.specs.Limits.{statics, resources, policies, mostCreated, mostOpen}
+use Rattle.usage.specs.Limits.{statics, policies, mostCreated, mostUnclosed}
 use Rattle.usage.specs.Past.{Step, event, opening, closing}
 use Rattle.usage.specs.Answers.{Verdict, allowed, violated, refused}
 use Rattle.usage.specs.Judge.{stepOf}
@@ -15,7 +15,8 @@ use Rattle.usage.specs.Tests.{every}
 use Rattle.usage.specs.Tables.{from, edgesOf, edgeTable}
 use Rattle.monitor_sets.specs.Instances.{firstCreated, instances, setPlaces}
 use Rattle.automaton.specs.Mask.{union, offends, lowestIn}
-unfoldable pub use Rattle.monitor_sets.specs.Created.{listed, distinct, placeFrom}
+unfoldable pub use Rattle.monitor_sets.specs.Created.{listed, distinct, placeFrom, createdOk}
+unfoldable pub use Rattle.monitor_sets.specs.Order.{stackIn, orderOk}
 pub use Rattle.monitor_sets.specs.Created.{dynamic}
 unfoldable pub use Rattle.monitor_sets.specs.Sets.{copied, movedSets, gathered}
 use Rattle.monitor_state.specs.declared.State.{State}
@@ -37,6 +38,8 @@ startState = record {
   created = replicate mostCreated 0;
   count = 0;
   unclosed = replicate policies 0;
+  order = replicate mostUnclosed 0;
+  depth = 0;
   halted = false;
 }
 
@@ -46,10 +49,10 @@ startState = record {
 abbrev pub live : State → List ℕ
 live s = take (s .count) (s .created)
 
--- "42 a state with more than 64 resources, one listed twice or outside 16 to 65,535"; a count of openings is a byte, so none is
--- above 255
+-- "42 a state with more than 64 resources, one listed twice or outside 16 to 65,535"; "42 also refuses an order longer than 64 or one
+-- that disagrees with the counts", so no policy is above 64 openings
 unfoldable pub stateOk : State → Bool
-stateOk s = leb (s .count) mostCreated && (every dynamic (live s) && distinct (live s))
+stateOk s = createdOk (s .count) (s .created) && orderOk (s .depth) (s .order) (s .unclosed)
 
 -- the place of x's instance: its own if x is static or created, else that of the unseen ones
 unfoldable pub placeOf : State → ℕ → ℕ
@@ -72,6 +75,8 @@ createdIn s r = record {
   created = set (s .created) (s .count) r;
   count = s .count + 1;
   unclosed = s .unclosed;
+  order = s .order;
+  depth = s .depth;
   halted = s .halted;
 }
 
@@ -83,24 +88,33 @@ movedIn es a r s = record {
   created = s .created;
   count = s .count;
   unclosed = s .unclosed;
+  order = s .order;
+  depth = s .depth;
   halted = s .halted;
 }
 
-unfoldable pub withUnclosed : State → ℕ → ℕ → State
-withUnclosed s p n = record {
+-- with other unclosed openings: their counts, their order and how many they are
+unfoldable pub withOpenings : State → List ℕ → List ℕ → ℕ → State
+withOpenings s unclosed order depth = record {
   sets = s .sets;
   possible = s .possible;
   created = s .created;
   count = s .count;
-  unclosed = set (s .unclosed) p n;
+  unclosed = unclosed;
+  order = order;
+  depth = depth;
   halted = s .halted;
 }
+
+-- the openings of p that are not closed
+abbrev pub openingsOf : State → ℕ → ℕ
+openingsOf s p = getD (s .unclosed) p 0
 
 unfoldable pub after : List Edge → State → Step → State
 after es s (event zero r) = movedIn es 0 r (createdIn s r)
 after es s (event (suc a) r) = movedIn es (suc a) r s
-after es s (opening p) = withUnclosed s p (getD (s .unclosed) p 0 + 1)
-after es s (closing p) = withUnclosed s p (getD (s .unclosed) p 0 - 1)
+after es s (opening p) = withOpenings s (set (s .unclosed) p (openingsOf s p + 1)) (set (s .order) (s .depth) p) (s .depth + 1)
+after es s (closing p) = withOpenings s (set (s .unclosed) p (openingsOf s p - 1)) (s .order) (s .depth - 1)
 
 -- ── The answer ──
 
@@ -110,22 +124,35 @@ possibleIn s p = getD (s .possible) p 0
 
 -- "the judge looks only at it": the open policies with an offending state among their possible ones, as a bit set
 unfoldable pub broken : State → ℕ
-broken s = union policies (λ p. cond (ltb 0 (getD (s .unclosed) p 0) && offends (possibleIn s p)) (2 ^ p) 0)
+broken s = union policies (λ p. cond (ltb 0 (openingsOf s p) && offends (possibleIn s p)) (2 ^ p) 0)
+
+-- "the policy opened last, among those not yet closed"
+abbrev pub lastOpened : State → ℕ
+lastOpened s = getD (s .order) (s .depth - 1) 0
 
 -- The number that refuses a step, if any.
 unfoldable pub refusal : State → Step → Option ℕ
 refusal s (event zero r) =
     cond (ltb r statics) (some 22) (cond (listed r (live s)) (some 23) (cond (leb mostCreated (s .count)) (some 30) none))
 refusal s (event (suc a) r) = cond (ltb r statics || listed r (live s)) none (some 24)
-refusal s (opening p) = cond (leb mostOpen (getD (s .unclosed) p 0)) (some 31) none
-refusal s (closing p) = cond (ltb 0 (getD (s .unclosed) p 0)) none (some 25)
+refusal s (opening p) = cond (leb mostUnclosed (s .depth)) (some 32) none
+refusal s (closing p) = cond (ltb 0 (openingsOf s p)) (cond (eqb (lastOpened s) p) none (some 26)) (some 25)
 
 unfoldable pub refuse : ℕ → State → Judgement
 refuse n s = record { answer = Refused n; state = s }
 
 -- "a halted state that is otherwise the one before the step"
 unfoldable pub halt : State → State
-halt s = record { sets = s .sets; possible = s .possible; created = s .created; count = s .count; unclosed = s .unclosed; halted = true }
+halt s = record {
+  sets = s .sets;
+  possible = s .possible;
+  created = s .created;
+  count = s .count;
+  unclosed = s .unclosed;
+  order = s .order;
+  depth = s .depth;
+  halted = true;
+}
 
 -- the answer, by the broken policies after the step, from the states before and after it
 unfoldable pub settle : ℕ → State → State → Judgement

@@ -6,13 +6,13 @@ use mathlib.Core.List.{List}
 use mathlib.Core.Logic.{_↔_}
 use lib.ListN.{length, getD}
 use Rattle.usage.specs.declared.Edge.{Edge}
-use Rattle.usage.specs.Limits.{policies, states, mostCreated}
+use Rattle.usage.specs.Limits.{policies, states, mostCreated, mostUnclosed}
 use Rattle.usage.specs.Policy.{Sees}
-use Rattle.usage.specs.Past.{Past, May, Created, creates, openings, closings}
+use Rattle.usage.specs.Past.{Past, May, Created, creates, openings, closings, openStack}
 use Rattle.monitor_sets.specs.Instances.{setPlaces}
 use Rattle.automaton.specs.Mask.{has}
 use Rattle.monitor_state.specs.declared.State.{State}
-use Rattle.monitor_state.specs.Judge.{live, listed, stateOk, placeOf, setAt, possibleIn}
+use Rattle.monitor_state.specs.Judge.{live, listed, stackIn, stateOk, placeOf, setAt, openingsOf, possibleIn}
 
 -- The set at x's instance holds exactly the states that x's instance may be in: for every number x, created or not.
 abbrev pub Tracks : List Edge → Past → State → Type 0
@@ -30,10 +30,12 @@ pub record Represents (es : List Edge) (past : Past) (h : Bool) (s : State) : Ty
   pub gathers : Gathers es past s
   pub made : (r : ℕ) → (listed r (live s) ≡ true) ↔ Created r past
   pub number : s .count ≡ creates past
-  pub open-count : (p : ℕ) → closings p past + getD (s .unclosed) p 0 ≡ openings p past
+  pub open-count : (p : ℕ) → closings p past + openingsOf s p ≡ openings p past
+  pub stack : stackIn (s .depth) (s .order) ≡ openStack past
   pub sets-length : length (s .sets) ≡ setPlaces
   pub possible-length : length (s .possible) ≡ policies
   pub created-length : length (s .created) ≡ mostCreated
   pub unclosed-length : length (s .unclosed) ≡ policies
+  pub order-length : length (s .order) ≡ mostUnclosed
   pub bytes : (k : ℕ) → getD (s .sets) k 0 < 256
   pub possible-bytes : (p : ℕ) → possibleIn s p < 256

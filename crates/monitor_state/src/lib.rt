@@ -2,6 +2,7 @@
 // read, and the answer to it. The definition of the judge stands in specs/, and proofs/ has that it answers as the whole past says.
 use monitor_sets::SETS;
 use usage::MOST_CREATED;
+use usage::MOST_UNCLOSED;
 use usage::POLICIES;
 use usage::RawStep;
 ghost use Prim.Native.Nat.{ℕ};
@@ -12,13 +13,16 @@ ghost use Rattle.monitor_state.specs.Code.{says, toldOf};
 
 // What the judge keeps between steps: the sets of states of the instances, as `monitor_sets::instances` lays them out; for each policy the
 // set of states that any of its instances may be in; the created resources, which are the first `count` numbers; for each policy its
-// openings that are not closed; and whether a step was violated.
+// openings that are not closed; the policies of all these openings in their order, the oldest first, which are the first `depth` numbers;
+// and whether a step was violated.
 pub struct State {
     pub sets: [u8; SETS],
     pub possible: [u8; POLICIES],
     pub created: [u32; MOST_CREATED],
     pub count: usize,
     pub unclosed: [u8; POLICIES],
+    pub order: [u8; MOST_UNCLOSED],
+    pub depth: usize,
     pub halted: bool,
 }
 
@@ -37,6 +41,7 @@ pub struct Judgement {
 pub struct Told {
     pub answer: Answer,
     pub count: usize,
+    pub depth: usize,
     pub halted: bool,
 }
 
@@ -67,32 +72,41 @@ pub fn read_step(step: RawStep) -> Read
 }
 
 // A refused step: nothing is changed.
-pub fn refused(n: u8, count: usize, before: bool) -> Told
-    ensures { λ r. ⌜ r ≡ record { answer = Refused n; count = count; halted = before } ⌝ }
+pub fn refused(n: u8, count: usize, depth: usize, before: bool) -> Told
+    ensures { λ r. ⌜ r ≡ record { answer = Refused n; count = count; depth = depth; halted = before } ⌝ }
 {
     Told {
         answer: Answer::Refused(n),
         count,
+        depth,
         halted: before,
     }
 }
 
+// How many resources are created, and how many openings are not closed.
+pub struct Sizes {
+    pub count: usize,
+    pub depth: usize,
+}
+
 // The answer to a step that leaves these policies open and not respected: the lowest of them, if any. `before` and `after` are
-// the numbers of created resources before the step and after it.
-pub fn settled(broken: u8, before: usize, after: usize) -> Told
+// the sizes before the step and after it.
+pub fn settled(broken: u8, before: Sizes, after: Sizes) -> Told
     ensures { λ r. ⌜ r ≡ toldOf broken before after ⌝ }
 {
     if broken == 0 {
         return Told {
             answer: Answer::Allowed,
-            count: after,
+            count: after.count,
+            depth: after.depth,
             halted: false,
         };
     }
     let p = u8::trailing_zeros(broken);
     Told {
         answer: Answer::Violated(p as u8),
-        count: before,
+        count: before.count,
+        depth: before.depth,
         halted: true,
     }
 }
