@@ -5,17 +5,17 @@ use mathlib.Core.Bool.{true, false}
 use mathlib.Core.List.{List}
 use mathlib.Core.Option.{none, some}
 use native.Mathlib.Omega.{arith}
-use borrow.Author.Tests.{le-leb, lt-leb, lt-ltb, le-ltb}
-use lib.ListN.{getD}
+use borrow.Author.Tests.{eq-eqb, ne-eqb, le-leb, lt-leb, lt-ltb, le-ltb}
 use Rattle.usage.specs.declared.Edge.{Edge}
 use Rattle.usage.specs.declared.RawStep.{RawStep}
-use Rattle.usage.specs.Limits.{statics, mostCreated, mostOpen}
+use Rattle.usage.specs.Limits.{statics, mostCreated, mostUnclosed}
 use Rattle.usage.specs.Past.{Step, event, opening, closing}
 use Rattle.usage.specs.Judge.{stepOf}
 use Rattle.usage.specs.Tables.{edgesOf, edgeTable}
 use Rattle.monitor_state.specs.declared.State.{State}
-use Rattle.monitor_state.specs.Judge.{live, listed, stateOk, after, refusal, refuse, judgeStep, judgeRead, judgeOf}
-use Rattle.monitor_state.specs.Code.{stepped, settledBy}
+use Rattle.monitor_state.specs.Judge.{live, listed, openingsOf, lastOpened, stateOk, after, broken, refusal, refuse, settle, judgeStep}
+use Rattle.monitor_state.specs.Judge.{judgeRead, judgeOf}
+use Rattle.monitor_state.specs.Code.{stepped}
 use Rattle.monitor_state.proofs.Places.{known}
 
 -- ── A step that was read ──
@@ -25,28 +25,32 @@ module _ (es : List Edge) (s : State) (step : Step) where
   unfolding judgeStep
   step-refused n e = rw e
 
-  pub step-taken : (t : State) → refusal s step ≡ none → t ≡ after es s step → stepped es s step ≡ settledBy s t
+  pub step-taken : (t : State) → refusal s step ≡ none → t ≡ after es s step → stepped es s step ≡ settle (broken t) s t
   unfolding judgeStep
   step-taken t e f = rw (e, f)
 
 -- ── The number that refuses it ──
 
 module _ (s : State) (p : ℕ) where
-  pub opening-deep : mostOpen ≤ getD (s .unclosed) p 0 → refusal s (opening p) ≡ some 31
+  pub opening-deep : mostUnclosed ≤ s .depth → refusal s (opening p) ≡ some 32
   unfolding refusal
-  opening-deep h = simp (le-leb mostOpen (getD (s .unclosed) p 0) h)
+  opening-deep h = simp (le-leb mostUnclosed (s .depth) h)
 
-  pub opening-free : getD (s .unclosed) p 0 < mostOpen → refusal s (opening p) ≡ none
+  pub opening-free : s .depth < mostUnclosed → refusal s (opening p) ≡ none
   unfolding refusal
-  opening-free h = simp (lt-leb mostOpen (getD (s .unclosed) p 0) h)
+  opening-free h = simp (lt-leb mostUnclosed (s .depth) h)
 
-  pub closing-closed : getD (s .unclosed) p 0 ≡ 0 → refusal s (closing p) ≡ some 25
+  pub closing-closed : openingsOf s p ≡ 0 → refusal s (closing p) ≡ some 25
   unfolding refusal
-  closing-closed h = simp (le-ltb 0 (getD (s .unclosed) p 0) (omega arith))
+  closing-closed h = simp (le-ltb 0 (openingsOf s p) (omega arith))
 
-  pub closing-open : 0 < getD (s .unclosed) p 0 → refusal s (closing p) ≡ none
+  pub closing-not-last : 0 < openingsOf s p → (lastOpened s ≡ p → ⊥) → refusal s (closing p) ≡ some 26
   unfolding refusal
-  closing-open h = simp (lt-ltb 0 (getD (s .unclosed) p 0) h)
+  closing-not-last h n = simp (lt-ltb 0 (openingsOf s p) h, ne-eqb (lastOpened s) p n)
+
+  pub closing-free : 0 < openingsOf s p → lastOpened s ≡ p → refusal s (closing p) ≡ none
+  unfolding refusal
+  closing-free h e = simp (lt-ltb 0 (openingsOf s p) h, eq-eqb (lastOpened s) p e)
 
 module _ (s : State) (r : ℕ) where
   pub create-static : r < statics → refusal s (event 0 r) ≡ some 22

@@ -2,7 +2,7 @@
 use Prim.Native.Nat.{ℕ, zero, suc, _+_, _<_, _≤_}
 use mathlib.Core.Path.{_≡_, refl, sym, ap, ap₂, _∙_}
 use mathlib.Core.Bool.{Bool, true, false, _&&_, cond}
-use mathlib.Core.List.{List, [], _∷_, _++_}
+use mathlib.Core.List.{List}
 use mathlib.Core.Option.{none, some}
 use native.Mathlib.Numerals.{add-one}
 use native.Mathlib.Omega.{arith}
@@ -15,83 +15,105 @@ use Rattle.usage.specs.declared.RawStep.{RawStep}
 use Rattle.usage.specs.Limits.{statics, mostCreated}
 use Rattle.usage.specs.Past.{Step, event}
 use Rattle.usage.specs.Judge.{stepOf}
-use Rattle.usage.proofs.Logic.{and-left}
+use Rattle.usage.proofs.Logic.{and-left, and-both}
 use Rattle.automaton.specs.Mask.{lowestIn}
 use Rattle.monitor_state.specs.declared.State.{State}
 use Rattle.monitor_state.specs.declared.Judgement.{Judgement}
 use Rattle.monitor_state.specs.declared.Told.{Told}
 use Rattle.monitor_state.specs.declared.Answer.the-variants.{Allowed, Violated, Refused}
-use Rattle.monitor_state.specs.Judge.{listed, stateOk, placeOf, copied, createdIn, movedSets, gathered, movedIn, withUnclosed, after}
+use Rattle.monitor_state.specs.Judge.{listed, live, used, stateOk, placeOf, copied, createdIn, movedSets, gathered, movedIn, after}
 use Rattle.monitor_state.specs.Judge.{broken, refusal, refuse, halt, settle, judgeRead}
 use Rattle.monitor_sets.specs.Instances.{unseen, firstCreated, instances}
 use Rattle.monitor_sets.specs.Created.{createdOk, placeIn}
+use Rattle.monitor_sets.specs.Order.{orderOk}
 use Rattle.monitor_sets.specs.Code.{brokenBit, brokenIn, eventSets}
-use Rattle.monitor_state.specs.Code.{stateOf, judgementOf, stepped, settledBy, toldOf}
+use Rattle.monitor_state.specs.Code.{sizesOf, judgementOf, stepped, toldOf}
 use Rattle.monitor_state.proofs.ListLaws.{place-new}
 use Rattle.monitor_state.proofs.Places.{is-known}
 use Rattle.monitor.proofs.JudgeLaws.{step-refused, step-taken, create-free, use-known}
 
 -- ── A state by its parts ──
 
-cond-same : {A : Type 0} (b : Bool) (x : A) → cond b x x ≡ x
+pub cond-same : {A : Type 0} (b : Bool) (x : A) → cond b x x ≡ x
 cond-same true x = refl
 cond-same false x = refl
 
-module _ (sets possible created : List ℕ) (count : ℕ) (unclosed : List ℕ) (h : Bool) where
-  pub parts-ok : stateOk (stateOf sets possible created count unclosed h) ≡ createdOk count created
-  unfolding stateOk createdOk
-  parts-ok = refl
+-- the parts that 42 asks about
+pub parts-ok : (s : State) → createdOk (s .count) (s .created) ≡ true → orderOk (s .depth) (s .order) (s .unclosed) ≡ true → stateOk s ≡ true
+unfolding stateOk
+parts-ok s c o = and-both (createdOk (s .count) (s .created)) (orderOk (s .depth) (s .order) (s .unclosed)) c o
 
-  parts-broken : broken (stateOf sets possible created count unclosed h) ≡ brokenIn possible unclosed
-  unfolding broken brokenIn brokenBit
-  parts-broken = refl
+pub created-bad : (s : State) → createdOk (s .count) (s .created) ≡ false → stateOk s ≡ false
+unfolding stateOk
+created-bad s c = rw c
 
-  pub parts-place : (x : ℕ) → placeOf (stateOf sets possible created count unclosed h) x ≡ placeIn x (take count created)
-  unfolding placeOf placeIn
-  parts-place x = refl
+pub order-bad : (s : State) → createdOk (s .count) (s .created) ≡ true → orderOk (s .depth) (s .order) (s .unclosed) ≡ false
+    → stateOk s ≡ false
+unfolding stateOk
+order-bad s c o = rw (c, o)
 
-pub told-parts : {t t' : Told} {sets sets' possible possible' created created' unclosed : List ℕ} → t ≡ t' → sets ≡ sets'
-    → possible ≡ possible' → created ≡ created'
-    → judgementOf t sets possible created unclosed ≡ judgementOf t' sets' possible' created' unclosed
-told-parts e f g h = rw (e, f, g, h)
+parts-broken : (s : State) → broken s ≡ brokenIn (s .possible) (s .unclosed)
+unfolding broken brokenIn brokenBit
+parts-broken s = refl
+
+pub parts-place : (s : State) (x : ℕ) → placeOf s x ≡ placeIn x (take (s .count) (s .created))
+unfolding placeOf placeIn
+parts-place s x = refl
+
+-- what is told, with the arrays of a state
+abbrev pub toldIn : Told → State → Judgement
+toldIn t s = judgementOf t (s .sets) (s .possible) (s .created) (s .unclosed) (s .order)
 
 -- a refusal
-pub refused-parts : (sets possible created : List ℕ) (count : ℕ) (unclosed : List ℕ) (h : Bool) (n : ℕ) (t : Told)
-    → t ≡ record { answer = Refused n; count = count; halted = h }
-    → judgementOf t sets possible created unclosed ≡ refuse n (stateOf sets possible created count unclosed h)
+pub refused-parts : (s : State) (n : ℕ) (t : Told)
+    → t ≡ record { answer = Refused n; count = s .count; depth = s .depth; halted = s .halted } → toldIn t s ≡ refuse n s
 unfolding refuse
-refused-parts sets possible created count unclosed h n t e = rw e
+refused-parts s n t e = rw e
 
 -- a step that was read and is refused
-pub refused-step : (es : List Edge) (sets possible created : List ℕ) (count : ℕ) (unclosed : List ℕ) (step : Step) (n : ℕ) (t : Told)
-    → t ≡ record { answer = Refused n; count = count; halted = false }
-    → refusal (stateOf sets possible created count unclosed false) step ≡ some n
-    → judgementOf t sets possible created unclosed ≡ stepped es (stateOf sets possible created count unclosed false) step
-refused-step es sets possible created count unclosed step n t e f =
-    refused-parts sets possible created count unclosed false n t e
-    ∙ sym (step-refused es (stateOf sets possible created count unclosed false) step n f)
+pub refused-step : (es : List Edge) (s : State) (step : Step) (n : ℕ) (t : Told)
+    → t ≡ record { answer = Refused n; count = s .count; depth = s .depth; halted = s .halted } → refusal s step ≡ some n
+    → toldIn t s ≡ stepped es s step
+refused-step es s step n t e f = refused-parts s n t e ∙ sym (step-refused es s step n f)
 
 pub created-few : (count : ℕ) (created : List ℕ) → createdOk count created ≡ true → count ≤ mostCreated
 unfolding createdOk
 created-few count created e = leb-true count mostCreated (and-left (leb count mostCreated) _ e)
 
--- the answer from the states before and after a step
-settle-parts : (sets possible created unclosed sets' possible' created' unclosed' : List ℕ) (count count' bad : ℕ)
-    → judgementOf (toldOf bad count count') (cond (eqb bad 0) sets' sets) (cond (eqb bad 0) possible' possible)
-    (cond (eqb bad 0) created' created) (cond (eqb bad 0) unclosed' unclosed)
-    ≡ settle bad (stateOf sets possible created count unclosed false) (stateOf sets' possible' created' count' unclosed' false)
-unfolding settle halt toldOf
-settle-parts sets possible created unclosed sets' possible' created' unclosed' count count' bad = go (eqb bad 0)
-  where
-    go : (b : Bool)
-        → judgementOf
-        (cond b (record { answer = Allowed; count = count'; halted = false })
-        (record { answer = Violated (lowestIn bad); count = count; halted = true })) (cond b sets' sets) (cond b possible' possible)
-        (cond b created' created) (cond b unclosed' unclosed)
-        ≡ cond b (record { answer = Allowed; state = stateOf sets' possible' created' count' unclosed' false })
-        (record { answer = Violated (lowestIn bad); state = stateOf sets possible created count unclosed true })
-    go true = refl
-    go false = refl
+-- the answer from the states before and after a step: an array is that of the one after it where nothing is broken
+module _ (s t : State) (bad : ℕ) where
+  abbrev pub Left : List ℕ → List ℕ → List ℕ → Type 0
+  Left new old l = l ≡ cond (eqb bad 0) new old
+
+  settle-parts : t .halted ≡ false
+      → judgementOf (toldOf bad (sizesOf s) (sizesOf t)) (cond (eqb bad 0) (t .sets) (s .sets)) (cond (eqb bad 0) (t .possible) (s .possible))
+      (cond (eqb bad 0) (t .created) (s .created)) (cond (eqb bad 0) (t .unclosed) (s .unclosed)) (cond (eqb bad 0) (t .order) (s .order))
+      ≡ settle bad s t
+  unfolding settle halt toldOf
+  settle-parts h = go (eqb bad 0)
+    where
+      go : (b : Bool)
+          → judgementOf
+          (cond b (record { answer = Allowed; count = t .count; depth = t .depth; halted = false })
+          (record { answer = Violated (lowestIn bad); count = s .count; depth = s .depth; halted = true })) (cond b (t .sets) (s .sets))
+          (cond b (t .possible) (s .possible)) (cond b (t .created) (s .created)) (cond b (t .unclosed) (s .unclosed))
+          (cond b (t .order) (s .order))
+          ≡ cond b (record { answer = Allowed; state = t }) (record { answer = Violated (lowestIn bad); state = halt s })
+      go true = rw (← h)
+      go false = refl
+
+  -- a step that is taken
+  pub settled-step : (es : List Edge) (step : Step) (u : Told) {sets possible created unclosed order : List ℕ} → t .halted ≡ false
+      → bad ≡ brokenIn (t .possible) (t .unclosed) → refusal s step ≡ none → t ≡ after es s step → u ≡ toldOf bad (sizesOf s) (sizesOf t)
+      → Left (t .sets) (s .sets) sets → Left (t .possible) (s .possible) possible → Left (t .created) (s .created) created
+      → Left (t .unclosed) (s .unclosed) unclosed → Left (t .order) (s .order) order
+      → judgementOf u sets possible created unclosed order ≡ stepped es s step
+  settled-step es step u h b n e told p q r v w =
+      rw (told, p, q, r, v, w) (settle-parts h) ∙ ap (λ (k : ℕ). settle k s t) (b ∙ sym (parts-broken t)) ∙ sym (step-taken es s step t n e)
+
+  -- an array that the step does not change
+  pub kept : (l : List ℕ) → Left l l l
+  kept l = sym (cond-same (eqb bad 0) l)
 
 -- ── What the functions on the sets say, where the bounds hold ──
 
@@ -102,111 +124,60 @@ pub taken-sets : {A : Type 0} (n at bad : ℕ) (x y : A) → n ≤ instances →
     → cond ((leb n instances && ltb at n) && eqb bad 0) x y ≡ cond (eqb bad 0) x y
 taken-sets n at bad x y h k = simp (le-leb n instances h, lt-ltb at n k)
 
--- ── The steps ──
+-- ── Events ──
 
--- an opening or a closing
-pub unclosed-taken : (sets possible created : List ℕ) (count : ℕ) (unclosed after : List ℕ) (bad : ℕ) → bad ≡ brokenIn possible after
-    → judgementOf (toldOf bad count count) sets possible created (cond (eqb bad 0) after unclosed)
-    ≡ settledBy (stateOf sets possible created count unclosed false) (stateOf sets possible created count after false)
-unclosed-taken sets possible created count unclosed after bad e =
-    told-parts refl (sym (cond-same (eqb bad 0) sets)) (sym (cond-same (eqb bad 0) possible)) (sym (cond-same (eqb bad 0) created))
-    ∙ settle-parts sets possible created unclosed sets possible created after count count bad
-    ∙ ap (λ (n : ℕ). settle n (stateOf sets possible created count unclosed false) (stateOf sets possible created count after false))
-    (e ∙ sym (parts-broken sets possible created count after false))
+-- the state with other sets, which are gathered from the first n instances, and other created resources
+abbrev pub movedTo : State → ℕ → List ℕ → List ℕ → ℕ → State
+movedTo s n sets created count = record {
+  sets = sets;
+  possible = gathered n sets;
+  created = created;
+  count = count;
+  unclosed = s .unclosed;
+  order = s .order;
+  depth = s .depth;
+  halted = s .halted;
+}
 
--- an opening or a closing that is taken: it changes one count alone
-pub unclosed-step : (es : List Edge) (sets possible created : List ℕ) (count : ℕ) (unclosed : List ℕ) (step : Step) (p n : ℕ)
-    (j : Judgement)
-    → j ≡ settledBy (stateOf sets possible created count unclosed false) (stateOf sets possible created count (set unclosed p n) false)
-    → refusal (stateOf sets possible created count unclosed false) step ≡ none
-    → withUnclosed (stateOf sets possible created count unclosed false) p n
-    ≡ after es (stateOf sets possible created count unclosed false) step
-    → j ≡ stepped es (stateOf sets possible created count unclosed false) step
-unfolding withUnclosed
-unclosed-step es sets possible created count unclosed step p n j e f g =
-    e
-    ∙ sym (step-taken es (stateOf sets possible created count unclosed false) step
-    (stateOf sets possible created count (set unclosed p n) false) f g)
-
-module _ (es : List Edge) (sets possible created : List ℕ) (count : ℕ) (unclosed : List ℕ) where
-  -- an event, from what it leaves
-  event-taken : (sets' possible' created' : List ℕ) (count' bad : ℕ) → bad ≡ brokenIn possible' unclosed
-      → judgementOf (toldOf bad count count') (cond (eqb bad 0) sets' sets) (cond (eqb bad 0) possible' possible)
-      (cond (eqb bad 0) created' created) unclosed
-      ≡ settledBy (stateOf sets possible created count unclosed false) (stateOf sets' possible' created' count' unclosed false)
-  event-taken sets' possible' created' count' bad e =
-      ap (λ (z : List ℕ). judgementOf (toldOf bad count count') (cond (eqb bad 0) sets' sets) (cond (eqb bad 0) possible' possible)
-      (cond (eqb bad 0) created' created) z)
-      (sym (cond-same (eqb bad 0) unclosed))
-      ∙ settle-parts sets possible created unclosed sets' possible' created' unclosed count count' bad
-      ∙ ap (λ (n : ℕ). settle n (stateOf sets possible created count unclosed false)
-      (stateOf sets' possible' created' count' unclosed false))
-      (e ∙ sym (parts-broken sets' possible' created' count' unclosed false))
-
+module _ (es : List Edge) (s : State) (r : ℕ) where
   -- the place of a resource that is created now
-  place-made : (r : ℕ) → count < length created → statics ≤ r → listed r (take count created) ≡ false
-      → placeIn r (take (count + 1) (set created count r)) ≡ firstCreated + count
+  place-made : s .count < length (s .created) → statics ≤ r → listed r (live s) ≡ false
+      → placeIn r (take (s .count + 1) (set (s .created) (s .count) r)) ≡ firstCreated + s .count
   unfolding placeIn
-  place-made r h d l =
+  place-made h d l =
       simp (
         le-ltb r statics d,
-        add-one count,
-        take-suc-set created count r h,
-        place-new r firstCreated
-            (take count created) l,
-        length-take-le count created (omega arith),
+        add-one (s .count),
+        take-suc-set (s .created) (s .count) r h,
+        place-new r firstCreated (live s) l,
+        length-take-le (s .count) (s .created) (omega arith),
       )
 
-  module _ (r bad : ℕ) where
-    pub create-taken-parts : count < length created → count < mostCreated → statics ≤ r → listed r (take count created) ≡ false
-        → (let moved = eventSets es 0 r (firstCreated + count) (firstCreated + count + 1) sets in
-        bad ≡ brokenIn (gathered (firstCreated + count + 1) moved) unclosed
-        → judgementOf (toldOf bad count (count + 1)) (cond (eqb bad 0) moved sets)
-        (cond (eqb bad 0) (gathered (firstCreated + count + 1) moved) possible) (cond (eqb bad 0) (set created count r) created) unclosed
-        ≡ stepped es (stateOf sets possible created count unclosed false) (event 0 r))
-    unfolding after eventSets movedIn createdIn placeOf placeIn
-    create-taken-parts h f d l e =
-        let m : firstCreated + count + 1 ≡ firstCreated + (count + 1) = omega arith in
-        let s : State = stateOf sets possible created count unclosed false in
-        let moved : ℕ → ℕ → List ℕ = λ (i n : ℕ). movedSets es 0 r i n (copied sets (firstCreated + count)) in
-        event-taken (moved (firstCreated + count) (firstCreated + count + 1))
-        (gathered (firstCreated + count + 1) (moved (firstCreated + count) (firstCreated + count + 1))) (set created count r) (count + 1)
-        bad e
-        ∙ sym (step-taken es s (event 0 r) _ (create-free s r d l f)
-        (ap₂ (λ (i n : ℕ). stateOf (moved i n) (gathered n (moved i n)) (set created count r) (count + 1) unclosed false)
-        (sym (place-made r h d l)) m))
+  pub create-after : s .count < length (s .created) → statics ≤ r → listed r (live s) ≡ false
+      → (let n = firstCreated + s .count + 1 in
+      movedTo s n (eventSets es 0 r (firstCreated + s .count) n (s .sets)) (set (s .created) (s .count) r) (s .count + 1)
+      ≡ after es s (event 0 r))
+  unfolding after eventSets movedIn createdIn placeOf placeIn
+  create-after h d l =
+      let m : firstCreated + s .count + 1 ≡ firstCreated + (s .count + 1) = omega arith in
+      let moved : ℕ → ℕ → List ℕ = λ (i n : ℕ). movedSets es 0 r i n (copied (s .sets) (firstCreated + s .count)) in
+      ap₂ (λ (i n : ℕ). movedTo s n (moved i n) (set (s .created) (s .count) r) (s .count + 1)) (sym (place-made h d l)) m
 
-    pub event-taken-parts : (a at : ℕ) → (a ≡ 0 → ⊥) → at ≡ placeIn r (take count created) → (at ≡ unseen → ⊥)
-        → (let moved = eventSets es a r at (firstCreated + count) sets in
-        bad ≡ brokenIn (gathered (firstCreated + count) moved) unclosed
-        → judgementOf (toldOf bad count count) (cond (eqb bad 0) moved sets)
-        (cond (eqb bad 0) (gathered (firstCreated + count) moved) possible) created unclosed
-        ≡ stepped es (stateOf sets possible created count unclosed false) (event a r))
-    unfolding after eventSets movedIn placeOf placeIn
-    event-taken-parts a at h p k e =
-        told-parts refl refl refl (sym (cond-same (eqb bad 0) created))
-        ∙ event-taken (eventSets es a r at (firstCreated + count) sets)
-        (gathered (firstCreated + count) (eventSets es a r at (firstCreated + count) sets)) created count bad e
-        ∙ sym (step-taken es s (event a r) _
-        (use-known s r a h (is-known s r (λ q. k (p ∙ sym (parts-place sets possible created count unclosed false r) ∙ q)))) (moved a h))
-      where
-        s : State
-        s = stateOf sets possible created count unclosed false
+  pub event-after : (a at : ℕ) → (a ≡ 0 → ⊥) → at ≡ placeIn r (live s)
+      → movedTo s (used s) (eventSets es a r at (used s) (s .sets)) (s .created) (s .count) ≡ after es s (event a r)
+  unfolding after eventSets movedIn placeOf placeIn
+  event-after zero at n p = absurd (n refl)
+  event-after (suc a) at n p = rw p (simp (ne-eqb (suc a) 0 n))
 
-        moved : (a : ℕ) → (a ≡ 0 → ⊥)
-            → (let l = eventSets es a r at (firstCreated + count) sets in
-            stateOf l (gathered (firstCreated + count) l) created count unclosed false ≡ after es s (event a r))
-        moved zero n = absurd (n refl)
-        moved (suc a) n = rw p (simp (ne-eqb (suc a) 0 n))
+  pub event-free : (a at : ℕ) → (a ≡ 0 → ⊥) → at ≡ placeIn r (live s) → (at ≡ unseen → ⊥) → refusal s (event a r) ≡ none
+  event-free a at n p k = use-known s r a n (is-known s r (λ q. k (p ∙ sym (parts-place s r) ∙ q)))
 
 -- ── The step as it is handed over ──
 
-module _ (sets possible created : List ℕ) (count : ℕ) (unclosed : List ℕ) (step : Step) (es : List Edge) (raw : RawStep) where
-  pub read-is : stepOf raw ≡ some step
-      → stepped es (stateOf sets possible created count unclosed false) step
-      ≡ judgeRead es (stateOf sets possible created count unclosed false) (stepOf raw)
-  unfolding judgeRead
-  read-is e = rw e
+pub read-is : (es : List Edge) (s : State) (step : Step) (raw : RawStep) → stepOf raw ≡ some step
+    → stepped es s step ≡ judgeRead es s (stepOf raw)
+unfolding judgeRead
+read-is es s step raw e = rw e
 
 pub unread-is : (es : List Edge) (s : State) (raw : RawStep) → stepOf raw ≡ none → refuse 21 s ≡ judgeRead es s (stepOf raw)
 unfolding judgeRead

@@ -5,28 +5,32 @@ use monitor_sets::UNSEEN;
 use monitor_state::Answer;
 use monitor_state::Judgement;
 use monitor_state::Read;
+use monitor_state::Sizes;
 use monitor_state::State;
 use monitor_state::Told;
 use usage::MOST_CREATED;
-use usage::MOST_OPEN;
+use usage::MOST_UNCLOSED;
 use usage::POLICIES;
 use usage::RawStep;
 use usage::STATICS;
 ghost use Prim.Native.Nat.{ℕ, _<_, _≤_};
 ghost use mathlib.Core.Path.{_≡_};
 ghost use mathlib.Core.List.{List};
-ghost use mathlib.Core.Bool.{false};
+ghost use mathlib.Core.Bool.{true, false, cond};
+ghost use lib.Dec.{eqb};
 ghost use lib.ListN.{length, set};
 ghost use Rattle.usage.specs.declared.Edge.{Edge};
-ghost use Rattle.usage.specs.Limits.{policies, mostCreated};
+ghost use Rattle.usage.specs.Limits.{policies, mostCreated, mostUnclosed};
 ghost use Rattle.usage.specs.Past.{event, opening, closing};
 ghost use Rattle.usage.specs.Judge.{stepOf};
 ghost use Rattle.usage.specs.Tables.{edgesOf};
+ghost use Rattle.monitor_sets.specs.Code.{brokenIn};
+ghost use Rattle.monitor_sets.specs.Order.{orderOk};
 ghost use Rattle.monitor_state.specs.Judge.{startState, judgeRead, judgeOf};
 ghost use Rattle.monitor_state.specs.Promise.{StandsForNothing, Keeps};
 ghost use Rattle.monitor_state.specs.Renamed.{SameAnswers};
 ghost use Rattle.monitor_state.specs.declared.Answer.the-variants.{Refused};
-ghost use Rattle.monitor_state.specs.Code.{says, stateOf, judgementOf, toldOf, stepped, settledBy};
+ghost use Rattle.monitor_state.specs.Code.{stateOf, judgementOf, stepped};
 
 // The start stands for the empty past, and from it no answer depends on how the dynamic resources are numbered.
 pub fn start() -> State
@@ -38,31 +42,26 @@ pub fn start() -> State
     let possible = [1u8; POLICIES];
     let created = [0u32; MOST_CREATED];
     let unclosed = [0u8; POLICIES];
+    let order = [0u8; MOST_UNCLOSED];
     State {
         sets,
         possible,
         created,
         count: 0,
         unclosed,
+        order,
+        depth: 0,
         halted: false,
     }
 }
 
 // ── One step ──
 
-// An opening or a closing that leaves p with n openings that are not closed. It moves no state and creates nothing, and what the policies
-// may be in is kept; so the answer is the same whatever the edges, the sets and the created resources are.
-fn judge_unclosed(
-    possible: &[u8; POLICIES],
-    unclosed: &mut [u8; POLICIES],
-    count: usize,
-    p: usize,
-    n: u8,
-) -> Told
+// Policy p has n openings that are not closed. Which open policies are then not respected? Where one is not, the count stays as it was.
+fn recount(possible: &[u8; POLICIES], unclosed: &mut [u8; POLICIES], p: usize, n: u8) -> u8
     requires { ⌜ p < policies ⌝ }
-    ensures { λ r. ⌜ ((sets created : List ℕ) → judgementOf r sets (now (possible .entry)) created (now (unclosed .exit))
-        ≡ settledBy (stateOf sets (now (possible .entry)) created count (now (unclosed .entry)) false)
-        (stateOf sets (now (possible .entry)) created count (set (now (unclosed .entry)) p n) false)) ⌝ }
+    ensures { λ bad. ⌜ bad ≡ brokenIn (now (possible .entry)) (set (now (unclosed .entry)) p n) ⌝ }
+    ensures { λ bad. ⌜ now (unclosed .exit) ≡ cond (eqb bad 0) (set (now (unclosed .entry)) p n) (now (unclosed .entry)) ⌝ }
 {
     let mut after = *unclosed;
     after[p] = n;
@@ -70,45 +69,75 @@ fn judge_unclosed(
     if bad == 0 {
         *unclosed = after;
     }
-    monitor_state::settled(bad, count, count)
+    bad
 }
 
+// An opening moves no state and creates nothing; so the answer is the same whatever the edges, the sets and the created resources are.
 fn judge_opening(
     possible: &[u8; POLICIES],
     unclosed: &mut [u8; POLICIES],
+    order: &mut [u8; MOST_UNCLOSED],
     count: usize,
+    depth: usize,
     p: usize,
 ) -> Told
     requires { ⌜ p < policies ⌝ }
+    requires { ⌜ length (now order) ≡ mostUnclosed ⌝ }
+    requires { ⌜ orderOk depth (now order) (now unclosed) ≡ true ⌝ }
     ensures { λ r.
         ⌜ ((es : List Edge) (sets created : List ℕ)
-        → judgementOf r sets (now (possible .entry)) created (now (unclosed .exit))
-        ≡ stepped es (stateOf sets (now (possible .entry)) created count (now (unclosed .entry)) false) (opening p)) ⌝ }
+        → judgementOf r sets (now (possible .entry)) created (now (unclosed .exit)) (now (order .exit))
+        ≡ stepped es
+        (stateOf sets (now (possible .entry)) created count (now (unclosed .entry)) (now (order .entry)) depth false) (opening p)) ⌝ }
 {
-    let n = unclosed[p];
-    if MOST_OPEN <= n {
-        return monitor_state::refused(31, count, false);
+    if MOST_UNCLOSED <= depth {
+        return monitor_state::refused(32, count, depth, false);
     }
-    judge_unclosed(possible, unclosed, count, p, n + 1)
+    let n = unclosed[p];
+    let bad = recount(possible, unclosed, p, n + 1);
+    if bad == 0 {
+        order[depth] = p as u8;
+    }
+    let before = Sizes { count, depth };
+    let after = Sizes {
+        count,
+        depth: depth + 1,
+    };
+    monitor_state::settled(bad, before, after)
 }
 
+// The same of a closing.
 fn judge_closing(
     possible: &[u8; POLICIES],
     unclosed: &mut [u8; POLICIES],
+    order: &[u8; MOST_UNCLOSED],
     count: usize,
+    depth: usize,
     p: usize,
 ) -> Told
     requires { ⌜ p < policies ⌝ }
+    requires { ⌜ length (now order) ≡ mostUnclosed ⌝ }
+    requires { ⌜ orderOk depth (now order) (now unclosed) ≡ true ⌝ }
     ensures { λ r.
         ⌜ ((es : List Edge) (sets created : List ℕ)
-        → judgementOf r sets (now (possible .entry)) created (now (unclosed .exit))
-        ≡ stepped es (stateOf sets (now (possible .entry)) created count (now (unclosed .entry)) false) (closing p)) ⌝ }
+        → judgementOf r sets (now (possible .entry)) created (now (unclosed .exit)) (now (order .entry))
+        ≡ stepped es
+        (stateOf sets (now (possible .entry)) created count (now (unclosed .entry)) (now (order .entry)) depth false) (closing p)) ⌝ }
 {
     let n = unclosed[p];
     if n == 0 {
-        return monitor_state::refused(25, count, false);
+        return monitor_state::refused(25, count, depth, false);
     }
-    judge_unclosed(possible, unclosed, count, p, n - 1)
+    if monitor_sets::order::wide(order[depth - 1]) != p {
+        return monitor_state::refused(26, count, depth, false);
+    }
+    let bad = recount(possible, unclosed, p, n - 1);
+    let before = Sizes { count, depth };
+    let after = Sizes {
+        count,
+        depth: depth - 1,
+    };
+    monitor_state::settled(bad, before, after)
 }
 
 fn judge_create(
@@ -118,23 +147,26 @@ fn judge_create(
     created: &mut [u32; MOST_CREATED],
     unclosed: &[u8; POLICIES],
     count: usize,
+    depth: usize,
     r: u32,
 ) -> Told
     requires { ⌜ length (now created) ≡ mostCreated ⌝ }
     requires { ⌜ count ≤ mostCreated ⌝ }
     ensures { λ t.
-        ⌜ judgementOf t (now (sets .exit)) (now (possible .exit)) (now (created .exit)) (now (unclosed .entry))
+        ⌜ ((order : List ℕ)
+        → judgementOf t (now (sets .exit)) (now (possible .exit)) (now (created .exit)) (now (unclosed .entry)) order
         ≡ stepped (edgesOf (now (edges .entry)))
-        (stateOf (now (sets .entry)) (now (possible .entry)) (now (created .entry)) count (now (unclosed .entry)) false) (event 0 r) ⌝ }
+        (stateOf (now (sets .entry)) (now (possible .entry)) (now (created .entry)) count (now (unclosed .entry)) order depth false)
+        (event 0 r)) ⌝ }
 {
     if r < STATICS {
-        return monitor_state::refused(22, count, false);
+        return monitor_state::refused(22, count, depth, false);
     }
     if monitor_sets::created::place_of(created, count, r) != UNSEEN {
-        return monitor_state::refused(23, count, false);
+        return monitor_state::refused(23, count, depth, false);
     }
     if MOST_CREATED <= count {
-        return monitor_state::refused(30, count, false);
+        return monitor_state::refused(30, count, depth, false);
     }
     let at = FIRST_CREATED + count;
     let bad = monitor_sets::instances::take_event(
@@ -150,7 +182,12 @@ fn judge_create(
     if bad == 0 {
         created[count] = r;
     }
-    monitor_state::settled(bad, count, count + 1)
+    let before = Sizes { count, depth };
+    let after = Sizes {
+        count: count + 1,
+        depth,
+    };
+    monitor_state::settled(bad, before, after)
 }
 
 fn judge_event(
@@ -160,22 +197,25 @@ fn judge_event(
     created: &mut [u32; MOST_CREATED],
     unclosed: &[u8; POLICIES],
     count: usize,
+    depth: usize,
     action: u32,
     r: u32,
 ) -> Told
     requires { ⌜ length (now created) ≡ mostCreated ⌝ }
     requires { ⌜ count ≤ mostCreated ⌝ }
     ensures { λ t.
-        ⌜ judgementOf t (now (sets .exit)) (now (possible .exit)) (now (created .exit)) (now (unclosed .entry))
+        ⌜ ((order : List ℕ)
+        → judgementOf t (now (sets .exit)) (now (possible .exit)) (now (created .exit)) (now (unclosed .entry)) order
         ≡ stepped (edgesOf (now (edges .entry)))
-        (stateOf (now (sets .entry)) (now (possible .entry)) (now (created .entry)) count (now (unclosed .entry)) false) (event action r) ⌝ }
+        (stateOf (now (sets .entry)) (now (possible .entry)) (now (created .entry)) count (now (unclosed .entry)) order depth false)
+        (event action r)) ⌝ }
 {
     if action == 0 {
-        return judge_create(edges, sets, possible, created, unclosed, count, r);
+        return judge_create(edges, sets, possible, created, unclosed, count, depth, r);
     }
     let at = monitor_sets::created::place_of(created, count, r);
     if at == UNSEEN {
-        return monitor_state::refused(24, count, false);
+        return monitor_state::refused(24, count, depth, false);
     }
     let n = FIRST_CREATED + count;
     let bad = monitor_sets::instances::take_event(
@@ -188,7 +228,8 @@ fn judge_event(
         action,
         r,
     );
-    monitor_state::settled(bad, count, count)
+    let sizes = Sizes { count, depth };
+    monitor_state::settled(bad, sizes, sizes)
 }
 
 fn judge_read(
@@ -197,15 +238,21 @@ fn judge_read(
     possible: &mut [u8; POLICIES],
     created: &mut [u32; MOST_CREATED],
     unclosed: &mut [u8; POLICIES],
+    order: &mut [u8; MOST_UNCLOSED],
     count: usize,
+    depth: usize,
     step: RawStep,
 ) -> Told
     requires { ⌜ length (now created) ≡ mostCreated ⌝ }
     requires { ⌜ count ≤ mostCreated ⌝ }
+    requires { ⌜ length (now order) ≡ mostUnclosed ⌝ }
+    requires { ⌜ orderOk depth (now order) (now unclosed) ≡ true ⌝ }
     ensures { λ r.
-        ⌜ judgementOf r (now (sets .exit)) (now (possible .exit)) (now (created .exit)) (now (unclosed .exit))
+        ⌜ judgementOf r (now (sets .exit)) (now (possible .exit)) (now (created .exit)) (now (unclosed .exit)) (now (order .exit))
         ≡ judgeRead (edgesOf (now (edges .entry)))
-        (stateOf (now (sets .entry)) (now (possible .entry)) (now (created .entry)) count (now (unclosed .entry)) false) (stepOf step) ⌝ }
+        (stateOf (now (sets .entry)) (now (possible .entry)) (now (created .entry)) count (now (unclosed .entry)) (now (order .entry)) depth
+        false)
+        (stepOf step) ⌝ }
 {
     let read = monitor_state::read_step(step);
     match read {
@@ -216,12 +263,13 @@ fn judge_read(
             created,
             unclosed,
             count,
+            depth,
             action,
             r,
         ),
-        Read::Opening(p) => judge_opening(possible, unclosed, count, p),
-        Read::Closing(p) => judge_closing(possible, unclosed, count, p),
-        Read::Nothing => monitor_state::refused(21, count, false),
+        Read::Opening(p) => judge_opening(possible, unclosed, order, count, depth, p),
+        Read::Closing(p) => judge_closing(possible, unclosed, order, count, depth, p),
+        Read::Nothing => monitor_state::refused(21, count, depth, false),
     }
 }
 
@@ -233,25 +281,42 @@ pub fn judge_lent(
     possible: &mut [u8; POLICIES],
     created: &mut [u32; MOST_CREATED],
     unclosed: &mut [u8; POLICIES],
+    order: &mut [u8; MOST_UNCLOSED],
     count: usize,
+    depth: usize,
     halted: bool,
     step: RawStep,
 ) -> Told
     ensures { λ r.
-        ⌜ judgementOf r (now (sets .exit)) (now (possible .exit)) (now (created .exit)) (now (unclosed .exit))
+        ⌜ judgementOf r (now (sets .exit)) (now (possible .exit)) (now (created .exit)) (now (unclosed .exit)) (now (order .exit))
         ≡ judgeOf (now (edges .entry))
-        (stateOf (now (sets .entry)) (now (possible .entry)) (now (created .entry)) count (now (unclosed .entry)) halted) step ⌝ }
+        (stateOf (now (sets .entry)) (now (possible .entry)) (now (created .entry)) count (now (unclosed .entry)) (now (order .entry)) depth
+        halted)
+        step ⌝ }
 {
     if !sheet_fields::edges::edge_table_ok(edges) {
-        return monitor_state::refused(41, count, halted);
+        return monitor_state::refused(41, count, depth, halted);
     }
     if !monitor_sets::created::created_ok(created, count) {
-        return monitor_state::refused(42, count, halted);
+        return monitor_state::refused(42, count, depth, halted);
+    }
+    if !monitor_sets::order::order_ok(order, depth, unclosed) {
+        return monitor_state::refused(42, count, depth, halted);
     }
     if halted {
-        return monitor_state::refused(20, count, halted);
+        return monitor_state::refused(20, count, depth, halted);
     }
-    judge_read(edges, sets, possible, created, unclosed, count, step)
+    judge_read(
+        edges,
+        sets,
+        possible,
+        created,
+        unclosed,
+        order,
+        count,
+        depth,
+        step,
+    )
 }
 
 // One step. From every state at all it answers as its definition says; from a state that stands for a past, as the past says.
@@ -263,13 +328,16 @@ pub fn judge(edges: &[u8], s: State, step: RawStep) -> Judgement
     let mut possible = s.possible;
     let mut created = s.created;
     let mut unclosed = s.unclosed;
+    let mut order = s.order;
     let t = judge_lent(
         edges,
         &mut sets,
         &mut possible,
         &mut created,
         &mut unclosed,
+        &mut order,
         s.count,
+        s.depth,
         s.halted,
         step,
     );
@@ -280,6 +348,8 @@ pub fn judge(edges: &[u8], s: State, step: RawStep) -> Judgement
         created,
         count: t.count,
         unclosed,
+        order,
+        depth: t.depth,
         halted: t.halted,
     };
     Judgement { answer, state }

@@ -159,9 +159,13 @@ module _ (depth : ℕ) (order unclosed : List ℕ) where
       and-both (leb depth mostUnclosed) _ (le-leb depth mostUnclosed (w .few))
       (and-both (every isPolicy (stackIn depth order)) _ (w .each) (agree-below (stackIn depth order) unclosed policies (w .agree)))
 
+  -- no policy is open more often than the order is long
+  pub count-few : OrderOk depth order unclosed → (p : ℕ) → p < policies → getD unclosed p 0 ≤ depth
+  count-few w p l = omega (arith, w .agree p l, stack-most p depth order)
+
   -- where a policy is open something is in the order
   pub order-some : OrderOk depth order unclosed → (p : ℕ) → p < policies → 0 < getD unclosed p 0 → 0 < depth
-  order-some w p l h = omega (arith, w .agree p l, stack-most p depth order)
+  order-some w p l h = omega (arith, count-few w p l)
 
 -- ── The order after an opening and after a closing ──
 

@@ -12,7 +12,7 @@ ghost use Rattle.usage.specs.Tests.{every};
 ghost use Rattle.monitor_sets.specs.Order.{stackIn, isPolicy, agreeBelow, orderOk};
 
 // A byte as an index. A proof is told the range of a number that is passed by value.
-fn wide(x: u8) -> usize
+pub fn wide(x: u8) -> usize
     ensures { λ r. ⌜ r ≡ x ⌝ }
 {
     x as usize

@@ -37,6 +37,9 @@ stateOf sets possible created count unclosed order depth halted = record {
   halted = halted;
 }
 
+abbrev pub sizesOf : State → Sizes
+sizesOf s = record { count = s .count; depth = s .depth }
+
 -- what is told, with the arrays as they were left
 abbrev pub judgementOf : Told → List ℕ → List ℕ → List ℕ → List ℕ → List ℕ → Judgement
 judgementOf t sets possible created unclosed order =
@@ -45,10 +48,6 @@ judgementOf t sets possible created unclosed order =
 -- the judgement of a step that was read
 abbrev pub stepped : List Edge → State → Step → Judgement
 stepped es s step = judgeStep es s step (refusal s step)
-
--- the judgement from the states before and after a step
-abbrev pub settledBy : State → State → Judgement
-settledBy s t = settle (broken t) s t
 
 -- what is told of a step that leaves the policies `bad` broken
 unfoldable pub toldOf : ℕ → Sizes → Sizes → Told

@@ -13,7 +13,7 @@ judge-lent-requires c κs = search needs
 
 returns : tie.Need-returns
 returns c =
-    let a = c .before .before .before .before .before .before .before .before .before .before .args in
+    let a = c .before .before .before .before .before .before .before .before .before .before .before .before .args in
     let t = a .edges .now in (
       c .judge-lent .ensures,
       λ past h ok R. subst (Promised (edgesOf t) past h (a .s) (a .step)) (sym (c .judge-lent .ensures))

@@ -1,20 +1,21 @@
 use Prim.Native.Nat.{_+_, _<_, _≤_}
-use mathlib.Core.Path.{_≡_, sym, ap, _∙_}
+use mathlib.Core.Path.{_≡_, refl, sym, ap, _∙_}
 use mathlib.Core.Bool.{Bool, false, cond}
 use native.Mathlib.Omega.{arith}
 use borrow.Author.Tests.{eq-eqb, ne-eqb}
 use borrow.Author.Needs.{needs}
 use lib.Dec.{eqb}
-use lib.ListN.{length, take, set}
+use lib.ListN.{length, set}
 use Rattle.usage.specs.Limits.{mostCreated}
 use Rattle.usage.specs.Past.{event}
 use Rattle.usage.specs.Tables.{edgesOf}
 use Rattle.usage.proofs.Logic.{by-cases}
 use Rattle.monitor_sets.specs.Instances.{firstCreated, instances}
+use Rattle.monitor_sets.specs.Code.{eventSets}
 use Rattle.monitor_state.specs.Code.{stateOf}
 use Rattle.monitor_state.proofs.Places.{is-listed, not-listed}
-use Rattle.monitor.proofs.JudgeLaws.{create-static, create-again, create-full}
-use Rattle.monitor.proofs.LentLaws.{refused-step, parts-place, taken, taken-sets, create-taken-parts, told-parts}
+use Rattle.monitor.proofs.JudgeLaws.{create-static, create-again, create-full, create-free}
+use Rattle.monitor.proofs.LentLaws.{refused-step, parts-place, taken, taken-sets, movedTo, create-after, settled-step, kept}
 use Rattle.monitor.proofs.judge_create.Statement.{statement}
 use Rattle.monitor.proofs.judge_create.Tie as tie
 
@@ -24,11 +25,10 @@ refused-requires c κs = search needs
 returns : tie.Need-returns
 returns c =
     let a = c .before .before .before .args in
-    refused-step (edgesOf (a .edges .now)) (a .sets .now) (a .possible .now) (a .created .now) (a .count) (a .unclosed .now)
-    (event 0 (a .r)) 22
-    (c .refused .result) (c .refused .ensures)
-    (create-static (stateOf (a .sets .now) (a .possible .now) (a .created .now) (a .count) (a .unclosed .now) false) (a .r)
-    (c .before .if1 .taken))
+    λ order.
+    let s = stateOf (a .sets .now) (a .possible .now) (a .created .now) (a .count) (a .unclosed .now) order (a .depth) false in
+    refused-step (edgesOf (a .edges .now)) s (event 0 (a .r)) 22 (c .refused .result) (c .refused .ensures)
+    (create-static s (a .r) (c .before .if1 .taken))
 
 place-of-requires : tie.Need-place-of-requires
 place-of-requires c κs = search needs
@@ -39,13 +39,11 @@ refused-requires-2 c κs = search needs
 returns-2 : tie.Need-returns-2
 returns-2 c =
     let a = c .before .before .before .before .before .before .args in
-    let s = stateOf (a .sets .now) (a .possible .now) (a .created .now) (a .count) (a .unclosed .now) false in
     let dyn = c .before .before .before .before .if1 .left in
-    let place = c .before .before .place-of .ensures
-    ∙ sym (parts-place (a .sets .now) (a .possible .now) (a .created .now) (a .count) (a .unclosed .now) false (a .r)) in
-    refused-step (edgesOf (a .edges .now)) (a .sets .now) (a .possible .now) (a .created .now) (a .count) (a .unclosed .now)
-    (event 0 (a .r)) 23
-    (c .refused2 .result) (c .refused2 .ensures)
+    λ order.
+    let s = stateOf (a .sets .now) (a .possible .now) (a .created .now) (a .count) (a .unclosed .now) order (a .depth) false in
+    let place = c .before .before .place-of .ensures ∙ sym (parts-place s (a .r)) in
+    refused-step (edgesOf (a .edges .now)) s (event 0 (a .r)) 23 (c .refused2 .result) (c .refused2 .ensures)
     (create-again s (a .r) dyn (is-listed s (a .r) dyn (λ q. c .before .if2 .taken (place ∙ q))))
 
 refused-requires-3 : tie.Need-refused-requires-3
@@ -54,13 +52,11 @@ refused-requires-3 c κs = search needs
 returns-3 : tie.Need-returns-3
 returns-3 c =
     let a = c .before .before .before .before .before .before .before .args in
-    let s = stateOf (a .sets .now) (a .possible .now) (a .created .now) (a .count) (a .unclosed .now) false in
     let dyn = c .before .before .before .before .before .if1 .left in
-    let place = c .before .before .before .place-of .ensures
-    ∙ sym (parts-place (a .sets .now) (a .possible .now) (a .created .now) (a .count) (a .unclosed .now) false (a .r)) in
-    refused-step (edgesOf (a .edges .now)) (a .sets .now) (a .possible .now) (a .created .now) (a .count) (a .unclosed .now)
-    (event 0 (a .r)) 30
-    (c .refused3 .result) (c .refused3 .ensures)
+    λ order.
+    let s = stateOf (a .sets .now) (a .possible .now) (a .created .now) (a .count) (a .unclosed .now) order (a .depth) false in
+    let place = c .before .before .before .place-of .ensures ∙ sym (parts-place s (a .r)) in
+    refused-step (edgesOf (a .edges .now)) s (event 0 (a .r)) 30 (c .refused3 .result) (c .refused3 .ensures)
     (create-full s (a .r) dyn (not-listed s (a .r) dyn (sym place ∙ c .before .before .if2 .left)) (c .before .if3 .taken))
 
 add-at : tie.Need-add-at
@@ -78,8 +74,8 @@ mul-created c = search needs
 element-write-created : tie.Need-element-write-created
 element-write-created c = search needs
 
-add-settled : tie.Need-add-settled
-add-settled c = search needs
+add-t14 : tie.Need-add-t14
+add-t14 c = search needs
 
 settled-requires : tie.Need-settled-requires
 settled-requires c κs = search needs
@@ -88,28 +84,29 @@ returns-4 : tie.Need-returns-4
 returns-4 c =
     let a = c .before .before .before .before .before .before .before .before .before .before .before .args in
     let pre = c .before .before .before .before .before .before .before .before .before .before .before .pre in
-    let event = c .before .before .take-event in
-    let bad = event .result in
+    let e = c .before .before .take-event in
+    let bad = e .result in
     let new = set (a .created .now) (a .count) (a .r) in
-    let e : c .before .if4 .created ≡ cond (eqb bad 0) new (a .created .now) =
+    let made : c .before .if4 .created ≡ cond (eqb bad 0) new (a .created .now) =
     by-cases (c .before .if4 .came)
     (λ w. w .1 ∙ sym (ap (λ (b : Bool). cond b new (a .created .now)) (eq-eqb _ _ (w .0 .taken))))
     (λ w. w .1 ∙ sym (ap (λ (b : Bool). cond b new (a .created .now)) (ne-eqb _ _ (w .0 .left)))) in
-    let s = stateOf (a .sets .now) (a .possible .now) (a .created .now) (a .count) (a .unclosed .now) false in
     let room : a .count < mostCreated = c .before .before .before .before .before .if3 .left in
     let l : a .count < length (a .created .now) = omega arith in
     let at = firstCreated + a .count in
     let m : at + 1 ≤ instances = omega arith in
     let k : at < at + 1 = omega arith in
     let dyn = c .before .before .before .before .before .before .before .before .before .if1 .left in
-    let place = c .before .before .before .before .before .before .before .place-of .ensures
-    ∙ sym (parts-place (a .sets .now) (a .possible .now) (a .created .now) (a .count) (a .unclosed .now) false (a .r)) in
-    told-parts (c .settled .ensures) (event .ensures .1 .0 ∙ taken-sets (at + 1) at bad _ _ m k)
-    (event .ensures .1 .1 ∙ taken-sets (at + 1) at bad _ _ m k) e
-    ∙ create-taken-parts (edgesOf (a .edges .now)) (a .sets .now) (a .possible .now) (a .created .now) (a .count) (a .unclosed .now)
-    (a .r) bad l room dyn
-    (not-listed s (a .r) dyn (sym place ∙ c .before .before .before .before .before .before .if2 .left))
-    (event .ensures .0 ∙ taken (at + 1) at _ _ m k)
+    let es = edgesOf (a .edges .now) in
+    λ order.
+    let s = stateOf (a .sets .now) (a .possible .now) (a .created .now) (a .count) (a .unclosed .now) order (a .depth) false in
+    let place = c .before .before .before .before .before .before .before .place-of .ensures ∙ sym (parts-place s (a .r)) in
+    let absent = not-listed s (a .r) dyn (sym place ∙ c .before .before .before .before .before .before .if2 .left) in
+    let t = movedTo s (at + 1) (eventSets es 0 (a .r) at (at + 1) (a .sets .now)) new (a .count + 1) in
+    settled-step s t bad es (event 0 (a .r)) (c .settled .result) refl (e .ensures .0 ∙ taken (at + 1) at _ _ m k)
+    (create-free s (a .r) dyn absent room) (create-after es s (a .r) l dyn absent) (c .settled .ensures)
+    (e .ensures .1 .0 ∙ taken-sets (at + 1) at bad _ _ m k) (e .ensures .1 .1 ∙ taken-sets (at + 1) at bad _ _ m k) made
+    (kept s t bad (a .unclosed .now)) (kept s t bad order)
 
 pub judge-create-spec : {M : Type 1} → statement M
 judge-create-spec =
@@ -127,6 +124,6 @@ judge-create-spec =
     take-event-requires
     mul-created
     element-write-created
-    add-settled
+    add-t14
     settled-requires
     returns-4)

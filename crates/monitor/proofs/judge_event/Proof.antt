@@ -6,10 +6,11 @@ use borrow.Author.Needs.{needs}
 use Rattle.usage.specs.Past.{event}
 use Rattle.usage.specs.Tables.{edgesOf}
 use Rattle.monitor_sets.specs.Instances.{firstCreated, instances}
+use Rattle.monitor_sets.specs.Code.{eventSets}
 use Rattle.monitor_state.specs.Code.{stateOf}
 use Rattle.monitor_state.proofs.Places.{not-known, place-lt}
 use Rattle.monitor.proofs.JudgeLaws.{use-unknown}
-use Rattle.monitor.proofs.LentLaws.{refused-step, parts-place, taken, taken-sets, event-taken-parts, told-parts}
+use Rattle.monitor.proofs.LentLaws.{refused-step, parts-place, taken, taken-sets, movedTo, event-after, event-free, settled-step, kept}
 use Rattle.monitor.proofs.judge_event.Statement.{statement}
 use Rattle.monitor.proofs.judge_event.Tie as tie
 
@@ -28,15 +29,11 @@ refused-requires c κs = search needs
 returns-2 : tie.Need-returns-2
 returns-2 c =
     let a = c .before .before .before .before .before .before .args in
-    let s = stateOf (a .sets .now) (a .possible .now) (a .created .now) (a .count) (a .unclosed .now) false in
-    refused-step (edgesOf (a .edges .now)) (a .sets .now) (a .possible .now) (a .created .now) (a .count) (a .unclosed .now)
-    (event (a .action) (a .r)) 24
-    (c .refused .result) (c .refused .ensures)
+    λ order.
+    let s = stateOf (a .sets .now) (a .possible .now) (a .created .now) (a .count) (a .unclosed .now) order (a .depth) false in
+    refused-step (edgesOf (a .edges .now)) s (event (a .action) (a .r)) 24 (c .refused .result) (c .refused .ensures)
     (use-unknown s (a .r) (a .action) (c .before .before .before .before .if1 .left)
-    (not-known s (a .r)
-    (parts-place (a .sets .now) (a .possible .now) (a .created .now) (a .count) (a .unclosed .now) false (a .r) ∙ sym
-    (c .before .before .place-of .ensures)
-    ∙ c .before .if2 .taken)))
+    (not-known s (a .r) (parts-place s (a .r) ∙ sym (c .before .before .place-of .ensures) ∙ c .before .if2 .taken)))
 
 add-n : tie.Need-add-n
 add-n c = search needs
@@ -52,23 +49,21 @@ returns-3 c =
     let a = c .before .before .before .before .before .before .before .before .before .args in
     let place = c .before .before .before .before .before .place-of in
     let e = c .before .take-event in
+    let bad = e .result in
+    let at = place .result in
     let n = firstCreated + a .count in
     let m : n ≤ instances = omega arith in
-    let u : place .result < n =
-    omega (
-      arith,
-      place .ensures,
-      parts-place (a .sets .now) (a .possible .now) (a .created .now) (a .count) (a .unclosed .now) false (a .r),
-      place-lt
-          (stateOf (a .sets .now) (a .possible .now) (a .created .now) (a .count) (a .unclosed .now) false) (a .r),
-    ) in
-    told-parts (c .settled .ensures) (e .ensures .1 .0 ∙ taken-sets n (place .result) (e .result) _ _ m u)
-    (e .ensures .1 .1 ∙ taken-sets n (place .result) (e .result) _ _ m u) refl
-    ∙ event-taken-parts (edgesOf (a .edges .now)) (a .sets .now) (a .possible .now) (a .created .now) (a .count) (a .unclosed .now)
-    (a .r) (e .result)
-    (a .action) (place .result)
-    (c .before .before .before .before .before .before .before .if1 .left) (place .ensures) (c .before .before .before .before .if2 .left)
-    (e .ensures .0 ∙ taken n (place .result) _ _ m u)
+    let es = edgesOf (a .edges .now) in
+    let other = c .before .before .before .before .before .before .before .if1 .left in
+    λ order.
+    let s = stateOf (a .sets .now) (a .possible .now) (a .created .now) (a .count) (a .unclosed .now) order (a .depth) false in
+    let u : at < n = omega (arith, place .ensures, parts-place s (a .r), place-lt s (a .r)) in
+    let t = movedTo s n (eventSets es (a .action) (a .r) at n (a .sets .now)) (a .created .now) (a .count) in
+    settled-step s t bad es (event (a .action) (a .r)) (c .settled .result) refl (e .ensures .0 ∙ taken n at _ _ m u)
+    (event-free es s (a .r) (a .action) at other (place .ensures) (c .before .before .before .before .if2 .left))
+    (event-after es s (a .r) (a .action) at other (place .ensures)) (c .settled .ensures)
+    (e .ensures .1 .0 ∙ taken-sets n at bad _ _ m u) (e .ensures .1 .1 ∙ taken-sets n at bad _ _ m u)
+    (kept s t bad (a .created .now)) (kept s t bad (a .unclosed .now)) (kept s t bad order)
 
 pub judge-event-spec : {M : Type 1} → statement M
 judge-event-spec =
