@@ -77,8 +77,8 @@ module _ (edges : List ℕ) (p : Parts) (raw : RawStep) where
 
   -- ── What is told, and what is left in the arrays ──
 
-  module _ (h : flag p ≤ 1) (t : Told) (sets possible created unclosed : List ℕ)
-      (is : judgementOf t sets possible created unclosed ≡ judgeOf edges (heldIn p) raw) where
+  module _ (h : flag p ≤ 1) (t : Told) (sets possible created unclosed order : List ℕ)
+      (is : judgementOf t sets possible created unclosed order ≡ judgeOf edges (heldIn p) raw) where
     pub told-verdict : verdictOf (t .answer) ≡ judgeParts edges p raw .verdict
     told-verdict =
         sym (same (t .answer) (judgeOf edges (heldIn p) raw .state))
@@ -90,35 +90,35 @@ module _ (edges : List ℕ) (p : Parts) (raw : RawStep) where
         same (Violated q) s = refl
         same (Refused n) s = refl
 
-    left : {q : Parts} → q ≡ answeredIn p (t .answer) (judgementOf t sets possible created unclosed .state) .parts
+    left : {q : Parts} → q ≡ answeredIn p (t .answer) (judgementOf t sets possible created unclosed order .state) .parts
         → q ≡ judgeParts edges p raw .parts
     left e =
         e ∙ ap (λ (j : Judgement). answeredIn p (j .answer) (j .state) .parts) is ∙ sym (ap (λ (r : Answered). r .parts) (flag-judged h))
 
     -- a refusal: the arrays are those of the state that was lent
-    pub refused-left : isRefusal (t .answer) ≡ true → partsOf sets possible created unclosed (p .numbers) ≡ judgeParts edges p raw .parts
+    pub refused-left : isRefusal (t .answer) ≡ true → partsOf sets possible created unclosed order (p .numbers) ≡ judgeParts edges p raw .parts
     unfolding heldIn
     refused-left r = left (by-answer (t .answer) r refl)
       where
         by-answer : (a : Answer) → isRefusal a ≡ true → t .answer ≡ a
-            → partsOf sets possible created unclosed (p .numbers)
-            ≡ answeredIn p a (judgementOf t sets possible created unclosed .state) .parts
+            → partsOf sets possible created unclosed order (p .numbers)
+            ≡ answeredIn p a (judgementOf t sets possible created unclosed order .state) .parts
         by-answer Allowed r e = false-true r
         by-answer (Violated q) r e = false-true r
         by-answer (Refused n) r e =
-            let same : judgementOf t sets possible created unclosed .state ≡ heldIn p =
+            let same : judgementOf t sets possible created unclosed order .state ≡ heldIn p =
             ap (λ (j : Judgement). j .state) is ∙ refused-kept edges (heldIn p) raw n (ap (λ (j : Judgement). j .answer) (sym is) ∙ e) in
-            ap (λ (s : State). partsOf (s .sets) (s .possible) (s .created) (s .unclosed) (p .numbers)) same
+            ap (λ (s : State). partsOf (s .sets) (s .possible) (s .created) (s .unclosed) (s .order) (p .numbers)) same
 
     -- otherwise the numbers are those of the new state
     pub taken-left : (f : ℕ) → isRefusal (t .answer) ≡ false → f ≡ cond (t .halted) 1 0
-        → partsOf sets possible created unclosed (t .count ∷ f ∷ []) ≡ judgeParts edges p raw .parts
+        → partsOf sets possible created unclosed order (t .count ∷ f ∷ t .depth ∷ []) ≡ judgeParts edges p raw .parts
     unfolding holding
-    taken-left f r e = left (ap (λ (n : ℕ). partsOf sets possible created unclosed (t .count ∷ n ∷ [])) e ∙ by-answer (t .answer) r)
+    taken-left f r e = left (ap (λ (n : ℕ). partsOf sets possible created unclosed order (t .count ∷ n ∷ t .depth ∷ [])) e ∙ by-answer (t .answer) r)
       where
         by-answer : (a : Answer) → isRefusal a ≡ false
-            → holding (judgementOf t sets possible created unclosed .state) ≡ answeredIn p a
-            (judgementOf t sets possible created unclosed .state) .parts
+            → holding (judgementOf t sets possible created unclosed order .state) ≡ answeredIn p a
+            (judgementOf t sets possible created unclosed order .state) .parts
         by-answer Allowed r = refl
         by-answer (Violated q) r = refl
         by-answer (Refused n) r = false-true (sym r)

@@ -13,17 +13,19 @@ use Rattle.monitor_state.specs.declared.Answer.the-variants.{Allowed, Violated,
 use Rattle.monitor_state.specs.declared.Judgement.{Judgement}
 use Rattle.monitor_state.specs.Judge.{verdictOf, judgeOf}
 
--- the arrays; `numbers` holds how many resources were created, and then a flag: 1 where the state is halted, 0 where it is not
+-- the arrays; `numbers` holds how many resources were created, a flag, which is 1 where the state is halted and 0 where it is not, and how
+-- many openings are not closed
 pub record Parts : Type 0 where
   pub sets : List ℕ
   pub possible : List ℕ
   pub created : List ℕ
   pub unclosed : List ℕ
+  pub order : List ℕ
   pub numbers : List ℕ
 
-abbrev pub partsOf : List ℕ → List ℕ → List ℕ → List ℕ → List ℕ → Parts
-partsOf sets possible created unclosed numbers =
-    record { sets = sets; possible = possible; created = created; unclosed = unclosed; numbers = numbers }
+abbrev pub partsOf : List ℕ → List ℕ → List ℕ → List ℕ → List ℕ → List ℕ → Parts
+partsOf sets possible created unclosed order numbers =
+    record { sets = sets; possible = possible; created = created; unclosed = unclosed; order = order; numbers = numbers }
 
 abbrev pub flag : Parts → ℕ
 flag p = getD (p .numbers) 1 0
@@ -36,12 +38,14 @@ heldIn p = record {
   created = p .created;
   count = getD (p .numbers) 0 0;
   unclosed = p .unclosed;
+  order = p .order;
+  depth = getD (p .numbers) 2 0;
   halted = eqb (flag p) 1;
 }
 
 -- the arrays that hold a state
 unfoldable pub holding : State → Parts
-holding s = partsOf (s .sets) (s .possible) (s .created) (s .unclosed) (s .count ∷ cond (s .halted) 1 0 ∷ [])
+holding s = partsOf (s .sets) (s .possible) (s .created) (s .unclosed) (s .order) (s .count ∷ cond (s .halted) 1 0 ∷ s .depth ∷ [])
 
 -- what is answered, and what the arrays then hold
 pub record Answered : Type 0 where

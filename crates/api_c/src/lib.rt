@@ -5,6 +5,7 @@ use monitor_sets::SETS;
 use monitor_state::Answer;
 use monitor_state::Told;
 use usage::MOST_CREATED;
+use usage::MOST_UNCLOSED;
 use usage::POLICIES;
 use usage::RawStep;
 ghost use mathlib.Core.Path.{_≡_};
@@ -59,11 +60,11 @@ fn no_state(edges: &[u8]) -> u32
 }
 
 // How many numbers a state has beside its arrays.
-const NUMBERS: usize = 2;
+const NUMBERS: usize = 3;
 
-// One step of the judge. The state lies in the lent parts: the sets, what each policy may be in, the created numbers and the unclosed
-// openings, and in `numbers` how many resources were created and a flag, 1 where the state is halted and 0 where it is not. All of them
-// then hold the state that the judge returns; after a refusal they are as they were lent.
+// One step of the judge. The state lies in the lent parts: the sets, what each policy may be in, the created numbers, the counts of unclosed
+// openings and their order, and in `numbers` how many resources were created, a flag, 1 where the state is halted and 0 where it is not, and
+// how many openings are not closed. All of them then hold the state that the judge returns; after a refusal they are as they were lent.
 #[no_mangle]
 pub extern "C" fn judge_parts(
     edges: &[u8],
@@ -71,6 +72,7 @@ pub extern "C" fn judge_parts(
     possible: &mut [u8; POLICIES],
     created: &mut [u32; MOST_CREATED],
     unclosed: &mut [u8; POLICIES],
+    order: &mut [u8; MOST_UNCLOSED],
     numbers: &mut [u64; NUMBERS],
     kind: u32,
     a: u32,
@@ -79,16 +81,19 @@ pub extern "C" fn judge_parts(
     ensures { λ r.
         ⌜ r ≡ codeOf
         (judgeParts (now (edges .entry))
-        (partsOf (now (sets .entry)) (now (possible .entry)) (now (created .entry)) (now (unclosed .entry)) (now (numbers .entry)))
+        (partsOf (now (sets .entry)) (now (possible .entry)) (now (created .entry)) (now (unclosed .entry))
+        (now (order .entry)) (now (numbers .entry)))
         (record { kind = kind; a = a; b = b }) .verdict) ⌝ }
     ensures { λ r.
-        ⌜ partsOf (now (sets .exit)) (now (possible .exit)) (now (created .exit)) (now (unclosed .exit)) (now (numbers .exit))
+        ⌜ partsOf (now (sets .exit)) (now (possible .exit)) (now (created .exit)) (now (unclosed .exit)) (now (order .exit)) (now (numbers .exit))
         ≡ judgeParts (now (edges .entry))
-        (partsOf (now (sets .entry)) (now (possible .entry)) (now (created .entry)) (now (unclosed .entry)) (now (numbers .entry)))
+        (partsOf (now (sets .entry)) (now (possible .entry)) (now (created .entry)) (now (unclosed .entry))
+        (now (order .entry)) (now (numbers .entry)))
         (record { kind = kind; a = a; b = b }) .parts ⌝ }
 {
     let count = numbers[0] as usize;
     let flag = numbers[1];
+    let depth = numbers[2] as usize;
     if 1 < flag {
         return no_state(edges);
     }
@@ -98,7 +103,9 @@ pub extern "C" fn judge_parts(
         possible,
         created,
         unclosed,
+        order,
         count,
+        depth,
         flag == 1,
         RawStep { kind, a, b },
     );
@@ -106,7 +113,8 @@ pub extern "C" fn judge_parts(
     if !is_refusal(answer) {
         let n = t.count as u64;
         let h = flag_of(t.halted);
-        *numbers = [n, h];
+        let d = t.depth as u64;
+        *numbers = [n, h, d];
     }
     code(answer)
 }

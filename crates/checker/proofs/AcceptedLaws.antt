@@ -1,5 +1,5 @@
 -- An outline none of whose traces leaves a policy open and not respected is never halted by the judge.
-use Prim.Native.Nat.{ℕ, zero, suc, _+_, _≤_}
+use Prim.Native.Nat.{ℕ, zero, suc, _≤_}
 use mathlib.Core.Path.{_≡_, refl, sym, ap, subst}
 use mathlib.Core.Bool.{true, false}
 use mathlib.Core.Option.{some}
@@ -8,10 +8,11 @@ use mathlib.Core.Logic.{_⊎_, inl, inr}
 use native.Mathlib.Omega.{arith}
 use native.Mathlib.Decide.{decLe}
 use borrow.Author.Tests.{le-leb}
+use lib.ListN.{length}
 use Rattle.usage.specs.declared.Node.{Node}
 use Rattle.usage.specs.declared.RawStep.{RawStep}
-use Rattle.usage.specs.Limits.{create, mostCreated, mostOpen}
-use Rattle.usage.specs.Past.{Step, event, opening, closing, Past, creates, openings, closings}
+use Rattle.usage.specs.Limits.{create, mostCreated, mostUnclosed}
+use Rattle.usage.specs.Past.{Step, event, opening, closing, Past, creates, openStack}
 use Rattle.usage.specs.Answers.{refused}
 use Rattle.usage.specs.Judge.{stepOf, Case, too-many, too-deep, Refuses, is-refused}
 use Rattle.usage.specs.Outline.{IsTrace}
@@ -51,7 +52,7 @@ step-fits : (step : Step) (past : Past) → StepOk step past → Low (step ∷ p
 step-fits (event a r) past (inl t) low = (let e = t .0 in omega arith, low .low a r (List·Memᴰ·head refl))
 step-fits (event a r) past (inr t) low = (t .1, low .low a r (List·Memᴰ·head refl))
 step-fits (opening p) past h low = h
-step-fits (closing p) past h low = h .1
+step-fits (closing p) past h low = h .2
 
 step-read : (step : Step) → Fits step → stepOf (rawOf step) ≡ some step
 unfolding stepOf
@@ -75,7 +76,8 @@ only-beyond (event (suc a) r) past n (inl t) c = absurd (let h = t .0 in omega a
 only-beyond (event (suc a) r) past n (inr (one, two, inl l)) (e, k, m) = absurd (omega arith)
 only-beyond (event (suc a) r) past n (inr (one, two, inr h)) (e, k, m) = absurd (m h)
 only-beyond (opening p) past n h (e, l) = subst (Beyond past (opening p)) (sym e) (opening-beyond l)
-only-beyond (closing p) past n h (e, m) = absurd (m (h .0))
+only-beyond (closing p) past n h (inl (e, m)) = absurd (m (h .0))
+only-beyond (closing p) past n h (inr (e, o, m)) = absurd (m (h .1))
 
 -- a step has at most one of them
 beyond-once : {past : Past} {step : Step} {n m : ℕ} → Beyond past step n → Beyond past step m → n ≡ m
@@ -99,14 +101,14 @@ beyond? (event (suc a) r) past = inr none-other
   where
     none-other : (n : ℕ) → Beyond past (event (suc a) r) n → ⊥
     none-other n = elim [ ]
-beyond? (opening p) past = go (decLe (closings p past + mostOpen) (openings p past))
+beyond? (opening p) past = go (decLe mostUnclosed (length (openStack past)))
   where
-    none-else : (closings p past + mostOpen ≤ openings p past → ⊥) → (n : ℕ) → Beyond past (opening p) n → ⊥
+    none-else : (mostUnclosed ≤ length (openStack past) → ⊥) → (n : ℕ) → Beyond past (opening p) n → ⊥
     none-else d n (opening-beyond l) = d l
 
-    go : Dec (closings p past + mostOpen ≤ openings p past)
+    go : Dec (mostUnclosed ≤ length (openStack past))
         → ((n : ℕ) × Beyond past (opening p) n) ⊎ ((n : ℕ) → Beyond past (opening p) n → ⊥)
-    go (yes l) = inl (31, opening-beyond l)
+    go (yes l) = inl (32, opening-beyond l)
     go (no d) = inr (none-else d)
 beyond? (closing p) past = inr none-other
   where

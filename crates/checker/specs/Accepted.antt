@@ -1,11 +1,12 @@
 -- What acceptance promises of the judge: "What the check accepts, the judge never halts", over the whole trace.
-use Prim.Native.Nat.{ℕ, _+_, _<_, _≤_}
+use Prim.Native.Nat.{ℕ, _<_, _≤_}
 use mathlib.Core.Path.{_≡_}
 use mathlib.Core.List.{List, [], _∷_, List·Memᴰ}
+use lib.ListN.{length}
 use Rattle.usage.specs.declared.Node.{Node}
 use Rattle.usage.specs.declared.RawStep.{RawStep}
-use Rattle.usage.specs.Limits.{resources, create, mostCreated, mostOpen}
-use Rattle.usage.specs.Past.{Step, event, opening, closing, Past, creates, openings, closings}
+use Rattle.usage.specs.Limits.{resources, create, mostCreated, mostUnclosed}
+use Rattle.usage.specs.Past.{Step, event, opening, closing, Past, creates, openStack}
 use Rattle.usage.specs.Outline.{IsTrace}
 use Rattle.monitor_state.specs.declared.State.{State}
 use Rattle.monitor_state.specs.declared.Answer.the-variants.{Allowed}
@@ -29,7 +30,7 @@ pub record Low (past : Past) : Type 0 where
 -- a create or an opening beyond the judge's limits, with its number
 pub data Beyond (past : Past) : Step → ℕ → Type 0 where
   create-beyond : {r : ℕ} → mostCreated ≤ creates past → Beyond past (event create r) 30
-  opening-beyond : {p : ℕ} → closings p past + mostOpen ≤ openings p past → Beyond past (opening p) 31
+  opening-beyond : {p : ℕ} → mostUnclosed ≤ length (openStack past) → Beyond past (opening p) 32
 
 -- Handed to the judge one after the other, each with the state that the last one returned, every step is allowed up to the first
 -- beyond the judge's limits, which is refused with its number. A step is allowed only where it is within them.

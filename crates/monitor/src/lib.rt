@@ -94,8 +94,8 @@ fn judge_opening(
         return monitor_state::refused(32, count, depth, false);
     }
     let n = unclosed[p];
-    let bad = recount(possible, unclosed, p, n + 1);
-    if bad == 0 {
+    let broken = recount(possible, unclosed, p, n + 1);
+    if broken == 0 {
         order[depth] = p as u8;
     }
     let before = Sizes { count, depth };
@@ -103,7 +103,7 @@ fn judge_opening(
         count,
         depth: depth + 1,
     };
-    monitor_state::settled(bad, before, after)
+    monitor_state::settled(broken, before, after)
 }
 
 // The same of a closing.
