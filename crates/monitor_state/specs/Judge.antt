@@ -16,7 +16,7 @@ use Rattle.usage.specs.Tables.{from, edgesOf, edgeTable}
 use Rattle.monitor_sets.specs.Instances.{firstCreated, instances, setPlaces}
 use Rattle.automaton.specs.Mask.{union, offends, lowestIn}
 unfoldable pub use Rattle.monitor_sets.specs.Created.{listed, distinct, placeFrom, createdOk}
-unfoldable pub use Rattle.monitor_sets.specs.Order.{stackIn, orderOk}
+unfoldable pub use Rattle.monitor_sets.specs.Order.{stackIn, agreeBelow, orderOk}
 pub use Rattle.monitor_sets.specs.Created.{dynamic}
 unfoldable pub use Rattle.monitor_sets.specs.Sets.{copied, movedSets, gathered}
 use Rattle.monitor_state.specs.declared.State.{State}

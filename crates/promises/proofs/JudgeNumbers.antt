@@ -7,10 +7,10 @@ use mathlib.Core.List.{List, [], _∷_, List·Memᴰ, List·Memᴰ·head, List·
 use mathlib.Core.Logic.{_⊎_, inl, inr, _↔_}
 use native.Mathlib.Omega.{arith}
 use lib.Dec.{eqb, ltb, leb, lit<}
-use lib.ListN.{getD, getElem?}
+use lib.ListN.{getElem?}
 use Rattle.usage.specs.declared.Edge.{Edge}
 use Rattle.usage.specs.declared.RawStep.{RawStep}
-use Rattle.usage.specs.Limits.{statics, policies, mostCreated, mostOpen}
+use Rattle.usage.specs.Limits.{statics, policies, mostCreated, mostUnclosed}
 use Rattle.usage.specs.Past.{Step, event, opening, closing}
 use Rattle.usage.specs.Judge.{stepOf}
 use Rattle.usage.specs.Tables.{edgesOf, EdgeTable, edgeTable}
@@ -24,6 +24,7 @@ use Rattle.monitor_state.specs.declared.Answer.{Answer}
 use Rattle.monitor_state.specs.declared.Answer.the-variants.{Allowed, Violated, Refused}
 use Rattle.monitor_state.specs.declared.Judgement.{Judgement}
 use Rattle.monitor_sets.specs.Created.{listed}
+use Rattle.monitor_state.specs.Judge.{openingsOf, lastOpened}
 use Rattle.monitor_state.specs.Judge.{verdictOf, stateOk, live, halt, refusal, refuse, broken, after, settle, judgeStep, judgeRead, judgeOf}
 use Rattle.monitor_state.proofs.BrokenLaws.{broken-lt}
 use Rattle.promises.specs.Demands.{judgeNumbers, Listed, JudgeRefuses}
@@ -95,10 +96,12 @@ unfolding refusal
 refusal-routine s (event zero r) =
     cond-routine (ltb r statics) _ _ (nth 2 judgeNumbers refl, lit< tt)
     (cond-routine (listed r (live s)) _ _ (nth 3 judgeNumbers refl, lit< tt)
-    (cond-routine (leb mostCreated (s .count)) _ _ (nth 6 judgeNumbers refl, lit< tt) tt))
+    (cond-routine (leb mostCreated (s .count)) _ _ (nth 7 judgeNumbers refl, lit< tt) tt))
 refusal-routine s (event (suc a) r) = cond-routine (ltb r statics || listed r (live s)) _ _ tt (nth 4 judgeNumbers refl, lit< tt)
-refusal-routine s (opening p) = cond-routine (leb mostOpen (getD (s .unclosed) p 0)) _ _ (nth 7 judgeNumbers refl, lit< tt) tt
-refusal-routine s (closing p) = cond-routine (ltb 0 (getD (s .unclosed) p 0)) _ _ tt (nth 5 judgeNumbers refl, lit< tt)
+refusal-routine s (opening p) = cond-routine (leb mostUnclosed (s .depth)) _ _ (nth 8 judgeNumbers refl, lit< tt) tt
+refusal-routine s (closing p) =
+    cond-routine (ltb 0 (openingsOf s p)) _ _ (cond-routine (eqb (lastOpened s) p) _ _ tt (nth 6 judgeNumbers refl, lit< tt))
+    (nth 5 judgeNumbers refl, lit< tt)
 
 -- a refusal that comes after the tests of the table and of the state
 abbrev Low : Judgement → Type 0
@@ -145,8 +148,8 @@ module _ (t : List ℕ) (s : State) (raw : RawStep) where
   pub judge-fine : Fine s (judgeOf t s raw)
   unfolding judgeOf
   judge-fine =
-      cond-fine (not (edgeTable t)) _ _ (refuse-fine s 41 (nth 8 judgeNumbers refl))
-      (cond-fine (not (stateOk s)) _ _ (refuse-fine s 42 (nth 9 judgeNumbers refl)) inner-fine)
+      cond-fine (not (edgeTable t)) _ _ (refuse-fine s 41 (nth 9 judgeNumbers refl))
+      (cond-fine (not (stateOk s)) _ _ (refuse-fine s 42 (nth 10 judgeNumbers refl)) inner-fine)
 
   is-41 : edgeTable t ≡ false → judgeOf t s raw ≡ refuse 41 s
   unfolding judgeOf

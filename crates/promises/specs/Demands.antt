@@ -29,7 +29,7 @@ use Rattle.report.specs.Trace.{tracePrinted}
 
 -- "The running routine, in order", "The limits, last of all", "The calling program": the numbers that the judge has
 abbrev pub judgeNumbers : List ℕ
-judgeNumbers = 20 ∷ 21 ∷ 22 ∷ 23 ∷ 24 ∷ 25 ∷ 30 ∷ 31 ∷ 41 ∷ 42 ∷ []
+judgeNumbers = 20 ∷ 21 ∷ 22 ∷ 23 ∷ 24 ∷ 25 ∷ 26 ∷ 30 ∷ 32 ∷ 41 ∷ 42 ∷ []
 
 -- "The author of a sheet", 02, L2, and 40: the numbers that a sheet has, and those that an outline has besides
 abbrev pub sheetNumbers : List ℕ

@@ -5,11 +5,10 @@ use mathlib.Core.List.{List}
 use mathlib.Core.Option.{Option, none, some}
 use native.Mathlib.Omega.{arith}
 use lib.Dec.{eqb, ltb, leb}
-use lib.ListN.{getD}
 use lib.Count.{trailingZeros, trailing-le}
 use Rattle.usage.specs.declared.Edge.{Edge}
 use Rattle.usage.specs.declared.RawStep.{RawStep}
-use Rattle.usage.specs.Limits.{statics, mostCreated, mostOpen}
+use Rattle.usage.specs.Limits.{statics, mostCreated, mostUnclosed}
 use Rattle.usage.specs.Past.{Step, event, opening, closing}
 use Rattle.usage.specs.Answers.{detail}
 use Rattle.usage.specs.Judge.{stepOf}
@@ -18,7 +17,7 @@ use Rattle.monitor_state.specs.declared.State.{State}
 use Rattle.monitor_state.specs.declared.Answer.the-variants.{Allowed, Violated}
 use Rattle.monitor_state.specs.declared.Judgement.{Judgement}
 use Rattle.monitor_state.specs.Judge.{verdictOf, listed, live, stateOk, after, broken, refusal, refuse, halt, settle, judgeStep, judgeRead}
-use Rattle.monitor_state.specs.Judge.{judgeOf}
+use Rattle.monitor_state.specs.Judge.{openingsOf, lastOpened, judgeOf}
 
 abbrev Short : Judgement → Type 0
 Short j = detail (verdictOf (j .answer)) < 100
@@ -55,8 +54,10 @@ refusal-number s (event zero r) =
     (number (listed r (live s)) (some 23) (cond (leb mostCreated (s .count)) (some 30) none) (omega arith)
     (number (leb mostCreated (s .count)) (some 30) none (omega arith) tt))
 refusal-number s (event (suc a) r) = number (ltb r statics || listed r (live s)) none (some 24) tt (omega arith)
-refusal-number s (opening p) = number (leb mostOpen (getD (s .unclosed) p 0)) (some 31) none (omega arith) tt
-refusal-number s (closing p) = number (ltb 0 (getD (s .unclosed) p 0)) none (some 25) tt (omega arith)
+refusal-number s (opening p) = number (leb mostUnclosed (s .depth)) (some 32) none (omega arith) tt
+refusal-number s (closing p) =
+    number (ltb 0 (openingsOf s p)) (cond (eqb (lastOpened s) p) none (some 26)) (some 25)
+    (number (eqb (lastOpened s) p) none (some 26) tt (omega arith)) (omega arith)
 
 step-short : (es : List Edge) (s : State) (step : Step) (o : Option ℕ) → Number o → Short (judgeStep es s step o)
 unfolding judgeStep

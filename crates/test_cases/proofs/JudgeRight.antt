@@ -7,7 +7,7 @@ use mathlib.Core.List.{List, [], _∷_, map}
 use lib.Count.{trailingZeros}
 use Rattle.usage.specs.declared.RawStep.{RawStep}
 use Rattle.usage.specs.Answers.{Verdict}
-use Rattle.usage.specs.Past.{Valid, empty}
+use Rattle.usage.specs.Past.{Valid, empty, occurrences}
 use Rattle.usage.specs.Judge.{stepOf, JudgedAll}
 use Rattle.usage.specs.Tables.{from, edgesOf, EdgeTable, edgeTable}
 use Rattle.usage.specs.Tests.{every, someBelow, edgeOk, edgesOk}
@@ -15,8 +15,9 @@ use Rattle.usage.proofs.Logic.{and-left, and-right}
 use Rattle.usage.proofs.TableLaws.{decides-edge-table}
 use Rattle.automaton.specs.Mask.{has, single, union}
 use Rattle.automaton.specs.Move.{targets, image, move, moveMask}
-use Rattle.monitor_state.specs.Judge.{verdictOf, startState, listed, distinct, stateOk, placeFrom, placeOf, copied}
-use Rattle.monitor_state.specs.Judge.{createdIn, movedSets, movedIn, withUnclosed, after, gathered, broken, refusal}
+use Rattle.monitor_state.specs.Judge.{verdictOf, startState, listed, distinct, createdOk, stackIn, agreeBelow, orderOk, stateOk, placeFrom}
+use Rattle.monitor_state.specs.Judge.{placeOf, copied}
+use Rattle.monitor_state.specs.Judge.{createdIn, movedSets, movedIn, withOpenings, after, gathered, broken, refusal}
 use Rattle.monitor_state.specs.Judge.{refuse, halt, settle, judgeStep, judgeRead, judgeOf, answersOf}
 use Rattle.monitor_state.proofs.Verdict.{all-judged-begin}
 use Rattle.test_cases.specs.JudgeCases.{JudgeCase, JudgedRight, P, caseA, caseB, caseC, caseD}
@@ -25,7 +26,7 @@ use Rattle.test_cases.specs.JudgeCases.{caseE, caseF, caseG, caseH, case
 -- the judge's definition, computed
 unfoldable pub run : List ℕ → List RawStep → List Verdict
 unfolding stepOf from edgesOf edgeTable every someBelow edgeOk edgesOk has single union targets image move moveMask startState listed distinct
-    stateOk placeFrom placeOf copied createdIn movedSets movedIn withUnclosed after gathered broken refusal refuse halt settle judgeStep
+    createdOk occurrences stackIn agreeBelow orderOk stateOk placeFrom placeOf copied createdIn movedSets movedIn withOpenings after gathered broken refusal refuse halt settle judgeStep
     judgeRead judgeOf answersOf trailingZeros
 run t raws = map verdictOf (answersOf t startState raws)
 

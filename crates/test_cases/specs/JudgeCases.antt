@@ -94,12 +94,28 @@ creates65 = record {
   answers = replicate 64 allowed ++ (refused 30 ∷ []);
 }
 
--- "the 255th opening passes and the 256th gives 31"
-abbrev pub openings256 : JudgeCase
-openings256 = record {
+-- "the case of the 256th opening becomes the 65th, with 32" (02, L6): of one policy, and of two in turn
+abbrev pub openings65 : JudgeCase
+openings65 = record {
   edges = [];
-  steps = replicate 256 (step 1 0 0);
-  answers = replicate 255 allowed ++ (refused 31 ∷ []);
+  steps = replicate 65 (step 1 0 0);
+  answers = replicate 64 allowed ++ (refused 32 ∷ []);
+}
+
+abbrev pub openingsInAll : JudgeCase
+openingsInAll = record {
+  edges = [];
+  steps = replicate 32 (step 1 0 0) ++ replicate 32 (step 1 7 0) ++ (step 1 3 0 ∷ step 2 0 0 ∷ step 2 7 0 ∷ step 1 3 0 ∷ []);
+  answers = replicate 64 allowed ++ (refused 32 ∷ refused 26 ∷ allowed ∷ allowed ∷ []);
+}
+
+-- "only the policy opened last, among those not yet closed, can be closed": the outer sandbox before the inner one, which is then closed;
+-- "26 closing an open policy that is not the last opened, after 25"
+abbrev pub outerFirst : JudgeCase
+outerFirst = record {
+  edges = P;
+  steps = step 1 0 0 ∷ step 1 1 0 ∷ step 2 0 0 ∷ step 2 2 0 ∷ step 2 1 0 ∷ step 2 0 0 ∷ step 2 0 0 ∷ [];
+  answers = allowed ∷ allowed ∷ refused 26 ∷ refused 25 ∷ allowed ∷ allowed ∷ refused 25 ∷ [];
 }
 
 -- "21 kind above 2, or a value out of range, or b not 0 in an opening or closing", "25 closing a policy that is not open"
@@ -111,4 +127,4 @@ noSteps = record {
 }
 
 abbrev pub casesLimits : List JudgeCase
-casesLimits = creates65 ∷ openings256 ∷ noSteps ∷ []
+casesLimits = creates65 ∷ openings65 ∷ openingsInAll ∷ outerFirst ∷ noSteps ∷ []

@@ -20,13 +20,16 @@ element-copy-out-count c = search needs
 element-copy-out-flag : tie.Need-element-copy-out-flag
 element-copy-out-flag c = search needs
 
+element-copy-out-depth : tie.Need-element-copy-out-depth
+element-copy-out-depth c = search needs
+
 no-state-requires : tie.Need-no-state-requires
 no-state-requires c κs = search needs
 
 returns : tie.Need-returns
 returns c =
-    let a = c .before .before .before .before .before .args in
-    let p = partsOf (a .sets .now) (a .possible .now) (a .created .now) (a .unclosed .now) (a .numbers .now) in
+    let a = c .before .before .before .before .before .before .args in
+    let p = partsOf (a .sets .now) (a .possible .now) (a .created .now) (a .unclosed .now) (a .order .now) (a .numbers .now) in
     let h : 1 < flag p = omega (arith, c .before .if1 .taken) in
     let e = flag-refused (a .edges .now) p (record { kind = a .kind; a = a .a; b = a .b }) h in
     (c .no-state .ensures ∙ sym (ap (λ (r : Answered). codeOf (r .verdict)) e), sym (ap (λ (r : Answered). r .parts) e))
@@ -46,19 +49,21 @@ code-requires c κs = search needs
 returns-2 : tie.Need-returns-2
 unfolding heldIn
 returns-2 c =
-    let a = c .before .before .before .before .before .before .before .before .before .before .before .before .args in
-    let p = partsOf (a .sets .now) (a .possible .now) (a .created .now) (a .unclosed .now) (a .numbers .now) in
+    let a = c .before .before .before .before .before .before .before .before .before .before .before .before .before .before .args in
+    let p = partsOf (a .sets .now) (a .possible .now) (a .created .now) (a .unclosed .now) (a .order .now) (a .numbers .now) in
     let raw : RawStep = record { kind = a .kind; a = a .a; b = a .b } in
-    let h : flag p ≤ 1 = omega (arith, c .before .before .before .before .before .before .before .before .if1 .left) in
+    let h : flag p ≤ 1 = omega (arith, c .before .before .before .before .before .before .before .before .before .if1 .left) in
     let j = c .before .before .before .judge-lent in
     let r = c .before .before .is-refusal in (
-      c .code .ensures ∙ ap codeOf (told-verdict (a .edges .now) p raw h (j .result) _ _ _ _ (j .ensures)),
+      c .code .ensures ∙ ap codeOf (told-verdict (a .edges .now) p raw h (j .result) _ _ _ _ _ (j .ensures)),
       by-cases (c .before .if2 .came)
-          (λ w. ap (λ (l : List ℕ). partsOf (j .last .1 .0) (j .last .1 .1 .0) (j .last .1 .1 .1 .0) (j .last .1 .1 .1 .1 .0) l) (w .3)
-          ∙ taken-left (a .edges .now) p raw h (j .result) _ _ _ _ (j .ensures) (w .1 .result)
+          (λ w. ap (λ (l : List ℕ). partsOf (j .last .1 .0) (j .last .1 .1 .0) (j .last .1 .1 .1 .0) (j .last .1 .1 .1 .1 .0)
+          (j .last .1 .1 .1 .1 .1 .0) l) (w .3)
+          ∙ taken-left (a .edges .now) p raw h (j .result) _ _ _ _ _ (j .ensures) (w .1 .result)
           (sym (r .ensures) ∙ not-true (r .result) (w .0 .taken)) (w .1 .ensures))
-          (λ w. ap (λ (l : List ℕ). partsOf (j .last .1 .0) (j .last .1 .1 .0) (j .last .1 .1 .1 .0) (j .last .1 .1 .1 .1 .0) l) (w .1)
-          ∙ refused-left (a .edges .now) p raw h (j .result) _ _ _ _ (j .ensures) (sym (r .ensures) ∙ not-false (r .result) (w .0 .left))),
+          (λ w. ap (λ (l : List ℕ). partsOf (j .last .1 .0) (j .last .1 .1 .0) (j .last .1 .1 .1 .0) (j .last .1 .1 .1 .1 .0)
+          (j .last .1 .1 .1 .1 .1 .0) l) (w .1)
+          ∙ refused-left (a .edges .now) p raw h (j .result) _ _ _ _ _ (j .ensures) (sym (r .ensures) ∙ not-false (r .result) (w .0 .left))),
     )
 
 pub judge-parts-spec : {M : Type 1} → statement M
@@ -67,6 +72,7 @@ judge-parts-spec =
     (tie.spec
     element-copy-out-count
     element-copy-out-flag
+    element-copy-out-depth
     no-state-requires
     returns
     judge-lent-requires
