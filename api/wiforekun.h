@@ -39,7 +39,9 @@ extern "C" {
 #define WIFOREKUN_CREATED_ALIGN 4
 #define WIFOREKUN_UNCLOSED_LENGTH 8
 #define WIFOREKUN_UNCLOSED_ALIGN 1
-#define WIFOREKUN_NUMBERS_LENGTH 2
+#define WIFOREKUN_ORDER_LENGTH 64
+#define WIFOREKUN_ORDER_ALIGN 1
+#define WIFOREKUN_NUMBERS_LENGTH 3
 #define WIFOREKUN_NUMBERS_ALIGN 8
 
 struct wiforekun_state {
@@ -47,7 +49,8 @@ struct wiforekun_state {
     uint8_t possible[WIFOREKUN_POSSIBLE_LENGTH]; /* for each policy the states that any of its instances may be in, as bits */
     uint32_t created[WIFOREKUN_CREATED_LENGTH];  /* the dynamic resources that were created, in their order */
     uint8_t unclosed[WIFOREKUN_UNCLOSED_LENGTH]; /* for each policy its openings that are not closed */
-    uint64_t numbers[WIFOREKUN_NUMBERS_LENGTH];  /* how many were created; 1 where the run is halted, else 0 */
+    uint8_t order[WIFOREKUN_ORDER_LENGTH];       /* the policies of the openings that are not closed, the oldest first */
+    uint64_t numbers[WIFOREKUN_NUMBERS_LENGTH];  /* how many were created; 1 where the run is halted, else 0; how many are in `order` */
 };
 
 /* The start: each instance in state 0 (the set with bit 0 alone), and so each policy; nothing created, nothing open, not halted. */
@@ -66,15 +69,17 @@ static inline void wiforekun_start(struct wiforekun_state *state) {
 /* One step of the monitor, under a table of edges (its length in bytes). The state's arrays are lent one by one. Where the step is allowed
  * they hold the new state; where it is violated only the halted flag changes, to 1; where it is refused with a number nothing changes.
  * Of the numbers 40 to 42: 41 where no accepted sheet gives the table; 42 where the state has more than 64 resources created, one twice or
- * outside 16 to 65535, or a halted flag other than 0 and 1. A state that passes but was never reached is judged by the sets that it holds:
- * an event by `sets`, from which it gathers `possible` anew, an opening or a closing by `possible` as it is. Elements of `created` from the
- * count on are not looked at. */
+ * outside 16 to 65535; an order longer than 64, with an entry above 7, or with some policy in it another number of times than `unclosed`
+ * tells; or a halted flag other than 0 and 1. A state that passes but was never reached is judged by the sets that it holds: an event by
+ * `sets`, from which it gathers `possible` anew, an opening or a closing by `possible` as it is. Elements of `created` from the count on,
+ * and of `order` from its length on, are not looked at. */
 uint32_t judge_parts(const uint8_t *edges, size_t edges_length, uint8_t *sets, uint8_t *possible, uint32_t *created, uint8_t *unclosed,
-                     uint64_t *numbers, uint32_t kind, uint32_t a, uint32_t b);
+                     uint8_t *order, uint64_t *numbers, uint32_t kind, uint32_t a, uint32_t b);
 
 static inline uint32_t wiforekun_judge(struct wiforekun_state *state, const uint8_t *edges, size_t edges_length, uint32_t kind, uint32_t a,
                                        uint32_t b) {
-    return judge_parts(edges, edges_length, state->sets, state->possible, state->created, state->unclosed, state->numbers, kind, a, b);
+    return judge_parts(edges, edges_length, state->sets, state->possible, state->created, state->unclosed, state->order, state->numbers,
+                       kind, a, b);
 }
 
 /* The check of a table of nodes under a table of edges (lengths in bytes). 41 where no accepted sheet gives one of the tables. */

@@ -25,7 +25,8 @@ pub const SETS_LENGTH: usize = 648;
 pub const POSSIBLE_LENGTH: usize = 8;
 pub const CREATED_LENGTH: usize = 64;
 pub const UNCLOSED_LENGTH: usize = 8;
-pub const NUMBERS_LENGTH: usize = 2;
+pub const ORDER_LENGTH: usize = 64;
+pub const NUMBERS_LENGTH: usize = 3;
 
 /// The numbers of a step (kind, a, b), and of the table that a counterexample is written to.
 pub const STEP_NUMBERS: usize = 3;
@@ -45,6 +46,7 @@ extern "C" {
         possible: *mut [u8; POSSIBLE_LENGTH],
         created: *mut [u32; CREATED_LENGTH],
         unclosed: *mut [u8; UNCLOSED_LENGTH],
+        order: *mut [u8; ORDER_LENGTH],
         numbers: *mut [u64; NUMBERS_LENGTH],
         kind: u32,
         a: u32,
@@ -140,7 +142,9 @@ pub struct State {
     pub created: [u32; CREATED_LENGTH],
     /// For each policy its openings that are not closed.
     pub unclosed: [u8; UNCLOSED_LENGTH],
-    /// How many resources were created, and 1 where the run is halted.
+    /// The policies of the openings that are not closed, the oldest first.
+    pub order: [u8; ORDER_LENGTH],
+    /// How many resources were created; 1 where the run is halted; how many openings are in `order`.
     pub numbers: [u64; NUMBERS_LENGTH],
 }
 
@@ -151,6 +155,7 @@ impl State {
         possible: [1; POSSIBLE_LENGTH],
         created: [0; CREATED_LENGTH],
         unclosed: [0; UNCLOSED_LENGTH],
+        order: [0; ORDER_LENGTH],
         numbers: [0; NUMBERS_LENGTH],
     };
 
@@ -169,9 +174,9 @@ impl State {
     /// The same as one number: 256 times the answer (0 allowed, 1 violated, 2 refused), and the detail.
     #[inline]
     pub fn judge_code(&mut self, edges: &[u8], [kind, a, b]: [u32; 3]) -> u32 {
-        let State { sets, possible, created, unclosed, numbers } = self;
+        let State { sets, possible, created, unclosed, order, numbers } = self;
         // sound: slices and exclusive references to arrays of the declared lengths; the proved code keeps to these
-        unsafe { judge_parts(edges.as_ptr(), edges.len(), sets, possible, created, unclosed, numbers, kind, a, b) }
+        unsafe { judge_parts(edges.as_ptr(), edges.len(), sets, possible, created, unclosed, order, numbers, kind, a, b) }
     }
 }
 
