@@ -6,11 +6,11 @@ run does the same is the checker's word, which it repeats.
 
 import runs
 import sheets
-from explanations import ALLOWED, NAMES, REFUSED, Differs, Run, explain_check, explain_monitor, opened_words, printed_rows, violated
+from explanations import ALLOWED, NAMES, REFUSED, VIOLATED, Differs, Run, explain_check, explain_monitor, opened_words, printed_rows, violated
 from sheets import CREATE, EVENT, STATICS
 
 # refusals that only say that the run is beyond the monitor's limits
-LIMITS = (30, 31)
+LIMITS = (30, 32)
 
 
 def explain(folder, text, checked, judged):
@@ -74,19 +74,30 @@ def last_words(folder, run, policy, judged):
     """What the monitor says of the run, and why the policy is broken at its end."""
     last = len(run.steps) + 1
     end = violated(run, last, run.steps[-1], policy, "the end of the run")
-    for row, words in explain_monitor(folder, judged):
+    told = explain_monitor(folder, judged)
+    for row, words in told:
         line, answer, detail = row
         if answer == ALLOWED:
             continue
         if answer == REFUSED and detail in LIMITS:
-            return words + [
-                "  so the monitor does not come to the violation: the run goes beyond its limits, and is a run of the outline all the same",
-            ] + end
-        if answer != REFUSED and line == last and detail == policy:
+            return words + beyond_limits(run, told) + end
+        if answer == VIOLATED and line == last and detail == policy:
             return words
-        if answer != REFUSED and line < last and detail > policy:
+        if answer == VIOLATED and line < last and detail > policy:
             return words + [
                 f"  the monitor halts here. The checker names policy {policy}, the lowest that any run breaks, not the first on this run",
             ] + end
         break
     raise Differs("the monitor's first line that is not 'allowed' is not what the counterexample leads to")
+
+
+def beyond_limits(run, told):
+    """What becomes of a run after a step that the monitor's limits refuse."""
+    halted = [(line, policy) for (line, answer, policy), _ in told if answer == VIOLATED]
+    if not halted:
+        return ["  so the monitor does not come to the violation: the run goes beyond its limits, and is a run of the outline all the same"]
+    line, policy = halted[0]
+    return [
+        "  the run goes beyond the monitor's limits, and is a run of the outline all the same. Without the steps that it refuses the monitor",
+        f"  halts at {run.at(line)}, with policy {policy}",
+    ]

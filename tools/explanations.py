@@ -8,7 +8,9 @@ import re
 
 import sheets
 from instances import UNSEEN, Past
-from sheets import CLOSE, CREATE, EVENT, MOST_CREATED, MOST_UNCLOSED, OFFENDING, OPEN, STATICS
+from number_table import numbers
+from refusals import refusal
+from sheets import OFFENDING
 
 NAMES = "line answer detail"
 ALLOWED, VIOLATED, REFUSED = range(3)
@@ -104,10 +106,9 @@ def same(derived, found, what):
 
 
 def meaning(number):
-    table = sheets.numbers()
-    if number not in table:
+    if number not in numbers():
         raise Differs(f"docs/SHEETS.md has no number {number}")
-    return table[number]
+    return numbers()[number]
 
 
 def sheet_refused(folder, kind, refused):
@@ -139,75 +140,10 @@ class Run:
     def at(self, line):
         return f"{self.folder.trace_name}:{line}"
 
-
-def halted(run, step):
-    return run.halted and f"since {run.at(run.halted)}"
-
-
-def out_of_range(run, step):
-    ranges = sheets.STEP_FIELDS.get(step[0])
-    inside = ranges and all(least <= value <= most for value, (_, least, most) in zip(step[1:], ranges))
-    return None if inside else "a value is outside its field's range"
-
-
-def is_create(step):
-    return step[0] == EVENT and step[1] == CREATE
-
-
-def create_static(run, step):
-    return is_create(step) and step[2] < STATICS and f"resource {step[2]} is static (0 to {STATICS - 1}) and always there"
-
-
-def create_again(run, step):
-    return is_create(step) and step[2] in run.past.created and f"resource {step[2]} was created at {run.at(run.past.created[step[2]])}"
-
-
-def not_created(run, step):
-    kind, action, resource = step
-    if kind != EVENT or action == CREATE or resource < STATICS or resource in run.past.created:
-        return None
-    tried = [line for line, (row, _) in run.refused.items() if is_create(row) and row[2] == resource]
-    if tried:
-        return f"the create of resource {resource} at {run.at(tried[-1])} was refused, with {run.refused[tried[-1]][1]}"
-    return f"resource {resource} is dynamic ({STATICS} and up), and no line above creates it"
-
-
-def not_open(run, step):
-    kind, policy, _ = step
-    if kind != CLOSE or run.past.unclosed[policy]:
-        return None
-    opened, closed = run.past.counts[policy]
-    return f"policy {policy} is not open: {sheets.counted(opened, 'opening')} and {sheets.counted(closed, 'closing')} above"
-
-
-def too_many_created(run, step):
-    return is_create(step) and len(run.past.created) >= MOST_CREATED and f"{MOST_CREATED} dynamic resources are created above"
-
-
-def too_many_openings(run, step):
-    return step[0] == OPEN and run.past.unclosed[step[1]] >= MOST_UNCLOSED and f"policy {step[1]} has {MOST_UNCLOSED} openings unclosed"
-
-
-# the refusals of a step, in the order in which they are looked at: the number, and the reason where it is its case
-STEP_REFUSALS = [
-    (20, halted),
-    (21, out_of_range),
-    (22, create_static),
-    (23, create_again),
-    (24, not_created),
-    (25, not_open),
-    (30, too_many_created),
-    (31, too_many_openings),
-]
-
-
-def refusal(run, step):
-    """The number with which a step is refused, and why; none where it is judged."""
-    for number, case in STEP_REFUSALS:
-        why = case(run, step)
-        if why:
-            return number, why
-    return None
+    def quoted(self, line, indent=2, width=0):
+        """A step above, as it is quoted."""
+        words = sheets.step_words(self.names, self.steps[line - 2])
+        return self.folder.quote(sheets.TRACE_SHEET, line, words, indent, width)
 
 
 def step_refused(run, line, step, number, why):
@@ -215,19 +151,14 @@ def step_refused(run, line, step, number, why):
     words = "" if number == 21 else sheets.step_words(run.names, step)
     quoted = run.folder.quote(sheets.TRACE_SHEET, line, words)
     if number == 20:
-        return [f"{run.at(line)}: refused, {number}: {entry.meaning}, {why}"] + quoted
-    return [f"{run.at(line)}: refused, {number}: {entry.meaning}"] + quoted + [
-        f"  {why}",
+        return [f"{run.at(line)}: refused, {number}: {entry.meaning}, {why[0]}"] + quoted
+    return [f"{run.at(line)}: refused, {number}: {entry.meaning}"] + quoted + why + [
         "  the step is no part of the past, and the run goes on",
         f"  usually mended so: {entry.mended}",
     ]
 
 
 # ---- the monitor: a violation
-
-
-def listed(words):
-    return words[0] if len(words) == 1 else ", ".join(words[:-1]) + " and " + words[-1]
 
 
 def resource_words(run, x):
@@ -246,11 +177,11 @@ def way_words(run, policy, x):
         offending = ", which is offending," if to in OFFENDING else ""
         out.append(f"    moves from state {start} to state {to}{offending} at {run.at(move.line)} by {sheets.POLICY_SHEET.file}:{edge}")
         width = max(len(str(move.line)), len(str(edge)))
-        out += run.folder.quote(sheets.TRACE_SHEET, move.line, sheets.step_words(run.names, run.steps[move.line - 2]), 6, width)
+        out += run.quoted(move.line, 6, width)
         out += run.folder.quote(sheets.POLICY_SHEET, edge, sheets.edge_words(run.names, edges[edge]), 6, width)
         if len(move.after) > 1:
             others = [str(state) for state in sorted(move.after - {to})]
-            out.append(f"      (it may also be in state {listed(others)})")
+            out.append(f"      (it may also be in state {sheets.listed(others)})")
     left = run.past.moves(policy, x)
     if left and left[-1].line != way[-1][0].line and way[-1][3] in OFFENDING:
         out.append("    and has not left that state since")
@@ -259,12 +190,11 @@ def way_words(run, policy, x):
 
 def open_words(run, policy, way):
     """Since when the policy is open, and whether the past before the opening counted."""
-    since = run.past.since[policy]
+    since = run.past.openings(policy)[0]
     opened, closed = run.past.counts[policy]
     counts = f" ({sheets.counted(opened, 'opening')}, {sheets.counted(closed, 'closing')})" if opened > 1 else ""
     early = "; what happened before the opening counts too" if way[0][0].line < since else ""
-    out = [f"  policy {policy} is open since {run.at(since)}{counts}{early}"]
-    return out + run.folder.quote(sheets.TRACE_SHEET, since, sheets.step_words(run.names, run.steps[since - 2]), 4)
+    return [f"  policy {policy} is open since {run.at(since)}{counts}{early}"] + run.quoted(since, 4)
 
 
 def others_words(run, policy, x, found):
@@ -273,7 +203,7 @@ def others_words(run, policy, x, found):
     unseen = UNSEEN in found and x is not UNSEEN
     if not others:
         return [f"  every resource that is in no step so far breaks policy {policy} too"] if unseen else []
-    told = f"resource {others[0]} breaks" if len(others) == 1 else f"resources {listed(others)} break"
+    told = f"resource {others[0]} breaks" if len(others) == 1 else f"resources {sheets.listed(others)} break"
     return [f"  {told} policy {policy} too" + (", and so does every resource that is in no step so far" if unseen else "")]
 
 
@@ -282,7 +212,7 @@ def violated(run, line, step, policy, what="violated"):
     x, found = run.past.breaker(policy, step), run.past.breakers(policy)
     why, way = way_words(run, policy, x)
     out = [f"{run.at(line)}: {what}: {run.names.tell('policy', policy)} is open and broken by {resource_words(run, x)}"]
-    out += run.folder.quote(sheets.TRACE_SHEET, line, sheets.step_words(run.names, step))
+    out += run.quoted(line)
     return out + why + open_words(run, policy, way) + others_words(run, policy, x, found)
 
 

@@ -55,9 +55,9 @@ class Past:
         self.events = []
         self.created = {}
         self.seen = set()
-        self.unclosed = [0] * POLICIES
+        # the (policy, line) of each opening that is not closed, the oldest first
+        self.unclosed = []
         self.counts = [[0, 0] for _ in range(POLICIES)]
-        self.since = [None] * POLICIES
         start = frozenset([0])
         self.states = [{x: start for x in [UNSEEN, *range(STATICS)]} for _ in range(POLICIES)]
 
@@ -67,13 +67,15 @@ class Past:
         if kind == EVENT:
             self.event(line, a, b)
         elif kind == OPEN:
-            if self.unclosed[a] == 0:
-                self.since[a] = line
-            self.unclosed[a] += 1
+            self.unclosed.append((a, line))
             self.counts[a][0] += 1
         elif kind == CLOSE:
-            self.unclosed[a] -= 1
+            self.unclosed.remove((a, self.openings(a)[-1]))
             self.counts[a][1] += 1
+
+    def openings(self, policy):
+        """The lines of the openings of a policy that are not closed, the oldest first; none where it is not open."""
+        return [line for opened, line in self.unclosed if opened == policy]
 
     def event(self, line, action, resource):
         self.events.append((line, (action, resource)))
@@ -114,7 +116,7 @@ class Past:
 
     def broken(self):
         """The policies that are open and broken."""
-        return [policy for policy in range(POLICIES) if self.unclosed[policy] and self.breakers(policy)]
+        return [policy for policy in range(POLICIES) if self.openings(policy) and self.breakers(policy)]
 
     def moves(self, policy, x):
         """What the instance of x went through, event by event, from the start on."""

@@ -6,7 +6,7 @@ import sys
 
 import sheets
 from instances import UNSEEN, Past
-from sheets import EVENT, OFFENDING, OPEN
+from sheets import CLOSE, EVENT, OFFENDING, OPEN
 
 FONT = "Helvetica,Arial,sans-serif"
 COLUMN, ROW = 64, 34
@@ -72,8 +72,10 @@ def follow(edges, steps, answers):
     for line, (step, answer) in enumerate(zip(steps, answers), 2):
         column = Column(line, step, answer)
         if column.answer != REFUSED:
+            if step[0] == CLOSE and not past.openings(step[1]):
+                raise ValueError(f"the answers are not those of the monitor: line {line} closes policy {step[1]}, which is not open")
             past.take(line, step)
-        column.open = [unclosed > 0 for unclosed in past.unclosed]
+        column.open = [bool(past.openings(policy)) for policy in range(sheets.POLICIES)]
         columns.append(column)
     return columns, past
 

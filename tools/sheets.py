@@ -1,10 +1,9 @@
 """The three sheets and names.txt, for tools/draw and tools/explain.
 
 A sheet is read by the rules of docs/SHEETS.md, in their order; the first that it breaks is a `Refused`, with the line, the number
-and what is wrong there in words. What a number means in general stands in one table, in docs/SHEETS.md, and is read from there.
+and what is wrong there in words.
 """
 
-import functools
 import os
 import re
 
@@ -15,7 +14,7 @@ STATICS = 16
 OFFENDING = (6, 7)
 CREATE = 0
 MOST_CREATED = 64
-MOST_UNCLOSED = 255
+MOST_UNCLOSED = 64
 LAST_ACTION = 31
 LAST_RESOURCE = 65_535
 DIGITS = 5
@@ -98,6 +97,10 @@ SHEETS = [POLICY_SHEET, TRACE_SHEET, OUTLINE_SHEET]
 
 def counted(number, noun):
     return f"{number:,} {noun}" + ("" if number == 1 else "s")
+
+
+def listed(words):
+    return words[0] if len(words) == 1 else ", ".join(words[:-1]) + " and " + words[-1]
 
 
 def first_difference(line, names):
@@ -362,29 +365,3 @@ def node_words(names, node):
         FRESH: f"fresh: name {a}, then node {b}",
         SANDBOX: f"sandbox: node {b} under {names.tell('policy', a)}",
     }[kind]
-
-
-class Number:
-    """A row of the table of numbers: who brings it about, what it means, how it is usually mended."""
-
-    def __init__(self, number, who, meaning, mended):
-        self.number = number
-        self.who = who
-        self.meaning = meaning
-        self.mended = mended
-
-
-@functools.lru_cache(maxsize=None)
-def numbers():
-    """The table of numbers of docs/SHEETS.md, by number."""
-    top = os.path.dirname(os.path.dirname(os.path.realpath(__file__)))
-    rows = []
-    with open(os.path.join(top, "docs", "SHEETS.md"), encoding="utf-8") as file:
-        for line in file:
-            if line.startswith("| number |"):
-                rows = []
-                for row in iter(file.readline, ""):
-                    if not row.startswith("|"):
-                        break
-                    rows.append([cell.strip().replace("`", "") for cell in row.strip().strip("|").split("|")])
-    return {int(cells[0]): Number(int(cells[0]), *cells[1:]) for cells in rows if cells[0].isdigit()}
