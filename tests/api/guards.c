@@ -11,6 +11,8 @@
 
 #define MARK 0xa5
 #define STEPS 8000
+/* so many steps with openings, then so many without, and so on */
+#define PHASE 1000
 
 static size_t page;
 
@@ -61,6 +63,8 @@ static struct lent lend_to_read(const void *from, size_t size) {
     return lent;
 }
 
+static const uint32_t event[3] = {0, 1, 2};
+
 static uint32_t seed;
 
 static uint32_t below(uint32_t most) {
@@ -71,7 +75,7 @@ static uint32_t below(uint32_t most) {
 }
 
 struct parts {
-    struct lent sets, possible, created, unclosed, numbers;
+    struct lent sets, possible, created, unclosed, order, numbers;
 };
 
 static struct parts lend_state(const struct wiforekun_state *state, enum place place) {
@@ -80,6 +84,7 @@ static struct parts lend_state(const struct wiforekun_state *state, enum place p
         lend(state->possible, sizeof state->possible, WIFOREKUN_POSSIBLE_ALIGN, place),
         lend(state->created, sizeof state->created, WIFOREKUN_CREATED_ALIGN, place),
         lend(state->unclosed, sizeof state->unclosed, WIFOREKUN_UNCLOSED_ALIGN, place),
+        lend(state->order, sizeof state->order, WIFOREKUN_ORDER_ALIGN, place),
         lend(state->numbers, sizeof state->numbers, WIFOREKUN_NUMBERS_ALIGN, place),
     };
     return parts;
@@ -90,12 +95,13 @@ static int same(const struct parts *parts, const struct wiforekun_state *state) 
            !memcmp(parts->possible.bytes, state->possible, sizeof state->possible) &&
            !memcmp(parts->created.bytes, state->created, sizeof state->created) &&
            !memcmp(parts->unclosed.bytes, state->unclosed, sizeof state->unclosed) &&
+           !memcmp(parts->order.bytes, state->order, sizeof state->order) &&
            !memcmp(parts->numbers.bytes, state->numbers, sizeof state->numbers);
 }
 
 static uint32_t judge(const struct parts *parts, struct lent edges, const uint32_t step[3]) {
     return judge_parts(edges.bytes, edges.size, parts->sets.bytes, parts->possible.bytes, (uint32_t *)parts->created.bytes,
-                       parts->unclosed.bytes, (uint64_t *)parts->numbers.bytes, step[0], step[1], step[2]);
+                       parts->unclosed.bytes, parts->order.bytes, (uint64_t *)parts->numbers.bytes, step[0], step[1], step[2]);
 }
 
 static void give_state_back(const struct parts *parts) {
@@ -103,10 +109,42 @@ static void give_state_back(const struct parts *parts) {
     give_back(parts->possible);
     give_back(parts->created);
     give_back(parts->unclosed);
+    give_back(parts->order);
     give_back(parts->numbers);
 }
 
-/* A run of many kinds of step, refused ones too, lent and plain. No edge leads to an offending state, so it is never halted. */
+/* The unclosed openings, followed beside the proved code. */
+struct openings {
+    uint8_t order[WIFOREKUN_ORDER_LENGTH];
+    uint8_t unclosed[WIFOREKUN_UNCLOSED_LENGTH];
+    size_t depth;
+};
+
+/* What an opening or a closing of a policy must be answered, where no policy is broken; an allowed one is followed. */
+static uint32_t followed(struct openings *openings, uint32_t kind, uint32_t policy) {
+    if (kind == 1) {
+        if (openings->depth == WIFOREKUN_ORDER_LENGTH) return 512 + 32;
+        openings->order[openings->depth++] = (uint8_t)policy;
+        openings->unclosed[policy]++;
+        return 0;
+    }
+    if (openings->unclosed[policy] == 0) return 512 + 25;
+    if (openings->order[openings->depth - 1] != policy) return 512 + 26;
+    openings->depth--;
+    openings->unclosed[policy]--;
+    return 0;
+}
+
+/* A step of any kind, refused ones too. Of the closings every other one is of the newest unclosed opening. */
+static void make(uint32_t step[3], const struct openings *openings, int opening) {
+    step[0] = below(4);
+    if (step[0] == 1 && !opening) step[0] = 2;
+    step[1] = below(9);
+    step[2] = step[0] == 0 || below(9) == 0 ? below(120) : 0;
+    if (step[0] == 2 && openings->depth > 0 && below(2)) step[1] = openings->order[openings->depth - 1];
+}
+
+/* A run of many kinds of step, lent and plain. No edge leads to an offending state, so it is never halted. */
 static void run(enum place place) {
     uint8_t edges[WIFOREKUN_MOST_EDGES][WIFOREKUN_EDGE_BYTES];
     for (unsigned i = 0; i < WIFOREKUN_MOST_EDGES; i++) {
@@ -118,21 +156,30 @@ static void run(enum place place) {
     wiforekun_start(&plain);
     struct lent table = lend_to_read(edges, sizeof edges);
     struct parts parts = lend_state(&plain, place);
-    int last_set = 0, last_possible = 0, last_unclosed = 0;
+    struct openings openings = {{0}, {0}, 0};
+    int last_set = 0, last_possible = 0, last_unclosed = 0, emptied = 0;
+    unsigned refused[43] = {0};
     for (unsigned i = 0; i < STEPS; i++) {
-        uint32_t kind = below(4), step[3] = {kind, below(9), kind == 0 || below(9) == 0 ? below(120) : 0};
+        uint32_t step[3];
+        make(step, &openings, i / PHASE % 2 == 0);
         struct wiforekun_state before = plain;
         uint32_t code = judge(&parts, table, step);
         REQUIRE(code == wiforekun_judge(&plain, *edges, sizeof edges, step[0], step[1], step[2]));
         REQUIRE(same(&parts, &plain));
         REQUIRE(WIFOREKUN_ANSWER(code) != 2 || same(&parts, &before));
+        if (WIFOREKUN_ANSWER(code) == 2) refused[WIFOREKUN_DETAIL(code)]++;
+        if ((step[0] == 1 || step[0] == 2) && step[1] < 8 && step[2] == 0) REQUIRE(code == followed(&openings, step[0], step[1]));
+        REQUIRE(plain.numbers[2] == openings.depth && !memcmp(plain.unclosed, openings.unclosed, sizeof openings.unclosed));
+        REQUIRE(!memcmp(plain.order, openings.order, sizeof openings.order));
+        emptied |= i > PHASE && openings.depth == 0;
         last_set |= plain.sets[WIFOREKUN_SETS_LENGTH - 1] != 1;
         last_possible |= plain.possible[WIFOREKUN_POSSIBLE_LENGTH - 1] != 1;
         last_unclosed |= plain.unclosed[WIFOREKUN_UNCLOSED_LENGTH - 1] > 0;
     }
     /* the whole of each array is in use */
     REQUIRE(plain.numbers[0] == WIFOREKUN_CREATED_LENGTH && plain.created[WIFOREKUN_CREATED_LENGTH - 1] >= 16);
-    REQUIRE(last_set && last_possible && last_unclosed);
+    REQUIRE(last_set && last_possible && last_unclosed && plain.order[WIFOREKUN_ORDER_LENGTH - 1] > 0);
+    REQUIRE(refused[25] && refused[26] && refused[32] && emptied);
     give_state_back(&parts);
     REQUIRE(munmap(table.ground - page, 3 * page) == 0);
 }
@@ -140,13 +187,15 @@ static void run(enum place place) {
 /* A violation: only the halted flag changes. */
 static void violation(enum place place) {
     static const uint8_t edges[] = {5, 0, 1, 2, 0, 6};
-    static const uint32_t opening[3] = {1, 5, 0}, event[3] = {0, 1, 2};
+    static const uint32_t opening[3] = {1, 5, 0};
     struct wiforekun_state plain;
     wiforekun_start(&plain);
     struct lent table = lend_to_read(edges, sizeof edges);
     struct parts parts = lend_state(&plain, place);
     REQUIRE(judge(&parts, table, opening) == 0);
     plain.unclosed[5] = 1;
+    plain.order[0] = 5;
+    plain.numbers[2] = 1;
     REQUIRE(same(&parts, &plain));
     REQUIRE(judge(&parts, table, event) == 256 + 5);
     plain.numbers[1] = 1;
@@ -157,12 +206,12 @@ static void violation(enum place place) {
     REQUIRE(munmap(table.ground - page, 3 * page) == 0);
 }
 
-static void refused_with(uint32_t number, const char *what, const struct wiforekun_state *state, const uint8_t *edges, size_t length) {
-    static const uint32_t event[3] = {0, 1, 2};
+static void refused_with(uint32_t number, const char *what, const struct wiforekun_state *state, const uint8_t *edges, size_t length,
+                         const uint32_t step[3]) {
     for (enum place place = END; place < PLACES; place++) {
         struct lent table = lend_to_read(edges, length);
         struct parts parts = lend_state(state, place);
-        uint32_t code = judge(&parts, table, event);
+        uint32_t code = judge(&parts, table, step);
         if (code != 512 + number || !same(&parts, state)) {
             fprintf(stderr, "tests/api/guards: %s is not refused with %u and left as it is, but answered %u %u\n", what, (unsigned)number,
                     (unsigned)WIFOREKUN_ANSWER(code), (unsigned)WIFOREKUN_DETAIL(code));
@@ -173,33 +222,89 @@ static void refused_with(uint32_t number, const char *what, const struct wiforek
     }
 }
 
+/* Orders of openings that are refused with 42, and stay as they are. */
+static void orders(void) {
+    static const uint8_t edges[] = {0, 0, 1, 1, 0, 1};
+    static const uint32_t open_7[3] = {1, 7, 0}, close_6[3] = {2, 6, 0};
+    struct wiforekun_state state;
+    wiforekun_start(&state);
+    memset(state.order, 7, sizeof state.order);
+    state.unclosed[7] = WIFOREKUN_ORDER_LENGTH;
+    state.numbers[2] = WIFOREKUN_ORDER_LENGTH;
+    refused_with(32, "an opening beyond a full order", &state, edges, sizeof edges, open_7);
+    refused_with(25, "a closing of a policy that is not in a full order", &state, edges, sizeof edges, close_6);
+    state.numbers[2] = WIFOREKUN_ORDER_LENGTH + 1;
+    refused_with(42, "an order above the most", &state, edges, sizeof edges, event);
+    state.numbers[2] = UINT64_MAX;
+    refused_with(42, "the longest order", &state, edges, sizeof edges, event);
+    state.numbers[2] = WIFOREKUN_ORDER_LENGTH - 1;
+    refused_with(42, "a count above the order's", &state, edges, sizeof edges, event);
+    state.unclosed[7] = WIFOREKUN_ORDER_LENGTH - 2;
+    refused_with(42, "a count below the order's", &state, edges, sizeof edges, event);
+    state.unclosed[6] = 1;
+    refused_with(42, "the count of another policy", &state, edges, sizeof edges, event);
+    state.order[0] = 6;
+    refused_with(26, "a closing of the oldest", &state, edges, sizeof edges, close_6);
+    state.order[0] = 8;
+    refused_with(42, "an entry of 8", &state, edges, sizeof edges, event);
+    wiforekun_start(&state);
+    state.numbers[2] = 1;
+    state.order[0] = 255;
+    refused_with(42, "an entry that no count tells of", &state, edges, sizeof edges, event);
+    state.numbers[2] = 0;
+    state.unclosed[0] = 255;
+    refused_with(42, "a count without an order", &state, edges, sizeof edges, event);
+}
+
+/* What is beyond the length of an order counts for nothing: an opening writes one place, a closing none. */
+static void beyond_the_order(enum place place) {
+    static const uint8_t edges[] = {0, 0, 1, 1, 0, 1};
+    static const uint32_t opening[3] = {1, 3, 0}, closing[3] = {2, 3, 0};
+    struct wiforekun_state plain;
+    wiforekun_start(&plain);
+    memset(plain.order, 200, sizeof plain.order);
+    struct lent table = lend_to_read(edges, sizeof edges);
+    struct parts parts = lend_state(&plain, place);
+    REQUIRE(judge(&parts, table, opening) == 0);
+    plain.unclosed[3] = 1;
+    plain.order[0] = 3;
+    plain.numbers[2] = 1;
+    REQUIRE(same(&parts, &plain));
+    REQUIRE(judge(&parts, table, closing) == 0);
+    plain.unclosed[3] = 0;
+    plain.numbers[2] = 0;
+    REQUIRE(same(&parts, &plain));
+    give_state_back(&parts);
+    REQUIRE(munmap(table.ground - page, 3 * page) == 0);
+}
+
 /* Tables and states that are refused with 41 and 42, and stay as they are. */
 static void refusals(void) {
     static const uint8_t edges[] = {0, 0, 1, 1, 0, 1}, high[] = {8, 0, 1, 1, 0, 1};
     static const uint8_t many[(WIFOREKUN_MOST_EDGES + 1) * WIFOREKUN_EDGE_BYTES];
     struct wiforekun_state state;
     wiforekun_start(&state);
-    refused_with(41, "a table that ends inside an edge", &state, edges, sizeof edges - 1);
-    refused_with(41, "a table with policy 8", &state, high, sizeof high);
-    refused_with(41, "a table of too many edges", &state, many, sizeof many);
+    refused_with(41, "a table that ends inside an edge", &state, edges, sizeof edges - 1, event);
+    refused_with(41, "a table with policy 8", &state, high, sizeof high, event);
+    refused_with(41, "a table of too many edges", &state, many, sizeof many, event);
     state.numbers[0] = WIFOREKUN_CREATED_LENGTH + 1;
-    refused_with(42, "a count above the most", &state, edges, sizeof edges);
+    refused_with(42, "a count above the most", &state, edges, sizeof edges, event);
     state.numbers[0] = UINT64_MAX;
-    refused_with(42, "the highest count", &state, edges, sizeof edges);
+    refused_with(42, "the highest count", &state, edges, sizeof edges, event);
     state.numbers[0] = 2;
     state.created[0] = state.created[1] = 20;
-    refused_with(42, "a resource created twice", &state, edges, sizeof edges);
+    refused_with(42, "a resource created twice", &state, edges, sizeof edges, event);
     state.created[1] = 15;
-    refused_with(42, "a static resource created", &state, edges, sizeof edges);
+    refused_with(42, "a static resource created", &state, edges, sizeof edges, event);
     state.created[1] = 65536;
-    refused_with(42, "a resource above the highest", &state, edges, sizeof edges);
+    refused_with(42, "a resource above the highest", &state, edges, sizeof edges, event);
     state.created[1] = 21;
     state.numbers[1] = 1;
-    refused_with(20, "a halted state", &state, edges, sizeof edges);
+    refused_with(20, "a halted state", &state, edges, sizeof edges, event);
     state.numbers[1] = 2;
-    refused_with(42, "a halted flag of 2", &state, edges, sizeof edges);
+    refused_with(42, "a halted flag of 2", &state, edges, sizeof edges, event);
     state.numbers[1] = UINT64_MAX;
-    refused_with(42, "the highest halted flag", &state, edges, sizeof edges);
+    refused_with(42, "the highest halted flag", &state, edges, sizeof edges, event);
 }
 
 /* The check reads no more than its tables. */
@@ -281,6 +386,7 @@ int main(void) {
         seed = 2463534242u + place;
         run(place);
         violation(place);
+        beyond_the_order(place);
     }
     outlines();
 #ifdef COUNTEREXAMPLE
@@ -290,6 +396,7 @@ int main(void) {
     reports();
 #endif
     refusals();
+    orders();
     puts("tests/api/guards: no byte outside of what was lent was touched");
     return 0;
 }

@@ -42,6 +42,57 @@ fn a_violation_halts_and_changes_nothing_else() {
 }
 
 #[test]
+fn sandboxes_close_inside_out() {
+    let mut state = State::START;
+    for step in [[1, 0, 0], [1, 3, 0], [1, 0, 0], [1, 5, 0]] {
+        assert_eq!(state.judge(&P, step), Answer::Allowed);
+    }
+    assert_eq!((state.numbers[2], &state.order[..5]), (4, &[0, 3, 0, 5, 0][..]));
+    let before = state.clone();
+    for (step, number) in [([2, 0, 0], 26), ([2, 3, 0], 26), ([2, 1, 0], 25)] {
+        assert_eq!(state.judge(&P, step), Answer::Refused(number));
+        assert!(state == before, "the state after refusal {number}");
+    }
+    for step in [[2, 5, 0], [2, 0, 0], [2, 3, 0], [2, 0, 0]] {
+        assert_eq!(state.judge(&P, step), Answer::Allowed);
+    }
+    assert_eq!((state.numbers, state.unclosed), ([0; 3], [0; 8]));
+    assert_eq!(state.judge(&P, [2, 0, 0]), Answer::Refused(25));
+}
+
+#[test]
+fn sixty_four_openings_in_all() {
+    let mut state = State::START;
+    for place in 0..64 {
+        assert_eq!(state.judge(&P, [1, place % 8, 0]), Answer::Allowed);
+    }
+    assert_eq!((state.numbers[2], state.unclosed), (64, [8; 8]));
+    for policy in 0..8 {
+        assert_eq!(state.judge(&P, [1, policy, 0]), Answer::Refused(32));
+    }
+    assert_eq!(state.judge(&P, [2, 7, 0]), Answer::Allowed);
+    assert_eq!(state.judge(&P, [1, 2, 0]), Answer::Allowed);
+    assert_eq!((state.numbers[2], state.order[63]), (64, 2));
+}
+
+#[test]
+fn an_order_that_disagrees() {
+    let open = State { unclosed: [1, 0, 0, 0, 0, 0, 0, 0], numbers: [0, 0, 1], ..State::START };
+    assert_eq!(open.clone().judge(&P, [2, 0, 0]), Answer::Allowed);
+    let mut wrong = vec![open.clone(); 4];
+    wrong[0].order[0] = 1;
+    wrong[1].order[0] = 8;
+    wrong[2].numbers[2] = 2;
+    wrong[3].unclosed[0] = 2;
+    wrong.push(State { numbers: [0, 0, 65], ..State::START });
+    for state in wrong {
+        let mut judged = state.clone();
+        assert_eq!(judged.judge(&P, [0, 1, 3]), Answer::Refused(42));
+        assert!(judged == state);
+    }
+}
+
+#[test]
 fn outlines() {
     // a sandbox around: read static 3; take it and read it; and a table that is no outline
     assert_eq!(check(&P, &[8, 0, 1, 1, 2, 3]), Outcome::Named(0));
