@@ -1,5 +1,6 @@
 //! Calls of the functions themselves: at the borders of the refusals that no sheet can bring about, 21, 40, 41 and 42; what the check with a
-//! counterexample leaves in the table that it is lent; and on states whose kept sets disagree with their instance sets.
+//! counterexample leaves in the table that it is lent; on states whose kept sets disagree with their instance sets; and on orders of
+//! unclosed openings, right and damaged, and what is left of them.
 
 use crate::counterexample::counterexample_tables;
 use crate::judge::Step;
@@ -7,7 +8,7 @@ use crate::outline::Node;
 use crate::policy::Edge;
 use crate::pushdown::check_tables;
 use crate::sheet::{read_outline, read_policies, read_trace, MOST_EDGES, MOST_NODES, MOST_STEPS};
-use crate::state::{judge_state, State};
+use crate::state::{judge_state, write_state, State};
 
 type Line = (u32, usize);
 
@@ -23,12 +24,97 @@ fn judged(to: u64, [count, halted]: [u64; 2], [first, second]: [u64; 2], [kind, 
 
 /// A step from a state like the start, but that policy 0 has two openings, a kept set of its own and another set for resource 0's instance.
 fn kept(kept: u8, set: u8, [kind, a, b]: [u64; 3]) -> String {
-    let mut state = State::start();
-    state.openings[0] = 2;
+    let mut state = State::opened(&[0, 0]);
     state.kept[0] = kept;
     state.sets[0][0] = set;
     let (answer, _) = judge_state(&[Edge::new([0, 0, 0, 0, 0, 7])], &state, Step { kind, a, b });
     told(answer.numbers())
+}
+
+/// A state like the start, but for the order of unclosed openings: its first entry, all others, its length and the counts of policies 1 and
+/// 6; for the flag, and for what is kept of policy 1.
+struct Ordered {
+    first: u64,
+    rest: u64,
+    depth: u64,
+    of_1: u64,
+    of_6: u64,
+    halted: u64,
+    kept: u8,
+}
+
+impl Ordered {
+    fn new([first, rest, depth, of_1, of_6]: [u64; 5]) -> Ordered {
+        Ordered { first, rest, depth, of_1, of_6, halted: 0, kept: 1 }
+    }
+
+    fn state(&self) -> State {
+        let mut state = State { depth: self.depth, halted: self.halted, ..State::start() };
+        state.order.fill(self.rest);
+        state.order[0] = self.first;
+        state.openings[1] = self.of_1;
+        state.openings[6] = self.of_6;
+        state.kept[1] = self.kept;
+        state
+    }
+
+    /// The answer and its detail, and how many places of all arrays are not as they were lent.
+    fn step(&self, [kind, a, b]: [u64; 3]) -> String {
+        let state = self.state();
+        let (answer, after) = judge_state(&[Edge::new([0, 0, 0, 0, 0, 7])], &state, Step { kind, a, b });
+        let numbers = |state: &State| -> Vec<u64> {
+            let text = write_state(state);
+            text.split_ascii_whitespace().map(|word| word.parse().unwrap()).collect()
+        };
+        let changed = numbers(&state).into_iter().zip(numbers(&after)).filter(|(a, b)| a != b).count();
+        format!("{} {changed}", told(answer.numbers()))
+    }
+}
+
+/// 25, 26 and 32 at their borders, 20 before them, the order in 42, and a step that is violated.
+fn order_lines() -> Vec<String> {
+    let (open_1, open_6, close_1, close_6) = ([1, 1, 0], [1, 6, 0], [2, 1, 0], [2, 6, 0]);
+    let event = [0, 1, 0];
+    let full = Ordered::new([1, 6, 64, 1, 63]);
+    let below = Ordered::new([1, 6, 63, 1, 62]);
+    let single = Ordered::new([1, 255, 1, 1, 0]);
+    let double = Ordered::new([1, 6, 2, 1, 1]);
+    let halted = Ordered { halted: 1, ..Ordered::new([1, 6, 64, 1, 63]) };
+    let broken = Ordered { kept: 64, ..Ordered::new([1, 6, 2, 1, 1]) };
+    let damaged = |numbers: [u64; 5]| Ordered::new(numbers).step(event);
+    vec![
+        below.step(open_1),
+        below.step(open_6),
+        full.step(open_1),
+        full.step([1, 2, 0]),
+        full.step(close_6),
+        full.step(close_1),
+        full.step([2, 2, 0]),
+        full.step(event),
+        single.step(open_6),
+        single.step(close_1),
+        single.step(close_6),
+        double.step(close_1),
+        double.step(close_6),
+        halted.step(open_6),
+        halted.step(close_1),
+        broken.step(open_6),
+        broken.step(close_6),
+        broken.step(close_1),
+        damaged([1, 6, 65, 1, 64]),
+        damaged([1, 6, u64::MAX, 1, 64]),
+        damaged([1, 6, (1 << 32) + 2, 1, 1]),
+        damaged([8, 6, 64, 0, 63]),
+        damaged([9, 6, 64, 1, 63]),
+        damaged([1, 255, 2, 1, 0]),
+        damaged([1, 6, 64, 1, 62]),
+        damaged([1, 6, 64, 1, 64]),
+        damaged([6, 6, 64, 1, 63]),
+        damaged([1, 6, 2, 0, 2]),
+        damaged([1, 6, 0, 1, 0]),
+        damaged([1, 6, 0, 0, 0]),
+        Ordered { halted: 1, ..Ordered::new([1, 6, 65, 1, 64]) }.step([3, 0, 0]),
+    ]
 }
 
 fn told((answer, detail): Line) -> String {
@@ -147,5 +233,6 @@ pub fn lines() -> String {
         kept(1, 64, [2, 0, 0]),
         kept(1, 64, [0, 1, 0]),
     ];
-    lines.iter().enumerate().map(|(number, line)| format!("{} {line}\n", number + 1)).collect()
+    let lines = lines.into_iter().chain(order_lines());
+    lines.enumerate().map(|(number, line)| format!("{} {line}\n", number + 1)).collect()
 }

@@ -124,16 +124,16 @@ fn follow(edges: &[Edge], steps: &[Step], judged: impl Fn(&Step) -> bool) -> (us
 }
 
 /// The same where other policies are never opened. Every shortest counterexample to the policy is followed to its last step, which
-/// violates the policy; or, with more than 64 creates, to the 65th.
+/// violates the policy; or, with more than 64 creates or openings unclosed, to the 65th.
 pub fn follow_alone(edges: &[Edge], policy: usize, steps: &[Step]) -> (usize, Answer) {
     follow(edges, steps, |step| step.kind == EVENT || step.a == policy as u64)
 }
 
 /// Does the judge stop where it may, on a shortest counterexample to the lowest policy that any trace breaks? At the last step, for that
-/// policy; before, for a higher one; or at a create beyond its limit. Which of these it is depends on the trace that is shown.
+/// policy; before, for a higher one; or at a create or an opening beyond its limit. Which of these it is depends on the trace that is shown.
 pub fn stops_rightly(edges: &[Edge], policy: usize, steps: &[Step]) -> bool {
     match follow(edges, steps, |_| true) {
-        (_, Answer::Refused(number)) => number == 30,
+        (_, Answer::Refused(number)) => number == 30 || number == 32,
         (past, Answer::Violated(named)) if past + 1 == steps.len() => named == policy,
         (_, Answer::Violated(named)) => named > policy,
         (_, Answer::Allowed) => false,

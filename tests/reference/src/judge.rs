@@ -3,7 +3,8 @@
 use crate::policy::{is_static, Edge, Event, Policy, POLICIES};
 
 pub const MOST_CREATED: usize = 64;
-pub const MOST_OPENINGS: usize = 255;
+/// The openings that can be unclosed, in all.
+pub const MOST_UNCLOSED: usize = 64;
 pub const LARGEST_RESOURCE: u64 = 65_535;
 
 pub const EVENT: u64 = 0;
@@ -77,6 +78,23 @@ pub fn is_open(steps: &[Step], policy: usize) -> bool {
     count(steps, Step::open(policy as u64)) > count(steps, Step::close(policy as u64))
 }
 
+/// The policies of the openings that are not closed, the one opened last at the end. A closing is that of the last opening of its policy.
+pub fn unclosed(steps: &[Step]) -> Vec<u64> {
+    let mut open = Vec::new();
+    for step in steps {
+        match step.kind {
+            OPEN => open.push(step.a),
+            CLOSE => {
+                if let Some(last) = open.iter().rposition(|policy| *policy == step.a) {
+                    open.remove(last);
+                }
+            }
+            _ => {}
+        }
+    }
+    open
+}
+
 /// The lowest policy that these steps leave open and not respected.
 pub fn lowest_broken(policies: &[Policy], steps: &[Step]) -> Option<usize> {
     let events = events(steps);
@@ -128,7 +146,8 @@ pub trait Standing {
     fn is_halted(&self) -> bool;
     fn is_created(&self, resource: u64) -> bool;
     fn created_count(&self) -> usize;
-    fn unclosed(&self, policy: u64) -> usize;
+    /// The policies of the openings that are not closed, the one opened last at the end.
+    fn unclosed(&self) -> Vec<u64>;
 }
 
 impl Standing for Judge {
@@ -144,8 +163,8 @@ impl Standing for Judge {
         self.past.iter().filter(|s| s.kind == EVENT && s.a == CREATE).count()
     }
 
-    fn unclosed(&self, policy: u64) -> usize {
-        count(&self.past, Step::open(policy)) - count(&self.past, Step::close(policy))
+    fn unclosed(&self) -> Vec<u64> {
+        unclosed(&self.past)
     }
 }
 
@@ -159,9 +178,17 @@ pub fn refusal(standing: &impl Standing, step: Step) -> Option<u32> {
     }
     match step.kind {
         EVENT => event_refusal(standing, step.a, step.b),
-        OPEN => (standing.unclosed(step.a) >= MOST_OPENINGS).then_some(31),
-        _ => (standing.unclosed(step.a) == 0).then_some(25),
+        OPEN => (standing.unclosed().len() >= MOST_UNCLOSED).then_some(32),
+        _ => closing_refusal(&standing.unclosed(), step.a),
     }
+}
+
+/// "only the policy opened last, among those not yet closed, can be closed".
+fn closing_refusal(unclosed: &[u64], policy: u64) -> Option<u32> {
+    if !unclosed.contains(&policy) {
+        return Some(25);
+    }
+    (unclosed.last() != Some(&policy)).then_some(26)
 }
 
 fn event_refusal(standing: &impl Standing, action: u64, resource: u64) -> Option<u32> {

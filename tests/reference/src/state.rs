@@ -1,7 +1,7 @@
 //! The judge on a state that is handed to it, reached or not.
 
 use crate::judge::{
-    refusal, Answer, Standing, Step, CLOSE, CREATE, LARGEST_RESOURCE, MOST_CREATED, MOST_OPENINGS,
+    refusal, Answer, Standing, Step, CLOSE, CREATE, LARGEST_RESOURCE, MOST_CREATED, MOST_UNCLOSED,
     OPEN,
 };
 use crate::policy::{
@@ -17,7 +17,11 @@ pub struct State {
     pub halted: u64,
     pub count: u64,
     pub created: [u64; MOST_CREATED],
+    /// For each policy how many of its openings are not closed.
     pub openings: [u64; POLICIES],
+    /// How many openings are not closed, in all, and their policies, the one opened first in the first place.
+    pub depth: u64,
+    pub order: [u64; MOST_UNCLOSED],
     /// Bit s of a mask: the instance may be in state s.
     pub sets: [[u8; POLICIES]; INSTANCES],
     /// For each policy the states that any instance may be in, as the last event gathered them.
@@ -31,9 +35,21 @@ impl State {
             count: 0,
             created: [0; MOST_CREATED],
             openings: [0; POLICIES],
+            depth: 0,
+            order: [0; MOST_UNCLOSED],
             sets: [[1; POLICIES]; INSTANCES],
             kept: [1; POLICIES],
         }
+    }
+
+    /// As the start, but that these policies were opened, one after the other.
+    pub fn opened(policies: &[u64]) -> State {
+        let mut state = State { depth: policies.len() as u64, ..State::start() };
+        for (place, policy) in policies.iter().enumerate() {
+            state.order[place] = *policy;
+            state.openings[*policy as usize] += 1;
+        }
+        state
     }
 
     fn created(&self) -> &[u64] {
@@ -44,9 +60,21 @@ impl State {
     fn fits(&self) -> bool {
         self.halted <= 1
             && self.count <= MOST_CREATED as u64
-            && self.openings.iter().all(|n| *n <= MOST_OPENINGS as u64)
+            && self.depth <= MOST_UNCLOSED as u64
+            && self.order_agrees()
             && self.created().iter().all(|r| (STATICS..=LARGEST_RESOURCE).contains(r))
             && (1..self.created().len()).all(|i| !self.created[..i].contains(&self.created[i]))
+    }
+
+    fn order(&self) -> &[u64] {
+        &self.order[..self.depth as usize]
+    }
+
+    /// Does each policy stand in the order as often as its openings are counted, and nothing else?
+    fn order_agrees(&self) -> bool {
+        let times = |policy: usize| self.order().iter().filter(|p| **p == policy as u64).count();
+        self.order().iter().all(|p| *p < POLICIES as u64)
+            && (0..POLICIES).all(|policy| times(policy) as u64 == self.openings[policy])
     }
 
     /// The resource that a place of the sets stands for.
@@ -94,8 +122,15 @@ impl State {
     fn after(&self, policies: &[Policy], step: Step) -> State {
         let mut next = self.clone();
         match step.kind {
-            OPEN => next.openings[step.a as usize] += 1,
-            CLOSE => next.openings[step.a as usize] -= 1,
+            OPEN => {
+                next.order[self.depth as usize] = step.a;
+                next.depth += 1;
+                next.openings[step.a as usize] += 1;
+            }
+            CLOSE => {
+                next.depth -= 1;
+                next.openings[step.a as usize] -= 1;
+            }
             _ => {
                 if step.a == CREATE {
                     next.add_created(step.b);
@@ -121,8 +156,8 @@ impl Standing for State {
         self.count as usize
     }
 
-    fn unclosed(&self, policy: u64) -> usize {
-        self.openings[policy as usize] as usize
+    fn unclosed(&self) -> Vec<u64> {
+        self.order().to_vec()
     }
 }
 
@@ -195,7 +230,9 @@ fn read_state(next: &mut impl FnMut() -> Option<u64>) -> Option<State> {
     let mut state = State::start();
     state.halted = next()?;
     state.count = next()?;
-    for number in state.openings.iter_mut().chain(state.created.iter_mut()) {
+    state.depth = next()?;
+    let State { openings, order, created, .. } = &mut state;
+    for number in openings.iter_mut().chain(order).chain(created) {
         *number = next()?;
     }
     for mask in state.kept.iter_mut().chain(state.sets.iter_mut().flatten()) {
@@ -204,10 +241,11 @@ fn read_state(next: &mut impl FnMut() -> Option<u64>) -> Option<State> {
     Some(state)
 }
 
-/// Halted and count; the openings; the created numbers; the kept masks; a line of masks for each instance.
+/// Halted, count and depth; the openings; their order; the created numbers; the kept masks; a line of masks for each instance.
 pub fn write_state(state: &State) -> String {
-    let mut text = line(&[state.halted, state.count]);
+    let mut text = line(&[state.halted, state.count, state.depth]);
     text += &line(&state.openings);
+    text += &line(&state.order);
     text += &line(&state.created);
     text += &line(&state.kept.map(u64::from));
     for row in &state.sets {

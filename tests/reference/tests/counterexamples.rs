@@ -10,7 +10,7 @@ use reference::generate::outlines::{
     counting_draft, crowded_draft, dense_draft, grown_draft, late_draft, mutated, naming_draft,
     recursive_draft, sized_draft, Draft,
 };
-use reference::judge::{events, Answer, Judge, Step, OPEN};
+use reference::judge::{events, unclosed, Answer, Judge, Step, OPEN};
 use reference::least::{shortest_length, shortest_run};
 use reference::outline::Node;
 use reference::policy::{instances, offends, Edge, Policy, POLICIES};
@@ -333,6 +333,7 @@ struct Has {
     after_a_back: bool,
     judge_stops_before: bool,
     short_for_another: bool,
+    most_unclosed: Vec<usize>,
     accepted: usize,
     refused: usize,
 }
@@ -367,6 +368,8 @@ fn the_stored_cases_have_every_border() {
     assert!(!has.lengths.contains(&0) && !has.lengths.contains(&1));
     assert!(has.opening_last && has.never_used && has.seventy && has.after_a_back, "{has:?}");
     assert!(has.judge_stops_before && has.short_for_another, "{has:?}");
+    // the judge's limit of openings, at both sides
+    assert!([64, 65].iter().all(|most| has.most_unclosed.contains(most)), "{has:?}");
     assert!(has.accepted >= 5 && has.refused >= 10, "{has:?}");
 }
 
@@ -383,6 +386,8 @@ impl Has {
         self.opening_last |= last.kind == OPEN;
         self.never_used |= offenders.iter().all(|own| own.is_none());
         self.seventy |= created == 70;
+        let most = (0..=steps.len()).map(|end| unclosed(&steps[..end]).len()).max();
+        self.most_unclosed.extend(most);
         // a name means again what it meant before a later one was given
         self.after_a_back |= created > 1 && last.kind == 0 && last.a != 0 && last.b == 16;
         let mut judge = Judge::new(edges);

@@ -100,8 +100,25 @@ fn limits_of_creates_and_openings() {
     let creates: String = (16..81).map(|r| format!("0 0 {r};")).collect();
     let printed = judged("", &creates);
     assert!(printed.ends_with("65 0 0;66 2 30;"), "{printed}");
-    let printed = judged("", &"1 3 0;".repeat(256));
-    assert!(printed.ends_with("256 0 0;257 2 31;"), "{printed}");
+    let printed = judged("", &"1 3 0;".repeat(65));
+    assert!(printed.ends_with("65 0 0;66 2 32;"), "{printed}");
+    let across: String = (0..65).map(|n| format!("1 {} 0;", n % 8)).collect();
+    let printed = judged("", &across);
+    assert!(printed.ends_with("65 0 0;66 2 32;"), "{printed}");
+}
+
+#[test]
+fn sandboxes_close_inside_out() {
+    let opened = "2 0 0;3 0 0;";
+    assert_eq!(judged("", "1 0 0; 1 1 0; 2 0 0; 2 1 0; 2 0 0"), format!("{opened}4 2 26;5 0 0;6 0 0;"));
+    assert_eq!(judged("", "1 0 0; 1 1 0; 2 2 0; 2 1 0; 2 1 0"), format!("{opened}4 2 25;5 0 0;6 2 25;"));
+    // a policy in two places: its outer opening is not closed by name
+    assert_eq!(
+        judged("", "1 0 0; 1 1 0; 1 0 0; 2 1 0; 2 0 0; 2 0 0; 2 1 0; 2 0 0"),
+        format!("{opened}4 0 0;5 2 26;6 0 0;7 2 26;8 0 0;9 0 0;")
+    );
+    // what was refused is open still
+    assert_eq!(judged(P, "1 0 0; 1 1 0; 2 0 0; 0 2 3"), format!("{opened}4 2 26;5 1 0;"));
 }
 
 #[test]

@@ -1,7 +1,7 @@
 //! The judge over the whole past against the judge over states.
 
 use reference::generate::{cases, states, Kind};
-use reference::judge::{events, is_open, Answer, Judge, Step};
+use reference::judge::{events, is_open, unclosed, Answer, Judge, Step};
 use reference::policy::{is_static, Edge, Own, Policy, POLICIES};
 use reference::sheet::{read_policies, read_trace};
 use reference::state::{judge_state, Call, State};
@@ -44,6 +44,7 @@ fn assert_state(edges: &[Edge], past: &[Step], state: &State) {
     let created: Vec<u64> = events.iter().filter(|e| e.action == 0).map(|e| e.resource).collect();
     assert!(created.iter().all(|r| !is_static(*r)));
     assert_eq!(state.created[..state.count as usize], created[..]);
+    assert_eq!(state.order[..state.depth as usize], unclosed(past)[..]);
     let owns = (0..16).map(Some).chain([None]).chain(created.iter().copied().map(Some));
     let owns: Vec<Own> = owns.collect();
     for (number, policy) in Policy::all(edges).iter().enumerate() {
@@ -65,12 +66,12 @@ fn edge(row: [u64; 6]) -> Edge {
 #[test]
 fn refusals_of_the_caller_come_first() {
     let bad = [edge([8, 0, 0, 1, 0, 0])];
-    let mut state = State { halted: 1, ..State::start() };
-    state.openings[3] = 256;
+    let mut state = State { halted: 1, ..State::opened(&[3; 64]) };
+    state.openings[3] = 63;
     let misfit = Step { kind: 3, a: 0, b: 0 };
     assert_eq!(judge_state(&bad, &state, misfit).0, Answer::Refused(41));
     assert_eq!(judge_state(&[], &state, misfit).0, Answer::Refused(42));
-    state.openings[3] = 255;
+    state.openings[3] = 64;
     assert_eq!(judge_state(&[], &state, misfit).0, Answer::Refused(20));
     for flag in [2, 7, 256, 1 << 32] {
         state.halted = flag;
@@ -79,8 +80,10 @@ fn refusals_of_the_caller_come_first() {
     }
     state.halted = 0;
     assert_eq!(judge_state(&[], &state, misfit).0, Answer::Refused(21));
-    assert_eq!(judge_state(&[], &state, Step::open(3)).0, Answer::Refused(31));
+    assert_eq!(judge_state(&[], &state, Step::open(3)).0, Answer::Refused(32));
+    assert_eq!(judge_state(&[], &state, Step::open(2)).0, Answer::Refused(32));
     let many = vec![edge([0, 0, 0, 1, 0, 0]); 257];
+    state = State::start();
     assert_eq!(judge_state(&many, &state, Step::open(2)).0, Answer::Refused(41));
     assert_eq!(judge_state(&many[..256], &state, Step::open(2)).0, Answer::Allowed);
 }
@@ -88,8 +91,8 @@ fn refusals_of_the_caller_come_first() {
 #[test]
 fn places_beyond_the_created_count_for_nothing() {
     let edges = [edge([0, 0, 1, 2, 0, 6])];
-    let mut state = State::start();
-    state.openings[0] = 1;
+    let mut state = State::opened(&[0]);
+    state.order[1] = 8;
     state.sets[17] = [64; POLICIES];
     state.created[0] = 3;
     let (answer, next) = judge_state(&edges, &state, Step::event(2, 3));
@@ -101,22 +104,61 @@ fn places_beyond_the_created_count_for_nothing() {
 
 #[test]
 fn a_closing_can_be_violated_in_an_unreached_state() {
-    let mut state = State::start();
-    state.openings[2] = 2;
-    state.openings[5] = 1;
+    let mut state = State::opened(&[2, 5, 2]);
     state.kept[2] = 128;
     state.kept[5] = 64;
     let (answer, next) = judge_state(&[], &state, Step::close(2));
     assert_eq!(answer, Answer::Violated(2));
     assert_eq!(next, State { halted: 1, ..state.clone() });
-    state.openings[2] = 1;
+    let kept = state.kept;
+    let state = State { kept, ..State::opened(&[5, 2]) };
     assert_eq!(judge_state(&[], &state, Step::close(2)).0, Answer::Violated(5));
+    assert_eq!(judge_state(&[], &state, Step::close(5)).0, Answer::Refused(26));
+}
+
+#[test]
+fn openings_and_closings_in_the_order() {
+    let mut state = State::opened(&[5, 2]);
+    state.order[2..].fill(200);
+    let (answer, next) = judge_state(&[], &state, Step::open(7));
+    let mut due = State { depth: 3, ..state.clone() };
+    due.order[2] = 7;
+    due.openings[7] = 1;
+    assert_eq!((answer, &next), (Answer::Allowed, &due));
+    // the place keeps what it held, and counts for nothing
+    let (answer, next) = judge_state(&[], &next, Step::close(7));
+    due.depth = 2;
+    due.openings[7] = 0;
+    assert_eq!((answer, next), (Answer::Allowed, due));
+}
+
+#[test]
+fn orders_that_are_none() {
+    let right = State::opened(&[5, 2, 5]);
+    let refused = |change: &dyn Fn(&mut State)| {
+        let mut state = right.clone();
+        change(&mut state);
+        assert_eq!(judge_state(&[], &state, Step::event(1, 3)), (Answer::Refused(42), state));
+    };
+    assert_eq!(judge_state(&[], &right, Step::event(1, 3)).0, Answer::Allowed);
+    refused(&|state| state.depth = 2);
+    refused(&|state| state.depth = 4);
+    refused(&|state| state.depth = 65);
+    refused(&|state| state.depth = u64::MAX);
+    refused(&|state| state.order[1] = 5);
+    refused(&|state| state.order[1] = 10);
+    refused(&|state| {
+        state.order[1] = 8;
+        state.openings[2] = 0;
+    });
+    refused(&|state| state.openings[2] = 0);
+    refused(&|state| state.openings.swap(2, 5));
+    refused(&|state| state.openings[0] = 1);
 }
 
 #[test]
 fn an_event_gathers_anew_what_openings_and_closings_look_at() {
-    let mut state = State::start();
-    state.openings[2] = 2;
+    let mut state = State::opened(&[2, 2]);
     state.kept[2] = 64;
     let (answer, next) = judge_state(&[], &state, Step::event(1, 3));
     assert_eq!((answer, next.kept), (Answer::Allowed, [1; POLICIES]));
@@ -137,7 +179,7 @@ fn calls_are_written_and_read() {
         check_step(&call.state, &next, answer);
         seen.insert(answer.numbers());
     }
-    for number in [20, 21, 22, 23, 24, 25, 30, 31, 41, 42] {
+    for number in [20, 21, 22, 23, 24, 25, 26, 30, 32, 41, 42] {
         assert!(seen.contains(&(2, number)), "{number}");
     }
 }

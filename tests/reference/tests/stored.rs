@@ -79,10 +79,11 @@ fn traces() {
         assert_eq!(monitor(&policies, &trace), *text, "case {number}");
     }
     let mut due: Vec<(u64, u64)> = (0..8).map(|policy| (1, policy)).collect();
-    due.extend([20, 22, 23, 24, 25, 30, 31].map(|number| (2, number)));
+    due.extend([20, 22, 23, 24, 25, 26, 30, 32].map(|number| (2, number)));
     due.extend((1..=5).flat_map(|number| [(3, number), (4, number)]));
     let seen = answers(&cases);
     due.iter().for_each(|answer| assert!(seen.contains(answer), "{answer:?}"));
+    assert!(!seen.contains(&(2, 31)));
 }
 
 #[test]
@@ -134,16 +135,16 @@ fn counterexamples() {
             }
             continue;
         };
-        // the judge is past all steps but the last, which it answers with the policy named; or stops at the 65th create
+        // the judge is past all steps but the last, which it answers with the policy named; or stops at the 65th create or unclosed opening
         let whole = judged[..] == [lines[0][2] - 1, 1, lines[0][1], 1];
-        assert!(whole || judged[1..] == [2, 30, 1], "case {number}");
-        // with so few steps no shortest trace has 65 creates: an opening and an event are needed beside them
-        assert!(whole || lines[0][2] >= 67, "case {number}");
+        assert!(whole || judged[1..] == [2, 30, 1] || judged[1..] == [2, 32, 1], "case {number}");
+        // with so few steps no shortest trace has 65 of them: an event is needed beside them
+        assert!(whole || lines[0][2] >= 66, "case {number}");
         past_limits += usize::from(!whole);
     }
     assert!([(0, 0), (1, 2), (1, 3), (1, 199), (1, 200), (3, 0), (5, 0)].iter().all(|due| seen.contains(due)), "{seen:?}");
     assert!([201, 202].iter().all(|length| longer.contains(length)), "{longer:?}");
-    assert_eq!(past_limits, 1);
+    assert_eq!(past_limits, 2);
 }
 
 fn numbers(line: &str) -> Vec<u64> {

@@ -21,6 +21,7 @@ pub fn fixed_cases() -> Vec<Case> {
     cases.extend(naming_cases());
     cases.extend(long_cases());
     cases.push(seventy());
+    cases.extend(unclosed_cases());
     cases.push(case_of("0 0 1 1 0 1; 0 0 4 2 0 6", all_statics()));
     cases.push(case_of("0 0 1 1 0 1; 0 0 4 1 0 6", all_statics()));
     cases.extend(accepted_cases());
@@ -249,6 +250,25 @@ fn seventy() -> Case {
         policies: rows(POLICY_NAMES, edges),
         other: rows(OUTLINE_NAMES, nodes.iter().map(Node::row)),
     }
+}
+
+/// Shortest counterexamples with 64 and 65 openings unclosed, of the policy itself and of others: a sandbox around each round.
+fn unclosed_cases() -> Vec<Case> {
+    let round = |around: &dyn Fn(u64, Tree) -> Tree| {
+        looped(0, around(10, sequence(Tree::Static(1, 3), Tree::Back(0))))
+    };
+    let own = |count: u64, tree: Tree| (0..count).fold(tree, |tree, _| sandbox(0, tree));
+    let others = |count: u64, tree: Tree| (0..count).fold(tree, |tree, n| sandbox(1 + n % 7, tree));
+    let mut cases = Vec::new();
+    for outside in [4, 5] {
+        cases.push(tree_case(SIXTH, &own(outside, round(&own))));
+        cases.push(tree_case(SIXTH, &others(outside - 1, sandbox(0, round(&others)))));
+        // the policy is opened last
+        let whole = looped(0, choice(Tree::End, others(10, sequence(Tree::Static(1, 3), Tree::Back(0)))));
+        let tree = sequence(whole, sandbox(0, Tree::End));
+        cases.push(tree_case(SIXTH, &others(outside, tree)));
+    }
+    cases
 }
 
 fn accepted_cases() -> Vec<Case> {

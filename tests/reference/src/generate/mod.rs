@@ -3,6 +3,7 @@
 pub mod counterexamples;
 pub mod fixed;
 pub mod malformed;
+pub mod orders;
 pub mod outlines;
 pub mod policies;
 pub mod states;

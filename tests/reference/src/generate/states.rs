@@ -1,5 +1,6 @@
 //! Random calls of the judge on states that need not have been reached.
 
+use super::orders;
 use super::policies::{random_edges, Palette};
 use crate::judge::{Step, CREATE, LARGEST_RESOURCE, MOST_CREATED};
 use crate::policy::{Edge, POLICIES, STATICS};
@@ -10,13 +11,14 @@ use crate::state::{Call, State};
 pub fn calls(seed: u64, count: usize) -> Vec<Call> {
     let mut rng = Rng::new(seed);
     let random = std::iter::repeat_with(|| random_call(&mut rng));
-    fixed_calls().into_iter().chain(random).take(count).collect()
+    let fixed = kept_calls().into_iter().chain(orders::fixed_calls());
+    fixed.chain(random).take(count).collect()
 }
 
 /// States whose kept sets disagree with their instance sets, either way: an offending state that is kept and that no instance may be in,
 /// or one that an instance may be in and that is not kept. At an opening, a closing and events of a policy that is open, on a static and on
 /// a created resource and at a create; the event is an offending one, one that leaves the offending state, or one that moves nothing.
-fn fixed_calls() -> Vec<Call> {
+fn kept_calls() -> Vec<Call> {
     let edges = vec![Edge::new([2, 0, 1, 1, 0, 6]), Edge::new([2, 6, 2, 1, 0, 0])];
     let steps = [
         Step::open(2),
@@ -32,11 +34,11 @@ fn fixed_calls() -> Vec<Call> {
     ];
     let mut calls = Vec::new();
     for step in steps {
+        // the policy that is closed was opened last
+        let order = if step == Step::close(3) { [2, 2, 3] } else { [2, 3, 2] };
         for (kept, of_5, of_40) in [(64, 1, 1), (128, 1, 1), (1, 64, 1), (1, 1, 128), (0, 65, 1), (65, 64, 1), (1, 1, 1)] {
-            let mut state = State { count: 1, ..State::start() };
+            let mut state = State { count: 1, ..State::opened(&order) };
             state.created[0] = 40;
-            state.openings[2] = 2;
-            state.openings[3] = 1;
             state.kept[2] = kept;
             state.sets[5][2] = of_5;
             state.sets[17][2] = of_40;
@@ -54,6 +56,9 @@ fn random_call(rng: &mut Rng) -> Call {
     if rng.percent(12) {
         damage_state(rng, &mut state);
     }
+    if rng.percent(50) {
+        orders::damage(rng, &mut state);
+    }
     if rng.percent(10) {
         damage_edges(rng, &mut edges);
     }
@@ -70,11 +75,7 @@ fn random_state(rng: &mut Rng, palette: &Palette) -> State {
         _ => rng.between(0, 8),
     };
     fill_created(rng, &mut state);
-    for policy in 0..POLICIES {
-        if palette.policies.contains(&(policy as u64)) && rng.percent(60) {
-            state.openings[policy] = rng.pick(&[1, 1, 2, 3, 254, 255]);
-        }
-    }
+    orders::fill(rng, palette, &mut state);
     fill_sets(rng, &mut state);
     fill_kept(rng, &mut state);
     state
@@ -153,7 +154,8 @@ fn random_step(rng: &mut Rng, palette: &Palette, state: &State) -> Step {
         4..=7 if !created.is_empty() => Step::event(action, rng.pick(created)),
         8..=10 => Step::event(CREATE, any_dynamic(rng)),
         11..=12 => Step::open(policy),
-        13..=15 => Step::close(policy),
+        13 => Step::close(policy),
+        14..=15 => Step::close(orders::last(state).unwrap_or(policy)),
         16 if !created.is_empty() => Step::event(CREATE, rng.pick(created)),
         17 => Step::event(CREATE, rng.below(STATICS)),
         18 => Step::event(action, any_dynamic(rng)),
@@ -161,13 +163,12 @@ fn random_step(rng: &mut Rng, palette: &Palette, state: &State) -> Step {
     }
 }
 
-/// A create if no more can be created, else an opening of the policy opened most.
+/// A create if no more can be created, else an opening.
 fn limit_step(rng: &mut Rng, policy: u64, state: &State) -> Step {
     if state.count == MOST_CREATED as u64 {
         return Step::event(CREATE, any_dynamic(rng));
     }
-    let most = (0..POLICIES as u64).max_by_key(|p| state.openings[*p as usize]);
-    Step::open(most.unwrap_or(policy))
+    Step::open(policy)
 }
 
 /// Steps that 21 refuses.
@@ -188,8 +189,8 @@ const MISFITS: [Step; 10] = [
 fn damage_state(rng: &mut Rng, state: &mut State) {
     let used = state.count.clamp(2, MOST_CREATED as u64);
     let place = rng.below(used) as usize;
-    match rng.below(6) {
-        0 => state.count = 65,
+    match rng.below(5) {
+        0 => state.count = rng.pick(&[65, 65, 66, 256, 1 << 32, u64::MAX]),
         1 => {
             state.count = used;
             let first = rng.below(used - 1) as usize;
@@ -203,8 +204,7 @@ fn damage_state(rng: &mut Rng, state: &mut State) {
             state.count = used;
             state.created[place] = LARGEST_RESOURCE + 1;
         }
-        4 => state.halted = rng.pick(&[2, 3, 7, 255, 256, 1 << 32, (1 << 32) + 1, u64::MAX]),
-        _ => state.openings[rng.below(8) as usize] = 256,
+        _ => state.halted = rng.pick(&[2, 3, 7, 255, 256, 1 << 32, (1 << 32) + 1, u64::MAX]),
     }
 }
 

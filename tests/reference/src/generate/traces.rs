@@ -3,7 +3,7 @@
 use super::policies::{random_edges, Palette};
 use super::Case;
 use crate::damage::{random_damage, respaced, rows, Text};
-use crate::judge::{Answer, Judge, Step, CREATE, EVENT, LARGEST_RESOURCE, OPEN};
+use crate::judge::{unclosed, Answer, Judge, Step, CREATE, EVENT, LARGEST_RESOURCE, OPEN};
 use crate::policy::{Edge, STATICS};
 use crate::rng::Rng;
 use crate::sheet::{POLICY_NAMES, TRACE_NAMES};
@@ -23,7 +23,7 @@ const COMMON: Mix = Mix { events: 62, creates: 12, openings: 11, closings: 8, ca
 const CARELESS: Mix = Mix { events: 62, creates: 12, openings: 14, closings: 6, careful: 0 };
 const CREATING: Mix = Mix { events: 20, creates: 66, openings: 5, closings: 5, careful: 98 };
 const OPENING: Mix = Mix { events: 5, creates: 2, openings: 85, closings: 6, careful: 100 };
-const NESTING: Mix = Mix { events: 30, creates: 10, openings: 30, closings: 28, careful: 97 };
+const NESTING: Mix = Mix { events: 26, creates: 8, openings: 36, closings: 28, careful: 97 };
 const UNOPENED: Mix = Mix { events: 78, creates: 15, openings: 0, closings: 0, careful: 0 };
 
 pub fn random_case(rng: &mut Rng) -> Case {
@@ -31,9 +31,9 @@ pub fn random_case(rng: &mut Rng) -> Case {
         0..=5 => plain(rng, COMMON, 5, 45),
         6..=8 => plain(rng, CARELESS, 4, 25),
         9 => plain(rng, CREATING, 90, 130),
-        10 => plain(rng, OPENING, 290, 330),
-        11..=12 => plain(rng, NESTING, 20, 80),
-        13..=15 => opened_late(rng),
+        10 => plain(rng, OPENING, 80, 110),
+        11..=13 => plain(rng, NESTING, 20, 80),
+        14..=15 => opened_late(rng),
         16..=19 => dense(rng),
         _ => damaged(rng),
     }
@@ -49,7 +49,10 @@ pub fn long_case(rng: &mut Rng, length: usize) -> Case {
 
 fn plain(rng: &mut Rng, mix: Mix, shortest: u64, longest: u64) -> Case {
     let mut palette = Palette::random(rng);
-    if mix.openings > 50 {
+    if mix.closings > 20 {
+        palette.policies = Palette::crowded(rng).policies;
+    }
+    if mix.openings > 50 && rng.percent(40) {
         palette.policies.truncate(1);
     }
     let edges = random_edges(rng, &palette, 8);
@@ -153,18 +156,19 @@ fn random_step(rng: &mut Rng, palette: &Palette, mix: Mix, past: &[Step]) -> Ste
     } else if roll < openings {
         Step::open(rng.pick(&palette.policies))
     } else if roll < closings {
-        Step::close(opened_policy(rng, past).unwrap_or(palette.policies[0]))
+        Step::close(closed_policy(rng, past).unwrap_or(palette.policies[0]))
     } else {
         refused_step(rng, palette, past)
     }
 }
 
-/// A step that one of 22 to 25 may refuse.
+/// A step that one of 22 to 26 may refuse.
 fn refused_step(rng: &mut Rng, palette: &Palette, past: &[Step]) -> Step {
-    match rng.below(4) {
+    match rng.below(5) {
         0 => Step::event(CREATE, rng.below(STATICS)),
         1 => Step::event(CREATE, created(past).last().copied().unwrap_or(16)),
         2 => Step::event(rng.pick(&palette.actions), any_dynamic(rng)),
+        3 => Step::close(rng.pick(&palette.policies)),
         _ => Step::close(rng.below(8)),
     }
 }
@@ -189,8 +193,14 @@ fn any_dynamic(rng: &mut Rng) -> u64 {
     }
 }
 
-/// A policy opened before, perhaps closed already.
-fn opened_policy(rng: &mut Rng, past: &[Step]) -> Option<u64> {
+/// Mostly the policy opened last; else another that is open, or one opened before, perhaps closed already.
+fn closed_policy(rng: &mut Rng, past: &[Step]) -> Option<u64> {
+    let open = unclosed(past);
+    match rng.below(10) {
+        0..=5 => return open.last().copied(),
+        6..=8 if !open.is_empty() => return Some(rng.pick(&open)),
+        _ => {}
+    }
     let opened: Vec<u64> = past.iter().filter(|s| s.kind == OPEN).map(|s| s.a).collect();
     (!opened.is_empty()).then(|| rng.pick(&opened))
 }

@@ -22,7 +22,7 @@ pub(super) fn trace_examples() -> Vec<Case> {
     ]
 }
 
-fn creates(count: u64) -> String {
+pub(super) fn creates(count: u64) -> String {
     (0..count).map(|n| format!("0 0 {};", 16 + n)).collect()
 }
 
@@ -31,11 +31,11 @@ fn on_statics(action: u64) -> String {
     (0..16).map(|who| format!("0 {action} {who};")).collect()
 }
 
-fn openings(policy: u64, count: usize) -> String {
+pub(super) fn openings(policy: u64, count: usize) -> String {
     format!("1 {policy} 0;").repeat(count)
 }
 
-fn closings(policy: u64, count: usize) -> String {
+pub(super) fn closings(policy: u64, count: usize) -> String {
     format!("2 {policy} 0;").repeat(count)
 }
 
@@ -57,15 +57,15 @@ pub(super) fn judged_borders() -> Vec<Case> {
         trace_case(armed, &format!("{} 0 1 3; 1 0 0; 0 0 79; 0 0 80", creates(63))),
         trace_case(armed_others, &format!("{} 0 1 3; 1 0 0; 0 0 80; 2 0 0", creates(64))),
         trace_case(armed_others, &format!("{} 0 1 3; 1 0 0; 0 0 79; 2 0 0", creates(63))),
-        trace_case(P, &format!("{} 1 1 0; {} 2 0 0", openings(0, 256), closings(0, 255))),
-        trace_case(P, &format!("{} 2 7 0; 1 7 0; 1 7 0; 1 6 0; 0 2 3", openings(7, 255))),
-        trace_case(P, &format!("{} 0 2 3; 1 0 0", openings(0, 256))),
+        trace_case(P, &format!("{} 1 1 0; {} 2 0 0", openings(0, 65), closings(0, 64))),
+        trace_case(P, &format!("{} 2 7 0; 1 7 0; 1 7 0; 1 6 0; 0 2 3", openings(7, 64))),
+        trace_case(P, &format!("{} 0 2 3; 1 0 0", openings(0, 65))),
         trace_case(
             "7 0 2 1 0 6",
-            &format!("{} {} 0 2 3; 2 7 0", openings(7, 255), closings(7, 254)),
+            &format!("{} {} 0 2 3; 2 7 0", openings(7, 64), closings(7, 63)),
         ),
         trace_case(P, &format!("{violated} 0 0 3; 0 0 16; 0 2 99; 2 5 0; 1 0 0; 0 1 3")),
-        trace_case(P, &format!("{violated} {} 1 0 0", openings(1, 256))),
+        trace_case(P, &format!("{violated} {} 1 0 0", openings(1, 65))),
         trace_case(others, "1 6 0; 1 3 0; 1 1 0; 0 4 2; 2 1 0"),
         trace_case(others, "1 6 0; 1 3 0; 2 3 0; 0 4 2"),
         trace_case(others, "1 6 0; 0 4 3; 1 3 0"),

@@ -2,6 +2,7 @@
 
 mod fields;
 mod judged;
+mod orders;
 mod shapes;
 mod verdicts;
 
@@ -11,6 +12,7 @@ use crate::damage::{crowded, damaged, rows, sheet, Text};
 use crate::sheet::{MOST_EDGES, MOST_NODES, MOST_STEPS, OUTLINE_NAMES, POLICY_NAMES, TRACE_NAMES};
 use fields::{edge_borders, node_borders, step_borders};
 use judged::{judged_borders, trace_examples};
+use orders::order_cases;
 use shapes::{large_outlines, misshapen};
 use verdicts::{checked_examples, outline_examples};
 
@@ -75,6 +77,7 @@ pub fn trace_cases() -> Vec<Case> {
     cases.extend(both_refused(&trace(TRACE)));
     cases.extend(with_policies(malformed::policies(), &trace(TRACE)));
     cases.extend(with_other(&policies(P), malformed::traces()));
+    cases.extend(order_cases());
     cases
 }
 
