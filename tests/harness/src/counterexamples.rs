@@ -3,7 +3,7 @@
 
 use reference::counterexample::{counterexample, fault, Counterexample, TABLE_NUMBERS};
 use reference::generate::Case;
-use reference::judge::{Answer, Judge, Step, CREATE, EVENT, MOST_CREATED};
+use reference::judge::{unclosed, Answer, Judge, Step, CREATE, EVENT, MOST_CREATED, MOST_UNCLOSED};
 use reference::outline::Node;
 use reference::policy::Edge;
 use reference::program::{self, tables};
@@ -88,8 +88,7 @@ fn written(edges: &[Edge], nodes: &[Node], policy: usize, steps: &[Step]) -> Res
     if let Some(why) = fault(edges, nodes, policy, steps) {
         return Err(format!("what was written is no counterexample for policy {policy}: {why:?}: {}", show()));
     }
-    let creates = steps.iter().filter(|step| step.kind == EVENT && step.a == CREATE).count();
-    if creates > MOST_CREATED {
+    if beyond_limits(steps) {
         return Ok(Followed::BeyondLimits);
     }
     let answers = harness::judged(&harness::flat(edges).unwrap(), steps);
@@ -105,6 +104,13 @@ fn written(edges: &[Edge], nodes: &[Node], policy: usize, steps: &[Step]) -> Res
     followed
         .filter(|_| answers == due)
         .ok_or_else(|| format!("the judge answers {answers:?}, for policy {policy}: {}", show()))
+}
+
+/// More creates, or more openings unclosed, than the judge takes.
+fn beyond_limits(steps: &[Step]) -> bool {
+    let creates = steps.iter().filter(|step| step.kind == EVENT && step.a == CREATE).count();
+    let openings = (0..=steps.len()).map(|end| unclosed(&steps[..end]).len()).max();
+    creates > MOST_CREATED || openings > Some(MOST_UNCLOSED)
 }
 
 /// The trace sheet of these steps, three numbers to each.

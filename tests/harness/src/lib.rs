@@ -4,7 +4,7 @@ use reference::judge::{Answer, Step};
 use reference::outline::Node;
 use reference::policy::Edge;
 use reference::state::State;
-use wiforekun::{CREATED_LENGTH, SETS_LENGTH, TRACE_ROOM, UNCLOSED_LENGTH};
+use wiforekun::{CREATED_LENGTH, ORDER_LENGTH, SETS_LENGTH, TRACE_ROOM, UNCLOSED_LENGTH};
 
 /// The sets of one policy: one for each instance.
 const INSTANCES: usize = SETS_LENGTH / UNCLOSED_LENGTH;
@@ -48,42 +48,57 @@ pub fn flat(edges: &[Edge]) -> Option<Vec<u8>> {
     bytes.collect()
 }
 
-/// One step of the judge on any state: document 01's two numbers and the state returned. None where a number of the call is wider than
-/// the function's types.
-pub fn judge(edges: &[Edge], state: &State, step: Step) -> Option<((u32, usize), State)> {
-    let edges = flat(edges)?;
-    let narrow = |value: u64| u32::try_from(value).ok();
-    let [kind, a, b] = step.row();
-    let (kind, a, b) = (narrow(kind)?, narrow(a)?, narrow(b)?);
+/// A table of numbers in a narrower type; none where one is wider.
+fn narrowed<T: TryFrom<u64> + Default + Copy, const N: usize>(numbers: [u64; N]) -> Option<[T; N]> {
+    let mut narrow = [T::default(); N];
+    for (place, number) in narrow.iter_mut().zip(numbers) {
+        *place = T::try_from(number).ok()?;
+    }
+    Some(narrow)
+}
+
+/// A state as the functions are lent it. None where a number is wider than its place.
+fn lent(state: &State) -> Option<wiforekun::State> {
     let mut sets = [0u8; SETS_LENGTH];
     for (instance, row) in state.sets.iter().enumerate() {
         for (policy, mask) in row.iter().enumerate() {
             sets[policy * INSTANCES + instance] = *mask;
         }
     }
-    let mut created = [0u32; CREATED_LENGTH];
-    for (place, number) in created.iter_mut().zip(state.created) {
-        *place = narrow(number)?;
-    }
-    let mut unclosed = [0u8; UNCLOSED_LENGTH];
-    for (place, number) in unclosed.iter_mut().zip(state.openings) {
-        *place = u8::try_from(number).ok()?;
-    }
-    let mut parts = wiforekun::State { sets, possible: state.kept, created, unclosed, numbers: [state.count, state.halted] };
-    let code = parts.judge_code(&edges, [kind, a, b]);
-    let wiforekun::State { sets, possible, created, unclosed, numbers } = parts;
-    let mut after = state.clone();
-    after.kept = possible;
-    after.count = numbers[0];
-    after.halted = numbers[1];
-    after.created = created.map(u64::from);
-    after.openings = unclosed.map(u64::from);
-    for (instance, row) in after.sets.iter_mut().enumerate() {
+    Some(wiforekun::State {
+        sets,
+        possible: state.kept,
+        created: narrowed::<u32, CREATED_LENGTH>(state.created)?,
+        unclosed: narrowed::<u8, UNCLOSED_LENGTH>(state.openings)?,
+        order: narrowed::<u8, ORDER_LENGTH>(state.order)?,
+        numbers: [state.count, state.halted, state.depth],
+    })
+}
+
+/// The state that lies in the arrays.
+fn held(parts: &wiforekun::State) -> State {
+    let mut state = State::start();
+    for (instance, row) in state.sets.iter_mut().enumerate() {
         for (policy, mask) in row.iter_mut().enumerate() {
-            *mask = sets[policy * INSTANCES + instance];
+            *mask = parts.sets[policy * INSTANCES + instance];
         }
     }
-    Some(((code / 256, (code % 256) as usize), after))
+    state.kept = parts.possible;
+    state.created = parts.created.map(u64::from);
+    state.openings = parts.unclosed.map(u64::from);
+    state.order = parts.order.map(u64::from);
+    [state.count, state.halted, state.depth] = parts.numbers;
+    state
+}
+
+/// One step of the judge on any state: document 01's two numbers and the state returned. None where a number of the call is wider than
+/// the function's types.
+pub fn judge(edges: &[Edge], state: &State, step: Step) -> Option<((u32, usize), State)> {
+    let edges = flat(edges)?;
+    let step = narrowed::<u32, 3>(step.row())?;
+    let mut parts = lent(state)?;
+    let code = parts.judge_code(&edges, step);
+    Some(((code / 256, (code % 256) as usize), held(&parts)))
 }
 
 /// Three bytes to a node; none where a value is no byte.
