@@ -2,13 +2,14 @@
 use Prim.Native.Nat.{ℕ}
 use mathlib.Core.List.{List, [], _∷_}
 use lib.ListN.{replicate, set}
-use Rattle.usage.specs.Limits.{policies, mostCreated, edgeFields}
+use Rattle.usage.specs.Limits.{policies, mostCreated, mostUnclosed, edgeFields}
 use Rattle.usage.specs.Answers.{allowed, refused}
 use Rattle.sheet_lines.specs.declared.Reading.{Reading}
 use Rattle.sheet_lines.specs.declared.Reading.the-variants.{Stored, Refused}
 use Rattle.monitor_sets.specs.Instances.{setPlaces}
 use Rattle.api_c.specs.Codes.{codeOf}
 use Rattle.api_c.specs.Parts.{Parts, partsOf}
+use Rattle.test_stored.specs.declared.order_calls.Ordered.{Ordered}
 
 -- as the judge's answer is told: refused with the number, or allowed where the sheet was accepted
 abbrev pub readingCode : Reading → ℕ
@@ -23,10 +24,17 @@ edgeTo to = set (replicate edgeFields 0) 5 to
 abbrev pub bordering : ℕ → ℕ → ℕ → ℕ → Parts
 bordering count flag first second =
     partsOf (replicate setPlaces 1) (replicate policies 1) (set (set (replicate mostCreated 0) 0 first) 1 second) (replicate policies 0)
-    (count ∷ flag ∷ [])
+    (replicate mostUnclosed 0) (count ∷ flag ∷ 0 ∷ [])
 
 -- a state like the start, but that policy 0 has two openings, may be in the states `kept`, and its instance of resource 0 in those of m
 abbrev pub disagreeing : ℕ → ℕ → Parts
 disagreeing kept m =
     partsOf (set (replicate setPlaces 1) 0 m) (set (replicate policies 1) 0 kept) (replicate mostCreated 0) (set (replicate policies 0) 0 2)
-    (0 ∷ 0 ∷ [])
+    (replicate mostUnclosed 0) (0 ∷ 0 ∷ 2 ∷ [])
+
+-- a state like the start, but for the order of unclosed openings, the counts of policies 1 and 6, the flag and what is kept of policy 1
+abbrev pub ordering : Ordered → Parts
+ordering s =
+    partsOf (replicate setPlaces 1) (set (replicate policies 1) 1 (s .kept)) (replicate mostCreated 0)
+    (set (set (replicate policies 0) 1 (s .of_1)) 6 (s .of_6)) (set (replicate mostUnclosed (s .rest)) 0 (s .first))
+    (0 ∷ s .flag ∷ s .depth ∷ [])

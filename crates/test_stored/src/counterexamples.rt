@@ -14,6 +14,7 @@ use sheet_lines::Reading;
 use usage::EDGE_FIELDS;
 use usage::EDGE_TABLE;
 use usage::MOST_CREATED;
+use usage::MOST_UNCLOSED;
 use usage::NODE_FIELDS;
 use usage::NODE_TABLE;
 use usage::POLICIES;
@@ -27,8 +28,10 @@ const POLICIES_REFUSED: u64 = 3;
 
 const OUTLINE_REFUSED: u64 = 5;
 
-// The judge's refusal of a create beyond its limit.
-const BEYOND_LIMIT: u32 = 512 + 30;
+// The judge's refusals of a create and of an opening beyond its limits.
+const BEYOND_CREATED: u32 = 512 + 30;
+
+const BEYOND_UNCLOSED: u32 = 512 + 32;
 
 // Where the judge stops along a trace: how many steps it is past, and the code of its answer to the next; 0 where it allows all.
 pub struct Stop {
@@ -58,7 +61,8 @@ fn follow(edges: &[u8], trace: &[u32; MOST_NUMBERS], steps: usize, alone: bool, 
     let mut possible = [1u8; POLICIES];
     let mut created = [0u32; MOST_CREATED];
     let mut unclosed = [0u8; POLICIES];
-    let mut numbers = [0u64, 0];
+    let mut order = [0u8; MOST_UNCLOSED];
+    let mut numbers = [0u64, 0, 0];
     let mut i: usize = 0;
     while i < steps {
         let kind = trace[STEP_FIELDS * i];
@@ -71,6 +75,7 @@ fn follow(edges: &[u8], trace: &[u32; MOST_NUMBERS], steps: usize, alone: bool, 
                 &mut possible,
                 &mut created,
                 &mut unclosed,
+                &mut order,
                 &mut numbers,
                 kind,
                 a,
@@ -92,11 +97,14 @@ fn follow(edges: &[u8], trace: &[u32; MOST_NUMBERS], steps: usize, alone: bool, 
 }
 
 // 1 where the judge stops where it may, on a shortest counterexample to the lowest policy that any trace breaks, else 0: at the last
-// step, for that policy; before, for a higher one; or at a create beyond its limit.
+// step, for that policy; before, for a higher one; or at a create or an opening beyond its limit.
 fn stops_rightly(s: Stop, steps: u64, p: u32) -> u64
     ensures { λ r. ⌜ r ≤ 1 ⌝ }
 {
-    if s.code == BEYOND_LIMIT {
+    if s.code == BEYOND_CREATED {
+        return 1;
+    }
+    if s.code == BEYOND_UNCLOSED {
         return 1;
     }
     if s.code / 256 != 1 {

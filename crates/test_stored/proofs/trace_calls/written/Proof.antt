@@ -1,8 +1,8 @@
 use Prim.Native.Nat.{_-_, _≤_}
 use lib.ListN.{length}
 use borrow.Author.Needs.{needs}
-use Rattle.test_stored.proofs.borders.written.Statement.{statement}
-use Rattle.test_stored.proofs.borders.written.Tie as tie
+use Rattle.test_stored.proofs.trace_calls.written.Statement.{statement}
+use Rattle.test_stored.proofs.trace_calls.written.Tie as tie
 
 abbrev Inv-loop : tie.InvT-loop
 Inv-loop trace i₀ i = i ≤ length trace

@@ -4,8 +4,8 @@ use Prim.Native.Nat.{_-_, _≤_}
 use lib.ListN.{length}
 use borrow.Author.Needs.{needs}
 use Rattle.usage.proofs.Logic.{by-cases}
-use Rattle.test_stored.proofs.borders.kept.Statement.{statement}
-use Rattle.test_stored.proofs.borders.kept.Tie as tie
+use Rattle.test_stored.proofs.trace_calls.kept.Statement.{statement}
+use Rattle.test_stored.proofs.trace_calls.kept.Tie as tie
 
 abbrev Inv-loop : tie.InvT-loop
 Inv-loop trace i₀ n₀ i n = (i ≤ length trace) × (n ≤ i)

@@ -1,6 +1,6 @@
 use borrow.Author.Needs.{needs}
-use Rattle.test_stored.proofs.borders.judged_kept.Statement.{statement}
-use Rattle.test_stored.proofs.borders.judged_kept.Tie as tie
+use Rattle.test_stored.proofs.judge_calls.judged_kept.Statement.{statement}
+use Rattle.test_stored.proofs.judge_calls.judged_kept.Tie as tie
 
 array-write-edges : tie.Need-array-write-edges
 array-write-edges c = search needs

@@ -4,8 +4,8 @@ use mathlib.Core.Path.{ap}
 use lib.ListN.{getD}
 use borrow.Author.Needs.{needs}
 use Rattle.api_c.specs.Parts.{Parts}
-use Rattle.test_stored.proofs.borders.judged.Statement.{statement}
-use Rattle.test_stored.proofs.borders.judged.Tie as tie
+use Rattle.test_stored.proofs.judge_calls.judged.Statement.{statement}
+use Rattle.test_stored.proofs.judge_calls.judged.Tie as tie
 
 array-write-edges : tie.Need-array-write-edges
 array-write-edges c = search needs
