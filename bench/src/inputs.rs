@@ -38,7 +38,12 @@ fn edge(rng: &mut Rng, palette: &Palette) -> [u8; 6] {
 
 /// All policies opened, and resources created.
 pub fn opening_steps(created: u32) -> Vec<Step> {
-    let opened = (0..8).map(|policy| [1, policy, 0]);
+    deep_steps(8, created)
+}
+
+/// So many openings, of all policies in turn, and resources created.
+pub fn deep_steps(openings: u32, created: u32) -> Vec<Step> {
+    let opened = (0..openings).map(|n| [1, n % 8, 0]);
     opened.chain((0..created).map(|n| [0, 0, 1000 + 7 * n])).collect()
 }
 

@@ -13,6 +13,9 @@ pub struct State {
     pub created: [u32; 64],
     pub count: usize,
     pub unclosed: [u8; 8],
+    /// The policies of the unclosed openings, the oldest first, and how many there are.
+    pub order: [u8; 64],
+    pub depth: usize,
     pub halted: bool,
 }
 
@@ -32,10 +35,30 @@ impl Answer {
     }
 }
 
-pub const START: State = State { sets: [1; 648], possible: [1; 8], created: [0; 64], count: 0, unclosed: [0; 8], halted: false };
+pub const START: State =
+    State { sets: [1; 648], possible: [1; 8], created: [0; 64], count: 0, unclosed: [0; 8], order: [0; 64], depth: 0, halted: false };
 
 impl State {
     fn ok(&self) -> bool {
+        self.created_ok() && self.order_ok()
+    }
+
+    /// Does each policy stand in the order as often as is counted, and nothing else?
+    fn order_ok(&self) -> bool {
+        if self.depth > 64 {
+            return false;
+        }
+        let mut counts = [0; 8];
+        for policy in &self.order[..self.depth] {
+            if *policy >= 8 {
+                return false;
+            }
+            counts[usize::from(*policy)] += 1;
+        }
+        counts == self.unclosed
+    }
+
+    fn created_ok(&self) -> bool {
         if self.count > 64 {
             return false;
         }
@@ -111,29 +134,37 @@ impl State {
         Answer::Allowed
     }
 
-    fn opening(&mut self, policy: usize) -> Answer {
-        if self.unclosed[policy] == 255 {
-            return Answer::Refused(31);
+    fn opening(&mut self, policy: u8) -> Answer {
+        let at = usize::from(policy);
+        if self.depth >= 64 {
+            return Answer::Refused(32);
         }
-        self.unclosed[policy] += 1;
+        self.unclosed[at] += 1;
         if let Some(broken) = self.broken(&self.possible) {
-            self.unclosed[policy] -= 1;
+            self.unclosed[at] -= 1;
             self.halted = true;
             return Answer::Violated(broken);
         }
+        self.order[self.depth] = policy;
+        self.depth += 1;
         Answer::Allowed
     }
 
-    fn closing(&mut self, policy: usize) -> Answer {
-        if self.unclosed[policy] == 0 {
+    fn closing(&mut self, policy: u8) -> Answer {
+        let at = usize::from(policy);
+        if self.unclosed[at] == 0 {
             return Answer::Refused(25);
         }
-        self.unclosed[policy] -= 1;
+        if self.order[self.depth - 1] != policy {
+            return Answer::Refused(26);
+        }
+        self.unclosed[at] -= 1;
         if let Some(broken) = self.broken(&self.possible) {
-            self.unclosed[policy] += 1;
+            self.unclosed[at] += 1;
             self.halted = true;
             return Answer::Violated(broken);
         }
+        self.depth -= 1;
         Answer::Allowed
     }
 }
@@ -190,8 +221,8 @@ pub fn judge(edges: &[u8], state: &mut State, kind: u32, a: u32, b: u32) -> Answ
     }
     match (kind, a, b) {
         (0, 0..=31, 0..=65535) => state.event(edges, a, b),
-        (1, 0..=7, 0) => state.opening(a as usize),
-        (2, 0..=7, 0) => state.closing(a as usize),
+        (1, 0..=7, 0) => state.opening(a as u8),
+        (2, 0..=7, 0) => state.closing(a as u8),
         _ => Answer::Refused(21),
     }
 }

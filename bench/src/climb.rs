@@ -1,0 +1,86 @@
+//! Looks for outlines whose check is much work.
+
+use crate::inputs::{self, Outline};
+use crate::modelcheck;
+use reference::rng::Rng;
+
+/// About how much work the check of an outline is, or 0 where it is refused.
+fn work(outline: &Outline) -> u64 {
+    modelcheck::WORK.store(0, std::sync::atomic::Ordering::Relaxed);
+    match modelcheck::check(&outline.edges, &outline.nodes) / 256 {
+        2 => 0,
+        _ => modelcheck::WORK.load(std::sync::atomic::Ordering::Relaxed),
+    }
+}
+
+/// Changes an outline and keeps what is more work, over and over.
+pub fn climb(seed: u64, turns: usize) {
+    let mut rng = Rng::new(seed);
+    let mut best = if seed % 2 == 0 { inputs::hard(&mut rng, 64) } else { inputs::grown(&mut rng, 64, 256, true) };
+    let mut most = work(&best);
+    for _ in 0..turns {
+        let mut next = best.clone();
+        for _ in 0..rng.between(1, 4) {
+            change(&mut rng, &mut next);
+        }
+        let found = work(&next);
+        if found >= most {
+            most = found;
+            best = next;
+        }
+    }
+    eprintln!("work {most}, {} edges", best.edges.len() / 6);
+    for table in [&best.nodes, &best.edges] {
+        println!("{}", table.iter().map(u8::to_string).collect::<Vec<_>>().join(" "));
+    }
+}
+
+fn change(rng: &mut Rng, outline: &mut Outline) {
+    let k = 3 * rng.below(outline.nodes.len() as u64 / 3) as usize;
+    let i = 6 * rng.below(outline.edges.len() as u64 / 6) as usize;
+    match rng.below(10) {
+        0..=2 => {
+            let loops: Vec<u8> = (0..outline.nodes.len() / 3).filter(|n| outline.nodes[3 * n] == 5).map(|n| n as u8).collect();
+            let node = &mut outline.nodes[k..k + 3];
+            let new = match node[0] {
+                0 | 1 | 2 | 6 => match rng.below(4) {
+                    0 => [0, 0, 0],
+                    1 => [1, rng.between(1, 5) as u8, rng.below(16) as u8],
+                    2 => [2, rng.between(1, 5) as u8, rng.below(4) as u8],
+                    _ if !loops.is_empty() => [6, rng.pick(&loops), 0],
+                    _ => return,
+                },
+                3 => [4, node[1], node[2]],
+                4 => [3, node[2], node[1]],
+                5 => [8, rng.below(8) as u8, node[1]],
+                7 => [rng.pick(&[7, 8]), rng.below(4) as u8, node[2]],
+                _ => match rng.below(3) {
+                    0 => [5, node[2], 0],
+                    1 => [7, rng.below(4) as u8, node[2]],
+                    _ => [8, rng.below(8) as u8, node[2]],
+                },
+            };
+            node.copy_from_slice(&new);
+        }
+        3 => {
+            // two subtrees change places
+            let j = 3 * rng.below(outline.nodes.len() as u64 / 3) as usize;
+            if outline.nodes[k] == 3 && outline.nodes[j] == 3 {
+                outline.nodes.swap(k + 1, j + 2);
+            }
+        }
+        _ if outline.edges.is_empty() => {}
+        4 if outline.edges.len() < 6 * 256 => {
+            let edge = outline.edges[i..i + 6].to_vec();
+            outline.edges.extend(edge);
+        }
+        5 => outline.edges[i] = rng.below(8) as u8,
+        6 => outline.edges[i + 1] = rng.below(8) as u8,
+        7 => outline.edges[i + 2] = rng.below(6) as u8,
+        8 => {
+            outline.edges[i + 3] = rng.between(1, 2) as u8;
+            outline.edges[i + 4] = 0;
+        }
+        _ => outline.edges[i + 5] = rng.below(8) as u8,
+    }
+}
