@@ -127,7 +127,7 @@ step-low (event a r) past (inr (one, two, inr made)) h few =
     let c = creates-few past in
     record { fits = (two, omega arith); b = omega arith }
 step-low (opening p) past o h few = record { fits = o; b = omega arith }
-step-low (closing p) past (o, l) h few = record { fits = l; b = omega arith }
+step-low (closing p) past (o, last, l) h few = record { fits = l; b = omega arith }
 
 step-short : (s : Step) → Low-step s → length (stepRow (rawOf s)) ≤ longestShownRow
 step-short (event a r) l =

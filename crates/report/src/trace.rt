@@ -45,7 +45,9 @@ fn judge_all(edges: &[u8], steps: &[u32], out: &mut [u8], at: usize) -> usize
     let mut possible = s.possible;
     let mut created = s.created;
     let mut unclosed = s.unclosed;
+    let mut order = s.order;
     let mut count = s.count;
+    let mut depth = s.depth;
     let mut halted = s.halted;
     let mut next = at;
     let mut i: usize = 0;
@@ -56,13 +58,16 @@ fn judge_all(edges: &[u8], steps: &[u32], out: &mut [u8], at: usize) -> usize
             &mut possible,
             &mut created,
             &mut unclosed,
+            &mut order,
             count,
+            depth,
             halted,
             step_at(steps, i),
         );
         let a = t.answer;
         next = report_lines::row(out, next, i + 2, number_of(a), detail_of(a));
         count = t.count;
+        depth = t.depth;
         halted = t.halted;
         i += 1;
     }

@@ -15,23 +15,24 @@ use borrow.Author.Needs.{needs}
 use Rattle.report.proofs.trace.judge_all.Statement.{statement}
 use Rattle.report.proofs.trace.judge_all.Tie as tie
 
--- the state lies in its parts: the sets, what each policy may be in, the created resources, their count, the unclosed openings, and whether it is halted
+-- the state lies in its parts: the sets, what each policy may be in, the created resources, their count, the unclosed openings, their order, how many
+-- they are, and whether it is halted
 abbrev Inv-loop : tie.InvT-loop
-Inv-loop edges steps out₀ at n sets₀ possible₀ created₀ unclosed₀ count₀ halted₀ next₀ i₀ out ss possible created unclosed count halted next i =
-    let s = stateOf ss possible created count unclosed halted in
+Inv-loop edges steps out₀ at n sets₀ possible₀ created₀ unclosed₀ order₀ count₀ depth₀ halted₀ next₀ i₀ out ss possible created unclosed order count depth halted next i =
+    let s = stateOf ss possible created count unclosed order depth halted in
     (i ≤ n) × ((length out ≡ length out₀) × ((next + longestStepRow * (n - i) ≤ length out)
     × ((next + length (left edges steps n s i) ≡ at + length (left edges steps n startState 0))
     × (sets out next (left edges steps n s i) ≡ sets out₀ at (left edges steps n startState 0)))))
 
 abbrev μ-loop : tie.MeasureT-loop
-μ-loop edges steps out₀ at n sets₀ possible₀ created₀ unclosed₀ count₀ halted₀ next₀ i₀ out ss possible created unclosed count halted next i = n - i
+μ-loop edges steps out₀ at n sets₀ possible₀ created₀ unclosed₀ order₀ count₀ depth₀ halted₀ next₀ i₀ out ss possible created unclosed order count depth halted next i = n - i
 
 start-requires : tie.Need-start-requires Inv-loop μ-loop
 start-requires c κs = search needs
 
 loop-holds : tie.Need-loop-holds Inv-loop μ-loop
 loop-holds c =
-    let e = c .before .before .before .before .start .ensures .0 in
+    let e = c .before .before .before .before .before .start .ensures .0 in
     (omega arith, (refl, (omega arith, (rw e, rw e))))
 
 step-at-requires : tie.Need-step-at-requires Inv-loop μ-loop
@@ -54,9 +55,9 @@ row-requires c κs = search needs
 
 add-i : tie.Need-add-i Inv-loop μ-loop
 add-i c =
-    let p = c .before .before .before .before .before .before .before .before .before .before .before .before .before .before .before .before .before .before .before .before .before .before .pre .0 in
-    let t = c .before .before .before .before .before .before .before .before .before .before .before .before .before .loop in
-    let q = c .before .before .before .before .before .before .before .before .before .before .before .before .loop-test .taken in
+    let p = c .before .before .before .before .before .before .before .before .before .before .before .before .before .before .before .before .before .before .before .before .before .before .before .before .pre .0 in
+    let t = c .before .before .before .before .before .before .before .before .before .before .before .before .before .before .loop in
+    let q = c .before .before .before .before .before .before .before .before .before .before .before .before .before .loop-test .taken in
     record { fits = omega arith }
 
 loop-less : tie.Need-loop-less Inv-loop μ-loop
@@ -65,21 +66,21 @@ loop-less c = search needs
 loop-again : tie.Need-loop-again Inv-loop μ-loop
 loop-again c =
     let a =
-    c .before .before .before .before .before .before .before .before .before .before .before .before .before .before .before .before .before .before .before .before .before .before .args in
+    c .before .before .before .before .before .before .before .before .before .before .before .before .before .before .before .before .before .before .before .before .before .before .before .before .args in
     let p =
-    c .before .before .before .before .before .before .before .before .before .before .before .before .before .before .before .before .before .before .before .before .before .before .pre .0 in
-    let t = c .before .before .before .before .before .before .before .before .before .before .before .before .before .loop in
-    let q = c .before .before .before .before .before .before .before .before .before .before .before .before .loop-test .taken in
+    c .before .before .before .before .before .before .before .before .before .before .before .before .before .before .before .before .before .before .before .before .before .before .before .before .pre .0 in
+    let t = c .before .before .before .before .before .before .before .before .before .before .before .before .before .before .loop in
+    let q = c .before .before .before .before .before .before .before .before .before .before .before .before .before .loop-test .taken in
     let i₁ = t .inv .1 .0 in
     let i₂ = t .inv .1 .1 .0 in
     let i₃ = t .inv .1 .1 .1 .0 in
     let k = c .before .before .before .before .before .before .judge-lent in
-    let j = judgementOf (k .result) (k .last .1 .0) (k .last .1 .1 .0) (k .last .1 .1 .1 .0) (k .last .1 .1 .1 .1 .0) in
+    let j = judgementOf (k .result) (k .last .1 .0) (k .last .1 .1 .0) (k .last .1 .1 .1 .0) (k .last .1 .1 .1 .1 .0) (k .last .1 .1 .1 .1 .1 .0) in
     let r = c .before .before .row in
     let m = c .before .before .before .before .number-of in
     let d = c .before .before .before .detail-of in
     let n = length (now (a .steps)) / 3 in
-    let s = stateOf (t .sets) (t .possible) (t .created) (t .count) (t .unclosed) (t .halted) in
+    let s = stateOf (t .sets) (t .possible) (t .created) (t .count) (t .unclosed) (t .order) (t .depth) (t .halted) in
     let line = row (t .i + 2) (m .result) (d .result) in
     let ej = k .ensures ∙ ap (judgeOf (now (a .edges)) s) (c .before .before .before .before .before .before .before .step-at .ensures) in
     let h = row-ten (now (a .edges)) (now (a .steps)) n s (t .i) j (m .result) (d .result) ej (m .ensures) (d .ensures) (omega arith) in
@@ -95,9 +96,9 @@ same-length c = search needs
 
 returns : tie.Need-returns Inv-loop μ-loop
 returns c =
-    let a = c .before .before .before .before .before .before .before .before .before .before .args in
+    let a = c .before .before .before .before .before .before .before .before .before .before .before .args in
     let t = c .before .loop in
-    let s = stateOf (t .sets) (t .possible) (t .created) (t .count) (t .unclosed) (t .halted) in
+    let s = stateOf (t .sets) (t .possible) (t .created) (t .count) (t .unclosed) (t .order) (t .depth) (t .halted) in
     let e = all-left (now (a .edges)) (now (a .steps)) in
     let z = none-left (now (a .edges)) (now (a .steps)) (length (now (a .steps)) / 3) s (t .i) (c .loop-test .left) in
     let g = ap length z in
