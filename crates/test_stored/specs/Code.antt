@@ -9,7 +9,7 @@ use Rattle.sheet_lines.specs.declared.Reading.the-variants.{Stored, Refused}
 use Rattle.monitor_sets.specs.Instances.{setPlaces}
 use Rattle.api_c.specs.Codes.{codeOf}
 use Rattle.api_c.specs.Parts.{Parts, partsOf}
-use Rattle.test_stored.specs.declared.order_calls.Ordered.{Ordered}
+use Rattle.test_stored.specs.declared.lent.Lent.{Lent}
 
 -- as the judge's answer is told: refused with the number, or allowed where the sheet was accepted
 abbrev pub readingCode : Reading → ℕ
@@ -32,9 +32,20 @@ disagreeing kept m =
     partsOf (set (replicate setPlaces 1) 0 m) (set (replicate policies 1) 0 kept) (replicate mostCreated 0) (set (replicate policies 0) 0 2)
     (replicate mostUnclosed 0) (0 ∷ 0 ∷ 2 ∷ [])
 
--- a state like the start, but for the order of unclosed openings, the counts of policies 1 and 6, the flag and what is kept of policy 1
-abbrev pub ordering : Ordered → Parts
-ordering s =
-    partsOf (replicate setPlaces 1) (set (replicate policies 1) 1 (s .kept)) (replicate mostCreated 0)
-    (set (set (replicate policies 0) 1 (s .of_1)) 6 (s .of_6)) (set (replicate mostUnclosed (s .rest)) 0 (s .first))
-    (0 ∷ s .flag ∷ s .depth ∷ [])
+-- the arrays of a call as it is lent them
+abbrev pub lentParts : Lent → Parts
+lentParts s = partsOf (s .sets) (s .possible) (s .created) (s .unclosed) (s .order) (s .numbers)
+
+-- a state like the start, but for the order of unclosed openings: its first entry, all others, its length and the counts of policies 1 and 6
+abbrev pub ordering : ℕ → ℕ → ℕ → ℕ → ℕ → Parts
+ordering first rest depth ones sixes =
+    partsOf (replicate setPlaces 1) (replicate policies 1) (replicate mostCreated 0)
+    (set (set (replicate policies 0) 1 ones) 6 sixes) (set (replicate mostUnclosed rest) 0 first) (0 ∷ 0 ∷ depth ∷ [])
+
+-- the same arrays, but that the state is halted
+abbrev pub halting : Parts → Parts
+halting p = partsOf (p .sets) (p .possible) (p .created) (p .unclosed) (p .order) (set (p .numbers) 1 1)
+
+-- the same arrays, but that policy 1 may be in state 6
+abbrev pub breaking : Parts → Parts
+breaking p = partsOf (p .sets) (set (p .possible) 1 64) (p .created) (p .unclosed) (p .order) (p .numbers)

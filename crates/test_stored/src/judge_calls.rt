@@ -63,10 +63,12 @@ fn judged(to: u8, count: u64, flag: u64, first: u32, second: u32, kind: u32, a: 
         a,
         b,
     );
+    let count_left = numbers[0];
+    let flag_left = numbers[1];
     Left {
         code,
-        count: numbers[0],
-        flag: numbers[1],
+        count: count_left,
+        flag: flag_left,
     }
 }
 

@@ -3,6 +3,7 @@
 mod borders;
 mod counterexamples;
 mod judge_calls;
+mod lent;
 mod order_calls;
 mod print;
 mod stored;

@@ -22,11 +22,11 @@ slice-aggregate-judge-parts c = search needs
 judge-parts-requires : tie.Need-judge-parts-requires
 judge-parts-requires c κs = search needs
 
-array-read-t31 : tie.Need-array-read-t31
-array-read-t31 c = search needs
+array-read-count-left : tie.Need-array-read-count-left
+array-read-count-left c = search needs
 
-array-read-t34 : tie.Need-array-read-t34
-array-read-t34 c = search needs
+array-read-flag-left : tie.Need-array-read-flag-left
+array-read-flag-left c = search needs
 
 returns : tie.Need-returns
 returns c =
@@ -42,6 +42,6 @@ judged-spec =
     array-write-created-2
     slice-aggregate-judge-parts
     judge-parts-requires
-    array-read-t31
-    array-read-t34
+    array-read-count-left
+    array-read-flag-left
     returns)
