@@ -1,7 +1,7 @@
 -- The three demands hold.
 use Prim.Native.Nat.{ℕ}
 use mathlib.Core.Path.{_≡_, refl, subst}
-use mathlib.Core.Bool.{false}
+use mathlib.Core.Bool.{Bool, false}
 use mathlib.Core.List.{List, [], map, flatten}
 use mathlib.Core.Logic.{_↔_}
 use Rattle.usage.specs.declared.Edge.{Edge}
@@ -14,6 +14,7 @@ use Rattle.usage.specs.Tables.{edgesOf, nodesOf, EdgeTable, NodeTable}
 use Rattle.usage.proofs.JudgeLaws.{judged-all-unique}
 use Rattle.usage.proofs.TableLaws.{decides-edge-table, decides-node-table}
 use Rattle.monitor_state.proofs.Verdict.{all-judged-begin}
+use Rattle.sheet_lines.specs.Sheets.{isLocal}
 use Rattle.sheet_reader.specs.Readers.{policiesInto, outlineInto}
 use Rattle.sheet_reader.proofs.TableLaws.{policies-valid, outline-valid}
 use Rattle.sheet_reader.proofs.Converse.{edges-given, nodes-given}
@@ -22,11 +23,12 @@ use Rattle.promises.specs.Demands.{GivenBy, Demand1, Demand2, Demand3, D
 use Rattle.promises.proofs.JudgeNumbers.{judge-refuses}
 use Rattle.promises.proofs.SheetNumbers.{policies-refuses, trace-refuses, outline-refuses}
 
-edges-sheet : (t : List ℕ) → EdgeTable t ↔ GivenBy edgePlaces policiesInto t
-edges-sheet t = (
-  λ e. let g = edges-given t (decides-edge-table t .1 e) in
-      record { text = g .text; rows = g .rows; accepts = g .accepts; table-is = g .table },
-  back,
+edges-sheet : (local : Bool) (t : List ℕ) → EdgeTable t ↔ ((g : GivenBy edgePlaces policiesInto t) × (isLocal (g .text) ≡ local))
+edges-sheet local t = (
+  λ e. let h = edges-given local t (decides-edge-table t .1 e) in
+      let g = h .0 in
+      (record { text = g .text; rows = g .rows; accepts = g .accepts; table-is = g .table }, h .1),
+  λ h. back (h .0),
 )
   where
     back : GivenBy edgePlaces policiesInto t → EdgeTable t

@@ -5,7 +5,8 @@ use mathlib.Core.List.{List, _++_, map, flatten}
 use Rattle.usage.specs.declared.RawStep.{RawStep}
 use Rattle.usage.specs.Tables.{stepsOf}
 use Rattle.sheet_lines.specs.Sheet.{Result, accepted, refused, sheet}
-use Rattle.sheet_lines.specs.Sheets.{policySheet, traceSheet}
+use Rattle.sheet_lines.specs.Sheets.{traceSheet}
+use Rattle.sheet_reader.specs.Readers.{policiesRead}
 use Rattle.monitor_state.specs.declared.Answer.{Answer}
 use Rattle.monitor_state.specs.Judge.{verdictOf, startState}
 use Rattle.monitor_state.specs.Renamed.{Renaming, renamedStep}
@@ -25,7 +26,7 @@ printed-same : (policies-text trace-text renamed-text : List ℕ) (rows renamed-
     → stepsOf (flatten renamed-rows) ≡ map (renamedStep f) (stepsOf (flatten rows))
     → tracePrinted policies-text renamed-text ≡ tracePrinted policies-text trace-text
 unfolding tracePrinted printed traceRows
-printed-same policies-text trace-text renamed-text rows renamed-rows f R p q e = rw (p, q, e) (go (sheet policySheet policies-text))
+printed-same policies-text trace-text renamed-text rows renamed-rows f R p q e = rw (p, q, e) (go (policiesRead policies-text))
   where
     go : (r : Result)
         → printed r (λ edges. judgedRows edges startState 2 (map (renamedStep f) (stepsOf (flatten rows))))

@@ -32,8 +32,8 @@ use Rattle.sheet_bytes.specs.Line.{Line, linesOf}
 use Rattle.sheet_bytes.specs.Fault.{LineFault, no-feed, other-byte, overlong, form, LineRead, has-values, has-fault, readLine}
 use Rattle.sheet_bytes.proofs.FaultLaws.{decides-fault}
 use Rattle.sheet_lines.specs.Sheet.{Sheet, Result, accepted, refused, refuseAt, followed, entry, valueLines, startsWith, sheet}
-use Rattle.sheet_lines.specs.Sheets.{policySheet, traceSheet, outlineSheet}
-use Rattle.sheet_reader.specs.Readers.{ruledRows, ruledResult, roomy, policiesInto, traceInto, outlineInto, stored}
+use Rattle.sheet_lines.specs.Sheets.{policySheet, isLocal, traceSheet, outlineSheet}
+use Rattle.sheet_reader.specs.Readers.{policiesRead, ruledRows, ruledResult, roomy, policiesInto, traceInto, outlineInto, stored}
 use Rattle.promises.specs.Demands.{sheetNumbers, outlineNumbers, ReaderRefuses}
 use Rattle.promises.proofs.JudgeNumbers.{nth}
 
@@ -171,7 +171,9 @@ wider n m = longer n sheetNumbers (9 ∷ 6 ∷ 7 ∷ 8 ∷ []) m
 
 pub policies-refuses : ReaderRefuses sheetNumbers edgePlaces policiesInto
 unfolding policiesInto
-policies-refuses = reader-refuses sheetNumbers (nth 0 sheetNumbers refl) _ (sheet policySheet) (sheet-numbers sheetNumbers same policySheet)
+policies-refuses =
+    reader-refuses sheetNumbers (nth 0 sheetNumbers refl) _ policiesRead
+    (λ text. sheet-numbers sheetNumbers same (policySheet (isLocal text)) text)
 
 pub trace-refuses : ReaderRefuses sheetNumbers stepPlaces traceInto
 unfolding traceInto

@@ -5,7 +5,7 @@
 -- its memory or runs on without end is what the language asks of each before it is built.
 use Prim.Native.Nat.{ℕ, suc, _<_}
 use mathlib.Core.Path.{_≡_}
-use mathlib.Core.Bool.{true, false}
+use mathlib.Core.Bool.{Bool, true, false}
 use mathlib.Core.List.{List, [], _∷_, _++_, map, flatten, List·Memᴰ}
 use mathlib.Core.Logic.{_↔_}
 use Rattle.usage.specs.declared.RawStep.{RawStep}
@@ -19,7 +19,7 @@ use Rattle.monitor_state.specs.declared.Answer.the-variants.{Violated, Refused}
 use Rattle.monitor_state.specs.Judge.{verdictOf, stateOk, halt, judgeOf, answersOf, startState}
 use Rattle.monitor_state.specs.Renamed.{Renaming, renamedStep, SameAnswers}
 use Rattle.sheet_lines.specs.Sheet.{Result, accepted, refused as sheet-refused, sheet}
-use Rattle.sheet_lines.specs.Sheets.{traceSheet}
+use Rattle.sheet_lines.specs.Sheets.{isLocal, traceSheet}
 use Rattle.sheet_reader.specs.Readers.{policiesInto, traceInto, outlineInto, stored}
 use Rattle.checker.specs.Accepted.{NeverHalted}
 use Rattle.checker.specs.Promise.{RightVerdict, CheckPromise}
@@ -76,8 +76,8 @@ pub record Demand1 : Type 0 where
   pub policies-reader : ReaderRefuses sheetNumbers edgePlaces policiesInto
   pub trace-reader : ReaderRefuses sheetNumbers stepPlaces traceInto
   pub outline-reader : ReaderRefuses outlineNumbers nodePlaces outlineInto
-  -- the tables that 41 does not refuse are those that the sheets give
-  pub edges-given : (t : List ℕ) → EdgeTable t ↔ GivenBy edgePlaces policiesInto t
+  -- the tables that 41 does not refuse are those that the sheets give; of edges, those of either names line (02, L7)
+  pub edges-given : (local : Bool) (t : List ℕ) → EdgeTable t ↔ ((g : GivenBy edgePlaces policiesInto t) × (isLocal (g .text) ≡ local))
   pub nodes-given : (t : List ℕ) → NodeTable t ↔ GivenBy nodePlaces outlineInto t
 
 -- ── Demand 2 ──

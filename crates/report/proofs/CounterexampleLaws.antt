@@ -20,8 +20,8 @@ use Rattle.usage.proofs.JudgeLaws.{Fits}
 use Rattle.usage.proofs.TableLaws.{from-snoc}
 use Rattle.usage.proofs.TraceLaws.{StepOk, PastOk, trace-ok}
 use Rattle.sheet_lines.specs.Sheet.{refused, sheet}
-use Rattle.sheet_lines.specs.Sheets.{policySheet, outlineSheet}
-use Rattle.sheet_reader.specs.Readers.{ruledResult}
+use Rattle.sheet_lines.specs.Sheets.{policySheet, isLocal, outlineSheet}
+use Rattle.sheet_reader.specs.Readers.{policiesRead, ruledResult}
 use Rattle.sheet_reader.proofs.AnswerLaws.{Holds, HoldsNodes}
 use Rattle.checker_trace.specs.Steps.{three, numbers, laid}
 use Rattle.checker_trace.specs.Answer.{mostNumbers}
@@ -237,7 +237,7 @@ nodes-none edges text line number buffer e (er, eo) =
 
 module _ (policies-text outline-text buffer : List ℕ) where
   -- the edges of an accepted sheet of policies
-  pub edges-held : (table : List ℕ) (n : ℕ) {r : ℕ} {after : List ℕ} → Holds policySheet policies-text table n
+  pub edges-held : (table : List ℕ) (n : ℕ) {r : ℕ} {after : List ℕ} → Holds (policySheet (isLocal policies-text)) policies-text table n
       → Prints (RightTrace (take (n * 6 - 0) table) (ruledResult (sheet outlineSheet outline-text)))
       (nodesSheet (ruledResult (sheet outlineSheet outline-text))) buffer r after
       → Prints (RightExplanation policies-text outline-text) (counterexamplePrinted policies-text outline-text) buffer r after
@@ -245,7 +245,7 @@ module _ (policies-text outline-text buffer : List ℕ) where
   edges-held table n h p = rw (h .result) (rw (sub-zero (n * 6), h .flat) at p)
 
   pub edges-none : (line number : ℕ) {r : ℕ} {after : List ℕ}
-      → sheet policySheet policies-text ≡ refused record { line = line; number = number }
+      → policiesRead policies-text ≡ refused record { line = line; number = number }
       → (r ≡ length (namesLine ++ row line 3 number)) × (after ≡ fronted buffer (namesLine ++ row line 3 number))
       → Prints (RightExplanation policies-text outline-text) (counterexamplePrinted policies-text outline-text) buffer r after
   unfolding RightTraceOf sheetsSheet

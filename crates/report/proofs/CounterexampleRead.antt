@@ -20,9 +20,9 @@ use Rattle.sheet_bytes.specs.Line.{Line, prefixed, linesOf}
 use Rattle.sheet_bytes.specs.Grammar.{Digits, no-digit, one-more, Value, one-space, Values, last-value, next-value}
 use Rattle.sheet_bytes.proofs.FaultLaws.{decides-values}
 use Rattle.sheet_lines.specs.Sheet.{Result, accepted, refused, followed, valueLines, sheet}
-use Rattle.sheet_lines.specs.Sheets.{policySheet, traceSheet, outlineSheet}
+use Rattle.sheet_lines.specs.Sheets.{traceSheet, outlineSheet}
 use Rattle.sheet_lines.proofs.ScanLaws.{fed}
-use Rattle.sheet_reader.specs.Readers.{ruledResult}
+use Rattle.sheet_reader.specs.Readers.{policiesRead, ruledResult}
 use Rattle.sheet_reader.proofs.WrittenLaws.{digit-class, digits-lines, nothing-left, names-read}
 use Rattle.checker.specs.declared.counterexample.Explanation.{Explanation}
 use Rattle.checker.specs.Accepted.{rawOf}
@@ -208,14 +208,14 @@ shown-read {t = t} {x = x} d =
 
 -- the same of what is printed for two accepted sheets: the first program can judge it as it is
 pub counterexample-read : (policies-text outline-text : List ℕ) (edges nodes : List (List ℕ))
-    → sheet policySheet policies-text ≡ accepted edges
+    → policiesRead policies-text ≡ accepted edges
     → ruledResult (sheet outlineSheet outline-text) ≡ accepted nodes → (x : Explanation) (t : List ℕ)
     → RightExplanation policies-text outline-text x t
     → sheet traceSheet (counterexamplePrinted policies-text outline-text x t) ≡ accepted
     (map stepValues (from (stepAt t) 0 (stepsWritten x)))
 unfolding RightTrace RightTraceOf nodesSheet sheetsSheet
 counterexample-read policies-text outline-text edges nodes p o x t h =
-    go (sheet policySheet policies-text) (ruledResult (sheet outlineSheet outline-text)) p o h
+    go (policiesRead policies-text) (ruledResult (sheet outlineSheet outline-text)) p o h
   where
     go : (a b : Result) → a ≡ accepted edges → b ≡ accepted nodes → RightTraceOf a b x t
         → sheet traceSheet (sheetsSheet a b x t) ≡ accepted (map stepValues (from (stepAt t) 0 (stepsWritten x)))

@@ -12,8 +12,8 @@ use Rattle.usage.specs.Answers.{Verdict, answer, detail}
 use Rattle.usage.specs.Check.{Checked}
 use Rattle.usage.specs.Tables.{edgesOf, nodesOf}
 use Rattle.sheet_lines.specs.Sheet.{Result, accepted, refused, sheet}
-use Rattle.sheet_lines.specs.Sheets.{policySheet, outlineSheet}
-use Rattle.sheet_reader.specs.Readers.{ruledResult}
+use Rattle.sheet_lines.specs.Sheets.{policySheet, isLocal, outlineSheet}
+use Rattle.sheet_reader.specs.Readers.{policiesRead, ruledResult}
 use Rattle.sheet_reader.proofs.AnswerLaws.{Holds, HoldsNodes, accepted-edges, accepted-nodes}
 use Rattle.sheet_reader.proofs.RefusalLaws.{outline-low}
 use Rattle.checker.specs.Promise.{checked, CheckPromise}
@@ -80,14 +80,14 @@ module _ (edges text buffer after : List ℕ) (at r : ℕ) (room : at + longestO
 -- ── The whole output ──
 
 -- with the edges of an accepted sheet of policies
-pub right-held : (policies-text outline-text table : List ℕ) (n : ℕ) → Holds policySheet policies-text table n → (v : Verdict)
+pub right-held : (policies-text outline-text table : List ℕ) (n : ℕ) → Holds (policySheet (isLocal policies-text)) policies-text table n → (v : Verdict)
     → RightTexts policies-text outline-text v ↔ RightNodes (take (n * 6 - 0) table) (ruledResult (sheet outlineSheet outline-text)) v
 unfolding RightSheets
 right-held policies-text outline-text table n h v = rw (h .result, sub-zero (n * 6), h .flat) (λ k. k, λ k. k)
 
 -- with a refused one any verdict will do
 pub right-refused : (policies-text outline-text : List ℕ) (line number : ℕ)
-    → sheet policySheet policies-text ≡ refused record { line = line; number = number } → (v : Verdict)
+    → policiesRead policies-text ≡ refused record { line = line; number = number } → (v : Verdict)
     → RightTexts policies-text outline-text v
 unfolding RightSheets
 right-refused policies-text outline-text line number e v = rw e tt
@@ -120,7 +120,7 @@ pub printed-unique : (policies-text outline-text : List ℕ) (v w : Verdict) →
     → RightTexts policies-text outline-text w
     → outlinePrinted policies-text outline-text v ≡ outlinePrinted policies-text outline-text w
 unfolding RightSheets RightNodes nodesRow outlinePrinted printed
-printed-unique policies-text outline-text v w h k = go (sheet policySheet policies-text) (ruledResult (sheet outlineSheet outline-text)) h k
+printed-unique policies-text outline-text v w h k = go (policiesRead policies-text) (ruledResult (sheet outlineSheet outline-text)) h k
   where
     go : (p o : Result) → RightSheets p o v → RightSheets p o w → printed p (λ edges. nodesRow o v) ≡ printed p (λ edges. nodesRow o w)
     go (refused r) o h k = refl
@@ -129,7 +129,7 @@ printed-unique policies-text outline-text v w h k = go (sheet policySheet polici
 
 -- Of two accepted sheets the verdict that is right is the check's, of the outline under the edges.
 pub outline-right : (policies-text outline-text : List ℕ) (edges nodes : List (List ℕ))
-    → sheet policySheet policies-text ≡ accepted edges → ruledResult (sheet outlineSheet outline-text) ≡ accepted nodes → (v : Verdict)
+    → policiesRead policies-text ≡ accepted edges → ruledResult (sheet outlineSheet outline-text) ≡ accepted nodes → (v : Verdict)
     → RightTexts policies-text outline-text v ↔ Checked false (edgesOf (flatten edges)) (nodesOf (flatten nodes)) v
 unfolding RightSheets RightNodes
 outline-right policies-text outline-text edges nodes p o v =

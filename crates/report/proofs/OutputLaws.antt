@@ -7,8 +7,9 @@ use native.Mathlib.Omega.{arith}
 use lib.ListN.{length, take, drop, length-append}
 use lib.Seq.{sets, length-sets}
 use borrow.Author.Tests.{lt-ltb, le-ltb}
-use Rattle.sheet_lines.specs.Sheet.{refused, sheet}
-use Rattle.sheet_lines.specs.Sheets.{policySheet}
+use Rattle.sheet_lines.specs.Sheet.{refused}
+use Rattle.sheet_lines.specs.Sheets.{policySheet, isLocal}
+use Rattle.sheet_reader.specs.Readers.{policiesRead}
 use Rattle.sheet_reader.proofs.AnswerLaws.{Holds}
 use Rattle.sheet_reader.proofs.RefusalLaws.{sheet-low}
 use Rattle.report_lines.specs.Lines.{namesLine, namesRoom, row}
@@ -66,10 +67,10 @@ module _ (buffer first : List ℕ) (at : ℕ) (named : List ℕ) (ea : at ≡ en
       then-stored second l (z .0) (z .1)
 
 -- the line of a refused sheet of policies is no longer than that of an outline
-pub policies-short : (text : List ℕ) (line number : ℕ) → sheet policySheet text ≡ refused record { line = line; number = number }
+pub policies-short : (text : List ℕ) (line number : ℕ) → policiesRead text ≡ refused record { line = line; number = number }
     → length (row line 3 number) ≤ longestOutlineRow
 policies-short text line number e =
-    let l = sheet-low policySheet text record { line = line; number = number } e in
+    let l = sheet-low (policySheet (isLocal text)) text record { line = line; number = number } e in
     row-nine line 3 number (let h = l .line in omega arith) (omega arith) (l .number)
 
 -- ── After the names, from what the functions return: the place `at` after them, and the buffer `named` that holds them ──
@@ -84,9 +85,9 @@ module _ (buffer : List ℕ) (fits : namesRoom ≤ length buffer) (at : ℕ) (na
 
   module _ (room : ℕ) (text : List ℕ) (rest : List ℕ → List ℕ) (enough : room ≤ length buffer) (least : outlineRoom ≤ room) where
     -- a part that is stored after the names
-    then-part : (part after : List ℕ) (r : ℕ) → afterPolicies (sheet policySheet text) rest ≡ part → r ≡ at + length part → after
+    then-part : (part after : List ℕ) (r : ℕ) → afterPolicies (policiesRead text) rest ≡ part → r ≡ at + length part → after
         ≡ sets named at part
-        → namesRoom + length part ≤ room → Printed room buffer (printed (sheet policySheet text) rest) r after
+        → namesRoom + length part ≤ room → Printed room buffer (printed (policiesRead text) rest) r after
     unfolding printed
     then-part part after r e er eo l =
         let o = names-stored buffer fits ea en in
@@ -94,17 +95,17 @@ module _ (buffer : List ℕ) (fits : namesRoom ≤ length buffer) (at : ℕ) (na
         rw e (two-parts room buffer namesLine part after r enough (rw (o .0) at er) (omega arith) (rw (o .0, o .1) at eo))
 
     -- the rest, with the edges of an accepted sheet of policies
-    pub printed-held : (table : List ℕ) (n : ℕ) → Holds policySheet text table n → {r : ℕ} {after : List ℕ}
+    pub printed-held : (table : List ℕ) (n : ℕ) → Holds (policySheet (isLocal text)) text table n → {r : ℕ} {after : List ℕ}
         → r ≡ at + length (rest (take (n * 6 - 0) table)) → after ≡ sets named at (rest (take (n * 6 - 0) table))
-        → namesRoom + length (rest (take (n * 6 - 0) table)) ≤ room → Printed room buffer (printed (sheet policySheet text) rest) r after
+        → namesRoom + length (rest (take (n * 6 - 0) table)) ≤ room → Printed room buffer (printed (policiesRead text) rest) r after
     printed-held table n h {r} {after} er eo l =
         then-part (rest (take (n * 6 - 0) table)) after r (rw (h .result, sub-zero (n * 6)) (ap rest (sym (h .flat)))) er eo l
 
     -- the line of a refused one
-    pub printed-refused : (line number : ℕ) → sheet policySheet text ≡ refused record { line = line; number = number }
+    pub printed-refused : (line number : ℕ) → policiesRead text ≡ refused record { line = line; number = number }
         → {r : ℕ} {after : List ℕ}
         → r ≡ endAt named at (row line 3 number) → after ≡ putAt named at (row line 3 number)
-        → Printed room buffer (printed (sheet policySheet text) rest) r after
+        → Printed room buffer (printed (policiesRead text) rest) r after
     printed-refused line number e {r} {after} er eo =
         let f = policies-short text line number e in
         let k = names-end in

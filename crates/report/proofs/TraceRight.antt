@@ -10,7 +10,8 @@ use Rattle.usage.specs.Judge.{JudgedAll}
 use Rattle.usage.specs.Tables.{edgesOf, stepsOf}
 use Rattle.usage.proofs.TableLaws.{decides-edge-table}
 use Rattle.sheet_lines.specs.Sheet.{accepted, sheet}
-use Rattle.sheet_lines.specs.Sheets.{policySheet, traceSheet}
+use Rattle.sheet_lines.specs.Sheets.{traceSheet}
+use Rattle.sheet_reader.specs.Readers.{policiesRead}
 use Rattle.monitor_state.specs.Judge.{verdictOf, startState, answersOf}
 use Rattle.monitor_state.proofs.Verdict.{all-judged-begin}
 use Rattle.report_lines.specs.Lines.{namesLine, rows}
@@ -25,7 +26,7 @@ pub record Right (edges : List Edge) (steps : List RawStep) (output : List ℕ) 
   pub printed : output ≡ namesLine ++ rows 2 verdicts
 
 pub trace-right : (policies-text trace-text : List ℕ) (edges steps : List (List ℕ))
-    → sheet policySheet policies-text ≡ accepted edges → sheet traceSheet trace-text ≡ accepted steps
+    → policiesRead policies-text ≡ accepted edges → sheet traceSheet trace-text ≡ accepted steps
     → Right (edgesOf (flatten edges)) (stepsOf (flatten steps)) (tracePrinted policies-text trace-text)
 unfolding printed tracePrinted traceRows judgedRows
 trace-right policies-text trace-text edges steps p t = record {

@@ -7,8 +7,8 @@ use Rattle.usage.specs.declared.RawStep.{RawStep}
 use Rattle.usage.specs.Limits.{mostShown}
 use Rattle.usage.specs.Tables.{from, stepAt}
 use Rattle.sheet_lines.specs.Sheet.{Result, accepted, refused, sheet}
-use Rattle.sheet_lines.specs.Sheets.{policySheet, outlineSheet}
-use Rattle.sheet_reader.specs.Readers.{ruledResult}
+use Rattle.sheet_lines.specs.Sheets.{outlineSheet}
+use Rattle.sheet_reader.specs.Readers.{policiesRead, ruledResult}
 use Rattle.checker_trace.specs.Answer.{mostNumbers}
 use Rattle.checker.specs.declared.counterexample.Explanation.{Explanation}
 use Rattle.checker.specs.Explained.{Explained, stepsWritten}
@@ -34,7 +34,7 @@ RightTraceOf (refused r) nodes e t = Unit {0}
 
 -- of the bytes of `policies.txt` and `outline.txt`
 abbrev pub RightExplanation : List ℕ → List ℕ → Explanation → List ℕ → Type 0
-RightExplanation policies-text outline-text = RightTraceOf (sheet policySheet policies-text) (ruledResult (sheet outlineSheet outline-text))
+RightExplanation policies-text outline-text = RightTraceOf (policiesRead policies-text) (ruledResult (sheet outlineSheet outline-text))
 
 -- ── What is printed of it ──
 
@@ -63,7 +63,7 @@ sheetsSheet (refused r) nodes e t = namesLine ++ refusalRow 3 r
 -- the whole output
 abbrev pub counterexamplePrinted : List ℕ → List ℕ → Explanation → List ℕ → List ℕ
 counterexamplePrinted policies-text outline-text =
-    sheetsSheet (sheet policySheet policies-text) (ruledResult (sheet outlineSheet outline-text))
+    sheetsSheet (policiesRead policies-text) (ruledResult (sheet outlineSheet outline-text))
 
 -- ── The lent buffer ──
 

@@ -3,8 +3,8 @@ use Prim.Native.Nat.{ℕ}
 use mathlib.Core.List.{List, flatten}
 use Rattle.usage.specs.Answers.{Verdict}
 use Rattle.sheet_lines.specs.Sheet.{Result, accepted, refused, sheet}
-use Rattle.sheet_lines.specs.Sheets.{policySheet, outlineSheet}
-use Rattle.sheet_reader.specs.Readers.{ruledResult}
+use Rattle.sheet_lines.specs.Sheets.{outlineSheet}
+use Rattle.sheet_reader.specs.Readers.{policiesRead, ruledResult}
 use Rattle.checker.specs.Promise.{RightVerdict}
 use Rattle.report_lines.specs.Lines.{verdictRow, refusalRow}
 use Rattle.report.specs.Output.{printed}
@@ -23,7 +23,7 @@ RightSheets (refused r) nodes v = Unit {0}
 
 -- of the bytes of `policies.txt` and `outline.txt`
 abbrev pub RightTexts : List ℕ → List ℕ → Verdict → Type 0
-RightTexts policies-text outline-text v = RightSheets (sheet policySheet policies-text) (ruledResult (sheet outlineSheet outline-text)) v
+RightTexts policies-text outline-text v = RightSheets (policiesRead policies-text) (ruledResult (sheet outlineSheet outline-text)) v
 
 -- ── What is printed of it ──
 
@@ -35,4 +35,4 @@ nodesRow (refused r) v = refusalRow 5 r
 -- the whole output
 unfoldable pub outlinePrinted : List ℕ → List ℕ → Verdict → List ℕ
 outlinePrinted policies-text outline-text v =
-    printed (sheet policySheet policies-text) (λ edges. nodesRow (ruledResult (sheet outlineSheet outline-text)) v)
+    printed (policiesRead policies-text) (λ edges. nodesRow (ruledResult (sheet outlineSheet outline-text)) v)

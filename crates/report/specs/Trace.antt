@@ -4,7 +4,8 @@ use mathlib.Core.List.{List, map, flatten}
 use Rattle.usage.specs.declared.RawStep.{RawStep}
 use Rattle.usage.specs.Tables.{stepsOf}
 use Rattle.sheet_lines.specs.Sheet.{Result, accepted, refused, sheet}
-use Rattle.sheet_lines.specs.Sheets.{policySheet, traceSheet}
+use Rattle.sheet_lines.specs.Sheets.{traceSheet}
+use Rattle.sheet_reader.specs.Readers.{policiesRead}
 use Rattle.monitor_state.specs.declared.State.{State}
 use Rattle.monitor_state.specs.Judge.{verdictOf, startState, answersOf}
 use Rattle.report_lines.specs.Lines.{rows, refusalRow}
@@ -22,4 +23,4 @@ traceRows edges (refused r) = refusalRow 4 r
 
 -- the whole output, from the bytes of `policies.txt` and `trace.txt`
 unfoldable pub tracePrinted : List ℕ → List ℕ → List ℕ
-tracePrinted policies-text trace-text = printed (sheet policySheet policies-text) (λ edges. traceRows edges (sheet traceSheet trace-text))
+tracePrinted policies-text trace-text = printed (policiesRead policies-text) (λ edges. traceRows edges (sheet traceSheet trace-text))

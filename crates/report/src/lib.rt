@@ -10,7 +10,7 @@ ghost use Rattle.report.specs.Counterexample.{RightExplanation, countere
 use checker_trace::MOST_NUMBERS;
 use report_lines::NAMES;
 use report_lines::TRACE_NAMES;
-use sheet_lines::Reading;
+use sheet_reader::PolicyReading;
 use usage::EDGE_FIELDS;
 use usage::EDGE_TABLE;
 use usage::MOST_STEPS;
@@ -53,8 +53,12 @@ pub extern "C" fn report_trace(policies: &[u8], trace: &[u8], out: &mut [u8]) ->
     let mut edges = [0u8; EDGE_TABLE];
     let reading = sheet_reader::read_policies(policies, &mut edges);
     match reading {
-        Reading::Stored(n) => crate::trace::rows(&edges[0..n * EDGE_FIELDS], trace, out, at),
-        Reading::Refused { line, number } => report_lines::row(out, at, line, 3, number as usize),
+        PolicyReading::Stored { edges: n, local: _ } => {
+            crate::trace::rows(&edges[0..n * EDGE_FIELDS], trace, out, at)
+        }
+        PolicyReading::Refused { line, number } => {
+            report_lines::row(out, at, line, 3, number as usize)
+        }
     }
 }
 
@@ -76,8 +80,12 @@ pub extern "C" fn report_outline(policies: &[u8], outline: &[u8], out: &mut [u8]
     let mut edges = [0u8; EDGE_TABLE];
     let reading = sheet_reader::read_policies(policies, &mut edges);
     match reading {
-        Reading::Stored(n) => crate::outline::row(&edges[0..n * EDGE_FIELDS], outline, out, next),
-        Reading::Refused { line, number } => report_lines::row(out, next, line, 3, number as usize),
+        PolicyReading::Stored { edges: n, local: _ } => {
+            crate::outline::row(&edges[0..n * EDGE_FIELDS], outline, out, next)
+        }
+        PolicyReading::Refused { line, number } => {
+            report_lines::row(out, next, line, 3, number as usize)
+        }
     }
 }
 
@@ -97,11 +105,11 @@ pub extern "C" fn report_counterexample(policies: &[u8], outline: &[u8], out: &m
     let mut edges = [0u8; EDGE_TABLE];
     let reading = sheet_reader::read_policies(policies, &mut edges);
     match reading {
-        Reading::Stored(n) => crate::counterexample::of_text(
-            &edges[0..n * EDGE_FIELDS],
-            outline,
-            out,
-        ),
-        Reading::Refused { line, number } => crate::counterexample::refused(out, line, 3, number),
+        PolicyReading::Stored { edges: n, local: _ } => {
+            crate::counterexample::of_text(&edges[0..n * EDGE_FIELDS], outline, out)
+        }
+        PolicyReading::Refused { line, number } => {
+            crate::counterexample::refused(out, line, 3, number)
+        }
     }
 }

@@ -37,6 +37,6 @@ nodeLineFields = suc nodeFields
 
 -- as many values as the line has fields, each in its range
 abbrev pub lineFits : Kind → List ℕ → Bool
-lineFits Policies vs = eqb (length vs) edgeFields && edgeLine vs
+lineFits (Policies local) vs = eqb (length vs) edgeFields && edgeLine vs
 lineFits Trace vs = eqb (length vs) stepFields && stepLine vs
 lineFits Outline vs = eqb (length vs) nodeLineFields && nodeLine vs

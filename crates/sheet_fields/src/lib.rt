@@ -41,9 +41,9 @@ const LAST_NODE: u32 = NODES - 1;
 // Document 01: "name b (0 to 3)".
 const LAST_NAME: u32 = 3;
 
-// Which sheet is read.
+// Which sheet is read; of policies also which past they see, as the names line says.
 pub enum Kind {
-    Policies,
+    Policies { local: bool },
     Trace,
     Outline,
 }
@@ -178,7 +178,7 @@ pub fn line_fits(kind: Kind, values: &[u32]) -> bool
     ensures { λ r. ⌜ r ≡ lineFits kind (now (values .entry)) ⌝ }
 {
     match kind {
-        Kind::Policies => edge_line(values),
+        Kind::Policies { local: _ } => edge_line(values),
         Kind::Trace => step_line(values),
         Kind::Outline => node_line(values),
     }

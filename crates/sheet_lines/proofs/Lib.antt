@@ -6,3 +6,5 @@ pub mod BeginLaws
 -- Accepted sheets, and what is stored of them.
 pub mod AcceptLaws
 pub mod SheetLaws
+-- The two names lines of a sheet of policies.
+pub mod NamesLaws

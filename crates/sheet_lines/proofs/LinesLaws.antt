@@ -34,12 +34,12 @@ use Rattle.sheet_lines.proofs.StepLaws.{goes-on, at-feed}
 
 -- the values of every line that is allowed have a place in the buffer
 pub places : (k : Kind) (n : ℕ) → n < (sheetOf k) .most → n * (sheetOf k) .fields + (sheetOf k) .fields ≤ mostValues
-places Policies n h = omega arith
+places (Policies local) n h = omega arith
 places Trace n h = omega arith
 places Outline n h = omega arith
 
 pub few-lines : (k : Kind) → (sheetOf k) .most ≤ mostSteps
-few-lines Policies = omega arith
+few-lines (Policies local) = omega arith
 few-lines Trace = omega arith
 few-lines Outline = omega arith
 
@@ -126,13 +126,13 @@ module _ (s : Sheet) (text : List ℕ) (from : ℕ) (lent buffer : List ℕ) (i 
 
 -- every sheet has a field
 pub some-field : (k : Kind) → 0 < (sheetOf k) .fields
-some-field Policies = omega arith
+some-field (Policies local) = omega arith
 some-field Trace = omega arith
 some-field Outline = omega arith
 
 -- a line of all its values is in range where it fits
 pub fits-in-range : (k : Kind) (vs : List ℕ) → length vs ≡ (sheetOf k) .fields → lineFits k vs ≡ (sheetOf k) .in-range vs
-fits-in-range Policies vs h = simp (eq-eqb _ _ h)
+fits-in-range (Policies local) vs h = simp (eq-eqb _ _ h)
 fits-in-range Trace vs h = simp (eq-eqb _ _ h)
 fits-in-range Outline vs h = simp (eq-eqb _ _ h)
 

@@ -6,7 +6,7 @@ ghost use lib.ListN.{length, take, drop};
 ghost use Rattle.usage.specs.Limits.{mostSteps};
 ghost use Rattle.sheet_bytes.specs.Line.{linesOf};
 ghost use Rattle.sheet_lines.specs.Sheet.{valueLines, startsWith, sheet as sheet-of};
-ghost use Rattle.sheet_lines.specs.Sheets.{sheetOf};
+ghost use Rattle.sheet_lines.specs.Sheets.{policyNames, isLocal as local-text, sheetOf};
 ghost use Rattle.sheet_lines.specs.Answer.{readingAnswer, answered, mostValues, filled};
 ghost use Rattle.sheet_lines.specs.Code.{emptyPart as nothing-read, answerAfter, isStored as stored-in, heldBy, restAfter, heldOnto};
 use sheet_bytes::Next;
@@ -56,7 +56,7 @@ fn fields(kind: Kind) -> usize
     ensures { λ r. ⌜ r ≡ (sheetOf kind) .fields ⌝ }
 {
     match kind {
-        Kind::Policies => EDGE_FIELDS,
+        Kind::Policies { local: _ } => EDGE_FIELDS,
         Kind::Trace => STEP_FIELDS,
         Kind::Outline => NODE_LINE_FIELDS,
     }
@@ -67,7 +67,7 @@ fn most(kind: Kind) -> usize
     ensures { λ r. ⌜ r ≡ (sheetOf kind) .most ⌝ }
 {
     match kind {
-        Kind::Policies => MOST_EDGES,
+        Kind::Policies { local: _ } => MOST_EDGES,
         Kind::Trace => MOST_STEPS,
         Kind::Outline => MOST_NODES,
     }
@@ -78,7 +78,7 @@ fn names_length(kind: Kind) -> usize
     ensures { λ r. ⌜ r ≡ length ((sheetOf kind) .names) ⌝ }
 {
     match kind {
-        Kind::Policies => 29,
+        Kind::Policies { local } => if local { 28 } else { 29 },
         Kind::Trace => 9,
         Kind::Outline => 14,
     }
@@ -101,12 +101,29 @@ fn begins(text: &[u8], names: &[u8]) -> bool
     true
 }
 
+// The text is a sheet of local policies (02, L7).
+pub fn is_local(text: &[u8]) -> bool
+    ensures { λ r. ⌜ r ≡ local-text (now (text .entry)) ⌝ }
+{
+    begins(text, b"local from action on who to\n")
+}
+
+// The names line is that of policies that see the past of their sandbox, or the whole past.
+fn policies_named(text: &[u8], local: bool) -> bool
+    ensures { λ r. ⌜ r ≡ startsWith (policyNames local) (now (text .entry)) ⌝ }
+{
+    if local {
+        return is_local(text);
+    }
+    begins(text, b"policy from action on who to\n")
+}
+
 // The names line is that of the sheet.
 fn named(text: &[u8], kind: Kind) -> bool
     ensures { λ r. ⌜ r ≡ startsWith ((sheetOf kind) .names) (now (text .entry)) ⌝ }
 {
     match kind {
-        Kind::Policies => begins(text, b"policy from action on who to\n"),
+        Kind::Policies { local } => policies_named(text, local),
         Kind::Trace => begins(text, b"kind a b\n"),
         Kind::Outline => begins(text, b"node kind a b\n"),
     }

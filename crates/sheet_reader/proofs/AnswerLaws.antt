@@ -1,6 +1,7 @@
 -- What a reader's answer says of its sheet, for those who lend it a table of zeros.
 use Prim.Native.Nat.{ℕ, _*_, _≤_}
 use mathlib.Core.Path.{_≡_, refl, sym, ap, _∙_}
+use mathlib.Core.Bool.{Bool}
 use mathlib.Core.Option.{Option, none, some}
 use mathlib.Core.List.{List, map, tail, flatten}
 use native.Mathlib.Omega.{arith}
@@ -14,10 +15,11 @@ use Rattle.usage.proofs.Logic.{clash}
 use Rattle.usage.proofs.TableLaws.{decides-edge-table, decides-node-table}
 use Rattle.sheet_lines.specs.Sheet.{Sheet, Result, accepted, refused, sheet}
 use Rattle.sheet_lines.specs.Answer.{count, refusal, answered}
-use Rattle.sheet_lines.specs.Sheets.{policySheet, traceSheet, outlineSheet}
+use Rattle.sheet_lines.specs.Sheets.{policySheet, isLocal, traceSheet, outlineSheet}
 use Rattle.sheet_lines.proofs.AcceptLaws.{Accepted, sheet-accepted, flat-length}
-use Rattle.sheet_reader.specs.Readers.{ruledResult, ruledRows, policiesInto, traceInto, outlineInto, stored}
-use Rattle.sheet_reader.proofs.ReaderLaws.{refusal-result}
+use Rattle.sheet_reader.specs.Readers.{policiesRead, ruledResult, ruledRows, policiesInto, traceInto, outlineInto, stored}
+use Rattle.sheet_reader.specs.Readers.{PolicyAnswer, has-edges, has-refusal, policiesAnswered}
+use Rattle.sheet_reader.proofs.ReaderLaws.{refusal-result, edges-answered, refusal-answered}
 use Rattle.sheet_reader.proofs.OutlineLaws.{first, nodes-size}
 use Rattle.sheet_reader.proofs.TableLaws.{policies-valid, outline-valid}
 
@@ -50,7 +52,7 @@ abbrev pub zeros : ℕ → List ℕ
 zeros n = replicate n 0
 
 module _ (text : List ℕ) where
-  policies-into : policiesInto (length (zeros edgePlaces)) text ≡ sheet policySheet text
+  policies-into : policiesInto (length (zeros edgePlaces)) text ≡ policiesRead text
   unfolding policiesInto
   policies-into = ap (λ (p : ℕ). policiesInto p text) (length-replicate {A = ℕ} edgePlaces 0)
 
@@ -58,26 +60,39 @@ module _ (text : List ℕ) where
   unfolding traceInto
   trace-into = ap (λ (p : ℕ). traceInto p text) (length-replicate {A = ℕ} stepPlaces 0)
 
-  pub policies-held : (table : List ℕ) (n : ℕ) → count n ≡ answered (policiesInto (length (zeros edgePlaces)) text)
-      → table ≡ stored (policiesInto (length (zeros edgePlaces)) text) (zeros edgePlaces) → Holds policySheet text table n
-  policies-held table n e t =
-      holds policySheet text (zeros edgePlaces) table (policiesInto (length (zeros edgePlaces)) text) policies-into n e t
+  -- what is answered of the sheet of policies
+  abbrev Policies-answered : PolicyAnswer
+  Policies-answered = policiesAnswered (isLocal text) (policiesInto (length (zeros edgePlaces)) text)
+
+  pub policies-held : (table : List ℕ) (n : ℕ) (local : Bool) → has-edges n local ≡ Policies-answered
+      → table ≡ stored (policiesInto (length (zeros edgePlaces)) text) (zeros edgePlaces)
+      → Holds (policySheet (isLocal text)) text table n
+  policies-held table n local e t =
+      let r = policiesInto (length (zeros edgePlaces)) text in
+      holds (policySheet (isLocal text)) text (zeros edgePlaces) table r policies-into n (edges-answered (isLocal text) r n local e .0) t
+
+  -- the choice that is answered is that of the names line
+  pub policies-choice : (n : ℕ) (local : Bool) → has-edges n local ≡ Policies-answered → local ≡ isLocal text
+  policies-choice n local e = edges-answered (isLocal text) (policiesInto (length (zeros edgePlaces)) text) n local e .1
 
   pub trace-held : (table : List ℕ) (n : ℕ) → count n ≡ answered (traceInto (length (zeros stepPlaces)) text)
       → table ≡ stored (traceInto (length (zeros stepPlaces)) text) (zeros stepPlaces) → Holds traceSheet text table n
   trace-held table n e t = holds traceSheet text (zeros stepPlaces) table (traceInto (length (zeros stepPlaces)) text) trace-into n e t
 
   module _ (line number : ℕ) where
-    pub policies-refused : refusal record { line = line; number = number } ≡ answered (policiesInto (length (zeros edgePlaces)) text)
-        → sheet policySheet text ≡ refused record { line = line; number = number }
-    policies-refused e = refusal-result (sheet policySheet text) line number (e ∙ ap answered policies-into)
+    pub policies-refused : has-refusal record { line = line; number = number } ≡ Policies-answered
+        → policiesRead text ≡ refused record { line = line; number = number }
+    policies-refused e =
+        let r = policiesInto (length (zeros edgePlaces)) text in
+        refusal-result (policiesRead text) line number
+        (refusal-answered (isLocal text) r record { line = line; number = number } e ∙ ap answered policies-into)
 
     pub trace-refused : refusal record { line = line; number = number } ≡ answered (traceInto (length (zeros stepPlaces)) text)
         → sheet traceSheet text ≡ refused record { line = line; number = number }
     trace-refused e = refusal-result (sheet traceSheet text) line number (e ∙ ap answered trace-into)
 
 -- what an accepted sheet of policies gives is never refused with 41
-pub accepted-edges : (text : List ℕ) (rows : List (List ℕ)) → sheet policySheet text ≡ accepted rows → EdgeTable (flatten rows)
+pub accepted-edges : (text : List ℕ) (rows : List (List ℕ)) → policiesRead text ≡ accepted rows → EdgeTable (flatten rows)
 unfolding policiesInto
 accepted-edges text rows e = decides-edge-table (flatten rows) .0 (policies-valid edgePlaces text rows e)
 

@@ -80,8 +80,8 @@ edge-below vs k e = let ok = decides-edge (edgeAt vs 0) .0 e in at-below 256 vs 
     go f w (suc (suc (suc (suc (suc zero))))) h = let x = f .to in omega arith
     go f w (suc (suc (suc (suc (suc (suc i)))))) h = absurd (omega arith)
 
-pub edges-below : {rows : List (List ℕ)} → Rows policySheet rows → Below 256 (flatten rows)
-edges-below r = rows-below policySheet 256 edge-below r
+pub edges-below : (local : Bool) {rows : List (List ℕ)} → Rows (policySheet local) rows → Below 256 (flatten rows)
+edges-below local r = rows-below (policySheet local) 256 edge-below r
 
 -- ── A node's line ──
 

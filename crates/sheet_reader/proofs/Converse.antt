@@ -1,7 +1,7 @@
 -- Every valid table of edges or nodes is what some accepted sheet gives.
 use Prim.Native.Nat.{ℕ, zero, suc, _+_, _*_, _/_, _<_, _≤_}
 use mathlib.Core.Path.{_≡_, refl, sym, ap, _∙_}
-use mathlib.Core.Bool.{true, _&&_}
+use mathlib.Core.Bool.{Bool, true, _&&_}
 use mathlib.Core.Option.{none}
 use mathlib.Core.List.{List, _∷_, _++_, map, tail, flatten}
 use native.Mathlib.Omega.{arith}
@@ -23,7 +23,8 @@ use Rattle.sheet_fields.specs.Fields.{nodeLine, nodeLineFields}
 use Rattle.sheet_fields.proofs.RangeLaws.{cell, cell-first, edge-cells}
 use Rattle.sheet_bytes.specs.Code.{valueLimit}
 use Rattle.sheet_lines.specs.Sheet.{Sheet, Result, accepted, sheet}
-use Rattle.sheet_lines.specs.Sheets.{policySheet, outlineSheet}
+use Rattle.sheet_lines.specs.Sheets.{policySheet, isLocal, outlineSheet}
+use Rattle.sheet_lines.proofs.NamesLaws.{accepted-choice, names-short}
 use Rattle.sheet_lines.proofs.AcceptLaws.{Rows, no-row, row, flat-length}
 use Rattle.sheet_reader.specs.Readers.{ruledResult, ruledRows, policiesInto, outlineInto}
 use Rattle.sheet_reader.proofs.Below.{Below, more-below, edge-below, node-below}
@@ -97,8 +98,8 @@ map-from {A} {B} g f k (suc n) = ap (λ (l : List B). g (f k) ∷ l) (map-from g
 
 -- ── Edges ──
 
-edge-row : (t : List ℕ) → EdgeTable t → (i : ℕ) → i < length t / edgeFields → Line-ok policySheet (part edgeFields t i)
-edge-row t v i l =
+edge-row : (local : Bool) (t : List ℕ) → EdgeTable t → (i : ℕ) → i < length t / edgeFields → Line-ok (policySheet local) (part edgeFields t i)
+edge-row local t v i l =
     let w = v .whole in
     let k : length (part edgeFields t i)
     ≡ edgeFields = omega (arith, length-take edgeFields (drop (edgeFields * i) t), length-drop (edgeFields * i) t) in
@@ -106,21 +107,29 @@ edge-row t v i l =
     (v .edges .each (edgeAt t i) (edges-member t (edgeAt t i) .1 (i, l, refl))) in
     record { fields = k; ranged = m; small = edge-below (part edgeFields t i) k m }
 
-pub edges-given : (t : List ℕ) → edgeTable t ≡ true → Given (policiesInto edgePlaces) t
+-- whichever past the policies see
+pub edges-given : (local : Bool) (t : List ℕ) → edgeTable t ≡ true
+    → (g : Given (policiesInto edgePlaces) t) × (isLocal (g .text) ≡ local)
 unfolding policiesInto
-edges-given t e =
+edges-given local t e =
     let v = decides-edge-table t .0 e in
     let n = length t / edgeFields in
     let w = v .whole in
     let few = v .edges .few in
     let many = edges-length t in
     let rows = from (part edgeFields t) 0 n in
-    record {
-      text = written policySheet rows;
-      rows = rows;
-      accepts = lines-given policySheet (part edgeFields t) n (omega arith) (omega arith) (omega arith) (edge-row t v);
-      table = parts-flat edgeFields t n 0 (omega arith);
-    }
+    let s = policySheet local in
+    let long = names-short local in
+    let read = lines-given s (part edgeFields t) n (omega arith) (omega arith) (omega arith) (edge-row local t v) in
+    let choice = accepted-choice local (written s rows) rows read in (
+      record {
+        text = written s rows;
+        rows = rows;
+        accepts = ap (λ (l : Bool). sheet (policySheet l) (written s rows)) choice ∙ read;
+        table = parts-flat edgeFields t n 0 (omega arith);
+      },
+      choice,
+    )
 
 -- ── Nodes ──
 

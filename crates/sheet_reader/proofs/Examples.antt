@@ -1,6 +1,7 @@
 -- Small sheets, computed.
 use Prim.Native.Nat.{_-_}
 use mathlib.Core.Path.{_≡_, refl}
+use mathlib.Core.Bool.{true, false}
 use mathlib.Core.List.{[], _∷_, flatten}
 use Rattle.usage.specs.Limits.{edgePlaces, nodePlaces, stepPlaces}
 use Rattle.usage.specs.Tests.{edgeOk, nodeOk, every, between, treeOk, isChild, above, backOk, nameOk, lowestFailing, ruledBy}
@@ -12,14 +13,47 @@ use Rattle.sheet_bytes.specs.Class.{classOf}
 use Rattle.sheet_bytes.specs.Line.{linesOf, read, valuesOf}
 use Rattle.sheet_bytes.specs.Fault.{hasOther, hasOverlong, readLine}
 use Rattle.sheet_lines.specs.Sheet.{accepted, refuseAt, valueLines, startsWith, sheet}
+use Rattle.sheet_lines.specs.Sheets.{isLocal}
 use Rattle.sheet_fields.specs.Fields.{stepOk}
 use Rattle.sheet_reader.specs.Readers.{ruledResult, policiesInto, traceInto, outlineInto}
 
 -- document 01's policies P
 policies-p : policiesInto edgePlaces (bytes "policy from action on who to\n0 0 1 1 0 1\n0 1 3 1 0 0\n0 0 2 1 0 6\n")
     ≡ accepted ((0 ∷ 0 ∷ 1 ∷ 1 ∷ 0 ∷ 1 ∷ []) ∷ (0 ∷ 1 ∷ 3 ∷ 1 ∷ 0 ∷ 0 ∷ []) ∷ (0 ∷ 0 ∷ 2 ∷ 1 ∷ 0 ∷ 6 ∷ []) ∷ [])
-unfolding policiesInto sheet startsWith valueLines linesOf readLine hasOther hasOverlong valuesOf read classOf edgeOk
+unfolding policiesInto isLocal sheet startsWith valueLines linesOf readLine hasOther hasOverlong valuesOf read classOf edgeOk
 policies-p = refl
+
+-- the same as local policies (02, L7)
+local-p : policiesInto edgePlaces (bytes "local from action on who to\n0 0 1 1 0 1\n0 1 3 1 0 0\n0 0 2 1 0 6\n")
+    ≡ accepted ((0 ∷ 0 ∷ 1 ∷ 1 ∷ 0 ∷ 1 ∷ []) ∷ (0 ∷ 1 ∷ 3 ∷ 1 ∷ 0 ∷ 0 ∷ []) ∷ (0 ∷ 0 ∷ 2 ∷ 1 ∷ 0 ∷ 6 ∷ []) ∷ [])
+unfolding policiesInto isLocal sheet startsWith valueLines linesOf readLine hasOther hasOverlong valuesOf read classOf edgeOk
+local-p = refl
+
+local-chosen : isLocal (bytes "local from action on who to\n") ≡ true
+unfolding isLocal startsWith
+local-chosen = refl
+
+whole-chosen : isLocal (bytes "policy from action on who to\n") ≡ false
+unfolding isLocal startsWith
+whole-chosen = refl
+
+-- 1: a names line of both, one without its line feed, one with a space more
+mixed-names : policiesInto edgePlaces (bytes "local policy from action on who to\n") ≡ refuseAt 1 1
+unfolding policiesInto isLocal sheet startsWith
+mixed-names = refl
+
+unended-local : policiesInto edgePlaces (bytes "local from action on who to") ≡ refuseAt 1 1
+unfolding policiesInto isLocal sheet startsWith
+unended-local = refl
+
+spaced-local : policiesInto edgePlaces (bytes "local  from action on who to\n") ≡ refuseAt 1 1
+unfolding policiesInto isLocal sheet startsWith
+spaced-local = refl
+
+-- the line of a fault is the same
+local-fault : policiesInto edgePlaces (bytes "local from action on who to\n0 0 1 1 0 1\n0 0 1 3 0 1\n") ≡ refuseAt 3 3
+unfolding policiesInto isLocal sheet startsWith valueLines linesOf readLine hasOther hasOverlong valuesOf read classOf edgeOk
+local-fault = refl
 
 -- and its trace
 trace-b : traceInto stepPlaces (bytes "kind a b\n1 0 0\n0 0 16\n0 1 16\n0 2 16\n0 0 17\n0 2 17\n0 3 16\n")

@@ -7,12 +7,13 @@ use native.Mathlib.Omega.{arith}
 use lib.Dec.{ltb}
 use lib.ListN.{length, getD, drop, replicate}
 use borrow.Author.Tests.{lt-ltb, le-ltb, ltb-false}
+use Rattle.usage.specs.Answers.{Refusal}
 use Rattle.usage.specs.Tables.{from}
 use Rattle.usage.proofs.Logic.{clash}
 use Rattle.sheet_lines.specs.Sheet.{Sheet, Result, accepted, refused, refuseAt, sheet}
 use Rattle.sheet_lines.specs.Answer.{Answer, count, refusal, answered, mostValues, filled}
 use Rattle.sheet_lines.proofs.AcceptLaws.{Accepted, sheet-accepted, flat-length}
-use Rattle.sheet_reader.specs.Readers.{roomy, stored}
+use Rattle.sheet_reader.specs.Readers.{roomy, PolicyAnswer, has-edges, has-refusal, policiesAnswered, stored}
 use Rattle.sheet_reader.proofs.Below.{Below, below-at, below-append, below-drop, zeros-below}
 use Rattle.sheet_reader.proofs.StoreLaws.{from-front}
 
@@ -66,6 +67,28 @@ pub refusal-result : (r : Result) (line number : ℕ) → refusal record { line 
 unfolding answered
 refusal-result (accepted rows) line number e = clash (cc)
 refusal-result (refused r) line number e = ap refused (cc)
+
+-- what is answered of policies, with the choice aside
+module _ (local : Bool) where
+  pub edges-answered : (r : Result) (n : ℕ) (l : Bool) → has-edges n l ≡ policiesAnswered local r → (count n ≡ answered r) × (l ≡ local)
+  unfolding answered policiesAnswered
+  edges-answered (accepted rows) n l e = let k : n ≡ length rows = cc in (ap count k, cc)
+  edges-answered (refused r) n l e = clash (cc)
+
+  pub refusal-answered : (r : Result) (x : Refusal) → has-refusal x ≡ policiesAnswered local r → refusal x ≡ answered r
+  unfolding answered policiesAnswered
+  refusal-answered (accepted rows) x e = clash (cc)
+  refusal-answered (refused r) x e = let k : x ≡ r = cc in ap refusal k
+
+  pub answered-edges : (r : Result) (n : ℕ) → count n ≡ answered r → has-edges n local ≡ policiesAnswered local r
+  unfolding answered policiesAnswered
+  answered-edges (accepted rows) n e = let k : n ≡ length rows = cc in ap (λ m. has-edges m local) k
+  answered-edges (refused r) n e = clash (cc)
+
+  pub answered-refusal : (r : Result) (x : Refusal) → refusal x ≡ answered r → has-refusal x ≡ policiesAnswered local r
+  unfolding answered policiesAnswered
+  answered-refusal (accepted rows) x e = clash (cc)
+  answered-refusal (refused r) x e = let k : x ≡ r = cc in ap has-refusal k
 
 pub record Kept (s : Sheet) (places needed : ℕ) (text buffer : List ℕ) (n : ℕ) : Type 0 where
   pub rows : List (List ℕ)

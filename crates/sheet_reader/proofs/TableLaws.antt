@@ -17,8 +17,8 @@ use Rattle.usage.specs.Tests.{ruledSheet, isNone, outlineOk}
 use Rattle.usage.specs.Tables.{from, edgeAt, edgeTable, nodeAt, nodesOf, nodeTable}
 use Rattle.usage.proofs.Logic.{clash, and-both, and-right}
 use Rattle.sheet_lines.specs.Sheet.{Result, accepted, refused, sheet}
-use Rattle.sheet_lines.specs.Sheets.{policySheet, outlineSheet}
-use Rattle.sheet_reader.specs.Readers.{ruledResult, ruledRows, policiesInto, outlineInto}
+use Rattle.sheet_lines.specs.Sheets.{policySheet, isLocal, outlineSheet}
+use Rattle.sheet_reader.specs.Readers.{policiesRead, ruledResult, ruledRows, policiesInto, outlineInto}
 use Rattle.sheet_lines.proofs.AcceptLaws.{Rows, no-row, row, Accepted, sheet-accepted, flat-length}
 use Rattle.usage.proofs.RuledLaws.{lowest-none, none-lowest}
 use Rattle.usage.proofs.TableLaws.{length-from}
@@ -61,25 +61,29 @@ module _ (vs rest : List ℕ) (k : length vs ≡ edgeFields) where
     after (edgeFields * suc i + 5) (edgeFields * i + 5) (omega arith),
   ) refl
 
-edge-ok : {rows : List (List ℕ)} → Rows policySheet rows → (i : ℕ) → i < length rows → edgeOk (edgeAt (flatten rows) i) ≡ true
-unfolding flatten
-edge-ok no-row i h = absurd (omega arith)
-edge-ok (row {vs} {rows} k m r) zero h = ap edgeOk (first-edge vs (flatten rows) k) ∙ m
-edge-ok (row {vs} {rows} k m r) (suc i) h = ap edgeOk (later-edge vs (flatten rows) k i) ∙ edge-ok r i (omega arith)
+module _ (local : Bool) where
+  edge-ok : {rows : List (List ℕ)} → Rows (policySheet local) rows → (i : ℕ) → i < length rows
+      → edgeOk (edgeAt (flatten rows) i) ≡ true
+  unfolding flatten
+  edge-ok no-row i h = absurd (omega arith)
+  edge-ok (row {vs} {rows} k m r) zero h = ap edgeOk (first-edge vs (flatten rows) k) ∙ m
+  edge-ok (row {vs} {rows} k m r) (suc i) h = ap edgeOk (later-edge vs (flatten rows) k i) ∙ edge-ok r i (omega arith)
 
-rows-edges : {rows : List (List ℕ)} → Accepted policySheet rows → edgeTable (flatten rows) ≡ true
-rows-edges {rows} a =
-    let t = flatten rows in
-    let size = flat-length policySheet (a .each) in
-    let few = a .few in
-    each-edge t (omega arith) (omega arith) ∙ all-pass edgeOk (edgeAt t) (length t / edgeFields) (λ i l. edge-ok (a .each) i (omega arith))
+  rows-edges : {rows : List (List ℕ)} → Accepted (policySheet local) rows → edgeTable (flatten rows) ≡ true
+  rows-edges {rows} a =
+      let t = flatten rows in
+      let size = flat-length (policySheet local) (a .each) in
+      let few = a .few in
+      each-edge t (omega arith) (omega arith)
+      ∙ all-pass edgeOk (edgeAt t) (length t / edgeFields) (λ i l. edge-ok (a .each) i (omega arith))
 
 -- every accepted sheet of policies stores a valid table of edges
 pub policies-valid : (places : ℕ) (text : List ℕ) (rows : List (List ℕ)) → policiesInto places text ≡ accepted rows
     → edgeTable (flatten rows) ≡ true
 unfolding policiesInto
 policies-valid places text rows e =
-    rows-edges (sheet-accepted policySheet text rows (within-room places edgePlaces (sheet policySheet text) rows e .1))
+    rows-edges (isLocal text)
+    (sheet-accepted (policySheet (isLocal text)) text rows (within-room places edgePlaces (policiesRead text) rows e .1))
 
 -- ── Nodes ──
 

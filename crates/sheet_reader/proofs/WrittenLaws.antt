@@ -1,7 +1,7 @@
 -- A sheet that is written from values in range is read back as these values.
 use Prim.Native.Nat.{ℕ, zero, suc, _+_, _-_, _*_, _/_, _%_, _^_, _<_, _≤_}
 use mathlib.Core.Path.{_≡_, refl, sym, ap, _∙_}
-use mathlib.Core.Bool.{true}
+use mathlib.Core.Bool.{true, false}
 use mathlib.Core.List.{List, [], _∷_, _++_, map, flatten, append-nil, append-assoc}
 use native.Mathlib.Omega.{arith}
 use native.Mathlib.Nat.{pow-suc}
@@ -18,6 +18,8 @@ use Rattle.sheet_bytes.specs.Line.{Line, prefixed, linesOf}
 use Rattle.sheet_bytes.specs.Grammar.{Digits, no-digit, one-more, Value, one-space, Values, last-value, next-value}
 use Rattle.sheet_bytes.proofs.FaultLaws.{decides-values}
 use Rattle.sheet_lines.specs.Sheet.{Sheet, accepted, followed, entry, valueLines, startsWith, sheet}
+use Rattle.sheet_lines.specs.Sheets.{policyNames, policySheet}
+use Rattle.sheet_lines.proofs.NamesLaws.{lines-alike}
 use Rattle.sheet_reader.proofs.Written.{digits, written-values, written-line, written}
 use Rattle.sheet_lines.proofs.AcceptLaws.{Rows, no-row, row}
 use Rattle.sheet_reader.proofs.Below.{Below, one-below}
@@ -148,6 +150,13 @@ pub names-read : (s : Sheet) (rest : List ℕ) → length (s .names ++ rest) ≤
 unfolding sheet
 names-read s rest short =
     rw (le-ltb longestSheet (length (s .names ++ rest)) short, starts-self (s .names) rest, drop-append-seam (s .names) rest)
+
+-- the two sheets of policies differ in their names lines alone: what follows them is read the same, as far as both are short enough
+pub policies-alike : (rest : List ℕ) → length (policyNames true ++ rest) ≤ longestSheet → length (policyNames false ++ rest) ≤ longestSheet
+    → sheet (policySheet true) (policyNames true ++ rest) ≡ sheet (policySheet false) (policyNames false ++ rest)
+policies-alike rest short long =
+    names-read (policySheet true) rest short ∙ lines-alike 2 (policySheet true .most) (linesOf rest)
+    ∙ sym (names-read (policySheet false) rest long)
 
 -- the sheet that is written from rows in range is accepted with these rows
 pub written-read : (s : Sheet) (rows : List (List ℕ)) → 0 < s .fields → Rows s rows → Rows-below valueLimit rows → length rows ≤ s .most

@@ -12,7 +12,7 @@ use Rattle.sheet_reader.specs.declared.Pick.the-variants.{Edges, Numbers
 
 -- how many places the largest sheet fills
 abbrev pub needed : Kind → ℕ
-needed Policies = edgePlaces
+needed (Policies local) = edgePlaces
 needed Trace = stepPlaces
 needed Outline = nodePlaces
 

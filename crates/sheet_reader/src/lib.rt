@@ -8,9 +8,9 @@ ghost use Rattle.usage.specs.Tests.{ruledSheet};
 ghost use Rattle.usage.specs.Tables.{nodesOf, from};
 ghost use Rattle.sheet_rules.specs.Faults.{fault};
 ghost use Rattle.sheet_lines.specs.Sheet.{sheet};
-ghost use Rattle.sheet_lines.specs.Sheets.{sheetOf};
+ghost use Rattle.sheet_lines.specs.Sheets.{sheetOf, isLocal};
 ghost use Rattle.sheet_lines.specs.Answer.{readingAnswer, answered, mostValues, filled};
-ghost use Rattle.sheet_reader.specs.Readers.{roomy, policiesInto, traceInto, outlineInto, stored};
+ghost use Rattle.sheet_reader.specs.Readers.{roomy, policiesInto, traceInto, outlineInto, policyAnswer, policiesAnswered, stored};
 ghost use Rattle.sheet_reader.specs.Code.{needed, widthOf, bufferPlace, picked};
 use sheet_fields::Kind;
 use sheet_fields::NODE_LINE_FIELDS;
@@ -26,18 +26,27 @@ use usage::NODE_TABLE;
 use usage::STEP_FIELDS;
 use usage::STEP_TABLE;
 
+// The answer of the reader of policies: how many edges it stored and whether their sheet is local, or the refusal.
+pub enum PolicyReading {
+    Stored { edges: usize, local: bool },
+    Refused { line: usize, number: u8 },
+}
+
 // A sheet of policies into a table of edges, six numbers to an edge; the table must have room for 256.
-pub fn read_policies(text: &[u8], table: &mut [u8]) -> Reading
-    ensures { λ r. ⌜ readingAnswer r ≡ answered (policiesInto (length (now (table .entry))) (now (text .entry))) ⌝ }
+pub fn read_policies(text: &[u8], table: &mut [u8]) -> PolicyReading
+    ensures { λ r. ⌜ policyAnswer r ≡ policiesAnswered (isLocal (now (text .entry))) (policiesInto (length (now (table .entry))) (now (text .entry))) ⌝ }
     ensures { λ r. ⌜ now (table .exit) ≡ stored (policiesInto (length (now (table .entry))) (now (text .entry))) (now (table .entry)) ⌝ }
 {
+    let local = sheet_lines::is_local(text);
     let mut buffer = [0u32; MOST_VALUES];
-    let r = read(text, Kind::Policies, table.len(), &mut buffer);
-    let Reading::Stored(n) = r else {
-        return r;
-    };
-    store_bytes(&buffer, Pick::Edges, n, table);
-    r
+    let r = read(text, Kind::Policies { local }, table.len(), &mut buffer);
+    match r {
+        Reading::Refused { line, number } => PolicyReading::Refused { line, number },
+        Reading::Stored(edges) => {
+            store_bytes(&buffer, Pick::Edges, edges, table);
+            PolicyReading::Stored { edges, local }
+        }
+    }
 }
 
 // A trace into a table of steps, three numbers to a step; the table must have room for 2,000.
@@ -94,7 +103,7 @@ fn largest(kind: Kind) -> usize
     ensures { λ r. ⌜ r ≡ needed kind ⌝ }
 {
     match kind {
-        Kind::Policies => EDGE_TABLE,
+        Kind::Policies { local: _ } => EDGE_TABLE,
         Kind::Trace => STEP_TABLE,
         Kind::Outline => NODE_TABLE,
     }

@@ -1,11 +1,14 @@
 -- What the border calls are made on, and a reader's answer as one number.
 use Prim.Native.Nat.{ℕ}
+use mathlib.Core.Bool.{cond}
 use mathlib.Core.List.{List, [], _∷_}
 use lib.ListN.{replicate, set}
 use Rattle.usage.specs.Limits.{policies, mostCreated, mostUnclosed, edgeFields}
 use Rattle.usage.specs.Answers.{allowed, refused}
 use Rattle.sheet_lines.specs.declared.Reading.{Reading}
 use Rattle.sheet_lines.specs.declared.Reading.the-variants.{Stored, Refused}
+use Rattle.sheet_reader.specs.declared.PolicyReading.{PolicyReading}
+use Rattle.sheet_reader.specs.declared.PolicyReading.the-variants.{Stored as StoredEdges, Refused as RefusedPolicies}
 use Rattle.monitor_sets.specs.Instances.{setPlaces}
 use Rattle.api_c.specs.Codes.{codeOf}
 use Rattle.api_c.specs.Parts.{Parts, partsOf}
@@ -15,6 +18,11 @@ use Rattle.test_stored.specs.declared.lent.Lent.{Lent}
 abbrev pub readingCode : Reading → ℕ
 readingCode (Stored n) = codeOf allowed
 readingCode (Refused line number) = codeOf (refused number)
+
+-- the same of policies, with 1 where the accepted sheet is local
+abbrev pub policiesCode : PolicyReading → ℕ
+policiesCode (StoredEdges n local) = cond local 1 (codeOf allowed)
+policiesCode (RefusedPolicies line number) = codeOf (refused number)
 
 -- one edge of zeros, but for its end
 abbrev pub edgeTo : ℕ → List ℕ

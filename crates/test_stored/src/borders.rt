@@ -1,12 +1,13 @@
 // Calls of the functions themselves: refusals that no sheet can bring about, each at its border, and states that were never reached. Each
 // line has the number of the call, the answer and its detail, and what the files of the calls say.
 ghost use mathlib.Core.Path.{_≡_};
-ghost use Rattle.test_stored.specs.Code.{readingCode};
+ghost use Rattle.test_stored.specs.Code.{readingCode, policiesCode};
 use crate::judge_calls;
 use crate::order_calls;
 use crate::print;
 use crate::trace_calls;
 use sheet_lines::Reading;
+use sheet_reader::PolicyReading;
 use usage::EDGE_FIELDS;
 use usage::EDGE_TABLE;
 use usage::NODE_FIELDS;
@@ -29,6 +30,16 @@ fn code_of(r: Reading) -> u32
     }
 }
 
+// The same of the reader of policies; the detail of an accepted sheet is 1 where it is local.
+fn policies_code(r: PolicyReading) -> u32
+    ensures { λ c. ⌜ c ≡ policiesCode r ⌝ }
+{
+    match r {
+        PolicyReading::Stored { edges: _, local } => if local { 1 } else { 0 },
+        PolicyReading::Refused { line: _, number } => 512 + number as u32,
+    }
+}
+
 // The readers (40) and the check (41).
 fn table_calls() -> u64
     ensures { λ r. ⌜ r ≡ 34 ⌝ }
@@ -36,12 +47,12 @@ fn table_calls() -> u64
     let mut edges = [0u8; EDGE_TABLE];
     print::line(
         27,
-        code_of(sheet_reader::read_policies(b"policy from action on who to\n", &mut edges)),
+        policies_code(sheet_reader::read_policies(b"policy from action on who to\n", &mut edges)),
     );
     let mut few_edges = [0u8; FEW_EDGES];
     print::line(
         28,
-        code_of(sheet_reader::read_policies(b"", &mut few_edges)),
+        policies_code(sheet_reader::read_policies(b"", &mut few_edges)),
     );
     let mut few_steps = [0u32; FEW_STEPS];
     print::line(29, code_of(sheet_reader::read_trace(b"", &mut few_steps)));

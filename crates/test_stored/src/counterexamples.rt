@@ -11,6 +11,7 @@ use crate::stored;
 use checker_trace::MOST_NUMBERS;
 use monitor_sets::SETS;
 use sheet_lines::Reading;
+use sheet_reader::PolicyReading;
 use usage::EDGE_FIELDS;
 use usage::EDGE_TABLE;
 use usage::MOST_CREATED;
@@ -179,8 +180,12 @@ fn sheets(n: u64, policies: &[u8], text: &[u8]) -> u64
     let mut edges = [0u8; EDGE_TABLE];
     let reading = sheet_reader::read_policies(policies, &mut edges);
     match reading {
-        Reading::Stored(k) => outline(n, &edges[0..k * EDGE_FIELDS], text),
-        Reading::Refused { line: _, number } => refused(n, POLICIES_REFUSED, number),
+        PolicyReading::Stored { edges: k, local: _ } => outline(
+            n,
+            &edges[0..k * EDGE_FIELDS],
+            text,
+        ),
+        PolicyReading::Refused { line: _, number } => refused(n, POLICIES_REFUSED, number),
     }
 }
 

@@ -28,7 +28,7 @@ mul-of-text c =
     let p = c .before .before .before .before .read-policies in
     let g = c .before .reading .given in
     let n = g .0 .0 in
-    let h = policies-held (now (a .policies)) (p .last .1 .0) n (rw (g .1) at (p .ensures .0)) (p .ensures .1) in
+    let h = policies-held (now (a .policies)) (p .last .1 .0) n (g .0 .1 .0) (rw (g .1) at (p .ensures .0)) (p .ensures .1) in
     let f : n ≤ mostEdges = h .few in
     search needs
 
@@ -44,7 +44,7 @@ part-of-text-end c =
     let p = c .before .before .before .before .before .read-policies in
     let g = c .before .before .reading .given in
     let n = g .0 .0 in
-    let h = policies-held (now (a .policies)) (p .last .1 .0) n (rw (g .1) at (p .ensures .0)) (p .ensures .1) in
+    let h = policies-held (now (a .policies)) (p .last .1 .0) n (g .0 .1 .0) (rw (g .1) at (p .ensures .0)) (p .ensures .1) in
     let f : n ≤ mostEdges = h .few in
     search needs
 
@@ -74,7 +74,7 @@ returns-2 c =
     let p = c .before .before .before .before .before .before .before .before .before .before .read-policies in
     let g = c .before .before .before .before .before .before .before .reading .given in
     let n = g .0 .0 in
-    let h = policies-held (now (a .policies)) (p .last .1 .0) n (rw (g .1) at (p .ensures .0)) (p .ensures .1) in (
+    let h = policies-held (now (a .policies)) (p .last .1 .0) n (g .0 .1 .0) (rw (g .1) at (p .ensures .0)) (p .ensures .1) in (
       (λ l. absurd (omega arith)),
       (λ l. edges-held (now (a .policies)) (now (a .outline)) (now (a .out)) (p .last .1 .0) n h (c .before .before .of-text .ensures)),
     )

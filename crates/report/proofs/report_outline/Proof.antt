@@ -43,7 +43,7 @@ mul-row c =
     let p = c .before .before .before .before .read-policies in
     let g = c .before .reading .given in
     let n = g .0 .0 in
-    let h = policies-held (now (a .policies)) (p .last .1 .0) n (rw (g .1) at (p .ensures .0)) (p .ensures .1) in
+    let h = policies-held (now (a .policies)) (p .last .1 .0) n (g .0 .1 .0) (rw (g .1) at (p .ensures .0)) (p .ensures .1) in
     let f : n ≤ mostEdges = h .few in
     search needs
 
@@ -60,7 +60,7 @@ part-row-end c =
     let p = c .before .before .before .before .before .read-policies in
     let g = c .before .before .reading .given in
     let n = g .0 .0 in
-    let h = policies-held (now (a .policies)) (p .last .1 .0) n (rw (g .1) at (p .ensures .0)) (p .ensures .1) in
+    let h = policies-held (now (a .policies)) (p .last .1 .0) n (g .0 .1 .0) (rw (g .1) at (p .ensures .0)) (p .ensures .1) in
     let f : n ≤ mostEdges = h .few in
     search needs
 
@@ -97,7 +97,7 @@ returns-2 c =
     let g = c .before .before .before .before .before .before .before .reading .given in
     let t = c .before .before .row in
     let n = g .0 .0 in
-    let h = policies-held (now (a .policies)) (p .last .1 .0) n (rw (g .1) at (p .ensures .0)) (p .ensures .1) in
+    let h = policies-held (now (a .policies)) (p .last .1 .0) n (g .0 .1 .0) (rw (g .1) at (p .ensures .0)) (p .ensures .1) in
     let right = right-held (now (a .policies)) (now (a .outline)) (p .last .1 .0) n h in
     let w₀ = t .ensures .1 .1 .0 .0 in
     outline-put (now (a .policies)) (now (a .outline)) (now (a .out)) (t .result) _ w₀ (right w₀ .1 (t .ensures .1 .1 .0 .1)) (λ v l.

@@ -42,7 +42,7 @@ mul-rows c =
     let p = c .before .before .before .before .read-policies in
     let g = c .before .reading .given in
     let n = g .0 .0 in
-    let h = policies-held (now (a .policies)) (p .last .1 .0) n (rw (g .1) at (p .ensures .0)) (p .ensures .1) in
+    let h = policies-held (now (a .policies)) (p .last .1 .0) n (g .0 .1 .0) (rw (g .1) at (p .ensures .0)) (p .ensures .1) in
     let f : n ≤ mostEdges = h .few in
     search needs
 
@@ -59,7 +59,7 @@ part-rows-end c =
     let p = c .before .before .before .before .before .read-policies in
     let g = c .before .before .reading .given in
     let n = g .0 .0 in
-    let h = policies-held (now (a .policies)) (p .last .1 .0) n (rw (g .1) at (p .ensures .0)) (p .ensures .1) in
+    let h = policies-held (now (a .policies)) (p .last .1 .0) n (g .0 .1 .0) (rw (g .1) at (p .ensures .0)) (p .ensures .1) in
     let f : n ≤ mostEdges = h .few in
     search needs
 
@@ -96,7 +96,7 @@ returns-2 c =
     let g = c .before .before .before .before .before .before .before .reading .given in
     let t = c .before .before .rows in
     let n = g .0 .0 in
-    let h = policies-held (now (a .policies)) (p .last .1 .0) n (rw (g .1) at (p .ensures .0)) (p .ensures .1) in
+    let h = policies-held (now (a .policies)) (p .last .1 .0) n (g .0 .1 .0) (rw (g .1) at (p .ensures .0)) (p .ensures .1) in
     let l = rows-fit (take (n * 6 - 0) (p .last .1 .0)) (now (a .trace)) in
     printed-held (now (a .out)) (omega arith) (w .result) (w .last .0) (w .ensures .0) (w .ensures .1) traceRoom (now (a .policies))
     (rest (now (a .trace)))

@@ -23,7 +23,7 @@ mul-outline c =
     let r = c .before .before .before .before .read-policies in
     let g = c .before .reading .given in
     let n = g .0 .0 in
-    let h = policies-held (now (a .policies)) (r .last .1 .0) n (rw (g .1) at (r .ensures .0)) (r .ensures .1) in
+    let h = policies-held (now (a .policies)) (r .last .1 .0) n (g .0 .1 .0) (rw (g .1) at (r .ensures .0)) (r .ensures .1) in
     let f : n ≤ mostEdges = h .few in
     search needs
 
@@ -39,7 +39,7 @@ part-outline-end c =
     let r = c .before .before .before .before .before .read-policies in
     let g = c .before .before .reading .given in
     let n = g .0 .0 in
-    let h = policies-held (now (a .policies)) (r .last .1 .0) n (rw (g .1) at (r .ensures .0)) (r .ensures .1) in
+    let h = policies-held (now (a .policies)) (r .last .1 .0) n (g .0 .1 .0) (rw (g .1) at (r .ensures .0)) (r .ensures .1) in
     let f : n ≤ mostEdges = h .few in
     search needs
 
