@@ -1,16 +1,10 @@
 -- Document 01's cases A to L: each is right.
-use mathlib.Core.Path.{sym, subst}
-use mathlib.Core.List.{List, [], _∷_, List·Memᴰ, List·Memᴰ·not-nil, List·Memᴰ·cases-cons}
-use Rattle.usage.proofs.Logic.{by-cases}
+use mathlib.Core.List.{List, [], _∷_, List·Memᴰ}
 use Rattle.test_cases.specs.Cases.{LetterCase, checked, only-empty, Right, nodesL, caseI, caseJ, caseK, caseL, cases}
-use Rattle.test_cases.proofs.JudgeRight.{Each, right-AH, valid-A}
+use Rattle.test_cases.proofs.JudgeRight.{Each, among, right-AH, valid-A}
 use Rattle.test_cases.proofs.Others.{right-others-F}
 use Rattle.test_cases.proofs.ChecksIL.{outline-L, right-I, right-J, right-K, right-L}
 use Rattle.test_cases.proofs.OnlyEmpty.{only-empty-L}
-
-among : (cs : List LetterCase) → Each Right cs → (c : LetterCase) → List·Memᴰ c cs → Right c
-among [] h c m = absurd (List·Memᴰ·not-nil m)
-among (d ∷ cs) h c m = by-cases (List·Memᴰ·cases-cons m) (λ e. subst Right (sym e) (h .0)) (λ i. among cs (h .1) c i)
 
 checks : Each Right (checked caseI ∷ checked caseJ ∷ checked caseK ∷ checked caseL ∷ only-empty nodesL ∷ [])
 checks = (right-I, (right-J, (right-K, (right-L, ((outline-L, only-empty-L), tt)))))
@@ -22,4 +16,4 @@ each-right =
 
 -- "A to L are shown from the definitions, gathered as a single list with one claim"
 pub all-right : (c : LetterCase) → List·Memᴰ c cases → Right c
-all-right = among cases each-right
+all-right = among Right cases each-right

@@ -1,9 +1,9 @@
 -- The judge's cases are right, from the definitions of policies and pasts. They are found by computing the judge's definition, which
 -- answers as the past says.
 use Prim.Native.Nat.{ℕ}
-use mathlib.Core.Path.{_≡_, refl, subst}
+use mathlib.Core.Path.{_≡_, refl, sym, subst}
 use mathlib.Core.Bool.{Bool, true, false}
-use mathlib.Core.List.{List, [], _∷_, map}
+use mathlib.Core.List.{List, [], _∷_, map, List·Memᴰ, List·Memᴰ·not-nil, List·Memᴰ·cases-cons}
 use lib.Count.{trailingZeros}
 use Rattle.usage.specs.declared.RawStep.{RawStep}
 use Rattle.usage.specs.Answers.{Verdict}
@@ -11,7 +11,7 @@ use Rattle.usage.specs.Past.{Valid, empty, occurrences}
 use Rattle.usage.specs.Judge.{stepOf, JudgedAll}
 use Rattle.usage.specs.Tables.{from, edgesOf, EdgeTable, edgeTable}
 use Rattle.usage.specs.Tests.{every, someBelow, edgeOk, edgesOk}
-use Rattle.usage.proofs.Logic.{and-left, and-right}
+use Rattle.usage.proofs.Logic.{by-cases, and-left, and-right}
 use Rattle.usage.proofs.TableLaws.{decides-edge-table}
 use Rattle.automaton.specs.Mask.{has, single, union}
 use Rattle.automaton.specs.Move.{targets, image, move, moveMask}
@@ -40,7 +40,11 @@ abbrev pub Each : {A : Type 0} → (A → Type 0) → List A → Type 0
 Each P [] = Unit {0}
 Each P (x ∷ xs) = P x × Each P xs
 
-right-one : (c : JudgeCase) → possible (c .edges) ≡ true → run (c .edges) (c .steps) ≡ c .answers → JudgedRight c
+pub among : {A : Type 0} (F : A → Type 0) (cs : List A) → Each F cs → (c : A) → List·Memᴰ c cs → F c
+among F [] h c m = absurd (List·Memᴰ·not-nil m)
+among F (d ∷ cs) h c m = by-cases (List·Memᴰ·cases-cons m) (λ e. subst F (sym e) (h .0)) (λ i. among F cs (h .1) c i)
+
+right-one : (c : JudgeCase) → possible (c .edges) ≡ true → run (c .edges) (c .steps) ≡ c .answers → JudgedRight false c
 unfolding run possible
 right-one c table gives = record {
   table = decides-edge-table (c .edges) .0 table;
@@ -48,7 +52,7 @@ right-one c table gives = record {
 }
 
 pub right-each : (cs : List JudgeCase) → every (λ c. possible (c .edges)) cs ≡ true
-    → map (λ c. run (c .edges) (c .steps)) cs ≡ map (λ c. c .answers) cs → Each JudgedRight cs
+    → map (λ c. run (c .edges) (c .steps)) cs ≡ map (λ c. c .answers) cs → Each (JudgedRight false) cs
 unfolding every
 right-each [] tables gives = tt
 right-each (c ∷ cs) tables gives =
@@ -73,7 +77,7 @@ computed-AH : map (λ c. run (c .edges) (c .steps)) cases-AH ≡ map (λ c. c .a
 unfolding run
 computed-AH = refl
 
-pub right-AH : Each JudgedRight cases-AH
+pub right-AH : Each (JudgedRight false) cases-AH
 right-AH = right-each cases-AH tables-AH computed-AH
 
 -- "A: empty trace, valid."
@@ -90,5 +94,5 @@ computed-limits : map (λ c. run (c .edges) (c .steps)) casesLimits ≡ map (λ 
 unfolding run
 computed-limits = refl
 
-pub right-limits : Each JudgedRight casesLimits
+pub right-limits : Each (JudgedRight false) casesLimits
 right-limits = right-each casesLimits tables-limits computed-limits

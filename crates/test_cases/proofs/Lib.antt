@@ -6,3 +6,5 @@ pub mod Searches
 pub mod ChecksIL
 pub mod OnlyEmpty
 pub mod AllRight
+-- The cases of the local meaning.
+pub mod LocalRight

@@ -57,7 +57,7 @@ pub data LetterCase : Type 0 where
   only-empty : List ℕ → LetterCase
 
 abbrev pub Right : LetterCase → Type 0
-Right (judged c) = Rattle.test_cases.specs.JudgeCases.JudgedRight c
+Right (judged c) = Rattle.test_cases.specs.JudgeCases.JudgedRight false c
 Right (by-others c) = (x : ℕ) → BrokenBy (c .about) (c .policy) x ↔ (x ≡ c .spared → ⊥)
 Right (valid t past) = EdgeTable t × Valid false (edgesOf t) past
 Right (checked c) = CheckRight c

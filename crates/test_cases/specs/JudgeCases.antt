@@ -1,7 +1,7 @@
 -- The judge's cases: document 01's A to H ("Cases by letter"), and its limits and the other refusals of a running routine, in
 -- document 01's own numbers.
 use Prim.Native.Nat.{ℕ}
-use mathlib.Core.Bool.{false}
+use mathlib.Core.Bool.{Bool, false}
 use mathlib.Core.List.{List, [], _∷_, _++_}
 use lib.ListN.{replicate}
 use Rattle.usage.specs.declared.RawStep.{RawStep}
@@ -15,10 +15,10 @@ pub record JudgeCase : Type 0 where
   pub steps : List RawStep
   pub answers : List Verdict
 
--- the table is one that an accepted sheet gives (not 41), and the answers are the right ones, from the empty past on
-pub record JudgedRight (c : JudgeCase) : Type 0 where
+-- the table is one that an accepted sheet gives (not 41), and the answers are the right ones, from the empty past on, by the choice of past
+pub record JudgedRight (local : Bool) (c : JudgeCase) : Type 0 where
   pub table : EdgeTable (c .edges)
-  pub judged : JudgedAll false (edgesOf (c .edges)) [] false (c .steps) (c .answers)
+  pub judged : JudgedAll local (edgesOf (c .edges)) [] false (c .steps) (c .answers)
 
 -- ── The cases ──
 
