@@ -22,7 +22,7 @@ pub moves-states : {es : List Edge} {p a : ℕ} {sees : ℕ → ℕ → Type 0} 
 moves-states ok (along e m f) l = ok .each e m .to
 moves-states ok (stays none) l = l
 
-reopened-states : (local : Bool) (p s : ℕ) (o : Bool) (q : ℕ) → q < states → reopened local p s o q < states
+pub reopened-states : (local : Bool) (p s : ℕ) (o : Bool) (q : ℕ) → q < states → reopened local p s o q < states
 reopened-states local p s o q l = go (local && (eqb s p && not o))
   where
     go : (b : Bool) → cond b 0 q < states

@@ -96,20 +96,20 @@ no-form n a b d₀ d₁ d₂ d₃ d₄ d₅ d₆ d₇ d₈ =
     (λ k e. refl) n refl
 
 -- a node of a kind other than 3 to 8 leads to nothing
-pub no-arrivals : (rows : Rows) (p : ℕ) (t : List ℕ) (k : ℕ) (o : Bool) (m v n a b : ℕ) → (n ≡ 3 → ⊥) → (n ≡ 4 → ⊥) → (n ≡ 5 → ⊥)
-    → (n ≡ 6 → ⊥) → (n ≡ 7 → ⊥) → (n ≡ 8 → ⊥) → arrivalsOf rows p t k o m v (formOf (record { kind = n; a = a; b = b })) ≡ []
+pub no-arrivals : (local : Bool) (rows : Rows) (p : ℕ) (t : Bool → List ℕ) (k : ℕ) (o : Bool) (m v n a b : ℕ) → (n ≡ 3 → ⊥) → (n ≡ 4 → ⊥) → (n ≡ 5 → ⊥)
+    → (n ≡ 6 → ⊥) → (n ≡ 7 → ⊥) → (n ≡ 8 → ⊥) → arrivalsOf local rows p t k o m v (formOf (record { kind = n; a = a; b = b })) ≡ []
 unfolding formOf arrivals
-no-arrivals rows p t k o m v n a b d₃ d₄ d₅ d₆ d₇ d₈ =
-    by-kind (λ j. n ≡ j → arrivalsOf rows p t k o m v (formOf (record { kind = j; a = a; b = b })) ≡ []) (λ e. refl) (λ e. refl) (λ e. refl)
+no-arrivals local rows p t k o m v n a b d₃ d₄ d₅ d₆ d₇ d₈ =
+    by-kind (λ j. n ≡ j → arrivalsOf local rows p t k o m v (formOf (record { kind = j; a = a; b = b })) ≡ []) (λ e. refl) (λ e. refl) (λ e. refl)
     (λ e. absurd (d₃ e)) (λ e. absurd (d₄ e)) (λ e. absurd (d₅ e)) (λ e. absurd (d₆ e)) (λ e. absurd (d₇ e)) (λ e. absurd (d₈ e))
     (λ k e. refl) n refl
 
 -- and one of a kind other than 1, 2, 7 and 8 takes no step
-pub no-step : (rows : Rows) (p x : ℕ) (u : List ℕ) (k m n a b : ℕ) → (n ≡ 1 → ⊥) → (n ≡ 2 → ⊥) → (n ≡ 7 → ⊥) → (n ≡ 8 → ⊥)
-    → leavesOf rows p x u k m (formOf (record { kind = n; a = a; b = b })) ≡ 0
+pub no-step : (local : Bool) (rows : Rows) (p x : ℕ) (u : List ℕ) (k m n a b : ℕ) → (n ≡ 1 → ⊥) → (n ≡ 2 → ⊥) → (n ≡ 7 → ⊥) → (n ≡ 8 → ⊥)
+    → leavesOf local rows p x u k m (formOf (record { kind = n; a = a; b = b })) ≡ 0
 unfolding formOf leaves
-no-step rows p x u k m n a b d₁ d₂ d₇ d₈ =
-    by-kind (λ j. n ≡ j → leavesOf rows p x u k m (formOf (record { kind = j; a = a; b = b })) ≡ 0) (λ e. refl) (λ e. absurd (d₁ e))
+no-step local rows p x u k m n a b d₁ d₂ d₇ d₈ =
+    by-kind (λ j. n ≡ j → leavesOf local rows p x u k m (formOf (record { kind = j; a = a; b = b })) ≡ 0) (λ e. refl) (λ e. absurd (d₁ e))
     (λ e. absurd (d₂ e)) (λ e. refl) (λ e. refl) (λ e. refl) (λ e. refl) (λ e. absurd (d₇ e)) (λ e. absurd (d₈ e)) (λ k e. refl) n refl
 
 -- one of a kind other than 1, 2 and 7 has no event

@@ -2,19 +2,21 @@
 -- that is come to.
 use Prim.Native.Nat.{ℕ, zero, suc, _+_, _<_, _≤_}
 use mathlib.Core.Path.{_≡_, refl, sym, ap, _∙_, subst}
-use mathlib.Core.Bool.{Bool, true, false, cond, true≢false}
+use mathlib.Core.Bool.{Bool, true, false, _||_, cond, true≢false}
 use mathlib.Core.List.{List}
 use native.Mathlib.Omega.{arith}
+use lib.Dec.{eqb}
 use lib.ListN.{getD}
 use Rattle.usage.specs.declared.Edge.{Edge}
 use Rattle.usage.specs.declared.Node.{Node}
 use Rattle.usage.specs.Limits.{create, states}
 use Rattle.usage.specs.Policy.{Sees, Moves, EdgesOk}
+use Rattle.usage.specs.Past.{reopened}
 use Rattle.usage.specs.Outline.{Form, Is, end, on-static, on-name, sequence, choice, loop, back, fresh, sandbox}
 use Rattle.automaton.specs.Mask.{has}
 use Rattle.automaton.proofs.MoveLaws.{moves-lt, ends-of}
 use Rattle.checker_account.specs.Witness.{watched, others, forget, Ends, Comes}
-use Rattle.checker_account.proofs.Whole.{ends-open}
+use Rattle.checker_account.proofs.BegunLaws.{reopened-states}
 use Rattle.checker_account.specs.Tables.{
   least,
   nameOf,
@@ -30,34 +32,34 @@ use Rattle.checker_account.specs.Tables.{
   Arrival,
   arrivals,
 }
-use Rattle.checker_account.specs.Tables.{over}
+use Rattle.checker_account.specs.Tables.{over, isReset, restarted}
 use Rattle.checker_account.specs.Holds.{Start, Dynamic, RowsOk, NamesOk, EndsFrom, ComesFrom, HoldsEnds, ComesAt, HasCome, SoundComes}
 use Rattle.checker_account.specs.Holds.{Each, ClosedComes, Come, HoldsComes}
-use Rattle.checker_account.proofs.MaskLaws.{has-none, over-found, over-at, has-half}
+use Rattle.checker_account.proofs.MaskLaws.{has-none, over-found, over-at, has-half, restarted-found, restarted-at}
 use Rattle.checker_account.proofs.Starts.{stays-made, start-least, least-name, least-made, start-after, start-forgotten, start-named}
 use Rattle.checker_account.proofs.Starts.{after-name, after-made, forgotten-name, forgotten-made}
 use Rattle.checker_account.proofs.EndsTable.{unmade-watched}
 
-module _ (es : List Edge) (ns : List Node) (p x : ℕ) (rows : Rows) (small : x ≤ watched) (ok : RowsOk es ns p x rows) (names : NamesOk ns)
-    (t : List ℕ) (ends : HoldsEnds es ns p x t) where
+module _ (local : Bool) (es : List Edge) (ns : List Node) (p x : ℕ) (rows : Rows) (small : x ≤ watched) (ok : RowsOk es ns p x rows)
+    (names : NamesOk ns) (t : Bool → List ℕ) (ends : (o : Bool) → HoldsEnds local es ns p x o (t o)) where
   -- ── What the rules add ──
 
   -- each state of the arrival is come to
   abbrev pub Right : Arrival → Type 0
-  Right g = (q : ℕ) → q < states → has (g .states) q ≡ true → ComesAt es ns p x (g .to) (g .is-open) (g .meaning) q
+  Right g = (q : ℕ) → q < states → has (g .states) q ≡ true → ComesAt local es ns p x (g .to) (g .is-open) (g .meaning) q
 
-  other-right : {k n b : ℕ} (o : Bool) (m v : ℕ) → Is ns k (fresh n b) → ((q : ℕ) → q < states → has v q ≡ true → ComesAt es ns p x k o m q)
-      → (q : ℕ) → q < states → has (over (rows k false) v) q ≡ true → ComesAt es ns p x b o (forgotten m n) q
+  other-right : {k n b : ℕ} (o : Bool) (m v : ℕ) → Is ns k (fresh n b) → ((q : ℕ) → q < states → has v q ≡ true → ComesAt local es ns p x k o m q)
+      → (q : ℕ) → q < states → has (over (rows k false) v) q ≡ true → ComesAt local es ns p x b o (forgotten m n) q
   other-right {k} {n} {b} o m v i h q l g =
       let (j, lj, hv, hr) = over-found (rows k false) v q g in
       let e : Dynamic es p x create false j q = ok .created i false (λ e. absurd (true≢false (sym e))) j q lj l .0 hr in
-      subst (λ (c : Bool). ComesFrom es ns p x o b (nameOf (forgotten m n)) c q) (sym (forgotten-made m n))
-      (subst (λ (w : ℕ). ComesFrom es ns p x o b w (made m) q) (sym (forgotten-name m n (names .given i)))
+      subst (λ (c : Bool). ComesFrom local es ns p x o b (nameOf (forgotten m n)) c q) (sym (forgotten-made m n))
+      (subst (λ (w : ℕ). ComesFrom local es ns p x o b w (made m) q) (sym (forgotten-name m n (names .given i)))
       (_, Comes.other i (h j lj hv .1) e))
 
   own-right : {k n b : ℕ} (o : Bool) (m v : ℕ) → Is ns k (fresh n b) → Start x m
-      → ((q : ℕ) → q < states → has v q ≡ true → ComesAt es ns p x k o m q)
-      → (q : ℕ) → q < states → has (cond (made m) 0 (over (rows k true) v)) q ≡ true → ComesAt es ns p x b o (suc n) q
+      → ((q : ℕ) → q < states → has v q ≡ true → ComesAt local es ns p x k o m q)
+      → (q : ℕ) → q < states → has (cond (made m) 0 (over (rows k true) v)) q ≡ true → ComesAt local es ns p x b o (suc n) q
   own-right {k} o zero v i s h q l g =
       let (j, lj, hv, hr) = over-found (rows k true) v q g in
       let e : Dynamic es p x create true j q = ok .created i true (λ _. unmade-watched es ns p x rows small ok names s) j q lj l .0 hr in
@@ -65,18 +67,25 @@ module _ (es : List Edge) (ns : List Node) (p x : ℕ) (rows : Rows) (small : x 
   own-right o (suc m) v i s h q l g = has-none q g
 
   second-right : {k a b : ℕ} (o : Bool) (m v : ℕ) (c : Bool) → Is ns k (sequence a b) → Start x m
-      → ((q : ℕ) → q < states → has v q ≡ true → ComesAt es ns p x k o m q)
-      → (q : ℕ) → q < states → has (half c (begun t a m v)) q ≡ true → ComesAt es ns p x b o (meaningAfter m c) q
+      → ((q : ℕ) → q < states → has v q ≡ true → ComesAt local es ns p x k o m q)
+      → (q : ℕ) → q < states → has (half c (begun (t o) a m v)) q ≡ true → ComesAt local es ns p x b o (meaningAfter m c) q
   second-right {a = a} {b = b} o m v c i s h q l g =
-      let (j, lj, hv, ht) = over-found (λ j. getD t (base a m + j) 0) v (at c q) (has-half c (begun t a m v) q l ∙ g) in
-      let f : EndsFrom es ns p x a (nameOf m) (made m) j c q = ends .sound a m j c q s lj l ht in
-      subst (λ (d : Bool). ComesFrom es ns p x o b (nameOf (meaningAfter m c)) d q) (sym (after-made m c (stays-made (f .1))))
-      (subst (λ (w : ℕ). ComesFrom es ns p x o b w c q) (sym (after-name m c))
-      (_, Comes.second i (h j lj hv .1) (ends-open es ns p x (f .1) o)))
+      let (j, lj, hv, ht) = over-found (λ j. getD (t o) (base a m + j) 0) v (at c q) (has-half c (begun (t o) a m v) q l ∙ g) in
+      let f : EndsFrom local es ns p x o a (nameOf m) (made m) j c q = ends o .sound a m j c q s lj l ht in
+      subst (λ (d : Bool). ComesFrom local es ns p x o b (nameOf (meaningAfter m c)) d q) (sym (after-made m c (stays-made (f .1))))
+      (subst (λ (w : ℕ). ComesFrom local es ns p x o b w c q) (sym (after-name m c))
+      (_, Comes.second i (h j lj hv .1) (f .1)))
+
+  inside-right : {k r b : ℕ} (o : Bool) (m v : ℕ) → Is ns k (sandbox r b)
+      → ((q : ℕ) → q < states → has v q ≡ true → ComesAt local es ns p x k o m q) → (q : ℕ) → q < states
+      → has (restarted (isReset local p r o) v) q ≡ true → ComesAt local es ns p x b (o || eqb r p) m q
+  inside-right {r = r} {b = b} o m v i h q l g =
+      let (j, lj, hv, e) = restarted-found (isReset local p r o) v q l g in
+      subst (λ (j : ℕ). ComesAt local es ns p x b (o || eqb r p) m j) e (_, Comes.inside i (h j lj hv .1))
 
   pub arrivals-right : (k : ℕ) (o : Bool) (m v : ℕ) (f : Form) → Is ns k f → Start x m
-      → ((q : ℕ) → q < states → has v q ≡ true → ComesAt es ns p x k o m q)
-      → Each Right (arrivals rows p t k o m v f)
+      → ((q : ℕ) → q < states → has v q ≡ true → ComesAt local es ns p x k o m q)
+      → Each Right (arrivals local rows p t k o m v f)
   unfolding arrivals
   arrivals-right k o m v end i s h = tt
   arrivals-right k o m v (on-static a r) i s h = tt
@@ -87,29 +96,29 @@ module _ (es : List Edge) (ns : List Node) (p x : ℕ) (rows : Rows) (small : x 
   arrivals-right k o m v (loop a) i s h = ((λ q l g. (_, Comes.body i (h q l g .1))), tt)
   arrivals-right k o m v (back a) i s h = ((λ q l g. (_, Comes.again i (h q l g .1))), tt)
   arrivals-right k o m v (fresh n b) i s h = (other-right o m v i h, (own-right o m v i s h, tt))
-  arrivals-right k o m v (sandbox r b) i s h = ((λ q l g. (_, Comes.inside i (h q l g .1))), tt)
+  arrivals-right k o m v (sandbox r b) i s h = (inside-right o m v i h, tt)
 
   -- ── A table to which they add nothing ──
 
-  module _ (edges : EdgesOk es) (u : List ℕ) (closed : ClosedComes ns p x rows t u) where
+  module _ (edges : EdgesOk es) (u : List ℕ) (closed : ClosedComes local ns p x rows t u) where
     come-child : {o o′ : Bool} {k a w : ℕ} {c : Bool} {q : ℕ} → (h : Come x u o k w c q) → HasCome u a o′ (h .meaning) q
         → Come x u o′ a w c q
     come-child h e = record { meaning = h .meaning; start = h .start; name = h .name; made = h .made; state = h .state; entered = e }
 
     come-second : {o : Bool} {k w a b : ℕ} {c c₁ : Bool} {q q₁ : ℕ} → Is ns k (sequence a b) → Come x u o k w c q
-        → EndsFrom es ns p x a w c q c₁ q₁ → Come x u o b w c₁ q₁
+        → EndsFrom local es ns p x o a w c q c₁ q₁ → Come x u o b w c₁ q₁
     unfolding arrivals
     come-second {o} {k} {w} {a} {b} {c} {c₁} {q} {q₁} i h f = go (h .meaning) (h .start) (h .name) (h .made) (h .entered)
       where
         go : (m : ℕ) → Start x m → nameOf m ≡ w → made m ≡ c → HasCome u k o m q → Come x u o b w c₁ q₁
         go m s ew ec e =
-            let f₁ : EndsFrom es ns p x a (nameOf m) (made m) q c₁ q₁ =
-            subst (λ (d : Bool). EndsFrom es ns p x a (nameOf m) d q c₁ q₁) (sym ec)
-            (subst (λ (n : ℕ). EndsFrom es ns p x a n c q c₁ q₁) (sym ew) f) in
-            let (l₁, g) = ends .full a m q c₁ q₁ s (h .state) f₁ in
+            let f₁ : EndsFrom local es ns p x o a (nameOf m) (made m) q c₁ q₁ =
+            subst (λ (d : Bool). EndsFrom local es ns p x o a (nameOf m) d q c₁ q₁) (sym ec)
+            (subst (λ (n : ℕ). EndsFrom local es ns p x o a n c q c₁ q₁) (sym ew) f) in
+            let (l₁, g) = ends o .full a m q c₁ q₁ s (h .state) f₁ in
             let v = getD u (place k o m) 0 in
-            let d : has (half c₁ (begun t a m v)) q₁ ≡ true =
-            sym (has-half c₁ (begun t a m v) q₁ l₁) ∙ over-at (λ j. getD t (base a m + j) 0) v (at c₁ q₁) q (h .state) e g in
+            let d : has (half c₁ (begun (t o) a m v)) q₁ ≡ true =
+            sym (has-half c₁ (begun (t o) a m v) q₁ l₁) ∙ over-at (λ j. getD (t o) (base a m + j) 0) v (at c₁ q₁) q (h .state) e g in
             record {
               meaning = meaningAfter m c₁;
               start = start-after c₁ s;
@@ -119,7 +128,7 @@ module _ (es : List Edge) (ns : List Node) (p x : ℕ) (rows : Rows) (small : x 
               entered = pick c₁ d l₁;
             }
           where
-            pick : (c₁ : Bool) → has (half c₁ (begun t a m (getD u (place k o m) 0))) q₁ ≡ true → q₁ < states
+            pick : (c₁ : Bool) → has (half c₁ (begun (t o) a m (getD u (place k o m) 0))) q₁ ≡ true → q₁ < states
                 → HasCome u b o (meaningAfter m c₁) q₁
             pick false d l = closed .step k o m (sequence a b) i s .1 .0 q₁ l d
             pick true d l = closed .step k o m (sequence a b) i s .1 .1 .0 q₁ l d
@@ -162,14 +171,30 @@ module _ (es : List Edge) (ns : List Node) (p x : ℕ) (rows : Rows) (small : x 
             }
         go (suc m) s ec e = absurd (true≢false ec)
 
-    full-comes : {n : ℕ} {o : Bool} {k w : ℕ} {c : Bool} {q : ℕ} → Comes false es ns p x n o k w c q → Come x u o k w c q
+    come-inside : {o : Bool} {k w b : ℕ} {c : Bool} {q : ℕ} (r : ℕ) → Is ns k (sandbox r b) → Come x u o k w c q
+        → Come x u (o || eqb r p) b w c (reopened local p r o q)
+    unfolding arrivals
+    come-inside {o} {k} {b = b} {q = q} r i h =
+        let m = h .meaning in
+        let l = reopened-states local p r o q (h .state) in
+        record {
+          meaning = m;
+          start = h .start;
+          name = h .name;
+          made = h .made;
+          state = l;
+          entered = closed .step k o m (sandbox r b) i (h .start) .0 (reopened local p r o q) l
+              (restarted-at (isReset local p r o) (getD u (place k o m) 0) q (h .state) (h .entered));
+        }
+
+    full-comes : {n : ℕ} {o : Bool} {k w : ℕ} {c : Bool} {q : ℕ} → Comes local es ns p x n o k w c q → Come x u o k w c q
     unfolding arrivals
     full-comes Comes.begins =
         record
         { meaning = least x; start = start-least x; name = least-name x; made = least-made x; state = omega arith; entered = closed .begun }
     full-comes (Comes.first {k = k} {q = q} {a = a} {b = b} {o = o} i e) =
         let h = full-comes e in come-child h (closed .step k o (h .meaning) (sequence a b) i (h .start) .0 q (h .state) (h .entered))
-    full-comes (Comes.second i e f) = come-second i (full-comes e) (_, ends-open es ns p x f false)
+    full-comes (Comes.second i e f) = come-second i (full-comes e) (_, f)
     full-comes (Comes.left {k = k} {q = q} {a = a} {b = b} {o = o} i e) =
         let h = full-comes e in come-child h (closed .step k o (h .meaning) (choice a b) i (h .start) .0 q (h .state) (h .entered))
     full-comes (Comes.right {k = k} {q = q} {a = a} {b = b} {o = o} i e) =
@@ -180,9 +205,8 @@ module _ (es : List Edge) (ns : List Node) (p x : ℕ) (rows : Rows) (small : x 
         let h = full-comes e in come-child h (closed .step k o (h .meaning) (back a) i (h .start) .0 q (h .state) (h .entered))
     full-comes (Comes.other i e v) = come-other i (full-comes e) v
     full-comes (Comes.own i e v) = come-own i (full-comes e) v
-    full-comes (Comes.inside {k = k} {q = q} {s = r} {b = b} {o = o} i e) =
-        let h = full-comes e in come-child h (closed .step k o (h .meaning) (sandbox r b) i (h .start) .0 q (h .state) (h .entered))
+    full-comes (Comes.inside {s = r} i e) = come-inside r i (full-comes e)
 
     -- a sound table to which the rules add nothing holds exactly what is come to
-    pub holds-comes : SoundComes es ns p x u → HoldsComes es ns p x u
+    pub holds-comes : SoundComes local es ns p x u → HoldsComes local es ns p x u
     holds-comes sound = record { sound = sound; full = full-comes }

@@ -49,9 +49,10 @@ pub record InTable (g : Arrival) : Type 0 where
   pub node : g .to < mostNodes
   pub meaning : g .meaning < meanings
 
-module _ (es : List Edge) (ns : List Node) (p x : ℕ) (rows : Rows) (small : x ≤ watched) (ok : RowsOk es ns p x rows) (names : NamesOk ns)
-    (targets : TargetsOk ns) (t : List ℕ) (ends : HoldsEnds es ns p x t) (n : ℕ) (forms : Forms) (reads : FormsOf ns n forms) where
-  arrivals-in : (k : ℕ) (o : Bool) (m v : ℕ) (f : Form) → Is ns k f → m < meanings → Each InTable (arrivals rows p t k o m v f)
+module _ (local : Bool) (es : List Edge) (ns : List Node) (p x : ℕ) (rows : Rows) (small : x ≤ watched) (ok : RowsOk es ns p x rows)
+    (names : NamesOk ns) (targets : TargetsOk ns) (t : Bool → List ℕ) (ends : (o : Bool) → HoldsEnds local es ns p x o (t o)) (n : ℕ)
+    (forms : Forms) (reads : FormsOf ns n forms) where
+  arrivals-in : (k : ℕ) (o : Bool) (m v : ℕ) (f : Form) → Is ns k f → m < meanings → Each InTable (arrivals local rows p t k o m v f)
   unfolding arrivals
   arrivals-in k o m v end i l = tt
   arrivals-in k o m v (on-static a s) i l = tt
@@ -76,23 +77,23 @@ module _ (es : List Edge) (ns : List Node) (p x : ℕ) (rows : Rows) (small : x 
 
   -- ── Sound ──
 
-  joined-sound : (u : List ℕ) (g : Arrival) → g .meaning < meanings → Right es ns p x rows small ok names t ends g → SoundComes es ns p x u
-      → SoundComes es ns p x (joinedAt u (place (g .to) (g .is-open) (g .meaning)) (g .states))
+  joined-sound : (u : List ℕ) (g : Arrival) → g .meaning < meanings → Right local es ns p x rows small ok names t ends g → SoundComes local es ns p x u
+      → SoundComes local es ns p x (joinedAt u (place (g .to) (g .is-open) (g .meaning)) (g .states))
   joined-sound u g l right sound k o m q st lq h =
       go (joined-found u (place (g .to) (g .is-open) (g .meaning)) (g .states) (place k o m) q h)
     where
       go : HasCome u k o m q ⊎ ((place k o m ≡ place (g .to) (g .is-open) (g .meaning)) × (has (g .states) q ≡ true))
-          → ComesAt es ns p x k o m q
+          → ComesAt local es ns p x k o m q
       go (inl e) = sound k o m q st lq e
       go (inr (e, f)) =
           let s = same-place (g .to) (g .is-open) (g .meaning) k o m l (st .high) (sym e) in
           let r = right q lq f in
-          let r₁ = subst (λ (j : ℕ). ComesAt es ns p x j (g .is-open) (g .meaning) q) (s .node) r in
-          let r₂ = subst (λ (b : Bool). ComesAt es ns p x k b (g .meaning) q) (s .opened) r₁ in
-          subst (λ (j : ℕ). ComesAt es ns p x k o j q) (s .meaning) r₂
+          let r₁ = subst (λ (j : ℕ). ComesAt local es ns p x j (g .is-open) (g .meaning) q) (s .node) r in
+          let r₂ = subst (λ (b : Bool). ComesAt local es ns p x k b (g .meaning) q) (s .opened) r₁ in
+          subst (λ (j : ℕ). ComesAt local es ns p x k o j q) (s .meaning) r₂
 
-  rule-sound : (u by : List ℕ) (i v : ℕ) → SoundComes es ns p x u → SoundComes es ns p x by → ComesRule rows p t (least x) n forms by i v
-      → SoundComes es ns p x (joinedAt u i v)
+  rule-sound : (u by : List ℕ) (i v : ℕ) → SoundComes local es ns p x u → SoundComes local es ns p x by → ComesRule local rows p t (least x) n forms by i v
+      → SoundComes local es ns p x (joinedAt u i v)
   rule-sound u by i v sound right (leads-to k o m g l low high mem) = go (forms k) refl mem
     where
       from : ℕ
@@ -101,15 +102,15 @@ module _ (es : List Edge) (ns : List Node) (p x : ℕ) (rows : Rows) (small : x 
       st : Start x m
       st = record { low = low; high = high }
 
-      go : (f : Option Form) → forms k ≡ f → List·Memᴰ g (arrivalsOf rows p t k o m from f)
-          → SoundComes es ns p x (joinedAt u (place (g .to) (g .is-open) (g .meaning)) (g .states))
+      go : (f : Option Form) → forms k ≡ f → List·Memᴰ g (arrivalsOf local rows p t k o m from f)
+          → SoundComes local es ns p x (joinedAt u (place (g .to) (g .is-open) (g .meaning)) (g .states))
       go none e mem = absurd (List·Memᴰ·not-nil mem)
       go (some f) e mem =
           let i = reads .is k f l e in
-          let gs = arrivals rows p t k o m from f in
+          let gs = arrivals local rows p t k o m from f in
           joined-sound u g (each-at InTable gs g (arrivals-in k o m from f i high) mem .meaning)
-          (each-at (Right es ns p x rows small ok names t ends) gs g
-          (arrivals-right es ns p x rows small ok names t ends k o m from f i st (λ q lq h. right k o m q st lq h)) mem) sound
+          (each-at (Right local es ns p x rows small ok names t ends) gs g
+          (arrivals-right local es ns p x rows small ok names t ends k o m from f i st (λ q lq h. right k o m q st lq h)) mem) sound
 
   -- ── Closed ──
 
@@ -122,58 +123,58 @@ module _ (es : List Edge) (ns : List Node) (p x : ℕ) (rows : Rows) (small : x 
     all-entered gs u len (i .1) (s .1),
   )
 
-  closed-comes : (u : List ℕ) → length u ≡ places → ((i v : ℕ) → ComesRule rows p t (least x) n forms u i v → joinedAt u i v ≡ u)
-      → HasCome u 0 false (least x) 0 → ClosedComes ns p x rows t u
+  closed-comes : (u : List ℕ) → length u ≡ places → ((i v : ℕ) → ComesRule local rows p t (least x) n forms u i v → joinedAt u i v ≡ u)
+      → HasCome u 0 false (least x) 0 → ClosedComes local ns p x rows t u
   closed-comes u len closed b = record {
     begun = b;
     step = λ k o m f i st.
         let (l, e) = reads .has k f i in
         let v = getD u (place k o m) 0 in
-        let gs = arrivals rows p t k o m v f in
+        let gs = arrivals local rows p t k o m v f in
         all-entered gs u len (arrivals-in k o m v f i (st .high))
         (each-all (λ g. joinedAt u (place (g .to) (g .is-open) (g .meaning)) (g .states) ≡ u) gs
         (λ g mem. closed (place (g .to) (g .is-open) (g .meaning)) (g .states)
         (leads-to k o m g l (st .low) (st .high)
-        (subst (λ (o′ : Option Form). List·Memᴰ g (arrivalsOf rows p t k o m v o′)) (sym e) mem))));
+        (subst (λ (o′ : Option Form). List·Memᴰ g (arrivalsOf local rows p t k o m v o′)) (sym e) mem))));
   }
 
   -- ── From the start ──
 
-  begins-sound : SoundComes es ns p x (begins (least x))
+  begins-sound : SoundComes local es ns p x (begins (least x))
   begins-sound k o m q st lq h = go (joined-found (replicate places 0) (least x) 1 (place k o m) q h)
     where
       low : least x < meanings
       low = start-least x .high
 
-      at-start : ComesFrom es ns p x false 0 (nameOf (least x)) (made (least x)) 0
-      at-start = subst (λ (c : Bool). ComesFrom es ns p x false 0 (nameOf (least x)) c 0) (sym (least-made x))
-          (subst (λ (w : ℕ). ComesFrom es ns p x false 0 w (ltb x statics) 0) (sym (least-name x)) (0, Comes.begins))
+      at-start : ComesFrom local es ns p x false 0 (nameOf (least x)) (made (least x)) 0
+      at-start = subst (λ (c : Bool). ComesFrom local es ns p x false 0 (nameOf (least x)) c 0) (sym (least-made x))
+          (subst (λ (w : ℕ). ComesFrom local es ns p x false 0 w (ltb x statics) 0) (sym (least-name x)) (0, Comes.begins))
 
       go : (has (getD (replicate places 0) (place k o m) 0) q ≡ true) ⊎ ((place k o m ≡ least x) × (has 1 q ≡ true))
-          → ComesAt es ns p x k o m q
+          → ComesAt local es ns p x k o m q
       go (inl e) = has-none q (ap (λ (v : ℕ). has v q) (sym (zeros places (place k o m))) ∙ e)
       go (inr (e, f)) =
           let b = low in
           let zero-place : place 0 false (least x) ≡ least x = omega arith in
           let s = same-place 0 false (least x) k o m low (st .high) (zero-place ∙ sym e) in
           let eq : 0 ≡ q = eqb-true 0 q (sym (has-pow 0 q (omega arith) lq) ∙ f) in
-          let r₁ = subst (λ (j : ℕ). ComesFrom es ns p x false j (nameOf (least x)) (made (least x)) 0) (s .node) at-start in
-          let r₂ = subst (λ (b : Bool). ComesFrom es ns p x b k (nameOf (least x)) (made (least x)) 0) (s .opened) r₁ in
-          let r₃ = subst (λ (j : ℕ). ComesAt es ns p x k o j 0) (s .meaning) r₂ in
-          subst (λ (j : ℕ). ComesAt es ns p x k o m j) eq r₃
+          let r₁ = subst (λ (j : ℕ). ComesFrom local es ns p x false j (nameOf (least x)) (made (least x)) 0) (s .node) at-start in
+          let r₂ = subst (λ (b : Bool). ComesFrom local es ns p x b k (nameOf (least x)) (made (least x)) 0) (s .opened) r₁ in
+          let r₃ = subst (λ (j : ℕ). ComesAt local es ns p x k o j 0) (s .meaning) r₂ in
+          subst (λ (j : ℕ). ComesAt local es ns p x k o m j) eq r₃
 
   abbrev Begun : List ℕ → Type 0
   Begun u = HasCome u 0 false (least x) 0
 
   pub filled-comes : EdgesOk es → (u : List ℕ) → Begun (begins (least x))
-      → Filled (ComesRule rows p t (least x) n forms) (begins (least x)) u → HoldsComes es ns p x u
+      → Filled (ComesRule local rows p t (least x) n forms) (begins (least x)) u → HoldsComes local es ns p x u
   filled-comes edges u b h =
-      let rule = ComesRule rows p t (least x) n forms in
+      let rule = ComesRule local rows p t (least x) n forms in
       let len : length u ≡ places =
       derived-grows rule (begins (least x)) (h .derived) .len ∙ joined-grows (replicate places 0) (least x) 1 .len in
-      let sound : SoundComes es ns p x u = derived-keeps rule (begins (least x)) (SoundComes es ns p x) begins-sound rule-sound
+      let sound : SoundComes local es ns p x u = derived-keeps rule (begins (least x)) (SoundComes local es ns p x) begins-sound rule-sound
       (h .derived) in
       let begun : Begun u =
       derived-keeps rule (begins (least x)) Begun b
       (λ u by i v d e r. joined-keeps u i v (place 0 false (least x)) 0 d) (h .derived) in
-      holds-comes es ns p x rows small ok names t ends edges u (closed-comes u len (h .closed) begun) sound
+      holds-comes local es ns p x rows small ok names t ends edges u (closed-comes u len (h .closed) begun) sound

@@ -1,7 +1,7 @@
 -- The laws of the sets that the check has, as bit masks.
 use Prim.Native.Nat.{ℕ, zero, suc, _+_, _*_, _-_, _/_, _%_, _^_, _<_}
 use mathlib.Core.Path.{_≡_, refl, sym, ap, _∙_, subst}
-use mathlib.Core.Bool.{Bool, true, false, cond}
+use mathlib.Core.Bool.{Bool, true, false, _||_, cond}
 use mathlib.Core.Logic.{_⊎_, inl, inr}
 use native.Mathlib.Nat.{div-div-eq-div-mul}
 use native.Mathlib.Numerals.{add-one}
@@ -9,13 +9,14 @@ use native.Mathlib.Omega.{arith}
 use lib.Dec.{eqb}
 use lib.Bits.{bitOr, bitAnd, or-zero-r, and-mask}
 use lib.Pow.{pow-add, field, mod-mod-pow}
-use borrow.Author.Tests.{eq-eqb, ne-eqb}
+use borrow.Author.Tests.{eq-eqb, ne-eqb, eqb-true}
 use Rattle.usage.specs.Limits.{states}
 use Rattle.usage.specs.Policy.{Offending}
+use Rattle.usage.specs.Tests.{someBelow}
 use Rattle.usage.proofs.Logic.{not-both, or-left, or-right, or-cases}
 use Rattle.automaton.specs.Mask.{has, union, offends}
-use Rattle.automaton.proofs.MaskLaws.{some-at, some-found, has-or, has-zero, has-offending, union-has}
-use Rattle.checker_account.specs.Tables.{at, half, made, kept, over}
+use Rattle.automaton.proofs.MaskLaws.{all-below, all-below-at, some-at, some-found, has-or, has-zero, has-pow, has-offending, union-has}
+use Rattle.checker_account.specs.Tables.{at, half, made, kept, over, restarted}
 
 -- ── Members of unions ──
 
@@ -126,3 +127,41 @@ has-offends v q (inl e) h = has-offending (v % 256) (omega arith)
     ∙ or-left (has (v % 256) 6) (has (v % 256) 7) (low-bit v 6 (omega arith) ∙ ap (has v) (sym e) ∙ h)
 has-offends v q (inr e) h = has-offending (v % 256) (omega arith)
     ∙ or-right (has (v % 256) 6) (has (v % 256) 7) (low-bit v 7 (omega arith) ∙ ap (has v) (sym e) ∙ h)
+
+-- ── Sets after an opening ──
+
+some-test : all-below 256 (λ w. eqb w 0 || someBelow (has w) states) ≡ true
+unfolding all-below someBelow has
+some-test = refl
+
+-- a set of states that is not empty has one
+some-state : (v : ℕ) → eqb (v % 256) 0 ≡ false → (q : ℕ) × (q < states) × (has v q ≡ true)
+some-state v e =
+    let w = v % 256 in
+    let t = all-below-at 256 (λ w. eqb w 0 || someBelow (has w) states) some-test w (omega arith) in
+    let (q, l, h) = some-found states (has w) (ap (λ (b : Bool). b || someBelow (has w) states) (sym e) ∙ t) in
+    (q, l, sym (low-bit v q l) ∙ h)
+
+empty-none : (v q : ℕ) → q < states → v % 256 ≡ 0 → has v q ≡ false
+empty-none v q l e = sym (low-bit v q l) ∙ ap (λ (w : ℕ). has w q) e ∙ has-zero q
+
+pub restarted-found : (reset : Bool) (v q : ℕ) → q < states → has (restarted reset v) q ≡ true
+    → (j : ℕ) × (j < states) × (has v j ≡ true) × (cond reset 0 j ≡ q)
+restarted-found false v q l h = (q, l, h, refl)
+restarted-found true v q l h = go (eqb (v % 256) 0) refl h
+  where
+    go : (b : Bool) → eqb (v % 256) 0 ≡ b → has (cond b 0 1) q ≡ true → (j : ℕ) × (j < states) × (has v j ≡ true) × (0 ≡ q)
+    go true e g = has-none q g
+    go false e g = let (j, lj, hj) = some-state v e in (j, lj, hj, eqb-true 0 q (sym (has-pow 0 q (omega arith) l) ∙ g))
+
+pub restarted-at : (reset : Bool) (v j : ℕ) → j < states → has v j ≡ true → has (restarted reset v) (cond reset 0 j) ≡ true
+restarted-at false v j l h = h
+restarted-at true v j l h = go (eqb (v % 256) 0) refl
+  where
+    go : (b : Bool) → eqb (v % 256) 0 ≡ b → has (cond b 0 1) 0 ≡ true
+    go true e = not-both (has v j) h (empty-none v j l (eqb-true (v % 256) 0 e))
+    go false e = has-pow 0 0 (omega arith) (omega arith)
+
+pub restarted-none : (reset : Bool) → restarted reset 0 ≡ 0
+restarted-none true = refl
+restarted-none false = refl

@@ -14,7 +14,7 @@ use Rattle.usage.specs.Limits.{states}
 use Rattle.usage.specs.Outline.{Form, end, on-static, on-name, sequence, choice, loop, back, fresh, sandbox}
 use Rattle.automaton.specs.Mask.{has, union}
 use Rattle.automaton.proofs.MaskLaws.{has-zero}
-use Rattle.checker_account.specs.Tables.{Rows, base, half, place, over, ownCreated, Arrival, arrivals, joinedAt, meanings}
+use Rattle.checker_account.specs.Tables.{Rows, base, half, isReset, place, over, ownCreated, Arrival, arrivals, joinedAt, meanings}
 use Rattle.checker_account.specs.Holds.{Each}
 use Rattle.checker_account.specs.Rounds.{
   total,
@@ -30,6 +30,7 @@ use Rattle.checker_account.specs.Rounds.{
   passNode,
   passRound,
 }
+use Rattle.checker_account.proofs.MaskLaws.{restarted-none}
 use Rattle.checker_account.proofs.RoundLaws.{Grows, grows-self, grows-trans, joined-grows, repeat-grows, repeat-keeps, repeat-still}
 
 pub entered-grows : (gs : List Arrival) (u : List ℕ) → Grows u (entered gs u)
@@ -65,41 +66,41 @@ entered-none [] u h = refl
 entered-none (g ∷ gs) u (e, h) =
     ap (entered gs) (joined-none u (place (g .to) (g .is-open) (g .meaning)) (g .states) e) ∙ entered-none gs u h
 
-none-arrives : (rows : Rows) (p : ℕ) (t : List ℕ) (k : ℕ) (o : Bool) (m : ℕ) (f : Option Form)
-    → Each (λ g. g .states ≡ 0) (arrivalsOf rows p t k o m 0 f)
+none-arrives : (local : Bool) (rows : Rows) (p : ℕ) (t : Bool → List ℕ) (k : ℕ) (o : Bool) (m : ℕ) (f : Option Form)
+    → Each (λ g. g .states ≡ 0) (arrivalsOf local rows p t k o m 0 f)
 unfolding arrivals
-none-arrives rows p t k o m none = tt
-none-arrives rows p t k o m (some end) = tt
-none-arrives rows p t k o m (some (on-static a s)) = tt
-none-arrives rows p t k o m (some (on-name a n)) = tt
-none-arrives rows p t k o m (some (sequence a b)) =
-    let e = over-none (λ q. getD t (base a m + q) 0) in (refl, (ap (half false) e, (ap (half true) e, tt)))
-none-arrives rows p t k o m (some (choice a b)) = (refl, (refl, tt))
-none-arrives rows p t k o m (some (loop a)) = (refl, tt)
-none-arrives rows p t k o m (some (back a)) = (refl, tt)
-none-arrives rows p t k o m (some (fresh n b)) = (over-none (rows k false), (created-none rows k m, tt))
-none-arrives rows p t k o m (some (sandbox s b)) = (refl, tt)
+none-arrives local rows p t k o m none = tt
+none-arrives local rows p t k o m (some end) = tt
+none-arrives local rows p t k o m (some (on-static a s)) = tt
+none-arrives local rows p t k o m (some (on-name a n)) = tt
+none-arrives local rows p t k o m (some (sequence a b)) =
+    let e = over-none (λ q. getD (t o) (base a m + q) 0) in (refl, (ap (half false) e, (ap (half true) e, tt)))
+none-arrives local rows p t k o m (some (choice a b)) = (refl, (refl, tt))
+none-arrives local rows p t k o m (some (loop a)) = (refl, tt)
+none-arrives local rows p t k o m (some (back a)) = (refl, tt)
+none-arrives local rows p t k o m (some (fresh n b)) = (over-none (rows k false), (created-none rows k m, tt))
+none-arrives local rows p t k o m (some (sandbox s b)) = (restarted-none (isReset local p s o), tt)
 
-pub pass-none : (rows : Rows) (p : ℕ) (t : List ℕ) (k : ℕ) (f : Option Form) (o : Bool) (m : ℕ) (u : List ℕ) → getD u (place k o m) 0 ≡ 0
-    → pass rows p t k f o m u ≡ u
-pass-none rows p t k f o m u e =
-    ap (λ (v : ℕ). entered (arrivalsOf rows p t k o m v f) u) e
-    ∙ entered-none (arrivalsOf rows p t k o m 0 f) u (none-arrives rows p t k o m f)
+pub pass-none : (local : Bool) (rows : Rows) (p : ℕ) (t : Bool → List ℕ) (k : ℕ) (f : Option Form) (o : Bool) (m : ℕ) (u : List ℕ) → getD u (place k o m) 0 ≡ 0
+    → pass local rows p t k f o m u ≡ u
+pass-none local rows p t k f o m u e =
+    ap (λ (v : ℕ). entered (arrivalsOf local rows p t k o m v f) u) e
+    ∙ entered-none (arrivalsOf local rows p t k o m 0 f) u (none-arrives local rows p t k o m f)
 
 -- ── They grow ──
 
-module _ (rows : Rows) (p : ℕ) (t : List ℕ) where
-  pub pass-grows : (k : ℕ) (f : Option Form) (o : Bool) (m : ℕ) (u : List ℕ) → Grows u (pass rows p t k f o m u)
-  pass-grows k f o m u = entered-grows (arrivalsOf rows p t k o m (getD u (place k o m) 0) f) u
+module _ (local : Bool) (rows : Rows) (p : ℕ) (t : Bool → List ℕ) where
+  pub pass-grows : (k : ℕ) (f : Option Form) (o : Bool) (m : ℕ) (u : List ℕ) → Grows u (pass local rows p t k f o m u)
+  pass-grows k f o m u = entered-grows (arrivalsOf local rows p t k o m (getD u (place k o m) 0) f) u
 
-  pub pass-node-grows : (l k : ℕ) (f : Option Form) (u : List ℕ) → Grows u (passNode rows p t l k f u)
+  pub pass-node-grows : (l k : ℕ) (f : Option Form) (u : List ℕ) → Grows u (passNode local rows p t l k f u)
   unfolding passNode
   pass-node-grows l k f u =
-      repeat-grows (λ i. pass rows p t k f (odd i) (l + i / 2)) (λ i. pass-grows k f (odd i) (l + i / 2)) (2 * (meanings - l)) u
+      repeat-grows (λ i. pass local rows p t k f (odd i) (l + i / 2)) (λ i. pass-grows k f (odd i) (l + i / 2)) (2 * (meanings - l)) u
 
-  pub pass-round-grows : (l n : ℕ) (forms : Forms) (u : List ℕ) → Grows u (passRound rows p t l n forms u)
+  pub pass-round-grows : (l n : ℕ) (forms : Forms) (u : List ℕ) → Grows u (passRound local rows p t l n forms u)
   unfolding passRound
-  pass-round-grows l n forms u = repeat-grows (λ k. passNode rows p t l k (forms k)) (λ k. pass-node-grows l k (forms k)) n u
+  pass-round-grows l n forms u = repeat-grows (λ k. passNode local rows p t l k (forms k)) (λ k. pass-node-grows l k (forms k)) n u
 
 -- ── They derive, and where a round changes nothing, no rule adds anything ──
 
@@ -148,13 +149,13 @@ unfolding turnOf
 turn-small false m n h = omega arith
 turn-small true m n h = omega arith
 
-module _ (rows : Rows) (p : ℕ) (t : List ℕ) (l n : ℕ) (forms : Forms) where
+module _ (local : Bool) (rows : Rows) (p : ℕ) (t : Bool → List ℕ) (l n : ℕ) (forms : Forms) where
   module _ (u₀ : List ℕ) where
     abbrev Made : List ℕ → Type 0
-    Made = Derived (ComesRule rows p t l n forms) u₀
+    Made = Derived (ComesRule local rows p t l n forms) u₀
 
     entered-derived : (by : List ℕ) → Made by → (gs : List Arrival)
-        → ((g : Arrival) → List·Memᴰ g gs → ComesRule rows p t l n forms by (place (g .to) (g .is-open) (g .meaning)) (g .states))
+        → ((g : Arrival) → List·Memᴰ g gs → ComesRule local rows p t l n forms by (place (g .to) (g .is-open) (g .meaning)) (g .states))
         → (u : List ℕ) → Made u → Made (entered gs u)
     unfolding entered
     entered-derived by b [] h u d = d
@@ -162,37 +163,37 @@ module _ (rows : Rows) (p : ℕ) (t : List ℕ) (l n : ℕ) (forms : Forms) wher
         entered-derived by b gs (λ f m. h f (List·Memᴰ·tail m)) (joinedAt u (place (g .to) (g .is-open) (g .meaning)) (g .states))
         (joins d b (h g (List·Memᴰ·head refl)))
 
-    pass-derived : (k : ℕ) (o : Bool) (m : ℕ) (u : List ℕ) → k < n → l ≤ m → m < meanings → Made u → Made (pass rows p t k (forms k) o m u)
+    pass-derived : (k : ℕ) (o : Bool) (m : ℕ) (u : List ℕ) → k < n → l ≤ m → m < meanings → Made u → Made (pass local rows p t k (forms k) o m u)
     pass-derived k o m u b low high d =
-        entered-derived u d (arrivalsOf rows p t k o m (getD u (place k o m) 0) (forms k))
+        entered-derived u d (arrivalsOf local rows p t k o m (getD u (place k o m) 0) (forms k))
         (λ g i. leads-to k o m g b low high i) u d
 
-    pass-node-derived : (k : ℕ) (u : List ℕ) → k < n → Made u → Made (passNode rows p t l k (forms k) u)
+    pass-node-derived : (k : ℕ) (u : List ℕ) → k < n → Made u → Made (passNode local rows p t l k (forms k) u)
     unfolding passNode
     pass-node-derived k u b d =
-        repeat-keeps Made (λ i. pass rows p t k (forms k) (odd i) (l + i / 2)) (2 * (meanings - l))
+        repeat-keeps Made (λ i. pass local rows p t k (forms k) (odd i) (l + i / 2)) (2 * (meanings - l))
         (λ i u h d. pass-derived k (odd i) (l + i / 2) u b (omega arith) (omega arith) d) u d
 
-    pub pass-round-derived : (u : List ℕ) → Made u → Made (passRound rows p t l n forms u)
+    pub pass-round-derived : (u : List ℕ) → Made u → Made (passRound local rows p t l n forms u)
     unfolding passRound
-    pass-round-derived u d = repeat-keeps Made (λ k. passNode rows p t l k (forms k)) n (λ k u h d. pass-node-derived k u h d) u d
+    pass-round-derived u d = repeat-keeps Made (λ k. passNode local rows p t l k (forms k)) n (λ k u h d. pass-node-derived k u h d) u d
 
-  module _ (u : List ℕ) (still : passRound rows p t l n forms u ≡ u) where
-    pass-still : (k : ℕ) (o : Bool) (m : ℕ) → k < n → l ≤ m → m < meanings → pass rows p t k (forms k) o m u ≡ u
+  module _ (u : List ℕ) (still : passRound local rows p t l n forms u ≡ u) where
+    pass-still : (k : ℕ) (o : Bool) (m : ℕ) → k < n → l ≤ m → m < meanings → pass local rows p t k (forms k) o m u ≡ u
     unfolding passRound passNode
     pass-still k o m b low high =
         let i = turnOf o (m - l) in
-        let node : passNode rows p t l k (forms k) u ≡ u =
-        repeat-still (λ k. passNode rows p t l k (forms k)) (λ k. pass-node-grows rows p t l k (forms k)) n u still k b in
-        let one = repeat-still (λ i. pass rows p t k (forms k) (odd i) (l + i / 2))
-        (λ i. pass-grows rows p t k (forms k) (odd i) (l + i / 2)) (2 * (meanings - l)) u node i
+        let node : passNode local rows p t l k (forms k) u ≡ u =
+        repeat-still (λ k. passNode local rows p t l k (forms k)) (λ k. pass-node-grows local rows p t l k (forms k)) n u still k b in
+        let one = repeat-still (λ i. pass local rows p t k (forms k) (odd i) (l + i / 2))
+        (λ i. pass-grows local rows p t k (forms k) (odd i) (l + i / 2)) (2 * (meanings - l)) u node i
         (turn-small o (m - l) (meanings - l) (omega arith)) in
         let em : l + i / 2 ≡ m = ap (λ (j : ℕ). l + j) (turn-half o (m - l)) ∙ omega arith in
-        subst (λ (j : ℕ). pass rows p t k (forms k) o j u ≡ u) em
-        (subst (λ (b : Bool). pass rows p t k (forms k) b (l + i / 2) u ≡ u) (turn-odd o (m - l)) one)
+        subst (λ (j : ℕ). pass local rows p t k (forms k) o j u ≡ u) em
+        (subst (λ (b : Bool). pass local rows p t k (forms k) b (l + i / 2) u ≡ u) (turn-odd o (m - l)) one)
 
-    pub pass-round-closed : (i v : ℕ) → ComesRule rows p t l n forms u i v → joinedAt u i v ≡ u
+    pub pass-round-closed : (i v : ℕ) → ComesRule local rows p t l n forms u i v → joinedAt u i v ≡ u
     pass-round-closed i v (leads-to k o m g b low high mem) =
-        let gs = arrivalsOf rows p t k o m (getD u (place k o m) 0) (forms k) in
+        let gs = arrivalsOf local rows p t k o m (getD u (place k o m) 0) (forms k) in
         each-at (λ g. joinedAt u (place (g .to) (g .is-open) (g .meaning)) (g .states) ≡ u) gs g
         (entered-still gs u (pass-still k o m b low high)) mem

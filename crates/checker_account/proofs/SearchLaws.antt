@@ -54,25 +54,25 @@ begins-has l h =
 -- ── A hit, by the table ──
 
 -- a form without a step leaves nothing
-no-leaves : (rows : Rows) (p x : ℕ) (u : List ℕ) (k m : ℕ) (f : Form) → offends (half false (leaves rows p x u k m f)) ≡ true
+no-leaves : (local : Bool) (rows : Rows) (p x : ℕ) (u : List ℕ) (k m : ℕ) (f : Form) → offends (half false (leaves local rows p x u k m f)) ≡ true
     → (last : Last) × (lastOf f ≡ some last)
 unfolding leaves
-no-leaves rows p x u k m end h = false-true h
-no-leaves rows p x u k m (on-static a s) h = (_, refl)
-no-leaves rows p x u k m (on-name a n) h = (_, refl)
-no-leaves rows p x u k m (sequence a b) h = false-true h
-no-leaves rows p x u k m (choice a b) h = false-true h
-no-leaves rows p x u k m (loop a) h = false-true h
-no-leaves rows p x u k m (back a) h = false-true h
-no-leaves rows p x u k m (fresh n b) h = (_, refl)
-no-leaves rows p x u k m (sandbox s b) h = (_, refl)
+no-leaves local rows p x u k m end h = false-true h
+no-leaves local rows p x u k m (on-static a s) h = (_, refl)
+no-leaves local rows p x u k m (on-name a n) h = (_, refl)
+no-leaves local rows p x u k m (sequence a b) h = false-true h
+no-leaves local rows p x u k m (choice a b) h = false-true h
+no-leaves local rows p x u k m (loop a) h = false-true h
+no-leaves local rows p x u k m (back a) h = false-true h
+no-leaves local rows p x u k m (fresh n b) h = (_, refl)
+no-leaves local rows p x u k m (sandbox s b) h = (_, refl)
 
-module _ (ns : List Node) (p x : ℕ) (rows : Rows) (u : List ℕ) (n : ℕ) (forms : Forms) (reads : FormsOf ns n forms) where
+module _ (local : Bool) (ns : List Node) (p x : ℕ) (rows : Rows) (u : List ℕ) (n : ℕ) (forms : Forms) (reads : FormsOf ns n forms) where
   found-at : (k i : ℕ) (f : Option Form) → forms k ≡ f → k < n → i < meanings - least x
-      → offends (half false (leavesOf rows p x u k (least x + i) f)) ≡ true → (last : Last) × Struck ns p x rows u last
+      → offends (half false (leavesOf local rows p x u k (least x + i) f)) ≡ true → (last : Last) × Struck local ns p x rows u last
   found-at k i none e l h o = false-true o
   found-at k i (some f) e l h o =
-      let (last, g) = no-leaves rows p x u k (least x + i) f o in (
+      let (last, g) = no-leaves local rows p x u k (least x + i) f o in (
         last,
         record {
           node = k;
@@ -85,14 +85,14 @@ module _ (ns : List Node) (p x : ℕ) (rows : Rows) (u : List ℕ) (n : ℕ) (fo
         },
       )
 
-  hit-found : hitAny rows p x u (least x) n forms ≡ true → (last : Last) × Struck ns p x rows u last
+  hit-found : hitAny local rows p x u (least x) n forms ≡ true → (last : Last) × Struck local ns p x rows u last
   unfolding hitAny hitNode
   hit-found h =
-      let (k, l, g) = some-found n (λ k. hitNode rows p x u (least x) k (forms k)) h in
-      let (i, b, o) = some-found (meanings - least x) (λ i. offends (half false (leavesOf rows p x u k (least x + i) (forms k)))) g in
+      let (k, l, g) = some-found n (λ k. hitNode local rows p x u (least x) k (forms k)) h in
+      let (i, b, o) = some-found (meanings - least x) (λ i. offends (half false (leavesOf local rows p x u k (least x + i) (forms k)))) g in
       found-at k i (forms k) refl l b o
 
-  hit-at : {last : Last} → Struck ns p x rows u last → hitAny rows p x u (least x) n forms ≡ true
+  hit-at : {last : Last} → Struck local ns p x rows u last → hitAny local rows p x u (least x) n forms ≡ true
   unfolding hitAny hitNode
   hit-at h =
       let k = h .node in
@@ -101,63 +101,63 @@ module _ (ns : List Node) (p x : ℕ) (rows : Rows) (u : List ℕ) (n : ℕ) (fo
       let low : least x ≤ m = h .start .low in
       let high : m < meanings = h .start .high in
       let em : least x + (m - least x) ≡ m = omega arith in
-      let o : offends (half false (leavesOf rows p x u k (least x + (m - least x)) (forms k))) ≡ true =
-      ap (λ (f : Option Form). offends (half false (leavesOf rows p x u k (least x + (m - least x)) f))) e
-      ∙ ap (λ (j : ℕ). offends (half false (leaves rows p x u k j (h .form)))) em
+      let o : offends (half false (leavesOf local rows p x u k (least x + (m - least x)) (forms k))) ≡ true =
+      ap (λ (f : Option Form). offends (half false (leavesOf local rows p x u k (least x + (m - least x)) f))) e
+      ∙ ap (λ (j : ℕ). offends (half false (leaves local rows p x u k j (h .form)))) em
       ∙ h .offending in
-      some-at n (λ k. hitNode rows p x u (least x) k (forms k)) k l
-      (some-at (meanings - least x) (λ i. offends (half false (leavesOf rows p x u k (least x + i) (forms k)))) (m - least x)
+      some-at n (λ k. hitNode local rows p x u (least x) k (forms k)) k l
+      (some-at (meanings - least x) (λ i. offends (half false (leavesOf local rows p x u k (least x + i) (forms k)))) (m - least x)
       (omega arith) o)
 
 -- ── The answer for one watched resource ──
 
-pub searched : (es : List Edge) (ns : List Node) (p x : ℕ) (rows : Rows) → x ≤ watched → EdgesOk es → RowsOk es ns p x rows → NamesOk ns
+pub searched : (local : Bool) (es : List Edge) (ns : List Node) (p x : ℕ) (rows : Rows) → x ≤ watched → EdgesOk es → RowsOk es ns p x rows → NamesOk ns
     → TargetsOk ns
-    → (n : ℕ) (forms : Forms) → n ≤ mostNodes → FormsOf ns n forms → (answer : Bool) → Searched rows p x n forms answer
-    → Decides answer ((last : Last) × HitsFrom es ns p x last)
-searched es ns p x rows small edges ok names targets n forms few reads answer h =
-    let ends = filled-ends es ns p x rows small ok names n forms reads edges few (h .ends) (h .ends-filled) in
-    let comes = filled-comes es ns p x rows small ok names targets (h .ends) ends n forms reads edges (h .comes)
+    → (n : ℕ) (forms : Forms) → n ≤ mostNodes → FormsOf ns n forms → (answer : Bool) → Searched local rows p x n forms answer
+    → Decides answer ((last : Last) × HitsFrom local es ns p x last)
+searched local es ns p x rows small edges ok names targets n forms few reads answer h =
+    let ends = filled-ends es ns p x rows small ok names n forms reads edges few local (h .ends) (h .ends-filled) in
+    let comes = filled-comes local es ns p x rows small ok names targets (h .ends) ends n forms reads edges (h .comes)
     (begins-has (least x) (start-least x .high)) (h .comes-filled) in (
-      (λ a. let (last, s) = hit-found ns p x rows (h .comes) n forms reads (sym (h .told) ∙ a) in
-          (last, hits-exact es ns p x rows small ok names edges (h .comes) comes last .1 s)),
-      (λ b. h .told ∙ hit-at ns p x rows (h .comes) n forms reads
-          (hits-exact es ns p x rows small ok names edges (h .comes) comes (b .0) .0 (b .1))),
+      (λ a. let (last, s) = hit-found local ns p x rows (h .comes) n forms reads (sym (h .told) ∙ a) in
+          (last, hits-exact local es ns p x rows small ok names edges (h .comes) comes last .1 s)),
+      (λ b. h .told ∙ hit-at local ns p x rows (h .comes) n forms reads
+          (hits-exact local es ns p x rows small ok names edges (h .comes) comes (b .0) .0 (b .1))),
     )
 
 -- ── The answer for a policy ──
 
-module _ (es : List Edge) (ns : List Node) (p : ℕ) (rows : Rows) (edges : EdgesOk es) (ok : (x : ℕ) → x ≤ watched → RowsOk es ns p x rows)
+module _ (local : Bool) (es : List Edge) (ns : List Node) (p : ℕ) (rows : Rows) (edges : EdgesOk es) (ok : (x : ℕ) → x ≤ watched → RowsOk es ns p x rows)
     (names : NamesOk ns) (targets : TargetsOk ns)
     (n : ℕ) (forms : Forms) (few : n ≤ mostNodes) (reads : FormsOf ns n forms) where
-  one : (x : ℕ) → x ≤ watched → (answer : Bool) → Searched rows p x n forms answer
-      → Decides answer ((last : Last) × HitsFrom es ns p x last)
-  one x l answer h = searched es ns p x rows l edges (ok x l) names targets n forms few reads answer h
+  one : (x : ℕ) → x ≤ watched → (answer : Bool) → Searched local rows p x n forms answer
+      → Decides answer ((last : Last) × HitsFrom local es ns p x last)
+  one x l answer h = searched local es ns p x rows l edges (ok x l) names targets n forms few reads answer h
 
-  pub searched-all : (scope : ℕ → ℕ → Type 0) → Scoped ns scope → (answer : Bool) → SearchedAll rows p n forms answer
-      → Decides answer ((x : ℕ) × (x ≤ watched) × (last : Last) × HitsFrom es ns p x last)
+  pub searched-all : (scope : ℕ → ℕ → Type 0) → Scoped ns scope → (answer : Bool) → SearchedAll local rows p n forms answer
+      → Decides answer ((x : ℕ) × (x ≤ watched) × (last : Last) × HitsFrom local es ns p x last)
   searched-all scope scoped answer (found {x = x} l h) =
       let (last, t) = one x l true h .0 refl in ((λ e. (x, l, last, t)), (λ e. refl))
   searched-all scope scoped answer (none-found h) =
       ((λ e. false-true e), (λ b. missed (b .0) (b .1) (b .2) (b .3) (h (b .0) (b .1))))
     where
-      dynamic : (last : Last) → HitsFrom es ns p watched last → Untouched n forms watched ⊎ Searched rows p watched n forms false
+      dynamic : (last : Last) → HitsFrom local es ns p watched last → Untouched n forms watched ⊎ Searched local rows p watched n forms false
           → false ≡ true
       dynamic last t (inl u) = let l = u .static in absurd (omega arith)
       dynamic last t (inr s) = one watched (omega arith) false s .1 (last, t)
 
       -- what an instance that was not watched would have shown, the dynamic one shows
-      missed : (x : ℕ) → x ≤ watched → (last : Last) → HitsFrom es ns p x last → Untouched n forms x ⊎ Searched rows p x n forms false
+      missed : (x : ℕ) → x ≤ watched → (last : Last) → HitsFrom local es ns p x last → Untouched n forms x ⊎ Searched local rows p x n forms false
           → false ≡ true
       missed x l last t (inl u) =
           let off : (k a : ℕ) → Is ns k (on-static a x) → ⊥ = λ k a i. let (b, e) = reads .has k (on-static a x) i in u .no-event k a b e in
-          dynamic last (t .0, hits-watched false es ns p x scope edges scoped (u .static) off (t .1)) (h watched (omega arith))
+          dynamic last (t .0, hits-watched local es ns p x scope edges scoped (u .static) off (t .1)) (h watched (omega arith))
       missed x l last t (inr s) = one x l false s .1 (last, t)
 
   -- some trace leaves the policy open and not respected exactly if the answer is yes
-  pub broken-exact : (scope : ℕ → ℕ → Type 0) → Scoped ns scope → (answer : Bool) → SearchedAll rows p n forms answer
-      → Decides answer (Leaves false es ns p)
+  pub broken-exact : (scope : ℕ → ℕ → Type 0) → Scoped ns scope → (answer : Bool) → SearchedAll local rows p n forms answer
+      → Decides answer (Leaves local es ns p)
   broken-exact scope scoped answer h =
-      let e = exact false es ns scope p edges scoped in
+      let e = exact local es ns scope p edges scoped in
       d-map (searched-all scope scoped answer h) (λ t. e .1 (t .0, t .1, t .3 .0, t .2, t .3 .1))
       (λ l. let (x, small, n, last, k) = e .0 l in (x, small, last, (n, k)))

@@ -11,7 +11,7 @@ use lib.ListN.{getD}
 use Rattle.usage.specs.Limits.{states}
 use Rattle.usage.specs.Outline.{Form, end, on-static, on-name, sequence, choice, loop, back, fresh, sandbox}
 use Rattle.automaton.specs.Mask.{has, union}
-use Rattle.checker_account.specs.Tables.{made, base, kept, Rows, endsBy, over, joinedAt, meanings}
+use Rattle.checker_account.specs.Tables.{made, base, kept, Rows, Resets, never, opening-of, insideEnds, endsBy, over, joinedAt, meanings}
 use Rattle.checker_account.specs.Rounds.{
   Forms,
   Derived,
@@ -44,67 +44,67 @@ module _ (t : List ℕ) (i : ℕ) (f : ℕ → ℕ) where
   each-same g h =
       repeat-same (λ q u. joinedAt u (i + q) (f q)) (λ q u. joinedAt u (i + q) (g q)) states (λ q u l. ap (joinedAt u (i + q)) (h q l)) t
 
-pub meaning-grows : (rows : Rows) (x k : ℕ) (f : Option Form) (m : ℕ) (t : List ℕ) → Grows t (settleMeaning rows x k f m t)
-meaning-grows rows x k f m t = each-grows t (base k m) (λ q. endsOf rows x t k m q f)
+pub meaning-grows : (rows : Rows) (x : ℕ) (resets : Resets) (k : ℕ) (f : Option Form) (m : ℕ) (t : List ℕ) → Grows t (settleMeaning rows x resets k f m t)
+meaning-grows rows x resets k f m t = each-grows t (base k m) (λ q. endsOf rows x resets t k m q f)
 
-pub node-grows : (rows : Rows) (x l k : ℕ) (f : Option Form) (t : List ℕ) → Grows t (settleNode rows x l k f t)
+pub node-grows : (rows : Rows) (x : ℕ) (resets : Resets) (l k : ℕ) (f : Option Form) (t : List ℕ) → Grows t (settleNode rows x resets l k f t)
 unfolding settleNode
-node-grows rows x l k f t =
-    repeat-grows (λ i. settleMeaning rows x k f (l + i)) (λ i. meaning-grows rows x k f (l + i)) (meanings - l) t
+node-grows rows x resets l k f t =
+    repeat-grows (λ i. settleMeaning rows x resets k f (l + i)) (λ i. meaning-grows rows x resets k f (l + i)) (meanings - l) t
 
-pub round-grows : (rows : Rows) (x l n : ℕ) (forms : Forms) (t : List ℕ) → Grows t (settleRound rows x l n forms t)
+pub round-grows : (rows : Rows) (x : ℕ) (resets : Resets) (l n : ℕ) (forms : Forms) (t : List ℕ) → Grows t (settleRound rows x resets l n forms t)
 unfolding settleRound
-round-grows rows x l n forms t =
-    repeat-grows (λ i. settleNode rows x l (n - 1 - i) (forms (n - 1 - i))) (λ i. node-grows rows x l (n - 1 - i) (forms (n - 1 - i))) n t
+round-grows rows x resets l n forms t =
+    repeat-grows (λ i. settleNode rows x resets l (n - 1 - i) (forms (n - 1 - i))) (λ i. node-grows rows x resets l (n - 1 - i) (forms (n - 1 - i))) n t
 
 -- ── They derive, and where a round changes nothing, no rule adds anything ──
 
 -- one start of a node that settling leaves as it is
-pub node-closed : (rows : Rows) (x l k : ℕ) (f : Option Form) (t : List ℕ) → settleNode rows x l k f t ≡ t → (m q : ℕ) → l ≤ m
+pub node-closed : (rows : Rows) (x : ℕ) (resets : Resets) (l k : ℕ) (f : Option Form) (t : List ℕ) → settleNode rows x resets l k f t ≡ t → (m q : ℕ) → l ≤ m
     → m < meanings
-    → q < states → joinedAt t (base k m + q) (endsOf rows x t k m q f) ≡ t
+    → q < states → joinedAt t (base k m + q) (endsOf rows x resets t k m q f) ≡ t
 unfolding settleNode
-node-closed rows x l k f t still m q low high lq =
+node-closed rows x resets l k f t still m q low high lq =
     let e : l + (m - l) ≡ m = omega arith in
-    each-still t (base k m) (λ q. endsOf rows x t k m q f)
-    (subst (λ (j : ℕ). settleMeaning rows x k f j t ≡ t) e
-    (repeat-still (λ i. settleMeaning rows x k f (l + i)) (λ i. meaning-grows rows x k f (l + i)) (meanings - l) t still (m - l)
+    each-still t (base k m) (λ q. endsOf rows x resets t k m q f)
+    (subst (λ (j : ℕ). settleMeaning rows x resets k f j t ≡ t) e
+    (repeat-still (λ i. settleMeaning rows x resets k f (l + i)) (λ i. meaning-grows rows x resets k f (l + i)) (meanings - l) t still (m - l)
     (omega arith))) q lq
 
-module _ (rows : Rows) (x l n : ℕ) (forms : Forms) where
+module _ (rows : Rows) (x : ℕ) (resets : Resets) (l n : ℕ) (forms : Forms) where
   module _ (t₀ : List ℕ) where
     abbrev Made : List ℕ → Type 0
-    Made = Derived (EndsRule rows x l n forms) t₀
+    Made = Derived (EndsRule rows x resets l n forms) t₀
 
-    meaning-derived : (k m : ℕ) (t : List ℕ) → k < n → l ≤ m → m < meanings → Made t → Made (settleMeaning rows x k (forms k) m t)
+    meaning-derived : (k m : ℕ) (t : List ℕ) → k < n → l ≤ m → m < meanings → Made t → Made (settleMeaning rows x resets k (forms k) m t)
     unfolding joinedEach
     meaning-derived k m t b low high d =
-        repeat-keeps Made (λ q u. joinedAt u (base k m + q) (endsOf rows x t k m q (forms k))) states
+        repeat-keeps Made (λ q u. joinedAt u (base k m + q) (endsOf rows x resets t k m q (forms k))) states
         (λ q u h e. joins e d (ends-of k m q b low high h)) t d
 
-    pub node-derived : (k : ℕ) (t : List ℕ) → k < n → Made t → Made (settleNode rows x l k (forms k) t)
+    pub node-derived : (k : ℕ) (t : List ℕ) → k < n → Made t → Made (settleNode rows x resets l k (forms k) t)
     unfolding settleNode
     node-derived k t b d =
-        repeat-keeps Made (λ i. settleMeaning rows x k (forms k) (l + i)) (meanings - l)
+        repeat-keeps Made (λ i. settleMeaning rows x resets k (forms k) (l + i)) (meanings - l)
         (λ i t h d. meaning-derived k (l + i) t b (omega arith) (omega arith) d) t d
 
-    pub round-derived : (t : List ℕ) → Made t → Made (settleRound rows x l n forms t)
+    pub round-derived : (t : List ℕ) → Made t → Made (settleRound rows x resets l n forms t)
     unfolding settleRound
     round-derived t d =
-        repeat-keeps Made (λ i. settleNode rows x l (n - 1 - i) (forms (n - 1 - i))) n
+        repeat-keeps Made (λ i. settleNode rows x resets l (n - 1 - i) (forms (n - 1 - i))) n
         (λ i t h d. node-derived (n - 1 - i) t (omega arith) d) t d
 
-  module _ (t : List ℕ) (still : settleRound rows x l n forms t ≡ t) where
-    node-still : (k : ℕ) → k < n → settleNode rows x l k (forms k) t ≡ t
+  module _ (t : List ℕ) (still : settleRound rows x resets l n forms t ≡ t) where
+    node-still : (k : ℕ) → k < n → settleNode rows x resets l k (forms k) t ≡ t
     unfolding settleRound
     node-still k b =
         let e : n - 1 - (n - 1 - k) ≡ k = omega arith in
-        subst (λ (j : ℕ). settleNode rows x l j (forms j) t ≡ t) e
-        (repeat-still (λ i. settleNode rows x l (n - 1 - i) (forms (n - 1 - i)))
-        (λ i. node-grows rows x l (n - 1 - i) (forms (n - 1 - i))) n t still (n - 1 - k) (omega arith))
+        subst (λ (j : ℕ). settleNode rows x resets l j (forms j) t ≡ t) e
+        (repeat-still (λ i. settleNode rows x resets l (n - 1 - i) (forms (n - 1 - i)))
+        (λ i. node-grows rows x resets l (n - 1 - i) (forms (n - 1 - i))) n t still (n - 1 - k) (omega arith))
 
-    pub round-closed : (i v : ℕ) → EndsRule rows x l n forms t i v → joinedAt t i v ≡ t
-    round-closed i v (ends-of k m q b low high lq) = node-closed rows x l k (forms k) t (node-still k b) m q low high lq
+    pub round-closed : (i v : ℕ) → EndsRule rows x resets l n forms t i v → joinedAt t i v ≡ t
+    round-closed i v (ends-of k m q b low high lq) = node-closed rows x resets l k (forms k) t (node-still k b) m q low high lq
 
 -- ── The entries stay within 16 bits ──
 
@@ -133,8 +133,21 @@ pub joined-wide : (t : List ℕ) (i v : ℕ) → v < 65536 → Wide t → Wide (
 unfolding joinedAt
 joined-wide t i v small wide = set-wide t i (bitOr (getD t i 0) v) (or-lt 16 (getD t i 0) v (wide i) small) wide
 
-module _ (rows : Rows) (x : ℕ) where
-  ends-lt : (t : List ℕ) (k m q : ℕ) (f : Option Form) → Wide t → endsOf rows x t k m q f < 65536
+-- so are those of the table that is lent where p is open
+abbrev pub WideLent : Resets → Type 0
+WideLent never = Unit {0}
+WideLent (opening-of p opened) = Wide opened
+
+inside-lt : (resets : Resets) → WideLent resets → (t : List ℕ) (s b m q : ℕ) → Wide t → insideEnds resets t s b m q < 65536
+inside-lt never wide t s b m q w = w _
+inside-lt (opening-of p opened) wide t s b m q w = go (eqb s p)
+  where
+    go : (d : Bool) → cond d (getD opened (base b m + 0) 0) (getD t (base b m + q) 0) < 65536
+    go true = wide _
+    go false = w _
+
+module _ (rows : Rows) (x : ℕ) (resets : Resets) (lent : WideLent resets) where
+  ends-lt : (t : List ℕ) (k m q : ℕ) (f : Option Form) → Wide t → endsOf rows x resets t k m q f < 65536
   unfolding endsBy
   ends-lt t k m q none w = lit< tt
   ends-lt t k m q (some end) w = kept-lt m (2 ^ q)
@@ -145,21 +158,21 @@ module _ (rows : Rows) (x : ℕ) where
   ends-lt t k m q (some (loop a)) w = w _
   ends-lt t k m q (some (back a)) w = w _
   ends-lt t k m q (some (fresh n b)) w = or-lt 16 _ _ (over-lt _ _ (λ j. w _)) (cond-lt (made m) _ (over-lt _ _ (λ j. w _)))
-  ends-lt t k m q (some (sandbox s b)) w = w _
+  ends-lt t k m q (some (sandbox s b)) w = inside-lt resets lent t s b m q w
 
-  meaning-wide : (k : ℕ) (f : Option Form) (m : ℕ) (t : List ℕ) → Wide t → Wide (settleMeaning rows x k f m t)
+  meaning-wide : (k : ℕ) (f : Option Form) (m : ℕ) (t : List ℕ) → Wide t → Wide (settleMeaning rows x resets k f m t)
   unfolding joinedEach
   meaning-wide k f m t w =
-      repeat-keeps Wide (λ q u. joinedAt u (base k m + q) (endsOf rows x t k m q f)) states
-      (λ q u l v. joined-wide u (base k m + q) (endsOf rows x t k m q f) (ends-lt t k m q f w) v) t w
+      repeat-keeps Wide (λ q u. joinedAt u (base k m + q) (endsOf rows x resets t k m q f)) states
+      (λ q u l v. joined-wide u (base k m + q) (endsOf rows x resets t k m q f) (ends-lt t k m q f w) v) t w
 
-  pub node-wide : (l k : ℕ) (f : Option Form) (t : List ℕ) → Wide t → Wide (settleNode rows x l k f t)
+  pub node-wide : (l k : ℕ) (f : Option Form) (t : List ℕ) → Wide t → Wide (settleNode rows x resets l k f t)
   unfolding settleNode
   node-wide l k f t w =
-      repeat-keeps Wide (λ i. settleMeaning rows x k f (l + i)) (meanings - l) (λ i t h w. meaning-wide k f (l + i) t w) t w
+      repeat-keeps Wide (λ i. settleMeaning rows x resets k f (l + i)) (meanings - l) (λ i t h w. meaning-wide k f (l + i) t w) t w
 
-  pub round-wide : (l n : ℕ) (forms : Forms) (t : List ℕ) → Wide t → Wide (settleRound rows x l n forms t)
+  pub round-wide : (l n : ℕ) (forms : Forms) (t : List ℕ) → Wide t → Wide (settleRound rows x resets l n forms t)
   unfolding settleRound
   round-wide l n forms t w =
-      repeat-keeps Wide (λ i. settleNode rows x l (n - 1 - i) (forms (n - 1 - i))) n
+      repeat-keeps Wide (λ i. settleNode rows x resets l (n - 1 - i) (forms (n - 1 - i))) n
       (λ i t h w. node-wide l (n - 1 - i) (forms (n - 1 - i)) t w) t w

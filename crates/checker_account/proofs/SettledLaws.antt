@@ -7,7 +7,7 @@ use mathlib.Core.List.{List}
 use mathlib.Core.Logic.{_⊎_, inl, inr}
 use native.Mathlib.Omega.{arith}
 use native.Mathlib.Decide.{ℕ-discrete}
-use lib.Dec.{leb}
+use lib.Dec.{eqb, leb}
 use lib.Bits.{bitOr, or-self, or-comm}
 use lib.ListN.{length, getD, set}
 use lib.Seq.{getD-set-same, getD-set-other, set-out, set-getD}
@@ -26,6 +26,10 @@ use Rattle.checker_account.specs.Tables.{
   meaningAfter,
   forgotten,
   Rows,
+  Resets,
+  never,
+  opening-of,
+  insideEnds,
   endsBy,
   over,
   joinedAt,
@@ -173,94 +177,99 @@ module _ (k : ℕ) (t u : List ℕ) (same : Beside k t u) where
       (begun-same b (meaningAfter m true) (half true v) d (after-lt m true l)
       ∙ ap (λ (z : ℕ). begun u b (meaningAfter m true) (half true z)) e)
 
+  inside-same : (resets : Resets) (s b m q : ℕ) → (b ≡ k → ⊥) → m < meanings → q < states
+      → insideEnds resets t s b m q ≡ insideEnds resets u s b m q
+  inside-same never s b m q d l h = same b m q d l h
+  inside-same (opening-of p opened) s b m q d l h = ap (cond (eqb s p) (getD opened (base b m + 0) 0)) (same b m q d l h)
+
   -- a rule that does not read node k gives the same
-  pub ends-same : (rows : Rows) (x i m q : ℕ) (f : Option Form) → Named f → (Reads f k → ⊥) → m < meanings → q < states
-      → endsOf rows x t i m q f ≡ endsOf rows x u i m q f
+  pub ends-same : (rows : Rows) (x : ℕ) (resets : Resets) (i m q : ℕ) (f : Option Form) → Named f → (Reads f k → ⊥) → m < meanings → q < states
+      → endsOf rows x resets t i m q f ≡ endsOf rows x resets u i m q f
   unfolding endsBy
-  ends-same rows x i m q none s d l h = refl
-  ends-same rows x i m q (some end) s d l h = refl
-  ends-same rows x i m q (some (on-static a b)) s d l h = refl
-  ends-same rows x i m q (some (on-name a b)) s d l h = refl
-  ends-same rows x i m q (some (sequence a b)) s d l h =
+  ends-same rows x resets i m q none s d l h = refl
+  ends-same rows x resets i m q (some end) s d l h = refl
+  ends-same rows x resets i m q (some (on-static a b)) s d l h = refl
+  ends-same rows x resets i m q (some (on-name a b)) s d l h = refl
+  ends-same rows x resets i m q (some (sequence a b)) s d l h =
       second-same b m (getD t (base a m + q) 0) (getD u (base a m + q) 0) (λ e. d (subst (PartOf (sequence a b)) e second)) l
       (same a m q (λ e. d (subst (PartOf (sequence a b)) e first)) l h)
-  ends-same rows x i m q (some (choice a b)) s d l h =
+  ends-same rows x resets i m q (some (choice a b)) s d l h =
       ap₂ (λ (x y : ℕ). bitOr x y) (same a m q (λ e. d (subst (PartOf (choice a b)) e left)) l h)
       (same b m q (λ e. d (subst (PartOf (choice a b)) e right)) l h)
-  ends-same rows x i m q (some (loop a)) s d l h = same a m q (λ e. d (subst (PartOf (loop a)) e body)) l h
-  ends-same rows x i m q (some (back a)) s d l h = same a m q (λ e. d (subst (PartOf (back a)) e again)) l h
-  ends-same rows x i m q (some (fresh n b)) s d l h =
+  ends-same rows x resets i m q (some (loop a)) s d l h = same a m q (λ e. d (subst (PartOf (loop a)) e body)) l h
+  ends-same rows x resets i m q (some (back a)) s d l h = same a m q (λ e. d (subst (PartOf (back a)) e again)) l h
+  ends-same rows x resets i m q (some (fresh n b)) s d l h =
       let away : b ≡ k → ⊥ = λ e. d (subst (PartOf (fresh n b)) e given) in
       ap₂ (λ (x y : ℕ). bitOr x y) (begun-same b (forgotten m n) (rows i false q) away (forgotten-lt m n l))
       (ap (cond (made m) 0) (begun-same b (suc n) (rows i true q) away (omega arith)))
-  ends-same rows x i m q (some (sandbox a b)) s d l h = same b m q (λ e. d (subst (PartOf (sandbox a b)) e inside)) l h
+  ends-same rows x resets i m q (some (sandbox a b)) s d l h = inside-same resets a b m q (λ e. d (subst (PartOf (sandbox a b)) e inside)) l h
 
 -- ── A node, settled ──
 
 -- no rule adds anything to the entries of node k
-abbrev pub NodeClosed : Rows → ℕ → ℕ → ℕ → Option Form → List ℕ → Type 0
-NodeClosed rows x l k f t = (m q : ℕ) → l ≤ m → m < meanings → q < states → In (endsOf rows x t k m q f) t (base k m + q)
+abbrev pub NodeClosed : Rows → ℕ → Resets → ℕ → ℕ → Option Form → List ℕ → Type 0
+NodeClosed rows x resets l k f t = (m q : ℕ) → l ≤ m → m < meanings → q < states → In (endsOf rows x resets t k m q f) t (base k m + q)
 
-module _ (rows : Rows) (x l k : ℕ) (f : Option Form) where
-  meaning-beside : (t u : List ℕ) (m : ℕ) → m < meanings → Beside k u t → Beside k (settleMeaning rows x k f m u) t
+module _ (rows : Rows) (x : ℕ) (resets : Resets) (l k : ℕ) (f : Option Form) where
+  meaning-beside : (t u : List ℕ) (m : ℕ) → m < meanings → Beside k u t → Beside k (settleMeaning rows x resets k f m u) t
   unfolding joinedEach
   meaning-beside t u m high h =
-      repeat-keeps (λ w. Beside k w t) (λ q w. joinedAt w (base k m + q) (endsOf rows x u k m q f)) states
-      (λ q w b g j n p d c e. joined-other w (base k m + q) (endsOf rows x u k m q f) (base j n + p) (λ z. d (omega arith))
+      repeat-keeps (λ w. Beside k w t) (λ q w. joinedAt w (base k m + q) (endsOf rows x resets u k m q f)) states
+      (λ q w b g j n p d c e. joined-other w (base k m + q) (endsOf rows x resets u k m q f) (base j n + p) (λ z. d (omega arith))
       ∙ g j n p d c e) u h
 
   abbrev after : ℕ → List ℕ → List ℕ
-  after i t = repeat (λ i. settleMeaning rows x k f (l + i)) i t
+  after i t = repeat (λ i. settleMeaning rows x resets k f (l + i)) i t
 
   after-beside : (i : ℕ) (t : List ℕ) → l + i ≤ meanings → Beside k (after i t) t
   after-beside i t h =
-      repeat-keeps (λ u. Beside k u t) (λ i. settleMeaning rows x k f (l + i)) i (λ j u b g. meaning-beside t u (l + j) (omega arith) g) t
+      repeat-keeps (λ u. Beside k u t) (λ i. settleMeaning rows x resets k f (l + i)) i (λ j u b g. meaning-beside t u (l + j) (omega arith) g) t
       (λ j m q d c e. refl)
 
-  pub node-beside : (t : List ℕ) → l ≤ meanings → Beside k (settleNode rows x l k f t) t
+  pub node-beside : (t : List ℕ) → l ≤ meanings → Beside k (settleNode rows x resets l k f t) t
   unfolding settleNode
   node-beside t h = after-beside (meanings - l) t (omega arith)
 
   module _ (t : List ℕ) (len : length t ≡ places) (small : k < mostNodes) where
     after-length : (i : ℕ) → length (after i t) ≡ places
-    after-length i = repeat-grows (λ i. settleMeaning rows x k f (l + i)) (λ i. meaning-grows rows x k f (l + i)) i t .len ∙ len
+    after-length i = repeat-grows (λ i. settleMeaning rows x resets k f (l + i)) (λ i. meaning-grows rows x resets k f (l + i)) i t .len ∙ len
 
     -- the meanings that are settled, by the table as it was
     after-in : Named f → (Reads f k → ⊥) → (i : ℕ) → l + i ≤ meanings → (m q : ℕ) → l ≤ m → m < l + i → q < states
-        → In (endsOf rows x t k m q f) (after i t) (base k m + q)
+        → In (endsOf rows x resets t k m q f) (after i t) (base k m + q)
     unfolding repeat
     after-in s d zero h m q low high b = absurd (omega arith)
     after-in s d (suc i) h m q low high b =
         go (after i t) (after-length i) (after-beside i t (omega arith)) (λ c. after-in s d i (omega arith) m q low c b)
         (last-or-lower m (l + i) (omega arith))
       where
-        go : (u : List ℕ) → length u ≡ places → Beside k u t → (m < l + i → In (endsOf rows x t k m q f) u (base k m + q))
-            → (m ≡ l + i) ⊎ (m < l + i) → In (endsOf rows x t k m q f) (settleMeaning rows x k f (l + i) u) (base k m + q)
+        go : (u : List ℕ) → length u ≡ places → Beside k u t → (m < l + i → In (endsOf rows x resets t k m q f) u (base k m + q))
+            → (m ≡ l + i) ⊎ (m < l + i) → In (endsOf rows x resets t k m q f) (settleMeaning rows x resets k f (l + i) u) (base k m + q)
         go u lu same ih (inl e) =
-            subst (λ (n : ℕ). In (endsOf rows x t k n q f) (settleMeaning rows x k f (l + i) u) (base k n + q)) (sym e)
-            (subst (λ (v : ℕ). In v (settleMeaning rows x k f (l + i) u) (base k (l + i) + q))
-            (ends-same k u t same rows x k (l + i) q f s d (omega arith) b)
-            (each-in u (base k (l + i)) (λ q. endsOf rows x u k (l + i) q f) (omega arith) q b))
+            subst (λ (n : ℕ). In (endsOf rows x resets t k n q f) (settleMeaning rows x resets k f (l + i) u) (base k n + q)) (sym e)
+            (subst (λ (v : ℕ). In v (settleMeaning rows x resets k f (l + i) u) (base k (l + i) + q))
+            (ends-same k u t same rows x resets k (l + i) q f s d (omega arith) b)
+            (each-in u (base k (l + i)) (λ q. endsOf rows x resets u k (l + i) q f) (omega arith) q b))
         go u lu same ih (inr c) =
-            each-keeps u (base k (l + i)) (λ q. endsOf rows x u k (l + i) q f) (endsOf rows x t k m q f) (base k m + q) (ih c)
+            each-keeps u (base k (l + i)) (λ q. endsOf rows x resets u k (l + i) q f) (endsOf rows x resets t k m q f) (base k m + q) (ih c)
 
     -- a node that does not read itself is done
-    pub node-done : Named f → (Reads f k → ⊥) → l ≤ meanings → NodeClosed rows x l k f (settleNode rows x l k f t)
+    pub node-done : Named f → (Reads f k → ⊥) → l ≤ meanings → NodeClosed rows x resets l k f (settleNode rows x resets l k f t)
     unfolding settleNode
     node-done s d h m q low high b =
         subst (λ (v : ℕ). In v (after (meanings - l) t) (base k m + q))
-        (sym (ends-same k (after (meanings - l) t) t (after-beside (meanings - l) t (omega arith)) rows x k m q f s d high b))
+        (sym (ends-same k (after (meanings - l) t) t (after-beside (meanings - l) t (omega arith)) rows x resets k m q f s d high b))
         (after-in s d (meanings - l) (omega arith) m q low (omega arith) b)
 
     -- and so is one that settling leaves as it is
-    pub node-unchanged : settleNode rows x l k f t ≡ t → NodeClosed rows x l k f t
+    pub node-unchanged : settleNode rows x resets l k f t ≡ t → NodeClosed rows x resets l k f t
     node-unchanged e m q low high b =
-        still-in t (base k m + q) (endsOf rows x t k m q f) (omega arith) (node-closed rows x l k f t e m q low high b)
+        still-in t (base k m + q) (endsOf rows x resets t k m q f) (omega arith) (node-closed rows x resets l k f t e m q low high b)
 
 -- another node, which does not read the one that was settled, is as before
-pub node-kept : (rows : Rows) (x l k j : ℕ) (f : Option Form) (t u : List ℕ) → Beside k u t → (j ≡ k → ⊥) → Named f → (Reads f k → ⊥)
-    → NodeClosed rows x l j f t → NodeClosed rows x l j f u
-node-kept rows x l k j f t u same d s r closed m q low high b =
+pub node-kept : (rows : Rows) (x : ℕ) (resets : Resets) (l k j : ℕ) (f : Option Form) (t u : List ℕ) → Beside k u t → (j ≡ k → ⊥) → Named f → (Reads f k → ⊥)
+    → NodeClosed rows x resets l j f t → NodeClosed rows x resets l j f u
+node-kept rows x resets l k j f t u same d s r closed m q low high b =
     let e = same j m q d high b in
-    let v = ends-same k u t same rows x j m q f s r high b in
+    let v = ends-same k u t same rows x resets j m q f s r high b in
     ap₂ (λ (y z : ℕ). bitOr y z) e v ∙ closed m q low high b ∙ sym e

@@ -15,7 +15,7 @@ use Rattle.usage.specs.Outline.{Form, Is, on-static, on-name, sequence, choice,
 use Rattle.automaton.specs.Mask.{has, offends}
 use Rattle.checker_account.specs.Witness.{watched, others, noName, Ends, Comes, Last, Hits}
 use Rattle.checker_account.specs.Tables.{meanings, least, nameOf, made, at, half, base, Rows, endsBy, place, Arrival, arrivals}
-use Rattle.checker_account.specs.Tables.{leaves, lastOf}
+use Rattle.checker_account.specs.Tables.{leaves, lastOf, Resets, never, opening-of}
 
 -- the meanings that occur where x is watched
 pub record Start (x m : ℕ) : Type 0 where
@@ -49,47 +49,52 @@ pub record TargetsOk (ns : List Node) : Type 0 where
   pub fresh : {k n b : ℕ} → Is ns k (fresh n b) → b < mostNodes
   pub sandbox : {k s b : ℕ} → Is ns k (sandbox s b) → b < mostNodes
 
--- the account, the number of steps forgotten; where the whole past counts, ends do not depend on whether p is open
-abbrev pub EndsFrom : List Edge → List Node → ℕ → ℕ → ℕ → ℕ → Bool → ℕ → Bool → ℕ → Type 0
-EndsFrom es ns p x k w c q c′ q′ = (n : ℕ) × Ends false es ns p x n false k w c q c′ q′
+-- the account, the number of steps forgotten
+abbrev pub EndsFrom : Bool → List Edge → List Node → ℕ → ℕ → Bool → ℕ → ℕ → Bool → ℕ → Bool → ℕ → Type 0
+EndsFrom local es ns p x o k w c q c′ q′ = (n : ℕ) × Ends local es ns p x n o k w c q c′ q′
 
-abbrev pub ComesFrom : List Edge → List Node → ℕ → ℕ → Bool → ℕ → ℕ → Bool → ℕ → Type 0
-ComesFrom es ns p x o k w c q = (n : ℕ) × Comes false es ns p x n o k w c q
+abbrev pub ComesFrom : Bool → List Edge → List Node → ℕ → ℕ → Bool → ℕ → ℕ → Bool → ℕ → Type 0
+ComesFrom local es ns p x o k w c q = (n : ℕ) × Comes local es ns p x n o k w c q
 
-abbrev pub HitsFrom : List Edge → List Node → ℕ → ℕ → Last → Type 0
-HitsFrom es ns p x last = (n : ℕ) × Hits false es ns p x n last
+abbrev pub HitsFrom : Bool → List Edge → List Node → ℕ → ℕ → Last → Type 0
+HitsFrom local es ns p x last = (n : ℕ) × Hits local es ns p x n last
 
--- node k, begun in (m, q), can end in (c, q′): by the definitions, and by the table
-abbrev pub EndsAt : List Edge → List Node → ℕ → ℕ → ℕ → ℕ → ℕ → Bool → ℕ → Type 0
-EndsAt es ns p x k m q c q′ = EndsFrom es ns p x k (nameOf m) (made m) q c q′
+-- node k, begun in (m, q) where p is open or not, as o says, can end in (c, q′): by the definitions, and by the table for o
+abbrev pub EndsAt : Bool → List Edge → List Node → ℕ → ℕ → Bool → ℕ → ℕ → ℕ → Bool → ℕ → Type 0
+EndsAt local es ns p x o k m q c q′ = EndsFrom local es ns p x o k (nameOf m) (made m) q c q′
 
 abbrev pub HasEnd : List ℕ → ℕ → ℕ → ℕ → Bool → ℕ → Type 0
 HasEnd t k m q c q′ = has (getD t (base k m + q) 0) (at c q′) ≡ true
 
 -- each end in the table is one
-abbrev pub SoundEnds : List Edge → List Node → ℕ → ℕ → List ℕ → Type 0
-SoundEnds es ns p x t =
-    (k m q : ℕ) (c : Bool) (q′ : ℕ) → Start x m → q < states → q′ < states → HasEnd t k m q c q′ → EndsAt es ns p x k m q c q′
+abbrev pub SoundEnds : Bool → List Edge → List Node → ℕ → ℕ → Bool → List ℕ → Type 0
+SoundEnds local es ns p x o t =
+    (k m q : ℕ) (c : Bool) (q′ : ℕ) → Start x m → q < states → q′ < states → HasEnd t k m q c q′ → EndsAt local es ns p x o k m q c q′
 
 -- the rules add nothing to the table
-abbrev pub ClosedEnds : List Node → ℕ → Rows → List ℕ → Type 0
-ClosedEnds ns x rows t = (k m q : ℕ) (f : Form) → Is ns k f → Start x m → q < states → (c : Bool) (q′ : ℕ) → q′ < states
-    → has (endsBy rows x t k m q f) (at c q′) ≡ true → HasEnd t k m q c q′
+abbrev pub ClosedEnds : List Node → ℕ → Rows → Resets → List ℕ → Type 0
+ClosedEnds ns x rows resets t = (k m q : ℕ) (f : Form) → Is ns k f → Start x m → q < states → (c : Bool) (q′ : ℕ) → q′ < states
+    → has (endsBy rows x resets t k m q f) (at c q′) ≡ true → HasEnd t k m q c q′
 
 -- the table of ends holds exactly the ends
-pub record HoldsEnds (es : List Edge) (ns : List Node) (p x : ℕ) (t : List ℕ) : Type 0 where
-  pub sound : SoundEnds es ns p x t
-  pub full : (k m q : ℕ) (c : Bool) (q′ : ℕ) → Start x m → q < states → EndsAt es ns p x k m q c q′ → (q′ < states) × HasEnd t k m q c q′
+pub record HoldsEnds (local : Bool) (es : List Edge) (ns : List Node) (p x : ℕ) (o : Bool) (t : List ℕ) : Type 0 where
+  pub sound : SoundEnds local es ns p x o t
+  pub full : (k m q : ℕ) (c : Bool) (q′ : ℕ) → Start x m → q < states → EndsAt local es ns p x o k m q c q′ → (q′ < states) × HasEnd t k m q c q′
+
+-- what openings reset, where p is open or not
+pub data ResetsOk (es : List Edge) (ns : List Node) (p x : ℕ) : Bool → Bool → Resets → Type 0 where
+  where-open : {local : Bool} → ResetsOk es ns p x local true never
+  where-not : {opened : List ℕ} → HoldsEnds true es ns p x true opened → ResetsOk es ns p x true false (opening-of p opened)
 
 -- node k is come to in (m, q), p being open or not: by the definitions, and by the table
-abbrev pub ComesAt : List Edge → List Node → ℕ → ℕ → ℕ → Bool → ℕ → ℕ → Type 0
-ComesAt es ns p x k o m q = ComesFrom es ns p x o k (nameOf m) (made m) q
+abbrev pub ComesAt : Bool → List Edge → List Node → ℕ → ℕ → ℕ → Bool → ℕ → ℕ → Type 0
+ComesAt local es ns p x k o m q = ComesFrom local es ns p x o k (nameOf m) (made m) q
 
 abbrev pub HasCome : List ℕ → ℕ → Bool → ℕ → ℕ → Type 0
 HasCome u k o m q = has (getD u (place k o m) 0) q ≡ true
 
-abbrev pub SoundComes : List Edge → List Node → ℕ → ℕ → List ℕ → Type 0
-SoundComes es ns p x u = (k : ℕ) (o : Bool) (m q : ℕ) → Start x m → q < states → HasCome u k o m q → ComesAt es ns p x k o m q
+abbrev pub SoundComes : Bool → List Edge → List Node → ℕ → ℕ → List ℕ → Type 0
+SoundComes local es ns p x u = (k : ℕ) (o : Bool) (m q : ℕ) → Start x m → q < states → HasCome u k o m q → ComesAt local es ns p x k o m q
 
 -- P holds of each arrival
 abbrev pub Each : (Arrival → Type 0) → List Arrival → Type 0
@@ -100,10 +105,10 @@ abbrev pub Entered : List ℕ → Arrival → Type 0
 Entered u g = (q : ℕ) → q < states → has (g .states) q ≡ true → HasCome u (g .to) (g .is-open) (g .meaning) q
 
 -- the start is in the table, and the rules add nothing to it
-pub record ClosedComes (ns : List Node) (p x : ℕ) (rows : Rows) (t u : List ℕ) : Type 0 where
+pub record ClosedComes (local : Bool) (ns : List Node) (p x : ℕ) (rows : Rows) (t : Bool → List ℕ) (u : List ℕ) : Type 0 where
   pub begun : HasCome u 0 false (least x) 0
   pub step : (k : ℕ) (o : Bool) (m : ℕ) (f : Form) → Is ns k f → Start x m
-      → Each (Entered u) (arrivals rows p t k o m (getD u (place k o m) 0) f)
+      → Each (Entered u) (arrivals local rows p t k o m (getD u (place k o m) 0) f)
 
 -- a start of a node that the account tells by (w, c), in the table
 pub record Come (x : ℕ) (u : List ℕ) (o : Bool) (k w : ℕ) (c : Bool) (q : ℕ) : Type 0 where
@@ -115,16 +120,16 @@ pub record Come (x : ℕ) (u : List ℕ) (o : Bool) (k w : ℕ) (c : Bool) (q : 
   pub entered : HasCome u k o meaning q
 
 -- the table holds exactly what is come to
-pub record HoldsComes (es : List Edge) (ns : List Node) (p x : ℕ) (u : List ℕ) : Type 0 where
-  pub sound : SoundComes es ns p x u
-  pub full : {n : ℕ} {o : Bool} {k w : ℕ} {c : Bool} {q : ℕ} → Comes false es ns p x n o k w c q → Come x u o k w c q
+pub record HoldsComes (local : Bool) (es : List Edge) (ns : List Node) (p x : ℕ) (u : List ℕ) : Type 0 where
+  pub sound : SoundComes local es ns p x u
+  pub full : {n : ℕ} {o : Bool} {k w : ℕ} {c : Bool} {q : ℕ} → Comes local es ns p x n o k w c q → Come x u o k w c q
 
 -- A node whose step, the last one, leaves p open with an offending state, by the table of what is come to.
-pub record Struck (ns : List Node) (p x : ℕ) (rows : Rows) (u : List ℕ) (last : Last) : Type 0 where
+pub record Struck (local : Bool) (ns : List Node) (p x : ℕ) (rows : Rows) (u : List ℕ) (last : Last) : Type 0 where
   pub node : ℕ
   pub meaning : ℕ
   pub form : Form
   pub is : Is ns node form
   pub start : Start x meaning
   pub step : lastOf form ≡ some last
-  pub offending : offends (half false (leaves rows p x u node meaning form)) ≡ true
+  pub offending : offends (half false (leaves local rows p x u node meaning form)) ≡ true

@@ -16,7 +16,7 @@ use Rattle.usage.specs.Tests.{someBelow}
 use Rattle.checker_account.specs.Witness.{watched}
 use Rattle.automaton.specs.Mask.{offends}
 use Rattle.checker_account.specs.Tables.{joinedAt, meanings, places, least, half, base, Rows, endsBy, place, Arrival, arrivals}
-use Rattle.checker_account.specs.Tables.{leaves}
+use Rattle.checker_account.specs.Tables.{leaves, Resets, never, opening-of}
 
 -- f 0, then f 1, …, then f (n - 1)
 unfoldable pub repeat : (ℕ → List ℕ → List ℕ) → ℕ → List ℕ → List ℕ
@@ -66,27 +66,37 @@ pub record Filled (Rule : List ℕ → ℕ → ℕ → Type 0) (t₀ t : List �
 -- ── The table of ends ──
 
 -- a node of no known kind has no end
-abbrev pub endsOf : Rows → ℕ → List ℕ → ℕ → ℕ → ℕ → Option Form → ℕ
-endsOf rows x t k m q none = 0
-endsOf rows x t k m q (some f) = endsBy rows x t k m q f
+abbrev pub endsOf : Rows → ℕ → Resets → List ℕ → ℕ → ℕ → ℕ → Option Form → ℕ
+endsOf rows x resets t k m q none = 0
+endsOf rows x resets t k m q (some f) = endsBy rows x resets t k m q f
 
 -- its rules: what each of n nodes ends in, from each start with a meaning from l on
-pub data EndsRule (rows : Rows) (x l n : ℕ) (forms : Forms) (t : List ℕ) : ℕ → ℕ → Type 0 where
+pub data EndsRule (rows : Rows) (x : ℕ) (resets : Resets) (l n : ℕ) (forms : Forms) (t : List ℕ) : ℕ → ℕ → Type 0 where
   ends-of : (k m q : ℕ) → k < n → l ≤ m → m < meanings → q < states
-      → EndsRule rows x l n forms t (base k m + q) (endsOf rows x t k m q (forms k))
+      → EndsRule rows x resets l n forms t (base k m + q) (endsOf rows x resets t k m q (forms k))
 
 -- the eight starts of node k with meaning m, each by the table as it was
-abbrev pub settleMeaning : Rows → ℕ → ℕ → Option Form → ℕ → List ℕ → List ℕ
-settleMeaning rows x k f m t = joinedEach t (base k m) (λ q. endsOf rows x t k m q f)
+abbrev pub settleMeaning : Rows → ℕ → Resets → ℕ → Option Form → ℕ → List ℕ → List ℕ
+settleMeaning rows x resets k f m t = joinedEach t (base k m) (λ q. endsOf rows x resets t k m q f)
 
 -- the starts of node k with a meaning from l on
-unfoldable pub settleNode : Rows → ℕ → ℕ → ℕ → Option Form → List ℕ → List ℕ
-settleNode rows x l k f t = repeat (λ i. settleMeaning rows x k f (l + i)) (meanings - l) t
+unfoldable pub settleNode : Rows → ℕ → Resets → ℕ → ℕ → Option Form → List ℕ → List ℕ
+settleNode rows x resets l k f t = repeat (λ i. settleMeaning rows x resets k f (l + i)) (meanings - l) t
 
 -- all of n nodes, from the highest to the lowest, since a child has a greater number than its parent: one order in which the table can be
 -- filled, by which cases are computed
-unfoldable pub settleRound : Rows → ℕ → ℕ → ℕ → Forms → List ℕ → List ℕ
-settleRound rows x l n forms t = repeat (λ i. settleNode rows x l (n - 1 - i) (forms (n - 1 - i))) n t
+unfoldable pub settleRound : Rows → ℕ → Resets → ℕ → ℕ → Forms → List ℕ → List ℕ
+settleRound rows x resets l n forms t = repeat (λ i. settleNode rows x resets l (n - 1 - i) (forms (n - 1 - i))) n t
+
+-- The two tables of ends. Where p is open, no opening resets it, whichever past counts. Where it is not, the whole past still knows no reset
+-- and has the same ends; under the local meaning they are filled by the first table.
+abbrev pub ShutFilled : Bool → Rows → ℕ → ℕ → ℕ → Forms → List ℕ → List ℕ → Type 0
+ShutFilled false rows p x n forms opened t = t ≡ opened
+ShutFilled true rows p x n forms opened t = Filled (EndsRule rows x (opening-of p opened) (least x) n forms) (replicate places 0) t
+
+pub record EndsFilled (local : Bool) (rows : Rows) (p x n : ℕ) (forms : Forms) (t : Bool → List ℕ) : Type 0 where
+  pub opened-filled : Filled (EndsRule rows x never (least x) n forms) (replicate places 0) (t true)
+  pub shut-filled : ShutFilled local rows p x n forms (t true) (t false)
 
 -- ── The table of what is come to ──
 
@@ -95,30 +105,30 @@ unfoldable pub entered : List Arrival → List ℕ → List ℕ
 entered [] u = u
 entered (g ∷ gs) u = entered gs (joinedAt u (place (g .to) (g .is-open) (g .meaning)) (g .states))
 
-abbrev pub arrivalsOf : Rows → ℕ → List ℕ → ℕ → Bool → ℕ → ℕ → Option Form → List Arrival
-arrivalsOf rows p t k o m v none = []
-arrivalsOf rows p t k o m v (some f) = arrivals rows p t k o m v f
+abbrev pub arrivalsOf : Bool → Rows → ℕ → (Bool → List ℕ) → ℕ → Bool → ℕ → ℕ → Option Form → List Arrival
+arrivalsOf local rows p t k o m v none = []
+arrivalsOf local rows p t k o m v (some f) = arrivals local rows p t k o m v f
 
 -- its rules: what each of n nodes, come to with a meaning from l on, leads to
-pub data ComesRule (rows : Rows) (p : ℕ) (t : List ℕ) (l n : ℕ) (forms : Forms) (u : List ℕ) : ℕ → ℕ → Type 0 where
+pub data ComesRule (local : Bool) (rows : Rows) (p : ℕ) (t : Bool → List ℕ) (l n : ℕ) (forms : Forms) (u : List ℕ) : ℕ → ℕ → Type 0 where
   leads-to : (k : ℕ) (o : Bool) (m : ℕ) (g : Arrival) → k < n → l ≤ m → m < meanings
-      → List·Memᴰ g (arrivalsOf rows p t k o m (getD u (place k o m) 0) (forms k))
-      → ComesRule rows p t l n forms u (place (g .to) (g .is-open) (g .meaning)) (g .states)
+      → List·Memᴰ g (arrivalsOf local rows p t k o m (getD u (place k o m) 0) (forms k))
+      → ComesRule local rows p t l n forms u (place (g .to) (g .is-open) (g .meaning)) (g .states)
 
 -- what node k, come to with o and m, leads to
-abbrev pub pass : Rows → ℕ → List ℕ → ℕ → Option Form → Bool → ℕ → List ℕ → List ℕ
-pass rows p t k f o m u = entered (arrivalsOf rows p t k o m (getD u (place k o m) 0) f) u
+abbrev pub pass : Bool → Rows → ℕ → (Bool → List ℕ) → ℕ → Option Form → Bool → ℕ → List ℕ → List ℕ
+pass local rows p t k f o m u = entered (arrivalsOf local rows p t k o m (getD u (place k o m) 0) f) u
 
 -- with every meaning from l on, p being open or not
 abbrev pub odd : ℕ → Bool
 odd i = eqb (i % 2) 1
 
-unfoldable pub passNode : Rows → ℕ → List ℕ → ℕ → ℕ → Option Form → List ℕ → List ℕ
-passNode rows p t l k f u = repeat (λ i. pass rows p t k f (odd i) (l + i / 2)) (2 * (meanings - l)) u
+unfoldable pub passNode : Bool → Rows → ℕ → (Bool → List ℕ) → ℕ → ℕ → Option Form → List ℕ → List ℕ
+passNode local rows p t l k f u = repeat (λ i. pass local rows p t k f (odd i) (l + i / 2)) (2 * (meanings - l)) u
 
 -- all of n nodes, from the lowest to the highest: what is come to goes from a parent to its children
-unfoldable pub passRound : Rows → ℕ → List ℕ → ℕ → ℕ → Forms → List ℕ → List ℕ
-passRound rows p t l n forms u = repeat (λ k. passNode rows p t l k (forms k)) n u
+unfoldable pub passRound : Bool → Rows → ℕ → (Bool → List ℕ) → ℕ → ℕ → Forms → List ℕ → List ℕ
+passRound local rows p t l n forms u = repeat (λ k. passNode local rows p t l k (forms k)) n u
 
 -- at first node 0 alone is come to, in state 0, no policy being open
 abbrev pub begins : ℕ → List ℕ
@@ -126,25 +136,25 @@ begins l = joinedAt (replicate places 0) l 1
 
 -- ── The search ──
 
-abbrev pub leavesOf : Rows → ℕ → ℕ → List ℕ → ℕ → ℕ → Option Form → ℕ
-leavesOf rows p x u k m none = 0
-leavesOf rows p x u k m (some f) = leaves rows p x u k m f
+abbrev pub leavesOf : Bool → Rows → ℕ → ℕ → List ℕ → ℕ → ℕ → Option Form → ℕ
+leavesOf local rows p x u k m none = 0
+leavesOf local rows p x u k m (some f) = leaves local rows p x u k m f
 
 -- the step of node k, with some meaning from l on, leaves an offending state
-unfoldable pub hitNode : Rows → ℕ → ℕ → List ℕ → ℕ → ℕ → Option Form → Bool
-hitNode rows p x u l k f = someBelow (λ i. offends (half false (leavesOf rows p x u k (l + i) f))) (meanings - l)
+unfoldable pub hitNode : Bool → Rows → ℕ → ℕ → List ℕ → ℕ → ℕ → Option Form → Bool
+hitNode local rows p x u l k f = someBelow (λ i. offends (half false (leavesOf local rows p x u k (l + i) f))) (meanings - l)
 
 -- that of some of n nodes does
-unfoldable pub hitAny : Rows → ℕ → ℕ → List ℕ → ℕ → ℕ → Forms → Bool
-hitAny rows p x u l n forms = someBelow (λ k. hitNode rows p x u l k (forms k)) n
+unfoldable pub hitAny : Bool → Rows → ℕ → ℕ → List ℕ → ℕ → ℕ → Forms → Bool
+hitAny local rows p x u l n forms = someBelow (λ k. hitNode local rows p x u l k (forms k)) n
 
 -- the answer to whether policy p is broken for the watched resource x
-pub record Searched (rows : Rows) (p x n : ℕ) (forms : Forms) (answer : Bool) : Type 0 where
-  pub ends : List ℕ
+pub record Searched (local : Bool) (rows : Rows) (p x n : ℕ) (forms : Forms) (answer : Bool) : Type 0 where
+  pub ends : Bool → List ℕ
   pub comes : List ℕ
-  pub ends-filled : Filled (EndsRule rows x (least x) n forms) (replicate places 0) ends
-  pub comes-filled : Filled (ComesRule rows p ends (least x) n forms) (begins (least x)) comes
-  pub told : answer ≡ hitAny rows p x comes (least x) n forms
+  pub ends-filled : EndsFilled local rows p x n forms ends
+  pub comes-filled : Filled (ComesRule local rows p ends (least x) n forms) (begins (least x)) comes
+  pub told : answer ≡ hitAny local rows p x comes (least x) n forms
 
 -- a static resource that no event is on: watching the dynamic one shows all that watching this one would (proofs/UntouchedLaws)
 pub record Untouched (n : ℕ) (forms : Forms) (x : ℕ) : Type 0 where
@@ -152,6 +162,6 @@ pub record Untouched (n : ℕ) (forms : Forms) (x : ℕ) : Type 0 where
   pub no-event : (k a : ℕ) → k < n → forms k ≡ some (on-static a x) → ⊥
 
 -- the answer to whether policy p is broken: the static resources that an event is on and the one dynamic resource are watched in turn
-pub data SearchedAll (rows : Rows) (p n : ℕ) (forms : Forms) : Bool → Type 0 where
-  found : {x : ℕ} → x ≤ watched → Searched rows p x n forms true → SearchedAll rows p n forms true
-  none-found : ((x : ℕ) → x ≤ watched → Untouched n forms x ⊎ Searched rows p x n forms false) → SearchedAll rows p n forms false
+pub data SearchedAll (local : Bool) (rows : Rows) (p n : ℕ) (forms : Forms) : Bool → Type 0 where
+  found : {x : ℕ} → x ≤ watched → Searched local rows p x n forms true → SearchedAll local rows p n forms true
+  none-found : ((x : ℕ) → x ≤ watched → Untouched n forms x ⊎ Searched local rows p x n forms false) → SearchedAll local rows p n forms false

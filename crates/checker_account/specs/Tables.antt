@@ -4,7 +4,7 @@
 -- A start of a node is a meaning m, 0 to 5, and a state q, 0 to 7. The meaning tells both the name that means x and whether x can
 -- still be created: 0 that it can be (then no name means it), 1 + n that name n means it, 5 that it cannot be and no name means it.
 use Prim.Native.Nat.{ℕ, zero, suc, _+_, _*_, _/_, _%_, _^_}
-use mathlib.Core.Bool.{Bool, true, false, _||_, cond}
+use mathlib.Core.Bool.{Bool, true, false, not, _&&_, _||_, cond}
 use mathlib.Core.Option.{Option, none, some}
 use mathlib.Core.List.{List, [], _∷_}
 use lib.Dec.{eqb, ltb}
@@ -63,6 +63,24 @@ meaningAfter zero false = 0
 meaningAfter zero true = unnamed
 meaningAfter (suc m) c = suc m
 
+-- ── What an opening resets ──
+
+-- An opening of s resets the instances of p, which was open or not: the test of `reopened`.
+abbrev pub isReset : Bool → ℕ → ℕ → Bool → Bool
+isReset local p s o = local && (eqb s p && not o)
+
+-- the states of the set v after an opening: where it resets and v is not empty, state 0 alone
+abbrev pub restarted : Bool → ℕ → ℕ
+restarted true v = cond (eqb (v % 256) 0) 0 1
+restarted false v = v
+
+-- What the openings inside a node reset, where it is begun: nothing, as where the whole past counts, or where p is open, so that each of its
+-- openings is a further one; or that of p does, where p is not open. Then its body is begun in state 0 and p is open there: `opened` is the
+-- table of ends where p is open.
+pub data Resets : Type 0 where
+  never : Resets
+  opening-of : (p : ℕ) (opened : List ℕ) → Resets
+
 -- ── The table of ends: for each node, meaning and state the set of ends ──
 
 -- the place of an end, and the set of the states in which x is so
@@ -111,17 +129,22 @@ secondEnds t b m v = bitOr (begun t b (meaningAfter m false) (half false v)) (be
 abbrev pub freshEnds : Rows → List ℕ → ℕ → ℕ → ℕ → ℕ → ℕ → ℕ
 freshEnds rows t k n b m q = bitOr (begun t b (forgotten m n) (rows k false q)) (cond (made m) 0 (begun t b (suc n) (rows k true q)))
 
+-- what the body b of a sandbox of s ends in
+abbrev pub insideEnds : Resets → List ℕ → ℕ → ℕ → ℕ → ℕ → ℕ
+insideEnds never t s b m q = getD t (base b m + q) 0
+insideEnds (opening-of p opened) t s b m q = cond (eqb s p) (getD opened (base b m + 0) 0) (getD t (base b m + q) 0)
+
 -- The rules of `Ends`: what node k of this form, begun in (m, q), ends in by what the table holds of other nodes.
-unfoldable pub endsBy : Rows → ℕ → List ℕ → ℕ → ℕ → ℕ → Form → ℕ
-endsBy rows x t k m q end = kept m (2 ^ q)
-endsBy rows x t k m q (on-static a s) = kept m (rows k (eqb s x) q)
-endsBy rows x t k m q (on-name a n) = kept m (rows k (eqb m (suc n)) q)
-endsBy rows x t k m q (sequence a b) = secondEnds t b m (getD t (base a m + q) 0)
-endsBy rows x t k m q (choice a b) = bitOr (getD t (base a m + q) 0) (getD t (base b m + q) 0)
-endsBy rows x t k m q (loop a) = getD t (base a m + q) 0
-endsBy rows x t k m q (back a) = getD t (base a m + q) 0
-endsBy rows x t k m q (fresh n b) = freshEnds rows t k n b m q
-endsBy rows x t k m q (sandbox s b) = getD t (base b m + q) 0
+unfoldable pub endsBy : Rows → ℕ → Resets → List ℕ → ℕ → ℕ → ℕ → Form → ℕ
+endsBy rows x resets t k m q end = kept m (2 ^ q)
+endsBy rows x resets t k m q (on-static a s) = kept m (rows k (eqb s x) q)
+endsBy rows x resets t k m q (on-name a n) = kept m (rows k (eqb m (suc n)) q)
+endsBy rows x resets t k m q (sequence a b) = secondEnds t b m (getD t (base a m + q) 0)
+endsBy rows x resets t k m q (choice a b) = bitOr (getD t (base a m + q) 0) (getD t (base b m + q) 0)
+endsBy rows x resets t k m q (loop a) = getD t (base a m + q) 0
+endsBy rows x resets t k m q (back a) = getD t (base a m + q) 0
+endsBy rows x resets t k m q (fresh n b) = freshEnds rows t k n b m q
+endsBy rows x resets t k m q (sandbox s b) = insideEnds resets t s b m q
 
 -- ── The table of what is come to: for each node, p being open or not, and meaning, the set of states ──
 
@@ -147,33 +170,37 @@ halves b o m e = (b by o by meaningAfter m false with half false e) ∷ (b by o 
 abbrev pub freshArrivals : Rows → ℕ → ℕ → ℕ → Bool → ℕ → ℕ → List Arrival
 freshArrivals rows k n b o m v = (b by o by forgotten m n with over (rows k false) v) ∷ (b by o by suc n with ownCreated rows k m v) ∷ []
 
--- The rules of `Comes`: what node k of this form, come to in the states v with o and m, leads to. `t` is the table of ends.
-unfoldable pub arrivals : Rows → ℕ → List ℕ → ℕ → Bool → ℕ → ℕ → Form → List Arrival
-arrivals rows p t k o m v end = []
-arrivals rows p t k o m v (on-static a s) = []
-arrivals rows p t k o m v (on-name a n) = []
-arrivals rows p t k o m v (sequence a b) = (a by o by m with v) ∷ halves b o m (begun t a m v)
-arrivals rows p t k o m v (choice a b) = (a by o by m with v) ∷ (b by o by m with v) ∷ []
-arrivals rows p t k o m v (loop a) = (a by o by m with v) ∷ []
-arrivals rows p t k o m v (back a) = (a by o by m with v) ∷ []
-arrivals rows p t k o m v (fresh n b) = freshArrivals rows k n b o m v
-arrivals rows p t k o m v (sandbox s b) = (b by (o || eqb s p) by m with v) ∷ []
+-- The rules of `Comes`: what node k of this form, come to in the states v with o and m, leads to. `t o` is the table of ends of nodes that are
+-- begun where p is open or not, as o says.
+unfoldable pub arrivals : Bool → Rows → ℕ → (Bool → List ℕ) → ℕ → Bool → ℕ → ℕ → Form → List Arrival
+arrivals local rows p t k o m v end = []
+arrivals local rows p t k o m v (on-static a s) = []
+arrivals local rows p t k o m v (on-name a n) = []
+arrivals local rows p t k o m v (sequence a b) = (a by o by m with v) ∷ halves b o m (begun (t o) a m v)
+arrivals local rows p t k o m v (choice a b) = (a by o by m with v) ∷ (b by o by m with v) ∷ []
+arrivals local rows p t k o m v (loop a) = (a by o by m with v) ∷ []
+arrivals local rows p t k o m v (back a) = (a by o by m with v) ∷ []
+arrivals local rows p t k o m v (fresh n b) = freshArrivals rows k n b o m v
+arrivals local rows p t k o m v (sandbox s b) = (b by (o || eqb s p) by m with restarted (isReset local p s o) v) ∷ []
 
 -- ── What the step of a node leaves ──
 
 -- the states in which the instance of x may be, p being open, once node k of this form, come to with meaning m, has taken its step
-unfoldable pub leaves : Rows → ℕ → ℕ → List ℕ → ℕ → ℕ → Form → ℕ
-leaves rows p x u k m end = 0
-leaves rows p x u k m (on-static a s) = over (rows k (eqb s x)) (getD u (place k true m) 0)
-leaves rows p x u k m (on-name a n) = over (rows k (eqb m (suc n))) (getD u (place k true m) 0)
-leaves rows p x u k m (sequence a b) = 0
-leaves rows p x u k m (choice a b) = 0
-leaves rows p x u k m (loop a) = 0
-leaves rows p x u k m (back a) = 0
-leaves rows p x u k m (fresh n b) =
+unfoldable pub leaves : Bool → Rows → ℕ → ℕ → List ℕ → ℕ → ℕ → Form → ℕ
+leaves local rows p x u k m end = 0
+leaves local rows p x u k m (on-static a s) = over (rows k (eqb s x)) (getD u (place k true m) 0)
+leaves local rows p x u k m (on-name a n) = over (rows k (eqb m (suc n))) (getD u (place k true m) 0)
+leaves local rows p x u k m (sequence a b) = 0
+leaves local rows p x u k m (choice a b) = 0
+leaves local rows p x u k m (loop a) = 0
+leaves local rows p x u k m (back a) = 0
+leaves local rows p x u k m (fresh n b) =
     let v = getD u (place k true m) 0 in
     bitOr (over (rows k false) v) (ownCreated rows k m v)
-leaves rows p x u k m (sandbox s b) = cond (eqb s p) (bitOr (getD u (place k false m) 0) (getD u (place k true m) 0)) 0
+leaves local rows p x u k m (sandbox s b) =
+    cond (eqb s p)
+    (bitOr (restarted (isReset local p s false) (getD u (place k false m) 0)) (restarted (isReset local p s true) (getD u (place k true m) 0)))
+    0
 
 -- the step, as the account tells it apart
 abbrev pub lastOf : Form → Option Last
