@@ -85,7 +85,7 @@ module _ (local : Bool) (es : List Edge) (ns : List Node) (p x : ℕ) (rows : Ro
 
   pub arrivals-right : (k : ℕ) (o : Bool) (m v : ℕ) (f : Form) → Is ns k f → Start x m
       → ((q : ℕ) → q < states → has v q ≡ true → ComesAt local es ns p x k o m q)
-      → Each Right (arrivals local rows p t k o m v f)
+      → Each Right (arrivals local rows p (t o) k o m v f)
   unfolding arrivals
   arrivals-right k o m v end i s h = tt
   arrivals-right k o m v (on-static a r) i s h = tt

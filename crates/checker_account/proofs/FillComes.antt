@@ -52,7 +52,7 @@ pub record InTable (g : Arrival) : Type 0 where
 module _ (local : Bool) (es : List Edge) (ns : List Node) (p x : ℕ) (rows : Rows) (small : x ≤ watched) (ok : RowsOk es ns p x rows)
     (names : NamesOk ns) (targets : TargetsOk ns) (t : Bool → List ℕ) (ends : (o : Bool) → HoldsEnds local es ns p x o (t o)) (n : ℕ)
     (forms : Forms) (reads : FormsOf ns n forms) where
-  arrivals-in : (k : ℕ) (o : Bool) (m v : ℕ) (f : Form) → Is ns k f → m < meanings → Each InTable (arrivals local rows p t k o m v f)
+  arrivals-in : (k : ℕ) (o : Bool) (m v : ℕ) (f : Form) → Is ns k f → m < meanings → Each InTable (arrivals local rows p (t o) k o m v f)
   unfolding arrivals
   arrivals-in k o m v end i l = tt
   arrivals-in k o m v (on-static a s) i l = tt
@@ -102,12 +102,12 @@ module _ (local : Bool) (es : List Edge) (ns : List Node) (p x : ℕ) (rows : Ro
       st : Start x m
       st = record { low = low; high = high }
 
-      go : (f : Option Form) → forms k ≡ f → List·Memᴰ g (arrivalsOf local rows p t k o m from f)
+      go : (f : Option Form) → forms k ≡ f → List·Memᴰ g (arrivalsOf local rows p (t o) k o m from f)
           → SoundComes local es ns p x (joinedAt u (place (g .to) (g .is-open) (g .meaning)) (g .states))
       go none e mem = absurd (List·Memᴰ·not-nil mem)
       go (some f) e mem =
           let i = reads .is k f l e in
-          let gs = arrivals local rows p t k o m from f in
+          let gs = arrivals local rows p (t o) k o m from f in
           joined-sound u g (each-at InTable gs g (arrivals-in k o m from f i high) mem .meaning)
           (each-at (Right local es ns p x rows small ok names t ends) gs g
           (arrivals-right local es ns p x rows small ok names t ends k o m from f i st (λ q lq h. right k o m q st lq h)) mem) sound
@@ -130,12 +130,12 @@ module _ (local : Bool) (es : List Edge) (ns : List Node) (p x : ℕ) (rows : Ro
     step = λ k o m f i st.
         let (l, e) = reads .has k f i in
         let v = getD u (place k o m) 0 in
-        let gs = arrivals local rows p t k o m v f in
+        let gs = arrivals local rows p (t o) k o m v f in
         all-entered gs u len (arrivals-in k o m v f i (st .high))
         (each-all (λ g. joinedAt u (place (g .to) (g .is-open) (g .meaning)) (g .states) ≡ u) gs
         (λ g mem. closed (place (g .to) (g .is-open) (g .meaning)) (g .states)
         (leads-to k o m g l (st .low) (st .high)
-        (subst (λ (o′ : Option Form). List·Memᴰ g (arrivalsOf local rows p t k o m v o′)) (sym e) mem))));
+        (subst (λ (o′ : Option Form). List·Memᴰ g (arrivalsOf local rows p (t o) k o m v o′)) (sym e) mem))));
   }
 
   -- ── From the start ──

@@ -52,6 +52,10 @@ grows-trans {a} {b} {c} g h = record {
       h .still ec ∙ g .still eb;
 }
 
+-- where two steps together change nothing, the first does not
+pub grows-still : {a b c : List ℕ} → Grows a b → Grows b c → c ≡ a → b ≡ a
+grows-still {a} {b} {c} g h e = let d : total c ≡ total a = ap total e in g .still (omega (arith, g .up, h .up))
+
 -- the set at i, joined
 module _ (t : List ℕ) (i v : ℕ) where
   abbrev old : ℕ
@@ -165,12 +169,7 @@ module _ (f : ℕ → List ℕ → List ℕ) (grows : (i : ℕ) (t : List ℕ) �
   repeat-still (suc n) t e i h = go (repeat-still n t) (last-or-lower i n h)
     where
       same : repeat f n t ≡ t
-      same =
-          let a = repeat-grows n t in
-          let u = a .up in
-          let w = grows n (repeat f n t) .up in
-          let d : total (f n (repeat f n t)) ≡ total t = ap total e in
-          a .still (omega arith)
+      same = grows-still (repeat-grows n t) (grows n (repeat f n t)) e
 
       go : (repeat f n t ≡ t → (i : ℕ) → i < n → f i t ≡ t) → (i ≡ n) ⊎ (i < n) → f i t ≡ t
       go ih (inl k) = ap (λ (j : ℕ). f j t) k ∙ ap (f n) (sym same) ∙ e

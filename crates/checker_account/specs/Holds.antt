@@ -108,7 +108,7 @@ Entered u g = (q : ℕ) → q < states → has (g .states) q ≡ true → HasCom
 pub record ClosedComes (local : Bool) (ns : List Node) (p x : ℕ) (rows : Rows) (t : Bool → List ℕ) (u : List ℕ) : Type 0 where
   pub begun : HasCome u 0 false (least x) 0
   pub step : (k : ℕ) (o : Bool) (m : ℕ) (f : Form) → Is ns k f → Start x m
-      → Each (Entered u) (arrivals local rows p t k o m (getD u (place k o m) 0) f)
+      → Each (Entered u) (arrivals local rows p (t o) k o m (getD u (place k o m) 0) f)
 
 -- a start of a node that the account tells by (w, c), in the table
 pub record Come (x : ℕ) (u : List ℕ) (o : Bool) (k w : ℕ) (c : Bool) (q : ℕ) : Type 0 where

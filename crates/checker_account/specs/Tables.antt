@@ -170,13 +170,13 @@ halves b o m e = (b by o by meaningAfter m false with half false e) ∷ (b by o 
 abbrev pub freshArrivals : Rows → ℕ → ℕ → ℕ → Bool → ℕ → ℕ → List Arrival
 freshArrivals rows k n b o m v = (b by o by forgotten m n with over (rows k false) v) ∷ (b by o by suc n with ownCreated rows k m v) ∷ []
 
--- The rules of `Comes`: what node k of this form, come to in the states v with o and m, leads to. `t o` is the table of ends of nodes that are
--- begun where p is open or not, as o says.
-unfoldable pub arrivals : Bool → Rows → ℕ → (Bool → List ℕ) → ℕ → Bool → ℕ → ℕ → Form → List Arrival
+-- The rules of `Comes`: what node k of this form, come to in the states v with o and m, leads to. `t` is the table of ends for
+-- this o.
+unfoldable pub arrivals : Bool → Rows → ℕ → List ℕ → ℕ → Bool → ℕ → ℕ → Form → List Arrival
 arrivals local rows p t k o m v end = []
 arrivals local rows p t k o m v (on-static a s) = []
 arrivals local rows p t k o m v (on-name a n) = []
-arrivals local rows p t k o m v (sequence a b) = (a by o by m with v) ∷ halves b o m (begun (t o) a m v)
+arrivals local rows p t k o m v (sequence a b) = (a by o by m with v) ∷ halves b o m (begun t a m v)
 arrivals local rows p t k o m v (choice a b) = (a by o by m with v) ∷ (b by o by m with v) ∷ []
 arrivals local rows p t k o m v (loop a) = (a by o by m with v) ∷ []
 arrivals local rows p t k o m v (back a) = (a by o by m with v) ∷ []
