@@ -10,3 +10,7 @@ pub mod ByStateLaws
 pub mod WorkLaws
 -- Resources that need not be watched.
 pub mod TouchedLaws
+-- Openings that reset.
+pub mod ResetLaws
+-- The search's answer, from filled tables.
+pub mod AnswerLaws

@@ -21,7 +21,7 @@ use Rattle.usage.specs.Outline.{Form, end, on-static, on-name, sequence, choice
 use Rattle.usage.proofs.Logic.{last-or-lower, not-both, false-true}
 use Rattle.automaton.specs.Mask.{has}
 use Rattle.automaton.proofs.MaskLaws.{all-below, all-below-at, has-or, has-zero}
-use Rattle.checker_account.specs.Tables.{base, Rows, joinedAt, places, meanings}
+use Rattle.checker_account.specs.Tables.{base, Rows, Resets, joinedAt, places, meanings}
 use Rattle.checker_account.specs.Witness.{noName}
 use Rattle.checker_account.specs.Rounds.{
   repeat,
@@ -42,7 +42,7 @@ use Rattle.checker_account.proofs.CodeLaws.{by-kind}
 use Rattle.checker_account.proofs.MaskLaws.{has-right}
 use Rattle.checker_account.proofs.JoinLaws.{joined-keeps, joined-below, zeros, zeros-wide}
 use Rattle.checker_account.proofs.RoundLaws.{Grows, joined-grows, grown-false, repeat-keeps, Filling, filling-length, most, nearer}
-use Rattle.checker_account.proofs.SettleLaws.{node-grows, node-derived, node-wide}
+use Rattle.checker_account.proofs.SettleLaws.{node-grows, node-derived, WideLent, node-wide}
 use Rattle.checker_account.proofs.SettledLaws.{in-still, Named, Beside, NodeClosed, node-beside, node-done, node-unchanged, node-kept}
 use Rattle.checker_account.proofs.SettledLaws.{PartOf, first, second, left, right, body, again, given, inside, Reads}
 use Rattle.checker_tables.specs.Search.{NodesFit}
@@ -247,36 +247,36 @@ pub named-forms : (t : List ℕ) → NodesFit t → (k : ℕ) → k < length t /
 named-forms t h k l = named-node (nodeAt t k .kind) (nodeAt t k .a) (nodeAt t k .b) (h .small k l .a-name)
 
 -- the table so far, and the nodes that are left: no rule adds anything to the entries of the others
-pub record Working (rows : Rows) (x l n : ℕ) (forms : Forms) (t : List ℕ) (s : ℕ) : Type 0 where
-  pub filling : Filling (EndsRule rows x l n forms) (replicate places 0) t
+pub record Working (rows : Rows) (x : ℕ) (resets : Resets) (l n : ℕ) (forms : Forms) (t : List ℕ) (s : ℕ) : Type 0 where
+  pub filling : Filling (EndsRule rows x resets l n forms) (replicate places 0) t
   pub nodes : s < 2 ^ n
-  pub closed : (k : ℕ) → k < n → has s k ≡ false → NodeClosed rows x l k (forms k) t
+  pub closed : (k : ℕ) → k < n → has s k ≡ false → NodeClosed rows x resets l k (forms k) t
 
 -- A turn of the loop makes the table's sum greater, or takes a node away and adds none.
 abbrev pub leftOf : List ℕ → ℕ → ℕ
 leftOf t s = (most - total t) * 18446744073709551616 + s
 
-module _ (rows : Rows) (x l n : ℕ) (forms : Forms) (few : n ≤ mostNodes) where
-  pub working-start : Working rows x l n forms (replicate places 0) (2 ^ n - 1)
+module _ (rows : Rows) (x : ℕ) (resets : Resets) (l n : ℕ) (forms : Forms) (few : n ≤ mostNodes) where
+  pub working-start : Working rows x resets l n forms (replicate places 0) (2 ^ n - 1)
   working-start = record {
     filling = record { derived = start; wide = zeros-wide places };
     nodes = ones-lt n;
     closed = λ k b h. not-both (has (2 ^ n - 1) k) (all-left n k few b) h;
   }
 
-  pub working-length : {t : List ℕ} {s : ℕ} → Working rows x l n forms t s → length t ≡ places
-  working-length {t} w = filling-length (EndsRule rows x l n forms) (replicate places 0) t refl (w .filling)
+  pub working-length : {t : List ℕ} {s : ℕ} → Working rows x resets l n forms t s → length t ≡ places
+  working-length {t} w = filling-length (EndsRule rows x resets l n forms) (replicate places 0) t refl (w .filling)
 
-  rule-closed : {t : List ℕ} {i v : ℕ} → Working rows x l n forms t 0 → EndsRule rows x l n forms t i v → joinedAt t i v ≡ t
+  rule-closed : {t : List ℕ} {i v : ℕ} → Working rows x resets l n forms t 0 → EndsRule rows x resets l n forms t i v → joinedAt t i v ≡ t
   rule-closed {t} w (ends-of k m q b low high lq) =
-      in-still t (base k m + q) (endsOf rows x t k m q (forms k)) (w .closed k b (has-zero k) m q low high lq)
+      in-still t (base k m + q) (endsOf rows x resets t k m q (forms k)) (w .closed k b (has-zero k) m q low high lq)
 
-  pub working-ends : {t : List ℕ} → Working rows x l n forms t 0 → Filled (EndsRule rows x l n forms) (replicate places 0) t
+  pub working-ends : {t : List ℕ} → Working rows x resets l n forms t 0 → Filled (EndsRule rows x resets l n forms) (replicate places 0) t
   working-ends w = record { derived = w .filling .derived; closed = λ i v r. rule-closed w r }
 
   -- node k, the highest that is left, is settled
-  module _ (t u : List ℕ) (s k : ℕ) (w : Working rows x l n forms t s) (low-is : 2 ^ k ≤ s) (high-is : s < 2 ^ suc k)
-      (e : u ≡ settleNode rows x l k (forms k) t) where
+  module _ (t u : List ℕ) (s k : ℕ) (w : Working rows x resets l n forms t s) (low-is : 2 ^ k ≤ s) (high-is : s < 2 ^ suc k)
+      (e : u ≡ settleNode rows x resets l k (forms k) t) where
     pub there : k < n
     there = highest-lt s k low-is high-is n (w .nodes)
 
@@ -284,7 +284,7 @@ module _ (rows : Rows) (x l n : ℕ) (forms : Forms) (few : n ≤ mostNodes) whe
     small = let b = there in omega arith
 
     grows : Grows t u
-    grows = subst (Grows t) (sym e) (node-grows rows x l k (forms k) t)
+    grows = subst (Grows t) (sym e) (node-grows rows x resets l k (forms k) t)
 
     fewer : s - 2 ^ k < 2 ^ n
     fewer = let b = w .nodes in omega arith
@@ -293,38 +293,38 @@ module _ (rows : Rows) (x l n : ℕ) (forms : Forms) (few : n ≤ mostNodes) whe
       same : u ≡ t
       same = grown-false grows g
 
-      pub still-working : Working rows x l n forms u (s - 2 ^ k)
-      still-working = subst (λ (v : List ℕ). Working rows x l n forms v (s - 2 ^ k)) (sym same) (record {
+      pub still-working : Working rows x resets l n forms u (s - 2 ^ k)
+      still-working = subst (λ (v : List ℕ). Working rows x resets l n forms v (s - 2 ^ k)) (sym same) (record {
         filling = w .filling;
         nodes = fewer;
         closed = λ j b h. go j b (taken s k low-is high-is j h);
       })
         where
-          go : (j : ℕ) → j < n → (j ≡ k) ⊎ (has s j ≡ false) → NodeClosed rows x l j (forms j) t
+          go : (j : ℕ) → j < n → (j ≡ k) ⊎ (has s j ≡ false) → NodeClosed rows x resets l j (forms j) t
           go j b (inl d) =
-              subst (λ (i : ℕ). NodeClosed rows x l i (forms i) t) (sym d)
-              (node-unchanged rows x l k (forms k) t (working-length w) small (sym e ∙ same))
+              subst (λ (i : ℕ). NodeClosed rows x resets l i (forms i) t) (sym d)
+              (node-unchanged rows x resets l k (forms k) t (working-length w) small (sym e ∙ same))
           go j b (inr h) = w .closed j b h
 
       pub still-less : leftOf u (s - 2 ^ k) < leftOf t s
       still-less = let d : total u ≡ total t = ap total same in let b = pow-pos k in omega arith
 
-    module _ (named : (j : ℕ) → j < n → Named (forms j)) (less : l ≤ meanings) (g : grown t u ≡ true) where
+    module _ (lent : WideLent resets) (named : (j : ℕ) → j < n → Named (forms j)) (less : l ≤ meanings) (g : grown t u ≡ true) where
       abbrev readers : ℕ
       readers = getD (readersOf n forms) k 0
 
       wide : Wide u
-      wide = subst Wide (sym e) (node-wide rows x l k (forms k) t (w .filling .wide))
+      wide = subst Wide (sym e) (node-wide rows x resets lent l k (forms k) t (w .filling .wide))
 
       beside : Beside k u t
-      beside = subst (λ (v : List ℕ). Beside k v t) (sym e) (node-beside rows x l k (forms k) t less)
+      beside = subst (λ (v : List ℕ). Beside k v t) (sym e) (node-beside rows x resets l k (forms k) t less)
 
-      pub more-working : Working rows x l n forms u (bitOr (s - 2 ^ k) readers)
+      pub more-working : Working rows x resets l n forms u (bitOr (s - 2 ^ k) readers)
       more-working = record {
         filling = record {
           derived =
-              subst (Derived (EndsRule rows x l n forms) (replicate places 0)) (sym e)
-              (node-derived rows x l n forms (replicate places 0) k t there (w .filling .derived));
+              subst (Derived (EndsRule rows x resets l n forms) (replicate places 0)) (sym e)
+              (node-derived rows x resets l n forms (replicate places 0) k t there (w .filling .derived));
           wide = wide;
         };
         nodes = or-lt n (s - 2 ^ k) readers fewer (readers-below forms n k);
@@ -332,14 +332,14 @@ module _ (rows : Rows) (x l n : ℕ) (forms : Forms) (few : n ≤ mostNodes) whe
             go j b (λ r. not-both (has readers j) (reader-in forms n j k b small r) h₂) (ℕ-discrete j k) (taken s k low-is high-is j h₁);
       }
         where
-          go : (j : ℕ) → j < n → (Reads (forms j) k → ⊥) → Dec (j ≡ k) → (j ≡ k) ⊎ (has s j ≡ false) → NodeClosed rows x l j (forms j) u
+          go : (j : ℕ) → j < n → (Reads (forms j) k → ⊥) → Dec (j ≡ k) → (j ≡ k) ⊎ (has s j ≡ false) → NodeClosed rows x resets l j (forms j) u
           go j b away (yes d) h =
-              subst (λ (i : ℕ). NodeClosed rows x l i (forms i) u) (sym d)
-              (subst (NodeClosed rows x l k (forms k)) (sym e)
-              (node-done rows x l k (forms k) t (working-length w) small (named k there)
+              subst (λ (i : ℕ). NodeClosed rows x resets l i (forms i) u) (sym d)
+              (subst (NodeClosed rows x resets l k (forms k)) (sym e)
+              (node-done rows x resets l k (forms k) t (working-length w) small (named k there)
               (λ r. away (subst (λ (i : ℕ). Reads (forms i) k) (sym d) r)) less))
           go j b away (no d) (inl f) = absurd (d f)
-          go j b away (no d) (inr h) = node-kept rows x l k j (forms j) t u beside d (named j b) away (w .closed j b h)
+          go j b away (no d) (inr h) = node-kept rows x resets l k j (forms j) t u beside d (named j b) away (w .closed j b h)
 
       pub more-less : (s′ : ℕ) → s′ < 18446744073709551616 → leftOf u s′ < leftOf t s
       more-less s′ b = let m = nearer t u (grows .len ∙ working-length w) wide g in omega arith

@@ -11,8 +11,8 @@ use Rattle.usage.specs.Limits.{policies, mostNodes, nodeFields}
 use Rattle.usage.specs.Tables.{nodeAt}
 use Rattle.usage.specs.Tests.{someBelow}
 use Rattle.checker_account.specs.Witness.{watched, noName}
-use Rattle.checker_account.specs.Tables.{unnamed, places, rowsIn}
-use Rattle.checker_account.specs.Rounds.{formsIn, EndsRule, ComesRule, passRound, hitAny, Searched}
+use Rattle.checker_account.specs.Tables.{unnamed, places, rowsIn, Resets, never, opening-of}
+use Rattle.checker_account.specs.Rounds.{formsIn, EndsRule, ComesRule, passRound, begins, Filled, hitAny, Searched}
 use Rattle.checker_account.specs.RowTable.{EventTables, fillRows}
 
 -- meaning m once meaning n no longer occurs
@@ -48,31 +48,47 @@ hasRoom t = leb (length t / nodeFields) mostNodes && not (someBelow (λ k. not (
 
 -- ── Over the flat tables that the code has: `rows` of a policy's moves, and `nodes` ──
 
--- the rules of the table of ends, and of the table of what is come to
-abbrev pub EndsBy : List ℕ → List ℕ → ℕ → ℕ → List ℕ → ℕ → ℕ → Type 0
-EndsBy nodes rows x l = EndsRule (rowsIn rows) x l (length nodes / nodeFields) (formsIn nodes)
+-- an opening of p resets, where the table of ends is one where p is not open; then `opened` is the one where it is
+abbrev pub resetsIf : Bool → ℕ → List ℕ → Resets
+resetsIf false p opened = never
+resetsIf true p opened = opening-of p opened
 
-abbrev pub ComesBy : List ℕ → List ℕ → List ℕ → ℕ → ℕ → List ℕ → ℕ → ℕ → Type 0
-ComesBy nodes rows t p l = ComesRule (rowsIn rows) p t l (length nodes / nodeFields) (formsIn nodes)
+-- the table of ends where p is open or not
+abbrev pub byOpen : List ℕ → List ℕ → Bool → List ℕ
+byOpen opened shut false = shut
+byOpen opened shut true = opened
+
+-- the rules of the table of ends, and of the table of what is come to
+abbrev pub EndsBy : List ℕ → List ℕ → ℕ → Resets → ℕ → List ℕ → ℕ → ℕ → Type 0
+EndsBy nodes rows x resets l = EndsRule (rowsIn rows) x resets l (length nodes / nodeFields) (formsIn nodes)
+
+abbrev pub ComesBy : List ℕ → Bool → List ℕ → (Bool → List ℕ) → ℕ → ℕ → List ℕ → ℕ → ℕ → Type 0
+ComesBy nodes local rows t p l = ComesRule local (rowsIn rows) p t l (length nodes / nodeFields) (formsIn nodes)
 
 -- a round of filling the table of what is come to
-abbrev pub comesRound : List ℕ → List ℕ → List ℕ → ℕ → ℕ → List ℕ → List ℕ
-comesRound nodes rows t p l = passRound (rowsIn rows) p t l (length nodes / nodeFields) (formsIn nodes)
+abbrev pub comesRound : List ℕ → Bool → List ℕ → (Bool → List ℕ) → ℕ → ℕ → List ℕ → List ℕ
+comesRound nodes local rows t p l = passRound local (rowsIn rows) p t l (length nodes / nodeFields) (formsIn nodes)
 
 -- the step of some node leaves an offending state
-abbrev pub hitIn : List ℕ → List ℕ → List ℕ → ℕ → ℕ → ℕ → Bool
-hitIn nodes rows u p x l = hitAny (rowsIn rows) p x u l (length nodes / nodeFields) (formsIn nodes)
+abbrev pub hitIn : List ℕ → Bool → List ℕ → List ℕ → ℕ → ℕ → ℕ → Bool
+hitIn nodes local rows u p x l = hitAny local (rowsIn rows) p x u l (length nodes / nodeFields) (formsIn nodes)
+
+-- what the tables of ends lead to: the table of what is come to, and the answer
+pub record Found (nodes : List ℕ) (local : Bool) (rows : List ℕ) (t : Bool → List ℕ) (p x l : ℕ) (answer : Bool) : Type 0 where
+  pub comes : List ℕ
+  pub comes-filled : Filled (ComesBy nodes local rows t p l) (begins l) comes
+  pub told : answer ≡ hitIn nodes local rows comes p x l
 
 -- the answer to whether policy p is broken for the watched resource x
-abbrev pub SearchedIn : List ℕ → List ℕ → ℕ → ℕ → Bool → Type 0
-SearchedIn nodes rows p x answer = Searched (rowsIn rows) p x (length nodes / nodeFields) (formsIn nodes) answer
+abbrev pub SearchedIn : List ℕ → Bool → List ℕ → ℕ → ℕ → Bool → Type 0
+SearchedIn nodes local rows p x answer = Searched local (rowsIn rows) p x (length nodes / nodeFields) (formsIn nodes) answer
 
 -- ── For all inputs at all ──
 
 -- a policy is not broken where the tables have no room for the nodes
-abbrev pub SearchedIf : Bool → List ℕ → List ℕ → ℕ → ℕ → Bool → Type 0
-SearchedIf true nodes rows p x answer = SearchedIn nodes rows p x answer
-SearchedIf false nodes rows p x answer = answer ≡ false
+abbrev pub SearchedIf : Bool → List ℕ → Bool → List ℕ → ℕ → ℕ → Bool → Type 0
+SearchedIf true nodes local rows p x answer = SearchedIn nodes local rows p x answer
+SearchedIf false nodes local rows p x answer = answer ≡ false
 
 -- the table of rows is one of zeros where there is no such policy or no room for the nodes
 abbrev pub wholeIf : Bool → List ℕ → List ℕ

@@ -1,16 +1,16 @@
 // The table of what is come to: in which states each node can be come to, for each meaning, the policy being open or not. It is
 // filled in rounds over all nodes, from the lowest to the highest, until one brings nothing new.
 ghost use mathlib.Core.Path.{_≡_};
-ghost use mathlib.Core.Bool.{Bool, _||_};
+ghost use mathlib.Core.Bool.{Bool, true, false, not, _&&_, _||_};
 ghost use mathlib.Core.List.{List, [], _∷_};
 ghost use Prim.Native.Nat.{ℕ, _<_};
 ghost use lib.ListN.{length, getD, replicate};
 ghost use Rattle.usage.specs.Limits.{mostNodes};
 ghost use Rattle.usage.specs.Outline.{formOf};
 ghost use Rattle.checker_account.specs.Witness.{noName};
-ghost use Rattle.checker_account.specs.Tables.{meanings, places, begun, rowsIn, joinedAt, place, _by_by_with_, halves, freshArrivals};
-ghost use Rattle.checker_account.specs.Rounds.{grown, entered, arrivalsOf, pass, passNode, begins, Wide, Filled};
-ghost use Rattle.checker_tables.specs.Search.{Small, NodesFit, comesRound, ComesBy};
+ghost use Rattle.checker_account.specs.Tables.{meanings, places, begun, rowsIn, joinedAt, restarted, place, _by_by_with_, halves, freshArrivals};
+ghost use Rattle.checker_account.specs.Rounds.{grown, entered, arrivalsOf, pass, passBoth, passNode, begins, Wide, Filled};
+ghost use Rattle.checker_tables.specs.Search.{Small, NodesFit, byOpen, comesRound, ComesBy};
 use checker_account::MEANINGS;
 use checker_account::STARTS;
 use checker_account::Table;
@@ -134,11 +134,28 @@ fn pass_fresh(
     either(first, second)
 }
 
-// What node k, come to with o and m in the states v, leads to. Is anything of it new?
+// A sandbox leads to its body. `same`: it is one of the policy, which is open in it; where it was not, its opening resets under the local
+// meaning.
+fn pass_sandbox(u: &mut Table, local: bool, same: bool, b: usize, o: bool, m: usize, v: u16) -> bool
+    requires { ⌜ length (now u) ≡ places ⌝ }
+    requires { ⌜ b < mostNodes ⌝ }
+    requires { ⌜ m < meanings ⌝ }
+    ensures { λ r. ⌜ now (u .exit)
+        ≡ entered ((b by (o || same) by m with restarted (local && (same && not o)) v) ∷ []) (now (u .entry)) ⌝ }
+    ensures { λ r. ⌜ r ≡ grown (now (u .entry)) (now (u .exit)) ⌝ }
+    ensures { λ r. ⌜ (Wide (now (u .entry)) → Wide (now (u .exit))) ⌝ }
+{
+    let reset = crate::both(local, crate::both(same, !o));
+    let w = crate::restarted(reset, v);
+    enter(u, b, either(o, same), m, w)
+}
+
+// What node k, come to with o and m in the states v, leads to; t is the table of ends for o. Is anything of it new?
 fn pass_by(
     u: &mut Table,
     t: &Table,
     rows: &Table,
+    local: bool,
     p: usize,
     k: usize,
     f: Node,
@@ -151,7 +168,7 @@ fn pass_by(
     requires { ⌜ k < mostNodes ⌝ }
     requires { ⌜ m < meanings ⌝ }
     ensures { λ r. ⌜ now (u .exit)
-        ≡ entered (arrivalsOf (rowsIn (now (rows .entry))) p (now (t .entry)) k o m v (formOf f)) (now (u .entry)) ⌝ }
+        ≡ entered (arrivalsOf local (rowsIn (now (rows .entry))) p (now (t .entry)) k o m v (formOf f)) (now (u .entry)) ⌝ }
     ensures { λ r. ⌜ r ≡ grown (now (u .entry)) (now (u .exit)) ⌝ }
     ensures { λ r. ⌜ (Wide (now (u .entry)) → Wide (now (u .exit))) ⌝ }
 {
@@ -164,7 +181,7 @@ fn pass_by(
         5 => enter(u, a, o, m, v),
         6 => enter(u, a, o, m, v),
         7 => pass_fresh(u, rows, k, a, b, o, m, v),
-        8 => enter(u, b, either(o, a == p), m, v),
+        8 => pass_sandbox(u, local, a == p, b, o, m, v),
         _ => false,
     }
 }
@@ -175,6 +192,7 @@ fn pass(
     u: &mut Table,
     t: &Table,
     rows: &Table,
+    local: bool,
     p: usize,
     k: usize,
     f: Node,
@@ -185,7 +203,7 @@ fn pass(
     requires { ⌜ Small f ⌝ }
     requires { ⌜ k < mostNodes ⌝ }
     requires { ⌜ m < meanings ⌝ }
-    ensures { λ r. ⌜ now (u .exit) ≡ pass (rowsIn (now (rows .entry))) p (now (t .entry)) k (formOf f) o m (now (u .entry)) ⌝ }
+    ensures { λ r. ⌜ now (u .exit) ≡ pass local (rowsIn (now (rows .entry))) p (now (t .entry)) k (formOf f) o m (now (u .entry)) ⌝ }
     ensures { λ r. ⌜ r ≡ grown (now (u .entry)) (now (u .exit)) ⌝ }
     ensures { λ r. ⌜ (Wide (now (u .entry)) → Wide (now (u .exit))) ⌝ }
 {
@@ -193,26 +211,61 @@ fn pass(
     if v == 0 {
         return false;
     }
-    pass_by(u, t, rows, p, k, f, o, m, v)
+    pass_by(u, t, rows, local, p, k, f, o, m, v)
 }
 
-// Node k with every meaning from l on, the policy being open or not. Is anything new?
-fn pass_node(u: &mut Table, t: &Table, rows: &Table, p: usize, l: usize, k: usize, f: Node) -> bool
+// The policy not being open, and then being open, each by its table of ends. Is anything new?
+fn pass_both(
+    u: &mut Table,
+    opened: &Table,
+    shut: &Table,
+    rows: &Table,
+    local: bool,
+    p: usize,
+    k: usize,
+    f: Node,
+    m: usize,
+) -> bool
+    requires { ⌜ length (now u) ≡ places ⌝ }
+    requires { ⌜ Small f ⌝ }
+    requires { ⌜ k < mostNodes ⌝ }
+    requires { ⌜ m < meanings ⌝ }
+    ensures { λ r. ⌜ now (u .exit)
+        ≡ passBoth local (rowsIn (now (rows .entry))) p (byOpen (now (opened .entry)) (now (shut .entry))) k (formOf f) m (now (u .entry)) ⌝ }
+    ensures { λ r. ⌜ r ≡ grown (now (u .entry)) (now (u .exit)) ⌝ }
+    ensures { λ r. ⌜ (Wide (now (u .entry)) → Wide (now (u .exit))) ⌝ }
+{
+    let first = pass(u, shut, rows, local, p, k, f, false, m);
+    let second = pass(u, opened, rows, local, p, k, f, true, m);
+    either(first, second)
+}
+
+// Node k with every meaning from l on. Is anything new?
+fn pass_node(
+    u: &mut Table,
+    opened: &Table,
+    shut: &Table,
+    rows: &Table,
+    local: bool,
+    p: usize,
+    l: usize,
+    k: usize,
+    f: Node,
+) -> bool
     requires { ⌜ length (now u) ≡ places ⌝ }
     requires { ⌜ Small f ⌝ }
     requires { ⌜ l < meanings ⌝ }
     requires { ⌜ k < mostNodes ⌝ }
-    ensures { λ r. ⌜ now (u .exit) ≡ passNode (rowsIn (now (rows .entry))) p (now (t .entry)) l k (formOf f) (now (u .entry)) ⌝ }
+    ensures { λ r. ⌜ now (u .exit)
+        ≡ passNode local (rowsIn (now (rows .entry))) p (byOpen (now (opened .entry)) (now (shut .entry))) l k (formOf f) (now (u .entry)) ⌝ }
     ensures { λ r. ⌜ r ≡ grown (now (u .entry)) (now (u .exit)) ⌝ }
     ensures { λ r. ⌜ (Wide (now (u .entry)) → Wide (now (u .exit))) ⌝ }
 {
-    let n = 2 * (MEANINGS - l);
+    let n = MEANINGS - l;
     let mut changed = false;
     let mut i: usize = 0;
     while i < n {
-        let m = l + i / 2;
-        let o = i % 2 == 1;
-        if pass(u, t, rows, p, k, f, o, m) {
+        if pass_both(u, opened, shut, rows, local, p, k, f, l + i) {
             changed = true;
         }
         i += 1;
@@ -221,11 +274,21 @@ fn pass_node(u: &mut Table, t: &Table, rows: &Table, p: usize, l: usize, k: usiz
 }
 
 // Every node, from the lowest to the highest. Is anything new?
-fn pass_round(u: &mut Table, t: &Table, nodes: &[u8], rows: &Table, p: usize, l: usize) -> bool
+fn pass_round(
+    u: &mut Table,
+    opened: &Table,
+    shut: &Table,
+    nodes: &[u8],
+    rows: &Table,
+    local: bool,
+    p: usize,
+    l: usize,
+) -> bool
     requires { ⌜ length (now u) ≡ places ⌝ }
     requires { ⌜ NodesFit (now nodes) ⌝ }
     requires { ⌜ l < meanings ⌝ }
-    ensures { λ r. ⌜ now (u .exit) ≡ comesRound (now (nodes .entry)) (now (rows .entry)) (now (t .entry)) p l (now (u .entry)) ⌝ }
+    ensures { λ r. ⌜ now (u .exit)
+        ≡ comesRound (now (nodes .entry)) local (now (rows .entry)) (byOpen (now (opened .entry)) (now (shut .entry))) p l (now (u .entry)) ⌝ }
     ensures { λ r. ⌜ r ≡ grown (now (u .entry)) (now (u .exit)) ⌝ }
     ensures { λ r. ⌜ (Wide (now (u .entry)) → Wide (now (u .exit))) ⌝ }
 {
@@ -234,7 +297,7 @@ fn pass_round(u: &mut Table, t: &Table, nodes: &[u8], rows: &Table, p: usize, l:
     let mut k: usize = 0;
     while k < n {
         let f = crate::node(nodes, k);
-        if pass_node(u, t, rows, p, l, k, f) {
+        if pass_node(u, opened, shut, rows, local, p, l, k, f) {
             changed = true;
         }
         k += 1;
@@ -242,16 +305,28 @@ fn pass_round(u: &mut Table, t: &Table, nodes: &[u8], rows: &Table, p: usize, l:
     changed
 }
 
-// The table, for the moves of policy p, the table of ends t and the meanings from l on; u is empty at first.
-pub(crate) fn fill(nodes: &[u8], rows: &Table, t: &Table, p: usize, l: usize, u: &mut Table)
+// The table, for the moves of policy p, the tables of ends where it is open and where it is not, and the meanings from l on; u is empty
+// at first.
+pub(crate) fn fill(
+    nodes: &[u8],
+    rows: &Table,
+    opened: &Table,
+    shut: &Table,
+    local: bool,
+    p: usize,
+    l: usize,
+    u: &mut Table,
+)
     requires { ⌜ NodesFit (now nodes) ⌝ }
     requires { ⌜ l < meanings ⌝ }
     requires { ⌜ now u ≡ replicate places 0 ⌝ }
-    ensures { λ r. ⌜ Filled (ComesBy (now (nodes .entry)) (now (rows .entry)) (now (t .entry)) p l) (begins l) (now (u .exit)) ⌝ }
+    ensures { λ r. ⌜ Filled
+        (ComesBy (now (nodes .entry)) local (now (rows .entry)) (byOpen (now (opened .entry)) (now (shut .entry))) p l)
+        (begins l) (now (u .exit)) ⌝ }
 {
     crate::join(u, l, 1);
     loop {
-        if !pass_round(u, t, nodes, rows, p, l) {
+        if !pass_round(u, opened, shut, nodes, rows, local, p, l) {
             return;
         }
     }

@@ -1,7 +1,7 @@
 // The table of ends: what each node can end in, for each start. The eight starts of a node with the same meaning are settled together
 // (`sets`), and a node is settled again only where the ends that its rule reads have changed (`work`).
 ghost use mathlib.Core.Path.{_≡_};
-ghost use mathlib.Core.Bool.{Bool, cond};
+ghost use mathlib.Core.Bool.{Bool, true, cond};
 ghost use Prim.Native.Nat.{ℕ, _+_, _*_, _<_, _≤_, _/_};
 ghost use lib.ListN.{length, getD, replicate};
 ghost use lib.Bits.{bitOr};
@@ -10,8 +10,8 @@ ghost use Rattle.usage.specs.Outline.{formOf};
 ghost use Rattle.automaton.specs.Mask.{has};
 ghost use Rattle.checker_account.specs.Witness.{noName};
 ghost use Rattle.checker_account.specs.Tables.{meanings, places, over, base, kept, begun, rowsIn, secondEnds, freshEnds};
-ghost use Rattle.checker_account.specs.Rounds.{grown, endsOf, joinedEach, settleNode, Filled};
-ghost use Rattle.checker_tables.specs.Search.{Small, NodesFit, EndsBy};
+ghost use Rattle.checker_account.specs.Rounds.{grown, endsOf, joinedEach, settleNode, Filled, Wide};
+ghost use Rattle.checker_tables.specs.Search.{Small, NodesFit, resetsIf, EndsBy};
 ghost use Rattle.checker_tables.specs.ByState.{ByState};
 use crate::sets::PerState;
 use checker_account::MEANINGS;
@@ -92,12 +92,38 @@ fn event_ends(rows: &Table, k: usize, own: bool, m: usize) -> PerState
     crate::sets::keep_each(m, v)
 }
 
-// By one rule: what node k ends in from the starts with meaning m.
-fn ends_by(t: &Table, rows: &Table, x: usize, k: usize, f: Node, m: usize) -> PerState
+// By the body b of a sandbox. Where its opening resets, the body is begun in state 0, and the policy is open there.
+fn inside_ends(t: &Table, opened: &Table, reset: bool, b: usize, m: usize) -> PerState
+    requires { ⌜ b < mostNodes ⌝ }
+    requires { ⌜ m < meanings ⌝ }
+    ensures { λ r. ⌜ ByState states
+        (λ q. cond reset (getD (now (opened .entry)) (base b m + 0) 0) (getD (now (t .entry)) (base b m + q) 0)) r ⌝ }
+{
+    if reset {
+        let e = opened[STARTS * b + STATES * m];
+        return [e; STATES];
+    }
+    crate::sets::entries(t, STARTS * b + STATES * m)
+}
+
+// By one rule: what node k ends in from the starts with meaning m. `reset`: an opening of policy p resets, since it is not open; then
+// `opened` is the table of ends where it is.
+fn ends_by(
+    t: &Table,
+    rows: &Table,
+    opened: &Table,
+    reset: bool,
+    p: usize,
+    x: usize,
+    k: usize,
+    f: Node,
+    m: usize,
+) -> PerState
     requires { ⌜ Small f ⌝ }
     requires { ⌜ k < mostNodes ⌝ }
     requires { ⌜ m < meanings ⌝ }
-    ensures { λ r. ⌜ ByState states (λ q. endsOf (rowsIn (now (rows .entry))) x (now (t .entry)) k m q (formOf f)) r ⌝ }
+    ensures { λ r. ⌜ ByState states
+        (λ q. endsOf (rowsIn (now (rows .entry))) x (resetsIf reset p (now (opened .entry))) (now (t .entry)) k m q (formOf f)) r ⌝ }
 {
     let a = f.a as usize;
     let b = f.b as usize;
@@ -111,7 +137,7 @@ fn ends_by(t: &Table, rows: &Table, x: usize, k: usize, f: Node, m: usize) -> Pe
         5 => crate::sets::entries(t, STARTS * a + STATES * m),
         6 => crate::sets::entries(t, STARTS * a + STATES * m),
         7 => fresh_ends(t, rows, k, a, b, m),
-        8 => crate::sets::entries(t, STARTS * b + STATES * m),
+        8 => inside_ends(t, opened, crate::both(reset, a == p), b, m),
         _ => [0u16; STATES],
     }
 }
@@ -137,12 +163,23 @@ fn join_sets(t: &mut Table, i: usize, v: PerState) -> bool
 }
 
 // Every start of node k with a meaning from l on. Did that change the table?
-fn settle_node(t: &mut Table, rows: &Table, x: usize, l: usize, k: usize, f: Node) -> bool
+fn settle_node(
+    t: &mut Table,
+    rows: &Table,
+    opened: &Table,
+    reset: bool,
+    p: usize,
+    x: usize,
+    l: usize,
+    k: usize,
+    f: Node,
+) -> bool
     requires { ⌜ length (now t) ≡ places ⌝ }
     requires { ⌜ Small f ⌝ }
     requires { ⌜ l < meanings ⌝ }
     requires { ⌜ k < mostNodes ⌝ }
-    ensures { λ r. ⌜ now (t .exit) ≡ settleNode (rowsIn (now (rows .entry))) x l k (formOf f) (now (t .entry)) ⌝ }
+    ensures { λ r. ⌜ now (t .exit)
+        ≡ settleNode (rowsIn (now (rows .entry))) x (resetsIf reset p (now (opened .entry))) l k (formOf f) (now (t .entry)) ⌝ }
     ensures { λ r. ⌜ r ≡ grown (now (t .entry)) (now (t .exit)) ⌝ }
 {
     let n = MEANINGS - l;
@@ -150,7 +187,7 @@ fn settle_node(t: &mut Table, rows: &Table, x: usize, l: usize, k: usize, f: Nod
     let mut i: usize = 0;
     while i < n {
         let m = l + i;
-        let v = ends_by(t, rows, x, k, f, m);
+        let v = ends_by(t, rows, opened, reset, p, x, k, f, m);
         if join_sets(t, STARTS * k + STATES * m, v) {
             changed = true;
         }
@@ -161,12 +198,25 @@ fn settle_node(t: &mut Table, rows: &Table, x: usize, l: usize, k: usize, f: Nod
 
 // The table, for the moves of a policy, the watched resource x and the meanings from l on; t is empty at first. The highest node that is
 // left is settled first, since a child has a greater number than its parent and ends come from the children; where that changes
-// something, the nodes that read it are left again.
-pub(crate) fn fill(nodes: &[u8], rows: &Table, x: usize, l: usize, t: &mut Table)
+// something, the nodes that read it are left again. `reset`: the table is one where policy p is not open, so that its opening resets;
+// `opened` is the one where it is, and is not looked at but then.
+pub(crate) fn fill(
+    nodes: &[u8],
+    rows: &Table,
+    opened: &Table,
+    reset: bool,
+    p: usize,
+    x: usize,
+    l: usize,
+    t: &mut Table,
+)
     requires { ⌜ NodesFit (now nodes) ⌝ }
     requires { ⌜ l < meanings ⌝ }
+    requires { ⌜ (reset ≡ true → Wide (now opened)) ⌝ }
     requires { ⌜ now t ≡ replicate places 0 ⌝ }
-    ensures { λ r. ⌜ Filled (EndsBy (now (nodes .entry)) (now (rows .entry)) x l) (replicate places 0) (now (t .exit)) ⌝ }
+    ensures { λ r. ⌜ Filled (EndsBy (now (nodes .entry)) (now (rows .entry)) x (resetsIf reset p (now (opened .entry))) l)
+        (replicate places 0) (now (t .exit)) ⌝ }
+    ensures { λ r. ⌜ Wide (now (t .exit)) ⌝ }
 {
     let n = nodes.len() / NODE_FIELDS;
     let mut readers = [0u64; MOST_NODES];
@@ -176,7 +226,7 @@ pub(crate) fn fill(nodes: &[u8], rows: &Table, x: usize, l: usize, t: &mut Table
         let k = crate::work::highest(left);
         left -= 1u64 << (k as u32);
         let f = crate::node(nodes, k);
-        if settle_node(t, rows, x, l, k, f) {
+        if settle_node(t, rows, opened, reset, p, x, l, k, f) {
             left |= readers[k];
         }
     }

@@ -6,7 +6,7 @@ ghost use lib.Bits.{bitOr};
 ghost use lib.ListN.{length, getD};
 ghost use Rattle.usage.specs.Limits.{mostNodes};
 ghost use Rattle.usage.specs.Outline.{formOf};
-ghost use Rattle.checker_account.specs.Tables.{meanings, rowsIn, place};
+ghost use Rattle.checker_account.specs.Tables.{meanings, rowsIn, restarted, place};
 ghost use Rattle.checker_account.specs.Rounds.{leavesOf, hitNode};
 ghost use Rattle.checker_tables.specs.Search.{Small, NodesFit, hitIn};
 use checker_account::MEANINGS;
@@ -14,25 +14,36 @@ use checker_account::Table;
 use usage::NODE_FIELDS;
 use usage::Node;
 
-// The states in which a sandbox is come to.
-fn opened(u: &Table, k: usize, m: usize, same: bool) -> u16
+// The states after the opening of the policy. Where it was not open, the opening resets under the local meaning.
+fn opened(u: &Table, local: bool, k: usize, m: usize, same: bool) -> u16
     requires { ⌜ k < mostNodes ⌝ }
     requires { ⌜ m < meanings ⌝ }
-    ensures { λ r. ⌜ r ≡ cond same (bitOr (getD (now (u .entry)) (place k false m) 0) (getD (now (u .entry)) (place k true m) 0)) 0 ⌝ }
+    ensures { λ r. ⌜ r ≡ cond same
+        (bitOr (restarted local (getD (now (u .entry)) (place k false m) 0)) (getD (now (u .entry)) (place k true m) 0)) 0 ⌝ }
 {
     if same {
-        crate::arrivals::come_to(u, k, false, m) | crate::arrivals::come_to(u, k, true, m)
+        crate::restarted(local, crate::arrivals::come_to(u, k, false, m))
+            | crate::arrivals::come_to(u, k, true, m)
     } else {
         0
     }
 }
 
 // The states that the step of node k leaves, the policy being open.
-fn leaves_by(u: &Table, rows: &Table, p: usize, x: usize, k: usize, f: Node, m: usize) -> u16
+fn leaves_by(
+    u: &Table,
+    rows: &Table,
+    local: bool,
+    p: usize,
+    x: usize,
+    k: usize,
+    f: Node,
+    m: usize,
+) -> u16
     requires { ⌜ Small f ⌝ }
     requires { ⌜ k < mostNodes ⌝ }
     requires { ⌜ m < meanings ⌝ }
-    ensures { λ r. ⌜ r ≡ leavesOf (rowsIn (now (rows .entry))) p x (now (u .entry)) k m (formOf f) ⌝ }
+    ensures { λ r. ⌜ r ≡ leavesOf local (rowsIn (now (rows .entry))) p x (now (u .entry)) k m (formOf f) ⌝ }
 {
     let a = f.a as usize;
     let b = f.b as usize;
@@ -42,22 +53,31 @@ fn leaves_by(u: &Table, rows: &Table, p: usize, x: usize, k: usize, f: Node, m: 
         1 => crate::rows::moved_set(rows, k, b == x, v),
         2 => crate::rows::moved_set(rows, k, m == b + 1, v),
         7 => crate::rows::moved_set(rows, k, false, v) | crate::rows::own_created(rows, k, m, v),
-        8 => opened(u, k, m, a == p),
+        8 => opened(u, local, k, m, a == p),
         _ => 0,
     }
 }
 
 // Does the step of node k leave an offending state, with some meaning from l on?
-fn hit_node(u: &Table, rows: &Table, p: usize, x: usize, l: usize, k: usize, f: Node) -> bool
+fn hit_node(
+    u: &Table,
+    rows: &Table,
+    local: bool,
+    p: usize,
+    x: usize,
+    l: usize,
+    k: usize,
+    f: Node,
+) -> bool
     requires { ⌜ Small f ⌝ }
     requires { ⌜ l < meanings ⌝ }
     requires { ⌜ k < mostNodes ⌝ }
-    ensures { λ r. ⌜ r ≡ hitNode (rowsIn (now (rows .entry))) p x (now (u .entry)) l k (formOf f) ⌝ }
+    ensures { λ r. ⌜ r ≡ hitNode local (rowsIn (now (rows .entry))) p x (now (u .entry)) l k (formOf f) ⌝ }
 {
     let n = MEANINGS - l;
     let mut i: usize = 0;
     while i < n {
-        let v = leaves_by(u, rows, p, x, k, f, l + i);
+        let v = leaves_by(u, rows, local, p, x, k, f, l + i);
         if 64 <= v % 256 {
             return true;
         }
@@ -68,16 +88,24 @@ fn hit_node(u: &Table, rows: &Table, p: usize, x: usize, l: usize, k: usize, f: 
 
 // Does that of some node? u is the table of what is come to, for the moves of policy p, the watched resource x and the meanings from
 // l on.
-pub(crate) fn any(nodes: &[u8], rows: &Table, u: &Table, p: usize, x: usize, l: usize) -> bool
+pub(crate) fn any(
+    nodes: &[u8],
+    rows: &Table,
+    u: &Table,
+    local: bool,
+    p: usize,
+    x: usize,
+    l: usize,
+) -> bool
     requires { ⌜ NodesFit (now nodes) ⌝ }
     requires { ⌜ l < meanings ⌝ }
-    ensures { λ r. ⌜ r ≡ hitIn (now (nodes .entry)) (now (rows .entry)) (now (u .entry)) p x l ⌝ }
+    ensures { λ r. ⌜ r ≡ hitIn (now (nodes .entry)) local (now (rows .entry)) (now (u .entry)) p x l ⌝ }
 {
     let n = nodes.len() / NODE_FIELDS;
     let mut k: usize = 0;
     while k < n {
         let f = crate::node(nodes, k);
-        if hit_node(u, rows, p, x, l, k, f) {
+        if hit_node(u, rows, local, p, x, l, k, f) {
             return true;
         }
         k += 1;

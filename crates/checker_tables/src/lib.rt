@@ -2,14 +2,14 @@
 // (`rows`), and a violation is looked for in them (`hits`). Here stand the search, and what the modules share: single entries of a
 // table, single nodes, and whether the tables have room for them.
 ghost use mathlib.Core.Path.{_≡_};
-ghost use mathlib.Core.Bool.{Bool};
+ghost use mathlib.Core.Bool.{Bool, not, _&&_};
 ghost use Prim.Native.Nat.{ℕ, _+_, _/_, _<_, _≤_};
 ghost use lib.ListN.{length, getD};
 ghost use Rattle.usage.specs.Limits.{states, nodeFields};
 ghost use Rattle.usage.specs.Tables.{nodeAt};
-ghost use Rattle.checker_account.specs.Tables.{over, joinedAt, places, least};
+ghost use Rattle.checker_account.specs.Tables.{over, joinedAt, meanings, places, least, restarted};
 ghost use Rattle.checker_account.specs.Rounds.{grown, Wide};
-ghost use Rattle.checker_tables.specs.Search.{lost, touched, smallNode, hasRoom, SearchedIf};
+ghost use Rattle.checker_tables.specs.Search.{lost, touched, smallNode, NodesFit, hasRoom, byOpen, Found, SearchedIf};
 use checker_account::NAMES;
 use checker_account::PLACES;
 use checker_account::Table;
@@ -58,6 +58,23 @@ fn join(t: &mut Table, i: usize, v: u16) -> bool
     let new = old | v;
     t[i] = new;
     new != old
+}
+
+// Both.
+fn both(a: bool, b: bool) -> bool
+    ensures { λ r. ⌜ r ≡ (a && b) ⌝ }
+{
+    if a { b } else { false }
+}
+
+// The states v after an opening. Where it resets, state 0 alone, if there is any.
+fn restarted(reset: bool, v: u16) -> u16
+    ensures { λ r. ⌜ r ≡ restarted reset v ⌝ }
+{
+    if !reset {
+        return v;
+    }
+    if v % 256 == 0 { 0 } else { 1 }
 }
 
 // Meaning m once meaning n no longer occurs: 1 + a name that is given to another resource, or 0 once the resource was created.
@@ -144,18 +161,43 @@ fn fits(nodes: &[u8]) -> bool
     true
 }
 
-// Is policy p, whose moves the table of rows has, broken with the resource x watched? Where the tables have no room for the nodes, it
-// is not.
-pub fn breaks(nodes: &[u8], rows: &Table, p: usize, x: usize) -> bool
-    ensures { λ r. ⌜ SearchedIf (hasRoom (now (nodes .entry))) (now (nodes .entry)) (now (rows .entry)) p x r ⌝ }
+// Is it, by the tables of ends where the policy is open and where it is not?
+fn found(
+    nodes: &[u8],
+    rows: &Table,
+    opened: &Table,
+    shut: &Table,
+    local: bool,
+    p: usize,
+    x: usize,
+    l: usize,
+) -> bool
+    requires { ⌜ NodesFit (now nodes) ⌝ }
+    requires { ⌜ l < meanings ⌝ }
+    ensures { λ r. ⌜ Found (now (nodes .entry)) local (now (rows .entry))
+        (byOpen (now (opened .entry)) (now (shut .entry))) p x l r ⌝ }
+{
+    let mut u = [0u16; PLACES];
+    arrivals::fill(nodes, rows, opened, shut, local, p, l, &mut u);
+    hits::any(nodes, rows, &u, local, p, x, l)
+}
+
+// Is policy p, whose moves the table of rows has, broken with the resource x watched, where the whole past counts or, under the local
+// meaning, that of the sandbox? Where the tables have no room for the nodes, it is not. Where the policy is open, no opening resets
+// anything: the table of ends there serves both meanings, and the whole past needs no other.
+pub fn breaks(nodes: &[u8], rows: &Table, local: bool, p: usize, x: usize) -> bool
+    ensures { λ r. ⌜ SearchedIf (hasRoom (now (nodes .entry))) (now (nodes .entry)) local (now (rows .entry)) p x r ⌝ }
 {
     if !fits(nodes) {
         return false;
     }
     let l = least(x);
-    let mut t = [0u16; PLACES];
-    ends::fill(nodes, rows, x, l, &mut t);
-    let mut u = [0u16; PLACES];
-    arrivals::fill(nodes, rows, &t, p, l, &mut u);
-    hits::any(nodes, rows, &u, p, x, l)
+    let mut opened = [0u16; PLACES];
+    ends::fill(nodes, rows, rows, false, p, x, l, &mut opened);
+    if !local {
+        return found(nodes, rows, &opened, &opened, local, p, x, l);
+    }
+    let mut shut = [0u16; PLACES];
+    ends::fill(nodes, rows, &opened, true, p, x, l, &mut shut);
+    found(nodes, rows, &opened, &shut, local, p, x, l)
 }

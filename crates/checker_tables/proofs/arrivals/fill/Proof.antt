@@ -1,5 +1,6 @@
 use native.Mathlib.Omega.{arith}
 use mathlib.Core.Path.{_≡_, sym, ap, _∙_, subst}
+use mathlib.Core.Bool.{Bool}
 use mathlib.Core.List.{List}
 use Prim.Native.Nat.{ℕ, _-_, _/_}
 use lib.ListN.{length, replicate}
@@ -7,7 +8,7 @@ use Rattle.usage.specs.Limits.{nodeFields}
 use Rattle.usage.proofs.Logic.{not-true, not-false}
 use Rattle.checker_account.specs.Tables.{places, joinedAt, rowsIn}
 use Rattle.checker_account.specs.Rounds.{total, formsIn, begins, Derived, start, Filled}
-use Rattle.checker_tables.specs.Search.{comesRound, ComesBy}
+use Rattle.checker_tables.specs.Search.{byOpen, comesRound, ComesBy}
 use Rattle.checker_account.proofs.RoundLaws.{Grows, Filling, most, joined-grows, grown-false, filling-length, nearer}
 use Rattle.checker_account.proofs.PassLaws.{pass-round-grows, pass-round-derived, pass-round-closed}
 use Rattle.checker_account.proofs.SearchLaws.{begins-wide}
@@ -19,17 +20,17 @@ use Rattle.checker_tables.proofs.arrivals.fill.Lts as lts
 use Rattle.checker_tables.proofs.arrivals.pass_round.Reads as pass-round-reads
 use Rattle.checker_tables.proofs.join.Reads as join-reads
 
-abbrev grows : (t nodes rows : List ℕ) (p l : ℕ) (u : List ℕ) → Grows u (comesRound nodes rows t p l u)
-grows t nodes rows p l = pass-round-grows (rowsIn rows) p t l (length nodes / nodeFields) (formsIn nodes)
+abbrev grows : (t : Bool → List ℕ) (nodes rows : List ℕ) (local : Bool) (p l : ℕ) (u : List ℕ) → Grows u (comesRound nodes local rows t p l u)
+grows t nodes rows local p l = pass-round-grows local (rowsIn rows) p t l (length nodes / nodeFields) (formsIn nodes)
 
 begins-length : (l : ℕ) → length (begins l) ≡ places
 begins-length l = joined-grows (replicate places 0) l 1 .len
 
 abbrev Inv-loop : tie.InvT-loop
-Inv-loop nodes rows t p l u₀ u = Filling (ComesBy nodes rows t p l) (begins l) u
+Inv-loop nodes rows opened shut local p l u₀ u = Filling (ComesBy nodes local rows (byOpen opened shut) p l) (begins l) u
 
 abbrev μ-loop : tie.MeasureT-loop
-μ-loop nodes rows t p l u₀ u = most - total u
+μ-loop nodes rows opened shut local p l u₀ u = most - total u
 
 join-requires : tie.Need-join-requires Inv-loop μ-loop
 join-requires c κs =
@@ -39,7 +40,7 @@ join-requires c κs =
 loop-holds : tie.Need-loop-holds Inv-loop μ-loop
 loop-holds c =
     let a = c .before .before .before .args in
-    let r = ComesBy (a .nodes .now) (a .rows .now) (a .t .now) (a .p) (a .l) in
+    let r = ComesBy (a .nodes .now) (a .local) (a .rows .now) (byOpen (a .opened .now) (a .shut .now)) (a .p) (a .l) in
     let m : c .join .last .0 ≡ begins (a .l) =
     c .join .ensures .0 ∙ ap (λ (u : List ℕ). joinedAt u (a .l) 1) (c .before .before .before .pre .1 .1) in
     subst (Filling r (begins (a .l))) (sym m) (record { derived = start; wide = begins-wide (a .l) })
@@ -48,22 +49,22 @@ pass-round-requires : tie.Need-pass-round-requires Inv-loop μ-loop
 pass-round-requires c κs =
     let a = c .before .before .before .before .before .args in
     let p = c .before .before .before .before .before .pre in
-    let r = ComesBy (a .nodes .now) (a .rows .now) (a .t .now) (a .p) (a .l) in
+    let r = ComesBy (a .nodes .now) (a .local) (a .rows .now) (byOpen (a .opened .now) (a .shut .now)) (a .p) (a .l) in
     let l = c .before .loop in
     (filling-length r (begins (a .l)) (l .u) (begins-length (a .l)) (l .inv), (p .0, p .1 .0))
 
 returns : tie.Need-returns Inv-loop μ-loop
 returns c =
     let a = c .before .before .before .before .before .before .before .args in
-    let g = grows (a .t .now) (a .nodes .now) (a .rows .now) (a .p) (a .l) in
+    let g = grows (byOpen (a .opened .now) (a .shut .now)) (a .nodes .now) (a .rows .now) (a .local) (a .p) (a .l) in
     let l = c .before .before .before .loop in
     let s = c .before .pass-round in
     let same : s .last .0 ≡ l .u =
     grown-false (subst (Grows (l .u)) (sym (s .ensures .0)) (g (l .u))) (sym (s .ensures .1 .0) ∙ not-true (s .result) (c .if1 .taken)) in
-    subst (Filled (ComesBy (a .nodes .now) (a .rows .now) (a .t .now) (a .p) (a .l)) (begins (a .l))) (sym same) (record {
+    subst (Filled (ComesBy (a .nodes .now) (a .local) (a .rows .now) (byOpen (a .opened .now) (a .shut .now)) (a .p) (a .l)) (begins (a .l))) (sym same) (record {
       derived = l .inv .derived;
       closed =
-          pass-round-closed (rowsIn (a .rows .now)) (a .p) (a .t .now) (a .l) (length (a .nodes .now) / nodeFields)
+          pass-round-closed (a .local) (rowsIn (a .rows .now)) (a .p) (byOpen (a .opened .now) (a .shut .now)) (a .l) (length (a .nodes .now) / nodeFields)
           (formsIn (a .nodes .now)) (l .u)
           (sym (s .ensures .0) ∙ same);
     })
@@ -71,8 +72,8 @@ returns c =
 loop-less : tie.Need-loop-less Inv-loop μ-loop
 loop-less c =
     let a = c .before .before .before .before .before .before .before .args in
-    let r = ComesBy (a .nodes .now) (a .rows .now) (a .t .now) (a .p) (a .l) in
-    let g = grows (a .t .now) (a .nodes .now) (a .rows .now) (a .p) (a .l) in
+    let r = ComesBy (a .nodes .now) (a .local) (a .rows .now) (byOpen (a .opened .now) (a .shut .now)) (a .p) (a .l) in
+    let g = grows (byOpen (a .opened .now) (a .shut .now)) (a .nodes .now) (a .rows .now) (a .local) (a .p) (a .l) in
     let l = c .before .before .before .loop in
     let s = c .before .pass-round in
     let len = subst (Grows (l .u)) (sym (s .ensures .0)) (g (l .u)) .len
@@ -86,8 +87,8 @@ loop-again c =
     let s = c .before .pass-round in
     record {
       derived =
-          subst (Derived (ComesBy (a .nodes .now) (a .rows .now) (a .t .now) (a .p) (a .l)) (begins (a .l))) (sym (s .ensures .0))
-          (pass-round-derived (rowsIn (a .rows .now)) (a .p) (a .t .now) (a .l) (length (a .nodes .now) / nodeFields)
+          subst (Derived (ComesBy (a .nodes .now) (a .local) (a .rows .now) (byOpen (a .opened .now) (a .shut .now)) (a .p) (a .l)) (begins (a .l))) (sym (s .ensures .0))
+          (pass-round-derived (a .local) (rowsIn (a .rows .now)) (a .p) (byOpen (a .opened .now) (a .shut .now)) (a .l) (length (a .nodes .now) / nodeFields)
           (formsIn (a .nodes .now)) (begins (a .l))
           (l .u) (l .inv .derived));
       wide = s .ensures .1 .1 (l .inv .wide);

@@ -21,7 +21,7 @@ returns : tie.Need-returns
 returns c =
     let a = c .before .before .before .args in
     let none =
-    pass-none (rowsIn (now (a .rows))) (a .p) (now (a .t)) (a .k) (formOf (a .f)) (a .o) (a .m) (now (a .u))
+    pass-none (a .local) (rowsIn (now (a .rows))) (a .p) (now (a .t)) (a .k) (formOf (a .f)) (a .o) (a .m) (now (a .u))
     (sym (c .before .come-to .ensures) ∙ c .if1 .taken) in
     (sym none, (sym (grown-self (now (a .u))), λ w. w))
 
@@ -33,7 +33,7 @@ returns-2 c =
     let a = c .before .before .before .before .before .args in
     let h = c .pass-by .ensures in (
       h .0
-          ∙ ap (λ (v : ℕ). entered (arrivalsOf (rowsIn (now (a .rows))) (a .p) (now (a .t)) (a .k) (a .o) (a .m) v (formOf (a .f)))
+          ∙ ap (λ (v : ℕ). entered (arrivalsOf (a .local) (rowsIn (now (a .rows))) (a .p) (now (a .t)) (a .k) (a .o) (a .m) v (formOf (a .f)))
           (now (a .u)))
           (c .before .before .before .come-to .ensures),
       (h .1 .0, h .1 .1),

@@ -1,10 +1,9 @@
-use mathlib.Core.Path.{sym, ap, _∙_}
+use mathlib.Core.Path.{sym, ap}
 use borrow.Author.Needs.{needs}
 use denote.Ref.{now}
 use mathlib.Core.List.{List}
-use mathlib.Core.Bool.{Bool}
 use Rattle.usage.specs.Outline.{formOf}
-use Rattle.checker_account.specs.Tables.{place, rowsIn, Arrival, arrivals, joinedAt}
+use Rattle.checker_account.specs.Tables.{rowsIn, Arrival, arrivals}
 use Rattle.checker_account.specs.Rounds.{entered}
 use Rattle.checker_account.proofs.RoundLaws.{grown-self}
 use Rattle.checker_account.proofs.CodeLaws.{no-arrivals}
@@ -12,7 +11,7 @@ use Rattle.checker_tables.proofs.arrivals.pass_by.Statement.{statement}
 use Rattle.checker_tables.proofs.arrivals.pass_by.Tie as tie
 use Rattle.checker_tables.proofs.arrivals.pass_by.Reads as reads
 use Rattle.checker_tables.proofs.arrivals.pass_by.Lts as lts
-use Rattle.checker_tables.proofs.arrivals.either.Reads as either-reads
+use Rattle.checker_tables.proofs.arrivals.pass_sandbox.Reads as pass-sandbox-reads
 use Rattle.checker_tables.proofs.arrivals.enter.Reads as enter-reads
 use Rattle.checker_tables.proofs.arrivals.enter_two.Reads as enter-two-reads
 use Rattle.checker_tables.proofs.arrivals.pass_fresh.Reads as pass-fresh-reads
@@ -41,11 +40,8 @@ pass-fresh-requires c κs =
     let p = c .before .before .before .before .pre in
     (p .0, (p .1 .1 .0, (p .1 .0 .a-name (c .before .match .keys5), (p .1 .0 .b-node, p .1 .1 .1))))
 
-either-requires : tie.Need-either-requires
-either-requires c κs = search needs
-
-enter-requires-3 : tie.Need-enter-requires-3
-enter-requires-3 c κs = search needs
+pass-sandbox-requires : tie.Need-pass-sandbox-requires
+pass-sandbox-requires c κs = search needs
 
 returns : tie.Need-returns
 unfolding formOf arrivals entered
@@ -69,19 +65,14 @@ returns-5 c = (rw (c .before .before .match .keys5) (c .pass-fresh .ensures .0),
 
 returns-6 : tie.Need-returns-6
 unfolding formOf arrivals entered
-returns-6 c =
-    let a = c .before .before .before .before .before .before .args in (
-      rw (c .before .before .before .match .keys6)
-          (c .enter3 .ensures .0 ∙ ap (λ (o : Bool). joinedAt (now (a .u)) (place (a .f .b) o (a .m)) (a .v)) (c .before .either .ensures)),
-      c .enter3 .ensures .1,
-    )
+returns-6 c = (rw (c .before .before .match .keys6) (c .pass-sandbox .ensures .0), c .pass-sandbox .ensures .1)
 
 returns-7 : tie.Need-returns-7
 unfolding entered
 returns-7 c =
     let a = c .before .before .before .args in
     let n = c .match .rest in
-    let e = no-arrivals (rowsIn (now (a .rows))) (a .p) (now (a .t)) (a .k) (a .o) (a .m) (a .v) (a .f .kind) (a .f .a) (a .f .b)
+    let e = no-arrivals (a .local) (rowsIn (now (a .rows))) (a .p) (now (a .t)) (a .k) (a .o) (a .m) (a .v) (a .f .kind) (a .f .a) (a .f .b)
     (n .0 .0 .0 .0 .0 .1) (n .0 .0 .0 .0 .1) (n .0 .0 .0 .1) (n .0 .0 .1) (n .0 .1) (n .1) in
     (sym (ap (λ (gs : List Arrival). entered gs (now (a .u))) e), (sym (grown-self (now (a .u))), λ w. w))
 
@@ -96,8 +87,7 @@ pass-by-spec =
     enter-requires
     enter-requires-2
     pass-fresh-requires
-    either-requires
-    enter-requires-3
+    pass-sandbox-requires
     returns
     returns-2
     returns-3

@@ -4,6 +4,7 @@ use Prim.Native.Nat.{ℕ, _-_, _≤_, _/_}
 use lib.ListN.{length}
 use borrow.Author.Needs.{needs}
 use denote.Ref.{now}
+use mathlib.Core.Bool.{Bool}
 use mathlib.Core.List.{List}
 use Rattle.usage.specs.Limits.{mostNodes, nodeFields}
 use mathlib.Core.Logic.{inl, inr}
@@ -14,7 +15,7 @@ use Rattle.checker_account.proofs.RoundLaws.{Grows, grown-self, repeat-length, 
 use Rattle.checker_account.proofs.PassLaws.{pass-node-grows}
 use Rattle.usage.specs.declared.Node.{Node}
 use Rattle.usage.specs.Outline.{formOf}
-use Rattle.checker_tables.specs.Search.{Small}
+use Rattle.checker_tables.specs.Search.{Small, byOpen}
 use Rattle.checker_tables.proofs.arrivals.pass_round.Statement.{statement}
 use Rattle.checker_tables.proofs.arrivals.pass_round.Tie as tie
 use Rattle.checker_tables.proofs.arrivals.pass_round.Reads as reads
@@ -22,18 +23,19 @@ use Rattle.checker_tables.proofs.arrivals.pass_round.Lts as lts
 use Rattle.checker_tables.proofs.arrivals.pass_node.Reads as pass-node-reads
 use Rattle.checker_tables.proofs.node.Reads as node-reads
 
-abbrev steps : List ℕ → List ℕ → List ℕ → ℕ → ℕ → ℕ → List ℕ → List ℕ
-steps t nodes rows p l k = passNode (rowsIn rows) p t l k (formsIn nodes k)
+abbrev steps : List ℕ → List ℕ → List ℕ → List ℕ → Bool → ℕ → ℕ → ℕ → List ℕ → List ℕ
+steps opened shut nodes rows local p l k = passNode local (rowsIn rows) p (byOpen opened shut) l k (formsIn nodes k)
 
-steps-grow : (t nodes rows : List ℕ) (p l k : ℕ) (u : List ℕ) → Grows u (steps t nodes rows p l k u)
-steps-grow t nodes rows p l k u = pass-node-grows (rowsIn rows) p t l k (formsIn nodes k) u
+steps-grow : (opened shut nodes rows : List ℕ) (local : Bool) (p l k : ℕ) (u : List ℕ)
+    → Grows u (steps opened shut nodes rows local p l k u)
+steps-grow opened shut nodes rows local p l k u = pass-node-grows local (rowsIn rows) p (byOpen opened shut) l k (formsIn nodes k) u
 
 abbrev Inv-loop : tie.InvT-loop
-Inv-loop u₀ t nodes rows p l n changed₀ k₀ u changed k =
-    (k ≤ n) × ((u ≡ repeat (steps t nodes rows p l) k u₀) × ((changed ≡ grown u₀ u) × (Wide u₀ → Wide u)))
+Inv-loop u₀ opened shut nodes rows local p l n changed₀ k₀ u changed k =
+    (k ≤ n) × ((u ≡ repeat (steps opened shut nodes rows local p l) k u₀) × ((changed ≡ grown u₀ u) × (Wide u₀ → Wide u)))
 
 abbrev μ-loop : tie.MeasureT-loop
-μ-loop u₀ t nodes rows p l n changed₀ k₀ u changed k = n - k
+μ-loop u₀ opened shut nodes rows local p l n changed₀ k₀ u changed k = n - k
 
 loop-holds : tie.Need-loop-holds Inv-loop μ-loop
 unfolding repeat
@@ -45,8 +47,8 @@ node-requires c κs = search needs
 pass-node-requires : tie.Need-pass-node-requires Inv-loop μ-loop
 pass-node-requires c κs =
     let a = c .before .before .before .before .before .args in
-    let f = steps (a .t .now) (a .nodes .now) (a .rows .now) (a .p) (a .l) in
-    let grows = steps-grow (a .t .now) (a .nodes .now) (a .rows .now) (a .p) (a .l) in
+    let f = steps (a .opened .now) (a .shut .now) (a .nodes .now) (a .rows .now) (a .local) (a .p) (a .l) in
+    let grows = steps-grow (a .opened .now) (a .shut .now) (a .nodes .now) (a .rows .now) (a .local) (a .p) (a .l) in
     let l = c .before .before .before .loop in
     let p = c .before .before .before .before .before .pre in
     let h = c .before .before .loop-test .taken in
@@ -65,13 +67,13 @@ loop-again : tie.Need-loop-again Inv-loop μ-loop
 loop-again c =
     let a = c .before .before .before .before .before .before .before .args in
     let l = c .before .before .before .before .before .loop in
-    let f = steps (a .t .now) (a .nodes .now) (a .rows .now) (a .p) (a .l) in
-    let grows = steps-grow (a .t .now) (a .nodes .now) (a .rows .now) (a .p) (a .l) in
+    let f = steps (a .opened .now) (a .shut .now) (a .nodes .now) (a .rows .now) (a .local) (a .p) (a .l) in
+    let grows = steps-grow (a .opened .now) (a .shut .now) (a .nodes .now) (a .rows .now) (a .local) (a .p) (a .l) in
     let w = c .before .pass-node .last .0 in
     let h = c .before .before .before .before .loop-test .taken in
     let e : w ≡ f (l .k) (l .u) =
     c .before .pass-node .ensures .0
-    ∙ ap (λ (d : Node). passNode (rowsIn (a .rows .now)) (a .p) (a .t .now) (a .l) (l .k) (formOf d) (l .u))
+    ∙ ap (λ (d : Node). passNode (a .local) (rowsIn (a .rows .now)) (a .p) (byOpen (a .opened .now) (a .shut .now)) (a .l) (l .k) (formOf d) (l .u))
     (c .before .before .before .node .ensures) in
     let wide : Wide (a .u .now) → Wide w = λ h. c .before .pass-node .ensures .1 .1 (l .inv .1 .1 .1 h) in
     let made = turn f grows (l .k) (a .u .now) (l .u) w (l .changed) (c .if1 .changed)

@@ -1,19 +1,22 @@
 use mathlib.Core.Path.{refl, sym, ap, subst}
 use mathlib.Core.Option.{Option}
 use mathlib.Core.List.{[], _∷_}
-use Prim.Native.Nat.{ℕ, _^_}
+use Prim.Native.Nat.{ℕ, _+_, _^_}
+use mathlib.Core.Bool.{cond}
 use native.Mathlib.Numerals.{add-one}
 use denote.Ref.{now}
 use lib.Dec.{eqb}
 use lib.ListN.{getD, replicate}
 use Rattle.usage.specs.Limits.{states}
 use Rattle.usage.specs.Outline.{Form, formOf}
-use Rattle.checker_account.specs.Tables.{kept, rowsIn, endsBy}
+use Rattle.checker_account.specs.Tables.{base, kept, rowsIn, insideEnds, endsBy}
 use Rattle.checker_account.specs.Rounds.{endsOf}
 use Rattle.checker_account.proofs.CodeLaws.{no-form}
 use Rattle.checker_account.proofs.JoinLaws.{zeros}
 use Rattle.checker_tables.specs.ByState.{ByState}
 use Rattle.checker_tables.proofs.ByStateLaws.{by-as, singles}
+use Rattle.checker_tables.proofs.ResetLaws.{inside-if}
+use Rattle.checker_tables.specs.Search.{resetsIf}
 use borrow.Author.Needs.{needs}
 use Rattle.checker_tables.proofs.ends.ends_by.Statement.{statement}
 use Rattle.checker_tables.proofs.ends.ends_by.Tie as tie
@@ -23,6 +26,8 @@ use Rattle.checker_tables.proofs.ends.either_ends.Reads as either-ends-
 use Rattle.checker_tables.proofs.ends.event_ends.Reads as event-ends-reads
 use Rattle.checker_tables.proofs.ends.fresh_ends.Reads as fresh-ends-reads
 use Rattle.checker_tables.proofs.ends.second_ends.Reads as second-ends-reads
+use Rattle.checker_tables.proofs.both.Reads as both-reads
+use Rattle.checker_tables.proofs.ends.inside_ends.Reads as inside-ends-reads
 use Rattle.checker_tables.proofs.sets.entries.Reads as entries-reads
 use Rattle.checker_tables.proofs.sets.keep_each.Reads as keep-each-reads
 
@@ -78,17 +83,11 @@ fresh-ends-requires : tie.Need-fresh-ends-requires
 fresh-ends-requires c κs =
     let p = c .before .before .before .pre in (p .1 .0, (p .0 .a-name (c .match .keys8), (p .0 .b-node, p .1 .1)))
 
-mul-entries-5 : tie.Need-mul-entries-5
-mul-entries-5 c = search needs
+both-requires : tie.Need-both-requires
+both-requires c κs = search needs
 
-mul-entries-6 : tie.Need-mul-entries-6
-mul-entries-6 c = search needs
-
-add-entries-3 : tie.Need-add-entries-3
-add-entries-3 c = search needs
-
-entries-requires-3 : tie.Need-entries-requires-3
-entries-requires-3 c κs = search needs
+inside-ends-requires : tie.Need-inside-ends-requires
+inside-ends-requires c κs = search needs
 
 returns : tie.Need-returns
 unfolding formOf endsBy
@@ -132,14 +131,21 @@ returns-8 c = rw (c .before .match .keys8) (c .fresh-ends .ensures)
 
 returns-9 : tie.Need-returns-9
 unfolding formOf endsBy
-returns-9 c = rw (c .before .match .keys9) (c .entries3 .ensures)
+returns-9 c =
+    let a = c .before .before .before .before .before .args in
+    rw (c .before .before .match .keys9)
+    (by-as (λ q. insideEnds (resetsIf (a .reset) (a .p) (now (a .opened))) (now (a .t)) (a .f .a) (a .f .b) (a .m) q)
+    (λ q. cond (c .before .both .result) (getD (now (a .opened)) (base (a .f .b) (a .m) + 0) 0)
+    (getD (now (a .t)) (base (a .f .b) (a .m) + q) 0)) (c .inside-ends .result) (c .inside-ends .ensures)
+    (λ q l. inside-if (a .reset) (a .p) (now (a .opened)) (now (a .t)) (a .f .a) (a .f .b) (a .m) q (c .before .both .result)
+    (c .before .both .ensures)))
 
 returns-10 : tie.Need-returns-10
 returns-10 c =
     let a = c .before .before .before .args in
     let f = a .f in
     let n = c .match .rest in
-    subst (λ (o : Option Form). ByState states (λ q. endsOf (rowsIn (now (a .rows))) (a .x) (now (a .t)) (a .k) (a .m) q o)
+    subst (λ (o : Option Form). ByState states (λ q. endsOf (rowsIn (now (a .rows))) (a .x) (resetsIf (a .reset) (a .p) (now (a .opened))) (now (a .t)) (a .k) (a .m) q o)
     (replicate states 0))
     (sym (no-form (f .kind) (f .a) (f .b) (n .0 .0 .0 .0 .0 .0 .0 .0 .1) (n .0 .0 .0 .0 .0 .0 .0 .1) (n .0 .0 .0 .0 .0 .0 .1)
     (n .0 .0 .0 .0 .0 .1) (n .0 .0 .0 .0 .1) (n .0 .0 .0 .1) (n .0 .0 .1) (n .0 .1) (n .1)))
@@ -166,10 +172,8 @@ ends-by-spec =
     add-entries-2
     entries-requires-2
     fresh-ends-requires
-    mul-entries-5
-    mul-entries-6
-    add-entries-3
-    entries-requires-3
+    both-requires
+    inside-ends-requires
     returns
     returns-2
     returns-3

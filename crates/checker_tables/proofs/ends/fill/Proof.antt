@@ -9,9 +9,10 @@ use lib.ListN.{length, getD, replicate}
 use Rattle.usage.specs.Limits.{mostNodes, nodeFields}
 use Rattle.usage.specs.declared.Node.{Node}
 use Rattle.usage.specs.Outline.{formOf}
-use Rattle.checker_account.specs.Tables.{places, meanings, rowsIn}
-use Rattle.checker_account.specs.Rounds.{grown, formsIn, settleNode}
-use Rattle.checker_tables.specs.Search.{Small, NodesFit}
+use Rattle.checker_account.specs.Tables.{places, meanings, rowsIn, Resets}
+use Rattle.checker_account.specs.Rounds.{grown, formsIn, settleNode, Wide}
+use Rattle.checker_account.proofs.SettleLaws.{WideLent}
+use Rattle.checker_tables.specs.Search.{Small, NodesFit, resetsIf}
 use Rattle.checker_tables.specs.Work.{readersOf}
 use Rattle.checker_tables.proofs.WorkLaws.{
   Working,
@@ -35,14 +36,19 @@ use Rattle.checker_tables.proofs.work.all.Reads as all-reads
 use Rattle.checker_tables.proofs.work.highest.Reads as highest-reads
 use Rattle.checker_tables.proofs.work.readers.Reads as readers-reads
 
-abbrev Done : List ℕ → List ℕ → ℕ → ℕ → List ℕ → ℕ → Type 0
-Done nodes rows x l = Working (rowsIn rows) x l (length nodes / nodeFields) (formsIn nodes)
+abbrev Done : List ℕ → List ℕ → ℕ → Resets → ℕ → List ℕ → ℕ → Type 0
+Done nodes rows x resets l = Working (rowsIn rows) x resets l (length nodes / nodeFields) (formsIn nodes)
+
+-- what is lent is a table of 16 bits
+lent-wide : (reset : Bool) (p : ℕ) (opened : List ℕ) → (reset ≡ true → Wide opened) → WideLent (resetsIf reset p opened)
+lent-wide false p opened w = tt
+lent-wide true p opened w = w refl
 
 positive : (s : ℕ) → (s ≡ 0 → ⊥) → 0 < s
 positive s d = omega arith
 
 -- the highest node that is left
-module _ (nodes rows : List ℕ) (x l : ℕ) (fit : NodesFit nodes) (t : List ℕ) (s k : ℕ) (w : Done nodes rows x l t s) (low : 2 ^ k ≤ s)
+module _ (nodes rows : List ℕ) (x : ℕ) (resets : Resets) (l : ℕ) (fit : NodesFit nodes) (t : List ℕ) (s k : ℕ) (w : Done nodes rows x resets l t s) (low : 2 ^ k ≤ s)
     (high : s < 2 ^ suc k) where
   abbrev n : ℕ
   n = length nodes / nodeFields
@@ -59,35 +65,35 @@ module _ (nodes rows : List ℕ) (x l : ℕ) (fit : NodesFit nodes) (t : List �
   bit-low : bit ≤ s
   bit-low = omega (arith, shl-node k small)
 
-  module _ (u : List ℕ) (e : u ≡ settleNode (rowsIn rows) x l k (formsIn nodes k) t) where
-    still : grown t u ≡ false → Done nodes rows x l u (s - bit)
+  module _ (u : List ℕ) (e : u ≡ settleNode (rowsIn rows) x resets l k (formsIn nodes k) t) where
+    still : grown t u ≡ false → Done nodes rows x resets l u (s - bit)
     still g =
-        subst (λ (b : ℕ). Done nodes rows x l u (s - b)) (sym (shl-node k small))
-        (still-working (rowsIn rows) x l n (formsIn nodes) (fit .few) t u s k w low high e g)
+        subst (λ (b : ℕ). Done nodes rows x resets l u (s - b)) (sym (shl-node k small))
+        (still-working (rowsIn rows) x resets l n (formsIn nodes) (fit .few) t u s k w low high e g)
 
     still-falls : grown t u ≡ false → leftOf u (s - bit) < leftOf t s
     still-falls g =
         subst (λ (b : ℕ). leftOf u (s - b) < leftOf t s) (sym (shl-node k small))
-        (still-less (rowsIn rows) x l n (formsIn nodes) (fit .few) t u s k w low high e g)
+        (still-less (rowsIn rows) x resets l n (formsIn nodes) (fit .few) t u s k w low high e g)
 
-    module _ (less : l < meanings) (readers : List ℕ) (r : readers ≡ readersOf n (formsIn nodes)) (g : grown t u ≡ true) where
-      more : Done nodes rows x l u (bitOr (s - bit) (getD readers k 0))
+    module _ (lent : WideLent resets) (less : l < meanings) (readers : List ℕ) (r : readers ≡ readersOf n (formsIn nodes)) (g : grown t u ≡ true) where
+      more : Done nodes rows x resets l u (bitOr (s - bit) (getD readers k 0))
       more =
-          subst (Done nodes rows x l u)
+          subst (Done nodes rows x resets l u)
           (ap₂ (λ (b : ℕ) (m : List ℕ). bitOr (s - b) (getD m k 0)) (sym (shl-node k small)) (sym r))
-          (more-working (rowsIn rows) x l n (formsIn nodes) (fit .few) t u s k w low high e (named-forms nodes fit) (omega arith) g)
+          (more-working (rowsIn rows) x resets l n (formsIn nodes) (fit .few) t u s k w low high e lent (named-forms nodes fit) (omega arith) g)
 
       more-falls : leftOf u (bitOr (s - bit) (getD readers k 0)) < leftOf t s
       more-falls =
           let b : 2 ^ n ≤ 18446744073709551616 = pow-mono (fit .few) in
-          more-less (rowsIn rows) x l n (formsIn nodes) (fit .few) t u s k w low high e (named-forms nodes fit) (omega arith) g
+          more-less (rowsIn rows) x resets l n (formsIn nodes) (fit .few) t u s k w low high e lent (named-forms nodes fit) (omega arith) g
           (bitOr (s - bit) (getD readers k 0)) (omega (arith, more .nodes))
 
 abbrev Inv-loop : tie.InvT-loop
-Inv-loop nodes rows x l t₀ n readers left₀ t left = Done nodes rows x l t left
+Inv-loop nodes rows opened reset p x l t₀ n readers left₀ t left = Done nodes rows x (resetsIf reset p opened) l t left
 
 abbrev μ-loop : tie.MeasureT-loop
-μ-loop nodes rows x l t₀ n readers left₀ t left = leftOf t left
+μ-loop nodes rows opened reset p x l t₀ n readers left₀ t left = leftOf t left
 
 readers-requires : tie.Need-readers-requires Inv-loop μ-loop
 readers-requires c κs = (c .before .before .pre .0, refl)
@@ -99,10 +105,10 @@ loop-holds : tie.Need-loop-holds Inv-loop μ-loop
 loop-holds c =
     let a = c .before .before .before .before .args in
     let p = c .before .before .before .before .pre in
-    subst (Done (a .nodes .now) (a .rows .now) (a .x) (a .l) (a .t .now)) (sym (c .all .ensures))
-    (subst (λ (u : List ℕ). Done (a .nodes .now) (a .rows .now) (a .x) (a .l) u (2 ^ (length (a .nodes .now) / nodeFields) - 1))
-    (sym (p .1 .1))
-    (working-start (rowsIn (a .rows .now)) (a .x) (a .l) (length (a .nodes .now) / nodeFields) (formsIn (a .nodes .now)) (p .0 .few)))
+    subst (Done (a .nodes .now) (a .rows .now) (a .x) (resetsIf (a .reset) (a .p) (a .opened .now)) (a .l) (a .t .now)) (sym (c .all .ensures))
+    (subst (λ (u : List ℕ). Done (a .nodes .now) (a .rows .now) (a .x) (resetsIf (a .reset) (a .p) (a .opened .now)) (a .l) u (2 ^ (length (a .nodes .now) / nodeFields) - 1))
+    (sym (p .1 .1 .1))
+    (working-start (rowsIn (a .rows .now)) (a .x) (resetsIf (a .reset) (a .p) (a .opened .now)) (a .l) (length (a .nodes .now) / nodeFields) (formsIn (a .nodes .now)) (p .0 .few)))
 
 highest-requires : tie.Need-highest-requires Inv-loop μ-loop
 highest-requires c κs = positive (c .before .loop .left) (c .loop-test .taken)
@@ -113,7 +119,7 @@ cast-left c =
     let p = c .before .before .before .before .before .before .before .pre in
     let l = c .before .before .loop in
     let h = c .highest in
-    let k = small (a .nodes .now) (a .rows .now) (a .x) (a .l) (p .0) (l .t) (l .left) (h .result) (l .inv) (h .ensures .0)
+    let k = small (a .nodes .now) (a .rows .now) (a .x) (resetsIf (a .reset) (a .p) (a .opened .now)) (a .l) (p .0) (l .t) (l .left) (h .result) (l .inv) (h .ensures .0)
     (h .ensures .1) in
     omega arith
 
@@ -123,7 +129,7 @@ cast-left-2 c =
     let p = c .before .before .before .before .before .before .before .pre in
     let l = c .before .before .loop in
     let h = c .highest in
-    let k = small (a .nodes .now) (a .rows .now) (a .x) (a .l) (p .0) (l .t) (l .left) (h .result) (l .inv) (h .ensures .0)
+    let k = small (a .nodes .now) (a .rows .now) (a .x) (resetsIf (a .reset) (a .p) (a .opened .now)) (a .l) (p .0) (l .t) (l .left) (h .result) (l .inv) (h .ensures .0)
     (h .ensures .1) in
     omega arith
 
@@ -133,7 +139,7 @@ shl-left c =
     let p = c .before .before .before .before .before .before .before .pre in
     let l = c .before .before .loop in
     let h = c .highest in
-    let k = small (a .nodes .now) (a .rows .now) (a .x) (a .l) (p .0) (l .t) (l .left) (h .result) (l .inv) (h .ensures .0)
+    let k = small (a .nodes .now) (a .rows .now) (a .x) (resetsIf (a .reset) (a .p) (a .opened .now)) (a .l) (p .0) (l .t) (l .left) (h .result) (l .inv) (h .ensures .0)
     (h .ensures .1) in
     omega arith
 
@@ -143,7 +149,7 @@ sub-left c =
     let p = c .before .before .before .before .before .before .before .pre in
     let l = c .before .before .loop in
     let h = c .highest in
-    bit-low (a .nodes .now) (a .rows .now) (a .x) (a .l) (p .0) (l .t) (l .left) (h .result) (l .inv) (h .ensures .0)
+    bit-low (a .nodes .now) (a .rows .now) (a .x) (resetsIf (a .reset) (a .p) (a .opened .now)) (a .l) (p .0) (l .t) (l .left) (h .result) (l .inv) (h .ensures .0)
     (h .ensures .1)
 
 node-requires : tie.Need-node-requires Inv-loop μ-loop
@@ -152,7 +158,7 @@ node-requires c κs =
     let p = c .before .before .before .before .before .before .before .pre in
     let l = c .before .before .loop in
     let h = c .highest in
-    inside (a .nodes .now) (a .rows .now) (a .x) (a .l) (p .0) (l .t) (l .left) (h .result) (l .inv) (h .ensures .0)
+    inside (a .nodes .now) (a .rows .now) (a .x) (resetsIf (a .reset) (a .p) (a .opened .now)) (a .l) (p .0) (l .t) (l .left) (h .result) (l .inv) (h .ensures .0)
     (h .ensures .1)
 
 settle-node-requires : tie.Need-settle-node-requires Inv-loop μ-loop
@@ -161,10 +167,10 @@ settle-node-requires c κs =
     let p = c .before .before .before .before .before .before .before .before .before .pre in
     let l = c .before .before .before .before .loop in
     let h = c .before .before .highest in
-    let k = inside (a .nodes .now) (a .rows .now) (a .x) (a .l) (p .0) (l .t) (l .left) (h .result) (l .inv) (h .ensures .0)
+    let k = inside (a .nodes .now) (a .rows .now) (a .x) (resetsIf (a .reset) (a .p) (a .opened .now)) (a .l) (p .0) (l .t) (l .left) (h .result) (l .inv) (h .ensures .0)
     (h .ensures .1) in
     let few : length (a .nodes .now) / nodeFields ≤ mostNodes = p .0 .few in (
-      working-length (rowsIn (a .rows .now)) (a .x) (a .l) (length (a .nodes .now) / nodeFields) (formsIn (a .nodes .now)) (p .0 .few)
+      working-length (rowsIn (a .rows .now)) (a .x) (resetsIf (a .reset) (a .p) (a .opened .now)) (a .l) (length (a .nodes .now) / nodeFields) (formsIn (a .nodes .now)) (p .0 .few)
           (l .inv),
       (subst Small (sym (c .before .node .ensures)) (p .0 .small (h .result) k), (p .1 .0, omega arith)),
     )
@@ -175,7 +181,7 @@ mul-left c =
     let p = c .before .before .before .before .before .before .before .before .before .before .before .pre in
     let l = c .before .before .before .before .before .before .loop in
     let h = c .before .before .before .before .highest in
-    let k = small (a .nodes .now) (a .rows .now) (a .x) (a .l) (p .0) (l .t) (l .left) (h .result) (l .inv) (h .ensures .0)
+    let k = small (a .nodes .now) (a .rows .now) (a .x) (resetsIf (a .reset) (a .p) (a .opened .now)) (a .l) (p .0) (l .t) (l .left) (h .result) (l .inv) (h .ensures .0)
     (h .ensures .1) in
     omega arith
 
@@ -185,7 +191,7 @@ array-read-left c =
     let p = c .before .before .before .before .before .before .before .before .before .before .before .pre in
     let l = c .before .before .before .before .before .before .loop in
     let h = c .before .before .before .before .highest in
-    small (a .nodes .now) (a .rows .now) (a .x) (a .l) (p .0) (l .t) (l .left) (h .result) (l .inv) (h .ensures .0)
+    small (a .nodes .now) (a .rows .now) (a .x) (resetsIf (a .reset) (a .p) (a .opened .now)) (a .l) (p .0) (l .t) (l .left) (h .result) (l .inv) (h .ensures .0)
     (h .ensures .1)
 
 loop-less : tie.Need-loop-less Inv-loop μ-loop
@@ -196,12 +202,12 @@ loop-less c =
     let l = c .before .before .before .before .before .before .loop in
     let h = c .before .before .before .before .highest in
     let s = c .before .settle-node in
-    let e : s .last .0 ≡ settleNode (rowsIn (a .rows .now)) (a .x) (a .l) (h .result) (formsIn (a .nodes .now) (h .result)) (l .t) =
+    let e : s .last .0 ≡ settleNode (rowsIn (a .rows .now)) (a .x) (resetsIf (a .reset) (a .p) (a .opened .now)) (a .l) (h .result) (formsIn (a .nodes .now) (h .result)) (l .t) =
     s .ensures .0
-    ∙ ap (λ (d : Node). settleNode (rowsIn (a .rows .now)) (a .x) (a .l) (h .result) (formOf d) (l .t))
+    ∙ ap (λ (d : Node). settleNode (rowsIn (a .rows .now)) (a .x) (resetsIf (a .reset) (a .p) (a .opened .now)) (a .l) (h .result) (formOf d) (l .t))
     (c .before .before .before .node .ensures) in
-    more-falls (a .nodes .now) (a .rows .now) (a .x) (a .l) (p .0) (l .t) (l .left) (h .result) (l .inv) (h .ensures .0)
-    (h .ensures .1) (s .last .0) e (p .1 .0) (r .last .1 .0) (r .ensures)
+    more-falls (a .nodes .now) (a .rows .now) (a .x) (resetsIf (a .reset) (a .p) (a .opened .now)) (a .l) (p .0) (l .t) (l .left) (h .result) (l .inv) (h .ensures .0)
+    (h .ensures .1) (s .last .0) e (lent-wide (a .reset) (a .p) (a .opened .now) (p .1 .1 .0)) (p .1 .0) (r .last .1 .0) (r .ensures)
     (sym (s .ensures .1) ∙ c .if1 .taken)
 
 loop-again : tie.Need-loop-again Inv-loop μ-loop
@@ -212,12 +218,12 @@ loop-again c =
     let l = c .before .before .before .before .before .before .loop in
     let h = c .before .before .before .before .highest in
     let s = c .before .settle-node in
-    let e : s .last .0 ≡ settleNode (rowsIn (a .rows .now)) (a .x) (a .l) (h .result) (formsIn (a .nodes .now) (h .result)) (l .t) =
+    let e : s .last .0 ≡ settleNode (rowsIn (a .rows .now)) (a .x) (resetsIf (a .reset) (a .p) (a .opened .now)) (a .l) (h .result) (formsIn (a .nodes .now) (h .result)) (l .t) =
     s .ensures .0
-    ∙ ap (λ (d : Node). settleNode (rowsIn (a .rows .now)) (a .x) (a .l) (h .result) (formOf d) (l .t))
+    ∙ ap (λ (d : Node). settleNode (rowsIn (a .rows .now)) (a .x) (resetsIf (a .reset) (a .p) (a .opened .now)) (a .l) (h .result) (formOf d) (l .t))
     (c .before .before .before .node .ensures) in
-    more (a .nodes .now) (a .rows .now) (a .x) (a .l) (p .0) (l .t) (l .left) (h .result) (l .inv) (h .ensures .0)
-    (h .ensures .1) (s .last .0) e (p .1 .0) (r .last .1 .0) (r .ensures)
+    more (a .nodes .now) (a .rows .now) (a .x) (resetsIf (a .reset) (a .p) (a .opened .now)) (a .l) (p .0) (l .t) (l .left) (h .result) (l .inv) (h .ensures .0)
+    (h .ensures .1) (s .last .0) e (lent-wide (a .reset) (a .p) (a .opened .now) (p .1 .1 .0)) (p .1 .0) (r .last .1 .0) (r .ensures)
     (sym (s .ensures .1) ∙ c .if1 .taken)
 
 loop-less-2 : tie.Need-loop-less-2 Inv-loop μ-loop
@@ -227,11 +233,11 @@ loop-less-2 c =
     let l = c .before .before .before .before .before .before .loop in
     let h = c .before .before .before .before .highest in
     let s = c .before .settle-node in
-    let e : s .last .0 ≡ settleNode (rowsIn (a .rows .now)) (a .x) (a .l) (h .result) (formsIn (a .nodes .now) (h .result)) (l .t) =
+    let e : s .last .0 ≡ settleNode (rowsIn (a .rows .now)) (a .x) (resetsIf (a .reset) (a .p) (a .opened .now)) (a .l) (h .result) (formsIn (a .nodes .now) (h .result)) (l .t) =
     s .ensures .0
-    ∙ ap (λ (d : Node). settleNode (rowsIn (a .rows .now)) (a .x) (a .l) (h .result) (formOf d) (l .t))
+    ∙ ap (λ (d : Node). settleNode (rowsIn (a .rows .now)) (a .x) (resetsIf (a .reset) (a .p) (a .opened .now)) (a .l) (h .result) (formOf d) (l .t))
     (c .before .before .before .node .ensures) in
-    still-falls (a .nodes .now) (a .rows .now) (a .x) (a .l) (p .0) (l .t) (l .left) (h .result) (l .inv) (h .ensures .0)
+    still-falls (a .nodes .now) (a .rows .now) (a .x) (resetsIf (a .reset) (a .p) (a .opened .now)) (a .l) (p .0) (l .t) (l .left) (h .result) (l .inv) (h .ensures .0)
     (h .ensures .1) (s .last .0) e (sym (s .ensures .1) ∙ c .if1 .left)
 
 loop-again-2 : tie.Need-loop-again-2 Inv-loop μ-loop
@@ -241,20 +247,23 @@ loop-again-2 c =
     let l = c .before .before .before .before .before .before .loop in
     let h = c .before .before .before .before .highest in
     let s = c .before .settle-node in
-    let e : s .last .0 ≡ settleNode (rowsIn (a .rows .now)) (a .x) (a .l) (h .result) (formsIn (a .nodes .now) (h .result)) (l .t) =
+    let e : s .last .0 ≡ settleNode (rowsIn (a .rows .now)) (a .x) (resetsIf (a .reset) (a .p) (a .opened .now)) (a .l) (h .result) (formsIn (a .nodes .now) (h .result)) (l .t) =
     s .ensures .0
-    ∙ ap (λ (d : Node). settleNode (rowsIn (a .rows .now)) (a .x) (a .l) (h .result) (formOf d) (l .t))
+    ∙ ap (λ (d : Node). settleNode (rowsIn (a .rows .now)) (a .x) (resetsIf (a .reset) (a .p) (a .opened .now)) (a .l) (h .result) (formOf d) (l .t))
     (c .before .before .before .node .ensures) in
-    still (a .nodes .now) (a .rows .now) (a .x) (a .l) (p .0) (l .t) (l .left) (h .result) (l .inv) (h .ensures .0)
+    still (a .nodes .now) (a .rows .now) (a .x) (resetsIf (a .reset) (a .p) (a .opened .now)) (a .l) (p .0) (l .t) (l .left) (h .result) (l .inv) (h .ensures .0)
     (h .ensures .1) (s .last .0) e (sym (s .ensures .1) ∙ c .if1 .left)
 
 returns : tie.Need-returns Inv-loop μ-loop
 returns c =
     let a = c .before .before .before .before .before .before .args in
-    let l = c .before .loop in
-    working-ends (rowsIn (a .rows .now)) (a .x) (a .l) (length (a .nodes .now) / nodeFields) (formsIn (a .nodes .now))
-    (c .before .before .before .before .before .before .pre .0 .few)
-    (subst (Done (a .nodes .now) (a .rows .now) (a .x) (a .l) (l .t)) (c .loop-test .left) (l .inv))
+    let resets = resetsIf (a .reset) (a .p) (a .opened .now) in
+    let l = c .before .loop in (
+      working-ends (rowsIn (a .rows .now)) (a .x) resets (a .l) (length (a .nodes .now) / nodeFields) (formsIn (a .nodes .now))
+          (c .before .before .before .before .before .before .pre .0 .few)
+          (subst (Done (a .nodes .now) (a .rows .now) (a .x) resets (a .l) (l .t)) (c .loop-test .left) (l .inv)),
+      l .inv .filling .wide,
+    )
 
 pub fill-spec : {M : Type 1} → statement M
 fill-spec =

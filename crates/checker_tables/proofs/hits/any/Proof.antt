@@ -22,14 +22,14 @@ use Rattle.checker_tables.proofs.hits.any.Lts as lts
 use Rattle.checker_tables.proofs.hits.hit_node.Reads as hit-node-reads
 use Rattle.checker_tables.proofs.node.Reads as node-reads
 
-abbrev test : List ℕ → List ℕ → List ℕ → ℕ → ℕ → ℕ → ℕ → Bool
-test u nodes rows p x l k = hitNode (rowsIn rows) p x u l k (formsIn nodes k)
+abbrev test : List ℕ → List ℕ → List ℕ → Bool → ℕ → ℕ → ℕ → ℕ → Bool
+test u nodes rows local p x l k = hitNode local (rowsIn rows) p x u l k (formsIn nodes k)
 
 abbrev Inv-loop : tie.InvT-loop
-Inv-loop nodes rows u p x l n k₀ k = (k ≤ n) × (someBelow (test u nodes rows p x l) k ≡ false)
+Inv-loop nodes rows u local p x l n k₀ k = (k ≤ n) × (someBelow (test u nodes rows local p x l) k ≡ false)
 
 abbrev μ-loop : tie.MeasureT-loop
-μ-loop nodes rows u p x l n k₀ k = n - k
+μ-loop nodes rows u local p x l n k₀ k = n - k
 
 loop-holds : tie.Need-loop-holds Inv-loop μ-loop
 unfolding someBelow
@@ -52,9 +52,9 @@ returns c =
     let a = c .before .before .before .before .before .before .args in
     let k = c .before .before .before .before .loop .k in
     let h = c .before .before .before .loop-test .taken in
-    let f = test (now (a .u)) (now (a .nodes)) (now (a .rows)) (a .p) (a .x) (a .l) in
+    let f = test (now (a .u)) (now (a .nodes)) (now (a .rows)) (a .local) (a .p) (a .x) (a .l) in
     let s : c .before .hit-node .result ≡ f k = c .before .hit-node .ensures
-    ∙ ap (λ (d : Node). hitNode (rowsIn (now (a .rows))) (a .p) (a .x) (now (a .u)) (a .l) k (formOf d))
+    ∙ ap (λ (d : Node). hitNode (a .local) (rowsIn (now (a .rows))) (a .p) (a .x) (now (a .u)) (a .l) k (formOf d))
     (c .before .before .node .ensures) in
     sym (some-at (length (now (a .nodes)) / nodeFields) f k h (sym s ∙ c .if1 .taken))
 
@@ -69,9 +69,9 @@ loop-again c =
     let a = c .before .before .before .before .before .before .args in
     let k = c .before .before .before .before .loop .k in
     let h = c .before .before .before .loop-test .taken in
-    let f = test (now (a .u)) (now (a .nodes)) (now (a .rows)) (a .p) (a .x) (a .l) in
+    let f = test (now (a .u)) (now (a .nodes)) (now (a .rows)) (a .local) (a .p) (a .x) (a .l) in
     let s : c .before .hit-node .result ≡ f k = c .before .hit-node .ensures
-    ∙ ap (λ (d : Node). hitNode (rowsIn (now (a .rows))) (a .p) (a .x) (now (a .u)) (a .l) k (formOf d))
+    ∙ ap (λ (d : Node). hitNode (a .local) (rowsIn (now (a .rows))) (a .p) (a .x) (now (a .u)) (a .l) k (formOf d))
     (c .before .before .node .ensures) in
     (search needs, none-more f k (c .before .before .before .before .loop .inv .1) (sym s ∙ c .if1 .left))
 

@@ -20,8 +20,8 @@ use Rattle.checker_tables.proofs.hits.hit_node.Lts as lts
 use Rattle.checker_tables.proofs.hits.leaves_by.Reads as leaves-by-reads
 use Rattle.automaton.specs.Mask.{offends}
 
-abbrev test : List ℕ → List ℕ → ℕ → ℕ → ℕ → ℕ → Node → ℕ → Bool
-test u rows p x l k f i = offends (half false (leavesOf (rowsIn rows) p x u k (l + i) (formOf f)))
+abbrev test : List ℕ → List ℕ → Bool → ℕ → ℕ → ℕ → ℕ → Node → ℕ → Bool
+test u rows local p x l k f i = offends (half false (leavesOf local (rowsIn rows) p x u k (l + i) (formOf f)))
 
 hit : (v w : ℕ) → v ≡ w → 64 ≤ v % 256 → offends (half false w) ≡ true
 hit v w e h = subst (λ (n : ℕ). offends (half false n) ≡ true) e (le-leb 64 (v % 256) h)
@@ -30,10 +30,10 @@ miss : (v w : ℕ) → v ≡ w → v % 256 < 64 → offends (half false w) ≡ f
 miss v w e h = subst (λ (n : ℕ). offends (half false n) ≡ false) e (lt-leb 64 (v % 256) h)
 
 abbrev Inv-loop : tie.InvT-loop
-Inv-loop u rows p x l k f n i₀ i = (i ≤ n) × (someBelow (test u rows p x l k f) i ≡ false)
+Inv-loop u rows local p x l k f n i₀ i = (i ≤ n) × (someBelow (test u rows local p x l k f) i ≡ false)
 
 abbrev μ-loop : tie.MeasureT-loop
-μ-loop u rows p x l k f n i₀ i = n - i
+μ-loop u rows local p x l k f n i₀ i = n - i
 
 sub-n : tie.Need-sub-n Inv-loop μ-loop
 sub-n c = search needs
@@ -53,7 +53,7 @@ unfolding hitNode
 returns c =
     let a = c .before .before .before .before .args in
     let i = c .before .before .before .loop .i in
-    let f = test (a .u .now) (a .rows .now) (a .p) (a .x) (a .l) (a .k) (a .f) in
+    let f = test (a .u .now) (a .rows .now) (a .local) (a .p) (a .x) (a .l) (a .k) (a .f) in
     let v = c .before .leaves-by in
     let h : i < meanings - a .l = omega (arith, c .before .before .loop-test .taken) in
     let m : 64 ≤ v .result % 256 = omega (arith, c .if1 .taken) in
@@ -69,7 +69,7 @@ loop-again : tie.Need-loop-again Inv-loop μ-loop
 loop-again c =
     let a = c .before .before .before .before .args in
     let i = c .before .before .before .loop .i in
-    let f = test (a .u .now) (a .rows .now) (a .p) (a .x) (a .l) (a .k) (a .f) in
+    let f = test (a .u .now) (a .rows .now) (a .local) (a .p) (a .x) (a .l) (a .k) (a .f) in
     let v = c .before .leaves-by in
     let m : v .result % 256 < 64 = omega (arith, c .if1 .left) in
     (search needs, none-more f i (c .before .before .before .loop .inv .1) (miss (v .result) _ (v .ensures) m))

@@ -1,12 +1,14 @@
 use mathlib.Core.Path.{sym, ap, ap₂, _∙_}
-use mathlib.Core.Bool.{false}
+use mathlib.Core.Bool.{true, false}
 use Prim.Native.Nat.{ℕ}
 use native.Mathlib.Numerals.{add-one}
 use lib.Bits.{bitOr}
 use lib.Dec.{eqb}
 use denote.Ref.{now}
+use lib.ListN.{getD}
+use Rattle.checker_tables.proofs.ResetLaws.{opened-if}
 use Rattle.usage.specs.Outline.{formOf}
-use Rattle.checker_account.specs.Tables.{over, ownCreated, rowsIn, leaves}
+use Rattle.checker_account.specs.Tables.{over, ownCreated, rowsIn, place, leaves}
 use Rattle.checker_account.proofs.CodeLaws.{no-step}
 use borrow.Author.Needs.{needs}
 use Rattle.checker_tables.proofs.hits.leaves_by.Statement.{statement}
@@ -71,14 +73,19 @@ returns-3 c =
 
 returns-4 : tie.Need-returns-4
 unfolding formOf leaves
-returns-4 c = rw (c .before .match .keys4) (c .opened .ensures)
+returns-4 c =
+    let a = c .before .before .before .before .before .args in
+    rw (c .before .match .keys4)
+    (c .opened .ensures
+    ∙ opened-if (a .local) (eqb (a .f .a) (a .p)) (getD (now (a .u)) (place (a .k) false (a .m)) 0)
+    (getD (now (a .u)) (place (a .k) true (a .m)) 0))
 
 returns-5 : tie.Need-returns-5
 returns-5 c =
     let a = c .before .before .before .before .args in
     let n = c .match .rest in
     sym
-    (no-step (rowsIn (now (a .rows))) (a .p) (a .x) (now (a .u)) (a .k) (a .m) (a .f .kind) (a .f .a) (a .f .b) (n .0 .0 .0 .1) (n .0 .0 .1)
+    (no-step (a .local) (rowsIn (now (a .rows))) (a .p) (a .x) (now (a .u)) (a .k) (a .m) (a .f .kind) (a .f .a) (a .f .b) (n .0 .0 .0 .1) (n .0 .0 .1)
     (n .0 .1) (n .1))
 
 pub leaves-by-spec : {M : Type 1} → statement M

@@ -1,4 +1,6 @@
-use mathlib.Core.Path.{ap₂}
+use mathlib.Core.Path.{ap, ap₂, _∙_}
+use Rattle.checker_account.specs.Tables.{restarted}
+use Rattle.checker_tables.proofs.restarted.Reads as restarted-reads
 use Prim.Native.Nat.{ℕ}
 use lib.Bits.{bitOr}
 use borrow.Author.Needs.{needs}
@@ -11,14 +13,21 @@ use Rattle.checker_tables.proofs.arrivals.come_to.Reads as come-to-read
 come-to-requires : tie.Need-come-to-requires
 come-to-requires c κs = search needs
 
+restarted-requires : tie.Need-restarted-requires
+restarted-requires c κs = search needs
+
 come-to-requires-2 : tie.Need-come-to-requires-2
 come-to-requires-2 c κs = search needs
 
 returns : tie.Need-returns
-returns c = rw (c .before .before .if1 .taken) (ap₂ (λ (x y : ℕ). bitOr x y) (c .before .come-to .ensures) (c .come-to2 .ensures))
+returns c =
+    let a = c .before .before .before .before .args in
+    rw (c .before .before .before .if1 .taken)
+    (ap₂ (λ (x y : ℕ). bitOr x y) (c .before .restarted .ensures ∙ ap (restarted (a .local)) (c .before .before .come-to .ensures))
+    (c .come-to2 .ensures))
 
 returns-2 : tie.Need-returns-2
 returns-2 c = rw (c .if1 .left)
 
 pub opened-spec : {M : Type 1} → statement M
-opened-spec = tie.close (tie.spec come-to-requires come-to-requires-2 returns returns-2)
+opened-spec = tie.close (tie.spec come-to-requires restarted-requires come-to-requires-2 returns returns-2)
