@@ -1,7 +1,7 @@
 -- The promise of the check, from its parts.
 use Prim.Native.Nat.{ℕ, _<_, _≤_}
 use mathlib.Core.Path.{_≡_, refl, subst}
-use mathlib.Core.Bool.{true, false}
+use mathlib.Core.Bool.{Bool, true, false}
 use mathlib.Core.Logic.{_↔_}
 use mathlib.Core.List.{List}
 use borrow.Author.Tests.{lt-ltb, le-ltb}
@@ -23,15 +23,15 @@ use Rattle.checker.proofs.AcceptedLaws.{never-halted}
 
 -- ── The tests of the two tables ──
 
-module _ (t n : List ℕ) where
-  pub edges-refused : edgeTable t ≡ false → RightVerdict t n (refused 41)
+module _ (local : Bool) (t n : List ℕ) where
+  pub edges-refused : edgeTable t ≡ false → RightVerdict local t n (refused 41)
   edges-refused e = no-edges (refutes (decides-edge-table t) e)
 
-  pub nodes-refused : nodeTable n ≡ false → RightVerdict t n (refused 41)
+  pub nodes-refused : nodeTable n ≡ false → RightVerdict local t n (refused 41)
   nodes-refused e = no-nodes (refutes (decides-node-table n) e)
 
   -- both tables are those of accepted sheets
-  pub answered : {v : Verdict} → edgeTable t ≡ true → nodeTable n ≡ true → Checked false (edgesOf t) (nodesOf n) v → RightVerdict t n v
+  pub answered : {v : Verdict} → edgeTable t ≡ true → nodeTable n ≡ true → Checked local (edgesOf t) (nodesOf n) v → RightVerdict local t n v
   answered e f c = checked (decides-edge-table t .0 e) (decides-node-table n .0 f) c
 
 -- ── The number of a policy ──
@@ -47,7 +47,7 @@ named-number p h = rw (lt-ltb p policies h)
 -- ── What is right is promised ──
 
 -- at most one verdict is right
-pub right-unique : {t n : List ℕ} {v w : Verdict} → RightVerdict t n v → RightVerdict t n w → v ≡ w
+pub right-unique : {local : Bool} {t n : List ℕ} {v w : Verdict} → RightVerdict local t n v → RightVerdict local t n w → v ≡ w
 right-unique (no-edges f) (no-edges g) = refl
 right-unique (no-edges f) (no-nodes g) = refl
 right-unique (no-edges f) (checked edges nodes d) = absurd (f edges)
@@ -58,30 +58,32 @@ right-unique (checked edges nodes c) (no-edges g) = absurd (g edges)
 right-unique (checked edges nodes c) (no-nodes g) = absurd (g nodes)
 right-unique (checked edges nodes c) (checked edges′ nodes′ d) = checked-unique c d
 
-none-left : {es : List Edge} {ns : List Node} {v : Verdict} → Checked false es ns v → v ≡ allowed → (p : ℕ) → Leaves false es ns p → ⊥
+none-left : {local : Bool} {es : List Edge} {ns : List Node} {v : Verdict} → Checked local es ns v → v ≡ allowed → (p : ℕ)
+    → Leaves local es ns p → ⊥
 none-left (accepts f) e p l = f p l
 none-left (names l low) e p k = clash (cc)
 
 -- what it accepts, the judge never halts
-right-guarded : {t n : List ℕ} {v : Verdict} → RightVerdict t n v → v ≡ allowed → NeverHalted t (nodesOf n)
+right-guarded : {t n : List ℕ} {v : Verdict} → RightVerdict false t n v → v ≡ allowed → NeverHalted t (nodesOf n)
 right-guarded (no-edges f) e = clash (cc)
 right-guarded (no-nodes f) e = clash (cc)
 right-guarded {t} {n} (checked edges nodes c) e =
     never-halted t (decides-edge-table t .1 edges) (nodesOf n) (nodes .outline) (none-left c e)
 
-pub right-promised : (t n : List ℕ) (v : Verdict) → RightVerdict t n v → CheckPromise t n v
+pub right-promised : (t n : List ℕ) (v : Verdict) → RightVerdict false t n v → CheckPromise t n v
 right-promised t n v h = record {
-  exact = λ w. (λ k. right-unique h k, λ e. subst (RightVerdict t n) e h);
+  exact = λ w. (λ k. right-unique h k, λ e. subst (RightVerdict false t n) e h);
   guarded = right-guarded h;
 }
 
 -- the verdict that is told is right
-pub promised-right : {t n : List ℕ} {v : Verdict} → CheckPromise t n v → RightVerdict t n v
+pub promised-right : {t n : List ℕ} {v : Verdict} → CheckPromise t n v → RightVerdict false t n v
 promised-right {v = v} h = h .exact v .1 refl
 
 -- ── The promise, by the two tables ──
 
-pub right-checked : {t n : List ℕ} {v : Verdict} → EdgeTable t → NodeTable n → RightVerdict t n v → Checked false (edgesOf t) (nodesOf n) v
+pub right-checked : {local : Bool} {t n : List ℕ} {v : Verdict} → EdgeTable t → NodeTable n → RightVerdict local t n v
+    → Checked local (edgesOf t) (nodesOf n) v
 right-checked edges nodes (no-edges f) = absurd (f edges)
 right-checked edges nodes (no-nodes f) = absurd (f nodes)
 right-checked edges nodes (checked edges′ nodes′ c) = c

@@ -1,7 +1,7 @@
 -- A policy that is skipped is never left open and not respected.
 use Prim.Native.Nat.{ℕ, zero, suc, _+_, _*_, _/_}
 use mathlib.Core.Path.{_≡_, refl, sym, ap, _∙_, subst}
-use mathlib.Core.Bool.{Bool, true, false, _&&_, _||_}
+use mathlib.Core.Bool.{Bool, true, false, not, _&&_, _||_, cond}
 use mathlib.Core.Option.{some}
 use mathlib.Core.List.{List, List·Memᴰ}
 use mathlib.Core.Logic.{inl, inr}
@@ -12,7 +12,7 @@ use borrow.Author.Tests.{eq-eqb, ne-eqb}
 use Rattle.usage.specs.declared.Edge.{Edge}
 use Rattle.usage.specs.declared.Node.{Node}
 use Rattle.usage.specs.Policy.{Sees, Moves, along, stays, Offending}
-use Rattle.usage.specs.Past.{Past, May, start, moved, opened, closed, Broken}
+use Rattle.usage.specs.Past.{Past, isOpen, May, start, moved, opened, closed, Broken}
 use Rattle.usage.specs.Outline.{sandbox, nodeKinds, formOf, Is}
 use Rattle.usage.specs.Limits.{said}
 use Rattle.usage.specs.Tables.{edgesOf, nodesOf}
@@ -26,8 +26,8 @@ use Rattle.checker_account.proofs.NodeLaws.{forms-of}
 
 -- ── No sandbox ──
 
-module _ (es : List Edge) (ns : List Node) (p x : ℕ) (shut : (k b : ℕ) → Is ns k (sandbox p b) → ⊥) where
-  never-open : {n : ℕ} {o : Bool} {k w : ℕ} {c : Bool} {q : ℕ} → Comes false es ns p x n o k w c q → o ≡ false
+module _ (local : Bool) (es : List Edge) (ns : List Node) (p x : ℕ) (shut : (k b : ℕ) → Is ns k (sandbox p b) → ⊥) where
+  never-open : {n : ℕ} {o : Bool} {k w : ℕ} {c : Bool} {q : ℕ} → Comes local es ns p x n o k w c q → o ≡ false
   never-open Comes.begins = refl
   never-open (Comes.first i e) = never-open e
   never-open (Comes.second i e f) = never-open e
@@ -40,7 +40,7 @@ module _ (es : List Edge) (ns : List Node) (p x : ℕ) (shut : (k b : ℕ) → I
   never-open (Comes.inside {k = k} {s = s} {b = b} i e) =
       ap (λ (o : Bool). o || eqb s p) (never-open e) ∙ ne-eqb s p (λ d. shut k b (subst (λ (r : ℕ). Is ns k (sandbox r b)) d i))
 
-  pub no-hits : {n : ℕ} {last : Last} → Hits false es ns p x n last → ⊥
+  pub no-hits : {n : ℕ} {last : Last} → Hits local es ns p x n last → ⊥
   no-hits (Hits.at-static i c v f) = not-both true refl (never-open c)
   no-hits (Hits.at-name i c v f) = not-both true refl (never-open c)
   no-hits (Hits.at-other i c v f) = not-both true refl (never-open c)
@@ -72,22 +72,26 @@ not-opened t p h k b i =
 
 -- ── No edge ──
 
-module _ (es : List Edge) (p : ℕ) (bare : (e : Edge) → List·Memᴰ e es → e .policy ≡ p → ⊥) where
+module _ (local : Bool) (es : List Edge) (p : ℕ) (bare : (e : Edge) → List·Memᴰ e es → e .policy ≡ p → ⊥) where
   unmoved : {a : ℕ} {sees : ℕ → ℕ → Type 0} {q q′ : ℕ} → Moves es p a sees q q′ → q ≡ q′
   unmoved (along e m f) = absurd (bare e m (f .policy))
   unmoved (stays n) = refl
 
-  at-start : {x : ℕ} {past : Past} {q : ℕ} → May false es p (Sees x) past q → 0 ≡ q
+  at-start : {x : ℕ} {past : Past} {q : ℕ} → May local es p (Sees x) past q → 0 ≡ q
   at-start start = refl
   at-start (moved m v) = at-start m ∙ unmoved v
-  at-start (opened m) = at-start m
+  at-start (opened {s = s} {past = past} m) = go (local && (eqb s p && not (isOpen p past))) (at-start m)
+    where
+      go : {q : ℕ} (b : Bool) → 0 ≡ q → 0 ≡ cond b 0 q
+      go true e = refl
+      go false e = e
   at-start (closed m) = at-start m
 
   start-good : {q : ℕ} → 0 ≡ q → Offending q → ⊥
   start-good e (inl f) = omega arith
   start-good e (inr f) = omega arith
 
-  pub never-broken : {past : Past} → Broken false es p past → ⊥
+  pub never-broken : {past : Past} → Broken local es p past → ⊥
   never-broken (x, q, m, f) = start-good (at-start m) f
 
 pub no-edge : (t : List ℕ) (p : ℕ) → hasEdge t p ≡ false → (e : Edge) → List·Memᴰ e (edgesOf t) → e .policy ≡ p → ⊥
@@ -98,5 +102,5 @@ no-edge t p h e m d =
     (eq-eqb (getD t (6 * i) 0) p (ap (λ (g : Edge). g .policy) (sym f) ∙ d))) h
 
 -- a policy without an edge leaves no trace
-pub bare-leaves : (t : List ℕ) (ns : List Node) (p : ℕ) → hasEdge t p ≡ false → Leaves false (edgesOf t) ns p → ⊥
-bare-leaves t ns p h l = never-broken (edgesOf t) p (no-edge t p h) (l .2 .1)
+pub bare-leaves : (local : Bool) (t : List ℕ) (ns : List Node) (p : ℕ) → hasEdge t p ≡ false → Leaves local (edgesOf t) ns p → ⊥
+bare-leaves local t ns p h l = never-broken local (edgesOf t) p (no-edge t p h) (l .2 .1)

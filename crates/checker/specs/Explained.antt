@@ -1,6 +1,6 @@
 -- What the check with a counterexample promises: the check's verdict, and the trace.
 use Prim.Native.Nat.{ℕ, _<_, _≤_}
-use mathlib.Core.Bool.{false}
+use mathlib.Core.Bool.{Bool, false}
 use mathlib.Core.Option.{none, some}
 use mathlib.Core.List.{List}
 use lib.ListN.{length}
@@ -17,10 +17,10 @@ use Rattle.checker.specs.declared.counterexample.Explanation.the-variant
 use Rattle.checker.specs.Promise.{CheckPromise}
 
 -- what `counterexample` tells, as an answer
-pub data NamedBy (e n : List ℕ) (p : ℕ) (t : List ℕ) : Explanation → List ℕ → Type 0 where
-  told-shown : {s : ℕ} {t′ : List ℕ} → trace.Told e n false p t (lengths.Of s) t′ → NamedBy e n p t (Shown p s) t′
-  told-longer : {t′ : List ℕ} → trace.Told e n false p t lengths.Longer t′ → NamedBy e n p t (Longer p) t′
-  told-refused : {k : ℕ} {t′ : List ℕ} → trace.Told e n false p t (lengths.Refused k) t′ → NamedBy e n p t (Refused k) t′
+pub data NamedBy (local : Bool) (e n : List ℕ) (p : ℕ) (t : List ℕ) : Explanation → List ℕ → Type 0 where
+  told-shown : {s : ℕ} {t′ : List ℕ} → trace.Told local e n p t (lengths.Of s) t′ → NamedBy local e n p t (Shown p s) t′
+  told-longer : {t′ : List ℕ} → trace.Told local e n p t lengths.Longer t′ → NamedBy local e n p t (Longer p) t′
+  told-refused : {k : ℕ} {t′ : List ℕ} → trace.Told local e n p t (lengths.Refused k) t′ → NamedBy local e n p t (Refused k) t′
 
 -- e and n are the tables of edges and nodes, t and t′ the lent table before and after. "40 also covers a lent trace table below 200
 -- places"; else the check's own verdict, and where it names a policy what is shown with that

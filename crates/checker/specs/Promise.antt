@@ -1,5 +1,5 @@
 -- What the check promises, for all tables at all.
-use mathlib.Core.Bool.{false}
+use mathlib.Core.Bool.{Bool, false}
 use Prim.Native.Nat.{ℕ}
 use mathlib.Core.Path.{_≡_}
 use mathlib.Core.Logic.{_↔_}
@@ -17,15 +17,16 @@ outcomeVerdict Accepted = allowed
 outcomeVerdict (Named p) = violated p
 outcomeVerdict (Refused n) = refused n
 
--- The right verdict of two lent tables: "41 a table lent to be used that, taken whole, no accepted sheet gives"; else that of the
+-- The right verdict of two lent tables and a choice of past: "41 a table lent to be used that, taken whole, no accepted sheet gives"; else that of the
 -- outline under the edges. No two are right (`right-unique` of proofs/PromiseLaws).
-pub data RightVerdict (edges nodes : List ℕ) : Verdict → Type 0 where
-  no-edges : (EdgeTable edges → ⊥) → RightVerdict edges nodes (refused 41)
-  no-nodes : (NodeTable nodes → ⊥) → RightVerdict edges nodes (refused 41)
-  checked : {v : Verdict} → EdgeTable edges → NodeTable nodes → Checked false (edgesOf edges) (nodesOf nodes) v → RightVerdict edges nodes v
+pub data RightVerdict (local : Bool) (edges nodes : List ℕ) : Verdict → Type 0 where
+  no-edges : (EdgeTable edges → ⊥) → RightVerdict local edges nodes (refused 41)
+  no-nodes : (NodeTable nodes → ⊥) → RightVerdict local edges nodes (refused 41)
+  checked : {v : Verdict} → EdgeTable edges → NodeTable nodes → Checked local (edgesOf edges) (nodesOf nodes) v
+      → RightVerdict local edges nodes v
 
 -- The promise of whoever tells the verdict v of two lent tables. A verdict is right exactly where it is the one that is told.
 pub record CheckPromise (edges nodes : List ℕ) (v : Verdict) : Type 0 where
-  pub exact : (w : Verdict) → RightVerdict edges nodes w ↔ (v ≡ w)
+  pub exact : (w : Verdict) → RightVerdict false edges nodes w ↔ (v ≡ w)
   -- "What the check accepts, the judge never halts"
   pub guarded : v ≡ allowed → NeverHalted edges (nodesOf nodes)

@@ -14,10 +14,10 @@ pub enum Explanation {
 }
 
 // The counterexample to policy p.
-fn named(edges: &[u8], nodes: &[u8], p: u8, trace: &mut [u32]) -> Explanation
-    ensures { λ r. ⌜ NamedBy (now (edges .entry)) (now (nodes .entry)) p (now (trace .entry)) r (now (trace .exit)) ⌝ }
+fn named(edges: &[u8], local: bool, nodes: &[u8], p: u8, trace: &mut [u32]) -> Explanation
+    ensures { λ r. ⌜ NamedBy local (now (edges .entry)) (now (nodes .entry)) p (now (trace .entry)) r (now (trace .exit)) ⌝ }
 {
-    let l = checker_trace::counterexample(edges, nodes, false, p as usize, trace);
+    let l = checker_trace::counterexample(edges, local, nodes, p as usize, trace);
     match l {
         Length::Of(n) => Explanation::Shown {
             policy: p,
@@ -38,7 +38,7 @@ pub fn check_with_counterexample(edges: &[u8], nodes: &[u8], trace: &mut [u32]) 
     let o = crate::check(edges, nodes);
     match o {
         Outcome::Accepted => Explanation::Accepted,
-        Outcome::Named(p) => named(edges, nodes, p, trace),
+        Outcome::Named(p) => named(edges, false, nodes, p, trace),
         Outcome::Refused(n) => Explanation::Refused(n),
     }
 }

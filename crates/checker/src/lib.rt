@@ -57,5 +57,5 @@ fn has_edge(edges: &[u8], p: usize) -> bool
 pub fn check(edges: &[u8], nodes: &[u8]) -> Outcome
     ensures { λ r. ⌜ CheckPromise (now (edges .entry)) (now (nodes .entry)) (outcomeVerdict r) ⌝ }
 {
-    search::checked(edges, nodes)
+    search::checked(edges, false, nodes)
 }

@@ -1,6 +1,5 @@
 // The search: which policy is broken, with which resource watched.
 ghost use mathlib.Core.Path.{_≡_};
-ghost use mathlib.Core.Bool.{false};
 ghost use Prim.Native.Nat.{ℕ, _/_, _<_};
 ghost use lib.ListN.{length};
 ghost use Rattle.usage.specs.Limits.{policies, nodeFields};
@@ -19,16 +18,16 @@ use checker_account::Table;
 use checker_account::WATCHED;
 use usage::POLICIES;
 
-// Is policy p, whose moves the table of rows has, broken with some resource watched?
-fn broken(nodes: &[u8], rows: &Table, p: usize) -> bool
+// Is policy p, whose moves the table of rows has, broken with some resource watched? `local` is the choice of past, here and below.
+fn broken(nodes: &[u8], rows: &Table, local: bool, p: usize) -> bool
     requires { ⌜ OutlineOk (nodesOf (now nodes)) ⌝ }
-    ensures { λ r. ⌜ SearchedAll (rowsIn (now (rows .entry))) p
+    ensures { λ r. ⌜ SearchedAll local (rowsIn (now (rows .entry))) p
         (length (now (nodes .entry)) / nodeFields) (formsIn (now (nodes .entry))) r ⌝ }
 {
     let mut x: usize = 0;
     while x <= WATCHED {
         if checker_tables::touched(nodes, x) {
-            if checker_tables::breaks(nodes, rows, p, x) {
+            if checker_tables::breaks(nodes, rows, local, p, x) {
                 return true;
             }
         }
@@ -38,11 +37,11 @@ fn broken(nodes: &[u8], rows: &Table, p: usize) -> bool
 }
 
 // Does some trace leave policy p open and not respected?
-fn leaves(edges: &[u8], nodes: &[u8], p: usize) -> bool
+fn leaves(edges: &[u8], local: bool, nodes: &[u8], p: usize) -> bool
     requires { ⌜ EdgesOk (edgesOf (now edges)) ⌝ }
     requires { ⌜ OutlineOk (nodesOf (now nodes)) ⌝ }
     requires { ⌜ p < policies ⌝ }
-    ensures { λ r. ⌜ Decides r (Leaves false (edgesOf (now (edges .entry))) (nodesOf (now (nodes .entry))) p) ⌝ }
+    ensures { λ r. ⌜ Decides r (Leaves local (edgesOf (now (edges .entry))) (nodesOf (now (nodes .entry))) p) ⌝ }
 {
     if !crate::opens(nodes, p) {
         return false;
@@ -52,18 +51,18 @@ fn leaves(edges: &[u8], nodes: &[u8], p: usize) -> bool
     }
     let mut table = [0u16; PLACES];
     checker_tables::rows::fill(edges, nodes, p, &mut table);
-    broken(nodes, &table, p)
+    broken(nodes, &table, local, p)
 }
 
 // The lowest policy that some trace leaves open and not respected, or POLICIES where there is none.
-fn lowest(edges: &[u8], nodes: &[u8]) -> usize
+fn lowest(edges: &[u8], local: bool, nodes: &[u8]) -> usize
     requires { ⌜ EdgesOk (edgesOf (now edges)) ⌝ }
     requires { ⌜ OutlineOk (nodesOf (now nodes)) ⌝ }
-    ensures { λ r. ⌜ Checked false (edgesOf (now (edges .entry))) (nodesOf (now (nodes .entry))) (policyVerdict r) ⌝ }
+    ensures { λ r. ⌜ Checked local (edgesOf (now (edges .entry))) (nodesOf (now (nodes .entry))) (policyVerdict r) ⌝ }
 {
     let mut p: usize = 0;
     while p < POLICIES {
-        if leaves(edges, nodes, p) {
+        if leaves(edges, local, nodes, p) {
             return p;
         }
         p += 1;
@@ -72,8 +71,8 @@ fn lowest(edges: &[u8], nodes: &[u8]) -> usize
 }
 
 // The check of two lent tables.
-pub(crate) fn checked(edges: &[u8], nodes: &[u8]) -> Outcome
-    ensures { λ r. ⌜ RightVerdict (now (edges .entry)) (now (nodes .entry)) (outcomeVerdict r) ⌝ }
+pub(crate) fn checked(edges: &[u8], local: bool, nodes: &[u8]) -> Outcome
+    ensures { λ r. ⌜ RightVerdict local (now (edges .entry)) (now (nodes .entry)) (outcomeVerdict r) ⌝ }
 {
     if !sheet_fields::edges::edge_table_ok(edges) {
         return Outcome::Refused(41);
@@ -81,7 +80,7 @@ pub(crate) fn checked(edges: &[u8], nodes: &[u8]) -> Outcome
     if !sheet_rules::node_table_ok(nodes) {
         return Outcome::Refused(41);
     }
-    let p = lowest(edges, nodes);
+    let p = lowest(edges, local, nodes);
     if POLICIES <= p {
         return Outcome::Accepted;
     }

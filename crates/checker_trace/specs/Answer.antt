@@ -21,9 +21,9 @@ mostNumbers = mostShown * stepFields
 -- such trace is longer it says so, and then .. nothing is written"; "Places after the trace keep their contents"; "40 also covers a lent
 -- trace table below 200 places". e and n are the tables of edges and nodes, t and t′ the lent table before and after. Which of several
 -- shortest traces is written is left free.
-pub data Told (e n : List ℕ) (local : Bool) (p : ℕ) (t : List ℕ) : Length → List ℕ → Type 0 where
-  too-small : length t < mostNumbers → Told e n local p t (Refused 40) t
-  no-table : mostNumbers ≤ length t → (EdgeTable e → ⊥) ⊎ (NodeTable n → ⊥) → Told e n local p t (Refused 41) t
-  longer : mostNumbers ≤ length t → EdgeTable e → NodeTable n → Shown local (edgesOf e) (nodesOf n) p none → Told e n local p t Longer t
+pub data Told (local : Bool) (e n : List ℕ) (p : ℕ) (t : List ℕ) : Length → List ℕ → Type 0 where
+  too-small : length t < mostNumbers → Told local e n p t (Refused 40) t
+  no-table : mostNumbers ≤ length t → (EdgeTable e → ⊥) ⊎ (NodeTable n → ⊥) → Told local e n p t (Refused 41) t
+  longer : mostNumbers ≤ length t → EdgeTable e → NodeTable n → Shown local (edgesOf e) (nodesOf n) p none → Told local e n p t Longer t
   this-long : {past : Past} → mostNumbers ≤ length t → EdgeTable e → NodeTable n → Shown local (edgesOf e) (nodesOf n) p (some past)
-      → Told e n local p t (Of (length past)) (laid t past)
+      → Told local e n p t (Of (length past)) (laid t past)

@@ -134,12 +134,12 @@ fn show(nodes: &[u8], rows: &Table, w: Watch, n: u8, trace: &mut [u32])
 // `local` is the choice of past. 40 and 41 as in document 01.
 pub fn counterexample(
     edges: &[u8],
-    nodes: &[u8],
     local: bool,
+    nodes: &[u8],
     p: usize,
     trace: &mut [u32],
 ) -> Length
-    ensures { λ r. ⌜ Told (now (edges .entry)) (now (nodes .entry)) local p (now (trace .entry)) r (now (trace .exit)) ⌝ }
+    ensures { λ r. ⌜ Told local (now (edges .entry)) (now (nodes .entry)) p (now (trace .entry)) r (now (trace .exit)) ⌝ }
 {
     if trace.len() < MOST_NUMBERS {
         return Length::Refused(40);

@@ -158,8 +158,8 @@ returns-6 c = let a =
     (c .before .before .before .before .before .before .least .ensures) (r .resource) small (et .edges) (nt .outline) few after run in
     let long = written-length (a .local) es (nodesOf (a .nodes .now)) (a .p) (r .resource) run in
     let n : length after ≡ r .length = long ∙ omega arith in
-    subst (λ (u : List ℕ). Told (a .edges .now) (a .nodes .now) (a .local) (a .p) (a .trace .now) (Of (r .length)) u) (sym same)
-    (subst (λ (i : ℕ). Told (a .edges .now) (a .nodes .now) (a .local) (a .p) (a .trace .now) (Of i) (laid (a .trace .now) after)) n
+    subst (λ (u : List ℕ). Told (a .local) (a .edges .now) (a .nodes .now) (a .p) (a .trace .now) (Of (r .length)) u) (sym same)
+    (subst (λ (i : ℕ). Told (a .local) (a .edges .now) (a .nodes .now) (a .p) (a .trace .now) (Of i) (laid (a .trace .now) after)) n
     (this-long (c .before .before .before .before .before .before .before .before .before .before .before .before .before .before .before .if1 .left) et nt shown))
 
 pub counterexample-spec : {M : Type 1} → statement M

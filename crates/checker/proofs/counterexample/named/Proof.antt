@@ -1,5 +1,4 @@
 use mathlib.Core.Path.{subst}
-use mathlib.Core.Bool.{false}
 use Rattle.checker_trace.specs.declared.Length.{Length}
 use Rattle.checker_trace.specs.Answer.{Told}
 use Rattle.checker.specs.Explained.{NamedBy}
@@ -31,7 +30,7 @@ same-length c = search needs
 
 returns : tie.Need-returns
 returns c = NamedBy.told-shown (let a = c .before .before .before .before .before .before .before .before .before .before .args in
-    subst (λ (y : Length). Told (a .edges .now) (a .nodes .now) false (a .p) (a .trace .now) y
+    subst (λ (y : Length). Told (a .local) (a .edges .now) (a .nodes .now) (a .p) (a .trace .now) y
     (c .before .before .before .before .before .counterexample .last .1 .1 .1 .1 .0)) (c .before .l .given .1)
     (c .before .before .before .before .before .counterexample .ensures))
 
@@ -40,7 +39,7 @@ same-length-2 c = search needs
 
 returns-2 : tie.Need-returns-2
 returns-2 c = NamedBy.told-longer (let a = c .before .before .before .before .before .before .before .before .before .args in
-    subst (λ (y : Length). Told (a .edges .now) (a .nodes .now) false (a .p) (a .trace .now) y
+    subst (λ (y : Length). Told (a .local) (a .edges .now) (a .nodes .now) (a .p) (a .trace .now) y
     (c .before .before .before .before .counterexample .last .1 .1 .1 .1 .0)) (c .enum-told .given .1)
     (c .before .before .before .before .counterexample .ensures))
 
@@ -49,7 +48,7 @@ same-length-3 c = search needs
 
 returns-3 : tie.Need-returns-3
 returns-3 c = NamedBy.told-refused (let a = c .before .before .before .before .before .before .before .before .before .before .args in
-    subst (λ (y : Length). Told (a .edges .now) (a .nodes .now) false (a .p) (a .trace .now) y
+    subst (λ (y : Length). Told (a .local) (a .edges .now) (a .nodes .now) (a .p) (a .trace .now) y
     (c .before .before .before .before .before .counterexample .last .1 .1 .1 .1 .0)) (c .before .l2 .given .1)
     (c .before .before .before .before .before .counterexample .ensures))
 

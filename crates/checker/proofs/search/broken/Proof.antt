@@ -26,21 +26,21 @@ use Rattle.checker_tables.proofs.breaks.Reads as breaks-reads
 use Rattle.checker_tables.proofs.touched.Reads as touched-reads
 
 -- the nodes of an accepted outline fit
-told : (nodes rows : List ℕ) (p x : ℕ) (r answer : Bool) → OutlineOk (nodesOf nodes) → SearchedIf (hasRoom nodes) nodes rows p x r
+told : (nodes : List ℕ) (local : Bool) (rows : List ℕ) (p x : ℕ) (r answer : Bool) → OutlineOk (nodesOf nodes) → SearchedIf (hasRoom nodes) nodes local rows p x r
     → r ≡ answer
-    → SearchedIn nodes rows p x answer
-told nodes rows p x r answer ok h e =
-    subst (SearchedIn nodes rows p x) e (subst (λ (b : Bool). SearchedIf b nodes rows p x r) (outline-fits nodes ok) h)
+    → SearchedIn nodes local rows p x answer
+told nodes local rows p x r answer ok h e =
+    subst (SearchedIn nodes local rows p x) e (subst (λ (b : Bool). SearchedIf b nodes local rows p x r) (outline-fits nodes ok) h)
 
 -- nothing is found with y watched, or y need not be
-abbrev Clear : List ℕ → List ℕ → ℕ → ℕ → Type 0
-Clear nodes rows p y = Untouched (length nodes / nodeFields) (formsIn nodes) y ⊎ SearchedIn nodes rows p y false
+abbrev Clear : List ℕ → Bool → List ℕ → ℕ → ℕ → Type 0
+Clear nodes local rows p y = Untouched (length nodes / nodeFields) (formsIn nodes) y ⊎ SearchedIn nodes local rows p y false
 
 abbrev Inv-loop : tie.InvT-loop
-Inv-loop nodes rows p x₀ x = (x ≤ suc watched) × ((y : ℕ) → y < x → Clear nodes rows p y)
+Inv-loop nodes rows local p x₀ x = (x ≤ suc watched) × ((y : ℕ) → y < x → Clear nodes local rows p y)
 
 abbrev μ-loop : tie.MeasureT-loop
-μ-loop nodes rows p x₀ x = suc watched - x
+μ-loop nodes rows local p x₀ x = suc watched - x
 
 loop-holds : tie.Need-loop-holds Inv-loop μ-loop
 loop-holds c = (search needs, λ y h. absurd (not-suc-le-zero h))
@@ -57,7 +57,7 @@ returns c =
     let x = c .before .before .before .before .before .loop .x in
     let b = c .before .breaks in
     found {x = x} (let h = c .before .before .before .before .loop-test .taken in omega arith)
-    (told (now (a .nodes)) (now (a .rows)) (a .p) x (b .result) true (c .before .before .before .before .before .before .before .pre)
+    (told (now (a .nodes)) (a .local) (now (a .rows)) (a .p) x (b .result) true (c .before .before .before .before .before .before .before .pre)
     (b .ensures)
     (c .if2 .taken))
 
@@ -73,11 +73,11 @@ loop-again c =
     let p = c .before .before .before .before .before .pre in
     let l = c .before .before .before .loop in
     let t = c .before .touched in
-    let clear : Clear (now (a .nodes)) (now (a .rows)) (a .p) (l .x) =
+    let clear : Clear (now (a .nodes)) (a .local) (now (a .rows)) (a .p) (l .x) =
     by-cases (c .if1 .came)
-    (λ w. inr (told (now (a .nodes)) (now (a .rows)) (a .p) (l .x) (w .1 .result) false p (w .1 .ensures) (w .2 .left)))
+    (λ w. inr (told (now (a .nodes)) (a .local) (now (a .rows)) (a .p) (l .x) (w .1 .result) false p (w .1 .ensures) (w .2 .left)))
     (λ w. inl (untouched (now (a .nodes)) (l .x) (sym (t .ensures) ∙ w .left))) in
-    (search needs, below-more (Clear (now (a .nodes)) (now (a .rows)) (a .p)) (l .x) (l .inv .1) clear)
+    (search needs, below-more (Clear (now (a .nodes)) (a .local) (now (a .rows)) (a .p)) (l .x) (l .inv .1) clear)
 
 returns-2 : tie.Need-returns-2 Inv-loop μ-loop
 returns-2 c =

@@ -1,5 +1,4 @@
 -- The two tables are tested, and then the search answers.
-use mathlib.Core.Bool.{false}
 use mathlib.Core.Path.{sym, _∙_, subst}
 use borrow.Author.Needs.{needs}
 use Rattle.usage.specs.Check.{Checked}
@@ -17,7 +16,7 @@ returns : tie.Need-returns
 returns c =
     let a = c .before .before .before .before .args in
     let k = c .before .edge-table-ok in
-    edges-refused (a .edges .now) (a .nodes .now) (sym (k .ensures) ∙ not-true (k .result) (c .if1 .taken))
+    edges-refused (a .local) (a .edges .now) (a .nodes .now) (sym (k .ensures) ∙ not-true (k .result) (c .if1 .taken))
 
 node-table-ok-requires : tie.Need-node-table-ok-requires
 node-table-ok-requires c κs = search needs
@@ -26,7 +25,7 @@ returns-2 : tie.Need-returns-2
 returns-2 c =
     let a = c .before .before .before .before .before .before .args in
     let k = c .before .node-table-ok in
-    nodes-refused (a .edges .now) (a .nodes .now) (sym (k .ensures) ∙ not-true (k .result) (c .if2 .taken))
+    nodes-refused (a .local) (a .edges .now) (a .nodes .now) (sym (k .ensures) ∙ not-true (k .result) (c .if2 .taken))
 
 lowest-requires : tie.Need-lowest-requires
 lowest-requires c κs =
@@ -43,12 +42,12 @@ returns-3 c =
     let e = c .before .before .before .before .before .edge-table-ok in
     let n = c .before .before .before .node-table-ok in
     let p = c .before .lowest in
-    answered (a .edges .now) (a .nodes .now) (sym (e .ensures) ∙ not-false (e .result) (c .before .before .before .before .if1 .left))
+    answered (a .local) (a .edges .now) (a .nodes .now) (sym (e .ensures) ∙ not-false (e .result) (c .before .before .before .before .if1 .left))
     (sym (n .ensures) ∙ not-false (n .result) (c .before .before .if2 .left))
-    (subst (Checked false (edgesOf (a .edges .now)) (nodesOf (a .nodes .now))) (accepted-number (p .result) (c .if3 .taken)) (p .ensures))
+    (subst (Checked (a .local) (edgesOf (a .edges .now)) (nodesOf (a .nodes .now))) (accepted-number (p .result) (c .if3 .taken)) (p .ensures))
 
-cast-t6 : tie.Need-cast-t6
-cast-t6 c = search needs
+cast-t7 : tie.Need-cast-t7
+cast-t7 c = search needs
 
 returns-4 : tie.Need-returns-4
 returns-4 c =
@@ -56,10 +55,10 @@ returns-4 c =
     let e = c .before .before .before .before .before .edge-table-ok in
     let n = c .before .before .before .node-table-ok in
     let p = c .before .lowest in
-    answered (a .edges .now) (a .nodes .now) (sym (e .ensures) ∙ not-false (e .result) (c .before .before .before .before .if1 .left))
+    answered (a .local) (a .edges .now) (a .nodes .now) (sym (e .ensures) ∙ not-false (e .result) (c .before .before .before .before .if1 .left))
     (sym (n .ensures) ∙ not-false (n .result) (c .before .before .if2 .left))
-    (subst (Checked false (edgesOf (a .edges .now)) (nodesOf (a .nodes .now))) (named-number (p .result) (c .if3 .left)) (p .ensures))
+    (subst (Checked (a .local) (edgesOf (a .edges .now)) (nodesOf (a .nodes .now))) (named-number (p .result) (c .if3 .left)) (p .ensures))
 
 pub checked-spec : {M : Type 1} → statement M
-checked-spec = tie.close (tie.spec edge-table-ok-requires returns node-table-ok-requires returns-2 lowest-requires returns-3 cast-t6
+checked-spec = tie.close (tie.spec edge-table-ok-requires returns node-table-ok-requires returns-2 lowest-requires returns-3 cast-t7
     returns-4)

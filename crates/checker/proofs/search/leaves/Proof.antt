@@ -17,7 +17,7 @@ returns c =
     let a = c .before .before .before .before .args in
     let p = c .before .before .before .before .pre in
     let o = c .before .opens in
-    shut (now (a .edges)) (now (a .nodes)) (p .0) (p .1 .0) (a .p) (sym (o .ensures) ∙ not-true (o .result) (c .if1 .taken))
+    shut (a .local) (now (a .edges)) (now (a .nodes)) (p .0) (p .1 .0) (a .p) (sym (o .ensures) ∙ not-true (o .result) (c .if1 .taken))
 
 has-edge-requires : tie.Need-has-edge-requires
 has-edge-requires c κs = search needs
@@ -27,7 +27,7 @@ returns-2 c =
     let a = c .before .before .before .before .before .before .args in
     let p = c .before .before .before .before .before .before .pre in
     let o = c .before .has-edge in
-    bare (now (a .edges)) (now (a .nodes)) (p .0) (p .1 .0) (a .p) (sym (o .ensures) ∙ not-true (o .result) (c .if2 .taken))
+    bare (a .local) (now (a .edges)) (now (a .nodes)) (p .0) (p .1 .0) (a .p) (sym (o .ensures) ∙ not-true (o .result) (c .if2 .taken))
 
 fill-requires : tie.Need-fill-requires
 fill-requires c κs = search needs
@@ -42,8 +42,8 @@ returns-3 c =
     let f = c .before .before .fill in
     let e =
     f .ensures ∙ whole-in (rowsOf (edgesOf (now (a .edges)))) (a .p) (now (a .nodes)) (p .1 .1)
-    (few-nodes (now (a .edges)) (now (a .nodes)) (p .0) (p .1 .0)) in
-    looked (now (a .edges)) (now (a .nodes)) (p .0) (p .1 .0) (a .p) (p .1 .1) (f .last .1 .1 .1 .0) e (c .broken .result)
+    (few-nodes (a .local) (now (a .edges)) (now (a .nodes)) (p .0) (p .1 .0)) in
+    looked (a .local) (now (a .edges)) (now (a .nodes)) (p .0) (p .1 .0) (a .p) (p .1 .1) (f .last .1 .1 .1 .0) e (c .broken .result)
     (c .broken .ensures)
 
 pub leaves-spec : {M : Type 1} → statement M

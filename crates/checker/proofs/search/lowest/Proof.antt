@@ -1,4 +1,3 @@
-use mathlib.Core.Bool.{false}
 use denote.Ref.{now}
 use native.Mathlib.Nat.{not-suc-le-zero}
 use borrow.Author.Count.{below-more}
@@ -15,10 +14,10 @@ use Rattle.checker.proofs.search.lowest.Statement.{statement}
 use Rattle.checker.proofs.search.lowest.Tie as tie
 
 abbrev Inv-loop : tie.InvT-loop
-Inv-loop edges nodes p₀ p = (p ≤ policies) × ((s : ℕ) → s < p → Leaves false (edgesOf edges) (nodesOf nodes) s → ⊥)
+Inv-loop edges local nodes p₀ p = (p ≤ policies) × ((s : ℕ) → s < p → Leaves local (edgesOf edges) (nodesOf nodes) s → ⊥)
 
 abbrev μ-loop : tie.MeasureT-loop
-μ-loop edges nodes p₀ p = policies - p
+μ-loop edges local nodes p₀ p = policies - p
 
 loop-holds : tie.Need-loop-holds Inv-loop μ-loop
 loop-holds c = (search needs, λ s h l. not-suc-le-zero h)
@@ -35,7 +34,7 @@ returns c =
     let h = c .before .before .before .before .before .before .pre in
     let l = c .before .before .before .loop in
     let k = c .before .before .loop-test .taken in
-    named-lowest (now (a .edges)) (now (a .nodes)) (h .0) (h .1) (l .p) (omega arith) (c .before .leaves .ensures .0 (c .if1 .taken))
+    named-lowest (a .local) (now (a .edges)) (now (a .nodes)) (h .0) (h .1) (l .p) (omega arith) (c .before .leaves .ensures .0 (c .if1 .taken))
     (l .inv .1)
 
 add-p : tie.Need-add-p Inv-loop μ-loop
@@ -49,7 +48,7 @@ loop-again c =
     let a = c .before .before .before .before .before .before .args in
     let l = c .before .before .before .loop in (
       search needs,
-      below-more (λ (s : ℕ). Leaves false (edgesOf (now (a .edges))) (nodesOf (now (a .nodes))) s → ⊥) (l .p) (l .inv .1)
+      below-more (λ (s : ℕ). Leaves (a .local) (edgesOf (now (a .edges))) (nodesOf (now (a .nodes))) s → ⊥) (l .p) (l .inv .1)
           (λ b. not-both (c .before .leaves .result) (c .before .leaves .ensures .1 b) (c .if1 .left)),
     )
 
@@ -59,7 +58,7 @@ returns-2 c =
     let h = c .before .before .before .before .pre in
     let l = c .before .loop in
     let e : l .p ≡ policies = omega arith in
-    all-good (now (a .edges)) (now (a .nodes)) (h .0) (h .1) (λ s k. l .inv .1 s (omega arith))
+    all-good (a .local) (now (a .edges)) (now (a .nodes)) (h .0) (h .1) (λ s k. l .inv .1 s (omega arith))
 
 pub lowest-spec : {M : Type 1} → statement M
 lowest-spec =
