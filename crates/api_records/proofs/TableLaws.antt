@@ -47,15 +47,15 @@ judge-flat-records es s raw = go (leb (length es) mostEdges) refl
 -- ── The check ──
 
 -- what is right of the table that the loop leaves is right of the records
-right-records : (es : List Edge) (ns : List ℕ) (v : Verdict) → RightFlat (flatOf zeros es) ns v → RightVerdict (flat es) ns v
+right-records : (es : List Edge) (ns : List ℕ) (v : Verdict) → RightFlat (flatOf zeros es) ns v → RightVerdict false (flat es) ns v
 right-records es ns v h = go (leb (length es) mostEdges) refl h
   where
-    go : (b : Bool) → leb (length es) mostEdges ≡ b → {v : Verdict} → RightFlat (flatOf zeros es) ns v → RightVerdict (flat es) ns v
+    go : (b : Bool) → leb (length es) mostEdges ≡ b → {v : Verdict} → RightFlat (flatOf zeros es) ns v → RightVerdict false (flat es) ns v
     go true q (RightFlat.too-many l) =
         let k : length es ≤ mostEdges = leb-true (length es) mostEdges q in
         absurd (omega (arith, few-flat es (loop-few es k) .0))
     go true q (RightFlat.few {v} l c) =
-        subst (λ (t : List ℕ). RightVerdict t ns v) (few-flat es (loop-few es (leb-true (length es) mostEdges q)) .1) c
+        subst (λ (t : List ℕ). RightVerdict false t ns v) (few-flat es (loop-few es (leb-true (length es) mostEdges q)) .1) c
     go false q (RightFlat.too-many l) =
         -- more records than a sheet has are no table
         edges-refused (flat es) ns (table-flat es ∙ too-many es (leb-false (length es) mostEdges q))

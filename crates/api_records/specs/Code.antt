@@ -1,6 +1,6 @@
 -- What the functions compute on the way from the records to the answer.
 use Prim.Native.Nat.{ℕ, _+_, _*_, _<_, _≤_}
-use mathlib.Core.Bool.{cond}
+use mathlib.Core.Bool.{false, cond}
 use mathlib.Core.List.{List, [], _∷_}
 use lib.Dec.{leb, ltb}
 use lib.ListN.{length, set, take, replicate}
@@ -54,7 +54,7 @@ judgeFlat f s raw = cond (ltb mostEdges (f .count)) (refuse 41 s) (judgeOf (flat
 -- the check's
 pub data RightFlat (f : Flat) (nodes : List ℕ) : Verdict → Type 0 where
   too-many : mostEdges < f .count → RightFlat f nodes (refused 41)
-  few : {v : Verdict} → f .count ≤ mostEdges → RightVerdict (flatHeld f) nodes v → RightFlat f nodes v
+  few : {v : Verdict} → f .count ≤ mostEdges → RightVerdict false (flatHeld f) nodes v → RightFlat f nodes v
 
 -- the same with a counterexample: t and t′ are the lent trace table before and after; 40 comes before 41
 pub data ExplainedFlat (f : Flat) (nodes t : List ℕ) : Explanation → List ℕ → Type 0 where

@@ -53,11 +53,6 @@ abbrev pub resetsIf : Bool → ℕ → List ℕ → Resets
 resetsIf false p opened = never
 resetsIf true p opened = opening-of p opened
 
--- the table of ends where p is open or not
-abbrev pub byOpen : List ℕ → List ℕ → Bool → List ℕ
-byOpen opened shut false = shut
-byOpen opened shut true = opened
-
 -- the rules of the table of ends, and of the table of what is come to
 abbrev pub EndsBy : List ℕ → List ℕ → ℕ → Resets → ℕ → List ℕ → ℕ → ℕ → Type 0
 EndsBy nodes rows x resets l = EndsRule (rowsIn rows) x resets l (length nodes / nodeFields) (formsIn nodes)

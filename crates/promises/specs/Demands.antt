@@ -94,8 +94,8 @@ Demand2 = (t : List ℕ) → EdgeTable t → (raws : List RawStep) (vs : List Ve
 -- "What the check accepts, the judge never halts: one theorem over whole traces; and the check is exact, naming the lowest policy at fault."
 -- The check tells v where `CheckPromise` holds of v. Then v is right, no other verdict is, and acceptance means what it says.
 pub record Demand3 : Type 0 where
-  pub right : (t n : List ℕ) (v : Verdict) → CheckPromise t n v → RightVerdict t n v
-  pub no-other : (t n : List ℕ) (v w : Verdict) → CheckPromise t n v → RightVerdict t n w → v ≡ w
+  pub right : (t n : List ℕ) (v : Verdict) → CheckPromise t n v → RightVerdict false t n v
+  pub no-other : (t n : List ℕ) (v w : Verdict) → CheckPromise t n v → RightVerdict false t n w → v ≡ w
   pub never-halted : (t n : List ℕ) → EdgeTable t → NodeTable n → Checked false (edgesOf t) (nodesOf n) allowed → NeverHalted t (nodesOf n)
 
 -- ── Renumbered channels (02, L3) ──

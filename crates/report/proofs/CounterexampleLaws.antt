@@ -162,7 +162,7 @@ low-short (one-more {s} {past} l ls) =
 -- ── What the check tells, with the table of zeros ──
 
 -- where it names a policy, the nodes are those of an outline
-named-nodes : {e n : List ℕ} {p : ℕ} {v : Verdict} → RightVerdict e n v → v ≡ violated p → NodeTable n
+named-nodes : {e n : List ℕ} {p : ℕ} {v : Verdict} → RightVerdict false e n v → v ≡ violated p → NodeTable n
 named-nodes (no-edges f) e = clash (cc)
 named-nodes (no-nodes f) e = clash (cc)
 named-nodes (checked edges nodes c) e = nodes

@@ -1,5 +1,6 @@
 -- What the second program prints, by the verdict that is right of its two sheets.
 use Prim.Native.Nat.{ℕ}
+use mathlib.Core.Bool.{false}
 use mathlib.Core.List.{List, flatten}
 use Rattle.usage.specs.Answers.{Verdict}
 use Rattle.sheet_lines.specs.Sheet.{Result, accepted, refused, sheet}
@@ -13,7 +14,7 @@ use Rattle.report.specs.Output.{printed}
 
 -- under a table of edges; of a refused outline no verdict is told, so any will do
 unfoldable pub RightNodes : List ℕ → Result → Verdict → Type 0
-RightNodes edges (accepted nodes) v = RightVerdict edges (flatten nodes) v
+RightNodes edges (accepted nodes) v = RightVerdict false edges (flatten nodes) v
 RightNodes edges (refused r) v = Unit {0}
 
 -- under a sheet of policies, and again any will do where it is refused

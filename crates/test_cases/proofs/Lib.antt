@@ -6,5 +6,6 @@ pub mod Searches
 pub mod ChecksIL
 pub mod OnlyEmpty
 pub mod AllRight
--- The cases of the local meaning.
+-- The cases of the local meaning: the judge's, and the check's by computing its search.
 pub mod LocalRight
+pub mod LocalChecks

@@ -16,8 +16,10 @@ use Rattle.usage.proofs.Logic.{false-true, and-left, and-right, not-true, last-
 use Rattle.automaton.specs.Move.{targets, image, rowsOf}
 use Rattle.checker_account.specs.Witness.{watched}
 use Rattle.automaton.specs.Mask.{has, single, union}
-use Rattle.checker_account.specs.Tables.{places, over, joinedAt, unnamed, least, forgotten, rowsIn, endsBy, arrivals, leaves}
+use Rattle.checker_account.specs.Tables.{places, over, joinedAt, unnamed, least, forgotten, rowsIn, Resets, never, opening-of, endsBy}
+use Rattle.checker_account.specs.Tables.{arrivals, leaves}
 use Rattle.checker_account.specs.Rounds.{repeat, joinedEach, Forms, formsIn, settleNode, settleRound, entered, passNode, passRound}
+use Rattle.checker_account.specs.Rounds.{byOpen, ShutFilled, Filled}
 use Rattle.checker_account.specs.Rounds.{begins, Derived, start, EndsRule, ComesRule, hitNode, hitAny, Searched, SearchedAll, none-found}
 use Rattle.checker_account.specs.RowTable.{rowsStored, nodeRows, fillRows}
 use Rattle.checker_account.proofs.RoundLaws.{repeat-keeps}
@@ -49,85 +51,121 @@ is-true true b h = sym h
 is-true false b h = sym (not-true b h)
 
 -- r is the table of rows of policy p, x the watched resource, l the least meaning that occurs; k rounds are made
-module _ (r : List ℕ) (p x l n : ℕ) (forms : Forms) (k : ℕ) where
-  unfoldable pub ends-by : List ℕ
-  ends-by = repeat (λ i. settleRound (rowsIn r) x l n forms) k (replicate places 0)
+module _ (local : Bool) (r : List ℕ) (p x l n : ℕ) (forms : Forms) (k : ℕ) where
+  unfoldable pub ends-by : Resets → List ℕ
+  ends-by resets = repeat (λ i. settleRound (rowsIn r) x resets l n forms) k (replicate places 0)
 
-  unfoldable pub comes-by : List ℕ → List ℕ
-  comes-by ends = repeat (λ i. passRound (rowsIn r) p ends l n forms) k (begins l)
+  -- where p is not open: under the local meaning, a table of its own
+  unfoldable pub shut-by : List ℕ → List ℕ
+  shut-by opened = cond local (ends-by (opening-of p opened)) opened
 
-  unfoldable pub complete : Bool → List ℕ → List ℕ → Bool
-  complete answer ends comes =
-      same (settleRound (rowsIn r) x l n forms ends) ends
-      && (same (passRound (rowsIn r) p ends l n forms comes) comes && is answer (hitAny (rowsIn r) p x comes l n forms))
+  unfoldable pub comes-by : List ℕ → List ℕ → List ℕ
+  comes-by opened shut = repeat (λ i. passRound local (rowsIn r) p (byOpen opened shut) l n forms) k (begins l)
 
-  unfoldable pub from-ends : Bool → List ℕ → Bool
-  from-ends answer ends = complete answer ends (comes-by ends)
+  unfoldable pub still : Resets → List ℕ → Bool
+  still resets ends = same (settleRound (rowsIn r) x resets l n forms ends) ends
 
-  -- after k rounds both tables are complete, and they tell this answer
+  unfoldable pub shut-still : List ℕ → List ℕ → Bool
+  shut-still opened shut = cond local (still (opening-of p opened) shut) true
+
+  unfoldable pub complete : Bool → List ℕ → List ℕ → List ℕ → Bool
+  complete answer opened shut comes =
+      still never opened
+      && (shut-still opened shut
+      && (same (passRound local (rowsIn r) p (byOpen opened shut) l n forms comes) comes
+      && is answer (hitAny local (rowsIn r) p x comes l n forms)))
+
+  unfoldable pub from-both : Bool → List ℕ → List ℕ → Bool
+  from-both answer opened shut = complete answer opened shut (comes-by opened shut)
+
+  unfoldable pub from-opened : Bool → List ℕ → Bool
+  from-opened answer opened = from-both answer opened (shut-by opened)
+
+  -- after k rounds all tables are complete, and they tell this answer
   unfoldable pub tells : Bool → Bool
-  tells answer = from-ends answer ends-by
+  tells answer = from-opened answer (ends-by never)
 
-told : (r : List ℕ) (p x n : ℕ) (forms : Forms) (k : ℕ) (answer : Bool) → tells r p x (least x) n forms k answer ≡ true
-    → Searched (rowsIn r) p x n forms answer
-unfolding ends-by comes-by complete from-ends tells
-told r p x n forms k answer h =
-    let ends = ends-by r p x (least x) n forms k in
-    let comes = comes-by r p x (least x) n forms k ends in
-    let e = same (settleRound (rowsIn r) x (least x) n forms ends) ends in
-    let c = same (passRound (rowsIn r) p ends (least x) n forms comes) comes in
-    let a = is answer (hitAny (rowsIn r) p x comes (least x) n forms) in
-    let later : (c && a) ≡ true = and-right e (c && a) h in
+  -- ── What complete tables are ──
+
+  ends-filled : (resets : Resets) → still resets (ends-by resets) ≡ true
+      → Filled (EndsRule (rowsIn r) x resets l n forms) (replicate places 0) (ends-by resets)
+  unfolding ends-by still
+  ends-filled resets h = record {
+    derived =
+        repeat-keeps (Derived (EndsRule (rowsIn r) x resets l n forms) (replicate places 0))
+        (λ i. settleRound (rowsIn r) x resets l n forms) k
+        (λ i t b d. round-derived (rowsIn r) x resets l n forms (replicate places 0) t d) (replicate places 0) start;
+    closed = round-closed (rowsIn r) x resets l n forms (ends-by resets) (same-true _ (ends-by resets) h);
+  }
+
+shut-filled : (local : Bool) (r : List ℕ) (p x n : ℕ) (forms : Forms) (k : ℕ) (opened : List ℕ)
+    → shut-still local r p x (least x) n forms k opened (shut-by local r p x (least x) n forms k opened) ≡ true
+    → ShutFilled local (rowsIn r) p x n forms opened (shut-by local r p x (least x) n forms k opened)
+unfolding shut-by shut-still
+shut-filled false r p x n forms k opened h = refl
+shut-filled true r p x n forms k opened h = ends-filled true r p x (least x) n forms k (opening-of p opened) h
+
+told : (local : Bool) (r : List ℕ) (p x n : ℕ) (forms : Forms) (k : ℕ) (answer : Bool) → tells local r p x (least x) n forms k answer ≡ true
+    → Searched local (rowsIn r) p x n forms answer
+unfolding comes-by complete from-both from-opened tells
+told local r p x n forms k answer h =
+    let opened = ends-by local r p x (least x) n forms k never in
+    let shut = shut-by local r p x (least x) n forms k opened in
+    let t = byOpen opened shut in
+    let comes = comes-by local r p x (least x) n forms k opened shut in
+    let e = still local r p x (least x) n forms k never opened in
+    let s = shut-still local r p x (least x) n forms k opened shut in
+    let c = same (passRound local (rowsIn r) p t (least x) n forms comes) comes in
+    let a = is answer (hitAny local (rowsIn r) p x comes (least x) n forms) in
+    let after-ends : (s && (c && a)) ≡ true = and-right e (s && (c && a)) h in
+    let later : (c && a) ≡ true = and-right s (c && a) after-ends in
     record {
-      ends = ends;
+      ends = t;
       comes = comes;
       ends-filled = record {
-        derived =
-            repeat-keeps (Derived (EndsRule (rowsIn r) x (least x) n forms) (replicate places 0))
-            (λ i. settleRound (rowsIn r) x (least x) n forms) k
-            (λ i t l d. round-derived (rowsIn r) x (least x) n forms (replicate places 0) t d) (replicate places 0) start;
-        closed = round-closed (rowsIn r) x (least x) n forms ends (same-true _ ends (and-left e (c && a) h));
+        opened-filled = ends-filled local r p x (least x) n forms k never (and-left e (s && (c && a)) h);
+        shut-filled = shut-filled local r p x n forms k opened (and-left s (c && a) after-ends);
       };
       comes-filled = record {
         derived =
-            repeat-keeps (Derived (ComesRule (rowsIn r) p ends (least x) n forms) (begins (least x)))
-            (λ i. passRound (rowsIn r) p ends (least x) n forms) k
-            (λ i u l d. pass-round-derived (rowsIn r) p ends (least x) n forms (begins (least x)) u d) (begins (least x)) start;
-        closed = pass-round-closed (rowsIn r) p ends (least x) n forms comes (same-true _ comes (and-left c a later));
+            repeat-keeps (Derived (ComesRule local (rowsIn r) p t (least x) n forms) (begins (least x)))
+            (λ i. passRound local (rowsIn r) p t (least x) n forms) k
+            (λ i u l d. pass-round-derived local (rowsIn r) p t (least x) n forms (begins (least x)) u d) (begins (least x)) start;
+        closed = pass-round-closed local (rowsIn r) p t (least x) n forms comes (same-true _ comes (and-left c a later));
       };
       told = is-true answer _ (and-right c a later);
     }
 
 -- ── From the flat tables of edges and nodes ──
 
-module _ (e t : List ℕ) (p : ℕ) where
-  unfoldable pub rowTable : List ℕ
-  unfolding rowsStored nodeRows fillRows repeat rowsOf image targets single from edgesOf formOf
-  rowTable = fillRows (rowsOf (edgesOf e)) p (length t / nodeFields) (formsIn t) (replicate places 0)
+unfoldable pub rowTable : List ℕ → List ℕ → ℕ → List ℕ
+unfolding rowsStored nodeRows fillRows repeat rowsOf image targets single from edgesOf formOf
+rowTable e t p = fillRows (rowsOf (edgesOf e)) p (length t / nodeFields) (formsIn t) (replicate places 0)
 
+module _ (local : Bool) (e t : List ℕ) (p : ℕ) where
   unfoldable pub tells-by : List ℕ → ℕ → ℕ → ℕ → Bool → Bool
-  unfolding tells ends-by comes-by complete from-ends same repeat joinedEach settleNode settleRound entered passNode passRound hitNode hitAny
+  unfolding tells ends-by shut-by comes-by still shut-still complete from-both from-opened same repeat joinedEach settleNode settleRound entered passNode passRound hitNode hitAny
       someBelow forgotten endsBy arrivals leaves has union over joinedAt formOf
-  tells-by r x l k answer = tells r p x l (length t / nodeFields) (formsIn t) k answer
+  tells-by r x l k answer = tells local r p x l (length t / nodeFields) (formsIn t) k answer
 
   unfoldable pub tells-at : ℕ → ℕ → ℕ → Bool → Bool
-  tells-at x l k answer = tells-by rowTable x l k answer
+  tells-at x l k answer = tells-by (rowTable e t p) x l k answer
 
   pub told-at : (x l k : ℕ) (answer : Bool) → least x ≡ l → tells-at x l k answer ≡ true
-      → Searched (rowsIn rowTable) p x (length t / nodeFields) (formsIn t) answer
+      → Searched local (rowsIn (rowTable e t p)) p x (length t / nodeFields) (formsIn t) answer
   unfolding tells-by tells-at
   told-at x l k answer d h =
-      told rowTable p x (length t / nodeFields) (formsIn t) k answer
-      (subst (λ (l : ℕ). tells rowTable p x l (length t / nodeFields) (formsIn t) k answer ≡ true) (sym d) h)
+      told local (rowTable e t p) p x (length t / nodeFields) (formsIn t) k answer
+      (subst (λ (l : ℕ). tells local (rowTable e t p) p x l (length t / nodeFields) (formsIn t) k answer ≡ true) (sym d) h)
 
   -- Where no node is on a static resource, the tables are the same for each of them.
   pub none-told : (k : ℕ) → ((x : ℕ) → tells-at x unnamed k false ≡ true) → tells-at watched 0 k false ≡ true
-      → SearchedAll (rowsIn rowTable) p (length t / nodeFields) (formsIn t) false
+      → SearchedAll local (rowsIn (rowTable e t p)) p (length t / nodeFields) (formsIn t) false
   unfolding least
   none-told k h d = none-found (λ x l. inr (go x (last-or-lower x watched (omega arith))))
     where
-      go : (x : ℕ) → (x ≡ watched) ⊎ (x < watched) → Searched (rowsIn rowTable) p x (length t / nodeFields) (formsIn t) false
-      go x (inl e) =
-          subst (λ (x : ℕ). Searched (rowsIn rowTable) p x (length t / nodeFields) (formsIn t) false) (sym e)
+      go : (x : ℕ) → (x ≡ watched) ⊎ (x < watched) → Searched local (rowsIn (rowTable e t p)) p x (length t / nodeFields) (formsIn t) false
+      go x (inl f) =
+          subst (λ (x : ℕ). Searched local (rowsIn (rowTable e t p)) p x (length t / nodeFields) (formsIn t) false) (sym f)
           (told-at watched 0 k false refl d)
       go x (inr l) = told-at x unnamed k false (ap (λ (b : Bool). cond b unnamed 0) (lt-ltb x statics l)) (h x)

@@ -1,7 +1,7 @@
 -- Document 01's "Cases by letter", A to L, as one list: what each case says, and what makes it right.
 use Prim.Native.Nat.{ℕ}
 use mathlib.Core.Path.{_≡_}
-use mathlib.Core.Bool.{false}
+use mathlib.Core.Bool.{Bool, false}
 use mathlib.Core.List.{List, [], _∷_}
 use mathlib.Core.Logic.{_↔_}
 use Rattle.usage.specs.declared.RawStep.{RawStep}
@@ -33,8 +33,9 @@ pub record OtherCase : Type 0 where
 
 -- ── The check ──
 
--- the flat tables of edges and of nodes that the check is lent, and its verdict
+-- the choice of past, the flat tables of edges and of nodes that the check is lent, and its verdict
 pub record CheckCase : Type 0 where
+  pub local : Bool
   pub edges : List ℕ
   pub nodes : List ℕ
   pub verdict : Verdict
@@ -43,7 +44,7 @@ pub record CheckCase : Type 0 where
 pub record CheckRight (c : CheckCase) : Type 0 where
   pub edge-table : EdgeTable (c .edges)
   pub node-table : NodeTable (c .nodes)
-  pub checked : Checked false (edgesOf (c .edges)) (nodesOf (c .nodes)) (c .verdict)
+  pub checked : Checked (c .local) (edgesOf (c .edges)) (nodesOf (c .nodes)) (c .verdict)
 
 -- ── What a case says, and what makes it right, from the definitions of crate usage ──
 
@@ -85,7 +86,7 @@ nodesI =
 
 -- "I: P, sandbox 0 around a loop: .. Accepted."
 abbrev pub caseI : CheckCase
-caseI = record { edges = P; nodes = nodesI; verdict = allowed }
+caseI = record { local = false; edges = P; nodes = nodesI; verdict = allowed }
 
 -- "edges 0 0 5 1 0 1 and 0 1 5 1 0 6"
 abbrev pub edgesJ : List ℕ
@@ -107,7 +108,7 @@ nodesJ =
 
 -- "J: edges ..; sandbox 0 around a loop: .. Accepted."
 abbrev pub caseJ : CheckCase
-caseJ = record { edges = edgesJ; nodes = nodesJ; verdict = allowed }
+caseJ = record { local = false; edges = edgesJ; nodes = nodesJ; verdict = allowed }
 
 -- "creates counted with on 1 and on 2, from 0 to 1 to 2 to 6"
 abbrev pub edgesK : List ℕ
@@ -121,7 +122,7 @@ edgesK =
 
 -- "K: ..; the outline of I: refused, policy 0."
 abbrev pub caseK : CheckCase
-caseK = record { edges = edgesK; nodes = nodesI; verdict = violated 0 }
+caseK = record { local = false; edges = edgesK; nodes = nodesI; verdict = violated 0 }
 
 -- "a loop whose body is its own back"
 abbrev pub nodesL : List ℕ
@@ -131,7 +132,7 @@ nodesL =
 
 -- "L: ..: accepted"
 abbrev pub caseL : CheckCase
-caseL = record { edges = P; nodes = nodesL; verdict = allowed }
+caseL = record { local = false; edges = P; nodes = nodesL; verdict = allowed }
 
 -- ── All cases ──
 

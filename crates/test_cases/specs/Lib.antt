@@ -1,5 +1,6 @@
 -- Document 01's cases A to L, as one list, and the judge's limits.
 pub mod JudgeCases
 pub mod Cases
--- The judge's cases of the local meaning (02, L7).
+-- The cases of the local meaning (02, L7): the judge's, and outlines.
 pub mod LocalCases
+pub mod LocalOutlines

@@ -9,12 +9,11 @@ use mathlib.Core.Logic.{inl, inr}
 use Rattle.usage.proofs.Logic.{by-cases}
 use Rattle.usage.specs.Outline.{formOf}
 use Rattle.checker_account.specs.Tables.{rowsIn, place, meanings}
-use Rattle.checker_account.specs.Rounds.{repeat, grown, passBoth, passNode, Wide}
+use Rattle.checker_account.specs.Rounds.{repeat, grown, byOpen, passBoth, passNode, Wide}
 use Rattle.checker_account.proofs.RoundLaws.{Grows, grown-self, repeat-length, turn}
 use Rattle.checker_account.proofs.PassLaws.{pass-both-grows}
 use Rattle.checker_account.proofs.CodeLaws.{place-lt}
 use Rattle.usage.specs.declared.Node.{Node}
-use Rattle.checker_tables.specs.Search.{byOpen}
 use mathlib.Core.Bool.{Bool}
 use Rattle.checker_tables.proofs.arrivals.pass_node.Statement.{statement}
 use Rattle.checker_tables.proofs.arrivals.pass_node.Tie as tie

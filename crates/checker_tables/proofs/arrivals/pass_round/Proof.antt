@@ -10,12 +10,12 @@ use Rattle.usage.specs.Limits.{mostNodes, nodeFields}
 use mathlib.Core.Logic.{inl, inr}
 use Rattle.usage.proofs.Logic.{by-cases}
 use Rattle.checker_account.specs.Tables.{rowsIn}
-use Rattle.checker_account.specs.Rounds.{repeat, grown, formsIn, passNode, passRound, Wide}
+use Rattle.checker_account.specs.Rounds.{repeat, grown, formsIn, byOpen, passNode, passRound, Wide}
 use Rattle.checker_account.proofs.RoundLaws.{Grows, grown-self, repeat-length, turn}
 use Rattle.checker_account.proofs.PassLaws.{pass-node-grows}
 use Rattle.usage.specs.declared.Node.{Node}
 use Rattle.usage.specs.Outline.{formOf}
-use Rattle.checker_tables.specs.Search.{Small, byOpen}
+use Rattle.checker_tables.specs.Search.{Small}
 use Rattle.checker_tables.proofs.arrivals.pass_round.Statement.{statement}
 use Rattle.checker_tables.proofs.arrivals.pass_round.Tie as tie
 use Rattle.checker_tables.proofs.arrivals.pass_round.Reads as reads
