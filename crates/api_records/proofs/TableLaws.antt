@@ -58,7 +58,7 @@ right-records es ns v h = go (leb (length es) mostEdges) refl h
         subst (λ (t : List ℕ). RightVerdict false t ns v) (few-flat es (loop-few es (leb-true (length es) mostEdges q)) .1) c
     go false q (RightFlat.too-many l) =
         -- more records than a sheet has are no table
-        edges-refused (flat es) ns (table-flat es ∙ too-many es (leb-false (length es) mostEdges q))
+        edges-refused false (flat es) ns (table-flat es ∙ too-many es (leb-false (length es) mostEdges q))
     go false q (RightFlat.few l c) =
         let k : mostEdges < length es = leb-false (length es) mostEdges q in
         absurd (omega (arith, loop-many es k))
@@ -83,7 +83,7 @@ explained-records es ns t h = go (leb (length es) mostEdges) refl h
     go false q (ExplainedFlat.too-many-edges l m) =
         Explained.refused-with l
         (right-promised (flat es) ns (refused 41)
-        (edges-refused (flat es) ns (table-flat es ∙ too-many es (leb-false (length es) mostEdges q))))
+        (edges-refused false (flat es) ns (table-flat es ∙ too-many es (leb-false (length es) mostEdges q))))
     go false q (ExplainedFlat.few-edges l c) =
         let k : mostEdges < length es = leb-false (length es) mostEdges q in
         absurd (omega (arith, loop-many es k))
