@@ -1,19 +1,21 @@
 -- From what stands in the buffer to the readers' contracts.
 use Prim.Native.Nat.{ℕ, _*_, _<_, _≤_}
-use mathlib.Core.Path.{_≡_, refl, sym, ap, _∙_}
+use mathlib.Core.Path.{_≡_, refl, sym, ap, subst, _∙_}
 use mathlib.Core.Bool.{Bool, true, false, cond}
 use mathlib.Core.List.{List, _++_, flatten}
 use native.Mathlib.Omega.{arith}
 use lib.Dec.{ltb}
 use lib.ListN.{length, getD, drop, replicate}
 use borrow.Author.Tests.{lt-ltb, le-ltb, ltb-false}
+use Rattle.usage.specs.Limits.{edgePlaces}
 use Rattle.usage.specs.Answers.{Refusal}
 use Rattle.usage.specs.Tables.{from}
 use Rattle.usage.proofs.Logic.{clash}
 use Rattle.sheet_lines.specs.Sheet.{Sheet, Result, accepted, refused, refuseAt, sheet}
+use Rattle.sheet_lines.specs.Sheets.{policySheet, isLocal}
 use Rattle.sheet_lines.specs.Answer.{Answer, count, refusal, answered, mostValues, filled}
 use Rattle.sheet_lines.proofs.AcceptLaws.{Accepted, sheet-accepted, flat-length}
-use Rattle.sheet_reader.specs.Readers.{roomy, PolicyAnswer, has-edges, has-refusal, policiesAnswered, stored}
+use Rattle.sheet_reader.specs.Readers.{policiesRead, roomy, PolicyAnswer, has-edges, has-refusal, policiesAnswered, stored}
 use Rattle.sheet_reader.proofs.Below.{Below, below-at, below-append, below-drop, zeros-below}
 use Rattle.sheet_reader.proofs.StoreLaws.{from-front}
 
@@ -80,10 +82,10 @@ module _ (local : Bool) where
   refusal-answered (accepted rows) x e = clash (cc)
   refusal-answered (refused r) x e = let k : x ≡ r = cc in ap refusal k
 
-  pub answered-edges : (r : Result) (n : ℕ) → count n ≡ answered r → has-edges n local ≡ policiesAnswered local r
+  pub answered-edges : (r : Result) (n : ℕ) (l : Bool) → l ≡ local → count n ≡ answered r → has-edges n l ≡ policiesAnswered local r
   unfolding answered policiesAnswered
-  answered-edges (accepted rows) n e = let k : n ≡ length rows = cc in ap (λ m. has-edges m local) k
-  answered-edges (refused r) n e = clash (cc)
+  answered-edges (accepted rows) n l c e = let k : n ≡ length rows = cc in ap (λ m. has-edges m l) k ∙ ap (has-edges (length rows)) c
+  answered-edges (refused r) n l c e = clash (cc)
 
   pub answered-refusal : (r : Result) (x : Refusal) → refusal x ≡ answered r → has-refusal x ≡ policiesAnswered local r
   unfolding answered policiesAnswered
@@ -117,6 +119,24 @@ kept s places needed text first buffer n e d =
       ok = ok;
       size = flat-length s (ok .each) ∙ ap (λ m. m * s .fields) (sym (k .number));
     }
+
+-- policies, read by the choice l, which is that of the names line
+module _ (places : ℕ) (text : List ℕ) (l : Bool) (chosen : l ≡ isLocal text) where
+  pub policies-kept : (first buffer : List ℕ) (n : ℕ) → count n ≡ answered (roomy places edgePlaces (sheet (policySheet l) text))
+      → buffer ≡ filled (roomy places edgePlaces (sheet (policySheet l) text)) first
+      → Kept (policySheet (isLocal text)) places edgePlaces text buffer n
+  policies-kept first buffer n e d =
+      kept (policySheet (isLocal text)) places edgePlaces text first buffer n
+      (subst (λ (m : Bool). count n ≡ answered (roomy places edgePlaces (sheet (policySheet m) text))) chosen e)
+      (subst (λ (m : Bool). buffer ≡ filled (roomy places edgePlaces (sheet (policySheet m) text)) first) chosen d)
+
+  pub policies-refusal : (line number : ℕ)
+      → refusal record { line = line; number = number } ≡ answered (roomy places edgePlaces (sheet (policySheet l) text))
+      → roomy places edgePlaces (policiesRead text) ≡ refuseAt line number
+  policies-refusal line number e =
+      refusal-result (roomy places edgePlaces (policiesRead text)) line number
+      (subst (λ (m : Bool). refusal record { line = line; number = number } ≡ answered (roomy places edgePlaces (sheet (policySheet m) text)))
+      chosen e)
 
 module _ (s : Sheet) (places needed : ℕ) (text buffer : List ℕ) (n : ℕ) (k : Kept s places needed text buffer n) where
   pub few : n ≤ s .most

@@ -1,8 +1,8 @@
 use Rattle.usage.specs.Limits.{edgePlaces}
 use Rattle.sheet_lines.specs.Sheets.{policySheet, isLocal}
 use Rattle.sheet_reader.specs.Readers.{policiesRead, roomy, policiesInto}
-use Rattle.sheet_reader.proofs.ReaderLaws.{refused-reads, refusal-result, answered-edges, answered-refusal, Kept, kept, few, bounded}
-use Rattle.sheet_reader.proofs.ReaderLaws.{stores}
+use Rattle.sheet_reader.proofs.ReaderLaws.{refused-reads, answered-edges, answered-refusal, Kept, policies-kept, policies-refusal}
+use Rattle.sheet_reader.proofs.ReaderLaws.{few, bounded, stores}
 use Rattle.sheet_reader.proofs.Below.{edges-below}
 use native.Mathlib.Omega.{arith}
 use mathlib.Core.Path.{_∙_}
@@ -18,10 +18,9 @@ held : (c : tie.After-known-told2)
     (c .before .before .before .before .before .before .before .before .args .text .now)
     (c .before .before .before .read .last .1 .1 .1 .0) (c .before .r2 .given .0 .0)
 held c =
-    let l = c .before .before .before .before .before .is-local .ensures in
-    kept (policySheet (isLocal (c .before .before .before .before .before .before .before .before .args .text .now))) _ edgePlaces _ _ _ _
-    (rw (c .before .r2 .given .1, l) at (c .before .before .before .read .ensures .0))
-    (rw l at (c .before .before .before .read .ensures .1))
+    let local = c .before .before .before .before .before .is-local in
+    policies-kept _ _ (local .result) (local .ensures) _ _ _ (rw (c .before .r2 .given .1) at (c .before .before .before .read .ensures .0))
+    (c .before .before .before .read .ensures .1)
 
 is-local-requires : tie.Need-is-local-requires
 is-local-requires c κs = search needs
@@ -47,10 +46,10 @@ returns : tie.Need-returns
 unfolding policiesInto
 returns c =
     let a = c .before .before .before .before .before .before .before .before .args in
+    let local = c .before .before .before .before .before .is-local in
     let r = roomy (length (a .table .now)) edgePlaces (policiesRead (a .text .now)) in
     let h = refused-reads r (a .table .now) _ _
-    (refusal-result r _ _
-    (rw (c .before .r .given .1, c .before .before .before .before .before .is-local .ensures) at (c .before .before .before .read .ensures .0))) in
+    (policies-refusal (length (a .table .now)) (a .text .now) (local .result) (local .ensures) _ _ (rw (c .before .r .given .1) at (c .before .before .before .read .ensures .0))) in
     (answered-refusal (isLocal (a .text .now)) r _ (h .answers), h .table)
 
 same-length : tie.Need-same-length
@@ -62,8 +61,7 @@ returns-2 c =
     let b = c .before .before .before .before .before in
     let a = b .before .before .before .before .before .before .before .before .args in
     let h = stores (policySheet (isLocal (a .text .now))) _ _ _ _ _ (held b) (a .table .now) in (
-      rw (b .before .before .before .before .before .is-local .ensures)
-          (answered-edges (isLocal (a .text .now)) _ _ (h .answers)),
+      answered-edges (isLocal (a .text .now)) _ _ _ (b .before .before .before .before .before .is-local .ensures) (h .answers),
       c .before .before .store-bytes .ensures ∙ h .table,
     )
 
