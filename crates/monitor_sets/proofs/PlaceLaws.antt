@@ -6,15 +6,15 @@ use mathlib.Core.List.{List}
 use native.Mathlib.Nat.{zero-add, eq-or-lt-of-le}
 use native.Mathlib.Omega.{arith}
 use borrow.Author.Tests.{eq-eqb, eqb-true, eqb-false, lt-ltb, le-ltb, ltb-true, ltb-false}
-use lib.Dec.{eqb, ltb}
+use lib.Dec.{eqb, ltb, lit<}
 use lib.ListN.{length, getD, set, length-set}
 use lib.Seq.{getD-set-same, getD-set-other}
 use Rattle.usage.specs.Limits.{policies}
 use Rattle.usage.specs.Tables.{from}
-use Rattle.usage.proofs.Logic.{by-cases}
-use Rattle.usage.proofs.TableLaws.{length-from, getD-from, is-from, from-ext}
+use Rattle.usage.proofs.Logic.{by-cases, and-false}
+use Rattle.usage.proofs.TableLaws.{length-from, getD-from, is-from, from-ext, from-below}
 use Rattle.monitor_sets.specs.Instances.{unseen, instances, setPlaces}
-use Rattle.monitor_sets.specs.Sets.{copied}
+use Rattle.monitor_sets.specs.Sets.{copied, startSet, resetSets}
 
 -- the table of the sets f 0, f 1, …
 abbrev pub table : (ℕ → ℕ) → List ℕ
@@ -120,3 +120,62 @@ module _ (sets : List ℕ) (i : ℕ) where
           ap (λ t. cond t (getD sets (k / instances * instances + unseen) 0) (getD sets k 0))
           (same-and (ltb (k / instances) p) (ltb (k / instances) (p + 1)) (eqb (k % instances) i)
           (λ e. ltb-next (k / instances) p (λ q. n (place-is k p i q (eqb-true (k % instances) i e)))))
+
+-- ── Instances that go back to state 0 ──
+
+abbrev resetTo : ℕ → ℕ → List ℕ → ℕ → ℕ
+resetTo n p sets k = cond (eqb (k / instances) p && ltb (k % instances) n) startSet (getD sets k 0)
+
+module _ (sets : List ℕ) (p : ℕ) where
+  pub reset-none : length sets ≡ setPlaces → sets ≡ resetSets 0 p sets
+  unfolding resetSets
+  reset-none e =
+      is-table (resetTo 0 p sets) sets e
+      (λ k l. sym (ap (λ (b : Bool). cond b startSet (getD sets k 0))
+      (and-false (eqb (k / instances) p) (ltb (k % instances) 0) (le-ltb (k % instances) 0 (omega arith)))))
+
+  pub reset-more : (n : ℕ) → p < policies → n < instances → set (resetSets n p sets) (p * instances + n) startSet ≡ resetSets (n + 1) p sets
+  unfolding resetSets
+  reset-more n h l = table-set (resetTo n p sets) (resetTo (n + 1) p sets) (p * instances + n) startSet (omega arith) here other
+    where
+      here : startSet ≡ resetTo (n + 1) p sets (p * instances + n)
+      here =
+          let q : (p * instances + n) / instances ≡ p = omega arith in
+          let r : (p * instances + n) % instances ≡ n = omega arith in
+          rw (q, r) (simp (eq-eqb p p refl, lt-ltb n (n + 1) (omega arith)))
+
+      swap : (a b : Bool) → (a && b) ≡ (b && a)
+      swap true true = refl
+      swap true false = refl
+      swap false true = refl
+      swap false false = refl
+
+      other : (k : ℕ) → k < setPlaces → (k ≡ p * instances + n → ⊥) → resetTo n p sets k ≡ resetTo (n + 1) p sets k
+      other k b d =
+          ap (λ t. cond t startSet (getD sets k 0))
+          (swap (eqb (k / instances) p) (ltb (k % instances) n)
+          ∙ same-and (ltb (k % instances) n) (ltb (k % instances) (n + 1)) (eqb (k / instances) p)
+          (λ e. ltb-next (k % instances) n (λ q. d (place-is k p n (eqb-true (k / instances) p e) q)))
+          ∙ swap (ltb (k % instances) (n + 1)) (eqb (k / instances) p))
+
+  -- the set at instance i of policy q
+  pub reset-at : (n q i : ℕ) → q < policies → i < instances
+      → getD (resetSets n p sets) (q * instances + i) 0 ≡ cond (eqb q p && ltb i n) startSet (getD sets (q * instances + i) 0)
+  unfolding resetSets
+  reset-at n q i h l =
+      let d : (q * instances + i) / instances ≡ q = omega arith in
+      let m : (q * instances + i) % instances ≡ i = omega arith in
+      table-at (resetTo n p sets) (q * instances + i) (omega arith) ∙ rw (d, m)
+
+  pub reset-length : (n : ℕ) → length (resetSets n p sets) ≡ setPlaces
+  unfolding resetSets
+  reset-length n = table-length (resetTo n p sets)
+
+  pub reset-below : (n : ℕ) → ((k : ℕ) → getD sets k 0 < 256) → (k : ℕ) → getD (resetSets n p sets) k 0 < 256
+  unfolding resetSets
+  reset-below n h k =
+      from-below (resetTo n p sets) 256 (lit< tt) (λ j. either (eqb (j / instances) p && ltb (j % instances) n) (h j)) 0 setPlaces k
+    where
+      either : (b : Bool) {m : ℕ} → m < 256 → cond b startSet m < 256
+      either true l = lit< tt
+      either false l = l

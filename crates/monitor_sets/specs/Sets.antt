@@ -1,6 +1,6 @@
 -- How the sets of states change. Place k is that of instance k % instances of policy k / instances.
 use Prim.Native.Nat.{ℕ, _+_, _*_, _/_, _%_}
-use mathlib.Core.Bool.{cond}
+use mathlib.Core.Bool.{_&&_, cond}
 use mathlib.Core.List.{List}
 use lib.Dec.{eqb, ltb}
 use lib.ListN.{getD}
@@ -20,6 +20,14 @@ unfoldable pub movedSets : List Edge → ℕ → ℕ → ℕ → ℕ → List �
 movedSets es a r own n sets =
     from (λ k. cond (ltb (k % instances) n) (moveMask es (k / instances) a r (eqb (k % instances) own) (getD sets k 0))
     (getD sets k 0)) 0 setPlaces
+
+-- the set of state 0 alone
+abbrev pub startSet : ℕ
+startSet = 1
+
+-- "all its instances go back to state 0" (02, L7): the first n of policy p; the other places keep their contents
+unfoldable pub resetSets : ℕ → ℕ → List ℕ → List ℕ
+resetSets n p sets = from (λ k. cond (eqb (k / instances) p && ltb (k % instances) n) startSet (getD sets k 0)) 0 setPlaces
 
 -- "for each policy, the set of states that any instance may be in": the union of the sets of its first n instances
 abbrev pub gatheredAt : ℕ → List ℕ → ℕ → ℕ

@@ -20,8 +20,11 @@ ghost use Rattle.usage.specs.Tables.{edgesOf};
 ghost use Rattle.automaton.specs.Mask.{union};
 ghost use Rattle.automaton.specs.Move.{moveBy};
 ghost use Rattle.monitor_sets.specs.Instances.{instances, setPlaces};
-ghost use Rattle.monitor_sets.specs.Sets.{copied, gatheredAt, gathered};
+ghost use Rattle.monitor_sets.specs.Sets.{copied, resetSets, gatheredAt, gathered};
 ghost use Rattle.monitor_sets.specs.Code.{lanes, brokenBit, brokenIn, rowMoved, policyMoved, allMoved, eventSets};
+
+// The set of state 0 alone.
+pub const START_SET: u8 = 1;
 
 // How many sets one instruction joins.
 const LANES: usize = 16;
@@ -288,6 +291,37 @@ fn take(
     }
     *possible = after;
     bad
+}
+
+// The first n instances of policy p are in state 0.
+fn reset_policy(sets: &mut [u8; SETS], n: usize, p: usize)
+    requires { ⌜ length (now sets) ≡ setPlaces ⌝ }
+    requires { ⌜ n ≤ instances ⌝ }
+    requires { ⌜ p < policies ⌝ }
+    ensures { λ r. ⌜ now (sets .exit) ≡ resetSets n p (now (sets .entry)) ⌝ }
+{
+    let k = p * INSTANCES;
+    let mut i: usize = 0;
+    while i < n {
+        sets[k + i] = START_SET;
+        i += 1;
+    }
+}
+
+// The same; where there is no such policy, or not so many instances, nothing happens.
+pub fn reset(sets: &mut [u8; SETS], n: usize, p: usize)
+    ensures { λ r.
+        ⌜ now (sets .exit) ≡ cond (leb n instances && ltb p policies) (resetSets n p (now (sets .entry))) (now (sets .entry)) ⌝ }
+{
+    if INSTANCES < n {
+        return;
+    }
+    if POLICIES <= p {
+        return;
+    }
+    let old = *sets;
+    sets_known(old);
+    reset_policy(sets, n, p);
 }
 
 // Moves the sets of the first n instances on an event, instance `at` as that of its resource, gathers what each policy may then be in, and

@@ -26,7 +26,7 @@ use Rattle.monitor_state.specs.declared.Answer.{Answer}
 use Rattle.monitor_state.specs.declared.Answer.the-variants.{Allowed, Violated}
 use Rattle.monitor_state.specs.declared.Judgement.{Judgement}
 use Rattle.monitor_state.specs.Judge.{startState, live, listed, distinct, dynamic, createdOk, orderOk, stateOk, placeFrom, placeOf}
-use Rattle.monitor_state.specs.Judge.{used, movedSets, createdIn, movedIn, gathered, withOpenings, after, broken, refusal, refuse, halt, settle}
+use Rattle.monitor_state.specs.Judge.{used, movedSets, createdIn, movedIn, gathered, withOpenings, withSets, resetIn, after, broken, refusal, refuse, halt, settle}
 use Rattle.monitor_state.specs.Judge.{judgeStep, judgeRead, judgeOf, answersOf}
 use Rattle.monitor_state.specs.Renamed.{Renaming, renamed, renamedStep, SameAnswers}
 
@@ -229,12 +229,13 @@ module _ (f : ℕ → ℕ) (R : Renaming f) where
     unfolding movedIn
     moved-renamed a r s = rw (place-renamed s r, sets-renamed a r (placeOf s r) (used s) (s .sets))
 
-    after-renamed : (s : State) (step : Step) → after es (renamedState f s) (renamedRead f step) ≡ renamedState f (after es s step)
-    unfolding after withOpenings
-    after-renamed s (event zero r) = ap (movedIn es 0 (renamed f r)) (created-renamed s r) ∙ moved-renamed 0 r (createdIn s r)
-    after-renamed s (event (suc a) r) = moved-renamed (suc a) r s
-    after-renamed s (opening p) = refl
-    after-renamed s (closing p) = refl
+    after-renamed : (local : Bool) (s : State) (step : Step)
+        → after local es (renamedState f s) (renamedRead f step) ≡ renamedState f (after local es s step)
+    unfolding after withOpenings withSets resetIn
+    after-renamed local s (event zero r) = ap (movedIn es 0 (renamed f r)) (created-renamed s r) ∙ moved-renamed 0 r (createdIn s r)
+    after-renamed local s (event (suc a) r) = moved-renamed (suc a) r s
+    after-renamed local s (opening p) = refl
+    after-renamed local s (closing p) = refl
 
   -- ── The answer ──
 
@@ -266,53 +267,53 @@ module _ (f : ℕ → ℕ) (R : Renaming f) where
       either-renamed (eqb bad 0) (record { answer = Allowed; state = t }) (record { answer = Violated (lowestIn bad); state = halt s }) refl
       refl
 
-  module _ (es : List Edge) (names : Named es) (s : State) where
+  module _ (local : Bool) (es : List Edge) (names : Named es) (s : State) where
     judge-step : (step : Step) (o : Option ℕ)
-        → judgeStep es (renamedState f s) (renamedRead f step) o ≡ renamedJudgement f (judgeStep es s step o)
+        → judgeStep local es (renamedState f s) (renamedRead f step) o ≡ renamedJudgement f (judgeStep local es s step o)
     unfolding judgeStep
     judge-step step (some n) = refuse-renamed n s
     judge-step step none =
-        ap (λ (t : State). settle (broken t) (renamedState f s) t) (after-renamed es names s step)
-        ∙ ap (λ (n : ℕ). settle n (renamedState f s) (renamedState f (after es s step))) (broken-renamed (after es s step))
-        ∙ settle-renamed (broken (after es s step)) s (after es s step)
+        ap (λ (t : State). settle (broken t) (renamedState f s) t) (after-renamed es names local s step)
+        ∙ ap (λ (n : ℕ). settle n (renamedState f s) (renamedState f (after local es s step))) (broken-renamed (after local es s step))
+        ∙ settle-renamed (broken (after local es s step)) s (after local es s step)
 
-    judge-read : (o : Option Step) → judgeRead es (renamedState f s) (renamedOption f o) ≡ renamedJudgement f (judgeRead es s o)
+    judge-read : (o : Option Step) → judgeRead local es (renamedState f s) (renamedOption f o) ≡ renamedJudgement f (judgeRead local es s o)
     unfolding judgeRead
     judge-read none = refuse-renamed 21 s
     judge-read (some step) =
-        ap (judgeStep es (renamedState f s) (renamedRead f step)) (refusal-renamed s step) ∙ judge-step step (refusal s step)
+        ap (judgeStep local es (renamedState f s) (renamedRead f step)) (refusal-renamed s step) ∙ judge-step step (refusal s step)
 
   -- Every step keeps two states alike, and answers the same of both.
-  judge-renamed : (t : List ℕ) (s : State) (raw : RawStep)
-      → judgeOf t (renamedState f s) (renamedStep f raw) ≡ renamedJudgement f (judgeOf t s raw)
+  judge-renamed : (t : List ℕ) (local : Bool) (s : State) (raw : RawStep)
+      → judgeOf t local (renamedState f s) (renamedStep f raw) ≡ renamedJudgement f (judgeOf t local s raw)
   unfolding judgeOf
-  judge-renamed t s raw = go (edgeTable t) refl
+  judge-renamed t local s raw = go (edgeTable t) refl
     where
       u : State
       u = renamedState f s
 
       inner : State → RawStep → Bool → Judgement
-      inner v r ok = cond (not ok) (refuse 42 v) (cond (v .halted) (refuse 20 v) (judgeRead (edgesOf t) v (stepOf r)))
+      inner v r ok = cond (not ok) (refuse 42 v) (cond (v .halted) (refuse 20 v) (judgeRead local (edgesOf t) v (stepOf r)))
 
       go : (b : Bool) → edgeTable t ≡ b
           → cond (not b) (refuse 41 u) (inner u (renamedStep f raw) (stateOk u))
           ≡ renamedJudgement f (cond (not b) (refuse 41 s) (inner s raw (stateOk s)))
       go true e =
           ap (inner u (renamedStep f raw)) (state-renamed s)
-          ∙ either-renamed (not (stateOk s)) (refuse 42 s) (cond (s .halted) (refuse 20 s) (judgeRead (edgesOf t) s (stepOf raw)))
+          ∙ either-renamed (not (stateOk s)) (refuse 42 s) (cond (s .halted) (refuse 20 s) (judgeRead local (edgesOf t) s (stepOf raw)))
           (refuse-renamed 42 s)
-          (either-renamed (s .halted) (refuse 20 s) (judgeRead (edgesOf t) s (stepOf raw)) (refuse-renamed 20 s)
-          (ap (judgeRead (edgesOf t) u) (step-renamed raw)
-          ∙ judge-read (edgesOf t) (λ d m o. decides-edge-table t .0 e .edges .each d m .who-static o) s (stepOf raw)))
+          (either-renamed (s .halted) (refuse 20 s) (judgeRead local (edgesOf t) s (stepOf raw)) (refuse-renamed 20 s)
+          (ap (judgeRead local (edgesOf t) u) (step-renamed raw)
+          ∙ judge-read local (edgesOf t) (λ d m o. decides-edge-table t .0 e .edges .each d m .who-static o) s (stepOf raw)))
       go false e = refuse-renamed 41 s
 
-  answers-renamed : (t : List ℕ) (s : State) (raws : List RawStep)
-      → answersOf t (renamedState f s) (map (renamedStep f) raws) ≡ answersOf t s raws
+  answers-renamed : (t : List ℕ) (local : Bool) (s : State) (raws : List RawStep)
+      → answersOf t local (renamedState f s) (map (renamedStep f) raws) ≡ answersOf t local s raws
   unfolding answersOf
-  answers-renamed t s [] = refl
-  answers-renamed t s (raw ∷ raws) =
-      ap (λ (j : Judgement). j .answer ∷ answersOf t (j .state) (map (renamedStep f) raws)) (judge-renamed t s raw)
-      ∙ ap (λ (l : List Answer). judgeOf t s raw .answer ∷ l) (answers-renamed t (judgeOf t s raw .state) raws)
+  answers-renamed t local s [] = refl
+  answers-renamed t local s (raw ∷ raws) =
+      ap (λ (j : Judgement). j .answer ∷ answersOf t local (j .state) (map (renamedStep f) raws)) (judge-renamed t local s raw)
+      ∙ ap (λ (l : List Answer). judgeOf t local s raw .answer ∷ l) (answers-renamed t local (judgeOf t local s raw .state) raws)
 
   -- the start has nothing that is renamed
   start-renamed : startState ≡ renamedState f startState
@@ -320,5 +321,5 @@ module _ (f : ℕ → ℕ) (R : Renaming f) where
   start-renamed = refl
 
 pub start-same : SameAnswers startState
-start-same t f R raws =
-    ap (λ (s : State). answersOf t s (map (renamedStep f) raws)) (start-renamed f R) ∙ answers-renamed f R t startState raws
+start-same t local f R raws =
+    ap (λ (s : State). answersOf t local s (map (renamedStep f) raws)) (start-renamed f R) ∙ answers-renamed f R t local startState raws

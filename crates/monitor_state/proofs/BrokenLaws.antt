@@ -26,17 +26,17 @@ pub broken-lt : (s : State) → broken s < 256
 unfolding broken
 broken-lt s = maskOf-lt (λ p. ltb 0 (getD (s .unclosed) p 0) && offends (possibleIn s p))
 
-module _ (es : List Edge) (past : Past) (h : Bool) (s : State) (R : Represents es past h s) where
+module _ (local : Bool) (es : List Edge) (past : Past) (h : Bool) (s : State) (R : Represents local es past h s) where
   -- an offending state is among the possible ones exactly where some instance may be in it
-  offends-broken : (p : ℕ) → p < policies → offends (possibleIn s p) ≡ true → Broken false es p past
+  offends-broken : (p : ℕ) → p < policies → offends (possibleIn s p) ≡ true → Broken local es p past
   offends-broken p k o =
       go (or-cases (has (possibleIn s p) 6) (has (possibleIn s p) 7) (sym (has-offending (possibleIn s p) (R .possible-bytes p)) ∙ o))
     where
-      go : (has (possibleIn s p) 6 ≡ true) ⊎ (has (possibleIn s p) 7 ≡ true) → Broken false es p past
+      go : (has (possibleIn s p) 6 ≡ true) ⊎ (has (possibleIn s p) 7 ≡ true) → Broken local es p past
       go (inl e) = let m = R .gathers p 6 k (lit< tt) .0 e in (m .0, 6, m .1, inl refl)
       go (inr e) = let m = R .gathers p 7 k (lit< tt) .0 e in (m .0, 7, m .1, inr refl)
 
-  broken-offends : Ends es → (p : ℕ) → p < policies → Broken false es p past → offends (possibleIn s p) ≡ true
+  broken-offends : Ends es → (p : ℕ) → p < policies → Broken local es p past → offends (possibleIn s p) ≡ true
   broken-offends v p k b = has-offending m (R .possible-bytes p) ∙ go (b .3)
     where
       m : ℕ
@@ -67,7 +67,7 @@ module _ (es : List Edge) (past : Past) (h : Bool) (s : State) (R : Represents e
           List·getD-eq-default (s .unclosed) 0 (subst (λ (n : ℕ). n ≤ p) (sym (R .unclosed-length)) (ltb-false p policies e)) in
           absurd (omega (arith, open-count-pos p o, z))
 
-  violates-has : Ends es → (p : ℕ) → Violates false es p past → has (broken s) p ≡ true
+  violates-has : Ends es → (p : ℕ) → Violates local es p past → has (broken s) p ≡ true
   unfolding broken
   violates-has v p b =
       let l : p < policies = open-lt p (b .0) in
@@ -75,7 +75,7 @@ module _ (es : List Edge) (past : Past) (h : Bool) (s : State) (R : Represents e
       ∙ and-both (ltb 0 (getD (s .unclosed) p 0)) (offends (possibleIn s p)) (lt-ltb 0 (getD (s .unclosed) p 0) (open-count-pos p (b .0)))
       (broken-offends v p l (b .1))
 
-  has-violates : (p : ℕ) → p < policies → has (broken s) p ≡ true → Violates false es p past
+  has-violates : (p : ℕ) → p < policies → has (broken s) p ≡ true → Violates local es p past
   unfolding broken
   has-violates p l e =
       let t : (ltb 0 (getD (s .unclosed) p 0) && offends (possibleIn s p)) ≡ true =
@@ -85,13 +85,13 @@ module _ (es : List Edge) (past : Past) (h : Bool) (s : State) (R : Represents e
       )
 
   -- where the set is empty every open policy is respected
-  pub none-violated : Ends es → eqb (broken s) 0 ≡ true → (p : ℕ) → Violates false es p past → ⊥
+  pub none-violated : Ends es → eqb (broken s) 0 ≡ true → (p : ℕ) → Violates local es p past → ⊥
   none-violated v e p b = not-both (has 0 p) (ap (λ (m : ℕ). has m p) (sym (eqb-true (broken s) 0 e)) ∙ violates-has v p b) (has-zero p)
 
   -- else its lowest number is the lowest open policy that is not respected
   pub record First : Type 0 where
-    pub is : Violates false es (lowestIn (broken s)) past
-    pub least : (q : ℕ) → q < lowestIn (broken s) → Violates false es q past → ⊥
+    pub is : Violates local es (lowestIn (broken s)) past
+    pub least : (q : ℕ) → q < lowestIn (broken s) → Violates local es q past → ⊥
 
   pub first-violated : Ends es → eqb (broken s) 0 ≡ false → First
   first-violated v e =

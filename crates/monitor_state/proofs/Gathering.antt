@@ -1,7 +1,7 @@
 -- The set that is gathered of a policy holds what some instance may be in.
 use Prim.Native.Nat.{ℕ, _+_, _*_, _<_}
 use mathlib.Core.Path.{_≡_, sym, ap, _∙_}
-use mathlib.Core.Bool.{true, false}
+use mathlib.Core.Bool.{Bool, true}
 use mathlib.Core.List.{List}
 use native.Mathlib.Nat.{zero-add}
 use lib.Dec.{lit<}
@@ -22,9 +22,9 @@ use Rattle.monitor_state.specs.Represents.{Tracks, Gathers}
 use Rattle.monitor_state.proofs.Places.{StateOk, place-lt, owner}
 
 -- Each instance in use is some resource's, and each resource has an instance in use.
-module _ (es : List Edge) (past : Past) (t : State) (n : length (t .created) ≡ mostCreated) (w : StateOk t) (tracks : Tracks es past t)
+module _ (local : Bool) (es : List Edge) (past : Past) (t : State) (n : length (t .created) ≡ mostCreated) (w : StateOk t) (tracks : Tracks local es past t)
     (e : t .possible ≡ gathered (used t) (t .sets)) where
-  pub gathered-gathers : Gathers es past t
+  pub gathered-gathers : Gathers local es past t
   unfolding gathered
   gathered-gathers p q k l = (to, back)
     where
@@ -35,13 +35,13 @@ module _ (es : List Edge) (past : Past) (t : State) (n : length (t .created) ≡
           ∙ ap (gatheredAt (used t) (t .sets)) (zero-add p))
           ∙ union-has (used t) (λ i. setAt t p i) q
 
-      to : has (possibleIn t p) q ≡ true → (x : ℕ) × May false es p (Sees x) past q
+      to : has (possibleIn t p) q ≡ true → (x : ℕ) × May local es p (Sees x) past q
       to h =
           let f = some-found (used t) (λ i. has (setAt t p i) q) (sym among ∙ h) in
           let x = owner t n w (f .0) (f .1) in
           (x .0, tracks (x .0) p q k l .0 (ap (λ (i : ℕ). has (setAt t p i) q) (x .1) ∙ f .2))
 
-      back : ((x : ℕ) × May false es p (Sees x) past q) → has (possibleIn t p) q ≡ true
+      back : ((x : ℕ) × May local es p (Sees x) past q) → has (possibleIn t p) q ≡ true
       back m =
           among
           ∙ some-at (used t) (λ i. has (setAt t p i) q) (placeOf t (m .0)) (place-lt t (m .0)) (tracks (m .0) p q k l .1 (m .1))

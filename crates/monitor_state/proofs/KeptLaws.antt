@@ -34,27 +34,27 @@ unfolding settle
 settle-kept bad s t =
     either-kept s (eqb bad 0) (record { answer = Allowed; state = t }) (record { answer = Violated (lowestIn bad); state = halt s }) tt refl
 
-step-kept : (es : List Edge) (s : State) (step : Step) (o : Option ℕ) → KeptBy s (judgeStep es s step o)
+step-kept : (local : Bool) (es : List Edge) (s : State) (step : Step) (o : Option ℕ) → KeptBy s (judgeStep local es s step o)
 unfolding judgeStep
-step-kept es s step none = settle-kept (broken (after es s step)) s (after es s step)
-step-kept es s step (some n) = refuse-kept n s
+step-kept local es s step none = settle-kept (broken (after local es s step)) s (after local es s step)
+step-kept local es s step (some n) = refuse-kept n s
 
-read-kept : (es : List Edge) (s : State) (o : Option Step) → KeptBy s (judgeRead es s o)
+read-kept : (local : Bool) (es : List Edge) (s : State) (o : Option Step) → KeptBy s (judgeRead local es s o)
 unfolding judgeRead
-read-kept es s none = refuse-kept 21 s
-read-kept es s (some step) = step-kept es s step (refusal s step)
+read-kept local es s none = refuse-kept 21 s
+read-kept local es s (some step) = step-kept local es s step (refusal s step)
 
-judge-kept : (t : List ℕ) (s : State) (raw : RawStep) → KeptBy s (judgeOf t s raw)
+judge-kept : (t : List ℕ) (local : Bool) (s : State) (raw : RawStep) → KeptBy s (judgeOf t local s raw)
 unfolding judgeOf
-judge-kept t s raw =
+judge-kept t local s raw =
     either-kept s (not (edgeTable t)) (refuse 41 s) (cond (not (stateOk s)) (refuse 42 s) rest) (refuse-kept 41 s)
     (either-kept s (not (stateOk s)) (refuse 42 s) rest (refuse-kept 42 s)
-    (either-kept s (s .halted) (refuse 20 s) (judgeRead (edgesOf t) s (stepOf raw)) (refuse-kept 20 s)
-    (read-kept (edgesOf t) s (stepOf raw))))
+    (either-kept s (s .halted) (refuse 20 s) (judgeRead local (edgesOf t) s (stepOf raw)) (refuse-kept 20 s)
+    (read-kept local (edgesOf t) s (stepOf raw))))
   where
     rest : Judgement
-    rest = cond (s .halted) (refuse 20 s) (judgeRead (edgesOf t) s (stepOf raw))
+    rest = cond (s .halted) (refuse 20 s) (judgeRead local (edgesOf t) s (stepOf raw))
 
 -- a refusal leaves the state as it was
-pub refused-kept : (t : List ℕ) (s : State) (raw : RawStep) (n : ℕ) → judgeOf t s raw .answer ≡ Refused n → judgeOf t s raw .state ≡ s
-refused-kept t s raw n e = subst (λ (a : Answer). Kept s a (judgeOf t s raw .state)) e (judge-kept t s raw)
+pub refused-kept : (t : List ℕ) (local : Bool) (s : State) (raw : RawStep) (n : ℕ) → judgeOf t local s raw .answer ≡ Refused n → judgeOf t local s raw .state ≡ s
+refused-kept t local s raw n e = subst (λ (a : Answer). Kept s a (judgeOf t local s raw .state)) e (judge-kept t local s raw)

@@ -4,8 +4,9 @@ pub mod Places
 pub mod StartLaws
 pub mod Tracking
 pub mod Gathering
-pub mod Preserve
 pub mod BrokenLaws
+pub mod OpeningLaws
+pub mod Preserve
 pub mod Refusals
 pub mod Verdict
 pub mod KeptLaws

@@ -9,7 +9,7 @@ use lib.ListN.{length, getD, length-take}
 use lib.Seq.{length-take-le}
 use borrow.Author.Tests.{eqb-true, eqb-false, lt-ltb, le-ltb, ltb-true, ltb-false, leb-true, le-leb}
 use Rattle.usage.specs.Limits.{statics, resources, mostCreated}
-use Rattle.monitor_sets.specs.Instances.{unseen, firstCreated}
+use Rattle.monitor_sets.specs.Instances.{unseen, firstCreated, instances}
 use Rattle.usage.specs.Tests.{every}
 use Rattle.usage.proofs.Logic.{not-both, or-left, or-right, or-cases, and-left, and-right, and-both}
 use Rattle.automaton.proofs.MoveLaws.{Own}
@@ -139,6 +139,10 @@ parts-state s p =
     (and-both (leb (s .count) mostCreated) (every dynamic (live s) && distinct (live s)) (le-leb (s .count) mostCreated (p .few))
     (and-both (every dynamic (live s)) (distinct (live s)) (p .range) (p .apart)))
     (p .ordered)
+
+-- there is room for the instances in use
+pub used-most : (s : State) → StateOk s → used s ≤ instances
+used-most s p = let f = p .few in omega arith
 
 module _ (s : State) (n : length (s .created) ≡ mostCreated) (p : StateOk s) where
   pub live-length : length (live s) ≡ s .count

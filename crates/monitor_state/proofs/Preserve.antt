@@ -34,6 +34,8 @@ use Rattle.monitor_state.specs.Judge.{
   gathered,
   movedIn,
   withOpenings,
+  withSets,
+  resetIn,
   openingsOf,
   stackIn,
   lastOpened,
@@ -45,6 +47,7 @@ use Rattle.monitor_state.proofs.Places.{known, StateOk, state-parts, pa
 use Rattle.monitor_state.proofs.Tracking.{moved-tracks, created-tracks, created-listed, created-known, created-ok, moved-bytes}
 use Rattle.monitor_state.proofs.Tracking.{moved-ok, created-bytes}
 use Rattle.monitor_state.proofs.Gathering.{gathered-gathers, gathered-bytes}
+use Rattle.monitor_state.proofs.OpeningLaws.{Held, opening-held, closing-held}
 
 -- ── What was created ──
 
@@ -63,17 +66,17 @@ Ready s (event (suc a) r) = known s r ≡ true
 Ready s (opening p) = s .depth < mostUnclosed
 Ready s (closing p) = (0 < openingsOf s p) × (lastOpened s ≡ p)
 
-module _ (es : List Edge) (v : Ends es) (past : Past) (h : Bool) (s : State) (R : Represents es past h s) where
+module _ (local : Bool) (es : List Edge) (v : Ends es) (past : Past) (h : Bool) (s : State) (R : Represents local es past h s) where
   w : StateOk s
   w = state-parts s (R .well)
 
-  event-represents : (a r : ℕ) → known s r ≡ true → Represents es (event (suc a) r ∷ past) h (movedIn es (suc a) r s)
+  event-represents : (a r : ℕ) → known s r ≡ true → Represents local es (event (suc a) r ∷ past) h (movedIn es (suc a) r s)
   unfolding movedIn movedSets gathered count openStack stateOk
   event-represents a r k = record {
     halted = R .halted;
     well = R .well;
     tracks = tracks;
-    gathers = gathered-gathers es (event (suc a) r ∷ past) t (R .created-length) (moved-ok es (suc a) r s w) tracks refl;
+    gathers = gathered-gathers local es (event (suc a) r ∷ past) t (R .created-length) (moved-ok es (suc a) r s w) tracks refl;
     made = λ x. (λ e. List·Memᴰ·tail (R .made x .0 e), λ m. R .made x .1 (created-before (λ e. not-create e) m));
     number = R .number ∙ sym (ap (λ (b : Bool). addIf b (creates past)) (ne-eqb (suc a) 0 (λ e. omega arith)));
     open-count = R .open-count;
@@ -90,8 +93,8 @@ module _ (es : List Edge) (v : Ends es) (past : Past) (h : Bool) (s : State) (R 
       t : State
       t = movedIn es (suc a) r s
 
-      tracks : Tracks es (event (suc a) r ∷ past) t
-      tracks = moved-tracks es v s (R .created-length) w past (suc a) r (R .tracks) k
+      tracks : Tracks local es (event (suc a) r ∷ past) t
+      tracks = moved-tracks local es v s (R .created-length) w past (suc a) r (R .tracks) k
 
       not-create : {x : ℕ} → event 0 x ≡ event (suc a) r → ⊥
       not-create e = let z : 0 ≡ suc a = cc in omega arith
@@ -111,13 +114,13 @@ module _ (es : List Edge) (v : Ends es) (past : Past) (h : Bool) (s : State) (R 
         back (inl e) = or-right (listed x (live s)) (eqb r x) (eq-eqb r x e)
         back (inr m) = or-left (listed x (live s)) (eqb r x) (R .made x .1 m)
 
-    create-represents : Represents es (event 0 r ∷ past) h (movedIn es 0 r (createdIn s r))
+    create-represents : Represents local es (event 0 r ∷ past) h (movedIn es 0 r (createdIn s r))
     unfolding movedIn movedSets gathered createdIn count openStack stateOk
     create-represents = record {
       halted = R .halted;
       well = parts-state t u;
       tracks = tracks;
-      gathers = gathered-gathers es (event 0 r ∷ past) (movedIn es 0 r t) (length-set (s .created) (s .count) r ∙ R .created-length)
+      gathers = gathered-gathers local es (event 0 r ∷ past) (movedIn es 0 r t) (length-set (s .created) (s .count) r ∙ R .created-length)
           (moved-ok es 0 r t u) tracks refl;
       made = create-made;
       number = add-one (s .count) ∙ ap suc (R .number);
@@ -138,41 +141,38 @@ module _ (es : List Edge) (v : Ends es) (past : Past) (h : Bool) (s : State) (R 
         u : StateOk t
         u = created-ok s (R .created-length) w r (c .2) (c .1) (c .0) f
 
-        tracks : Tracks es (event 0 r ∷ past) (movedIn es 0 r t)
+        tracks : Tracks local es (event 0 r ∷ past) (movedIn es 0 r t)
         tracks =
-            moved-tracks es v t (length-set (s .created) (s .count) r ∙ R .created-length) u past 0 r
-            (created-tracks s (R .created-length) w r (c .2) (c .1) (c .0) es past (R .tracks))
+            moved-tracks local es v t (length-set (s .created) (s .count) r ∙ R .created-length) u past 0 r
+            (created-tracks s (R .created-length) w r (c .2) (c .1) (c .0) local es past (R .tracks))
             (created-known s (R .created-length) w r (c .2) (c .1) (c .0))
 
-  -- an opening or closing changes one count and the order alone
-  openings-represents : (p n : ℕ) (order : List ℕ) (depth : ℕ) (step : Step) → p < policies
-      → ((x p q : ℕ) → May false es p (Sees x) past q ↔ May false es p (Sees x) (step ∷ past) q)
+  -- an opening or closing changes one count and the order, and what it puts back
+  openings-represents : (p n : ℕ) (order : List ℕ) (depth : ℕ) (step : Step) (sets possible : List ℕ) → p < policies
+      → Held local es (step ∷ past) s sets possible
       → ((x : ℕ) → Created x past ↔ Created x (step ∷ past)) → creates (step ∷ past) ≡ creates past
       → closings p (step ∷ past) + n ≡ openings p (step ∷ past)
       → ((p′ : ℕ) → (p ≡ p′ → ⊥) → (closings p′ (step ∷ past) ≡ closings p′ past) × (openings p′ (step ∷ past) ≡ openings p′ past))
       → OrderOk depth order (set (s .unclosed) p n) → stackIn depth order ≡ openStack (step ∷ past) → length order ≡ mostUnclosed
-      → Represents es (step ∷ past) h (withOpenings s (set (s .unclosed) p n) order depth)
-  unfolding withOpenings placeOf
-  openings-represents p n order depth step l may cr num own other ok stack long = record {
+      → Represents local es (step ∷ past) h (withOpenings (withSets s sets possible) (set (s .unclosed) p n) order depth)
+  unfolding withOpenings withSets placeOf
+  openings-represents p n order depth step sets possible l held cr num own other ok stack long = record {
     halted = R .halted;
-    well = parts-state (withOpenings s (set (s .unclosed) p n) order depth)
+    well = parts-state (withOpenings (withSets s sets possible) (set (s .unclosed) p n) order depth)
         (record { few = w .few; range = w .range; apart = w .apart; ordered = parts-order depth order (set (s .unclosed) p n) ok });
-    tracks = λ x p q k l. (λ h. may x p q .0 (R .tracks x p q k l .0 h), λ m. R .tracks x p q k l .1 (may x p q .1 m));
-    gathers = λ p q k l. (
-      λ h. let m = R .gathers p q k l .0 h in (m .0, may (m .0) p q .0 (m .1)),
-      λ m. R .gathers p q k l .1 (m .0, may (m .0) p q .1 (m .1)),
-    );
+    tracks = held .tracks;
+    gathers = held .gathers;
     made = λ x. (λ h. cr x .0 (R .made x .0 h), λ m. R .made x .1 (cr x .1 m));
     number = R .number ∙ sym num;
     open-count = λ p′. at p′ (eqb p p′) refl;
     stack = stack;
-    sets-length = R .sets-length;
-    possible-length = R .possible-length;
+    sets-length = held .sets-length;
+    possible-length = held .possible-length;
     created-length = R .created-length;
     unclosed-length = length-set (s .unclosed) p n ∙ R .unclosed-length;
     order-length = long;
-    bytes = R .bytes;
-    possible-bytes = R .possible-bytes;
+    bytes = held .bytes;
+    possible-bytes = held .possible-bytes;
   }
     where
       at : (p′ : ℕ) (b : Bool) → eqb p p′ ≡ b → closings p′ (step ∷ past) + getD (set (s .unclosed) p n) p′ 0 ≡ openings p′ (step ∷ past)
@@ -188,11 +188,12 @@ module _ (es : List Edge) (v : Ends es) (past : Past) (h : Bool) (s : State) (R 
   in-order : OrderOk (s .depth) (s .order) (s .unclosed)
   in-order = order-parts (s .depth) (s .order) (s .unclosed) (w .ordered)
 
-  opening-represents : (p : ℕ) → p < policies → s .depth < mostUnclosed → Represents es (opening p ∷ past) h (after es s (opening p))
-  unfolding after count openStack
+  opening-represents : (p : ℕ) → p < policies → s .depth < mostUnclosed
+      → Represents local es (opening p ∷ past) h (after local es s (opening p))
+  unfolding after resetIn count openStack
   opening-represents p l room =
-      openings-represents p (openingsOf s p + 1) (set (s .order) (s .depth) p) (s .depth + 1) (opening p) l
-      (λ x p q. (λ m. opened m, λ m. let (q₀, m₀, f) = before-opening m in subst (May false es p (Sees x) past) f m₀))
+      openings-represents p (openingsOf s p + 1) (set (s .order) (s .depth) p) (s .depth + 1) (opening p) _ _ l
+      (opening-held local es past h s R p l)
       (λ x. (λ m. List·Memᴰ·tail m, λ m. created-before (λ e. clash (cc)) m)) refl
       (own ∙ sym (ap (λ (b : Bool). addIf b (openings p past)) (eq-eqb p p refl)))
       (λ p′ h. (refl, ap (λ (b : Bool). addIf b (openings p′ past)) (ne-eqb p p′ h)))
@@ -204,10 +205,11 @@ module _ (es : List Edge) (v : Ends es) (past : Past) (h : Bool) (s : State) (R 
       own = omega (arith, R .open-count p)
 
   closing-represents : (p : ℕ) → p < policies → 0 < openingsOf s p → lastOpened s ≡ p
-      → Represents es (closing p ∷ past) h (after es s (closing p))
-  unfolding after count openStack
+      → Represents local es (closing p ∷ past) h (after local es s (closing p))
+  unfolding after withSets count openStack
   closing-represents p l o last =
-      openings-represents p (openingsOf s p - 1) (s .order) (s .depth - 1) (closing p) l (λ x p q. (λ m. closed m, λ m. before-closing m))
+      openings-represents p (openingsOf s p - 1) (s .order) (s .depth - 1) (closing p) (s .sets) (s .possible) l
+      (closing-held local es past h s R p)
       (λ x. (λ m. List·Memᴰ·tail m, λ m. created-before (λ e. clash (cc)) m)) refl
       (ap (λ (b : Bool). addIf b (closings p past) + (openingsOf s p - 1)) (eq-eqb p p refl) ∙ own)
       (λ p′ h. (ap (λ (b : Bool). addIf b (closings p′ past)) (ne-eqb p p′ h), refl))
@@ -221,7 +223,7 @@ module _ (es : List Edge) (v : Ends es) (past : Past) (h : Bool) (s : State) (R 
       own : suc (closings p past) + (openingsOf s p - 1) ≡ openings p past
       own = omega (arith, R .open-count p)
 
-  pub after-represents : (step : Step) → Fits step → Ready s step → Represents es (step ∷ past) h (after es s step)
+  pub after-represents : (step : Step) → Fits step → Ready s step → Represents local es (step ∷ past) h (after local es s step)
   unfolding after
   after-represents (event zero r) f c = create-represents r c (f .1)
   after-represents (event (suc a) r) f c = event-represents a r c

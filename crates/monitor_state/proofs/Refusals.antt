@@ -55,7 +55,7 @@ pub data Settled (past : Past) (s : State) (raw : RawStep) (step : Step) : Optio
   refuses : {n : ℕ} → Refuses past false raw n → Settled past s raw step (some n)
   takes : Taken past false raw → Ready s step → Settled past s raw step none
 
-module _ (es : List Edge) (past : Past) (h : Bool) (s : State) (R : Represents es past h s) (raw : RawStep) where
+module _ (local : Bool) (es : List Edge) (past : Past) (h : Bool) (s : State) (R : Represents local es past h s) (raw : RawStep) where
   absent : (r : ℕ) → listed r (live s) ≡ false → Created r past → ⊥
   absent r e m = not-both (listed r (live s)) (R .made r .1 m) e
 
@@ -135,11 +135,11 @@ module _ (es : List Edge) (past : Past) (h : Bool) (s : State) (R : Represents e
   settled-closing p e true b true c =
       let l : 0 < openingsOf s p = ltb-true 0 (openingsOf s p) b in
       let last : lastOpened s ≡ p = eqb-true (lastOpened s) p c in
-      takes (λ n k. by-cases (case-of e k) (λ t. t .1 (count-pos-open es past h s R p l))
+      takes (λ n k. by-cases (case-of e k) (λ t. t .1 (count-pos-open local es past h s R p l))
       (λ t. t .2 (last-is p (step-fits raw (closing p) e) l ∙ ap some last))) (l, last)
   settled-closing p e true b false c =
       let l : 0 < openingsOf s p = ltb-true 0 (openingsOf s p) b in
-      let o = count-pos-open es past h s R p l in
+      let o = count-pos-open local es past h s R p l in
       refuses (record {
         stated = not-last e o (λ t. eqb-false (lastOpened s) p c
             (Option·some-injective _ _ (sym (last-is p (step-fits raw (closing p) e) l) ∙ t)));
@@ -147,7 +147,7 @@ module _ (es : List Edge) (past : Past) (h : Bool) (s : State) (R : Represents e
       })
   settled-closing p e false b c f =
       refuses (record {
-        stated = not-open e (λ o. let z = open-count-pos es past h s R p o in omega (arith, ltb-false 0 (openingsOf s p) b));
+        stated = not-open e (λ o. let z = open-count-pos local es past h s R p o in omega (arith, ltb-false 0 (openingsOf s p) b));
         first = λ n l k. by-cases (case-of e k) (λ t. omega (arith, t .0)) (λ t. omega (arith, t .0));
       })
 

@@ -1,7 +1,7 @@
 -- What a past's last step says of the states that an instance may be in, and that the start stands for the empty past.
 use Prim.Native.Nat.{ℕ, zero, suc, _+_, _*_, _<_}
 use mathlib.Core.Path.{_≡_, refl, sym, ap, _∙_, subst}
-use mathlib.Core.Bool.{true, false}
+use mathlib.Core.Bool.{Bool, true, false, not, _&&_, cond}
 use mathlib.Core.List.{List, [], _∷_, List·Memᴰ·not-nil}
 use native.Mathlib.Nat.{zero-add}
 use native.Mathlib.Omega.{arith}
@@ -11,7 +11,7 @@ use borrow.Author.Tests.{eq-eqb, eqb-true}
 use Rattle.usage.specs.declared.Edge.{Edge}
 use Rattle.usage.specs.Limits.{policies, states, mostCreated}
 use Rattle.usage.specs.Policy.{Sees, Moves}
-use Rattle.usage.specs.Past.{Past, event, opening, closing, May, start, moved, opened, closed, count, openStack, occurrences}
+use Rattle.usage.specs.Past.{Past, event, opening, closing, May, start, moved, opened, closed, count, openStack, occurrences, isOpen}
 use Rattle.usage.specs.Tests.{every}
 use Rattle.usage.proofs.Logic.{false-true}
 use Rattle.automaton.specs.Mask.{has}
@@ -25,23 +25,27 @@ use Rattle.monitor_state.proofs.Places.{place-lt}
 
 -- ── The last step ──
 
-may-start : {es : List Edge} {p : ℕ} {sees : ℕ → ℕ → ℕ → Type 0} {q : ℕ} → May false es p sees [] q → q ≡ 0
+may-start : {local : Bool} {es : List Edge} {p : ℕ} {sees : ℕ → ℕ → ℕ → Type 0} {q : ℕ} → May local es p sees [] q → q ≡ 0
 may-start start = refl
 
-pub record Came (es : List Edge) (p : ℕ) (sees : ℕ → ℕ → ℕ → Type 0) (a r : ℕ) (past : Past) (q′ : ℕ) : Type 0 where
+pub record Came (local : Bool) (es : List Edge) (p : ℕ) (sees : ℕ → ℕ → ℕ → Type 0) (a r : ℕ) (past : Past) (q′ : ℕ) : Type 0 where
   pub q : ℕ
-  pub before : May false es p sees past q
+  pub before : May local es p sees past q
   pub moves : Moves es p a (sees r) q q′
 
-pub may-event : {es : List Edge} {p : ℕ} {sees : ℕ → ℕ → ℕ → Type 0} {a r : ℕ} {past : Past} {q′ : ℕ}
-    → May false es p sees (event a r ∷ past) q′ → Came es p sees a r past q′
+pub may-event : {local : Bool} {es : List Edge} {p : ℕ} {sees : ℕ → ℕ → ℕ → Type 0} {a r : ℕ} {past : Past} {q′ : ℕ}
+    → May local es p sees (event a r ∷ past) q′ → Came local es p sees a r past q′
 may-event (moved {q = q} m g) = record { q = q; before = m; moves = g }
 
 -- an instance is in states 0 to 7 only
-pub may-lt : {es : List Edge} {p : ℕ} {sees : ℕ → ℕ → ℕ → Type 0} {past : Past} {q : ℕ} → Ends es → May false es p sees past q → q < states
+pub may-lt : {local : Bool} {es : List Edge} {p : ℕ} {sees : ℕ → ℕ → ℕ → Type 0} {past : Past} {q : ℕ} → Ends es → May local es p sees past q → q < states
 may-lt v start = lit< tt
 may-lt v (moved m g) = moves-lt v (may-lt v m) g
-may-lt v (opened m) = may-lt v m
+may-lt {local} {p = p} v (opened {s} {past} m) = either (local && (eqb s p && not (isOpen p past))) (may-lt v m)
+  where
+    either : (b : Bool) {q : ℕ} → q < states → cond b 0 q < states
+    either true h = lit< tt
+    either false h = h
 may-lt v (closed m) = may-lt v m
 
 -- ── The start ──
@@ -63,41 +67,41 @@ begin-set : (x p : ℕ) → p < policies → setAt startState p (placeOf startSt
 unfolding startState
 begin-set x p h = getD-replicate setPlaces (p * instances + placeOf startState x) 1 0 (omega (arith, place-lt startState x))
 
-begin-tracks : (es : List Edge) → Tracks es [] startState
-begin-tracks es x p q k l = (to, back)
+begin-tracks : (local : Bool) (es : List Edge) → Tracks local es [] startState
+begin-tracks local es x p q k l = (to, back)
   where
     one : has (setAt startState p (placeOf startState x)) q ≡ eqb 0 q
     one = ap (λ (m : ℕ). has m q) (begin-set x p k) ∙ has-pow 0 q (lit< tt) l
 
-    to : has (setAt startState p (placeOf startState x)) q ≡ true → May false es p (Sees x) [] q
-    to h = subst (λ (n : ℕ). May false es p (Sees x) [] n) (eqb-true 0 q (sym one ∙ h)) start
+    to : has (setAt startState p (placeOf startState x)) q ≡ true → May local es p (Sees x) [] q
+    to h = subst (λ (n : ℕ). May local es p (Sees x) [] n) (eqb-true 0 q (sym one ∙ h)) start
 
-    back : May false es p (Sees x) [] q → has (setAt startState p (placeOf startState x)) q ≡ true
+    back : May local es p (Sees x) [] q → has (setAt startState p (placeOf startState x)) q ≡ true
     back m = one ∙ eq-eqb 0 q (sym (may-start m))
 
 begin-possible : (p : ℕ) → p < policies → possibleIn startState p ≡ 1
 unfolding startState
 begin-possible p h = getD-replicate policies p 1 0 h
 
-begin-gathers : (es : List Edge) → Gathers es [] startState
-begin-gathers es p q k l = (to, back)
+begin-gathers : (local : Bool) (es : List Edge) → Gathers local es [] startState
+begin-gathers local es p q k l = (to, back)
   where
     one : has (possibleIn startState p) q ≡ eqb 0 q
     one = ap (λ (m : ℕ). has m q) (begin-possible p k) ∙ has-pow 0 q (lit< tt) l
 
-    to : has (possibleIn startState p) q ≡ true → (x : ℕ) × May false es p (Sees x) [] q
-    to h = (0, subst (λ (n : ℕ). May false es p (Sees 0) [] n) (eqb-true 0 q (sym one ∙ h)) start)
+    to : has (possibleIn startState p) q ≡ true → (x : ℕ) × May local es p (Sees x) [] q
+    to h = (0, subst (λ (n : ℕ). May local es p (Sees 0) [] n) (eqb-true 0 q (sym one ∙ h)) start)
 
-    back : ((x : ℕ) × May false es p (Sees x) [] q) → has (possibleIn startState p) q ≡ true
+    back : ((x : ℕ) × May local es p (Sees x) [] q) → has (possibleIn startState p) q ≡ true
     back m = one ∙ eq-eqb 0 q (sym (may-start (m .1)))
 
-pub begin-represents : (es : List Edge) → Represents es [] false startState
+pub begin-represents : (local : Bool) (es : List Edge) → Represents local es [] false startState
 unfolding startState count listed stackIn openStack
-begin-represents es = record {
+begin-represents local es = record {
   halted = refl;
   well = begin-ok;
-  tracks = begin-tracks es;
-  gathers = begin-gathers es;
+  tracks = begin-tracks local es;
+  gathers = begin-gathers local es;
   made = λ r. (λ e. false-true e, λ m. absurd (List·Memᴰ·not-nil m));
   number = refl;
   stack = refl;

@@ -59,8 +59,8 @@ set-moved es a r s p i c k h =
     (at-mod p i l)
     ∙ ap (λ (b : Bool). cond b (moveMask es p a r (eqb i (placeOf s r)) (setAt s p i)) (setAt s p i)) (lt-ltb i (used s) h)
 
-module _ (es : List Edge) (v : Ends es) (s : State) (n : length (s .created) ≡ mostCreated) (w : StateOk s) where
-  pub moved-tracks : (past : Past) (a r : ℕ) → Tracks es past s → known s r ≡ true → Tracks es (event a r ∷ past) (movedIn es a r s)
+module _ (local : Bool) (es : List Edge) (v : Ends es) (s : State) (n : length (s .created) ≡ mostCreated) (w : StateOk s) where
+  pub moved-tracks : (past : Past) (a r : ℕ) → Tracks local es past s → known s r ≡ true → Tracks local es (event a r ∷ past) (movedIn es a r s)
   moved-tracks past a r t kn x p q k l = (to, back)
     where
       m : ℕ
@@ -70,13 +70,13 @@ module _ (es : List Edge) (v : Ends es) (s : State) (n : length (s .created) ≡
       same = ap (λ (i : ℕ). setAt (movedIn es a r s) p i) (place-moved es a r s x)
           ∙ set-moved es a r s p (placeOf s x) (w .few) k (place-lt s x)
 
-      to : has (setAt (movedIn es a r s) p (placeOf (movedIn es a r s) x)) q ≡ true → May false es p (Sees x) (event a r ∷ past) q
+      to : has (setAt (movedIn es a r s) p (placeOf (movedIn es a r s) x)) q ≡ true → May local es p (Sees x) (event a r ∷ past) q
       to h =
           let f = moveMask-found es v p x a r (eqb (placeOf s x) (placeOf s r)) (place-own s x r kn) m q l
           (ap (λ (m : ℕ). has m q) (sym same) ∙ h) in
           moved (t x p (f .0) k (f .1) .0 (f .2)) (f .3)
 
-      back : May false es p (Sees x) (event a r ∷ past) q → has (setAt (movedIn es a r s) p (placeOf (movedIn es a r s) x)) q ≡ true
+      back : May local es p (Sees x) (event a r ∷ past) q → has (setAt (movedIn es a r s) p (placeOf (movedIn es a r s) x)) q ≡ true
       back y =
           let c = may-event y in
           let b : c .q < states = may-lt v (c .before) in
@@ -137,8 +137,8 @@ module _ (s : State) (n : length (s .created) ≡ mostCreated) (w : StateOk s) (
       go true e = subst (λ (x : ℕ). setAt (createdIn s r) p (placeOf (createdIn s r) x) ≡ setAt s p (placeOf s x)) (eqb-true r x e) own
       go false e = ap (λ (i : ℕ). setAt (createdIn s r) p i) (place-kept x e) ∙ set-kept p (placeOf s x) k (place-lt s x)
 
-  pub created-tracks : (es : List Edge) (past : Past) → Tracks es past s → Tracks es past (createdIn s r)
-  created-tracks es past t x p q k l =
+  pub created-tracks : (local : Bool) (es : List Edge) (past : Past) → Tracks local es past s → Tracks local es past (createdIn s r)
+  created-tracks local es past t x p q k l =
       let same : has (setAt (createdIn s r) p (placeOf (createdIn s r) x)) q ≡ has (setAt s p (placeOf s x)) q =
       ap (λ (m : ℕ). has m q) (created-set x p k) in
       (λ h. t x p q k l .0 (sym same ∙ h), λ m. same ∙ t x p q k l .1 m)

@@ -56,9 +56,10 @@ table-ends t h e m =
 
 -- ── One step ──
 
-halt-represents : (es : List Edge) (past : Past) (h : Bool) (s : State) → Represents es past h s → Represents es past true (halt s)
+halt-represents : (local : Bool) (es : List Edge) (past : Past) (h : Bool) (s : State) → Represents local es past h s
+    → Represents local es past true (halt s)
 unfolding halt placeOf stateOk
-halt-represents es past h s R = record {
+halt-represents local es past h s R = record {
   halted = refl;
   well = R .well;
   tracks = R .tracks;
@@ -76,67 +77,67 @@ halt-represents es past h s R = record {
   possible-bytes = R .possible-bytes;
 }
 
-module _ (es : List Edge) (v : Ends es) (past : Past) (s : State) (R : Represents es past false s) (raw : RawStep) where
-  settle-promised : (step : Step) (t : State) → stepOf raw ≡ some step → Taken past false raw → Represents es (step ∷ past) false t
-      → Promised es past false s raw (settle (broken t) s t)
+module _ (local : Bool) (es : List Edge) (v : Ends es) (past : Past) (s : State) (R : Represents local es past false s) (raw : RawStep) where
+  settle-promised : (step : Step) (t : State) → stepOf raw ≡ some step → Taken past false raw → Represents local es (step ∷ past) false t
+      → Promised local es past false s raw (settle (broken t) s t)
   unfolding settle
   settle-promised step t e k T = go (eqb (broken t) 0) refl
     where
       go : (b : Bool) → eqb (broken t) 0 ≡ b
-          → Promised es past false s raw
+          → Promised local es past false s raw
           (cond b (record { answer = Allowed; state = t }) (record { answer = Violated (lowestIn (broken t)); state = halt s }))
       go true b = record {
-        answer = is-allowed k e (none-violated es (step ∷ past) false t T v b);
-        state = subst (λ (o : Option Step). Represents es (then o past) false t) (sym e) T;
+        answer = is-allowed k e (none-violated local es (step ∷ past) false t T v b);
+        state = subst (λ (o : Option Step). Represents local es (then o past) false t) (sym e) T;
         kept = tt;
       }
       go false b =
-          let x = first-violated es (step ∷ past) false t T v b in
-          record { answer = is-violated k e (x .is) (x .least); state = halt-represents es past false s R; kept = refl }
+          let x = first-violated local es (step ∷ past) false t T v b in
+          record { answer = is-violated k e (x .is) (x .least); state = halt-represents local es past false s R; kept = refl }
 
   step-promised : (step : Step) → stepOf raw ≡ some step → (o : Option ℕ) → Settled past s raw step o
-      → Promised es past false s raw (judgeStep es s step o)
+      → Promised local es past false s raw (judgeStep local es s step o)
   unfolding judgeStep refuse
   step-promised step e _ (refuses r) = record { answer = is-refused r; state = R; kept = refl }
   step-promised step e _ (takes k ready) =
-      settle-promised step (after es s step) e k (after-represents es v past false s R step (step-fits raw step e) ready)
+      settle-promised step (after local es s step) e k (after-represents local es v past false s R step (step-fits raw step e) ready)
 
-  read-promised : (o : Option Step) → stepOf raw ≡ o → Promised es past false s raw (judgeRead es s o)
+  read-promised : (o : Option Step) → stepOf raw ≡ o → Promised local es past false s raw (judgeRead local es s o)
   unfolding judgeRead refuse
   read-promised none e = record { answer = is-refused (refuses-unread past raw e); state = R; kept = refl }
-  read-promised (some step) e = step-promised step e (refusal s step) (settled es past false s R raw step e)
+  read-promised (some step) e = step-promised step e (refusal s step) (settled local es past false s R raw step e)
 
 -- where the calling program lent a table and a state as they should be, the tests before the step's own pass
-judge-is : (t : List ℕ) (s : State) (raw : RawStep) → edgeTable t ≡ true → stateOk s ≡ true
-    → judgeOf t s raw ≡ cond (s .halted) (refuse 20 s) (judgeRead (edgesOf t) s (stepOf raw))
+judge-is : (t : List ℕ) (local : Bool) (s : State) (raw : RawStep) → edgeTable t ≡ true → stateOk s ≡ true
+    → judgeOf t local s raw ≡ cond (s .halted) (refuse 20 s) (judgeRead local (edgesOf t) s (stepOf raw))
 unfolding judgeOf
-judge-is t s raw p q = rw (p, q)
+judge-is t local s raw p q = rw (p, q)
 
 -- From every state that stands for a past: the answer is right, and the state that is returned stands for the past with the step,
 -- if it was allowed, and for the same past if not.
-pub judge-promised : (t : List ℕ) → edgeTable t ≡ true → (past : Past) (h : Bool) (s : State) → Represents (edgesOf t) past h s
-    → (raw : RawStep) → Promised (edgesOf t) past h s raw (judgeOf t s raw)
+pub judge-promised : (t : List ℕ) → edgeTable t ≡ true → (local : Bool) (past : Past) (h : Bool) (s : State) → Represents local (edgesOf t) past h s
+    → (raw : RawStep) → Promised local (edgesOf t) past h s raw (judgeOf t local s raw)
 unfolding refuse
-judge-promised t p past h s R raw = subst (Promised (edgesOf t) past h s raw) (sym (judge-is t s raw p (R .well))) (go h R)
+judge-promised t p local past h s R raw = subst (Promised local (edgesOf t) past h s raw) (sym (judge-is t local s raw p (R .well))) (go h R)
   where
-    go : (h : Bool) → Represents (edgesOf t) past h s
-        → Promised (edgesOf t) past h s raw (cond (s .halted) (refuse 20 s) (judgeRead (edgesOf t) s (stepOf raw)))
+    go : (h : Bool) → Represents local (edgesOf t) past h s
+        → Promised local (edgesOf t) past h s raw (cond (s .halted) (refuse 20 s) (judgeRead local (edgesOf t) s (stepOf raw)))
     go true R =
-        subst (λ (b : Bool). Promised (edgesOf t) past true s raw (cond b (refuse 20 s) (judgeRead (edgesOf t) s (stepOf raw))))
+        subst (λ (b : Bool). Promised local (edgesOf t) past true s raw (cond b (refuse 20 s) (judgeRead local (edgesOf t) s (stepOf raw))))
         (sym (R .halted))
         (record { answer = is-refused (refuses-halted past raw); state = R; kept = refl })
     go false R =
-        subst (λ (b : Bool). Promised (edgesOf t) past false s raw (cond b (refuse 20 s) (judgeRead (edgesOf t) s (stepOf raw))))
+        subst (λ (b : Bool). Promised local (edgesOf t) past false s raw (cond b (refuse 20 s) (judgeRead local (edgesOf t) s (stepOf raw))))
         (sym (R .halted))
-        (read-promised (edgesOf t) (table-ends t p) past s R raw (stepOf raw) refl)
+        (read-promised local (edgesOf t) (table-ends t p) past s R raw (stepOf raw) refl)
 
 -- ── Conversely, and over many steps ──
 
 -- The right answer is the judge's.
-pub judged-is : (t : List ℕ) → edgeTable t ≡ true → (past : Past) (h : Bool) (s : State) → Represents (edgesOf t) past h s
+pub judged-is : (t : List ℕ) → edgeTable t ≡ true → (local : Bool) (past : Past) (h : Bool) (s : State) → Represents local (edgesOf t) past h s
     → (raw : RawStep) {v : Verdict}
-    → Judged false (edgesOf t) past h raw v → verdictOf (judgeOf t s raw .answer) ≡ v
-judged-is t p past h s R raw k = judged-unique (judge-promised t p past h s R raw .answer) k
+    → Judged local (edgesOf t) past h raw v → verdictOf (judgeOf t local s raw .answer) ≡ v
+judged-is t p local past h s R raw k = judged-unique (judge-promised t p local past h s R raw .answer) k
 
 allowed-is : (a : Answer) → verdictOf a ≡ allowed → a ≡ Allowed
 allowed-is Allowed e = refl
@@ -145,27 +146,27 @@ allowed-is (Refused n) e = cc
 
 -- A step that nothing refuses and that breaks no open policy is allowed, and the state that is returned stands for the past with
 -- it.
-pub allowed-next : (t : List ℕ) → edgeTable t ≡ true → (past : Past) (h : Bool) (s : State) → Represents (edgesOf t) past h s
-    → (raw : RawStep) (step : Step) → stepOf raw ≡ some step → Taken past h raw → ((p : ℕ) → Violates false (edgesOf t) p (step ∷ past) → ⊥)
-    → (judgeOf t s raw .answer ≡ Allowed) × Represents (edgesOf t) (step ∷ past) h (judgeOf t s raw .state)
-allowed-next t p past h s R raw step e k x =
-    let a : verdictOf (judgeOf t s raw .answer) ≡ allowed = judged-is t p past h s R raw (is-allowed k e x) in (
-      allowed-is (judgeOf t s raw .answer) a,
-      subst (λ (o : Option Step). Represents (edgesOf t) (then o past) h (judgeOf t s raw .state)) e
-          (subst (λ (v : Verdict). Represents (edgesOf t) (pastAfter past raw v) (haltedAfter h v) (judgeOf t s raw .state)) a
-          (judge-promised t p past h s R raw .state)),
+pub allowed-next : (t : List ℕ) → edgeTable t ≡ true → (local : Bool) (past : Past) (h : Bool) (s : State) → Represents local (edgesOf t) past h s
+    → (raw : RawStep) (step : Step) → stepOf raw ≡ some step → Taken past h raw → ((p : ℕ) → Violates local (edgesOf t) p (step ∷ past) → ⊥)
+    → (judgeOf t local s raw .answer ≡ Allowed) × Represents local (edgesOf t) (step ∷ past) h (judgeOf t local s raw .state)
+allowed-next t p local past h s R raw step e k x =
+    let a : verdictOf (judgeOf t local s raw .answer) ≡ allowed = judged-is t p local past h s R raw (is-allowed k e x) in (
+      allowed-is (judgeOf t local s raw .answer) a,
+      subst (λ (o : Option Step). Represents local (edgesOf t) (then o past) h (judgeOf t local s raw .state)) e
+          (subst (λ (v : Verdict). Represents local (edgesOf t) (pastAfter past raw v) (haltedAfter h v) (judgeOf t local s raw .state)) a
+          (judge-promised t p local past h s R raw .state)),
     )
 
 -- Every answer to a list of steps is the one that the whole past says, each step judged after those before it.
-all-judged : (t : List ℕ) → edgeTable t ≡ true → (past : Past) (h : Bool) (s : State) → Represents (edgesOf t) past h s
-    → (raws : List RawStep) → JudgedAll false (edgesOf t) past h raws (map verdictOf (answersOf t s raws))
+all-judged : (t : List ℕ) → edgeTable t ≡ true → (local : Bool) (past : Past) (h : Bool) (s : State) → Represents local (edgesOf t) past h s
+    → (raws : List RawStep) → JudgedAll local (edgesOf t) past h raws (map verdictOf (answersOf t local s raws))
 unfolding answersOf
-all-judged t p past h s R [] = done
-all-judged t p past h s R (raw ∷ raws) =
-    let k = judge-promised t p past h s R raw in
-    next (k .answer) (all-judged t p _ _ (judgeOf t s raw .state) (k .state) raws)
+all-judged t p local past h s R [] = done
+all-judged t p local past h s R (raw ∷ raws) =
+    let k = judge-promised t p local past h s R raw in
+    next (k .answer) (all-judged t p local _ _ (judgeOf t local s raw .state) (k .state) raws)
 
 -- in particular from the start
-pub all-judged-begin : (t : List ℕ) → edgeTable t ≡ true → (raws : List RawStep)
-    → JudgedAll false (edgesOf t) [] false raws (map verdictOf (answersOf t startState raws))
-all-judged-begin t p raws = all-judged t p [] false startState (begin-represents (edgesOf t)) raws
+pub all-judged-begin : (t : List ℕ) → edgeTable t ≡ true → (local : Bool) (raws : List RawStep)
+    → JudgedAll local (edgesOf t) [] false raws (map verdictOf (answersOf t local startState raws))
+all-judged-begin t p local raws = all-judged t p local [] false startState (begin-represents local (edgesOf t)) raws

@@ -46,8 +46,8 @@ judgementOf t sets possible created unclosed order =
     record { answer = t .answer; state = stateOf sets possible created (t .count) unclosed order (t .depth) (t .halted) }
 
 -- the judgement of a step that was read
-abbrev pub stepped : List Edge → State → Step → Judgement
-stepped es s step = judgeStep es s step (refusal s step)
+abbrev pub stepped : Bool → List Edge → State → Step → Judgement
+stepped local es s step = judgeStep local es s step (refusal s step)
 
 -- what is told of a step that leaves the policies `bad` broken
 unfoldable pub toldOf : ℕ → Sizes → Sizes → Told

@@ -18,7 +18,8 @@ use Rattle.automaton.specs.Mask.{union, offends, lowestIn}
 unfoldable pub use Rattle.monitor_sets.specs.Created.{listed, distinct, placeFrom, createdOk}
 unfoldable pub use Rattle.monitor_sets.specs.Order.{stackIn, agreeBelow, orderOk}
 pub use Rattle.monitor_sets.specs.Created.{dynamic}
-unfoldable pub use Rattle.monitor_sets.specs.Sets.{copied, movedSets, gathered}
+unfoldable pub use Rattle.monitor_sets.specs.Sets.{copied, movedSets, resetSets, gathered}
+pub use Rattle.monitor_sets.specs.Sets.{startSet}
 use Rattle.monitor_state.specs.declared.State.{State}
 use Rattle.monitor_state.specs.declared.Answer.{Answer}
 use Rattle.monitor_state.specs.declared.Answer.the-variants.{Allowed, Violated, Refused}
@@ -110,11 +111,34 @@ withOpenings s unclosed order depth = record {
 abbrev pub openingsOf : State → ℕ → ℕ
 openingsOf s p = getD (s .unclosed) p 0
 
-unfoldable pub after : List Edge → State → Step → State
-after es s (event zero r) = movedIn es 0 r (createdIn s r)
-after es s (event (suc a) r) = movedIn es (suc a) r s
-after es s (opening p) = withOpenings s (set (s .unclosed) p (openingsOf s p + 1)) (set (s .order) (s .depth) p) (s .depth + 1)
-after es s (closing p) = withOpenings s (set (s .unclosed) p (openingsOf s p - 1)) (s .order) (s .depth - 1)
+-- the state with other sets
+unfoldable pub withSets : State → List ℕ → List ℕ → State
+withSets s sets possible = record {
+  sets = sets;
+  possible = possible;
+  created = s .created;
+  count = s .count;
+  unclosed = s .unclosed;
+  order = s .order;
+  depth = s .depth;
+  halted = s .halted;
+}
+
+-- whether an opening of p puts its instances back: "At an opening of a policy that is not open, all its instances go back to state 0. A
+-- further opening of a policy already open resets nothing", where the sheet is local (02, L7)
+abbrev pub anew : Bool → State → ℕ → Bool
+anew local s p = local && eqb (openingsOf s p) 0
+
+-- the instances in use, and "The kept sets of L4 are reset too"
+unfoldable pub resetIn : Bool → State → ℕ → State
+resetIn b s p = withSets s (cond b (resetSets (used s) p (s .sets)) (s .sets)) (cond b (set (s .possible) p startSet) (s .possible))
+
+unfoldable pub after : Bool → List Edge → State → Step → State
+after local es s (event zero r) = movedIn es 0 r (createdIn s r)
+after local es s (event (suc a) r) = movedIn es (suc a) r s
+after local es s (opening p) =
+    withOpenings (resetIn (anew local s p) s p) (set (s .unclosed) p (openingsOf s p + 1)) (set (s .order) (s .depth) p) (s .depth + 1)
+after local es s (closing p) = withOpenings s (set (s .unclosed) p (openingsOf s p - 1)) (s .order) (s .depth - 1)
 
 -- ── The answer ──
 
@@ -158,23 +182,23 @@ halt s = record {
 unfoldable pub settle : ℕ → State → State → Judgement
 settle bad s t = cond (eqb bad 0) (record { answer = Allowed; state = t }) (record { answer = Violated (lowestIn bad); state = halt s })
 
-unfoldable pub judgeStep : List Edge → State → Step → Option ℕ → Judgement
-judgeStep es s step (some n) = refuse n s
-judgeStep es s step none = settle (broken (after es s step)) s (after es s step)
+unfoldable pub judgeStep : Bool → List Edge → State → Step → Option ℕ → Judgement
+judgeStep local es s step (some n) = refuse n s
+judgeStep local es s step none = settle (broken (after local es s step)) s (after local es s step)
 
-unfoldable pub judgeRead : List Edge → State → Option Step → Judgement
-judgeRead es s none = refuse 21 s
-judgeRead es s (some step) = judgeStep es s step (refusal s step)
+unfoldable pub judgeRead : Bool → List Edge → State → Option Step → Judgement
+judgeRead local es s none = refuse 21 s
+judgeRead local es s (some step) = judgeStep local es s step (refusal s step)
 
--- "The calling program, before all others, in this order": 41, 42; then 20, 21 and the rest
-unfoldable pub judgeOf : List ℕ → State → RawStep → Judgement
-judgeOf t s raw =
+-- "The calling program, before all others, in this order": 41, 42; then 20, 21 and the rest. The choice of past goes with the edges.
+unfoldable pub judgeOf : List ℕ → Bool → State → RawStep → Judgement
+judgeOf t local s raw =
     cond (not (edgeTable t)) (refuse 41 s)
     (cond (not (stateOk s)) (refuse 42 s)
     (cond (s .halted) (refuse 20 s)
-    (judgeRead (edgesOf t) s (stepOf raw))))
+    (judgeRead local (edgesOf t) s (stepOf raw))))
 
 -- a list of steps, each with the state that the last one returned
-unfoldable pub answersOf : List ℕ → State → List RawStep → List Answer
-answersOf t s [] = []
-answersOf t s (raw ∷ raws) = let j = judgeOf t s raw in j .answer ∷ answersOf t (j .state) raws
+unfoldable pub answersOf : List ℕ → Bool → State → List RawStep → List Answer
+answersOf t local s [] = []
+answersOf t local s (raw ∷ raws) = let j = judgeOf t local s raw in j .answer ∷ answersOf t local (j .state) raws

@@ -24,15 +24,16 @@ Kept s (Refused n) t = t ≡ s
 
 -- The answer is the right one after this past, and the state that is returned stands for the past that follows: with the step
 -- if it was allowed, else the same one.
-pub record Promised (es : List Edge) (past : Past) (h : Bool) (s : State) (raw : RawStep) (j : Judgement) : Type 0 where
-  pub answer : Judged false es past h raw (verdictOf (j .answer))
-  pub state : Represents es (pastAfter past raw (verdictOf (j .answer))) (haltedAfter h (verdictOf (j .answer))) (j .state)
+pub record Promised (local : Bool) (es : List Edge) (past : Past) (h : Bool) (s : State) (raw : RawStep) (j : Judgement) : Type 0 where
+  pub answer : Judged local es past h raw (verdictOf (j .answer))
+  pub state : Represents local es (pastAfter past raw (verdictOf (j .answer))) (haltedAfter h (verdictOf (j .answer))) (j .state)
   pub kept : Kept s (j .answer) (j .state)
 
 -- The promise of a step, over the past alone: for every past that the state stands for, under the edges of an accepted sheet.
-abbrev pub Keeps : List ℕ → State → RawStep → Judgement → Type 0
-Keeps t s raw j = (past : Past) (h : Bool) → EdgeTable t → Represents (edgesOf t) past h s → Promised (edgesOf t) past h s raw j
+abbrev pub Keeps : List ℕ → Bool → State → RawStep → Judgement → Type 0
+Keeps t local s raw j =
+    (past : Past) (h : Bool) → EdgeTable t → Represents local (edgesOf t) past h s → Promised local (edgesOf t) past h s raw j
 
--- The start stands for the empty past, whatever the edges.
+-- The start stands for the empty past, whatever the edges and whichever past counts.
 abbrev pub StandsForNothing : State → Type 0
-StandsForNothing s = (es : List Edge) → Represents es [] false s
+StandsForNothing s = (local : Bool) (es : List Edge) → Represents local es [] false s

@@ -1,7 +1,7 @@
 -- Renumbered channels (02, L3): a trace whose dynamic numbers are renamed gets the same answers.
 use Prim.Native.Nat.{ℕ}
 use mathlib.Core.Path.{_≡_}
-use mathlib.Core.Bool.{true, cond}
+use mathlib.Core.Bool.{Bool, true, cond}
 use mathlib.Core.List.{List, map}
 use lib.Dec.{eqb}
 use Rattle.usage.specs.declared.RawStep.{RawStep}
@@ -26,7 +26,8 @@ unfoldable pub renamedStep : (ℕ → ℕ) → RawStep → RawStep
 renamedStep f raw = record { kind = raw .kind; a = raw .a; b = cond (eqb (raw .kind) eventKind) (renamed f (raw .b)) (raw .b) }
 
 -- "then every step must get the same answer as before, the state returned aside, refusals included, and the policy named is the same ..
--- for traces of any length": from this state, under every table of edges at all and for every list of steps at all.
+-- for traces of any length": from this state, under every table of edges at all, whichever past counts, and for every list of steps at all.
 abbrev pub SameAnswers : State → Type 0
 SameAnswers s =
-    (t : List ℕ) (f : ℕ → ℕ) → Renaming f → (raws : List RawStep) → answersOf t s (map (renamedStep f) raws) ≡ answersOf t s raws
+    (t : List ℕ) (local : Bool) (f : ℕ → ℕ) → Renaming f → (raws : List RawStep)
+    → answersOf t local s (map (renamedStep f) raws) ≡ answersOf t local s raws

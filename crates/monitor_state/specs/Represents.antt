@@ -1,7 +1,7 @@
 -- What it is for a state to stand for a past.
 use Prim.Native.Nat.{ℕ, _+_, _<_}
 use mathlib.Core.Path.{_≡_}
-use mathlib.Core.Bool.{Bool, true, false}
+use mathlib.Core.Bool.{Bool, true}
 use mathlib.Core.List.{List}
 use mathlib.Core.Logic.{_↔_}
 use lib.ListN.{length, getD}
@@ -15,19 +15,21 @@ use Rattle.monitor_state.specs.declared.State.{State}
 use Rattle.monitor_state.specs.Judge.{live, listed, stackIn, stateOk, placeOf, setAt, openingsOf, possibleIn}
 
 -- The set at x's instance holds exactly the states that x's instance may be in: for every number x, created or not.
-abbrev pub Tracks : List Edge → Past → State → Type 0
-Tracks es past s = (x p q : ℕ) → p < policies → q < states → (has (setAt s p (placeOf s x)) q ≡ true) ↔ May false es p (Sees x) past q
+abbrev pub Tracks : Bool → List Edge → Past → State → Type 0
+Tracks local es past s =
+    (x p q : ℕ) → p < policies → q < states → (has (setAt s p (placeOf s x)) q ≡ true) ↔ May local es p (Sees x) past q
 
 -- The set that is kept of p holds exactly the states that some instance of it, of any number x at all, may be in.
-abbrev pub Gathers : List Edge → Past → State → Type 0
-Gathers es past s = (p q : ℕ) → p < policies → q < states → (has (possibleIn s p) q ≡ true) ↔ ((x : ℕ) × May false es p (Sees x) past q)
+abbrev pub Gathers : Bool → List Edge → Past → State → Type 0
+Gathers local es past s =
+    (p q : ℕ) → p < policies → q < states → (has (possibleIn s p) q ≡ true) ↔ ((x : ℕ) × May local es p (Sees x) past q)
 
 -- After this past, with an earlier step violated or not as `h` says, the judge may be in this state.
-pub record Represents (es : List Edge) (past : Past) (h : Bool) (s : State) : Type 0 where
+pub record Represents (local : Bool) (es : List Edge) (past : Past) (h : Bool) (s : State) : Type 0 where
   pub halted : s .halted ≡ h
   pub well : stateOk s ≡ true
-  pub tracks : Tracks es past s
-  pub gathers : Gathers es past s
+  pub tracks : Tracks local es past s
+  pub gathers : Gathers local es past s
   pub made : (r : ℕ) → (listed r (live s) ≡ true) ↔ Created r past
   pub number : s .count ≡ creates past
   pub open-count : (p : ℕ) → closings p past + openingsOf s p ≡ openings p past
