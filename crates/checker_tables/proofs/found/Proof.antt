@@ -1,0 +1,22 @@
+use mathlib.Core.Path.{refl}
+use borrow.Author.Needs.{needs}
+use Rattle.checker_tables.proofs.found.Statement.{statement}
+use Rattle.checker_tables.proofs.found.Tie as tie
+use Rattle.checker_tables.proofs.found.Reads as reads
+use Rattle.checker_tables.proofs.found.Lts as lts
+use Rattle.checker_tables.proofs.arrivals.fill.Reads as fill-reads
+use Rattle.checker_tables.proofs.hits.any.Reads as any-reads
+
+fill-requires : tie.Need-fill-requires
+fill-requires c κs = let p = c .before .before .pre in (p .0, (p .1, refl))
+
+any-requires : tie.Need-any-requires
+any-requires c κs = c .before .before .before .before .pre
+
+returns : tie.Need-returns
+returns c =
+    let f = c .before .before .fill in
+    record { comes = f .last .1 .1 .1 .1 .1 .1 .1 .0; comes-filled = f .ensures; told = c .any .ensures }
+
+pub found-spec : {M : Type 1} → statement M
+found-spec = tie.close (tie.spec fill-requires any-requires returns)
