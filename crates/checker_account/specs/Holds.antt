@@ -81,8 +81,8 @@ pub record HoldsEnds (local : Bool) (es : List Edge) (ns : List Node) (p x : ℕ
   pub sound : SoundEnds local es ns p x o t
   pub full : (k m q : ℕ) (c : Bool) (q′ : ℕ) → Start x m → q < states → EndsAt local es ns p x o k m q c q′ → (q′ < states) × HasEnd t k m q c q′
 
--- what openings reset, where p is open or not
-pub data ResetsOk (es : List Edge) (ns : List Node) (p x : ℕ) : Bool → Bool → Resets → Type 0 where
+-- which opening resets under this choice of past, where p is open or not, as o says
+pub data ResetsOk (es : List Edge) (ns : List Node) (p x : ℕ) : (local o : Bool) → Resets → Type 0 where
   where-open : {local : Bool} → ResetsOk es ns p x local true never
   where-not : {opened : List ℕ} → HoldsEnds true es ns p x true opened → ResetsOk es ns p x true false (opening-of p opened)
 

@@ -88,19 +88,23 @@ settleNode rows x resets l k f t = repeat (λ i. settleMeaning rows x resets k f
 unfoldable pub settleRound : Rows → ℕ → Resets → ℕ → ℕ → Forms → List ℕ → List ℕ
 settleRound rows x resets l n forms t = repeat (λ i. settleNode rows x resets l (n - 1 - i) (forms (n - 1 - i))) n t
 
--- The two tables of ends: where p is open, and where it is not. Where p is open, no opening resets it, whichever past counts. Where it is not, the whole past still knows no reset
--- and has the same ends; under the local meaning they are filled by the first table.
+-- ── The two tables of ends: where p is open, and where it is not ──
+
+-- Where p is not open, the whole past knows no reset either and has the same ends; under the local meaning an opening of p resets, and the
+-- first table tells what its body ends in.
 abbrev pub ShutFilled : Bool → Rows → ℕ → ℕ → ℕ → Forms → List ℕ → List ℕ → Type 0
 ShutFilled false rows p x n forms opened t = t ≡ opened
 ShutFilled true rows p x n forms opened t = Filled (EndsRule rows x (opening-of p opened) (least x) n forms) (replicate places 0) t
 
-abbrev pub byOpen : List ℕ → List ℕ → Bool → List ℕ
-byOpen opened shut false = shut
-byOpen opened shut true = opened
-
+-- `t o` is the table where p is open or not, as o says. Where it is open no opening resets, whichever past counts.
 pub record EndsFilled (local : Bool) (rows : Rows) (p x n : ℕ) (forms : Forms) (t : Bool → List ℕ) : Type 0 where
   pub opened-filled : Filled (EndsRule rows x never (least x) n forms) (replicate places 0) (t true)
   pub shut-filled : ShutFilled local rows p x n forms (t true) (t false)
+
+-- two tables as such
+abbrev pub byOpen : List ℕ → List ℕ → Bool → List ℕ
+byOpen opened shut false = shut
+byOpen opened shut true = opened
 
 -- ── The table of what is come to ──
 

@@ -65,7 +65,7 @@ meaningAfter (suc m) c = suc m
 
 -- ── What an opening resets ──
 
--- An opening of s resets the instances of p, which was open or not: the test of `reopened`.
+-- does an opening of s reset the instances of p, which was open or not? The test of `reopened`
 abbrev pub isReset : Bool → ℕ → ℕ → Bool → Bool
 isReset local p s o = local && (eqb s p && not o)
 
@@ -74,9 +74,9 @@ abbrev pub restarted : Bool → ℕ → ℕ
 restarted true v = cond (eqb (v % 256) 0) 0 1
 restarted false v = v
 
--- What the openings inside a node reset, where it is begun: nothing, as where the whole past counts, or where p is open, so that each of its
--- openings is a further one; or that of p does, where p is not open. Then its body is begun in state 0 and p is open there: `opened` is the
--- table of ends where p is open.
+-- Which opening resets on the way through a node: none, as where the whole past counts or p is open, so that each of its openings is a
+-- further one; or that of p, which is not open. The body of such a sandbox is begun in state 0 with p open: `opened` is the table of ends
+-- where p is open.
 pub data Resets : Type 0 where
   never : Resets
   opening-of : (p : ℕ) (opened : List ℕ) → Resets

@@ -69,7 +69,7 @@ abbrev pub hitIn : List ℕ → Bool → List ℕ → List ℕ → ℕ → ℕ �
 hitIn nodes local rows u p x l = hitAny local (rowsIn rows) p x u l (length nodes / nodeFields) (formsIn nodes)
 
 -- what the tables of ends lead to: the table of what is come to, and the answer
-pub record Found (nodes : List ℕ) (local : Bool) (rows : List ℕ) (t : Bool → List ℕ) (p x l : ℕ) (answer : Bool) : Type 0 where
+pub record SearchedBy (nodes : List ℕ) (local : Bool) (rows : List ℕ) (t : Bool → List ℕ) (p x l : ℕ) (answer : Bool) : Type 0 where
   pub comes : List ℕ
   pub comes-filled : Filled (ComesBy nodes local rows t p l) (begins l) comes
   pub told : answer ≡ hitIn nodes local rows comes p x l

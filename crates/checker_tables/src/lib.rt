@@ -9,7 +9,7 @@ ghost use Rattle.usage.specs.Limits.{states, nodeFields};
 ghost use Rattle.usage.specs.Tables.{nodeAt};
 ghost use Rattle.checker_account.specs.Tables.{over, joinedAt, meanings, places, least, restarted};
 ghost use Rattle.checker_account.specs.Rounds.{grown, byOpen, Wide};
-ghost use Rattle.checker_tables.specs.Search.{lost, touched, smallNode, NodesFit, hasRoom, Found, SearchedIf};
+ghost use Rattle.checker_tables.specs.Search.{lost, touched, smallNode, NodesFit, hasRoom, SearchedBy, SearchedIf};
 use checker_account::NAMES;
 use checker_account::PLACES;
 use checker_account::Table;
@@ -174,7 +174,7 @@ fn found(
 ) -> bool
     requires { ⌜ NodesFit (now nodes) ⌝ }
     requires { ⌜ l < meanings ⌝ }
-    ensures { λ r. ⌜ Found (now (nodes .entry)) local (now (rows .entry))
+    ensures { λ r. ⌜ SearchedBy (now (nodes .entry)) local (now (rows .entry))
         (byOpen (now (opened .entry)) (now (shut .entry))) p x l r ⌝ }
 {
     let mut u = [0u16; PLACES];

@@ -18,7 +18,7 @@ use Rattle.checker_account.specs.Tables.{unnamed, least}
 use Rattle.checker.specs.Code.{opens}
 use Rattle.test_cases.specs.Cases.{CheckCase, CheckRight}
 use Rattle.test_cases.specs.LocalOutlines.{edgesTwice, edgesUnless, nodesBefore, nodesInside, nodesAfter, nodesUnless, localOutlines}
-use Rattle.test_cases.specs.LocalOutlines.{before, inside, after, unless}
+use Rattle.test_cases.specs.LocalOutlines.{eventBefore, backInside, backAfter, excusedBefore}
 use Rattle.test_cases.proofs.JudgeRight.{among}
 use Rattle.test_cases.proofs.Searches.{rowTable, tells-by, tells-at}
 use Rattle.test_cases.proofs.ChecksIL.{broken, names-0, none-broken}
@@ -76,7 +76,7 @@ broken-before-whole : tells-at false edgesTwice nodesBefore 0 watched 0 4 true �
 unfolding rowTable tells-by tells-at
 broken-before-whole = refl
 
-right-before-whole : CheckRight (before false (violated 0))
+right-before-whole : CheckRight (eventBefore false (violated 0))
 right-before-whole = record {
   edge-table = table-twice;
   node-table = outline-before;
@@ -92,7 +92,7 @@ dynamic-before-local : tells-at true edgesTwice nodesBefore 0 watched 0 4 false 
 unfolding rowTable tells-by tells-at
 dynamic-before-local = refl
 
-right-before-local : CheckRight (before true allowed)
+right-before-local : CheckRight (eventBefore true allowed)
 right-before-local = record {
   edge-table = table-twice;
   node-table = outline-before;
@@ -103,7 +103,7 @@ broken-inside : tells-at true edgesTwice nodesInside 0 watched 0 4 true ≡ true
 unfolding rowTable tells-by tells-at
 broken-inside = refl
 
-right-inside : CheckRight (inside)
+right-inside : CheckRight backInside
 right-inside = record {
   edge-table = table-twice;
   node-table = outline-inside;
@@ -119,7 +119,7 @@ dynamic-after : tells-at true edgesTwice nodesAfter 0 watched 0 4 false ≡ true
 unfolding rowTable tells-by tells-at
 dynamic-after = refl
 
-right-after : CheckRight (after)
+right-after : CheckRight backAfter
 right-after = record {
   edge-table = table-twice;
   node-table = outline-after;
@@ -134,7 +134,7 @@ dynamic-unless-whole : tells-at false edgesUnless nodesUnless 0 watched 0 4 fals
 unfolding rowTable tells-by tells-at
 dynamic-unless-whole = refl
 
-right-unless-whole : CheckRight (unless false allowed)
+right-unless-whole : CheckRight (excusedBefore false allowed)
 right-unless-whole = record {
   edge-table = table-unless;
   node-table = outline-unless;
@@ -145,7 +145,7 @@ broken-unless-local : tells-at true edgesUnless nodesUnless 0 watched 0 4 true �
 unfolding rowTable tells-by tells-at
 broken-unless-local = refl
 
-right-unless-local : CheckRight (unless true (violated 0))
+right-unless-local : CheckRight (excusedBefore true (violated 0))
 right-unless-local = record {
   edge-table = table-unless;
   node-table = outline-unless;

@@ -22,8 +22,8 @@ nodesBefore =
     ∷ 2 ∷ 1 ∷ 0 ∷ []
 
 -- what was before the sandbox counts for the whole past alone
-abbrev pub before : Bool → Verdict → CheckCase
-before local v = record { local = local; edges = edgesTwice; nodes = nodesBefore; verdict = v }
+abbrev pub eventBefore : Bool → Verdict → CheckCase
+eventBefore local v = record { local = local; edges = edgesTwice; nodes = nodesBefore; verdict = v }
 
 -- fresh n, a loop: sandbox 0 around action 1 on n and then end, or back
 abbrev pub nodesInside : List ℕ
@@ -38,8 +38,8 @@ nodesInside =
     ∷ 6 ∷ 1 ∷ 0 ∷ []
 
 -- "A further opening of a policy already open resets nothing": a back inside the sandbox opens it again
-abbrev pub inside : CheckCase
-inside = record { local = true; edges = edgesTwice; nodes = nodesInside; verdict = violated 0 }
+abbrev pub backInside : CheckCase
+backInside = record { local = true; edges = edgesTwice; nodes = nodesInside; verdict = violated 0 }
 
 -- the same with the end, or back, after the sandbox
 abbrev pub nodesAfter : List ℕ
@@ -54,8 +54,8 @@ nodesAfter =
     ∷ 6 ∷ 1 ∷ 0 ∷ []
 
 -- "At an opening of a policy that is not open, all its instances go back to state 0": each time around
-abbrev pub after : CheckCase
-after = record { local = true; edges = edgesTwice; nodes = nodesAfter; verdict = allowed }
+abbrev pub backAfter : CheckCase
+backAfter = record { local = true; edges = edgesTwice; nodes = nodesAfter; verdict = allowed }
 
 -- action 1 on x is an offence but after action 2 on x
 abbrev pub edgesUnless : List ℕ
@@ -73,15 +73,15 @@ nodesUnless =
     ∷ 2 ∷ 1 ∷ 0 ∷ []
 
 -- the local meaning refuses what the whole past accepts
-abbrev pub unless : Bool → Verdict → CheckCase
-unless local v = record { local = local; edges = edgesUnless; nodes = nodesUnless; verdict = v }
+abbrev pub excusedBefore : Bool → Verdict → CheckCase
+excusedBefore local v = record { local = local; edges = edgesUnless; nodes = nodesUnless; verdict = v }
 
 abbrev pub localOutlines : List CheckCase
 localOutlines =
-    before false (violated 0)
-    ∷ before true allowed
-    ∷ inside
-    ∷ after
-    ∷ unless false allowed
-    ∷ unless true (violated 0)
+    eventBefore false (violated 0)
+    ∷ eventBefore true allowed
+    ∷ backInside
+    ∷ backAfter
+    ∷ excusedBefore false allowed
+    ∷ excusedBefore true (violated 0)
     ∷ []
