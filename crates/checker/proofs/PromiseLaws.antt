@@ -31,7 +31,8 @@ module _ (local : Bool) (t n : List ℕ) where
   nodes-refused e = no-nodes (refutes (decides-node-table n) e)
 
   -- both tables are those of accepted sheets
-  pub answered : {v : Verdict} → edgeTable t ≡ true → nodeTable n ≡ true → Checked local (edgesOf t) (nodesOf n) v → RightVerdict local t n v
+  pub answered : {v : Verdict} → edgeTable t ≡ true → nodeTable n ≡ true → Checked local (edgesOf t) (nodesOf n) v
+      → RightVerdict local t n v
   answered e f c = checked (decides-edge-table t .0 e) (decides-node-table n .0 f) c
 
 -- ── The number of a policy ──

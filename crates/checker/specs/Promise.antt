@@ -17,8 +17,8 @@ outcomeVerdict Accepted = allowed
 outcomeVerdict (Named p) = violated p
 outcomeVerdict (Refused n) = refused n
 
--- The right verdict of two lent tables and a choice of past: "41 a table lent to be used that, taken whole, no accepted sheet gives"; else that of the
--- outline under the edges. No two are right (`right-unique` of proofs/PromiseLaws).
+-- The right verdict of two lent tables and a choice of past: "41 a table lent to be used that, taken whole, no accepted sheet gives"; else
+-- that of the outline under the edges. No two are right (`right-unique` of proofs/PromiseLaws).
 pub data RightVerdict (local : Bool) (edges nodes : List ℕ) : Verdict → Type 0 where
   no-edges : (EdgeTable edges → ⊥) → RightVerdict local edges nodes (refused 41)
   no-nodes : (NodeTable nodes → ⊥) → RightVerdict local edges nodes (refused 41)

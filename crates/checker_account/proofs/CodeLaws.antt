@@ -96,11 +96,13 @@ no-form n a b d₀ d₁ d₂ d₃ d₄ d₅ d₆ d₇ d₈ =
     (λ k e. refl) n refl
 
 -- a node of a kind other than 3 to 8 leads to nothing
-pub no-arrivals : (local : Bool) (rows : Rows) (p : ℕ) (t : List ℕ) (k : ℕ) (o : Bool) (m v n a b : ℕ) → (n ≡ 3 → ⊥) → (n ≡ 4 → ⊥) → (n ≡ 5 → ⊥)
+pub no-arrivals : (local : Bool) (rows : Rows) (p : ℕ) (t : List ℕ) (k : ℕ) (o : Bool) (m v n a b : ℕ) → (n ≡ 3 → ⊥) → (n ≡ 4 → ⊥)
+    → (n ≡ 5 → ⊥)
     → (n ≡ 6 → ⊥) → (n ≡ 7 → ⊥) → (n ≡ 8 → ⊥) → arrivalsOf local rows p t k o m v (formOf (record { kind = n; a = a; b = b })) ≡ []
 unfolding formOf arrivals
 no-arrivals local rows p t k o m v n a b d₃ d₄ d₅ d₆ d₇ d₈ =
-    by-kind (λ j. n ≡ j → arrivalsOf local rows p t k o m v (formOf (record { kind = j; a = a; b = b })) ≡ []) (λ e. refl) (λ e. refl) (λ e. refl)
+    by-kind (λ j. n ≡ j → arrivalsOf local rows p t k o m v (formOf (record { kind = j; a = a; b = b })) ≡ []) (λ e. refl) (λ e. refl)
+    (λ e. refl)
     (λ e. absurd (d₃ e)) (λ e. absurd (d₄ e)) (λ e. absurd (d₅ e)) (λ e. absurd (d₆ e)) (λ e. absurd (d₇ e)) (λ e. absurd (d₈ e))
     (λ k e. refl) n refl
 

@@ -48,7 +48,8 @@ module _ (local : Bool) (es : List Edge) (ns : List Node) (p x : ℕ) (rows : Ro
   abbrev pub Right : Arrival → Type 0
   Right g = (q : ℕ) → q < states → has (g .states) q ≡ true → ComesAt local es ns p x (g .to) (g .is-open) (g .meaning) q
 
-  other-right : {k n b : ℕ} (o : Bool) (m v : ℕ) → Is ns k (fresh n b) → ((q : ℕ) → q < states → has v q ≡ true → ComesAt local es ns p x k o m q)
+  other-right : {k n b : ℕ} (o : Bool) (m v : ℕ) → Is ns k (fresh n b)
+      → ((q : ℕ) → q < states → has v q ≡ true → ComesAt local es ns p x k o m q)
       → (q : ℕ) → q < states → has (over (rows k false) v) q ≡ true → ComesAt local es ns p x b o (forgotten m n) q
   other-right {k} {n} {b} o m v i h q l g =
       let (j, lj, hv, hr) = over-found (rows k false) v q g in

@@ -21,7 +21,8 @@ use Rattle.automaton.proofs.MaskLaws.{has-pow}
 use Rattle.automaton.proofs.MoveLaws.{moves-lt, ends-of}
 use Rattle.checker_account.specs.Witness.{watched, others, noName, meant, forget, Goes, ended, Ends}
 use Rattle.checker_account.proofs.BegunLaws.{reopened-states}
-use Rattle.checker_account.specs.Tables.{nameOf, made, forgotten, meaningAfter, at, half, base, kept, begun, Rows, Resets, insideEnds, endsBy}
+use Rattle.checker_account.specs.Tables.{nameOf, made, forgotten, meaningAfter, at, half, base, kept, begun, Rows, Resets}
+use Rattle.checker_account.specs.Tables.{insideEnds, endsBy}
 use Rattle.checker_account.specs.Holds.{Start, Dynamic, RowsOk, NamesOk, EndsFrom, EndsAt, HasEnd, SoundEnds, ClosedEnds, HoldsEnds}
 use Rattle.checker_account.specs.Holds.{ResetsOk, where-open, where-not}
 use Rattle.checker_account.proofs.MaskLaws.{has-left, has-right, has-either, has-none, over-found, over-at, has-half, kept-found}
@@ -48,11 +49,13 @@ module _ (es : List Edge) (ns : List Node) (p x : ℕ) (rows : Rows) (small : x 
 -- ends of nodes that are begun where p is open or not, as o says
 module _ (local : Bool) (es : List Edge) (ns : List Node) (p x : ℕ) (o : Bool) (rows : Rows) (small : x ≤ watched)
     (ok : RowsOk es ns p x rows) (names : NamesOk ns) (resets : Resets) (right : ResetsOk es ns p x local o resets) where
-  ends-made : {k w q q′ : ℕ} {c c₁ c₂ : Bool} → c₁ ≡ c₂ → EndsFrom local es ns p x o k w c q c₁ q′ → EndsFrom local es ns p x o k w c q c₂ q′
+  ends-made : {k w q q′ : ℕ} {c c₁ c₂ : Bool} → c₁ ≡ c₂ → EndsFrom local es ns p x o k w c q c₁ q′
+      → EndsFrom local es ns p x o k w c q c₂ q′
   ends-made {k} {w} {q} {q′} {c} e h = subst (λ (d : Bool). EndsFrom local es ns p x o k w c q d q′) e h
 
   -- an end of a node begun after another one, and of one begun once a name is given to another resource
-  ends-after : {k q q′ : ℕ} {c : Bool} (m : ℕ) (c₁ : Bool) → (made m ≡ true → c₁ ≡ true) → EndsAt local es ns p x o k (meaningAfter m c₁) q c q′
+  ends-after : {k q q′ : ℕ} {c : Bool} (m : ℕ) (c₁ : Bool) → (made m ≡ true → c₁ ≡ true)
+      → EndsAt local es ns p x o k (meaningAfter m c₁) q c q′
       → EndsFrom local es ns p x o k (nameOf m) c₁ q c q′
   ends-after {k} {q} {q′} {c} m c₁ keeps h =
       subst (λ (d : Bool). EndsFrom local es ns p x o k (nameOf m) d q c q′) (after-made m c₁ keeps)
@@ -170,7 +173,8 @@ module _ (local : Bool) (es : List Edge) (ns : List Node) (p x : ℕ) (o : Bool)
     abbrev Full : ℕ → ℕ → ℕ → Bool → ℕ → Type 0
     Full k m q c q′ = (q′ < states) × HasEnd t k m q c q′
 
-    full-kept : {k m q : ℕ} {c : Bool} (v q′ : ℕ) (f : Form) → endsBy rows x resets t k m q f ≡ kept m v → Is ns k f → Start x m → made m ≡ c
+    full-kept : {k m q : ℕ} {c : Bool} (v q′ : ℕ) (f : Form) → endsBy rows x resets t k m q f ≡ kept m v → Is ns k f → Start x m
+        → made m ≡ c
         → q < states
         → q′ < states → has v q′ ≡ true → Full k m q c q′
     full-kept {k} {m} {q} {c} v q′ f d i s e l l′ h = (
@@ -242,7 +246,8 @@ module _ (local : Bool) (es : List Edge) (ns : List Node) (p x : ℕ) (o : Bool)
     full-ends (Goes.fires-name {k = k} {q = q} {a = a} {m = n} {q′ = q′} i v) eo m s ew ec l =
         let l′ = moves-lt (ends-of edges) l v in
         let v₁ = subst (λ (w : ℕ). Moves es p a (Sees x (meant x w n)) q q′) (sym ew) v in
-        full-kept (rows k (eqb m (suc n)) q) q′ (on-name a n) refl i s ec l l′ (name-moves es ns p x rows small ok names m q q′ i s l l′ .1 v₁)
+        full-kept (rows k (eqb m (suc n)) q) q′ (on-name a n) refl i s ec l l′
+        (name-moves es ns p x rows small ok names m q q′ i s l l′ .1 v₁)
     full-ends (Goes.sequences {q = q} {q₁ = q₁} {c₁ = c₁} {t = ended c₂ q₂} i f g) eo m s ew ec l =
         let h = full-ends f eo m s ew ec l in
         full-sequence m q c₁ q₁ c₂ q₂ i s l h

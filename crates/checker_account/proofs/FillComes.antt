@@ -77,7 +77,8 @@ module _ (local : Bool) (es : List Edge) (ns : List Node) (p x : ℕ) (rows : Ro
 
   -- ── Sound ──
 
-  joined-sound : (u : List ℕ) (g : Arrival) → g .meaning < meanings → Right local es ns p x rows small ok names t ends g → SoundComes local es ns p x u
+  joined-sound : (u : List ℕ) (g : Arrival) → g .meaning < meanings → Right local es ns p x rows small ok names t ends g
+      → SoundComes local es ns p x u
       → SoundComes local es ns p x (joinedAt u (place (g .to) (g .is-open) (g .meaning)) (g .states))
   joined-sound u g l right sound k o m q st lq h =
       go (joined-found u (place (g .to) (g .is-open) (g .meaning)) (g .states) (place k o m) q h)
@@ -92,7 +93,8 @@ module _ (local : Bool) (es : List Edge) (ns : List Node) (p x : ℕ) (rows : Ro
           let r₂ = subst (λ (b : Bool). ComesAt local es ns p x k b (g .meaning) q) (s .opened) r₁ in
           subst (λ (j : ℕ). ComesAt local es ns p x k o j q) (s .meaning) r₂
 
-  rule-sound : (u by : List ℕ) (i v : ℕ) → SoundComes local es ns p x u → SoundComes local es ns p x by → ComesRule local rows p t (least x) n forms by i v
+  rule-sound : (u by : List ℕ) (i v : ℕ) → SoundComes local es ns p x u → SoundComes local es ns p x by
+      → ComesRule local rows p t (least x) n forms by i v
       → SoundComes local es ns p x (joinedAt u i v)
   rule-sound u by i v sound right (leads-to k o m g l low high mem) = go (forms k) refl mem
     where

@@ -15,7 +15,8 @@ use Rattle.usage.specs.Outline.{Form}
 use Rattle.automaton.specs.Mask.{has}
 use Rattle.checker_account.specs.Witness.{watched}
 use Rattle.checker_account.specs.Tables.{least, at, base, joinedAt, Rows, Resets, never, opening-of, places, meanings}
-use Rattle.checker_account.specs.Holds.{Start, RowsOk, NamesOk, EndsAt, HasEnd, SoundEnds, ClosedEnds, HoldsEnds, ResetsOk, where-open}
+use Rattle.checker_account.specs.Holds.{Start, RowsOk, NamesOk, EndsAt, HasEnd, SoundEnds, ClosedEnds, HoldsEnds}
+use Rattle.checker_account.specs.Holds.{ResetsOk, where-open}
 use Rattle.checker_account.specs.Holds.{where-not}
 use Rattle.checker_account.specs.Rounds.{Forms, FormsOf, endsOf, EndsRule, ends-of, Filled, ShutFilled, EndsFilled}
 use Rattle.checker_account.proofs.Whole.{ends-open}
@@ -48,7 +49,8 @@ module _ (local : Bool) (es : List Edge) (ns : List Node) (p x : ℕ) (o : Bool)
   rule-right k m q t (some f) e l st lq sound c q′ l′ h =
       rule-sound local es ns p x o rows small ok names resets right t sound k m q f (reads .is k f l e) st lq c q′ l′ h
 
-  joined-sound : (t by : List ℕ) (i v : ℕ) → SoundEnds local es ns p x o t → SoundEnds local es ns p x o by → EndsRule rows x resets (least x) n forms by i v
+  joined-sound : (t by : List ℕ) (i v : ℕ) → SoundEnds local es ns p x o t → SoundEnds local es ns p x o by
+      → EndsRule rows x resets (least x) n forms by i v
       → SoundEnds local es ns p x o (joinedAt t i v)
   joined-sound t by i v sound sound-by (ends-of k m q l a b lq) k′ m′ q₁ c q′ st lq₁ lq′ h =
       go (joined-found t (base k m + q) (endsOf rows x resets by k m q (forms k)) (base k′ m′ + q₁) (at c q′) h)
@@ -72,7 +74,8 @@ module _ (local : Bool) (es : List Edge) (ns : List Node) (p x : ℕ) (o : Bool)
   closed-ends few t len closed k m q f i st lq c q′ lq′ h =
       let (l, e) = reads .has k f i in
       let high : m < meanings = st .high in
-      let g : has (endsOf rows x resets t k m q (forms k)) (at c q′) ≡ true = ap (λ (f : Option Form). has (endsOf rows x resets t k m q f) (at c q′)) e
+      let g : has (endsOf rows x resets t k m q (forms k)) (at c q′) ≡ true = ap
+      (λ (f : Option Form). has (endsOf rows x resets t k m q f) (at c q′)) e
       ∙ h in
       joined-still t (base k m + q) (endsOf rows x resets t k m q (forms k)) (omega arith)
       (closed (base k m + q) (endsOf rows x resets t k m q (forms k)) (ends-of k m q l (st .low) (st .high) lq)) (at c q′) g
@@ -82,7 +85,8 @@ module _ (local : Bool) (es : List Edge) (ns : List Node) (p x : ℕ) (o : Bool)
   filled-one edges few t h =
       let len : length t ≡ places = derived-grows (EndsRule rows x resets (least x) n forms) (replicate places 0) (h .derived) .len in
       holds-ends local es ns p x o rows small ok names resets right edges t (closed-ends few t len (h .closed))
-      (derived-keeps (EndsRule rows x resets (least x) n forms) (replicate places 0) (SoundEnds local es ns p x o) empty-sound joined-sound (h .derived))
+      (derived-keeps (EndsRule rows x resets (least x) n forms) (replicate places 0) (SoundEnds local es ns p x o) empty-sound joined-sound
+      (h .derived))
 
 -- ── Both tables ──
 

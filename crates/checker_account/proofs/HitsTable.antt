@@ -25,7 +25,8 @@ use Rattle.checker_account.proofs.MaskLaws.{has-left, has-right, has-ei
 use Rattle.checker_account.proofs.MaskLaws.{restarted-found, restarted-at}
 use Rattle.checker_account.proofs.EndsTable.{unmade-watched, name-moves}
 
-module _ (local : Bool) (es : List Edge) (ns : List Node) (p x : ℕ) (rows : Rows) (small : x ≤ watched) (ok : RowsOk es ns p x rows) (names : NamesOk ns)
+module _ (local : Bool) (es : List Edge) (ns : List Node) (p x : ℕ) (rows : Rows) (small : x ≤ watched) (ok : RowsOk es ns p x rows)
+    (names : NamesOk ns)
     (edges : EdgesOk es) (u : List ℕ) (comes : HoldsComes local es ns p x u) where
   offending-lt : {q : ℕ} → Offending q → q < states
   offending-lt (inl e) = omega arith
@@ -39,7 +40,8 @@ module _ (local : Bool) (es : List Edge) (ns : List Node) (p x : ℕ) (rows : Ro
   -- where a set of states, moved by a row that tells the moves of an event, has q
   moved-found : {k : ℕ} (m : ℕ) (own : Bool) (P : ℕ → ℕ → Type 0) → Start x m
       → ((j q : ℕ) → j < states → q < states → has (rows k own j) q ≡ true → P j q)
-      → (q : ℕ) → q < states → has (over (rows k own) (getD u (place k true m) 0)) q ≡ true → (j : ℕ) × ComesAt local es ns p x k true m j × P j q
+      → (q : ℕ) → q < states → has (over (rows k own) (getD u (place k true m) 0)) q ≡ true
+      → (j : ℕ) × ComesAt local es ns p x k true m j × P j q
   moved-found {k} m own P s f q l h =
       let (j, lj, hv, hr) = over-found (rows k own) (getD u (place k true m) 0) q h in
       (j, comes .sound k true m j s lj hv, f j q lj l hr)
@@ -96,7 +98,8 @@ module _ (local : Bool) (es : List Edge) (ns : List Node) (p x : ℕ) (rows : Ro
           let f₁ = subst (λ (r : ℕ). Offending (reopened local p r o j)) d (subst Offending (sym e) f) in
           (_, Hits.at-opening i₁ (comes .sound k o m j s lj hj .1) f₁)
 
-      go : (d : Bool) → eqb r p ≡ d → has (cond d (bitOr (after k r m false) (after k r m true)) 0) q ≡ true → HitsFrom local es ns p x by-opening
+      go : (d : Bool) → eqb r p ≡ d → has (cond d (bitOr (after k r m false) (after k r m true)) 0) q ≡ true
+          → HitsFrom local es ns p x by-opening
       go true d h = either (has-either (after k r m false) (after k r m true) q h)
         where
           either : (has (after k r m false) q ≡ true) ⊎ (has (after k r m true) q ≡ true) → HitsFrom local es ns p x by-opening

@@ -29,7 +29,8 @@ use Rattle.checker_account.specs.Rounds.{
   passRound,
 }
 use Rattle.checker_account.proofs.MaskLaws.{restarted-none}
-use Rattle.checker_account.proofs.RoundLaws.{Grows, grows-self, grows-trans, grows-still, joined-grows, repeat-grows, repeat-keeps, repeat-still}
+use Rattle.checker_account.proofs.RoundLaws.{Grows, grows-self, grows-trans, grows-still, joined-grows, repeat-grows}
+use Rattle.checker_account.proofs.RoundLaws.{repeat-keeps, repeat-still}
 
 pub entered-grows : (gs : List Arrival) (u : List ℕ) → Grows u (entered gs u)
 unfolding entered
@@ -79,7 +80,8 @@ none-arrives local rows p t k o m (some (back a)) = (refl, tt)
 none-arrives local rows p t k o m (some (fresh n b)) = (over-none (rows k false), (created-none rows k m, tt))
 none-arrives local rows p t k o m (some (sandbox s b)) = (restarted-none (isReset local p s o), tt)
 
-pub pass-none : (local : Bool) (rows : Rows) (p : ℕ) (t : List ℕ) (k : ℕ) (f : Option Form) (o : Bool) (m : ℕ) (u : List ℕ) → getD u (place k o m) 0 ≡ 0
+pub pass-none : (local : Bool) (rows : Rows) (p : ℕ) (t : List ℕ) (k : ℕ) (f : Option Form) (o : Bool) (m : ℕ) (u : List ℕ)
+    → getD u (place k o m) 0 ≡ 0
     → pass local rows p t k f o m u ≡ u
 pass-none local rows p t k f o m u e =
     ap (λ (v : ℕ). entered (arrivalsOf local rows p t k o m v f) u) e
@@ -158,7 +160,8 @@ module _ (local : Bool) (rows : Rows) (p : ℕ) (t : Bool → List ℕ) (l n : �
         entered-derived by b gs (λ f m. h f (List·Memᴰ·tail m)) (joinedAt u (place (g .to) (g .is-open) (g .meaning)) (g .states))
         (joins d b (h g (List·Memᴰ·head refl)))
 
-    pass-derived : (k : ℕ) (o : Bool) (m : ℕ) (u : List ℕ) → k < n → l ≤ m → m < meanings → Made u → Made (pass local rows p (t o) k (forms k) o m u)
+    pass-derived : (k : ℕ) (o : Bool) (m : ℕ) (u : List ℕ) → k < n → l ≤ m → m < meanings → Made u
+        → Made (pass local rows p (t o) k (forms k) o m u)
     pass-derived k o m u b low high d =
         entered-derived u d (arrivalsOf local rows p (t o) k o m (getD u (place k o m) 0) (forms k))
         (λ g i. leads-to k o m g b low high i) u d

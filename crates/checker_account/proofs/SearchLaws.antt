@@ -54,7 +54,8 @@ begins-has l h =
 -- ── A hit, by the table ──
 
 -- a form without a step leaves nothing
-no-leaves : (local : Bool) (rows : Rows) (p x : ℕ) (u : List ℕ) (k m : ℕ) (f : Form) → offends (half false (leaves local rows p x u k m f)) ≡ true
+no-leaves : (local : Bool) (rows : Rows) (p x : ℕ) (u : List ℕ) (k m : ℕ) (f : Form)
+    → offends (half false (leaves local rows p x u k m f)) ≡ true
     → (last : Last) × (lastOf f ≡ some last)
 unfolding leaves
 no-leaves local rows p x u k m end h = false-true h
@@ -111,7 +112,8 @@ module _ (local : Bool) (ns : List Node) (p x : ℕ) (rows : Rows) (u : List ℕ
 
 -- ── The answer for one watched resource ──
 
-pub searched : (local : Bool) (es : List Edge) (ns : List Node) (p x : ℕ) (rows : Rows) → x ≤ watched → EdgesOk es → RowsOk es ns p x rows → NamesOk ns
+pub searched : (local : Bool) (es : List Edge) (ns : List Node) (p x : ℕ) (rows : Rows) → x ≤ watched → EdgesOk es → RowsOk es ns p x rows
+    → NamesOk ns
     → TargetsOk ns
     → (n : ℕ) (forms : Forms) → n ≤ mostNodes → FormsOf ns n forms → (answer : Bool) → Searched local rows p x n forms answer
     → Decides answer ((last : Last) × HitsFrom local es ns p x last)
@@ -127,7 +129,8 @@ searched local es ns p x rows small edges ok names targets n forms few reads ans
 
 -- ── The answer for a policy ──
 
-module _ (local : Bool) (es : List Edge) (ns : List Node) (p : ℕ) (rows : Rows) (edges : EdgesOk es) (ok : (x : ℕ) → x ≤ watched → RowsOk es ns p x rows)
+module _ (local : Bool) (es : List Edge) (ns : List Node) (p : ℕ) (rows : Rows) (edges : EdgesOk es)
+    (ok : (x : ℕ) → x ≤ watched → RowsOk es ns p x rows)
     (names : NamesOk ns) (targets : TargetsOk ns)
     (n : ℕ) (forms : Forms) (few : n ≤ mostNodes) (reads : FormsOf ns n forms) where
   one : (x : ℕ) → x ≤ watched → (answer : Bool) → Searched local rows p x n forms answer
@@ -141,13 +144,15 @@ module _ (local : Bool) (es : List Edge) (ns : List Node) (p : ℕ) (rows : Rows
   searched-all scope scoped answer (none-found h) =
       ((λ e. false-true e), (λ b. missed (b .0) (b .1) (b .2) (b .3) (h (b .0) (b .1))))
     where
-      dynamic : (last : Last) → HitsFrom local es ns p watched last → Untouched n forms watched ⊎ Searched local rows p watched n forms false
+      dynamic : (last : Last) → HitsFrom local es ns p watched last
+          → Untouched n forms watched ⊎ Searched local rows p watched n forms false
           → false ≡ true
       dynamic last t (inl u) = let l = u .static in absurd (omega arith)
       dynamic last t (inr s) = one watched (omega arith) false s .1 (last, t)
 
       -- what an instance that was not watched would have shown, the dynamic one shows
-      missed : (x : ℕ) → x ≤ watched → (last : Last) → HitsFrom local es ns p x last → Untouched n forms x ⊎ Searched local rows p x n forms false
+      missed : (x : ℕ) → x ≤ watched → (last : Last) → HitsFrom local es ns p x last
+          → Untouched n forms x ⊎ Searched local rows p x n forms false
           → false ≡ true
       missed x l last t (inl u) =
           let off : (k a : ℕ) → Is ns k (on-static a x) → ⊥ = λ k a i. let (b, e) = reads .has k (on-static a x) i in u .no-event k a b e in

@@ -11,7 +11,8 @@ use lib.ListN.{getD}
 use Rattle.usage.specs.Limits.{states}
 use Rattle.usage.specs.Outline.{Form, end, on-static, on-name, sequence, choice, loop, back, fresh, sandbox}
 use Rattle.automaton.specs.Mask.{has, union}
-use Rattle.checker_account.specs.Tables.{made, base, kept, Rows, Resets, never, opening-of, insideEnds, endsBy, over, joinedAt, meanings}
+use Rattle.checker_account.specs.Tables.{made, base, kept, Rows, Resets, never, opening-of, insideEnds, endsBy, over}
+use Rattle.checker_account.specs.Tables.{joinedAt, meanings}
 use Rattle.checker_account.specs.Rounds.{
   Forms,
   Derived,
@@ -44,23 +45,28 @@ module _ (t : List ℕ) (i : ℕ) (f : ℕ → ℕ) where
   each-same g h =
       repeat-same (λ q u. joinedAt u (i + q) (f q)) (λ q u. joinedAt u (i + q) (g q)) states (λ q u l. ap (joinedAt u (i + q)) (h q l)) t
 
-pub meaning-grows : (rows : Rows) (x : ℕ) (resets : Resets) (k : ℕ) (f : Option Form) (m : ℕ) (t : List ℕ) → Grows t (settleMeaning rows x resets k f m t)
+pub meaning-grows : (rows : Rows) (x : ℕ) (resets : Resets) (k : ℕ) (f : Option Form) (m : ℕ) (t : List ℕ)
+    → Grows t (settleMeaning rows x resets k f m t)
 meaning-grows rows x resets k f m t = each-grows t (base k m) (λ q. endsOf rows x resets t k m q f)
 
-pub node-grows : (rows : Rows) (x : ℕ) (resets : Resets) (l k : ℕ) (f : Option Form) (t : List ℕ) → Grows t (settleNode rows x resets l k f t)
+pub node-grows : (rows : Rows) (x : ℕ) (resets : Resets) (l k : ℕ) (f : Option Form) (t : List ℕ)
+    → Grows t (settleNode rows x resets l k f t)
 unfolding settleNode
 node-grows rows x resets l k f t =
     repeat-grows (λ i. settleMeaning rows x resets k f (l + i)) (λ i. meaning-grows rows x resets k f (l + i)) (meanings - l) t
 
-pub round-grows : (rows : Rows) (x : ℕ) (resets : Resets) (l n : ℕ) (forms : Forms) (t : List ℕ) → Grows t (settleRound rows x resets l n forms t)
+pub round-grows : (rows : Rows) (x : ℕ) (resets : Resets) (l n : ℕ) (forms : Forms) (t : List ℕ)
+    → Grows t (settleRound rows x resets l n forms t)
 unfolding settleRound
 round-grows rows x resets l n forms t =
-    repeat-grows (λ i. settleNode rows x resets l (n - 1 - i) (forms (n - 1 - i))) (λ i. node-grows rows x resets l (n - 1 - i) (forms (n - 1 - i))) n t
+    repeat-grows (λ i. settleNode rows x resets l (n - 1 - i) (forms (n - 1 - i)))
+    (λ i. node-grows rows x resets l (n - 1 - i) (forms (n - 1 - i))) n t
 
 -- ── They derive, and where a round changes nothing, no rule adds anything ──
 
 -- one start of a node that settling leaves as it is
-pub node-closed : (rows : Rows) (x : ℕ) (resets : Resets) (l k : ℕ) (f : Option Form) (t : List ℕ) → settleNode rows x resets l k f t ≡ t → (m q : ℕ) → l ≤ m
+pub node-closed : (rows : Rows) (x : ℕ) (resets : Resets) (l k : ℕ) (f : Option Form) (t : List ℕ) → settleNode rows x resets l k f t ≡ t
+    → (m q : ℕ) → l ≤ m
     → m < meanings
     → q < states → joinedAt t (base k m + q) (endsOf rows x resets t k m q f) ≡ t
 unfolding settleNode
@@ -68,7 +74,8 @@ node-closed rows x resets l k f t still m q low high lq =
     let e : l + (m - l) ≡ m = omega arith in
     each-still t (base k m) (λ q. endsOf rows x resets t k m q f)
     (subst (λ (j : ℕ). settleMeaning rows x resets k f j t ≡ t) e
-    (repeat-still (λ i. settleMeaning rows x resets k f (l + i)) (λ i. meaning-grows rows x resets k f (l + i)) (meanings - l) t still (m - l)
+    (repeat-still (λ i. settleMeaning rows x resets k f (l + i)) (λ i. meaning-grows rows x resets k f (l + i)) (meanings - l) t still
+    (m - l)
     (omega arith))) q lq
 
 module _ (rows : Rows) (x : ℕ) (resets : Resets) (l n : ℕ) (forms : Forms) where

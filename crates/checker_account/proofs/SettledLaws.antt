@@ -183,7 +183,8 @@ module _ (k : ℕ) (t u : List ℕ) (same : Beside k t u) where
   inside-same (opening-of p opened) s b m q d l h = ap (cond (eqb s p) (getD opened (base b m + 0) 0)) (same b m q d l h)
 
   -- a rule that does not read node k gives the same
-  pub ends-same : (rows : Rows) (x : ℕ) (resets : Resets) (i m q : ℕ) (f : Option Form) → Named f → (Reads f k → ⊥) → m < meanings → q < states
+  pub ends-same : (rows : Rows) (x : ℕ) (resets : Resets) (i m q : ℕ) (f : Option Form) → Named f → (Reads f k → ⊥) → m < meanings
+      → q < states
       → endsOf rows x resets t i m q f ≡ endsOf rows x resets u i m q f
   unfolding endsBy
   ends-same rows x resets i m q none s d l h = refl
@@ -202,7 +203,8 @@ module _ (k : ℕ) (t u : List ℕ) (same : Beside k t u) where
       let away : b ≡ k → ⊥ = λ e. d (subst (PartOf (fresh n b)) e given) in
       ap₂ (λ (x y : ℕ). bitOr x y) (begun-same b (forgotten m n) (rows i false q) away (forgotten-lt m n l))
       (ap (cond (made m) 0) (begun-same b (suc n) (rows i true q) away (omega arith)))
-  ends-same rows x resets i m q (some (sandbox a b)) s d l h = inside-same resets a b m q (λ e. d (subst (PartOf (sandbox a b)) e inside)) l h
+  ends-same rows x resets i m q (some (sandbox a b)) s d l h = inside-same resets a b m q
+      (λ e. d (subst (PartOf (sandbox a b)) e inside)) l h
 
 -- ── A node, settled ──
 
@@ -223,7 +225,8 @@ module _ (rows : Rows) (x : ℕ) (resets : Resets) (l k : ℕ) (f : Option Form)
 
   after-beside : (i : ℕ) (t : List ℕ) → l + i ≤ meanings → Beside k (after i t) t
   after-beside i t h =
-      repeat-keeps (λ u. Beside k u t) (λ i. settleMeaning rows x resets k f (l + i)) i (λ j u b g. meaning-beside t u (l + j) (omega arith) g) t
+      repeat-keeps (λ u. Beside k u t) (λ i. settleMeaning rows x resets k f (l + i)) i
+      (λ j u b g. meaning-beside t u (l + j) (omega arith) g) t
       (λ j m q d c e. refl)
 
   pub node-beside : (t : List ℕ) → l ≤ meanings → Beside k (settleNode rows x resets l k f t) t
@@ -232,7 +235,8 @@ module _ (rows : Rows) (x : ℕ) (resets : Resets) (l k : ℕ) (f : Option Form)
 
   module _ (t : List ℕ) (len : length t ≡ places) (small : k < mostNodes) where
     after-length : (i : ℕ) → length (after i t) ≡ places
-    after-length i = repeat-grows (λ i. settleMeaning rows x resets k f (l + i)) (λ i. meaning-grows rows x resets k f (l + i)) i t .len ∙ len
+    after-length i = repeat-grows (λ i. settleMeaning rows x resets k f (l + i)) (λ i. meaning-grows rows x resets k f (l + i)) i t .len
+        ∙ len
 
     -- the meanings that are settled, by the table as it was
     after-in : Named f → (Reads f k → ⊥) → (i : ℕ) → l + i ≤ meanings → (m q : ℕ) → l ≤ m → m < l + i → q < states
@@ -267,7 +271,8 @@ module _ (rows : Rows) (x : ℕ) (resets : Resets) (l k : ℕ) (f : Option Form)
         still-in t (base k m + q) (endsOf rows x resets t k m q f) (omega arith) (node-closed rows x resets l k f t e m q low high b)
 
 -- another node, which does not read the one that was settled, is as before
-pub node-kept : (rows : Rows) (x : ℕ) (resets : Resets) (l k j : ℕ) (f : Option Form) (t u : List ℕ) → Beside k u t → (j ≡ k → ⊥) → Named f → (Reads f k → ⊥)
+pub node-kept : (rows : Rows) (x : ℕ) (resets : Resets) (l k j : ℕ) (f : Option Form) (t u : List ℕ) → Beside k u t → (j ≡ k → ⊥) → Named f
+    → (Reads f k → ⊥)
     → NodeClosed rows x resets l j f t → NodeClosed rows x resets l j f u
 node-kept rows x resets l k j f t u same d s r closed m q low high b =
     let e = same j m q d high b in

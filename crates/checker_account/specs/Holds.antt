@@ -79,7 +79,8 @@ ClosedEnds ns x rows resets t = (k m q : ℕ) (f : Form) → Is ns k f → Start
 -- the table of ends holds exactly the ends
 pub record HoldsEnds (local : Bool) (es : List Edge) (ns : List Node) (p x : ℕ) (o : Bool) (t : List ℕ) : Type 0 where
   pub sound : SoundEnds local es ns p x o t
-  pub full : (k m q : ℕ) (c : Bool) (q′ : ℕ) → Start x m → q < states → EndsAt local es ns p x o k m q c q′ → (q′ < states) × HasEnd t k m q c q′
+  pub full : (k m q : ℕ) (c : Bool) (q′ : ℕ) → Start x m → q < states → EndsAt local es ns p x o k m q c q′
+      → (q′ < states) × HasEnd t k m q c q′
 
 -- which opening resets under this choice of past, where p is open or not, as o says
 pub data ResetsOk (es : List Edge) (ns : List Node) (p x : ℕ) : (local o : Bool) → Resets → Type 0 where

@@ -173,4 +173,5 @@ pub record Untouched (n : ℕ) (forms : Forms) (x : ℕ) : Type 0 where
 -- the answer to whether policy p is broken: the static resources that an event is on and the one dynamic resource are watched in turn
 pub data SearchedAll (local : Bool) (rows : Rows) (p n : ℕ) (forms : Forms) : Bool → Type 0 where
   found : {x : ℕ} → x ≤ watched → Searched local rows p x n forms true → SearchedAll local rows p n forms true
-  none-found : ((x : ℕ) → x ≤ watched → Untouched n forms x ⊎ Searched local rows p x n forms false) → SearchedAll local rows p n forms false
+  none-found : ((x : ℕ) → x ≤ watched → Untouched n forms x ⊎ Searched local rows p x n forms false)
+      → SearchedAll local rows p n forms false

@@ -199,7 +199,8 @@ leaves local rows p x u k m (fresh n b) =
     bitOr (over (rows k false) v) (ownCreated rows k m v)
 leaves local rows p x u k m (sandbox s b) =
     cond (eqb s p)
-    (bitOr (restarted (isReset local p s false) (getD u (place k false m) 0)) (restarted (isReset local p s true) (getD u (place k true m) 0)))
+    (bitOr (restarted (isReset local p s false) (getD u (place k false m) 0))
+    (restarted (isReset local p s true) (getD u (place k true m) 0)))
     0
 
 -- the step, as the account tells it apart

@@ -332,7 +332,8 @@ module _ (rows : Rows) (x : ℕ) (resets : Resets) (l n : ℕ) (forms : Forms) (
             go j b (λ r. not-both (has readers j) (reader-in forms n j k b small r) h₂) (ℕ-discrete j k) (taken s k low-is high-is j h₁);
       }
         where
-          go : (j : ℕ) → j < n → (Reads (forms j) k → ⊥) → Dec (j ≡ k) → (j ≡ k) ⊎ (has s j ≡ false) → NodeClosed rows x resets l j (forms j) u
+          go : (j : ℕ) → j < n → (Reads (forms j) k → ⊥) → Dec (j ≡ k) → (j ≡ k) ⊎ (has s j ≡ false)
+              → NodeClosed rows x resets l j (forms j) u
           go j b away (yes d) h =
               subst (λ (i : ℕ). NodeClosed rows x resets l i (forms i) u) (sym d)
               (subst (NodeClosed rows x resets l k (forms k)) (sym e)

@@ -8,7 +8,8 @@ ghost use lib.ListN.{length, getD, replicate};
 ghost use Rattle.usage.specs.Limits.{mostNodes};
 ghost use Rattle.usage.specs.Outline.{formOf};
 ghost use Rattle.checker_account.specs.Witness.{noName};
-ghost use Rattle.checker_account.specs.Tables.{meanings, places, begun, rowsIn, joinedAt, restarted, place, _by_by_with_, halves, freshArrivals};
+ghost use Rattle.checker_account.specs.Tables.{meanings, places, begun, rowsIn, joinedAt, restarted, place, _by_by_with_};
+ghost use Rattle.checker_account.specs.Tables.{halves, freshArrivals};
 ghost use Rattle.checker_account.specs.Rounds.{grown, byOpen, entered, arrivalsOf, pass, passBoth, passNode, begins, Wide, Filled};
 ghost use Rattle.checker_tables.specs.Search.{Small, NodesFit, comesRound, ComesBy};
 use checker_account::MEANINGS;
@@ -231,7 +232,8 @@ fn pass_both(
     requires { ⌜ k < mostNodes ⌝ }
     requires { ⌜ m < meanings ⌝ }
     ensures { λ r. ⌜ now (u .exit)
-        ≡ passBoth local (rowsIn (now (rows .entry))) p (byOpen (now (opened .entry)) (now (shut .entry))) k (formOf f) m (now (u .entry)) ⌝ }
+        ≡ passBoth local (rowsIn (now (rows .entry))) p (byOpen (now (opened .entry)) (now (shut .entry)))
+        k (formOf f) m (now (u .entry)) ⌝ }
     ensures { λ r. ⌜ r ≡ grown (now (u .entry)) (now (u .exit)) ⌝ }
     ensures { λ r. ⌜ (Wide (now (u .entry)) → Wide (now (u .exit))) ⌝ }
 {
@@ -257,7 +259,8 @@ fn pass_node(
     requires { ⌜ l < meanings ⌝ }
     requires { ⌜ k < mostNodes ⌝ }
     ensures { λ r. ⌜ now (u .exit)
-        ≡ passNode local (rowsIn (now (rows .entry))) p (byOpen (now (opened .entry)) (now (shut .entry))) l k (formOf f) (now (u .entry)) ⌝ }
+        ≡ passNode local (rowsIn (now (rows .entry))) p (byOpen (now (opened .entry)) (now (shut .entry)))
+        l k (formOf f) (now (u .entry)) ⌝ }
     ensures { λ r. ⌜ r ≡ grown (now (u .entry)) (now (u .exit)) ⌝ }
     ensures { λ r. ⌜ (Wide (now (u .entry)) → Wide (now (u .exit))) ⌝ }
 {
@@ -288,7 +291,8 @@ fn pass_round(
     requires { ⌜ NodesFit (now nodes) ⌝ }
     requires { ⌜ l < meanings ⌝ }
     ensures { λ r. ⌜ now (u .exit)
-        ≡ comesRound (now (nodes .entry)) local (now (rows .entry)) (byOpen (now (opened .entry)) (now (shut .entry))) p l (now (u .entry)) ⌝ }
+        ≡ comesRound (now (nodes .entry)) local (now (rows .entry)) (byOpen (now (opened .entry)) (now (shut .entry)))
+        p l (now (u .entry)) ⌝ }
     ensures { λ r. ⌜ r ≡ grown (now (u .entry)) (now (u .exit)) ⌝ }
     ensures { λ r. ⌜ (Wide (now (u .entry)) → Wide (now (u .exit))) ⌝ }
 {

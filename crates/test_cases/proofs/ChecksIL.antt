@@ -152,7 +152,8 @@ pub right-K : CheckRight caseK
 right-K = record {
   edge-table = table-K;
   node-table = outline-I;
-  checked = names-0 false edgesK nodesI table-K outline-I (broken false edgesK nodesI table-K outline-I 0 unnamed 5 (omega arith) least-0 broken-K);
+  checked = names-0 false edgesK nodesI table-K outline-I
+      (broken false edgesK nodesI table-K outline-I 0 unnamed 5 (omega arith) least-0 broken-K);
 }
 
 pub right-L : CheckRight caseL

@@ -96,7 +96,8 @@ right-before-local : CheckRight (eventBefore true allowed)
 right-before-local = record {
   edge-table = table-twice;
   node-table = outline-before;
-  checked = accepts (none-broken true edgesTwice nodesBefore table-twice outline-before 4 static-before-local dynamic-before-local shut-before);
+  checked = accepts
+      (none-broken true edgesTwice nodesBefore table-twice outline-before 4 static-before-local dynamic-before-local shut-before);
 }
 
 broken-inside : tells-at true edgesTwice nodesInside 0 watched 0 4 true ≡ true
@@ -123,7 +124,8 @@ right-after : CheckRight backAfter
 right-after = record {
   edge-table = table-twice;
   node-table = outline-after;
-  checked = accepts (none-broken true edgesTwice nodesAfter table-twice outline-after 4 static-after dynamic-after shut-after);
+  checked = accepts
+      (none-broken true edgesTwice nodesAfter table-twice outline-after 4 static-after dynamic-after shut-after);
 }
 
 static-unless-whole : (x : ℕ) → tells-at false edgesUnless nodesUnless 0 x unnamed 4 false ≡ true
@@ -138,7 +140,8 @@ right-unless-whole : CheckRight (excusedBefore false allowed)
 right-unless-whole = record {
   edge-table = table-unless;
   node-table = outline-unless;
-  checked = accepts (none-broken false edgesUnless nodesUnless table-unless outline-unless 4 static-unless-whole dynamic-unless-whole shut-unless);
+  checked = accepts
+      (none-broken false edgesUnless nodesUnless table-unless outline-unless 4 static-unless-whole dynamic-unless-whole shut-unless);
 }
 
 broken-unless-local : tells-at true edgesUnless nodesUnless 0 watched 0 4 true ≡ true

@@ -1,5 +1,5 @@
--- Outlines under the local meaning, and what the whole past says of the same: "Source document 000 lets a policy see only what happens inside
--- its sandbox".
+-- Outlines under the local meaning, and what the whole past says of some: "Source document 000 lets a policy see only what happens
+-- inside its sandbox".
 use Prim.Native.Nat.{ℕ}
 use mathlib.Core.Bool.{Bool, true, false}
 use mathlib.Core.List.{List, [], _∷_}

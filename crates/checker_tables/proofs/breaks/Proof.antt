@@ -35,7 +35,8 @@ fill-requires : tie.Need-fill-requires
 fill-requires c κs =
     let a = c .before .before .before .before .before .args in
     let l = c .before .least in
-    let ok = fits-rule (now (a .nodes)) (sym (c .before .before .before .fits2 .ensures) ∙ not-false (c .before .before .before .fits2 .result) (c .before .before .if1 .left)) in
+    let ok = fits-rule (now (a .nodes)) (sym (c .before .before .before .fits2 .ensures)
+    ∙ not-false (c .before .before .before .fits2 .result) (c .before .before .if1 .left)) in
     let low : l .result < meanings = omega (arith, l .ensures, least-le (a .x)) in
     (ok, (low, ((λ e. false-true e), refl)))
 
@@ -43,7 +44,9 @@ found-requires : tie.Need-found-requires
 found-requires c κs =
     let a = c .before .before .before .before .before .before .before .before .before .args in
     let l = c .before .before .before .before .before .least in
-    let ok = fits-rule (now (a .nodes)) (sym (c .before .before .before .before .before .before .before .fits2 .ensures) ∙ not-false (c .before .before .before .before .before .before .before .fits2 .result) (c .before .before .before .before .before .before .if1 .left)) in
+    let ok = fits-rule (now (a .nodes)) (sym (c .before .before .before .before .before .before .before .fits2 .ensures)
+    ∙ not-false (c .before .before .before .before .before .before .before .fits2 .result)
+    (c .before .before .before .before .before .before .if1 .left)) in
     let low : l .result < meanings = omega (arith, l .ensures, least-le (a .x)) in
     (ok, low)
 
@@ -53,14 +56,19 @@ returns-2 c =
     let l = c .before .before .before .before .before .before .least in
     let f = c .before .before .before .before .fill in
     whole-answer (now (a .nodes)) (now (a .rows)) (a .p) (a .x) (l .result)
-    (sym (c .before .before .before .before .before .before .before .before .fits2 .ensures) ∙ not-false (c .before .before .before .before .before .before .before .before .fits2 .result) (c .before .before .before .before .before .before .before .if1 .left)) (l .ensures)
-    (f .last .1 .1 .1 .1 .1 .1 .1 .0) (f .ensures .0) (a .local) (c .found .result) (not-true (a .local) (c .before .before .before .if2 .taken)) (c .found .ensures)
+    (sym (c .before .before .before .before .before .before .before .before .fits2 .ensures)
+    ∙ not-false (c .before .before .before .before .before .before .before .before .fits2 .result)
+    (c .before .before .before .before .before .before .before .if1 .left)) (l .ensures)
+    (f .last .1 .1 .1 .1 .1 .1 .1 .0) (f .ensures .0) (a .local) (c .found .result)
+    (not-true (a .local) (c .before .before .before .if2 .taken)) (c .found .ensures)
 
 fill-requires-2 : tie.Need-fill-requires-2
 fill-requires-2 c κs =
     let a = c .before .before .before .before .before .before .before .before .before .args in
     let l = c .before .before .before .before .before .least in
-    let ok = fits-rule (now (a .nodes)) (sym (c .before .before .before .before .before .before .before .fits2 .ensures) ∙ not-false (c .before .before .before .before .before .before .before .fits2 .result) (c .before .before .before .before .before .before .if1 .left)) in
+    let ok = fits-rule (now (a .nodes)) (sym (c .before .before .before .before .before .before .before .fits2 .ensures)
+    ∙ not-false (c .before .before .before .before .before .before .before .fits2 .result)
+    (c .before .before .before .before .before .before .if1 .left)) in
     let low : l .result < meanings = omega (arith, l .ensures, least-le (a .x)) in
     (ok, (low, ((λ e. c .before .before .before .fill .ensures .1), refl)))
 
@@ -68,7 +76,10 @@ found-requires-2 : tie.Need-found-requires-2
 found-requires-2 c κs =
     let a = c .before .before .before .before .before .before .before .before .before .before .before .before .args in
     let l = c .before .before .before .before .before .before .before .before .least in
-    let ok = fits-rule (now (a .nodes)) (sym (c .before .before .before .before .before .before .before .before .before .before .fits2 .ensures) ∙ not-false (c .before .before .before .before .before .before .before .before .before .before .fits2 .result) (c .before .before .before .before .before .before .before .before .before .if1 .left)) in
+    let ok = fits-rule (now (a .nodes)) (sym
+    (c .before .before .before .before .before .before .before .before .before .before .fits2 .ensures)
+    ∙ not-false (c .before .before .before .before .before .before .before .before .before .before .fits2 .result)
+    (c .before .before .before .before .before .before .before .before .before .if1 .left)) in
     let low : l .result < meanings = omega (arith, l .ensures, least-le (a .x)) in
     (ok, low)
 
@@ -79,8 +90,11 @@ returns-3 c =
     let f = c .before .before .before .before .before .before .before .fill in
     let g = c .before .before .before .fill2 in
     local-answer (now (a .nodes)) (now (a .rows)) (a .p) (a .x) (l .result)
-    (sym (c .before .before .before .before .before .before .before .before .before .before .before .fits2 .ensures) ∙ not-false (c .before .before .before .before .before .before .before .before .before .before .before .fits2 .result) (c .before .before .before .before .before .before .before .before .before .before .if1 .left)) (l .ensures)
-    (f .last .1 .1 .1 .1 .1 .1 .1 .0) (f .ensures .0) (a .local) (c .found2 .result) (not-false (a .local) (c .before .before .before .before .before .before .if2 .left))
+    (sym (c .before .before .before .before .before .before .before .before .before .before .before .fits2 .ensures)
+    ∙ not-false (c .before .before .before .before .before .before .before .before .before .before .before .fits2 .result)
+    (c .before .before .before .before .before .before .before .before .before .before .if1 .left)) (l .ensures)
+    (f .last .1 .1 .1 .1 .1 .1 .1 .0) (f .ensures .0) (a .local) (c .found2 .result)
+    (not-false (a .local) (c .before .before .before .before .before .before .if2 .left))
     (g .last .1 .1 .1 .1 .1 .1 .1 .0) (g .ensures .0) (c .found2 .ensures)
 
 pub breaks-spec : {M : Type 1} → statement M

@@ -26,7 +26,8 @@ use Rattle.checker_tables.proofs.breaks.Reads as breaks-reads
 use Rattle.checker_tables.proofs.touched.Reads as touched-reads
 
 -- the nodes of an accepted outline fit
-told : (nodes : List ℕ) (local : Bool) (rows : List ℕ) (p x : ℕ) (r answer : Bool) → OutlineOk (nodesOf nodes) → SearchedIf (hasRoom nodes) nodes local rows p x r
+told : (nodes : List ℕ) (local : Bool) (rows : List ℕ) (p x : ℕ) (r answer : Bool) → OutlineOk (nodesOf nodes)
+    → SearchedIf (hasRoom nodes) nodes local rows p x r
     → r ≡ answer
     → SearchedIn nodes local rows p x answer
 told nodes local rows p x r answer ok h e =
@@ -57,7 +58,8 @@ returns c =
     let x = c .before .before .before .before .before .loop .x in
     let b = c .before .breaks in
     found {x = x} (let h = c .before .before .before .before .loop-test .taken in omega arith)
-    (told (now (a .nodes)) (a .local) (now (a .rows)) (a .p) x (b .result) true (c .before .before .before .before .before .before .before .pre)
+    (told (now (a .nodes)) (a .local) (now (a .rows)) (a .p) x (b .result) true
+    (c .before .before .before .before .before .before .before .pre)
     (b .ensures)
     (c .if2 .taken))
 

@@ -42,9 +42,11 @@ returns-3 c =
     let e = c .before .before .before .before .before .edge-table-ok in
     let n = c .before .before .before .node-table-ok in
     let p = c .before .lowest in
-    answered (a .local) (a .edges .now) (a .nodes .now) (sym (e .ensures) ∙ not-false (e .result) (c .before .before .before .before .if1 .left))
+    answered (a .local) (a .edges .now) (a .nodes .now)
+    (sym (e .ensures) ∙ not-false (e .result) (c .before .before .before .before .if1 .left))
     (sym (n .ensures) ∙ not-false (n .result) (c .before .before .if2 .left))
-    (subst (Checked (a .local) (edgesOf (a .edges .now)) (nodesOf (a .nodes .now))) (accepted-number (p .result) (c .if3 .taken)) (p .ensures))
+    (subst (Checked (a .local) (edgesOf (a .edges .now)) (nodesOf (a .nodes .now))) (accepted-number (p .result) (c .if3 .taken))
+    (p .ensures))
 
 cast-t7 : tie.Need-cast-t7
 cast-t7 c = search needs
@@ -55,7 +57,8 @@ returns-4 c =
     let e = c .before .before .before .before .before .edge-table-ok in
     let n = c .before .before .before .node-table-ok in
     let p = c .before .lowest in
-    answered (a .local) (a .edges .now) (a .nodes .now) (sym (e .ensures) ∙ not-false (e .result) (c .before .before .before .before .if1 .left))
+    answered (a .local) (a .edges .now) (a .nodes .now)
+    (sym (e .ensures) ∙ not-false (e .result) (c .before .before .before .before .if1 .left))
     (sym (n .ensures) ∙ not-false (n .result) (c .before .before .if2 .left))
     (subst (Checked (a .local) (edgesOf (a .edges .now)) (nodesOf (a .nodes .now))) (named-number (p .result) (c .if3 .left)) (p .ensures))
 

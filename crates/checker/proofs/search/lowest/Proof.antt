@@ -34,7 +34,8 @@ returns c =
     let h = c .before .before .before .before .before .before .pre in
     let l = c .before .before .before .loop in
     let k = c .before .before .loop-test .taken in
-    named-lowest (a .local) (now (a .edges)) (now (a .nodes)) (h .0) (h .1) (l .p) (omega arith) (c .before .leaves .ensures .0 (c .if1 .taken))
+    named-lowest (a .local) (now (a .edges)) (now (a .nodes)) (h .0) (h .1) (l .p) (omega arith)
+    (c .before .leaves .ensures .0 (c .if1 .taken))
     (l .inv .1)
 
 add-p : tie.Need-add-p Inv-loop μ-loop

@@ -33,7 +33,8 @@ returns-2 c =
     let a = c .before .before .before .before .before .args in
     let h = c .pass-by .ensures in (
       h .0
-          ∙ ap (λ (v : ℕ). entered (arrivalsOf (a .local) (rowsIn (now (a .rows))) (a .p) (now (a .t)) (a .k) (a .o) (a .m) v (formOf (a .f)))
+          ∙ ap (λ (v : ℕ). entered (arrivalsOf (a .local) (rowsIn (now (a .rows))) (a .p) (now (a .t)) (a .k) (a .o) (a .m) v
+          (formOf (a .f)))
           (now (a .u)))
           (c .before .before .before .come-to .ensures),
       (h .1 .0, h .1 .1),

@@ -73,7 +73,8 @@ loop-again c =
     let h = c .before .before .before .before .loop-test .taken in
     let e : w ≡ f (l .k) (l .u) =
     c .before .pass-node .ensures .0
-    ∙ ap (λ (d : Node). passNode (a .local) (rowsIn (a .rows .now)) (a .p) (byOpen (a .opened .now) (a .shut .now)) (a .l) (l .k) (formOf d) (l .u))
+    ∙ ap (λ (d : Node). passNode (a .local) (rowsIn (a .rows .now)) (a .p) (byOpen (a .opened .now) (a .shut .now)) (a .l) (l .k) (formOf d)
+    (l .u))
     (c .before .before .before .node .ensures) in
     let wide : Wide (a .u .now) → Wide w = λ h. c .before .pass-node .ensures .1 .1 (l .inv .1 .1 .1 h) in
     let made = turn f grows (l .k) (a .u .now) (l .u) w (l .changed) (c .if1 .changed)

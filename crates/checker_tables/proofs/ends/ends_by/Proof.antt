@@ -145,7 +145,8 @@ returns-10 c =
     let a = c .before .before .before .args in
     let f = a .f in
     let n = c .match .rest in
-    subst (λ (o : Option Form). ByState states (λ q. endsOf (rowsIn (now (a .rows))) (a .x) (resetsIf (a .reset) (a .p) (now (a .opened))) (now (a .t)) (a .k) (a .m) q o)
+    subst (λ (o : Option Form). ByState states
+    (λ q. endsOf (rowsIn (now (a .rows))) (a .x) (resetsIf (a .reset) (a .p) (now (a .opened))) (now (a .t)) (a .k) (a .m) q o)
     (replicate states 0))
     (sym (no-form (f .kind) (f .a) (f .b) (n .0 .0 .0 .0 .0 .0 .0 .0 .1) (n .0 .0 .0 .0 .0 .0 .0 .1) (n .0 .0 .0 .0 .0 .0 .1)
     (n .0 .0 .0 .0 .0 .1) (n .0 .0 .0 .0 .1) (n .0 .0 .0 .1) (n .0 .0 .1) (n .0 .1) (n .1)))

@@ -48,7 +48,8 @@ positive : (s : ℕ) → (s ≡ 0 → ⊥) → 0 < s
 positive s d = omega arith
 
 -- the highest node that is left
-module _ (nodes rows : List ℕ) (x : ℕ) (resets : Resets) (l : ℕ) (fit : NodesFit nodes) (t : List ℕ) (s k : ℕ) (w : Done nodes rows x resets l t s) (low : 2 ^ k ≤ s)
+module _ (nodes rows : List ℕ) (x : ℕ) (resets : Resets) (l : ℕ) (fit : NodesFit nodes) (t : List ℕ) (s k : ℕ)
+    (w : Done nodes rows x resets l t s) (low : 2 ^ k ≤ s)
     (high : s < 2 ^ suc k) where
   abbrev n : ℕ
   n = length nodes / nodeFields
@@ -76,12 +77,14 @@ module _ (nodes rows : List ℕ) (x : ℕ) (resets : Resets) (l : ℕ) (fit : No
         subst (λ (b : ℕ). leftOf u (s - b) < leftOf t s) (sym (shl-node k small))
         (still-less (rowsIn rows) x resets l n (formsIn nodes) (fit .few) t u s k w low high e g)
 
-    module _ (lent : WideLent resets) (less : l < meanings) (readers : List ℕ) (r : readers ≡ readersOf n (formsIn nodes)) (g : grown t u ≡ true) where
+    module _ (lent : WideLent resets) (less : l < meanings) (readers : List ℕ) (r : readers ≡ readersOf n (formsIn nodes))
+        (g : grown t u ≡ true) where
       more : Done nodes rows x resets l u (bitOr (s - bit) (getD readers k 0))
       more =
           subst (Done nodes rows x resets l u)
           (ap₂ (λ (b : ℕ) (m : List ℕ). bitOr (s - b) (getD m k 0)) (sym (shl-node k small)) (sym r))
-          (more-working (rowsIn rows) x resets l n (formsIn nodes) (fit .few) t u s k w low high e lent (named-forms nodes fit) (omega arith) g)
+          (more-working (rowsIn rows) x resets l n (formsIn nodes) (fit .few) t u s k w low high e lent (named-forms nodes fit)
+          (omega arith) g)
 
       more-falls : leftOf u (bitOr (s - bit) (getD readers k 0)) < leftOf t s
       more-falls =
@@ -104,11 +107,13 @@ all-requires c κs = c .before .before .before .pre .0 .few
 loop-holds : tie.Need-loop-holds Inv-loop μ-loop
 loop-holds c =
     let a = c .before .before .before .before .args in
+    let resets = resetsIf (a .reset) (a .p) (a .opened .now) in
     let p = c .before .before .before .before .pre in
-    subst (Done (a .nodes .now) (a .rows .now) (a .x) (resetsIf (a .reset) (a .p) (a .opened .now)) (a .l) (a .t .now)) (sym (c .all .ensures))
-    (subst (λ (u : List ℕ). Done (a .nodes .now) (a .rows .now) (a .x) (resetsIf (a .reset) (a .p) (a .opened .now)) (a .l) u (2 ^ (length (a .nodes .now) / nodeFields) - 1))
+    subst (Done (a .nodes .now) (a .rows .now) (a .x) resets (a .l) (a .t .now)) (sym (c .all .ensures))
+    (subst (λ (u : List ℕ). Done (a .nodes .now) (a .rows .now) (a .x) resets (a .l) u (2 ^ (length (a .nodes .now) / nodeFields) - 1))
     (sym (p .1 .1 .1))
-    (working-start (rowsIn (a .rows .now)) (a .x) (resetsIf (a .reset) (a .p) (a .opened .now)) (a .l) (length (a .nodes .now) / nodeFields) (formsIn (a .nodes .now)) (p .0 .few)))
+    (working-start (rowsIn (a .rows .now)) (a .x) resets (a .l) (length (a .nodes .now) / nodeFields) (formsIn (a .nodes .now))
+    (p .0 .few)))
 
 highest-requires : tie.Need-highest-requires Inv-loop μ-loop
 highest-requires c κs = positive (c .before .loop .left) (c .loop-test .taken)
@@ -116,61 +121,68 @@ highest-requires c κs = positive (c .before .loop .left) (c .loop-test .taken)
 cast-left : tie.Need-cast-left Inv-loop μ-loop
 cast-left c =
     let a = c .before .before .before .before .before .before .before .args in
+    let resets = resetsIf (a .reset) (a .p) (a .opened .now) in
     let p = c .before .before .before .before .before .before .before .pre in
     let l = c .before .before .loop in
     let h = c .highest in
-    let k = small (a .nodes .now) (a .rows .now) (a .x) (resetsIf (a .reset) (a .p) (a .opened .now)) (a .l) (p .0) (l .t) (l .left) (h .result) (l .inv) (h .ensures .0)
+    let k = small (a .nodes .now) (a .rows .now) (a .x) resets (a .l) (p .0) (l .t) (l .left) (h .result) (l .inv) (h .ensures .0)
     (h .ensures .1) in
     omega arith
 
 cast-left-2 : tie.Need-cast-left-2 Inv-loop μ-loop
 cast-left-2 c =
     let a = c .before .before .before .before .before .before .before .args in
+    let resets = resetsIf (a .reset) (a .p) (a .opened .now) in
     let p = c .before .before .before .before .before .before .before .pre in
     let l = c .before .before .loop in
     let h = c .highest in
-    let k = small (a .nodes .now) (a .rows .now) (a .x) (resetsIf (a .reset) (a .p) (a .opened .now)) (a .l) (p .0) (l .t) (l .left) (h .result) (l .inv) (h .ensures .0)
+    let k = small (a .nodes .now) (a .rows .now) (a .x) resets (a .l) (p .0) (l .t) (l .left) (h .result) (l .inv) (h .ensures .0)
     (h .ensures .1) in
     omega arith
 
 shl-left : tie.Need-shl-left Inv-loop μ-loop
 shl-left c =
     let a = c .before .before .before .before .before .before .before .args in
+    let resets = resetsIf (a .reset) (a .p) (a .opened .now) in
     let p = c .before .before .before .before .before .before .before .pre in
     let l = c .before .before .loop in
     let h = c .highest in
-    let k = small (a .nodes .now) (a .rows .now) (a .x) (resetsIf (a .reset) (a .p) (a .opened .now)) (a .l) (p .0) (l .t) (l .left) (h .result) (l .inv) (h .ensures .0)
+    let k = small (a .nodes .now) (a .rows .now) (a .x) resets (a .l) (p .0) (l .t) (l .left) (h .result) (l .inv) (h .ensures .0)
     (h .ensures .1) in
     omega arith
 
 sub-left : tie.Need-sub-left Inv-loop μ-loop
 sub-left c =
     let a = c .before .before .before .before .before .before .before .args in
+    let resets = resetsIf (a .reset) (a .p) (a .opened .now) in
     let p = c .before .before .before .before .before .before .before .pre in
     let l = c .before .before .loop in
     let h = c .highest in
-    bit-low (a .nodes .now) (a .rows .now) (a .x) (resetsIf (a .reset) (a .p) (a .opened .now)) (a .l) (p .0) (l .t) (l .left) (h .result) (l .inv) (h .ensures .0)
+    bit-low (a .nodes .now) (a .rows .now) (a .x) resets (a .l) (p .0) (l .t) (l .left) (h .result) (l .inv) (h .ensures .0)
     (h .ensures .1)
 
 node-requires : tie.Need-node-requires Inv-loop μ-loop
 node-requires c κs =
     let a = c .before .before .before .before .before .before .before .args in
+    let resets = resetsIf (a .reset) (a .p) (a .opened .now) in
     let p = c .before .before .before .before .before .before .before .pre in
     let l = c .before .before .loop in
     let h = c .highest in
-    inside (a .nodes .now) (a .rows .now) (a .x) (resetsIf (a .reset) (a .p) (a .opened .now)) (a .l) (p .0) (l .t) (l .left) (h .result) (l .inv) (h .ensures .0)
+    inside (a .nodes .now) (a .rows .now) (a .x) resets (a .l) (p .0) (l .t) (l .left) (h .result) (l .inv) (h .ensures .0)
     (h .ensures .1)
 
 settle-node-requires : tie.Need-settle-node-requires Inv-loop μ-loop
 settle-node-requires c κs =
     let a = c .before .before .before .before .before .before .before .before .before .args in
+    let resets = resetsIf (a .reset) (a .p) (a .opened .now) in
     let p = c .before .before .before .before .before .before .before .before .before .pre in
     let l = c .before .before .before .before .loop in
     let h = c .before .before .highest in
-    let k = inside (a .nodes .now) (a .rows .now) (a .x) (resetsIf (a .reset) (a .p) (a .opened .now)) (a .l) (p .0) (l .t) (l .left) (h .result) (l .inv) (h .ensures .0)
+    let k = inside (a .nodes .now) (a .rows .now) (a .x) resets (a .l) (p .0) (l .t) (l .left) (h .result) (l .inv) (h .ensures .0)
     (h .ensures .1) in
     let few : length (a .nodes .now) / nodeFields ≤ mostNodes = p .0 .few in (
-      working-length (rowsIn (a .rows .now)) (a .x) (resetsIf (a .reset) (a .p) (a .opened .now)) (a .l) (length (a .nodes .now) / nodeFields) (formsIn (a .nodes .now)) (p .0 .few)
+      working-length (rowsIn (a .rows .now)) (a .x) resets (a .l) (length (a .nodes .now) / nodeFields) (formsIn (a .nodes .now))
+          (p .0 .few)
           (l .inv),
       (subst Small (sym (c .before .node .ensures)) (p .0 .small (h .result) k), (p .1 .0, omega arith)),
     )
@@ -178,80 +190,86 @@ settle-node-requires c κs =
 mul-left : tie.Need-mul-left Inv-loop μ-loop
 mul-left c =
     let a = c .before .before .before .before .before .before .before .before .before .before .before .args in
+    let resets = resetsIf (a .reset) (a .p) (a .opened .now) in
     let p = c .before .before .before .before .before .before .before .before .before .before .before .pre in
     let l = c .before .before .before .before .before .before .loop in
     let h = c .before .before .before .before .highest in
-    let k = small (a .nodes .now) (a .rows .now) (a .x) (resetsIf (a .reset) (a .p) (a .opened .now)) (a .l) (p .0) (l .t) (l .left) (h .result) (l .inv) (h .ensures .0)
+    let k = small (a .nodes .now) (a .rows .now) (a .x) resets (a .l) (p .0) (l .t) (l .left) (h .result) (l .inv) (h .ensures .0)
     (h .ensures .1) in
     omega arith
 
 array-read-left : tie.Need-array-read-left Inv-loop μ-loop
 array-read-left c =
     let a = c .before .before .before .before .before .before .before .before .before .before .before .args in
+    let resets = resetsIf (a .reset) (a .p) (a .opened .now) in
     let p = c .before .before .before .before .before .before .before .before .before .before .before .pre in
     let l = c .before .before .before .before .before .before .loop in
     let h = c .before .before .before .before .highest in
-    small (a .nodes .now) (a .rows .now) (a .x) (resetsIf (a .reset) (a .p) (a .opened .now)) (a .l) (p .0) (l .t) (l .left) (h .result) (l .inv) (h .ensures .0)
+    small (a .nodes .now) (a .rows .now) (a .x) resets (a .l) (p .0) (l .t) (l .left) (h .result) (l .inv) (h .ensures .0)
     (h .ensures .1)
 
 loop-less : tie.Need-loop-less Inv-loop μ-loop
 loop-less c =
     let a = c .before .before .before .before .before .before .before .before .before .before .before .args in
+    let resets = resetsIf (a .reset) (a .p) (a .opened .now) in
     let p = c .before .before .before .before .before .before .before .before .before .before .before .pre in
     let r = c .before .before .before .before .before .before .before .before .readers2 in
     let l = c .before .before .before .before .before .before .loop in
     let h = c .before .before .before .before .highest in
     let s = c .before .settle-node in
-    let e : s .last .0 ≡ settleNode (rowsIn (a .rows .now)) (a .x) (resetsIf (a .reset) (a .p) (a .opened .now)) (a .l) (h .result) (formsIn (a .nodes .now) (h .result)) (l .t) =
+    let e : s .last .0 ≡ settleNode (rowsIn (a .rows .now)) (a .x) resets (a .l) (h .result) (formsIn (a .nodes .now) (h .result)) (l .t) =
     s .ensures .0
-    ∙ ap (λ (d : Node). settleNode (rowsIn (a .rows .now)) (a .x) (resetsIf (a .reset) (a .p) (a .opened .now)) (a .l) (h .result) (formOf d) (l .t))
+    ∙ ap (λ (d : Node). settleNode (rowsIn (a .rows .now)) (a .x) resets (a .l) (h .result) (formOf d) (l .t))
     (c .before .before .before .node .ensures) in
-    more-falls (a .nodes .now) (a .rows .now) (a .x) (resetsIf (a .reset) (a .p) (a .opened .now)) (a .l) (p .0) (l .t) (l .left) (h .result) (l .inv) (h .ensures .0)
+    more-falls (a .nodes .now) (a .rows .now) (a .x) resets (a .l) (p .0) (l .t) (l .left) (h .result) (l .inv) (h .ensures .0)
     (h .ensures .1) (s .last .0) e (lent-wide (a .reset) (a .p) (a .opened .now) (p .1 .1 .0)) (p .1 .0) (r .last .1 .0) (r .ensures)
     (sym (s .ensures .1) ∙ c .if1 .taken)
 
 loop-again : tie.Need-loop-again Inv-loop μ-loop
 loop-again c =
     let a = c .before .before .before .before .before .before .before .before .before .before .before .args in
+    let resets = resetsIf (a .reset) (a .p) (a .opened .now) in
     let p = c .before .before .before .before .before .before .before .before .before .before .before .pre in
     let r = c .before .before .before .before .before .before .before .before .readers2 in
     let l = c .before .before .before .before .before .before .loop in
     let h = c .before .before .before .before .highest in
     let s = c .before .settle-node in
-    let e : s .last .0 ≡ settleNode (rowsIn (a .rows .now)) (a .x) (resetsIf (a .reset) (a .p) (a .opened .now)) (a .l) (h .result) (formsIn (a .nodes .now) (h .result)) (l .t) =
+    let e : s .last .0 ≡ settleNode (rowsIn (a .rows .now)) (a .x) resets (a .l) (h .result) (formsIn (a .nodes .now) (h .result)) (l .t) =
     s .ensures .0
-    ∙ ap (λ (d : Node). settleNode (rowsIn (a .rows .now)) (a .x) (resetsIf (a .reset) (a .p) (a .opened .now)) (a .l) (h .result) (formOf d) (l .t))
+    ∙ ap (λ (d : Node). settleNode (rowsIn (a .rows .now)) (a .x) resets (a .l) (h .result) (formOf d) (l .t))
     (c .before .before .before .node .ensures) in
-    more (a .nodes .now) (a .rows .now) (a .x) (resetsIf (a .reset) (a .p) (a .opened .now)) (a .l) (p .0) (l .t) (l .left) (h .result) (l .inv) (h .ensures .0)
+    more (a .nodes .now) (a .rows .now) (a .x) resets (a .l) (p .0) (l .t) (l .left) (h .result) (l .inv) (h .ensures .0)
     (h .ensures .1) (s .last .0) e (lent-wide (a .reset) (a .p) (a .opened .now) (p .1 .1 .0)) (p .1 .0) (r .last .1 .0) (r .ensures)
     (sym (s .ensures .1) ∙ c .if1 .taken)
 
 loop-less-2 : tie.Need-loop-less-2 Inv-loop μ-loop
 loop-less-2 c =
     let a = c .before .before .before .before .before .before .before .before .before .before .before .args in
+    let resets = resetsIf (a .reset) (a .p) (a .opened .now) in
     let p = c .before .before .before .before .before .before .before .before .before .before .before .pre in
     let l = c .before .before .before .before .before .before .loop in
     let h = c .before .before .before .before .highest in
     let s = c .before .settle-node in
-    let e : s .last .0 ≡ settleNode (rowsIn (a .rows .now)) (a .x) (resetsIf (a .reset) (a .p) (a .opened .now)) (a .l) (h .result) (formsIn (a .nodes .now) (h .result)) (l .t) =
+    let e : s .last .0 ≡ settleNode (rowsIn (a .rows .now)) (a .x) resets (a .l) (h .result) (formsIn (a .nodes .now) (h .result)) (l .t) =
     s .ensures .0
-    ∙ ap (λ (d : Node). settleNode (rowsIn (a .rows .now)) (a .x) (resetsIf (a .reset) (a .p) (a .opened .now)) (a .l) (h .result) (formOf d) (l .t))
+    ∙ ap (λ (d : Node). settleNode (rowsIn (a .rows .now)) (a .x) resets (a .l) (h .result) (formOf d) (l .t))
     (c .before .before .before .node .ensures) in
-    still-falls (a .nodes .now) (a .rows .now) (a .x) (resetsIf (a .reset) (a .p) (a .opened .now)) (a .l) (p .0) (l .t) (l .left) (h .result) (l .inv) (h .ensures .0)
+    still-falls (a .nodes .now) (a .rows .now) (a .x) resets (a .l) (p .0) (l .t) (l .left) (h .result) (l .inv) (h .ensures .0)
     (h .ensures .1) (s .last .0) e (sym (s .ensures .1) ∙ c .if1 .left)
 
 loop-again-2 : tie.Need-loop-again-2 Inv-loop μ-loop
 loop-again-2 c =
     let a = c .before .before .before .before .before .before .before .before .before .before .before .args in
+    let resets = resetsIf (a .reset) (a .p) (a .opened .now) in
     let p = c .before .before .before .before .before .before .before .before .before .before .before .pre in
     let l = c .before .before .before .before .before .before .loop in
     let h = c .before .before .before .before .highest in
     let s = c .before .settle-node in
-    let e : s .last .0 ≡ settleNode (rowsIn (a .rows .now)) (a .x) (resetsIf (a .reset) (a .p) (a .opened .now)) (a .l) (h .result) (formsIn (a .nodes .now) (h .result)) (l .t) =
+    let e : s .last .0 ≡ settleNode (rowsIn (a .rows .now)) (a .x) resets (a .l) (h .result) (formsIn (a .nodes .now) (h .result)) (l .t) =
     s .ensures .0
-    ∙ ap (λ (d : Node). settleNode (rowsIn (a .rows .now)) (a .x) (resetsIf (a .reset) (a .p) (a .opened .now)) (a .l) (h .result) (formOf d) (l .t))
+    ∙ ap (λ (d : Node). settleNode (rowsIn (a .rows .now)) (a .x) resets (a .l) (h .result) (formOf d) (l .t))
     (c .before .before .before .node .ensures) in
-    still (a .nodes .now) (a .rows .now) (a .x) (resetsIf (a .reset) (a .p) (a .opened .now)) (a .l) (p .0) (l .t) (l .left) (h .result) (l .inv) (h .ensures .0)
+    still (a .nodes .now) (a .rows .now) (a .x) resets (a .l) (p .0) (l .t) (l .left) (h .result) (l .inv) (h .ensures .0)
     (h .ensures .1) (s .last .0) e (sym (s .ensures .1) ∙ c .if1 .left)
 
 returns : tie.Need-returns Inv-loop μ-loop

@@ -37,7 +37,11 @@ returns c =
     subst (λ (d : Bool). ByState states (λ q. cond d (getD (now (a .opened)) (i + 0) 0) (getD (now (a .t)) (i + q) 0))
     (replicate states (getD (now (a .opened)) i 0)))
     (sym (c .before .if1 .taken))
-    (record { len = refl; held = λ q l. getD-replicate states q (getD (now (a .opened)) i 0) 0 l ∙ ap (λ (j : ℕ). getD (now (a .opened)) j 0) e })
+    (record {
+      len = refl;
+      held = λ q l. getD-replicate states q (getD (now (a .opened)) i 0) 0 l
+          ∙ ap (λ (j : ℕ). getD (now (a .opened)) j 0) e;
+    })
 
 mul-entries : tie.Need-mul-entries
 mul-entries c = search needs

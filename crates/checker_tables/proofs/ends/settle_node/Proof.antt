@@ -23,11 +23,13 @@ use Rattle.checker_tables.proofs.ends.join_sets.Reads as join-sets-read
 abbrev settles : List ℕ → ℕ → Resets → ℕ → ℕ → Node → ℕ → List ℕ → List ℕ
 settles rows x resets l k f i = settleMeaning (rowsIn rows) x resets k (formOf f) (l + i)
 
-settles-grow : (rows : List ℕ) (x : ℕ) (resets : Resets) (l k : ℕ) (f : Node) → (i : ℕ) (t : List ℕ) → Grows t (settles rows x resets l k f i t)
+settles-grow : (rows : List ℕ) (x : ℕ) (resets : Resets) (l k : ℕ) (f : Node) → (i : ℕ) (t : List ℕ)
+    → Grows t (settles rows x resets l k f i t)
 settles-grow rows x resets l k f i t = meaning-grows (rowsIn rows) x resets k (formOf f) (l + i) t
 
 abbrev Inv-loop : tie.InvT-loop
-Inv-loop t₀ rows opened reset p x l k f n changed₀ i₀ t changed i = (i ≤ n) × ((t ≡ repeat (settles rows x (resetsIf reset p opened) l k f) i t₀) × (changed ≡ grown t₀ t))
+Inv-loop t₀ rows opened reset p x l k f n changed₀ i₀ t changed i = (i ≤ n) ×
+    ((t ≡ repeat (settles rows x (resetsIf reset p opened) l k f) i t₀) × (changed ≡ grown t₀ t))
 
 abbrev μ-loop : tie.MeasureT-loop
 μ-loop t₀ rows opened reset p x l k f n changed₀ i₀ t changed i = n - i
@@ -57,8 +59,9 @@ add-join-sets c = search needs
 join-sets-requires : tie.Need-join-sets-requires Inv-loop μ-loop
 join-sets-requires c κs =
     let a = c .before .before .before .before .before .args in
-    let f = settles (a .rows .now) (a .x) (resetsIf (a .reset) (a .p) (a .opened .now)) (a .l) (a .k) (a .f) in
-    let grows = settles-grow (a .rows .now) (a .x) (resetsIf (a .reset) (a .p) (a .opened .now)) (a .l) (a .k) (a .f) in
+    let resets = resetsIf (a .reset) (a .p) (a .opened .now) in
+    let f = settles (a .rows .now) (a .x) resets (a .l) (a .k) (a .f) in
+    let grows = settles-grow (a .rows .now) (a .x) resets (a .l) (a .k) (a .f) in
     let p = c .before .before .before .before .before .pre in
     let l = c .before .before .before .before .loop in
     let h = c .before .before .before .loop-test .taken in
@@ -73,16 +76,17 @@ loop-less c = search needs
 loop-again : tie.Need-loop-again Inv-loop μ-loop
 loop-again c =
     let a = c .before .before .before .before .before .before .before .args in
+    let resets = resetsIf (a .reset) (a .p) (a .opened .now) in
     let l = c .before .before .before .before .before .before .loop in
-    let f = settles (a .rows .now) (a .x) (resetsIf (a .reset) (a .p) (a .opened .now)) (a .l) (a .k) (a .f) in
-    let grows = settles-grow (a .rows .now) (a .x) (resetsIf (a .reset) (a .p) (a .opened .now)) (a .l) (a .k) (a .f) in
+    let f = settles (a .rows .now) (a .x) resets (a .l) (a .k) (a .f) in
+    let grows = settles-grow (a .rows .now) (a .x) resets (a .l) (a .k) (a .f) in
     let m = a .l + l .i in
     let v = c .before .before .before .ends-by in
     let j = c .before .join-sets in
     let e : j .last .0 ≡ f (l .i) (l .t) =
     j .ensures .0
     ∙ each-same (l .t) (base (a .k) m) (λ q. getD (v .result) q 0)
-    (λ q. endsOf (rowsIn (a .rows .now)) (a .x) (resetsIf (a .reset) (a .p) (a .opened .now)) (l .t) (a .k) m q (formOf (a .f))) (v .ensures .held) in
+    (λ q. endsOf (rowsIn (a .rows .now)) (a .x) resets (l .t) (a .k) m q (formOf (a .f))) (v .ensures .held) in
     let made = turn f grows (l .i) (a .t .now) (l .t) (j .last .0) (l .changed) (c .if1 .changed)
     (j .result) (l .inv .1) e (j .ensures .1)
     (by-cases (c .if1 .came) (λ w. inl (w .0 .taken, w .1)) (λ w. inr (w .0 .left, w .1))) in

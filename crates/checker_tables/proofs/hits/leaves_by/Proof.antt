@@ -85,7 +85,8 @@ returns-5 c =
     let a = c .before .before .before .before .args in
     let n = c .match .rest in
     sym
-    (no-step (a .local) (rowsIn (now (a .rows))) (a .p) (a .x) (now (a .u)) (a .k) (a .m) (a .f .kind) (a .f .a) (a .f .b) (n .0 .0 .0 .1) (n .0 .0 .1)
+    (no-step (a .local) (rowsIn (now (a .rows))) (a .p) (a .x) (now (a .u)) (a .k) (a .m) (a .f .kind) (a .f .a) (a .f .b) (n .0 .0 .0 .1)
+    (n .0 .0 .1)
     (n .0 .1) (n .1))
 
 pub leaves-by-spec : {M : Type 1} → statement M
