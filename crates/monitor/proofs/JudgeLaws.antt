@@ -1,7 +1,7 @@
 -- The judge's answer to a step, case by case.
 use Prim.Native.Nat.{ℕ, zero, suc, _<_, _≤_}
 use mathlib.Core.Path.{_≡_, refl}
-use mathlib.Core.Bool.{true, false}
+use mathlib.Core.Bool.{Bool, true, false}
 use mathlib.Core.List.{List}
 use mathlib.Core.Option.{none, some}
 use native.Mathlib.Omega.{arith}
@@ -20,12 +20,12 @@ use Rattle.monitor_state.proofs.Places.{known}
 
 -- ── A step that was read ──
 
-module _ (es : List Edge) (s : State) (step : Step) where
-  pub step-refused : (n : ℕ) → refusal s step ≡ some n → stepped es s step ≡ refuse n s
+module _ (local : Bool) (es : List Edge) (s : State) (step : Step) where
+  pub step-refused : (n : ℕ) → refusal s step ≡ some n → stepped local es s step ≡ refuse n s
   unfolding judgeStep
   step-refused n e = rw e
 
-  pub step-taken : (t : State) → refusal s step ≡ none → t ≡ after es s step → stepped es s step ≡ settle (broken t) s t
+  pub step-taken : (t : State) → refusal s step ≡ none → t ≡ after local es s step → stepped local es s step ≡ settle (broken t) s t
   unfolding judgeStep
   step-taken t e f = rw (e, f)
 
@@ -82,21 +82,21 @@ module _ (s : State) (r : ℕ) where
 
 -- ── The step as it is handed over ──
 
-module _ (edges : List ℕ) (s : State) (raw : RawStep) where
-  pub table-refused : edgeTable edges ≡ false → judgeOf edges s raw ≡ refuse 41 s
+module _ (edges : List ℕ) (local : Bool) (s : State) (raw : RawStep) where
+  pub table-refused : edgeTable edges ≡ false → judgeOf edges local s raw ≡ refuse 41 s
   unfolding judgeOf
   table-refused e = simp e
 
   module _ (t : edgeTable edges ≡ true) where
-    pub state-refused : stateOk s ≡ false → judgeOf edges s raw ≡ refuse 42 s
+    pub state-refused : stateOk s ≡ false → judgeOf edges local s raw ≡ refuse 42 s
     unfolding judgeOf
     state-refused e = simp (t, e)
 
     module _ (w : stateOk s ≡ true) where
-      pub halted-refused : s .halted ≡ true → judgeOf edges s raw ≡ refuse 20 s
+      pub halted-refused : s .halted ≡ true → judgeOf edges local s raw ≡ refuse 20 s
       unfolding judgeOf
       halted-refused e = simp (t, w, e)
 
-      pub judged : s .halted ≡ false → judgeOf edges s raw ≡ judgeRead (edgesOf edges) s (stepOf raw)
+      pub judged : s .halted ≡ false → judgeOf edges local s raw ≡ judgeRead local (edgesOf edges) s (stepOf raw)
       unfolding judgeOf
       judged h = simp (t, w, h)

@@ -71,10 +71,10 @@ unfolding refuse
 refused-parts s n t e = rw e
 
 -- a step that was read and is refused
-pub refused-step : (es : List Edge) (s : State) (step : Step) (n : ℕ) (t : Told)
+pub refused-step : (local : Bool) (es : List Edge) (s : State) (step : Step) (n : ℕ) (t : Told)
     → t ≡ record { answer = Refused n; count = s .count; depth = s .depth; halted = s .halted } → refusal s step ≡ some n
-    → toldIn t s ≡ stepped es s step
-refused-step es s step n t e f = refused-parts s n t e ∙ sym (step-refused es s step n f)
+    → toldIn t s ≡ stepped local es s step
+refused-step local es s step n t e f = refused-parts s n t e ∙ sym (step-refused local es s step n f)
 
 pub created-few : (count : ℕ) (created : List ℕ) → createdOk count created ≡ true → count ≤ mostCreated
 unfolding createdOk
@@ -103,13 +103,13 @@ module _ (s t : State) (bad : ℕ) where
       go false = refl
 
   -- a step that is taken
-  pub settled-step : (es : List Edge) (step : Step) (u : Told) {sets possible created unclosed order : List ℕ} → t .halted ≡ false
-      → bad ≡ brokenIn (t .possible) (t .unclosed) → refusal s step ≡ none → t ≡ after es s step → u ≡ toldOf bad (sizesOf s) (sizesOf t)
+  pub settled-step : (local : Bool) (es : List Edge) (step : Step) (u : Told) {sets possible created unclosed order : List ℕ} → t .halted ≡ false
+      → bad ≡ brokenIn (t .possible) (t .unclosed) → refusal s step ≡ none → t ≡ after local es s step → u ≡ toldOf bad (sizesOf s) (sizesOf t)
       → Left (t .sets) (s .sets) sets → Left (t .possible) (s .possible) possible → Left (t .created) (s .created) created
       → Left (t .unclosed) (s .unclosed) unclosed → Left (t .order) (s .order) order
-      → judgementOf u sets possible created unclosed order ≡ stepped es s step
-  settled-step es step u h b n e told p q r v w =
-      rw (told, p, q, r, v, w) (settle-parts h) ∙ ap (λ (k : ℕ). settle k s t) (b ∙ sym (parts-broken t)) ∙ sym (step-taken es s step t n e)
+      → judgementOf u sets possible created unclosed order ≡ stepped local es s step
+  settled-step local es step u h b n e told p q r v w =
+      rw (told, p, q, r, v, w) (settle-parts h) ∙ ap (λ (k : ℕ). settle k s t) (b ∙ sym (parts-broken t)) ∙ sym (step-taken local es s step t n e)
 
   -- an array that the step does not change
   pub kept : (l : List ℕ) → Left l l l
@@ -139,7 +139,7 @@ movedTo s n sets created count = record {
   halted = s .halted;
 }
 
-module _ (es : List Edge) (s : State) (r : ℕ) where
+module _ (local : Bool) (es : List Edge) (s : State) (r : ℕ) where
   -- the place of a resource that is created now
   place-made : s .count < length (s .created) → statics ≤ r → listed r (live s) ≡ false
       → placeIn r (take (s .count + 1) (set (s .created) (s .count) r)) ≡ firstCreated + s .count
@@ -156,7 +156,7 @@ module _ (es : List Edge) (s : State) (r : ℕ) where
   pub create-after : s .count < length (s .created) → statics ≤ r → listed r (live s) ≡ false
       → (let n = firstCreated + s .count + 1 in
       movedTo s n (eventSets es 0 r (firstCreated + s .count) n (s .sets)) (set (s .created) (s .count) r) (s .count + 1)
-      ≡ after es s (event 0 r))
+      ≡ after local es s (event 0 r))
   unfolding after eventSets movedIn createdIn placeOf placeIn
   create-after h d l =
       let m : firstCreated + s .count + 1 ≡ firstCreated + (s .count + 1) = omega arith in
@@ -164,7 +164,7 @@ module _ (es : List Edge) (s : State) (r : ℕ) where
       ap₂ (λ (i n : ℕ). movedTo s n (moved i n) (set (s .created) (s .count) r) (s .count + 1)) (sym (place-made h d l)) m
 
   pub event-after : (a at : ℕ) → (a ≡ 0 → ⊥) → at ≡ placeIn r (live s)
-      → movedTo s (used s) (eventSets es a r at (used s) (s .sets)) (s .created) (s .count) ≡ after es s (event a r)
+      → movedTo s (used s) (eventSets es a r at (used s) (s .sets)) (s .created) (s .count) ≡ after local es s (event a r)
   unfolding after eventSets movedIn placeOf placeIn
   event-after zero at n p = absurd (n refl)
   event-after (suc a) at n p = rw p (simp (ne-eqb (suc a) 0 n))
@@ -174,11 +174,11 @@ module _ (es : List Edge) (s : State) (r : ℕ) where
 
 -- ── The step as it is handed over ──
 
-pub read-is : (es : List Edge) (s : State) (step : Step) (raw : RawStep) → stepOf raw ≡ some step
-    → stepped es s step ≡ judgeRead es s (stepOf raw)
+pub read-is : (local : Bool) (es : List Edge) (s : State) (step : Step) (raw : RawStep) → stepOf raw ≡ some step
+    → stepped local es s step ≡ judgeRead local es s (stepOf raw)
 unfolding judgeRead
-read-is es s step raw e = rw e
+read-is local es s step raw e = rw e
 
-pub unread-is : (es : List Edge) (s : State) (raw : RawStep) → stepOf raw ≡ none → refuse 21 s ≡ judgeRead es s (stepOf raw)
+pub unread-is : (local : Bool) (es : List Edge) (s : State) (raw : RawStep) → stepOf raw ≡ none → refuse 21 s ≡ judgeRead local es s (stepOf raw)
 unfolding judgeRead
-unread-is es s raw e = rw e
+unread-is local es s raw e = rw e

@@ -1,6 +1,7 @@
 // The judge (document 01's word for the run-time monitor): its start and one step.
 use monitor_sets::FIRST_CREATED;
 use monitor_sets::SETS;
+use monitor_sets::START_SET;
 use monitor_sets::UNSEEN;
 use monitor_state::Answer;
 use monitor_state::Judgement;
@@ -16,21 +17,23 @@ use usage::STATICS;
 ghost use Prim.Native.Nat.{ℕ, _<_, _≤_};
 ghost use mathlib.Core.Path.{_≡_};
 ghost use mathlib.Core.List.{List};
-ghost use mathlib.Core.Bool.{true, false, cond};
+ghost use mathlib.Core.Bool.{Bool, true, false, _&&_, cond};
 ghost use lib.Dec.{eqb};
-ghost use lib.ListN.{length, set};
+ghost use lib.ListN.{length, getD, set};
 ghost use Rattle.usage.specs.declared.Edge.{Edge};
 ghost use Rattle.usage.specs.Limits.{policies, mostCreated, mostUnclosed};
 ghost use Rattle.usage.specs.Past.{event, opening, closing};
 ghost use Rattle.usage.specs.Judge.{stepOf};
 ghost use Rattle.usage.specs.Tables.{edgesOf};
+ghost use Rattle.monitor_sets.specs.Instances.{instances};
+ghost use Rattle.monitor_sets.specs.Sets.{startSet, resetSets};
 ghost use Rattle.monitor_sets.specs.Code.{brokenIn};
 ghost use Rattle.monitor_sets.specs.Order.{orderOk};
 ghost use Rattle.monitor_state.specs.Judge.{startState, judgeRead, judgeOf};
 ghost use Rattle.monitor_state.specs.Promise.{StandsForNothing, Keeps};
 ghost use Rattle.monitor_state.specs.Renamed.{SameAnswers};
 ghost use Rattle.monitor_state.specs.declared.Answer.the-variants.{Refused};
-ghost use Rattle.monitor_state.specs.Code.{stateOf, judgementOf, stepped};
+ghost use Rattle.monitor_state.specs.Code.{oneMore, stateOf, judgementOf, stepped};
 
 // The start stands for the empty past, and from it no answer depends on how the dynamic resources are numbered.
 pub fn start() -> State
@@ -72,9 +75,79 @@ fn recount(possible: &[u8; POLICIES], unclosed: &mut [u8; POLICIES], p: usize, n
     bad
 }
 
-// An opening moves no state and creates nothing; so the answer is the same whatever the edges, the sets and the created resources are.
-fn judge_opening(
+// An opening of p, its place in the order too. Which open policies are then not respected? Where one is not, all stays as it was.
+fn enter(
     possible: &[u8; POLICIES],
+    unclosed: &mut [u8; POLICIES],
+    order: &mut [u8; MOST_UNCLOSED],
+    depth: usize,
+    p: usize,
+) -> u8
+    requires { ⌜ p < policies ⌝ }
+    requires { ⌜ length (now order) ≡ mostUnclosed ⌝ }
+    requires { ⌜ orderOk depth (now order) (now unclosed) ≡ true ⌝ }
+    requires { ⌜ depth < mostUnclosed ⌝ }
+    ensures { λ bad. ⌜ bad ≡ brokenIn (now (possible .entry)) (oneMore (now (unclosed .entry)) p) ⌝ }
+    ensures { λ bad. ⌜ now (unclosed .exit) ≡ cond (eqb bad 0) (oneMore (now (unclosed .entry)) p) (now (unclosed .entry)) ⌝ }
+    ensures { λ bad. ⌜ now (order .exit) ≡ cond (eqb bad 0) (set (now (order .entry)) depth p) (now (order .entry)) ⌝ }
+{
+    let n = unclosed[p];
+    let broken = recount(possible, unclosed, p, n + 1);
+    if broken == 0 {
+        order[depth] = p as u8;
+    }
+    broken
+}
+
+// The same, where it puts the instances of p back to state 0: the first n, and what is kept of p.
+fn enter_anew(
+    sets: &mut [u8; SETS],
+    possible: &mut [u8; POLICIES],
+    unclosed: &mut [u8; POLICIES],
+    order: &mut [u8; MOST_UNCLOSED],
+    n: usize,
+    depth: usize,
+    p: usize,
+) -> u8
+    requires { ⌜ p < policies ⌝ }
+    requires { ⌜ length (now order) ≡ mostUnclosed ⌝ }
+    requires { ⌜ orderOk depth (now order) (now unclosed) ≡ true ⌝ }
+    requires { ⌜ depth < mostUnclosed ⌝ }
+    requires { ⌜ n ≤ instances ⌝ }
+    ensures { λ bad. ⌜ bad ≡ brokenIn (set (now (possible .entry)) p startSet) (oneMore (now (unclosed .entry)) p) ⌝ }
+    ensures { λ bad. ⌜ now (sets .exit) ≡ cond (eqb bad 0) (resetSets n p (now (sets .entry))) (now (sets .entry)) ⌝ }
+    ensures { λ bad. ⌜ now (possible .exit) ≡ cond (eqb bad 0) (set (now (possible .entry)) p startSet) (now (possible .entry)) ⌝ }
+    ensures { λ bad. ⌜ now (unclosed .exit) ≡ cond (eqb bad 0) (oneMore (now (unclosed .entry)) p) (now (unclosed .entry)) ⌝ }
+    ensures { λ bad. ⌜ now (order .exit) ≡ cond (eqb bad 0) (set (now (order .entry)) depth p) (now (order .entry)) ⌝ }
+{
+    let mut after = *possible;
+    after[p] = START_SET;
+    let broken = enter(&after, unclosed, order, depth, p);
+    if broken != 0 {
+        return broken;
+    }
+    *possible = after;
+    monitor_sets::instances::reset(sets, n, p);
+    0
+}
+
+// "At an opening of a policy that is not open, all its instances go back to state 0", where the sheet is local.
+fn is_anew(local: bool, unclosed: &[u8; POLICIES], p: usize) -> bool
+    requires { ⌜ p < policies ⌝ }
+    ensures { λ r. ⌜ r ≡ (local && eqb (getD (now (unclosed .entry)) p 0) 0) ⌝ }
+{
+    if local {
+        return unclosed[p] == 0;
+    }
+    false
+}
+
+// An opening creates nothing and moves no state but those that it puts back; so the answer is the same whatever the edges and the created
+// resources are.
+fn judge_opening(
+    local: bool,
+    sets: &mut [u8; SETS],
+    possible: &mut [u8; POLICIES],
     unclosed: &mut [u8; POLICIES],
     order: &mut [u8; MOST_UNCLOSED],
     count: usize,
@@ -82,31 +155,34 @@ fn judge_opening(
     p: usize,
 ) -> Told
     requires { ⌜ p < policies ⌝ }
+    requires { ⌜ count ≤ mostCreated ⌝ }
     requires { ⌜ length (now order) ≡ mostUnclosed ⌝ }
     requires { ⌜ orderOk depth (now order) (now unclosed) ≡ true ⌝ }
     ensures { λ r.
-        ⌜ ((es : List Edge) (sets created : List ℕ)
-        → judgementOf r sets (now (possible .entry)) created (now (unclosed .exit)) (now (order .exit))
-        ≡ stepped es
-        (stateOf sets (now (possible .entry)) created count (now (unclosed .entry)) (now (order .entry)) depth false) (opening p)) ⌝ }
+        ⌜ ((es : List Edge) (created : List ℕ)
+        → judgementOf r (now (sets .exit)) (now (possible .exit)) created (now (unclosed .exit)) (now (order .exit))
+        ≡ stepped local es
+        (stateOf (now (sets .entry)) (now (possible .entry)) created count (now (unclosed .entry)) (now (order .entry)) depth false)
+        (opening p)) ⌝ }
 {
     if MOST_UNCLOSED <= depth {
         return monitor_state::refused(32, count, depth, false);
-    }
-    let n = unclosed[p];
-    let broken = recount(possible, unclosed, p, n + 1);
-    if broken == 0 {
-        order[depth] = p as u8;
     }
     let before = Sizes { count, depth };
     let after = Sizes {
         count,
         depth: depth + 1,
     };
+    if is_anew(local, unclosed, p) {
+        let n = FIRST_CREATED + count;
+        let broken = enter_anew(sets, possible, unclosed, order, n, depth, p);
+        return monitor_state::settled(broken, before, after);
+    }
+    let broken = enter(possible, unclosed, order, depth, p);
     monitor_state::settled(broken, before, after)
 }
 
-// The same of a closing.
+// A closing puts nothing back.
 fn judge_closing(
     possible: &[u8; POLICIES],
     unclosed: &mut [u8; POLICIES],
@@ -119,9 +195,9 @@ fn judge_closing(
     requires { ⌜ length (now order) ≡ mostUnclosed ⌝ }
     requires { ⌜ orderOk depth (now order) (now unclosed) ≡ true ⌝ }
     ensures { λ r.
-        ⌜ ((es : List Edge) (sets created : List ℕ)
+        ⌜ ((local : Bool) (es : List Edge) (sets created : List ℕ)
         → judgementOf r sets (now (possible .entry)) created (now (unclosed .exit)) (now (order .entry))
-        ≡ stepped es
+        ≡ stepped local es
         (stateOf sets (now (possible .entry)) created count (now (unclosed .entry)) (now (order .entry)) depth false) (closing p)) ⌝ }
 {
     let n = unclosed[p];
@@ -153,9 +229,9 @@ fn judge_create(
     requires { ⌜ length (now created) ≡ mostCreated ⌝ }
     requires { ⌜ count ≤ mostCreated ⌝ }
     ensures { λ t.
-        ⌜ ((order : List ℕ)
+        ⌜ ((local : Bool) (order : List ℕ)
         → judgementOf t (now (sets .exit)) (now (possible .exit)) (now (created .exit)) (now (unclosed .entry)) order
-        ≡ stepped (edgesOf (now (edges .entry)))
+        ≡ stepped local (edgesOf (now (edges .entry)))
         (stateOf (now (sets .entry)) (now (possible .entry)) (now (created .entry)) count (now (unclosed .entry)) order depth false)
         (event 0 r)) ⌝ }
 {
@@ -204,9 +280,9 @@ fn judge_event(
     requires { ⌜ length (now created) ≡ mostCreated ⌝ }
     requires { ⌜ count ≤ mostCreated ⌝ }
     ensures { λ t.
-        ⌜ ((order : List ℕ)
+        ⌜ ((local : Bool) (order : List ℕ)
         → judgementOf t (now (sets .exit)) (now (possible .exit)) (now (created .exit)) (now (unclosed .entry)) order
-        ≡ stepped (edgesOf (now (edges .entry)))
+        ≡ stepped local (edgesOf (now (edges .entry)))
         (stateOf (now (sets .entry)) (now (possible .entry)) (now (created .entry)) count (now (unclosed .entry)) order depth false)
         (event action r)) ⌝ }
 {
@@ -234,6 +310,7 @@ fn judge_event(
 
 fn judge_read(
     edges: &[u8],
+    local: bool,
     sets: &mut [u8; SETS],
     possible: &mut [u8; POLICIES],
     created: &mut [u32; MOST_CREATED],
@@ -249,7 +326,7 @@ fn judge_read(
     requires { ⌜ orderOk depth (now order) (now unclosed) ≡ true ⌝ }
     ensures { λ r.
         ⌜ judgementOf r (now (sets .exit)) (now (possible .exit)) (now (created .exit)) (now (unclosed .exit)) (now (order .exit))
-        ≡ judgeRead (edgesOf (now (edges .entry)))
+        ≡ judgeRead local (edgesOf (now (edges .entry)))
         (stateOf (now (sets .entry)) (now (possible .entry)) (now (created .entry)) count (now (unclosed .entry)) (now (order .entry)) depth
         false)
         (stepOf step) ⌝ }
@@ -267,7 +344,7 @@ fn judge_read(
             action,
             r,
         ),
-        Read::Opening(p) => judge_opening(possible, unclosed, order, count, depth, p),
+        Read::Opening(p) => judge_opening(local, sets, possible, unclosed, order, count, depth, p),
         Read::Closing(p) => judge_closing(possible, unclosed, order, count, depth, p),
         Read::Nothing => monitor_state::refused(21, count, depth, false),
     }
@@ -277,6 +354,7 @@ fn judge_read(
 // program hands over come first, then the halted state, then the step.
 pub fn judge_lent(
     edges: &[u8],
+    local: bool,
     sets: &mut [u8; SETS],
     possible: &mut [u8; POLICIES],
     created: &mut [u32; MOST_CREATED],
@@ -289,7 +367,7 @@ pub fn judge_lent(
 ) -> Told
     ensures { λ r.
         ⌜ judgementOf r (now (sets .exit)) (now (possible .exit)) (now (created .exit)) (now (unclosed .exit)) (now (order .exit))
-        ≡ judgeOf (now (edges .entry))
+        ≡ judgeOf (now (edges .entry)) local
         (stateOf (now (sets .entry)) (now (possible .entry)) (now (created .entry)) count (now (unclosed .entry)) (now (order .entry)) depth
         halted)
         step ⌝ }
@@ -308,6 +386,7 @@ pub fn judge_lent(
     }
     judge_read(
         edges,
+        local,
         sets,
         possible,
         created,
@@ -319,10 +398,11 @@ pub fn judge_lent(
     )
 }
 
-// One step. From every state at all it answers as its definition says; from a state that stands for a past, as the past says.
-pub fn judge(edges: &[u8], s: State, step: RawStep) -> Judgement
-    ensures { λ r. ⌜ r ≡ judgeOf (now (edges .entry)) s step ⌝ }
-    ensures { λ r. ⌜ Keeps (now (edges .entry)) s step r ⌝ }
+// One step. `local` says which past counts, and goes with the edges. From every state at all the judge answers as its definition says; from a
+// state that stands for a past, as the past says.
+pub fn judge(edges: &[u8], local: bool, s: State, step: RawStep) -> Judgement
+    ensures { λ r. ⌜ r ≡ judgeOf (now (edges .entry)) local s step ⌝ }
+    ensures { λ r. ⌜ Keeps (now (edges .entry)) local s step r ⌝ }
 {
     let mut sets = s.sets;
     let mut possible = s.possible;
@@ -331,6 +411,7 @@ pub fn judge(edges: &[u8], s: State, step: RawStep) -> Judgement
     let mut order = s.order;
     let t = judge_lent(
         edges,
+        local,
         &mut sets,
         &mut possible,
         &mut created,

@@ -4,6 +4,7 @@
 // functions that change one require it.
 use crate::INSTANCES;
 use crate::SETS;
+use crate::START_SET;
 use crate::UNSEEN;
 use automaton::ROWS;
 use usage::POLICIES;
@@ -22,9 +23,6 @@ ghost use Rattle.automaton.specs.Move.{moveBy};
 ghost use Rattle.monitor_sets.specs.Instances.{instances, setPlaces};
 ghost use Rattle.monitor_sets.specs.Sets.{copied, resetSets, gatheredAt, gathered};
 ghost use Rattle.monitor_sets.specs.Code.{lanes, brokenBit, brokenIn, rowMoved, policyMoved, allMoved, eventSets};
-
-// The set of state 0 alone.
-pub const START_SET: u8 = 1;
 
 // How many sets one instruction joins.
 const LANES: usize = 16;

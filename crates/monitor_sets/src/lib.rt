@@ -18,3 +18,6 @@ pub const INSTANCES: usize = FIRST_CREATED + MOST_CREATED;
 
 // The places of the table of sets: instance i of policy p has its set at p * INSTANCES + i.
 pub const SETS: usize = POLICIES * INSTANCES;
+
+// The set of state 0 alone.
+pub const START_SET: u8 = 1;

@@ -1,9 +1,10 @@
 -- What the judge's own functions compute, where Judge.antt has no name for it.
-use Prim.Native.Nat.{ℕ}
+use Prim.Native.Nat.{ℕ, _+_}
 use mathlib.Core.Bool.{Bool, true, false, cond}
 use mathlib.Core.List.{List}
 use mathlib.Core.Option.{Option, none, some}
 use lib.Dec.{eqb}
+use lib.ListN.{getD, set}
 use Rattle.usage.specs.declared.Edge.{Edge}
 use Rattle.usage.specs.Past.{Step, event, opening, closing}
 use Rattle.automaton.specs.Mask.{lowestIn}
@@ -36,6 +37,10 @@ stateOf sets possible created count unclosed order depth halted = record {
   depth = depth;
   halted = halted;
 }
+
+-- the counts with one opening of p more
+abbrev pub oneMore : List ℕ → ℕ → List ℕ
+oneMore unclosed p = set unclosed p (getD unclosed p 0 + 1)
 
 abbrev pub sizesOf : State → Sizes
 sizesOf s = record { count = s .count; depth = s .depth }

@@ -16,8 +16,8 @@ returns c =
     let a = c .before .before .before .before .before .before .before .before .before .before .before .before .args in
     let t = a .edges .now in (
       c .judge-lent .ensures,
-      λ past h ok R. subst (Promised (edgesOf t) past h (a .s) (a .step)) (sym (c .judge-lent .ensures))
-          (judge-promised t (decides-edge-table t .1 ok) past h (a .s) R (a .step)),
+      λ past h ok R. subst (Promised (a .local) (edgesOf t) past h (a .s) (a .step)) (sym (c .judge-lent .ensures))
+          (judge-promised t (decides-edge-table t .1 ok) (a .local) past h (a .s) R (a .step)),
     )
 
 pub judge-spec : {M : Type 1} → statement M

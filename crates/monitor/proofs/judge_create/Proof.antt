@@ -25,9 +25,9 @@ refused-requires c κs = search needs
 returns : tie.Need-returns
 returns c =
     let a = c .before .before .before .args in
-    λ order.
+    λ local order.
     let s = stateOf (a .sets .now) (a .possible .now) (a .created .now) (a .count) (a .unclosed .now) order (a .depth) false in
-    refused-step (edgesOf (a .edges .now)) s (event 0 (a .r)) 22 (c .refused .result) (c .refused .ensures)
+    refused-step local (edgesOf (a .edges .now)) s (event 0 (a .r)) 22 (c .refused .result) (c .refused .ensures)
     (create-static s (a .r) (c .before .if1 .taken))
 
 place-of-requires : tie.Need-place-of-requires
@@ -40,10 +40,10 @@ returns-2 : tie.Need-returns-2
 returns-2 c =
     let a = c .before .before .before .before .before .before .args in
     let dyn = c .before .before .before .before .if1 .left in
-    λ order.
+    λ local order.
     let s = stateOf (a .sets .now) (a .possible .now) (a .created .now) (a .count) (a .unclosed .now) order (a .depth) false in
     let place = c .before .before .place-of .ensures ∙ sym (parts-place s (a .r)) in
-    refused-step (edgesOf (a .edges .now)) s (event 0 (a .r)) 23 (c .refused2 .result) (c .refused2 .ensures)
+    refused-step local (edgesOf (a .edges .now)) s (event 0 (a .r)) 23 (c .refused2 .result) (c .refused2 .ensures)
     (create-again s (a .r) dyn (is-listed s (a .r) dyn (λ q. c .before .if2 .taken (place ∙ q))))
 
 refused-requires-3 : tie.Need-refused-requires-3
@@ -53,10 +53,10 @@ returns-3 : tie.Need-returns-3
 returns-3 c =
     let a = c .before .before .before .before .before .before .before .args in
     let dyn = c .before .before .before .before .before .if1 .left in
-    λ order.
+    λ local order.
     let s = stateOf (a .sets .now) (a .possible .now) (a .created .now) (a .count) (a .unclosed .now) order (a .depth) false in
     let place = c .before .before .before .place-of .ensures ∙ sym (parts-place s (a .r)) in
-    refused-step (edgesOf (a .edges .now)) s (event 0 (a .r)) 30 (c .refused3 .result) (c .refused3 .ensures)
+    refused-step local (edgesOf (a .edges .now)) s (event 0 (a .r)) 30 (c .refused3 .result) (c .refused3 .ensures)
     (create-full s (a .r) dyn (not-listed s (a .r) dyn (sym place ∙ c .before .before .if2 .left)) (c .before .if3 .taken))
 
 add-at : tie.Need-add-at
@@ -98,13 +98,13 @@ returns-4 c =
     let k : at < at + 1 = omega arith in
     let dyn = c .before .before .before .before .before .before .before .before .before .if1 .left in
     let es = edgesOf (a .edges .now) in
-    λ order.
+    λ local order.
     let s = stateOf (a .sets .now) (a .possible .now) (a .created .now) (a .count) (a .unclosed .now) order (a .depth) false in
     let place = c .before .before .before .before .before .before .before .place-of .ensures ∙ sym (parts-place s (a .r)) in
     let absent = not-listed s (a .r) dyn (sym place ∙ c .before .before .before .before .before .before .if2 .left) in
     let t = movedTo s (at + 1) (eventSets es 0 (a .r) at (at + 1) (a .sets .now)) new (a .count + 1) in
-    settled-step s t bad es (event 0 (a .r)) (c .settled .result) refl (e .ensures .0 ∙ taken (at + 1) at _ _ m k)
-    (create-free s (a .r) dyn absent room) (create-after es s (a .r) l dyn absent) (c .settled .ensures)
+    settled-step s t bad local es (event 0 (a .r)) (c .settled .result) refl (e .ensures .0 ∙ taken (at + 1) at _ _ m k)
+    (create-free s (a .r) dyn absent room) (create-after local es s (a .r) l dyn absent) (c .settled .ensures)
     (e .ensures .1 .0 ∙ taken-sets (at + 1) at bad _ _ m k) (e .ensures .1 .1 ∙ taken-sets (at + 1) at bad _ _ m k) made
     (kept s t bad (a .unclosed .now)) (kept s t bad order)
 

@@ -29,9 +29,9 @@ refused-requires c κs = search needs
 returns-2 : tie.Need-returns-2
 returns-2 c =
     let a = c .before .before .before .before .before .before .args in
-    λ order.
+    λ local order.
     let s = stateOf (a .sets .now) (a .possible .now) (a .created .now) (a .count) (a .unclosed .now) order (a .depth) false in
-    refused-step (edgesOf (a .edges .now)) s (event (a .action) (a .r)) 24 (c .refused .result) (c .refused .ensures)
+    refused-step local (edgesOf (a .edges .now)) s (event (a .action) (a .r)) 24 (c .refused .result) (c .refused .ensures)
     (use-unknown s (a .r) (a .action) (c .before .before .before .before .if1 .left)
     (not-known s (a .r) (parts-place s (a .r) ∙ sym (c .before .before .place-of .ensures) ∙ c .before .if2 .taken)))
 
@@ -55,13 +55,13 @@ returns-3 c =
     let m : n ≤ instances = omega arith in
     let es = edgesOf (a .edges .now) in
     let other = c .before .before .before .before .before .before .before .if1 .left in
-    λ order.
+    λ local order.
     let s = stateOf (a .sets .now) (a .possible .now) (a .created .now) (a .count) (a .unclosed .now) order (a .depth) false in
     let u : at < n = omega (arith, place .ensures, parts-place s (a .r), place-lt s (a .r)) in
     let t = movedTo s n (eventSets es (a .action) (a .r) at n (a .sets .now)) (a .created .now) (a .count) in
-    settled-step s t bad es (event (a .action) (a .r)) (c .settled .result) refl (e .ensures .0 ∙ taken n at _ _ m u)
-    (event-free es s (a .r) (a .action) at other (place .ensures) (c .before .before .before .before .if2 .left))
-    (event-after es s (a .r) (a .action) at other (place .ensures)) (c .settled .ensures)
+    settled-step s t bad local es (event (a .action) (a .r)) (c .settled .result) refl (e .ensures .0 ∙ taken n at _ _ m u)
+    (event-free local es s (a .r) (a .action) at other (place .ensures) (c .before .before .before .before .if2 .left))
+    (event-after local es s (a .r) (a .action) at other (place .ensures)) (c .settled .ensures)
     (e .ensures .1 .0 ∙ taken-sets n at bad _ _ m u) (e .ensures .1 .1 ∙ taken-sets n at bad _ _ m u)
     (kept s t bad (a .created .now)) (kept s t bad (a .unclosed .now)) (kept s t bad order)
 

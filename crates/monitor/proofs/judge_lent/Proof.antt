@@ -19,7 +19,7 @@ returns c =
     let s = stateOf (a .sets .now) (a .possible .now) (a .created .now) (a .count) (a .unclosed .now) (a .order .now) (a .depth) (a .halted) in
     let table = c .before .before .edge-table-ok in
     refused-parts s 41 (c .refused .result) (c .refused .ensures)
-    ∙ sym (table-refused (a .edges .now) s (a .step) (sym (table .ensures) ∙ not-true (table .result) (c .before .if1 .taken)))
+    ∙ sym (table-refused (a .edges .now) (a .local) s (a .step) (sym (table .ensures) ∙ not-true (table .result) (c .before .if1 .taken)))
 
 created-ok-requires : tie.Need-created-ok-requires
 created-ok-requires c κs = search needs
@@ -34,7 +34,7 @@ returns-2 c =
     let table = c .before .before .before .before .before .edge-table-ok in
     let made = c .before .before .created-ok in
     refused-parts s 42 (c .refused2 .result) (c .refused2 .ensures)
-    ∙ sym (state-refused (a .edges .now) s (a .step) (sym (table .ensures) ∙ not-false (table .result) (c .before .before .before .before .if1 .left))
+    ∙ sym (state-refused (a .edges .now) (a .local) s (a .step) (sym (table .ensures) ∙ not-false (table .result) (c .before .before .before .before .if1 .left))
     (created-bad s (sym (made .ensures .0) ∙ not-true (made .result) (c .before .if2 .taken))))
 
 order-ok-requires : tie.Need-order-ok-requires
@@ -51,7 +51,7 @@ returns-3 c =
     let made = c .before .before .before .before .before .before .created-ok in
     let order = c .before .before .order-ok in
     refused-parts s 42 (c .refused3 .result) (c .refused3 .ensures)
-    ∙ sym (state-refused (a .edges .now) s (a .step) (sym (table .ensures) ∙ not-false (table .result) (c .before .before .before .before .before .before .before .before .if1 .left))
+    ∙ sym (state-refused (a .edges .now) (a .local) s (a .step) (sym (table .ensures) ∙ not-false (table .result) (c .before .before .before .before .before .before .before .before .if1 .left))
     (order-bad s (sym (made .ensures .0) ∙ not-false (made .result) (c .before .before .before .before .before .if2 .left))
     (sym (order .ensures .0) ∙ not-true (order .result) (c .before .if3 .taken))))
 
@@ -66,7 +66,7 @@ returns-4 c =
     let made = c .before .before .before .before .before .before .before .created-ok in
     let order = c .before .before .before .order-ok in
     refused-parts s 20 (c .refused4 .result) (c .refused4 .ensures)
-    ∙ sym (halted-refused (a .edges .now) s (a .step) (sym (table .ensures) ∙ not-false (table .result) (c .before .before .before .before .before .before .before .before .before .if1 .left))
+    ∙ sym (halted-refused (a .edges .now) (a .local) s (a .step) (sym (table .ensures) ∙ not-false (table .result) (c .before .before .before .before .before .before .before .before .before .if1 .left))
     (parts-ok s (sym (made .ensures .0) ∙ not-false (made .result) (c .before .before .before .before .before .before .if2 .left))
     (sym (order .ensures .0) ∙ not-false (order .result) (c .before .before .if3 .left)))
     (c .before .if4 .taken))
@@ -93,7 +93,7 @@ returns-5 c =
     let h = c .before .before .before .before .before .before .if4 .left in
     c .judge-read .ensures
     ∙ rw (← h)
-    (sym (judged (a .edges .now) s (a .step) (sym (table .ensures) ∙ not-false (table .result) (c .before .before .before .before .before .before .before .before .before .before .before .before .before .before .if1 .left))
+    (sym (judged (a .edges .now) (a .local) s (a .step) (sym (table .ensures) ∙ not-false (table .result) (c .before .before .before .before .before .before .before .before .before .before .before .before .before .before .if1 .left))
     (parts-ok s (sym (made .ensures .0) ∙ not-false (made .result) (c .before .before .before .before .before .before .before .before .before .before .before .if2 .left))
     (sym (order .ensures .0) ∙ not-false (order .result) (c .before .before .before .before .before .before .before .if3 .left)))
     h))

@@ -1,20 +1,21 @@
 use Prim.Native.Nat.{ℕ, _+_}
 use mathlib.Core.Path.{_≡_, refl, sym, ap, _∙_}
-use mathlib.Core.Bool.{Bool, false, cond}
+use mathlib.Core.Bool.{Bool, true, false}
 use native.Mathlib.Omega.{arith}
-use borrow.Author.Tests.{eq-eqb, ne-eqb}
 use borrow.Author.Needs.{needs}
-use lib.Dec.{eqb}
-use lib.ListN.{getD, set}
+use lib.ListN.{set}
 use Rattle.usage.specs.Past.{opening}
-use Rattle.usage.proofs.Logic.{by-cases}
-use Rattle.monitor_sets.proofs.OrderLaws.{order-parts, count-few}
-use Rattle.monitor_state.specs.Judge.{withOpenings, after}
-use Rattle.monitor_state.specs.Code.{stateOf}
+use Rattle.monitor_state.specs.declared.State.{State}
+use Rattle.monitor_state.specs.Judge.{withOpenings, withSets, resetIn, after}
+use Rattle.monitor_state.specs.Code.{oneMore, stateOf}
 use Rattle.monitor.proofs.JudgeLaws.{opening-deep, opening-free}
 use Rattle.monitor.proofs.LentLaws.{refused-step, settled-step, kept}
 use Rattle.monitor.proofs.judge_opening.Statement.{statement}
 use Rattle.monitor.proofs.judge_opening.Tie as tie
+
+-- the state after the opening, where it puts the instances back and where it does not
+abbrev opened : Bool → State → ℕ → State
+opened b s p = withOpenings (resetIn b s p) (oneMore (s .unclosed) p) (set (s .order) (s .depth) p) (s .depth + 1)
 
 refused-requires : tie.Need-refused-requires
 refused-requires c κs = search needs
@@ -22,52 +23,63 @@ refused-requires c κs = search needs
 returns : tie.Need-returns
 returns c =
     let a = c .before .before .args in
-    λ es sets created.
-    let s = stateOf sets (a .possible .now) created (a .count) (a .unclosed .now) (a .order .now) (a .depth) false in
-    refused-step es s (opening (a .p)) 32 (c .refused .result) (c .refused .ensures) (opening-deep s (a .p) (c .before .if1 .taken))
+    λ es created.
+    let s = stateOf (a .sets .now) (a .possible .now) created (a .count) (a .unclosed .now) (a .order .now) (a .depth) false in
+    refused-step (a .local) es s (opening (a .p)) 32 (c .refused .result) (c .refused .ensures) (opening-deep s (a .p) (c .before .if1 .taken))
 
-element-copy-out-n : tie.Need-element-copy-out-n
-element-copy-out-n c = search needs
+add-t15 : tie.Need-add-t15
+add-t15 c = search needs
 
-add-recount : tie.Need-add-recount
-add-recount c =
-    let a = c .before .before .before .args in
-    let pre = c .before .before .before .pre in
-    let w = order-parts (a .depth) (a .order .now) (a .unclosed .now) (pre .1 .1) in
-    record { fits = omega (arith, count-few (a .depth) (a .order .now) (a .unclosed .now) w (a .p) (pre .0), c .before .before .if1 .left) }
+is-anew-requires : tie.Need-is-anew-requires
+is-anew-requires c κs = search needs
 
-recount-requires : tie.Need-recount-requires
-recount-requires c κs = search needs
+add-n : tie.Need-add-n
+add-n c = search needs
 
-cast-order : tie.Need-cast-order
-cast-order c = search needs
-
-element-write-order : tie.Need-element-write-order
-element-write-order c = search needs
-
-add-t19 : tie.Need-add-t19
-add-t19 c = search needs
+enter-anew-requires : tie.Need-enter-anew-requires
+enter-anew-requires c κs =
+    let pre = c .before .before .before .before .before .before .before .before .pre in
+    let few = pre .1 .0 in
+    (pre .0, (pre .1 .1 .0, (pre .1 .1 .1, (c .before .before .before .before .before .before .before .if1 .left, omega arith))))
 
 settled-requires : tie.Need-settled-requires
 settled-requires c κs = search needs
 
 returns-2 : tie.Need-returns-2
-unfolding withOpenings after
+unfolding withOpenings withSets resetIn after
 returns-2 c =
-    let a = c .before .before .before .before .before .before .args in
-    let bad = c .before .before .recount in
-    let n = getD (a .unclosed .now) (a .p) 0 + 1 in
-    let order = set (a .order .now) (a .depth) (a .p) in
-    let e : c .before .if2 .order ≡ cond (eqb (bad .result) 0) order (a .order .now) =
-    by-cases (c .before .if2 .came)
-    (λ w. w .1 ∙ sym (ap (λ (b : Bool). cond b order (a .order .now)) (eq-eqb _ _ (w .0 .taken))))
-    (λ w. w .1 ∙ sym (ap (λ (b : Bool). cond b order (a .order .now)) (ne-eqb _ _ (w .0 .left)))) in
-    λ es sets created.
-    let s = stateOf sets (a .possible .now) created (a .count) (a .unclosed .now) (a .order .now) (a .depth) false in
-    let t = withOpenings s (set (a .unclosed .now) (a .p) n) order (a .depth + 1) in
-    settled-step s t (bad .result) es (opening (a .p)) (c .settled .result) refl (bad .ensures .0)
-    (opening-free s (a .p) (c .before .before .before .before .before .if1 .left)) refl (c .settled .ensures)
-    (kept s t (bad .result) sets) (kept s t (bad .result) (a .possible .now)) (kept s t (bad .result) created) (bad .ensures .1) e
+    let a = c .before .before .before .before .before .before .before .before .before .before .args in
+    let e = c .before .enter-anew in
+    let bad = e .result in
+    let is = sym (c .before .before .before .before .before .before .before .is-anew .ensures) ∙ c .before .before .before .before .before .before .if2 .taken in
+    λ es created.
+    let s = stateOf (a .sets .now) (a .possible .now) created (a .count) (a .unclosed .now) (a .order .now) (a .depth) false in
+    let t = opened true s (a .p) in
+    settled-step s t bad (a .local) es (opening (a .p)) (c .settled .result) refl (e .ensures .0)
+    (opening-free s (a .p) (c .before .before .before .before .before .before .before .before .before .if1 .left)) (ap (λ (b : Bool). opened b s (a .p)) (sym is)) (c .settled .ensures)
+    (e .ensures .1 .0) (e .ensures .1 .1 .0) (kept s t bad created) (e .ensures .1 .1 .1 .0) (e .ensures .1 .1 .1 .1)
+
+enter-requires : tie.Need-enter-requires
+enter-requires c κs =
+    let pre = c .before .before .before .before .before .before .before .pre in
+    (pre .0, (pre .1 .1 .0, (pre .1 .1 .1, c .before .before .before .before .before .before .if1 .left)))
+
+settled-requires-2 : tie.Need-settled-requires-2
+settled-requires-2 c κs = search needs
+
+returns-3 : tie.Need-returns-3
+unfolding withOpenings withSets resetIn after
+returns-3 c =
+    let a = c .before .before .before .before .before .before .before .before .before .args in
+    let e = c .before .enter in
+    let bad = e .result in
+    let is = sym (c .before .before .before .before .before .before .is-anew .ensures) ∙ c .before .before .before .before .before .if2 .left in
+    λ es created.
+    let s = stateOf (a .sets .now) (a .possible .now) created (a .count) (a .unclosed .now) (a .order .now) (a .depth) false in
+    let t = opened false s (a .p) in
+    settled-step s t bad (a .local) es (opening (a .p)) (c .settled2 .result) refl (e .ensures .0)
+    (opening-free s (a .p) (c .before .before .before .before .before .before .before .before .if1 .left)) (ap (λ (b : Bool). opened b s (a .p)) (sym is)) (c .settled2 .ensures)
+    (kept s t bad (a .sets .now)) (kept s t bad (a .possible .now)) (kept s t bad created) (e .ensures .1 .0) (e .ensures .1 .1)
 
 pub judge-opening-spec : {M : Type 1} → statement M
 judge-opening-spec =
@@ -75,11 +87,12 @@ judge-opening-spec =
     (tie.spec
     refused-requires
     returns
-    element-copy-out-n
-    add-recount
-    recount-requires
-    cast-order
-    element-write-order
-    add-t19
+    add-t15
+    is-anew-requires
+    add-n
+    enter-anew-requires
     settled-requires
-    returns-2)
+    returns-2
+    enter-requires
+    settled-requires-2
+    returns-3)

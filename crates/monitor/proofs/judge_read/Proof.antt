@@ -24,10 +24,10 @@ enum-known-read-2 c = search needs
 
 judge-opening-requires : tie.Need-judge-opening-requires
 judge-opening-requires c κs =
-    let pre = c .before .before .before .before .before .before .before .before .pre in (
-      step-fits (c .before .before .before .before .before .before .before .before .args .step) (opening _)
-          (sym (c .before .before .before .before .before .before .read-step .ensures) ∙ ap (λ (x : Read). says x) (c .before .before .before .before .read2 .given .1)),
-      (pre .1 .1 .0, pre .1 .1 .1),
+    let pre = c .before .before .before .before .before .before .before .before .before .pre in (
+      step-fits (c .before .before .before .before .before .before .before .before .before .args .step) (opening _)
+          (sym (c .before .before .before .before .before .before .before .read-step .ensures) ∙ ap (λ (x : Read). says x) (c .before .before .before .before .before .read2 .given .1)),
+      (pre .1 .0, (pre .1 .1 .0, pre .1 .1 .1)),
     )
 
 enum-known-read-3 : tie.Need-enum-known-read-3
@@ -51,25 +51,25 @@ returns : tie.Need-returns
 returns c =
     let a = c .before .before .before .before .before .before .before .before .before .before .args in
     let s = stateOf (a .sets .now) (a .possible .now) (a .created .now) (a .count) (a .unclosed .now) (a .order .now) (a .depth) false in
-    c .judge-event .ensures (a .order .now)
-    ∙ read-is (edgesOf (a .edges .now)) s _ (a .step)
+    c .judge-event .ensures (a .local) (a .order .now)
+    ∙ read-is (a .local) (edgesOf (a .edges .now)) s _ (a .step)
     (sym (c .before .before .before .before .before .before .before .before .read-step .ensures)
     ∙ ap (λ (x : Read). says x) (c .before .before .before .before .before .before .read .given .1))
 
 returns-2 : tie.Need-returns-2
 returns-2 c =
-    let a = c .before .before .before .before .before .before .before .before .before .args in
+    let a = c .before .before .before .before .before .before .before .before .before .before .args in
     let s = stateOf (a .sets .now) (a .possible .now) (a .created .now) (a .count) (a .unclosed .now) (a .order .now) (a .depth) false in
-    c .judge-opening .ensures (edgesOf (a .edges .now)) (a .sets .now) (a .created .now)
-    ∙ read-is (edgesOf (a .edges .now)) s _ (a .step)
-    (sym (c .before .before .before .before .before .before .before .read-step .ensures) ∙ ap (λ (x : Read). says x) (c .before .before .before .before .before .read2 .given .1))
+    c .judge-opening .ensures (edgesOf (a .edges .now)) (a .created .now)
+    ∙ read-is (a .local) (edgesOf (a .edges .now)) s _ (a .step)
+    (sym (c .before .before .before .before .before .before .before .before .read-step .ensures) ∙ ap (λ (x : Read). says x) (c .before .before .before .before .before .before .read2 .given .1))
 
 returns-3 : tie.Need-returns-3
 returns-3 c =
     let a = c .before .before .before .before .before .before .before .before .before .args in
     let s = stateOf (a .sets .now) (a .possible .now) (a .created .now) (a .count) (a .unclosed .now) (a .order .now) (a .depth) false in
-    c .judge-closing .ensures (edgesOf (a .edges .now)) (a .sets .now) (a .created .now)
-    ∙ read-is (edgesOf (a .edges .now)) s _ (a .step)
+    c .judge-closing .ensures (a .local) (edgesOf (a .edges .now)) (a .sets .now) (a .created .now)
+    ∙ read-is (a .local) (edgesOf (a .edges .now)) s _ (a .step)
     (sym (c .before .before .before .before .before .before .before .read-step .ensures) ∙ ap (λ (x : Read). says x) (c .before .before .before .before .before .read3 .given .1))
 
 returns-4 : tie.Need-returns-4
@@ -77,7 +77,7 @@ returns-4 c =
     let a = c .before .before .before .before .before .args in
     let s = stateOf (a .sets .now) (a .possible .now) (a .created .now) (a .count) (a .unclosed .now) (a .order .now) (a .depth) false in
     refused-parts s 21 (c .refused .result) (c .refused .ensures)
-    ∙ unread-is (edgesOf (a .edges .now)) s (a .step)
+    ∙ unread-is (a .local) (edgesOf (a .edges .now)) s (a .step)
     (sym (c .before .before .before .read-step .ensures) ∙ ap (λ (x : Read). says x) (c .before .enum-told .given .1))
 
 pub judge-read-spec : {M : Type 1} → statement M
