@@ -1,7 +1,7 @@
--- An outline none of whose traces leaves a policy open and not respected is never halted by the judge.
+-- An outline none of whose traces leaves a policy open and not respected is never halted by the judge, whichever past counts.
 use Prim.Native.Nat.{ℕ, zero, suc, _≤_}
 use mathlib.Core.Path.{_≡_, refl, sym, ap, subst}
-use mathlib.Core.Bool.{true, false}
+use mathlib.Core.Bool.{Bool, true, false}
 use mathlib.Core.Option.{some}
 use mathlib.Core.List.{List, [], _∷_, List·Memᴰ, List·Memᴰ·head, List·Memᴰ·tail}
 use mathlib.Core.Logic.{_⊎_, inl, inr}
@@ -131,10 +131,10 @@ refused-whole j s n e k = λ i. record { answer = e i; state = k i }
 
 -- ── The theorem ──
 
-module _ (t : List ℕ) (table : edgeTable t ≡ true) (ns : List Node) (ok : OutlineOk ns)
-    (none-left : (p : ℕ) → Leaves false (edgesOf t) ns p → ⊥) where
-  passes : (steps : List Step) (past : Past) (s : State) → Represents (edgesOf t) past false s → IsTrace ns (onto steps past)
-      → Low (onto steps past) → Passes t past s steps
+module _ (t : List ℕ) (table : edgeTable t ≡ true) (local : Bool) (ns : List Node) (ok : OutlineOk ns)
+    (none-left : (p : ℕ) → Leaves local (edgesOf t) ns p → ⊥) where
+  passes : (steps : List Step) (past : Past) (s : State) → Represents local (edgesOf t) past false s → IsTrace ns (onto steps past)
+      → Low (onto steps past) → Passes t local past s steps
   unfolding onto
   passes [] past s R tr low = ended
   passes (step ∷ steps) past s R tr low = go (beyond? step past) (passes steps (step ∷ past))
@@ -148,27 +148,27 @@ module _ (t : List ℕ) (table : edgeTable t ≡ true) (ns : List Node) (ok : Ou
       reads : stepOf (rawOf step) ≡ some step
       reads = step-read step (step-fits step past fine (record { low = λ a r m. low .low a r (onto-mem steps (step ∷ past) m) }))
 
-      stopped : (n : ℕ) → Beyond past step n → Passes t past s (step ∷ steps)
+      stopped : (n : ℕ) → Beyond past step n → Passes t local past s (step ∷ steps)
       stopped n b =
           let r : Refuses past false (rawOf step) n = record {
             stated = beyond-case reads b;
             first = λ m l c. absurd (let e = beyond-once b (only-beyond step past m fine (case-of reads c)) in omega arith);
           } in
-          let a = refused-is (judgeOf t s (rawOf step) .answer) n (judged-is t table past false s R (rawOf step) (is-refused r)) in
-          beyond b (refused-whole (judgeOf t s (rawOf step)) s n a
-          (kept-refused s _ (judgeOf t s (rawOf step) .answer) n a (judge-promised t table past false s R (rawOf step) .kept)))
+          let a = refused-is (judgeOf t local s (rawOf step) .answer) n (judged-is t table local past false s R (rawOf step) (is-refused r)) in
+          beyond b (refused-whole (judgeOf t local s (rawOf step)) s n a
+          (kept-refused s _ (judgeOf t local s (rawOf step) .answer) n a (judge-promised t table local past false s R (rawOf step) .kept)))
 
       go : ((n : ℕ) × Beyond past step n) ⊎ ((n : ℕ) → Beyond past step n → ⊥)
-          → ((u : State) → Represents (edgesOf t) (step ∷ past) false u → IsTrace ns (onto steps (step ∷ past)) → Low
-          (onto steps (step ∷ past)) → Passes t (step ∷ past) u steps)
-          → Passes t past s (step ∷ steps)
+          → ((u : State) → Represents local (edgesOf t) (step ∷ past) false u → IsTrace ns (onto steps (step ∷ past)) → Low
+          (onto steps (step ∷ past)) → Passes t local (step ∷ past) u steps)
+          → Passes t local past s (step ∷ steps)
       go (inl (n, b)) rest = stopped n b
       go (inr d) rest =
           let k =
-          allowed-next t table past false s R (rawOf step) step reads (λ n c. d n (only-beyond step past n fine (case-of reads c)))
+          allowed-next t table local past false s R (rawOf step) step reads (λ n c. d n (only-beyond step past n fine (case-of reads c)))
           (λ p v. none-left p (step ∷ past, here, v)) in
-          allowed d (k .0) (rest (judgeOf t s (rawOf step) .state) (k .1) tr low)
+          allowed d (k .0) (rest (judgeOf t local s (rawOf step) .state) (k .1) tr low)
 
   -- What the check accepts, the judge never halts.
-  pub never-halted : NeverHalted t ns
-  never-halted steps tr low = passes steps [] startState (begin-represents (edgesOf t)) tr low
+  pub never-halted : NeverHalted t local ns
+  never-halted steps tr low = passes steps [] startState (begin-represents local (edgesOf t)) tr low

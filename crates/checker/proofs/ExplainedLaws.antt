@@ -1,7 +1,7 @@
 -- Where the check names a policy, its tables are right, and so a counterexample or its absence is told.
 use Prim.Native.Nat.{ℕ, _≤_}
 use mathlib.Core.Path.{_≡_}
-use mathlib.Core.Bool.{false}
+use mathlib.Core.Bool.{Bool}
 use mathlib.Core.List.{List}
 use mathlib.Core.Logic.{inl, inr}
 use native.Mathlib.Omega.{arith}
@@ -17,8 +17,8 @@ use Rattle.checker.specs.Explained.{NamedBy, Explained}
 no-refusal : {A : Type 0} {p k : ℕ} → _≡_ {A = Verdict} (violated p) (refused k) → A
 no-refusal e = clash (cc)
 
-pub named-explained : {e n t t′ : List ℕ} {p : ℕ} {r : Explanation} → mostNumbers ≤ length t → CheckPromise e n (violated p)
-    → NamedBy false e n p t r t′ → Explained e n t r t′
+pub named-explained : {local : Bool} {e n t t′ : List ℕ} {p : ℕ} {r : Explanation} → mostNumbers ≤ length t → CheckPromise local e n (violated p)
+    → NamedBy local e n p t r t′ → Explained local e n t r t′
 named-explained l h (NamedBy.told-shown (trace.this-long k a b s)) = Explained.this-long l h s
 named-explained l h (NamedBy.told-longer (trace.longer k a b s)) = Explained.longer l h s
 named-explained l h (NamedBy.told-refused (trace.too-small k)) = absurd (omega arith)

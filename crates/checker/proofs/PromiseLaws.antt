@@ -65,20 +65,20 @@ none-left (accepts f) e p l = f p l
 none-left (names l low) e p k = clash (cc)
 
 -- what it accepts, the judge never halts
-right-guarded : {t n : List ℕ} {v : Verdict} → RightVerdict false t n v → v ≡ allowed → NeverHalted t (nodesOf n)
+right-guarded : {local : Bool} {t n : List ℕ} {v : Verdict} → RightVerdict local t n v → v ≡ allowed → NeverHalted t local (nodesOf n)
 right-guarded (no-edges f) e = clash (cc)
 right-guarded (no-nodes f) e = clash (cc)
-right-guarded {t} {n} (checked edges nodes c) e =
-    never-halted t (decides-edge-table t .1 edges) (nodesOf n) (nodes .outline) (none-left c e)
+right-guarded {local} {t} {n} (checked edges nodes c) e =
+    never-halted t (decides-edge-table t .1 edges) local (nodesOf n) (nodes .outline) (none-left c e)
 
-pub right-promised : (t n : List ℕ) (v : Verdict) → RightVerdict false t n v → CheckPromise t n v
-right-promised t n v h = record {
-  exact = λ w. (λ k. right-unique h k, λ e. subst (RightVerdict false t n) e h);
+pub right-promised : (local : Bool) (t n : List ℕ) (v : Verdict) → RightVerdict local t n v → CheckPromise local t n v
+right-promised local t n v h = record {
+  exact = λ w. (λ k. right-unique h k, λ e. subst (RightVerdict local t n) e h);
   guarded = right-guarded h;
 }
 
 -- the verdict that is told is right
-pub promised-right : {t n : List ℕ} {v : Verdict} → CheckPromise t n v → RightVerdict false t n v
+pub promised-right : {local : Bool} {t n : List ℕ} {v : Verdict} → CheckPromise local t n v → RightVerdict local t n v
 promised-right {v = v} h = h .exact v .1 refl
 
 -- ── The promise, by the two tables ──
@@ -90,13 +90,13 @@ right-checked edges nodes (no-nodes f) = absurd (f nodes)
 right-checked edges nodes (checked edges′ nodes′ c) = c
 
 -- of tables that accepted sheets give, the verdict is that of the outline
-pub promise-checked : {t n : List ℕ} {v : Verdict} → CheckPromise t n v → EdgeTable t → NodeTable n
-    → (w : Verdict) → Checked false (edgesOf t) (nodesOf n) w ↔ (v ≡ w)
+pub promise-checked : {local : Bool} {t n : List ℕ} {v : Verdict} → CheckPromise local t n v → EdgeTable t → NodeTable n
+    → (w : Verdict) → Checked local (edgesOf t) (nodesOf n) w ↔ (v ≡ w)
 promise-checked h edges nodes w = (λ c. h .exact w .0 (checked edges nodes c), λ e. right-checked edges nodes (h .exact w .1 e))
 
 -- and of others 41
-pub promise-no-edges : {t n : List ℕ} {v : Verdict} → CheckPromise t n v → (EdgeTable t → ⊥) → v ≡ refused 41
+pub promise-no-edges : {local : Bool} {t n : List ℕ} {v : Verdict} → CheckPromise local t n v → (EdgeTable t → ⊥) → v ≡ refused 41
 promise-no-edges h f = h .exact (refused 41) .0 (no-edges f)
 
-pub promise-no-nodes : {t n : List ℕ} {v : Verdict} → CheckPromise t n v → (NodeTable n → ⊥) → v ≡ refused 41
+pub promise-no-nodes : {local : Bool} {t n : List ℕ} {v : Verdict} → CheckPromise local t n v → (NodeTable n → ⊥) → v ≡ refused 41
 promise-no-nodes h f = h .exact (refused 41) .0 (no-nodes f)

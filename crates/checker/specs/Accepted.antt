@@ -1,6 +1,7 @@
--- What acceptance promises of the judge: "What the check accepts, the judge never halts", over the whole trace.
+-- What acceptance promises of the judge: "What the check accepts, the judge never halts", over the whole trace, whichever past counts.
 use Prim.Native.Nat.{ℕ, _<_, _≤_}
 use mathlib.Core.Path.{_≡_}
+use mathlib.Core.Bool.{Bool}
 use mathlib.Core.List.{List, [], _∷_, List·Memᴰ}
 use lib.ListN.{length}
 use Rattle.usage.specs.declared.Node.{Node}
@@ -34,14 +35,14 @@ pub data Beyond (past : Past) : Step → ℕ → Type 0 where
 
 -- Handed to the judge one after the other, each with the state that the last one returned, every step is allowed up to the first
 -- beyond the judge's limits, which is refused with its number. A step is allowed only where it is within them.
-pub data Passes (t : List ℕ) : Past → State → List Step → Type 0 where
-  ended : {past : Past} {s : State} → Passes t past s []
+pub data Passes (t : List ℕ) (local : Bool) : Past → State → List Step → Type 0 where
+  ended : {past : Past} {s : State} → Passes t local past s []
   allowed : {past : Past} {s : State} {step : Step} {steps : List Step} → ((n : ℕ) → Beyond past step n → ⊥)
-      → judgeOf t s (rawOf step) .answer ≡ Allowed → Passes t (step ∷ past) (judgeOf t s (rawOf step) .state) steps
-      → Passes t past s (step ∷ steps)
+      → judgeOf t local s (rawOf step) .answer ≡ Allowed → Passes t local (step ∷ past) (judgeOf t local s (rawOf step) .state) steps
+      → Passes t local past s (step ∷ steps)
   beyond : {past : Past} {s : State} {step : Step} {steps : List Step} {n : ℕ} → Beyond past step n
-      → judgeOf t s (rawOf step) ≡ refuse n s → Passes t past s (step ∷ steps)
+      → judgeOf t local s (rawOf step) ≡ refuse n s → Passes t local past s (step ∷ steps)
 
 -- every trace of the outline whose numbers the judge takes, from the judge's start
-abbrev pub NeverHalted : List ℕ → List Node → Type 0
-NeverHalted t ns = (steps : List Step) → IsTrace ns (onto steps []) → Low (onto steps []) → Passes t [] startState steps
+abbrev pub NeverHalted : List ℕ → Bool → List Node → Type 0
+NeverHalted t local ns = (steps : List Step) → IsTrace ns (onto steps []) → Low (onto steps []) → Passes t local [] startState steps

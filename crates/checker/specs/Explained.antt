@@ -1,6 +1,6 @@
 -- What the check with a counterexample promises: the check's verdict, and the trace.
 use Prim.Native.Nat.{ℕ, _<_, _≤_}
-use mathlib.Core.Bool.{Bool, false}
+use mathlib.Core.Bool.{Bool}
 use mathlib.Core.Option.{none, some}
 use mathlib.Core.List.{List}
 use lib.ListN.{length}
@@ -22,17 +22,17 @@ pub data NamedBy (local : Bool) (e n : List ℕ) (p : ℕ) (t : List ℕ) : Expl
   told-longer : {t′ : List ℕ} → trace.Told local e n p t lengths.Longer t′ → NamedBy local e n p t (Longer p) t′
   told-refused : {k : ℕ} {t′ : List ℕ} → trace.Told local e n p t (lengths.Refused k) t′ → NamedBy local e n p t (Refused k) t′
 
--- e and n are the tables of edges and nodes, t and t′ the lent table before and after. "40 also covers a lent trace table below 200
+-- e and n are the tables of edges and nodes, beside the choice of past, t and t′ the lent table before and after. "40 also covers a lent trace table below 200
 -- places"; else the check's own verdict, and where it names a policy what is shown with that
-pub data Explained (e n t : List ℕ) : Explanation → List ℕ → Type 0 where
-  too-small : length t < mostNumbers → Explained e n t (Refused 40) t
-  refused-with : {k : ℕ} → mostNumbers ≤ length t → CheckPromise e n (refused k) → Explained e n t (Refused k) t
-  accepted : mostNumbers ≤ length t → CheckPromise e n allowed → Explained e n t Accepted t
-  longer : {p : ℕ} → mostNumbers ≤ length t → CheckPromise e n (violated p) → usage.Shown false (edgesOf e) (nodesOf n) p none
-      → Explained e n t (Longer p) t
-  this-long : {p : ℕ} {past : Past} → mostNumbers ≤ length t → CheckPromise e n (violated p)
-      → usage.Shown false (edgesOf e) (nodesOf n) p (some past)
-      → Explained e n t (Shown p (length past)) (laid t past)
+pub data Explained (local : Bool) (e n t : List ℕ) : Explanation → List ℕ → Type 0 where
+  too-small : length t < mostNumbers → Explained local e n t (Refused 40) t
+  refused-with : {k : ℕ} → mostNumbers ≤ length t → CheckPromise local e n (refused k) → Explained local e n t (Refused k) t
+  accepted : mostNumbers ≤ length t → CheckPromise local e n allowed → Explained local e n t Accepted t
+  longer : {p : ℕ} → mostNumbers ≤ length t → CheckPromise local e n (violated p) → usage.Shown local (edgesOf e) (nodesOf n) p none
+      → Explained local e n t (Longer p) t
+  this-long : {p : ℕ} {past : Past} → mostNumbers ≤ length t → CheckPromise local e n (violated p)
+      → usage.Shown local (edgesOf e) (nodesOf n) p (some past)
+      → Explained local e n t (Shown p (length past)) (laid t past)
 
 -- document 01's numbers for each answer, and how many steps were written
 abbrev pub explanationVerdict : Explanation → Verdict

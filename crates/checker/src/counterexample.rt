@@ -28,17 +28,22 @@ fn named(edges: &[u8], local: bool, nodes: &[u8], p: u8, trace: &mut [u32]) -> E
     }
 }
 
-// The check of an outline, as a flat table of nodes, under a flat table of edges, with room for the steps of a trace.
-pub fn check_with_counterexample(edges: &[u8], nodes: &[u8], trace: &mut [u32]) -> Explanation
-    ensures { λ r. ⌜ Explained (now (edges .entry)) (now (nodes .entry)) (now (trace .entry)) r (now (trace .exit)) ⌝ }
+// The check of an outline, as a flat table of nodes, under a flat table of edges and a choice of past, with room for the steps of a trace.
+pub fn check_with_counterexample(
+    edges: &[u8],
+    local: bool,
+    nodes: &[u8],
+    trace: &mut [u32],
+) -> Explanation
+    ensures { λ r. ⌜ Explained local (now (edges .entry)) (now (nodes .entry)) (now (trace .entry)) r (now (trace .exit)) ⌝ }
 {
     if trace.len() < MOST_NUMBERS {
         return Explanation::Refused(40);
     }
-    let o = crate::check(edges, nodes);
+    let o = crate::check(edges, local, nodes);
     match o {
         Outcome::Accepted => Explanation::Accepted,
-        Outcome::Named(p) => named(edges, false, nodes, p, trace),
+        Outcome::Named(p) => named(edges, local, nodes, p, trace),
         Outcome::Refused(n) => Explanation::Refused(n),
     }
 }

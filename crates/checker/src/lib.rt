@@ -53,9 +53,9 @@ fn has_edge(edges: &[u8], p: usize) -> bool
     false
 }
 
-// The check of an outline, as a flat table of nodes, under a flat table of edges.
-pub fn check(edges: &[u8], nodes: &[u8]) -> Outcome
-    ensures { λ r. ⌜ CheckPromise (now (edges .entry)) (now (nodes .entry)) (outcomeVerdict r) ⌝ }
+// The check of an outline, as a flat table of nodes, under a flat table of edges and a choice of past.
+pub fn check(edges: &[u8], local: bool, nodes: &[u8]) -> Outcome
+    ensures { λ r. ⌜ CheckPromise local (now (edges .entry)) (now (nodes .entry)) (outcomeVerdict r) ⌝ }
 {
-    search::checked(edges, false, nodes)
+    search::checked(edges, local, nodes)
 }

@@ -11,7 +11,7 @@ checked-requires c κs = search needs
 returns : tie.Need-returns
 returns c =
     let a = c .before .before .before .args in
-    right-promised (a .edges .now) (a .nodes .now) (outcomeVerdict (c .checked .result)) (c .checked .ensures)
+    right-promised (a .local) (a .edges .now) (a .nodes .now) (outcomeVerdict (c .checked .result)) (c .checked .ensures)
 
 pub check-spec : {M : Type 1} → statement M
 check-spec = tie.close (tie.spec checked-requires returns)

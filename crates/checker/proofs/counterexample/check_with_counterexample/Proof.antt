@@ -36,7 +36,7 @@ enum-known-o-2 c = search needs
 returns-2 : tie.Need-returns-2
 returns-2 c = let a = c .before .before .before .before .before .before .before .args in
     Explained.accepted (c .before .before .before .if1 .left)
-    (subst (λ (o : Outcome). CheckPromise (a .edges .now) (a .nodes .now) (outcomeVerdict o)) (c .enum-told .given .1)
+    (subst (λ (o : Outcome). CheckPromise (a .local) (a .edges .now) (a .nodes .now) (outcomeVerdict o)) (c .enum-told .given .1)
     (c .before .before .check .ensures))
 
 same-length : tie.Need-same-length
@@ -45,14 +45,14 @@ same-length c = search needs
 returns-3 : tie.Need-returns-3
 returns-3 c = let a = c .before .before .before .before .before .before .before .before .before .before .before .before .args in
     named-explained (c .before .before .before .before .before .before .before .before .if1 .left)
-    (subst (λ (o : Outcome). CheckPromise (a .edges .now) (a .nodes .now) (outcomeVerdict o))
+    (subst (λ (o : Outcome). CheckPromise (a .local) (a .edges .now) (a .nodes .now) (outcomeVerdict o))
     (c .before .before .before .before .before .o .given .1) (c .before .before .before .before .before .before .before .check .ensures))
     (c .before .before .named .ensures)
 
 returns-4 : tie.Need-returns-4
 returns-4 c = let a = c .before .before .before .before .before .before .before .before .args in
     Explained.refused-with (c .before .before .before .before .if1 .left)
-    (subst (λ (o : Outcome). CheckPromise (a .edges .now) (a .nodes .now) (outcomeVerdict o)) (c .before .o2 .given .1)
+    (subst (λ (o : Outcome). CheckPromise (a .local) (a .edges .now) (a .nodes .now) (outcomeVerdict o)) (c .before .o2 .given .1)
     (c .before .before .before .check .ensures))
 
 pub check-with-counterexample-spec : {M : Type 1} → statement M
