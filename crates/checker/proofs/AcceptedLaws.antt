@@ -154,7 +154,8 @@ module _ (t : List ℕ) (table : edgeTable t ≡ true) (local : Bool) (ns : List
             stated = beyond-case reads b;
             first = λ m l c. absurd (let e = beyond-once b (only-beyond step past m fine (case-of reads c)) in omega arith);
           } in
-          let a = refused-is (judgeOf t local s (rawOf step) .answer) n (judged-is t table local past false s R (rawOf step) (is-refused r)) in
+          let a = refused-is (judgeOf t local s (rawOf step) .answer) n
+          (judged-is t table local past false s R (rawOf step) (is-refused r)) in
           beyond b (refused-whole (judgeOf t local s (rawOf step)) s n a
           (kept-refused s _ (judgeOf t local s (rawOf step) .answer) n a (judge-promised t table local past false s R (rawOf step) .kept)))
 

@@ -17,8 +17,8 @@ use Rattle.checker.specs.Explained.{NamedBy, Explained}
 no-refusal : {A : Type 0} {p k : ℕ} → _≡_ {A = Verdict} (violated p) (refused k) → A
 no-refusal e = clash (cc)
 
-pub named-explained : {local : Bool} {e n t t′ : List ℕ} {p : ℕ} {r : Explanation} → mostNumbers ≤ length t → CheckPromise local e n (violated p)
-    → NamedBy local e n p t r t′ → Explained local e n t r t′
+pub named-explained : {local : Bool} {e n t t′ : List ℕ} {p : ℕ} {r : Explanation} → mostNumbers ≤ length t
+    → CheckPromise local e n (violated p) → NamedBy local e n p t r t′ → Explained local e n t r t′
 named-explained l h (NamedBy.told-shown (trace.this-long k a b s)) = Explained.this-long l h s
 named-explained l h (NamedBy.told-longer (trace.longer k a b s)) = Explained.longer l h s
 named-explained l h (NamedBy.told-refused (trace.too-small k)) = absurd (omega arith)

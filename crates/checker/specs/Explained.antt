@@ -22,8 +22,8 @@ pub data NamedBy (local : Bool) (e n : List ℕ) (p : ℕ) (t : List ℕ) : Expl
   told-longer : {t′ : List ℕ} → trace.Told local e n p t lengths.Longer t′ → NamedBy local e n p t (Longer p) t′
   told-refused : {k : ℕ} {t′ : List ℕ} → trace.Told local e n p t (lengths.Refused k) t′ → NamedBy local e n p t (Refused k) t′
 
--- e and n are the tables of edges and nodes, beside the choice of past, t and t′ the lent table before and after. "40 also covers a lent trace table below 200
--- places"; else the check's own verdict, and where it names a policy what is shown with that
+-- e and n are the tables of edges and nodes, under a choice of past, t and t′ the lent table before and after. "40 also covers a lent trace
+-- table below 200 places"; else the check's own verdict, and where it names a policy what is shown with that
 pub data Explained (local : Bool) (e n t : List ℕ) : Explanation → List ℕ → Type 0 where
   too-small : length t < mostNumbers → Explained local e n t (Refused 40) t
   refused-with : {k : ℕ} → mostNumbers ≤ length t → CheckPromise local e n (refused k) → Explained local e n t (Refused k) t

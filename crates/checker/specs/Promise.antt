@@ -25,7 +25,8 @@ pub data RightVerdict (local : Bool) (edges nodes : List ℕ) : Verdict → Type
   checked : {v : Verdict} → EdgeTable edges → NodeTable nodes → Checked local (edgesOf edges) (nodesOf nodes) v
       → RightVerdict local edges nodes v
 
--- The promise of whoever tells the verdict v of two lent tables and a choice of past. A verdict is right exactly where it is the one that is told.
+-- The promise of whoever tells the verdict v of two lent tables and a choice of past. A verdict is right exactly where it is the one
+-- that is told.
 pub record CheckPromise (local : Bool) (edges nodes : List ℕ) (v : Verdict) : Type 0 where
   pub exact : (w : Verdict) → RightVerdict local edges nodes w ↔ (v ≡ w)
   -- "What the check accepts, the judge never halts"
