@@ -16,19 +16,19 @@ use Rattle.usage.proofs.TableLaws.{decides-edge-table}
 use Rattle.automaton.specs.Mask.{has, single, union}
 use Rattle.automaton.specs.Move.{targets, image, move, moveMask}
 use Rattle.monitor_state.specs.Judge.{verdictOf, startState, listed, distinct, createdOk, stackIn, agreeBelow, orderOk, stateOk, placeFrom}
-use Rattle.monitor_state.specs.Judge.{placeOf, copied}
-use Rattle.monitor_state.specs.Judge.{createdIn, movedSets, movedIn, withOpenings, after, gathered, broken, refusal}
+use Rattle.monitor_state.specs.Judge.{placeOf, copied, createdIn, movedSets, movedIn, withOpenings, resetSets, withSets, resetIn, after}
+use Rattle.monitor_state.specs.Judge.{gathered, broken, refusal}
 use Rattle.monitor_state.specs.Judge.{refuse, halt, settle, judgeStep, judgeRead, judgeOf, answersOf}
 use Rattle.monitor_state.proofs.Verdict.{all-judged-begin}
 use Rattle.test_cases.specs.JudgeCases.{JudgeCase, JudgedRight, P, caseA, caseB, caseC, caseD}
 use Rattle.test_cases.specs.JudgeCases.{caseE, caseF, caseG, caseH, casesLimits}
 
 -- the judge's definition, computed
-unfoldable pub run : List ℕ → List RawStep → List Verdict
+unfoldable pub run : List ℕ → Bool → List RawStep → List Verdict
 unfolding stepOf from edgesOf edgeTable every someBelow edgeOk edgesOk has single union targets image move moveMask startState listed distinct
-    createdOk occurrences stackIn agreeBelow orderOk stateOk placeFrom placeOf copied createdIn movedSets movedIn withOpenings after gathered broken refusal refuse halt settle judgeStep
-    judgeRead judgeOf answersOf trailingZeros
-run t raws = map verdictOf (answersOf t startState raws)
+    createdOk occurrences stackIn agreeBelow orderOk stateOk placeFrom placeOf copied createdIn movedSets movedIn withOpenings resetSets
+    withSets resetIn after gathered broken refusal refuse halt settle judgeStep judgeRead judgeOf answersOf trailingZeros
+run t local raws = map verdictOf (answersOf t local startState raws)
 
 unfoldable pub possible : List ℕ → Bool
 unfolding from edgesOf edgeTable every edgeOk edgesOk
@@ -44,24 +44,25 @@ pub among : {A : Type 0} (F : A → Type 0) (cs : List A) → Each F cs → (c :
 among F [] h c m = absurd (List·Memᴰ·not-nil m)
 among F (d ∷ cs) h c m = by-cases (List·Memᴰ·cases-cons m) (λ e. subst F (sym e) (h .0)) (λ i. among F cs (h .1) c i)
 
-right-one : (c : JudgeCase) → possible (c .edges) ≡ true → run (c .edges) (c .steps) ≡ c .answers → JudgedRight false c
+right-one : (local : Bool) (c : JudgeCase) → possible (c .edges) ≡ true
+    → run (c .edges) local (c .steps) ≡ c .answers → JudgedRight local c
 unfolding run possible
-right-one c table gives = record {
+right-one local c table gives = record {
   table = decides-edge-table (c .edges) .0 table;
-  judged = subst (JudgedAll false (edgesOf (c .edges)) [] false (c .steps)) gives (all-judged-begin (c .edges) table (c .steps));
+  judged = subst (JudgedAll local (edgesOf (c .edges)) [] false (c .steps)) gives (all-judged-begin (c .edges) table local (c .steps));
 }
 
-pub right-each : (cs : List JudgeCase) → every (λ c. possible (c .edges)) cs ≡ true
-    → map (λ c. run (c .edges) (c .steps)) cs ≡ map (λ c. c .answers) cs → Each (JudgedRight false) cs
+pub right-each : (local : Bool) (cs : List JudgeCase) → every (λ c. possible (c .edges)) cs ≡ true
+    → map (λ c. run (c .edges) local (c .steps)) cs ≡ map (λ c. c .answers) cs → Each (JudgedRight local) cs
 unfolding every
-right-each [] tables gives = tt
-right-each (c ∷ cs) tables gives =
-    (right-one c (and-left (possible (c .edges)) _ tables) first, right-each cs (and-right (possible (c .edges)) _ tables) rest)
+right-each local [] tables gives = tt
+right-each local (c ∷ cs) tables gives =
+    (right-one local c (and-left (possible (c .edges)) _ tables) first, right-each local cs (and-right (possible (c .edges)) _ tables) rest)
   where
-    first : run (c .edges) (c .steps) ≡ c .answers
+    first : run (c .edges) local (c .steps) ≡ c .answers
     first = cc
 
-    rest : map (λ c. run (c .edges) (c .steps)) cs ≡ map (λ c. c .answers) cs
+    rest : map (λ c. run (c .edges) local (c .steps)) cs ≡ map (λ c. c .answers) cs
     rest = cc
 
 -- ── The cases ──
@@ -73,12 +74,12 @@ tables-AH : every (λ c. possible (c .edges)) cases-AH ≡ true
 unfolding possible
 tables-AH = refl
 
-computed-AH : map (λ c. run (c .edges) (c .steps)) cases-AH ≡ map (λ c. c .answers) cases-AH
+computed-AH : map (λ c. run (c .edges) false (c .steps)) cases-AH ≡ map (λ c. c .answers) cases-AH
 unfolding run
 computed-AH = refl
 
 pub right-AH : Each (JudgedRight false) cases-AH
-right-AH = right-each cases-AH tables-AH computed-AH
+right-AH = right-each false cases-AH tables-AH computed-AH
 
 -- "A: empty trace, valid."
 pub valid-A : EdgeTable P × Valid false (edgesOf P) []
@@ -90,9 +91,9 @@ tables-limits : every (λ c. possible (c .edges)) casesLimits ≡ true
 unfolding possible
 tables-limits = refl
 
-computed-limits : map (λ c. run (c .edges) (c .steps)) casesLimits ≡ map (λ c. c .answers) casesLimits
+computed-limits : map (λ c. run (c .edges) false (c .steps)) casesLimits ≡ map (λ c. c .answers) casesLimits
 unfolding run
 computed-limits = refl
 
 pub right-limits : Each (JudgedRight false) casesLimits
-right-limits = right-each casesLimits tables-limits computed-limits
+right-limits = right-each false casesLimits tables-limits computed-limits
