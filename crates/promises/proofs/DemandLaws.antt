@@ -57,20 +57,20 @@ demand-1 = record {
 }
 
 pub demand-2 : Demand2
-demand-2 t edges raws vs =
-    let j = all-judged-begin t (decides-edge-table t .1 edges) raws in (
-      λ e. subst (JudgedAll false (edgesOf t) [] false raws) e j,
+demand-2 local t edges raws vs =
+    let j = all-judged-begin t (decides-edge-table t .1 edges) local raws in (
+      λ e. subst (JudgedAll local (edgesOf t) [] false raws) e j,
       λ k. judged-all-unique j k,
     )
 
 pub demand-3 : Demand3
 demand-3 = record {
-  right = λ t n v c. c .exact v .1 refl;
-  no-other = λ t n v w c r. c .exact w .0 r;
-  never-halted = λ t n edges nodes c. never-halted t (decides-edge-table t .1 edges) (nodesOf n) (nodes .outline) (none-left c);
+  right = λ local t n v c. c .exact v .1 refl;
+  no-other = λ local t n v w c r. c .exact w .0 r;
+  never-halted = λ local t n edges nodes c. never-halted t (decides-edge-table t .1 edges) local (nodesOf n) (nodes .outline) (none-left c);
 }
   where
-    none-left : {es : List Edge} {ns : List Node} → Checked false es ns allowed → (p : ℕ) → Leaves false es ns p → ⊥
+    none-left : {local : Bool} {es : List Edge} {ns : List Node} → Checked local es ns allowed → (p : ℕ) → Leaves local es ns p → ⊥
     none-left (accepts f) = f
 
 pub demands : Demands

@@ -119,52 +119,52 @@ settle-low : (s t : State) (bad : ℕ) → Low (settle bad s t)
 unfolding settle
 settle-low s t bad = cond-low (eqb bad 0) _ _ (λ n e. allows e) (λ n e. no-refusal e)
 
-module _ (es : List Edge) (s : State) where
-  step-fine : (step : Step) (o : Option ℕ) → Routine o → Fine s (judgeStep es s step o) × Low (judgeStep es s step o)
+module _ (local : Bool) (es : List Edge) (s : State) where
+  step-fine : (step : Step) (o : Option ℕ) → Routine o → Fine s (judgeStep local es s step o) × Low (judgeStep local es s step o)
   unfolding judgeStep
   step-fine step none r = (
-    settle-fine s (after es s step) (broken (after es s step)) (broken-lt (after es s step)),
-    settle-low s (after es s step) (broken (after es s step)),
+    settle-fine s (after local es s step) (broken (after local es s step)) (broken-lt (after local es s step)),
+    settle-low s (after local es s step) (broken (after local es s step)),
   )
   step-fine step (some n) r = (refuse-fine s n (r .0), refuse-low s n (r .1))
 
-  read-fine : (o : Option Step) → Fine s (judgeRead es s o) × Low (judgeRead es s o)
+  read-fine : (o : Option Step) → Fine s (judgeRead local es s o) × Low (judgeRead local es s o)
   unfolding judgeRead
   read-fine none = (refuse-fine s 21 (nth 1 judgeNumbers refl), refuse-low s 21 (lit< tt))
   read-fine (some step) = step-fine step (refusal s step) (refusal-routine s step)
 
 -- ── The judge ──
 
-module _ (t : List ℕ) (s : State) (raw : RawStep) where
+module _ (t : List ℕ) (local : Bool) (s : State) (raw : RawStep) where
   abbrev inner : Judgement
-  inner = cond (s .halted) (refuse 20 s) (judgeRead (edgesOf t) s (stepOf raw))
+  inner = cond (s .halted) (refuse 20 s) (judgeRead local (edgesOf t) s (stepOf raw))
 
   inner-fine : Fine s inner
-  inner-fine = cond-fine (s .halted) _ _ (refuse-fine s 20 (nth 0 judgeNumbers refl)) (read-fine (edgesOf t) s (stepOf raw) .0)
+  inner-fine = cond-fine (s .halted) _ _ (refuse-fine s 20 (nth 0 judgeNumbers refl)) (read-fine local (edgesOf t) s (stepOf raw) .0)
 
   inner-low : Low inner
-  inner-low = cond-low (s .halted) _ _ (refuse-low s 20 (lit< tt)) (read-fine (edgesOf t) s (stepOf raw) .1)
+  inner-low = cond-low (s .halted) _ _ (refuse-low s 20 (lit< tt)) (read-fine local (edgesOf t) s (stepOf raw) .1)
 
-  pub judge-fine : Fine s (judgeOf t s raw)
+  pub judge-fine : Fine s (judgeOf t local s raw)
   unfolding judgeOf
   judge-fine =
       cond-fine (not (edgeTable t)) _ _ (refuse-fine s 41 (nth 9 judgeNumbers refl))
       (cond-fine (not (stateOk s)) _ _ (refuse-fine s 42 (nth 10 judgeNumbers refl)) inner-fine)
 
-  is-41 : edgeTable t ≡ false → judgeOf t s raw ≡ refuse 41 s
+  is-41 : edgeTable t ≡ false → judgeOf t local s raw ≡ refuse 41 s
   unfolding judgeOf
   is-41 p = rw p
 
-  is-42 : edgeTable t ≡ true → stateOk s ≡ false → judgeOf t s raw ≡ refuse 42 s
+  is-42 : edgeTable t ≡ true → stateOk s ≡ false → judgeOf t local s raw ≡ refuse 42 s
   unfolding judgeOf
   is-42 p q = rw (p, q)
 
-  is-inner : edgeTable t ≡ true → stateOk s ≡ true → judgeOf t s raw ≡ inner
+  is-inner : edgeTable t ≡ true → stateOk s ≡ true → judgeOf t local s raw ≡ inner
   unfolding judgeOf
   is-inner p q = rw (p, q)
 
   -- the number where the table is one that a sheet gives
-  with-table : edgeTable t ≡ true → (n : ℕ) → judgeOf t s raw .answer ≡ Refused n → ((n ≡ 42) × (stateOk s ≡ false)) ⊎ (n < 40)
+  with-table : edgeTable t ≡ true → (n : ℕ) → judgeOf t local s raw .answer ≡ Refused n → ((n ≡ 42) × (stateOk s ≡ false)) ⊎ (n < 40)
   unfolding refuse
   with-table p n e = go (stateOk s) refl
     where
@@ -172,7 +172,7 @@ module _ (t : List ℕ) (s : State) (raw : RawStep) where
       go true q = inr (inner-low n (sym (ap (λ (j : Judgement). j .answer) (is-inner p q)) ∙ e))
       go false q = inl (ap numberOf (sym e ∙ ap (λ (j : Judgement). j .answer) (is-42 p q)), q)
 
-  pub at-41 : (judgeOf t s raw .answer ≡ Refused 41) ↔ (EdgeTable t → ⊥)
+  pub at-41 : (judgeOf t local s raw .answer ≡ Refused 41) ↔ (EdgeTable t → ⊥)
   unfolding refuse
   at-41 = (λ e edges. neither (with-table (decides-edge-table t .1 edges) 41 e), back)
     where
@@ -180,10 +180,10 @@ module _ (t : List ℕ) (s : State) (raw : RawStep) where
       neither (inl x) = let h = x .0 in omega arith
       neither (inr x) = omega arith
 
-      back : (EdgeTable t → ⊥) → judgeOf t s raw .answer ≡ Refused 41
+      back : (EdgeTable t → ⊥) → judgeOf t local s raw .answer ≡ Refused 41
       back f = ap (λ (j : Judgement). j .answer) (is-41 (refuted (edgeTable t) (decides-edge-table t) f))
 
-  pub at-42 : (judgeOf t s raw .answer ≡ Refused 42) ↔ (EdgeTable t × (stateOk s ≡ false))
+  pub at-42 : (judgeOf t local s raw .answer ≡ Refused 42) ↔ (EdgeTable t × (stateOk s ≡ false))
   unfolding refuse
   at-42 = (λ e. go (edgeTable t) refl e, λ x. back (x .0) (x .1))
     where
@@ -191,21 +191,21 @@ module _ (t : List ℕ) (s : State) (raw : RawStep) where
       only (inl x) = x .1
       only (inr x) = absurd (omega arith)
 
-      go : (b : Bool) → edgeTable t ≡ b → judgeOf t s raw .answer ≡ Refused 42 → EdgeTable t × (stateOk s ≡ false)
+      go : (b : Bool) → edgeTable t ≡ b → judgeOf t local s raw .answer ≡ Refused 42 → EdgeTable t × (stateOk s ≡ false)
       go true p e = (decides-edge-table t .0 p, only (with-table p 42 e))
       go false p e = absurd (differ (ap numberOf (sym e ∙ ap (λ (j : Judgement). j .answer) (is-41 p))))
         where
           differ : _≡_ {A = ℕ} 42 41 → ⊥
           differ h = omega arith
 
-      back : EdgeTable t → stateOk s ≡ false → judgeOf t s raw .answer ≡ Refused 42
+      back : EdgeTable t → stateOk s ≡ false → judgeOf t local s raw .answer ≡ Refused 42
       back edges q = ap (λ (j : Judgement). j .answer) (is-42 (decides-edge-table t .1 edges) q)
 
 pub judge-refuses : JudgeRefuses
 judge-refuses = record {
-  listed = λ t s raw. judge-fine t s raw .listed;
-  keeps = λ t s raw. judge-fine t s raw .keeps;
-  halts = λ t s raw. judge-fine t s raw .halts;
+  listed = λ t local s raw. judge-fine t local s raw .listed;
+  keeps = λ t local s raw. judge-fine t local s raw .keeps;
+  halts = λ t local s raw. judge-fine t local s raw .halts;
   no-table = at-41;
   no-state = at-42;
 }

@@ -1,11 +1,12 @@
 -- No answer, and no byte that is printed, depends on how the dynamic resources are numbered.
 use Prim.Native.Nat.{ℕ}
 use mathlib.Core.Path.{_≡_, refl, ap}
+use mathlib.Core.Bool.{Bool}
 use mathlib.Core.List.{List, _++_, map, flatten}
 use Rattle.usage.specs.declared.RawStep.{RawStep}
 use Rattle.usage.specs.Tables.{stepsOf}
 use Rattle.sheet_lines.specs.Sheet.{Result, accepted, refused, sheet}
-use Rattle.sheet_lines.specs.Sheets.{traceSheet}
+use Rattle.sheet_lines.specs.Sheets.{isLocal, traceSheet}
 use Rattle.sheet_reader.specs.Readers.{policiesRead}
 use Rattle.monitor_state.specs.declared.Answer.{Answer}
 use Rattle.monitor_state.specs.Judge.{verdictOf, startState}
@@ -16,10 +17,10 @@ use Rattle.report.specs.Output.{printed}
 use Rattle.report.specs.Trace.{judgedRows, traceRows, tracePrinted}
 use Rattle.promises.specs.Demands.{Renumbered}
 
-rows-same : (edges : List ℕ) (f : ℕ → ℕ) → Renaming f → (line : ℕ) (steps : List RawStep)
-    → judgedRows edges startState line (map (renamedStep f) steps) ≡ judgedRows edges startState line steps
+rows-same : (edges : List ℕ) (local : Bool) (f : ℕ → ℕ) → Renaming f → (line : ℕ) (steps : List RawStep)
+    → judgedRows edges local startState line (map (renamedStep f) steps) ≡ judgedRows edges local startState line steps
 unfolding judgedRows
-rows-same edges f R line steps = ap (λ (l : List Answer). rows line (map verdictOf l)) (start-same edges f R steps)
+rows-same edges local f R line steps = ap (λ (l : List Answer). rows line (map verdictOf l)) (start-same edges local f R steps)
 
 printed-same : (policies-text trace-text renamed-text : List ℕ) (rows renamed-rows : List (List ℕ)) (f : ℕ → ℕ) → Renaming f
     → sheet traceSheet trace-text ≡ accepted rows → sheet traceSheet renamed-text ≡ accepted renamed-rows
@@ -29,9 +30,10 @@ unfolding tracePrinted printed traceRows
 printed-same policies-text trace-text renamed-text rows renamed-rows f R p q e = rw (p, q, e) (go (policiesRead policies-text))
   where
     go : (r : Result)
-        → printed r (λ edges. judgedRows edges startState 2 (map (renamedStep f) (stepsOf (flatten rows))))
-        ≡ printed r (λ edges. judgedRows edges startState 2 (stepsOf (flatten rows)))
-    go (accepted edges) = ap (λ (l : List ℕ). namesLine ++ l) (rows-same (flatten edges) f R 2 (stepsOf (flatten rows)))
+        → printed r (λ edges. judgedRows edges (isLocal policies-text) startState 2 (map (renamedStep f) (stepsOf (flatten rows))))
+        ≡ printed r (λ edges. judgedRows edges (isLocal policies-text) startState 2 (stepsOf (flatten rows)))
+    go (accepted edges) =
+        ap (λ (l : List ℕ). namesLine ++ l) (rows-same (flatten edges) (isLocal policies-text) f R 2 (stepsOf (flatten rows)))
     go (refused r) = refl
 
 pub renumbered : Renumbered

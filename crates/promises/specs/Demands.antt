@@ -45,15 +45,18 @@ Listed numbers (violated p) = p < policies
 Listed numbers (refused n) = List·Memᴰ n numbers
 
 -- "A refusal has its number, in its stated case only, and changes nothing in the state or in what the caller lent": of every table of edges,
--- every state and every step at all.
+-- every state and every step at all, whichever past counts.
 pub record JudgeRefuses : Type 0 where
-  pub listed : (t : List ℕ) (s : State) (raw : RawStep) → Listed judgeNumbers (verdictOf (judgeOf t s raw .answer))
-  pub keeps : (t : List ℕ) (s : State) (raw : RawStep) (n : ℕ) → judgeOf t s raw .answer ≡ Refused n → judgeOf t s raw .state ≡ s
+  pub listed : (t : List ℕ) (local : Bool) (s : State) (raw : RawStep) → Listed judgeNumbers (verdictOf (judgeOf t local s raw .answer))
+  pub keeps : (t : List ℕ) (local : Bool) (s : State) (raw : RawStep) (n : ℕ) → judgeOf t local s raw .answer ≡ Refused n
+      → judgeOf t local s raw .state ≡ s
   -- "a halted state that is otherwise the one before the step"
-  pub halts : (t : List ℕ) (s : State) (raw : RawStep) (p : ℕ) → judgeOf t s raw .answer ≡ Violated p → judgeOf t s raw .state ≡ halt s
+  pub halts : (t : List ℕ) (local : Bool) (s : State) (raw : RawStep) (p : ℕ)
+      → judgeOf t local s raw .answer ≡ Violated p → judgeOf t local s raw .state ≡ halt s
   -- the cases of the numbers that no past tells; those of the others are in demand 2
-  pub no-table : (t : List ℕ) (s : State) (raw : RawStep) → (judgeOf t s raw .answer ≡ Refused 41) ↔ (EdgeTable t → ⊥)
-  pub no-state : (t : List ℕ) (s : State) (raw : RawStep) → (judgeOf t s raw .answer ≡ Refused 42) ↔ (EdgeTable t × (stateOk s ≡ false))
+  pub no-table : (t : List ℕ) (local : Bool) (s : State) (raw : RawStep) → (judgeOf t local s raw .answer ≡ Refused 41) ↔ (EdgeTable t → ⊥)
+  pub no-state : (t : List ℕ) (local : Bool) (s : State) (raw : RawStep)
+      → (judgeOf t local s raw .answer ≡ Refused 42) ↔ (EdgeTable t × (stateOk s ≡ false))
 
 -- The same of a reader, which is lent a table of so many places to fill and the bytes of a sheet.
 pub record ReaderRefuses (numbers : List ℕ) (needed : ℕ) (into : ℕ → List ℕ → Result) : Type 0 where
@@ -84,19 +87,22 @@ pub record Demand1 : Type 0 where
 
 -- "Each step is judged as the published definition of usage policies says, over the whole past and every choice of the policy's resource":
 -- from the judge's start, for every list of steps at all, the answers are the right ones after the past that the steps before left, and no
--- others are.
+-- others are. "The judge's definition, the whole of demand 3 and the bad trace are given both meanings" (02, L7): so for each choice
+-- of past.
 abbrev pub Demand2 : Type 0
-Demand2 = (t : List ℕ) → EdgeTable t → (raws : List RawStep) (vs : List Verdict)
-    → (map verdictOf (answersOf t startState raws) ≡ vs) ↔ JudgedAll false (edgesOf t) [] false raws vs
+Demand2 = (local : Bool) (t : List ℕ) → EdgeTable t → (raws : List RawStep) (vs : List Verdict)
+    → (map verdictOf (answersOf t local startState raws) ≡ vs) ↔ JudgedAll local (edgesOf t) [] false raws vs
 
 -- ── Demand 3 ──
 
 -- "What the check accepts, the judge never halts: one theorem over whole traces; and the check is exact, naming the lowest policy at fault."
--- The check tells v where `CheckPromise` holds of v. Then v is right, no other verdict is, and acceptance means what it says.
+-- The check tells v where `CheckPromise` holds of v. Then v is right, no other verdict is, and acceptance means what it says, for each
+-- choice of past.
 pub record Demand3 : Type 0 where
-  pub right : (t n : List ℕ) (v : Verdict) → CheckPromise t n v → RightVerdict false t n v
-  pub no-other : (t n : List ℕ) (v w : Verdict) → CheckPromise t n v → RightVerdict false t n w → v ≡ w
-  pub never-halted : (t n : List ℕ) → EdgeTable t → NodeTable n → Checked false (edgesOf t) (nodesOf n) allowed → NeverHalted t (nodesOf n)
+  pub right : (local : Bool) (t n : List ℕ) (v : Verdict) → CheckPromise local t n v → RightVerdict local t n v
+  pub no-other : (local : Bool) (t n : List ℕ) (v w : Verdict) → CheckPromise local t n v → RightVerdict local t n w → v ≡ w
+  pub never-halted : (local : Bool) (t n : List ℕ) → EdgeTable t → NodeTable n
+      → Checked local (edgesOf t) (nodesOf n) allowed → NeverHalted t local (nodesOf n)
 
 -- ── Renumbered channels (02, L3) ──
 
