@@ -1,7 +1,7 @@
 -- The laws of the judge over lent arrays.
 use Prim.Native.Nat.{ℕ, _<_, _≤_}
 use mathlib.Core.Path.{_≡_, refl, sym, ap, _∙_}
-use mathlib.Core.Bool.{Bool, true, false, not, cond}
+use mathlib.Core.Bool.{Bool, true, false, not, _&&_, cond}
 use mathlib.Core.List.{List, [], _∷_}
 use borrow.Author.Tests.{le-leb, lt-leb}
 use lib.Dec.{eqb, leb}
@@ -20,6 +20,7 @@ use Rattle.monitor_state.specs.Code.{judgementOf}
 use Rattle.monitor_state.proofs.KeptLaws.{refused-kept}
 use Rattle.monitor.proofs.JudgeLaws.{table-refused}
 use Rattle.api_c.specs.Parts.{Parts, partsOf, flag, heldIn, holding, Answered, refuseParts, answeredIn, judgeParts}
+use Rattle.api_c.specs.Choice.{isChoice, choiceOf}
 use Rattle.api_c.specs.Code.{isRefusal}
 
 -- ── A refusal leaves the arrays as they were lent ──
@@ -37,24 +38,29 @@ answered-keeps p n (Violated q) s e = clash (cc)
 answered-keeps p n (Refused m) s e = refl
 
 -- Demand 1, of every array that the caller lent, for all inputs.
-pub refusal-keeps : (edges : List ℕ) (p : Parts) (raw : RawStep) (n : ℕ) → judgeParts edges p raw .verdict ≡ refused n
-    → judgeParts edges p raw .parts ≡ p
+pub refusal-keeps : (edges : List ℕ) (choice : ℕ) (p : Parts) (raw : RawStep) (n : ℕ) → judgeParts edges choice p raw .verdict ≡ refused n
+    → judgeParts edges choice p raw .parts ≡ p
 unfolding judgeParts
-refusal-keeps edges p raw n =
-    either-keeps p n (not (edgeTable edges)) (refuseParts 41 p) (cond (not (leb (flag p) 1)) (refuseParts 42 p) judged) (λ e. refl)
+refusal-keeps edges choice p raw n =
+    either-keeps p n (not (isChoice choice && edgeTable edges)) (refuseParts 41 p) (cond (not (leb (flag p) 1)) (refuseParts 42 p) judged) (λ e. refl)
     (either-keeps p n (not (leb (flag p) 1)) (refuseParts 42 p) judged (λ e. refl)
-    (answered-keeps p n (judgeOf edges (heldIn p) raw .answer) (judgeOf edges (heldIn p) raw .state)))
+    (answered-keeps p n (judgeOf edges (choiceOf choice) (heldIn p) raw .answer) (judgeOf edges (choiceOf choice) (heldIn p) raw .state)))
   where
     judged : Answered
-    judged = answeredIn p (judgeOf edges (heldIn p) raw .answer) (judgeOf edges (heldIn p) raw .state)
+    judged = answeredIn p (judgeOf edges (choiceOf choice) (heldIn p) raw .answer) (judgeOf edges (choiceOf choice) (heldIn p) raw .state)
 
 -- ── The answer by the flag ──
 
-module _ (edges : List ℕ) (p : Parts) (raw : RawStep) where
-  -- a flag that is none
-  pub flag-refused : 1 < flag p → judgeParts edges p raw ≡ refuseParts (cond (edgeTable edges) 42 41) p
+module _ (edges : List ℕ) (choice : ℕ) (p : Parts) (raw : RawStep) where
+  -- a choice that is none
+  pub choice-refused : 1 < choice → judgeParts edges choice p raw ≡ refuseParts 41 p
   unfolding judgeParts
-  flag-refused h = go (edgeTable edges) _
+  choice-refused h = simp (lt-leb choice 1 h)
+
+  -- a flag that is none
+  pub flag-refused : choice ≤ 1 → 1 < flag p → judgeParts edges choice p raw ≡ refuseParts (cond (edgeTable edges) 42 41) p
+  unfolding judgeParts
+  flag-refused c h = simp (le-leb choice 1 c) (go (edgeTable edges) _)
     where
       go : (b : Bool) (r : Answered)
           → cond (not b) (refuseParts 41 p) (cond (not (leb (flag p) 1)) (refuseParts 42 p) r) ≡ refuseParts (cond b 42 41) p
@@ -62,28 +68,28 @@ module _ (edges : List ℕ) (p : Parts) (raw : RawStep) where
       go false r = refl
 
   -- else the answer is the judge's, 41 too
-  flag-judged : flag p ≤ 1
-      → judgeParts edges p raw ≡ answeredIn p (judgeOf edges (heldIn p) raw .answer) (judgeOf edges (heldIn p) raw .state)
+  flag-judged : choice ≤ 1 → flag p ≤ 1
+      → judgeParts edges choice p raw ≡ answeredIn p (judgeOf edges (choiceOf choice) (heldIn p) raw .answer) (judgeOf edges (choiceOf choice) (heldIn p) raw .state)
   unfolding judgeParts refuse
-  flag-judged h = go (edgeTable edges) refl
+  flag-judged c h = simp (le-leb choice 1 c) (go (edgeTable edges) refl)
     where
       go : (b : Bool) → edgeTable edges ≡ b
           → cond (not b) (refuseParts 41 p)
           (cond (not (leb (flag p) 1)) (refuseParts 42 p)
-          (answeredIn p (judgeOf edges (heldIn p) raw .answer) (judgeOf edges (heldIn p) raw .state)))
-          ≡ answeredIn p (judgeOf edges (heldIn p) raw .answer) (judgeOf edges (heldIn p) raw .state)
+          (answeredIn p (judgeOf edges (choiceOf choice) (heldIn p) raw .answer) (judgeOf edges (choiceOf choice) (heldIn p) raw .state)))
+          ≡ answeredIn p (judgeOf edges (choiceOf choice) (heldIn p) raw .answer) (judgeOf edges (choiceOf choice) (heldIn p) raw .state)
       go true e = simp (le-leb (flag p) 1 h)
-      go false e = sym (ap (λ (j : Judgement). answeredIn p (j .answer) (j .state)) (table-refused edges (heldIn p) raw e))
+      go false e = sym (ap (λ (j : Judgement). answeredIn p (j .answer) (j .state)) (table-refused edges (choiceOf choice) (heldIn p) raw e))
 
   -- ── What is told, and what is left in the arrays ──
 
-  module _ (h : flag p ≤ 1) (t : Told) (sets possible created unclosed order : List ℕ)
-      (is : judgementOf t sets possible created unclosed order ≡ judgeOf edges (heldIn p) raw) where
-    pub told-verdict : verdictOf (t .answer) ≡ judgeParts edges p raw .verdict
+  module _ (c : choice ≤ 1) (h : flag p ≤ 1) (t : Told) (sets possible created unclosed order : List ℕ)
+      (is : judgementOf t sets possible created unclosed order ≡ judgeOf edges (choiceOf choice) (heldIn p) raw) where
+    pub told-verdict : verdictOf (t .answer) ≡ judgeParts edges choice p raw .verdict
     told-verdict =
-        sym (same (t .answer) (judgeOf edges (heldIn p) raw .state))
-        ∙ ap (λ (a : Answer). answeredIn p a (judgeOf edges (heldIn p) raw .state) .verdict) (ap (λ (j : Judgement). j .answer) is)
-        ∙ sym (ap (λ (r : Answered). r .verdict) (flag-judged h))
+        sym (same (t .answer) (judgeOf edges (choiceOf choice) (heldIn p) raw .state))
+        ∙ ap (λ (a : Answer). answeredIn p a (judgeOf edges (choiceOf choice) (heldIn p) raw .state) .verdict) (ap (λ (j : Judgement). j .answer) is)
+        ∙ sym (ap (λ (r : Answered). r .verdict) (flag-judged c h))
       where
         same : (a : Answer) (s : State) → answeredIn p a s .verdict ≡ verdictOf a
         same Allowed s = refl
@@ -91,12 +97,12 @@ module _ (edges : List ℕ) (p : Parts) (raw : RawStep) where
         same (Refused n) s = refl
 
     left : {q : Parts} → q ≡ answeredIn p (t .answer) (judgementOf t sets possible created unclosed order .state) .parts
-        → q ≡ judgeParts edges p raw .parts
+        → q ≡ judgeParts edges choice p raw .parts
     left e =
-        e ∙ ap (λ (j : Judgement). answeredIn p (j .answer) (j .state) .parts) is ∙ sym (ap (λ (r : Answered). r .parts) (flag-judged h))
+        e ∙ ap (λ (j : Judgement). answeredIn p (j .answer) (j .state) .parts) is ∙ sym (ap (λ (r : Answered). r .parts) (flag-judged c h))
 
     -- a refusal: the arrays are those of the state that was lent
-    pub refused-left : isRefusal (t .answer) ≡ true → partsOf sets possible created unclosed order (p .numbers) ≡ judgeParts edges p raw .parts
+    pub refused-left : isRefusal (t .answer) ≡ true → partsOf sets possible created unclosed order (p .numbers) ≡ judgeParts edges choice p raw .parts
     unfolding heldIn
     refused-left r = left (by-answer (t .answer) r refl)
       where
@@ -107,12 +113,12 @@ module _ (edges : List ℕ) (p : Parts) (raw : RawStep) where
         by-answer (Violated q) r e = false-true r
         by-answer (Refused n) r e =
             let same : judgementOf t sets possible created unclosed order .state ≡ heldIn p =
-            ap (λ (j : Judgement). j .state) is ∙ refused-kept edges (heldIn p) raw n (ap (λ (j : Judgement). j .answer) (sym is) ∙ e) in
+            ap (λ (j : Judgement). j .state) is ∙ refused-kept edges (choiceOf choice) (heldIn p) raw n (ap (λ (j : Judgement). j .answer) (sym is) ∙ e) in
             ap (λ (s : State). partsOf (s .sets) (s .possible) (s .created) (s .unclosed) (s .order) (p .numbers)) same
 
     -- otherwise the numbers are those of the new state
     pub taken-left : (f : ℕ) → isRefusal (t .answer) ≡ false → f ≡ cond (t .halted) 1 0
-        → partsOf sets possible created unclosed order (t .count ∷ f ∷ t .depth ∷ []) ≡ judgeParts edges p raw .parts
+        → partsOf sets possible created unclosed order (t .count ∷ f ∷ t .depth ∷ []) ≡ judgeParts edges choice p raw .parts
     unfolding holding
     taken-left f r e = left (ap (λ (n : ℕ). partsOf sets possible created unclosed order (t .count ∷ n ∷ t .depth ∷ [])) e ∙ by-answer (t .answer) r)
       where

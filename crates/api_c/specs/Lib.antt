@@ -1,3 +1,4 @@
+pub mod Choice
 pub mod Codes
 pub mod Parts
 pub mod Check

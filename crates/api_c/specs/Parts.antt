@@ -1,6 +1,6 @@
 -- The judge over a state that lies in the arrays that a caller lends.
 use Prim.Native.Nat.{ℕ, _+_}
-use mathlib.Core.Bool.{Bool, true, false, not, cond}
+use mathlib.Core.Bool.{Bool, true, false, not, _&&_, cond}
 use mathlib.Core.List.{List, [], _∷_}
 use lib.Dec.{eqb, leb}
 use lib.ListN.{getD}
@@ -12,6 +12,7 @@ use Rattle.monitor_state.specs.declared.Answer.{Answer}
 use Rattle.monitor_state.specs.declared.Answer.the-variants.{Allowed, Violated, Refused}
 use Rattle.monitor_state.specs.declared.Judgement.{Judgement}
 use Rattle.monitor_state.specs.Judge.{verdictOf, judgeOf}
+use Rattle.api_c.specs.Choice.{isChoice, choiceOf}
 
 -- the arrays; `numbers` holds how many resources were created, a flag, which is 1 where the state is halted and 0 where it is not, and how
 -- many openings are not closed
@@ -62,9 +63,10 @@ answeredIn p Allowed s = record { verdict = verdictOf Allowed; parts = holding s
 answeredIn p (Violated q) s = record { verdict = verdictOf (Violated q); parts = holding s }
 answeredIn p (Refused n) s = refuseParts n p
 
--- The judge, over the arrays. A flag that is neither 0 nor 1 is that of no state: 42, after 41 and before 20.
-unfoldable pub judgeParts : List ℕ → Parts → RawStep → Answered
-judgeParts edges p raw =
-    cond (not (edgeTable edges)) (refuseParts 41 p)
+-- The judge, over the arrays. A number that is no choice of past is 41. A flag that is neither 0 nor 1 is that of no state: 42, after 41 and
+-- before 20.
+unfoldable pub judgeParts : List ℕ → ℕ → Parts → RawStep → Answered
+judgeParts edges choice p raw =
+    cond (not (isChoice choice && edgeTable edges)) (refuseParts 41 p)
     (cond (not (leb (flag p) 1)) (refuseParts 42 p)
-    (answeredIn p (judgeOf edges (heldIn p) raw .answer) (judgeOf edges (heldIn p) raw .state)))
+    (answeredIn p (judgeOf edges (choiceOf choice) (heldIn p) raw .answer) (judgeOf edges (choiceOf choice) (heldIn p) raw .state)))

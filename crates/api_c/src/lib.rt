@@ -1,6 +1,7 @@
 // The judge and the check for callers in C and Rust: numbers and arrays in the place of structs. Tests and benchmarks call them.
 use checker::Outcome;
 use checker::counterexample::Explanation;
+use checker_trace::MOST_NUMBERS;
 use monitor_sets::SETS;
 use monitor_state::Answer;
 use monitor_state::Told;
@@ -59,15 +60,19 @@ fn no_state(edges: &[u8]) -> u32
     code(Answer::Refused(41))
 }
 
+// The greatest number that is a choice of past: 0 where the whole past counts, 1 where only that since the opening does.
+const MOST_CHOICE: u32 = 1;
+
 // How many numbers a state has beside its arrays.
 const NUMBERS: usize = 3;
 
-// One step of the judge. The state lies in the lent parts: the sets, what each policy may be in, the created numbers, the counts of unclosed
+// One step of the judge, under the choice of past `local`. The state lies in the lent parts: the sets, what each policy may be in, the created numbers, the counts of unclosed
 // openings and their order, and in `numbers` how many resources were created, a flag, 1 where the state is halted and 0 where it is not, and
 // how many openings are not closed. All of them then hold the state that the judge returns; after a refusal they are as they were lent.
 #[no_mangle]
 pub extern "C" fn judge_parts(
     edges: &[u8],
+    local: u32,
     sets: &mut [u8; SETS],
     possible: &mut [u8; POLICIES],
     created: &mut [u32; MOST_CREATED],
@@ -80,13 +85,13 @@ pub extern "C" fn judge_parts(
 ) -> u32
     ensures { λ r.
         ⌜ r ≡ codeOf
-        (judgeParts (now (edges .entry))
+        (judgeParts (now (edges .entry)) local
         (partsOf (now (sets .entry)) (now (possible .entry)) (now (created .entry)) (now (unclosed .entry))
         (now (order .entry)) (now (numbers .entry)))
         (record { kind = kind; a = a; b = b }) .verdict) ⌝ }
     ensures { λ r.
         ⌜ partsOf (now (sets .exit)) (now (possible .exit)) (now (created .exit)) (now (unclosed .exit)) (now (order .exit)) (now (numbers .exit))
-        ≡ judgeParts (now (edges .entry))
+        ≡ judgeParts (now (edges .entry)) local
         (partsOf (now (sets .entry)) (now (possible .entry)) (now (created .entry)) (now (unclosed .entry))
         (now (order .entry)) (now (numbers .entry)))
         (record { kind = kind; a = a; b = b }) .parts ⌝ }
@@ -94,11 +99,15 @@ pub extern "C" fn judge_parts(
     let count = numbers[0] as usize;
     let flag = numbers[1];
     let depth = numbers[2] as usize;
+    if MOST_CHOICE < local {
+        return code(Answer::Refused(41));
+    }
     if 1 < flag {
         return no_state(edges);
     }
     let t = monitor::judge_lent(
         edges,
+        local == 1,
         sets,
         possible,
         created,
@@ -130,12 +139,15 @@ fn outcome_code(o: Outcome) -> u32
     }
 }
 
-// The check of an outline, as a flat table of nodes, under a flat table of edges.
+// The check of an outline, as a flat table of nodes, under a flat table of edges and the choice of past `local`.
 #[no_mangle]
-pub extern "C" fn check_tables(edges: &[u8], nodes: &[u8]) -> u32
-    ensures { λ r. ⌜ Answers (now (edges .entry)) (now (nodes .entry)) r ⌝ }
+pub extern "C" fn check_tables(edges: &[u8], local: u32, nodes: &[u8]) -> u32
+    ensures { λ r. ⌜ Answers local (now (edges .entry)) (now (nodes .entry)) r ⌝ }
 {
-    let o = checker::check(edges, nodes);
+    if MOST_CHOICE < local {
+        return outcome_code(Outcome::Refused(41));
+    }
+    let o = checker::check(edges, local == 1, nodes);
     outcome_code(o)
 }
 
@@ -155,9 +167,20 @@ fn explanation_code(e: Explanation) -> u32
 // a step, the oldest first. Answers 65536 times the number of steps written, which is 0 where none are, and document 01's two numbers as
 // `check_tables` does. The table needs room for 200 steps, 600 numbers (else 40); what comes after the trace is left as it was.
 #[no_mangle]
-pub extern "C" fn check_counterexample(edges: &[u8], nodes: &[u8], trace: &mut [u32]) -> u32
-    ensures { λ r. ⌜ Explains (now (edges .entry)) (now (nodes .entry)) (now (trace .entry)) r (now (trace .exit)) ⌝ }
+pub extern "C" fn check_counterexample(
+    edges: &[u8],
+    local: u32,
+    nodes: &[u8],
+    trace: &mut [u32],
+) -> u32
+    ensures { λ r. ⌜ Explains local (now (edges .entry)) (now (nodes .entry)) (now (trace .entry)) r (now (trace .exit)) ⌝ }
 {
-    let e = checker::counterexample::check_with_counterexample(edges, nodes, trace);
+    if MOST_CHOICE < local {
+        if trace.len() < MOST_NUMBERS {
+            return explanation_code(Explanation::Refused(40));
+        }
+        return explanation_code(Explanation::Refused(41));
+    }
+    let e = checker::counterexample::check_with_counterexample(edges, local == 1, nodes, trace);
     explanation_code(e)
 }

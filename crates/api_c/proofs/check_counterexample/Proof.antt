@@ -1,21 +1,58 @@
 -- The number is that of what the check with a counterexample answers.
+use mathlib.Core.Path.{_∙_}
 use borrow.Author.Needs.{needs}
+use Rattle.checker.specs.declared.counterexample.Explanation.the-variants.{Refused}
+use Rattle.api_c.specs.Check.{ExplainedFor, too-small, no-choice, chosen}
 use Rattle.api_c.proofs.check_counterexample.Statement.{statement}
 use Rattle.api_c.proofs.check_counterexample.Tie as tie
-
-check-with-counterexample-requires : tie.Need-check-with-counterexample-requires
-check-with-counterexample-requires c κs = search needs
 
 explanation-code-requires : tie.Need-explanation-code-requires
 explanation-code-requires c κs = search needs
 
+returns : tie.Need-returns
+returns c = record {
+  explanation = Refused 40;
+  explained = too-small (c .before .before .if1 .taken) (c .before .if2 .taken);
+  told = c .explanation-code .ensures;
+}
+
+explanation-code-requires-2 : tie.Need-explanation-code-requires-2
+explanation-code-requires-2 c κs = search needs
+
+returns-2 : tie.Need-returns-2
+returns-2 c = record {
+  explanation = Refused 41;
+  explained = no-choice (c .before .before .if1 .taken) (c .before .if2 .left);
+  told = c .explanation-code2 .ensures;
+}
+
+check-with-counterexample-requires : tie.Need-check-with-counterexample-requires
+check-with-counterexample-requires c κs = search needs
+
+explanation-code-requires-3 : tie.Need-explanation-code-requires-3
+explanation-code-requires-3 c κs = search needs
+
 same-length : tie.Need-same-length
 same-length c = search needs
 
-returns : tie.Need-returns
-returns c =
+returns-3 : tie.Need-returns-3
+returns-3 c =
     let k = c .before .before .before .check-with-counterexample in
-    record { explanation = k .result; explained = k .ensures; told = c .explanation-code .ensures }
+    record {
+      explanation = k .result;
+      explained = chosen (c .before .before .before .before .before .if1 .left) (k .ensures);
+      told = c .explanation-code3 .ensures;
+    }
 
 pub check-counterexample-spec : {M : Type 1} → statement M
-check-counterexample-spec = tie.close (tie.spec check-with-counterexample-requires explanation-code-requires same-length returns)
+check-counterexample-spec =
+    tie.close
+    (tie.spec
+    explanation-code-requires
+    returns
+    explanation-code-requires-2
+    returns-2
+    check-with-counterexample-requires
+    explanation-code-requires-3
+    same-length
+    returns-3)

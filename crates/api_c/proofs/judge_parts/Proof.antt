@@ -10,7 +10,7 @@ use Rattle.usage.specs.Answers.{Verdict}
 use Rattle.usage.proofs.Logic.{by-cases}
 use Rattle.api_c.specs.Codes.{codeOf}
 use Rattle.api_c.specs.Parts.{Parts, partsOf, flag, heldIn, Answered, judgeParts}
-use Rattle.api_c.proofs.PartLaws.{flag-refused, told-verdict, refused-left, taken-left}
+use Rattle.api_c.proofs.PartLaws.{choice-refused, flag-refused, told-verdict, refused-left, taken-left}
 use Rattle.api_c.proofs.judge_parts.Statement.{statement}
 use Rattle.api_c.proofs.judge_parts.Tie as tie
 
@@ -23,15 +23,25 @@ element-copy-out-flag c = search needs
 element-copy-out-depth : tie.Need-element-copy-out-depth
 element-copy-out-depth c = search needs
 
-no-state-requires : tie.Need-no-state-requires
-no-state-requires c κs = search needs
+code-requires : tie.Need-code-requires
+code-requires c κs = search needs
 
 returns : tie.Need-returns
 returns c =
     let a = c .before .before .before .before .before .before .args in
     let p = partsOf (a .sets .now) (a .possible .now) (a .created .now) (a .unclosed .now) (a .order .now) (a .numbers .now) in
-    let h : 1 < flag p = omega (arith, c .before .if1 .taken) in
-    let e = flag-refused (a .edges .now) p (record { kind = a .kind; a = a .a; b = a .b }) h in
+    let e = choice-refused (a .edges .now) (a .local) p (record { kind = a .kind; a = a .a; b = a .b }) (c .before .if1 .taken) in
+    (c .code .ensures ∙ sym (ap (λ (r : Answered). codeOf (r .verdict)) e), sym (ap (λ (r : Answered). r .parts) e))
+
+no-state-requires : tie.Need-no-state-requires
+no-state-requires c κs = search needs
+
+returns-2 : tie.Need-returns-2
+returns-2 c =
+    let a = c .before .before .before .before .before .before .before .args in
+    let p = partsOf (a .sets .now) (a .possible .now) (a .created .now) (a .unclosed .now) (a .order .now) (a .numbers .now) in
+    let h : 1 < flag p = omega (arith, c .before .if2 .taken) in
+    let e = flag-refused (a .edges .now) (a .local) p (record { kind = a .kind; a = a .a; b = a .b }) (c .before .before .if1 .left) h in
     (c .no-state .ensures ∙ sym (ap (λ (r : Answered). codeOf (r .verdict)) e), sym (ap (λ (r : Answered). r .parts) e))
 
 judge-lent-requires : tie.Need-judge-lent-requires
@@ -43,27 +53,28 @@ is-refusal-requires c κs = search needs
 flag-of-requires : tie.Need-flag-of-requires
 flag-of-requires c κs = search needs
 
-code-requires : tie.Need-code-requires
-code-requires c κs = search needs
+code-requires-2 : tie.Need-code-requires-2
+code-requires-2 c κs = search needs
 
-returns-2 : tie.Need-returns-2
+returns-3 : tie.Need-returns-3
 unfolding heldIn
-returns-2 c =
-    let a = c .before .before .before .before .before .before .before .before .before .before .before .before .before .before .args in
+returns-3 c =
+    let a = c .before .before .before .before .before .before .before .before .before .before .before .before .before .before .before .args in
     let p = partsOf (a .sets .now) (a .possible .now) (a .created .now) (a .unclosed .now) (a .order .now) (a .numbers .now) in
     let raw : RawStep = record { kind = a .kind; a = a .a; b = a .b } in
-    let h : flag p ≤ 1 = omega (arith, c .before .before .before .before .before .before .before .before .before .if1 .left) in
+    let h : flag p ≤ 1 = omega (arith, c .before .before .before .before .before .before .before .before .before .if2 .left) in
+    let k = c .before .before .before .before .before .before .before .before .before .before .if1 .left in
     let j = c .before .before .before .judge-lent in
     let r = c .before .before .is-refusal in (
-      c .code .ensures ∙ ap codeOf (told-verdict (a .edges .now) p raw h (j .result) _ _ _ _ _ (j .ensures)),
-      by-cases (c .before .if2 .came)
-          (λ w. ap (λ (l : List ℕ). partsOf (j .last .1 .0) (j .last .1 .1 .0) (j .last .1 .1 .1 .0) (j .last .1 .1 .1 .1 .0)
-          (j .last .1 .1 .1 .1 .1 .0) l) (w .3)
-          ∙ taken-left (a .edges .now) p raw h (j .result) _ _ _ _ _ (j .ensures) (w .1 .result)
+      c .code2 .ensures ∙ ap codeOf (told-verdict (a .edges .now) (a .local) p raw k h (j .result) _ _ _ _ _ (j .ensures)),
+      by-cases (c .before .if3 .came)
+          (λ w. ap (λ (l : List ℕ). partsOf (j .last .1 .1 .0) (j .last .1 .1 .1 .0) (j .last .1 .1 .1 .1 .0) (j .last .1 .1 .1 .1 .1 .0)
+          (j .last .1 .1 .1 .1 .1 .1 .0) l) (w .3)
+          ∙ taken-left (a .edges .now) (a .local) p raw k h (j .result) _ _ _ _ _ (j .ensures) (w .1 .result)
           (sym (r .ensures) ∙ not-true (r .result) (w .0 .taken)) (w .1 .ensures))
-          (λ w. ap (λ (l : List ℕ). partsOf (j .last .1 .0) (j .last .1 .1 .0) (j .last .1 .1 .1 .0) (j .last .1 .1 .1 .1 .0)
-          (j .last .1 .1 .1 .1 .1 .0) l) (w .1)
-          ∙ refused-left (a .edges .now) p raw h (j .result) _ _ _ _ _ (j .ensures) (sym (r .ensures) ∙ not-false (r .result) (w .0 .left))),
+          (λ w. ap (λ (l : List ℕ). partsOf (j .last .1 .1 .0) (j .last .1 .1 .1 .0) (j .last .1 .1 .1 .1 .0) (j .last .1 .1 .1 .1 .1 .0)
+          (j .last .1 .1 .1 .1 .1 .1 .0) l) (w .1)
+          ∙ refused-left (a .edges .now) (a .local) p raw k h (j .result) _ _ _ _ _ (j .ensures) (sym (r .ensures) ∙ not-false (r .result) (w .0 .left))),
     )
 
 pub judge-parts-spec : {M : Type 1} → statement M
@@ -73,10 +84,12 @@ judge-parts-spec =
     element-copy-out-count
     element-copy-out-flag
     element-copy-out-depth
-    no-state-requires
+    code-requires
     returns
+    no-state-requires
+    returns-2
     judge-lent-requires
     is-refusal-requires
     flag-of-requires
-    code-requires
-    returns-2)
+    code-requires-2
+    returns-3)
