@@ -1,7 +1,7 @@
 -- Laws of what the third program prints.
 use Prim.Native.Nat.{ℕ, zero, suc, _+_, _-_, _*_, _<_, _≤_}
 use mathlib.Core.Path.{_≡_, refl, sym, ap, _∙_}
-use mathlib.Core.Bool.{false}
+use mathlib.Core.Bool.{Bool}
 use mathlib.Core.List.{List, [], _∷_, _++_, append-nil, append-assoc}
 use mathlib.Core.Logic.{inl, inr}
 use native.Mathlib.Omega.{arith}
@@ -162,7 +162,7 @@ low-short (one-more {s} {past} l ls) =
 -- ── What the check tells, with the table of zeros ──
 
 -- where it names a policy, the nodes are those of an outline
-named-nodes : {e n : List ℕ} {p : ℕ} {v : Verdict} → RightVerdict false e n v → v ≡ violated p → NodeTable n
+named-nodes : {local : Bool} {e n : List ℕ} {p : ℕ} {v : Verdict} → RightVerdict local e n v → v ≡ violated p → NodeTable n
 named-nodes (no-edges f) e = clash (cc)
 named-nodes (no-nodes f) e = clash (cc)
 named-nodes (checked edges nodes c) e = nodes
@@ -187,7 +187,7 @@ none-held x e = record {
   steps = rw e;
 }
 
-shown-held : {e n : List ℕ} {p : ℕ} {past : Past} → CheckPromise e n (violated p) → Shortest false (edgesOf e) (nodesOf n) p past
+shown-held : {local : Bool} {e n : List ℕ} {p : ℕ} {past : Past} → CheckPromise local e n (violated p) → Shortest local (edgesOf e) (nodesOf n) p past
     → length past ≤ mostShown → Holds-steps (told.Shown p (length past)) (laid noSteps past)
 shown-held {n = n} {past = past} h s few =
     let l = length-replicate {A = ℕ} mostNumbers 0 in
@@ -201,7 +201,7 @@ shown-held {n = n} {past = past} h s few =
       steps = shown-steps noSteps past;
     }
 
-pub explained-held : {e n t : List ℕ} {x : Explanation} → Explained e n noSteps x t → Holds-steps x t
+pub explained-held : {local : Bool} {e n t : List ℕ} {x : Explanation} → Explained local e n noSteps x t → Holds-steps x t
 explained-held (Explained.too-small l) = none-held (told.Refused 40) refl
 explained-held (Explained.refused-with {k} l h) = none-held (told.Refused k) refl
 explained-held (Explained.accepted l h) = none-held told.Accepted refl
@@ -220,25 +220,25 @@ held-short h =
 -- ── From the tables to the sheets ──
 
 -- the nodes of an accepted outline
-pub nodes-held : (edges text table : List ℕ) (n : ℕ) (buffer : List ℕ) {r : ℕ} {after : List ℕ} → HoldsNodes text table n
-    → Prints (Explained edges (take (n * 3 - 0) table) noSteps) shownSheet buffer r after
-    → Prints (RightTrace edges (ruledResult (sheet outlineSheet text))) (nodesSheet (ruledResult (sheet outlineSheet text))) buffer r after
+pub nodes-held : (local : Bool) (edges text table : List ℕ) (n : ℕ) (buffer : List ℕ) {r : ℕ} {after : List ℕ} → HoldsNodes text table n
+    → Prints (Explained local edges (take (n * 3 - 0) table) noSteps) shownSheet buffer r after
+    → Prints (RightTrace local edges (ruledResult (sheet outlineSheet text))) (nodesSheet (ruledResult (sheet outlineSheet text))) buffer r after
 unfolding RightTrace nodesSheet
-nodes-held edges text table n buffer h p = rw (h .result) (rw (sub-zero (n * 3), h .flat) at p)
+nodes-held local edges text table n buffer h p = rw (h .result) (rw (sub-zero (n * 3), h .flat) at p)
 
 -- of a refused one any explanation is right
-pub nodes-none : (edges text : List ℕ) (line number : ℕ) (buffer : List ℕ) {r : ℕ} {after : List ℕ}
+pub nodes-none : (local : Bool) (edges text : List ℕ) (line number : ℕ) (buffer : List ℕ) {r : ℕ} {after : List ℕ}
     → ruledResult (sheet outlineSheet text) ≡ refused record { line = line; number = number }
     → (r ≡ length (namesLine ++ row line 5 number)) × (after ≡ fronted buffer (namesLine ++ row line 5 number))
-    → Prints (RightTrace edges (ruledResult (sheet outlineSheet text))) (nodesSheet (ruledResult (sheet outlineSheet text))) buffer r after
+    → Prints (RightTrace local edges (ruledResult (sheet outlineSheet text))) (nodesSheet (ruledResult (sheet outlineSheet text))) buffer r after
 unfolding RightTrace nodesSheet
-nodes-none edges text line number buffer e (er, eo) =
+nodes-none local edges text line number buffer e (er, eo) =
     rw e (record { explanation = told.Accepted; trace = []; right = tt; told = er; holds = eo })
 
 module _ (policies-text outline-text buffer : List ℕ) where
   -- the edges of an accepted sheet of policies
   pub edges-held : (table : List ℕ) (n : ℕ) {r : ℕ} {after : List ℕ} → Holds (policySheet (isLocal policies-text)) policies-text table n
-      → Prints (RightTrace (take (n * 6 - 0) table) (ruledResult (sheet outlineSheet outline-text)))
+      → Prints (RightTrace (isLocal policies-text) (take (n * 6 - 0) table) (ruledResult (sheet outlineSheet outline-text)))
       (nodesSheet (ruledResult (sheet outlineSheet outline-text))) buffer r after
       → Prints (RightExplanation policies-text outline-text) (counterexamplePrinted policies-text outline-text) buffer r after
   unfolding RightTraceOf sheetsSheet

@@ -20,7 +20,7 @@ use Rattle.sheet_bytes.specs.Line.{Line, prefixed, linesOf}
 use Rattle.sheet_bytes.specs.Grammar.{Digits, no-digit, one-more, Value, one-space, Values, last-value, next-value}
 use Rattle.sheet_bytes.proofs.FaultLaws.{decides-values}
 use Rattle.sheet_lines.specs.Sheet.{Result, accepted, refused, followed, valueLines, sheet}
-use Rattle.sheet_lines.specs.Sheets.{traceSheet, outlineSheet}
+use Rattle.sheet_lines.specs.Sheets.{traceSheet, outlineSheet, isLocal}
 use Rattle.sheet_lines.proofs.ScanLaws.{fed}
 use Rattle.sheet_reader.specs.Readers.{policiesRead, ruledResult}
 use Rattle.sheet_reader.proofs.WrittenLaws.{digit-class, digits-lines, nothing-left, names-read}
@@ -192,7 +192,7 @@ raws-length [] = refl
 raws-length (s ∷ past) = omega (arith, length-append (rawsOf past) (rawOf s ∷ []), raws-length past)
 
 -- The text of a counterexample is a trace sheet that is accepted, and its values are the steps of the table.
-pub shown-read : {e n t : List ℕ} {x : Explanation} → Explained e n noSteps x t
+pub shown-read : {local : Bool} {e n t : List ℕ} {x : Explanation} → Explained local e n noSteps x t
     → sheet traceSheet (shownSheet x t) ≡ accepted (map stepValues (from (stepAt t) 0 (stepsWritten x)))
 unfolding traceNamesLine
 shown-read {t = t} {x = x} d =
@@ -215,10 +215,10 @@ pub counterexample-read : (policies-text outline-text : List ℕ) (edges nodes :
     (map stepValues (from (stepAt t) 0 (stepsWritten x)))
 unfolding RightTrace RightTraceOf nodesSheet sheetsSheet
 counterexample-read policies-text outline-text edges nodes p o x t h =
-    go (policiesRead policies-text) (ruledResult (sheet outlineSheet outline-text)) p o h
+    go (isLocal policies-text) (policiesRead policies-text) (ruledResult (sheet outlineSheet outline-text)) p o h
   where
-    go : (a b : Result) → a ≡ accepted edges → b ≡ accepted nodes → RightTraceOf a b x t
+    go : (local : Bool) (a b : Result) → a ≡ accepted edges → b ≡ accepted nodes → RightTraceOf local a b x t
         → sheet traceSheet (sheetsSheet a b x t) ≡ accepted (map stepValues (from (stepAt t) 0 (stepsWritten x)))
-    go (accepted es) (accepted ns) e f h = shown-read h
-    go (accepted es) (refused r) e f h = clash (cc)
-    go (refused r) b e f h = clash (cc)
+    go local (accepted es) (accepted ns) e f h = shown-read h
+    go local (accepted es) (refused r) e f h = clash (cc)
+    go local (refused r) b e f h = clash (cc)

@@ -59,22 +59,22 @@ refusal-number s (closing p) =
     number (ltb 0 (openingsOf s p)) (cond (eqb (lastOpened s) p) none (some 26)) (some 25)
     (number (eqb (lastOpened s) p) none (some 26) tt (omega arith)) (omega arith)
 
-step-short : (es : List Edge) (s : State) (step : Step) (o : Option ℕ) → Number o → Short (judgeStep es s step o)
+step-short : (local : Bool) (es : List Edge) (s : State) (step : Step) (o : Option ℕ) → Number o → Short (judgeStep local es s step o)
 unfolding judgeStep
-step-short es s step none h = settle-short (broken (after es s step)) s (after es s step)
-step-short es s step (some n) h = refuse-short n s h
+step-short local es s step none h = settle-short (broken (after local es s step)) s (after local es s step)
+step-short local es s step (some n) h = refuse-short n s h
 
-read-short : (es : List Edge) (s : State) (o : Option Step) → Short (judgeRead es s o)
+read-short : (local : Bool) (es : List Edge) (s : State) (o : Option Step) → Short (judgeRead local es s o)
 unfolding judgeRead
-read-short es s none = refuse-short 21 s (omega arith)
-read-short es s (some step) = step-short es s step (refusal s step) (refusal-number s step)
+read-short local es s none = refuse-short 21 s (omega arith)
+read-short local es s (some step) = step-short local es s step (refusal s step) (refusal-number s step)
 
-pub detail-small : (t : List ℕ) (s : State) (raw : RawStep) → detail (verdictOf ((judgeOf t s raw) .answer)) < 100
+pub detail-small : (t : List ℕ) (local : Bool) (s : State) (raw : RawStep) → detail (verdictOf ((judgeOf t local s raw) .answer)) < 100
 unfolding judgeOf
-detail-small t s raw =
-    let read = judgeRead (edgesOf t) s (stepOf raw) in
+detail-small t local s raw =
+    let read = judgeRead local (edgesOf t) s (stepOf raw) in
     let going = cond (s .halted) (refuse 20 s) read in
     let known = cond (not (stateOk s)) (refuse 42 s) going in
     either (not (edgeTable t)) (refuse 41 s) known (refuse-short 41 s (omega arith))
     (either (not (stateOk s)) (refuse 42 s) going (refuse-short 42 s (omega arith))
-    (either (s .halted) (refuse 20 s) read (refuse-short 20 s (omega arith)) (read-short (edgesOf t) s (stepOf raw))))
+    (either (s .halted) (refuse 20 s) read (refuse-short 20 s (omega arith)) (read-short local (edgesOf t) s (stepOf raw))))

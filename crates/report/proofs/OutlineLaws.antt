@@ -1,7 +1,7 @@
 -- Laws of what the second program prints.
 use Prim.Native.Nat.{ℕ, _+_, _-_, _*_, _<_, _≤_}
 use mathlib.Core.Path.{_≡_, refl, sym, ap, _∙_}
-use mathlib.Core.Bool.{false}
+use mathlib.Core.Bool.{Bool}
 use mathlib.Core.Logic.{_↔_}
 use mathlib.Core.List.{List, flatten}
 use native.Mathlib.Nat.{sub-zero}
@@ -37,16 +37,16 @@ outline-short text line number e =
     row-nine line 5 number (let h = w .line in omega arith) (omega arith) (w .number)
 
 -- What the function ensures of its result r and the buffer that it leaves.
-abbrev pub RowPut : List ℕ → Result → List ℕ → ℕ → ℕ → List ℕ → Type 0
-RowPut edges o buffer at r after = ((v : Verdict) → RightNodes edges o v → r ≡ at + length (nodesRow o v))
-    × (((v : Verdict) → RightNodes edges o v → after ≡ sets buffer at (nodesRow o v))
-    × (((v : Verdict) × RightNodes edges o v) × (r ≤ at + longestOutlineRow)))
+abbrev pub RowPut : Bool → List ℕ → Result → List ℕ → ℕ → ℕ → List ℕ → Type 0
+RowPut local edges o buffer at r after = ((v : Verdict) → RightNodes local edges o v → r ≡ at + length (nodesRow o v))
+    × (((v : Verdict) → RightNodes local edges o v → after ≡ sets buffer at (nodesRow o v))
+    × (((v : Verdict) × RightNodes local edges o v) × (r ≤ at + longestOutlineRow)))
 
-module _ (edges text buffer after : List ℕ) (at r : ℕ) (room : at + longestOutlineRow ≤ length buffer) where
+module _ (local : Bool) (edges text buffer after : List ℕ) (at r : ℕ) (room : at + longestOutlineRow ≤ length buffer) where
   -- one line was stored, whichever verdict is right
-  row-put : (o : Result) (line : List ℕ) → ((v : Verdict) → RightNodes edges o v → nodesRow o v ≡ line) → (v : Verdict)
-      → RightNodes edges o v
-      → length line ≤ longestOutlineRow → r ≡ endAt buffer at line → after ≡ putAt buffer at line → RowPut edges o buffer at r after
+  row-put : (o : Result) (line : List ℕ) → ((v : Verdict) → RightNodes local edges o v → nodesRow o v ≡ line) → (v : Verdict)
+      → RightNodes local edges o v
+      → length line ≤ longestOutlineRow → r ≡ endAt buffer at line → after ≡ putAt buffer at line → RowPut local edges o buffer at r after
   row-put o line same v right l er eo =
       let z = stored-at buffer at line (omega arith) er eo in
       let e = z .0 in (
@@ -56,10 +56,10 @@ module _ (edges text buffer after : List ℕ) (at r : ℕ) (room : at + longestO
 
   -- by the two numbers of the verdict q that the check tells
   pub put-checked : (table : List ℕ) (n : ℕ) → HoldsNodes text table n → (q : Verdict) (a d : ℕ)
-      → CheckPromise edges (take (n * 3 - 0) table) q
+      → CheckPromise local edges (take (n * 3 - 0) table) q
       → a ≡ answer q → d ≡ detail q → d < 256
       → r ≡ endAt buffer at (row 0 a d) → after ≡ putAt buffer at (row 0 a d)
-      → RowPut edges (ruledResult (sheet outlineSheet text)) buffer at r after
+      → RowPut local edges (ruledResult (sheet outlineSheet text)) buffer at r after
   unfolding RightNodes nodesRow
   put-checked table n h q a d p ea ed small er eo =
       let e = ap (λ (k : ℕ). take k table) (sub-zero (n * 3)) ∙ h .flat in
@@ -71,7 +71,7 @@ module _ (edges text buffer after : List ℕ) (at r : ℕ) (room : at + longestO
   pub put-refused : (line number : ℕ) → ruledResult (sheet outlineSheet text) ≡ refused record { line = line; number = number }
       → (v : Verdict)
       → r ≡ endAt buffer at (row line 5 number) → after ≡ putAt buffer at (row line 5 number)
-      → RowPut edges (ruledResult (sheet outlineSheet text)) buffer at r after
+      → RowPut local edges (ruledResult (sheet outlineSheet text)) buffer at r after
   unfolding RightNodes nodesRow
   put-refused line number e v er eo =
       let l = outline-short text line number e in
@@ -81,7 +81,7 @@ module _ (edges text buffer after : List ℕ) (at r : ℕ) (room : at + longestO
 
 -- with the edges of an accepted sheet of policies
 pub right-held : (policies-text outline-text table : List ℕ) (n : ℕ) → Holds (policySheet (isLocal policies-text)) policies-text table n → (v : Verdict)
-    → RightTexts policies-text outline-text v ↔ RightNodes (take (n * 6 - 0) table) (ruledResult (sheet outlineSheet outline-text)) v
+    → RightTexts policies-text outline-text v ↔ RightNodes (isLocal policies-text) (take (n * 6 - 0) table) (ruledResult (sheet outlineSheet outline-text)) v
 unfolding RightSheets
 right-held policies-text outline-text table n h v = rw (h .result, sub-zero (n * 6), h .flat) (λ k. k, λ k. k)
 
@@ -120,17 +120,17 @@ pub printed-unique : (policies-text outline-text : List ℕ) (v w : Verdict) →
     → RightTexts policies-text outline-text w
     → outlinePrinted policies-text outline-text v ≡ outlinePrinted policies-text outline-text w
 unfolding RightSheets RightNodes nodesRow outlinePrinted printed
-printed-unique policies-text outline-text v w h k = go (policiesRead policies-text) (ruledResult (sheet outlineSheet outline-text)) h k
+printed-unique policies-text outline-text v w h k = go (isLocal policies-text) (policiesRead policies-text) (ruledResult (sheet outlineSheet outline-text)) h k
   where
-    go : (p o : Result) → RightSheets p o v → RightSheets p o w → printed p (λ edges. nodesRow o v) ≡ printed p (λ edges. nodesRow o w)
-    go (refused r) o h k = refl
-    go (accepted edges) (refused r) h k = refl
-    go (accepted edges) (accepted nodes) h k = ap (λ (x : Verdict). printed (accepted edges) (λ edges. verdictRow 0 x)) (right-unique h k)
+    go : (local : Bool) (p o : Result) → RightSheets local p o v → RightSheets local p o w → printed p (λ edges. nodesRow o v) ≡ printed p (λ edges. nodesRow o w)
+    go local (refused r) o h k = refl
+    go local (accepted edges) (refused r) h k = refl
+    go local (accepted edges) (accepted nodes) h k = ap (λ (x : Verdict). printed (accepted edges) (λ edges. verdictRow 0 x)) (right-unique h k)
 
 -- Of two accepted sheets the verdict that is right is the check's, of the outline under the edges.
 pub outline-right : (policies-text outline-text : List ℕ) (edges nodes : List (List ℕ))
     → policiesRead policies-text ≡ accepted edges → ruledResult (sheet outlineSheet outline-text) ≡ accepted nodes → (v : Verdict)
-    → RightTexts policies-text outline-text v ↔ Checked false (edgesOf (flatten edges)) (nodesOf (flatten nodes)) v
+    → RightTexts policies-text outline-text v ↔ Checked (isLocal policies-text) (edgesOf (flatten edges)) (nodesOf (flatten nodes)) v
 unfolding RightSheets RightNodes
 outline-right policies-text outline-text edges nodes p o v =
     let e = accepted-edges policies-text edges p in

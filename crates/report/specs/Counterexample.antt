@@ -1,5 +1,6 @@
 -- What the third program prints: a shortest counterexample as a trace sheet, so that it can be handed to the first program at once.
 use Prim.Native.Nat.{ℕ, _+_, _*_}
+use mathlib.Core.Bool.{Bool}
 use mathlib.Core.Path.{_≡_}
 use mathlib.Core.List.{List, [], _∷_, _++_, flatten}
 use lib.ListN.{length, replicate}
@@ -7,7 +8,7 @@ use Rattle.usage.specs.declared.RawStep.{RawStep}
 use Rattle.usage.specs.Limits.{mostShown}
 use Rattle.usage.specs.Tables.{from, stepAt}
 use Rattle.sheet_lines.specs.Sheet.{Result, accepted, refused, sheet}
-use Rattle.sheet_lines.specs.Sheets.{outlineSheet}
+use Rattle.sheet_lines.specs.Sheets.{outlineSheet, isLocal}
 use Rattle.sheet_reader.specs.Readers.{policiesRead, ruledResult}
 use Rattle.checker_trace.specs.Answer.{mostNumbers}
 use Rattle.checker.specs.declared.counterexample.Explanation.{Explanation}
@@ -23,18 +24,19 @@ noSteps = replicate mostNumbers 0
 
 -- Under a table of edges: what the check with a counterexample promises of the outline. Of several shortest traces any will do. Of a
 -- refused outline nothing is told, so there any explanation will do.
-unfoldable pub RightTrace : List ℕ → Result → Explanation → List ℕ → Type 0
-RightTrace edges (accepted nodes) e t = Explained edges (flatten nodes) noSteps e t
-RightTrace edges (refused r) e t = Unit {0}
+unfoldable pub RightTrace : Bool → List ℕ → Result → Explanation → List ℕ → Type 0
+RightTrace local edges (accepted nodes) e t = Explained local edges (flatten nodes) noSteps e t
+RightTrace local edges (refused r) e t = Unit {0}
 
 -- under a sheet of policies, and again any will do where it is refused
-unfoldable pub RightTraceOf : Result → Result → Explanation → List ℕ → Type 0
-RightTraceOf (accepted edges) nodes e t = RightTrace (flatten edges) nodes e t
-RightTraceOf (refused r) nodes e t = Unit {0}
+unfoldable pub RightTraceOf : Bool → Result → Result → Explanation → List ℕ → Type 0
+RightTraceOf local (accepted edges) nodes e t = RightTrace local (flatten edges) nodes e t
+RightTraceOf local (refused r) nodes e t = Unit {0}
 
 -- of the bytes of `policies.txt` and `outline.txt`
 abbrev pub RightExplanation : List ℕ → List ℕ → Explanation → List ℕ → Type 0
-RightExplanation policies-text outline-text = RightTraceOf (policiesRead policies-text) (ruledResult (sheet outlineSheet outline-text))
+RightExplanation policies-text outline-text =
+    RightTraceOf (isLocal policies-text) (policiesRead policies-text) (ruledResult (sheet outlineSheet outline-text))
 
 -- ── What is printed of it ──
 

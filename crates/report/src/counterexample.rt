@@ -20,15 +20,15 @@ use usage::NODE_FIELDS;
 use usage::NODE_TABLE;
 
 // The counterexample of an outline that is checked with the edges, or the refusal of the outline: the length of the text.
-pub(crate) fn of_text(edges: &[u8], text: &[u8], out: &mut [u8]) -> usize
+pub(crate) fn of_text(edges: &[u8], local: bool, text: &[u8], out: &mut [u8]) -> usize
     requires { ⌜ counterexampleRoom ≤ length (now out) ⌝ }
-    ensures { λ r. ⌜ Prints (RightTrace (now (edges .entry)) (ruledResult (sheet outlineSheet (now (text .entry)))))
+    ensures { λ r. ⌜ Prints (RightTrace local (now (edges .entry)) (ruledResult (sheet outlineSheet (now (text .entry)))))
         (nodesSheet (ruledResult (sheet outlineSheet (now (text .entry))))) (now (out .entry)) r (now (out .exit)) ⌝ }
 {
     let mut nodes = [0u8; NODE_TABLE];
     let reading = sheet_reader::read_outline(text, &mut nodes);
     match reading {
-        Reading::Stored(n) => of_nodes(edges, &nodes[0..n * NODE_FIELDS], out),
+        Reading::Stored(n) => of_nodes(edges, local, &nodes[0..n * NODE_FIELDS], out),
         Reading::Refused { line, number } => refused(out, line, 5, number),
     }
 }
@@ -44,13 +44,13 @@ pub(crate) fn refused(out: &mut [u8], line: usize, sheet: usize, number: u8) -> 
 }
 
 // The trace sheet of what the check explains.
-fn of_nodes(edges: &[u8], nodes: &[u8], out: &mut [u8]) -> usize
+fn of_nodes(edges: &[u8], local: bool, nodes: &[u8], out: &mut [u8]) -> usize
     requires { ⌜ counterexampleRoom ≤ length (now out) ⌝ }
-    ensures { λ r. ⌜ Prints (Explained (now (edges .entry)) (now (nodes .entry)) noSteps) shownSheet
+    ensures { λ r. ⌜ Prints (Explained local (now (edges .entry)) (now (nodes .entry)) noSteps) shownSheet
         (now (out .entry)) r (now (out .exit)) ⌝ }
 {
     let mut trace = [0u32; MOST_NUMBERS];
-    let e = checker::counterexample::check_with_counterexample(edges, nodes, &mut trace);
+    let e = checker::counterexample::check_with_counterexample(edges, local, nodes, &mut trace);
     let at = report_lines::trace_names(out);
     rows(&trace, steps_written(e), out, at)
 }

@@ -53,8 +53,8 @@ pub extern "C" fn report_trace(policies: &[u8], trace: &[u8], out: &mut [u8]) ->
     let mut edges = [0u8; EDGE_TABLE];
     let reading = sheet_reader::read_policies(policies, &mut edges);
     match reading {
-        PolicyReading::Stored { edges: n, local: _ } => {
-            crate::trace::rows(&edges[0..n * EDGE_FIELDS], trace, out, at)
+        PolicyReading::Stored { edges: n, local } => {
+            crate::trace::rows(&edges[0..n * EDGE_FIELDS], local, trace, out, at)
         }
         PolicyReading::Refused { line, number } => {
             report_lines::row(out, at, line, 3, number as usize)
@@ -80,8 +80,8 @@ pub extern "C" fn report_outline(policies: &[u8], outline: &[u8], out: &mut [u8]
     let mut edges = [0u8; EDGE_TABLE];
     let reading = sheet_reader::read_policies(policies, &mut edges);
     match reading {
-        PolicyReading::Stored { edges: n, local: _ } => {
-            crate::outline::row(&edges[0..n * EDGE_FIELDS], outline, out, next)
+        PolicyReading::Stored { edges: n, local } => {
+            crate::outline::row(&edges[0..n * EDGE_FIELDS], local, outline, out, next)
         }
         PolicyReading::Refused { line, number } => {
             report_lines::row(out, next, line, 3, number as usize)
@@ -105,8 +105,8 @@ pub extern "C" fn report_counterexample(policies: &[u8], outline: &[u8], out: &m
     let mut edges = [0u8; EDGE_TABLE];
     let reading = sheet_reader::read_policies(policies, &mut edges);
     match reading {
-        PolicyReading::Stored { edges: n, local: _ } => {
-            crate::counterexample::of_text(&edges[0..n * EDGE_FIELDS], outline, out)
+        PolicyReading::Stored { edges: n, local } => {
+            crate::counterexample::of_text(&edges[0..n * EDGE_FIELDS], local, outline, out)
         }
         PolicyReading::Refused { line, number } => {
             crate::counterexample::refused(out, line, 3, number)

@@ -17,20 +17,20 @@ use usage::NODE_TABLE;
 
 // The line of an outline that is checked with the edges, or of its refusal, from `at` on: the place after it. It is told by whichever
 // verdict is right, and one is.
-pub(crate) fn row(edges: &[u8], text: &[u8], out: &mut [u8], at: usize) -> usize
+pub(crate) fn row(edges: &[u8], local: bool, text: &[u8], out: &mut [u8], at: usize) -> usize
     requires { ⌜ at + longestOutlineRow ≤ length (now out) ⌝ }
-    ensures { λ r. ⌜ ((v : Verdict) → RightNodes (now (edges .entry)) (ruledResult (sheet outlineSheet (now (text .entry)))) v
+    ensures { λ r. ⌜ ((v : Verdict) → RightNodes local (now (edges .entry)) (ruledResult (sheet outlineSheet (now (text .entry)))) v
         → r ≡ at + length (nodesRow (ruledResult (sheet outlineSheet (now (text .entry)))) v)) ⌝ }
-    ensures { λ r. ⌜ ((v : Verdict) → RightNodes (now (edges .entry)) (ruledResult (sheet outlineSheet (now (text .entry)))) v
+    ensures { λ r. ⌜ ((v : Verdict) → RightNodes local (now (edges .entry)) (ruledResult (sheet outlineSheet (now (text .entry)))) v
         → now (out .exit) ≡ sets (now (out .entry)) at (nodesRow (ruledResult (sheet outlineSheet (now (text .entry)))) v)) ⌝ }
-    ensures { λ r. ⌜ ((v : Verdict) × RightNodes (now (edges .entry)) (ruledResult (sheet outlineSheet (now (text .entry)))) v) ⌝ }
+    ensures { λ r. ⌜ ((v : Verdict) × RightNodes local (now (edges .entry)) (ruledResult (sheet outlineSheet (now (text .entry)))) v) ⌝ }
     ensures { λ r. ⌜ r ≤ at + longestOutlineRow ⌝ }
 {
     let mut nodes = [0u8; NODE_TABLE];
     let reading = sheet_reader::read_outline(text, &mut nodes);
     match reading {
         Reading::Stored(n) => {
-            let a = checker::check(edges, &nodes[0..n * NODE_FIELDS]);
+            let a = checker::check(edges, local, &nodes[0..n * NODE_FIELDS]);
             report_lines::row(out, at, 0, outcome_number(a), outcome_detail(a) as usize)
         }
         Reading::Refused { line, number } => report_lines::row(out, at, line, 5, number as usize),

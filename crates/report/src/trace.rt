@@ -18,26 +18,26 @@ use usage::STEP_FIELDS;
 use usage::STEP_TABLE;
 
 // The rows of a trace, or of its refusal, from `at` on: the place after them.
-pub(crate) fn rows(edges: &[u8], text: &[u8], out: &mut [u8], at: usize) -> usize
+pub(crate) fn rows(edges: &[u8], local: bool, text: &[u8], out: &mut [u8], at: usize) -> usize
     requires { ⌜ at + stepsRoom ≤ length (now out) ⌝ }
-    ensures { λ r. ⌜ r ≡ at + length (traceRows (now (edges .entry)) (sheet traceSheet (now (text .entry)))) ⌝ }
-    ensures { λ r. ⌜ now (out .exit) ≡ sets (now (out .entry)) at (traceRows (now (edges .entry)) (sheet traceSheet (now (text .entry)))) ⌝ }
+    ensures { λ r. ⌜ r ≡ at + length (traceRows (now (edges .entry)) local (sheet traceSheet (now (text .entry)))) ⌝ }
+    ensures { λ r. ⌜ now (out .exit) ≡ sets (now (out .entry)) at (traceRows (now (edges .entry)) local (sheet traceSheet (now (text .entry)))) ⌝ }
 {
     let mut steps = [0u32; STEP_TABLE];
     let reading = sheet_reader::read_trace(text, &mut steps);
     match reading {
-        Reading::Stored(n) => judge_all(edges, &steps[0..n * STEP_FIELDS], out, at),
+        Reading::Stored(n) => judge_all(edges, local, &steps[0..n * STEP_FIELDS], out, at),
         Reading::Refused { line, number } => report_lines::row(out, at, line, 4, number as usize),
     }
 }
 
 // The rows of the steps, each judged with the state that the last one returned.
-fn judge_all(edges: &[u8], steps: &[u32], out: &mut [u8], at: usize) -> usize
+fn judge_all(edges: &[u8], local: bool, steps: &[u32], out: &mut [u8], at: usize) -> usize
     requires { ⌜ length (now steps) ≤ stepPlaces ⌝ }
     requires { ⌜ at + longestStepRow * (length (now steps) / stepFields) ≤ length (now out) ⌝ }
-    ensures { λ r. ⌜ r ≡ at + length (judgedRows (now (edges .entry)) startState 2 (stepsOf (now (steps .entry)))) ⌝ }
+    ensures { λ r. ⌜ r ≡ at + length (judgedRows (now (edges .entry)) local startState 2 (stepsOf (now (steps .entry)))) ⌝ }
     ensures { λ r. ⌜ now (out .exit) ≡ sets (now (out .entry)) at
-        (judgedRows (now (edges .entry)) startState 2 (stepsOf (now (steps .entry)))) ⌝ }
+        (judgedRows (now (edges .entry)) local startState 2 (stepsOf (now (steps .entry)))) ⌝ }
 {
     let n = steps.len() / STEP_FIELDS;
     let s = monitor::start();
@@ -54,6 +54,7 @@ fn judge_all(edges: &[u8], steps: &[u32], out: &mut [u8], at: usize) -> usize
     while i < n {
         let t = monitor::judge_lent(
             edges,
+            local,
             &mut sets,
             &mut possible,
             &mut created,

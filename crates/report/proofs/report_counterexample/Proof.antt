@@ -3,7 +3,7 @@ use mathlib.Core.Path.{refl}
 use Prim.Native.Nat.{_≤_}
 use denote.Ref.{now}
 use Rattle.usage.specs.Limits.{mostEdges}
-use Rattle.sheet_reader.proofs.AnswerLaws.{policies-held, policies-refused}
+use Rattle.sheet_reader.proofs.AnswerLaws.{policies-held, policies-choice, policies-refused}
 use Rattle.report.proofs.OutputLaws.{policies-short}
 use Rattle.report.proofs.CounterexampleLaws.{edges-held, edges-none}
 use borrow.Author.Needs.{needs}
@@ -74,9 +74,11 @@ returns-2 c =
     let p = c .before .before .before .before .before .before .before .before .before .before .read-policies in
     let g = c .before .before .before .before .before .before .before .reading .given in
     let n = g .0 .0 in
-    let h = policies-held (now (a .policies)) (p .last .1 .0) n (g .0 .1 .0) (rw (g .1) at (p .ensures .0)) (p .ensures .1) in (
+    let h = policies-held (now (a .policies)) (p .last .1 .0) n (g .0 .1 .0) (rw (g .1) at (p .ensures .0)) (p .ensures .1) in
+    let choice = policies-choice (now (a .policies)) n (g .0 .1 .0) (rw (g .1) at (p .ensures .0)) in (
       (λ l. absurd (omega arith)),
-      (λ l. edges-held (now (a .policies)) (now (a .outline)) (now (a .out)) (p .last .1 .0) n h (c .before .before .of-text .ensures)),
+      (λ l. edges-held (now (a .policies)) (now (a .outline)) (now (a .out)) (p .last .1 .0) n h
+          (rw choice at (c .before .before .of-text .ensures))),
     )
 
 same-length-2 : tie.Need-same-length-2

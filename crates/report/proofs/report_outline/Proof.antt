@@ -7,7 +7,7 @@ use Rattle.usage.specs.Answers.{Verdict, allowed}
 use Rattle.sheet_lines.specs.Sheet.{sheet}
 use Rattle.sheet_lines.specs.Sheets.{outlineSheet}
 use Rattle.sheet_reader.specs.Readers.{ruledResult}
-use Rattle.sheet_reader.proofs.AnswerLaws.{policies-held, policies-refused}
+use Rattle.sheet_reader.proofs.AnswerLaws.{policies-held, policies-choice, policies-refused}
 use Rattle.report.specs.Output.{outlineRoom}
 use Rattle.report.specs.Outline.{nodesRow, outlinePrinted}
 use Rattle.report.proofs.OutputLaws.{names-end, names-length, printed-held, printed-refused}
@@ -99,13 +99,15 @@ returns-2 c =
     let n = g .0 .0 in
     let h = policies-held (now (a .policies)) (p .last .1 .0) n (g .0 .1 .0) (rw (g .1) at (p .ensures .0)) (p .ensures .1) in
     let right = right-held (now (a .policies)) (now (a .outline)) (p .last .1 .0) n h in
-    let w₀ = t .ensures .1 .1 .0 .0 in
-    outline-put (now (a .policies)) (now (a .outline)) (now (a .out)) (t .result) _ w₀ (right w₀ .1 (t .ensures .1 .1 .0 .1)) (λ v l.
-    let r = t .ensures .0 v (right v .0 l) in
-    let b = t .ensures .1 .1 .1 in
+    let choice = policies-choice (now (a .policies)) n (g .0 .1 .0) (rw (g .1) at (p .ensures .0)) in
+    let told = rw choice at (t .ensures) in
+    let w₀ = told .1 .1 .0 .0 in
+    outline-put (now (a .policies)) (now (a .outline)) (now (a .out)) (t .result) _ w₀ (right w₀ .1 (told .1 .1 .0 .1)) (λ v l.
+    let r = told .0 v (right v .0 l) in
+    let b = told .1 .1 .1 in
     printed-held (now (a .out)) (omega arith) (w .result) (w .last .0) (w .ensures .0) (w .ensures .1) outlineRoom (now (a .policies))
     (rest (now (a .outline)) v)
-    (omega arith) (omega arith) (p .last .1 .0) n h r (t .ensures .1 .0 v (right v .0 l)) (omega arith))
+    (omega arith) (omega arith) (p .last .1 .0) n h r (told .1 .0 v (right v .0 l)) (omega arith))
 
 same-length-2 : tie.Need-same-length-2
 same-length-2 c = search needs

@@ -1,12 +1,13 @@
 use native.Mathlib.Omega.{arith}
 use Prim.Native.Nat.{ℕ, _-_, _*_, _≤_}
+use mathlib.Core.Bool.{Bool}
 use mathlib.Core.List.{List}
 use denote.Ref.{now}
 use lib.ListN.{take}
 use Rattle.usage.specs.Limits.{mostEdges}
 use Rattle.sheet_lines.specs.Sheet.{sheet}
-use Rattle.sheet_lines.specs.Sheets.{traceSheet}
-use Rattle.sheet_reader.proofs.AnswerLaws.{policies-held, policies-refused}
+use Rattle.sheet_lines.specs.Sheets.{traceSheet, isLocal}
+use Rattle.sheet_reader.proofs.AnswerLaws.{policies-held, policies-choice, policies-refused}
 use Rattle.report.specs.Output.{traceRoom}
 use Rattle.report.specs.Trace.{traceRows, tracePrinted}
 use Rattle.report.proofs.OutputLaws.{no-room, names-end, names-length, printed-held, printed-refused}
@@ -16,8 +17,8 @@ use Rattle.report.proofs.report_trace.Statement.{statement}
 use Rattle.report.proofs.report_trace.Tie as tie
 
 -- what is printed with the edges
-abbrev rest : List ℕ → List ℕ → List ℕ
-rest text edges = traceRows edges (sheet traceSheet text)
+abbrev rest : Bool → List ℕ → List ℕ → List ℕ
+rest local text edges = traceRows edges local (sheet traceSheet text)
 
 returns : tie.Need-returns
 returns c =
@@ -97,10 +98,11 @@ returns-2 c =
     let t = c .before .before .rows in
     let n = g .0 .0 in
     let h = policies-held (now (a .policies)) (p .last .1 .0) n (g .0 .1 .0) (rw (g .1) at (p .ensures .0)) (p .ensures .1) in
-    let l = rows-fit (take (n * 6 - 0) (p .last .1 .0)) (now (a .trace)) in
+    let choice = policies-choice (now (a .policies)) n (g .0 .1 .0) (rw (g .1) at (p .ensures .0)) in
+    let l = rows-fit (take (n * 6 - 0) (p .last .1 .0)) (isLocal (now (a .policies))) (now (a .trace)) in
     printed-held (now (a .out)) (omega arith) (w .result) (w .last .0) (w .ensures .0) (w .ensures .1) traceRoom (now (a .policies))
-    (rest (now (a .trace)))
-    (omega arith) (omega arith) (p .last .1 .0) n h (t .ensures .0) (t .ensures .1) (omega arith)
+    (rest (isLocal (now (a .policies))) (now (a .trace)))
+    (omega arith) (omega arith) (p .last .1 .0) n h (rw choice at (t .ensures .0)) (rw choice at (t .ensures .1)) (omega arith)
 
 same-length-2 : tie.Need-same-length-2
 same-length-2 c = search needs
@@ -117,7 +119,7 @@ returns-3 c =
     let t = c .before .before .row in
     let z = policies-refused (now (a .policies)) (g .0 .0) (g .0 .1 .0) (rw (g .1) at (p .ensures .0)) in
     printed-refused (now (a .out)) (omega arith) (w .result) (w .last .0) (w .ensures .0) (w .ensures .1) traceRoom (now (a .policies))
-    (rest (now (a .trace)))
+    (rest (isLocal (now (a .policies))) (now (a .trace)))
     (omega arith) (omega arith) (g .0 .0) (g .0 .1 .0) z (t .ensures .0) (t .ensures .1)
 
 pub report-trace-spec : {M : Type 1} → statement M

@@ -58,10 +58,10 @@ returns c =
     let l = length-trace-names in
     let short = held-short f in
     let z = then-stored (now (a .out)) traceNamesLine (w .result) (w .last .0) (w .ensures .0) (w .ensures .1) (omega arith)
-    (stepRows (from (stepAt (k .last .1 .1 .0)) 0 (s .result)))
+    (stepRows (from (stepAt (k .last .1 .1 .1 .0)) 0 (s .result)))
     (rw (s .ensures) (omega arith)) (t .ensures .0) (t .ensures .1) in
     let y = rw (s .ensures) at z in
-    record { explanation = k .result; trace = k .last .1 .1 .0; right = k .ensures; told = y .0; holds = y .1 }
+    record { explanation = k .result; trace = k .last .1 .1 .1 .0; right = k .ensures; told = y .0; holds = y .1 }
 
 pub of-nodes-spec : {M : Type 1} → statement M
 of-nodes-spec =

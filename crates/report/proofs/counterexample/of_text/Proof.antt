@@ -70,7 +70,7 @@ returns c =
     let g = c .before .before .before .before .before .before .before .reading .given in
     let n = g .0 .0 in
     let h = outline-held (now (a .text)) (r .last .1 .0) n (rw (g .1) at (r .ensures .0)) (r .ensures .1) in
-    nodes-held (now (a .edges)) (now (a .text)) (r .last .1 .0) n (now (a .out)) h (c .before .before .of-nodes .ensures)
+    nodes-held (a .local) (now (a .edges)) (now (a .text)) (r .last .1 .0) n (now (a .out)) h (c .before .before .of-nodes .ensures)
 
 same-length-2 : tie.Need-same-length-2
 same-length-2 c = search needs
@@ -81,7 +81,7 @@ returns-2 c =
     let r = c .before .before .before .before .before .before .before .before .read-outline in
     let g = c .before .before .before .before .before .reading2 .given in
     let z = outline-refused-as (now (a .text)) (g .0 .0) (g .0 .1 .0) (rw (g .1) at (r .ensures .0)) in
-    nodes-none (now (a .edges)) (now (a .text)) (g .0 .0) (g .0 .1 .0) (now (a .out)) z (c .before .before .refused .ensures)
+    nodes-none (a .local) (now (a .edges)) (now (a .text)) (g .0 .0) (g .0 .1 .0) (now (a .out)) z (c .before .before .refused .ensures)
 
 pub of-text-spec : {M : Type 1} → statement M
 of-text-spec =

@@ -18,14 +18,14 @@ use Rattle.report.proofs.trace.judge_all.Tie as tie
 -- the state lies in its parts: the sets, what each policy may be in, the created resources, their count, the unclosed openings, their order, how many
 -- they are, and whether it is halted
 abbrev Inv-loop : tie.InvT-loop
-Inv-loop edges steps out₀ at n sets₀ possible₀ created₀ unclosed₀ order₀ count₀ depth₀ halted₀ next₀ i₀ out ss possible created unclosed order count depth halted next i =
+Inv-loop edges local steps out₀ at n sets₀ possible₀ created₀ unclosed₀ order₀ count₀ depth₀ halted₀ next₀ i₀ out ss possible created unclosed order count depth halted next i =
     let s = stateOf ss possible created count unclosed order depth halted in
     (i ≤ n) × ((length out ≡ length out₀) × ((next + longestStepRow * (n - i) ≤ length out)
-    × ((next + length (left edges steps n s i) ≡ at + length (left edges steps n startState 0))
-    × (sets out next (left edges steps n s i) ≡ sets out₀ at (left edges steps n startState 0)))))
+    × ((next + length (left edges local steps n s i) ≡ at + length (left edges local steps n startState 0))
+    × (sets out next (left edges local steps n s i) ≡ sets out₀ at (left edges local steps n startState 0)))))
 
 abbrev μ-loop : tie.MeasureT-loop
-μ-loop edges steps out₀ at n sets₀ possible₀ created₀ unclosed₀ order₀ count₀ depth₀ halted₀ next₀ i₀ out ss possible created unclosed order count depth halted next i = n - i
+μ-loop edges local steps out₀ at n sets₀ possible₀ created₀ unclosed₀ order₀ count₀ depth₀ halted₀ next₀ i₀ out ss possible created unclosed order count depth halted next i = n - i
 
 start-requires : tie.Need-start-requires Inv-loop μ-loop
 start-requires c κs = search needs
@@ -75,16 +75,16 @@ loop-again c =
     let i₂ = t .inv .1 .1 .0 in
     let i₃ = t .inv .1 .1 .1 .0 in
     let k = c .before .before .before .before .before .before .judge-lent in
-    let j = judgementOf (k .result) (k .last .1 .0) (k .last .1 .1 .0) (k .last .1 .1 .1 .0) (k .last .1 .1 .1 .1 .0) (k .last .1 .1 .1 .1 .1 .0) in
+    let j = judgementOf (k .result) (k .last .1 .1 .0) (k .last .1 .1 .1 .0) (k .last .1 .1 .1 .1 .0) (k .last .1 .1 .1 .1 .1 .0) (k .last .1 .1 .1 .1 .1 .1 .0) in
     let r = c .before .before .row in
     let m = c .before .before .before .before .number-of in
     let d = c .before .before .before .detail-of in
     let n = length (now (a .steps)) / 3 in
     let s = stateOf (t .sets) (t .possible) (t .created) (t .count) (t .unclosed) (t .order) (t .depth) (t .halted) in
     let line = row (t .i + 2) (m .result) (d .result) in
-    let ej = k .ensures ∙ ap (judgeOf (now (a .edges)) s) (c .before .before .before .before .before .before .before .step-at .ensures) in
-    let h = row-ten (now (a .edges)) (now (a .steps)) n s (t .i) j (m .result) (d .result) ej (m .ensures) (d .ensures) (omega arith) in
-    let e = next-row (now (a .edges)) (now (a .steps)) n s (t .i) j (m .result) (d .result) ej (m .ensures) (d .ensures) (omega arith) in
+    let ej = k .ensures ∙ ap (judgeOf (now (a .edges)) (a .local) s) (c .before .before .before .before .before .before .before .step-at .ensures) in
+    let h = row-ten (now (a .edges)) (a .local) (now (a .steps)) n s (t .i) j (m .result) (d .result) ej (m .ensures) (d .ensures) (omega arith) in
+    let e = next-row (now (a .edges)) (a .local) (now (a .steps)) n s (t .i) j (m .result) (d .result) ej (m .ensures) (d .ensures) (omega arith) in
     let z = stored-at (t .out) (t .next) line (omega arith) (r .ensures .0) (r .ensures .1) in
     let l = ap length (z .1) ∙ length-sets _ _ line in
     let g = ap length e ∙ length-append line _ in
@@ -99,8 +99,8 @@ returns c =
     let a = c .before .before .before .before .before .before .before .before .before .before .before .args in
     let t = c .before .loop in
     let s = stateOf (t .sets) (t .possible) (t .created) (t .count) (t .unclosed) (t .order) (t .depth) (t .halted) in
-    let e = all-left (now (a .edges)) (now (a .steps)) in
-    let z = none-left (now (a .edges)) (now (a .steps)) (length (now (a .steps)) / 3) s (t .i) (c .loop-test .left) in
+    let e = all-left (now (a .edges)) (a .local) (now (a .steps)) in
+    let z = none-left (now (a .edges)) (a .local) (now (a .steps)) (length (now (a .steps)) / 3) s (t .i) (c .loop-test .left) in
     let g = ap length z in
     (rw e (omega arith), rw e (ap (sets (t .out) (t .next)) (sym z) ∙ t .inv .1 .1 .1 .1))
 

@@ -81,7 +81,7 @@ returns c =
     let n = g .0 .0 in
     let h = trace-held (now (a .text)) (r .last .1 .0) n (rw (g .1) at (r .ensures .0)) (r .ensures .1) in
     let j = c .before .before .judge-all in
-    let e = rows-held (now (a .edges)) (now (a .text)) (r .last .1 .0) n h in
+    let e = rows-held (now (a .edges)) (a .local) (now (a .text)) (r .last .1 .0) n h in
     (rw e (j .ensures .0), rw e (j .ensures .1))
 
 same-length-2 : tie.Need-same-length-2
@@ -94,7 +94,7 @@ returns-2 c =
     let g = c .before .before .before .before .before .reading2 .given in
     let w = c .before .before .row in
     let z = trace-refused (now (a .text)) (g .0 .0) (g .0 .1 .0) (rw (g .1) at (r .ensures .0)) in
-    let e = row-refused (now (a .edges)) (now (a .text)) (r .last .1 .0) (g .0 .0) (g .0 .1 .0) z in
+    let e = row-refused (now (a .edges)) (a .local) (now (a .text)) (r .last .1 .0) (g .0 .0) (g .0 .1 .0) z in
     let l : Fits w64 (g .0 .0) = search needs in
     let m : Fits w8 (g .0 .1 .0) = search needs in
     let k = row-fits (g .0 .0) 4 (g .0 .1 .0) (l .fits) (omega arith) (m .fits) in
