@@ -1,6 +1,6 @@
 -- What the functions compute on the way from the records to the answer.
 use Prim.Native.Nat.{ℕ, _+_, _*_, _<_, _≤_}
-use mathlib.Core.Bool.{false, cond}
+use mathlib.Core.Bool.{Bool, cond}
 use mathlib.Core.List.{List, [], _∷_}
 use lib.Dec.{leb, ltb}
 use lib.ListN.{length, set, take, replicate}
@@ -45,19 +45,19 @@ flatOf f (e ∷ es) = flatOf (addOf f e) es
 abbrev pub flatHeld : Flat → List ℕ
 flatHeld f = take (edgeFields * f .count) (f .bytes)
 
--- ── The answers from the table ──
+-- ── The answers from the table, under a choice of past ──
 
 -- the judge's
-unfoldable pub judgeFlat : Flat → State → RawStep → Judgement
-judgeFlat f s raw = cond (ltb mostEdges (f .count)) (refuse 41 s) (judgeOf (flatHeld f) s raw)
+unfoldable pub judgeFlat : Flat → Bool → State → RawStep → Judgement
+judgeFlat f local s raw = cond (ltb mostEdges (f .count)) (refuse 41 s) (judgeOf (flatHeld f) local s raw)
 
 -- the check's
-pub data RightFlat (f : Flat) (nodes : List ℕ) : Verdict → Type 0 where
-  too-many : mostEdges < f .count → RightFlat f nodes (refused 41)
-  few : {v : Verdict} → f .count ≤ mostEdges → RightVerdict false (flatHeld f) nodes v → RightFlat f nodes v
+pub data RightFlat (local : Bool) (f : Flat) (nodes : List ℕ) : Verdict → Type 0 where
+  too-many : mostEdges < f .count → RightFlat local f nodes (refused 41)
+  few : {v : Verdict} → f .count ≤ mostEdges → RightVerdict local (flatHeld f) nodes v → RightFlat local f nodes v
 
 -- the same with a counterexample: t and t′ are the lent trace table before and after; 40 comes before 41
-pub data ExplainedFlat (f : Flat) (nodes t : List ℕ) : Explanation → List ℕ → Type 0 where
-  no-room : length t < mostNumbers → ExplainedFlat f nodes t (explanation.Refused 40) t
-  too-many-edges : mostNumbers ≤ length t → mostEdges < f .count → ExplainedFlat f nodes t (explanation.Refused 41) t
-  few-edges : {r : Explanation} {t′ : List ℕ} → f .count ≤ mostEdges → Explained (flatHeld f) nodes t r t′ → ExplainedFlat f nodes t r t′
+pub data ExplainedFlat (local : Bool) (f : Flat) (nodes t : List ℕ) : Explanation → List ℕ → Type 0 where
+  no-room : length t < mostNumbers → ExplainedFlat local f nodes t (explanation.Refused 40) t
+  too-many-edges : mostNumbers ≤ length t → mostEdges < f .count → ExplainedFlat local f nodes t (explanation.Refused 41) t
+  few-edges : {r : Explanation} {t′ : List ℕ} → f .count ≤ mostEdges → Explained local (flatHeld f) nodes t r t′ → ExplainedFlat local f nodes t r t′

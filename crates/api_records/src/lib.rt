@@ -1,5 +1,6 @@
 // The judge and the check over a slice of records (document 01: "The judge and the check are lent the edges as a slice of records."):
 // each record is copied into a flat table, six bytes to an edge, and what is proved over the flat table answers.
+// `local` says which past counts, and goes with the edges.
 use crate::flat::Flat;
 use checker::Outcome;
 use checker::counterexample::Explanation;
@@ -21,8 +22,8 @@ ghost use Rattle.api_records.specs.Code.{judgeFlat, RightFlat, Explained
 mod flat;
 
 // The judge over the flat table.
-fn judge_flat(f: Flat, s: State, step: RawStep) -> Judgement
-    ensures { λ r. ⌜ r ≡ judgeFlat f s step ⌝ }
+fn judge_flat(f: Flat, local: bool, s: State, step: RawStep) -> Judgement
+    ensures { λ r. ⌜ r ≡ judgeFlat f local s step ⌝ }
 {
     let count = f.count;
     if MOST_EDGES < count {
@@ -31,21 +32,21 @@ fn judge_flat(f: Flat, s: State, step: RawStep) -> Judgement
     }
     let n = EDGE_FIELDS * count;
     let bytes = f.bytes;
-    monitor::judge(&bytes[0..n], s, step)
+    monitor::judge(&bytes[0..n], local, s, step)
 }
 
 // The judge of one step, lent the edges as a slice of records.
-pub fn judge_records(edges: &[Edge], s: State, step: RawStep) -> Judgement
-    ensures { λ r. ⌜ r ≡ judgeRecords (now (edges .entry)) s step ⌝ }
-    ensures { λ r. ⌜ KeepsRecords (now (edges .entry)) s step r ⌝ }
+pub fn judge_records(edges: &[Edge], local: bool, s: State, step: RawStep) -> Judgement
+    ensures { λ r. ⌜ r ≡ judgeRecords (now (edges .entry)) local s step ⌝ }
+    ensures { λ r. ⌜ KeepsRecords (now (edges .entry)) local s step r ⌝ }
 {
     let f = crate::flat::flatten(edges);
-    judge_flat(f, s, step)
+    judge_flat(f, local, s, step)
 }
 
 // The check over the flat table.
-fn check_flat(f: Flat, nodes: &[u8]) -> Outcome
-    ensures { λ r. ⌜ RightFlat f (now (nodes .entry)) (outcomeVerdict r) ⌝ }
+fn check_flat(f: Flat, local: bool, nodes: &[u8]) -> Outcome
+    ensures { λ r. ⌜ RightFlat local f (now (nodes .entry)) (outcomeVerdict r) ⌝ }
 {
     let held = f.count;
     if MOST_EDGES < held {
@@ -53,20 +54,20 @@ fn check_flat(f: Flat, nodes: &[u8]) -> Outcome
     }
     let n = EDGE_FIELDS * held;
     let bytes = f.bytes;
-    checker::check(&bytes[0..n], nodes)
+    checker::check(&bytes[0..n], local, nodes)
 }
 
 // The check of an outline, lent the edges as a slice of records.
-pub fn check_records(edges: &[Edge], nodes: &[u8]) -> Outcome
-    ensures { λ r. ⌜ CheckPromise (flat (now (edges .entry))) (now (nodes .entry)) (outcomeVerdict r) ⌝ }
+pub fn check_records(edges: &[Edge], local: bool, nodes: &[u8]) -> Outcome
+    ensures { λ r. ⌜ CheckPromise local (flat (now (edges .entry))) (now (nodes .entry)) (outcomeVerdict r) ⌝ }
 {
     let f = crate::flat::flatten(edges);
-    check_flat(f, nodes)
+    check_flat(f, local, nodes)
 }
 
 // The check with a counterexample over the flat table.
-fn explain_flat(f: Flat, nodes: &[u8], trace: &mut [u32]) -> Explanation
-    ensures { λ r. ⌜ ExplainedFlat f (now (nodes .entry)) (now (trace .entry)) r (now (trace .exit)) ⌝ }
+fn explain_flat(f: Flat, local: bool, nodes: &[u8], trace: &mut [u32]) -> Explanation
+    ensures { λ r. ⌜ ExplainedFlat local f (now (nodes .entry)) (now (trace .entry)) r (now (trace .exit)) ⌝ }
 {
     if trace.len() < MOST_NUMBERS {
         return Explanation::Refused(40);
@@ -77,17 +78,18 @@ fn explain_flat(f: Flat, nodes: &[u8], trace: &mut [u32]) -> Explanation
     }
     let n = EDGE_FIELDS * records;
     let bytes = f.bytes;
-    checker::counterexample::check_with_counterexample(&bytes[0..n], nodes, trace)
+    checker::counterexample::check_with_counterexample(&bytes[0..n], local, nodes, trace)
 }
 
 // The check of an outline with room for the steps of a counterexample, lent the edges as a slice of records.
 pub fn check_records_with_counterexample(
     edges: &[Edge],
+    local: bool,
     nodes: &[u8],
     trace: &mut [u32],
 ) -> Explanation
-    ensures { λ r. ⌜ Explained (flat (now (edges .entry))) (now (nodes .entry)) (now (trace .entry)) r (now (trace .exit)) ⌝ }
+    ensures { λ r. ⌜ Explained local (flat (now (edges .entry))) (now (nodes .entry)) (now (trace .entry)) r (now (trace .exit)) ⌝ }
 {
     let f = crate::flat::flatten(edges);
-    explain_flat(f, nodes, trace)
+    explain_flat(f, local, nodes, trace)
 }
