@@ -28,7 +28,8 @@ use Rattle.api_records.proofs.TableLaws.{flat-refused}
 
 -- From every state that stands for a past under these edges: the answer is right, and the state that is returned stands for the past
 -- with the step, if it was allowed, and for the same past if not.
-pub records-promised : (es : List Edge) (local : Bool) (s : State) (raw : RawStep) → KeepsRecords es local s raw (judgeRecords es local s raw)
+pub records-promised : (es : List Edge) (local : Bool) (s : State) (raw : RawStep)
+    → KeepsRecords es local s raw (judgeRecords es local s raw)
 unfolding judgeRecords
 records-promised es local s raw past h ok R =
     subst (λ (l : List Edge). Promised local l past h s raw (judgeOf (flat es) local s raw)) (edges-flat es)
@@ -36,12 +37,14 @@ records-promised es local s raw past h ok R =
     (subst (λ (l : List Edge). Represents local l past h s) (sym (edges-flat es)) R) raw)
 
 -- "41 a table lent to be used that, taken whole, no accepted sheet gives": and the state is returned as it was
-pub records-refused : (es : List Edge) → (EdgesOk es → ⊥) → (local : Bool) (s : State) (raw : RawStep) → judgeRecords es local s raw ≡ refuse 41 s
+pub records-refused : (es : List Edge) → (EdgesOk es → ⊥) → (local : Bool) (s : State) (raw : RawStep)
+    → judgeRecords es local s raw ≡ refuse 41 s
 unfolding judgeRecords
 records-refused es no-sheet local s raw = flat-refused es local s raw (refuted (edgesOk es) (decides-edges es) no-sheet)
 
 -- The check's answer, said of the records themselves: a verdict is right of an accepted sheet's edges and nodes exactly where it is told.
-pub records-checked : (local : Bool) (es : List Edge) (ns : List ℕ) (v : Verdict) → CheckPromise local (flat es) ns v → EdgesOk es → NodeTable ns
+pub records-checked : (local : Bool) (es : List Edge) (ns : List ℕ) (v : Verdict) → CheckPromise local (flat es) ns v → EdgesOk es
+    → NodeTable ns
     → (w : Verdict) → Checked local es (nodesOf ns) w ↔ (v ≡ w)
 records-checked local es ns v h ok nodes w =
     subst (λ (l : List Edge). Checked local l (nodesOf ns) w ↔ (v ≡ w)) (edges-flat es)

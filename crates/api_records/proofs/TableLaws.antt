@@ -26,12 +26,14 @@ use Rattle.api_records.specs.Code.{zeros, flatOf, judgeFlat, RightFlat, 
 -- ── The judge ──
 
 -- where the edges are not those of an accepted sheet, the judge answers 41
-pub flat-refused : (es : List Edge) (local : Bool) (s : State) (raw : RawStep) → edgesOk es ≡ false → judgeOf (flat es) local s raw ≡ refuse 41 s
+pub flat-refused : (es : List Edge) (local : Bool) (s : State) (raw : RawStep) → edgesOk es ≡ false
+    → judgeOf (flat es) local s raw ≡ refuse 41 s
 unfolding judgeOf
 flat-refused es local s raw h = rw (table-flat es, h)
 
 -- the judge over the table that the loop leaves is the judge over the records
-pub judge-flat-records : (es : List Edge) (local : Bool) (s : State) (raw : RawStep) → judgeFlat (flatOf zeros es) local s raw ≡ judgeRecords es local s raw
+pub judge-flat-records : (es : List Edge) (local : Bool) (s : State) (raw : RawStep)
+    → judgeFlat (flatOf zeros es) local s raw ≡ judgeRecords es local s raw
 unfolding judgeFlat judgeRecords
 judge-flat-records es local s raw = go (leb (length es) mostEdges) refl
   where
@@ -47,10 +49,12 @@ judge-flat-records es local s raw = go (leb (length es) mostEdges) refl
 -- ── The check ──
 
 -- what is right of the table that the loop leaves is right of the records
-right-records : (local : Bool) (es : List Edge) (ns : List ℕ) (v : Verdict) → RightFlat local (flatOf zeros es) ns v → RightVerdict local (flat es) ns v
+right-records : (local : Bool) (es : List Edge) (ns : List ℕ) (v : Verdict) → RightFlat local (flatOf zeros es) ns v
+    → RightVerdict local (flat es) ns v
 right-records local es ns v h = go (leb (length es) mostEdges) refl h
   where
-    go : (b : Bool) → leb (length es) mostEdges ≡ b → {v : Verdict} → RightFlat local (flatOf zeros es) ns v → RightVerdict local (flat es) ns v
+    go : (b : Bool) → leb (length es) mostEdges ≡ b → {v : Verdict} → RightFlat local (flatOf zeros es) ns v
+        → RightVerdict local (flat es) ns v
     go true q (RightFlat.too-many l) =
         let k : length es ≤ mostEdges = leb-true (length es) mostEdges q in
         absurd (omega (arith, few-flat es (loop-few es k) .0))
@@ -63,11 +67,13 @@ right-records local es ns v h = go (leb (length es) mostEdges) refl h
         let k : mostEdges < length es = leb-false (length es) mostEdges q in
         absurd (omega (arith, loop-many es k))
 
-pub checked-records : (local : Bool) (es : List Edge) (ns : List ℕ) (v : Verdict) → RightFlat local (flatOf zeros es) ns v → CheckPromise local (flat es) ns v
+pub checked-records : (local : Bool) (es : List Edge) (ns : List ℕ) (v : Verdict) → RightFlat local (flatOf zeros es) ns v
+    → CheckPromise local (flat es) ns v
 checked-records local es ns v h = right-promised local (flat es) ns v (right-records local es ns v h)
 
 -- and with a counterexample
-pub explained-records : (local : Bool) (es : List Edge) (ns t : List ℕ) {r : Explanation} {t′ : List ℕ} → ExplainedFlat local (flatOf zeros es) ns t r t′
+pub explained-records : (local : Bool) (es : List Edge) (ns t : List ℕ) {r : Explanation} {t′ : List ℕ}
+    → ExplainedFlat local (flatOf zeros es) ns t r t′
     → Explained local (flat es) ns t r t′
 explained-records local es ns t h = go (leb (length es) mostEdges) refl h
   where

@@ -60,4 +60,5 @@ pub data RightFlat (local : Bool) (f : Flat) (nodes : List ℕ) : Verdict → Ty
 pub data ExplainedFlat (local : Bool) (f : Flat) (nodes t : List ℕ) : Explanation → List ℕ → Type 0 where
   no-room : length t < mostNumbers → ExplainedFlat local f nodes t (explanation.Refused 40) t
   too-many-edges : mostNumbers ≤ length t → mostEdges < f .count → ExplainedFlat local f nodes t (explanation.Refused 41) t
-  few-edges : {r : Explanation} {t′ : List ℕ} → f .count ≤ mostEdges → Explained local (flatHeld f) nodes t r t′ → ExplainedFlat local f nodes t r t′
+  few-edges : {r : Explanation} {t′ : List ℕ} → f .count ≤ mostEdges → Explained local (flatHeld f) nodes t r t′
+      → ExplainedFlat local f nodes t r t′

@@ -39,7 +39,8 @@ use denote.Triple.Clauses.{ensured, lasts}
 use denote.Triple.Entry.{Vals, onEntry}
 use denote.Triple.Spec.{Meets, tripleOf}
 use denote.Triple.Table.{entered, cited}
-use denote.Triple.Walked.{says, Stays, stay-none-slice, stay-dropped, walkOf, goes-none-slice, goes-dropped, Walks, ends-at, walked, walk-meets}
+use denote.Triple.Walked.{says, Stays, stay-none-slice, stay-dropped, walkOf, goes-none-slice, goes-dropped, Walks, ends-at, walked}
+use denote.Triple.Walked.{walk-meets}
 use denote.Exit.{yes}
 use Rattle.usage.specs.declared.Edge.{Edge}
 use Rattle.api_records.specs.declared.flat.Flat.{Flat}
@@ -122,7 +123,8 @@ module _ {M : Type 1} (𝓤 : URA M) (H : Heap 𝓤) (A : Atoms 𝓤) (W : Given
       suffices ! _ (ends-at 𝓤 H A check-records.ended stayed (check-records.clauses 𝓤 H A mem run) W
       (((κ, (κ′, tt)), (q, (q′, tt)), tt, (xe, (local, (xt, tt))), at), tt) u m (tt, (tt, (tt, tt))) (tt, (tt, (tt, tt)))) $ says ! e $
       -- the tokens together; then what the parameters own; the result is left
-      move ! (3 ∷ []) $ split ! $ move ! (3 ∷ []) $ move ! (1 ∷ 0 ∷ []) $ join ! $ frame ! $ move ! (2 ∷ 0 ∷ []) $ fjoin ! $ nothing ! $ fjoin ! $ move !
+      move ! (3 ∷ []) $ split ! $ move ! (3 ∷ []) $ move ! (1 ∷ 0 ∷ []) $ join ! $ frame ! $ move ! (2 ∷ 0 ∷ []) $ fjoin ! $ nothing ! $
+      fjoin ! $ move !
       (2 ∷ 0 ∷ []) $ fjoin ! $ frame ! $ done !
 
   module _ (C : Calls 𝓤 H) (Λ : Loops 𝓤 H) (fm : FmC 𝓤 H (W .laws) C) (known-flatten : Triple 𝓤 (C #flat·flatten) (Flatten 𝓤 H A mem run))
@@ -138,7 +140,8 @@ module _ {M : Type 1} (𝓤 : URA M) (H : Heap 𝓤) (A : Atoms 𝓤) (W : Given
         pass1 ! (init ! 6 refl (tt, (tt, (record { fits = ge .0 }, tt)))) $ pass1 ! (init ! 4 refl (tt, tt)) $ pass1 !
         (init ! 2 refl (tt, (tt, (record { fits = gt .0 }, tt)))) $ pass0 ! $
         -- [_4; …; _3; …; _2; …; _1; …; _0; …; the tokens; what the parameters own]
-        move ! (10 ∷ 11 ∷ []) $ split ! $ move ! (1 ∷ []) $ split ! $ move ! (1 ∷ []) $ drop ! $ move ! (2 ∷ []) $ fsplit ! $ move ! (1 ∷ [])
+        move ! (10 ∷ 11 ∷ []) $ split ! $ move ! (1 ∷ []) $ split ! $ move ! (1 ∷ []) $ drop ! $ move ! (2 ∷ []) $ fsplit ! $
+        move ! (1 ∷ [])
         $ fsplit ! $ drop ! $ fsplit ! $ move ! (1 ∷ []) $ drop ! $
         -- [what nodes owns; what edges owns; nodes' token; edges' token; _4; …]
         move ! (1 ∷ []) $ use1 W (‵ Oe ⊛ ‵ Oe) (shr-slice-copy 𝓤 H A W (named 0) κ E.the-row .twice xe (slice-val κ xe)) $ split ! $ move !
@@ -162,7 +165,8 @@ module _ {M : Type 1} (𝓤 : URA M) (H : Heap 𝓤) (A : Atoms 𝓤) (W : Given
         (and-then ! (load ! (from ! (stop !)) (look ! 6 refl)) (no-more !))))
         (λ u.
         use1 W (later (some (λ (m : Outcome). ((‵ (flft κ′ q′) ⊛ ‵ ftrue) ⊛ ‵ (N.the-row .own m (u ∷ []))) ⊛ raw
-        (ensured 𝓤 H A check-flat.ended (check-flat.clauses 𝓤 H A mem run) (κ′, tt) (r, (local, (xt, tt))) tt m)))) (id⊢ 𝓤 _) $ await ! tt $ pick
+        (ensured 𝓤 H A check-flat.ended (check-flat.clauses 𝓤 H A mem run) (κ′, tt) (r, (local, (xt, tt))) tt m)))) (id⊢ 𝓤 _) $
+        await ! tt $ pick
         ! (λ m.
         split ! $ move ! (1 ∷ []) $ use1 W (raw (fact 𝓤 (RightFlat local r (xt .now) (outcomeVerdict m)))) (check-of r m) $ heard !
         (RightFlat local r (xt .now) (outcomeVerdict m)) (λ e₂. split ! $ move ! (1 ∷ []) $
@@ -170,7 +174,8 @@ module _ {M : Type 1} (𝓤 : URA M) (H : Heap 𝓤) (A : Atoms 𝓤) (W : Given
         -- [the result; nodes' token; what nodes owns; edges' token; what edges owns; _4; …; _3; …; _2; …; _1; …; _0; …]
         land ! (from ! (stop !)) (init ! 13 refl (EL.lawful N.the-type N′.the-laws 𝓤 H A W tt .typed m _ is₂ .0)) $
         returns ! (look ! 13 refl) $ forget ! 5 refl $ forget ! 7 refl $ forget ! 9 refl $ forget ! 11 refl $ forget ! 13 refl $
-        move ! (13 ∷ 14 ∷ []) $ free1 ! $ move ! (11 ∷ 12 ∷ []) $ free1 ! $ move ! (9 ∷ 10 ∷ []) $ free1 ! $ move ! (7 ∷ 8 ∷ []) $ free1 ! $ move ! (5 ∷ 6 ∷ []) $ free1 ! $
+        move ! (13 ∷ 14 ∷ []) $ free1 ! $ move ! (11 ∷ 12 ∷ []) $ free1 ! $ move ! (9 ∷ 10 ∷ []) $ free1 ! $ move ! (7 ∷ 8 ∷ []) $
+        free1 ! $ move ! (5 ∷ 6 ∷ []) $ free1 ! $
         free0 ! $
         by ! (exits m u (checked-records local (xe .now) (xt .now) (outcomeVerdict m)
         (subst (λ (f : Flat). RightFlat local f (xt .now) (outcomeVerdict m)) e e₂))))))))))))))))
@@ -183,7 +188,8 @@ module _ {M : Type 1} (𝓤 : URA M) (H : Heap 𝓤) (A : Atoms 𝓤) (W : Given
       (λ κs. (slice-vals, (bool-vals, (slice-vals, tt))))
       (λ κs. (shr-slice-tells (named 0) (κs .0) E.the-row, (bool-tells, (shr-slice-tells (named 1) (κs .1 .0) u8, tt))))
       (λ κs qs bounds a _ are. via 𝓤 _ (fst∗ 𝓤 _ (emp 𝓤))
-      (walk 𝓤 H A W mem run (κs .0) (κs .1 .0) (qs .0) (qs .1 .0) (a .0) (a .1 .0) (a .1 .1 .0) (𝓣 .C) (𝓣 .Λ) (fmOf 𝓤 H (W .laws) 𝓣) known-flatten
+      (walk 𝓤 H A W mem run (κs .0) (κs .1 .0) (qs .0) (qs .1 .0) (a .0) (a .1 .0) (a .1 .1 .0) (𝓣 .C) (𝓣 .Λ)
+      (fmOf 𝓤 H (W .laws) 𝓣) known-flatten
       known-check (are .0 .0 .1) (are .1 .1 .0 .0 .1)))
 
   check-meets : Meets 𝓤 H A check-records.signature (WpFn 𝓤 H (𝓣 .C) (𝓣 .Λ) code.function) (check-records.spec 𝓤 H A mem run)

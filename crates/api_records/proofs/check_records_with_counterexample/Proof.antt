@@ -167,7 +167,8 @@ module _ {M : Type 1} (𝓤 : URA M) (H : Heap 𝓤) (A : Atoms 𝓤) (W : Given
       owned ! F.the-row (Is F.the-row) (LL.makes F.the-type F′.the-plain 𝓤 H A) r _ is $ fjoin ! $ move ! (1 ∷ 0 ∷ []) $ join ! $ frame ! $
       done !
 
-  exits : (m : Explanation) (u : Val) (zs : List ℕ) → Explained local (flat (xe .now)) (xt .now) (xw .now) m zs → length zs ≡ length (xw .now)
+  exits : (m : Explanation) (u : Val) (zs : List ℕ) → Explained local (flat (xe .now)) (xt .now) (xw .now) m zs
+      → length zs ≡ length (xw .now)
       → ent 𝓤 (⋆ 𝓤 H A (‵ (N.the-row .own m (u ∷ [])) ∷ (‵ (flft κ′ q′) ⊛ ‵ (flft κ″ q″) ⊛ ‵ ftrue) ∷ ‵ (finally u32 (xw .name) zs) ∷ ‵ Ot
       ∷ (‵ (flft κ q) ⊛ ‵ ftrue) ∷ ‵ Oe ∷ [])) (Post u)
   exits m u zs e l =
@@ -185,26 +186,30 @@ module _ {M : Type 1} (𝓤 : URA M) (H : Heap 𝓤) (A : Atoms 𝓤) (W : Given
     walk : Room E.the-row (length (xe .now)) → Room u8 (length (xt .now)) → Room u32 (length (xw .now))
         → ent 𝓤 (onEntry 𝓤 H A explain-records.signature (κ, (κ′, (κ″, tt))) (q, (q′, (q″, tt))) (xe, (local, (xt, (xw, tt)))) at)
         (WpFn 𝓤 H C Λ code.function
-        (sliceVal (xe .ptr) (length (xe .now)) ∷ vbool local ∷ sliceVal (xt .ptr) (length (xt .now)) ∷ sliceVal (xw .ptr) (length (xw .now)) ∷ []) Post)
+        (sliceVal (xe .ptr) (length (xe .now)) ∷ vbool local ∷ sliceVal (xt .ptr) (length (xt .now)) ∷
+        sliceVal (xw .ptr) (length (xw .now)) ∷ []) Post)
     walk ge gt gw =
         qed W ((‵ (flft κ q) ⊛ ‵ (flft κ′ q′) ⊛ ‵ (flft κ″ q″) ⊛ ‵ ftrue) ∷ ‵
         (owns (ShrSlice (named 0) κ E.the-row ∷ bool ∷ ShrSlice (named 1) κ′ u8
         ∷ MutSlice (named 2) κ″ u32 ∷ []) (xe, (local, (xt, (xw, tt)))) at) ∷ []) ∵
         enter ! C Λ code.function
-        (sliceVal (xe .ptr) (length (xe .now)) ∷ vbool local ∷ sliceVal (xt .ptr) (length (xt .now)) ∷ sliceVal (xw .ptr) (length (xw .now)) ∷ []) _ $
+        (sliceVal (xe .ptr) (length (xe .now)) ∷ vbool local ∷ sliceVal (xt .ptr) (length (xt .now)) ∷
+        sliceVal (xw .ptr) (length (xw .now)) ∷ []) _ $
         alloc1 ! (λ l₀. alloc1 ! (λ l₁. alloc1 ! (λ l₂. alloc1 !
         (λ l₃. alloc1 ! (λ l₄. alloc1 ! (λ l₅. alloc1 ! (λ l₆. alloc1 ! (λ l₇. alloc0 ! $ params1 ! $
         pass1 ! (init ! 12 refl (tt, (tt, (record { fits = ge .0 }, tt)))) $ pass1 ! (init ! 10 refl (tt, tt)) $ pass1 !
         (init ! 8 refl (tt, (tt, (record { fits = gt .0 }, tt)))) $ pass1 !
         (init ! 6 refl (tt, (tt, (record { fits = gw .0 }, tt)))) $ pass0 ! $
         -- [_7; …; _6; …; _5; …; _4; …; _3; …; _2; …; _1; …; _0; …; the tokens; what the parameters own]
-        move ! (16 ∷ 17 ∷ []) $ split ! $ move ! (2 ∷ []) $ fsplit ! $ move ! (1 ∷ []) $ fsplit ! $ drop ! $ fsplit ! $ move ! (1 ∷ []) $ fsplit ! $ move !
+        move ! (16 ∷ 17 ∷ []) $ split ! $ move ! (2 ∷ []) $ fsplit ! $ move ! (1 ∷ []) $ fsplit ! $ drop ! $ fsplit ! $ move ! (1 ∷ []) $
+        fsplit ! $ move !
         (1 ∷ []) $ drop ! $
         -- [what trace owns; what nodes owns; what edges owns; edges' token; the other tokens; _7; …]
         move ! (2 ∷ []) $ use1 W (‵ Oe ⊛ ‵ Oe) (shr-slice-copy 𝓤 H A W (named 0) κ E.the-row .twice xe (slice-val κ xe)) $ split ! $ move !
         (4 ∷ 0 ∷ []) $ use2 W (raw (Flatten 𝓤 H A mem run .pre (to-flatten 𝓤 H A W mem run κ q xe)))
         (goes-flatten 𝓤 H A W mem run κ q xe) $
-        -- [the callee's pre; what edges owns; what trace owns; what nodes owns; the other tokens; _7; …; _6; …; _5; …; _4; …; _3; …; _2; …; _1; …]
+        -- [the callee's pre; what edges owns; what trace owns; what nodes owns; the other tokens; _7; …; _6; …; _5; …; _4; …; _3; …; _2;
+        -- …; _1; …]
         calls-at ! fm (Flatten 𝓤 H A mem run) known-flatten (to-flatten 𝓤 H A W mem run κ q xe)
         (and-then ! (load ! (from ! (stop !)) (look ! 17 refl)) (no-more !)) (λ v.
         use1 W (later (some (λ (r : Flat). ((‵ (flft κ q) ⊛ ‵ ftrue) ⊛ ‵ (F.the-row .own r (v ∷ []))) ⊛ raw
@@ -227,22 +232,25 @@ module _ {M : Type 1} (𝓤 : URA M) (H : Heap 𝓤) (A : Atoms 𝓤) (W : Given
         (and-then ! (load ! (from ! (stop !)) (look ! 12 refl))
         (and-then ! (load ! (from ! (stop !)) (look ! 4 refl)) (no-more !))))) (λ u.
         use1 W (later (some (λ (m : Explanation). ((‵ (flft κ′ q′) ⊛ ‵ (flft κ″ q″) ⊛ ‵ ftrue) ⊛ ‵ (N.the-row .own m (u ∷ []))) ⊛ raw
-        (ensured 𝓤 H A explain-flat.ended (explain-flat.clauses 𝓤 H A mem run) (κ′, (κ″, tt)) (r, (local, (xt, (xw, tt)))) tt m)))) (id⊢ 𝓤 _) $
+        (ensured 𝓤 H A explain-flat.ended (explain-flat.clauses 𝓤 H A mem run) (κ′, (κ″, tt)) (r, (local, (xt, (xw, tt)))) tt m))))
+        (id⊢ 𝓤 _) $
         await ! tt $ pick ! (λ m.
         -- what `explain_flat` ensures, at some last list
         split ! $ move ! (1 ∷ []) $ use1 W (some (λ (zs : Unit {0} × (Unit {0} × (Unit {0} × (List ℕ × Unit {0})))). ‵
         (lasts explain-flat.ended (κ′, (κ″, tt)) (r, (local, (xt, (xw, tt)))) zs) ⊛ raw
         (fact 𝓤 (ExplainedFlat local r (xt .now) (xw .now) m (zs .1 .1 .1 .0))))) (id⊢ 𝓤 _) $ pick ! (λ zs.
         split ! $ move ! (1 ∷ []) $ heard ! (ExplainedFlat local r (xt .now) (xw .now) m (zs .1 .1 .1 .0)) (λ e₂.
-        fsplit ! $ drop ! $ fsplit ! $ drop ! $ fsplit ! $ drop ! $ fsplit ! $ fsplit ! $ move ! (1 ∷ []) $ feqL ! (λ l. move ! (1 ∷ []) $ drop ! $
+        fsplit ! $ drop ! $ fsplit ! $ drop ! $ fsplit ! $ drop ! $ fsplit ! $ fsplit ! $ move ! (1 ∷ []) $ feqL ! (λ l. move ! (1 ∷ []) $
+        drop ! $
         -- [the last list; the other tokens and the result; what nodes owns; edges' token; what edges owns; _7; …]
         move ! (1 ∷ []) $ split ! $ move ! (1 ∷ []) $
         peeks ! N.the-row (Is N.the-row) (shows 𝓤 H A N.the-row) m (u ∷ []) (λ is₂.
         -- [the result; the other tokens; the last list; what nodes owns; edges' token; what edges owns; _7; …; _0; …]
         land ! (from ! (stop !)) (init ! 20 refl (EL.lawful N.the-type N′.the-laws 𝓤 H A W tt .typed m _ is₂ .0)) $
-        returns ! (look ! 20 refl) $ forget ! 6 refl $ forget ! 8 refl $ forget ! 10 refl $ forget ! 12 refl $ forget ! 14 refl $ forget ! 16
-        refl $ forget ! 18 refl $ forget ! 20 refl $
-        move ! (20 ∷ 21 ∷ []) $ free1 ! $ move ! (18 ∷ 19 ∷ []) $ free1 ! $ move ! (16 ∷ 17 ∷ []) $ free1 ! $ move ! (14 ∷ 15 ∷ []) $ free1 ! $ move !
+        returns ! (look ! 20 refl) $ forget ! 6 refl $ forget ! 8 refl $ forget ! 10 refl $ forget ! 12 refl $ forget ! 14 refl $
+        forget ! 16 refl $ forget ! 18 refl $ forget ! 20 refl $
+        move ! (20 ∷ 21 ∷ []) $ free1 ! $ move ! (18 ∷ 19 ∷ []) $ free1 ! $ move ! (16 ∷ 17 ∷ []) $ free1 ! $ move ! (14 ∷ 15 ∷ []) $
+        free1 ! $ move !
         (12 ∷ 13 ∷ []) $ free1 !
         $ move ! (10 ∷ 11 ∷ []) $ free1 ! $ move ! (8 ∷ 9 ∷ []) $ free1 ! $ move ! (6 ∷ 7 ∷ []) $ free1 ! $
         free0 ! $
@@ -260,7 +268,8 @@ module _ {M : Type 1} (𝓤 : URA M) (H : Heap 𝓤) (A : Atoms 𝓤) (W : Given
         (bool-tells, (shr-slice-tells (named 1) (κs .1 .0) u8, (mut-slice-tells (named 2) (κs .1 .1 .0) u32, tt))),
       ))
       (λ κs qs bounds a _ are. via 𝓤 _ (fst∗ 𝓤 _ (emp 𝓤))
-      (walk 𝓤 H A W mem run (κs .0) (κs .1 .0) (κs .1 .1 .0) (qs .0) (qs .1 .0) (qs .1 .1 .0) (a .0) (a .1 .0) (a .1 .1 .0) (a .1 .1 .1 .0) (𝓣 .C) (𝓣 .Λ)
+      (walk 𝓤 H A W mem run (κs .0) (κs .1 .0) (κs .1 .1 .0) (qs .0) (qs .1 .0) (qs .1 .1 .0) (a .0) (a .1 .0) (a .1 .1 .0)
+      (a .1 .1 .1 .0) (𝓣 .C) (𝓣 .Λ)
       (fmOf 𝓤 H (W .laws) 𝓣) known-flatten known-explain (are .0 .0 .1) (are .1 .1 .0 .0 .1) (are .1 .1 .1 .0 .0 .1)))
 
   explain-meets : Meets 𝓤 H A explain-records.signature (WpFn 𝓤 H (𝓣 .C) (𝓣 .Λ) code.function) (explain-records.spec 𝓤 H A mem run)

@@ -1,6 +1,7 @@
 -- `judge_records` meets its contract: a walk of its MIR, by hand, of two calls. The slice is Copy: what it owns is had twice, one copy
 -- goes to the callee
--- and one is kept for the exit. Its token goes to the callee and comes back. The choice of past, the state, the step and the flat table are plain data: what
+-- and one is kept for the exit. Its token goes to the callee and comes back. The choice of past, the state, the step and the flat table
+-- are plain data: what
 -- a value of them owns is
 -- never carried, and `owned` makes it anew from `Is`.
 -- Assumes nothing.
@@ -125,7 +126,9 @@ module _ {M : Type 1} (𝓤 : URA M) (H : Heap 𝓤) (A : Atoms 𝓤) (W : Given
   judge-of : (r : Flat) (j : Judgement)
       → ent 𝓤 (ensured 𝓤 H A judge-flat.ended (judge-flat.clauses 𝓤 H A mem run) tt (r, (local, (s, (step, tt)))) tt j)
       (fact 𝓤 (j ≡ judgeFlat r local s step))
-  judge-of r j = exE 𝓤 _ (λ ws. snd∗ 𝓤 (sem 𝓤 H A (lasts judge-flat.ended tt (r, (local, (s, (step, tt)))) ws)) (fact 𝓤 (j ≡ judgeFlat r local s step)))
+  judge-of r j =
+      exE 𝓤 _ (λ ws. snd∗ 𝓤 (sem 𝓤 H A (lasts judge-flat.ended tt (r, (local, (s, (step, tt)))) ws))
+      (fact 𝓤 (j ≡ judgeFlat r local s step)))
 
   answers : (r : Flat) (j : Judgement) → r ≡ flatOf zeros (xe .now) → j ≡ judgeFlat r local s step → j ≡ judgeRecords (xe .now) local s step
   answers r j e e₂ = e₂ ∙ ap (λ (f : Flat). judgeFlat f local s step) e ∙ judge-flat-records (xe .now) local s step
@@ -137,7 +140,8 @@ module _ {M : Type 1} (𝓤 : URA M) (H : Heap 𝓤) (A : Atoms 𝓤) (W : Given
       suffices ! _ (ends-at 𝓤 H A judge-records.ended stayed (judge-records.clauses 𝓤 H A mem run) W
       (((κ, tt), (q, tt), tt, (xe, (local, (s, (step, tt)))), at), tt) u j (tt, (tt, (tt, (tt, tt)))) (tt, (tt, (tt, (tt, tt))))) $
       -- the token, with what is had of the parameters and the result; then what is ensured of it
-      nothing ! $ nothing ! $ fjoin ! $ nothing ! $ fjoin ! $ nothing ! $ fjoin ! $ move ! (3 ∷ 0 ∷ []) $ fjoin ! $ join ! $ move ! (1 ∷ []) $ join ! $ frame ! $
+      nothing ! $ nothing ! $ fjoin ! $ nothing ! $ fjoin ! $ nothing ! $ fjoin ! $ move ! (3 ∷ 0 ∷ []) $ fjoin ! $ join ! $
+      move ! (1 ∷ []) $ join ! $ frame ! $
       use0 W (raw (fact 𝓤 (j ≡ judgeRecords (xe .now) local s step))) (factI 𝓤 _ (emp 𝓤) e) $ frame ! $
       use0 W (raw (fact 𝓤 (KeepsRecords (xe .now) local s step j))) (factI 𝓤 _ (emp 𝓤) promised) $ done !
 
@@ -147,8 +151,8 @@ module _ {M : Type 1} (𝓤 : URA M) (H : Heap 𝓤) (A : Atoms 𝓤) (W : Given
         → ent 𝓤 (onEntry 𝓤 H A judge-records.signature (κ, tt) (q, tt) (xe, (local, (s, (step, tt)))) at)
         (WpFn 𝓤 H C Λ code.function (sliceVal (xe .ptr) (length (xe .now)) ∷ vbool local ∷ stateVal s ∷ stepVal step ∷ []) Post)
     walk ge gs gr =
-        qed W ((‵ (flft κ q) ⊛ ‵ ftrue) ∷ ‵ (owns (ShrSlice (named 0) κ E.the-row ∷ bool ∷ S.the-row ∷ R.the-row ∷ []) (xe, (local, (s, (step, tt)))) at) ∷
-        []) ∵
+        qed W ((‵ (flft κ q) ⊛ ‵ ftrue) ∷ ‵ (owns (ShrSlice (named 0) κ E.the-row ∷ bool ∷ S.the-row ∷ R.the-row ∷ [])
+        (xe, (local, (s, (step, tt)))) at) ∷ []) ∵
         enter ! C Λ code.function (sliceVal (xe .ptr) (length (xe .now)) ∷ vbool local ∷ stateVal s ∷ stepVal step ∷ []) _ $
         alloc1 ! (λ l₀. alloc1 ! (λ l₁. alloc1 ! (λ l₂. alloc1 ! (λ l₃. alloc1 ! (λ l₄. alloc1 ! (λ l₅. alloc0 ! $ params1 ! $
         pass1 ! (init ! 8 refl (tt, (tt, (record { fits = ge .0 }, tt)))) $ pass1 ! (init ! 6 refl (tt, tt)) $ pass1 !
@@ -176,15 +180,19 @@ module _ {M : Type 1} (𝓤 : URA M) (H : Heap 𝓤) (A : Atoms 𝓤) (W : Given
         (and-then ! (load ! (from ! (stop !)) (look ! 7 refl))
         (and-then ! (load ! (from ! (stop !)) (look ! 5 refl)) (no-more !))))) (λ u.
         use1 W (later (some (λ (j : Judgement). (‵ ftrue ⊛ ‵ (J.the-row .own j (u ∷ []))) ⊛ raw
-        (ensured 𝓤 H A judge-flat.ended (judge-flat.clauses 𝓤 H A mem run) tt (r, (local, (s, (step, tt)))) tt j)))) (id⊢ 𝓤 _) $ await ! tt $
+        (ensured 𝓤 H A judge-flat.ended (judge-flat.clauses 𝓤 H A mem run) tt (r, (local, (s, (step, tt)))) tt j)))) (id⊢ 𝓤 _) $
+        await ! tt $
         pick ! (λ j.
-        split ! $ move ! (1 ∷ []) $ use1 W (raw (fact 𝓤 (j ≡ judgeFlat r local s step))) (judge-of r j) $ heard ! (j ≡ judgeFlat r local s step)
+        split ! $ move ! (1 ∷ []) $ use1 W (raw (fact 𝓤 (j ≡ judgeFlat r local s step))) (judge-of r j) $
+        heard ! (j ≡ judgeFlat r local s step)
         (λ e₂. split ! $ drop ! $
         peeks ! J.the-row (Is J.the-row) (shows 𝓤 H A J.the-row) j (u ∷ []) (λ is₂.
         -- [the result; the token; what edges owns; _5; …; _4; …; _3; …; _2; …; _1; …; _0; …]
         land ! (from ! (stop !)) (init ! 13 refl (LL.lawful J.the-type J′.the-laws 𝓤 H A W .typed j _ is₂ .0)) $
-        returns ! (look ! 13 refl) $ forget ! 3 refl $ forget ! 5 refl $ forget ! 7 refl $ forget ! 9 refl $ forget ! 11 refl $ forget ! 13 refl $
-        move ! (13 ∷ 14 ∷ []) $ free1 ! $ move ! (11 ∷ 12 ∷ []) $ free1 ! $ move ! (9 ∷ 10 ∷ []) $ free1 ! $ move ! (7 ∷ 8 ∷ []) $ free1 ! $ move ! (5 ∷ 6 ∷ []) $ free1 ! $
+        returns ! (look ! 13 refl) $ forget ! 3 refl $ forget ! 5 refl $ forget ! 7 refl $ forget ! 9 refl $ forget ! 11 refl $
+        forget ! 13 refl $
+        move ! (13 ∷ 14 ∷ []) $ free1 ! $ move ! (11 ∷ 12 ∷ []) $ free1 ! $ move ! (9 ∷ 10 ∷ []) $ free1 ! $ move ! (7 ∷ 8 ∷ []) $
+        free1 ! $ move ! (5 ∷ 6 ∷ []) $ free1 ! $
         move ! (3 ∷ 4 ∷ []) $ free1 ! $ free0 ! $
         by ! (exits j u (answers r j e e₂) (subst (KeepsRecords (xe .now) local s step) (sym (answers r j e e₂))
         (records-promised (xe .now) local s step)))))))))))))))))
@@ -195,9 +203,19 @@ module _ {M : Type 1} (𝓤 : URA M) (H : Heap 𝓤) (A : Atoms 𝓤) (W : Given
   judge-walks : Walks 𝓤 H A judge-records.ended stayed (WpFn 𝓤 H (𝓣 .C) (𝓣 .Λ) code.function) (judge-records.clauses 𝓤 H A mem run)
   judge-walks = walked 𝓤 H A judge-records.ended stayed (judge-records.clauses 𝓤 H A mem run) (WpFn 𝓤 H (𝓣 .C) (𝓣 .Λ) code.function)
       (λ κs. (slice-vals, (bool-vals, (LL.vals S.the-type S′.the-laws, (LL.vals R.the-type R′.the-laws, tt)))))
-      (λ κs. (shr-slice-tells (named 0) (κs .0) E.the-row, (bool-tells, (LL.tells S.the-type S′.the-laws, (LL.tells R.the-type R′.the-laws, tt)))))
+      (λ κs. (
+        shr-slice-tells (named 0) (κs .0) E.the-row,
+        (
+          bool-tells,
+          (
+            LL.tells S.the-type S′.the-laws,
+            (LL.tells R.the-type R′.the-laws, tt),
+          ),
+        ),
+      ))
       (λ κs qs bounds a _ are. via 𝓤 _ (fst∗ 𝓤 _ (emp 𝓤))
-      (walk 𝓤 H A W mem run (κs .0) (qs .0) (a .0) (a .1 .0) (a .1 .1 .0) (a .1 .1 .1 .0) (𝓣 .C) (𝓣 .Λ) (fmOf 𝓤 H (W .laws) 𝓣) known-flatten known-judge
+      (walk 𝓤 H A W mem run (κs .0) (qs .0) (a .0) (a .1 .0) (a .1 .1 .0) (a .1 .1 .1 .0) (𝓣 .C) (𝓣 .Λ)
+      (fmOf 𝓤 H (W .laws) 𝓣) known-flatten known-judge
       (are .0 .0 .1) (are .1 .1 .0) (are .1 .1 .1 .0)))
 
   judge-meets : Meets 𝓤 H A judge-records.signature (WpFn 𝓤 H (𝓣 .C) (𝓣 .Λ) code.function) (judge-records.spec 𝓤 H A mem run)
