@@ -26,6 +26,10 @@ extern "C" {
 /* A table of edges: six bytes for each (policy, from, action, on, who, to), in the order of the sheet. */
 #define WIFOREKUN_EDGE_BYTES 6
 #define WIFOREKUN_MOST_EDGES 256
+/* Which past the policies of the table see, a number that is lent beside it: the whole past, also what was before a sandbox was opened; or,
+ * as for a sheet whose names line begins with `local`, only the past since their sandbox was opened. Another number is refused with 41. */
+#define WIFOREKUN_WHOLE 0u
+#define WIFOREKUN_LOCAL 1u
 /* A table of nodes: three bytes for each (kind, a, b), node 0 first. */
 #define WIFOREKUN_NODE_BYTES 3
 #define WIFOREKUN_MOST_NODES 64
@@ -68,22 +72,23 @@ static inline void wiforekun_start(struct wiforekun_state *state) {
 
 /* One step of the monitor, under a table of edges (its length in bytes). The state's arrays are lent one by one. Where the step is allowed
  * they hold the new state; where it is violated only the halted flag changes, to 1; where it is refused with a number nothing changes.
- * Of the numbers 40 to 42: 41 where no accepted sheet gives the table; 42 where the state has more than 64 resources created, one twice or
- * outside 16 to 65535; an order longer than 64, with an entry above 7, or with some policy in it another number of times than `unclosed`
- * tells; or a halted flag other than 0 and 1. A state that passes but was never reached is judged by the sets that it holds: an event by
- * `sets`, from which it gathers `possible` anew, an opening or a closing by `possible` as it is. Elements of `created` from the count on,
- * and of `order` from its length on, are not looked at. */
-uint32_t judge_parts(const uint8_t *edges, size_t edges_length, uint8_t *sets, uint8_t *possible, uint32_t *created, uint8_t *unclosed,
-                     uint8_t *order, uint64_t *numbers, uint32_t kind, uint32_t a, uint32_t b);
+ * Of the numbers 40 to 42: 41 where no accepted sheet gives the table, or `local` is neither; 42 where the state has more than 64
+ * resources created, one twice or outside 16 to 65535; an order longer than 64, with an entry above 7, or with some policy in it another
+ * number of times than `unclosed` tells; or a halted flag other than 0 and 1. A state that passes but was never reached is judged by the
+ * sets that it holds: an event by `sets`, from which it gathers `possible` anew; an opening or a closing by `possible` as it is, that of a
+ * policy which goes back to state 0 aside. Elements of `created` from the count on, and of `order` from its length on, are not looked at. */
+uint32_t judge_parts(const uint8_t *edges, size_t edges_length, uint32_t local, uint8_t *sets, uint8_t *possible, uint32_t *created,
+                     uint8_t *unclosed, uint8_t *order, uint64_t *numbers, uint32_t kind, uint32_t a, uint32_t b);
 
-static inline uint32_t wiforekun_judge(struct wiforekun_state *state, const uint8_t *edges, size_t edges_length, uint32_t kind, uint32_t a,
-                                       uint32_t b) {
-    return judge_parts(edges, edges_length, state->sets, state->possible, state->created, state->unclosed, state->order, state->numbers,
-                       kind, a, b);
+static inline uint32_t wiforekun_judge(struct wiforekun_state *state, const uint8_t *edges, size_t edges_length, uint32_t local,
+                                       uint32_t kind, uint32_t a, uint32_t b) {
+    return judge_parts(edges, edges_length, local, state->sets, state->possible, state->created, state->unclosed, state->order,
+                       state->numbers, kind, a, b);
 }
 
-/* The check of a table of nodes under a table of edges (lengths in bytes). 41 where no accepted sheet gives one of the tables. */
-uint32_t check_tables(const uint8_t *edges, size_t edges_length, const uint8_t *nodes, size_t nodes_length);
+/* The check of a table of nodes under a table of edges (lengths in bytes). 41 where no accepted sheet gives one of the tables, or `local` is
+ * neither. */
+uint32_t check_tables(const uint8_t *edges, size_t edges_length, uint32_t local, const uint8_t *nodes, size_t nodes_length);
 
 /* The same check, with a counterexample. Where it names a policy and a trace of at most 200 steps leaves that policy open and not respected,
  * a shortest such trace is written to `trace`: three numbers for each step (kind, a, b), the oldest step first, fresh resources numbered 16,
@@ -93,8 +98,8 @@ uint32_t check_tables(const uint8_t *edges, size_t edges_length, const uint8_t *
  * `trace_length` is in numbers, not in bytes. 40 where it is below the room, before 41. */
 #define WIFOREKUN_STEP_NUMBERS 3
 #define WIFOREKUN_COUNTEREXAMPLE_ROOM 600
-uint32_t check_counterexample(const uint8_t *edges, size_t edges_length, const uint8_t *nodes, size_t nodes_length, uint32_t *trace,
-                              size_t trace_length);
+uint32_t check_counterexample(const uint8_t *edges, size_t edges_length, uint32_t local, const uint8_t *nodes, size_t nodes_length,
+                              uint32_t *trace, size_t trace_length);
 
 /* What the programs print, from the bytes of the sheets: the text is written to `out`, and its length is the answer. Bytes after it
  * keep their contents. Where `out` is shorter than the room below, nothing is written and the answer is 0. */

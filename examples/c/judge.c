@@ -17,10 +17,10 @@ int main(void) {
     wiforekun_start(&state);
     puts("line answer detail");
     for (unsigned i = 0; i < sizeof steps / sizeof *steps; i++) {
-        uint32_t code = wiforekun_judge(&state, *edges, sizeof edges, steps[i][0], steps[i][1], steps[i][2]);
+        uint32_t code = wiforekun_judge(&state, *edges, sizeof edges, WIFOREKUN_WHOLE, steps[i][0], steps[i][1], steps[i][2]);
         printf("%u %u %u\n", i + 2, (unsigned)WIFOREKUN_ANSWER(code), (unsigned)WIFOREKUN_DETAIL(code));
     }
-    uint32_t code = check_tables(*edges, sizeof edges, *nodes, sizeof nodes);
+    uint32_t code = check_tables(*edges, sizeof edges, WIFOREKUN_WHOLE, *nodes, sizeof nodes);
     printf("line answer detail\n0 %u %u\n", (unsigned)WIFOREKUN_ANSWER(code), (unsigned)WIFOREKUN_DETAIL(code));
     return 0;
 }

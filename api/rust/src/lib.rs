@@ -2,19 +2,21 @@
 //! meaning of all values and numbers.
 //!
 //! A table of edges has [`EDGE_BYTES`] bytes for each edge (policy, from, action, on, who, to), a table of nodes [`NODE_BYTES`] for each
-//! node (kind, a, b), node 0 first.
+//! node (kind, a, b), node 0 first. A table of edges is lent with the past that its policies see.
 //!
 //! ```
-//! use wiforekun::{check, Answer, Outcome, State};
+//! use wiforekun::{check, Answer, Outcome, Past, State};
 //!
 //! // read (2) only what was taken (1)
 //! let edges = [0, 0, 1, 1, 0, 1, 0, 0, 2, 1, 0, 6];
 //! let mut state = State::START;
-//! assert_eq!(state.judge(&edges, [1, 0, 0]), Answer::Allowed);
-//! assert_eq!(state.judge(&edges, [0, 2, 3]), Answer::Violated(0));
-//! assert_eq!(state.judge(&edges, [0, 1, 3]), Answer::Refused(20));
-//! // a sandbox around taking and reading static resource 3
-//! assert_eq!(check(&edges, &[8, 0, 1, 3, 2, 3, 1, 1, 3, 1, 2, 3]), Outcome::Accepted);
+//! assert_eq!(state.judge(&edges, Past::Whole, [1, 0, 0]), Answer::Allowed);
+//! assert_eq!(state.judge(&edges, Past::Whole, [0, 2, 3]), Answer::Violated(0));
+//! assert_eq!(state.judge(&edges, Past::Whole, [0, 1, 3]), Answer::Refused(20));
+//! // static resource 3 is taken, and then read inside a sandbox
+//! let nodes = [3, 1, 2, 1, 1, 3, 8, 0, 3, 1, 2, 3];
+//! assert_eq!(check(&edges, Past::Whole, &nodes), Outcome::Accepted);
+//! assert_eq!(check(&edges, Past::Local, &nodes), Outcome::Named(0));
 //! ```
 
 pub const EDGE_BYTES: usize = 6;
@@ -42,6 +44,7 @@ extern "C" {
     fn judge_parts(
         edges: *const u8,
         edges_length: usize,
+        local: u32,
         sets: *mut [u8; SETS_LENGTH],
         possible: *mut [u8; POSSIBLE_LENGTH],
         created: *mut [u32; CREATED_LENGTH],
@@ -52,10 +55,11 @@ extern "C" {
         a: u32,
         b: u32,
     ) -> u32;
-    fn check_tables(edges: *const u8, edges_length: usize, nodes: *const u8, nodes_length: usize) -> u32;
+    fn check_tables(edges: *const u8, edges_length: usize, local: u32, nodes: *const u8, nodes_length: usize) -> u32;
     fn check_counterexample(
         edges: *const u8,
         edges_length: usize,
+        local: u32,
         nodes: *const u8,
         nodes_length: usize,
         trace: *mut u32,
@@ -89,6 +93,26 @@ extern "C" {
         out: *mut u8,
         out_length: usize,
     ) -> usize;
+}
+
+/// Which past the policies of a table of edges see.
+#[derive(Clone, Copy, Debug, PartialEq, Eq)]
+pub enum Past {
+    /// The whole past, also what was before a sandbox was opened.
+    Whole,
+    /// Only the past since their sandbox was opened: where a policy is opened that is not open, all its instances go back to state 0. So it
+    /// is for a sheet whose names line begins with `local`.
+    Local,
+}
+
+impl Past {
+    /// The number that the exported functions take; another one is refused with 41.
+    pub const fn number(self) -> u32 {
+        match self {
+            Past::Whole => 0,
+            Past::Local => 1,
+        }
+    }
 }
 
 /// What the monitor answers to a step.
@@ -162,8 +186,8 @@ impl State {
     /// One step (kind, a, b). The state after it is the new one where it is allowed, halted where it is violated, and unchanged where it is
     /// refused.
     #[inline]
-    pub fn judge(&mut self, edges: &[u8], step: [u32; 3]) -> Answer {
-        let code = self.judge_code(edges, step);
+    pub fn judge(&mut self, edges: &[u8], past: Past, step: [u32; 3]) -> Answer {
+        let code = self.judge_code(edges, past.number(), step);
         match code / 256 {
             0 => Answer::Allowed,
             1 => Answer::Violated(detail(code)),
@@ -171,12 +195,12 @@ impl State {
         }
     }
 
-    /// The same as one number: 256 times the answer (0 allowed, 1 violated, 2 refused), and the detail.
+    /// The same as one number: 256 times the answer (0 allowed, 1 violated, 2 refused), and the detail. The past is told by its number.
     #[inline]
-    pub fn judge_code(&mut self, edges: &[u8], [kind, a, b]: [u32; 3]) -> u32 {
+    pub fn judge_code(&mut self, edges: &[u8], local: u32, [kind, a, b]: [u32; 3]) -> u32 {
         let State { sets, possible, created, unclosed, order, numbers } = self;
         // sound: slices and exclusive references to arrays of the declared lengths; the proved code keeps to these
-        unsafe { judge_parts(edges.as_ptr(), edges.len(), sets, possible, created, unclosed, order, numbers, kind, a, b) }
+        unsafe { judge_parts(edges.as_ptr(), edges.len(), local, sets, possible, created, unclosed, order, numbers, kind, a, b) }
     }
 }
 
@@ -185,8 +209,8 @@ fn detail(code: u32) -> u8 {
 }
 
 /// The check of a table of nodes under a table of edges.
-pub fn check(edges: &[u8], nodes: &[u8]) -> Outcome {
-    let code = check_code(edges, nodes);
+pub fn check(edges: &[u8], past: Past, nodes: &[u8]) -> Outcome {
+    let code = check_code(edges, past.number(), nodes);
     match code / 256 {
         0 => Outcome::Accepted,
         1 => Outcome::Named(detail(code)),
@@ -194,17 +218,17 @@ pub fn check(edges: &[u8], nodes: &[u8]) -> Outcome {
     }
 }
 
-/// The same as one number: 256 times the answer (0 accepted, 1 named, 2 refused), and the detail.
+/// The same as one number: 256 times the answer (0 accepted, 1 named, 2 refused), and the detail. The past is told by its number.
 #[inline]
-pub fn check_code(edges: &[u8], nodes: &[u8]) -> u32 {
+pub fn check_code(edges: &[u8], local: u32, nodes: &[u8]) -> u32 {
     // sound: two slices to read
-    unsafe { check_tables(edges.as_ptr(), edges.len(), nodes.as_ptr(), nodes.len()) }
+    unsafe { check_tables(edges.as_ptr(), edges.len(), local, nodes.as_ptr(), nodes.len()) }
 }
 
 /// The check of a table of nodes under a table of edges, with a shortest counterexample.
-pub fn explain(edges: &[u8], nodes: &[u8]) -> Explained {
+pub fn explain(edges: &[u8], past: Past, nodes: &[u8]) -> Explained {
     let mut trace = [0; COUNTEREXAMPLE_ROOM];
-    let code = explain_code(edges, nodes, &mut trace);
+    let code = explain_code(edges, past.number(), nodes, &mut trace);
     let policy = detail(code);
     match (code / 256 % 256, (code / 65536) as usize) {
         (0, _) => Explained::Accepted,
@@ -219,11 +243,11 @@ pub fn explain(edges: &[u8], nodes: &[u8]) -> Explained {
 
 /// The same as one number: 65536 times the length in steps, 256 times the answer (0 accepted, 1 named, 2 refused), and the detail. The
 /// steps are written to `trace`, and what is after them stays; refused with 40 where it is shorter than [`COUNTEREXAMPLE_ROOM`]. The
-/// length is 0 where nothing is written.
+/// length is 0 where nothing is written. The past is told by its number.
 #[inline]
-pub fn explain_code(edges: &[u8], nodes: &[u8], trace: &mut [u32]) -> u32 {
+pub fn explain_code(edges: &[u8], local: u32, nodes: &[u8], trace: &mut [u32]) -> u32 {
     // sound: two slices to read and one to write
-    unsafe { check_counterexample(edges.as_ptr(), edges.len(), nodes.as_ptr(), nodes.len(), trace.as_mut_ptr(), trace.len()) }
+    unsafe { check_counterexample(edges.as_ptr(), edges.len(), local, nodes.as_ptr(), nodes.len(), trace.as_mut_ptr(), trace.len()) }
 }
 
 /// What the first program prints for these sheets, put into `out`: its length, or 0 where `out` is shorter than [`TRACE_ROOM`].

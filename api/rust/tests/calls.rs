@@ -1,43 +1,92 @@
 //! The safe functions, on cases whose answers are worked by hand.
 
-use wiforekun::{check, Answer, Outcome, State};
+use wiforekun::{check, check_code, Answer, Outcome, Past, State};
 
 /// Read (2) only what was taken (1) and not given back (3).
 const P: [u8; 18] = [0, 0, 1, 1, 0, 1, 0, 1, 3, 1, 0, 0, 0, 0, 2, 1, 0, 6];
 
-fn answers(edges: &[u8], steps: &[[u32; 3]]) -> Vec<Answer> {
+fn answers(edges: &[u8], past: Past, steps: &[[u32; 3]]) -> Vec<Answer> {
     let mut state = State::START;
-    steps.iter().map(|step| state.judge(edges, *step)).collect()
+    steps.iter().map(|step| state.judge(edges, past, *step)).collect()
 }
 
 #[test]
 fn each_resource_has_an_instance_of_its_own() {
     use Answer::{Allowed, Refused, Violated};
     let steps = [[1, 0, 0], [0, 0, 16], [0, 1, 16], [0, 2, 16], [0, 0, 17], [0, 2, 17], [0, 3, 16]];
-    assert_eq!(answers(&P, &steps), [Allowed, Allowed, Allowed, Allowed, Allowed, Violated(0), Refused(20)]);
+    assert_eq!(answers(&P, Past::Whole, &steps), [Allowed, Allowed, Allowed, Allowed, Allowed, Violated(0), Refused(20)]);
+}
+
+#[test]
+fn the_past_before_the_opening() {
+    use Answer::{Allowed, Violated};
+    // read 3, open 0; and take 3, open 0, read 3
+    let (early_read, early_take) = ([[0, 2, 3], [1, 0, 0]], [[0, 1, 3], [1, 0, 0], [0, 2, 3]]);
+    assert_eq!(answers(&P, Past::Whole, &early_read), [Allowed, Violated(0)]);
+    assert_eq!(answers(&P, Past::Local, &early_read), [Allowed, Allowed]);
+    assert_eq!(answers(&P, Past::Whole, &early_take), [Allowed, Allowed, Allowed]);
+    assert_eq!(answers(&P, Past::Local, &early_take), [Allowed, Allowed, Violated(0)]);
+    // a nested opening puts nothing back, nor does a closing; one after the last closing does
+    let nested = [[1, 0, 0], [0, 1, 3], [1, 0, 0], [2, 0, 0], [0, 2, 3]];
+    assert_eq!(answers(&P, Past::Local, &nested), [Allowed; 5]);
+    let again = [[1, 0, 0], [0, 1, 3], [2, 0, 0], [1, 0, 0], [0, 2, 3]];
+    assert_eq!(answers(&P, Past::Whole, &again), [Allowed; 5]);
+    assert_eq!(answers(&P, Past::Local, &again), [Allowed, Allowed, Allowed, Allowed, Violated(0)]);
+}
+
+#[test]
+fn an_opening_puts_its_policy_back() {
+    // take moves policies 0 and 1; opening 0 puts the instances of 0 back, of every resource, and leaves those of 1
+    let edges = [0, 0, 1, 1, 0, 1, 0, 0, 1, 2, 0, 2, 1, 0, 1, 1, 0, 1];
+    let mut state = State::START;
+    for step in [[0, 0, 16], [0, 1, 16], [0, 0, 17]] {
+        assert_eq!(state.judge(&edges, Past::Local, step), Answer::Allowed);
+    }
+    assert_eq!(state.possible, [0b110, 0b11, 1, 1, 1, 1, 1, 1]);
+    let before = state.clone();
+    assert_eq!(state.judge(&edges, Past::Local, [1, 0, 0]), Answer::Allowed);
+    assert_eq!(state.possible, [1, 0b11, 1, 1, 1, 1, 1, 1]);
+    assert_eq!((state.created, state.numbers), (before.created, [2, 0, 1]));
+    // an event after it finds 0 in state 0 everywhere, and 1 where it was
+    assert_eq!(state.judge(&edges, Past::Local, [0, 2, 3]), Answer::Allowed);
+    assert_eq!(state.possible, [1, 0b11, 1, 1, 1, 1, 1, 1]);
+}
+
+#[test]
+fn a_past_that_is_neither() {
+    let mut state = State::START;
+    for local in [2, 255, 256, u32::MAX] {
+        assert_eq!(state.judge_code(&P, local, [1, 0, 0]), 512 + 41);
+        assert_eq!(check_code(&P, local, &[8, 0, 1, 1, 2, 3]), 512 + 41);
+    }
+    assert!(state == State::START);
+    // 41 comes before 42 and before all else
+    state.numbers = [65, 2, 65];
+    assert_eq!(state.judge_code(&P, 2, [9, 9, 9]), 512 + 41);
+    assert_eq!((Past::Whole.number(), Past::Local.number()), (0, 1));
 }
 
 #[test]
 fn a_refused_step_changes_nothing() {
     let mut state = State::START;
-    assert_eq!(state.judge(&P, [0, 0, 16]), Answer::Allowed);
-    assert_eq!(state.judge(&P, [0, 1, 3]), Answer::Allowed);
+    assert_eq!(state.judge(&P, Past::Whole, [0, 0, 16]), Answer::Allowed);
+    assert_eq!(state.judge(&P, Past::Whole, [0, 1, 3]), Answer::Allowed);
     let before = state.clone();
     for (step, number) in [([3, 0, 0], 21), ([0, 0, 15], 22), ([0, 0, 16], 23), ([0, 1, 17], 24), ([2, 0, 0], 25)] {
-        assert_eq!(state.judge(&P, step), Answer::Refused(number));
+        assert_eq!(state.judge(&P, Past::Whole, step), Answer::Refused(number));
         assert!(state == before, "the state after refusal {number}");
     }
-    assert_eq!(state.judge(&P[..17], [0, 1, 3]), Answer::Refused(41));
+    assert_eq!(state.judge(&P[..17], Past::Whole, [0, 1, 3]), Answer::Refused(41));
     assert!(state == before);
 }
 
 #[test]
 fn a_violation_halts_and_changes_nothing_else() {
     let mut state = State::START;
-    assert_eq!(state.judge(&P, [1, 0, 0]), Answer::Allowed);
+    assert_eq!(state.judge(&P, Past::Whole, [1, 0, 0]), Answer::Allowed);
     let mut halted = state.clone();
     halted.numbers[1] = 1;
-    assert_eq!(state.judge(&P, [0, 2, 3]), Answer::Violated(0));
+    assert_eq!(state.judge(&P, Past::Whole, [0, 2, 3]), Answer::Violated(0));
     assert!(state == halted);
 }
 
@@ -45,40 +94,40 @@ fn a_violation_halts_and_changes_nothing_else() {
 fn sandboxes_close_inside_out() {
     let mut state = State::START;
     for step in [[1, 0, 0], [1, 3, 0], [1, 0, 0], [1, 5, 0]] {
-        assert_eq!(state.judge(&P, step), Answer::Allowed);
+        assert_eq!(state.judge(&P, Past::Whole, step), Answer::Allowed);
     }
     assert_eq!((state.numbers[2], &state.order[..5]), (4, &[0, 3, 0, 5, 0][..]));
     let before = state.clone();
     for (step, number) in [([2, 0, 0], 26), ([2, 3, 0], 26), ([2, 1, 0], 25)] {
-        assert_eq!(state.judge(&P, step), Answer::Refused(number));
+        assert_eq!(state.judge(&P, Past::Whole, step), Answer::Refused(number));
         assert!(state == before, "the state after refusal {number}");
     }
     for step in [[2, 5, 0], [2, 0, 0], [2, 3, 0], [2, 0, 0]] {
-        assert_eq!(state.judge(&P, step), Answer::Allowed);
+        assert_eq!(state.judge(&P, Past::Whole, step), Answer::Allowed);
     }
     assert_eq!((state.numbers, state.unclosed), ([0; 3], [0; 8]));
-    assert_eq!(state.judge(&P, [2, 0, 0]), Answer::Refused(25));
+    assert_eq!(state.judge(&P, Past::Whole, [2, 0, 0]), Answer::Refused(25));
 }
 
 #[test]
 fn sixty_four_openings_in_all() {
     let mut state = State::START;
     for place in 0..64 {
-        assert_eq!(state.judge(&P, [1, place % 8, 0]), Answer::Allowed);
+        assert_eq!(state.judge(&P, Past::Whole, [1, place % 8, 0]), Answer::Allowed);
     }
     assert_eq!((state.numbers[2], state.unclosed), (64, [8; 8]));
     for policy in 0..8 {
-        assert_eq!(state.judge(&P, [1, policy, 0]), Answer::Refused(32));
+        assert_eq!(state.judge(&P, Past::Whole, [1, policy, 0]), Answer::Refused(32));
     }
-    assert_eq!(state.judge(&P, [2, 7, 0]), Answer::Allowed);
-    assert_eq!(state.judge(&P, [1, 2, 0]), Answer::Allowed);
+    assert_eq!(state.judge(&P, Past::Whole, [2, 7, 0]), Answer::Allowed);
+    assert_eq!(state.judge(&P, Past::Whole, [1, 2, 0]), Answer::Allowed);
     assert_eq!((state.numbers[2], state.order[63]), (64, 2));
 }
 
 #[test]
 fn an_order_that_disagrees() {
     let open = State { unclosed: [1, 0, 0, 0, 0, 0, 0, 0], numbers: [0, 0, 1], ..State::START };
-    assert_eq!(open.clone().judge(&P, [2, 0, 0]), Answer::Allowed);
+    assert_eq!(open.clone().judge(&P, Past::Whole, [2, 0, 0]), Answer::Allowed);
     let mut wrong = vec![open.clone(); 4];
     wrong[0].order[0] = 1;
     wrong[1].order[0] = 8;
@@ -87,7 +136,7 @@ fn an_order_that_disagrees() {
     wrong.push(State { numbers: [0, 0, 65], ..State::START });
     for state in wrong {
         let mut judged = state.clone();
-        assert_eq!(judged.judge(&P, [0, 1, 3]), Answer::Refused(42));
+        assert_eq!(judged.judge(&P, Past::Whole, [0, 1, 3]), Answer::Refused(42));
         assert!(judged == state);
     }
 }
@@ -95,9 +144,13 @@ fn an_order_that_disagrees() {
 #[test]
 fn outlines() {
     // a sandbox around: read static 3; take it and read it; and a table that is no outline
-    assert_eq!(check(&P, &[8, 0, 1, 1, 2, 3]), Outcome::Named(0));
-    assert_eq!(check(&P, &[8, 0, 1, 3, 2, 3, 1, 1, 3, 1, 2, 3]), Outcome::Accepted);
-    assert_eq!(check(&P, &[]), Outcome::Refused(41));
+    assert_eq!(check(&P, Past::Whole, &[8, 0, 1, 1, 2, 3]), Outcome::Named(0));
+    assert_eq!(check(&P, Past::Whole, &[8, 0, 1, 3, 2, 3, 1, 1, 3, 1, 2, 3]), Outcome::Accepted);
+    assert_eq!(check(&P, Past::Whole, &[]), Outcome::Refused(41));
+    // read 3, then a sandbox around nothing; take 3, then a sandbox around a read
+    let (early_read, early_take) = ([3, 1, 2, 1, 2, 3, 8, 0, 3, 0, 0, 0], [3, 1, 2, 1, 1, 3, 8, 0, 3, 1, 2, 3]);
+    assert_eq!((check(&P, Past::Whole, &early_read), check(&P, Past::Local, &early_read)), (Outcome::Named(0), Outcome::Accepted));
+    assert_eq!((check(&P, Past::Whole, &early_take), check(&P, Past::Local, &early_take)), (Outcome::Accepted, Outcome::Named(0)));
 }
 
 #[cfg(feature = "report")]
@@ -108,6 +161,11 @@ fn printed() {
     let length = wiforekun::print_trace(policies, b"kind a b\n0 2 3\n1 0 0\n", &mut out);
     assert_eq!(&out[..length], b"line answer detail\n2 0 0\n3 1 0\n");
     assert!(out[length..].iter().all(|byte| *byte == 0xa5));
+    let local = b"local from action on who to\n0 0 1 1 0 1\n0 1 3 1 0 0\n0 0 2 1 0 6\n";
+    let length = wiforekun::print_trace(local, b"kind a b\n0 2 3\n1 0 0\n", &mut out);
+    assert_eq!(&out[..length], b"line answer detail\n2 0 0\n3 0 0\n");
+    let length = wiforekun::print_trace(&local[1..], b"kind a b\n0 2 3\n1 0 0\n", &mut out);
+    assert_eq!(&out[..length], b"line answer detail\n1 3 1\n");
     assert_eq!(wiforekun::print_trace(policies, b"kind a b\n", &mut out[1..]), 0);
     let mut out = [0xa5; wiforekun::OUTLINE_ROOM];
     let length = wiforekun::print_outline(policies, b"node kind a b\n0 6 0 0\n", &mut out);

@@ -1,7 +1,9 @@
 //! Counterexamples, on outlines whose shortest ones are worked by hand.
 #![cfg(counterexample)]
 
-use wiforekun::{check_code, explain, explain_code, Explained, COUNTEREXAMPLE_ROOM};
+use wiforekun::{check_code, explain, explain_code, Explained, Past, COUNTEREXAMPLE_ROOM};
+
+const WHOLE: u32 = Past::Whole.number();
 
 /// Read (2) only what was taken (1).
 const EDGES: [u8; 12] = [5, 0, 1, 1, 0, 1, 5, 0, 2, 1, 0, 6];
@@ -13,16 +15,28 @@ const OTHER: [u8; 18] = [8, 5, 1, 7, 0, 2, 3, 3, 4, 2, 1, 0, 7, 1, 5, 2, 2, 1];
 
 #[test]
 fn answers() {
-    assert_eq!(explain(&EDGES, &READ), Explained::Broken { policy: 5, trace: vec![[1, 5, 0], [0, 2, 3]] });
-    assert_eq!(explain(&EDGES, &TAKEN), Explained::Accepted);
-    assert_eq!(explain(&EDGES, &[]), Explained::Refused(41));
-    assert_eq!(explain(&EDGES[1..], &READ), Explained::Refused(41));
+    assert_eq!(explain(&EDGES, Past::Whole, &READ), Explained::Broken { policy: 5, trace: vec![[1, 5, 0], [0, 2, 3]] });
+    assert_eq!(explain(&EDGES, Past::Whole, &TAKEN), Explained::Accepted);
+    assert_eq!(explain(&EDGES, Past::Whole, &[]), Explained::Refused(41));
+    assert_eq!(explain(&EDGES[1..], Past::Whole, &READ), Explained::Refused(41));
 }
 
 #[test]
 fn fresh_resources_are_numbered_from_16_on() {
     let trace = vec![[1, 5, 0], [0, 0, 16], [0, 1, 16], [0, 0, 17], [0, 2, 17]];
-    assert_eq!(explain(&EDGES, &OTHER), Explained::Broken { policy: 5, trace });
+    assert_eq!(explain(&EDGES, Past::Whole, &OTHER), Explained::Broken { policy: 5, trace });
+}
+
+#[test]
+fn either_past() {
+    // take 3, then a sandbox of policy 5 around a read of it; read it, then a sandbox around nothing
+    let (early_take, early_read) = ([3, 1, 2, 1, 1, 3, 8, 5, 3, 1, 2, 3], [3, 1, 2, 1, 2, 3, 8, 5, 3, 0, 0, 0]);
+    assert_eq!(explain(&EDGES, Past::Whole, &early_take), Explained::Accepted);
+    let trace = vec![[0, 1, 3], [1, 5, 0], [0, 2, 3]];
+    assert_eq!(explain(&EDGES, Past::Local, &early_take), Explained::Broken { policy: 5, trace });
+    let trace = vec![[0, 2, 3], [1, 5, 0]];
+    assert_eq!(explain(&EDGES, Past::Whole, &early_read), Explained::Broken { policy: 5, trace });
+    assert_eq!(explain(&EDGES, Past::Local, &early_read), Explained::Accepted);
 }
 
 #[test]
@@ -31,7 +45,7 @@ fn what_is_after_the_steps_stays() {
         let mut trace: Vec<u32> = (1_000..1_000 + room as u32).collect();
         let mut due = trace.clone();
         due[..6].copy_from_slice(&[1, 5, 0, 0, 2, 3]);
-        assert_eq!(explain_code(&EDGES, &READ, &mut trace), 2 * 65536 + 256 + 5);
+        assert_eq!(explain_code(&EDGES, WHOLE, &READ, &mut trace), 2 * 65536 + 256 + 5);
         assert_eq!(trace, due);
     }
 }
@@ -40,14 +54,16 @@ fn what_is_after_the_steps_stays() {
 fn nothing_is_written() {
     let mut trace: Vec<u32> = (1_000..1_600).collect();
     let before = trace.clone();
-    assert_eq!(explain_code(&EDGES, &TAKEN, &mut trace), 0);
+    assert_eq!(explain_code(&EDGES, WHOLE, &TAKEN, &mut trace), 0);
     assert_eq!(trace, before);
-    assert_eq!(explain_code(&EDGES, &[9, 0, 0], &mut trace), 512 + 41);
+    assert_eq!(explain_code(&EDGES, WHOLE, &[9, 0, 0], &mut trace), 512 + 41);
+    assert_eq!(explain_code(&EDGES, 2, &READ, &mut trace), 512 + 41);
+    assert_eq!(explain_code(&EDGES, 2, &READ, &mut trace[..599]), 512 + 40);
     assert_eq!(trace, before);
     // 40 comes before 41, and before the check
     for (edges, nodes) in [(&EDGES[..], &READ[..]), (&EDGES, &TAKEN), (&EDGES[1..], &READ), (&EDGES, &[])] {
-        assert_eq!(explain_code(edges, nodes, &mut trace[..599]), 512 + 40);
-        assert_eq!(explain_code(edges, nodes, &mut []), 512 + 40);
+        assert_eq!(explain_code(edges, WHOLE, nodes, &mut trace[..599]), 512 + 40);
+        assert_eq!(explain_code(edges, WHOLE, nodes, &mut []), 512 + 40);
         assert_eq!(trace, before);
     }
 }
@@ -66,14 +82,14 @@ fn long(rest: u8) -> (Vec<u8>, Vec<u8>) {
 #[test]
 fn two_hundred_steps_and_more() {
     let (edges, nodes) = long(16);
-    let Explained::Broken { policy: 2, trace } = explain(&edges, &nodes) else { panic!("199 steps are shown") };
+    let Explained::Broken { policy: 2, trace } = explain(&edges, Past::Whole, &nodes) else { panic!("199 steps are shown") };
     assert_eq!(trace.len(), 199);
     assert_eq!((trace[0], trace[1], trace[198]), ([1, 2, 0], [1, 6, 0], [0, 1, 3]));
     let (edges, nodes) = long(17);
-    assert_eq!(explain(&edges, &nodes), Explained::BrokenLonger { policy: 2 });
-    assert_eq!(check_code(&edges, &nodes), 256 + 2);
+    assert_eq!(explain(&edges, Past::Whole, &nodes), Explained::BrokenLonger { policy: 2 });
+    assert_eq!(check_code(&edges, WHOLE, &nodes), 256 + 2);
     let mut trace: Vec<u32> = (1_000..1_600).collect();
     let before = trace.clone();
-    assert_eq!(explain_code(&edges, &nodes, &mut trace), 256 + 2);
+    assert_eq!(explain_code(&edges, WHOLE, &nodes, &mut trace), 256 + 2);
     assert_eq!(trace, before);
 }
