@@ -21,7 +21,7 @@ def explain(folder, text, checked, judged):
         if text != checked:
             raise Differs("a sheet is refused, and the counterexample is not printed as the checker prints that")
         return NAMES, verdict, []
-    _, edges = sheets.read_sheet(sheets.POLICY_SHEET, folder.data[sheets.POLICY_SHEET])
+    policies = sheets.Policies(folder.data[sheets.POLICY_SHEET])
     _, nodes = sheets.read_sheet(sheets.OUTLINE_SHEET, folder.data[sheets.OUTLINE_SHEET])
     try:
         head, steps = sheets.read_sheet(sheets.TRACE_SHEET, folder.data[sheets.TRACE_SHEET])
@@ -33,17 +33,17 @@ def explain(folder, text, checked, judged):
             raise Differs("the outline is accepted, but steps are printed")
         return head, [], ["outline.txt: accepted: no run leaves a policy open and broken, so there is no counterexample"]
     if not steps:
-        return head, [], longer(folder, edges, nodes, policy)
-    return head, *shown(folder, edges, nodes, steps, policy, printed_rows(judged))
+        return head, [], longer(folder, policies, nodes, policy)
+    return (head, *shown(folder, policies, nodes, steps, policy, printed_rows(judged)))
 
 
-def longer(folder, edges, nodes, policy):
+def longer(folder, policies, nodes, policy):
     told = folder.names.tell("policy", policy)
     first = f"outline.txt: refused: some run leaves {told} open and broken, but every such run has more than 200 steps; none is shown"
-    return [first] + opened_words(folder, edges, nodes, policy)
+    return [first] + opened_words(folder, policies, nodes, policy)
 
 
-def shown(folder, edges, nodes, steps, policy, judged):
+def shown(folder, policies, nodes, steps, policy, judged):
     """Each step with its words, and the words after them."""
     moves = runs.path(nodes, steps)
     if moves is None:
@@ -55,12 +55,12 @@ def shown(folder, edges, nodes, steps, policy, judged):
         told.append((step, [f"  line {place + 2}: {words}, by {sheets.OUTLINE_SHEET.file}:{makers[place] + 2}"]))
     name = folder.names.tell("policy", policy)
     first = f"outline.txt: refused: this run of {sheets.counted(len(steps), 'step')} leaves {name} open and broken; no shorter run does"
-    return told, [first] + last_words(folder, followed(folder, edges, steps, policy), policy, judged)
+    return told, [first] + last_words(folder, followed(folder, policies, steps, policy), policy, judged)
 
 
-def followed(folder, edges, steps, policy):
+def followed(folder, policies, steps, policy):
     """The run to its end, with no limits: only its last step may leave the policy open and broken."""
-    run = Run(folder, edges, steps)
+    run = Run(folder, policies, steps)
     for line, step in enumerate(steps, 2):
         if step[:2] == [EVENT, CREATE] and step[2] != STATICS + len(run.past.created):
             raise Differs(f"{run.at(line)} creates {step[2]}, not {STATICS + len(run.past.created)}")

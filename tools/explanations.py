@@ -7,7 +7,7 @@ import os
 import re
 
 import sheets
-from instances import UNSEEN, Past
+from instances import START, UNSEEN, Past
 from number_table import numbers
 from refusals import refusal
 from sheets import OFFENDING
@@ -88,15 +88,16 @@ def printed_rows(text):
     return rows
 
 
-def read_sheets(folder, kinds):
-    """The rows of each sheet, or the first refusal with its sheet."""
-    rows = []
-    for kind in kinds:
-        try:
-            rows.append(sheets.read_sheet(kind, folder.data[kind])[1])
-        except sheets.Refused as refused:
-            return None, (kind, refused)
-    return rows, None
+def read_sheets(folder, kind):
+    """The policies and the rows of another sheet, or the first refusal with its sheet."""
+    try:
+        policies = sheets.Policies(folder.data[sheets.POLICY_SHEET])
+    except sheets.Refused as refused:
+        return None, (sheets.POLICY_SHEET, refused)
+    try:
+        return (policies, sheets.read_sheet(kind, folder.data[kind])[1]), None
+    except sheets.Refused as refused:
+        return None, (kind, refused)
 
 
 def same(derived, found, what):
@@ -129,11 +130,11 @@ def sheet_refused(folder, kind, refused):
 class Run:
     """A trace as far as it was judged: the past, and what was refused so far."""
 
-    def __init__(self, folder, edges, steps):
+    def __init__(self, folder, policies, steps):
         self.folder = folder
         self.names = folder.names
         self.steps = steps
-        self.past = Past(edges)
+        self.past = Past(policies)
         self.halted = None
         self.refused = {}
 
@@ -165,14 +166,25 @@ def resource_words(run, x):
     return f"a resource that is in no step so far, such as {run.past.unseen_number()}" if x is UNSEEN else run.names.tell("resource", x)
 
 
+def start_words(run, policy, x):
+    """Where the instance of x was in state 0 at first, as far as the past counts."""
+    resets = run.past.resets[policy]
+    if not resets:
+        return ["    begins in state 0"]
+    line = resets[-1]
+    before = next(move.before for move in run.past.moves(policy, x) if move.line == line)
+    verb = "begins in" if before == START else "is put back to"
+    return [f"    {verb} state 0 at {run.at(line)}, where policy {policy} is opened: the sheet is local, so what was before does not count"]
+
+
 def way_words(run, policy, x):
-    """The moves of the instance of x from the start into an offending state, each with the step and the edge quoted."""
+    """The moves of the instance of x from where it was in state 0 into an offending state, each with the step and the edge quoted."""
     way = run.past.way(policy, x)
     if way is None:
         raise Differs(f"no moves of the instance of x = {x} lead to an offending state of policy {policy}")
     edges = dict(run.past.edges[policy])
     shown = f"any resource that is in no step so far, such as {run.past.unseen_number()}" if x is UNSEEN else x
-    out = [f"  why: the instance of policy {policy} for x = {shown}", "    begins in state 0"]
+    out = [f"  why: the instance of policy {policy} for x = {shown}", *start_words(run, policy, x)]
     for move, start, edge, to in way:
         offending = ", which is offending," if to in OFFENDING else ""
         out.append(f"    moves from state {start} to state {to}{offending} at {run.at(move.line)} by {sheets.POLICY_SHEET.file}:{edge}")
@@ -235,9 +247,9 @@ def judged(run, line, step, row):
     return violated(run, line, step, broken[0])
 
 
-def whole_sheets_refused(folder, kinds, rows):
-    """The rows of the sheets; or none and the words, where one is refused."""
-    tables, refused = read_sheets(folder, kinds)
+def whole_sheets_refused(folder, kind, rows):
+    """The policies and the rows of the other sheet; or none and the words, where one is refused."""
+    tables, refused = read_sheets(folder, kind)
     if tables:
         return tables, None
     kind, why = refused
@@ -246,36 +258,37 @@ def whole_sheets_refused(folder, kinds, rows):
 
 
 def explain_monitor(folder, rows):
-    tables, told = whole_sheets_refused(folder, [sheets.POLICY_SHEET, sheets.TRACE_SHEET], rows)
+    tables, told = whole_sheets_refused(folder, sheets.TRACE_SHEET, rows)
     if told:
         return told
-    edges, steps = tables
+    policies, steps = tables
     if len(rows) != len(steps):
         raise Differs(f"{folder.trace_name} has {len(steps)} steps, but {len(rows)} lines were printed")
-    run = Run(folder, edges, steps)
+    run = Run(folder, policies, steps)
     return [(row, judged(run, line, step, row)) for line, (step, row) in enumerate(zip(steps, rows), 2)]
 
 
 def explain_check(folder, rows):
-    tables, told = whole_sheets_refused(folder, [sheets.POLICY_SHEET, sheets.OUTLINE_SHEET], rows)
+    tables, told = whole_sheets_refused(folder, sheets.OUTLINE_SHEET, rows)
     if told:
         return told
-    edges, nodes = tables
+    policies, nodes = tables
     if len(rows) != 1 or rows[0][:2] not in ((0, ALLOWED), (0, VIOLATED)):
         raise Differs(f"outline.txt is no refused sheet, but {rows[0] if rows else 'nothing'} was printed")
     if rows[0][1] == ALLOWED:
         same((0, ALLOWED, 0), rows[0], "outline.txt")
         return [(rows[0], [])]
-    return [(rows[0], outline_refused(folder, edges, nodes, rows[0][2]))]
+    return [(rows[0], outline_refused(folder, policies, nodes, rows[0][2]))]
 
 
-def outline_refused(folder, edges, nodes, policy):
+def outline_refused(folder, policies, nodes, policy):
     told = folder.names.tell("policy", policy)
-    return [f"outline.txt: refused: some run leaves {told} open and broken"] + opened_words(folder, edges, nodes, policy)
+    return [f"outline.txt: refused: some run leaves {told} open and broken"] + opened_words(folder, policies, nodes, policy)
 
 
-def opened_words(folder, edges, nodes, policy):
+def opened_words(folder, policies, nodes, policy):
     """A policy that some run breaks while it is open: where it is opened, and which edges lead to an offending state."""
+    edges = policies.edges
     told = folder.names.tell("policy", policy)
     opened = [place for place, node in enumerate(nodes) if node[1] == sheets.SANDBOX and node[2] == policy]
     into = [line for line, edge in enumerate(edges, 2) if edge[0] == policy and edge[5] in OFFENDING]
@@ -284,6 +297,8 @@ def opened_words(folder, edges, nodes, policy):
     out = [f"  {told} is opened by"]
     for place in opened:
         out += folder.quote(sheets.OUTLINE_SHEET, place + 2, sheets.node_words(folder.names, nodes[place]), 4)
+    if policies.local:
+        out.append("  the sheet is local: where it is opened and is not open, all its instances go back to state 0")
     out.append("  and these edges lead to an offending state of it (policies.txt)")
     for line in into:
         out += folder.quote(sheets.POLICY_SHEET, line, sheets.edge_words(folder.names, edges[line - 2]), 4)

@@ -1,4 +1,5 @@
-"""What the instances of the policies go through along a trace: the states that each may be in, and the edges that moved it.
+"""What the instances of the policies go through along a trace: the states that each may be in, the edges that moved it, and under a local
+sheet the openings that put it back to state 0.
 
 It follows the steps that the monitor allowed. It gives no verdict: tools/explain holds it to what the monitor printed, and tools/draw
 draws it.
@@ -8,6 +9,8 @@ from sheets import CLOSE, CREATE, EVENT, OFFENDING, ON_OTHERS, ON_STATIC, ON_X, 
 
 # a resource that is in no step so far: all of them move alike
 UNSEEN = None
+# what an instance is in at the start, and again where a local policy is opened that is not open
+START = frozenset([0])
 
 
 def matches(edge, action, resource, x):
@@ -47,19 +50,31 @@ class Move:
             self.steps += [(state, edge, to) for edge, to in rows.get(state, [(None, state)])]
 
 
+class Reset:
+    """An opening that puts an instance back to state 0: the states before and after."""
+
+    def __init__(self, line, before):
+        self.line = line
+        self.before = before
+        self.after = START
+        self.steps = [(state, None, 0) for state in sorted(before)]
+
+
 class Past:
     """The steps that were allowed so far, and what the instances may be in. Refused steps are not told to it."""
 
-    def __init__(self, edges):
-        self.edges = [[(line, edge) for line, edge in enumerate(edges, 2) if edge[0] == policy] for policy in range(POLICIES)]
+    def __init__(self, policies):
+        self.edges = [[(line, edge) for line, edge in enumerate(policies.edges, 2) if edge[0] == policy] for policy in range(POLICIES)]
+        self.local = policies.local
         self.events = []
+        # for each policy the lines of the openings that put its instances back
+        self.resets = [[] for _ in range(POLICIES)]
         self.created = {}
         self.seen = set()
         # the (policy, line) of each opening that is not closed, the oldest first
         self.unclosed = []
         self.counts = [[0, 0] for _ in range(POLICIES)]
-        start = frozenset([0])
-        self.states = [{x: start for x in [UNSEEN, *range(STATICS)]} for _ in range(POLICIES)]
+        self.states = [{x: START for x in [UNSEEN, *range(STATICS)]} for _ in range(POLICIES)]
 
     def take(self, line, step):
         """One more step."""
@@ -67,6 +82,9 @@ class Past:
         if kind == EVENT:
             self.event(line, a, b)
         elif kind == OPEN:
+            if self.local and not self.openings(a):
+                self.resets[a].append(line)
+                self.states[a] = {x: START for x in self.states[a]}
             self.unclosed.append((a, line))
             self.counts[a][0] += 1
         elif kind == CLOSE:
@@ -119,19 +137,24 @@ class Past:
         return [policy for policy in range(POLICIES) if self.openings(policy) and self.breakers(policy)]
 
     def moves(self, policy, x):
-        """What the instance of x went through, event by event, from the start on."""
-        states, found = frozenset([0]), []
-        for line, event in self.events:
-            move = Move(line, states, ends(self.edges[policy], event, x))
+        """What the instance of x went through from the start on: a `Move` for each event, a `Reset` for each opening that put it back."""
+        states, found = START, []
+        resets = [(line, None) for line in self.resets[policy]]
+        for line, event in sorted(self.events + resets, key=lambda step: step[0]):
+            move = Move(line, states, ends(self.edges[policy], event, x)) if event else Reset(line, states)
             states = move.after
             found.append(move)
         return found
 
     def way(self, policy, x):
-        """The fewest moves by edges that bring the instance of x from the start into an offending state: (move, from, edge, to)."""
+        """The fewest moves by edges that bring the instance of x from the start, or from where it was last put back, into an offending
+        state: (move, from, edge, to)."""
         best = {0: []}
         for move in self.moves(policy, x):
             after = {}
+            if isinstance(move, Reset):
+                best = {0: []}
+                continue
             for state, edge, to in move.steps:
                 path = best[state] + ([(move, state, edge, to)] if edge is not None else [])
                 if to not in after or len(path) < len(after[to]):

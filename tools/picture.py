@@ -5,7 +5,7 @@ import os
 import sys
 
 import sheets
-from instances import UNSEEN, Past
+from instances import UNSEEN, Past, Reset
 from sheets import CLOSE, EVENT, OFFENDING, OPEN
 
 FONT = "Helvetica,Arial,sans-serif"
@@ -65,9 +65,9 @@ class Column:
         return {VIOLATED: "violated", REFUSED: f"refused {self.detail}"}.get(self.answer, "allowed")
 
 
-def follow(edges, steps, answers):
+def follow(policies, steps, answers):
     """The columns, and the past as far as it was judged."""
-    past = Past(edges)
+    past = Past(policies)
     columns = []
     for line, (step, answer) in enumerate(zip(steps, answers), 2):
         column = Column(line, step, answer)
@@ -140,10 +140,12 @@ def put_moves(canvas, columns, past, policy, x, height_of):
         move = moves.get(column.line)
         steps = move.steps if move else [(state, None, state) for state in sorted(states)]
         for state, edge, to in steps:
-            colour = GREY if edge is None else RED if to in OFFENDING else INK
+            stays = edge is None and state == to
+            colour = GREY if stays else RED if to in OFFENDING else INK
             y1, y2 = height_of(state), height_of(to)
-            width = 1 if edge is None else 2
-            canvas.put("line", x1=centre(number - 1) + 6, y1=y1, x2=centre(number) - 6, y2=y2, stroke=colour, stroke_width=width)
+            width = 1 if stays else 2
+            dashes = {"stroke_dasharray": "4 3"} if isinstance(move, Reset) else {}
+            canvas.put("line", x1=centre(number - 1) + 6, y1=y1, x2=centre(number) - 6, y2=y2, stroke=colour, stroke_width=width, **dashes)
             if edge is not None:
                 # beside the line, on the side that it slopes away from
                 side, anchor = {-1: (-4, "end"), 0: (0, "middle"), 1: (4, "start")}[(y2 > y1) - (y2 < y1)]
@@ -166,10 +168,10 @@ def trace(folder, steps, names, arguments):
     if len(steps) > MOST_STEPS:
         raise ValueError(f"a trace of at most {MOST_STEPS} steps can be drawn")
     try:
-        edges = sheets.read_sheet(sheets.POLICY_SHEET, sheets.load(os.path.join(folder, "policies.txt")))[1]
+        policies = sheets.Policies(sheets.load(os.path.join(folder, "policies.txt")))
     except sheets.Refused as wrong:
         raise ValueError(f"policies.txt, {wrong}") from None
-    columns, past = follow(edges, steps, read_answers(arguments.answers, steps))
+    columns, past = follow(policies, steps, read_answers(arguments.answers, steps))
     policy, resources = chosen(arguments, columns, past)
     states = sorted({0} | {state for _, edge in past.edges[policy] for state in (edge[1], edge[5])})
     canvas = Canvas()
@@ -184,7 +186,11 @@ def trace(folder, steps, names, arguments):
         put_ground(canvas, columns, policy, states, top)
         put_moves(canvas, columns, past, policy, x, lambda state, top=top: top + ROW * (len(states) - 1 - states.index(state)) + ROW // 2)
     put_answers(canvas, columns, labels + panel * len(resources) + 2)
-    canvas.text(LEFT, height - 12, f"shaded: policy {policy} is open.  edge N: line N of policies.txt", 11, fill="#666666")
+    key = f"shaded: policy {policy} is open.  edge N: line N of policies.txt"
+    if policies.local:
+        key += ".  dashed: the sheet is local, and the opening puts the instance back to state 0"
+        width = max(width, LEFT + int(ALONG * len(key)) + COLUMN)
+    canvas.text(LEFT, height - 12, key, 11, fill="#666666")
     head = f'<svg xmlns="http://www.w3.org/2000/svg" width="{width}" height="{height}" viewBox="0 0 {width} {height}" font-family="{FONT}">'
     ground = f'<rect width="{width}" height="{height}" fill="white"/>'
     return "\n".join(['<?xml version="1.0" encoding="UTF-8"?>', head, ground, *canvas.lines, "</svg>"]) + "\n"

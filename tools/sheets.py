@@ -89,7 +89,9 @@ def node_ranges(row):
     return [("node", 0, NODES - 1), ("kind", 0, max(NODE_FIELDS))] + NODE_FIELDS.get(row[1], [])
 
 
-POLICY_SHEET = Kind("policies.txt", 3, ["policy from action on who to"], 256, edge_ranges)
+# the names lines of a policy sheet, by the past that its policies see
+WHOLE, LOCAL = "policy from action on who to", "local from action on who to"
+POLICY_SHEET = Kind("policies.txt", 3, [WHOLE, LOCAL], 256, edge_ranges)
 TRACE_SHEET = Kind("trace.txt", 4, ["kind a b"], 2_000, step_ranges)
 OUTLINE_SHEET = Kind("outline.txt", 5, ["node kind a b"], NODES, node_ranges)
 SHEETS = [POLICY_SHEET, TRACE_SHEET, OUTLINE_SHEET]
@@ -268,6 +270,14 @@ def read_sheet(kind, data):
     if kind is OUTLINE_SHEET:
         check_outline(rows)
     return names, rows
+
+
+class Policies:
+    """What a policy sheet says: its edges, and whether they are local, so that a policy sees only the past since its sandbox was opened."""
+
+    def __init__(self, data):
+        names, self.edges = read_sheet(POLICY_SHEET, data)
+        self.local = names == LOCAL
 
 
 def load(path):
