@@ -1,6 +1,6 @@
 //! Calls of the functions themselves: at the borders of the refusals that no sheet can bring about, 21, 40, 41 and 42; what the check with a
-//! counterexample leaves in the table that it is lent; on states whose kept sets disagree with their instance sets; and on orders of
-//! unclosed openings, right and damaged, and what is left of them.
+//! counterexample leaves in the table that it is lent; on states whose kept sets disagree with their instance sets; on orders of
+//! unclosed openings, right and damaged, and what is left of them; and with the number that tells which past the policies see.
 
 use crate::counterexample::counterexample_tables;
 use crate::judge::Step;
@@ -18,7 +18,7 @@ fn judged(to: u64, [count, halted]: [u64; 2], [first, second]: [u64; 2], [kind, 
     let mut state = State { count, halted, ..State::start() };
     state.created[0] = first;
     state.created[1] = second;
-    let (answer, after) = judge_state(&[Edge::new([0, 0, 0, 0, 0, to])], &state, Step { kind, a, b });
+    let (answer, after) = judge_state(&[Edge::new([0, 0, 0, 0, 0, to])], 0, &state, Step { kind, a, b });
     format!("{} {} {}", told(answer.numbers()), after.count, after.halted)
 }
 
@@ -27,7 +27,7 @@ fn kept(kept: u8, set: u8, [kind, a, b]: [u64; 3]) -> String {
     let mut state = State::opened(&[0, 0]);
     state.kept[0] = kept;
     state.sets[0][0] = set;
-    let (answer, _) = judge_state(&[Edge::new([0, 0, 0, 0, 0, 7])], &state, Step { kind, a, b });
+    let (answer, _) = judge_state(&[Edge::new([0, 0, 0, 0, 0, 7])], 0, &state, Step { kind, a, b });
     told(answer.numbers())
 }
 
@@ -58,17 +58,64 @@ impl Ordered {
         state
     }
 
-    /// The answer and its detail, and how many places of all arrays are not as they were lent.
-    fn step(&self, [kind, a, b]: [u64; 3]) -> String {
-        let state = self.state();
-        let (answer, after) = judge_state(&[Edge::new([0, 0, 0, 0, 0, 7])], &state, Step { kind, a, b });
-        let numbers = |state: &State| -> Vec<u64> {
-            let text = write_state(state);
-            text.split_ascii_whitespace().map(|word| word.parse().unwrap()).collect()
-        };
-        let changed = numbers(&state).into_iter().zip(numbers(&after)).filter(|(a, b)| a != b).count();
-        format!("{} {changed}", told(answer.numbers()))
+    fn step(&self, step: [u64; 3]) -> String {
+        changed(0, &self.state(), step)
     }
+}
+
+/// The answer and its detail, and how many places of all arrays are not as they were lent.
+fn changed(local: u64, state: &State, [kind, a, b]: [u64; 3]) -> String {
+    let edges = [Edge::new([0, 0, 0, 0, 0, 7])];
+    let (answer, after) = judge_state(&edges, local, state, Step { kind, a, b });
+    let numbers = |state: &State| -> Vec<u64> {
+        let text = write_state(state);
+        text.split_ascii_whitespace().map(|word| word.parse().unwrap()).collect()
+    };
+    let changed = numbers(state).into_iter().zip(numbers(&after)).filter(|(a, b)| a != b).count();
+    format!("{} {changed}", told(answer.numbers()))
+}
+
+/// A step from a state like the start, but that policy 1 is open and policy 0 is not; for what is kept of both; and for the sets of policy 0
+/// of resource 0 and of a place that is not in use, which an opening of policy 0 resets, and does not.
+fn local_step(local: u64, [of_0, of_1, set]: [u8; 3], step: [u64; 3]) -> String {
+    let mut state = State::opened(&[1]);
+    state.order.fill(1);
+    state.kept[0] = of_0;
+    state.kept[1] = of_1;
+    state.sets[0][0] = set;
+    state.sets[17][0] = set;
+    changed(local, &state, step)
+}
+
+/// The number that tells the past, of the judge, the check and the check with a counterexample: 41 where it is neither 0 nor 1, after 40.
+fn local_lines() -> Vec<String> {
+    let (open_0, open_1, close_1, event) = ([1, 0, 0], [1, 1, 0], [2, 1, 0], [0, 1, 5]);
+    let (some, broken, other) = ([64, 1, 2], [64, 64, 2], [2, 1, 64]);
+    let wide = u64::from(u32::MAX);
+    let before = (&BROKEN.0, &[3, 1, 2, 1, 2, 3, 8, 0, 3, 0, 0, 0]);
+    vec![
+        local_step(0, some, open_0),
+        local_step(1, some, open_0),
+        local_step(1, broken, open_0),
+        local_step(1, some, open_1),
+        local_step(1, broken, open_1),
+        local_step(1, some, close_1),
+        local_step(1, some, event),
+        local_step(1, other, open_0),
+        local_step(2, some, open_0),
+        local_step(wide, some, event),
+        local_step(2, some, [3, 0, 0]),
+        checked(&[0; 6], 1, &[0; 3]),
+        checked(&[0; 6], 2, &[0; 3]),
+        checked(&[0; 6], wide, &[0; 3]),
+        checked(before.0, 0, before.1),
+        checked(before.0, 1, before.1),
+        explained(&BROKEN.0, 1, &BROKEN.1, 600),
+        explained(&BROKEN.0, 2, &BROKEN.1, 600),
+        explained(&BROKEN.0, 2, &BROKEN.1, 599),
+        explained(before.0, 0, before.1, 600),
+        explained(before.0, 1, before.1, 600),
+    ]
 }
 
 /// 25, 26 and 32 at their borders, 20 before them, the order in 42, and a step that is violated.
@@ -139,8 +186,8 @@ fn records(edges: &[u64], nodes: &[u64]) -> Option<(Vec<Edge>, Vec<Node>)> {
     Some((edges, nodes.chunks(3).enumerate().map(node).collect()))
 }
 
-fn checked(edges: &[u64], nodes: &[u64]) -> String {
-    let verdict = records(edges, nodes).map_or(Err(41), |(edges, nodes)| check_tables(&edges, &nodes));
+fn checked(edges: &[u64], local: u64, nodes: &[u64]) -> String {
+    let verdict = records(edges, nodes).map_or(Err(41), |(edges, nodes)| check_tables(&edges, local, &nodes));
     told(match verdict {
         Ok(None) => (0, 0),
         Ok(Some(policy)) => (1, policy),
@@ -150,10 +197,10 @@ fn checked(edges: &[u64], nodes: &[u64]) -> String {
 
 /// The check with a counterexample, lent a table of so many numbers. After the answer and its detail come the length, how many numbers
 /// of the table are written, and how many keep what they held.
-fn explained(edges: &[u64], nodes: &[u64], numbers: usize) -> String {
+fn explained(edges: &[u64], local: u64, nodes: &[u64], numbers: usize) -> String {
     // tables of no record are none, as those of a part of one
     let (edges, nodes) = records(edges, nodes).unwrap_or_default();
-    let (answer, detail, length) = match counterexample_tables(&edges, &nodes, numbers) {
+    let (answer, detail, length) = match counterexample_tables(&edges, local, &nodes, numbers) {
         Ok(due) => due.numbers(),
         Err(number) => (2, number as usize, 0),
     };
@@ -211,21 +258,21 @@ pub fn lines() -> String {
         read(1535, 6 * MOST_EDGES, read_policies(b"").err().map(|refusal| refusal.number)),
         read(5999, 3 * MOST_STEPS, read_trace(b"").err().map(|refusal| refusal.number)),
         read(191, 3 * MOST_NODES, read_outline(b"").err().map(|refusal| refusal.number)),
-        checked(&[0; 6], &[0; 3]),
-        checked(&[0; 5], &[0; 3]),
-        checked(&[0; 6], &[9; 3]),
-        explained(&BROKEN.0, &BROKEN.1, 600),
-        explained(&BROKEN.0, &BROKEN.1, 601),
-        explained(&BROKEN.0, &BROKEN.1, 599),
-        explained(&BROKEN.0, &BROKEN.1, 0),
-        explained(&[0; 5], &[0; 3], 599),
-        explained(&[0; 5], &[0; 3], 600),
-        explained(&[0; 6], &[9; 3], 600),
-        explained(&[0; 6], &[9; 3], 599),
-        explained(&[0; 6], &[0; 3], 600),
-        explained(&[0; 6], &[0; 3], 599),
-        explained(&SIXTH, &rounds([5, 2, 0]), 600),
-        explained(&SIXTH, &rounds([8, 1, 2]), 600),
+        checked(&[0; 6], 0, &[0; 3]),
+        checked(&[0; 5], 0, &[0; 3]),
+        checked(&[0; 6], 0, &[9; 3]),
+        explained(&BROKEN.0, 0, &BROKEN.1, 600),
+        explained(&BROKEN.0, 0, &BROKEN.1, 601),
+        explained(&BROKEN.0, 0, &BROKEN.1, 599),
+        explained(&BROKEN.0, 0, &BROKEN.1, 0),
+        explained(&[0; 5], 0, &[0; 3], 599),
+        explained(&[0; 5], 0, &[0; 3], 600),
+        explained(&[0; 6], 0, &[9; 3], 600),
+        explained(&[0; 6], 0, &[9; 3], 599),
+        explained(&[0; 6], 0, &[0; 3], 600),
+        explained(&[0; 6], 0, &[0; 3], 599),
+        explained(&SIXTH, 0, &rounds([5, 2, 0]), 600),
+        explained(&SIXTH, 0, &rounds([8, 1, 2]), 600),
         kept(64, 1, [1, 0, 0]),
         kept(64, 1, [2, 0, 0]),
         kept(64, 1, [0, 1, 0]),
@@ -233,6 +280,6 @@ pub fn lines() -> String {
         kept(1, 64, [2, 0, 0]),
         kept(1, 64, [0, 1, 0]),
     ];
-    let lines = lines.into_iter().chain(order_lines());
+    let lines = lines.into_iter().chain(order_lines()).chain(local_lines());
     lines.enumerate().map(|(number, line)| format!("{} {line}\n", number + 1)).collect()
 }

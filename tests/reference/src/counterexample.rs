@@ -1,13 +1,13 @@
 //! Counterexamples: what is shown for an outline, and whether a list of steps is one.
 
-use crate::judge::{is_open, Answer, Judge, Step, CREATE, EVENT};
+use crate::judge::{breaks, is_open, Answer, Judge, Step, CREATE, EVENT};
 use crate::least::shortest_run;
 use crate::outline::{
-    nodes_fit, Node, BACK, CHOICE, END, FRESH, LOOP, NAMED_EVENT, NAMES, SANDBOX, SEQUENCE,
+    Node, BACK, CHOICE, END, FRESH, LOOP, NAMED_EVENT, NAMES, SANDBOX, SEQUENCE,
     STATIC_EVENT,
 };
-use crate::policy::{edges_fit, is_static, Edge, Policy, STATICS};
-use crate::pushdown::check;
+use crate::policy::{is_static, Edge, Policies, Policy, STATICS};
+use crate::pushdown::{check, tables};
 use crate::run::Meaning;
 use std::collections::{BTreeSet, HashMap};
 
@@ -42,11 +42,11 @@ impl Counterexample {
     }
 }
 
-pub fn counterexample(edges: &[Edge], nodes: &[Node]) -> Counterexample {
-    let Some(policy) = check(edges, nodes) else {
+pub fn counterexample(policies: &Policies, nodes: &[Node]) -> Counterexample {
+    let Some(policy) = check(policies, nodes) else {
         return Counterexample::Accepted;
     };
-    match shortest_run(edges, nodes, policy, MOST_SHOWN) {
+    match shortest_run(policies, nodes, policy, MOST_SHOWN) {
         None => unreachable!("a policy that some trace breaks has a shortest such trace"),
         Some((_, Some(run))) => Counterexample::Shown { policy, steps: run.steps },
         Some((length, None)) => Counterexample::Longer { policy, length },
@@ -56,16 +56,14 @@ pub fn counterexample(edges: &[Edge], nodes: &[Node]) -> Counterexample {
 /// The same on tables that any caller may lend, with a trace table of so many numbers: 40, then 41.
 pub fn counterexample_tables(
     edges: &[Edge],
+    local: u64,
     nodes: &[Node],
     numbers: usize,
 ) -> Result<Counterexample, u32> {
     if numbers < TABLE_NUMBERS {
         return Err(40);
     }
-    if !edges_fit(edges) || !nodes_fit(nodes) {
-        return Err(41);
-    }
-    Ok(counterexample(edges, nodes))
+    tables(edges, local, nodes).map(|policies| counterexample(&policies, nodes))
 }
 
 /// Why a list of steps is no counterexample. Places are counted from 0.
@@ -83,7 +81,7 @@ pub enum Fault {
 
 /// Why these steps are not a trace of the outline that leaves the policy open and not respected, with
 /// its fresh resources numbered from 16 on; none where they are.
-pub fn fault(edges: &[Edge], nodes: &[Node], policy: usize, steps: &[Step]) -> Option<Fault> {
+pub fn fault(policies: &Policies, nodes: &[Node], policy: usize, steps: &[Step]) -> Option<Fault> {
     let made = longest_trace(nodes, steps);
     if made < steps.len() {
         return Some(Fault::NotATrace(made));
@@ -94,20 +92,19 @@ pub fn fault(edges: &[Edge], nodes: &[Node], policy: usize, steps: &[Step]) -> O
     if !is_open(steps, policy) {
         return Some(Fault::NotOpen);
     }
-    let events = crate::judge::events(steps);
-    Policy::of(edges, policy).respected(&events).then_some(Fault::Respected)
+    (!breaks(&Policy::of(policies, policy), steps)).then_some(Fault::Respected)
 }
 
 /// Why these steps may not be shown for the outline, in words; none where they may.
-pub fn shown_fault(edges: &[Edge], nodes: &[Node], steps: &[Step]) -> Option<String> {
-    let due = counterexample(edges, nodes);
+pub fn shown_fault(policies: &Policies, nodes: &[Node], steps: &[Step]) -> Option<String> {
+    let due = counterexample(policies, nodes);
     let (_, policy, length) = due.numbers();
     if steps.len() != length {
         return Some(format!("{} steps, but {length} are to be shown", steps.len()));
     }
     match due {
         Counterexample::Shown { .. } => {
-            fault(edges, nodes, policy, steps).map(|why| format!("policy {policy}: {why:?}"))
+            fault(policies, nodes, policy, steps).map(|why| format!("policy {policy}: {why:?}"))
         }
         _ => None,
     }
@@ -115,8 +112,8 @@ pub fn shown_fault(edges: &[Edge], nodes: &[Node], steps: &[Step]) -> Option<Str
 
 /// How many of these steps the judge is past, from the first on, when it does not allow one, and its answer to that one. Those that
 /// `judged` leaves out are passed over.
-fn follow(edges: &[Edge], steps: &[Step], judged: impl Fn(&Step) -> bool) -> (usize, Answer) {
-    let mut judge = Judge::new(edges);
+fn follow(policies: &Policies, steps: &[Step], judged: impl Fn(&Step) -> bool) -> (usize, Answer) {
+    let mut judge = Judge::new(policies);
     let mut answer = |step: &Step| if judged(step) { judge.judge(*step) } else { Answer::Allowed };
     let answers = steps.iter().map(|step| answer(step)).enumerate();
     let mut stops = answers.filter(|(_, answer)| *answer != Answer::Allowed);
@@ -125,14 +122,14 @@ fn follow(edges: &[Edge], steps: &[Step], judged: impl Fn(&Step) -> bool) -> (us
 
 /// The same where other policies are never opened. Every shortest counterexample to the policy is followed to its last step, which
 /// violates the policy; or, with more than 64 creates or openings unclosed, to the 65th.
-pub fn follow_alone(edges: &[Edge], policy: usize, steps: &[Step]) -> (usize, Answer) {
-    follow(edges, steps, |step| step.kind == EVENT || step.a == policy as u64)
+pub fn follow_alone(policies: &Policies, policy: usize, steps: &[Step]) -> (usize, Answer) {
+    follow(policies, steps, |step| step.kind == EVENT || step.a == policy as u64)
 }
 
 /// Does the judge stop where it may, on a shortest counterexample to the lowest policy that any trace breaks? At the last step, for that
 /// policy; before, for a higher one; or at a create or an opening beyond its limit. Which of these it is depends on the trace that is shown.
-pub fn stops_rightly(edges: &[Edge], policy: usize, steps: &[Step]) -> bool {
-    match follow(edges, steps, |_| true) {
+pub fn stops_rightly(policies: &Policies, policy: usize, steps: &[Step]) -> bool {
+    match follow(policies, steps, |_| true) {
         (_, Answer::Refused(number)) => number == 30 || number == 32,
         (past, Answer::Violated(named)) if past + 1 == steps.len() => named == policy,
         (_, Answer::Violated(named)) => named > policy,

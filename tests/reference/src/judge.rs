@@ -1,6 +1,6 @@
 //! The judge over the whole past: nothing but the steps is kept.
 
-use crate::policy::{is_static, Edge, Event, Policy, POLICIES};
+use crate::policy::{is_static, Event, Policies, Policy, Sight, POLICIES};
 
 pub const MOST_CREATED: usize = 64;
 /// The openings that can be unclosed, in all.
@@ -95,10 +95,27 @@ pub fn unclosed(steps: &[Step]) -> Vec<u64> {
     open
 }
 
+/// The events that a policy sees: all, or those since it was last opened while it was not open. Before its first opening a policy that
+/// sees only its sandbox is in state 0 at the beginning, as any other.
+pub fn seen(policy: &Policy, steps: &[Step]) -> Vec<Event> {
+    let forgotten = |place: &usize| {
+        steps[*place] == Step::open(policy.number) && !is_open(&steps[..*place], policy.number as usize)
+    };
+    let from = match policy.sight {
+        Sight::Whole => None,
+        Sight::Local => (0..steps.len()).rev().find(forgotten),
+    };
+    events(&steps[from.unwrap_or(0)..])
+}
+
+/// Do these steps leave the policy open and not respected?
+pub fn breaks(policy: &Policy, steps: &[Step]) -> bool {
+    is_open(steps, policy.number as usize) && !policy.respected(&seen(policy, steps))
+}
+
 /// The lowest policy that these steps leave open and not respected.
 pub fn lowest_broken(policies: &[Policy], steps: &[Step]) -> Option<usize> {
-    let events = events(steps);
-    (0..POLICIES).find(|p| is_open(steps, *p) && !policies[*p].respected(&events))
+    (0..POLICIES).find(|number| breaks(&policies[*number], steps))
 }
 
 fn count(steps: &[Step], step: Step) -> usize {
@@ -113,8 +130,8 @@ pub struct Judge {
 }
 
 impl Judge {
-    pub fn new(edges: &[Edge]) -> Judge {
-        Judge { policies: Policy::all(edges), past: Vec::new(), halted: false }
+    pub fn new(policies: &Policies) -> Judge {
+        Judge { policies: Policy::all(policies), past: Vec::new(), halted: false }
     }
 
     pub fn past(&self) -> &[Step] {

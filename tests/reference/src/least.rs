@@ -1,4 +1,4 @@
-//! Shortest counterexamples by least weights on the pushdown system of `pushdown.rs`.
+//! Shortest counterexamples by least weights on the pushdown system of `system.rs`.
 //!
 //! A move that adds a step weighs 1, any other 0. The weight of a transition (from, symbol, to) of the
 //! automaton is the fewest steps in which a run can take the symbol away, from control `from` to
@@ -8,11 +8,10 @@
 //! are exact for all outlines, however long the runs; only sums beyond `u64` stay at its end.
 
 use crate::outline::{Node, SANDBOX};
-use crate::policy::{Edge, Policy};
-use crate::pushdown::{
-    by_rule, heads, replacement, Reason, Rule, System, Transition, Watched, ACCEPT, PLACES,
-};
+use crate::policy::{Policies, Policy};
+use crate::pushdown::{by_rule, heads, replacement, Reason, Transition};
 use crate::run::{Run, Way};
+use crate::system::{Rule, System, Watched, ACCEPT, PLACES};
 use std::cmp::Reverse;
 use std::collections::BinaryHeap;
 
@@ -159,9 +158,9 @@ impl Least {
     }
 }
 
-fn least(edges: &[Edge], nodes: &[Node], number: usize, watched: Watched) -> Least {
-    let policy = &Policy::of(edges, number);
-    Least::new(&System { nodes, policy, number, watched })
+fn least(policies: &Policies, nodes: &[Node], number: usize, watched: Watched) -> Least {
+    let policy = &Policy::of(policies, number);
+    Least::new(&System { nodes, policy, watched })
 }
 
 /// The resources to watch; none where no node opens the policy.
@@ -175,21 +174,21 @@ fn watched(nodes: &[Node], number: usize) -> Vec<Watched> {
 }
 
 /// The fewest steps of a trace that leaves the policy open and not respected.
-pub fn shortest_length(edges: &[Edge], nodes: &[Node], number: usize) -> Option<u64> {
+pub fn shortest_length(policies: &Policies, nodes: &[Node], number: usize) -> Option<u64> {
     let each = watched(nodes, number).into_iter();
-    each.filter_map(|watched| least(edges, nodes, number, watched).length()).min()
+    each.filter_map(|watched| least(policies, nodes, number, watched).length()).min()
 }
 
 /// A run of the fewest steps whose trace leaves the policy open and not respected, if one of at
 /// most `most` steps is there; with the fewest steps in any case.
 pub fn shortest_run(
-    edges: &[Edge],
+    policies: &Policies,
     nodes: &[Node],
     number: usize,
     most: u64,
 ) -> Option<(u64, Option<Run>)> {
     let each = watched(nodes, number).into_iter();
-    let found = each.map(|watched| least(edges, nodes, number, watched));
+    let found = each.map(|watched| least(policies, nodes, number, watched));
     let (length, shortest) = found
         .filter_map(|least| Some((least.length()?, least)))
         .min_by_key(|(length, _)| *length)?;

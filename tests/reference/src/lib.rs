@@ -15,3 +15,4 @@ pub mod run;
 pub mod search;
 pub mod sheet;
 pub mod state;
+pub mod system;

@@ -97,11 +97,11 @@ fn accepts(dir: &str, sheet: &str) -> io::Result<String> {
     let told = match program::tables(&policies, &outline) {
         Err(_) if printed == program::why(&policies, &outline).as_bytes() => Ok(0),
         Err(_) => Err("a sheet is refused, and it is not told so".to_string()),
-        Ok((edges, nodes)) => match read_trace(&printed) {
+        Ok((policies, nodes)) => match read_trace(&printed) {
             Err(refusal) => {
                 Err(format!("line {} is refused with {}", refusal.line, refusal.number))
             }
-            Ok(steps) => shown_fault(&edges, &nodes, &steps).map_or(Ok(steps.len()), Err),
+            Ok(steps) => shown_fault(&policies, &nodes, &steps).map_or(Ok(steps.len()), Err),
         },
     };
     told.map(|length| format!("{length}\n"))

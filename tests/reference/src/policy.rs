@@ -80,21 +80,54 @@ pub fn edges_fit(edges: &[Edge]) -> bool {
     edges.len() <= MOST_EDGES && edges.iter().all(Edge::fits)
 }
 
-/// The edges of one policy.
+/// The past that the policies of a sheet see: all of it, or only what happens inside their sandbox.
+#[derive(Clone, Copy, Debug, PartialEq, Eq)]
+pub enum Sight {
+    Whole,
+    Local,
+}
+
+impl Sight {
+    pub const BOTH: [Sight; 2] = [Sight::Whole, Sight::Local];
+
+    /// As a number: 0 and 1; no other number tells one.
+    pub fn number(self) -> u64 {
+        match self {
+            Sight::Whole => 0,
+            Sight::Local => 1,
+        }
+    }
+
+    pub fn told(number: u64) -> Option<Sight> {
+        Sight::BOTH.into_iter().find(|sight| sight.number() == number)
+    }
+}
+
+/// What a sheet of policies says.
+#[derive(Clone, Debug, PartialEq, Eq)]
+pub struct Policies {
+    pub sight: Sight,
+    pub edges: Vec<Edge>,
+}
+
+/// The edges of one policy, and what it sees.
 #[derive(Clone, Debug)]
 pub struct Policy {
+    pub number: u64,
+    pub sight: Sight,
     edges: Vec<Edge>,
 }
 
 impl Policy {
-    pub fn of(edges: &[Edge], number: usize) -> Policy {
-        let edges = edges.iter().filter(|e| e.policy == number as u64).copied().collect();
-        Policy { edges }
+    pub fn of(policies: &Policies, number: usize) -> Policy {
+        let number = number as u64;
+        let edges = policies.edges.iter().filter(|e| e.policy == number).copied().collect();
+        Policy { number, sight: policies.sight, edges }
     }
 
     /// All eight policies.
-    pub fn all(edges: &[Edge]) -> Vec<Policy> {
-        (0..POLICIES).map(|number| Policy::of(edges, number)).collect()
+    pub fn all(policies: &Policies) -> Vec<Policy> {
+        (0..POLICIES).map(|number| Policy::of(policies, number)).collect()
     }
 
     /// The ends of the matching edges from a state; the state itself if there is none.

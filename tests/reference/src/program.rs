@@ -4,7 +4,7 @@ use crate::counterexample::{counterexample, follow_alone, stops_rightly, Counter
 use crate::damage::rows;
 use crate::judge::{Judge, Step};
 use crate::outline::Node;
-use crate::policy::Edge;
+use crate::policy::Policies;
 use crate::pushdown;
 use crate::sheet::{read_outline, read_policies, read_trace, Refusal, TRACE_NAMES};
 
@@ -16,15 +16,15 @@ const OUTLINE_REFUSED: u32 = 5;
 
 /// The first program: a trace judged line by line.
 pub fn monitor(policies: &[u8], trace: &[u8]) -> String {
-    let edges = match read_policies(policies) {
-        Ok(edges) => edges,
+    let policies = match read_policies(policies) {
+        Ok(policies) => policies,
         Err(refusal) => return refused(POLICIES_REFUSED, refusal),
     };
     let steps = match read_trace(trace) {
         Ok(steps) => steps,
         Err(refusal) => return refused(TRACE_REFUSED, refusal),
     };
-    let mut judge = Judge::new(&edges);
+    let mut judge = Judge::new(&policies);
     let mut text = NAMES.to_string();
     for (index, step) in steps.iter().enumerate() {
         let (answer, detail) = judge.judge(*step).numbers();
@@ -34,17 +34,17 @@ pub fn monitor(policies: &[u8], trace: &[u8]) -> String {
 }
 
 /// The tables of two sheets, or the answer that tells which is refused, policies first, and why.
-pub fn tables(policies: &[u8], outline: &[u8]) -> Result<(Vec<Edge>, Vec<Node>), (u32, Refusal)> {
-    let edges = read_policies(policies).map_err(|refusal| (POLICIES_REFUSED, refusal))?;
+pub fn tables(policies: &[u8], outline: &[u8]) -> Result<(Policies, Vec<Node>), (u32, Refusal)> {
+    let policies = read_policies(policies).map_err(|refusal| (POLICIES_REFUSED, refusal))?;
     let nodes = read_outline(outline).map_err(|refusal| (OUTLINE_REFUSED, refusal))?;
-    Ok((edges, nodes))
+    Ok((policies, nodes))
 }
 
 /// The second program: an outline checked.
 pub fn check(policies: &[u8], outline: &[u8]) -> String {
     match tables(policies, outline) {
         Err((sheet, refusal)) => refused(sheet, refusal),
-        Ok((edges, nodes)) => match pushdown::check(&edges, &nodes) {
+        Ok((policies, nodes)) => match pushdown::check(&policies, &nodes) {
             None => format!("{NAMES}0 0 0\n"),
             Some(policy) => format!("{NAMES}0 1 {policy}\n"),
         },
@@ -55,7 +55,7 @@ pub fn check(policies: &[u8], outline: &[u8]) -> String {
 pub fn why(policies: &[u8], outline: &[u8]) -> String {
     let steps = match tables(policies, outline) {
         Err((sheet, refusal)) => return refused(sheet, refusal),
-        Ok((edges, nodes)) => match counterexample(&edges, &nodes) {
+        Ok((policies, nodes)) => match counterexample(&policies, &nodes) {
             Counterexample::Shown { steps, .. } => steps,
             _ => vec![],
         },
@@ -67,23 +67,23 @@ pub fn why(policies: &[u8], outline: &[u8]) -> String {
 /// answer and the detail of the second program, and 0. Where a trace is shown, a second line of what the judge says of it: how many
 /// steps it is past when only that policy is opened, its answer and its detail there; and 1 where it stops rightly with all policies.
 pub fn shown(policies: &[u8], outline: &[u8]) -> String {
-    let (edges, nodes) = match tables(policies, outline) {
+    let (policies, nodes) = match tables(policies, outline) {
         Err((sheet, refusal)) => return format!("{sheet} {} 0\n", refusal.number),
         Ok(tables) => tables,
     };
-    let due = counterexample(&edges, &nodes);
+    let due = counterexample(&policies, &nodes);
     let (answer, detail, length) = due.numbers();
     let told = format!("{answer} {detail} {length}\n");
     match due {
-        Counterexample::Shown { policy, steps } => told + &judged(&edges, policy, &steps),
+        Counterexample::Shown { policy, steps } => told + &judged(&policies, policy, &steps),
         _ => told,
     }
 }
 
-fn judged(edges: &[Edge], policy: usize, steps: &[Step]) -> String {
-    let (past, answer) = follow_alone(edges, policy, steps);
+fn judged(policies: &Policies, policy: usize, steps: &[Step]) -> String {
+    let (past, answer) = follow_alone(policies, policy, steps);
     let (answer, detail) = answer.numbers();
-    let rightly = u32::from(stops_rightly(edges, policy, steps));
+    let rightly = u32::from(stops_rightly(policies, policy, steps));
     format!("{past} {answer} {detail} {rightly}\n")
 }
 

@@ -1,6 +1,6 @@
 //! Runs of an outline: the steps so far and the parts still to run.
 
-use crate::judge::{events, is_open, Step, CREATE};
+use crate::judge::{breaks, events, Step, CREATE};
 use crate::outline::{
     Node, BACK, CHOICE, END, FRESH, LOOP, NAMED_EVENT, NAMES, SANDBOX, SEQUENCE, STATIC_EVENT,
 };
@@ -97,9 +97,6 @@ impl Run {
 
     /// The policies that the trace leaves open and not respected.
     pub fn broken(&self, policies: &[Policy]) -> Vec<usize> {
-        let events = events(&self.steps);
-        (0..POLICIES)
-            .filter(|p| is_open(&self.steps, *p) && !policies[*p].respected(&events))
-            .collect()
+        (0..POLICIES).filter(|number| breaks(&policies[*number], &self.steps)).collect()
     }
 }

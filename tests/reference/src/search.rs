@@ -1,8 +1,8 @@
 //! Explicit search over runs, breadth first, up to a bound.
 
-use crate::judge::events;
+use crate::judge::{events, seen, unclosed};
 use crate::outline::Node;
-use crate::policy::{instances, Edge, Policy, States, POLICIES};
+use crate::policy::{instances, Policies, Policy, States, POLICIES};
 use crate::run::{Part, Run, Way};
 use std::collections::{HashSet, VecDeque};
 
@@ -14,8 +14,8 @@ pub struct Found {
 }
 
 /// Looks at up to `bound` runs.
-pub fn search(edges: &[Edge], nodes: &[Node], bound: usize) -> Found {
-    let policies = Policy::all(edges);
+pub fn search(policies: &Policies, nodes: &[Node], bound: usize) -> Found {
+    let policies = Policy::all(policies);
     let mut found = Found { broken: [false; POLICIES], complete: false };
     let mut queue = VecDeque::from([Run::start()]);
     for _ in 0..bound {
@@ -60,29 +60,26 @@ pub struct Seen {
 
 /// Two runs of as many steps that agree in this go on alike: the parts still to run, whether the
 /// policy is open, and the states of its instances.
-type Standing = (Vec<Part>, u64, Vec<States>);
+type Standing = (Vec<Part>, usize, Vec<States>);
 
-fn standing(policy: &Policy, number: usize, run: &Run) -> Standing {
-    let events = events(&run.steps);
-    let states = instances(&events).into_iter().map(|own| policy.states_after(own, &events));
-    let unclosed = run.steps.iter().fold(0, |count, step| match (step.kind, step.a as usize) {
-        (crate::judge::OPEN, a) if a == number => count + 1,
-        (crate::judge::CLOSE, a) if a == number => count - 1,
-        _ => count,
-    });
+fn standing(policy: &Policy, run: &Run) -> Standing {
+    let seen = seen(policy, &run.steps);
+    let instances = instances(&events(&run.steps)).into_iter();
+    let states = instances.map(|own| policy.states_after(own, &seen));
+    let unclosed = unclosed(&run.steps).into_iter().filter(|open| *open == policy.number).count();
     (run.parts().to_vec(), unclosed, states.collect())
 }
 
 /// The shortest trace that leaves the policy open and not respected, by going through all runs of no
 /// step, of one step, of two and on. Looks at up to `bound` runs, of at most `most_parts` parts each.
 pub fn shortest(
-    edges: &[Edge],
+    policies: &Policies,
     nodes: &[Node],
     number: usize,
     bound: usize,
     most_parts: usize,
 ) -> Seen {
-    let policies = Policy::all(edges);
+    let policies = Policy::all(policies);
     let mut looked = 0;
     let mut whole = true;
     let mut seen = Seen { length: None, whole_below: 1, all: false };
@@ -99,7 +96,7 @@ pub fn shortest(
             for after in successors(nodes, &run) {
                 if after.steps.len() > run.steps.len() {
                     next.push(after);
-                } else if met.insert(standing(&policies[number], number, &after)) {
+                } else if met.insert(standing(&policies[number], &after)) {
                     level.push(after);
                 }
             }
@@ -112,7 +109,7 @@ pub fn shortest(
             return Seen { length: Some(steps + 1), ..seen };
         }
         let mut met: HashSet<Standing> = HashSet::new();
-        next.retain(|run| met.insert(standing(&policies[number], number, run)));
+        next.retain(|run| met.insert(standing(&policies[number], run)));
         if next.is_empty() {
             return Seen { all: whole, ..seen };
         }

@@ -2,10 +2,11 @@
 
 use crate::judge::Step;
 use crate::outline::{self, Node};
-use crate::policy::Edge;
+use crate::policy::{Edge, Policies, Sight};
 
 pub const LONGEST: usize = 32_768;
 pub const POLICY_NAMES: &str = "policy from action on who to";
+pub const LOCAL_NAMES: &str = "local from action on who to";
 pub const TRACE_NAMES: &str = "kind a b";
 pub const OUTLINE_NAMES: &str = "node kind a b";
 pub const MOST_EDGES: usize = 256;
@@ -26,8 +27,22 @@ fn refuse<T>(number: u32, line: usize) -> Result<T, Refusal> {
     Err(Refusal { number, line })
 }
 
-pub fn read_policies(bytes: &[u8]) -> Result<Vec<Edge>, Refusal> {
-    read(bytes, POLICY_NAMES, MOST_EDGES, |row| Some(Edge::new(row)).filter(Edge::fits))
+/// The names line of a sheet of policies, which tells what they see.
+pub fn policy_names(sight: Sight) -> &'static str {
+    match sight {
+        Sight::Whole => POLICY_NAMES,
+        Sight::Local => LOCAL_NAMES,
+    }
+}
+
+pub fn read_policies(bytes: &[u8]) -> Result<Policies, Refusal> {
+    let begins = |sight: &Sight| bytes.starts_with(format!("{}\n", policy_names(*sight)).as_bytes());
+    // a sheet with neither line is refused by either
+    let sight = Sight::BOTH.into_iter().find(begins).unwrap_or(Sight::Whole);
+    let edges = read(bytes, policy_names(sight), MOST_EDGES, |row| {
+        Some(Edge::new(row)).filter(Edge::fits)
+    })?;
+    Ok(Policies { sight, edges })
 }
 
 pub fn read_trace(bytes: &[u8]) -> Result<Vec<Step>, Refusal> {

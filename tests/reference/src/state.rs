@@ -5,7 +5,8 @@ use crate::judge::{
     OPEN,
 };
 use crate::policy::{
-    edges_fit, offends, Edge, Event, Own, Policy, States, POLICIES, STATES, STATICS,
+    edges_fit, offends, Edge, Event, Own, Policies, Policy, Sight, States, POLICIES, START,
+    STATES, STATICS,
 };
 
 pub const NEVER: usize = STATICS as usize;
@@ -119,13 +120,24 @@ impl State {
         (0..POLICIES).find(|p| self.openings[*p] > 0 && offends(from_mask(self.kept[*p])))
     }
 
+    /// "all its instances go back to state 0", those of the places that count; "The kept sets of L4 are reset too".
+    fn forget(&mut self, policy: usize) {
+        let places = self.places();
+        self.sets[..places].iter_mut().for_each(|row| row[policy] = to_mask(START));
+        self.kept[policy] = to_mask(START);
+    }
+
     fn after(&self, policies: &[Policy], step: Step) -> State {
         let mut next = self.clone();
         match step.kind {
             OPEN => {
+                let policy = step.a as usize;
+                if policies[policy].sight == Sight::Local && self.openings[policy] == 0 {
+                    next.forget(policy);
+                }
                 next.order[self.depth as usize] = step.a;
                 next.depth += 1;
-                next.openings[step.a as usize] += 1;
+                next.openings[policy] += 1;
             }
             CLOSE => {
                 next.depth -= 1;
@@ -161,18 +173,19 @@ impl Standing for State {
     }
 }
 
-/// One call of the judge.
-pub fn judge_state(edges: &[Edge], state: &State, step: Step) -> (Answer, State) {
-    if !edges_fit(edges) {
-        return (Answer::Refused(41), state.clone());
-    }
+/// One call of the judge. The choice of past is told by a number beside the edges.
+pub fn judge_state(edges: &[Edge], local: u64, state: &State, step: Step) -> (Answer, State) {
+    let policies = match Sight::told(local) {
+        Some(sight) if edges_fit(edges) => Policies { sight, edges: edges.to_vec() },
+        _ => return (Answer::Refused(41), state.clone()),
+    };
     if !state.fits() {
         return (Answer::Refused(42), state.clone());
     }
     if let Some(number) = refusal(state, step) {
         return (Answer::Refused(number), state.clone());
     }
-    let next = state.after(&Policy::all(edges), step);
+    let next = state.after(&Policy::all(&policies), step);
     match next.lowest_broken() {
         None => (Answer::Allowed, next),
         Some(policy) => (Answer::Violated(policy), State { halted: 1, ..state.clone() }),
@@ -195,17 +208,18 @@ fn to_mask(states: States) -> u8 {
 #[derive(Clone, Debug, PartialEq, Eq)]
 pub struct Call {
     pub edges: Vec<Edge>,
+    pub local: u64,
     pub step: Step,
     pub state: State,
 }
 
 impl Call {
     pub fn run(&self) -> (Answer, State) {
-        judge_state(&self.edges, &self.state, self.step)
+        judge_state(&self.edges, self.local, &self.state, self.step)
     }
 
     pub fn write(&self) -> String {
-        let mut text = format!("{}\n", self.edges.len());
+        let mut text = line(&[self.edges.len() as u64, self.local]);
         for edge in &self.edges {
             text += &line(&edge.row());
         }
@@ -217,12 +231,13 @@ impl Call {
         let mut numbers = text.split_ascii_whitespace().map(|word| word.parse::<u64>().ok());
         let mut next = || numbers.next().flatten();
         let mut edges = Vec::new();
-        for _ in 0..next()? {
+        let (count, local) = (next()?, next()?);
+        for _ in 0..count {
             edges.push(Edge::new([next()?, next()?, next()?, next()?, next()?, next()?]));
         }
         let step = Step { kind: next()?, a: next()?, b: next()? };
         let state = read_state(&mut next)?;
-        Some(Call { edges, step, state })
+        Some(Call { edges, local, step, state })
     }
 }
 

@@ -10,10 +10,10 @@ use reference::generate::outlines::{
     counting_draft, crowded_draft, dense_draft, grown_draft, late_draft, mutated, naming_draft,
     recursive_draft, sized_draft, Draft,
 };
-use reference::judge::{events, unclosed, Answer, Judge, Step, OPEN};
+use reference::judge::{seen, unclosed, Answer, Judge, Step, OPEN};
 use reference::least::{shortest_length, shortest_run};
 use reference::outline::Node;
-use reference::policy::{instances, offends, Edge, Policy, POLICIES};
+use reference::policy::{instances, offends, Policies, Policy, POLICIES};
 use reference::program::{self, tables as tables_of};
 use reference::pushdown::{breaks, check};
 use reference::rng::Rng;
@@ -21,7 +21,7 @@ use reference::run::{Run, Way};
 use reference::search::shortest;
 use reference::sheet::{read_outline, read_policies, read_trace};
 
-fn tables(edges: &str, nodes: &str) -> (Vec<Edge>, Vec<Node>) {
+fn tables(edges: &str, nodes: &str) -> (Policies, Vec<Node>) {
     (read_policies(&policies(edges)).unwrap(), read_outline(&outline(nodes)).unwrap())
 }
 
@@ -57,7 +57,7 @@ struct Tally {
 
 /// The search over runs finds nothing shorter, and where it has seen all traces up to there, the same length.
 fn same_length(draft: &Draft, policy: usize, bound: usize, tally: &mut Tally) {
-    let Draft { edges, nodes, .. } = draft;
+    let Draft { policies: edges, nodes, .. } = draft;
     let least = shortest_length(edges, nodes, policy);
     assert_eq!(least.is_some(), breaks(edges, nodes, policy), "{policy}: {draft:?}");
     if least.is_none() && !draft.palette.policies.contains(&(policy as u64)) {
@@ -104,7 +104,7 @@ fn shortest_runs_are_counterexamples() {
     for round in 0..800 {
         let draft =
             if round % 20 == 0 { grown_draft(&mut rng) } else { random_draft(&mut rng, round) };
-        let Draft { edges, nodes, .. } = &draft;
+        let Draft { policies: edges, nodes, .. } = &draft;
         for policy in (0..POLICIES).filter(|policy| breaks(edges, nodes, *policy)) {
             let (length, run) = shortest_run(edges, nodes, policy, MOST_SHOWN).unwrap();
             assert_eq!(Some(length), shortest_length(edges, nodes, policy));
@@ -129,7 +129,7 @@ fn shortest_runs_are_counterexamples() {
 
 /// Is another policy broken before the end?
 fn judged(draft: &Draft, policy: usize, steps: &[Step]) -> bool {
-    let mut judge = Judge::new(&draft.edges);
+    let mut judge = Judge::new(&draft.policies);
     let answers: Vec<Answer> = steps.iter().map(|step| judge.judge(*step)).collect();
     let first = answers.iter().position(|answer| *answer != Answer::Allowed).unwrap();
     match answers[first] {
@@ -308,17 +308,17 @@ fn tables_lent() {
     let (accepted, _) = tables(P, OUTLINE_I);
     assert_eq!(TABLE_NUMBERS, 600);
     for numbers in [0, 599] {
-        assert_eq!(counterexample_tables(&edges, &nodes, numbers), Err(40));
-        assert_eq!(counterexample_tables(&accepted, &nodes, numbers), Err(40));
-        assert_eq!(counterexample_tables(&edges, &[], numbers), Err(40));
+        assert_eq!(counterexample_tables(&edges.edges, 0, &nodes, numbers), Err(40));
+        assert_eq!(counterexample_tables(&accepted.edges, 0, &nodes, numbers), Err(40));
+        assert_eq!(counterexample_tables(&edges.edges, 0, &[], numbers), Err(40));
     }
     for numbers in [600, 601] {
         assert_eq!(
-            counterexample_tables(&edges, &nodes, numbers),
+            counterexample_tables(&edges.edges, 0, &nodes, numbers),
             Ok(counterexample(&edges, &nodes))
         );
-        assert_eq!(counterexample_tables(&accepted, &nodes, numbers), Ok(Counterexample::Accepted));
-        assert_eq!(counterexample_tables(&edges, &[], numbers), Err(41));
+        assert_eq!(counterexample_tables(&accepted.edges, 0, &nodes, numbers), Ok(Counterexample::Accepted));
+        assert_eq!(counterexample_tables(&edges.edges, 0, &[], numbers), Err(41));
     }
     assert_eq!(check(&accepted, &nodes), None);
 }
@@ -374,9 +374,9 @@ fn the_stored_cases_have_every_border() {
 }
 
 impl Has {
-    fn look(&mut self, edges: &[Edge], policy: usize, steps: &[Step]) {
-        let events = events(steps);
+    fn look(&mut self, edges: &Policies, policy: usize, steps: &[Step]) {
         let number = Policy::of(edges, policy);
+        let events = seen(&number, steps);
         let offending = |own| offends(number.states_after(own, &events));
         let offenders: Vec<_> =
             instances(&events).into_iter().filter(|own| offending(*own)).collect();

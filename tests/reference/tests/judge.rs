@@ -1,8 +1,8 @@
 //! The judge over the whole past against the judge over states.
 
 use reference::generate::{cases, states, Kind};
-use reference::judge::{events, is_open, unclosed, Answer, Judge, Step};
-use reference::policy::{is_static, Edge, Own, Policy, POLICIES};
+use reference::judge::{events, is_open, seen, unclosed, Answer, Judge, Step};
+use reference::policy::{is_static, Edge, Own, Policies, Policy, POLICIES};
 use reference::sheet::{read_policies, read_trace};
 use reference::state::{judge_state, Call, State};
 
@@ -10,21 +10,21 @@ use reference::state::{judge_state, Call, State};
 fn states_agree_with_the_whole_past() {
     let mut judged = 0;
     for case in cases(Kind::Trace, 11, 900) {
-        let (Ok(edges), Ok(steps)) = (read_policies(&case.policies), read_trace(&case.other))
+        let (Ok(policies), Ok(steps)) = (read_policies(&case.policies), read_trace(&case.other))
         else {
             continue;
         };
-        let mut judge = Judge::new(&edges);
+        let mut judge = Judge::new(&policies);
         let mut state = State::start();
         for step in steps.iter().take(500) {
-            let (answer, next) = judge_state(&edges, &state, *step);
+            let (answer, next) = judge_state(&policies.edges, policies.sight.number(), &state, *step);
             assert_eq!(judge.judge(*step), answer);
             check_step(&state, &next, answer);
             state = next;
             judged += 1;
         }
         assert_eq!(u64::from(judge.halted()), state.halted);
-        assert_state(&edges, judge.past(), &state);
+        assert_state(&policies, judge.past(), &state);
     }
     assert!(judged > 10_000, "{judged}");
 }
@@ -39,7 +39,7 @@ fn check_step(before: &State, after: &State, answer: Answer) {
 }
 
 /// The state holds what the past says.
-fn assert_state(edges: &[Edge], past: &[Step], state: &State) {
+fn assert_state(policies: &Policies, past: &[Step], state: &State) {
     let events = events(past);
     let created: Vec<u64> = events.iter().filter(|e| e.action == 0).map(|e| e.resource).collect();
     assert!(created.iter().all(|r| !is_static(*r)));
@@ -47,10 +47,11 @@ fn assert_state(edges: &[Edge], past: &[Step], state: &State) {
     assert_eq!(state.order[..state.depth as usize], unclosed(past)[..]);
     let owns = (0..16).map(Some).chain([None]).chain(created.iter().copied().map(Some));
     let owns: Vec<Own> = owns.collect();
-    for (number, policy) in Policy::all(edges).iter().enumerate() {
+    for (number, policy) in Policy::all(policies).iter().enumerate() {
+        let seen = seen(policy, past);
         assert_eq!(state.openings[number] > 0, is_open(past, number));
         for (place, own) in owns.iter().enumerate() {
-            let held = policy.states_after(*own, &events);
+            let held = policy.states_after(*own, &seen);
             let mask = state.sets[place][number];
             assert!((0..8).all(|s| held[s] == (mask >> s & 1 == 1)));
         }
@@ -69,23 +70,23 @@ fn refusals_of_the_caller_come_first() {
     let mut state = State { halted: 1, ..State::opened(&[3; 64]) };
     state.openings[3] = 63;
     let misfit = Step { kind: 3, a: 0, b: 0 };
-    assert_eq!(judge_state(&bad, &state, misfit).0, Answer::Refused(41));
-    assert_eq!(judge_state(&[], &state, misfit).0, Answer::Refused(42));
+    assert_eq!(judge_state(&bad, 0, &state, misfit).0, Answer::Refused(41));
+    assert_eq!(judge_state(&[], 0, &state, misfit).0, Answer::Refused(42));
     state.openings[3] = 64;
-    assert_eq!(judge_state(&[], &state, misfit).0, Answer::Refused(20));
+    assert_eq!(judge_state(&[], 0, &state, misfit).0, Answer::Refused(20));
     for flag in [2, 7, 256, 1 << 32] {
         state.halted = flag;
-        assert_eq!(judge_state(&bad, &state, misfit).0, Answer::Refused(41));
-        assert_eq!(judge_state(&[], &state, misfit), (Answer::Refused(42), state.clone()));
+        assert_eq!(judge_state(&bad, 0, &state, misfit).0, Answer::Refused(41));
+        assert_eq!(judge_state(&[], 0, &state, misfit), (Answer::Refused(42), state.clone()));
     }
     state.halted = 0;
-    assert_eq!(judge_state(&[], &state, misfit).0, Answer::Refused(21));
-    assert_eq!(judge_state(&[], &state, Step::open(3)).0, Answer::Refused(32));
-    assert_eq!(judge_state(&[], &state, Step::open(2)).0, Answer::Refused(32));
+    assert_eq!(judge_state(&[], 0, &state, misfit).0, Answer::Refused(21));
+    assert_eq!(judge_state(&[], 0, &state, Step::open(3)).0, Answer::Refused(32));
+    assert_eq!(judge_state(&[], 0, &state, Step::open(2)).0, Answer::Refused(32));
     let many = vec![edge([0, 0, 0, 1, 0, 0]); 257];
     state = State::start();
-    assert_eq!(judge_state(&many, &state, Step::open(2)).0, Answer::Refused(41));
-    assert_eq!(judge_state(&many[..256], &state, Step::open(2)).0, Answer::Allowed);
+    assert_eq!(judge_state(&many, 0, &state, Step::open(2)).0, Answer::Refused(41));
+    assert_eq!(judge_state(&many[..256], 0, &state, Step::open(2)).0, Answer::Allowed);
 }
 
 #[test]
@@ -95,9 +96,9 @@ fn places_beyond_the_created_count_for_nothing() {
     state.order[1] = 8;
     state.sets[17] = [64; POLICIES];
     state.created[0] = 3;
-    let (answer, next) = judge_state(&edges, &state, Step::event(2, 3));
+    let (answer, next) = judge_state(&edges, 0, &state, Step::event(2, 3));
     assert_eq!((answer, &next), (Answer::Allowed, &state));
-    let (answer, next) = judge_state(&edges, &state, Step::event(0, 16));
+    let (answer, next) = judge_state(&edges, 0, &state, Step::event(0, 16));
     assert_eq!(answer, Answer::Allowed);
     assert_eq!((next.sets[17], next.count, next.created[0]), ([1; POLICIES], 1, 16));
 }
@@ -107,26 +108,26 @@ fn a_closing_can_be_violated_in_an_unreached_state() {
     let mut state = State::opened(&[2, 5, 2]);
     state.kept[2] = 128;
     state.kept[5] = 64;
-    let (answer, next) = judge_state(&[], &state, Step::close(2));
+    let (answer, next) = judge_state(&[], 0, &state, Step::close(2));
     assert_eq!(answer, Answer::Violated(2));
     assert_eq!(next, State { halted: 1, ..state.clone() });
     let kept = state.kept;
     let state = State { kept, ..State::opened(&[5, 2]) };
-    assert_eq!(judge_state(&[], &state, Step::close(2)).0, Answer::Violated(5));
-    assert_eq!(judge_state(&[], &state, Step::close(5)).0, Answer::Refused(26));
+    assert_eq!(judge_state(&[], 0, &state, Step::close(2)).0, Answer::Violated(5));
+    assert_eq!(judge_state(&[], 0, &state, Step::close(5)).0, Answer::Refused(26));
 }
 
 #[test]
 fn openings_and_closings_in_the_order() {
     let mut state = State::opened(&[5, 2]);
     state.order[2..].fill(200);
-    let (answer, next) = judge_state(&[], &state, Step::open(7));
+    let (answer, next) = judge_state(&[], 0, &state, Step::open(7));
     let mut due = State { depth: 3, ..state.clone() };
     due.order[2] = 7;
     due.openings[7] = 1;
     assert_eq!((answer, &next), (Answer::Allowed, &due));
     // the place keeps what it held, and counts for nothing
-    let (answer, next) = judge_state(&[], &next, Step::close(7));
+    let (answer, next) = judge_state(&[], 0, &next, Step::close(7));
     due.depth = 2;
     due.openings[7] = 0;
     assert_eq!((answer, next), (Answer::Allowed, due));
@@ -138,9 +139,9 @@ fn orders_that_are_none() {
     let refused = |change: &dyn Fn(&mut State)| {
         let mut state = right.clone();
         change(&mut state);
-        assert_eq!(judge_state(&[], &state, Step::event(1, 3)), (Answer::Refused(42), state));
+        assert_eq!(judge_state(&[], 0, &state, Step::event(1, 3)), (Answer::Refused(42), state));
     };
-    assert_eq!(judge_state(&[], &right, Step::event(1, 3)).0, Answer::Allowed);
+    assert_eq!(judge_state(&[], 0, &right, Step::event(1, 3)).0, Answer::Allowed);
     refused(&|state| state.depth = 2);
     refused(&|state| state.depth = 4);
     refused(&|state| state.depth = 65);
@@ -160,13 +161,13 @@ fn orders_that_are_none() {
 fn an_event_gathers_anew_what_openings_and_closings_look_at() {
     let mut state = State::opened(&[2, 2]);
     state.kept[2] = 64;
-    let (answer, next) = judge_state(&[], &state, Step::event(1, 3));
+    let (answer, next) = judge_state(&[], 0, &state, Step::event(1, 3));
     assert_eq!((answer, next.kept), (Answer::Allowed, [1; POLICIES]));
     state.kept[2] = 1;
     state.sets[16][2] = 128;
-    assert_eq!(judge_state(&[], &state, Step::open(2)).0, Answer::Allowed);
-    assert_eq!(judge_state(&[], &state, Step::close(2)).0, Answer::Allowed);
-    let (answer, next) = judge_state(&[], &state, Step::event(1, 3));
+    assert_eq!(judge_state(&[], 0, &state, Step::open(2)).0, Answer::Allowed);
+    assert_eq!(judge_state(&[], 0, &state, Step::close(2)).0, Answer::Allowed);
+    let (answer, next) = judge_state(&[], 0, &state, Step::event(1, 3));
     assert_eq!((answer, next), (Answer::Violated(2), State { halted: 1, ..state.clone() }));
 }
 

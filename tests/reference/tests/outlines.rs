@@ -6,11 +6,12 @@ use reference::generate::outlines::{
 };
 use reference::judge::{Answer, Judge};
 use reference::outline::{nodes_fit, SANDBOX};
-use reference::policy::{Policy, POLICIES};
-use reference::pushdown::{breaks, check, check_tables, replay, witness, Watched, Witness};
+use reference::policy::{Policies, Policy, POLICIES};
+use reference::pushdown::{breaks, check, check_tables, replay, witness, Witness};
 use reference::rng::Rng;
 use reference::run::{Run, Way};
 use reference::search::search;
+use reference::system::Watched;
 
 #[derive(Default)]
 struct Tally {
@@ -24,13 +25,13 @@ struct Tally {
 /// Every policy that the search finds broken is broken by saturation; every policy broken by
 /// saturation is broken by a replayed run; on a complete search both agree.
 fn cross_check(draft: &Draft, bound: usize, tally: &mut Tally) {
-    let Draft { edges, nodes, .. } = draft;
+    let Draft { policies, nodes, .. } = draft;
     assert!(nodes_fit(nodes), "{nodes:?}");
-    let found = search(edges, nodes, bound);
+    let found = search(policies, nodes, bound);
     tally.outlines += 1;
     tally.complete += usize::from(found.complete);
     for policy in 0..POLICIES {
-        let broken = breaks(edges, nodes, policy);
+        let broken = breaks(policies, nodes, policy);
         if nodes.iter().any(|node| node.kind == SANDBOX && node.a == policy as u64) {
             assert_eq!(broken, some_instance_breaks(draft, policy), "{policy}: {draft:?}");
         }
@@ -46,16 +47,16 @@ fn cross_check(draft: &Draft, bound: usize, tally: &mut Tally) {
 
 /// The same over all statics, also those in no event.
 fn some_instance_breaks(draft: &Draft, policy: usize) -> bool {
-    let run = |watched| witness(&draft.edges, &draft.nodes, policy, watched, 0);
+    let run = |watched| witness(&draft.policies, &draft.nodes, policy, watched, 0);
     Watched::all().into_iter().any(|watched| !matches!(run(watched), Witness::None))
 }
 
 /// Replays a run for each watched resource that has one.
 fn replay_all(draft: &Draft, policy: usize) -> usize {
-    let policies = Policy::all(&draft.edges);
+    let policies = Policy::all(&draft.policies);
     let mut replayed = 0;
     for watched in Watched::all() {
-        if let Witness::Ways(ways) = witness(&draft.edges, &draft.nodes, policy, watched, 5_000) {
+        if let Witness::Ways(ways) = witness(&draft.policies, &draft.nodes, policy, watched, 5_000) {
             let run = replay(&draft.nodes, &ways);
             assert!(run.broken(&policies).contains(&policy), "{policy} {watched:?}: {draft:?}");
             replayed += 1;
@@ -108,14 +109,14 @@ fn the_judge_agrees_on_traces_of_outlines() {
     let mut accepted = 0;
     for _ in 0..400 {
         let draft = recursive_draft(&mut rng);
-        match check(&draft.edges, &draft.nodes) {
+        match check(&draft.policies, &draft.nodes) {
             None => {
                 accepted += 1;
                 (0..20).for_each(|_| assert!(!violated(&draft, &random_run(&mut rng, &draft))));
             }
             Some(policy) => {
                 for watched in Watched::all() {
-                    let found = witness(&draft.edges, &draft.nodes, policy, watched, 1_000);
+                    let found = witness(&draft.policies, &draft.nodes, policy, watched, 1_000);
                     if let Witness::Ways(ways) = found {
                         assert!(violated(&draft, &replay(&draft.nodes, &ways)));
                     }
@@ -136,19 +137,23 @@ fn random_run(rng: &mut Rng, draft: &Draft) -> Run {
 }
 
 fn violated(draft: &Draft, run: &Run) -> bool {
-    let mut judge = Judge::new(&draft.edges);
+    let mut judge = Judge::new(&draft.policies);
     run.steps.iter().any(|step| matches!(judge.judge(*step), Answer::Violated(_)))
 }
 
 #[test]
 fn tables_that_no_sheet_gives() {
-    let draft = sized_draft(&mut Rng::new(104), 6, 3);
-    assert_eq!(check_tables(&draft.edges, &draft.nodes), Ok(check(&draft.edges, &draft.nodes)));
-    assert_eq!(check_tables(&draft.edges, &[]), Err(41));
-    let mut edges = draft.edges.clone();
-    edges[0].on = 3;
-    assert_eq!(check_tables(&edges, &draft.nodes), Err(41));
-    let mut nodes = draft.nodes.clone();
-    nodes[0].number = 1;
-    assert_eq!(check_tables(&draft.edges, &nodes), Err(41));
+    let Draft { policies, nodes, .. } = sized_draft(&mut Rng::new(104), 6, 3);
+    let Policies { sight, edges } = policies.clone();
+    assert_eq!(check_tables(&edges, sight.number(), &nodes), Ok(check(&policies, &nodes)));
+    assert_eq!(check_tables(&edges, 0, &[]), Err(41));
+    for local in [2, 3, 255, 256, 1 << 32, u64::MAX] {
+        assert_eq!(check_tables(&edges, local, &nodes), Err(41));
+    }
+    let mut wrong = edges.clone();
+    wrong[0].on = 3;
+    assert_eq!(check_tables(&wrong, 1, &nodes), Err(41));
+    let mut wrong = nodes.clone();
+    wrong[0].number = 1;
+    assert_eq!(check_tables(&edges, 1, &wrong), Err(41));
 }

@@ -1,12 +1,13 @@
 //! Cases of counterexamples: every border of the length, and random outlines.
 
+use super::fixed::local::{both, local, sandbox_outlines};
 use super::fixed::{
     all_statics, both_refused, outline, outline_case, policies, OUTLINE_I, OUTLINE_J, OUTLINE_L, P,
     POLICIES_J, POLICIES_K,
 };
 use super::outlines::{
-    counting_draft, crowded_draft, dense_draft, grown_draft, late_draft, naming_draft, pair,
-    recursive_draft, reshaped,
+    both_sights, counting_draft, crowded_draft, dense_draft, grown_draft, late_draft, naming_draft,
+    pair, recursive_draft, reopened_draft, reshaped,
 };
 use super::trees::{choice, fresh, looped, number, sandbox, sequence, Tree};
 use super::Case;
@@ -26,12 +27,52 @@ pub fn fixed_cases() -> Vec<Case> {
     cases.push(case_of("0 0 1 1 0 1; 0 0 4 1 0 6", all_statics()));
     cases.extend(accepted_cases());
     cases.extend(refused_cases());
+    cases.extend(local_cases());
+    cases
+}
+
+/// Under policies that see only their sandbox: no opening is the last step, and what was done before it is done again, or for nothing.
+fn local_cases() -> Vec<Case> {
+    let mut same = short_cases();
+    same.extend(naming_cases());
+    same.extend(long_cases().into_iter().step_by(2));
+    same.extend(unclosed_cases());
+    same.push(seventy());
+    same.extend(accepted_cases());
+    let mut cases: Vec<Case> = same.iter().map(local).collect();
+    cases.extend(both(sandbox_outlines()));
+    cases.extend(both(reopened_cases()));
+    cases
+}
+
+/// Six events, each in a sandbox of the policy: inside one that is open it forgets nothing; else all must be in one.
+fn reopened_cases() -> Vec<Case> {
+    let event = || Tree::Static(1, 3);
+    let six = || all((0..6).map(|_| event()).collect());
+    let rounds = |inside: Tree| looped(0, all(vec![sandbox(0, inside), sandboxes(15), Tree::Back(0)]));
+    let mut cases = vec![
+        tree_case(SIXTH, &rounds(event())),
+        tree_case(SIXTH, &sandbox(0, rounds(event()))),
+        tree_case(SIXTH, &sandbox(1, rounds(event()))),
+        tree_case(SIXTH, &rounds(choice(event(), six()))),
+        // the loop again inside its sandbox
+        tree_case(SIXTH, &looped(0, sandbox(0, sequence(event(), Tree::Back(0))))),
+        tree_case(SIXTH, &looped(0, sandbox(0, sequence(Tree::Back(0), event())))),
+        tree_case(SIXTH, &looped(0, sequence(event(), sandbox(0, Tree::Back(0))))),
+    ];
+    // events before the sandbox help the whole past only; else six rounds of 29 steps inside it: 199, 200, 201 and 202 in all
+    for (count, first) in [(12, Tree::End), (12, Tree::Static(9, 3)), (13, Tree::End), (13, Tree::Static(9, 3))] {
+        let before = looped(0, choice(Tree::End, sequence(event(), Tree::Back(0))));
+        let inside = looped(1, all(vec![sandboxes(14), event(), Tree::Back(1)]));
+        let tree = all(vec![before, first, sandboxes(count), sandbox(0, inside)]);
+        cases.push(tree_case(SIXTH, &tree));
+    }
     cases
 }
 
 /// Random outlines, half of them refused with a policy.
 pub fn random_cases(rng: &mut Rng) -> Vec<Case> {
-    match rng.below(12) {
+    match rng.below(16) {
         0 => pair(rng, grown_draft),
         1 => pair(rng, recursive_draft),
         2..=3 => pair(rng, counting_draft),
@@ -39,6 +80,8 @@ pub fn random_cases(rng: &mut Rng) -> Vec<Case> {
         7 => pair(rng, late_draft),
         8..=9 => pair(rng, dense_draft),
         10 => pair(rng, crowded_draft),
+        11..=12 => pair(rng, reopened_draft),
+        13..=14 => both_sights(rng),
         _ => vec![reshaped(rng)],
     }
 }

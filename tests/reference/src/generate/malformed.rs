@@ -3,7 +3,9 @@
 use super::Case;
 use crate::damage::Text;
 use crate::rng::Rng;
-use crate::sheet::{MOST_EDGES, MOST_NODES, MOST_STEPS, OUTLINE_NAMES, POLICY_NAMES, TRACE_NAMES};
+use crate::sheet::{
+    LOCAL_NAMES, MOST_EDGES, MOST_NODES, MOST_STEPS, OUTLINE_NAMES, POLICY_NAMES, TRACE_NAMES,
+};
 
 /// One of the sheets, by a value line of it that is right.
 struct Sheet {
@@ -13,6 +15,7 @@ struct Sheet {
 }
 
 const POLICIES: Sheet = Sheet { names: POLICY_NAMES, right: "0 0 1 1 0 1", most: MOST_EDGES };
+const LOCAL: Sheet = Sheet { names: LOCAL_NAMES, ..POLICIES };
 const TRACE: Sheet = Sheet { names: TRACE_NAMES, right: "0 1 3", most: MOST_STEPS };
 const OUTLINE: Sheet = Sheet { names: OUTLINE_NAMES, right: "0 0 0 0", most: MOST_NODES };
 
@@ -183,7 +186,8 @@ impl Sheet {
 pub fn random_cases(rng: &mut Rng) -> [Case; 2] {
     [&TRACE, &OUTLINE].map(|sheet| {
         let wrong = rng.percent(30);
-        let policies = if wrong { POLICIES.garbled(rng) } else { POLICIES.text(&[]) };
+        let named = if rng.percent(50) { &POLICIES } else { &LOCAL };
+        let policies = if wrong { named.garbled(rng) } else { named.text(&[]) };
         Case { policies, other: sheet.garbled(rng) }
     })
 }

@@ -65,7 +65,7 @@ fn in_turn(count: u64) -> Vec<u64> {
 pub(super) fn fixed_calls() -> Vec<Call> {
     let edges = vec![Edge::new([2, 0, 1, 1, 0, 6])];
     let calls = [closing_calls(), limit_calls(), violated_calls(), damaged_calls()].concat();
-    calls.into_iter().map(|(state, step)| Call { edges: edges.clone(), step, state }).collect()
+    calls.into_iter().map(|(state, step)| Call { edges: edges.clone(), local: 0, step, state }).collect()
 }
 
 type Asked = (State, Step);

@@ -1,14 +1,14 @@
 //! Random outlines, many in pairs that differ in one place and in the verdict.
 
-use super::policies::{random_edge, random_edges, Palette};
-use super::traces::write_edges;
+use super::policies::{random_edge, random_edges, sighted, Palette};
+use super::traces::write_policies;
 use super::trees::{choice, fresh, looped, number, sandbox, sequence, Grower, Tree};
 use super::Case;
 use crate::damage::{random_damage, respaced, rows};
 use crate::outline::{
     nodes_fit, Node, BACK, CHOICE, END, FRESH, LOOP, NAMED_EVENT, SANDBOX, SEQUENCE, STATIC_EVENT,
 };
-use crate::policy::{Edge, ON_OWN, ON_STATIC};
+use crate::policy::{Edge, Policies, Sight, ON_OWN, ON_STATIC};
 use crate::pushdown::check;
 use crate::rng::Rng;
 use crate::sheet::OUTLINE_NAMES;
@@ -17,12 +17,12 @@ use crate::sheet::OUTLINE_NAMES;
 #[derive(Clone, Debug)]
 pub struct Draft {
     pub palette: Palette,
-    pub edges: Vec<Edge>,
+    pub policies: Policies,
     pub nodes: Vec<Node>,
 }
 
 pub fn random_cases(rng: &mut Rng) -> Vec<Case> {
-    match rng.below(14) {
+    match rng.below(18) {
         0 => pair(rng, grown_draft),
         1 => pair(rng, recursive_draft),
         2 => pair(rng, counting_draft),
@@ -32,8 +32,17 @@ pub fn random_cases(rng: &mut Rng) -> Vec<Case> {
         10 => vec![write(&crowded_draft(rng)), write(&crowded_draft(rng))],
         11 => vec![respaced_case(rng)],
         12 => vec![reshaped(rng)],
+        13..=14 => pair(rng, reopened_draft),
+        15..=16 => both_sights(rng),
         _ => vec![damaged(rng)],
     }
+}
+
+/// The draft of a tree, under policies of either sight.
+fn drafted(rng: &mut Rng, palette: Palette, edges: Vec<Edge>, tree: &Tree) -> Draft {
+    let policies = sighted(rng, edges);
+    let nodes = number(rng, tree);
+    Draft { palette, policies, nodes }
 }
 
 /// A draft from a tree of a random size.
@@ -56,8 +65,7 @@ pub fn sized_draft(rng: &mut Rng, size: usize, most_edges: u64) -> Draft {
         Some(policy) => sandbox(policy, body),
         None => body,
     };
-    let nodes = number(rng, &tree);
-    Draft { palette, edges, nodes }
+    drafted(rng, palette, edges, &tree)
 }
 
 /// A draft whose loop does something before and after its back, inside a sandbox or not.
@@ -81,8 +89,7 @@ pub fn recursive_draft(rng: &mut Rng) -> Draft {
             sandbox(rng.pick(&palette.policies), sequence(random_event(rng, &palette, None), whole))
         }
     };
-    let nodes = number(rng, &tree);
-    Draft { palette, edges, nodes }
+    drafted(rng, palette, edges, &tree)
 }
 
 /// A draft of a few steps in a row that all matter to its one policy.
@@ -90,8 +97,7 @@ pub fn dense_draft(rng: &mut Rng) -> Draft {
     let palette = Palette::small(rng);
     let edges = random_edges(rng, &palette, 6);
     let tree = dense_tree(rng, &palette);
-    let nodes = number(rng, &tree);
-    Draft { palette, edges, nodes }
+    drafted(rng, palette, edges, &tree)
 }
 
 /// A draft with several policies open at once.
@@ -105,8 +111,7 @@ pub fn crowded_draft(rng: &mut Rng) -> Draft {
             false => sequence(sandbox(*policy, random_event(rng, &palette, None)), tree),
         };
     }
-    let nodes = number(rng, &tree);
-    Draft { palette, edges, nodes }
+    drafted(rng, palette, edges, &tree)
 }
 
 /// A sandbox around steps on a static and on one name, some in a sandbox of the same policy.
@@ -134,6 +139,55 @@ fn dense_tree(rng: &mut Rng, palette: &Palette) -> Tree {
     }
 }
 
+/// A draft that opens its policy again and again: sandboxes one after the other and inside one another, events between them, and backs
+/// inside and after them.
+pub fn reopened_draft(rng: &mut Rng) -> Draft {
+    let palette = Palette::small(rng);
+    let edges = random_edges(rng, &palette, 6);
+    let name = rng.below(4);
+    let policy = palette.policies[0];
+    let one = |rng: &mut Rng| match rng.below(10) {
+        0..=1 => Tree::Back(0),
+        2 => Tree::End,
+        3..=5 => Tree::Static(rng.pick(&palette.actions), rng.pick(&palette.statics)),
+        _ => Tree::Named(rng.pick(&palette.actions), name),
+    };
+    let some = |rng: &mut Rng| match rng.below(10) {
+        0..=2 => one(rng),
+        3..=6 => sandbox(policy, one(rng)),
+        7..=8 => sandbox(policy, sequence(one(rng), one(rng))),
+        _ => sandbox((policy + 1) % 8, sequence(one(rng), sandbox(policy, one(rng)))),
+    };
+    let first = some(rng);
+    let body = (1..rng.between(2, 4)).fold(first, |tree, _| sequence(tree, some(rng)));
+    let around = |tree: Tree| looped(0, choice(Tree::End, tree));
+    let tree = match rng.below(3) {
+        0 => fresh(name, around(body)),
+        1 => around(fresh(name, body)),
+        _ => sandbox(rng.pick(&[policy, policy, (policy + 1) % 8]), around(fresh(name, body))),
+    };
+    drafted(rng, palette, edges, &tree)
+}
+
+/// One draft under both sights, if one is found soon such that the verdicts differ.
+pub(super) fn both_sights(rng: &mut Rng) -> Vec<Case> {
+    let drafts = [reopened_draft, late_draft, dense_draft, recursive_draft, crowded_draft];
+    let mut draft = reopened_draft(rng);
+    for _ in 0..12 {
+        let [whole, local] = Sight::BOTH.map(|sight| check(&seen_by(&draft, sight).policies, &draft.nodes));
+        if whole != local {
+            break;
+        }
+        draft = rng.pick(&drafts)(rng);
+    }
+    Sight::BOTH.map(|sight| write(&seen_by(&draft, sight))).to_vec()
+}
+
+fn seen_by(draft: &Draft, sight: Sight) -> Draft {
+    let policies = Policies { sight, ..draft.policies.clone() };
+    Draft { policies, ..draft.clone() }
+}
+
 /// A draft that opens its sandbox late, under policies whose offending states are left again.
 pub fn late_draft(rng: &mut Rng) -> Draft {
     let palette = Palette { policies: vec![rng.below(8)], ..Palette::random(rng) };
@@ -147,8 +201,7 @@ pub fn late_draft(rng: &mut Rng) -> Draft {
     let inside = rng.between(1, 3) as usize;
     let mut grower = Grower::new(rng, &palette);
     let tree = sequence(grower.grow(before), sandbox(policy, grower.grow(inside)));
-    let nodes = number(rng, &tree);
-    Draft { palette, edges, nodes }
+    drafted(rng, palette, edges, &tree)
 }
 
 /// A draft of two names, one inside the other, in a loop with backs here and there, under a
@@ -169,8 +222,7 @@ pub fn naming_draft(rng: &mut Rng) -> Draft {
         0 => sequence(whole, sandbox(rng.pick(&palette.policies), Tree::End)),
         _ => sandbox(rng.pick(&palette.policies), whole),
     };
-    let nodes = number(rng, &tree);
-    Draft { palette, edges, nodes }
+    drafted(rng, palette, edges, &tree)
 }
 
 /// Events on the names in turn at random, some backs among them.
@@ -215,8 +267,7 @@ pub fn counting_draft(rng: &mut Rng) -> Draft {
         1 => sandbox(palette.policies[0], fresh(rng.below(4), whole)),
         _ => sandbox(palette.policies[0], whole),
     };
-    let nodes = number(rng, &tree);
-    Draft { palette, edges, nodes }
+    drafted(rng, palette, edges, &tree)
 }
 
 /// One policy, one static and the four actions: down, at the bottom, up, at the end.
@@ -267,10 +318,10 @@ fn random_event(rng: &mut Rng, palette: &Palette, name: Option<u64>) -> Tree {
 pub(super) fn pair(rng: &mut Rng, draft: fn(&mut Rng) -> Draft) -> Vec<Case> {
     loop {
         let first = draft(rng);
-        let accepted = check(&first.edges, &first.nodes).is_none();
+        let accepted = check(&first.policies, &first.nodes).is_none();
         for _ in 0..12 {
             let second = mutated(rng, &first);
-            if check(&second.edges, &second.nodes).is_none() != accepted {
+            if check(&second.policies, &second.nodes).is_none() != accepted {
                 return vec![write(&first), write(&second)];
             }
         }
@@ -281,10 +332,11 @@ pub(super) fn pair(rng: &mut Rng, draft: fn(&mut Rng) -> Draft) -> Vec<Case> {
 pub fn mutated(rng: &mut Rng, draft: &Draft) -> Draft {
     loop {
         let mut next = draft.clone();
-        if rng.percent(50) && !next.edges.is_empty() {
-            let at = rng.below(next.edges.len() as u64) as usize;
-            let policy = next.edges[at].policy;
-            next.edges[at] = random_edge(rng, &draft.palette, policy, 4);
+        let edges = &mut next.policies.edges;
+        if rng.percent(50) && !edges.is_empty() {
+            let at = rng.below(edges.len() as u64) as usize;
+            let policy = edges[at].policy;
+            edges[at] = random_edge(rng, &draft.palette, policy, 4);
         } else {
             let at = rng.below(next.nodes.len() as u64) as usize;
             change_node(rng, &draft.palette, &mut next.nodes[at]);
@@ -351,7 +403,7 @@ fn damaged(rng: &mut Rng) -> Case {
 
 pub fn write(draft: &Draft) -> Case {
     Case {
-        policies: write_edges(&draft.edges),
+        policies: write_policies(&draft.policies),
         other: rows(OUTLINE_NAMES, draft.nodes.iter().map(Node::row)),
     }
 }

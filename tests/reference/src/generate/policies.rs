@@ -1,6 +1,6 @@
 //! Random policies over a small choice of actions, statics and policies.
 
-use crate::policy::{Edge, ON_OTHER, ON_OWN, ON_STATIC};
+use crate::policy::{Edge, Policies, Sight, ON_OTHER, ON_OWN, ON_STATIC};
 use crate::rng::Rng;
 
 /// What a case is about. The actions do not hold create.
@@ -47,6 +47,16 @@ fn distinct(rng: &mut Rng, least: u64, most: u64, low: u64, high: u64) -> Vec<u6
     }
     numbers.sort_unstable();
     numbers
+}
+
+/// These edges, in half of the sheets of policies that see only their sandbox.
+pub fn sighted(rng: &mut Rng, edges: Vec<Edge>) -> Policies {
+    Policies { sight: rng.pick(&Sight::BOTH), edges }
+}
+
+pub fn random_policies(rng: &mut Rng, palette: &Palette, most: u64) -> Policies {
+    let edges = random_edges(rng, palette, most);
+    sighted(rng, edges)
 }
 
 /// Edges for each policy of the palette. The last states used are offending ones.

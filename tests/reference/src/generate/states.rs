@@ -1,6 +1,7 @@
 //! Random calls of the judge on states that need not have been reached.
 
 use super::orders;
+use super::sandboxes;
 use super::policies::{random_edges, Palette};
 use crate::judge::{Step, CREATE, LARGEST_RESOURCE, MOST_CREATED};
 use crate::policy::{Edge, POLICIES, STATICS};
@@ -11,8 +12,8 @@ use crate::state::{Call, State};
 pub fn calls(seed: u64, count: usize) -> Vec<Call> {
     let mut rng = Rng::new(seed);
     let random = std::iter::repeat_with(|| random_call(&mut rng));
-    let fixed = kept_calls().into_iter().chain(orders::fixed_calls());
-    fixed.chain(random).take(count).collect()
+    let fixed = [kept_calls(), orders::fixed_calls(), sandboxes::fixed_calls()].concat();
+    fixed.into_iter().chain(random).take(count).collect()
 }
 
 /// States whose kept sets disagree with their instance sets, either way: an offending state that is kept and that no instance may be in,
@@ -42,7 +43,7 @@ fn kept_calls() -> Vec<Call> {
             state.kept[2] = kept;
             state.sets[5][2] = of_5;
             state.sets[17][2] = of_40;
-            calls.push(Call { edges: edges.clone(), step, state });
+            calls.push(Call { edges: edges.clone(), local: 0, step, state });
         }
     }
     calls
@@ -62,7 +63,8 @@ fn random_call(rng: &mut Rng) -> Call {
     if rng.percent(10) {
         damage_edges(rng, &mut edges);
     }
-    Call { edges, step, state }
+    let local = if rng.percent(4) { rng.pick(&[2, 3, 255, 256, 257, u64::MAX >> 32]) } else { rng.below(2) };
+    Call { edges, local, step, state }
 }
 
 /// A state that passes 42.
@@ -153,7 +155,8 @@ fn random_step(rng: &mut Rng, palette: &Palette, state: &State) -> Step {
         0..=3 => Step::event(action, rng.pick(&palette.statics)),
         4..=7 if !created.is_empty() => Step::event(action, rng.pick(created)),
         8..=10 => Step::event(CREATE, any_dynamic(rng)),
-        11..=12 => Step::open(policy),
+        11 => Step::open(policy),
+        12 => Step::open(rng.below(8)),
         13 => Step::close(policy),
         14..=15 => Step::close(orders::last(state).unwrap_or(policy)),
         16 if !created.is_empty() => Step::event(CREATE, rng.pick(created)),

@@ -1,12 +1,12 @@
 //! Random traces, steered by the judge so that many go far before they are violated.
 
-use super::policies::{random_edges, Palette};
+use super::policies::{random_policies, Palette};
 use super::Case;
 use crate::damage::{random_damage, respaced, rows, Text};
 use crate::judge::{unclosed, Answer, Judge, Step, CREATE, EVENT, LARGEST_RESOURCE, OPEN};
-use crate::policy::{Edge, STATICS};
+use crate::policy::{Edge, Policies, STATICS};
 use crate::rng::Rng;
-use crate::sheet::{POLICY_NAMES, TRACE_NAMES};
+use crate::sheet::{policy_names, TRACE_NAMES};
 
 /// How often each sort of step is tried, in percent; the rest are steps to be refused.
 #[derive(Clone, Copy)]
@@ -24,10 +24,11 @@ const CARELESS: Mix = Mix { events: 62, creates: 12, openings: 14, closings: 6, 
 const CREATING: Mix = Mix { events: 20, creates: 66, openings: 5, closings: 5, careful: 98 };
 const OPENING: Mix = Mix { events: 5, creates: 2, openings: 85, closings: 6, careful: 100 };
 const NESTING: Mix = Mix { events: 26, creates: 8, openings: 36, closings: 28, careful: 97 };
+const REOPENING: Mix = Mix { events: 54, creates: 6, openings: 20, closings: 19, careful: 75 };
 const UNOPENED: Mix = Mix { events: 78, creates: 15, openings: 0, closings: 0, careful: 0 };
 
 pub fn random_case(rng: &mut Rng) -> Case {
-    match rng.below(24) {
+    match rng.below(28) {
         0..=5 => plain(rng, COMMON, 5, 45),
         6..=8 => plain(rng, CARELESS, 4, 25),
         9 => plain(rng, CREATING, 90, 130),
@@ -35,6 +36,7 @@ pub fn random_case(rng: &mut Rng) -> Case {
         11..=13 => plain(rng, NESTING, 20, 80),
         14..=15 => opened_late(rng),
         16..=19 => dense(rng),
+        20..=23 => reopened(rng),
         _ => damaged(rng),
     }
 }
@@ -42,9 +44,9 @@ pub fn random_case(rng: &mut Rng) -> Case {
 /// A trace of nearly `length` steps that is valid as a whole.
 pub fn long_case(rng: &mut Rng, length: usize) -> Case {
     let palette = Palette { policies: vec![rng.below(8)], ..Palette::random(rng) };
-    let edges = random_edges(rng, &palette, 6);
-    let steps = random_steps(rng, &palette, &edges, Mix { careful: 100, ..COMMON }, length);
-    write(&edges, &steps)
+    let policies = random_policies(rng, &palette, 6);
+    let steps = random_steps(rng, &palette, &policies, Mix { careful: 100, ..COMMON }, length);
+    write(&policies, &steps)
 }
 
 fn plain(rng: &mut Rng, mix: Mix, shortest: u64, longest: u64) -> Case {
@@ -55,41 +57,53 @@ fn plain(rng: &mut Rng, mix: Mix, shortest: u64, longest: u64) -> Case {
     if mix.openings > 50 && rng.percent(40) {
         palette.policies.truncate(1);
     }
-    let edges = random_edges(rng, &palette, 8);
+    let policies = random_policies(rng, &palette, 8);
     let length = rng.between(shortest, longest) as usize;
-    let steps = random_steps(rng, &palette, &edges, mix, length);
-    let case = write(&edges, &steps);
+    let steps = random_steps(rng, &palette, &policies, mix, length);
+    let case = write(&policies, &steps);
     if rng.percent(20) {
         return Case { policies: respaced(rng, &case.policies), other: respaced(rng, &case.other) };
     }
     case
 }
 
+/// One policy, or two, opened and closed again and again.
+fn reopened(rng: &mut Rng) -> Case {
+    let mut palette = Palette::small(rng);
+    if rng.percent(30) {
+        palette.policies = vec![1, 6];
+    }
+    let policies = random_policies(rng, &palette, 6);
+    let length = rng.between(8, 30) as usize;
+    let steps = random_steps(rng, &palette, &policies, REOPENING, length);
+    write(&policies, &steps)
+}
+
 /// A few steps that all matter to one policy, or to several open at once.
 fn dense(rng: &mut Rng) -> Case {
     let small = rng.percent(60);
     let palette = if small { Palette::small(rng) } else { Palette::crowded(rng) };
-    let edges = random_edges(rng, &palette, 6);
-    let mut steps = random_steps(rng, &palette, &edges, UNOPENED, 2);
+    let policies = random_policies(rng, &palette, 6);
+    let mut steps = random_steps(rng, &palette, &policies, UNOPENED, 2);
     steps.extend(palette.policies.iter().rev().map(|p| Step::open(*p)));
-    let mut judge = Judge::new(&edges);
+    let mut judge = Judge::new(&policies);
     for step in &steps {
         judge.judge(*step);
     }
     let length = steps.len() + rng.between(4, 14) as usize;
     extend_steps(rng, &palette, &mut judge, Mix { careful: 60, ..COMMON }, &mut steps, length);
-    write(&edges, &steps)
+    write(&policies, &steps)
 }
 
 /// Events with nothing open, then an opening of each policy, highest first.
 fn opened_late(rng: &mut Rng) -> Case {
     let palette = Palette::random(rng);
-    let edges = random_edges(rng, &palette, 8);
+    let policies = random_policies(rng, &palette, 8);
     let length = rng.between(3, 25) as usize;
-    let mut steps = random_steps(rng, &palette, &edges, UNOPENED, length);
+    let mut steps = random_steps(rng, &palette, &policies, UNOPENED, length);
     steps.extend(palette.policies.iter().rev().map(|p| Step::open(*p)));
-    steps.extend(random_steps(rng, &palette, &edges, COMMON, 5));
-    write(&edges, &steps)
+    steps.extend(random_steps(rng, &palette, &policies, COMMON, 5));
+    write(&policies, &steps)
 }
 
 fn damaged(rng: &mut Rng) -> Case {
@@ -101,24 +115,25 @@ fn damaged(rng: &mut Rng) -> Case {
     case
 }
 
-pub fn write(edges: &[Edge], steps: &[Step]) -> Case {
-    Case { policies: write_edges(edges), other: rows(TRACE_NAMES, steps.iter().map(Step::row)) }
+pub fn write(policies: &Policies, steps: &[Step]) -> Case {
+    let trace = rows(TRACE_NAMES, steps.iter().map(Step::row));
+    Case { policies: write_policies(policies), other: trace }
 }
 
-pub fn write_edges(edges: &[Edge]) -> Text {
-    rows(POLICY_NAMES, edges.iter().map(Edge::row))
+pub fn write_policies(policies: &Policies) -> Text {
+    rows(policy_names(policies.sight), policies.edges.iter().map(Edge::row))
 }
 
 /// Random steps, with the judge at hand.
 fn random_steps(
     rng: &mut Rng,
     palette: &Palette,
-    edges: &[Edge],
+    policies: &Policies,
     mix: Mix,
     length: usize,
 ) -> Vec<Step> {
     let mut steps = Vec::new();
-    extend_steps(rng, palette, &mut Judge::new(edges), mix, &mut steps, length);
+    extend_steps(rng, palette, &mut Judge::new(policies), mix, &mut steps, length);
     steps
 }
 

@@ -2,6 +2,7 @@
 
 mod fields;
 mod judged;
+pub mod local;
 mod orders;
 mod shapes;
 mod verdicts;
@@ -12,6 +13,7 @@ use crate::damage::{crowded, damaged, rows, sheet, Text};
 use crate::sheet::{MOST_EDGES, MOST_NODES, MOST_STEPS, OUTLINE_NAMES, POLICY_NAMES, TRACE_NAMES};
 use fields::{edge_borders, node_borders, step_borders};
 use judged::{judged_borders, trace_examples};
+use local::{local_outlines, local_traces};
 use orders::order_cases;
 use shapes::{large_outlines, misshapen};
 use verdicts::{checked_examples, outline_examples};
@@ -78,6 +80,7 @@ pub fn trace_cases() -> Vec<Case> {
     cases.extend(with_policies(malformed::policies(), &trace(TRACE)));
     cases.extend(with_other(&policies(P), malformed::traces()));
     cases.extend(order_cases());
+    cases.extend(local_traces());
     cases
 }
 
@@ -98,6 +101,7 @@ pub fn outline_cases() -> Vec<Case> {
     cases.extend(with_policies(policy_damage, &outline(OUTLINE_I)));
     cases.extend(both_refused(&outline(OUTLINE_I)));
     cases.extend(with_other(&policies(P), malformed::outlines()));
+    cases.extend(local_outlines());
     cases
 }
 
