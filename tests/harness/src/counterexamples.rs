@@ -5,7 +5,7 @@ use reference::counterexample::{counterexample, fault, Counterexample, TABLE_NUM
 use reference::generate::Case;
 use reference::judge::{unclosed, Answer, Judge, Step, CREATE, EVENT, MOST_CREATED, MOST_UNCLOSED};
 use reference::outline::Node;
-use reference::policy::Edge;
+use reference::policy::{Policies, Sight};
 use reference::program::{self, tables};
 
 /// What a table holds before the call; no step has such numbers.
@@ -14,6 +14,7 @@ const MARK: u32 = 1_000_000;
 #[derive(Default)]
 pub struct Tally {
     outlines: usize,
+    local: usize,
     shown: usize,
     longer: usize,
     halted_before: usize,
@@ -25,7 +26,7 @@ impl Tally {
     pub fn compare(&mut self, case: &Case) -> Result<(), String> {
         let printed = harness::why(&case.policies, &case.other);
         let compared = match tables(&case.policies, &case.other) {
-            Ok((edges, nodes)) => self.compare_tables(&edges, &nodes).and_then(|table| same_sheet(&sheet(&table), &printed)),
+            Ok((policies, nodes)) => self.compare_tables(&policies, &nodes).and_then(|table| same_sheet(&sheet(&table), &printed)),
             Err(_) => same_sheet(&program::check(&case.policies, &case.other), &printed),
         };
         compared.map_err(|why| {
@@ -35,25 +36,28 @@ impl Tally {
     }
 
     /// The numbers of the steps that were written.
-    fn compare_tables(&mut self, edges: &[Edge], nodes: &[Node]) -> Result<Vec<u32>, String> {
-        let (flat, flat_nodes) = (harness::flat(edges).unwrap(), harness::flat_nodes(nodes).unwrap());
-        let due = counterexample(edges, nodes);
+    fn compare_tables(&mut self, policies: &Policies, nodes: &[Node]) -> Result<Vec<u32>, String> {
+        let (flat, flat_nodes) = (harness::flat(&policies.edges).unwrap(), harness::flat_nodes(nodes).unwrap());
+        let local = policies.sight.number() as u32;
+        let due = counterexample(policies, nodes);
         self.outlines += 1;
+        self.local += usize::from(policies.sight == Sight::Local);
+        no_past(&flat, &flat_nodes)?;
         // one number too few: nothing is done; more than is needed: the same
-        let (told, table) = harness::explained(&flat, &flat_nodes, TABLE_NUMBERS - 1, MARK);
+        let (told, table) = harness::explained(&flat, local, &flat_nodes, TABLE_NUMBERS - 1, MARK);
         if told != (2, 40, 0) {
             return Err(format!("a table of {} numbers is answered with {told:?}", table.len()));
         }
         untouched(&table, 0)?;
         let mut steps = Vec::new();
         for numbers in [TABLE_NUMBERS + 7, TABLE_NUMBERS] {
-            let (told, table) = harness::explained(&flat, &flat_nodes, numbers, MARK);
+            let (told, table) = harness::explained(&flat, local, &flat_nodes, numbers, MARK);
             if told != due.numbers() {
                 return Err(format!("expected {:?}, found {told:?}", due.numbers()));
             }
             untouched(&table, told.2)?;
             if let Counterexample::Shown { policy, .. } = due {
-                let followed = written(edges, nodes, policy, &steps_of(&table[..3 * told.2]))?;
+                let followed = written(policies, nodes, policy, &steps_of(&table[..3 * told.2]))?;
                 if numbers == TABLE_NUMBERS {
                     self.shown += 1;
                     self.halted_before += usize::from(followed == Followed::HaltedBefore);
@@ -67,11 +71,28 @@ impl Tally {
     }
 
     pub fn told(&self) -> String {
-        let Tally { outlines, shown, longer, halted_before, beyond_limits } = self;
+        let Tally { outlines, local, shown, longer, halted_before, beyond_limits } = self;
         format!(
-            "counterexamples of {outlines} outlines: {shown} shown, {longer} longer, each with two tables; the judge halts before the end in {halted_before}, {beyond_limits} are beyond its limits"
+            "counterexamples of {outlines} outlines, {local} of them under local policies: {shown} shown, {longer} longer, each with two tables; the judge halts before the end in {halted_before}, {beyond_limits} are beyond its limits"
         )
     }
+}
+
+/// A number that tells no past is 41, after 40; nothing is written.
+fn no_past(edges: &[u8], nodes: &[u8]) -> Result<(), String> {
+    for local in [2, 256, u32::MAX] {
+        if harness::checked(edges, local, nodes) != (2, 41) {
+            return Err(format!("the past {local} is not refused"));
+        }
+        for (numbers, number) in [(TABLE_NUMBERS, 41), (TABLE_NUMBERS - 1, 40)] {
+            let (told, table) = harness::explained(edges, local, nodes, numbers, MARK);
+            if told != (2, number, 0) {
+                return Err(format!("the past {local} and a table of {numbers} numbers are answered with {told:?}"));
+            }
+            untouched(&table, 0)?;
+        }
+    }
+    Ok(())
 }
 
 /// How far the judge follows a counterexample.
@@ -83,16 +104,16 @@ enum Followed {
 }
 
 /// The steps that were written are a counterexample, and the proved judge halts at the last of them, or before for another policy.
-fn written(edges: &[Edge], nodes: &[Node], policy: usize, steps: &[Step]) -> Result<Followed, String> {
+fn written(policies: &Policies, nodes: &[Node], policy: usize, steps: &[Step]) -> Result<Followed, String> {
     let show = || steps.iter().map(|step| format!("{:?}", step.row())).collect::<Vec<_>>().join(" ");
-    if let Some(why) = fault(edges, nodes, policy, steps) {
+    if let Some(why) = fault(policies, nodes, policy, steps) {
         return Err(format!("what was written is no counterexample for policy {policy}: {why:?}: {}", show()));
     }
     if beyond_limits(steps) {
         return Ok(Followed::BeyondLimits);
     }
-    let answers = harness::judged(&harness::flat(edges).unwrap(), steps);
-    let mut judge = Judge::new(edges);
+    let answers = harness::judged(policies, steps).unwrap();
+    let mut judge = Judge::new(policies);
     let due: Vec<Answer> = steps.iter().map(|step| judge.judge(*step)).collect();
     let stop = answers.iter().position(|answer| *answer != Answer::Allowed);
     let followed = match stop.map(|stop| (answers[stop], stop + 1 == steps.len())) {

@@ -2,9 +2,9 @@
 
 use reference::judge::{Answer, Step};
 use reference::outline::Node;
-use reference::policy::Edge;
+use reference::policy::{Edge, Policies, Sight};
 use reference::state::State;
-use wiforekun::{CREATED_LENGTH, ORDER_LENGTH, SETS_LENGTH, TRACE_ROOM, UNCLOSED_LENGTH};
+use wiforekun::{Past, CREATED_LENGTH, ORDER_LENGTH, SETS_LENGTH, TRACE_ROOM, UNCLOSED_LENGTH};
 
 /// The sets of one policy: one for each instance.
 const INSTANCES: usize = SETS_LENGTH / UNCLOSED_LENGTH;
@@ -93,11 +93,12 @@ fn held(parts: &wiforekun::State) -> State {
 
 /// One step of the judge on any state: document 01's two numbers and the state returned. None where a number of the call is wider than
 /// the function's types.
-pub fn judge(edges: &[Edge], state: &State, step: Step) -> Option<((u32, usize), State)> {
+pub fn judge(edges: &[Edge], local: u64, state: &State, step: Step) -> Option<((u32, usize), State)> {
     let edges = flat(edges)?;
+    let [local] = narrowed::<u32, 1>([local])?;
     let step = narrowed::<u32, 3>(step.row())?;
     let mut parts = lent(state)?;
-    let code = parts.judge_code(&edges, step);
+    let code = parts.judge_code(&edges, local, step);
     Some(((code / 256, (code % 256) as usize), held(&parts)))
 }
 
@@ -107,22 +108,37 @@ pub fn flat_nodes(nodes: &[Node]) -> Option<Vec<u8>> {
     bytes.collect()
 }
 
+/// The answer and the detail of the check, the past told by a number.
+pub fn checked(edges: &[u8], local: u32, nodes: &[u8]) -> (u32, usize) {
+    let code = wiforekun::check_code(edges, local, nodes);
+    (code / 256, (code % 256) as usize)
+}
+
 /// The answer, the detail and the length of the check with a counterexample, lent a table of so many numbers, and what the table holds
 /// then. Each number of it was `mark` plus its place.
 #[cfg(counterexample)]
-pub fn explained(edges: &[u8], nodes: &[u8], numbers: usize, mark: u32) -> ((u32, usize, usize), Vec<u32>) {
+pub fn explained(edges: &[u8], local: u32, nodes: &[u8], numbers: usize, mark: u32) -> ((u32, usize, usize), Vec<u32>) {
     let mut trace: Vec<u32> = (0..numbers as u32).map(|place| mark + place).collect();
-    let code = wiforekun::explain_code(edges, nodes, &mut trace);
+    let code = wiforekun::explain_code(edges, local, nodes, &mut trace);
     ((code / 256 % 256, (code % 256) as usize, (code / 65536) as usize), trace)
 }
 
-/// What the proved judge answers to each of these steps, from the start on.
-pub fn judged(edges: &[u8], steps: &[Step]) -> Vec<Answer> {
+/// The past that policies of this sight see, as the functions name it.
+pub fn past(sight: Sight) -> Past {
+    match sight {
+        Sight::Whole => Past::Whole,
+        Sight::Local => Past::Local,
+    }
+}
+
+/// What the proved judge answers to each of these steps, from the start on. None where an edge is wider than a byte.
+pub fn judged(policies: &Policies, steps: &[Step]) -> Option<Vec<Answer>> {
+    let (edges, past) = (flat(&policies.edges)?, past(policies.sight));
     let mut state = wiforekun::State::START;
-    let answer = |step: &Step| match state.judge(edges, step.row().map(|value| value as u32)) {
+    let answer = |step: &Step| match state.judge(&edges, past, step.row().map(|value| value as u32)) {
         wiforekun::Answer::Allowed => Answer::Allowed,
         wiforekun::Answer::Violated(policy) => Answer::Violated(usize::from(policy)),
         wiforekun::Answer::Refused(number) => Answer::Refused(u32::from(number)),
     };
-    steps.iter().map(answer).collect()
+    Some(steps.iter().map(answer).collect())
 }

@@ -1,6 +1,6 @@
 //! compare SEED COUNT [judge]: fresh cases from the seed. Half of them are direct calls of the judge, on states that need not have been
 //! reached; the others are traces and outlines, as many of each, or with the word `judge` traces alone; and as many pairs of a trace and an
-//! outline with a malformed line. Of each outline the counterexample
+//! outline with a malformed line. Half of the sheets are local. Of each outline the counterexample
 //! is compared too, and each trace again with its dynamic numbers renamed.
 
 #[cfg(counterexample)]
@@ -138,7 +138,7 @@ fn each_call(seed: u64, most: usize) -> Result<(usize, usize), String> {
     let mut wide = 0;
     for (number, call) in states::calls(seed, most).into_iter().enumerate() {
         let (answer, state) = call.run();
-        let Some(found) = harness::judge(&call.edges, &call.state, call.step) else {
+        let Some(found) = harness::judge(&call.edges, call.local, &call.state, call.step) else {
             wide += 1;
             continue;
         };

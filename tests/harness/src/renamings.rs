@@ -3,14 +3,15 @@
 use reference::generate::traces::write;
 use reference::generate::Case;
 use reference::judge::{Answer, Judge, Step, EVENT, LARGEST_RESOURCE, OPEN};
-use reference::policy::{edges_fit, Edge, STATICS};
+use reference::policy::{edges_fit, Edge, Policies, Sight, STATICS};
 use reference::rng::Rng;
 use reference::sheet::{read_policies, read_trace};
 
-/// How many traces were renamed, of how many steps, and how often an edge or a step was damaged first.
+/// How many traces were renamed, how many of them under local policies, of how many steps, and how often an edge or a step was damaged first.
 #[derive(Default)]
 pub struct Tally {
     traces: usize,
+    local: usize,
     steps: usize,
     damaged: usize,
 }
@@ -56,33 +57,33 @@ const MISFITS: [Step; 8] = [
 impl Tally {
     /// The trace of an accepted pair of sheets and its renamed one, as sheets, and then as steps with damaged ones among them.
     pub fn compare(&mut self, rng: &mut Rng, case: &Case) -> Result<(), String> {
-        let (Ok(mut edges), Ok(mut steps)) = (read_policies(&case.policies), read_trace(&case.other)) else {
+        let (Ok(mut policies), Ok(mut steps)) = (read_policies(&case.policies), read_trace(&case.other)) else {
             return Ok(());
         };
         let renaming = Renaming::random(rng);
         let rename = |steps: &[Step]| -> Vec<Step> { steps.iter().map(|step| renaming.step(*step)).collect() };
-        let renamed = write(&edges, &rename(&steps));
+        let renamed = write(&policies, &rename(&steps));
         if harness::monitor(&case.policies, &case.other) != harness::monitor(&case.policies, &renamed.other) {
-            return Err(told("printed differently", &edges, &steps, &rename(&steps)));
+            return Err(told("printed differently", &policies, &steps, &rename(&steps)));
         }
-        self.damaged += damage(rng, &mut edges, &mut steps);
+        self.damaged += damage(rng, &mut policies.edges, &mut steps);
         let other = rename(&steps);
-        let table = harness::flat(&edges).ok_or("an edge wider than a byte")?;
-        let found = harness::judged(&table, &steps);
-        if found != harness::judged(&table, &other) {
-            return Err(told("answered differently", &edges, &steps, &other));
+        let [found, again] = [&steps, &other].map(|steps| harness::judged(&policies, steps));
+        if found != again {
+            return Err(told("answered differently", &policies, &steps, &other));
         }
-        if found != expected(&edges, &steps) || found != expected(&edges, &other) {
-            return Err(told("answered otherwise than by the reference", &edges, &steps, &other));
+        if found != Some(expected(&policies, &steps)) || found != Some(expected(&policies, &other)) {
+            return Err(told("answered otherwise than by the reference", &policies, &steps, &other));
         }
         self.traces += 1;
+        self.local += usize::from(policies.sight == Sight::Local);
         self.steps += steps.len();
         Ok(())
     }
 
     pub fn told(&self) -> String {
-        let Tally { traces, steps, damaged } = self;
-        format!("{traces} traces of {steps} steps answered the same with their dynamic numbers renamed ({damaged} of them damaged first)")
+        let Tally { traces, local, steps, damaged } = self;
+        format!("{traces} traces of {steps} steps, {local} of them under local policies, answered the same with their dynamic numbers renamed ({damaged} of them damaged first)")
     }
 }
 
@@ -105,16 +106,16 @@ fn damage(rng: &mut Rng, edges: &mut [Edge], steps: &mut Vec<Step>) -> usize {
 }
 
 /// By the reference, over the whole past.
-fn expected(edges: &[Edge], steps: &[Step]) -> Vec<Answer> {
-    if !edges_fit(edges) {
+fn expected(policies: &Policies, steps: &[Step]) -> Vec<Answer> {
+    if !edges_fit(&policies.edges) {
         return vec![Answer::Refused(41); steps.len()];
     }
-    let mut judge = Judge::new(edges);
+    let mut judge = Judge::new(policies);
     steps.iter().map(|step| judge.judge(*step)).collect()
 }
 
-fn told(what: &str, edges: &[Edge], steps: &[Step], renamed: &[Step]) -> String {
-    let text = |steps: &[Step]| String::from_utf8_lossy(&write(edges, steps).other).into_owned();
-    let policies = String::from_utf8_lossy(&write(edges, steps).policies).into_owned();
-    format!("a renamed trace is {what}\n-- policies\n{policies}-- trace\n{}-- renamed\n{}", text(steps), text(renamed))
+fn told(what: &str, policies: &Policies, steps: &[Step], renamed: &[Step]) -> String {
+    let text = |steps: &[Step]| String::from_utf8_lossy(&write(policies, steps).other).into_owned();
+    let sheet = String::from_utf8_lossy(&write(policies, steps).policies).into_owned();
+    format!("a renamed trace is {what}\n-- policies\n{sheet}-- trace\n{}-- renamed\n{}", text(steps), text(renamed))
 }
