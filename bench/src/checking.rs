@@ -9,8 +9,8 @@ use std::time::{Duration, Instant};
 use wiforekun::{check_code as proved_check, explain_code as proved_explain, COUNTEREXAMPLE_ROOM};
 
 fn verify_check(outline: &Outline) -> u32 {
-    let proved = proved_check(&outline.edges, &outline.nodes);
-    let plain = modelcheck::check(&outline.edges, &outline.nodes);
+    let proved = proved_check(&outline.edges, outline.local, &outline.nodes);
+    let plain = modelcheck::check(&outline.edges, outline.local, &outline.nodes);
     assert_eq!(proved, plain, "the check of {:?} under {:?}", outline.nodes, outline.edges);
     proved
 }
@@ -18,8 +18,8 @@ fn verify_check(outline: &Outline) -> u32 {
 /// The check with a counterexample: the same number, and the same in the lent table.
 fn verify_explain(outline: &Outline) -> u32 {
     let (mut proved, mut plain) = ([u32::MAX; COUNTEREXAMPLE_ROOM], [u32::MAX; COUNTEREXAMPLE_ROOM]);
-    let code = proved_explain(&outline.edges, &outline.nodes, &mut proved);
-    assert_eq!(code, shortest::explain(&outline.edges, &outline.nodes, &mut plain), "{:?} under {:?}", outline.nodes, outline.edges);
+    let code = proved_explain(&outline.edges, outline.local, &outline.nodes, &mut proved);
+    assert_eq!(code, shortest::explain(&outline.edges, outline.local, &outline.nodes, &mut plain), "{:?} under {:?}", outline.nodes, outline.edges);
     assert!(proved == plain, "the trace of {:?} under {:?}", outline.nodes, outline.edges);
     code
 }
@@ -35,6 +35,7 @@ pub fn verify(rng: &mut Rng) -> [usize; 3] {
     for round in 0..3000 {
         let (nodes, edges) = (rng.between(2, 40) as usize, rng.below(60) as usize);
         let mut outline = inputs::grown(rng, nodes, edges, false);
+        outline.local = [0, 1, 1, 0, 1, 0, 0, 1, 2][round % 9];
         if round % 4 == 0 {
             let at = rng.below(outline.nodes.len() as u64) as usize;
             outline.nodes[at] = rng.below(12) as u8;
@@ -50,9 +51,10 @@ pub fn verify_traces(rng: &mut Rng) -> usize {
     for (_, outlines) in refused_cases() {
         shown += outlines.iter().filter(|outline| verify_explain(outline) >= 65536).count();
     }
-    for _ in 0..300 {
+    for round in 0..400 {
         let (nodes, edges) = (rng.between(2, 40) as usize, rng.below(60) as usize);
-        shown += usize::from(verify_explain(&inputs::grown(rng, nodes, edges, false)) >= 65536);
+        let outline = Outline { local: round % 2, ..inputs::grown(rng, nodes, edges, false) };
+        shown += usize::from(verify_explain(&outline) >= 65536);
     }
     shown
 }
@@ -61,19 +63,28 @@ pub fn verify_traces(rng: &mut Rng) -> usize {
 fn refused_cases() -> Vec<(String, Vec<Outline>)> {
     let mut cases = Vec::new();
     for edges in [64, 256] {
-        for nodes in [8, 16, 32, 64] {
-            let mut rng = Rng::new(3);
-            let grown = std::iter::repeat_with(|| inputs::grown(&mut rng, nodes, edges, false));
-            let shown = |outline: &Outline| shortest::explain(&outline.edges, &outline.nodes, &mut [0; COUNTEREXAMPLE_ROOM]) >= 65536;
-            cases.push((format!("{nodes} nodes, {edges} edges"), grown.filter(shown).take(8).collect()));
-        }
+        cases.extend([8, 16, 32, 64].map(|nodes| refused(nodes, edges, 0)));
     }
+    cases.extend([16, 64].map(|nodes| refused(nodes, 256, 1)));
     for policy in [0, 7] {
         let outline = inputs::hard_refused(&mut Rng::new(4), 64, policy);
         let edges = outline.edges.len() / 6;
-        cases.push((format!("hard, policy {policy}, 64 nodes, {edges} edges"), vec![outline]));
+        cases.push((format!("hard, policy {policy}, 64 nodes, {edges} edges"), vec![outline.clone()]));
+        let local = Outline { local: 1, ..outline };
+        cases.push((format!("hard, policy {policy}, local, 64 nodes, {edges} edges"), vec![local]));
     }
     cases
+}
+
+/// The first eight random outlines that are refused and whose trace is written.
+fn refused(nodes: usize, edges: usize, local: u32) -> (String, Vec<Outline>) {
+    let mut rng = Rng::new(3);
+    let grown = std::iter::repeat_with(|| Outline { local, ..inputs::grown(&mut rng, nodes, edges, false) });
+    let shown = |outline: &Outline| {
+        shortest::explain(&outline.edges, local, &outline.nodes, &mut [0; COUNTEREXAMPLE_ROOM]) >= 65536
+    };
+    let name = format!("{}{nodes} nodes, {edges} edges", if local == 1 { "local, " } else { "" });
+    (name, grown.filter(shown).take(8).collect())
 }
 
 /// Each case once for callgrind, the proved code first.
@@ -92,11 +103,11 @@ fn measure_check(name: &str, outlines: &[Outline]) {
     for check in [proved_check, modelcheck::check] {
         measured(&mut || {
             for outline in outlines {
-                black_box(check(black_box(&outline.edges), black_box(&outline.nodes)));
+                black_box(check(black_box(&outline.edges), outline.local, black_box(&outline.nodes)));
             }
         });
     }
-    println!("{}\t{name}", outlines.len());
+    println!("{}\t2\t{name}", outlines.len());
 }
 
 /// The same with a counterexample.
@@ -105,11 +116,11 @@ fn measure_explain(name: &str, outlines: &[Outline]) {
         let mut trace = [0; COUNTEREXAMPLE_ROOM];
         measured(&mut || {
             for outline in outlines {
-                black_box(explain(black_box(&outline.edges), black_box(&outline.nodes), &mut trace));
+                black_box(explain(black_box(&outline.edges), outline.local, black_box(&outline.nodes), &mut trace));
             }
         });
     }
-    println!("{}\t{name}", outlines.len());
+    println!("{}\t2\t{name}", outlines.len());
 }
 
 /// The least time of some runs.
@@ -130,13 +141,13 @@ fn slowest(name: &str, outlines: &[Outline], work: fn(&Outline)) {
 pub fn worst() {
     for (name, outlines) in outlines::cases() {
         slowest(&name, &outlines, |outline| {
-            black_box(proved_check(black_box(&outline.edges), black_box(&outline.nodes)));
+            black_box(proved_check(black_box(&outline.edges), outline.local, black_box(&outline.nodes)));
         });
     }
     for (name, outlines) in refused_cases() {
         slowest(&format!("trace: {name}"), &outlines, |outline| {
             let mut trace = [0; COUNTEREXAMPLE_ROOM];
-            black_box(proved_explain(black_box(&outline.edges), black_box(&outline.nodes), &mut trace));
+            black_box(proved_explain(black_box(&outline.edges), outline.local, black_box(&outline.nodes), &mut trace));
         });
     }
 }

@@ -7,7 +7,7 @@ use reference::rng::Rng;
 /// About how much work the check of an outline is, or 0 where it is refused.
 fn work(outline: &Outline) -> u64 {
     modelcheck::WORK.store(0, std::sync::atomic::Ordering::Relaxed);
-    match modelcheck::check(&outline.edges, &outline.nodes) / 256 {
+    match modelcheck::check(&outline.edges, outline.local, &outline.nodes) / 256 {
         2 => 0,
         _ => modelcheck::WORK.load(std::sync::atomic::Ordering::Relaxed),
     }

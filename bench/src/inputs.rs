@@ -7,10 +7,11 @@ use reference::rng::Rng;
 
 pub type Step = [u32; 3];
 
-/// A table of edges and one of nodes.
+/// A table of edges, which past they see, and a table of nodes.
 #[derive(Clone)]
 pub struct Outline {
     pub edges: Vec<u8>,
+    pub local: u32,
     pub nodes: Vec<u8>,
 }
 
@@ -102,15 +103,15 @@ pub fn grown(rng: &mut Rng, nodes: usize, edges: usize, quiet: bool) -> Outline 
     let tree = sandbox(rng.pick(&palette.policies), body);
     let nodes = table(&number(rng, &tree));
     let edges = if quiet { quiet_edges(rng, edges, 6) } else { loud_edges(rng, edges) };
-    Outline { edges, nodes }
+    Outline { edges, local: 0, nodes }
 }
 
-/// All policies are opened, each counts its steps up to the last state that does not offend, and what is in the sandboxes is `body`.
-fn counting(rng: &mut Rng, body: Tree) -> Outline {
-    let tree = (0..8).fold(body, |tree, policy| sandbox(policy, tree));
+/// So many policies are opened, each counts its steps up to the last state that does not offend, and what is in the sandboxes is `body`.
+fn counting(rng: &mut Rng, policies: u8, body: Tree) -> Outline {
+    let tree = (0..policies).fold(body, |tree, policy| sandbox(policy.into(), tree));
     let nodes = table(&number(rng, &tree));
     let mut edges = Vec::new();
-    for policy in 0..8 {
+    for policy in 0..policies {
         for from in 0..5 {
             for on in 1..3 {
                 edges.extend([policy, from, 0, on, 0, from + 1]);
@@ -120,26 +121,31 @@ fn counting(rng: &mut Rng, body: Tree) -> Outline {
         }
         edges.extend([policy, 5, 1, 1, 0, 5, policy, 5, 1, 2, 0, 5]);
     }
-    Outline { edges, nodes }
+    Outline { edges, local: 0, nodes }
 }
 
 /// A loop around a sequence of the four fresh nodes and of events, left by a choice or begun again by a back: as many sequences as go
 /// into the nodes.
 pub fn hard(rng: &mut Rng, nodes: usize) -> Outline {
     // eight sandboxes, the loop, its choice and end, four fresh nodes, and the back
-    let rest = nodes.saturating_sub(16) / 2;
+    hard_with(rng, nodes.saturating_sub(16) / 2, 8, 4)
+}
+
+/// The same, of so many events, with so many policies opened and so many names given. An event on a name that is not given is one on a
+/// static.
+pub fn hard_with(rng: &mut Rng, events: usize, policies: u8, names: u64) -> Outline {
     let mut tree = Tree::Back(0);
-    for n in 0..rest {
+    for n in 0..events as u64 {
         let event = match n % 3 {
-            0 => Tree::Named(1, n as u64 % 4),
-            1 => Tree::Named(2, n as u64 % 4),
-            _ => Tree::Static(1, n as u64 % 16),
+            0 | 1 if n % 4 < names => Tree::Named(1 + n % 3, n % 4),
+            2 => Tree::Static(1, n % 16),
+            _ => Tree::Static(1 + n % 3, n % 4),
         };
         tree = if n % 2 == 0 { sequence(event, tree) } else { sequence(tree, event) };
     }
-    let named = (0..4).fold(tree, |tree, name| fresh(name, tree));
+    let named = (0..names).fold(tree, |tree, name| fresh(name, tree));
     let body = looped(0, choice(Tree::End, named));
-    counting(rng, body)
+    counting(rng, policies, body)
 }
 
 /// The same, but that a policy goes on from the last state that does not offend to one that does.

@@ -1,5 +1,6 @@
-//! The judge: the proved one and the plain one on the same steps.
+//! The judge: the proved one, the plain one and the one in C on the same steps.
 
+use crate::c_step;
 use crate::inputs::{self, Step};
 use crate::measured;
 use crate::monitor::{self, State};
@@ -13,18 +14,20 @@ fn parts_of(state: &State) -> Parts {
     Parts { sets, possible, created, unclosed, order, numbers: [count as u64, halted.into(), depth as u64] }
 }
 
-fn plain_judge(state: &mut State, edges: &[u8], [kind, a, b]: Step) -> u32 {
-    monitor::judge(edges, state, kind, a, b).code()
+fn plain_judge(state: &mut State, edges: &[u8], local: u32, [kind, a, b]: Step) -> u32 {
+    monitor::judge(edges, local, state, kind, a, b).code()
 }
 
-fn verify_judge(edges: &[u8], steps: &[Step]) {
+fn verify_judge(edges: &[u8], local: u32, steps: &[Step]) {
     let mut state = monitor::START;
     let mut parts = parts_of(&state);
+    let mut in_c = parts.clone();
     for step in steps {
-        let proved = parts.judge_code(edges, *step);
-        let plain = plain_judge(&mut state, edges, *step);
-        assert_eq!(proved, plain, "the judge on {step:?}");
-        assert!(parts == parts_of(&state), "the state after {step:?}");
+        let proved = parts.judge_code(edges, local, *step);
+        let plain = plain_judge(&mut state, edges, local, *step);
+        let c = c_step::judge(edges, local, &mut in_c, *step);
+        assert_eq!([plain, c], [proved; 2], "the judge on {step:?}");
+        assert!(parts == parts_of(&state) && parts == in_c, "the state after {step:?}");
     }
 }
 
@@ -33,7 +36,7 @@ pub fn verify(rng: &mut Rng) -> usize {
     let mut judged = 0;
     for case in cases() {
         let steps = [case.before.clone(), case.steps.clone()].concat();
-        verify_judge(&case.edges, &steps);
+        verify_judge(&case.edges, case.local, &steps);
         judged += steps.len();
     }
     for _ in 0..300 {
@@ -43,8 +46,11 @@ pub fn verify(rng: &mut Rng) -> usize {
             edges.push(rng.below(9) as u8);
         }
         let steps = inputs::wild_steps(rng, 100);
-        verify_judge(&edges, &steps);
-        judged += steps.len();
+        for local in [0, 1] {
+            verify_judge(&edges, local, &steps);
+            judged += steps.len();
+        }
+        verify_judge(&edges, 2, &steps[..1]);
     }
     judged
 }
@@ -54,6 +60,7 @@ pub fn verify(rng: &mut Rng) -> usize {
 struct Case {
     name: String,
     edges: Vec<u8>,
+    local: u32,
     before: Vec<Step>,
     steps: Vec<Step>,
     due: u32,
@@ -62,18 +69,45 @@ struct Case {
 impl Case {
     /// Steps that are all allowed.
     fn new(name: impl Into<String>, edges: Vec<u8>, before: Vec<Step>, steps: Vec<Step>) -> Case {
-        Case { name: name.into(), edges, before, steps, due: 0 }
+        Case { name: name.into(), edges, local: 0, before, steps, due: 0 }
+    }
+
+    /// The same under policies that see only their sandbox.
+    fn under_local(self) -> Case {
+        Case { local: 1, ..self }
     }
 
     /// The same state, and a step that is none: the tests of 41 and 42, and then 21.
     fn tests_alone(&self, name: String) -> Case {
         let steps = vec![[3, 0, 0]; self.steps.len()];
-        Case { name, edges: self.edges.clone(), before: self.before.clone(), steps, due: 512 + 21 }
+        Case { name, steps, due: 512 + 21, ..self.clone() }
     }
 }
 
 fn cases() -> Vec<Case> {
-    [step_cases(), sandbox_cases()].concat()
+    [step_cases(), sandbox_cases(), local_cases()].concat()
+}
+
+/// Policies that see only their sandbox. Of all steps one opening in two is that of a policy that is not open; of the openings alone each one
+/// is, or none.
+fn local_cases() -> Vec<Case> {
+    let mut cases = Vec::new();
+    for edges in [64, 256] {
+        let mut rng = Rng::new(1);
+        let table = inputs::quiet_edges(&mut rng, edges, 8);
+        let steps = inputs::steps(&mut rng, 500, 64, 8);
+        let name = format!("step: local, {edges} edges, 64 created");
+        cases.push(Case::new(name, table, inputs::deep_steps(4, 64), steps).under_local());
+    }
+    let edges = inputs::quiet_edges(&mut Rng::new(6), 64, 8);
+    for created in [0, 64] {
+        for depth in [1, 64] {
+            let name = format!("opening or closing: local, 64 edges, {created} created, depth {depth}");
+            let before = inputs::deep_steps(depth - 1, created);
+            cases.push(Case::new(name, edges.clone(), before, inputs::sandboxes(500)).under_local());
+        }
+    }
+    cases
 }
 
 /// Steps of all sorts.
@@ -133,27 +167,33 @@ fn sandbox_cases() -> Vec<Case> {
     cases
 }
 
-/// Each case once for callgrind, the proved code first.
+/// Each case once for callgrind: the proved code, the plain one, and that in C.
 pub fn rows(chosen: impl Fn(&str) -> bool) {
-    for Case { name, edges, before, steps, due } in cases().into_iter().filter(|case| chosen(&case.name)) {
+    for Case { name, edges, local, before, steps, due } in cases().into_iter().filter(|case| chosen(&case.name)) {
         let mut state = monitor::START;
         for step in before {
-            assert_eq!(plain_judge(&mut state, &edges, step), 0);
+            assert_eq!(plain_judge(&mut state, &edges, local, step), 0);
         }
         let mut parts = parts_of(&state);
+        let mut in_c = parts.clone();
         let mut other = 0;
         measured(&mut || {
             for step in &steps {
-                other |= black_box(parts.judge_code(black_box(&edges), *step)) ^ due;
+                other |= black_box(parts.judge_code(black_box(&edges), local, *step)) ^ due;
             }
         });
         measured(&mut || {
             for step in &steps {
-                other |= black_box(plain_judge(&mut state, black_box(&edges), *step)) ^ due;
+                other |= black_box(plain_judge(&mut state, black_box(&edges), local, *step)) ^ due;
+            }
+        });
+        measured(&mut || {
+            for step in &steps {
+                other |= black_box(c_step::judge(black_box(&edges), local, &mut in_c, *step)) ^ due;
             }
         });
         assert_eq!(other, 0, "every step of {name} is answered alike");
-        assert!(parts == parts_of(&state));
-        println!("{}\t{name}", steps.len());
+        assert!(parts == parts_of(&state) && parts == in_c);
+        println!("{}\t3\t{name}", steps.len());
     }
 }

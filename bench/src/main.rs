@@ -3,6 +3,7 @@
 //! `count`, `climb SEED TURNS` looks for a harder one.
 
 mod automaton;
+mod c_step;
 mod checking;
 #[cfg(feature = "count")]
 mod climb;

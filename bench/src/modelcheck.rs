@@ -7,9 +7,10 @@ use crate::rules::node_table_ok;
 /// own ones. Of what a node is come to in: one to a meaning, the policy closed, and eight places later open.
 pub type Table = [u16; 3072];
 
-/// The resource that is watched and the policy.
+/// The resource that is watched, the policy, and whether it sees only its sandbox.
 #[derive(Clone, Copy)]
 pub struct Watch {
+    pub local: bool,
     pub policy: usize,
     pub resource: usize,
     pub least: usize,
@@ -107,8 +108,15 @@ fn union_each(t: &Table, i: usize, v: Eight) -> Eight {
     r
 }
 
+/// The policy whose openings reset, where it is not open, and the table of ends where it is.
+#[derive(Clone, Copy)]
+struct Reset<'a> {
+    policy: usize,
+    opened: &'a Table,
+}
+
 /// What a node ends in from the eight starts with one meaning.
-fn ends_by(t: &Table, rows: &Table, x: usize, node: Node, m: usize) -> Eight {
+fn ends_by(t: &Table, rows: &Table, reset: Option<Reset>, x: usize, node: Node, m: usize) -> Eight {
     let Node { number: k, kind, a, b } = node;
     match kind {
         0 => each([1, 2, 4, 8, 16, 32, 64, 128], |v| keep(m, v)),
@@ -133,7 +141,11 @@ fn ends_by(t: &Table, rows: &Table, x: usize, node: Node, m: usize) -> Eight {
                 other
             }
         }
-        8 => entries(t, 48 * b + 8 * m),
+        8 => match reset {
+            // its body is begun in state 0, and the policy is open there
+            Some(Reset { policy, opened }) if policy == a => [opened[48 * b + 8 * m]; 8],
+            _ => entries(t, 48 * b + 8 * m),
+        },
         _ => [0; 8],
     }
 }
@@ -142,12 +154,12 @@ fn ends_by(t: &Table, rows: &Table, x: usize, node: Node, m: usize) -> Eight {
 #[cfg(feature = "count")]
 pub static WORK: std::sync::atomic::AtomicU64 = std::sync::atomic::AtomicU64::new(0);
 
-fn settle_node(t: &mut Table, rows: &Table, watch: Watch, node: Node) -> bool {
+fn settle_node(t: &mut Table, rows: &Table, reset: Option<Reset>, watch: Watch, node: Node) -> bool {
     #[cfg(feature = "count")]
     WORK.fetch_add((6 - watch.least as u64) * if matches!(node.kind, 3 | 7) { 4 } else { 1 }, std::sync::atomic::Ordering::Relaxed);
     let mut more = 0;
     for m in watch.least..6 {
-        let v = ends_by(t, rows, watch.resource, node, m);
+        let v = ends_by(t, rows, reset, watch.resource, node, m);
         for (entry, set) in t[48 * node.number + 8 * m..][..8].iter_mut().zip(v) {
             let old = *entry;
             *entry |= set;
@@ -173,13 +185,13 @@ fn readers(nodes: &[u8]) -> [u64; 64] {
 }
 
 /// A node is settled again only where the ends of a node that its rule reads have changed.
-fn settle(t: &mut Table, nodes: &[u8], rows: &Table, watch: Watch) {
+fn settle(t: &mut Table, nodes: &[u8], rows: &Table, reset: Option<Reset>, watch: Watch) {
     let readers = readers(nodes);
     let mut left = u64::MAX >> (64 - nodes.len() / 3);
     while left != 0 {
         let k = 63 - left.leading_zeros() as usize;
         left -= 1 << k;
-        if settle_node(t, rows, watch, node(nodes, k)) {
+        if settle_node(t, rows, reset, watch, node(nodes, k)) {
             left |= readers[k];
         }
     }
@@ -199,8 +211,17 @@ fn created(rows: &Table, k: usize, m: usize, v: u16) -> u16 {
     }
 }
 
-/// What a node, come to in the states v, leads to.
-fn pass_by(u: &mut Table, t: &Table, rows: &Table, p: usize, node: Node, open: bool, m: usize, v: u16) -> bool {
+/// The states after an opening that resets: state 0 alone, if there is any.
+fn restarted(reset: bool, v: u16) -> u16 {
+    if reset {
+        u16::from(v != 0)
+    } else {
+        v
+    }
+}
+
+/// What a node, come to in the states v, leads to; t is the table of ends for the policy being open or not.
+fn pass_by(u: &mut Table, t: &Table, rows: &Table, watch: Watch, node: Node, open: bool, m: usize, v: u16) -> bool {
     let Node { number: k, kind, a, b } = node;
     match kind {
         3 => {
@@ -219,28 +240,38 @@ fn pass_by(u: &mut Table, t: &Table, rows: &Table, p: usize, node: Node, open: b
             let first = join(u, place(b, open, forget(m, a)), other);
             first | join(u, place(b, open, a + 1), own)
         }
-        8 => join(u, place(b, open || a == p, m), v),
+        8 => {
+            let same = a == watch.policy;
+            join(u, place(b, open || same, m), restarted(watch.local && same && !open, v))
+        }
         _ => false,
     }
 }
 
-fn pass_node(u: &mut Table, t: &Table, rows: &Table, watch: Watch, node: Node) -> bool {
+/// The tables of ends where the policy is open and where it is not; with the whole past they are one.
+#[derive(Clone, Copy)]
+struct Ends<'a> {
+    opened: &'a Table,
+    shut: &'a Table,
+}
+
+fn pass_node(u: &mut Table, ends: Ends, rows: &Table, watch: Watch, node: Node) -> bool {
     let mut changed = false;
     for m in watch.least..6 {
-        for open in [false, true] {
+        for (open, t) in [(false, ends.shut), (true, ends.opened)] {
             let v = u[place(node.number, open, m)];
             if v != 0 {
-                changed |= pass_by(u, t, rows, watch.policy, node, open, m, v);
+                changed |= pass_by(u, t, rows, watch, node, open, m, v);
             }
         }
     }
     changed
 }
 
-fn pass_round(u: &mut Table, t: &Table, nodes: &[u8], rows: &Table, watch: Watch) -> bool {
+fn pass_round(u: &mut Table, ends: Ends, nodes: &[u8], rows: &Table, watch: Watch) -> bool {
     let mut changed = false;
     for k in 0..nodes.len() / 3 {
-        changed |= pass_node(u, t, rows, watch, node(nodes, k));
+        changed |= pass_node(u, ends, rows, watch, node(nodes, k));
     }
     changed
 }
@@ -255,7 +286,7 @@ fn leaves_by(u: &Table, rows: &Table, watch: Watch, node: Node, m: usize) -> u16
             let v = u[place(k, true, m)];
             gather(rows, 48 * k, v) | created(rows, k, m, v)
         }
-        8 if a == watch.policy => u[place(k, false, m)] | u[place(k, true, m)],
+        8 if a == watch.policy => restarted(watch.local, u[place(k, false, m)]) | u[place(k, true, m)],
         _ => 0,
     }
 }
@@ -276,13 +307,22 @@ pub fn least(resource: usize) -> usize {
     }
 }
 
-fn breaks(nodes: &[u8], rows: &Table, policy: usize, resource: usize) -> bool {
-    let watch = Watch { policy, resource, least: least(resource) };
-    let mut t = [0; 3072];
-    settle(&mut t, nodes, rows, watch);
+fn breaks(nodes: &[u8], rows: &Table, watch: Watch) -> bool {
+    // where the policy is open no opening resets, so that the whole past needs no other table
+    let mut opened = [0; 3072];
+    settle(&mut opened, nodes, rows, None, watch);
+    if !watch.local {
+        return found(nodes, rows, Ends { opened: &opened, shut: &opened }, watch);
+    }
+    let mut shut = [0; 3072];
+    settle(&mut shut, nodes, rows, Some(Reset { policy: watch.policy, opened: &opened }), watch);
+    found(nodes, rows, Ends { opened: &opened, shut: &shut }, watch)
+}
+
+fn found(nodes: &[u8], rows: &Table, ends: Ends, watch: Watch) -> bool {
     let mut u = [0; 3072];
     u[watch.least] = 1;
-    while pass_round(&mut u, &t, nodes, rows, watch) {}
+    while pass_round(&mut u, ends, nodes, rows, watch) {}
     hit_any(&u, nodes, rows, watch)
 }
 
@@ -307,22 +347,25 @@ fn touched(nodes: &[u8], x: usize) -> bool {
     x == 16 || nodes.chunks_exact(3).any(|node| node[0] == 1 && usize::from(node[2]) == x)
 }
 
-fn leaves(edges: &[u8], nodes: &[u8], p: usize) -> bool {
-    if !nodes.chunks_exact(3).any(|node| node[0] == 8 && usize::from(node[1]) == p) {
+fn leaves(edges: &[u8], local: bool, nodes: &[u8], policy: usize) -> bool {
+    if !nodes.chunks_exact(3).any(|node| node[0] == 8 && usize::from(node[1]) == policy) {
         return false;
     }
-    if !edges.chunks_exact(6).any(|edge| usize::from(edge[0]) == p) {
+    if !edges.chunks_exact(6).any(|edge| usize::from(edge[0]) == policy) {
         return false;
     }
     let mut table = [0; 3072];
-    fill_rows(&mut table, edges, nodes, p);
-    (0..17).any(|x| touched(nodes, x) && breaks(nodes, &table, p, x))
+    fill_rows(&mut table, edges, nodes, policy);
+    (0..17).any(|resource| {
+        touched(nodes, resource) && breaks(nodes, &table, Watch { local, policy, resource, least: least(resource) })
+    })
 }
 
-/// 0 where the outline is accepted, 256 + the lowest policy that some trace leaves open and not respected, or 512 + a refusal.
-pub fn check(edges: &[u8], nodes: &[u8]) -> u32 {
-    if !edge_table_ok(edges) || !node_table_ok(nodes) {
+/// 0 where the outline is accepted, 256 + the lowest policy that some trace leaves open and not respected, or 512 + a refusal. `local` is
+/// 0 where the whole past counts, and 1 where that of the sandbox does.
+pub fn check(edges: &[u8], local: u32, nodes: &[u8]) -> u32 {
+    if local > 1 || !edge_table_ok(edges) || !node_table_ok(nodes) {
         return 512 + 41;
     }
-    (0..8).find(|p| leaves(edges, nodes, *p)).map_or(0, |p| 256 + p as u32)
+    (0..8).find(|p| leaves(edges, local == 1, nodes, *p)).map_or(0, |p| 256 + p as u32)
 }

@@ -134,16 +134,26 @@ impl State {
         Answer::Allowed
     }
 
-    fn opening(&mut self, policy: u8) -> Answer {
+    fn opening(&mut self, local: bool, policy: u8) -> Answer {
         let at = usize::from(policy);
         if self.depth >= 64 {
             return Answer::Refused(32);
         }
+        let reset = local && self.unclosed[at] == 0;
+        let mut possible = self.possible;
+        if reset {
+            possible[at] = 1;
+        }
         self.unclosed[at] += 1;
-        if let Some(broken) = self.broken(&self.possible) {
+        if let Some(broken) = self.broken(&possible) {
             self.unclosed[at] -= 1;
             self.halted = true;
             return Answer::Violated(broken);
+        }
+        if reset {
+            // only now: nothing is to be put back
+            self.possible = possible;
+            self.sets[INSTANCES * at..][..17 + self.count].fill(1);
         }
         self.order[self.depth] = policy;
         self.depth += 1;
@@ -208,9 +218,9 @@ fn move_policy(sets: &mut [u8], at: usize, own: &[u8; 8], other: &[u8; 8]) -> u8
     all | moved
 }
 
-/// One step.
-pub fn judge(edges: &[u8], state: &mut State, kind: u32, a: u32, b: u32) -> Answer {
-    if !edge_table_ok(edges) {
+/// One step. `local` is 0 where the whole past counts, and 1 where that of the sandbox does.
+pub fn judge(edges: &[u8], local: u32, state: &mut State, kind: u32, a: u32, b: u32) -> Answer {
+    if local > 1 || !edge_table_ok(edges) {
         return Answer::Refused(41);
     }
     if !state.ok() {
@@ -221,7 +231,7 @@ pub fn judge(edges: &[u8], state: &mut State, kind: u32, a: u32, b: u32) -> Answ
     }
     match (kind, a, b) {
         (0, 0..=31, 0..=65535) => state.event(edges, a, b),
-        (1, 0..=7, 0) => state.opening(a as u8),
+        (1, 0..=7, 0) => state.opening(local == 1, a as u8),
         (2, 0..=7, 0) => state.closing(a as u8),
         _ => Answer::Refused(21),
     }

@@ -12,16 +12,18 @@ const MOST_DIGITS: u32 = 5;
 const EDGE_VALUES: usize = 1_536;
 const MOST_VALUES: usize = 6_000;
 
-/// What differs from sheet to sheet.
+/// What differs from sheet to sheet. A sheet begins with one of the names lines.
 struct Sheet {
-    names: &'static [u8],
+    names: &'static [&'static [u8]],
     most: usize,
     fields: usize,
     fits: fn(&[u32]) -> bool,
 }
 
-const POLICIES: Sheet = Sheet { names: b"policy from action on who to\n", most: 256, fields: 6, fits: edge_fits };
-const TRACE: Sheet = Sheet { names: b"kind a b\n", most: 2_000, fields: 3, fits: step_fits };
+const WHOLE: &[u8] = b"policy from action on who to\n";
+const LOCAL: &[u8] = b"local from action on who to\n";
+const POLICIES: Sheet = Sheet { names: &[WHOLE, LOCAL], most: 256, fields: 6, fits: edge_fits };
+const TRACE: Sheet = Sheet { names: &[b"kind a b\n"], most: 2_000, fields: 3, fits: step_fits };
 
 fn edge_fits(row: &[u32]) -> bool {
     let who = if row[3] == 0 { 15 } else { 0 };
@@ -42,10 +44,10 @@ fn read(text: &[u8], sheet: &Sheet, table: &mut [u32]) -> Result<usize, (usize, 
     if text.len() > LONGEST {
         return Err((0, 5));
     }
-    if !text.starts_with(sheet.names) {
+    let Some(names) = sheet.names.iter().find(|names| text.starts_with(names)) else {
         return Err((1, 1));
-    }
-    let mut i = sheet.names.len();
+    };
+    let mut i = names.len();
     let mut lines = 0;
     while i < text.len() {
         if lines == sheet.most {
@@ -119,8 +121,8 @@ struct Case {
 }
 
 /// A sheet of so many bytes. Its last line is filled up with spaces, and refused for its first value.
-fn filled(sheet: &Sheet, bytes: usize, mut line: impl FnMut(usize) -> String) -> Vec<u8> {
-    let mut text = sheet.names.to_vec();
+fn filled(sheet: &Sheet, names: &[u8], bytes: usize, mut line: impl FnMut(usize) -> String) -> Vec<u8> {
+    let mut text = names.to_vec();
     let rest = " 0".repeat(sheet.fields - 1);
     for number in 0..sheet.most - 1 {
         let next = line(number);
@@ -136,19 +138,22 @@ fn filled(sheet: &Sheet, bytes: usize, mut line: impl FnMut(usize) -> String) ->
 
 fn cases() -> Vec<Case> {
     let mut rng = Rng::new(6);
-    let none = POLICIES.names.to_vec();
+    let none = WHOLE.to_vec();
+    let steps_names = TRACE.names[0];
     let short = |number: usize| format!("0 {} {}\n", number % 8, number % 80);
-    let steps = filled(&TRACE, 16_000, short);
-    let wide = filled(&TRACE, LONGEST, |_| format!("{:05} {:05} {:05}\n", 0, rng.below(32), rng.below(65_536)));
-    let spaced = filled(&TRACE, LONGEST, |_| format!("0{}1{}3\n", " ".repeat(20), " ".repeat(20)));
+    let steps = filled(&TRACE, steps_names, 16_000, short);
+    let wide = filled(&TRACE, steps_names, LONGEST, |_| format!("{:05} {:05} {:05}\n", 0, rng.below(32), rng.below(65_536)));
+    let spaced = filled(&TRACE, steps_names, LONGEST, |_| format!("0{}1{}3\n", " ".repeat(20), " ".repeat(20)));
     let edge = |number: usize| format!("{} {} {} 1 0 {}\n", number % 8, number % 6, number % 32, number % 8);
-    let edges = filled(&POLICIES, 3_500, edge);
-    let garbled = [TRACE.names, &vec![b'x'; LONGEST - TRACE.names.len() - 1], b"\n"].concat();
+    let edges = filled(&POLICIES, WHOLE, 3_500, edge);
+    let local = filled(&POLICIES, LOCAL, 3_499, edge);
+    let garbled = [steps_names, &vec![b'x'; LONGEST - steps_names.len() - 1], b"\n"].concat();
     vec![
         Case { name: "read: a trace of 16000 bytes, short values", policies: none.clone(), trace: steps },
         Case { name: "read: a trace of 32768 bytes, wide values", policies: none.clone(), trace: wide },
         Case { name: "read: a trace of 32768 bytes, many spaces", policies: none.clone(), trace: spaced },
         Case { name: "read: policies of 3500 bytes", policies: edges, trace: vec![] },
+        Case { name: "read: local policies of 3499 bytes", policies: local, trace: vec![] },
         Case { name: "read: one malformed line of 32758 bytes", policies: none, trace: garbled },
     ]
 }
@@ -185,6 +190,6 @@ pub fn rows(chosen: impl Fn(&str) -> bool) {
         measured(&mut || {
             black_box(plain(black_box(&policies), black_box(&trace), &mut out));
         });
-        println!("1\t{name}");
+        println!("1\t2\t{name}");
     }
 }

@@ -45,8 +45,11 @@ impl Start {
         Start { node, meaning, state: c % 8, ..self }
     }
 
-    fn inner(self, policy: bool, node: usize) -> Start {
-        Start { node, open: self.open || policy, ..self }
+    /// The body of a sandbox of a policy. Where it is the watched one, which was not open, its opening resets if it sees only its sandbox.
+    fn inner(self, watch: Watch, policy: usize, node: usize) -> Start {
+        let same = policy == watch.policy;
+        let reset = watch.local && same && !self.open;
+        Start { node, open: self.open || same, state: if reset { 0 } else { self.state }, ..self }
     }
 
     /// Where the ends begin that it can come to.
@@ -123,9 +126,9 @@ fn offer(t: &Lengths, rows: &Table, watch: Watch, most: u8, node: Node, start: S
         7 if born(rows, start, c >= 8) >> (c % 8) & 1 == 1 => plus(1, get(t, most, start.body(a, b, c), aim)),
         8 if c == 0 => {
             let around = if aim == BROKEN { 1 } else { 2 };
-            plus(around, get(t, most, start.inner(a == watch.policy, b), aim))
+            plus(around, get(t, most, start.inner(watch, a, b), aim))
         }
-        8 => one_if(aim == BROKEN && a == watch.policy && start.state >= 6),
+        8 => one_if(aim == BROKEN && a == watch.policy && start.inner(watch, a, b).state >= 6),
         _ => NONE,
     }
 }
@@ -273,7 +276,7 @@ impl Writer<'_> {
             }
             8 => {
                 self.step([1, a as u32, 0]);
-                let inner = start.inner(a == self.watch.policy, b);
+                let inner = start.inner(self.watch, a, b);
                 if c == 0 && aim == BROKEN {
                     self.write(inner, aim, n - 1, names);
                 } else if c == 0 {
@@ -296,11 +299,11 @@ fn root(watch: Watch) -> Start {
 }
 
 /// A shortest trace that leaves the policy open and not respected; how many steps are written, or 0.
-fn write_shortest(edges: &[u8], nodes: &[u8], policy: usize, trace: &mut [u32]) -> u32 {
+fn write_shortest(edges: &[u8], local: bool, nodes: &[u8], policy: usize, trace: &mut [u32]) -> u32 {
     let mut rows = [0; 3072];
     fill_rows(&mut rows, edges, nodes, policy);
     let watched = |resource: &usize| *resource == WATCHED || names_static(nodes, *resource);
-    let watches = (0..=WATCHED).filter(watched).map(|resource| Watch { policy, resource, least: least(resource) });
+    let watches = (0..=WATCHED).filter(watched).map(|resource| Watch { local, policy, resource, least: least(resource) });
     let (mut shortest, mut length) = (None, NONE);
     for watch in watches {
         let v = get(&fill(nodes, &rows, watch), MOST + 1, root(watch), BROKEN);
@@ -315,13 +318,13 @@ fn write_shortest(edges: &[u8], nodes: &[u8], policy: usize, trace: &mut [u32]) 
 }
 
 /// As `check`, and 65536 times the number of steps that were written.
-pub fn explain(edges: &[u8], nodes: &[u8], trace: &mut [u32]) -> u32 {
+pub fn explain(edges: &[u8], local: u32, nodes: &[u8], trace: &mut [u32]) -> u32 {
     if trace.len() < ROOM {
         return 512 + 40;
     }
-    let code = check(edges, nodes);
+    let code = check(edges, local, nodes);
     match code / 256 {
-        1 => code + 65536 * write_shortest(edges, nodes, code as usize % 256, trace),
+        1 => code + 65536 * write_shortest(edges, local == 1, nodes, code as usize % 256, trace),
         _ => code,
     }
 }
