@@ -1,8 +1,9 @@
 //! Looks for outlines whose check is much work.
 
 use crate::inputs::{self, Outline};
-use crate::modelcheck;
+use crate::{modelcheck, outlines};
 use reference::rng::Rng;
+use std::time::{Duration, Instant};
 
 /// About how much work the check of an outline is, or 0 where it is refused.
 fn work(outline: &Outline) -> u64 {
@@ -13,25 +14,46 @@ fn work(outline: &Outline) -> u64 {
     }
 }
 
-/// Changes an outline and keeps what is more work, over and over.
-pub fn climb(seed: u64, turns: usize) {
+/// Changes an outline and keeps what is more work, over and over: so many turns, or until the time is over. At first what is a little less
+/// work is kept too, so that a way from one height to a greater one is found. The same seed and turns give the same outline, if the time is
+/// enough.
+pub fn climb(seed: u64, turns: u64, time: Duration, local: u32) {
+    let end = Instant::now() + time;
     let mut rng = Rng::new(seed);
-    let mut best = if seed % 2 == 0 { inputs::hard(&mut rng, 64) } else { inputs::grown(&mut rng, 64, 256, true) };
-    let mut most = work(&best);
-    for _ in 0..turns {
-        let mut next = best.clone();
+    let mut at = Outline { local, ..first(&mut rng, seed, local) };
+    let (mut height, mut turn) = (work(&at), 0);
+    let (mut best, mut most) = (at.clone(), height);
+    while turn < turns && Instant::now() < end {
+        let mut next = at.clone();
         for _ in 0..rng.between(1, 4) {
             change(&mut rng, &mut next);
         }
         let found = work(&next);
-        if found >= most {
-            most = found;
-            best = next;
+        // from a twentieth down to nothing at the half of the turns
+        let less = height / 20 * turns.saturating_sub(2 * turn) / turns;
+        if found > 0 && found + rng.below(less + 1) >= height {
+            (at, height) = (next, found);
+        }
+        if height > most {
+            (best, most) = (at.clone(), height);
+        }
+        turn += 1;
+        if turn == turns / 2 {
+            (at, height) = (best.clone(), most);
         }
     }
-    eprintln!("work {most}, {} edges", best.edges.len() / 6);
+    eprintln!("work {most} after {turn} turns, {} edges", best.edges.len() / 6);
     for table in [&best.nodes, &best.edges] {
         println!("{}", table.iter().map(u8::to_string).collect::<Vec<_>>().join(" "));
+    }
+}
+
+/// Where a climb begins: the dearest known, the hard one, or a random one.
+fn first(rng: &mut Rng, seed: u64, local: u32) -> Outline {
+    match seed % 3 {
+        0 => outlines::dearest(local),
+        1 => inputs::hard(rng, 64),
+        _ => inputs::grown(rng, 64, 256, true),
     }
 }
 
@@ -63,10 +85,10 @@ fn change(rng: &mut Rng, outline: &mut Outline) {
             node.copy_from_slice(&new);
         }
         3 => {
-            // two subtrees change places
+            // two subtrees change places; a table that is then no tree is refused
             let j = 3 * rng.below(outline.nodes.len() as u64 / 3) as usize;
-            if outline.nodes[k] == 3 && outline.nodes[j] == 3 {
-                outline.nodes.swap(k + 1, j + 2);
+            if let (Some(first), Some(second)) = (child(rng, outline.nodes[k]), child(rng, outline.nodes[j])) {
+                outline.nodes.swap(k + first, j + second);
             }
         }
         _ if outline.edges.is_empty() => {}
@@ -82,5 +104,15 @@ fn change(rng: &mut Rng, outline: &mut Outline) {
             outline.edges[i + 4] = 0;
         }
         _ => outline.edges[i + 5] = rng.below(8) as u8,
+    }
+}
+
+/// The field of a node that has a child of it.
+fn child(rng: &mut Rng, kind: u8) -> Option<usize> {
+    match kind {
+        3 | 4 => Some(rng.between(1, 2) as usize),
+        5 => Some(1),
+        7 | 8 => Some(2),
+        _ => None,
     }
 }

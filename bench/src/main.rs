@@ -1,6 +1,6 @@
 //! `verify`: the proved code and the plain program answer the same. `rows`: runs each case once in `measured`, for callgrind, and
 //! prints a line for each; `rows NAME` only those whose names begin so. `worst`: milliseconds of the hardest outlines. With the feature
-//! `count`, `climb SEED TURNS` looks for a harder one.
+//! `count`, `climb SEED TURNS SECONDS [local]` looks for a harder one.
 
 mod automaton;
 mod c_step;
@@ -51,6 +51,12 @@ fn rows(only: &str) {
     reading::rows(chosen);
 }
 
+#[cfg(feature = "count")]
+fn climbed(seed: &str, turns: &str, seconds: &str, local: u32) {
+    let seconds = std::time::Duration::from_secs(seconds.parse().unwrap());
+    climb::climb(seed.parse().unwrap(), turns.parse().unwrap(), seconds, local);
+}
+
 fn main() {
     let words: Vec<String> = std::env::args().skip(1).collect();
     match words.iter().map(String::as_str).collect::<Vec<_>>()[..] {
@@ -59,9 +65,11 @@ fn main() {
         ["rows", only] => rows(only),
         ["worst"] => checking::worst(),
         #[cfg(feature = "count")]
-        ["climb", seed, turns] => climb::climb(seed.parse().unwrap(), turns.parse().unwrap()),
+        ["climb", seed, turns, seconds] => climbed(seed, turns, seconds, 0),
+        #[cfg(feature = "count")]
+        ["climb", seed, turns, seconds, "local"] => climbed(seed, turns, seconds, 1),
         _ => {
-            eprintln!("usage: bench verify | rows [NAME] | worst | climb SEED TURNS");
+            eprintln!("usage: bench verify | rows [NAME] | worst | climb SEED TURNS SECONDS [local]");
             std::process::exit(2);
         }
     }

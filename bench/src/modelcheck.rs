@@ -150,13 +150,29 @@ fn ends_by(t: &Table, rows: &Table, reset: Option<Reset>, x: usize, node: Node, 
     }
 }
 
-/// About how much work was done, for `climb`.
+/// About how many instructions were done, in tens, for `climb`.
 #[cfg(feature = "count")]
 pub static WORK: std::sync::atomic::AtomicU64 = std::sync::atomic::AtomicU64::new(0);
 
+#[cfg(feature = "count")]
+fn count(work: u64) {
+    WORK.fetch_add(work, std::sync::atomic::Ordering::Relaxed);
+}
+
+#[cfg(not(feature = "count"))]
+fn count(_: u64) {}
+
+/// By kind: sequences and fresh nodes take a union for each state of each start.
+fn settle_work(kind: u8) -> u64 {
+    match kind {
+        3 => 17,
+        7 => 15,
+        _ => 3,
+    }
+}
+
 fn settle_node(t: &mut Table, rows: &Table, reset: Option<Reset>, watch: Watch, node: Node) -> bool {
-    #[cfg(feature = "count")]
-    WORK.fetch_add((6 - watch.least as u64) * if matches!(node.kind, 3 | 7) { 4 } else { 1 }, std::sync::atomic::Ordering::Relaxed);
+    count((6 - watch.least as u64) * settle_work(node.kind));
     let mut more = 0;
     for m in watch.least..6 {
         let v = ends_by(t, rows, reset, watch.resource, node, m);
@@ -260,7 +276,9 @@ fn pass_node(u: &mut Table, ends: Ends, rows: &Table, watch: Watch, node: Node) 
     for m in watch.least..6 {
         for (open, t) in [(false, ends.shut), (true, ends.opened)] {
             let v = u[place(node.number, open, m)];
+            count(1);
             if v != 0 {
+                count(if matches!(node.kind, 3 | 7) { 7 } else { 2 });
                 changed |= pass_by(u, t, rows, watch, node, open, m, v);
             }
         }

@@ -6,65 +6,63 @@ use reference::rng::Rng;
 
 type Case = (String, Vec<Outline>);
 
-/// By name: under policies that see the whole past, and the larger ones again under such that see only their sandbox.
+/// By name: under policies that see the whole past, and the larger ones again under such that see only their sandbox; then how the work
+/// grows.
 pub fn cases() -> Vec<Case> {
     let mut cases = Vec::new();
     for edges in [64, 256] {
         cases.extend([8, 16, 32, 64].map(|nodes| typical(nodes, edges, 0)));
     }
     cases.push(offending(0));
-    cases.extend([16, 32, 64].map(|nodes| one("hard", hard(&mut Rng::new(4), nodes))));
-    cases.extend(found());
+    cases.extend(single(0));
     cases.extend([8, 16, 32, 64].map(|nodes| typical(nodes, 256, 1)));
     cases.push(offending(1));
-    let local = |(how, outline): (&str, Outline)| one(how, Outline { local: 1, ..outline });
-    cases.extend([16, 32, 64].map(|nodes| local(("hard", hard(&mut Rng::new(4), nodes)))));
-    let dearest = found().into_iter().map(|(name, outlines)| {
-        let how = name.split(':').next().unwrap().to_string();
-        one(&how, Outline { local: 1, ..outlines[0].clone() })
-    });
-    cases.extend(dearest);
-    cases.extend(found_local());
+    cases.extend(single(1));
     cases.extend(growth());
     cases
 }
 
-/// The words of a row: how many nodes and edges, and which past.
-fn sizes(outline: &Outline) -> String {
-    let local = if outline.local == 1 { "local, " } else { "" };
-    format!("{local}{} nodes, {} edges", outline.nodes.len() / 3, outline.edges.len() / 6)
-}
-
-fn one(how: &str, outline: Outline) -> Case {
-    (format!("{how}: {}", sizes(&outline)), vec![outline])
+/// The words of a row: which past, and how many nodes and edges.
+fn sizes(local: u32, nodes: usize, edges: usize) -> String {
+    format!("{}{nodes} nodes, {edges} edges", if local == 1 { "local, " } else { "" })
 }
 
 fn typical(nodes: usize, edges: usize, local: u32) -> Case {
     let mut rng = Rng::new(3);
-    let outlines: Vec<Outline> = (0..8).map(|_| Outline { local, ..grown(&mut rng, nodes, edges, true) }).collect();
-    (format!("typical: {}{nodes} nodes, {edges} edges", if local == 1 { "local, " } else { "" }), outlines)
+    let outlines = (0..8).map(|_| Outline { local, ..grown(&mut rng, nodes, edges, true) });
+    (format!("typical: {}", sizes(local, nodes, edges)), outlines.collect())
 }
 
 fn offending(local: u32) -> Case {
     let mut rng = Rng::new(6);
-    let outlines: Vec<Outline> =
-        (0..8).map(|_| led_to_offending(Outline { local, ..grown(&mut rng, 64, 256, true) })).collect();
-    (format!("typical: {}64 nodes, 256 edges, some to 6 and 7", if local == 1 { "local, " } else { "" }), outlines)
+    let outlines = (0..8).map(|_| led_to_offending(Outline { local, ..grown(&mut rng, 64, 256, true) }));
+    (format!("typical: {}, some to 6 and 7", sizes(local, 64, 256)), outlines.collect())
 }
 
-/// The dearest that were found, with the whole past.
-fn found() -> Vec<Case> {
-    let texts = [
-        ("found first", include_str!("../outlines/first.txt")),
-        ("found with rounds", include_str!("../outlines/rounds.txt")),
-        ("found node by node", include_str!("../outlines/nodes.txt")),
-    ];
-    texts.map(|(how, text)| one(how, read(text, 0))).to_vec()
+/// Hard ones, and the dearest that were found.
+fn single(local: u32) -> Vec<Case> {
+    let mut outlines: Vec<(&str, Outline)> = [16, 32, 64].map(|nodes| ("hard", hard(&mut Rng::new(4), nodes))).to_vec();
+    outlines.extend([
+        ("found first", read(include_str!("../outlines/first.txt"))),
+        ("found with rounds", read(include_str!("../outlines/rounds.txt"))),
+        ("found node by node", read(include_str!("../outlines/nodes.txt"))),
+        ("found by counted work", dearest(0)),
+        ("found under local", dearest(1)),
+    ]);
+    let case = |(how, outline): (&str, Outline)| {
+        let words = sizes(local, outline.nodes.len() / 3, outline.edges.len() / 6);
+        (format!("{how}: {words}"), vec![Outline { local, ..outline }])
+    };
+    outlines.into_iter().map(case).collect()
 }
 
-/// The dearest that was found with that of the sandbox.
-fn found_local() -> Vec<Case> {
-    vec![]
+/// The dearest that is known, with the whole past and with that of the sandbox.
+pub fn dearest(local: u32) -> Outline {
+    let text = match local {
+        0 => include_str!("../outlines/counted.txt"),
+        _ => include_str!("../outlines/local.txt"),
+    };
+    Outline { local, ..read(text) }
 }
 
 /// The same events in ever more sandboxes, and on ever more names.
@@ -92,9 +90,9 @@ fn led_to_offending(mut outline: Outline) -> Outline {
 }
 
 /// What `climb` printed: the nodes in a line, and the edges in a line.
-fn read(text: &str, local: u32) -> Outline {
+fn read(text: &str) -> Outline {
     let mut lines = text.lines();
     let mut table = || lines.next().unwrap_or("").split_whitespace().map(|n| n.parse().unwrap()).collect();
     let nodes = table();
-    Outline { nodes, local, edges: table() }
+    Outline { nodes, local: 0, edges: table() }
 }
