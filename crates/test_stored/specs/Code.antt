@@ -57,3 +57,10 @@ halting p = partsOf (p .sets) (p .possible) (p .created) (p .unclosed) (p .order
 -- the same arrays, but that policy 1 may be in state 6
 abbrev pub breaking : Parts → Parts
 breaking p = partsOf (p .sets) (set (p .possible) 1 64) (p .created) (p .unclosed) (p .order) (p .numbers)
+
+-- a state like the start, but that policy 1 is open, and for what policies 0 and 1 may be in; of policy 0 the set of resource 0 and that of a
+-- place that is not in use are m
+abbrev pub sandboxing : ℕ → ℕ → ℕ → Parts
+sandboxing zeros ones m =
+    partsOf (set (set (replicate setPlaces 1) 0 m) 17 m) (set (set (replicate policies 1) 0 zeros) 1 ones) (replicate mostCreated 0)
+    (set (replicate policies 0) 1 1) (replicate mostUnclosed 1) (0 ∷ 0 ∷ 1 ∷ [])

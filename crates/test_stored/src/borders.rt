@@ -3,6 +3,7 @@
 ghost use mathlib.Core.Path.{_≡_};
 ghost use Rattle.test_stored.specs.Code.{readingCode, policiesCode};
 use crate::judge_calls;
+use crate::local_calls;
 use crate::order_calls;
 use crate::print;
 use crate::trace_calls;
@@ -31,7 +32,7 @@ fn code_of(r: Reading) -> u32
 }
 
 // The same of the reader of policies; the detail of an accepted sheet is 1 where it is local.
-fn policies_code(r: PolicyReading) -> u32
+pub(crate) fn policies_code(r: PolicyReading) -> u32
     ensures { λ c. ⌜ c ≡ policiesCode r ⌝ }
 {
     match r {
@@ -60,18 +61,18 @@ fn table_calls() -> u64
     print::line(30, code_of(sheet_reader::read_outline(b"", &mut few_nodes)));
     print::line(
         31,
-        api_c::check_tables(&[0u8; EDGE_FIELDS], &[0u8; NODE_FIELDS]),
+        api_c::check_tables(&[0u8; EDGE_FIELDS], 0, &[0u8; NODE_FIELDS]),
     );
-    print::line(32, api_c::check_tables(&[0u8; 5], &[0u8; NODE_FIELDS]));
+    print::line(32, api_c::check_tables(&[0u8; 5], 0, &[0u8; NODE_FIELDS]));
     print::line(
         33,
-        api_c::check_tables(&[0u8; EDGE_FIELDS], &[9u8; NODE_FIELDS]),
+        api_c::check_tables(&[0u8; EDGE_FIELDS], 0, &[9u8; NODE_FIELDS]),
     );
     34
 }
 
 pub(crate) fn calls() -> u64
-    ensures { λ r. ⌜ r ≡ 83 ⌝ }
+    ensures { λ r. ⌜ r ≡ 108 ⌝ }
 {
     judge_calls::step_calls();
     judge_calls::flag_calls();
@@ -79,5 +80,6 @@ pub(crate) fn calls() -> u64
     trace_calls::trace_calls();
     trace_calls::long_calls();
     judge_calls::kept_calls();
-    order_calls::order_calls()
+    order_calls::order_calls();
+    local_calls::local_calls()
 }

@@ -54,7 +54,14 @@ fn is_judged(kind: u32, a: u32, alone: bool, p: u32) -> bool
 }
 
 // The judge along the first steps of a trace. Where policy p is to be judged alone, openings and closings of others are passed over.
-fn follow(edges: &[u8], trace: &[u32; MOST_NUMBERS], steps: usize, alone: bool, p: u32) -> Stop
+fn follow(
+    edges: &[u8],
+    local: u32,
+    trace: &[u32; MOST_NUMBERS],
+    steps: usize,
+    alone: bool,
+    p: u32,
+) -> Stop
     requires { ⌜ steps ≤ mostShown ⌝ }
     ensures { λ r. ⌜ r .past ≤ steps ⌝ }
 {
@@ -72,6 +79,7 @@ fn follow(edges: &[u8], trace: &[u32; MOST_NUMBERS], steps: usize, alone: bool, 
         if is_judged(kind, a, alone, p) {
             let code = api_c::judge_parts(
                 edges,
+                local,
                 &mut sets,
                 &mut possible,
                 &mut created,
@@ -121,32 +129,32 @@ fn stops_rightly(s: Stop, steps: u64, p: u32) -> u64
 }
 
 // The line of what the judge makes of a trace; its length is handed back.
-fn judged(edges: &[u8], trace: &[u32; MOST_NUMBERS], steps: usize, p: u32) -> usize
+fn judged(edges: &[u8], local: u32, trace: &[u32; MOST_NUMBERS], steps: usize, p: u32) -> usize
     requires { ⌜ steps ≤ mostShown ⌝ }
     ensures { λ r. ⌜ r ≡ steps ⌝ }
 {
-    let own = follow(edges, trace, steps, true, p);
+    let own = follow(edges, local, trace, steps, true, p);
     print::number(own.past, b" ");
     print::number(own.code as u64 / 256, b" ");
     print::number(own.code as u64 % 256, b" ");
-    let all = follow(edges, trace, steps, false, p);
+    let all = follow(edges, local, trace, steps, false, p);
     print::number(stops_rightly(all, steps as u64, p), b"\n");
     steps
 }
 
 // The lines of an outline.
-fn explained(n: u64, edges: &[u8], nodes: &[u8]) -> u64
+fn explained(n: u64, edges: &[u8], local: u32, nodes: &[u8]) -> u64
     ensures { λ r. ⌜ r ≡ n ⌝ }
 {
     let mut trace = [0u32; MOST_NUMBERS];
-    let code = api_c::check_counterexample(edges, nodes, &mut trace);
+    let code = api_c::check_counterexample(edges, local, nodes, &mut trace);
     let steps = (code / 65536) as usize;
     print::number(code as u64 / 256 % 256, b" ");
     print::number(code as u64 % 256, b" ");
     print::number(steps as u64, b"\n");
     if 0 < steps {
         if steps <= MOST_SHOWN {
-            judged(edges, &trace, steps, code % 256);
+            judged(edges, local, &trace, steps, code % 256);
         }
     }
     n
@@ -162,13 +170,13 @@ fn refused(n: u64, sheet: u64, number: u8) -> u64
 }
 
 // The lines of a sheet of an outline under these edges.
-fn outline(n: u64, edges: &[u8], text: &[u8]) -> u64
+fn outline(n: u64, edges: &[u8], local: u32, text: &[u8]) -> u64
     ensures { λ r. ⌜ r ≡ n ⌝ }
 {
     let mut nodes = [0u8; NODE_TABLE];
     let reading = sheet_reader::read_outline(text, &mut nodes);
     match reading {
-        Reading::Stored(k) => explained(n, edges, &nodes[0..k * NODE_FIELDS]),
+        Reading::Stored(k) => explained(n, edges, local, &nodes[0..k * NODE_FIELDS]),
         Reading::Refused { line: _, number } => refused(n, OUTLINE_REFUSED, number),
     }
 }
@@ -180,9 +188,10 @@ fn sheets(n: u64, policies: &[u8], text: &[u8]) -> u64
     let mut edges = [0u8; EDGE_TABLE];
     let reading = sheet_reader::read_policies(policies, &mut edges);
     match reading {
-        PolicyReading::Stored { edges: k, local: _ } => outline(
+        PolicyReading::Stored { edges: k, local } => outline(
             n,
             &edges[0..k * EDGE_FIELDS],
+            if local { 1 } else { 0 },
             text,
         ),
         PolicyReading::Refused { line: _, number } => refused(n, POLICIES_REFUSED, number),

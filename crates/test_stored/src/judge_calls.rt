@@ -33,13 +33,13 @@ fn show_left(call: u64, left: Left) -> u32
 // A step from a state like the start, but for the count, the flag and the first two created numbers. The one edge leads to `to`.
 fn judged(to: u8, count: u64, flag: u64, first: u32, second: u32, kind: u32, a: u32, b: u32) -> Left
     ensures { λ r.
-        ⌜ r .code ≡ codeOf (judgeParts (edgeTo to) (bordering count flag first second) (record { kind = kind; a = a; b = b }) .verdict) ⌝ }
+        ⌜ r .code ≡ codeOf (judgeParts (edgeTo to) 0 (bordering count flag first second) (record { kind = kind; a = a; b = b }) .verdict) ⌝ }
     ensures { λ r.
         ⌜ r .count
-        ≡ getD (judgeParts (edgeTo to) (bordering count flag first second) (record { kind = kind; a = a; b = b }) .parts .numbers) 0 0 ⌝ }
+        ≡ getD (judgeParts (edgeTo to) 0 (bordering count flag first second) (record { kind = kind; a = a; b = b }) .parts .numbers) 0 0 ⌝ }
     ensures { λ r.
         ⌜ r .flag
-        ≡ getD (judgeParts (edgeTo to) (bordering count flag first second) (record { kind = kind; a = a; b = b }) .parts .numbers) 1 0 ⌝ }
+        ≡ getD (judgeParts (edgeTo to) 0 (bordering count flag first second) (record { kind = kind; a = a; b = b }) .parts .numbers) 1 0 ⌝ }
 {
     let mut edges = [0u8; EDGE_FIELDS];
     edges[5] = to;
@@ -53,6 +53,7 @@ fn judged(to: u8, count: u64, flag: u64, first: u32, second: u32, kind: u32, a: 
     let mut numbers = [count, flag, 0];
     let code = api_c::judge_parts(
         &edges,
+        0,
         &mut sets,
         &mut possible,
         &mut created,
@@ -75,7 +76,7 @@ fn judged(to: u8, count: u64, flag: u64, first: u32, second: u32, kind: u32, a: 
 // A step from a state that was never reached: like the start, but that policy 0 has two openings that are not closed, may be in the states
 // `kept`, and its instance of resource 0 in the states `set`. The edge matches no event that is taken.
 fn judged_kept(kept: u8, set: u8, kind: u32, a: u32, b: u32) -> u32
-    ensures { λ r. ⌜ r ≡ codeOf (judgeParts (edgeTo 7) (disagreeing kept set) (record { kind = kind; a = a; b = b }) .verdict) ⌝ }
+    ensures { λ r. ⌜ r ≡ codeOf (judgeParts (edgeTo 7) 0 (disagreeing kept set) (record { kind = kind; a = a; b = b }) .verdict) ⌝ }
 {
     let mut edges = [0u8; EDGE_FIELDS];
     edges[5] = 7;
@@ -90,6 +91,7 @@ fn judged_kept(kept: u8, set: u8, kind: u32, a: u32, b: u32) -> u32
     let mut numbers = [0u64, 0, 2];
     api_c::judge_parts(
         &edges,
+        0,
         &mut sets,
         &mut possible,
         &mut created,

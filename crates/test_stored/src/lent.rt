@@ -103,9 +103,9 @@ struct Left {
     pub changed: u64,
 }
 
-// A step. The one edge matches no event that is taken.
-fn judged(s: Lent, kind: u32, a: u32, b: u32) -> Left
-    ensures { λ r. ⌜ r .code ≡ codeOf (judgeParts (edgeTo 7) (lentParts s) (record { kind = kind; a = a; b = b }) .verdict) ⌝ }
+// A step, under the past that `local` tells. The one edge matches no event that is taken.
+fn judged(local: u32, s: Lent, kind: u32, a: u32, b: u32) -> Left
+    ensures { λ r. ⌜ r .code ≡ codeOf (judgeParts (edgeTo 7) local (lentParts s) (record { kind = kind; a = a; b = b }) .verdict) ⌝ }
 {
     let mut edges = [0u8; EDGE_FIELDS];
     edges[5] = 7;
@@ -117,6 +117,7 @@ fn judged(s: Lent, kind: u32, a: u32, b: u32) -> Left
     let mut numbers = s.numbers;
     let code = api_c::judge_parts(
         &edges,
+        local,
         &mut sets,
         &mut possible,
         &mut created,
@@ -142,10 +143,10 @@ fn judged(s: Lent, kind: u32, a: u32, b: u32) -> Left
 }
 
 // The line of such a call: its number, the answer and its detail, and how many places are changed.
-pub(crate) fn show(call: u64, s: Lent, kind: u32, a: u32, b: u32) -> u64
+pub(crate) fn show(call: u64, local: u32, s: Lent, kind: u32, a: u32, b: u32) -> u64
     ensures { λ r. ⌜ r ≡ call ⌝ }
 {
-    let left = judged(s, kind, a, b);
+    let left = judged(local, s, kind, a, b);
     print::told(call, left.code, b" ");
     print::number(left.changed, b"\n");
     call

@@ -4,14 +4,15 @@ mod borders;
 mod counterexamples;
 mod judge_calls;
 mod lent;
+mod local_calls;
 mod order_calls;
 mod print;
 mod stored;
 mod trace_calls;
 
 fn main() {
-    stored::traces(900);
-    stored::outlines(1027);
-    counterexamples::all(260);
+    stored::traces(950);
+    stored::outlines(1000);
+    counterexamples::all(320);
     borders::calls();
 }

@@ -35,14 +35,14 @@ fn in_order(first: u8, rest: u8, depth: u64, of_1: u8, of_6: u8) -> Lent
 fn opening_calls() -> u64
     ensures { λ r. ⌜ r ≡ 60 ⌝ }
 {
-    lent::show(52, in_order(1, 6, 63, 1, 62), 1, 1, 0);
-    lent::show(53, in_order(1, 6, 63, 1, 62), 1, 6, 0);
-    lent::show(54, in_order(1, 6, 64, 1, 63), 1, 1, 0);
-    lent::show(55, in_order(1, 6, 64, 1, 63), 1, 2, 0);
-    lent::show(56, in_order(1, 6, 64, 1, 63), 2, 6, 0);
-    lent::show(57, in_order(1, 6, 64, 1, 63), 2, 1, 0);
-    lent::show(58, in_order(1, 6, 64, 1, 63), 2, 2, 0);
-    lent::show(59, in_order(1, 6, 64, 1, 63), 0, 1, 0);
+    lent::show(52, 0, in_order(1, 6, 63, 1, 62), 1, 1, 0);
+    lent::show(53, 0, in_order(1, 6, 63, 1, 62), 1, 6, 0);
+    lent::show(54, 0, in_order(1, 6, 64, 1, 63), 1, 1, 0);
+    lent::show(55, 0, in_order(1, 6, 64, 1, 63), 1, 2, 0);
+    lent::show(56, 0, in_order(1, 6, 64, 1, 63), 2, 6, 0);
+    lent::show(57, 0, in_order(1, 6, 64, 1, 63), 2, 1, 0);
+    lent::show(58, 0, in_order(1, 6, 64, 1, 63), 2, 2, 0);
+    lent::show(59, 0, in_order(1, 6, 64, 1, 63), 0, 1, 0);
     60
 }
 
@@ -50,11 +50,11 @@ fn opening_calls() -> u64
 fn closing_calls() -> u64
     ensures { λ r. ⌜ r ≡ 65 ⌝ }
 {
-    lent::show(60, in_order(1, 255, 1, 1, 0), 1, 6, 0);
-    lent::show(61, in_order(1, 255, 1, 1, 0), 2, 1, 0);
-    lent::show(62, in_order(1, 255, 1, 1, 0), 2, 6, 0);
-    lent::show(63, in_order(1, 6, 2, 1, 1), 2, 1, 0);
-    lent::show(64, in_order(1, 6, 2, 1, 1), 2, 6, 0);
+    lent::show(60, 0, in_order(1, 255, 1, 1, 0), 1, 6, 0);
+    lent::show(61, 0, in_order(1, 255, 1, 1, 0), 2, 1, 0);
+    lent::show(62, 0, in_order(1, 255, 1, 1, 0), 2, 6, 0);
+    lent::show(63, 0, in_order(1, 6, 2, 1, 1), 2, 1, 0);
+    lent::show(64, 0, in_order(1, 6, 2, 1, 1), 2, 6, 0);
     65
 }
 
@@ -76,11 +76,11 @@ fn broken(mut s: Lent) -> Lent
 fn stopped_calls() -> u64
     ensures { λ r. ⌜ r ≡ 70 ⌝ }
 {
-    lent::show(65, halted(in_order(1, 6, 64, 1, 63)), 1, 6, 0);
-    lent::show(66, halted(in_order(1, 6, 64, 1, 63)), 2, 1, 0);
-    lent::show(67, broken(in_order(1, 6, 2, 1, 1)), 1, 6, 0);
-    lent::show(68, broken(in_order(1, 6, 2, 1, 1)), 2, 6, 0);
-    lent::show(69, broken(in_order(1, 6, 2, 1, 1)), 2, 1, 0);
+    lent::show(65, 0, halted(in_order(1, 6, 64, 1, 63)), 1, 6, 0);
+    lent::show(66, 0, halted(in_order(1, 6, 64, 1, 63)), 2, 1, 0);
+    lent::show(67, 0, broken(in_order(1, 6, 2, 1, 1)), 1, 6, 0);
+    lent::show(68, 0, broken(in_order(1, 6, 2, 1, 1)), 2, 6, 0);
+    lent::show(69, 0, broken(in_order(1, 6, 2, 1, 1)), 2, 1, 0);
     70
 }
 
@@ -88,19 +88,19 @@ fn stopped_calls() -> u64
 fn damaged_calls() -> u64
     ensures { λ r. ⌜ r ≡ 83 ⌝ }
 {
-    lent::show(70, in_order(1, 6, 65, 1, 64), 0, 1, 0);
-    lent::show(71, in_order(1, 6, 18446744073709551615, 1, 64), 0, 1, 0);
-    lent::show(72, in_order(1, 6, 4294967298, 1, 1), 0, 1, 0);
-    lent::show(73, in_order(8, 6, 64, 0, 63), 0, 1, 0);
-    lent::show(74, in_order(9, 6, 64, 1, 63), 0, 1, 0);
-    lent::show(75, in_order(1, 255, 2, 1, 0), 0, 1, 0);
-    lent::show(76, in_order(1, 6, 64, 1, 62), 0, 1, 0);
-    lent::show(77, in_order(1, 6, 64, 1, 64), 0, 1, 0);
-    lent::show(78, in_order(6, 6, 64, 1, 63), 0, 1, 0);
-    lent::show(79, in_order(1, 6, 2, 0, 2), 0, 1, 0);
-    lent::show(80, in_order(1, 6, 0, 1, 0), 0, 1, 0);
-    lent::show(81, in_order(1, 6, 0, 0, 0), 0, 1, 0);
-    lent::show(82, halted(in_order(1, 6, 65, 1, 64)), 3, 0, 0);
+    lent::show(70, 0, in_order(1, 6, 65, 1, 64), 0, 1, 0);
+    lent::show(71, 0, in_order(1, 6, 18446744073709551615, 1, 64), 0, 1, 0);
+    lent::show(72, 0, in_order(1, 6, 4294967298, 1, 1), 0, 1, 0);
+    lent::show(73, 0, in_order(8, 6, 64, 0, 63), 0, 1, 0);
+    lent::show(74, 0, in_order(9, 6, 64, 1, 63), 0, 1, 0);
+    lent::show(75, 0, in_order(1, 255, 2, 1, 0), 0, 1, 0);
+    lent::show(76, 0, in_order(1, 6, 64, 1, 62), 0, 1, 0);
+    lent::show(77, 0, in_order(1, 6, 64, 1, 64), 0, 1, 0);
+    lent::show(78, 0, in_order(6, 6, 64, 1, 63), 0, 1, 0);
+    lent::show(79, 0, in_order(1, 6, 2, 0, 2), 0, 1, 0);
+    lent::show(80, 0, in_order(1, 6, 0, 1, 0), 0, 1, 0);
+    lent::show(81, 0, in_order(1, 6, 0, 0, 0), 0, 1, 0);
+    lent::show(82, 0, halted(in_order(1, 6, 65, 1, 64)), 3, 0, 0);
     83
 }
 

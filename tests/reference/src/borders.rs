@@ -7,7 +7,7 @@ use crate::judge::Step;
 use crate::outline::Node;
 use crate::policy::Edge;
 use crate::pushdown::check_tables;
-use crate::sheet::{read_outline, read_policies, read_trace, MOST_EDGES, MOST_NODES, MOST_STEPS};
+use crate::sheet::{read_outline, read_policies, read_trace, Refusal, MOST_EDGES, MOST_NODES, MOST_STEPS};
 use crate::state::{judge_state, write_state, State};
 
 type Line = (u32, usize);
@@ -115,6 +115,10 @@ fn local_lines() -> Vec<String> {
         explained(&BROKEN.0, 2, &BROKEN.1, 599),
         explained(before.0, 0, before.1, 600),
         explained(before.0, 1, before.1, 600),
+        policies_read(1536, b"local from action on who to\n"),
+        policies_read(1535, b"local from action on who to\n"),
+        policies_read(1536, b"local from action on who to"),
+        policies_read(1536, b"Local from action on who to\n"),
     ]
 }
 
@@ -168,12 +172,16 @@ fn told((answer, detail): Line) -> String {
     format!("{answer} {detail}")
 }
 
-/// 40 comes before all others.
-fn read(places: usize, needed: usize, number: Option<u32>) -> String {
+/// 40 comes before all others. The detail of accepted policies is the number of the past that they see.
+fn read(places: usize, needed: usize, reading: Result<u64, Refusal>) -> String {
     if places < needed {
         return told((2, 40));
     }
-    told(number.map_or((0, 0), |number| (2, number as usize)))
+    told(reading.map_or_else(|refusal| (2, refusal.number as usize), |detail| (0, detail as usize)))
+}
+
+fn policies_read(places: usize, text: &[u8]) -> String {
+    read(places, 6 * MOST_EDGES, read_policies(text).map(|policies| policies.sight.number()))
 }
 
 /// The records of flat tables; a part of a record makes no table.
@@ -225,7 +233,6 @@ fn rounds(second: [u64; 3]) -> Vec<u64> {
 /// The lines that the program of these calls prints.
 pub fn lines() -> String {
     let event = [0, 31, 15];
-    let policies = b"policy from action on who to\n";
     let none = [0, 0];
     let lines = [
         judged(7, [0, 0], none, event),
@@ -254,10 +261,10 @@ pub fn lines() -> String {
         judged(7, [0, 256], none, event),
         judged(7, [0, 1 << 32], none, event),
         judged(7, [0, u64::MAX], none, [0, 0, 16]),
-        read(1536, 6 * MOST_EDGES, read_policies(policies).err().map(|refusal| refusal.number)),
-        read(1535, 6 * MOST_EDGES, read_policies(b"").err().map(|refusal| refusal.number)),
-        read(5999, 3 * MOST_STEPS, read_trace(b"").err().map(|refusal| refusal.number)),
-        read(191, 3 * MOST_NODES, read_outline(b"").err().map(|refusal| refusal.number)),
+        policies_read(1536, b"policy from action on who to\n"),
+        policies_read(1535, b""),
+        read(5999, 3 * MOST_STEPS, read_trace(b"").map(|_| 0)),
+        read(191, 3 * MOST_NODES, read_outline(b"").map(|_| 0)),
         checked(&[0; 6], 0, &[0; 3]),
         checked(&[0; 5], 0, &[0; 3]),
         checked(&[0; 6], 0, &[9; 3]),
