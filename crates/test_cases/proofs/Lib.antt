@@ -6,6 +6,5 @@ pub mod Searches
 pub mod ChecksIL
 pub mod OnlyEmpty
 pub mod AllRight
--- The cases of the local meaning: the judge's, and the check's by computing its search.
+-- The cases of the local meaning.
 pub mod LocalRight
-pub mod LocalChecks
