@@ -1,5 +1,5 @@
 -- Filling the table of what is come to: each step of it only joins sets, and none where the node is not come to.
-use Prim.Native.Nat.{ℕ, zero, suc, _+_, _-_, _<_, _≤_}
+use Prim.Native.Nat.{ℕ, zero, suc, _+_, _-_, _*_, _/_, _%_, _<_, _≤_}
 use mathlib.Core.Path.{_≡_, refl, sym, ap, ap₂, _∙_, subst}
 use mathlib.Core.Bool.{Bool, true, false, cond}
 use mathlib.Core.Option.{Option, none, some}
@@ -9,6 +9,7 @@ use native.Mathlib.Omega.{arith}
 use lib.Bits.{bitOr, or-zero-l, or-zero-r}
 use lib.ListN.{getD, set}
 use lib.Seq.{set-getD}
+use borrow.Author.Tests.{eq-eqb, ne-eqb}
 use Rattle.usage.specs.Limits.{states}
 use Rattle.usage.specs.Outline.{Form, end, on-static, on-name, sequence, choice, loop, back, fresh, sandbox}
 use Rattle.automaton.specs.Mask.{has, union}
@@ -24,7 +25,7 @@ use Rattle.checker_account.specs.Rounds.{
   ComesRule,
   leads-to,
   pass,
-  passBoth,
+  odd,
   passNode,
   passRound,
 }
@@ -94,27 +95,11 @@ module _ (local : Bool) (rows : Rows) (p : ℕ) where
   pass-grows t k f o m u = entered-grows (arrivalsOf local rows p t k o m (getD u (place k o m) 0) f) u
 
 module _ (local : Bool) (rows : Rows) (p : ℕ) (t : Bool → List ℕ) where
-  shut-grows : (k : ℕ) (f : Option Form) (m : ℕ) (u : List ℕ) → Grows u (pass local rows p (t false) k f false m u)
-  shut-grows k f m u = pass-grows local rows p (t false) k f false m u
-
-  pub pass-both-grows : (k : ℕ) (f : Option Form) (m : ℕ) (u : List ℕ) → Grows u (passBoth local rows p t k f m u)
-  pass-both-grows k f m u =
-      grows-trans (shut-grows k f m u) (pass-grows local rows p (t true) k f true m (pass local rows p (t false) k f false m u))
-
-  shut-still : (k : ℕ) (f : Option Form) (m : ℕ) (u : List ℕ) → passBoth local rows p t k f m u ≡ u
-      → pass local rows p (t false) k f false m u ≡ u
-  shut-still k f m u e =
-      grows-still (shut-grows k f m u) (pass-grows local rows p (t true) k f true m (pass local rows p (t false) k f false m u)) e
-
-  both-still : (k : ℕ) (f : Option Form) (m : ℕ) (u : List ℕ) → passBoth local rows p t k f m u ≡ u → (o : Bool)
-      → pass local rows p (t o) k f o m u ≡ u
-  both-still k f m u e false = shut-still k f m u e
-  both-still k f m u e true = ap (pass local rows p (t true) k f true m) (sym (shut-still k f m u e)) ∙ e
-
   pub pass-node-grows : (l k : ℕ) (f : Option Form) (u : List ℕ) → Grows u (passNode local rows p t l k f u)
   unfolding passNode
   pass-node-grows l k f u =
-      repeat-grows (λ i. passBoth local rows p t k f (l + i)) (λ i. pass-both-grows k f (l + i)) (meanings - l) u
+      repeat-grows (λ i. pass local rows p (t (odd i)) k f (odd i) (l + i / 2))
+      (λ i. pass-grows local rows p (t (odd i)) k f (odd i) (l + i / 2)) (2 * (meanings - l)) u
 
   pub pass-round-grows : (l n : ℕ) (forms : Forms) (u : List ℕ) → Grows u (passRound local rows p t l n forms u)
   unfolding passRound
@@ -146,6 +131,26 @@ entered-still (g ∷ gs) u e =
     let same : w ≡ u = grows-still a b e in
     (same, entered-still gs u (ap (entered gs) (sym same) ∙ e))
 
+-- the turn of the loop over a node at which it is passed with o and the m-th meaning
+turnOf : Bool → ℕ → ℕ
+turnOf false m = 2 * m
+turnOf true m = 2 * m + 1
+
+turn-odd : (o : Bool) (m : ℕ) → odd (turnOf o m) ≡ o
+unfolding turnOf
+turn-odd false m = ne-eqb (2 * m % 2) 1 (λ e. omega arith)
+turn-odd true m = eq-eqb ((2 * m + 1) % 2) 1 (omega arith)
+
+turn-half : (o : Bool) (m : ℕ) → turnOf o m / 2 ≡ m
+unfolding turnOf
+turn-half false m = omega arith
+turn-half true m = omega arith
+
+turn-small : (o : Bool) (m n : ℕ) → m < n → turnOf o m < 2 * n
+unfolding turnOf
+turn-small false m n h = omega arith
+turn-small true m n h = omega arith
+
 module _ (local : Bool) (rows : Rows) (p : ℕ) (t : Bool → List ℕ) (l n : ℕ) (forms : Forms) where
   module _ (u₀ : List ℕ) where
     abbrev Made : List ℕ → Type 0
@@ -169,9 +174,8 @@ module _ (local : Bool) (rows : Rows) (p : ℕ) (t : Bool → List ℕ) (l n : �
     pass-node-derived : (k : ℕ) (u : List ℕ) → k < n → Made u → Made (passNode local rows p t l k (forms k) u)
     unfolding passNode
     pass-node-derived k u b d =
-        repeat-keeps Made (λ i. passBoth local rows p t k (forms k) (l + i)) (meanings - l)
-        (λ i u h d. pass-derived k true (l + i) (pass local rows p (t false) k (forms k) false (l + i) u) b (omega arith) (omega arith)
-        (pass-derived k false (l + i) u b (omega arith) (omega arith) d)) u d
+        repeat-keeps Made (λ i. pass local rows p (t (odd i)) k (forms k) (odd i) (l + i / 2)) (2 * (meanings - l))
+        (λ i u h d. pass-derived k (odd i) (l + i / 2) u b (omega arith) (omega arith) d) u d
 
     pub pass-round-derived : (u : List ℕ) → Made u → Made (passRound local rows p t l n forms u)
     unfolding passRound
@@ -183,10 +187,13 @@ module _ (local : Bool) (rows : Rows) (p : ℕ) (t : Bool → List ℕ) (l n : �
     pass-still k o m b low high =
         let node : passNode local rows p t l k (forms k) u ≡ u =
         repeat-still (λ k. passNode local rows p t l k (forms k)) (λ k. pass-node-grows local rows p t l k (forms k)) n u still k b in
-        let one = repeat-still (λ i. passBoth local rows p t k (forms k) (l + i)) (λ i. pass-both-grows local rows p t k (forms k) (l + i))
-        (meanings - l) u node (m - l) (omega arith) in
-        let em : l + (m - l) ≡ m = omega arith in
-        both-still local rows p t k (forms k) m u (subst (λ (j : ℕ). passBoth local rows p t k (forms k) j u ≡ u) em one) o
+        let i = turnOf o (m - l) in
+        let one = repeat-still (λ i. pass local rows p (t (odd i)) k (forms k) (odd i) (l + i / 2))
+        (λ i. pass-grows local rows p (t (odd i)) k (forms k) (odd i) (l + i / 2)) (2 * (meanings - l)) u node i
+        (turn-small o (m - l) (meanings - l) (omega arith)) in
+        let em : l + i / 2 ≡ m = ap (λ (j : ℕ). l + j) (turn-half o (m - l)) ∙ omega arith in
+        subst (λ (j : ℕ). pass local rows p (t o) k (forms k) o j u ≡ u) em
+        (subst (λ (b : Bool). pass local rows p (t b) k (forms k) b (l + i / 2) u ≡ u) (turn-odd o (m - l)) one)
 
     pub pass-round-closed : (i v : ℕ) → ComesRule local rows p t l n forms u i v → joinedAt u i v ≡ u
     pass-round-closed i v (leads-to k o m g b low high mem) =

@@ -1,12 +1,12 @@
 -- How the tables are filled: by rules that join a set to an entry, until no rule adds anything; in which order they are applied does not
 -- matter. Then the steps in which the code applies them, and the search for a violation in the tables.
-use Prim.Native.Nat.{ℕ, zero, suc, _+_, _-_, _<_, _≤_}
+use Prim.Native.Nat.{ℕ, zero, suc, _+_, _-_, _*_, _/_, _%_, _<_, _≤_}
 use mathlib.Core.Path.{_≡_}
 use mathlib.Core.Bool.{Bool, true, false}
 use mathlib.Core.Option.{Option, none, some}
 use mathlib.Core.List.{List, [], _∷_, List·Memᴰ}
 use mathlib.Core.Logic.{_⊎_}
-use lib.Dec.{ltb}
+use lib.Dec.{eqb, ltb}
 use lib.ListN.{getD, replicate}
 use Rattle.usage.specs.Limits.{statics, states}
 use Rattle.usage.specs.declared.Node.{Node}
@@ -127,13 +127,12 @@ pub data ComesRule (local : Bool) (rows : Rows) (p : ℕ) (t : Bool → List ℕ
 abbrev pub pass : Bool → Rows → ℕ → List ℕ → ℕ → Option Form → Bool → ℕ → List ℕ → List ℕ
 pass local rows p t k f o m u = entered (arrivalsOf local rows p t k o m (getD u (place k o m) 0) f) u
 
--- p not being open, and then being open
-abbrev pub passBoth : Bool → Rows → ℕ → (Bool → List ℕ) → ℕ → Option Form → ℕ → List ℕ → List ℕ
-passBoth local rows p t k f m u = pass local rows p (t true) k f true m (pass local rows p (t false) k f false m u)
+-- with every meaning from l on, p being open or not
+abbrev pub odd : ℕ → Bool
+odd i = eqb (i % 2) 1
 
--- with every meaning from l on
 unfoldable pub passNode : Bool → Rows → ℕ → (Bool → List ℕ) → ℕ → ℕ → Option Form → List ℕ → List ℕ
-passNode local rows p t l k f u = repeat (λ i. passBoth local rows p t k f (l + i)) (meanings - l) u
+passNode local rows p t l k f u = repeat (λ i. pass local rows p (t (odd i)) k f (odd i) (l + i / 2)) (2 * (meanings - l)) u
 
 -- all of n nodes, from the lowest to the highest: what is come to goes from a parent to its children
 unfoldable pub passRound : Bool → Rows → ℕ → (Bool → List ℕ) → ℕ → ℕ → Forms → List ℕ → List ℕ

@@ -1,7 +1,7 @@
 // The table of what is come to: in which states each node can be come to, for each meaning, the policy being open or not. It is
 // filled in rounds over all nodes, from the lowest to the highest, until one brings nothing new.
 ghost use mathlib.Core.Path.{_≡_};
-ghost use mathlib.Core.Bool.{Bool, true, false, not, _&&_, _||_};
+ghost use mathlib.Core.Bool.{Bool, not, _&&_, _||_};
 ghost use mathlib.Core.List.{List, [], _∷_};
 ghost use Prim.Native.Nat.{ℕ, _<_};
 ghost use lib.ListN.{length, getD, replicate};
@@ -10,7 +10,7 @@ ghost use Rattle.usage.specs.Outline.{formOf};
 ghost use Rattle.checker_account.specs.Witness.{noName};
 ghost use Rattle.checker_account.specs.Tables.{meanings, places, begun, rowsIn, joinedAt, restarted, place, _by_by_with_};
 ghost use Rattle.checker_account.specs.Tables.{halves, freshArrivals};
-ghost use Rattle.checker_account.specs.Rounds.{grown, byOpen, entered, arrivalsOf, pass, passBoth, passNode, begins, Wide, Filled};
+ghost use Rattle.checker_account.specs.Rounds.{grown, byOpen, entered, arrivalsOf, pass, passNode, begins, Wide, Filled};
 ghost use Rattle.checker_tables.specs.Search.{Small, NodesFit, comesRound, ComesBy};
 use checker_account::MEANINGS;
 use checker_account::STARTS;
@@ -187,11 +187,19 @@ fn pass_by(
     }
 }
 
+// The table of ends where the policy is open or not.
+fn ends_for<'a>(opened: &'a Table, shut: &'a Table, o: bool) -> &'a Table
+    ensures { λ r. ⌜ now r ≡ byOpen (now (opened .entry)) (now (shut .entry)) o ⌝ }
+{
+    if o { opened } else { shut }
+}
+
 // What node k, with o and m, leads to. A node that is not come to leads to nothing: most of the table is empty and passed over by one
 // test. Is anything of it new?
-fn pass(
+fn pass<'a>(
     u: &mut Table,
-    t: &Table,
+    opened: &'a Table,
+    shut: &'a Table,
     rows: &Table,
     local: bool,
     p: usize,
@@ -204,7 +212,9 @@ fn pass(
     requires { ⌜ Small f ⌝ }
     requires { ⌜ k < mostNodes ⌝ }
     requires { ⌜ m < meanings ⌝ }
-    ensures { λ r. ⌜ now (u .exit) ≡ pass local (rowsIn (now (rows .entry))) p (now (t .entry)) k (formOf f) o m (now (u .entry)) ⌝ }
+    ensures { λ r. ⌜ now (u .exit)
+        ≡ pass local (rowsIn (now (rows .entry))) p (byOpen (now (opened .entry)) (now (shut .entry)) o)
+        k (formOf f) o m (now (u .entry)) ⌝ }
     ensures { λ r. ⌜ r ≡ grown (now (u .entry)) (now (u .exit)) ⌝ }
     ensures { λ r. ⌜ (Wide (now (u .entry)) → Wide (now (u .exit))) ⌝ }
 {
@@ -212,41 +222,15 @@ fn pass(
     if v == 0 {
         return false;
     }
+    let t = ends_for(opened, shut, o);
     pass_by(u, t, rows, local, p, k, f, o, m, v)
 }
 
-// The policy not being open, and then being open, each by its table of ends. Is anything new?
-fn pass_both(
+// Node k with every meaning from l on, the policy being open or not. Is anything new?
+fn pass_node<'a>(
     u: &mut Table,
-    opened: &Table,
-    shut: &Table,
-    rows: &Table,
-    local: bool,
-    p: usize,
-    k: usize,
-    f: Node,
-    m: usize,
-) -> bool
-    requires { ⌜ length (now u) ≡ places ⌝ }
-    requires { ⌜ Small f ⌝ }
-    requires { ⌜ k < mostNodes ⌝ }
-    requires { ⌜ m < meanings ⌝ }
-    ensures { λ r. ⌜ now (u .exit)
-        ≡ passBoth local (rowsIn (now (rows .entry))) p (byOpen (now (opened .entry)) (now (shut .entry)))
-        k (formOf f) m (now (u .entry)) ⌝ }
-    ensures { λ r. ⌜ r ≡ grown (now (u .entry)) (now (u .exit)) ⌝ }
-    ensures { λ r. ⌜ (Wide (now (u .entry)) → Wide (now (u .exit))) ⌝ }
-{
-    let first = pass(u, shut, rows, local, p, k, f, false, m);
-    let second = pass(u, opened, rows, local, p, k, f, true, m);
-    either(first, second)
-}
-
-// Node k with every meaning from l on. Is anything new?
-fn pass_node(
-    u: &mut Table,
-    opened: &Table,
-    shut: &Table,
+    opened: &'a Table,
+    shut: &'a Table,
     rows: &Table,
     local: bool,
     p: usize,
@@ -264,11 +248,13 @@ fn pass_node(
     ensures { λ r. ⌜ r ≡ grown (now (u .entry)) (now (u .exit)) ⌝ }
     ensures { λ r. ⌜ (Wide (now (u .entry)) → Wide (now (u .exit))) ⌝ }
 {
-    let n = MEANINGS - l;
+    let n = 2 * (MEANINGS - l);
     let mut changed = false;
     let mut i: usize = 0;
     while i < n {
-        if pass_both(u, opened, shut, rows, local, p, k, f, l + i) {
+        let m = l + i / 2;
+        let o = i % 2 == 1;
+        if pass(u, opened, shut, rows, local, p, k, f, o, m) {
             changed = true;
         }
         i += 1;
@@ -277,10 +263,10 @@ fn pass_node(
 }
 
 // Every node, from the lowest to the highest. Is anything new?
-fn pass_round(
+fn pass_round<'a>(
     u: &mut Table,
-    opened: &Table,
-    shut: &Table,
+    opened: &'a Table,
+    shut: &'a Table,
     nodes: &[u8],
     rows: &Table,
     local: bool,
@@ -311,11 +297,11 @@ fn pass_round(
 
 // The table, for the moves of policy p, the tables of ends where it is open and where it is not, and the meanings from l on; u is empty
 // at first.
-pub(crate) fn fill(
+pub(crate) fn fill<'a>(
     nodes: &[u8],
     rows: &Table,
-    opened: &Table,
-    shut: &Table,
+    opened: &'a Table,
+    shut: &'a Table,
     local: bool,
     p: usize,
     l: usize,

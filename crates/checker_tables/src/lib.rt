@@ -162,11 +162,11 @@ fn fits(nodes: &[u8]) -> bool
 }
 
 // Is it, by the tables of ends where the policy is open and where it is not?
-fn found(
+fn found<'a>(
     nodes: &[u8],
     rows: &Table,
-    opened: &Table,
-    shut: &Table,
+    opened: &'a Table,
+    shut: &'a Table,
     local: bool,
     p: usize,
     x: usize,

@@ -4,29 +4,31 @@ use Prim.Native.Nat.{ℕ, _+_, _-_, _≤_, _<_, _*_, _/_}
 use lib.ListN.{length, getD}
 use borrow.Author.Needs.{needs}
 use denote.Ref.{now}
+use mathlib.Core.Bool.{Bool}
 use mathlib.Core.List.{List}
 use mathlib.Core.Logic.{inl, inr}
 use Rattle.usage.proofs.Logic.{by-cases}
 use Rattle.usage.specs.Outline.{formOf}
 use Rattle.checker_account.specs.Tables.{rowsIn, place, meanings}
-use Rattle.checker_account.specs.Rounds.{repeat, grown, byOpen, passBoth, passNode, Wide}
+use Rattle.checker_account.specs.Rounds.{repeat, grown, byOpen, pass, odd, passNode, Wide}
 use Rattle.checker_account.proofs.RoundLaws.{Grows, grown-self, repeat-length, turn}
-use Rattle.checker_account.proofs.PassLaws.{pass-both-grows}
+use Rattle.checker_account.proofs.PassLaws.{pass-grows}
 use Rattle.checker_account.proofs.CodeLaws.{place-lt}
 use Rattle.usage.specs.declared.Node.{Node}
-use mathlib.Core.Bool.{Bool}
 use Rattle.checker_tables.proofs.arrivals.pass_node.Statement.{statement}
 use Rattle.checker_tables.proofs.arrivals.pass_node.Tie as tie
 use Rattle.checker_tables.proofs.arrivals.pass_node.Reads as reads
 use Rattle.checker_tables.proofs.arrivals.pass_node.Lts as lts
-use Rattle.checker_tables.proofs.arrivals.pass_both.Reads as pass-both-reads
+use Rattle.checker_tables.proofs.arrivals.pass.Reads as pass-reads
 
 abbrev steps : List ℕ → List ℕ → List ℕ → Bool → ℕ → ℕ → ℕ → Node → ℕ → List ℕ → List ℕ
-steps opened shut rows local p l k f i = passBoth local (rowsIn rows) p (byOpen opened shut) k (formOf f) (l + i)
+steps opened shut rows local p l k f i =
+    pass local (rowsIn rows) p (byOpen opened shut (odd i)) k (formOf f) (odd i) (l + i / 2)
 
 steps-grow : (opened shut rows : List ℕ) (local : Bool) (p l k : ℕ) (f : Node) (i : ℕ) (u : List ℕ)
     → Grows u (steps opened shut rows local p l k f i u)
-steps-grow opened shut rows local p l k f i u = pass-both-grows local (rowsIn rows) p (byOpen opened shut) k (formOf f) (l + i) u
+steps-grow opened shut rows local p l k f i u =
+    pass-grows local (rowsIn rows) p (byOpen opened shut (odd i)) k (formOf f) (odd i) (l + i / 2) u
 
 abbrev Inv-loop : tie.InvT-loop
 Inv-loop u₀ opened shut rows local p l k f n changed₀ i₀ u changed i =
@@ -38,15 +40,18 @@ abbrev μ-loop : tie.MeasureT-loop
 sub-n : tie.Need-sub-n Inv-loop μ-loop
 sub-n c = search needs
 
+mul-n : tie.Need-mul-n Inv-loop μ-loop
+mul-n c = search needs
+
 loop-holds : tie.Need-loop-holds Inv-loop μ-loop
 unfolding repeat
 loop-holds c = (search needs, (refl, (sym (grown-self (c .args .u .now)), λ w. w)))
 
-add-pass-both : tie.Need-add-pass-both Inv-loop μ-loop
-add-pass-both c = search needs
+add-m : tie.Need-add-m Inv-loop μ-loop
+add-m c = search needs
 
-pass-both-requires : tie.Need-pass-both-requires Inv-loop μ-loop
-pass-both-requires c κs =
+pass-requires : tie.Need-pass-requires Inv-loop μ-loop
+pass-requires c κs =
     let a = c .before .before .before .args in
     let f = steps (a .opened .now) (a .shut .now) (a .rows .now) (a .local) (a .p) (a .l) (a .k) (a .f) in
     let grows = steps-grow (a .opened .now) (a .shut .now) (a .rows .now) (a .local) (a .p) (a .l) (a .k) (a .f) in
@@ -67,11 +72,11 @@ loop-again c =
     let l = c .before .before .before .before .loop in
     let f = steps (a .opened .now) (a .shut .now) (a .rows .now) (a .local) (a .p) (a .l) (a .k) (a .f) in
     let grows = steps-grow (a .opened .now) (a .shut .now) (a .rows .now) (a .local) (a .p) (a .l) (a .k) (a .f) in
-    let w = c .before .pass-both .last .0 in
-    let e : w ≡ f (l .i) (l .u) = c .before .pass-both .ensures .0 in
-    let wide : Wide (a .u .now) → Wide w = λ h. c .before .pass-both .ensures .1 .1 (l .inv .1 .1 .1 h) in
+    let w = c .before .pass .last .0 in
+    let e : w ≡ f (l .i) (l .u) = c .before .pass .ensures .0 in
+    let wide : Wide (a .u .now) → Wide w = λ h. c .before .pass .ensures .1 .1 (l .inv .1 .1 .1 h) in
     let made = turn f grows (l .i) (a .u .now) (l .u) w (l .changed) (c .if1 .changed)
-    (c .before .pass-both .result) (l .inv .1 .0, l .inv .1 .1 .0) e (c .before .pass-both .ensures .1 .0)
+    (c .before .pass .result) (l .inv .1 .0, l .inv .1 .1 .0) e (c .before .pass .ensures .1 .0)
     (by-cases (c .if1 .came) (λ w. inl (w .0 .taken, w .1)) (λ w. inr (w .0 .left, w .1))) in
     (search needs, (made .0, (made .1, wide)))
 
@@ -79,7 +84,7 @@ returns : tie.Need-returns Inv-loop μ-loop
 unfolding passNode
 returns c =
     let l = c .before .loop in
-    let e : l .i ≡ meanings - c .before .before .args .l = omega arith in
+    let e : l .i ≡ 2 * (meanings - c .before .before .args .l) = omega arith in
     (rw e at (l .inv .1 .0), l .inv .1 .1)
 
 pub pass-node-spec : {M : Type 1} → statement M
@@ -89,9 +94,10 @@ pass-node-spec =
     Inv-loop
     μ-loop
     sub-n
+    mul-n
     loop-holds
-    add-pass-both
-    pass-both-requires
+    add-m
+    pass-requires
     add-i
     loop-less
     loop-again
