@@ -1,9 +1,7 @@
 // The judge (document 01's word for the run-time monitor): its start and one step.
 use monitor_sets::FIRST_CREATED;
 use monitor_sets::SETS;
-use monitor_sets::START_SET;
 use monitor_sets::UNSEEN;
-use monitor_state::Answer;
 use monitor_state::Judgement;
 use monitor_state::Read;
 use monitor_state::Sizes;
@@ -17,23 +15,20 @@ use usage::STATICS;
 ghost use Prim.Native.Nat.{ℕ, _<_, _≤_};
 ghost use mathlib.Core.Path.{_≡_};
 ghost use mathlib.Core.List.{List};
-ghost use mathlib.Core.Bool.{Bool, true, false, _&&_, cond};
-ghost use lib.Dec.{eqb};
-ghost use lib.ListN.{length, getD, set};
-ghost use Rattle.usage.specs.declared.Edge.{Edge};
-ghost use Rattle.usage.specs.Limits.{policies, mostCreated, mostUnclosed};
-ghost use Rattle.usage.specs.Past.{event, opening, closing};
+ghost use mathlib.Core.Bool.{Bool, true, false};
+ghost use lib.ListN.{length};
+ghost use Rattle.usage.specs.Limits.{mostCreated, mostUnclosed};
+ghost use Rattle.usage.specs.Past.{event};
 ghost use Rattle.usage.specs.Judge.{stepOf};
 ghost use Rattle.usage.specs.Tables.{edgesOf};
 ghost use Rattle.monitor_sets.specs.Instances.{instances};
-ghost use Rattle.monitor_sets.specs.Sets.{startSet, resetSets};
-ghost use Rattle.monitor_sets.specs.Code.{brokenIn};
 ghost use Rattle.monitor_sets.specs.Order.{orderOk};
 ghost use Rattle.monitor_state.specs.Judge.{startState, judgeRead, judgeOf};
 ghost use Rattle.monitor_state.specs.Promise.{StandsForNothing, Keeps};
 ghost use Rattle.monitor_state.specs.Renamed.{SameAnswers};
-ghost use Rattle.monitor_state.specs.declared.Answer.the-variants.{Refused};
-ghost use Rattle.monitor_state.specs.Code.{oneMore, stateOf, judgementOf, stepped};
+ghost use Rattle.monitor_state.specs.Code.{stateOf, judgementOf, stepped};
+
+mod sandboxes;
 
 // The start stands for the empty past, and from it no answer depends on how the dynamic resources are numbered.
 pub fn start() -> State
@@ -59,162 +54,6 @@ pub fn start() -> State
 }
 
 // ── One step ──
-
-// Policy p has n openings that are not closed. Which open policies are then not respected? Where one is not, the count stays as it was.
-fn recount(possible: &[u8; POLICIES], unclosed: &mut [u8; POLICIES], p: usize, n: u8) -> u8
-    requires { ⌜ p < policies ⌝ }
-    ensures { λ bad. ⌜ bad ≡ brokenIn (now (possible .entry)) (set (now (unclosed .entry)) p n) ⌝ }
-    ensures { λ bad. ⌜ now (unclosed .exit) ≡ cond (eqb bad 0) (set (now (unclosed .entry)) p n) (now (unclosed .entry)) ⌝ }
-{
-    let mut after = *unclosed;
-    after[p] = n;
-    let bad = monitor_sets::instances::broken_set(possible, &after);
-    if bad == 0 {
-        *unclosed = after;
-    }
-    bad
-}
-
-// An opening of p, its place in the order too. Which open policies are then not respected? Where one is not, all stays as it was.
-fn enter(
-    possible: &[u8; POLICIES],
-    unclosed: &mut [u8; POLICIES],
-    order: &mut [u8; MOST_UNCLOSED],
-    depth: usize,
-    p: usize,
-) -> u8
-    requires { ⌜ p < policies ⌝ }
-    requires { ⌜ length (now order) ≡ mostUnclosed ⌝ }
-    requires { ⌜ orderOk depth (now order) (now unclosed) ≡ true ⌝ }
-    requires { ⌜ depth < mostUnclosed ⌝ }
-    ensures { λ bad. ⌜ bad ≡ brokenIn (now (possible .entry)) (oneMore (now (unclosed .entry)) p) ⌝ }
-    ensures { λ bad. ⌜ now (unclosed .exit) ≡ cond (eqb bad 0) (oneMore (now (unclosed .entry)) p) (now (unclosed .entry)) ⌝ }
-    ensures { λ bad. ⌜ now (order .exit) ≡ cond (eqb bad 0) (set (now (order .entry)) depth p) (now (order .entry)) ⌝ }
-{
-    let n = unclosed[p];
-    let broken = recount(possible, unclosed, p, n + 1);
-    if broken == 0 {
-        order[depth] = p as u8;
-    }
-    broken
-}
-
-// The same, where it puts the instances of p back to state 0: the first n, and what is kept of p.
-fn enter_anew(
-    sets: &mut [u8; SETS],
-    possible: &mut [u8; POLICIES],
-    unclosed: &mut [u8; POLICIES],
-    order: &mut [u8; MOST_UNCLOSED],
-    n: usize,
-    depth: usize,
-    p: usize,
-) -> u8
-    requires { ⌜ p < policies ⌝ }
-    requires { ⌜ length (now order) ≡ mostUnclosed ⌝ }
-    requires { ⌜ orderOk depth (now order) (now unclosed) ≡ true ⌝ }
-    requires { ⌜ depth < mostUnclosed ⌝ }
-    requires { ⌜ n ≤ instances ⌝ }
-    ensures { λ bad. ⌜ bad ≡ brokenIn (set (now (possible .entry)) p startSet) (oneMore (now (unclosed .entry)) p) ⌝ }
-    ensures { λ bad. ⌜ now (sets .exit) ≡ cond (eqb bad 0) (resetSets n p (now (sets .entry))) (now (sets .entry)) ⌝ }
-    ensures { λ bad. ⌜ now (possible .exit) ≡ cond (eqb bad 0) (set (now (possible .entry)) p startSet) (now (possible .entry)) ⌝ }
-    ensures { λ bad. ⌜ now (unclosed .exit) ≡ cond (eqb bad 0) (oneMore (now (unclosed .entry)) p) (now (unclosed .entry)) ⌝ }
-    ensures { λ bad. ⌜ now (order .exit) ≡ cond (eqb bad 0) (set (now (order .entry)) depth p) (now (order .entry)) ⌝ }
-{
-    let mut after = *possible;
-    after[p] = START_SET;
-    let broken = enter(&after, unclosed, order, depth, p);
-    if broken != 0 {
-        return broken;
-    }
-    *possible = after;
-    monitor_sets::instances::reset(sets, n, p);
-    0
-}
-
-// "At an opening of a policy that is not open, all its instances go back to state 0", where the sheet is local.
-fn is_anew(local: bool, unclosed: &[u8; POLICIES], p: usize) -> bool
-    requires { ⌜ p < policies ⌝ }
-    ensures { λ r. ⌜ r ≡ (local && eqb (getD (now (unclosed .entry)) p 0) 0) ⌝ }
-{
-    if local {
-        return unclosed[p] == 0;
-    }
-    false
-}
-
-// An opening creates nothing and moves no state but those that it puts back; so the answer is the same whatever the edges and the created
-// resources are.
-fn judge_opening(
-    local: bool,
-    sets: &mut [u8; SETS],
-    possible: &mut [u8; POLICIES],
-    unclosed: &mut [u8; POLICIES],
-    order: &mut [u8; MOST_UNCLOSED],
-    count: usize,
-    depth: usize,
-    p: usize,
-) -> Told
-    requires { ⌜ p < policies ⌝ }
-    requires { ⌜ count ≤ mostCreated ⌝ }
-    requires { ⌜ length (now order) ≡ mostUnclosed ⌝ }
-    requires { ⌜ orderOk depth (now order) (now unclosed) ≡ true ⌝ }
-    ensures { λ r.
-        ⌜ ((es : List Edge) (created : List ℕ)
-        → judgementOf r (now (sets .exit)) (now (possible .exit)) created (now (unclosed .exit)) (now (order .exit))
-        ≡ stepped local es
-        (stateOf (now (sets .entry)) (now (possible .entry)) created count (now (unclosed .entry)) (now (order .entry)) depth false)
-        (opening p)) ⌝ }
-{
-    if MOST_UNCLOSED <= depth {
-        return monitor_state::refused(32, count, depth, false);
-    }
-    let before = Sizes { count, depth };
-    let after = Sizes {
-        count,
-        depth: depth + 1,
-    };
-    if is_anew(local, unclosed, p) {
-        let n = FIRST_CREATED + count;
-        let broken = enter_anew(sets, possible, unclosed, order, n, depth, p);
-        return monitor_state::settled(broken, before, after);
-    }
-    let broken = enter(possible, unclosed, order, depth, p);
-    monitor_state::settled(broken, before, after)
-}
-
-// A closing puts nothing back.
-fn judge_closing(
-    possible: &[u8; POLICIES],
-    unclosed: &mut [u8; POLICIES],
-    order: &[u8; MOST_UNCLOSED],
-    count: usize,
-    depth: usize,
-    p: usize,
-) -> Told
-    requires { ⌜ p < policies ⌝ }
-    requires { ⌜ length (now order) ≡ mostUnclosed ⌝ }
-    requires { ⌜ orderOk depth (now order) (now unclosed) ≡ true ⌝ }
-    ensures { λ r.
-        ⌜ ((local : Bool) (es : List Edge) (sets created : List ℕ)
-        → judgementOf r sets (now (possible .entry)) created (now (unclosed .exit)) (now (order .entry))
-        ≡ stepped local es
-        (stateOf sets (now (possible .entry)) created count (now (unclosed .entry)) (now (order .entry)) depth false) (closing p)) ⌝ }
-{
-    let n = unclosed[p];
-    if n == 0 {
-        return monitor_state::refused(25, count, depth, false);
-    }
-    if monitor_sets::order::wide(order[depth - 1]) != p {
-        return monitor_state::refused(26, count, depth, false);
-    }
-    let bad = recount(possible, unclosed, p, n - 1);
-    let before = Sizes { count, depth };
-    let after = Sizes {
-        count,
-        depth: depth - 1,
-    };
-    monitor_state::settled(bad, before, after)
-}
 
 fn judge_create(
     edges: &[u8],
@@ -344,8 +183,24 @@ fn judge_read(
             action,
             r,
         ),
-        Read::Opening(p) => judge_opening(local, sets, possible, unclosed, order, count, depth, p),
-        Read::Closing(p) => judge_closing(possible, unclosed, order, count, depth, p),
+        Read::Opening(p) => crate::sandboxes::judge_opening(
+            local,
+            sets,
+            possible,
+            unclosed,
+            order,
+            count,
+            depth,
+            p,
+        ),
+        Read::Closing(p) => crate::sandboxes::judge_closing(
+            possible,
+            unclosed,
+            order,
+            count,
+            depth,
+            p,
+        ),
         Read::Nothing => monitor_state::refused(21, count, depth, false),
     }
 }

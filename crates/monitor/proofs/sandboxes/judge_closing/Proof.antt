@@ -14,8 +14,8 @@ use Rattle.monitor_state.specs.Judge.{withOpenings, after}
 use Rattle.monitor_state.specs.Code.{stateOf}
 use Rattle.monitor.proofs.JudgeLaws.{closing-closed, closing-not-last, closing-free}
 use Rattle.monitor.proofs.LentLaws.{refused-step, settled-step, kept}
-use Rattle.monitor.proofs.judge_closing.Statement.{statement}
-use Rattle.monitor.proofs.judge_closing.Tie as tie
+use Rattle.monitor.proofs.sandboxes.judge_closing.Statement.{statement}
+use Rattle.monitor.proofs.sandboxes.judge_closing.Tie as tie
 
 -- where p is open the order has a last entry
 range : (depth : ℕ) (order unclosed : List ℕ) (p : ℕ) → orderOk depth order unclosed ≡ true → p < policies → (getD unclosed p 0 ≡ 0 → ⊥)

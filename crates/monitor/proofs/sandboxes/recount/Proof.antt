@@ -3,8 +3,8 @@ use mathlib.Core.Bool.{Bool, cond}
 use borrow.Author.Tests.{eq-eqb, ne-eqb}
 use borrow.Author.Needs.{needs}
 use lib.ListN.{set}
-use Rattle.monitor.proofs.recount.Statement.{statement}
-use Rattle.monitor.proofs.recount.Tie as tie
+use Rattle.monitor.proofs.sandboxes.recount.Statement.{statement}
+use Rattle.monitor.proofs.sandboxes.recount.Tie as tie
 
 array-write-after : tie.Need-array-write-after
 array-write-after c = search needs

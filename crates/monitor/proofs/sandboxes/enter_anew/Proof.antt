@@ -7,8 +7,8 @@ use lib.Dec.{eqb}
 use lib.ListN.{set}
 use Rattle.monitor_sets.specs.Sets.{startSet, resetSets}
 use Rattle.monitor_state.specs.Code.{oneMore}
-use Rattle.monitor.proofs.enter_anew.Statement.{statement}
-use Rattle.monitor.proofs.enter_anew.Tie as tie
+use Rattle.monitor.proofs.sandboxes.enter_anew.Statement.{statement}
+use Rattle.monitor.proofs.sandboxes.enter_anew.Tie as tie
 
 array-write-after : tie.Need-array-write-after
 array-write-after c = search needs

@@ -5,8 +5,8 @@ use borrow.Author.Tests.{eq-eqb, ne-eqb}
 use borrow.Author.Needs.{needs}
 use lib.ListN.{set}
 use Rattle.monitor_sets.proofs.OrderLaws.{order-parts, count-few}
-use Rattle.monitor.proofs.enter.Statement.{statement}
-use Rattle.monitor.proofs.enter.Tie as tie
+use Rattle.monitor.proofs.sandboxes.enter.Statement.{statement}
+use Rattle.monitor.proofs.sandboxes.enter.Tie as tie
 
 element-copy-out-n : tie.Need-element-copy-out-n
 element-copy-out-n c = search needs

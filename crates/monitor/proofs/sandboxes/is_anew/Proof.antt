@@ -1,6 +1,6 @@
 use borrow.Author.Needs.{needs}
-use Rattle.monitor.proofs.is_anew.Statement.{statement}
-use Rattle.monitor.proofs.is_anew.Tie as tie
+use Rattle.monitor.proofs.sandboxes.is_anew.Statement.{statement}
+use Rattle.monitor.proofs.sandboxes.is_anew.Tie as tie
 
 element-copy-out-result : tie.Need-element-copy-out-result
 element-copy-out-result c = search needs

@@ -10,8 +10,8 @@ use Rattle.monitor_state.specs.Judge.{withOpenings, withSets, resetIn, after}
 use Rattle.monitor_state.specs.Code.{oneMore, stateOf}
 use Rattle.monitor.proofs.JudgeLaws.{opening-deep, opening-free}
 use Rattle.monitor.proofs.LentLaws.{refused-step, settled-step, kept}
-use Rattle.monitor.proofs.judge_opening.Statement.{statement}
-use Rattle.monitor.proofs.judge_opening.Tie as tie
+use Rattle.monitor.proofs.sandboxes.judge_opening.Statement.{statement}
+use Rattle.monitor.proofs.sandboxes.judge_opening.Tie as tie
 
 -- the state after the opening, where it puts the instances back and where it does not
 abbrev opened : Bool → State → ℕ → State
