@@ -22,14 +22,17 @@ static bool edge_ok(const uint8_t *edge) {
     return edge[3] == 0 ? edge[4] < 16 : edge[4] == 0;
 }
 
-/* Eight edges and a byte beyond them, without a branch. */
+/* For each byte of eight edges its highest number, and all bits where it is `on`, which is 0 or the next byte is. */
+#define EIGHT(...) {__VA_ARGS__, __VA_ARGS__, __VA_ARGS__, __VA_ARGS__, __VA_ARGS__, __VA_ARGS__, __VA_ARGS__, __VA_ARGS__}
+static const uint8_t MOST[BLOCK] = EIGHT(7, 7, 31, 2, 15, 7);
+static const uint8_t PAIRED[BLOCK] = EIGHT(0, 0, 0, 255, 0, 0);
+
+/* Eight edges and a byte beyond them, without a branch, so that several bytes are compared at once. */
 static bool block_ok(const uint8_t *bytes) {
-    static const uint8_t most[EDGE] = {7, 7, 31, 2, 15, 7};
     uint8_t bad = 0;
     for (int j = 0; j < BLOCK; j++) {
-        uint8_t b = bytes[j], limit = most[j % EDGE], next = bytes[j + 1];
-        bad |= b > limit ? 1 : 0;
-        bad |= j % EDGE == 3 ? (b < next ? b : next) : 0;
+        uint8_t less = bytes[j] < bytes[j + 1] ? bytes[j] : bytes[j + 1];
+        bad |= (bytes[j] > MOST[j] ? 255 : 0) | (less & PAIRED[j]);
     }
     return bad == 0;
 }
@@ -44,10 +47,11 @@ static bool edges_ok(const uint8_t *edges, size_t length) {
     return true;
 }
 
+/* No early exit, so that several are compared at once. */
 static bool rising(const uint32_t *numbers, size_t count) {
-    bool rises = true;
-    for (size_t i = 0; i + 1 < count; i++) rises &= numbers[i] < numbers[i + 1];
-    return rises;
+    uint32_t falls = 0;
+    for (size_t i = 1; i < count; i++) falls |= numbers[i - 1] >= numbers[i];
+    return falls == 0;
 }
 
 /* A number is compared with later ones only where one of them has its last bits. */
@@ -92,12 +96,18 @@ static size_t place(const struct state *s, uint32_t resource) {
 /* The lowest policy that is open and not respected, or 8. */
 static unsigned broken(const struct state *s, const uint8_t *possible) {
     unsigned bad = 0;
-    for (int p = 0; p < POLICIES; p++) bad |= (unsigned)(s->unclosed[p] != 0 && possible[p] >= 64) << p;
+    for (int p = 0; p < POLICIES; p++) bad |= (unsigned)((s->unclosed[p] != 0) & (possible[p] >= 64)) << p;
     return bad == 0 ? POLICIES : (unsigned)__builtin_ctz(bad);
 }
 
+/* What 64 rows are that leave every state where it is. */
+static const uint8_t STAYS[64] = EIGHT(1, 2, 4, 8, 16, 32, 64, 128);
+
 static void stay(uint8_t rows[64]) {
-    for (int i = 0; i < 64; i++) rows[i] = rows[i] == 0 ? (uint8_t)(1 << i % 8) : rows[i];
+    for (int i = 0; i < 64; i++) {
+        const uint8_t row = rows[i];
+        rows[i] = row == 0 ? STAYS[i] : row;
+    }
 }
 
 static void fill_rows(const uint8_t *edges, size_t length, uint32_t action, uint32_t resource, uint8_t own[64], uint8_t other[64]) {
@@ -120,19 +130,23 @@ static uint8_t image(uint8_t set, const uint8_t rows[8]) {
     return moved;
 }
 
-static const uint8_t STAY[8] = {1, 2, 4, 8, 16, 32, 64, 128};
-
-static uint8_t move_policy(uint8_t *sets, size_t used, size_t at, const uint8_t own[8], const uint8_t other[8]) {
-    uint8_t moved = memcmp(own, STAY, 8) == 0 ? sets[at] : image(sets[at], own), all = 0;
-    sets[at] = 0;
-    if (memcmp(other, STAY, 8) == 0) {
-        for (size_t i = 0; i < used; i++) all |= sets[i];
-    } else {
-        for (size_t i = 0; i < used; i++) {
-            sets[i] = image(sets[i], other);
-            all |= sets[i];
-        }
+/* Moves the sets by the rows, state by state, so that several sets are moved at once. */
+static void move_all(uint8_t *restrict sets, size_t used, const uint8_t rows[8]) {
+    uint8_t moved[INSTANCES] = {0};
+    for (int q = 0; q < 8; q++) {
+        const uint8_t state = STAYS[q], row = rows[q];
+        for (size_t i = 0; i < used; i++) moved[i] |= (sets[i] & state) != 0 ? row : 0;
     }
+    memcpy(sets, moved, used);
+}
+
+/* The union of the moved sets: the one at `at` moves by the rows `own`, the others by `other`. */
+static uint8_t move_policy(uint8_t *restrict sets, size_t used, size_t at, const uint8_t own[8], const uint8_t other[8]) {
+    uint8_t moved = memcmp(own, STAYS, 8) == 0 ? sets[at] : image(sets[at], own), all = 0;
+    /* the empty set moves to the empty set */
+    sets[at] = 0;
+    if (memcmp(other, STAYS, 8) != 0) move_all(sets, used, other);
+    for (size_t i = 0; i < used; i++) all |= sets[i];
     sets[at] = moved;
     return all | moved;
 }
