@@ -8,7 +8,7 @@ use Rattle.usage.specs.Limits.{policies, mostUnclosed}
 use Rattle.usage.specs.Past.{occurrences}
 use Rattle.usage.specs.Tests.{every}
 
--- the first n numbers of the order, the newest first; "Places beyond" them "count for nothing"
+-- the first n numbers of the order, the newest first; the places beyond them count for nothing
 unfoldable pub stackIn : ℕ → List ℕ → List ℕ
 stackIn zero order = []
 stackIn (suc n) order = getD order n 0 ∷ stackIn n order
