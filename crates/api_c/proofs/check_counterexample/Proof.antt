@@ -1,8 +1,9 @@
 -- The number is that of what the check with a counterexample answers.
-use mathlib.Core.Path.{_∙_}
+use mathlib.Core.Path.{ap, _∙_}
 use borrow.Author.Needs.{needs}
-use Rattle.checker.specs.declared.counterexample.Explanation.the-variants.{Refused}
-use Rattle.api_c.specs.Check.{ExplainedFor, too-small, no-choice, chosen}
+use Rattle.api_c.specs.Codes.{explanationCode}
+use Rattle.api_c.specs.Check.{refusalWithoutChoice, no-choice, chosen}
+use Rattle.api_c.proofs.ChoiceLaws.{refusal-small, refusal-roomy}
 use Rattle.api_c.proofs.check_counterexample.Statement.{statement}
 use Rattle.api_c.proofs.check_counterexample.Tie as tie
 
@@ -11,9 +12,9 @@ explanation-code-requires c κs = search needs
 
 returns : tie.Need-returns
 returns c = record {
-  explanation = Refused 40;
-  explained = too-small (c .before .before .if1 .taken) (c .before .if2 .taken);
-  told = c .explanation-code .ensures;
+  explanation = refusalWithoutChoice _;
+  explained = no-choice (c .before .before .if1 .taken);
+  told = c .explanation-code .ensures ∙ ap explanationCode (refusal-small _ (c .before .if2 .taken));
 }
 
 explanation-code-requires-2 : tie.Need-explanation-code-requires-2
@@ -21,9 +22,9 @@ explanation-code-requires-2 c κs = search needs
 
 returns-2 : tie.Need-returns-2
 returns-2 c = record {
-  explanation = Refused 41;
-  explained = no-choice (c .before .before .if1 .taken) (c .before .if2 .left);
-  told = c .explanation-code2 .ensures;
+  explanation = refusalWithoutChoice _;
+  explained = no-choice (c .before .before .if1 .taken);
+  told = c .explanation-code2 .ensures ∙ ap explanationCode (refusal-roomy _ (c .before .if2 .left));
 }
 
 check-with-counterexample-requires : tie.Need-check-with-counterexample-requires

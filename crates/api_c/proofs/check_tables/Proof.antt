@@ -4,7 +4,7 @@ use borrow.Author.Needs.{needs}
 use Rattle.usage.specs.Answers.{refused}
 use Rattle.checker.specs.Promise.{outcomeVerdict}
 use Rattle.api_c.specs.Codes.{codeOf}
-use Rattle.api_c.specs.Check.{PromisedFor, no-choice, chosen}
+use Rattle.api_c.specs.Check.{no-choice, chosen}
 use Rattle.api_c.proofs.ChoiceLaws.{right-none, right-chosen}
 use Rattle.api_c.proofs.check_tables.Statement.{statement}
 use Rattle.api_c.proofs.check_tables.Tie as tie
