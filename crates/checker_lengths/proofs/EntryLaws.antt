@@ -8,31 +8,32 @@ use native.Mathlib.Decide.{decLe}
 use lib.Dec.{eqb, ltb, leb}
 use lib.ListN.{getD}
 use borrow.Author.Tests.{ltb-true, lt-ltb, le-ltb, le-leb, lt-leb, eq-eqb, ne-eqb}
+use Rattle.usage.specs.Limits.{states, mostNodes, mostShown}
 use Rattle.usage.proofs.Logic.{and-left, and-right, and-both, not-both}
 use Rattle.checker_lengths.specs.declared.Entry.{Entry}
-use Rattle.checker_account.specs.Tables.{made}
+use Rattle.checker_account.specs.Tables.{made, meanings, starts}
 use Rattle.checker_lengths.specs.Offers.{toward, lowEnd}
-use Rattle.checker_lengths.specs.Entries.{size, noLength, entryOf, nodesBefore, linear, inTable, below, held, plus}
+use Rattle.checker_lengths.specs.Entries.{size, noLength, entryOf, nodesBefore, linear, inTable, below, held, plus, aims}
 
 pub record Bounds (e : Entry) : Type 0 where
-  pub node : e .node < 64
-  pub meaning : e .meaning < 6
-  pub state : e .state < 8
-  pub aim : e .aim < 17
+  pub node : e .node < mostNodes
+  pub meaning : e .meaning < meanings
+  pub state : e .state < states
+  pub aim : e .aim < aims
 
 pub bounds : (e : Entry) → inTable e ≡ true → Bounds e
 unfolding inTable
 bounds e h =
-    let h₁ = and-right (ltb (e .node) 64) (ltb (e .meaning) 6 && (ltb (e .state) 8 && ltb (e .aim) 17)) h in
-    let h₂ = and-right (ltb (e .meaning) 6) (ltb (e .state) 8 && ltb (e .aim) 17) h₁ in
+    let h₁ = and-right (ltb (e .node) mostNodes) (ltb (e .meaning) meanings && (ltb (e .state) states && ltb (e .aim) aims)) h in
+    let h₂ = and-right (ltb (e .meaning) meanings) (ltb (e .state) states && ltb (e .aim) aims) h₁ in
     record {
-      node = ltb-true (e .node) 64 (and-left (ltb (e .node) 64) (ltb (e .meaning) 6 && (ltb (e .state) 8 && ltb (e .aim) 17)) h);
-      meaning = ltb-true (e .meaning) 6 (and-left (ltb (e .meaning) 6) (ltb (e .state) 8 && ltb (e .aim) 17) h₁);
-      state = ltb-true (e .state) 8 (and-left (ltb (e .state) 8) (ltb (e .aim) 17) h₂);
-      aim = ltb-true (e .aim) 17 (and-right (ltb (e .state) 8) (ltb (e .aim) 17) h₂);
+      node = ltb-true (e .node) mostNodes (and-left (ltb (e .node) mostNodes) (ltb (e .meaning) meanings && (ltb (e .state) states && ltb (e .aim) aims)) h);
+      meaning = ltb-true (e .meaning) meanings (and-left (ltb (e .meaning) meanings) (ltb (e .state) states && ltb (e .aim) aims) h₁);
+      state = ltb-true (e .state) states (and-left (ltb (e .state) states) (ltb (e .aim) aims) h₂);
+      aim = ltb-true (e .aim) aims (and-right (ltb (e .state) states) (ltb (e .aim) aims) h₂);
     }
 
-pub in-table : (e : Entry) → e .node < 64 → e .meaning < 6 → e .state < 8 → e .aim < 17 → inTable e ≡ true
+pub in-table : (e : Entry) → e .node < mostNodes → e .meaning < meanings → e .state < states → e .aim < aims → inTable e ≡ true
 unfolding inTable
 in-table e a b c d = simp (lt-ltb _ _ a, lt-ltb _ _ b, lt-ltb _ _ c, lt-ltb _ _ d)
 
@@ -47,7 +48,7 @@ low-end-le m = go (made m)
     go true = omega arith
     go false = omega arith
 
-half-le : (o : Bool) → nodesBefore o ≤ 64
+half-le : (o : Bool) → nodesBefore o ≤ mostNodes
 half-le true = omega arith
 half-le false = omega arith
 
@@ -89,18 +90,18 @@ module _ (t : List ℕ) (most : ℕ) (e : Entry) where
 
 -- ── Sums ──
 
-pub plus-none : (a b : ℕ) → 200 < a + b → noLength ≡ plus a b
+pub plus-none : (a b : ℕ) → mostShown < a + b → noLength ≡ plus a b
 unfolding plus
-plus-none a b h = rw (lt-leb (a + b) 200 h)
+plus-none a b h = rw (lt-leb (a + b) mostShown h)
 
-pub plus-some : (a b : ℕ) → a + b ≤ 200 → a + b ≡ plus a b
+pub plus-some : (a b : ℕ) → a + b ≤ mostShown → a + b ≡ plus a b
 unfolding plus
-plus-some a b h = rw (le-leb (a + b) 200 h)
+plus-some a b h = rw (le-leb (a + b) mostShown h)
 
-pub plus-is : (a b n : ℕ) → plus a b ≡ n → n ≤ 200 → a + b ≡ n
-plus-is a b n h l = go (decLe (a + b) 200)
+pub plus-is : (a b n : ℕ) → plus a b ≡ n → n ≤ mostShown → a + b ≡ n
+plus-is a b n h l = go (decLe (a + b) mostShown)
   where
-    go : Dec (a + b ≤ 200) → a + b ≡ n
+    go : Dec (a + b ≤ mostShown) → a + b ≡ n
     go (yes f) = plus-some a b f ∙ h
     go (no f) = let g = plus-none a b (omega arith) in absurd (omega arith)
 
@@ -122,7 +123,7 @@ odd-lt false = omega arith
 odd-lt true = omega arith
 
 -- every start has its turn
-pub start-turn : (l k : ℕ) (o : Bool) (m q : ℕ) → l ≤ m → m < 6 → q < 8 → (i : ℕ) × (i < 2 * (48 - 8 * l))
+pub start-turn : (l k : ℕ) (o : Bool) (m q : ℕ) → l ≤ m → m < meanings → q < states → (i : ℕ) × (i < 2 * (starts - states * l))
     × (startAt l k i ≡ entryOf k o m q 0)
 start-turn l k o m q low high small =
     let n = 8 * (m - l) + q in

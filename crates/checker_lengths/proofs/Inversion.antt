@@ -8,6 +8,7 @@ use native.Mathlib.Omega.{arith}
 use native.Mathlib.Decide.{ℕ-discrete, decLe}
 use lib.Dec.{eqb, ltb, leb}
 use borrow.Author.Tests.{eqb-true, ltb-true, ltb-false, leb-true}
+use Rattle.usage.specs.Limits.{mostShown}
 use Rattle.usage.proofs.Logic.{and-left, and-right}
 use Rattle.usage.specs.Past.{reopened}
 use Rattle.checker_account.specs.Tables.{half}
@@ -46,15 +47,15 @@ use Rattle.checker_lengths.proofs.OfferLaws.{
   sandbox-breaks,
 }
 
-one-is : (b : Bool) (n : ℕ) → oneIf b ≡ n → n ≤ 200 → (b ≡ true) × (n ≡ 1)
+one-is : (b : Bool) (n : ℕ) → oneIf b ≡ n → n ≤ mostShown → (b ≡ true) × (n ≡ 1)
 one-is true n h l = (refl, sym h)
 one-is false n h l = absurd (omega arith)
 
-zero-is : (b : Bool) (n : ℕ) → cond b 0 noLength ≡ n → n ≤ 200 → (b ≡ true) × (n ≡ 0)
+zero-is : (b : Bool) (n : ℕ) → cond b 0 noLength ≡ n → n ≤ mostShown → (b ≡ true) × (n ≡ 0)
 zero-is true n h l = (refl, sym h)
 zero-is false n h l = absurd (omega arith)
 
-module _ (e : Entry) (n : ℕ) (few : n ≤ 200) where
+module _ (e : Entry) (n : ℕ) (few : n ≤ mostShown) where
   pub still-inv : stillOf e ≡ n → (n ≡ 0) × (e .aim ≡ lowEnd (e .meaning) + e .state)
   unfolding stillOf
   still-inv h =

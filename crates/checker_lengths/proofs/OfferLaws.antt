@@ -9,6 +9,7 @@ use native.Mathlib.Numerals.{add-one}
 use lib.Dec.{eqb, ltb, leb}
 use lib.Bits.{bitAnd, and-mask}
 use borrow.Author.Tests.{ltb-true, lt-ltb, le-ltb, le-leb, lt-leb, eq-eqb, ne-eqb}
+use Rattle.usage.specs.Limits.{mostShown}
 use Rattle.usage.specs.Past.{reopened}
 use Rattle.usage.proofs.Logic.{false-true, not-both}
 use Rattle.automaton.specs.Mask.{has}
@@ -139,7 +140,7 @@ module _ (look : Entry → ℕ) (e : Entry) (a b c : ℕ) where
   unfolding sequenceOf
   sequence-both l = rw (lt-leb 16 c l)
 
-  pub sequence-dead : c < 16 → 200 < look (entryOf a (e .opened) (e .meaning) (e .state) c) → noLength ≡ sequenceOf look e a b c
+  pub sequence-dead : c < 16 → mostShown < look (entryOf a (e .opened) (e .meaning) (e .state) c) → noLength ≡ sequenceOf look e a b c
   sequence-dead l d = plus-none (look (entryOf a (e .opened) (e .meaning) (e .state) c)) (look (secondEntry e b c)) (omega arith)
       ∙ sequence-both l
 

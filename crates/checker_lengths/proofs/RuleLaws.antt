@@ -11,7 +11,7 @@ use lib.Dec.{eqb, ltb, leb, lit<}
 use borrow.Author.Tests.{lt-ltb, le-ltb, le-leb, lt-leb, eq-eqb, ne-eqb}
 use Rattle.usage.specs.declared.Edge.{Edge}
 use Rattle.usage.specs.declared.Node.{Node}
-use Rattle.usage.specs.Limits.{statics, create}
+use Rattle.usage.specs.Limits.{statics, create, states, mostNodes, mostShown}
 use Rattle.usage.specs.Policy.{Sees, Moves, Offending}
 use Rattle.usage.specs.Past.{reopened}
 use Rattle.usage.specs.Outline.{Form, Is, end, on-static, on-name, sequence, choice, loop, back, fresh, sandbox}
@@ -27,7 +27,7 @@ use Rattle.checker_account.proofs.Starts.{meant-is, own-watched}
 use Rattle.checker_account.proofs.BegunLaws.{moves-states}
 use Rattle.checker_lengths.specs.declared.Entry.{Entry}
 use Rattle.checker_lengths.specs.declared.Watch.{Watch}
-use Rattle.checker_lengths.specs.Entries.{entryOf, plus}
+use Rattle.checker_lengths.specs.Entries.{entryOf, plus, aims}
 use Rattle.checker_lengths.specs.Offers.{
   lowEnd,
   oneIf,
@@ -80,7 +80,7 @@ use Rattle.checker_lengths.proofs.Numbers.{
 
 -- ── One step ──
 
-pub ending-at : (v : ℕ) (e : Entry) (q : ℕ) → q < 8 → e .aim ≡ lowEnd (e .meaning) + q → has v q ≡ true → endingOf v e ≡ 1
+pub ending-at : (v : ℕ) (e : Entry) (q : ℕ) → q < states → e .aim ≡ lowEnd (e .meaning) + q → has v q ≡ true → endingOf v e ≡ 1
 ending-at v e q l a h =
     let j : e .aim - lowEnd (e .meaning) ≡ q = omega arith in
     sym (ending-by v e (lowEnd (e .meaning)) refl true (omega arith) (omega arith) (ap (has v) j ∙ h))
@@ -90,10 +90,10 @@ unfolding breaking
 breaking-at v e a o h = ap oneIf (and-both (eqb (e .aim) 16) (e .opened && offends (half false v)) (eq-eqb (e .aim) 16 a)
     (and-both (e .opened) (offends (half false v)) o h))
 
-pub one-more : (n : ℕ) → suc n ≤ 200 → plus 1 n ≡ suc n
+pub one-more : (n : ℕ) → suc n ≤ mostShown → plus 1 n ≡ suc n
 one-more n l = sym (plus-some 1 n (omega arith)) ∙ omega arith
 
-pub two-more : (n : ℕ) → suc (suc n) ≤ 200 → plus 2 n ≡ suc (suc n)
+pub two-more : (n : ℕ) → suc (suc n) ≤ mostShown → plus 2 n ≡ suc (suc n)
 two-more n l = sym (plus-some 2 n (omega arith)) ∙ omega arith
 
 pub named-low : (m n r : ℕ) → r < 8 → named m n r ≡ forgotten m n
@@ -104,18 +104,18 @@ pub named-high : (m n r : ℕ) → 8 ≤ r → named m n r ≡ suc n
 unfolding named
 named-high m n r l = ap (λ (b : Bool). cond b (forgotten m n) (suc n)) (le-ltb r 8 l)
 
-pub end-range : (c : Bool) (q : ℕ) → q < 8 → aimAt (ended c q) < 17
+pub end-range : (c : Bool) (q : ℕ) → q < states → aimAt (ended c q) < 17
 end-range c q l = omega (arith, aim-ended c q l, at-lt c q l)
 
 pub offending-least : (q : ℕ) → Offending q → 6 ≤ q
 offending-least q (inl e) = omega arith
 offending-least q (inr e) = omega arith
 
-pub moved-in : (rows : List ℕ) (e : Entry) (own : Bool) → e .node < 64 → e .state < 8
+pub moved-in : (rows : List ℕ) (e : Entry) (own : Bool) → e .node < mostNodes → e .state < states
     → moved rows e own ≡ rowsIn rows (e .node) own (e .state)
 unfolding moved
 moved-in rows e own k q = ap (λ (b : Bool). cond b (rowsIn rows (e .node) own (e .state)) 0)
-    (and-both (ltb (e .node) 64) (ltb (e .state) 8) (lt-ltb (e .node) 64 k) (lt-ltb (e .state) 8 q))
+    (and-both (ltb (e .node) mostNodes) (ltb (e .state) states) (lt-ltb (e .node) mostNodes k) (lt-ltb (e .state) states q))
 
 pub born-in : (rows : List ℕ) (e : Entry) (own : Bool) → (own ≡ true → made (e .meaning) ≡ false) → born rows e own ≡ moved rows e own
 unfolding born
@@ -129,13 +129,13 @@ module _ (local : Bool) (es : List Edge) (ns : List Node) (p x : ℕ) (rows : Li
     pub is : Is ns k form
     pub rule : ℕ
     pub listed : rule < ways form
-    pub in-range : aimAt t < 17
+    pub in-range : aimAt t < aims
     pub gives : offerOf (watchOf local p x) rows look (entryOf k o (meaningOf w c) q (aimAt t)) rule form ≡ n
 
-  pub small-node : {k : ℕ} {f : Form} → Is ns k f → k < 64
+  pub small-node : {k : ℕ} {f : Form} → Is ns k f → k < mostNodes
   small-node i = let l = exists i in let few = src .outline .few in omega arith
 
-  pub state-lt : {a q q′ : ℕ} {sees : ℕ → ℕ → Type 0} → Moves es p a sees q q′ → q < 8 → q′ < 8
+  pub state-lt : {a q q′ : ℕ} {sees : ℕ → ℕ → Type 0} → Moves es p a sees q q′ → q < states → q′ < 8
   state-lt v l = moves-states (src .edges) v l
 
   -- ── The rows ──
@@ -183,14 +183,14 @@ module _ (local : Bool) (es : List Edge) (ns : List Node) (p x : ℕ) (rows : Li
   -- an entry of E is what `look` tells of it
   pub record Reads (E : Entries) : Type 0 where
     pub read : {n : ℕ} {o : Bool} {k w : ℕ} {c : Bool} {q : ℕ} {t : Aim} → E n o k w c q t
-        → (look (entryOf k o (meaningOf w c) q (aimAt t)) ≡ n) × (n ≤ 200) × (aimAt t < 17)
+        → (look (entryOf k o (meaningOf w c) q (aimAt t)) ≡ n) × (n ≤ mostShown) × (aimAt t < aims)
 
   module _ (E : Entries) (reads : Reads E) where
     break-aim : {u : Option Last} → Aimed (broken u) → aimAt (broken u) ≡ 16
     break-aim {u} a = aim-break (broken u) a u refl
 
     pub offered : {n : ℕ} {o : Bool} {k w : ℕ} {c : Bool} {q : ℕ} {t : Aim} → Begun x w c q → Aimed t → Rule local es ns p x E n o k w c q t
-        → n ≤ 200 → Offered n o k w c q t
+        → n ≤ mostShown → Offered n o k w c q t
     unfolding offerOf eventOf
     offered {o = o} {k} {w} {c} {q} b a (Rule.ends i) l = record {
       form = end;

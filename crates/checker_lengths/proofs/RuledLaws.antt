@@ -11,7 +11,7 @@ use lib.Dec.{eqb, leb, lit<}
 use borrow.Author.Tests.{le-leb, lt-leb, eq-eqb, ne-eqb}
 use Rattle.usage.specs.declared.Edge.{Edge}
 use Rattle.usage.specs.declared.Node.{Node}
-use Rattle.usage.specs.Limits.{create}
+use Rattle.usage.specs.Limits.{create, mostShown, states}
 use Rattle.usage.specs.Policy.{Sees, Moves, Offending}
 use Rattle.usage.specs.Past.{reopened}
 use Rattle.usage.specs.Outline.{Form, Is, end, on-static, on-name, sequence, choice, loop, back, fresh, sandbox}
@@ -25,7 +25,7 @@ use Rattle.checker_account.proofs.MaskLaws.{has-none, offends-has}
 use Rattle.checker_account.proofs.Starts.{meant-is, own-watched}
 use Rattle.checker_account.proofs.BegunLaws.{begun-opened}
 use Rattle.checker_lengths.specs.declared.Entry.{Entry}
-use Rattle.checker_lengths.specs.Entries.{entryOf}
+use Rattle.checker_lengths.specs.Entries.{entryOf, aims}
 use Rattle.checker_lengths.specs.Offers.{
   lowEnd,
   moved,
@@ -60,11 +60,11 @@ use Rattle.checker_lengths.proofs.Numbers.{
 }
 use Rattle.checker_lengths.proofs.RuleLaws.{moved-in, born-in, small-node, dynamic, named-low, named-high}
 
-pub offending-small : (q : ℕ) → Offending q → q < 8
+pub offending-small : (q : ℕ) → Offending q → q < states
 offending-small q (inl e) = omega arith
 offending-small q (inr e) = omega arith
 
-pub offending-of : (q : ℕ) → 6 ≤ q → q < 8 → Offending q
+pub offending-of : (q : ℕ) → 6 ≤ q → q < states → Offending q
 offending-of q l h = go (ℕ-discrete q 6)
   where
     go : Dec (q ≡ 6) → Offending q
@@ -74,7 +74,7 @@ offending-of q l h = go (ℕ-discrete q 6)
 pub break-is : (t : Aim) → Aimed t → aimAt t ≡ 16 → t ≡ broken none
 break-is t a e = aim-one t (broken none) a at-break (omega arith) e
 
-pub end-is : (t : Aim) (w : ℕ) (c : Bool) (q : ℕ) → Aimed t → aimAt t < 17 → q < 8 → aimAt t ≡ lowEnd (meaningOf w c) + q → t ≡ ended c q
+pub end-is : (t : Aim) (w : ℕ) (c : Bool) (q : ℕ) → Aimed t → aimAt t < aims → q < states → aimAt t ≡ lowEnd (meaningOf w c) + q → t ≡ ended c q
 end-is t w c q a h l e = aim-one t (ended c q) a at-end h (e ∙ sym (aim-end w c q l))
 
 -- no second creation of the watched resource
@@ -125,7 +125,7 @@ module _ (local : Bool) (es : List Edge) (ns : List Node) (p x : ℕ) (rows : Li
   module _ (look : Entry → ℕ) where
     -- what `look` tells is an entry of E
     pub record Stands (E : Entries) : Type 0 where
-      pub stand : (n : ℕ) (o : Bool) (k w : ℕ) (c : Bool) (q : ℕ) (t : Aim) → look (entryOf k o (meaningOf w c) q (aimAt t)) ≡ n → n ≤ 200
+      pub stand : (n : ℕ) (o : Bool) (k w : ℕ) (c : Bool) (q : ℕ) (t : Aim) → look (entryOf k o (meaningOf w c) q (aimAt t)) ≡ n → n ≤ mostShown
           → E n o k w c q t
 
     module _ (E : Entries) (stands : Stands E) where
@@ -141,8 +141,8 @@ module _ (local : Bool) (es : List Edge) (ns : List Node) (p x : ℕ) (rows : Li
           → Ruled 1 true k w c q (broken none) → Ruled n o k w c q t
       rule-break {n} {o} {k} {w} {c} {q} {t} e f g r = subst (λ (d : Bool). Ruled n d k w c q t) (sym f) (rule-in (sym e) (sym g) r)
 
-      module _ (n : ℕ) (o : Bool) (k w : ℕ) (c : Bool) (q : ℕ) (t : Aim) (b : Begun x w c q) (a : Aimed t) (in-range : aimAt t < 17)
-          (few : n ≤ 200) where
+      module _ (n : ℕ) (o : Bool) (k w : ℕ) (c : Bool) (q : ℕ) (t : Aim) (b : Begun x w c q) (a : Aimed t) (in-range : aimAt t < aims)
+          (few : n ≤ mostShown) where
         abbrev at-entry : Entry
         at-entry = entryOf k o (meaningOf w c) q (aimAt t)
 
@@ -237,7 +237,7 @@ module _ (local : Bool) (es : List Edge) (ns : List Node) (p x : ℕ) (rows : Li
             (offending-of (reopened local p p o q) h (begun-opened b local p p o .state)) each)
 
       -- the creation of the watched resource, which was not created before
-      ruled-own : (n : ℕ) (o : Bool) (k w : ℕ) (c : Bool) (q : ℕ) (t : Aim) → Begun x w c q → n ≤ 200 → {m d : ℕ} (r : ℕ)
+      ruled-own : (n : ℕ) (o : Bool) (k w : ℕ) (c : Bool) (q : ℕ) (t : Aim) → Begun x w c q → n ≤ mostShown → {m d : ℕ} (r : ℕ)
           → Is ns k (fresh m d) → 8 ≤ r → r < 16
           → has (born rows (entryOf k o (meaningOf w c) q (aimAt t)) (leb 8 r)) (r % 8) ≡ true
           → 1 + look (bodyEntry (entryOf k o (meaningOf w c) q (aimAt t)) m d r) ≡ n → Ruled n o k w c q t
@@ -254,7 +254,7 @@ module _ (local : Bool) (es : List Edge) (ns : List Node) (p x : ℕ) (rows : Li
           (omega arith)))
 
       -- a creation that breaks the policy
-      ruled-born : (n : ℕ) (o : Bool) (k w : ℕ) (c : Bool) (q : ℕ) (t : Aim) → Begun x w c q → Aimed t → n ≤ 200 → {m d : ℕ} (own : Bool)
+      ruled-born : (n : ℕ) (o : Bool) (k w : ℕ) (c : Bool) (q : ℕ) (t : Aim) → Begun x w c q → Aimed t → n ≤ mostShown → {m d : ℕ} (own : Bool)
           → Is ns k (fresh m d)
           → breaking (born rows (entryOf k o (meaningOf w c) q (aimAt t)) own) (entryOf k o (meaningOf w c) q (aimAt t)) ≡ n
           → Ruled n o k w c q t
@@ -274,7 +274,7 @@ module _ (local : Bool) (es : List Edge) (ns : List Node) (p x : ℕ) (rows : Li
           let (j, off, s) = offends-has (born rows here true) v in
           rule-break z f (break-is t a g) (Rule.breaks-own i (own-moves k o (aimAt t) j b (offending-small j off) i s) off each)
 
-      pub ruled : (n : ℕ) (o : Bool) (k w : ℕ) (c : Bool) (q : ℕ) (t : Aim) → Begun x w c q → Aimed t → aimAt t < 17 → n ≤ 200
+      pub ruled : (n : ℕ) (o : Bool) (k w : ℕ) (c : Bool) (q : ℕ) (t : Aim) → Begun x w c q → Aimed t → aimAt t < aims → n ≤ mostShown
           → (f : Form) (r : ℕ) → Is ns k f
           → offerOf (watchOf local p x) rows look (entryOf k o (meaningOf w c) q (aimAt t)) r f ≡ n → Ruled n o k w c q t
       unfolding offerOf

@@ -12,6 +12,7 @@ use lib.Bits.{bitOr}
 use lib.Pow.{shl-exact}
 use lib.ListN.{length}
 use borrow.Author.Tests.{eqb-true, eq-eqb, lt-ltb, le-ltb}
+use Rattle.usage.specs.Limits.{mostNodes, nodeFields}
 use Rattle.usage.specs.Outline.{formOf}
 use Rattle.usage.proofs.Logic.{by-cases, last-or-lower}
 use Rattle.automaton.specs.Mask.{has}
@@ -31,34 +32,34 @@ spot i n = record { at = i; next = n }
 
 -- ── One node ──
 
-bit-in : (k : ℕ) → k < 64 → bitOf k ≡ 2 ^ k
+bit-in : (k : ℕ) → k < mostNodes → bitOf k ≡ 2 ^ k
 unfolding bitOf
-bit-in k l = ap (λ (b : Bool). cond b (2 ^ k) 0) (lt-ltb k 64 l)
+bit-in k l = ap (λ (b : Bool). cond b (2 ^ k) 0) (lt-ltb k mostNodes l)
 
-pub no-bit : (k : ℕ) → 64 ≤ k → bitOf k ≡ 0
+pub no-bit : (k : ℕ) → mostNodes ≤ k → bitOf k ≡ 0
 unfolding bitOf
-no-bit k l = ap (λ (b : Bool). cond b (2 ^ k) 0) (le-ltb k 64 l)
+no-bit k l = ap (λ (b : Bool). cond b (2 ^ k) 0) (le-ltb k mostNodes l)
 
-pub shl-bit : (k : ℕ) → k < 64 → 1 * 2 ^ k % 2 ^ 64 ≡ bitOf k
+pub shl-bit : (k : ℕ) → k < mostNodes → 1 * 2 ^ k % 2 ^ 64 ≡ bitOf k
 shl-bit k l = shl-exact {a = 1} 1 k 64 (lit< tt) (omega arith) ∙ one-mul (2 ^ k) ∙ sym (bit-in k l)
 
-pow-test : all-below 64 (λ k. all-below 64 (λ j. Bool·beq (has (2 ^ k) j) (eqb k j))) ≡ true
+pow-test : all-below mostNodes (λ k. all-below mostNodes (λ j. Bool·beq (has (2 ^ k) j) (eqb k j))) ≡ true
 unfolding all-below has
 pow-test = refl
 
-pow-has : (k j : ℕ) → k < 64 → j < 64 → has (2 ^ k) j ≡ eqb k j
+pow-has : (k j : ℕ) → k < mostNodes → j < mostNodes → has (2 ^ k) j ≡ eqb k j
 pow-has k j l m =
     same-test (has (2 ^ k) j) (eqb k j)
-    (all-below-at 64 (λ j. Bool·beq (has (2 ^ k) j) (eqb k j))
-    (all-below-at 64 (λ k. all-below 64 (λ j. Bool·beq (has (2 ^ k) j) (eqb k j))) pow-test k l) j m)
+    (all-below-at mostNodes (λ j. Bool·beq (has (2 ^ k) j) (eqb k j))
+    (all-below-at mostNodes (λ k. all-below mostNodes (λ j. Bool·beq (has (2 ^ k) j) (eqb k j))) pow-test k l) j m)
 
-pub bit-at : (k : ℕ) → k < 64 → has (bitOf k) k ≡ true
+pub bit-at : (k : ℕ) → k < mostNodes → has (bitOf k) k ≡ true
 bit-at k l = ap (λ (s : ℕ). has s k) (bit-in k l) ∙ pow-has k k l l ∙ eq-eqb k k refl
 
-pub bit-is : (k j : ℕ) → j < 64 → has (bitOf k) j ≡ true → k ≡ j
-bit-is k j m h = go (decLe 64 k)
+pub bit-is : (k j : ℕ) → j < mostNodes → has (bitOf k) j ≡ true → k ≡ j
+bit-is k j m h = go (decLe mostNodes k)
   where
-    go : Dec (64 ≤ k) → k ≡ j
+    go : Dec (mostNodes ≤ k) → k ≡ j
     go (yes l) = has-none j (sym (ap (λ (s : ℕ). has s j) (no-bit k l)) ∙ h)
     go (no l) = eqb-true k j (sym (pow-has k j (omega arith) m) ∙ sym (ap (λ (s : ℕ). has s j) (bit-in k (omega arith))) ∙ h)
 
@@ -120,9 +121,9 @@ module _ (t nodes : List ℕ) (e : Entry) where
       (λ m. spread-still n s g k m a j b)
 
   module _ (P : ℕ → Type 0) where
-    spread-all : (n s : ℕ) → n ≤ 64 → ((j : ℕ) → j < 64 → has s j ≡ true → P j)
-        → ((k : ℕ) → k < n → P k → (j : ℕ) → j < 64 → has (leadsFrom t e (formHere nodes k)) j ≡ true → P j)
-        → (j : ℕ) → j < 64 → has (spreadTo t nodes e n s) j ≡ true → P j
+    spread-all : (n s : ℕ) → n ≤ mostNodes → ((j : ℕ) → j < mostNodes → has s j ≡ true → P j)
+        → ((k : ℕ) → k < n → P k → (j : ℕ) → j < mostNodes → has (leadsFrom t e (formHere nodes k)) j ≡ true → P j)
+        → (j : ℕ) → j < mostNodes → has (spreadTo t nodes e n s) j ≡ true → P j
     unfolding spreadTo
     spread-all zero s few h f j l a = h j l a
     spread-all (suc n) s few h f j l a =
@@ -132,15 +133,15 @@ module _ (t nodes : List ℕ) (e : Entry) where
         (λ b. f n (omega arith) (ih n (omega arith) (b .0)) j l (b .1))
 
     -- what holds of the entry's node, and of all that a node leads to that it holds of, holds of the closure
-    pub spreads-all : {s : ℕ} → Spreads t nodes e s → length nodes / 3 ≤ 64 → P (e .node)
-        → ((k : ℕ) → k < length nodes / 3 → P k → (j : ℕ) → j < 64 → has (leadsFrom t e (formHere nodes k)) j ≡ true → P j) → (j : ℕ)
-        → j < 64 → has s j ≡ true → P j
+    pub spreads-all : {s : ℕ} → Spreads t nodes e s → length nodes / nodeFields ≤ mostNodes → P (e .node)
+        → ((k : ℕ) → k < length nodes / nodeFields → P k → (j : ℕ) → j < mostNodes → has (leadsFrom t e (formHere nodes k)) j ≡ true → P j) → (j : ℕ)
+        → j < mostNodes → has s j ≡ true → P j
     spreads-all begins few h f j l a = subst P (bit-is (e .node) j l a) h
-    spreads-all (further {s = s} d) few h f j l a = spread-all (length nodes / 3) s few (λ i m b. spreads-all d few h f i m b) f j l a
+    spreads-all (further {s = s} d) few h f j l a = spread-all (length nodes / nodeFields) s few (λ i m b. spreads-all d few h f i m b) f j l a
 
-  pub spreads-node : {s : ℕ} → Spreads t nodes e s → e .node < 64 → has s (e .node) ≡ true
+  pub spreads-node : {s : ℕ} → Spreads t nodes e s → e .node < mostNodes → has s (e .node) ≡ true
   spreads-node begins l = bit-at (e .node) l
-  spreads-node (further {s = s} d) l = spread-has (length nodes / 3) s (e .node) (spreads-node d l)
+  spreads-node (further {s = s} d) l = spread-has (length nodes / nodeFields) s (e .node) (spreads-node d l)
 
 -- a node of another kind leads nowhere
 pub no-leads : (t : List ℕ) (e : Entry) (k a b : ℕ) → (k ≡ 3 → ⊥) → (k ≡ 4 → ⊥) → (k ≡ 5 → ⊥) → (k ≡ 6 → ⊥)

@@ -11,7 +11,7 @@ use lib.Dec.{eqb, leb}
 use lib.ListN.{length, getD}
 use borrow.Author.Tests.{le-leb, lt-leb, eq-eqb, ne-eqb}
 use Rattle.usage.specs.declared.Edge.{Edge}
-use Rattle.usage.specs.Limits.{mostShown, create}
+use Rattle.usage.specs.Limits.{mostShown, create, mostNodes, nodeFields}
 use Rattle.usage.specs.Policy.{Offending}
 use Rattle.usage.specs.Past.{Step, event, opening, closing, Past, reopened}
 use Rattle.usage.specs.Outline as outline
@@ -78,7 +78,7 @@ use Rattle.checker_trace.proofs.StepLaws.{laid-more, spotted-opening, s
 use Rattle.checker_trace.proofs.PartLaws.{Run, run-in, back-to, chosen-fresh}
 use Rattle.checker_trace.proofs.WriteLaws.{tells-is, Arrived, arrive, passes-names, range-of}
 
-module _ (w : Watch) (rows nodes t : List ℕ) (e : Entry) (n r : ℕ) (few-nodes : length nodes / 3 ≤ 64) (few : n ≤ 200) where
+module _ (w : Watch) (rows nodes t : List ℕ) (e : Entry) (n r : ℕ) (few-nodes : length nodes / nodeFields ≤ mostNodes) (few : n ≤ mostShown) where
   abbrev Here : List Edge → ℕ → Bool → ℕ → outline.Names → ℕ → Bool → ℕ → Past → Aim → Past → Type 0
   Here es i o k names m c q past aim after = Run w rows nodes t e n r few-nodes few es i o k names m c q past aim after
 

@@ -4,6 +4,7 @@ use mathlib.Core.Path.{_≡_, refl}
 use mathlib.Core.Option.{some}
 use mathlib.Core.List.{List}
 use native.Mathlib.Omega.{arith}
+use Rattle.usage.specs.Limits.{mostShown}
 use Rattle.usage.specs.declared.Node.{Node}
 use Rattle.usage.specs.Outline.{formOf, on-static, on-name, sequence, fresh, sandbox}
 use Rattle.checker_lengths.specs.declared.Entry.{Entry}
@@ -33,7 +34,7 @@ module _ (f : Node) where
   form-8 h = rw h
 
 -- a node of another kind gives no step from entries of fewer steps
-module _ (w : Watch) (rows nodes t : List ℕ) (e : Entry) (n r : ℕ) (few : n ≤ 200) (one : 1 ≤ n) (a b : ℕ) where
+module _ (w : Watch) (rows nodes t : List ℕ) (e : Entry) (n r : ℕ) (few : n ≤ mostShown) (one : 1 ≤ n) (a b : ℕ) where
   pub chosen-other : (k : ℕ) → (k ≡ 1 → ⊥) → (k ≡ 2 → ⊥) → (k ≡ 3 → ⊥) → (k ≡ 7 → ⊥) → (k ≡ 8 → ⊥)
       → Chosen w rows nodes t e n (formOf (record { kind = k; a = a; b = b })) r → ⊥
   unfolding formOf

@@ -13,7 +13,7 @@ use lib.Bits.{bitOr}
 use lib.ListN.{length, getD}
 use borrow.Author.Tests.{eqb-true, eq-eqb}
 use Rattle.usage.specs.declared.Edge.{Edge}
-use Rattle.usage.specs.Limits.{mostShown}
+use Rattle.usage.specs.Limits.{mostShown, mostNodes, nodeFields}
 use Rattle.usage.specs.Outline.{Form, Is, end, on-static, on-name, sequence, choice, loop, back, fresh, sandbox}
 use Rattle.usage.specs.Valid.{Scope}
 use Rattle.usage.specs.Tables.{nodesOf}
@@ -58,10 +58,10 @@ held-cut t most most′ e n h few l =
     let (i, g, k) = held-is t most e n h (omega arith) in
     sym (held-less t most′ e (linear e) i refl (omega arith)) ∙ g
 
-bit-if-at : (b : Bool) (k : ℕ) → b ≡ true → k < 64 → has (bitIf b k) k ≡ true
+bit-if-at : (b : Bool) (k : ℕ) → b ≡ true → k < mostNodes → has (bitIf b k) k ≡ true
 bit-if-at b k e l = ap (λ (z : Bool). has (bitIf z k) k) e ∙ bit-at k l
 
-bit-if-is : (b : Bool) (k j : ℕ) → j < 64 → has (bitIf b k) j ≡ true → (b ≡ true) × (k ≡ j)
+bit-if-is : (b : Bool) (k j : ℕ) → j < mostNodes → has (bitIf b k) j ≡ true → (b ≡ true) × (k ≡ j)
 bit-if-is true k j l h = (refl, bit-is k j l h)
 bit-if-is false k j l h = has-none j h
 
@@ -110,7 +110,7 @@ module _ (local : Bool) (es : List Edge) (nodes : List ℕ) (p x : ℕ) (rows t 
       go u at-end e = or-right (eqb (aimAt aim) 16) (idleIn t here j) (at-idle j (h (ap ending e)))
       go u at-break e = or-left (eqb (aimAt aim) 16) (idleIn t here j) (eq-eqb (aimAt aim) 16 (ap aimAt e))
 
-  pub leads-of : (i j : ℕ) (f : Form) → Is (nodesOf nodes) i f → j < 64 → has (leadsOf t here f) j ≡ true
+  pub leads-of : (i j : ℕ) (f : Form) → Is (nodesOf nodes) i f → j < mostNodes → has (leadsOf t here f) j ≡ true
       → Leads (nodesOf nodes) (ending aim) i j
   unfolding leadsOf sequenceLeads
   leads-of i j end is l h = has-none j h
@@ -153,28 +153,28 @@ module _ (local : Bool) (es : List Edge) (nodes : List ℕ) (p x : ℕ) (rows t 
 
   -- ── Any number of moves ──
 
-  few-nodes : length nodes / 3 ≤ 64
+  few-nodes : length nodes / nodeFields ≤ mostNodes
   few-nodes = let l = src .outline .few in let n = nodes-length nodes in omega arith
 
-  pub closure-passes : (s : ℕ) → Closure t nodes here s → (j : ℕ) → j < 64 → has s j ≡ true → PassesAll (nodesOf nodes) (ending aim) k j
+  pub closure-passes : (s : ℕ) → Closure t nodes here s → (j : ℕ) → j < mostNodes → has s j ≡ true → PassesAll (nodesOf nodes) (ending aim) k j
   closure-passes s h j l g =
       spreads-all t nodes here (PassesAll (nodesOf nodes) (ending aim) k) (h .spreads) few-nodes PassesAll.here
       (λ i u d j v w. passes-more d (go i j u v (formHere nodes i) refl w)) j l g
     where
-      go : (i j : ℕ) → i < length nodes / 3 → j < 64 → (f : Option Form) → formHere nodes i ≡ f → has (leadsFrom t here f) j ≡ true
+      go : (i j : ℕ) → i < length nodes / nodeFields → j < mostNodes → (f : Option Form) → formHere nodes i ≡ f → has (leadsFrom t here f) j ≡ true
           → Leads (nodesOf nodes) (ending aim) i j
       go i j u v none e w = has-none j w
       go i j u v (some f) e w = leads-of i j f (here-form local es nodes p x rows src i f u e) v w
 
-  pub passes-closure : (s : ℕ) → Closure t nodes here s → k < 64 → (j : ℕ) → PassesAll (nodesOf nodes) (ending aim) k j → has s j ≡ true
+  pub passes-closure : (s : ℕ) → Closure t nodes here s → k < mostNodes → (j : ℕ) → PassesAll (nodesOf nodes) (ending aim) k j → has s j ≡ true
   passes-closure s h l j d =
-      passes-all (λ (i : ℕ). has s i ≡ true) (λ i y g u. spread-still t nodes here (length nodes / 3) s (h .still) i (leads-node u) g y
+      passes-all (λ (i : ℕ). has s i ≡ true) (λ i y g u. spread-still t nodes here (length nodes / nodeFields) s (h .still) i (leads-node u) g y
       (of-leads i y u)) (spreads-node t nodes here (h .spreads) l) d
     where
-      node-of : (i : ℕ) (f : Form) → Is (nodesOf nodes) i f → i < length nodes / 3
+      node-of : (i : ℕ) (f : Form) → Is (nodesOf nodes) i f → i < length nodes / nodeFields
       node-of i f is = form-here local es nodes p x rows src i f is .0
 
-      leads-node : {i y : ℕ} → Leads (nodesOf nodes) (ending aim) i y → i < length nodes / 3
+      leads-node : {i y : ℕ} → Leads (nodesOf nodes) (ending aim) i y → i < length nodes / nodeFields
       leads-node (Leads.first is g) = node-of _ _ is
       leads-node (Leads.second is g) = node-of _ _ is
       leads-node (Leads.left is) = node-of _ _ is

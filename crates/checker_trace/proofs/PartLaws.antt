@@ -11,7 +11,7 @@ use lib.Dec.{eqb, leb}
 use lib.ListN.{length, getD}
 use borrow.Author.Tests.{le-leb, lt-leb, eq-eqb, ne-eqb}
 use Rattle.usage.specs.declared.Edge.{Edge}
-use Rattle.usage.specs.Limits.{mostShown, create}
+use Rattle.usage.specs.Limits.{mostShown, create, mostNodes, nodeFields}
 use Rattle.usage.specs.Policy.{Offending}
 use Rattle.usage.specs.Past.{Step, event, opening, closing, Past, reopened}
 use Rattle.usage.specs.Outline as outline
@@ -79,11 +79,11 @@ use Rattle.checker_trace.proofs.WriteLaws.{tells-is, Arrived, arrive, p
 
 -- ── What the rule read ──
 
-module _ (w : Watch) (rows nodes t : List ℕ) (e : Entry) (n r : ℕ) (few : n ≤ 200) where
+module _ (w : Watch) (rows nodes t : List ℕ) (e : Entry) (n r : ℕ) (few : n ≤ mostShown) where
   offer-of : (f : Option Form) → Chosen w rows nodes t e n f r → (k : ℕ) × (offerFrom w rows (held t n) (atNode e k) r f ≡ n)
   offer-of f (k, on, g) = (k, subst (λ (y : Option Form). offerFrom w rows (held t n) (atNode e k) r y ≡ n) g (on .4))
 
-  pub held-less-than : (y : Entry) (v : ℕ) → held t n y ≡ v → v ≤ 200 → v < n
+  pub held-less-than : (y : Entry) (v : ℕ) → held t n y ≡ v → v ≤ mostShown → v < n
   held-less-than y v h l = held-is t n y v h (omega arith) .2
 
   pub chosen-sequence : (a b : ℕ) → Chosen w rows nodes t e n (some (sequence a b)) r
@@ -136,7 +136,7 @@ module _ (w : Watch) (rows nodes t : List ℕ) (e : Entry) (n r : ℕ) (few : n 
 
 -- ── What is written ──
 
-module _ (w : Watch) (rows nodes t : List ℕ) (e : Entry) (n r : ℕ) (few-nodes : length nodes / 3 ≤ 64) (few : n ≤ 200) where
+module _ (w : Watch) (rows nodes t : List ℕ) (e : Entry) (n r : ℕ) (few-nodes : length nodes / nodeFields ≤ mostNodes) (few : n ≤ mostShown) where
   abbrev pub Run : List Edge → ℕ → Bool → ℕ → outline.Names → ℕ → Bool → ℕ → Past → Aim → Past → Type 0
   Run es i o k names m c q past aim after = Written (w .local) es (nodesOf nodes) (w .policy) (w .resource) i o k names m c q past aim after
 

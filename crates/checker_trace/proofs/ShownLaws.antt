@@ -10,8 +10,9 @@ use native.Mathlib.Decide.{decLe}
 use borrow.Author.Count.{below-more}
 use lib.Dec.{eqb, ltb}
 use lib.ListN.{length, replicate}
+use Rattle.checker_trace.specs.Answer.{mostNumbers}
 use Rattle.usage.specs.declared.Edge.{Edge}
-use Rattle.usage.specs.Limits.{statics, mostShown}
+use Rattle.usage.specs.Limits.{statics, mostShown, mostNodes, nodeFields}
 use Rattle.usage.specs.Policy.{Sees, Moves, along, stays, Offending, EdgesOk}
 use Rattle.usage.specs.Past.{Past, count, isOpen, May, start, moved, opened, closed}
 use Rattle.usage.specs.Outline.{on-static, noNames}
@@ -23,7 +24,7 @@ use Rattle.usage.proofs.TableLaws.{nodes-length}
 use Rattle.automaton.specs.Move.{rowsOf}
 use Rattle.checker_account.specs.Witness.{watched, noName, each, Last, Aim, broken, Hits}
 use Rattle.checker_account.specs.Written.{Written}
-use Rattle.checker_account.specs.Tables.{least, rowsIn}
+use Rattle.checker_account.specs.Tables.{least, rowsIn, places}
 use Rattle.checker_account.specs.Rounds.{formsIn}
 use Rattle.checker_account.specs.RowTable.{fillRows}
 use Rattle.checker_account.specs.Least.{Least, at-break}
@@ -69,14 +70,14 @@ root-is x = ap (λ (m : ℕ). entryOf 0 false m 0 16) (root-meaning x)
 
 module _ (e t : List ℕ) (edges : EdgesOk (edgesOf e)) (ok : OutlineOk (nodesOf t)) (p : ℕ) (policy : p < 8) (rows : List ℕ)
     (filled : rows ≡ rowTable (rowsOf (edgesOf e)) p t) where
-  pub few-nodes : length t / 3 ≤ 64
+  pub few-nodes : length t / nodeFields ≤ mostNodes
   few-nodes = let l = ok .few in let n = nodes-length t in omega arith
 
   pub source-of : (x : ℕ) → x ≤ watched → Source (edgesOf e) (nodesOf t) p x rows
   source-of x l =
       let es = edgesOf e in
-      let made = rows-from (rowsOf es) p (formsIn t) (replicate 3072 0) refl (nodesOf t) (length t / 3) few-nodes (forms-of t) in
-      let right = rows-ok es (nodesOf t) p x (rowsIn (fillRows (rowsOf es) p (length t / 3) (formsIn t) (replicate 3072 0))) _ l edges
+      let made = rows-from (rowsOf es) p (formsIn t) (replicate places 0) refl (nodesOf t) (length t / nodeFields) few-nodes (forms-of t) in
+      let right = rows-ok es (nodesOf t) p x (rowsIn (fillRows (rowsOf es) p (length t / nodeFields) (formsIn t) (replicate places 0))) _ l edges
       (event-image es edges p policy) made in
       subst (λ (r : List ℕ). Source es (nodesOf t) p x r) (sym (filled ∙ whole-in (rowsOf es) p t policy few-nodes))
       (record { edges = edges; outline = ok; small = l; moves = right })
@@ -234,7 +235,7 @@ unfolding count
 first-spot = record { at = refl; next = refl }
 
 pub root-shows : (w : Watch) (rows nodes t : List ℕ) (n : ℕ) (trace : List ℕ) (r : Spot) (trace′ : List ℕ) → Full w rows nodes t
-    → n ≤ mostShown → 600 ≤ length trace
+    → n ≤ mostShown → mostNumbers ≤ length trace
     → Writes w rows nodes t (rootOf (w .resource)) n none-given at-first trace r trace′ → Shows w rows nodes n trace trace′
 root-shows w rows nodes t n trace r trace′ full few room d es src steps =
     let x = w .resource in

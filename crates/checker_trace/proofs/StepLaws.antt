@@ -10,7 +10,7 @@ use native.Mathlib.Numerals.{add-one}
 use lib.ListN.{length, getD, take, drop, set, length-set, length-append, length-drop}
 use lib.Seq.{sets, sets-eq, take-at, drop-append-add, drop-drop, getD-set-same, getD-set-other}
 use borrow.Author.Tests.{ne-eqb}
-use Rattle.usage.specs.Limits.{create, statics}
+use Rattle.usage.specs.Limits.{create, statics, stepFields}
 use Rattle.usage.specs.Past.{Step, event, opening, closing, Past, count, addIf, creates}
 use Rattle.usage.specs.Outline as outline
 use Rattle.usage.proofs.TraceLaws.{give-same, give-other}
@@ -25,7 +25,7 @@ three-length (event a r) = refl
 three-length (opening p) = refl
 three-length (closing p) = refl
 
-pub numbers-length : (past : Past) → length (numbers past) ≡ 3 * length past
+pub numbers-length : (past : Past) → length (numbers past) ≡ stepFields * length past
 unfolding numbers
 numbers-length [] = refl
 numbers-length (s ∷ past) = length-append (numbers past) (three s) ∙ let l = numbers-length past in let k = three-length s in omega arith
@@ -34,51 +34,51 @@ pub laid-none : (t : List ℕ) → t ≡ laid t []
 unfolding laid numbers
 laid-none t = refl
 
-pub laid-length : (t : List ℕ) (past : Past) → 3 * length past ≤ length t → length (laid t past) ≡ length t
+pub laid-length : (t : List ℕ) (past : Past) → stepFields * length past ≤ length t → length (laid t past) ≡ length t
 unfolding laid
 laid-length t past h =
-    length-append (numbers past) (drop (3 * length past) t)
-    ∙ let l = numbers-length past in let k = length-drop (3 * length past) t in omega arith
+    length-append (numbers past) (drop (stepFields * length past) t)
+    ∙ let l = numbers-length past in let k = length-drop (stepFields * length past) t in omega arith
 
-laid-front : (t : List ℕ) (past : Past) → take (3 * length past) (laid t past) ≡ numbers past
+laid-front : (t : List ℕ) (past : Past) → take (stepFields * length past) (laid t past) ≡ numbers past
 unfolding laid
-laid-front t past = take-at (numbers past) (drop (3 * length past) t) (3 * length past) (numbers-length past)
+laid-front t past = take-at (numbers past) (drop (stepFields * length past) t) (stepFields * length past) (numbers-length past)
 
-laid-rest : (t : List ℕ) (past : Past) (vs : List ℕ) → length vs ≡ 3
-    → drop (3 * length past + length vs) (laid t past) ≡ drop (3 * length past + 3) t
+laid-rest : (t : List ℕ) (past : Past) (vs : List ℕ) → length vs ≡ stepFields
+    → drop (stepFields * length past + length vs) (laid t past) ≡ drop (stepFields * length past + stepFields) t
 unfolding laid
 laid-rest t past vs e =
-    ap (λ (i : ℕ). drop (3 * length past + i) (numbers past ++ drop (3 * length past) t)) e
-    ∙ ap (λ (i : ℕ). drop (i + 3) (numbers past ++ drop (3 * length past) t)) (sym (numbers-length past))
-    ∙ drop-append-add (numbers past) (drop (3 * length past) t) 3 ∙ drop-drop 3 (3 * length past) t
+    ap (λ (i : ℕ). drop (stepFields * length past + i) (numbers past ++ drop (stepFields * length past) t)) e
+    ∙ ap (λ (i : ℕ). drop (i + stepFields) (numbers past ++ drop (stepFields * length past) t)) (sym (numbers-length past))
+    ∙ drop-append-add (numbers past) (drop (stepFields * length past) t) 3 ∙ drop-drop 3 (stepFields * length past) t
 
-laid-step : (t : List ℕ) (past : Past) (s : Step) → (numbers past ++ three s) ++ drop (3 * length past + 3) t ≡ laid t (s ∷ past)
+laid-step : (t : List ℕ) (past : Past) (s : Step) → (numbers past ++ three s) ++ drop (stepFields * length past + stepFields) t ≡ laid t (s ∷ past)
 unfolding laid numbers
-laid-step t past s = let e : 3 * length past + 3 ≡ 3 * suc (length past) = omega arith in
+laid-step t past s = let e : stepFields * length past + stepFields ≡ stepFields * suc (length past) = omega arith in
     ap (λ (i : ℕ). (numbers past ++ three s) ++ drop i t) e
 
 -- three numbers stored after those of a past are those of one step more
-laid-set : (t : List ℕ) (past : Past) (vs : List ℕ) → length vs ≡ 3 → 3 * (length past + 1) ≤ length t
-    → sets (laid t past) (3 * length past) vs ≡ (numbers past ++ vs) ++ drop (3 * length past + 3) t
+laid-set : (t : List ℕ) (past : Past) (vs : List ℕ) → length vs ≡ stepFields → stepFields * (length past + 1) ≤ length t
+    → sets (laid t past) (stepFields * length past) vs ≡ (numbers past ++ vs) ++ drop (stepFields * length past + stepFields) t
 laid-set t past vs e h =
     let l = numbers-length past in
     let room = laid-length t past (omega arith) in
-    sets-eq vs (laid t past) (3 * length past) (omega arith)
-    ∙ ap (λ (u : List ℕ). u ++ vs ++ drop (3 * length past + length vs) (laid t past)) (laid-front t past)
+    sets-eq vs (laid t past) (stepFields * length past) (omega arith)
+    ∙ ap (λ (u : List ℕ). u ++ vs ++ drop (stepFields * length past + length vs) (laid t past)) (laid-front t past)
     ∙ ap (λ (u : List ℕ). numbers past ++ vs ++ u) (laid-rest t past vs e)
 
 pub laid-more : (t : List ℕ) (past : Past) (s : Step) (kind a b i : ℕ) (trace : List ℕ) → three s ≡ kind ∷ a ∷ b ∷ [] → i ≡ length past
-    → trace ≡ laid t past → 3 * (length past + 1) ≤ length t
+    → trace ≡ laid t past → stepFields * (length past + 1) ≤ length t
     → storedStep trace i kind a b ≡ laid t (s ∷ past)
 laid-more t past s kind a b i trace e f g h =
-    let one : 3 * length past + 1 ≡ suc (3 * length past) = omega arith in
-    let two : 3 * length past + 2 ≡ suc (suc (3 * length past)) = omega arith in
+    let one : stepFields * length past + 1 ≡ suc (stepFields * length past) = omega arith in
+    let two : stepFields * length past + 2 ≡ suc (suc (stepFields * length past)) = omega arith in
     ap (λ (j : ℕ). storedStep trace j kind a b) f
     ∙ ap (λ (u : List ℕ). storedStep u (length past) kind a b) g
-    ∙ ap (λ (j : ℕ). set (set (set (laid t past) (3 * length past) kind) j a) (3 * length past + 2) b) one
-    ∙ ap (λ (j : ℕ). set (set (set (laid t past) (3 * length past) kind) (suc (3 * length past)) a) j b) two
+    ∙ ap (λ (j : ℕ). set (set (set (laid t past) (stepFields * length past) kind) j a) (stepFields * length past + 2) b) one
+    ∙ ap (λ (j : ℕ). set (set (set (laid t past) (stepFields * length past) kind) (suc (stepFields * length past)) a) j b) two
     ∙ laid-set t past (kind ∷ a ∷ b ∷ []) refl h
-    ∙ ap (λ (u : List ℕ). (numbers past ++ u) ++ drop (3 * length past + 3) t) (sym e)
+    ∙ ap (λ (u : List ℕ). (numbers past ++ u) ++ drop (stepFields * length past + stepFields) t) (sym e)
     ∙ laid-step t past s
 
 -- ── The place, and the number of the next fresh resource ──
@@ -117,5 +117,5 @@ agree-give names g m v len small h i r e = go (ℕ-discrete i m)
     go (no f) = getD-set-other (g .numbers) m i v 0 f ∙ h i r (sym (give-other names m v i f) ∙ e)
 
 pub stored-length : (t : List ℕ) (i kind a b : ℕ) → length (storedStep t i kind a b) ≡ length t
-stored-length t i kind a b = length-set (set (set t (3 * i) kind) (3 * i + 1) a) (3 * i + 2) b
-    ∙ length-set (set t (3 * i) kind) (3 * i + 1) a ∙ length-set t (3 * i) kind
+stored-length t i kind a b = length-set (set (set t (stepFields * i) kind) (stepFields * i + 1) a) (stepFields * i + 2) b
+    ∙ length-set (set t (stepFields * i) kind) (stepFields * i + 1) a ∙ length-set t (stepFields * i) kind

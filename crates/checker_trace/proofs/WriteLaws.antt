@@ -11,7 +11,7 @@ use lib.Dec.{eqb, leb}
 use lib.ListN.{length, getD}
 use borrow.Author.Tests.{le-leb, lt-leb, eq-eqb, ne-eqb}
 use Rattle.usage.specs.declared.Edge.{Edge}
-use Rattle.usage.specs.Limits.{mostShown, create}
+use Rattle.usage.specs.Limits.{mostShown, create, mostNodes, nodeFields}
 use Rattle.usage.specs.Past.{Step, event, opening, closing, Past, reopened}
 use Rattle.usage.specs.Outline as outline
 use Rattle.usage.specs.Outline.{Form, Is, end, on-static, on-name, sequence, choice, loop, back, fresh, sandbox, give}
@@ -61,7 +61,7 @@ module _ (w : Watch) (rows nodes t : List ℕ) (e : Entry) where
     pub is : Is (nodesOf nodes) j f
     pub gives : offerOf w rows (held t n) (entryOf j (e .opened) (meaningOf m c) (e .state) (aimAt aim)) r f ≡ n
 
-  pub arrive : (n j r : ℕ) (f : Form) → length nodes / 3 ≤ 64 → OntoIs w rows nodes t e n (By j r) → formHere nodes j ≡ some f
+  pub arrive : (n j r : ℕ) (f : Form) → length nodes / nodeFields ≤ mostNodes → OntoIs w rows nodes t e n (By j r) → formHere nodes j ≡ some f
       → {es : List Edge} {m : ℕ} {c : Bool} {aim : Aim} → Ready w es rows nodes t
       → Tells (w .resource) e m c aim → Arrived es n m c aim j r f
   arrive n j r f few on g {es} {m} {c} {aim} ready tells =
@@ -111,14 +111,14 @@ module _ (w : Watch) (rows nodes t : List ℕ) (e : Entry) where
         )
 
     -- there always is a rule
-    pub wrote-nowhere : OntoIs w rows nodes t e n Nothing → n ≤ 200 → 1 ≤ n → (r : Spot) (trace′ : List ℕ) → Wrote r trace′
+    pub wrote-nowhere : OntoIs w rows nodes t e n Nothing → n ≤ mostShown → 1 ≤ n → (r : Spot) (trace′ : List ℕ) → Wrote r trace′
     wrote-nowhere on few one r trace′ es m c aim names t₀ past ready tells h named agree spotted same room =
         absurd (never-nothing (w .local) es nodes (w .policy) (w .resource) rows t (ready .source) (ready .least) (e .opened) (e .node) m c
         (e .state) aim (tells .begun) (tells .aimed) n
         (sym (ap (held t allLengths) (tells-is tells)) ∙ h) few one
         (subst (λ (y : Entry). OntoIs w rows nodes t y n Nothing) (tells-is tells) on))
 
-    module _ (few-nodes : length nodes / 3 ≤ 64) (few : n ≤ 200) (j r : ℕ) (on : OntoIs w rows nodes t e n (By j r)) where
+    module _ (few-nodes : length nodes / nodeFields ≤ mostNodes) (few : n ≤ mostShown) (j r : ℕ) (on : OntoIs w rows nodes t e n (By j r)) where
       abbrev at-node : Bool → ℕ → Aim → ℕ → Entry
       at-node c m aim k = entryOf k (e .opened) (meaningOf m c) (e .state) (aimAt aim)
 

@@ -2,6 +2,7 @@ use Prim.Native.Nat.{_/_}
 use mathlib.Core.Path.{subst}
 use mathlib.Core.Bool.{Bool}
 use borrow.Author.Tests.{le-leb}
+use Rattle.usage.specs.Limits.{mostNodes, nodeFields}
 use Rattle.checker_lengths.specs.declared.Entry.{Entry}
 use Rattle.checker_lengths.specs.Entries.{held}
 use Rattle.checker_lengths.specs.Rounds.{FullIf}
@@ -46,7 +47,7 @@ returns c = let a = c .before .before .before .before .before .before .before .b
           (c .before .before .before .before .before .before .fill .last .1 .1 .1 .0) (a .n) (a .trace .now) (c .before .before .write .result)
           (c .before .before .write .last .1 .1 .1 .1 .0)
           (subst (λ (b : Bool). FullIf b (a .w) (a .rows .now) (a .nodes .now)
-          (c .before .before .before .before .before .before .fill .last .1 .1 .1 .0)) (le-leb (length (a .nodes .now) / 3) 64 (p .0))
+          (c .before .before .before .before .before .before .fill .last .1 .1 .1 .0)) (le-leb (length (a .nodes .now) / nodeFields) mostNodes (p .0))
           (c .before .before .before .before .before .before .fill .ensures)) (p .1 .0) (p .1 .1)
           (subst (λ (y : Entry). Writes (a .w) (a .rows .now) (a .nodes .now)
           (c .before .before .before .before .before .before .fill .last .1 .1 .1 .0) y (a .n) laws.none-given laws.at-first (a .trace .now)

@@ -1,5 +1,6 @@
 use Prim.Native.Nat.{_/_}
 use mathlib.Core.Path.{subst}
+use Rattle.usage.specs.Limits.{mostNodes, nodeFields}
 use Rattle.usage.proofs.Logic.{not-true, not-false}
 use Rattle.checker_lengths.specs.Entries.{noLength}
 use Rattle.checker_trace.specs.Code.{StepsIf}
@@ -46,7 +47,7 @@ returns-2 c =
     let k = c .before .before .before .before .before .before .touched in
     let t = c .before .before .before .fill .last .1 .1 .1 .0 in
     let full = subst (λ (b : Bool). FullIf b (a .w) (a .rows .now) (a .nodes .now) t)
-    (le-leb (length (a .nodes .now) / 3) 64 (c .before .before .before .before .before .before .before .before .pre))
+    (le-leb (length (a .nodes .now) / nodeFields) mostNodes (c .before .before .before .before .before .before .before .before .pre))
     (c .before .before .before .fill .ensures) in
     subst (λ (b : Bool). StepsIf b (a .w) (a .rows .now) (a .nodes .now) (c .get .result))
     (sym (sym (k .ensures) ∙ not-false (k .result) (c .before .before .before .before .before .if1 .left)))

@@ -4,6 +4,7 @@ use mathlib.Core.Bool.{true, false}
 use mathlib.Core.List.{List}
 use mathlib.Core.Logic.{inl, inr}
 use borrow.Author.Count.{below-more}
+use Rattle.usage.specs.Limits.{mostNodes, nodeFields}
 use Rattle.usage.specs.Outline.{formOf}
 use Rattle.usage.proofs.Logic.{by-cases, not-true}
 use Rattle.checker_lengths.specs.declared.Entry.{Entry}
@@ -44,7 +45,7 @@ abbrev μ-loop : tie.MeasureT-loop
 returns : tie.Need-returns Inv-loop μ-loop
 returns c = let a = c .before .before .before .args in
     subst (λ (b : Bool). FullIf b (a .w) (a .rows .now) (a .nodes .now) (replicate 104448 255))
-    (sym (lt-leb (length (a .nodes .now) / 3) 64 (c .if1 .taken))) refl
+    (sym (lt-leb (length (a .nodes .now) / nodeFields) mostNodes (c .if1 .taken))) refl
 
 -- src/fill.rt:140:9
 least-requires : tie.Need-least-requires Inv-loop μ-loop
@@ -68,7 +69,7 @@ returns-2 c =
     let p = c .before .settle-round .ensures in
     let f = not-true (c .before .settle-round .result) (c .if2 .taken) in
     subst (λ (b : Bool). FullIf b (a .w) (a .rows .now) (a .nodes .now) (c .before .settle-round .last .0))
-    (sym (le-leb (length (a .nodes .now) / 3) 64 (c .before .before .before .before .before .if1 .left)))
+    (sym (le-leb (length (a .nodes .now) / nodeFields) mostNodes (c .before .before .before .before .before .if1 .left)))
     (record {
       reach = p .changes (l .inv .1);
       settled =

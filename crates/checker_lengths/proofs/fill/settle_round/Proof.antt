@@ -4,6 +4,7 @@ use mathlib.Core.Bool.{true, false}
 use mathlib.Core.List.{List}
 use mathlib.Core.Logic.{inl, inr}
 use borrow.Author.Count.{below-more}
+use Rattle.usage.specs.Limits.{nodeFields}
 use Rattle.usage.specs.Outline.{formOf}
 use Rattle.usage.proofs.Logic.{by-cases, not-true}
 use Rattle.checker_lengths.specs.declared.Entry.{Entry}
@@ -73,7 +74,7 @@ loop-again c =
     let a = c .before .before .before .before .before .before .before .args in
     let l = c .before .before .before .before .before .loop in
     let t = c .before .before .before .before .loop-test .taken in
-    let n = length (a .nodes .now) / 3 in
+    let n = length (a .nodes .now) / nodeFields in
     let k = n - 1 - l .i in
     let e = c .before .before .node .ensures in
     let p = pass-map {Q = Onward (a .w) (a .rows .now) (a .nodes .now)} {D =
@@ -92,7 +93,7 @@ returns : tie.Need-returns Inv-loop μ-loop
 returns c =
     let a = c .before .before .before .args in
     let l = c .before .loop in
-    let n = length (a .nodes .now) / 3 in
+    let n = length (a .nodes .now) / nodeFields in
     pass-map (λ x. x) (λ h k low.
     let e : n - 1 - (n - 1 - k) ≡ k = omega arith in
     subst (λ (j : ℕ). NodeSettled (a .w) (a .rows .now) (formHere (a .nodes .now) j) (a .t .now) (a .l) j) e (h (n - 1 - k) (omega arith)))

@@ -1,3 +1,4 @@
+use Rattle.usage.specs.Limits.{mostShown}
 use Rattle.checker_lengths.specs.Entries.{inTable, held, plus, entryOf, noLength, linear}
 use Rattle.checker_lengths.specs.Offers as spec
 use Rattle.checker_lengths.proofs.OfferLaws as laws
@@ -40,7 +41,7 @@ returns-2 c = λ g w i.
     let look = held (a .t .now) 201 in
     let s = spec.toward (a .s) i in
     let v = c .get .ensures ∙ ap look (c .before .first .ensures) in
-    let l = leb-false (c .get .result) 200 g in
+    let l = leb-false (c .get .result) mostShown g in
     rw (c .before .before .if2 .taken) (sym (laws.sequence-dead look s (a .f .a) (a .f .b) (a .c)
     (c .before .before .before .before .if1 .left) (omega (arith, v))))
 

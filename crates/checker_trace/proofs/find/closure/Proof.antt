@@ -1,3 +1,4 @@
+use Rattle.usage.specs.Limits.{nodeFields}
 use Rattle.checker_trace.proofs.BitLaws as laws
 use mathlib.Core.Path.{subst}
 use Prim.Native.Nat.{_/_}
@@ -44,7 +45,7 @@ loop-less : tie.Need-loop-less Inv-loop μ-loop
 loop-less c =
     let a = c .before .before .before .before .before .args in
     let h : Fits w64 (c .before .spread .result) = search needs in
-    let g = laws.spread-ge (a .t .now) (a .nodes .now) (a .e) (length (a .nodes .now) / 3) (c .before .before .loop .s) in
+    let g = laws.spread-ge (a .t .now) (a .nodes .now) (a .e) (length (a .nodes .now) / nodeFields) (c .before .before .loop .s) in
     omega (arith, h .fits, c .before .spread .ensures, c .if1 .left)
 
 -- src/find.rt:112:5

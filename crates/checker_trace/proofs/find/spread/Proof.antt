@@ -1,3 +1,4 @@
+use Rattle.usage.specs.Limits.{nodeFields}
 use Rattle.usage.proofs.Logic.{not-true, not-false, by-cases, false-true}
 use Prim.Native.Nat.{_/_}
 use native.Mathlib.Numerals.{add-one}
@@ -73,7 +74,7 @@ loop-again c =
 
 -- src/find.rt:90:1
 returns : tie.Need-returns Inv-loop μ-loop
-returns c = let l = c .before .loop in let e : l .k ≡ length (c .before .before .before .args .nodes .now) / 3 = omega arith in
+returns c = let l = c .before .loop in let e : l .k ≡ length (c .before .before .before .args .nodes .now) / nodeFields = omega arith in
     rw e at (l .inv .1)
 
 pub spread-spec : {M : Type 1} → statement M
