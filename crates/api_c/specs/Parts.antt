@@ -63,8 +63,8 @@ answeredIn p Allowed s = record { verdict = verdictOf Allowed; parts = holding s
 answeredIn p (Violated q) s = record { verdict = verdictOf (Violated q); parts = holding s }
 answeredIn p (Refused n) s = refuseParts n p
 
--- The judge, over the arrays. A number that is no choice of past is 41. A flag that is neither 0 nor 1 is that of no state: 42, after 41 and
--- before 20.
+-- The judge, over the arrays. A number that is no choice of past is 41. A flag that is neither 0 nor 1 is that of no state: 42, after
+-- 41 and before 20.
 unfoldable pub judgeParts : List ℕ → ℕ → Parts → RawStep → Answered
 judgeParts edges choice p raw =
     cond (not (isChoice choice && edgeTable edges)) (refuseParts 41 p)

@@ -66,9 +66,10 @@ const MOST_CHOICE: u32 = 1;
 // How many numbers a state has beside its arrays.
 const NUMBERS: usize = 3;
 
-// One step of the judge, under the choice of past `local`. The state lies in the lent parts: the sets, what each policy may be in, the created numbers, the counts of unclosed
-// openings and their order, and in `numbers` how many resources were created, a flag, 1 where the state is halted and 0 where it is not, and
-// how many openings are not closed. All of them then hold the state that the judge returns; after a refusal they are as they were lent.
+// One step of the judge, under the choice of past `local`. The state lies in the lent parts: the sets, what each policy may be in, the
+// created numbers, the counts of unclosed openings and their order, and in `numbers` how many resources were created, a flag, 1 where
+// the state is halted and 0 where it is not, and how many openings are not closed. All of them then hold the state that the judge
+// returns; after a refusal they are as they were lent.
 #[no_mangle]
 pub extern "C" fn judge_parts(
     edges: &[u8],

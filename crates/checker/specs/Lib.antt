@@ -1,4 +1,5 @@
--- Promise: what the check promises; Accepted: what its acceptance means for the judge; Explained: the check with a counterexample. Code: what its functions compute.
+-- Promise: what the check promises; Accepted: what its acceptance means for the judge; Explained: the check with a counterexample.
+-- Code: what its functions compute.
 pub mod Accepted
 pub mod Promise
 pub mod Explained

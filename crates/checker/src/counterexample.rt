@@ -4,8 +4,9 @@ use crate::Outcome;
 use checker_trace::Length;
 use checker_trace::MOST_NUMBERS;
 
-// The answer of the check with a counterexample: accepted; refused with the lowest policy that some trace leaves open and not respected, and the number of steps of the
-// trace that was written; the same where every such trace has more than 200 steps; or a refusal with its number.
+// The answer of the check with a counterexample: accepted; refused with the lowest policy that some trace leaves open and not
+// respected, and the number of steps of the trace that was written; the same where every such trace has more than 200 steps; or a
+// refusal with its number.
 pub enum Explanation {
     Accepted,
     Shown { policy: u8, steps: u8 },

@@ -27,8 +27,9 @@ pub mod Starts
 pub mod EndsTable
 pub mod ComesTable
 pub mod HitsTable
--- Filled tables hold the account: filling only joins sets that the rules give, so that it ends (RoundLaws to PassLaws; which nodes are done,
--- SettledLaws); what is derived is sound, and what no rule adds to is whole (FillEnds, FillComes); so the search answers right (SearchLaws).
+-- Filled tables hold the account: filling only joins sets that the rules give, so that it ends (RoundLaws to PassLaws; which nodes are
+-- done, SettledLaws); what is derived is sound, and what no rule adds to is whole (FillEnds, FillComes); so the search answers right
+-- (SearchLaws).
 pub mod JoinLaws
 pub mod RoundLaws
 pub mod SettleLaws

@@ -144,7 +144,8 @@ module _ (local : Bool) (es : List Edge) (ns : List Node) (p x : ℕ) where
           (given-child local es ns p x scope outline k b₁ (outline .inside i) g) (opening s ∷ past) in
           (after, Written.breaks-inside i d)
 
-      -- An entry of no step writes nothing. Any other: a node that k leads to with no step, and there a rule whose entries have fewer steps.
+      -- An entry of no step writes nothing. Any other: a node that k leads to with no step, and there a rule whose entries have fewer
+      -- steps.
       pub reads : (most : ℕ) → Writes most
       reads zero n o k w c q t l b a e names g past = absurd (omega arith)
       reads (suc most) n o k w c q t l b a e names g past = go (ℕ-discrete n 0) (λ m o k w c q t s. reads most m o k w c q t (omega arith))

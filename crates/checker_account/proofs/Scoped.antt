@@ -8,8 +8,8 @@ use Rattle.usage.specs.Limits.{statics}
 use Rattle.usage.specs.Outline.{Is, on-static, on-name, sequence, choice, loop, back, fresh, sandbox}
 use Rattle.checker_account.specs.Witness.{noName}
 
--- `scope k m`: name m is in scope at node k. An event is no creation, a name is used in scope only, and going from a node to what runs next brings no
--- name into scope but the one that a fresh node gives.
+-- `scope k m`: name m is in scope at node k. An event is no creation, a name is used in scope only, and going from a node to what runs
+-- next brings no name into scope but the one that a fresh node gives.
 pub record Scoped (ns : List Node) (scope : ℕ → ℕ → Type 0) : Type 0 where
   pub static-acts : {k a s : ℕ} → Is ns k (on-static a s) → 1 ≤ a
   pub name-acts : {k a n : ℕ} → Is ns k (on-name a n) → 1 ≤ a

@@ -253,8 +253,8 @@ pub fn judge_lent(
     )
 }
 
-// One step. `local` says which past counts, and goes with the edges. From every state at all the judge answers as its definition says; from a
-// state that stands for a past, as the past says.
+// One step. `local` says which past counts, and goes with the edges. From every state at all the judge answers as its definition says;
+// from a state that stands for a past, as the past says.
 pub fn judge(edges: &[u8], local: bool, s: State, step: RawStep) -> Judgement
     ensures { λ r. ⌜ r ≡ judgeOf (now (edges .entry)) local s step ⌝ }
     ensures { λ r. ⌜ Keeps (now (edges .entry)) local s step r ⌝ }

@@ -44,8 +44,8 @@ Listed numbers allowed = Unit {0}
 Listed numbers (violated p) = p < policies
 Listed numbers (refused n) = List·Memᴰ n numbers
 
--- "A refusal has its number, in its stated case only, and changes nothing in the state or in what the caller lent": of every table of edges,
--- every state and every step at all, whichever past counts.
+-- "A refusal has its number, in its stated case only, and changes nothing in the state or in what the caller lent": of every table of
+-- edges, every state and every step at all, whichever past counts.
 pub record JudgeRefuses : Type 0 where
   pub listed : (t : List ℕ) (local : Bool) (s : State) (raw : RawStep) → Listed judgeNumbers (verdictOf (judgeOf t local s raw .answer))
   pub keeps : (t : List ℕ) (local : Bool) (s : State) (raw : RawStep) (n : ℕ) → judgeOf t local s raw .answer ≡ Refused n
@@ -66,7 +66,8 @@ pub record ReaderRefuses (numbers : List ℕ) (needed : ℕ) (into : ℕ → Lis
   -- "40 a table lent to be filled that is smaller than its sheet's largest count"
   pub no-room : (places : ℕ) (text : List ℕ) → (into places text ≡ sheet-refused record { line = 0; number = 40 }) ↔ (places < needed)
 
--- "41 a table lent to be used that, taken whole, no accepted sheet gives": some sheet, read into a table of so many places, gives this table
+-- "41 a table lent to be used that, taken whole, no accepted sheet gives": some sheet, read into a table of so many places, gives this
+-- table
 pub record GivenBy (needed : ℕ) (into : ℕ → List ℕ → Result) (table : List ℕ) : Type 0 where
   pub text : List ℕ
   pub rows : List (List ℕ)
@@ -95,9 +96,9 @@ Demand2 = (local : Bool) (t : List ℕ) → EdgeTable t → (raws : List RawStep
 
 -- ── Demand 3 ──
 
--- "What the check accepts, the judge never halts: one theorem over whole traces; and the check is exact, naming the lowest policy at fault."
--- The check tells v where `CheckPromise` holds of v. Then v is right, no other verdict is, and acceptance means what it says, for each
--- choice of past.
+-- "What the check accepts, the judge never halts: one theorem over whole traces; and the check is exact, naming the lowest policy at
+-- fault." The check tells v where `CheckPromise` holds of v. Then v is right, no other verdict is, and acceptance means what it says,
+-- for each choice of past.
 pub record Demand3 : Type 0 where
   pub right : (local : Bool) (t n : List ℕ) (v : Verdict) → CheckPromise local t n v → RightVerdict local t n v
   pub no-other : (local : Bool) (t n : List ℕ) (v w : Verdict) → CheckPromise local t n v → RightVerdict local t n w → v ≡ w

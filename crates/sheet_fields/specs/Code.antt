@@ -44,8 +44,8 @@ fieldMost = (policies - 1) ∷ (states - 1) ∷ (actions - 1) ∷ 2 ∷ (statics
 abbrev pub fieldPaired : List ℕ
 fieldPaired = 0 ∷ 0 ∷ 0 ∷ 255 ∷ 0 ∷ 0 ∷ []
 
--- What is wrong with a byte x of an edge, y being the next one: how far it is above m, the highest number of its field; and where the mask has
--- all bits, the lesser of the two, one of which must be 0. Nothing is wrong where this is 0.
+-- What is wrong with a byte x of an edge, y being the next one: how far it is above m, the highest number of its field; and where the
+-- mask has all bits, the lesser of the two, one of which must be 0. Nothing is wrong where this is 0.
 abbrev pub byteFault : ℕ → ℕ → ℕ → ℕ → ℕ
 byteFault x y m mask = bitOr (x - m) (bitAnd (min x y) mask)
 

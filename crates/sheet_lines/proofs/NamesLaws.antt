@@ -1,4 +1,5 @@
--- The two names lines of a sheet of policies: no text has both, an accepted sheet has the one that it was read by, and after it all is the same.
+-- The two names lines of a sheet of policies: no text has both, an accepted sheet has the one that it was read by, and after it all is
+-- the same.
 use Prim.Native.Nat.{ℕ, zero, suc, _≤_}
 use mathlib.Core.Path.{_≡_, refl, sym, ap, _∙_}
 use mathlib.Core.Bool.{Bool, true, false, cond}

@@ -9,8 +9,8 @@ use Rattle.sheet_fields.specs.Fields.{edgeLine, stepLine, nodeLine, nodeLineFie
 use Rattle.sheet_lines.specs.Bytes.{bytes}
 use Rattle.sheet_lines.specs.Sheet.{Sheet, startsWith}
 
--- The names line says which past the policies see: "A policy sheet whose names line is `local from action on who to` has this meaning for all
--- its policies", that of their sandbox; "Older sheets keep the whole past" (02, L7).
+-- The names line says which past the policies see: "A policy sheet whose names line is `local from action on who to` has this meaning
+-- for all its policies", that of their sandbox; "Older sheets keep the whole past" (02, L7).
 abbrev pub policyNames : Bool → List ℕ
 policyNames true = bytes "local from action on who to\n"
 policyNames false = bytes "policy from action on who to\n"

@@ -14,8 +14,8 @@ use Rattle.sheet_lines.specs.Sheets.{policySheet, isLocal, traceSheet, outlineS
 use Rattle.sheet_reader.specs.declared.PolicyReading.{PolicyReading}
 use Rattle.sheet_reader.specs.declared.PolicyReading.the-variants.{Stored, Refused}
 
--- A text is read as a sheet of local policies where it has their names line, else as one of policies that see the whole past: "Refusal 1 now
--- means neither names line" (02, L7). Which one it is, `isLocal` says.
+-- A text is read as a sheet of local policies where it has their names line, else as one of policies that see the whole past: "Refusal
+-- 1 now means neither names line" (02, L7). Which one it is, `isLocal` says.
 abbrev pub policiesRead : List ℕ → Result
 policiesRead text = sheet (policySheet (isLocal text)) text
 

@@ -10,7 +10,8 @@ use Rattle.test_cases.specs.JudgeCases.{JudgeCase, JudgedRight, step, P,
 abbrev pub readBefore : JudgeCase
 readBefore = record { edges = P; steps = caseC .steps; answers = allowed ∷ allowed ∷ [] }
 
--- Action 1 on 3, open 0, read 3: action 1 had led the instance of 3 out of state 0, from which reading offends, and the opening leads it back.
+-- Action 1 on 3, open 0, read 3: action 1 had led the instance of 3 out of state 0, from which reading offends, and the opening leads
+-- it back.
 abbrev pub backToStart : JudgeCase
 backToStart = record {
   edges = P;

@@ -44,7 +44,8 @@ disagreeing kept m =
 abbrev pub lentParts : Lent → Parts
 lentParts s = partsOf (s .sets) (s .possible) (s .created) (s .unclosed) (s .order) (s .numbers)
 
--- a state like the start, but for the order of unclosed openings: its first entry, all others, its length and the counts of policies 1 and 6
+-- a state like the start, but for the order of unclosed openings: its first entry, all others, its length and the counts of policies 1
+-- and 6
 abbrev pub ordering : ℕ → ℕ → ℕ → ℕ → ℕ → Parts
 ordering first rest depth ones sixes =
     partsOf (replicate setPlaces 1) (replicate policies 1) (replicate mostCreated 0)
@@ -58,8 +59,8 @@ halting p = partsOf (p .sets) (p .possible) (p .created) (p .unclosed) (p .order
 abbrev pub breaking : Parts → Parts
 breaking p = partsOf (p .sets) (set (p .possible) 1 64) (p .created) (p .unclosed) (p .order) (p .numbers)
 
--- a state like the start, but that policy 1 is open, and for what policies 0 and 1 may be in; of policy 0 the set of resource 0 and that of a
--- place that is not in use are m
+-- a state like the start, but that policy 1 is open, and for what policies 0 and 1 may be in; of policy 0 the set of resource 0 and
+-- that of a place that is not in use are m
 abbrev pub sandboxing : ℕ → ℕ → ℕ → Parts
 sandboxing zeros ones m =
     partsOf (set (set (replicate setPlaces 1) 0 m) 17 m) (set (set (replicate policies 1) 0 zeros) 1 ones) (replicate mostCreated 0)

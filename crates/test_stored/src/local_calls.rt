@@ -22,8 +22,8 @@ const FEW_EDGES: usize = EDGE_TABLE - 1;
 // The largest number that a call can tell the past by.
 const WIDEST: u32 = 4294967295;
 
-// A state like the start, but that policy 1 is open, and for what policies 0 and 1 may be in; of policy 0 the set of resource 0 and that of a
-// place that is not in use are `set`.
+// A state like the start, but that policy 1 is open, and for what policies 0 and 1 may be in; of policy 0 the set of resource 0 and
+// that of a place that is not in use are `set`.
 fn sandbox(of_0: u8, of_1: u8, set: u8) -> Lent
     ensures { λ r. ⌜ lentParts r ≡ sandboxing of_0 of_1 set ⌝ }
 {

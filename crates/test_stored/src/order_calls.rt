@@ -9,7 +9,8 @@ use usage::MOST_CREATED;
 use usage::MOST_UNCLOSED;
 use usage::POLICIES;
 
-// A state like the start, but for the order of unclosed openings: its first entry, all others, its length and the counts of policies 1 and 6.
+// A state like the start, but for the order of unclosed openings: its first entry, all others, its length and the counts of policies 1
+// and 6.
 fn in_order(first: u8, rest: u8, depth: u64, of_1: u8, of_6: u8) -> Lent
     ensures { λ r. ⌜ lentParts r ≡ ordering first rest depth of_1 of_6 ⌝ }
 {
