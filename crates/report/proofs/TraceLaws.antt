@@ -1,12 +1,13 @@
 -- Laws of what the first program prints.
 use Prim.Native.Nat.{ℕ, suc, _+_, _-_, _*_, _/_, _≤_, _<_}
 use mathlib.Core.Bool.{Bool}
-use mathlib.Core.Path.{_≡_, refl, sym, ap}
+use mathlib.Core.Path.{_≡_, refl, sym, ap, _∙_}
 use mathlib.Core.List.{List, [], _∷_, _++_, flatten}
 use native.Mathlib.Omega.{arith}
 use native.Mathlib.Numerals.{add-one}
 use native.Mathlib.Nat.{sub-zero}
 use lib.ListN.{length, take, length-append}
+use lib.Seq.{sets, length-sets}
 use Rattle.usage.specs.declared.RawStep.{RawStep}
 use Rattle.usage.specs.Limits.{mostSteps}
 use Rattle.usage.specs.Tables.{from, stepAt, stepsOf}
@@ -21,6 +22,9 @@ use Rattle.monitor_state.specs.declared.State.{State}
 use Rattle.monitor_state.specs.declared.Judgement.{Judgement}
 use Rattle.monitor_state.specs.Judge.{verdictOf, startState, judgeOf, answersOf}
 use Rattle.report_lines.specs.Lines.{row, verdictRow, rows}
+use Rattle.report_lines.specs.Put.{putAt, endAt}
+use Rattle.report_lines.proofs.PutLaws.{sets-append}
+use Rattle.report_lines.proofs.FitLaws.{stored-at}
 use Rattle.report_lines.proofs.RowLaws.{row-short, verdict-short}
 use Rattle.report.specs.Output.{longestStepRow, stepsRoom}
 use Rattle.report.specs.Trace.{judgedRows, traceRows}
@@ -53,16 +57,48 @@ module _ (edges : List ℕ) (local : Bool) (steps : List ℕ) where
         rw (e, k, add-one i)
 
     -- the same, of the numbers that the functions return
-    pub next-row : (j : Judgement) (a d : ℕ) → j ≡ judgeOf edges local s (stepAt steps i) → a ≡ answer (verdictOf (j .answer))
+    next-row : (j : Judgement) (a d : ℕ) → j ≡ judgeOf edges local s (stepAt steps i) → a ≡ answer (verdictOf (j .answer))
         → d ≡ detail (verdictOf (j .answer)) → i < n
         → left edges local steps n s i ≡ row (i + 2) a d ++ left edges local steps n (j .state) (i + 1)
     next-row j a d ej ea ed h = rw (ea, ed, ej) (next-left h)
 
-    pub row-ten : (j : Judgement) (a d : ℕ) → j ≡ judgeOf edges local s (stepAt steps i) → a ≡ answer (verdictOf (j .answer))
+    row-ten : (j : Judgement) (a d : ℕ) → j ≡ judgeOf edges local s (stepAt steps i) → a ≡ answer (verdictOf (j .answer))
         → d ≡ detail (verdictOf (j .answer)) → i < mostSteps → length (row (i + 2) a d) ≤ longestStepRow
     row-ten j a d ej ea ed h =
         rw (ea, ed, ej) (verdict-short (i + 2) (verdictOf ((judgeOf edges local s (stepAt steps i)) .answer)) (omega arith)
         (detail-small edges local s (stepAt steps i)))
+
+-- i of n steps are judged, from `at` on, and led to the state s: the rows that are left stand from `next` on in what `out` has become
+pub record Going (edges : List ℕ) (local : Bool) (steps : List ℕ) (n : ℕ) (out₀ : List ℕ) (at : ℕ) (out : List ℕ) (s : State) (next i : ℕ) : Type 0 where
+  pub within : i ≤ n
+  pub long : length out ≡ length out₀
+  pub room : next + longestStepRow * (n - i) ≤ length out
+  pub end : next + length (left edges local steps n s i) ≡ at + length (left edges local steps n startState 0)
+  pub put : sets out next (left edges local steps n s i) ≡ sets out₀ at (left edges local steps n startState 0)
+
+pub going-on : {edges : List ℕ} {local : Bool} {steps : List ℕ} {n : ℕ} {out₀ : List ℕ} {at : ℕ} {out : List ℕ} {s : State} {next i : ℕ}
+    → Going edges local steps n out₀ at out s next i → {raw : RawStep} {a d r : ℕ} {after : List ℕ} (j : Judgement) → raw ≡ stepAt steps i
+    → j ≡ judgeOf edges local s raw → a ≡ answer (verdictOf (j .answer)) → d ≡ detail (verdictOf (j .answer))
+    → r ≡ endAt out next (row (i + 2) a d) → after ≡ putAt out next (row (i + 2) a d) → i < n → n ≤ mostSteps
+    → Going edges local steps n out₀ at after (j .state) r (i + 1)
+going-on {edges} {local} {steps} {n} {out = out} {s} {next} {i} g {raw} {a} {d} {r} {after} j er ej ea ed en ep h few =
+    let line = row (i + 2) a d in
+    let rest = left edges local steps n (j .state) (i + 1) in
+    let e : j ≡ judgeOf edges local s (stepAt steps i) = ej ∙ ap (judgeOf edges local s) er in
+    let ten = row-ten edges local steps n s i j a d e ea ed (omega arith) in
+    let e = next-row edges local steps n s i j a d e ea ed h in
+    let room = g .room in
+    let z = stored-at out next line (omega arith) en ep in
+    let l = ap length (z .1) ∙ length-sets out next line in
+    let k = ap length e ∙ length-append line rest in
+    let m = g .end in
+    record {
+      within = omega arith;
+      long = omega arith;
+      room = omega arith;
+      end = omega arith;
+      put = rw (z .1, z .0) (sym (sets-append out next line rest) ∙ ap (sets out next) (sym e) ∙ g .put);
+    }
 
 -- ── The rows of the sheets ──
 

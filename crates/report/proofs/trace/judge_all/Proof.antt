@@ -1,16 +1,11 @@
 use native.Mathlib.Omega.{arith}
-use mathlib.Core.Path.{_≡_, refl, sym, ap, _∙_}
-use Prim.Native.Nat.{_+_, _-_, _*_, _/_, _≤_}
+use mathlib.Core.Path.{refl, sym, ap, _∙_}
+use Prim.Native.Nat.{_-_, _/_}
 use denote.Ref.{now}
-use lib.ListN.{length, length-append}
-use lib.Seq.{sets, length-sets}
-use Rattle.monitor_state.specs.Judge.{startState, judgeOf}
+use lib.ListN.{length}
+use lib.Seq.{sets}
 use Rattle.monitor_state.specs.Code.{stateOf, judgementOf}
-use Rattle.report_lines.specs.Lines.{row}
-use Rattle.report_lines.proofs.PutLaws.{sets-append}
-use Rattle.report_lines.proofs.FitLaws.{stored-at}
-use Rattle.report.specs.Output.{longestStepRow}
-use Rattle.report.proofs.TraceLaws.{left, all-left, none-left, next-row, row-ten}
+use Rattle.report.proofs.TraceLaws.{Going, going-on, all-left, none-left}
 use borrow.Author.Needs.{needs}
 use Rattle.report.proofs.trace.judge_all.Statement.{statement}
 use Rattle.report.proofs.trace.judge_all.Tie as tie
@@ -19,10 +14,7 @@ use Rattle.report.proofs.trace.judge_all.Tie as tie
 -- they are, and whether it is halted
 abbrev Inv-loop : tie.InvT-loop
 Inv-loop edges local steps out₀ at n sets₀ possible₀ created₀ unclosed₀ order₀ count₀ depth₀ halted₀ next₀ i₀ out ss possible created unclosed order count depth halted next i =
-    let s = stateOf ss possible created count unclosed order depth halted in
-    (i ≤ n) × ((length out ≡ length out₀) × ((next + longestStepRow * (n - i) ≤ length out)
-    × ((next + length (left edges local steps n s i) ≡ at + length (left edges local steps n startState 0))
-    × (sets out next (left edges local steps n s i) ≡ sets out₀ at (left edges local steps n startState 0)))))
+    Going edges local steps n out₀ at out (stateOf ss possible created count unclosed order depth halted) next i
 
 abbrev μ-loop : tie.MeasureT-loop
 μ-loop edges local steps out₀ at n sets₀ possible₀ created₀ unclosed₀ order₀ count₀ depth₀ halted₀ next₀ i₀ out ss possible created unclosed order count depth halted next i = n - i
@@ -33,7 +25,7 @@ start-requires c κs = search needs
 loop-holds : tie.Need-loop-holds Inv-loop μ-loop
 loop-holds c =
     let e = c .before .before .before .before .before .start .ensures .0 in
-    (omega arith, (refl, (omega arith, (rw e, rw e))))
+    record { within = omega arith; long = refl; room = omega arith; end = rw e; put = rw e }
 
 step-at-requires : tie.Need-step-at-requires Inv-loop μ-loop
 step-at-requires c κs = search needs
@@ -65,31 +57,16 @@ loop-less c = search needs
 
 loop-again : tie.Need-loop-again Inv-loop μ-loop
 loop-again c =
-    let a =
-    c .before .before .before .before .before .before .before .before .before .before .before .before .before .before .before .before .before .before .before .before .before .before .before .before .args in
-    let p =
-    c .before .before .before .before .before .before .before .before .before .before .before .before .before .before .before .before .before .before .before .before .before .before .before .before .pre .0 in
-    let t = c .before .before .before .before .before .before .before .before .before .before .before .before .before .before .loop in
-    let q = c .before .before .before .before .before .before .before .before .before .before .before .before .before .loop-test .taken in
-    let i₁ = t .inv .1 .0 in
-    let i₂ = t .inv .1 .1 .0 in
-    let i₃ = t .inv .1 .1 .1 .0 in
+    let p = c .before .before .before .before .before .before .before .before .before .before .before .before .before .before .before .before .before .before .before .before .before .before .before .before .pre .0 in
     let k = c .before .before .before .before .before .before .judge-lent in
-    let j = judgementOf (k .result) (k .last .1 .1 .0) (k .last .1 .1 .1 .0) (k .last .1 .1 .1 .1 .0) (k .last .1 .1 .1 .1 .1 .0) (k .last .1 .1 .1 .1 .1 .1 .0) in
     let r = c .before .before .row in
-    let m = c .before .before .before .before .number-of in
-    let d = c .before .before .before .detail-of in
-    let n = length (now (a .steps)) / 3 in
-    let s = stateOf (t .sets) (t .possible) (t .created) (t .count) (t .unclosed) (t .order) (t .depth) (t .halted) in
-    let line = row (t .i + 2) (m .result) (d .result) in
-    let ej = k .ensures ∙ ap (judgeOf (now (a .edges)) (a .local) s) (c .before .before .before .before .before .before .before .step-at .ensures) in
-    let h = row-ten (now (a .edges)) (a .local) (now (a .steps)) n s (t .i) j (m .result) (d .result) ej (m .ensures) (d .ensures) (omega arith) in
-    let e = next-row (now (a .edges)) (a .local) (now (a .steps)) n s (t .i) j (m .result) (d .result) ej (m .ensures) (d .ensures) (omega arith) in
-    let z = stored-at (t .out) (t .next) line (omega arith) (r .ensures .0) (r .ensures .1) in
-    let l = ap length (z .1) ∙ length-sets _ _ line in
-    let g = ap length e ∙ length-append line _ in
-    let kept = sym (sets-append _ _ line _) ∙ ap (sets (t .out) (t .next)) (sym e) ∙ t .inv .1 .1 .1 .1 in
-    (omega arith, (omega arith, (omega arith, (omega arith, rw (z .1, z .0) kept))))
+    going-on (c .before .before .before .before .before .before .before .before .before .before .before .before .before .before .loop .inv)
+    (judgementOf (k .result) (k .last .1 .1 .0) (k .last .1 .1 .1 .0) (k .last .1 .1 .1 .1 .0) (k .last .1 .1 .1 .1 .1 .0) (k .last .1 .1 .1 .1 .1 .1 .0))
+    (c .before .before .before .before .before .before .before .step-at .ensures)
+    (k .ensures) (c .before .before .before .before .number-of .ensures) (c .before .before .before .detail-of .ensures)
+    (r .ensures .0) (r .ensures .1)
+    (c .before .before .before .before .before .before .before .before .before .before .before .before .before .loop-test .taken)
+    (omega arith)
 
 same-length : tie.Need-same-length Inv-loop μ-loop
 same-length c = search needs
@@ -102,7 +79,7 @@ returns c =
     let e = all-left (now (a .edges)) (a .local) (now (a .steps)) in
     let z = none-left (now (a .edges)) (a .local) (now (a .steps)) (length (now (a .steps)) / 3) s (t .i) (c .loop-test .left) in
     let g = ap length z in
-    (rw e (omega arith), rw e (ap (sets (t .out) (t .next)) (sym z) ∙ t .inv .1 .1 .1 .1))
+    (rw e (omega arith), rw e (ap (sets (t .out) (t .next)) (sym z) ∙ t .inv .put))
 
 pub judge-all-spec : {M : Type 1} → statement M
 judge-all-spec =
