@@ -51,27 +51,16 @@ pub fn move_set(rows: &[u8; ROWS], policy: usize, x: u8) -> u8
         return x;
     }
     let k = policy * STATES;
-    if stays(
-        rows[k],
-        rows[k + 1],
-        rows[k + 2],
-        rows[k + 3],
-        rows[k + 4],
-        rows[k + 5],
-        rows[k + 6],
-        rows[k + 7],
-    ) {
+    let a = rows[k];
+    let b = rows[k + 1];
+    let c = rows[k + 2];
+    let d = rows[k + 3];
+    let e = rows[k + 4];
+    let f = rows[k + 5];
+    let g = rows[k + 6];
+    let h = rows[k + 7];
+    if stays(a, b, c, d, e, f, g, h) {
         return x;
     }
-    move_by_rows(
-        x,
-        rows[k],
-        rows[k + 1],
-        rows[k + 2],
-        rows[k + 3],
-        rows[k + 4],
-        rows[k + 5],
-        rows[k + 6],
-        rows[k + 7],
-    )
+    move_by_rows(x, a, b, c, d, e, f, g, h)
 }
