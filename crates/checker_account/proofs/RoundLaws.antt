@@ -1,7 +1,7 @@
 -- A step of filling joins sets to a table: nothing is lost, and the table is as it was exactly if the sum of its entries is.
 use Prim.Native.Nat.{ℕ, zero, suc, _+_, _-_, _*_, _<_, _≤_}
 use mathlib.Core.Path.{_≡_, refl, sym, ap, ap₂, _∙_, subst}
-use mathlib.Core.Bool.{Bool, true, false, not, _||_, or-false}
+use mathlib.Core.Bool.{Bool, true, false, not, _||_}
 use mathlib.Core.List.{List, [], _∷_}
 use mathlib.Core.Logic.{_⊎_, inl, inr}
 use native.Mathlib.Nat.{not-suc-le-zero, le-of-suc-le-suc}
@@ -12,7 +12,7 @@ use lib.Bits.{bitOr}
 use lib.ListN.{length, getD, set, length-set}
 use lib.Seq.{set-out, set-getD}
 use borrow.Author.Tests.{eqb-true, eqb-false, ltb-true, ltb-false, lt-ltb, le-ltb, leb-true, leb-false}
-use Rattle.usage.proofs.Logic.{by-cases, last-or-lower, or-right}
+use Rattle.usage.proofs.Logic.{last-or-lower}
 use Rattle.automaton.proofs.MaskLaws.{left-le}
 use Rattle.checker_account.specs.Rounds.{repeat, total, grown, Wide, Derived, start, joins}
 use Rattle.checker_account.specs.Tables.{joinedAt, places}
@@ -178,19 +178,13 @@ module _ (f : ℕ → List ℕ → List ℕ) (grows : (i : ℕ) (t : List ℕ) �
   pub repeat-length : (n : ℕ) (t₀ t : List ℕ) → t ≡ repeat f n t₀ → length t ≡ length t₀
   repeat-length n t₀ t e = ap length e ∙ repeat-grows n t₀ .len
 
-  -- one turn more of a loop that notes in c, and then in c′, whether the table has changed since the start; r: whether it has in this turn
-  pub turn : (n : ℕ) (t₀ t u : List ℕ) (c c′ r : Bool) → (t ≡ repeat f n t₀) × (c ≡ grown t₀ t) → u ≡ f n t → r ≡ grown t u
-      → ((r ≡ true) × (c′ ≡ true)) ⊎ ((r ≡ false) × (c′ ≡ c)) → (u ≡ repeat f (n + 1) t₀) × (c′ ≡ grown t₀ u)
-  turn n t₀ t u c c′ r (e, d) g k came = (repeat-more f n t₀ t u e g, by-cases came noted kept)
-    where
-      more : grown t₀ u ≡ (grown t₀ t || grown t u)
-      more = grown-trans (subst (Grows t₀) (sym e) (repeat-grows n t₀)) (subst (Grows t) (sym g) (grows n t))
-
-      noted : (r ≡ true) × (c′ ≡ true) → c′ ≡ grown t₀ u
-      noted (h, m) = m ∙ sym (more ∙ or-right (grown t₀ t) (grown t u) (sym k ∙ h))
-
-      kept : (r ≡ false) × (c′ ≡ c) → c′ ≡ grown t₀ u
-      kept (h, m) = m ∙ d ∙ sym (or-false (grown t₀ t)) ∙ ap (λ (b : Bool). grown t₀ t || b) (sym h ∙ k) ∙ sym more
+  -- one turn more of a loop that notes in c whether the table has changed since the start; r: whether it has in this turn
+  pub turn : (n : ℕ) (t₀ t u : List ℕ) (c r : Bool) → (t ≡ repeat f n t₀) × (c ≡ grown t₀ t) → u ≡ f n t → r ≡ grown t u
+      → (u ≡ repeat f (n + 1) t₀) × ((c || r) ≡ grown t₀ u)
+  turn n t₀ t u c r (e, d) g k = (
+    repeat-more f n t₀ t u e g,
+    grown-two t₀ t u c r (c || r) (subst (Grows t₀) (sym e) (repeat-grows n t₀)) (subst (Grows t) (sym g) (grows n t)) d k refl,
+  )
 
 -- ── Tables that rules make ──
 

@@ -1,11 +1,12 @@
 -- Eight sets at once: filled one after the other, and the unions over them.
-use Prim.Native.Nat.{ℕ, zero, suc, _+_, _/_, _%_, _^_, _<_, _≤_}
-use mathlib.Core.Path.{_≡_, refl, sym, ap, ap₂, _∙_}
+use Prim.Native.Nat.{ℕ, zero, suc, _+_, _*_, _/_, _%_, _^_, _<_, _≤_}
+use mathlib.Core.Path.{_≡_, refl, sym, ap, ap₂, _∙_, subst}
 use mathlib.Core.Bool.{Bool, true, false, _||_, cond}
 use mathlib.Core.List.{List, [], _∷_}
 use native.Mathlib.Nat.{not-suc-le-zero}
 use native.Mathlib.Numerals.{add-one}
 use native.Mathlib.Omega.{arith}
+use lib.Dec.{eqb}
 use lib.Bits.{bitOr, or-self, or-comm, or-zero-l, or-zero-r}
 use lib.ListN.{length, getD, set, length-set}
 use lib.Seq.{getD-set-same, getD-set-other}
@@ -39,6 +40,29 @@ module _ (f : ℕ → ℕ) where
   pub by-as : (g : ℕ → ℕ) (l : List ℕ) → ByState states g l → ((q : ℕ) → q < states → g q ≡ f q) → ByState states f l
   by-as g l s h = record { len = s .len; held = λ q b. s .held q b ∙ h q b }
 
+-- ── Replaced one after the other ──
+
+-- l: the sets v, the first i of them replaced by f 0, f 1, …
+pub record InPlace (f : ℕ → ℕ) (v : List ℕ) (i : ℕ) (l : List ℕ) : Type 0 where
+  pub made : ByState i f l
+  pub left : (q : ℕ) → i ≤ q → getD l q 0 ≡ getD v q 0
+
+module _ (f : ℕ → ℕ) (v : List ℕ) where
+  pub place-none : length v ≡ states → InPlace f v 0 v
+  place-none e = record { made = by-none f v e; left = λ q h. refl }
+
+  pub place-more : (i : ℕ) (l : List ℕ) (w : ℕ) → i < states → w ≡ f i → InPlace f v i l → InPlace f v (i + 1) (set l i w)
+  place-more i l w h e s = record {
+    made = by-more f i l w h e (s .made);
+    left = λ q b. getD-set-other l i q w 0 (λ d. absurd (apart q b d)) ∙ s .left q (omega arith);
+  }
+    where
+      apart : (q : ℕ) → i + 1 ≤ q → q ≡ i → ⊥
+      apart q b d = omega arith
+
+  pub place-all : (i : ℕ) (l : List ℕ) → i ≡ states → InPlace f v i l → ByState states f l
+  place-all i l e s = subst (λ (n : ℕ). ByState n f l) e (s .made)
+
 -- the state q alone
 pub singles : (q : ℕ) → q < states → getD (1 ∷ 2 ∷ 4 ∷ 8 ∷ 16 ∷ 32 ∷ 64 ∷ 128 ∷ []) q 0 ≡ 2 ^ q
 singles zero h = refl
@@ -50,6 +74,17 @@ singles (suc (suc (suc (suc (suc zero))))) h = refl
 singles (suc (suc (suc (suc (suc (suc zero)))))) h = refl
 singles (suc (suc (suc (suc (suc (suc (suc zero))))))) h = refl
 singles (suc (suc (suc (suc (suc (suc (suc (suc q)))))))) h = absurd (omega arith)
+
+-- a set by one binary digit
+pub times-digit : (e d : ℕ) → d < 2 → e * d ≡ cond (eqb d 1) e 0
+times-digit e zero h = omega arith
+times-digit e (suc zero) h = omega arith
+times-digit e (suc (suc d)) h = absurd (omega arith)
+
+pub times-lt : (e d n : ℕ) → d < 2 → e < n → e * d < n
+times-lt e zero n h l = omega arith
+times-lt e (suc zero) n h l = omega arith
+times-lt e (suc (suc d)) n h l = absurd (omega arith)
 
 -- ── Unions: one more set, over two sets, and over the halves of one ──
 

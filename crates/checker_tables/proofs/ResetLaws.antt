@@ -1,6 +1,6 @@
 -- What the code's tests say of an opening that resets.
 use Prim.Native.Nat.{ℕ, _+_}
-use mathlib.Core.Path.{_≡_, refl, ap, _∙_}
+use mathlib.Core.Path.{_≡_, refl, _∙_}
 use mathlib.Core.Bool.{Bool, true, false, not, _&&_, cond}
 use mathlib.Core.List.{List}
 use lib.Dec.{eqb}
@@ -10,15 +10,10 @@ use Rattle.checker_account.specs.Tables.{base, insideEnds, restarted}
 use Rattle.checker_tables.specs.Search.{resetsIf}
 
 -- what the body of a sandbox ends in
-pub inside-if : (reset : Bool) (p : ℕ) (opened t : List ℕ) (s b m q : ℕ) (r : Bool) → r ≡ (reset && eqb s p)
-    → cond r (getD opened (base b m + 0) 0) (getD t (base b m + q) 0) ≡ insideEnds (resetsIf reset p opened) t s b m q
-inside-if reset p opened t s b m q r e =
-    ap (λ (d : Bool). cond d (getD opened (base b m + 0) 0) (getD t (base b m + q) 0)) e ∙ go reset
-  where
-    go : (reset : Bool)
-        → cond (reset && eqb s p) (getD opened (base b m + 0) 0) (getD t (base b m + q) 0) ≡ insideEnds (resetsIf reset p opened) t s b m q
-    go false = refl
-    go true = refl
+pub inside-if : (reset : Bool) (p : ℕ) (opened t : List ℕ) (s b m q : ℕ)
+    → cond (reset && eqb s p) (getD opened (base b m + 0) 0) (getD t (base b m + q) 0) ≡ insideEnds (resetsIf reset p opened) t s b m q
+inside-if false p opened t s b m q = refl
+inside-if true p opened t s b m q = refl
 
 -- the states after the opening of a policy, which was open or not
 pub opened-if : (local same : Bool) (v w : ℕ)

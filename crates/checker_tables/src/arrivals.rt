@@ -41,13 +41,6 @@ pub(crate) fn come_to(u: &Table, k: usize, o: bool, m: usize) -> u16
     u[place(k, o, m)]
 }
 
-// One or the other.
-fn either(a: bool, b: bool) -> bool
-    ensures { λ r. ⌜ r ≡ (a || b) ⌝ }
-{
-    if a { true } else { b }
-}
-
 // Node k is come to in the states v. Is that new?
 fn enter(u: &mut Table, k: usize, o: bool, m: usize, v: u16) -> bool
     requires { ⌜ length (now u) ≡ places ⌝ }
@@ -73,7 +66,7 @@ fn enter_two(u: &mut Table, a: usize, b: usize, o: bool, m: usize, v: u16) -> bo
 {
     let first = enter(u, a, o, m, v);
     let second = enter(u, b, o, m, v);
-    either(first, second)
+    first | second
 }
 
 // One is in the states of the lower half of e, the resource being as it was, and of the upper half, the resource being made.
@@ -88,7 +81,7 @@ fn enter_halves(u: &mut Table, b: usize, o: bool, m: usize, e: u16) -> bool
     let n = crate::lose(m, 0);
     let low = enter(u, b, o, m, e % 256);
     let high = enter(u, b, o, n, e / 256);
-    either(low, high)
+    low | high
 }
 
 // A sequence leads to its first node, and to its second in what the first ends in.
@@ -104,7 +97,7 @@ fn pass_sequence(u: &mut Table, t: &Table, a: usize, b: usize, o: bool, m: usize
     let e = crate::ends::begun(t, a, m, v);
     let first = enter(u, a, o, m, v);
     let second = enter_halves(u, b, o, m, e);
-    either(first, second)
+    first | second
 }
 
 // A fresh node leads to its body, another resource or the watched one being created.
@@ -132,7 +125,7 @@ fn pass_fresh(
     let own = crate::rows::own_created(rows, k, m, v);
     let first = enter(u, b, o, f, other);
     let second = enter(u, b, o, n + 1, own);
-    either(first, second)
+    first | second
 }
 
 // A sandbox leads to its body. `same`: it is one of the policy, which is open in it; where it was not, its opening resets under the local
@@ -146,9 +139,8 @@ fn pass_sandbox(u: &mut Table, local: bool, same: bool, b: usize, o: bool, m: us
     ensures { λ r. ⌜ r ≡ grown (now (u .entry)) (now (u .exit)) ⌝ }
     ensures { λ r. ⌜ (Wide (now (u .entry)) → Wide (now (u .exit))) ⌝ }
 {
-    let reset = crate::both(local, crate::both(same, !o));
-    let w = crate::restarted(reset, v);
-    enter(u, b, either(o, same), m, w)
+    let w = crate::restarted(local & (same & !o), v);
+    enter(u, b, o | same, m, w)
 }
 
 // What node k, come to with o and m in the states v, leads to; t is the table of ends for o. Is anything of it new?
@@ -254,9 +246,7 @@ fn pass_node<'a>(
     while i < n {
         let m = l + i / 2;
         let o = i % 2 == 1;
-        if pass(u, opened, shut, rows, local, p, k, f, o, m) {
-            changed = true;
-        }
+        changed |= pass(u, opened, shut, rows, local, p, k, f, o, m);
         i += 1;
     }
     changed
@@ -287,9 +277,7 @@ fn pass_round<'a>(
     let mut k: usize = 0;
     while k < n {
         let f = crate::node(nodes, k);
-        if pass_node(u, opened, shut, rows, local, p, l, k, f) {
-            changed = true;
-        }
+        changed |= pass_node(u, opened, shut, rows, local, p, l, k, f);
         k += 1;
     }
     changed

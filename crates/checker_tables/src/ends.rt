@@ -137,7 +137,7 @@ fn ends_by(
         5 => crate::sets::entries(t, STARTS * a + STATES * m),
         6 => crate::sets::entries(t, STARTS * a + STATES * m),
         7 => fresh_ends(t, rows, k, a, b, m),
-        8 => inside_ends(t, opened, crate::both(reset, a == p), b, m),
+        8 => inside_ends(t, opened, reset & (a == p), b, m),
         _ => [0u16; STATES],
     }
 }
@@ -154,9 +154,7 @@ fn join_sets(t: &mut Table, i: usize, v: PerState) -> bool
     let mut changed = false;
     let mut q: usize = 0;
     while q < STATES {
-        if crate::join(t, i + q, v[q]) {
-            changed = true;
-        }
+        changed |= crate::join(t, i + q, v[q]);
         q += 1;
     }
     changed
@@ -188,9 +186,7 @@ fn settle_node(
     while i < n {
         let m = l + i;
         let v = ends_by(t, rows, opened, reset, p, x, k, f, m);
-        if join_sets(t, STARTS * k + STATES * m, v) {
-            changed = true;
-        }
+        changed |= join_sets(t, STARTS * k + STATES * m, v);
         i += 1;
     }
     changed

@@ -60,13 +60,6 @@ fn join(t: &mut Table, i: usize, v: u16) -> bool
     new != old
 }
 
-// Both.
-fn both(a: bool, b: bool) -> bool
-    ensures { λ r. ⌜ r ≡ (a && b) ⌝ }
-{
-    if a { b } else { false }
-}
-
 // The states v after an opening. Where it resets, state 0 alone, if there is any.
 fn restarted(reset: bool, v: u16) -> u16
     ensures { λ r. ⌜ r ≡ restarted reset v ⌝ }
@@ -117,10 +110,11 @@ fn node(nodes: &[u8], k: usize) -> Node
     requires { ⌜ k < length (now nodes) / nodeFields ⌝ }
     ensures { λ r. ⌜ r ≡ nodeAt (now (nodes .entry)) k ⌝ }
 {
+    let i = NODE_FIELDS * k;
     Node {
-        kind: nodes[NODE_FIELDS * k],
-        a: nodes[NODE_FIELDS * k + 1],
-        b: nodes[NODE_FIELDS * k + 2],
+        kind: nodes[i],
+        a: nodes[i + 1],
+        b: nodes[i + 2],
     }
 }
 

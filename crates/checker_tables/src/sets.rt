@@ -36,57 +36,52 @@ fn keep(m: usize, v: u16) -> u16
 }
 
 // Each of eight sets as ends.
-pub(crate) fn keep_each(m: usize, v: PerState) -> PerState
+pub(crate) fn keep_each(m: usize, mut v: PerState) -> PerState
     ensures { λ r. ⌜ ByState states (λ q. kept m (getD v q 0)) r ⌝ }
 {
-    let mut r = [0u16; STATES];
     let mut q: usize = 0;
     while q < STATES {
-        r[q] = keep(m, v[q]);
+        v[q] = keep(m, v[q]);
         q += 1;
     }
-    r
+    v
 }
 
 // Their upper halves.
-pub(crate) fn upper_each(v: PerState) -> PerState
+pub(crate) fn upper_each(mut v: PerState) -> PerState
     ensures { λ r. ⌜ ByState states (λ q. getD v q 0 / 256) r ⌝ }
 {
-    let mut r = [0u16; STATES];
     let mut q: usize = 0;
     while q < STATES {
-        r[q] = v[q] / 256;
+        v[q] /= 256;
         q += 1;
     }
-    r
+    v
 }
 
 // Eight sets, each joined to one of eight others.
-pub(crate) fn join_each(v: PerState, w: PerState) -> PerState
+pub(crate) fn join_each(mut v: PerState, w: PerState) -> PerState
     ensures { λ r. ⌜ ByState states (λ q. bitOr (getD v q 0) (getD w q 0)) r ⌝ }
 {
-    let mut r = [0u16; STATES];
     let mut q: usize = 0;
     while q < STATES {
-        r[q] = v[q] | w[q];
+        v[q] |= w[q];
         q += 1;
     }
-    r
+    v
 }
 
 // The set e joined to each of the eight sets w whose set in v has the state s.
-fn join_where(w: PerState, v: PerState, s: u32, e: u16) -> PerState
+fn join_where(mut w: PerState, v: PerState, s: u32, e: u16) -> PerState
     requires { ⌜ s < states ⌝ }
     ensures { λ r. ⌜ ByState states (λ q. bitOr (getD w q 0) (cond (has (getD v q 0) s) e 0)) r ⌝ }
 {
-    let mut r = [0u16; STATES];
     let mut q: usize = 0;
     while q < STATES {
-        let more = if (v[q] >> s) & 1 == 1 { e } else { 0 };
-        r[q] = w[q] | more;
+        w[q] |= e * ((v[q] >> s) % 2);
         q += 1;
     }
-    r
+    w
 }
 
 // The union of the eight entries from place i on, over the states of each of the sets v.

@@ -1,7 +1,7 @@
 use native.Mathlib.Omega.{arith}
 use native.Mathlib.Numerals.{add-one}
-use mathlib.Core.Path.{_≡_, ap, ap₂, _∙_}
-use mathlib.Core.Bool.{false}
+use mathlib.Core.Path.{_≡_, ap, ap₂, _∙_, refl}
+use mathlib.Core.Bool.{false, _||_}
 use mathlib.Core.List.{List}
 use Prim.Native.Nat.{ℕ, suc, _+_}
 use denote.Ref.{now}
@@ -15,7 +15,6 @@ use Rattle.checker_tables.proofs.arrivals.pass_fresh.Statement.{stateme
 use Rattle.checker_tables.proofs.arrivals.pass_fresh.Tie as tie
 use Rattle.checker_tables.proofs.arrivals.pass_fresh.Reads as reads
 use Rattle.checker_tables.proofs.arrivals.pass_fresh.Lts as lts
-use Rattle.checker_tables.proofs.arrivals.either.Reads as either-reads
 use Rattle.checker_tables.proofs.arrivals.enter.Reads as enter-reads
 use Rattle.checker_tables.proofs.lose.Reads as lose-reads
 use Rattle.checker_tables.proofs.rows.moved_set.Reads as moved-set-reads
@@ -63,18 +62,15 @@ enter-requires-2 c κs =
       (p .1 .1 .1 .0, omega (arith, p .1 .1 .0)),
     )
 
-either-requires : tie.Need-either-requires
-either-requires c κs = search needs
-
 returns : tie.Need-returns
 unfolding entered
 returns c =
-    let a = c .before .before .before .before .before .before .before .before .args in
-    let f = c .before .before .before .before .before .before .before .lose in
-    let x = c .before .before .before .before .before .before .moved-set in
-    let y = c .before .before .before .before .before .own-created in
-    let s = c .before .before .before .enter in
-    let t = c .before .enter2 in
+    let a = c .before .before .before .before .before .before .before .args in
+    let f = c .before .before .before .before .before .before .lose in
+    let x = c .before .before .before .before .before .moved-set in
+    let y = c .before .before .before .before .own-created in
+    let s = c .before .before .enter in
+    let t = c .enter2 in
     let i = place (a .b) (a .o) (forgotten (a .m) (a .n)) in
     let first : s .last .0 ≡ joinedAt (now (a .u)) i (over (rowsIn (now (a .rows)) (a .k) false) (a .v)) =
     s .ensures .0
@@ -84,10 +80,10 @@ returns c =
           ∙ ap (λ (m : ℕ). joinedAt (s .last .0) (place (a .b) (a .o) m) (y .result)) (add-one (a .n))
           ∙ ap₂ (λ (u : List ℕ) (v : ℕ). joinedAt u (place (a .b) (a .o) (suc (a .n))) v) first (y .ensures),
       (
-        grown-two (now (a .u)) (s .last .0) (t .last .0) (s .result) (t .result) (c .either .result)
+        grown-two (now (a .u)) (s .last .0) (t .last .0) (s .result) (t .result) (s .result || t .result)
             (grows-joined (now (a .u)) (s .last .0) (place (a .b) (a .o) (f .result)) (x .result) (s .ensures .0))
             (grows-joined (s .last .0) (t .last .0) (place (a .b) (a .o) (a .n + 1)) (y .result) (t .ensures .0)) (s .ensures .1 .0)
-            (t .ensures .1 .0) (c .either .ensures),
+            (t .ensures .1 .0) refl,
         λ w. t .ensures .1 .1 (s .ensures .1 .1 w),
       ),
     )
@@ -103,5 +99,4 @@ pass-fresh-spec =
     enter-requires
     add-enter
     enter-requires-2
-    either-requires
     returns)

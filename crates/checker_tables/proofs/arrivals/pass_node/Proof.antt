@@ -6,8 +6,6 @@ use borrow.Author.Needs.{needs}
 use denote.Ref.{now}
 use mathlib.Core.Bool.{Bool}
 use mathlib.Core.List.{List}
-use mathlib.Core.Logic.{inl, inr}
-use Rattle.usage.proofs.Logic.{by-cases}
 use Rattle.usage.specs.Outline.{formOf}
 use Rattle.checker_account.specs.Tables.{rowsIn, place, meanings}
 use Rattle.checker_account.specs.Rounds.{repeat, grown, byOpen, pass, odd, passNode, Wide}
@@ -68,16 +66,15 @@ loop-less c = search needs
 
 loop-again : tie.Need-loop-again Inv-loop μ-loop
 loop-again c =
-    let a = c .before .before .before .before .before .args in
-    let l = c .before .before .before .before .loop in
+    let a = c .before .before .before .before .args in
+    let l = c .before .before .before .loop in
     let f = steps (a .opened .now) (a .shut .now) (a .rows .now) (a .local) (a .p) (a .l) (a .k) (a .f) in
     let grows = steps-grow (a .opened .now) (a .shut .now) (a .rows .now) (a .local) (a .p) (a .l) (a .k) (a .f) in
-    let w = c .before .pass .last .0 in
-    let e : w ≡ f (l .i) (l .u) = c .before .pass .ensures .0 in
-    let wide : Wide (a .u .now) → Wide w = λ h. c .before .pass .ensures .1 .1 (l .inv .1 .1 .1 h) in
-    let made = turn f grows (l .i) (a .u .now) (l .u) w (l .changed) (c .if1 .changed)
-    (c .before .pass .result) (l .inv .1 .0, l .inv .1 .1 .0) e (c .before .pass .ensures .1 .0)
-    (by-cases (c .if1 .came) (λ w. inl (w .0 .taken, w .1)) (λ w. inr (w .0 .left, w .1))) in
+    let w = c .pass .last .0 in
+    let e : w ≡ f (l .i) (l .u) = c .pass .ensures .0 in
+    let wide : Wide (a .u .now) → Wide w = λ h. c .pass .ensures .1 .1 (l .inv .1 .1 .1 h) in
+    let made = turn f grows (l .i) (a .u .now) (l .u) w (l .changed)
+    (c .pass .result) (l .inv .1 .0, l .inv .1 .1 .0) e (c .pass .ensures .1 .0) in
     (search needs, (made .0, (made .1, wide)))
 
 returns : tie.Need-returns Inv-loop μ-loop

@@ -7,8 +7,6 @@ use denote.Ref.{now}
 use mathlib.Core.Bool.{Bool}
 use mathlib.Core.List.{List}
 use Rattle.usage.specs.Limits.{mostNodes, nodeFields}
-use mathlib.Core.Logic.{inl, inr}
-use Rattle.usage.proofs.Logic.{by-cases}
 use Rattle.checker_account.specs.Tables.{rowsIn}
 use Rattle.checker_account.specs.Rounds.{repeat, grown, formsIn, byOpen, passNode, passRound, Wide}
 use Rattle.checker_account.proofs.RoundLaws.{Grows, grown-self, repeat-length, turn}
@@ -65,21 +63,20 @@ loop-less c = search needs
 
 loop-again : tie.Need-loop-again Inv-loop μ-loop
 loop-again c =
-    let a = c .before .before .before .before .before .before .before .args in
-    let l = c .before .before .before .before .before .loop in
+    let a = c .before .before .before .before .before .before .args in
+    let l = c .before .before .before .before .loop in
     let f = steps (a .opened .now) (a .shut .now) (a .nodes .now) (a .rows .now) (a .local) (a .p) (a .l) in
     let grows = steps-grow (a .opened .now) (a .shut .now) (a .nodes .now) (a .rows .now) (a .local) (a .p) (a .l) in
-    let w = c .before .pass-node .last .0 in
-    let h = c .before .before .before .before .loop-test .taken in
+    let w = c .pass-node .last .0 in
+    let h = c .before .before .before .loop-test .taken in
     let e : w ≡ f (l .k) (l .u) =
-    c .before .pass-node .ensures .0
+    c .pass-node .ensures .0
     ∙ ap (λ (d : Node). passNode (a .local) (rowsIn (a .rows .now)) (a .p) (byOpen (a .opened .now) (a .shut .now)) (a .l) (l .k) (formOf d)
     (l .u))
-    (c .before .before .before .node .ensures) in
-    let wide : Wide (a .u .now) → Wide w = λ h. c .before .pass-node .ensures .1 .1 (l .inv .1 .1 .1 h) in
-    let made = turn f grows (l .k) (a .u .now) (l .u) w (l .changed) (c .if1 .changed)
-    (c .before .pass-node .result) (l .inv .1 .0, l .inv .1 .1 .0) e (c .before .pass-node .ensures .1 .0)
-    (by-cases (c .if1 .came) (λ w. inl (w .0 .taken, w .1)) (λ w. inr (w .0 .left, w .1))) in
+    (c .before .before .node .ensures) in
+    let wide : Wide (a .u .now) → Wide w = λ h. c .pass-node .ensures .1 .1 (l .inv .1 .1 .1 h) in
+    let made = turn f grows (l .k) (a .u .now) (l .u) w (l .changed)
+    (c .pass-node .result) (l .inv .1 .0, l .inv .1 .1 .0) e (c .pass-node .ensures .1 .0) in
     (search needs, (made .0, (made .1, wide)))
 
 returns : tie.Need-returns Inv-loop μ-loop

@@ -1,4 +1,5 @@
-use mathlib.Core.Path.{sym, ap, _∙_, subst}
+use mathlib.Core.Bool.{_||_}
+use mathlib.Core.Path.{sym, ap, _∙_, subst, refl}
 use mathlib.Core.List.{List}
 use Prim.Native.Nat.{ℕ}
 use denote.Ref.{now}
@@ -11,7 +12,6 @@ use Rattle.checker_tables.proofs.arrivals.pass_sequence.Statement.{stat
 use Rattle.checker_tables.proofs.arrivals.pass_sequence.Tie as tie
 use Rattle.checker_tables.proofs.arrivals.pass_sequence.Reads as reads
 use Rattle.checker_tables.proofs.arrivals.pass_sequence.Lts as lts
-use Rattle.checker_tables.proofs.arrivals.either.Reads as either-reads
 use Rattle.checker_tables.proofs.arrivals.enter.Reads as enter-reads
 use Rattle.checker_tables.proofs.arrivals.enter_halves.Reads as enter-halves-reads
 use Rattle.checker_tables.proofs.ends.begun.Reads as begun-reads
@@ -30,25 +30,22 @@ enter-halves-requires c κs =
       (p .1 .1 .0, p .1 .1 .1),
     )
 
-either-requires : tie.Need-either-requires
-either-requires c κs = search needs
-
 returns : tie.Need-returns
 unfolding entered
 returns c =
-    let a = c .before .before .before .before .before .before .args in
-    let e = c .before .before .before .before .before .begun in
-    let s = c .before .before .before .enter in
-    let t = c .before .enter-halves in (
+    let a = c .before .before .before .before .before .args in
+    let e = c .before .before .before .before .begun in
+    let s = c .before .before .enter in
+    let t = c .enter-halves in (
       t .ensures .0
           ∙ ap (λ (u : List ℕ). entered (halves (a .b) (a .o) (a .m) (e .result)) u) (s .ensures .0)
           ∙ ap (λ (n : ℕ). entered (halves (a .b) (a .o) (a .m) n) (joinedAt (now (a .u)) (place (a .a) (a .o) (a .m)) (a .v)))
           (e .ensures),
       (
-        grown-two (now (a .u)) (s .last .0) (t .last .0) (s .result) (t .result) (c .either .result)
+        grown-two (now (a .u)) (s .last .0) (t .last .0) (s .result) (t .result) (s .result || t .result)
             (grows-joined (now (a .u)) (s .last .0) (place (a .a) (a .o) (a .m)) (a .v) (s .ensures .0))
             (subst (Grows (s .last .0)) (sym (t .ensures .0)) (entered-grows (halves (a .b) (a .o) (a .m) (e .result)) (s .last .0)))
-            (s .ensures .1 .0) (t .ensures .1 .0) (c .either .ensures),
+            (s .ensures .1 .0) (t .ensures .1 .0) refl,
         λ w. t .ensures .1 .1 (s .ensures .1 .1 w),
       ),
     )
@@ -56,4 +53,4 @@ returns c =
 pub pass-sequence-spec : {M : Type 1} → statement M
 pass-sequence-spec =
     tie.close
-    (tie.spec begun-requires enter-requires enter-halves-requires either-requires returns)
+    (tie.spec begun-requires enter-requires enter-halves-requires returns)

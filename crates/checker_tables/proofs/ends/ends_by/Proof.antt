@@ -2,7 +2,7 @@ use mathlib.Core.Path.{refl, sym, ap, subst}
 use mathlib.Core.Option.{Option}
 use mathlib.Core.List.{[], _∷_}
 use Prim.Native.Nat.{ℕ, _+_, _^_}
-use mathlib.Core.Bool.{cond}
+use mathlib.Core.Bool.{cond, _&&_}
 use native.Mathlib.Numerals.{add-one}
 use denote.Ref.{now}
 use lib.Dec.{eqb}
@@ -26,7 +26,6 @@ use Rattle.checker_tables.proofs.ends.either_ends.Reads as either-ends-
 use Rattle.checker_tables.proofs.ends.event_ends.Reads as event-ends-reads
 use Rattle.checker_tables.proofs.ends.fresh_ends.Reads as fresh-ends-reads
 use Rattle.checker_tables.proofs.ends.second_ends.Reads as second-ends-reads
-use Rattle.checker_tables.proofs.both.Reads as both-reads
 use Rattle.checker_tables.proofs.ends.inside_ends.Reads as inside-ends-reads
 use Rattle.checker_tables.proofs.sets.entries.Reads as entries-reads
 use Rattle.checker_tables.proofs.sets.keep_each.Reads as keep-each-reads
@@ -83,9 +82,6 @@ fresh-ends-requires : tie.Need-fresh-ends-requires
 fresh-ends-requires c κs =
     let p = c .before .before .before .pre in (p .1 .0, (p .0 .a-name (c .match .keys8), (p .0 .b-node, p .1 .1)))
 
-both-requires : tie.Need-both-requires
-both-requires c κs = search needs
-
 inside-ends-requires : tie.Need-inside-ends-requires
 inside-ends-requires c κs = search needs
 
@@ -132,13 +128,12 @@ returns-8 c = rw (c .before .match .keys8) (c .fresh-ends .ensures)
 returns-9 : tie.Need-returns-9
 unfolding formOf endsBy
 returns-9 c =
-    let a = c .before .before .before .before .before .args in
-    rw (c .before .before .match .keys9)
+    let a = c .before .before .before .before .args in
+    rw (c .before .match .keys9)
     (by-as (λ q. insideEnds (resetsIf (a .reset) (a .p) (now (a .opened))) (now (a .t)) (a .f .a) (a .f .b) (a .m) q)
-    (λ q. cond (c .before .both .result) (getD (now (a .opened)) (base (a .f .b) (a .m) + 0) 0)
+    (λ q. cond (a .reset && eqb (a .f .a) (a .p)) (getD (now (a .opened)) (base (a .f .b) (a .m) + 0) 0)
     (getD (now (a .t)) (base (a .f .b) (a .m) + q) 0)) (c .inside-ends .result) (c .inside-ends .ensures)
-    (λ q l. inside-if (a .reset) (a .p) (now (a .opened)) (now (a .t)) (a .f .a) (a .f .b) (a .m) q (c .before .both .result)
-    (c .before .both .ensures)))
+    (λ q l. inside-if (a .reset) (a .p) (now (a .opened)) (now (a .t)) (a .f .a) (a .f .b) (a .m) q))
 
 returns-10 : tie.Need-returns-10
 returns-10 c =
@@ -173,7 +168,6 @@ ends-by-spec =
     add-entries-2
     entries-requires-2
     fresh-ends-requires
-    both-requires
     inside-ends-requires
     returns
     returns-2

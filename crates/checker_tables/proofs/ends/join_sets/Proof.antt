@@ -1,11 +1,9 @@
 use native.Mathlib.Omega.{arith}
 use mathlib.Core.Path.{_≡_, refl, sym, _∙_}
 use mathlib.Core.List.{List}
-use mathlib.Core.Logic.{inl, inr}
 use Prim.Native.Nat.{ℕ, _+_, _-_, _≤_, _<_}
 use lib.ListN.{getD}
 use Rattle.usage.specs.Limits.{states}
-use Rattle.usage.proofs.Logic.{by-cases}
 use Rattle.checker_account.specs.Tables.{joinedAt}
 use Rattle.checker_account.specs.Rounds.{repeat, grown, joinedEach}
 use Rattle.checker_account.proofs.RoundLaws.{Grows, joined-grows, grown-self, repeat-length, turn}
@@ -57,12 +55,11 @@ loop-less c = search needs
 
 loop-again : tie.Need-loop-again Inv-loop μ-loop
 loop-again c =
-    let a = c .before .before .before .before .before .args in
-    let l = c .before .before .before .before .loop in
-    let j = c .before .join in
-    let made = turn (steps (a .i) (a .t3)) (steps-grow (a .i) (a .t3)) (l .q) (a .t .now) (l .t) (j .last .0) (l .changed) (c .if1 .changed)
-    (j .result) (l .inv .1) (j .ensures .0) (j .ensures .1 .0)
-    (by-cases (c .if1 .came) (λ w. inl (w .0 .taken, w .1)) (λ w. inr (w .0 .left, w .1))) in
+    let a = c .before .before .before .before .args in
+    let l = c .before .before .before .loop in
+    let j = c .join in
+    let made = turn (steps (a .i) (a .t3)) (steps-grow (a .i) (a .t3)) (l .q) (a .t .now) (l .t) (j .last .0) (l .changed)
+    (j .result) (l .inv .1) (j .ensures .0) (j .ensures .1 .0) in
     (search needs, made)
 
 returns : tie.Need-returns Inv-loop μ-loop

@@ -1,10 +1,8 @@
 use native.Mathlib.Omega.{arith}
 use mathlib.Core.Path.{_≡_, refl, sym, _∙_}
 use mathlib.Core.List.{List}
-use mathlib.Core.Logic.{inl, inr}
 use Prim.Native.Nat.{ℕ, _+_, _-_, _≤_, _<_}
 use lib.ListN.{getD}
-use Rattle.usage.proofs.Logic.{by-cases}
 use Rattle.usage.specs.declared.Node.{Node}
 use Rattle.usage.specs.Outline.{formOf}
 use Rattle.checker_account.specs.Tables.{rowsIn, Resets, base, meanings}
@@ -75,21 +73,20 @@ loop-less c = search needs
 
 loop-again : tie.Need-loop-again Inv-loop μ-loop
 loop-again c =
-    let a = c .before .before .before .before .before .before .before .args in
+    let a = c .before .before .before .before .before .before .args in
     let resets = resetsIf (a .reset) (a .p) (a .opened .now) in
-    let l = c .before .before .before .before .before .before .loop in
+    let l = c .before .before .before .before .before .loop in
     let f = settles (a .rows .now) (a .x) resets (a .l) (a .k) (a .f) in
     let grows = settles-grow (a .rows .now) (a .x) resets (a .l) (a .k) (a .f) in
     let m = a .l + l .i in
-    let v = c .before .before .before .ends-by in
-    let j = c .before .join-sets in
+    let v = c .before .before .ends-by in
+    let j = c .join-sets in
     let e : j .last .0 ≡ f (l .i) (l .t) =
     j .ensures .0
     ∙ each-same (l .t) (base (a .k) m) (λ q. getD (v .result) q 0)
     (λ q. endsOf (rowsIn (a .rows .now)) (a .x) resets (l .t) (a .k) m q (formOf (a .f))) (v .ensures .held) in
-    let made = turn f grows (l .i) (a .t .now) (l .t) (j .last .0) (l .changed) (c .if1 .changed)
-    (j .result) (l .inv .1) e (j .ensures .1)
-    (by-cases (c .if1 .came) (λ w. inl (w .0 .taken, w .1)) (λ w. inr (w .0 .left, w .1))) in
+    let made = turn f grows (l .i) (a .t .now) (l .t) (j .last .0) (l .changed)
+    (j .result) (l .inv .1) e (j .ensures .1) in
     (search needs, made)
 
 returns : tie.Need-returns Inv-loop μ-loop

@@ -1,45 +1,46 @@
 use native.Mathlib.Omega.{arith}
-use mathlib.Core.Path.{_≡_, refl, sym, ap, _∙_, subst}
-use Prim.Native.Nat.{ℕ, _+_, _-_, _/_, _≤_, _<_}
-use mathlib.Core.Bool.{Bool, cond}
+use mathlib.Core.Path.{_≡_, ap}
+use Prim.Native.Nat.{ℕ, _-_, _≤_}
 use mathlib.Core.List.{List}
+use lib.ListN.{length, getD}
 use lib.Bits.{bitOr}
 use Rattle.usage.specs.Limits.{states}
-use Rattle.checker_tables.specs.ByState.{ByState}
-use Rattle.checker_tables.proofs.ByStateLaws.{by-none, by-more}
-use lib.ListN.{getD, set, replicate}
+use Rattle.checker_tables.proofs.ByStateLaws.{InPlace, place-none, place-more, place-all}
 use borrow.Author.Needs.{needs}
 use Rattle.checker_tables.proofs.sets.join_each.Statement.{statement}
 use Rattle.checker_tables.proofs.sets.join_each.Tie as tie
 use Rattle.checker_tables.proofs.sets.join_each.Reads as reads
 use Rattle.checker_tables.proofs.sets.join_each.Lts as lts
 
+abbrev each : List ℕ → List ℕ → ℕ → ℕ
+each v w j = bitOr (getD v j 0) (getD w j 0)
+
 abbrev Inv-loop : tie.InvT-loop
-Inv-loop v w r₀ q₀ r q = (q ≤ states) × ByState q (λ j. bitOr (getD v j 0) (getD w j 0)) r
+Inv-loop v₀ w q₀ v q = (q ≤ states) × InPlace (each v₀ w) v₀ q v
 
 abbrev μ-loop : tie.MeasureT-loop
-μ-loop v w r₀ q₀ r q = states - q
+μ-loop v₀ w q₀ v q = states - q
 
 loop-holds : tie.Need-loop-holds Inv-loop μ-loop
-loop-holds c = let a = c .args in (search needs, by-none (λ j. bitOr (getD (a .t1) j 0) (getD (a .t2) j 0)) (replicate states 0) refl)
+loop-holds c =
+    let a = c .args in
+    let e : length (a .t1) ≡ states = search needs in
+    (search needs, place-none (each (a .t1) (a .t2)) (a .t1) e)
 
-mul-r : tie.Need-mul-r Inv-loop μ-loop
-mul-r c = search needs
+mul-v : tie.Need-mul-v Inv-loop μ-loop
+mul-v c = search needs
 
-array-read-r : tie.Need-array-read-r Inv-loop μ-loop
-array-read-r c = search needs
+array-read-v : tie.Need-array-read-v Inv-loop μ-loop
+array-read-v c = search needs
 
-mul-r-2 : tie.Need-mul-r-2 Inv-loop μ-loop
-mul-r-2 c = search needs
+mul-v-2 : tie.Need-mul-v-2 Inv-loop μ-loop
+mul-v-2 c = search needs
 
-array-read-r-2 : tie.Need-array-read-r-2 Inv-loop μ-loop
-array-read-r-2 c = search needs
+array-read-v-2 : tie.Need-array-read-v-2 Inv-loop μ-loop
+array-read-v-2 c = search needs
 
-mul-r-3 : tie.Need-mul-r-3 Inv-loop μ-loop
-mul-r-3 c = search needs
-
-array-write-r : tie.Need-array-write-r Inv-loop μ-loop
-array-write-r c = search needs
+array-write-v : tie.Need-array-write-v Inv-loop μ-loop
+array-write-v c = search needs
 
 add-q : tie.Need-add-q Inv-loop μ-loop
 add-q c = search needs
@@ -52,13 +53,14 @@ loop-again c =
     let a = c .before .before .args in
     let l = c .before .loop in
     let h = c .loop-test .taken in
-    (search needs, by-more (λ j. bitOr (getD (a .t1) j 0) (getD (a .t2) j 0)) (l .q) (l .r) _ (omega arith) refl (l .inv .1))
+    let still = l .inv .1 .left (l .q) (omega arith) in
+    (search needs, place-more (each (a .t1) (a .t2)) (a .t1) (l .q) (l .v) _ (omega arith) (ap (λ (n : ℕ). bitOr n (getD (a .t2) (l .q) 0)) still) (l .inv .1))
 
 returns : tie.Need-returns Inv-loop μ-loop
 returns c =
     let a = c .before .before .args in
-    let e : c .before .loop .q ≡ states = omega arith in
-    subst (λ (n : ℕ). ByState n (λ j. bitOr (getD (a .t1) j 0) (getD (a .t2) j 0)) (c .before .loop .r)) e (c .before .loop .inv .1)
+    let l = c .before .loop in
+    place-all (each (a .t1) (a .t2)) (a .t1) (l .q) (l .v) (omega arith) (l .inv .1)
 
 pub join-each-spec : {M : Type 1} → statement M
 join-each-spec =
@@ -67,12 +69,11 @@ join-each-spec =
     Inv-loop
     μ-loop
     loop-holds
-    mul-r
-    array-read-r
-    mul-r-2
-    array-read-r-2
-    mul-r-3
-    array-write-r
+    mul-v
+    array-read-v
+    mul-v-2
+    array-read-v-2
+    array-write-v
     add-q
     loop-less
     loop-again

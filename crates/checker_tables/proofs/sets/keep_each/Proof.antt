@@ -1,14 +1,11 @@
 use native.Mathlib.Omega.{arith}
-use mathlib.Core.Path.{_≡_, refl, sym, ap, _∙_, subst}
-use Prim.Native.Nat.{ℕ, _+_, _-_, _/_, _≤_, _<_}
-use mathlib.Core.Bool.{Bool, cond}
+use mathlib.Core.Path.{_≡_, ap, _∙_}
+use Prim.Native.Nat.{ℕ, _-_, _≤_}
 use mathlib.Core.List.{List}
-use lib.Bits.{bitOr}
-use Rattle.usage.specs.Limits.{states}
-use Rattle.checker_tables.specs.ByState.{ByState}
-use Rattle.checker_tables.proofs.ByStateLaws.{by-none, by-more}
+use lib.ListN.{length, getD}
 use Rattle.checker_account.specs.Tables.{kept}
-use lib.ListN.{getD, set, replicate}
+use Rattle.usage.specs.Limits.{states}
+use Rattle.checker_tables.proofs.ByStateLaws.{InPlace, place-none, place-more, place-all}
 use borrow.Author.Needs.{needs}
 use Rattle.checker_tables.proofs.sets.keep_each.Statement.{statement}
 use Rattle.checker_tables.proofs.sets.keep_each.Tie as tie
@@ -16,14 +13,20 @@ use Rattle.checker_tables.proofs.sets.keep_each.Reads as reads
 use Rattle.checker_tables.proofs.sets.keep_each.Lts as lts
 use Rattle.checker_tables.proofs.sets.keep.Reads as keep-reads
 
+abbrev each : ℕ → List ℕ → ℕ → ℕ
+each m v j = kept m (getD v j 0)
+
 abbrev Inv-loop : tie.InvT-loop
-Inv-loop m v r₀ q₀ r q = (q ≤ states) × ByState q (λ j. kept m (getD v j 0)) r
+Inv-loop m v₀ q₀ v q = (q ≤ states) × InPlace (each m v₀) v₀ q v
 
 abbrev μ-loop : tie.MeasureT-loop
-μ-loop m v r₀ q₀ r q = states - q
+μ-loop m v₀ q₀ v q = states - q
 
 loop-holds : tie.Need-loop-holds Inv-loop μ-loop
-loop-holds c = let a = c .args in (search needs, by-none (λ j. kept (a .m) (getD (a .t2) j 0)) (replicate states 0) refl)
+loop-holds c =
+    let a = c .args in
+    let e : length (a .t2) ≡ states = search needs in
+    (search needs, place-none (each (a .m) (a .t2)) (a .t2) e)
 
 mul-keep : tie.Need-mul-keep Inv-loop μ-loop
 mul-keep c = search needs
@@ -34,11 +37,11 @@ array-read-keep c = search needs
 keep-requires : tie.Need-keep-requires Inv-loop μ-loop
 keep-requires c κs = search needs
 
-mul-r : tie.Need-mul-r Inv-loop μ-loop
-mul-r c = search needs
+mul-v : tie.Need-mul-v Inv-loop μ-loop
+mul-v c = search needs
 
-array-write-r : tie.Need-array-write-r Inv-loop μ-loop
-array-write-r c = search needs
+array-write-v : tie.Need-array-write-v Inv-loop μ-loop
+array-write-v c = search needs
 
 add-q : tie.Need-add-q Inv-loop μ-loop
 add-q c = search needs
@@ -51,13 +54,14 @@ loop-again c =
     let a = c .before .before .before .args in
     let l = c .before .before .loop in
     let h = c .before .loop-test .taken in
-    (search needs, by-more (λ j. kept (a .m) (getD (a .t2) j 0)) (l .q) (l .r) _ (omega arith) (c .keep .ensures) (l .inv .1))
+    let still = l .inv .1 .left (l .q) (omega arith) in
+    (search needs, place-more (each (a .m) (a .t2)) (a .t2) (l .q) (l .v) _ (omega arith) (c .keep .ensures ∙ ap (kept (a .m)) still) (l .inv .1))
 
 returns : tie.Need-returns Inv-loop μ-loop
 returns c =
     let a = c .before .before .args in
-    let e : c .before .loop .q ≡ states = omega arith in
-    subst (λ (n : ℕ). ByState n (λ j. kept (a .m) (getD (a .t2) j 0)) (c .before .loop .r)) e (c .before .loop .inv .1)
+    let l = c .before .loop in
+    place-all (each (a .m) (a .t2)) (a .t2) (l .q) (l .v) (omega arith) (l .inv .1)
 
 pub keep-each-spec : {M : Type 1} → statement M
 keep-each-spec =
@@ -69,8 +73,8 @@ keep-each-spec =
     mul-keep
     array-read-keep
     keep-requires
-    mul-r
-    array-write-r
+    mul-v
+    array-write-v
     add-q
     loop-less
     loop-again
