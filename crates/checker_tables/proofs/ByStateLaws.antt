@@ -1,12 +1,11 @@
 -- Eight sets at once: filled one after the other, and the unions over them.
-use Prim.Native.Nat.{ℕ, zero, suc, _+_, _*_, _/_, _%_, _^_, _<_, _≤_}
+use Prim.Native.Nat.{ℕ, zero, suc, _+_, _/_, _%_, _^_, _<_, _≤_}
 use mathlib.Core.Path.{_≡_, refl, sym, ap, ap₂, _∙_, subst}
 use mathlib.Core.Bool.{Bool, true, false, _||_, cond}
 use mathlib.Core.List.{List, [], _∷_}
 use native.Mathlib.Nat.{not-suc-le-zero}
 use native.Mathlib.Numerals.{add-one}
 use native.Mathlib.Omega.{arith}
-use lib.Dec.{eqb}
 use lib.Bits.{bitOr, or-self, or-comm, or-zero-l, or-zero-r}
 use lib.ListN.{length, getD, set, length-set}
 use lib.Seq.{getD-set-same, getD-set-other}
@@ -74,17 +73,6 @@ singles (suc (suc (suc (suc (suc zero))))) h = refl
 singles (suc (suc (suc (suc (suc (suc zero)))))) h = refl
 singles (suc (suc (suc (suc (suc (suc (suc zero))))))) h = refl
 singles (suc (suc (suc (suc (suc (suc (suc (suc q)))))))) h = absurd (omega arith)
-
--- a set by one binary digit
-pub times-digit : (e d : ℕ) → d < 2 → e * d ≡ cond (eqb d 1) e 0
-times-digit e zero h = omega arith
-times-digit e (suc zero) h = omega arith
-times-digit e (suc (suc d)) h = absurd (omega arith)
-
-pub times-lt : (e d n : ℕ) → d < 2 → e < n → e * d < n
-times-lt e zero n h l = omega arith
-times-lt e (suc zero) n h l = omega arith
-times-lt e (suc (suc d)) n h l = absurd (omega arith)
 
 -- ── Unions: one more set, over two sets, and over the halves of one ──
 

@@ -246,7 +246,9 @@ fn pass_node<'a>(
     while i < n {
         let m = l + i / 2;
         let o = i % 2 == 1;
-        changed |= pass(u, opened, shut, rows, local, p, k, f, o, m);
+        if pass(u, opened, shut, rows, local, p, k, f, o, m) {
+            changed = true;
+        }
         i += 1;
     }
     changed

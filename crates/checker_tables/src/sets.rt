@@ -78,7 +78,8 @@ fn join_where(mut w: PerState, v: PerState, s: u32, e: u16) -> PerState
 {
     let mut q: usize = 0;
     while q < STATES {
-        w[q] |= e * ((v[q] >> s) % 2);
+        let more = if (v[q] >> s) & 1 == 1 { e } else { 0 };
+        w[q] |= more;
         q += 1;
     }
     w

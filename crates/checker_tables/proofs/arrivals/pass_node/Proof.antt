@@ -4,8 +4,9 @@ use Prim.Native.Nat.{ℕ, _+_, _-_, _≤_, _<_, _*_, _/_}
 use lib.ListN.{length, getD}
 use borrow.Author.Needs.{needs}
 use denote.Ref.{now}
-use mathlib.Core.Bool.{Bool}
+use mathlib.Core.Bool.{Bool, _||_, or-false}
 use mathlib.Core.List.{List}
+use Rattle.usage.proofs.Logic.{by-cases, or-right}
 use Rattle.usage.specs.Outline.{formOf}
 use Rattle.checker_account.specs.Tables.{rowsIn, place, meanings}
 use Rattle.checker_account.specs.Rounds.{repeat, grown, byOpen, pass, odd, passNode, Wide}
@@ -66,16 +67,19 @@ loop-less c = search needs
 
 loop-again : tie.Need-loop-again Inv-loop μ-loop
 loop-again c =
-    let a = c .before .before .before .before .args in
-    let l = c .before .before .before .loop in
+    let a = c .before .before .before .before .before .args in
+    let l = c .before .before .before .before .loop in
     let f = steps (a .opened .now) (a .shut .now) (a .rows .now) (a .local) (a .p) (a .l) (a .k) (a .f) in
     let grows = steps-grow (a .opened .now) (a .shut .now) (a .rows .now) (a .local) (a .p) (a .l) (a .k) (a .f) in
-    let w = c .pass .last .0 in
-    let e : w ≡ f (l .i) (l .u) = c .pass .ensures .0 in
-    let wide : Wide (a .u .now) → Wide w = λ h. c .pass .ensures .1 .1 (l .inv .1 .1 .1 h) in
-    let made = turn f grows (l .i) (a .u .now) (l .u) w (l .changed)
-    (c .pass .result) (l .inv .1 .0, l .inv .1 .1 .0) e (c .pass .ensures .1 .0) in
-    (search needs, (made .0, (made .1, wide)))
+    let w = c .before .pass .last .0 in
+    let e : w ≡ f (l .i) (l .u) = c .before .pass .ensures .0 in
+    let wide : Wide (a .u .now) → Wide w = λ h. c .before .pass .ensures .1 .1 (l .inv .1 .1 .1 h) in
+    let r = c .before .pass .result in
+    let made = turn f grows (l .i) (a .u .now) (l .u) w (l .changed) r (l .inv .1 .0, l .inv .1 .1 .0) e (c .before .pass .ensures .1 .0) in
+    let noted : c .if1 .changed ≡ (l .changed || r) =
+    by-cases (c .if1 .came) (λ w. w .1 ∙ sym (or-right (l .changed) r (w .0 .taken)))
+    (λ w. w .1 ∙ sym (or-false (l .changed)) ∙ ap (λ (b : Bool). l .changed || b) (sym (w .0 .left))) in
+    (search needs, (made .0, (noted ∙ made .1, wide)))
 
 returns : tie.Need-returns Inv-loop μ-loop
 unfolding passNode
