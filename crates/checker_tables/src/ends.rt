@@ -34,6 +34,15 @@ pub(crate) fn begun(t: &Table, k: usize, m: usize, v: u16) -> u16
     crate::union_over(t, STARTS * k + STATES * m, v)
 }
 
+// The same of each start of node k with meaning m.
+fn held(t: &Table, k: usize, m: usize) -> PerState
+    requires { ⌜ k < mostNodes ⌝ }
+    requires { ⌜ m < meanings ⌝ }
+    ensures { λ r. ⌜ ByState states (λ q. getD (now (t .entry)) (base k m + q) 0) r ⌝ }
+{
+    crate::sets::entries(t, STARTS * k + STATES * m)
+}
+
 // By node b after node a. With a resource that was made, both halves of what a ends in begin b with the same meaning.
 fn second_ends(t: &Table, a: usize, b: usize, m: usize) -> PerState
     requires { ⌜ a < mostNodes ⌝ }
@@ -41,7 +50,7 @@ fn second_ends(t: &Table, a: usize, b: usize, m: usize) -> PerState
     requires { ⌜ m < meanings ⌝ }
     ensures { λ r. ⌜ ByState states (λ q. secondEnds (now (t .entry)) b m (getD (now (t .entry)) (base a m + q) 0)) r ⌝ }
 {
-    let v = crate::sets::entries(t, STARTS * a + STATES * m);
+    let v = held(t, a, m);
     let high = crate::sets::upper_each(v);
     if m == 0 {
         let same = crate::sets::union_each(t, STARTS * b + STATES * m, v);
@@ -78,8 +87,8 @@ fn either_ends(t: &Table, a: usize, b: usize, m: usize) -> PerState
     requires { ⌜ m < meanings ⌝ }
     ensures { λ r. ⌜ ByState states (λ q. bitOr (getD (now (t .entry)) (base a m + q) 0) (getD (now (t .entry)) (base b m + q) 0)) r ⌝ }
 {
-    let v = crate::sets::entries(t, STARTS * a + STATES * m);
-    let w = crate::sets::entries(t, STARTS * b + STATES * m);
+    let v = held(t, a, m);
+    let w = held(t, b, m);
     crate::sets::join_each(v, w)
 }
 
@@ -103,7 +112,7 @@ fn inside_ends(t: &Table, opened: &Table, reset: bool, b: usize, m: usize) -> Pe
         let e = opened[STARTS * b + STATES * m];
         return [e; STATES];
     }
-    crate::sets::entries(t, STARTS * b + STATES * m)
+    held(t, b, m)
 }
 
 // By one rule: what node k ends in from the starts with meaning m. `reset`: an opening of policy p resets, since it is not open; then
@@ -134,8 +143,8 @@ fn ends_by(
         2 => event_ends(rows, k, m == b + 1, m),
         3 => second_ends(t, a, b, m),
         4 => either_ends(t, a, b, m),
-        5 => crate::sets::entries(t, STARTS * a + STATES * m),
-        6 => crate::sets::entries(t, STARTS * a + STATES * m),
+        5 => held(t, a, m),
+        6 => held(t, a, m),
         7 => fresh_ends(t, rows, k, a, b, m),
         8 => inside_ends(t, opened, reset & (a == p), b, m),
         _ => [0u16; STATES],

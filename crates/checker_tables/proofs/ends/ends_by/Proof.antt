@@ -27,7 +27,7 @@ use Rattle.checker_tables.proofs.ends.event_ends.Reads as event-ends-re
 use Rattle.checker_tables.proofs.ends.fresh_ends.Reads as fresh-ends-reads
 use Rattle.checker_tables.proofs.ends.second_ends.Reads as second-ends-reads
 use Rattle.checker_tables.proofs.ends.inside_ends.Reads as inside-ends-reads
-use Rattle.checker_tables.proofs.sets.entries.Reads as entries-reads
+use Rattle.checker_tables.proofs.ends.held.Reads as held-reads
 use Rattle.checker_tables.proofs.sets.keep_each.Reads as keep-each-reads
 
 cast-a : tie.Need-cast-a
@@ -54,29 +54,11 @@ second-ends-requires c κs = search needs
 either-ends-requires : tie.Need-either-ends-requires
 either-ends-requires c κs = search needs
 
-mul-entries : tie.Need-mul-entries
-mul-entries c = search needs
+held-requires : tie.Need-held-requires
+held-requires c κs = search needs
 
-mul-entries-2 : tie.Need-mul-entries-2
-mul-entries-2 c = search needs
-
-add-entries : tie.Need-add-entries
-add-entries c = search needs
-
-entries-requires : tie.Need-entries-requires
-entries-requires c κs = search needs
-
-mul-entries-3 : tie.Need-mul-entries-3
-mul-entries-3 c = search needs
-
-mul-entries-4 : tie.Need-mul-entries-4
-mul-entries-4 c = search needs
-
-add-entries-2 : tie.Need-add-entries-2
-add-entries-2 c = search needs
-
-entries-requires-2 : tie.Need-entries-requires-2
-entries-requires-2 c κs = search needs
+held-requires-2 : tie.Need-held-requires-2
+held-requires-2 c κs = search needs
 
 fresh-ends-requires : tie.Need-fresh-ends-requires
 fresh-ends-requires c κs =
@@ -115,11 +97,11 @@ returns-5 c = rw (c .before .match .keys5) (c .either-ends .ensures)
 
 returns-6 : tie.Need-returns-6
 unfolding formOf endsBy
-returns-6 c = rw (c .before .match .keys6) (c .entries .ensures)
+returns-6 c = rw (c .before .match .keys6) (c .held .ensures)
 
 returns-7 : tie.Need-returns-7
 unfolding formOf endsBy
-returns-7 c = rw (c .before .match .keys7) (c .entries2 .ensures)
+returns-7 c = rw (c .before .match .keys7) (c .held2 .ensures)
 
 returns-8 : tie.Need-returns-8
 unfolding formOf endsBy
@@ -159,14 +141,8 @@ ends-by-spec =
     event-ends-requires-2
     second-ends-requires
     either-ends-requires
-    mul-entries
-    mul-entries-2
-    add-entries
-    entries-requires
-    mul-entries-3
-    mul-entries-4
-    add-entries-2
-    entries-requires-2
+    held-requires
+    held-requires-2
     fresh-ends-requires
     inside-ends-requires
     returns

@@ -12,7 +12,7 @@ use Rattle.checker_tables.proofs.ends.inside_ends.Statement.{statement}
 use Rattle.checker_tables.proofs.ends.inside_ends.Tie as tie
 use Rattle.checker_tables.proofs.ends.inside_ends.Reads as reads
 use Rattle.checker_tables.proofs.ends.inside_ends.Lts as lts
-use Rattle.checker_tables.proofs.sets.entries.Reads as entries-reads
+use Rattle.checker_tables.proofs.ends.held.Reads as held-reads
 
 mul-e : tie.Need-mul-e
 mul-e c = search needs
@@ -43,24 +43,15 @@ returns c =
           ∙ ap (λ (j : ℕ). getD (now (a .opened)) j 0) e;
     })
 
-mul-entries : tie.Need-mul-entries
-mul-entries c = search needs
-
-mul-entries-2 : tie.Need-mul-entries-2
-mul-entries-2 c = search needs
-
-add-entries : tie.Need-add-entries
-add-entries c = search needs
-
-entries-requires : tie.Need-entries-requires
-entries-requires c κs = search needs
+held-requires : tie.Need-held-requires
+held-requires c κs = search needs
 
 returns-2 : tie.Need-returns-2
 returns-2 c =
     let a = c .before .before .args in
     let i = base (a .b) (a .m) in
-    subst (λ (d : Bool). ByState states (λ q. cond d (getD (now (a .opened)) (i + 0) 0) (getD (now (a .t)) (i + q) 0)) (c .entries .result))
-    (sym (c .before .if1 .left)) (c .entries .ensures)
+    subst (λ (d : Bool). ByState states (λ q. cond d (getD (now (a .opened)) (i + 0) 0) (getD (now (a .t)) (i + q) 0)) (c .held .result))
+    (sym (c .before .if1 .left)) (c .held .ensures)
 
 pub inside-ends-spec : {M : Type 1} → statement M
 inside-ends-spec =
@@ -72,8 +63,5 @@ inside-ends-spec =
     mul-e-3
     element-copy-out-e
     returns
-    mul-entries
-    mul-entries-2
-    add-entries
-    entries-requires
+    held-requires
     returns-2)

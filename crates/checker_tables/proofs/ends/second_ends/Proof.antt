@@ -5,22 +5,13 @@ use Rattle.checker_tables.proofs.ends.second_ends.Statement.{statement}
 use Rattle.checker_tables.proofs.ends.second_ends.Tie as tie
 use Rattle.checker_tables.proofs.ends.second_ends.Reads as reads
 use Rattle.checker_tables.proofs.ends.second_ends.Lts as lts
-use Rattle.checker_tables.proofs.sets.entries.Reads as entries-reads
+use Rattle.checker_tables.proofs.ends.held.Reads as held-reads
 use Rattle.checker_tables.proofs.sets.join_each.Reads as join-each-reads
 use Rattle.checker_tables.proofs.sets.union_each.Reads as union-each-reads
 use Rattle.checker_tables.proofs.sets.upper_each.Reads as upper-each-reads
 
-mul-entries : tie.Need-mul-entries
-mul-entries c = search needs
-
-mul-entries-2 : tie.Need-mul-entries-2
-mul-entries-2 c = search needs
-
-add-entries : tie.Need-add-entries
-add-entries c = search needs
-
-entries-requires : tie.Need-entries-requires
-entries-requires c κs = search needs
+held-requires : tie.Need-held-requires
+held-requires c κs = search needs
 
 upper-each-requires : tie.Need-upper-each-requires
 upper-each-requires c κs = search needs
@@ -55,7 +46,7 @@ join-each-requires c κs = search needs
 returns : tie.Need-returns
 returns c =
     let a = c .before .before .before .before .before .before .args in
-    let v = c .before .before .before .before .before .entries in
+    let v = c .before .before .before .before .before .held in
     let high = c .before .before .before .before .upper-each in
     let same = c .before .before .union-each in
     let made = c .before .union-each2 in
@@ -81,7 +72,7 @@ union-each-requires-3 c κs = search needs
 returns-2 : tie.Need-returns-2
 returns-2 c =
     let a = c .before .before .before .before .before .args in
-    let v = c .before .before .before .before .entries in
+    let v = c .before .before .before .before .held in
     let high = c .before .before .before .upper-each in
     let both = c .before .join-each2 in
     second-later (now (a .t)) (a .a) (a .b) (a .m) (v .result) (high .result) (c .union-each3 .result) (v .ensures) (high .ensures)
@@ -92,10 +83,7 @@ pub second-ends-spec : {M : Type 1} → statement M
 second-ends-spec =
     tie.close
     (tie.spec
-    mul-entries
-    mul-entries-2
-    add-entries
-    entries-requires
+    held-requires
     upper-each-requires
     mul-union-each
     mul-union-each-2
