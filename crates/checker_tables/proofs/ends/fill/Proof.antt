@@ -9,6 +9,7 @@ use lib.ListN.{length, getD, replicate}
 use Rattle.usage.specs.Limits.{mostNodes, nodeFields}
 use Rattle.usage.specs.declared.Node.{Node}
 use Rattle.usage.specs.Outline.{formOf}
+use Rattle.usage.specs.Tables.{nodeAt}
 use Rattle.checker_account.specs.Tables.{places, meanings, rowsIn, Resets}
 use Rattle.checker_account.specs.Rounds.{grown, formsIn, settleNode, Wide}
 use Rattle.checker_account.proofs.SettleLaws.{WideLent}
@@ -66,30 +67,36 @@ module _ (nodes rows : List ℕ) (x : ℕ) (resets : Resets) (l : ℕ) (fit : No
   bit-low : bit ≤ s
   bit-low = omega (arith, shl-node k small)
 
-  module _ (u : List ℕ) (e : u ≡ settleNode (rowsIn rows) x resets l k (formsIn nodes k) t) where
-    still : grown t u ≡ false → Done nodes rows x resets l u (s - bit)
+  -- it was settled, as d says; grew: did that change the table?
+  module _ (u : List ℕ) (d : Node) (at : d ≡ nodeAt nodes k) (made : u ≡ settleNode (rowsIn rows) x resets l k (formOf d) t) (grew : Bool)
+      (tells : grew ≡ grown t u) where
+    e : u ≡ settleNode (rowsIn rows) x resets l k (formsIn nodes k) t
+    e = made ∙ ap (λ (f : Node). settleNode (rowsIn rows) x resets l k (formOf f) t) at
+
+    still : grew ≡ false → Done nodes rows x resets l u (s - bit)
     still g =
         subst (λ (b : ℕ). Done nodes rows x resets l u (s - b)) (sym (shl-node k small))
-        (still-working (rowsIn rows) x resets l n (formsIn nodes) (fit .few) t u s k w low high e g)
+        (still-working (rowsIn rows) x resets l n (formsIn nodes) (fit .few) t u s k w low high e (sym tells ∙ g))
 
-    still-falls : grown t u ≡ false → leftOf u (s - bit) < leftOf t s
+    still-falls : grew ≡ false → leftOf u (s - bit) < leftOf t s
     still-falls g =
         subst (λ (b : ℕ). leftOf u (s - b) < leftOf t s) (sym (shl-node k small))
-        (still-less (rowsIn rows) x resets l n (formsIn nodes) (fit .few) t u s k w low high e g)
+        (still-less (rowsIn rows) x resets l n (formsIn nodes) (fit .few) t u s k w low high e (sym tells ∙ g))
 
     module _ (lent : WideLent resets) (less : l < meanings) (readers : List ℕ) (r : readers ≡ readersOf n (formsIn nodes))
-        (g : grown t u ≡ true) where
+        (g : grew ≡ true) where
       more : Done nodes rows x resets l u (bitOr (s - bit) (getD readers k 0))
       more =
           subst (Done nodes rows x resets l u)
           (ap₂ (λ (b : ℕ) (m : List ℕ). bitOr (s - b) (getD m k 0)) (sym (shl-node k small)) (sym r))
           (more-working (rowsIn rows) x resets l n (formsIn nodes) (fit .few) t u s k w low high e lent (named-forms nodes fit)
-          (omega arith) g)
+          (omega arith) (sym tells ∙ g))
 
       more-falls : leftOf u (bitOr (s - bit) (getD readers k 0)) < leftOf t s
       more-falls =
           let b : 2 ^ n ≤ 18446744073709551616 = pow-mono (fit .few) in
-          more-less (rowsIn rows) x resets l n (formsIn nodes) (fit .few) t u s k w low high e lent (named-forms nodes fit) (omega arith) g
+          more-less (rowsIn rows) x resets l n (formsIn nodes) (fit .few) t u s k w low high e lent (named-forms nodes fit) (omega arith)
+          (sym tells ∙ g)
           (bitOr (s - bit) (getD readers k 0)) (omega (arith, more .nodes))
 
 abbrev Inv-loop : tie.InvT-loop
@@ -217,13 +224,11 @@ loop-less c =
     let l = c .before .before .before .before .before .before .loop in
     let h = c .before .before .before .before .highest in
     let s = c .before .settle-node in
-    let e : s .last .0 ≡ settleNode (rowsIn (a .rows .now)) (a .x) resets (a .l) (h .result) (formsIn (a .nodes .now) (h .result)) (l .t) =
-    s .ensures .0
-    ∙ ap (λ (d : Node). settleNode (rowsIn (a .rows .now)) (a .x) resets (a .l) (h .result) (formOf d) (l .t))
-    (c .before .before .before .node .ensures) in
+    let d = c .before .before .before .node in
     more-falls (a .nodes .now) (a .rows .now) (a .x) resets (a .l) (p .0) (l .t) (l .left) (h .result) (l .inv) (h .ensures .0)
-    (h .ensures .1) (s .last .0) e (lent-wide (a .reset) (a .p) (a .opened .now) (p .1 .1 .0)) (p .1 .0) (r .last .1 .0) (r .ensures)
-    (sym (s .ensures .1) ∙ c .if1 .taken)
+    (h .ensures .1) (s .last .0) (d .result) (d .ensures) (s .ensures .0) (s .result) (s .ensures .1)
+    (lent-wide (a .reset) (a .p) (a .opened .now) (p .1 .1 .0)) (p .1 .0) (r .last .1 .0) (r .ensures)
+    (c .if1 .taken)
 
 loop-again : tie.Need-loop-again Inv-loop μ-loop
 loop-again c =
@@ -234,13 +239,11 @@ loop-again c =
     let l = c .before .before .before .before .before .before .loop in
     let h = c .before .before .before .before .highest in
     let s = c .before .settle-node in
-    let e : s .last .0 ≡ settleNode (rowsIn (a .rows .now)) (a .x) resets (a .l) (h .result) (formsIn (a .nodes .now) (h .result)) (l .t) =
-    s .ensures .0
-    ∙ ap (λ (d : Node). settleNode (rowsIn (a .rows .now)) (a .x) resets (a .l) (h .result) (formOf d) (l .t))
-    (c .before .before .before .node .ensures) in
+    let d = c .before .before .before .node in
     more (a .nodes .now) (a .rows .now) (a .x) resets (a .l) (p .0) (l .t) (l .left) (h .result) (l .inv) (h .ensures .0)
-    (h .ensures .1) (s .last .0) e (lent-wide (a .reset) (a .p) (a .opened .now) (p .1 .1 .0)) (p .1 .0) (r .last .1 .0) (r .ensures)
-    (sym (s .ensures .1) ∙ c .if1 .taken)
+    (h .ensures .1) (s .last .0) (d .result) (d .ensures) (s .ensures .0) (s .result) (s .ensures .1)
+    (lent-wide (a .reset) (a .p) (a .opened .now) (p .1 .1 .0)) (p .1 .0) (r .last .1 .0) (r .ensures)
+    (c .if1 .taken)
 
 loop-less-2 : tie.Need-loop-less-2 Inv-loop μ-loop
 loop-less-2 c =
@@ -250,12 +253,9 @@ loop-less-2 c =
     let l = c .before .before .before .before .before .before .loop in
     let h = c .before .before .before .before .highest in
     let s = c .before .settle-node in
-    let e : s .last .0 ≡ settleNode (rowsIn (a .rows .now)) (a .x) resets (a .l) (h .result) (formsIn (a .nodes .now) (h .result)) (l .t) =
-    s .ensures .0
-    ∙ ap (λ (d : Node). settleNode (rowsIn (a .rows .now)) (a .x) resets (a .l) (h .result) (formOf d) (l .t))
-    (c .before .before .before .node .ensures) in
+    let d = c .before .before .before .node in
     still-falls (a .nodes .now) (a .rows .now) (a .x) resets (a .l) (p .0) (l .t) (l .left) (h .result) (l .inv) (h .ensures .0)
-    (h .ensures .1) (s .last .0) e (sym (s .ensures .1) ∙ c .if1 .left)
+    (h .ensures .1) (s .last .0) (d .result) (d .ensures) (s .ensures .0) (s .result) (s .ensures .1) (c .if1 .left)
 
 loop-again-2 : tie.Need-loop-again-2 Inv-loop μ-loop
 loop-again-2 c =
@@ -265,12 +265,9 @@ loop-again-2 c =
     let l = c .before .before .before .before .before .before .loop in
     let h = c .before .before .before .before .highest in
     let s = c .before .settle-node in
-    let e : s .last .0 ≡ settleNode (rowsIn (a .rows .now)) (a .x) resets (a .l) (h .result) (formsIn (a .nodes .now) (h .result)) (l .t) =
-    s .ensures .0
-    ∙ ap (λ (d : Node). settleNode (rowsIn (a .rows .now)) (a .x) resets (a .l) (h .result) (formOf d) (l .t))
-    (c .before .before .before .node .ensures) in
+    let d = c .before .before .before .node in
     still (a .nodes .now) (a .rows .now) (a .x) resets (a .l) (p .0) (l .t) (l .left) (h .result) (l .inv) (h .ensures .0)
-    (h .ensures .1) (s .last .0) e (sym (s .ensures .1) ∙ c .if1 .left)
+    (h .ensures .1) (s .last .0) (d .result) (d .ensures) (s .ensures .0) (s .result) (s .ensures .1) (c .if1 .left)
 
 returns : tie.Need-returns Inv-loop μ-loop
 returns c =
