@@ -42,7 +42,8 @@ pub refusal-keeps : (edges : List ℕ) (choice : ℕ) (p : Parts) (raw : RawStep
     → judgeParts edges choice p raw .parts ≡ p
 unfolding judgeParts
 refusal-keeps edges choice p raw n =
-    either-keeps p n (not (isChoice choice && edgeTable edges)) (refuseParts 41 p) (cond (not (leb (flag p) 1)) (refuseParts 42 p) judged) (λ e. refl)
+    either-keeps p n (not (isChoice choice && edgeTable edges)) (refuseParts 41 p)
+    (cond (not (leb (flag p) 1)) (refuseParts 42 p) judged) (λ e. refl)
     (either-keeps p n (not (leb (flag p) 1)) (refuseParts 42 p) judged (λ e. refl)
     (answered-keeps p n (judgeOf edges (choiceOf choice) (heldIn p) raw .answer) (judgeOf edges (choiceOf choice) (heldIn p) raw .state)))
   where
@@ -69,7 +70,8 @@ module _ (edges : List ℕ) (choice : ℕ) (p : Parts) (raw : RawStep) where
 
   -- else the answer is the judge's, 41 too
   flag-judged : choice ≤ 1 → flag p ≤ 1
-      → judgeParts edges choice p raw ≡ answeredIn p (judgeOf edges (choiceOf choice) (heldIn p) raw .answer) (judgeOf edges (choiceOf choice) (heldIn p) raw .state)
+      → judgeParts edges choice p raw
+      ≡ answeredIn p (judgeOf edges (choiceOf choice) (heldIn p) raw .answer) (judgeOf edges (choiceOf choice) (heldIn p) raw .state)
   unfolding judgeParts refuse
   flag-judged c h = simp (le-leb choice 1 c) (go (edgeTable edges) refl)
     where
@@ -79,7 +81,8 @@ module _ (edges : List ℕ) (choice : ℕ) (p : Parts) (raw : RawStep) where
           (answeredIn p (judgeOf edges (choiceOf choice) (heldIn p) raw .answer) (judgeOf edges (choiceOf choice) (heldIn p) raw .state)))
           ≡ answeredIn p (judgeOf edges (choiceOf choice) (heldIn p) raw .answer) (judgeOf edges (choiceOf choice) (heldIn p) raw .state)
       go true e = simp (le-leb (flag p) 1 h)
-      go false e = sym (ap (λ (j : Judgement). answeredIn p (j .answer) (j .state)) (table-refused edges (choiceOf choice) (heldIn p) raw e))
+      go false e = sym
+          (ap (λ (j : Judgement). answeredIn p (j .answer) (j .state)) (table-refused edges (choiceOf choice) (heldIn p) raw e))
 
   -- ── What is told, and what is left in the arrays ──
 
@@ -88,7 +91,8 @@ module _ (edges : List ℕ) (choice : ℕ) (p : Parts) (raw : RawStep) where
     pub told-verdict : verdictOf (t .answer) ≡ judgeParts edges choice p raw .verdict
     told-verdict =
         sym (same (t .answer) (judgeOf edges (choiceOf choice) (heldIn p) raw .state))
-        ∙ ap (λ (a : Answer). answeredIn p a (judgeOf edges (choiceOf choice) (heldIn p) raw .state) .verdict) (ap (λ (j : Judgement). j .answer) is)
+        ∙ ap (λ (a : Answer). answeredIn p a (judgeOf edges (choiceOf choice) (heldIn p) raw .state) .verdict)
+        (ap (λ (j : Judgement). j .answer) is)
         ∙ sym (ap (λ (r : Answered). r .verdict) (flag-judged c h))
       where
         same : (a : Answer) (s : State) → answeredIn p a s .verdict ≡ verdictOf a
@@ -102,7 +106,8 @@ module _ (edges : List ℕ) (choice : ℕ) (p : Parts) (raw : RawStep) where
         e ∙ ap (λ (j : Judgement). answeredIn p (j .answer) (j .state) .parts) is ∙ sym (ap (λ (r : Answered). r .parts) (flag-judged c h))
 
     -- a refusal: the arrays are those of the state that was lent
-    pub refused-left : isRefusal (t .answer) ≡ true → partsOf sets possible created unclosed order (p .numbers) ≡ judgeParts edges choice p raw .parts
+    pub refused-left : isRefusal (t .answer) ≡ true
+        → partsOf sets possible created unclosed order (p .numbers) ≡ judgeParts edges choice p raw .parts
     unfolding heldIn
     refused-left r = left (by-answer (t .answer) r refl)
       where
@@ -113,14 +118,16 @@ module _ (edges : List ℕ) (choice : ℕ) (p : Parts) (raw : RawStep) where
         by-answer (Violated q) r e = false-true r
         by-answer (Refused n) r e =
             let same : judgementOf t sets possible created unclosed order .state ≡ heldIn p =
-            ap (λ (j : Judgement). j .state) is ∙ refused-kept edges (choiceOf choice) (heldIn p) raw n (ap (λ (j : Judgement). j .answer) (sym is) ∙ e) in
+            ap (λ (j : Judgement). j .state) is
+            ∙ refused-kept edges (choiceOf choice) (heldIn p) raw n (ap (λ (j : Judgement). j .answer) (sym is) ∙ e) in
             ap (λ (s : State). partsOf (s .sets) (s .possible) (s .created) (s .unclosed) (s .order) (p .numbers)) same
 
     -- otherwise the numbers are those of the new state
     pub taken-left : (f : ℕ) → isRefusal (t .answer) ≡ false → f ≡ cond (t .halted) 1 0
         → partsOf sets possible created unclosed order (t .count ∷ f ∷ t .depth ∷ []) ≡ judgeParts edges choice p raw .parts
     unfolding holding
-    taken-left f r e = left (ap (λ (n : ℕ). partsOf sets possible created unclosed order (t .count ∷ n ∷ t .depth ∷ [])) e ∙ by-answer (t .answer) r)
+    taken-left f r e = left
+        (ap (λ (n : ℕ). partsOf sets possible created unclosed order (t .count ∷ n ∷ t .depth ∷ [])) e ∙ by-answer (t .answer) r)
       where
         by-answer : (a : Answer) → isRefusal a ≡ false
             → holding (judgementOf t sets possible created unclosed order .state) ≡ answeredIn p a

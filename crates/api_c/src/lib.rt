@@ -91,7 +91,8 @@ pub extern "C" fn judge_parts(
         (now (order .entry)) (now (numbers .entry)))
         (record { kind = kind; a = a; b = b }) .verdict) ⌝ }
     ensures { λ r.
-        ⌜ partsOf (now (sets .exit)) (now (possible .exit)) (now (created .exit)) (now (unclosed .exit)) (now (order .exit)) (now (numbers .exit))
+        ⌜ partsOf (now (sets .exit)) (now (possible .exit)) (now (created .exit))
+        (now (unclosed .exit)) (now (order .exit)) (now (numbers .exit))
         ≡ judgeParts (now (edges .entry)) local
         (partsOf (now (sets .entry)) (now (possible .entry)) (now (created .entry)) (now (unclosed .entry))
         (now (order .entry)) (now (numbers .entry)))

@@ -27,7 +27,8 @@ bounds e h =
     let h₁ = and-right (ltb (e .node) mostNodes) (ltb (e .meaning) meanings && (ltb (e .state) states && ltb (e .aim) aims)) h in
     let h₂ = and-right (ltb (e .meaning) meanings) (ltb (e .state) states && ltb (e .aim) aims) h₁ in
     record {
-      node = ltb-true (e .node) mostNodes (and-left (ltb (e .node) mostNodes) (ltb (e .meaning) meanings && (ltb (e .state) states && ltb (e .aim) aims)) h);
+      node = ltb-true (e .node) mostNodes
+          (and-left (ltb (e .node) mostNodes) (ltb (e .meaning) meanings && (ltb (e .state) states && ltb (e .aim) aims)) h);
       meaning = ltb-true (e .meaning) meanings (and-left (ltb (e .meaning) meanings) (ltb (e .state) states && ltb (e .aim) aims) h₁);
       state = ltb-true (e .state) states (and-left (ltb (e .state) states) (ltb (e .aim) aims) h₂);
       aim = ltb-true (e .aim) aims (and-right (ltb (e .state) states) (ltb (e .aim) aims) h₂);

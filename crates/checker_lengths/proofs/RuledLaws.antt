@@ -74,7 +74,8 @@ offending-of q l h = go (ℕ-discrete q 6)
 pub break-is : (t : Aim) → Aimed t → aimAt t ≡ 16 → t ≡ broken none
 break-is t a e = aim-one t (broken none) a at-break (omega arith) e
 
-pub end-is : (t : Aim) (w : ℕ) (c : Bool) (q : ℕ) → Aimed t → aimAt t < aims → q < states → aimAt t ≡ lowEnd (meaningOf w c) + q → t ≡ ended c q
+pub end-is : (t : Aim) (w : ℕ) (c : Bool) (q : ℕ) → Aimed t → aimAt t < aims
+    → q < states → aimAt t ≡ lowEnd (meaningOf w c) + q → t ≡ ended c q
 end-is t w c q a h l e = aim-one t (ended c q) a at-end h (e ∙ sym (aim-end w c q l))
 
 -- no second creation of the watched resource
@@ -125,7 +126,8 @@ module _ (local : Bool) (es : List Edge) (ns : List Node) (p x : ℕ) (rows : Li
   module _ (look : Entry → ℕ) where
     -- what `look` tells is an entry of E
     pub record Stands (E : Entries) : Type 0 where
-      pub stand : (n : ℕ) (o : Bool) (k w : ℕ) (c : Bool) (q : ℕ) (t : Aim) → look (entryOf k o (meaningOf w c) q (aimAt t)) ≡ n → n ≤ mostShown
+      pub stand : (n : ℕ) (o : Bool) (k w : ℕ) (c : Bool) (q : ℕ) (t : Aim)
+          → look (entryOf k o (meaningOf w c) q (aimAt t)) ≡ n → n ≤ mostShown
           → E n o k w c q t
 
     module _ (E : Entries) (stands : Stands E) where
@@ -254,7 +256,8 @@ module _ (local : Bool) (es : List Edge) (ns : List Node) (p x : ℕ) (rows : Li
           (omega arith)))
 
       -- a creation that breaks the policy
-      ruled-born : (n : ℕ) (o : Bool) (k w : ℕ) (c : Bool) (q : ℕ) (t : Aim) → Begun x w c q → Aimed t → n ≤ mostShown → {m d : ℕ} (own : Bool)
+      ruled-born : (n : ℕ) (o : Bool) (k w : ℕ) (c : Bool) (q : ℕ) (t : Aim)
+          → Begun x w c q → Aimed t → n ≤ mostShown → {m d : ℕ} (own : Bool)
           → Is ns k (fresh m d)
           → breaking (born rows (entryOf k o (meaningOf w c) q (aimAt t)) own) (entryOf k o (meaningOf w c) q (aimAt t)) ≡ n
           → Ruled n o k w c q t

@@ -32,7 +32,8 @@ use usage::STATES;
 fn settle(t: &mut Lengths, rows: &Table, w: Watch, f: Node, e: Entry, c: usize) -> bool
     requires { ⌜ length (now t) ≡ size ⌝ }
     requires { ⌜ inTable e ≡ true ⌝ }
-    ensures { λ r. ⌜ Pass (Lowers w (now (rows .entry)) (e .node) (formOf f)) (λ u. Settled w (now (rows .entry)) (formOf f) u e c) (now (t .entry)) (now (t .exit)) r ⌝ }
+    ensures { λ r. ⌜ Pass (Lowers w (now (rows .entry)) (e .node) (formOf f))
+        (λ u. Settled w (now (rows .entry)) (formOf f) u e c) (now (t .entry)) (now (t .exit)) r ⌝ }
 {
     let v = offers::offer(t, rows, w, ALL, f, e, c);
     let at = entries::place(e);
@@ -49,7 +50,8 @@ fn settle(t: &mut Lengths, rows: &Table, w: Watch, f: Node, e: Entry, c: usize) 
 fn settle_rule(t: &mut Lengths, rows: &Table, w: Watch, f: Node, s: Entry, c: usize) -> bool
     requires { ⌜ length (now t) ≡ size ⌝ }
     requires { ⌜ inTable (toward s 0) ≡ true ⌝ }
-    ensures { λ r. ⌜ Pass (Lowers w (now (rows .entry)) (s .node) (formOf f)) (λ u. RuleSettled w (now (rows .entry)) (formOf f) u s c) (now (t .entry)) (now (t .exit)) r ⌝ }
+    ensures { λ r. ⌜ Pass (Lowers w (now (rows .entry)) (s .node) (formOf f))
+        (λ u. RuleSettled w (now (rows .entry)) (formOf f) u s c) (now (t .entry)) (now (t .exit)) r ⌝ }
 {
     if !offers::gives(t, rows, f, s, c) {
         return false;
@@ -69,7 +71,8 @@ fn settle_rule(t: &mut Lengths, rows: &Table, w: Watch, f: Node, s: Entry, c: us
 fn settle_start(t: &mut Lengths, rows: &Table, w: Watch, f: Node, s: Entry) -> bool
     requires { ⌜ length (now t) ≡ size ⌝ }
     requires { ⌜ inTable (toward s 0) ≡ true ⌝ }
-    ensures { λ r. ⌜ Pass (Lowers w (now (rows .entry)) (s .node) (formOf f)) (λ u. StartSettled w (now (rows .entry)) (formOf f) u s) (now (t .entry)) (now (t .exit)) r ⌝ }
+    ensures { λ r. ⌜ Pass (Lowers w (now (rows .entry)) (s .node) (formOf f))
+        (λ u. StartSettled w (now (rows .entry)) (formOf f) u s) (now (t .entry)) (now (t .exit)) r ⌝ }
 {
     let n = offers::ways(f);
     let mut changed = false;
@@ -88,7 +91,8 @@ fn settle_node(t: &mut Lengths, rows: &Table, w: Watch, f: Node, l: usize, k: us
     requires { ⌜ length (now t) ≡ size ⌝ }
     requires { ⌜ l < meanings ⌝ }
     requires { ⌜ k < mostNodes ⌝ }
-    ensures { λ r. ⌜ Pass (Lowers w (now (rows .entry)) k (formOf f)) (λ u. NodeSettled w (now (rows .entry)) (formOf f) u l k) (now (t .entry)) (now (t .exit)) r ⌝ }
+    ensures { λ r. ⌜ Pass (Lowers w (now (rows .entry)) k (formOf f))
+        (λ u. NodeSettled w (now (rows .entry)) (formOf f) u l k) (now (t .entry)) (now (t .exit)) r ⌝ }
 {
     let n = 2 * (STARTS - STATES * l);
     let mut changed = false;
@@ -115,7 +119,8 @@ fn settle_round(t: &mut Lengths, nodes: &[u8], rows: &Table, w: Watch, l: usize)
     requires { ⌜ length (now t) ≡ size ⌝ }
     requires { ⌜ l < meanings ⌝ }
     requires { ⌜ length (now nodes) / nodeFields ≤ mostNodes ⌝ }
-    ensures { λ r. ⌜ Pass (Onward w (now (rows .entry)) (now (nodes .entry))) (λ u. RoundSettled w (now (rows .entry)) (now (nodes .entry)) u l) (now (t .entry)) (now (t .exit)) r ⌝ }
+    ensures { λ r. ⌜ Pass (Onward w (now (rows .entry)) (now (nodes .entry)))
+        (λ u. RoundSettled w (now (rows .entry)) (now (nodes .entry)) u l) (now (t .entry)) (now (t .exit)) r ⌝ }
 {
     let n = nodes.len() / NODE_FIELDS;
     let mut changed = false;
@@ -132,7 +137,8 @@ fn settle_round(t: &mut Lengths, nodes: &[u8], rows: &Table, w: Watch, l: usize)
 
 // The table, for the moves of the watched policy. Where there is no room for the nodes, no entry is a length.
 pub fn fill(nodes: &[u8], rows: &Table, w: Watch, t: &mut Lengths)
-    ensures { λ r. ⌜ FullIf (leb (length (now (nodes .entry)) / nodeFields) mostNodes) w (now (rows .entry)) (now (nodes .entry)) (now (t .exit)) ⌝ }
+    ensures { λ r. ⌜ FullIf (leb (length (now (nodes .entry)) / nodeFields) mostNodes) w
+        (now (rows .entry)) (now (nodes .entry)) (now (t .exit)) ⌝ }
 {
     *t = [NONE; SIZE];
     if MOST_NODES < nodes.len() / NODE_FIELDS {

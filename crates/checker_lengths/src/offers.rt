@@ -9,7 +9,9 @@ ghost use Rattle.automaton.specs.Mask.{has};
 ghost use Rattle.checker_lengths.specs.declared.Watch.{Watch};
 ghost use Rattle.usage.specs.Limits.{states};
 ghost use Rattle.checker_lengths.specs.Entries.{noLength, allLengths, held};
-ghost use Rattle.checker_lengths.specs.Offers.{atNode, toward, lowEnd, moved, born, endingOf, breaking, eventOf, stillOf, firstEntry, secondEntry, bodyEntry, innerEntry, sequenceOf, freshOf, sandboxOf, offerFrom, waysOf};
+ghost use Rattle.checker_lengths.specs.Offers.{atNode, toward, lowEnd, moved, born, endingOf, breaking, eventOf, stillOf};
+ghost use Rattle.checker_lengths.specs.Offers.{firstEntry, secondEntry, bodyEntry, innerEntry, sequenceOf, freshOf, sandboxOf};
+ghost use Rattle.checker_lengths.specs.Offers.{offerFrom, waysOf};
 use crate::AIMS;
 use crate::ALL;
 use crate::BROKEN;
@@ -303,7 +305,8 @@ pub fn offer(t: &Lengths, rows: &Table, w: Watch, most: u8, f: Node, e: Entry, c
 // Can rule c of node f give anything from this start, whatever the aim? It cannot where the first node of a sequence has no such end,
 // or where a creation leads to no such state.
 pub(crate) fn gives(t: &Lengths, rows: &Table, f: Node, s: Entry, c: usize) -> bool
-    ensures { λ r. ⌜ (r ≡ false → (w : Watch) (i : ℕ) → offerFrom w (now (rows .entry)) (held (now (t .entry)) allLengths) (toward s i) c (formOf f) ≡ noLength) ⌝ }
+    ensures { λ r. ⌜ (r ≡ false → (w : Watch) (i : ℕ)
+        → offerFrom w (now (rows .entry)) (held (now (t .entry)) allLengths) (toward s i) c (formOf f) ≡ noLength) ⌝ }
 {
     if BROKEN <= c {
         return true;

@@ -134,10 +134,12 @@ module _ (t nodes : List ℕ) (e : Entry) where
 
     -- what holds of the entry's node, and of all that a node leads to that it holds of, holds of the closure
     pub spreads-all : {s : ℕ} → Spreads t nodes e s → length nodes / nodeFields ≤ mostNodes → P (e .node)
-        → ((k : ℕ) → k < length nodes / nodeFields → P k → (j : ℕ) → j < mostNodes → has (leadsFrom t e (formHere nodes k)) j ≡ true → P j) → (j : ℕ)
+        → ((k : ℕ) → k < length nodes / nodeFields → P k → (j : ℕ) → j < mostNodes → has
+        (leadsFrom t e (formHere nodes k)) j ≡ true → P j) → (j : ℕ)
         → j < mostNodes → has s j ≡ true → P j
     spreads-all begins few h f j l a = subst P (bit-is (e .node) j l a) h
-    spreads-all (further {s = s} d) few h f j l a = spread-all (length nodes / nodeFields) s few (λ i m b. spreads-all d few h f i m b) f j l a
+    spreads-all (further {s = s} d) few h f j l a = spread-all
+        (length nodes / nodeFields) s few (λ i m b. spreads-all d few h f i m b) f j l a
 
   pub spreads-node : {s : ℕ} → Spreads t nodes e s → e .node < mostNodes → has s (e .node) ≡ true
   spreads-node begins l = bit-at (e .node) l

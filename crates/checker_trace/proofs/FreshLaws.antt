@@ -78,7 +78,8 @@ use Rattle.checker_trace.proofs.StepLaws.{laid-more, spotted-opening, s
 use Rattle.checker_trace.proofs.PartLaws.{Run, run-in, back-to, chosen-fresh}
 use Rattle.checker_trace.proofs.WriteLaws.{tells-is, Arrived, arrive, passes-names, range-of}
 
-module _ (w : Watch) (rows nodes t : List ℕ) (e : Entry) (n r : ℕ) (few-nodes : length nodes / nodeFields ≤ mostNodes) (few : n ≤ mostShown) where
+module _ (w : Watch) (rows nodes t : List ℕ) (e : Entry) (n r : ℕ)
+    (few-nodes : length nodes / nodeFields ≤ mostNodes) (few : n ≤ mostShown) where
   abbrev Here : List Edge → ℕ → Bool → ℕ → outline.Names → ℕ → Bool → ℕ → Past → Aim → Past → Type 0
   Here es i o k names m c q past aim after = Run w rows nodes t e n r few-nodes few es i o k names m c q past aim after
 

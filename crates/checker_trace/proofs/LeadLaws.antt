@@ -156,19 +156,23 @@ module _ (local : Bool) (es : List Edge) (nodes : List ℕ) (p x : ℕ) (rows t 
   few-nodes : length nodes / nodeFields ≤ mostNodes
   few-nodes = let l = src .outline .few in let n = nodes-length nodes in omega arith
 
-  pub closure-passes : (s : ℕ) → Closure t nodes here s → (j : ℕ) → j < mostNodes → has s j ≡ true → PassesAll (nodesOf nodes) (ending aim) k j
+  pub closure-passes : (s : ℕ) → Closure t nodes here s → (j : ℕ) → j < mostNodes
+      → has s j ≡ true → PassesAll (nodesOf nodes) (ending aim) k j
   closure-passes s h j l g =
       spreads-all t nodes here (PassesAll (nodesOf nodes) (ending aim) k) (h .spreads) few-nodes PassesAll.here
       (λ i u d j v w. passes-more d (go i j u v (formHere nodes i) refl w)) j l g
     where
-      go : (i j : ℕ) → i < length nodes / nodeFields → j < mostNodes → (f : Option Form) → formHere nodes i ≡ f → has (leadsFrom t here f) j ≡ true
+      go : (i j : ℕ) → i < length nodes / nodeFields → j < mostNodes
+          → (f : Option Form) → formHere nodes i ≡ f → has (leadsFrom t here f) j ≡ true
           → Leads (nodesOf nodes) (ending aim) i j
       go i j u v none e w = has-none j w
       go i j u v (some f) e w = leads-of i j f (here-form local es nodes p x rows src i f u e) v w
 
-  pub passes-closure : (s : ℕ) → Closure t nodes here s → k < mostNodes → (j : ℕ) → PassesAll (nodesOf nodes) (ending aim) k j → has s j ≡ true
+  pub passes-closure : (s : ℕ) → Closure t nodes here s → k < mostNodes
+      → (j : ℕ) → PassesAll (nodesOf nodes) (ending aim) k j → has s j ≡ true
   passes-closure s h l j d =
-      passes-all (λ (i : ℕ). has s i ≡ true) (λ i y g u. spread-still t nodes here (length nodes / nodeFields) s (h .still) i (leads-node u) g y
+      passes-all (λ (i : ℕ). has s i ≡ true)
+      (λ i y g u. spread-still t nodes here (length nodes / nodeFields) s (h .still) i (leads-node u) g y
       (of-leads i y u)) (spreads-node t nodes here (h .spreads) l) d
     where
       node-of : (i : ℕ) (f : Form) → Is (nodesOf nodes) i f → i < length nodes / nodeFields

@@ -136,12 +136,14 @@ module _ (w : Watch) (rows nodes t : List ℕ) (e : Entry) (n r : ℕ) (few : n 
 
 -- ── What is written ──
 
-module _ (w : Watch) (rows nodes t : List ℕ) (e : Entry) (n r : ℕ) (few-nodes : length nodes / nodeFields ≤ mostNodes) (few : n ≤ mostShown) where
+module _ (w : Watch) (rows nodes t : List ℕ) (e : Entry) (n r : ℕ)
+    (few-nodes : length nodes / nodeFields ≤ mostNodes) (few : n ≤ mostShown) where
   abbrev pub Run : List Edge → ℕ → Bool → ℕ → outline.Names → ℕ → Bool → ℕ → Past → Aim → Past → Type 0
   Run es i o k names m c q past aim after = Written (w .local) es (nodesOf nodes) (w .policy) (w .resource) i o k names m c q past aim after
 
   -- by equal numbers and aims
-  pub run-in : {es : List Edge} {i i′ : ℕ} {o : Bool} {k : ℕ} {names : outline.Names} {m : ℕ} {c : Bool} {q : ℕ} {past : Past} {aim aim′ : Aim} {after : Past} → i ≡ i′ → aim ≡ aim′
+  pub run-in : {es : List Edge} {i i′ : ℕ} {o : Bool} {k : ℕ} {names : outline.Names} {m : ℕ}
+      {c : Bool} {q : ℕ} {past : Past} {aim aim′ : Aim} {after : Past} → i ≡ i′ → aim ≡ aim′
       → Run es i o k names m c q past aim after → Run es i′ o k names m c q past aim′ after
   run-in {es} {i} {i′} {o} {k} {names} {m} {c} {q} {past} {aim} {aim′} {after} f g d =
       subst (λ (u : Aim). Run es i′ o k names m c q past u after) g (subst (λ (j : ℕ). Run es j o k names m c q past aim after) f d)
@@ -157,7 +159,8 @@ module _ (w : Watch) (rows nodes t : List ℕ) (e : Entry) (n r : ℕ) (few-node
       → Writes w rows nodes t (firstEntry e a r) v g s trace mid trace₁ → (r′ : Spot) (trace₂ : List ℕ)
       → Writes w rows nodes t (secondEntry e b r) (n - v) g mid trace₁ r′ trace₂
       → Writes w rows nodes t e n g s trace r′ trace₂
-  wrote-sequence a b ch g s trace v ev mid trace₁ first r′ trace₂ second es m c aim names t₀ past ready tells h named agree spotted same room =
+  wrote-sequence a b ch g s trace v ev mid trace₁ first r′ trace₂ second es
+      m c aim names t₀ past ready tells h named agree spotted same room =
       let (l, sum, l₁, l₂) = chosen-sequence w rows nodes t e n r few a b ch in
       let u = arrive w rows nodes t e n (ch .0) r (sequence a b) few-nodes (ch .1) (ch .2) ready tells in
       let scope = scoped (nodesOf nodes) (ready .source .outline) in
@@ -249,7 +252,8 @@ module _ (w : Watch) (rows nodes t : List ℕ) (e : Entry) (n r : ℕ) (few-node
       → Writes w rows nodes t (innerEntry w e a b) (n - 2) g (onward s) (storedStep trace (s .at) 1 a 0) mid trace₁ → (r′ : Spot)
       → r′ ≡ onward mid → (trace′ : List ℕ)
       → trace′ ≡ storedStep trace₁ (mid .at) 2 a 0 → Writes w rows nodes t e n g s trace r′ trace′
-  wrote-sandbox a b ch zero-r not-16 g s trace mid trace₁ inside r′ er trace′ et es m c aim names t₀ past ready tells h named agree spotted same room =
+  wrote-sandbox a b ch zero-r not-16 g s trace mid trace₁ inside r′ er trace′
+      et es m c aim names t₀ past ready tells h named agree spotted same room =
       let sum = chosen-sandbox w rows nodes t e n r few a b ch zero-r in
       let two = around-end not-16 in
       let u = arrive w rows nodes t e n (ch .0) r (sandbox a b) few-nodes (ch .1) (ch .2) ready tells in

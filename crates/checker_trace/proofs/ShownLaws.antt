@@ -77,7 +77,8 @@ module _ (e t : List ℕ) (edges : EdgesOk (edgesOf e)) (ok : OutlineOk (nodesOf
   source-of x l =
       let es = edgesOf e in
       let made = rows-from (rowsOf es) p (formsIn t) (replicate places 0) refl (nodesOf t) (length t / nodeFields) few-nodes (forms-of t) in
-      let right = rows-ok es (nodesOf t) p x (rowsIn (fillRows (rowsOf es) p (length t / nodeFields) (formsIn t) (replicate places 0))) _ l edges
+      let right = rows-ok es (nodesOf t) p x
+      (rowsIn (fillRows (rowsOf es) p (length t / nodeFields) (formsIn t) (replicate places 0))) _ l edges
       (event-image es edges p policy) made in
       subst (λ (r : List ℕ). Source es (nodesOf t) p x r) (sym (filled ∙ whole-in (rowsOf es) p t policy few-nodes))
       (record { edges = edges; outline = ok; small = l; moves = right })

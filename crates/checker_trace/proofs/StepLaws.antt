@@ -52,7 +52,8 @@ laid-rest t past vs e =
     ∙ ap (λ (i : ℕ). drop (i + stepFields) (numbers past ++ drop (stepFields * length past) t)) (sym (numbers-length past))
     ∙ drop-append-add (numbers past) (drop (stepFields * length past) t) 3 ∙ drop-drop 3 (stepFields * length past) t
 
-laid-step : (t : List ℕ) (past : Past) (s : Step) → (numbers past ++ three s) ++ drop (stepFields * length past + stepFields) t ≡ laid t (s ∷ past)
+laid-step : (t : List ℕ) (past : Past) (s : Step)
+    → (numbers past ++ three s) ++ drop (stepFields * length past + stepFields) t ≡ laid t (s ∷ past)
 unfolding laid numbers
 laid-step t past s = let e : stepFields * length past + stepFields ≡ stepFields * suc (length past) = omega arith in
     ap (λ (i : ℕ). (numbers past ++ three s) ++ drop i t) e

@@ -61,7 +61,8 @@ module _ (w : Watch) (rows nodes t : List ℕ) (e : Entry) where
     pub is : Is (nodesOf nodes) j f
     pub gives : offerOf w rows (held t n) (entryOf j (e .opened) (meaningOf m c) (e .state) (aimAt aim)) r f ≡ n
 
-  pub arrive : (n j r : ℕ) (f : Form) → length nodes / nodeFields ≤ mostNodes → OntoIs w rows nodes t e n (By j r) → formHere nodes j ≡ some f
+  pub arrive : (n j r : ℕ) (f : Form) → length nodes / nodeFields ≤ mostNodes
+      → OntoIs w rows nodes t e n (By j r) → formHere nodes j ≡ some f
       → {es : List Edge} {m : ℕ} {c : Bool} {aim : Aim} → Ready w es rows nodes t
       → Tells (w .resource) e m c aim → Arrived es n m c aim j r f
   arrive n j r f few on g {es} {m} {c} {aim} ready tells =
@@ -118,7 +119,8 @@ module _ (w : Watch) (rows nodes t : List ℕ) (e : Entry) where
         (sym (ap (held t allLengths) (tells-is tells)) ∙ h) few one
         (subst (λ (y : Entry). OntoIs w rows nodes t y n Nothing) (tells-is tells) on))
 
-    module _ (few-nodes : length nodes / nodeFields ≤ mostNodes) (few : n ≤ mostShown) (j r : ℕ) (on : OntoIs w rows nodes t e n (By j r)) where
+    module _ (few-nodes : length nodes / nodeFields ≤ mostNodes) (few : n ≤ mostShown)
+        (j r : ℕ) (on : OntoIs w rows nodes t e n (By j r)) where
       abbrev at-node : Bool → ℕ → Aim → ℕ → Entry
       at-node c m aim k = entryOf k (e .opened) (meaningOf m c) (e .state) (aimAt aim)
 

@@ -96,7 +96,8 @@ fn write_sequence(
     requires { ⌜ 1 ≤ n ⌝ }
     ensures { λ r. ⌜ length (now (trace .exit)) ≡ length (now (trace .entry)) ⌝ }
     ensures { λ r. ⌜ WithinSteps s n r ⌝ }
-    ensures { λ r. ⌜ Writes w (now (rows .entry)) (now (nodes .entry)) (now (t .entry)) e n g s (now (trace .entry)) r (now (trace .exit)) ⌝ }
+    ensures { λ r. ⌜ Writes w (now (rows .entry)) (now (nodes .entry))
+        (now (t .entry)) e n g s (now (trace .entry)) r (now (trace .exit)) ⌝ }
 {
     let first = offers::first(e, a, c);
     let v = checker_lengths::entries::get(t, n, first);
@@ -137,7 +138,8 @@ fn write_fresh(
     requires { ⌜ 1 ≤ n ⌝ }
     ensures { λ r. ⌜ length (now (trace .exit)) ≡ length (now (trace .entry)) ⌝ }
     ensures { λ r. ⌜ WithinSteps s n r ⌝ }
-    ensures { λ r. ⌜ Writes w (now (rows .entry)) (now (nodes .entry)) (now (t .entry)) e n g s (now (trace .entry)) r (now (trace .exit)) ⌝ }
+    ensures { λ r. ⌜ Writes w (now (rows .entry)) (now (nodes .entry))
+        (now (t .entry)) e n g s (now (trace .entry)) r (now (trace .exit)) ⌝ }
 {
     let made = create(trace, s);
     if BROKEN <= c {
@@ -180,7 +182,8 @@ fn write_sandbox(
     requires { ⌜ 1 ≤ n ⌝ }
     ensures { λ r. ⌜ length (now (trace .exit)) ≡ length (now (trace .entry)) ⌝ }
     ensures { λ r. ⌜ WithinSteps s n r ⌝ }
-    ensures { λ r. ⌜ Writes w (now (rows .entry)) (now (nodes .entry)) (now (t .entry)) e n g s (now (trace .entry)) r (now (trace .exit)) ⌝ }
+    ensures { λ r. ⌜ Writes w (now (rows .entry)) (now (nodes .entry))
+        (now (t .entry)) e n g s (now (trace .entry)) r (now (trace .exit)) ⌝ }
 {
     let begun = step(trace, s, 1, a as u32, 0);
     if 0 < c {
@@ -212,7 +215,8 @@ pub(crate) fn write(
     requires { ⌜ s .next + n ≤ resources ⌝ }
     ensures { λ r. ⌜ length (now (trace .exit)) ≡ length (now (trace .entry)) ⌝ }
     ensures { λ r. ⌜ WithinSteps s n r ⌝ }
-    ensures { λ r. ⌜ Writes w (now (rows .entry)) (now (nodes .entry)) (now (t .entry)) e n g s (now (trace .entry)) r (now (trace .exit)) ⌝ }
+    ensures { λ r. ⌜ Writes w (now (rows .entry)) (now (nodes .entry))
+        (now (t .entry)) e n g s (now (trace .entry)) r (now (trace .exit)) ⌝ }
 {
     if n == 0 {
         return s;

@@ -39,7 +39,8 @@ cond-same true x = refl
 cond-same false x = refl
 
 -- the parts that 42 asks about
-pub parts-ok : (s : State) → createdOk (s .count) (s .created) ≡ true → orderOk (s .depth) (s .order) (s .unclosed) ≡ true → stateOk s ≡ true
+pub parts-ok : (s : State) → createdOk (s .count) (s .created) ≡ true
+    → orderOk (s .depth) (s .order) (s .unclosed) ≡ true → stateOk s ≡ true
 unfolding stateOk
 parts-ok s c o = and-both (createdOk (s .count) (s .created)) (orderOk (s .depth) (s .order) (s .unclosed)) c o
 
@@ -86,7 +87,8 @@ module _ (s t : State) (bad : ℕ) where
   Left new old l = l ≡ cond (eqb bad 0) new old
 
   settle-parts : t .halted ≡ false
-      → judgementOf (toldOf bad (sizesOf s) (sizesOf t)) (cond (eqb bad 0) (t .sets) (s .sets)) (cond (eqb bad 0) (t .possible) (s .possible))
+      → judgementOf (toldOf bad (sizesOf s) (sizesOf t))
+      (cond (eqb bad 0) (t .sets) (s .sets)) (cond (eqb bad 0) (t .possible) (s .possible))
       (cond (eqb bad 0) (t .created) (s .created)) (cond (eqb bad 0) (t .unclosed) (s .unclosed)) (cond (eqb bad 0) (t .order) (s .order))
       ≡ settle bad s t
   unfolding settle halt toldOf
@@ -103,13 +105,16 @@ module _ (s t : State) (bad : ℕ) where
       go false = refl
 
   -- a step that is taken
-  pub settled-step : (local : Bool) (es : List Edge) (step : Step) (u : Told) {sets possible created unclosed order : List ℕ} → t .halted ≡ false
-      → bad ≡ brokenIn (t .possible) (t .unclosed) → refusal s step ≡ none → t ≡ after local es s step → u ≡ toldOf bad (sizesOf s) (sizesOf t)
+  pub settled-step : (local : Bool) (es : List Edge) (step : Step) (u : Told) {sets possible created unclosed order : List ℕ}
+      → t .halted ≡ false
+      → bad ≡ brokenIn (t .possible) (t .unclosed) → refusal s step ≡ none
+      → t ≡ after local es s step → u ≡ toldOf bad (sizesOf s) (sizesOf t)
       → Left (t .sets) (s .sets) sets → Left (t .possible) (s .possible) possible → Left (t .created) (s .created) created
       → Left (t .unclosed) (s .unclosed) unclosed → Left (t .order) (s .order) order
       → judgementOf u sets possible created unclosed order ≡ stepped local es s step
   settled-step local es step u h b n e told p q r v w =
-      rw (told, p, q, r, v, w) (settle-parts h) ∙ ap (λ (k : ℕ). settle k s t) (b ∙ sym (parts-broken t)) ∙ sym (step-taken local es s step t n e)
+      rw (told, p, q, r, v, w) (settle-parts h) ∙ ap (λ (k : ℕ). settle k s t) (b ∙ sym (parts-broken t))
+      ∙ sym (step-taken local es s step t n e)
 
   -- an array that the step does not change
   pub kept : (l : List ℕ) → Left l l l
@@ -179,6 +184,7 @@ pub read-is : (local : Bool) (es : List Edge) (s : State) (step : Step) (raw : R
 unfolding judgeRead
 read-is local es s step raw e = rw e
 
-pub unread-is : (local : Bool) (es : List Edge) (s : State) (raw : RawStep) → stepOf raw ≡ none → refuse 21 s ≡ judgeRead local es s (stepOf raw)
+pub unread-is : (local : Bool) (es : List Edge) (s : State) (raw : RawStep)
+    → stepOf raw ≡ none → refuse 21 s ≡ judgeRead local es s (stepOf raw)
 unfolding judgeRead
 unread-is local es s raw e = rw e

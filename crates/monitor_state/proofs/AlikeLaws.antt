@@ -26,7 +26,8 @@ use Rattle.monitor_state.specs.declared.Answer.{Answer}
 use Rattle.monitor_state.specs.declared.Answer.the-variants.{Allowed, Violated}
 use Rattle.monitor_state.specs.declared.Judgement.{Judgement}
 use Rattle.monitor_state.specs.Judge.{startState, live, listed, distinct, dynamic, createdOk, orderOk, stateOk, placeFrom, placeOf}
-use Rattle.monitor_state.specs.Judge.{used, movedSets, createdIn, movedIn, gathered, withOpenings, withSets, resetIn, after, broken, refusal, refuse, halt, settle}
+use Rattle.monitor_state.specs.Judge.{used, movedSets, createdIn, movedIn, gathered, withOpenings, withSets, resetIn, after}
+use Rattle.monitor_state.specs.Judge.{broken, refusal, refuse, halt, settle}
 use Rattle.monitor_state.specs.Judge.{judgeStep, judgeRead, judgeOf, answersOf}
 use Rattle.monitor_state.specs.Renamed.{Renaming, renamed, renamedStep, SameAnswers}
 

@@ -22,7 +22,8 @@ use Rattle.monitor_state.specs.Represents.{Tracks, Gathers}
 use Rattle.monitor_state.proofs.Places.{StateOk, place-lt, owner}
 
 -- Each instance in use is some resource's, and each resource has an instance in use.
-module _ (local : Bool) (es : List Edge) (past : Past) (t : State) (n : length (t .created) ≡ mostCreated) (w : StateOk t) (tracks : Tracks local es past t)
+module _ (local : Bool) (es : List Edge) (past : Past) (t : State)
+    (n : length (t .created) ≡ mostCreated) (w : StateOk t) (tracks : Tracks local es past t)
     (e : t .possible ≡ gathered (used t) (t .sets)) where
   pub gathered-gathers : Gathers local es past t
   unfolding gathered

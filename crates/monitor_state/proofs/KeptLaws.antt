@@ -56,5 +56,6 @@ judge-kept t local s raw =
     rest = cond (s .halted) (refuse 20 s) (judgeRead local (edgesOf t) s (stepOf raw))
 
 -- a refusal leaves the state as it was
-pub refused-kept : (t : List ℕ) (local : Bool) (s : State) (raw : RawStep) (n : ℕ) → judgeOf t local s raw .answer ≡ Refused n → judgeOf t local s raw .state ≡ s
+pub refused-kept : (t : List ℕ) (local : Bool) (s : State) (raw : RawStep) (n : ℕ)
+    → judgeOf t local s raw .answer ≡ Refused n → judgeOf t local s raw .state ≡ s
 refused-kept t local s raw n e = subst (λ (a : Answer). Kept s a (judgeOf t local s raw .state)) e (judge-kept t local s raw)

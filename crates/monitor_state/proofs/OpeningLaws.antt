@@ -62,7 +62,8 @@ module _ (local : Bool) (es : List Edge) (past : Past) (h : Bool) (s : State) (R
     anew-may b x p′ q e =
         let z : openingsOf s p ≡ 0 = eqb-true (openingsOf s p) 0 (and-right local (eqb (openingsOf s p) 0) b) in
         let i : p′ ≡ p = eqb-true p′ p e in
-        let shut : Open p′ past → ⊥ = λ o. let k = open-count-pos local es past h s R p (subst (λ (n : ℕ). Open n past) i o) in omega arith in
+        let shut : Open p′ past
+        → ⊥ = λ o. let k = open-count-pos local es past h s R p (subst (λ (n : ℕ). Open n past) i o) in omega arith in
         subst (λ (c : Bool). May c es p′ (Sees x) (opening p ∷ past) q ↔ (q ≡ 0)) (sym (and-left local (eqb (openingsOf s p) 0) b))
         (may-anew es p′ x p past q (sym i) shut)
 

@@ -214,7 +214,8 @@ module _ (local : Bool) (es : List Edge) (v : Ends es) (past : Past) (h : Bool) 
       (ap (λ (b : Bool). addIf b (closings p past) + (openingsOf s p - 1)) (eq-eqb p p refl) ∙ own)
       (λ p′ h. (ap (λ (b : Bool). addIf b (closings p′ past)) (ne-eqb p p′ h), refl))
       (closed-ok (s .depth) (s .order) (s .unclosed) p l (R .unclosed-length) in-order o last)
-      (sym (ap (without p) (sym (R .stack) ∙ stack-top (s .depth) (s .order) some last) ∙ without-first p (stackIn (s .depth - 1) (s .order))))
+      (sym (ap (without p) (sym (R .stack) ∙ stack-top (s .depth) (s .order) some last)
+      ∙ without-first p (stackIn (s .depth - 1) (s .order))))
       (R .order-length)
     where
       some : 0 < s .depth

@@ -38,7 +38,8 @@ pub may-event : {local : Bool} {es : List Edge} {p : ℕ} {sees : ℕ → ℕ �
 may-event (moved {q = q} m g) = record { q = q; before = m; moves = g }
 
 -- an instance is in states 0 to 7 only
-pub may-lt : {local : Bool} {es : List Edge} {p : ℕ} {sees : ℕ → ℕ → ℕ → Type 0} {past : Past} {q : ℕ} → Ends es → May local es p sees past q → q < states
+pub may-lt : {local : Bool} {es : List Edge} {p : ℕ} {sees : ℕ → ℕ → ℕ → Type 0} {past : Past} {q : ℕ}
+    → Ends es → May local es p sees past q → q < states
 may-lt v start = lit< tt
 may-lt v (moved m g) = moves-lt v (may-lt v m) g
 may-lt {local} {p = p} v (opened {s} {past} m) = either (local && (eqb s p && not (isOpen p past))) (may-lt v m)

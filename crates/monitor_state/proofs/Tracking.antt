@@ -60,7 +60,8 @@ set-moved es a r s p i c k h =
     ∙ ap (λ (b : Bool). cond b (moveMask es p a r (eqb i (placeOf s r)) (setAt s p i)) (setAt s p i)) (lt-ltb i (used s) h)
 
 module _ (local : Bool) (es : List Edge) (v : Ends es) (s : State) (n : length (s .created) ≡ mostCreated) (w : StateOk s) where
-  pub moved-tracks : (past : Past) (a r : ℕ) → Tracks local es past s → known s r ≡ true → Tracks local es (event a r ∷ past) (movedIn es a r s)
+  pub moved-tracks : (past : Past) (a r : ℕ) → Tracks local es past s
+      → known s r ≡ true → Tracks local es (event a r ∷ past) (movedIn es a r s)
   moved-tracks past a r t kn x p q k l = (to, back)
     where
       m : ℕ

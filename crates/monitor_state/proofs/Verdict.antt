@@ -77,7 +77,8 @@ halt-represents local es past h s R = record {
   possible-bytes = R .possible-bytes;
 }
 
-module _ (local : Bool) (es : List Edge) (v : Ends es) (past : Past) (s : State) (R : Represents local es past false s) (raw : RawStep) where
+module _ (local : Bool) (es : List Edge) (v : Ends es) (past : Past)
+    (s : State) (R : Represents local es past false s) (raw : RawStep) where
   settle-promised : (step : Step) (t : State) → stepOf raw ≡ some step → Taken past false raw → Represents local es (step ∷ past) false t
       → Promised local es past false s raw (settle (broken t) s t)
   unfolding settle
@@ -115,10 +116,12 @@ judge-is t local s raw p q = rw (p, q)
 
 -- From every state that stands for a past: the answer is right, and the state that is returned stands for the past with the step,
 -- if it was allowed, and for the same past if not.
-pub judge-promised : (t : List ℕ) → edgeTable t ≡ true → (local : Bool) (past : Past) (h : Bool) (s : State) → Represents local (edgesOf t) past h s
+pub judge-promised : (t : List ℕ) → edgeTable t ≡ true
+    → (local : Bool) (past : Past) (h : Bool) (s : State) → Represents local (edgesOf t) past h s
     → (raw : RawStep) → Promised local (edgesOf t) past h s raw (judgeOf t local s raw)
 unfolding refuse
-judge-promised t p local past h s R raw = subst (Promised local (edgesOf t) past h s raw) (sym (judge-is t local s raw p (R .well))) (go h R)
+judge-promised t p local past h s R raw = subst (Promised local (edgesOf t) past h s raw)
+    (sym (judge-is t local s raw p (R .well))) (go h R)
   where
     go : (h : Bool) → Represents local (edgesOf t) past h s
         → Promised local (edgesOf t) past h s raw (cond (s .halted) (refuse 20 s) (judgeRead local (edgesOf t) s (stepOf raw)))
@@ -127,14 +130,16 @@ judge-promised t p local past h s R raw = subst (Promised local (edgesOf t) past
         (sym (R .halted))
         (record { answer = is-refused (refuses-halted past raw); state = R; kept = refl })
     go false R =
-        subst (λ (b : Bool). Promised local (edgesOf t) past false s raw (cond b (refuse 20 s) (judgeRead local (edgesOf t) s (stepOf raw))))
+        subst (λ (b : Bool). Promised local (edgesOf t) past false s raw
+        (cond b (refuse 20 s) (judgeRead local (edgesOf t) s (stepOf raw))))
         (sym (R .halted))
         (read-promised local (edgesOf t) (table-ends t p) past s R raw (stepOf raw) refl)
 
 -- ── Conversely, and over many steps ──
 
 -- The right answer is the judge's.
-pub judged-is : (t : List ℕ) → edgeTable t ≡ true → (local : Bool) (past : Past) (h : Bool) (s : State) → Represents local (edgesOf t) past h s
+pub judged-is : (t : List ℕ) → edgeTable t ≡ true
+    → (local : Bool) (past : Past) (h : Bool) (s : State) → Represents local (edgesOf t) past h s
     → (raw : RawStep) {v : Verdict}
     → Judged local (edgesOf t) past h raw v → verdictOf (judgeOf t local s raw .answer) ≡ v
 judged-is t p local past h s R raw k = judged-unique (judge-promised t p local past h s R raw .answer) k
@@ -146,7 +151,8 @@ allowed-is (Refused n) e = cc
 
 -- A step that nothing refuses and that breaks no open policy is allowed, and the state that is returned stands for the past with
 -- it.
-pub allowed-next : (t : List ℕ) → edgeTable t ≡ true → (local : Bool) (past : Past) (h : Bool) (s : State) → Represents local (edgesOf t) past h s
+pub allowed-next : (t : List ℕ) → edgeTable t ≡ true
+    → (local : Bool) (past : Past) (h : Bool) (s : State) → Represents local (edgesOf t) past h s
     → (raw : RawStep) (step : Step) → stepOf raw ≡ some step → Taken past h raw → ((p : ℕ) → Violates local (edgesOf t) p (step ∷ past) → ⊥)
     → (judgeOf t local s raw .answer ≡ Allowed) × Represents local (edgesOf t) (step ∷ past) h (judgeOf t local s raw .state)
 allowed-next t p local past h s R raw step e k x =

@@ -187,7 +187,8 @@ none-held x e = record {
   steps = rw e;
 }
 
-shown-held : {local : Bool} {e n : List ℕ} {p : ℕ} {past : Past} → CheckPromise local e n (violated p) → Shortest local (edgesOf e) (nodesOf n) p past
+shown-held : {local : Bool} {e n : List ℕ} {p : ℕ} {past : Past}
+    → CheckPromise local e n (violated p) → Shortest local (edgesOf e) (nodesOf n) p past
     → length past ≤ mostShown → Holds-steps (told.Shown p (length past)) (laid noSteps past)
 shown-held {n = n} {past = past} h s few =
     let l = length-replicate {A = ℕ} mostNumbers 0 in
@@ -222,7 +223,8 @@ held-short h =
 -- the nodes of an accepted outline
 pub nodes-held : (local : Bool) (edges text table : List ℕ) (n : ℕ) (buffer : List ℕ) {r : ℕ} {after : List ℕ} → HoldsNodes text table n
     → Prints (Explained local edges (take (n * 3 - 0) table) noSteps) shownSheet buffer r after
-    → Prints (RightTrace local edges (ruledResult (sheet outlineSheet text))) (nodesSheet (ruledResult (sheet outlineSheet text))) buffer r after
+    → Prints (RightTrace local edges (ruledResult (sheet outlineSheet text)))
+    (nodesSheet (ruledResult (sheet outlineSheet text))) buffer r after
 unfolding RightTrace nodesSheet
 nodes-held local edges text table n buffer h p = rw (h .result) (rw (sub-zero (n * 3), h .flat) at p)
 
@@ -230,7 +232,8 @@ nodes-held local edges text table n buffer h p = rw (h .result) (rw (sub-zero (n
 pub nodes-none : (local : Bool) (edges text : List ℕ) (line number : ℕ) (buffer : List ℕ) {r : ℕ} {after : List ℕ}
     → ruledResult (sheet outlineSheet text) ≡ refused record { line = line; number = number }
     → (r ≡ length (namesLine ++ row line 5 number)) × (after ≡ fronted buffer (namesLine ++ row line 5 number))
-    → Prints (RightTrace local edges (ruledResult (sheet outlineSheet text))) (nodesSheet (ruledResult (sheet outlineSheet text))) buffer r after
+    → Prints (RightTrace local edges (ruledResult (sheet outlineSheet text)))
+    (nodesSheet (ruledResult (sheet outlineSheet text))) buffer r after
 unfolding RightTrace nodesSheet
 nodes-none local edges text line number buffer e (er, eo) =
     rw e (record { explanation = told.Accepted; trace = []; right = tt; told = er; holds = eo })

@@ -80,8 +80,10 @@ module _ (local : Bool) (edges text buffer after : List ℕ) (at r : ℕ) (room 
 -- ── The whole output ──
 
 -- with the edges of an accepted sheet of policies
-pub right-held : (policies-text outline-text table : List ℕ) (n : ℕ) → Holds (policySheet (isLocal policies-text)) policies-text table n → (v : Verdict)
-    → RightTexts policies-text outline-text v ↔ RightNodes (isLocal policies-text) (take (n * 6 - 0) table) (ruledResult (sheet outlineSheet outline-text)) v
+pub right-held : (policies-text outline-text table : List ℕ) (n : ℕ)
+    → Holds (policySheet (isLocal policies-text)) policies-text table n → (v : Verdict)
+    → RightTexts policies-text outline-text v ↔ RightNodes (isLocal policies-text)
+    (take (n * 6 - 0) table) (ruledResult (sheet outlineSheet outline-text)) v
 unfolding RightSheets
 right-held policies-text outline-text table n h v = rw (h .result, sub-zero (n * 6), h .flat) (λ k. k, λ k. k)
 
@@ -120,12 +122,15 @@ pub printed-unique : (policies-text outline-text : List ℕ) (v w : Verdict) →
     → RightTexts policies-text outline-text w
     → outlinePrinted policies-text outline-text v ≡ outlinePrinted policies-text outline-text w
 unfolding RightSheets RightNodes nodesRow outlinePrinted printed
-printed-unique policies-text outline-text v w h k = go (isLocal policies-text) (policiesRead policies-text) (ruledResult (sheet outlineSheet outline-text)) h k
+printed-unique policies-text outline-text v w h k = go (isLocal policies-text)
+    (policiesRead policies-text) (ruledResult (sheet outlineSheet outline-text)) h k
   where
-    go : (local : Bool) (p o : Result) → RightSheets local p o v → RightSheets local p o w → printed p (λ edges. nodesRow o v) ≡ printed p (λ edges. nodesRow o w)
+    go : (local : Bool) (p o : Result) → RightSheets local p o v → RightSheets local p o w
+        → printed p (λ edges. nodesRow o v) ≡ printed p (λ edges. nodesRow o w)
     go local (refused r) o h k = refl
     go local (accepted edges) (refused r) h k = refl
-    go local (accepted edges) (accepted nodes) h k = ap (λ (x : Verdict). printed (accepted edges) (λ edges. verdictRow 0 x)) (right-unique h k)
+    go local (accepted edges) (accepted nodes) h k = ap
+        (λ (x : Verdict). printed (accepted edges) (λ edges. verdictRow 0 x)) (right-unique h k)
 
 -- Of two accepted sheets the verdict that is right is the check's, of the outline under the edges.
 pub outline-right : (policies-text outline-text : List ℕ) (edges nodes : List (List ℕ))

@@ -69,7 +69,8 @@ module _ (edges : List ℕ) (local : Bool) (steps : List ℕ) where
         (detail-small edges local s (stepAt steps i)))
 
 -- i of n steps are judged, from `at` on, and led to the state s: the rows that are left stand from `next` on in what `out` has become
-pub record Going (edges : List ℕ) (local : Bool) (steps : List ℕ) (n : ℕ) (out₀ : List ℕ) (at : ℕ) (out : List ℕ) (s : State) (next i : ℕ) : Type 0 where
+pub record Going (edges : List ℕ) (local : Bool) (steps : List ℕ) (n : ℕ)
+    (out₀ : List ℕ) (at : ℕ) (out : List ℕ) (s : State) (next i : ℕ) : Type 0 where
   pub within : i ≤ n
   pub long : length out ≡ length out₀
   pub room : next + longestStepRow * (n - i) ≤ length out

@@ -24,4 +24,5 @@ traceRows edges local (refused r) = refusalRow 4 r
 
 -- the whole output; the names line of the policies says which past counts; from the bytes of `policies.txt` and `trace.txt`
 unfoldable pub tracePrinted : List ℕ → List ℕ → List ℕ
-tracePrinted policies-text trace-text = printed (policiesRead policies-text) (λ edges. traceRows edges (isLocal policies-text) (sheet traceSheet trace-text))
+tracePrinted policies-text trace-text = printed (policiesRead policies-text)
+    (λ edges. traceRows edges (isLocal policies-text) (sheet traceSheet trace-text))

@@ -21,7 +21,8 @@ use usage::STEP_TABLE;
 pub(crate) fn rows(edges: &[u8], local: bool, text: &[u8], out: &mut [u8], at: usize) -> usize
     requires { ⌜ at + stepsRoom ≤ length (now out) ⌝ }
     ensures { λ r. ⌜ r ≡ at + length (traceRows (now (edges .entry)) local (sheet traceSheet (now (text .entry)))) ⌝ }
-    ensures { λ r. ⌜ now (out .exit) ≡ sets (now (out .entry)) at (traceRows (now (edges .entry)) local (sheet traceSheet (now (text .entry)))) ⌝ }
+    ensures { λ r. ⌜ now (out .exit)
+        ≡ sets (now (out .entry)) at (traceRows (now (edges .entry)) local (sheet traceSheet (now (text .entry)))) ⌝ }
 {
     let mut steps = [0u32; STEP_TABLE];
     let reading = sheet_reader::read_trace(text, &mut steps);

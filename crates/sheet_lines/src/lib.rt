@@ -180,8 +180,10 @@ fn is_stored(r: Reading) -> bool
 fn lines(text: &[u8], from: usize, kind: Kind, buffer: &mut [u32; MOST_VALUES]) -> Reading
     requires { ⌜ from ≤ length (now text) ⌝ }
     requires { ⌜ length (now buffer) ≡ mostValues ⌝ }
-    ensures { λ r. ⌜ heldBy ((sheetOf kind) .fields) r (now (buffer .exit)) ≡ heldOnto 0 [] (valueLines (sheetOf kind) 2 ((sheetOf kind) .most) (linesOf (drop from (now (text .entry))))) ⌝ }
-    ensures { λ r. ⌜ restAfter ((sheetOf kind) .fields) r (now (buffer .exit)) ≡ restAfter ((sheetOf kind) .fields) r (now (buffer .entry)) ⌝ }
+    ensures { λ r. ⌜ heldBy ((sheetOf kind) .fields) r (now (buffer .exit))
+        ≡ heldOnto 0 [] (valueLines (sheetOf kind) 2 ((sheetOf kind) .most) (linesOf (drop from (now (text .entry))))) ⌝ }
+    ensures { λ r. ⌜ restAfter ((sheetOf kind) .fields) r (now (buffer .exit))
+        ≡ restAfter ((sheetOf kind) .fields) r (now (buffer .entry)) ⌝ }
 {
     let fields = fields(kind);
     let most = most(kind);

@@ -98,7 +98,8 @@ map-from {A} {B} g f k (suc n) = ap (λ (l : List B). g (f k) ∷ l) (map-from g
 
 -- ── Edges ──
 
-edge-row : (local : Bool) (t : List ℕ) → EdgeTable t → (i : ℕ) → i < length t / edgeFields → Line-ok (policySheet local) (part edgeFields t i)
+edge-row : (local : Bool) (t : List ℕ) → EdgeTable t → (i : ℕ)
+    → i < length t / edgeFields → Line-ok (policySheet local) (part edgeFields t i)
 edge-row local t v i l =
     let w = v .whole in
     let k : length (part edgeFields t i)

@@ -168,19 +168,23 @@ unfolding outlineInto ruledResult sheet startsWith valueLines linesOf classOf fl
 no-nodes = refl
 
 not-its-place : outlineInto nodePlaces (bytes "node kind a b\n1 0 0 0\n") ≡ refuseAt 2 6
-unfolding outlineInto ruledResult sheet startsWith valueLines linesOf readLine hasOther hasOverlong valuesOf read classOf nodeOk flatten nodesOf from ruledBy lowestFailing treeOk between every timesChild times formOf backOk nameOk
+unfolding outlineInto ruledResult sheet startsWith valueLines linesOf readLine hasOther hasOverlong valuesOf read
+    classOf nodeOk flatten nodesOf from ruledBy lowestFailing treeOk between every timesChild times formOf backOk nameOk
 not-its-place = refl
 
 -- a back to a loop beside it: 0 is node 1 then node 3, 1 a loop over node 2, 3 a back to 1
 beside : outlineInto nodePlaces (bytes "node kind a b\n0 3 1 3\n1 5 2 0\n2 0 0 0\n3 6 1 0\n") ≡ refuseAt 5 7
-unfolding outlineInto ruledResult sheet startsWith valueLines linesOf readLine hasOther hasOverlong valuesOf read classOf nodeOk flatten nodesOf from ruledBy lowestFailing treeOk between every timesChild times formOf backOk above isChild nameOk
+unfolding outlineInto ruledResult sheet startsWith valueLines linesOf readLine hasOther hasOverlong valuesOf read classOf
+    nodeOk flatten nodesOf from ruledBy lowestFailing treeOk between every timesChild times formOf backOk above isChild nameOk
 beside = refl
 
 not-given : outlineInto nodePlaces (bytes "node kind a b\n0 2 1 0\n") ≡ refuseAt 2 8
-unfolding outlineInto ruledResult sheet startsWith valueLines linesOf readLine hasOther hasOverlong valuesOf read classOf nodeOk flatten nodesOf from ruledBy lowestFailing treeOk between every timesChild times formOf backOk nameOk above
+unfolding outlineInto ruledResult sheet startsWith valueLines linesOf readLine hasOther hasOverlong valuesOf read classOf
+    nodeOk flatten nodesOf from ruledBy lowestFailing treeOk between every timesChild times formOf backOk nameOk above
 not-given = refl
 
 -- a loop around its own back, one node stored after the other without its number
 loop-back : outlineInto nodePlaces (bytes "node kind a b\n0 5 1 0\n1 6 0 0\n") ≡ accepted ((5 ∷ 1 ∷ 0 ∷ []) ∷ (6 ∷ 0 ∷ 0 ∷ []) ∷ [])
-unfolding outlineInto ruledResult sheet startsWith valueLines linesOf readLine hasOther hasOverlong valuesOf read classOf nodeOk flatten nodesOf from ruledBy lowestFailing treeOk between every timesChild times formOf backOk above isChild nameOk
+unfolding outlineInto ruledResult sheet startsWith valueLines linesOf readLine hasOther hasOverlong valuesOf read classOf
+    nodeOk flatten nodesOf from ruledBy lowestFailing treeOk between every timesChild times formOf backOk above isChild nameOk
 loop-back = refl

@@ -135,7 +135,8 @@ module _ (places : ℕ) (text : List ℕ) (l : Bool) (chosen : l ≡ isLocal tex
       → roomy places edgePlaces (policiesRead text) ≡ refuseAt line number
   policies-refusal line number e =
       refusal-result (roomy places edgePlaces (policiesRead text)) line number
-      (subst (λ (m : Bool). refusal record { line = line; number = number } ≡ answered (roomy places edgePlaces (sheet (policySheet m) text)))
+      (subst (λ (m : Bool). refusal record { line = line; number = number }
+      ≡ answered (roomy places edgePlaces (sheet (policySheet m) text)))
       chosen e)
 
 module _ (s : Sheet) (places needed : ℕ) (text buffer : List ℕ) (n : ℕ) (k : Kept s places needed text buffer n) where

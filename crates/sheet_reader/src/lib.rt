@@ -34,7 +34,8 @@ pub enum PolicyReading {
 
 // A sheet of policies into a table of edges, six numbers to an edge; the table must have room for 256.
 pub fn read_policies(text: &[u8], table: &mut [u8]) -> PolicyReading
-    ensures { λ r. ⌜ policyAnswer r ≡ policiesAnswered (isLocal (now (text .entry))) (policiesInto (length (now (table .entry))) (now (text .entry))) ⌝ }
+    ensures { λ r. ⌜ policyAnswer r
+        ≡ policiesAnswered (isLocal (now (text .entry))) (policiesInto (length (now (table .entry))) (now (text .entry))) ⌝ }
     ensures { λ r. ⌜ now (table .exit) ≡ stored (policiesInto (length (now (table .entry))) (now (text .entry))) (now (table .entry)) ⌝ }
 {
     let local = sheet_lines::is_local(text);
@@ -87,7 +88,8 @@ pub fn read_outline(text: &[u8], table: &mut [u8]) -> Reading
 // The values of a sheet into the buffer, where the table that is lent, of so many places, has room for the largest sheet (else 40).
 fn read(text: &[u8], kind: Kind, places: usize, buffer: &mut [u32; MOST_VALUES]) -> Reading
     ensures { λ r. ⌜ readingAnswer r ≡ answered (roomy places (needed kind) (sheet (sheetOf kind) (now (text .entry)))) ⌝ }
-    ensures { λ r. ⌜ now (buffer .exit) ≡ filled (roomy places (needed kind) (sheet (sheetOf kind) (now (text .entry)))) (now (buffer .entry)) ⌝ }
+    ensures { λ r. ⌜ now (buffer .exit)
+        ≡ filled (roomy places (needed kind) (sheet (sheetOf kind) (now (text .entry)))) (now (buffer .entry)) ⌝ }
 {
     if places < largest(kind) {
         return Reading::Refused {
@@ -113,7 +115,8 @@ fn largest(kind: Kind) -> usize
 fn checked(buffer: &[u32; MOST_VALUES], n: usize) -> Fault
     requires { ⌜ n ≤ mostNodes ⌝ }
     requires { ⌜ ((i : ℕ) → getD (now buffer) i 0 < 256) ⌝ }
-    ensures { λ r. ⌜ fault r ≡ ruledSheet (picked Pick.Numbers (now (buffer .entry)) n) (nodesOf (picked Pick.Nodes (now (buffer .entry)) (n * nodeFields))) ⌝ }
+    ensures { λ r. ⌜ fault r ≡ ruledSheet (picked Pick.Numbers (now (buffer .entry)) n)
+        (nodesOf (picked Pick.Nodes (now (buffer .entry)) (n * nodeFields))) ⌝ }
 {
     let mut places = [0u8; MOST_NODES];
     store_bytes(buffer, Pick::Numbers, n, &mut places);
@@ -158,7 +161,8 @@ fn store_bytes(buffer: &[u32; MOST_VALUES], pick: Pick, n: usize, table: &mut [u
     requires { ⌜ n ≤ mostEdges ⌝ }
     requires { ⌜ n * widthOf pick ≤ length (now table) ⌝ }
     requires { ⌜ ((i : ℕ) → getD (now buffer) i 0 < 256) ⌝ }
-    ensures { λ r. ⌜ now (table .exit) ≡ picked pick (now (buffer .entry)) (n * widthOf pick) ++ drop (n * widthOf pick) (now (table .entry)) ⌝ }
+    ensures { λ r. ⌜ now (table .exit)
+        ≡ picked pick (now (buffer .entry)) (n * widthOf pick) ++ drop (n * widthOf pick) (now (table .entry)) ⌝ }
 {
     let m = n * width(pick);
     let mut k: usize = 0;
@@ -172,7 +176,8 @@ fn store_bytes(buffer: &[u32; MOST_VALUES], pick: Pick, n: usize, table: &mut [u
 fn store_numbers(buffer: &[u32; MOST_VALUES], n: usize, table: &mut [u32])
     requires { ⌜ n ≤ mostSteps ⌝ }
     requires { ⌜ n * stepFields ≤ length (now table) ⌝ }
-    ensures { λ r. ⌜ now (table .exit) ≡ from (λ i. getD (now (buffer .entry)) i 0) 0 (n * stepFields) ++ drop (n * stepFields) (now (table .entry)) ⌝ }
+    ensures { λ r. ⌜ now (table .exit)
+        ≡ from (λ i. getD (now (buffer .entry)) i 0) 0 (n * stepFields) ++ drop (n * stepFields) (now (table .entry)) ⌝ }
 {
     let m = n * STEP_FIELDS;
     let mut i: usize = 0;

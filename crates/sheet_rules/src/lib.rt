@@ -28,7 +28,8 @@ pub enum Rule {
 
 // Document 01: "then 9, 6, 7, 8, each over all nodes". The first rule is the one for 6.
 pub fn ruled(table: &[u8], places: &[u8], first: Rule) -> Fault
-    ensures { λ r. ⌜ fault r ≡ ruledBy (passes-of first (now (places .entry)) (nodesOf (now (table .entry)))) (nodesOf (now (table .entry))) ⌝ }
+    ensures { λ r. ⌜ fault r
+        ≡ ruledBy (passes-of first (now (places .entry)) (nodesOf (now (table .entry)))) (nodesOf (now (table .entry))) ⌝ }
 {
     if table.len() < NODE_FIELDS {
         return Fault::Refused { line: 2, number: 9 };

@@ -20,7 +20,8 @@ pub(crate) enum Found {
 fn named_above(nodes: &[u8], what: Ancestor, kind: u8, field: usize, k: usize) -> bool
     requires { ⌜ k < length (now nodes) / nodeFields ⌝ }
     requires { ⌜ field < nodeFields ⌝ }
-    ensures { λ r. ⌜ r ≡ allOf (λ x. above (nodesOf (now (nodes .entry))) (sought what (nodesOf (now (nodes .entry))) x) k k) (fieldOf (now (nodes .entry)) k kind field) ⌝ }
+    ensures { λ r. ⌜ r ≡ allOf (λ x. above (nodesOf (now (nodes .entry))) (sought what (nodesOf (now (nodes .entry))) x) k k)
+        (fieldOf (now (nodes .entry)) k kind field) ⌝ }
 {
     if nodes[NODE_FIELDS * k] != kind {
         return true;
@@ -84,7 +85,8 @@ fn passes(table: &[u8], places: &[u8], rule: Rule, k: usize) -> bool
 
 // The lowest node that breaks a rule.
 pub(crate) fn lowest(table: &[u8], places: &[u8], rule: Rule) -> Found
-    ensures { λ r. ⌜ found r ≡ lowest-of (passes-of rule (now (places .entry)) (nodesOf (now (table .entry)))) 0 (length (now (table .entry)) / nodeFields) ⌝ }
+    ensures { λ r. ⌜ found r
+        ≡ lowest-of (passes-of rule (now (places .entry)) (nodesOf (now (table .entry)))) 0 (length (now (table .entry)) / nodeFields) ⌝ }
 {
     let n = table.len() / NODE_FIELDS;
     let mut k: usize = 0;

@@ -78,17 +78,20 @@ unfolding from edgesOf edgeTable every edgeOk edgesOk
 table-K = decides-edge-table edgesK .0 refl
 
 outline-I : NodeTable nodesI
-unfolding from nodesOf nodeTable outlineOk nodeOk every ruledBy lowestFailing treeOk between times timesChild backOk nameOk above isChild givesName
+unfolding from nodesOf nodeTable outlineOk nodeOk every ruledBy lowestFailing
+    treeOk between times timesChild backOk nameOk above isChild givesName
     someBelow formOf
 outline-I = decides-node-table nodesI .0 refl
 
 outline-J : NodeTable nodesJ
-unfolding from nodesOf nodeTable outlineOk nodeOk every ruledBy lowestFailing treeOk between times timesChild backOk nameOk above isChild givesName
+unfolding from nodesOf nodeTable outlineOk nodeOk every ruledBy lowestFailing
+    treeOk between times timesChild backOk nameOk above isChild givesName
     someBelow formOf
 outline-J = decides-node-table nodesJ .0 refl
 
 pub outline-L : NodeTable nodesL
-unfolding from nodesOf nodeTable outlineOk nodeOk every ruledBy lowestFailing treeOk between times timesChild backOk nameOk above isChild givesName
+unfolding from nodesOf nodeTable outlineOk nodeOk every ruledBy lowestFailing
+    treeOk between times timesChild backOk nameOk above isChild givesName
     someBelow formOf
 outline-L = decides-node-table nodesL .0 refl
 

@@ -25,7 +25,8 @@ use Rattle.test_cases.specs.JudgeCases.{caseE, caseF, caseG, caseH, case
 
 -- the judge's definition, computed
 unfoldable pub run : List ℕ → Bool → List RawStep → List Verdict
-unfolding stepOf from edgesOf edgeTable every someBelow edgeOk edgesOk has single union targets image move moveMask startState listed distinct
+unfolding stepOf from edgesOf edgeTable every someBelow edgeOk edgesOk has
+    single union targets image move moveMask startState listed distinct
     createdOk occurrences stackIn agreeBelow orderOk stateOk placeFrom placeOf copied createdIn movedSets movedIn withOpenings resetSets
     withSets resetIn after gathered broken refusal refuse halt settle judgeStep judgeRead judgeOf answersOf trailingZeros
 run t local raws = map verdictOf (answersOf t local startState raws)

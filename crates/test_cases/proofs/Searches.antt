@@ -145,7 +145,8 @@ rowTable e t p = fillRows (rowsOf (edgesOf e)) p (length t / nodeFields) (formsI
 module _ (local : Bool) (e t : List ℕ) (p : ℕ) where
   unfoldable pub tells-by : List ℕ → ℕ → ℕ → ℕ → Bool → Bool
   unfolding tells ends-by shut-by comes-by still shut-still complete from-both from-opened same repeat joinedEach
-      settleNode settleRound entered passNode passRound hitNode hitAny someBelow forgotten endsBy arrivals leaves has union over joinedAt formOf
+      settleNode settleRound entered passNode passRound hitNode hitAny someBelow
+      forgotten endsBy arrivals leaves has union over joinedAt formOf
   tells-by r x l k answer = tells local r p x l (length t / nodeFields) (formsIn t) k answer
 
   unfoldable pub tells-at : ℕ → ℕ → ℕ → Bool → Bool

@@ -33,7 +33,8 @@ fn show_left(call: u64, left: Left) -> u32
 // A step from a state like the start, but for the count, the flag and the first two created numbers. The one edge leads to `to`.
 fn judged(to: u8, count: u64, flag: u64, first: u32, second: u32, kind: u32, a: u32, b: u32) -> Left
     ensures { λ r.
-        ⌜ r .code ≡ codeOf (judgeParts (edgeTo to) 0 (bordering count flag first second) (record { kind = kind; a = a; b = b }) .verdict) ⌝ }
+        ⌜ r .code ≡ codeOf
+        (judgeParts (edgeTo to) 0 (bordering count flag first second) (record { kind = kind; a = a; b = b }) .verdict) ⌝ }
     ensures { λ r.
         ⌜ r .count
         ≡ getD (judgeParts (edgeTo to) 0 (bordering count flag first second) (record { kind = kind; a = a; b = b }) .parts .numbers) 0 0 ⌝ }

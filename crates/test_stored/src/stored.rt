@@ -20,7 +20,8 @@ struct Path {
 
 // The name of a sheet of case n: a folder, the number, which sheet.
 fn name(folder: u8, n: u64, which: u8) -> Path
-    ensures { λ r. ⌜ r .bytes ≡ folder ∷ 47 ∷ (48 + n / 1000 % 10) ∷ (48 + n / 100 % 10) ∷ (48 + n / 10 % 10) ∷ (48 + n % 10) ∷ which ∷ [] ⌝ }
+    ensures { λ r. ⌜ r .bytes
+        ≡ folder ∷ 47 ∷ (48 + n / 1000 % 10) ∷ (48 + n / 100 % 10) ∷ (48 + n / 10 % 10) ∷ (48 + n % 10) ∷ which ∷ [] ⌝ }
 {
     let bytes = [
         folder,

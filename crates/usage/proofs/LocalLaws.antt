@@ -9,7 +9,8 @@ use lib.Dec.{ltb}
 use borrow.Author.Tests.{eq-eqb, lt-ltb, le-ltb, ltb-true, ltb-false}
 use Rattle.usage.specs.declared.Edge.{Edge}
 use Rattle.usage.specs.Policy.{Sees, Offending}
-use Rattle.usage.specs.Past.{Step, event, opening, closing, Past, addIf, count, openings, closings, isOpening, isClosing, Open, isOpen}
+use Rattle.usage.specs.Past.{Step, event, opening, closing, Past, addIf, count, openings, closings, isOpening, isClosing, Open}
+use Rattle.usage.specs.Past.{isOpen}
 use Rattle.usage.specs.Past.{reopened, May, start, moved, opened, closed, Broken, Violates}
 use Rattle.usage.proofs.PastLaws.{before-all, before-event, before-opening, before-closing, may-anew, may-same}
 

@@ -59,7 +59,8 @@ code-requires-2 c κs = search needs
 returns-3 : tie.Need-returns-3
 unfolding heldIn
 returns-3 c =
-    let a = c .before .before .before .before .before .before .before .before .before .before .before .before .before .before .before .args in
+    let a = c .before .before .before .before .before .before .before .before
+    .before .before .before .before .before .before .before .args in
     let p = partsOf (a .sets .now) (a .possible .now) (a .created .now) (a .unclosed .now) (a .order .now) (a .numbers .now) in
     let raw : RawStep = record { kind = a .kind; a = a .a; b = a .b } in
     let h : flag p ≤ 1 = omega (arith, c .before .before .before .before .before .before .before .before .before .if2 .left) in
@@ -74,7 +75,8 @@ returns-3 c =
           (sym (r .ensures) ∙ not-true (r .result) (w .0 .taken)) (w .1 .ensures))
           (λ w. ap (λ (l : List ℕ). partsOf (j .last .1 .1 .0) (j .last .1 .1 .1 .0) (j .last .1 .1 .1 .1 .0) (j .last .1 .1 .1 .1 .1 .0)
           (j .last .1 .1 .1 .1 .1 .1 .0) l) (w .1)
-          ∙ refused-left (a .edges .now) (a .local) p raw k h (j .result) _ _ _ _ _ (j .ensures) (sym (r .ensures) ∙ not-false (r .result) (w .0 .left))),
+          ∙ refused-left (a .edges .now) (a .local) p raw k h (j .result) _ _ _ _ _
+          (j .ensures) (sym (r .ensures) ∙ not-false (r .result) (w .0 .left))),
     )
 
 pub judge-parts-spec : {M : Type 1} → statement M

@@ -106,7 +106,8 @@ returns-5 c = let a =
 -- src/lib.rt:148:5
 show-requires : tie.Need-show-requires
 show-requires c κs = let a =
-    c .before .before .before .before .before .before .before .before .before .before .before .before .before .before .before .before .args in
+    c .before .before .before .before .before .before .before .before .before
+    .before .before .before .before .before .before .before .args in
     let et = decides-edge-table (a .edges .now) .0
     (sym (c .before .before .before .before .before .before .before .before .before .before .before .edge-table-ok .ensures)
     ∙ not-false (c .before .before .before .before .before .before .before .before .before .before .before .edge-table-ok .result)
@@ -136,12 +137,18 @@ same-length c = c .before .before .show .ensures .0
 -- src/lib.rt:121:1
 returns-6 : tie.Need-returns-6
 returns-6 c = let a =
-    c .before .before .before .before .before .before .before .before .before .before .before .before .before .before .before .before .before .before .before .args in
+    c .before .before .before .before .before .before .before .before .before .before
+    .before .before .before .before .before .before .before .before .before .args in
     let et = decides-edge-table (a .edges .now) .0
-    (sym (c .before .before .before .before .before .before .before .before .before .before .before .before .before .before .edge-table-ok .ensures) ∙ not-false (c .before .before .before .before .before .before .before .before .before .before .before .before .before .before .edge-table-ok .result) (c .before .before .before .before .before .before .before .before .before .before .before .before .before .if2 .left)) in
+    (sym (c .before .before .before .before .before .before .before .before .before .before .before .before .before .before .edge-table-ok
+    .ensures) ∙ not-false
+    (c .before .before .before .before .before .before .before .before .before .before .before .before .before .before
+    .edge-table-ok .result) (c .before .before .before .before .before .before
+    .before .before .before .before .before .before .before .if2 .left)) in
     let nt = decides-node-table (a .nodes .now) .0
     (sym (c .before .before .before .before .before .before .before .before .before .before .before .before .node-table-ok .ensures)
-    ∙ not-false (c .before .before .before .before .before .before .before .before .before .before .before .before .node-table-ok .result) (c .before .before .before .before .before .before .before .before .before .before .before .if3 .left)) in
+    ∙ not-false (c .before .before .before .before .before .before .before .before .before .before .before .before .node-table-ok .result)
+    (c .before .before .before .before .before .before .before .before .before .before .before .if3 .left)) in
     let rows = c .before .before .before .before .before .before .before .before .fill .last .1 .1 .1 .0 in
     let src = laws.source-of (a .edges .now) (a .nodes .now) (et .edges) (nt .outline) (a .p)
     (c .before .before .before .before .before .before .before .before .before .before .if4 .left) rows
@@ -160,7 +167,8 @@ returns-6 c = let a =
     let n : length after ≡ r .length = long ∙ omega arith in
     subst (λ (u : List ℕ). Told (a .local) (a .edges .now) (a .nodes .now) (a .p) (a .trace .now) (Of (r .length)) u) (sym same)
     (subst (λ (i : ℕ). Told (a .local) (a .edges .now) (a .nodes .now) (a .p) (a .trace .now) (Of i) (laid (a .trace .now) after)) n
-    (this-long (c .before .before .before .before .before .before .before .before .before .before .before .before .before .before .before .if1 .left) et nt shown))
+    (this-long (c .before .before .before .before .before .before .before .before
+    .before .before .before .before .before .before .before .if1 .left) et nt shown))
 
 pub counterexample-spec : {M : Type 1} → statement M
 counterexample-spec =

@@ -44,10 +44,12 @@ returns c = let a = c .before .before .before .before .before .before .before .b
     c .before .before .before .before .before .before .before .before .before .before .pre in (
       c .before .before .write .ensures .0,
       laws.root-shows (a .w) (a .rows .now) (a .nodes .now)
-          (c .before .before .before .before .before .before .fill .last .1 .1 .1 .0) (a .n) (a .trace .now) (c .before .before .write .result)
+          (c .before .before .before .before .before .before .fill .last .1 .1 .1 .0)
+          (a .n) (a .trace .now) (c .before .before .write .result)
           (c .before .before .write .last .1 .1 .1 .1 .0)
           (subst (λ (b : Bool). FullIf b (a .w) (a .rows .now) (a .nodes .now)
-          (c .before .before .before .before .before .before .fill .last .1 .1 .1 .0)) (le-leb (length (a .nodes .now) / nodeFields) mostNodes (p .0))
+          (c .before .before .before .before .before .before .fill .last .1 .1 .1 .0))
+          (le-leb (length (a .nodes .now) / nodeFields) mostNodes (p .0))
           (c .before .before .before .before .before .before .fill .ensures)) (p .1 .0) (p .1 .1)
           (subst (λ (y : Entry). Writes (a .w) (a .rows .now) (a .nodes .now)
           (c .before .before .before .before .before .before .fill .last .1 .1 .1 .0) y (a .n) laws.none-given laws.at-first (a .trace .now)

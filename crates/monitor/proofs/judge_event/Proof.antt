@@ -10,7 +10,8 @@ use Rattle.monitor_sets.specs.Code.{eventSets}
 use Rattle.monitor_state.specs.Code.{stateOf}
 use Rattle.monitor_state.proofs.Places.{not-known, place-lt}
 use Rattle.monitor.proofs.JudgeLaws.{use-unknown}
-use Rattle.monitor.proofs.LentLaws.{refused-step, parts-place, taken, taken-sets, movedTo, event-after, event-free, settled-step, kept}
+use Rattle.monitor.proofs.LentLaws.{refused-step, parts-place, taken, taken-sets, movedTo, event-after, event-free}
+use Rattle.monitor.proofs.LentLaws.{settled-step, kept}
 use Rattle.monitor.proofs.judge_event.Statement.{statement}
 use Rattle.monitor.proofs.judge_event.Tie as tie
 

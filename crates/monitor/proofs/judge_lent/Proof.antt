@@ -16,7 +16,8 @@ refused-requires c κs = search needs
 returns : tie.Need-returns
 returns c =
     let a = c .before .before .before .before .args in
-    let s = stateOf (a .sets .now) (a .possible .now) (a .created .now) (a .count) (a .unclosed .now) (a .order .now) (a .depth) (a .halted) in
+    let s = stateOf (a .sets .now) (a .possible .now) (a .created .now)
+    (a .count) (a .unclosed .now) (a .order .now) (a .depth) (a .halted) in
     let table = c .before .before .edge-table-ok in
     refused-parts s 41 (c .refused .result) (c .refused .ensures)
     ∙ sym (table-refused (a .edges .now) (a .local) s (a .step) (sym (table .ensures) ∙ not-true (table .result) (c .before .if1 .taken)))
@@ -30,11 +31,13 @@ refused-requires-2 c κs = search needs
 returns-2 : tie.Need-returns-2
 returns-2 c =
     let a = c .before .before .before .before .before .before .before .args in
-    let s = stateOf (a .sets .now) (a .possible .now) (a .created .now) (a .count) (a .unclosed .now) (a .order .now) (a .depth) (a .halted) in
+    let s = stateOf (a .sets .now) (a .possible .now) (a .created .now)
+    (a .count) (a .unclosed .now) (a .order .now) (a .depth) (a .halted) in
     let table = c .before .before .before .before .before .edge-table-ok in
     let made = c .before .before .created-ok in
     refused-parts s 42 (c .refused2 .result) (c .refused2 .ensures)
-    ∙ sym (state-refused (a .edges .now) (a .local) s (a .step) (sym (table .ensures) ∙ not-false (table .result) (c .before .before .before .before .if1 .left))
+    ∙ sym (state-refused (a .edges .now) (a .local) s (a .step)
+    (sym (table .ensures) ∙ not-false (table .result) (c .before .before .before .before .if1 .left))
     (created-bad s (sym (made .ensures .0) ∙ not-true (made .result) (c .before .if2 .taken))))
 
 order-ok-requires : tie.Need-order-ok-requires
@@ -46,12 +49,14 @@ refused-requires-3 c κs = search needs
 returns-3 : tie.Need-returns-3
 returns-3 c =
     let a = c .before .before .before .before .before .before .before .before .before .before .before .args in
-    let s = stateOf (a .sets .now) (a .possible .now) (a .created .now) (a .count) (a .unclosed .now) (a .order .now) (a .depth) (a .halted) in
+    let s = stateOf (a .sets .now) (a .possible .now) (a .created .now)
+    (a .count) (a .unclosed .now) (a .order .now) (a .depth) (a .halted) in
     let table = c .before .before .before .before .before .before .before .before .before .edge-table-ok in
     let made = c .before .before .before .before .before .before .created-ok in
     let order = c .before .before .order-ok in
     refused-parts s 42 (c .refused3 .result) (c .refused3 .ensures)
-    ∙ sym (state-refused (a .edges .now) (a .local) s (a .step) (sym (table .ensures) ∙ not-false (table .result) (c .before .before .before .before .before .before .before .before .if1 .left))
+    ∙ sym (state-refused (a .edges .now) (a .local) s (a .step)
+    (sym (table .ensures) ∙ not-false (table .result) (c .before .before .before .before .before .before .before .before .if1 .left))
     (order-bad s (sym (made .ensures .0) ∙ not-false (made .result) (c .before .before .before .before .before .if2 .left))
     (sym (order .ensures .0) ∙ not-true (order .result) (c .before .if3 .taken))))
 
@@ -61,40 +66,53 @@ refused-requires-4 c κs = search needs
 returns-4 : tie.Need-returns-4
 returns-4 c =
     let a = c .before .before .before .before .before .before .before .before .before .before .before .before .args in
-    let s = stateOf (a .sets .now) (a .possible .now) (a .created .now) (a .count) (a .unclosed .now) (a .order .now) (a .depth) (a .halted) in
+    let s = stateOf (a .sets .now) (a .possible .now) (a .created .now)
+    (a .count) (a .unclosed .now) (a .order .now) (a .depth) (a .halted) in
     let table = c .before .before .before .before .before .before .before .before .before .before .edge-table-ok in
     let made = c .before .before .before .before .before .before .before .created-ok in
     let order = c .before .before .before .order-ok in
     refused-parts s 20 (c .refused4 .result) (c .refused4 .ensures)
-    ∙ sym (halted-refused (a .edges .now) (a .local) s (a .step) (sym (table .ensures) ∙ not-false (table .result) (c .before .before .before .before .before .before .before .before .before .if1 .left))
+    ∙ sym (halted-refused (a .edges .now) (a .local) s (a .step) (sym (table .ensures) ∙ not-false
+    (table .result) (c .before .before .before .before .before .before .before .before .before .if1 .left))
     (parts-ok s (sym (made .ensures .0) ∙ not-false (made .result) (c .before .before .before .before .before .before .if2 .left))
     (sym (order .ensures .0) ∙ not-false (order .result) (c .before .before .if3 .left)))
     (c .before .if4 .taken))
 
 judge-read-requires : tie.Need-judge-read-requires
 judge-read-requires c κs =
-    let a = c .before .before .before .before .before .before .before .before .before .before .before .before .before .before .before .before .args in
+    let a = c .before .before .before .before .before .before .before .before
+    .before .before .before .before .before .before .before .before .args in
     let made = c .before .before .before .before .before .before .before .before .before .before .before .created-ok in
     let order = c .before .before .before .before .before .before .before .order-ok in (
       made .ensures .1,
       (
-        created-few (a .count) (a .created .now) (sym (made .ensures .0) ∙ not-false (made .result) (c .before .before .before .before .before .before .before .before .before .before .if2 .left)),
-        (order .ensures .1, sym (order .ensures .0) ∙ not-false (order .result) (c .before .before .before .before .before .before .if3 .left)),
+        created-few (a .count) (a .created .now) (sym (made .ensures .0) ∙ not-false (made .result)
+            (c .before .before .before .before .before .before .before .before .before .before .if2 .left)),
+        (
+          order .ensures .1,
+          sym (order .ensures .0)
+              ∙ not-false (order .result) (c .before .before .before .before .before .before .if3 .left),
+        ),
       ),
     )
 
 returns-5 : tie.Need-returns-5
 returns-5 c =
-    let a = c .before .before .before .before .before .before .before .before .before .before .before .before .before .before .before .before .before .args in
-    let s = stateOf (a .sets .now) (a .possible .now) (a .created .now) (a .count) (a .unclosed .now) (a .order .now) (a .depth) (a .halted) in
-    let table = c .before .before .before .before .before .before .before .before .before .before .before .before .before .before .before .edge-table-ok in
+    let a = c .before .before .before .before .before .before .before .before .before
+    .before .before .before .before .before .before .before .before .args in
+    let s = stateOf (a .sets .now) (a .possible .now) (a .created .now)
+    (a .count) (a .unclosed .now) (a .order .now) (a .depth) (a .halted) in
+    let table = c .before .before .before .before .before .before .before .before
+    .before .before .before .before .before .before .before .edge-table-ok in
     let made = c .before .before .before .before .before .before .before .before .before .before .before .before .created-ok in
     let order = c .before .before .before .before .before .before .before .before .order-ok in
     let h = c .before .before .before .before .before .before .if4 .left in
     c .judge-read .ensures
     ∙ rw (← h)
-    (sym (judged (a .edges .now) (a .local) s (a .step) (sym (table .ensures) ∙ not-false (table .result) (c .before .before .before .before .before .before .before .before .before .before .before .before .before .before .if1 .left))
-    (parts-ok s (sym (made .ensures .0) ∙ not-false (made .result) (c .before .before .before .before .before .before .before .before .before .before .before .if2 .left))
+    (sym (judged (a .edges .now) (a .local) s (a .step) (sym (table .ensures) ∙ not-false (table .result)
+    (c .before .before .before .before .before .before .before .before .before .before .before .before .before .before .if1 .left))
+    (parts-ok s (sym (made .ensures .0) ∙ not-false (made .result)
+    (c .before .before .before .before .before .before .before .before .before .before .before .if2 .left))
     (sym (order .ensures .0) ∙ not-false (order .result) (c .before .before .before .before .before .before .before .if3 .left)))
     h))
 

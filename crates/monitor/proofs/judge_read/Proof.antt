@@ -26,7 +26,8 @@ judge-opening-requires : tie.Need-judge-opening-requires
 judge-opening-requires c κs =
     let pre = c .before .before .before .before .before .before .before .before .before .pre in (
       step-fits (c .before .before .before .before .before .before .before .before .before .args .step) (opening _)
-          (sym (c .before .before .before .before .before .before .before .read-step .ensures) ∙ ap (λ (x : Read). says x) (c .before .before .before .before .before .read2 .given .1)),
+          (sym (c .before .before .before .before .before .before .before .read-step .ensures)
+          ∙ ap (λ (x : Read). says x) (c .before .before .before .before .before .read2 .given .1)),
       (pre .1 .0, (pre .1 .1 .0, pre .1 .1 .1)),
     )
 
@@ -37,7 +38,8 @@ judge-closing-requires : tie.Need-judge-closing-requires
 judge-closing-requires c κs =
     let pre = c .before .before .before .before .before .before .before .before .pre in (
       step-fits (c .before .before .before .before .before .before .before .before .args .step) (closing _)
-          (sym (c .before .before .before .before .before .before .read-step .ensures) ∙ ap (λ (x : Read). says x) (c .before .before .before .before .read3 .given .1)),
+          (sym (c .before .before .before .before .before .before .read-step .ensures)
+          ∙ ap (λ (x : Read). says x) (c .before .before .before .before .read3 .given .1)),
       (pre .1 .1 .0, pre .1 .1 .1),
     )
 
@@ -62,7 +64,8 @@ returns-2 c =
     let s = stateOf (a .sets .now) (a .possible .now) (a .created .now) (a .count) (a .unclosed .now) (a .order .now) (a .depth) false in
     c .judge-opening .ensures (edgesOf (a .edges .now)) (a .created .now)
     ∙ read-is (a .local) (edgesOf (a .edges .now)) s _ (a .step)
-    (sym (c .before .before .before .before .before .before .before .before .read-step .ensures) ∙ ap (λ (x : Read). says x) (c .before .before .before .before .before .before .read2 .given .1))
+    (sym (c .before .before .before .before .before .before .before .before .read-step .ensures)
+    ∙ ap (λ (x : Read). says x) (c .before .before .before .before .before .before .read2 .given .1))
 
 returns-3 : tie.Need-returns-3
 returns-3 c =
@@ -70,7 +73,8 @@ returns-3 c =
     let s = stateOf (a .sets .now) (a .possible .now) (a .created .now) (a .count) (a .unclosed .now) (a .order .now) (a .depth) false in
     c .judge-closing .ensures (a .local) (edgesOf (a .edges .now)) (a .sets .now) (a .created .now)
     ∙ read-is (a .local) (edgesOf (a .edges .now)) s _ (a .step)
-    (sym (c .before .before .before .before .before .before .before .read-step .ensures) ∙ ap (λ (x : Read). says x) (c .before .before .before .before .before .read3 .given .1))
+    (sym (c .before .before .before .before .before .before .before .read-step .ensures)
+    ∙ ap (λ (x : Read). says x) (c .before .before .before .before .before .read3 .given .1))
 
 returns-4 : tie.Need-returns-4
 returns-4 c =

@@ -61,7 +61,8 @@ field-requires-2 c κs =
 
 field-requires-3 : tie.Need-field-requires-3
 field-requires-3 c κs =
-    let a = c .before .before .before .before .before .before .before .before .before .before .before .before .before .before .before .args in
+    let a = c .before .before .before .before .before .before .before .before
+    .before .before .before .before .before .before .before .args in
     let e = length-digits (a .line) (a .answer) (a .detail) in
     let k = c .before .before .before .before .before .before .before .field .ensures .1 .1 in
     let m = c .before .before .before .field2 .ensures .1 .1 in

@@ -131,12 +131,14 @@ bytes-less c = search needs
 
 bytes-again : tie.Need-bytes-again Inv-bytes μ-bytes Inv-lines μ-lines
 bytes-again c =
-    let a = c .before .before .before .before .before .before .before .before .before .before .before .before .before .before .before .before .args in
+    let a = c .before .before .before .before .before .before .before .before
+    .before .before .before .before .before .before .before .before .args in
     let n = c .before .before .before .before .before .before .before .before .before .before .before .before .lines .n in
     let t = c .before .before .before .before .before .before .before .before .bytes in
     let inv = t .inv .1 .1 in
     let first = c .before .before .before .before .before .before .before .before .before .before .before .before .lines .buffer in
-    let f = c .before .before .before .before .before .before .before .before .before .before .before .before .before .before .fields .ensures in
+    let f = c .before .before .before .before .before .before .before .before
+    .before .before .before .before .before .before .fields .ensures in
     let h = places (a .kind) n (inv .room) in
     let g : byteStep ((sheetOf (a .kind)) .fields) (t .p) (getD (a .text .now) (t .i) 0)
     ≡ _ = rw f at (sym (c .before .before .before .step .ensures) ∙ c .before .next .given .1) in (
@@ -157,12 +159,14 @@ enum-known-next-2 c = search needs
 
 in-range-requires : tie.Need-in-range-requires Inv-bytes μ-bytes Inv-lines μ-lines
 in-range-requires c κs =
-    let a = c .before .before .before .before .before .before .before .before .before .before .before .before .before .before .before .before .args in
+    let a = c .before .before .before .before .before .before .before .before
+    .before .before .before .before .before .before .before .before .args in
     let n = c .before .before .before .before .before .before .before .before .before .before .before .before .lines .n in
     let t = c .before .before .before .before .before .before .before .before .bytes in
     let inv = t .inv .1 .1 in
     let first = c .before .before .before .before .before .before .before .before .before .before .before .before .lines .buffer in
-    let f = c .before .before .before .before .before .before .before .before .before .before .before .before .before .before .fields .ensures in
+    let f = c .before .before .before .before .before .before .before .before
+    .before .before .before .before .before .before .fields .ensures in
     let h = places (a .kind) n (inv .room) in
     let l : length (t .buffer) ≡ mostValues = inv .size in
     (rw f h, search needs)
@@ -175,12 +179,15 @@ lines-less c = search needs
 
 lines-again : tie.Need-lines-again Inv-bytes μ-bytes Inv-lines μ-lines
 lines-again c =
-    let a = c .before .before .before .before .before .before .before .before .before .before .before .before .before .before .before .before .before .before .args in
+    let a = c .before .before .before .before .before .before .before .before .before
+    .before .before .before .before .before .before .before .before .before .args in
     let n = c .before .before .before .before .before .before .before .before .before .before .before .before .before .before .lines .n in
     let t = c .before .before .before .before .before .before .before .before .before .before .bytes in
     let inv = t .inv .1 .1 in
-    let first = c .before .before .before .before .before .before .before .before .before .before .before .before .before .before .lines .buffer in
-    let f = c .before .before .before .before .before .before .before .before .before .before .before .before .before .before .before .before .fields .ensures in
+    let first = c .before .before .before .before .before .before .before
+    .before .before .before .before .before .before .before .lines .buffer in
+    let f = c .before .before .before .before .before .before .before .before .before
+    .before .before .before .before .before .before .before .fields .ensures in
     let h = places (a .kind) n (inv .room) in
     let e : byteStep ((sheetOf (a .kind)) .fields) (t .p) (getD (a .text .now) (t .i) 0)
     ≡ Ends =
@@ -189,7 +196,8 @@ lines-again c =
       rw f (laws.next-line (sheetOf (a .kind)) (a .text .now) (a .from) first (t .buffer) (t .i) n (t .p) inv h
           (c .before .before .before .before .before .before .before .before .before .if2 .left) e
           (rw f at (sym (c .before .in-range .ensures) ∙ not-false (c .before .in-range .result) (c .if3 .left))) (a .buffer .now)
-          (c .before .before .before .before .before .before .before .before .before .before .before .before .before .before .lines .inv .1 .rest)),
+          (c .before .before .before .before .before .before .before .before .before
+          .before .before .before .before .before .lines .inv .1 .rest)),
     )
 
 answer-after-requires : tie.Need-answer-after-requires Inv-bytes μ-bytes Inv-lines μ-lines

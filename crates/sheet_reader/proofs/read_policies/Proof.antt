@@ -49,7 +49,8 @@ returns c =
     let local = c .before .before .before .before .before .is-local in
     let r = roomy (length (a .table .now)) edgePlaces (policiesRead (a .text .now)) in
     let h = refused-reads r (a .table .now) _ _
-    (policies-refusal (length (a .table .now)) (a .text .now) (local .result) (local .ensures) _ _ (rw (c .before .r .given .1) at (c .before .before .before .read .ensures .0))) in
+    (policies-refusal (length (a .table .now)) (a .text .now) (local .result) (local .ensures) _ _
+    (rw (c .before .r .given .1) at (c .before .before .before .read .ensures .0))) in
     (answered-refusal (isLocal (a .text .now)) r _ (h .answers), h .table)
 
 same-length : tie.Need-same-length

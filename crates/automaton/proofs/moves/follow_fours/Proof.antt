@@ -60,7 +60,8 @@ loop-less c = search needs
 
 loop-again : tie.Need-loop-again Inv-loop μ-loop
 loop-again c =
-    let a = c .before .before .before .before .before .before .before .before .before .before .before .before .before .before .before .args in
+    let a = c .before .before .before .before .before .before .before .before
+    .before .before .before .before .before .before .before .args in
     let t = c .before .before .before .before .before .before .before .before .before .before .before .before .before .loop in
     let first = c .before .before .before .before .before .before .before .before .before .follow-edge .ensures in
     let second = c .before .before .before .before .before .before .follow-edge2 .ensures in

@@ -53,8 +53,11 @@ loop-again c =
     let a = c .before .before .args in
     let l = c .before .loop in
     let h = c .loop-test .taken in
-    let still = l .inv .1 .left (l .q) (omega arith) in
-    (search needs, place-more (each (a .t1) (a .t2)) (a .t1) (l .q) (l .v) _ (omega arith) (ap (λ (n : ℕ). bitOr n (getD (a .t2) (l .q) 0)) still) (l .inv .1))
+    let still = l .inv .1 .left (l .q) (omega arith) in (
+      search needs,
+      place-more (each (a .t1) (a .t2)) (a .t1) (l .q) (l .v) _
+          (omega arith) (ap (λ (n : ℕ). bitOr n (getD (a .t2) (l .q) 0)) still) (l .inv .1),
+    )
 
 returns : tie.Need-returns Inv-loop μ-loop
 returns c =

@@ -54,8 +54,11 @@ loop-again c =
     let a = c .before .before .before .args in
     let l = c .before .before .loop in
     let h = c .before .loop-test .taken in
-    let still = l .inv .1 .left (l .q) (omega arith) in
-    (search needs, place-more (each (a .m) (a .t2)) (a .t2) (l .q) (l .v) _ (omega arith) (c .keep .ensures ∙ ap (kept (a .m)) still) (l .inv .1))
+    let still = l .inv .1 .left (l .q) (omega arith) in (
+      search needs,
+      place-more (each (a .m) (a .t2)) (a .t2) (l .q) (l .v) _
+          (omega arith) (c .keep .ensures ∙ ap (kept (a .m)) still) (l .inv .1),
+    )
 
 returns : tie.Need-returns Inv-loop μ-loop
 returns c =

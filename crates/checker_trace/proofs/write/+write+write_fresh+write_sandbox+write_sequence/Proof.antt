@@ -315,8 +315,10 @@ write-write-sandbox-requires t c κs = let a = c .before .before .before .before
 write-same-length : (t : ℕ) → write-lts.Need-same-length (write-known t) (write-at t) write.Post
 write-same-length t c = let a =
     c .before .before .before .before .before .before .before .before .before .before .before .before .before .before .before .args in
-    let p = c .before .before .before .before .before .before .before .before .before .before .before .before .before .before .before .pre .1 in
-    let mz = c .before .before .before .before .before .before .before .before .before .before .before .before .before .before .before .pre .0 in
+    let p = c .before .before .before .before .before .before .before .before
+    .before .before .before .before .before .before .before .pre .1 in
+    let mz = c .before .before .before .before .before .before .before .before
+    .before .before .before .before .before .before .before .pre .0 in
     let few = p .1 .0 in
     let room = p .1 .1 .0 in
     let fresh-room = p .1 .1 .1 in
@@ -328,8 +330,10 @@ write-same-length t c = let a =
 write-returns-3 : (t : ℕ) → write-lts.Need-returns-3 (write-known t) (write-at t) write.Post
 write-returns-3 t c = let a =
     c .before .before .before .before .before .before .before .before .before .before .before .before .before .before .before .args in
-    let p = c .before .before .before .before .before .before .before .before .before .before .before .before .before .before .before .pre .1 in
-    let mz = c .before .before .before .before .before .before .before .before .before .before .before .before .before .before .before .pre .0 in
+    let p = c .before .before .before .before .before .before .before .before
+    .before .before .before .before .before .before .before .pre .1 in
+    let mz = c .before .before .before .before .before .before .before .before
+    .before .before .before .before .before .before .before .pre .0 in
     let few = p .1 .0 in
     let room = p .1 .1 .0 in
     let fresh-room = p .1 .1 .1 in
@@ -363,8 +367,10 @@ write-returns-3 t c = let a =
 write-same-length-2 : (t : ℕ) → write-lts.Need-same-length-2 (write-known t) (write-at t) write.Post
 write-same-length-2 t c = let a =
     c .before .before .before .before .before .before .before .before .before .before .before .before .before .before .before .args in
-    let p = c .before .before .before .before .before .before .before .before .before .before .before .before .before .before .before .pre .1 in
-    let mz = c .before .before .before .before .before .before .before .before .before .before .before .before .before .before .before .pre .0 in
+    let p = c .before .before .before .before .before .before .before .before
+    .before .before .before .before .before .before .before .pre .1 in
+    let mz = c .before .before .before .before .before .before .before .before
+    .before .before .before .before .before .before .before .pre .0 in
     let few = p .1 .0 in
     let room = p .1 .1 .0 in
     let fresh-room = p .1 .1 .1 in
@@ -376,8 +382,10 @@ write-same-length-2 t c = let a =
 write-returns-4 : (t : ℕ) → write-lts.Need-returns-4 (write-known t) (write-at t) write.Post
 write-returns-4 t c = let a =
     c .before .before .before .before .before .before .before .before .before .before .before .before .before .before .before .args in
-    let p = c .before .before .before .before .before .before .before .before .before .before .before .before .before .before .before .pre .1 in
-    let mz = c .before .before .before .before .before .before .before .before .before .before .before .before .before .before .before .pre .0 in
+    let p = c .before .before .before .before .before .before .before .before
+    .before .before .before .before .before .before .before .pre .1 in
+    let mz = c .before .before .before .before .before .before .before .before
+    .before .before .before .before .before .before .before .pre .0 in
     let few = p .1 .0 in
     let room = p .1 .1 .0 in
     let fresh-room = p .1 .1 .1 in
@@ -635,7 +643,8 @@ write-sandbox-returns t c = let a = c .before .before .before .before .before .b
       len,
       (
         record { at = omega arith; next = omega arith },
-        wrote-opening (a .w) (a .rows .now) (a .nodes .now) (a .t .now) (a .e) (a .n) (a .c) (p .0) few (a .a) (a .b) ch (c .if1 .taken) (a .g)
+        wrote-opening (a .w) (a .rows .now) (a .nodes .now) (a .t .now) (a .e)
+            (a .n) (a .c) (p .0) few (a .a) (a .b) ch (c .if1 .taken) (a .g)
             (a .s) (a .trace .now) (c .before .before .before .step .result) made (c .before .before .before .step .last .0) tr,
       ),
     )
@@ -772,8 +781,10 @@ write-sandbox-step-requires-2 : (t : ℕ) → write-sandbox-lts.Need-step-requir
     (write-sandbox-at t) write-sandbox.Post
 write-sandbox-step-requires-2 t c κs = let a =
     c .before .before .before .before .before .before .before .before .before .before .before .before .before .before .before .args in
-    let p = c .before .before .before .before .before .before .before .before .before .before .before .before .before .before .before .pre .1 in
-    let mz = c .before .before .before .before .before .before .before .before .before .before .before .before .before .before .before .pre .0 in
+    let p = c .before .before .before .before .before .before .before .before
+    .before .before .before .before .before .before .before .pre .1 in
+    let mz = c .before .before .before .before .before .before .before .before
+    .before .before .before .before .before .before .before .pre .0 in
     let few = p .1 .0 in
     let room = p .1 .1 .0 in
     let fresh-room = p .1 .1 .1 .0 in
@@ -795,9 +806,12 @@ write-sandbox-step-requires-2 t c κs = let a =
 -- src/write.rt:157:1
 write-sandbox-same-length-3 : (t : ℕ) → write-sandbox-lts.Need-same-length-3 (write-sandbox-known t) (write-sandbox-at t) write-sandbox.Post
 write-sandbox-same-length-3 t c = let a =
-    c .before .before .before .before .before .before .before .before .before .before .before .before .before .before .before .before .before .before .args in
-    let p = c .before .before .before .before .before .before .before .before .before .before .before .before .before .before .before .before .before .before .pre .1 in
-    let mz = c .before .before .before .before .before .before .before .before .before .before .before .before .before .before .before .before .before .before .pre .0 in
+    c .before .before .before .before .before .before .before .before .before .before
+    .before .before .before .before .before .before .before .before .args in
+    let p = c .before .before .before .before .before .before .before .before .before
+    .before .before .before .before .before .before .before .before .before .pre .1 in
+    let mz = c .before .before .before .before .before .before .before .before .before
+    .before .before .before .before .before .before .before .before .before .pre .0 in
     let few = p .1 .0 in
     let room = p .1 .1 .0 in
     let fresh-room = p .1 .1 .1 .0 in
@@ -807,23 +821,29 @@ write-sandbox-same-length-3 t c = let a =
     ∙ stored-length (c .before .before .before .before .before .before .write2 .last .1 .1 .1 .1 .0)
     (c .before .before .before .before .before .before .write2 .result .at) 2 (a .a) 0
     ∙ c .before .before .before .before .before .before .write2 .ensures .0
-    ∙ ap length (c .before .before .before .before .before .before .before .before .before .before .before .before .before .before .step .ensures .0) ∙ stored-length (a .trace .now) (a .s .at) 1 (a .a) 0
+    ∙ ap length (c .before .before .before .before .before .before .before .before .before .before .before
+    .before .before .before .step .ensures .0) ∙ stored-length (a .trace .now) (a .s .at) 1 (a .a) 0
 
 -- src/write.rt:157:1
 write-sandbox-returns-3 : (t : ℕ) → write-sandbox-lts.Need-returns-3 (write-sandbox-known t) (write-sandbox-at t) write-sandbox.Post
 write-sandbox-returns-3 t c = let a =
-    c .before .before .before .before .before .before .before .before .before .before .before .before .before .before .before .before .before .before .args in
-    let p = c .before .before .before .before .before .before .before .before .before .before .before .before .before .before .before .before .before .before .pre .1 in
-    let mz = c .before .before .before .before .before .before .before .before .before .before .before .before .before .before .before .before .before .before .pre .0 in
+    c .before .before .before .before .before .before .before .before .before .before
+    .before .before .before .before .before .before .before .before .args in
+    let p = c .before .before .before .before .before .before .before .before .before
+    .before .before .before .before .before .before .before .before .before .pre .1 in
+    let mz = c .before .before .before .before .before .before .before .before .before
+    .before .before .before .before .before .before .before .before .before .pre .0 in
     let few = p .1 .0 in
     let room = p .1 .1 .0 in
     let fresh-room = p .1 .1 .1 .0 in
     let ch = p .1 .1 .1 .1 .0 in
     let one = p .1 .1 .1 .1 .1 in
-    let made = c .before .before .before .before .before .before .before .before .before .before .before .before .before .before .step .ensures .1 in
+    let made = c .before .before .before .before .before .before .before .before
+    .before .before .before .before .before .before .step .ensures .1 in
     let at = ap (λ (y : Spot). y .at) made in
     let nx = ap (λ (y : Spot). y .next) made in
-    let tr = c .before .before .before .before .before .before .before .before .before .before .before .before .before .before .step .ensures .0 in
+    let tr = c .before .before .before .before .before .before .before .before
+    .before .before .before .before .before .before .step .ensures .0 in
     let len = ap length tr ∙ stored-length (a .trace .now) (a .s .at) 1 (a .a) 0 in
     let zero-c : a .c ≡ 0 =
     omega (arith, c .before .before .before .before .before .before .before .before .before .before .before .if1 .left) in

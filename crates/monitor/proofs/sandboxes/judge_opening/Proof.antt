@@ -25,7 +25,8 @@ returns c =
     let a = c .before .before .args in
     λ es created.
     let s = stateOf (a .sets .now) (a .possible .now) created (a .count) (a .unclosed .now) (a .order .now) (a .depth) false in
-    refused-step (a .local) es s (opening (a .p)) 32 (c .refused .result) (c .refused .ensures) (opening-deep s (a .p) (c .before .if1 .taken))
+    refused-step (a .local) es s (opening (a .p)) 32 (c .refused .result)
+    (c .refused .ensures) (opening-deep s (a .p) (c .before .if1 .taken))
 
 add-t15 : tie.Need-add-t15
 add-t15 c = search needs
@@ -51,12 +52,14 @@ returns-2 c =
     let a = c .before .before .before .before .before .before .before .before .before .before .args in
     let e = c .before .enter-anew in
     let bad = e .result in
-    let is = sym (c .before .before .before .before .before .before .before .is-anew .ensures) ∙ c .before .before .before .before .before .before .if2 .taken in
+    let is = sym (c .before .before .before .before .before .before .before .is-anew .ensures)
+    ∙ c .before .before .before .before .before .before .if2 .taken in
     λ es created.
     let s = stateOf (a .sets .now) (a .possible .now) created (a .count) (a .unclosed .now) (a .order .now) (a .depth) false in
     let t = opened true s (a .p) in
     settled-step s t bad (a .local) es (opening (a .p)) (c .settled .result) refl (e .ensures .0)
-    (opening-free s (a .p) (c .before .before .before .before .before .before .before .before .before .if1 .left)) (ap (λ (b : Bool). opened b s (a .p)) (sym is)) (c .settled .ensures)
+    (opening-free s (a .p) (c .before .before .before .before .before .before .before .before .before .if1 .left))
+    (ap (λ (b : Bool). opened b s (a .p)) (sym is)) (c .settled .ensures)
     (e .ensures .1 .0) (e .ensures .1 .1 .0) (kept s t bad created) (e .ensures .1 .1 .1 .0) (e .ensures .1 .1 .1 .1)
 
 enter-requires : tie.Need-enter-requires
@@ -73,12 +76,14 @@ returns-3 c =
     let a = c .before .before .before .before .before .before .before .before .before .args in
     let e = c .before .enter in
     let bad = e .result in
-    let is = sym (c .before .before .before .before .before .before .is-anew .ensures) ∙ c .before .before .before .before .before .if2 .left in
+    let is = sym (c .before .before .before .before .before .before .is-anew .ensures)
+    ∙ c .before .before .before .before .before .if2 .left in
     λ es created.
     let s = stateOf (a .sets .now) (a .possible .now) created (a .count) (a .unclosed .now) (a .order .now) (a .depth) false in
     let t = opened false s (a .p) in
     settled-step s t bad (a .local) es (opening (a .p)) (c .settled2 .result) refl (e .ensures .0)
-    (opening-free s (a .p) (c .before .before .before .before .before .before .before .before .if1 .left)) (ap (λ (b : Bool). opened b s (a .p)) (sym is)) (c .settled2 .ensures)
+    (opening-free s (a .p) (c .before .before .before .before .before .before .before .before .if1 .left))
+    (ap (λ (b : Bool). opened b s (a .p)) (sym is)) (c .settled2 .ensures)
     (kept s t bad (a .sets .now)) (kept s t bad (a .possible .now)) (kept s t bad created) (e .ensures .1 .0) (e .ensures .1 .1)
 
 pub judge-opening-spec : {M : Type 1} → statement M

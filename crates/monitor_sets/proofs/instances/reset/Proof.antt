@@ -17,7 +17,8 @@ reset-policy-requires : tie.Need-reset-policy-requires
 reset-policy-requires c κs = search needs
 
 returns-3 : tie.Need-returns-3
-returns-3 c = c .reset-policy .ensures ∙ sym (simp (le-leb _ _ (c .before .before .before .before .before .if1 .left), lt-ltb _ _ (c .before .before .before .before .if2 .left)))
+returns-3 c = c .reset-policy .ensures ∙ sym
+    (simp (le-leb _ _ (c .before .before .before .before .before .if1 .left), lt-ltb _ _ (c .before .before .before .before .if2 .left)))
 
 pub reset-spec : {M : Type 1} → statement M
 reset-spec = tie.close (tie.spec returns returns-2 sets-known-requires reset-policy-requires returns-3)

@@ -35,7 +35,8 @@ returns-3 c =
     let e = sym (t .ensures .0) ∙ w in (
       simp (le-leb _ _ (c .before .before .before .before .before .if1 .left), e)
           (agrees (stackIn (a .depth) (a .order .now)) (a .unclosed .now) (c .agree .result)
-          (λ h. c .agree .ensures .0 (λ p l. t .ensures .1 w p l ∙ h p l)) (λ e p l. sym (t .ensures .1 w p l) ∙ c .agree .ensures .1 e p l)),
+          (λ h. c .agree .ensures .0 (λ p l. t .ensures .1 w p l ∙ h p l))
+          (λ e p l. sym (t .ensures .1 w p l) ∙ c .agree .ensures .1 e p l)),
       c .before .before .before .before .before .before .order-length .ensures,
     )
 

@@ -87,7 +87,8 @@ returns c =
     let m = c .before .before .before .before .outcome-number in
     let d = c .before .before .before .outcome-detail in
     let k = c .before .before .before .before .before .before .check in
-    let room = c .before .before .before .before .before .before .before .before .before .before .before .before .before .before .before .before .before .before .pre in
+    let room = c .before .before .before .before .before .before .before .before .before
+    .before .before .before .before .before .before .before .before .before .pre in
     let b : Fits w8 (d .result) = search needs in
     put-checked (a .local) (now (a .edges)) (now (a .text)) (now (a .out)) (w .last .0) (a .at) (w .result) room (r .last .1 .0) n h
     (outcomeVerdict (k .result)) (m .result) (d .result) (k .ensures) (m .ensures) (d .ensures) (b .fits) (w .ensures .0) (w .ensures .1)
@@ -102,7 +103,8 @@ returns-2 c =
     let g = c .before .before .before .before .before .reading2 .given in
     let w = c .before .before .row2 in
     let z = outline-refused-as (now (a .text)) (g .0 .0) (g .0 .1 .0) (rw (g .1) at (r .ensures .0)) in
-    put-refused (a .local) (now (a .edges)) (now (a .text)) (now (a .out)) (w .last .0) (a .at) (w .result) (omega arith) (g .0 .0) (g .0 .1 .0) z
+    put-refused (a .local) (now (a .edges)) (now (a .text)) (now (a .out))
+    (w .last .0) (a .at) (w .result) (omega arith) (g .0 .0) (g .0 .1 .0) z
     allowed (w .ensures .0) (w .ensures .1)
 
 pub row-spec : {M : Type 1} → statement M

@@ -10,14 +10,16 @@ use borrow.Author.Needs.{needs}
 use Rattle.report.proofs.trace.judge_all.Statement.{statement}
 use Rattle.report.proofs.trace.judge_all.Tie as tie
 
--- the state lies in its parts: the sets, what each policy may be in, the created resources, their count, the unclosed openings, their order, how many
--- they are, and whether it is halted
+-- the state lies in its parts: the sets, what each policy may be in, the created resources, their count, the unclosed openings, their
+-- order, how many they are, and whether it is halted
 abbrev Inv-loop : tie.InvT-loop
-Inv-loop edges local steps out₀ at n sets₀ possible₀ created₀ unclosed₀ order₀ count₀ depth₀ halted₀ next₀ i₀ out ss possible created unclosed order count depth halted next i =
+Inv-loop edges local steps out₀ at n sets₀ possible₀ created₀ unclosed₀ order₀ count₀ depth₀
+    halted₀ next₀ i₀ out ss possible created unclosed order count depth halted next i =
     Going edges local steps n out₀ at out (stateOf ss possible created count unclosed order depth halted) next i
 
 abbrev μ-loop : tie.MeasureT-loop
-μ-loop edges local steps out₀ at n sets₀ possible₀ created₀ unclosed₀ order₀ count₀ depth₀ halted₀ next₀ i₀ out ss possible created unclosed order count depth halted next i = n - i
+μ-loop edges local steps out₀ at n sets₀ possible₀ created₀ unclosed₀ order₀ count₀ depth₀
+    halted₀ next₀ i₀ out ss possible created unclosed order count depth halted next i = n - i
 
 start-requires : tie.Need-start-requires Inv-loop μ-loop
 start-requires c κs = search needs
@@ -47,7 +49,8 @@ row-requires c κs = search needs
 
 add-i : tie.Need-add-i Inv-loop μ-loop
 add-i c =
-    let p = c .before .before .before .before .before .before .before .before .before .before .before .before .before .before .before .before .before .before .before .before .before .before .before .before .pre .0 in
+    let p = c .before .before .before .before .before .before .before .before .before .before .before .before
+    .before .before .before .before .before .before .before .before .before .before .before .before .pre .0 in
     let t = c .before .before .before .before .before .before .before .before .before .before .before .before .before .before .loop in
     let q = c .before .before .before .before .before .before .before .before .before .before .before .before .before .loop-test .taken in
     record { fits = omega arith }
@@ -57,11 +60,13 @@ loop-less c = search needs
 
 loop-again : tie.Need-loop-again Inv-loop μ-loop
 loop-again c =
-    let p = c .before .before .before .before .before .before .before .before .before .before .before .before .before .before .before .before .before .before .before .before .before .before .before .before .pre .0 in
+    let p = c .before .before .before .before .before .before .before .before .before .before .before .before
+    .before .before .before .before .before .before .before .before .before .before .before .before .pre .0 in
     let k = c .before .before .before .before .before .before .judge-lent in
     let r = c .before .before .row in
     going-on (c .before .before .before .before .before .before .before .before .before .before .before .before .before .before .loop .inv)
-    (judgementOf (k .result) (k .last .1 .1 .0) (k .last .1 .1 .1 .0) (k .last .1 .1 .1 .1 .0) (k .last .1 .1 .1 .1 .1 .0) (k .last .1 .1 .1 .1 .1 .1 .0))
+    (judgementOf (k .result) (k .last .1 .1 .0) (k .last .1 .1 .1 .0)
+    (k .last .1 .1 .1 .1 .0) (k .last .1 .1 .1 .1 .1 .0) (k .last .1 .1 .1 .1 .1 .1 .0))
     (c .before .before .before .before .before .before .before .step-at .ensures)
     (k .ensures) (c .before .before .before .before .number-of .ensures) (c .before .before .before .detail-of .ensures)
     (r .ensures .0) (r .ensures .1)
