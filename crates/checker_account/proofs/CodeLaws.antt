@@ -1,16 +1,14 @@
 -- What the code's tests say of a start, and the bounds of the places that it reads.
-use Prim.Native.Nat.{ℕ, zero, suc, _+_, _*_, _%_, _^_, _<_, _≤_}
+use Prim.Native.Nat.{ℕ, zero, suc, _+_, _*_, _%_, _<_, _≤_}
 use mathlib.Core.Path.{_≡_, refl, ap, _∙_}
 use mathlib.Core.Bool.{Bool, true, false, _||_, cond}
 use mathlib.Core.Option.{none}
 use mathlib.Core.List.{List, []}
-use native.Mathlib.Nat.{one-mul}
 use native.Mathlib.Numerals.{add-one}
 use native.Mathlib.Omega.{arith}
-use lib.Dec.{eqb, lit<}
-use lib.Pow.{shl-exact}
+use lib.Dec.{eqb}
 use borrow.Author.Tests.{lt-ltb, le-ltb}
-use Rattle.usage.specs.Limits.{statics, states, mostNodes}
+use Rattle.usage.specs.Limits.{statics, mostNodes}
 use Rattle.usage.specs.Outline.{formOf}
 use Rattle.usage.specs.Tests.{someBelow}
 use Rattle.checker_account.specs.Tables.{least, made, forgotten, meaningAfter, kept, place, Rows, arrivals, leaves, places, unnamed}
@@ -67,10 +65,7 @@ pub place-lt : (k : ℕ) (o : Bool) (m : ℕ) → k < mostNodes → m < meanings
 place-lt k false m h l = omega arith
 place-lt k true m h l = omega arith
 
--- ── The bit of a state, and the kinds of node ──
-
-pub shl-one : (q : ℕ) → q < states → 1 * 2 ^ q % 2 ^ 16 ≡ 2 ^ q
-shl-one q h = shl-exact {a = 1} 1 q 16 (lit< tt) (omega arith) ∙ one-mul (2 ^ q)
+-- ── The kinds of node ──
 
 -- what holds of each kind and of every number above them holds of every number
 pub by-kind : (P : ℕ → Type 0) → P 0 → P 1 → P 2 → P 3 → P 4 → P 5 → P 6 → P 7 → P 8

@@ -3,7 +3,7 @@ use Prim.Native.Nat.{ℕ, suc, _+_, _<_, _≤_, min}
 use mathlib.Core.Path.{_≡_, refl, sym, _∙_, ap, subst}
 use mathlib.Core.Bool.{Bool, true, false, _||_, or-true}
 use mathlib.Core.Option.{Option, some, Option·some-injective}
-use mathlib.Core.List.{List, [], _∷_, List·Memᴰ, List·Memᴰ·cases-cons, List·Memᴰ·not-nil}
+use mathlib.Core.List.{List, [], _∷_}
 use mathlib.Core.Logic.{_⊎_, inl, inr}
 use native.Mathlib.Omega.{arith}
 use native.Mathlib.Decide.{ℕ-discrete}
@@ -16,7 +16,6 @@ use Rattle.usage.specs.Policy.{Sees, Moves, Offending, EdgesOk}
 use Rattle.usage.specs.Past.{Step, event, opening, closing, Past, addIf, count, creates, isOpen, reopened, May, start, moved, opened}
 use Rattle.usage.specs.Past.{closed, Occurs, Violates, Numbered}
 use Rattle.usage.specs.Outline.{Is, on-name, fresh, Names, noNames, give, Part, node, close, Advance, Runs, IsTrace}
-use Rattle.usage.proofs.Logic.{clash}
 use Rattle.usage.proofs.PastLaws.{occurs-later, unseen, occurs-none, occurs-event, occurs-opening, occurs-closing}
 use Rattle.usage.proofs.TraceLaws.{closings-to-run}
 use Rattle.checker_account.specs.Witness.{watched, others, noName, meant, forget, Last, Counts, Aim, ended, broken, Made, an-event}
@@ -27,17 +26,6 @@ use Rattle.checker_account.proofs.Carry.{turn, carry, same-static, same
 use Rattle.checker_account.proofs.Meaning.{meant-own, meant-other, Means, means-none, means-other, means-own, Known, known-none}
 use Rattle.checker_account.proofs.Meaning.{known-more, known-give}
 use Rattle.checker_account.proofs.Unclosed.{open-more, unclosed-open, open-level}
-
--- what occurs once the newest step is taken away
-
-same-resource : (a r b s : ℕ) → _≡_ {A = Step} (event a r) (event b s) → r ≡ s
-same-resource a r b s e = cc
-
-not-opening : (a r s : ℕ) → _≡_ {A = Step} (event a r) (opening s) → ⊥
-not-opening a r s e = clash (cc)
-
-not-closing : (a r s : ℕ) → _≡_ {A = Step} (event a r) (closing s) → ⊥
-not-closing a r s e = clash (cc)
 
 -- the numbers of fresh resources
 

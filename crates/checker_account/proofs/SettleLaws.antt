@@ -1,6 +1,6 @@
 -- Filling the table of ends: each step of it only joins sets, and those that the rules give, and keeps the entries within 16 bits.
-use Prim.Native.Nat.{ℕ, zero, suc, _+_, _-_, _*_, _/_, _%_, _^_, _<_, _≤_}
-use mathlib.Core.Path.{_≡_, refl, sym, ap, _∙_, subst}
+use Prim.Native.Nat.{ℕ, zero, suc, _+_, _-_, _^_, _<_, _≤_}
+use mathlib.Core.Path.{_≡_, ap, subst}
 use mathlib.Core.Bool.{Bool, true, false, cond}
 use mathlib.Core.Option.{Option, none, some}
 use mathlib.Core.List.{List}
@@ -54,13 +54,6 @@ pub node-grows : (rows : Rows) (x : ℕ) (resets : Resets) (l k : ℕ) (f : Opti
 unfolding settleNode
 node-grows rows x resets l k f t =
     repeat-grows (λ i. settleMeaning rows x resets k f (l + i)) (λ i. meaning-grows rows x resets k f (l + i)) (meanings - l) t
-
-pub round-grows : (rows : Rows) (x : ℕ) (resets : Resets) (l n : ℕ) (forms : Forms) (t : List ℕ)
-    → Grows t (settleRound rows x resets l n forms t)
-unfolding settleRound
-round-grows rows x resets l n forms t =
-    repeat-grows (λ i. settleNode rows x resets l (n - 1 - i) (forms (n - 1 - i)))
-    (λ i. node-grows rows x resets l (n - 1 - i) (forms (n - 1 - i))) n t
 
 -- ── They derive, and where a round changes nothing, no rule adds anything ──
 
@@ -177,9 +170,3 @@ module _ (rows : Rows) (x : ℕ) (resets : Resets) (lent : WideLent resets) wher
   unfolding settleNode
   node-wide l k f t w =
       repeat-keeps Wide (λ i. settleMeaning rows x resets k f (l + i)) (meanings - l) (λ i t h w. meaning-wide k f (l + i) t w) t w
-
-  pub round-wide : (l n : ℕ) (forms : Forms) (t : List ℕ) → Wide t → Wide (settleRound rows x resets l n forms t)
-  unfolding settleRound
-  round-wide l n forms t w =
-      repeat-keeps Wide (λ i. settleNode rows x resets l (n - 1 - i) (forms (n - 1 - i))) n
-      (λ i t h w. node-wide l (n - 1 - i) (forms (n - 1 - i)) t w) t w
