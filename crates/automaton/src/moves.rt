@@ -41,16 +41,19 @@ fn follow(
     ensures { λ r. ⌜ now (own .exit) ≡ joined (now (own .entry)) policy from (endOf on who to true resource) ⌝ }
     ensures { λ r. ⌜ now (other .exit) ≡ joined (now (other .entry)) policy from (endOf on who to false resource) ⌝ }
 {
-    match on {
-        0 => {
-            if resource == who as u32 {
-                join(own, policy, from, to);
-                join(other, policy, from, to);
-            }
+    if on == 1 {
+        join(own, policy, from, to);
+        return;
+    }
+    if on == 2 {
+        join(other, policy, from, to);
+        return;
+    }
+    if on == 0 {
+        if resource == who as u32 {
+            join(own, policy, from, to);
+            join(other, policy, from, to);
         }
-        1 => join(own, policy, from, to),
-        2 => join(other, policy, from, to),
-        _ => {}
     }
 }
 
@@ -99,11 +102,10 @@ fn follow_fours(
 {
     let mut i: usize = 0;
     while i < n {
-        let k = 4 * i;
-        follow_edge(edges, k, a, resource, own, other);
-        follow_edge(edges, k + 1, a, resource, own, other);
-        follow_edge(edges, k + 2, a, resource, own, other);
-        follow_edge(edges, k + 3, a, resource, own, other);
+        follow_edge(edges, 4 * i, a, resource, own, other);
+        follow_edge(edges, 4 * i + 1, a, resource, own, other);
+        follow_edge(edges, 4 * i + 2, a, resource, own, other);
+        follow_edge(edges, 4 * i + 3, a, resource, own, other);
         i += 1;
     }
 }

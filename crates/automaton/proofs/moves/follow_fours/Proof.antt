@@ -28,11 +28,14 @@ loop-holds c =
       ),
     )
 
-mul-k : tie.Need-mul-k Inv-loop μ-loop
-mul-k c = search needs
+mul-follow-edge : tie.Need-mul-follow-edge Inv-loop μ-loop
+mul-follow-edge c = search needs
 
 follow-edge-requires : tie.Need-follow-edge-requires Inv-loop μ-loop
 follow-edge-requires c κs = search needs
+
+mul-follow-edge-2 : tie.Need-mul-follow-edge-2 Inv-loop μ-loop
+mul-follow-edge-2 c = search needs
 
 add-follow-edge : tie.Need-add-follow-edge Inv-loop μ-loop
 add-follow-edge c = search needs
@@ -40,11 +43,17 @@ add-follow-edge c = search needs
 follow-edge-requires-2 : tie.Need-follow-edge-requires-2 Inv-loop μ-loop
 follow-edge-requires-2 c κs = search needs
 
+mul-follow-edge-3 : tie.Need-mul-follow-edge-3 Inv-loop μ-loop
+mul-follow-edge-3 c = search needs
+
 add-follow-edge-2 : tie.Need-add-follow-edge-2 Inv-loop μ-loop
 add-follow-edge-2 c = search needs
 
 follow-edge-requires-3 : tie.Need-follow-edge-requires-3 Inv-loop μ-loop
 follow-edge-requires-3 c κs = search needs
+
+mul-follow-edge-4 : tie.Need-mul-follow-edge-4 Inv-loop μ-loop
+mul-follow-edge-4 c = search needs
 
 add-follow-edge-3 : tie.Need-add-follow-edge-3 Inv-loop μ-loop
 add-follow-edge-3 c = search needs
@@ -86,12 +95,15 @@ follow-fours-spec =
     Inv-loop
     μ-loop
     loop-holds
-    mul-k
+    mul-follow-edge
     follow-edge-requires
+    mul-follow-edge-2
     add-follow-edge
     follow-edge-requires-2
+    mul-follow-edge-3
     add-follow-edge-2
     follow-edge-requires-3
+    mul-follow-edge-4
     add-follow-edge-3
     follow-edge-requires-4
     add-i
