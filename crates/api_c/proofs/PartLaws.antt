@@ -4,10 +4,9 @@ use mathlib.Core.Path.{_≡_, refl, sym, ap, _∙_}
 use mathlib.Core.Bool.{Bool, true, false, not, _&&_, cond}
 use mathlib.Core.List.{List, [], _∷_}
 use borrow.Author.Tests.{le-leb, lt-leb}
-use lib.Dec.{eqb, leb}
-use lib.ListN.{getD}
+use lib.Dec.{leb}
 use Rattle.usage.specs.declared.RawStep.{RawStep}
-use Rattle.usage.specs.Answers.{Verdict, allowed, violated, refused}
+use Rattle.usage.specs.Answers.{refused}
 use Rattle.usage.specs.Tables.{edgeTable}
 use Rattle.usage.proofs.Logic.{clash, false-true}
 use Rattle.monitor_state.specs.declared.State.{State}

@@ -1,6 +1,6 @@
 -- The laws of sets of states as bit masks.
 use Prim.Native.Nat.{ℕ, zero, suc, _+_, _*_, _/_, _%_, _^_, _<_, _≤_, max}
-use mathlib.Core.Path.{_≡_, refl, sym, ap, ap₂, _∙_, subst}
+use mathlib.Core.Path.{_≡_, refl, sym, ap, ap₂, _∙_}
 use mathlib.Core.Bool.{Bool, true, false, not, _&&_, _||_, cond, Bool·beq}
 use mathlib.Core.Logic.{_⊎_, inl, inr}
 use native.Mathlib.Nat.{zero-div, mod-lt, one-mul, mod-eq-of-lt}
@@ -10,11 +10,11 @@ use lib.Dec.{eqb, ltb, leb, lit<}
 use lib.Bits.{bitOr, or-step, or-shr, or-mod, or-lt, or-add-and, and-le-l, and-le-r}
 use lib.Count.{trailingZeros}
 use lib.Pow.{pow-lt}
-use borrow.Author.Tests.{eq-eqb, eqb-true, le-leb, leb-true, lt-ltb}
+use borrow.Author.Tests.{eq-eqb, eqb-true, leb-true, lt-ltb}
 use Rattle.usage.specs.Tests.{someBelow}
-use Rattle.usage.proofs.Logic.{false-true, not-both, or-left, or-right, or-cases, and-left, and-right, and-both, last-or-lower, not-true}
+use Rattle.usage.proofs.Logic.{false-true, not-both, or-left, or-right, or-cases, and-left, and-right, last-or-lower, not-true}
 use Rattle.usage.proofs.Logic.{both-ways}
-use Rattle.automaton.specs.Mask.{has, single, union, offends, lowestIn}
+use Rattle.automaton.specs.Mask.{has, single, union, lowestIn}
 
 pub same-test : (a b : Bool) → Bool·beq a b ≡ true → a ≡ b
 same-test true true e = refl

@@ -1,19 +1,17 @@
 -- What moving a set of states gives is where its members may move: first over any test of edges, then for one resource.
-use Prim.Native.Nat.{ℕ, zero, suc, _+_, _*_, _/_, _%_, _^_, _<_, _≤_}
+use Prim.Native.Nat.{ℕ, zero, suc, _<_}
 use mathlib.Core.Path.{_≡_, refl, sym, ap, _∙_, subst}
 use mathlib.Core.Bool.{Bool, true, false, not, _&&_, _||_, cond}
 use mathlib.Core.List.{List, [], _∷_, List·Memᴰ, List·Memᴰ·not-nil, List·Memᴰ·cases-cons, List·Memᴰ·head, List·Memᴰ·tail}
-use mathlib.Core.Logic.{_⊎_, inl, inr, _↔_}
-use native.Mathlib.Omega.{arith}
+use mathlib.Core.Logic.{_⊎_, inl, inr}
 use lib.Dec.{eqb, lit<}
 use lib.Bits.{bitOr, or-zero-l, or-lt}
-use borrow.Author.Tests.{eq-eqb, ne-eqb, eqb-true, eqb-false}
+use borrow.Author.Tests.{eq-eqb, eqb-true}
 use Rattle.usage.specs.declared.Edge.{Edge}
 use Rattle.usage.specs.Limits.{states}
-use Rattle.usage.specs.Policy.{Sees, named, own, other, Fires, Moves, along, stays, EdgesOk}
-use Rattle.usage.specs.Tests.{someBelow}
+use Rattle.usage.specs.Policy.{Sees, named, own, other, Moves, along, stays, EdgesOk}
 use Rattle.usage.proofs.Logic.{false-true, not-both, or-left, or-right, or-cases, and-left, and-right, and-both}
-use Rattle.automaton.specs.Mask.{has, single, union}
+use Rattle.automaton.specs.Mask.{has, single}
 use Rattle.automaton.specs.Move.{part, targets, image, move, labelled, fires, moveMask}
 use Rattle.automaton.proofs.MaskLaws.{some-at, some-found, has-or, has-zero, has-single, single-lt, union-has, union-lt}
 

@@ -1,21 +1,20 @@
 -- The nodes of an accepted outline: their fields are small enough for the tables, and the flat table tells their forms.
-use Prim.Native.Nat.{ℕ, zero, suc, _/_, _<_}
+use Prim.Native.Nat.{ℕ, _/_, _<_}
 use mathlib.Core.Path.{_≡_, refl, sym, ap, _∙_}
 use mathlib.Core.Bool.{Bool, true, false}
 use mathlib.Core.Option.{some}
 use mathlib.Core.List.{List}
-use native.Mathlib.Omega.{arith}
 use lib.Dec.{leb}
-use lib.ListN.{length, getElem?}
+use lib.ListN.{length}
 use borrow.Author.Tests.{leb-true, leb-false}
 use Rattle.usage.specs.declared.Node.{Node}
-use Rattle.usage.specs.Limits.{fit, nodeFields}
-use Rattle.usage.specs.Outline.{Form, nodeKinds, formIn, formAt}
-use Rattle.usage.specs.Valid.{NodeOk, OutlineOk}
-use Rattle.usage.specs.Tables.{nodeAt, nodesOf}
+use Rattle.usage.specs.Limits.{nodeFields}
+use Rattle.usage.specs.Outline.{Form, formIn, formAt}
+use Rattle.usage.specs.Valid.{OutlineOk}
+use Rattle.usage.specs.Tables.{nodesOf}
 use Rattle.usage.proofs.Logic.{none-some}
 use Rattle.usage.proofs.FormLaws.{form-ok}
-use Rattle.usage.proofs.TableLaws.{nodes-at, nodes-past, nodes-member}
+use Rattle.usage.proofs.TableLaws.{nodes-at, nodes-past}
 use Rattle.checker_account.specs.Holds.{NamesOk, TargetsOk}
 use Rattle.checker_account.specs.Rounds.{FormsOf, formsIn}
 

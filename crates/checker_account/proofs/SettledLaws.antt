@@ -1,5 +1,5 @@
 -- Filling the table of ends node by node: a node is settled again only where one of its parts has changed.
-use Prim.Native.Nat.{ℕ, zero, suc, _+_, _-_, _*_, _<_, _≤_}
+use Prim.Native.Nat.{ℕ, zero, suc, _+_, _-_, _<_, _≤_}
 use mathlib.Core.Path.{_≡_, refl, sym, ap, ap₂, _∙_, subst}
 use mathlib.Core.Bool.{Bool, true, false, cond}
 use mathlib.Core.Option.{Option, none, some}
@@ -40,7 +40,7 @@ use Rattle.checker_account.specs.Tables.{
 use Rattle.checker_account.specs.Rounds.{repeat, joinedEach, endsOf, settleMeaning, settleNode}
 use Rattle.checker_account.proofs.CodeLaws.{forgotten-lt, after-lt}
 use Rattle.checker_account.proofs.RoundLaws.{joined-grows, repeat-keeps, repeat-grows}
-use Rattle.checker_account.proofs.SettleLaws.{meaning-grows, each-grows, node-closed}
+use Rattle.checker_account.proofs.SettleLaws.{meaning-grows, node-closed}
 
 -- ── What is in an entry ──
 

@@ -10,7 +10,7 @@ use Rattle.usage.specs.declared.Edge.{Edge}
 use Rattle.usage.specs.declared.Node.{Node}
 use Rattle.usage.specs.Limits.{statics}
 use Rattle.checker_account.specs.Witness.{watched, others, noName, meant, forget, Goes, Ends}
-use Rattle.checker_account.specs.Tables.{unnamed, meanings, least, nameOf, made, forgotten, meaningAfter, starts}
+use Rattle.checker_account.specs.Tables.{unnamed, meanings, least, nameOf, made, forgotten, meaningAfter}
 use Rattle.checker_account.specs.Holds.{Start}
 
 -- what is made stays made

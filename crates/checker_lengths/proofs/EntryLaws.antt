@@ -5,15 +5,15 @@ use mathlib.Core.Bool.{Bool, true, false, _&&_, cond}
 use mathlib.Core.List.{List}
 use native.Mathlib.Omega.{arith}
 use native.Mathlib.Decide.{decLe}
-use lib.Dec.{eqb, ltb, leb}
+use lib.Dec.{eqb, ltb}
 use lib.ListN.{getD}
 use borrow.Author.Tests.{ltb-true, lt-ltb, le-ltb, le-leb, lt-leb, eq-eqb, ne-eqb}
 use Rattle.usage.specs.Limits.{states, mostNodes, mostShown}
-use Rattle.usage.proofs.Logic.{and-left, and-right, and-both, not-both}
+use Rattle.usage.proofs.Logic.{and-left, and-right}
 use Rattle.checker_lengths.specs.declared.Entry.{Entry}
 use Rattle.checker_account.specs.Tables.{made, meanings, starts}
 use Rattle.checker_lengths.specs.Offers.{toward, lowEnd}
-use Rattle.checker_lengths.specs.Entries.{size, noLength, entryOf, nodesBefore, linear, inTable, below, held, plus, aims}
+use Rattle.checker_lengths.specs.Entries.{noLength, entryOf, nodesBefore, linear, inTable, below, held, plus, aims}
 
 pub record Bounds (e : Entry) : Type 0 where
   pub node : e .node < mostNodes

@@ -1,11 +1,10 @@
 -- A full table holds the least lengths.
-use Prim.Native.Nat.{ℕ, zero, suc, _/_, _<_, _≤_}
+use Prim.Native.Nat.{ℕ, _/_, _<_, _≤_}
 use mathlib.Core.Path.{_≡_, refl, sym, ap, _∙_, subst}
 use mathlib.Core.Bool.{Bool, true, false}
 use mathlib.Core.Option.{Option, none, some}
 use mathlib.Core.List.{List}
 use native.Mathlib.Omega.{arith}
-use native.Mathlib.Nat.{not-suc-le-zero, le-of-suc-le-suc}
 use native.Mathlib.Decide.{ℕ-discrete}
 use lib.ListN.{length, getD, set, replicate, length-replicate, length-set, getD-replicate}
 use lib.Seq.{getD-set-same, getD-set-other}
@@ -15,8 +14,7 @@ use Rattle.usage.specs.Outline.{Form, formOf, Is}
 use Rattle.usage.specs.Valid.{Scope}
 use Rattle.usage.specs.Tables.{nodesOf}
 use Rattle.usage.proofs.Logic.{false-true}
-use Rattle.checker_account.specs.Witness.{Aim, ended, broken, Goes}
-use Rattle.checker_account.specs.Tables.{at}
+use Rattle.checker_account.specs.Witness.{Aim, Goes}
 use Rattle.checker_account.specs.Least.{Begun, Aimed, at-end, at-break, Rule, Lengths, Least, Closed}
 use Rattle.checker_account.proofs.NodeLaws.{forms-of}
 use Rattle.checker_account.proofs.ScopedLaws.{scoped}
@@ -25,12 +23,12 @@ use Rattle.checker_account.proofs.LeastLaws.{rule-sound, closed-least}
 use Rattle.checker_lengths.proofs.NodeLaws.{node-in}
 use Rattle.checker_lengths.specs.declared.Entry.{Entry}
 use Rattle.checker_lengths.specs.Entries.{size, noLength, allLengths, entryOf, nodesBefore, linear, inTable, held}
-use Rattle.checker_lengths.specs.Offers.{lowEnd, offerOf, offerFrom, waysOf}
+use Rattle.checker_lengths.specs.Offers.{lowEnd, offerFrom, waysOf}
 use Rattle.checker_lengths.specs.Rounds.{formHere, Reach, start, falls, Settled, Full}
 use Rattle.checker_lengths.specs.Held.{aimAt, meaningOf, entriesIn, watchOf, Source}
-use Rattle.checker_lengths.proofs.EntryLaws.{Bounds, bounds, in-table, linear-lt, low-end-le, held-less, held-is}
-use Rattle.checker_lengths.proofs.Numbers.{aim-ended, aim-state, at-lt, start-of}
-use Rattle.checker_lengths.proofs.RuleLaws.{Offered, Reads, offered, small-node}
+use Rattle.checker_lengths.proofs.EntryLaws.{bounds, in-table, linear-lt, low-end-le, held-less, held-is}
+use Rattle.checker_lengths.proofs.Numbers.{aim-ended, aim-state, start-of}
+use Rattle.checker_lengths.proofs.RuleLaws.{Reads, offered, small-node}
 use Rattle.checker_lengths.proofs.RuledLaws.{Stands, ruled}
 
 -- ── Places ──

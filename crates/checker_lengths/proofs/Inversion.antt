@@ -1,6 +1,6 @@
 -- From a length that a rule gives back to what the rule read.
-use Prim.Native.Nat.{ℕ, zero, suc, _+_, _-_, _%_, _<_, _≤_}
-use mathlib.Core.Path.{_≡_, refl, sym, ap, _∙_}
+use Prim.Native.Nat.{ℕ, _+_, _-_, _%_, _<_, _≤_}
+use mathlib.Core.Path.{_≡_, refl, sym, _∙_}
 use mathlib.Core.Bool.{Bool, true, false, _&&_, cond}
 use mathlib.Core.List.{List}
 use mathlib.Core.Logic.{_⊎_, inl, inr}
@@ -10,12 +10,11 @@ use lib.Dec.{eqb, ltb, leb}
 use borrow.Author.Tests.{eqb-true, ltb-true, ltb-false, leb-true}
 use Rattle.usage.specs.Limits.{mostShown}
 use Rattle.usage.proofs.Logic.{and-left, and-right}
-use Rattle.usage.specs.Past.{reopened}
 use Rattle.checker_account.specs.Tables.{half}
 use Rattle.automaton.specs.Mask.{has, offends}
 use Rattle.checker_lengths.specs.declared.Entry.{Entry}
 use Rattle.checker_lengths.specs.declared.Watch.{Watch}
-use Rattle.checker_lengths.specs.Entries.{noLength, plus}
+use Rattle.checker_lengths.specs.Entries.{noLength}
 use Rattle.checker_lengths.specs.Offers.{
   lowEnd,
   oneIf,

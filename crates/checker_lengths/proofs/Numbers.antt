@@ -2,7 +2,6 @@
 use Prim.Native.Nat.{ℕ, zero, suc, _+_, _%_, _<_, _≤_}
 use mathlib.Core.Path.{_≡_, refl, sym, ap, _∙_, subst}
 use mathlib.Core.Bool.{Bool, true, false, cond}
-use mathlib.Core.Option.{none, some}
 use native.Mathlib.Omega.{arith}
 use native.Mathlib.Decide.{decLe}
 use lib.Dec.{ltb, leb}
@@ -13,7 +12,7 @@ use Rattle.checker_account.specs.Tables.{unnamed, nameOf, made, forgotten, at}
 use Rattle.checker_account.specs.Holds.{Start}
 use Rattle.checker_account.specs.Least.{Begun, Aimed, at-end, at-break}
 use Rattle.checker_account.proofs.Starts.{start-unnamed, start-any, forgotten-name, forgotten-made}
-use Rattle.checker_lengths.specs.Offers.{lowEnd, heir, named}
+use Rattle.checker_lengths.specs.Offers.{lowEnd, heir}
 use Rattle.checker_lengths.specs.Held.{noAim, aimAt, meaningOf}
 
 -- ── Aims ──

@@ -1,25 +1,24 @@
 -- What the code on single rules computes is what the definitions say.
 use Prim.Native.Nat.{ℕ, zero, suc, _+_, _-_, _/_, _%_, _^_, _<_, _≤_}
-use mathlib.Core.Path.{_≡_, refl, sym, ap, _∙_, subst}
-use mathlib.Core.Bool.{Bool, true, false, not, _&&_, _||_, cond}
+use mathlib.Core.Path.{_≡_, refl, sym, ap, _∙_}
+use mathlib.Core.Bool.{Bool, true, false, _&&_, _||_, cond}
 use mathlib.Core.List.{List}
 use mathlib.Core.Logic.{_⊎_, inl, inr}
 use native.Mathlib.Omega.{arith}
 use native.Mathlib.Numerals.{add-one}
-use lib.Dec.{eqb, ltb, leb}
+use lib.Dec.{eqb, leb}
 use lib.Bits.{bitAnd, and-mask}
-use borrow.Author.Tests.{ltb-true, lt-ltb, le-ltb, le-leb, lt-leb, eq-eqb, ne-eqb}
+use borrow.Author.Tests.{lt-ltb, le-ltb, le-leb, lt-leb, eq-eqb, ne-eqb}
 use Rattle.usage.specs.Limits.{mostShown}
 use Rattle.usage.specs.Past.{reopened}
-use Rattle.usage.proofs.Logic.{false-true, not-both}
 use Rattle.automaton.specs.Mask.{has}
-use Rattle.checker_account.specs.Tables.{nameOf, made, forgotten}
+use Rattle.checker_account.specs.Tables.{made}
 use Rattle.checker_account.proofs.CodeLaws.{made-some}
 use Rattle.checker_tables.specs.Search.{lost}
 use Rattle.checker_tables.proofs.MeaningLaws.{lost-name}
 use Rattle.checker_lengths.specs.declared.Entry.{Entry}
 use Rattle.checker_lengths.specs.declared.Watch.{Watch}
-use Rattle.checker_lengths.specs.Entries.{noLength, entryOf, held, plus}
+use Rattle.checker_lengths.specs.Entries.{noLength, entryOf, plus}
 use Rattle.checker_lengths.specs.Offers.{
   lowEnd,
   oneIf,

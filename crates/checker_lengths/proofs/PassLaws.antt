@@ -1,5 +1,5 @@
 -- One pass over some entries after another, and the pass over a single entry.
-use Prim.Native.Nat.{ℕ, zero, suc, _+_, _/_, _<_, _≤_}
+use Prim.Native.Nat.{ℕ, zero, suc, _+_, _<_, _≤_}
 use mathlib.Core.Path.{_≡_, refl, sym, ap, _∙_, subst}
 use mathlib.Core.Bool.{Bool, true, false}
 use mathlib.Core.Option.{Option}
@@ -15,8 +15,8 @@ use Rattle.checker_lengths.specs.declared.Entry.{Entry}
 use Rattle.checker_lengths.specs.declared.Watch.{Watch}
 use Rattle.checker_lengths.specs.Entries.{allLengths, linear, inTable, held}
 use Rattle.checker_lengths.specs.Offers.{offerFrom}
-use Rattle.checker_lengths.specs.Rounds.{formHere, Reach, falls, Settled}
-use Rattle.checker_lengths.specs.Code.{Lowers, Onward, Pass}
+use Rattle.checker_lengths.specs.Rounds.{Reach, falls, Settled}
+use Rattle.checker_lengths.specs.Code.{Lowers, Pass}
 
 -- ── Sums ──
 

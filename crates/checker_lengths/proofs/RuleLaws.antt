@@ -1,10 +1,10 @@
 -- The rules of the account over entries, and what the numbered rules give by a table: the same.
-use Prim.Native.Nat.{ℕ, zero, suc, _+_, _-_, _%_, _<_, _≤_}
+use Prim.Native.Nat.{ℕ, suc, _+_, _-_, _%_, _<_, _≤_}
 use mathlib.Core.Path.{_≡_, refl, sym, ap, ap₂, _∙_, subst}
-use mathlib.Core.Bool.{Bool, true, false, _&&_, _||_, cond}
-use mathlib.Core.Option.{Option, none, some}
+use mathlib.Core.Bool.{Bool, true, false, _&&_, cond}
+use mathlib.Core.Option.{Option}
 use mathlib.Core.List.{List}
-use mathlib.Core.Logic.{_⊎_, inl, inr}
+use mathlib.Core.Logic.{inl, inr}
 use native.Mathlib.Omega.{arith}
 use native.Mathlib.Decide.{decLe}
 use lib.Dec.{eqb, ltb, leb, lit<}
@@ -13,20 +13,17 @@ use Rattle.usage.specs.declared.Edge.{Edge}
 use Rattle.usage.specs.declared.Node.{Node}
 use Rattle.usage.specs.Limits.{statics, create, states, mostNodes, mostShown}
 use Rattle.usage.specs.Policy.{Sees, Moves, Offending}
-use Rattle.usage.specs.Past.{reopened}
 use Rattle.usage.specs.Outline.{Form, Is, end, on-static, on-name, sequence, choice, loop, back, fresh, sandbox}
 use Rattle.usage.proofs.Logic.{false-true, and-both}
 use Rattle.usage.proofs.FormLaws.{exists, form-ok}
 use Rattle.automaton.specs.Mask.{has, offends}
-use Rattle.checker_account.specs.Witness.{watched, others, noName, meant, forget, Last, Aim, ended, broken}
-use Rattle.checker_account.specs.Tables.{nameOf, made, forgotten, at, rowsIn, half}
-use Rattle.checker_account.specs.Holds.{Dynamic}
-use Rattle.checker_account.specs.Least.{Entries, Begun, Aimed, at-end, at-break, Rule}
+use Rattle.checker_account.specs.Witness.{watched, others, meant, Last, Aim, ended, broken}
+use Rattle.checker_account.specs.Tables.{made, forgotten, at, rowsIn, half}
+use Rattle.checker_account.specs.Least.{Entries, Begun, Aimed, Rule}
 use Rattle.checker_account.proofs.MaskLaws.{has-offends}
 use Rattle.checker_account.proofs.Starts.{meant-is, own-watched}
 use Rattle.checker_account.proofs.BegunLaws.{moves-states}
 use Rattle.checker_lengths.specs.declared.Entry.{Entry}
-use Rattle.checker_lengths.specs.declared.Watch.{Watch}
 use Rattle.checker_lengths.specs.Entries.{entryOf, plus, aims}
 use Rattle.checker_lengths.specs.Offers.{
   lowEnd,

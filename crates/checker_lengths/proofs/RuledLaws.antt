@@ -1,13 +1,13 @@
 -- What a numbered rule gives by a table, a rule of the account gives over the entries.
-use Prim.Native.Nat.{ℕ, zero, suc, _+_, _%_, _<_, _≤_}
-use mathlib.Core.Path.{_≡_, refl, sym, ap, ap₂, _∙_, subst}
+use Prim.Native.Nat.{ℕ, suc, _+_, _%_, _<_, _≤_}
+use mathlib.Core.Path.{_≡_, refl, sym, ap, _∙_, subst}
 use mathlib.Core.Bool.{Bool, true, false, _||_, cond}
 use mathlib.Core.Option.{none}
 use mathlib.Core.List.{List}
 use mathlib.Core.Logic.{_⊎_, inl, inr}
 use native.Mathlib.Omega.{arith}
 use native.Mathlib.Decide.{ℕ-discrete, decLe}
-use lib.Dec.{eqb, leb, lit<}
+use lib.Dec.{eqb, leb}
 use borrow.Author.Tests.{le-leb, lt-leb, eq-eqb, ne-eqb}
 use Rattle.usage.specs.declared.Edge.{Edge}
 use Rattle.usage.specs.declared.Node.{Node}
@@ -17,9 +17,9 @@ use Rattle.usage.specs.Past.{reopened}
 use Rattle.usage.specs.Outline.{Form, Is, end, on-static, on-name, sequence, choice, loop, back, fresh, sandbox}
 use Rattle.usage.proofs.Logic.{by-cases, false-true}
 use Rattle.usage.proofs.FormLaws.{form-ok}
-use Rattle.automaton.specs.Mask.{has, offends}
+use Rattle.automaton.specs.Mask.{has}
 use Rattle.checker_account.specs.Witness.{others, meant, Aim, ended, broken, each}
-use Rattle.checker_account.specs.Tables.{made, half}
+use Rattle.checker_account.specs.Tables.{made}
 use Rattle.checker_account.specs.Least.{Entries, Begun, Aimed, at-end, at-break, Rule}
 use Rattle.checker_account.proofs.MaskLaws.{has-none, offends-has}
 use Rattle.checker_account.proofs.Starts.{meant-is, own-watched}

@@ -14,7 +14,7 @@ use lib.Pow.{pow-pos, pow-lt, pow-mono, ones-lt, low, field, mod-mod-pow, shl-sh
 use lib.Count.{leadingZeros, leading-top}
 use lib.ListN.{length, getD, replicate}
 use lib.Seq.{getD-set-same}
-use borrow.Author.Tests.{eq-eqb, leb-true, leb-false}
+use borrow.Author.Tests.{leb-true, leb-false}
 use Rattle.usage.specs.Limits.{mostNodes, nodeFields}
 use Rattle.usage.specs.Tables.{nodeAt}
 use Rattle.usage.specs.Outline.{Form, end, on-static, on-name, sequence, choice, loop, back, fresh, sandbox, formOf}

@@ -1,14 +1,13 @@
 -- Sets of nodes as bits: one node, and the set with what its nodes lead to.
-use Prim.Native.Nat.{ℕ, zero, suc, _+_, _*_, _/_, _%_, _^_, _<_, _≤_}
+use Prim.Native.Nat.{ℕ, zero, suc, _*_, _/_, _%_, _^_, _<_, _≤_}
 use mathlib.Core.Path.{_≡_, refl, sym, ap, _∙_, subst}
-use mathlib.Core.Bool.{Bool, true, false, _||_, cond, Bool·beq}
+use mathlib.Core.Bool.{Bool, true, false, cond, Bool·beq}
 use mathlib.Core.List.{List}
 use mathlib.Core.Logic.{_⊎_, inl, inr}
 use native.Mathlib.Omega.{arith}
 use native.Mathlib.Nat.{one-mul}
 use native.Mathlib.Decide.{decLe}
-use lib.Dec.{eqb, ltb, lit<}
-use lib.Bits.{bitOr}
+use lib.Dec.{eqb, lit<}
 use lib.Pow.{shl-exact}
 use lib.ListN.{length}
 use borrow.Author.Tests.{eqb-true, eq-eqb, lt-ltb, le-ltb}
@@ -22,7 +21,7 @@ use Rattle.checker_lengths.specs.declared.Entry.{Entry}
 use Rattle.checker_lengths.specs.Rounds.{formHere}
 use Rattle.checker_trace.specs.declared.Names.{Names}
 use Rattle.checker_trace.specs.declared.Spot.{Spot}
-use Rattle.checker_trace.specs.Code.{bitOf, joinIf, leadsOf, leadsFrom, spreadTo, Spreads, begins, further, Closure}
+use Rattle.checker_trace.specs.Code.{bitOf, joinIf, leadsOf, leadsFrom, spreadTo, Spreads, begins, further}
 
 abbrev pub names-of : List ℕ → Names
 names-of l = record { numbers = l }

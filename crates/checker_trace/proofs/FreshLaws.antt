@@ -1,35 +1,31 @@
 -- What is written for a fresh node: its creation, and then what is written for its body.
-use Prim.Native.Nat.{ℕ, zero, suc, _+_, _-_, _*_, _/_, _%_, _<_, _≤_}
-use mathlib.Core.Path.{_≡_, refl, sym, ap, ap₂, _∙_, subst}
-use mathlib.Core.Bool.{Bool, true, false, _||_, cond}
-use mathlib.Core.Option.{Option, none, some}
-use mathlib.Core.List.{List, [], _∷_}
-use mathlib.Core.Logic.{_⊎_, inl, inr}
+use Prim.Native.Nat.{ℕ, suc, _-_, _/_, _%_, _<_, _≤_}
+use mathlib.Core.Path.{_≡_, refl, sym, ap, _∙_, subst}
+use mathlib.Core.Bool.{Bool, true, false}
+use mathlib.Core.Option.{none, some}
+use mathlib.Core.List.{List, _∷_}
 use native.Mathlib.Omega.{arith}
-use native.Mathlib.Decide.{ℕ-discrete, decLe}
-use lib.Dec.{eqb, leb}
-use lib.ListN.{length, getD}
-use borrow.Author.Tests.{le-leb, lt-leb, eq-eqb, ne-eqb}
+use native.Mathlib.Decide.{decLe}
+use lib.Dec.{leb}
+use lib.ListN.{length}
+use borrow.Author.Tests.{le-leb, lt-leb}
 use Rattle.usage.specs.declared.Edge.{Edge}
 use Rattle.usage.specs.Limits.{mostShown, create, mostNodes, nodeFields}
-use Rattle.usage.specs.Policy.{Offending}
-use Rattle.usage.specs.Past.{Step, event, opening, closing, Past, reopened}
+use Rattle.usage.specs.Past.{event, Past}
 use Rattle.usage.specs.Outline as outline
-use Rattle.usage.specs.Outline.{Form, Is, end, on-static, on-name, sequence, choice, loop, back, fresh, sandbox, give}
+use Rattle.usage.specs.Outline.{Is, fresh, give}
 use Rattle.usage.specs.Valid.{Scope}
 use Rattle.usage.specs.Tables.{nodesOf}
 use Rattle.usage.proofs.Logic.{by-cases, false-true}
 use Rattle.usage.proofs.FormLaws.{form-ok}
 use Rattle.automaton.specs.Mask.{has}
-use Rattle.checker_account.specs.Witness.{Aim, ended, broken, each, forget}
+use Rattle.checker_account.specs.Witness.{Aim, broken, each, forget}
 use Rattle.checker_account.specs.Written.{next, Written}
-use Rattle.checker_account.specs.Tables.{nameOf}
-use Rattle.checker_account.specs.Least.{Begun, Aimed, at-end, at-break, Least, PassesAll}
+use Rattle.checker_account.specs.Least.{Begun}
 use Rattle.checker_account.proofs.MaskLaws.{offends-has}
 use Rattle.checker_account.proofs.ScopedLaws.{scoped}
-use Rattle.checker_account.proofs.BegunLaws.{begun-ended, begun-other, begun-own, begun-opened}
-use Rattle.checker_account.proofs.Writing.{given-fresh, written-length}
-use Rattle.checker_account.proofs.Reader.{passes-written}
+use Rattle.checker_account.proofs.BegunLaws.{begun-other, begun-own}
+use Rattle.checker_account.proofs.Writing.{given-fresh}
 use Rattle.checker_lengths.specs.declared.Entry.{Entry}
 use Rattle.checker_lengths.specs.declared.Watch.{Watch}
 use Rattle.checker_lengths.specs.Entries.{allLengths, entryOf, held}
@@ -48,16 +44,13 @@ use Rattle.checker_lengths.specs.Offers.{
   offerOf,
   offerFrom,
 }
-use Rattle.checker_lengths.specs.Rounds.{formHere}
 use Rattle.checker_lengths.specs.Held.{aimAt, meaningOf}
-use Rattle.checker_lengths.proofs.EntryLaws.{held-is}
-use Rattle.checker_lengths.proofs.Inversion.{still-inv, sequence-inv, fresh-inv, sandbox-inv, breaking-inv}
-use Rattle.checker_lengths.proofs.Numbers.{way-aim, heir-of, name-of, forgotten-of}
+use Rattle.checker_lengths.proofs.Inversion.{fresh-inv, breaking-inv}
+use Rattle.checker_lengths.proofs.Numbers.{forgotten-of}
 use Rattle.checker_lengths.proofs.RuleLaws.{named-low, named-high}
-use Rattle.checker_lengths.proofs.RuledLaws.{offending-small, offending-of, break-is, born-first, other-moves, own-moves}
+use Rattle.checker_lengths.proofs.RuledLaws.{offending-small, break-is, born-first, other-moves, own-moves}
 use Rattle.checker_trace.specs.declared.Spot.{Spot}
 use Rattle.checker_trace.specs.declared.Names.{Names}
-use Rattle.checker_trace.specs.declared.Onto.the-variants.{By}
 use Rattle.checker_trace.specs.Code.{
   OntoIs,
   storedStep,
@@ -72,11 +65,10 @@ use Rattle.checker_trace.specs.Code.{
   Writes,
   Chosen,
 }
-use Rattle.checker_trace.specs.Steps.{laid}
 use Rattle.checker_trace.proofs.LeadLaws.{held-cut}
-use Rattle.checker_trace.proofs.StepLaws.{laid-more, spotted-opening, spotted-closing, spotted-create, agree-give}
+use Rattle.checker_trace.proofs.StepLaws.{laid-more, spotted-create, agree-give}
 use Rattle.checker_trace.proofs.PartLaws.{Run, run-in, back-to, chosen-fresh}
-use Rattle.checker_trace.proofs.WriteLaws.{tells-is, Arrived, arrive, passes-names, range-of}
+use Rattle.checker_trace.proofs.WriteLaws.{arrive, passes-names}
 
 module _ (w : Watch) (rows nodes t : List ℕ) (e : Entry) (n r : ℕ)
     (few-nodes : length nodes / nodeFields ≤ mostNodes) (few : n ≤ mostShown) where

@@ -1,16 +1,13 @@
 -- The closure that the code gathers is what a node leads to with no step; and where there is an entry of a step or more, the code finds
 -- where to go on.
-use Prim.Native.Nat.{ℕ, suc, _+_, _/_, _%_, _<_, _≤_}
+use Prim.Native.Nat.{ℕ, _+_, _/_, _%_, _<_, _≤_}
 use mathlib.Core.Path.{_≡_, refl, sym, ap, _∙_, subst}
-use mathlib.Core.Bool.{Bool, true, false, _||_, cond}
+use mathlib.Core.Bool.{Bool, true, false, _||_}
 use mathlib.Core.Option.{Option, none, some}
 use mathlib.Core.List.{List}
-use mathlib.Core.Logic.{_⊎_, inl, inr}
 use native.Mathlib.Omega.{arith}
-use native.Mathlib.Decide.{ℕ-discrete}
 use lib.Dec.{eqb}
-use lib.Bits.{bitOr}
-use lib.ListN.{length, getD}
+use lib.ListN.{length}
 use borrow.Author.Tests.{eqb-true, eq-eqb}
 use Rattle.usage.specs.declared.Edge.{Edge}
 use Rattle.usage.specs.Limits.{mostShown, mostNodes, nodeFields}
@@ -18,22 +15,22 @@ use Rattle.usage.specs.Outline.{Form, Is, end, on-static, on-name, sequence, ch
 use Rattle.usage.specs.Valid.{Scope}
 use Rattle.usage.specs.Tables.{nodesOf}
 use Rattle.usage.proofs.Logic.{by-cases, false-true, or-left, or-right, or-cases}
-use Rattle.usage.proofs.FormLaws.{exists, form-ok}
+use Rattle.usage.proofs.FormLaws.{form-ok}
 use Rattle.usage.proofs.TableLaws.{nodes-length}
 use Rattle.automaton.specs.Mask.{has}
-use Rattle.checker_account.specs.Witness.{Aim, ended, broken}
-use Rattle.checker_account.specs.Least.{Begun, Aimed, at-end, at-break, Rule, Least, Less, Idle, Leads, PassesAll, ending, Onto}
+use Rattle.checker_account.specs.Witness.{Aim, ended}
+use Rattle.checker_account.specs.Least.{Begun, Aimed, at-end, at-break, Least, Less, Idle, Leads, PassesAll, ending}
 use Rattle.checker_account.proofs.MaskLaws.{has-left, has-right, has-either, has-none}
 use Rattle.checker_account.proofs.ScopedLaws.{scoped}
 use Rattle.checker_account.proofs.Reading.{passes-all, passes-more, found, idle-exact}
 use Rattle.checker_lengths.specs.declared.Entry.{Entry}
-use Rattle.checker_lengths.specs.Entries.{noLength, allLengths, entryOf, linear, inTable, held}
+use Rattle.checker_lengths.specs.Entries.{noLength, allLengths, entryOf, linear, held}
 use Rattle.checker_lengths.specs.Offers.{lowEnd, waysOf, offerFrom}
 use Rattle.checker_lengths.specs.Rounds.{formHere}
 use Rattle.checker_lengths.specs.Held.{aimAt, meaningOf, entriesIn, watchOf, Source}
 use Rattle.checker_lengths.proofs.EntryLaws.{bounds, held-is, held-less}
 use Rattle.checker_lengths.proofs.Numbers.{aim-end}
-use Rattle.checker_lengths.proofs.RuleLaws.{Reads, offered, small-node}
+use Rattle.checker_lengths.proofs.RuleLaws.{Reads, offered}
 use Rattle.checker_lengths.proofs.RuledLaws.{break-is}
 use Rattle.checker_lengths.proofs.FullLaws.{form-here, here-form}
 use Rattle.checker_trace.specs.Code.{

@@ -1,34 +1,27 @@
 -- What is written for a node with other nodes in it, from what is written for those.
-use Prim.Native.Nat.{ℕ, zero, suc, _+_, _-_, _*_, _/_, _%_, _<_, _≤_}
-use mathlib.Core.Path.{_≡_, refl, sym, ap, ap₂, _∙_, subst}
-use mathlib.Core.Bool.{Bool, true, false, _||_, cond}
+use Prim.Native.Nat.{ℕ, suc, _+_, _-_, _/_, _%_, _<_, _≤_}
+use mathlib.Core.Path.{_≡_, refl, sym, ap, _∙_, subst}
+use mathlib.Core.Bool.{Bool, _||_, cond}
 use mathlib.Core.Option.{Option, none, some}
-use mathlib.Core.List.{List, [], _∷_}
-use mathlib.Core.Logic.{_⊎_, inl, inr}
+use mathlib.Core.List.{List, _∷_}
 use native.Mathlib.Omega.{arith}
-use native.Mathlib.Decide.{ℕ-discrete, decLe}
 use lib.Dec.{eqb, leb}
-use lib.ListN.{length, getD}
-use borrow.Author.Tests.{le-leb, lt-leb, eq-eqb, ne-eqb}
+use lib.ListN.{length}
+use borrow.Author.Tests.{eq-eqb, ne-eqb}
 use Rattle.usage.specs.declared.Edge.{Edge}
-use Rattle.usage.specs.Limits.{mostShown, create, mostNodes, nodeFields}
-use Rattle.usage.specs.Policy.{Offending}
-use Rattle.usage.specs.Past.{Step, event, opening, closing, Past, reopened}
+use Rattle.usage.specs.Limits.{mostShown, mostNodes, nodeFields}
+use Rattle.usage.specs.Past.{opening, closing, Past, reopened}
 use Rattle.usage.specs.Outline as outline
-use Rattle.usage.specs.Outline.{Form, Is, end, on-static, on-name, sequence, choice, loop, back, fresh, sandbox, give}
-use Rattle.usage.specs.Valid.{Scope}
+use Rattle.usage.specs.Outline.{Form, Is, end, sequence, choice, loop, back, fresh, sandbox}
 use Rattle.usage.specs.Tables.{nodesOf}
-use Rattle.usage.proofs.Logic.{by-cases, false-true}
-use Rattle.usage.proofs.FormLaws.{form-ok}
-use Rattle.automaton.specs.Mask.{has}
-use Rattle.checker_account.specs.Witness.{Aim, ended, broken, each, forget}
-use Rattle.checker_account.specs.Written.{next, Written}
+use Rattle.usage.proofs.Logic.{by-cases}
+use Rattle.checker_account.specs.Witness.{Aim, ended, each}
+use Rattle.checker_account.specs.Written.{Written}
 use Rattle.checker_account.specs.Tables.{nameOf}
-use Rattle.checker_account.specs.Least.{Begun, Aimed, at-end, at-break, Least, PassesAll}
-use Rattle.checker_account.proofs.MaskLaws.{offends-has}
+use Rattle.checker_account.specs.Least.{Aimed, at-end, at-break}
 use Rattle.checker_account.proofs.ScopedLaws.{scoped}
-use Rattle.checker_account.proofs.BegunLaws.{begun-ended, begun-other, begun-own, begun-opened}
-use Rattle.checker_account.proofs.Writing.{given-fresh, written-length}
+use Rattle.checker_account.proofs.BegunLaws.{begun-ended, begun-opened}
+use Rattle.checker_account.proofs.Writing.{written-length}
 use Rattle.checker_account.proofs.Reader.{passes-written}
 use Rattle.checker_lengths.specs.declared.Entry.{Entry}
 use Rattle.checker_lengths.specs.declared.Watch.{Watch}
@@ -48,16 +41,13 @@ use Rattle.checker_lengths.specs.Offers.{
   offerOf,
   offerFrom,
 }
-use Rattle.checker_lengths.specs.Rounds.{formHere}
 use Rattle.checker_lengths.specs.Held.{aimAt, meaningOf}
 use Rattle.checker_lengths.proofs.EntryLaws.{held-is}
-use Rattle.checker_lengths.proofs.Inversion.{still-inv, sequence-inv, fresh-inv, sandbox-inv, breaking-inv}
-use Rattle.checker_lengths.proofs.Numbers.{way-aim, heir-of, name-of, forgotten-of}
-use Rattle.checker_lengths.proofs.RuleLaws.{named-low, named-high}
-use Rattle.checker_lengths.proofs.RuledLaws.{offending-small, offending-of, break-is, born-first, other-moves, own-moves}
+use Rattle.checker_lengths.proofs.Inversion.{still-inv, sequence-inv, fresh-inv, sandbox-inv}
+use Rattle.checker_lengths.proofs.Numbers.{way-aim, heir-of, name-of}
+use Rattle.checker_lengths.proofs.RuledLaws.{offending-of, break-is}
 use Rattle.checker_trace.specs.declared.Spot.{Spot}
 use Rattle.checker_trace.specs.declared.Names.{Names}
-use Rattle.checker_trace.specs.declared.Onto.the-variants.{By}
 use Rattle.checker_trace.specs.Code.{
   OntoIs,
   storedStep,
@@ -72,10 +62,9 @@ use Rattle.checker_trace.specs.Code.{
   Writes,
   Chosen,
 }
-use Rattle.checker_trace.specs.Steps.{laid}
 use Rattle.checker_trace.proofs.LeadLaws.{held-cut}
-use Rattle.checker_trace.proofs.StepLaws.{laid-more, spotted-opening, spotted-closing, spotted-create, agree-give}
-use Rattle.checker_trace.proofs.WriteLaws.{tells-is, Arrived, arrive, passes-names, range-of}
+use Rattle.checker_trace.proofs.StepLaws.{laid-more, spotted-opening, spotted-closing}
+use Rattle.checker_trace.proofs.WriteLaws.{tells-is, Arrived, arrive, passes-names}
 
 -- ── What the rule read ──
 

@@ -3,7 +3,7 @@ use Prim.Native.Nat.{ℕ, _/_, _+_, _<_, _≤_}
 use mathlib.Core.Path.{_≡_, refl, sym, ap, _∙_, subst}
 use mathlib.Core.Bool.{Bool, true, false, not, _&&_, cond}
 use mathlib.Core.Option.{none, some}
-use mathlib.Core.List.{List, [], _∷_, List·Memᴰ}
+use mathlib.Core.List.{List, [], _∷_}
 use mathlib.Core.Logic.{inl, inr}
 use native.Mathlib.Omega.{arith}
 use native.Mathlib.Decide.{decLe}
@@ -22,12 +22,12 @@ use Rattle.usage.specs.Check.{Shown, longer}
 use Rattle.usage.proofs.Logic.{false-true}
 use Rattle.usage.proofs.TableLaws.{nodes-length}
 use Rattle.automaton.specs.Move.{rowsOf}
-use Rattle.checker_account.specs.Witness.{watched, noName, each, Last, Aim, broken, Hits}
+use Rattle.checker_account.specs.Witness.{watched, noName, each, broken}
 use Rattle.checker_account.specs.Written.{Written}
 use Rattle.checker_account.specs.Tables.{least, rowsIn, places}
 use Rattle.checker_account.specs.Rounds.{formsIn}
 use Rattle.checker_account.specs.RowTable.{fillRows}
-use Rattle.checker_account.specs.Least.{Least, at-break}
+use Rattle.checker_account.specs.Least.{at-break}
 use Rattle.checker_account.proofs.Ahead.{Root, hits-exact}
 use Rattle.checker_account.proofs.BegunLaws.{begun-root}
 use Rattle.checker_account.proofs.EventLaws.{event-image}
@@ -42,11 +42,10 @@ use Rattle.checker_account.proofs.UntouchedLaws.{goes-watched}
 use Rattle.checker_tables.specs.Search.{rowTable, touched}
 use Rattle.checker_tables.proofs.TouchedLaws.{untouched, dynamic-touched}
 use Rattle.checker_tables.proofs.WholeLaws.{whole-in}
-use Rattle.checker_lengths.specs.declared.Entry.{Entry}
 use Rattle.checker_lengths.specs.declared.Watch.{Watch}
 use Rattle.checker_lengths.specs.Entries.{noLength, allLengths, entryOf, held}
 use Rattle.checker_lengths.specs.Rounds.{Full}
-use Rattle.checker_lengths.specs.Held.{aimAt, meaningOf, entriesIn, watchOf, Source}
+use Rattle.checker_lengths.specs.Held.{aimAt, meaningOf, watchOf, Source}
 use Rattle.checker_lengths.proofs.FullLaws.{full-least}
 use Rattle.checker_trace.specs.declared.Shortest.{Shortest}
 use Rattle.checker_trace.specs.declared.Spot.{Spot}

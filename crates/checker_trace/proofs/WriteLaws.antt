@@ -1,39 +1,33 @@
 -- What each way of writing an entry writes.
-use Prim.Native.Nat.{ℕ, zero, suc, _+_, _-_, _*_, _/_, _%_, _<_, _≤_}
+use Prim.Native.Nat.{ℕ, suc, _/_, _<_, _≤_}
 use mathlib.Core.Path.{_≡_, refl, sym, ap, ap₂, _∙_, subst}
-use mathlib.Core.Bool.{Bool, true, false, _||_, cond}
+use mathlib.Core.Bool.{Bool, true}
 use mathlib.Core.Option.{Option, none, some}
-use mathlib.Core.List.{List, [], _∷_}
+use mathlib.Core.List.{List, _∷_}
 use mathlib.Core.Logic.{_⊎_, inl, inr}
 use native.Mathlib.Omega.{arith}
-use native.Mathlib.Decide.{ℕ-discrete, decLe}
-use lib.Dec.{eqb, leb}
+use lib.Dec.{eqb}
 use lib.ListN.{length, getD}
-use borrow.Author.Tests.{le-leb, lt-leb, eq-eqb, ne-eqb}
 use Rattle.usage.specs.declared.Edge.{Edge}
-use Rattle.usage.specs.Limits.{mostShown, create, mostNodes, nodeFields}
-use Rattle.usage.specs.Past.{Step, event, opening, closing, Past, reopened}
+use Rattle.usage.specs.Limits.{mostShown, mostNodes, nodeFields}
+use Rattle.usage.specs.Past.{event, Past}
 use Rattle.usage.specs.Outline as outline
-use Rattle.usage.specs.Outline.{Form, Is, end, on-static, on-name, sequence, choice, loop, back, fresh, sandbox, give}
+use Rattle.usage.specs.Outline.{Form, Is, on-static, on-name}
 use Rattle.usage.specs.Valid.{Scope}
 use Rattle.usage.specs.Tables.{nodesOf}
-use Rattle.usage.proofs.Logic.{by-cases, false-true}
-use Rattle.usage.proofs.FormLaws.{form-ok}
-use Rattle.automaton.specs.Mask.{has}
-use Rattle.checker_account.specs.Witness.{Aim, ended, broken, each, forget}
-use Rattle.checker_account.specs.Written.{next, Written}
-use Rattle.checker_account.specs.Least.{Begun, Aimed, at-end, at-break, Least, Leads, PassesAll, ending}
+use Rattle.checker_account.specs.Witness.{Aim, ended, broken, each}
+use Rattle.checker_account.specs.Written.{Written}
+use Rattle.checker_account.specs.Least.{Leads, PassesAll, ending}
 use Rattle.checker_account.proofs.MaskLaws.{offends-has}
 use Rattle.checker_account.proofs.ScopedLaws.{scoped}
-use Rattle.checker_account.proofs.Writing.{given-fresh}
 use Rattle.checker_account.proofs.Reading.{goes-still, passes-all}
 use Rattle.checker_account.proofs.Reader.{idle-written, passes-written}
 use Rattle.checker_lengths.specs.declared.Entry.{Entry}
 use Rattle.checker_lengths.specs.declared.Watch.{Watch}
 use Rattle.checker_lengths.specs.Entries.{allLengths, entryOf, held}
-use Rattle.checker_lengths.specs.Offers.{atNode, offerOf, offerFrom, moved, eventOf, endingOf as ends-by, breaking}
+use Rattle.checker_lengths.specs.Offers.{offerOf, offerFrom, moved, endingOf as ends-by, breaking}
 use Rattle.checker_lengths.specs.Rounds.{formHere}
-use Rattle.checker_lengths.specs.Held.{aimAt, meaningOf, entriesIn}
+use Rattle.checker_lengths.specs.Held.{aimAt, meaningOf}
 use Rattle.checker_lengths.proofs.Inversion.{ending-inv, breaking-inv, event-inv}
 use Rattle.checker_lengths.proofs.RuledLaws.{offending-small, break-is, end-is, static-moves, name-moves}
 use Rattle.checker_lengths.proofs.EntryLaws.{bounds, held-is}
@@ -41,8 +35,7 @@ use Rattle.checker_lengths.proofs.FullLaws.{here-form}
 use Rattle.checker_trace.specs.declared.Spot.{Spot}
 use Rattle.checker_trace.specs.declared.Names.{Names}
 use Rattle.checker_trace.specs.declared.Onto.the-variants.{By, Nothing}
-use Rattle.checker_trace.specs.Code.{OntoIs, storedStep, onward, created, given, Spotted, Ready, Tells, NamesAt, Agree, Writes}
-use Rattle.checker_trace.specs.Steps.{laid}
+use Rattle.checker_trace.specs.Code.{OntoIs, storedStep, onward, Spotted, Ready, Tells, NamesAt, Writes}
 use Rattle.checker_trace.proofs.LeadLaws.{closure-passes, never-nothing}
 use Rattle.checker_trace.proofs.StepLaws.{laid-more, spotted-event}
 

@@ -30,7 +30,7 @@ use Rattle.monitor_sets.specs.Code.{brokenBit, brokenIn, eventSets}
 use Rattle.monitor_state.specs.Code.{sizesOf, judgementOf, stepped, toldOf}
 use Rattle.monitor_state.proofs.ListLaws.{place-new}
 use Rattle.monitor_state.proofs.Places.{is-known}
-use Rattle.monitor.proofs.JudgeLaws.{step-refused, step-taken, create-free, use-known}
+use Rattle.monitor.proofs.JudgeLaws.{step-refused, step-taken, use-known}
 
 -- ── A state by its parts ──
 

@@ -10,7 +10,7 @@ use lib.ListN.{getD, getElem?, take, set}
 use borrow.Author.Tests.{eq-eqb, eqb-true, lt-leb, le-leb, leb-true, le-ltb, ltb-true}
 use Rattle.usage.specs.declared.Edge.{Edge}
 use Rattle.usage.specs.declared.RawStep.{RawStep}
-use Rattle.usage.specs.Limits.{statics, resources, actions, policies, mostCreated, mostUnclosed, within, _until_, unused}
+use Rattle.usage.specs.Limits.{statics, resources, actions, policies, mostCreated, within, _until_, unused}
 use Rattle.usage.specs.Past.{Step, event, opening, closing}
 use Rattle.usage.specs.Judge.{stepKinds, guard, inRange, stepOf}
 use Rattle.usage.specs.Tables.{edgesOf, edgeTable}
@@ -18,7 +18,6 @@ use Rattle.usage.specs.Tests.{every}
 use Rattle.usage.proofs.Logic.{not-both, both-ways, and-left, and-right, and-both}
 use Rattle.usage.proofs.TableLaws.{from-ext, decides-edge-table}
 use Rattle.automaton.specs.Mask.{lowestIn}
-use Rattle.automaton.specs.Move.{moveMask}
 use Rattle.automaton.proofs.SameLaws.{moveMask-same}
 use Rattle.monitor_sets.specs.Instances.{firstCreated, instances, setPlaces}
 use Rattle.monitor_state.specs.declared.State.{State}
@@ -26,7 +25,7 @@ use Rattle.monitor_state.specs.declared.Answer.{Answer}
 use Rattle.monitor_state.specs.declared.Answer.the-variants.{Allowed, Violated}
 use Rattle.monitor_state.specs.declared.Judgement.{Judgement}
 use Rattle.monitor_state.specs.Judge.{startState, live, listed, distinct, dynamic, createdOk, orderOk, stateOk, placeFrom, placeOf}
-use Rattle.monitor_state.specs.Judge.{used, movedSets, createdIn, movedIn, gathered, withOpenings, withSets, resetIn, after}
+use Rattle.monitor_state.specs.Judge.{used, movedSets, createdIn, movedIn, withOpenings, withSets, resetIn, after}
 use Rattle.monitor_state.specs.Judge.{broken, refusal, refuse, halt, settle}
 use Rattle.monitor_state.specs.Judge.{judgeStep, judgeRead, judgeOf, answersOf}
 use Rattle.monitor_state.specs.Renamed.{Renaming, renamed, renamedStep, SameAnswers}

@@ -7,12 +7,12 @@ use native.Mathlib.Nat.{zero-add}
 use lib.Dec.{lit<}
 use lib.ListN.{length, getD}
 use Rattle.usage.specs.declared.Edge.{Edge}
-use Rattle.usage.specs.Limits.{policies, states, mostCreated}
+use Rattle.usage.specs.Limits.{policies, mostCreated}
 use Rattle.usage.specs.Policy.{Sees}
 use Rattle.usage.specs.Past.{Past, May}
 use Rattle.usage.specs.Tests.{someBelow}
 use Rattle.usage.proofs.TableLaws.{getD-from, from-below}
-use Rattle.automaton.specs.Mask.{has, union}
+use Rattle.automaton.specs.Mask.{has}
 use Rattle.automaton.proofs.MaskLaws.{some-at, some-found, union-has, union-lt}
 use Rattle.monitor_sets.specs.Instances.{instances}
 use Rattle.monitor_sets.specs.Sets.{gatheredAt}

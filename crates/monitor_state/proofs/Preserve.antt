@@ -12,10 +12,9 @@ use lib.Seq.{getD-set-same, getD-set-other}
 use borrow.Author.Tests.{eq-eqb, ne-eqb, eqb-true, eqb-false}
 use Rattle.usage.specs.declared.Edge.{Edge}
 use Rattle.usage.specs.Limits.{statics, resources, policies, mostCreated, mostUnclosed}
-use Rattle.usage.specs.Policy.{Sees}
-use Rattle.usage.specs.Past.{Step, event, opening, closing, Past, May, opened, closed, addIf, count, creates, openings, closings, Created}
+use Rattle.usage.specs.Past.{Step, event, opening, closing, Past, addIf, count, creates, openings, closings, Created}
 use Rattle.usage.specs.Past.{without, openStack}
-use Rattle.usage.proofs.PastLaws.{before-opening, before-closing, member-event}
+use Rattle.usage.proofs.PastLaws.{member-event}
 use Rattle.usage.proofs.JudgeLaws.{Fits}
 use Rattle.usage.proofs.StackLaws.{without-first}
 use Rattle.usage.proofs.Logic.{clash, by-cases, or-left, or-right, or-cases}

@@ -11,7 +11,7 @@ use borrow.Author.Tests.{eq-eqb, eqb-true}
 use Rattle.usage.specs.declared.Edge.{Edge}
 use Rattle.usage.specs.Limits.{policies, states, mostCreated}
 use Rattle.usage.specs.Policy.{Sees, Moves}
-use Rattle.usage.specs.Past.{Past, event, opening, closing, May, start, moved, opened, closed, count, openStack, occurrences, isOpen}
+use Rattle.usage.specs.Past.{Past, event, May, start, moved, opened, closed, count, openStack, occurrences, isOpen}
 use Rattle.usage.specs.Tests.{every}
 use Rattle.usage.proofs.Logic.{false-true}
 use Rattle.automaton.specs.Mask.{has}

@@ -1,19 +1,15 @@
 -- The laws of reading a step.
-use Prim.Native.Nat.{ℕ, zero, suc, _<_, _≤_}
+use Prim.Native.Nat.{ℕ, zero, suc}
 use mathlib.Core.Path.{_≡_, refl}
-use mathlib.Core.Bool.{Bool, true, false, _&&_}
+use mathlib.Core.Bool.{true, false}
 use mathlib.Core.Option.{Option, none, some}
-use native.Mathlib.Omega.{arith}
-use borrow.Author.Tests.{leb-true}
-use lib.Dec.{leb}
 use lib.ListN.{getElem?}
 use Rattle.usage.specs.declared.RawStep.{RawStep}
-use Rattle.usage.specs.Limits.{policies, Kind}
-use Rattle.usage.specs.Past.{Step, event, opening, closing}
-use Rattle.usage.specs.Judge.{stepKinds, guard, inRange, stepOf}
+use Rattle.usage.specs.Limits.{Kind}
+use Rattle.usage.specs.Past.{Step}
+use Rattle.usage.specs.Judge.{stepKinds, inRange, stepOf}
 use Rattle.usage.specs.Tests.{fits}
 use Rattle.sheet_fields.specs.Fields.{stepOk}
-use Rattle.usage.proofs.Logic.{clash, none-some, and-left, and-right}
 
 -- three numbers that are not those of a step, and three that are
 pub not-read : (raw : RawStep) → stepOk raw ≡ false → stepOf raw ≡ none

@@ -1,9 +1,8 @@
 -- The judge's definition answers as the whole past says.
-use Prim.Native.Nat.{ℕ, _%_, _<_, _≤_}
+use Prim.Native.Nat.{ℕ, _%_, _<_}
 use mathlib.Core.Path.{_≡_, refl, sym, subst}
 use mathlib.Core.Bool.{Bool, true, false, _&&_, cond}
 use mathlib.Core.List.{List, [], _∷_, map}
-use mathlib.Core.Logic.{_⊎_, inl, inr}
 use mathlib.Core.Option.{Option, none, some}
 use lib.Dec.{eqb, ltb, leb}
 use lib.ListN.{length}
@@ -12,14 +11,14 @@ use Rattle.usage.specs.declared.Edge.{Edge}
 use Rattle.usage.specs.declared.RawStep.{RawStep}
 use Rattle.usage.specs.Limits.{statics, actions, policies, states, mostEdges}
 use Rattle.usage.specs.Past.{Step, Past, Violates}
-use Rattle.usage.specs.Answers.{Verdict, allowed, violated, refused}
-use Rattle.usage.specs.Judge.{stepOf, Case, Refuses, Taken, Judged, is-refused, is-violated, is-allowed, then, pastAfter, haltedAfter}
+use Rattle.usage.specs.Answers.{Verdict, allowed}
+use Rattle.usage.specs.Judge.{stepOf, Taken, Judged, is-refused, is-violated, is-allowed, then, pastAfter, haltedAfter}
 use Rattle.usage.specs.Judge.{JudgedAll, done, next}
 use Rattle.usage.specs.Tables.{edgesOf, edgeTable}
 use Rattle.usage.specs.Tests.{every, edgeOk, edgesOk}
 use Rattle.usage.proofs.Logic.{and-left, and-right}
 use Rattle.usage.proofs.Decides.{d-every, d-same}
-use Rattle.usage.proofs.JudgeLaws.{step-fits, step-same, judged-unique}
+use Rattle.usage.proofs.JudgeLaws.{step-fits, judged-unique}
 use Rattle.automaton.specs.Mask.{lowestIn}
 use Rattle.automaton.proofs.MoveLaws.{Ends}
 use Rattle.monitor_state.specs.declared.State.{State}

@@ -2,12 +2,12 @@
 use Prim.Native.Nat.{ℕ}
 use mathlib.Core.Path.{_≡_, refl, subst}
 use mathlib.Core.Bool.{Bool, false}
-use mathlib.Core.List.{List, [], map, flatten}
+use mathlib.Core.List.{List, [], flatten}
 use mathlib.Core.Logic.{_↔_}
 use Rattle.usage.specs.declared.Edge.{Edge}
 use Rattle.usage.specs.declared.Node.{Node}
 use Rattle.usage.specs.Limits.{edgePlaces, nodePlaces}
-use Rattle.usage.specs.Answers.{Verdict, allowed}
+use Rattle.usage.specs.Answers.{allowed}
 use Rattle.usage.specs.Judge.{JudgedAll}
 use Rattle.usage.specs.Check.{Leaves, Checked, accepts}
 use Rattle.usage.specs.Tables.{edgesOf, nodesOf, EdgeTable, NodeTable}

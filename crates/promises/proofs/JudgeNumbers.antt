@@ -1,7 +1,7 @@
 -- Which numbers the judge answers, and what it leaves of the state, from every table and state at all.
 use Prim.Native.Nat.{ℕ, zero, suc, _<_}
 use mathlib.Core.Path.{_≡_, refl, sym, subst, _∙_, ap}
-use mathlib.Core.Bool.{Bool, true, false, not, cond, _&&_, _||_}
+use mathlib.Core.Bool.{Bool, true, false, not, cond, _||_}
 use mathlib.Core.Option.{Option, none, some}
 use mathlib.Core.List.{List, [], _∷_, List·Memᴰ, List·Memᴰ·head, List·Memᴰ·tail}
 use mathlib.Core.Logic.{_⊎_, inl, inr, _↔_}
@@ -10,7 +10,7 @@ use lib.Dec.{eqb, ltb, leb, lit<}
 use lib.ListN.{getElem?}
 use Rattle.usage.specs.declared.Edge.{Edge}
 use Rattle.usage.specs.declared.RawStep.{RawStep}
-use Rattle.usage.specs.Limits.{statics, policies, mostCreated, mostUnclosed}
+use Rattle.usage.specs.Limits.{statics, mostCreated, mostUnclosed}
 use Rattle.usage.specs.Past.{Step, event, opening, closing}
 use Rattle.usage.specs.Judge.{stepOf}
 use Rattle.usage.specs.Tables.{edgesOf, EdgeTable, edgeTable}

@@ -1,6 +1,6 @@
 -- Which numbers the readers answer, for every text at all, and when they answer 40.
-use Prim.Native.Nat.{ℕ, zero, suc, _*_, _<_, _≤_}
-use mathlib.Core.Path.{_≡_, refl, sym, subst, _∙_, ap}
+use Prim.Native.Nat.{ℕ, zero, suc, _<_}
+use mathlib.Core.Path.{_≡_, refl, subst}
 use mathlib.Core.Bool.{Bool, true, false, cond}
 use mathlib.Core.Option.{Option, none, some}
 use mathlib.Core.List.{
@@ -17,7 +17,7 @@ use mathlib.Core.List.{
   List·Memᴰ·cases-cons,
   List·Memᴰ·not-nil,
 }
-use mathlib.Core.Logic.{_⊎_, inl, inr, _↔_}
+use mathlib.Core.Logic.{_↔_}
 use native.Mathlib.Omega.{arith}
 use lib.Dec.{ltb, lit<}
 use lib.ListN.{length, drop, getD}

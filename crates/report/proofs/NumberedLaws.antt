@@ -7,7 +7,7 @@ use native.Mathlib.Omega.{arith}
 use lib.ListN.{length}
 use borrow.Author.Tests.{eq-eqb}
 use Rattle.usage.specs.Limits.{statics, create}
-use Rattle.usage.specs.Past.{Step, event, opening, closing, Past, addIf, count, isCreate, creates, Created, Numbered}
+use Rattle.usage.specs.Past.{event, opening, closing, Past, addIf, count, isCreate, creates, Created, Numbered}
 use Rattle.usage.proofs.Logic.{by-cases}
 use Rattle.usage.proofs.PastLaws.{member-event, member-opening, member-closing}
 

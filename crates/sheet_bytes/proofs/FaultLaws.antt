@@ -26,7 +26,7 @@ use Rattle.usage.specs.Limits.{mostDigits}
 use Rattle.usage.proofs.Logic.{clash, by-cases, false-true}
 use Rattle.sheet_bytes.specs.Class.{classOf}
 use Rattle.sheet_bytes.specs.Line.{Line, Progress, nothing, digit, further, space, read, complete, counted, valuesOf}
-use Rattle.sheet_bytes.specs.Grammar.{Digits, no-digit, one-more, Values}
+use Rattle.sheet_bytes.specs.Grammar.{Digits, no-digit, one-more}
 use Rattle.sheet_bytes.specs.Fault.{
   HasOther,
   HasOverlong,
@@ -39,7 +39,7 @@ use Rattle.sheet_bytes.specs.Fault.{
   hasOther,
   hasOverlong,
 }
-use Rattle.sheet_bytes.specs.Fault.{LineRead, has-values, has-fault, told, readLine}
+use Rattle.sheet_bytes.specs.Fault.{has-values, has-fault, told, readLine}
 use Rattle.sheet_bytes.proofs.GrammarLaws.{grammar}
 
 -- ── A byte that is no digit, space or line feed ──

@@ -8,7 +8,7 @@ use native.Mathlib.Omega.{arith}
 use native.Mathlib.Nat.{min-zero, zero-min, suc-min-suc, min-le-left}
 use lib.Dec.{eqb, leb}
 use lib.Bits.{bitAnd, bitOr, and-mask, and-zero-l, and-zero-r, and-le-l, and-le-r, or-add-and}
-use lib.ListN.{length, getD}
+use lib.ListN.{getD}
 use borrow.Author.Tests.{eqb-true, leb-true, leb-false}
 use Rattle.usage.specs.Limits.{policies, states, actions, statics, edgeFields}
 use Rattle.usage.specs.declared.Edge.{Edge}

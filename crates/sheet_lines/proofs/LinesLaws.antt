@@ -8,13 +8,12 @@ use native.Mathlib.Omega.{arith}
 use native.Mathlib.Nat.{add-zero, add-suc, suc-add, suc-mul, zero-mul, sub-zero}
 use native.Mathlib.Numerals.{add-one}
 use lib.Dec.{eqb}
-use lib.ListN.{length, take, drop, set, getD, length-append, length-take, length-drop, length-set, drop-of-length-le}
+use lib.ListN.{length, take, drop, set, getD, length-take, length-drop, length-set, drop-of-length-le}
 use lib.Seq.{take-set-le, drop-set-add, drop-set-lt, drop-drop, take-suc-set, take-take, take-add}
 use borrow.Author.Tests.{eq-eqb}
 use Rattle.usage.specs.Limits.{mostSteps}
 use Rattle.usage.proofs.Logic.{clash}
 use Rattle.sheet_bytes.specs.declared.Part.{Part}
-use Rattle.sheet_bytes.specs.declared.Next.{Next}
 use Rattle.sheet_bytes.specs.declared.Next.the-variants.{Goes, Ends, Malformed}
 use Rattle.sheet_fields.specs.declared.Kind.{Kind}
 use Rattle.sheet_fields.specs.declared.Kind.the-variants.{Policies, Trace, Outline}

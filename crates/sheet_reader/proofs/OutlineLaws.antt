@@ -14,7 +14,7 @@ use Rattle.usage.specs.Tests.{ruledSheet}
 use Rattle.usage.specs.Tables.{nodesOf}
 use Rattle.usage.proofs.TableLaws.{is-from}
 use Rattle.sheet_fields.specs.Fields.{nodeLineFields}
-use Rattle.sheet_lines.specs.Sheet.{Result, accepted, refuseAt, sheet}
+use Rattle.sheet_lines.specs.Sheet.{Result, refuseAt, sheet}
 use Rattle.sheet_lines.specs.Sheets.{outlineSheet}
 use Rattle.sheet_lines.specs.Answer.{count}
 use Rattle.sheet_lines.proofs.AcceptLaws.{Rows, no-row, row}

@@ -17,7 +17,7 @@ use Rattle.sheet_bytes.specs.Code.{valueLimit}
 use Rattle.sheet_bytes.specs.Line.{Line, prefixed, linesOf}
 use Rattle.sheet_bytes.specs.Grammar.{Digits, no-digit, one-more, Value, one-space, Values, last-value, next-value}
 use Rattle.sheet_bytes.proofs.FaultLaws.{decides-values}
-use Rattle.sheet_lines.specs.Sheet.{Sheet, accepted, followed, entry, valueLines, startsWith, sheet}
+use Rattle.sheet_lines.specs.Sheet.{Sheet, accepted, followed, valueLines, startsWith, sheet}
 use Rattle.sheet_lines.specs.Sheets.{policyNames, policySheet}
 use Rattle.sheet_lines.proofs.NamesLaws.{lines-alike}
 use Rattle.sheet_reader.proofs.Written.{digits, written-values, written-line, written}

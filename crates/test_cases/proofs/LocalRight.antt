@@ -1,7 +1,7 @@
 -- The cases of the local meaning are right, and so are the same steps where the whole past counts: by computing the judge's definition.
 use mathlib.Core.Path.{_≡_, refl}
 use mathlib.Core.Bool.{true, false}
-use mathlib.Core.List.{List, map}
+use mathlib.Core.List.{map}
 use Rattle.usage.specs.Tests.{every}
 use Rattle.test_cases.specs.JudgeCases.{JudgedRight}
 use Rattle.test_cases.specs.LocalCases.{casesLocal, LocalRight, casesWhole, WholeRight}

@@ -5,7 +5,6 @@ use mathlib.Core.Bool.{Bool, true, false}
 use mathlib.Core.List.{List, [], _∷_, List·Memᴰ, List·Memᴰ·head, List·Memᴰ·tail, List·Memᴰ·eq-of-singleton, List·Memᴰ·cases-cons}
 use mathlib.Core.Logic.{_⊎_, inl, inr}
 use native.Mathlib.Omega.{arith}
-use native.Mathlib.Decide.{ℕ-discrete}
 use Rattle.usage.specs.declared.Edge.{Edge}
 use Rattle.usage.specs.Policy.{Sees, own, Fires, Moves, along, stays, Offending}
 use Rattle.usage.specs.Past.{event, opening, closing, Past, May, start, moved, opened, closed, count, Violates}

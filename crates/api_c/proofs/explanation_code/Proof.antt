@@ -1,9 +1,7 @@
 -- One number for each case of the explanation.
-use Prim.Native.Nat.{ℕ}
 use mathlib.Core.Path.{sym, ap, _∙_}
 use native.Mathlib.Nat.{zero-add}
 use borrow.Author.Needs.{needs}
-use Rattle.checker.specs.declared.counterexample.Explanation.{Explanation}
 use Rattle.api_c.specs.Codes.{explanationCode}
 use Rattle.api_c.proofs.explanation_code.Statement.{statement}
 use Rattle.api_c.proofs.explanation_code.Tie as tie

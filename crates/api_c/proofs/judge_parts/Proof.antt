@@ -1,15 +1,14 @@
 -- The answer is the definition's, and the arrays hold what it says.
-use mathlib.Core.Path.{_≡_, sym, ap, _∙_}
+use mathlib.Core.Path.{sym, ap, _∙_}
 use mathlib.Core.List.{List}
 use borrow.Author.Tests.{not-true, not-false}
 use native.Mathlib.Omega.{arith}
 use borrow.Author.Needs.{needs}
 use Prim.Native.Nat.{ℕ, _<_, _≤_}
 use Rattle.usage.specs.declared.RawStep.{RawStep}
-use Rattle.usage.specs.Answers.{Verdict}
 use Rattle.usage.proofs.Logic.{by-cases}
 use Rattle.api_c.specs.Codes.{codeOf}
-use Rattle.api_c.specs.Parts.{Parts, partsOf, flag, heldIn, Answered, judgeParts}
+use Rattle.api_c.specs.Parts.{partsOf, flag, heldIn, Answered}
 use Rattle.api_c.proofs.PartLaws.{choice-refused, flag-refused, told-verdict, refused-left, taken-left}
 use Rattle.api_c.proofs.judge_parts.Statement.{statement}
 use Rattle.api_c.proofs.judge_parts.Tie as tie

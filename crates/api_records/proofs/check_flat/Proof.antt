@@ -1,6 +1,5 @@
 use native.Mathlib.Omega.{arith}
 use mathlib.Core.Path.{_≡_}
-use Prim.Native.Nat.{_-_}
 use lib.ListN.{length}
 use native.Mathlib.Nat.{sub-zero}
 use Rattle.usage.specs.Limits.{edgePlaces}

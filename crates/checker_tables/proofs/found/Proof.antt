@@ -1,5 +1,4 @@
 use mathlib.Core.Path.{refl}
-use borrow.Author.Needs.{needs}
 use Rattle.checker_tables.proofs.found.Statement.{statement}
 use Rattle.checker_tables.proofs.found.Tie as tie
 use Rattle.checker_tables.proofs.found.Reads as reads

@@ -4,7 +4,6 @@ use Prim.Native.Nat.{_%_}
 use borrow.Author.Tests.{eq-eqb, ne-eqb}
 use Rattle.usage.proofs.Logic.{not-true, not-false}
 use Rattle.checker_account.specs.Tables.{restarted}
-use borrow.Author.Needs.{needs}
 use Rattle.checker_tables.proofs.restarted.Statement.{statement}
 use Rattle.checker_tables.proofs.restarted.Tie as tie
 use Rattle.checker_tables.proofs.restarted.Reads as reads

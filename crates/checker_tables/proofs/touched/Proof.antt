@@ -1,6 +1,6 @@
 use denote.Ref.{now}
 use lib.Dec.{eqb, leb}
-use mathlib.Core.Bool.{Bool, true, false, _&&_, _||_}
+use mathlib.Core.Bool.{Bool, false, _&&_, _||_}
 use mathlib.Core.List.{List}
 use Prim.Native.Nat.{_*_, _/_, ℕ, _+_, _-_, _≤_}
 use borrow.Author.Tests.{eq-eqb, ne-eqb, le-leb, lt-leb}
@@ -11,7 +11,7 @@ use Rattle.checker_account.specs.Witness.{watched}
 use Rattle.checker_account.proofs.CodeLaws.{none-more}
 use Rattle.checker_tables.specs.Search.{touched}
 use native.Mathlib.Omega.{arith}
-use mathlib.Core.Path.{_≡_, refl, sym, ap, ap₂, _∙_}
+use mathlib.Core.Path.{_≡_, refl, sym, ap, ap₂}
 use lib.ListN.{length, getD}
 use borrow.Author.Needs.{needs}
 use Rattle.checker_tables.proofs.touched.Statement.{statement}

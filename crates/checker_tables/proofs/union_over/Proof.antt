@@ -3,9 +3,9 @@ use Rattle.usage.specs.Limits.{states}
 use Rattle.usage.proofs.Logic.{by-cases}
 use Rattle.automaton.specs.Mask.{has, union}
 use Rattle.checker_account.proofs.MaskLaws.{over-in, over-out}
-use mathlib.Core.Bool.{Bool, cond}
+use mathlib.Core.Bool.{cond}
 use native.Mathlib.Omega.{arith}
-use mathlib.Core.Path.{_≡_, refl, sym, ap, _∙_}
+use mathlib.Core.Path.{_≡_, refl, ap, _∙_}
 use Prim.Native.Nat.{ℕ, _+_, _-_, _≤_}
 use lib.ListN.{getD}
 use borrow.Author.Needs.{needs}

@@ -11,9 +11,9 @@ use Rattle.checker_trace.specs.declared.Length.the-variants.{Of}
 use Rattle.checker_trace.specs.Steps.{laid}
 use Rattle.checker_trace.specs.Answer.{Told, too-small, no-table, longer, this-long}
 use native.Mathlib.Omega.{arith}
-use mathlib.Core.Path.{_≡_, refl, sym, ap, _∙_}
-use Prim.Native.Nat.{ℕ, suc, _+_, _-_, _≤_, _<_}
-use lib.ListN.{length, getD, take, drop, set}
+use mathlib.Core.Path.{_≡_, sym, _∙_}
+use Prim.Native.Nat.{ℕ}
+use lib.ListN.{length}
 use borrow.Author.Needs.{needs}
 use Rattle.checker_trace.proofs.counterexample.Statement.{statement}
 use Rattle.checker_trace.proofs.counterexample.Tie as tie

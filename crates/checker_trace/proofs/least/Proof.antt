@@ -2,9 +2,9 @@ use Rattle.checker_trace.proofs.ShownLaws as laws
 use mathlib.Core.Path.{subst}
 use Rattle.usage.proofs.Logic.{by-cases}
 use native.Mathlib.Omega.{arith}
-use mathlib.Core.Path.{_≡_, refl, sym, ap, _∙_}
-use Prim.Native.Nat.{ℕ, suc, _+_, _-_, _≤_, _<_}
-use lib.ListN.{length, getD, take, drop, set}
+use mathlib.Core.Path.{sym}
+use Prim.Native.Nat.{ℕ, _+_, _-_, _≤_}
+use lib.ListN.{length}
 use borrow.Author.Needs.{needs}
 use Rattle.checker_trace.proofs.least.Statement.{statement}
 use Rattle.checker_trace.proofs.least.Tie as tie

@@ -1,9 +1,7 @@
 use mathlib.Core.Bool.{false}
 use Rattle.checker_lengths.specs.Entries.{atBreak, entryOf}
-use native.Mathlib.Omega.{arith}
-use mathlib.Core.Path.{_≡_, refl, sym, ap, _∙_}
-use Prim.Native.Nat.{ℕ, suc, _+_, _-_, _≤_, _<_}
-use lib.ListN.{length, getD, take, drop, set}
+use mathlib.Core.Path.{ap}
+use Prim.Native.Nat.{ℕ}
 use borrow.Author.Needs.{needs}
 use Rattle.checker_trace.proofs.root.Statement.{statement}
 use Rattle.checker_trace.proofs.root.Tie as tie

@@ -4,14 +4,11 @@ use mathlib.Core.Bool.{Bool}
 use borrow.Author.Tests.{le-leb}
 use Rattle.usage.specs.Limits.{mostNodes, nodeFields}
 use Rattle.checker_lengths.specs.declared.Entry.{Entry}
-use Rattle.checker_lengths.specs.Entries.{held}
 use Rattle.checker_lengths.specs.Rounds.{FullIf}
 use Rattle.checker_trace.proofs.ShownLaws as laws
 use Rattle.checker_trace.specs.Code.{Writes}
 use native.Mathlib.Omega.{arith}
-use mathlib.Core.Path.{_≡_, refl, sym, ap, _∙_}
-use Prim.Native.Nat.{ℕ, suc, _+_, _-_, _≤_, _<_}
-use lib.ListN.{length, getD, take, drop, set}
+use lib.ListN.{length}
 use borrow.Author.Needs.{needs}
 use Rattle.checker_trace.proofs.show.Statement.{statement}
 use Rattle.checker_trace.proofs.show.Tie as tie

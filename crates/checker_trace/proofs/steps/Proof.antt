@@ -6,13 +6,10 @@ use Rattle.checker_lengths.specs.Entries.{noLength}
 use Rattle.checker_trace.specs.Code.{StepsIf}
 use mathlib.Core.Bool.{Bool}
 use borrow.Author.Tests.{le-leb}
-use Rattle.checker_lengths.specs.declared.Entry.{Entry}
 use Rattle.checker_lengths.specs.Entries.{held}
 use Rattle.checker_lengths.specs.Rounds.{FullIf}
-use native.Mathlib.Omega.{arith}
-use mathlib.Core.Path.{_≡_, refl, sym, ap, _∙_}
-use Prim.Native.Nat.{ℕ, suc, _+_, _-_, _≤_, _<_}
-use lib.ListN.{length, getD, take, drop, set}
+use mathlib.Core.Path.{refl, sym, ap, _∙_}
+use lib.ListN.{length}
 use borrow.Author.Needs.{needs}
 use Rattle.checker_trace.proofs.steps.Statement.{statement}
 use Rattle.checker_trace.proofs.steps.Tie as tie

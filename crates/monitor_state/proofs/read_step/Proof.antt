@@ -1,5 +1,5 @@
 -- `read_step` meets its contract. The ranges are tested by `ranges`; what is left is the kind.
-use mathlib.Core.Path.{_≡_, sym, ap, _∙_}
+use mathlib.Core.Path.{sym, ap, _∙_}
 use borrow.Author.Needs.{needs}
 use lib.ListN.{getElem?}
 use Rattle.usage.specs.Judge.{stepKinds, stepOf}

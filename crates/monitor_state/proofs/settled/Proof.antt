@@ -1,6 +1,5 @@
 use native.Mathlib.Nat.{lt-of-le-of-lt}
 use borrow.Author.Tests.{eq-eqb, ne-eqb}
-use borrow.Author.Needs.{needs}
 use lib.Count.{trailing-le}
 use lib.Dec.{lit<}
 use Rattle.monitor_state.specs.Code.{toldOf}

@@ -4,7 +4,6 @@ use native.Mathlib.Numerals.{add-one}
 use Rattle.report_lines.proofs.PutLaws.{sets-further}
 use Rattle.report_lines.proofs.FitLaws.{put-fits, end-fits, put-lacks, end-lacks}
 use native.Mathlib.Omega.{arith}
-use native.Mathlib.Nat.{zero-add}
 use mathlib.Core.Path.{_≡_, sym, _∙_}
 use Prim.Native.Nat.{_+_, _-_, _≤_, _<_}
 use lib.ListN.{length, take}

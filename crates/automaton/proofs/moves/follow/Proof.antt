@@ -1,6 +1,6 @@
 -- `follow` meets its contract. One way for each kind of label; the table of an instance that does not match is joined the empty set.
 use mathlib.Core.Bool.{true, false}
-use mathlib.Core.Path.{_≡_, sym}
+use mathlib.Core.Path.{sym}
 use borrow.Author.Tests.{eq-eqb, ne-eqb}
 use borrow.Author.Needs.{needs}
 use Rattle.automaton.proofs.RowLaws.{label-none, joined-none}

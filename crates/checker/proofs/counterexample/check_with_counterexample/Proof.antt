@@ -3,10 +3,6 @@ use Rattle.checker.specs.declared.Outcome.{Outcome}
 use Rattle.checker.specs.Promise.{outcomeVerdict, CheckPromise}
 use Rattle.checker.specs.Explained.{Explained}
 use Rattle.checker.proofs.ExplainedLaws.{named-explained}
-use native.Mathlib.Omega.{arith}
-use mathlib.Core.Path.{_≡_, refl, sym, ap, _∙_}
-use Prim.Native.Nat.{ℕ, suc, _+_, _-_, _≤_, _<_}
-use lib.ListN.{length, getD, take, drop, set}
 use borrow.Author.Needs.{needs}
 use Rattle.checker.proofs.counterexample.check_with_counterexample.Statement.{statement}
 use Rattle.checker.proofs.counterexample.check_with_counterexample.Tie as tie

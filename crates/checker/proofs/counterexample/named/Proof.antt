@@ -2,10 +2,6 @@ use mathlib.Core.Path.{subst}
 use Rattle.checker_trace.specs.declared.Length.{Length}
 use Rattle.checker_trace.specs.Answer.{Told}
 use Rattle.checker.specs.Explained.{NamedBy}
-use native.Mathlib.Omega.{arith}
-use mathlib.Core.Path.{_≡_, refl, sym, ap, _∙_}
-use Prim.Native.Nat.{ℕ, suc, _+_, _-_, _≤_, _<_}
-use lib.ListN.{length, getD, take, drop, set}
 use borrow.Author.Needs.{needs}
 use Rattle.checker.proofs.counterexample.named.Statement.{statement}
 use Rattle.checker.proofs.counterexample.named.Tie as tie

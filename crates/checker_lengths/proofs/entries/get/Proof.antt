@@ -1,9 +1,7 @@
-use Rattle.checker_lengths.proofs.EntryLaws.{bounds, linear-lt, held-out, held-less, held-more, plus-none, plus-some}
-use Rattle.usage.proofs.Logic.{not-true, not-false, by-cases, false-true}
+use Rattle.checker_lengths.proofs.EntryLaws.{linear-lt, held-out, held-less, held-more}
+use Rattle.usage.proofs.Logic.{not-true, not-false}
 use native.Mathlib.Omega.{arith}
-use mathlib.Core.Path.{_≡_, refl, sym, ap, _∙_}
-use Prim.Native.Nat.{ℕ, suc, _+_, _-_, _≤_, _<_}
-use lib.ListN.{length, getD, take, drop, set}
+use mathlib.Core.Path.{sym, _∙_}
 use borrow.Author.Needs.{needs}
 use Rattle.checker_lengths.proofs.entries.get.Statement.{statement}
 use Rattle.checker_lengths.proofs.entries.get.Tie as tie

@@ -1,10 +1,5 @@
-use borrow.Author.Tests.{lt-ltb, le-ltb, le-leb, lt-leb, eq-eqb, ne-eqb}
-use Rattle.checker_lengths.specs.Entries.{inTable, held, plus, entryOf, noLength, linear}
-use native.Mathlib.Omega.{arith}
-use mathlib.Core.Path.{_≡_, refl, sym, ap, _∙_}
-use Prim.Native.Nat.{ℕ, suc, _+_, _-_, _≤_, _<_}
-use lib.ListN.{length, getD, take, drop, set}
-use borrow.Author.Needs.{needs}
+use borrow.Author.Tests.{lt-ltb, le-ltb}
+use Rattle.checker_lengths.specs.Entries.{inTable}
 use Rattle.checker_lengths.proofs.entries.inside.Statement.{statement}
 use Rattle.checker_lengths.proofs.entries.inside.Tie as tie
 use Rattle.checker_lengths.proofs.entries.inside.Reads as reads

@@ -1,9 +1,5 @@
-use Rattle.checker_lengths.proofs.EntryLaws.{bounds, linear-lt, held-out, held-less, held-more, plus-none, plus-some}
+use Rattle.checker_lengths.proofs.EntryLaws.{bounds}
 use native.Mathlib.Omega.{arith}
-use mathlib.Core.Path.{_≡_, refl, sym, ap, _∙_}
-use Prim.Native.Nat.{ℕ, suc, _+_, _-_, _≤_, _<_}
-use lib.ListN.{length, getD, take, drop, set}
-use borrow.Author.Needs.{needs}
 use Rattle.checker_lengths.proofs.entries.place.Statement.{statement}
 use Rattle.checker_lengths.proofs.entries.place.Tie as tie
 use Rattle.checker_lengths.proofs.entries.place.Reads as reads

@@ -1,19 +1,9 @@
 use denote.Ref.{now}
 use mathlib.Core.Path.{subst}
-use mathlib.Core.Bool.{true, false}
 use mathlib.Core.List.{List}
-use mathlib.Core.Logic.{inl, inr}
-use borrow.Author.Count.{below-more}
 use Rattle.usage.specs.Limits.{mostNodes, nodeFields}
-use Rattle.usage.specs.Outline.{formOf}
-use Rattle.usage.proofs.Logic.{by-cases, not-true}
-use Rattle.checker_lengths.specs.declared.Entry.{Entry}
-use Rattle.checker_lengths.specs.Entries.{inTable, entryOf, linear}
-use Rattle.checker_lengths.specs.Offers.{toward, lowEnd, waysOf}
-use Rattle.checker_lengths.specs.Code.{Lowers, Onward, Pass}
-use Rattle.checker_lengths.specs.Rounds.{Settled, RuleSettled, StartSettled, NodeSettled, RoundSettled}
-use Rattle.checker_lengths.proofs.PassLaws.{pass-then, pass-none, pass-map}
-use Rattle.checker_lengths.proofs.EntryLaws.{in-table, bounds, toward-in, low-end-le}
+use Rattle.usage.proofs.Logic.{not-true}
+use Rattle.checker_lengths.specs.Rounds.{RoundSettled}
 use mathlib.Core.Bool.{Bool}
 use Prim.Native.Nat.{_/_}
 use lib.ListN.{replicate, length-replicate}
@@ -24,9 +14,9 @@ use Rattle.checker_account.specs.Rounds.{total}
 use Rattle.checker_account.proofs.Starts.{least-le}
 use Rattle.checker_lengths.specs.Rounds.{Reach, start, FullIf}
 use native.Mathlib.Omega.{arith}
-use mathlib.Core.Path.{_≡_, refl, sym, ap, _∙_}
-use Prim.Native.Nat.{ℕ, suc, _+_, _-_, _≤_, _<_}
-use lib.ListN.{length, getD, take, drop, set}
+use mathlib.Core.Path.{_≡_, refl, sym, _∙_}
+use Prim.Native.Nat.{ℕ}
+use lib.ListN.{length}
 use borrow.Author.Needs.{needs}
 use Rattle.checker_lengths.proofs.fill.fill.Statement.{statement}
 use Rattle.checker_lengths.proofs.fill.fill.Tie as tie

@@ -1,10 +1,7 @@
-use Rattle.checker_lengths.proofs.PassLaws.{pass-then, pass-none, pass-map, pass-kept, pass-falls}
+use Rattle.checker_lengths.proofs.PassLaws.{pass-kept, pass-falls}
 use Rattle.checker_lengths.proofs.EntryLaws.{linear-lt}
 use Rattle.usage.specs.Outline.{formOf}
 use native.Mathlib.Omega.{arith}
-use mathlib.Core.Path.{_≡_, refl, sym, ap, _∙_}
-use Prim.Native.Nat.{ℕ, suc, _+_, _-_, _≤_, _<_}
-use lib.ListN.{length, getD, take, drop, set}
 use borrow.Author.Needs.{needs}
 use Rattle.checker_lengths.proofs.fill.settle.Statement.{statement}
 use Rattle.checker_lengths.proofs.fill.settle.Tie as tie

@@ -1,23 +1,19 @@
 use denote.Ref.{now}
 use mathlib.Core.Path.{subst}
-use mathlib.Core.Bool.{true, false}
-use mathlib.Core.List.{List}
 use mathlib.Core.Logic.{inl, inr}
 use borrow.Author.Count.{below-more}
 use Rattle.usage.specs.Outline.{formOf}
-use Rattle.usage.proofs.Logic.{by-cases, not-true}
+use Rattle.usage.proofs.Logic.{by-cases}
 use Rattle.checker_lengths.specs.declared.Entry.{Entry}
-use Rattle.checker_lengths.specs.Entries.{inTable, entryOf, linear}
-use Rattle.checker_lengths.specs.Offers.{toward, lowEnd, waysOf}
-use Rattle.checker_lengths.specs.Code.{Lowers, Onward, Pass}
-use Rattle.checker_lengths.specs.Rounds.{Settled, RuleSettled, StartSettled, NodeSettled, RoundSettled}
+use Rattle.checker_lengths.specs.Offers.{toward}
+use Rattle.checker_lengths.specs.Code.{Lowers, Pass}
+use Rattle.checker_lengths.specs.Rounds.{StartSettled}
 use Rattle.checker_lengths.proofs.PassLaws.{pass-then, pass-none, pass-map}
-use Rattle.checker_lengths.proofs.EntryLaws.{in-table, bounds, toward-in, low-end-le}
+use Rattle.checker_lengths.proofs.EntryLaws.{in-table}
 use Rattle.checker_lengths.proofs.EntryLaws.{startAt, start-turn}
 use native.Mathlib.Omega.{arith}
-use mathlib.Core.Path.{_≡_, refl, sym, ap, _∙_}
-use Prim.Native.Nat.{ℕ, suc, _+_, _-_, _≤_, _<_}
-use lib.ListN.{length, getD, take, drop, set}
+use mathlib.Core.Path.{_∙_}
+use Prim.Native.Nat.{ℕ, _-_, _≤_, _<_}
 use borrow.Author.Needs.{needs}
 use Rattle.checker_lengths.proofs.fill.settle_node.Statement.{statement}
 use Rattle.checker_lengths.proofs.fill.settle_node.Tie as tie

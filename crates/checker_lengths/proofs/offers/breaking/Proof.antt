@@ -1,13 +1,6 @@
-use borrow.Author.Tests.{lt-ltb, le-ltb, le-leb, lt-leb, eq-eqb, ne-eqb}
-use Rattle.checker_account.specs.Tables.{half}
-use Rattle.automaton.specs.Mask.{offends}
-use Rattle.usage.proofs.Logic.{not-true, not-false, by-cases, false-true}
+use borrow.Author.Tests.{le-leb, lt-leb, eq-eqb, ne-eqb}
+use Rattle.usage.proofs.Logic.{not-true, not-false}
 use Rattle.checker_lengths.specs.Offers as spec
-use native.Mathlib.Omega.{arith}
-use mathlib.Core.Path.{_≡_, refl, sym, ap, _∙_}
-use Prim.Native.Nat.{ℕ, suc, _+_, _-_, _≤_, _<_}
-use lib.ListN.{length, getD, take, drop, set}
-use borrow.Author.Needs.{needs}
 use Rattle.checker_lengths.proofs.offers.breaking.Statement.{statement}
 use Rattle.checker_lengths.proofs.offers.breaking.Tie as tie
 use Rattle.checker_lengths.proofs.offers.breaking.Reads as reads

@@ -1,9 +1,6 @@
 use Rattle.checker_lengths.proofs.OfferLaws as laws
 use mathlib.Core.Bool.{true, false}
-use native.Mathlib.Omega.{arith}
-use mathlib.Core.Path.{_≡_, refl, sym, ap, _∙_}
-use Prim.Native.Nat.{ℕ, suc, _+_, _-_, _≤_, _<_}
-use lib.ListN.{length, getD, take, drop, set}
+use mathlib.Core.Path.{sym, _∙_}
 use borrow.Author.Needs.{needs}
 use Rattle.checker_lengths.proofs.offers.ending.Statement.{statement}
 use Rattle.checker_lengths.proofs.offers.ending.Tie as tie

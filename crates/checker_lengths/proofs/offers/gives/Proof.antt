@@ -1,16 +1,15 @@
 use Rattle.usage.specs.Limits.{mostShown}
-use Rattle.checker_lengths.specs.Entries.{inTable, held, plus, entryOf, noLength, linear}
+use Rattle.checker_lengths.specs.Entries.{held}
 use Rattle.checker_lengths.specs.Offers as spec
 use Rattle.checker_lengths.proofs.OfferLaws as laws
 use Rattle.automaton.specs.Mask.{has}
 use Prim.Native.Nat.{_%_}
 use Rattle.usage.specs.Outline.{formOf}
 use borrow.Author.Tests.{leb-false}
-use Rattle.usage.proofs.Logic.{not-true, not-false, by-cases, false-true}
+use Rattle.usage.proofs.Logic.{false-true}
 use native.Mathlib.Omega.{arith}
-use mathlib.Core.Path.{_≡_, refl, sym, ap, _∙_}
-use Prim.Native.Nat.{ℕ, suc, _+_, _-_, _≤_, _<_}
-use lib.ListN.{length, getD, take, drop, set}
+use mathlib.Core.Path.{sym, ap, _∙_}
+use Prim.Native.Nat.{ℕ}
 use borrow.Author.Needs.{needs}
 use Rattle.checker_lengths.proofs.offers.gives.Statement.{statement}
 use Rattle.checker_lengths.proofs.offers.gives.Tie as tie

@@ -1,11 +1,8 @@
 use Rattle.checker_lengths.proofs.OfferLaws as laws
-use Rattle.usage.proofs.Logic.{not-true, not-false, by-cases, false-true}
+use Rattle.usage.proofs.Logic.{by-cases}
 use mathlib.Core.Bool.{Bool, _||_}
 use lib.Dec.{eqb}
-use native.Mathlib.Omega.{arith}
-use mathlib.Core.Path.{_≡_, refl, sym, ap, _∙_}
-use Prim.Native.Nat.{ℕ, suc, _+_, _-_, _≤_, _<_}
-use lib.ListN.{length, getD, take, drop, set}
+use mathlib.Core.Path.{sym, ap, _∙_}
 use borrow.Author.Needs.{needs}
 use Rattle.checker_lengths.proofs.offers.inner.Statement.{statement}
 use Rattle.checker_lengths.proofs.offers.inner.Tie as tie

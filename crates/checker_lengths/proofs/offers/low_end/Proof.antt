@@ -1,8 +1,4 @@
 use Rattle.checker_account.proofs.CodeLaws.{made-some}
-use native.Mathlib.Omega.{arith}
-use mathlib.Core.Path.{_≡_, refl, sym, ap, _∙_}
-use Prim.Native.Nat.{ℕ, suc, _+_, _-_, _≤_, _<_}
-use lib.ListN.{length, getD, take, drop, set}
 use borrow.Author.Needs.{needs}
 use Rattle.checker_lengths.proofs.offers.low_end.Statement.{statement}
 use Rattle.checker_lengths.proofs.offers.low_end.Tie as tie

@@ -1,16 +1,14 @@
-use borrow.Author.Tests.{lt-ltb, le-ltb, le-leb, lt-leb, eq-eqb, ne-eqb}
-use Rattle.usage.proofs.Logic.{not-true, not-false, by-cases, false-true}
+use borrow.Author.Tests.{eq-eqb, ne-eqb}
+use Rattle.usage.proofs.Logic.{by-cases}
 use Rattle.checker_lengths.specs.Offers as spec
 use Rattle.checker_account.proofs.CodeLaws.{no-form}
-use Rattle.checker_lengths.specs.Entries.{inTable, held, plus, entryOf, noLength, linear}
+use Rattle.checker_lengths.specs.Entries.{held}
 use Rattle.usage.specs.Outline.{formOf}
 use native.Mathlib.Numerals.{add-one}
 use mathlib.Core.Bool.{Bool, cond}
 use lib.Dec.{eqb}
-use native.Mathlib.Omega.{arith}
-use mathlib.Core.Path.{_≡_, refl, sym, ap, _∙_}
-use Prim.Native.Nat.{ℕ, suc, _+_, _-_, _≤_, _<_}
-use lib.ListN.{length, getD, take, drop, set}
+use mathlib.Core.Path.{sym, ap, _∙_}
+use Prim.Native.Nat.{ℕ}
 use borrow.Author.Needs.{needs}
 use Rattle.checker_lengths.proofs.offers.offer.Statement.{statement}
 use Rattle.checker_lengths.proofs.offers.offer.Tie as tie

@@ -1,10 +1,5 @@
-use borrow.Author.Tests.{lt-ltb, le-ltb, le-leb, lt-leb, eq-eqb, ne-eqb}
-use Rattle.usage.proofs.Logic.{not-true, not-false, by-cases, false-true}
-use native.Mathlib.Omega.{arith}
-use mathlib.Core.Path.{_≡_, refl, sym, ap, _∙_}
-use Prim.Native.Nat.{ℕ, suc, _+_, _-_, _≤_, _<_}
-use lib.ListN.{length, getD, take, drop, set}
-use borrow.Author.Needs.{needs}
+use borrow.Author.Tests.{eq-eqb, ne-eqb}
+use Rattle.usage.proofs.Logic.{not-true, not-false}
 use Rattle.checker_lengths.proofs.offers.reopened.Statement.{statement}
 use Rattle.checker_lengths.proofs.offers.reopened.Tie as tie
 use Rattle.checker_lengths.proofs.offers.reopened.Reads as reads

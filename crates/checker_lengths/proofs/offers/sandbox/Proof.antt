@@ -1,14 +1,11 @@
-use Rattle.checker_lengths.specs.Entries.{inTable, held, plus, entryOf, noLength, linear}
+use Rattle.checker_lengths.specs.Entries.{held, plus}
 use mathlib.Core.Bool.{Bool, cond}
 use mathlib.Core.Path.{ap₂}
 use Rattle.checker_lengths.proofs.OfferLaws as laws
-use Rattle.usage.proofs.Logic.{not-true, not-false, by-cases, false-true}
-use borrow.Author.Tests.{lt-ltb, le-ltb, le-leb, lt-leb, eq-eqb, ne-eqb}
-use mathlib.Core.Bool.{true, false}
-use native.Mathlib.Omega.{arith}
-use mathlib.Core.Path.{_≡_, refl, sym, ap, _∙_}
-use Prim.Native.Nat.{ℕ, suc, _+_, _-_, _≤_, _<_}
-use lib.ListN.{length, getD, take, drop, set}
+use Rattle.usage.proofs.Logic.{by-cases}
+use borrow.Author.Tests.{eq-eqb, ne-eqb}
+use mathlib.Core.Bool.{false}
+use mathlib.Core.Path.{sym, ap, _∙_}
 use borrow.Author.Needs.{needs}
 use Rattle.checker_lengths.proofs.offers.sandbox.Statement.{statement}
 use Rattle.checker_lengths.proofs.offers.sandbox.Tie as tie

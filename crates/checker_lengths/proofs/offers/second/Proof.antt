@@ -1,10 +1,6 @@
 use Rattle.checker_lengths.proofs.OfferLaws as laws
-use Rattle.usage.proofs.Logic.{not-true, not-false, by-cases, false-true}
-use native.Mathlib.Omega.{arith}
-use mathlib.Core.Path.{_≡_, refl, sym, ap, _∙_}
-use Prim.Native.Nat.{ℕ, suc, _+_, _-_, _≤_, _<_}
-use lib.ListN.{length, getD, take, drop, set}
-use borrow.Author.Needs.{needs}
+use Rattle.usage.proofs.Logic.{by-cases}
+use mathlib.Core.Path.{_∙_}
 use Rattle.checker_lengths.proofs.offers.second.Statement.{statement}
 use Rattle.checker_lengths.proofs.offers.second.Tie as tie
 use Rattle.checker_lengths.proofs.offers.second.Reads as reads

@@ -1,10 +1,8 @@
-use Rattle.checker_lengths.specs.Entries.{inTable, held, plus, entryOf, noLength, linear}
+use Rattle.checker_lengths.specs.Entries.{held, plus}
 use mathlib.Core.Path.{ap₂}
 use Rattle.checker_lengths.proofs.OfferLaws as laws
 use native.Mathlib.Omega.{arith}
-use mathlib.Core.Path.{_≡_, refl, sym, ap, _∙_}
-use Prim.Native.Nat.{ℕ, suc, _+_, _-_, _≤_, _<_}
-use lib.ListN.{length, getD, take, drop, set}
+use mathlib.Core.Path.{ap, _∙_}
 use borrow.Author.Needs.{needs}
 use Rattle.checker_lengths.proofs.offers.sequence.Statement.{statement}
 use Rattle.checker_lengths.proofs.offers.sequence.Tie as tie

@@ -1,11 +1,7 @@
 use Rattle.checker_account.proofs.CodeLaws.{no-form}
 use Rattle.checker_lengths.specs.Offers.{waysOf}
 use Rattle.usage.specs.Outline.{formOf}
-use native.Mathlib.Omega.{arith}
-use mathlib.Core.Path.{_≡_, refl, sym, ap, _∙_}
-use Prim.Native.Nat.{ℕ, suc, _+_, _-_, _≤_, _<_}
-use lib.ListN.{length, getD, take, drop, set}
-use borrow.Author.Needs.{needs}
+use mathlib.Core.Path.{sym, ap}
 use Rattle.checker_lengths.proofs.offers.ways.Statement.{statement}
 use Rattle.checker_lengths.proofs.offers.ways.Tie as tie
 use Rattle.checker_lengths.proofs.offers.ways.Reads as reads

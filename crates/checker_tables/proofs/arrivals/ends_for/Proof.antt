@@ -1,4 +1,3 @@
-use borrow.Author.Needs.{needs}
 use Rattle.checker_tables.proofs.arrivals.ends_for.Statement.{statement}
 use Rattle.checker_tables.proofs.arrivals.ends_for.Tie as tie
 use Rattle.checker_tables.proofs.arrivals.ends_for.Reads as reads

@@ -4,7 +4,7 @@ use native.Mathlib.Omega.{arith}
 use mathlib.Core.Path.{ap, _∙_}
 use Prim.Native.Nat.{ℕ}
 use borrow.Author.Needs.{needs}
-use Rattle.checker_account.specs.Tables.{place, joinedAt, places}
+use Rattle.checker_account.specs.Tables.{place, joinedAt}
 use Rattle.checker_tables.proofs.arrivals.enter.Statement.{statement}
 use Rattle.checker_tables.proofs.arrivals.enter.Tie as tie
 use Rattle.checker_tables.proofs.arrivals.enter.Reads as reads

@@ -12,7 +12,6 @@ use Rattle.checker_tables.specs.Search.{comesRound, ComesBy}
 use Rattle.checker_account.proofs.RoundLaws.{Grows, Filling, most, joined-grows, grown-false, filling-length, nearer}
 use Rattle.checker_account.proofs.PassLaws.{pass-round-grows, pass-round-derived, pass-round-closed}
 use Rattle.checker_account.proofs.SearchLaws.{begins-wide}
-use borrow.Author.Needs.{needs}
 use Rattle.checker_tables.proofs.arrivals.fill.Statement.{statement}
 use Rattle.checker_tables.proofs.arrivals.fill.Tie as tie
 use Rattle.checker_tables.proofs.arrivals.fill.Reads as reads

@@ -1,18 +1,16 @@
 use native.Mathlib.Omega.{arith}
 use mathlib.Core.Path.{_≡_, refl, sym, ap, _∙_}
-use Prim.Native.Nat.{ℕ, _+_, _-_, _≤_, _<_, _*_, _/_}
-use lib.ListN.{length, getD}
+use Prim.Native.Nat.{ℕ, _+_, _-_, _≤_, _*_, _/_}
 use borrow.Author.Needs.{needs}
 use denote.Ref.{now}
 use mathlib.Core.Bool.{Bool, _||_, or-false}
 use mathlib.Core.List.{List}
 use Rattle.usage.proofs.Logic.{by-cases, or-right}
 use Rattle.usage.specs.Outline.{formOf}
-use Rattle.checker_account.specs.Tables.{rowsIn, place, meanings}
+use Rattle.checker_account.specs.Tables.{rowsIn, meanings}
 use Rattle.checker_account.specs.Rounds.{repeat, grown, byOpen, pass, odd, passNode, Wide}
 use Rattle.checker_account.proofs.RoundLaws.{Grows, grown-self, repeat-length, turn}
 use Rattle.checker_account.proofs.PassLaws.{pass-grows}
-use Rattle.checker_account.proofs.CodeLaws.{place-lt}
 use Rattle.usage.specs.declared.Node.{Node}
 use Rattle.checker_tables.proofs.arrivals.pass_node.Statement.{statement}
 use Rattle.checker_tables.proofs.arrivals.pass_node.Tie as tie

@@ -5,12 +5,12 @@ use mathlib.Core.List.{List}
 use Prim.Native.Nat.{ℕ, suc, _-_, _*_, _/_, _%_, _^_, _≤_, _<_}
 use lib.Bits.{bitOr}
 use lib.Pow.{pow-mono}
-use lib.ListN.{length, getD, replicate}
+use lib.ListN.{length, getD}
 use Rattle.usage.specs.Limits.{mostNodes, nodeFields}
 use Rattle.usage.specs.declared.Node.{Node}
 use Rattle.usage.specs.Outline.{formOf}
 use Rattle.usage.specs.Tables.{nodeAt}
-use Rattle.checker_account.specs.Tables.{places, meanings, rowsIn, Resets}
+use Rattle.checker_account.specs.Tables.{meanings, rowsIn, Resets}
 use Rattle.checker_account.specs.Rounds.{grown, formsIn, settleNode, Wide}
 use Rattle.checker_account.proofs.SettleLaws.{WideLent}
 use Rattle.checker_tables.specs.Search.{Small, NodesFit, resetsIf}
@@ -26,7 +26,6 @@ use Rattle.checker_tables.proofs.WorkLaws.{
   working-ends,
 }
 use Rattle.checker_tables.proofs.WorkLaws.{still-working, still-less, more-working, more-less}
-use borrow.Author.Needs.{needs}
 use Rattle.checker_tables.proofs.ends.fill.Statement.{statement}
 use Rattle.checker_tables.proofs.ends.fill.Tie as tie
 use Rattle.checker_tables.proofs.ends.fill.Reads as reads

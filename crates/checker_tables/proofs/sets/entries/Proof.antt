@@ -1,13 +1,10 @@
 use native.Mathlib.Omega.{arith}
-use mathlib.Core.Path.{_≡_, refl, sym, ap, _∙_, subst}
-use Prim.Native.Nat.{ℕ, _+_, _-_, _/_, _≤_, _<_}
-use mathlib.Core.Bool.{Bool, cond}
-use mathlib.Core.List.{List}
-use lib.Bits.{bitOr}
+use mathlib.Core.Path.{_≡_, refl, subst}
+use Prim.Native.Nat.{ℕ, _+_, _-_, _≤_}
 use Rattle.usage.specs.Limits.{states}
 use Rattle.checker_tables.specs.ByState.{ByState}
 use Rattle.checker_tables.proofs.ByStateLaws.{by-none, by-more}
-use lib.ListN.{getD, set, replicate}
+use lib.ListN.{getD, replicate}
 use borrow.Author.Needs.{needs}
 use Rattle.checker_tables.proofs.sets.entries.Statement.{statement}
 use Rattle.checker_tables.proofs.sets.entries.Tie as tie

@@ -1,7 +1,6 @@
 use native.Mathlib.Omega.{arith}
 use lib.Count.{leading-le}
 use Rattle.checker_tables.proofs.WorkLaws.{top-node}
-use borrow.Author.Needs.{needs}
 use Rattle.checker_tables.proofs.work.highest.Statement.{statement}
 use Rattle.checker_tables.proofs.work.highest.Tie as tie
 use Rattle.checker_tables.proofs.work.highest.Reads as reads

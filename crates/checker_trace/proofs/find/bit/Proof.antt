@@ -1,8 +1,5 @@
 use Rattle.checker_trace.proofs.BitLaws as laws
-use native.Mathlib.Omega.{arith}
-use mathlib.Core.Path.{_≡_, refl, sym, ap, _∙_}
-use Prim.Native.Nat.{ℕ, suc, _+_, _-_, _≤_, _<_}
-use lib.ListN.{length, getD, take, drop, set}
+use mathlib.Core.Path.{sym}
 use borrow.Author.Needs.{needs}
 use Rattle.checker_trace.proofs.find.bit.Statement.{statement}
 use Rattle.checker_trace.proofs.find.bit.Tie as tie

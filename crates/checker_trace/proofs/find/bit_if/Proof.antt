@@ -1,7 +1,3 @@
-use native.Mathlib.Omega.{arith}
-use mathlib.Core.Path.{_≡_, refl, sym, ap, _∙_}
-use Prim.Native.Nat.{ℕ, suc, _+_, _-_, _≤_, _<_}
-use lib.ListN.{length, getD, take, drop, set}
 use borrow.Author.Needs.{needs}
 use Rattle.checker_trace.proofs.find.bit_if.Statement.{statement}
 use Rattle.checker_trace.proofs.find.bit_if.Tie as tie

@@ -6,9 +6,9 @@ use mir.Val.{Fits}
 use mir.Syntax.{w64}
 use Rattle.checker_trace.specs.Code.{Spreads, begins, further}
 use native.Mathlib.Omega.{arith}
-use mathlib.Core.Path.{_≡_, refl, sym, ap, _∙_}
-use Prim.Native.Nat.{ℕ, suc, _+_, _-_, _≤_, _<_}
-use lib.ListN.{length, getD, take, drop, set}
+use mathlib.Core.Path.{sym, _∙_}
+use Prim.Native.Nat.{_-_}
+use lib.ListN.{length}
 use borrow.Author.Needs.{needs}
 use Rattle.checker_trace.proofs.find.closure.Statement.{statement}
 use Rattle.checker_trace.proofs.find.closure.Tie as tie

@@ -1,5 +1,4 @@
-use Prim.Native.Nat.{_/_}
-use mathlib.Core.Bool.{true, false}
+use mathlib.Core.Bool.{true}
 use mathlib.Core.Path.{subst}
 use borrow.Author.Count.{below-more}
 use Rattle.usage.specs.declared.Node.{Node}
@@ -11,9 +10,8 @@ use Rattle.checker_lengths.specs.Offers.{atNode, waysOf}
 use Rattle.checker_lengths.specs.Rounds.{formHere}
 use Rattle.checker_trace.specs.Code.{offerBelow, RuleIs}
 use native.Mathlib.Omega.{arith}
-use mathlib.Core.Path.{_≡_, refl, sym, ap, _∙_}
-use Prim.Native.Nat.{ℕ, suc, _+_, _-_, _≤_, _<_}
-use lib.ListN.{length, getD, take, drop, set}
+use mathlib.Core.Path.{_≡_, sym, ap, _∙_}
+use Prim.Native.Nat.{ℕ, _-_, _≤_, _<_}
 use borrow.Author.Needs.{needs}
 use Rattle.checker_trace.proofs.find.find.Statement.{statement}
 use Rattle.checker_trace.proofs.find.find.Tie as tie

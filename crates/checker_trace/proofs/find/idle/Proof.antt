@@ -4,9 +4,8 @@ use lib.Dec.{eqb}
 use Rattle.checker_lengths.specs.Entries.{entryOf, held}
 use Prim.Native.Nat.{_%_}
 use native.Mathlib.Omega.{arith}
-use mathlib.Core.Path.{_≡_, refl, sym, ap, _∙_}
-use Prim.Native.Nat.{ℕ, suc, _+_, _-_, _≤_, _<_}
-use lib.ListN.{length, getD, take, drop, set}
+use mathlib.Core.Path.{ap, _∙_}
+use Prim.Native.Nat.{ℕ, _+_}
 use borrow.Author.Needs.{needs}
 use Rattle.checker_trace.proofs.find.idle.Statement.{statement}
 use Rattle.checker_trace.proofs.find.idle.Tie as tie

@@ -3,10 +3,6 @@ use lib.Bits.{bitOr}
 use Rattle.usage.specs.Outline.{formOf}
 use Rattle.checker_trace.specs.Code.{leadsOf}
 use Rattle.checker_trace.proofs.BitLaws.{no-leads}
-use native.Mathlib.Omega.{arith}
-use mathlib.Core.Path.{_≡_, refl, sym, ap, _∙_}
-use Prim.Native.Nat.{ℕ, suc, _+_, _-_, _≤_, _<_}
-use lib.ListN.{length, getD, take, drop, set}
 use borrow.Author.Needs.{needs}
 use Rattle.checker_trace.proofs.find.leads.Statement.{statement}
 use Rattle.checker_trace.proofs.find.leads.Tie as tie

@@ -1,10 +1,9 @@
 use borrow.Author.Count.{below-more}
 use Rattle.usage.specs.Outline.{formOf}
-use Rattle.checker_trace.specs.Code.{offerBelow, RuleIs}
+use Rattle.checker_trace.specs.Code.{offerBelow}
 use native.Mathlib.Omega.{arith}
-use mathlib.Core.Path.{_≡_, refl, sym, ap, _∙_}
-use Prim.Native.Nat.{ℕ, suc, _+_, _-_, _≤_, _<_}
-use lib.ListN.{length, getD, take, drop, set}
+use mathlib.Core.Path.{_≡_, sym, _∙_}
+use Prim.Native.Nat.{ℕ, _-_, _≤_, _<_}
 use borrow.Author.Needs.{needs}
 use Rattle.checker_trace.proofs.find.rule.Statement.{statement}
 use Rattle.checker_trace.proofs.find.rule.Tie as tie

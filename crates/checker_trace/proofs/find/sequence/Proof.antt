@@ -1,14 +1,12 @@
-use borrow.Author.Tests.{lt-ltb, le-ltb, le-leb, lt-leb, eq-eqb, ne-eqb}
-use Rattle.usage.proofs.Logic.{not-true, not-false, by-cases, false-true}
+use borrow.Author.Tests.{eq-eqb, ne-eqb}
+use Rattle.usage.proofs.Logic.{by-cases}
 use mathlib.Core.Path.{ap₂}
 use mathlib.Core.Bool.{Bool, _||_}
 use lib.Dec.{eqb}
 use lib.Bits.{bitOr}
 use Rattle.checker_trace.specs.Code.{sequenceLeads, idleIn, bitIf}
-use native.Mathlib.Omega.{arith}
-use mathlib.Core.Path.{_≡_, refl, sym, ap, _∙_}
-use Prim.Native.Nat.{ℕ, suc, _+_, _-_, _≤_, _<_}
-use lib.ListN.{length, getD, take, drop, set}
+use mathlib.Core.Path.{_≡_, sym, ap, _∙_}
+use Prim.Native.Nat.{ℕ}
 use borrow.Author.Needs.{needs}
 use Rattle.checker_trace.proofs.find.sequence.Statement.{statement}
 use Rattle.checker_trace.proofs.find.sequence.Tie as tie

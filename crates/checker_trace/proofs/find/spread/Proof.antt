@@ -1,5 +1,5 @@
 use Rattle.usage.specs.Limits.{nodeFields}
-use Rattle.usage.proofs.Logic.{not-true, not-false, by-cases, false-true}
+use Rattle.usage.proofs.Logic.{by-cases}
 use Prim.Native.Nat.{_/_}
 use native.Mathlib.Numerals.{add-one}
 use mathlib.Core.Path.{ap₂}
@@ -12,8 +12,8 @@ use Rattle.checker_lengths.specs.Rounds.{formHere}
 use Rattle.checker_trace.specs.Code.{spreadTo, joinIf, leadsFrom}
 use native.Mathlib.Omega.{arith}
 use mathlib.Core.Path.{_≡_, refl, sym, ap, _∙_}
-use Prim.Native.Nat.{ℕ, suc, _+_, _-_, _≤_, _<_}
-use lib.ListN.{length, getD, take, drop, set}
+use Prim.Native.Nat.{ℕ, _-_, _≤_}
+use lib.ListN.{length}
 use borrow.Author.Needs.{needs}
 use Rattle.checker_trace.proofs.find.spread.Statement.{statement}
 use Rattle.checker_trace.proofs.find.spread.Tie as tie

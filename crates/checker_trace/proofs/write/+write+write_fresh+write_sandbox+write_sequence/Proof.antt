@@ -1,18 +1,14 @@
 use Rattle.checker_trace.proofs.StepLaws.{stored-length}
 use mathlib.Core.Path.{subst}
 use mathlib.Core.List.{List}
-use mathlib.Core.Option.{Option, some}
 use lib.ListN.{length-set}
-use Rattle.usage.specs.declared.Node.{Node}
-use Rattle.usage.specs.Outline.{Form, formOf, sequence, fresh, sandbox}
+use Rattle.usage.specs.Outline.{formOf}
 use Rattle.checker_lengths.specs.declared.Entry.{Entry}
 use Rattle.checker_lengths.specs.Entries.{held}
-use Rattle.checker_lengths.specs.Offers.{firstEntry, secondEntry, bodyEntry, innerEntry, around}
 use Rattle.checker_lengths.specs.Rounds.{formHere}
 use Rattle.checker_trace.specs.declared.Spot.{Spot}
 use Rattle.checker_trace.specs.declared.Names.{Names}
-use Rattle.checker_trace.specs.declared.Onto.{Onto}
-use Rattle.checker_trace.specs.Code.{OntoIs, storedStep, onward, created, given, WithinSteps, Writes, Chosen}
+use Rattle.checker_trace.specs.Code.{OntoIs, storedStep, onward, created, given, Writes}
 use Rattle.checker_trace.proofs.WriteLaws as laws
 use Rattle.checker_trace.proofs.PartLaws.{
   chosen-sequence,
@@ -29,8 +25,8 @@ use Rattle.checker_trace.proofs.FreshLaws.{wrote-born, wrote-fresh}
 use Rattle.checker_trace.proofs.KindLaws.{form-1, form-2, form-3, form-7, form-8, chosen-other}
 use native.Mathlib.Omega.{arith}
 use mathlib.Core.Path.{_≡_, refl, sym, ap, _∙_}
-use Prim.Native.Nat.{ℕ, suc, _+_, _-_, _*_, _/_, _≤_, _<_}
-use lib.ListN.{length, getD, take, drop, set}
+use Prim.Native.Nat.{ℕ, _+_, _-_, _*_, _≤_, _<_}
+use lib.ListN.{length}
 use borrow.Author.Needs.{needs}
 use borrow.Fn.Kinds.{In}
 use borrow.Fn.PlainCycle.{Measures, is, falls, and}

@@ -1,9 +1,7 @@
 use Rattle.checker_trace.specs.declared.Spot.{Spot}
 use Rattle.checker_trace.proofs.BitLaws.{spot}
-use native.Mathlib.Omega.{arith}
-use mathlib.Core.Path.{_≡_, refl, sym, ap, _∙_}
-use Prim.Native.Nat.{ℕ, suc, _+_, _-_, _≤_, _<_}
-use lib.ListN.{length, getD, take, drop, set}
+use mathlib.Core.Path.{ap}
+use Prim.Native.Nat.{_+_}
 use borrow.Author.Needs.{needs}
 use Rattle.checker_trace.proofs.write.create.Statement.{statement}
 use Rattle.checker_trace.proofs.write.create.Tie as tie

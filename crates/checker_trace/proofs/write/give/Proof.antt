@@ -4,8 +4,8 @@ use lib.Seq.{set-out}
 use mathlib.Core.List.{List}
 use native.Mathlib.Omega.{arith}
 use mathlib.Core.Path.{_≡_, refl, sym, ap, _∙_}
-use Prim.Native.Nat.{ℕ, suc, _+_, _-_, _≤_, _<_}
-use lib.ListN.{length, getD, take, drop, set}
+use Prim.Native.Nat.{ℕ}
+use lib.ListN.{length}
 use borrow.Author.Needs.{needs}
 use Rattle.checker_trace.proofs.write.give.Statement.{statement}
 use Rattle.checker_trace.proofs.write.give.Tie as tie

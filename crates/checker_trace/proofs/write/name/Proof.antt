@@ -1,8 +1,7 @@
 use lib.ListN.{List·getD-eq-default}
 use native.Mathlib.Omega.{arith}
-use mathlib.Core.Path.{_≡_, refl, sym, ap, _∙_}
-use Prim.Native.Nat.{ℕ, suc, _+_, _-_, _≤_, _<_}
-use lib.ListN.{length, getD, take, drop, set}
+use mathlib.Core.Path.{_≡_, sym}
+use lib.ListN.{length, getD}
 use borrow.Author.Needs.{needs}
 use Rattle.checker_trace.proofs.write.name.Statement.{statement}
 use Rattle.checker_trace.proofs.write.name.Tie as tie

@@ -1,12 +1,10 @@
 use native.Mathlib.Omega.{arith}
-use mathlib.Core.Path.{_≡_, refl, sym, ap, _∙_}
-use Prim.Native.Nat.{ℕ, suc, _+_, _-_, _≤_, _<_}
-use lib.ListN.{length, getD, take, drop, set}
+use mathlib.Core.Path.{_≡_, refl, sym}
+use Prim.Native.Nat.{ℕ, _-_, _≤_, _<_}
+use lib.ListN.{getD}
 use borrow.Author.Needs.{needs}
-use mathlib.Core.Bool.{true}
 use Rattle.usage.proofs.Logic.{by-cases, false-true, last-or-lower}
 use mathlib.Core.Path.{subst}
-use native.Mathlib.Numerals.{add-one}
 use Rattle.monitor_sets.proofs.order.agree.Statement.{statement}
 use Rattle.monitor_sets.proofs.order.agree.Tie as tie
 use Rattle.monitor_sets.proofs.order.agree.Reads as reads

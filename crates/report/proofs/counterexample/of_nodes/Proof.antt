@@ -1,7 +1,5 @@
 use native.Mathlib.Omega.{arith}
-use Prim.Native.Nat.{_+_, _≤_}
 use denote.Ref.{now}
-use lib.ListN.{length}
 use Rattle.usage.specs.Tables.{from, stepAt}
 use Rattle.report_lines.specs.Lines.{traceNamesLine}
 use Rattle.report_lines.proofs.RowLaws.{length-trace-names}

@@ -1,10 +1,9 @@
 use native.Mathlib.Omega.{arith}
 use mathlib.Core.Path.{_≡_, refl, sym, ap, _∙_}
-use Prim.Native.Nat.{_+_, _-_, _*_, _≤_}
+use Prim.Native.Nat.{_+_, _-_, _≤_}
 use denote.Ref.{now}
 use lib.ListN.{length, length-append}
 use lib.Seq.{sets, length-sets}
-use Rattle.usage.specs.Tables.{stepAt}
 use Rattle.report_lines.proofs.PutLaws.{sets-append}
 use Rattle.report_lines.proofs.FitLaws.{stored-at}
 use Rattle.report.specs.Counterexample.{stepRow}

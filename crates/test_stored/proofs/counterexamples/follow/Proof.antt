@@ -1,5 +1,4 @@
 -- As many steps are passed as turns were made.
-use native.Mathlib.Omega.{arith}
 use Prim.Native.Nat.{_-_, _≤_}
 use borrow.Author.Needs.{needs}
 use Rattle.test_stored.proofs.counterexamples.follow.Statement.{statement}

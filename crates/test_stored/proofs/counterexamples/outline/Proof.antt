@@ -1,5 +1,4 @@
 -- What a reader has stored has room in its table.
-use native.Mathlib.Omega.{arith}
 use Prim.Native.Nat.{_≤_}
 use denote.Ref.{now}
 use Rattle.usage.specs.Limits.{mostNodes}

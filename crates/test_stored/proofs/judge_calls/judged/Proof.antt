@@ -1,5 +1,4 @@
 -- The numbers that are handed back are those that the arrays then hold.
-use Prim.Native.Nat.{ℕ}
 use mathlib.Core.Path.{ap}
 use lib.ListN.{getD}
 use borrow.Author.Needs.{needs}
