@@ -12,7 +12,7 @@ use borrow.Author.Tests.{eq-eqb, ne-eqb}
 use Rattle.usage.specs.declared.Edge.{Edge}
 use Rattle.usage.specs.declared.Node.{Node}
 use Rattle.usage.specs.Policy.{Sees, Moves, along, stays, Offending}
-use Rattle.usage.specs.Past.{Past, isOpen, May, start, moved, opened, closed, Broken}
+use Rattle.usage.specs.Past.{Past, isOpen, May, start, moved, opened, closed, retired, Broken}
 use Rattle.usage.specs.Outline.{sandbox, nodeKinds, formOf, Is}
 use Rattle.usage.specs.Limits.{said}
 use Rattle.usage.specs.Tables.{edgesOf, nodesOf}
@@ -86,6 +86,7 @@ module _ (local : Bool) (es : List Edge) (p : ℕ) (bare : (e : Edge) → List·
       go true e = refl
       go false e = e
   at-start (closed m) = at-start m
+  at-start (retired m) = at-start m
 
   start-good : {q : ℕ} → 0 ≡ q → Offending q → ⊥
   start-good e (inl f) = omega arith

@@ -7,7 +7,8 @@ use lib.ListN.{length}
 use Rattle.usage.specs.declared.Node.{Node}
 use Rattle.usage.specs.declared.RawStep.{RawStep}
 use Rattle.usage.specs.Limits.{resources, create, mostCreated, mostUnclosed}
-use Rattle.usage.specs.Past.{Step, event, opening, closing, Past, creates, openStack}
+use Rattle.usage.specs.Past.{Step, event, opening, closing, retiring, Past, openStack, liveIn}
+use Rattle.usage.specs.Retirings.{Rises, Added}
 use Rattle.usage.specs.Outline.{IsTrace}
 use Rattle.monitor_state.specs.declared.State.{State}
 use Rattle.monitor_state.specs.declared.Answer.the-variants.{Allowed}
@@ -18,6 +19,7 @@ abbrev pub rawOf : Step → RawStep
 rawOf (event a r) = record { kind = 0; a = a; b = r }
 rawOf (opening p) = record { kind = 1; a = p; b = 0 }
 rawOf (closing p) = record { kind = 2; a = p; b = 0 }
+rawOf (retiring r) = record { kind = 3; a = r; b = 0 }
 
 -- the past once these steps, the oldest first, have been added to it
 unfoldable pub onto : List Step → Past → Past
@@ -30,7 +32,7 @@ pub record Low (past : Past) : Type 0 where
 
 -- a create or an opening beyond the judge's limits, with its number
 pub data Beyond (past : Past) : Step → ℕ → Type 0 where
-  create-beyond : {r : ℕ} → mostCreated ≤ creates past → Beyond past (event create r) 30
+  create-beyond : {r : ℕ} → mostCreated ≤ length (liveIn past) → Beyond past (event create r) 30
   opening-beyond : {p : ℕ} → mostUnclosed ≤ length (openStack past) → Beyond past (opening p) 32
 
 -- Handed to the judge one after the other, each with the state that the last one returned, every step is allowed up to the first
@@ -43,6 +45,9 @@ pub data Passes (t : List ℕ) (local : Bool) : Past → State → List Step →
   beyond : {past : Past} {s : State} {step : Step} {steps : List Step} {n : ℕ} → Beyond past step n
       → judgeOf t local s (rawOf step) ≡ refuse n s → Passes t local past s (step ∷ steps)
 
--- every trace of the outline whose numbers the judge takes, from the judge's start
+-- Every trace of the outline whose numbers the judge takes, from the judge's start: "for traces that create in rising order, with at most
+-- one retiring added for each created resource, after the last step on it" (02, L8), and so with none.
 abbrev pub NeverHalted : List ℕ → Bool → List Node → Type 0
-NeverHalted t local ns = (steps : List Step) → IsTrace ns (onto steps []) → Low (onto steps []) → Passes t local [] startState steps
+NeverHalted t local ns =
+    (steps more : List Step) → IsTrace ns (onto steps []) → Low (onto steps []) → Rises (onto steps []) → Added [] steps more
+    → Passes t local [] startState more

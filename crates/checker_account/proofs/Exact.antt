@@ -15,10 +15,11 @@ use Rattle.usage.specs.declared.Edge.{Edge}
 use Rattle.usage.specs.declared.Node.{Node}
 use Rattle.usage.specs.Limits.{mostShown}
 use Rattle.usage.specs.Policy.{Sees, EdgesOk}
-use Rattle.usage.specs.Past.{Step, event, opening, closing, Past, addIf, count, openings, closings, Open, isOpen, May, Violates, Numbered}
+use Rattle.usage.specs.Past.{Step, event, opening, closing, retiring, Past, addIf, count, openings, closings, Open, isOpen, May, Violates}
+use Rattle.usage.specs.Past.{Numbered}
 use Rattle.usage.specs.Outline.{noNames, IsTrace}
 use Rattle.usage.specs.Check.{Leaves, Shortest, Shown, longer}
-use Rattle.usage.proofs.PastLaws.{before-opening, before-closing, reopened-other}
+use Rattle.usage.proofs.PastLaws.{before-opening, before-closing, before-retiring, reopened-other}
 use Rattle.usage.proofs.TraceLaws.{trace-tail}
 use Rattle.checker_account.specs.Witness.{watched, Last, by-action, by-opening, Counts, one, Hits, Made, an-event, its-opening}
 use Rattle.checker_account.specs.Witness.{LeavesBy}
@@ -83,6 +84,9 @@ module _ (local : Bool) (es : List Edge) (ns : List Node) (p : ℕ) where
   brought-about (closing s ∷ past) t (o, (x, q, m, f)) =
       brought-later (length past) (length (closing s ∷ past)) (omega arith)
       (brought-about past (trace-tail t) (open-before-closing (eqb s p) (closings p past) (openings p past) o, (x, q, before-closing m, f)))
+  brought-about (retiring r ∷ past) t (o, (x, q, m, f)) =
+      brought-later (length past) (length (retiring r ∷ past)) (omega arith)
+      (brought-about past (trace-tail t) (o, (x, q, before-retiring m, f)))
 
 -- ── The theorems ──
 

@@ -14,7 +14,7 @@ use Rattle.usage.specs.declared.Edge.{Edge}
 use Rattle.usage.specs.declared.Node.{Node}
 use Rattle.usage.specs.Limits.{statics, create}
 use Rattle.usage.specs.Policy.{Sees, Moves, Offending, EdgesOk}
-use Rattle.usage.specs.Past.{Step, event, opening, closing, Past, addIf, count, Open, isOpen, reopened, May, Occurs, Violates}
+use Rattle.usage.specs.Past.{Step, event, opening, closing, retiring, Past, addIf, count, Open, isOpen, reopened, May, Occurs, Violates}
 use Rattle.usage.specs.Outline.{Is, end, on-static, on-name, sequence, choice, loop, back, fresh, sandbox, Names, noNames, give, Part}
 use Rattle.usage.specs.Outline.{node, close, Run, Advance, Runs, IsTrace}
 use Rattle.usage.proofs.PastLaws.{before-all, before-event, before-opening, before-closing, occurs-later}
@@ -68,6 +68,7 @@ module _ (local : Bool) (es : List Edge) (ns : List Node) (p x : ℕ) where
   Told (opening s ∷ past) = s ≡ p → (q : ℕ) → May local es p (Sees x) (opening s ∷ past) q → Offending q
       → Hits local es ns p (min x watched) (suc (length past)) by-opening
   Told (closing s ∷ past) = Unit {0}
+  Told (retiring r ∷ past) = Unit {0}
 
   module _ (scope : ℕ → ℕ → Type 0) (edges : EdgesOk es) (outline : Scoped ns scope) where
     -- what each form of node hands on

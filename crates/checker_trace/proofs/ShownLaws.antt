@@ -14,7 +14,7 @@ use Rattle.checker_trace.specs.Answer.{mostNumbers}
 use Rattle.usage.specs.declared.Edge.{Edge}
 use Rattle.usage.specs.Limits.{statics, mostShown, mostNodes, nodeFields}
 use Rattle.usage.specs.Policy.{Sees, Moves, along, stays, Offending, EdgesOk}
-use Rattle.usage.specs.Past.{Past, count, isOpen, May, start, moved, opened, closed}
+use Rattle.usage.specs.Past.{Past, count, isOpen, May, start, moved, opened, closed, retired}
 use Rattle.usage.specs.Outline.{on-static, noNames}
 use Rattle.usage.specs.Valid.{Scope, OutlineOk}
 use Rattle.usage.specs.Tables.{edgesOf, nodesOf}
@@ -162,6 +162,7 @@ module _ (local : Bool) (es : List Edge) (edges : EdgesOk es) (p : ℕ) (big : 8
   at-start (moved m v) = at-start m ∙ unmoved v
   at-start (opened {s = s} {past = past} {q = q} m) = stays-reset (local && (eqb s p && not (isOpen p past))) q (at-start m)
   at-start (closed m) = at-start m
+  at-start (retired m) = at-start m
 
   start-good : {q : ℕ} → 0 ≡ q → Offending q → ⊥
   start-good e (inl f) = omega arith

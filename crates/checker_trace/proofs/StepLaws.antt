@@ -10,7 +10,7 @@ use lib.ListN.{length, getD, take, drop, set, length-set, length-append, length-
 use lib.Seq.{sets, sets-eq, take-at, drop-append-add, drop-drop, getD-set-same, getD-set-other}
 use borrow.Author.Tests.{ne-eqb}
 use Rattle.usage.specs.Limits.{create, statics, stepFields}
-use Rattle.usage.specs.Past.{Step, event, opening, closing, Past, count, addIf, creates}
+use Rattle.usage.specs.Past.{Step, event, opening, closing, retiring, Past, count, addIf, creates}
 use Rattle.usage.specs.Outline as outline
 use Rattle.usage.proofs.TraceLaws.{give-same, give-other}
 use Rattle.checker_account.specs.Written.{next}
@@ -23,6 +23,7 @@ three-length : (s : Step) → length (three s) ≡ 3
 three-length (event a r) = refl
 three-length (opening p) = refl
 three-length (closing p) = refl
+three-length (retiring r) = refl
 
 pub numbers-length : (past : Past) → length (numbers past) ≡ stepFields * length past
 unfolding numbers

@@ -3,13 +3,15 @@ use Prim.Native.Nat.{ℕ, _+_, _*_}
 use mathlib.Core.List.{List, [], _∷_, _++_}
 use lib.ListN.{length, drop}
 use Rattle.usage.specs.Limits.{stepFields}
-use Rattle.usage.specs.Past.{Step, event, opening, closing, Past}
+use Rattle.usage.specs.Past.{Step, event, opening, closing, retiring, Past}
 
--- "kind 0 event (action 0 to 31, resource 0 to 65,535), 1 open (policy 0 to 7, 0), 2 close (policy 0 to 7, 0)"
+-- "kind 0 event (action 0 to 31, resource 0 to 65,535), 1 open (policy 0 to 7, 0), 2 close (policy 0 to 7, 0)"; "step kind 3, retire (a
+-- the resource, b 0)" (02, L8), which no run makes
 abbrev pub three : Step → List ℕ
 three (event a r) = 0 ∷ a ∷ r ∷ []
 three (opening p) = 1 ∷ p ∷ 0 ∷ []
 three (closing p) = 2 ∷ p ∷ 0 ∷ []
+three (retiring r) = 3 ∷ r ∷ 0 ∷ []
 
 unfoldable pub numbers : Past → List ℕ
 numbers [] = []

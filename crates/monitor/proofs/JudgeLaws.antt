@@ -1,17 +1,19 @@
 -- The judge's answer to a step, case by case.
 use Prim.Native.Nat.{ℕ, zero, suc, _<_, _≤_}
-use mathlib.Core.Path.{_≡_, refl}
-use mathlib.Core.Bool.{Bool, true, false}
+use mathlib.Core.Path.{_≡_, refl, sym}
+use mathlib.Core.Bool.{Bool, true, false, not, _&&_, _||_, cond}
 use mathlib.Core.List.{List}
-use mathlib.Core.Option.{none, some}
+use mathlib.Core.Option.{Option, none, some}
 use native.Mathlib.Omega.{arith}
+use lib.Dec.{ltb}
 use borrow.Author.Tests.{eq-eqb, ne-eqb, le-leb, lt-leb, lt-ltb, le-ltb}
 use Rattle.usage.specs.declared.Edge.{Edge}
 use Rattle.usage.specs.declared.RawStep.{RawStep}
 use Rattle.usage.specs.Limits.{statics, mostCreated, mostUnclosed}
-use Rattle.usage.specs.Past.{Step, event, opening, closing}
+use Rattle.usage.specs.Past.{Step, event, opening, closing, retiring}
 use Rattle.usage.specs.Judge.{stepOf}
 use Rattle.usage.specs.Tables.{edgesOf, edgeTable}
+use Rattle.usage.proofs.Logic.{false-true}
 use Rattle.monitor_state.specs.declared.State.{State}
 use Rattle.monitor_state.specs.Judge.{live, listed, openingsOf, lastOpened, stateOk, after, broken, refusal, refuse, settle, judgeStep}
 use Rattle.monitor_state.specs.Judge.{judgeRead, judgeOf}
@@ -57,17 +59,35 @@ module _ (s : State) (r : ℕ) where
   unfolding refusal
   create-static h = simp (lt-ltb r statics h)
 
-  pub create-again : statics ≤ r → listed r (live s) ≡ true → refusal s (event 0 r) ≡ some 23
+  pub create-low : statics ≤ r → r ≤ s .highest → refusal s (event 0 r) ≡ some 27
   unfolding refusal
-  create-again h l = simp (le-ltb r statics h, l)
+  create-low h l = simp (le-ltb r statics h, le-leb r (s .highest) l)
 
-  pub create-full : statics ≤ r → listed r (live s) ≡ false → mostCreated ≤ s .count → refusal s (event 0 r) ≡ some 30
+  pub create-full : statics ≤ r → s .highest < r → mostCreated ≤ s .count → refusal s (event 0 r) ≡ some 30
   unfolding refusal
-  create-full h l f = simp (le-ltb r statics h, l, le-leb mostCreated (s .count) f)
+  create-full h l f = simp (le-ltb r statics h, lt-leb r (s .highest) l, le-leb mostCreated (s .count) f)
 
-  pub create-free : statics ≤ r → listed r (live s) ≡ false → s .count < mostCreated → refusal s (event 0 r) ≡ none
+  pub create-free : statics ≤ r → s .highest < r → s .count < mostCreated → refusal s (event 0 r) ≡ none
   unfolding refusal
-  create-free h l f = simp (le-ltb r statics h, l, lt-leb mostCreated (s .count) f)
+  create-free h l f = simp (le-ltb r statics h, lt-leb r (s .highest) l, lt-leb mostCreated (s .count) f)
+
+  -- a retiring
+  pub retiring-unknown : known s r ≡ false → refusal s (retiring r) ≡ some 28
+  unfolding refusal
+  retiring-unknown k = go (ltb r statics) (listed r (live s)) k
+    where
+      go : (b c : Bool) → (b || c) ≡ false → cond {A = Option ℕ} (not b && c) none (some 28) ≡ some 28
+      go true c e = refl
+      go false true e = false-true (sym e)
+      go false false e = refl
+
+  pub retiring-static : r < statics → refusal s (retiring r) ≡ some 28
+  unfolding refusal
+  retiring-static h = simp (lt-ltb r statics h)
+
+  pub retiring-free : statics ≤ r → listed r (live s) ≡ true → refusal s (retiring r) ≡ none
+  unfolding refusal
+  retiring-free h l = simp (le-ltb r statics h, l)
 
   -- another event
   pub use-unknown : (a : ℕ) → (a ≡ 0 → ⊥) → known s r ≡ false → refusal s (event a r) ≡ some 24

@@ -22,19 +22,24 @@ ghost use Rattle.usage.specs.Past.{event};
 ghost use Rattle.usage.specs.Judge.{stepOf};
 ghost use Rattle.usage.specs.Tables.{edgesOf};
 ghost use Rattle.monitor_sets.specs.Instances.{instances};
+ghost use Rattle.monitor_sets.specs.Created.{highestOk};
 ghost use Rattle.monitor_sets.specs.Order.{orderOk};
 ghost use Rattle.monitor_state.specs.Judge.{startState, judgeRead, judgeOf};
 ghost use Rattle.monitor_state.specs.Promise.{StandsForNothing, Keeps};
 ghost use Rattle.monitor_state.specs.Renamed.{SameAnswers};
+ghost use Rattle.monitor_state.specs.Others.{OthersKept};
 ghost use Rattle.monitor_state.specs.Code.{stateOf, judgementOf, stepped};
 
+mod retiring;
 mod sandboxes;
 
-// The start stands for the empty past, and from it no answer depends on how the dynamic resources are numbered.
+// The start stands for the empty past, and from it no answer depends on how the dynamic resources are numbered, but for their order, nor,
+// before the first 30, on retirings that are added.
 pub fn start() -> State
     ensures { λ r. ⌜ r ≡ startState ⌝ }
     ensures { λ r. ⌜ StandsForNothing r ⌝ }
     ensures { λ r. ⌜ SameAnswers r ⌝ }
+    ensures { λ r. ⌜ OthersKept r ⌝ }
 {
     let sets = [1u8; SETS];
     let possible = [1u8; POLICIES];
@@ -46,6 +51,7 @@ pub fn start() -> State
         possible,
         created,
         count: 0,
+        highest: 0,
         unclosed,
         order,
         depth: 0,
@@ -62,26 +68,28 @@ fn judge_create(
     created: &mut [u32; MOST_CREATED],
     unclosed: &[u8; POLICIES],
     count: usize,
+    highest: u32,
     depth: usize,
     r: u32,
 ) -> Told
     requires { ⌜ length (now created) ≡ mostCreated ⌝ }
     requires { ⌜ count ≤ mostCreated ⌝ }
+    requires { ⌜ highestOk highest count (now created) ≡ true ⌝ }
     ensures { λ t.
         ⌜ ((local : Bool) (order : List ℕ)
         → judgementOf t (now (sets .exit)) (now (possible .exit)) (now (created .exit)) (now (unclosed .entry)) order
         ≡ stepped local (edgesOf (now (edges .entry)))
-        (stateOf (now (sets .entry)) (now (possible .entry)) (now (created .entry)) count (now (unclosed .entry)) order depth false)
+        (stateOf (now (sets .entry)) (now (possible .entry)) (now (created .entry)) count highest (now (unclosed .entry)) order depth false)
         (event 0 r)) ⌝ }
 {
     if r < STATICS {
-        return monitor_state::refused(22, count, depth, false);
+        return monitor_state::refused(22, count, highest, depth, false);
     }
-    if monitor_sets::created::place_of(created, count, r) != UNSEEN {
-        return monitor_state::refused(23, count, depth, false);
+    if r <= highest {
+        return monitor_state::refused(27, count, highest, depth, false);
     }
     if MOST_CREATED <= count {
-        return monitor_state::refused(30, count, depth, false);
+        return monitor_state::refused(30, count, highest, depth, false);
     }
     let at = FIRST_CREATED + count;
     let bad = monitor_sets::instances::take_event(
@@ -97,9 +105,15 @@ fn judge_create(
     if bad == 0 {
         created[count] = r;
     }
-    let before = Sizes { count, depth };
+    let before = Sizes {
+        count,
+        highest,
+        depth,
+    };
+    let more = count + 1;
     let after = Sizes {
-        count: count + 1,
+        count: more,
+        highest: r,
         depth,
     };
     monitor_state::settled(bad, before, after)
@@ -112,25 +126,37 @@ fn judge_event(
     created: &mut [u32; MOST_CREATED],
     unclosed: &[u8; POLICIES],
     count: usize,
+    highest: u32,
     depth: usize,
     action: u32,
     r: u32,
 ) -> Told
     requires { ⌜ length (now created) ≡ mostCreated ⌝ }
     requires { ⌜ count ≤ mostCreated ⌝ }
+    requires { ⌜ highestOk highest count (now created) ≡ true ⌝ }
     ensures { λ t.
         ⌜ ((local : Bool) (order : List ℕ)
         → judgementOf t (now (sets .exit)) (now (possible .exit)) (now (created .exit)) (now (unclosed .entry)) order
         ≡ stepped local (edgesOf (now (edges .entry)))
-        (stateOf (now (sets .entry)) (now (possible .entry)) (now (created .entry)) count (now (unclosed .entry)) order depth false)
+        (stateOf (now (sets .entry)) (now (possible .entry)) (now (created .entry)) count highest (now (unclosed .entry)) order depth false)
         (event action r)) ⌝ }
 {
     if action == 0 {
-        return judge_create(edges, sets, possible, created, unclosed, count, depth, r);
+        return judge_create(
+            edges,
+            sets,
+            possible,
+            created,
+            unclosed,
+            count,
+            highest,
+            depth,
+            r,
+        );
     }
     let at = monitor_sets::created::place_of(created, count, r);
     if at == UNSEEN {
-        return monitor_state::refused(24, count, depth, false);
+        return monitor_state::refused(24, count, highest, depth, false);
     }
     let n = FIRST_CREATED + count;
     let bad = monitor_sets::instances::take_event(
@@ -143,7 +169,11 @@ fn judge_event(
         action,
         r,
     );
-    let sizes = Sizes { count, depth };
+    let sizes = Sizes {
+        count,
+        highest,
+        depth,
+    };
     monitor_state::settled(bad, sizes, sizes)
 }
 
@@ -156,17 +186,19 @@ fn judge_read(
     unclosed: &mut [u8; POLICIES],
     order: &mut [u8; MOST_UNCLOSED],
     count: usize,
+    highest: u32,
     depth: usize,
     step: RawStep,
 ) -> Told
     requires { ⌜ length (now created) ≡ mostCreated ⌝ }
     requires { ⌜ count ≤ mostCreated ⌝ }
+    requires { ⌜ highestOk highest count (now created) ≡ true ⌝ }
     requires { ⌜ length (now order) ≡ mostUnclosed ⌝ }
     requires { ⌜ orderOk depth (now order) (now unclosed) ≡ true ⌝ }
     ensures { λ r.
         ⌜ judgementOf r (now (sets .exit)) (now (possible .exit)) (now (created .exit)) (now (unclosed .exit)) (now (order .exit))
         ≡ judgeRead local (edgesOf (now (edges .entry)))
-        (stateOf (now (sets .entry)) (now (possible .entry)) (now (created .entry)) count (now (unclosed .entry)) (now (order .entry)) depth
+        (stateOf (now (sets .entry)) (now (possible .entry)) (now (created .entry)) count highest (now (unclosed .entry)) (now (order .entry)) depth
         false)
         (stepOf step) ⌝ }
 {
@@ -179,6 +211,7 @@ fn judge_read(
             created,
             unclosed,
             count,
+            highest,
             depth,
             action,
             r,
@@ -190,6 +223,7 @@ fn judge_read(
             unclosed,
             order,
             count,
+            highest,
             depth,
             p,
         ),
@@ -198,10 +232,21 @@ fn judge_read(
             unclosed,
             order,
             count,
+            highest,
             depth,
             p,
         ),
-        Read::Nothing => monitor_state::refused(21, count, depth, false),
+        Read::Retiring(r) => crate::retiring::judge_retiring(
+            sets,
+            possible,
+            created,
+            unclosed,
+            count,
+            highest,
+            depth,
+            r,
+        ),
+        Read::Nothing => monitor_state::refused(21, count, highest, depth, false),
     }
 }
 
@@ -216,6 +261,7 @@ pub fn judge_lent(
     unclosed: &mut [u8; POLICIES],
     order: &mut [u8; MOST_UNCLOSED],
     count: usize,
+    highest: u32,
     depth: usize,
     halted: bool,
     step: RawStep,
@@ -223,21 +269,24 @@ pub fn judge_lent(
     ensures { λ r.
         ⌜ judgementOf r (now (sets .exit)) (now (possible .exit)) (now (created .exit)) (now (unclosed .exit)) (now (order .exit))
         ≡ judgeOf (now (edges .entry)) local
-        (stateOf (now (sets .entry)) (now (possible .entry)) (now (created .entry)) count (now (unclosed .entry)) (now (order .entry)) depth
+        (stateOf (now (sets .entry)) (now (possible .entry)) (now (created .entry)) count highest (now (unclosed .entry)) (now (order .entry)) depth
         halted)
         step ⌝ }
 {
     if !sheet_fields::edges::edge_table_ok(edges) {
-        return monitor_state::refused(41, count, depth, halted);
+        return monitor_state::refused(41, count, highest, depth, halted);
     }
     if !monitor_sets::created::created_ok(created, count) {
-        return monitor_state::refused(42, count, depth, halted);
+        return monitor_state::refused(42, count, highest, depth, halted);
+    }
+    if !monitor_sets::created::highest_ok(created, count, highest) {
+        return monitor_state::refused(42, count, highest, depth, halted);
     }
     if !monitor_sets::order::order_ok(order, depth, unclosed) {
-        return monitor_state::refused(42, count, depth, halted);
+        return monitor_state::refused(42, count, highest, depth, halted);
     }
     if halted {
-        return monitor_state::refused(20, count, depth, halted);
+        return monitor_state::refused(20, count, highest, depth, halted);
     }
     judge_read(
         edges,
@@ -248,6 +297,7 @@ pub fn judge_lent(
         unclosed,
         order,
         count,
+        highest,
         depth,
         step,
     )
@@ -273,6 +323,7 @@ pub fn judge(edges: &[u8], local: bool, s: State, step: RawStep) -> Judgement
         &mut unclosed,
         &mut order,
         s.count,
+        s.highest,
         s.depth,
         s.halted,
         step,
@@ -283,6 +334,7 @@ pub fn judge(edges: &[u8], local: bool, s: State, step: RawStep) -> Judgement
         possible,
         created,
         count: t.count,
+        highest: t.highest,
         unclosed,
         order,
         depth: t.depth,

@@ -112,6 +112,7 @@ pub(crate) fn judge_opening(
     unclosed: &mut [u8; POLICIES],
     order: &mut [u8; MOST_UNCLOSED],
     count: usize,
+    highest: u32,
     depth: usize,
     p: usize,
 ) -> Told
@@ -123,16 +124,22 @@ pub(crate) fn judge_opening(
         ⌜ ((es : List Edge) (created : List ℕ)
         → judgementOf r (now (sets .exit)) (now (possible .exit)) created (now (unclosed .exit)) (now (order .exit))
         ≡ stepped local es
-        (stateOf (now (sets .entry)) (now (possible .entry)) created count (now (unclosed .entry)) (now (order .entry)) depth false)
+        (stateOf (now (sets .entry)) (now (possible .entry)) created count highest (now (unclosed .entry)) (now (order .entry)) depth false)
         (opening p)) ⌝ }
 {
     if MOST_UNCLOSED <= depth {
-        return monitor_state::refused(32, count, depth, false);
+        return monitor_state::refused(32, count, highest, depth, false);
     }
-    let before = Sizes { count, depth };
+    let before = Sizes {
+        count,
+        highest,
+        depth,
+    };
+    let deeper = depth + 1;
     let after = Sizes {
         count,
-        depth: depth + 1,
+        highest,
+        depth: deeper,
     };
     if is_anew(local, unclosed, p) {
         let n = FIRST_CREATED + count;
@@ -149,6 +156,7 @@ pub(crate) fn judge_closing(
     unclosed: &mut [u8; POLICIES],
     order: &[u8; MOST_UNCLOSED],
     count: usize,
+    highest: u32,
     depth: usize,
     p: usize,
 ) -> Told
@@ -159,20 +167,26 @@ pub(crate) fn judge_closing(
         ⌜ ((local : Bool) (es : List Edge) (sets created : List ℕ)
         → judgementOf r sets (now (possible .entry)) created (now (unclosed .exit)) (now (order .entry))
         ≡ stepped local es
-        (stateOf sets (now (possible .entry)) created count (now (unclosed .entry)) (now (order .entry)) depth false) (closing p)) ⌝ }
+        (stateOf sets (now (possible .entry)) created count highest (now (unclosed .entry)) (now (order .entry)) depth false) (closing p)) ⌝ }
 {
     let n = unclosed[p];
     if n == 0 {
-        return monitor_state::refused(25, count, depth, false);
+        return monitor_state::refused(25, count, highest, depth, false);
     }
     if monitor_sets::order::wide(order[depth - 1]) != p {
-        return monitor_state::refused(26, count, depth, false);
+        return monitor_state::refused(26, count, highest, depth, false);
     }
     let bad = recount(possible, unclosed, p, n - 1);
-    let before = Sizes { count, depth };
+    let before = Sizes {
+        count,
+        highest,
+        depth,
+    };
+    let left = depth - 1;
     let after = Sizes {
         count,
-        depth: depth - 1,
+        highest,
+        depth: left,
     };
     monitor_state::settled(bad, before, after)
 }

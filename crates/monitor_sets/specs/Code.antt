@@ -2,6 +2,7 @@
 use Prim.Native.Nat.{ℕ, zero, suc, _+_, _*_, _/_, _%_, _^_}
 use mathlib.Core.Bool.{Bool, true, _&&_, cond}
 use mathlib.Core.List.{List}
+use lib.Bits.{bitOr}
 use lib.Dec.{eqb, leb, ltb}
 use lib.ListN.{getD}
 use Rattle.usage.specs.declared.Edge.{Edge}
@@ -9,7 +10,8 @@ use Rattle.usage.specs.Limits.{policies, states}
 use Rattle.usage.specs.Tables.{from}
 use Rattle.automaton.specs.Mask.{union, offends}
 use Rattle.automaton.specs.Move.{moveBy}
-use Rattle.monitor_sets.specs.Instances.{instances, setPlaces}
+use Rattle.monitor_sets.specs.Instances.{retirees, instances, setPlaces}
+use Rattle.monitor_sets.specs.Created.{behind}
 use Rattle.monitor_sets.specs.Sets.{copied, movedSets}
 
 -- ── Created resources ──
@@ -60,3 +62,19 @@ allMoved own other n at m sets =
 -- the sets after the event a(r): where it creates r, r's instance is first what that of a resource that never occurred is
 unfoldable pub eventSets : List Edge → ℕ → ℕ → ℕ → ℕ → List ℕ → List ℕ
 eventSets es a r at n sets = movedSets es a r at n (cond (eqb a 0) (copied sets at) sets)
+
+-- ── Retiring ──
+
+-- place `at` of the n sets from place k on is closed up
+unfoldable pub rowClosed : ℕ → ℕ → ℕ → List ℕ → List ℕ
+rowClosed k at n sets = from (λ j. getD sets (behind (k + at) (k + n) j) 0) 0 setPlaces
+
+-- what stands at place k once instance `at` of the first n is retired
+abbrev pub retiredTo : ℕ → ℕ → List ℕ → ℕ → ℕ
+retiredTo at n sets k =
+    cond (eqb (k % instances) retirees) (bitOr (getD sets k 0) (getD sets (k / instances * instances + at) 0))
+    (getD sets (k / instances * instances + behind at n (k % instances)) 0)
+
+-- it is retired in the policies below m
+unfoldable pub retiredBelow : ℕ → ℕ → ℕ → List ℕ → List ℕ
+retiredBelow at n m sets = from (λ k. cond (ltb (k / instances) m) (retiredTo at n sets k) (getD sets k 0)) 0 setPlaces

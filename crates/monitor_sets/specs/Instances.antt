@@ -6,9 +6,14 @@ use Rattle.usage.specs.Limits.{statics, policies, mostCreated}
 abbrev pub unseen : ℕ
 unseen = statics
 
--- the instance of the first created resource; the others' follow
+-- the one set of the retired resources' instances: "its possible states join one set per policy that moves on as an instance other than
+-- any resource used" (02, L8)
+abbrev pub retirees : ℕ
+retirees = unseen + 1
+
+-- the instance of the first live resource; the others' follow
 abbrev pub firstCreated : ℕ
-firstCreated = unseen + 1
+firstCreated = retirees + 1
 
 abbrev pub instances : ℕ
 instances = firstCreated + mostCreated

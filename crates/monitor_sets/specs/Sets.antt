@@ -4,16 +4,25 @@ use mathlib.Core.Bool.{_&&_, cond}
 use mathlib.Core.List.{List}
 use lib.Dec.{eqb, ltb}
 use lib.ListN.{getD}
+use lib.Bits.{bitOr}
 use Rattle.usage.specs.declared.Edge.{Edge}
 use Rattle.usage.specs.Limits.{policies}
 use Rattle.usage.specs.Tables.{from}
-use Rattle.monitor_sets.specs.Instances.{unseen, instances, setPlaces}
+use Rattle.monitor_sets.specs.Instances.{unseen, retirees, instances, setPlaces}
+use Rattle.monitor_sets.specs.Created.{behind}
 use Rattle.automaton.specs.Mask.{union}
 use Rattle.automaton.specs.Move.{moveMask}
 
 -- "Before a resource is created, its instance has moved as one that never occurs."
 unfoldable pub copied : List ℕ → ℕ → List ℕ
 copied sets i = from (λ k. cond (eqb (k % instances) i) (getD sets (k / instances * instances + unseen) 0) (getD sets k 0)) 0 setPlaces
+
+-- "The retired resource's instance may still break a policy, so its possible states join one set per policy" (02, L8): instance `at` of the
+-- first n is retired, and its place is closed up; the other places keep their contents
+unfoldable pub retiredSets : ℕ → ℕ → List ℕ → List ℕ
+retiredSets at n sets =
+    from (λ k. cond (eqb (k % instances) retirees) (bitOr (getD sets k 0) (getD sets (k / instances * instances + at) 0))
+    (getD sets (k / instances * instances + behind at n (k % instances)) 0)) 0 setPlaces
 
 -- the instances in use move on the event a(r), instance `own` as that of r; the other places keep their contents
 unfoldable pub movedSets : List Edge → ℕ → ℕ → ℕ → ℕ → List ℕ → List ℕ

@@ -12,7 +12,7 @@ ghost use lib.ListN.{length, take, drop};
 ghost use Rattle.usage.specs.Limits.{mostCreated};
 ghost use Rattle.usage.specs.Tests.{every};
 ghost use Rattle.monitor_sets.specs.Instances.{firstCreated};
-ghost use Rattle.monitor_sets.specs.Created.{listed, distinct, dynamic, placeFrom, placeIn, createdOk};
+ghost use Rattle.monitor_sets.specs.Created.{listed, distinct, dynamic, placeFrom, placeIn, createdOk, highestOk};
 ghost use Rattle.monitor_sets.specs.Code.{rises};
 
 // How many endings of numbers are told apart where numbers are compared.
@@ -156,4 +156,31 @@ pub fn created_ok(created: &[u32; MOST_CREATED], count: usize) -> bool
         return rising_sound(created, count);
     }
     all_sound(created, count)
+}
+
+// Is no live resource's number above the highest one? No early exit, so that several are compared at once.
+fn none_above(created: &[u32; MOST_CREATED], count: usize, highest: u32) -> bool
+    requires { ⌜ length (now created) ≡ mostCreated ⌝ }
+    requires { ⌜ count ≤ mostCreated ⌝ }
+    ensures { λ r. ⌜ r ≡ highestOk highest count (now (created .entry)) ⌝ }
+{
+    let mut above = false;
+    let mut i: usize = 0;
+    while i < count {
+        if highest < created[i] {
+            above = true;
+        }
+        i += 1;
+    }
+    !above
+}
+
+// "42 also refuses a highest number below a live one".
+pub fn highest_ok(created: &[u32; MOST_CREATED], count: usize, highest: u32) -> bool
+    ensures { λ r. ⌜ r ≡ highestOk highest count (now (created .entry)) ⌝ }
+{
+    let all = *created;
+    created_length(all);
+    let n = at_most_created(count);
+    none_above(created, n, highest)
 }

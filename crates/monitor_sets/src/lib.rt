@@ -6,12 +6,16 @@ use usage::STATICS;
 pub mod created;
 pub mod instances;
 pub mod order;
+pub mod retiring;
 
 // The instance of every resource that never occurred; those below are the static resources'.
 pub const UNSEEN: usize = STATICS as usize;
 
-// The instance of the first created resource; the others' follow.
-pub const FIRST_CREATED: usize = UNSEEN + 1;
+// The one set of the retired resources' instances, which move on as one other than any resource used.
+pub const RETIREES: usize = UNSEEN + 1;
+
+// The instance of the first live resource; the others' follow.
+pub const FIRST_CREATED: usize = RETIREES + 1;
 
 // The instances of a policy.
 pub const INSTANCES: usize = FIRST_CREATED + MOST_CREATED;

@@ -1,36 +1,66 @@
--- The judge does not tell the dynamic resources apart by their numbers: a step of a renamed state is the renamed step of the state.
+-- The judge tells the dynamic resources apart by the order of their numbers alone: a step of a renamed state is the renamed step of the
+-- state.
 use Prim.Native.Nat.{ℕ, zero, suc, _+_, _-_, _/_, _%_, _<_, _≤_}
 use mathlib.Core.Path.{_≡_, refl, sym, ap, ap₂, _∙_}
 use mathlib.Core.Bool.{Bool, true, false, not, _&&_, _||_, cond}
-use mathlib.Core.List.{List, [], _∷_, map, List·Memᴰ}
+use mathlib.Core.List.{List, [], _∷_, map, List·Memᴰ, List·Memᴰ·head, List·Memᴰ·tail}
+use mathlib.Core.Logic.{_⊎_, inl, inr}
 use mathlib.Core.Option.{Option, none, some}
 use native.Mathlib.Omega.{arith}
-use lib.Dec.{eqb, leb, ltb}
-use lib.ListN.{getD, getElem?, take, set}
-use borrow.Author.Tests.{eq-eqb, eqb-true, lt-leb, le-leb, leb-true, le-ltb, ltb-true}
+use native.Mathlib.Decide.{decLt}
+use lib.Dec.{eqb, leb, ltb, lit<}
+use lib.ListN.{getD, getElem?, take, set, replicate, List·getD-map}
+use borrow.Author.Tests.{eq-eqb, ne-eqb, eqb-true, lt-leb, le-leb, leb-true, leb-false, le-ltb, ltb-true, ltb-false}
 use Rattle.usage.specs.declared.Edge.{Edge}
 use Rattle.usage.specs.declared.RawStep.{RawStep}
 use Rattle.usage.specs.Limits.{statics, resources, actions, policies, mostCreated, within, _until_, unused}
-use Rattle.usage.specs.Past.{Step, event, opening, closing}
+use Rattle.usage.specs.Past.{Step, event, opening, closing, retiring}
 use Rattle.usage.specs.Judge.{stepKinds, guard, inRange, stepOf}
-use Rattle.usage.specs.Tables.{edgesOf, edgeTable}
+use Rattle.usage.specs.Tables.{from, edgesOf, edgeTable}
 use Rattle.usage.specs.Tests.{every}
-use Rattle.usage.proofs.Logic.{not-both, both-ways, and-left, and-right, and-both}
+use Rattle.usage.proofs.Logic.{by-cases, false-true, and-left, and-right, and-both}
 use Rattle.usage.proofs.TableLaws.{from-ext, decides-edge-table}
 use Rattle.automaton.specs.Mask.{lowestIn}
 use Rattle.automaton.proofs.SameLaws.{moveMask-same}
 use Rattle.monitor_sets.specs.Instances.{firstCreated, instances, setPlaces}
+use Rattle.monitor_sets.specs.Created.{behind}
 use Rattle.monitor_state.specs.declared.State.{State}
 use Rattle.monitor_state.specs.declared.Answer.{Answer}
 use Rattle.monitor_state.specs.declared.Answer.the-variants.{Allowed, Violated}
 use Rattle.monitor_state.specs.declared.Judgement.{Judgement}
-use Rattle.monitor_state.specs.Judge.{startState, live, listed, distinct, dynamic, createdOk, orderOk, stateOk, placeFrom, placeOf}
-use Rattle.monitor_state.specs.Judge.{used, movedSets, createdIn, movedIn, withOpenings, withSets, resetIn, after}
+use Rattle.monitor_state.specs.Judge.{startState, live, listed, distinct, dynamic, createdOk, highestOk, orderOk, stateOk, placeFrom, placeOf}
+use Rattle.monitor_state.specs.Judge.{closedUp, used, movedSets, createdIn, retiredIn, movedIn, withOpenings, withSets, resetIn, after}
 use Rattle.monitor_state.specs.Judge.{broken, refusal, refuse, halt, settle}
 use Rattle.monitor_state.specs.Judge.{judgeStep, judgeRead, judgeOf, answersOf}
-use Rattle.monitor_state.specs.Renamed.{Renaming, renamed, renamedStep, SameAnswers}
+use Rattle.monitor_state.specs.Renamed.{eventKind, retiringKind, Names, Occurring, Renaming, renamed, renamedStep, SameAnswers}
 
 -- ── Lists whose elements are renamed ──
+
+-- all numbers of a list are such
+abbrev All : (ℕ → Type 0) → List ℕ → Type 0
+All P [] = Unit {0}
+All P (y ∷ l) = P y × All P l
+
+module _ (P : ℕ → Type 0) where
+  all-take : (n : ℕ) (l : List ℕ) → All P l → All P (take n l)
+  all-take zero l h = tt
+  all-take (suc n) [] h = tt
+  all-take (suc n) (y ∷ l) h = (h .0, all-take n l (h .1))
+
+  all-set : (l : List ℕ) (i x : ℕ) → P x → All P l → All P (set l i x)
+  all-set [] i x p h = tt
+  all-set (y ∷ l) zero x p h = (p, h .1)
+  all-set (y ∷ l) (suc i) x p h = (h .0, all-set l i x p (h .1))
+
+  all-at : P 0 → (l : List ℕ) (i : ℕ) → All P l → P (getD l i 0)
+  all-at z [] i h = z
+  all-at z (y ∷ l) zero h = h .0
+  all-at z (y ∷ l) (suc i) h = all-at z l i (h .1)
+
+  all-from : (f : ℕ → ℕ) (k n : ℕ) → ((i : ℕ) → P (f i)) → All P (from f k n)
+  unfolding from
+  all-from f k zero h = tt
+  all-from f k (suc n) h = (h k, all-from f (suc k) n h)
 
 module _ (g : ℕ → ℕ) where
   take-map : (n : ℕ) (l : List ℕ) → take n (map g l) ≡ map g (take n l)
@@ -43,36 +73,51 @@ module _ (g : ℕ → ℕ) where
   set-map (y ∷ l) zero x = refl
   set-map (y ∷ l) (suc i) x = ap (λ (t : List ℕ). g y ∷ t) (set-map l i x)
 
-  every-map : (test : ℕ → Bool) → ((x : ℕ) → test (g x) ≡ test x) → (l : List ℕ) → every test (map g l) ≡ every test l
-  unfolding every
-  every-map test h [] = refl
-  every-map test h (y ∷ l) = ap₂ (λ (b c : Bool). b && c) (h y) (every-map test h l)
+  from-map : (f : ℕ → ℕ) (k n : ℕ) → from (λ i. g (f i)) k n ≡ map g (from f k n)
+  unfolding from
+  from-map f k zero = refl
+  from-map f k (suc n) = ap (λ (t : List ℕ). g (f k) ∷ t) (from-map f (suc k) n)
 
-  module _ (same : (x y : ℕ) → eqb (g x) (g y) ≡ eqb x y) where
-    listed-map : (x : ℕ) (l : List ℕ) → listed (g x) (map g l) ≡ listed x l
-    unfolding listed
-    listed-map x [] = refl
-    listed-map x (y ∷ l) = ap₂ (λ (b c : Bool). b || c) (same y x) (listed-map x l)
+  closed-map : g 0 ≡ 0 → (i n : ℕ) (l : List ℕ) → closedUp i n (map g l) ≡ map g (closedUp i n l)
+  unfolding closedUp
+  closed-map z i n l =
+      from-ext (λ k. getD (map g l) (behind i n k) 0) (λ k. g (getD l (behind i n k) 0)) 0 mostCreated (λ k h.
+      ap (getD (map g l) (behind i n (0 + k))) (sym z) ∙ List·getD-map g l (behind i n (0 + k)) 0)
+      ∙ from-map (λ k. getD l (behind i n k) 0) 0 mostCreated
 
-    distinct-map : (l : List ℕ) → distinct (map g l) ≡ distinct l
-    unfolding distinct
-    distinct-map [] = refl
-    distinct-map (y ∷ l) = ap₂ (λ (b c : Bool). not b && c) (listed-map y l) (distinct-map l)
+  module _ (P : ℕ → Type 0) where
+    every-map : (test wider : ℕ → Bool) → ((x : ℕ) → P x → test (g x) ≡ wider x) → (l : List ℕ) → All P l → every test (map g l) ≡ every wider l
+    unfolding every
+    every-map test wider h [] a = refl
+    every-map test wider h (y ∷ l) a = ap₂ (λ (b c : Bool). b && c) (h y (a .0)) (every-map test wider h l (a .1))
 
-    place-map : (x n : ℕ) (l : List ℕ) → placeFrom (g x) n (map g l) ≡ placeFrom x n l
-    unfolding placeFrom
-    place-map x n [] = refl
-    place-map x n (y ∷ l) = ap₂ (λ (b : Bool) (m : ℕ). cond b n m) (same y x) (place-map x (suc n) l)
+    module _ (same : (x y : ℕ) → P x → P y → eqb (g x) (g y) ≡ eqb x y) where
+      listed-map : (x : ℕ) (l : List ℕ) → P x → All P l → listed (g x) (map g l) ≡ listed x l
+      unfolding listed
+      listed-map x [] p a = refl
+      listed-map x (y ∷ l) p a = ap₂ (λ (b c : Bool). b || c) (same y x (a .0) p) (listed-map x l p (a .1))
+
+      distinct-map : (l : List ℕ) → All P l → distinct (map g l) ≡ distinct l
+      unfolding distinct
+      distinct-map [] a = refl
+      distinct-map (y ∷ l) a = ap₂ (λ (b c : Bool). not b && c) (listed-map y l (a .0) (a .1)) (distinct-map l (a .1))
+
+      place-map : (x n : ℕ) (l : List ℕ) → P x → All P l → placeFrom (g x) n (map g l) ≡ placeFrom x n l
+      unfolding placeFrom
+      place-map x n [] p a = refl
+      place-map x n (y ∷ l) p a = ap₂ (λ (b : Bool) (m : ℕ). cond b n m) (same y x (a .0) p) (place-map x (suc n) l p (a .1))
 
 -- ── What is renamed ──
 
--- Two states are alike under the renaming where the created lists are renamed place by place, and all else is equal.
+-- Two states are alike under the renaming where the lists of live resources are renamed place by place, and so is the highest number, and
+-- all else is equal.
 abbrev renamedState : (ℕ → ℕ) → State → State
 renamedState f s = record {
   sets = s .sets;
   possible = s .possible;
   created = map (renamed f) (s .created);
   count = s .count;
+  highest = renamed f (s .highest);
   unclosed = s .unclosed;
   order = s .order;
   depth = s .depth;
@@ -87,6 +132,7 @@ abbrev renamedRead : (ℕ → ℕ) → Step → Step
 renamedRead f (event a r) = event a (renamed f r)
 renamedRead f (opening p) = opening p
 renamedRead f (closing p) = closing p
+renamedRead f (retiring r) = retiring (renamed f r)
 
 abbrev renamedOption : (ℕ → ℕ) → Option Step → Option Step
 renamedOption f none = none
@@ -98,8 +144,26 @@ least x e = leb-true statics x (and-left (leb statics x) (ltb x resources) e)
 most : (x : ℕ) → dynamic x ≡ true → x < resources
 most x e = ltb-true x resources (and-right (leb statics x) (ltb x resources) e)
 
-module _ (f : ℕ → ℕ) (R : Renaming f) where
+-- a number that is not dynamic is below or above all that are
+outside : (x : ℕ) → dynamic x ≡ false → (x < statics) ⊎ (resources ≤ x)
+outside x e = go (leb statics x) refl (ltb x resources) refl e
+  where
+    go : (b : Bool) → leb statics x ≡ b → (c : Bool) → ltb x resources ≡ c → (b && c) ≡ false → (x < statics) ⊎ (resources ≤ x)
+    go true b true c n = false-true (sym n)
+    go true b false c n = inr (ltb-false x resources c)
+    go false b c m n = inl (leb-false statics x b)
+
+-- f renames the numbers N, in their order
+record Orders (f : ℕ → ℕ) (N : ℕ → Type 0) : Type 0 where
+  among : (x : ℕ) → N x → dynamic (f x) ≡ true
+  keeps-order : (x y : ℕ) → N x → N y → x < y → f x < f y
+
+module _ (f : ℕ → ℕ) (N : ℕ → Type 0) (R : Orders f N) where
   -- ── Numbers ──
+
+  -- x is not dynamic, or one of those that are renamed
+  abbrev In : ℕ → Type 0
+  In x = dynamic x ≡ true → N x
 
   at-dynamic : (x : ℕ) → dynamic x ≡ true → renamed f x ≡ f x
   unfolding renamed
@@ -109,48 +173,70 @@ module _ (f : ℕ → ℕ) (R : Renaming f) where
   unfolding renamed
   at-other x e = ap (λ (b : Bool). cond b (f x) x) e
 
-  dynamic-same : (x : ℕ) → dynamic (renamed f x) ≡ dynamic x
-  dynamic-same x = go (dynamic x) refl
+  dynamic-same : (x : ℕ) → In x → dynamic (renamed f x) ≡ dynamic x
+  dynamic-same x i = go (dynamic x) refl
     where
       go : (b : Bool) → dynamic x ≡ b → dynamic (renamed f x) ≡ b
-      go true e = ap (λ (n : ℕ). dynamic n) (at-dynamic x e) ∙ R .among x e
+      go true e = ap (λ (n : ℕ). dynamic n) (at-dynamic x e) ∙ R .among x (i e)
       go false e = ap (λ (n : ℕ). dynamic n) (at-other x e) ∙ e
 
-  apart : (x y : ℕ) → renamed f x ≡ renamed f y → x ≡ y
-  apart x y e = go (dynamic x) refl (dynamic y) refl
+  rises : (x y : ℕ) → In x → In y → x < y → renamed f x < renamed f y
+  rises x y i j l = go (dynamic x) refl (dynamic y) refl
     where
-      both : dynamic x ≡ dynamic y
-      both = sym (dynamic-same x) ∙ ap (λ (n : ℕ). dynamic n) e ∙ dynamic-same y
+      go : (b : Bool) → dynamic x ≡ b → (c : Bool) → dynamic y ≡ c → renamed f x < renamed f y
+      go true p true q = let h = R .keeps-order x y (i p) (j q) l in omega (arith, at-dynamic x p, at-dynamic y q)
+      go true p false q =
+          let m = most (renamed f x) (dynamic-same x i ∙ p) in
+          let z = at-other y q in
+          by-cases (outside y q) (λ k. absurd (let h = least x p in omega arith)) (λ k. omega arith)
+      go false p true q =
+          let m = least (renamed f y) (dynamic-same y j ∙ q) in
+          let z = at-other x p in
+          by-cases (outside x p) (λ k. omega arith) (λ k. absurd (let h = most y q in omega arith))
+      go false p false q = omega (arith, at-other x p, at-other y q)
 
-      go : (b : Bool) → dynamic x ≡ b → (c : Bool) → dynamic y ≡ c → x ≡ y
-      go true p true q = R .one-to-one x y p q (sym (at-dynamic x p) ∙ e ∙ at-dynamic y q)
-      go true p false q = not-both (dynamic x) p (both ∙ q)
-      go false p true q = not-both (dynamic x) (both ∙ q) p
-      go false p false q = sym (at-other x p) ∙ e ∙ at-other y q
+  number-same : (x y : ℕ) → In x → In y → eqb (renamed f x) (renamed f y) ≡ eqb x y
+  number-same x y i j = go (decLt x y) (decLt y x)
+    where
+      go : Dec (x < y) → Dec (y < x) → eqb (renamed f x) (renamed f y) ≡ eqb x y
+      go (yes l) d = let h = rises x y i j l in ne-eqb (renamed f x) (renamed f y) (λ e. omega arith) ∙ sym (ne-eqb x y (λ e. omega arith))
+      go (no m) (yes l) = let h = rises y x j i l in ne-eqb (renamed f x) (renamed f y) (λ e. omega arith) ∙ sym (ne-eqb x y (λ e. omega arith))
+      go (no m) (no k) =
+          let e : x ≡ y = omega arith in
+          eq-eqb (renamed f x) (renamed f y) (ap (renamed f) e) ∙ sym (eq-eqb x y e)
 
-  number-same : (x y : ℕ) → eqb (renamed f x) (renamed f y) ≡ eqb x y
-  number-same x y =
-      both-ways (eqb (renamed f x) (renamed f y)) (eqb x y) (λ e. eq-eqb x y (apart x y (eqb-true (renamed f x) (renamed f y) e)))
-      (λ e. eq-eqb (renamed f x) (renamed f y) (ap (renamed f) (eqb-true x y e)))
+  order-same : (x y : ℕ) → In x → In y → leb (renamed f x) (renamed f y) ≡ leb x y
+  order-same x y i j = go (decLt x y) (decLt y x)
+    where
+      go : Dec (x < y) → Dec (y < x) → leb (renamed f x) (renamed f y) ≡ leb x y
+      go (yes l) d = let h = rises x y i j l in le-leb (renamed f x) (renamed f y) (omega arith) ∙ sym (le-leb x y (omega arith))
+      go (no m) (yes l) = let h = rises y x j i l in lt-leb (renamed f x) (renamed f y) h ∙ sym (lt-leb x y l)
+      go (no m) (no k) =
+          let e : x ≡ y = omega arith in
+          let z : renamed f x ≡ renamed f y = ap (renamed f) e in
+          le-leb (renamed f x) (renamed f y) (omega arith) ∙ sym (le-leb x y (omega arith))
+
+  static-in : (x : ℕ) → x < statics → In x
+  static-in x h e = absurd (let l = least x e in omega arith)
 
   at-static : (x : ℕ) → x < statics → renamed f x ≡ x
   at-static x h = at-other x (ap (λ (b : Bool). b && ltb x resources) (lt-leb statics x h))
 
-  static-same : (x : ℕ) → ltb (renamed f x) statics ≡ ltb x statics
-  static-same x = go (dynamic x) refl
+  static-same : (x : ℕ) → In x → ltb (renamed f x) statics ≡ ltb x statics
+  static-same x i = go (dynamic x) refl
     where
       go : (b : Bool) → dynamic x ≡ b → ltb (renamed f x) statics ≡ ltb x statics
       go true e =
-          let d : dynamic (renamed f x) ≡ true = dynamic-same x ∙ e in
+          let d : dynamic (renamed f x) ≡ true = dynamic-same x i ∙ e in
           le-ltb (renamed f x) statics (least (renamed f x) d) ∙ sym (le-ltb x statics (least x e))
       go false e = ap (λ (n : ℕ). ltb n statics) (at-other x e)
 
   -- an edge names a static resource
-  named-same : (x who : ℕ) → who < statics → eqb (renamed f x) who ≡ eqb x who
-  named-same x who h = ap (λ (n : ℕ). eqb (renamed f x) n) (sym (at-static who h)) ∙ number-same x who
+  named-same : (x who : ℕ) → In x → who < statics → eqb (renamed f x) who ≡ eqb x who
+  named-same x who i h = ap (λ (n : ℕ). eqb (renamed f x) n) (sym (at-static who h)) ∙ number-same x who i (static-in who h)
 
-  range-same : (x : ℕ) → within (0 until resources) (renamed f x) ≡ within (0 until resources) x
-  range-same x = go (dynamic x) refl
+  range-same : (x : ℕ) → In x → within (0 until resources) (renamed f x) ≡ within (0 until resources) x
+  range-same x i = go (dynamic x) refl
     where
       inside : (y : ℕ) → dynamic y ≡ true → within (0 until resources) y ≡ true
       inside y e =
@@ -158,84 +244,166 @@ module _ (f : ℕ → ℕ) (R : Renaming f) where
           and-both (leb 0 y) (leb y (resources - 1)) (le-leb 0 y (omega arith)) (le-leb y (resources - 1) (omega arith))
 
       go : (b : Bool) → dynamic x ≡ b → within (0 until resources) (renamed f x) ≡ within (0 until resources) x
-      go true e = inside (renamed f x) (dynamic-same x ∙ e) ∙ sym (inside x e)
+      go true e = inside (renamed f x) (dynamic-same x i ∙ e) ∙ sym (inside x e)
       go false e = ap (λ (n : ℕ). within (0 until resources) n) (at-other x e)
 
   -- ── The step as it is handed over ──
 
-  step-renamed : (raw : RawStep) → stepOf (renamedStep f raw) ≡ renamedOption f (stepOf raw)
+  -- what the step names is not dynamic or renamed
+  abbrev RawIn : RawStep → Type 0
+  RawIn raw = (x : ℕ) → Names raw x → In x
+
+  abbrev StepIn : Step → Type 0
+  StepIn (event a r) = In r
+  StepIn (opening p) = Unit {0}
+  StepIn (closing p) = Unit {0}
+  StepIn (retiring r) = In r
+
+  abbrev OptionIn : Option Step → Type 0
+  OptionIn none = Unit {0}
+  OptionIn (some step) = StepIn step
+
+  step-in : (raw : RawStep) → RawIn raw → OptionIn (stepOf raw)
+  unfolding stepOf
+  step-in raw h = go (raw .kind) refl
+    where
+      guarded : (b : Bool) (step : Step) → StepIn step → OptionIn (guard b step)
+      guarded true step i = i
+      guarded false step i = tt
+
+      go : (k : ℕ) → raw .kind ≡ k → OptionIn (inRange (getElem? stepKinds k) (raw .a) (raw .b))
+      go zero e =
+          guarded (within (0 until actions) (raw .a) && within (0 until resources) (raw .b)) (event (raw .a) (raw .b)) (h (raw .b) (inl (e, refl)))
+      go (suc zero) e = guarded (within (0 until policies) (raw .a) && within unused (raw .b)) (opening (raw .a)) tt
+      go (suc (suc zero)) e = guarded (within (0 until policies) (raw .a) && within unused (raw .b)) (closing (raw .a)) tt
+      go (suc (suc (suc zero))) e =
+          guarded (within (0 until resources) (raw .a) && within unused (raw .b)) (retiring (raw .a)) (h (raw .a) (inr (e, refl)))
+      go (suc (suc (suc (suc k)))) e = tt
+
+  step-renamed : (raw : RawStep) → RawIn raw → stepOf (renamedStep f raw) ≡ renamedOption f (stepOf raw)
   unfolding stepOf renamedStep
-  step-renamed raw = go (raw .kind)
+  step-renamed raw h = go (raw .kind) refl
     where
       guarded : (b : Bool) (step : Step) → guard b (renamedRead f step) ≡ renamedOption f (guard b step)
       guarded true step = refl
       guarded false step = refl
 
-      go : (k : ℕ) → inRange (getElem? stepKinds k) (raw .a) (cond (eqb k 0) (renamed f (raw .b)) (raw .b))
+      go : (k : ℕ) → raw .kind ≡ k
+          → inRange (getElem? stepKinds k) (cond (eqb k 3) (renamed f (raw .a)) (raw .a)) (cond (eqb k 0) (renamed f (raw .b)) (raw .b))
           ≡ renamedOption f (inRange (getElem? stepKinds k) (raw .a) (raw .b))
-      go zero =
-          ap (λ (b : Bool). guard (within (0 until actions) (raw .a) && b) (event (raw .a) (renamed f (raw .b)))) (range-same (raw .b))
+      go zero e =
+          ap (λ (b : Bool). guard (within (0 until actions) (raw .a) && b) (event (raw .a) (renamed f (raw .b))))
+          (range-same (raw .b) (h (raw .b) (inl (e, refl))))
           ∙ guarded (within (0 until actions) (raw .a) && within (0 until resources) (raw .b)) (event (raw .a) (raw .b))
-      go (suc zero) = guarded (within (0 until policies) (raw .a) && within unused (raw .b)) (opening (raw .a))
-      go (suc (suc zero)) = guarded (within (0 until policies) (raw .a) && within unused (raw .b)) (closing (raw .a))
-      go (suc (suc (suc k))) = refl
+      go (suc zero) e = guarded (within (0 until policies) (raw .a) && within unused (raw .b)) (opening (raw .a))
+      go (suc (suc zero)) e = guarded (within (0 until policies) (raw .a) && within unused (raw .b)) (closing (raw .a))
+      go (suc (suc (suc zero))) e =
+          ap (λ (b : Bool). guard (b && within unused (raw .b)) (retiring (renamed f (raw .a)))) (range-same (raw .a) (h (raw .a) (inr (e, refl))))
+          ∙ guarded (within (0 until resources) (raw .a) && within unused (raw .b)) (retiring (raw .a))
+      go (suc (suc (suc (suc k)))) e = refl
 
   -- ── The state ──
+
+  -- all numbers of the state are not dynamic or renamed
+  record StateIn (s : State) : Type 0 where
+    each : All In (s .created)
+    top : In (s .highest)
+
+  live-in : (s : State) → StateIn s → All In (live s)
+  live-in s i = all-take In (s .count) (s .created) (i .each)
 
   live-renamed : (s : State) → live (renamedState f s) ≡ map (renamed f) (live s)
   live-renamed s = take-map (renamed f) (s .count) (s .created)
 
-  state-renamed : (s : State) → stateOk (renamedState f s) ≡ stateOk s
-  unfolding stateOk createdOk
-  state-renamed s =
-      let o : Bool = orderOk (s .depth) (s .order) (s .unclosed) in
-      ap (λ (l : List ℕ). (leb (s .count) mostCreated && (every dynamic l && distinct l)) && o) (live-renamed s)
-      ∙ ap₂ (λ (b c : Bool). (leb (s .count) mostCreated && (b && c)) && o) (every-map (renamed f) dynamic dynamic-same (live s))
-      (distinct-map (renamed f) number-same (live s))
+  module _ (s : State) (i : StateIn s) where
+    state-renamed : stateOk (renamedState f s) ≡ stateOk s
+    unfolding stateOk createdOk highestOk
+    state-renamed =
+        let o : Bool = orderOk (s .depth) (s .order) (s .unclosed) in
+        let h : ℕ = renamed f (s .highest) in
+        ap (λ (l : List ℕ). (leb (s .count) mostCreated && (every dynamic l && distinct l)) && (every (λ y. leb y h) l && o)) (live-renamed s)
+        ∙ ap₂ (λ (b c : Bool). (leb (s .count) mostCreated && (b && c)) && (every (λ y. leb y h) (map (renamed f) (live s)) && o))
+        (every-map (renamed f) In dynamic dynamic dynamic-same (live s) (live-in s i))
+        (distinct-map (renamed f) In number-same (live s) (live-in s i))
+        ∙ ap (λ (b : Bool). (leb (s .count) mostCreated && (every dynamic (live s) && distinct (live s))) && (b && o))
+        (every-map (renamed f) In (λ y. leb y h) (λ y. leb y (s .highest)) (λ y j. order-same y (s .highest) j (i .top)) (live s) (live-in s i))
 
-  listed-renamed : (s : State) (r : ℕ) → listed (renamed f r) (live (renamedState f s)) ≡ listed r (live s)
-  listed-renamed s r = ap (listed (renamed f r)) (live-renamed s) ∙ listed-map (renamed f) number-same r (live s)
+    module _ (r : ℕ) (j : In r) where
+      listed-renamed : listed (renamed f r) (live (renamedState f s)) ≡ listed r (live s)
+      listed-renamed = ap (listed (renamed f r)) (live-renamed s) ∙ listed-map (renamed f) In number-same r (live s) j (live-in s i)
 
-  place-renamed : (s : State) (r : ℕ) → placeOf (renamedState f s) (renamed f r) ≡ placeOf s r
-  unfolding placeOf
-  place-renamed s r =
-      ap₂ (λ (b : Bool) (n : ℕ). cond b (renamed f r) n) (static-same r)
-      (ap (placeFrom (renamed f r) firstCreated) (live-renamed s) ∙ place-map (renamed f) number-same r firstCreated (live s))
-      ∙ go (ltb r statics) refl
-    where
-      go : (b : Bool) → ltb r statics ≡ b
-          → cond b (renamed f r) (placeFrom r firstCreated (live s)) ≡ cond b r (placeFrom r firstCreated (live s))
-      go true e = at-static r (ltb-true r statics e)
-      go false e = refl
+      place-renamed : placeOf (renamedState f s) (renamed f r) ≡ placeOf s r
+      unfolding placeOf
+      place-renamed =
+          ap₂ (λ (b : Bool) (n : ℕ). cond b (renamed f r) n) (static-same r j)
+          (ap (placeFrom (renamed f r) firstCreated) (live-renamed s)
+          ∙ place-map (renamed f) In number-same r firstCreated (live s) j (live-in s i))
+          ∙ go (ltb r statics) refl
+        where
+          go : (b : Bool) → ltb r statics ≡ b
+              → cond b (renamed f r) (placeFrom r firstCreated (live s)) ≡ cond b r (placeFrom r firstCreated (live s))
+          go true e = at-static r (ltb-true r statics e)
+          go false e = refl
 
-  created-renamed : (s : State) (r : ℕ) → createdIn (renamedState f s) (renamed f r) ≡ renamedState f (createdIn s r)
-  unfolding createdIn
-  created-renamed s r = rw (set-map (renamed f) (s .created) (s .count) r)
+      created-renamed : createdIn (renamedState f s) (renamed f r) ≡ renamedState f (createdIn s r)
+      unfolding createdIn
+      created-renamed = rw (set-map (renamed f) (s .created) (s .count) r)
+
+      created-in : StateIn (createdIn s r)
+      unfolding createdIn
+      created-in = record { each = all-set In (s .created) (s .count) r j (i .each); top = j }
+
+      retired-renamed : retiredIn (renamedState f s) (renamed f r) ≡ renamedState f (retiredIn s r)
+      unfolding retiredIn
+      retired-renamed =
+          rw (place-renamed, closed-map (renamed f) (at-static 0 (lit< tt)) (placeOf s r - firstCreated) (s .count) (s .created))
+
+      retired-in : StateIn (retiredIn s r)
+      unfolding retiredIn closedUp
+      retired-in = record {
+        each = all-from In (λ k. getD (s .created) (behind (placeOf s r - firstCreated) (s .count) k) 0) 0 mostCreated
+            (λ k. all-at In (static-in 0 (lit< tt)) (s .created) (behind (placeOf s r - firstCreated) (s .count) k) (i .each));
+        top = i .top;
+      }
 
   -- the edges name static resources only
   abbrev Named : List Edge → Type 0
   Named es = (e : Edge) → List·Memᴰ e es → e .on ≡ 0 → e .who < statics
 
+  moved-in : (es : List Edge) (a r : ℕ) (s : State) → StateIn s → StateIn (movedIn es a r s)
+  unfolding movedIn
+  moved-in es a r s i = record { each = i .each; top = i .top }
+
+  after-in : (local : Bool) (es : List Edge) (s : State) → StateIn s → (step : Step) → StepIn step → StateIn (after local es s step)
+  unfolding after withOpenings withSets resetIn
+  after-in local es s i (event zero r) j = moved-in es 0 r (createdIn s r) (created-in s i r j)
+  after-in local es s i (event (suc a) r) j = moved-in es (suc a) r s i
+  after-in local es s i (opening p) j = record { each = i .each; top = i .top }
+  after-in local es s i (closing p) j = record { each = i .each; top = i .top }
+  after-in local es s i (retiring r) j = retired-in s i r j
+
   module _ (es : List Edge) (names : Named es) where
-    sets-renamed : (a r own n : ℕ) (sets : List ℕ) → movedSets es a (renamed f r) own n sets ≡ movedSets es a r own n sets
+    sets-renamed : (a r own n : ℕ) (sets : List ℕ) → In r → movedSets es a (renamed f r) own n sets ≡ movedSets es a r own n sets
     unfolding movedSets
-    sets-renamed a r own n sets =
+    sets-renamed a r own n sets j =
         from-ext _ _ 0 setPlaces (λ k l.
         ap (λ (m : ℕ). cond (ltb ((0 + k) % instances) n) m (getD sets (0 + k) 0))
-        (moveMask-same (renamed f r) r (eqb ((0 + k) % instances) own) es (λ e m o. named-same r (e .who) (names e m o))
+        (moveMask-same (renamed f r) r (eqb ((0 + k) % instances) own) es (λ e m o. named-same r (e .who) j (names e m o))
         ((0 + k) / instances) a (getD sets (0 + k) 0)))
 
-    moved-renamed : (a r : ℕ) (s : State) → movedIn es a (renamed f r) (renamedState f s) ≡ renamedState f (movedIn es a r s)
+    moved-renamed : (a r : ℕ) (s : State) → StateIn s → In r → movedIn es a (renamed f r) (renamedState f s) ≡ renamedState f (movedIn es a r s)
     unfolding movedIn
-    moved-renamed a r s = rw (place-renamed s r, sets-renamed a r (placeOf s r) (used s) (s .sets))
+    moved-renamed a r s i j = rw (place-renamed s i r j, sets-renamed a r (placeOf s r) (used s) (s .sets) j)
 
-    after-renamed : (local : Bool) (s : State) (step : Step)
+    after-renamed : (local : Bool) (s : State) → StateIn s → (step : Step) → StepIn step
         → after local es (renamedState f s) (renamedRead f step) ≡ renamedState f (after local es s step)
     unfolding after withOpenings withSets resetIn
-    after-renamed local s (event zero r) = ap (movedIn es 0 (renamed f r)) (created-renamed s r) ∙ moved-renamed 0 r (createdIn s r)
-    after-renamed local s (event (suc a) r) = moved-renamed (suc a) r s
-    after-renamed local s (opening p) = refl
-    after-renamed local s (closing p) = refl
+    after-renamed local s i (event zero r) j =
+        ap (movedIn es 0 (renamed f r)) (created-renamed s i r j) ∙ moved-renamed 0 r (createdIn s r) (created-in s i r j) j
+    after-renamed local s i (event (suc a) r) j = moved-renamed (suc a) r s i j
+    after-renamed local s i (opening p) j = refl
+    after-renamed local s i (closing p) j = refl
+    after-renamed local s i (retiring r) j = retired-renamed s i r j
 
   -- ── The answer ──
 
@@ -243,14 +411,15 @@ module _ (f : ℕ → ℕ) (R : Renaming f) where
   unfolding broken
   broken-renamed s = refl
 
-  refusal-renamed : (s : State) (step : Step) → refusal (renamedState f s) (renamedRead f step) ≡ refusal s step
+  refusal-renamed : (s : State) → StateIn s → (step : Step) → StepIn step → refusal (renamedState f s) (renamedRead f step) ≡ refusal s step
   unfolding refusal
-  refusal-renamed s (event zero r) =
-      ap₂ (λ (b c : Bool). cond b (some 22) (cond c (some 23) (cond (leb mostCreated (s .count)) (some 30) none))) (static-same r)
-      (listed-renamed s r)
-  refusal-renamed s (event (suc a) r) = ap₂ (λ (b c : Bool). cond (b || c) none (some 24)) (static-same r) (listed-renamed s r)
-  refusal-renamed s (opening p) = refl
-  refusal-renamed s (closing p) = refl
+  refusal-renamed s i (event zero r) j =
+      ap₂ (λ (b c : Bool). cond b (some 22) (cond c (some 27) (cond (leb mostCreated (s .count)) (some 30) none))) (static-same r j)
+      (order-same r (s .highest) j (i .top))
+  refusal-renamed s i (event (suc a) r) j = ap₂ (λ (b c : Bool). cond (b || c) none (some 24)) (static-same r j) (listed-renamed s i r j)
+  refusal-renamed s i (opening p) j = refl
+  refusal-renamed s i (closing p) j = refl
+  refusal-renamed s i (retiring r) j = ap₂ (λ (b c : Bool). cond (not b && c) none (some 28)) (static-same r j) (listed-renamed s i r j)
 
   refuse-renamed : (n : ℕ) (s : State) → refuse n (renamedState f s) ≡ renamedJudgement f (refuse n s)
   unfolding refuse
@@ -267,27 +436,65 @@ module _ (f : ℕ → ℕ) (R : Renaming f) where
       either-renamed (eqb bad 0) (record { answer = Allowed; state = t }) (record { answer = Violated (lowestIn bad); state = halt s }) refl
       refl
 
-  module _ (local : Bool) (es : List Edge) (names : Named es) (s : State) where
-    judge-step : (step : Step) (o : Option ℕ)
+  -- a judgement's state has no other numbers
+  either-in : (b : Bool) (j k : Judgement) → StateIn (j .state) → StateIn (k .state) → StateIn (cond b j k .state)
+  either-in true j k p q = p
+  either-in false j k p q = q
+
+  refuse-in : (n : ℕ) (s : State) → StateIn s → StateIn (refuse n s .state)
+  unfolding refuse
+  refuse-in n s i = i
+
+  settle-in : (bad : ℕ) (s t : State) → StateIn s → StateIn t → StateIn (settle bad s t .state)
+  unfolding settle halt
+  settle-in bad s t i j =
+      either-in (eqb bad 0) (record { answer = Allowed; state = t }) (record { answer = Violated (lowestIn bad); state = halt s }) j
+      (record { each = i .each; top = i .top })
+
+  module _ (local : Bool) (es : List Edge) (names : Named es) (s : State) (i : StateIn s) where
+    judge-step : (step : Step) → StepIn step → (o : Option ℕ)
         → judgeStep local es (renamedState f s) (renamedRead f step) o ≡ renamedJudgement f (judgeStep local es s step o)
     unfolding judgeStep
-    judge-step step (some n) = refuse-renamed n s
-    judge-step step none =
-        ap (λ (t : State). settle (broken t) (renamedState f s) t) (after-renamed es names local s step)
+    judge-step step j (some n) = refuse-renamed n s
+    judge-step step j none =
+        ap (λ (t : State). settle (broken t) (renamedState f s) t) (after-renamed es names local s i step j)
         ∙ ap (λ (n : ℕ). settle n (renamedState f s) (renamedState f (after local es s step))) (broken-renamed (after local es s step))
         ∙ settle-renamed (broken (after local es s step)) s (after local es s step)
 
-    judge-read : (o : Option Step) → judgeRead local es (renamedState f s) (renamedOption f o) ≡ renamedJudgement f (judgeRead local es s o)
+    judge-read : (o : Option Step) → OptionIn o
+        → judgeRead local es (renamedState f s) (renamedOption f o) ≡ renamedJudgement f (judgeRead local es s o)
     unfolding judgeRead
-    judge-read none = refuse-renamed 21 s
-    judge-read (some step) =
-        ap (judgeStep local es (renamedState f s) (renamedRead f step)) (refusal-renamed s step) ∙ judge-step step (refusal s step)
+    judge-read none j = refuse-renamed 21 s
+    judge-read (some step) j =
+        ap (judgeStep local es (renamedState f s) (renamedRead f step)) (refusal-renamed s i step j) ∙ judge-step step j (refusal s step)
+
+  step-kept-in : (local : Bool) (es : List Edge) (s : State) → StateIn s → (step : Step) → StepIn step → (o : Option ℕ)
+      → StateIn (judgeStep local es s step o .state)
+  unfolding judgeStep
+  step-kept-in local es s i step j (some n) = refuse-in n s i
+  step-kept-in local es s i step j none = settle-in (broken (after local es s step)) s (after local es s step) i (after-in local es s i step j)
+
+  read-in : (local : Bool) (es : List Edge) (s : State) → StateIn s → (o : Option Step) → OptionIn o → StateIn (judgeRead local es s o .state)
+  unfolding judgeRead
+  read-in local es s i none j = refuse-in 21 s i
+  read-in local es s i (some step) j = step-kept-in local es s i step j (refusal s step)
+
+  judge-in : (t : List ℕ) (local : Bool) (s : State) → StateIn s → (raw : RawStep) → RawIn raw → StateIn (judgeOf t local s raw .state)
+  unfolding judgeOf
+  judge-in t local s i raw h =
+      either-in (not (edgeTable t)) (refuse 41 s) (cond (not (stateOk s)) (refuse 42 s) rest) (refuse-in 41 s i)
+      (either-in (not (stateOk s)) (refuse 42 s) rest (refuse-in 42 s i)
+      (either-in (s .halted) (refuse 20 s) (judgeRead local (edgesOf t) s (stepOf raw)) (refuse-in 20 s i)
+      (read-in local (edgesOf t) s i (stepOf raw) (step-in raw h))))
+    where
+      rest : Judgement
+      rest = cond (s .halted) (refuse 20 s) (judgeRead local (edgesOf t) s (stepOf raw))
 
   -- Every step keeps two states alike, and answers the same of both.
-  judge-renamed : (t : List ℕ) (local : Bool) (s : State) (raw : RawStep)
+  judge-renamed : (t : List ℕ) (local : Bool) (s : State) → StateIn s → (raw : RawStep) → RawIn raw
       → judgeOf t local (renamedState f s) (renamedStep f raw) ≡ renamedJudgement f (judgeOf t local s raw)
   unfolding judgeOf
-  judge-renamed t local s raw = go (edgeTable t) refl
+  judge-renamed t local s i raw h = go (edgeTable t) refl
     where
       u : State
       u = renamedState f s
@@ -299,27 +506,43 @@ module _ (f : ℕ → ℕ) (R : Renaming f) where
           → cond (not b) (refuse 41 u) (inner u (renamedStep f raw) (stateOk u))
           ≡ renamedJudgement f (cond (not b) (refuse 41 s) (inner s raw (stateOk s)))
       go true e =
-          ap (inner u (renamedStep f raw)) (state-renamed s)
+          ap (inner u (renamedStep f raw)) (state-renamed s i)
           ∙ either-renamed (not (stateOk s)) (refuse 42 s) (cond (s .halted) (refuse 20 s) (judgeRead local (edgesOf t) s (stepOf raw)))
           (refuse-renamed 42 s)
           (either-renamed (s .halted) (refuse 20 s) (judgeRead local (edgesOf t) s (stepOf raw)) (refuse-renamed 20 s)
-          (ap (judgeRead local (edgesOf t) u) (step-renamed raw)
-          ∙ judge-read local (edgesOf t) (λ d m o. decides-edge-table t .0 e .edges .each d m .who-static o) s (stepOf raw)))
+          (ap (judgeRead local (edgesOf t) u) (step-renamed raw h)
+          ∙ judge-read local (edgesOf t) (λ d m o. decides-edge-table t .0 e .edges .each d m .who-static o) s i (stepOf raw) (step-in raw h)))
       go false e = refuse-renamed 41 s
 
-  answers-renamed : (t : List ℕ) (local : Bool) (s : State) (raws : List RawStep)
-      → answersOf t local (renamedState f s) (map (renamedStep f) raws) ≡ answersOf t local s raws
+  answers-renamed : (t : List ℕ) (local : Bool) (s : State) → StateIn s → (raws : List RawStep)
+      → ((raw : RawStep) → List·Memᴰ raw raws → RawIn raw) → answersOf t local (renamedState f s) (map (renamedStep f) raws) ≡ answersOf t local s raws
   unfolding answersOf
-  answers-renamed t local s [] = refl
-  answers-renamed t local s (raw ∷ raws) =
-      ap (λ (j : Judgement). j .answer ∷ answersOf t local (j .state) (map (renamedStep f) raws)) (judge-renamed t local s raw)
-      ∙ ap (λ (l : List Answer). judgeOf t local s raw .answer ∷ l) (answers-renamed t local (judgeOf t local s raw .state) raws)
+  answers-renamed t local s i [] h = refl
+  answers-renamed t local s i (raw ∷ raws) h =
+      ap (λ (j : Judgement). j .answer ∷ answersOf t local (j .state) (map (renamedStep f) raws))
+      (judge-renamed t local s i raw (h raw (List·Memᴰ·head refl)))
+      ∙ ap (λ (l : List Answer). judgeOf t local s raw .answer ∷ l)
+      (answers-renamed t local (judgeOf t local s raw .state) (judge-in t local s i raw (h raw (List·Memᴰ·head refl))) raws
+      (λ r m. h r (List·Memᴰ·tail m)))
 
   -- the start has nothing that is renamed
   start-renamed : startState ≡ renamedState f startState
   unfolding startState renamed
   start-renamed = refl
 
+  start-in : StateIn startState
+  unfolding startState
+  start-in = record { each = zeros mostCreated; top = static-in 0 (lit< tt) }
+    where
+      zeros : (n : ℕ) → All In (replicate n 0)
+      zeros zero = tt
+      zeros (suc n) = (static-in 0 (lit< tt), zeros n)
+
 pub start-same : SameAnswers startState
-start-same t local f R raws =
-    ap (λ (s : State). answersOf t local s (map (renamedStep f) raws)) (start-renamed f R) ∙ answers-renamed f R t local startState raws
+start-same t local f raws R =
+    ap (λ (s : State). answersOf t local s (map (renamedStep f) raws)) (start-renamed f (Occurring raws) orders)
+    ∙ answers-renamed f (Occurring raws) orders t local startState (start-in f (Occurring raws) orders) raws
+    (λ raw m x n d. record { is-dynamic = d; step = raw; inside = m; names = n })
+  where
+    orders : Orders f (Occurring raws)
+    orders = record { among = R .among; keeps-order = R .keeps-order }

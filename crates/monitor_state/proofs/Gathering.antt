@@ -1,29 +1,32 @@
 -- The set that is gathered of a policy holds what some instance may be in.
-use Prim.Native.Nat.{ℕ, _+_, _*_, _<_}
-use mathlib.Core.Path.{_≡_, sym, ap, _∙_}
-use mathlib.Core.Bool.{Bool, true}
+use Prim.Native.Nat.{ℕ, _+_, _*_, _<_, _≤_}
+use mathlib.Core.Path.{_≡_, refl, sym, ap, _∙_}
+use mathlib.Core.Bool.{Bool, true, false}
 use mathlib.Core.List.{List}
 use native.Mathlib.Nat.{zero-add}
-use lib.Dec.{lit<}
+use native.Mathlib.Omega.{arith}
+use lib.Dec.{eqb, lit<}
 use lib.ListN.{length, getD}
+use borrow.Author.Tests.{eqb-true, eqb-false}
 use Rattle.usage.specs.declared.Edge.{Edge}
 use Rattle.usage.specs.Limits.{policies, mostCreated}
 use Rattle.usage.specs.Policy.{Sees}
-use Rattle.usage.specs.Past.{Past, May}
+use Rattle.usage.specs.Past.{Past, May, Retired}
 use Rattle.usage.specs.Tests.{someBelow}
 use Rattle.usage.proofs.TableLaws.{getD-from, from-below}
 use Rattle.automaton.specs.Mask.{has}
 use Rattle.automaton.proofs.MaskLaws.{some-at, some-found, union-has, union-lt}
-use Rattle.monitor_sets.specs.Instances.{instances}
+use Rattle.monitor_sets.specs.Instances.{unseen, retirees, instances}
 use Rattle.monitor_sets.specs.Sets.{gatheredAt}
 use Rattle.monitor_state.specs.declared.State.{State}
 use Rattle.monitor_state.specs.Judge.{placeOf, used, setAt, possibleIn, gathered}
-use Rattle.monitor_state.specs.Represents.{Tracks, Gathers}
-use Rattle.monitor_state.proofs.Places.{StateOk, place-lt, owner}
+use Rattle.monitor_state.specs.Represents.{Tracks, TracksRetirees, Gathers}
+use Rattle.monitor_state.proofs.Places.{StateOk, place-lt, owner, far, place-far}
 
--- Each instance in use is some resource's, and each resource has an instance in use.
+-- Each instance in use is some resource's or that of the retired ones, and each resource has an instance in use or is among those.
 module _ (local : Bool) (es : List Edge) (past : Past) (t : State)
-    (n : length (t .created) ≡ mostCreated) (w : StateOk t) (tracks : Tracks local es past t)
+    (n : length (t .created) ≡ mostCreated) (w : StateOk t) (tracks : Tracks local es past t) (joined : TracksRetirees local es past t)
+    (gone : (x : ℕ) → Retired x past → (placeOf t x ≡ unseen) × (x ≤ t .highest))
     (e : t .possible ≡ gathered (used t) (t .sets)) where
   pub gathered-gathers : Gathers local es past t
   unfolding gathered
@@ -39,13 +42,32 @@ module _ (local : Bool) (es : List Edge) (past : Past) (t : State)
       to : has (possibleIn t p) q ≡ true → (x : ℕ) × May local es p (Sees x) past q
       to h =
           let f = some-found (used t) (λ i. has (setAt t p i) q) (sym among ∙ h) in
-          let x = owner t n w (f .0) (f .1) in
-          (x .0, tracks (x .0) p q k l .0 (ap (λ (i : ℕ). has (setAt t p i) q) (x .1) ∙ f .2))
+          go (f .0) (f .1) (f .2) (eqb (f .0) retirees) refl (eqb (f .0) unseen) refl
+        where
+          -- the states at a place that is some resource's, which is not retired
+          owned : (i x : ℕ) → placeOf t x ≡ i → (Retired x past → ⊥) → has (setAt t p i) q ≡ true → (x : ℕ) × May local es p (Sees x) past q
+          owned i x o d g = (x, tracks x p q k l d .0 (ap (λ (i : ℕ). has (setAt t p i) q) o ∙ g))
+
+          go : (i : ℕ) → i < used t → has (setAt t p i) q ≡ true → (b : Bool) → eqb i retirees ≡ b → (c : Bool) → eqb i unseen ≡ c
+              → (x : ℕ) × May local es p (Sees x) past q
+          go i b g true r c u =
+              let (x, o, m) = joined p q k l .0 (ap (λ (i : ℕ). has (setAt t p i) q) (sym (eqb-true i retirees r)) ∙ g) in (x, m)
+          go i b g false r true u =
+              owned i (far t n w) (place-far t n w ∙ sym (eqb-true i unseen u)) (λ d. let z = gone (far t n w) d .1 in omega arith) g
+          go i b g false r false u =
+              let (x, o) = owner t n w i b (eqb-false i retirees r) in
+              owned i x o (λ d. eqb-false i unseen u (sym o ∙ gone x d .0)) g
 
       back : ((x : ℕ) × May local es p (Sees x) past q) → has (possibleIn t p) q ≡ true
-      back m =
-          among
-          ∙ some-at (used t) (λ i. has (setAt t p i) q) (placeOf t (m .0)) (place-lt t (m .0)) (tracks (m .0) p q k l .1 (m .1))
+      back (x, m) = go (eqb (placeOf t x) unseen) refl
+        where
+          go : (b : Bool) → eqb (placeOf t x) unseen ≡ b → has (possibleIn t p) q ≡ true
+          go true u =
+              among ∙ some-at (used t) (λ i. has (setAt t p i) q) retirees (omega arith) (joined p q k l .1 (x, eqb-true (placeOf t x) unseen u, m))
+          go false u =
+              among
+              ∙ some-at (used t) (λ i. has (setAt t p i) q) (placeOf t x) (place-lt t x)
+              (tracks x p q k l (λ d. eqb-false (placeOf t x) unseen u (gone x d .0)) .1 m)
 
 -- and is a byte where the sets are
 pub gathered-bytes : (n : ℕ) (sets : List ℕ) → ((k : ℕ) → getD sets k 0 < 256) → (p : ℕ) → getD (gathered n sets) p 0 < 256

@@ -1,8 +1,10 @@
 -- That the judge's definition answers as the whole past says, and the laws of reading a step.
 pub mod ListLaws
+pub mod WithoutLaws
 pub mod Places
 pub mod StartLaws
 pub mod Tracking
+pub mod Retiring
 pub mod Gathering
 pub mod BrokenLaws
 pub mod OpeningLaws
@@ -14,3 +16,5 @@ pub mod StepLaws
 -- That it answers the same where the dynamic numbers are renamed.
 pub mod AlikeLaws
 pub mod RenamedExamples
+-- That it answers the same to other steps where retirings are added.
+pub mod OthersLaws

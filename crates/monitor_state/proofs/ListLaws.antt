@@ -36,6 +36,15 @@ every-snoc test r (y ∷ l) h t =
     and-both (test y) (every test (l ++ (r ∷ []))) (and-left (test y) (every test l) h)
     (every-snoc test r l (and-right (test y) (every test l) h) t)
 
+-- a test that passes wherever another does
+pub every-more : (test wider : ℕ → Bool) → ((x : ℕ) → test x ≡ true → wider x ≡ true) → (l : List ℕ) → every test l ≡ true
+    → every wider l ≡ true
+unfolding every
+every-more test wider f [] h = refl
+every-more test wider f (y ∷ l) h =
+    and-both (wider y) (every wider l) (f y (and-left (test y) (every test l) h))
+    (every-more test wider f l (and-right (test y) (every test l) h))
+
 pub distinct-snoc : (r : ℕ) (l : List ℕ) → distinct l ≡ true → listed r l ≡ false → distinct (l ++ (r ∷ [])) ≡ true
 unfolding distinct listed
 distinct-snoc r [] h n = refl

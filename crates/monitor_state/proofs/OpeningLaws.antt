@@ -2,7 +2,7 @@
 use Prim.Native.Nat.{ℕ, _+_, _*_, _<_}
 use mathlib.Core.Path.{_≡_, refl, sym, ap, _∙_, subst}
 use mathlib.Core.Bool.{Bool, true, false, _&&_, cond}
-use mathlib.Core.List.{List, _∷_}
+use mathlib.Core.List.{List, _∷_, List·Memᴰ·tail}
 use mathlib.Core.Logic.{_⊎_, inl, inr, _↔_}
 use native.Mathlib.Omega.{arith}
 use lib.Dec.{eqb, lit<}
@@ -17,17 +17,18 @@ use Rattle.usage.proofs.Logic.{and-left, and-right}
 use Rattle.usage.proofs.PastLaws.{before-closing, may-anew, may-same}
 use Rattle.automaton.specs.Mask.{has}
 use Rattle.automaton.proofs.MaskLaws.{has-pow}
-use Rattle.monitor_sets.specs.Instances.{instances, setPlaces}
+use Rattle.monitor_sets.specs.Instances.{unseen, retirees, instances, setPlaces}
 use Rattle.monitor_sets.proofs.PlaceLaws.{reset-at, reset-length, reset-below}
 use Rattle.monitor_state.specs.declared.State.{State}
 use Rattle.monitor_state.specs.Judge.{placeOf, used, setAt, possibleIn, openingsOf, withSets, anew, resetSets, startSet}
-use Rattle.monitor_state.specs.Represents.{Tracks, Gathers, Represents}
-use Rattle.monitor_state.proofs.Places.{StateOk, state-parts, place-lt, used-most}
+use Rattle.monitor_state.specs.Represents.{Tracks, TracksRetirees, Gathers, Represents}
+use Rattle.monitor_state.proofs.Places.{StateOk, state-parts, place-lt, used-most, far, place-far}
 use Rattle.monitor_state.proofs.BrokenLaws.{open-count-pos, count-pos-open}
 
 -- the sets of a state, and what it keeps of each policy, hold what the instances may be in after this past
 pub record Held (local : Bool) (es : List Edge) (past : Past) (s : State) (sets possible : List ℕ) : Type 0 where
   pub tracks : Tracks local es past (withSets s sets possible)
+  pub tracks-retirees : TracksRetirees local es past (withSets s sets possible)
   pub gathers : Gathers local es past (withSets s sets possible)
   pub sets-length : length sets ≡ setPlaces
   pub possible-length : length possible ≡ policies
@@ -40,7 +41,12 @@ module _ (local : Bool) (es : List Edge) (past : Past) (h : Bool) (s : State) (R
       → Held local es (step ∷ past) s (s .sets) (s .possible)
   unfolding withSets placeOf
   same-held step may = record {
-    tracks = λ x p q k l. (λ e. may x p q .0 (R .tracks x p q k l .0 e), λ m. R .tracks x p q k l .1 (may x p q .1 m));
+    tracks = λ x p q k l d. let t = R .tracks x p q k l (λ g. d (List·Memᴰ·tail g)) in
+        (λ e. may x p q .0 (t .0 e), λ m. t .1 (may x p q .1 m));
+    tracks-retirees = λ p q k l. (
+      λ e. let (x, u, m) = R .tracks-retirees p q k l .0 e in (x, u, may x p q .0 m),
+      λ (x, u, m). R .tracks-retirees p q k l .1 (x, u, may x p q .1 m),
+    );
     gathers = λ p q k l. (
       λ e. let m = R .gathers p q k l .0 e in (m .0, may (m .0) p q .0 (m .1)),
       λ m. R .gathers p q k l .1 (m .0, may (m .0) p q .1 (m .1)),
@@ -96,19 +102,16 @@ module _ (local : Bool) (es : List Edge) (past : Past) (h : Bool) (s : State) (R
     kept-back = cond (anew local s p) (set (s .possible) p startSet) (s .possible)
 
     -- the sets of p′ after it
-    set-is : (x p′ : ℕ) → p′ < policies
-        → getD put-back (p′ * instances + placeOf s x) 0 ≡ cond (anew local s p && eqb p′ p) startSet (setAt s p′ (placeOf s x))
-    set-is x p′ k = go (anew local s p)
+    set-is : (i p′ : ℕ) → i < used s → p′ < policies
+        → getD put-back (p′ * instances + i) 0 ≡ cond (anew local s p && eqb p′ p) startSet (setAt s p′ i)
+    set-is i p′ inside k = go (anew local s p)
       where
-        inside : placeOf s x < used s
-        inside = place-lt s x
-
-        go : (b : Bool) → getD (cond b (resetSets (used s) p (s .sets)) (s .sets)) (p′ * instances + placeOf s x) 0
-            ≡ cond (b && eqb p′ p) startSet (setAt s p′ (placeOf s x))
+        go : (b : Bool) → getD (cond b (resetSets (used s) p (s .sets)) (s .sets)) (p′ * instances + i) 0
+            ≡ cond (b && eqb p′ p) startSet (setAt s p′ i)
         go true =
-            reset-at (s .sets) p (used s) p′ (placeOf s x) k (omega (arith, used-most s w, inside))
-            ∙ ap (λ (c : Bool). cond (eqb p′ p && c) startSet (setAt s p′ (placeOf s x))) (lt-ltb (placeOf s x) (used s) inside)
-            ∙ ap (λ (c : Bool). cond c startSet (setAt s p′ (placeOf s x))) (with-true (eqb p′ p))
+            reset-at (s .sets) p (used s) p′ i k (omega (arith, used-most s w, inside))
+            ∙ ap (λ (c : Bool). cond (eqb p′ p && c) startSet (setAt s p′ i)) (lt-ltb i (used s) inside)
+            ∙ ap (λ (c : Bool). cond c startSet (setAt s p′ i)) (with-true (eqb p′ p))
           where
             with-true : (c : Bool) → (c && true) ≡ c
             with-true true = refl
@@ -131,21 +134,52 @@ module _ (local : Bool) (es : List Edge) (past : Past) (h : Bool) (s : State) (R
 
     tracks : Tracks local es (opening p ∷ past) (withSets s put-back kept-back)
     unfolding withSets placeOf
-    tracks x p′ q k m = go (anew local s p && eqb p′ p) refl
+    tracks x p′ q k m gone = go (anew local s p && eqb p′ p) refl
       where
         go : (c : Bool) → (anew local s p && eqb p′ p) ≡ c
             → (has (getD put-back (p′ * instances + placeOf s x) 0) q ≡ true) ↔ May local es p′ (Sees x) (opening p ∷ past) q
         go true c =
             let t = anew-may (and-left (anew local s p) (eqb p′ p) c) x p′ q (and-right (anew local s p) (eqb p′ p) c) in
             let is : has (getD put-back (p′ * instances + placeOf s x) 0) q ≡ eqb 0 q =
-            ap (λ (n : ℕ). has n q) (set-is x p′ k ∙ ap (λ (b : Bool). cond b startSet (setAt s p′ (placeOf s x))) c) ∙ start-is q m in
+            ap (λ (n : ℕ). has n q) (set-is (placeOf s x) p′ (place-lt s x) k ∙ ap (λ (b : Bool). cond b startSet (setAt s p′ (placeOf s x))) c)
+            ∙ start-is q m in
             (λ e. t .1 (sym (eqb-true 0 q (sym is ∙ e))), λ y. is ∙ eq-eqb 0 q (sym (t .0 y)))
         go false c =
             let t = kept-may x p′ q c in
             let is : getD put-back (p′ * instances + placeOf s x) 0 ≡ setAt s p′ (placeOf s x) =
-            set-is x p′ k ∙ ap (λ (b : Bool). cond b startSet (setAt s p′ (placeOf s x))) c in
-            let r = R .tracks x p′ q k m in
+            set-is (placeOf s x) p′ (place-lt s x) k ∙ ap (λ (b : Bool). cond b startSet (setAt s p′ (placeOf s x))) c in
+            let r = R .tracks x p′ q k m (λ g. gone (List·Memᴰ·tail g)) in
             (λ e. t .1 (r .0 (ap (λ (n : ℕ). has n q) (sym is) ∙ e)), λ y. ap (λ (n : ℕ). has n q) is ∙ r .1 (t .0 y))
+
+    -- all go back to state 0, those without a place of their own too
+    tracks-retirees : TracksRetirees local es (opening p ∷ past) (withSets s put-back kept-back)
+    unfolding withSets placeOf
+    tracks-retirees p′ q k m = go (anew local s p && eqb p′ p) refl
+      where
+        inside : retirees < used s
+        inside = omega arith
+
+        y : ℕ
+        y = far s (R .created-length) w
+
+        go : (c : Bool) → (anew local s p && eqb p′ p) ≡ c
+            → (has (getD put-back (p′ * instances + retirees) 0) q ≡ true)
+            ↔ ((x : ℕ) × (placeOf s x ≡ unseen) × May local es p′ (Sees x) (opening p ∷ past) q)
+        go true c =
+            let t : (x : ℕ) → May local es p′ (Sees x) (opening p ∷ past) q ↔ (q ≡ 0) =
+            λ x. anew-may (and-left (anew local s p) (eqb p′ p) c) x p′ q (and-right (anew local s p) (eqb p′ p) c) in
+            let is : has (getD put-back (p′ * instances + retirees) 0) q ≡ eqb 0 q =
+            ap (λ (n : ℕ). has n q) (set-is retirees p′ inside k ∙ ap (λ (b : Bool). cond b startSet (setAt s p′ retirees)) c) ∙ start-is q m in (
+              λ e. (y, place-far s (R .created-length) w, t y .1 (sym (eqb-true 0 q (sym is ∙ e)))),
+              λ (x, u, z). is ∙ eq-eqb 0 q (sym (t x .0 z)),
+            )
+        go false c =
+            let is : getD put-back (p′ * instances + retirees) 0 ≡ setAt s p′ retirees =
+            set-is retirees p′ inside k ∙ ap (λ (b : Bool). cond b startSet (setAt s p′ retirees)) c in
+            let r = R .tracks-retirees p′ q k m in (
+              λ e. let (x, u, z) = r .0 (ap (λ (n : ℕ). has n q) (sym is) ∙ e) in (x, u, kept-may x p′ q c .1 z),
+              λ (x, u, z). ap (λ (n : ℕ). has n q) is ∙ r .1 (x, u, kept-may x p′ q c .0 z),
+            )
 
     gathers : Gathers local es (opening p ∷ past) (withSets s put-back kept-back)
     unfolding withSets
@@ -169,6 +203,7 @@ module _ (local : Bool) (es : List Edge) (past : Past) (h : Bool) (s : State) (R
     pub opening-held : Held local es (opening p ∷ past) s put-back kept-back
     opening-held = record {
       tracks = tracks;
+      tracks-retirees = tracks-retirees;
       gathers = gathers;
       sets-length = sets-length (anew local s p);
       possible-length = possible-length (anew local s p);

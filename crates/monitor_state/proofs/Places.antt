@@ -9,12 +9,12 @@ use lib.ListN.{length, getD, length-take}
 use lib.Seq.{length-take-le}
 use borrow.Author.Tests.{eqb-true, eqb-false, lt-ltb, le-ltb, ltb-true, ltb-false, leb-true, le-leb}
 use Rattle.usage.specs.Limits.{statics, resources, mostCreated}
-use Rattle.monitor_sets.specs.Instances.{unseen, firstCreated, instances}
+use Rattle.monitor_sets.specs.Instances.{unseen, retirees, firstCreated, instances}
 use Rattle.usage.specs.Tests.{every}
 use Rattle.usage.proofs.Logic.{not-both, or-left, or-right, or-cases, and-left, and-right, and-both}
 use Rattle.automaton.proofs.MoveLaws.{Own}
 use Rattle.monitor_state.specs.declared.State.{State}
-use Rattle.monitor_state.specs.Judge.{live, listed, distinct, dynamic, createdOk, orderOk, stateOk, placeFrom, placeOf, used}
+use Rattle.monitor_state.specs.Judge.{live, listed, distinct, dynamic, createdOk, highestOk, orderOk, stateOk, placeFrom, placeOf, used}
 use Rattle.monitor_state.proofs.ListLaws.{every-at, listed-at, place-absent, place-present, place-of}
 
 pub place-static : (s : State) (x : ℕ) → x < statics → placeOf s x ≡ x
@@ -25,7 +25,7 @@ pub place-dynamic : (s : State) (x : ℕ) → statics ≤ x → placeOf s x ≡ 
 unfolding placeOf
 place-dynamic s x h = ap (λ (b : Bool). cond b x (placeFrom x firstCreated (live s))) (le-ltb x statics h)
 
--- A resource is static, created or neither, and has its instance accordingly.
+-- A resource is static, live or neither, and has its instance accordingly.
 pub data View (s : State) (x : ℕ) : Type 0 where
   static : x < statics → placeOf s x ≡ x → View s x
   made : statics ≤ x → listed x (live s) ≡ true → (i : ℕ) → i < length (live s) → getD (live s) i 0 ≡ x → placeOf s x ≡ firstCreated + i
@@ -52,11 +52,20 @@ place-lt s x = go (view s x)
     go (made a l i h w e) = omega (arith, length-take (s .count) (s .created))
     go (absent a l e) = omega arith
 
--- r is static or created
+-- and none is that of the retired ones
+pub place-apart-retirees : (s : State) (x : ℕ) → placeOf s x ≡ retirees → ⊥
+place-apart-retirees s x q = go (view s x)
+  where
+    go : View s x → ⊥
+    go (static a e) = omega arith
+    go (made a l i h w e) = omega arith
+    go (absent a l e) = omega arith
+
+-- r is static or live
 abbrev pub known : State → ℕ → Bool
 known s r = ltb r statics || listed r (live s)
 
--- A resource that is static or created shares its instance with no other.
+-- A resource that is static or live shares its instance with no other.
 place-apart : (s : State) (x r : ℕ) → known s r ≡ true → placeOf s x ≡ placeOf s r → r ≡ x
 place-apart s x r k e = go (view s x) (view s r)
   where
@@ -75,7 +84,7 @@ place-apart s x r k e = go (view s x) (view s r)
         none-known (inl t) = absurd (omega (arith, ltb-true r statics t))
         none-known (inr t) = not-both (listed r (live s)) t m
 
--- The place is that of the unseen ones exactly where the resource is neither static nor created.
+-- The place is that of the unseen ones exactly where the resource is neither static nor live.
 module _ (s : State) (x : ℕ) where
   pub is-known : (placeOf s x ≡ unseen → ⊥) → known s x ≡ true
   is-known h = go (view s x)
@@ -116,29 +125,34 @@ pub record StateOk (s : State) : Type 0 where
   pub few : s .count ≤ mostCreated
   pub range : every dynamic (live s) ≡ true
   pub apart : distinct (live s) ≡ true
+  pub top : every (λ y. leb y (s .highest)) (live s) ≡ true
   pub ordered : orderOk (s .depth) (s .order) (s .unclosed) ≡ true
 
 pub state-parts : (s : State) → stateOk s ≡ true → StateOk s
-unfolding stateOk createdOk
+unfolding stateOk createdOk highestOk
 state-parts s h =
     let o : Bool = orderOk (s .depth) (s .order) (s .unclosed) in
-    let c : createdOk (s .count) (s .created) ≡ true = and-left (createdOk (s .count) (s .created)) o h in
+    let t : Bool = highestOk (s .highest) (s .count) (s .created) in
+    let c : createdOk (s .count) (s .created) ≡ true = and-left (createdOk (s .count) (s .created)) (t && o) h in
+    let r : (t && o) ≡ true = and-right (createdOk (s .count) (s .created)) (t && o) h in
     let b : (every dynamic (live s) && distinct (live s)) ≡ true =
     and-right (leb (s .count) mostCreated) (every dynamic (live s) && distinct (live s)) c in
     record {
       few = leb-true (s .count) mostCreated (and-left (leb (s .count) mostCreated) (every dynamic (live s) && distinct (live s)) c);
       range = and-left (every dynamic (live s)) (distinct (live s)) b;
       apart = and-right (every dynamic (live s)) (distinct (live s)) b;
-      ordered = and-right (createdOk (s .count) (s .created)) o h;
+      top = and-left t o r;
+      ordered = and-right t o r;
     }
 
 pub parts-state : (s : State) → StateOk s → stateOk s ≡ true
-unfolding stateOk createdOk
+unfolding stateOk createdOk highestOk
 parts-state s p =
-    and-both (createdOk (s .count) (s .created)) (orderOk (s .depth) (s .order) (s .unclosed))
+    and-both (createdOk (s .count) (s .created))
+    (highestOk (s .highest) (s .count) (s .created) && orderOk (s .depth) (s .order) (s .unclosed))
     (and-both (leb (s .count) mostCreated) (every dynamic (live s) && distinct (live s)) (le-leb (s .count) mostCreated (p .few))
     (and-both (every dynamic (live s)) (distinct (live s)) (p .range) (p .apart)))
-    (p .ordered)
+    (and-both (highestOk (s .highest) (s .count) (s .created)) (orderOk (s .depth) (s .order) (s .unclosed)) (p .top) (p .ordered))
 
 -- there is room for the instances in use
 pub used-most : (s : State) → StateOk s → used s ≤ instances
@@ -149,7 +163,7 @@ module _ (s : State) (n : length (s .created) ≡ mostCreated) (p : StateOk s) w
   live-length = length-take-le (s .count) (s .created) (omega (arith, p .few))
 
   -- what is listed is dynamic
-  range-at : (x : ℕ) → listed x (live s) ≡ true → (statics ≤ x) × (x < resources)
+  pub range-at : (x : ℕ) → listed x (live s) ≡ true → (statics ≤ x) × (x < resources)
   range-at x m =
       let h : dynamic x ≡ true = every-at dynamic x (live s) (p .range) m in (
         leb-true statics x (and-left (leb statics x) (ltb x resources) h),
@@ -157,24 +171,36 @@ module _ (s : State) (n : length (s .created) ≡ mostCreated) (p : StateOk s) w
             (and-right (leb statics x) (ltb x resources) h),
       )
 
-  -- Each instance in use is some resource's; the unseen ones' is that of 65,536, which no step names.
-  pub owner : (i : ℕ) → i < used s → (x : ℕ) × (placeOf s x ≡ i)
-  owner i h = go (ltb i unseen) refl (eqb i unseen) refl
-    where
-      far : listed resources (live s) ≡ false
-      far = off (listed resources (live s)) refl
-        where
-          off : (b : Bool) → listed resources (live s) ≡ b → b ≡ false
-          off true e = let r = range-at resources e in absurd (omega (arith, r .1))
-          off false e = refl
+  -- not above the highest number
+  pub top-at : (x : ℕ) → listed x (live s) ≡ true → x ≤ s .highest
+  top-at x m = leb-true x (s .highest) (every-at (λ y. leb y (s .highest)) x (live s) (p .top) m)
 
+  -- so a higher one is not listed
+  pub above-new : (x : ℕ) → s .highest < x → listed x (live s) ≡ false
+  above-new x h = go (listed x (live s)) refl
+    where
+      go : (b : Bool) → listed x (live s) ≡ b → listed x (live s) ≡ false
+      go true e = absurd (let z = top-at x e in omega arith)
+      go false e = e
+
+  -- a number that no step names, and that is above all that was created
+  abbrev pub far : ℕ
+  far = resources + s .highest
+
+  pub place-far : placeOf s far ≡ unseen
+  place-far = place-dynamic s far (omega arith) ∙ place-absent far firstCreated (live s) (off (listed far (live s)) refl)
+    where
+      off : (b : Bool) → listed far (live s) ≡ b → listed far (live s) ≡ false
+      off true e = let r = range-at far e in absurd (omega (arith, r .1))
+      off false e = e
+
+  -- Each instance in use but that of the retired ones is some resource's.
+  pub owner : (i : ℕ) → i < used s → (i ≡ retirees → ⊥) → (x : ℕ) × (placeOf s x ≡ i)
+  owner i h d = go (ltb i unseen) refl (eqb i unseen) refl
+    where
       go : (b : Bool) → ltb i unseen ≡ b → (c : Bool) → eqb i unseen ≡ c → (x : ℕ) × (placeOf s x ≡ i)
       go true e c f = (i, place-static s i (ltb-true i unseen e))
-      go false e true f = (
-        resources,
-        place-dynamic s resources (omega arith) ∙ place-absent resources firstCreated (live s) far
-            ∙ sym (eqb-true i unseen f),
-      )
+      go false e true f = (far, place-far ∙ sym (eqb-true i unseen f))
       go false e false f =
           let j : ℕ = i - firstCreated in
           let le : unseen ≤ i = ltb-false i unseen e in

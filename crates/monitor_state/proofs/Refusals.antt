@@ -1,7 +1,7 @@
 -- The number that the judge's definition refuses a step with is the lowest whose case the past makes it.
 use Prim.Native.Nat.{ℕ, zero, suc, _<_, _≤_}
 use mathlib.Core.Path.{_≡_, refl, sym, ap, _∙_, subst}
-use mathlib.Core.Bool.{Bool, true, false, _||_, cond}
+use mathlib.Core.Bool.{Bool, true, false, not, _&&_, _||_, cond}
 use mathlib.Core.List.{List}
 use mathlib.Core.Logic.{_⊎_, inl, inr}
 use mathlib.Core.Option.{Option, none, some, Option·some-injective}
@@ -12,9 +12,9 @@ use borrow.Author.Tests.{eqb-true, eqb-false, ltb-true, ltb-false, leb-true, leb
 use Rattle.usage.specs.declared.Edge.{Edge}
 use Rattle.usage.specs.declared.RawStep.{RawStep}
 use Rattle.usage.specs.Limits.{statics, policies, mostCreated, mostUnclosed}
-use Rattle.usage.specs.Past.{Step, event, opening, closing, Past, Created, openStack}
-use Rattle.usage.specs.Judge.{stepOf, Case, is-halted, no-step, creates-static, creates-again, not-created, not-open, not-last, too-many}
-use Rattle.usage.specs.Judge.{too-deep}
+use Rattle.usage.specs.Past.{Step, event, opening, closing, retiring, Past, openStack, liveIn, Live}
+use Rattle.usage.specs.Judge.{stepOf, Case, is-halted, no-step, creates-static, not-above, retires-static, not-live, not-created, not-open}
+use Rattle.usage.specs.Judge.{not-last, too-many, too-deep}
 use Rattle.usage.specs.Judge.{Refuses, Taken}
 use Rattle.usage.proofs.Logic.{by-cases, false-true, not-both, or-left, or-right}
 use Rattle.usage.proofs.JudgeLaws.{CaseOf, case-of, step-fits}
@@ -22,7 +22,8 @@ use Rattle.monitor_sets.proofs.OrderLaws.{length-stack, stack-top, order-parts,
 use Rattle.monitor_state.specs.declared.State.{State}
 use Rattle.monitor_state.specs.Judge.{live, listed, openingsOf, lastOpened, refusal}
 use Rattle.monitor_state.specs.Represents.{Represents}
-use Rattle.monitor_state.proofs.Places.{state-parts}
+use Rattle.monitor_state.proofs.Places.{state-parts, live-length}
+use Rattle.monitor_state.proofs.WithoutLaws.{listed-member}
 use Rattle.monitor_state.proofs.Preserve.{Ready}
 use Rattle.monitor_state.proofs.BrokenLaws.{open-count-pos, count-pos-open}
 
@@ -33,7 +34,9 @@ case-from : {past : Past} {h : Bool} {raw : RawStep} {n : ℕ} → Case past h r
 case-from (is-halted e) = inl (e, refl)
 case-from (no-step e) = inr (omega arith)
 case-from (creates-static e k) = inr (omega arith)
-case-from (creates-again e k) = inr (omega arith)
+case-from (not-above e k) = inr (omega arith)
+case-from (retires-static e k) = inr (omega arith)
+case-from (not-live e k) = inr (omega arith)
 case-from (not-created e k n) = inr (omega arith)
 case-from (not-open e k) = inr (omega arith)
 case-from (not-last e k n) = inr (omega arith)
@@ -56,12 +59,19 @@ pub data Settled (past : Past) (s : State) (raw : RawStep) (step : Step) : Optio
   takes : Taken past false raw → Ready s step → Settled past s raw step none
 
 module _ (local : Bool) (es : List Edge) (past : Past) (h : Bool) (s : State) (R : Represents local es past h s) (raw : RawStep) where
-  absent : (r : ℕ) → listed r (live s) ≡ false → Created r past → ⊥
-  absent r e m = not-both (listed r (live s)) (R .made r .1 m) e
+  -- what is live is listed, and no other
+  present : (r : ℕ) → listed r (live s) ≡ true → Live r past
+  present r e = listed-member r (liveIn past) .0 (ap (listed r) (sym (R .lives)) ∙ e)
 
-  settled-create : (r : ℕ) → stepOf raw ≡ some (event 0 r) → (b : Bool) → ltb r statics ≡ b → (c : Bool) → listed r (live s) ≡ c
+  absent : (r : ℕ) → listed r (live s) ≡ false → Live r past → ⊥
+  absent r e m = not-both (listed r (live s)) (ap (listed r) (R .lives) ∙ listed-member r (liveIn past) .1 m) e
+
+  number : length (liveIn past) ≡ s .count
+  number = ap length (sym (R .lives)) ∙ live-length s (R .created-length) (state-parts s (R .well))
+
+  settled-create : (r : ℕ) → stepOf raw ≡ some (event 0 r) → (b : Bool) → ltb r statics ≡ b → (c : Bool) → leb r (s .highest) ≡ c
       → (d : Bool) → leb mostCreated (s .count) ≡ d
-      → Settled past s raw (event 0 r) (cond b (some 22) (cond c (some 23) (cond d (some 30) none)))
+      → Settled past s raw (event 0 r) (cond b (some 22) (cond c (some 27) (cond d (some 30) none)))
   settled-create r e true b c m d f =
       refuses (record { stated = creates-static e (ltb-true r statics b); first = λ n l k. low n l (case-of e k) })
     where
@@ -70,36 +80,39 @@ module _ (local : Bool) (es : List Edge) (past : Past) (h : Bool) (s : State) (R
       low n l (inr (inl k)) = omega (arith, k .0)
       low n l (inr (inr k)) = omega (arith, k .0)
   settled-create r e false b true m d f =
-      refuses (record { stated = creates-again e (R .made r .0 m); first = λ n l k. low n l (case-of e k) })
+      refuses (record {
+        stated = not-above e (let z = leb-true r (s .highest) m in omega (arith, R .most));
+        first = λ n l k. low n l (case-of e k);
+      })
     where
-      low : (n : ℕ) → n < 23 → CaseOf past (event 0 r) n → ⊥
+      low : (n : ℕ) → n < 27 → CaseOf past (event 0 r) n → ⊥
       low n l (inl k) = omega (arith, k .1, ltb-false r statics b)
       low n l (inr (inl k)) = omega (arith, k .0)
       low n l (inr (inr k)) = omega (arith, k .0)
   settled-create r e false b false m true f =
       refuses (record {
-        stated = too-many e (subst (λ (k : ℕ). mostCreated ≤ k) (R .number) (leb-true mostCreated (s .count) f));
+        stated = too-many e (let z = leb-true mostCreated (s .count) f in omega (arith, number));
         first = λ n l k. low n l (case-of e k);
       })
     where
       low : (n : ℕ) → n < 30 → CaseOf past (event 0 r) n → ⊥
       low n l (inl k) = omega (arith, k .1, ltb-false r statics b)
-      low n l (inr (inl k)) = absent r m (k .1)
+      low n l (inr (inl k)) = omega (arith, k .1, R .most, leb-false r (s .highest) m)
       low n l (inr (inr k)) = omega (arith, k .0)
   settled-create r e false b false m false f =
-      takes (λ n k. none-holds n (case-of e k)) (ltb-false r statics b, m, leb-false mostCreated (s .count) f)
+      takes (λ n k. none-holds n (case-of e k)) (ltb-false r statics b, leb-false r (s .highest) m, leb-false mostCreated (s .count) f)
     where
       none-holds : (n : ℕ) → CaseOf past (event 0 r) n → ⊥
       none-holds n (inl k) = omega (arith, k .1, ltb-false r statics b)
-      none-holds n (inr (inl k)) = absent r m (k .1)
-      none-holds n (inr (inr k)) = omega (arith, k .1, R .number, leb-false mostCreated (s .count) f)
+      none-holds n (inr (inl k)) = omega (arith, k .1, R .most, leb-false r (s .highest) m)
+      none-holds n (inr (inr k)) = omega (arith, k .1, number, leb-false mostCreated (s .count) f)
 
   settled-event : (a r : ℕ) → stepOf raw ≡ some (event (suc a) r) → (b : Bool) → ltb r statics ≡ b → (c : Bool) → listed r (live s) ≡ c
       → Settled past s raw (event (suc a) r) (cond (b || c) none (some 24))
   settled-event a r e true b c m =
       takes (λ n k. let l : statics ≤ r = case-of e k .1 in omega (arith, ltb-true r statics b))
       (or-left (ltb r statics) (listed r (live s)) b)
-  settled-event a r e false b true m = takes (λ n k. case-of e k .2 (R .made r .0 m)) (or-right (ltb r statics) (listed r (live s)) m)
+  settled-event a r e false b true m = takes (λ n k. case-of e k .2 (present r m)) (or-right (ltb r statics) (listed r (live s)) m)
   settled-event a r e false b false m =
       refuses (record {
         stated = not-created e (ltb-false r statics b) (absent r m);
@@ -151,9 +164,19 @@ module _ (local : Bool) (es : List Edge) (past : Past) (h : Bool) (s : State) (R
         first = λ n l k. by-cases (case-of e k) (λ t. omega (arith, t .0)) (λ t. omega (arith, t .0));
       })
 
+  settled-retiring : (r : ℕ) → stepOf raw ≡ some (retiring r) → (b : Bool) → ltb r statics ≡ b → (c : Bool) → listed r (live s) ≡ c
+      → Settled past s raw (retiring r) (cond (not b && c) none (some 28))
+  settled-retiring r e true b c m =
+      refuses (record { stated = retires-static e (ltb-true r statics b); first = λ n l k. let z : n ≡ 28 = case-of e k .0 in omega arith })
+  settled-retiring r e false b true m =
+      takes (λ n k. by-cases (case-of e k .1) (λ l. let z = ltb-false r statics b in omega arith) (λ d. d (present r m))) m
+  settled-retiring r e false b false m =
+      refuses (record { stated = not-live e (absent r m); first = λ n l k. let z : n ≡ 28 = case-of e k .0 in omega arith })
+
   pub settled : (step : Step) → stepOf raw ≡ some step → Settled past s raw step (refusal s step)
   unfolding refusal
-  settled (event zero r) e = settled-create r e (ltb r statics) refl (listed r (live s)) refl (leb mostCreated (s .count)) refl
+  settled (event zero r) e = settled-create r e (ltb r statics) refl (leb r (s .highest)) refl (leb mostCreated (s .count)) refl
   settled (event (suc a) r) e = settled-event a r e (ltb r statics) refl (listed r (live s)) refl
   settled (opening p) e = settled-opening p e (leb mostUnclosed (s .depth)) refl
   settled (closing p) e = settled-closing p e (ltb 0 (openingsOf s p)) refl (eqb (lastOpened s) p) refl
+  settled (retiring r) e = settled-retiring r e (ltb r statics) refl (listed r (live s)) refl

@@ -9,18 +9,17 @@ use lib.Dec.{eqb, lit<}
 use lib.ListN.{length, getD, replicate, length-replicate, getD-replicate}
 use borrow.Author.Tests.{eq-eqb, eqb-true}
 use Rattle.usage.specs.declared.Edge.{Edge}
-use Rattle.usage.specs.Limits.{policies, states, mostCreated}
+use Rattle.usage.specs.Limits.{statics, policies, states, mostCreated}
 use Rattle.usage.specs.Policy.{Sees, Moves}
-use Rattle.usage.specs.Past.{Past, event, May, start, moved, opened, closed, count, openStack, occurrences, isOpen}
+use Rattle.usage.specs.Past.{Past, event, May, start, moved, opened, closed, retired, count, openStack, liveIn, highest, occurrences, isOpen}
 use Rattle.usage.specs.Tests.{every}
-use Rattle.usage.proofs.Logic.{false-true}
 use Rattle.automaton.specs.Mask.{has}
 use Rattle.automaton.proofs.MaskLaws.{has-pow}
 use Rattle.automaton.proofs.MoveLaws.{Ends, moves-lt}
-use Rattle.monitor_sets.specs.Instances.{instances, setPlaces}
+use Rattle.monitor_sets.specs.Instances.{unseen, retirees, instances, setPlaces}
 use Rattle.monitor_sets.specs.Order.{agreeBelow}
-use Rattle.monitor_state.specs.Judge.{listed, distinct, createdOk, stackIn, orderOk, stateOk, placeOf, setAt, possibleIn, startState}
-use Rattle.monitor_state.specs.Represents.{Tracks, Gathers, Represents}
+use Rattle.monitor_state.specs.Judge.{distinct, createdOk, highestOk, stackIn, orderOk, stateOk, placeFrom, placeOf, setAt, possibleIn, startState}
+use Rattle.monitor_state.specs.Represents.{Tracks, TracksRetirees, Gathers, Represents}
 use Rattle.monitor_state.proofs.Places.{place-lt}
 
 -- ── The last step ──
@@ -48,6 +47,7 @@ may-lt {local} {p = p} v (opened {s} {past} m) = either (local && (eqb s p && no
     either true h = lit< tt
     either false h = h
 may-lt v (closed m) = may-lt v m
+may-lt v (retired m) = may-lt v m
 
 -- ── The start ──
 
@@ -57,28 +57,52 @@ replicate-below (suc n) a b zero h = h
 replicate-below (suc n) a b (suc k) h = replicate-below n a b k h
 
 begin-ok : stateOk startState ≡ true
-unfolding stateOk startState createdOk orderOk stackIn agreeBelow occurrences every distinct
+unfolding stateOk startState createdOk highestOk orderOk stackIn agreeBelow occurrences every distinct
 begin-ok = refl
 
 begin-created : length (startState .created) ≡ mostCreated
 unfolding startState
 begin-created = refl
 
-begin-set : (x p : ℕ) → p < policies → setAt startState p (placeOf startState x) ≡ 1
+begin-set : (i p : ℕ) → i < instances → p < policies → setAt startState p i ≡ 1
 unfolding startState
-begin-set x p h = getD-replicate setPlaces (p * instances + placeOf startState x) 1 0 (omega (arith, place-lt startState x))
+begin-set i p l h = getD-replicate setPlaces (p * instances + i) 1 0 (omega arith)
+
+begin-place : (x : ℕ) → placeOf startState x < instances
+unfolding startState
+begin-place x = omega (arith, place-lt startState x)
 
 begin-tracks : (local : Bool) (es : List Edge) → Tracks local es [] startState
-begin-tracks local es x p q k l = (to, back)
+begin-tracks local es x p q k l n = (to, back)
   where
     one : has (setAt startState p (placeOf startState x)) q ≡ eqb 0 q
-    one = ap (λ (m : ℕ). has m q) (begin-set x p k) ∙ has-pow 0 q (lit< tt) l
+    one = ap (λ (m : ℕ). has m q) (begin-set (placeOf startState x) p (begin-place x) k) ∙ has-pow 0 q (lit< tt) l
 
     to : has (setAt startState p (placeOf startState x)) q ≡ true → May local es p (Sees x) [] q
     to h = subst (λ (n : ℕ). May local es p (Sees x) [] n) (eqb-true 0 q (sym one ∙ h)) start
 
     back : May local es p (Sees x) [] q → has (setAt startState p (placeOf startState x)) q ≡ true
     back m = one ∙ eq-eqb 0 q (sym (may-start m))
+
+begin-unseen : placeOf startState statics ≡ unseen
+unfolding startState placeOf placeFrom
+begin-unseen = refl
+
+begin-tracks-retirees : (local : Bool) (es : List Edge) → TracksRetirees local es [] startState
+begin-tracks-retirees local es p q k l = (to, back)
+  where
+    one : has (setAt startState p retirees) q ≡ eqb 0 q
+    one = ap (λ (m : ℕ). has m q) (begin-set retirees p (lit< tt) k) ∙ has-pow 0 q (lit< tt) l
+
+    to : has (setAt startState p retirees) q ≡ true → (x : ℕ) × (placeOf startState x ≡ unseen) × May local es p (Sees x) [] q
+    to h = (
+      statics,
+      begin-unseen,
+      subst (λ (n : ℕ). May local es p (Sees statics) [] n) (eqb-true 0 q (sym one ∙ h)) start,
+    )
+
+    back : ((x : ℕ) × (placeOf startState x ≡ unseen) × May local es p (Sees x) [] q) → has (setAt startState p retirees) q ≡ true
+    back m = one ∙ eq-eqb 0 q (sym (may-start (m .2)))
 
 begin-possible : (p : ℕ) → p < policies → possibleIn startState p ≡ 1
 unfolding startState
@@ -97,14 +121,16 @@ begin-gathers local es p q k l = (to, back)
     back m = one ∙ eq-eqb 0 q (sym (may-start (m .1)))
 
 pub begin-represents : (local : Bool) (es : List Edge) → Represents local es [] false startState
-unfolding startState count listed stackIn openStack
+unfolding startState count stackIn openStack liveIn highest
 begin-represents local es = record {
   halted = refl;
   well = begin-ok;
   tracks = begin-tracks local es;
+  tracks-retirees = begin-tracks-retirees local es;
   gathers = begin-gathers local es;
-  made = λ r. (λ e. false-true e, λ m. absurd (List·Memᴰ·not-nil m));
-  number = refl;
+  lives = refl;
+  most = refl;
+  gone = λ x m. absurd (List·Memᴰ·not-nil m);
   stack = refl;
   open-count = λ p. zero-add (getD (replicate policies 0) p 0) ∙ zero-of (replicate-below policies 0 1 p (lit< tt));
   sets-length = length-replicate {A = ℕ} setPlaces 1;

@@ -25,9 +25,10 @@ pub is-read : (raw : RawStep) (k : Kind Step) → getElem? stepKinds (raw .kind)
 unfolding stepOk stepOf
 is-read raw k e h = rw e (rw (rw e at h))
 
--- there is no kind above 2
-pub no-kind : (k : ℕ) → (k ≡ 0 → ⊥) → (k ≡ 1 → ⊥) → (k ≡ 2 → ⊥) → getElem? stepKinds k ≡ none
-no-kind zero a b c = absurd (a refl)
-no-kind (suc zero) a b c = absurd (b refl)
-no-kind (suc (suc zero)) a b c = absurd (c refl)
-no-kind (suc (suc (suc k))) a b c = refl
+-- there is no kind above 3
+pub no-kind : (k : ℕ) → (k ≡ 0 → ⊥) → (k ≡ 1 → ⊥) → (k ≡ 2 → ⊥) → (k ≡ 3 → ⊥) → getElem? stepKinds k ≡ none
+no-kind zero a b c d = absurd (a refl)
+no-kind (suc zero) a b c d = absurd (b refl)
+no-kind (suc (suc zero)) a b c d = absurd (c refl)
+no-kind (suc (suc (suc zero))) a b c d = absurd (d refl)
+no-kind (suc (suc (suc (suc k)))) a b c d = refl

@@ -6,7 +6,7 @@ use mathlib.Core.Option.{Option, none, some}
 use lib.Dec.{eqb}
 use lib.ListN.{getD, set}
 use Rattle.usage.specs.declared.Edge.{Edge}
-use Rattle.usage.specs.Past.{Step, event, opening, closing}
+use Rattle.usage.specs.Past.{Step, event, opening, closing, retiring}
 use Rattle.automaton.specs.Mask.{lowestIn}
 use Rattle.monitor_state.specs.declared.State.{State}
 use Rattle.monitor_state.specs.declared.Judgement.{Judgement}
@@ -15,23 +15,25 @@ use Rattle.monitor_state.specs.declared.Sizes.{Sizes}
 use Rattle.monitor_state.specs.declared.Answer.the-variants.{Allowed, Violated}
 use Rattle.monitor_state.specs.Judge.{broken, refusal, settle, judgeStep}
 use Rattle.monitor_state.specs.declared.Read.{Read}
-use Rattle.monitor_state.specs.declared.Read.the-variants.{Event, Opening, Closing, Nothing}
+use Rattle.monitor_state.specs.declared.Read.the-variants.{Event, Opening, Closing, Retiring, Nothing}
 
 -- the step that was read
 abbrev pub says : Read → Option Step
 says (Event a r) = some (event a r)
 says (Opening p) = some (opening p)
 says (Closing p) = some (closing p)
+says (Retiring r) = some (retiring r)
 says Nothing = none
 
 -- ── A state by its parts ──
 
-abbrev pub stateOf : List ℕ → List ℕ → List ℕ → ℕ → List ℕ → List ℕ → ℕ → Bool → State
-stateOf sets possible created count unclosed order depth halted = record {
+abbrev pub stateOf : List ℕ → List ℕ → List ℕ → ℕ → ℕ → List ℕ → List ℕ → ℕ → Bool → State
+stateOf sets possible created count highest unclosed order depth halted = record {
   sets = sets;
   possible = possible;
   created = created;
   count = count;
+  highest = highest;
   unclosed = unclosed;
   order = order;
   depth = depth;
@@ -43,12 +45,12 @@ abbrev pub oneMore : List ℕ → ℕ → List ℕ
 oneMore unclosed p = set unclosed p (getD unclosed p 0 + 1)
 
 abbrev pub sizesOf : State → Sizes
-sizesOf s = record { count = s .count; depth = s .depth }
+sizesOf s = record { count = s .count; highest = s .highest; depth = s .depth }
 
 -- what is told, with the arrays as they were left
 abbrev pub judgementOf : Told → List ℕ → List ℕ → List ℕ → List ℕ → List ℕ → Judgement
 judgementOf t sets possible created unclosed order =
-    record { answer = t .answer; state = stateOf sets possible created (t .count) unclosed order (t .depth) (t .halted) }
+    record { answer = t .answer; state = stateOf sets possible created (t .count) (t .highest) unclosed order (t .depth) (t .halted) }
 
 -- the judgement of a step that was read
 abbrev pub stepped : Bool → List Edge → State → Step → Judgement
@@ -57,5 +59,5 @@ stepped local es s step = judgeStep local es s step (refusal s step)
 -- what is told of a step that leaves the policies `bad` broken
 unfoldable pub toldOf : ℕ → Sizes → Sizes → Told
 toldOf bad before after =
-    cond (eqb bad 0) (record { answer = Allowed; count = after .count; depth = after .depth; halted = false })
-    (record { answer = Violated (lowestIn bad); count = before .count; depth = before .depth; halted = true })
+    cond (eqb bad 0) (record { answer = Allowed; count = after .count; highest = after .highest; depth = after .depth; halted = false })
+    (record { answer = Violated (lowestIn bad); count = before .count; highest = before .highest; depth = before .depth; halted = true })

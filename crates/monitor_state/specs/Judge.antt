@@ -8,17 +8,17 @@ use lib.ListN.{getD, take, set, replicate}
 use Rattle.usage.specs.declared.Edge.{Edge}
 use Rattle.usage.specs.declared.RawStep.{RawStep}
 use Rattle.usage.specs.Limits.{statics, policies, mostCreated, mostUnclosed}
-use Rattle.usage.specs.Past.{Step, event, opening, closing}
+use Rattle.usage.specs.Past.{Step, event, opening, closing, retiring}
 use Rattle.usage.specs.Answers.{Verdict, allowed, violated, refused}
 use Rattle.usage.specs.Judge.{stepOf}
 use Rattle.usage.specs.Tests.{every}
 use Rattle.usage.specs.Tables.{from, edgesOf, edgeTable}
-use Rattle.monitor_sets.specs.Instances.{firstCreated, instances, setPlaces}
+use Rattle.monitor_sets.specs.Instances.{retirees, firstCreated, instances, setPlaces}
 use Rattle.automaton.specs.Mask.{union, offends, lowestIn}
-unfoldable pub use Rattle.monitor_sets.specs.Created.{listed, distinct, placeFrom, createdOk}
+unfoldable pub use Rattle.monitor_sets.specs.Created.{listed, distinct, placeFrom, createdOk, highestOk, closedUp}
 unfoldable pub use Rattle.monitor_sets.specs.Order.{stackIn, agreeBelow, orderOk}
 pub use Rattle.monitor_sets.specs.Created.{dynamic}
-unfoldable pub use Rattle.monitor_sets.specs.Sets.{copied, movedSets, resetSets, gathered}
+unfoldable pub use Rattle.monitor_sets.specs.Sets.{copied, retiredSets, movedSets, resetSets, gathered}
 pub use Rattle.monitor_sets.specs.Sets.{startSet}
 use Rattle.monitor_state.specs.declared.State.{State}
 use Rattle.monitor_state.specs.declared.Answer.{Answer}
@@ -31,13 +31,15 @@ verdictOf Allowed = allowed
 verdictOf (Violated p) = violated p
 verdictOf (Refused n) = refused n
 
--- "The state starts with each instance in state 0, nothing created and nothing open." So each policy may be in state 0 alone.
+-- "The state starts with each instance in state 0, nothing created and nothing open." So each policy may be in state 0 alone; and where
+-- nothing is retired, the set of the retired ones has what a resource that never occurred may be in.
 unfoldable pub startState : State
 startState = record {
   sets = replicate setPlaces 1;
   possible = replicate policies 1;
   created = replicate mostCreated 0;
   count = 0;
+  highest = 0;
   unclosed = replicate policies 0;
   order = replicate mostUnclosed 0;
   depth = 0;
@@ -46,20 +48,20 @@ startState = record {
 
 -- ── The created resources and their instances ──
 
--- the created resources, in their order
+-- the live resources, in the order of their creation
 abbrev pub live : State → List ℕ
 live s = take (s .count) (s .created)
 
 -- "42 a state with more than 64 resources, one listed twice or outside 16 to 65,535"; "42 also refuses an order longer than 64 or one
--- that disagrees with the counts", so no policy is above 64 openings
+-- that disagrees with the counts", so no policy is above 64 openings; "42 also refuses a highest number below a live one"
 unfoldable pub stateOk : State → Bool
-stateOk s = createdOk (s .count) (s .created) && orderOk (s .depth) (s .order) (s .unclosed)
+stateOk s = createdOk (s .count) (s .created) && (highestOk (s .highest) (s .count) (s .created) && orderOk (s .depth) (s .order) (s .unclosed))
 
--- the place of x's instance: its own if x is static or created, else that of the unseen ones
+-- the place of x's instance: its own if x is static or live, else that of the unseen ones
 unfoldable pub placeOf : State → ℕ → ℕ
 placeOf s x = cond (ltb x statics) x (placeFrom x firstCreated (live s))
 
--- the instances in use: the static ones, that of the resources that never occurred, and the created ones
+-- the instances in use: the static ones, that of the resources that never occurred, that of the retired ones, and the live ones
 abbrev pub used : State → ℕ
 used s = firstCreated + s .count
 
@@ -75,6 +77,7 @@ createdIn s r = record {
   possible = s .possible;
   created = set (s .created) (s .count) r;
   count = s .count + 1;
+  highest = r;
   unclosed = s .unclosed;
   order = s .order;
   depth = s .depth;
@@ -88,6 +91,7 @@ movedIn es a r s = record {
   possible = gathered (used s) (movedSets es a r (placeOf s r) (used s) (s .sets));
   created = s .created;
   count = s .count;
+  highest = s .highest;
   unclosed = s .unclosed;
   order = s .order;
   depth = s .depth;
@@ -101,9 +105,25 @@ withOpenings s unclosed order depth = record {
   possible = s .possible;
   created = s .created;
   count = s .count;
+  highest = s .highest;
   unclosed = unclosed;
   order = order;
   depth = depth;
+  halted = s .halted;
+}
+
+-- "It frees the place for another create, is no event and, like an opening, is judged by the stored sets" (02, L8): what is kept of each
+-- policy stays
+unfoldable pub retiredIn : State → ℕ → State
+retiredIn s r = record {
+  sets = retiredSets (placeOf s r) (used s) (s .sets);
+  possible = s .possible;
+  created = closedUp (placeOf s r - firstCreated) (s .count) (s .created);
+  count = s .count - 1;
+  highest = s .highest;
+  unclosed = s .unclosed;
+  order = s .order;
+  depth = s .depth;
   halted = s .halted;
 }
 
@@ -118,6 +138,7 @@ withSets s sets possible = record {
   possible = possible;
   created = s .created;
   count = s .count;
+  highest = s .highest;
   unclosed = s .unclosed;
   order = s .order;
   depth = s .depth;
@@ -139,6 +160,7 @@ after local es s (event (suc a) r) = movedIn es (suc a) r s
 after local es s (opening p) =
     withOpenings (resetIn (anew local s p) s p) (set (s .unclosed) p (openingsOf s p + 1)) (set (s .order) (s .depth) p) (s .depth + 1)
 after local es s (closing p) = withOpenings s (set (s .unclosed) p (openingsOf s p - 1)) (s .order) (s .depth - 1)
+after local es s (retiring r) = retiredIn s r
 
 -- ── The answer ──
 
@@ -154,13 +176,15 @@ broken s = union policies (λ p. cond (ltb 0 (openingsOf s p) && offends (possib
 abbrev pub lastOpened : State → ℕ
 lastOpened s = getD (s .order) (s .depth - 1) 0
 
--- The number that refuses a step, if any.
+-- The number that refuses a step, if any. In a state that passes 42 no live number is above the highest one, so a create that is not refused
+-- with 27 is of a resource that is not live.
 unfoldable pub refusal : State → Step → Option ℕ
 refusal s (event zero r) =
-    cond (ltb r statics) (some 22) (cond (listed r (live s)) (some 23) (cond (leb mostCreated (s .count)) (some 30) none))
+    cond (ltb r statics) (some 22) (cond (leb r (s .highest)) (some 27) (cond (leb mostCreated (s .count)) (some 30) none))
 refusal s (event (suc a) r) = cond (ltb r statics || listed r (live s)) none (some 24)
 refusal s (opening p) = cond (leb mostUnclosed (s .depth)) (some 32) none
 refusal s (closing p) = cond (ltb 0 (openingsOf s p)) (cond (eqb (lastOpened s) p) none (some 26)) (some 25)
+refusal s (retiring r) = cond (not (ltb r statics) && listed r (live s)) none (some 28)
 
 unfoldable pub refuse : ℕ → State → Judgement
 refuse n s = record { answer = Refused n; state = s }
@@ -172,6 +196,7 @@ halt s = record {
   possible = s .possible;
   created = s .created;
   count = s .count;
+  highest = s .highest;
   unclosed = s .unclosed;
   order = s .order;
   depth = s .depth;

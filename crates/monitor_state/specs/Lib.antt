@@ -2,4 +2,5 @@ pub mod Judge
 pub mod Represents
 pub mod Promise
 pub mod Renamed
+pub mod Others
 pub mod Code

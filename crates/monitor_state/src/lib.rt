@@ -12,14 +12,15 @@ ghost use Rattle.monitor_state.specs.declared.Answer.the-variants.{Refus
 ghost use Rattle.monitor_state.specs.Code.{says, toldOf};
 
 // What the judge keeps between steps: the sets of states of the instances, as `monitor_sets::instances` lays them out; for each policy the
-// set of states that any of its instances may be in; the created resources, which are the first `count` numbers; for each policy its
-// openings that are not closed; the policies of all these openings in their order, the oldest first, which are the first `depth` numbers;
-// and whether a step was violated.
+// set of states that any of its instances may be in; the live resources, which are the first `count` numbers; the highest number that was
+// created; for each policy its openings that are not closed; the policies of all these openings in their order, the oldest first, which are
+// the first `depth` numbers; and whether a step was violated.
 pub struct State {
     pub sets: [u8; SETS],
     pub possible: [u8; POLICIES],
     pub created: [u32; MOST_CREATED],
     pub count: usize,
+    pub highest: u32,
     pub unclosed: [u8; POLICIES],
     pub order: [u8; MOST_UNCLOSED],
     pub depth: usize,
@@ -41,6 +42,7 @@ pub struct Judgement {
 pub struct Told {
     pub answer: Answer,
     pub count: usize,
+    pub highest: u32,
     pub depth: usize,
     pub halted: bool,
 }
@@ -50,6 +52,7 @@ pub enum Read {
     Event(u32, u32),
     Opening(usize),
     Closing(usize),
+    Retiring(u32),
     Nothing,
 }
 
@@ -67,25 +70,28 @@ pub fn read_step(step: RawStep) -> Read
         0 => Read::Event(a, b),
         1 => Read::Opening(a as usize),
         2 => Read::Closing(a as usize),
+        3 => Read::Retiring(a),
         _ => Read::Nothing,
     }
 }
 
 // A refused step: nothing is changed.
-pub fn refused(n: u8, count: usize, depth: usize, before: bool) -> Told
-    ensures { λ r. ⌜ r ≡ record { answer = Refused n; count = count; depth = depth; halted = before } ⌝ }
+pub fn refused(n: u8, count: usize, highest: u32, depth: usize, before: bool) -> Told
+    ensures { λ r. ⌜ r ≡ record { answer = Refused n; count = count; highest = highest; depth = depth; halted = before } ⌝ }
 {
     Told {
         answer: Answer::Refused(n),
         count,
+        highest,
         depth,
         halted: before,
     }
 }
 
-// How many resources are created, and how many openings are not closed.
+// How many resources are live, the highest number that was created, and how many openings are not closed.
 pub struct Sizes {
     pub count: usize,
+    pub highest: u32,
     pub depth: usize,
 }
 
@@ -98,6 +104,7 @@ pub fn settled(broken: u8, before: Sizes, after: Sizes) -> Told
         return Told {
             answer: Answer::Allowed,
             count: after.count,
+            highest: after.highest,
             depth: after.depth,
             halted: false,
         };
@@ -106,6 +113,7 @@ pub fn settled(broken: u8, before: Sizes, after: Sizes) -> Told
     Told {
         answer: Answer::Violated(p as u8),
         count: before.count,
+        highest: before.highest,
         depth: before.depth,
         halted: true,
     }

@@ -11,7 +11,7 @@ use lib.ListN.{length, getD, take, drop, length-append, length-replicate}
 use lib.Seq.{getD-append-add}
 use Rattle.usage.specs.declared.RawStep.{RawStep}
 use Rattle.usage.specs.Limits.{mostShown}
-use Rattle.usage.specs.Past.{Step, event, opening, closing, Past, Numbered}
+use Rattle.usage.specs.Past.{Step, event, opening, closing, retiring, Past, Numbered}
 use Rattle.usage.specs.Check.{Shortest, this}
 use Rattle.usage.specs.Tables.{from, stepAt, edgesOf, nodesOf, NodeTable}
 use Rattle.usage.specs.Answers.{Verdict, violated}
@@ -92,6 +92,7 @@ next-step past s more = rw (
     own (event a r) = refl
     own (opening p) = refl
     own (closing p) = refl
+    own (retiring r) = refl
 
 past-steps : (past : Past) (more : List ℕ) → from (stepAt (numbers past ++ more)) 0 (length past) ≡ rawsOf past
 unfolding numbers rawsOf from
@@ -114,20 +115,22 @@ shown-steps t past = past-steps past (drop (3 * length past) t)
 -- a step of a trace that is numbered so: its numbers are in range, and a resource is one of the lowest
 pub record Low-step (s : Step) : Type 0 where
   pub fits : Fits s
+  pub a : rawOf s .a < 32
   pub b : rawOf s .b < 217
 
 step-low : (s : Step) (past : Past) → StepOk s past → Numbered (s ∷ past) → length past ≤ mostShown → Low-step s
 step-low (event a r) past (inl (e, l, new)) h few =
     let k = h .0 e in
     let c = creates-few past in
-    record { fits = (omega arith, omega arith); b = omega arith }
-step-low (event a r) past (inr (one, two, inl low)) h few = record { fits = (two, omega arith); b = omega arith }
+    record { fits = (omega arith, omega arith); a = omega arith; b = omega arith }
+step-low (event a r) past (inr (one, two, inl low)) h few = record { fits = (two, omega arith); a = omega arith; b = omega arith }
 step-low (event a r) past (inr (one, two, inr made)) h few =
     let k = created-low past r (h .1) made in
     let c = creates-few past in
-    record { fits = (two, omega arith); b = omega arith }
-step-low (opening p) past o h few = record { fits = o; b = omega arith }
-step-low (closing p) past (o, last, l) h few = record { fits = l; b = omega arith }
+    record { fits = (two, omega arith); a = omega arith; b = omega arith }
+step-low (opening p) past o h few = record { fits = o; a = omega arith; b = omega arith }
+step-low (closing p) past (o, last, l) h few = record { fits = l; a = omega arith; b = omega arith }
+step-low (retiring r) past o h few = absurd o
 
 step-short : (s : Step) → Low-step s → length (stepRow (rawOf s)) ≤ longestShownRow
 step-short (event a r) l =
@@ -136,11 +139,13 @@ step-short (event a r) l =
     step-nine 0 a r (omega arith) (omega arith) (omega arith)
 step-short (opening p) l = let h = l .fits in step-nine 1 p 0 (omega arith) (omega arith) (omega arith)
 step-short (closing p) l = let h = l .fits in step-nine 2 p 0 (omega arith) (omega arith) (omega arith)
+step-short (retiring r) l = let h = l .a in step-nine 3 r 0 (omega arith) (omega arith) (omega arith)
 
 numbered-tail : (s : Step) (past : Past) → Numbered (s ∷ past) → Numbered past
 numbered-tail (event a r) past h = h .1
 numbered-tail (opening p) past h = h
 numbered-tail (closing p) past h = h
+numbered-tail (retiring r) past h = h
 
 pub data Low : Past → Type 0 where
   no-step : Low []

@@ -10,7 +10,7 @@ use lib.Seq.{append-snoc}
 use borrow.Author.Tests.{ltb-true, ltb-false, le-leb}
 use Rattle.usage.specs.declared.RawStep.{RawStep}
 use Rattle.usage.specs.Limits.{mostSteps}
-use Rattle.usage.specs.Past.{Step, event, opening, closing, Past}
+use Rattle.usage.specs.Past.{Step, event, opening, closing, retiring, Past}
 use Rattle.usage.specs.Tables.{from, stepAt}
 use Rattle.usage.proofs.Logic.{clash}
 use Rattle.usage.proofs.JudgeLaws.{Fits}
@@ -168,6 +168,7 @@ step-ranged (event a r) (l, k) =
     rw (le-leb 0 a (omega arith), le-leb a 31 (omega arith), le-leb 0 r (omega arith), le-leb r 65535 (omega arith))
 step-ranged (opening p) l = rw (le-leb 0 p (omega arith), le-leb p 7 (omega arith))
 step-ranged (closing p) l = rw (le-leb 0 p (omega arith), le-leb p 7 (omega arith))
+step-ranged (retiring r) l = rw (le-leb 0 r (omega arith), le-leb r 65535 (omega arith))
 
 step-readable : (s : Step) → Low-step s → Readable (rawOf s)
 step-readable (event a r) l =
@@ -180,6 +181,9 @@ step-readable (opening p) l =
 step-readable (closing p) l =
     let h = l .fits in
     record { kind = omega arith; a = omega arith; b = omega arith; ranged = step-ranged (closing p) (l .fits) }
+step-readable (retiring r) l =
+    let h = l .a in
+    record { kind = omega arith; a = omega arith; b = omega arith; ranged = step-ranged (retiring r) (l .fits) }
 
 low-readable : {past : Past} → Low past → All-readable (rawsOf past)
 unfolding rawsOf

@@ -1,6 +1,6 @@
 -- Every number that the judge answers has at most two digits.
 use Prim.Native.Nat.{ℕ, zero, suc, _<_}
-use mathlib.Core.Bool.{Bool, true, false, not, cond, _||_}
+use mathlib.Core.Bool.{Bool, true, false, not, cond, _&&_, _||_}
 use mathlib.Core.List.{List}
 use mathlib.Core.Option.{Option, none, some}
 use native.Mathlib.Omega.{arith}
@@ -9,7 +9,7 @@ use lib.Count.{trailingZeros, trailing-le}
 use Rattle.usage.specs.declared.Edge.{Edge}
 use Rattle.usage.specs.declared.RawStep.{RawStep}
 use Rattle.usage.specs.Limits.{statics, mostCreated, mostUnclosed}
-use Rattle.usage.specs.Past.{Step, event, opening, closing}
+use Rattle.usage.specs.Past.{Step, event, opening, closing, retiring}
 use Rattle.usage.specs.Answers.{detail}
 use Rattle.usage.specs.Judge.{stepOf}
 use Rattle.usage.specs.Tables.{edgesOf, edgeTable}
@@ -50,14 +50,15 @@ number false x y h k = k
 refusal-number : (s : State) (step : Step) → Number (refusal s step)
 unfolding refusal
 refusal-number s (event zero r) =
-    number (ltb r statics) (some 22) (cond (listed r (live s)) (some 23) (cond (leb mostCreated (s .count)) (some 30) none)) (omega arith)
-    (number (listed r (live s)) (some 23) (cond (leb mostCreated (s .count)) (some 30) none) (omega arith)
+    number (ltb r statics) (some 22) (cond (leb r (s .highest)) (some 27) (cond (leb mostCreated (s .count)) (some 30) none)) (omega arith)
+    (number (leb r (s .highest)) (some 27) (cond (leb mostCreated (s .count)) (some 30) none) (omega arith)
     (number (leb mostCreated (s .count)) (some 30) none (omega arith) tt))
 refusal-number s (event (suc a) r) = number (ltb r statics || listed r (live s)) none (some 24) tt (omega arith)
 refusal-number s (opening p) = number (leb mostUnclosed (s .depth)) (some 32) none (omega arith) tt
 refusal-number s (closing p) =
     number (ltb 0 (openingsOf s p)) (cond (eqb (lastOpened s) p) none (some 26)) (some 25)
     (number (eqb (lastOpened s) p) none (some 26) tt (omega arith)) (omega arith)
+refusal-number s (retiring r) = number (not (ltb r statics) && listed r (live s)) none (some 28) tt (omega arith)
 
 step-short : (local : Bool) (es : List Edge) (s : State) (step : Step) (o : Option ℕ) → Number o → Short (judgeStep local es s step o)
 unfolding judgeStep

@@ -7,9 +7,9 @@ use native.Mathlib.Omega.{arith}
 use lib.ListN.{length}
 use borrow.Author.Tests.{eq-eqb}
 use Rattle.usage.specs.Limits.{statics, create}
-use Rattle.usage.specs.Past.{event, opening, closing, Past, addIf, count, isCreate, creates, Created, Numbered}
+use Rattle.usage.specs.Past.{event, opening, closing, retiring, Past, addIf, count, isCreate, creates, Created, Numbered}
 use Rattle.usage.proofs.Logic.{by-cases}
-use Rattle.usage.proofs.PastLaws.{member-event, member-opening, member-closing}
+use Rattle.usage.proofs.PastLaws.{member-event, member-opening, member-closing, member-retiring}
 
 add-few : (b : Bool) (m n : ℕ) → m ≤ n → addIf b m ≤ suc n
 add-few true m n h = omega arith
@@ -36,3 +36,4 @@ created-low (event a x ∷ past) r h m =
     here e f g = rw (eq-eqb a create e) (omega arith)
 created-low (opening p ∷ past) r h m = created-low past r h (member-opening m)
 created-low (closing p ∷ past) r h m = created-low past r h (member-closing m)
+created-low (retiring x ∷ past) r h m = created-low past r h (member-retiring m)

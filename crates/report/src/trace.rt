@@ -48,6 +48,7 @@ fn judge_all(edges: &[u8], local: bool, steps: &[u32], out: &mut [u8], at: usize
     let mut unclosed = s.unclosed;
     let mut order = s.order;
     let mut count = s.count;
+    let mut highest = s.highest;
     let mut depth = s.depth;
     let mut halted = s.halted;
     let mut next = at;
@@ -62,6 +63,7 @@ fn judge_all(edges: &[u8], local: bool, steps: &[u32], out: &mut [u8], at: usize
             &mut unclosed,
             &mut order,
             count,
+            highest,
             depth,
             halted,
             step_at(steps, i),
@@ -69,6 +71,7 @@ fn judge_all(edges: &[u8], local: bool, steps: &[u32], out: &mut [u8], at: usize
         let a = t.answer;
         next = report_lines::row(out, next, i + 2, number_of(a), detail_of(a));
         count = t.count;
+        highest = t.highest;
         depth = t.depth;
         halted = t.halted;
         i += 1;

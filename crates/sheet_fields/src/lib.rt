@@ -122,7 +122,8 @@ fn node_spans(kind: u32) -> Spans
     }
 }
 
-// Document 01: "kind 0 event (action 0 to 31, resource 0 to 65,535), 1 open (policy 0 to 7, 0), 2 close (policy 0 to 7, 0)".
+// Document 01: "kind 0 event (action 0 to 31, resource 0 to 65,535), 1 open (policy 0 to 7, 0), 2 close (policy 0 to 7, 0)"; 02, L8: "step
+// kind 3, retire (a the resource, b 0)".
 fn step_spans(kind: u32) -> Spans
     ensures { λ r. ⌜ r ≡ spansOf (getElem? stepKinds kind) ⌝ }
 {
@@ -130,6 +131,7 @@ fn step_spans(kind: u32) -> Spans
         0 => both(0, LAST_ACTION, 0, LAST_RESOURCE),
         1 => both(0, LAST_POLICY, 0, 0),
         2 => both(0, LAST_POLICY, 0, 0),
+        3 => both(0, LAST_RESOURCE, 0, 0),
         _ => no_spans(),
     }
 }

@@ -76,12 +76,13 @@ caseG = record {
   answers = allowed ∷ violated 0 ∷ [];
 }
 
--- "H: create 15 gives 22; create 16 twice gives 23; read 16 uncreated gives 24."
+-- "H: create 15 gives 22; create 16 twice gives 23; read 16 uncreated gives 24.", with 27 for 23 ("27 .. in the place of 23, which then
+-- never occurs, also in H", 02, L8)
 abbrev pub caseH : JudgeCase
 caseH = record {
   edges = P;
   steps = step 0 0 15 ∷ step 0 2 16 ∷ step 0 0 16 ∷ step 0 0 16 ∷ [];
-  answers = refused 22 ∷ refused 24 ∷ allowed ∷ refused 23 ∷ [];
+  answers = refused 22 ∷ refused 24 ∷ allowed ∷ refused 27 ∷ [];
 }
 
 -- ── Limits and refusals ──
@@ -118,13 +119,51 @@ outerFirst = record {
   answers = allowed ∷ allowed ∷ refused 26 ∷ refused 25 ∷ allowed ∷ allowed ∷ refused 25 ∷ [];
 }
 
--- "21 kind above 2, or a value out of range, or b not 0 in an opening or closing", "25 closing a policy that is not open"
+-- "21 now means a kind above 3 or the same faults in a retiring", beside a value out of range and b not 0 in an opening or closing; "25
+-- closing a policy that is not open"
 abbrev pub noSteps : JudgeCase
 noSteps = record {
   edges = P;
-  steps = step 3 0 0 ∷ step 0 32 0 ∷ step 0 1 65536 ∷ step 1 8 0 ∷ step 1 0 1 ∷ step 2 8 0 ∷ step 2 0 1 ∷ step 2 7 0 ∷ [];
-  answers = refused 21 ∷ refused 21 ∷ refused 21 ∷ refused 21 ∷ refused 21 ∷ refused 21 ∷ refused 21 ∷ refused 25 ∷ [];
+  steps = step 4 0 0 ∷ step 0 32 0 ∷ step 0 1 65536 ∷ step 1 8 0 ∷ step 1 0 1 ∷ step 2 8 0 ∷ step 2 0 1 ∷ step 3 65536 0 ∷ step 3 16 1
+      ∷ step 2 7 0 ∷ [];
+  answers = refused 21 ∷ refused 21 ∷ refused 21 ∷ refused 21 ∷ refused 21 ∷ refused 21 ∷ refused 21 ∷ refused 21 ∷ refused 21 ∷ refused 25 ∷ [];
+}
+
+-- ── Retirings (02, L8) ──
+
+-- "27 create with a number not above all earlier ones", of retired ones too; "28 retiring a static resource or one not live"; "retired
+-- resources give 24"
+abbrev pub retirings : JudgeCase
+retirings = record {
+  edges = P;
+  steps = step 3 3 0 ∷ step 3 17 0 ∷ step 0 0 17 ∷ step 0 0 16 ∷ step 3 17 0 ∷ step 0 1 17 ∷ step 3 17 0 ∷ step 0 0 17 ∷ step 0 0 18 ∷ [];
+  answers = refused 28 ∷ refused 28 ∷ allowed ∷ refused 27 ∷ allowed ∷ refused 24 ∷ refused 28 ∷ refused 27 ∷ allowed ∷ [];
+}
+
+-- "The retired resource's instance may still break a policy": creating x leads to state 1, and from there action 4 on another to 6. The next
+-- one that is created has not the retired one's states.
+abbrev pub retiredBreaks : JudgeCase
+retiredBreaks = record {
+  edges = 0 ∷ 0 ∷ 0 ∷ 1 ∷ 0 ∷ 1 ∷ 0 ∷ 1 ∷ 4 ∷ 2 ∷ 0 ∷ 6 ∷ [];
+  steps = step 1 0 0 ∷ step 0 0 16 ∷ step 3 16 0 ∷ step 0 4 3 ∷ step 3 16 0 ∷ [];
+  answers = allowed ∷ allowed ∷ allowed ∷ violated 0 ∷ refused 20 ∷ [];
+}
+
+abbrev pub retiredApart : JudgeCase
+retiredApart = record {
+  edges = 0 ∷ 0 ∷ 5 ∷ 1 ∷ 0 ∷ 1 ∷ 0 ∷ 1 ∷ 4 ∷ 1 ∷ 0 ∷ 6 ∷ [];
+  steps = step 1 0 0 ∷ step 0 0 16 ∷ step 0 0 17 ∷ step 0 5 16 ∷ step 0 5 17 ∷ step 3 16 0 ∷ step 0 0 18 ∷ step 0 4 18 ∷ step 0 4 17 ∷ [];
+  answers = allowed ∷ allowed ∷ allowed ∷ allowed ∷ allowed ∷ allowed ∷ allowed ∷ allowed ∷ violated 0 ∷ [];
+}
+
+-- "The limit of 64 counts live resources": the 65th create is refused, and passes once one is retired
+abbrev pub creates66 : JudgeCase
+creates66 = record {
+  edges = [];
+  steps = from (λ r. step 0 0 r) 16 65 ++ (step 3 16 0 ∷ step 0 0 80 ∷ step 0 0 81 ∷ []);
+  answers = replicate 64 allowed ++ (refused 30 ∷ allowed ∷ allowed ∷ refused 30 ∷ []);
 }
 
 abbrev pub casesLimits : List JudgeCase
-casesLimits = creates65 ∷ openings65 ∷ openingsInAll ∷ outerFirst ∷ noSteps ∷ []
+casesLimits =
+    creates65 ∷ openings65 ∷ openingsInAll ∷ outerFirst ∷ noSteps ∷ retirings ∷ retiredBreaks ∷ retiredApart ∷ creates66 ∷ []

@@ -9,10 +9,10 @@ use lib.Dec.{ltb}
 use borrow.Author.Tests.{eq-eqb, lt-ltb, le-ltb, ltb-true, ltb-false}
 use Rattle.usage.specs.declared.Edge.{Edge}
 use Rattle.usage.specs.Policy.{Sees, Offending}
-use Rattle.usage.specs.Past.{Step, event, opening, closing, Past, addIf, count, openings, closings, isOpening, isClosing, Open}
-use Rattle.usage.specs.Past.{isOpen}
-use Rattle.usage.specs.Past.{reopened, May, start, moved, opened, closed, Broken, Violates}
-use Rattle.usage.proofs.PastLaws.{before-all, before-event, before-opening, before-closing, may-anew, may-same}
+use Rattle.usage.specs.Past.{Step, event, opening, closing, retiring, Past, addIf, count, openings, closings, isOpening, isClosing}
+use Rattle.usage.specs.Past.{Open, isOpen}
+use Rattle.usage.specs.Past.{reopened, May, start, moved, opened, closed, retired, Broken, Violates}
+use Rattle.usage.proofs.PastLaws.{before-all, before-event, before-opening, before-closing, before-retiring, may-anew, may-same}
 
 -- ── One step ──
 
@@ -118,6 +118,10 @@ module _ (es : List Edge) (p x : ℕ) (past : Past) (shut : openings p past ≡ 
     λ m. closed (since-alone later q .0 (before-closing m)),
     λ m. closed (since-alone later q .1 (before-closing m)),
   )
+  since-alone (retiring r ∷ later) q = (
+    λ m. retired (since-alone later q .0 (before-retiring m)),
+    λ m. retired (since-alone later q .1 (before-retiring m)),
+  )
 
 -- so whether p is broken depends on its sandbox alone
 pub sandbox-alone : (es : List Edge) (p : ℕ) (past : Past) → openings p past ≡ closings p past → (later : Past)
@@ -154,4 +158,8 @@ module _ (es : List Edge) (p x : ℕ) where
   sandbox-whole (closing s ∷ later) q h = (
     λ m. closed (sandbox-whole later q (h .1) .0 (before-closing m)),
     λ m. closed (sandbox-whole later q (h .1) .1 (before-closing m)),
+  )
+  sandbox-whole (retiring r ∷ later) q h = (
+    λ m. retired (sandbox-whole later q (h .1) .0 (before-retiring m)),
+    λ m. retired (sandbox-whole later q (h .1) .1 (before-retiring m)),
   )

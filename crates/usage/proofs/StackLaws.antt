@@ -11,7 +11,7 @@ use borrow.Author.Tests.{eqb-true, eqb-false, eq-eqb, ne-eqb, ltb-true, ltb-fals
 use Rattle.usage.specs.declared.Edge.{Edge}
 use Rattle.usage.specs.declared.Node.{Node}
 use Rattle.usage.specs.declared.RawStep.{RawStep}
-use Rattle.usage.specs.Past.{Step, event, opening, closing, Past, addIf, count, openings, closings, Open}
+use Rattle.usage.specs.Past.{Step, event, opening, closing, retiring, Past, addIf, count, openings, closings, Open}
 use Rattle.usage.specs.Past.{without, openStack, occurrences, OpenedLast}
 use Rattle.usage.specs.Answers.{allowed}
 use Rattle.usage.specs.Judge.{stepOf, not-open, Judged, is-allowed}
@@ -53,6 +53,7 @@ Closable [] = Unit {0}
 Closable (event a r ∷ past) = Closable past
 Closable (opening p ∷ past) = Closable past
 Closable (closing p ∷ past) = Open p past × Closable past
+Closable (retiring r ∷ past) = Closable past
 
 pub stack-count : (p : ℕ) (past : Past) → Closable past → occurrences p (openStack past) + closings p past ≡ openings p past
 unfolding openStack occurrences count
@@ -75,6 +76,7 @@ stack-count p (closing s ∷ past) (o, h) = go (eqb s p) refl (stack-count p pas
         without-own p (openStack past) (omega arith) in
         subst (λ (k : ℕ). occurrences p (without k (openStack past)) + suc (closings p past) ≡ openings p past) (sym q) (omega arith)
     go false e i = ap (λ (n : ℕ). n + closings p past) (without-other p s (openStack past) (eqb-false s p e)) ∙ i
+stack-count p (retiring r ∷ past) h = stack-count p past h
 
 -- the judge allows no other pasts
 pub allowed-closable : {local : Bool} {es : List Edge} {past : Past} {raw : RawStep} (step : Step)
@@ -86,6 +88,7 @@ allowed-closable {past = past} (closing p) (is-allowed t f x) e h = (go (ltb (cl
     go : (b : Bool) → ltb (closings p past) (openings p past) ≡ b → Open p past
     go true q = ltb-true (closings p past) (openings p past) q
     go false q = absurd (t 25 (not-open e (λ o. let l = ltb-false (closings p past) (openings p past) q in omega arith)))
+allowed-closable (retiring r) j e h = h
 
 -- ── The closings that a run has still to make ──
 

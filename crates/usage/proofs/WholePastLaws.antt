@@ -6,18 +6,20 @@ use mathlib.Core.List.{List, [], _∷_}
 use mathlib.Core.Logic.{_↔_}
 use Rattle.usage.specs.declared.Edge.{Edge}
 use Rattle.usage.specs.Policy.{Sees, Moves, Offending}
-use Rattle.usage.specs.Past.{Step, event, opening, closing, Past, Open, May, start, moved, opened, closed, Broken, Violates}
+use Rattle.usage.specs.Past.{Step, event, opening, closing, retiring, Past, Open, May, start, moved, opened, closed, retired, Broken}
+use Rattle.usage.specs.Past.{Violates}
 use Rattle.usage.specs.Past.{Valid, empty, further}
 
 -- ── The definitions without a choice ──
 
--- what an instance may be in: state 0 at the start; an event moves it; an opening or a closing keeps it
+-- what an instance may be in: state 0 at the start; an event moves it; an opening, a closing or a retiring keeps it
 pub data WholeMay (es : List Edge) (p : ℕ) (sees : ℕ → ℕ → ℕ → Type 0) : Past → ℕ → Type 0 where
   at-start : WholeMay es p sees [] 0
   by-event : {a r : ℕ} {past : Past} {q q′ : ℕ} → WholeMay es p sees past q → Moves es p a (sees r) q q′
       → WholeMay es p sees (event a r ∷ past) q′
   by-opening : {s : ℕ} {past : Past} {q : ℕ} → WholeMay es p sees past q → WholeMay es p sees (opening s ∷ past) q
   by-closing : {s : ℕ} {past : Past} {q : ℕ} → WholeMay es p sees past q → WholeMay es p sees (closing s ∷ past) q
+  by-retiring : {r : ℕ} {past : Past} {q : ℕ} → WholeMay es p sees past q → WholeMay es p sees (retiring r ∷ past) q
 
 abbrev pub WholeBroken : List Edge → ℕ → Past → Type 0
 WholeBroken es p past = (x : ℕ) × (q : ℕ) × WholeMay es p (Sees x) past q × Offending q
@@ -37,12 +39,14 @@ module _ {es : List Edge} {p : ℕ} {sees : ℕ → ℕ → ℕ → Type 0} wher
   may-to (moved m v) = by-event (may-to m) v
   may-to (opened m) = by-opening (may-to m)
   may-to (closed m) = by-closing (may-to m)
+  may-to (retired m) = by-retiring (may-to m)
 
   may-back : {past : Past} {q : ℕ} → WholeMay es p sees past q → May false es p sees past q
   may-back at-start = start
   may-back (by-event m v) = moved (may-back m) v
   may-back (by-opening m) = opened (may-back m)
   may-back (by-closing m) = closed (may-back m)
+  may-back (by-retiring m) = retired (may-back m)
 
 pub whole-may : (es : List Edge) (p : ℕ) (sees : ℕ → ℕ → ℕ → Type 0) (past : Past) (q : ℕ)
     → May false es p sees past q ↔ WholeMay es p sees past q

@@ -28,7 +28,7 @@ judge-opening-requires c κs =
       step-fits (c .before .before .before .before .before .before .before .before .before .args .step) (opening _)
           (sym (c .before .before .before .before .before .before .before .read-step .ensures)
           ∙ ap (λ (x : Read). says x) (c .before .before .before .before .before .read2 .given .1)),
-      (pre .1 .0, (pre .1 .1 .0, pre .1 .1 .1)),
+      (pre .1 .0, (pre .1 .1 .1 .0, pre .1 .1 .1 .1)),
     )
 
 enum-known-read-3 : tie.Need-enum-known-read-3
@@ -40,8 +40,14 @@ judge-closing-requires c κs =
       step-fits (c .before .before .before .before .before .before .before .before .args .step) (closing _)
           (sym (c .before .before .before .before .before .before .read-step .ensures)
           ∙ ap (λ (x : Read). says x) (c .before .before .before .before .read3 .given .1)),
-      (pre .1 .1 .0, pre .1 .1 .1),
+      (pre .1 .1 .1 .0, pre .1 .1 .1 .1),
     )
+
+enum-known-read-4 : tie.Need-enum-known-read-4
+enum-known-read-4 c = search needs
+
+judge-retiring-requires : tie.Need-judge-retiring-requires
+judge-retiring-requires c κs = c .before .before .before .before .before .before .before .before .before .pre .1 .0
 
 enum-told : tie.Need-enum-told
 enum-told c = search needs
@@ -52,7 +58,7 @@ refused-requires c κs = search needs
 returns : tie.Need-returns
 returns c =
     let a = c .before .before .before .before .before .before .before .before .before .before .args in
-    let s = stateOf (a .sets .now) (a .possible .now) (a .created .now) (a .count) (a .unclosed .now) (a .order .now) (a .depth) false in
+    let s = stateOf (a .sets .now) (a .possible .now) (a .created .now) (a .count) (a .highest) (a .unclosed .now) (a .order .now) (a .depth) false in
     c .judge-event .ensures (a .local) (a .order .now)
     ∙ read-is (a .local) (edgesOf (a .edges .now)) s _ (a .step)
     (sym (c .before .before .before .before .before .before .before .before .read-step .ensures)
@@ -61,7 +67,7 @@ returns c =
 returns-2 : tie.Need-returns-2
 returns-2 c =
     let a = c .before .before .before .before .before .before .before .before .before .before .args in
-    let s = stateOf (a .sets .now) (a .possible .now) (a .created .now) (a .count) (a .unclosed .now) (a .order .now) (a .depth) false in
+    let s = stateOf (a .sets .now) (a .possible .now) (a .created .now) (a .count) (a .highest) (a .unclosed .now) (a .order .now) (a .depth) false in
     c .judge-opening .ensures (edgesOf (a .edges .now)) (a .created .now)
     ∙ read-is (a .local) (edgesOf (a .edges .now)) s _ (a .step)
     (sym (c .before .before .before .before .before .before .before .before .read-step .ensures)
@@ -70,7 +76,7 @@ returns-2 c =
 returns-3 : tie.Need-returns-3
 returns-3 c =
     let a = c .before .before .before .before .before .before .before .before .before .args in
-    let s = stateOf (a .sets .now) (a .possible .now) (a .created .now) (a .count) (a .unclosed .now) (a .order .now) (a .depth) false in
+    let s = stateOf (a .sets .now) (a .possible .now) (a .created .now) (a .count) (a .highest) (a .unclosed .now) (a .order .now) (a .depth) false in
     c .judge-closing .ensures (a .local) (edgesOf (a .edges .now)) (a .sets .now) (a .created .now)
     ∙ read-is (a .local) (edgesOf (a .edges .now)) s _ (a .step)
     (sym (c .before .before .before .before .before .before .before .read-step .ensures)
@@ -78,8 +84,17 @@ returns-3 c =
 
 returns-4 : tie.Need-returns-4
 returns-4 c =
+    let a = c .before .before .before .before .before .before .before .before .before .before .args in
+    let s = stateOf (a .sets .now) (a .possible .now) (a .created .now) (a .count) (a .highest) (a .unclosed .now) (a .order .now) (a .depth) false in
+    c .judge-retiring .ensures (a .local) (edgesOf (a .edges .now)) (a .order .now)
+    ∙ read-is (a .local) (edgesOf (a .edges .now)) s _ (a .step)
+    (sym (c .before .before .before .before .before .before .before .before .read-step .ensures)
+    ∙ ap (λ (x : Read). says x) (c .before .before .before .before .before .before .read4 .given .1))
+
+returns-5 : tie.Need-returns-5
+returns-5 c =
     let a = c .before .before .before .before .before .args in
-    let s = stateOf (a .sets .now) (a .possible .now) (a .created .now) (a .count) (a .unclosed .now) (a .order .now) (a .depth) false in
+    let s = stateOf (a .sets .now) (a .possible .now) (a .created .now) (a .count) (a .highest) (a .unclosed .now) (a .order .now) (a .depth) false in
     refused-parts s 21 (c .refused .result) (c .refused .ensures)
     ∙ unread-is (a .local) (edgesOf (a .edges .now)) s (a .step)
     (sym (c .before .before .before .read-step .ensures) ∙ ap (λ (x : Read). says x) (c .before .enum-told .given .1))
@@ -95,9 +110,12 @@ judge-read-spec =
     judge-opening-requires
     enum-known-read-3
     judge-closing-requires
+    enum-known-read-4
+    judge-retiring-requires
     enum-told
     refused-requires
     returns
     returns-2
     returns-3
-    returns-4)
+    returns-4
+    returns-5)

@@ -36,9 +36,15 @@ returns-4 c =
     (sym (c .before .before .step-fits .ensures) ∙ not-false _ (c .before .if1 .left)))
 
 returns-5 : tie.Need-returns-5
-unfolding stepOf
 returns-5 c =
-    rw (no-kind (c .before .before .before .args .step .kind) (c .match .rest .0 .0 .1) (c .match .rest .0 .1) (c .match .rest .1))
+    sym (is-read _ _ (ap (getElem? stepKinds) (c .match .keys4))
+    (sym (c .before .before .step-fits .ensures) ∙ not-false _ (c .before .if1 .left)))
+
+returns-6 : tie.Need-returns-6
+unfolding stepOf
+returns-6 c =
+    rw (no-kind (c .before .before .before .args .step .kind) (c .match .rest .0 .0 .0 .1) (c .match .rest .0 .0 .1) (c .match .rest .0 .1)
+    (c .match .rest .1))
 
 pub read-step-spec : {M : Type 1} → statement M
 read-step-spec =
@@ -51,4 +57,5 @@ read-step-spec =
     returns-2
     returns-3
     returns-4
-    returns-5)
+    returns-5
+    returns-6)

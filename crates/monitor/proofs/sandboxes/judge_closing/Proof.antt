@@ -34,7 +34,7 @@ returns : tie.Need-returns
 returns c =
     let a = c .before .before .before .args in
     λ local es sets created.
-    let s = stateOf sets (a .possible .now) created (a .count) (a .unclosed .now) (a .order .now) (a .depth) false in
+    let s = stateOf sets (a .possible .now) created (a .count) (a .highest) (a .unclosed .now) (a .order .now) (a .depth) false in
     refused-step local es s (closing (a .p)) 25 (c .refused .result) (c .refused .ensures) (closing-closed s (a .p) (c .before .if1 .taken))
 
 sub-wide : tie.Need-sub-wide
@@ -60,7 +60,7 @@ returns-2 : tie.Need-returns-2
 returns-2 c =
     let a = c .before .before .before .before .before .before .args in
     λ local es sets created.
-    let s = stateOf sets (a .possible .now) created (a .count) (a .unclosed .now) (a .order .now) (a .depth) false in
+    let s = stateOf sets (a .possible .now) created (a .count) (a .highest) (a .unclosed .now) (a .order .now) (a .depth) false in
     refused-step local es s (closing (a .p)) 26 (c .refused2 .result) (c .refused2 .ensures)
     (closing-not-last s (a .p) (pos _ (c .before .before .before .before .if1 .left))
     (λ e. c .before .if2 .taken (c .before .before .wide .ensures ∙ e)))
@@ -71,8 +71,8 @@ sub-recount c = search needs
 recount-requires : tie.Need-recount-requires
 recount-requires c κs = search needs
 
-sub-t15 : tie.Need-sub-t15
-sub-t15 c =
+sub-left : tie.Need-sub-left
+sub-left c =
     let a = c .before .before .before .before .before .before .before .args in
     let pre = c .before .before .before .before .before .before .before .pre in
     omega (
@@ -91,7 +91,7 @@ returns-3 c =
     let bad = c .before .recount in
     let n = getD (a .unclosed .now) (a .p) 0 - 1 in
     λ local es sets created.
-    let s = stateOf sets (a .possible .now) created (a .count) (a .unclosed .now) (a .order .now) (a .depth) false in
+    let s = stateOf sets (a .possible .now) created (a .count) (a .highest) (a .unclosed .now) (a .order .now) (a .depth) false in
     let t = withOpenings s (set (a .unclosed .now) (a .p) n) (a .order .now) (a .depth - 1) in
     settled-step s t (bad .result) local es (closing (a .p)) (c .settled .result) refl (bad .ensures .0)
     (closing-free s (a .p) (pos _ (c .before .before .before .before .before .before .if1 .left))
@@ -113,6 +113,6 @@ judge-closing-spec =
     returns-2
     sub-recount
     recount-requires
-    sub-t15
+    sub-left
     settled-requires
     returns-3)

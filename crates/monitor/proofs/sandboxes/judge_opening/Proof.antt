@@ -24,12 +24,12 @@ returns : tie.Need-returns
 returns c =
     let a = c .before .before .args in
     λ es created.
-    let s = stateOf (a .sets .now) (a .possible .now) created (a .count) (a .unclosed .now) (a .order .now) (a .depth) false in
+    let s = stateOf (a .sets .now) (a .possible .now) created (a .count) (a .highest) (a .unclosed .now) (a .order .now) (a .depth) false in
     refused-step (a .local) es s (opening (a .p)) 32 (c .refused .result)
     (c .refused .ensures) (opening-deep s (a .p) (c .before .if1 .taken))
 
-add-t15 : tie.Need-add-t15
-add-t15 c = search needs
+add-deeper : tie.Need-add-deeper
+add-deeper c = search needs
 
 is-anew-requires : tie.Need-is-anew-requires
 is-anew-requires c κs = search needs
@@ -55,7 +55,7 @@ returns-2 c =
     let is = sym (c .before .before .before .before .before .before .before .is-anew .ensures)
     ∙ c .before .before .before .before .before .before .if2 .taken in
     λ es created.
-    let s = stateOf (a .sets .now) (a .possible .now) created (a .count) (a .unclosed .now) (a .order .now) (a .depth) false in
+    let s = stateOf (a .sets .now) (a .possible .now) created (a .count) (a .highest) (a .unclosed .now) (a .order .now) (a .depth) false in
     let t = opened true s (a .p) in
     settled-step s t bad (a .local) es (opening (a .p)) (c .settled .result) refl (e .ensures .0)
     (opening-free s (a .p) (c .before .before .before .before .before .before .before .before .before .if1 .left))
@@ -79,7 +79,7 @@ returns-3 c =
     let is = sym (c .before .before .before .before .before .before .is-anew .ensures)
     ∙ c .before .before .before .before .before .if2 .left in
     λ es created.
-    let s = stateOf (a .sets .now) (a .possible .now) created (a .count) (a .unclosed .now) (a .order .now) (a .depth) false in
+    let s = stateOf (a .sets .now) (a .possible .now) created (a .count) (a .highest) (a .unclosed .now) (a .order .now) (a .depth) false in
     let t = opened false s (a .p) in
     settled-step s t bad (a .local) es (opening (a .p)) (c .settled2 .result) refl (e .ensures .0)
     (opening-free s (a .p) (c .before .before .before .before .before .before .before .before .if1 .left))
@@ -92,7 +92,7 @@ judge-opening-spec =
     (tie.spec
     refused-requires
     returns
-    add-t15
+    add-deeper
     is-anew-requires
     add-n
     enter-anew-requires

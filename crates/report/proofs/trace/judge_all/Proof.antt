@@ -10,16 +10,16 @@ use borrow.Author.Needs.{needs}
 use Rattle.report.proofs.trace.judge_all.Statement.{statement}
 use Rattle.report.proofs.trace.judge_all.Tie as tie
 
--- the state lies in its parts: the sets, what each policy may be in, the created resources, their count, the unclosed openings, their
+-- the state lies in its parts: the sets, what each policy may be in, the live resources, their count, the highest number, the unclosed openings, their
 -- order, how many they are, and whether it is halted
 abbrev Inv-loop : tie.InvT-loop
-Inv-loop edges local steps out₀ at n sets₀ possible₀ created₀ unclosed₀ order₀ count₀ depth₀
-    halted₀ next₀ i₀ out ss possible created unclosed order count depth halted next i =
-    Going edges local steps n out₀ at out (stateOf ss possible created count unclosed order depth halted) next i
+Inv-loop edges local steps out₀ at n sets₀ possible₀ created₀ unclosed₀ order₀ count₀ highest₀ depth₀
+    halted₀ next₀ i₀ out ss possible created unclosed order count highest depth halted next i =
+    Going edges local steps n out₀ at out (stateOf ss possible created count highest unclosed order depth halted) next i
 
 abbrev μ-loop : tie.MeasureT-loop
-μ-loop edges local steps out₀ at n sets₀ possible₀ created₀ unclosed₀ order₀ count₀ depth₀
-    halted₀ next₀ i₀ out ss possible created unclosed order count depth halted next i = n - i
+μ-loop edges local steps out₀ at n sets₀ possible₀ created₀ unclosed₀ order₀ count₀ highest₀ depth₀
+    halted₀ next₀ i₀ out ss possible created unclosed order count highest depth halted next i = n - i
 
 start-requires : tie.Need-start-requires Inv-loop μ-loop
 start-requires c κs = search needs
@@ -80,7 +80,7 @@ returns : tie.Need-returns Inv-loop μ-loop
 returns c =
     let a = c .before .before .before .before .before .before .before .before .before .before .before .args in
     let t = c .before .loop in
-    let s = stateOf (t .sets) (t .possible) (t .created) (t .count) (t .unclosed) (t .order) (t .depth) (t .halted) in
+    let s = stateOf (t .sets) (t .possible) (t .created) (t .count) (t .highest) (t .unclosed) (t .order) (t .depth) (t .halted) in
     let e = all-left (now (a .edges)) (a .local) (now (a .steps)) in
     let z = none-left (now (a .edges)) (a .local) (now (a .steps)) (length (now (a .steps)) / 3) s (t .i) (c .loop-test .left) in
     let g = ap length z in

@@ -1,0 +1,117 @@
+use Prim.Native.Nat.{ℕ, _+_, _-_, _<_, _≤_}
+use mathlib.Core.Path.{_≡_, refl, sym, ap, _∙_}
+use mathlib.Core.Bool.{Bool, true, false, cond}
+use mathlib.Core.List.{List, []}
+use native.Mathlib.Omega.{arith}
+use borrow.Author.Needs.{needs}
+use borrow.Author.Tests.{eq-eqb, ne-eqb}
+use lib.Dec.{eqb}
+use Rattle.usage.specs.Past.{retiring}
+use Rattle.monitor_sets.specs.Instances.{firstCreated, instances}
+use Rattle.monitor_sets.specs.Created.{closedUp}
+use Rattle.monitor_sets.specs.Sets.{retiredSets}
+use Rattle.monitor_state.specs.Judge.{placeOf, retiredIn, after}
+use Rattle.monitor_state.specs.Code.{stateOf}
+use Rattle.monitor.proofs.LentLaws.{refused-step, parts-place, retiring-low, retiring-taken, retiring-used, settled-step, kept, retire-done, close-done}
+use Rattle.monitor.proofs.retiring.judge_retiring.Statement.{statement}
+use Rattle.monitor.proofs.retiring.judge_retiring.Tie as tie
+
+place-of-requires : tie.Need-place-of-requires
+place-of-requires c κs = search needs
+
+refused-requires : tie.Need-refused-requires
+refused-requires c κs = search needs
+
+returns : tie.Need-returns
+returns c =
+    let a = c .before .before .before .before .args in
+    let place = c .before .before .place-of in
+    λ local es order.
+    let s = stateOf (a .sets .now) (a .possible .now) (a .created .now) (a .count) (a .highest) (a .unclosed .now) order (a .depth) false in
+    refused-step local es s (retiring (a .r)) 28 (c .refused .result) (c .refused .ensures)
+    (retiring-low s (a .r) (place .result) (place .ensures) (c .before .if1 .taken))
+
+broken-set-requires : tie.Need-broken-set-requires
+broken-set-requires c κs = search needs
+
+sub-fewer : tie.Need-sub-fewer
+sub-fewer c =
+    let a = c .before .before .before .before .args in
+    let place = c .before .before .place-of in
+    let s = stateOf (a .sets .now) (a .possible .now) (a .created .now) (a .count) (a .highest) (a .unclosed .now) [] (a .depth) false in
+    omega (arith, c .before .if1 .left, retiring-used s (a .r) (place .result) (place .ensures))
+
+settled-requires : tie.Need-settled-requires
+settled-requires c κs = search needs
+
+returns-2 : tie.Need-returns-2
+unfolding retiredIn after
+returns-2 c =
+    let a = c .before .before .before .before .before .before .args in
+    let place = c .before .before .before .before .place-of in
+    let e = c .before .before .broken-set in
+    let bad = e .result in
+    let off : eqb bad 0 ≡ false = ne-eqb bad 0 (c .before .if2 .taken) in
+    λ local es order.
+    let s = stateOf (a .sets .now) (a .possible .now) (a .created .now) (a .count) (a .highest) (a .unclosed .now) order (a .depth) false in
+    let t = retiredIn s (a .r) in
+    settled-step s t bad local es (retiring (a .r)) (c .settled .result) refl (e .ensures)
+    (retiring-taken s (a .r) (place .result) (place .ensures) (c .before .before .before .if1 .left)) refl (c .settled .ensures)
+    (sym (ap (λ (b : Bool). cond b (t .sets) (a .sets .now)) off)) (kept s t bad (a .possible .now))
+    (sym (ap (λ (b : Bool). cond b (t .created) (a .created .now)) off)) (kept s t bad (a .unclosed .now)) (kept s t bad order)
+
+add-n : tie.Need-add-n
+add-n c = search needs
+
+retire-requires : tie.Need-retire-requires
+retire-requires c κs = search needs
+
+close-up-requires : tie.Need-close-up-requires
+close-up-requires c κs = search needs
+
+settled-requires-2 : tie.Need-settled-requires-2
+settled-requires-2 c κs = search needs
+
+returns-3 : tie.Need-returns-3
+unfolding retiredIn after
+returns-3 c =
+    let a = c .before .before .before .before .before .before .before .before .before .before .args in
+    let pre = c .before .before .before .before .before .before .before .before .before .before .pre in
+    let place = c .before .before .before .before .before .before .before .before .place-of in
+    let at = place .result in
+    let low = c .before .before .before .before .before .before .before .if1 .left in
+    let e = c .before .before .before .before .before .before .broken-set in
+    let bad = e .result in
+    let on : eqb bad 0 ≡ true = eq-eqb bad 0 (c .before .before .before .before .before .if2 .left) in
+    let n = firstCreated + a .count in
+    λ local es order.
+    let s = stateOf (a .sets .now) (a .possible .now) (a .created .now) (a .count) (a .highest) (a .unclosed .now) order (a .depth) false in
+    let used = retiring-used s (a .r) at (place .ensures) in
+    let is : at ≡ placeOf s (a .r) = place .ensures ∙ sym (parts-place s (a .r)) in
+    let t = retiredIn s (a .r) in
+    let sets = c .before .before .before .retire .ensures
+    ∙ retire-done n at _ _ (omega (arith, pre)) used low ∙ ap (λ (i : ℕ). retiredSets i n (a .sets .now)) is in
+    let created = c .before .close-up .ensures
+    ∙ close-done (a .count) (at - firstCreated) _ _ pre (omega (arith, low, used))
+    ∙ ap (λ (i : ℕ). closedUp (i - firstCreated) (a .count) (a .created .now)) is in
+    settled-step s t bad local es (retiring (a .r)) (c .settled2 .result) refl (e .ensures)
+    (retiring-taken s (a .r) at (place .ensures) low) refl (c .settled2 .ensures)
+    (sets ∙ sym (ap (λ (b : Bool). cond b (t .sets) (a .sets .now)) on)) (kept s t bad (a .possible .now))
+    (created ∙ sym (ap (λ (b : Bool). cond b (t .created) (a .created .now)) on)) (kept s t bad (a .unclosed .now)) (kept s t bad order)
+
+pub judge-retiring-spec : {M : Type 1} → statement M
+judge-retiring-spec =
+    tie.close
+    (tie.spec
+    place-of-requires
+    refused-requires
+    returns
+    broken-set-requires
+    sub-fewer
+    settled-requires
+    returns-2
+    add-n
+    retire-requires
+    close-up-requires
+    settled-requires-2
+    returns-3)

@@ -1,0 +1,61 @@
+// A retiring: "It frees the place for another create, is no event and, like an opening, is judged by the stored sets" (02, L8).
+use monitor_sets::FIRST_CREATED;
+use monitor_sets::SETS;
+use monitor_state::Sizes;
+use monitor_state::Told;
+use usage::MOST_CREATED;
+use usage::POLICIES;
+ghost use Prim.Native.Nat.{ℕ, _≤_};
+ghost use mathlib.Core.Path.{_≡_};
+ghost use mathlib.Core.List.{List};
+ghost use mathlib.Core.Bool.{Bool, false};
+ghost use lib.ListN.{length};
+ghost use Rattle.usage.specs.declared.Edge.{Edge};
+ghost use Rattle.usage.specs.Limits.{mostCreated};
+ghost use Rattle.usage.specs.Past.{retiring};
+ghost use Rattle.monitor_state.specs.Code.{stateOf, judgementOf, stepped};
+
+// The answer is the same whatever the edges, the order and the choice of past are.
+pub(crate) fn judge_retiring(
+    sets: &mut [u8; SETS],
+    possible: &[u8; POLICIES],
+    created: &mut [u32; MOST_CREATED],
+    unclosed: &[u8; POLICIES],
+    count: usize,
+    highest: u32,
+    depth: usize,
+    r: u32,
+) -> Told
+    requires { ⌜ count ≤ mostCreated ⌝ }
+    ensures { λ t.
+        ⌜ ((local : Bool) (es : List Edge) (order : List ℕ)
+        → judgementOf t (now (sets .exit)) (now (possible .entry)) (now (created .exit)) (now (unclosed .entry)) order
+        ≡ stepped local es
+        (stateOf (now (sets .entry)) (now (possible .entry)) (now (created .entry)) count highest (now (unclosed .entry)) order depth false)
+        (retiring r)) ⌝ }
+{
+    let at = monitor_sets::created::place_of(created, count, r);
+    if at < FIRST_CREATED {
+        return monitor_state::refused(28, count, highest, depth, false);
+    }
+    let bad = monitor_sets::instances::broken_set(possible, unclosed);
+    let before = Sizes {
+        count,
+        highest,
+        depth,
+    };
+    let fewer = count - 1;
+    let after = Sizes {
+        count: fewer,
+        highest,
+        depth,
+    };
+    if bad != 0 {
+        return monitor_state::settled(bad, before, after);
+    }
+    let n = FIRST_CREATED + count;
+    monitor_sets::retiring::retire(sets, n, at);
+    let i = at - FIRST_CREATED;
+    monitor_sets::retiring::close_up(created, count, i);
+    monitor_state::settled(bad, before, after)
+}
