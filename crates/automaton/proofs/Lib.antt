@@ -4,3 +4,4 @@ pub mod MoveLaws
 pub mod RowLaws
 pub mod SameLaws
 pub mod UnionLaws
+pub mod PlaceLaws

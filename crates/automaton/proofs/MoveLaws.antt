@@ -2,6 +2,7 @@
 use Prim.Native.Nat.{ℕ, zero, suc, _<_}
 use mathlib.Core.Path.{_≡_, refl, sym, ap, _∙_, subst}
 use mathlib.Core.Bool.{Bool, true, false, not, _&&_, _||_, cond}
+use mathlib.Core.Option.{Option, some}
 use mathlib.Core.List.{List, [], _∷_, List·Memᴰ, List·Memᴰ·not-nil, List·Memᴰ·cases-cons, List·Memᴰ·head, List·Memᴰ·tail}
 use mathlib.Core.Logic.{_⊎_, inl, inr}
 use lib.Dec.{eqb, lit<}
@@ -9,7 +10,8 @@ use lib.Bits.{bitOr, or-zero-l, or-lt}
 use borrow.Author.Tests.{eq-eqb, eqb-true}
 use Rattle.usage.specs.declared.Edge.{Edge}
 use Rattle.usage.specs.Limits.{states}
-use Rattle.usage.specs.Policy.{Sees, named, own, other, Moves, along, stays, EdgesOk}
+use Rattle.usage.specs.Policy.{Sees, named, own, other, second, Moves, along, stays, EdgesOk}
+use Rattle.usage.proofs.SeesLaws.{place-nowhere, place-one}
 use Rattle.usage.proofs.Logic.{false-true, not-both, or-left, or-right, or-cases, and-left, and-right, and-both}
 use Rattle.automaton.specs.Mask.{has, single}
 use Rattle.automaton.specs.Move.{part, targets, image, move, labelled, fires, moveMask}
@@ -224,22 +226,23 @@ pub record Own (x r : ℕ) (mine : Bool) : Type 0 where
   pub is : mine ≡ true → r ≡ x
   pub not : mine ≡ false → r ≡ x → ⊥
 
-labelled-sees : (k who x r : ℕ) (mine : Bool) → Own x r mine → labelled k who mine r ≡ true → Sees x r k who
-labelled-sees zero who x r mine o h = subst (λ (w : ℕ). Sees x r 0 w) (eqb-true r who h) named
-labelled-sees (suc zero) who x r mine o h = own (o .is h)
+labelled-sees : (k who x r : ℕ) (mine : Bool) → Own x r mine → labelled k who mine r ≡ true → Sees (x ∷ []) r k who
+labelled-sees zero who x r mine o h = subst (λ (w : ℕ). Sees (x ∷ []) r 0 w) (eqb-true r who h) named
+labelled-sees (suc zero) who x r mine o h = own (ap {B = Option ℕ} some (sym (o .is h)))
 labelled-sees (suc (suc zero)) who x r true o h = false-true h
-labelled-sees (suc (suc zero)) who x r false o h = other (o .not refl)
+labelled-sees (suc (suc zero)) who x r false o h = other (λ i e. o .not refl (sym (place-one x i r e)))
 labelled-sees (suc (suc (suc k))) who x r mine o h = false-true h
 
-sees-labelled : {k who x r : ℕ} (mine : Bool) → Own x r mine → Sees x r k who → labelled k who mine r ≡ true
+sees-labelled : {k who x r : ℕ} (mine : Bool) → Own x r mine → Sees (x ∷ []) r k who → labelled k who mine r ≡ true
 sees-labelled {r = r} mine o named = eq-eqb r r refl
 sees-labelled true o (own h) = refl
-sees-labelled false o (own h) = absurd (o .not refl h)
-sees-labelled true o (other h) = absurd (h (o .is refl))
+sees-labelled {x = x} {r = r} false o (own h) = absurd (o .not refl (sym (place-one x 0 r h)))
+sees-labelled true o (other h) = absurd (h 0 (ap {B = Option ℕ} some (sym (o .is refl))))
 sees-labelled false o (other h) = refl
+sees-labelled {r = r} mine o (second h) = absurd (place-nowhere 0 r h)
 
 module _ (p x a r : ℕ) (mine : Bool) (o : Own x r mine) where
-  fires-matches : (e : Edge) → fires p a r mine e ≡ true → Matches p a (Sees x r) e
+  fires-matches : (e : Edge) → fires p a r mine e ≡ true → Matches p a (Sees (x ∷ []) r) e
   fires-matches e h =
       let b : Bool = eqb (e .policy) p && eqb (e .action) a in
       let l : Bool = labelled (e .on) (e .who) mine r in
@@ -249,7 +252,7 @@ module _ (p x a r : ℕ) (mine : Bool) (o : Own x r mine) where
         label = labelled-sees (e .on) (e .who) x r mine o (and-right b l h);
       }
 
-  matches-fires : (e : Edge) → Matches p a (Sees x r) e → fires p a r mine e ≡ true
+  matches-fires : (e : Edge) → Matches p a (Sees (x ∷ []) r) e → fires p a r mine e ≡ true
   matches-fires e m =
       and-both (eqb (e .policy) p && eqb (e .action) a) (labelled (e .on) (e .who) mine r)
       (and-both (eqb (e .policy) p) (eqb (e .action) a) (eq-eqb (e .policy) p (m .policy)) (eq-eqb (e .action) a (m .action)))
@@ -258,15 +261,16 @@ module _ (p x a r : ℕ) (mine : Bool) (o : Own x r mine) where
 -- What `moveMask` gives is where the members of m may move.
 module _ (es : List Edge) (v : Ends es) (p x a r : ℕ) (mine : Bool) (o : Own x r mine) where
   pub moveMask-found : (m q′ : ℕ) → q′ < states → has (moveMask es p a r mine m) q′ ≡ true
-      → (q : ℕ) × (q < states) × (has m q ≡ true) × Moves es p a (Sees x r) q q′
+      → (q : ℕ) × (q < states) × (has m q ≡ true) × Moves es p a (Sees (x ∷ []) r) q q′
   unfolding moveMask
   moveMask-found m q′ k h =
-      moved-found es v p a (Sees x r) (fires p a r mine) (fires-matches p x a r mine o) (matches-fires p x a r mine o) m q′ k h
+      moved-found es v p a (Sees (x ∷ []) r) (fires p a r mine) (fires-matches p x a r mine o) (matches-fires p x a r mine o) m q′ k h
 
-  pub moveMask-at : (m q q′ : ℕ) → q < states → has m q ≡ true → Moves es p a (Sees x r) q q′ → has (moveMask es p a r mine m) q′ ≡ true
+  pub moveMask-at : (m q q′ : ℕ) → q < states → has m q ≡ true → Moves es p a (Sees (x ∷ []) r) q q′
+      → has (moveMask es p a r mine m) q′ ≡ true
   unfolding moveMask
   moveMask-at m q q′ l h g =
-      moved-at es v p a (Sees x r) (fires p a r mine) (fires-matches p x a r mine o) (matches-fires p x a r mine o) m q q′ l h g
+      moved-at es v p a (Sees (x ∷ []) r) (fires p a r mine) (fires-matches p x a r mine o) (matches-fires p x a r mine o) m q q′ l h g
 
 pub moveMask-lt : (es : List Edge) (p a r : ℕ) (mine : Bool) (m : ℕ) → moveMask es p a r mine m < 256
 unfolding moveMask

@@ -38,6 +38,18 @@ labelled (suc (suc (suc k))) who own r = false
 abbrev pub fires : ℕ → ℕ → ℕ → Bool → Edge → Bool
 fires p a r own e = (eqb (e .policy) p && eqb (e .action) a) && labelled (e .on) (e .who) own r
 
+-- The same for an instance with one place or two: `first` and `second` say whether r is at these of its places. With one place, `second`
+-- is false, and this is `labelled`.
+abbrev pub labelledAt : ℕ → ℕ → Bool → Bool → ℕ → Bool
+labelledAt zero who first second r = eqb r who
+labelledAt (suc zero) who first second r = first
+labelledAt (suc (suc zero)) who first second r = cond second false (not first)
+labelledAt (suc (suc (suc zero))) who first second r = second
+labelledAt (suc (suc (suc (suc k)))) who first second r = false
+
+abbrev pub firesAt : ℕ → ℕ → ℕ → Bool → Bool → Edge → Bool
+firesAt p a r first second e = (eqb (e .policy) p && eqb (e .action) a) && labelledAt (e .on) (e .who) first second r
+
 -- the set m of states of an instance of policy p, moved by the event a(r)
 unfoldable pub moveMask : List Edge → ℕ → ℕ → ℕ → Bool → ℕ → ℕ
 moveMask es p a r own m = move (fires p a r own) es m
@@ -49,6 +61,10 @@ rowPlaces = policies * states
 -- The rows of an event: element p * states + q says where state q of policy p goes.
 unfoldable pub rowsOf : List Edge → ℕ → ℕ → Bool → List ℕ
 rowsOf es a r own = from (λ k. image (fires (k / states) a r own) es (k % states)) 0 rowPlaces
+
+-- those for an instance that has r at its first place, its second, both or neither
+unfoldable pub rowsAt : List Edge → ℕ → ℕ → Bool → Bool → List ℕ
+rowsAt es a r first second = from (λ k. image (firesAt (k / states) a r first second) es (k % states)) 0 rowPlaces
 
 -- the set m moved by eight rows, from place k on
 unfoldable pub moveBy : List ℕ → ℕ → ℕ → ℕ

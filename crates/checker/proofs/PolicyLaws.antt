@@ -15,7 +15,9 @@ use Rattle.usage.specs.Check.{Leaves, Checked, accepts, names}
 use Rattle.usage.specs.Tests.{Decides}
 use Rattle.usage.proofs.Logic.{false-true}
 use Rattle.automaton.specs.Move.{rowsOf}
+use Rattle.usage.proofs.ValidLaws.{no-pair}
 use Rattle.usage.proofs.TableLaws.{nodes-length}
+use Rattle.checker_account.specs.Views.{views}
 use Rattle.checker_account.specs.Tables.{places, rowsIn}
 use Rattle.checker_account.specs.Rounds.{formsIn, SearchedAll}
 use Rattle.checker_account.specs.RowTable.{fillRows}
@@ -39,7 +41,7 @@ module _ (local : Bool) (e t : List ℕ) (edges : EdgesOk (edgesOf e)) (ok : Out
   pub shut : (p : ℕ) → opens t p ≡ false → Decides false (Leaves local (edgesOf e) (nodesOf t) p)
   shut p h = refuted p (λ l.
       let x = exact local (edgesOf e) (nodesOf t) (Scope (nodesOf t)) p edges (scoped (nodesOf t) ok) .0 l in
-      no-hits local (edgesOf e) (nodesOf t) p (x .0) (not-opened t p h) (x .4))
+      no-hits local (edgesOf e) (nodesOf t) p (views (x .0)) (not-opened t p h) (x .4))
 
   pub bare : (p : ℕ) → hasEdge e p ≡ false → Decides false (Leaves local (edgesOf e) (nodesOf t) p)
   bare p h = refuted p (bare-leaves local e (nodesOf t) p h)
@@ -55,7 +57,8 @@ module _ (local : Bool) (e t : List ℕ) (edges : EdgesOk (edgesOf e)) (ok : Out
       broken-exact local es ns p (rowsIn (fillRows (rowsOf es) p (length t / 3) (formsIn t) (replicate places 0))) edges
       (λ x l. rows-ok es ns p x (rowsIn (fillRows (rowsOf es) p (length t / 3) (formsIn t) (replicate places 0))) _ l edges
       (event-image es edges p small) made)
-      (names-ok ns ok) (targets-ok ns ok) (length t / 3) (formsIn t) few-nodes (forms-of t) (Scope ns) (scoped ns ok) answer rows
+      (names-ok ns ok) (targets-ok ns ok) (length t / 3) (formsIn t) few-nodes (forms-of t) (Scope ns) (scoped ns ok)
+      (no-pair edges p) answer rows
 
   -- ── All policies ──
 

@@ -20,14 +20,14 @@ use Rattle.usage.specs.Check.{Leaves}
 use Rattle.usage.proofs.Logic.{clash, not-both, and-both}
 use Rattle.usage.proofs.TableLaws.{edges-member}
 use Rattle.automaton.proofs.MaskLaws.{some-at}
-use Rattle.checker_account.specs.Witness.{Comes, Last, Hits}
+use Rattle.checker_account.specs.Witness.{Sight, Comes, Last, Hits}
 use Rattle.checker.specs.Code.{opens, hasEdge}
 use Rattle.checker_account.proofs.NodeLaws.{forms-of}
 
 -- ── No sandbox ──
 
-module _ (local : Bool) (es : List Edge) (ns : List Node) (p x : ℕ) (shut : (k b : ℕ) → Is ns k (sandbox p b) → ⊥) where
-  never-open : {n : ℕ} {o : Bool} {k w : ℕ} {c : Bool} {q : ℕ} → Comes local es ns p x n o k w c q → o ≡ false
+module _ (local : Bool) (es : List Edge) (ns : List Node) (p : ℕ) (S : Sight) (shut : (k b : ℕ) → Is ns k (sandbox p b) → ⊥) where
+  never-open : {n : ℕ} {o : Bool} {k : ℕ} {w : S .Meaning} {c : S .Left} {q : ℕ} → Comes local es ns p S n o k w c q → o ≡ false
   never-open Comes.begins = refl
   never-open (Comes.first i e) = never-open e
   never-open (Comes.second i e f) = never-open e
@@ -35,16 +35,14 @@ module _ (local : Bool) (es : List Edge) (ns : List Node) (p x : ℕ) (shut : (k
   never-open (Comes.right i e) = never-open e
   never-open (Comes.body i e) = never-open e
   never-open (Comes.again i e) = never-open e
-  never-open (Comes.other i e v) = never-open e
-  never-open (Comes.own i e v) = never-open e
+  never-open (Comes.created i y e v) = never-open e
   never-open (Comes.inside {k = k} {s = s} {b = b} i e) =
       ap (λ (o : Bool). o || eqb s p) (never-open e) ∙ ne-eqb s p (λ d. shut k b (subst (λ (r : ℕ). Is ns k (sandbox r b)) d i))
 
-  pub no-hits : {n : ℕ} {last : Last} → Hits local es ns p x n last → ⊥
+  pub no-hits : {n : ℕ} {last : Last} → Hits local es ns p S n last → ⊥
   no-hits (Hits.at-static i c v f) = not-both true refl (never-open c)
   no-hits (Hits.at-name i c v f) = not-both true refl (never-open c)
-  no-hits (Hits.at-other i c v f) = not-both true refl (never-open c)
-  no-hits (Hits.at-own i c v f) = not-both true refl (never-open c)
+  no-hits (Hits.at-fresh i y c v f) = not-both true refl (never-open c)
   no-hits (Hits.at-opening {k = k} {b = b} i c f) = shut k b i
 
 -- a sandbox is of kind 8
@@ -77,7 +75,7 @@ module _ (local : Bool) (es : List Edge) (p : ℕ) (bare : (e : Edge) → List·
   unmoved (along e m f) = absurd (bare e m (f .policy))
   unmoved (stays n) = refl
 
-  at-start : {x : ℕ} {past : Past} {q : ℕ} → May local es p (Sees x) past q → 0 ≡ q
+  at-start : {xs : List ℕ} {past : Past} {q : ℕ} → May local es p (Sees xs) past q → 0 ≡ q
   at-start start = refl
   at-start (moved m v) = at-start m ∙ unmoved v
   at-start (opened {s = s} {past = past} m) = go (local && (eqb s p && not (isOpen p past))) (at-start m)
@@ -93,7 +91,7 @@ module _ (local : Bool) (es : List Edge) (p : ℕ) (bare : (e : Edge) → List·
   start-good e (inr f) = omega arith
 
   pub never-broken : {past : Past} → Broken local es p past → ⊥
-  never-broken (x, q, m, f) = start-good (at-start m) f
+  never-broken (xs, i, q, m, f) = start-good (at-start m) f
 
 pub no-edge : (t : List ℕ) (p : ℕ) → hasEdge t p ≡ false → (e : Edge) → List·Memᴰ e (edgesOf t) → e .policy ≡ p → ⊥
 unfolding hasEdge

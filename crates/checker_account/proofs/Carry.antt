@@ -1,46 +1,45 @@
--- A policy tells resources apart only by x and by the static ones: a move for x on r is one for y on s, where (x, r) and (y, s)
--- look the same.
-use Prim.Native.Nat.{ℕ, _<_, _≤_, min}
-use mathlib.Core.Path.{_≡_, refl, subst}
-use mathlib.Core.List.{List}
-use native.Mathlib.Omega.{arith}
+-- A policy tells resources apart only by the places that they have in an instance and by the static ones: a move of the instance of xs on r
+-- is one of the instance of ys on s, where (xs, r) and (ys, s) look the same.
+use Prim.Native.Nat.{ℕ, zero, suc, _<_}
+use mathlib.Core.Path.{_≡_, refl, sym, ap, subst}
+use mathlib.Core.Option.{Option, some}
+use mathlib.Core.List.{List, [], _∷_}
 use Rattle.usage.specs.declared.Edge.{Edge}
 use Rattle.usage.specs.Limits.{statics}
-use Rattle.usage.specs.Policy.{Sees, named, own, other, Fires, Moves, along, stays, EdgesOk}
-use Rattle.checker_account.specs.Witness.{watched, others}
+use Rattle.usage.proofs.SeesLaws.{place-nowhere, place-one}
+use Rattle.usage.specs.Policy.{Place, Sees, named, own, other, second, Moves, EdgesOk}
+use Rattle.usage.proofs.SeesLaws.{moves-alike}
 
--- r is to x as s is to y
-pub record Same (x r y s : ℕ) : Type 0 where
-  pub to : r ≡ x → s ≡ y
-  pub «from» : s ≡ y → r ≡ x
+-- r is to xs as s is to ys
+pub record Same (xs : List ℕ) (r : ℕ) (ys : List ℕ) (s : ℕ) : Type 0 where
+  pub to : (i : ℕ) → Place xs i r → Place ys i s
+  pub «from» : (i : ℕ) → Place ys i s → Place xs i r
   pub static-to : (v : ℕ) → v < statics → r ≡ v → s ≡ v
   pub static-from : (v : ℕ) → v < statics → s ≡ v → r ≡ v
 
-pub turn : {x r y s : ℕ} → Same x r y s → Same y s x r
+pub turn : {xs ys : List ℕ} {r s : ℕ} → Same xs r ys s → Same ys s xs r
 turn h = record { to = h .from; «from» = h .to; static-to = h .static-from; static-from = h .static-to }
 
-sees-carry : {x r y s : ℕ} → Same x r y s → {on who : ℕ} → (on ≡ 0 → who < statics) → Sees x r on who → Sees y s on who
-sees-carry {x} {r} {y} {s} h small named = subst (λ (v : ℕ). Sees y s 0 v) (h .static-to r (small refl) refl) named
-sees-carry h small (own e) = own (h .to e)
-sees-carry h small (other d) = other (λ e. d (h .from e))
+sees-carry : {xs ys : List ℕ} {r s : ℕ} → Same xs r ys s → {on who : ℕ} → (on ≡ 0 → who < statics) → Sees xs r on who → Sees ys s on who
+sees-carry {ys = ys} {r = r} {s = s} h small named = subst (λ (v : ℕ). Sees ys s 0 v) (h .static-to r (small refl) refl) named
+sees-carry h small (own e) = own (h .to 0 e)
+sees-carry h small (other d) = other (λ i e. d i (h .from i e))
+sees-carry h small (second e) = second (h .to 1 e)
 
-fires-carry : {x r y s : ℕ} → Same x r y s → {e : Edge} {p a q : ℕ} → (e .on ≡ 0 → e .who < statics) → Fires e p a (Sees x r) q
-    → Fires e p a (Sees y s) q
-fires-carry h small f = record { policy = f .policy; «from» = f .from; action = f .action; label = sees-carry h small (f .label) }
+pub carry : {es : List Edge} → EdgesOk es → {p a q q′ r s : ℕ} {xs ys : List ℕ} → Same xs r ys s → Moves es p a (Sees xs r) q q′
+    → Moves es p a (Sees ys s) q q′
+carry ok h v = moves-alike (λ e m. (sees-carry h (ok .each e m .who-static), sees-carry (turn h) (ok .each e m .who-static))) v
 
-pub carry : {es : List Edge} → EdgesOk es → {p x r y s a q q′ : ℕ} → Same x r y s → Moves es p a (Sees x r) q q′
-    → Moves es p a (Sees y s) q q′
-carry ok h (along e m f) = along e m (fires-carry h (ok .each e m .who-static) f)
-carry ok h (stays none) = stays (λ e m f. none e m (fires-carry (turn h) (ok .each e m .who-static) f))
+-- of one resource each
+pub same-one : {x r y s : ℕ} → (r ≡ x → s ≡ y) → (s ≡ y → r ≡ x) → ((v : ℕ) → v < statics → r ≡ v → s ≡ v)
+    → ((v : ℕ) → v < statics → s ≡ v → r ≡ v) → Same (x ∷ []) r (y ∷ []) s
+same-one {x} {r} {y} {s} to back static-to static-from =
+    record { to = there; «from» = here; static-to = static-to; static-from = static-from }
+  where
+    there : (i : ℕ) → Place (x ∷ []) i r → Place (y ∷ []) i s
+    there zero e = ap {B = Option ℕ} some (sym (to (sym (place-one x 0 r e))))
+    there (suc i) e = absurd (place-nowhere i r e)
 
--- x is watched as min x 16. A resource r stands as itself where r is static, as the watched one where r is x, and else as 17.
-
-pub same-static : (x s : ℕ) → s < statics → Same x s (min x watched) s
-same-static x s l = record { to = λ e. omega arith; «from» = λ e. omega arith; static-to = λ v _ e. e; static-from = λ v _ e. e }
-
-pub same-own : (x r : ℕ) → r ≡ x → Same x r (min x watched) (min x watched)
-same-own x r h = record { to = λ e. refl; «from» = λ e. h; static-to = λ v l e. omega arith; static-from = λ v l e. omega arith }
-
-pub same-other : (x r : ℕ) → statics ≤ r → (r ≡ x → ⊥) → Same x r (min x watched) others
-same-other x r l d =
-    record { to = λ e. absurd (d e); «from» = λ e. omega arith; static-to = λ v k e. omega arith; static-from = λ v k e. omega arith }
+    here : (i : ℕ) → Place (y ∷ []) i s → Place (x ∷ []) i r
+    here zero e = ap {B = Option ℕ} some (sym (back (sym (place-one y 0 s e))))
+    here (suc i) e = absurd (place-nowhere i s e)

@@ -3,7 +3,7 @@
 use Prim.Native.Nat.{ℕ, zero, suc, _+_, _<_, _≤_}
 use mathlib.Core.Path.{_≡_, refl, sym, ap, _∙_, subst}
 use mathlib.Core.Bool.{Bool, true, false, _||_, cond, true≢false}
-use mathlib.Core.List.{List}
+use mathlib.Core.List.{List, [], _∷_}
 use native.Mathlib.Omega.{arith}
 use lib.Dec.{eqb}
 use lib.ListN.{getD}
@@ -15,7 +15,8 @@ use Rattle.usage.specs.Past.{reopened}
 use Rattle.usage.specs.Outline.{Form, Is, end, on-static, on-name, sequence, choice, loop, back, fresh, sandbox}
 use Rattle.automaton.specs.Mask.{has}
 use Rattle.automaton.proofs.MoveLaws.{moves-lt, ends-of}
-use Rattle.checker_account.specs.Witness.{watched, others, forget, Comes}
+use Rattle.checker_account.specs.Witness.{watched, others, Comes}
+use Rattle.checker_account.specs.Single.{forget, MakesOne, watching}
 use Rattle.checker_account.proofs.BegunLaws.{reopened-states}
 use Rattle.checker_account.specs.Tables.{
   least,
@@ -56,7 +57,7 @@ module _ (local : Bool) (es : List Edge) (ns : List Node) (p x : ℕ) (rows : Ro
       let e : Dynamic es p x create false j q = ok .created i false (λ e. absurd (true≢false (sym e))) j q lj l .0 hr in
       subst (λ (c : Bool). ComesFrom local es ns p x o b (nameOf (forgotten m n)) c q) (sym (forgotten-made m n))
       (subst (λ (w : ℕ). ComesFrom local es ns p x o b w (made m) q) (sym (forgotten-name m n (names .given i)))
-      (_, Comes.other i (h j lj hv .1) e))
+      (_, Comes.created i MakesOne.other (h j lj hv .1) e))
 
   own-right : {k n b : ℕ} (o : Bool) (m v : ℕ) → Is ns k (fresh n b) → Start x m
       → ((q : ℕ) → q < states → has v q ≡ true → ComesAt local es ns p x k o m q)
@@ -64,7 +65,7 @@ module _ (local : Bool) (es : List Edge) (ns : List Node) (p x : ℕ) (rows : Ro
   own-right {k} o zero v i s h q l g =
       let (j, lj, hv, hr) = over-found (rows k true) v q g in
       let e : Dynamic es p x create true j q = ok .created i true (λ _. unmade-watched es ns p x rows small ok names s) j q lj l .0 hr in
-      (_, Comes.own i (h j lj hv .1) e)
+      (_, Comes.created i MakesOne.own (h j lj hv .1) e)
   own-right o (suc m) v i s h q l g = has-none q g
 
   second-right : {k a b : ℕ} (o : Bool) (m v : ℕ) (c : Bool) → Is ns k (sequence a b) → Start x m
@@ -135,7 +136,7 @@ module _ (local : Bool) (es : List Edge) (ns : List Node) (p x : ℕ) (rows : Ro
             pick true d l = closed .step k o m (sequence a b) i s .1 .1 .0 q₁ l d
 
     come-other : {o : Bool} {k w n b : ℕ} {c : Bool} {q q₁ : ℕ} → Is ns k (fresh n b) → Come x u o k w c q
-        → Moves es p create (Sees x others) q q₁
+        → Moves es p create (Sees (x ∷ []) others) q q₁
         → Come x u o b (forget w n) c q₁
     unfolding arrivals
     come-other {o} {k} {n = n} {b = b} {q = q} {q₁ = q₁} i h v =
@@ -152,7 +153,7 @@ module _ (local : Bool) (es : List Edge) (ns : List Node) (p x : ℕ) (rows : Ro
               (ok .created i false (λ e. absurd (true≢false (sym e))) q q₁ (h .state) l .1 v));
         }
 
-    come-own : {o : Bool} {k w n b : ℕ} {q q₁ : ℕ} → Is ns k (fresh n b) → Come x u o k w false q → Moves es p create (Sees x x) q q₁
+    come-own : {o : Bool} {k w n b : ℕ} {q q₁ : ℕ} → Is ns k (fresh n b) → Come x u o k w false q → Moves es p create (Sees (x ∷ []) x) q q₁
         → Come x u o b n true q₁
     unfolding arrivals
     come-own {o} {k} {w} {n} {b} {q} {q₁} i h v = go (h .meaning) (h .start) (h .made) (h .entered)
@@ -188,7 +189,7 @@ module _ (local : Bool) (es : List Edge) (ns : List Node) (p x : ℕ) (rows : Ro
               (restarted-at (isReset local p r o) (getD u (place k o m) 0) q (h .state) (h .entered));
         }
 
-    full-comes : {n : ℕ} {o : Bool} {k w : ℕ} {c : Bool} {q : ℕ} → Comes local es ns p x n o k w c q → Come x u o k w c q
+    full-comes : {n : ℕ} {o : Bool} {k w : ℕ} {c : Bool} {q : ℕ} → Comes local es ns p (watching x) n o k w c q → Come x u o k w c q
     unfolding arrivals
     full-comes Comes.begins =
         record
@@ -204,8 +205,8 @@ module _ (local : Bool) (es : List Edge) (ns : List Node) (p x : ℕ) (rows : Ro
         let h = full-comes e in come-child h (closed .step k o (h .meaning) (loop a) i (h .start) .0 q (h .state) (h .entered))
     full-comes (Comes.again {k = k} {q = q} {a = a} {o = o} i e) =
         let h = full-comes e in come-child h (closed .step k o (h .meaning) (back a) i (h .start) .0 q (h .state) (h .entered))
-    full-comes (Comes.other i e v) = come-other i (full-comes e) v
-    full-comes (Comes.own i e v) = come-own i (full-comes e) v
+    full-comes (Comes.created i MakesOne.other e v) = come-other i (full-comes e) v
+    full-comes (Comes.created i MakesOne.own e v) = come-own i (full-comes e) v
     full-comes (Comes.inside {s = r} i e) = come-inside r i (full-comes e)
 
     -- a sound table to which the rules add nothing holds exactly what is come to

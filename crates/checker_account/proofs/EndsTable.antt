@@ -2,7 +2,7 @@
 use Prim.Native.Nat.{ℕ, zero, suc, _+_, _^_, _<_, _≤_}
 use mathlib.Core.Path.{_≡_, refl, sym, ap, _∙_, subst}
 use mathlib.Core.Bool.{Bool, true, false, _&&_, _||_, cond, true≢false}
-use mathlib.Core.List.{List}
+use mathlib.Core.List.{List, [], _∷_}
 use mathlib.Core.Logic.{_⊎_, inl, inr, _↔_}
 use native.Mathlib.Omega.{arith}
 use lib.Dec.{eqb}
@@ -19,7 +19,8 @@ use Rattle.usage.specs.Outline.{Form, Is, end, on-static, on-name, sequence, ch
 use Rattle.automaton.specs.Mask.{has}
 use Rattle.automaton.proofs.MaskLaws.{has-pow}
 use Rattle.automaton.proofs.MoveLaws.{moves-lt, ends-of}
-use Rattle.checker_account.specs.Witness.{watched, others, noName, meant, forget, Goes, ended, Ends}
+use Rattle.checker_account.specs.Witness.{watched, others, Goes, ended, Ends}
+use Rattle.checker_account.specs.Single.{noName, meant, forget, MakesOne, watching}
 use Rattle.checker_account.proofs.BegunLaws.{reopened-states}
 use Rattle.checker_account.specs.Tables.{nameOf, made, forgotten, meaningAfter, at, half, base, kept, begun, Rows, Resets}
 use Rattle.checker_account.specs.Tables.{insideEnds, endsBy}
@@ -38,12 +39,12 @@ module _ (es : List Edge) (ns : List Node) (p x : ℕ) (rows : Rows) (small : x 
 
   -- the move of a node's event on a name, and of its row
   pub name-moves : {k a n : ℕ} (m q q′ : ℕ) → Is ns k (on-name a n) → Start x m → q < states → q′ < states
-      → (has (rows k (eqb m (suc n)) q) q′ ≡ true) ↔ Moves es p a (Sees x (meant x (nameOf m) n)) q q′
+      → (has (rows k (eqb m (suc n)) q) q′ ≡ true) ↔ Moves es p a (Sees (x ∷ []) (meant x (nameOf m) n)) q q′
   name-moves {a = a} {n = n} m q q′ i s l l′ =
       let e = meant-is x m n (names .used i) in
       let h = ok .name i (eqb m (suc n)) (λ f. own-watched n small (names .used i) s f) q q′ l l′ in (
-        λ b. subst (λ (r : ℕ). Moves es p a (Sees x r) q q′) (sym e) (h .0 b),
-        λ v. h .1 (subst (λ (r : ℕ). Moves es p a (Sees x r) q q′) e v),
+        λ b. subst (λ (r : ℕ). Moves es p a (Sees (x ∷ []) r) q q′) (sym e) (h .0 b),
+        λ v. h .1 (subst (λ (r : ℕ). Moves es p a (Sees (x ∷ []) r) q q′) e v),
       )
 
 -- ends of nodes that are begun where p is open or not, as o says
@@ -77,7 +78,8 @@ module _ (local : Bool) (es : List Edge) (ns : List Node) (p x : ℕ) (o : Bool)
       let f = sound b m q c q′ s l l′ h in (
         _,
         Goes.sandboxes i
-            (subst (λ (j : ℕ). Ends local es ns p x (f .0) true b (nameOf m) (made m) j c q′) (sym (reopened-open local p r q)) (f .1)),
+            (subst (λ (j : ℕ). Ends local es ns p (watching x) (f .0) true b (nameOf m) (made m) j c q′) (sym (reopened-open local p r q))
+            (f .1)),
       )
   inside-sound (where-not {opened = opened} holds) t sound {k} {r} {b} m q c q′ s l l′ i h = go (eqb r p) refl h
     where
@@ -87,7 +89,8 @@ module _ (local : Bool) (es : List Edge) (ns : List Node) (p x : ℕ) (o : Bool)
       body d e f = (
         _,
         Goes.sandboxes i
-            (subst (λ (d : Bool). Ends true es ns p x (f .0) d b (nameOf m) (made m) (cond (d && true) 0 q) c q′) (sym e) (f .1)),
+            (subst (λ (d : Bool). Ends true es ns p (watching x) (f .0) d b (nameOf m) (made m) (cond (d && true) 0 q) c q′) (sym e)
+            (f .1)),
       )
 
       go : (d : Bool) → eqb r p ≡ d → has (cond d (getD opened (base b m + 0) 0) (getD t (base b m + q) 0)) (at c q′) ≡ true
@@ -118,14 +121,14 @@ module _ (local : Bool) (es : List Edge) (ns : List Node) (p x : ℕ) (o : Bool)
         let (j, lj, hv, ht) = over-found (λ j. getD t (base b (forgotten m n) + j) 0) (rows k false q) (at c q′) h in
         let v : Dynamic es p x create false q j = ok .created i false (λ e. absurd (true≢false (sym e))) q j l lj .0 hv in
         let g = ends-forgotten m n (names .given i) (sound b (forgotten m n) j c q′ (start-forgotten n s) lj l′ ht) in
-        (_, Goes.creates-other i v (g .1))
+        (_, Goes.makes i MakesOne.other v (g .1))
 
     sound-own : {k n b : ℕ} (m q : ℕ) (c : Bool) (q′ : ℕ) → Start x m → q < states → q′ < states → Is ns k (fresh n b)
         → has (cond (made m) 0 (begun t b (suc n) (rows k true q))) (at c q′) ≡ true → EndsAt local es ns p x o k m q c q′
     sound-own {k} {n} {b} zero q c q′ s l l′ i h =
         let (j, lj, hv, ht) = over-found (λ j. getD t (base b (suc n) + j) 0) (rows k true q) (at c q′) h in
         let v : Dynamic es p x create true q j = ok .created i true (λ _. unmade-watched es ns p x rows small ok names s) q j l lj .0 hv in
-        let g = sound b (suc n) j c q′ (start-named n (names .given i) s) lj l′ ht in (_, Goes.creates-own i v (g .1))
+        let g = sound b (suc n) j c q′ (start-named n (names .given i) s) lj l′ ht in (_, Goes.makes i MakesOne.own v (g .1))
     sound-own (suc m) q c q′ s l l′ i h = has-none (at c q′) h
 
     pub rule-sound : (k m q : ℕ) (f : Form) → Is ns k f → Start x m → q < states → (c : Bool) (q′ : ℕ) → q′ < states
@@ -199,7 +202,7 @@ module _ (local : Bool) (es : List Edge) (ns : List Node) (p x : ℕ) (o : Bool)
         go true h = has-right (begun t b (meaningAfter m false) (half false v)) (begun t b (meaningAfter m true) (half true v)) (at c q′) h
 
     full-other : {k n b : ℕ} (m q j : ℕ) (c : Bool) (q′ : ℕ) → Is ns k (fresh n b) → Start x m → q < states → j < states
-        → Moves es p create (Sees x others) q j → Full b (forgotten m n) j c q′ → Full k m q c q′
+        → Moves es p create (Sees (x ∷ []) others) q j → Full b (forgotten m n) j c q′ → Full k m q c q′
     unfolding endsBy
     full-other {k} {n} {b} m q j c q′ i s l lj v (l′, g) =
         let h = ok .created i false (λ e. absurd (true≢false (sym e))) q j l lj .1 v in (
@@ -209,7 +212,7 @@ module _ (local : Bool) (es : List Edge) (ns : List Node) (p x : ℕ) (o : Bool)
         )
 
     full-own : {k n b : ℕ} (q j : ℕ) (c : Bool) (q′ : ℕ) → Is ns k (fresh n b) → Start x 0 → q < states → j < states
-        → Moves es p create (Sees x x) q j → Full b (suc n) j c q′ → Full k 0 q c q′
+        → Moves es p create (Sees (x ∷ []) x) q j → Full b (suc n) j c q′ → Full k 0 q c q′
     unfolding endsBy
     full-own {k} {n} {b} q j c q′ i s l lj v (l′, g) =
         let h = ok .created i true (λ _. unmade-watched es ns p x rows small ok names s) q j l lj .1 v in
@@ -220,22 +223,23 @@ module _ (local : Bool) (es : List Edge) (ns : List Node) (p x : ℕ) (o : Bool)
     -- what a sandbox ends in, from what its body does; where the body is begun with p being as it is here, the table has it
     full-inside : {local o : Bool} {resets : Resets} → ResetsOk es ns p x local o resets → (r : ℕ) (d : Bool) {b n w : ℕ} → eqb r p ≡ d
         → (m q : ℕ) (c c′ : Bool) (q′ : ℕ) → Start x m → nameOf m ≡ w → made m ≡ c → q < states
-        → Ends local es ns p x n (o || eqb r p) b w c (reopened local p r o q) c′ q′
+        → Ends local es ns p (watching x) n (o || eqb r p) b w c (reopened local p r o q) c′ q′
         → ((o || eqb r p) ≡ o → Full b m (reopened local p r o q) c′ q′)
         → (q′ < states) × (has (insideEnds resets t r b m q) (at c′ q′) ≡ true)
     full-inside (where-open {local = local}) r d {b} e m q c c′ q′ s ew ec l f table =
         subst (λ (j : ℕ). Full b m j c′ q′) (reopened-open local p r q) (table refl)
     full-inside (where-not {opened = opened} holds) r true {b} {n} {w} e m q c c′ q′ s ew ec l f table =
-        let f₁ = subst (λ (d : Bool). Ends true es ns p x n d b w c (cond (d && true) 0 q) c′ q′) e f in
-        let f₂ = subst (λ (w : ℕ). Ends true es ns p x n true b w c 0 c′ q′) (sym ew) f₁ in
-        let f₃ = subst (λ (d : Bool). Ends true es ns p x n true b (nameOf m) d 0 c′ q′) (sym ec) f₂ in
+        let f₁ = subst (λ (d : Bool). Ends true es ns p (watching x) n d b w c (cond (d && true) 0 q) c′ q′) e f in
+        let f₂ = subst (λ (w : ℕ). Ends true es ns p (watching x) n true b w c 0 c′ q′) (sym ew) f₁ in
+        let f₃ = subst (λ (d : Bool). Ends true es ns p (watching x) n true b (nameOf m) d 0 c′ q′) (sym ec) f₂ in
         let (l′, h) = holds .full b m 0 c′ q′ s (omega arith) (n, f₃) in
         (l′, ap (λ (d : Bool). has (cond d (getD opened (base b m + 0) 0) (getD t (base b m + q) 0)) (at c′ q′)) e ∙ h)
     full-inside (where-not {opened = opened} holds) r false {b} e m q c c′ q′ s ew ec l f table =
         let (l′, h) = subst (λ (d : Bool). Full b m (cond (d && true) 0 q) c′ q′) e (table e) in
         (l′, ap (λ (d : Bool). has (cond d (getD opened (base b m + 0) 0) (getD t (base b m + q) 0)) (at c′ q′)) e ∙ h)
 
-    full-ends : {n k w q q′ : ℕ} {a c c′ : Bool} → Ends local es ns p x n a k w c q c′ q′ → a ≡ o → (m : ℕ) → Start x m → nameOf m ≡ w
+    full-ends : {n k w q q′ : ℕ} {a c c′ : Bool} → Ends local es ns p (watching x) n a k w c q c′ q′ → a ≡ o → (m : ℕ) → Start x m
+        → nameOf m ≡ w
         → made m ≡ c
         → q < states → Full k m q c′ q′
     unfolding endsBy
@@ -245,7 +249,7 @@ module _ (local : Bool) (es : List Edge) (ns : List Node) (p x : ℕ) (o : Bool)
         full-kept (rows k (eqb r x) q) q′ (on-static a r) refl i s ec l l′ (ok .static i q q′ l l′ .1 v)
     full-ends (Goes.fires-name {k = k} {q = q} {a = a} {m = n} {q′ = q′} i v) eo m s ew ec l =
         let l′ = moves-lt (ends-of edges) l v in
-        let v₁ = subst (λ (w : ℕ). Moves es p a (Sees x (meant x w n)) q q′) (sym ew) v in
+        let v₁ = subst (λ (w : ℕ). Moves es p a (Sees (x ∷ []) (meant x w n)) q q′) (sym ew) v in
         full-kept (rows k (eqb m (suc n)) q) q′ (on-name a n) refl i s ec l l′
         (name-moves es ns p x rows small ok names m q q′ i s l l′ .1 v₁)
     full-ends (Goes.sequences {q = q} {q₁ = q₁} {c₁ = c₁} {t = ended c₂ q₂} i f g) eo m s ew ec l =
@@ -264,17 +268,17 @@ module _ (local : Bool) (es : List Edge) (ns : List Node) (p x : ℕ) (o : Bool)
         let (l′, h) = full-ends f eo m s ew ec l in (l′, closed k m q (loop a) i s l c₂ q₂ l′ h)
     full-ends (Goes.repeats {k = k} {q = q} {a = a} {t = ended c₂ q₂} i f) eo m s ew ec l =
         let (l′, h) = full-ends f eo m s ew ec l in (l′, closed k m q (back a) i s l c₂ q₂ l′ h)
-    full-ends (Goes.creates-other {q = q} {m = n} {q₁ = q₁} {t = ended c₂ q₂} i v f) eo m s ew ec l =
+    full-ends (Goes.makes {q = q} {m = n} {q₁ = q₁} {t = ended c₂ q₂} i MakesOne.other v f) eo m s ew ec l =
         let l₁ = moves-lt (ends-of edges) l v in
         full-other m q q₁ c₂ q₂ i s l l₁ v
         (full-ends f eo (forgotten m n) (start-forgotten n s) (forgotten-name m n (names .given i) ∙ ap (λ (w : ℕ). forget w n) ew)
         (forgotten-made m n ∙ ec) l₁)
-    full-ends (Goes.creates-own {q = q} {m = n} {q₁ = q₁} {t = ended c₂ q₂} i v f) eo zero s ew ec l =
+    full-ends (Goes.makes {q = q} {m = n} {q₁ = q₁} {t = ended c₂ q₂} i MakesOne.own v f) eo zero s ew ec l =
         let l₁ = moves-lt (ends-of edges) l v in
         full-own q q₁ c₂ q₂ i s l l₁ v (full-ends f eo (suc n) (start-named n (names .given i) s) refl refl l₁)
-    full-ends (Goes.creates-own i v f) eo (suc m) s ew ec l = absurd (true≢false ec)
+    full-ends (Goes.makes i MakesOne.own v f) eo (suc m) s ew ec l = absurd (true≢false ec)
     full-ends (Goes.sandboxes {n = n} {k = k} {w = w} {q = q} {s = r} {b = b} {q₂ = q₂} {o = a} {c = c} {c₂ = c₂} i f) eo m s ew ec l =
-        let f₁ = subst (λ (a : Bool). Ends local es ns p x n (a || eqb r p) b w c (reopened local p r a q) c₂ q₂) eo f in
+        let f₁ = subst (λ (a : Bool). Ends local es ns p (watching x) n (a || eqb r p) b w c (reopened local p r a q) c₂ q₂) eo f in
         let table : (o || eqb r p) ≡ o → Full b m (reopened local p r o q) c₂ q₂ =
         λ d. subst (λ (a : Bool). Full b m (reopened local p r a q) c₂ q₂) eo
         (full-ends f (ap (λ (a : Bool). a || eqb r p) eo ∙ d) m s ew ec (reopened-states local p r a q l)) in

@@ -2,7 +2,7 @@
 use Prim.Native.Nat.{ℕ, _+_, _*_, _<_}
 use mathlib.Core.Path.{_≡_, refl, sym, ap, _∙_, subst}
 use mathlib.Core.Bool.{Bool, true, false, cond}
-use mathlib.Core.List.{List}
+use mathlib.Core.List.{List, [], _∷_}
 use mathlib.Core.Logic.{_↔_}
 use lib.ListN.{getD}
 use borrow.Author.Tests.{eqb-true, eq-eqb}
@@ -47,11 +47,12 @@ module _ (es : List Edge) (edges : EdgesOk es) (p : ℕ) (small : p < policies) 
           ap (λ (i : ℕ). has (getD (rowsOf es a r mine) (p * states + i) 0) q′) f ∙ g
       go j k false e g = not-both (has 0 q′) g (has-zero q′)
 
-  row-moves : (q q′ : ℕ) → q < states → q′ < states → (has (imageIn (rowsOf es) p a r mine q) q′ ≡ true) ↔ Moves es p a (Sees x r) q q′
+  row-moves : (q q′ : ℕ) → q < states → q′ < states
+      → (has (imageIn (rowsOf es) p a r mine q) q′ ≡ true) ↔ Moves es p a (Sees (x ∷ []) r) q q′
   row-moves q q′ l l′ = (
     (λ h.
         let (j, k, e, v) = moveMask-found es (ends-of edges) p x a r mine is-own (single q) q′ l′ (row-in q q′ l h) in
-        subst (λ (i : ℕ). Moves es p a (Sees x r) i q′) (sym (eqb-true q j (sym (has-single q j l k) ∙ e))) v),
+        subst (λ (i : ℕ). Moves es p a (Sees (x ∷ []) r) i q′) (sym (eqb-true q j (sym (has-single q j l k) ∙ e))) v),
     (λ v. row-out q q′ l (moveMask-at es (ends-of edges) p x a r mine is-own (single q) q q′ l (has-single q q l l ∙ eq-eqb q q refl) v)),
   )
 

@@ -21,8 +21,8 @@ use Rattle.usage.specs.Outline.{noNames, IsTrace}
 use Rattle.usage.specs.Check.{Leaves, Shortest, Shown, longer}
 use Rattle.usage.proofs.PastLaws.{before-opening, before-closing, before-retiring, reopened-other}
 use Rattle.usage.proofs.TraceLaws.{trace-tail}
-use Rattle.checker_account.specs.Witness.{watched, Last, by-action, by-opening, Counts, one, Hits, Made, an-event, its-opening}
-use Rattle.checker_account.specs.Witness.{LeavesBy}
+use Rattle.checker_account.specs.Witness.{Last, by-action, by-opening, Counts, Hits, Made, an-event, its-opening, LeavesBy, one}
+use Rattle.checker_account.specs.Views.{Chosen, views}
 use Rattle.checker_account.proofs.Scoped.{Scoped}
 use Rattle.checker_account.proofs.Ahead.{hits-exact}
 use Rattle.checker_account.proofs.Writing.{written-length, goes-written}
@@ -40,10 +40,11 @@ module _ (local : Bool) (es : List Edge) (ns : List Node) (p : ℕ) where
   brought-later m n l (i, k, last, b) = (i, omega arith, last, b)
 
   -- the opening of another policy moves no state, a closing none at all
-  may-before : {x s q : ℕ} {past : Past} → (s ≡ p → ⊥) → May local es p (Sees x) (opening s ∷ past) q → May local es p (Sees x) past q
-  may-before {x} {s} {q} {past} d m =
+  may-before : {xs : List ℕ} {s q : ℕ} {past : Past} → (s ≡ p → ⊥) → May local es p (Sees xs) (opening s ∷ past) q
+      → May local es p (Sees xs) past q
+  may-before {xs} {s} {q} {past} d m =
       let (q₀, m₀, e) = before-opening m in
-      subst (λ (t : ℕ). May local es p (Sees x) past t) (sym (reopened-other local p s (isOpen p past) q₀ d) ∙ e) m₀
+      subst (λ (t : ℕ). May local es p (Sees xs) past t) (sym (reopened-other local p s (isOpen p past) q₀ d) ∙ e) m₀
 
   -- a closing opens nothing, and the opening of another policy opens not this one
   open-before-closing : (b : Bool) (c o : ℕ) → addIf b c < o → c < o
@@ -54,17 +55,18 @@ module _ (local : Bool) (es : List Edge) (ns : List Node) (p : ℕ) where
   unfolding count
   open-before-opening s past d o = rw (ne-eqb s p d) at o
 
-  brought-about : (past : Past) → IsTrace ns past → Violates local es p past → Brought (length past)
+  pub brought-about : (past : Past) → IsTrace ns past → Violates local es p past → Brought (length past)
   unfolding count
   brought-about [] t (o, b) = absurd (omega arith)
   brought-about (event a r ∷ past) t v = (
-    length (event a r ∷ past),
+    length (event a r
+        ∷ past),
     omega arith,
     by-action a,
     record { step = event a r; past = past; made = an-event; trace = t; violates = v; steps = refl },
   )
-  brought-about (opening s ∷ past) t (o, (x, q, m, f)) =
-      go (ℕ-discrete s p) (λ d u. brought-about past (trace-tail t) (u, (x, q, may-before d m, f)))
+  brought-about (opening s ∷ past) t (o, (xs, i, q, m, f)) =
+      go (ℕ-discrete s p) (λ d u. brought-about past (trace-tail t) (u, (xs, i, q, may-before d m, f)))
     where
       go : Dec (s ≡ p) → ((s ≡ p → ⊥) → Open p past → Brought (length past)) → Brought (length (opening s ∷ past))
       go (yes e) ih = (
@@ -76,17 +78,18 @@ module _ (local : Bool) (es : List Edge) (ns : List Node) (p : ℕ) where
           past = past;
           made = subst (λ (u : ℕ). Made p by-opening (opening u)) (sym e) its-opening;
           trace = t;
-          violates = (o, (x, q, m, f));
+          violates = (o, (xs, i, q, m, f));
           steps = refl;
         },
       )
       go (no d) ih = brought-later (length past) (length (opening s ∷ past)) (omega arith) (ih d (open-before-opening s past d o))
-  brought-about (closing s ∷ past) t (o, (x, q, m, f)) =
+  brought-about (closing s ∷ past) t (o, (xs, i, q, m, f)) =
       brought-later (length past) (length (closing s ∷ past)) (omega arith)
-      (brought-about past (trace-tail t) (open-before-closing (eqb s p) (closings p past) (openings p past) o, (x, q, before-closing m, f)))
-  brought-about (retiring r ∷ past) t (o, (x, q, m, f)) =
+      (brought-about past (trace-tail t)
+      (open-before-closing (eqb s p) (closings p past) (openings p past) o, (xs, i, q, before-closing m, f)))
+  brought-about (retiring r ∷ past) t (o, (xs, i, q, m, f)) =
       brought-later (length past) (length (retiring r ∷ past)) (omega arith)
-      (brought-about past (trace-tail t) (o, (x, q, before-retiring m, f)))
+      (brought-about past (trace-tail t) (o, (xs, i, q, before-retiring m, f)))
 
 -- ── The theorems ──
 
@@ -96,58 +99,59 @@ module _ (local : Bool) (es : List Edge) (ns : List Node) (scope : ℕ → ℕ �
   only-one one = refl
 
   -- what the account tells can be written down
-  complete : {x n : ℕ} {last : Last} → x ≤ watched → Hits local es ns p x n last
+  complete : {us : List ℕ} {n : ℕ} {last : Last} → Chosen es p us → Hits local es ns p (views us) n last
       → (l : LeavesBy local es ns p n last) × Numbered (l .step ∷ l .past)
-  complete {x} {n} {last} small h =
-      let (after, u) =
-      goes-written local es ns p x scope outline (hits-exact local es ns p x n (some last) .0 (last, one, h)) noNames
-      (λ m s. absurd (outline .root s)) [] in
-      let d = written-struck local es ns p x scope edges outline small u in
-      let e : length (d .step ∷ d .past) ≡ n = ap length (d .same) ∙ written-length local es ns p x u ∙ zero-steps in
+  complete {us} {n} {last} chosen h =
+      let (after, u) = goes-written local es ns p (views us) scope outline
+      (hits-exact local es ns p (views us) n (some last) .0 (last, one, h)) noNames (λ m s. absurd (outline .root s)) [] in
+      let d = written-struck local es ns p us scope edges outline chosen u in
+      let e : length (d .step ∷ d .past) ≡ n = ap length (d .same) ∙ written-length local es ns p (views us) u ∙ zero-steps in
       let m : Made p last (d .step) = subst (λ (l : Last). Made p l (d .step)) (only-one (d .counts)) (d .made) in
       (record { step = d .step; past = d .past; made = m; trace = d .trace; violates = d .violates; steps = e }, d .numbered)
     where
       zero-steps : length {A = Step} [] + n ≡ n
       zero-steps = omega arith
 
-  pub exact-by : (n : ℕ) (last : Last) → LeavesBy local es ns p n last ↔ ((x : ℕ) × (x ≤ watched) × Hits local es ns p x n last)
+  pub exact-by : (n : ℕ) (last : Last) → LeavesBy local es ns p n last
+      ↔ ((us : List ℕ) × Chosen es p us × Hits local es ns p (views us) n last)
   exact-by n last = (
     λ l. sound local es ns scope p edges outline l,
     λ h. complete (h .1) (h .2) .0,
   )
 
   -- From what the account tells one gets a trace of just so many steps, its fresh resources numbered 16, 17 and on.
-  pub shortest-sound : {x n : ℕ} {last : Last} → x ≤ watched → Hits local es ns p x n last
+  pub shortest-sound : {us : List ℕ} {n : ℕ} {last : Last} → Chosen es p us → Hits local es ns p (views us) n last
       → (past : Past) × IsTrace ns past × Numbered past × Violates local es p past × (length past ≡ n)
   shortest-sound small h = let (l, num) = complete small h in (l .step ∷ l .past, l .trace, num, l .violates, l .steps)
 
   -- Of any trace that leaves p open and not respected the account tells, with no more steps.
   pub shortest-complete : (past : Past) → IsTrace ns past → Violates local es p past
-      → (m : ℕ) × (m ≤ length past) × (x : ℕ) × (x ≤ watched) × (last : Last) × Hits local es ns p x m last
+      → (m : ℕ) × (m ≤ length past) × (us : List ℕ) × Chosen es p us × (last : Last) × Hits local es ns p (views us) m last
   shortest-complete past t v =
       let (m, l, last, b) = brought-about local es ns p past t v in
-      let (x, small, h) = sound local es ns scope p edges outline b in
-      (m, l, x, small, last, h)
+      let (us, small, h) = sound local es ns scope p edges outline b in
+      (m, l, us, small, last, h)
 
   -- Today's theorem: the number of steps is forgotten.
-  pub exact : Leaves local es ns p ↔ ((x : ℕ) × (x ≤ watched) × (n : ℕ) × (last : Last) × Hits local es ns p x n last)
+  pub exact : Leaves local es ns p ↔ ((us : List ℕ) × Chosen es p us × (n : ℕ) × (last : Last) × Hits local es ns p (views us) n last)
   exact = (
-    λ l. let (m, k, x, small, last, h) = shortest-complete (l .0) (l .1) (l .2) in (x, small, m, last, h),
+    λ l. let (m, k, us, small, last, h) = shortest-complete (l .0) (l .1) (l .2) in (us, small, m, last, h),
     λ h. let (past, t, num, v, e) = shortest-sound (h .1) (h .4) in (past, t, v),
   )
 
   -- The least number of steps that the account tells is the length of a shortest trace, and one of that length, numbered so, exists.
-  pub shortest : {x n : ℕ} {last : Last} → x ≤ watched → Hits local es ns p x n last
-      → ((y m : ℕ) (by : Last) → y ≤ watched → Hits local es ns p y m by → n ≤ m)
-      → (past : Past) × Shortest local es ns p past × (length past ≡ n)
-  shortest {x} {n} small h low =
+  pub shortest : {us : List ℕ} {n : ℕ} {last : Last} → Chosen es p us → Hits local es ns p (views us) n last
+      → ((vs : List ℕ) (m : ℕ) (by : Last) → Chosen es p vs → Hits local es ns p (views vs) m by → n ≤ m) → (past : Past)
+      × Shortest local es ns p past × (length past ≡ n)
+  shortest {us} {n} small h low =
       let (past, t, num, v, e) = shortest-sound small h in
       (past, record { trace = t; numbered = num; violates = v; least = λ another t′ v′. at-most past e another t′ v′ }, e)
     where
       at-most : (past : Past) → length past ≡ n → (another : Past) → IsTrace ns another → Violates local es p another
           → length past ≤ length another
-      at-most past e another t v = let (m, l, y, little, by, k) = shortest-complete another t v in omega (arith, low y m by little k)
+      at-most past e another t v = let (m, l, vs, fit, by, k) = shortest-complete another t v in omega (arith, low vs m by fit k)
 
   -- Where the account tells of none within 200 steps, every trace that leaves p open and not respected is longer.
-  pub all-longer : ((y m : ℕ) (by : Last) → y ≤ watched → Hits local es ns p y m by → mostShown < m) → Shown local es ns p none
-  all-longer far = longer (λ past t v. let (m, l, y, little, by, k) = shortest-complete past t v in omega (arith, far y m by little k))
+  pub all-longer : ((vs : List ℕ) (m : ℕ) (by : Last) → Chosen es p vs → Hits local es ns p (views vs) m by → mostShown < m)
+      → Shown local es ns p none
+  all-longer far = longer (λ past t v. let (m, l, vs, fit, by, k) = shortest-complete past t v in omega (arith, far vs m by fit k))

@@ -9,14 +9,15 @@ use native.Mathlib.Omega.{arith}
 use lib.ListN.{length}
 use Rattle.usage.specs.declared.Edge.{Edge}
 use Rattle.usage.specs.declared.Node.{Node}
-use Rattle.usage.specs.Policy.{Sees, own, Fires, Moves, along, stays, EdgeOk, EdgesOk}
+use Rattle.usage.specs.Policy.{PairPolicy, single, Sees, own, Fires, Moves, along, stays, EdgeOk, EdgesOk}
 use Rattle.usage.specs.Past.{Past, Violates, Numbered}
+use Rattle.usage.specs.Tests.{someOf}
 use Rattle.usage.specs.Outline.{Form, formOf, formAt, Is, end, on-static, on-name, sequence, choice, loop, back, fresh, sandbox, IsTrace}
 use Rattle.usage.specs.Check.{Leaves}
 use Rattle.usage.proofs.Logic.{clash}
-use Rattle.checker_account.specs.Witness.{meant, Comes, by-action, Hits}
+use Rattle.checker_account.specs.Witness.{Comes, by-action, Hits}
+use Rattle.checker_account.specs.Views.{Watched, Chosen, standIn, keepIf, New, awaited, views, given}
 use Rattle.checker_account.proofs.Scoped.{Scoped}
-use Rattle.checker_account.proofs.Meaning.{meant-own}
 use Rattle.checker_account.proofs.Exact.{exact, shortest-sound}
 
 -- policy 0: action 2 on x is an offence
@@ -44,8 +45,14 @@ edge-ok = record {
   to = omega arith;
 }
 
+no-pair : (p : ℕ) → PairPolicy es p → ⊥
+no-pair p h = let g : h .edge ≡ edge = List·Memᴰ·eq-of-singleton (h .listed) in let a : h .edge .on ≡ 1 = cc in omega (arith, h .second)
+
 edges : EdgesOk es
-edges = record { few = omega arith; each = λ e m. subst EdgeOk (sym (List·Memᴰ·eq-of-singleton m)) edge-ok }
+edges = record {
+  few = omega arith;
+  each = λ e m. subst EdgeOk (sym (List·Memᴰ·eq-of-singleton m)) edge-ok;
+}
 
 Three : ℕ → Form → Type 0
 Three k f = ((k ≡ 0) × (f ≡ sandbox 0 1)) ⊎ (((k ≡ 1) × (f ≡ fresh 0 2)) ⊎ ((k ≡ 2) × (f ≡ on-name 2 0)))
@@ -119,15 +126,13 @@ outline = record {
 }
 
 -- creating x moves nothing
-created : Moves es 0 0 (Sees 16 16) 0 0
-created =
-    stays
-    (λ e m (f : Fires e 0 0 (Sees 16 16) 0). let g : e ≡ edge = List·Memᴰ·eq-of-singleton m in let a : e .action ≡ 2 = cc in
-    let b : e .action ≡ 0 = f .action in omega arith)
+created : Moves es 0 0 (Sees (16 ∷ []) 16) 0 0
+created = stays (λ e m (f : Fires e 0 0 (Sees (16 ∷ []) 16) 0). let g : e ≡ edge = List·Memᴰ·eq-of-singleton m in let a : e .action
+    ≡ 2 = cc in let b : e .action ≡ 0 = f .action in omega arith)
 
 -- action 2 on x does
-used : Moves es 0 2 (Sees 16 (meant 16 0 0)) 0 6
-used = along edge (List·Memᴰ·head refl) (record { policy = refl; «from» = refl; action = refl; label = own (meant-own 16 0 0 refl) })
+used : Moves es 0 2 (Sees (16 ∷ []) (standIn (16 ∷ 18 ∷ 18 ∷ 18 ∷ []) 0)) 0 6
+used = along edge (List·Memᴰ·head refl) (record { policy = refl; «from» = refl; action = refl; label = own refl })
 
 at-0 : Is ns 0 (sandbox 0 1)
 unfolding formOf
@@ -142,16 +147,20 @@ unfolding formOf
 at-2 = record { form = refl }
 
 -- after the opening and the creation, under both meanings: the sandbox is the first to open the policy
-comes : (local : Bool) → Comes local es ns 0 16 2 true 2 0 true 0
-comes true = Comes.own at-1 (Comes.inside at-0 Comes.begins) created
-comes false = Comes.own at-1 (Comes.inside at-0 Comes.begins) created
+comes : (local : Bool) → Comes local es ns 0 (views (16 ∷ [])) 2 true 2 (16 ∷ 18 ∷ 18 ∷ 18 ∷ []) [] 0
+unfolding keepIf someOf
+comes true = Comes.created at-1 (given (awaited (List·Memᴰ·head refl))) (Comes.inside at-0 Comes.begins) created
+comes false = Comes.created at-1 (given (awaited (List·Memᴰ·head refl))) (Comes.inside at-0 Comes.begins) created
 
-hits : (local : Bool) → Hits local es ns 0 16 3 (by-action 2)
+hits : (local : Bool) → Hits local es ns 0 (views (16 ∷ [])) 3 (by-action 2)
 hits local = Hits.at-name at-2 (comes local) used (inl refl)
 
+chosen : Chosen es 0 (16 ∷ [])
+chosen = record { watches = Watched.one {x = 16} (omega arith); fits = single (no-pair 0) }
+
 pub leaves : (local : Bool) → Leaves local es ns 0
-leaves local = exact local es ns scope 0 edges outline .1 (16, omega arith, 3, by-action 2, hits local)
+leaves local = exact local es ns scope 0 edges outline .1 (16 ∷ [], chosen, 3, by-action 2, hits local)
 
 -- by just three steps, the resource being 16
 pub three : (local : Bool) → (past : Past) × IsTrace ns past × Numbered past × Violates local es 0 past × (length past ≡ 3)
-three local = shortest-sound local es ns scope 0 edges outline (omega arith) (hits local)
+three local = shortest-sound local es ns scope 0 edges outline chosen (hits local)

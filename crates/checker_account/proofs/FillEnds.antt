@@ -14,6 +14,7 @@ use Rattle.usage.specs.Policy.{EdgesOk}
 use Rattle.usage.specs.Outline.{Form}
 use Rattle.automaton.specs.Mask.{has}
 use Rattle.checker_account.specs.Witness.{watched}
+use Rattle.checker_account.specs.Single.{watching}
 use Rattle.checker_account.specs.Tables.{least, at, base, joinedAt, Rows, Resets, never, opening-of, places, meanings}
 use Rattle.checker_account.specs.Holds.{Start, RowsOk, NamesOk, EndsAt, HasEnd, SoundEnds, ClosedEnds, HoldsEnds}
 use Rattle.checker_account.specs.Holds.{ResetsOk, where-open}
@@ -93,8 +94,8 @@ module _ (local : Bool) (es : List Edge) (ns : List Node) (p x : ℕ) (o : Bool)
 -- where the whole past counts, the ends where p is open are those where it is not
 whole-ends : (es : List Edge) (ns : List Node) (p x : ℕ) (t : List ℕ) → HoldsEnds false es ns p x true t → HoldsEnds false es ns p x false t
 whole-ends es ns p x t h = record {
-  sound = λ k m q c q′ s l l′ e. let (n, f) = h .sound k m q c q′ s l l′ e in (n, ends-open es ns p x f false);
-  full = λ k m q c q′ s l e. h .full k m q c q′ s l (e .0, ends-open es ns p x (e .1) true);
+  sound = λ k m q c q′ s l l′ e. let (n, f) = h .sound k m q c q′ s l l′ e in (n, ends-open es ns p (watching x) f false);
+  full = λ k m q c q′ s l e. h .full k m q c q′ s l (e .0, ends-open es ns p (watching x) (e .1) true);
 }
 
 module _ (es : List Edge) (ns : List Node) (p x : ℕ) (rows : Rows) (small : x ≤ watched) (ok : RowsOk es ns p x rows) (names : NamesOk ns)

@@ -3,7 +3,7 @@ use Prim.Native.Nat.{ℕ, zero, suc, _<_, _≤_}
 use mathlib.Core.Path.{_≡_, refl, sym, ap, _∙_, subst}
 use mathlib.Core.Bool.{Bool, true, false, cond, true≢false}
 use mathlib.Core.Option.{Option, some}
-use mathlib.Core.List.{List}
+use mathlib.Core.List.{List, [], _∷_}
 use mathlib.Core.Logic.{_⊎_, inl, inr, _↔_}
 use native.Mathlib.Omega.{arith}
 use lib.Dec.{eqb}
@@ -18,7 +18,8 @@ use Rattle.usage.specs.Past.{reopened}
 use Rattle.usage.specs.Outline.{Form, Is, end, on-static, on-name, sequence, choice, loop, back, fresh, sandbox}
 use Rattle.usage.proofs.Logic.{none-some}
 use Rattle.automaton.specs.Mask.{has}
-use Rattle.checker_account.specs.Witness.{watched, meant, Last, by-action, by-opening, Hits}
+use Rattle.checker_account.specs.Witness.{watched, Last, by-action, by-opening, Hits}
+use Rattle.checker_account.specs.Single.{meant, MakesOne, watching}
 use Rattle.checker_account.specs.Tables.{nameOf, made, Rows, isReset, restarted, place, leaves, lastOf, over}
 use Rattle.checker_account.specs.Holds.{Start, Dynamic, HitsFrom, RowsOk, NamesOk, ComesAt, HasCome, HoldsComes, Struck}
 use Rattle.checker_account.proofs.MaskLaws.{has-left, has-right, has-either, has-none, over-found, over-at, offends-has, has-offends}
@@ -56,7 +57,7 @@ module _ (local : Bool) (es : List Edge) (ns : List Node) (p x : ℕ) (rows : Ro
       let (j, c, v) =
       moved-found 0 true (Dynamic es p x create true) s
       (λ j q lj l. ok .created i true (λ _. unmade-watched es ns p x rows small ok names s) j q lj l .0) q (offending-lt f) h in
-      (_, Hits.at-own i (c .1) v f)
+      (_, Hits.at-fresh i MakesOne.own (c .1) v f)
   hit-own (suc m) q i s f h = has-none q h
 
   hit-at : {k : ℕ} (m q : ℕ) (g : Form) → Is ns k g → Start x m → Offending q → has (leaves local rows p x u k m g) q ≡ true
@@ -65,11 +66,11 @@ module _ (local : Bool) (es : List Edge) (ns : List Node) (p x : ℕ) (rows : Ro
   hit-at m q end i s f h last e = none-some e
   hit-at m q (on-static a r) i s f h last e =
       let (j, c, v) =
-      moved-found m (eqb r x) (λ j q. Moves es p a (Sees x r) j q) s (λ j q lj l. ok .static i j q lj l .0) q (offending-lt f) h in
+      moved-found m (eqb r x) (λ j q. Moves es p a (Sees (x ∷ []) r) j q) s (λ j q lj l. ok .static i j q lj l .0) q (offending-lt f) h in
       subst (HitsFrom local es ns p x) (same-last e) ((_, Hits.at-static i (c .1) v f))
   hit-at m q (on-name a n) i s f h last e =
       let (j, c, v) =
-      moved-found m (eqb m (suc n)) (λ j q. Moves es p a (Sees x (meant x (nameOf m) n)) j q) s
+      moved-found m (eqb m (suc n)) (λ j q. Moves es p a (Sees (x ∷ []) (meant x (nameOf m) n)) j q) s
       (λ j q lj l. name-moves es ns p x rows small ok names m j q i s lj l .0) q (offending-lt f) h in
       subst (HitsFrom local es ns p x) (same-last e) ((_, Hits.at-name i (c .1) v f))
   hit-at m q (sequence a b) i s f h last e = none-some e
@@ -87,7 +88,7 @@ module _ (local : Bool) (es : List Edge) (ns : List Node) (p x : ℕ) (rows : Ro
           let (j, c, v) =
           moved-found m false (Dynamic es p x create false) s
           (λ j q lj l. ok .created i false (λ e. absurd (true≢false (sym e))) j q lj l .0) q (offending-lt f) g in
-          (_, Hits.at-other i (c .1) v f)
+          (_, Hits.at-fresh i MakesOne.other (c .1) v f)
       go (inr g) = hit-own m q i s f g
   hit-at {k} m q (sandbox r b) i s f h last e = subst (HitsFrom local es ns p x) (same-last e) (go (eqb r p) refl h)
     where
@@ -124,7 +125,7 @@ module _ (local : Bool) (es : List Edge) (ns : List Node) (p x : ℕ) (rows : Ro
       → has (over (rows k own) (getD u (place k true m) 0)) q ≡ true
   moved-at k m own j q l h g = over-at (rows k own) (getD u (place k true m) 0) q j l h g
 
-  hits-in : {n : ℕ} {last : Last} → Hits local es ns p x n last → Struck local ns p x rows u last
+  hits-in : {n : ℕ} {last : Last} → Hits local es ns p (watching x) n last → Struck local ns p x rows u last
   unfolding leaves
   hits-in (Hits.at-static {k = k} {q = q} {a = a} {s = r} {q′ = q′} i c v f) =
       let h = comes .full c in
@@ -133,11 +134,11 @@ module _ (local : Bool) (es : List Edge) (ns : List Node) (p x : ℕ) (rows : Ro
   hits-in (Hits.at-name {k = k} {q = q} {a = a} {m = n} {q′ = q′} i c v f) =
       let h = comes .full c in
       let m = h .meaning in
-      let v₁ = subst (λ (w : ℕ). Moves es p a (Sees x (meant x w n)) q q′) (sym (h .name)) v in
+      let v₁ = subst (λ (w : ℕ). Moves es p a (Sees (x ∷ []) (meant x w n)) q q′) (sym (h .name)) v in
       struck m (on-name a n) i (h .start) refl f
       (moved-at k m (eqb m (suc n)) q q′ (h .state) (h .entered)
       (name-moves es ns p x rows small ok names m q q′ i (h .start) (h .state) (offending-lt f) .1 v₁))
-  hits-in (Hits.at-other {k = k} {q = q} {m = n} {b = b} {q′ = q′} i c v f) =
+  hits-in (Hits.at-fresh {k = k} {q = q} {m = n} {b = b} {q′ = q′} i MakesOne.other c v f) =
       let h = comes .full c in
       let m = h .meaning in
       let w = getD u (place k true m) 0 in
@@ -145,7 +146,7 @@ module _ (local : Bool) (es : List Edge) (ns : List Node) (p x : ℕ) (rows : Ro
       (has-left (over (rows k false) w) (cond (made m) 0 (over (rows k true) w)) q′
       (moved-at k m false q q′ (h .state) (h .entered)
       (ok .created i false (λ e. absurd (true≢false (sym e))) q q′ (h .state) (offending-lt f) .1 v)))
-  hits-in (Hits.at-own {k = k} {q = q} {m = n} {b = b} {q′ = q′} i c v f) =
+  hits-in (Hits.at-fresh {k = k} {q = q} {m = n} {b = b} {q′ = q′} i MakesOne.own c v f) =
       let h = comes .full c in go (h .meaning) (h .start) (h .made) (h .state) (h .entered)
     where
       go : (m : ℕ) → Start x m → made m ≡ false → q < states → HasCome u k true m q → Struck local ns p x rows u (by-action create)

@@ -1,19 +1,27 @@
--- What the names of a part mean, told by one number: the name that means x.
+-- What the names of a part mean, and what is left to be created.
 use Prim.Native.Nat.{ℕ, _<_, _≤_}
-use mathlib.Core.Path.{_≡_, sym, _∙_, ap}
+use mathlib.Core.Path.{_≡_, refl, sym, _∙_, ap}
+use mathlib.Core.Bool.{Bool, true, false, not, cond}
 use mathlib.Core.Option.{Option, some, Option·some-injective, Option·none-ne-some}
-use mathlib.Core.List.{[], _∷_, List·Memᴰ·head}
+use mathlib.Core.List.{List, [], _∷_, List·Memᴰ, List·Memᴰ·head, List·Memᴰ·tail, List·Memᴰ·not-nil, List·Memᴰ·cases-cons}
+use mathlib.Core.Logic.{_⊎_, inl, inr}
 use native.Mathlib.Omega.{arith}
 use native.Mathlib.Decide.{ℕ-discrete}
+use lib.Dec.{eqb}
+use lib.ListN.{length, length-set}
+use lib.Seq.{getD-set-same, getD-set-other}
 use borrow.Author.Tests.{eq-eqb, ne-eqb}
-use Rattle.usage.specs.Limits.{statics, create}
+use Rattle.usage.specs.Limits.{mostNames, statics, create}
 use Rattle.usage.specs.Past.{Step, event, Past, Occurs}
 use Rattle.usage.specs.Outline.{Names, noNames, give}
+use Rattle.usage.proofs.Logic.{false-true}
 use Rattle.usage.proofs.PastLaws.{occurs-later}
 use Rattle.usage.proofs.TraceLaws.{give-same, give-other}
-use Rattle.checker_account.specs.Witness.{others, noName, meant, forget}
+use Rattle.checker_account.specs.Witness.{others}
+use Rattle.checker_account.specs.Single.{noName, meant, forget}
+use Rattle.checker_account.specs.Views.{noMeaning, standIn, meansNow, keepIf, leftAfter}
 
--- the tests, by the fact tested
+-- where one resource is watched: the tests, by the fact tested
 
 pub meant-own : (x w n : ℕ) → w ≡ n → meant x w n ≡ x
 unfolding meant
@@ -31,47 +39,82 @@ pub forget-other : (w n : ℕ) → (w ≡ n → ⊥) → forget w n ≡ w
 unfolding forget
 forget-other w n d = rw (ne-eqb w n d)
 
--- of the names 0 to 3, w means x and no other does
-pub record Means (names : Names) (x w : ℕ) : Type 0 where
-  pub only : (m : ℕ) → m < noName → names m ≡ some x → w ≡ m
-  pub there : (m : ℕ) → m < noName → w ≡ m → names m ≡ some x
+-- ── What passes a test, and what is left ──
 
-pub means-none : (x : ℕ) → Means noNames x noName
-means-none x = record {
-  only = λ m l e. absurd (Option·none-ne-some x e);
-  there = λ m l e. absurd (omega arith);
-}
+-- one element more, kept or not
+keep-more : (b : Bool) (e d : ℕ) (ds : List ℕ) → List·Memᴰ e (cond b (d ∷ ds) ds) → ((e ≡ d) × (b ≡ true)) ⊎ List·Memᴰ e ds
+keep-more true e d ds m = go (List·Memᴰ·cases-cons m)
+  where
+    go : (e ≡ d) ⊎ List·Memᴰ e ds → ((e ≡ d) × (true ≡ true)) ⊎ List·Memᴰ e ds
+    go (inl f) = inl (f, refl)
+    go (inr i) = inr i
+keep-more false e d ds m = inr m
 
-module _ {names : Names} {x w : ℕ} (n r : ℕ) (small : n < noName) (d : r ≡ x → ⊥) (h : Means names x w) where
-  other-only : (m : ℕ) → m < noName → Dec (m ≡ n) → Dec (w ≡ n) → give names n r m ≡ some x → forget w n ≡ m
-  other-only m l (yes e) v g = absurd (d (Option·some-injective r x (sym (give-same names n r m e) ∙ g)))
-  other-only m l (no e) (yes v) g = absurd (e (sym (h .only m l (sym (give-other names n r m e) ∙ g)) ∙ v))
-  other-only m l (no e) (no v) g = forget-other w n v ∙ h .only m l (sym (give-other names n r m e) ∙ g)
+more-keep : (b : Bool) (e d : ℕ) (ds : List ℕ) → List·Memᴰ e ds → List·Memᴰ e (cond b (d ∷ ds) ds)
+more-keep true e d ds m = List·Memᴰ·tail m
+more-keep false e d ds m = m
 
-  other-there : (m : ℕ) → m < noName → Dec (w ≡ n) → forget w n ≡ m → give names n r m ≡ some x
-  other-there m l (yes v) f = let e : noName ≡ m = sym (forget-same w n v) ∙ f in absurd (omega arith)
-  other-there m l (no v) f =
-      let e : w ≡ m = sym (forget-other w n v) ∙ f in
-      give-other names n r m (λ k. v (e ∙ k)) ∙ h .there m l e
+here-keep : (b : Bool) (e d : ℕ) (ds : List ℕ) → e ≡ d → b ≡ true → List·Memᴰ e (cond b (d ∷ ds) ds)
+here-keep true e d ds f h = List·Memᴰ·head f
+here-keep false e d ds f h = false-true h
 
-  -- name n is given to another resource than x
-  pub means-other : Means (give names n r) x (forget w n)
-  means-other = record {
-    only = λ m l g. other-only m l (ℕ-discrete m n) (ℕ-discrete w n) g;
-    there = λ m l f. other-there m l (ℕ-discrete w n) f;
-  }
+pub kept : (test : ℕ → Bool) (ds : List ℕ) (e : ℕ) → List·Memᴰ e (keepIf test ds) → List·Memᴰ e ds × (test e ≡ true)
+unfolding keepIf
+kept test [] e m = absurd (List·Memᴰ·not-nil m)
+kept test (d ∷ ds) e m = go (keep-more (test d) e d (keepIf test ds) m) (λ i. kept test ds e i)
+  where
+    go : ((e ≡ d) × (test d ≡ true)) ⊎ List·Memᴰ e (keepIf test ds) → (List·Memᴰ e (keepIf test ds) → List·Memᴰ e ds × (test e ≡ true))
+        → List·Memᴰ e (d ∷ ds) × (test e ≡ true)
+    go (inl (f, h)) ih = (List·Memᴰ·head f, ap test f ∙ h)
+    go (inr i) ih = (List·Memᴰ·tail (ih i .0), ih i .1)
 
-module _ (names : Names) (x n r : ℕ) (e : r ≡ x) (never : (m : ℕ) → names m ≡ some x → ⊥) where
-  own-only : (m : ℕ) → Dec (m ≡ n) → give names n r m ≡ some x → n ≡ m
-  own-only m (yes d) g = sym d
-  own-only m (no d) g = absurd (never m (sym (give-other names n r m d) ∙ g))
+pub keeps : (test : ℕ → Bool) (ds : List ℕ) (e : ℕ) → List·Memᴰ e ds → test e ≡ true → List·Memᴰ e (keepIf test ds)
+unfolding keepIf
+keeps test [] e m h = absurd (List·Memᴰ·not-nil m)
+keeps test (d ∷ ds) e m h = go (List·Memᴰ·cases-cons m) (λ i. keeps test ds e i h)
+  where
+    go : (e ≡ d) ⊎ List·Memᴰ e ds → (List·Memᴰ e ds → List·Memᴰ e (keepIf test ds))
+        → List·Memᴰ e (cond (test d) (d ∷ keepIf test ds) (keepIf test ds))
+    go (inl f) ih = here-keep (test d) e d (keepIf test ds) f (ap test (sym f) ∙ h)
+    go (inr i) ih = more-keep (test d) e d (keepIf test ds) (ih i)
 
-  -- name n is given to x
-  pub means-own : Means (give names n r) x n
-  means-own = record {
-    only = λ m l g. own-only m (ℕ-discrete m n) g;
-    there = λ m l d. give-same names n r m (sym d) ∙ ap {B = Option ℕ} some e;
-  }
+pub left-part : (d : ℕ) (c : List ℕ) (e : ℕ) → List·Memᴰ e (leftAfter d c) → List·Memᴰ e c × (e ≡ d → ⊥)
+left-part d c e m =
+    let h = kept (λ t. not (eqb t d)) c e m in
+    (h .0, λ f. false-true (sym (ap not (eq-eqb e d f)) ∙ h .1))
+
+pub still-left : (d : ℕ) (c : List ℕ) (e : ℕ) → List·Memᴰ e c → (e ≡ d → ⊥) → List·Memᴰ e (leftAfter d c)
+still-left d c e m f = keeps (λ t. not (eqb t d)) c e m (ap not (ne-eqb e d f))
+
+-- ── The stand-ins of what the names mean ──
+
+-- P holds of the stand-in of each name and what it means
+pub record Means (P : ℕ → ℕ → Type 0) (names : Names) (w : List ℕ) : Type 0 where
+  pub whole : length w ≡ mostNames
+  pub stands : (m r : ℕ) → m < mostNames → names m ≡ some r → P (standIn w m) r
+
+pub means-none : (P : ℕ → ℕ → Type 0) → Means P noNames noMeaning
+means-none P = record { whole = refl; stands = λ m r l e. absurd (Option·none-ne-some r e) }
+
+-- P may change, as long as it holds of what is standIn
+pub means-change : {P Q : ℕ → ℕ → Type 0} {names : Names} {w : List ℕ} → ((m d r : ℕ) → names m ≡ some r → P d r → Q d r) → Means P names w
+    → Means Q names w
+means-change {w = w} f h = record { whole = h .whole; stands = λ m r l e. f m (standIn w m) r e (h .stands m r l e) }
+
+module _ {P : ℕ → ℕ → Type 0} {names : Names} {w : List ℕ} (n d r : ℕ) (small : n < mostNames) (new : P d r) (h : Means P names w) where
+  give-stands : (m t : ℕ) → m < mostNames → Dec (m ≡ n) → give names n r m ≡ some t → P (standIn (meansNow w n d) m) t
+  give-stands m t l (yes e) g =
+      let f : r ≡ t = Option·some-injective r t (sym (give-same names n r m e) ∙ g) in
+      let k : n < length w = omega (arith, h .whole) in
+      let v : standIn (meansNow w n d) m ≡ d = ap (standIn (meansNow w n d)) e ∙ getD-set-same w n d others k in
+      rw (v, sym f) new
+  give-stands m t l (no e) g =
+      let v : standIn (meansNow w n d) m ≡ standIn w m = getD-set-other w n m d others e in
+      rw v (h .stands m t l (sym (give-other names n r m e) ∙ g))
+
+  -- name n is given to r, for which d stands
+  pub means-give : Means P (give names n r) (meansNow w n d)
+  means-give = record { whole = length-set w n d ∙ h .whole; stands = λ m t l g. give-stands m t l (ℕ-discrete m n) g }
 
 -- what occurs
 

@@ -15,27 +15,30 @@ use Rattle.usage.specs.Policy.{EdgesOk}
 use Rattle.usage.specs.Past.{Step, event, opening, Past, Violates}
 use Rattle.usage.specs.Outline.{Is, sequence, Names, noNames, give, IsTrace}
 use Rattle.usage.specs.Check.{Shown, this}
-use Rattle.checker_account.specs.Witness.{watched, noName, each, Aim, ended, broken}
+use Rattle.checker_account.specs.Witness.{Sight, each, Aim, ended, broken}
+use Rattle.checker_account.specs.Views.{views}
 use Rattle.checker_account.specs.Written.{next, Written}
 use Rattle.checker_account.specs.Least.{Entries, Begun, Aimed, at-end, at-break, Rule, Least, Less, Idle, Leads, PassesAll, ending}
 use Rattle.checker_account.proofs.Scoped.{Scoped}
 use Rattle.checker_account.proofs.Ahead.{Root, hits-exact}
 use Rattle.checker_account.proofs.Writing.{Given, given-child, given-fresh, written-length}
 use Rattle.checker_account.proofs.Complete.{written-struck}
-use Rattle.checker_account.proofs.Exact.{shortest-complete, all-longer}
-use Rattle.checker_account.proofs.BegunLaws.{moves-states, begun-root, begun-other, begun-opened, begun-own, begun-ended}
+use Rattle.checker_account.proofs.RendersLaws.{root-written}
+use Rattle.checker_account.proofs.SightsLaws.{Sights, shortest-sights, all-longer-sights}
+use Rattle.checker_account.proofs.BegunLaws.{moves-states, Keeps, begun-root, begun-new, begun-opened, begun-ended}
 use Rattle.checker_account.proofs.Reading.{passes-all, goes-still, found}
 
-module _ (local : Bool) (es : List Edge) (ns : List Node) (p x : ℕ) where
+module _ (local : Bool) (es : List Edge) (ns : List Node) (p : ℕ) (S : Sight) where
   -- ── What is written at a node that k leads to is written at k ──
 
-  written-in : {n m : ℕ} {o : Bool} {k : ℕ} {names : Names} {w : ℕ} {c : Bool} {q : ℕ} {past : Past} {t : Aim} {after : Past} → n ≡ m
-      → Written local es ns p x n o k names w c q past t after → Written local es ns p x m o k names w c q past t after
+  written-in : {n m : ℕ} {o : Bool} {k : ℕ} {names : Names} {w : S .Meaning} {c : S .Left} {q : ℕ} {past : Past} {t : Aim
+      (S .Left)} {after : Past} → n ≡ m
+      → Written local es ns p S n o k names w c q past t after → Written local es ns p S m o k names w c q past t after
   written-in {o = o} {k = k} {names = names} {w = w} {c = c} {q = q} {past = past} {t = t} {after = after} e d =
-      subst (λ (n : ℕ). Written local es ns p x n o k names w c q past t after) e d
+      subst (λ (n : ℕ). Written local es ns p S n o k names w c q past t after) e d
 
-  pub idle-written : {o : Bool} {k : ℕ} {names : Names} {w : ℕ} {c : Bool} {q : ℕ} {past : Past} → Idle ns k
-      → Written local es ns p x 0 o k names w c q past (ended c q) past
+  pub idle-written : {o : Bool} {k : ℕ} {names : Names} {w : S .Meaning} {c : S .Left} {q : ℕ} {past : Past} → Idle ns k
+      → Written local es ns p S 0 o k names w c q past (ended c q) past
   idle-written (Idle.ends i) = Written.ends i
   idle-written (Idle.sequences i d f) = written-in (omega arith) (Written.sequences i (idle-written d) (idle-written f))
   idle-written (Idle.chooses-left i d) = Written.chooses-left i (idle-written d)
@@ -43,16 +46,18 @@ module _ (local : Bool) (es : List Edge) (ns : List Node) (p x : ℕ) where
   idle-written (Idle.enters i d) = Written.enters i (idle-written d)
   idle-written (Idle.repeats i d) = Written.repeats i (idle-written d)
 
-  first-written : {n : ℕ} {o : Bool} {k a b : ℕ} {names : Names} {w : ℕ} {c : Bool} {q : ℕ} {past : Past} {after : Past} (t : Aim)
+  first-written : {n : ℕ} {o : Bool} {k a b : ℕ} {names : Names} {w : S .Meaning} {c : S .Left} {q : ℕ} {past : Past} {after : Past}
+      (t : Aim (S .Left))
       → Is ns k (sequence a b)
-      → (ending t ≡ true → Idle ns b) → Written local es ns p x n o a names w c q past t after
-      → Written local es ns p x n o k names w c q past t after
+      → (ending t ≡ true → Idle ns b) → Written local es ns p S n o a names w c q past t after
+      → Written local es ns p S n o k names w c q past t after
   first-written (ended c q) i idle d = written-in (omega arith) (Written.sequences i d (idle-written (idle refl)))
   first-written (broken u) i idle d = Written.breaks-first i d
 
-  leads-written : {n : ℕ} {o : Bool} {k j : ℕ} {names : Names} {w : ℕ} {c : Bool} {q : ℕ} {past : Past} {after : Past} (t : Aim)
+  leads-written : {n : ℕ} {o : Bool} {k j : ℕ} {names : Names} {w : S .Meaning} {c : S .Left} {q : ℕ} {past : Past} {after : Past}
+      (t : Aim (S .Left))
       → Leads ns (ending t) k j
-      → Written local es ns p x n o j names w c q past t after → Written local es ns p x n o k names w c q past t after
+      → Written local es ns p S n o j names w c q past t after → Written local es ns p S n o k names w c q past t after
   leads-written t (Leads.first i idle) d = first-written t i idle d
   leads-written t (Leads.second i idle) d = written-in (omega arith) (Written.sequences i (idle-written idle) d)
   leads-written t (Leads.left i) d = Written.chooses-left i d
@@ -60,37 +65,40 @@ module _ (local : Bool) (es : List Edge) (ns : List Node) (p x : ℕ) where
   leads-written t (Leads.body i) d = Written.enters i d
   leads-written t (Leads.again i) d = Written.repeats i d
 
-  pub passes-written : {n : ℕ} {o : Bool} {k j : ℕ} {names : Names} {w : ℕ} {c : Bool} {q : ℕ} {past : Past} {after : Past} (t : Aim)
+  pub passes-written : {n : ℕ} {o : Bool} {k j : ℕ} {names : Names} {w : S .Meaning} {c : S .Left} {q : ℕ} {past : Past} {after : Past}
+      (t : Aim (S .Left))
       → PassesAll ns (ending t) k j
-      → Written local es ns p x n o j names w c q past t after → Written local es ns p x n o k names w c q past t after
+      → Written local es ns p S n o j names w c q past t after → Written local es ns p S n o k names w c q past t after
   passes-written t PassesAll.here d = d
   passes-written t (PassesAll.on l s) d = leads-written t l (passes-written t s d)
 
-  module _ (scope : ℕ → ℕ → Type 0) (edges : EdgesOk es) (outline : Scoped ns scope) where
+  module _ (keeps : Keeps S) (scope : ℕ → ℕ → Type 0) (edges : EdgesOk es) (outline : Scoped ns scope) where
     abbrev Names-at : ℕ → Names → Type 0
-    Names-at k names = Given local es ns p x scope outline k names
+    Names-at k names = Given local es ns p S scope outline k names
 
     leads-given : {whole : Bool} {k j : ℕ} {names : Names} → Leads ns whole k j → Names-at k names → Names-at j names
-    leads-given (Leads.first {k = k} {a = a} i idle) g = given-child local es ns p x scope outline k a (outline .first i) g
-    leads-given (Leads.second {k = k} {b = b} i idle) g = given-child local es ns p x scope outline k b (outline .second i) g
-    leads-given (Leads.left {k = k} {a = a} i) g = given-child local es ns p x scope outline k a (outline .left i) g
-    leads-given (Leads.right {k = k} {b = b} i) g = given-child local es ns p x scope outline k b (outline .right i) g
-    leads-given (Leads.body {k = k} {a = a} i) g = given-child local es ns p x scope outline k a (outline .body i) g
-    leads-given (Leads.again {k = k} {a = a} i) g = given-child local es ns p x scope outline k a (outline .again i) g
+    leads-given (Leads.first {k = k} {a = a} i idle) g = given-child local es ns p S scope outline k a (outline .first i) g
+    leads-given (Leads.second {k = k} {b = b} i idle) g = given-child local es ns p S scope outline k b (outline .second i) g
+    leads-given (Leads.left {k = k} {a = a} i) g = given-child local es ns p S scope outline k a (outline .left i) g
+    leads-given (Leads.right {k = k} {b = b} i) g = given-child local es ns p S scope outline k b (outline .right i) g
+    leads-given (Leads.body {k = k} {a = a} i) g = given-child local es ns p S scope outline k a (outline .body i) g
+    leads-given (Leads.again {k = k} {a = a} i) g = given-child local es ns p S scope outline k a (outline .again i) g
 
     passes-given : {whole : Bool} {k j : ℕ} {names : Names} → PassesAll ns whole k j → Names-at k names → Names-at j names
     passes-given {names = names} s g = passes-all (λ (i : ℕ). Names-at i names) (λ a b h l. leads-given l h) g s
 
-    module _ (cap : ℕ) (E : Entries) (h : Least local es ns p x cap E) where
+    module _ (cap : ℕ) (E : Entries (S .Meaning) (S .Left)) (h : Least local es ns p S cap E) where
       -- every entry of fewer steps than this can be written
       abbrev Writes : ℕ → Type 0
-      Writes most = (n : ℕ) (o : Bool) (k w : ℕ) (c : Bool) (q : ℕ) (t : Aim) → n < most → Begun x w c q → Aimed t → E n o k w c q t
-          → (names : Names) → Names-at k names → (past : Past) → (after : Past) × Written local es ns p x n o k names w c q past t after
+      Writes most = (n : ℕ) (o : Bool) (k : ℕ) (w : S .Meaning) (c : S .Left) (q : ℕ) (t : Aim (S .Left)) → n < most → Begun S w c q
+          → Aimed t → E n o k w c q t
+          → (names : Names) → Names-at k names → (past : Past) → (after : Past) × Written local es ns p S n o k names w c q past t after
 
       -- one rule, the entries of which can be written
-      by-rule : {most n : ℕ} {o : Bool} {k w : ℕ} {c : Bool} {q : ℕ} {t : Aim} → Writes most → Begun x w c q → Aimed t
-          → Rule local es ns p x (Less most E) n o k w c q t
-          → (names : Names) → Names-at k names → (past : Past) → (after : Past) × Written local es ns p x n o k names w c q past t after
+      by-rule : {most n : ℕ} {o : Bool} {k : ℕ} {w : S .Meaning} {c : S .Left} {q : ℕ} {t : Aim (S .Left)} → Writes most → Begun S w c q
+          → Aimed t
+          → Rule local es ns p S (Less most E) n o k w c q t
+          → (names : Names) → Names-at k names → (past : Past) → (after : Past) × Written local es ns p S n o k names w c q past t after
       by-rule r b a (Rule.ends i) names g past = (past, Written.ends i)
       by-rule r b a (Rule.fires-static i v) names g past = (_, Written.fires-static i v)
       by-rule r b a (Rule.fires-name {m = m} i v) names g past = let (s, e) = g m (outline .used i) in (_, Written.fires-name i e v)
@@ -98,50 +106,45 @@ module _ (local : Bool) (es : List Edge) (ns : List Node) (p x : ℕ) where
           t} i (l₁, e₁) (l₂, e₂)) names g past =
           let d = h .lengths .sound b at-end e₁ in
           let (mid, u) =
-          r n₁ o a₁ w c q (ended c₁ q₁) l₁ b at-end e₁ names (given-child local es ns p x scope outline k a₁ (outline .first i) g) past in
+          r n₁ o a₁ w c q (ended c₁ q₁) l₁ b at-end e₁ names (given-child local es ns p S scope outline k a₁ (outline .first i) g) past in
           let (after, v) =
-          r n₂ o b₁ w c₁ q₁ t l₂ (begun-ended local es ns p x edges b d) a e₂ names
-          (given-child local es ns p x scope outline k b₁ (outline .second i) g) mid in
+          r n₂ o b₁ w c₁ q₁ t l₂ (begun-ended local es ns p S edges keeps b d) a e₂ names
+          (given-child local es ns p S scope outline k b₁ (outline .second i) g) mid in
           (after, Written.sequences i u v)
       by-rule r b a (Rule.chooses-left {n = n} {k = k} {w = w} {q = q} {a = a₁} {o = o} {c = c} {t = t} i (l, e)) names g past =
-          let (after, u) = r n o a₁ w c q t l b a e names (given-child local es ns p x scope outline k a₁ (outline .left i) g) past in
+          let (after, u) = r n o a₁ w c q t l b a e names (given-child local es ns p S scope outline k a₁ (outline .left i) g) past in
           (after, Written.chooses-left i u)
       by-rule r b a (Rule.chooses-right {n = n} {k = k} {w = w} {q = q} {b = b₁} {o = o} {c = c} {t = t} i (l, e)) names g past =
-          let (after, u) = r n o b₁ w c q t l b a e names (given-child local es ns p x scope outline k b₁ (outline .right i) g) past in
+          let (after, u) = r n o b₁ w c q t l b a e names (given-child local es ns p S scope outline k b₁ (outline .right i) g) past in
           (after, Written.chooses-right i u)
       by-rule r b a (Rule.enters {n = n} {k = k} {w = w} {q = q} {a = a₁} {o = o} {c = c} {t = t} i (l, e)) names g past =
-          let (after, u) = r n o a₁ w c q t l b a e names (given-child local es ns p x scope outline k a₁ (outline .body i) g) past in
+          let (after, u) = r n o a₁ w c q t l b a e names (given-child local es ns p S scope outline k a₁ (outline .body i) g) past in
           (after, Written.enters i u)
       by-rule r b a (Rule.repeats {n = n} {k = k} {w = w} {q = q} {a = a₁} {o = o} {c = c} {t = t} i (l, e)) names g past =
-          let (after, u) = r n o a₁ w c q t l b a e names (given-child local es ns p x scope outline k a₁ (outline .again i) g) past in
+          let (after, u) = r n o a₁ w c q t l b a e names (given-child local es ns p S scope outline k a₁ (outline .again i) g) past in
           (after, Written.repeats i u)
-      by-rule r b a (Rule.creates-other {n = n} {k = k} {m = m} {b = b₁} {q₁ = q₁} {t = t} i v (l, e)) names g past =
-          let (after, u) = r n _ b₁ _ _ q₁ t l (begun-other b m q₁ (moves-states edges v (b .state))) a e (give names m (next past))
-          (given-fresh local es ns p x scope outline k m (next past) b₁ (outline .given i) g) (event create (next past) ∷ past) in
-          (after, Written.creates-other i v u)
-      by-rule r b a (Rule.creates-own {n = n} {k = k} {m = m} {b = b₁} {q₁ = q₁} {t = t} i v (l, e)) names g past =
-          let (after, u) = r n _ b₁ m true q₁ t l (begun-own b m q₁ (outline .fresh-small i) (moves-states edges v (b .state))) a e
+      by-rule r b a (Rule.makes {n = n} {k = k} {m = m} {b = b₁} {q₁ = q₁} {t = t} i y v (l, e)) names g past =
+          let (after, u) = r n _ b₁ _ _ q₁ t l (begun-new keeps b q₁ (outline .fresh-small i) y (moves-states edges v (b .state))) a e
           (give names m (next past))
-          (given-fresh local es ns p x scope outline k m (next past) b₁ (outline .given i) g) (event create (next past) ∷ past) in
-          (after, Written.creates-own i v u)
+          (given-fresh local es ns p S scope outline k m (next past) b₁ (outline .given i) g) (event create (next past) ∷ past) in
+          (after, Written.makes i y v u)
       by-rule r b a (Rule.sandboxes {n = n} {k = k} {s = s} {b = b₁} {o = o} i (l, e)) names g past =
           let (after, u) =
           r n _ b₁ _ _ _ _ l (begun-opened b local p s o) at-end e names
-          (given-child local es ns p x scope outline k b₁ (outline .inside i) g) (opening s ∷ past) in
+          (given-child local es ns p S scope outline k b₁ (outline .inside i) g) (opening s ∷ past) in
           (_, Written.sandboxes i u)
       by-rule r b a (Rule.breaks-static i v f z) names g past = (_, Written.breaks-static i v f z)
       by-rule r b a (Rule.breaks-name {m = m} i v f z) names g past =
           let (s, e) = g m (outline .used i) in (_, Written.breaks-name i e v f z)
-      by-rule r b a (Rule.breaks-other i v f z) names g past = (_, Written.breaks-other i v f z)
-      by-rule r b a (Rule.breaks-own i v f z) names g past = (_, Written.breaks-own i v f z)
+      by-rule r b a (Rule.breaks-fresh i y v f z) names g past = (_, Written.breaks-fresh i y v f z)
       by-rule r b a (Rule.breaks-opening i f z) names g past = (_, Written.breaks-opening i f z)
       by-rule r b a (Rule.breaks-first {n = n} {k = k} {w = w} {q = q} {a = a₁} {o = o} {c = c} {u = u} i (l, e)) names g past =
           let (after, d) = r n o a₁ w c q (broken u) l b a e names
-          (given-child local es ns p x scope outline k a₁ (outline .first i) g) past in (after, Written.breaks-first i d)
+          (given-child local es ns p S scope outline k a₁ (outline .first i) g) past in (after, Written.breaks-first i d)
       by-rule r b a (Rule.breaks-inside {n = n} {k = k} {s = s} {b = b₁} {o = o} {u = u} i (l, e)) names g past =
           let (after, d) =
           r n _ b₁ _ _ _ (broken u) l (begun-opened b local p s o) a e names
-          (given-child local es ns p x scope outline k b₁ (outline .inside i) g) (opening s ∷ past) in
+          (given-child local es ns p S scope outline k b₁ (outline .inside i) g) (opening s ∷ past) in
           (after, Written.breaks-inside i d)
 
       -- An entry of no step writes nothing. Any other: a node that k leads to with no step, and there a rule whose entries have fewer
@@ -150,17 +153,17 @@ module _ (local : Bool) (es : List Edge) (ns : List Node) (p x : ℕ) where
       reads zero n o k w c q t l b a e names g past = absurd (omega arith)
       reads (suc most) n o k w c q t l b a e names g past = go (ℕ-discrete n 0) (λ m o k w c q t s. reads most m o k w c q t (omega arith))
         where
-          fewer : Writes n → 1 ≤ n → (after : Past) × Written local es ns p x n o k names w c q past t after
+          fewer : Writes n → 1 ≤ n → (after : Past) × Written local es ns p S n o k names w c q past t after
           fewer r s =
-              let on = found local es ns p x scope edges outline cap E h b a e s in
+              let on = found local es ns p S keeps scope edges outline cap E h b a e s in
               let (after, u) = by-rule r b a (on .rule) names (passes-given (on .passes) g) past in
               (after, passes-written t (on .passes) u)
 
-          go : Dec (n ≡ 0) → Writes n → (after : Past) × Written local es ns p x n o k names w c q past t after
+          go : Dec (n ≡ 0) → Writes n → (after : Past) × Written local es ns p S n o k names w c q past t after
           go (yes f) r =
-              let s = goes-still local es ns p x (h .lengths .sound b a e) f in (
+              let s = goes-still local es ns p S (h .lengths .sound b a e) f in (
                 past,
-                subst (λ (u : Aim). Written local es ns p x n o k names w c q past u past) (sym (s .same))
+                subst (λ (u : Aim (S .Left)). Written local es ns p S n o k names w c q past u past) (sym (s .same))
                     (written-in (sym f) (idle-written (s .idle))),
               )
           go (no d) r = fewer r (omega arith)
@@ -168,14 +171,24 @@ module _ (local : Bool) (es : List Edge) (ns : List Node) (p x : ℕ) where
 -- ── What L1 asks for ──
 
 module _ (local : Bool) (es : List Edge) (ns : List Node) (scope : ℕ → ℕ → Type 0) (p : ℕ) (edges : EdgesOk es)
-    (outline : Scoped ns scope) where
-  -- What is written from the root on is shown, where no watched resource gives fewer steps.
-  pub written-shown : {x n : ℕ} {after : Past} → x ≤ watched
-      → Written local es ns p x n false 0 noNames noName (ltb x statics) 0 [] (broken none) after → n ≤ mostShown
-      → ((y m : ℕ) → y ≤ watched → Root local es ns p y m none → n ≤ m) → Shown local es ns p (some after)
-  written-shown {x} {n} {after} small u few low =
-      let d = written-struck local es ns p x scope edges outline small u in
-      let e : length after ≡ n = written-length local es ns p x u ∙ zero-steps in
+    (outline : Scoped ns scope) (all : Sights es p) where
+  -- what some sight tells of from the root on
+  abbrev pub RootAt : all .Choice → ℕ → Type 0
+  RootAt i n = Root local es ns p (all .sight i) n none
+
+  abbrev pub WrittenAt : all .Choice → ℕ → Past → Type 0
+  WrittenAt i n after =
+      Written local es ns p (all .sight i) n false 0 noNames (all .sight i .first-meaning) (all .sight i .first-left) 0 []
+      (broken none) after
+
+  -- What is written from the root on is shown, where no sight tells of fewer steps.
+  pub written-shown : (i : all .Choice) {n : ℕ} {after : Past} → WrittenAt i n after → n ≤ mostShown
+      → ((j : all .Choice) (m : ℕ) → RootAt j m → n ≤ m) → Shown local es ns p (some after)
+  written-shown i {n} {after} u few low =
+      let t = root-written local es ns p (all .sight i) (views (all .stand-ins i)) (all .keeps i) (all .renders i) edges
+      (record { used = outline .name-small; given = outline .fresh-small }) u in
+      let d = written-struck local es ns p (all .stand-ins i) scope edges outline (all .chosen i) t in
+      let e : length after ≡ n = written-length local es ns p (all .sight i) u ∙ zero-steps in
       subst (λ (t : Past). Shown local es ns p (some t)) (d .same)
       (this (record {
         trace = d .trace;
@@ -194,40 +207,40 @@ module _ (local : Bool) (es : List Edge) (ns : List Node) (scope : ℕ → ℕ �
       at-most : (past : Past) → length past ≡ n → (another : Past) → IsTrace ns another → Violates local es p another
           → length past ≤ length another
       at-most past e another t v =
-          let (m, l, y, little, by, k) = shortest-complete local es ns scope p edges outline another t v in
-          omega (arith, low y m little (hits-exact local es ns p y m none .0 (by, each, k)))
+          let (m, l, j, by, k) = shortest-sights local es ns scope p edges outline all another t v in
+          omega (arith, low j m (hits-exact local es ns p (all .sight j) m none .0 (by, each, k)))
 
-  -- with a table of least lengths for each watched resource
-  module _ (E : ℕ → Entries) (h : (x : ℕ) → x ≤ watched → Least local es ns p x mostShown (E x)) where
+  -- with a table of least lengths for each sight
+  module _ (E : (i : all .Choice) → Entries (all .sight i .Meaning) (all .sight i .Left))
+      (h : (i : all .Choice) → Least local es ns p (all .sight i) mostShown (E i)) where
     -- the entry of the root
-    abbrev Told : ℕ → ℕ → Type 0
-    Told x n = E x n false 0 noName (ltb x statics) 0 (broken none)
+    abbrev Told : all .Choice → ℕ → Type 0
+    Told i n = E i n false 0 (all .sight i .first-meaning) (all .sight i .first-left) 0 (broken none)
 
-    told-least : {n : ℕ} → ((y m : ℕ) → y ≤ watched → Told y m → n ≤ m) → n ≤ mostShown → (y m : ℕ) → y ≤ watched
-        → Root local es ns p y m none → n ≤ m
-    told-least {n} low few y m little d = go (decLe m mostShown)
+    told-least : {n : ℕ} → ((j : all .Choice) (m : ℕ) → Told j m → n ≤ m) → n ≤ mostShown → (j : all .Choice) (m : ℕ) → RootAt j m → n ≤ m
+    told-least {n} low few j m d = go (decLe m mostShown)
       where
         go : Dec (m ≤ mostShown) → n ≤ m
-        go (yes l) = let (i, j, e) = h y little .full (begun-root y) at-break d l in omega (arith, low y i little e)
+        go (yes l) = let (k, s, e) = h j .full (begun-root (all .keeps j)) at-break d l in omega (arith, low j k e)
         go (no l) = omega arith
 
-    pub tables-shown : {x n : ℕ} → x ≤ watched → Told x n → ((y m : ℕ) → y ≤ watched → Told y m → n ≤ m)
+    pub tables-shown : (i : all .Choice) {n : ℕ} → Told i n → ((j : all .Choice) (m : ℕ) → Told j m → n ≤ m)
         → (after : Past) × Shown local es ns p (some after) × (length after ≡ n)
-    tables-shown {x} {n} small e low =
-        let few = h x small .lengths .capped e in
-        let (after, u) = reads local es ns p x scope edges outline mostShown (E x) (h x small) (suc n) n false 0 noName (ltb x statics) 0
-        (broken none) (omega arith)
-        (begun-root x) at-break e noNames (λ m s. absurd (outline .root s)) [] in
-        (after, written-shown small u few (told-least low few), written-length local es ns p x u ∙ zero-steps)
+    tables-shown i {n} e low =
+        let few = h i .lengths .capped e in
+        let (after, u) = reads local es ns p (all .sight i) (all .keeps i) scope edges outline mostShown (E i) (h i) (suc n) n false 0
+        (all .sight i .first-meaning) (all .sight i .first-left) 0 (broken none) (omega arith)
+        (begun-root (all .keeps i)) at-break e noNames (λ m s. absurd (outline .root s)) [] in
+        (after, written-shown i u few (told-least low few), written-length local es ns p (all .sight i) u ∙ zero-steps)
       where
         zero-steps : length {A = Step} [] + n ≡ n
         zero-steps = omega arith
 
-    pub tables-longer : ((y m : ℕ) → y ≤ watched → Told y m → ⊥) → Shown local es ns p none
+    pub tables-longer : ((j : all .Choice) (m : ℕ) → Told j m → ⊥) → Shown local es ns p none
     tables-longer never =
-        all-longer local es ns scope p edges outline
-        (λ y m by little k. go y m little (hits-exact local es ns p y m none .0 (by, each, k)) (decLe m mostShown))
+        all-longer-sights local es ns scope p edges outline all
+        (λ j m by k. go j m (hits-exact local es ns p (all .sight j) m none .0 (by, each, k)) (decLe m mostShown))
       where
-        go : (y m : ℕ) → y ≤ watched → Root local es ns p y m none → Dec (m ≤ mostShown) → mostShown < m
-        go y m little d (yes l) = let (i, j, e) = h y little .full (begun-root y) at-break d l in absurd (never y i little e)
-        go y m little d (no l) = omega arith
+        go : (j : all .Choice) (m : ℕ) → RootAt j m → Dec (m ≤ mostShown) → mostShown < m
+        go j m d (yes l) = let (k, s, e) = h j .full (begun-root (all .keeps j)) at-break d l in absurd (never j k e)
+        go j m d (no l) = omega arith

@@ -12,16 +12,16 @@ use Rattle.usage.specs.declared.Node.{Node}
 use Rattle.usage.specs.Policy.{EdgesOk}
 use Rattle.usage.specs.Outline.{Is, sequence}
 use Rattle.usage.proofs.Logic.{clash, false-true}
-use Rattle.checker_account.specs.Witness.{Last, Aim, ended, broken, Goes}
+use Rattle.checker_account.specs.Witness.{Sight, Last, Aim, ended, broken, Goes}
 use Rattle.checker_account.specs.Least.{Entries, Begun, Aimed, at-end, Rule, Least, Less, Idle, Leads, PassesAll, ending, Onto}
 use Rattle.checker_account.proofs.Scoped.{Scoped}
 use Rattle.checker_account.proofs.Ahead.{goes-in}
-use Rattle.checker_account.proofs.BegunLaws.{moves-states, begun-other, begun-opened, begun-own, begun-ended}
+use Rattle.checker_account.proofs.BegunLaws.{moves-states, Keeps, begun-new, begun-opened, begun-ended}
 
-same-made : (c c′ : Bool) (q q′ : ℕ) → ended c q ≡ ended c′ q′ → c ≡ c′
-same-made c c′ q q′ e = cc
+same-left : {L : Type 0} (c c′ : L) (q q′ : ℕ) → ended c q ≡ ended c′ q′ → c ≡ c′
+same-left c c′ q q′ e = cc
 
-same-state : (c c′ : Bool) (q q′ : ℕ) → ended c q ≡ ended c′ q′ → q ≡ q′
+same-state : {L : Type 0} (c c′ : L) (q q′ : ℕ) → ended c q ≡ ended c′ q′ → q ≡ q′
 same-state c c′ q q′ e = cc
 
 one-more : (n : ℕ) → n < suc n
@@ -30,7 +30,7 @@ one-more n = omega arith
 two-more : (n : ℕ) → n < suc (suc n)
 two-more n = omega arith
 
-never-both : {A : Type 0} {u : Option Last} {c : Bool} {q : ℕ} → broken u ≡ ended c q → A
+never-both : {A L : Type 0} {u : Option Last} {c : L} {q : ℕ} → broken u ≡ ended c q → A
 never-both e = clash (cc)
 
 -- what holds of k, and of whatever a node leads to that it holds of, holds of all that k leads to; and one more move
@@ -43,23 +43,24 @@ pub passes-more : {ns : List Node} {whole : Bool} {k i j : ℕ} → PassesAll ns
 passes-more PassesAll.here l = PassesAll.on l PassesAll.here
 passes-more (PassesAll.on m s) l = PassesAll.on m (passes-more s l)
 
-module _ (local : Bool) (es : List Edge) (ns : List Node) (p x : ℕ) where
+module _ (local : Bool) (es : List Edge) (ns : List Node) (p : ℕ) (S : Sight) where
   -- ── Nodes that take no step ──
 
-  idle-goes : {o : Bool} {k w : ℕ} {c : Bool} {q : ℕ} → Idle ns k → Goes local es ns p x 0 o k w c q (ended c q)
+  idle-goes : {o : Bool} {k : ℕ} {w : S .Meaning} {c : S .Left} {q : ℕ} → Idle ns k → Goes local es ns p S 0 o k w c q (ended c q)
   idle-goes (Idle.ends i) = Goes.ends i
-  idle-goes (Idle.sequences i d f) = goes-in local es ns p x (omega arith) (Goes.sequences i (idle-goes d) (idle-goes f))
+  idle-goes (Idle.sequences i d f) = goes-in local es ns p S (omega arith) (Goes.sequences i (idle-goes d) (idle-goes f))
   idle-goes (Idle.chooses-left i d) = Goes.chooses-left i (idle-goes d)
   idle-goes (Idle.chooses-right i d) = Goes.chooses-right i (idle-goes d)
   idle-goes (Idle.enters i d) = Goes.enters i (idle-goes d)
   idle-goes (Idle.repeats i d) = Goes.repeats i (idle-goes d)
 
   -- a node that takes no step leaves (c, q) as it is
-  pub record Still (k : ℕ) (c : Bool) (q : ℕ) (t : Aim) : Type 0 where
+  pub record Still (k : ℕ) (c : S .Left) (q : ℕ) (t : Aim (S .Left)) : Type 0 where
     pub idle : Idle ns k
     pub same : t ≡ ended c q
 
-  pub goes-still : {n : ℕ} {o : Bool} {k w : ℕ} {c : Bool} {q : ℕ} {t : Aim} → Goes local es ns p x n o k w c q t → n ≡ 0 → Still k c q t
+  pub goes-still : {n : ℕ} {o : Bool} {k : ℕ} {w : S .Meaning} {c : S .Left} {q : ℕ} {t : Aim (S .Left)}
+      → Goes local es ns p S n o k w c q t → n ≡ 0 → Still k c q t
   goes-still (Goes.ends i) e = record { idle = Idle.ends i; same = refl }
   goes-still (Goes.fires-static i v) e = absurd (omega arith)
   goes-still (Goes.fires-name i v) e = absurd (omega arith)
@@ -71,81 +72,83 @@ module _ (local : Bool) (es : List Edge) (ns : List Node) (p x : ℕ) where
   goes-still (Goes.chooses-right i d) e = let a = goes-still d e in record { idle = Idle.chooses-right i (a .idle); same = a .same }
   goes-still (Goes.enters i d) e = let a = goes-still d e in record { idle = Idle.enters i (a .idle); same = a .same }
   goes-still (Goes.repeats i d) e = let a = goes-still d e in record { idle = Idle.repeats i (a .idle); same = a .same }
-  goes-still (Goes.creates-other i v d) e = absurd (omega arith)
-  goes-still (Goes.creates-own i v d) e = absurd (omega arith)
+  goes-still (Goes.makes i y v d) e = absurd (omega arith)
   goes-still (Goes.sandboxes i d) e = absurd (omega arith)
   goes-still (Goes.breaks-static i v f z) e = absurd (omega arith)
   goes-still (Goes.breaks-name i v f z) e = absurd (omega arith)
-  goes-still (Goes.breaks-other i v f z) e = absurd (omega arith)
-  goes-still (Goes.breaks-own i v f z) e = absurd (omega arith)
+  goes-still (Goes.breaks-fresh i y v f z) e = absurd (omega arith)
   goes-still (Goes.breaks-opening i f z) e = absurd (omega arith)
   goes-still (Goes.breaks-first i d) e = let a = goes-still d e in never-both (a .same)
   goes-still (Goes.breaks-inside i d) e = absurd (omega arith)
 
   -- ── Nodes that lead to another with no step ──
 
-  first-goes : {n : ℕ} {o : Bool} {k a b w : ℕ} {c : Bool} {q : ℕ} (t : Aim) → Is ns k (sequence a b) → (ending t ≡ true → Idle ns b)
-      → Goes local es ns p x n o a w c q t → Goes local es ns p x n o k w c q t
-  first-goes (ended c q) i idle d = goes-in local es ns p x (omega arith) (Goes.sequences i d (idle-goes (idle refl)))
+  first-goes : {n : ℕ} {o : Bool} {k a b : ℕ} {w : S .Meaning} {c : S .Left} {q : ℕ} (t : Aim (S .Left)) → Is ns k (sequence a b)
+      → (ending t ≡ true → Idle ns b)
+      → Goes local es ns p S n o a w c q t → Goes local es ns p S n o k w c q t
+  first-goes (ended c q) i idle d = goes-in local es ns p S (omega arith) (Goes.sequences i d (idle-goes (idle refl)))
   first-goes (broken u) i idle d = Goes.breaks-first i d
 
-  leads-goes : {n : ℕ} {o : Bool} {k j w : ℕ} {c : Bool} {q : ℕ} (t : Aim) → Leads ns (ending t) k j → Goes local es ns p x n o j w c q t
-      → Goes local es ns p x n o k w c q t
+  leads-goes : {n : ℕ} {o : Bool} {k j : ℕ} {w : S .Meaning} {c : S .Left} {q : ℕ} (t : Aim (S .Left)) → Leads ns (ending t) k j
+      → Goes local es ns p S n o j w c q t
+      → Goes local es ns p S n o k w c q t
   leads-goes t (Leads.first i idle) d = first-goes t i idle d
-  leads-goes t (Leads.second i idle) d = goes-in local es ns p x (omega arith) (Goes.sequences i (idle-goes idle) d)
+  leads-goes t (Leads.second i idle) d = goes-in local es ns p S (omega arith) (Goes.sequences i (idle-goes idle) d)
   leads-goes t (Leads.left i) d = Goes.chooses-left i d
   leads-goes t (Leads.right i) d = Goes.chooses-right i d
   leads-goes t (Leads.body i) d = Goes.enters i d
   leads-goes t (Leads.again i) d = Goes.repeats i d
 
-  passes-goes : {n : ℕ} {o : Bool} {k j w : ℕ} {c : Bool} {q : ℕ} (t : Aim) → PassesAll ns (ending t) k j
-      → Goes local es ns p x n o j w c q t
-      → Goes local es ns p x n o k w c q t
+  passes-goes : {n : ℕ} {o : Bool} {k j : ℕ} {w : S .Meaning} {c : S .Left} {q : ℕ} (t : Aim (S .Left)) → PassesAll ns (ending t) k j
+      → Goes local es ns p S n o j w c q t
+      → Goes local es ns p S n o k w c q t
   passes-goes t PassesAll.here d = d
   passes-goes t (PassesAll.on l s) d = leads-goes t l (passes-goes t s d)
 
   -- ── A step is taken somewhere ──
 
   -- the same, told by equal numbers
-  onto-in : {E : Entries} {n n′ : ℕ} {o : Bool} {k w : ℕ} {c c′ : Bool} {q q′ : ℕ} {t : Aim} → n ≡ n′ → c ≡ c′ → q ≡ q′
-      → Onto local es ns p x E n o k w c q t → Onto local es ns p x E n′ o k w c′ q′ t
+  onto-in : {E : Entries (S .Meaning) (S .Left)} {n n′ : ℕ} {o : Bool} {k : ℕ} {w : S .Meaning} {c c′ : S .Left} {q q′ : ℕ} {t : Aim
+      (S .Left)} → n ≡ n′ → c ≡ c′ → q ≡ q′
+      → Onto local es ns p S E n o k w c q t → Onto local es ns p S E n′ o k w c′ q′ t
   onto-in {E} {n} {n′} {o} {k} {w} {c} {c′} {q} {q′} {t} e f g r =
-      subst (λ (i : ℕ). Onto local es ns p x E i o k w c′ q′ t) e
-      (subst (λ (i : Bool). Onto local es ns p x E n o k w i q′ t) f (subst (λ (i : ℕ). Onto local es ns p x E n o k w c i t) g r))
+      subst (λ (i : ℕ). Onto local es ns p S E i o k w c′ q′ t) e
+      (subst (λ (i : S .Left). Onto local es ns p S E n o k w i q′ t) f (subst (λ (i : ℕ). Onto local es ns p S E n o k w c i t) g r))
 
-  module _ {n₁ n₂ : ℕ} {o : Bool} {k a b w : ℕ} {c c₁ : Bool} {q q₁ : ℕ} {t : Aim} (i : Is ns k (sequence a b))
-      (d : Goes local es ns p x n₁ o a w c q (ended c₁ q₁)) (f : Goes local es ns p x n₂ o b w c₁ q₁ t)
-      (left : 1 ≤ n₁ → Onto local es ns p x (Goes local es ns p x) n₁ o a w c q (ended c₁ q₁))
-      (right : 1 ≤ n₂ → Onto local es ns p x (Goes local es ns p x) n₂ o b w c₁ q₁ t) (some-step : 1 ≤ n₁ + n₂) where
+  module _ {n₁ n₂ : ℕ} {o : Bool} {k a b : ℕ} {w : S .Meaning} {c c₁ : S .Left} {q q₁ : ℕ} {t : Aim (S .Left)} (i : Is ns k (sequence a b))
+      (d : Goes local es ns p S n₁ o a w c q (ended c₁ q₁)) (f : Goes local es ns p S n₂ o b w c₁ q₁ t)
+      (left : 1 ≤ n₁ → Onto local es ns p S (Goes local es ns p S) n₁ o a w c q (ended c₁ q₁))
+      (right : 1 ≤ n₂ → Onto local es ns p S (Goes local es ns p S) n₂ o b w c₁ q₁ t) (some-step : 1 ≤ n₁ + n₂) where
     -- the first node takes no step, the second none, or each takes fewer
-    acts-second : n₁ ≡ 0 → Onto local es ns p x (Goes local es ns p x) (n₁ + n₂) o k w c q t
+    acts-second : n₁ ≡ 0 → Onto local es ns p S (Goes local es ns p S) (n₁ + n₂) o k w c q t
     acts-second e =
         let s = goes-still d e in
         let m : n₂ ≡ n₁ + n₂ = omega arith in
-        let r = onto-in m (same-made c₁ c q₁ q (s .same)) (same-state c₁ c q₁ q (s .same)) (right (omega arith)) in
+        let r = onto-in m (same-left c₁ c q₁ q (s .same)) (same-state c₁ c q₁ q (s .same)) (right (omega arith)) in
         record { node = r .node; passes = PassesAll.on (Leads.second i (s .idle)) (r .passes); rule = r .rule }
 
-    acts-first : n₂ ≡ 0 → Onto local es ns p x (Goes local es ns p x) (n₁ + n₂) o k w c q t
+    acts-first : n₂ ≡ 0 → Onto local es ns p S (Goes local es ns p S) (n₁ + n₂) o k w c q t
     acts-first e =
         let s = goes-still f e in
-        let r = subst (λ (u : Aim). Onto local es ns p x (Goes local es ns p x) n₁ o a w c q u) (sym (s .same)) (left (omega arith)) in
+        let r = subst (λ (u : Aim (S .Left)). Onto local es ns p S (Goes local es ns p S) n₁ o a w c q u) (sym (s .same))
+        (left (omega arith)) in
         let m : n₁ ≡ n₁ + n₂ = omega arith in
         let v = onto-in m refl refl r in
         record { node = v .node; passes = PassesAll.on (Leads.first i (λ _. s .idle)) (v .passes); rule = v .rule }
 
-    acts-both : (n₁ ≡ 0 → ⊥) → (n₂ ≡ 0 → ⊥) → Onto local es ns p x (Goes local es ns p x) (n₁ + n₂) o k w c q t
+    acts-both : (n₁ ≡ 0 → ⊥) → (n₂ ≡ 0 → ⊥) → Onto local es ns p S (Goes local es ns p S) (n₁ + n₂) o k w c q t
     acts-both l m =
         let u : n₁ < n₁ + n₂ = omega arith in
         let v : n₂ < n₁ + n₂ = omega arith in
         record { node = k; passes = PassesAll.here; rule = Rule.sequences i (u, d) (v, f) }
 
-    acts-sequence : Dec (n₁ ≡ 0) → Dec (n₂ ≡ 0) → Onto local es ns p x (Goes local es ns p x) (n₁ + n₂) o k w c q t
+    acts-sequence : Dec (n₁ ≡ 0) → Dec (n₂ ≡ 0) → Onto local es ns p S (Goes local es ns p S) (n₁ + n₂) o k w c q t
     acts-sequence (yes e) h = acts-second e
     acts-sequence (no l) (yes e) = acts-first e
     acts-sequence (no l) (no m) = acts-both l m
 
-  acts : {n : ℕ} {o : Bool} {k w : ℕ} {c : Bool} {q : ℕ} {t : Aim} → Goes local es ns p x n o k w c q t → 1 ≤ n
-      → Onto local es ns p x (Goes local es ns p x) n o k w c q t
+  acts : {n : ℕ} {o : Bool} {k : ℕ} {w : S .Meaning} {c : S .Left} {q : ℕ} {t : Aim (S .Left)} → Goes local es ns p S n o k w c q t → 1 ≤ n
+      → Onto local es ns p S (Goes local es ns p S) n o k w c q t
   acts (Goes.ends i) l = absurd (omega arith)
   acts (Goes.fires-static {k = k} i v) l = record { node = k; passes = PassesAll.here; rule = Rule.fires-static i v }
   acts (Goes.fires-name {k = k} i v) l = record { node = k; passes = PassesAll.here; rule = Rule.fires-name i v }
@@ -161,15 +164,12 @@ module _ (local : Bool) (es : List Edge) (ns : List Node) (p x : ℕ) where
     passes = PassesAll.on (Leads.again i) (r .passes);
     rule = r .rule;
   }
-  acts (Goes.creates-other {n = n} {k = k} i v d) l =
-      record { node = k; passes = PassesAll.here; rule = Rule.creates-other i v (one-more n, d) }
-  acts (Goes.creates-own {n = n} {k = k} i v d) l =
-      record { node = k; passes = PassesAll.here; rule = Rule.creates-own i v (one-more n, d) }
+  acts (Goes.makes {n = n} {k = k} i y v d) l =
+      record { node = k; passes = PassesAll.here; rule = Rule.makes i y v (one-more n, d) }
   acts (Goes.sandboxes {n = n} {k = k} i d) l = record { node = k; passes = PassesAll.here; rule = Rule.sandboxes i (two-more n, d) }
   acts (Goes.breaks-static {k = k} i v f z) l = record { node = k; passes = PassesAll.here; rule = Rule.breaks-static i v f z }
   acts (Goes.breaks-name {k = k} i v f z) l = record { node = k; passes = PassesAll.here; rule = Rule.breaks-name i v f z }
-  acts (Goes.breaks-other {k = k} i v f z) l = record { node = k; passes = PassesAll.here; rule = Rule.breaks-other i v f z }
-  acts (Goes.breaks-own {k = k} i v f z) l = record { node = k; passes = PassesAll.here; rule = Rule.breaks-own i v f z }
+  acts (Goes.breaks-fresh {k = k} i y v f z) l = record { node = k; passes = PassesAll.here; rule = Rule.breaks-fresh i y v f z }
   acts (Goes.breaks-opening {k = k} i f z) l = record { node = k; passes = PassesAll.here; rule = Rule.breaks-opening i f z }
   acts (Goes.breaks-first i d) l =
       let r = acts d l in record { node = r .node; passes = PassesAll.on (Leads.first i (λ e. false-true e)) (r .passes); rule = r .rule }
@@ -178,30 +178,34 @@ module _ (local : Bool) (es : List Edge) (ns : List Node) (p x : ℕ) where
 
   -- ── From an entry to entries of fewer steps ──
 
-  module _ (scope : ℕ → ℕ → Type 0) (edges : EdgesOk es) (outline : Scoped ns scope) (cap : ℕ) (E : Entries)
-      (h : Least local es ns p x cap E) where
+  module _ (keeps : Keeps S) (scope : ℕ → ℕ → Type 0) (edges : EdgesOk es) (outline : Scoped ns scope) (cap : ℕ)
+      (E : Entries (S .Meaning) (S .Left))
+      (h : Least local es ns p S cap E) where
     -- an entry is not more than any length
-    pub entry-least : {n m : ℕ} {o : Bool} {k w : ℕ} {c : Bool} {q : ℕ} {t : Aim} → Begun x w c q → Aimed t → E n o k w c q t
-        → Goes local es ns p x m o k w c q t → n ≤ m
+    pub entry-least : {n m : ℕ} {o : Bool} {k : ℕ} {w : S .Meaning} {c : S .Left} {q : ℕ} {t : Aim (S .Left)} → Begun S w c q → Aimed t
+        → E n o k w c q t
+        → Goes local es ns p S m o k w c q t → n ≤ m
     entry-least {n} {m} {o} {k} {w} {c} {q} {t} b a e d = go (decLe m cap)
       where
         go : Dec (m ≤ cap) → n ≤ m
         go (yes l) = let (i, j, f) = h .full b a d l in omega (arith, h .lengths .one e f)
         go (no l) = omega (arith, h .lengths .capped e)
 
-    entry-in : {n m : ℕ} {o : Bool} {k w : ℕ} {c : Bool} {q : ℕ} {t : Aim} → n ≡ m → E n o k w c q t → E m o k w c q t
+    entry-in : {n m : ℕ} {o : Bool} {k : ℕ} {w : S .Meaning} {c : S .Left} {q : ℕ} {t : Aim (S .Left)} → n ≡ m → E n o k w c q t
+        → E m o k w c q t
     entry-in {o = o} {k = k} {w = w} {c = c} {q = q} {t = t} e d = subst (λ (n : ℕ). E n o k w c q t) e d
 
     -- the rule that a least derivation begins with, over the entries
-    entries : {n m : ℕ} {o : Bool} {k j w : ℕ} {c : Bool} {q : ℕ} {t : Aim} → Begun x w c q → Aimed t → E n o k w c q t
+    entries : {n m : ℕ} {o : Bool} {k j : ℕ} {w : S .Meaning} {c : S .Left} {q : ℕ} {t : Aim (S .Left)} → Begun S w c q → Aimed t
+        → E n o k w c q t
         → PassesAll ns (ending t) k j
-        → Rule local es ns p x (Less n (Goes local es ns p x)) m o j w c q t → m ≡ n → Rule local es ns p x (Less n E) m o j w c q t
+        → Rule local es ns p S (Less n (Goes local es ns p S)) m o j w c q t → m ≡ n → Rule local es ns p S (Less n E) m o j w c q t
     entries b a e s (Rule.ends i) f = Rule.ends i
     entries b a e s (Rule.fires-static i v) f = Rule.fires-static i v
     entries b a e s (Rule.fires-name i v) f = Rule.fires-name i v
     entries {n} {t = t} b a e s (Rule.sequences {n₁ = n₁} {n₂ = n₂} i (l₁, d₁) (l₂, d₂)) f =
         let top = h .lengths .capped e in
-        let b₁ = begun-ended local es ns p x edges b d₁ in
+        let b₁ = begun-ended local es ns p S edges keeps b d₁ in
         let (m₁, k₁, e₁) = h .full b at-end d₁ (omega arith) in
         let (m₂, k₂, e₂) = h .full b₁ a d₂ (omega arith) in
         let low = entry-least b a e (passes-goes t s (Goes.sequences i (h .lengths .sound b at-end e₁) (h .lengths .sound b₁ a e₂))) in
@@ -212,20 +216,13 @@ module _ (local : Bool) (es : List Edge) (ns : List Node) (p x : ℕ) where
     entries b a e s (Rule.chooses-right i (l, d)) f = absurd (omega arith)
     entries b a e s (Rule.enters i (l, d)) f = absurd (omega arith)
     entries b a e s (Rule.repeats i (l, d)) f = absurd (omega arith)
-    entries {n} {t = t} b a e s (Rule.creates-other {n = n₁} {m = m} {q₁ = q₁} i v (l, d)) f =
+    entries {n} {t = t} b a e s (Rule.makes {n = n₁} {q₁ = q₁} i y v (l, d)) f =
         let top = h .lengths .capped e in
-        let b₁ = begun-other b m q₁ (moves-states edges v (b .state)) in
+        let b₁ = begun-new keeps b q₁ (outline .fresh-small i) y (moves-states edges v (b .state)) in
         let (m₁, k₁, e₁) = h .full b₁ a d (omega arith) in
-        let low = entry-least b a e (passes-goes t s (Goes.creates-other i v (h .lengths .sound b₁ a e₁))) in
+        let low = entry-least b a e (passes-goes t s (Goes.makes i y v (h .lengths .sound b₁ a e₁))) in
         let same : m₁ ≡ n₁ = omega arith in
-        Rule.creates-other i v (l, entry-in same e₁)
-    entries {n} {t = t} b a e s (Rule.creates-own {n = n₁} {m = m} {q₁ = q₁} i v (l, d)) f =
-        let top = h .lengths .capped e in
-        let b₁ = begun-own b m q₁ (outline .fresh-small i) (moves-states edges v (b .state)) in
-        let (m₁, k₁, e₁) = h .full b₁ a d (omega arith) in
-        let low = entry-least b a e (passes-goes t s (Goes.creates-own i v (h .lengths .sound b₁ a e₁))) in
-        let same : m₁ ≡ n₁ = omega arith in
-        Rule.creates-own i v (l, entry-in same e₁)
+        Rule.makes i y v (l, entry-in same e₁)
     entries {n} {t = t} b a e s (Rule.sandboxes {n = n₁} {s = s₁} {o = o} i (l, d)) f =
         let top = h .lengths .capped e in
         let b₁ = begun-opened b local p s₁ o in
@@ -235,8 +232,7 @@ module _ (local : Bool) (es : List Edge) (ns : List Node) (p x : ℕ) where
         Rule.sandboxes i (l, entry-in same e₁)
     entries b a e s (Rule.breaks-static i v f z) g = Rule.breaks-static i v f z
     entries b a e s (Rule.breaks-name i v f z) g = Rule.breaks-name i v f z
-    entries b a e s (Rule.breaks-other i v f z) g = Rule.breaks-other i v f z
-    entries b a e s (Rule.breaks-own i v f z) g = Rule.breaks-own i v f z
+    entries b a e s (Rule.breaks-fresh i y v f z) g = Rule.breaks-fresh i y v f z
     entries b a e s (Rule.breaks-opening i f z) g = Rule.breaks-opening i f z
     entries b a e s (Rule.breaks-first i (l, d)) f = absurd (omega arith)
     entries {n} {t = t} b a e s (Rule.breaks-inside {n = n₁} {s = s₁} {o = o} i (l, d)) f =
@@ -248,14 +244,15 @@ module _ (local : Bool) (es : List Edge) (ns : List Node) (p x : ℕ) where
         Rule.breaks-inside i (l, entry-in same e₁)
 
     -- The key to reading: an entry of a step or more leads on to entries of fewer steps, which add up.
-    pub found : {n : ℕ} {o : Bool} {k w : ℕ} {c : Bool} {q : ℕ} {t : Aim} → Begun x w c q → Aimed t → E n o k w c q t → 1 ≤ n
-        → Onto local es ns p x E n o k w c q t
+    pub found : {n : ℕ} {o : Bool} {k : ℕ} {w : S .Meaning} {c : S .Left} {q : ℕ} {t : Aim (S .Left)} → Begun S w c q → Aimed t
+        → E n o k w c q t → 1 ≤ n
+        → Onto local es ns p S E n o k w c q t
     found b a e l =
         let r = acts (h .lengths .sound b a e) l in
         record { node = r .node; passes = r .passes; rule = entries b a e (r .passes) (r .rule) refl }
 
     -- the nodes that can end with no step are read from the table
-    pub idle-exact : {o : Bool} {k w : ℕ} {c : Bool} {q : ℕ} → Begun x w c q → E 0 o k w c q (ended c q) ↔ Idle ns k
+    pub idle-exact : {o : Bool} {k : ℕ} {w : S .Meaning} {c : S .Left} {q : ℕ} → Begun S w c q → E 0 o k w c q (ended c q) ↔ Idle ns k
     idle-exact {o} {k} {w} {c} {q} b = (
       λ e. goes-still (h .lengths .sound b at-end e) refl .idle,
       λ d. let (m, l, e) = h .full {o = o} b at-end (idle-goes d) (omega arith) in let z : m ≡ 0 = omega arith in entry-in z e,

@@ -3,7 +3,7 @@
 use Prim.Native.Nat.{ℕ, _<_, _≤_}
 use mathlib.Core.Path.{_≡_, refl, sym, ap, _∙_}
 use mathlib.Core.Bool.{Bool, true, false}
-use mathlib.Core.List.{List}
+use mathlib.Core.List.{List, [], _∷_}
 use mathlib.Core.Logic.{_↔_}
 use native.Mathlib.Omega.{arith}
 use lib.Dec.{eqb}
@@ -19,12 +19,12 @@ use Rattle.automaton.proofs.MoveLaws.{Own}
 use Rattle.checker_account.specs.Witness.{watched, others}
 use Rattle.checker_account.specs.Tables.{Rows}
 use Rattle.checker_account.specs.Holds.{Dynamic, RowsOk}
-use Rattle.checker_account.proofs.Carry.{Same, carry}
+use Rattle.checker_account.proofs.Carry.{Same, same-one, carry}
 
 -- the states that q moves to by the event a(r) of policy p
 pub record Image (es : List Edge) (p : ℕ) (image : ℕ → ℕ → Bool → ℕ → ℕ) : Type 0 where
   pub right : (x a r : ℕ) (mine : Bool) → Own x r mine → (q q′ : ℕ) → q < states → q′ < states
-      → (has (image a r mine q) q′ ≡ true) ↔ Moves es p a (Sees x r) q q′
+      → (has (image a r mine q) q′ ≡ true) ↔ Moves es p a (Sees (x ∷ []) r) q q′
 
 -- the rows are these sets, at each node with an event
 pub record RowsFrom (ns : List Node) (image : ℕ → ℕ → Bool → ℕ → ℕ) (rows : Rows) : Type 0 where
@@ -35,14 +35,12 @@ pub record RowsFrom (ns : List Node) (image : ℕ → ℕ → Bool → ℕ → �
 own-test : (x s : ℕ) → Own x s (eqb s x)
 own-test x s = record { is = eqb-true s x; not = eqb-false s x }
 
--- 17 is seen by 17 as x is by x, where no edge names x
-same-watched : (x : ℕ) → x ≡ watched → Same others others x x
-same-watched x e =
-    record { to = λ d. refl; «from» = λ d. refl; static-to = λ v l d. absurd (omega arith); static-from = λ v l d. absurd (omega arith) }
+-- 18 is seen by 18 as x is by x, where no edge names x
+same-watched : (x : ℕ) → x ≡ watched → Same (others ∷ []) others (x ∷ []) x
+same-watched x e = same-one (λ d. refl) (λ d. refl) (λ v l d. absurd (omega arith)) (λ v l d. absurd (omega arith))
 
-same-back : (x : ℕ) → x ≡ watched → Same x x others others
-same-back x e =
-    record { to = λ d. refl; «from» = λ d. refl; static-to = λ v l d. absurd (omega arith); static-from = λ v l d. absurd (omega arith) }
+same-back : (x : ℕ) → x ≡ watched → Same (x ∷ []) x (others ∷ []) others
+same-back x e = same-one (λ d. refl) (λ d. refl) (λ v l d. absurd (omega arith)) (λ v l d. absurd (omega arith))
 
 module _ (es : List Edge) (ns : List Node) (p x : ℕ) (rows : Rows) (image : ℕ → ℕ → Bool → ℕ → ℕ) (small : x ≤ watched) (edges : EdgesOk es)
     (right : Image es p image) (made : RowsFrom ns image rows) where

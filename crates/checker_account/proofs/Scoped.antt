@@ -4,9 +4,8 @@ use mathlib.Core.Path.{_≡_}
 use mathlib.Core.List.{List}
 use mathlib.Core.Logic.{_⊎_}
 use Rattle.usage.specs.declared.Node.{Node}
-use Rattle.usage.specs.Limits.{statics}
+use Rattle.usage.specs.Limits.{statics, mostNames}
 use Rattle.usage.specs.Outline.{Is, on-static, on-name, sequence, choice, loop, back, fresh, sandbox}
-use Rattle.checker_account.specs.Witness.{noName}
 
 -- `scope k m`: name m is in scope at node k. An event is no creation, a name is used in scope only, and going from a node to what runs
 -- next brings no name into scope but the one that a fresh node gives.
@@ -14,8 +13,8 @@ pub record Scoped (ns : List Node) (scope : ℕ → ℕ → Type 0) : Type 0 whe
   pub static-acts : {k a s : ℕ} → Is ns k (on-static a s) → 1 ≤ a
   pub name-acts : {k a n : ℕ} → Is ns k (on-name a n) → 1 ≤ a
   pub static-small : {k a s : ℕ} → Is ns k (on-static a s) → s < statics
-  pub name-small : {k a n : ℕ} → Is ns k (on-name a n) → n < noName
-  pub fresh-small : {k n b : ℕ} → Is ns k (fresh n b) → n < noName
+  pub name-small : {k a n : ℕ} → Is ns k (on-name a n) → n < mostNames
+  pub fresh-small : {k n b : ℕ} → Is ns k (fresh n b) → n < mostNames
   pub root : {m : ℕ} → scope 0 m → ⊥
   pub used : {k a n : ℕ} → Is ns k (on-name a n) → scope k n
   pub first : {k a b : ℕ} → Is ns k (sequence a b) → (m : ℕ) → scope a m → scope k m

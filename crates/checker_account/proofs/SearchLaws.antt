@@ -13,7 +13,7 @@ use lib.Bits.{bitOr}
 use Rattle.usage.specs.Limits.{mostNodes}
 use Rattle.usage.specs.declared.Edge.{Edge}
 use Rattle.usage.specs.declared.Node.{Node}
-use Rattle.usage.specs.Policy.{EdgesOk}
+use Rattle.usage.specs.Policy.{PairPolicy, EdgesOk}
 use Rattle.usage.specs.Check.{Leaves}
 use Rattle.usage.specs.Outline.{Form, Is, end, on-static, on-name, sequence, choice, loop, back, fresh, sandbox}
 use Rattle.usage.specs.Tests.{Decides}
@@ -27,7 +27,8 @@ use Rattle.checker_account.specs.Holds.{RowsOk, NamesOk, TargetsOk, Hits
 use Rattle.checker_account.specs.Rounds.{Forms, FormsOf, leavesOf, hitNode, hitAny, begins, Wide, Searched, SearchedAll, found}
 use Rattle.checker_account.specs.Rounds.{none-found, Untouched}
 use Rattle.checker_account.proofs.Scoped.{Scoped}
-use Rattle.checker_account.proofs.Exact.{exact}
+use Rattle.checker_account.proofs.SightsLaws.{exact-sights}
+use Rattle.checker_account.proofs.SingleLaws.{singles}
 use Rattle.checker_account.proofs.UntouchedLaws.{hits-watched}
 use Rattle.checker_account.proofs.Starts.{start-least}
 use Rattle.checker_account.proofs.JoinLaws.{zeros, zeros-wide}
@@ -159,10 +160,10 @@ module _ (local : Bool) (es : List Edge) (ns : List Node) (p : ℕ) (rows : Rows
           dynamic last (t .0, hits-watched local es ns p x scope edges scoped (u .static) off (t .1)) (h watched (omega arith))
       missed x l last t (inr s) = one x l false s .1 (last, t)
 
-  -- some trace leaves the policy open and not respected exactly if the answer is yes
-  pub broken-exact : (scope : ℕ → ℕ → Type 0) → Scoped ns scope → (answer : Bool) → SearchedAll local rows p n forms answer
-      → Decides answer (Leaves local es ns p)
-  broken-exact scope scoped answer h =
-      let e = exact local es ns scope p edges scoped in
-      d-map (searched-all scope scoped answer h) (λ t. e .1 (t .0, t .1, t .3 .0, t .2, t .3 .1))
-      (λ l. let (x, small, n, last, k) = e .0 l in (x, small, last, (n, k)))
+  -- some trace leaves the policy, which is no pair policy, open and not respected exactly if the answer is yes
+  pub broken-exact : (scope : ℕ → ℕ → Type 0) → Scoped ns scope → (PairPolicy es p → ⊥) → (answer : Bool)
+      → SearchedAll local rows p n forms answer → Decides answer (Leaves local es ns p)
+  broken-exact scope scoped alone answer h =
+      let e = exact-sights local es ns scope p edges scoped (singles es p alone) in
+      d-map (searched-all scope scoped answer h) (λ t. e .1 ((t .0, t .1), t .3 .0, t .2, t .3 .1))
+      (λ l. let ((x, small), n, last, k) = e .0 l in (x, small, last, (n, k)))

@@ -17,7 +17,7 @@ use Rattle.usage.specs.Outline.{Form, end, on-static, on-name, sequence, choice
 use Rattle.usage.proofs.Logic.{last-or-lower}
 use Rattle.automaton.specs.Mask.{has, union}
 use Rattle.automaton.proofs.MaskLaws.{or-assoc}
-use Rattle.checker_account.specs.Witness.{noName}
+use Rattle.checker_account.specs.Single.{noName}
 use Rattle.checker_account.specs.Tables.{
   made,
   base,

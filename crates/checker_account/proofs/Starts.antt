@@ -9,13 +9,14 @@ use borrow.Author.Tests.{eqb-true, eqb-false, eq-eqb, ne-eqb, ltb-false, le-ltb}
 use Rattle.usage.specs.declared.Edge.{Edge}
 use Rattle.usage.specs.declared.Node.{Node}
 use Rattle.usage.specs.Limits.{statics}
-use Rattle.checker_account.specs.Witness.{watched, others, noName, meant, forget, Goes, Ends}
+use Rattle.checker_account.specs.Witness.{watched, others, Goes, Ends}
+use Rattle.checker_account.specs.Single.{noName, meant, forget, MakesOne, watching}
 use Rattle.checker_account.specs.Tables.{unnamed, meanings, least, nameOf, made, forgotten, meaningAfter}
 use Rattle.checker_account.specs.Holds.{Start}
 
 -- what is made stays made
 pub stays-made : {local : Bool} {es : List Edge} {ns : List Node} {p x n k w q q′ : ℕ} {o c c′ : Bool}
-    → Ends local es ns p x n o k w c q c′ q′ → c ≡ true → c′ ≡ true
+    → Ends local es ns p (watching x) n o k w c q c′ q′ → c ≡ true → c′ ≡ true
 stays-made (Goes.ends i) e = e
 stays-made (Goes.fires-static i v) e = e
 stays-made (Goes.fires-name i v) e = e
@@ -24,8 +25,8 @@ stays-made (Goes.chooses-left i f) e = stays-made f e
 stays-made (Goes.chooses-right i f) e = stays-made f e
 stays-made (Goes.enters i f) e = stays-made f e
 stays-made (Goes.repeats i f) e = stays-made f e
-stays-made (Goes.creates-other i v f) e = stays-made f e
-stays-made (Goes.creates-own i v f) e = stays-made f refl
+stays-made (Goes.makes i MakesOne.other v f) e = stays-made f e
+stays-made (Goes.makes i MakesOne.own v f) e = stays-made f refl
 stays-made (Goes.sandboxes i f) e = stays-made f e
 
 -- ── The least meaning ──

@@ -13,7 +13,8 @@ use Rattle.usage.specs.Limits.{create, states, mostNodes}
 use Rattle.usage.specs.Policy.{Sees, Moves}
 use Rattle.usage.specs.Outline.{Form, Is, on-static, on-name, sequence, choice, loop, back, fresh, sandbox}
 use Rattle.automaton.specs.Mask.{has, offends}
-use Rattle.checker_account.specs.Witness.{watched, others, noName, Ends, Comes, Last, Hits}
+use Rattle.checker_account.specs.Witness.{watched, others, Ends, Comes, Last, Hits}
+use Rattle.checker_account.specs.Single.{noName, watching}
 use Rattle.checker_account.specs.Tables.{meanings, least, nameOf, made, at, half, base, Rows, endsBy, place, Arrival, arrivals}
 use Rattle.checker_account.specs.Tables.{leaves, lastOf, Resets, never, opening-of}
 
@@ -24,12 +25,12 @@ pub record Start (x m : ℕ) : Type 0 where
 
 -- state q moves to q′ by an event with action a, which is on x or on another dynamic resource
 abbrev pub Dynamic : List Edge → ℕ → ℕ → ℕ → Bool → ℕ → ℕ → Type 0
-Dynamic es p x a own q q′ = Moves es p a (Sees x (cond own x others)) q q′
+Dynamic es p x a own q q′ = Moves es p a (Sees (x ∷ []) (cond own x others)) q q′
 
 -- The rows are those of policy p. Only a dynamic x is meant by a name or created.
 pub record RowsOk (es : List Edge) (ns : List Node) (p x : ℕ) (rows : Rows) : Type 0 where
   pub static : {k a s : ℕ} → Is ns k (on-static a s) → (q q′ : ℕ) → q < states → q′ < states
-      → (has (rows k (eqb s x) q) q′ ≡ true) ↔ Moves es p a (Sees x s) q q′
+      → (has (rows k (eqb s x) q) q′ ≡ true) ↔ Moves es p a (Sees (x ∷ []) s) q q′
   pub name : {k a n : ℕ} → Is ns k (on-name a n) → (own : Bool) → (own ≡ true → x ≡ watched) → (q q′ : ℕ) → q < states → q′ < states
       → (has (rows k own q) q′ ≡ true) ↔ Dynamic es p x a own q q′
   pub created : {k n b : ℕ} → Is ns k (fresh n b) → (own : Bool) → (own ≡ true → x ≡ watched) → (q q′ : ℕ) → q < states → q′ < states
@@ -51,13 +52,13 @@ pub record TargetsOk (ns : List Node) : Type 0 where
 
 -- the account, the number of steps forgotten
 abbrev pub EndsFrom : Bool → List Edge → List Node → ℕ → ℕ → Bool → ℕ → ℕ → Bool → ℕ → Bool → ℕ → Type 0
-EndsFrom local es ns p x o k w c q c′ q′ = (n : ℕ) × Ends local es ns p x n o k w c q c′ q′
+EndsFrom local es ns p x o k w c q c′ q′ = (n : ℕ) × Ends local es ns p (watching x) n o k w c q c′ q′
 
 abbrev pub ComesFrom : Bool → List Edge → List Node → ℕ → ℕ → Bool → ℕ → ℕ → Bool → ℕ → Type 0
-ComesFrom local es ns p x o k w c q = (n : ℕ) × Comes local es ns p x n o k w c q
+ComesFrom local es ns p x o k w c q = (n : ℕ) × Comes local es ns p (watching x) n o k w c q
 
 abbrev pub HitsFrom : Bool → List Edge → List Node → ℕ → ℕ → Last → Type 0
-HitsFrom local es ns p x last = (n : ℕ) × Hits local es ns p x n last
+HitsFrom local es ns p x last = (n : ℕ) × Hits local es ns p (watching x) n last
 
 -- node k, begun in (m, q) where p is open or not, as o says, can end in (c, q′): by the definitions, and by the table for o
 abbrev pub EndsAt : Bool → List Edge → List Node → ℕ → ℕ → Bool → ℕ → ℕ → ℕ → Bool → ℕ → Type 0
@@ -123,7 +124,7 @@ pub record Come (x : ℕ) (u : List ℕ) (o : Bool) (k w : ℕ) (c : Bool) (q : 
 -- the table holds exactly what is come to
 pub record HoldsComes (local : Bool) (es : List Edge) (ns : List Node) (p x : ℕ) (u : List ℕ) : Type 0 where
   pub sound : SoundComes local es ns p x u
-  pub full : {n : ℕ} {o : Bool} {k w : ℕ} {c : Bool} {q : ℕ} → Comes local es ns p x n o k w c q → Come x u o k w c q
+  pub full : {n : ℕ} {o : Bool} {k w : ℕ} {c : Bool} {q : ℕ} → Comes local es ns p (watching x) n o k w c q → Come x u o k w c q
 
 -- A node whose step, the last one, leaves p open with an offending state, by the table of what is come to.
 pub record Struck (local : Bool) (ns : List Node) (p x : ℕ) (rows : Rows) (u : List ℕ) (last : Last) : Type 0 where

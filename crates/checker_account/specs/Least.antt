@@ -10,89 +10,93 @@ use mathlib.Core.List.{List}
 use lib.Dec.{eqb}
 use Rattle.usage.specs.declared.Edge.{Edge}
 use Rattle.usage.specs.declared.Node.{Node}
-use Rattle.usage.specs.Limits.{statics, states, create}
+use Rattle.usage.specs.Limits.{states, create}
 use Rattle.usage.specs.Policy.{Sees, Moves, Offending}
 use Rattle.usage.specs.Past.{reopened}
 use Rattle.usage.specs.Outline.{Is, end, on-static, on-name, sequence, choice, loop, back, fresh, sandbox}
-use Rattle.checker_account.specs.Witness.{others, noName, meant, forget, Last, by-action, by-opening, Counts, Aim, ended, broken}
-use Rattle.checker_account.specs.Witness.{Goes}
+use Rattle.checker_account.specs.Witness.{Sight, Last, by-action, by-opening, Counts, Aim, ended, broken, Goes}
 
-abbrev pub Entries : Type 1
-Entries = ℕ → Bool → ℕ → ℕ → Bool → ℕ → Aim → Type 0
+abbrev pub Entries : Type 0 → Type 0 → Type 1
+Entries W L = ℕ → Bool → ℕ → W → L → ℕ → Aim L → Type 0
 
--- the starts that occur: only a dynamic x is meant by a name or created, and no name means one that is not created
-pub record Begun (x w : ℕ) (c : Bool) (q : ℕ) : Type 0 where
-  pub name : w ≤ noName
-  pub unmade : c ≡ false → w ≡ noName
-  pub static : x < statics → (w ≡ noName) × (c ≡ true)
+-- the starts that occur
+pub record Begun (S : Sight) (w : S .Meaning) (c : S .Left) (q : ℕ) : Type 0 where
+  pub view : S .Occurring w c
   pub state : q < states
 
 -- the aims of the tables: an end, or any step that breaks p
-pub data Aimed : Aim → Type 0 where
-  at-end : {c : Bool} {q : ℕ} → Aimed (ended c q)
+pub data Aimed {L : Type 0} : Aim L → Type 0 where
+  at-end : {c : L} {q : ℕ} → Aimed (ended c q)
   at-break : Aimed (broken none)
 
 -- One rule of `Goes`, over entries.
-pub data Rule (local : Bool) (es : List Edge) (ns : List Node) (p x : ℕ) (E : Entries) : ℕ → Bool → ℕ → ℕ → Bool → ℕ → Aim → Type 0 where
-  ends : {k w q : ℕ} {o c : Bool} → Is ns k end → Rule local es ns p x E 0 o k w c q (ended c q)
-  fires-static : {k w q a s q′ : ℕ} {o c : Bool} → Is ns k (on-static a s) → Moves es p a (Sees x s) q q′
-      → Rule local es ns p x E 1 o k w c q (ended c q′)
-  fires-name : {k w q a m q′ : ℕ} {o c : Bool} → Is ns k (on-name a m) → Moves es p a (Sees x (meant x w m)) q q′
-      → Rule local es ns p x E 1 o k w c q (ended c q′)
-  sequences : {n₁ n₂ k w q a b q₁ : ℕ} {o c c₁ : Bool} {t : Aim} → Is ns k (sequence a b)
-      → E n₁ o a w c q (ended c₁ q₁) → E n₂ o b w c₁ q₁ t → Rule local es ns p x E (n₁ + n₂) o k w c q t
-  chooses-left : {n k w q a b : ℕ} {o c : Bool} {t : Aim} → Is ns k (choice a b) → E n o a w c q t → Rule local es ns p x E n o k w c q t
-  chooses-right : {n k w q a b : ℕ} {o c : Bool} {t : Aim} → Is ns k (choice a b) → E n o b w c q t → Rule local es ns p x E n o k w c q t
-  enters : {n k w q a : ℕ} {o c : Bool} {t : Aim} → Is ns k (loop a) → E n o a w c q t → Rule local es ns p x E n o k w c q t
-  repeats : {n k w q a : ℕ} {o c : Bool} {t : Aim} → Is ns k (back a) → E n o a w c q t → Rule local es ns p x E n o k w c q t
-  creates-other : {n k w q m b q₁ : ℕ} {o c : Bool} {t : Aim} → Is ns k (fresh m b)
-      → Moves es p create (Sees x others) q q₁ → E n o b (forget w m) c q₁ t → Rule local es ns p x E (suc n) o k w c q t
-  creates-own : {n k w q m b q₁ : ℕ} {o : Bool} {t : Aim} → Is ns k (fresh m b)
-      → Moves es p create (Sees x x) q q₁ → E n o b m true q₁ t → Rule local es ns p x E (suc n) o k w false q t
-  sandboxes : {n k w q s b q₂ : ℕ} {o c c₂ : Bool} → Is ns k (sandbox s b)
-      → E n (o || eqb s p) b w c (reopened local p s o q) (ended c₂ q₂) → Rule local es ns p x E (suc (suc n)) o k w c q (ended c₂ q₂)
-  breaks-static : {k w q a s q′ : ℕ} {c : Bool} {u : Option Last} → Is ns k (on-static a s) → Moves es p a (Sees x s) q q′ → Offending q′
-      → Counts u (by-action a) → Rule local es ns p x E 1 true k w c q (broken u)
-  breaks-name : {k w q a m q′ : ℕ} {c : Bool} {u : Option Last} → Is ns k (on-name a m) → Moves es p a (Sees x (meant x w m)) q q′
-      → Offending q′
-      → Counts u (by-action a) → Rule local es ns p x E 1 true k w c q (broken u)
-  breaks-other : {k w q m b q′ : ℕ} {c : Bool} {u : Option Last} → Is ns k (fresh m b) → Moves es p create (Sees x others) q q′
-      → Offending q′
-      → Counts u (by-action create) → Rule local es ns p x E 1 true k w c q (broken u)
-  breaks-own : {k w q m b q′ : ℕ} {u : Option Last} → Is ns k (fresh m b) → Moves es p create (Sees x x) q q′ → Offending q′
-      → Counts u (by-action create) → Rule local es ns p x E 1 true k w false q (broken u)
-  breaks-opening : {k w q b : ℕ} {o c : Bool} {u : Option Last} → Is ns k (sandbox p b) → Offending (reopened local p p o q)
-      → Counts u by-opening → Rule local es ns p x E 1 o k w c q (broken u)
-  breaks-first : {n k w q a b : ℕ} {o c : Bool} {u : Option Last} → Is ns k (sequence a b) → E n o a w c q (broken u)
-      → Rule local es ns p x E n o k w c q (broken u)
-  breaks-inside : {n k w q s b : ℕ} {o c : Bool} {u : Option Last} → Is ns k (sandbox s b)
-      → E n (o || eqb s p) b w c (reopened local p s o q) (broken u) → Rule local es ns p x E (suc n) o k w c q (broken u)
+pub data Rule (local : Bool) (es : List Edge) (ns : List Node) (p : ℕ) (S : Sight) (E : Entries (S .Meaning) (S .Left)) : ℕ → Bool → ℕ
+    → S .Meaning → S .Left → ℕ → Aim (S .Left) → Type 0 where
+  ends : {k : ℕ} {w : S .Meaning} {q : ℕ} {o : Bool} {c : S .Left} → Is ns k end → Rule local es ns p S E 0 o k w c q (ended c q)
+  fires-static : {k : ℕ} {w : S .Meaning} {q a s q′ : ℕ} {o : Bool} {c : S .Left} → Is ns k (on-static a s)
+      → Moves es p a (Sees (S .watches) s) q q′ → Rule local es ns p S E 1 o k w c q (ended c q′)
+  fires-name : {k : ℕ} {w : S .Meaning} {q a m q′ : ℕ} {o : Bool} {c : S .Left} → Is ns k (on-name a m)
+      → Moves es p a (Sees (S .watches) (S .stands w m)) q q′ → Rule local es ns p S E 1 o k w c q (ended c q′)
+  sequences : {n₁ n₂ k : ℕ} {w : S .Meaning} {q a b q₁ : ℕ} {o : Bool} {c c₁ : S .Left} {t : Aim (S .Left)} → Is ns k (sequence a b)
+      → E n₁ o a w c q (ended c₁ q₁) → E n₂ o b w c₁ q₁ t → Rule local es ns p S E (n₁ + n₂) o k w c q t
+  chooses-left : {n k : ℕ} {w : S .Meaning} {q a b : ℕ} {o : Bool} {c : S .Left} {t : Aim (S .Left)} → Is ns k (choice a b)
+      → E n o a w c q t → Rule local es ns p S E n o k w c q t
+  chooses-right : {n k : ℕ} {w : S .Meaning} {q a b : ℕ} {o : Bool} {c : S .Left} {t : Aim (S .Left)} → Is ns k (choice a b)
+      → E n o b w c q t → Rule local es ns p S E n o k w c q t
+  enters : {n k : ℕ} {w : S .Meaning} {q a : ℕ} {o : Bool} {c : S .Left} {t : Aim (S .Left)} → Is ns k (loop a) → E n o a w c q t
+      → Rule local es ns p S E n o k w c q t
+  repeats : {n k : ℕ} {w : S .Meaning} {q a : ℕ} {o : Bool} {c : S .Left} {t : Aim (S .Left)} → Is ns k (back a) → E n o a w c q t
+      → Rule local es ns p S E n o k w c q t
+  makes : {n k : ℕ} {w w₁ : S .Meaning} {q m b d q₁ : ℕ} {o : Bool} {c c₁ : S .Left} {t : Aim (S .Left)} → Is ns k (fresh m b)
+      → S .Makes m d w c w₁ c₁ → Moves es p create (Sees (S .watches) d) q q₁ → E n o b w₁ c₁ q₁ t
+      → Rule local es ns p S E (suc n) o k w c q t
+  sandboxes : {n k : ℕ} {w : S .Meaning} {q s b q₂ : ℕ} {o : Bool} {c c₂ : S .Left} → Is ns k (sandbox s b)
+      → E n (o || eqb s p) b w c (reopened local p s o q) (ended c₂ q₂) → Rule local es ns p S E (suc (suc n)) o k w c q (ended c₂ q₂)
+  breaks-static : {k : ℕ} {w : S .Meaning} {q a s q′ : ℕ} {c : S .Left} {u : Option Last} → Is ns k (on-static a s)
+      → Moves es p a (Sees (S .watches) s) q q′ → Offending q′
+      → Counts u (by-action a) → Rule local es ns p S E 1 true k w c q (broken u)
+  breaks-name : {k : ℕ} {w : S .Meaning} {q a m q′ : ℕ} {c : S .Left} {u : Option Last} → Is ns k (on-name a m)
+      → Moves es p a (Sees (S .watches) (S .stands w m)) q q′ → Offending q′
+      → Counts u (by-action a) → Rule local es ns p S E 1 true k w c q (broken u)
+  breaks-fresh : {k : ℕ} {w w₁ : S .Meaning} {q m b d q′ : ℕ} {c c₁ : S .Left} {u : Option Last} → Is ns k (fresh m b)
+      → S .Makes m d w c w₁ c₁ → Moves es p create (Sees (S .watches) d) q q′ → Offending q′
+      → Counts u (by-action create) → Rule local es ns p S E 1 true k w c q (broken u)
+  breaks-opening : {k : ℕ} {w : S .Meaning} {q b : ℕ} {o : Bool} {c : S .Left} {u : Option Last} → Is ns k (sandbox p b)
+      → Offending (reopened local p p o q)
+      → Counts u by-opening → Rule local es ns p S E 1 o k w c q (broken u)
+  breaks-first : {n k : ℕ} {w : S .Meaning} {q a b : ℕ} {o : Bool} {c : S .Left} {u : Option Last} → Is ns k (sequence a b)
+      → E n o a w c q (broken u) → Rule local es ns p S E n o k w c q (broken u)
+  breaks-inside : {n k : ℕ} {w : S .Meaning} {q s b : ℕ} {o : Bool} {c : S .Left} {u : Option Last} → Is ns k (sandbox s b)
+      → E n (o || eqb s p) b w c (reopened local p s o q) (broken u) → Rule local es ns p S E (suc n) o k w c q (broken u)
 
 -- ── What the tables are to hold ──
 
 -- Each entry is a length: what every round of filling keeps.
-pub record Lengths (local : Bool) (es : List Edge) (ns : List Node) (p x : ℕ) (cap : ℕ) (E : Entries) : Type 0 where
-  pub sound : {n : ℕ} {o : Bool} {k w : ℕ} {c : Bool} {q : ℕ} {t : Aim} → Begun x w c q → Aimed t → E n o k w c q t
-      → Goes local es ns p x n o k w c q t
-  pub capped : {n : ℕ} {o : Bool} {k w : ℕ} {c : Bool} {q : ℕ} {t : Aim} → E n o k w c q t → n ≤ cap
-  pub one : {n m : ℕ} {o : Bool} {k w : ℕ} {c : Bool} {q : ℕ} {t : Aim} → E n o k w c q t → E m o k w c q t → n ≡ m
+pub record Lengths (local : Bool) (es : List Edge) (ns : List Node) (p : ℕ) (S : Sight) (cap : ℕ)
+    (E : Entries (S .Meaning) (S .Left)) : Type 0 where
+  pub sound : {n : ℕ} {o : Bool} {k : ℕ} {w : S .Meaning} {c : S .Left} {q : ℕ} {t : Aim (S .Left)} → Begun S w c q → Aimed t
+      → E n o k w c q t → Goes local es ns p S n o k w c q t
+  pub capped : {n : ℕ} {o : Bool} {k : ℕ} {w : S .Meaning} {c : S .Left} {q : ℕ} {t : Aim (S .Left)} → E n o k w c q t → n ≤ cap
+  pub one : {n m : ℕ} {o : Bool} {k : ℕ} {w : S .Meaning} {c : S .Left} {q : ℕ} {t : Aim (S .Left)} → E n o k w c q t → E m o k w c q t
+      → n ≡ m
 
 -- The entries are the least lengths, of those that are `cap` or less.
-pub record Least (local : Bool) (es : List Edge) (ns : List Node) (p x : ℕ) (cap : ℕ) (E : Entries) : Type 0 where
-  pub lengths : Lengths local es ns p x cap E
-  pub full : {n : ℕ} {o : Bool} {k w : ℕ} {c : Bool} {q : ℕ} {t : Aim} → Begun x w c q → Aimed t → Goes local es ns p x n o k w c q t
-      → n ≤ cap → (m : ℕ) × (m ≤ n) × E m o k w c q t
+pub record Least (local : Bool) (es : List Edge) (ns : List Node) (p : ℕ) (S : Sight) (cap : ℕ)
+    (E : Entries (S .Meaning) (S .Left)) : Type 0 where
+  pub lengths : Lengths local es ns p S cap E
+  pub full : {n : ℕ} {o : Bool} {k : ℕ} {w : S .Meaning} {c : S .Left} {q : ℕ} {t : Aim (S .Left)} → Begun S w c q → Aimed t
+      → Goes local es ns p S n o k w c q t → n ≤ cap → (m : ℕ) × (m ≤ n) × E m o k w c q t
 
 -- No rule gives less than what stands there: what a round that changes nothing says.
-abbrev pub Closed : Bool → List Edge → List Node → ℕ → ℕ → ℕ → Entries → Type 0
-Closed local es ns p x cap E =
-    (n : ℕ) (o : Bool) (k w : ℕ) (c : Bool) (q : ℕ) (t : Aim) → Begun x w c q → Aimed t → Rule local es ns p x E n o k w c q t → n ≤ cap
+abbrev pub Closed : Bool → List Edge → List Node → ℕ → (S : Sight) → ℕ → Entries (S .Meaning) (S .Left) → Type 0
+Closed local es ns p S cap E = (n : ℕ) (o : Bool) (k : ℕ) (w : S .Meaning) (c : S .Left) (q : ℕ) (t : Aim (S .Left)) → Begun S w c q
+    → Aimed t → Rule local es ns p S E n o k w c q t → n ≤ cap
     → (m : ℕ) × (m ≤ n) × E m o k w c q t
 
 -- ── How a trace is read from them ──
 
 -- the entries below `most`
-abbrev pub Less : ℕ → Entries → Entries
+abbrev pub Less : {W L : Type 0} → ℕ → Entries W L → Entries W L
 Less most E n o k w c q t = (n < most) × E n o k w c q t
 
 -- node k can end with no step
@@ -119,13 +123,14 @@ pub data PassesAll (ns : List Node) (whole : Bool) : ℕ → ℕ → Type 0 wher
   on : {k i j : ℕ} → Leads ns whole k i → PassesAll ns whole i j → PassesAll ns whole k j
 
 -- is the node to end?
-abbrev pub ending : Aim → Bool
+abbrev pub ending : {L : Type 0} → Aim L → Bool
 ending (ended c q) = true
 ending (broken u) = false
 
 -- Where to go on from an entry: a node that k leads to with no step, and a rule there whose entries are all of fewer steps.
-pub record Onto (local : Bool) (es : List Edge) (ns : List Node) (p x : ℕ) (E : Entries) (n : ℕ) (o : Bool) (k w : ℕ) (c : Bool) (q : ℕ)
-    (t : Aim) : Type 0 where
+pub record Onto (local : Bool) (es : List Edge) (ns : List Node) (p : ℕ) (S : Sight) (E : Entries (S .Meaning) (S .Left)) (n : ℕ) (o : Bool)
+    (k : ℕ) (w : S .Meaning) (c : S .Left) (q : ℕ)
+    (t : Aim (S .Left)) : Type 0 where
   pub node : ℕ
   pub passes : PassesAll ns (ending t) k node
-  pub rule : Rule local es ns p x (Less n E) n o node w c q t
+  pub rule : Rule local es ns p S (Less n E) n o node w c q t

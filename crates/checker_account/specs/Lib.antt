@@ -1,5 +1,9 @@
 -- The finite account of an outline, as relations, one watched resource at a time.
 pub mod Witness
+-- One watched resource by two numbers; any number by stand-ins; two by numbers.
+pub mod Single
+pub mod Views
+pub mod Pairs
 -- A trace written down along the account.
 pub mod Written
 -- Tables of least lengths: what they hold, and how a trace is read from them.
@@ -11,3 +15,4 @@ pub mod Rounds
 pub mod RowTable
 -- What the filled tables hold: exactly the account.
 pub mod Holds
+pub mod Choices

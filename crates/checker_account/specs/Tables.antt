@@ -13,7 +13,8 @@ use lib.Bits.{bitOr}
 use Rattle.usage.specs.Limits.{statics, create, states, mostNodes}
 use Rattle.usage.specs.Outline.{Form, end, on-static, on-name, sequence, choice, loop, back, fresh, sandbox}
 use Rattle.automaton.specs.Mask.{has, union}
-use Rattle.checker_account.specs.Witness.{noName, Last, by-action, by-opening}
+use Rattle.checker_account.specs.Witness.{Last, by-action, by-opening}
+use Rattle.checker_account.specs.Single.{noName}
 
 -- ── Sets: of states, and of ends, which are twice as many ──
 

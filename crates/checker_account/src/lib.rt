@@ -1,6 +1,6 @@
-// The finite account of an outline, and the tables that hold it. A run creates any number of resources, and one watched resource at a
-// time settles whether some run breaks a policy. No function: specs/ has the account, how the tables are laid out and how they are
-// filled; proofs/ has that the account is exact, and that filled tables hold exactly the account.
+// The finite account of an outline, and the tables that hold it. A run creates any number of resources, and looking at one instance at a
+// time settles whether some run breaks a policy. No function: specs/ has the account, how the tables are laid out and how they are filled;
+// proofs/ has that the account is exact, and that filled tables hold exactly the account.
 use usage::MOST_NODES;
 use usage::STATES;
 use usage::STATICS;
@@ -10,8 +10,11 @@ use usage::STATICS;
 // The watched dynamic resource: the resources that are watched are those up to this one.
 pub const WATCHED: usize = STATICS as usize;
 
+// A second watched dynamic resource, of a pair policy.
+pub const WATCHED_TOO: usize = WATCHED + 1;
+
 // The resource that stands for every dynamic one that is not watched: no edge names it.
-pub const OTHERS: u32 = STATICS + 1;
+pub const OTHERS: u32 = STATICS + 2;
 
 // The names that an outline gives.
 pub const NAMES: usize = 4;

@@ -15,7 +15,9 @@ use Rattle.usage.specs.Valid.{Scope}
 use Rattle.usage.specs.Tables.{nodesOf}
 use Rattle.usage.proofs.Logic.{false-true}
 use Rattle.checker_account.specs.Witness.{Aim, Goes}
+use Rattle.checker_account.specs.Single.{watching}
 use Rattle.checker_account.specs.Least.{Begun, Aimed, at-end, at-break, Rule, Lengths, Least, Closed}
+use Rattle.checker_account.proofs.SingleLaws.{watching-keeps}
 use Rattle.checker_account.proofs.NodeLaws.{forms-of}
 use Rattle.checker_account.proofs.ScopedLaws.{scoped}
 use Rattle.checker_account.proofs.Starts.{stays-made}
@@ -88,21 +90,22 @@ module _ (local : Bool) (es : List Edge) (nodes : List ℕ) (p x : ℕ) (rows : 
   -- ── Filling keeps it that each entry is a length ──
 
   -- what a rule gave, by a table of lengths, is a length
-  given : (t : List ℕ) → Lengths local es (nodesOf nodes) p x mostShown (entriesIn t allLengths)
-      → (n : ℕ) (o : Bool) (k w : ℕ) (c : Bool) (q : ℕ) (a : Aim) → Begun x w c q → Aimed a → aimAt a < 17
+  given : (t : List ℕ) → Lengths local es (nodesOf nodes) p (watching x) mostShown (entriesIn t allLengths)
+      → (n : ℕ) (o : Bool) (k w : ℕ) (c : Bool) (q : ℕ) (a : Aim Bool) → Begun (watching x) w c q → Aimed a → aimAt a < 17
       → n ≤ 200 → (r : ℕ) (f : Option Form) → k < length nodes / 3 → formHere nodes k ≡ f
       → offerFrom (watchOf local p x) rows (held t allLengths) (entryOf k o (meaningOf w c) q (aimAt a)) r f ≡ n
-      → Goes local es (nodesOf nodes) p x n o k w c q a
+      → Goes local es (nodesOf nodes) p (watching x) n o k w c q a
   given t s n o k w c q a b m h few r none l f e = absurd (omega arith)
   given t s n o k w c q a b m h few r (some f) l g e =
-      rule-sound local es (nodesOf nodes) p x (Scope (nodesOf nodes)) (src .edges) (scoped (nodesOf nodes) (src .outline)) mostShown
+      rule-sound local es (nodesOf nodes) p (watching x) (watching-keeps x) (Scope (nodesOf nodes)) (src .edges)
+      (scoped (nodesOf nodes) (src .outline)) mostShown
       (entriesIn t allLengths) s b m
       (ruled local es (nodesOf nodes) p x rows src (held t allLengths) (entriesIn t allLengths)
       (stands-in t allLengths) n o k w c q a b m h few f r (here-form k f l g) e)
 
-  lengths-of : (t : List ℕ) → ((n : ℕ) (o : Bool) (k w : ℕ) (c : Bool) (q : ℕ) (a : Aim) → Begun x w c q → Aimed a
-      → entriesIn t allLengths n o k w c q a → Goes local es (nodesOf nodes) p x n o k w c q a)
-      → Lengths local es (nodesOf nodes) p x mostShown (entriesIn t allLengths)
+  lengths-of : (t : List ℕ) → ((n : ℕ) (o : Bool) (k w : ℕ) (c : Bool) (q : ℕ) (a : Aim Bool) → Begun (watching x) w c q → Aimed a
+      → entriesIn t allLengths n o k w c q a → Goes local es (nodesOf nodes) p (watching x) n o k w c q a)
+      → Lengths local es (nodesOf nodes) p (watching x) mostShown (entriesIn t allLengths)
   lengths-of t h = record {
     sound = λ {n} {o} {k} {w} {c} {q} {t = a} b m e. h n o k w c q a b m e;
     capped = λ e. e .1;
@@ -110,11 +113,12 @@ module _ (local : Bool) (es : List Edge) (nodes : List ℕ) (p x : ℕ) (rows : 
   }
 
   -- the entry that fell, and any other
-  fallen : (t : List ℕ) (e : Entry) (r v : ℕ) → length t ≡ size → Lengths local es (nodesOf nodes) p x mostShown (entriesIn t allLengths)
+  fallen : (t : List ℕ) (e : Entry) (r v : ℕ) → length t ≡ size
+      → Lengths local es (nodesOf nodes) p (watching x) mostShown (entriesIn t allLengths)
       → inTable e ≡ true → e .node < length nodes / 3
       → v ≡ offerFrom (watchOf local p x) rows (held t allLengths) e r (formHere nodes (e .node))
-      → (n : ℕ) (o : Bool) (k w : ℕ) (c : Bool) (q : ℕ) (a : Aim) → Begun x w c q → Aimed a
-      → entriesIn (set t (linear e) v) allLengths n o k w c q a → Goes local es (nodesOf nodes) p x n o k w c q a
+      → (n : ℕ) (o : Bool) (k w : ℕ) (c : Bool) (q : ℕ) (a : Aim Bool) → Begun (watching x) w c q → Aimed a
+      → entriesIn (set t (linear e) v) allLengths n o k w c q a → Goes local es (nodesOf nodes) p (watching x) n o k w c q a
   fallen t e r v size-is s inside small h n o k w c q a b m (f, few) =
       let here = entryOf k o (meaningOf w c) q (aimAt a) in
       let (i, g, u) = held-is (set t (linear e) v) allLengths here n f (omega arith) in
@@ -122,7 +126,7 @@ module _ (local : Bool) (es : List Edge) (nodes : List ℕ) (p x : ℕ) (rows : 
     where
       go : inTable (entryOf k o (meaningOf w c) q (aimAt a)) ≡ true
           → getD (set t (linear e) v) (linear (entryOf k o (meaningOf w c) q (aimAt a))) 0 ≡ n
-          → Dec (linear (entryOf k o (meaningOf w c) q (aimAt a)) ≡ linear e) → Goes local es (nodesOf nodes) p x n o k w c q a
+          → Dec (linear (entryOf k o (meaningOf w c) q (aimAt a)) ≡ linear e) → Goes local es (nodesOf nodes) p (watching x) n o k w c q a
       go i g (yes z) =
           let here = entryOf k o (meaningOf w c) q (aimAt a) in
           let same : e ≡ here = linear-one e here inside i (sym z) in
@@ -139,7 +143,7 @@ module _ (local : Bool) (es : List Edge) (nodes : List ℕ) (p x : ℕ) (rows : 
           s .sound b m (sym (held-less t allLengths here (linear here) i refl (omega arith)) ∙ old, few)
 
   pub reach-lengths : {t : List ℕ} → Reach (watchOf local p x) rows nodes t → (length t ≡ size)
-      × Lengths local es (nodesOf nodes) p x mostShown (entriesIn t allLengths)
+      × Lengths local es (nodesOf nodes) p (watching x) mostShown (entriesIn t allLengths)
   reach-lengths start = (
     length-replicate {A = ℕ} size noLength,
     lengths-of (replicate size noLength) (λ n o k w c q a b m e. never n (entryOf k o (meaningOf w c) q (aimAt a)) (e .0) (e .1)),
@@ -156,20 +160,21 @@ module _ (local : Bool) (es : List Edge) (nodes : List ℕ) (p x : ℕ) (rows : 
   -- ── No rule adds anything ──
 
   -- an aim that the start can come to is not below the first end of it
-  low-aim : (t : List ℕ) → Lengths local es (nodesOf nodes) p x mostShown (entriesIn t allLengths)
-      → (n : ℕ) (o : Bool) (k w : ℕ) (c : Bool) (q : ℕ) (a : Aim) → Begun x w c q → Aimed a → aimAt a < 17
-      → Rule local es (nodesOf nodes) p x (entriesIn t allLengths) n o k w c q a → lowEnd (meaningOf w c) ≤ aimAt a
+  low-aim : (t : List ℕ) → Lengths local es (nodesOf nodes) p (watching x) mostShown (entriesIn t allLengths)
+      → (n : ℕ) (o : Bool) (k w : ℕ) (c : Bool) (q : ℕ) (a : Aim Bool) → Begun (watching x) w c q → Aimed a → aimAt a < 17
+      → Rule local es (nodesOf nodes) p (watching x) (entriesIn t allLengths) n o k w c q a → lowEnd (meaningOf w c) ≤ aimAt a
   low-aim t s n o k w c q a b at-break h r = let l = low-end-le (meaningOf w c) in omega arith
   low-aim t s n o k w false q a b (at-end {c = c₁} {q = q₁}) h r = omega arith
   low-aim t s n o k w true q a b (at-end {c = true} {q = q₁}) h r = let e = aim-ended true q₁ (aim-state true q₁ h) in omega arith
   low-aim t s n o k w true q a b (at-end {c = false} {q = q₁}) h r =
-      let d = rule-sound local es (nodesOf nodes) p x (Scope (nodesOf nodes)) (src .edges) (scoped (nodesOf nodes) (src .outline)) mostShown
+      let d = rule-sound local es (nodesOf nodes) p (watching x) (watching-keeps x) (Scope (nodesOf nodes)) (src .edges)
+      (scoped (nodesOf nodes) (src .outline)) mostShown
       (entriesIn t allLengths) s b at-end r in
       false-true (stays-made d refl)
 
   pub full-closed : (t : List ℕ) → Full (watchOf local p x) rows nodes t
-      → Lengths local es (nodesOf nodes) p x mostShown (entriesIn t allLengths)
-      → Closed local es (nodesOf nodes) p x mostShown (entriesIn t allLengths)
+      → Lengths local es (nodesOf nodes) p (watching x) mostShown (entriesIn t allLengths)
+      → Closed local es (nodesOf nodes) p (watching x) mostShown (entriesIn t allLengths)
   full-closed t full s n o k w c q a b m r few =
       let here = entryOf k o (meaningOf w c) q (aimAt a) in
       let f = offered local es (nodesOf nodes) p x rows src (held t allLengths) (entriesIn t allLengths)
@@ -190,8 +195,9 @@ module _ (local : Bool) (es : List Edge) (nodes : List ℕ) (p x : ℕ) (rows : 
       at-most e h = let l = h (omega arith) in omega arith
 
   pub full-least : (t : List ℕ) → Full (watchOf local p x) rows nodes t
-      → Least local es (nodesOf nodes) p x mostShown (entriesIn t allLengths)
+      → Least local es (nodesOf nodes) p (watching x) mostShown (entriesIn t allLengths)
   full-least t full =
       let s = reach-lengths (full .reach) .1 in
-      closed-least local es (nodesOf nodes) p x (Scope (nodesOf nodes)) (src .edges) (scoped (nodesOf nodes) (src .outline)) mostShown
+      closed-least local es (nodesOf nodes) p (watching x) (watching-keeps x) (Scope (nodesOf nodes)) (src .edges)
+      (scoped (nodesOf nodes) (src .outline)) mostShown
       (entriesIn t allLengths) s (full-closed t full s)

@@ -7,7 +7,8 @@ use native.Mathlib.Decide.{decLe}
 use lib.Dec.{ltb, leb}
 use borrow.Author.Tests.{ltb-true, lt-ltb, le-leb, lt-leb}
 use Rattle.usage.specs.Limits.{statics}
-use Rattle.checker_account.specs.Witness.{noName, forget, Aim, ended, broken}
+use Rattle.checker_account.specs.Witness.{Aim, ended, broken}
+use Rattle.checker_account.specs.Single.{noName, forget, watching}
 use Rattle.checker_account.specs.Tables.{unnamed, nameOf, made, forgotten, at}
 use Rattle.checker_account.specs.Holds.{Start}
 use Rattle.checker_account.specs.Least.{Begun, Aimed, at-end, at-break}
@@ -36,7 +37,7 @@ aim-state c q h = go (ltb q 8) refl h
     go true e l = ltb-true q 8 e
     go false e l = absurd (omega arith)
 
-pub aim-break : (t : Aim) → Aimed t → (u : _) → t ≡ broken u → aimAt t ≡ 16
+pub aim-break : (t : Aim Bool) → Aimed t → (u : _) → t ≡ broken u → aimAt t ≡ 16
 aim-break t at-end u e = absurd (omega (arith, apart e))
   where
     apart : {c : Bool} {q : ℕ} → ended c q ≡ broken u → _≡_ {A = ℕ} 0 1
@@ -50,7 +51,7 @@ same-at true false q q′ l l′ e = absurd (omega arith)
 same-at true true q q′ l l′ e = let f : q ≡ q′ = omega arith in ap (ended true) f
 
 -- aims with the same number are the same
-pub aim-one : (t t′ : Aim) → Aimed t → Aimed t′ → aimAt t < 17 → aimAt t ≡ aimAt t′ → t ≡ t′
+pub aim-one : (t t′ : Aim Bool) → Aimed t → Aimed t′ → aimAt t < 17 → aimAt t ≡ aimAt t′ → t ≡ t′
 aim-one t t′ (at-end {c = c} {q = q}) (at-end {c = c′} {q = q′}) h e =
     let l = aim-state c q h in
     let l′ = aim-state c′ q′ (subst (λ (n : ℕ). n < 17) e h) in
@@ -62,12 +63,12 @@ aim-one t t′ at-break at-break h e = refl
 
 -- ── Starts ──
 
-module _ {x w : ℕ} {c : Bool} {q : ℕ} (b : Begun x w c q) where
+module _ {x w : ℕ} {c : Bool} {q : ℕ} (b : Begun (watching x) w c q) where
   pub name-of : nameOf (meaningOf w c) ≡ w
   name-of = go c refl
     where
       go : (d : Bool) → c ≡ d → nameOf (meaningOf w d) ≡ w
-      go false e = sym (b .unmade e)
+      go false e = sym (b .view .unmade e)
       go true e = refl
 
   meaning-lt : meaningOf w c < 6
@@ -75,7 +76,7 @@ module _ {x w : ℕ} {c : Bool} {q : ℕ} (b : Begun x w c q) where
     where
       go : (d : Bool) → meaningOf w d < 6
       go false = omega arith
-      go true = let l = b .name in omega arith
+      go true = let l = b .view .name in omega arith
 
   pub start-of : Start x (meaningOf w c)
   start-of = go (decLe statics x)
@@ -83,7 +84,7 @@ module _ {x w : ℕ} {c : Bool} {q : ℕ} (b : Begun x w c q) where
       go : Dec (statics ≤ x) → Start x (meaningOf w c)
       go (yes l) = start-any x (meaningOf w c) l meaning-lt
       go (no l) =
-          let (f, g) = b .static (omega arith) in
+          let (f, g) = b .view .static (omega arith) in
           let e : meaningOf w c ≡ unnamed = ap (meaningOf w) g ∙ ap suc f in
           subst (Start x) (sym e) (start-unnamed x)
 

@@ -3,7 +3,7 @@ use Prim.Native.Nat.{ℕ, suc, _+_, _-_, _%_, _<_, _≤_}
 use mathlib.Core.Path.{_≡_, refl, sym, ap, ap₂, _∙_, subst}
 use mathlib.Core.Bool.{Bool, true, false, _&&_, cond}
 use mathlib.Core.Option.{Option}
-use mathlib.Core.List.{List}
+use mathlib.Core.List.{List, [], _∷_}
 use mathlib.Core.Logic.{inl, inr}
 use native.Mathlib.Omega.{arith}
 use native.Mathlib.Decide.{decLe}
@@ -17,7 +17,8 @@ use Rattle.usage.specs.Outline.{Form, Is, end, on-static, on-name, sequence, ch
 use Rattle.usage.proofs.Logic.{false-true, and-both}
 use Rattle.usage.proofs.FormLaws.{exists, form-ok}
 use Rattle.automaton.specs.Mask.{has, offends}
-use Rattle.checker_account.specs.Witness.{watched, others, meant, Last, Aim, ended, broken}
+use Rattle.checker_account.specs.Witness.{watched, others, Last, Aim, ended, broken}
+use Rattle.checker_account.specs.Single.{meant, MakesOne, watching}
 use Rattle.checker_account.specs.Tables.{made, forgotten, at, rowsIn, half}
 use Rattle.checker_account.specs.Least.{Entries, Begun, Aimed, Rule}
 use Rattle.checker_account.proofs.MaskLaws.{has-offends}
@@ -121,7 +122,7 @@ born-in rows e true h = ap (λ (b : Bool). cond b 0 (moved rows e true)) (h refl
 
 module _ (local : Bool) (es : List Edge) (ns : List Node) (p x : ℕ) (rows : List ℕ) (src : Source es ns p x rows) (look : Entry → ℕ) where
   -- what some numbered rule of node k gives
-  pub record Offered (n : ℕ) (o : Bool) (k w : ℕ) (c : Bool) (q : ℕ) (t : Aim) : Type 0 where
+  pub record Offered (n : ℕ) (o : Bool) (k w : ℕ) (c : Bool) (q : ℕ) (t : Aim Bool) : Type 0 where
     pub form : Form
     pub is : Is ns k form
     pub rule : ℕ
@@ -137,16 +138,17 @@ module _ (local : Bool) (es : List Edge) (ns : List Node) (p x : ℕ) (rows : Li
 
   -- ── The rows ──
 
-  module _ (k : ℕ) {w : ℕ} {c : Bool} {q : ℕ} (o : Bool) (i : ℕ) (b : Begun x w c q) where
+  module _ (k : ℕ) {w : ℕ} {c : Bool} {q : ℕ} (o : Bool) (i : ℕ) (b : Begun (watching x) w c q) where
     abbrev here : Entry
     here = entryOf k o (meaningOf w c) q i
 
-    pub static-row : {a s q′ : ℕ} → Is ns k (on-static a s) → Moves es p a (Sees x s) q q′ → has (moved rows here (eqb s x)) q′ ≡ true
+    pub static-row : {a s q′ : ℕ} → Is ns k (on-static a s) → Moves es p a (Sees (x ∷ []) s) q q′
+        → has (moved rows here (eqb s x)) q′ ≡ true
     static-row {s = s} {q′ = q′} is v =
         ap (λ (n : ℕ). has n q′) (moved-in rows here (eqb s x) (small-node is) (b .state))
         ∙ src .moves .static is q q′ (b .state) (state-lt v (b .state)) .1 v
 
-    pub name-row : {a n q′ : ℕ} → Is ns k (on-name a n) → Moves es p a (Sees x (meant x w n)) q q′
+    pub name-row : {a n q′ : ℕ} → Is ns k (on-name a n) → Moves es p a (Sees (x ∷ []) (meant x w n)) q q′
         → has (moved rows here (eqb (meaningOf w c) (suc n))) q′ ≡ true
     name-row {a = a} {n = n} {q′ = q′} is v =
         let own = eqb (meaningOf w c) (suc n) in
@@ -154,21 +156,23 @@ module _ (local : Bool) (es : List Edge) (ns : List Node) (p x : ℕ) (rows : Li
         let m : meant x w n ≡ cond own x others = ap (λ (u : ℕ). meant x u n) (sym (name-of b)) ∙ meant-is x (meaningOf w c) n small in
         ap (λ (r : ℕ). has r q′) (moved-in rows here own (small-node is) (b .state))
         ∙ src .moves .name is own (λ g. own-watched n (src .small) small (start-of b) g) q q′ (b .state) (state-lt v (b .state)) .1
-        (subst (λ (r : ℕ). Moves es p a (Sees x r) q q′) m v)
+        (subst (λ (r : ℕ). Moves es p a (Sees (x ∷ []) r) q q′) m v)
 
-    pub other-row : {n d q′ : ℕ} → Is ns k (fresh n d) → Moves es p create (Sees x others) q q′ → has (born rows here false) q′ ≡ true
+    pub other-row : {n d q′ : ℕ} → Is ns k (fresh n d) → Moves es p create (Sees (x ∷ []) others) q q′
+        → has (born rows here false) q′ ≡ true
     other-row {q′ = q′} is v =
         ap (λ (r : ℕ). has r q′) (born-in rows here false (λ g. false-true g) ∙ moved-in rows here false (small-node is) (b .state))
         ∙ src .moves .created is false (λ g. false-true g) q q′ (b .state) (state-lt v (b .state)) .1 v
 
-  pub dynamic : {w q : ℕ} → Begun x w false q → x ≡ watched
+  pub dynamic : {w q : ℕ} → Begun (watching x) w false q → x ≡ watched
   dynamic b = go (decLe statics x)
     where
       go : Dec (statics ≤ x) → x ≡ watched
       go (yes l) = let m = src .small in omega arith
-      go (no l) = false-true (b .static (omega arith) .1)
+      go (no l) = false-true (b .view .static (omega arith) .1)
 
-  pub own-row : {k w q : ℕ} (o : Bool) (i : ℕ) → Begun x w false q → {n d q′ : ℕ} → Is ns k (fresh n d) → Moves es p create (Sees x x) q q′
+  pub own-row : {k w q : ℕ} (o : Bool) (i : ℕ) → Begun (watching x) w false q → {n d q′ : ℕ} → Is ns k (fresh n d)
+      → Moves es p create (Sees (x ∷ []) x) q q′
       → has (born rows (entryOf k o 0 q i) true) q′ ≡ true
   own-row {k} {w} {q} o i b {q′ = q′} is v =
       ap (λ (r : ℕ). has r q′) (born-in rows (entryOf k o 0 q i) true (λ g. refl)
@@ -178,15 +182,16 @@ module _ (local : Bool) (es : List Edge) (ns : List Node) (p x : ℕ) (rows : Li
   -- ── From the rules to the numbers ──
 
   -- an entry of E is what `look` tells of it
-  pub record Reads (E : Entries) : Type 0 where
-    pub read : {n : ℕ} {o : Bool} {k w : ℕ} {c : Bool} {q : ℕ} {t : Aim} → E n o k w c q t
+  pub record Reads (E : Entries ℕ Bool) : Type 0 where
+    pub read : {n : ℕ} {o : Bool} {k w : ℕ} {c : Bool} {q : ℕ} {t : Aim Bool} → E n o k w c q t
         → (look (entryOf k o (meaningOf w c) q (aimAt t)) ≡ n) × (n ≤ mostShown) × (aimAt t < aims)
 
-  module _ (E : Entries) (reads : Reads E) where
-    break-aim : {u : Option Last} → Aimed (broken u) → aimAt (broken u) ≡ 16
+  module _ (E : Entries ℕ Bool) (reads : Reads E) where
+    break-aim : {u : Option Last} → Aimed {L = Bool} (broken u) → aimAt (broken u) ≡ 16
     break-aim {u} a = aim-break (broken u) a u refl
 
-    pub offered : {n : ℕ} {o : Bool} {k w : ℕ} {c : Bool} {q : ℕ} {t : Aim} → Begun x w c q → Aimed t → Rule local es ns p x E n o k w c q t
+    pub offered : {n : ℕ} {o : Bool} {k w : ℕ} {c : Bool} {q : ℕ} {t : Aim Bool} → Begun (watching x) w c q → Aimed t
+        → Rule local es ns p (watching x) E n o k w c q t
         → n ≤ mostShown → Offered n o k w c q t
     unfolding offerOf eventOf
     offered {o = o} {k} {w} {c} {q} b a (Rule.ends i) l = record {
@@ -268,7 +273,7 @@ module _ (local : Bool) (es : List Edge) (ns : List Node) (p x : ℕ) (rows : Li
       listed = lit< tt;
       gives = reads .read d .0;
     }
-    offered {o = o} {k} {w} {c} {q} {t} b a (Rule.creates-other {n = n} {m = m} {b = b₁} {q₁ = q₁} i v d) l =
+    offered {o = o} {k} {w} {c} {q} {t} b a (Rule.makes {n = n} {m = m} {b = b₁} {q₁ = q₁} i MakesOne.other v d) l =
         let here = entryOf k o (meaningOf w c) q (aimAt t) in
         let s : q₁ < 8 = state-lt v (b .state) in
         let small = form-ok (src .outline) i .0 in
@@ -278,7 +283,7 @@ module _ (local : Bool) (es : List Edge) (ns : List Node) (p x : ℕ) (rows : Li
         ∙ other-row k o (aimAt t) b i v in
         let body : look (bodyEntry here m b₁ q₁) ≡ n =
         ap₂ (λ (j u : ℕ). look (entryOf b₁ o j u (aimAt t)))
-        (named-low (meaningOf w c) m q₁ s ∙ forgotten-of w m c small (b .unmade)) st ∙ reads .read d .0 in
+        (named-low (meaningOf w c) m q₁ s ∙ forgotten-of w m c small (b .view .unmade)) st ∙ reads .read d .0 in
         record {
           form = fresh m b₁;
           is = i;
@@ -287,7 +292,7 @@ module _ (local : Bool) (es : List Edge) (ns : List Node) (p x : ℕ) (rows : Li
           listed = omega arith;
           gives = sym (fresh-on rows look here m b₁ q₁ (omega arith) is) ∙ ap (plus 1) body ∙ one-more n l;
         }
-    offered {o = o} {k} {w} {c} {q} {t} b a (Rule.creates-own {n = n} {m = m} {b = b₁} {q₁ = q₁} i v d) l =
+    offered {o = o} {k} {w} {c} {q} {t} b a (Rule.makes {n = n} {m = m} {b = b₁} {q₁ = q₁} i MakesOne.own v d) l =
         let here = entryOf k o 0 q (aimAt t) in
         let s : q₁ < 8 = state-lt v (b .state) in
         let own : leb 8 (8 + q₁) ≡ true = le-leb 8 (8 + q₁) (omega arith) in
@@ -336,7 +341,7 @@ module _ (local : Bool) (es : List Edge) (ns : List Node) (p x : ℕ) (rows : Li
       gives = breaking-at _ (entryOf k true (meaningOf w c) q (aimAt (broken u))) (break-aim a) refl
           (has-offends _ q′ f (name-row k true (aimAt (broken u)) b i v));
     }
-    offered {o = o} {k} {w} {c} {q} b a (Rule.breaks-other {m = m} {b = b₁} {q′ = q′} {u = u} i v f z) l =
+    offered {o = o} {k} {w} {c} {q} b a (Rule.breaks-fresh {m = m} {b = b₁} {q′ = q′} {u = u} i MakesOne.other v f z) l =
         let here = entryOf k true (meaningOf w c) q (aimAt (broken u)) in
         record {
           form = fresh m b₁;
@@ -347,7 +352,7 @@ module _ (local : Bool) (es : List Edge) (ns : List Node) (p x : ℕ) (rows : Li
           gives = sym (fresh-breaks rows look here m b₁ 16 (omega arith))
               ∙ breaking-at (born rows here false) here (break-aim a) refl (has-offends _ q′ f (other-row k true (aimAt (broken u)) b i v));
         }
-    offered {o = o} {k} {w} {c} {q} b a (Rule.breaks-own {m = m} {b = b₁} {q′ = q′} {u = u} i v f z) l =
+    offered {o = o} {k} {w} {c} {q} b a (Rule.breaks-fresh {m = m} {b = b₁} {q′ = q′} {u = u} i MakesOne.own v f z) l =
         let here = entryOf k true 0 q (aimAt (broken u)) in
         record {
           form = fresh m b₁;

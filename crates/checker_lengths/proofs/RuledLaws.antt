@@ -3,7 +3,7 @@ use Prim.Native.Nat.{ℕ, suc, _+_, _%_, _<_, _≤_}
 use mathlib.Core.Path.{_≡_, refl, sym, ap, _∙_, subst}
 use mathlib.Core.Bool.{Bool, true, false, _||_, cond}
 use mathlib.Core.Option.{none}
-use mathlib.Core.List.{List}
+use mathlib.Core.List.{List, [], _∷_}
 use mathlib.Core.Logic.{_⊎_, inl, inr}
 use native.Mathlib.Omega.{arith}
 use native.Mathlib.Decide.{ℕ-discrete, decLe}
@@ -18,7 +18,8 @@ use Rattle.usage.specs.Outline.{Form, Is, end, on-static, on-name, sequence, ch
 use Rattle.usage.proofs.Logic.{by-cases, false-true}
 use Rattle.usage.proofs.FormLaws.{form-ok}
 use Rattle.automaton.specs.Mask.{has}
-use Rattle.checker_account.specs.Witness.{others, meant, Aim, ended, broken, each}
+use Rattle.checker_account.specs.Witness.{others, Aim, ended, broken, each}
+use Rattle.checker_account.specs.Single.{meant, MakesOne, watching}
 use Rattle.checker_account.specs.Tables.{made}
 use Rattle.checker_account.specs.Least.{Entries, Begun, Aimed, at-end, at-break, Rule}
 use Rattle.checker_account.proofs.MaskLaws.{has-none, offends-has}
@@ -71,10 +72,10 @@ offending-of q l h = go (ℕ-discrete q 6)
     go (yes e) = inl e
     go (no d) = inr (omega arith)
 
-pub break-is : (t : Aim) → Aimed t → aimAt t ≡ 16 → t ≡ broken none
+pub break-is : (t : Aim Bool) → Aimed t → aimAt t ≡ 16 → t ≡ broken none
 break-is t a e = aim-one t (broken none) a at-break (omega arith) e
 
-pub end-is : (t : Aim) (w : ℕ) (c : Bool) (q : ℕ) → Aimed t → aimAt t < aims
+pub end-is : (t : Aim Bool) (w : ℕ) (c : Bool) (q : ℕ) → Aimed t → aimAt t < aims
     → q < states → aimAt t ≡ lowEnd (meaningOf w c) + q → t ≡ ended c q
 end-is t w c q a h l e = aim-one t (ended c q) a at-end h (e ∙ sym (aim-end w c q l))
 
@@ -90,34 +91,34 @@ born-first rows e j h = go (made (e .meaning)) refl h
 module _ (local : Bool) (es : List Edge) (ns : List Node) (p x : ℕ) (rows : List ℕ) (src : Source es ns p x rows) where
   -- ── The rows ──
 
-  module _ (k : ℕ) {w : ℕ} {c : Bool} {q : ℕ} (o : Bool) (i q′ : ℕ) (b : Begun x w c q) (l : q′ < 8) where
+  module _ (k : ℕ) {w : ℕ} {c : Bool} {q : ℕ} (o : Bool) (i q′ : ℕ) (b : Begun (watching x) w c q) (l : q′ < 8) where
     abbrev here : Entry
     here = entryOf k o (meaningOf w c) q i
 
-    pub static-moves : {a s : ℕ} → Is ns k (on-static a s) → has (moved rows here (eqb s x)) q′ ≡ true → Moves es p a (Sees x s) q q′
+    pub static-moves : {a s : ℕ} → Is ns k (on-static a s) → has (moved rows here (eqb s x)) q′ ≡ true → Moves es p a (Sees (x ∷ []) s) q q′
     static-moves {s = s} is h =
         src .moves .static is q q′ (b .state) l .0
         (sym (ap (λ (n : ℕ). has n q′) (moved-in rows here (eqb s x) (small-node local es ns p x rows src (λ e. 0) is) (b .state))) ∙ h)
 
     pub name-moves : {a n : ℕ} → Is ns k (on-name a n) → has (moved rows here (eqb (meaningOf w c) (suc n))) q′ ≡ true
-        → Moves es p a (Sees x (meant x w n)) q q′
+        → Moves es p a (Sees (x ∷ []) (meant x w n)) q q′
     name-moves {a = a} {n = n} is h =
         let own = eqb (meaningOf w c) (suc n) in
         let small = form-ok (src .outline) is .2 in
         let m : meant x w n ≡ cond own x others = ap (λ (u : ℕ). meant x u n) (sym (name-of b)) ∙ meant-is x (meaningOf w c) n small in
-        subst (λ (r : ℕ). Moves es p a (Sees x r) q q′) (sym m)
+        subst (λ (r : ℕ). Moves es p a (Sees (x ∷ []) r) q q′) (sym m)
         (src .moves .name is own (λ g. own-watched n (src .small) small (start-of b) g) q q′ (b .state) l .0
         (sym (ap (λ (r : ℕ). has r q′) (moved-in rows here own (small-node local es ns p x rows src (λ e. 0) is) (b .state))) ∙ h))
 
-    pub other-moves : {n d : ℕ} → Is ns k (fresh n d) → has (born rows here false) q′ ≡ true → Moves es p create (Sees x others) q q′
+    pub other-moves : {n d : ℕ} → Is ns k (fresh n d) → has (born rows here false) q′ ≡ true → Moves es p create (Sees (x ∷ []) others) q q′
     other-moves is h =
         src .moves .created is false (λ g. false-true g) q q′ (b .state) l .0
         (sym (ap (λ (r : ℕ). has r q′) (born-in rows here false (λ g. false-true g)
         ∙ moved-in rows here false (small-node local es ns p x rows src (λ e. 0) is) (b .state))) ∙ h)
 
-  pub own-moves : (k : ℕ) {w q : ℕ} (o : Bool) (i q′ : ℕ) → Begun x w false q → q′ < 8 → {n d : ℕ} → Is ns k (fresh n d)
+  pub own-moves : (k : ℕ) {w q : ℕ} (o : Bool) (i q′ : ℕ) → Begun (watching x) w false q → q′ < 8 → {n d : ℕ} → Is ns k (fresh n d)
       → has (born rows (entryOf k o 0 q i) true) q′ ≡ true
-      → Moves es p create (Sees x x) q q′
+      → Moves es p create (Sees (x ∷ []) x) q q′
   own-moves k {w} {q} o i q′ b l is h =
       src .moves .created is true (λ g. dynamic local es ns p x rows src (λ e. 0) b) q q′ (b .state) l .0
       (sym (ap (λ (r : ℕ). has r q′) (born-in rows (entryOf k o 0 q i) true (λ g. refl)
@@ -125,25 +126,26 @@ module _ (local : Bool) (es : List Edge) (ns : List Node) (p x : ℕ) (rows : Li
 
   module _ (look : Entry → ℕ) where
     -- what `look` tells is an entry of E
-    pub record Stands (E : Entries) : Type 0 where
-      pub stand : (n : ℕ) (o : Bool) (k w : ℕ) (c : Bool) (q : ℕ) (t : Aim)
+    pub record Stands (E : Entries ℕ Bool) : Type 0 where
+      pub stand : (n : ℕ) (o : Bool) (k w : ℕ) (c : Bool) (q : ℕ) (t : Aim Bool)
           → look (entryOf k o (meaningOf w c) q (aimAt t)) ≡ n → n ≤ mostShown
           → E n o k w c q t
 
-    module _ (E : Entries) (stands : Stands E) where
-      abbrev Ruled : ℕ → Bool → ℕ → ℕ → Bool → ℕ → Aim → Type 0
-      Ruled n o k w c q t = Rule local es ns p x E n o k w c q t
+    module _ (E : Entries ℕ Bool) (stands : Stands E) where
+      abbrev Ruled : ℕ → Bool → ℕ → ℕ → Bool → ℕ → Aim Bool → Type 0
+      Ruled n o k w c q t = Rule local es ns p (watching x) E n o k w c q t
 
-      rule-in : {n n′ : ℕ} {o : Bool} {k w : ℕ} {c : Bool} {q : ℕ} {t t′ : Aim} → n ≡ n′ → t ≡ t′ → Ruled n o k w c q t
+      rule-in : {n n′ : ℕ} {o : Bool} {k w : ℕ} {c : Bool} {q : ℕ} {t t′ : Aim Bool} → n ≡ n′ → t ≡ t′ → Ruled n o k w c q t
           → Ruled n′ o k w c q t′
       rule-in {n} {n′} {o} {k} {w} {c} {q} {t} {t′} e f r =
-          subst (λ (u : Aim). Ruled n′ o k w c q u) f (subst (λ (m : ℕ). Ruled m o k w c q t) e r)
+          subst (λ (u : Aim Bool). Ruled n′ o k w c q u) f (subst (λ (m : ℕ). Ruled m o k w c q t) e r)
 
-      rule-break : {n : ℕ} {o : Bool} {k w : ℕ} {c : Bool} {q : ℕ} {t : Aim} → n ≡ 1 → o ≡ true → t ≡ broken none
+      rule-break : {n : ℕ} {o : Bool} {k w : ℕ} {c : Bool} {q : ℕ} {t : Aim Bool} → n ≡ 1 → o ≡ true → t ≡ broken none
           → Ruled 1 true k w c q (broken none) → Ruled n o k w c q t
       rule-break {n} {o} {k} {w} {c} {q} {t} e f g r = subst (λ (d : Bool). Ruled n d k w c q t) (sym f) (rule-in (sym e) (sym g) r)
 
-      module _ (n : ℕ) (o : Bool) (k w : ℕ) (c : Bool) (q : ℕ) (t : Aim) (b : Begun x w c q) (a : Aimed t) (in-range : aimAt t < aims)
+      module _ (n : ℕ) (o : Bool) (k w : ℕ) (c : Bool) (q : ℕ) (t : Aim Bool) (b : Begun (watching x) w c q) (a : Aimed t)
+          (in-range : aimAt t < aims)
           (few : n ≤ mostShown) where
         abbrev at-entry : Entry
         at-entry = entryOf k o (meaningOf w c) q (aimAt t)
@@ -181,8 +183,8 @@ module _ (local : Bool) (es : List Edge) (ns : List Node) (p x : ℕ) (rows : Li
             (ap (λ (j : ℕ). look (entryOf s o j (r % 8) (aimAt t))) (sym (heir-of (meaningOf w c) w r (name-of b)))) (omega arith)))
         ruled-sequence {d} {s} r i (inr (g, e)) =
             let f = break-is t a g in
-            subst (λ (u : Aim). Ruled n o k w c q u) (sym f)
-            (Rule.breaks-first i (subst (λ (u : Aim). E n o d w c q u) f (stands .stand n o d w c q t e few)))
+            subst (λ (u : Aim Bool). Ruled n o k w c q u) (sym f)
+            (Rule.breaks-first i (subst (λ (u : Aim Bool). E n o d w c q u) f (stands .stand n o d w c q t e few)))
 
         ruled-choice : {d s : ℕ} (z : Bool) → Is ns k (choice d s) → look (entryOf (cond z d s) o (meaningOf w c) q (aimAt t)) ≡ n
             → Ruled n o k w c q t
@@ -197,9 +199,9 @@ module _ (local : Bool) (es : List Edge) (ns : List Node) (p x : ℕ) (rows : Li
             let v = look (bodyEntry at-entry m d r) in
             let s : suc v ≡ n = omega arith in
             let small = form-ok (src .outline) i .0 in
-            rule-in s refl (Rule.creates-other i (other-moves k o (aimAt t) (r % 8) b (omega arith) i g)
+            rule-in s refl (Rule.makes i MakesOne.other (other-moves k o (aimAt t) (r % 8) b (omega arith) i g)
             (stands .stand v o d _ c (r % 8) t (ap (λ (j : ℕ). look (entryOf d o j (r % 8) (aimAt t)))
-            (sym (named-low (meaningOf w c) m r l ∙ forgotten-of w m c small (b .unmade)))) (omega arith)))
+            (sym (named-low (meaningOf w c) m r l ∙ forgotten-of w m c small (b .view .unmade)))) (omega arith)))
 
         ruled-sandbox : {s d : ℕ} (r : ℕ) → Is ns k (sandbox s d)
             → ((r ≡ 0) × (around at-entry + look (innerEntry (watchOf local p x) at-entry s d) ≡ n))
@@ -217,11 +219,11 @@ module _ (local : Bool) (es : List Edge) (ns : List Node) (p x : ℕ) (rows : Li
                 let h = stands .stand (look (innerEntry (watchOf local p x) at-entry s d)) (o || eqb s p) d w c
                 (reopened local p s o q) t refl (omega arith) in
                 rule-in m (sym f) (Rule.breaks-inside i
-                (subst (λ (u : Aim). E (look (innerEntry (watchOf local p x) at-entry s d)) (o || eqb s p) d w c
+                (subst (λ (u : Aim Bool). E (look (innerEntry (watchOf local p x) at-entry s d)) (o || eqb s p) d w c
                 (reopened local p s o q) u) f h))
             go (no g) = ended-case t a refl g
               where
-                ended-case : (u : Aim) → Aimed u → t ≡ u → (aimAt t ≡ 16 → ⊥) → Ruled n o k w c q t
+                ended-case : (u : Aim Bool) → Aimed u → t ≡ u → (aimAt t ≡ 16 → ⊥) → Ruled n o k w c q t
                 ended-case u at-break f y = absurd (y (ap aimAt f))
                 ended-case u (at-end {c = c₂} {q = q₂}) f y =
                     let two : around at-entry ≡ 2 = ap (λ (y : Bool). cond y 1 2) (ne-eqb (aimAt t) 16 y) in
@@ -229,7 +231,7 @@ module _ (local : Bool) (es : List Edge) (ns : List Node) (p x : ℕ) (rows : Li
                     let h = stands .stand (look (innerEntry (watchOf local p x) at-entry s d)) (o || eqb s p) d w c
                     (reopened local p s o q) t refl (omega arith) in
                     rule-in m (sym f) (Rule.sandboxes i
-                    (subst (λ (u : Aim). E (look (innerEntry (watchOf local p x) at-entry s d)) (o || eqb s p) d w c
+                    (subst (λ (u : Aim Bool). E (look (innerEntry (watchOf local p x) at-entry s d)) (o || eqb s p) d w c
                     (reopened local p s o q) u) f h))
         ruled-sandbox {s} {d} r i (inr (z, m, g, e, l)) =
             let f = break-is t a g in
@@ -239,7 +241,8 @@ module _ (local : Bool) (es : List Edge) (ns : List Node) (p x : ℕ) (rows : Li
             (offending-of (reopened local p p o q) h (begun-opened b local p p o .state)) each)
 
       -- the creation of the watched resource, which was not created before
-      ruled-own : (n : ℕ) (o : Bool) (k w : ℕ) (c : Bool) (q : ℕ) (t : Aim) → Begun x w c q → n ≤ mostShown → {m d : ℕ} (r : ℕ)
+      ruled-own : (n : ℕ) (o : Bool) (k w : ℕ) (c : Bool) (q : ℕ) (t : Aim Bool) → Begun (watching x) w c q → n ≤ mostShown
+          → {m d : ℕ} (r : ℕ)
           → Is ns k (fresh m d) → 8 ≤ r → r < 16
           → has (born rows (entryOf k o (meaningOf w c) q (aimAt t)) (leb 8 r)) (r % 8) ≡ true
           → 1 + look (bodyEntry (entryOf k o (meaningOf w c) q (aimAt t)) m d r) ≡ n → Ruled n o k w c q t
@@ -251,13 +254,13 @@ module _ (local : Bool) (es : List Edge) (ns : List Node) (p x : ℕ) (rows : Li
           let g : has (born rows here true) (r % 8) ≡ true = sym (ap (λ (z : Bool). has (born rows here z) (r % 8)) (le-leb 8 r l)) ∙ h in
           let v = look (bodyEntry here m d r) in
           let s : suc v ≡ n = omega arith in
-          rule-in s refl (Rule.creates-own i (own-moves k o (aimAt t) (r % 8) b (omega arith) i g)
+          rule-in s refl (Rule.makes i MakesOne.own (own-moves k o (aimAt t) (r % 8) b (omega arith) i g)
           (stands .stand v o d m true (r % 8) t (ap (λ (j : ℕ). look (entryOf d o j (r % 8) (aimAt t))) (sym (named-high 0 m r l)))
           (omega arith)))
 
       -- a creation that breaks the policy
-      ruled-born : (n : ℕ) (o : Bool) (k w : ℕ) (c : Bool) (q : ℕ) (t : Aim)
-          → Begun x w c q → Aimed t → n ≤ mostShown → {m d : ℕ} (own : Bool)
+      ruled-born : (n : ℕ) (o : Bool) (k w : ℕ) (c : Bool) (q : ℕ) (t : Aim Bool)
+          → Begun (watching x) w c q → Aimed t → n ≤ mostShown → {m d : ℕ} (own : Bool)
           → Is ns k (fresh m d)
           → breaking (born rows (entryOf k o (meaningOf w c) q (aimAt t)) own) (entryOf k o (meaningOf w c) q (aimAt t)) ≡ n
           → Ruled n o k w c q t
@@ -265,7 +268,8 @@ module _ (local : Bool) (es : List Edge) (ns : List Node) (p x : ℕ) (rows : Li
           let here = entryOf k o (meaningOf w c) q (aimAt t) in
           let (z, g, f, v) = breaking-inv here n few (born rows here false) h in
           let (j, off, s) = offends-has (born rows here false) v in
-          rule-break z f (break-is t a g) (Rule.breaks-other i (other-moves k o (aimAt t) j b (offending-small j off) i s) off each)
+          rule-break z f (break-is t a g)
+          (Rule.breaks-fresh i MakesOne.other (other-moves k o (aimAt t) j b (offending-small j off) i s) off each)
       ruled-born n o k w true q t b a few true i h =
           let here = entryOf k o (suc w) q (aimAt t) in
           let (z, g, f, v) = breaking-inv here n few (born rows here true) h in
@@ -275,9 +279,11 @@ module _ (local : Bool) (es : List Edge) (ns : List Node) (p x : ℕ) (rows : Li
           let here = entryOf k o 0 q (aimAt t) in
           let (z, g, f, v) = breaking-inv here n few (born rows here true) h in
           let (j, off, s) = offends-has (born rows here true) v in
-          rule-break z f (break-is t a g) (Rule.breaks-own i (own-moves k o (aimAt t) j b (offending-small j off) i s) off each)
+          rule-break z f (break-is t a g)
+          (Rule.breaks-fresh i MakesOne.own (own-moves k o (aimAt t) j b (offending-small j off) i s) off each)
 
-      pub ruled : (n : ℕ) (o : Bool) (k w : ℕ) (c : Bool) (q : ℕ) (t : Aim) → Begun x w c q → Aimed t → aimAt t < aims → n ≤ mostShown
+      pub ruled : (n : ℕ) (o : Bool) (k w : ℕ) (c : Bool) (q : ℕ) (t : Aim Bool) → Begun (watching x) w c q → Aimed t → aimAt t < aims
+          → n ≤ mostShown
           → (f : Form) (r : ℕ) → Is ns k f
           → offerOf (watchOf local p x) rows look (entryOf k o (meaningOf w c) q (aimAt t)) r f ≡ n → Ruled n o k w c q t
       unfolding offerOf

@@ -21,7 +21,7 @@ use Rattle.checker_lengths.specs.Entries.{atBreak, aims, entryOf, held}
 abbrev pub noAim : ℕ
 noAim = aims
 
-abbrev pub aimAt : Aim → ℕ
+abbrev pub aimAt : Aim Bool → ℕ
 aimAt (ended c q) = cond (ltb q states) (at c q) noAim
 aimAt (broken none) = atBreak
 aimAt (broken (some last)) = noAim
@@ -31,7 +31,7 @@ meaningOf w false = 0
 meaningOf w true = suc w
 
 -- the entries that a table holds, of those less than `most`
-abbrev pub entriesIn : List ℕ → ℕ → Entries
+abbrev pub entriesIn : List ℕ → ℕ → Entries ℕ Bool
 entriesIn t most n o k w c q aim = (held t most (entryOf k o (meaningOf w c) q (aimAt aim)) ≡ n) × (n ≤ mostShown)
 
 abbrev pub watchOf : Bool → ℕ → ℕ → Watch

@@ -16,7 +16,7 @@ use Rattle.usage.specs.Tests.{someBelow}
 use Rattle.usage.proofs.Logic.{and-left, and-right, and-both, false-true, not-true}
 use Rattle.usage.proofs.TableLaws.{nodes-length, nodes-member}
 use Rattle.automaton.proofs.MaskLaws.{some-at, some-found}
-use Rattle.checker_account.specs.Witness.{noName}
+use Rattle.checker_account.specs.Single.{noName}
 use Rattle.checker_account.proofs.CodeLaws.{by-kind}
 use Rattle.checker_tables.specs.Search.{Small, smallNode, NodesFit, hasRoom}
 

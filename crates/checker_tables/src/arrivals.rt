@@ -7,7 +7,7 @@ ghost use Prim.Native.Nat.{ℕ, _<_};
 ghost use lib.ListN.{length, getD, replicate};
 ghost use Rattle.usage.specs.Limits.{mostNodes};
 ghost use Rattle.usage.specs.Outline.{formOf};
-ghost use Rattle.checker_account.specs.Witness.{noName};
+ghost use Rattle.checker_account.specs.Single.{noName};
 ghost use Rattle.checker_account.specs.Tables.{meanings, places, begun, rowsIn, joinedAt, restarted, place, _by_by_with_};
 ghost use Rattle.checker_account.specs.Tables.{halves, freshArrivals};
 ghost use Rattle.checker_account.specs.Rounds.{grown, byOpen, entered, arrivalsOf, pass, passNode, begins, Wide, Filled};

@@ -19,12 +19,14 @@ use Rattle.usage.specs.Tables.{nodesOf}
 use Rattle.usage.proofs.Logic.{by-cases, false-true}
 use Rattle.usage.proofs.FormLaws.{form-ok}
 use Rattle.automaton.specs.Mask.{has}
-use Rattle.checker_account.specs.Witness.{Aim, broken, each, forget}
+use Rattle.checker_account.specs.Witness.{Aim, broken, each}
+use Rattle.checker_account.specs.Single.{forget, MakesOne, watching}
 use Rattle.checker_account.specs.Written.{next, Written}
 use Rattle.checker_account.specs.Least.{Begun}
 use Rattle.checker_account.proofs.MaskLaws.{offends-has}
 use Rattle.checker_account.proofs.ScopedLaws.{scoped}
-use Rattle.checker_account.proofs.BegunLaws.{begun-other, begun-own}
+use Rattle.checker_account.proofs.SingleLaws.{watching-keeps}
+use Rattle.checker_account.proofs.BegunLaws.{begun-new}
 use Rattle.checker_account.proofs.Writing.{given-fresh}
 use Rattle.checker_lengths.specs.declared.Entry.{Entry}
 use Rattle.checker_lengths.specs.declared.Watch.{Watch}
@@ -72,13 +74,14 @@ use Rattle.checker_trace.proofs.WriteLaws.{arrive, passes-names}
 
 module _ (w : Watch) (rows nodes t : List ℕ) (e : Entry) (n r : ℕ)
     (few-nodes : length nodes / nodeFields ≤ mostNodes) (few : n ≤ mostShown) where
-  abbrev Here : List Edge → ℕ → Bool → ℕ → outline.Names → ℕ → Bool → ℕ → Past → Aim → Past → Type 0
+  abbrev Here : List Edge → ℕ → Bool → ℕ → outline.Names → ℕ → Bool → ℕ → Past → Aim Bool → Past → Type 0
   Here es i o k names m c q past aim after = Run w rows nodes t e n r few-nodes few es i o k names m c q past aim after
 
   -- ── A creation that breaks the policy ──
 
-  born-run : {es : List Edge} (j i b : ℕ) (names : outline.Names) (m : ℕ) (c : Bool) (past : Past) (aim : Aim) → Ready w es rows nodes t
-      → Begun (w .resource) m c (e .state) → Is (nodesOf nodes) j (fresh i b) → (own : Bool)
+  born-run : {es : List Edge} (j i b : ℕ) (names : outline.Names) (m : ℕ) (c : Bool) (past : Past) (aim : Aim Bool)
+      → Ready w es rows nodes t
+      → Begun (watching (w .resource)) m c (e .state) → Is (nodesOf nodes) j (fresh i b) → (own : Bool)
       → breaking (born rows (entryOf j (e .opened) (meaningOf m c) (e .state) (aimAt aim)) own)
       (entryOf j (e .opened) (meaningOf m c) (e .state) (aimAt aim)) ≡ n
       → Here es 1 true j names m c (e .state) past (broken none) (event create (next past) ∷ past)
@@ -86,7 +89,8 @@ module _ (w : Watch) (rows nodes t : List ℕ) (e : Entry) (n r : ℕ)
       let y = entryOf j (e .opened) (meaningOf m c) (e .state) (aimAt aim) in
       let (z, f, o, v) = breaking-inv y n few (born rows y false) h in
       let (q, off, g) = offends-has (born rows y false) v in
-      Written.breaks-other is (other-moves (w .local) es (nodesOf nodes) (w .policy) (w .resource) rows (ready .source) j (e .opened)
+      Written.breaks-fresh is MakesOne.other
+      (other-moves (w .local) es (nodesOf nodes) (w .policy) (w .resource) rows (ready .source) j (e .opened)
       (aimAt aim) q begun (offending-small q off) is g) off each
   born-run {es} j i b names m true past aim ready begun is true h =
       let y = entryOf j (e .opened) (suc m) (e .state) (aimAt aim) in
@@ -97,7 +101,8 @@ module _ (w : Watch) (rows nodes t : List ℕ) (e : Entry) (n r : ℕ)
       let y = entryOf j (e .opened) 0 (e .state) (aimAt aim) in
       let (z, f, o, v) = breaking-inv y n few (born rows y true) h in
       let (q, off, g) = offends-has (born rows y true) v in
-      Written.breaks-own is (own-moves (w .local) es (nodesOf nodes) (w .policy) (w .resource) rows (ready .source) j (e .opened)
+      Written.breaks-fresh is MakesOne.own
+      (own-moves (w .local) es (nodesOf nodes) (w .policy) (w .resource) rows (ready .source) j (e .opened)
       (aimAt aim) q begun (offending-small q off) is g) off each
 
   pub wrote-born : (a b : ℕ) → Chosen w rows nodes t e n (some (fresh a b)) r → 16 ≤ r → (g : Names) (s : Spot) (trace : List ℕ) (r′ : Spot)
@@ -125,14 +130,15 @@ module _ (w : Watch) (rows nodes t : List ℕ) (e : Entry) (n r : ℕ)
   -- ── A creation, and the body ──
 
   -- how the body is told, and the run that begins with the creation
-  pub record Body (es : List Edge) (a b j : ℕ) (names : outline.Names) (m : ℕ) (c : Bool) (past : Past) (aim : Aim) : Type 0 where
+  pub record Body (es : List Edge) (a b j : ℕ) (names : outline.Names) (m : ℕ) (c : Bool) (past : Past) (aim : Aim Bool) : Type 0 where
     pub name : ℕ
     pub made : Bool
     pub tells : Tells (w .resource) (bodyEntry e a b r) name made aim
     pub run : (after : Past) → Here es (n - 1) (e .opened) b (give names a (next past)) name made (r % 8)
         (event create (next past) ∷ past) aim after → Here es n (e .opened) j names m c (e .state) past aim after
 
-  body-other : {es : List Edge} (a b j : ℕ) (names : outline.Names) (m : ℕ) (c : Bool) (past : Past) (aim : Aim) → Ready w es rows nodes t
+  body-other : {es : List Edge} (a b j : ℕ) (names : outline.Names) (m : ℕ) (c : Bool) (past : Past) (aim : Aim Bool)
+      → Ready w es rows nodes t
       → Tells (w .resource) e m c aim → Is (nodesOf nodes) j (fresh a b) → r < 8 → 1 ≤ n
       → has (born rows (entryOf j (e .opened) (meaningOf m c) (e .state) (aimAt aim)) (leb 8 r)) (r % 8) ≡ true
       → Body es a b j names m c past aim
@@ -147,17 +153,18 @@ module _ (w : Watch) (rows nodes t : List ℕ) (e : Entry) (n r : ℕ)
         made = c;
         tells = record {
           meaning = ap (λ (i : ℕ). named i a r) (tells .meaning) ∙ named-low (meaningOf m c) a r low
-              ∙ forgotten-of m a c small (tells .begun .unmade);
+              ∙ forgotten-of m a c small (tells .begun .view .unmade);
           number = tells .number;
-          begun = begun-other (tells .begun) a (r % 8) l;
+          begun = begun-new (watching-keeps (w .resource)) (tells .begun) (r % 8) small MakesOne.other l;
           aimed = tells .aimed;
         };
         run = λ after d. run-in w rows nodes t e n r few-nodes few all refl
-            (Written.creates-other is (other-moves (w .local) es (nodesOf nodes) (w .policy) (w .resource) rows (ready .source) j
+            (Written.makes is MakesOne.other (other-moves (w .local) es (nodesOf nodes) (w .policy) (w .resource) rows (ready .source) j
             (e .opened) (aimAt aim) (r % 8) (tells .begun) l is hs) d);
       }
 
-  body-own : {es : List Edge} (a b j : ℕ) (names : outline.Names) (m : ℕ) (c : Bool) (past : Past) (aim : Aim) → Ready w es rows nodes t
+  body-own : {es : List Edge} (a b j : ℕ) (names : outline.Names) (m : ℕ) (c : Bool) (past : Past) (aim : Aim Bool)
+      → Ready w es rows nodes t
       → Tells (w .resource) e m c aim → Is (nodesOf nodes) j (fresh a b) → 8 ≤ r → r < 16 → 1 ≤ n
       → has (born rows (entryOf j (e .opened) (meaningOf m c) (e .state) (aimAt aim)) (leb 8 r)) (r % 8) ≡ true
       → Body es a b j names m c past aim
@@ -176,15 +183,16 @@ module _ (w : Watch) (rows nodes t : List ℕ) (e : Entry) (n r : ℕ)
         tells = record {
           meaning = named-high (e .meaning) a r low;
           number = tells .number;
-          begun = begun-own (tells .begun) a (r % 8) small l;
+          begun = begun-new (watching-keeps (w .resource)) (tells .begun) (r % 8) small MakesOne.own l;
           aimed = tells .aimed;
         };
         run = λ after d. run-in w rows nodes t e n r few-nodes few all refl
-            (Written.creates-own is (own-moves (w .local) es (nodesOf nodes) (w .policy) (w .resource) rows (ready .source) j (e .opened)
+            (Written.makes is MakesOne.own
+            (own-moves (w .local) es (nodesOf nodes) (w .policy) (w .resource) rows (ready .source) j (e .opened)
             (aimAt aim) (r % 8) (tells .begun) l is hs) d);
       }
 
-  body-of : {es : List Edge} (a b j : ℕ) (names : outline.Names) (m : ℕ) (c : Bool) (past : Past) (aim : Aim) → Ready w es rows nodes t
+  body-of : {es : List Edge} (a b j : ℕ) (names : outline.Names) (m : ℕ) (c : Bool) (past : Past) (aim : Aim Bool) → Ready w es rows nodes t
       → Tells (w .resource) e m c aim → Is (nodesOf nodes) j (fresh a b) → r < 16 → 1 ≤ n
       → has (born rows (entryOf j (e .opened) (meaningOf m c) (e .state) (aimAt aim)) (leb 8 r)) (r % 8) ≡ true
       → Body es a b j names m c past aim
@@ -209,7 +217,7 @@ module _ (w : Watch) (rows nodes t : List ℕ) (e : Entry) (n r : ℕ)
       let body = body-of a b (ch .0) names m c past aim ready tells (u .is) low (omega arith) hs in
       let v : held t n (bodyEntry e a b r) ≡ n - 1 = omega arith in
       let at-j = passes-names w rows nodes t e ready (u .passes) named in
-      let given-b = given-fresh (w .local) es (nodesOf nodes) (w .policy) (w .resource) (Scope (nodesOf nodes))
+      let given-b = given-fresh (w .local) es (nodesOf nodes) (w .policy) (watching (w .resource)) (Scope (nodesOf nodes))
       (scoped (nodesOf nodes) (ready .source .outline)) (ch .0) a (next past) b
       (scoped (nodesOf nodes) (ready .source .outline) .given (u .is)) at-j in
       let agrees : Agree (give names a (next past)) (given g a (s .next)) =

@@ -19,7 +19,9 @@ use Rattle.usage.proofs.FormLaws.{form-ok}
 use Rattle.usage.proofs.TableLaws.{nodes-length}
 use Rattle.automaton.specs.Mask.{has}
 use Rattle.checker_account.specs.Witness.{Aim, ended}
+use Rattle.checker_account.specs.Single.{watching}
 use Rattle.checker_account.specs.Least.{Begun, Aimed, at-end, at-break, Least, Less, Idle, Leads, PassesAll, ending}
+use Rattle.checker_account.proofs.SingleLaws.{watching-keeps}
 use Rattle.checker_account.proofs.MaskLaws.{has-left, has-right, has-either, has-none}
 use Rattle.checker_account.proofs.ScopedLaws.{scoped}
 use Rattle.checker_account.proofs.Reading.{passes-all, passes-more, found, idle-exact}
@@ -63,8 +65,9 @@ bit-if-is true k j l h = (refl, bit-is k j l h)
 bit-if-is false k j l h = has-none j h
 
 module _ (local : Bool) (es : List Edge) (nodes : List ℕ) (p x : ℕ) (rows t : List ℕ) (src : Source es (nodesOf nodes) p x rows)
-    (least : Least local es (nodesOf nodes) p x mostShown (entriesIn t allLengths)) (o : Bool) (k m : ℕ) (c : Bool) (q : ℕ) (aim : Aim)
-    (b : Begun x m c q) (a : Aimed aim) where
+    (least : Least local es (nodesOf nodes) p (watching x) mostShown (entriesIn t allLengths)) (o : Bool) (k m : ℕ) (c : Bool) (q : ℕ)
+    (aim : Aim Bool)
+    (b : Begun (watching x) m c q) (a : Aimed aim) where
   abbrev here : Entry
   here = entryOf k o (meaningOf m c) q (aimAt aim)
 
@@ -80,14 +83,16 @@ module _ (local : Bool) (es : List Edge) (nodes : List ℕ) (p x : ℕ) (rows t 
   unfolding idleIn
   idle-at j h =
       let e = held-cut t 1 allLengths (endIn here j) 0 (eqb-true (held t 1 (endIn here j)) 0 h) (omega arith) (omega arith) in
-      idle-exact local es (nodesOf nodes) p x (Scope (nodesOf nodes)) (src .edges) (scoped (nodesOf nodes) (src .outline)) mostShown
+      idle-exact local es (nodesOf nodes) p (watching x) (watching-keeps x) (Scope (nodesOf nodes)) (src .edges)
+      (scoped (nodesOf nodes) (src .outline)) mostShown
       (entriesIn t allLengths) least {o = o} b .0
       (sym (ap (held t allLengths) (same-end j)) ∙ e, omega arith)
 
   pub at-idle : (j : ℕ) → Idle (nodesOf nodes) j → idleIn t here j ≡ true
   unfolding idleIn
   at-idle j d =
-      let e = idle-exact local es (nodesOf nodes) p x (Scope (nodesOf nodes)) (src .edges) (scoped (nodesOf nodes) (src .outline)) mostShown
+      let e = idle-exact local es (nodesOf nodes) p (watching x) (watching-keeps x) (Scope (nodesOf nodes)) (src .edges)
+      (scoped (nodesOf nodes) (src .outline)) mostShown
       (entriesIn t allLengths) least {o = o} b .1 d in
       eq-eqb (held t 1 (endIn here j)) 0 (held-cut t allLengths 1 (endIn here j) 0 (ap (held t allLengths) (same-end j) ∙ e .0)
       (omega arith) (omega arith))
@@ -103,7 +108,7 @@ module _ (local : Bool) (es : List Edge) (nodes : List ℕ) (p x : ℕ) (rows t 
   idle-first : (j : ℕ) → (ending aim ≡ true → Idle (nodesOf nodes) j) → (eqb (aimAt aim) 16 || idleIn t here j) ≡ true
   idle-first j h = go aim a refl
     where
-      go : (u : Aim) → Aimed u → aim ≡ u → (eqb (aimAt aim) 16 || idleIn t here j) ≡ true
+      go : (u : Aim Bool) → Aimed u → aim ≡ u → (eqb (aimAt aim) 16 || idleIn t here j) ≡ true
       go u at-end e = or-right (eqb (aimAt aim) 16) (idleIn t here j) (at-idle j (h (ap ending e)))
       go u at-break e = or-left (eqb (aimAt aim) 16) (idleIn t here j) (eq-eqb (aimAt aim) 16 (ap aimAt e))
 
@@ -200,7 +205,8 @@ module _ (local : Bool) (es : List Edge) (nodes : List ℕ) (p x : ℕ) (rows t 
   pub never-nothing : (n : ℕ) → held t allLengths here ≡ n → n ≤ mostShown → 1 ≤ n → OntoIs (watchOf local p x) rows nodes t here n Nothing
       → ⊥
   never-nothing n h few one (s, closed, dead) =
-      let on = found local es (nodesOf nodes) p x (Scope (nodesOf nodes)) (src .edges) (scoped (nodesOf nodes) (src .outline)) mostShown
+      let on = found local es (nodesOf nodes) p (watching x) (watching-keeps x) (Scope (nodesOf nodes)) (src .edges)
+      (scoped (nodesOf nodes) (src .outline)) mostShown
       (entriesIn t allLengths) least b a (h, few) one in
       let f = offered local es (nodesOf nodes) p x rows src (held t n) (Less n (entriesIn t allLengths)) (reads-below n) b a
       (on .rule) few in

@@ -15,11 +15,13 @@ use Rattle.usage.specs.Outline as outline
 use Rattle.usage.specs.Outline.{Form, Is, end, sequence, choice, loop, back, fresh, sandbox}
 use Rattle.usage.specs.Tables.{nodesOf}
 use Rattle.usage.proofs.Logic.{by-cases}
+use Rattle.checker_account.specs.Single.{watching}
 use Rattle.checker_account.specs.Witness.{Aim, ended, each}
 use Rattle.checker_account.specs.Written.{Written}
 use Rattle.checker_account.specs.Tables.{nameOf}
 use Rattle.checker_account.specs.Least.{Aimed, at-end, at-break}
 use Rattle.checker_account.proofs.ScopedLaws.{scoped}
+use Rattle.checker_account.proofs.SingleLaws.{watching-keeps}
 use Rattle.checker_account.proofs.BegunLaws.{begun-ended, begun-opened}
 use Rattle.checker_account.proofs.Writing.{written-length}
 use Rattle.checker_account.proofs.Reader.{passes-written}
@@ -127,20 +129,21 @@ module _ (w : Watch) (rows nodes t : List ℕ) (e : Entry) (n r : ℕ) (few : n 
 
 module _ (w : Watch) (rows nodes t : List ℕ) (e : Entry) (n r : ℕ)
     (few-nodes : length nodes / nodeFields ≤ mostNodes) (few : n ≤ mostShown) where
-  abbrev pub Run : List Edge → ℕ → Bool → ℕ → outline.Names → ℕ → Bool → ℕ → Past → Aim → Past → Type 0
-  Run es i o k names m c q past aim after = Written (w .local) es (nodesOf nodes) (w .policy) (w .resource) i o k names m c q past aim after
+  abbrev pub Run : List Edge → ℕ → Bool → ℕ → outline.Names → ℕ → Bool → ℕ → Past → Aim Bool → Past → Type 0
+  Run es i o k names m c q past aim after =
+      Written (w .local) es (nodesOf nodes) (w .policy) (watching (w .resource)) i o k names m c q past aim after
 
   -- by equal numbers and aims
   pub run-in : {es : List Edge} {i i′ : ℕ} {o : Bool} {k : ℕ} {names : outline.Names} {m : ℕ}
-      {c : Bool} {q : ℕ} {past : Past} {aim aim′ : Aim} {after : Past} → i ≡ i′ → aim ≡ aim′
+      {c : Bool} {q : ℕ} {past : Past} {aim aim′ : Aim Bool} {after : Past} → i ≡ i′ → aim ≡ aim′
       → Run es i o k names m c q past aim after → Run es i′ o k names m c q past aim′ after
   run-in {es} {i} {i′} {o} {k} {names} {m} {c} {q} {past} {aim} {aim′} {after} f g d =
-      subst (λ (u : Aim). Run es i′ o k names m c q past u after) g (subst (λ (j : ℕ). Run es j o k names m c q past aim after) f d)
+      subst (λ (u : Aim Bool). Run es i′ o k names m c q past u after) g (subst (λ (j : ℕ). Run es j o k names m c q past aim after) f d)
 
-  pub back-to : {es : List Edge} {j : ℕ} {names : outline.Names} {m : ℕ} {c : Bool} {past : Past} {aim : Aim} {after : Past} {f : Form}
+  pub back-to : {es : List Edge} {j : ℕ} {names : outline.Names} {m : ℕ} {c : Bool} {past : Past} {aim : Aim Bool} {after : Past} {f : Form}
       → Arrived w rows nodes t e es n m c aim j r f
       → Run es n (e .opened) j names m c (e .state) past aim after → Run es n (e .opened) (e .node) names m c (e .state) past aim after
-  back-to {es} {aim = aim} v d = passes-written (w .local) es (nodesOf nodes) (w .policy) (w .resource) aim (v .passes) d
+  back-to {es} {aim = aim} v d = passes-written (w .local) es (nodesOf nodes) (w .policy) (watching (w .resource)) aim (v .passes) d
 
   -- the first node of a sequence, and then the second
   pub wrote-sequence : (a b : ℕ) → Chosen w rows nodes t e n (some (sequence a b)) r → (g : Names) (s : Spot) (trace : List ℕ) (v : ℕ)
@@ -165,13 +168,14 @@ module _ (w : Watch) (rows nodes t : List ℕ) (e : Entry) (n r : ℕ)
       let tells₂ : Tells (w .resource) (secondEntry e b r) m (leb 8 r) aim = record {
         meaning = heir-of (e .meaning) m r (ap nameOf (tells .meaning) ∙ name-of (tells .begun));
         number = tells .number;
-        begun = begun-ended (w .local) es (nodesOf nodes) (w .policy) (w .resource) (ready .source .edges) (tells .begun) ends;
+        begun = begun-ended (w .local) es (nodesOf nodes) (w .policy) (watching (w .resource)) (ready .source .edges)
+            (watching-keeps (w .resource)) (tells .begun) ends;
         aimed = tells .aimed;
       } in
       let rest : held t n (secondEntry e b r) ≡ n - v = omega arith in
       let held₂ : held t allLengths (secondEntry e b r) ≡ n - v =
       held-cut t n allLengths (secondEntry e b r) (n - v) rest (omega arith) (omega arith) in
-      let long = written-length (w .local) es (nodesOf nodes) (w .policy) (w .resource) d₁ in
+      let long = written-length (w .local) es (nodesOf nodes) (w .policy) (watching (w .resource)) d₁ in
       let (after, d₂, spot₂, same₂) = second es m (leb 8 r) aim names t₀ past₁ ready tells₂ held₂
       (λ i y. at-j i (scope .second (u .is) i y)) agree spot₁ same₁ (omega arith) in
       let all : v + (n - v) ≡ n = omega arith in
@@ -203,7 +207,8 @@ module _ (w : Watch) (rows nodes t : List ℕ) (e : Entry) (n r : ℕ)
       ))
 
   -- what the body of a sandbox is told by
-  inner-tells : (a b : ℕ) {m : ℕ} {c : Bool} {aim : Aim} → Tells (w .resource) e m c aim → Tells (w .resource) (innerEntry w e a b) m c aim
+  inner-tells : (a b : ℕ) {m : ℕ} {c : Bool} {aim : Aim Bool} → Tells (w .resource) e m c aim
+      → Tells (w .resource) (innerEntry w e a b) m c aim
   inner-tells a b tells = record {
     meaning = tells .meaning;
     number = tells .number;
@@ -254,7 +259,7 @@ module _ (w : Watch) (rows nodes t : List ℕ) (e : Entry) (n r : ℕ)
       (λ i y. at-j i (scope .inside (u .is) i y)) agree (spotted-opening past s a spotted)
       (laid-more t₀ past (opening a) 1 a 0 (s .at) trace refl (spotted .at) same (omega arith)) (omega arith) in
       let all : suc (suc (n - 2)) ≡ n = omega arith in
-      let long = written-length (w .local) es (nodesOf nodes) (w .policy) (w .resource) d in (
+      let long = written-length (w .local) es (nodesOf nodes) (w .policy) (watching (w .resource)) d in (
         closing a ∷ past₁,
         back-to u (run-in all refl (closed es (u .is) aim (tells .aimed) refl (λ g. not-16 (tells .number ∙ g)) d)),
         subst (Spotted (closing a ∷ past₁)) (sym er) (spotted-closing past₁ mid a spot),
@@ -262,7 +267,7 @@ module _ (w : Watch) (rows nodes t : List ℕ) (e : Entry) (n r : ℕ)
       )
     where
       closed : (es : List Edge) {i j : ℕ} {names : outline.Names} {m : ℕ} {c : Bool} {past after : Past}
-          → Is (nodesOf nodes) j (sandbox a b) → (aim : Aim) → Aimed aim → {u : Aim} → aim ≡ u → (aimAt aim ≡ 16 → ⊥)
+          → Is (nodesOf nodes) j (sandbox a b) → (aim : Aim Bool) → Aimed aim → {u : Aim Bool} → aim ≡ u → (aimAt aim ≡ 16 → ⊥)
           → Run es i (e .opened || eqb a (w .policy)) b names m c (stateIn w e a) (opening a ∷ past) aim after
           → Run es (suc (suc i)) (e .opened) j names m c (e .state) past aim (closing a ∷ after)
       closed es is aim at-end f g d = Written.sandboxes is d

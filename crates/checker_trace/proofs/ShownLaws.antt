@@ -13,7 +13,7 @@ use lib.ListN.{length, replicate}
 use Rattle.checker_trace.specs.Answer.{mostNumbers}
 use Rattle.usage.specs.declared.Edge.{Edge}
 use Rattle.usage.specs.Limits.{statics, mostShown, mostNodes, nodeFields}
-use Rattle.usage.specs.Policy.{Sees, Moves, along, stays, Offending, EdgesOk}
+use Rattle.usage.specs.Policy.{PairPolicy, Sees, Moves, along, stays, Offending, EdgesOk}
 use Rattle.usage.specs.Past.{Past, count, isOpen, May, start, moved, opened, closed, retired}
 use Rattle.usage.specs.Outline.{on-static, noNames}
 use Rattle.usage.specs.Valid.{Scope, OutlineOk}
@@ -22,16 +22,18 @@ use Rattle.usage.specs.Check.{Shown, longer}
 use Rattle.usage.proofs.Logic.{false-true}
 use Rattle.usage.proofs.TableLaws.{nodes-length}
 use Rattle.automaton.specs.Move.{rowsOf}
-use Rattle.checker_account.specs.Witness.{watched, noName, each, broken}
+use Rattle.checker_account.specs.Witness.{watched, each, broken}
+use Rattle.checker_account.specs.Single.{noName, watching}
 use Rattle.checker_account.specs.Written.{Written}
 use Rattle.checker_account.specs.Tables.{least, rowsIn, places}
 use Rattle.checker_account.specs.Rounds.{formsIn}
 use Rattle.checker_account.specs.RowTable.{fillRows}
 use Rattle.checker_account.specs.Least.{at-break}
+use Rattle.checker_account.proofs.SingleLaws.{watching-keeps, singles}
 use Rattle.checker_account.proofs.Ahead.{Root, hits-exact}
 use Rattle.checker_account.proofs.BegunLaws.{begun-root}
 use Rattle.checker_account.proofs.EventLaws.{event-image}
-use Rattle.checker_account.proofs.Exact.{all-longer}
+use Rattle.checker_account.proofs.SightsLaws.{all-longer-sights}
 use Rattle.checker_account.proofs.NodeLaws.{forms-of}
 use Rattle.checker_account.proofs.Reader.{written-shown}
 use Rattle.checker_account.proofs.RowLaws.{rows-ok}
@@ -85,19 +87,19 @@ module _ (e t : List ℕ) (edges : EdgesOk (edgesOf e)) (ok : OutlineOk (nodesOf
 module _ (local : Bool) (es : List Edge) (nodes : List ℕ) (p : ℕ) (rows : List ℕ) where
   -- a run of m steps that breaks the policy is not shorter than the least length
   pub steps-least : (x : ℕ) → Source es (nodesOf nodes) p x rows → (v : ℕ) → StepsIs (watchOf local p x) rows nodes v → (m : ℕ)
-      → Root local es (nodesOf nodes) p x m none → m ≤ mostShown → v ≤ m
+      → Root local es (nodesOf nodes) p (watching x) m none → m ≤ mostShown → v ≤ m
   steps-least x src v (t, full, h) m d l =
       let f = full-least local es nodes p x rows src t full in
-      let (i, k, g) = f .full (begun-root x) at-break d l in
+      let (i, k, g) = f .full (begun-root (watching-keeps x)) at-break d l in
       let same : v ≡ i = h ∙ ap (held t allLengths) (root-is x) ∙ g .0 in
       omega arith
 
   -- the least length is one
   pub steps-goes : (x : ℕ) → Source es (nodesOf nodes) p x rows → (v : ℕ) → StepsIs (watchOf local p x) rows nodes v → v ≤ mostShown
-      → Root local es (nodesOf nodes) p x v none
+      → Root local es (nodesOf nodes) p (watching x) v none
   steps-goes x src v (t, full, h) l =
       let f = full-least local es nodes p x rows src t full in
-      f .lengths .sound (begun-root x) at-break (sym (h ∙ ap (held t allLengths) (root-is x)), l)
+      f .lengths .sound (begun-root (watching-keeps x)) at-break (sym (h ∙ ap (held t allLengths) (root-is x)), l)
 
   -- two full tables tell the same length
   pub steps-one : (x : ℕ) → Source es (nodesOf nodes) p x rows → (v u : ℕ) → StepsIs (watchOf local p x) rows nodes v
@@ -108,13 +110,15 @@ module _ (local : Bool) (es : List Edge) (nodes : List ℕ) (p : ℕ) (rows : Li
       omega arith
 
 module _ (local : Bool) (es : List Edge) (nodes : List ℕ) (p : ℕ) (rows : List ℕ)
-    (src : (x : ℕ) → x ≤ watched → Source es (nodesOf nodes) p x rows) (r : Shortest) (h : ShortestIs local p rows nodes r) where
-  at-least : (y m : ℕ) (l : y ≤ watched) → touched nodes y ≡ true → Root local es (nodesOf nodes) p y m none → m ≤ mostShown → r .length ≤ m
+    (src : (x : ℕ) → x ≤ watched → Source es (nodesOf nodes) p x rows) (r : Shortest) (h : ShortestIs local p rows nodes r)
+    (alone : PairPolicy es p → ⊥) where
+  at-least : (y m : ℕ) (l : y ≤ watched) → touched nodes y ≡ true → Root local es (nodesOf nodes) p (watching y) m none → m ≤ mostShown
+      → r .length ≤ m
   at-least y m l w d few =
       let (v, s, k) = h .least y l w in let g = steps-least local es nodes p rows y (src y l) v s m d few in omega arith
 
   -- of a static that need not be watched, the dynamic resource tells
-  none-shorter : (y m : ℕ) → y ≤ watched → Root local es (nodesOf nodes) p y m none → m ≤ mostShown → r .length ≤ m
+  none-shorter : (y m : ℕ) → y ≤ watched → Root local es (nodesOf nodes) p (watching y) m none → m ≤ mostShown → r .length ≤ m
   none-shorter y m l d few = go (touched nodes y) refl
     where
       go : (b : Bool) → touched nodes y ≡ b → r .length ≤ m
@@ -127,22 +131,23 @@ module _ (local : Bool) (es : List Edge) (nodes : List ℕ) (p : ℕ) (rows : Li
           (λ k a i. let (b, f) = forms-of nodes .has k (on-static a y) i in u .no-event k a b f) d refl (lt-ltb y statics (u .static))) few
 
   pub shown-some : (x : ℕ) → x ≤ watched → (edges : EdgesOk es) (ok : OutlineOk (nodesOf nodes)) → r .length ≤ mostShown → (after : Past)
-      → Written local es (nodesOf nodes) p x (r .length) false 0 noNames noName (ltb x statics) 0 [] (broken none) after
+      → Written local es (nodesOf nodes) p (watching x) (r .length) false 0 noNames noName (ltb x statics) 0 [] (broken none) after
       → Shown local es (nodesOf nodes) p (some after)
   shown-some x small edges ok few after d =
-      written-shown local es (nodesOf nodes) (Scope (nodesOf nodes)) p edges (scoped (nodesOf nodes) ok) small d few
-      (λ y m l g. go y m l g (decLe m mostShown))
+      written-shown local es (nodesOf nodes) (Scope (nodesOf nodes)) p edges (scoped (nodesOf nodes) ok) (singles es p alone)
+      (x, small) d few
+      (λ i m g. go (i .0) m (i .1) g (decLe m mostShown))
     where
-      go : (y m : ℕ) → y ≤ watched → Root local es (nodesOf nodes) p y m none → Dec (m ≤ mostShown) → r .length ≤ m
+      go : (y m : ℕ) → y ≤ watched → Root local es (nodesOf nodes) p (watching y) m none → Dec (m ≤ mostShown) → r .length ≤ m
       go y m l g (yes k) = none-shorter y m l g k
       go y m l g (no k) = omega arith
 
   pub shown-none : (edges : EdgesOk es) (ok : OutlineOk (nodesOf nodes)) → mostShown < r .length → Shown local es (nodesOf nodes) p none
   shown-none edges ok big =
-      all-longer local es (nodesOf nodes) (Scope (nodesOf nodes)) p edges (scoped (nodesOf nodes) ok)
-      (λ y m by little k. go y m little (hits-exact local es (nodesOf nodes) p y m none .0 (by, each, k)) (decLe m mostShown))
+      all-longer-sights local es (nodesOf nodes) (Scope (nodesOf nodes)) p edges (scoped (nodesOf nodes) ok) (singles es p alone)
+      (λ i m by k. go (i .0) m (i .1) (hits-exact local es (nodesOf nodes) p (watching (i .0)) m none .0 (by, each, k)) (decLe m mostShown))
     where
-      go : (y m : ℕ) → y ≤ watched → Root local es (nodesOf nodes) p y m none → Dec (m ≤ mostShown) → mostShown < m
+      go : (y m : ℕ) → y ≤ watched → Root local es (nodesOf nodes) p (watching y) m none → Dec (m ≤ mostShown) → mostShown < m
       go y m l d (yes k) = let g = none-shorter y m l d k in absurd (omega arith)
       go y m l d (no k) = omega arith
 
@@ -157,7 +162,7 @@ module _ (local : Bool) (es : List Edge) (edges : EdgesOk es) (p : ℕ) (big : 8
   stays-reset true q e = refl
   stays-reset false q e = e
 
-  at-start : {x : ℕ} {past : Past} {q : ℕ} → May local es p (Sees x) past q → 0 ≡ q
+  at-start : {xs : List ℕ} {past : Past} {q : ℕ} → May local es p (Sees xs) past q → 0 ≡ q
   at-start start = refl
   at-start (moved m v) = at-start m ∙ unmoved v
   at-start (opened {s = s} {past = past} {q = q} m) = stays-reset (local && (eqb s p && not (isOpen p past))) q (at-start m)
@@ -169,7 +174,7 @@ module _ (local : Bool) (es : List Edge) (edges : EdgesOk es) (p : ℕ) (big : 8
   start-good e (inr f) = omega arith
 
   pub no-policy-shown : (nodes : List ℕ) → Shown local es (nodesOf nodes) p none
-  no-policy-shown nodes = longer (λ past t v. absurd (start-good (at-start (v .1 .2)) (v .1 .3)))
+  no-policy-shown nodes = longer (λ past t v. absurd (start-good (at-start (v .1 .3)) (v .1 .4)))
 
 -- ── The watched resources in turn ──
 
@@ -244,6 +249,6 @@ root-shows w rows nodes t n trace r trace′ full few room d es src steps =
     let same : held t allLengths (rootOf x) ≡ n = steps-one (w .local) es nodes (w .policy) rows x src n
     (held t allLengths (rootOf x)) steps (t, full, refl) few in
     let (after, run, spot, laid-is) = d es noName (ltb x statics) (broken none) noNames trace [] (record { source = src; least = least-is })
-    (record { meaning = root-meaning x; number = refl; begun = begun-root x; aimed = at-break }) same
+    (record { meaning = root-meaning x; number = refl; begun = begun-root (watching-keeps x); aimed = at-break }) same
     (λ m s. absurd (scoped (nodesOf nodes) (src .outline) .root s)) (λ m v e. none-some e) first-spot (laid-none trace) (omega arith) in
     (after, run, laid-is)

@@ -15,6 +15,7 @@ use Rattle.usage.specs.Outline as outline
 use Rattle.usage.specs.Outline.{Form, Is, on-static, on-name}
 use Rattle.usage.specs.Valid.{Scope}
 use Rattle.usage.specs.Tables.{nodesOf}
+use Rattle.checker_account.specs.Single.{watching}
 use Rattle.checker_account.specs.Witness.{Aim, ended, broken, each}
 use Rattle.checker_account.specs.Written.{Written}
 use Rattle.checker_account.specs.Least.{Leads, PassesAll, ending}
@@ -41,22 +42,22 @@ use Rattle.checker_trace.proofs.StepLaws.{laid-more, spotted-event}
 
 module _ (w : Watch) (rows nodes t : List ℕ) (e : Entry) where
   -- the entry, as the account tells it
-  abbrev told : ℕ → Bool → Aim → Entry
+  abbrev told : ℕ → Bool → Aim Bool → Entry
   told m c aim = entryOf (e .node) (e .opened) (meaningOf m c) (e .state) (aimAt aim)
 
-  pub tells-is : {m : ℕ} {c : Bool} {aim : Aim} → Tells (w .resource) e m c aim → e ≡ told m c aim
+  pub tells-is : {m : ℕ} {c : Bool} {aim : Aim Bool} → Tells (w .resource) e m c aim → e ≡ told m c aim
   tells-is h = ap₂ (λ (i j : ℕ). entryOf (e .node) (e .opened) i (e .state) j) (h .meaning) (h .number)
 
   -- ── The node to go on at ──
 
-  pub record Arrived (es : List Edge) (n m : ℕ) (c : Bool) (aim : Aim) (j r : ℕ) (f : Form) : Type 0 where
+  pub record Arrived (es : List Edge) (n m : ℕ) (c : Bool) (aim : Aim Bool) (j r : ℕ) (f : Form) : Type 0 where
     pub passes : PassesAll (nodesOf nodes) (ending aim) (e .node) j
     pub is : Is (nodesOf nodes) j f
     pub gives : offerOf w rows (held t n) (entryOf j (e .opened) (meaningOf m c) (e .state) (aimAt aim)) r f ≡ n
 
   pub arrive : (n j r : ℕ) (f : Form) → length nodes / nodeFields ≤ mostNodes
       → OntoIs w rows nodes t e n (By j r) → formHere nodes j ≡ some f
-      → {es : List Edge} {m : ℕ} {c : Bool} {aim : Aim} → Ready w es rows nodes t
+      → {es : List Edge} {m : ℕ} {c : Bool} {aim : Aim Bool} → Ready w es rows nodes t
       → Tells (w .resource) e m c aim → Arrived es n m c aim j r f
   arrive n j r f few on g {es} {m} {c} {aim} ready tells =
       let (s, closed, l, h, offer) = subst (λ (y : Entry). OntoIs w rows nodes t y n (By j r)) (tells-is tells) on in
@@ -92,14 +93,16 @@ module _ (w : Watch) (rows nodes t : List ℕ) (e : Entry) where
     wrote-none z es m c aim names t₀ past ready tells h named agree spotted same room =
         let L = ready .least .lengths in
         let here : held t allLengths (told m c aim) ≡ n = sym (ap (held t allLengths) (tells-is tells)) ∙ h in
-        let d = goes-still (w .local) es (nodesOf nodes) (w .policy) (w .resource)
+        let d = goes-still (w .local) es (nodesOf nodes) (w .policy) (watching (w .resource))
         (L .sound (tells .begun) (tells .aimed) (here, omega arith)) z in (
           past,
-          subst (λ (u : Aim). Written (w .local) es (nodesOf nodes) (w .policy) (w .resource) n (e .opened) (e .node) names m c
+          subst (λ (u : Aim Bool). Written (w .local) es (nodesOf nodes) (w .policy) (watching (w .resource)) n (e .opened)
+              (e .node) names m c
               (e .state) past u past) (sym (d .same))
-              (subst (λ (i : ℕ). Written (w .local) es (nodesOf nodes) (w .policy) (w .resource) i (e .opened) (e .node) names m c
+              (subst (λ (i : ℕ). Written (w .local) es (nodesOf nodes) (w .policy) (watching (w .resource)) i (e .opened)
+              (e .node) names m c
               (e .state) past (ended c (e .state)) past) (sym z)
-              (idle-written (w .local) es (nodesOf nodes) (w .policy) (w .resource) (d .idle))),
+              (idle-written (w .local) es (nodesOf nodes) (w .policy) (watching (w .resource)) (d .idle))),
           spotted,
           same,
         )
@@ -114,11 +117,11 @@ module _ (w : Watch) (rows nodes t : List ℕ) (e : Entry) where
 
     module _ (few-nodes : length nodes / nodeFields ≤ mostNodes) (few : n ≤ mostShown)
         (j r : ℕ) (on : OntoIs w rows nodes t e n (By j r)) where
-      abbrev at-node : Bool → ℕ → Aim → ℕ → Entry
+      abbrev at-node : Bool → ℕ → Aim Bool → ℕ → Entry
       at-node c m aim k = entryOf k (e .opened) (meaningOf m c) (e .state) (aimAt aim)
 
       -- the aim has a number, since the entry is in the table
-      pub range-of : {m : ℕ} {c : Bool} {aim : Aim} → held t allLengths e ≡ n → Tells (w .resource) e m c aim → aimAt aim < 17
+      pub range-of : {m : ℕ} {c : Bool} {aim : Aim Bool} → held t allLengths e ≡ n → Tells (w .resource) e m c aim → aimAt aim < 17
       range-of h tells = let (i, y, l) = held-is t allLengths e n h (omega arith) in
           subst (λ (y : ℕ). y < 17) (tells .number) (bounds e i .aim)
 
@@ -127,29 +130,34 @@ module _ (w : Watch) (rows nodes t : List ℕ) (e : Entry) where
       event-steps z y (inl g) = ending-inv y n few z g .0
       event-steps z y (inr g) = breaking-inv y n few z g .0
 
-      module _ (es : List Edge) (m : ℕ) (c : Bool) (aim : Aim) (names : outline.Names) (past : Past) (ready : Ready w es rows nodes t)
+      module _ (es : List Edge) (m : ℕ) (c : Bool) (aim : Aim Bool) (names : outline.Names) (past : Past) (ready : Ready w es rows nodes t)
           (tells : Tells (w .resource) e m c aim) (range : aimAt aim < 17) where
         abbrev Here : Past → Type 0
-        Here after = Written (w .local) es (nodesOf nodes) (w .policy) (w .resource) n (e .opened) j names m c (e .state) past aim after
+        Here after =
+            Written (w .local) es (nodesOf nodes) (w .policy) (watching (w .resource)) n (e .opened) j names m c (e .state) past aim after
 
         written-end : (q : ℕ) (after : Past) → n ≡ 1 → aim ≡ ended c q
-            → Written (w .local) es (nodesOf nodes) (w .policy) (w .resource) 1 (e .opened) j names m c (e .state) past (ended c q) after
+            → Written (w .local) es (nodesOf nodes) (w .policy) (watching (w .resource)) 1 (e .opened) j names m c (e .state) past
+            (ended c q) after
             → Here after
         written-end q after z f d =
-            subst (λ (u : Aim). Written (w .local) es (nodesOf nodes) (w .policy) (w .resource) n (e .opened) j names m c
+            subst (λ (u : Aim Bool). Written (w .local) es (nodesOf nodes) (w .policy) (watching (w .resource)) n (e .opened) j names m c
             (e .state) past u after) (sym f)
-            (subst (λ (i : ℕ). Written (w .local) es (nodesOf nodes) (w .policy) (w .resource) i (e .opened) j names m c (e .state) past
+            (subst (λ (i : ℕ). Written (w .local) es (nodesOf nodes) (w .policy) (watching (w .resource)) i (e .opened) j names m c
+            (e .state) past
             (ended c q) after) (sym z) d)
 
         written-break : (after : Past) → n ≡ 1 → e .opened ≡ true → aim ≡ broken none
-            → Written (w .local) es (nodesOf nodes) (w .policy) (w .resource) 1 true j names m c (e .state) past (broken none) after
+            → Written (w .local) es (nodesOf nodes) (w .policy) (watching (w .resource)) 1 true j names m c (e .state) past
+            (broken none) after
             → Here after
         written-break after z o f d =
-            subst (λ (u : Aim). Written (w .local) es (nodesOf nodes) (w .policy) (w .resource) n (e .opened) j names m c
+            subst (λ (u : Aim Bool). Written (w .local) es (nodesOf nodes) (w .policy) (watching (w .resource)) n (e .opened) j names m c
             (e .state) past u after) (sym f)
-            (subst (λ (i : ℕ). Written (w .local) es (nodesOf nodes) (w .policy) (w .resource) i (e .opened) j names m c (e .state) past
+            (subst (λ (i : ℕ). Written (w .local) es (nodesOf nodes) (w .policy) (watching (w .resource)) i (e .opened) j names m c
+            (e .state) past
             (broken none) after) (sym z)
-            (subst (λ (y : Bool). Written (w .local) es (nodesOf nodes) (w .policy) (w .resource) 1 y j names m c (e .state) past
+            (subst (λ (y : Bool). Written (w .local) es (nodesOf nodes) (w .policy) (watching (w .resource)) 1 y j names m c (e .state) past
             (broken none) after) (sym o) d))
 
         at-static : (d i : ℕ) → Is (nodesOf nodes) j (on-static d i)
@@ -193,7 +201,7 @@ module _ (w : Watch) (rows nodes t : List ℕ) (e : Entry) where
           let u = event-inv (at-node c m aim j) n few (moved rows (at-node c m aim j) (eqb i (w .resource))) r (v .gives) in
           let z = event-steps (moved rows (at-node c m aim j) (eqb i (w .resource))) (at-node c m aim j) u in (
             event d i ∷ past,
-            passes-written (w .local) es (nodesOf nodes) (w .policy) (w .resource) aim (v .passes)
+            passes-written (w .local) es (nodesOf nodes) (w .policy) (watching (w .resource)) aim (v .passes)
                 (at-static es m c aim names past ready tells (range-of h tells) d i (v .is) u),
             subst (Spotted (event d i ∷ past)) (sym er)
                 (spotted-event past s d i (scoped (nodesOf nodes) (ready .source .outline) .static-acts (v .is)) spotted),
@@ -210,7 +218,7 @@ module _ (w : Watch) (rows nodes t : List ℕ) (e : Entry) where
           let z = event-steps (moved rows (at-node c m aim j) (eqb (meaningOf m c) (suc i))) (at-node c m aim j) u in
           let (x, nm) = passes-names ready (v .passes) named i (scoped (nodesOf nodes) (ready .source .outline) .used (v .is)) in (
             event d x ∷ past,
-            passes-written (w .local) es (nodesOf nodes) (w .policy) (w .resource) aim (v .passes)
+            passes-written (w .local) es (nodesOf nodes) (w .policy) (watching (w .resource)) aim (v .passes)
                 (at-name es m c aim names past ready tells (range-of h tells) d i x (v .is) nm u),
             subst (Spotted (event d x ∷ past)) (sym er)
                 (spotted-event past s d x (scoped (nodesOf nodes) (ready .source .outline) .name-acts (v .is)) spotted),

@@ -27,7 +27,8 @@ use Rattle.usage.specs.declared.Node.{Node}
 use Rattle.usage.specs.Outline as outline
 use Rattle.usage.specs.Valid.{Scope}
 use Rattle.usage.specs.Tables.{nodesOf}
-use Rattle.checker_account.specs.Witness.{Aim, watched, noName, broken}
+use Rattle.checker_account.specs.Witness.{Aim, watched, broken}
+use Rattle.checker_account.specs.Single.{noName, watching}
 use Rattle.checker_account.specs.Least.{Begun, Aimed, Least}
 use Rattle.checker_lengths.specs.Held.{aimAt, meaningOf, entriesIn, Source, watchOf}
 use Rattle.checker_account.specs.Tables.{least}
@@ -130,13 +131,13 @@ pub record Spotted (past : Past) (s : Spot) : Type 0 where
 -- the table is full, for these edges
 pub record Ready (w : Watch) (es : List Edge) (rows nodes t : List ℕ) : Type 0 where
   pub source : Source es (nodesOf nodes) (w .policy) (w .resource) rows
-  pub least : Least (w .local) es (nodesOf nodes) (w .policy) (w .resource) mostShown (entriesIn t allLengths)
+  pub least : Least (w .local) es (nodesOf nodes) (w .policy) (watching (w .resource)) mostShown (entriesIn t allLengths)
 
 -- what an entry's numbers say: name n means the watched resource, c tells whether it was created, and the aim
-pub record Tells (x : ℕ) (e : Entry) (n : ℕ) (c : Bool) (aim : Aim) : Type 0 where
+pub record Tells (x : ℕ) (e : Entry) (n : ℕ) (c : Bool) (aim : Aim Bool) : Type 0 where
   pub meaning : e .meaning ≡ meaningOf n c
   pub number : e .aim ≡ aimAt aim
-  pub begun : Begun x n c (e .state)
+  pub begun : Begun (watching x) n c (e .state)
   pub aimed : Aimed aim
 
 -- each name in scope at node k means something; and the code's numbers are what names mean
@@ -154,11 +155,11 @@ pub record WithinSteps (s : Spot) (n : ℕ) (r : Spot) : Type 0 where
 -- The steps are those of a part of a run, whatever past there is in the table t₀ before them. t is the table of lengths.
 abbrev pub Writes : Watch → List ℕ → List ℕ → List ℕ → Entry → ℕ → Names → Spot → List ℕ → Spot → List ℕ → Type 0
 Writes w rows nodes t e n g s trace r trace′ =
-    (es : List Edge) (m : ℕ) (c : Bool) (aim : Aim) (names : outline.Names) (t₀ : List ℕ) (past : Past)
+    (es : List Edge) (m : ℕ) (c : Bool) (aim : Aim Bool) (names : outline.Names) (t₀ : List ℕ) (past : Past)
     → Ready w es rows nodes t → Tells (w .resource) e m c aim
     → held t allLengths e ≡ n → NamesAt (nodesOf nodes) (e .node) names → Agree names g → Spotted past s → trace ≡ laid t₀ past
     → stepFields * (length past + n) ≤ length t₀
-    → (after : Past) × Written (w .local) es (nodesOf nodes) (w .policy) (w .resource) n (e .opened) (e .node) names m c
+    → (after : Past) × Written (w .local) es (nodesOf nodes) (w .policy) (watching (w .resource)) n (e .opened) (e .node) names m c
     (e .state) past aim after
     × Spotted after r × (trace′ ≡ laid t₀ after)
 
@@ -188,6 +189,6 @@ pub record ShortestIs (local : Bool) (p : ℕ) (rows nodes : List ℕ) (r : Shor
 abbrev pub Shows : Watch → List ℕ → List ℕ → ℕ → List ℕ → List ℕ → Type 0
 Shows w rows nodes n trace trace′ =
     (es : List Edge) → Source es (nodesOf nodes) (w .policy) (w .resource) rows → StepsIs w rows nodes n
-    → (after : Past) × Written (w .local) es (nodesOf nodes) (w .policy) (w .resource) n false 0 noNames noName
+    → (after : Past) × Written (w .local) es (nodesOf nodes) (w .policy) (watching (w .resource)) n false 0 noNames noName
     (ltb (w .resource) statics) 0 [] (broken none) after
     × (trace′ ≡ laid trace after)

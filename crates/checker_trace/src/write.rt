@@ -5,7 +5,7 @@ ghost use mathlib.Core.Option.{some};
 ghost use lib.ListN.{length, getD, set};
 ghost use Rattle.usage.specs.Limits.{mostNodes, nodeFields, stepFields, mostShown, resources};
 ghost use Rattle.usage.specs.Outline.{sequence, fresh, sandbox};
-ghost use Rattle.checker_account.specs.Witness.{noName};
+ghost use Rattle.checker_account.specs.Single.{noName};
 ghost use Rattle.checker_trace.specs.Code.{storedStep, onward, created, given, WithinSteps, Writes, Chosen};
 use crate::Names;
 use crate::Onto;

@@ -2,7 +2,7 @@
 use Prim.Native.Nat.{ℕ, _<_, _≤_}
 use mathlib.Core.Path.{_≡_, refl, sym, ap, _∙_, subst}
 use mathlib.Core.Bool.{Bool, true, false, _&&_, _||_}
-use mathlib.Core.List.{List}
+use mathlib.Core.List.{List, [], _∷_}
 use mathlib.Core.Logic.{_⊎_, inl, inr}
 use native.Mathlib.Omega.{arith}
 use lib.Dec.{eqb, ltb, lit<}
@@ -10,12 +10,14 @@ use lib.ListN.{getD, List·getD-eq-default}
 use borrow.Author.Tests.{eqb-true, lt-ltb, ltb-true, ltb-false}
 use Rattle.usage.specs.declared.Edge.{Edge}
 use Rattle.usage.specs.Limits.{policies}
-use Rattle.usage.specs.Policy.{Offending}
-use Rattle.usage.specs.Past.{Past, Broken, Open, Violates}
+use Rattle.usage.specs.Policy.{Sees, Offending, EdgesOk}
+use Rattle.usage.specs.Past.{Past, May, Broken, Open, Violates}
 use Rattle.usage.proofs.Logic.{not-both, or-left, or-right, or-cases, and-left, and-right, and-both}
+use Rattle.usage.proofs.PastLaws.{broken-single}
+use Rattle.usage.proofs.ValidLaws.{no-pair}
 use Rattle.automaton.specs.Mask.{has, offends, lowestIn}
 use Rattle.automaton.proofs.MaskLaws.{has-zero, has-offending, maskOf-has, maskOf-lt, lowest-is}
-use Rattle.automaton.proofs.MoveLaws.{Ends}
+use Rattle.automaton.proofs.MoveLaws.{ends-of}
 use Rattle.monitor_state.specs.declared.State.{State}
 use Rattle.monitor_state.specs.Judge.{possibleIn, broken}
 use Rattle.monitor_state.specs.Represents.{Represents}
@@ -27,27 +29,29 @@ unfolding broken
 broken-lt s = maskOf-lt (λ p. ltb 0 (getD (s .unclosed) p 0) && offends (possibleIn s p))
 
 module _ (local : Bool) (es : List Edge) (past : Past) (h : Bool) (s : State) (R : Represents local es past h s) where
-  -- an offending state is among the possible ones exactly where some instance may be in it
-  offends-broken : (p : ℕ) → p < policies → offends (possibleIn s p) ≡ true → Broken local es p past
-  offends-broken p k o =
-      go (or-cases (has (possibleIn s p) 6) (has (possibleIn s p) 7) (sym (has-offending (possibleIn s p) (R .possible-bytes p)) ∙ o))
+  -- an offending state is among the possible ones exactly where some instance, which is that of one resource, may be in it
+  offends-broken : EdgesOk es → (p : ℕ) → p < policies → offends (possibleIn s p) ≡ true → Broken local es p past
+  offends-broken v p k o =
+      broken-single (no-pair v p) .1
+      (go (or-cases (has (possibleIn s p) 6) (has (possibleIn s p) 7) (sym (has-offending (possibleIn s p) (R .possible-bytes p)) ∙ o)))
     where
-      go : (has (possibleIn s p) 6 ≡ true) ⊎ (has (possibleIn s p) 7 ≡ true) → Broken local es p past
+      go : (has (possibleIn s p) 6 ≡ true) ⊎ (has (possibleIn s p) 7 ≡ true)
+          → (x : ℕ) × (q : ℕ) × May local es p (Sees (x ∷ [])) past q × Offending q
       go (inl e) = let m = R .gathers p 6 k (lit< tt) .0 e in (m .0, 6, m .1, inl refl)
       go (inr e) = let m = R .gathers p 7 k (lit< tt) .0 e in (m .0, 7, m .1, inr refl)
 
-  broken-offends : Ends es → (p : ℕ) → p < policies → Broken local es p past → offends (possibleIn s p) ≡ true
-  broken-offends v p k b = has-offending m (R .possible-bytes p) ∙ go (b .3)
+  broken-offends : EdgesOk es → (p : ℕ) → p < policies → Broken local es p past → offends (possibleIn s p) ≡ true
+  broken-offends v p k broken = let b = broken-single (no-pair v p) .0 broken in offends-at (b .0) (b .1) (b .2) (b .3)
     where
       m : ℕ
       m = possibleIn s p
 
-      in-set : has m (b .1) ≡ true
-      in-set = R .gathers p (b .1) k (may-lt v (b .2)) .1 (b .0, b .2)
+      go : {q : ℕ} → has m q ≡ true → Offending q → (has m 6 || has m 7) ≡ true
+      go e (inl o) = or-left (has m 6) (has m 7) (ap (has m) (sym o) ∙ e)
+      go e (inr o) = or-right (has m 6) (has m 7) (ap (has m) (sym o) ∙ e)
 
-      go : Offending (b .1) → (has m 6 || has m 7) ≡ true
-      go (inl e) = or-left (has m 6) (has m 7) (ap (has m) (sym e) ∙ in-set)
-      go (inr e) = or-right (has m 6) (has m 7) (ap (has m) (sym e) ∙ in-set)
+      offends-at : (x q : ℕ) → May local es p (Sees (x ∷ [])) past q → Offending q → offends m ≡ true
+      offends-at x q i o = has-offending m (R .possible-bytes p) ∙ go (R .gathers p q k (may-lt (ends-of v) i) .1 (x, i)) o
 
   -- a policy is open where its count of unclosed openings is not 0
   pub open-count-pos : (p : ℕ) → Open p past → 0 < getD (s .unclosed) p 0
@@ -67,7 +71,7 @@ module _ (local : Bool) (es : List Edge) (past : Past) (h : Bool) (s : State) (R
           List·getD-eq-default (s .unclosed) 0 (subst (λ (n : ℕ). n ≤ p) (sym (R .unclosed-length)) (ltb-false p policies e)) in
           absurd (omega (arith, open-count-pos p o, z))
 
-  violates-has : Ends es → (p : ℕ) → Violates local es p past → has (broken s) p ≡ true
+  violates-has : EdgesOk es → (p : ℕ) → Violates local es p past → has (broken s) p ≡ true
   unfolding broken
   violates-has v p b =
       let l : p < policies = open-lt p (b .0) in
@@ -75,17 +79,17 @@ module _ (local : Bool) (es : List Edge) (past : Past) (h : Bool) (s : State) (R
       ∙ and-both (ltb 0 (getD (s .unclosed) p 0)) (offends (possibleIn s p)) (lt-ltb 0 (getD (s .unclosed) p 0) (open-count-pos p (b .0)))
       (broken-offends v p l (b .1))
 
-  has-violates : (p : ℕ) → p < policies → has (broken s) p ≡ true → Violates local es p past
+  has-violates : EdgesOk es → (p : ℕ) → p < policies → has (broken s) p ≡ true → Violates local es p past
   unfolding broken
-  has-violates p l e =
+  has-violates v p l e =
       let t : (ltb 0 (getD (s .unclosed) p 0) && offends (possibleIn s p)) ≡ true =
       sym (maskOf-has (λ p. ltb 0 (getD (s .unclosed) p 0) && offends (possibleIn s p)) p l) ∙ e in (
         count-pos-open p (ltb-true 0 (getD (s .unclosed) p 0) (and-left (ltb 0 (getD (s .unclosed) p 0)) (offends (possibleIn s p)) t)),
-        offends-broken p l (and-right (ltb 0 (getD (s .unclosed) p 0)) (offends (possibleIn s p)) t),
+        offends-broken v p l (and-right (ltb 0 (getD (s .unclosed) p 0)) (offends (possibleIn s p)) t),
       )
 
   -- where the set is empty every open policy is respected
-  pub none-violated : Ends es → eqb (broken s) 0 ≡ true → (p : ℕ) → Violates local es p past → ⊥
+  pub none-violated : EdgesOk es → eqb (broken s) 0 ≡ true → (p : ℕ) → Violates local es p past → ⊥
   none-violated v e p b = not-both (has 0 p) (ap (λ (m : ℕ). has m p) (sym (eqb-true (broken s) 0 e)) ∙ violates-has v p b) (has-zero p)
 
   -- else its lowest number is the lowest open policy that is not respected
@@ -93,10 +97,10 @@ module _ (local : Bool) (es : List Edge) (past : Past) (h : Bool) (s : State) (R
     pub is : Violates local es (lowestIn (broken s)) past
     pub least : (q : ℕ) → q < lowestIn (broken s) → Violates local es q past → ⊥
 
-  pub first-violated : Ends es → eqb (broken s) 0 ≡ false → First
+  pub first-violated : EdgesOk es → eqb (broken s) 0 ≡ false → First
   first-violated v e =
       let l = lowest-is (broken s) (broken-lt s) e in
       record {
-        is = has-violates (lowestIn (broken s)) (l .below-8) (l .inside);
+        is = has-violates v (lowestIn (broken s)) (l .below-8) (l .inside);
         least = λ q k b. not-both (has (broken s) q) (violates-has v q b) (l .no-lower q k);
       }

@@ -2,7 +2,7 @@
 use Prim.Native.Nat.{ℕ, _+_, _*_, _<_, _≤_}
 use mathlib.Core.Path.{_≡_, refl, sym, ap, _∙_}
 use mathlib.Core.Bool.{Bool, true, false}
-use mathlib.Core.List.{List}
+use mathlib.Core.List.{List, [], _∷_}
 use native.Mathlib.Nat.{zero-add}
 use native.Mathlib.Omega.{arith}
 use lib.Dec.{eqb, lit<}
@@ -39,17 +39,18 @@ module _ (local : Bool) (es : List Edge) (past : Past) (t : State)
           ∙ ap (gatheredAt (used t) (t .sets)) (zero-add p))
           ∙ union-has (used t) (λ i. setAt t p i) q
 
-      to : has (possibleIn t p) q ≡ true → (x : ℕ) × May local es p (Sees x) past q
+      to : has (possibleIn t p) q ≡ true → (x : ℕ) × May local es p (Sees (x ∷ [])) past q
       to h =
           let f = some-found (used t) (λ i. has (setAt t p i) q) (sym among ∙ h) in
           go (f .0) (f .1) (f .2) (eqb (f .0) retirees) refl (eqb (f .0) unseen) refl
         where
           -- the states at a place that is some resource's, which is not retired
-          owned : (i x : ℕ) → placeOf t x ≡ i → (Retired x past → ⊥) → has (setAt t p i) q ≡ true → (x : ℕ) × May local es p (Sees x) past q
+          owned : (i x : ℕ) → placeOf t x ≡ i → (Retired x past → ⊥) → has (setAt t p i) q ≡ true
+              → (x : ℕ) × May local es p (Sees (x ∷ [])) past q
           owned i x o d g = (x, tracks x p q k l d .0 (ap (λ (i : ℕ). has (setAt t p i) q) o ∙ g))
 
           go : (i : ℕ) → i < used t → has (setAt t p i) q ≡ true → (b : Bool) → eqb i retirees ≡ b → (c : Bool) → eqb i unseen ≡ c
-              → (x : ℕ) × May local es p (Sees x) past q
+              → (x : ℕ) × May local es p (Sees (x ∷ [])) past q
           go i b g true r c u =
               let (x, o, m) = joined p q k l .0 (ap (λ (i : ℕ). has (setAt t p i) q) (sym (eqb-true i retirees r)) ∙ g) in (x, m)
           go i b g false r true u =
@@ -58,7 +59,7 @@ module _ (local : Bool) (es : List Edge) (past : Past) (t : State)
               let (x, o) = owner t n w i b (eqb-false i retirees r) in
               owned i x o (λ d. eqb-false i unseen u (sym o ∙ gone x d .0)) g
 
-      back : ((x : ℕ) × May local es p (Sees x) past q) → has (possibleIn t p) q ≡ true
+      back : ((x : ℕ) × May local es p (Sees (x ∷ [])) past q) → has (possibleIn t p) q ≡ true
       back (x, m) = go (eqb (placeOf t x) unseen) refl
         where
           go : (b : Bool) → eqb (placeOf t x) unseen ≡ b → has (possibleIn t p) q ≡ true

@@ -2,7 +2,7 @@
 use Prim.Native.Nat.{ℕ, _+_, _*_, _<_}
 use mathlib.Core.Path.{_≡_, refl, sym, ap, _∙_, subst}
 use mathlib.Core.Bool.{Bool, true, false, _&&_, cond}
-use mathlib.Core.List.{List, _∷_, List·Memᴰ·tail}
+use mathlib.Core.List.{List, [], _∷_, List·Memᴰ·tail}
 use mathlib.Core.Logic.{_⊎_, inl, inr, _↔_}
 use native.Mathlib.Omega.{arith}
 use lib.Dec.{eqb, lit<}
@@ -37,7 +37,7 @@ pub record Held (local : Bool) (es : List Edge) (past : Past) (s : State) (sets 
 
 module _ (local : Bool) (es : List Edge) (past : Past) (h : Bool) (s : State) (R : Represents local es past h s) where
   -- after a step that changes no state
-  same-held : (step : Step) → ((x p q : ℕ) → May local es p (Sees x) past q ↔ May local es p (Sees x) (step ∷ past) q)
+  same-held : (step : Step) → ((x p q : ℕ) → May local es p (Sees (x ∷ [])) past q ↔ May local es p (Sees (x ∷ [])) (step ∷ past) q)
       → Held local es (step ∷ past) s (s .sets) (s .possible)
   unfolding withSets placeOf
   same-held step may = record {
@@ -64,18 +64,18 @@ module _ (local : Bool) (es : List Edge) (past : Past) (h : Bool) (s : State) (R
 
   module _ (p : ℕ) (l : p < policies) where
     -- what p′ may be in is put back where the opening is one of p′ and p was not open, and else kept
-    anew-may : anew local s p ≡ true → (x p′ q : ℕ) → eqb p′ p ≡ true → May local es p′ (Sees x) (opening p ∷ past) q ↔ (q ≡ 0)
+    anew-may : anew local s p ≡ true → (x p′ q : ℕ) → eqb p′ p ≡ true → May local es p′ (Sees (x ∷ [])) (opening p ∷ past) q ↔ (q ≡ 0)
     anew-may b x p′ q e =
         let z : openingsOf s p ≡ 0 = eqb-true (openingsOf s p) 0 (and-right local (eqb (openingsOf s p) 0) b) in
         let i : p′ ≡ p = eqb-true p′ p e in
         let shut : Open p′ past
         → ⊥ = λ o. let k = open-count-pos local es past h s R p (subst (λ (n : ℕ). Open n past) i o) in omega arith in
-        subst (λ (c : Bool). May c es p′ (Sees x) (opening p ∷ past) q ↔ (q ≡ 0)) (sym (and-left local (eqb (openingsOf s p) 0) b))
-        (may-anew es p′ x p past q (sym i) shut)
+        subst (λ (c : Bool). May c es p′ (Sees (x ∷ [])) (opening p ∷ past) q ↔ (q ≡ 0)) (sym (and-left local (eqb (openingsOf s p) 0) b))
+        (may-anew es p′ (x ∷ []) p past q (sym i) shut)
 
     kept-may : (x p′ q : ℕ) → (anew local s p && eqb p′ p) ≡ false
-        → May local es p′ (Sees x) (opening p ∷ past) q ↔ May local es p′ (Sees x) past q
-    kept-may x p′ q n = may-same local es p′ x p past q (why local refl (eqb p′ p) refl n)
+        → May local es p′ (Sees (x ∷ [])) (opening p ∷ past) q ↔ May local es p′ (Sees (x ∷ [])) past q
+    kept-may x p′ q n = may-same local es p′ (x ∷ []) p past q (why local refl (eqb p′ p) refl n)
       where
         further : (c : Bool) → eqb (openingsOf s p) 0 ≡ c → c ≡ false → eqb p′ p ≡ true → Open p′ past
         further c e n i =
@@ -137,7 +137,7 @@ module _ (local : Bool) (es : List Edge) (past : Past) (h : Bool) (s : State) (R
     tracks x p′ q k m gone = go (anew local s p && eqb p′ p) refl
       where
         go : (c : Bool) → (anew local s p && eqb p′ p) ≡ c
-            → (has (getD put-back (p′ * instances + placeOf s x) 0) q ≡ true) ↔ May local es p′ (Sees x) (opening p ∷ past) q
+            → (has (getD put-back (p′ * instances + placeOf s x) 0) q ≡ true) ↔ May local es p′ (Sees (x ∷ [])) (opening p ∷ past) q
         go true c =
             let t = anew-may (and-left (anew local s p) (eqb p′ p) c) x p′ q (and-right (anew local s p) (eqb p′ p) c) in
             let is : has (getD put-back (p′ * instances + placeOf s x) 0) q ≡ eqb 0 q =
@@ -164,9 +164,9 @@ module _ (local : Bool) (es : List Edge) (past : Past) (h : Bool) (s : State) (R
 
         go : (c : Bool) → (anew local s p && eqb p′ p) ≡ c
             → (has (getD put-back (p′ * instances + retirees) 0) q ≡ true)
-            ↔ ((x : ℕ) × (placeOf s x ≡ unseen) × May local es p′ (Sees x) (opening p ∷ past) q)
+            ↔ ((x : ℕ) × (placeOf s x ≡ unseen) × May local es p′ (Sees (x ∷ [])) (opening p ∷ past) q)
         go true c =
-            let t : (x : ℕ) → May local es p′ (Sees x) (opening p ∷ past) q ↔ (q ≡ 0) =
+            let t : (x : ℕ) → May local es p′ (Sees (x ∷ [])) (opening p ∷ past) q ↔ (q ≡ 0) =
             λ x. anew-may (and-left (anew local s p) (eqb p′ p) c) x p′ q (and-right (anew local s p) (eqb p′ p) c) in
             let is : has (getD put-back (p′ * instances + retirees) 0) q ≡ eqb 0 q =
             ap (λ (n : ℕ). has n q) (set-is retirees p′ inside k ∙ ap (λ (b : Bool). cond b startSet (setAt s p′ retirees)) c) ∙ start-is q m in (
@@ -186,9 +186,9 @@ module _ (local : Bool) (es : List Edge) (past : Past) (h : Bool) (s : State) (R
     gathers p′ q k m = go (anew local s p && eqb p′ p) refl
       where
         go : (c : Bool) → (anew local s p && eqb p′ p) ≡ c
-            → (has (getD kept-back p′ 0) q ≡ true) ↔ ((x : ℕ) × May local es p′ (Sees x) (opening p ∷ past) q)
+            → (has (getD kept-back p′ 0) q ≡ true) ↔ ((x : ℕ) × May local es p′ (Sees (x ∷ [])) (opening p ∷ past) q)
         go true c =
-            let t : (x : ℕ) → May local es p′ (Sees x) (opening p ∷ past) q ↔ (q ≡ 0) =
+            let t : (x : ℕ) → May local es p′ (Sees (x ∷ [])) (opening p ∷ past) q ↔ (q ≡ 0) =
             λ x. anew-may (and-left (anew local s p) (eqb p′ p) c) x p′ q (and-right (anew local s p) (eqb p′ p) c) in
             let is : has (getD kept-back p′ 0) q ≡ eqb 0 q =
             ap (λ (n : ℕ). has n q) (possible-is p′ ∙ ap (λ (b : Bool). cond b startSet (possibleIn s p′)) c) ∙ start-is q m in

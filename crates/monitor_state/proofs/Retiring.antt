@@ -2,7 +2,7 @@
 use Prim.Native.Nat.{ℕ, _+_, _-_, _<_, _≤_}
 use mathlib.Core.Path.{_≡_, refl, sym, ap, _∙_, subst}
 use mathlib.Core.Bool.{Bool, true, false, _||_, cond}
-use mathlib.Core.List.{List, _∷_, List·Memᴰ·head, List·Memᴰ·tail, List·Memᴰ·cases-cons}
+use mathlib.Core.List.{List, [], _∷_, List·Memᴰ·head, List·Memᴰ·tail, List·Memᴰ·cases-cons}
 use mathlib.Core.Logic.{_⊎_, inl, inr}
 use native.Mathlib.Omega.{arith}
 use lib.Dec.{eqb, leb, ltb}
@@ -116,18 +116,18 @@ module _ (s : State) (n : length (s .created) ≡ mostCreated) (w : StateOk s) (
     retired-retirees new u p q k l = (λ h. to (or-cases (has (setAt s p retirees) q) (has (setAt s p (placeOf s r)) q) (sym (set-joined p q k) ∙ h)), back)
       where
         to : (has (setAt s p retirees) q ≡ true) ⊎ (has (setAt s p (placeOf s r)) q ≡ true)
-            → (x : ℕ) × (placeOf (retiredIn s r) x ≡ unseen) × May local es p (Sees x) (retiring r ∷ past) q
+            → (x : ℕ) × (placeOf (retiredIn s r) x ≡ unseen) × May local es p (Sees (x ∷ [])) (retiring r ∷ past) q
         to (inl h) = let (x, i, m) = u p q k l .0 h in (x, unseen-after x i, retired m)
         to (inr h) = (r, place-retired, retired (t r p q k l new .0 h))
 
-        back : ((x : ℕ) × (placeOf (retiredIn s r) x ≡ unseen) × May local es p (Sees x) (retiring r ∷ past) q)
+        back : ((x : ℕ) × (placeOf (retiredIn s r) x ≡ unseen) × May local es p (Sees (x ∷ [])) (retiring r ∷ past) q)
             → has (setAt (retiredIn s r) p retirees) q ≡ true
         back (x, i, m) = set-joined p q k ∙ go (eqb r x) refl
           where
             go : (b : Bool) → eqb r x ≡ b → (has (setAt s p retirees) q || has (setAt s p (placeOf s r)) q) ≡ true
             go true e =
                 or-right (has (setAt s p retirees) q) (has (setAt s p (placeOf s r)) q)
-                (t r p q k l new .1 (subst (λ (y : ℕ). May local es p (Sees y) past q) (sym (eqb-true r x e)) (before-retiring m)))
+                (t r p q k l new .1 (subst (λ (y : ℕ). May local es p (Sees (y ∷ [])) past q) (sym (eqb-true r x e)) (before-retiring m)))
             go false e =
                 or-left (has (setAt s p retirees) q) (has (setAt s p (placeOf s r)) q)
                 (u p q k l .1 (x, unseen-before x e i, before-retiring m))

@@ -78,10 +78,10 @@ begin-tracks local es x p q k l n = (to, back)
     one : has (setAt startState p (placeOf startState x)) q ≡ eqb 0 q
     one = ap (λ (m : ℕ). has m q) (begin-set (placeOf startState x) p (begin-place x) k) ∙ has-pow 0 q (lit< tt) l
 
-    to : has (setAt startState p (placeOf startState x)) q ≡ true → May local es p (Sees x) [] q
-    to h = subst (λ (n : ℕ). May local es p (Sees x) [] n) (eqb-true 0 q (sym one ∙ h)) start
+    to : has (setAt startState p (placeOf startState x)) q ≡ true → May local es p (Sees (x ∷ [])) [] q
+    to h = subst (λ (n : ℕ). May local es p (Sees (x ∷ [])) [] n) (eqb-true 0 q (sym one ∙ h)) start
 
-    back : May local es p (Sees x) [] q → has (setAt startState p (placeOf startState x)) q ≡ true
+    back : May local es p (Sees (x ∷ [])) [] q → has (setAt startState p (placeOf startState x)) q ≡ true
     back m = one ∙ eq-eqb 0 q (sym (may-start m))
 
 begin-unseen : placeOf startState statics ≡ unseen
@@ -94,14 +94,14 @@ begin-tracks-retirees local es p q k l = (to, back)
     one : has (setAt startState p retirees) q ≡ eqb 0 q
     one = ap (λ (m : ℕ). has m q) (begin-set retirees p (lit< tt) k) ∙ has-pow 0 q (lit< tt) l
 
-    to : has (setAt startState p retirees) q ≡ true → (x : ℕ) × (placeOf startState x ≡ unseen) × May local es p (Sees x) [] q
+    to : has (setAt startState p retirees) q ≡ true → (x : ℕ) × (placeOf startState x ≡ unseen) × May local es p (Sees (x ∷ [])) [] q
     to h = (
       statics,
       begin-unseen,
-      subst (λ (n : ℕ). May local es p (Sees statics) [] n) (eqb-true 0 q (sym one ∙ h)) start,
+      subst (λ (n : ℕ). May local es p (Sees (statics ∷ [])) [] n) (eqb-true 0 q (sym one ∙ h)) start,
     )
 
-    back : ((x : ℕ) × (placeOf startState x ≡ unseen) × May local es p (Sees x) [] q) → has (setAt startState p retirees) q ≡ true
+    back : ((x : ℕ) × (placeOf startState x ≡ unseen) × May local es p (Sees (x ∷ [])) [] q) → has (setAt startState p retirees) q ≡ true
     back m = one ∙ eq-eqb 0 q (sym (may-start (m .2)))
 
 begin-possible : (p : ℕ) → p < policies → possibleIn startState p ≡ 1
@@ -114,10 +114,10 @@ begin-gathers local es p q k l = (to, back)
     one : has (possibleIn startState p) q ≡ eqb 0 q
     one = ap (λ (m : ℕ). has m q) (begin-possible p k) ∙ has-pow 0 q (lit< tt) l
 
-    to : has (possibleIn startState p) q ≡ true → (x : ℕ) × May local es p (Sees x) [] q
-    to h = (0, subst (λ (n : ℕ). May local es p (Sees 0) [] n) (eqb-true 0 q (sym one ∙ h)) start)
+    to : has (possibleIn startState p) q ≡ true → (x : ℕ) × May local es p (Sees (x ∷ [])) [] q
+    to h = (0, subst (λ (n : ℕ). May local es p (Sees (0 ∷ [])) [] n) (eqb-true 0 q (sym one ∙ h)) start)
 
-    back : ((x : ℕ) × May local es p (Sees x) [] q) → has (possibleIn startState p) q ≡ true
+    back : ((x : ℕ) × May local es p (Sees (x ∷ [])) [] q) → has (possibleIn startState p) q ≡ true
     back m = one ∙ eq-eqb 0 q (sym (may-start (m .1)))
 
 pub begin-represents : (local : Bool) (es : List Edge) → Represents local es [] false startState

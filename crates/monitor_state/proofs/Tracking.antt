@@ -74,13 +74,13 @@ module _ (local : Bool) (es : List Edge) (v : Ends es) (s : State) (n : length (
       same = ap (λ (i : ℕ). setAt (movedIn es a r s) p i) (place-moved es a r s x)
           ∙ set-moved es a r s p (placeOf s x) (w .few) k (place-lt s x)
 
-      to : has (setAt (movedIn es a r s) p (placeOf (movedIn es a r s) x)) q ≡ true → May local es p (Sees x) (event a r ∷ past) q
+      to : has (setAt (movedIn es a r s) p (placeOf (movedIn es a r s) x)) q ≡ true → May local es p (Sees (x ∷ [])) (event a r ∷ past) q
       to h =
           let f = moveMask-found es v p x a r (eqb (placeOf s x) (placeOf s r)) (place-own s x r kn) m q l
           (ap (λ (m : ℕ). has m q) (sym same) ∙ h) in
           moved (t x p (f .0) k (f .1) (λ g. gone (List·Memᴰ·tail g)) .0 (f .2)) (f .3)
 
-      back : May local es p (Sees x) (event a r ∷ past) q → has (setAt (movedIn es a r s) p (placeOf (movedIn es a r s) x)) q ≡ true
+      back : May local es p (Sees (x ∷ [])) (event a r ∷ past) q → has (setAt (movedIn es a r s) p (placeOf (movedIn es a r s) x)) q ≡ true
       back y =
           let c = may-event y in
           let b : c .q < states = may-lt v (c .before) in
@@ -109,28 +109,28 @@ module _ (local : Bool) (es : List Edge) (v : Ends es) (s : State) (n : length (
       none-own : Own y r false
       none-own = record { is = λ e. false-true e; not = λ e. away }
 
-      alike : (x : ℕ) → placeOf s x ≡ unseen → (i who : ℕ) → Sees x r i who ↔ Sees y r i who
+      alike : (x : ℕ) → placeOf s x ≡ unseen → (i who : ℕ) → Sees (x ∷ []) r i who ↔ Sees (y ∷ []) r i who
       alike x u = sees-other-alike (placed x u) away
 
       same : setAt (movedIn es a r s) p retirees ≡ moveMask es p a r false m
       same = set-moved es a r s p retirees (w .few) k (omega arith)
           ∙ ap (λ (b : Bool). moveMask es p a r b m) (ne-eqb retirees (placeOf s r) (λ e. place-apart-retirees s r (sym e)))
 
-      joined : ((x : ℕ) × (placeOf s x ≡ unseen) × May local es p (Sees x) (event a r ∷ past) q)
-          ↔ ((q₀ : ℕ) × ((x : ℕ) × (placeOf s x ≡ unseen) × May local es p (Sees x) past q₀) × Moves es p a (Sees y r) q₀ q)
-      joined = joined-event (λ x. placeOf s x ≡ unseen) Sees local es p a r (Sees y r) alike past q
+      joined : ((x : ℕ) × (placeOf s x ≡ unseen) × May local es p (Sees (x ∷ [])) (event a r ∷ past) q)
+          ↔ ((q₀ : ℕ) × ((x : ℕ) × (placeOf s x ≡ unseen) × May local es p (Sees (x ∷ [])) past q₀) × Moves es p a (Sees (y ∷ []) r) q₀ q)
+      joined = joined-event (λ x. placeOf s x ≡ unseen) (λ x. Sees (x ∷ [])) local es p a r (Sees (y ∷ []) r) alike past q
 
       here : (x : ℕ) → placeOf (movedIn es a r s) x ≡ placeOf s x
       here x = place-moved es a r s x
 
       to : has (setAt (movedIn es a r s) p retirees) q ≡ true
-          → (x : ℕ) × (placeOf (movedIn es a r s) x ≡ unseen) × May local es p (Sees x) (event a r ∷ past) q
+          → (x : ℕ) × (placeOf (movedIn es a r s) x ≡ unseen) × May local es p (Sees (x ∷ [])) (event a r ∷ past) q
       to h =
           let f = moveMask-found es v p y a r false none-own m q l (ap (λ (m : ℕ). has m q) (sym same) ∙ h) in
           let j = joined .1 (f .0, t p (f .0) k (f .1) .0 (f .2), f .3) in
           (j .0, here (j .0) ∙ j .1, j .2)
 
-      back : ((x : ℕ) × (placeOf (movedIn es a r s) x ≡ unseen) × May local es p (Sees x) (event a r ∷ past) q)
+      back : ((x : ℕ) × (placeOf (movedIn es a r s) x ≡ unseen) × May local es p (Sees (x ∷ [])) (event a r ∷ past) q)
           → has (setAt (movedIn es a r s) p retirees) q ≡ true
       back (x, u, y₁) =
           let j = joined .0 (x, sym (here x) ∙ u, y₁) in
@@ -207,25 +207,27 @@ module _ (s : State) (n : length (s .created) ≡ mostCreated) (w : StateOk s) (
       same = ap (λ (m : ℕ). has m q) (set-kept p retirees k (omega arith))
 
       -- what r may be in, another may that never occurred
-      another : May local es p (Sees r) past q → May local es p (Sees (far s n w)) past q
+      another : May local es p (Sees (r ∷ [])) past q → May local es p (Sees (far s n w ∷ [])) past q
       another m =
           t (far s n w) p q k l (λ g. let h = gone (far s n w) g in omega arith) .0
           (ap (λ (i : ℕ). has (setAt s p i) q) (place-far s n w ∙ sym (place-dynamic s r dyn ∙ place-absent r firstCreated (live s) new))
           ∙ t r p q k l (λ g. let h = gone r g in omega arith) .1 m)
 
-      to : has (setAt (createdIn s r) p retirees) q ≡ true → (x : ℕ) × (placeOf (createdIn s r) x ≡ unseen) × May local es p (Sees x) past q
+      to : has (setAt (createdIn s r) p retirees) q ≡ true → (x : ℕ) × (placeOf (createdIn s r) x ≡ unseen)
+          × May local es p (Sees (x ∷ [])) past q
       to h = let (x, i, m) = u p q k l .0 (sym same ∙ h) in go x i m (eqb r x) refl
         where
-          go : (x : ℕ) → placeOf s x ≡ unseen → May local es p (Sees x) past q → (b : Bool) → eqb r x ≡ b
-              → (x : ℕ) × (placeOf (createdIn s r) x ≡ unseen) × May local es p (Sees x) past q
+          go : (x : ℕ) → placeOf s x ≡ unseen → May local es p (Sees (x ∷ [])) past q → (b : Bool) → eqb r x ≡ b
+              → (x : ℕ) × (placeOf (createdIn s r) x ≡ unseen) × May local es p (Sees (x ∷ [])) past q
           go x i m true e = (
             far s n w,
             place-kept (far s n w) (ne-eqb r (far s n w) (λ z. omega arith)) ∙ place-far s n w,
-            another (subst (λ (z : ℕ). May local es p (Sees z) past q) (sym (eqb-true r x e)) m),
+            another (subst (λ (z : ℕ). May local es p (Sees (z ∷ [])) past q) (sym (eqb-true r x e)) m),
           )
           go x i m false e = (x, place-kept x e ∙ i, m)
 
-      back : ((x : ℕ) × (placeOf (createdIn s r) x ≡ unseen) × May local es p (Sees x) past q) → has (setAt (createdIn s r) p retirees) q ≡ true
+      back : ((x : ℕ) × (placeOf (createdIn s r) x ≡ unseen) × May local es p (Sees (x ∷ [])) past q)
+          → has (setAt (createdIn s r) p retirees) q ≡ true
       back (x, i, m) =
           let d : eqb r x ≡ false =
           ne-eqb r x (λ e. let z : placeOf (createdIn s r) x ≡ used s = ap (placeOf (createdIn s r)) (sym e) ∙ place-created in omega arith) in

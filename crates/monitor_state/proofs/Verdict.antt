@@ -1,26 +1,22 @@
 -- The judge's definition answers as the whole past says.
-use Prim.Native.Nat.{ℕ, _%_, _<_}
+use Prim.Native.Nat.{ℕ}
 use mathlib.Core.Path.{_≡_, refl, sym, subst}
-use mathlib.Core.Bool.{Bool, true, false, _&&_, cond}
+use mathlib.Core.Bool.{Bool, true, false, cond}
 use mathlib.Core.List.{List, [], _∷_, map}
 use mathlib.Core.Option.{Option, none, some}
-use lib.Dec.{eqb, ltb, leb}
-use lib.ListN.{length}
-use borrow.Author.Tests.{ltb-true}
+use lib.Dec.{eqb}
 use Rattle.usage.specs.declared.Edge.{Edge}
 use Rattle.usage.specs.declared.RawStep.{RawStep}
-use Rattle.usage.specs.Limits.{statics, actions, policies, states, mostEdges}
+use Rattle.usage.specs.Policy.{EdgesOk}
 use Rattle.usage.specs.Past.{Step, Past, Violates}
 use Rattle.usage.specs.Answers.{Verdict, allowed}
 use Rattle.usage.specs.Judge.{stepOf, Taken, Judged, is-refused, is-violated, is-allowed, then, pastAfter, haltedAfter}
 use Rattle.usage.specs.Judge.{JudgedAll, done, next}
 use Rattle.usage.specs.Tables.{edgesOf, edgeTable}
-use Rattle.usage.specs.Tests.{every, edgeOk, edgesOk}
-use Rattle.usage.proofs.Logic.{and-left, and-right}
-use Rattle.usage.proofs.Decides.{d-every, d-same}
+use Rattle.usage.proofs.TableLaws.{decides-edge-table}
 use Rattle.usage.proofs.JudgeLaws.{step-fits, judged-unique}
 use Rattle.automaton.specs.Mask.{lowestIn}
-use Rattle.automaton.proofs.MoveLaws.{Ends}
+use Rattle.automaton.proofs.MoveLaws.{ends-of}
 use Rattle.monitor_state.specs.declared.State.{State}
 use Rattle.monitor_state.specs.declared.Answer.{Answer}
 use Rattle.monitor_state.specs.declared.Answer.the-variants.{Allowed, Violated, Refused}
@@ -32,26 +28,6 @@ use Rattle.monitor_state.proofs.StartLaws.{begin-represents}
 use Rattle.monitor_state.proofs.Preserve.{after-represents}
 use Rattle.monitor_state.proofs.BrokenLaws.{none-violated, first-violated}
 use Rattle.monitor_state.proofs.Refusals.{refuses-halted, refuses-unread, Settled, refuses, takes, settled}
-
--- ── The edges of a table that an accepted sheet gives end in states 0 to 7 ──
-
-edge-ends : (e : Edge) → edgeOk e ≡ true → e .to < states
-unfolding edgeOk
-edge-ends e h =
-    let a : Bool = ltb (e .policy) policies in
-    let b : Bool = ltb (e .from) states in
-    let c : Bool = ltb (e .action) actions in
-    let d : Bool = ltb (e .to) states in
-    let o : Bool = ltb (e .on) 3 && cond (eqb (e .on) 0) (ltb (e .who) statics) (eqb (e .who) 0) in
-    ltb-true (e .to) states (and-right c d (and-right b (c && d) (and-right a (b && (c && d)) (and-left (a && (b && (c && d))) o h))))
-
-table-ends : (t : List ℕ) → edgeTable t ≡ true → Ends (edgesOf t)
-unfolding edgeTable edgesOk
-table-ends t h e m =
-    let es : List Edge = edgesOf t in
-    let k : (leb (length es) mostEdges && every edgeOk es) ≡ true =
-    and-right (eqb (length t % 6) 0) (leb (length es) mostEdges && every edgeOk es) h in
-    edge-ends e (d-every edgeOk (λ e. d-same (edgeOk e)) es .0 (and-right (leb (length es) mostEdges) (every edgeOk es) k) e m)
 
 -- ── One step ──
 
@@ -78,7 +54,7 @@ halt-represents local es past h s R = record {
   possible-bytes = R .possible-bytes;
 }
 
-module _ (local : Bool) (es : List Edge) (v : Ends es) (past : Past)
+module _ (local : Bool) (es : List Edge) (v : EdgesOk es) (past : Past)
     (s : State) (R : Represents local es past false s) (raw : RawStep) where
   settle-promised : (step : Step) (t : State) → stepOf raw ≡ some step → Taken past false raw → Represents local es (step ∷ past) false t
       → Promised local es past false s raw (settle (broken t) s t)
@@ -102,7 +78,8 @@ module _ (local : Bool) (es : List Edge) (v : Ends es) (past : Past)
   unfolding judgeStep refuse
   step-promised step e _ (refuses r) = record { answer = is-refused r; state = R; kept = refl }
   step-promised step e _ (takes k ready) =
-      settle-promised step (after local es s step) e k (after-represents local es v past false s R step (step-fits raw step e) ready)
+      settle-promised step (after local es s step) e k
+      (after-represents local es (ends-of v) past false s R step (step-fits raw step e) ready)
 
   read-promised : (o : Option Step) → stepOf raw ≡ o → Promised local es past false s raw (judgeRead local es s o)
   unfolding judgeRead refuse
@@ -134,7 +111,7 @@ judge-promised t p local past h s R raw = subst (Promised local (edgesOf t) past
         subst (λ (b : Bool). Promised local (edgesOf t) past false s raw
         (cond b (refuse 20 s) (judgeRead local (edgesOf t) s (stepOf raw))))
         (sym (R .halted))
-        (read-promised local (edgesOf t) (table-ends t p) past s R raw (stepOf raw) refl)
+        (read-promised local (edgesOf t) (decides-edge-table t .0 p .edges) past s R raw (stepOf raw) refl)
 
 -- ── Conversely, and over many steps ──
 

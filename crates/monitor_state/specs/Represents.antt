@@ -2,7 +2,7 @@
 use Prim.Native.Nat.{ℕ, _+_, _<_, _≤_}
 use mathlib.Core.Path.{_≡_}
 use mathlib.Core.Bool.{Bool, true}
-use mathlib.Core.List.{List}
+use mathlib.Core.List.{List, [], _∷_}
 use mathlib.Core.Logic.{_↔_}
 use lib.ListN.{length, getD}
 use Rattle.usage.specs.declared.Edge.{Edge}
@@ -18,19 +18,19 @@ use Rattle.monitor_state.specs.Judge.{live, stackIn, stateOk, placeOf, s
 abbrev pub Tracks : Bool → List Edge → Past → State → Type 0
 Tracks local es past s =
     (x p q : ℕ) → p < policies → q < states → (Retired x past → ⊥)
-    → (has (setAt s p (placeOf s x)) q ≡ true) ↔ May local es p (Sees x) past q
+    → (has (setAt s p (placeOf s x)) q ≡ true) ↔ May local es p (Sees (x ∷ [])) past q
 
 -- The set of the retired ones holds exactly the states that the instance of some resource may be in that has no place of its own: of one
 -- that was retired, or that never occurred.
 abbrev pub TracksRetirees : Bool → List Edge → Past → State → Type 0
 TracksRetirees local es past s =
     (p q : ℕ) → p < policies → q < states
-    → (has (setAt s p retirees) q ≡ true) ↔ ((x : ℕ) × (placeOf s x ≡ unseen) × May local es p (Sees x) past q)
+    → (has (setAt s p retirees) q ≡ true) ↔ ((x : ℕ) × (placeOf s x ≡ unseen) × May local es p (Sees (x ∷ [])) past q)
 
 -- The set that is kept of p holds exactly the states that some instance of it, of any number x at all, may be in.
 abbrev pub Gathers : Bool → List Edge → Past → State → Type 0
 Gathers local es past s =
-    (p q : ℕ) → p < policies → q < states → (has (possibleIn s p) q ≡ true) ↔ ((x : ℕ) × May local es p (Sees x) past q)
+    (p q : ℕ) → p < policies → q < states → (has (possibleIn s p) q ≡ true) ↔ ((x : ℕ) × May local es p (Sees (x ∷ [])) past q)
 
 -- After this past, with an earlier step violated or not as `h` says, the judge may be in this state.
 pub record Represents (local : Bool) (es : List Edge) (past : Past) (h : Bool) (s : State) : Type 0 where

@@ -23,7 +23,7 @@ pastOf past (raw ∷ raws) = pastOf (then (stepOf raw) past) raws
 
 -- after all steps of a case, the instance of x may be in an offending state of policy p
 abbrev pub BrokenBy : JudgeCase → ℕ → ℕ → Type 0
-BrokenBy c p x = (q : ℕ) × May false (edgesOf (c .edges)) p (Sees x) (pastOf [] (c .steps)) q × Offending q
+BrokenBy c p x = (q : ℕ) × May false (edgesOf (c .edges)) p (Sees (x ∷ [])) (pastOf [] (c .steps)) q × Offending q
 
 -- policy p is broken by all instances but that of one resource
 pub record OtherCase : Type 0 where

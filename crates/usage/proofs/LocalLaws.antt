@@ -16,25 +16,25 @@ use Rattle.usage.proofs.PastLaws.{before-all, before-event, before-open
 
 -- ── One step ──
 
--- "At an opening of a policy that is not open, all its instances go back to state 0": 0 is the only state of the instance of any resource
-pub opened-anew : (es : List Edge) (p x : ℕ) (past : Past) (q : ℕ) → (Open p past → ⊥)
-    → May true es p (Sees x) (opening p ∷ past) q ↔ (q ≡ 0)
-opened-anew es p x past q n = may-anew es p x p past q refl n
+-- "At an opening of a policy that is not open, all its instances go back to state 0": 0 is the only state of any instance
+pub opened-anew : (es : List Edge) (p : ℕ) (xs : List ℕ) (past : Past) (q : ℕ) → (Open p past → ⊥)
+    → May true es p (Sees xs) (opening p ∷ past) q ↔ (q ≡ 0)
+opened-anew es p xs past q n = may-anew es p xs p past q refl n
 
 -- "A further opening of a policy already open resets nothing"
-pub opened-further : (local : Bool) (es : List Edge) (p x : ℕ) (past : Past) (q : ℕ) → Open p past
-    → May local es p (Sees x) (opening p ∷ past) q ↔ May local es p (Sees x) past q
-opened-further local es p x past q o = may-same local es p x p past q (inr (inr o))
+pub opened-further : (local : Bool) (es : List Edge) (p : ℕ) (xs : List ℕ) (past : Past) (q : ℕ) → Open p past
+    → May local es p (Sees xs) (opening p ∷ past) q ↔ May local es p (Sees xs) past q
+opened-further local es p xs past q o = may-same local es p xs p past q (inr (inr o))
 
 -- nor does an opening of another policy
-pub opened-other : (local : Bool) (es : List Edge) (p x s : ℕ) (past : Past) (q : ℕ) → (s ≡ p → ⊥)
-    → May local es p (Sees x) (opening s ∷ past) q ↔ May local es p (Sees x) past q
-opened-other local es p x s past q d = may-same local es p x s past q (inr (inl d))
+pub opened-other : (local : Bool) (es : List Edge) (p : ℕ) (xs : List ℕ) (s : ℕ) (past : Past) (q : ℕ) → (s ≡ p → ⊥)
+    → May local es p (Sees xs) (opening s ∷ past) q ↔ May local es p (Sees xs) past q
+opened-other local es p xs s past q d = may-same local es p xs s past q (inr (inl d))
 
 -- and no closing does
-pub closed-same : (local : Bool) (es : List Edge) (p x s : ℕ) (past : Past) (q : ℕ)
-    → May local es p (Sees x) (closing s ∷ past) q ↔ May local es p (Sees x) past q
-closed-same local es p x s past q = (before-closing, closed)
+pub closed-same : (local : Bool) (es : List Edge) (p : ℕ) (xs : List ℕ) (s : ℕ) (past : Past) (q : ℕ)
+    → May local es p (Sees xs) (closing s ∷ past) q ↔ May local es p (Sees xs) past q
+closed-same local es p xs s past q = (before-closing, closed)
 
 start-fine : Offending 0 → ⊥
 start-fine (inl e) = omega arith
@@ -42,7 +42,7 @@ start-fine (inr e) = omega arith
 
 -- so an opening of a policy that is not open never breaks it
 pub anew-respected : (es : List Edge) (p : ℕ) (past : Past) → (Open p past → ⊥) → Broken true es p (opening p ∷ past) → ⊥
-anew-respected es p past n (x, q, m, o) = start-fine (subst Offending (opened-anew es p x past q n .0 m) o)
+anew-respected es p past n (xs, i, q, m, o) = start-fine (subst Offending (opened-anew es p xs past q n .0 m) o)
 
 pub anew-kept : (es : List Edge) (p : ℕ) (past : Past) → (Open p past → ⊥) → Violates true es p (opening p ∷ past) → ⊥
 anew-kept es p past n v = anew-respected es p past n (v .1)
@@ -71,7 +71,7 @@ same-ltb a b c d to back = go (ltb c d) refl
         not-below n = omega arith
 
 -- The steps `later` after an opening of p, with what was before it or without. Before it, all openings of p were closed.
-module _ (es : List Edge) (p x : ℕ) (past : Past) (shut : openings p past ≡ closings p past) where
+module _ (es : List Edge) (p : ℕ) (xs : List ℕ) (past : Past) (shut : openings p past ≡ closings p past) where
   abbrev Since : Past → Past
   Since later = later ++ (opening p ∷ past)
 
@@ -93,14 +93,14 @@ module _ (es : List Edge) (p x : ℕ) (past : Past) (shut : openings p past ≡ 
       (λ l. omega arith) (λ l. omega arith)
 
   abbrev Alike : Past → ℕ → Type 0
-  Alike later q = May true es p (Sees x) (Since later) q ↔ May true es p (Sees x) (Alone later) q
+  Alike later q = May true es p (Sees xs) (Since later) q ↔ May true es p (Sees xs) (Alone later) q
 
   -- The past before the sandbox does not count: source document 000's meaning.
   pub since-alone : (later : Past) (q : ℕ) → Alike later q
   unfolding count
   since-alone [] q =
-      let a = opened-anew es p x past q (λ o. omega arith) in
-      let b = opened-anew es p x [] q (λ o. omega arith) in
+      let a = opened-anew es p xs past q (λ o. omega arith) in
+      let b = opened-anew es p xs [] q (λ o. omega arith) in
       (λ m. b .1 (a .0 m), λ m. a .1 (b .0 m))
   since-alone (event a r ∷ later) q = (
     λ m. let (q₀, m₀, v) = before-event m in moved (since-alone later q₀ .0 m₀) v,
@@ -108,10 +108,10 @@ module _ (es : List Edge) (p x : ℕ) (past : Past) (shut : openings p past ≡ 
   )
   since-alone (opening s ∷ later) q = (
     λ m. let (q₀, m₀, f) = before-opening m in
-        subst (λ (t : ℕ). May true es p (Sees x) (Alone (opening s ∷ later)) t)
+        subst (λ (t : ℕ). May true es p (Sees xs) (Alone (opening s ∷ later)) t)
         (ap (λ (o : Bool). reopened true p s o q₀) (sym (open-alike later)) ∙ f) (opened (since-alone later q₀ .0 m₀)),
     λ m. let (q₀, m₀, f) = before-opening m in
-        subst (λ (t : ℕ). May true es p (Sees x) (Since (opening s ∷ later)) t)
+        subst (λ (t : ℕ). May true es p (Sees xs) (Since (opening s ∷ later)) t)
         (ap (λ (o : Bool). reopened true p s o q₀) (open-alike later) ∙ f) (opened (since-alone later q₀ .1 m₀)),
   )
   since-alone (closing s ∷ later) q = (
@@ -127,32 +127,32 @@ module _ (es : List Edge) (p x : ℕ) (past : Past) (shut : openings p past ≡ 
 pub sandbox-alone : (es : List Edge) (p : ℕ) (past : Past) → openings p past ≡ closings p past → (later : Past)
     → Broken true es p (later ++ (opening p ∷ past)) ↔ Broken true es p (later ++ (opening p ∷ []))
 sandbox-alone es p past shut later = (
-  λ (x, q, m, o). (x, q, since-alone es p x past shut later q .0 m, o),
-  λ (x, q, m, o). (x, q, since-alone es p x past shut later q .1 m, o),
+  λ (xs, i, q, m, o). (xs, i, q, since-alone es p xs past shut later q .0 m, o),
+  λ (xs, i, q, m, o). (xs, i, q, since-alone es p xs past shut later q .1 m, o),
 )
 
 -- ── Within one sandbox the two meanings agree ──
 
-module _ (es : List Edge) (p x : ℕ) where
+module _ (es : List Edge) (p : ℕ) (xs : List ℕ) where
   -- p is open before each of the steps after its opening
   abbrev StaysOpen : Past → Type 0
   StaysOpen [] = Unit {0}
   StaysOpen (s ∷ later) = Open p (later ++ (opening p ∷ [])) × StaysOpen later
 
   pub sandbox-whole : (later : Past) (q : ℕ) → StaysOpen later
-      → May true es p (Sees x) (later ++ (opening p ∷ [])) q ↔ May false es p (Sees x) (later ++ (opening p ∷ [])) q
+      → May true es p (Sees xs) (later ++ (opening p ∷ [])) q ↔ May false es p (Sees xs) (later ++ (opening p ∷ [])) q
   unfolding count
   sandbox-whole [] q h =
-      let a = opened-anew es p x [] q (λ o. omega arith) in
-      let b = may-same false es p x p [] q (inl refl) in
-      (λ m. b .1 (subst (λ (t : ℕ). May false es p (Sees x) [] t) (sym (a .0 m)) start), λ m. a .1 (sym (before-all (b .0 m))))
+      let a = opened-anew es p xs [] q (λ o. omega arith) in
+      let b = may-same false es p xs p [] q (inl refl) in
+      (λ m. b .1 (subst (λ (t : ℕ). May false es p (Sees xs) [] t) (sym (a .0 m)) start), λ m. a .1 (sym (before-all (b .0 m))))
   sandbox-whole (event a r ∷ later) q h = (
     λ m. let (q₀, m₀, v) = before-event m in moved (sandbox-whole later q₀ (h .1) .0 m₀) v,
     λ m. let (q₀, m₀, v) = before-event m in moved (sandbox-whole later q₀ (h .1) .1 m₀) v,
   )
   sandbox-whole (opening s ∷ later) q h =
-      let a = may-same true es p x s (later ++ (opening p ∷ [])) q (inr (inr (h .0))) in
-      let b = may-same false es p x s (later ++ (opening p ∷ [])) q (inl refl) in
+      let a = may-same true es p xs s (later ++ (opening p ∷ [])) q (inr (inr (h .0))) in
+      let b = may-same false es p xs s (later ++ (opening p ∷ [])) q (inl refl) in
       let i = sandbox-whole later q (h .1) in
       (λ m. b .1 (i .0 (a .0 m)), λ m. a .1 (i .1 (b .0 m)))
   sandbox-whole (closing s ∷ later) q h = (

@@ -7,12 +7,16 @@ use mathlib.Core.Logic.{inl}
 use native.Mathlib.Omega.{arith}
 use Rattle.usage.specs.declared.Edge.{Edge}
 use Rattle.usage.specs.declared.RawStep.{RawStep}
-use Rattle.usage.specs.Policy.{Sees, own, other, along}
+use Rattle.usage.specs.Policy.{single, Sees, own, other, along}
 use Rattle.usage.specs.Past.{Step, event, opening, closing, retiring, Past, count, without, openStack, liveIn, Live, highest}
 use Rattle.usage.specs.Past.{start, moved, opened, retired, Retired, Violates}
 use Rattle.usage.specs.Judge.{stepOf, Case, not-above, retires-static, not-live, not-created}
 use Rattle.usage.specs.Retirings.{thinned, Added, all-added, step-kept, retiring-added}
+use Rattle.usage.specs.Tests.{someOf, isPair}
 use Rattle.usage.proofs.Logic.{clash, by-cases}
+use Rattle.usage.proofs.SeesLaws.{place-one}
+use Rattle.usage.proofs.Decides.{refutes}
+use Rattle.usage.proofs.ValidLaws.{decides-pair}
 
 -- ── What is live ──
 
@@ -41,17 +45,18 @@ abbrev marked : List Edge
 marked = edge 0 0 0 1 0 1 ∷ edge 0 1 4 2 0 6 ∷ []
 
 retired-breaks : Violates false marked 0 (event 4 3 ∷ retiring 16 ∷ event 0 16 ∷ opening 0 ∷ [])
-unfolding count
+unfolding count isPair someOf
 retired-breaks = (
   omega arith,
   (
-    16,
+    16 ∷ [],
+    single (refutes (decides-pair marked 0) refl),
     6,
     moved
         (retired (moved (opened start) (along (edge 0 0 0 1 0 1) (List·Memᴰ·head refl)
         (record { policy = refl; «from» = refl; action = refl; label = own refl }))))
         (along (edge 0 1 4 2 0 6) (List·Memᴰ·tail (List·Memᴰ·head refl))
-        (record { policy = refl; «from» = refl; action = refl; label = other (λ (e : _≡_ {A = ℕ} 3 16). omega arith) })),
+        (record { policy = refl; «from» = refl; action = refl; label = other (λ i e. let d = place-one 16 i 3 e in omega arith) })),
     inl refl,
   ),
 )

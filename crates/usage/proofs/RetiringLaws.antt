@@ -1,6 +1,6 @@
 -- The laws of retirings (02, L8): what is live, and how instances move on whose resources are in no further event.
 use Prim.Native.Nat.{ℕ, zero, suc, _≤_}
-use mathlib.Core.Path.{_≡_, refl, ap, _∙_}
+use mathlib.Core.Path.{_≡_, refl, sym, ap, _∙_}
 use mathlib.Core.Bool.{Bool, true, false, cond}
 use mathlib.Core.List.{List, [], _∷_, List·Memᴰ, List·Memᴰ·head, List·Memᴰ·tail, List·Memᴰ·not-nil, List·Memᴰ·cases-cons}
 use mathlib.Core.List.{Memᴰ·append-left, Memᴰ·append-right, List·Memᴰ·append-cases, List·Memᴰ·eq-of-singleton}
@@ -13,7 +13,8 @@ use Rattle.usage.specs.declared.Edge.{Edge}
 use Rattle.usage.specs.Policy.{Sees, Moves}
 use Rattle.usage.specs.Past.{event, opening, closing, retiring, Past, without, liveIn, Live, highest, May, moved, Created, Retired}
 use Rattle.usage.proofs.Logic.{by-cases}
-use Rattle.usage.proofs.PastLaws.{moves-alike, sees-alike, before-event, member-event, member-opening, member-closing}
+use Rattle.usage.proofs.SeesLaws.{place-one, moves-alike, sees-alike}
+use Rattle.usage.proofs.PastLaws.{before-event, member-event, member-opening, member-closing}
 use Rattle.usage.proofs.PastLaws.{member-retiring}
 
 -- ── Taking a number away ──
@@ -114,8 +115,8 @@ module _ {A : Type 0} (In : A → Type 0) (sees : A → ℕ → ℕ → ℕ → 
       )
 
 -- an event on neither x nor y is seen alike by their instances: as one "other than any resource used"
-pub sees-other-alike : {x y r : ℕ} → (r ≡ x → ⊥) → (r ≡ y → ⊥) → (k who : ℕ) → Sees x r k who ↔ Sees y r k who
-sees-other-alike nx ny k who = (
-  sees-alike (λ e. absurd (nx e), λ e. absurd (ny e)),
-  sees-alike (λ e. absurd (ny e), λ e. absurd (nx e)),
+pub sees-other-alike : {x y r : ℕ} → (r ≡ x → ⊥) → (r ≡ y → ⊥) → (k who : ℕ) → Sees (x ∷ []) r k who ↔ Sees (y ∷ []) r k who
+sees-other-alike {x} {y} {r} nx ny k who = (
+  sees-alike (λ i. (λ e. absurd (nx (sym (place-one x i r e))), λ e. absurd (ny (sym (place-one y i r e))))),
+  sees-alike (λ i. (λ e. absurd (ny (sym (place-one y i r e))), λ e. absurd (nx (sym (place-one x i r e))))),
 )

@@ -151,8 +151,8 @@ module _ {local : Bool} {es : List Edge} {p : ℕ} {sees : ℕ → ℕ → ℕ �
 
 pub thinned-violates : (local : Bool) (es : List Edge) (p : ℕ) (past : Past) → Violates local es p (thinned past) ↔ Violates local es p past
 thinned-violates local es p past = (
-  λ (o, (x, q, m, f)). (thinned-open p past .0 o, (x, q, thinned-may past q .0 m, f)),
-  λ (o, (x, q, m, f)). (thinned-open p past .1 o, (x, q, thinned-may past q .1 m, f)),
+  λ (o, (xs, i, q, m, f)). (thinned-open p past .0 o, (xs, i, q, thinned-may past q .0 m, f)),
+  λ (o, (xs, i, q, m, f)). (thinned-open p past .1 o, (xs, i, q, thinned-may past q .1 m, f)),
 )
 
 -- ── A step that is no retiring ──

@@ -5,7 +5,7 @@ use mathlib.Core.Bool.{false}
 use mathlib.Core.List.{List, [], _∷_}
 use mathlib.Core.Logic.{_↔_}
 use Rattle.usage.specs.declared.Edge.{Edge}
-use Rattle.usage.specs.Policy.{Sees, Moves, Offending}
+use Rattle.usage.specs.Policy.{Instance, Sees, Moves, Offending}
 use Rattle.usage.specs.Past.{Step, event, opening, closing, retiring, Past, Open, May, start, moved, opened, closed, retired, Broken}
 use Rattle.usage.specs.Past.{Violates}
 use Rattle.usage.specs.Past.{Valid, empty, further}
@@ -22,7 +22,7 @@ pub data WholeMay (es : List Edge) (p : ℕ) (sees : ℕ → ℕ → ℕ → Typ
   by-retiring : {r : ℕ} {past : Past} {q : ℕ} → WholeMay es p sees past q → WholeMay es p sees (retiring r ∷ past) q
 
 abbrev pub WholeBroken : List Edge → ℕ → Past → Type 0
-WholeBroken es p past = (x : ℕ) × (q : ℕ) × WholeMay es p (Sees x) past q × Offending q
+WholeBroken es p past = (xs : List ℕ) × Instance es p xs × (q : ℕ) × WholeMay es p (Sees xs) past q × Offending q
 
 abbrev pub WholeViolates : List Edge → ℕ → Past → Type 0
 WholeViolates es p past = Open p past × WholeBroken es p past
@@ -53,7 +53,7 @@ pub whole-may : (es : List Edge) (p : ℕ) (sees : ℕ → ℕ → ℕ → Type 
 whole-may es p sees past q = (may-to, may-back)
 
 pub whole-broken : (es : List Edge) (p : ℕ) (past : Past) → Broken false es p past ↔ WholeBroken es p past
-whole-broken es p past = (λ (x, q, m, o). (x, q, may-to m, o), λ (x, q, m, o). (x, q, may-back m, o))
+whole-broken es p past = (λ (xs, i, q, m, o). (xs, i, q, may-to m, o), λ (xs, i, q, m, o). (xs, i, q, may-back m, o))
 
 pub whole-violates : (es : List Edge) (p : ℕ) (past : Past) → Violates false es p past ↔ WholeViolates es p past
 whole-violates es p past = (λ (o, b). (o, whole-broken es p past .0 b), λ (o, b). (o, whole-broken es p past .1 b))

@@ -5,7 +5,7 @@ use lib.Dec.{ltb}
 use borrow.Author.Tests.{lt-ltb, le-ltb, eq-eqb, ne-eqb}
 use Rattle.usage.specs.declared.Node.{Node}
 use Rattle.usage.specs.Limits.{mostNodes}
-use Rattle.checker_account.specs.Witness.{noName}
+use Rattle.checker_account.specs.Single.{noName}
 use Rattle.checker_tables.specs.Search.{smallNode}
 use borrow.Author.Needs.{needs}
 use Rattle.checker_tables.proofs.small.Statement.{statement}

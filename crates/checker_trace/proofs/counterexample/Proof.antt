@@ -5,7 +5,9 @@ use mathlib.Core.Logic.{inl, inr}
 use Rattle.usage.specs.Tables.{edgesOf, nodesOf}
 use Rattle.usage.proofs.Logic.{not-true, not-false}
 use Rattle.usage.proofs.Decides.{refutes}
+use Rattle.usage.proofs.ValidLaws.{no-pair}
 use Rattle.usage.proofs.TableLaws.{decides-edge-table, decides-node-table}
+use Rattle.checker_account.specs.Single.{watching}
 use Rattle.checker_account.proofs.Writing.{written-length}
 use Rattle.checker_trace.specs.declared.Length.the-variants.{Of}
 use Rattle.checker_trace.specs.Steps.{laid}
@@ -101,7 +103,7 @@ returns-5 c = let a =
     (c .before .before .before .before .before .if4 .left) rows (c .before .before .before .fill .ensures) in
     longer (c .before .before .before .before .before .before .before .before .before .before .if1 .left) et nt
     (laws.shown-none (a .local) (edgesOf (a .edges .now)) (a .nodes .now) (a .p) rows src (c .before .least .result)
-    (c .before .least .ensures) (et .edges) (nt .outline) (c .if5 .taken))
+    (c .before .least .ensures) (no-pair (et .edges) (a .p)) (et .edges) (nt .outline) (c .if5 .taken))
 
 -- src/lib.rt:148:5
 show-requires : tie.Need-show-requires
@@ -162,8 +164,9 @@ returns-6 c = let a =
     let es = edgesOf (a .edges .now) in
     let (after, run, same) = c .before .before .show .ensures .1 es (src (r .resource) small) steps in
     let shown = laws.shown-some (a .local) es (a .nodes .now) (a .p) rows src r
-    (c .before .before .before .before .before .before .least .ensures) (r .resource) small (et .edges) (nt .outline) few after run in
-    let long = written-length (a .local) es (nodesOf (a .nodes .now)) (a .p) (r .resource) run in
+    (c .before .before .before .before .before .before .least .ensures) (no-pair (et .edges) (a .p)) (r .resource) small (et .edges)
+    (nt .outline) few after run in
+    let long = written-length (a .local) es (nodesOf (a .nodes .now)) (a .p) (watching (r .resource)) run in
     let n : length after ≡ r .length = long ∙ omega arith in
     subst (λ (u : List ℕ). Told (a .local) (a .edges .now) (a .nodes .now) (a .p) (a .trace .now) (Of (r .length)) u) (sym same)
     (subst (λ (i : ℕ). Told (a .local) (a .edges .now) (a .nodes .now) (a .p) (a .trace .now) (Of i) (laid (a .trace .now) after)) n
