@@ -35,7 +35,7 @@ extern "C" {
 #define WIFOREKUN_MOST_NODES 64
 
 /* The state of the monitor: the lengths of its arrays, in elements, and their alignments, in bytes. */
-#define WIFOREKUN_SETS_LENGTH 648
+#define WIFOREKUN_SETS_LENGTH 656
 #define WIFOREKUN_SETS_ALIGN 1
 #define WIFOREKUN_POSSIBLE_LENGTH 8
 #define WIFOREKUN_POSSIBLE_ALIGN 1
@@ -45,16 +45,17 @@ extern "C" {
 #define WIFOREKUN_UNCLOSED_ALIGN 1
 #define WIFOREKUN_ORDER_LENGTH 64
 #define WIFOREKUN_ORDER_ALIGN 1
-#define WIFOREKUN_NUMBERS_LENGTH 3
+#define WIFOREKUN_NUMBERS_LENGTH 4
 #define WIFOREKUN_NUMBERS_ALIGN 8
 
 struct wiforekun_state {
     uint8_t sets[WIFOREKUN_SETS_LENGTH];         /* the states that each instance may be in, as bits */
     uint8_t possible[WIFOREKUN_POSSIBLE_LENGTH]; /* for each policy the states that any of its instances may be in, as bits */
-    uint32_t created[WIFOREKUN_CREATED_LENGTH];  /* the dynamic resources that were created, in their order */
+    uint32_t created[WIFOREKUN_CREATED_LENGTH];  /* the live dynamic resources, in the order of their creation */
     uint8_t unclosed[WIFOREKUN_UNCLOSED_LENGTH]; /* for each policy its openings that are not closed */
     uint8_t order[WIFOREKUN_ORDER_LENGTH];       /* the policies of the openings that are not closed, the oldest first */
-    uint64_t numbers[WIFOREKUN_NUMBERS_LENGTH];  /* how many were created; 1 where the run is halted, else 0; how many are in `order` */
+    uint64_t numbers[WIFOREKUN_NUMBERS_LENGTH];  /* how many are live; 1 where the run is halted, else 0; how many are in
+                                                  * `order`; the highest number that was created, live or retired, or 0 */
 };
 
 /* The start: each instance in state 0 (the set with bit 0 alone), and so each policy; nothing created, nothing open, not halted. */
@@ -70,13 +71,14 @@ static inline void wiforekun_start(struct wiforekun_state *state) {
 #define WIFOREKUN_ANSWER(code) ((code) / 256u % 256u)
 #define WIFOREKUN_DETAIL(code) ((code) % 256u)
 
-/* One step of the monitor, under a table of edges (its length in bytes). The state's arrays are lent one by one. Where the step is allowed
- * they hold the new state; where it is violated only the halted flag changes, to 1; where it is refused with a number nothing changes.
- * Of the numbers 40 to 42: 41 where no accepted sheet gives the table, or `local` is neither; 42 where the state has more than 64
- * resources created, one twice or outside 16 to 65535; an order longer than 64, with an entry above 7, or with some policy in it another
- * number of times than `unclosed` tells; or a halted flag other than 0 and 1. A state that passes but was never reached is judged by the
- * sets that it holds: an event by `sets`, from which it gathers `possible` anew; an opening or a closing by `possible` as it is, that of a
- * policy which goes back to state 0 aside. Elements of `created` from the count on, and of `order` from its length on, are not looked at. */
+/* One step of the monitor, under a table of edges (its length in bytes). The state's arrays are lent one by one. Where the step is
+ * allowed they hold the new state; where it is violated only the halted flag changes, to 1; where it is refused with a number nothing
+ * changes. Of the numbers 40 to 42: 41 where no accepted sheet gives the table, or `local` is neither; 42 where the state has more than
+ * 64 live resources, one twice or outside 16 to 65535; a highest number below a live one, or above 4294967295; an order longer than 64,
+ * with an entry above 7, or with some policy in it another number of times than `unclosed` tells; or a halted flag other than 0 and 1. A
+ * state that passes but was never reached is judged by the sets that it holds: an event by `sets`, from which it gathers `possible`
+ * anew; an opening, a closing or a retiring by `possible` as it is, that of a policy which goes back to state 0 aside. Elements of
+ * `created` from the count on, and of `order` from its length on, are not looked at. */
 uint32_t judge_parts(const uint8_t *edges, size_t edges_length, uint32_t local, uint8_t *sets, uint8_t *possible, uint32_t *created,
                      uint8_t *unclosed, uint8_t *order, uint64_t *numbers, uint32_t kind, uint32_t a, uint32_t b);
 

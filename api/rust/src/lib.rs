@@ -23,12 +23,12 @@ pub const EDGE_BYTES: usize = 6;
 pub const NODE_BYTES: usize = 3;
 
 /// The lengths of a state's arrays.
-pub const SETS_LENGTH: usize = 648;
+pub const SETS_LENGTH: usize = 656;
 pub const POSSIBLE_LENGTH: usize = 8;
 pub const CREATED_LENGTH: usize = 64;
 pub const UNCLOSED_LENGTH: usize = 8;
 pub const ORDER_LENGTH: usize = 64;
-pub const NUMBERS_LENGTH: usize = 3;
+pub const NUMBERS_LENGTH: usize = 4;
 
 /// The numbers of a step (kind, a, b), and of the table that a counterexample is written to.
 pub const STEP_NUMBERS: usize = 3;
@@ -162,13 +162,14 @@ pub struct State {
     /// For each policy the states that any of its instances may be in, as bits: what each event gathers anew, and what openings and closings
     /// are judged by.
     pub possible: [u8; POSSIBLE_LENGTH],
-    /// The dynamic resources that were created, in their order.
+    /// The live dynamic resources, in the order of their creation.
     pub created: [u32; CREATED_LENGTH],
     /// For each policy its openings that are not closed.
     pub unclosed: [u8; UNCLOSED_LENGTH],
     /// The policies of the openings that are not closed, the oldest first.
     pub order: [u8; ORDER_LENGTH],
-    /// How many resources were created; 1 where the run is halted; how many openings are in `order`.
+    /// How many resources are live; 1 where the run is halted; how many openings are in `order`; the highest number that was created, live or
+    /// retired, or 0.
     pub numbers: [u64; NUMBERS_LENGTH],
 }
 

@@ -18,7 +18,8 @@ use Rattle.monitor_state.specs.Judge.{verdictOf, refuse, judgeOf}
 use Rattle.monitor_state.specs.Code.{judgementOf}
 use Rattle.monitor_state.proofs.KeptLaws.{refused-kept}
 use Rattle.monitor.proofs.JudgeLaws.{table-refused}
-use Rattle.api_c.specs.Parts.{Parts, partsOf, flag, heldIn, holding, Answered, refuseParts, answeredIn, judgeParts}
+use Rattle.api_c.specs.Parts.{Parts, partsOf, flag, highestIn, mostNumber, isHeld, heldIn, holding, Answered, refuseParts, answeredIn}
+use Rattle.api_c.specs.Parts.{judgeParts}
 use Rattle.api_c.specs.Choice.{isChoice, choiceOf}
 use Rattle.api_c.specs.Code.{isRefusal}
 
@@ -42,14 +43,30 @@ pub refusal-keeps : (edges : List ℕ) (choice : ℕ) (p : Parts) (raw : RawStep
 unfolding judgeParts
 refusal-keeps edges choice p raw n =
     either-keeps p n (not (isChoice choice && edgeTable edges)) (refuseParts 41 p)
-    (cond (not (leb (flag p) 1)) (refuseParts 42 p) judged) (λ e. refl)
-    (either-keeps p n (not (leb (flag p) 1)) (refuseParts 42 p) judged (λ e. refl)
+    (cond (not (isHeld p)) (refuseParts 42 p) judged) (λ e. refl)
+    (either-keeps p n (not (isHeld p)) (refuseParts 42 p) judged (λ e. refl)
     (answered-keeps p n (judgeOf edges (choiceOf choice) (heldIn p) raw .answer) (judgeOf edges (choiceOf choice) (heldIn p) raw .state)))
   where
     judged : Answered
     judged = answeredIn p (judgeOf edges (choiceOf choice) (heldIn p) raw .answer) (judgeOf edges (choiceOf choice) (heldIn p) raw .state)
 
--- ── The answer by the flag ──
+-- ── Whether the arrays hold a state ──
+
+-- a flag that is none
+pub flag-above : (p : Parts) → 1 < flag p → isHeld p ≡ false
+unfolding isHeld
+flag-above p h = simp (lt-leb (flag p) 1 h)
+
+-- a highest number that is none
+pub highest-above : (p : Parts) → flag p ≤ 1 → mostNumber < highestIn p → isHeld p ≡ false
+unfolding isHeld
+highest-above p f h = simp (le-leb (flag p) 1 f) (lt-leb (highestIn p) mostNumber h)
+
+pub is-held : (p : Parts) → flag p ≤ 1 → highestIn p ≤ mostNumber → isHeld p ≡ true
+unfolding isHeld
+is-held p f h = simp (le-leb (flag p) 1 f) (le-leb (highestIn p) mostNumber h)
+
+-- ── The answer ──
 
 module _ (edges : List ℕ) (choice : ℕ) (p : Parts) (raw : RawStep) where
   -- a choice that is none
@@ -57,42 +74,42 @@ module _ (edges : List ℕ) (choice : ℕ) (p : Parts) (raw : RawStep) where
   unfolding judgeParts
   choice-refused h = simp (lt-leb choice 1 h)
 
-  -- a flag that is none
-  pub flag-refused : choice ≤ 1 → 1 < flag p → judgeParts edges choice p raw ≡ refuseParts (cond (edgeTable edges) 42 41) p
+  -- arrays that hold no state
+  pub held-refused : choice ≤ 1 → isHeld p ≡ false → judgeParts edges choice p raw ≡ refuseParts (cond (edgeTable edges) 42 41) p
   unfolding judgeParts
-  flag-refused c h = simp (le-leb choice 1 c) (go (edgeTable edges) _)
+  held-refused c h = simp (le-leb choice 1 c) (go (edgeTable edges) _)
     where
       go : (b : Bool) (r : Answered)
-          → cond (not b) (refuseParts 41 p) (cond (not (leb (flag p) 1)) (refuseParts 42 p) r) ≡ refuseParts (cond b 42 41) p
-      go true r = simp (lt-leb (flag p) 1 h)
+          → cond (not b) (refuseParts 41 p) (cond (not (isHeld p)) (refuseParts 42 p) r) ≡ refuseParts (cond b 42 41) p
+      go true r = rw h
       go false r = refl
 
   -- else the answer is the judge's, 41 too
-  flag-judged : choice ≤ 1 → flag p ≤ 1
+  held-judged : choice ≤ 1 → isHeld p ≡ true
       → judgeParts edges choice p raw
       ≡ answeredIn p (judgeOf edges (choiceOf choice) (heldIn p) raw .answer) (judgeOf edges (choiceOf choice) (heldIn p) raw .state)
   unfolding judgeParts refuse
-  flag-judged c h = simp (le-leb choice 1 c) (go (edgeTable edges) refl)
+  held-judged c h = simp (le-leb choice 1 c) (go (edgeTable edges) refl)
     where
       go : (b : Bool) → edgeTable edges ≡ b
           → cond (not b) (refuseParts 41 p)
-          (cond (not (leb (flag p) 1)) (refuseParts 42 p)
+          (cond (not (isHeld p)) (refuseParts 42 p)
           (answeredIn p (judgeOf edges (choiceOf choice) (heldIn p) raw .answer) (judgeOf edges (choiceOf choice) (heldIn p) raw .state)))
           ≡ answeredIn p (judgeOf edges (choiceOf choice) (heldIn p) raw .answer) (judgeOf edges (choiceOf choice) (heldIn p) raw .state)
-      go true e = simp (le-leb (flag p) 1 h)
+      go true e = rw h
       go false e = sym
           (ap (λ (j : Judgement). answeredIn p (j .answer) (j .state)) (table-refused edges (choiceOf choice) (heldIn p) raw e))
 
   -- ── What is told, and what is left in the arrays ──
 
-  module _ (c : choice ≤ 1) (h : flag p ≤ 1) (t : Told) (sets possible created unclosed order : List ℕ)
+  module _ (c : choice ≤ 1) (h : isHeld p ≡ true) (t : Told) (sets possible created unclosed order : List ℕ)
       (is : judgementOf t sets possible created unclosed order ≡ judgeOf edges (choiceOf choice) (heldIn p) raw) where
     pub told-verdict : verdictOf (t .answer) ≡ judgeParts edges choice p raw .verdict
     told-verdict =
         sym (same (t .answer) (judgeOf edges (choiceOf choice) (heldIn p) raw .state))
         ∙ ap (λ (a : Answer). answeredIn p a (judgeOf edges (choiceOf choice) (heldIn p) raw .state) .verdict)
         (ap (λ (j : Judgement). j .answer) is)
-        ∙ sym (ap (λ (r : Answered). r .verdict) (flag-judged c h))
+        ∙ sym (ap (λ (r : Answered). r .verdict) (held-judged c h))
       where
         same : (a : Answer) (s : State) → answeredIn p a s .verdict ≡ verdictOf a
         same Allowed s = refl
@@ -102,7 +119,7 @@ module _ (edges : List ℕ) (choice : ℕ) (p : Parts) (raw : RawStep) where
     left : {q : Parts} → q ≡ answeredIn p (t .answer) (judgementOf t sets possible created unclosed order .state) .parts
         → q ≡ judgeParts edges choice p raw .parts
     left e =
-        e ∙ ap (λ (j : Judgement). answeredIn p (j .answer) (j .state) .parts) is ∙ sym (ap (λ (r : Answered). r .parts) (flag-judged c h))
+        e ∙ ap (λ (j : Judgement). answeredIn p (j .answer) (j .state) .parts) is ∙ sym (ap (λ (r : Answered). r .parts) (held-judged c h))
 
     -- a refusal: the arrays are those of the state that was lent
     pub refused-left : isRefusal (t .answer) ≡ true
@@ -123,10 +140,11 @@ module _ (edges : List ℕ) (choice : ℕ) (p : Parts) (raw : RawStep) where
 
     -- otherwise the numbers are those of the new state
     pub taken-left : (f : ℕ) → isRefusal (t .answer) ≡ false → f ≡ cond (t .halted) 1 0
-        → partsOf sets possible created unclosed order (t .count ∷ f ∷ t .depth ∷ []) ≡ judgeParts edges choice p raw .parts
+        → partsOf sets possible created unclosed order (t .count ∷ f ∷ t .depth ∷ t .highest ∷ []) ≡ judgeParts edges choice p raw .parts
     unfolding holding
     taken-left f r e = left
-        (ap (λ (n : ℕ). partsOf sets possible created unclosed order (t .count ∷ n ∷ t .depth ∷ [])) e ∙ by-answer (t .answer) r)
+        (ap (λ (n : ℕ). partsOf sets possible created unclosed order (t .count ∷ n ∷ t .depth ∷ t .highest ∷ [])) e
+        ∙ by-answer (t .answer) r)
       where
         by-answer : (a : Answer) → isRefusal a ≡ false
             → holding (judgementOf t sets possible created unclosed order .state) ≡ answeredIn p a

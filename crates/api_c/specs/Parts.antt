@@ -14,8 +14,8 @@ use Rattle.monitor_state.specs.declared.Judgement.{Judgement}
 use Rattle.monitor_state.specs.Judge.{verdictOf, judgeOf}
 use Rattle.api_c.specs.Choice.{isChoice, choiceOf}
 
--- the arrays; `numbers` holds how many resources were created, a flag, which is 1 where the state is halted and 0 where it is not, and how
--- many openings are not closed
+-- the arrays; `numbers` holds how many resources are live, a flag, which is 1 where the state is halted and 0 where it is not, how many
+-- openings are not closed, and the highest number that was created
 pub record Parts : Type 0 where
   pub sets : List ℕ
   pub possible : List ℕ
@@ -31,13 +31,25 @@ partsOf sets possible created unclosed order numbers =
 abbrev pub flag : Parts → ℕ
 flag p = getD (p .numbers) 1 0
 
--- the state that the arrays hold, where the flag is one
+abbrev pub highestIn : Parts → ℕ
+highestIn p = getD (p .numbers) 3 0
+
+-- the greatest number of 32 bits
+abbrev pub mostNumber : ℕ
+mostNumber = 4294967295
+
+-- the arrays hold a state: the flag is one, and the highest number is of 32 bits
+unfoldable pub isHeld : Parts → Bool
+isHeld p = leb (flag p) 1 && leb (highestIn p) mostNumber
+
+-- that state
 unfoldable pub heldIn : Parts → State
 heldIn p = record {
   sets = p .sets;
   possible = p .possible;
   created = p .created;
   count = getD (p .numbers) 0 0;
+  highest = highestIn p;
   unclosed = p .unclosed;
   order = p .order;
   depth = getD (p .numbers) 2 0;
@@ -46,7 +58,8 @@ heldIn p = record {
 
 -- the arrays that hold a state
 unfoldable pub holding : State → Parts
-holding s = partsOf (s .sets) (s .possible) (s .created) (s .unclosed) (s .order) (s .count ∷ cond (s .halted) 1 0 ∷ s .depth ∷ [])
+holding s =
+    partsOf (s .sets) (s .possible) (s .created) (s .unclosed) (s .order) (s .count ∷ cond (s .halted) 1 0 ∷ s .depth ∷ s .highest ∷ [])
 
 -- what is answered, and what the arrays then hold
 pub record Answered : Type 0 where
@@ -63,10 +76,10 @@ answeredIn p Allowed s = record { verdict = verdictOf Allowed; parts = holding s
 answeredIn p (Violated q) s = record { verdict = verdictOf (Violated q); parts = holding s }
 answeredIn p (Refused n) s = refuseParts n p
 
--- The judge, over the arrays. A number that is no choice of past is 41. A flag that is neither 0 nor 1 is that of no state: 42, after
--- 41 and before 20.
+-- The judge, over the arrays. A number that is no choice of past is 41. A flag that is neither 0 nor 1 is that of no state, and so is a
+-- highest number of more than 32 bits: 42, after 41 and before 20.
 unfoldable pub judgeParts : List ℕ → ℕ → Parts → RawStep → Answered
 judgeParts edges choice p raw =
     cond (not (isChoice choice && edgeTable edges)) (refuseParts 41 p)
-    (cond (not (leb (flag p) 1)) (refuseParts 42 p)
+    (cond (not (isHeld p)) (refuseParts 42 p)
     (answeredIn p (judgeOf edges (choiceOf choice) (heldIn p) raw .answer) (judgeOf edges (choiceOf choice) (heldIn p) raw .state)))

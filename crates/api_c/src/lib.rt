@@ -64,12 +64,15 @@ fn no_state(edges: &[u8]) -> u32
 const MOST_CHOICE: u32 = 1;
 
 // How many numbers a state has beside its arrays.
-const NUMBERS: usize = 3;
+const NUMBERS: usize = 4;
+
+// The greatest number that a resource can have: one above it is the highest of no state.
+const MOST_NUMBER: u64 = 4294967295;
 
 // One step of the judge, under the choice of past `local`. The state lies in the lent parts: the sets, what each policy may be in, the
-// created numbers, the counts of unclosed openings and their order, and in `numbers` how many resources were created, a flag, 1 where
-// the state is halted and 0 where it is not, and how many openings are not closed. All of them then hold the state that the judge
-// returns; after a refusal they are as they were lent.
+// numbers of the live resources, the counts of unclosed openings and their order, and in `numbers` how many resources are live, a flag, 1
+// where the state is halted and 0 where it is not, how many openings are not closed, and the highest number that was created. All of them
+// then hold the state that the judge returns; after a refusal they are as they were lent.
 #[no_mangle]
 pub extern "C" fn judge_parts(
     edges: &[u8],
@@ -101,10 +104,14 @@ pub extern "C" fn judge_parts(
     let count = numbers[0] as usize;
     let flag = numbers[1];
     let depth = numbers[2] as usize;
+    let highest = numbers[3];
     if MOST_CHOICE < local {
         return code(Answer::Refused(41));
     }
     if 1 < flag {
+        return no_state(edges);
+    }
+    if MOST_NUMBER < highest {
         return no_state(edges);
     }
     let t = monitor::judge_lent(
@@ -116,6 +123,7 @@ pub extern "C" fn judge_parts(
         unclosed,
         order,
         count,
+        highest as u32,
         depth,
         flag == 1,
         RawStep { kind, a, b },
@@ -125,7 +133,8 @@ pub extern "C" fn judge_parts(
         let n = t.count as u64;
         let h = flag_of(t.halted);
         let d = t.depth as u64;
-        *numbers = [n, h, d];
+        let m = t.highest as u64;
+        *numbers = [n, h, d, m];
     }
     code(answer)
 }

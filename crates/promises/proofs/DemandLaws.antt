@@ -14,12 +14,13 @@ use Rattle.usage.specs.Tables.{edgesOf, nodesOf, EdgeTable, NodeTable}
 use Rattle.usage.proofs.JudgeLaws.{judged-all-unique}
 use Rattle.usage.proofs.TableLaws.{decides-edge-table, decides-node-table}
 use Rattle.monitor_state.proofs.Verdict.{all-judged-begin}
+use Rattle.monitor_state.proofs.OthersLaws.{others-kept}
 use Rattle.sheet_lines.specs.Sheets.{isLocal}
 use Rattle.sheet_reader.specs.Readers.{policiesInto, outlineInto}
 use Rattle.sheet_reader.proofs.TableLaws.{policies-valid, outline-valid}
 use Rattle.sheet_reader.proofs.Converse.{edges-given, nodes-given}
 use Rattle.checker.proofs.AcceptedLaws.{never-halted}
-use Rattle.promises.specs.Demands.{GivenBy, Demand1, Demand2, Demand3, Demands}
+use Rattle.promises.specs.Demands.{GivenBy, Demand1, Demand2, Demand3, RetiringsApart, Demands}
 use Rattle.promises.proofs.JudgeNumbers.{judge-refuses}
 use Rattle.promises.proofs.SheetNumbers.{policies-refuses, trace-refuses, outline-refuses}
 
@@ -72,6 +73,9 @@ demand-3 = record {
   where
     none-left : {local : Bool} {es : List Edge} {ns : List Node} → Checked local es ns allowed → (p : ℕ) → Leaves local es ns p → ⊥
     none-left (accepts f) = f
+
+pub retirings-apart : RetiringsApart
+retirings-apart = others-kept
 
 pub demands : Demands
 demands = record { first = demand-1; second = demand-2; third = demand-3 }

@@ -1,7 +1,7 @@
 -- Which numbers the judge answers, and what it leaves of the state, from every table and state at all.
 use Prim.Native.Nat.{ℕ, zero, suc, _<_}
 use mathlib.Core.Path.{_≡_, refl, sym, subst, _∙_, ap}
-use mathlib.Core.Bool.{Bool, true, false, not, cond, _||_}
+use mathlib.Core.Bool.{Bool, true, false, not, cond, _&&_, _||_}
 use mathlib.Core.Option.{Option, none, some}
 use mathlib.Core.List.{List, [], _∷_, List·Memᴰ, List·Memᴰ·head, List·Memᴰ·tail}
 use mathlib.Core.Logic.{_⊎_, inl, inr, _↔_}
@@ -11,7 +11,7 @@ use lib.ListN.{getElem?}
 use Rattle.usage.specs.declared.Edge.{Edge}
 use Rattle.usage.specs.declared.RawStep.{RawStep}
 use Rattle.usage.specs.Limits.{statics, mostCreated, mostUnclosed}
-use Rattle.usage.specs.Past.{Step, event, opening, closing}
+use Rattle.usage.specs.Past.{Step, event, opening, closing, retiring}
 use Rattle.usage.specs.Judge.{stepOf}
 use Rattle.usage.specs.Tables.{edgesOf, EdgeTable, edgeTable}
 use Rattle.usage.proofs.Logic.{clash, none-some}
@@ -95,13 +95,14 @@ refusal-routine : (s : State) (step : Step) → Routine (refusal s step)
 unfolding refusal
 refusal-routine s (event zero r) =
     cond-routine (ltb r statics) _ _ (nth 2 judgeNumbers refl, lit< tt)
-    (cond-routine (listed r (live s)) _ _ (nth 3 judgeNumbers refl, lit< tt)
-    (cond-routine (leb mostCreated (s .count)) _ _ (nth 7 judgeNumbers refl, lit< tt) tt))
-refusal-routine s (event (suc a) r) = cond-routine (ltb r statics || listed r (live s)) _ _ tt (nth 4 judgeNumbers refl, lit< tt)
-refusal-routine s (opening p) = cond-routine (leb mostUnclosed (s .depth)) _ _ (nth 8 judgeNumbers refl, lit< tt) tt
+    (cond-routine (leb r (s .highest)) _ _ (nth 3 judgeNumbers refl, lit< tt)
+    (cond-routine (leb mostCreated (s .count)) _ _ (nth 8 judgeNumbers refl, lit< tt) tt))
+refusal-routine s (event (suc a) r) = cond-routine (ltb r statics || listed r (live s)) _ _ tt (nth 5 judgeNumbers refl, lit< tt)
+refusal-routine s (opening p) = cond-routine (leb mostUnclosed (s .depth)) _ _ (nth 9 judgeNumbers refl, lit< tt) tt
 refusal-routine s (closing p) =
-    cond-routine (ltb 0 (openingsOf s p)) _ _ (cond-routine (eqb (lastOpened s) p) _ _ tt (nth 6 judgeNumbers refl, lit< tt))
-    (nth 5 judgeNumbers refl, lit< tt)
+    cond-routine (ltb 0 (openingsOf s p)) _ _ (cond-routine (eqb (lastOpened s) p) _ _ tt (nth 7 judgeNumbers refl, lit< tt))
+    (nth 6 judgeNumbers refl, lit< tt)
+refusal-routine s (retiring r) = cond-routine (not (ltb r statics) && listed r (live s)) _ _ tt (nth 4 judgeNumbers refl, lit< tt)
 
 -- a refusal that comes after the tests of the table and of the state
 abbrev Low : Judgement → Type 0
@@ -148,8 +149,8 @@ module _ (t : List ℕ) (local : Bool) (s : State) (raw : RawStep) where
   pub judge-fine : Fine s (judgeOf t local s raw)
   unfolding judgeOf
   judge-fine =
-      cond-fine (not (edgeTable t)) _ _ (refuse-fine s 41 (nth 9 judgeNumbers refl))
-      (cond-fine (not (stateOk s)) _ _ (refuse-fine s 42 (nth 10 judgeNumbers refl)) inner-fine)
+      cond-fine (not (edgeTable t)) _ _ (refuse-fine s 41 (nth 10 judgeNumbers refl))
+      (cond-fine (not (stateOk s)) _ _ (refuse-fine s 42 (nth 11 judgeNumbers refl)) inner-fine)
 
   is-41 : edgeTable t ≡ false → judgeOf t local s raw ≡ refuse 41 s
   unfolding judgeOf

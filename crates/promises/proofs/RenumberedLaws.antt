@@ -17,13 +17,14 @@ use Rattle.report.specs.Output.{printed}
 use Rattle.report.specs.Trace.{judgedRows, traceRows, tracePrinted}
 use Rattle.promises.specs.Demands.{Renumbered}
 
-rows-same : (edges : List ℕ) (local : Bool) (f : ℕ → ℕ) → Renaming f → (line : ℕ) (steps : List RawStep)
+rows-same : (edges : List ℕ) (local : Bool) (f : ℕ → ℕ) (line : ℕ) (steps : List RawStep) → Renaming f steps
     → judgedRows edges local startState line (map (renamedStep f) steps) ≡ judgedRows edges local startState line steps
 unfolding judgedRows
-rows-same edges local f R line steps = ap (λ (l : List Answer). rows line (map verdictOf l)) (start-same edges local f R steps)
+rows-same edges local f line steps R = ap (λ (l : List Answer). rows line (map verdictOf l)) (start-same edges local f steps R)
 
-printed-same : (policies-text trace-text renamed-text : List ℕ) (rows renamed-rows : List (List ℕ)) (f : ℕ → ℕ) → Renaming f
-    → sheet traceSheet trace-text ≡ accepted rows → sheet traceSheet renamed-text ≡ accepted renamed-rows
+printed-same : (policies-text trace-text renamed-text : List ℕ) (rows renamed-rows : List (List ℕ)) (f : ℕ → ℕ)
+    → Renaming f (stepsOf (flatten rows)) → sheet traceSheet trace-text ≡ accepted rows
+    → sheet traceSheet renamed-text ≡ accepted renamed-rows
     → stepsOf (flatten renamed-rows) ≡ map (renamedStep f) (stepsOf (flatten rows))
     → tracePrinted policies-text renamed-text ≡ tracePrinted policies-text trace-text
 unfolding tracePrinted printed traceRows
@@ -33,7 +34,7 @@ printed-same policies-text trace-text renamed-text rows renamed-rows f R p q e =
         → printed r (λ edges. judgedRows edges (isLocal policies-text) startState 2 (map (renamedStep f) (stepsOf (flatten rows))))
         ≡ printed r (λ edges. judgedRows edges (isLocal policies-text) startState 2 (stepsOf (flatten rows)))
     go (accepted edges) =
-        ap (λ (l : List ℕ). namesLine ++ l) (rows-same (flatten edges) (isLocal policies-text) f R 2 (stepsOf (flatten rows)))
+        ap (λ (l : List ℕ). namesLine ++ l) (rows-same (flatten edges) (isLocal policies-text) f 2 (stepsOf (flatten rows)) R)
     go (refused r) = refl
 
 pub renumbered : Renumbered

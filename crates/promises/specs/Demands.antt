@@ -18,6 +18,7 @@ use Rattle.monitor_state.specs.declared.State.{State}
 use Rattle.monitor_state.specs.declared.Answer.the-variants.{Violated, Refused}
 use Rattle.monitor_state.specs.Judge.{verdictOf, stateOk, halt, judgeOf, answersOf, startState}
 use Rattle.monitor_state.specs.Renamed.{Renaming, renamedStep, SameAnswers}
+use Rattle.monitor_state.specs.Others.{OthersKept}
 use Rattle.sheet_lines.specs.Sheet.{Result, accepted, refused as sheet-refused, sheet}
 use Rattle.sheet_lines.specs.Sheets.{isLocal, traceSheet}
 use Rattle.sheet_reader.specs.Readers.{policiesInto, traceInto, outlineInto, stored}
@@ -27,9 +28,10 @@ use Rattle.report.specs.Trace.{tracePrinted}
 
 -- ── Demand 1 ──
 
--- "The running routine, in order", "The limits, last of all", "The calling program": the numbers that the judge has
+-- "The running routine, in order", with 27 "in the place of 23" and 28 "after 27" (02, L8), "The limits, last of all", "The calling
+-- program": the numbers that the judge has
 abbrev pub judgeNumbers : List ℕ
-judgeNumbers = 20 ∷ 21 ∷ 22 ∷ 23 ∷ 24 ∷ 25 ∷ 26 ∷ 30 ∷ 32 ∷ 41 ∷ 42 ∷ []
+judgeNumbers = 20 ∷ 21 ∷ 22 ∷ 27 ∷ 28 ∷ 24 ∷ 25 ∷ 26 ∷ 30 ∷ 32 ∷ 41 ∷ 42 ∷ []
 
 -- "The author of a sheet", 02, L2, and 40: the numbers that a sheet has, and those that an outline has besides
 abbrev pub sheetNumbers : List ℕ
@@ -105,17 +107,26 @@ pub record Demand3 : Type 0 where
   pub never-halted : (local : Bool) (t n : List ℕ) → EdgeTable t → NodeTable n
       → Checked local (edgesOf t) (nodesOf n) allowed → NeverHalted t local (nodesOf n)
 
--- ── Renumbered channels (02, L3) ──
+-- ── Renumbered channels (02, L3, and L8) ──
 
--- "Let the dynamic numbers of a trace be renamed one to one among 16 to 65,535; then every step must get the same answer as before"
+-- "Let the dynamic numbers of a trace be renamed one to one among 16 to 65,535; then every step must get the same answer as before": of
+-- renamings that keep the order (02, L8)
 pub record Renumbered : Type 0 where
   -- "This holds from the judge's start, for traces of any length."
   pub answers : SameAnswers startState
   -- so for the program: two accepted trace sheets whose steps differ by a renaming are printed the same, byte for byte
-  pub printed : (policies-text trace-text renamed-text : List ℕ) (rows renamed-rows : List (List ℕ)) (f : ℕ → ℕ) → Renaming f
-      → sheet traceSheet trace-text ≡ accepted rows → sheet traceSheet renamed-text ≡ accepted renamed-rows
+  pub printed : (policies-text trace-text renamed-text : List ℕ) (rows renamed-rows : List (List ℕ)) (f : ℕ → ℕ)
+      → Renaming f (stepsOf (flatten rows)) → sheet traceSheet trace-text ≡ accepted rows
+      → sheet traceSheet renamed-text ≡ accepted renamed-rows
       → stepsOf (flatten renamed-rows) ≡ map (renamedStep f) (stepsOf (flatten rows))
       → tracePrinted policies-text renamed-text ≡ tracePrinted policies-text trace-text
+
+-- ── Retired channels (02, L8) ──
+
+-- "before the first 30 without them, the other steps get the answers they got without": from the judge's start, for every list of steps at
+-- all. Of the traces of an outline that the check accepts, demand 3 speaks of retirings too.
+abbrev pub RetiringsApart : Type 0
+RetiringsApart = OthersKept startState
 
 -- All three demands.
 pub record Demands : Type 0 where

@@ -9,7 +9,7 @@ use Rattle.sheet_lines.specs.declared.Reading.{Reading}
 use Rattle.sheet_lines.specs.declared.Reading.the-variants.{Stored, Refused}
 use Rattle.sheet_reader.specs.declared.PolicyReading.{PolicyReading}
 use Rattle.sheet_reader.specs.declared.PolicyReading.the-variants.{Stored as StoredEdges, Refused as RefusedPolicies}
-use Rattle.monitor_sets.specs.Instances.{setPlaces}
+use Rattle.monitor_sets.specs.Instances.{firstCreated, setPlaces}
 use Rattle.api_c.specs.Codes.{codeOf}
 use Rattle.api_c.specs.Parts.{Parts, partsOf}
 use Rattle.test_stored.specs.declared.lent.Lent.{Lent}
@@ -28,17 +28,17 @@ policiesCode (RefusedPolicies line number) = codeOf (refused number)
 abbrev pub edgeTo : ℕ → List ℕ
 edgeTo to = set (replicate edgeFields 0) 5 to
 
--- a state like the start, but for the count, the flag and the first two created numbers
+-- a state like the start, but for the count, the flag and the first two created numbers, the second of them the highest
 abbrev pub bordering : ℕ → ℕ → ℕ → ℕ → Parts
 bordering count flag first second =
     partsOf (replicate setPlaces 1) (replicate policies 1) (set (set (replicate mostCreated 0) 0 first) 1 second) (replicate policies 0)
-    (replicate mostUnclosed 0) (count ∷ flag ∷ 0 ∷ [])
+    (replicate mostUnclosed 0) (count ∷ flag ∷ 0 ∷ second ∷ [])
 
 -- a state like the start, but that policy 0 has two openings, may be in the states `kept`, and its instance of resource 0 in those of m
 abbrev pub disagreeing : ℕ → ℕ → Parts
 disagreeing kept m =
     partsOf (set (replicate setPlaces 1) 0 m) (set (replicate policies 1) 0 kept) (replicate mostCreated 0) (set (replicate policies 0) 0 2)
-    (replicate mostUnclosed 0) (0 ∷ 0 ∷ 2 ∷ [])
+    (replicate mostUnclosed 0) (0 ∷ 0 ∷ 2 ∷ 0 ∷ [])
 
 -- the arrays of a call as it is lent them
 abbrev pub lentParts : Lent → Parts
@@ -49,7 +49,7 @@ lentParts s = partsOf (s .sets) (s .possible) (s .created) (s .unclosed) (s .ord
 abbrev pub ordering : ℕ → ℕ → ℕ → ℕ → ℕ → Parts
 ordering first rest depth ones sixes =
     partsOf (replicate setPlaces 1) (replicate policies 1) (replicate mostCreated 0)
-    (set (set (replicate policies 0) 1 ones) 6 sixes) (set (replicate mostUnclosed rest) 0 first) (0 ∷ 0 ∷ depth ∷ [])
+    (set (set (replicate policies 0) 1 ones) 6 sixes) (set (replicate mostUnclosed rest) 0 first) (0 ∷ 0 ∷ depth ∷ 0 ∷ [])
 
 -- the same arrays, but that the state is halted
 abbrev pub halting : Parts → Parts
@@ -63,5 +63,5 @@ breaking p = partsOf (p .sets) (set (p .possible) 1 64) (p .created) (p .unclose
 -- that of a place that is not in use are m
 abbrev pub sandboxing : ℕ → ℕ → ℕ → Parts
 sandboxing zeros ones m =
-    partsOf (set (set (replicate setPlaces 1) 0 m) 17 m) (set (set (replicate policies 1) 0 zeros) 1 ones) (replicate mostCreated 0)
-    (set (replicate policies 0) 1 1) (replicate mostUnclosed 1) (0 ∷ 0 ∷ 1 ∷ [])
+    partsOf (set (set (replicate setPlaces 1) 0 m) firstCreated m) (set (set (replicate policies 1) 0 zeros) 1 ones) (replicate mostCreated 0)
+    (set (replicate policies 0) 1 1) (replicate mostUnclosed 1) (0 ∷ 0 ∷ 1 ∷ 0 ∷ [])

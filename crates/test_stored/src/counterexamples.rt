@@ -70,7 +70,7 @@ fn follow(
     let mut created = [0u32; MOST_CREATED];
     let mut unclosed = [0u8; POLICIES];
     let mut order = [0u8; MOST_UNCLOSED];
-    let mut numbers = [0u64, 0, 0];
+    let mut numbers = [0u64, 0, 0, 0];
     let mut i: usize = 0;
     while i < steps {
         let kind = trace[STEP_FIELDS * i];

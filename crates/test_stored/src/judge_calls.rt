@@ -30,7 +30,8 @@ fn show_left(call: u64, left: Left) -> u32
     left.code
 }
 
-// A step from a state like the start, but for the count, the flag and the first two created numbers. The one edge leads to `to`.
+// A step from a state like the start, but for the count, the flag and the first two created numbers, the second of them the highest. The
+// one edge leads to `to`.
 fn judged(to: u8, count: u64, flag: u64, first: u32, second: u32, kind: u32, a: u32, b: u32) -> Left
     ensures { λ r.
         ⌜ r .code ≡ codeOf
@@ -51,7 +52,8 @@ fn judged(to: u8, count: u64, flag: u64, first: u32, second: u32, kind: u32, a: 
     created[1] = second;
     let mut unclosed = [0u8; POLICIES];
     let mut order = [0u8; MOST_UNCLOSED];
-    let mut numbers = [count, flag, 0];
+    let highest = second as u64;
+    let mut numbers = [count, flag, 0, highest];
     let code = api_c::judge_parts(
         &edges,
         0,
@@ -89,7 +91,7 @@ fn judged_kept(kept: u8, set: u8, kind: u32, a: u32, b: u32) -> u32
     let mut unclosed = [0u8; POLICIES];
     unclosed[0] = 2;
     let mut order = [0u8; MOST_UNCLOSED];
-    let mut numbers = [0u64, 0, 2];
+    let mut numbers = [0u64, 0, 2, 0];
     api_c::judge_parts(
         &edges,
         0,
@@ -112,7 +114,7 @@ pub(crate) fn step_calls() -> u64
     show_left(1, judged(7, 0, 0, 0, 0, 0, 31, 15));
     show_left(2, judged(7, 0, 0, 0, 0, 0, 32, 15));
     show_left(3, judged(7, 0, 0, 0, 0, 0, 1, 65536));
-    show_left(4, judged(7, 0, 0, 0, 0, 3, 0, 0));
+    show_left(4, judged(7, 0, 0, 0, 0, 4, 0, 0));
     show_left(5, judged(7, 0, 0, 0, 0, 1, 7, 0));
     show_left(6, judged(7, 0, 0, 0, 0, 1, 8, 0));
     show_left(7, judged(7, 0, 0, 0, 0, 1, 7, 1));
@@ -123,7 +125,7 @@ pub(crate) fn step_calls() -> u64
     show_left(12, judged(7, 2, 0, 16, 65536, 0, 31, 15));
     show_left(13, judged(7, 2, 0, 16, 16, 0, 31, 15));
     show_left(14, judged(7, 65, 0, 16, 17, 0, 31, 15));
-    show_left(15, judged(8, 65, 0, 16, 16, 3, 0, 0));
+    show_left(15, judged(8, 65, 0, 16, 16, 4, 0, 0));
     show_left(16, judged(7, 0, 0, 0, 0, 0, 0, 16));
     17
 }
@@ -133,11 +135,11 @@ pub(crate) fn flag_calls() -> u64
     ensures { λ r. ⌜ r ≡ 27 ⌝ }
 {
     show_left(17, judged(7, 0, 1, 0, 0, 0, 31, 15));
-    show_left(18, judged(7, 0, 1, 0, 0, 3, 0, 0));
+    show_left(18, judged(7, 0, 1, 0, 0, 4, 0, 0));
     show_left(19, judged(7, 65, 1, 16, 17, 0, 31, 15));
     show_left(20, judged(7, 0, 2, 0, 0, 0, 31, 15));
     show_left(21, judged(7, 0, 7, 0, 0, 0, 31, 15));
-    show_left(22, judged(7, 0, 7, 0, 0, 3, 0, 0));
+    show_left(22, judged(7, 0, 7, 0, 0, 4, 0, 0));
     show_left(23, judged(8, 0, 7, 0, 0, 0, 31, 15));
     show_left(24, judged(7, 0, 256, 0, 0, 0, 31, 15));
     show_left(25, judged(7, 0, 4294967296, 0, 0, 0, 31, 15));

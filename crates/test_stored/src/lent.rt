@@ -20,7 +20,7 @@ pub struct Lent {
     pub created: [u32; MOST_CREATED],
     pub unclosed: [u8; POLICIES],
     pub order: [u8; MOST_UNCLOSED],
-    pub numbers: [u64; 3],
+    pub numbers: [u64; 4],
 }
 
 // 1 where the two are not the same, else 0.
@@ -94,7 +94,8 @@ fn changed(a: Lent, b: Lent) -> u64
     let count = differ(a.numbers[0], b.numbers[0]);
     let flag = differ(a.numbers[1], b.numbers[1]);
     let depth = differ(a.numbers[2], b.numbers[2]);
-    sets + policies + created + order + count + flag + depth
+    let highest = differ(a.numbers[3], b.numbers[3]);
+    sets + policies + created + order + count + flag + depth + highest
 }
 
 // What a call answers, and how many places of the arrays are then not as they were lent.

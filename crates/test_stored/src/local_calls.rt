@@ -43,7 +43,7 @@ fn sandbox(of_0: u8, of_1: u8, set: u8) -> Lent
         created,
         unclosed,
         order,
-        numbers: [0, 0, 1],
+        numbers: [0, 0, 1, 0],
     }
 }
 

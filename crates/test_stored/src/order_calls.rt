@@ -28,7 +28,7 @@ fn in_order(first: u8, rest: u8, depth: u64, of_1: u8, of_6: u8) -> Lent
         created,
         unclosed,
         order,
-        numbers: [0, 0, depth],
+        numbers: [0, 0, depth, 0],
     }
 }
 

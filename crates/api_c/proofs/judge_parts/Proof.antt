@@ -9,7 +9,8 @@ use Rattle.usage.specs.declared.RawStep.{RawStep}
 use Rattle.usage.proofs.Logic.{by-cases}
 use Rattle.api_c.specs.Codes.{codeOf}
 use Rattle.api_c.specs.Parts.{partsOf, flag, heldIn, Answered}
-use Rattle.api_c.proofs.PartLaws.{choice-refused, flag-refused, told-verdict, refused-left, taken-left}
+use Rattle.api_c.proofs.PartLaws.{flag-above, highest-above, is-held, choice-refused, held-refused, told-verdict, refused-left}
+use Rattle.api_c.proofs.PartLaws.{taken-left}
 use Rattle.api_c.proofs.judge_parts.Statement.{statement}
 use Rattle.api_c.proofs.judge_parts.Tie as tie
 
@@ -22,12 +23,15 @@ element-copy-out-flag c = search needs
 element-copy-out-depth : tie.Need-element-copy-out-depth
 element-copy-out-depth c = search needs
 
+element-copy-out-highest : tie.Need-element-copy-out-highest
+element-copy-out-highest c = search needs
+
 code-requires : tie.Need-code-requires
 code-requires c κs = search needs
 
 returns : tie.Need-returns
 returns c =
-    let a = c .before .before .before .before .before .before .args in
+    let a = c .before .before .before .before .before .before .before .args in
     let p = partsOf (a .sets .now) (a .possible .now) (a .created .now) (a .unclosed .now) (a .order .now) (a .numbers .now) in
     let e = choice-refused (a .edges .now) (a .local) p (record { kind = a .kind; a = a .a; b = a .b }) (c .before .if1 .taken) in
     (c .code .ensures ∙ sym (ap (λ (r : Answered). codeOf (r .verdict)) e), sym (ap (λ (r : Answered). r .parts) e))
@@ -37,11 +41,26 @@ no-state-requires c κs = search needs
 
 returns-2 : tie.Need-returns-2
 returns-2 c =
-    let a = c .before .before .before .before .before .before .before .args in
+    let a = c .before .before .before .before .before .before .before .before .args in
     let p = partsOf (a .sets .now) (a .possible .now) (a .created .now) (a .unclosed .now) (a .order .now) (a .numbers .now) in
-    let h : 1 < flag p = omega (arith, c .before .if2 .taken) in
-    let e = flag-refused (a .edges .now) (a .local) p (record { kind = a .kind; a = a .a; b = a .b }) (c .before .before .if1 .left) h in
+    let h = flag-above p (omega (arith, c .before .if2 .taken)) in
+    let e = held-refused (a .edges .now) (a .local) p (record { kind = a .kind; a = a .a; b = a .b }) (c .before .before .if1 .left) h in
     (c .no-state .ensures ∙ sym (ap (λ (r : Answered). codeOf (r .verdict)) e), sym (ap (λ (r : Answered). r .parts) e))
+
+no-state-requires-2 : tie.Need-no-state-requires-2
+no-state-requires-2 c κs = search needs
+
+returns-3 : tie.Need-returns-3
+returns-3 c =
+    let a = c .before .before .before .before .before .before .before .before .before .args in
+    let p = partsOf (a .sets .now) (a .possible .now) (a .created .now) (a .unclosed .now) (a .order .now) (a .numbers .now) in
+    let h = highest-above p (omega (arith, c .before .before .if2 .left)) (omega (arith, c .before .if3 .taken)) in
+    let e = held-refused (a .edges .now) (a .local) p (record { kind = a .kind; a = a .a; b = a .b })
+    (c .before .before .before .if1 .left) h in
+    (c .no-state2 .ensures ∙ sym (ap (λ (r : Answered). codeOf (r .verdict)) e), sym (ap (λ (r : Answered). r .parts) e))
+
+cast-judge-lent : tie.Need-cast-judge-lent
+cast-judge-lent c = omega (arith, c .before .before .before .before .before .if3 .left)
 
 judge-lent-requires : tie.Need-judge-lent-requires
 judge-lent-requires c κs = search needs
@@ -52,24 +71,29 @@ is-refusal-requires c κs = search needs
 flag-of-requires : tie.Need-flag-of-requires
 flag-of-requires c κs = search needs
 
+cast-m : tie.Need-cast-m
+cast-m c = search needs
+
 code-requires-2 : tie.Need-code-requires-2
 code-requires-2 c κs = search needs
 
-returns-3 : tie.Need-returns-3
+returns-4 : tie.Need-returns-4
 unfolding heldIn
-returns-3 c =
-    let a = c .before .before .before .before .before .before .before .before
-    .before .before .before .before .before .before .before .args in
+returns-4 c =
+    let a = c .before .before .before .before .before .before .before .before .before
+    .before .before .before .before .before .before .before .before .args in
     let p = partsOf (a .sets .now) (a .possible .now) (a .created .now) (a .unclosed .now) (a .order .now) (a .numbers .now) in
     let raw : RawStep = record { kind = a .kind; a = a .a; b = a .b } in
-    let h : flag p ≤ 1 = omega (arith, c .before .before .before .before .before .before .before .before .before .if2 .left) in
-    let k = c .before .before .before .before .before .before .before .before .before .before .if1 .left in
+    let h = is-held p
+    (omega (arith, c .before .before .before .before .before .before .before .before .before .before .if2 .left))
+    (omega (arith, c .before .before .before .before .before .before .before .before .before .if3 .left)) in
+    let k = c .before .before .before .before .before .before .before .before .before .before .before .if1 .left in
     let j = c .before .before .before .judge-lent in
     let r = c .before .before .is-refusal in (
       c .code2 .ensures ∙ ap codeOf (told-verdict (a .edges .now) (a .local) p raw k h (j .result) _ _ _ _ _ (j .ensures)),
-      by-cases (c .before .if3 .came)
+      by-cases (c .before .if4 .came)
           (λ w. ap (λ (l : List ℕ). partsOf (j .last .1 .1 .0) (j .last .1 .1 .1 .0) (j .last .1 .1 .1 .1 .0) (j .last .1 .1 .1 .1 .1 .0)
-          (j .last .1 .1 .1 .1 .1 .1 .0) l) (w .3)
+          (j .last .1 .1 .1 .1 .1 .1 .0) l) (w .4)
           ∙ taken-left (a .edges .now) (a .local) p raw k h (j .result) _ _ _ _ _ (j .ensures) (w .1 .result)
           (sym (r .ensures) ∙ not-true (r .result) (w .0 .taken)) (w .1 .ensures))
           (λ w. ap (λ (l : List ℕ). partsOf (j .last .1 .1 .0) (j .last .1 .1 .1 .0) (j .last .1 .1 .1 .1 .0) (j .last .1 .1 .1 .1 .1 .0)
@@ -85,12 +109,17 @@ judge-parts-spec =
     element-copy-out-count
     element-copy-out-flag
     element-copy-out-depth
+    element-copy-out-highest
     code-requires
     returns
     no-state-requires
     returns-2
+    no-state-requires-2
+    returns-3
+    cast-judge-lent
     judge-lent-requires
     is-refusal-requires
     flag-of-requires
+    cast-m
     code-requires-2
-    returns-3)
+    returns-4)
