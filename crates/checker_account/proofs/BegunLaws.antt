@@ -8,8 +8,9 @@ use Rattle.usage.specs.declared.Node.{Node}
 use Rattle.usage.specs.Limits.{states, mostNames}
 use Rattle.usage.specs.Policy.{Moves, along, stays, EdgesOk}
 use Rattle.usage.specs.Past.{reopened}
-use Rattle.checker_account.specs.Witness.{Sight, Aim, ended, Goes, Ends}
-use Rattle.checker_account.specs.Least.{Begun}
+use Rattle.checker_account.specs.Witness.{Sight, Aim, ended, Goes, Ends, Comes}
+use Rattle.checker_account.specs.Holds.{NamesOk}
+use Rattle.checker_account.specs.Least.{Begun, Followed, ComeTo, Anywhere}
 
 pub moves-states : {es : List Edge} {p a : ℕ} {sees : ℕ → ℕ → Type 0} {q q′ : ℕ} → EdgesOk es → Moves es p a sees q q′ → q < states
     → q′ < states
@@ -75,3 +76,50 @@ module _ (local : Bool) (es : List Edge) (ns : List Node) (p : ℕ) (S : Sight) 
   pub begun-ended : {n : ℕ} {o : Bool} {k : ℕ} {w : S .Meaning} {c : S .Left} {q : ℕ} {c′ : S .Left} {q′ : ℕ} → Begun S w c q
       → Ends local es ns p S n o k w c q c′ q′ → Begun S w c′ q′
   begun-ended {w = w} h d = let g = goes-kept d in record { view = g .0 w (h .view); state = g .1 (h .state) }
+
+  -- ── What is come to, and all that occurs ──
+
+  module _ (names : NamesOk ns) where
+    pub come-begun : {n : ℕ} {o : Bool} {k : ℕ} {w : S .Meaning} {c : S .Left} {q : ℕ} → Comes local es ns p S n o k w c q → Begun S w c q
+    come-begun Comes.begins = begun-root keeps
+    come-begun (Comes.first i e) = come-begun e
+    come-begun (Comes.second i e d) = begun-ended (come-begun e) d
+    come-begun (Comes.left i e) = come-begun e
+    come-begun (Comes.right i e) = come-begun e
+    come-begun (Comes.body i e) = come-begun e
+    come-begun (Comes.again i e) = come-begun e
+    come-begun (Comes.created {q₁ = q₁} i y e v) =
+        let b = come-begun e in begun-new keeps b q₁ (names .given i) y (moves-states edges v (b .state))
+    come-begun (Comes.inside {s = s} {o = o} i e) = begun-opened (come-begun e) local p s o
+
+    -- The entries that a rule reads at a start that is come to belong to starts that are come to.
+    pub come-followed : Followed local es ns p S (ComeTo local es ns p S)
+    come-followed = record {
+      occurs = λ (n, e). come-begun e;
+      first = λ i (n, e). (n, Comes.first i e);
+      second = λ i (n, e) d. (_, Comes.second i e d);
+      left = λ i (n, e). (n, Comes.left i e);
+      right = λ i (n, e). (n, Comes.right i e);
+      body = λ i (n, e). (n, Comes.body i e);
+      again = λ i (n, e). (n, Comes.again i e);
+      created = λ i y v (n, e). (_, Comes.created i y e v);
+      inside = λ i (n, e). (_, Comes.inside i e);
+    }
+
+    -- So do those of starts that occur, to starts that occur.
+    pub begun-followed : Followed local es ns p S (Anywhere S)
+    begun-followed = record {
+      occurs = λ b. b;
+      first = λ i b. b;
+      second = λ i b d. begun-ended b d;
+      left = λ i b. b;
+      right = λ i b. b;
+      body = λ i b. b;
+      again = λ i b. b;
+      created = λ {q₁ = q₁} i y v b. begun-new keeps b q₁ (names .given i) y (moves-states edges v (b .state));
+      inside = λ {s = s} {o = o} i b. begun-opened b local p s o;
+    }
+
+pub come-root : {local : Bool} {es : List Edge} {ns : List Node} {p : ℕ} {S : Sight}
+    → ComeTo local es ns p S false 0 (S .first-meaning) (S .first-left) 0
+come-root = (0, Comes.begins)

@@ -6,27 +6,25 @@ use mathlib.Core.Option.{none, some}
 use mathlib.Core.List.{List, [], _∷_}
 use native.Mathlib.Omega.{arith}
 use native.Mathlib.Decide.{ℕ-discrete, decLe}
-use lib.Dec.{ltb}
 use lib.ListN.{length}
 use Rattle.usage.specs.declared.Edge.{Edge}
 use Rattle.usage.specs.declared.Node.{Node}
-use Rattle.usage.specs.Limits.{statics, create, mostShown}
+use Rattle.usage.specs.Limits.{create, mostShown}
 use Rattle.usage.specs.Policy.{EdgesOk}
 use Rattle.usage.specs.Past.{Step, event, opening, Past, Violates}
 use Rattle.usage.specs.Outline.{Is, sequence, Names, noNames, give, IsTrace}
 use Rattle.usage.specs.Check.{Shown, this}
-use Rattle.checker_account.specs.Witness.{Sight, each, Aim, ended, broken}
+use Rattle.checker_account.specs.Witness.{Sight, Last, each, Aim, ended, broken}
 use Rattle.checker_account.specs.Views.{views}
 use Rattle.checker_account.specs.Written.{next, Written}
-use Rattle.checker_account.specs.Least.{Entries, Begun, Aimed, at-end, at-break, Rule, Least, Less, Idle, Leads, PassesAll, ending}
+use Rattle.checker_account.specs.Least.{Entries, Starts, Followed, Aimed, at-end, at-break, Rule, Least, Less, Idle, Leads, PassesAll, ending}
 use Rattle.checker_account.proofs.Scoped.{Scoped}
 use Rattle.checker_account.proofs.Ahead.{Root, hits-exact}
 use Rattle.checker_account.proofs.Writing.{Given, given-child, given-fresh, written-length}
 use Rattle.checker_account.proofs.Complete.{written-struck}
 use Rattle.checker_account.proofs.RendersLaws.{root-written}
-use Rattle.checker_account.proofs.SightsLaws.{Sights, shortest-sights, all-longer-sights}
-use Rattle.checker_account.proofs.BegunLaws.{moves-states, Keeps, begun-root, begun-new, begun-opened, begun-ended}
-use Rattle.checker_account.proofs.Reading.{passes-all, goes-still, found}
+use Rattle.checker_account.proofs.SightsLaws.{Sights, HitsAt, shortest-sights, all-longer-sights}
+use Rattle.checker_account.proofs.Reading.{passes-all, goes-still, passes-among, found}
 
 module _ (local : Bool) (es : List Edge) (ns : List Node) (p : ℕ) (S : Sight) where
   -- ── What is written at a node that k leads to is written at k ──
@@ -72,7 +70,7 @@ module _ (local : Bool) (es : List Edge) (ns : List Node) (p : ℕ) (S : Sight) 
   passes-written t PassesAll.here d = d
   passes-written t (PassesAll.on l s) d = leads-written t l (passes-written t s d)
 
-  module _ (keeps : Keeps S) (scope : ℕ → ℕ → Type 0) (edges : EdgesOk es) (outline : Scoped ns scope) where
+  module _ (scope : ℕ → ℕ → Type 0) (outline : Scoped ns scope) where
     abbrev Names-at : ℕ → Names → Type 0
     Names-at k names = Given local es ns p S scope outline k names
 
@@ -87,15 +85,15 @@ module _ (local : Bool) (es : List Edge) (ns : List Node) (p : ℕ) (S : Sight) 
     passes-given : {whole : Bool} {k j : ℕ} {names : Names} → PassesAll ns whole k j → Names-at k names → Names-at j names
     passes-given {names = names} s g = passes-all (λ (i : ℕ). Names-at i names) (λ a b h l. leads-given l h) g s
 
-    module _ (cap : ℕ) (E : Entries (S .Meaning) (S .Left)) (h : Least local es ns p S cap E) where
+    module _ (A : Starts S) (on : Followed local es ns p S A) (cap : ℕ) (E : Entries (S .Meaning) (S .Left))
+        (h : Least local es ns p S A cap E) where
       -- every entry of fewer steps than this can be written
       abbrev Writes : ℕ → Type 0
-      Writes most = (n : ℕ) (o : Bool) (k : ℕ) (w : S .Meaning) (c : S .Left) (q : ℕ) (t : Aim (S .Left)) → n < most → Begun S w c q
-          → Aimed t → E n o k w c q t
+      Writes most = (n : ℕ) (o : Bool) (k : ℕ) (w : S .Meaning) (c : S .Left) (q : ℕ) (t : Aim (S .Left)) → n < most → A o k w c q → Aimed t → E n o k w c q t
           → (names : Names) → Names-at k names → (past : Past) → (after : Past) × Written local es ns p S n o k names w c q past t after
 
       -- one rule, the entries of which can be written
-      by-rule : {most n : ℕ} {o : Bool} {k : ℕ} {w : S .Meaning} {c : S .Left} {q : ℕ} {t : Aim (S .Left)} → Writes most → Begun S w c q
+      by-rule : {most n : ℕ} {o : Bool} {k : ℕ} {w : S .Meaning} {c : S .Left} {q : ℕ} {t : Aim (S .Left)} → Writes most → A o k w c q
           → Aimed t
           → Rule local es ns p S (Less most E) n o k w c q t
           → (names : Names) → Names-at k names → (past : Past) → (after : Past) × Written local es ns p S n o k names w c q past t after
@@ -104,33 +102,33 @@ module _ (local : Bool) (es : List Edge) (ns : List Node) (p : ℕ) (S : Sight) 
       by-rule r b a (Rule.fires-name {m = m} i v) names g past = let (s, e) = g m (outline .used i) in (_, Written.fires-name i e v)
       by-rule r b a (Rule.sequences {n₁ = n₁} {n₂ = n₂} {k = k} {w = w} {q = q} {a = a₁} {b = b₁} {q₁ = q₁} {o = o} {c = c} {c₁ = c₁} {t =
           t} i (l₁, e₁) (l₂, e₂)) names g past =
-          let d = h .lengths .sound b at-end e₁ in
+          let b₀ = on .first i b in
+          let d = h .lengths .sound (on .occurs b₀) at-end e₁ in
           let (mid, u) =
-          r n₁ o a₁ w c q (ended c₁ q₁) l₁ b at-end e₁ names (given-child local es ns p S scope outline k a₁ (outline .first i) g) past in
+          r n₁ o a₁ w c q (ended c₁ q₁) l₁ b₀ at-end e₁ names (given-child local es ns p S scope outline k a₁ (outline .first i) g) past in
           let (after, v) =
-          r n₂ o b₁ w c₁ q₁ t l₂ (begun-ended local es ns p S edges keeps b d) a e₂ names
+          r n₂ o b₁ w c₁ q₁ t l₂ (on .second i b d) a e₂ names
           (given-child local es ns p S scope outline k b₁ (outline .second i) g) mid in
           (after, Written.sequences i u v)
       by-rule r b a (Rule.chooses-left {n = n} {k = k} {w = w} {q = q} {a = a₁} {o = o} {c = c} {t = t} i (l, e)) names g past =
-          let (after, u) = r n o a₁ w c q t l b a e names (given-child local es ns p S scope outline k a₁ (outline .left i) g) past in
+          let (after, u) = r n o a₁ w c q t l (on .left i b) a e names (given-child local es ns p S scope outline k a₁ (outline .left i) g) past in
           (after, Written.chooses-left i u)
       by-rule r b a (Rule.chooses-right {n = n} {k = k} {w = w} {q = q} {b = b₁} {o = o} {c = c} {t = t} i (l, e)) names g past =
-          let (after, u) = r n o b₁ w c q t l b a e names (given-child local es ns p S scope outline k b₁ (outline .right i) g) past in
+          let (after, u) = r n o b₁ w c q t l (on .right i b) a e names (given-child local es ns p S scope outline k b₁ (outline .right i) g) past in
           (after, Written.chooses-right i u)
       by-rule r b a (Rule.enters {n = n} {k = k} {w = w} {q = q} {a = a₁} {o = o} {c = c} {t = t} i (l, e)) names g past =
-          let (after, u) = r n o a₁ w c q t l b a e names (given-child local es ns p S scope outline k a₁ (outline .body i) g) past in
+          let (after, u) = r n o a₁ w c q t l (on .body i b) a e names (given-child local es ns p S scope outline k a₁ (outline .body i) g) past in
           (after, Written.enters i u)
       by-rule r b a (Rule.repeats {n = n} {k = k} {w = w} {q = q} {a = a₁} {o = o} {c = c} {t = t} i (l, e)) names g past =
-          let (after, u) = r n o a₁ w c q t l b a e names (given-child local es ns p S scope outline k a₁ (outline .again i) g) past in
+          let (after, u) = r n o a₁ w c q t l (on .again i b) a e names (given-child local es ns p S scope outline k a₁ (outline .again i) g) past in
           (after, Written.repeats i u)
       by-rule r b a (Rule.makes {n = n} {k = k} {m = m} {b = b₁} {q₁ = q₁} {t = t} i y v (l, e)) names g past =
-          let (after, u) = r n _ b₁ _ _ q₁ t l (begun-new keeps b q₁ (outline .fresh-small i) y (moves-states edges v (b .state))) a e
-          (give names m (next past))
+          let (after, u) = r n _ b₁ _ _ q₁ t l (on .created i y v b) a e (give names m (next past))
           (given-fresh local es ns p S scope outline k m (next past) b₁ (outline .given i) g) (event create (next past) ∷ past) in
           (after, Written.makes i y v u)
-      by-rule r b a (Rule.sandboxes {n = n} {k = k} {s = s} {b = b₁} {o = o} i (l, e)) names g past =
+      by-rule r b a (Rule.sandboxes {n = n} {k = k} {s = s} {b = b₁} i (l, e)) names g past =
           let (after, u) =
-          r n _ b₁ _ _ _ _ l (begun-opened b local p s o) at-end e names
+          r n _ b₁ _ _ _ _ l (on .inside i b) at-end e names
           (given-child local es ns p S scope outline k b₁ (outline .inside i) g) (opening s ∷ past) in
           (_, Written.sandboxes i u)
       by-rule r b a (Rule.breaks-static i v f z) names g past = (_, Written.breaks-static i v f z)
@@ -139,11 +137,11 @@ module _ (local : Bool) (es : List Edge) (ns : List Node) (p : ℕ) (S : Sight) 
       by-rule r b a (Rule.breaks-fresh i y v f z) names g past = (_, Written.breaks-fresh i y v f z)
       by-rule r b a (Rule.breaks-opening i f z) names g past = (_, Written.breaks-opening i f z)
       by-rule r b a (Rule.breaks-first {n = n} {k = k} {w = w} {q = q} {a = a₁} {o = o} {c = c} {u = u} i (l, e)) names g past =
-          let (after, d) = r n o a₁ w c q (broken u) l b a e names
+          let (after, d) = r n o a₁ w c q (broken u) l (on .first i b) a e names
           (given-child local es ns p S scope outline k a₁ (outline .first i) g) past in (after, Written.breaks-first i d)
-      by-rule r b a (Rule.breaks-inside {n = n} {k = k} {s = s} {b = b₁} {o = o} {u = u} i (l, e)) names g past =
+      by-rule r b a (Rule.breaks-inside {n = n} {k = k} {s = s} {b = b₁} {u = u} i (l, e)) names g past =
           let (after, d) =
-          r n _ b₁ _ _ _ (broken u) l (begun-opened b local p s o) a e names
+          r n _ b₁ _ _ _ (broken u) l (on .inside i b) a e names
           (given-child local es ns p S scope outline k b₁ (outline .inside i) g) (opening s ∷ past) in
           (after, Written.breaks-inside i d)
 
@@ -155,13 +153,14 @@ module _ (local : Bool) (es : List Edge) (ns : List Node) (p : ℕ) (S : Sight) 
         where
           fewer : Writes n → 1 ≤ n → (after : Past) × Written local es ns p S n o k names w c q past t after
           fewer r s =
-              let on = found local es ns p S keeps scope edges outline cap E h b a e s in
-              let (after, u) = by-rule r b a (on .rule) names (passes-given (on .passes) g) past in
-              (after, passes-written t (on .passes) u)
+              let to = found local es ns p S A on cap E h b a e s in
+              let (after, u) =
+              by-rule r (passes-among local es ns p S A on b (to .passes)) a (to .rule) names (passes-given (to .passes) g) past in
+              (after, passes-written t (to .passes) u)
 
           go : Dec (n ≡ 0) → Writes n → (after : Past) × Written local es ns p S n o k names w c q past t after
           go (yes f) r =
-              let s = goes-still local es ns p S (h .lengths .sound b a e) f in (
+              let s = goes-still local es ns p S (h .lengths .sound (on .occurs b) a e) f in (
                 past,
                 subst (λ (u : Aim (S .Left)). Written local es ns p S n o k names w c q past u past) (sym (s .same))
                     (written-in (sym f) (idle-written (s .idle))),
@@ -210,27 +209,42 @@ module _ (local : Bool) (es : List Edge) (ns : List Node) (scope : ℕ → ℕ �
           let (m, l, j, by, k) = shortest-sights local es ns scope p edges outline all another t v in
           omega (arith, low j m (hits-exact local es ns p (all .sight j) m none .0 (by, each, k)))
 
-  -- with a table of least lengths for each sight
-  module _ (E : (i : all .Choice) → Entries (all .sight i .Meaning) (all .sight i .Left))
-      (h : (i : all .Choice) → Least local es ns p (all .sight i) mostShown (E i)) where
+  -- what is known of one sight: it does not hit, and no table is filled; or a table of the least lengths at these starts
+  pub data Looked (i : all .Choice) (A : Starts (all .sight i)) (E : Entries (all .sight i .Meaning) (all .sight i .Left)) : Type 0 where
+    never-hits : ((n : ℕ) (last : Last) → HitsAt local es ns scope p edges outline all i n last → ⊥) → Looked i A E
+    tabled : Least local es ns p (all .sight i) A mostShown E → Looked i A E
+
+  -- with a table for each sight that hits, least at starts among which the root's is
+  module _ (E : (i : all .Choice) → Entries (all .sight i .Meaning) (all .sight i .Left)) (A : (i : all .Choice) → Starts (all .sight i))
+      (on : (i : all .Choice) → Followed local es ns p (all .sight i) (A i))
+      (begun : (i : all .Choice) → A i false 0 (all .sight i .first-meaning) (all .sight i .first-left) 0)
+      (h : (i : all .Choice) → Looked i (A i) (E i)) where
     -- the entry of the root
     abbrev Told : all .Choice → ℕ → Type 0
     Told i n = E i n false 0 (all .sight i .first-meaning) (all .sight i .first-left) 0 (broken none)
+
+    root-told : (j : all .Choice) (m : ℕ) → RootAt j m → m ≤ mostShown → (k : ℕ) × (k ≤ m) × Told j k
+    root-told j m d l = go (h j)
+      where
+        go : Looked j (A j) (E j) → (k : ℕ) × (k ≤ m) × Told j k
+        go (never-hits f) = let (by, z, k) = hits-exact local es ns p (all .sight j) m none .1 d in absurd (f m by k)
+        go (tabled g) = g .full (begun j) at-break d l
 
     told-least : {n : ℕ} → ((j : all .Choice) (m : ℕ) → Told j m → n ≤ m) → n ≤ mostShown → (j : all .Choice) (m : ℕ) → RootAt j m → n ≤ m
     told-least {n} low few j m d = go (decLe m mostShown)
       where
         go : Dec (m ≤ mostShown) → n ≤ m
-        go (yes l) = let (k, s, e) = h j .full (begun-root (all .keeps j)) at-break d l in omega (arith, low j k e)
+        go (yes l) = let (k, s, e) = root-told j m d l in omega (arith, low j k e)
         go (no l) = omega arith
 
-    pub tables-shown : (i : all .Choice) {n : ℕ} → Told i n → ((j : all .Choice) (m : ℕ) → Told j m → n ≤ m)
+    pub tables-shown : (i : all .Choice) {n : ℕ} → Least local es ns p (all .sight i) (A i) mostShown (E i) → Told i n
+        → ((j : all .Choice) (m : ℕ) → Told j m → n ≤ m)
         → (after : Past) × Shown local es ns p (some after) × (length after ≡ n)
-    tables-shown i {n} e low =
-        let few = h i .lengths .capped e in
-        let (after, u) = reads local es ns p (all .sight i) (all .keeps i) scope edges outline mostShown (E i) (h i) (suc n) n false 0
+    tables-shown i {n} least e low =
+        let few = least .lengths .capped e in
+        let (after, u) = reads local es ns p (all .sight i) scope outline (A i) (on i) mostShown (E i) least (suc n) n false 0
         (all .sight i .first-meaning) (all .sight i .first-left) 0 (broken none) (omega arith)
-        (begun-root (all .keeps i)) at-break e noNames (λ m s. absurd (outline .root s)) [] in
+        (begun i) at-break e noNames (λ m s. absurd (outline .root s)) [] in
         (after, written-shown i u few (told-least low few), written-length local es ns p (all .sight i) u ∙ zero-steps)
       where
         zero-steps : length {A = Step} [] + n ≡ n
@@ -242,5 +256,5 @@ module _ (local : Bool) (es : List Edge) (ns : List Node) (scope : ℕ → ℕ �
         (λ j m by k. go j m (hits-exact local es ns p (all .sight j) m none .0 (by, each, k)) (decLe m mostShown))
       where
         go : (j : all .Choice) (m : ℕ) → RootAt j m → Dec (m ≤ mostShown) → mostShown < m
-        go j m d (yes l) = let (k, s, e) = h j .full (begun-root (all .keeps j)) at-break d l in absurd (never j k e)
+        go j m d (yes l) = let (k, s, e) = root-told j m d l in absurd (never j k e)
         go j m d (no l) = omega arith

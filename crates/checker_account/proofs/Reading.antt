@@ -9,14 +9,11 @@ use native.Mathlib.Omega.{arith}
 use native.Mathlib.Decide.{ℕ-discrete, decLe}
 use Rattle.usage.specs.declared.Edge.{Edge}
 use Rattle.usage.specs.declared.Node.{Node}
-use Rattle.usage.specs.Policy.{EdgesOk}
 use Rattle.usage.specs.Outline.{Is, sequence}
 use Rattle.usage.proofs.Logic.{clash, false-true}
 use Rattle.checker_account.specs.Witness.{Sight, Last, Aim, ended, broken, Goes}
-use Rattle.checker_account.specs.Least.{Entries, Begun, Aimed, at-end, Rule, Least, Less, Idle, Leads, PassesAll, ending, Onto}
-use Rattle.checker_account.proofs.Scoped.{Scoped}
+use Rattle.checker_account.specs.Least.{Entries, Starts, Followed, Begun, Aimed, at-end, Rule, Lengths, Least, Less, Idle, Leads, PassesAll, ending, Onto}
 use Rattle.checker_account.proofs.Ahead.{goes-in}
-use Rattle.checker_account.proofs.BegunLaws.{moves-states, Keeps, begun-new, begun-opened, begun-ended}
 
 same-left : {L : Type 0} (c c′ : L) (q q′ : ℕ) → ended c q ≡ ended c′ q′ → c ≡ c′
 same-left c c′ q q′ e = cc
@@ -176,13 +173,40 @@ module _ (local : Bool) (es : List Edge) (ns : List Node) (p : ℕ) (S : Sight) 
   acts (Goes.breaks-inside {n = n} {k = k} i d) l =
       record { node = k; passes = PassesAll.here; rule = Rule.breaks-inside i (one-more n, d) }
 
+  -- the nodes that end with no step, read from a table: each that stands there as such is one
+  pub idle-sound : {cap : ℕ} {E : Entries (S .Meaning) (S .Left)} {o : Bool} {k : ℕ} {w : S .Meaning} {c : S .Left} {q : ℕ}
+      → Lengths local es ns p S cap E → Begun S w c q → E 0 o k w c q (ended c q) → Idle ns k
+  idle-sound h b e = goes-still (h .sound b at-end e) refl .idle
+
+  -- ── Where a node leads that is among the starts of a set ──
+
+  module _ (A : Starts S) (on : Followed local es ns p S A) where
+    pub leads-among : {whole o : Bool} {k j : ℕ} {w : S .Meaning} {c : S .Left} {q : ℕ} → A o k w c q → Leads ns whole k j → A o j w c q
+    leads-among b (Leads.first i idle) = on .first i b
+    leads-among b (Leads.second i idle) = on .second i b (idle-goes idle)
+    leads-among b (Leads.left i) = on .left i b
+    leads-among b (Leads.right i) = on .right i b
+    leads-among b (Leads.body i) = on .body i b
+    leads-among b (Leads.again i) = on .again i b
+
+    pub passes-among : {whole o : Bool} {k j : ℕ} {w : S .Meaning} {c : S .Left} {q : ℕ} → A o k w c q → PassesAll ns whole k j → A o j w c q
+    passes-among b PassesAll.here = b
+    passes-among b (PassesAll.on l s) = passes-among (leads-among b l) s
+
+    -- What holds of k holds of a node that k leads to, where each move keeps it from a start of the set to a node that comes to the aim.
+    pub passes-toward : {n : ℕ} {o : Bool} {k j : ℕ} {w : S .Meaning} {c : S .Left} {q : ℕ} (t : Aim (S .Left)) (P : ℕ → Type 0)
+        → ((i y : ℕ) → P i → A o i w c q → Leads ns (ending t) i y → Goes local es ns p S n o y w c q t → P y) → P k → A o k w c q
+        → PassesAll ns (ending t) k j → Goes local es ns p S n o j w c q t → P j
+    passes-toward t P f h b PassesAll.here d = h
+    passes-toward t P f h b (PassesAll.on {k = k} {i = i} l s) d =
+        passes-toward t P f (f k i h b l (passes-goes t s d)) (leads-among b l) s d
+
   -- ── From an entry to entries of fewer steps ──
 
-  module _ (keeps : Keeps S) (scope : ℕ → ℕ → Type 0) (edges : EdgesOk es) (outline : Scoped ns scope) (cap : ℕ)
-      (E : Entries (S .Meaning) (S .Left))
-      (h : Least local es ns p S cap E) where
+  module _ (A : Starts S) (on : Followed local es ns p S A) (cap : ℕ) (E : Entries (S .Meaning) (S .Left))
+      (h : Least local es ns p S A cap E) where
     -- an entry is not more than any length
-    pub entry-least : {n m : ℕ} {o : Bool} {k : ℕ} {w : S .Meaning} {c : S .Left} {q : ℕ} {t : Aim (S .Left)} → Begun S w c q → Aimed t
+    pub entry-least : {n m : ℕ} {o : Bool} {k : ℕ} {w : S .Meaning} {c : S .Left} {q : ℕ} {t : Aim (S .Left)} → A o k w c q → Aimed t
         → E n o k w c q t
         → Goes local es ns p S m o k w c q t → n ≤ m
     entry-least {n} {m} {o} {k} {w} {c} {q} {t} b a e d = go (decLe m cap)
@@ -196,64 +220,65 @@ module _ (local : Bool) (es : List Edge) (ns : List Node) (p : ℕ) (S : Sight) 
     entry-in {o = o} {k = k} {w = w} {c = c} {q = q} {t = t} e d = subst (λ (n : ℕ). E n o k w c q t) e d
 
     -- the rule that a least derivation begins with, over the entries
-    entries : {n m : ℕ} {o : Bool} {k j : ℕ} {w : S .Meaning} {c : S .Left} {q : ℕ} {t : Aim (S .Left)} → Begun S w c q → Aimed t
+    entries : {n m : ℕ} {o : Bool} {k j : ℕ} {w : S .Meaning} {c : S .Left} {q : ℕ} {t : Aim (S .Left)} → A o k w c q → A o j w c q → Aimed t
         → E n o k w c q t
         → PassesAll ns (ending t) k j
         → Rule local es ns p S (Less n (Goes local es ns p S)) m o j w c q t → m ≡ n → Rule local es ns p S (Less n E) m o j w c q t
-    entries b a e s (Rule.ends i) f = Rule.ends i
-    entries b a e s (Rule.fires-static i v) f = Rule.fires-static i v
-    entries b a e s (Rule.fires-name i v) f = Rule.fires-name i v
-    entries {n} {t = t} b a e s (Rule.sequences {n₁ = n₁} {n₂ = n₂} i (l₁, d₁) (l₂, d₂)) f =
+    entries b y a e s (Rule.ends i) f = Rule.ends i
+    entries b y a e s (Rule.fires-static i v) f = Rule.fires-static i v
+    entries b y a e s (Rule.fires-name i v) f = Rule.fires-name i v
+    entries {n} {t = t} b z a e s (Rule.sequences {n₁ = n₁} {n₂ = n₂} i (l₁, d₁) (l₂, d₂)) f =
         let top = h .lengths .capped e in
-        let b₁ = begun-ended local es ns p S edges keeps b d₁ in
-        let (m₁, k₁, e₁) = h .full b at-end d₁ (omega arith) in
+        let z₁ = on .first i z in
+        let b₁ = on .second i z d₁ in
+        let (m₁, k₁, e₁) = h .full z₁ at-end d₁ (omega arith) in
         let (m₂, k₂, e₂) = h .full b₁ a d₂ (omega arith) in
-        let low = entry-least b a e (passes-goes t s (Goes.sequences i (h .lengths .sound b at-end e₁) (h .lengths .sound b₁ a e₂))) in
+        let low = entry-least b a e (passes-goes t s (Goes.sequences i (h .lengths .sound (on .occurs z₁) at-end e₁) (h .lengths .sound (on .occurs b₁) a e₂))) in
         let same₁ : m₁ ≡ n₁ = omega arith in
         let same₂ : m₂ ≡ n₂ = omega arith in
         Rule.sequences i (l₁, entry-in same₁ e₁) (l₂, entry-in same₂ e₂)
-    entries b a e s (Rule.chooses-left i (l, d)) f = absurd (omega arith)
-    entries b a e s (Rule.chooses-right i (l, d)) f = absurd (omega arith)
-    entries b a e s (Rule.enters i (l, d)) f = absurd (omega arith)
-    entries b a e s (Rule.repeats i (l, d)) f = absurd (omega arith)
-    entries {n} {t = t} b a e s (Rule.makes {n = n₁} {q₁ = q₁} i y v (l, d)) f =
+    entries b y a e s (Rule.chooses-left i (l, d)) f = absurd (omega arith)
+    entries b y a e s (Rule.chooses-right i (l, d)) f = absurd (omega arith)
+    entries b y a e s (Rule.enters i (l, d)) f = absurd (omega arith)
+    entries b y a e s (Rule.repeats i (l, d)) f = absurd (omega arith)
+    entries {n} {t = t} b z a e s (Rule.makes {n = n₁} i y v (l, d)) f =
         let top = h .lengths .capped e in
-        let b₁ = begun-new keeps b q₁ (outline .fresh-small i) y (moves-states edges v (b .state)) in
+        let b₁ = on .created i y v z in
         let (m₁, k₁, e₁) = h .full b₁ a d (omega arith) in
-        let low = entry-least b a e (passes-goes t s (Goes.makes i y v (h .lengths .sound b₁ a e₁))) in
+        let low = entry-least b a e (passes-goes t s (Goes.makes i y v (h .lengths .sound (on .occurs b₁) a e₁))) in
         let same : m₁ ≡ n₁ = omega arith in
         Rule.makes i y v (l, entry-in same e₁)
-    entries {n} {t = t} b a e s (Rule.sandboxes {n = n₁} {s = s₁} {o = o} i (l, d)) f =
+    entries {n} {t = t} b z a e s (Rule.sandboxes {n = n₁} i (l, d)) f =
         let top = h .lengths .capped e in
-        let b₁ = begun-opened b local p s₁ o in
+        let b₁ = on .inside i z in
         let (m₁, k₁, e₁) = h .full b₁ at-end d (omega arith) in
-        let low = entry-least b a e (passes-goes t s (Goes.sandboxes i (h .lengths .sound b₁ at-end e₁))) in
+        let low = entry-least b a e (passes-goes t s (Goes.sandboxes i (h .lengths .sound (on .occurs b₁) at-end e₁))) in
         let same : m₁ ≡ n₁ = omega arith in
         Rule.sandboxes i (l, entry-in same e₁)
-    entries b a e s (Rule.breaks-static i v f z) g = Rule.breaks-static i v f z
-    entries b a e s (Rule.breaks-name i v f z) g = Rule.breaks-name i v f z
-    entries b a e s (Rule.breaks-fresh i y v f z) g = Rule.breaks-fresh i y v f z
-    entries b a e s (Rule.breaks-opening i f z) g = Rule.breaks-opening i f z
-    entries b a e s (Rule.breaks-first i (l, d)) f = absurd (omega arith)
-    entries {n} {t = t} b a e s (Rule.breaks-inside {n = n₁} {s = s₁} {o = o} i (l, d)) f =
+    entries b y a e s (Rule.breaks-static i v f z) g = Rule.breaks-static i v f z
+    entries b y a e s (Rule.breaks-name i v f z) g = Rule.breaks-name i v f z
+    entries b x a e s (Rule.breaks-fresh i y v f z) g = Rule.breaks-fresh i y v f z
+    entries b y a e s (Rule.breaks-opening i f z) g = Rule.breaks-opening i f z
+    entries b y a e s (Rule.breaks-first i (l, d)) f = absurd (omega arith)
+    entries {n} {t = t} b z a e s (Rule.breaks-inside {n = n₁} i (l, d)) f =
         let top = h .lengths .capped e in
-        let b₁ = begun-opened b local p s₁ o in
+        let b₁ = on .inside i z in
         let (m₁, k₁, e₁) = h .full b₁ a d (omega arith) in
-        let low = entry-least b a e (passes-goes t s (Goes.breaks-inside i (h .lengths .sound b₁ a e₁))) in
+        let low = entry-least b a e (passes-goes t s (Goes.breaks-inside i (h .lengths .sound (on .occurs b₁) a e₁))) in
         let same : m₁ ≡ n₁ = omega arith in
         Rule.breaks-inside i (l, entry-in same e₁)
 
     -- The key to reading: an entry of a step or more leads on to entries of fewer steps, which add up.
-    pub found : {n : ℕ} {o : Bool} {k : ℕ} {w : S .Meaning} {c : S .Left} {q : ℕ} {t : Aim (S .Left)} → Begun S w c q → Aimed t
+    pub found : {n : ℕ} {o : Bool} {k : ℕ} {w : S .Meaning} {c : S .Left} {q : ℕ} {t : Aim (S .Left)} → A o k w c q → Aimed t
         → E n o k w c q t → 1 ≤ n
         → Onto local es ns p S E n o k w c q t
     found b a e l =
-        let r = acts (h .lengths .sound b a e) l in
-        record { node = r .node; passes = r .passes; rule = entries b a e (r .passes) (r .rule) refl }
+        let r = acts (h .lengths .sound (on .occurs b) a e) l in
+        record { node = r .node; passes = r .passes; rule = entries b (passes-among A on b (r .passes)) a e (r .passes) (r .rule) refl }
 
     -- the nodes that can end with no step are read from the table
-    pub idle-exact : {o : Bool} {k : ℕ} {w : S .Meaning} {c : S .Left} {q : ℕ} → Begun S w c q → E 0 o k w c q (ended c q) ↔ Idle ns k
+    pub idle-exact : {o : Bool} {k : ℕ} {w : S .Meaning} {c : S .Left} {q : ℕ} → A o k w c q → E 0 o k w c q (ended c q) ↔ Idle ns k
     idle-exact {o} {k} {w} {c} {q} b = (
-      λ e. goes-still (h .lengths .sound b at-end e) refl .idle,
+      λ e. idle-sound (h .lengths) (on .occurs b) e,
       λ d. let (m, l, e) = h .full {o = o} b at-end (idle-goes d) (omega arith) in let z : m ≡ 0 = omega arith in entry-in z e,
     )

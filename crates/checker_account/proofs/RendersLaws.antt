@@ -1,5 +1,5 @@
 -- Two sights of the same watched resources, of which one renders the other: they have the same account.
-use Prim.Native.Nat.{ℕ, suc, _<_}
+use Prim.Native.Nat.{ℕ, _<_}
 use mathlib.Core.Path.{_≡_, refl, sym, _∙_, ap, subst}
 use mathlib.Core.Bool.{Bool, false}
 use mathlib.Core.Option.{Option}
@@ -16,7 +16,7 @@ use Rattle.checker_account.specs.Written.{Written}
 use Rattle.checker_account.specs.Least.{Begun}
 use Rattle.checker_account.specs.Holds.{NamesOk}
 use Rattle.checker_account.proofs.Writing.{written-goes}
-use Rattle.checker_account.proofs.BegunLaws.{moves-states, Keeps, begun-root, begun-new, begun-opened, begun-ended}
+use Rattle.checker_account.proofs.BegunLaws.{moves-states, Keeps, begun-root, begun-new, begun-opened, begun-ended, come-begun}
 
 -- What S keeps renders what T keeps: `meaning` and `left` say what that is. A creation takes both the same way.
 pub record Renders (S T : Sight) : Type 0 where
@@ -130,16 +130,7 @@ module _ (local : Bool) (es : List Edge) (ns : List Node) (p : ℕ) (S T : Sight
   -- ── What some run comes to ──
 
   comes-begun : {n : ℕ} {o : Bool} {k : ℕ} {w : S .Meaning} {c : S .Left} {q : ℕ} → Comes local es ns p S n o k w c q → Begun S w c q
-  comes-begun Comes.begins = begun-root keeps
-  comes-begun (Comes.first i e) = comes-begun e
-  comes-begun (Comes.second i e d) = begun-ended local es ns p S edges keeps (comes-begun e) d
-  comes-begun (Comes.left i e) = comes-begun e
-  comes-begun (Comes.right i e) = comes-begun e
-  comes-begun (Comes.body i e) = comes-begun e
-  comes-begun (Comes.again i e) = comes-begun e
-  comes-begun (Comes.created {q₁ = q₁} i y e v) =
-      let b = comes-begun e in begun-new keeps b q₁ (names .given i) y (moves-states edges v (b .state))
-  comes-begun (Comes.inside {s = s} {o = o} i e) = begun-opened (comes-begun e) local p s o
+  comes-begun e = come-begun local es ns p S edges keeps names e
 
   comes-as : {n : ℕ} {o : Bool} {k : ℕ} {w v : T .Meaning} {c d : T .Left} {q : ℕ} → w ≡ v → c ≡ d → Comes local es ns p T n o k w c q
       → Comes local es ns p T n o k v d q

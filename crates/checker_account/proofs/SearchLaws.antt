@@ -23,9 +23,9 @@ use Rattle.automaton.specs.Mask.{has, offends}
 use Rattle.automaton.proofs.MaskLaws.{some-at, some-found}
 use Rattle.checker_account.specs.Witness.{watched, Last}
 use Rattle.checker_account.specs.Tables.{half, least, Rows, place, leaves, lastOf, joinedAt, places, meanings}
-use Rattle.checker_account.specs.Holds.{RowsOk, NamesOk, TargetsOk, HitsFrom, HasCome, Struck}
+use Rattle.checker_account.specs.Holds.{RowsOk, NamesOk, TargetsOk, HitsFrom, HasCome, HoldsComes, Struck}
 use Rattle.checker_account.specs.Rounds.{Forms, FormsOf, leavesOf, hitNode, hitAny, begins, Wide, Searched, SearchedAll, found}
-use Rattle.checker_account.specs.Rounds.{none-found, Untouched}
+use Rattle.checker_account.specs.Rounds.{none-found, Untouched, EndsFilled, ComesRule, Filled}
 use Rattle.checker_account.proofs.Scoped.{Scoped}
 use Rattle.checker_account.proofs.SightsLaws.{exact-sights}
 use Rattle.checker_account.proofs.SingleLaws.{singles}
@@ -113,15 +113,24 @@ module _ (local : Bool) (ns : List Node) (p x : ℕ) (rows : Rows) (u : List ℕ
 
 -- ── The answer for one watched resource ──
 
+-- the filled table holds exactly what is come to
+pub comes-held : (local : Bool) (es : List Edge) (ns : List Node) (p x : ℕ) (rows : Rows) → x ≤ watched → EdgesOk es → RowsOk es ns p x rows
+    → NamesOk ns → TargetsOk ns → (n : ℕ) (forms : Forms) → n ≤ mostNodes → FormsOf ns n forms → (ends : Bool → List ℕ)
+    → EndsFilled local rows p x n forms ends → (u : List ℕ) → Filled (ComesRule local rows p ends (least x) n forms) (begins (least x)) u
+    → HoldsComes local es ns p x u
+comes-held local es ns p x rows small edges ok names targets n forms few reads ends e u f =
+    filled-comes local es ns p x rows small ok names targets ends
+    (filled-ends es ns p x rows small ok names n forms reads edges few local ends e) n forms reads edges u
+    (begins-has (least x) (start-least x .high)) f
+
 pub searched : (local : Bool) (es : List Edge) (ns : List Node) (p x : ℕ) (rows : Rows) → x ≤ watched → EdgesOk es → RowsOk es ns p x rows
     → NamesOk ns
     → TargetsOk ns
     → (n : ℕ) (forms : Forms) → n ≤ mostNodes → FormsOf ns n forms → (answer : Bool) → Searched local rows p x n forms answer
     → Decides answer ((last : Last) × HitsFrom local es ns p x last)
 searched local es ns p x rows small edges ok names targets n forms few reads answer h =
-    let ends = filled-ends es ns p x rows small ok names n forms reads edges few local (h .ends) (h .ends-filled) in
-    let comes = filled-comes local es ns p x rows small ok names targets (h .ends) ends n forms reads edges (h .comes)
-    (begins-has (least x) (start-least x .high)) (h .comes-filled) in (
+    let comes = comes-held local es ns p x rows small edges ok names targets n forms few reads (h .ends) (h .ends-filled) (h .comes)
+    (h .comes-filled) in (
       (λ a. let (last, s) = hit-found local ns p x rows (h .comes) n forms reads (sym (h .told) ∙ a) in
           (last, hits-exact local es ns p x rows small ok names edges (h .comes) comes last .1 s)),
       (λ b. h .told ∙ hit-at local ns p x rows (h .comes) n forms reads

@@ -14,7 +14,7 @@ use Rattle.usage.specs.Limits.{states, create}
 use Rattle.usage.specs.Policy.{Sees, Moves, Offending}
 use Rattle.usage.specs.Past.{reopened}
 use Rattle.usage.specs.Outline.{Is, end, on-static, on-name, sequence, choice, loop, back, fresh, sandbox}
-use Rattle.checker_account.specs.Witness.{Sight, Last, by-action, by-opening, Counts, Aim, ended, broken, Goes}
+use Rattle.checker_account.specs.Witness.{Sight, Last, by-action, by-opening, Counts, Aim, ended, broken, Goes, Ends, Comes}
 
 abbrev pub Entries : Type 0 → Type 0 → Type 1
 Entries W L = ℕ → Bool → ℕ → W → L → ℕ → Aim L → Type 0
@@ -23,6 +23,32 @@ Entries W L = ℕ → Bool → ℕ → W → L → ℕ → Aim L → Type 0
 pub record Begun (S : Sight) (w : S .Meaning) (c : S .Left) (q : ℕ) : Type 0 where
   pub view : S .Occurring w c
   pub state : q < states
+
+-- a set of starts: whether p is open, the node, what is meant, what is left, the state
+abbrev pub Starts : Sight → Type 1
+Starts S = Bool → ℕ → S .Meaning → S .Left → ℕ → Type 0
+
+-- The starts at which a table has to be full: they occur, and with each of them the set has every start that a rule there reads.
+pub record Followed (local : Bool) (es : List Edge) (ns : List Node) (p : ℕ) (S : Sight) (A : Starts S) : Type 0 where
+  pub occurs : {o : Bool} {k : ℕ} {w : S .Meaning} {c : S .Left} {q : ℕ} → A o k w c q → Begun S w c q
+  pub first : {k a b : ℕ} {o : Bool} {w : S .Meaning} {c : S .Left} {q : ℕ} → Is ns k (sequence a b) → A o k w c q → A o a w c q
+  pub second : {n k a b : ℕ} {o : Bool} {w : S .Meaning} {c c₁ : S .Left} {q q₁ : ℕ} → Is ns k (sequence a b) → A o k w c q
+      → Ends local es ns p S n o a w c q c₁ q₁ → A o b w c₁ q₁
+  pub left : {k a b : ℕ} {o : Bool} {w : S .Meaning} {c : S .Left} {q : ℕ} → Is ns k (choice a b) → A o k w c q → A o a w c q
+  pub right : {k a b : ℕ} {o : Bool} {w : S .Meaning} {c : S .Left} {q : ℕ} → Is ns k (choice a b) → A o k w c q → A o b w c q
+  pub body : {k a : ℕ} {o : Bool} {w : S .Meaning} {c : S .Left} {q : ℕ} → Is ns k (loop a) → A o k w c q → A o a w c q
+  pub again : {k a : ℕ} {o : Bool} {w : S .Meaning} {c : S .Left} {q : ℕ} → Is ns k (back a) → A o k w c q → A o a w c q
+  pub created : {k m b d : ℕ} {o : Bool} {w w₁ : S .Meaning} {c c₁ : S .Left} {q q₁ : ℕ} → Is ns k (fresh m b) → S .Makes m d w c w₁ c₁
+      → Moves es p create (Sees (S .watches) d) q q₁ → A o k w c q → A o b w₁ c₁ q₁
+  pub inside : {k s b : ℕ} {o : Bool} {w : S .Meaning} {c : S .Left} {q : ℕ} → Is ns k (sandbox s b) → A o k w c q
+      → A (o || eqb s p) b w c (reopened local p s o q)
+
+-- what some run comes to; and all that occurs, at every node
+abbrev pub ComeTo : Bool → List Edge → List Node → ℕ → (S : Sight) → Starts S
+ComeTo local es ns p S o k w c q = (n : ℕ) × Comes local es ns p S n o k w c q
+
+abbrev pub Anywhere : (S : Sight) → Starts S
+Anywhere S o k w c q = Begun S w c q
 
 -- the aims of the tables: an end, or any step that breaks p
 pub data Aimed {L : Type 0} : Aim L → Type 0 where
@@ -80,17 +106,15 @@ pub record Lengths (local : Bool) (es : List Edge) (ns : List Node) (p : ℕ) (S
   pub one : {n m : ℕ} {o : Bool} {k : ℕ} {w : S .Meaning} {c : S .Left} {q : ℕ} {t : Aim (S .Left)} → E n o k w c q t → E m o k w c q t
       → n ≡ m
 
--- The entries are the least lengths, of those that are `cap` or less.
-pub record Least (local : Bool) (es : List Edge) (ns : List Node) (p : ℕ) (S : Sight) (cap : ℕ)
-    (E : Entries (S .Meaning) (S .Left)) : Type 0 where
+-- The entries of the starts in A are the least lengths, of those that are `cap` or less.
+pub record Least (local : Bool) (es : List Edge) (ns : List Node) (p : ℕ) (S : Sight) (A : Starts S) (cap : ℕ) (E : Entries (S .Meaning) (S .Left)) : Type 0 where
   pub lengths : Lengths local es ns p S cap E
-  pub full : {n : ℕ} {o : Bool} {k : ℕ} {w : S .Meaning} {c : S .Left} {q : ℕ} {t : Aim (S .Left)} → Begun S w c q → Aimed t
+  pub full : {n : ℕ} {o : Bool} {k : ℕ} {w : S .Meaning} {c : S .Left} {q : ℕ} {t : Aim (S .Left)} → A o k w c q → Aimed t
       → Goes local es ns p S n o k w c q t → n ≤ cap → (m : ℕ) × (m ≤ n) × E m o k w c q t
 
--- No rule gives less than what stands there: what a round that changes nothing says.
-abbrev pub Closed : Bool → List Edge → List Node → ℕ → (S : Sight) → ℕ → Entries (S .Meaning) (S .Left) → Type 0
-Closed local es ns p S cap E = (n : ℕ) (o : Bool) (k : ℕ) (w : S .Meaning) (c : S .Left) (q : ℕ) (t : Aim (S .Left)) → Begun S w c q
-    → Aimed t → Rule local es ns p S E n o k w c q t → n ≤ cap
+-- At the starts in A no rule gives less than what stands there: what filling that changes nothing any more says.
+abbrev pub Closed : Bool → List Edge → List Node → ℕ → (S : Sight) → Starts S → ℕ → Entries (S .Meaning) (S .Left) → Type 0
+Closed local es ns p S A cap E = (n : ℕ) (o : Bool) (k : ℕ) (w : S .Meaning) (c : S .Left) (q : ℕ) (t : Aim (S .Left)) → A o k w c q → Aimed t → Rule local es ns p S E n o k w c q t → n ≤ cap
     → (m : ℕ) × (m ≤ n) × E m o k w c q t
 
 -- ── How a trace is read from them ──

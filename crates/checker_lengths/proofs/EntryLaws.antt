@@ -11,7 +11,7 @@ use borrow.Author.Tests.{ltb-true, lt-ltb, le-ltb, le-leb, lt-leb, eq-eqb, ne-eq
 use Rattle.usage.specs.Limits.{states, mostNodes, mostShown}
 use Rattle.usage.proofs.Logic.{and-left, and-right}
 use Rattle.checker_lengths.specs.declared.Entry.{Entry}
-use Rattle.checker_account.specs.Tables.{made, meanings, starts}
+use Rattle.checker_account.specs.Tables.{made, meanings}
 use Rattle.checker_lengths.specs.Offers.{toward, lowEnd}
 use Rattle.checker_lengths.specs.Entries.{noLength, entryOf, nodesBefore, linear, inTable, below, held, plus, aims}
 
@@ -56,6 +56,33 @@ half-le false = omega arith
 pub linear-lt : (e : Entry) → inTable e ≡ true → linear e < 104448
 linear-lt e h = let b = bounds e h in omega (arith, half-le (e .opened))
 
+same-entry : (o : Bool) (k k′ m m′ q q′ i i′ : ℕ) → k ≡ k′ → m ≡ m′ → q ≡ q′ → i ≡ i′ → entryOf k o m q i ≡ entryOf k′ o m′ q′ i′
+same-entry o k k′ m m′ q q′ i i′ a b c d = rw (a, b, c, d)
+
+-- two entries have two places
+pub linear-one : (e e′ : Entry) → inTable e ≡ true → inTable e′ ≡ true → linear e ≡ linear e′ → e ≡ e′
+linear-one e e′ h h′ f = go (e .opened) (e′ .opened) refl refl
+  where
+    go : (o o′ : Bool) → e .opened ≡ o → e′ .opened ≡ o′ → e ≡ e′
+    go o o′ p p′ = ap (λ (z : Bool). entryOf (e .node) z (e .meaning) (e .state) (e .aim)) p
+        ∙ cases o o′ (ap nodesBefore p) (ap nodesBefore p′)
+        ∙ ap (λ (z : Bool). entryOf (e′ .node) z (e′ .meaning) (e′ .state) (e′ .aim)) (sym p′)
+      where
+        cases : (o o′ : Bool) → nodesBefore (e .opened) ≡ nodesBefore o → nodesBefore (e′ .opened) ≡ nodesBefore o′
+            → entryOf (e .node) o (e .meaning) (e .state) (e .aim) ≡ entryOf (e′ .node) o′ (e′ .meaning) (e′ .state) (e′ .aim)
+        cases false false p p′ =
+            let b = bounds e h in
+            let b′ = bounds e′ h′ in
+            same-entry false (e .node) (e′ .node) (e .meaning) (e′ .meaning) (e .state) (e′ .state) (e .aim) (e′ .aim) (omega arith)
+            (omega arith) (omega arith) (omega arith)
+        cases false true p p′ = let b = bounds e h in let b′ = bounds e′ h′ in absurd (omega arith)
+        cases true false p p′ = let b = bounds e h in let b′ = bounds e′ h′ in absurd (omega arith)
+        cases true true p p′ =
+            let b = bounds e h in
+            let b′ = bounds e′ h′ in
+            same-entry true (e .node) (e′ .node) (e .meaning) (e′ .meaning) (e .state) (e′ .state) (e .aim) (e′ .aim) (omega arith)
+            (omega arith) (omega arith) (omega arith)
+
 -- ── What is held ──
 
 module _ (t : List ℕ) (most : ℕ) (e : Entry) where
@@ -63,7 +90,7 @@ module _ (t : List ℕ) (most : ℕ) (e : Entry) where
   unfolding held
   held-out h = rw h
 
-  held-in : inTable e ≡ true → held t most e ≡ below most (getD t (linear e) 0)
+  pub held-in : inTable e ≡ true → held t most e ≡ below most (getD t (linear e) 0)
   unfolding held
   held-in h = rw h
 
@@ -106,10 +133,7 @@ plus-is a b n h l = go (decLe (a + b) mostShown)
     go (yes f) = plus-some a b f ∙ h
     go (no f) = let g = plus-none a b (omega arith) in absurd (omega arith)
 
--- ── The starts of a node, in the order in which they are settled ──
-
-abbrev pub startAt : ℕ → ℕ → ℕ → Entry
-startAt l k i = entryOf k (eqb (i % 2) 1) ((8 * l + i / 2) / 8) ((8 * l + i / 2) % 8) 0
+-- ── The meanings of a node's starts, in the order in which they are settled ──
 
 abbrev odd : Bool → ℕ
 odd false = 0
@@ -123,13 +147,9 @@ odd-lt : (o : Bool) → odd o < 2
 odd-lt false = omega arith
 odd-lt true = omega arith
 
--- every start has its turn
-pub start-turn : (l k : ℕ) (o : Bool) (m q : ℕ) → l ≤ m → m < meanings → q < states → (i : ℕ) × (i < 2 * (starts - states * l))
-    × (startAt l k i ≡ entryOf k o m q 0)
-start-turn l k o m q low high small =
-    let n = 8 * (m - l) + q in
-    let i = 2 * n + odd o in
+-- every meaning has its turn
+pub meaning-turn : (l : ℕ) (o : Bool) (m : ℕ) → l ≤ m → m < meanings
+    → (i : ℕ) × (i < 2 * (meanings - l)) × (eqb (i % 2) 1 ≡ o) × (l + i / 2 ≡ m)
+meaning-turn l o m low high =
     let b = odd-lt o in
-    let em : (8 * l + i / 2) / 8 ≡ m = omega arith in
-    let eq : (8 * l + i / 2) % 8 ≡ q = omega arith in
-    (i, omega arith, rw (odd-is o n, em, eq))
+    (2 * (m - l) + odd o, omega arith, odd-is o (m - l), omega arith)

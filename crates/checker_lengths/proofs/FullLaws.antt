@@ -16,51 +16,29 @@ use Rattle.usage.specs.Tables.{nodesOf}
 use Rattle.usage.proofs.Logic.{false-true}
 use Rattle.checker_account.specs.Witness.{Aim, Goes}
 use Rattle.checker_account.specs.Single.{watching}
-use Rattle.checker_account.specs.Least.{Begun, Aimed, at-end, at-break, Rule, Lengths, Least, Closed}
+use Rattle.checker_account.specs.Least.{Starts, Followed, ComeTo, Begun, Aimed, at-end, at-break, Rule, Lengths, Least, Closed}
+use Rattle.checker_account.specs.Tables.{nameOf, rowsIn}
+use Rattle.checker_account.specs.Rounds.{formsIn}
+use Rattle.checker_account.specs.Holds.{HasCome, Come, HoldsComes}
+use Rattle.checker_tables.specs.Search.{Arrived}
+use Rattle.usage.proofs.TableLaws.{nodes-length}
+use Rattle.checker_account.proofs.BegunLaws.{come-followed}
+use Rattle.checker_account.proofs.SearchLaws.{comes-held}
 use Rattle.checker_account.proofs.SingleLaws.{watching-keeps}
-use Rattle.checker_account.proofs.NodeLaws.{forms-of}
+use Rattle.checker_account.proofs.NodeLaws.{forms-of, names-ok, targets-ok}
 use Rattle.checker_account.proofs.ScopedLaws.{scoped}
 use Rattle.checker_account.proofs.Starts.{stays-made}
 use Rattle.checker_account.proofs.LeastLaws.{rule-sound, closed-least}
 use Rattle.checker_lengths.proofs.NodeLaws.{node-in}
 use Rattle.checker_lengths.specs.declared.Entry.{Entry}
-use Rattle.checker_lengths.specs.Entries.{size, noLength, allLengths, entryOf, nodesBefore, linear, inTable, held}
+use Rattle.checker_lengths.specs.Entries.{size, noLength, allLengths, entryOf, linear, inTable, held}
 use Rattle.checker_lengths.specs.Offers.{lowEnd, offerFrom, waysOf}
 use Rattle.checker_lengths.specs.Rounds.{formHere, Reach, start, falls, Settled, Full}
 use Rattle.checker_lengths.specs.Held.{aimAt, meaningOf, entriesIn, watchOf, Source}
-use Rattle.checker_lengths.proofs.EntryLaws.{bounds, in-table, linear-lt, low-end-le, held-less, held-is}
-use Rattle.checker_lengths.proofs.Numbers.{aim-ended, aim-state, start-of}
+use Rattle.checker_lengths.proofs.EntryLaws.{bounds, in-table, linear-lt, linear-one, low-end-le, held-less, held-is}
+use Rattle.checker_lengths.proofs.Numbers.{aim-ended, aim-state, start-of, meaning-is}
 use Rattle.checker_lengths.proofs.RuleLaws.{Reads, offered, small-node}
 use Rattle.checker_lengths.proofs.RuledLaws.{Stands, ruled}
-
--- ── Places ──
-
-same-entry : (o : Bool) (k k′ m m′ q q′ i i′ : ℕ) → k ≡ k′ → m ≡ m′ → q ≡ q′ → i ≡ i′ → entryOf k o m q i ≡ entryOf k′ o m′ q′ i′
-same-entry o k k′ m m′ q q′ i i′ a b c d = rw (a, b, c, d)
-
--- two entries have two places
-pub linear-one : (e e′ : Entry) → inTable e ≡ true → inTable e′ ≡ true → linear e ≡ linear e′ → e ≡ e′
-linear-one e e′ h h′ f = go (e .opened) (e′ .opened) refl refl
-  where
-    go : (o o′ : Bool) → e .opened ≡ o → e′ .opened ≡ o′ → e ≡ e′
-    go o o′ p p′ = ap (λ (z : Bool). entryOf (e .node) z (e .meaning) (e .state) (e .aim)) p
-        ∙ cases o o′ (ap nodesBefore p) (ap nodesBefore p′)
-        ∙ ap (λ (z : Bool). entryOf (e′ .node) z (e′ .meaning) (e′ .state) (e′ .aim)) (sym p′)
-      where
-        cases : (o o′ : Bool) → nodesBefore (e .opened) ≡ nodesBefore o → nodesBefore (e′ .opened) ≡ nodesBefore o′
-            → entryOf (e .node) o (e .meaning) (e .state) (e .aim) ≡ entryOf (e′ .node) o′ (e′ .meaning) (e′ .state) (e′ .aim)
-        cases false false p p′ =
-            let b = bounds e h in
-            let b′ = bounds e′ h′ in
-            same-entry false (e .node) (e′ .node) (e .meaning) (e′ .meaning) (e .state) (e′ .state) (e .aim) (e′ .aim) (omega arith)
-            (omega arith) (omega arith) (omega arith)
-        cases false true p p′ = let b = bounds e h in let b′ = bounds e′ h′ in absurd (omega arith)
-        cases true false p p′ = let b = bounds e h in let b′ = bounds e′ h′ in absurd (omega arith)
-        cases true true p p′ =
-            let b = bounds e h in
-            let b′ = bounds e′ h′ in
-            same-entry true (e .node) (e′ .node) (e .meaning) (e′ .meaning) (e .state) (e′ .state) (e .aim) (e′ .aim) (omega arith)
-            (omega arith) (omega arith) (omega arith)
 
 length-below : (n : ℕ) → n ≤ mostShown → n < noLength
 length-below n l = omega arith
@@ -172,17 +150,31 @@ module _ (local : Bool) (es : List Edge) (nodes : List ℕ) (p x : ℕ) (rows : 
       (entriesIn t allLengths) s b at-end r in
       false-true (stays-made d refl)
 
-  pub full-closed : (t : List ℕ) → Full (watchOf local p x) rows nodes t
+  -- a start that is come to is in the table of what is come to, by the code's number of its meaning
+  come-at : {u : List ℕ} {o : Bool} {k w : ℕ} {c : Bool} {q : ℕ} → Come x u o k w c q → HasCome u k o (meaningOf w c) q
+  come-at {u} {o} {k} {w} {c} {q} h =
+      let same : h .meaning ≡ meaningOf w c =
+      sym (meaning-is (h .meaning)) ∙ ap (λ (z : Bool). meaningOf (nameOf (h .meaning)) z) (h .made) ∙ ap (λ (v : ℕ). meaningOf v c) (h .name) in
+      subst (λ (m : ℕ). HasCome u k o m q) same (h .entered)
+
+  abbrev pub Run : Starts (watching x)
+  Run = ComeTo local es (nodesOf nodes) p (watching x)
+
+  pub run-followed : Followed local es (nodesOf nodes) p (watching x) Run
+  run-followed = come-followed local es (nodesOf nodes) p (watching x) (src .edges) (watching-keeps x) (names-ok (nodesOf nodes) (src .outline))
+
+  pub full-closed : (u t : List ℕ) → HoldsComes local es (nodesOf nodes) p x u → Full (watchOf local p x) rows nodes u t
       → Lengths local es (nodesOf nodes) p (watching x) mostShown (entriesIn t allLengths)
-      → Closed local es (nodesOf nodes) p (watching x) mostShown (entriesIn t allLengths)
-  full-closed t full s n o k w c q a b m r few =
+      → Closed local es (nodesOf nodes) p (watching x) Run mostShown (entriesIn t allLengths)
+  full-closed u t holds full s n o k w c q a come m r few =
       let here = entryOf k o (meaningOf w c) q (aimAt a) in
+      let b = run-followed .occurs come in
       let f = offered local es (nodesOf nodes) p x rows src (held t allLengths) (entriesIn t allLengths)
       (reads-in t allLengths) b m r few in
       let (l, e) = form-here k (f .form) (f .is) in
       let st = start-of b in
       let low = low-aim t s n o k w c q a b m (f .in-range) r in
-      let set-at = full .settled k l o (meaningOf w c) q (st .low) (st .high) (b .state) in
+      let set-at = full .settled k l o (meaningOf w c) q (st .low) (st .high) (b .state) (come-at (holds .full (come .1))) in
       let settled : getD t (linear here) 0 ≤ n =
       at-most (f .gives) (subst (λ (y : Option Form). (j : ℕ) → j < waysOf y → (i : ℕ) → lowEnd (meaningOf w c) ≤ i → i < 17
       → Settled (watchOf local p x) rows y t (entryOf k o (meaningOf w c) q i) j) e set-at (f .rule) (f .listed) (aimAt a) low
@@ -194,10 +186,14 @@ module _ (local : Bool) (es : List Edge) (nodes : List ℕ) (p x : ℕ) (rows : 
       at-most : {u v : ℕ} → v ≡ n → (v ≤ mostShown → u ≤ v) → u ≤ n
       at-most e h = let l = h (omega arith) in omega arith
 
-  pub full-least : (t : List ℕ) → Full (watchOf local p x) rows nodes t
-      → Least local es (nodesOf nodes) p (watching x) mostShown (entriesIn t allLengths)
-  full-least t full =
+  pub full-least : (u t : List ℕ) → Arrived nodes local rows p x u → Full (watchOf local p x) rows nodes u t
+      → Least local es (nodesOf nodes) p (watching x) Run mostShown (entriesIn t allLengths)
+  full-least u t come full =
       let s = reach-lengths (full .reach) .1 in
-      closed-least local es (nodesOf nodes) p (watching x) (watching-keeps x) (Scope (nodesOf nodes)) (src .edges)
-      (scoped (nodesOf nodes) (src .outline)) mostShown
-      (entriesIn t allLengths) s (full-closed t full s)
+      let few = src .outline .few in
+      let count = nodes-length nodes in
+      let holds = comes-held local es (nodesOf nodes) p x (rowsIn rows) (src .small) (src .edges) (src .moves)
+      (names-ok (nodesOf nodes) (src .outline)) (targets-ok (nodesOf nodes) (src .outline)) (length nodes / 3) (formsIn nodes) (omega arith)
+      (forms-of nodes) (come .ends) (come .ends-filled) u (come .comes-filled) in
+      closed-least local es (nodesOf nodes) p (watching x) (watching-keeps x) (Scope (nodesOf nodes)) (src .edges) (scoped (nodesOf nodes) (src .outline)) mostShown
+      (entriesIn t allLengths) Run run-followed s (full-closed u t holds full s)

@@ -1,27 +1,41 @@
 -- What the crate's own functions do to a table on the way.
-use Prim.Native.Nat.{ℕ, _/_, _<_}
+use Prim.Native.Nat.{ℕ, _/_, _<_, _≤_}
 use mathlib.Core.Path.{_≡_}
 use mathlib.Core.Bool.{Bool, true, false}
 use mathlib.Core.Option.{Option}
 use mathlib.Core.List.{List}
-use lib.ListN.{length}
+use lib.ListN.{length, getD}
 use Rattle.usage.specs.Limits.{nodeFields}
 use Rattle.usage.specs.Outline.{Form}
 use Rattle.checker_account.specs.Rounds.{total}
+use Rattle.checker_lengths.specs.declared.Entry.{Entry}
 use Rattle.checker_lengths.specs.declared.Watch.{Watch}
+use Rattle.checker_lengths.specs.Entries.{allLengths, linear, inTable, held}
+use Rattle.checker_lengths.specs.Offers.{offerFrom}
 use Rattle.checker_lengths.specs.Rounds.{formHere, Reach}
 
--- filling goes on from t to t′; and it does so by rules of node k alone, which has the form f
-abbrev pub Onward : Watch → List ℕ → List ℕ → List ℕ → List ℕ → Type 0
-Onward w rows nodes t t′ = Reach w rows nodes t → Reach w rows nodes t′
-
+-- filling goes on from t to t′ by rules of node k alone, which has the form f
 abbrev pub Lowers : Watch → List ℕ → ℕ → Option Form → List ℕ → List ℕ → Type 0
-Lowers w rows k f t t′ = (nodes : List ℕ) → k < length nodes / nodeFields → formHere nodes k ≡ f → Onward w rows nodes t t′
+Lowers w rows k f t t′ =
+    (nodes : List ℕ) → k < length nodes / nodeFields → formHere nodes k ≡ f → Reach w rows nodes t → Reach w rows nodes t′
 
--- Some entries of t have fallen, which gives t′; r tells whether any has. Where none has, C holds of the table.
-pub record Pass (R : List ℕ → List ℕ → Type 0) (C : List ℕ → Type 0) (t t′ : List ℕ) (r : Bool) : Type 0 where
+-- the entries of other nodes than k are the same; and none is greater
+pub record Fell (k : ℕ) (t u : List ℕ) : Type 0 where
+  pub beside : (e : Entry) → inTable e ≡ true → (e .node ≡ k → ⊥) → getD u (linear e) 0 ≡ getD t (linear e) 0
+  pub down : (i : ℕ) → getD u i 0 ≤ getD t i 0
+
+-- the rules of a node of the form f do not read the entries of node k
+abbrev pub Apart : Watch → List ℕ → ℕ → Option Form → Type 0
+Apart w rows k f = (t u : List ℕ) → Fell k t u → (e : Entry) (c : ℕ)
+    → offerFrom w rows (held u allLengths) e c f ≡ offerFrom w rows (held t allLengths) e c f
+
+-- Some entries of node k, which has the form f, have fallen, which gives t′; r tells whether any has. Where none has, C holds of the
+-- table; and where the node does not read itself, C holds of what it became.
+pub record Pass (w : Watch) (rows : List ℕ) (k : ℕ) (f : Option Form) (C : List ℕ → Type 0) (t t′ : List ℕ) (r : Bool) : Type 0 where
   pub same-size : length t′ ≡ length t
-  pub changes : R t t′
+  pub changes : Lowers w rows k f t t′
   pub kept : r ≡ false → t′ ≡ t
   pub settled : r ≡ false → C t
   pub lower : r ≡ true → total t′ < total t
+  pub fell : Fell k t t′
+  pub done : Apart w rows k f → C t′

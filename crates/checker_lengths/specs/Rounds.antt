@@ -1,14 +1,16 @@
--- How a table of lengths is filled: each entry falls to what a rule gives, until no rule gives less. `nodes` is the flat table of nodes,
--- and `rows` the table of rows of the policy.
+-- How a table of lengths is filled: each entry falls to what a rule gives, until no rule gives less at the starts that are come to.
+-- `nodes` is the flat table of nodes, `rows` the table of rows of the policy, and `u` the table of what is come to.
 use Prim.Native.Nat.{ℕ, _/_, _<_, _≤_}
 use mathlib.Core.Path.{_≡_}
-use mathlib.Core.Bool.{Bool, true, false}
+use mathlib.Core.Bool.{Bool, true}
 use mathlib.Core.Option.{Option}
 use mathlib.Core.List.{List}
 use lib.ListN.{length, getD, set, replicate}
 use Rattle.usage.specs.Limits.{states, mostShown, nodeFields}
 use Rattle.usage.specs.Outline.{Form, formOf}
 use Rattle.checker_account.specs.Tables.{meanings, least}
+use Rattle.checker_account.specs.Holds.{HasCome}
+use Rattle.automaton.specs.Mask.{has}
 use Rattle.checker_lengths.specs.Nodes.{nodeIn}
 use Rattle.checker_lengths.specs.declared.Entry.{Entry}
 use Rattle.checker_lengths.specs.declared.Watch.{Watch}
@@ -36,18 +38,16 @@ RuleSettled w rows f t s c = (i : ℕ) → lowEnd (s .meaning) ≤ i → i < aim
 abbrev pub StartSettled : Watch → List ℕ → Option Form → List ℕ → Entry → Type 0
 StartSettled w rows f t s = (c : ℕ) → c < waysOf f → RuleSettled w rows f t s c
 
--- the starts of node k with a meaning from l on
-abbrev pub NodeSettled : Watch → List ℕ → Option Form → List ℕ → ℕ → ℕ → Type 0
-NodeSettled w rows f t l k = (o : Bool) (m q : ℕ) → l ≤ m → m < meanings → q < states → StartSettled w rows f t (entryOf k o m q 0)
+-- the starts of node k with one meaning and the states v
+abbrev pub StatesSettled : Watch → List ℕ → Option Form → List ℕ → ℕ → Bool → ℕ → ℕ → Type 0
+StatesSettled w rows f t k o m v = (q : ℕ) → q < states → has v q ≡ true → StartSettled w rows f t (entryOf k o m q 0)
 
-abbrev pub RoundSettled : Watch → List ℕ → List ℕ → List ℕ → ℕ → Type 0
-RoundSettled w rows nodes t l = (k : ℕ) → k < length nodes / nodeFields → NodeSettled w rows (formHere nodes k) t l k
+-- those that are come to, with a meaning from l on
+abbrev pub NodeSettled : Watch → List ℕ → Option Form → List ℕ → List ℕ → ℕ → ℕ → Type 0
+NodeSettled w rows f u t l k =
+    (o : Bool) (m q : ℕ) → l ≤ m → m < meanings → q < states → HasCome u k o m q → StartSettled w rows f t (entryOf k o m q 0)
 
--- The table is full: filling has come to it, and no rule gives less for any entry.
-pub record Full (w : Watch) (rows nodes t : List ℕ) : Type 0 where
+-- The table is full: filling has come to it, and no rule gives less for any entry of a start that is come to.
+pub record Full (w : Watch) (rows nodes u t : List ℕ) : Type 0 where
   pub reach : Reach w rows nodes t
-  pub settled : RoundSettled w rows nodes t (least (w .resource))
-
-abbrev pub FullIf : Bool → Watch → List ℕ → List ℕ → List ℕ → Type 0
-FullIf true w rows nodes t = Full w rows nodes t
-FullIf false w rows nodes t = t ≡ replicate size noLength
+  pub settled : (k : ℕ) → k < length nodes / nodeFields → NodeSettled w rows (formHere nodes k) u t (least (w .resource)) k

@@ -1,17 +1,18 @@
-// The table, filled in rounds until one changes nothing. An entry only ever falls, to what a rule gives.
+// The table, filled node by node until none is left. An entry only ever falls, to what a rule gives, and only entries of starts that are
+// come to are looked at.
 ghost use mathlib.Core.Path.{_≡_};
 ghost use mathlib.Core.Bool.{Bool, true};
 ghost use mathlib.Core.List.{List};
-ghost use Prim.Native.Nat.{ℕ, _/_, _<_, _≤_};
-ghost use lib.Dec.{leb};
+ghost use Prim.Native.Nat.{ℕ, _<_};
 ghost use lib.ListN.{length};
 ghost use Rattle.checker_account.specs.Tables.{meanings};
-ghost use Rattle.usage.specs.Limits.{mostNodes, nodeFields};
+ghost use Rattle.checker_tables.specs.Search.{NodesFit};
+ghost use Rattle.usage.specs.Limits.{mostNodes};
 ghost use Rattle.usage.specs.Outline.{formOf};
 ghost use Rattle.checker_lengths.specs.Entries.{size, inTable};
 ghost use Rattle.checker_lengths.specs.Offers.{toward};
-ghost use Rattle.checker_lengths.specs.Code.{Lowers, Onward, Pass};
-ghost use Rattle.checker_lengths.specs.Rounds.{Settled, RuleSettled, StartSettled, NodeSettled, RoundSettled, FullIf};
+ghost use Rattle.checker_lengths.specs.Code.{Pass};
+ghost use Rattle.checker_lengths.specs.Rounds.{Settled, RuleSettled, StartSettled, StatesSettled, NodeSettled, Full};
 use crate::AIMS;
 use crate::ALL;
 use crate::Entry;
@@ -21,7 +22,7 @@ use crate::SIZE;
 use crate::Watch;
 use crate::entries;
 use crate::offers;
-use checker_account::STARTS;
+use checker_account::MEANINGS;
 use checker_account::Table;
 use usage::MOST_NODES;
 use usage::NODE_FIELDS;
@@ -32,7 +33,7 @@ use usage::STATES;
 fn settle(t: &mut Lengths, rows: &Table, w: Watch, f: Node, e: Entry, c: usize) -> bool
     requires { ⌜ length (now t) ≡ size ⌝ }
     requires { ⌜ inTable e ≡ true ⌝ }
-    ensures { λ r. ⌜ Pass (Lowers w (now (rows .entry)) (e .node) (formOf f))
+    ensures { λ r. ⌜ Pass w (now (rows .entry)) (e .node) (formOf f)
         (λ u. Settled w (now (rows .entry)) (formOf f) u e c) (now (t .entry)) (now (t .exit)) r ⌝ }
 {
     let v = offers::offer(t, rows, w, ALL, f, e, c);
@@ -50,7 +51,7 @@ fn settle(t: &mut Lengths, rows: &Table, w: Watch, f: Node, e: Entry, c: usize) 
 fn settle_rule(t: &mut Lengths, rows: &Table, w: Watch, f: Node, s: Entry, c: usize) -> bool
     requires { ⌜ length (now t) ≡ size ⌝ }
     requires { ⌜ inTable (toward s 0) ≡ true ⌝ }
-    ensures { λ r. ⌜ Pass (Lowers w (now (rows .entry)) (s .node) (formOf f))
+    ensures { λ r. ⌜ Pass w (now (rows .entry)) (s .node) (formOf f)
         (λ u. RuleSettled w (now (rows .entry)) (formOf f) u s c) (now (t .entry)) (now (t .exit)) r ⌝ }
 {
     if !offers::gives(t, rows, f, s, c) {
@@ -71,7 +72,7 @@ fn settle_rule(t: &mut Lengths, rows: &Table, w: Watch, f: Node, s: Entry, c: us
 fn settle_start(t: &mut Lengths, rows: &Table, w: Watch, f: Node, s: Entry) -> bool
     requires { ⌜ length (now t) ≡ size ⌝ }
     requires { ⌜ inTable (toward s 0) ≡ true ⌝ }
-    ensures { λ r. ⌜ Pass (Lowers w (now (rows .entry)) (s .node) (formOf f))
+    ensures { λ r. ⌜ Pass w (now (rows .entry)) (s .node) (formOf f)
         (λ u. StartSettled w (now (rows .entry)) (formOf f) u s) (now (t .entry)) (now (t .exit)) r ⌝ }
 {
     let n = offers::ways(f);
@@ -86,27 +87,79 @@ fn settle_start(t: &mut Lengths, rows: &Table, w: Watch, f: Node, s: Entry) -> b
     changed
 }
 
-// Every start of node k with a meaning from l on, the policy being open or not. Did that change the table?
-fn settle_node(t: &mut Lengths, rows: &Table, w: Watch, f: Node, l: usize, k: usize) -> bool
+// The same if it is to be settled.
+fn settle_if(t: &mut Lengths, rows: &Table, w: Watch, f: Node, s: Entry, there: bool) -> bool
+    requires { ⌜ length (now t) ≡ size ⌝ }
+    requires { ⌜ inTable (toward s 0) ≡ true ⌝ }
+    ensures { λ r. ⌜ Pass w (now (rows .entry)) (s .node) (formOf f)
+        (λ u. there ≡ true → StartSettled w (now (rows .entry)) (formOf f) u s) (now (t .entry)) (now (t .exit)) r ⌝ }
+{
+    if there {
+        settle_start(t, rows, w, f, s)
+    } else {
+        false
+    }
+}
+
+// The starts of node k with one meaning, the policy being open or not, and the states v. Did that change the table?
+fn settle_states(
+    t: &mut Lengths,
+    rows: &Table,
+    w: Watch,
+    f: Node,
+    k: usize,
+    opened: bool,
+    meaning: usize,
+    v: u16,
+) -> bool
+    requires { ⌜ length (now t) ≡ size ⌝ }
+    requires { ⌜ k < mostNodes ⌝ }
+    requires { ⌜ meaning < meanings ⌝ }
+    ensures { λ r. ⌜ Pass w (now (rows .entry)) k (formOf f)
+        (λ u. StatesSettled w (now (rows .entry)) (formOf f) u k opened meaning v) (now (t .entry)) (now (t .exit)) r ⌝ }
+{
+    let mut changed = false;
+    let mut q: usize = 0;
+    while q < STATES {
+        let s = Entry {
+            node: k,
+            opened,
+            meaning,
+            state: q,
+            aim: 0,
+        };
+        if settle_if(t, rows, w, f, s, offers::has(v, q)) {
+            changed = true;
+        }
+        q += 1;
+    }
+    changed
+}
+
+// Every start of node k that is come to, with a meaning from l on. Did that change the table?
+fn settle_node(
+    t: &mut Lengths,
+    rows: &Table,
+    u: &Table,
+    w: Watch,
+    f: Node,
+    l: usize,
+    k: usize,
+) -> bool
     requires { ⌜ length (now t) ≡ size ⌝ }
     requires { ⌜ l < meanings ⌝ }
     requires { ⌜ k < mostNodes ⌝ }
-    ensures { λ r. ⌜ Pass (Lowers w (now (rows .entry)) k (formOf f))
-        (λ u. NodeSettled w (now (rows .entry)) (formOf f) u l k) (now (t .entry)) (now (t .exit)) r ⌝ }
+    ensures { λ r. ⌜ Pass w (now (rows .entry)) k (formOf f)
+        (λ x. NodeSettled w (now (rows .entry)) (formOf f) (now (u .entry)) x l k) (now (t .entry)) (now (t .exit)) r ⌝ }
 {
-    let n = 2 * (STARTS - STATES * l);
+    let n = 2 * (MEANINGS - l);
     let mut changed = false;
     let mut i: usize = 0;
     while i < n {
-        let j = STATES * l + i / 2;
-        let s = Entry {
-            node: k,
-            opened: i % 2 == 1,
-            meaning: j / STATES,
-            state: j % STATES,
-            aim: 0,
-        };
-        if settle_start(t, rows, w, f, s) {
+        let m = l + i / 2;
+        let o = i % 2 == 1;
+        let v = checker_tables::arrivals::come_to(u, k, o, m);
+        if settle_states(t, rows, w, f, k, o, m, v) {
             changed = true;
         }
         i += 1;
@@ -114,40 +167,24 @@ fn settle_node(t: &mut Lengths, rows: &Table, w: Watch, f: Node, l: usize, k: us
     changed
 }
 
-// Every node, from the highest to the lowest: a child has a greater number than its parent. Did that change the table?
-fn settle_round(t: &mut Lengths, nodes: &[u8], rows: &Table, w: Watch, l: usize) -> bool
-    requires { ⌜ length (now t) ≡ size ⌝ }
-    requires { ⌜ l < meanings ⌝ }
-    requires { ⌜ length (now nodes) / nodeFields ≤ mostNodes ⌝ }
-    ensures { λ r. ⌜ Pass (Onward w (now (rows .entry)) (now (nodes .entry)))
-        (λ u. RoundSettled w (now (rows .entry)) (now (nodes .entry)) u l) (now (t .entry)) (now (t .exit)) r ⌝ }
-{
-    let n = nodes.len() / NODE_FIELDS;
-    let mut changed = false;
-    let mut i: usize = 0;
-    while i < n {
-        let k = n - 1 - i;
-        if settle_node(t, rows, w, crate::nodes::node(nodes, k), l, k) {
-            changed = true;
-        }
-        i += 1;
-    }
-    changed
-}
-
-// The table, for the moves of the watched policy. Where there is no room for the nodes, no entry is a length.
-pub fn fill(nodes: &[u8], rows: &Table, w: Watch, t: &mut Lengths)
-    ensures { λ r. ⌜ FullIf (leb (length (now (nodes .entry)) / nodeFields) mostNodes) w
-        (now (rows .entry)) (now (nodes .entry)) (now (t .exit)) ⌝ }
+// The table, for the moves of the watched policy; u is the table of what is come to. The highest node that is left is settled first, since
+// a child has a greater number than its parent; where that changes something, the nodes that read it are left again.
+pub fn fill(nodes: &[u8], rows: &Table, u: &Table, w: Watch, t: &mut Lengths)
+    requires { ⌜ NodesFit (now nodes) ⌝ }
+    ensures { λ r. ⌜ Full w (now (rows .entry)) (now (nodes .entry)) (now (u .entry)) (now (t .exit)) ⌝ }
 {
     *t = [NONE; SIZE];
-    if MOST_NODES < nodes.len() / NODE_FIELDS {
-        return;
-    }
     let l = checker_tables::least(w.resource);
-    loop {
-        if !settle_round(t, nodes, rows, w, l) {
-            return;
+    let n = nodes.len() / NODE_FIELDS;
+    let mut readers = [0u64; MOST_NODES];
+    checker_tables::work::readers(nodes, &mut readers);
+    let mut left = checker_tables::work::all(n);
+    while left != 0 {
+        let k = checker_tables::work::highest(left);
+        left -= 1u64 << (k as u32);
+        let f = crate::nodes::node(nodes, k);
+        if settle_node(t, rows, u, w, f, l, k) {
+            left |= readers[k];
         }
     }
 }

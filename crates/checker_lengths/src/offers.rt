@@ -64,7 +64,7 @@ pub fn low_end(m: usize) -> usize
 }
 
 // Is state j in the set v?
-fn has(v: u16, j: usize) -> bool
+pub(crate) fn has(v: u16, j: usize) -> bool
     requires { ⌜ j < states ⌝ }
     ensures { λ r. ⌜ r ≡ has v j ⌝ }
 {

@@ -7,35 +7,48 @@ use lib.ListN.{length, replicate}
 use Rattle.usage.specs.Limits.{nodeFields}
 use Rattle.checker_account.specs.Tables.{places, least, rowsIn, never, opening-of}
 use Rattle.checker_account.specs.Rounds.{formsIn, begins, Filled, ShutFilled, byOpen}
-use Rattle.checker_tables.specs.Search.{hasRoom, EndsBy, ComesBy, hitIn, SearchedBy, SearchedIf}
+use Rattle.checker_tables.specs.Search.{hasRoom, EndsBy, ComesBy, hitIn, ArrivesBy, ArrivesIf, SearchedIf}
 
 module _ (nodes rows : List ℕ) (p x l : ℕ) (room : hasRoom nodes ≡ true) (e : l ≡ least x) (opened : List ℕ)
     (filled : Filled (EndsBy nodes rows x never l) (replicate places 0) opened) where
-  answered : (local : Bool) (shut : List ℕ) (answer : Bool)
+  answered : (local : Bool) (shut u : List ℕ) (answer : Bool)
       → ShutFilled local (rowsIn rows) p x (length nodes / nodeFields) (formsIn nodes) opened shut
-      → SearchedBy nodes local rows (byOpen opened shut) p x l answer → SearchedIf (hasRoom nodes) nodes local rows p x answer
-  answered local shut answer s f = subst (λ (b : Bool). SearchedIf b nodes local rows p x answer) (sym room) (record {
-    ends = byOpen opened shut;
-    comes = f .comes;
-    ends-filled = record {
-      opened-filled = subst (λ (m : ℕ). Filled (EndsBy nodes rows x never m) (replicate places 0) opened) e filled;
-      shut-filled = s;
+      → ArrivesBy nodes local rows (byOpen opened shut) p x l u answer → ArrivesIf (hasRoom nodes) nodes local rows p x u answer
+  answered local shut u answer s f = subst (λ (b : Bool). ArrivesIf b nodes local rows p x u answer) (sym room) (record {
+    arrived = record {
+      ends = byOpen opened shut;
+      ends-filled = record {
+        opened-filled = subst (λ (m : ℕ). Filled (EndsBy nodes rows x never m) (replicate places 0) opened) e filled;
+        shut-filled = s;
+      };
+      comes-filled = subst (λ (m : ℕ). Filled (ComesBy nodes local rows (byOpen opened shut) p m) (begins m) u) e (f .comes-filled);
     };
-    comes-filled = subst (λ (m : ℕ). Filled (ComesBy nodes local rows (byOpen opened shut) p m) (begins m) (f .comes)) e (f .comes-filled);
-    told = f .told ∙ ap (λ (m : ℕ). hitIn nodes local rows (f .comes) p x m) e;
+    told = f .told ∙ ap (λ (m : ℕ). hitIn nodes local rows u p x m) e;
   })
 
   -- where the whole past counts, by the one table
-  pub whole-answer : (local answer : Bool) → local ≡ false → SearchedBy nodes local rows (byOpen opened opened) p x l answer
-      → SearchedIf (hasRoom nodes) nodes local rows p x answer
-  whole-answer local answer d f = answered local opened answer
+  pub whole-answer : (local answer : Bool) (u : List ℕ) → local ≡ false → ArrivesBy nodes local rows (byOpen opened opened) p x l u answer
+      → ArrivesIf (hasRoom nodes) nodes local rows p x u answer
+  whole-answer local answer u d f = answered local opened u answer
       (subst (λ (b : Bool). ShutFilled b (rowsIn rows) p x (length nodes / nodeFields) (formsIn nodes) opened opened) (sym d) refl) f
 
   -- under the local meaning, by both
-  pub local-answer : (local answer : Bool) → local ≡ true → (shut : List ℕ)
+  pub local-answer : (local answer : Bool) (u : List ℕ) → local ≡ true → (shut : List ℕ)
       → Filled (EndsBy nodes rows x (opening-of p opened) l) (replicate places 0) shut
-      → SearchedBy nodes local rows (byOpen opened shut) p x l answer → SearchedIf (hasRoom nodes) nodes local rows p x answer
-  local-answer local answer d shut s f =
+      → ArrivesBy nodes local rows (byOpen opened shut) p x l u answer → ArrivesIf (hasRoom nodes) nodes local rows p x u answer
+  local-answer local answer u d shut s f =
       let s₁ = subst (λ (m : ℕ). Filled (EndsBy nodes rows x (opening-of p opened) m) (replicate places 0) shut) e s in
-      answered local shut answer
+      answered local shut u answer
       (subst (λ (b : Bool). ShutFilled b (rowsIn rows) p x (length nodes / nodeFields) (formsIn nodes) opened shut) (sym d) s₁) f
+
+-- the answer alone
+pub arrives-searched : (room : Bool) (nodes : List ℕ) (local : Bool) (rows : List ℕ) (p x : ℕ) (u : List ℕ) (answer : Bool)
+    → ArrivesIf room nodes local rows p x u answer → SearchedIf room nodes local rows p x answer
+arrives-searched true nodes local rows p x u answer h = record {
+  ends = h .arrived .ends;
+  comes = u;
+  ends-filled = h .arrived .ends-filled;
+  comes-filled = h .arrived .comes-filled;
+  told = h .told;
+}
+arrives-searched false nodes local rows p x u answer h = h

@@ -12,8 +12,8 @@ use Rattle.usage.specs.Tables.{nodeAt}
 use Rattle.usage.specs.Tests.{someBelow}
 use Rattle.checker_account.specs.Witness.{watched}
 use Rattle.checker_account.specs.Single.{noName}
-use Rattle.checker_account.specs.Tables.{unnamed, places, rowsIn, Resets, never, opening-of}
-use Rattle.checker_account.specs.Rounds.{formsIn, EndsRule, ComesRule, passRound, begins, Filled, hitAny, Searched}
+use Rattle.checker_account.specs.Tables.{unnamed, places, least, rowsIn, Resets, never, opening-of}
+use Rattle.checker_account.specs.Rounds.{formsIn, EndsRule, EndsFilled, ComesRule, passRound, begins, Filled, hitAny, Searched}
 use Rattle.checker_account.specs.RowTable.{EventTables, fillRows}
 
 -- meaning m once meaning n no longer occurs
@@ -69,11 +69,21 @@ comesRound nodes local rows t p l = passRound local (rowsIn rows) p t l (length 
 abbrev pub hitIn : List ℕ → Bool → List ℕ → List ℕ → ℕ → ℕ → ℕ → Bool
 hitIn nodes local rows u p x l = hitAny local (rowsIn rows) p x u l (length nodes / nodeFields) (formsIn nodes)
 
--- what the tables of ends lead to: the table of what is come to, and the answer
-pub record SearchedBy (nodes : List ℕ) (local : Bool) (rows : List ℕ) (t : Bool → List ℕ) (p x l : ℕ) (answer : Bool) : Type 0 where
-  pub comes : List ℕ
-  pub comes-filled : Filled (ComesBy nodes local rows t p l) (begins l) comes
-  pub told : answer ≡ hitIn nodes local rows comes p x l
+-- what the tables of ends lead to: u, the table of what is come to, and the answer
+pub record ArrivesBy (nodes : List ℕ) (local : Bool) (rows : List ℕ) (t : Bool → List ℕ) (p x l : ℕ) (u : List ℕ) (answer : Bool) : Type 0 where
+  pub comes-filled : Filled (ComesBy nodes local rows t p l) (begins l) u
+  pub told : answer ≡ hitIn nodes local rows u p x l
+
+-- u is the table of what is come to with the resource x watched
+pub record Arrived (nodes : List ℕ) (local : Bool) (rows : List ℕ) (p x : ℕ) (u : List ℕ) : Type 0 where
+  pub ends : Bool → List ℕ
+  pub ends-filled : EndsFilled local (rowsIn rows) p x (length nodes / nodeFields) (formsIn nodes) ends
+  pub comes-filled : Filled (ComesBy nodes local rows ends p (least x)) (begins (least x)) u
+
+-- it, and the answer to whether policy p is broken
+pub record Arrives (nodes : List ℕ) (local : Bool) (rows : List ℕ) (p x : ℕ) (u : List ℕ) (answer : Bool) : Type 0 where
+  pub arrived : Arrived nodes local rows p x u
+  pub told : answer ≡ hitIn nodes local rows u p x (least x)
 
 -- the answer to whether policy p is broken for the watched resource x
 abbrev pub SearchedIn : List ℕ → Bool → List ℕ → ℕ → ℕ → Bool → Type 0
@@ -85,6 +95,10 @@ SearchedIn nodes local rows p x answer = Searched local (rowsIn rows) p x (lengt
 abbrev pub SearchedIf : Bool → List ℕ → Bool → List ℕ → ℕ → ℕ → Bool → Type 0
 SearchedIf true nodes local rows p x answer = SearchedIn nodes local rows p x answer
 SearchedIf false nodes local rows p x answer = answer ≡ false
+
+abbrev pub ArrivesIf : Bool → List ℕ → Bool → List ℕ → ℕ → ℕ → List ℕ → Bool → Type 0
+ArrivesIf true nodes local rows p x u answer = Arrives nodes local rows p x u answer
+ArrivesIf false nodes local rows p x u answer = answer ≡ false
 
 -- the table of rows is one of zeros where there is no such policy or no room for the nodes
 abbrev pub wholeIf : Bool → List ℕ → List ℕ

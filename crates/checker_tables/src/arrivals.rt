@@ -33,7 +33,7 @@ fn place(k: usize, o: bool, m: usize) -> usize
 }
 
 // The states in which node k is come to, by the table.
-pub(crate) fn come_to(u: &Table, k: usize, o: bool, m: usize) -> u16
+pub fn come_to(u: &Table, k: usize, o: bool, m: usize) -> u16
     requires { ⌜ k < mostNodes ⌝ }
     requires { ⌜ m < meanings ⌝ }
     ensures { λ r. ⌜ r ≡ getD (now (u .entry)) (place k o m) 0 ⌝ }

@@ -4,12 +4,12 @@
 ghost use mathlib.Core.Path.{_≡_};
 ghost use mathlib.Core.Bool.{Bool, not, _&&_};
 ghost use Prim.Native.Nat.{ℕ, _+_, _/_, _<_, _≤_};
-ghost use lib.ListN.{length, getD};
+ghost use lib.ListN.{length, getD, replicate};
 ghost use Rattle.usage.specs.Limits.{states, nodeFields};
 ghost use Rattle.usage.specs.Tables.{nodeAt};
 ghost use Rattle.checker_account.specs.Tables.{over, joinedAt, meanings, places, least, restarted};
 ghost use Rattle.checker_account.specs.Rounds.{grown, byOpen, Wide};
-ghost use Rattle.checker_tables.specs.Search.{lost, touched, smallNode, NodesFit, hasRoom, SearchedBy, SearchedIf};
+ghost use Rattle.checker_tables.specs.Search.{lost, touched, smallNode, NodesFit, hasRoom, ArrivesBy, ArrivesIf, SearchedIf};
 use checker_account::NAMES;
 use checker_account::PLACES;
 use checker_account::Table;
@@ -20,12 +20,12 @@ use usage::NODE_FIELDS;
 use usage::Node;
 use usage::STATES;
 
-mod arrivals;
+pub mod arrivals;
 mod ends;
 mod hits;
 pub mod rows;
 mod sets;
-mod work;
+pub mod work;
 
 // The kind of a node that is an event on a static resource.
 const ON_STATIC: u8 = 1;
@@ -106,7 +106,7 @@ pub fn touched(nodes: &[u8], x: usize) -> bool
 }
 
 // Node k of a flat table.
-fn node(nodes: &[u8], k: usize) -> Node
+pub fn node(nodes: &[u8], k: usize) -> Node
     requires { ⌜ k < length (now nodes) / nodeFields ⌝ }
     ensures { λ r. ⌜ r ≡ nodeAt (now (nodes .entry)) k ⌝ }
 {
@@ -155,7 +155,7 @@ fn fits(nodes: &[u8]) -> bool
     true
 }
 
-// Is it, by the tables of ends where the policy is open and where it is not?
+// Is it, by the tables of ends where the policy is open and where it is not? u becomes the table of what is come to.
 fn found<'a>(
     nodes: &[u8],
     rows: &Table,
@@ -165,22 +165,25 @@ fn found<'a>(
     p: usize,
     x: usize,
     l: usize,
+    u: &mut Table,
 ) -> bool
     requires { ⌜ NodesFit (now nodes) ⌝ }
     requires { ⌜ l < meanings ⌝ }
-    ensures { λ r. ⌜ SearchedBy (now (nodes .entry)) local (now (rows .entry))
-        (byOpen (now (opened .entry)) (now (shut .entry))) p x l r ⌝ }
+    requires { ⌜ now u ≡ replicate places 0 ⌝ }
+    ensures { λ r. ⌜ ArrivesBy (now (nodes .entry)) local (now (rows .entry))
+        (byOpen (now (opened .entry)) (now (shut .entry))) p x l (now (u .exit)) r ⌝ }
 {
-    let mut u = [0u16; PLACES];
-    arrivals::fill(nodes, rows, opened, shut, local, p, l, &mut u);
-    hits::any(nodes, rows, &u, local, p, x, l)
+    arrivals::fill(nodes, rows, opened, shut, local, p, l, u);
+    hits::any(nodes, rows, u, local, p, x, l)
 }
 
 // Is policy p, whose moves the table of rows has, broken with the resource x watched, where the whole past counts or, under the local
-// meaning, that of the sandbox? Where the tables have no room for the nodes, it is not. Where the policy is open, no opening resets
-// anything: the table of ends there serves both meanings, and the whole past needs no other.
-pub fn breaks(nodes: &[u8], rows: &Table, local: bool, p: usize, x: usize) -> bool
-    ensures { λ r. ⌜ SearchedIf (hasRoom (now (nodes .entry))) (now (nodes .entry)) local (now (rows .entry)) p x r ⌝ }
+// meaning, that of the sandbox? u, empty at first, becomes the table of what is come to. Where the tables have no room for the nodes, it
+// is not, and u says nothing. Where the policy is open, no opening resets anything: the table of ends there serves both meanings, and the
+// whole past needs no other.
+pub fn arrive(nodes: &[u8], rows: &Table, local: bool, p: usize, x: usize, u: &mut Table) -> bool
+    requires { ⌜ now u ≡ replicate places 0 ⌝ }
+    ensures { λ r. ⌜ ArrivesIf (hasRoom (now (nodes .entry))) (now (nodes .entry)) local (now (rows .entry)) p x (now (u .exit)) r ⌝ }
 {
     if !fits(nodes) {
         return false;
@@ -189,9 +192,17 @@ pub fn breaks(nodes: &[u8], rows: &Table, local: bool, p: usize, x: usize) -> bo
     let mut opened = [0u16; PLACES];
     ends::fill(nodes, rows, rows, false, p, x, l, &mut opened);
     if !local {
-        return found(nodes, rows, &opened, &opened, local, p, x, l);
+        return found(nodes, rows, &opened, &opened, local, p, x, l, u);
     }
     let mut shut = [0u16; PLACES];
     ends::fill(nodes, rows, &opened, true, p, x, l, &mut shut);
-    found(nodes, rows, &opened, &shut, local, p, x, l)
+    found(nodes, rows, &opened, &shut, local, p, x, l, u)
+}
+
+// The answer alone.
+pub fn breaks(nodes: &[u8], rows: &Table, local: bool, p: usize, x: usize) -> bool
+    ensures { λ r. ⌜ SearchedIf (hasRoom (now (nodes .entry))) (now (nodes .entry)) local (now (rows .entry)) p x r ⌝ }
+{
+    let mut u = [0u16; PLACES];
+    arrive(nodes, rows, local, p, x, &mut u)
 }

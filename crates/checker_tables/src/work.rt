@@ -14,7 +14,7 @@ use usage::NODE_FIELDS;
 use usage::Node;
 
 // Of each node, the nodes that read it.
-pub(crate) type Masks = [u64; MOST_NODES];
+pub type Masks = [u64; MOST_NODES];
 
 // Node k joined to the set of node j.
 fn note(masks: &mut Masks, j: usize, k: usize)
@@ -61,7 +61,7 @@ fn note_parts(masks: &mut Masks, k: usize, f: Node)
 }
 
 // Which nodes read which; the sets are empty at first.
-pub(crate) fn readers(nodes: &[u8], masks: &mut Masks)
+pub fn readers(nodes: &[u8], masks: &mut Masks)
     requires { ⌜ NodesFit (now nodes) ⌝ }
     requires { ⌜ now masks ≡ replicate mostNodes 0 ⌝ }
     ensures { λ r. ⌜ now (masks .exit) ≡ readersOf (length (now (nodes .entry)) / nodeFields) (formsIn (now (nodes .entry))) ⌝ }
@@ -76,7 +76,7 @@ pub(crate) fn readers(nodes: &[u8], masks: &mut Masks)
 }
 
 // All of n nodes.
-pub(crate) fn all(n: usize) -> u64
+pub fn all(n: usize) -> u64
     requires { ⌜ n ≤ mostNodes ⌝ }
     ensures { λ r. ⌜ r ≡ 2 ^ n - 1 ⌝ }
 {
@@ -88,7 +88,7 @@ pub(crate) fn all(n: usize) -> u64
 }
 
 // The highest node of a set that is not empty.
-pub(crate) fn highest(s: u64) -> usize
+pub fn highest(s: u64) -> usize
     requires { ⌜ 0 < s ⌝ }
     ensures { λ r. ⌜ 2 ^ r ≤ s ⌝ }
     ensures { λ r. ⌜ s < 2 ^ suc r ⌝ }

@@ -31,42 +31,16 @@ use Rattle.checker_account.proofs.Writing.{given-fresh}
 use Rattle.checker_lengths.specs.declared.Entry.{Entry}
 use Rattle.checker_lengths.specs.declared.Watch.{Watch}
 use Rattle.checker_lengths.specs.Entries.{allLengths, entryOf, held}
-use Rattle.checker_lengths.specs.Offers.{
-  atNode,
-  firstEntry,
-  secondEntry,
-  bodyEntry,
-  innerEntry,
-  stateIn,
-  around,
-  heir,
-  named,
-  born,
-  breaking,
-  offerOf,
-  offerFrom,
-}
+use Rattle.checker_lengths.specs.Offers.{bodyEntry, named, born, breaking, offerOf}
 use Rattle.checker_lengths.specs.Held.{aimAt, meaningOf}
+use Rattle.checker_lengths.proofs.FullLaws.{run-followed}
 use Rattle.checker_lengths.proofs.Inversion.{fresh-inv, breaking-inv}
 use Rattle.checker_lengths.proofs.Numbers.{forgotten-of}
 use Rattle.checker_lengths.proofs.RuleLaws.{named-low, named-high}
 use Rattle.checker_lengths.proofs.RuledLaws.{offending-small, break-is, born-first, other-moves, own-moves}
 use Rattle.checker_trace.specs.declared.Spot.{Spot}
 use Rattle.checker_trace.specs.declared.Names.{Names}
-use Rattle.checker_trace.specs.Code.{
-  OntoIs,
-  storedStep,
-  onward,
-  created,
-  given,
-  Spotted,
-  Ready,
-  Tells,
-  NamesAt,
-  Agree,
-  Writes,
-  Chosen,
-}
+use Rattle.checker_trace.specs.Code.{storedStep, created, given, Spotted, Ready, Coming, Tells, Agree, Writes, Chosen}
 use Rattle.checker_trace.proofs.LeadLaws.{held-cut}
 use Rattle.checker_trace.proofs.StepLaws.{laid-more, spotted-create, agree-give}
 use Rattle.checker_trace.proofs.PartLaws.{Run, run-in, back-to, chosen-fresh}
@@ -110,7 +84,7 @@ module _ (w : Watch) (rows nodes t : List ℕ) (e : Entry) (n r : ℕ)
       → trace′ ≡ storedStep trace (s .at) 0 0 (s .next) → Writes w rows nodes t e n g s trace r′ trace′
   unfolding offerOf
   wrote-born a b ch big g s trace r′ er trace′ et es m c aim names t₀ past ready tells h named agree spotted same room =
-      let u = arrive w rows nodes t e n (ch .0) r (fresh a b) few-nodes (ch .1) (ch .2) ready tells in
+      let u = arrive w rows nodes t e n (ch .0) r (fresh a b) few-nodes (ch .1) (ch .2) ready tells few h in
       let y = entryOf (ch .0) (e .opened) (meaningOf m c) (e .state) (aimAt aim) in
       by-cases (fresh-inv y n few rows (held t n) a b r (u .gives))
       (λ v. let z = v .0 in absurd (omega arith))
@@ -133,16 +107,16 @@ module _ (w : Watch) (rows nodes t : List ℕ) (e : Entry) (n r : ℕ)
   pub record Body (es : List Edge) (a b j : ℕ) (names : outline.Names) (m : ℕ) (c : Bool) (past : Past) (aim : Aim Bool) : Type 0 where
     pub name : ℕ
     pub made : Bool
-    pub tells : Tells (w .resource) (bodyEntry e a b r) name made aim
+    pub tells : Tells w es nodes (bodyEntry e a b r) name made aim
     pub run : (after : Past) → Here es (n - 1) (e .opened) b (give names a (next past)) name made (r % 8)
         (event create (next past) ∷ past) aim after → Here es n (e .opened) j names m c (e .state) past aim after
 
   body-other : {es : List Edge} (a b j : ℕ) (names : outline.Names) (m : ℕ) (c : Bool) (past : Past) (aim : Aim Bool)
       → Ready w es rows nodes t
-      → Tells (w .resource) e m c aim → Is (nodesOf nodes) j (fresh a b) → r < 8 → 1 ≤ n
+      → Tells w es nodes e m c aim → Is (nodesOf nodes) j (fresh a b) → Coming w es nodes (e .opened) j m c (e .state) → r < 8 → 1 ≤ n
       → has (born rows (entryOf j (e .opened) (meaningOf m c) (e .state) (aimAt aim)) (leb 8 r)) (r % 8) ≡ true
       → Body es a b j names m c past aim
-  body-other {es} a b j names m c past aim ready tells is low one h =
+  body-other {es} a b j names m c past aim ready tells is come low one h =
       let y = entryOf j (e .opened) (meaningOf m c) (e .state) (aimAt aim) in
       let hs : has (born rows y false) (r % 8) ≡ true = sym (ap (λ (z : Bool). has (born rows y z) (r % 8)) (lt-leb 8 r low)) ∙ h in
       let small = form-ok (ready .source .outline) is .0 in
@@ -155,6 +129,9 @@ module _ (w : Watch) (rows nodes t : List ℕ) (e : Entry) (n r : ℕ)
           meaning = ap (λ (i : ℕ). named i a r) (tells .meaning) ∙ named-low (meaningOf m c) a r low
               ∙ forgotten-of m a c small (tells .begun .view .unmade);
           number = tells .number;
+          come = run-followed (w .local) es nodes (w .policy) (w .resource) rows (ready .source) .created is MakesOne.other
+              (other-moves (w .local) es (nodesOf nodes) (w .policy) (w .resource) rows (ready .source) j
+              (e .opened) (aimAt aim) (r % 8) (tells .begun) l is hs) come;
           begun = begun-new (watching-keeps (w .resource)) (tells .begun) (r % 8) small MakesOne.other l;
           aimed = tells .aimed;
         };
@@ -165,13 +142,13 @@ module _ (w : Watch) (rows nodes t : List ℕ) (e : Entry) (n r : ℕ)
 
   body-own : {es : List Edge} (a b j : ℕ) (names : outline.Names) (m : ℕ) (c : Bool) (past : Past) (aim : Aim Bool)
       → Ready w es rows nodes t
-      → Tells (w .resource) e m c aim → Is (nodesOf nodes) j (fresh a b) → 8 ≤ r → r < 16 → 1 ≤ n
+      → Tells w es nodes e m c aim → Is (nodesOf nodes) j (fresh a b) → Coming w es nodes (e .opened) j m c (e .state) → 8 ≤ r → r < 16 → 1 ≤ n
       → has (born rows (entryOf j (e .opened) (meaningOf m c) (e .state) (aimAt aim)) (leb 8 r)) (r % 8) ≡ true
       → Body es a b j names m c past aim
-  body-own {es} a b j names m true past aim ready tells is low high one h =
+  body-own {es} a b j names m true past aim ready tells is come low high one h =
       let y = entryOf j (e .opened) (suc m) (e .state) (aimAt aim) in
       false-true (sym (born-first rows y (r % 8) (sym (ap (λ (z : Bool). has (born rows y z) (r % 8)) (le-leb 8 r low)) ∙ h)))
-  body-own {es} a b j names m false past aim ready tells is low high one h =
+  body-own {es} a b j names m false past aim ready tells is come low high one h =
       let y = entryOf j (e .opened) 0 (e .state) (aimAt aim) in
       let hs : has (born rows y true) (r % 8) ≡ true = sym (ap (λ (z : Bool). has (born rows y z) (r % 8)) (le-leb 8 r low)) ∙ h in
       let small = form-ok (ready .source .outline) is .0 in
@@ -183,6 +160,9 @@ module _ (w : Watch) (rows nodes t : List ℕ) (e : Entry) (n r : ℕ)
         tells = record {
           meaning = named-high (e .meaning) a r low;
           number = tells .number;
+          come = run-followed (w .local) es nodes (w .policy) (w .resource) rows (ready .source) .created is MakesOne.own
+              (own-moves (w .local) es (nodesOf nodes) (w .policy) (w .resource) rows (ready .source) j
+              (e .opened) (aimAt aim) (r % 8) (tells .begun) l is hs) come;
           begun = begun-new (watching-keeps (w .resource)) (tells .begun) (r % 8) small MakesOne.own l;
           aimed = tells .aimed;
         };
@@ -193,14 +173,14 @@ module _ (w : Watch) (rows nodes t : List ℕ) (e : Entry) (n r : ℕ)
       }
 
   body-of : {es : List Edge} (a b j : ℕ) (names : outline.Names) (m : ℕ) (c : Bool) (past : Past) (aim : Aim Bool) → Ready w es rows nodes t
-      → Tells (w .resource) e m c aim → Is (nodesOf nodes) j (fresh a b) → r < 16 → 1 ≤ n
+      → Tells w es nodes e m c aim → Is (nodesOf nodes) j (fresh a b) → Coming w es nodes (e .opened) j m c (e .state) → r < 16 → 1 ≤ n
       → has (born rows (entryOf j (e .opened) (meaningOf m c) (e .state) (aimAt aim)) (leb 8 r)) (r % 8) ≡ true
       → Body es a b j names m c past aim
-  body-of {es} a b j names m c past aim ready tells is high one h = go (decLe 8 r)
+  body-of {es} a b j names m c past aim ready tells is come high one h = go (decLe 8 r)
     where
       go : Dec (8 ≤ r) → Body es a b j names m c past aim
-      go (yes l) = body-own a b j names m c past aim ready tells is l high one h
-      go (no l) = body-other a b j names m c past aim ready tells is (omega arith) one h
+      go (yes l) = body-own a b j names m c past aim ready tells is come l high one h
+      go (no l) = body-other a b j names m c past aim ready tells is come (omega arith) one h
 
   pub wrote-fresh : (a b : ℕ) → Chosen w rows nodes t e n (some (fresh a b)) r → r < 16 → (g : Names) → length (g .numbers) ≡ 4
       → (s : Spot) (trace : List ℕ) (r′ : Spot) (trace′ : List ℕ)
@@ -209,12 +189,12 @@ module _ (w : Watch) (rows nodes t : List ℕ) (e : Entry) (n r : ℕ)
   unfolding offerOf
   wrote-fresh a b ch low g four s trace r′ trace′ inside es m c aim names t₀ past ready tells h named agree spotted same room =
       let sum = chosen-fresh w rows nodes t e n r few a b ch low in
-      let u = arrive w rows nodes t e n (ch .0) r (fresh a b) few-nodes (ch .1) (ch .2) ready tells in
+      let u = arrive w rows nodes t e n (ch .0) r (fresh a b) few-nodes (ch .1) (ch .2) ready tells few h in
       let y = entryOf (ch .0) (e .opened) (meaningOf m c) (e .state) (aimAt aim) in
       let small = form-ok (ready .source .outline) (u .is) .0 in
       let hs : has (born rows y (leb 8 r)) (r % 8) ≡ true =
       by-cases (fresh-inv y n few rows (held t n) a b r (u .gives)) (λ v. v .1) (λ v. let z = v .0 in absurd (omega arith)) in
-      let body = body-of a b (ch .0) names m c past aim ready tells (u .is) low (omega arith) hs in
+      let body = body-of a b (ch .0) names m c past aim ready tells (u .is) (u .come) low (omega arith) hs in
       let v : held t n (bodyEntry e a b r) ≡ n - 1 = omega arith in
       let at-j = passes-names w rows nodes t e ready (u .passes) named in
       let given-b = given-fresh (w .local) es (nodesOf nodes) (w .policy) (watching (w .resource)) (Scope (nodesOf nodes))

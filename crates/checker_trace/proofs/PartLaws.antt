@@ -28,42 +28,16 @@ use Rattle.checker_account.proofs.Reader.{passes-written}
 use Rattle.checker_lengths.specs.declared.Entry.{Entry}
 use Rattle.checker_lengths.specs.declared.Watch.{Watch}
 use Rattle.checker_lengths.specs.Entries.{allLengths, entryOf, held}
-use Rattle.checker_lengths.specs.Offers.{
-  atNode,
-  firstEntry,
-  secondEntry,
-  bodyEntry,
-  innerEntry,
-  stateIn,
-  around,
-  heir,
-  named,
-  born,
-  breaking,
-  offerOf,
-  offerFrom,
-}
+use Rattle.checker_lengths.specs.Offers.{atNode, firstEntry, secondEntry, bodyEntry, innerEntry, stateIn, around, named, offerOf, offerFrom}
 use Rattle.checker_lengths.specs.Held.{aimAt, meaningOf}
 use Rattle.checker_lengths.proofs.EntryLaws.{held-is}
+use Rattle.checker_lengths.proofs.FullLaws.{run-followed}
 use Rattle.checker_lengths.proofs.Inversion.{still-inv, sequence-inv, fresh-inv, sandbox-inv}
 use Rattle.checker_lengths.proofs.Numbers.{way-aim, heir-of, name-of}
 use Rattle.checker_lengths.proofs.RuledLaws.{offending-of, break-is}
 use Rattle.checker_trace.specs.declared.Spot.{Spot}
 use Rattle.checker_trace.specs.declared.Names.{Names}
-use Rattle.checker_trace.specs.Code.{
-  OntoIs,
-  storedStep,
-  onward,
-  created,
-  given,
-  Spotted,
-  Ready,
-  Tells,
-  NamesAt,
-  Agree,
-  Writes,
-  Chosen,
-}
+use Rattle.checker_trace.specs.Code.{storedStep, onward, Spotted, Coming, Ready, Tells, Writes, Chosen}
 use Rattle.checker_trace.proofs.LeadLaws.{held-cut}
 use Rattle.checker_trace.proofs.StepLaws.{laid-more, spotted-opening, spotted-closing}
 use Rattle.checker_trace.proofs.WriteLaws.{tells-is, Arrived, arrive, passes-names}
@@ -154,20 +128,27 @@ module _ (w : Watch) (rows nodes t : List ℕ) (e : Entry) (n r : ℕ)
   wrote-sequence a b ch g s trace v ev mid trace₁ first r′ trace₂ second es
       m c aim names t₀ past ready tells h named agree spotted same room =
       let (l, sum, l₁, l₂) = chosen-sequence w rows nodes t e n r few a b ch in
-      let u = arrive w rows nodes t e n (ch .0) r (sequence a b) few-nodes (ch .1) (ch .2) ready tells in
+      let u = arrive w rows nodes t e n (ch .0) r (sequence a b) few-nodes (ch .1) (ch .2) ready tells few h in
       let scope = scoped (nodesOf nodes) (ready .source .outline) in
       let at-j = passes-names w rows nodes t e ready (u .passes) named in
-      let tells₁ : Tells (w .resource) (firstEntry e a r) m c (ended (leb 8 r) (r % 8)) =
-      record { meaning = tells .meaning; number = sym (way-aim r l); begun = tells .begun; aimed = at-end } in
+      let next = run-followed (w .local) es nodes (w .policy) (w .resource) rows (ready .source) in
+      let tells₁ : Tells w es nodes (firstEntry e a r) m c (ended (leb 8 r) (r % 8)) = record {
+        meaning = tells .meaning;
+        number = sym (way-aim r l);
+        come = next .first (u .is) (u .come);
+        begun = tells .begun;
+        aimed = at-end;
+      } in
       let held₁ : held t allLengths (firstEntry e a r) ≡ v =
       held-cut t n allLengths (firstEntry e a r) v (sym ev) (omega arith) (omega arith) in
       let (past₁, d₁, spot₁, same₁) = first es m c (ended (leb 8 r) (r % 8)) names t₀ past ready tells₁ held₁
       (λ i y. at-j i (scope .first (u .is) i y)) agree spotted same (omega arith) in
       let ends = ready .least .lengths .sound (tells .begun) at-end
       (sym (ap (held t allLengths) (tells-is w rows nodes t (firstEntry e a r) tells₁)) ∙ held₁, omega arith) in
-      let tells₂ : Tells (w .resource) (secondEntry e b r) m (leb 8 r) aim = record {
+      let tells₂ : Tells w es nodes (secondEntry e b r) m (leb 8 r) aim = record {
         meaning = heir-of (e .meaning) m r (ap nameOf (tells .meaning) ∙ name-of (tells .begun));
         number = tells .number;
+        come = next .second (u .is) (u .come) ends;
         begun = begun-ended (w .local) es (nodesOf nodes) (w .policy) (watching (w .resource)) (ready .source .edges)
             (watching-keeps (w .resource)) (tells .begun) ends;
         aimed = tells .aimed;
@@ -187,7 +168,7 @@ module _ (w : Watch) (rows nodes t : List ℕ) (e : Entry) (n r : ℕ)
       → trace′ ≡ storedStep trace (s .at) 1 a 0 → Writes w rows nodes t e n g s trace r′ trace′
   unfolding offerOf
   wrote-opening a b ch pos g s trace r′ er trace′ et es m c aim names t₀ past ready tells h named agree spotted same room =
-      let u = arrive w rows nodes t e n (ch .0) r (sandbox a b) few-nodes (ch .1) (ch .2) ready tells in
+      let u = arrive w rows nodes t e n (ch .0) r (sandbox a b) few-nodes (ch .1) (ch .2) ready tells few h in
       let y = entryOf (ch .0) (e .opened) (meaningOf m c) (e .state) (aimAt aim) in
       by-cases (sandbox-inv y n few w (held t n) a b r (u .gives))
       (λ v. let z = v .0 in absurd (omega arith))
@@ -207,11 +188,12 @@ module _ (w : Watch) (rows nodes t : List ℕ) (e : Entry) (n r : ℕ)
       ))
 
   -- what the body of a sandbox is told by
-  inner-tells : (a b : ℕ) {m : ℕ} {c : Bool} {aim : Aim Bool} → Tells (w .resource) e m c aim
-      → Tells (w .resource) (innerEntry w e a b) m c aim
-  inner-tells a b tells = record {
+  inner-tells : {es : List Edge} (a b j : ℕ) {m : ℕ} {c : Bool} {aim : Aim Bool} → Ready w es rows nodes t → Is (nodesOf nodes) j (sandbox a b)
+      → Coming w es nodes (e .opened) j m c (e .state) → Tells w es nodes e m c aim → Tells w es nodes (innerEntry w e a b) m c aim
+  inner-tells {es} a b j ready is come tells = record {
     meaning = tells .meaning;
     number = tells .number;
+    come = run-followed (w .local) es nodes (w .policy) (w .resource) rows (ready .source) .inside is come;
     begun = begun-opened (tells .begun) (w .local) (w .policy) a (e .opened);
     aimed = tells .aimed;
   }
@@ -229,12 +211,12 @@ module _ (w : Watch) (rows nodes t : List ℕ) (e : Entry) (n r : ℕ)
   wrote-inside a b ch zero-r at-16 g s trace r′ trace′ inside es m c aim names t₀ past ready tells h named agree spotted same room =
       let sum = chosen-sandbox w rows nodes t e n r few a b ch zero-r in
       let one = around-break at-16 in
-      let u = arrive w rows nodes t e n (ch .0) r (sandbox a b) few-nodes (ch .1) (ch .2) ready tells in
+      let u = arrive w rows nodes t e n (ch .0) r (sandbox a b) few-nodes (ch .1) (ch .2) ready tells few h in
       let f = break-is aim (tells .aimed) (sym (tells .number) ∙ at-16) in
       let v : held t n (innerEntry w e a b) ≡ n - 1 = omega arith in
       let at-j = passes-names w rows nodes t e ready (u .passes) named in
       let scope = scoped (nodesOf nodes) (ready .source .outline) in
-      let (after, d, spot, laid-is) = inside es m c aim names t₀ (opening a ∷ past) ready (inner-tells a b tells)
+      let (after, d, spot, laid-is) = inside es m c aim names t₀ (opening a ∷ past) ready (inner-tells a b (ch .0) ready (u .is) (u .come) tells)
       (held-cut t n allLengths (innerEntry w e a b) (n - 1) v (omega arith) (omega arith))
       (λ i y. at-j i (scope .inside (u .is) i y)) agree (spotted-opening past s a spotted)
       (laid-more t₀ past (opening a) 1 a 0 (s .at) trace refl (spotted .at) same (omega arith)) (omega arith) in
@@ -250,11 +232,11 @@ module _ (w : Watch) (rows nodes t : List ℕ) (e : Entry) (n r : ℕ)
       et es m c aim names t₀ past ready tells h named agree spotted same room =
       let sum = chosen-sandbox w rows nodes t e n r few a b ch zero-r in
       let two = around-end not-16 in
-      let u = arrive w rows nodes t e n (ch .0) r (sandbox a b) few-nodes (ch .1) (ch .2) ready tells in
+      let u = arrive w rows nodes t e n (ch .0) r (sandbox a b) few-nodes (ch .1) (ch .2) ready tells few h in
       let v : held t n (innerEntry w e a b) ≡ n - 2 = omega arith in
       let at-j = passes-names w rows nodes t e ready (u .passes) named in
       let scope = scoped (nodesOf nodes) (ready .source .outline) in
-      let (past₁, d, spot, laid-is) = inside es m c aim names t₀ (opening a ∷ past) ready (inner-tells a b tells)
+      let (past₁, d, spot, laid-is) = inside es m c aim names t₀ (opening a ∷ past) ready (inner-tells a b (ch .0) ready (u .is) (u .come) tells)
       (held-cut t n allLengths (innerEntry w e a b) (n - 2) v (omega arith) (omega arith))
       (λ i y. at-j i (scope .inside (u .is) i y)) agree (spotted-opening past s a spotted)
       (laid-more t₀ past (opening a) 1 a 0 (s .at) trace refl (spotted .at) same (omega arith)) (omega arith) in

@@ -4,7 +4,7 @@ use mathlib.Core.Path.{_≡_, refl, sym, ap, _∙_, subst}
 use mathlib.Core.Bool.{Bool, true, false, not, _&&_, cond}
 use mathlib.Core.Option.{none, some}
 use mathlib.Core.List.{List, [], _∷_}
-use mathlib.Core.Logic.{inl, inr}
+use mathlib.Core.Logic.{_⊎_, inl, inr}
 use native.Mathlib.Omega.{arith}
 use native.Mathlib.Decide.{decLe}
 use borrow.Author.Count.{below-more}
@@ -31,28 +31,44 @@ use Rattle.checker_account.specs.RowTable.{fillRows}
 use Rattle.checker_account.specs.Least.{at-break}
 use Rattle.checker_account.proofs.SingleLaws.{watching-keeps, singles}
 use Rattle.checker_account.proofs.Ahead.{Root, hits-exact}
-use Rattle.checker_account.proofs.BegunLaws.{begun-root}
+use Rattle.checker_account.proofs.BegunLaws.{begun-root, come-root}
 use Rattle.checker_account.proofs.EventLaws.{event-image}
 use Rattle.checker_account.proofs.SightsLaws.{all-longer-sights}
-use Rattle.checker_account.proofs.NodeLaws.{forms-of}
+use Rattle.checker_account.proofs.NodeLaws.{forms-of, names-ok, targets-ok}
+use Rattle.checker_account.proofs.SearchLaws.{searched}
 use Rattle.checker_account.proofs.Reader.{written-shown}
 use Rattle.checker_account.proofs.RowLaws.{rows-ok}
 use Rattle.checker_account.proofs.RowTableLaws.{rows-from}
 use Rattle.checker_account.proofs.ScopedLaws.{scoped}
 use borrow.Author.Tests.{lt-ltb}
 use Rattle.checker_account.proofs.UntouchedLaws.{goes-watched}
-use Rattle.checker_tables.specs.Search.{rowTable, touched}
+use Rattle.checker_tables.specs.Search.{rowTable, touched, hasRoom, SearchedIf, ArrivesIf, Arrived as Came}
+use Rattle.checker_tables.proofs.FitLaws.{outline-fits}
+use Rattle.checker_tables.proofs.AnswerLaws.{arrives-searched}
 use Rattle.checker_tables.proofs.TouchedLaws.{untouched, dynamic-touched}
 use Rattle.checker_tables.proofs.WholeLaws.{whole-in}
 use Rattle.checker_lengths.specs.declared.Watch.{Watch}
 use Rattle.checker_lengths.specs.Entries.{noLength, allLengths, entryOf, held}
-use Rattle.checker_lengths.specs.Rounds.{Full}
 use Rattle.checker_lengths.specs.Held.{aimAt, meaningOf, watchOf, Source}
 use Rattle.checker_lengths.proofs.FullLaws.{full-least}
 use Rattle.checker_trace.specs.declared.Shortest.{Shortest}
 use Rattle.checker_trace.specs.declared.Spot.{Spot}
 use Rattle.checker_trace.specs.declared.Names.{Names}
-use Rattle.checker_trace.specs.Code.{Spotted, Writes, rootOf, StepsIs, StepsIf, ShortestIs, Shows}
+use Rattle.checker_trace.specs.Code.{
+  Spotted,
+  Writes,
+  rootOf,
+  TableOf,
+  TableIf,
+  NeverHits,
+  StepsIs,
+  Sought,
+  not-touched,
+  not-hit,
+  sought,
+  ShortestIs,
+  Shows,
+}
 use Rattle.checker_trace.proofs.StepLaws.{laid-none}
 
 -- the entry of the root, as the account tells it
@@ -88,17 +104,17 @@ module _ (local : Bool) (es : List Edge) (nodes : List ℕ) (p : ℕ) (rows : Li
   -- a run of m steps that breaks the policy is not shorter than the least length
   pub steps-least : (x : ℕ) → Source es (nodesOf nodes) p x rows → (v : ℕ) → StepsIs (watchOf local p x) rows nodes v → (m : ℕ)
       → Root local es (nodesOf nodes) p (watching x) m none → m ≤ mostShown → v ≤ m
-  steps-least x src v (t, full, h) m d l =
-      let f = full-least local es nodes p x rows src t full in
-      let (i, k, g) = f .full (begun-root (watching-keeps x)) at-break d l in
+  steps-least x src v (t, (u, come, full), h) m d l =
+      let f = full-least local es nodes p x rows src u t come full in
+      let (i, k, g) = f .full come-root at-break d l in
       let same : v ≡ i = h ∙ ap (held t allLengths) (root-is x) ∙ g .0 in
       omega arith
 
   -- the least length is one
   pub steps-goes : (x : ℕ) → Source es (nodesOf nodes) p x rows → (v : ℕ) → StepsIs (watchOf local p x) rows nodes v → v ≤ mostShown
       → Root local es (nodesOf nodes) p (watching x) v none
-  steps-goes x src v (t, full, h) l =
-      let f = full-least local es nodes p x rows src t full in
+  steps-goes x src v (t, (u, come, full), h) l =
+      let f = full-least local es nodes p x rows src u t come full in
       f .lengths .sound (begun-root (watching-keeps x)) at-break (sym (h ∙ ap (held t allLengths) (root-is x)), l)
 
   -- two full tables tell the same length
@@ -109,13 +125,31 @@ module _ (local : Bool) (es : List Edge) (nodes : List ℕ) (p : ℕ) (rows : Li
       let b = steps-least x src v hv u (steps-goes x src u hu (omega arith)) (omega arith) in
       omega arith
 
+  -- where the search hits nothing, no run breaks the policy
+  pub never-root : (x : ℕ) → Source es (nodesOf nodes) p x rows → NeverHits (watchOf local p x) rows nodes → (m : ℕ)
+      → Root local es (nodesOf nodes) p (watching x) m none → ⊥
+  never-root x src (u, never) m d =
+      let ok = src .outline in
+      let few = ok .few in
+      let count = nodes-length nodes in
+      let room = outline-fits nodes ok in
+      let answer = subst (λ (b : Bool). SearchedIf b nodes local rows p x false) room
+      (arrives-searched (hasRoom nodes) nodes local rows p x u false never) in
+      let (last, z, k) = hits-exact local es (nodesOf nodes) p (watching x) m none .1 d in
+      false-true (searched local es (nodesOf nodes) p x (rowsIn rows) (src .small) (src .edges) (src .moves) (names-ok (nodesOf nodes) ok)
+      (targets-ok (nodesOf nodes) ok) (length nodes / nodeFields) (formsIn nodes) (omega arith) (forms-of nodes) false answer .1
+      (last, (m, k)))
+
 module _ (local : Bool) (es : List Edge) (nodes : List ℕ) (p : ℕ) (rows : List ℕ)
     (src : (x : ℕ) → x ≤ watched → Source es (nodesOf nodes) p x rows) (r : Shortest) (h : ShortestIs local p rows nodes r)
     (alone : PairPolicy es p → ⊥) where
   at-least : (y m : ℕ) (l : y ≤ watched) → touched nodes y ≡ true → Root local es (nodesOf nodes) p (watching y) m none → m ≤ mostShown
       → r .length ≤ m
-  at-least y m l w d few =
-      let (v, s, k) = h .least y l w in let g = steps-least local es nodes p rows y (src y l) v s m d few in omega arith
+  at-least y m l w d few = go (h .least y l w)
+    where
+      go : NeverHits (watchOf local p y) rows nodes ⊎ ((v : ℕ) × StepsIs (watchOf local p y) rows nodes v × (r .length ≤ v)) → r .length ≤ m
+      go (inl never) = absurd (never-root local es nodes p rows y (src y l) never m d)
+      go (inr (v, s, k)) = let g = steps-least local es nodes p rows y (src y l) v s m d few in omega arith
 
   -- of a static that need not be watched, the dynamic resource tells
   none-shorter : (y m : ℕ) → y ≤ watched → Root local es (nodesOf nodes) p (watching y) m none → m ≤ mostShown → r .length ≤ m
@@ -176,50 +210,72 @@ module _ (local : Bool) (es : List Edge) (edges : EdgesOk es) (p : ℕ) (big : 8
   pub no-policy-shown : (nodes : List ℕ) → Shown local es (nodesOf nodes) p none
   no-policy-shown nodes = longer (λ past t v. absurd (start-good (at-start (v .1 .3)) (v .1 .4)))
 
+-- ── The table of one watched resource ──
+
+pub arrives-room : (b : Bool) (nodes : List ℕ) (local : Bool) (rows : List ℕ) (p x : ℕ) (u : List ℕ) (r : Bool)
+    → ArrivesIf b nodes local rows p x u r → r ≡ true → (b ≡ true) × Came nodes local rows p x u
+arrives-room true nodes local rows p x u r h e = (refl, h .arrived)
+arrives-room false nodes local rows p x u r h e = false-true (sym h ∙ e)
+
+pub table-of : (b : Bool) (w : Watch) (rows nodes t : List ℕ) → TableIf b w rows nodes t → b ≡ true → TableOf w rows nodes t
+table-of true w rows nodes t h e = h
+table-of false w rows nodes t h e = false-true e
+
+pub table-none : (b : Bool) (w : Watch) (rows nodes t : List ℕ) → TableIf b w rows nodes t → b ≡ false → NeverHits w rows nodes
+table-none true w rows nodes t h e = false-true (sym e)
+table-none false w rows nodes t h e = h
+
 -- ── The watched resources in turn ──
 
 module _ (local : Bool) (p : ℕ) (rows nodes : List ℕ) where
+  -- a resource of which a length that is `length` or more is known, or that none is
+  abbrev Known : ℕ → ℕ → Type 0
+  Known length y = touched nodes y ≡ true
+      → NeverHits (watchOf local p y) rows nodes ⊎ ((v : ℕ) × StepsIs (watchOf local p y) rows nodes v × (length ≤ v))
+
   -- the least of those below x that are watched
   pub record Least-below (x resource length : ℕ) : Type 0 where
     pub fits : length ≤ noLength
     pub told : length < noLength → (resource ≤ watched) × StepsIs (watchOf local p resource) rows nodes length
-    pub least : (y : ℕ) → y < x → touched nodes y ≡ true → (v : ℕ) × StepsIs (watchOf local p y) rows nodes v × (length ≤ v)
+    pub least : (y : ℕ) → y < x → Known length y
 
-  abbrev no-more : ℕ → ℕ → Type 0
-  no-more length y = touched nodes y ≡ true → (v : ℕ) × StepsIs (watchOf local p y) rows nodes v × (length ≤ v)
+  sought-known : {x v : ℕ} (length : ℕ) → Sought (watchOf local p x) rows nodes v → length ≤ v → Known length x
+  sought-known {x} length (not-touched h) l e = false-true (sym h ∙ e)
+  sought-known {x} length (not-hit h) l e = inl h
+  sought-known {x} {v} length (sought h) l e = inr (v, h, l)
 
-  -- a length is told only where it is asked for
-  steps-asked : (b : Bool) (w : Watch) (v : ℕ) → StepsIf b w rows nodes v → b ≡ true → StepsIs w rows nodes v
-  steps-asked true w v s e = s
-  steps-asked false w v s e = false-true e
+  sought-steps : {x v : ℕ} → Sought (watchOf local p x) rows nodes v → v < noLength → StepsIs (watchOf local p x) rows nodes v
+  sought-steps (not-touched h) l = absurd (omega arith)
+  sought-steps (not-hit h) l = absurd (omega arith)
+  sought-steps (sought h) l = h
 
-  steps-told : (b : Bool) (w : Watch) (v : ℕ) → StepsIf b w rows nodes v → v < noLength → StepsIs w rows nodes v
-  steps-told true w v s l = s
-  steps-told false w v s l = absurd (omega arith)
-
-  pub least-take : {x resource length : ℕ} → Least-below x resource length → x ≤ watched → (v : ℕ)
-      → StepsIf (touched nodes x) (watchOf local p x) rows nodes v → v < length → Least-below (x + 1) x v
-  least-take {x} {resource} {length} h l v s k =
-      let f = h .fits in
-      record {
-        fits = omega arith;
-        told = λ _. (l, steps-told (touched nodes x) (watchOf local p x) v s (omega arith));
-        least = below-more (no-more v) x (λ y m w. let (u, g, z) = h .least y m w in (u, g, at-most z))
-            (λ w. (v, steps-asked (touched nodes x) (watchOf local p x) v s w, le-refl v));
-      }
+  known-less : {length v : ℕ} {y : ℕ} → v ≤ length → Known length y → Known v y
+  known-less {length} {v} {y} l h e = go (h e)
     where
       at-most : {u : ℕ} → length ≤ u → v ≤ u
       at-most z = omega arith
 
-      le-refl : (v : ℕ) → v ≤ v
-      le-refl v = omega arith
+      go : NeverHits (watchOf local p y) rows nodes ⊎ ((u : ℕ) × StepsIs (watchOf local p y) rows nodes u × (length ≤ u))
+          → NeverHits (watchOf local p y) rows nodes ⊎ ((u : ℕ) × StepsIs (watchOf local p y) rows nodes u × (v ≤ u))
+      go (inl g) = inl g
+      go (inr (u, g, z)) = inr (u, g, at-most z)
+
+  pub least-take : {x resource length : ℕ} → Least-below x resource length → x ≤ watched → (v : ℕ)
+      → Sought (watchOf local p x) rows nodes v → v < length → Least-below (x + 1) x v
+  least-take {x} {resource} {length} h l v s k =
+      let f = h .fits in
+      record {
+        fits = omega arith;
+        told = λ m. (l, sought-steps s m);
+        least = below-more (Known v) x (λ y m. known-less (omega arith) (h .least y m)) (sought-known v s (omega arith));
+      }
 
   pub least-keep : {x resource length : ℕ} → Least-below x resource length → (v : ℕ)
-      → StepsIf (touched nodes x) (watchOf local p x) rows nodes v → length ≤ v → Least-below (x + 1) resource length
+      → Sought (watchOf local p x) rows nodes v → length ≤ v → Least-below (x + 1) resource length
   least-keep {x} {resource} {length} h v s k = record {
     fits = h .fits;
     told = h .told;
-    least = below-more (no-more length) x (h .least) (λ w. (v, steps-asked (touched nodes x) (watchOf local p x) v s w, k));
+    least = below-more (Known length) x (h .least) (sought-known length s k);
   }
 
 -- ── The root ──
@@ -240,15 +296,28 @@ first-spot : Spotted [] at-first
 unfolding count
 first-spot = record { at = refl; next = refl }
 
-pub root-shows : (w : Watch) (rows nodes t : List ℕ) (n : ℕ) (trace : List ℕ) (r : Spot) (trace′ : List ℕ) → Full w rows nodes t
+-- nothing is shown where the search hits nothing: there is no such length
+pub never-shows : (w : Watch) (rows nodes : List ℕ) (n : ℕ) (trace trace′ : List ℕ) → NeverHits w rows nodes → n ≤ mostShown
+    → Shows w rows nodes n trace trace′
+never-shows w rows nodes n trace trace′ never few es src steps =
+    absurd (never-root (w .local) es nodes (w .policy) rows (w .resource) src never n
+    (steps-goes (w .local) es nodes (w .policy) rows (w .resource) src n steps few))
+
+pub root-shows : (w : Watch) (rows nodes t : List ℕ) (n : ℕ) (trace : List ℕ) (r : Spot) (trace′ : List ℕ) → TableOf w rows nodes t
     → n ≤ mostShown → mostNumbers ≤ length trace
     → Writes w rows nodes t (rootOf (w .resource)) n none-given at-first trace r trace′ → Shows w rows nodes n trace trace′
-root-shows w rows nodes t n trace r trace′ full few room d es src steps =
+root-shows w rows nodes t n trace r trace′ (u, come, full) few room d es src steps =
     let x = w .resource in
-    let least-is = full-least (w .local) es nodes (w .policy) x rows src t full in
+    let least-is = full-least (w .local) es nodes (w .policy) x rows src u t come full in
     let same : held t allLengths (rootOf x) ≡ n = steps-one (w .local) es nodes (w .policy) rows x src n
-    (held t allLengths (rootOf x)) steps (t, full, refl) few in
+    (held t allLengths (rootOf x)) steps (t, (u, come, full), refl) few in
     let (after, run, spot, laid-is) = d es noName (ltb x statics) (broken none) noNames trace [] (record { source = src; least = least-is })
-    (record { meaning = root-meaning x; number = refl; begun = begun-root (watching-keeps x); aimed = at-break }) same
+    (record {
+      meaning = root-meaning x;
+      number = refl;
+      come = come-root;
+      begun = begun-root (watching-keeps x);
+      aimed = at-break;
+    }) same
     (λ m s. absurd (scoped (nodesOf nodes) (src .outline) .root s)) (λ m v e. none-some e) first-spot (laid-none trace) (omega arith) in
     (after, run, laid-is)

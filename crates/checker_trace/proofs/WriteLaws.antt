@@ -16,12 +16,14 @@ use Rattle.usage.specs.Outline.{Form, Is, on-static, on-name}
 use Rattle.usage.specs.Valid.{Scope}
 use Rattle.usage.specs.Tables.{nodesOf}
 use Rattle.checker_account.specs.Single.{watching}
-use Rattle.checker_account.specs.Witness.{Aim, ended, broken, each}
+use Rattle.checker_account.specs.Witness.{Aim, ended, broken, each, Goes}
 use Rattle.checker_account.specs.Written.{Written}
-use Rattle.checker_account.specs.Least.{Leads, PassesAll, ending}
+use Rattle.checker_account.specs.Least.{Begun, Leads, PassesAll, ending}
 use Rattle.checker_account.proofs.MaskLaws.{offends-has}
 use Rattle.checker_account.proofs.ScopedLaws.{scoped}
-use Rattle.checker_account.proofs.Reading.{goes-still, passes-all}
+use Rattle.checker_account.proofs.Reading.{goes-still, passes-all, passes-among}
+use Rattle.checker_account.proofs.BegunLaws.{begun-ended}
+use Rattle.checker_account.proofs.SingleLaws.{watching-keeps}
 use Rattle.checker_account.proofs.Reader.{idle-written, passes-written}
 use Rattle.checker_lengths.specs.declared.Entry.{Entry}
 use Rattle.checker_lengths.specs.declared.Watch.{Watch}
@@ -32,11 +34,11 @@ use Rattle.checker_lengths.specs.Held.{aimAt, meaningOf}
 use Rattle.checker_lengths.proofs.Inversion.{ending-inv, breaking-inv, event-inv}
 use Rattle.checker_lengths.proofs.RuledLaws.{offending-small, break-is, end-is, static-moves, name-moves}
 use Rattle.checker_lengths.proofs.EntryLaws.{bounds, held-is}
-use Rattle.checker_lengths.proofs.FullLaws.{here-form}
+use Rattle.checker_lengths.proofs.FullLaws.{here-form, run-followed}
 use Rattle.checker_trace.specs.declared.Spot.{Spot}
 use Rattle.checker_trace.specs.declared.Names.{Names}
 use Rattle.checker_trace.specs.declared.Onto.the-variants.{By, Nothing}
-use Rattle.checker_trace.specs.Code.{OntoIs, storedStep, onward, Spotted, Ready, Tells, NamesAt, Writes}
+use Rattle.checker_trace.specs.Code.{OntoIs, storedStep, onward, Spotted, Coming, Ready, Tells, NamesAt, Writes}
 use Rattle.checker_trace.proofs.LeadLaws.{closure-passes, never-nothing}
 use Rattle.checker_trace.proofs.StepLaws.{laid-more, spotted-event}
 
@@ -45,25 +47,39 @@ module _ (w : Watch) (rows nodes t : List ℕ) (e : Entry) where
   abbrev told : ℕ → Bool → Aim Bool → Entry
   told m c aim = entryOf (e .node) (e .opened) (meaningOf m c) (e .state) (aimAt aim)
 
-  pub tells-is : {m : ℕ} {c : Bool} {aim : Aim Bool} → Tells (w .resource) e m c aim → e ≡ told m c aim
+  pub tells-is : {es : List Edge} {m : ℕ} {c : Bool} {aim : Aim Bool} → Tells w es nodes e m c aim → e ≡ told m c aim
   tells-is h = ap₂ (λ (i j : ℕ). entryOf (e .node) (e .opened) i (e .state) j) (h .meaning) (h .number)
+
+  -- where the entry is an end, that end occurs
+  end-occurs : {es : List Edge} (n m : ℕ) (c : Bool) (aim : Aim Bool) → Ready w es rows nodes t → Tells w es nodes e m c aim
+      → held t allLengths e ≡ n → n ≤ mostShown → (c′ : Bool) (q′ : ℕ) → aim ≡ ended c′ q′ → Begun (watching (w .resource)) m c′ q′
+  end-occurs {es} n m c aim ready tells h few c′ q′ f =
+      let here : held t allLengths (told m c aim) ≡ n = sym (ap (held t allLengths) (tells-is tells)) ∙ h in
+      begun-ended (w .local) es (nodesOf nodes) (w .policy) (watching (w .resource)) (ready .source .edges) (watching-keeps (w .resource))
+      (tells .begun)
+      (subst (λ (u : Aim Bool). Goes (w .local) es (nodesOf nodes) (w .policy) (watching (w .resource)) n (e .opened) (e .node) m c (e .state) u) f
+      (ready .least .lengths .sound (tells .begun) (tells .aimed) (here, few)))
 
   -- ── The node to go on at ──
 
   pub record Arrived (es : List Edge) (n m : ℕ) (c : Bool) (aim : Aim Bool) (j r : ℕ) (f : Form) : Type 0 where
     pub passes : PassesAll (nodesOf nodes) (ending aim) (e .node) j
     pub is : Is (nodesOf nodes) j f
+    pub come : Coming w es nodes (e .opened) j m c (e .state)
     pub gives : offerOf w rows (held t n) (entryOf j (e .opened) (meaningOf m c) (e .state) (aimAt aim)) r f ≡ n
 
   pub arrive : (n j r : ℕ) (f : Form) → length nodes / nodeFields ≤ mostNodes
       → OntoIs w rows nodes t e n (By j r) → formHere nodes j ≡ some f
       → {es : List Edge} {m : ℕ} {c : Bool} {aim : Aim Bool} → Ready w es rows nodes t
-      → Tells (w .resource) e m c aim → Arrived es n m c aim j r f
-  arrive n j r f few on g {es} {m} {c} {aim} ready tells =
+      → Tells w es nodes e m c aim → n ≤ mostShown → held t allLengths e ≡ n → Arrived es n m c aim j r f
+  arrive n j r f few on g {es} {m} {c} {aim} ready tells steps there =
       let (s, closed, l, h, offer) = subst (λ (y : Entry). OntoIs w rows nodes t y n (By j r)) (tells-is tells) on in
+      let passes = closure-passes (w .local) es nodes (w .policy) (w .resource) rows t (ready .source) (ready .least) (e .opened)
+      (e .node) m c (e .state) aim (tells .begun) (tells .aimed) (end-occurs n m c aim ready tells there steps) s closed j (omega arith) h in
       record {
-        passes = closure-passes (w .local) es nodes (w .policy) (w .resource) rows t (ready .source) (ready .least) (e .opened)
-            (e .node) m c (e .state) aim (tells .begun) (tells .aimed) s closed j (omega arith) h;
+        passes = passes;
+        come = passes-among (w .local) es (nodesOf nodes) (w .policy) (watching (w .resource)) (Coming w es nodes)
+            (run-followed (w .local) es nodes (w .policy) (w .resource) rows (ready .source)) (tells .come) passes;
         is = here-form (w .local) es nodes (w .policy) (w .resource) rows (ready .source) j f l g;
         gives = subst (λ (y : Option Form). offerFrom w rows (held t n)
             (entryOf j (e .opened) (meaningOf m c) (e .state) (aimAt aim)) r y ≡ n) g offer;
@@ -111,7 +127,7 @@ module _ (w : Watch) (rows nodes t : List ℕ) (e : Entry) where
     pub wrote-nowhere : OntoIs w rows nodes t e n Nothing → n ≤ mostShown → 1 ≤ n → (r : Spot) (trace′ : List ℕ) → Wrote r trace′
     wrote-nowhere on few one r trace′ es m c aim names t₀ past ready tells h named agree spotted same room =
         absurd (never-nothing (w .local) es nodes (w .policy) (w .resource) rows t (ready .source) (ready .least) (e .opened) (e .node) m c
-        (e .state) aim (tells .begun) (tells .aimed) n
+        (e .state) aim (tells .begun) (tells .aimed) (end-occurs n m c aim ready tells h few) (tells .come) n
         (sym (ap (held t allLengths) (tells-is tells)) ∙ h) few one
         (subst (λ (y : Entry). OntoIs w rows nodes t y n Nothing) (tells-is tells) on))
 
@@ -121,7 +137,7 @@ module _ (w : Watch) (rows nodes t : List ℕ) (e : Entry) where
       at-node c m aim k = entryOf k (e .opened) (meaningOf m c) (e .state) (aimAt aim)
 
       -- the aim has a number, since the entry is in the table
-      pub range-of : {m : ℕ} {c : Bool} {aim : Aim Bool} → held t allLengths e ≡ n → Tells (w .resource) e m c aim → aimAt aim < 17
+      pub range-of : {es : List Edge} {m : ℕ} {c : Bool} {aim : Aim Bool} → held t allLengths e ≡ n → Tells w es nodes e m c aim → aimAt aim < 17
       range-of h tells = let (i, y, l) = held-is t allLengths e n h (omega arith) in
           subst (λ (y : ℕ). y < 17) (tells .number) (bounds e i .aim)
 
@@ -131,7 +147,7 @@ module _ (w : Watch) (rows nodes t : List ℕ) (e : Entry) where
       event-steps z y (inr g) = breaking-inv y n few z g .0
 
       module _ (es : List Edge) (m : ℕ) (c : Bool) (aim : Aim Bool) (names : outline.Names) (past : Past) (ready : Ready w es rows nodes t)
-          (tells : Tells (w .resource) e m c aim) (range : aimAt aim < 17) where
+          (tells : Tells w es nodes e m c aim) (range : aimAt aim < 17) where
         abbrev Here : Past → Type 0
         Here after =
             Written (w .local) es (nodesOf nodes) (w .policy) (watching (w .resource)) n (e .opened) j names m c (e .state) past aim after
@@ -197,7 +213,7 @@ module _ (w : Watch) (rows nodes t : List ℕ) (e : Entry) where
           → trace′ ≡ storedStep trace (s .at) 0 d i → Wrote r′ trace′
       unfolding offerOf
       wrote-static d i form r′ er trace′ et es m c aim names t₀ past ready tells h named agree spotted same room =
-          let v = arrive n j r (on-static d i) few-nodes on form ready tells in
+          let v = arrive n j r (on-static d i) few-nodes on form ready tells few h in
           let u = event-inv (at-node c m aim j) n few (moved rows (at-node c m aim j) (eqb i (w .resource))) r (v .gives) in
           let z = event-steps (moved rows (at-node c m aim j) (eqb i (w .resource))) (at-node c m aim j) u in (
             event d i ∷ past,
@@ -213,7 +229,7 @@ module _ (w : Watch) (rows nodes t : List ℕ) (e : Entry) where
           → trace′ ≡ storedStep trace (s .at) 0 d (getD (g .numbers) i 0) → Wrote r′ trace′
       unfolding offerOf
       wrote-name d i form r′ er trace′ et es m c aim names t₀ past ready tells h named agree spotted same room =
-          let v = arrive n j r (on-name d i) few-nodes on form ready tells in
+          let v = arrive n j r (on-name d i) few-nodes on form ready tells few h in
           let u = event-inv (at-node c m aim j) n few (moved rows (at-node c m aim j) (eqb (meaningOf m c) (suc i))) r (v .gives) in
           let z = event-steps (moved rows (at-node c m aim j) (eqb (meaningOf m c) (suc i))) (at-node c m aim j) u in
           let (x, nm) = passes-names ready (v .passes) named i (scoped (nodesOf nodes) (ready .source .outline) .used (v .is)) in (

@@ -10,11 +10,12 @@ use lib.ListN.{length, set, getD}
 use Rattle.usage.specs.Limits.{mostNodes, states, nodeFields, stepFields, mostShown, statics}
 use Rattle.usage.specs.Outline.{Form, end, on-static, on-name, sequence, choice, loop, back, fresh, sandbox, noNames}
 use Rattle.automaton.specs.Mask.{has}
-use Rattle.checker_tables.specs.Search.{touched}
+use Rattle.checker_tables.specs.Search.{touched, hasRoom, Arrived, ArrivesIf}
+use mathlib.Core.Logic.{_⊎_}
 use Rattle.checker_lengths.specs.declared.Entry.{Entry}
 use Rattle.checker_lengths.specs.declared.Watch.{Watch}
 use Rattle.checker_lengths.specs.Entries.{atBreak, entryOf, held, allLengths, noLength}
-use Rattle.checker_lengths.specs.Offers.{atNode, lowEnd, offerFrom, waysOf}
+use Rattle.checker_lengths.specs.Offers.{atNode, lowEnd, secondEntry, offerFrom, waysOf}
 use Rattle.checker_lengths.specs.Rounds.{formHere, Full}
 use Rattle.checker_trace.specs.declared.Onto.{Onto}
 use Rattle.checker_trace.specs.declared.Onto.the-variants.{By, Nothing}
@@ -29,7 +30,7 @@ use Rattle.usage.specs.Valid.{Scope}
 use Rattle.usage.specs.Tables.{nodesOf}
 use Rattle.checker_account.specs.Witness.{Aim, watched, broken}
 use Rattle.checker_account.specs.Single.{noName, watching}
-use Rattle.checker_account.specs.Least.{Begun, Aimed, Least}
+use Rattle.checker_account.specs.Least.{Begun, ComeTo, Aimed, Least}
 use Rattle.checker_lengths.specs.Held.{aimAt, meaningOf, entriesIn, Source, watchOf}
 use Rattle.checker_account.specs.Tables.{least}
 use Rattle.checker_trace.specs.declared.Shortest.{Shortest}
@@ -44,6 +45,11 @@ endIn e k = entryOf k (e .opened) (e .meaning) (e .state) (lowEnd (e .meaning) +
 unfoldable pub idleIn : List ℕ → Entry → ℕ → Bool
 idleIn t e k = eqb (held t 1 (endIn e k)) 0
 
+-- node k can end with no step where the entry's node is to end: asked at the start that its aim is, which is come to if the node before k
+-- comes to the aim
+unfoldable pub idleAfter : List ℕ → Entry → ℕ → Bool
+idleAfter t e k = eqb (held t 1 (secondEntry e k (e .aim))) 0
+
 -- sets of nodes, as bit masks
 
 unfoldable pub bitOf : ℕ → ℕ
@@ -53,7 +59,7 @@ abbrev pub bitIf : Bool → ℕ → ℕ
 bitIf b k = cond b (bitOf k) 0
 
 unfoldable pub sequenceLeads : List ℕ → Entry → ℕ → ℕ → ℕ
-sequenceLeads t e a b = bitOr (bitIf (eqb (e .aim) atBreak || idleIn t e b) a) (bitIf (idleIn t e a) b)
+sequenceLeads t e a b = bitOr (bitIf (eqb (e .aim) atBreak || idleAfter t e b) a) (bitIf (idleIn t e a) b)
 
 -- the nodes that a node of this form leads to
 unfoldable pub leadsOf : List ℕ → Entry → Form → ℕ
@@ -128,16 +134,21 @@ pub record Spotted (past : Past) (s : Spot) : Type 0 where
 
 -- ── What is written for an entry of a full table: a part of a run that comes to the aim in its number of steps ──
 
--- the table is full, for these edges
+-- the starts that some run comes to
+abbrev pub Coming : Watch → List Edge → List ℕ → Bool → ℕ → ℕ → Bool → ℕ → Type 0
+Coming w es nodes = ComeTo (w .local) es (nodesOf nodes) (w .policy) (watching (w .resource))
+
+-- the table is full at them, for these edges
 pub record Ready (w : Watch) (es : List Edge) (rows nodes t : List ℕ) : Type 0 where
   pub source : Source es (nodesOf nodes) (w .policy) (w .resource) rows
-  pub least : Least (w .local) es (nodesOf nodes) (w .policy) (watching (w .resource)) mostShown (entriesIn t allLengths)
+  pub least : Least (w .local) es (nodesOf nodes) (w .policy) (watching (w .resource)) (Coming w es nodes) mostShown (entriesIn t allLengths)
 
--- what an entry's numbers say: name n means the watched resource, c tells whether it was created, and the aim
-pub record Tells (x : ℕ) (e : Entry) (n : ℕ) (c : Bool) (aim : Aim Bool) : Type 0 where
+-- what an entry's numbers say: name n means the watched resource, c tells whether it was created, and the aim; and some run comes to it
+pub record Tells (w : Watch) (es : List Edge) (nodes : List ℕ) (e : Entry) (n : ℕ) (c : Bool) (aim : Aim Bool) : Type 0 where
   pub meaning : e .meaning ≡ meaningOf n c
   pub number : e .aim ≡ aimAt aim
-  pub begun : Begun (watching x) n c (e .state)
+  pub come : Coming w es nodes (e .opened) (e .node) n c (e .state)
+  pub begun : Begun (watching (w .resource)) n c (e .state)
   pub aimed : Aimed aim
 
 -- each name in scope at node k means something; and the code's numbers are what names mean
@@ -156,7 +167,7 @@ pub record WithinSteps (s : Spot) (n : ℕ) (r : Spot) : Type 0 where
 abbrev pub Writes : Watch → List ℕ → List ℕ → List ℕ → Entry → ℕ → Names → Spot → List ℕ → Spot → List ℕ → Type 0
 Writes w rows nodes t e n g s trace r trace′ =
     (es : List Edge) (m : ℕ) (c : Bool) (aim : Aim Bool) (names : outline.Names) (t₀ : List ℕ) (past : Past)
-    → Ready w es rows nodes t → Tells (w .resource) e m c aim
+    → Ready w es rows nodes t → Tells w es nodes e m c aim
     → held t allLengths e ≡ n → NamesAt (nodesOf nodes) (e .node) names → Agree names g → Spotted past s → trace ≡ laid t₀ past
     → stepFields * (length past + n) ≤ length t₀
     → (after : Past) × Written (w .local) es (nodesOf nodes) (w .policy) (watching (w .resource)) n (e .opened) (e .node) names m c
@@ -172,18 +183,32 @@ Chosen w rows nodes t e n f c = (k : ℕ) × OntoIs w rows nodes t e n (By k c) 
 abbrev pub rootOf : ℕ → Entry
 rootOf x = entryOf 0 false (least x) 0 atBreak
 
--- the least length with one resource watched, by a full table; and of all watched resources
+-- t is the table of one watched resource; and the search for it hits nothing
+abbrev pub TableOf : Watch → List ℕ → List ℕ → List ℕ → Type 0
+TableOf w rows nodes t = (u : List ℕ) × Arrived nodes (w .local) rows (w .policy) (w .resource) u × Full w rows nodes u t
+
+abbrev pub NeverHits : Watch → List ℕ → List ℕ → Type 0
+NeverHits w rows nodes = (u : List ℕ) × ArrivesIf (hasRoom nodes) nodes (w .local) rows (w .policy) (w .resource) u false
+
+abbrev pub TableIf : Bool → Watch → List ℕ → List ℕ → List ℕ → Type 0
+TableIf true w rows nodes t = TableOf w rows nodes t
+TableIf false w rows nodes t = NeverHits w rows nodes
+
+-- the least length with one resource watched, by such a table
 abbrev pub StepsIs : Watch → List ℕ → List ℕ → ℕ → Type 0
-StepsIs w rows nodes r = (t : List ℕ) × Full w rows nodes t × (r ≡ held t allLengths (rootOf (w .resource)))
+StepsIs w rows nodes r = (t : List ℕ) × TableOf w rows nodes t × (r ≡ held t allLengths (rootOf (w .resource)))
 
--- the same where it is asked for, and else no length
-abbrev pub StepsIf : Bool → Watch → List ℕ → List ℕ → ℕ → Type 0
-StepsIf true w rows nodes r = StepsIs w rows nodes r
-StepsIf false w rows nodes r = r ≡ noLength
+-- no length, where the resource need not be watched or is not hit; and else the least
+pub data Sought (w : Watch) (rows nodes : List ℕ) : ℕ → Type 0 where
+  not-touched : touched nodes (w .resource) ≡ false → Sought w rows nodes noLength
+  not-hit : NeverHits w rows nodes → Sought w rows nodes noLength
+  sought : {v : ℕ} → StepsIs w rows nodes v → Sought w rows nodes v
 
+-- of all watched resources
 pub record ShortestIs (local : Bool) (p : ℕ) (rows nodes : List ℕ) (r : Shortest) : Type 0 where
   pub told : r .length < noLength → (r .resource ≤ watched) × StepsIs (watchOf local p (r .resource)) rows nodes (r .length)
-  pub least : (x : ℕ) → x ≤ watched → touched nodes x ≡ true → (v : ℕ) × StepsIs (watchOf local p x) rows nodes v × (r .length ≤ v)
+  pub least : (x : ℕ) → x ≤ watched → touched nodes x ≡ true
+      → NeverHits (watchOf local p x) rows nodes ⊎ ((v : ℕ) × StepsIs (watchOf local p x) rows nodes v × (r .length ≤ v))
 
 -- what is written where n is that length
 abbrev pub Shows : Watch → List ℕ → List ℕ → ℕ → List ℕ → List ℕ → Type 0

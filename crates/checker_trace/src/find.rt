@@ -7,7 +7,7 @@ ghost use Rattle.usage.specs.Limits.{mostNodes, nodeFields};
 ghost use Rattle.usage.specs.Outline.{formOf};
 ghost use Rattle.automaton.specs.Mask.{has};
 ghost use Rattle.checker_lengths.specs.Offers.{atNode};
-ghost use Rattle.checker_trace.specs.Code.{idleIn, bitOf, bitIf, sequenceLeads, leadsFrom, spreadTo, Closure, RuleIs, OntoIs};
+ghost use Rattle.checker_trace.specs.Code.{idleIn, idleAfter, bitOf, bitIf, sequenceLeads, leadsFrom, spreadTo, Closure, RuleIs, OntoIs};
 use crate::Onto;
 use checker_account::Table;
 use checker_lengths::BROKEN;
@@ -31,6 +31,13 @@ fn idle(t: &Lengths, e: Entry, k: u8) -> bool
         aim: checker_lengths::offers::low_end(e.meaning) + e.state % STATES,
     };
     checker_lengths::entries::get(t, 1, same) == 0
+}
+
+// Can node k end with no step, from where the entry's node is to end?
+fn idle_after(t: &Lengths, e: Entry, k: u8) -> bool
+    ensures { λ r. ⌜ r ≡ idleAfter (now (t .entry)) e k ⌝ }
+{
+    checker_lengths::entries::get(t, 1, checker_lengths::offers::second(e, k, e.aim)) == 0
 }
 
 // The same start and aim at node k.
@@ -76,7 +83,11 @@ fn has(s: u64, k: usize) -> bool
 fn sequence(t: &Lengths, e: Entry, a: u8, b: u8) -> u64
     ensures { λ r. ⌜ r ≡ sequenceLeads (now (t .entry)) e a b ⌝ }
 {
-    let first = if e.aim == BROKEN { true } else { idle(t, e, b) };
+    let first = if e.aim == BROKEN {
+        true
+    } else {
+        idle_after(t, e, b)
+    };
     bit_if(first, a) | bit_if(idle(t, e, a), b)
 }
 

@@ -1,13 +1,14 @@
 // A shortest trace that leaves a policy open and not respected, a counterexample to the outline, read from tables of least lengths.
 // find: where to go on from an entry. write: the steps.
 ghost use mathlib.Core.Path.{_≡_};
-ghost use mathlib.Core.Bool.{Bool};
+ghost use mathlib.Core.Bool.{Bool, true, false};
 ghost use Prim.Native.Nat.{ℕ, _/_, _<_, _≤_};
 ghost use lib.ListN.{length};
 ghost use Rattle.usage.specs.Limits.{mostNodes, nodeFields, mostShown};
-ghost use Rattle.checker_tables.specs.Search.{touched};
 ghost use Rattle.checker_trace.specs.Answer.{mostNumbers, Told};
-ghost use Rattle.checker_trace.specs.Code.{rootOf, StepsIf, ShortestIs, Shows};
+ghost use Rattle.checker_trace.specs.Code.{rootOf, TableOf, TableIf, Sought, ShortestIs, Shows};
+ghost use Rattle.checker_lengths.specs.Entries.{noLength};
+ghost use Rattle.checker_lengths.specs.Held.{watchOf};
 use checker_account::NAMES;
 use checker_account::PLACES;
 use checker_account::Table;
@@ -15,6 +16,7 @@ use checker_account::WATCHED;
 use checker_lengths::ALL;
 use checker_lengths::BROKEN;
 use checker_lengths::Entry;
+use checker_lengths::Lengths;
 use checker_lengths::MOST;
 use checker_lengths::NONE;
 use checker_lengths::SIZE;
@@ -37,10 +39,17 @@ pub enum Length {
     Refused(u8),
 }
 
-// The watched resource with the least length, and that length; 255 where there is none.
+// The watched resource with the least length, and that length, 255 where there is none; and whether the table is still its own.
 pub struct Shortest {
     pub resource: usize,
     pub length: u8,
+    pub kept: bool,
+}
+
+// The least length with one resource watched, 255 where there is none, and whether the table was filled for it.
+pub struct Found {
+    pub length: u8,
+    pub filled: bool,
 }
 
 // Where to go on: by a rule of a node, or nowhere.
@@ -73,26 +82,53 @@ fn root(x: usize) -> Entry
     }
 }
 
-// The least length with one resource watched; none where it need not be.
-fn steps(nodes: &[u8], rows: &Table, w: Watch) -> u8
-    requires { ⌜ length (now nodes) / nodeFields ≤ mostNodes ⌝ }
-    ensures { λ r. ⌜ StepsIf (touched (now (nodes .entry)) (w .resource)) w (now (rows .entry)) (now (nodes .entry)) r ⌝ }
+// The table for one watched resource, where the search hits. Does it?
+fn table(nodes: &[u8], rows: &Table, w: Watch, t: &mut Lengths) -> bool
+    ensures { λ r. ⌜ TableIf r w (now (rows .entry)) (now (nodes .entry)) (now (t .exit)) ⌝ }
+    ensures { λ r. ⌜ (r ≡ false → now (t .exit) ≡ now (t .entry)) ⌝ }
+{
+    let mut u = [0u16; PLACES];
+    if !checker_tables::arrive(nodes, rows, w.local, w.policy, w.resource, &mut u) {
+        return false;
+    }
+    checker_lengths::fill::fill(nodes, rows, &u, w, t);
+    true
+}
+
+// The least length with one resource watched; none where it need not be or is not hit.
+fn steps(nodes: &[u8], rows: &Table, w: Watch, t: &mut Lengths) -> Found
+    ensures { λ r. ⌜ Sought w (now (rows .entry)) (now (nodes .entry)) (r .length) ⌝ }
+    ensures { λ r. ⌜ (r .filled ≡ false → now (t .exit) ≡ now (t .entry)) ⌝ }
+    ensures { λ r. ⌜ (r .length < noLength → TableOf w (now (rows .entry)) (now (nodes .entry)) (now (t .exit))) ⌝ }
 {
     if !checker_tables::touched(nodes, w.resource) {
-        return NONE;
+        return Found {
+            length: NONE,
+            filled: false,
+        };
     }
-    let mut t = [NONE; SIZE];
-    checker_lengths::fill::fill(nodes, rows, w, &mut t);
-    checker_lengths::entries::get(&t, ALL, root(w.resource))
+    if !table(nodes, rows, w, t) {
+        return Found {
+            length: NONE,
+            filled: false,
+        };
+    }
+    let length = checker_lengths::entries::get(t, ALL, root(w.resource));
+    Found {
+        length,
+        filled: true,
+    }
 }
 
 // The least of all watched resources.
-fn least(nodes: &[u8], rows: &Table, local: bool, p: usize) -> Shortest
-    requires { ⌜ length (now nodes) / nodeFields ≤ mostNodes ⌝ }
+fn least(nodes: &[u8], rows: &Table, local: bool, p: usize, t: &mut Lengths) -> Shortest
     ensures { λ r. ⌜ ShortestIs local p (now (rows .entry)) (now (nodes .entry)) r ⌝ }
+    ensures { λ r. ⌜ (r .kept ≡ true
+        → TableOf (watchOf local p (r .resource)) (now (rows .entry)) (now (nodes .entry)) (now (t .exit))) ⌝ }
 {
     let mut resource: usize = 0;
     let mut length: u8 = NONE;
+    let mut kept = false;
     let mut x: usize = 0;
     while x <= WATCHED {
         let w = Watch {
@@ -100,26 +136,46 @@ fn least(nodes: &[u8], rows: &Table, local: bool, p: usize) -> Shortest
             policy: p,
             resource: x,
         };
-        let v = steps(nodes, rows, w);
-        if v < length {
+        let v = steps(nodes, rows, w, t);
+        if v.length < length {
             resource = x;
-            length = v;
+            length = v.length;
+            kept = true;
+        } else {
+            kept = kept & !v.filled;
         }
         x += 1;
     }
-    Shortest { resource, length }
+    Shortest {
+        resource,
+        length,
+        kept,
+    }
 }
 
-// The trace of n steps.
-fn show(nodes: &[u8], rows: &Table, w: Watch, n: u8, trace: &mut [u32])
+// The table for one watched resource, where it is not that already.
+fn again(nodes: &[u8], rows: &Table, w: Watch, kept: bool, t: &mut Lengths) -> bool
+    requires { ⌜ (kept ≡ true → TableOf w (now rows) (now nodes) (now t)) ⌝ }
+    ensures { λ r. ⌜ TableIf r w (now (rows .entry)) (now (nodes .entry)) (now (t .exit)) ⌝ }
+{
+    if kept {
+        return true;
+    }
+    table(nodes, rows, w, t)
+}
+
+// The trace of n steps. `kept`: the table is that of the watched resource.
+fn show(nodes: &[u8], rows: &Table, w: Watch, n: u8, kept: bool, t: &mut Lengths, trace: &mut [u32])
     requires { ⌜ length (now nodes) / nodeFields ≤ mostNodes ⌝ }
     requires { ⌜ n ≤ mostShown ⌝ }
+    requires { ⌜ (kept ≡ true → TableOf w (now rows) (now nodes) (now t)) ⌝ }
     requires { ⌜ mostNumbers ≤ length (now trace) ⌝ }
     ensures { λ r. ⌜ length (now (trace .exit)) ≡ length (now (trace .entry)) ⌝ }
     ensures { λ r. ⌜ Shows w (now (rows .entry)) (now (nodes .entry)) n (now (trace .entry)) (now (trace .exit)) ⌝ }
 {
-    let mut t = [NONE; SIZE];
-    checker_lengths::fill::fill(nodes, rows, w, &mut t);
+    if !again(nodes, rows, w, kept, t) {
+        return;
+    }
     let none = Names {
         numbers: [0u32; NAMES],
     };
@@ -127,7 +183,7 @@ fn show(nodes: &[u8], rows: &Table, w: Watch, n: u8, trace: &mut [u32])
         at: 0,
         next: STATICS,
     };
-    write::write(&t, nodes, rows, w, trace, root(w.resource), n, none, start);
+    write::write(t, nodes, rows, w, trace, root(w.resource), n, none, start);
 }
 
 // A shortest trace of the outline that leaves policy p open and not respected, written into the lent table, three numbers to a step;
@@ -155,7 +211,8 @@ pub fn counterexample(
     }
     let mut rows = [0u16; PLACES];
     checker_tables::rows::fill(edges, nodes, p, &mut rows);
-    let found = least(nodes, &rows, local, p);
+    let mut t = [NONE; SIZE];
+    let found = least(nodes, &rows, local, p, &mut t);
     let n = found.length;
     if MOST < n {
         return Length::Longer;
@@ -165,6 +222,6 @@ pub fn counterexample(
         policy: p,
         resource: found.resource,
     };
-    show(nodes, &rows, w, n, trace);
+    show(nodes, &rows, w, n, found.kept, &mut t, trace);
     Length::Of(n)
 }

@@ -1,4 +1,3 @@
-use mathlib.Core.Path.{refl}
 use Rattle.checker_tables.proofs.found.Statement.{statement}
 use Rattle.checker_tables.proofs.found.Tie as tie
 use Rattle.checker_tables.proofs.found.Reads as reads
@@ -7,15 +6,13 @@ use Rattle.checker_tables.proofs.arrivals.fill.Reads as fill-reads
 use Rattle.checker_tables.proofs.hits.any.Reads as any-reads
 
 fill-requires : tie.Need-fill-requires
-fill-requires c κs = let p = c .before .before .pre in (p .0, (p .1, refl))
+fill-requires c κs = c .before .before .pre
 
 any-requires : tie.Need-any-requires
-any-requires c κs = c .before .before .before .before .pre
+any-requires c κs = let p = c .before .before .before .before .pre in (p .0, p .1 .0)
 
 returns : tie.Need-returns
-returns c =
-    let f = c .before .before .fill in
-    record { comes = f .last .1 .1 .1 .1 .1 .1 .1 .0; comes-filled = f .ensures; told = c .any .ensures }
+returns c = record { comes-filled = c .before .before .fill .ensures; told = c .any .ensures }
 
 pub found-spec : {M : Type 1} → statement M
 found-spec = tie.close (tie.spec fill-requires any-requires returns)

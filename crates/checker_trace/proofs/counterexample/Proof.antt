@@ -27,32 +27,26 @@ use Rattle.checker_trace.proofs.show.Reads as show-reads
 use Rattle.sheet_fields.proofs.edges.edge_table_ok.Reads as edge-table-ok-reads
 use Rattle.sheet_rules.proofs.node_table_ok.Reads as node-table-ok-reads
 
--- src/lib.rt:125:9
 returns : tie.Need-returns
 returns c = too-small (c .if1 .taken)
 
--- src/lib.rt:127:9
 edge-table-ok-requires : tie.Need-edge-table-ok-requires
 edge-table-ok-requires c κs = search needs
 
--- src/lib.rt:128:9
 returns-2 : tie.Need-returns-2
 returns-2 c = let a = c .before .before .before .before .before .before .args in
     no-table (c .before .before .if1 .left) (inl (refutes (decides-edge-table (a .edges .now))
     (sym (c .before .edge-table-ok .ensures) ∙ not-true (c .before .edge-table-ok .result) (c .if2 .taken))))
 
--- src/lib.rt:130:9
 node-table-ok-requires : tie.Need-node-table-ok-requires
 node-table-ok-requires c κs = search needs
 
--- src/lib.rt:131:9
 returns-3 : tie.Need-returns-3
 returns-3 c = let a = c .before .before .before .before .before .before .before .before .args in
     no-table (c .before .before .before .before .if1 .left)
     (inr (refutes (decides-node-table (a .nodes .now))
     (sym (c .before .node-table-ok .ensures) ∙ not-true (c .before .node-table-ok .result) (c .if3 .taken))))
 
--- src/lib.rt:134:9
 returns-4 : tie.Need-returns-4
 returns-4 c = let a = c .before .before .before .before .before .before .before .before .before .args in
     let et = decides-edge-table (a .edges .now) .0
@@ -63,115 +57,91 @@ returns-4 c = let a = c .before .before .before .before .before .before .before 
     longer (c .before .before .before .before .before .if1 .left) et nt
     (laws.no-policy-shown (a .local) (edgesOf (a .edges .now)) (et .edges) (a .p) (c .if4 .taken) (a .nodes .now))
 
--- src/lib.rt:137:5
 fill-requires : tie.Need-fill-requires
 fill-requires c κs = search needs
 
--- src/lib.rt:138:9
 least-requires : tie.Need-least-requires
-least-requires c κs = let a = c .before .before .before .before .before .before .before .before .before .before .before .before .args in
-    let et = decides-edge-table (a .edges .now) .0
-    (sym (c .before .before .before .before .before .before .before .edge-table-ok .ensures)
-    ∙ not-false (c .before .before .before .before .before .before .before .edge-table-ok .result)
-    (c .before .before .before .before .before .before .if2 .left)) in
-    let nt = decides-node-table (a .nodes .now) .0
-    (sym (c .before .before .before .before .before .node-table-ok .ensures)
-    ∙ not-false (c .before .before .before .before .before .node-table-ok .result) (c .before .before .before .before .if3 .left)) in
-    let rows = c .before .fill .last .1 .1 .1 .0 in
-    let src = laws.source-of (a .edges .now) (a .nodes .now) (et .edges) (nt .outline) (a .p) (c .before .before .before .if4 .left) rows
-    (c .before .fill .ensures) in
-    let few-nodes = laws.few-nodes (a .edges .now) (a .nodes .now) (et .edges) (nt .outline) (a .p)
-    (c .before .before .before .if4 .left) rows (c .before .fill .ensures) in
-    few-nodes
+least-requires c κs = search needs
 
--- src/lib.rt:141:9
 returns-5 : tie.Need-returns-5
 returns-5 c = let a =
-    c .before .before .before .before .before .before .before .before .before .before .before .before .before .before .args in
+    c .before .before .before .before .before .before .before .before .before .before .before .before .before .before .before .args in
     let et = decides-edge-table (a .edges .now) .0
-    (sym (c .before .before .before .before .before .before .before .before .before .edge-table-ok .ensures)
-    ∙ not-false (c .before .before .before .before .before .before .before .before .before .edge-table-ok .result)
-    (c .before .before .before .before .before .before .before .before .if2 .left)) in
+    (sym (c .before .before .before .before .before .before .before .before .before .before .edge-table-ok .ensures)
+    ∙ not-false (c .before .before .before .before .before .before .before .before .before .before .edge-table-ok .result)
+    (c .before .before .before .before .before .before .before .before .before .if2 .left)) in
     let nt = decides-node-table (a .nodes .now) .0
-    (sym (c .before .before .before .before .before .before .before .node-table-ok .ensures)
-    ∙ not-false (c .before .before .before .before .before .before .before .node-table-ok .result)
-    (c .before .before .before .before .before .before .if3 .left)) in
-    let rows = c .before .before .before .fill .last .1 .1 .1 .0 in
+    (sym (c .before .before .before .before .before .before .before .before .node-table-ok .ensures)
+    ∙ not-false (c .before .before .before .before .before .before .before .before .node-table-ok .result)
+    (c .before .before .before .before .before .before .before .if3 .left)) in
+    let rows = c .before .before .before .before .fill .last .1 .1 .1 .0 in
     let src = laws.source-of (a .edges .now) (a .nodes .now) (et .edges) (nt .outline) (a .p)
-    (c .before .before .before .before .before .if4 .left) rows (c .before .before .before .fill .ensures) in
+    (c .before .before .before .before .before .before .if4 .left) rows (c .before .before .before .before .fill .ensures) in
     let few-nodes = laws.few-nodes (a .edges .now) (a .nodes .now) (et .edges) (nt .outline) (a .p)
-    (c .before .before .before .before .before .if4 .left) rows (c .before .before .before .fill .ensures) in
-    longer (c .before .before .before .before .before .before .before .before .before .before .if1 .left) et nt
+    (c .before .before .before .before .before .before .if4 .left) rows (c .before .before .before .before .fill .ensures) in
+    longer (c .before .before .before .before .before .before .before .before .before .before .before .if1 .left) et nt
     (laws.shown-none (a .local) (edgesOf (a .edges .now)) (a .nodes .now) (a .p) rows src (c .before .least .result)
-    (c .before .least .ensures) (no-pair (et .edges) (a .p)) (et .edges) (nt .outline) (c .if5 .taken))
+    (c .before .least .ensures .0) (no-pair (et .edges) (a .p)) (et .edges) (nt .outline) (c .if5 .taken))
 
--- src/lib.rt:148:5
 show-requires : tie.Need-show-requires
 show-requires c κs = let a =
-    c .before .before .before .before .before .before .before .before .before
-    .before .before .before .before .before .before .before .args in
+    c .before .before .before .before .before .before .before .before .before .before .before .before .before .before .before .before .before .before .args in
     let et = decides-edge-table (a .edges .now) .0
-    (sym (c .before .before .before .before .before .before .before .before .before .before .before .edge-table-ok .ensures)
-    ∙ not-false (c .before .before .before .before .before .before .before .before .before .before .before .edge-table-ok .result)
-    (c .before .before .before .before .before .before .before .before .before .before .if2 .left)) in
+    (sym (c .before .before .before .before .before .before .before .before .before .before .before .before .before .edge-table-ok .ensures)
+    ∙ not-false (c .before .before .before .before .before .before .before .before .before .before .before .before .before .edge-table-ok .result)
+    (c .before .before .before .before .before .before .before .before .before .before .before .before .if2 .left)) in
     let nt = decides-node-table (a .nodes .now) .0
-    (sym (c .before .before .before .before .before .before .before .before .before .node-table-ok .ensures)
-    ∙ not-false (c .before .before .before .before .before .before .before .before .before .node-table-ok .result)
-    (c .before .before .before .before .before .before .before .before .if3 .left)) in
-    let rows = c .before .before .before .before .before .fill .last .1 .1 .1 .0 in
+    (sym (c .before .before .before .before .before .before .before .before .before .before .before .node-table-ok .ensures)
+    ∙ not-false (c .before .before .before .before .before .before .before .before .before .before .before .node-table-ok .result)
+    (c .before .before .before .before .before .before .before .before .before .before .if3 .left)) in
+    let rows = c .before .before .before .before .before .before .before .fill .last .1 .1 .1 .0 in
     let src = laws.source-of (a .edges .now) (a .nodes .now) (et .edges) (nt .outline) (a .p)
-    (c .before .before .before .before .before .before .before .if4 .left) rows
-    (c .before .before .before .before .before .fill .ensures) in
+    (c .before .before .before .before .before .before .before .before .before .if4 .left) rows
+    (c .before .before .before .before .before .before .before .fill .ensures) in
     let few-nodes = laws.few-nodes (a .edges .now) (a .nodes .now) (et .edges) (nt .outline) (a .p)
-    (c .before .before .before .before .before .before .before .if4 .left) rows
-    (c .before .before .before .before .before .fill .ensures) in (
+    (c .before .before .before .before .before .before .before .before .before .if4 .left) rows
+    (c .before .before .before .before .before .before .before .fill .ensures) in (
       few-nodes,
       (
-        c .before .before .if5 .left,
-        c .before .before .before .before .before .before .before .before .before .before .before .before .if1 .left,
+        c .before .before .before .if5 .left,
+        (c .before .before .before .before .least .ensures .1, c .before .before .before .before .before .before .before .before .before .before .before .before .before .before .if1 .left),
       ),
     )
 
--- src/lib.rt:121:1
 same-length : tie.Need-same-length
 same-length c = c .before .before .show .ensures .0
 
--- src/lib.rt:121:1
 returns-6 : tie.Need-returns-6
 returns-6 c = let a =
-    c .before .before .before .before .before .before .before .before .before .before
-    .before .before .before .before .before .before .before .before .before .args in
+    c .before .before .before .before .before .before .before .before .before .before .before .before .before .before .before .before .before .before .before .before .before .args in
     let et = decides-edge-table (a .edges .now) .0
-    (sym (c .before .before .before .before .before .before .before .before .before .before .before .before .before .before .edge-table-ok
+    (sym (c .before .before .before .before .before .before .before .before .before .before .before .before .before .before .before .before .edge-table-ok
     .ensures) ∙ not-false
-    (c .before .before .before .before .before .before .before .before .before .before .before .before .before .before
-    .edge-table-ok .result) (c .before .before .before .before .before .before
-    .before .before .before .before .before .before .before .if2 .left)) in
+    (c .before .before .before .before .before .before .before .before .before .before .before .before .before .before .before .before
+    .edge-table-ok .result) (c .before .before .before .before .before .before .before .before .before .before .before .before .before .before .before .if2 .left)) in
     let nt = decides-node-table (a .nodes .now) .0
-    (sym (c .before .before .before .before .before .before .before .before .before .before .before .before .node-table-ok .ensures)
-    ∙ not-false (c .before .before .before .before .before .before .before .before .before .before .before .before .node-table-ok .result)
-    (c .before .before .before .before .before .before .before .before .before .before .before .if3 .left)) in
-    let rows = c .before .before .before .before .before .before .before .before .fill .last .1 .1 .1 .0 in
+    (sym (c .before .before .before .before .before .before .before .before .before .before .before .before .before .before .node-table-ok .ensures)
+    ∙ not-false (c .before .before .before .before .before .before .before .before .before .before .before .before .before .before .node-table-ok .result)
+    (c .before .before .before .before .before .before .before .before .before .before .before .before .before .if3 .left)) in
+    let rows = c .before .before .before .before .before .before .before .before .before .before .fill .last .1 .1 .1 .0 in
     let src = laws.source-of (a .edges .now) (a .nodes .now) (et .edges) (nt .outline) (a .p)
-    (c .before .before .before .before .before .before .before .before .before .before .if4 .left) rows
-    (c .before .before .before .before .before .before .before .before .fill .ensures) in
+    (c .before .before .before .before .before .before .before .before .before .before .before .before .if4 .left) rows
+    (c .before .before .before .before .before .before .before .before .before .before .fill .ensures) in
     let few-nodes = laws.few-nodes (a .edges .now) (a .nodes .now) (et .edges) (nt .outline) (a .p)
-    (c .before .before .before .before .before .before .before .before .before .before .if4 .left) rows
-    (c .before .before .before .before .before .before .before .before .fill .ensures) in
-    let r = c .before .before .before .before .before .before .least .result in
-    let few = c .before .before .before .before .before .if5 .left in
-    let (small, steps) = c .before .before .before .before .before .before .least .ensures .told (omega arith) in
+    (c .before .before .before .before .before .before .before .before .before .before .before .before .if4 .left) rows
+    (c .before .before .before .before .before .before .before .before .before .before .fill .ensures) in
+    let r = c .before .before .before .before .before .before .before .least .result in
+    let few = c .before .before .before .before .before .before .if5 .left in
+    let (small, steps) = c .before .before .before .before .before .before .before .least .ensures .0 .told (omega arith) in
     let es = edgesOf (a .edges .now) in
     let (after, run, same) = c .before .before .show .ensures .1 es (src (r .resource) small) steps in
     let shown = laws.shown-some (a .local) es (a .nodes .now) (a .p) rows src r
-    (c .before .before .before .before .before .before .least .ensures) (no-pair (et .edges) (a .p)) (r .resource) small (et .edges)
-    (nt .outline) few after run in
+    (c .before .before .before .before .before .before .before .least .ensures .0) (no-pair (et .edges) (a .p)) (r .resource) small (et .edges) (nt .outline) few after run in
     let long = written-length (a .local) es (nodesOf (a .nodes .now)) (a .p) (watching (r .resource)) run in
     let n : length after ≡ r .length = long ∙ omega arith in
     subst (λ (u : List ℕ). Told (a .local) (a .edges .now) (a .nodes .now) (a .p) (a .trace .now) (Of (r .length)) u) (sym same)
     (subst (λ (i : ℕ). Told (a .local) (a .edges .now) (a .nodes .now) (a .p) (a .trace .now) (Of i) (laid (a .trace .now) after)) n
-    (this-long (c .before .before .before .before .before .before .before .before
-    .before .before .before .before .before .before .before .if1 .left) et nt shown))
+    (this-long (c .before .before .before .before .before .before .before .before .before .before .before .before .before .before .before .before .before .if1 .left) et nt shown))
 
 pub counterexample-spec : {M : Type 1} → statement M
 counterexample-spec =

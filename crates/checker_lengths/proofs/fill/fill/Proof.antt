@@ -1,81 +1,258 @@
 use denote.Ref.{now}
-use mathlib.Core.Path.{subst}
+use mathlib.Core.Path.{_≡_, refl, sym, ap₂, subst}
+use mathlib.Core.Bool.{Bool, true, false}
 use mathlib.Core.List.{List}
-use Rattle.usage.specs.Limits.{mostNodes, nodeFields}
-use Rattle.usage.proofs.Logic.{not-true}
-use Rattle.checker_lengths.specs.Rounds.{RoundSettled}
-use mathlib.Core.Bool.{Bool}
-use Prim.Native.Nat.{_/_}
-use lib.ListN.{replicate, length-replicate}
-use borrow.Author.Tests.{lt-leb, le-leb}
-use Rattle.usage.proofs.Logic.{not-false}
-use Rattle.checker_account.specs.Tables.{least}
-use Rattle.checker_account.specs.Rounds.{total}
-use Rattle.checker_account.proofs.Starts.{least-le}
-use Rattle.checker_lengths.specs.Rounds.{Reach, start, FullIf}
 use native.Mathlib.Omega.{arith}
-use mathlib.Core.Path.{_≡_, refl, sym, _∙_}
-use Prim.Native.Nat.{ℕ}
-use lib.ListN.{length}
+use lib.Bits.{bitOr}
+use lib.Pow.{pow-mono}
+use lib.ListN.{length, getD}
+use Prim.Native.Nat.{ℕ, suc, _-_, _*_, _/_, _%_, _^_, _<_, _≤_}
+use Rattle.usage.specs.declared.Node.{Node}
+use Rattle.usage.specs.Limits.{mostNodes, nodeFields}
+use Rattle.usage.specs.Outline.{formOf}
+use Rattle.checker_account.specs.Tables.{meanings, least}
+use Rattle.checker_account.specs.Rounds.{formsIn}
+use Rattle.checker_account.proofs.Starts.{least-le}
+use Rattle.checker_tables.specs.Search.{NodesFit}
+use Rattle.checker_tables.specs.Work.{readersOf}
+use Rattle.checker_tables.proofs.WorkLaws.{shl-node, highest-lt}
+use Rattle.checker_lengths.specs.declared.Watch.{Watch}
+use Rattle.checker_lengths.specs.Nodes.{nodeIn}
+use Rattle.checker_lengths.specs.Rounds.{formHere, NodeSettled}
+use Rattle.checker_lengths.specs.Code.{Pass}
+use Rattle.checker_lengths.proofs.LeftLaws.{
+  Working,
+  leftOf,
+  working-start,
+  working-full,
+  still-working,
+  still-less,
+  more-working,
+  more-less,
+}
 use borrow.Author.Needs.{needs}
 use Rattle.checker_lengths.proofs.fill.fill.Statement.{statement}
 use Rattle.checker_lengths.proofs.fill.fill.Tie as tie
 use Rattle.checker_lengths.proofs.fill.fill.Reads as reads
 use Rattle.checker_lengths.proofs.fill.fill.Lts as lts
+use Rattle.checker_lengths.proofs.fill.settle_node.Reads as settle-node-reads
+use Rattle.checker_lengths.proofs.nodes.node.Reads as node-reads
 use Rattle.checker_tables.proofs.least.Reads as least-reads
-use Rattle.checker_lengths.proofs.fill.settle_round.Reads as settle-round-reads
+use Rattle.checker_tables.proofs.work.all.Reads as all-reads
+use Rattle.checker_tables.proofs.work.highest.Reads as highest-reads
+use Rattle.checker_tables.proofs.work.readers.Reads as readers-reads
+
+abbrev Left : Watch → List ℕ → List ℕ → List ℕ → ℕ → List ℕ → ℕ → Type 0
+Left w rows nodes come l = Working w rows nodes come l (length nodes / nodeFields)
+
+positive : (s : ℕ) → (s ≡ 0 → ⊥) → 0 < s
+positive s d = omega arith
+
+-- the highest node that is left
+module _ (w : Watch) (rows nodes come : List ℕ) (l : ℕ) (fit : NodesFit nodes) (t : List ℕ) (s k : ℕ) (h : Left w rows nodes come l t s)
+    (low : 2 ^ k ≤ s) (high : s < 2 ^ suc k) where
+  abbrev n : ℕ
+  n = length nodes / nodeFields
+
+  inside : k < n
+  inside = highest-lt s k low high n (h .left)
+
+  small : k < mostNodes
+  small = let b = inside in let f = fit .few in omega arith
+
+  abbrev bit : ℕ
+  bit = 1 * 2 ^ k % 2 ^ 64
+
+  bit-low : bit ≤ s
+  bit-low = omega (arith, shl-node k small)
+
+  -- it was settled, as d says; r: did that change the table?
+  module _ (u : List ℕ) (d : Node) (at : d ≡ nodeIn nodes k) (r : Bool)
+      (p : Pass w rows k (formOf d) (λ y. NodeSettled w rows (formOf d) come y l k) t u r) where
+    here : Pass w rows k (formHere nodes k) (λ y. NodeSettled w rows (formHere nodes k) come y l k) t u r
+    here = subst (λ (f : Node). Pass w rows k (formOf f) (λ y. NodeSettled w rows (formOf f) come y l k) t u r) at p
+
+    still : r ≡ false → Left w rows nodes come l u (s - bit)
+    still g =
+        subst (λ (b : ℕ). Left w rows nodes come l u (s - b)) (sym (shl-node k small))
+        (still-working w rows nodes come l (fit .few) t u s k h low high r here g)
+
+    still-falls : r ≡ false → leftOf u (s - bit) < leftOf t s
+    still-falls g =
+        subst (λ (b : ℕ). leftOf u (s - b) < leftOf t s) (sym (shl-node k small))
+        (still-less w rows nodes come l (fit .few) t u s k h low high r here g)
+
+    module _ (readers : List ℕ) (e : readers ≡ readersOf n (formsIn nodes)) (g : r ≡ true) where
+      more : Left w rows nodes come l u (bitOr (s - bit) (getD readers k 0))
+      more =
+          subst (Left w rows nodes come l u)
+          (ap₂ (λ (b : ℕ) (m : List ℕ). bitOr (s - b) (getD m k 0)) (sym (shl-node k small)) (sym e))
+          (more-working w rows nodes come l (fit .few) t u s k h low high r here g)
+
+      more-falls : leftOf u (bitOr (s - bit) (getD readers k 0)) < leftOf t s
+      more-falls =
+          let b : 2 ^ n ≤ 18446744073709551616 = pow-mono (fit .few) in
+          more-less w rows nodes come l (fit .few) t u s k h low high r here g (bitOr (s - bit) (getD readers k 0))
+          (omega (arith, more .left))
 
 abbrev Inv-loop : tie.InvT-loop
-Inv-loop nodes rows w t₀ l t = (length t ≡ 104448) × Reach w rows nodes t
+Inv-loop nodes rows u w t₀ l n readers left₀ t left = Left w rows nodes u l t left
 
 abbrev μ-loop : tie.MeasureT-loop
-μ-loop nodes rows w t₀ l t = total t
+μ-loop nodes rows u w t₀ l n readers left₀ t left = leftOf t left
 
--- src/fill.rt:138:9
-returns : tie.Need-returns Inv-loop μ-loop
-returns c = let a = c .before .before .before .args in
-    subst (λ (b : Bool). FullIf b (a .w) (a .rows .now) (a .nodes .now) (replicate 104448 255))
-    (sym (lt-leb (length (a .nodes .now) / nodeFields) mostNodes (c .if1 .taken))) refl
-
--- src/fill.rt:140:9
 least-requires : tie.Need-least-requires Inv-loop μ-loop
 least-requires c κs = search needs
 
--- src/fill.rt:141:5
+readers-requires : tie.Need-readers-requires Inv-loop μ-loop
+readers-requires c κs = (c .before .before .before .before .pre, refl)
+
+all-requires : tie.Need-all-requires Inv-loop μ-loop
+all-requires c κs = c .before .before .before .before .before .pre .few
+
 loop-holds : tie.Need-loop-holds Inv-loop μ-loop
-loop-holds c = (length-replicate {A = ℕ} 104448 255, start)
+loop-holds c =
+    let a = c .before .before .before .before .before .before .args in
+    let p = c .before .before .before .before .before .before .pre in
+    let l = c .before .before .before .least .result in
+    subst (Left (a .w) (a .rows .now) (a .nodes .now) (a .u .now) l _) (sym (c .all .ensures))
+    (working-start (a .w) (a .rows .now) (a .nodes .now) (a .u .now) l (p .few))
 
--- src/fill.rt:142:13
-settle-round-requires : tie.Need-settle-round-requires Inv-loop μ-loop
-settle-round-requires c κs = let e = c .before .before .least .ensures in let m =
-    least-le (c .before .before .before .before .before .before .args .w .resource) in
-    (c .before .loop .inv .0, (omega arith, c .before .before .before .if1 .left))
+highest-requires : tie.Need-highest-requires Inv-loop μ-loop
+highest-requires c κs = positive (c .before .loop .left) (c .loop-test .taken)
 
--- src/fill.rt:143:13
-returns-2 : tie.Need-returns-2 Inv-loop μ-loop
-returns-2 c =
-    let a = c .before .before .before .before .before .before .before .before .args in
-    let l = c .before .before .before .loop in
-    let p = c .before .settle-round .ensures in
-    let f = not-true (c .before .settle-round .result) (c .if2 .taken) in
-    subst (λ (b : Bool). FullIf b (a .w) (a .rows .now) (a .nodes .now) (c .before .settle-round .last .0))
-    (sym (le-leb (length (a .nodes .now) / nodeFields) mostNodes (c .before .before .before .before .before .if1 .left)))
-    (record {
-      reach = p .changes (l .inv .1);
-      settled =
-          subst (λ (u : List ℕ). RoundSettled (a .w) (a .rows .now) (a .nodes .now) u (least (a .w .resource))) (sym (p .kept f))
-          (subst (λ (m : ℕ). RoundSettled (a .w) (a .rows .now) (a .nodes .now) (l .t) m)
-          (c .before .before .before .before .least .ensures) (p .settled f));
-    })
+cast-left : tie.Need-cast-left Inv-loop μ-loop
+cast-left c =
+    let a = c .before .before .before .before .before .before .before .before .before .args in
+    let p = c .before .before .before .before .before .before .before .before .before .pre in
+    let l = c .before .before .before .before .before .before .least .result in
+    let i = c .before .before .loop in
+    let h = c .highest in
+    let k = small (a .w) (a .rows .now) (a .nodes .now) (a .u .now) l p (i .t) (i .left) (h .result) (i .inv) (h .ensures .0) (h .ensures .1) in
+    omega arith
 
--- src/fill.rt:141:5
+cast-left-2 : tie.Need-cast-left-2 Inv-loop μ-loop
+cast-left-2 c =
+    let a = c .before .before .before .before .before .before .before .before .before .args in
+    let p = c .before .before .before .before .before .before .before .before .before .pre in
+    let l = c .before .before .before .before .before .before .least .result in
+    let i = c .before .before .loop in
+    let h = c .highest in
+    let k = small (a .w) (a .rows .now) (a .nodes .now) (a .u .now) l p (i .t) (i .left) (h .result) (i .inv) (h .ensures .0) (h .ensures .1) in
+    omega arith
+
+shl-left : tie.Need-shl-left Inv-loop μ-loop
+shl-left c =
+    let a = c .before .before .before .before .before .before .before .before .before .args in
+    let p = c .before .before .before .before .before .before .before .before .before .pre in
+    let l = c .before .before .before .before .before .before .least .result in
+    let i = c .before .before .loop in
+    let h = c .highest in
+    let k = small (a .w) (a .rows .now) (a .nodes .now) (a .u .now) l p (i .t) (i .left) (h .result) (i .inv) (h .ensures .0) (h .ensures .1) in
+    omega arith
+
+sub-left : tie.Need-sub-left Inv-loop μ-loop
+sub-left c =
+    let a = c .before .before .before .before .before .before .before .before .before .args in
+    let p = c .before .before .before .before .before .before .before .before .before .pre in
+    let l = c .before .before .before .before .before .before .least .result in
+    let i = c .before .before .loop in
+    let h = c .highest in
+    bit-low (a .w) (a .rows .now) (a .nodes .now) (a .u .now) l p (i .t) (i .left) (h .result) (i .inv) (h .ensures .0) (h .ensures .1)
+
+node-requires : tie.Need-node-requires Inv-loop μ-loop
+node-requires c κs = search needs
+
+settle-node-requires : tie.Need-settle-node-requires Inv-loop μ-loop
+settle-node-requires c κs =
+    let a = c .before .before .before .before .before .before .before .before .before .before .before .args in
+    let p = c .before .before .before .before .before .before .before .before .before .before .before .pre in
+    let l = c .before .before .before .before .before .before .before .before .least .result in
+    let i = c .before .before .before .before .loop in
+    let h = c .before .before .highest in
+    let low : l < meanings = omega (arith, c .before .before .before .before .before .before .before .before .least .ensures, least-le (a .w .resource)) in
+    (i .inv .size-is, (low, small (a .w) (a .rows .now) (a .nodes .now) (a .u .now) l p (i .t) (i .left) (h .result) (i .inv) (h .ensures .0) (h .ensures .1)))
+
+mul-left : tie.Need-mul-left Inv-loop μ-loop
+mul-left c =
+    let a = c .before .before .before .before .before .before .before .before .before .before .before .before .before .args in
+    let p = c .before .before .before .before .before .before .before .before .before .before .before .before .before .pre in
+    let l = c .before .before .before .before .before .before .before .before .before .before .least .result in
+    let i = c .before .before .before .before .before .before .loop in
+    let h = c .before .before .before .before .highest in
+    let k = small (a .w) (a .rows .now) (a .nodes .now) (a .u .now) l p (i .t) (i .left) (h .result) (i .inv) (h .ensures .0) (h .ensures .1) in
+    omega arith
+
+array-read-left : tie.Need-array-read-left Inv-loop μ-loop
+array-read-left c =
+    let a = c .before .before .before .before .before .before .before .before .before .before .before .before .before .args in
+    let p = c .before .before .before .before .before .before .before .before .before .before .before .before .before .pre in
+    let l = c .before .before .before .before .before .before .before .before .before .before .least .result in
+    let i = c .before .before .before .before .before .before .loop in
+    let h = c .before .before .before .before .highest in
+    small (a .w) (a .rows .now) (a .nodes .now) (a .u .now) l p (i .t) (i .left) (h .result) (i .inv) (h .ensures .0) (h .ensures .1)
+
 loop-less : tie.Need-loop-less Inv-loop μ-loop
-loop-less c = c .before .settle-round .ensures .lower (not-false (c .before .settle-round .result) (c .if2 .left))
+loop-less c =
+    let a = c .before .before .before .before .before .before .before .before .before .before .before .before .before .args in
+    let p = c .before .before .before .before .before .before .before .before .before .before .before .before .before .pre in
+    let l = c .before .before .before .before .before .before .before .before .before .before .least .result in
+    let i = c .before .before .before .before .before .before .loop in
+    let h = c .before .before .before .before .highest in
+    let s = c .before .settle-node in
+    let d = c .before .before .before .node in
+    let r = c .before .before .before .before .before .before .before .before .readers2 in
+    more-falls (a .w) (a .rows .now) (a .nodes .now) (a .u .now) l p (i .t) (i .left) (h .result) (i .inv) (h .ensures .0) (h .ensures .1)
+    (s .last .0) (d .result) (d .ensures) (s .result) (s .ensures)
+    (r .last .1 .0) (r .ensures) (c .if1 .taken)
 
--- src/fill.rt:141:5
 loop-again : tie.Need-loop-again Inv-loop μ-loop
-loop-again c = let p = c .before .settle-round .ensures in
-    (p .same-size ∙ c .before .before .before .loop .inv .0, p .changes (c .before .before .before .loop .inv .1))
+loop-again c =
+    let a = c .before .before .before .before .before .before .before .before .before .before .before .before .before .args in
+    let p = c .before .before .before .before .before .before .before .before .before .before .before .before .before .pre in
+    let l = c .before .before .before .before .before .before .before .before .before .before .least .result in
+    let i = c .before .before .before .before .before .before .loop in
+    let h = c .before .before .before .before .highest in
+    let s = c .before .settle-node in
+    let d = c .before .before .before .node in
+    let r = c .before .before .before .before .before .before .before .before .readers2 in
+    more (a .w) (a .rows .now) (a .nodes .now) (a .u .now) l p (i .t) (i .left) (h .result) (i .inv) (h .ensures .0) (h .ensures .1)
+    (s .last .0) (d .result) (d .ensures) (s .result) (s .ensures)
+    (r .last .1 .0) (r .ensures) (c .if1 .taken)
+
+loop-less-2 : tie.Need-loop-less-2 Inv-loop μ-loop
+loop-less-2 c =
+    let a = c .before .before .before .before .before .before .before .before .before .before .before .before .before .args in
+    let p = c .before .before .before .before .before .before .before .before .before .before .before .before .before .pre in
+    let l = c .before .before .before .before .before .before .before .before .before .before .least .result in
+    let i = c .before .before .before .before .before .before .loop in
+    let h = c .before .before .before .before .highest in
+    let s = c .before .settle-node in
+    let d = c .before .before .before .node in
+    still-falls (a .w) (a .rows .now) (a .nodes .now) (a .u .now) l p (i .t) (i .left) (h .result) (i .inv) (h .ensures .0) (h .ensures .1)
+    (s .last .0) (d .result) (d .ensures) (s .result) (s .ensures)
+    (c .if1 .left)
+
+loop-again-2 : tie.Need-loop-again-2 Inv-loop μ-loop
+loop-again-2 c =
+    let a = c .before .before .before .before .before .before .before .before .before .before .before .before .before .args in
+    let p = c .before .before .before .before .before .before .before .before .before .before .before .before .before .pre in
+    let l = c .before .before .before .before .before .before .before .before .before .before .least .result in
+    let i = c .before .before .before .before .before .before .loop in
+    let h = c .before .before .before .before .highest in
+    let s = c .before .settle-node in
+    let d = c .before .before .before .node in
+    still (a .w) (a .rows .now) (a .nodes .now) (a .u .now) l p (i .t) (i .left) (h .result) (i .inv) (h .ensures .0) (h .ensures .1)
+    (s .last .0) (d .result) (d .ensures) (s .result) (s .ensures)
+    (c .if1 .left)
+
+returns : tie.Need-returns Inv-loop μ-loop
+returns c =
+    let a = c .before .before .before .before .before .before .before .before .args in
+    let l = c .before .before .before .before .before .least in
+    let i = c .before .loop in
+    working-full (a .w) (a .rows .now) (a .nodes .now) (a .u .now) (l .result) (c .before .before .before .before .before .before .before .before .pre .few) (l .ensures)
+    (subst (Left (a .w) (a .rows .now) (a .nodes .now) (a .u .now) (l .result) (i .t)) (c .loop-test .left) (i .inv))
 
 pub fill-spec : {M : Type 1} → statement M
 fill-spec =
@@ -83,10 +260,21 @@ fill-spec =
     (tie.spec
     Inv-loop
     μ-loop
-    returns
     least-requires
+    readers-requires
+    all-requires
     loop-holds
-    settle-round-requires
-    returns-2
+    highest-requires
+    cast-left
+    cast-left-2
+    shl-left
+    sub-left
+    node-requires
+    settle-node-requires
+    mul-left
+    array-read-left
     loop-less
-    loop-again)
+    loop-again
+    loop-less-2
+    loop-again-2
+    returns)

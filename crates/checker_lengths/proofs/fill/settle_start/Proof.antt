@@ -3,9 +3,9 @@ use mathlib.Core.Logic.{inl, inr}
 use borrow.Author.Count.{below-more}
 use Rattle.usage.specs.Outline.{formOf}
 use Rattle.usage.proofs.Logic.{by-cases}
-use Rattle.checker_lengths.specs.Code.{Lowers, Pass}
+use Rattle.checker_lengths.specs.Code.{Pass}
 use Rattle.checker_lengths.specs.Rounds.{RuleSettled}
-use Rattle.checker_lengths.proofs.PassLaws.{pass-then, pass-none, pass-map}
+use Rattle.checker_lengths.proofs.PassLaws.{pass-then, pass-none, pass-map, rule-lasts}
 use native.Mathlib.Omega.{arith}
 use mathlib.Core.Path.{_∙_}
 use Prim.Native.Nat.{ℕ, _-_, _≤_, _<_}
@@ -19,7 +19,7 @@ use Rattle.checker_lengths.proofs.offers.ways.Reads as ways-reads
 
 abbrev Inv-loop : tie.InvT-loop
 Inv-loop t₀ rows w f s n changed₀ c₀ t changed c = (c ≤ n)
-    × Pass (Lowers w rows (s .node) (formOf f)) (λ u. (j : ℕ) → j < c → RuleSettled w rows (formOf f) u s j) t₀ t changed
+    × Pass w rows (s .node) (formOf f) (λ u. (j : ℕ) → j < c → RuleSettled w rows (formOf f) u s j) t₀ t changed
 
 abbrev μ-loop : tie.MeasureT-loop
 μ-loop t₀ rows w f s n changed₀ c₀ t changed c = n - c
@@ -30,7 +30,7 @@ ways-requires c κs = search needs
 
 -- src/fill.rt:69:5
 loop-holds : tie.Need-loop-holds Inv-loop μ-loop
-loop-holds c = (search needs, pass-none (λ nodes h f r. r) (λ j k. absurd (omega arith)))
+loop-holds c = (search needs, pass-none (λ j k. absurd (omega arith)))
 
 -- src/fill.rt:70:12
 settle-rule-requires : tie.Need-settle-rule-requires Inv-loop μ-loop
@@ -55,8 +55,9 @@ loop-again c =
     let k = c .before .before .before .loop-test .taken in
     let f = formOf (a .f) in (
       omega arith,
-      pass-then (λ x y nodes h g r. y nodes h g (x nodes h g r))
-          (λ x y. below-more (λ (j : ℕ). RuleSettled (a .w) (a .rows .now) f (a .t .now) (a .s) j) (l .c) x y)
+      pass-then
+          (λ u x y. below-more (λ (j : ℕ). RuleSettled (a .w) (a .rows .now) f u (a .s) j) (l .c) x y)
+          (λ z g h j b. rule-lasts (a .w) (a .rows .now) (a .s .node) f z g (a .s) j (h j b))
           (l .inv .1) (c .before .settle-rule .ensures)
           (by-cases (c .if1 .came) (λ u. inl (u .0 .taken, u .1)) (λ u. inr (u .0 .left, u .1))),
     )
@@ -64,7 +65,7 @@ loop-again c =
 -- src/fill.rt:61:1
 returns : tie.Need-returns Inv-loop μ-loop
 returns c = let l = c .before .loop in let e = c .before .before .ways .ensures in
-    pass-map (λ x. x) (λ h j k. h j (omega arith)) (l .inv .1)
+    pass-map (λ _ h j k. h j (omega arith)) (l .inv .1)
 
 pub settle-start-spec : {M : Type 1} → statement M
 settle-start-spec =
