@@ -6,7 +6,7 @@ import sys
 
 import sheets
 from instances import UNSEEN, Past, Reset
-from sheets import CLOSE, EVENT, OFFENDING, OPEN
+from sheets import CLOSE, EVENT, OFFENDING, OPEN, RETIRE
 
 FONT = "Helvetica,Arial,sans-serif"
 COLUMN, ROW = 64, 34
@@ -59,6 +59,8 @@ class Column:
         if kind == EVENT:
             action = names.get("action", a) or f"action {a}"
             return f"{action}({names.get('resource', b) or b})"
+        if kind == RETIRE:
+            return f"retire {names.get('resource', a) or a}"
         return ("open " if kind == OPEN else "close ") + (names.get("policy", a) or f"policy {a}")
 
     def told(self):
@@ -126,9 +128,10 @@ def put_ground(canvas, columns, policy, states, top):
         canvas.text(LEFT - 10, y + 4, f"state {state}", text_anchor="end", fill=colour)
 
 
-def put_dot(canvas, number, y, state):
+def put_dot(canvas, number, y, state, hollow=False):
     colour = RED if state in OFFENDING else INK
-    canvas.put("circle", cx=centre(number), cy=y, r=6, fill="#fde8ea" if state in OFFENDING else "#eef4fb", stroke=colour, stroke_width=1.6)
+    fill = "white" if hollow else "#fde8ea" if state in OFFENDING else "#eef4fb"
+    canvas.put("circle", cx=centre(number), cy=y, r=6, fill=fill, stroke=colour, stroke_width=1.6)
 
 
 def put_moves(canvas, columns, past, policy, x, height_of):
@@ -152,7 +155,7 @@ def put_moves(canvas, columns, past, policy, x, height_of):
                 canvas.text(centre(number) - COLUMN // 2 + side, (y1 + y2) // 2 - 5, f"edge {edge}", 10, text_anchor=anchor, fill=colour)
         states = move.after if move else states
         for state in sorted(states):
-            put_dot(canvas, number, height_of(state), state)
+            put_dot(canvas, number, height_of(state), state, past.retired.get(x, column.line + 1) <= column.line)
         if column.answer == VIOLATED:
             return
 
@@ -189,7 +192,9 @@ def trace(folder, steps, names, arguments):
     key = f"shaded: policy {policy} is open.  edge N: line N of policies.txt"
     if policies.local:
         key += ".  dashed: the sheet is local, and the opening puts the instance back to state 0"
-        width = max(width, LEFT + int(ALONG * len(key)) + COLUMN)
+    if past.retired.keys() & set(resources):
+        key += ".  hollow: the resource is retired, and its instance still counts"
+    width = max(width, LEFT + int(ALONG * len(key)) + COLUMN)
     canvas.text(LEFT, height - 12, key, 11, fill="#666666")
     head = f'<svg xmlns="http://www.w3.org/2000/svg" width="{width}" height="{height}" viewBox="0 0 {width} {height}" font-family="{FONT}">'
     ground = f'<rect width="{width}" height="{height}" fill="white"/>'
