@@ -24,7 +24,7 @@ def step_refused(run, line, step, number, why):
 
 
 def judged(run, line, step, row):
-    """The words for one printed line, after it was held to what the sheets lead to."""
+    """The words for one printed line, after it was held to what the sheets lead to. The run is followed along."""
     refused = refusal(run, step)
     if refused:
         same((line, REFUSED, refused[0]), row, run.at(line))
@@ -49,15 +49,19 @@ def whole_sheets_refused(folder, kind, rows):
     return None, [(rows[0], sheet_refused(folder, kind, why))]
 
 
+def followed(run, rows):
+    """Each step of a run as it was judged: (line, step, row, words), with the run's past up to it."""
+    if len(rows) != len(run.steps):
+        raise Differs(f"{run.folder.trace_name} has {len(run.steps)} steps, but {len(rows)} lines were printed")
+    for line, (step, row) in enumerate(zip(run.steps, rows), 2):
+        yield line, step, row, judged(run, line, step, row)
+
+
 def explain_monitor(folder, rows):
     tables, told = whole_sheets_refused(folder, sheets.TRACE_SHEET, rows)
     if told:
         return told
-    policies, steps = tables
-    if len(rows) != len(steps):
-        raise Differs(f"{folder.trace_name} has {len(steps)} steps, but {len(rows)} lines were printed")
-    run = Run(folder, policies, steps)
-    return [(row, judged(run, line, step, row)) for line, (step, row) in enumerate(zip(steps, rows), 2)]
+    return [(row, words) for _, _, row, words in followed(Run(folder, *tables), rows)]
 
 
 def explain_check(folder, rows):

@@ -7,7 +7,7 @@ import os
 import re
 
 import sheets
-from names import Names
+from names import Names, file_hints
 from number_table import numbers
 
 NAMES = "line answer detail"
@@ -50,23 +50,26 @@ class Folder:
                 quoted.append(" " * (indent + max(width, len(str(line)))) + " | " + " " * start + "^" * max(1, end - start))
         return [line.rstrip() for line in quoted]
 
-    def hints(self, kind):
-        """What the bytes of a refused sheet look like."""
+    def hints(self, kind, refused):
+        """What brought a refusal of a sheet about, where that can be told."""
         data, path = self.data[kind], os.path.join(self.path, kind.file)
-        if not os.path.exists(path):
+        if not data and not os.path.exists(path):
             return [f"  hint: there is no file {kind.file} in this folder; a missing sheet reads as an empty one"]
         if not data and (os.path.getsize(path) or not os.path.isfile(path)):
             return [f"  hint: {kind.file} could not be read; it is taken for an empty sheet"]
-        found = []
-        if data.startswith(b"\xef\xbb\xbf"):
-            found.append("  hint: the sheet begins with a byte-order mark (bytes EF BB BF); save it as plain text without one")
-        if data[:2] in (b"\xff\xfe", b"\xfe\xff"):
-            found.append("  hint: the sheet begins with a byte-order mark of UTF-16; save it as plain text in ASCII or UTF-8")
-        if b"\r\n" in data:
-            found.append("  hint: lines end with carriage return and line feed (CRLF); save the sheet with line feeds alone (LF)")
-        if b"\t" in data:
-            found.append("  hint: there is a tab in the sheet; values are parted by spaces alone")
+        return byte_hints(data, refused)
+
+
+def byte_hints(data, refused):
+    """Bytes at the place of a refusal that are no part of a sheet, and where they mostly come from."""
+    found = [f"  hint: {refused.hint}"] if refused.hint else []
+    if refused.number not in (1, sheets.OTHER_BYTE):
         return found
+    line = data.split(b"\n")[refused.line - 1]
+    found += [f"  hint: {hint}" for hint in file_hints(data if refused.line == 1 else b"", line)]
+    if b"\t" in line:
+        found.append("  hint: there is a tab in the line; values are parted by spaces alone")
+    return found
 
 
 # ---- the printed lines
@@ -118,5 +121,4 @@ def sheet_refused(folder, kind, refused):
     if refused.line:
         out += folder.quote(kind, refused.line, columns=refused.columns)
     out.append(f"  number {refused.number} means: {number.meaning}")
-    out += folder.hints(kind) or [f"  usually mended so: {number.mended}"]
-    return out
+    return out + folder.hints(kind, refused) + [f"  usually mended so: {number.mended}"]

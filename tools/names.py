@@ -7,6 +7,18 @@ from sheets import BACK, CLOSE, CREATE, EITHER, END, EVENT, FRESH, LAST_ACTION, 
 from sheets import POLICIES, RETIRE, SANDBOX, STATIC, THEN
 
 
+UTF_16 = "a byte-order mark of UTF-16"
+BYTE_ORDER_MARKS = {b"\xef\xbb\xbf": "a byte-order mark (bytes EF BB BF)", b"\xff\xfe": UTF_16, b"\xfe\xff": UTF_16}
+
+
+def file_hints(data, line):
+    """What an editor put into a file besides its text: a byte-order mark at its beginning, a carriage return at the end of a line."""
+    found = [f"it begins with {words}; save it as plain text without one" for mark, words in BYTE_ORDER_MARKS.items() if data.startswith(mark)]
+    if line.endswith(b"\r"):
+        found.append("lines end with carriage return and line feed (CRLF); save it with line feeds alone (LF)")
+    return found
+
+
 class Names:
     """The words of names.txt for the numbers of actions, resources and policies."""
 
@@ -23,17 +35,18 @@ class Names:
         names = cls()
         try:
             with open(os.path.join(folder, "names.txt"), "rb") as file:
-                text = file.read().decode("utf-8", "replace")
+                data = file.read()
         except FileNotFoundError:
             return names
         except OSError as wrong:
             names.faults.append(f"names.txt: {wrong.strerror}")
             return names
-        lines = text.splitlines()
-        if not lines or lines[0] != cls.HEAD:
+        names.faults += [f"names.txt: {hint}" for hint in file_hints(data, data.partition(b"\n")[0])]
+        lines = data.decode("utf-8-sig", "replace").replace("\r\n", "\n").split("\n")
+        if lines[0] != cls.HEAD:
             names.faults.append(f"names.txt:1: the first line must be '{cls.HEAD}'; the names are not used")
             return names
-        for at, line in enumerate(lines[1:], 2):
+        for at, line in enumerate(lines[1:] if lines[-1] else lines[1:-1], 2):
             names.add(at, line)
         return names
 

@@ -33,23 +33,29 @@ NO_FEED, OTHER_BYTE, OVERLONG, FORM = 13, 11, 12, 2
 class Refused(Exception):
     """A sheet that is refused: line and number as the programs print them, what is wrong in words, and the columns that it is about."""
 
-    def __init__(self, number, line, what, columns=None):
+    def __init__(self, number, line, what, columns=None, hint=None):
         super().__init__(f"line {line}: {what}" if line else what)
         self.number = number
         self.line = line
         self.what = what
         self.columns = columns
+        self.hint = hint
 
 
 class Kind:
-    """One of the sheets: its file, the answer that tells its refusal, its names lines, how many value lines it may have."""
+    """One of the sheets: its file, the answer that tells its refusal, its names lines, what it is and what its lines are, how many of
+    them it may have."""
 
-    def __init__(self, file, answer, names, most, ranges):
+    def __init__(self, file, answer, names, words, most, ranges):
         self.file = file
         self.answer = answer
         self.names = names
+        self.words = words
         self.most = most
         self.ranges = ranges
+
+    def limit(self):
+        return f"{self.words[0]} has at most {self.most:,} {self.words[1]}s"
 
 
 def edge_ranges(row):
@@ -92,9 +98,9 @@ def node_ranges(row):
 
 # the names lines of a policy sheet, by the past that its policies see
 WHOLE, LOCAL = "policy from action on who to", "local from action on who to"
-POLICY_SHEET = Kind("policies.txt", 3, [WHOLE, LOCAL], 256, edge_ranges)
-TRACE_SHEET = Kind("trace.txt", 4, ["kind a b"], 2_000, step_ranges)
-OUTLINE_SHEET = Kind("outline.txt", 5, ["node kind a b"], NODES, node_ranges)
+POLICY_SHEET = Kind("policies.txt", 3, [WHOLE, LOCAL], ("a policy sheet", "edge"), 256, edge_ranges)
+TRACE_SHEET = Kind("trace.txt", 4, ["kind a b"], ("a trace", "step"), 2_000, step_ranges)
+OUTLINE_SHEET = Kind("outline.txt", 5, ["node kind a b"], ("an outline", "node"), NODES, node_ranges)
 SHEETS = [POLICY_SHEET, TRACE_SHEET, OUTLINE_SHEET]
 
 
@@ -160,7 +166,16 @@ def out_of_range(kind, line, values):
     for (field, least, most), value, span in zip(kind.ranges(values), values, spans):
         if not least <= value <= most:
             allowed = f"{least:,} to {most:,}" if most else "0"
-            return f"{field} is {value:,}, not {allowed}", span
+            return f"{field} is {value:,}, not {allowed}", span, range_hint(kind, field, value)
+    return None
+
+
+def range_hint(kind, field, value):
+    """What an author may have meant by a value outside its range."""
+    if kind is OUTLINE_SHEET and "node" in field and value >= NODES:
+        return f"{kind.limit()}, 0 to {NODES - 1}"
+    if kind is OUTLINE_SHEET and field.startswith("b, the static") and value >= STATICS:
+        return "dynamic resources are names in an outline: a fresh node (kind 7) gives one, an event of kind 2 is on it"
     return None
 
 
@@ -171,7 +186,7 @@ def read_values(kind, text, names):
     rows = []
     for at, line in enumerate(lines + ([last] if last else []), 2):
         if at - 2 >= kind.most:
-            raise Refused(4, at, f"this is value line {at - 1:,}; at most {kind.most:,} are allowed")
+            raise Refused(4, at, f"this is value line {at - 1:,}; {kind.limit()}")
         fault = malformed(line, len(names.split()), fed=at - 2 < len(lines))
         if fault:
             number, what, columns = fault
