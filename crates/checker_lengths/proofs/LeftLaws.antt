@@ -19,7 +19,7 @@ use Rattle.checker_account.specs.Tables.{least}
 use Rattle.checker_account.specs.Rounds.{total, formsIn}
 use Rattle.checker_account.proofs.SettledLaws.{PartOf, first, second, left, right, body, again, given, inside, Reads}
 use Rattle.checker_tables.specs.Work.{readersOf}
-use Rattle.checker_tables.proofs.WorkLaws.{all-left, taken, highest-lt, neither, reader-in, readers-below}
+use Rattle.checker_tables.proofs.WorkLaws.{all-left, neither, reader-in, readers-below}
 use Rattle.checker_lengths.specs.declared.Entry.{Entry}
 use Rattle.checker_lengths.specs.declared.Watch.{Watch}
 use Rattle.checker_lengths.specs.Entries.{size, noLength, allLengths, inTable, below, held}
@@ -27,6 +27,7 @@ use Rattle.checker_lengths.specs.Offers.{atNode, firstEntry, secondEntry
 use Rattle.checker_lengths.specs.Rounds.{formHere, Reach, start, NodeSettled, Full}
 use Rattle.checker_lengths.specs.Code.{Fell, Apart, Pass}
 use Rattle.checker_lengths.proofs.NodeLaws.{node-in}
+use Rattle.checker_lengths.proofs.MemberLaws.{member-le, member-lt, member-taken}
 use Rattle.checker_lengths.proofs.EntryLaws.{held-in, held-out}
 use Rattle.checker_lengths.proofs.PassLaws.{node-lasts}
 
@@ -96,11 +97,11 @@ module _ (w : Watch) (rows nodes come : List ℕ) (l : ℕ) (few : length nodes 
     settled = λ k b. subst (λ (m : ℕ). NodeSettled w rows (formHere nodes k) come t m k) e (h .settled k b (has-zero k));
   }
 
-  -- node k, the highest that is left, is settled
-  module _ (t u : List ℕ) (s k : ℕ) (h : Working w rows nodes come l n t s) (low-is : 2 ^ k ≤ s) (high-is : s < 2 ^ suc k) (r : Bool)
+  -- node k, which is left, is settled
+  module _ (t u : List ℕ) (s k : ℕ) (h : Working w rows nodes come l n t s) (in-s : has s k ≡ true) (r : Bool)
       (p : Pass w rows k (formHere nodes k) (λ y. NodeSettled w rows (formHere nodes k) come y l k) t u r) where
     there : k < n
-    there = highest-lt s k low-is high-is n (h .left)
+    there = member-lt s k in-s n (h .left)
 
     fewer : s - 2 ^ k < 2 ^ n
     fewer = let b = h .left in omega arith
@@ -115,7 +116,7 @@ module _ (w : Watch) (rows nodes come : List ℕ) (l : ℕ) (few : length nodes 
         reach = on;
         left = fewer;
         settled = λ j b z. subst (λ (v : List ℕ). NodeSettled w rows (formHere nodes j) come v l j) (sym (p .kept same))
-            (go j b (taken s k low-is high-is j z));
+            (go j b (member-taken s k in-s j z));
       }
         where
           go : (j : ℕ) → j < n → (j ≡ k) ⊎ (has s j ≡ false) → NodeSettled w rows (formHere nodes j) come t l j
@@ -123,7 +124,10 @@ module _ (w : Watch) (rows nodes come : List ℕ) (l : ℕ) (few : length nodes 
           go j b (inr z) = h .settled j b z
 
       pub still-less : leftOf u (s - 2 ^ k) < leftOf t s
-      still-less = let d : total u ≡ total t = ap total (p .kept same) in let b = pow-pos k in omega arith
+      still-less = let d : total u ≡ total t = ap total (p .kept same) in
+          let b = pow-pos k in
+          let m = member-le s k in-s in
+          omega arith
 
     module _ (changed : r ≡ true) where
       abbrev readers : ℕ
@@ -138,7 +142,7 @@ module _ (w : Watch) (rows nodes come : List ℕ) (l : ℕ) (few : length nodes 
         size-is = p .same-size ∙ h .size-is;
         reach = on;
         left = or-lt n (s - 2 ^ k) readers fewer (readers-below (formsIn nodes) n k);
-        settled = λ j b z. let (z₁, z₂) = neither (s - 2 ^ k) readers j z in go j b (away j b z₂) (taken s k low-is high-is j z₁);
+        settled = λ j b z. let (z₁, z₂) = neither (s - 2 ^ k) readers j z in go j b (away j b z₂) (member-taken s k in-s j z₁);
       }
         where
           go : (j : ℕ) → j < n → (Reads (formHere nodes j) k → ⊥) → (j ≡ k) ⊎ (has s j ≡ false)

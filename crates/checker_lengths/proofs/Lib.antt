@@ -3,6 +3,7 @@ pub mod NodeLaws
 pub mod EntryLaws
 pub mod OfferLaws
 pub mod PassLaws
+pub mod MemberLaws
 pub mod LeftLaws
 pub mod Inversion
 pub mod Numbers

@@ -9,6 +9,7 @@ ghost use Rattle.checker_account.specs.Tables.{meanings};
 ghost use Rattle.checker_tables.specs.Search.{NodesFit};
 ghost use Rattle.usage.specs.Limits.{mostNodes};
 ghost use Rattle.usage.specs.Outline.{formOf};
+ghost use Rattle.automaton.specs.Mask.{has};
 ghost use Rattle.checker_lengths.specs.Entries.{size, inTable};
 ghost use Rattle.checker_lengths.specs.Offers.{toward};
 ghost use Rattle.checker_lengths.specs.Code.{Pass};
@@ -167,8 +168,23 @@ fn settle_node(
     changed
 }
 
-// The table, for the moves of the watched policy; u is the table of what is come to. The highest node that is left is settled first, since
-// a child has a greater number than its parent; where that changes something, the nodes that read it are left again.
+// The next of the nodes that are left, after node k: the highest below k or, where there is none, the highest.
+fn next(left: u64, k: usize) -> usize
+    requires { ⌜ 0 < left ⌝ }
+    requires { ⌜ k < mostNodes ⌝ }
+    ensures { λ r. ⌜ has left r ≡ true ⌝ }
+{
+    let below = left % (1u64 << (k as u32));
+    if below == 0 {
+        checker_tables::work::highest(left)
+    } else {
+        checker_tables::work::highest(below)
+    }
+}
+
+// The table, for the moves of the watched policy; u is the table of what is come to. Where settling a node changes something, the nodes that
+// read it are left again. They are gone through from the highest to the lowest, since a child has a greater number than its parent, and one
+// that is left again above the current one waits for the next round: else each change around a loop would settle the whole loop anew.
 pub fn fill(nodes: &[u8], rows: &Table, u: &Table, w: Watch, t: &mut Lengths)
     requires { ⌜ NodesFit (now nodes) ⌝ }
     ensures { λ r. ⌜ Full w (now (rows .entry)) (now (nodes .entry)) (now (u .entry)) (now (t .exit)) ⌝ }
@@ -179,8 +195,9 @@ pub fn fill(nodes: &[u8], rows: &Table, u: &Table, w: Watch, t: &mut Lengths)
     let mut readers = [0u64; MOST_NODES];
     checker_tables::work::readers(nodes, &mut readers);
     let mut left = checker_tables::work::all(n);
+    let mut k: usize = 0;
     while left != 0 {
-        let k = checker_tables::work::highest(left);
+        k = next(left, k);
         left -= 1u64 << (k as u32);
         let f = crate::nodes::node(nodes, k);
         if settle_node(t, rows, u, w, f, l, k) {

@@ -58,7 +58,7 @@ has-own k = ap (λ (n : ℕ). eqb (n % 2) 1) (ap (λ (n : ℕ). n / 2 ^ k) (sym 
 pub shl-node : (k : ℕ) → k < mostNodes → 1 * 2 ^ k % 2 ^ 64 ≡ 2 ^ k
 shl-node k h = shl-exact {a = 1} 1 k 64 (lit< tt) (omega arith) ∙ one-mul (2 ^ k)
 
-has-low : (x q w : ℕ) → q < w → has (x % 2 ^ w) q ≡ has x q
+pub has-low : (x q w : ℕ) → q < w → has (x % 2 ^ w) q ≡ has x q
 unfolding has
 has-low x q w h =
     let e : (w - (1 + q)) + (1 + q) ≡ w = omega arith in
@@ -67,7 +67,7 @@ has-low x q w h =
     ∙ ap (λ (n : ℕ). n / 2 ^ q) (subst (λ (m : ℕ). x % 2 ^ m % 2 ^ (1 + q) ≡ x % 2 ^ (1 + q)) e (mod-mod-pow x (w - (1 + q)) (1 + q)))
     ∙ field x 1 q)
 
-has-high : (x q : ℕ) → x < 2 ^ q → has x q ≡ false
+pub has-high : (x q : ℕ) → x < 2 ^ q → has x q ≡ false
 unfolding has
 has-high x q h = ap (λ (n : ℕ). eqb (n % 2) 1) (div-eq-of-lt h)
 

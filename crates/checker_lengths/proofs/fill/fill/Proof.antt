@@ -3,6 +3,7 @@ use mathlib.Core.Path.{_≡_, refl, sym, ap₂, subst}
 use mathlib.Core.Bool.{Bool, true, false}
 use mathlib.Core.List.{List}
 use native.Mathlib.Omega.{arith}
+use lib.Dec.{lit<}
 use lib.Bits.{bitOr}
 use lib.Pow.{pow-mono}
 use lib.ListN.{length, getD}
@@ -13,9 +14,10 @@ use Rattle.usage.specs.Outline.{formOf}
 use Rattle.checker_account.specs.Tables.{meanings, least}
 use Rattle.checker_account.specs.Rounds.{formsIn}
 use Rattle.checker_account.proofs.Starts.{least-le}
+use Rattle.automaton.specs.Mask.{has}
 use Rattle.checker_tables.specs.Search.{NodesFit}
 use Rattle.checker_tables.specs.Work.{readersOf}
-use Rattle.checker_tables.proofs.WorkLaws.{shl-node, highest-lt}
+use Rattle.checker_tables.proofs.WorkLaws.{shl-node}
 use Rattle.checker_lengths.specs.declared.Watch.{Watch}
 use Rattle.checker_lengths.specs.Nodes.{nodeIn}
 use Rattle.checker_lengths.specs.Rounds.{formHere, NodeSettled}
@@ -30,6 +32,7 @@ use Rattle.checker_lengths.proofs.LeftLaws.{
   more-working,
   more-less,
 }
+use Rattle.checker_lengths.proofs.MemberLaws.{member-le, member-lt}
 use borrow.Author.Needs.{needs}
 use Rattle.checker_lengths.proofs.fill.fill.Statement.{statement}
 use Rattle.checker_lengths.proofs.fill.fill.Tie as tie
@@ -39,7 +42,7 @@ use Rattle.checker_lengths.proofs.fill.settle_node.Reads as settle-node
 use Rattle.checker_lengths.proofs.nodes.node.Reads as node-reads
 use Rattle.checker_tables.proofs.least.Reads as least-reads
 use Rattle.checker_tables.proofs.work.all.Reads as all-reads
-use Rattle.checker_tables.proofs.work.highest.Reads as highest-reads
+use Rattle.checker_lengths.proofs.fill.next.Reads as next-reads
 use Rattle.checker_tables.proofs.work.readers.Reads as readers-reads
 
 abbrev Left : Watch → List ℕ → List ℕ → List ℕ → ℕ → List ℕ → ℕ → Type 0
@@ -48,14 +51,14 @@ Left w rows nodes come l = Working w rows nodes come l (length nodes / nodeField
 positive : (s : ℕ) → (s ≡ 0 → ⊥) → 0 < s
 positive s d = omega arith
 
--- the highest node that is left
+-- a node that is left
 module _ (w : Watch) (rows nodes come : List ℕ) (l : ℕ) (fit : NodesFit nodes) (t : List ℕ) (s k : ℕ) (h : Left w rows nodes come l t s)
-    (low : 2 ^ k ≤ s) (high : s < 2 ^ suc k) where
+    (in-s : has s k ≡ true) where
   abbrev n : ℕ
   n = length nodes / nodeFields
 
   inside : k < n
-  inside = highest-lt s k low high n (h .left)
+  inside = member-lt s k in-s n (h .left)
 
   small : k < mostNodes
   small = let b = inside in let f = fit .few in omega arith
@@ -64,7 +67,7 @@ module _ (w : Watch) (rows nodes come : List ℕ) (l : ℕ) (fit : NodesFit node
   bit = 1 * 2 ^ k % 2 ^ 64
 
   bit-low : bit ≤ s
-  bit-low = omega (arith, shl-node k small)
+  bit-low = let m = member-le s k in-s in omega (arith, shl-node k small)
 
   -- it was settled, as d says; r: did that change the table?
   module _ (u : List ℕ) (d : Node) (at : d ≡ nodeIn nodes k) (r : Bool)
@@ -75,31 +78,31 @@ module _ (w : Watch) (rows nodes come : List ℕ) (l : ℕ) (fit : NodesFit node
     still : r ≡ false → Left w rows nodes come l u (s - bit)
     still g =
         subst (λ (b : ℕ). Left w rows nodes come l u (s - b)) (sym (shl-node k small))
-        (still-working w rows nodes come l (fit .few) t u s k h low high r here g)
+        (still-working w rows nodes come l (fit .few) t u s k h in-s r here g)
 
     still-falls : r ≡ false → leftOf u (s - bit) < leftOf t s
     still-falls g =
         subst (λ (b : ℕ). leftOf u (s - b) < leftOf t s) (sym (shl-node k small))
-        (still-less w rows nodes come l (fit .few) t u s k h low high r here g)
+        (still-less w rows nodes come l (fit .few) t u s k h in-s r here g)
 
     module _ (readers : List ℕ) (e : readers ≡ readersOf n (formsIn nodes)) (g : r ≡ true) where
       more : Left w rows nodes come l u (bitOr (s - bit) (getD readers k 0))
       more =
           subst (Left w rows nodes come l u)
           (ap₂ (λ (b : ℕ) (m : List ℕ). bitOr (s - b) (getD m k 0)) (sym (shl-node k small)) (sym e))
-          (more-working w rows nodes come l (fit .few) t u s k h low high r here g)
+          (more-working w rows nodes come l (fit .few) t u s k h in-s r here g)
 
       more-falls : leftOf u (bitOr (s - bit) (getD readers k 0)) < leftOf t s
       more-falls =
           let b : 2 ^ n ≤ 18446744073709551616 = pow-mono (fit .few) in
-          more-less w rows nodes come l (fit .few) t u s k h low high r here g (bitOr (s - bit) (getD readers k 0))
+          more-less w rows nodes come l (fit .few) t u s k h in-s r here g (bitOr (s - bit) (getD readers k 0))
           (omega (arith, more .left))
 
 abbrev Inv-loop : tie.InvT-loop
-Inv-loop nodes rows u w t₀ l n readers left₀ t left = Left w rows nodes u l t left
+Inv-loop nodes rows u w t₀ l n readers left₀ k₀ t left k = (k < mostNodes) × Left w rows nodes u l t left
 
 abbrev μ-loop : tie.MeasureT-loop
-μ-loop nodes rows u w t₀ l n readers left₀ t left = leftOf t left
+μ-loop nodes rows u w t₀ l n readers left₀ k₀ t left k = leftOf t left
 
 least-requires : tie.Need-least-requires Inv-loop μ-loop
 least-requires c κs = search needs
@@ -114,12 +117,14 @@ loop-holds : tie.Need-loop-holds Inv-loop μ-loop
 loop-holds c =
     let a = c .before .before .before .before .before .before .args in
     let p = c .before .before .before .before .before .before .pre in
-    let l = c .before .before .before .least .result in
-    subst (Left (a .w) (a .rows .now) (a .nodes .now) (a .u .now) l _) (sym (c .all .ensures))
-    (working-start (a .w) (a .rows .now) (a .nodes .now) (a .u .now) l (p .few))
+    let l = c .before .before .before .least .result in (
+      lit< tt,
+      subst (Left (a .w) (a .rows .now) (a .nodes .now) (a .u .now) l _) (sym (c .all .ensures))
+          (working-start (a .w) (a .rows .now) (a .nodes .now) (a .u .now) l (p .few)),
+    )
 
-highest-requires : tie.Need-highest-requires Inv-loop μ-loop
-highest-requires c κs = positive (c .before .loop .left) (c .loop-test .taken)
+next-requires : tie.Need-next-requires Inv-loop μ-loop
+next-requires c κs = (positive (c .before .loop .left) (c .loop-test .taken), c .before .loop .inv .0)
 
 cast-left : tie.Need-cast-left Inv-loop μ-loop
 cast-left c =
@@ -127,8 +132,8 @@ cast-left c =
     let p = c .before .before .before .before .before .before .before .before .before .pre in
     let l = c .before .before .before .before .before .before .least .result in
     let i = c .before .before .loop in
-    let h = c .highest in
-    let k = small (a .w) (a .rows .now) (a .nodes .now) (a .u .now) l p (i .t) (i .left) (h .result) (i .inv) (h .ensures .0) (h .ensures .1) in
+    let h = c .next in
+    let k = small (a .w) (a .rows .now) (a .nodes .now) (a .u .now) l p (i .t) (i .left) (h .result) (i .inv .1) (h .ensures) in
     omega arith
 
 cast-left-2 : tie.Need-cast-left-2 Inv-loop μ-loop
@@ -137,8 +142,8 @@ cast-left-2 c =
     let p = c .before .before .before .before .before .before .before .before .before .pre in
     let l = c .before .before .before .before .before .before .least .result in
     let i = c .before .before .loop in
-    let h = c .highest in
-    let k = small (a .w) (a .rows .now) (a .nodes .now) (a .u .now) l p (i .t) (i .left) (h .result) (i .inv) (h .ensures .0) (h .ensures .1) in
+    let h = c .next in
+    let k = small (a .w) (a .rows .now) (a .nodes .now) (a .u .now) l p (i .t) (i .left) (h .result) (i .inv .1) (h .ensures) in
     omega arith
 
 shl-left : tie.Need-shl-left Inv-loop μ-loop
@@ -147,8 +152,8 @@ shl-left c =
     let p = c .before .before .before .before .before .before .before .before .before .pre in
     let l = c .before .before .before .before .before .before .least .result in
     let i = c .before .before .loop in
-    let h = c .highest in
-    let k = small (a .w) (a .rows .now) (a .nodes .now) (a .u .now) l p (i .t) (i .left) (h .result) (i .inv) (h .ensures .0) (h .ensures .1) in
+    let h = c .next in
+    let k = small (a .w) (a .rows .now) (a .nodes .now) (a .u .now) l p (i .t) (i .left) (h .result) (i .inv .1) (h .ensures) in
     omega arith
 
 sub-left : tie.Need-sub-left Inv-loop μ-loop
@@ -157,8 +162,8 @@ sub-left c =
     let p = c .before .before .before .before .before .before .before .before .before .pre in
     let l = c .before .before .before .before .before .before .least .result in
     let i = c .before .before .loop in
-    let h = c .highest in
-    bit-low (a .w) (a .rows .now) (a .nodes .now) (a .u .now) l p (i .t) (i .left) (h .result) (i .inv) (h .ensures .0) (h .ensures .1)
+    let h = c .next in
+    bit-low (a .w) (a .rows .now) (a .nodes .now) (a .u .now) l p (i .t) (i .left) (h .result) (i .inv .1) (h .ensures)
 
 node-requires : tie.Need-node-requires Inv-loop μ-loop
 node-requires c κs = search needs
@@ -169,9 +174,9 @@ settle-node-requires c κs =
     let p = c .before .before .before .before .before .before .before .before .before .before .before .pre in
     let l = c .before .before .before .before .before .before .before .before .least .result in
     let i = c .before .before .before .before .loop in
-    let h = c .before .before .highest in
+    let h = c .before .before .next in
     let low : l < meanings = omega (arith, c .before .before .before .before .before .before .before .before .least .ensures, least-le (a .w .resource)) in
-    (i .inv .size-is, (low, small (a .w) (a .rows .now) (a .nodes .now) (a .u .now) l p (i .t) (i .left) (h .result) (i .inv) (h .ensures .0) (h .ensures .1)))
+    (i .inv .1 .size-is, (low, small (a .w) (a .rows .now) (a .nodes .now) (a .u .now) l p (i .t) (i .left) (h .result) (i .inv .1) (h .ensures)))
 
 mul-left : tie.Need-mul-left Inv-loop μ-loop
 mul-left c =
@@ -179,8 +184,8 @@ mul-left c =
     let p = c .before .before .before .before .before .before .before .before .before .before .before .before .before .pre in
     let l = c .before .before .before .before .before .before .before .before .before .before .least .result in
     let i = c .before .before .before .before .before .before .loop in
-    let h = c .before .before .before .before .highest in
-    let k = small (a .w) (a .rows .now) (a .nodes .now) (a .u .now) l p (i .t) (i .left) (h .result) (i .inv) (h .ensures .0) (h .ensures .1) in
+    let h = c .before .before .before .before .next in
+    let k = small (a .w) (a .rows .now) (a .nodes .now) (a .u .now) l p (i .t) (i .left) (h .result) (i .inv .1) (h .ensures) in
     omega arith
 
 array-read-left : tie.Need-array-read-left Inv-loop μ-loop
@@ -189,8 +194,8 @@ array-read-left c =
     let p = c .before .before .before .before .before .before .before .before .before .before .before .before .before .pre in
     let l = c .before .before .before .before .before .before .before .before .before .before .least .result in
     let i = c .before .before .before .before .before .before .loop in
-    let h = c .before .before .before .before .highest in
-    small (a .w) (a .rows .now) (a .nodes .now) (a .u .now) l p (i .t) (i .left) (h .result) (i .inv) (h .ensures .0) (h .ensures .1)
+    let h = c .before .before .before .before .next in
+    small (a .w) (a .rows .now) (a .nodes .now) (a .u .now) l p (i .t) (i .left) (h .result) (i .inv .1) (h .ensures)
 
 loop-less : tie.Need-loop-less Inv-loop μ-loop
 loop-less c =
@@ -198,11 +203,11 @@ loop-less c =
     let p = c .before .before .before .before .before .before .before .before .before .before .before .before .before .pre in
     let l = c .before .before .before .before .before .before .before .before .before .before .least .result in
     let i = c .before .before .before .before .before .before .loop in
-    let h = c .before .before .before .before .highest in
+    let h = c .before .before .before .before .next in
     let s = c .before .settle-node in
     let d = c .before .before .before .node in
     let r = c .before .before .before .before .before .before .before .before .readers2 in
-    more-falls (a .w) (a .rows .now) (a .nodes .now) (a .u .now) l p (i .t) (i .left) (h .result) (i .inv) (h .ensures .0) (h .ensures .1)
+    more-falls (a .w) (a .rows .now) (a .nodes .now) (a .u .now) l p (i .t) (i .left) (h .result) (i .inv .1) (h .ensures)
     (s .last .0) (d .result) (d .ensures) (s .result) (s .ensures)
     (r .last .1 .0) (r .ensures) (c .if1 .taken)
 
@@ -212,13 +217,16 @@ loop-again c =
     let p = c .before .before .before .before .before .before .before .before .before .before .before .before .before .pre in
     let l = c .before .before .before .before .before .before .before .before .before .before .least .result in
     let i = c .before .before .before .before .before .before .loop in
-    let h = c .before .before .before .before .highest in
+    let h = c .before .before .before .before .next in
     let s = c .before .settle-node in
     let d = c .before .before .before .node in
     let r = c .before .before .before .before .before .before .before .before .readers2 in
-    more (a .w) (a .rows .now) (a .nodes .now) (a .u .now) l p (i .t) (i .left) (h .result) (i .inv) (h .ensures .0) (h .ensures .1)
-    (s .last .0) (d .result) (d .ensures) (s .result) (s .ensures)
-    (r .last .1 .0) (r .ensures) (c .if1 .taken)
+    let b = small (a .w) (a .rows .now) (a .nodes .now) (a .u .now) l p (i .t) (i .left) (h .result) (i .inv .1) (h .ensures) in (
+      b,
+      more (a .w) (a .rows .now) (a .nodes .now) (a .u .now) l p (i .t) (i .left) (h .result) (i .inv .1) (h .ensures)
+          (s .last .0) (d .result) (d .ensures) (s .result) (s .ensures)
+          (r .last .1 .0) (r .ensures) (c .if1 .taken),
+    )
 
 loop-less-2 : tie.Need-loop-less-2 Inv-loop μ-loop
 loop-less-2 c =
@@ -226,10 +234,10 @@ loop-less-2 c =
     let p = c .before .before .before .before .before .before .before .before .before .before .before .before .before .pre in
     let l = c .before .before .before .before .before .before .before .before .before .before .least .result in
     let i = c .before .before .before .before .before .before .loop in
-    let h = c .before .before .before .before .highest in
+    let h = c .before .before .before .before .next in
     let s = c .before .settle-node in
     let d = c .before .before .before .node in
-    still-falls (a .w) (a .rows .now) (a .nodes .now) (a .u .now) l p (i .t) (i .left) (h .result) (i .inv) (h .ensures .0) (h .ensures .1)
+    still-falls (a .w) (a .rows .now) (a .nodes .now) (a .u .now) l p (i .t) (i .left) (h .result) (i .inv .1) (h .ensures)
     (s .last .0) (d .result) (d .ensures) (s .result) (s .ensures)
     (c .if1 .left)
 
@@ -239,12 +247,15 @@ loop-again-2 c =
     let p = c .before .before .before .before .before .before .before .before .before .before .before .before .before .pre in
     let l = c .before .before .before .before .before .before .before .before .before .before .least .result in
     let i = c .before .before .before .before .before .before .loop in
-    let h = c .before .before .before .before .highest in
+    let h = c .before .before .before .before .next in
     let s = c .before .settle-node in
     let d = c .before .before .before .node in
-    still (a .w) (a .rows .now) (a .nodes .now) (a .u .now) l p (i .t) (i .left) (h .result) (i .inv) (h .ensures .0) (h .ensures .1)
-    (s .last .0) (d .result) (d .ensures) (s .result) (s .ensures)
-    (c .if1 .left)
+    let b = small (a .w) (a .rows .now) (a .nodes .now) (a .u .now) l p (i .t) (i .left) (h .result) (i .inv .1) (h .ensures) in (
+      b,
+      still (a .w) (a .rows .now) (a .nodes .now) (a .u .now) l p (i .t) (i .left) (h .result) (i .inv .1) (h .ensures)
+          (s .last .0) (d .result) (d .ensures) (s .result) (s .ensures)
+          (c .if1 .left),
+    )
 
 returns : tie.Need-returns Inv-loop μ-loop
 returns c =
@@ -252,7 +263,7 @@ returns c =
     let l = c .before .before .before .before .before .least in
     let i = c .before .loop in
     working-full (a .w) (a .rows .now) (a .nodes .now) (a .u .now) (l .result) (c .before .before .before .before .before .before .before .before .pre .few) (l .ensures)
-    (subst (Left (a .w) (a .rows .now) (a .nodes .now) (a .u .now) (l .result) (i .t)) (c .loop-test .left) (i .inv))
+    (subst (Left (a .w) (a .rows .now) (a .nodes .now) (a .u .now) (l .result) (i .t)) (c .loop-test .left) (i .inv .1))
 
 pub fill-spec : {M : Type 1} → statement M
 fill-spec =
@@ -264,7 +275,7 @@ fill-spec =
     readers-requires
     all-requires
     loop-holds
-    highest-requires
+    next-requires
     cast-left
     cast-left-2
     shl-left
