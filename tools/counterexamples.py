@@ -59,19 +59,22 @@ def shown(folder, policies, nodes, steps, policy, judged):
         told.append((step, [f"  line {place + 2}: {words}, by {sheets.OUTLINE_SHEET.file}:{makers[place] + 2}"]))
     name = folder.names.tell("policy", policy)
     first = f"outline.txt: refused: this run of {sheets.counted(len(steps), 'step')} leaves {name} open and broken; no shorter run does"
-    return told, [first] + last_words(folder, followed(folder, policies, steps, policy), policy, judged)
-
-
-def followed(folder, policies, steps, policy):
-    """The run to its end, with no limits: only its last step may leave the policy open and broken."""
     run = Run(folder, policies, steps)
+    for _ in followed(run, policy):
+        pass
+    return told, [first] + last_words(folder, run, policy, judged)
+
+
+def followed(run, policy):
+    """Each (line, step) of the run, with no limits: only its last step may leave the policy open and broken."""
+    steps = run.steps
     for line, step in enumerate(steps, 2):
         if step[:2] == [EVENT, CREATE] and step[2] != STATICS + len(run.past.created):
             raise Differs(f"{run.at(line)} creates {step[2]}, not {STATICS + len(run.past.created)}")
         run.past.take(line, step)
         if (policy in run.past.broken()) != (line == len(steps) + 1):
             raise Differs(f"{run.at(line)} leaves policy {policy} open and broken too early, or the last step does not")
-    return run
+        yield line, step
 
 
 def last_words(folder, run, policy, judged):
