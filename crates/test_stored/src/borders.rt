@@ -6,6 +6,7 @@ use crate::judge_calls;
 use crate::local_calls;
 use crate::order_calls;
 use crate::print;
+use crate::retire_calls;
 use crate::trace_calls;
 use sheet_lines::Reading;
 use sheet_reader::PolicyReading;
@@ -61,18 +62,21 @@ fn table_calls() -> u64
     print::line(30, code_of(sheet_reader::read_outline(b"", &mut few_nodes)));
     print::line(
         31,
-        api_c::check_tables(&[0u8; EDGE_FIELDS], 0, &[0u8; NODE_FIELDS]),
+        api_c::wiforekun_check(&[0u8; EDGE_FIELDS], 0, &[0u8; NODE_FIELDS]),
     );
-    print::line(32, api_c::check_tables(&[0u8; 5], 0, &[0u8; NODE_FIELDS]));
+    print::line(
+        32,
+        api_c::wiforekun_check(&[0u8; 5], 0, &[0u8; NODE_FIELDS]),
+    );
     print::line(
         33,
-        api_c::check_tables(&[0u8; EDGE_FIELDS], 0, &[9u8; NODE_FIELDS]),
+        api_c::wiforekun_check(&[0u8; EDGE_FIELDS], 0, &[9u8; NODE_FIELDS]),
     );
     34
 }
 
 pub(crate) fn calls() -> u64
-    ensures { λ r. ⌜ r ≡ 108 ⌝ }
+    ensures { λ r. ⌜ r ≡ 145 ⌝ }
 {
     judge_calls::step_calls();
     judge_calls::flag_calls();
@@ -81,5 +85,6 @@ pub(crate) fn calls() -> u64
     trace_calls::long_calls();
     judge_calls::kept_calls();
     order_calls::order_calls();
-    local_calls::local_calls()
+    local_calls::local_calls();
+    retire_calls::calls()
 }
