@@ -1,6 +1,8 @@
--- When the search can be left out, and the answer for the flat tables of edges and nodes.
+-- When the search can be left out, and the answer for the flat tables of edges and nodes; what it promises; the exact summary.
 pub mod SkipLaws
 pub mod PolicyLaws
 pub mod AcceptedLaws
 pub mod PromiseLaws
 pub mod ExplainedLaws
+pub mod MarkLaws
+pub mod SummaryLaws

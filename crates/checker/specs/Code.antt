@@ -1,12 +1,19 @@
 -- What the check's own functions compute.
-use Prim.Native.Nat.{ℕ, _+_, _*_, _/_}
+use Prim.Native.Nat.{ℕ, _+_, _*_, _/_, _<_}
+use mathlib.Core.Path.{_≡_}
 use mathlib.Core.Bool.{Bool, _&&_, cond}
 use mathlib.Core.List.{List}
+use mathlib.Core.Logic.{_⊎_}
 use lib.Dec.{eqb, ltb}
-use lib.ListN.{length, getD}
+use lib.ListN.{length, getD, drop}
 use Rattle.usage.specs.Limits.{policies, edgeFields, nodeFields}
 use Rattle.usage.specs.Answers.{Verdict, allowed, violated}
 use Rattle.usage.specs.Tests.{someBelow}
+use Rattle.usage.specs.Tables.{edgesOf, nodesOf}
+use Rattle.checker_account.specs.Tables.{rowsIn}
+use Rattle.checker_account.specs.Rounds.{formsIn, Untouched}
+use Rattle.checker_tables.specs.Marks.{MarkedBy}
+use Rattle.checker.specs.Summary.{MarksExact}
 
 -- ── Policies that need no search: one that no sandbox opens is never open, and one that has no edge is never broken ──
 
@@ -23,3 +30,17 @@ hasEdge t p = someBelow (λ i. eqb (getD t (edgeFields * i) 0) p) (length t / ed
 -- "The check accepts, or refuses with the lowest policy": a number that is no policy stands for acceptance
 unfoldable pub policyVerdict : ℕ → Verdict
 policyVerdict p = cond (ltb p policies) (violated p) allowed
+
+-- ── The marks of a policy ──
+
+-- those with the resource x watched: none where no event is on it
+abbrev pub MarkedWith : List ℕ → Bool → List ℕ → ℕ → ℕ → ℕ → Type 0
+MarkedWith nodes local rows p x marks =
+    (Untouched (length nodes / nodeFields) (formsIn nodes) x × (marks ≡ 0))
+    ⊎ MarkedBy local (rowsIn rows) p x (length nodes / nodeFields) (formsIn nodes) marks
+
+-- a lent table once the numbers of all policies are written
+pub record MarksWritten (local : Bool) (edges nodes t t′ : List ℕ) : Type 0 where
+  pub same-length : length t′ ≡ length t
+  pub written : (p : ℕ) → p < policies → MarksExact local (edgesOf edges) (nodesOf nodes) p (getD t′ p 0)
+  pub kept : drop policies t′ ≡ drop policies t

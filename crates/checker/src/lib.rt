@@ -9,6 +9,7 @@ use usage::NODE_FIELDS;
 
 pub mod counterexample;
 mod search;
+pub mod summary;
 
 // The kind of a node that is a sandbox.
 const SANDBOX: u8 = 8;

@@ -2,24 +2,21 @@
 -- many steps at the least.
 use Prim.Native.Nat.{ℕ, _+_, _<_, _≤_}
 use mathlib.Core.Path.{_≡_, refl, sym, _∙_, ap, subst}
-use mathlib.Core.Bool.{Bool, true, false}
+use mathlib.Core.Bool.{Bool}
 use mathlib.Core.Option.{none, some}
 use mathlib.Core.List.{List, [], _∷_}
 use mathlib.Core.Logic.{_↔_}
 use native.Mathlib.Omega.{arith}
 use native.Mathlib.Decide.{ℕ-discrete}
-use lib.Dec.{eqb}
 use lib.ListN.{length}
-use borrow.Author.Tests.{ne-eqb}
 use Rattle.usage.specs.declared.Edge.{Edge}
 use Rattle.usage.specs.declared.Node.{Node}
 use Rattle.usage.specs.Limits.{mostShown}
-use Rattle.usage.specs.Policy.{Sees, EdgesOk}
-use Rattle.usage.specs.Past.{Step, event, opening, closing, retiring, Past, addIf, count, openings, closings, Open, isOpen, May, Violates}
-use Rattle.usage.specs.Past.{Numbered}
+use Rattle.usage.specs.Policy.{EdgesOk}
+use Rattle.usage.specs.Past.{Step, event, opening, closing, retiring, Past, count, Violates, Numbered}
 use Rattle.usage.specs.Outline.{noNames, IsTrace}
 use Rattle.usage.specs.Check.{Leaves, Shortest, Shown, longer}
-use Rattle.usage.proofs.PastLaws.{before-opening, before-closing, before-retiring, reopened-other}
+use Rattle.usage.proofs.PastLaws.{violates-opening, violates-closing, violates-retiring}
 use Rattle.usage.proofs.TraceLaws.{trace-tail}
 use Rattle.checker_account.specs.Witness.{Last, by-action, by-opening, Counts, Hits, Made, an-event, its-opening, LeavesBy, one}
 use Rattle.checker_account.specs.Views.{Chosen, views}
@@ -39,22 +36,6 @@ module _ (local : Bool) (es : List Edge) (ns : List Node) (p : ℕ) where
   brought-later : (m n : ℕ) → m ≤ n → Brought m → Brought n
   brought-later m n l (i, k, last, b) = (i, omega arith, last, b)
 
-  -- the opening of another policy moves no state, a closing none at all
-  may-before : {xs : List ℕ} {s q : ℕ} {past : Past} → (s ≡ p → ⊥) → May local es p (Sees xs) (opening s ∷ past) q
-      → May local es p (Sees xs) past q
-  may-before {xs} {s} {q} {past} d m =
-      let (q₀, m₀, e) = before-opening m in
-      subst (λ (t : ℕ). May local es p (Sees xs) past t) (sym (reopened-other local p s (isOpen p past) q₀ d) ∙ e) m₀
-
-  -- a closing opens nothing, and the opening of another policy opens not this one
-  open-before-closing : (b : Bool) (c o : ℕ) → addIf b c < o → c < o
-  open-before-closing true c o h = omega arith
-  open-before-closing false c o h = h
-
-  open-before-opening : (s : ℕ) (past : Past) → (s ≡ p → ⊥) → Open p (opening s ∷ past) → Open p past
-  unfolding count
-  open-before-opening s past d o = rw (ne-eqb s p d) at o
-
   pub brought-about : (past : Past) → IsTrace ns past → Violates local es p past → Brought (length past)
   unfolding count
   brought-about [] t (o, b) = absurd (omega arith)
@@ -65,10 +46,9 @@ module _ (local : Bool) (es : List Edge) (ns : List Node) (p : ℕ) where
     by-action a,
     record { step = event a r; past = past; made = an-event; trace = t; violates = v; steps = refl },
   )
-  brought-about (opening s ∷ past) t (o, (xs, i, q, m, f)) =
-      go (ℕ-discrete s p) (λ d u. brought-about past (trace-tail t) (u, (xs, i, q, may-before d m, f)))
+  brought-about (opening s ∷ past) t v = go (ℕ-discrete s p) (brought-about past (trace-tail t))
     where
-      go : Dec (s ≡ p) → ((s ≡ p → ⊥) → Open p past → Brought (length past)) → Brought (length (opening s ∷ past))
+      go : Dec (s ≡ p) → (Violates local es p past → Brought (length past)) → Brought (length (opening s ∷ past))
       go (yes e) ih = (
         length (opening s ∷ past),
         omega arith,
@@ -78,18 +58,17 @@ module _ (local : Bool) (es : List Edge) (ns : List Node) (p : ℕ) where
           past = past;
           made = subst (λ (u : ℕ). Made p by-opening (opening u)) (sym e) its-opening;
           trace = t;
-          violates = (o, (xs, i, q, m, f));
+          violates = v;
           steps = refl;
         },
       )
-      go (no d) ih = brought-later (length past) (length (opening s ∷ past)) (omega arith) (ih d (open-before-opening s past d o))
-  brought-about (closing s ∷ past) t (o, (xs, i, q, m, f)) =
+      go (no d) ih = brought-later (length past) (length (opening s ∷ past)) (omega arith) (ih (violates-opening local es p s past d v))
+  brought-about (closing s ∷ past) t v =
       brought-later (length past) (length (closing s ∷ past)) (omega arith)
-      (brought-about past (trace-tail t)
-      (open-before-closing (eqb s p) (closings p past) (openings p past) o, (xs, i, q, before-closing m, f)))
-  brought-about (retiring r ∷ past) t (o, (xs, i, q, m, f)) =
+      (brought-about past (trace-tail t) (violates-closing local es p s past v))
+  brought-about (retiring r ∷ past) t v =
       brought-later (length past) (length (retiring r ∷ past)) (omega arith)
-      (brought-about past (trace-tail t) (o, (xs, i, q, before-retiring m, f)))
+      (brought-about past (trace-tail t) (violates-retiring local es p r past v))
 
 -- ── The theorems ──
 

@@ -14,3 +14,5 @@ pub mod TouchedLaws
 pub mod ResetLaws
 -- The search's answer, from filled tables.
 pub mod AnswerLaws
+-- A policy's marks, from filled tables.
+pub mod MarkedLaws

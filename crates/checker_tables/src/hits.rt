@@ -9,6 +9,7 @@ ghost use Rattle.usage.specs.Outline.{formOf};
 ghost use Rattle.checker_account.specs.Tables.{meanings, rowsIn, restarted, place};
 ghost use Rattle.checker_account.specs.Rounds.{leavesOf, hitNode};
 ghost use Rattle.checker_tables.specs.Search.{Small, NodesFit, hitIn};
+ghost use Rattle.checker_tables.specs.Marks.{lastIn, markBit, marksIn};
 use checker_account::MEANINGS;
 use checker_account::Table;
 use usage::NODE_FIELDS;
@@ -111,4 +112,58 @@ pub(crate) fn any(
         k += 1;
     }
     false
+}
+
+// ── The marks (02, L11) ──
+
+// The bit of an opening; those below it are the actions'.
+const OPENING_BIT: u64 = 4294967296;
+
+// The step of node f as a bit: an event by its action, a create by action 0.
+fn mark_bit(f: Node) -> u64
+    requires { ⌜ Small f ⌝ }
+    ensures { λ r. ⌜ r ≡ markBit (lastIn (formOf f)) ⌝ }
+{
+    let a = f.a;
+    let kind = f.kind;
+    match kind {
+        1 => 1u64 << (a as u32),
+        2 => 1u64 << (a as u32),
+        7 => 1,
+        8 => OPENING_BIT,
+        _ => 0,
+    }
+}
+
+// It, or none.
+fn mark_if(b: bool, f: Node) -> u64
+    requires { ⌜ Small f ⌝ }
+    ensures { λ r. ⌜ r ≡ cond b (markBit (lastIn (formOf f))) 0 ⌝ }
+{
+    if b { mark_bit(f) } else { 0 }
+}
+
+// The steps of all nodes that leave an offending state.
+pub(crate) fn marks(
+    nodes: &[u8],
+    rows: &Table,
+    u: &Table,
+    local: bool,
+    p: usize,
+    x: usize,
+    l: usize,
+) -> u64
+    requires { ⌜ NodesFit (now nodes) ⌝ }
+    requires { ⌜ l < meanings ⌝ }
+    ensures { λ r. ⌜ r ≡ marksIn (now (nodes .entry)) local (now (rows .entry)) (now (u .entry)) p x l ⌝ }
+{
+    let n = nodes.len() / NODE_FIELDS;
+    let mut m: u64 = 0;
+    let mut k: usize = 0;
+    while k < n {
+        let f = crate::node(nodes, k);
+        m = m | mark_if(hit_node(u, rows, local, p, x, l, k, f), f);
+        k += 1;
+    }
+    m
 }

@@ -9,6 +9,7 @@ ghost use Rattle.usage.specs.Limits.{states, nodeFields};
 ghost use Rattle.usage.specs.Tables.{nodeAt};
 ghost use Rattle.checker_account.specs.Tables.{over, joinedAt, meanings, places, least, restarted};
 ghost use Rattle.checker_account.specs.Rounds.{grown, byOpen, Wide};
+ghost use Rattle.checker_tables.specs.Marks.{MarkedIf};
 ghost use Rattle.checker_tables.specs.Search.{lost, touched, smallNode, NodesFit, hasRoom, ArrivesBy, ArrivesIf, SearchedIf};
 use checker_account::NAMES;
 use checker_account::PLACES;
@@ -205,4 +206,17 @@ pub fn breaks(nodes: &[u8], rows: &Table, local: bool, p: usize, x: usize) -> bo
 {
     let mut u = [0u16; PLACES];
     arrive(nodes, rows, local, p, x, &mut u)
+}
+
+// The marks of policy p with the resource x watched: the search, and where it finds something, gone through to the end. Where the tables
+// have no room for the nodes, there are none.
+pub fn marks_of(nodes: &[u8], rows: &Table, local: bool, p: usize, x: usize) -> u64
+    ensures { λ r. ⌜ MarkedIf (hasRoom (now (nodes .entry))) (now (nodes .entry)) local (now (rows .entry)) p x r ⌝ }
+{
+    let mut u = [0u16; PLACES];
+    if !arrive(nodes, rows, local, p, x, &mut u) {
+        return 0;
+    }
+    let l = least(x);
+    hits::marks(nodes, rows, &u, local, p, x, l)
 }

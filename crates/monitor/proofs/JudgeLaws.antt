@@ -15,20 +15,21 @@ use Rattle.usage.specs.Judge.{stepOf}
 use Rattle.usage.specs.Tables.{edgesOf, edgeTable}
 use Rattle.usage.proofs.Logic.{false-true}
 use Rattle.monitor_state.specs.declared.State.{State}
-use Rattle.monitor_state.specs.Judge.{live, listed, openingsOf, lastOpened, stateOk, after, broken, refusal, refuse, settle, judgeStep}
-use Rattle.monitor_state.specs.Judge.{judgeRead, judgeOf}
+use Rattle.monitor_state.specs.Judge.{live, listed, openingsOf, lastOpened, stateOk, after, refusal, refuse, settle}
+use Rattle.monitor_state.specs.Looked.{brokenAmong, judgeStepBy, judgeReadBy, judgeBy, lookedAt}
 use Rattle.monitor_state.specs.Code.{stepped}
 use Rattle.monitor_state.proofs.Places.{known}
 
 -- ── A step that was read ──
 
-module _ (local : Bool) (es : List Edge) (s : State) (step : Step) where
-  pub step-refused : (n : ℕ) → refusal s step ≡ some n → stepped local es s step ≡ refuse n s
-  unfolding judgeStep
+module _ (looked : ℕ) (local : Bool) (es : List Edge) (s : State) (step : Step) where
+  pub step-refused : (n : ℕ) → refusal s step ≡ some n → stepped looked local es s step ≡ refuse n s
+  unfolding judgeStepBy
   step-refused n e = rw e
 
-  pub step-taken : (t : State) → refusal s step ≡ none → t ≡ after local es s step → stepped local es s step ≡ settle (broken t) s t
-  unfolding judgeStep
+  pub step-taken : (t : State) → refusal s step ≡ none → t ≡ after local es s step
+      → stepped looked local es s step ≡ settle (brokenAmong (lookedAt looked step) t) s t
+  unfolding judgeStepBy
   step-taken t e f = rw (e, f)
 
 -- ── The number that refuses it ──
@@ -102,21 +103,21 @@ module _ (s : State) (r : ℕ) where
 
 -- ── The step as it is handed over ──
 
-module _ (edges : List ℕ) (local : Bool) (s : State) (raw : RawStep) where
-  pub table-refused : edgeTable edges ≡ false → judgeOf edges local s raw ≡ refuse 41 s
-  unfolding judgeOf
+module _ (looked : ℕ) (edges : List ℕ) (local : Bool) (s : State) (raw : RawStep) where
+  pub table-refused : edgeTable edges ≡ false → judgeBy (lookedAt looked) edges local s raw ≡ refuse 41 s
+  unfolding judgeBy
   table-refused e = simp e
 
   module _ (t : edgeTable edges ≡ true) where
-    pub state-refused : stateOk s ≡ false → judgeOf edges local s raw ≡ refuse 42 s
-    unfolding judgeOf
+    pub state-refused : stateOk s ≡ false → judgeBy (lookedAt looked) edges local s raw ≡ refuse 42 s
+    unfolding judgeBy
     state-refused e = simp (t, e)
 
     module _ (w : stateOk s ≡ true) where
-      pub halted-refused : s .halted ≡ true → judgeOf edges local s raw ≡ refuse 20 s
-      unfolding judgeOf
+      pub halted-refused : s .halted ≡ true → judgeBy (lookedAt looked) edges local s raw ≡ refuse 20 s
+      unfolding judgeBy
       halted-refused e = simp (t, w, e)
 
-      pub judged : s .halted ≡ false → judgeOf edges local s raw ≡ judgeRead local (edgesOf edges) s (stepOf raw)
-      unfolding judgeOf
+      pub judged : s .halted ≡ false → judgeBy (lookedAt looked) edges local s raw ≡ judgeReadBy (lookedAt looked) local (edgesOf edges) s (stepOf raw)
+      unfolding judgeBy
       judged h = simp (t, w, h)

@@ -22,7 +22,8 @@ use Rattle.monitor_state.specs.declared.Judgement.{Judgement}
 use Rattle.monitor_state.specs.declared.Told.{Told}
 use Rattle.monitor_state.specs.declared.Answer.the-variants.{Allowed, Violated, Refused}
 use Rattle.monitor_state.specs.Judge.{listed, live, used, stateOk, placeFrom, placeOf, copied, createdIn, movedSets, gathered, movedIn, after}
-use Rattle.monitor_state.specs.Judge.{broken, refusal, refuse, halt, settle, judgeRead}
+use Rattle.monitor_state.specs.Judge.{refusal, refuse, halt, settle}
+use Rattle.monitor_state.specs.Looked.{brokenAmong, judgeReadBy, lookedAt}
 use Rattle.monitor_sets.specs.Instances.{unseen, firstCreated, instances}
 use Rattle.monitor_sets.specs.Created.{createdOk, highestOk, placeIn}
 use Rattle.monitor_sets.specs.Order.{orderOk}
@@ -68,9 +69,9 @@ new-above s r t h = go (listed r (live s)) refl
     go true e = absurd (let z = leb-true r (s .highest) (every-at (λ y. leb y (s .highest)) r (live s) t e) in omega arith)
     go false e = e
 
-parts-broken : (s : State) → broken s ≡ brokenIn (s .possible) (s .unclosed)
-unfolding broken brokenIn brokenBit
-parts-broken s = refl
+parts-broken : (looked : ℕ) (step : Step) (s : State) → brokenAmong (lookedAt looked step) s ≡ brokenIn looked (s .possible) (s .unclosed)
+unfolding brokenAmong brokenIn brokenBit
+parts-broken looked step s = refl
 
 pub parts-place : (s : State) (x : ℕ) → placeOf s x ≡ placeIn x (take (s .count) (s .created))
 unfolding placeOf placeIn
@@ -87,10 +88,10 @@ unfolding refuse
 refused-parts s n t e = rw e
 
 -- a step that was read and is refused
-pub refused-step : (local : Bool) (es : List Edge) (s : State) (step : Step) (n : ℕ) (t : Told)
+pub refused-step : (looked : ℕ) (local : Bool) (es : List Edge) (s : State) (step : Step) (n : ℕ) (t : Told)
     → t ≡ record { answer = Refused n; count = s .count; highest = s .highest; depth = s .depth; halted = s .halted } → refusal s step ≡ some n
-    → toldIn t s ≡ stepped local es s step
-refused-step local es s step n t e f = refused-parts s n t e ∙ sym (step-refused local es s step n f)
+    → toldIn t s ≡ stepped looked local es s step
+refused-step looked local es s step n t e f = refused-parts s n t e ∙ sym (step-refused looked local es s step n f)
 
 pub created-few : (count : ℕ) (created : List ℕ) → createdOk count created ≡ true → count ≤ mostCreated
 unfolding createdOk
@@ -120,16 +121,16 @@ module _ (s t : State) (bad : ℕ) where
       go false = refl
 
   -- a step that is taken
-  pub settled-step : (local : Bool) (es : List Edge) (step : Step) (u : Told) {sets possible created unclosed order : List ℕ}
+  pub settled-step : (looked : ℕ) (local : Bool) (es : List Edge) (step : Step) (u : Told) {sets possible created unclosed order : List ℕ}
       → t .halted ≡ false
-      → bad ≡ brokenIn (t .possible) (t .unclosed) → refusal s step ≡ none
+      → bad ≡ brokenIn looked (t .possible) (t .unclosed) → refusal s step ≡ none
       → t ≡ after local es s step → u ≡ toldOf bad (sizesOf s) (sizesOf t)
       → Left (t .sets) (s .sets) sets → Left (t .possible) (s .possible) possible → Left (t .created) (s .created) created
       → Left (t .unclosed) (s .unclosed) unclosed → Left (t .order) (s .order) order
-      → judgementOf u sets possible created unclosed order ≡ stepped local es s step
-  settled-step local es step u h b n e told p q r v w =
-      rw (told, p, q, r, v, w) (settle-parts h) ∙ ap (λ (k : ℕ). settle k s t) (b ∙ sym (parts-broken t))
-      ∙ sym (step-taken local es s step t n e)
+      → judgementOf u sets possible created unclosed order ≡ stepped looked local es s step
+  settled-step looked local es step u h b n e told p q r v w =
+      rw (told, p, q, r, v, w) (settle-parts h) ∙ ap (λ (k : ℕ). settle k s t) (b ∙ sym (parts-broken looked step t))
+      ∙ sym (step-taken looked local es s step t n e)
 
   -- an array that the step does not change
   pub kept : (l : List ℕ) → Left l l l
@@ -238,12 +239,12 @@ module _ (s : State) (r at : ℕ) (p : at ≡ placeIn r (live s)) where
 
 -- ── The step as it is handed over ──
 
-pub read-is : (local : Bool) (es : List Edge) (s : State) (step : Step) (raw : RawStep) → stepOf raw ≡ some step
-    → stepped local es s step ≡ judgeRead local es s (stepOf raw)
-unfolding judgeRead
-read-is local es s step raw e = rw e
+pub read-is : (looked : ℕ) (local : Bool) (es : List Edge) (s : State) (step : Step) (raw : RawStep) → stepOf raw ≡ some step
+    → stepped looked local es s step ≡ judgeReadBy (lookedAt looked) local es s (stepOf raw)
+unfolding judgeReadBy
+read-is looked local es s step raw e = rw e
 
-pub unread-is : (local : Bool) (es : List Edge) (s : State) (raw : RawStep)
-    → stepOf raw ≡ none → refuse 21 s ≡ judgeRead local es s (stepOf raw)
-unfolding judgeRead
-unread-is local es s raw e = rw e
+pub unread-is : (looked : ℕ) (local : Bool) (es : List Edge) (s : State) (raw : RawStep)
+    → stepOf raw ≡ none → refuse 21 s ≡ judgeReadBy (lookedAt looked) local es s (stepOf raw)
+unfolding judgeReadBy
+unread-is looked local es s raw e = rw e

@@ -24,7 +24,8 @@ ghost use Rattle.usage.specs.Tables.{edgesOf};
 ghost use Rattle.monitor_sets.specs.Instances.{instances};
 ghost use Rattle.monitor_sets.specs.Created.{highestOk};
 ghost use Rattle.monitor_sets.specs.Order.{orderOk};
-ghost use Rattle.monitor_state.specs.Judge.{startState, judgeRead, judgeOf};
+ghost use Rattle.monitor_state.specs.Judge.{startState, judgeOf};
+ghost use Rattle.monitor_state.specs.Looked.{lookedAt, judgeReadBy, judgeBy};
 ghost use Rattle.monitor_state.specs.Promise.{StandsForNothing, Keeps};
 ghost use Rattle.monitor_state.specs.Renamed.{SameAnswers};
 ghost use Rattle.monitor_state.specs.Others.{OthersKept};
@@ -32,6 +33,9 @@ ghost use Rattle.monitor_state.specs.Code.{stateOf, judgementOf, stepped};
 
 mod retiring;
 mod sandboxes;
+
+// All policies, as a set.
+const ALL_POLICIES: u8 = 255;
 
 // The start stands for the empty past, and from it no answer depends on how the dynamic resources are numbered, but for their order, nor,
 // before the first 30, on retirings that are added.
@@ -62,6 +66,7 @@ pub fn start() -> State
 // ── One step ──
 
 fn judge_create(
+    looked: u8,
     edges: &[u8],
     sets: &mut [u8; SETS],
     possible: &mut [u8; POLICIES],
@@ -78,7 +83,7 @@ fn judge_create(
     ensures { λ t.
         ⌜ ((local : Bool) (order : List ℕ)
         → judgementOf t (now (sets .exit)) (now (possible .exit)) (now (created .exit)) (now (unclosed .entry)) order
-        ≡ stepped local (edgesOf (now (edges .entry)))
+        ≡ stepped looked local (edgesOf (now (edges .entry)))
         (stateOf (now (sets .entry)) (now (possible .entry)) (now (created .entry)) count highest (now (unclosed .entry)) order depth false)
         (event 0 r)) ⌝ }
 {
@@ -93,6 +98,7 @@ fn judge_create(
     }
     let at = FIRST_CREATED + count;
     let bad = monitor_sets::instances::take_event(
+        looked,
         edges,
         sets,
         possible,
@@ -120,6 +126,7 @@ fn judge_create(
 }
 
 fn judge_event(
+    looked: u8,
     edges: &[u8],
     sets: &mut [u8; SETS],
     possible: &mut [u8; POLICIES],
@@ -137,12 +144,13 @@ fn judge_event(
     ensures { λ t.
         ⌜ ((local : Bool) (order : List ℕ)
         → judgementOf t (now (sets .exit)) (now (possible .exit)) (now (created .exit)) (now (unclosed .entry)) order
-        ≡ stepped local (edgesOf (now (edges .entry)))
+        ≡ stepped looked local (edgesOf (now (edges .entry)))
         (stateOf (now (sets .entry)) (now (possible .entry)) (now (created .entry)) count highest (now (unclosed .entry)) order depth false)
         (event action r)) ⌝ }
 {
     if action == 0 {
         return judge_create(
+            looked,
             edges,
             sets,
             possible,
@@ -160,6 +168,7 @@ fn judge_event(
     }
     let n = FIRST_CREATED + count;
     let bad = monitor_sets::instances::take_event(
+        looked,
         edges,
         sets,
         possible,
@@ -178,6 +187,7 @@ fn judge_event(
 }
 
 fn judge_read(
+    looked: u8,
     edges: &[u8],
     local: bool,
     sets: &mut [u8; SETS],
@@ -197,7 +207,7 @@ fn judge_read(
     requires { ⌜ orderOk depth (now order) (now unclosed) ≡ true ⌝ }
     ensures { λ r.
         ⌜ judgementOf r (now (sets .exit)) (now (possible .exit)) (now (created .exit)) (now (unclosed .exit)) (now (order .exit))
-        ≡ judgeRead local (edgesOf (now (edges .entry)))
+        ≡ judgeReadBy (lookedAt looked) local (edgesOf (now (edges .entry)))
         (stateOf (now (sets .entry)) (now (possible .entry)) (now (created .entry)) count highest (now (unclosed .entry)) (now (order .entry)) depth
         false)
         (stepOf step) ⌝ }
@@ -205,6 +215,7 @@ fn judge_read(
     let read = monitor_state::read_step(step);
     match read {
         Read::Event(action, r) => judge_event(
+            looked,
             edges,
             sets,
             possible,
@@ -217,6 +228,7 @@ fn judge_read(
             r,
         ),
         Read::Opening(p) => crate::sandboxes::judge_opening(
+            looked,
             local,
             sets,
             possible,
@@ -228,6 +240,7 @@ fn judge_read(
             p,
         ),
         Read::Closing(p) => crate::sandboxes::judge_closing(
+            looked,
             possible,
             unclosed,
             order,
@@ -237,6 +250,7 @@ fn judge_read(
             p,
         ),
         Read::Retiring(r) => crate::retiring::judge_retiring(
+            looked,
             sets,
             possible,
             created,
@@ -250,8 +264,62 @@ fn judge_read(
     }
 }
 
-// One step, over a state whose arrays are lent: they then hold those of the state that is returned. The numbers that the calling
-// program hands over come first, then the halted state, then the step.
+// One step, judged by the policies of a set alone, over a state whose arrays are lent: they then hold those of the state that is returned.
+// The numbers that the calling program hands over come first, then the halted state, then the step.
+pub fn judge_looked(
+    looked: u8,
+    edges: &[u8],
+    local: bool,
+    sets: &mut [u8; SETS],
+    possible: &mut [u8; POLICIES],
+    created: &mut [u32; MOST_CREATED],
+    unclosed: &mut [u8; POLICIES],
+    order: &mut [u8; MOST_UNCLOSED],
+    count: usize,
+    highest: u32,
+    depth: usize,
+    halted: bool,
+    step: RawStep,
+) -> Told
+    ensures { λ r.
+        ⌜ judgementOf r (now (sets .exit)) (now (possible .exit)) (now (created .exit)) (now (unclosed .exit)) (now (order .exit))
+        ≡ judgeBy (lookedAt looked) (now (edges .entry)) local
+        (stateOf (now (sets .entry)) (now (possible .entry)) (now (created .entry)) count highest (now (unclosed .entry)) (now (order .entry)) depth
+        halted)
+        step ⌝ }
+{
+    if !sheet_fields::edges::edge_table_ok(edges) {
+        return monitor_state::refused(41, count, highest, depth, halted);
+    }
+    if !monitor_sets::created::created_ok(created, count) {
+        return monitor_state::refused(42, count, highest, depth, halted);
+    }
+    if !monitor_sets::created::highest_ok(created, count, highest) {
+        return monitor_state::refused(42, count, highest, depth, halted);
+    }
+    if !monitor_sets::order::order_ok(order, depth, unclosed) {
+        return monitor_state::refused(42, count, highest, depth, halted);
+    }
+    if halted {
+        return monitor_state::refused(20, count, highest, depth, halted);
+    }
+    judge_read(
+        looked,
+        edges,
+        local,
+        sets,
+        possible,
+        created,
+        unclosed,
+        order,
+        count,
+        highest,
+        depth,
+        step,
+    )
+}
+
+// The same by all policies.
 pub fn judge_lent(
     edges: &[u8],
     local: bool,
@@ -273,22 +341,8 @@ pub fn judge_lent(
         halted)
         step ⌝ }
 {
-    if !sheet_fields::edges::edge_table_ok(edges) {
-        return monitor_state::refused(41, count, highest, depth, halted);
-    }
-    if !monitor_sets::created::created_ok(created, count) {
-        return monitor_state::refused(42, count, highest, depth, halted);
-    }
-    if !monitor_sets::created::highest_ok(created, count, highest) {
-        return monitor_state::refused(42, count, highest, depth, halted);
-    }
-    if !monitor_sets::order::order_ok(order, depth, unclosed) {
-        return monitor_state::refused(42, count, highest, depth, halted);
-    }
-    if halted {
-        return monitor_state::refused(20, count, highest, depth, halted);
-    }
-    judge_read(
+    judge_looked(
+        ALL_POLICIES,
         edges,
         local,
         sets,
@@ -299,6 +353,7 @@ pub fn judge_lent(
         count,
         highest,
         depth,
+        halted,
         step,
     )
 }

@@ -17,6 +17,7 @@ ghost use Rattle.monitor_state.specs.Code.{stateOf, judgementOf, stepped};
 
 // The answer is the same whatever the edges, the order and the choice of past are.
 pub(crate) fn judge_retiring(
+    looked: u8,
     sets: &mut [u8; SETS],
     possible: &[u8; POLICIES],
     created: &mut [u32; MOST_CREATED],
@@ -30,7 +31,7 @@ pub(crate) fn judge_retiring(
     ensures { λ t.
         ⌜ ((local : Bool) (es : List Edge) (order : List ℕ)
         → judgementOf t (now (sets .exit)) (now (possible .entry)) (now (created .exit)) (now (unclosed .entry)) order
-        ≡ stepped local es
+        ≡ stepped looked local es
         (stateOf (now (sets .entry)) (now (possible .entry)) (now (created .entry)) count highest (now (unclosed .entry)) order depth false)
         (retiring r)) ⌝ }
 {
@@ -38,7 +39,7 @@ pub(crate) fn judge_retiring(
     if at < FIRST_CREATED {
         return monitor_state::refused(28, count, highest, depth, false);
     }
-    let bad = monitor_sets::instances::broken_set(possible, unclosed);
+    let bad = monitor_sets::instances::broken_set(looked, possible, unclosed);
     let before = Sizes {
         count,
         highest,

@@ -22,14 +22,20 @@ ghost use Rattle.monitor_sets.specs.Order.{orderOk};
 ghost use Rattle.monitor_state.specs.Code.{oneMore, stateOf, judgementOf, stepped};
 
 // Policy p has n openings that are not closed. Which open policies are then not respected? Where one is not, the count stays as it was.
-fn recount(possible: &[u8; POLICIES], unclosed: &mut [u8; POLICIES], p: usize, n: u8) -> u8
+fn recount(
+    looked: u8,
+    possible: &[u8; POLICIES],
+    unclosed: &mut [u8; POLICIES],
+    p: usize,
+    n: u8,
+) -> u8
     requires { ⌜ p < policies ⌝ }
-    ensures { λ bad. ⌜ bad ≡ brokenIn (now (possible .entry)) (set (now (unclosed .entry)) p n) ⌝ }
+    ensures { λ bad. ⌜ bad ≡ brokenIn looked (now (possible .entry)) (set (now (unclosed .entry)) p n) ⌝ }
     ensures { λ bad. ⌜ now (unclosed .exit) ≡ cond (eqb bad 0) (set (now (unclosed .entry)) p n) (now (unclosed .entry)) ⌝ }
 {
     let mut after = *unclosed;
     after[p] = n;
-    let bad = monitor_sets::instances::broken_set(possible, &after);
+    let bad = monitor_sets::instances::broken_set(looked, possible, &after);
     if bad == 0 {
         *unclosed = after;
     }
@@ -38,6 +44,7 @@ fn recount(possible: &[u8; POLICIES], unclosed: &mut [u8; POLICIES], p: usize, n
 
 // An opening of p, its place in the order too. Which open policies are then not respected? Where one is not, all stays as it was.
 fn enter(
+    looked: u8,
     possible: &[u8; POLICIES],
     unclosed: &mut [u8; POLICIES],
     order: &mut [u8; MOST_UNCLOSED],
@@ -48,12 +55,12 @@ fn enter(
     requires { ⌜ length (now order) ≡ mostUnclosed ⌝ }
     requires { ⌜ orderOk depth (now order) (now unclosed) ≡ true ⌝ }
     requires { ⌜ depth < mostUnclosed ⌝ }
-    ensures { λ bad. ⌜ bad ≡ brokenIn (now (possible .entry)) (oneMore (now (unclosed .entry)) p) ⌝ }
+    ensures { λ bad. ⌜ bad ≡ brokenIn looked (now (possible .entry)) (oneMore (now (unclosed .entry)) p) ⌝ }
     ensures { λ bad. ⌜ now (unclosed .exit) ≡ cond (eqb bad 0) (oneMore (now (unclosed .entry)) p) (now (unclosed .entry)) ⌝ }
     ensures { λ bad. ⌜ now (order .exit) ≡ cond (eqb bad 0) (set (now (order .entry)) depth p) (now (order .entry)) ⌝ }
 {
     let n = unclosed[p];
-    let broken = recount(possible, unclosed, p, n + 1);
+    let broken = recount(looked, possible, unclosed, p, n + 1);
     if broken == 0 {
         order[depth] = p as u8;
     }
@@ -62,6 +69,7 @@ fn enter(
 
 // The same, where it puts the instances of p back to state 0: the first n, and what is kept of p.
 fn enter_anew(
+    looked: u8,
     sets: &mut [u8; SETS],
     possible: &mut [u8; POLICIES],
     unclosed: &mut [u8; POLICIES],
@@ -75,7 +83,7 @@ fn enter_anew(
     requires { ⌜ orderOk depth (now order) (now unclosed) ≡ true ⌝ }
     requires { ⌜ depth < mostUnclosed ⌝ }
     requires { ⌜ n ≤ instances ⌝ }
-    ensures { λ bad. ⌜ bad ≡ brokenIn (set (now (possible .entry)) p startSet) (oneMore (now (unclosed .entry)) p) ⌝ }
+    ensures { λ bad. ⌜ bad ≡ brokenIn looked (set (now (possible .entry)) p startSet) (oneMore (now (unclosed .entry)) p) ⌝ }
     ensures { λ bad. ⌜ now (sets .exit) ≡ cond (eqb bad 0) (resetSets n p (now (sets .entry))) (now (sets .entry)) ⌝ }
     ensures { λ bad. ⌜ now (possible .exit) ≡ cond (eqb bad 0) (set (now (possible .entry)) p startSet) (now (possible .entry)) ⌝ }
     ensures { λ bad. ⌜ now (unclosed .exit) ≡ cond (eqb bad 0) (oneMore (now (unclosed .entry)) p) (now (unclosed .entry)) ⌝ }
@@ -83,7 +91,7 @@ fn enter_anew(
 {
     let mut after = *possible;
     after[p] = START_SET;
-    let broken = enter(&after, unclosed, order, depth, p);
+    let broken = enter(looked, &after, unclosed, order, depth, p);
     if broken != 0 {
         return broken;
     }
@@ -106,6 +114,7 @@ fn is_anew(local: bool, unclosed: &[u8; POLICIES], p: usize) -> bool
 // An opening creates nothing and moves no state but those that it puts back; so the answer is the same whatever the edges and the created
 // resources are.
 pub(crate) fn judge_opening(
+    looked: u8,
     local: bool,
     sets: &mut [u8; SETS],
     possible: &mut [u8; POLICIES],
@@ -123,7 +132,7 @@ pub(crate) fn judge_opening(
     ensures { λ r.
         ⌜ ((es : List Edge) (created : List ℕ)
         → judgementOf r (now (sets .exit)) (now (possible .exit)) created (now (unclosed .exit)) (now (order .exit))
-        ≡ stepped local es
+        ≡ stepped looked local es
         (stateOf (now (sets .entry)) (now (possible .entry)) created count highest (now (unclosed .entry)) (now (order .entry)) depth false)
         (opening p)) ⌝ }
 {
@@ -143,15 +152,16 @@ pub(crate) fn judge_opening(
     };
     if is_anew(local, unclosed, p) {
         let n = FIRST_CREATED + count;
-        let broken = enter_anew(sets, possible, unclosed, order, n, depth, p);
+        let broken = enter_anew(looked, sets, possible, unclosed, order, n, depth, p);
         return monitor_state::settled(broken, before, after);
     }
-    let broken = enter(possible, unclosed, order, depth, p);
+    let broken = enter(looked, possible, unclosed, order, depth, p);
     monitor_state::settled(broken, before, after)
 }
 
 // A closing puts nothing back.
 pub(crate) fn judge_closing(
+    looked: u8,
     possible: &[u8; POLICIES],
     unclosed: &mut [u8; POLICIES],
     order: &[u8; MOST_UNCLOSED],
@@ -166,7 +176,7 @@ pub(crate) fn judge_closing(
     ensures { λ r.
         ⌜ ((local : Bool) (es : List Edge) (sets created : List ℕ)
         → judgementOf r sets (now (possible .entry)) created (now (unclosed .exit)) (now (order .entry))
-        ≡ stepped local es
+        ≡ stepped looked local es
         (stateOf sets (now (possible .entry)) created count highest (now (unclosed .entry)) (now (order .entry)) depth false) (closing p)) ⌝ }
 {
     let n = unclosed[p];
@@ -176,7 +186,7 @@ pub(crate) fn judge_closing(
     if monitor_sets::order::wide(order[depth - 1]) != p {
         return monitor_state::refused(26, count, highest, depth, false);
     }
-    let bad = recount(possible, unclosed, p, n - 1);
+    let bad = recount(looked, possible, unclosed, p, n - 1);
     let before = Sizes {
         count,
         highest,

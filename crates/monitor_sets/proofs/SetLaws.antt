@@ -1,13 +1,15 @@
 -- The laws of unions of sets, and of the bit set of the broken policies.
-use Prim.Native.Nat.{ℕ, zero, suc, _+_, _<_, _≤_, _^_}
+use Prim.Native.Nat.{ℕ, zero, suc, _+_, _/_, _<_, _≤_, _^_}
 use mathlib.Core.Path.{_≡_, refl, sym, ap, ap₂, _∙_}
+use mathlib.Core.Bool.{true, false}
 use mathlib.Core.Logic.{_⊎_, inl, inr}
 use native.Mathlib.Numerals.{add-one}
 use native.Mathlib.Omega.{arith}
 use borrow.Author.Tests.{le-leb, lt-leb, lt-ltb}
-use lib.Bits.{bitOr, or-zero-r, or-comm}
+use lib.Bits.{bitAnd, bitOr, and-mask, or-zero-r, or-comm}
+use lib.Dec.{eqb}
 use Rattle.usage.proofs.Logic.{last-or-lower}
-use Rattle.automaton.specs.Mask.{union}
+use Rattle.automaton.specs.Mask.{has, union}
 use Rattle.automaton.proofs.MaskLaws.{or-assoc}
 use Rattle.automaton.proofs.RowLaws.{union-ext}
 use Rattle.monitor_sets.specs.Code.{brokenBit}
@@ -41,16 +43,25 @@ union-with (suc n) at v f g h a b e = go (last-or-lower at n h) (λ l. union-wit
     go (inr l) ih =
         or-exchange (union n f) (f n) v ∙ ap₂ (λ (m k : ℕ). bitOr m k) (ih l) (e n (omega arith) (λ z. lower at n l (sym z)))
 
+-- whether a number is in a set, as code asks it
+pub has-bit : (v j : ℕ) → eqb (bitAnd (v / 2 ^ j) 1) 1 ≡ has v j
+unfolding has
+has-bit v j = ap (λ (n : ℕ). eqb n 1) (and-mask (v / 2 ^ j) 1)
+
 -- the bit of a policy
-module _ (possible openings p : ℕ) where
-  pub bit-closed : openings ≡ 0 → brokenBit possible openings p ≡ 0
+module _ (looked possible openings p : ℕ) where
+  pub bit-unlooked : has looked p ≡ false → brokenBit looked possible openings p ≡ 0
   unfolding brokenBit
-  bit-closed e = rw e
+  bit-unlooked m = rw m
 
-  pub bit-respected : 0 < openings → possible < 64 → brokenBit possible openings p ≡ 0
+  pub bit-closed : has looked p ≡ true → openings ≡ 0 → brokenBit looked possible openings p ≡ 0
   unfolding brokenBit
-  bit-respected o l = simp (lt-ltb 0 openings o, lt-leb 64 possible l)
+  bit-closed m e = rw (m, e)
 
-  pub bit-broken : 0 < openings → 64 ≤ possible → brokenBit possible openings p ≡ 2 ^ p
+  pub bit-respected : has looked p ≡ true → 0 < openings → possible < 64 → brokenBit looked possible openings p ≡ 0
   unfolding brokenBit
-  bit-broken o l = simp (lt-ltb 0 openings o, le-leb 64 possible l)
+  bit-respected m o l = simp (m, lt-ltb 0 openings o, lt-leb 64 possible l)
+
+  pub bit-broken : has looked p ≡ true → 0 < openings → 64 ≤ possible → brokenBit looked possible openings p ≡ 2 ^ p
+  unfolding brokenBit
+  bit-broken m o l = simp (m, lt-ltb 0 openings o, le-leb 64 possible l)

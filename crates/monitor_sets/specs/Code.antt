@@ -8,7 +8,7 @@ use lib.ListN.{getD}
 use Rattle.usage.specs.declared.Edge.{Edge}
 use Rattle.usage.specs.Limits.{policies, states}
 use Rattle.usage.specs.Tables.{from}
-use Rattle.automaton.specs.Mask.{union, offends}
+use Rattle.automaton.specs.Mask.{has, union, offends}
 use Rattle.automaton.specs.Move.{moveBy}
 use Rattle.monitor_sets.specs.Instances.{retirees, instances, setPlaces}
 use Rattle.monitor_sets.specs.Created.{behind}
@@ -31,13 +31,13 @@ endings = 1024
 abbrev pub lanes : ℕ
 lanes = 16
 
--- the bit of policy p, if it is open and an offending state is among its possible ones
-unfoldable pub brokenBit : ℕ → ℕ → ℕ → ℕ
-brokenBit possible openings p = cond (ltb 0 openings && offends possible) (2 ^ p) 0
+-- the bit of policy p, if it is looked at, is open, and an offending state is among its possible ones
+unfoldable pub brokenBit : ℕ → ℕ → ℕ → ℕ → ℕ
+brokenBit looked possible openings p = cond (has looked p && (ltb 0 openings && offends possible)) (2 ^ p) 0
 
--- the open policies that are not respected, as a bit set
-unfoldable pub brokenIn : List ℕ → List ℕ → ℕ
-brokenIn possible unclosed = union policies (λ p. brokenBit (getD possible p 0) (getD unclosed p 0) p)
+-- the open policies that are not respected, of those that are looked at, as a bit set
+unfoldable pub brokenIn : ℕ → List ℕ → List ℕ → ℕ
+brokenIn looked possible unclosed = union policies (λ p. brokenBit looked (getD possible p 0) (getD unclosed p 0) p)
 
 -- ── Moving the sets ──
 

@@ -18,7 +18,7 @@ ghost use lib.Dec.{eqb, ltb, leb};
 ghost use lib.ListN.{length, getD};
 ghost use Rattle.usage.specs.Limits.{policies};
 ghost use Rattle.usage.specs.Tables.{edgesOf};
-ghost use Rattle.automaton.specs.Mask.{union};
+ghost use Rattle.automaton.specs.Mask.{has, union};
 ghost use Rattle.automaton.specs.Move.{moveBy};
 ghost use Rattle.monitor_sets.specs.Instances.{instances, setPlaces};
 ghost use Rattle.monitor_sets.specs.Sets.{copied, resetSets, gatheredAt, gathered};
@@ -88,11 +88,22 @@ fn union_from(sets: &[u8; SETS], k: usize, n: usize) -> u8
     union_lanes(&all)
 }
 
-// The bit of policy p, if it is open and an offending state is among its possible ones.
-fn broken_bit(possible: u8, openings: u8, p: usize) -> u8
+// Is policy p in the set?
+fn has(s: u8, p: usize) -> bool
     requires { ⌜ p < policies ⌝ }
-    ensures { λ r. ⌜ r ≡ brokenBit possible openings p ⌝ }
+    ensures { λ r. ⌜ r ≡ has s p ⌝ }
 {
+    (s >> (p as u32)) & 1 == 1
+}
+
+// The bit of policy p, if it is looked at, is open, and an offending state is among its possible ones.
+fn broken_bit(looked: u8, possible: u8, openings: u8, p: usize) -> u8
+    requires { ⌜ p < policies ⌝ }
+    ensures { λ r. ⌜ r ≡ brokenBit looked possible openings p ⌝ }
+{
+    if !has(looked, p) {
+        return 0;
+    }
     if openings == 0 {
         return 0;
     }
@@ -102,14 +113,15 @@ fn broken_bit(possible: u8, openings: u8, p: usize) -> u8
     1u8 << (p as u32)
 }
 
-// The open policies that are not respected, as a bit set: those with an offending state among their possible ones.
-pub fn broken_set(possible: &[u8; POLICIES], unclosed: &[u8; POLICIES]) -> u8
-    ensures { λ r. ⌜ r ≡ brokenIn (now (possible .entry)) (now (unclosed .entry)) ⌝ }
+// The open policies that are not respected, of those that are looked at, as a bit set: those with an offending state among their possible
+// ones.
+pub fn broken_set(looked: u8, possible: &[u8; POLICIES], unclosed: &[u8; POLICIES]) -> u8
+    ensures { λ r. ⌜ r ≡ brokenIn looked (now (possible .entry)) (now (unclosed .entry)) ⌝ }
 {
     let mut bad: u8 = 0;
     let mut p: usize = 0;
     while p < POLICIES {
-        bad = bad | broken_bit(possible[p], unclosed[p], p);
+        bad = bad | broken_bit(looked, possible[p], unclosed[p], p);
         p += 1;
     }
     bad
@@ -258,6 +270,7 @@ fn move_sets(
 }
 
 fn take(
+    looked: u8,
     edges: &[u8],
     sets: &mut [u8; SETS],
     possible: &mut [u8; POLICIES],
@@ -270,7 +283,7 @@ fn take(
     requires { ⌜ length (now sets) ≡ setPlaces ⌝ }
     requires { ⌜ n ≤ instances ⌝ }
     requires { ⌜ at < n ⌝ }
-    ensures { λ bad. ⌜ bad ≡ brokenIn (gathered n (eventSets (edgesOf (now (edges .entry))) action r at n (now (sets .entry))))
+    ensures { λ bad. ⌜ bad ≡ brokenIn looked (gathered n (eventSets (edgesOf (now (edges .entry))) action r at n (now (sets .entry))))
         (now (unclosed .entry)) ⌝ }
     ensures { λ bad.
         ⌜ now (sets .exit)
@@ -282,7 +295,7 @@ fn take(
 {
     let old = *sets;
     let after = move_sets(edges, sets, n, at, action, r);
-    let bad = broken_set(&after, unclosed);
+    let bad = broken_set(looked, &after, unclosed);
     if bad != 0 {
         *sets = old;
         return bad;
@@ -323,9 +336,10 @@ pub fn reset(sets: &mut [u8; SETS], n: usize, p: usize)
 }
 
 // Moves the sets of the first n instances on an event, instance `at` as that of its resource, gathers what each policy may then be in, and
-// says which open policies are then not respected. Where one is not, both stay as they were; so they do where there are not n instances, or
+// says which open policies, of those that are looked at, are then not respected. Where one is not, both stay as they were; so they do where there are not n instances, or
 // n is not above `at`.
 pub fn take_event(
+    looked: u8,
     edges: &[u8],
     sets: &mut [u8; SETS],
     possible: &mut [u8; POLICIES],
@@ -337,7 +351,7 @@ pub fn take_event(
 ) -> u8
     ensures { λ bad.
         ⌜ bad ≡ cond (leb n instances && ltb at n)
-        (brokenIn (gathered n (eventSets (edgesOf (now (edges .entry))) action r at n (now (sets .entry)))) (now (unclosed .entry))) 0 ⌝ }
+        (brokenIn looked (gathered n (eventSets (edgesOf (now (edges .entry))) action r at n (now (sets .entry)))) (now (unclosed .entry))) 0 ⌝ }
     ensures { λ bad.
         ⌜ now (sets .exit)
         ≡ cond ((leb n instances && ltb at n) && eqb bad 0) (eventSets (edgesOf (now (edges .entry))) action r at n (now (sets .entry)))
@@ -355,5 +369,5 @@ pub fn take_event(
     }
     let old = *sets;
     sets_known(old);
-    take(edges, sets, possible, unclosed, n, at, action, r)
+    take(looked, edges, sets, possible, unclosed, n, at, action, r)
 }

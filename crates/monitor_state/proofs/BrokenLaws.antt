@@ -30,7 +30,7 @@ broken-lt s = maskOf-lt (λ p. ltb 0 (getD (s .unclosed) p 0) && offends (possib
 
 module _ (local : Bool) (es : List Edge) (past : Past) (h : Bool) (s : State) (R : Represents local es past h s) where
   -- an offending state is among the possible ones exactly where some instance, which is that of one resource, may be in it
-  offends-broken : EdgesOk es → (p : ℕ) → p < policies → offends (possibleIn s p) ≡ true → Broken local es p past
+  pub offends-broken : EdgesOk es → (p : ℕ) → p < policies → offends (possibleIn s p) ≡ true → Broken local es p past
   offends-broken v p k o =
       broken-single (no-pair v p) .1
       (go (or-cases (has (possibleIn s p) 6) (has (possibleIn s p) 7) (sym (has-offending (possibleIn s p) (R .possible-bytes p)) ∙ o)))

@@ -13,7 +13,8 @@ use Rattle.monitor_state.specs.declared.Judgement.{Judgement}
 use Rattle.monitor_state.specs.declared.Told.{Told}
 use Rattle.monitor_state.specs.declared.Sizes.{Sizes}
 use Rattle.monitor_state.specs.declared.Answer.the-variants.{Allowed, Violated}
-use Rattle.monitor_state.specs.Judge.{broken, refusal, settle, judgeStep}
+use Rattle.monitor_state.specs.Judge.{refusal}
+use Rattle.monitor_state.specs.Looked.{lookedAt, judgeStepBy}
 use Rattle.monitor_state.specs.declared.Read.{Read}
 use Rattle.monitor_state.specs.declared.Read.the-variants.{Event, Opening, Closing, Retiring, Nothing}
 
@@ -52,9 +53,9 @@ abbrev pub judgementOf : Told → List ℕ → List ℕ → List ℕ → List �
 judgementOf t sets possible created unclosed order =
     record { answer = t .answer; state = stateOf sets possible created (t .count) (t .highest) unclosed order (t .depth) (t .halted) }
 
--- the judgement of a step that was read
-abbrev pub stepped : Bool → List Edge → State → Step → Judgement
-stepped local es s step = judgeStep local es s step (refusal s step)
+-- the judgement of a step that was read, by the policies `looked`
+abbrev pub stepped : ℕ → Bool → List Edge → State → Step → Judgement
+stepped looked local es s step = judgeStepBy (lookedAt looked) local es s step (refusal s step)
 
 -- what is told of a step that leaves the policies `bad` broken
 unfoldable pub toldOf : ℕ → Sizes → Sizes → Told

@@ -1,4 +1,5 @@
 pub mod Judge
+pub mod Looked
 pub mod Represents
 pub mod Promise
 pub mod Renamed

@@ -26,7 +26,7 @@ returns c =
     let a = c .before .before .before .args in
     λ local order.
     let s = stateOf (a .sets .now) (a .possible .now) (a .created .now) (a .count) (a .highest) (a .unclosed .now) order (a .depth) false in
-    refused-step local (edgesOf (a .edges .now)) s (event 0 (a .r)) 22 (c .refused .result) (c .refused .ensures)
+    refused-step (a .looked) local (edgesOf (a .edges .now)) s (event 0 (a .r)) 22 (c .refused .result) (c .refused .ensures)
     (create-static s (a .r) (c .before .if1 .taken))
 
 refused-requires-2 : tie.Need-refused-requires-2
@@ -38,7 +38,7 @@ returns-2 c =
     let dyn = c .before .before .if1 .left in
     λ local order.
     let s = stateOf (a .sets .now) (a .possible .now) (a .created .now) (a .count) (a .highest) (a .unclosed .now) order (a .depth) false in
-    refused-step local (edgesOf (a .edges .now)) s (event 0 (a .r)) 27 (c .refused2 .result) (c .refused2 .ensures)
+    refused-step (a .looked) local (edgesOf (a .edges .now)) s (event 0 (a .r)) 27 (c .refused2 .result) (c .refused2 .ensures)
     (create-low s (a .r) dyn (c .before .if2 .taken))
 
 refused-requires-3 : tie.Need-refused-requires-3
@@ -50,7 +50,7 @@ returns-3 c =
     let dyn = c .before .before .before .if1 .left in
     λ local order.
     let s = stateOf (a .sets .now) (a .possible .now) (a .created .now) (a .count) (a .highest) (a .unclosed .now) order (a .depth) false in
-    refused-step local (edgesOf (a .edges .now)) s (event 0 (a .r)) 30 (c .refused3 .result) (c .refused3 .ensures)
+    refused-step (a .looked) local (edgesOf (a .edges .now)) s (event 0 (a .r)) 30 (c .refused3 .result) (c .refused3 .ensures)
     (create-full s (a .r) dyn (c .before .before .if2 .left) (c .before .if3 .taken))
 
 add-at : tie.Need-add-at
@@ -97,7 +97,7 @@ returns-4 c =
     let s = stateOf (a .sets .now) (a .possible .now) (a .created .now) (a .count) (a .highest) (a .unclosed .now) order (a .depth) false in
     let absent = new-above s (a .r) (pre .1 .1) above in
     let t = movedTo s (at + 1) (eventSets es 0 (a .r) at (at + 1) (a .sets .now)) new (a .count + 1) (a .r) in
-    settled-step s t bad local es (event 0 (a .r)) (c .settled .result) refl (e .ensures .0 ∙ taken (at + 1) at _ _ m k)
+    settled-step s t bad (a .looked) local es (event 0 (a .r)) (c .settled .result) refl (e .ensures .0 ∙ taken (at + 1) at _ _ m k)
     (create-free s (a .r) dyn above room) (create-after local es s (a .r) l dyn absent) (c .settled .ensures)
     (e .ensures .1 .0 ∙ taken-sets (at + 1) at bad _ _ m k) (e .ensures .1 .1 ∙ taken-sets (at + 1) at bad _ _ m k) made
     (kept s t bad (a .unclosed .now)) (kept s t bad order)

@@ -32,7 +32,7 @@ returns-2 c =
     let a = c .before .before .before .before .before .before .args in
     λ local order.
     let s = stateOf (a .sets .now) (a .possible .now) (a .created .now) (a .count) (a .highest) (a .unclosed .now) order (a .depth) false in
-    refused-step local (edgesOf (a .edges .now)) s (event (a .action) (a .r)) 24 (c .refused .result) (c .refused .ensures)
+    refused-step (a .looked) local (edgesOf (a .edges .now)) s (event (a .action) (a .r)) 24 (c .refused .result) (c .refused .ensures)
     (use-unknown s (a .r) (a .action) (c .before .before .before .before .if1 .left)
     (not-known s (a .r) (parts-place s (a .r) ∙ sym (c .before .before .place-of .ensures) ∙ c .before .if2 .taken)))
 
@@ -61,7 +61,7 @@ returns-3 c =
     let s = stateOf (a .sets .now) (a .possible .now) (a .created .now) (a .count) (a .highest) (a .unclosed .now) order (a .depth) false in
     let u : at < n = omega (arith, place .ensures, parts-place s (a .r), place-lt s (a .r)) in
     let t = movedTo s n (eventSets es (a .action) (a .r) at n (a .sets .now)) (a .created .now) (a .count) (a .highest) in
-    settled-step s t bad local es (event (a .action) (a .r)) (c .settled .result) refl (e .ensures .0 ∙ taken n at _ _ m u)
+    settled-step s t bad (a .looked) local es (event (a .action) (a .r)) (c .settled .result) refl (e .ensures .0 ∙ taken n at _ _ m u)
     (event-free local es s (a .r) (a .action) at other (place .ensures) (c .before .before .before .before .if2 .left))
     (event-after local es s (a .r) (a .action) at other (place .ensures)) (c .settled .ensures)
     (e .ensures .1 .0 ∙ taken-sets n at bad _ _ m u) (e .ensures .1 .1 ∙ taken-sets n at bad _ _ m u)

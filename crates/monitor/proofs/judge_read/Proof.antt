@@ -17,7 +17,9 @@ enum-known-read : tie.Need-enum-known-read
 enum-known-read c = search needs
 
 judge-event-requires : tie.Need-judge-event-requires
-judge-event-requires c κs = search needs
+judge-event-requires c κs =
+    let pre = c .before .before .before .before .before .before .before .before .before .pre in
+    (pre .0, (pre .1 .0, pre .1 .1 .0))
 
 enum-known-read-2 : tie.Need-enum-known-read-2
 enum-known-read-2 c = search needs
@@ -60,7 +62,7 @@ returns c =
     let a = c .before .before .before .before .before .before .before .before .before .before .args in
     let s = stateOf (a .sets .now) (a .possible .now) (a .created .now) (a .count) (a .highest) (a .unclosed .now) (a .order .now) (a .depth) false in
     c .judge-event .ensures (a .local) (a .order .now)
-    ∙ read-is (a .local) (edgesOf (a .edges .now)) s _ (a .step)
+    ∙ read-is (a .looked) (a .local) (edgesOf (a .edges .now)) s _ (a .step)
     (sym (c .before .before .before .before .before .before .before .before .read-step .ensures)
     ∙ ap (λ (x : Read). says x) (c .before .before .before .before .before .before .read .given .1))
 
@@ -69,7 +71,7 @@ returns-2 c =
     let a = c .before .before .before .before .before .before .before .before .before .before .args in
     let s = stateOf (a .sets .now) (a .possible .now) (a .created .now) (a .count) (a .highest) (a .unclosed .now) (a .order .now) (a .depth) false in
     c .judge-opening .ensures (edgesOf (a .edges .now)) (a .created .now)
-    ∙ read-is (a .local) (edgesOf (a .edges .now)) s _ (a .step)
+    ∙ read-is (a .looked) (a .local) (edgesOf (a .edges .now)) s _ (a .step)
     (sym (c .before .before .before .before .before .before .before .before .read-step .ensures)
     ∙ ap (λ (x : Read). says x) (c .before .before .before .before .before .before .read2 .given .1))
 
@@ -78,7 +80,7 @@ returns-3 c =
     let a = c .before .before .before .before .before .before .before .before .before .args in
     let s = stateOf (a .sets .now) (a .possible .now) (a .created .now) (a .count) (a .highest) (a .unclosed .now) (a .order .now) (a .depth) false in
     c .judge-closing .ensures (a .local) (edgesOf (a .edges .now)) (a .sets .now) (a .created .now)
-    ∙ read-is (a .local) (edgesOf (a .edges .now)) s _ (a .step)
+    ∙ read-is (a .looked) (a .local) (edgesOf (a .edges .now)) s _ (a .step)
     (sym (c .before .before .before .before .before .before .before .read-step .ensures)
     ∙ ap (λ (x : Read). says x) (c .before .before .before .before .before .read3 .given .1))
 
@@ -87,7 +89,7 @@ returns-4 c =
     let a = c .before .before .before .before .before .before .before .before .before .before .args in
     let s = stateOf (a .sets .now) (a .possible .now) (a .created .now) (a .count) (a .highest) (a .unclosed .now) (a .order .now) (a .depth) false in
     c .judge-retiring .ensures (a .local) (edgesOf (a .edges .now)) (a .order .now)
-    ∙ read-is (a .local) (edgesOf (a .edges .now)) s _ (a .step)
+    ∙ read-is (a .looked) (a .local) (edgesOf (a .edges .now)) s _ (a .step)
     (sym (c .before .before .before .before .before .before .before .before .read-step .ensures)
     ∙ ap (λ (x : Read). says x) (c .before .before .before .before .before .before .read4 .given .1))
 
@@ -96,7 +98,7 @@ returns-5 c =
     let a = c .before .before .before .before .before .args in
     let s = stateOf (a .sets .now) (a .possible .now) (a .created .now) (a .count) (a .highest) (a .unclosed .now) (a .order .now) (a .depth) false in
     refused-parts s 21 (c .refused .result) (c .refused .ensures)
-    ∙ unread-is (a .local) (edgesOf (a .edges .now)) s (a .step)
+    ∙ unread-is (a .looked) (a .local) (edgesOf (a .edges .now)) s (a .step)
     (sym (c .before .before .before .read-step .ensures) ∙ ap (λ (x : Read). says x) (c .before .enum-told .given .1))
 
 pub judge-read-spec : {M : Type 1} → statement M

@@ -28,7 +28,7 @@ returns c =
     let place = c .before .before .place-of in
     λ local es order.
     let s = stateOf (a .sets .now) (a .possible .now) (a .created .now) (a .count) (a .highest) (a .unclosed .now) order (a .depth) false in
-    refused-step local es s (retiring (a .r)) 28 (c .refused .result) (c .refused .ensures)
+    refused-step (a .looked) local es s (retiring (a .r)) 28 (c .refused .result) (c .refused .ensures)
     (retiring-low s (a .r) (place .result) (place .ensures) (c .before .if1 .taken))
 
 broken-set-requires : tie.Need-broken-set-requires
@@ -55,7 +55,7 @@ returns-2 c =
     λ local es order.
     let s = stateOf (a .sets .now) (a .possible .now) (a .created .now) (a .count) (a .highest) (a .unclosed .now) order (a .depth) false in
     let t = retiredIn s (a .r) in
-    settled-step s t bad local es (retiring (a .r)) (c .settled .result) refl (e .ensures)
+    settled-step s t bad (a .looked) local es (retiring (a .r)) (c .settled .result) refl (e .ensures)
     (retiring-taken s (a .r) (place .result) (place .ensures) (c .before .before .before .if1 .left)) refl (c .settled .ensures)
     (sym (ap (λ (b : Bool). cond b (t .sets) (a .sets .now)) off)) (kept s t bad (a .possible .now))
     (sym (ap (λ (b : Bool). cond b (t .created) (a .created .now)) off)) (kept s t bad (a .unclosed .now)) (kept s t bad order)
@@ -94,7 +94,7 @@ returns-3 c =
     let created = c .before .close-up .ensures
     ∙ close-done (a .count) (at - firstCreated) _ _ pre (omega (arith, low, used))
     ∙ ap (λ (i : ℕ). closedUp (i - firstCreated) (a .count) (a .created .now)) is in
-    settled-step s t bad local es (retiring (a .r)) (c .settled2 .result) refl (e .ensures)
+    settled-step s t bad (a .looked) local es (retiring (a .r)) (c .settled2 .result) refl (e .ensures)
     (retiring-taken s (a .r) at (place .ensures) low) refl (c .settled2 .ensures)
     (sets ∙ sym (ap (λ (b : Bool). cond b (t .sets) (a .sets .now)) on)) (kept s t bad (a .possible .now))
     (created ∙ sym (ap (λ (b : Bool). cond b (t .created) (a .created .now)) on)) (kept s t bad (a .unclosed .now)) (kept s t bad order)

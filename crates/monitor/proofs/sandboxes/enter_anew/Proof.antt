@@ -14,7 +14,9 @@ array-write-after : tie.Need-array-write-after
 array-write-after c = search needs
 
 enter-requires : tie.Need-enter-requires
-enter-requires c κs = search needs
+enter-requires c κs =
+    let pre = c .before .before .before .before .pre in
+    (pre .0, (pre .1 .0, (pre .1 .1 .0, pre .1 .1 .1 .0)))
 
 returns : tie.Need-returns
 returns c =

@@ -35,7 +35,7 @@ returns c =
     let a = c .before .before .before .args in
     λ local es sets created.
     let s = stateOf sets (a .possible .now) created (a .count) (a .highest) (a .unclosed .now) (a .order .now) (a .depth) false in
-    refused-step local es s (closing (a .p)) 25 (c .refused .result) (c .refused .ensures) (closing-closed s (a .p) (c .before .if1 .taken))
+    refused-step (a .looked) local es s (closing (a .p)) 25 (c .refused .result) (c .refused .ensures) (closing-closed s (a .p) (c .before .if1 .taken))
 
 sub-wide : tie.Need-sub-wide
 sub-wide c =
@@ -61,7 +61,7 @@ returns-2 c =
     let a = c .before .before .before .before .before .before .args in
     λ local es sets created.
     let s = stateOf sets (a .possible .now) created (a .count) (a .highest) (a .unclosed .now) (a .order .now) (a .depth) false in
-    refused-step local es s (closing (a .p)) 26 (c .refused2 .result) (c .refused2 .ensures)
+    refused-step (a .looked) local es s (closing (a .p)) 26 (c .refused2 .result) (c .refused2 .ensures)
     (closing-not-last s (a .p) (pos _ (c .before .before .before .before .if1 .left))
     (λ e. c .before .if2 .taken (c .before .before .wide .ensures ∙ e)))
 
@@ -93,7 +93,7 @@ returns-3 c =
     λ local es sets created.
     let s = stateOf sets (a .possible .now) created (a .count) (a .highest) (a .unclosed .now) (a .order .now) (a .depth) false in
     let t = withOpenings s (set (a .unclosed .now) (a .p) n) (a .order .now) (a .depth - 1) in
-    settled-step s t (bad .result) local es (closing (a .p)) (c .settled .result) refl (bad .ensures .0)
+    settled-step s t (bad .result) (a .looked) local es (closing (a .p)) (c .settled .result) refl (bad .ensures .0)
     (closing-free s (a .p) (pos _ (c .before .before .before .before .before .before .if1 .left))
     (sym (c .before .before .before .before .wide .ensures) ∙ c .before .before .before .if2 .left)) refl (c .settled .ensures)
     (kept s t (bad .result) sets) (kept s t (bad .result) (a .possible .now)) (kept s t (bad .result) created) (bad .ensures .1)

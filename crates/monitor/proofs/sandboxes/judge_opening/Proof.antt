@@ -25,7 +25,7 @@ returns c =
     let a = c .before .before .args in
     λ es created.
     let s = stateOf (a .sets .now) (a .possible .now) created (a .count) (a .highest) (a .unclosed .now) (a .order .now) (a .depth) false in
-    refused-step (a .local) es s (opening (a .p)) 32 (c .refused .result)
+    refused-step (a .looked) (a .local) es s (opening (a .p)) 32 (c .refused .result)
     (c .refused .ensures) (opening-deep s (a .p) (c .before .if1 .taken))
 
 add-deeper : tie.Need-add-deeper
@@ -57,7 +57,7 @@ returns-2 c =
     λ es created.
     let s = stateOf (a .sets .now) (a .possible .now) created (a .count) (a .highest) (a .unclosed .now) (a .order .now) (a .depth) false in
     let t = opened true s (a .p) in
-    settled-step s t bad (a .local) es (opening (a .p)) (c .settled .result) refl (e .ensures .0)
+    settled-step s t bad (a .looked) (a .local) es (opening (a .p)) (c .settled .result) refl (e .ensures .0)
     (opening-free s (a .p) (c .before .before .before .before .before .before .before .before .before .if1 .left))
     (ap (λ (b : Bool). opened b s (a .p)) (sym is)) (c .settled .ensures)
     (e .ensures .1 .0) (e .ensures .1 .1 .0) (kept s t bad created) (e .ensures .1 .1 .1 .0) (e .ensures .1 .1 .1 .1)
@@ -81,7 +81,7 @@ returns-3 c =
     λ es created.
     let s = stateOf (a .sets .now) (a .possible .now) created (a .count) (a .highest) (a .unclosed .now) (a .order .now) (a .depth) false in
     let t = opened false s (a .p) in
-    settled-step s t bad (a .local) es (opening (a .p)) (c .settled2 .result) refl (e .ensures .0)
+    settled-step s t bad (a .looked) (a .local) es (opening (a .p)) (c .settled2 .result) refl (e .ensures .0)
     (opening-free s (a .p) (c .before .before .before .before .before .before .before .before .if1 .left))
     (ap (λ (b : Bool). opened b s (a .p)) (sym is)) (c .settled2 .ensures)
     (kept s t bad (a .sets .now)) (kept s t bad (a .possible .now)) (kept s t bad created) (e .ensures .1 .0) (e .ensures .1 .1)

@@ -11,10 +11,10 @@ use Rattle.monitor_sets.proofs.instances.broken_set.Statement.{statemen
 use Rattle.monitor_sets.proofs.instances.broken_set.Tie as tie
 
 abbrev Inv-loop : tie.InvT-loop
-Inv-loop possible unclosed bad₀ p₀ bad p = (p ≤ policies) × (bad ≡ union p (λ q. brokenBit (getD possible q 0) (getD unclosed q 0) q))
+Inv-loop looked possible unclosed bad₀ p₀ bad p = (p ≤ policies) × (bad ≡ union p (λ q. brokenBit looked (getD possible q 0) (getD unclosed q 0) q))
 
 abbrev μ-loop : tie.MeasureT-loop
-μ-loop possible unclosed bad₀ p₀ bad p = policies - p
+μ-loop looked possible unclosed bad₀ p₀ bad p = policies - p
 
 loop-holds : tie.Need-loop-holds Inv-loop μ-loop
 unfolding union
@@ -41,7 +41,7 @@ loop-again c =
     let t = c .before .before .before .before .loop in (
       search needs,
       rw (t .inv .1, c .broken-bit .ensures)
-          (union-more (t .p) (λ q. brokenBit (getD (a .possible .now) q 0) (getD (a .unclosed .now) q 0) q)),
+          (union-more (t .p) (λ q. brokenBit (a .looked) (getD (a .possible .now) q 0) (getD (a .unclosed .now) q 0) q)),
     )
 
 returns : tie.Need-returns Inv-loop μ-loop

@@ -23,7 +23,7 @@ returns c =
     let new = eventSets (edgesOf (a .edges .now)) (a .action) (a .r) (a .at) (a .n) (a .sets .now) in
     let bad = c .before .broken-set in
     let some-bad = ne-eqb (bad .result) 0 (c .if1 .taken) in (
-      bad .ensures ∙ ap (λ (l : List ℕ). brokenIn l (a .unclosed .now)) (moved .ensures .1),
+      bad .ensures ∙ ap (λ (l : List ℕ). brokenIn (a .looked) l (a .unclosed .now)) (moved .ensures .1),
       (
         sym (ap (λ (b : Bool). cond b new (a .sets .now)) some-bad),
         sym (ap (λ (b : Bool). cond b (gathered (a .n) new) (a .possible .now)) some-bad),
@@ -37,7 +37,7 @@ returns-2 c =
     let new = eventSets (edgesOf (a .edges .now)) (a .action) (a .r) (a .at) (a .n) (a .sets .now) in
     let bad = c .before .broken-set in
     let none-bad = eq-eqb (bad .result) 0 (c .if1 .left) in (
-      bad .ensures ∙ ap (λ (l : List ℕ). brokenIn l (a .unclosed .now)) (moved .ensures .1),
+      bad .ensures ∙ ap (λ (l : List ℕ). brokenIn (a .looked) l (a .unclosed .now)) (moved .ensures .1),
       (
         moved .ensures .0 ∙ sym (ap (λ (b : Bool). cond b new (a .sets .now)) none-bad),
         moved .ensures .1 ∙ sym (ap (λ (b : Bool). cond b (gathered (a .n) new) (a .possible .now)) none-bad),

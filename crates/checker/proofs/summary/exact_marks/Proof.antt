@@ -1,0 +1,55 @@
+use denote.Ref.{now}
+use mathlib.Core.Path.{sym, _∙_}
+use borrow.Author.Needs.{needs}
+use Rattle.usage.specs.Tables.{edgesOf}
+use Rattle.usage.proofs.Logic.{not-true}
+use Rattle.automaton.specs.Move.{rowsOf}
+use Rattle.checker_tables.proofs.WholeLaws.{whole-in}
+use Rattle.checker.proofs.PolicyLaws.{few-nodes, shut, bare}
+use Rattle.checker.proofs.MarkLaws.{policy-exact, unmarked}
+use Rattle.checker.proofs.summary.exact_marks.Statement.{statement}
+use Rattle.checker.proofs.summary.exact_marks.Tie as tie
+
+opens-requires : tie.Need-opens-requires
+opens-requires c κs = search needs
+
+returns : tie.Need-returns
+returns c =
+    let a = c .before .before .before .before .args in
+    let p = c .before .before .before .before .pre in
+    let o = c .before .opens in
+    unmarked (a .local) (now (a .edges)) (now (a .nodes)) (p .0) (p .1 .0) (a .p)
+    (shut (a .local) (now (a .edges)) (now (a .nodes)) (p .0) (p .1 .0) (a .p) (sym (o .ensures) ∙ not-true (o .result) (c .if1 .taken)))
+
+has-edge-requires : tie.Need-has-edge-requires
+has-edge-requires c κs = search needs
+
+returns-2 : tie.Need-returns-2
+returns-2 c =
+    let a = c .before .before .before .before .before .before .args in
+    let p = c .before .before .before .before .before .before .pre in
+    let o = c .before .has-edge in
+    unmarked (a .local) (now (a .edges)) (now (a .nodes)) (p .0) (p .1 .0) (a .p)
+    (bare (a .local) (now (a .edges)) (now (a .nodes)) (p .0) (p .1 .0) (a .p) (sym (o .ensures) ∙ not-true (o .result) (c .if2 .taken)))
+
+fill-requires : tie.Need-fill-requires
+fill-requires c κs = search needs
+
+policy-marks-requires : tie.Need-policy-marks-requires
+policy-marks-requires c κs = c .before .before .before .before .before .before .before .before .before .pre .1 .0
+
+returns-3 : tie.Need-returns-3
+returns-3 c =
+    let a = c .before .before .before .before .before .before .before .before .before .before .args in
+    let p = c .before .before .before .before .before .before .before .before .before .before .pre in
+    let f = c .before .before .fill in
+    let e =
+    f .ensures ∙ whole-in (rowsOf (edgesOf (now (a .edges)))) (a .p) (now (a .nodes)) (p .1 .1)
+    (few-nodes (a .local) (now (a .edges)) (now (a .nodes)) (p .0) (p .1 .0)) in
+    policy-exact (a .local) (now (a .edges)) (now (a .nodes)) (p .0) (p .1 .0) (a .p) (p .1 .1) (f .last .1 .1 .1 .0) e (c .policy-marks .result)
+    (c .policy-marks .ensures)
+
+pub exact-marks-spec : {M : Type 1} → statement M
+exact-marks-spec =
+    tie.close
+    (tie.spec opens-requires returns has-edge-requires returns-2 fill-requires policy-marks-requires returns-3)

@@ -1,0 +1,78 @@
+-- The marks of a policy, from the tables that were filled.
+use Prim.Native.Nat.{ℕ, zero, suc, _*_, _/_, _%_, _^_, _<_}
+use mathlib.Core.Path.{_≡_, refl, sym, ap, _∙_}
+use mathlib.Core.Bool.{Bool, true, false, _||_, cond}
+use mathlib.Core.List.{List}
+use native.Mathlib.Nat.{one-mul}
+use native.Mathlib.Omega.{arith}
+use lib.Bits.{bitOr}
+use lib.Dec.{lit<}
+use lib.Pow.{shl-exact}
+use lib.ListN.{length}
+use Rattle.usage.specs.Limits.{mostNodes, nodeFields}
+use Rattle.usage.specs.Outline.{formOf}
+use Rattle.usage.specs.Tests.{someBelow}
+use Rattle.usage.proofs.Logic.{false-true, or-left}
+use Rattle.automaton.specs.Mask.{union}
+use Rattle.checker_account.specs.Tables.{least, rowsIn}
+use Rattle.checker_account.specs.Rounds.{formsIn, hitNode, hitAny}
+use Rattle.checker_account.proofs.CodeLaws.{by-kind}
+use Rattle.checker_tables.specs.Search.{ArrivesIf}
+use Rattle.checker_tables.specs.Marks.{lastIn, markBit, hitMarks, marksIn, MarkedIf}
+
+-- ── Bits ──
+
+pub shifted : (k : ℕ) → k < mostNodes → 1 * 2 ^ k % 2 ^ 64 ≡ 2 ^ k
+shifted k l = shl-exact {a = 1} 1 k 64 (lit< tt) (omega arith) ∙ one-mul (2 ^ k)
+
+-- a node of a kind other than 1, 2, 7 and 8 has no mark
+pub no-mark : (n a b : ℕ) → (n ≡ 1 → ⊥) → (n ≡ 2 → ⊥) → (n ≡ 7 → ⊥) → (n ≡ 8 → ⊥)
+    → markBit (lastIn (formOf (record { kind = n; a = a; b = b }))) ≡ 0
+unfolding formOf
+no-mark n a b d₁ d₂ d₇ d₈ =
+    by-kind (λ j. n ≡ j → markBit (lastIn (formOf (record { kind = j; a = a; b = b }))) ≡ 0) (λ e. refl) (λ e. absurd (d₁ e))
+    (λ e. absurd (d₂ e)) (λ e. refl) (λ e. refl) (λ e. refl) (λ e. refl) (λ e. absurd (d₇ e)) (λ e. absurd (d₈ e)) (λ k e. refl) n refl
+
+-- ── The search, gone through to its end ──
+
+no-marks : (n : ℕ) (test : ℕ → Bool) (f : ℕ → ℕ) → someBelow test n ≡ false → union n (λ k. cond (test k) (f k) 0) ≡ 0
+unfolding union someBelow
+no-marks zero test f e = refl
+no-marks (suc n) test f e = go (test n) refl (no-marks n test f)
+  where
+    go : (b : Bool) → test n ≡ b → (someBelow test n ≡ false → union n (λ k. cond (test k) (f k) 0) ≡ 0)
+        → bitOr (union n (λ k. cond (test k) (f k) 0)) (cond (test n) (f n) 0) ≡ 0
+    go true h ih = false-true (sym e ∙ or-left (test n) (someBelow test n) h)
+    go false h ih = rw (h, ih (sym (ap (λ (b : Bool). b || someBelow test n) h) ∙ e)) refl
+
+-- a search that finds nothing leaves no mark
+pub unmarked : (room : Bool) (nodes : List ℕ) (local : Bool) (rows : List ℕ) (p x : ℕ) (u : List ℕ) (answer : Bool) → answer ≡ false
+    → ArrivesIf room nodes local rows p x u answer → MarkedIf room nodes local rows p x 0
+unfolding hitAny hitMarks
+unmarked true nodes local rows p x u answer e h = record {
+  ends = h .arrived .ends;
+  comes = u;
+  ends-filled = h .arrived .ends-filled;
+  comes-filled = h .arrived .comes-filled;
+  told = sym (no-marks (length nodes / nodeFields) (λ k. hitNode local (rowsIn rows) p x u (least x) k (formsIn nodes k))
+      (λ k. markBit (lastIn (formsIn nodes k))) (sym (h .told) ∙ e));
+}
+unmarked false nodes local rows p x u answer e h = refl
+
+-- where it finds something, the tables have room, and the marks are those of all nodes
+pub found-room : (room : Bool) (nodes : List ℕ) (local : Bool) (rows : List ℕ) (p x : ℕ) (u : List ℕ) (answer : Bool) → answer ≡ true
+    → ArrivesIf room nodes local rows p x u answer → room ≡ true
+found-room true nodes local rows p x u answer e h = refl
+found-room false nodes local rows p x u answer e h = sym h ∙ e
+
+pub all-marked : (room : Bool) (nodes : List ℕ) (local : Bool) (rows : List ℕ) (p x : ℕ) (u : List ℕ) (answer : Bool) (l marks : ℕ)
+    → answer ≡ true → l ≡ least x → marks ≡ marksIn nodes local rows u p x l
+    → ArrivesIf room nodes local rows p x u answer → MarkedIf room nodes local rows p x marks
+all-marked true nodes local rows p x u answer l marks e s m h = record {
+  ends = h .arrived .ends;
+  comes = u;
+  ends-filled = h .arrived .ends-filled;
+  comes-filled = h .arrived .comes-filled;
+  told = m ∙ ap (λ (j : ℕ). marksIn nodes local rows u p x j) s;
+}
+all-marked false nodes local rows p x u answer l marks e s m h = false-true (sym h ∙ e)

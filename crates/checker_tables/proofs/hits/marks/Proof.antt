@@ -1,0 +1,95 @@
+use native.Mathlib.Omega.{arith}
+use mathlib.Core.Path.{_≡_, refl, sym, ap, _∙_, subst}
+use mathlib.Core.Bool.{Bool, cond}
+use mathlib.Core.List.{List}
+use Prim.Native.Nat.{ℕ, _-_, _≤_, _/_}
+use lib.ListN.{length}
+use denote.Ref.{now}
+use Rattle.usage.specs.declared.Node.{Node}
+use Rattle.usage.specs.Limits.{nodeFields}
+use Rattle.usage.specs.Outline.{formOf}
+use Rattle.automaton.specs.Mask.{union}
+use Rattle.checker_account.specs.Tables.{rowsIn}
+use Rattle.checker_account.specs.Rounds.{formsIn, hitNode}
+use Rattle.checker_tables.specs.Search.{Small}
+use Rattle.checker_tables.specs.Marks.{lastIn, markBit, hitMarks}
+use Rattle.checker_tables.proofs.ByStateLaws.{union-more}
+use borrow.Author.Needs.{needs}
+use Rattle.checker_tables.proofs.hits.marks.Statement.{statement}
+use Rattle.checker_tables.proofs.hits.marks.Tie as tie
+
+abbrev test : List ℕ → List ℕ → List ℕ → Bool → ℕ → ℕ → ℕ → ℕ → Bool
+test u nodes rows local p x l k = hitNode local (rowsIn rows) p x u l k (formsIn nodes k)
+
+abbrev mark : List ℕ → List ℕ → List ℕ → Bool → ℕ → ℕ → ℕ → ℕ → ℕ
+mark u nodes rows local p x l k = cond (test u nodes rows local p x l k) (markBit (lastIn (formsIn nodes k))) 0
+
+abbrev Inv-loop : tie.InvT-loop
+Inv-loop nodes rows u local p x l n m₀ k₀ m k = (k ≤ n) × (m ≡ union k (mark u nodes rows local p x l))
+
+abbrev μ-loop : tie.MeasureT-loop
+μ-loop nodes rows u local p x l n m₀ k₀ m k = n - k
+
+loop-holds : tie.Need-loop-holds Inv-loop μ-loop
+unfolding union
+loop-holds c = (search needs, refl)
+
+node-requires : tie.Need-node-requires Inv-loop μ-loop
+node-requires c κs = search needs
+
+hit-node-requires : tie.Need-hit-node-requires Inv-loop μ-loop
+hit-node-requires c κs =
+    let p = c .before .before .before .before .pre in
+    let k = c .before .before .loop .k in
+    let h = c .before .loop-test .taken in
+    (subst Small (sym (c .node .ensures)) (p .0 .small k h), (p .1, omega (arith, p .0 .few)))
+
+mark-if-requires : tie.Need-mark-if-requires Inv-loop μ-loop
+mark-if-requires c κs =
+    let p = c .before .before .before .before .before .pre in
+    let k = c .before .before .before .loop .k in
+    let h = c .before .before .loop-test .taken in
+    subst Small (sym (c .before .node .ensures)) (p .0 .small k h)
+
+add-k : tie.Need-add-k Inv-loop μ-loop
+add-k c = search needs
+
+loop-less : tie.Need-loop-less Inv-loop μ-loop
+loop-less c = search needs
+
+loop-again : tie.Need-loop-again Inv-loop μ-loop
+loop-again c =
+    let a = c .before .before .before .before .before .before .args in
+    let t = c .before .before .before .before .loop in
+    let k = t .k in
+    let f = mark (now (a .u)) (now (a .nodes)) (now (a .rows)) (a .local) (a .p) (a .x) (a .l) in
+    let hit = c .before .hit-node in
+    let is = c .before .before .node .ensures in
+    let s : hit .result ≡ test (now (a .u)) (now (a .nodes)) (now (a .rows)) (a .local) (a .p) (a .x) (a .l) k = hit .ensures
+    ∙ ap (λ (d : Node). hitNode (a .local) (rowsIn (now (a .rows))) (a .p) (a .x) (now (a .u)) (a .l) k (formOf d)) is in
+    let w : c .mark-if .result ≡ f k = c .mark-if .ensures
+    ∙ ap (λ (d : Node). cond (hit .result) (markBit (lastIn (formOf d))) 0) is
+    ∙ ap (λ (b : Bool). cond b (markBit (lastIn (formsIn (now (a .nodes)) k))) 0) s in
+    (search needs, rw (t .inv .1, w) (union-more f k))
+
+returns : tie.Need-returns Inv-loop μ-loop
+unfolding hitMarks
+returns c =
+    let l = c .before .loop in
+    let e : l .k ≡ length (now (c .before .before .before .args .nodes)) / nodeFields = omega arith in
+    rw e at (l .inv .1)
+
+pub marks-spec : {M : Type 1} → statement M
+marks-spec =
+    tie.close
+    (tie.spec
+    Inv-loop
+    μ-loop
+    loop-holds
+    node-requires
+    hit-node-requires
+    mark-if-requires
+    add-k
+    loop-less
+    loop-again
+    returns)
