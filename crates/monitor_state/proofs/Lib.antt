@@ -18,3 +18,5 @@ pub mod AlikeLaws
 pub mod RenamedExamples
 -- That it answers the same to other steps where retirings are added.
 pub mod OthersLaws
+-- That it answers by the edges as a set.
+pub mod EdgeSetLaws
