@@ -140,7 +140,7 @@ module _ (text out : List ℕ) where
   no-room h = rw (lt-ltb (length out) longestSheet h) (record { answers = refl; sheet-is = refl })
 
   module _ (room : longestSheet ≤ length out) where
-    within : writtenInto (length out) text ≡ writtenAgain text
+    pub within : writtenInto (length out) text ≡ writtenAgain text
     unfolding writtenInto
     within = rw (le-ltb (length out) longestSheet room) refl
 

@@ -3,15 +3,13 @@
 ghost use mathlib.Core.Path.{_≡_};
 ghost use lib.ListN.{length};
 ghost use Rattle.sheet_writer.specs.Writer.{writtenInto, writingAnswer, rewritingAnswer, rewrittenIn};
+use sheet_lines::LONGEST_SHEET;
 use sheet_reader::PolicyReading;
 use usage::EDGE_TABLE;
 use usage::MOST_EDGES;
 
 mod keys;
 mod text;
-
-// Document 01: "5 longer than 32,768 bytes", as usage's `longestSheet` has it: the room that is asked for.
-pub const SHEET: usize = 32768;
 
 // The answer: how many bytes were written, or the refusal.
 pub enum Writing {
@@ -25,7 +23,7 @@ pub fn write_policies(text: &[u8], out: &mut [u8]) -> Writing
     ensures { λ r. ⌜ writingAnswer r ≡ rewritingAnswer (writtenInto (length (now (out .entry))) (now (text .entry))) ⌝ }
     ensures { λ r. ⌜ now (out .exit) ≡ rewrittenIn (writtenInto (length (now (out .entry))) (now (text .entry))) (now (out .entry)) ⌝ }
 {
-    if out.len() < SHEET {
+    if out.len() < LONGEST_SHEET {
         return Writing::Refused {
             line: 0,
             number: 40,
