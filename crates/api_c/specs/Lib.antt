@@ -2,4 +2,5 @@ pub mod Choice
 pub mod Codes
 pub mod Parts
 pub mod Check
+pub mod Writing
 pub mod Code
