@@ -11,7 +11,11 @@ const REFUSAL: usize = 2;
 // The sheet of policies in `text` is written to `out`: its length; or 0 where the sheet is refused, with the refusal's line and number told
 // in `refusal`, and nothing written.
 #[no_mangle]
-pub extern "C" fn wiforekun_write_policies(text: &[u8], out: &mut [u8], refusal: &mut [u64; REFUSAL]) -> usize
+pub extern "C" fn wiforekun_write_policies(
+    text: &[u8],
+    out: &mut [u8],
+    refusal: &mut [u64; REFUSAL],
+) -> usize
     ensures { λ r. ⌜ r ≡ lengthIn (writtenInto (length (now (out .entry))) (now (text .entry))) ⌝ }
     ensures { λ r. ⌜ now (out .exit) ≡ rewrittenIn (writtenInto (length (now (out .entry))) (now (text .entry))) (now (out .entry)) ⌝ }
     ensures { λ r. ⌜ now (refusal .exit) ≡ toldIn (writtenInto (length (now (out .entry))) (now (text .entry))) (now (refusal .entry)) ⌝ }

@@ -143,12 +143,12 @@ fn field(out: &mut [u8], at: usize, n: usize, end: u8) -> usize
     ensures { λ r. ⌜ now (out .exit) ≡ sets (now (out .entry)) at (Lines·field n end) ⌝ }
     ensures { λ r. ⌜ length (now (out .exit)) ≡ length (now (out .entry)) ⌝ }
 {
-    if n < 10 {
-        out[at] = b'0' + n as u8;
-        out[at + 1] = end;
-        return at + 2;
+    if 10 <= n {
+        let last = number(out, at, n);
+        out[last] = end;
+        return last + 1;
     }
-    let last = number(out, at, n);
-    out[last] = end;
-    last + 1
+    out[at] = b'0' + n as u8;
+    out[at + 1] = end;
+    at + 2
 }
