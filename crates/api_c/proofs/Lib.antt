@@ -1,4 +1,5 @@
 -- The laws that the proofs of the functions cite.
 pub mod ChoiceLaws
 pub mod PartLaws
+pub mod PastLaws
 pub mod WritingLaws
