@@ -9,7 +9,7 @@ import sheets
 from explanations import explain_check, explain_monitor, opened_words
 from folders import ALLOWED, NAMES, REFUSED, VIOLATED, Differs, printed_rows
 from names import step_words
-from sheets import CREATE, EVENT, STATICS
+from sheets import CREATE, EVENT, FRESH, STATICS
 from violations import Run, violated
 
 # refusals that only say that the run is beyond the monitor's limits
@@ -52,6 +52,7 @@ def shown(folder, policies, nodes, steps, policy, judged):
     if moves is None:
         raise Differs("the steps are no run of the outline")
     makers = {move.step: move.node for move in moves if move.step is not None}
+    folder.names = folder.names.of_outline({steps[place][2]: nodes[node] for place, node in makers.items() if nodes[node][1] == FRESH})
     told = []
     for place, step in enumerate(steps):
         words = step_words(folder.names, step)

@@ -12,11 +12,19 @@ from violations import Run, violated
 
 
 def step_refused(run, line, step, number, why):
+    """A refused step. A number is told in full once, and then in a line; of those after a violation none but the first is told."""
     entry = meaning(number)
+    first = number not in run.told
+    run.told.add(number)
+    if number == 20:
+        last = len(run.steps) + 1
+        lines = f"lines {line} to {last}" if line < last else f"line {line}"
+        return [f"{run.folder.trace_name}, {lines}: not judged, 20: {entry.meaning}, {why[0]}"] if first else []
+    if not first:
+        # the reason without the lines that it quotes
+        return [f"{run.at(line)}: refused, {number}: " + "; ".join(words.strip() for words in why if not words.startswith("   "))]
     words = "" if number == 21 else step_words(run.names, step)
     quoted = run.folder.quote(sheets.TRACE_SHEET, line, words)
-    if number == 20:
-        return [f"{run.at(line)}: refused, {number}: {entry.meaning}, {why[0]}"] + quoted
     return [f"{run.at(line)}: refused, {number}: {entry.meaning}"] + quoted + why + [
         "  the step is no part of the past, and the run goes on",
         f"  usually mended so: {entry.mended}",
@@ -46,6 +54,9 @@ def whole_sheets_refused(folder, kind, rows):
         return tables, None
     kind, why = refused
     same((why.line, kind.answer, why.number), rows[0] if len(rows) == 1 else None, kind.file)
+    if kind in folder.refused:
+        return None, [(rows[0], [f"{kind.file}: refused, {why.number}, as above"])]
+    folder.refused.add(kind)
     return None, [(rows[0], sheet_refused(folder, kind, why))]
 
 
@@ -77,9 +88,16 @@ def explain_check(folder, rows):
     return [(rows[0], outline_refused(folder, policies, nodes, rows[0][2]))]
 
 
+def explain_policies(folder, rows):
+    """The policies alone: the checker was given them with an outline of one node, an end."""
+    folder.data[sheets.OUTLINE_SHEET] = b"node kind a b\n0 0 0 0\n"
+    return explain_check(folder, rows)
+
+
 def outline_refused(folder, policies, nodes, policy):
     told = folder.names.tell("policy", policy)
-    return [f"outline.txt: refused: some run leaves {told} open and broken"] + opened_words(folder, policies, nodes, policy)
+    first = f"outline.txt: refused: some run leaves {told} open and broken"
+    return [first, *opened_words(folder, policies, nodes, policy), "  ./wiforekun why FOLDER shows a shortest run that does"]
 
 
 def opened_words(folder, policies, nodes, policy):

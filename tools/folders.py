@@ -33,6 +33,8 @@ class Folder:
         self.path = path
         self.trace_name = trace_name
         self.names = Names.of_folder(path)
+        # the sheets whose refusal is told already
+        self.refused = set()
         self.data = {kind: sheets.load(os.path.join(path, kind.file)) for kind in sheets.SHEETS}
         if trace is not None:
             self.data[sheets.TRACE_SHEET] = trace

@@ -4,7 +4,7 @@ import os
 import re
 
 from sheets import BACK, CLOSE, CREATE, EITHER, END, EVENT, FRESH, LAST_ACTION, LAST_RESOURCE, LOOP, NAMED, ON_OTHERS, ON_STATIC, ON_X, OPEN
-from sheets import POLICIES, RETIRE, SANDBOX, STATIC, THEN
+from sheets import POLICIES, RETIRE, SANDBOX, STATIC, STATICS, THEN
 
 
 UTF_16 = "a byte-order mark of UTF-16"
@@ -28,6 +28,7 @@ class Names:
     def __init__(self):
         self.words = {}
         self.faults = []
+        self.fresh = {}
 
     @classmethod
     def of_folder(cls, folder):
@@ -63,6 +64,14 @@ class Names:
         else:
             self.words[what, int(number)] = name.strip()
 
+    def of_outline(self, fresh):
+        """The same names, but for dynamic resources, which are numbered otherwise in a run of the outline than in a trace: these are told
+        by the fresh node that gave each."""
+        names = Names()
+        names.words = {key: name for key, name in self.words.items() if key[0] != "resource" or key[1] < STATICS}
+        names.fresh = fresh
+        return names
+
     def get(self, what, number):
         """The name alone, or none. Action 0 is create, whatever it is called."""
         return self.words.get((what, number)) or ("create" if (what, number) == ("action", CREATE) else None)
@@ -70,6 +79,9 @@ class Names:
     def tell(self, what, number):
         """As `action 4 'drive'`, or `action 4` where it has no name."""
         name = self.get(what, number)
+        if what == "resource" and number in self.fresh:
+            node, _, given, _ = self.fresh[number]
+            return f"resource {number}, name {given} of outline.txt:{node + 2}"
         return f"{what} {number} '{name}'" if name else f"{what} {number}"
 
 

@@ -1,5 +1,6 @@
-# The sheet of policies as there is one way to write it: printed, held to what is there, or written back. The wrapper takes this file in.
 # shellcheck shell=sh disable=SC2154
+# The sheet of policies as there is one way to write it: printed, held to what is there, or written back; for ./wiforekun, which reads this
+# file. It has the folder in $folder, what is asked for in $tidy, and its functions.
 
 # as_written: is policies.txt just what the program printed?
 as_written() {
@@ -22,7 +23,7 @@ saved() {
     cp -p -- "$sheet" "$new" && printf %s "$out" >"$new" && mv -f -- "$new" "$sheet"
 }
 
-# tidy: what is asked for is in $tidy. A refused sheet is told as the checker tells it, and is never written back.
+# tidy: a refused sheet is told as the checker tells it, and is never written back.
 tidy() {
     ran policy_writer "$folder" || return
     case $out in
@@ -34,8 +35,9 @@ tidy() {
                 return
             fi
             worse 3
-            explained_refusal
-            written policy_writer
+            lines=$out
+            words_run=policies
+            told
             return
             ;;
     esac
@@ -57,16 +59,6 @@ tidy() {
                 worse 2
             fi
             ;;
-        *) written policy_writer ;;
+        *) written ;;
     esac
-}
-
-# explained_refusal: $out with the words for it, where words are asked for
-explained_refusal() {
-    [ "$explain" = explain ] || return 0
-    if said=$(printf %s "$out" | python3 "$here/tools/explain" check "$folder" && printf .); then
-        out=${said%.}
-    else
-        worse 2
-    fi
 }

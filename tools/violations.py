@@ -17,6 +17,8 @@ class Run:
         self.past = Past(policies)
         self.halted = None
         self.refused = {}
+        # the numbers that were told in full
+        self.told = set()
 
     def at(self, line):
         return f"{self.folder.trace_name}:{line}"
@@ -52,15 +54,26 @@ def retired_words(run, line, after, before=None):
     return [f"    its resource is retired at {run.at(line)}: no step can be on it any more, but the instance still counts", *run.quoted(line, 6)]
 
 
+def whichever(run, policy, way):
+    """Does every instance move along this way, whatever its x? So it is where each edge names a static resource."""
+    edges = dict(run.past.edges[policy])
+    return all(edges[edge][3] == sheets.ON_STATIC for _, _, edge, _ in way)
+
+
+def instance_words(run, x):
+    return f"any resource that is in no step so far, such as {run.past.unseen_number()}" if x is UNSEEN else x
+
+
 def way_words(run, policy, x):
     """The moves of the instance of x from where it was in state 0 into an offending state, each with the step and the edge quoted."""
     way = run.past.way(policy, x)
     if way is None:
         raise Differs(f"no moves of the instance of x = {x} lead to an offending state of policy {policy}")
     edges = dict(run.past.edges[policy])
-    shown = f"any resource that is in no step so far, such as {run.past.unseen_number()}" if x is UNSEEN else x
-    out = [f"  why: the instance of policy {policy} for x = {shown}"]
+    out = [f"  why: the instance of policy {policy} for x = {instance_words(run, x)}"]
     retired = run.past.retired.get(x)
+    if whichever(run, policy, way):
+        out, retired = [f"  why: the instance of policy {policy}, whichever resource x is,"], None
     begin = max(run.past.resets[policy], default=0)
     out += retired_words(run, retired, 0, begin) + start_words(run, policy, x)
     for move, start, edge, to in way:
@@ -105,6 +118,8 @@ def violated(run, line, step, policy, what="violated"):
     """A step after which the policy is open and broken, and why it is broken."""
     x, found = run.past.breaker(policy, step), run.past.breakers(policy)
     why, way = way_words(run, policy, x)
-    out = [f"{run.at(line)}: {what}: {run.names.tell('policy', policy)} is open and broken by {resource_words(run, x)}"]
+    every = whichever(run, policy, way)
+    by = ", whichever resource x is" if every else f" by {resource_words(run, x)}"
+    out = [f"{run.at(line)}: {what}: {run.names.tell('policy', policy)} is open and broken{by}"]
     out += run.quoted(line)
-    return out + why + open_words(run, policy, way) + others_words(run, policy, x, found)
+    return out + why + open_words(run, policy, way) + ([] if every else others_words(run, policy, x, found))
