@@ -24,6 +24,7 @@ ghost use Rattle.api_c.specs.Check.{Answers, Explains};
 
 pub mod print;
 pub mod start;
+pub mod writer;
 
 // document 01's two numbers for an answer, as 256 * answer + detail
 fn code(a: Answer) -> u32

@@ -5,3 +5,4 @@ pub mod RowLaws
 pub mod SameLaws
 pub mod UnionLaws
 pub mod PlaceLaws
+pub mod EdgeSetLaws

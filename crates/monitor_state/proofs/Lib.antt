@@ -20,3 +20,5 @@ pub mod RenamedExamples
 pub mod OthersLaws
 -- The judge over which policies are looked at.
 pub mod LookedLaws
+-- That it answers by the edges as a set.
+pub mod EdgeSetLaws

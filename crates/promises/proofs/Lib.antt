@@ -3,3 +3,4 @@ pub mod JudgeNumbers
 pub mod SheetNumbers
 pub mod DemandLaws
 pub mod RenumberedLaws
+pub mod RewrittenLaws

@@ -1,7 +1,8 @@
 -- The three demands on the product, and what later requests promise of the whole, stated over the definitions that the public functions'
 -- contracts are equations with: the judge answers `judgeOf` (`monitor::judge` and `judge_lent`, `api_records`, `api_c`), the readers answer
 -- and store `policiesInto`, `traceInto` and `outlineInto` (`sheet_reader`), the check answers the one verdict that `Checked` holds of
--- (`checker::check`), and the first program prints `tracePrinted` (`report`). proofs/ has the proof of each. That no function reads outside
+-- (`checker::check`), the sheet writer answers and writes `writtenInto` (`sheet_writer`), and the first program prints `tracePrinted`
+-- (`report`). proofs/ has the proof of each. That no function reads outside
 -- its memory or runs on without end is what the language asks of each before it is built.
 use Prim.Native.Nat.{ℕ, suc, _<_}
 use mathlib.Core.Path.{_≡_}
@@ -21,9 +22,11 @@ use Rattle.monitor_state.specs.Renamed.{Renaming, renamedStep, SameAnswers}
 use Rattle.monitor_state.specs.Others.{OthersKept}
 use Rattle.sheet_lines.specs.Sheet.{Result, accepted, refused as sheet-refused, sheet}
 use Rattle.sheet_lines.specs.Sheets.{isLocal, traceSheet}
-use Rattle.sheet_reader.specs.Readers.{policiesInto, traceInto, outlineInto, stored}
+use Rattle.sheet_reader.specs.Readers.{policiesRead, policiesInto, traceInto, outlineInto, stored}
 use Rattle.checker.specs.Accepted.{NeverHalted}
 use Rattle.checker.specs.Promise.{RightVerdict, CheckPromise}
+use Rattle.sheet_writer.specs.Writer.{is-written, writtenAgain}
+use Rattle.sheet_writer.specs.Promise.{OneWay}
 use Rattle.report.specs.Trace.{tracePrinted}
 
 -- ── Demand 1 ──
@@ -127,6 +130,27 @@ pub record Renumbered : Type 0 where
 -- all. Of the traces of an outline that the check accepts, demand 3 speaks of retirings too.
 abbrev pub RetiringsApart : Type 0
 RetiringsApart = OthersKept startState
+
+-- ── One way to write a policy sheet (02, L12) ──
+
+-- of a sheet `text`, written again as t
+pub record Verdicts (text t : List ℕ) : Type 0 where
+  -- the table of each: "40", "41" and the numbers of a sheet refuse neither
+  pub was : List (List ℕ)
+  pub is : List (List ℕ)
+  pub was-read : policiesRead text ≡ accepted was
+  pub is-read : policiesRead t ≡ accepted is
+  -- "and hence the same verdicts": the judge's answer and state, from every state at all, and the right verdict of the check, for every
+  -- outline
+  pub judged : (s : State) (raw : RawStep) → judgeOf (flatten is) (isLocal t) s raw ≡ judgeOf (flatten was) (isLocal text) s raw
+  pub checked : (nodes : List ℕ) (v : Verdict)
+      → RightVerdict (isLocal t) (flatten is) nodes v ↔ RightVerdict (isLocal text) (flatten was) nodes v
+
+-- "Reading the result gives the same edges as a set and hence the same verdicts. Writing a second time changes no byte, and two sheets
+-- with the same names line give equal bytes exactly when their edge sets are equal."
+pub record Rewritten : Type 0 where
+  pub way : OneWay
+  pub verdicts : (text t : List ℕ) → writtenAgain text ≡ is-written t → Verdicts text t
 
 -- All three demands.
 pub record Demands : Type 0 where

@@ -1,13 +1,11 @@
 -- What is printed of a counterexample is an accepted trace sheet, and reading it gives the steps that were written.
-use Prim.Native.Nat.{ℕ, zero, suc, _+_, _-_, _*_, _/_, _%_, _<_, _≤_}
-use mathlib.Core.Path.{_≡_, refl, sym, ap, subst, _∙_}
+use Prim.Native.Nat.{ℕ, zero, suc, _<_, _≤_}
+use mathlib.Core.Path.{_≡_, refl, ap, _∙_}
 use mathlib.Core.Bool.{Bool, true, false}
-use mathlib.Core.List.{List, [], _∷_, _++_, map, append-nil, append-assoc}
+use mathlib.Core.List.{List, [], _∷_, _++_, map, append-assoc}
 use native.Mathlib.Omega.{arith}
-use lib.Dec.{ltb}
 use lib.ListN.{length, length-append}
-use lib.Seq.{append-snoc}
-use borrow.Author.Tests.{ltb-true, ltb-false, le-leb}
+use borrow.Author.Tests.{le-leb}
 use Rattle.usage.specs.declared.RawStep.{RawStep}
 use Rattle.usage.specs.Limits.{mostSteps}
 use Rattle.usage.specs.Past.{Step, event, opening, closing, retiring, Past}
@@ -16,20 +14,20 @@ use Rattle.usage.proofs.Logic.{clash}
 use Rattle.usage.proofs.JudgeLaws.{Fits}
 use Rattle.sheet_fields.specs.Fields.{stepLine, stepOk}
 use Rattle.sheet_bytes.specs.Class.{classOf}
-use Rattle.sheet_bytes.specs.Line.{Line, prefixed, linesOf}
-use Rattle.sheet_bytes.specs.Grammar.{Digits, no-digit, one-more, Value, one-space, Values, last-value, next-value}
+use Rattle.sheet_bytes.specs.Line.{linesOf}
+use Rattle.sheet_bytes.specs.Grammar.{one-space, Values, last-value, next-value}
 use Rattle.sheet_bytes.proofs.FaultLaws.{decides-values}
 use Rattle.sheet_lines.specs.Sheet.{Result, accepted, refused, followed, valueLines, sheet}
 use Rattle.sheet_lines.specs.Sheets.{traceSheet, outlineSheet, isLocal}
 use Rattle.sheet_lines.proofs.ScanLaws.{fed}
 use Rattle.sheet_reader.specs.Readers.{policiesRead, ruledResult}
-use Rattle.sheet_reader.proofs.WrittenLaws.{digit-class, digits-lines, nothing-left, names-read}
+use Rattle.sheet_reader.proofs.WrittenLaws.{nothing-left, names-read}
 use Rattle.checker.specs.declared.counterexample.Explanation.{Explanation}
 use Rattle.checker.specs.Accepted.{rawOf}
 use Rattle.checker.specs.Explained.{Explained, stepsWritten}
-use Rattle.report_lines.specs.Decimal.{digitByte, decimal}
+use Rattle.report_lines.specs.Decimal.{decimal}
 use Rattle.report_lines.specs.Lines.{field, row, traceNamesLine}
-use Rattle.report_lines.proofs.DecimalLaws.{tens, decimal-one, decimal-more, length-one, length-more, length-below}
+use Rattle.sheet_writer.proofs.FieldLaws.{decimal-value, space-line, feed-line}
 use Rattle.report.specs.Counterexample.{
   noSteps,
   RightTrace,
@@ -43,67 +41,11 @@ use Rattle.report.specs.Counterexample.{
 use Rattle.report.specs.Counterexample.{sheetsSheet, counterexamplePrinted}
 use Rattle.report.proofs.CounterexampleLaws.{rawsOf, Low-step, Low, no-step, one-more as low-more, explained-held, held-short}
 
--- ── A printed number is a value ──
-
-digits-one : (n : ℕ) → n < 10 → Digits (length (decimal n)) n (decimal n)
-digits-one n h =
-    let e : 0 * 10 + (48 + n - 48) ≡ n = omega arith in
-    subst (λ (bs : List ℕ). Digits (length bs) n bs) (sym (decimal-one n h))
-    (subst (λ (v : ℕ). Digits 1 v (digitByte n ∷ [])) e (one-more (48 + n) (digit-class n h) no-digit))
-
-digits-more : (n : ℕ) → 10 ≤ n → Digits (length (decimal (n / 10))) (n / 10) (decimal (n / 10)) → Digits (length (decimal n)) n (decimal n)
-digits-more n h d =
-    let xs = decimal (n / 10) ++ (digitByte (n % 10) ∷ []) in
-    let e : n / 10 * 10 + (48 + n % 10 - 48) ≡ n = omega arith in
-    let k : length (decimal (n / 10)) + 1 ≡ length xs = omega (arith, length-append (decimal (n / 10)) (digitByte (n % 10) ∷ [])) in
-    subst (λ (bs : List ℕ). Digits (length bs) n bs) (sym (decimal-more n h))
-    (subst (λ (c : ℕ). Digits c n xs) k
-    (subst (λ (v : ℕ). Digits (length (decimal (n / 10)) + 1) v xs) e (one-more (48 + n % 10) (digit-class (n % 10) (omega arith)) d)))
-
--- of at most k + 1 digits
-decimal-digits : (k n : ℕ) → n < tens (suc k) → Digits (length (decimal n)) n (decimal n)
-decimal-digits zero n h = digits-one n (omega arith)
-decimal-digits (suc k) n h = go (ltb n 10) refl (decimal-digits k (n / 10))
-  where
-    go : (b : Bool) → ltb n 10 ≡ b → (n / 10 < tens (suc k) → Digits (length (decimal (n / 10))) (n / 10) (decimal (n / 10)))
-        → Digits (length (decimal n)) n (decimal n)
-    go true e ih = digits-one n (ltb-true n 10 e)
-    go false e ih = digits-more n (ltb-false n 10 e) (ih (omega arith))
-
-some-digit : (n : ℕ) → 0 < length (decimal n)
-some-digit n = go (ltb n 10) refl
-  where
-    go : (b : Bool) → ltb n 10 ≡ b → 0 < length (decimal n)
-    go true e = omega (arith, length-one n (ltb-true n 10 e))
-    go false e = omega (arith, length-more n (ltb-false n 10 e))
-
-decimal-value : (n : ℕ) → n < 100000 → Value n (decimal n)
-decimal-value n h = record {
-  count = length (decimal n);
-  some-digit = some-digit n;
-  few = omega (arith, length-below 4 n (omega arith));
-  digits = decimal-digits 4 n (omega arith);
-}
-
 -- ── A printed row is one line ──
 
 -- the bytes of a line of three numbers
 abbrev threeBytes : ℕ → ℕ → ℕ → List ℕ
 threeBytes a b c = decimal a ++ (32 ∷ (decimal b ++ (32 ∷ decimal c)))
-
-space-line : (n : ℕ) → n < 100000 → (bs cs : List ℕ) (ls : List Line) → linesOf bs ≡ fed cs ∷ ls
-    → linesOf (field n 32 ++ bs) ≡ fed (decimal n ++ (32 ∷ cs)) ∷ ls
-unfolding field linesOf classOf
-space-line n h bs cs ls e =
-    ap linesOf (append-snoc (decimal n) 32 bs)
-    ∙ digits-lines (decimal-digits 4 n (omega arith)) (32 ∷ bs) (fed (32 ∷ cs)) ls (ap (prefixed 32) e)
-
-feed-line : (n : ℕ) → n < 100000 → (bs : List ℕ) → linesOf (field n 10 ++ bs) ≡ fed (decimal n) ∷ linesOf bs
-unfolding field linesOf classOf
-feed-line n h bs =
-    ap linesOf (append-snoc (decimal n) 10 bs)
-    ∙ digits-lines (decimal-digits 4 n (omega arith)) (10 ∷ bs) (fed []) (linesOf bs) refl
-    ∙ ap (λ (xs : List ℕ). fed xs ∷ linesOf bs) (append-nil (decimal n))
 
 row-line : (a b c : ℕ) → a < 100000 → b < 100000 → c < 100000 → (bs : List ℕ)
     → linesOf (row a b c ++ bs) ≡ fed (threeBytes a b c) ∷ linesOf bs

@@ -5,6 +5,7 @@ pub mod TraceLaws
 pub mod OutlineLaws
 pub mod NumberedLaws
 pub mod CounterexampleLaws
+pub mod PoliciesLaws
 -- What is printed for two accepted sheets is right.
 pub mod TraceRight
 -- What is printed of a counterexample is read back as its steps.

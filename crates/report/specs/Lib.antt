@@ -3,3 +3,4 @@ pub mod Output
 pub mod Trace
 pub mod Outline
 pub mod Counterexample
+pub mod Policies

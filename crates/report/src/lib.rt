@@ -7,10 +7,13 @@ ghost use Rattle.report.specs.Output.{traceRoom, outlineRoom, lengthPut,
 ghost use Rattle.report.specs.Trace.{tracePrinted};
 ghost use Rattle.report.specs.Outline.{RightTexts, outlinePrinted};
 ghost use Rattle.report.specs.Counterexample.{RightExplanation, counterexamplePrinted, counterexampleRoom, Prints};
+ghost use Rattle.report.specs.Policies.{policiesPrinted, policiesRoom};
 use checker_trace::MOST_NUMBERS;
 use report_lines::NAMES;
 use report_lines::TRACE_NAMES;
+use sheet_lines::LONGEST_SHEET;
 use sheet_reader::PolicyReading;
+use sheet_writer::Writing;
 use usage::EDGE_FIELDS;
 use usage::EDGE_TABLE;
 use usage::MOST_STEPS;
@@ -38,6 +41,8 @@ pub const TRACE_ROOM: usize = NAMES + MOST_STEPS * LONGEST_STEP_ROW;
 pub const OUTLINE_ROOM: usize = NAMES + LONGEST_OUTLINE_ROW;
 
 pub const COUNTEREXAMPLE_ROOM: usize = TRACE_NAMES + MOST_SHOWN * LONGEST_SHOWN_ROW;
+
+pub const POLICIES_ROOM: usize = LONGEST_SHEET;
 
 // What the first program prints, from the bytes of `policies.txt` and `trace.txt`: its length, and 0 where `out` lacks the room.
 pub fn report_trace(policies: &[u8], trace: &[u8], out: &mut [u8]) -> usize
@@ -108,5 +113,21 @@ pub fn report_counterexample(policies: &[u8], outline: &[u8], out: &mut [u8]) ->
         PolicyReading::Refused { line, number } => {
             crate::counterexample::refused(out, line, 3, number)
         }
+    }
+}
+
+// What the fourth program prints, from the bytes of `policies.txt`: the sheet written again, or its refusal. Its length, and 0 where `out`
+// lacks the room.
+pub fn report_policies(policies: &[u8], out: &mut [u8]) -> usize
+    ensures { λ r. ⌜ r ≡ lengthPut policiesRoom (now (out .entry)) (policiesPrinted (now (policies .entry))) ⌝ }
+    ensures { λ r. ⌜ now (out .exit) ≡ Output·put policiesRoom (now (out .entry)) (policiesPrinted (now (policies .entry))) ⌝ }
+{
+    if out.len() < POLICIES_ROOM {
+        return 0;
+    }
+    let w = sheet_writer::write_policies(policies, out);
+    match w {
+        Writing::Written(n) => n,
+        Writing::Refused { line, number } => crate::counterexample::refused(out, line, 3, number),
     }
 }

@@ -1,14 +1,15 @@
 -- Laws of runs of stores.
 use Prim.Native.Nat.{ℕ, suc, _+_, _≤_, _<_}
 use mathlib.Core.Path.{_≡_, sym, ap, _∙_}
-use mathlib.Core.List.{List, [], _∷_, _++_}
+use mathlib.Core.List.{List, [], _∷_, _++_, append-assoc}
 use native.Mathlib.Nat.{add-zero, add-suc, suc-add, zero-add}
 use lib.ListN.{length, take, drop, set}
 use lib.Seq.{sets, sets-eq, take-suc, length-take-le}
 use lib.ListN.{length-append, getD}
 use native.Mathlib.Omega.{arith}
-use Rattle.report_lines.specs.Decimal.{decimal}
-use Rattle.report_lines.specs.Lines.{field, row}
+use Rattle.report_lines.specs.Decimal.{digitByte, decimal}
+use Rattle.report_lines.proofs.DecimalLaws.{decimal-one}
+use Rattle.report_lines.specs.Lines.{field, three, row, valuesText, valuesLine}
 
 -- one run after another
 pub sets-append : (l : List ℕ) (i : ℕ) (vs ws : List ℕ) → sets l i (vs ++ ws) ≡ sets (sets l i vs) (i + length vs) ws
@@ -38,29 +39,62 @@ pub length-field : (n end : ℕ) → length (field n end) ≡ length (decimal n)
 unfolding field
 length-field n end = length-append (decimal n) (end ∷ [])
 
+pub length-three : (a b c end : ℕ)
+    → length (three a b c end) ≡ length (decimal a) + length (decimal b) + length (decimal c) + 3
+unfolding three
+length-three a b c end =
+    omega (
+      arith,
+      length-append (field a 32) (field b 32 ++ field c end),
+      length-append (field b 32) (field c end),
+      length-field a 32,
+      length-field b 32,
+      length-field c end,
+    )
+
 pub length-row : (line answer detail : ℕ)
-    → length (row line answer detail) ≡ length (field line 32) + (length (field answer 32) + length (field detail 10))
+    → length (row line answer detail) ≡ length (decimal line) + length (decimal answer) + length (decimal detail) + 3
 unfolding row
-length-row line answer detail = simp length-append
+length-row line answer detail = length-three line answer detail 10
 
 -- a line is its three fields, one after the other
 pub sets-field : (l : List ℕ) (i n end : ℕ) → sets l i (field n end) ≡ set (sets l i (decimal n)) (i + length (decimal n)) end
 unfolding field
 sets-field l i n end = sets-snoc l i (decimal n) end
 
-pub sets-row : (l : List ℕ) (i line answer detail : ℕ)
-    → sets l i (row line answer detail)
-    ≡ sets (sets (sets l i (field line 32)) (i + length (decimal line) + 1) (field answer 32))
-    (i + length (decimal line) + 1 + length (decimal answer) + 1) (field detail 10)
-unfolding row
-sets-row l i line answer detail =
-    let one : (k n end : ℕ) → k + length (field n end) ≡ k + length (decimal n) + 1 = λ k n end. omega (arith, length-field n end) in
-    sets-append l i (field line 32) (field answer 32 ++ field detail 10)
-    ∙ sets-append (sets l i (field line 32)) (i + length (field line 32)) (field answer 32) (field detail 10)
-    ∙ rw (one i line 32, one (i + length (decimal line) + 1) answer 32)
+-- that of one digit is two stores
+pub sets-digit : (l : List ℕ) (i n end : ℕ) → n < 10 → set (set l i (digitByte n)) (i + 1) end ≡ sets l i (field n end)
+unfolding field
+sets-digit l i n end h = sym (ap (λ (ds : List ℕ). sets l i (ds ++ (end ∷ []))) (decimal-one n h) ∙ sets-snoc l i (digitByte n ∷ []) end)
 
--- the three numbers, and a byte after each
-pub length-digits : (line answer detail : ℕ)
-    → length (row line answer detail) ≡ length (decimal line) + length (decimal answer) + length (decimal detail) + 3
-length-digits line answer detail =
-    omega (arith, length-row line answer detail, length-field line 32, length-field answer 32, length-field detail 10)
+pub sets-three : (l : List ℕ) (i a b c end : ℕ)
+    → sets l i (three a b c end)
+    ≡ sets (sets (sets l i (field a 32)) (i + length (decimal a) + 1) (field b 32))
+    (i + length (decimal a) + 1 + length (decimal b) + 1) (field c end)
+unfolding three
+sets-three l i a b c end =
+    let one : (k n z : ℕ) → k + length (field n z) ≡ k + length (decimal n) + 1 = λ k n z. omega (arith, length-field n z) in
+    sets-append l i (field a 32) (field b 32 ++ field c end)
+    ∙ sets-append (sets l i (field a 32)) (i + length (field a 32)) (field b 32) (field c end)
+    ∙ rw (one i a 32, one (i + length (decimal a) + 1) b 32)
+
+-- ── A line of six values ──
+
+pub six-fields : (a b c d e f : ℕ) → valuesText a (b ∷ c ∷ d ∷ e ∷ f ∷ []) ≡ three a b c 32 ++ three d e f 10
+unfolding valuesText three
+six-fields a b c d e f =
+    let rest = field d 32 ++ (field e 32 ++ field f 10) in
+    sym (append-assoc (field a 32) (field b 32 ++ field c 32) rest
+    ∙ ap (λ (l : List ℕ). field a 32 ++ l) (append-assoc (field b 32) (field c 32) rest))
+
+-- of a list of six
+pub six-threes : (v : List ℕ) → length v ≡ 6
+    → valuesLine v ≡ three (getD v 0 0) (getD v 1 0) (getD v 2 0) 32 ++ three (getD v 3 0) (getD v 4 0) (getD v 5 0) 10
+six-threes [] h = absurd (omega arith)
+six-threes (a ∷ []) h = absurd (omega arith)
+six-threes (a ∷ b ∷ []) h = absurd (omega arith)
+six-threes (a ∷ b ∷ c ∷ []) h = absurd (omega arith)
+six-threes (a ∷ b ∷ c ∷ d ∷ []) h = absurd (omega arith)
+six-threes (a ∷ b ∷ c ∷ d ∷ e ∷ []) h = absurd (omega arith)
+six-threes (a ∷ b ∷ c ∷ d ∷ e ∷ f ∷ []) h = six-fields a b c d e f
+six-threes (a ∷ b ∷ c ∷ d ∷ e ∷ f ∷ g ∷ v) h = absurd (omega arith)

@@ -1,16 +1,17 @@
 -- How long a line is at most.
 use Prim.Native.Nat.{ℕ, suc, _+_, _≤_, _<_}
-use mathlib.Core.Path.{_≡_, refl, _∙_}
-use mathlib.Core.List.{List}
+use mathlib.Core.Path.{_≡_, refl, ap, _∙_}
+use mathlib.Core.List.{List, [], _∷_}
 use native.Mathlib.Nat.{zero-add}
 use native.Mathlib.Omega.{arith}
-use lib.ListN.{length}
+use lib.ListN.{length, length-append}
 use lib.Seq.{sets}
 use Rattle.usage.specs.Answers.{Verdict, allowed, violated, refused, answer, detail}
-use Rattle.report_lines.specs.Lines.{namesLine, namesRoom, traceNamesLine, traceNamesRoom, row, verdictRow}
+use Rattle.report_lines.specs.Lines.{namesLine, namesRoom, traceNamesLine, traceNamesRoom, three, row, verdictRow}
+use Rattle.report_lines.specs.Lines.{valuesText, valuesRoom}
 use Rattle.report_lines.proofs.DecimalLaws.{tens, length-below}
 use Rattle.report_lines.specs.Put.{putAt, endAt}
-use Rattle.report_lines.proofs.PutLaws.{length-field, length-row}
+use Rattle.report_lines.proofs.PutLaws.{length-three, length-row, six-fields}
 use Rattle.report_lines.proofs.FitLaws.{stored-at}
 
 -- of numbers below ten to the powers i + 1, j + 1 and k + 1: their digits, and a byte after each
@@ -20,7 +21,26 @@ row-below i j k line a d hl ha hd =
     let l = length-below i line hl in
     let m = length-below j a ha in
     let n = length-below k d hd in
-    omega (arith, length-row line a d, length-field line 32, length-field a 32, length-field d 10)
+    omega (arith, length-row line a d)
+
+-- three of six values, of 32 bits: half of the room
+pub three-fits : (a b c end : ℕ) → a < 4294967296 → b < 4294967296 → c < 4294967296 → length (three a b c end) ≤ 33
+three-fits a b c end ha hb hc =
+    let l = length-below 9 a (omega arith) in
+    let m = length-below 9 b (omega arith) in
+    let n = length-below 9 c (omega arith) in
+    omega (arith, length-three a b c end)
+
+pub six-fits : (a b c d e f : ℕ) → a < 4294967296 → b < 4294967296 → c < 4294967296 → d < 4294967296 → e < 4294967296 → f < 4294967296
+    → length (valuesText a (b ∷ c ∷ d ∷ e ∷ f ∷ [])) ≤ valuesRoom
+six-fits a b c d e f ha hb hc hd he hf =
+    omega (
+      arith,
+      ap length (six-fields a b c d e f),
+      length-append (three a b c 32) (three d e f 10),
+      three-fits a b c 32 ha hb hc,
+      three-fits d e f 10 hd he hf,
+    )
 
 -- the numbers of any line that the functions print fit in 64, 8 and 8 bits
 pub row-fits : (line answer detail : ℕ) → line < 18446744073709551616 → answer < 10 → detail < 256 → length (row line answer detail) ≤ 27

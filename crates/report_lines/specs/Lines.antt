@@ -25,9 +25,26 @@ traceNamesRoom = 9
 unfoldable pub field : ℕ → ℕ → List ℕ
 field n end = decimal n ++ (end ∷ [])
 
--- a printed line: single spaces (byte 32) between the numbers, one line feed (byte 10) at the end
+-- three numbers with single spaces (byte 32) between them, and the byte after them
+unfoldable pub three : ℕ → ℕ → ℕ → ℕ → List ℕ
+three a b c end = field a 32 ++ (field b 32 ++ field c end)
+
+-- a printed line: one line feed (byte 10) at the end
 unfoldable pub row : ℕ → ℕ → ℕ → List ℕ
-row line answer detail = field line 32 ++ (field answer 32 ++ field detail 10)
+row line answer detail = three line answer detail 10
+
+-- a line of values of a sheet, with single spaces too
+unfoldable pub valuesText : ℕ → List ℕ → List ℕ
+valuesText v [] = field v 10
+valuesText v (w ∷ vs) = field v 32 ++ valuesText w vs
+
+abbrev pub valuesLine : List ℕ → List ℕ
+valuesLine [] = 10 ∷ []
+valuesLine (v ∷ vs) = valuesText v vs
+
+-- the bytes of one with six values of 32 bits, at most (`three-fits` of proofs/RowLaws)
+abbrev pub valuesRoom : ℕ
+valuesRoom = 66
 
 -- "0 allowed, 1 violated or 2 refused, and the policy, the number, or 0"
 abbrev pub verdictRow : ℕ → Verdict → List ℕ

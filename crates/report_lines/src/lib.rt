@@ -3,14 +3,19 @@ ghost use mathlib.Core.Path.{_≡_};
 ghost use Prim.Native.Nat.{_+_, _<_, _≤_};
 ghost use lib.ListN.{length};
 ghost use lib.Seq.{sets};
+ghost use Rattle.sheet_lines.specs.Sheets.{policyNames};
 ghost use Rattle.report_lines.specs.Decimal.{decimal};
-ghost use Rattle.report_lines.specs.Lines.{namesLine, traceNamesLine, field as Lines·field, row as Lines·row};
-ghost use Rattle.report_lines.specs.Put.{putAt, endAt};
+ghost use Rattle.report_lines.specs.Lines.{namesLine, traceNamesLine, field as Lines·field, three as Lines·three};
+ghost use Rattle.report_lines.specs.Lines.{row as Lines·row, valuesLine, valuesRoom};
+ghost use Rattle.report_lines.specs.Put.{putAt, endAt, putWithin, endWithin};
 
 // The bytes of the line of names, and of that of a trace sheet.
 pub const NAMES: usize = 19;
 
 pub const TRACE_NAMES: usize = 9;
+
+// The bytes of a line of six values at most: ten digits each, and a byte after it.
+pub const VALUES_ROOM: usize = 66;
 
 // The line of names, at the start: the place after it, and 0 where `out` lacks the room.
 pub fn names(out: &mut [u8]) -> usize
@@ -26,6 +31,17 @@ pub fn trace_names(out: &mut [u8]) -> usize
     ensures { λ r. ⌜ now (out .exit) ≡ putAt (now (out .entry)) 0 traceNamesLine ⌝ }
 {
     begin(out, b"kind a b\n")
+}
+
+// The same with the names line of a policy sheet, of policies that see the past of their sandbox or the whole past.
+pub fn policy_names(out: &mut [u8], local: bool) -> usize
+    ensures { λ r. ⌜ r ≡ endAt (now (out .entry)) 0 (policyNames local) ⌝ }
+    ensures { λ r. ⌜ now (out .exit) ≡ putAt (now (out .entry)) 0 (policyNames local) ⌝ }
+{
+    if local {
+        return begin(out, b"local from action on who to\n");
+    }
+    begin(out, b"policy from action on who to\n")
 }
 
 // A text, at the start.
@@ -56,9 +72,41 @@ pub fn row(out: &mut [u8], at: usize, line: usize, answer: usize, detail: usize)
     if out.len() - at < needed {
         return at;
     }
-    let second = field(out, at, line, b' ');
-    let third = field(out, second, answer, b' ');
-    field(out, third, detail, b'\n')
+    three(out, at, line, answer, detail, b'\n')
+}
+
+// A line of six values, from `at` on: the place after it, and `at` where `out` lacks the room for the longest such line. One test of the
+// room serves all six.
+pub fn values(out: &mut [u8], at: usize, v: [u32; 6]) -> usize
+    ensures { λ r. ⌜ r ≡ endWithin valuesRoom (now (out .entry)) at (valuesLine v) ⌝ }
+    ensures { λ r. ⌜ now (out .exit) ≡ putWithin valuesRoom (now (out .entry)) at (valuesLine v) ⌝ }
+{
+    if out.len() < at {
+        return at;
+    }
+    if out.len() - at < VALUES_ROOM {
+        return at;
+    }
+    let fourth = three(out, at, v[0] as usize, v[1] as usize, v[2] as usize, b' ');
+    three(
+        out,
+        fourth,
+        v[3] as usize,
+        v[4] as usize,
+        v[5] as usize,
+        b'\n',
+    )
+}
+
+// Three numbers with single spaces between them, and the byte after them.
+fn three(out: &mut [u8], at: usize, a: usize, b: usize, c: usize, end: u8) -> usize
+    requires { ⌜ at + length (Lines·three a b c end) ≤ length (now out) ⌝ }
+    ensures { λ r. ⌜ r ≡ at + length (Lines·three a b c end) ⌝ }
+    ensures { λ r. ⌜ now (out .exit) ≡ sets (now (out .entry)) at (Lines·three a b c end) ⌝ }
+{
+    let second = field(out, at, a, b' ');
+    let third = field(out, second, b, b' ');
+    field(out, third, c, end)
 }
 
 // How many digits n has.
@@ -88,14 +136,19 @@ fn number(out: &mut [u8], at: usize, n: usize) -> usize
     last + 1
 }
 
-// A number and the byte after it.
+// A number and the byte after it. Most numbers have one digit, which is put without a call.
 fn field(out: &mut [u8], at: usize, n: usize, end: u8) -> usize
     requires { ⌜ at + length (decimal n) < length (now out) ⌝ }
     ensures { λ r. ⌜ r ≡ at + length (decimal n) + 1 ⌝ }
     ensures { λ r. ⌜ now (out .exit) ≡ sets (now (out .entry)) at (Lines·field n end) ⌝ }
     ensures { λ r. ⌜ length (now (out .exit)) ≡ length (now (out .entry)) ⌝ }
 {
-    let last = number(out, at, n);
-    out[last] = end;
-    last + 1
+    if 10 <= n {
+        let last = number(out, at, n);
+        out[last] = end;
+        return last + 1;
+    }
+    out[at] = b'0' + n as u8;
+    out[at + 1] = end;
+    at + 2
 }

@@ -61,7 +61,7 @@ rows-below s m f (row {vs} k r rest) = below-append (f vs k r) (rows-below s m f
 
 -- ── An edge's line ──
 
-who-below : (e : Edge) → EdgeOk e → e .who < statics
+pub who-below : (e : Edge) → EdgeOk e → e .who < statics
 who-below e ok = go (eqb (e .on) 0) refl
   where
     go : (x : Bool) → eqb (e .on) 0 ≡ x → e .who < statics

@@ -91,7 +91,7 @@ parts-flat w t (suc n) i h =
     ∙ sym (drop-drop w (w * i) t))
     ∙ take-append-drop w (drop (w * i) t)
 
-map-from : {A B : Type 0} (g : A → B) (f : ℕ → A) (k n : ℕ) → map g (from f k n) ≡ from (λ i. g (f i)) k n
+pub map-from : {A B : Type 0} (g : A → B) (f : ℕ → A) (k n : ℕ) → map g (from f k n) ≡ from (λ i. g (f i)) k n
 unfolding from
 map-from g f k zero = refl
 map-from {A} {B} g f k (suc n) = ap (λ (l : List B). g (f k) ∷ l) (map-from g f (suc k) n)

@@ -8,6 +8,7 @@ mod local_calls;
 mod order_calls;
 mod print;
 mod retire_calls;
+mod rewritings;
 mod stored;
 mod trace_calls;
 
@@ -15,5 +16,7 @@ fn main() {
     stored::traces(1050);
     stored::outlines(1000);
     counterexamples::all(320);
+    rewritings::all(450);
     borders::calls();
+    rewritings::calls();
 }

@@ -1,4 +1,4 @@
-//! A separately written judge and outline check for usage policies.
+//! A separately written judge, outline check and sheet writer for usage policies.
 
 pub mod borders;
 pub mod counterexample;
@@ -16,3 +16,4 @@ pub mod search;
 pub mod sheet;
 pub mod state;
 pub mod system;
+pub mod writer;

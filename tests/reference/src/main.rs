@@ -15,10 +15,14 @@ const USAGE: &str = "usage:
   reference check DIR
   reference why DIR
   reference accepts DIR SHEET
+  reference write DIR
   reference judge FILE
   reference generate trace|outline|counterexample|state SEED COUNT DIR
   reference expect trace|outline|counterexample|state DIR COUNT
+  reference generate policies SEED COUNT DIR
+  reference expect policies DIR COUNT
   reference borders
+  reference writings
 ";
 
 fn main() -> ExitCode {
@@ -52,16 +56,22 @@ fn run(words: &[&str]) -> Option<io::Result<String>> {
             Some(Ok(program::why(&read(dir, "policies.txt"), &read(dir, "outline.txt"))))
         }
         ["accepts", dir, sheet] => Some(accepts(dir, sheet)),
+        ["write", dir] => Some(Ok(program::write(&read(dir, "policies.txt")))),
         ["judge", file] => Some(run_call(Path::new(file))),
         ["borders"] => Some(Ok(reference::borders::lines())),
+        ["writings"] => Some(Ok(reference::writer::calls())),
         ["generate", "state", seed, count, dir] => {
             Some(generate_calls(seed.parse().ok()?, count.parse().ok()?, Path::new(dir)))
+        }
+        ["generate", "policies", seed, count, dir] => {
+            Some(generate_policies(seed.parse().ok()?, count.parse().ok()?, Path::new(dir)))
         }
         ["generate", kind, seed, count, dir] => {
             let (seed, count) = (seed.parse().ok()?, count.parse().ok()?);
             Some(generate_cases(kind_of(kind)?, seed, count, Path::new(dir)))
         }
         ["expect", "state", dir, count] => Some(expect_calls(dir, count.parse().ok()?)),
+        ["expect", "policies", dir, count] => Some(Ok(expect_policies(dir, count.parse().ok()?))),
         ["expect", kind, dir, count] => Some(Ok(expect(kind_of(kind)?, dir, count.parse().ok()?))),
         _ => None,
     }
@@ -118,6 +128,14 @@ fn generate_cases(kind: Kind, seed: u64, count: usize, dir: &Path) -> io::Result
     Ok(String::new())
 }
 
+fn generate_policies(seed: u64, count: usize, dir: &Path) -> io::Result<String> {
+    fs::create_dir_all(dir)?;
+    for (number, text) in generate::rewritings::cases(seed, count).into_iter().enumerate() {
+        fs::write(dir.join(format!("{number:04}p")), text)?;
+    }
+    Ok(String::new())
+}
+
 fn generate_calls(seed: u64, count: usize, dir: &Path) -> io::Result<String> {
     fs::create_dir_all(dir)?;
     for (number, call) in generate::states::calls(seed, count).into_iter().enumerate() {
@@ -130,6 +148,13 @@ fn expect(kind: Kind, dir: &str, count: usize) -> String {
     let one = |number: usize| {
         let (policies, other) = (format!("{number:04}p"), format!("{number:04}{}", kind.letter()));
         format!("case {number}\n{}", run_sheets(kind, dir, &policies, &other))
+    };
+    (0..count).map(one).collect()
+}
+
+fn expect_policies(dir: &str, count: usize) -> String {
+    let one = |number: usize| {
+        format!("case {number}\n{}", program::write(&read(dir, &format!("{number:04}p"))))
     };
     (0..count).map(one).collect()
 }

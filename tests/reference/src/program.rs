@@ -7,6 +7,7 @@ use crate::outline::Node;
 use crate::policy::Policies;
 use crate::pushdown;
 use crate::sheet::{read_outline, read_policies, read_trace, Refusal, TRACE_NAMES};
+use crate::writer::written;
 
 const NAMES: &str = "line answer detail\n";
 
@@ -85,6 +86,14 @@ fn judged(policies: &Policies, policy: usize, steps: &[Step]) -> String {
     let (answer, detail) = answer.numbers();
     let rightly = u32::from(stops_rightly(policies, policy, steps));
     format!("{past} {answer} {detail} {rightly}\n")
+}
+
+/// The fourth program: a sheet of policies written again.
+pub fn write(policies: &[u8]) -> String {
+    match written(policies) {
+        Err(refusal) => refused(POLICIES_REFUSED, refusal),
+        Ok(text) => String::from_utf8(text).expect("a sheet is ASCII"),
+    }
 }
 
 fn refused(sheet: u32, refusal: Refusal) -> String {

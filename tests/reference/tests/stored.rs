@@ -3,11 +3,12 @@
 use reference::borders;
 use reference::least::shortest_length;
 use reference::policy::Policy;
-use reference::program::{check, monitor, shown, tables};
+use reference::program::{check, monitor, shown, tables, write};
 use reference::pushdown::{self, replay, witness, Witness};
 use reference::sheet::{read_outline, read_policies};
 use reference::state::Call;
 use reference::system::Watched;
+use reference::writer;
 use std::collections::BTreeSet;
 use std::fs;
 use std::path::PathBuf;
@@ -22,23 +23,29 @@ fn stored(kind: &str) -> PathBuf {
         "trace" => "crates/test_stored/data/t",
         "outline" => "crates/test_stored/data/o",
         "counterexample" => "crates/test_stored/data/c",
+        "policies" => "crates/test_stored/data/p",
         _ => "tests/cases/state",
     })
 }
 
-/// What is expected for the cases of a kind. The program's output has the traces, the outlines, the counterexamples and the border calls.
+/// What is expected for the cases of a kind. The program's output has the traces, the outlines, the counterexamples, the sheets that are
+/// written again, the border calls and those of the writer.
 fn text_of(kind: &str) -> String {
     if kind == "state" {
         return fs::read_to_string(root().join("tests/cases/state.expected")).unwrap();
     }
     let text = fs::read_to_string(root().join("crates/test_stored/stdout")).unwrap();
-    let sheets = text.strip_suffix(&borders::lines()).expect("the border calls come last");
+    let sheets = text.strip_suffix(&writer::calls()).expect("the calls of the writer come last");
+    let sheets = sheets.strip_suffix(&borders::lines()).expect("the border calls come before them");
     let first = "case 0\n";
     let parts: Vec<&str> = sheets.split(first).collect();
-    let ["", traces, outlines, counterexamples] = parts[..] else { panic!("three kinds of cases") };
+    let ["", traces, outlines, counterexamples, policies] = parts[..] else {
+        panic!("four kinds of cases")
+    };
     let part = match kind {
         "trace" => traces,
         "outline" => outlines,
+        "policies" => policies,
         _ => counterexamples,
     };
     format!("{first}{part}")
@@ -147,6 +154,19 @@ fn counterexamples() {
     assert!([(0, 0), (1, 2), (1, 3), (1, 199), (1, 200), (3, 0), (5, 0)].iter().all(|due| seen.contains(due)), "{seen:?}");
     assert!([201, 202].iter().all(|length| longer.contains(length)), "{longer:?}");
     assert_eq!(past_limits, 3);
+}
+
+/// Sheets that are accepted, and every number of a refused one.
+#[test]
+fn rewritings() {
+    let cases = expected("policies");
+    let mut seen = BTreeSet::new();
+    for (number, text) in cases.iter().enumerate() {
+        assert_eq!(write(&file("policies", number, 'p')), *text, "case {number}");
+        let refused = text.strip_prefix("line answer detail\n");
+        seen.insert(refused.map_or(0, |line| numbers(line.trim_end())[2]));
+    }
+    assert_eq!(seen, BTreeSet::from([0, 1, 2, 3, 4, 5, 11, 12, 13]));
 }
 
 fn numbers(line: &str) -> Vec<u64> {

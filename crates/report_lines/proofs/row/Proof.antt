@@ -1,10 +1,10 @@
 use native.Mathlib.Omega.{arith}
-use mathlib.Core.Path.{sym}
+use mathlib.Core.Path.{sym, _∙_}
 use Prim.Native.Nat.{_+_, _≤_, _<_}
 use denote.Ref.{now}
 use lib.ListN.{length}
 use Rattle.report_lines.specs.Lines.{row}
-use Rattle.report_lines.proofs.PutLaws.{length-digits, sets-row}
+use Rattle.report_lines.proofs.PutLaws.{length-row}
 use Rattle.report_lines.proofs.FitLaws.{put-fits, end-fits, put-lacks, end-lacks}
 use borrow.Author.Needs.{needs}
 use Rattle.report_lines.proofs.row.Statement.{statement}
@@ -42,51 +42,29 @@ returns-2 : tie.Need-returns-2
 returns-2 c =
     let a = c .before .before .before .before .before .before .args in
     let t = row (a .line) (a .answer) (a .detail) in
-    let e = length-digits (a .line) (a .answer) (a .detail) in
+    let e = length-row (a .line) (a .answer) (a .detail) in
     let l : length (now (a .out)) < a .at + length t = omega arith in
     (sym (end-lacks (now (a .out)) (a .at) t l), sym (put-lacks (now (a .out)) (a .at) t l))
 
-field-requires : tie.Need-field-requires
-field-requires c κs =
+three-requires : tie.Need-three-requires
+unfolding row
+three-requires c κs =
     let a = c .before .before .before .before .before .before .before .args in
-    let e = length-digits (a .line) (a .answer) (a .detail) in
-    omega arith
-
-field-requires-2 : tie.Need-field-requires-2
-field-requires-2 c κs =
-    let a = c .before .before .before .before .before .before .before .before .before .before .before .args in
-    let e = length-digits (a .line) (a .answer) (a .detail) in
-    let k = c .before .before .before .field .ensures .1 .1 in
-    omega arith
-
-field-requires-3 : tie.Need-field-requires-3
-field-requires-3 c κs =
-    let a = c .before .before .before .before .before .before .before .before
-    .before .before .before .before .before .before .before .args in
-    let e = length-digits (a .line) (a .answer) (a .detail) in
-    let k = c .before .before .before .before .before .before .before .field .ensures .1 .1 in
-    let m = c .before .before .before .field2 .ensures .1 .1 in
+    let e = length-row (a .line) (a .answer) (a .detail) in
     omega arith
 
 same-length : tie.Need-same-length
 same-length c = search needs
 
 returns-3 : tie.Need-returns-3
+unfolding row
 returns-3 c =
-    let a =
-    c .before .before .before .before .before .before .before .before .before .before .before .before .before .before .before .before
-    .before .before .args in
+    let a = c .before .before .before .before .before .before .before .before .before .before .args in
     let t = row (a .line) (a .answer) (a .detail) in
-    let d = length-digits (a .line) (a .answer) (a .detail) in
-    let f = c .before .before .before .before .before .before .before .before .before .before .field in
-    let g = c .before .before .before .before .before .before .field2 in
-    let h = c .before .before .field3 in
-    let l : a .at + length t ≤ length (now (a .out)) = omega arith in (
-      rw (end-fits (now (a .out)) (a .at) t l) (omega arith),
-      rw
-          (put-fits (now (a .out)) (a .at) t l, h .ensures .1 .0, g .ensures .1 .0, g .ensures .0, f .ensures .1 .0, f .ensures .0)
-          (sym (sets-row _ _ (a .line) (a .answer) (a .detail))),
-    )
+    let e = length-row (a .line) (a .answer) (a .detail) in
+    let w = c .before .before .three .ensures in
+    let l : a .at + length t ≤ length (now (a .out)) = omega arith in
+    (w .0 ∙ sym (end-fits (now (a .out)) (a .at) t l), w .1 ∙ sym (put-fits (now (a .out)) (a .at) t l))
 
 pub row-spec : {M : Type 1} → statement M
 row-spec =
@@ -101,8 +79,6 @@ row-spec =
     add-needed-3
     sub-if2
     returns-2
-    field-requires
-    field-requires-2
-    field-requires-3
+    three-requires
     same-length
     returns-3)
