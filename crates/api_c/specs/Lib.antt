@@ -3,3 +3,4 @@ pub mod Codes
 pub mod Parts
 pub mod Check
 pub mod Code
+pub mod Reading

@@ -21,6 +21,8 @@ ghost use Rattle.api_c.specs.Parts.{partsOf, judgeParts};
 ghost use Rattle.api_c.specs.Code.{isRefusal};
 ghost use Rattle.api_c.specs.Check.{Answers, Explains};
 
+pub mod expression;
+
 // document 01's two numbers for an answer, as 256 * answer + detail
 fn code(a: Answer) -> u32
     ensures { λ r. ⌜ r ≡ codeOf (verdictOf a) ⌝ }

@@ -1,10 +1,15 @@
 -- What is promised of outlines typed as expressions.
-use Prim.Native.Nat.{ℕ, _<_}
-use mathlib.Core.Path.{_≡_, refl, subst}
-use mathlib.Core.List.{List, _∷_, flatten, List·Memᴰ, List·Memᴰ·tail}
+use Prim.Native.Nat.{ℕ}
+use mathlib.Core.Path.{_≡_, refl, sym, ap, subst, _∙_}
+use mathlib.Core.List.{List, flatten, List·Memᴰ, List·Memᴰ·tail}
+use mathlib.Core.Logic.{_↔_}
 use lib.Dec.{lit<}
+use Rattle.usage.specs.declared.Node.{Node}
 use Rattle.usage.specs.Limits.{nodePlaces}
+use Rattle.usage.specs.Past.{Past}
 use Rattle.usage.specs.Answers.{Refusal}
+use Rattle.usage.specs.Outline.{IsTrace}
+use Rattle.usage.specs.Tables.{nodesOf}
 use Rattle.usage.proofs.TableLaws.{decides-node-table}
 use Rattle.sheet_lines.specs.Sheet.{Result, accepted, refused}
 use Rattle.sheet_reader.specs.Readers.{outlineInto}
@@ -12,9 +17,12 @@ use Rattle.sheet_reader.proofs.Converse.{nodes-given}
 use Rattle.sheet_grammar.specs.Tree.{Tree}
 use Rattle.sheet_grammar.specs.Grammar.{mostNested, ExpressionLine}
 use Rattle.sheet_grammar.specs.Outcome.{Outcome, bad}
+use Rattle.sheet_grammar.specs.Nodes.{treeNodes}
+use Rattle.sheet_grammar.specs.Meaning.{TreeTrace}
+use Rattle.sheet_grammar.proofs.MeaningLaws.{same-traces}
 use Rattle.sheet_expression.specs.Expression.{ReadAs, expressionOf, expressionInto}
-use Rattle.sheet_expression.proofs.ExpressionLaws.{expression-read, decides-expression, Accepted, accepted-line, never-wrong, one-way}
-use Rattle.sheet_expression.proofs.TableLaws.{expression-table}
+use Rattle.sheet_expression.proofs.ExpressionLaws.{expression-read, decides-expression, accepted-line, never-wrong, one-way}
+use Rattle.sheet_expression.proofs.TableLaws.{rows-nodes, expression-table}
 use Rattle.promises.specs.Demands.{lineNumbers, expressionNumbers, ReaderRefuses, GivenBy, Expressions}
 use Rattle.promises.proofs.JudgeNumbers.{nth}
 use Rattle.promises.proofs.SheetNumbers.{Number, Numbers, no-number, a-number, number-in, reader-refuses}
@@ -54,6 +62,14 @@ table-given text rows e =
     let g = nodes-given (flatten rows) (decides-node-table (flatten rows) .1 (expression-table text rows e)) in
     record { text = g .text; rows = g .rows; accepts = g .accepts; table-is = g .table }
 
+traces-same : (text : List ℕ) (rows : List (List ℕ)) (t : Tree) → expressionOf text ≡ accepted rows → ExpressionLine mostNested text t
+    → (past : Past) → IsTrace (nodesOf (flatten rows)) past ↔ TreeTrace t past
+traces-same text rows t e l past =
+    let a = accepted-line text rows e in
+    let same : treeNodes t ≡ nodesOf (flatten rows) = ap treeNodes (one-way mostNested mostNested text t (a .tree) l (a .is-line))
+    ∙ sym (rows-nodes (treeNodes (a .tree))) ∙ ap (λ (r : List (List ℕ)). nodesOf (flatten r)) (sym (a .rows-are)) in
+    subst (λ (ns : List Node). IsTrace ns past ↔ TreeTrace t past) same (same-traces t past)
+
 pub expressions : Expressions
 expressions = record {
   result = decides-expression;
@@ -61,4 +77,5 @@ expressions = record {
   all-lines = line-number;
   one-way = one-way;
   table = table-given;
+  traces = traces-same;
 }

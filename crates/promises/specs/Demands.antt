@@ -11,7 +11,9 @@ use mathlib.Core.Logic.{_↔_}
 use Rattle.usage.specs.declared.RawStep.{RawStep}
 use Rattle.usage.specs.Limits.{policies, edgePlaces, stepPlaces, nodePlaces}
 use Rattle.usage.specs.Answers.{Verdict, allowed, violated, refused, Refusal}
+use Rattle.usage.specs.Past.{Past}
 use Rattle.usage.specs.Judge.{JudgedAll}
+use Rattle.usage.specs.Outline.{IsTrace}
 use Rattle.usage.specs.Check.{Checked}
 use Rattle.usage.specs.Tables.{edgesOf, nodesOf, stepsOf, EdgeTable, NodeTable}
 use Rattle.monitor_state.specs.declared.State.{State}
@@ -25,6 +27,7 @@ use Rattle.sheet_reader.specs.Readers.{policiesInto, traceInto, outlineInto, st
 use Rattle.sheet_grammar.specs.Tree.{Tree}
 use Rattle.sheet_grammar.specs.Grammar.{mostNested, ExpressionLine}
 use Rattle.sheet_grammar.specs.Nodes.{treeNodes}
+use Rattle.sheet_grammar.specs.Meaning.{TreeTrace}
 use Rattle.sheet_expression.specs.Expression.{tableRows, ReadAs, expressionOf, expressionInto}
 use Rattle.checker.specs.Accepted.{NeverHalted}
 use Rattle.checker.specs.Promise.{RightVerdict, CheckPromise}
@@ -154,6 +157,9 @@ pub record Expressions : Type 0 where
   pub one-way : (m n : ℕ) (text : List ℕ) (t u : Tree) → ExpressionLine m text t → ExpressionLine n text u → t ≡ u
   -- "get the node table": one that an outline sheet gives too
   pub table : (text : List ℕ) (rows : List (List ℕ)) → expressionOf text ≡ accepted rows → GivenBy nodePlaces outlineInto (flatten rows)
+  -- the traces of the table are those of the expression, which has runs of its own
+  pub traces : (text : List ℕ) (rows : List (List ℕ)) (t : Tree) → expressionOf text ≡ accepted rows → ExpressionLine mostNested text t
+      → (past : Past) → IsTrace (nodesOf (flatten rows)) past ↔ TreeTrace t past
 
 -- All three demands.
 pub record Demands : Type 0 where

@@ -77,7 +77,7 @@ some-digit n = go (ltb n 10) refl
     go true e = omega (arith, length-one n (ltb-true n 10 e))
     go false e = omega (arith, length-more n (ltb-false n 10 e))
 
-decimal-value : (n : ℕ) → n < 100000 → Value n (decimal n)
+pub decimal-value : (n : ℕ) → n < 100000 → Value n (decimal n)
 decimal-value n h = record {
   count = length (decimal n);
   some-digit = some-digit n;
@@ -88,10 +88,10 @@ decimal-value n h = record {
 -- ── A printed row is one line ──
 
 -- the bytes of a line of three numbers
-abbrev threeBytes : ℕ → ℕ → ℕ → List ℕ
+abbrev pub threeBytes : ℕ → ℕ → ℕ → List ℕ
 threeBytes a b c = decimal a ++ (32 ∷ (decimal b ++ (32 ∷ decimal c)))
 
-space-line : (n : ℕ) → n < 100000 → (bs cs : List ℕ) (ls : List Line) → linesOf bs ≡ fed cs ∷ ls
+pub space-line : (n : ℕ) → n < 100000 → (bs cs : List ℕ) (ls : List Line) → linesOf bs ≡ fed cs ∷ ls
     → linesOf (field n 32 ++ bs) ≡ fed (decimal n ++ (32 ∷ cs)) ∷ ls
 unfolding field linesOf classOf
 space-line n h bs cs ls e =
@@ -105,7 +105,7 @@ feed-line n h bs =
     ∙ digits-lines (decimal-digits 4 n (omega arith)) (10 ∷ bs) (fed []) (linesOf bs) refl
     ∙ ap (λ (xs : List ℕ). fed xs ∷ linesOf bs) (append-nil (decimal n))
 
-row-line : (a b c : ℕ) → a < 100000 → b < 100000 → c < 100000 → (bs : List ℕ)
+pub row-line : (a b c : ℕ) → a < 100000 → b < 100000 → c < 100000 → (bs : List ℕ)
     → linesOf (row a b c ++ bs) ≡ fed (threeBytes a b c) ∷ linesOf bs
 unfolding row
 row-line a b c ha hb hc bs =
@@ -114,7 +114,7 @@ row-line a b c ha hb hc bs =
     (ap linesOf (append-assoc (field b 32) (field c 10) bs)
     ∙ space-line b hb (field c 10 ++ bs) (decimal c) (linesOf bs) (feed-line c hc bs))
 
-three-values : (a b c : ℕ) → a < 100000 → b < 100000 → c < 100000 → Values (a ∷ b ∷ c ∷ []) (threeBytes a b c)
+pub three-values : (a b c : ℕ) → a < 100000 → b < 100000 → c < 100000 → Values (a ∷ b ∷ c ∷ []) (threeBytes a b c)
 unfolding classOf
 three-values a b c ha hb hc =
     next-value (decimal-value a ha) (one-space 32 refl)

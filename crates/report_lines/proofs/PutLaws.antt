@@ -8,7 +8,7 @@ use lib.Seq.{sets, sets-eq, take-suc, length-take-le}
 use lib.ListN.{length-append, getD}
 use native.Mathlib.Omega.{arith}
 use Rattle.report_lines.specs.Decimal.{decimal}
-use Rattle.report_lines.specs.Lines.{field, row}
+use Rattle.report_lines.specs.Lines.{field, row, numberedRow}
 
 -- one run after another
 pub sets-append : (l : List ℕ) (i : ℕ) (vs ws : List ℕ) → sets l i (vs ++ ws) ≡ sets (sets l i vs) (i + length vs) ws
@@ -64,3 +64,15 @@ pub length-digits : (line answer detail : ℕ)
     → length (row line answer detail) ≡ length (decimal line) + length (decimal answer) + length (decimal detail) + 3
 length-digits line answer detail =
     omega (arith, length-row line answer detail, length-field line 32, length-field answer 32, length-field detail 10)
+
+-- a line with a number before it
+pub length-numbered : (number kind a b : ℕ) → length (numberedRow number kind a b) ≡ length (field number 32) + length (row kind a b)
+unfolding numberedRow
+length-numbered number kind a b = length-append (field number 32) (row kind a b)
+
+pub sets-numbered : (l : List ℕ) (i number kind a b : ℕ)
+    → sets l i (numberedRow number kind a b) ≡ sets (sets l i (field number 32)) (i + length (decimal number) + 1) (row kind a b)
+unfolding numberedRow
+sets-numbered l i number kind a b =
+    let one : i + length (field number 32) ≡ i + length (decimal number) + 1 = omega (arith, length-field number 32) in
+    sets-append l i (field number 32) (row kind a b) ∙ rw one

@@ -3,7 +3,7 @@ use Prim.Native.Nat.{ℕ, suc}
 use mathlib.Core.List.{List, [], _∷_, _++_}
 use Rattle.usage.specs.Answers.{Verdict, answer, detail, Refusal}
 use Rattle.sheet_lines.specs.Bytes.{bytes}
-use Rattle.sheet_lines.specs.Sheets.{traceSheet}
+use Rattle.sheet_lines.specs.Sheets.{traceSheet, outlineSheet}
 use Rattle.report_lines.specs.Decimal.{decimal}
 
 -- "It prints `line answer detail`"
@@ -21,6 +21,13 @@ traceNamesLine = traceSheet .names
 abbrev pub traceNamesRoom : ℕ
 traceNamesRoom = 9
 
+-- that of an outline sheet, where nodes are printed (`length-node-names` of proofs/RowLaws)
+unfoldable pub nodeNamesLine : List ℕ
+nodeNamesLine = outlineSheet .names
+
+abbrev pub nodeNamesRoom : ℕ
+nodeNamesRoom = 14
+
 -- a number and the byte after it
 unfoldable pub field : ℕ → ℕ → List ℕ
 field n end = decimal n ++ (end ∷ [])
@@ -28,6 +35,10 @@ field n end = decimal n ++ (end ∷ [])
 -- a printed line: single spaces (byte 32) between the numbers, one line feed (byte 10) at the end
 unfoldable pub row : ℕ → ℕ → ℕ → List ℕ
 row line answer detail = field line 32 ++ (field answer 32 ++ field detail 10)
+
+-- a line of an outline sheet: the node's number before its three
+unfoldable pub numberedRow : ℕ → ℕ → ℕ → ℕ → List ℕ
+numberedRow number kind a b = field number 32 ++ row kind a b
 
 -- "0 allowed, 1 violated or 2 refused, and the policy, the number, or 0"
 abbrev pub verdictRow : ℕ → Verdict → List ℕ

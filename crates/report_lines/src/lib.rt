@@ -4,13 +4,16 @@ ghost use Prim.Native.Nat.{_+_, _<_, _≤_};
 ghost use lib.ListN.{length};
 ghost use lib.Seq.{sets};
 ghost use Rattle.report_lines.specs.Decimal.{decimal};
-ghost use Rattle.report_lines.specs.Lines.{namesLine, traceNamesLine, field as Lines·field, row as Lines·row};
+ghost use Rattle.report_lines.specs.Lines.{namesLine, traceNamesLine, nodeNamesLine, field as Lines·field, row as Lines·row};
+ghost use Rattle.report_lines.specs.Lines.{numberedRow};
 ghost use Rattle.report_lines.specs.Put.{putAt, endAt};
 
-// The bytes of the line of names, and of that of a trace sheet.
+// The bytes of the line of names, and of those of a trace sheet and of an outline sheet.
 pub const NAMES: usize = 19;
 
 pub const TRACE_NAMES: usize = 9;
+
+pub const NODE_NAMES: usize = 14;
 
 // The line of names, at the start: the place after it, and 0 where `out` lacks the room.
 pub fn names(out: &mut [u8]) -> usize
@@ -26,6 +29,14 @@ pub fn trace_names(out: &mut [u8]) -> usize
     ensures { λ r. ⌜ now (out .exit) ≡ putAt (now (out .entry)) 0 traceNamesLine ⌝ }
 {
     begin(out, b"kind a b\n")
+}
+
+// The same with the names line of an outline sheet.
+pub fn node_names(out: &mut [u8]) -> usize
+    ensures { λ r. ⌜ r ≡ endAt (now (out .entry)) 0 nodeNamesLine ⌝ }
+    ensures { λ r. ⌜ now (out .exit) ≡ putAt (now (out .entry)) 0 nodeNamesLine ⌝ }
+{
+    begin(out, b"node kind a b\n")
 }
 
 // A text, at the start.
@@ -59,6 +70,29 @@ pub fn row(out: &mut [u8], at: usize, line: usize, answer: usize, detail: usize)
     let second = field(out, at, line, b' ');
     let third = field(out, second, answer, b' ');
     field(out, third, detail, b'\n')
+}
+
+// The same with a number before the three.
+pub fn numbered_row(
+    out: &mut [u8],
+    at: usize,
+    number: usize,
+    kind: usize,
+    a: usize,
+    b: usize,
+) -> usize
+    ensures { λ r. ⌜ r ≡ endAt (now (out .entry)) at (numberedRow number kind a b) ⌝ }
+    ensures { λ r. ⌜ now (out .exit) ≡ putAt (now (out .entry)) at (numberedRow number kind a b) ⌝ }
+{
+    if out.len() < at {
+        return at;
+    }
+    let needed = width(number) + width(kind) + width(a) + width(b) + 4;
+    if out.len() - at < needed {
+        return at;
+    }
+    let next = field(out, at, number, b' ');
+    row(out, next, kind, a, b)
 }
 
 // How many digits n has.

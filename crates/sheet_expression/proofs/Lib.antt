@@ -10,3 +10,4 @@ pub mod LabelLaws
 pub mod GrowingLaws
 pub mod FillLaws
 pub mod ReadLaws
+pub mod AnswerLaws

@@ -14,7 +14,7 @@ use Rattle.sheet_grammar.specs.Nodes.{nodeWith, treeNodes}
 use Rattle.sheet_expression.specs.Expression.{tableRows, expressionOf}
 use Rattle.sheet_expression.proofs.ExpressionLaws.{Accepted, accepted-line}
 
-rows-length : (ns : List Node) → length (flatten (tableRows ns)) ≡ nodeFields * length ns
+pub rows-length : (ns : List Node) → length (flatten (tableRows ns)) ≡ nodeFields * length ns
 unfolding flatten
 rows-length [] = refl
 rows-length (n ∷ ns) = let e = rows-length ns in omega arith

@@ -19,3 +19,4 @@ pub mod DecidedLaws
 pub mod NodeLaws
 pub mod RangeLaws
 pub mod SizeLaws
+pub mod MeaningLaws

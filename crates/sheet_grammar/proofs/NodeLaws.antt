@@ -158,7 +158,7 @@ nodes-count c loops k (sandbox p t) = one-at c k t _ (nodes-count c loops (suc k
 -- ── Where the children stand ──
 
 -- the node at a place says this
-says : {ns : List Node} {k : ℕ} {n : Node} (f : Form) → getElem? ns k ≡ some n → formOf n ≡ some f → Is ns k f
+pub says : {ns : List Node} {k : ℕ} {n : Node} (f : Form) → getElem? ns k ≡ some n → formOf n ≡ some f → Is ns k f
 says f h e = record { form = ap formIn h ∙ e }
 
 -- the children of a node of a known form

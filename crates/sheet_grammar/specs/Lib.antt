@@ -4,6 +4,7 @@ pub mod Grammar
 pub mod Places
 pub mod Outcome
 pub mod Nodes
+pub mod Meaning
 -- The reader as a definition that computes, and as rules.
 pub mod Reader
 pub mod Rules

@@ -1,6 +1,7 @@
 //! The command line of the reference.
 
 use reference::counterexample::shown_fault;
+use reference::expression;
 use reference::generate::{self, Case, Kind};
 use reference::program;
 use reference::sheet::read_trace;
@@ -15,10 +16,12 @@ const USAGE: &str = "usage:
   reference check DIR
   reference why DIR
   reference accepts DIR SHEET
+  reference nodes DIR
   reference judge FILE
-  reference generate trace|outline|counterexample|state SEED COUNT DIR
-  reference expect trace|outline|counterexample|state DIR COUNT
+  reference generate trace|outline|counterexample|state|expression SEED COUNT DIR
+  reference expect trace|outline|counterexample|state|expression DIR COUNT
   reference borders
+  reference expression-borders
 ";
 
 fn main() -> ExitCode {
@@ -52,16 +55,22 @@ fn run(words: &[&str]) -> Option<io::Result<String>> {
             Some(Ok(program::why(&read(dir, "policies.txt"), &read(dir, "outline.txt"))))
         }
         ["accepts", dir, sheet] => Some(accepts(dir, sheet)),
+        ["nodes", dir] => Some(Ok(expression::sheet(&read(dir, "outline.expr")))),
         ["judge", file] => Some(run_call(Path::new(file))),
         ["borders"] => Some(Ok(reference::borders::lines())),
+        ["expression-borders"] => Some(Ok(expression::borders())),
         ["generate", "state", seed, count, dir] => {
             Some(generate_calls(seed.parse().ok()?, count.parse().ok()?, Path::new(dir)))
+        }
+        ["generate", "expression", seed, count, dir] => {
+            Some(generate_expressions(seed.parse().ok()?, count.parse().ok()?, Path::new(dir)))
         }
         ["generate", kind, seed, count, dir] => {
             let (seed, count) = (seed.parse().ok()?, count.parse().ok()?);
             Some(generate_cases(kind_of(kind)?, seed, count, Path::new(dir)))
         }
         ["expect", "state", dir, count] => Some(expect_calls(dir, count.parse().ok()?)),
+        ["expect", "expression", dir, count] => Some(Ok(expect_expressions(dir, count.parse().ok()?))),
         ["expect", kind, dir, count] => Some(Ok(expect(kind_of(kind)?, dir, count.parse().ok()?))),
         _ => None,
     }
@@ -124,6 +133,21 @@ fn generate_calls(seed: u64, count: usize, dir: &Path) -> io::Result<String> {
         fs::write(dir.join(format!("{number:04}s")), call.write())?;
     }
     Ok(String::new())
+}
+
+fn generate_expressions(seed: u64, count: usize, dir: &Path) -> io::Result<String> {
+    fs::create_dir_all(dir)?;
+    for (number, text) in generate::expressions::cases(seed, count).into_iter().enumerate() {
+        fs::write(dir.join(format!("{number:04}e")), text)?;
+    }
+    Ok(String::new())
+}
+
+fn expect_expressions(dir: &str, count: usize) -> String {
+    let one = |number: usize| {
+        format!("case {number}\n{}", expression::sheet(&read(dir, &format!("{number:04}e"))))
+    };
+    (0..count).map(one).collect()
 }
 
 fn expect(kind: Kind, dir: &str, count: usize) -> String {
