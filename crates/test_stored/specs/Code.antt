@@ -9,7 +9,7 @@ use Rattle.sheet_lines.specs.declared.Reading.{Reading}
 use Rattle.sheet_lines.specs.declared.Reading.the-variants.{Stored, Refused}
 use Rattle.sheet_reader.specs.declared.PolicyReading.{PolicyReading}
 use Rattle.sheet_reader.specs.declared.PolicyReading.the-variants.{Stored as StoredEdges, Refused as RefusedPolicies}
-use Rattle.monitor_sets.specs.Instances.{firstCreated, setPlaces}
+use Rattle.monitor_sets.specs.Instances.{retirees, firstCreated, setPlaces}
 use Rattle.api_c.specs.Codes.{codeOf}
 use Rattle.api_c.specs.Parts.{Parts, partsOf}
 use Rattle.test_stored.specs.declared.lent.Lent.{Lent}
@@ -65,3 +65,17 @@ abbrev pub sandboxing : ℕ → ℕ → ℕ → Parts
 sandboxing zeros ones m =
     partsOf (set (set (replicate setPlaces 1) 0 m) firstCreated m) (set (set (replicate policies 1) 0 zeros) 1 ones) (replicate mostCreated 0)
     (set (replicate policies 0) 1 1) (replicate mostUnclosed 1) (0 ∷ 0 ∷ 1 ∷ 0 ∷ [])
+
+-- a state like the start, but that so many of these two numbers are live, and for the highest
+abbrev pub living : ℕ → ℕ → ℕ → ℕ → Parts
+living count first second highest =
+    partsOf (replicate setPlaces 1) (replicate policies 1) (set (set (replicate mostCreated 0) 0 first) 1 second) (replicate policies 0)
+    (replicate mostUnclosed 0) (count ∷ 0 ∷ 0 ∷ highest ∷ [])
+
+-- the same arrays, but for the sets of policy 0 of the first live resource and of the retired
+abbrev pub apart : Parts → Parts
+apart p = partsOf (set (set (p .sets) firstCreated 4) retirees 2) (p .possible) (p .created) (p .unclosed) (p .order) (p .numbers)
+
+-- the same arrays, but that policy 1 is open
+abbrev pub opening : Parts → Parts
+opening p = partsOf (p .sets) (p .possible) (p .created) (set (p .unclosed) 1 1) (set (p .order) 0 1) (set (p .numbers) 2 1)

@@ -6,6 +6,7 @@ use crate::judge_calls;
 use crate::local_calls;
 use crate::order_calls;
 use crate::print;
+use crate::retire_calls;
 use crate::trace_calls;
 use sheet_lines::Reading;
 use sheet_reader::PolicyReading;
@@ -72,7 +73,7 @@ fn table_calls() -> u64
 }
 
 pub(crate) fn calls() -> u64
-    ensures { λ r. ⌜ r ≡ 108 ⌝ }
+    ensures { λ r. ⌜ r ≡ 145 ⌝ }
 {
     judge_calls::step_calls();
     judge_calls::flag_calls();
@@ -81,5 +82,6 @@ pub(crate) fn calls() -> u64
     trace_calls::long_calls();
     judge_calls::kept_calls();
     order_calls::order_calls();
-    local_calls::local_calls()
+    local_calls::local_calls();
+    retire_calls::calls()
 }

@@ -8,11 +8,12 @@ mod lent;
 mod local_calls;
 mod order_calls;
 mod print;
+mod retire_calls;
 mod stored;
 mod trace_calls;
 
 fn main() {
-    stored::traces(950);
+    stored::traces(1050);
     stored::outlines(1000);
     counterexamples::all(320);
     borders::calls();

@@ -60,14 +60,14 @@ fn closing_calls() -> u64
 }
 
 // The same state halted (20), or with a policy that what is kept of it breaks.
-fn halted(mut s: Lent) -> Lent
+pub(crate) fn halted(mut s: Lent) -> Lent
     ensures { λ r. ⌜ lentParts r ≡ halting (lentParts s) ⌝ }
 {
     s.numbers[1] = 1;
     s
 }
 
-fn broken(mut s: Lent) -> Lent
+pub(crate) fn broken(mut s: Lent) -> Lent
     ensures { λ r. ⌜ lentParts r ≡ breaking (lentParts s) ⌝ }
 {
     s.possible[1] = 64;

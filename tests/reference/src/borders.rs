@@ -1,6 +1,7 @@
 //! Calls of the functions themselves: at the borders of the refusals that no sheet can bring about, 21, 40, 41 and 42; what the check with a
 //! counterexample leaves in the table that it is lent; on states whose kept sets disagree with their instance sets; on orders of
-//! unclosed openings, right and damaged, and what is left of them; and with the number that tells which past the policies see.
+//! unclosed openings, right and damaged, and what is left of them; with the number that tells which past the policies see; and about the
+//! highest number and retirings.
 
 use crate::counterexample::counterexample_tables;
 use crate::judge::Step;
@@ -8,14 +9,14 @@ use crate::outline::Node;
 use crate::policy::Edge;
 use crate::pushdown::check_tables;
 use crate::sheet::{read_outline, read_policies, read_trace, Refusal, MOST_EDGES, MOST_NODES, MOST_STEPS};
-use crate::state::{judge_state, write_state, State};
+use crate::state::{judge_state, write_state, State, FIRST_LIVE, RETIRED};
 
 type Line = (u32, usize);
 
-/// A step from a state like the start, but for the count, the flag and the first two created numbers. The one edge leads to `to`. The
-/// count and the flag that it leaves come after the answer.
+/// A step from a state like the start, but for the count, the flag and the first two created numbers, the second of them the highest. The
+/// one edge leads to `to`. The count and the flag that it leaves come after the answer.
 fn judged(to: u64, [count, halted]: [u64; 2], [first, second]: [u64; 2], [kind, a, b]: [u64; 3]) -> String {
-    let mut state = State { count, halted, ..State::start() };
+    let mut state = State { count, halted, highest: second, ..State::start() };
     state.created[0] = first;
     state.created[1] = second;
     let (answer, after) = judge_state(&[Edge::new([0, 0, 0, 0, 0, to])], 0, &state, Step { kind, a, b });
@@ -83,7 +84,7 @@ fn local_step(local: u64, [of_0, of_1, set]: [u8; 3], step: [u64; 3]) -> String 
     state.kept[0] = of_0;
     state.kept[1] = of_1;
     state.sets[0][0] = set;
-    state.sets[17][0] = set;
+    state.sets[FIRST_LIVE][0] = set;
     changed(local, &state, step)
 }
 
@@ -168,6 +169,83 @@ fn order_lines() -> Vec<String> {
     ]
 }
 
+/// A state like the start, but that so many of these two numbers are live, and for the highest.
+fn living(count: u64, [first, second]: [u64; 2], highest: u64) -> State {
+    let mut state = State { count, highest, ..State::start() };
+    state.created[0] = first;
+    state.created[1] = second;
+    state
+}
+
+/// The highest number at its borders: 42 and 27.
+fn highest_lines() -> Vec<String> {
+    let event = [0, 1, 5];
+    let wide = 1 << 32;
+    let two = |highest: u64, step: [u64; 3]| changed(0, &living(2, [16, 40], highest), step);
+    let fallen = |highest: u64| changed(0, &living(2, [40, 16], highest), event);
+    let none = |highest: u64, step: [u64; 3]| changed(0, &living(0, [40, 16], highest), step);
+    vec![
+        two(40, event),
+        two(39, event),
+        two(41, event),
+        fallen(40),
+        fallen(39),
+        none(0, event),
+        none(wide - 1, event),
+        none(wide, event),
+        two(wide + 40, event),
+        two(u64::MAX, event),
+        changed(0, &State { halted: 1, ..living(0, [40, 16], wide) }, [4, 0, 0]),
+        two(40, [0, 0, 41]),
+        two(40, [0, 0, 40]),
+        two(40, [0, 0, 39]),
+        two(40, [0, 0, 16]),
+        two(41, [0, 0, 41]),
+        none(20, [0, 0, 20]),
+        none(20, [0, 0, 21]),
+        none(65_535, [0, 0, 65_535]),
+        none(wide - 1, [0, 0, 65_535]),
+    ]
+}
+
+/// What a retiring joins and closes up; 20, 21, 24, 28 and 42 about it; that it is judged by what is kept; and what an opening resets.
+fn retiring_lines() -> Vec<String> {
+    let two = || living(2, [16, 40], 40);
+    let one = || living(1, [16, 40], 40);
+    let apart = |local: u64, step: [u64; 3]| {
+        let mut state = two();
+        state.sets[FIRST_LIVE][0] = 4;
+        state.sets[RETIRED][0] = 2;
+        changed(local, &state, step)
+    };
+    // policy 1 may be in state 6, as it is kept
+    let broken = |openings: &[u64]| {
+        let State { openings, depth, order, .. } = State::opened(openings);
+        let mut state = State { openings, depth, order, ..two() };
+        state.kept[1] = 64;
+        changed(0, &state, [3, 16, 0])
+    };
+    vec![
+        apart(0, [3, 16, 0]),
+        apart(0, [3, 40, 0]),
+        apart(1, [3, 16, 0]),
+        changed(0, &two(), [3, 3, 0]),
+        changed(0, &two(), [3, 17, 0]),
+        changed(0, &one(), [3, 40, 0]),
+        changed(0, &two(), [3, 65_535, 0]),
+        changed(0, &two(), [3, 65_536, 0]),
+        changed(0, &two(), [3, 16, 1]),
+        changed(0, &two(), [4, 16, 0]),
+        changed(0, &State { halted: 1, ..two() }, [3, 16, 0]),
+        changed(0, &State { halted: 1, ..living(2, [16, 40], 39) }, [3, 16, 0]),
+        changed(0, &one(), [0, 1, 40]),
+        broken(&[1]),
+        broken(&[]),
+        apart(0, [1, 0, 0]),
+        apart(1, [1, 0, 0]),
+    ]
+}
+
 fn told((answer, detail): Line) -> String {
     format!("{answer} {detail}")
 }
@@ -238,7 +316,7 @@ pub fn lines() -> String {
         judged(7, [0, 0], none, event),
         judged(7, [0, 0], none, [0, 32, 15]),
         judged(7, [0, 0], none, [0, 1, 65536]),
-        judged(7, [0, 0], none, [3, 0, 0]),
+        judged(7, [0, 0], none, [4, 0, 0]),
         judged(7, [0, 0], none, [1, 7, 0]),
         judged(7, [0, 0], none, [1, 8, 0]),
         judged(7, [0, 0], none, [1, 7, 1]),
@@ -249,14 +327,14 @@ pub fn lines() -> String {
         judged(7, [2, 0], [16, 65536], event),
         judged(7, [2, 0], [16, 16], event),
         judged(7, [65, 0], [16, 17], event),
-        judged(8, [65, 0], [16, 16], [3, 0, 0]),
+        judged(8, [65, 0], [16, 16], [4, 0, 0]),
         judged(7, [0, 0], none, [0, 0, 16]),
         judged(7, [0, 1], none, event),
-        judged(7, [0, 1], none, [3, 0, 0]),
+        judged(7, [0, 1], none, [4, 0, 0]),
         judged(7, [65, 1], [16, 17], event),
         judged(7, [0, 2], none, event),
         judged(7, [0, 7], none, event),
-        judged(7, [0, 7], none, [3, 0, 0]),
+        judged(7, [0, 7], none, [4, 0, 0]),
         judged(8, [0, 7], none, event),
         judged(7, [0, 256], none, event),
         judged(7, [0, 1 << 32], none, event),
@@ -287,6 +365,6 @@ pub fn lines() -> String {
         kept(1, 64, [2, 0, 0]),
         kept(1, 64, [0, 1, 0]),
     ];
-    let lines = lines.into_iter().chain(order_lines()).chain(local_lines());
+    let lines = lines.into_iter().chain(order_lines()).chain(local_lines()).chain(highest_lines()).chain(retiring_lines());
     lines.enumerate().map(|(number, line)| format!("{} {line}\n", number + 1)).collect()
 }

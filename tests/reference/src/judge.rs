@@ -10,6 +10,7 @@ pub const LARGEST_RESOURCE: u64 = 65_535;
 pub const EVENT: u64 = 0;
 pub const OPEN: u64 = 1;
 pub const CLOSE: u64 = 2;
+pub const RETIRE: u64 = 3;
 pub const CREATE: u64 = 0;
 
 /// A step as the sheet writes it.
@@ -40,6 +41,10 @@ impl Step {
         Step { kind: CLOSE, a: policy, b: 0 }
     }
 
+    pub fn retire(resource: u64) -> Step {
+        Step { kind: RETIRE, a: resource, b: 0 }
+    }
+
     pub fn row(&self) -> [u64; 3] {
         [self.kind, self.a, self.b]
     }
@@ -48,6 +53,7 @@ impl Step {
         match self.kind {
             EVENT => self.a <= 31 && self.b <= LARGEST_RESOURCE,
             OPEN | CLOSE => self.a <= 7 && self.b == 0,
+            RETIRE => self.a <= LARGEST_RESOURCE && self.b == 0,
             _ => false,
         }
     }
@@ -66,6 +72,17 @@ impl Answer {
             Answer::Refused(number) => (2, number as usize),
         }
     }
+}
+
+/// The numbers that were created, live or retired, in the order of their creation.
+pub fn created(steps: &[Step]) -> Vec<u64> {
+    steps.iter().filter(|s| s.kind == EVENT && s.a == CREATE).map(|s| s.b).collect()
+}
+
+/// Those of them that no later step retires.
+pub fn live(steps: &[Step]) -> Vec<u64> {
+    let retired = |resource: &u64| count(steps, Step::retire(*resource)) > 0;
+    created(steps).into_iter().filter(|resource| !retired(resource)).collect()
 }
 
 /// The events among the steps.
@@ -161,8 +178,10 @@ impl Judge {
 /// What the refusals of a step depend on: of a past, or of a state that is handed over.
 pub trait Standing {
     fn is_halted(&self) -> bool;
-    fn is_created(&self, resource: u64) -> bool;
-    fn created_count(&self) -> usize;
+    /// The resources that are created and not retired.
+    fn live(&self) -> Vec<u64>;
+    /// Is the number above every one that was created, live or retired?
+    fn is_above(&self, resource: u64) -> bool;
     /// The policies of the openings that are not closed, the one opened last at the end.
     fn unclosed(&self) -> Vec<u64>;
 }
@@ -172,12 +191,12 @@ impl Standing for Judge {
         self.halted
     }
 
-    fn is_created(&self, resource: u64) -> bool {
-        count(&self.past, Step::event(CREATE, resource)) > 0
+    fn live(&self) -> Vec<u64> {
+        live(&self.past)
     }
 
-    fn created_count(&self) -> usize {
-        self.past.iter().filter(|s| s.kind == EVENT && s.a == CREATE).count()
+    fn is_above(&self, resource: u64) -> bool {
+        created(&self.past).into_iter().all(|earlier| earlier < resource)
     }
 
     fn unclosed(&self) -> Vec<u64> {
@@ -185,7 +204,7 @@ impl Standing for Judge {
     }
 }
 
-/// "The running routine, in order", and "The limits, last of all".
+/// "The running routine, in order", and "The limits, last of all": 20, 21, 22, 27, 28, 24, 25, 26, 30, 32.
 pub fn refusal(standing: &impl Standing, step: Step) -> Option<u32> {
     if standing.is_halted() {
         return Some(20);
@@ -196,7 +215,9 @@ pub fn refusal(standing: &impl Standing, step: Step) -> Option<u32> {
     match step.kind {
         EVENT => event_refusal(standing, step.a, step.b),
         OPEN => (standing.unclosed().len() >= MOST_UNCLOSED).then_some(32),
-        _ => closing_refusal(&standing.unclosed(), step.a),
+        CLOSE => closing_refusal(&standing.unclosed(), step.a),
+        // "retiring a static resource or one not live"
+        _ => (is_static(step.a) || !standing.live().contains(&step.a)).then_some(28),
     }
 }
 
@@ -209,12 +230,13 @@ fn closing_refusal(unclosed: &[u64], policy: u64) -> Option<u32> {
 }
 
 fn event_refusal(standing: &impl Standing, action: u64, resource: u64) -> Option<u32> {
-    let created = standing.is_created(resource);
     match (action == CREATE, is_static(resource)) {
         (true, true) => Some(22),
-        (true, false) if created => Some(23),
-        (true, false) => (standing.created_count() >= MOST_CREATED).then_some(30),
+        // "create with a number not above all earlier ones"
+        (true, false) if !standing.is_above(resource) => Some(27),
+        // "The limit of 64 counts live resources."
+        (true, false) => (standing.live().len() >= MOST_CREATED).then_some(30),
         (false, true) => None,
-        (false, false) => (!created).then_some(24),
+        (false, false) => (!standing.live().contains(&resource)).then_some(24),
     }
 }

@@ -1,8 +1,8 @@
 //! The judge on a state that is handed to it, reached or not.
 
 use crate::judge::{
-    refusal, Answer, Standing, Step, CLOSE, CREATE, LARGEST_RESOURCE, MOST_CREATED, MOST_UNCLOSED,
-    OPEN,
+    refusal, Answer, Standing, Step, CLOSE, CREATE, EVENT, LARGEST_RESOURCE, MOST_CREATED,
+    MOST_UNCLOSED, OPEN,
 };
 use crate::policy::{
     edges_fit, offends, Edge, Event, Own, Policies, Policy, Sight, States, POLICIES, START,
@@ -10,14 +10,20 @@ use crate::policy::{
 };
 
 pub const NEVER: usize = STATICS as usize;
-pub const INSTANCES: usize = NEVER + 1 + MOST_CREATED;
+/// "one set per policy that moves on as an instance other than any resource used".
+pub const RETIRED: usize = NEVER + 1;
+pub const FIRST_LIVE: usize = RETIRED + 1;
+pub const INSTANCES: usize = FIRST_LIVE + MOST_CREATED;
 
 #[derive(Clone, Debug, PartialEq, Eq)]
 pub struct State {
     /// 1 where the state is halted, 0 where it is not; no state is told by another number.
     pub halted: u64,
+    /// How many resources are live, and their numbers, in the order of their creation.
     pub count: u64,
     pub created: [u64; MOST_CREATED],
+    /// The highest number that was created, live or retired; 0 before the first. A state keeps 32 bits of it.
+    pub highest: u64,
     /// For each policy how many of its openings are not closed.
     pub openings: [u64; POLICIES],
     /// How many openings are not closed, in all, and their policies, the one opened first in the first place.
@@ -35,6 +41,7 @@ impl State {
             halted: 0,
             count: 0,
             created: [0; MOST_CREATED],
+            highest: 0,
             openings: [0; POLICIES],
             depth: 0,
             order: [0; MOST_UNCLOSED],
@@ -53,7 +60,15 @@ impl State {
         state
     }
 
-    fn created(&self) -> &[u64] {
+    /// As the start, but that these numbers are live and the last of them is the highest.
+    pub fn with_live(numbers: &[u64]) -> State {
+        let mut state = State { count: numbers.len() as u64, ..State::start() };
+        state.created[..numbers.len()].copy_from_slice(numbers);
+        state.highest = numbers.iter().copied().max().unwrap_or(0);
+        state
+    }
+
+    fn numbers(&self) -> &[u64] {
         &self.created[..self.count as usize]
     }
 
@@ -63,8 +78,10 @@ impl State {
             && self.count <= MOST_CREATED as u64
             && self.depth <= MOST_UNCLOSED as u64
             && self.order_agrees()
-            && self.created().iter().all(|r| (STATICS..=LARGEST_RESOURCE).contains(r))
-            && (1..self.created().len()).all(|i| !self.created[..i].contains(&self.created[i]))
+            && self.numbers().iter().all(|r| (STATICS..=LARGEST_RESOURCE).contains(r))
+            && (1..self.numbers().len()).all(|i| !self.created[..i].contains(&self.created[i]))
+            && self.highest <= u64::from(u32::MAX)
+            && self.numbers().iter().all(|r| *r <= self.highest)
     }
 
     fn order(&self) -> &[u64] {
@@ -81,21 +98,34 @@ impl State {
     /// The resource that a place of the sets stands for.
     fn own(&self, place: usize) -> Own {
         match place {
-            NEVER => None,
+            NEVER | RETIRED => None,
             static_place if static_place < NEVER => Some(static_place as u64),
-            later => Some(self.created[later - NEVER - 1]),
+            later => Some(self.created[later - FIRST_LIVE]),
         }
     }
 
-    /// How many places count: the statics, one that never occurs, the created ones.
-    fn places(&self) -> usize {
-        NEVER + 1 + self.count as usize
+    /// How many places count: the statics, one that never occurs, the retired ones, the live ones.
+    pub fn places(&self) -> usize {
+        FIRST_LIVE + self.count as usize
     }
 
     fn add_created(&mut self, resource: u64) {
         self.sets[self.places()] = self.sets[NEVER];
         self.created[self.count as usize] = resource;
         self.count += 1;
+        self.highest = resource;
+    }
+
+    /// "its possible states join one set per policy"; the places behind it move up by one, and the last one keeps what it holds.
+    fn retire(&mut self, resource: u64) {
+        let at = self.numbers().iter().position(|r| *r == resource).expect("a live one is retired");
+        let (row, places, count) = (self.sets[FIRST_LIVE + at], self.places(), self.count as usize);
+        for (mask, joining) in self.sets[RETIRED].iter_mut().zip(row) {
+            *mask |= joining;
+        }
+        self.sets.copy_within(FIRST_LIVE + at + 1..places, FIRST_LIVE + at);
+        self.created.copy_within(at + 1..count, at);
+        self.count -= 1;
     }
 
     fn move_all(&mut self, policies: &[Policy], event: Event) {
@@ -143,13 +173,15 @@ impl State {
                 next.depth -= 1;
                 next.openings[step.a as usize] -= 1;
             }
-            _ => {
+            EVENT => {
                 if step.a == CREATE {
                     next.add_created(step.b);
                 }
                 next.move_all(policies, Event { action: step.a, resource: step.b });
                 next.gather();
             }
+            // "is no event and, like an opening, is judged by the stored sets"
+            _ => next.retire(step.a),
         }
         next
     }
@@ -160,12 +192,12 @@ impl Standing for State {
         self.halted == 1
     }
 
-    fn is_created(&self, resource: u64) -> bool {
-        self.created().contains(&resource)
+    fn live(&self) -> Vec<u64> {
+        self.numbers().to_vec()
     }
 
-    fn created_count(&self) -> usize {
-        self.count as usize
+    fn is_above(&self, resource: u64) -> bool {
+        self.highest < resource
     }
 
     fn unclosed(&self) -> Vec<u64> {
@@ -246,6 +278,7 @@ fn read_state(next: &mut impl FnMut() -> Option<u64>) -> Option<State> {
     state.halted = next()?;
     state.count = next()?;
     state.depth = next()?;
+    state.highest = next()?;
     let State { openings, order, created, .. } = &mut state;
     for number in openings.iter_mut().chain(order).chain(created) {
         *number = next()?;
@@ -256,9 +289,9 @@ fn read_state(next: &mut impl FnMut() -> Option<u64>) -> Option<State> {
     Some(state)
 }
 
-/// Halted, count and depth; the openings; their order; the created numbers; the kept masks; a line of masks for each instance.
+/// Halted, count, depth and highest; the openings; their order; the live numbers; the kept masks; a line of masks for each instance.
 pub fn write_state(state: &State) -> String {
-    let mut text = line(&[state.halted, state.count, state.depth]);
+    let mut text = line(&[state.halted, state.count, state.depth, state.highest]);
     text += &line(&state.openings);
     text += &line(&state.order);
     text += &line(&state.created);

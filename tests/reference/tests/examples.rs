@@ -65,7 +65,7 @@ fn g_several_edges() {
 #[test]
 fn h_refused_steps() {
     assert_eq!(judged("", "0 0 15"), "2 2 22;");
-    assert_eq!(judged("", "0 0 16; 0 0 16"), "2 0 0;3 2 23;");
+    assert_eq!(judged("", "0 0 16; 0 0 16"), "2 0 0;3 2 27;");
     assert_eq!(judged("", "0 2 16"), "2 2 24;");
 }
 

@@ -1,15 +1,15 @@
 //! The judge over the whole past against the judge over states.
 
 use reference::generate::{cases, states, Kind};
-use reference::judge::{events, is_open, seen, unclosed, Answer, Judge, Step};
-use reference::policy::{is_static, Edge, Own, Policies, Policy, POLICIES};
+use reference::judge::{created, is_open, live, seen, unclosed, Answer, Judge, Step, RETIRE};
+use reference::policy::{is_static, Edge, Policies, Policy, States, POLICIES};
 use reference::sheet::{read_policies, read_trace};
-use reference::state::{judge_state, Call, State};
+use reference::state::{judge_state, Call, State, FIRST_LIVE, NEVER, RETIRED};
 
 #[test]
 fn states_agree_with_the_whole_past() {
-    let mut judged = 0;
-    for case in cases(Kind::Trace, 11, 900) {
+    let (mut judged, mut retired) = (0, 0);
+    for case in cases(Kind::Trace, 11, 1_100) {
         let (Ok(policies), Ok(steps)) = (read_policies(&case.policies), read_trace(&case.other))
         else {
             continue;
@@ -22,11 +22,12 @@ fn states_agree_with_the_whole_past() {
             check_step(&state, &next, answer);
             state = next;
             judged += 1;
+            retired += usize::from(step.kind == RETIRE && answer == Answer::Allowed);
         }
         assert_eq!(u64::from(judge.halted()), state.halted);
         assert_state(&policies, judge.past(), &state);
     }
-    assert!(judged > 10_000, "{judged}");
+    assert!(judged > 10_000 && retired > 1_000, "{judged} {retired}");
 }
 
 /// A refused step changes nothing; a violated one only halts.
@@ -38,26 +39,31 @@ fn check_step(before: &State, after: &State, answer: Answer) {
     }
 }
 
-/// The state holds what the past says.
+/// The state holds what the past says. In the set of the retired are the states of every retired resource, each by its own number, and beside
+/// them those of one that never occurs, as from the start.
 fn assert_state(policies: &Policies, past: &[Step], state: &State) {
-    let events = events(past);
-    let created: Vec<u64> = events.iter().filter(|e| e.action == 0).map(|e| e.resource).collect();
+    let (created, live) = (created(past), live(past));
     assert!(created.iter().all(|r| !is_static(*r)));
-    assert_eq!(state.created[..state.count as usize], created[..]);
+    assert_eq!(state.created[..state.count as usize], live[..]);
+    assert_eq!(state.highest, created.last().copied().unwrap_or(0));
     assert_eq!(state.order[..state.depth as usize], unclosed(past)[..]);
-    let owns = (0..16).map(Some).chain([None]).chain(created.iter().copied().map(Some));
-    let owns: Vec<Own> = owns.collect();
+    let retired: Vec<u64> = created.into_iter().filter(|r| !live.contains(r)).collect();
     for (number, policy) in Policy::all(policies).iter().enumerate() {
         let seen = seen(policy, past);
         assert_eq!(state.openings[number] > 0, is_open(past, number));
-        for (place, own) in owns.iter().enumerate() {
-            let held = policy.states_after(*own, &seen);
+        let holds = |place: usize, held: States| {
             let mask = state.sets[place][number];
-            assert!((0..8).all(|s| held[s] == (mask >> s & 1 == 1)));
+            assert!((0..8).all(|s| held[s] == (mask >> s & 1 == 1)), "place {place}");
+        };
+        (0..NEVER).for_each(|place| holds(place, policy.states_after(Some(place as u64), &seen)));
+        holds(NEVER, policy.states_after(None, &seen));
+        for (place, resource) in live.iter().enumerate() {
+            holds(FIRST_LIVE + place, policy.states_after(Some(*resource), &seen));
         }
+        let gone = retired.iter().map(|resource| policy.states_after(Some(*resource), &seen));
+        let all = gone.fold(policy.states_after(None, &seen), |all, held| std::array::from_fn(|s| all[s] || held[s]));
+        holds(RETIRED, all);
     }
-    let start = State::start();
-    assert_eq!(state.sets[owns.len()..], start.sets[owns.len()..]);
 }
 
 fn edge(row: [u64; 6]) -> Edge {
@@ -69,7 +75,7 @@ fn refusals_of_the_caller_come_first() {
     let bad = [edge([8, 0, 0, 1, 0, 0])];
     let mut state = State { halted: 1, ..State::opened(&[3; 64]) };
     state.openings[3] = 63;
-    let misfit = Step { kind: 3, a: 0, b: 0 };
+    let misfit = Step { kind: 4, a: 0, b: 0 };
     assert_eq!(judge_state(&bad, 0, &state, misfit).0, Answer::Refused(41));
     assert_eq!(judge_state(&[], 0, &state, misfit).0, Answer::Refused(42));
     state.openings[3] = 64;
@@ -94,13 +100,52 @@ fn places_beyond_the_created_count_for_nothing() {
     let edges = [edge([0, 0, 1, 2, 0, 6])];
     let mut state = State::opened(&[0]);
     state.order[1] = 8;
-    state.sets[17] = [64; POLICIES];
+    state.sets[FIRST_LIVE] = [64; POLICIES];
     state.created[0] = 3;
     let (answer, next) = judge_state(&edges, 0, &state, Step::event(2, 3));
     assert_eq!((answer, &next), (Answer::Allowed, &state));
     let (answer, next) = judge_state(&edges, 0, &state, Step::event(0, 16));
     assert_eq!(answer, Answer::Allowed);
-    assert_eq!((next.sets[17], next.count, next.created[0]), ([1; POLICIES], 1, 16));
+    assert_eq!((next.sets[FIRST_LIVE], next.count, next.created[0]), ([1; POLICIES], 1, 16));
+}
+
+#[test]
+fn a_retiring_joins_and_closes_up() {
+    let mut state = State::with_live(&[20, 30, 40]);
+    for (place, row) in state.sets.iter_mut().enumerate().skip(RETIRED) {
+        *row = [1 << (place - RETIRED); POLICIES];
+    }
+    let (answer, next) = judge_state(&[], 0, &state, Step::retire(30));
+    assert_eq!((answer, next.count, next.highest), (Answer::Allowed, 2, 40));
+    assert_eq!(next.created[..3], [20, 40, 40]);
+    let rows: Vec<u8> = next.sets[RETIRED..=FIRST_LIVE + 2].iter().map(|row| row[3]).collect();
+    assert_eq!((rows, next.kept), (vec![1 | 4, 2, 8, 8], state.kept));
+    // nothing else is another
+    let mut due = State { count: 2, ..state.clone() };
+    due.created[1] = 40;
+    due.sets[RETIRED] = [5; POLICIES];
+    due.sets[FIRST_LIVE + 1] = [8; POLICIES];
+    assert_eq!(next, due);
+    assert_eq!(judge_state(&[], 0, &next, Step::event(0, 40)).0, Answer::Refused(27));
+    assert_eq!(judge_state(&[], 0, &next, Step::event(1, 30)).0, Answer::Refused(24));
+    assert_eq!(judge_state(&[], 0, &next, Step::retire(30)).0, Answer::Refused(28));
+}
+
+#[test]
+fn a_highest_number_is_not_below_a_live_one() {
+    let asked = |highest: u64, numbers: &[u64]| {
+        let state = State { highest, ..State::with_live(numbers) };
+        judge_state(&[], 0, &state, Step::event(1, 3)).0
+    };
+    for numbers in [[20, 40], [40, 20]] {
+        assert_eq!(asked(40, &numbers), Answer::Allowed);
+        assert_eq!(asked(39, &numbers), Answer::Refused(42));
+        assert_eq!(asked(u64::from(u32::MAX), &numbers), Answer::Allowed);
+    }
+    for highest in [0, 3, 65_536, u64::from(u32::MAX)] {
+        assert_eq!(asked(highest, &[]), Answer::Allowed);
+    }
+    assert_eq!(asked(1 << 32, &[]), Answer::Refused(42));
 }
 
 #[test]
@@ -180,7 +225,8 @@ fn calls_are_written_and_read() {
         check_step(&call.state, &next, answer);
         seen.insert(answer.numbers());
     }
-    for number in [20, 21, 22, 23, 24, 25, 26, 30, 32, 41, 42] {
+    for number in [20, 21, 22, 24, 25, 26, 27, 28, 30, 32, 41, 42] {
         assert!(seen.contains(&(2, number)), "{number}");
     }
+    assert!(!seen.contains(&(2, 23)) && !seen.contains(&(2, 31)));
 }

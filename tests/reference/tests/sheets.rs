@@ -119,9 +119,15 @@ fn made_malformed() {
 
 #[test]
 fn ranges() {
-    for line in ["0 32 0", "0 0 65536", "0 0 99999", "1 8 0", "1 0 1", "2 8 0", "2 0 1", "3 0 0"] {
+    let outside = [
+        "0 32 0", "0 0 65536", "0 0 99999", "1 8 0", "1 0 1", "2 8 0", "2 0 1", "3 16 1", "3 65536 0", "4 0 0",
+    ];
+    for line in outside {
         let text = format!("kind a b\n{line}\nx\n");
         assert_eq!(trace_refusal(text.as_bytes()), Some(refused(3, 2)), "{line}");
+    }
+    for line in ["3 0 0", "3 3 0", "3 65535 0"] {
+        assert_eq!(trace_refusal(format!("kind a b\n{line}\n").as_bytes()), None, "{line}");
     }
     for line in [
         "8 0 0 1 0 0",

@@ -7,6 +7,7 @@ pub mod malformed;
 pub mod orders;
 pub mod outlines;
 pub mod policies;
+pub mod retirings;
 pub mod sandboxes;
 pub mod states;
 pub mod traces;

@@ -151,7 +151,7 @@ fn damaged_calls() -> Vec<Asked> {
     let mut calls: Vec<Asked> = vec![(right(), steps[0]), (right(), steps[1]), (right(), steps[2])];
     for (place, state) in damaged.iter().enumerate() {
         calls.push((state.clone(), steps[place % 3]));
-        calls.push((State { halted: 1, ..state.clone() }, Step { kind: 3, a: 0, b: 0 }));
+        calls.push((State { halted: 1, ..state.clone() }, Step { kind: 4, a: 0, b: 0 }));
     }
     // 64 entries, all right or one wrong
     let mut full = State::opened(&in_turn(64));

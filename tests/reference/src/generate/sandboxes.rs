@@ -8,13 +8,13 @@ use crate::state::{Call, State};
 /// Two resources created, every set another one, with offending states for policies that are not open; kept sets that agree with no
 /// instance; and in the places that count for nothing all states.
 fn busy(policies: &[u64]) -> State {
-    let mut state = State { count: 2, ..State::opened(policies) };
+    let mut state = State { count: 2, highest: 40, ..State::opened(policies) };
     state.created[..3].copy_from_slice(&[40, 30, 40]);
     for (place, row) in state.sets.iter_mut().enumerate() {
         for (policy, mask) in row.iter_mut().enumerate() {
             let any = (place * 37 + policy * 11) as u8;
             *mask = match place {
-                19.. => 255,
+                20.. => 255,
                 _ if state.openings[policy] > 0 => any & 0x3f,
                 _ => any | 0x40,
             };
@@ -54,8 +54,8 @@ fn asked() -> Vec<(State, Vec<Step>)> {
     let full: Vec<u64> = (0..64).map(|place| 5 + place % 2).collect();
     vec![
         // not open, open once, open twice and closed to one
-        (busy(&[]), vec![Step::open(2), Step::open(0), Step::close(2), Step::event(3, 3)]),
-        (busy(&[5]), vec![Step::open(2), Step::open(5), Step::close(5), Step::event(3, 30)]),
+        (busy(&[]), vec![Step::open(2), Step::open(0), Step::close(2), Step::event(3, 3), Step::retire(40)]),
+        (busy(&[5]), vec![Step::open(2), Step::open(5), Step::close(5), Step::event(3, 30), Step::retire(30)]),
         (busy(&[5, 2, 5]), vec![Step::open(2), Step::open(5), Step::open(7), Step::close(5), Step::close(2)]),
         // what is kept of the policy itself is offending, and of another that is open
         (broken(&[5], 2), vec![Step::open(2), Step::open(5), Step::open(1)]),
@@ -74,7 +74,7 @@ fn asked() -> Vec<(State, Vec<Step>)> {
 }
 
 fn crowded() -> State {
-    let mut state = State { count: 64, ..busy(&[5]) };
+    let mut state = State { count: 64, highest: 163, ..busy(&[5]) };
     state.created = std::array::from_fn(|place| 100 + place as u64);
     state
 }

@@ -3,22 +3,24 @@
 use super::orders;
 use super::sandboxes;
 use super::policies::{random_edges, Palette};
+use super::retirings;
 use crate::judge::{Step, CREATE, LARGEST_RESOURCE, MOST_CREATED};
 use crate::policy::{Edge, POLICIES, STATICS};
 use crate::rng::Rng;
-use crate::state::{Call, State};
+use crate::state::{Call, State, FIRST_LIVE};
 
 /// The fixed calls, then random ones.
 pub fn calls(seed: u64, count: usize) -> Vec<Call> {
     let mut rng = Rng::new(seed);
     let random = std::iter::repeat_with(|| random_call(&mut rng));
-    let fixed = [kept_calls(), orders::fixed_calls(), sandboxes::fixed_calls()].concat();
+    let fixed = [kept_calls(), orders::fixed_calls(), sandboxes::fixed_calls(), retirings::fixed_calls()];
+    let fixed = fixed.concat();
     fixed.into_iter().chain(random).take(count).collect()
 }
 
 /// States whose kept sets disagree with their instance sets, either way: an offending state that is kept and that no instance may be in,
 /// or one that an instance may be in and that is not kept. At an opening, a closing and events of a policy that is open, on a static and on
-/// a created resource and at a create; the event is an offending one, one that leaves the offending state, or one that moves nothing.
+/// a created resource, at a create and at a retiring; the event is an offending one, one that leaves the offending state, or one that moves nothing.
 fn kept_calls() -> Vec<Call> {
     let edges = vec![Edge::new([2, 0, 1, 1, 0, 6]), Edge::new([2, 6, 2, 1, 0, 0])];
     let steps = [
@@ -32,17 +34,18 @@ fn kept_calls() -> Vec<Call> {
         Step::event(2, 40),
         Step::event(3, 40),
         Step::event(CREATE, 41),
+        Step::retire(40),
     ];
     let mut calls = Vec::new();
     for step in steps {
         // the policy that is closed was opened last
         let order = if step == Step::close(3) { [2, 2, 3] } else { [2, 3, 2] };
         for (kept, of_5, of_40) in [(64, 1, 1), (128, 1, 1), (1, 64, 1), (1, 1, 128), (0, 65, 1), (65, 64, 1), (1, 1, 1)] {
-            let mut state = State { count: 1, ..State::opened(&order) };
+            let mut state = State { count: 1, highest: 40, ..State::opened(&order) };
             state.created[0] = 40;
             state.kept[2] = kept;
             state.sets[5][2] = of_5;
-            state.sets[17][2] = of_40;
+            state.sets[FIRST_LIVE][2] = of_40;
             calls.push(Call { edges: edges.clone(), local: 0, step, state });
         }
     }
@@ -83,7 +86,8 @@ fn random_state(rng: &mut Rng, palette: &Palette) -> State {
     state
 }
 
-/// Different resources in use; anything at all in the places beyond.
+/// Different resources in use, in most states in rising order; anything at all in the places beyond. The highest number is the highest in
+/// use or one above it.
 fn fill_created(rng: &mut Rng, state: &mut State) {
     for place in 0..MOST_CREATED {
         if place as u64 >= state.count {
@@ -98,6 +102,17 @@ fn fill_created(rng: &mut Rng, state: &mut State) {
             }
         }
     }
+    let live = &mut state.created[..state.count as usize];
+    if rng.percent(70) {
+        live.sort_unstable();
+    }
+    let least = live.iter().copied().max().unwrap_or(0);
+    state.highest = match rng.below(8) {
+        0 => rng.between(least, LARGEST_RESOURCE),
+        1 => rng.between(least, least + 3),
+        2 => rng.pick(&[LARGEST_RESOURCE, LARGEST_RESOURCE + 1, u64::from(u32::MAX)]),
+        _ => least,
+    };
 }
 
 fn any_dynamic(rng: &mut Rng) -> u64 {
@@ -111,7 +126,7 @@ fn any_dynamic(rng: &mut Rng) -> u64 {
 /// Sets without offending states where they count and the policy is open, save in some states.
 fn fill_sets(rng: &mut Rng, state: &mut State) {
     let careful = rng.percent(85);
-    let used = 17 + state.count as usize;
+    let used = state.places();
     for (place, row) in state.sets.iter_mut().enumerate() {
         for (mask, openings) in row.iter_mut().zip(state.openings) {
             *mask = match rng.below(8) {
@@ -129,7 +144,7 @@ fn fill_sets(rng: &mut Rng, state: &mut State) {
 
 /// What the instances in use may be in, in half of the states; else fewer, more, or anything at all.
 fn fill_kept(rng: &mut Rng, state: &mut State) {
-    let used = 17 + state.count as usize;
+    let used = state.places();
     let sort = rng.below(10);
     for policy in 0..POLICIES {
         let gathered = state.sets[..used].iter().fold(0, |all, row| all | row[policy]);
@@ -151,10 +166,10 @@ fn random_step(rng: &mut Rng, palette: &Palette, state: &State) -> Step {
     if rng.percent(20) {
         return limit_step(rng, policy, state);
     }
-    match rng.below(20) {
+    match rng.below(28) {
         0..=3 => Step::event(action, rng.pick(&palette.statics)),
         4..=7 if !created.is_empty() => Step::event(action, rng.pick(created)),
-        8..=10 => Step::event(CREATE, any_dynamic(rng)),
+        8..=10 => Step::event(CREATE, above(rng, state)),
         11 => Step::open(policy),
         12 => Step::open(rng.below(8)),
         13 => Step::close(policy),
@@ -162,21 +177,39 @@ fn random_step(rng: &mut Rng, palette: &Palette, state: &State) -> Step {
         16 if !created.is_empty() => Step::event(CREATE, rng.pick(created)),
         17 => Step::event(CREATE, rng.below(STATICS)),
         18 => Step::event(action, any_dynamic(rng)),
+        19..=23 if !created.is_empty() => Step::retire(rng.pick(created)),
+        24 => Step::retire(rng.below(STATICS)),
+        25 => Step::retire(any_dynamic(rng)),
+        26 => Step::event(CREATE, any_dynamic(rng)),
         _ => rng.pick(&MISFITS),
     }
 }
 
-/// A create if no more can be created, else an opening.
+/// A number around the highest, mostly the one above it.
+fn above(rng: &mut Rng, state: &State) -> u64 {
+    let highest = state.highest.clamp(STATICS - 1, LARGEST_RESOURCE);
+    let number = match rng.below(6) {
+        0 => highest,
+        1 => highest + rng.below(200),
+        _ => highest + 1,
+    };
+    number.clamp(STATICS, LARGEST_RESOURCE)
+}
+
+/// A create or a retiring if no more can be created, else an opening.
 fn limit_step(rng: &mut Rng, policy: u64, state: &State) -> Step {
-    if state.count == MOST_CREATED as u64 {
-        return Step::event(CREATE, any_dynamic(rng));
+    if state.count < MOST_CREATED as u64 {
+        return Step::open(policy);
     }
-    Step::open(policy)
+    if rng.percent(30) { Step::retire(rng.pick(&state.created)) } else { Step::event(CREATE, above(rng, state)) }
 }
 
 /// Steps that 21 refuses.
-const MISFITS: [Step; 10] = [
-    Step { kind: 3, a: 0, b: 0 },
+const MISFITS: [Step; 13] = [
+    Step { kind: 4, a: 0, b: 0 },
+    Step { kind: 3, a: 65_536, b: 0 },
+    Step { kind: 3, a: 16, b: 1 },
+    Step { kind: 3, a: 3, b: 65_535 },
     Step { kind: 255, a: 1, b: 1 },
     Step { kind: 0, a: 32, b: 0 },
     Step { kind: 0, a: 0, b: 65_536 },
@@ -192,7 +225,7 @@ const MISFITS: [Step; 10] = [
 fn damage_state(rng: &mut Rng, state: &mut State) {
     let used = state.count.clamp(2, MOST_CREATED as u64);
     let place = rng.below(used) as usize;
-    match rng.below(5) {
+    match rng.below(7) {
         0 => state.count = rng.pick(&[65, 65, 66, 256, 1 << 32, u64::MAX]),
         1 => {
             state.count = used;
@@ -207,6 +240,9 @@ fn damage_state(rng: &mut Rng, state: &mut State) {
             state.count = used;
             state.created[place] = LARGEST_RESOURCE + 1;
         }
+        // below a live one, where one is live; wider than a state keeps it
+        4 => state.highest = state.created[place].saturating_sub(rng.pick(&[1, 1, 7, 60_000])),
+        5 => state.highest = rng.pick(&[1 << 32, (1 << 32) + state.highest, u64::MAX]),
         _ => state.halted = rng.pick(&[2, 3, 7, 255, 256, 1 << 32, (1 << 32) + 1, u64::MAX]),
     }
 }

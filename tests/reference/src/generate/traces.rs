@@ -3,7 +3,9 @@
 use super::policies::{random_policies, Palette};
 use super::Case;
 use crate::damage::{random_damage, respaced, rows, Text};
-use crate::judge::{unclosed, Answer, Judge, Step, CREATE, EVENT, LARGEST_RESOURCE, OPEN};
+use crate::judge::{
+    created, live, unclosed, Answer, Judge, Step, CREATE, LARGEST_RESOURCE, OPEN,
+};
 use crate::policy::{Edge, Policies, STATICS};
 use crate::rng::Rng;
 use crate::sheet::{policy_names, TRACE_NAMES};
@@ -15,20 +17,25 @@ struct Mix {
     creates: u64,
     openings: u64,
     closings: u64,
+    retirings: u64,
     /// How often a step that would be violated is left out.
     careful: u64,
 }
 
-const COMMON: Mix = Mix { events: 62, creates: 12, openings: 11, closings: 8, careful: 93 };
-const CARELESS: Mix = Mix { events: 62, creates: 12, openings: 14, closings: 6, careful: 0 };
-const CREATING: Mix = Mix { events: 20, creates: 66, openings: 5, closings: 5, careful: 98 };
-const OPENING: Mix = Mix { events: 5, creates: 2, openings: 85, closings: 6, careful: 100 };
-const NESTING: Mix = Mix { events: 26, creates: 8, openings: 36, closings: 28, careful: 97 };
-const REOPENING: Mix = Mix { events: 54, creates: 6, openings: 20, closings: 19, careful: 75 };
-const UNOPENED: Mix = Mix { events: 78, creates: 15, openings: 0, closings: 0, careful: 0 };
+const COMMON: Mix = Mix { events: 55, creates: 12, openings: 11, closings: 8, retirings: 6, careful: 93 };
+const CARELESS: Mix = Mix { events: 55, creates: 12, openings: 14, closings: 6, retirings: 6, careful: 0 };
+const CREATING: Mix = Mix { events: 18, creates: 66, openings: 5, closings: 5, retirings: 2, careful: 98 };
+const OPENING: Mix = Mix { events: 5, creates: 2, openings: 85, closings: 6, retirings: 0, careful: 100 };
+const NESTING: Mix = Mix { events: 26, creates: 8, openings: 34, closings: 26, retirings: 4, careful: 97 };
+const REOPENING: Mix = Mix { events: 50, creates: 7, openings: 19, closings: 18, retirings: 5, careful: 75 };
+const UNOPENED: Mix = Mix { events: 70, creates: 15, openings: 0, closings: 0, retirings: 8, careful: 0 };
+const RETIRING: Mix = Mix { events: 40, creates: 24, openings: 8, closings: 4, retirings: 16, careful: 96 };
+const RENEWING: Mix = Mix { events: 4, creates: 62, openings: 2, closings: 2, retirings: 26, careful: 99 };
 
 pub fn random_case(rng: &mut Rng) -> Case {
-    match rng.below(28) {
+    match rng.below(32) {
+        28..=30 => plain(rng, RETIRING, 12, 60),
+        31 => plain(rng, RENEWING, 110, 190),
         0..=5 => plain(rng, COMMON, 5, 45),
         6..=8 => plain(rng, CARELESS, 4, 25),
         9 => plain(rng, CREATING, 90, 130),
@@ -161,43 +168,78 @@ fn extend_steps(
 }
 
 fn random_step(rng: &mut Rng, palette: &Palette, mix: Mix, past: &[Step]) -> Step {
-    let roll = rng.below(100);
-    let (events, creates) = (mix.events, mix.events + mix.creates);
-    let (openings, closings) = (creates + mix.openings, creates + mix.openings + mix.closings);
-    if roll < events {
+    let mut roll = rng.below(100);
+    // is it of this sort, of which there are so many percent?
+    let mut of = |percent: u64| {
+        let found = roll < percent;
+        roll = roll.wrapping_sub(percent);
+        found
+    };
+    if of(mix.events) {
         Step::event(rng.pick(&palette.actions), used_resource(rng, palette, past))
-    } else if roll < creates {
-        Step::event(CREATE, any_dynamic(rng))
-    } else if roll < openings {
+    } else if of(mix.creates) {
+        Step::event(CREATE, next_number(rng, past))
+    } else if of(mix.openings) {
         Step::open(rng.pick(&palette.policies))
-    } else if roll < closings {
+    } else if of(mix.closings) {
         Step::close(closed_policy(rng, past).unwrap_or(palette.policies[0]))
+    } else if of(mix.retirings) {
+        Step::retire(retired_number(rng, past))
     } else {
         refused_step(rng, palette, past)
     }
 }
 
-/// A step that one of 22 to 26 may refuse.
+/// A step that one of 22 to 28 may refuse.
 fn refused_step(rng: &mut Rng, palette: &Palette, past: &[Step]) -> Step {
-    match rng.below(5) {
+    let some = created(past);
+    let earlier = if some.is_empty() { 16 } else { rng.pick(&some) };
+    match rng.below(10) {
         0 => Step::event(CREATE, rng.below(STATICS)),
-        1 => Step::event(CREATE, created(past).last().copied().unwrap_or(16)),
-        2 => Step::event(rng.pick(&palette.actions), any_dynamic(rng)),
-        3 => Step::close(rng.pick(&palette.policies)),
+        1 => Step::event(CREATE, some.last().copied().unwrap_or(16)),
+        2 => Step::event(CREATE, earlier),
+        3 => Step::event(rng.pick(&palette.actions), any_dynamic(rng)),
+        4 => Step::event(rng.pick(&palette.actions), earlier),
+        5 => Step::retire(rng.below(STATICS)),
+        6 => Step::retire(earlier),
+        7 => Step::retire(any_dynamic(rng)),
+        8 => Step::close(rng.pick(&palette.policies)),
         _ => Step::close(rng.below(8)),
     }
 }
 
-fn created(past: &[Step]) -> Vec<u64> {
-    past.iter().filter(|s| s.kind == EVENT && s.a == CREATE).map(|s| s.b).collect()
+/// A static, or a live resource; now and then one that was created, perhaps retired.
+fn used_resource(rng: &mut Rng, palette: &Palette, past: &[Step]) -> u64 {
+    let mut numbers = if rng.percent(4) { created(past) } else { live(past) };
+    if numbers.is_empty() || rng.percent(35) {
+        numbers = palette.statics.clone();
+    }
+    if rng.percent(3) { rng.below(STATICS) } else { rng.pick(&numbers) }
 }
 
-fn used_resource(rng: &mut Rng, palette: &Palette, past: &[Step]) -> u64 {
-    let created = created(past);
-    if created.is_empty() || rng.percent(35) {
-        return if rng.percent(90) { rng.pick(&palette.statics) } else { rng.below(STATICS) };
+/// Mostly the next number above all earlier ones, or one not far above; else any.
+fn next_number(rng: &mut Rng, past: &[Step]) -> u64 {
+    let least = created(past).last().map_or(STATICS, |highest| highest + 1);
+    let number = match rng.below(20) {
+        0 => any_dynamic(rng),
+        1 => least + rng.below(LARGEST_RESOURCE / 4),
+        2..=7 => least + rng.below(40),
+        _ => least,
+    };
+    number.min(LARGEST_RESOURCE)
+}
+
+/// A live resource: the newest, the oldest, any; 16 where there is none.
+fn retired_number(rng: &mut Rng, past: &[Step]) -> u64 {
+    let live = live(past);
+    match (live.first(), live.last()) {
+        (Some(oldest), Some(newest)) => match rng.below(4) {
+            0 => *oldest,
+            1 => *newest,
+            _ => rng.pick(&live),
+        },
+        _ => 16,
     }
-    rng.pick(&created)
 }
 
 fn any_dynamic(rng: &mut Rng) -> u64 {

@@ -4,6 +4,7 @@ mod fields;
 mod judged;
 pub mod local;
 mod orders;
+mod retired;
 mod shapes;
 mod verdicts;
 
@@ -15,6 +16,7 @@ use fields::{edge_borders, node_borders, step_borders};
 use judged::{judged_borders, trace_examples};
 use local::{local_outlines, local_traces};
 use orders::order_cases;
+use retired::retired_cases;
 use shapes::{large_outlines, misshapen};
 use verdicts::{checked_examples, outline_examples};
 
@@ -80,6 +82,7 @@ pub fn trace_cases() -> Vec<Case> {
     cases.extend(with_policies(malformed::policies(), &trace(TRACE)));
     cases.extend(with_other(&policies(P), malformed::traces()));
     cases.extend(order_cases());
+    cases.extend(retired_cases());
     cases.extend(local_traces());
     cases
 }
