@@ -273,9 +273,35 @@ class Expression:
         return ("\n".join(lines) + "\n").encode()
 
 
-def is_outline(path):
-    """Is the outline of this folder an expression?"""
-    return os.path.exists(os.path.join(path, FILE)) and not os.path.exists(os.path.join(path, sheets.OUTLINE_SHEET.file))
+class Typed:
+    """The outline of a folder that is typed as an expression: its text, and its refusal or the columns of its nodes."""
+
+    def __init__(self, data):
+        self.text = data.decode("latin-1")
+        self.refused = None
+        self.columns = None
+        self.sheet = b""
+        try:
+            read = Expression(data)
+            self.columns, self.sheet = read.spans, read.sheet()
+        except Refused as wrong:
+            self.refused = wrong
+
+    def quote(self, line, widest, words, indent, columns):
+        """The line with a mark under what is meant: these columns of it, or the node that has this line of the outline sheet."""
+        if line > 1:
+            columns = self.columns[line - 2]
+        return quoted(self.text, columns, widest, words, indent)
+
+
+def of_folder(path):
+    """The outline of a folder, where it is typed as an expression; else none. The outline sheet goes by its name and columns then."""
+    if not os.path.exists(os.path.join(path, FILE)) or os.path.exists(os.path.join(path, "outline.txt")):
+        return None
+    typed = Typed(sheets.load(os.path.join(path, FILE)))
+    sheets.OUTLINE_SHEET.file = FILE
+    sheets.OUTLINE_SHEET.columns = typed.columns
+    return typed
 
 
 # ---- an expression, quoted
@@ -285,11 +311,25 @@ def quoted(text, columns, widest, words="", indent=2):
     """The line of an expression with a mark under these columns. Of a long one what is around them."""
     line = text.split("\n")[0]
     start, end = columns
-    end = max(end, start + 1)
     left = 0 if len(line) <= widest or start < widest // 2 else start - widest // 2
     right = min(len(line), left + widest)
     shown = "".join(c if " " <= c <= "~" else "?" for c in line[left:right])
     before, after = "... " if left else "", " ..." if right < len(line) else ""
-    head = " " * indent + "1 | "
-    mark = " " * (indent + 1) + " | " + " " * (len(before) + start - left) + "^" * max(1, min(end, left + widest) - start)
-    return [head + before + shown + after, mark + (f" {words}" if words else "")]
+    mark = " " * (len(before) + start - left) + "^" * max(1, min(end, right) - start)
+    return [" " * indent + "1 | " + before + shown + after, " " * (indent + 1) + " | " + mark + (f"   ({words})" if words else "")]
+
+
+def marked(data, refused):
+    """A refused expression with the mark, and the hint."""
+    lines = quoted(data.decode("latin-1"), refused.columns, 100) if refused.columns else []
+    return lines + ([f"  hint: {refused.hint}"] if refused.hint else [])
+
+
+def is_expression(path):
+    return path.endswith(".expr")
+
+
+def wrapped(data):
+    """An accepted expression in lines of at most 80 bytes, as it stands in the label of a picture."""
+    line = data.decode().rstrip("\n")
+    return "\\n".join(line[at : at + 80] for at in range(0, len(line), 80))
