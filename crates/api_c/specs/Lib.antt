@@ -1,6 +1,7 @@
 pub mod Choice
 pub mod Codes
 pub mod Parts
+pub mod Past
 pub mod Check
 pub mod Code
 pub mod Reading
