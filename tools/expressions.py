@@ -319,17 +319,21 @@ def quoted(text, columns, widest, words="", indent=2):
     return [" " * indent + "1 | " + before + shown + after, " " * (indent + 1) + " | " + mark + (f"   ({words})" if words else "")]
 
 
-def marked(data, refused):
-    """A refused expression with the mark, and the hint."""
-    lines = quoted(data.decode("latin-1"), refused.columns, 100) if refused.columns else []
-    return lines + ([f"  hint: {refused.hint}"] if refused.hint else [])
-
-
 def is_expression(path):
     return path.endswith(".expr")
 
 
+def rows_of(data, file):
+    """The rows of an expression for its picture; where it is refused a `ValueError` that quotes it."""
+    try:
+        return Expression(data).rows
+    except Refused as wrong:
+        lines = quoted(data.decode("latin-1"), wrong.columns, 100) if wrong.columns else []
+        hints = [f"  hint: {wrong.hint}"] if wrong.hint else []
+        raise ValueError("\n".join([f"{file}, {wrong}", *lines, *hints])) from None
+
+
 def wrapped(data):
-    """An accepted expression in lines of at most 80 bytes, as it stands in the label of a picture."""
+    """An accepted expression in lines of at most 100 bytes."""
     line = data.decode().rstrip("\n")
-    return "\\n".join(line[at : at + 80] for at in range(0, len(line), 80))
+    return [line[at : at + 100] for at in range(0, len(line), 100)]

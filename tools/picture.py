@@ -1,36 +1,22 @@
 """The picture of a trace over a policy: the states that instances went through, step by step. Plain SVG, made here."""
 
-import html
 import sys
 
+import canvas as drawing
 import sheets
+from canvas import GREY, INK, RED, Canvas
 from explanations import followed
 from folders import REFUSED, VIOLATED, printed_rows
 from instances import UNSEEN, Reset
-from sheets import EVENT, OFFENDING, OPEN, RETIRE
+from labels import step_label
+from sheets import OFFENDING, OPEN
 from violations import Run
 
-FONT = "Helvetica,Arial,sans-serif"
 COLUMN, ROW = 64, 34
 LEFT, TITLE, GAP, FOOT = 70, 30, 26, 34
 # labels stand at a slant; about so wide is a letter of theirs, along it and upwards
 SLANT, ALONG, UPWARDS = 38, 5.2, 4.1
 MOST_STEPS = 200
-INK, RED, GREY = "#2f4b6e", "#c0182b", "#9aa3ad"
-
-
-class Canvas:
-    """Lines of an SVG picture."""
-
-    def __init__(self):
-        self.lines = []
-
-    def put(self, name, text=None, **marks):
-        marks = " ".join(f'{key.rstrip("_").replace("_", "-")}="{html.escape(str(value))}"' for key, value in marks.items())
-        self.lines.append(f"<{name} {marks}/>" if text is None else f"<{name} {marks}>{html.escape(text)}</{name}>")
-
-    def text(self, x, y, text, size=12, **marks):
-        self.put("text", text, x=x, y=y, font_size=size, **{"fill": "#333333", **marks})
 
 
 def read_answers(path):
@@ -48,15 +34,6 @@ class Column:
         self.step = step
         self.line, self.answer, self.detail = row
         self.open = [bool(past.openings(policy)) for policy in range(sheets.POLICIES)]
-
-    def label(self, names):
-        kind, a, b = self.step
-        if kind == EVENT:
-            action = names.get("action", a) or f"action {a}"
-            return f"{action}({names.get('resource', b) or b})"
-        if kind == RETIRE:
-            return f"retire {names.get('resource', a) or a}"
-        return ("open " if kind == OPEN else "close ") + (names.get("policy", a) or f"policy {a}")
 
     def told(self):
         return {VIOLATED: "violated", REFUSED: f"refused {self.detail}"}.get(self.answer, "allowed")
@@ -88,7 +65,7 @@ def put_labels(canvas, columns, names, top):
     for number, column in enumerate(columns, 1):
         place = f"rotate(-{SLANT} {centre(number) - 4} {top - 16})"
         colour = GREY if column.answer == REFUSED else "#333333"
-        canvas.text(centre(number) - 4, top - 16, column.label(names), transform=place, fill=colour)
+        canvas.text(centre(number) - 4, top - 16, step_label(names, column.step), transform=place, fill=colour)
         canvas.text(centre(number), top - 2, str(column.line), 10, text_anchor="middle", fill=GREY)
 
 
@@ -160,7 +137,7 @@ def trace(folder, steps, arguments):
     policy, resources = chosen(arguments, columns, past)
     states = sorted({0} | {state for _, edge in past.edges[policy] for state in (edge[1], edge[5])})
     canvas = Canvas()
-    longest = max([len(column.label(names)) for column in columns], default=0)
+    longest = max([len(step_label(names, column.step)) for column in columns], default=0)
     panel, labels = TITLE + ROW * len(states) + GAP, 34 + int(UPWARDS * longest)
     width, height = centre(len(columns)) + COLUMN + int(ALONG * longest), labels + panel * len(resources) + FOOT
     put_labels(canvas, columns, names, labels)
@@ -178,6 +155,4 @@ def trace(folder, steps, arguments):
         key += ".  hollow: the resource is retired, and its instance still counts"
     width = max(width, LEFT + int(ALONG * len(key)) + COLUMN)
     canvas.text(LEFT, height - 12, key, 11, fill="#666666")
-    head = f'<svg xmlns="http://www.w3.org/2000/svg" width="{width}" height="{height}" viewBox="0 0 {width} {height}" font-family="{FONT}">'
-    ground = f'<rect width="{width}" height="{height}" fill="white"/>'
-    return "\n".join(['<?xml version="1.0" encoding="UTF-8"?>', head, ground, *canvas.lines, "</svg>"]) + "\n"
+    return drawing.file(canvas.picture(width, height))
