@@ -117,6 +117,17 @@ size_t wiforekun_report_outline(const uint8_t *policies, size_t policies_length,
 size_t wiforekun_report_counterexample(const uint8_t *policies, size_t policies_length, const uint8_t *outline, size_t outline_length,
                                        uint8_t *out, size_t out_length);
 
+/* The table of nodes of an outline that is typed as an expression, from its bytes: the nodes are written to `table`, and how many there are,
+ * 1 to 64, is the answer. Bytes after them keep their contents. A refusal writes nothing and answers 512 and its number, and 65536 more where
+ * its line is 1; 15, 16, 17, 3, 7 and 8 have line 1, 5 and 40 have none. 40 where `table` is shorter than the room, before all others. */
+#define WIFOREKUN_NODES_ROOM 192
+#define WIFOREKUN_IS_READ(answer) ((answer) < 512u)
+size_t wiforekun_read_expression(const uint8_t *text, size_t text_length, uint8_t *table, size_t table_length);
+
+/* The outline sheet of an expression, or its refusal, as the program expression_reader prints it: written to `out`, as above. */
+#define WIFOREKUN_EXPRESSION_TEXT_ROOM 718
+size_t wiforekun_report_expression(const uint8_t *text, size_t text_length, uint8_t *out, size_t out_length);
+
 #ifdef __cplusplus
 }
 #endif

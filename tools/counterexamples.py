@@ -34,7 +34,7 @@ def explain(folder, text, checked, judged):
     if answer == ALLOWED:
         if steps:
             raise Differs("the outline is accepted, but steps are printed")
-        return head, [], ["outline.txt: accepted: no run leaves a policy open and broken, so there is no counterexample"]
+        return head, [], [f"{sheets.OUTLINE_SHEET.file}: accepted: no run leaves a policy open and broken, so there is no counterexample"]
     if not steps:
         return head, [], longer(folder, policies, nodes, policy)
     return (head, *shown(folder, policies, nodes, steps, policy, printed_rows(judged)))
@@ -42,7 +42,7 @@ def explain(folder, text, checked, judged):
 
 def longer(folder, policies, nodes, policy):
     told = folder.names.tell("policy", policy)
-    first = f"outline.txt: refused: some run leaves {told} open and broken, but every such run has more than 200 steps; none is shown"
+    first = f"{sheets.OUTLINE_SHEET.file}: refused: some run leaves {told} open and broken, but every such run has more than 200 steps; none is shown"
     return [first] + opened_words(folder, policies, nodes, policy)
 
 
@@ -56,9 +56,9 @@ def shown(folder, policies, nodes, steps, policy, judged):
     told = []
     for place, step in enumerate(steps):
         words = step_words(folder.names, step)
-        told.append((step, [f"  line {place + 2}: {words}, by {sheets.OUTLINE_SHEET.file}:{makers[place] + 2}"]))
+        told.append((step, [f"  line {place + 2}: {words}, by {sheets.OUTLINE_SHEET.node(makers[place])}"]))
     name = folder.names.tell("policy", policy)
-    first = f"outline.txt: refused: this run of {sheets.counted(len(steps), 'step')} leaves {name} open and broken; no shorter run does"
+    first = f"{sheets.OUTLINE_SHEET.file}: refused: this run of {sheets.counted(len(steps), 'step')} leaves {name} open and broken; no shorter run does"
     run = Run(folder, policies, steps)
     for _ in followed(run, policy):
         pass

@@ -81,11 +81,20 @@ def explain_check(folder, rows):
         return told
     policies, nodes = tables
     if len(rows) != 1 or rows[0][:2] not in ((0, ALLOWED), (0, VIOLATED)):
-        raise Differs(f"outline.txt is no refused sheet, but {rows[0] if rows else 'nothing'} was printed")
+        raise Differs(f"{sheets.OUTLINE_SHEET.file} is no refused sheet, but {rows[0] if rows else 'nothing'} was printed")
     if rows[0][1] == ALLOWED:
-        same((0, ALLOWED, 0), rows[0], "outline.txt")
+        same((0, ALLOWED, 0), rows[0], sheets.OUTLINE_SHEET.file)
         return [(rows[0], [])]
     return [(rows[0], outline_refused(folder, policies, nodes, rows[0][2]))]
+
+
+def explain_nodes(folder, rows):
+    """A refused expression by itself, with no policies."""
+    why = folder.typed.refused if folder.typed else None
+    if why is None:
+        raise Differs("the expression is refused, but no rule of it is broken")
+    same((why.line, sheets.OUTLINE_SHEET.answer, why.number), rows[0] if len(rows) == 1 else None, sheets.OUTLINE_SHEET.file)
+    return [(rows[0], sheet_refused(folder, sheets.OUTLINE_SHEET, why))]
 
 
 def explain_policies(folder, rows):
@@ -96,7 +105,7 @@ def explain_policies(folder, rows):
 
 def outline_refused(folder, policies, nodes, policy):
     told = folder.names.tell("policy", policy)
-    first = f"outline.txt: refused: some run leaves {told} open and broken"
+    first = f"{sheets.OUTLINE_SHEET.file}: refused: some run leaves {told} open and broken"
     return [first, *opened_words(folder, policies, nodes, policy), "  ./wiforekun why FOLDER shows a shortest run that does"]
 
 

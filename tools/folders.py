@@ -6,6 +6,7 @@ Nothing here judges. Where what is derived from the sheets does not lead to what
 import os
 import re
 
+import expressions
 import sheets
 from names import Names, file_hints
 from number_table import numbers
@@ -36,12 +37,17 @@ class Folder:
         # the sheets whose refusal is told already
         self.refused = set()
         self.data = {kind: sheets.load(os.path.join(path, kind.file)) for kind in sheets.SHEETS}
+        self.typed = expressions.of_folder(path)
+        if self.typed:
+            self.data[sheets.OUTLINE_SHEET] = self.typed.sheet
         if trace is not None:
             self.data[sheets.TRACE_SHEET] = trace
         self.lines = {kind: re.findall("[^\n]*\n|[^\n]+", data.decode("latin-1")) for kind, data in self.data.items()}
 
     def quote(self, kind, line, words="", indent=2, width=0, columns=None):
         """A line of a sheet as compilers quote it, and a mark under what is meant."""
+        if self.typed and kind is sheets.OUTLINE_SHEET:
+            return self.typed.quote(line, WIDEST, words, indent, columns)
         if line > len(self.lines[kind]):
             return []
         text = self.lines[kind][line - 1].rstrip("\n")
@@ -54,6 +60,8 @@ class Folder:
 
     def hints(self, kind, refused):
         """What brought a refusal of a sheet about, where that can be told."""
+        if refused is (self.typed and self.typed.refused):
+            return [f"  hint: {refused.hint}"] if refused.hint else []
         data, path = self.data[kind], os.path.join(self.path, kind.file)
         if not data and not os.path.exists(path):
             return [f"  hint: there is no file {kind.file} in this folder; a missing sheet reads as an empty one"]
@@ -97,6 +105,8 @@ def read_sheets(folder, kind):
         policies = sheets.Policies(folder.data[sheets.POLICY_SHEET])
     except sheets.Refused as refused:
         return None, (sheets.POLICY_SHEET, refused)
+    if folder.typed and kind is sheets.OUTLINE_SHEET and folder.typed.refused:
+        return None, (kind, folder.typed.refused)
     try:
         return (policies, sheets.read_sheet(kind, folder.data[kind])[1]), None
     except sheets.Refused as refused:

@@ -4,7 +4,7 @@ import os
 import re
 
 from sheets import BACK, CLOSE, CREATE, EITHER, END, EVENT, FRESH, LAST_ACTION, LAST_RESOURCE, LOOP, NAMED, ON_OTHERS, ON_STATIC, ON_X, OPEN
-from sheets import POLICIES, RETIRE, SANDBOX, STATIC, STATICS, THEN
+from sheets import OUTLINE_SHEET, POLICIES, RETIRE, SANDBOX, STATIC, STATICS, THEN
 
 
 UTF_16 = "a byte-order mark of UTF-16"
@@ -81,7 +81,7 @@ class Names:
         name = self.get(what, number)
         if what == "resource" and number in self.fresh:
             node, _, given, _ = self.fresh[number]
-            return f"resource {number}, name {given} of outline.txt:{node + 2}"
+            return f"resource {number}, name {given} of {OUTLINE_SHEET.node(node)}"
         return f"{what} {number} '{name}'" if name else f"{what} {number}"
 
 

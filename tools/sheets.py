@@ -54,6 +54,13 @@ class Kind:
         self.most = most
         self.ranges = ranges
 
+    # of an outline that is typed as an expression: the columns of each node
+    columns = None
+
+    def node(self, place):
+        """Where a node stands."""
+        return f"{self.file}:{place + 2}" if self.columns is None else f"{self.file}, column {self.columns[place][0] + 1}"
+
     def limit(self):
         return f"{self.words[0]} has at most {self.most:,} {self.words[1]}s"
 

@@ -23,7 +23,7 @@ def spared(target, files):
 
 def of_folder(folder):
     """The sheets of a folder and its names."""
-    return [os.path.join(folder, file) for file in [*(kind.file for kind in sheets.SHEETS), "names.txt"]]
+    return [os.path.join(folder, file) for file in [*(kind.file for kind in sheets.SHEETS), "outline.expr", "names.txt"]]
 
 
 def write(target, text, files):

@@ -138,15 +138,18 @@ class Tree:
         return width, max(high for _, high, _ in boxes), draw
 
 
-def outline(nodes, names, path=NO_PATH, ground=True):
+def outline(nodes, names, path=NO_PATH, ground=True, below=()):
+    """The picture of an outline, with lines of text below it."""
     canvas = Canvas()
     width, height, draw = Tree(nodes, names, path).box(0)
     draw(canvas, PAD, PAD)
     key = "; one after the other, from top to bottom.  either: one of those side by side.  grey: the number of a node"
     key += ".  red: the run, with the line of each step" if path.nodes else ""
-    canvas.text(PAD, height + 2 * PAD + 14, key, 10, fill=GREY)
-    return canvas.picture(int(max(width, wide(key, 10)) + 2 * PAD), int(height + 3 * PAD + 14), ground)
+    for place, line in enumerate([key, *below]):
+        canvas.text(PAD, height + 2 * PAD + 14 * (place + 1), line, 10, fill=GREY)
+    widest = max(wide(line, 10) for line in [key, *below])
+    return canvas.picture(int(max(width, widest) + 2 * PAD), int(height + 3 * PAD + 14 * (1 + len(below))), ground)
 
 
-def drawn(nodes, names, path=NO_PATH):
-    return file(outline(nodes, names, path))
+def drawn(nodes, names, path=NO_PATH, below=()):
+    return file(outline(nodes, names, path, below=below))

@@ -46,8 +46,8 @@ def trace_words(folder, rows):
 def outline_words(folder, row):
     """The verdict on an outline that was checked."""
     if row[1] == ALLOWED:
-        return "outline.txt: accepted."
-    return f"outline.txt: refused: some run breaks {folder.names.tell('policy', row[2])}."
+        return f"{OUTLINE_SHEET.file}: accepted."
+    return f"{OUTLINE_SHEET.file}: refused: some run breaks {folder.names.tell('policy', row[2])}."
 
 
 def verdicts(folder, told):

@@ -19,6 +19,10 @@
 //! assert_eq!(check(&edges, Past::Local, &nodes), Outcome::Named(0));
 //! ```
 
+mod expression;
+
+pub use expression::{outline_from_expression, print_expression, read_expression_code, Refusal, EXPRESSION_TEXT_ROOM, NODES_ROOM};
+
 pub const EDGE_BYTES: usize = 6;
 pub const NODE_BYTES: usize = 3;
 

@@ -5,3 +5,4 @@ pub mod Past
 pub mod Check
 pub mod Writing
 pub mod Code
+pub mod Reading

@@ -23,6 +23,7 @@ use Rattle.checker.proofs.AcceptedLaws.{never-halted}
 use Rattle.promises.specs.Demands.{GivenBy, Demand1, Demand2, Demand3, RetiringsApart, Demands}
 use Rattle.promises.proofs.JudgeNumbers.{judge-refuses}
 use Rattle.promises.proofs.SheetNumbers.{policies-refuses, trace-refuses, outline-refuses}
+use Rattle.promises.proofs.ExpressionPromise.{expression-refuses}
 
 edges-sheet : (local : Bool) (t : List ℕ) → EdgeTable t ↔ ((g : GivenBy edgePlaces policiesInto t) × (isLocal (g .text) ≡ local))
 edges-sheet local t = (
@@ -53,6 +54,7 @@ demand-1 = record {
   policies-reader = policies-refuses;
   trace-reader = trace-refuses;
   outline-reader = outline-refuses;
+  expression-reader = expression-refuses;
   edges-given = edges-sheet;
   nodes-given = nodes-sheet;
 }

@@ -38,7 +38,7 @@ use Rattle.promises.specs.Demands.{sheetNumbers, outlineNumbers, ReaderR
 use Rattle.promises.proofs.JudgeNumbers.{nth}
 
 -- the number of a refusal is in the list, and is not 40
-abbrev Number : List ℕ → ℕ → Type 0
+abbrev pub Number : List ℕ → ℕ → Type 0
 Number l n = List·Memᴰ n l × (n < 40)
 
 pub data Numbers (l : List ℕ) : Result → Type 0 where
@@ -134,12 +134,12 @@ unfolding stored
 keeps-any (accepted rows) table r e = not-accepted e
 keeps-any (refused u) table r e = refl
 
+pub number-in : {l : List ℕ} {x : Result} {r : Refusal} → Numbers l x → x ≡ refused r → Number l (r .number)
+number-in no-number e = not-accepted e
+number-in {l} (a-number n) e = subst (λ (v : Refusal). Number l (v .number)) (injective e) n
+
 module _ (l : List ℕ) (forty : List·Memᴰ 40 l) (needed : ℕ) (read : List ℕ → Result)
     (numbers : (text : List ℕ) → Numbers l (read text)) where
-  number-in : {x : Result} {r : Refusal} → Numbers l x → x ≡ refused r → Number l (r .number)
-  number-in no-number e = not-accepted e
-  number-in (a-number n) e = subst (λ (v : Refusal). Number l (v .number)) (injective e) n
-
   roomy-listed : (places : ℕ) (text : List ℕ) (r : Refusal) → roomy places needed (read text) ≡ refused r → List·Memᴰ (r .number) l
   roomy-listed places text r = go (ltb places needed)
     where

@@ -1,9 +1,9 @@
 -- The three demands on the product, and what later requests promise of the whole, stated over the definitions that the public functions'
 -- contracts are equations with: the judge answers `judgeOf` (`monitor::judge` and `judge_lent`, `api_records`, `api_c`), the readers answer
--- and store `policiesInto`, `traceInto` and `outlineInto` (`sheet_reader`), the check answers the one verdict that `Checked` holds of
--- (`checker::check`), the sheet writer answers and writes `writtenInto` (`sheet_writer`), and the first program prints `tracePrinted`
--- (`report`). proofs/ has the proof of each. That no function reads outside
--- its memory or runs on without end is what the language asks of each before it is built.
+-- and store `policiesInto`, `traceInto` and `outlineInto` (`sheet_reader`) and `expressionInto` (`sheet_expression`), the check answers the
+-- one verdict that `Checked` holds of (`checker::check`), the sheet writer answers and writes `writtenInto` (`sheet_writer`), and the first
+-- program prints `tracePrinted` (`report`). proofs/ has the proof of each. That no function reads outside its memory or runs on without end
+-- is what the language asks of each before it is built.
 use Prim.Native.Nat.{ℕ, suc, _<_}
 use mathlib.Core.Path.{_≡_}
 use mathlib.Core.Bool.{Bool, true, false}
@@ -12,7 +12,9 @@ use mathlib.Core.Logic.{_↔_}
 use Rattle.usage.specs.declared.RawStep.{RawStep}
 use Rattle.usage.specs.Limits.{policies, edgePlaces, stepPlaces, nodePlaces}
 use Rattle.usage.specs.Answers.{Verdict, allowed, violated, refused, Refusal}
+use Rattle.usage.specs.Past.{Past}
 use Rattle.usage.specs.Judge.{JudgedAll}
+use Rattle.usage.specs.Outline.{IsTrace}
 use Rattle.usage.specs.Check.{Checked}
 use Rattle.usage.specs.Tables.{edgesOf, nodesOf, stepsOf, EdgeTable, NodeTable}
 use Rattle.monitor_state.specs.declared.State.{State}
@@ -23,6 +25,11 @@ use Rattle.monitor_state.specs.Others.{OthersKept}
 use Rattle.sheet_lines.specs.Sheet.{Result, accepted, refused as sheet-refused, sheet}
 use Rattle.sheet_lines.specs.Sheets.{isLocal, traceSheet}
 use Rattle.sheet_reader.specs.Readers.{policiesRead, policiesInto, traceInto, outlineInto, stored}
+use Rattle.sheet_grammar.specs.Tree.{Tree}
+use Rattle.sheet_grammar.specs.Grammar.{mostNested, ExpressionLine}
+use Rattle.sheet_grammar.specs.Nodes.{treeNodes}
+use Rattle.sheet_grammar.specs.Meaning.{TreeTrace}
+use Rattle.sheet_expression.specs.Expression.{tableRows, ReadAs, expressionOf, expressionInto}
 use Rattle.checker.specs.Accepted.{NeverHalted}
 use Rattle.checker.specs.Promise.{RightVerdict, CheckPromise}
 use Rattle.sheet_writer.specs.Writer.{is-written, writtenAgain}
@@ -42,6 +49,13 @@ sheetNumbers = 40 ∷ 5 ∷ 1 ∷ 4 ∷ 13 ∷ 11 ∷ 12 ∷ 2 ∷ 3 ∷ []
 
 abbrev pub outlineNumbers : List ℕ
 outlineNumbers = sheetNumbers ++ (9 ∷ 6 ∷ 7 ∷ 8 ∷ [])
+
+-- those that a line of the grammar of expressions has, and those that any text read as one has: 02, L13, and 40
+abbrev pub lineNumbers : List ℕ
+lineNumbers = 5 ∷ 16 ∷ 17 ∷ 3 ∷ 7 ∷ 8 ∷ []
+
+abbrev pub expressionNumbers : List ℕ
+expressionNumbers = 40 ∷ 15 ∷ lineNumbers
 
 -- "answer outside its list": an answer of the judge is allowed, violated with one of the eight policies, or refused with one of the numbers
 abbrev pub Listed : List ℕ → Verdict → Type 0
@@ -85,6 +99,7 @@ pub record Demand1 : Type 0 where
   pub policies-reader : ReaderRefuses sheetNumbers edgePlaces policiesInto
   pub trace-reader : ReaderRefuses sheetNumbers stepPlaces traceInto
   pub outline-reader : ReaderRefuses outlineNumbers nodePlaces outlineInto
+  pub expression-reader : ReaderRefuses expressionNumbers nodePlaces expressionInto
   -- the tables that 41 does not refuse are those that the sheets give; of edges, those of either names line (02, L7)
   pub edges-given : (local : Bool) (t : List ℕ) → EdgeTable t ↔ ((g : GivenBy edgePlaces policiesInto t) × (isLocal (g .text) ≡ local))
   pub nodes-given : (t : List ℕ) → NodeTable t ↔ GivenBy nodePlaces outlineInto t
@@ -151,6 +166,24 @@ pub record Verdicts (text t : List ℕ) : Type 0 where
 pub record Rewritten : Type 0 where
   pub way : OneWay
   pub verdicts : (text t : List ℕ) → writtenAgain text ≡ is-written t → Verdicts text t
+
+-- ── Outlines typed as expressions (02, L13) ──
+
+pub record Expressions : Type 0 where
+  -- every text has the one result that the request says, and no other
+  pub result : (text : List ℕ) (r : Result) → (expressionOf text ≡ r) ↔ ReadAs text r
+  -- "Exactly the lines of this grammar are read, those that 5, 16, 17, 3, 7 or 8 refuses apart"
+  pub only-lines : (text : List ℕ) (rows : List (List ℕ)) → expressionOf text ≡ accepted rows
+      → (t : Tree) × ExpressionLine mostNested text t × (rows ≡ tableRows (treeNodes t))
+  pub all-lines : (n : ℕ) (text : List ℕ) (t : Tree) (r : Refusal) → ExpressionLine n text t → expressionOf text ≡ sheet-refused r
+      → List·Memᴰ (r .number) lineNumbers
+  -- "each in one way"
+  pub one-way : (m n : ℕ) (text : List ℕ) (t u : Tree) → ExpressionLine m text t → ExpressionLine n text u → t ≡ u
+  -- "get the node table": one that an outline sheet gives too
+  pub table : (text : List ℕ) (rows : List (List ℕ)) → expressionOf text ≡ accepted rows → GivenBy nodePlaces outlineInto (flatten rows)
+  -- the traces of the table are those of the expression, which has runs of its own
+  pub traces : (text : List ℕ) (rows : List (List ℕ)) (t : Tree) → expressionOf text ≡ accepted rows → ExpressionLine mostNested text t
+      → (past : Past) → IsTrace (nodesOf (flatten rows)) past ↔ TreeTrace t past
 
 -- All three demands.
 pub record Demands : Type 0 where

@@ -44,10 +44,10 @@ use Rattle.report.proofs.CounterexampleLaws.{rawsOf, Low-step, Low, no-
 -- ── A printed row is one line ──
 
 -- the bytes of a line of three numbers
-abbrev threeBytes : ℕ → ℕ → ℕ → List ℕ
+abbrev pub threeBytes : ℕ → ℕ → ℕ → List ℕ
 threeBytes a b c = decimal a ++ (32 ∷ (decimal b ++ (32 ∷ decimal c)))
 
-row-line : (a b c : ℕ) → a < 100000 → b < 100000 → c < 100000 → (bs : List ℕ)
+pub row-line : (a b c : ℕ) → a < 100000 → b < 100000 → c < 100000 → (bs : List ℕ)
     → linesOf (row a b c ++ bs) ≡ fed (threeBytes a b c) ∷ linesOf bs
 unfolding row
 row-line a b c ha hb hc bs =
@@ -56,7 +56,7 @@ row-line a b c ha hb hc bs =
     (ap linesOf (append-assoc (field b 32) (field c 10) bs)
     ∙ space-line b hb (field c 10 ++ bs) (decimal c) (linesOf bs) (feed-line c hc bs))
 
-three-values : (a b c : ℕ) → a < 100000 → b < 100000 → c < 100000 → Values (a ∷ b ∷ c ∷ []) (threeBytes a b c)
+pub three-values : (a b c : ℕ) → a < 100000 → b < 100000 → c < 100000 → Values (a ∷ b ∷ c ∷ []) (threeBytes a b c)
 unfolding classOf
 three-values a b c ha hb hc =
     next-value (decimal-value a ha) (one-space 32 refl)

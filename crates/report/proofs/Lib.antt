@@ -6,7 +6,10 @@ pub mod OutlineLaws
 pub mod NumberedLaws
 pub mod CounterexampleLaws
 pub mod PoliciesLaws
+pub mod ExpressionLaws
 -- What is printed for two accepted sheets is right.
 pub mod TraceRight
 -- What is printed of a counterexample is read back as its steps.
 pub mod CounterexampleRead
+-- What is printed of an expression is an outline sheet, which is read back as its table.
+pub mod ExpressionRead

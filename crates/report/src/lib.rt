@@ -8,29 +8,38 @@ ghost use Rattle.report.specs.Trace.{tracePrinted};
 ghost use Rattle.report.specs.Outline.{RightTexts, outlinePrinted};
 ghost use Rattle.report.specs.Counterexample.{RightExplanation, counterexamplePrinted, counterexampleRoom, Prints};
 ghost use Rattle.report.specs.Policies.{policiesPrinted, policiesRoom};
+ghost use Rattle.report.specs.Expression.{expressionPrinted, expressionRoom};
 use checker_trace::MOST_NUMBERS;
 use report_lines::NAMES;
+use report_lines::NODE_NAMES;
 use report_lines::TRACE_NAMES;
 use sheet_lines::LONGEST_SHEET;
+use sheet_lines::Reading;
 use sheet_reader::PolicyReading;
 use sheet_writer::Writing;
 use usage::EDGE_FIELDS;
 use usage::EDGE_TABLE;
+use usage::MOST_NODES;
 use usage::MOST_STEPS;
+use usage::NODE_FIELDS;
+use usage::NODE_TABLE;
 use usage::STEP_FIELDS;
 
 mod counterexample;
+mod expression;
 mod outline;
 mod trace;
 
-// ── Sizes ── as specs/Output and specs/Counterexample have them.
+// ── Sizes ── as specs/Output, specs/Counterexample and specs/Expression have them.
 
-// The bytes of a line at most: of a step's answer, of an outline's or of refused policies', and of a step of a counterexample.
+// The bytes of a line at most: of a step's answer, of an outline's or of refused policies', of a step of a counterexample, and of a node.
 const LONGEST_STEP_ROW: usize = 10;
 
 const LONGEST_OUTLINE_ROW: usize = 9;
 
 const LONGEST_SHOWN_ROW: usize = 9;
+
+const LONGEST_NODE_ROW: usize = 11;
 
 // The steps of a counterexample at most.
 const MOST_SHOWN: usize = MOST_NUMBERS / STEP_FIELDS;
@@ -43,6 +52,7 @@ pub const OUTLINE_ROOM: usize = NAMES + LONGEST_OUTLINE_ROW;
 pub const COUNTEREXAMPLE_ROOM: usize = TRACE_NAMES + MOST_SHOWN * LONGEST_SHOWN_ROW;
 
 pub const POLICIES_ROOM: usize = LONGEST_SHEET;
+pub const EXPRESSION_ROOM: usize = NODE_NAMES + MOST_NODES * LONGEST_NODE_ROW;
 
 // What the first program prints, from the bytes of `policies.txt` and `trace.txt`: its length, and 0 where `out` lacks the room.
 pub fn report_trace(policies: &[u8], trace: &[u8], out: &mut [u8]) -> usize
@@ -129,5 +139,22 @@ pub fn report_policies(policies: &[u8], out: &mut [u8]) -> usize
     match w {
         Writing::Written(n) => n,
         Writing::Refused { line, number } => crate::counterexample::refused(out, line, 3, number),
+    }
+}
+
+// What the program that reads an expression prints, from the bytes of `outline.expr`: its outline sheet. Its length, and 0 where `out`
+// lacks the room.
+pub fn report_expression(text: &[u8], out: &mut [u8]) -> usize
+    ensures { λ r. ⌜ r ≡ lengthPut expressionRoom (now (out .entry)) (expressionPrinted (now (text .entry))) ⌝ }
+    ensures { λ r. ⌜ now (out .exit) ≡ Output·put expressionRoom (now (out .entry)) (expressionPrinted (now (text .entry))) ⌝ }
+{
+    if out.len() < EXPRESSION_ROOM {
+        return 0;
+    }
+    let mut nodes = [0u8; NODE_TABLE];
+    let reading = sheet_expression::read_expression(text, &mut nodes);
+    match reading {
+        Reading::Stored(n) => crate::expression::sheet(&nodes[0..n * NODE_FIELDS], out),
+        Reading::Refused { line, number } => crate::counterexample::refused(out, line, 5, number),
     }
 }

@@ -9,7 +9,7 @@ use lib.ListN.{length-append, getD}
 use native.Mathlib.Omega.{arith}
 use Rattle.report_lines.specs.Decimal.{digitByte, decimal}
 use Rattle.report_lines.proofs.DecimalLaws.{decimal-one}
-use Rattle.report_lines.specs.Lines.{field, three, row, valuesText, valuesLine}
+use Rattle.report_lines.specs.Lines.{field, three, row, numberedRow, valuesText, valuesLine}
 
 -- one run after another
 pub sets-append : (l : List ℕ) (i : ℕ) (vs ws : List ℕ) → sets l i (vs ++ ws) ≡ sets (sets l i vs) (i + length vs) ws
@@ -98,3 +98,15 @@ six-threes (a ∷ b ∷ c ∷ d ∷ []) h = absurd (omega arith)
 six-threes (a ∷ b ∷ c ∷ d ∷ e ∷ []) h = absurd (omega arith)
 six-threes (a ∷ b ∷ c ∷ d ∷ e ∷ f ∷ []) h = six-fields a b c d e f
 six-threes (a ∷ b ∷ c ∷ d ∷ e ∷ f ∷ g ∷ v) h = absurd (omega arith)
+
+-- a line with a number before it
+pub length-numbered : (number kind a b : ℕ) → length (numberedRow number kind a b) ≡ length (field number 32) + length (row kind a b)
+unfolding numberedRow
+length-numbered number kind a b = length-append (field number 32) (row kind a b)
+
+pub sets-numbered : (l : List ℕ) (i number kind a b : ℕ)
+    → sets l i (numberedRow number kind a b) ≡ sets (sets l i (field number 32)) (i + length (decimal number) + 1) (row kind a b)
+unfolding numberedRow
+sets-numbered l i number kind a b =
+    let one : i + length (field number 32) ≡ i + length (decimal number) + 1 = omega (arith, length-field number 32) in
+    sets-append l i (field number 32) (row kind a b) ∙ rw one

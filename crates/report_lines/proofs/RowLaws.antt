@@ -7,11 +7,11 @@ use native.Mathlib.Omega.{arith}
 use lib.ListN.{length, length-append}
 use lib.Seq.{sets}
 use Rattle.usage.specs.Answers.{Verdict, allowed, violated, refused, answer, detail}
-use Rattle.report_lines.specs.Lines.{namesLine, namesRoom, traceNamesLine, traceNamesRoom, three, row, verdictRow}
-use Rattle.report_lines.specs.Lines.{valuesText, valuesRoom}
+use Rattle.report_lines.specs.Lines.{namesLine, namesRoom, traceNamesLine, traceNamesRoom, nodeNamesLine, nodeNamesRoom}
+use Rattle.report_lines.specs.Lines.{three, row, numberedRow, verdictRow, valuesText, valuesRoom}
 use Rattle.report_lines.proofs.DecimalLaws.{tens, length-below}
 use Rattle.report_lines.specs.Put.{putAt, endAt}
-use Rattle.report_lines.proofs.PutLaws.{length-three, length-row, six-fields}
+use Rattle.report_lines.proofs.PutLaws.{length-field, length-three, length-row, length-numbered, six-fields}
 use Rattle.report_lines.proofs.FitLaws.{stored-at}
 
 -- of numbers below ten to the powers i + 1, j + 1 and k + 1: their digits, and a byte after each
@@ -58,6 +58,13 @@ row-nine line a d hl ha hd = row-below 2 0 1 line a d (omega arith) (omega arith
 pub step-nine : (kind a b : ℕ) → kind < 10 → a < 100 → b < 1000 → length (row kind a b) ≤ 9
 step-nine kind a b hk ha hb = row-below 0 1 2 kind a b (omega arith) (omega arith) (omega arith)
 
+-- those of a node are its number, a kind, and two fields
+pub numbered-eleven : (number kind a b : ℕ) → number < 100 → kind < 10 → a < 100 → b < 100 → length (numberedRow number kind a b) ≤ 11
+numbered-eleven number kind a b hn hk ha hb =
+    let l = length-below 1 number (omega arith) in
+    let m = row-below 0 1 1 kind a b (omega arith) (omega arith) (omega arith) in
+    omega (arith, length-numbered number kind a b, length-field number 32)
+
 answer-small : (v : Verdict) → answer v < 10
 answer-small allowed = omega arith
 answer-small (violated p) = omega arith
@@ -73,6 +80,10 @@ length-names = refl
 pub length-trace-names : length traceNamesLine ≡ traceNamesRoom
 unfolding traceNamesLine
 length-trace-names = refl
+
+pub length-node-names : length nodeNamesLine ≡ nodeNamesRoom
+unfolding nodeNamesLine
+length-node-names = refl
 
 -- a text at the start, of the numbers that the functions return
 pub begin-stored : {r : ℕ} {after : List ℕ} (buffer text : List ℕ) → length text ≤ length buffer → r ≡ endAt buffer 0 text → after

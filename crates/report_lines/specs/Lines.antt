@@ -3,7 +3,7 @@ use Prim.Native.Nat.{ℕ, suc}
 use mathlib.Core.List.{List, [], _∷_, _++_}
 use Rattle.usage.specs.Answers.{Verdict, answer, detail, Refusal}
 use Rattle.sheet_lines.specs.Bytes.{bytes}
-use Rattle.sheet_lines.specs.Sheets.{traceSheet}
+use Rattle.sheet_lines.specs.Sheets.{traceSheet, outlineSheet}
 use Rattle.report_lines.specs.Decimal.{decimal}
 
 -- "It prints `line answer detail`"
@@ -20,6 +20,13 @@ traceNamesLine = traceSheet .names
 
 abbrev pub traceNamesRoom : ℕ
 traceNamesRoom = 9
+
+-- that of an outline sheet, where nodes are printed (`length-node-names` of proofs/RowLaws)
+unfoldable pub nodeNamesLine : List ℕ
+nodeNamesLine = outlineSheet .names
+
+abbrev pub nodeNamesRoom : ℕ
+nodeNamesRoom = 14
 
 -- a number and the byte after it
 unfoldable pub field : ℕ → ℕ → List ℕ
@@ -45,6 +52,10 @@ valuesLine (v ∷ vs) = valuesText v vs
 -- the bytes of one with six values of 32 bits, at most (`three-fits` of proofs/RowLaws)
 abbrev pub valuesRoom : ℕ
 valuesRoom = 66
+
+-- a line of an outline sheet: the node's number before its three
+unfoldable pub numberedRow : ℕ → ℕ → ℕ → ℕ → List ℕ
+numberedRow number kind a b = field number 32 ++ row kind a b
 
 -- "0 allowed, 1 violated or 2 refused, and the policy, the number, or 0"
 abbrev pub verdictRow : ℕ → Verdict → List ℕ

@@ -5,14 +5,16 @@ ghost use lib.ListN.{length};
 ghost use lib.Seq.{sets};
 ghost use Rattle.sheet_lines.specs.Sheets.{policyNames};
 ghost use Rattle.report_lines.specs.Decimal.{decimal};
-ghost use Rattle.report_lines.specs.Lines.{namesLine, traceNamesLine, field as Lines·field, three as Lines·three};
-ghost use Rattle.report_lines.specs.Lines.{row as Lines·row, valuesLine, valuesRoom};
+ghost use Rattle.report_lines.specs.Lines.{namesLine, traceNamesLine, nodeNamesLine, field as Lines·field, three as Lines·three};
+ghost use Rattle.report_lines.specs.Lines.{row as Lines·row, numberedRow, valuesLine, valuesRoom};
 ghost use Rattle.report_lines.specs.Put.{putAt, endAt, putWithin, endWithin};
 
-// The bytes of the line of names, and of that of a trace sheet.
+// The bytes of the line of names, and of those of a trace sheet and of an outline sheet.
 pub const NAMES: usize = 19;
 
 pub const TRACE_NAMES: usize = 9;
+
+pub const NODE_NAMES: usize = 14;
 
 // The bytes of a line of six values at most: ten digits each, and a byte after it.
 pub const VALUES_ROOM: usize = 66;
@@ -42,6 +44,14 @@ pub fn policy_names(out: &mut [u8], local: bool) -> usize
         return begin(out, b"local from action on who to\n");
     }
     begin(out, b"policy from action on who to\n")
+}
+
+// The same with the names line of an outline sheet.
+pub fn node_names(out: &mut [u8]) -> usize
+    ensures { λ r. ⌜ r ≡ endAt (now (out .entry)) 0 nodeNamesLine ⌝ }
+    ensures { λ r. ⌜ now (out .exit) ≡ putAt (now (out .entry)) 0 nodeNamesLine ⌝ }
+{
+    begin(out, b"node kind a b\n")
 }
 
 // A text, at the start.
@@ -107,6 +117,29 @@ fn three(out: &mut [u8], at: usize, a: usize, b: usize, c: usize, end: u8) -> us
     let second = field(out, at, a, b' ');
     let third = field(out, second, b, b' ');
     field(out, third, c, end)
+}
+
+// The same with a number before the three.
+pub fn numbered_row(
+    out: &mut [u8],
+    at: usize,
+    number: usize,
+    kind: usize,
+    a: usize,
+    b: usize,
+) -> usize
+    ensures { λ r. ⌜ r ≡ endAt (now (out .entry)) at (numberedRow number kind a b) ⌝ }
+    ensures { λ r. ⌜ now (out .exit) ≡ putAt (now (out .entry)) at (numberedRow number kind a b) ⌝ }
+{
+    if out.len() < at {
+        return at;
+    }
+    let needed = width(number) + width(kind) + width(a) + width(b) + 4;
+    if out.len() - at < needed {
+        return at;
+    }
+    let next = field(out, at, number, b' ');
+    row(out, next, kind, a, b)
 }
 
 // How many digits n has.

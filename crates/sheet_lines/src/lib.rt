@@ -23,7 +23,7 @@ use usage::STEP_TABLE;
 // How many values a sheet has at most: a trace has the most.
 pub const MOST_VALUES: usize = STEP_TABLE;
 
-// Document 01: "5 longer than 32,768 bytes", as usage's `longest-sheet` has it.
+// Document 01: "5 longer than 32,768 bytes", as usage's `longestSheet` has it.
 pub const LONGEST_SHEET: usize = 32768;
 
 // The answer of a reader: how many value lines it stored, or the refusal.

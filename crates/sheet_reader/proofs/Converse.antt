@@ -167,7 +167,7 @@ node-row-ok t v i l =
 in-place : (n k : ℕ) → k < n → placeOk (from (λ i. i) 0 n) k ≡ true
 in-place n k h = ap (λ o. isSome o k) (getElem-from (λ i. i) 0 n k h) ∙ eq-eqb (0 + k) k (zero-add k)
 
-places-ruled : (n : ℕ) (ns : List Node) → length ns ≡ n → ruledBy (treeOk ns) ns ≡ none → ruledSheet (from (λ i. i) 0 n) ns ≡ none
+pub places-ruled : (n : ℕ) (ns : List Node) → length ns ≡ n → ruledBy (treeOk ns) ns ≡ none → ruledSheet (from (λ i. i) 0 n) ns ≡ none
 places-ruled n ns l e =
     let places = from (λ i. i) 0 n in
     ruled-kept (treeOk ns) (λ k. placeOk places k && treeOk ns k) ns

@@ -59,7 +59,7 @@ pub fn ruled(table: &[u8], places: &[u8], first: Rule) -> Fault
 }
 
 // The fields of every node are in their ranges.
-fn all_fit(table: &[u8]) -> bool
+pub fn all_fit(table: &[u8]) -> bool
     ensures { λ r. ⌜ r ≡ every nodeOk (nodesOf (now (table .entry))) ⌝ }
 {
     let n = table.len() / NODE_FIELDS;

@@ -23,7 +23,7 @@ const FEW_NODES: usize = NODE_TABLE - 1;
 
 const FEW_STEPS: usize = STEP_TABLE - 1;
 
-fn code_of(r: Reading) -> u32
+pub(crate) fn code_of(r: Reading) -> u32
     ensures { λ c. ⌜ c ≡ readingCode r ⌝ }
 {
     match r {

@@ -1,7 +1,8 @@
-// What is run against the reference program: the stored cases of the two programs and of the check with a counterexample, and calls at
+// What is run against the reference program: the stored cases of the programs and of the check with a counterexample, and calls at
 // the borders of the numbers that no sheet can bring about. What is printed is compared with what the reference program printed.
 mod borders;
 mod counterexamples;
+mod expressions;
 mod judge_calls;
 mod lent;
 mod local_calls;
@@ -19,4 +20,5 @@ fn main() {
     rewritings::all(450);
     borders::calls();
     rewritings::calls();
+    expressions::all(900);
 }

@@ -3,7 +3,9 @@
 pub mod borders;
 pub mod counterexample;
 pub mod damage;
+pub mod expression;
 pub mod generate;
+pub mod grammar;
 pub mod judge;
 pub mod least;
 pub mod outline;

@@ -1,6 +1,7 @@
 //! The command line of the reference.
 
 use reference::counterexample::shown_fault;
+use reference::expression;
 use reference::generate::{self, Case, Kind};
 use reference::program;
 use reference::sheet::read_trace;
@@ -16,13 +17,13 @@ const USAGE: &str = "usage:
   reference why DIR
   reference accepts DIR SHEET
   reference write DIR
+  reference nodes DIR
   reference judge FILE
-  reference generate trace|outline|counterexample|state SEED COUNT DIR
-  reference expect trace|outline|counterexample|state DIR COUNT
-  reference generate policies SEED COUNT DIR
-  reference expect policies DIR COUNT
+  reference generate trace|outline|counterexample|state|policies|expression SEED COUNT DIR
+  reference expect trace|outline|counterexample|state|policies|expression DIR COUNT
   reference borders
   reference writings
+  reference expression-borders
 ";
 
 fn main() -> ExitCode {
@@ -57,14 +58,19 @@ fn run(words: &[&str]) -> Option<io::Result<String>> {
         }
         ["accepts", dir, sheet] => Some(accepts(dir, sheet)),
         ["write", dir] => Some(Ok(program::write(&read(dir, "policies.txt")))),
+        ["nodes", dir] => Some(Ok(expression::sheet(&read(dir, "outline.expr")))),
         ["judge", file] => Some(run_call(Path::new(file))),
         ["borders"] => Some(Ok(reference::borders::lines())),
         ["writings"] => Some(Ok(reference::writer::calls())),
+        ["expression-borders"] => Some(Ok(expression::borders())),
         ["generate", "state", seed, count, dir] => {
             Some(generate_calls(seed.parse().ok()?, count.parse().ok()?, Path::new(dir)))
         }
         ["generate", "policies", seed, count, dir] => {
             Some(generate_policies(seed.parse().ok()?, count.parse().ok()?, Path::new(dir)))
+        }
+        ["generate", "expression", seed, count, dir] => {
+            Some(generate_expressions(seed.parse().ok()?, count.parse().ok()?, Path::new(dir)))
         }
         ["generate", kind, seed, count, dir] => {
             let (seed, count) = (seed.parse().ok()?, count.parse().ok()?);
@@ -72,6 +78,7 @@ fn run(words: &[&str]) -> Option<io::Result<String>> {
         }
         ["expect", "state", dir, count] => Some(expect_calls(dir, count.parse().ok()?)),
         ["expect", "policies", dir, count] => Some(Ok(expect_policies(dir, count.parse().ok()?))),
+        ["expect", "expression", dir, count] => Some(Ok(expect_expressions(dir, count.parse().ok()?))),
         ["expect", kind, dir, count] => Some(Ok(expect(kind_of(kind)?, dir, count.parse().ok()?))),
         _ => None,
     }
@@ -142,6 +149,21 @@ fn generate_calls(seed: u64, count: usize, dir: &Path) -> io::Result<String> {
         fs::write(dir.join(format!("{number:04}s")), call.write())?;
     }
     Ok(String::new())
+}
+
+fn generate_expressions(seed: u64, count: usize, dir: &Path) -> io::Result<String> {
+    fs::create_dir_all(dir)?;
+    for (number, text) in generate::expressions::cases(seed, count).into_iter().enumerate() {
+        fs::write(dir.join(format!("{number:04}e")), text)?;
+    }
+    Ok(String::new())
+}
+
+fn expect_expressions(dir: &str, count: usize) -> String {
+    let one = |number: usize| {
+        format!("case {number}\n{}", expression::sheet(&read(dir, &format!("{number:04}e"))))
+    };
+    (0..count).map(one).collect()
 }
 
 fn expect(kind: Kind, dir: &str, count: usize) -> String {

@@ -1,6 +1,7 @@
 //! Cases from a seed.
 
 pub mod counterexamples;
+pub mod expressions;
 pub mod fixed;
 pub mod malformed;
 pub mod orders;
