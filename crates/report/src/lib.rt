@@ -52,6 +52,7 @@ pub const OUTLINE_ROOM: usize = NAMES + LONGEST_OUTLINE_ROW;
 pub const COUNTEREXAMPLE_ROOM: usize = TRACE_NAMES + MOST_SHOWN * LONGEST_SHOWN_ROW;
 
 pub const POLICIES_ROOM: usize = LONGEST_SHEET;
+
 pub const EXPRESSION_ROOM: usize = NODE_NAMES + MOST_NODES * LONGEST_NODE_ROW;
 
 // What the first program prints, from the bytes of `policies.txt` and `trace.txt`: its length, and 0 where `out` lacks the room.
