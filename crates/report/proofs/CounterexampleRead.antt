@@ -9,13 +9,14 @@ use lib.ListN.{length, length-append}
 use lib.Seq.{append-snoc}
 use borrow.Author.Tests.{ltb-true, ltb-false, le-leb}
 use Rattle.usage.specs.declared.RawStep.{RawStep}
-use Rattle.usage.specs.Limits.{mostSteps}
+use Rattle.usage.specs.Limits.{resources, mostSteps, mostDigits}
 use Rattle.usage.specs.Past.{Step, event, opening, closing, retiring, Past}
 use Rattle.usage.specs.Tables.{from, stepAt}
 use Rattle.usage.proofs.Logic.{clash}
 use Rattle.usage.proofs.JudgeLaws.{Fits}
 use Rattle.sheet_fields.specs.Fields.{stepLine, stepOk}
 use Rattle.sheet_bytes.specs.Class.{classOf}
+use Rattle.sheet_bytes.specs.Code.{valueLimit}
 use Rattle.sheet_bytes.specs.Line.{Line, prefixed, linesOf}
 use Rattle.sheet_bytes.specs.Grammar.{Digits, no-digit, one-more, Value, one-space, Values, last-value, next-value}
 use Rattle.sheet_bytes.proofs.FaultLaws.{decides-values}
@@ -77,12 +78,12 @@ some-digit n = go (ltb n 10) refl
     go true e = omega (arith, length-one n (ltb-true n 10 e))
     go false e = omega (arith, length-more n (ltb-false n 10 e))
 
-decimal-value : (n : ℕ) → n < 100000 → Value n (decimal n)
+decimal-value : (n : ℕ) → n < valueLimit → Value n (decimal n)
 decimal-value n h = record {
   count = length (decimal n);
   some-digit = some-digit n;
-  few = omega (arith, length-below 4 n (omega arith));
-  digits = decimal-digits 4 n (omega arith);
+  few = omega (arith, length-below (mostDigits - 1) n (omega arith));
+  digits = decimal-digits (mostDigits - 1) n (omega arith);
 }
 
 -- ── A printed row is one line ──
@@ -91,21 +92,21 @@ decimal-value n h = record {
 abbrev threeBytes : ℕ → ℕ → ℕ → List ℕ
 threeBytes a b c = decimal a ++ (32 ∷ (decimal b ++ (32 ∷ decimal c)))
 
-space-line : (n : ℕ) → n < 100000 → (bs cs : List ℕ) (ls : List Line) → linesOf bs ≡ fed cs ∷ ls
+space-line : (n : ℕ) → n < valueLimit → (bs cs : List ℕ) (ls : List Line) → linesOf bs ≡ fed cs ∷ ls
     → linesOf (field n 32 ++ bs) ≡ fed (decimal n ++ (32 ∷ cs)) ∷ ls
 unfolding field linesOf classOf
 space-line n h bs cs ls e =
     ap linesOf (append-snoc (decimal n) 32 bs)
-    ∙ digits-lines (decimal-digits 4 n (omega arith)) (32 ∷ bs) (fed (32 ∷ cs)) ls (ap (prefixed 32) e)
+    ∙ digits-lines (decimal-digits (mostDigits - 1) n (omega arith)) (32 ∷ bs) (fed (32 ∷ cs)) ls (ap (prefixed 32) e)
 
-feed-line : (n : ℕ) → n < 100000 → (bs : List ℕ) → linesOf (field n 10 ++ bs) ≡ fed (decimal n) ∷ linesOf bs
+feed-line : (n : ℕ) → n < valueLimit → (bs : List ℕ) → linesOf (field n 10 ++ bs) ≡ fed (decimal n) ∷ linesOf bs
 unfolding field linesOf classOf
 feed-line n h bs =
     ap linesOf (append-snoc (decimal n) 10 bs)
-    ∙ digits-lines (decimal-digits 4 n (omega arith)) (10 ∷ bs) (fed []) (linesOf bs) refl
+    ∙ digits-lines (decimal-digits (mostDigits - 1) n (omega arith)) (10 ∷ bs) (fed []) (linesOf bs) refl
     ∙ ap (λ (xs : List ℕ). fed xs ∷ linesOf bs) (append-nil (decimal n))
 
-row-line : (a b c : ℕ) → a < 100000 → b < 100000 → c < 100000 → (bs : List ℕ)
+row-line : (a b c : ℕ) → a < valueLimit → b < valueLimit → c < valueLimit → (bs : List ℕ)
     → linesOf (row a b c ++ bs) ≡ fed (threeBytes a b c) ∷ linesOf bs
 unfolding row
 row-line a b c ha hb hc bs =
@@ -114,7 +115,7 @@ row-line a b c ha hb hc bs =
     (ap linesOf (append-assoc (field b 32) (field c 10) bs)
     ∙ space-line b hb (field c 10 ++ bs) (decimal c) (linesOf bs) (feed-line c hc bs))
 
-three-values : (a b c : ℕ) → a < 100000 → b < 100000 → c < 100000 → Values (a ∷ b ∷ c ∷ []) (threeBytes a b c)
+three-values : (a b c : ℕ) → a < valueLimit → b < valueLimit → c < valueLimit → Values (a ∷ b ∷ c ∷ []) (threeBytes a b c)
 unfolding classOf
 three-values a b c ha hb hc =
     next-value (decimal-value a ha) (one-space 32 refl)
@@ -127,9 +128,9 @@ abbrev pub stepValues : RawStep → List ℕ
 stepValues s = s .kind ∷ s .a ∷ s .b ∷ []
 
 record Readable (s : RawStep) : Type 0 where
-  kind : s .kind < 100000
-  a : s .a < 100000
-  b : s .b < 100000
+  kind : s .kind < valueLimit
+  a : s .a < valueLimit
+  b : s .b < valueLimit
   ranged : stepLine (stepValues s) ≡ true
 
 step-read : (line left : ℕ) (s : RawStep) (bs : List ℕ) → Readable s
@@ -165,10 +166,10 @@ steps-read line (suc left) (and-more {s} {steps} h hs) few =
 step-ranged : (s : Step) → Fits s → stepLine (stepValues (rawOf s)) ≡ true
 unfolding stepOk
 step-ranged (event a r) (l, k) =
-    rw (le-leb 0 a (omega arith), le-leb a 31 (omega arith), le-leb 0 r (omega arith), le-leb r 65535 (omega arith))
+    rw (le-leb 0 a (omega arith), le-leb a 31 (omega arith), le-leb 0 r (omega arith), le-leb r (resources - 1) (omega arith))
 step-ranged (opening p) l = rw (le-leb 0 p (omega arith), le-leb p 7 (omega arith))
 step-ranged (closing p) l = rw (le-leb 0 p (omega arith), le-leb p 7 (omega arith))
-step-ranged (retiring r) l = rw (le-leb 0 r (omega arith), le-leb r 65535 (omega arith))
+step-ranged (retiring r) l = rw (le-leb 0 r (omega arith), le-leb r (resources - 1) (omega arith))
 
 step-readable : (s : Step) → Low-step s → Readable (rawOf s)
 step-readable (event a r) l =
