@@ -72,7 +72,7 @@ static inline void wiforekun_start(struct wiforekun_state *state) {
 /* One step of the monitor, under a table of edges (its length in bytes). The state's arrays are lent one by one. Where the step is
  * allowed they hold the new state; where it is violated only the halted flag changes, to 1; where it is refused with a number nothing
  * changes. Of the numbers 40 to 42: 41 where no accepted sheet gives the table, or `local` is neither; 42 where the state has more than
- * 64 live resources, one twice or outside 16 to 65535; a highest number below a live one, or above 4294967295; an order longer than 64,
+ * 64 live resources, one twice or outside 16 to 4294967295; a highest number below a live one, or above 4294967295; an order longer than 64,
  * with an entry above 7, or with some policy in it another number of times than `unclosed` tells; or a halted flag other than 0 and 1. A
  * state that passes but was never reached is judged by the sets that it holds: an event by `sets`, from which it gathers `possible`
  * anew; an opening, a closing or a retiring by `possible` as it is, that of a policy which goes back to state 0 aside. Elements of

@@ -1,6 +1,6 @@
 -- An outline none of whose traces leaves a policy open and not respected is never halted by the judge, whichever past counts, with
 -- retirings added or without.
-use Prim.Native.Nat.{ℕ, zero, suc, _<_, _≤_}
+use Prim.Native.Nat.{ℕ, zero, suc, _-_, _<_, _≤_}
 use mathlib.Core.Path.{_≡_, refl, sym, ap, _∙_, subst}
 use mathlib.Core.Bool.{Bool, true, false}
 use mathlib.Core.Option.{some}
@@ -12,7 +12,7 @@ use borrow.Author.Tests.{le-leb}
 use lib.ListN.{length, getElem?}
 use Rattle.usage.specs.declared.Node.{Node}
 use Rattle.usage.specs.declared.RawStep.{RawStep}
-use Rattle.usage.specs.Limits.{statics, create, mostCreated, mostUnclosed}
+use Rattle.usage.specs.Limits.{statics, resources, create, mostCreated, mostUnclosed}
 use Rattle.usage.specs.Past.{Step, event, opening, closing, retiring, Past, openStack, liveIn, highest, Created, Retired, Violates}
 use Rattle.usage.specs.Answers.{refused}
 use Rattle.usage.specs.Judge.{stepOf, Case, too-many, too-deep, Refuses, is-refused}
@@ -90,12 +90,12 @@ step-read (event a r) (l, k) = rw (
   le-leb 0 a (omega arith),
   le-leb a 31 (omega arith),
   le-leb 0 r (omega arith),
-  le-leb r 65535
+  le-leb r (resources - 1)
       (omega arith),
 )
 step-read (opening p) l = rw (le-leb 0 p (omega arith), le-leb p 7 (omega arith))
 step-read (closing p) l = rw (le-leb 0 p (omega arith), le-leb p 7 (omega arith))
-step-read (retiring r) l = rw (le-leb 0 r (omega arith), le-leb r 65535 (omega arith))
+step-read (retiring r) l = rw (le-leb 0 r (omega arith), le-leb r (resources - 1) (omega arith))
 
 -- a create of the trace is above all that it created before
 abbrev Above : Step → Past → Type 0

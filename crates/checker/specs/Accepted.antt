@@ -26,7 +26,7 @@ unfoldable pub onto : List Step → Past → Past
 onto [] past = past
 onto (s ∷ steps) past = onto steps (s ∷ past)
 
--- a resource that the judge takes: "Resources 16 to 65,535"
+-- resources that the judge takes: "a resource go to 4,294,967,295" (02, L9)
 pub record Low (past : Past) : Type 0 where
   pub low : (a r : ℕ) → List·Memᴰ (event a r) past → r < resources
 

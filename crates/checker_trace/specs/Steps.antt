@@ -5,8 +5,8 @@ use lib.ListN.{length, drop}
 use Rattle.usage.specs.Limits.{stepFields}
 use Rattle.usage.specs.Past.{Step, event, opening, closing, retiring, Past}
 
--- "kind 0 event (action 0 to 31, resource 0 to 65,535), 1 open (policy 0 to 7, 0), 2 close (policy 0 to 7, 0)"; "step kind 3, retire (a
--- the resource, b 0)" (02, L8), which no run makes
+-- "kind 0 event (action 0 to 31, resource ..), 1 open (policy 0 to 7, 0), 2 close (policy 0 to 7, 0)"; "step kind 3, retire (a the
+-- resource, b 0)" (02, L8), which no run makes
 abbrev pub three : Step → List ℕ
 three (event a r) = 0 ∷ a ∷ r ∷ []
 three (opening p) = 1 ∷ p ∷ 0 ∷ []

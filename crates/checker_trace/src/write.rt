@@ -62,7 +62,7 @@ fn step(trace: &mut [u32], s: Spot, kind: u32, a: u32, b: u32) -> Spot
 // A creation.
 fn create(trace: &mut [u32], s: Spot) -> Spot
     requires { ⌜ stepFields * s .at + stepFields ≤ length (now trace) ⌝ }
-    requires { ⌜ s .next < resources ⌝ }
+    requires { ⌜ s .next + 1 < resources ⌝ }
     ensures { λ r. ⌜ now (trace .exit) ≡ storedStep (now (trace .entry)) (s .at) 0 0 (s .next) ⌝ }
     ensures { λ r. ⌜ r ≡ created s ⌝ }
 {
@@ -91,7 +91,7 @@ fn write_sequence(
     requires { ⌜ length (now nodes) / nodeFields ≤ mostNodes ⌝ }
     requires { ⌜ n ≤ mostShown ⌝ }
     requires { ⌜ stepFields * (s .at + n) ≤ length (now trace) ⌝ }
-    requires { ⌜ s .next + n ≤ resources ⌝ }
+    requires { ⌜ s .next + n < resources ⌝ }
     requires { ⌜ Chosen w (now rows) (now nodes) (now t) e n (some (sequence a b)) c ⌝ }
     requires { ⌜ 1 ≤ n ⌝ }
     ensures { λ r. ⌜ length (now (trace .exit)) ≡ length (now (trace .entry)) ⌝ }
@@ -133,7 +133,7 @@ fn write_fresh(
     requires { ⌜ length (now nodes) / nodeFields ≤ mostNodes ⌝ }
     requires { ⌜ n ≤ mostShown ⌝ }
     requires { ⌜ stepFields * (s .at + n) ≤ length (now trace) ⌝ }
-    requires { ⌜ s .next + n ≤ resources ⌝ }
+    requires { ⌜ s .next + n < resources ⌝ }
     requires { ⌜ Chosen w (now rows) (now nodes) (now t) e n (some (fresh a b)) c ⌝ }
     requires { ⌜ 1 ≤ n ⌝ }
     ensures { λ r. ⌜ length (now (trace .exit)) ≡ length (now (trace .entry)) ⌝ }
@@ -177,7 +177,7 @@ fn write_sandbox(
     requires { ⌜ length (now nodes) / nodeFields ≤ mostNodes ⌝ }
     requires { ⌜ n ≤ mostShown ⌝ }
     requires { ⌜ stepFields * (s .at + n) ≤ length (now trace) ⌝ }
-    requires { ⌜ s .next + n ≤ resources ⌝ }
+    requires { ⌜ s .next + n < resources ⌝ }
     requires { ⌜ Chosen w (now rows) (now nodes) (now t) e n (some (sandbox a b)) c ⌝ }
     requires { ⌜ 1 ≤ n ⌝ }
     ensures { λ r. ⌜ length (now (trace .exit)) ≡ length (now (trace .entry)) ⌝ }
@@ -212,7 +212,7 @@ pub(crate) fn write(
     requires { ⌜ length (now nodes) / nodeFields ≤ mostNodes ⌝ }
     requires { ⌜ n ≤ mostShown ⌝ }
     requires { ⌜ stepFields * (s .at + n) ≤ length (now trace) ⌝ }
-    requires { ⌜ s .next + n ≤ resources ⌝ }
+    requires { ⌜ s .next + n < resources ⌝ }
     ensures { λ r. ⌜ length (now (trace .exit)) ≡ length (now (trace .entry)) ⌝ }
     ensures { λ r. ⌜ WithinSteps s n r ⌝ }
     ensures { λ r. ⌜ Writes w (now (rows .entry)) (now (nodes .entry))

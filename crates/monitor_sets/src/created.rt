@@ -2,8 +2,8 @@
 // its type, so the private functions that are lent one require it.
 use crate::FIRST_CREATED;
 use crate::UNSEEN;
+use usage::LAST_RESOURCE;
 use usage::MOST_CREATED;
-use usage::RESOURCES;
 use usage::STATICS;
 ghost use Prim.Native.Nat.{_-_, _≤_, min};
 ghost use mathlib.Core.Path.{_≡_};
@@ -82,7 +82,7 @@ fn rising_sound(created: &[u32; MOST_CREATED], count: usize) -> bool
     if created[0] < STATICS {
         return false;
     }
-    created[count - 1] < RESOURCES
+    created[count - 1] <= LAST_RESOURCE
 }
 
 // Is every created resource's number a dynamic one, and none of them listed twice? From the last to the first. Numbers with
@@ -99,7 +99,7 @@ fn all_sound(created: &[u32; MOST_CREATED], count: usize) -> bool
         if x < STATICS {
             return false;
         }
-        if RESOURCES <= x {
+        if LAST_RESOURCE < x {
             return false;
         }
         let e = x as usize % ENDINGS;
@@ -142,7 +142,7 @@ pub fn place_of(created: &[u32; MOST_CREATED], count: usize, x: u32) -> usize
     place(created, n, x)
 }
 
-// "42 a state with more than 64 resources, one listed twice or outside 16 to 65,535". It also tells the length of the array.
+// "42 a state with more than 64 resources, one listed twice or outside 16 to" the last. It also tells the length of the array.
 pub fn created_ok(created: &[u32; MOST_CREATED], count: usize) -> bool
     ensures { λ r. ⌜ r ≡ createdOk count (now (created .entry)) ⌝ }
     ensures { λ r. ⌜ length (now (created .entry)) ≡ mostCreated ⌝ }

@@ -23,9 +23,9 @@ first = record { is-dynamic = refl; step = step 0 0 16; inside = List·Memᴰ·h
 second : Occurring two 17
 second = record { is-dynamic = refl; step = step 0 0 17; inside = List·Memᴰ·tail (List·Memᴰ·head refl); names = inl (refl, refl) }
 
--- 16 to 65,535 in the reverse order keeps no order
+-- 16 to 4,294,967,295 in the reverse order keeps no order
 abbrev reversed : ℕ → ℕ
-reversed x = 65551 - x
+reversed x = 4294967311 - x
 
 reverses : Renaming reversed two → ⊥
 reverses R = let l = R .keeps-order 16 17 first second (omega arith) in omega arith
@@ -42,7 +42,7 @@ to-static R = false-true (R .among 16 first)
 retired-occurs : Occurring (step 3 16 0 ∷ []) 16
 retired-occurs = record { is-dynamic = refl; step = step 3 16 0; inside = List·Memᴰ·head refl; names = inr (refl, refl) }
 
--- where 16 alone occurs, only its own number matters: this is a renaming, though it takes 65,535 out of range
+-- where 16 alone occurs, only its own number matters: this is a renaming, though it takes 4,294,967,295 out of range
 abbrev next : ℕ → ℕ
 next x = x + 1
 
@@ -59,16 +59,16 @@ shifts = record {
 }
 
 -- an event's dynamic resource is renamed, a create's too, and in a step that is refused
-event-renamed : renamedStep reversed (step 0 1 16) ≡ step 0 1 65535
+event-renamed : renamedStep reversed (step 0 1 16) ≡ step 0 1 4294967295
 unfolding renamedStep renamed
 event-renamed = refl
 
-create-renamed : renamedStep reversed (step 0 0 65535) ≡ step 0 0 16
+create-renamed : renamedStep reversed (step 0 0 4294967295) ≡ step 0 0 16
 unfolding renamedStep renamed
 create-renamed = refl
 
 -- and a retiring's
-retiring-renamed : renamedStep reversed (step 3 16 0) ≡ step 3 65535 0
+retiring-renamed : renamedStep reversed (step 3 16 0) ≡ step 3 4294967295 0
 unfolding renamedStep renamed
 retiring-renamed = refl
 
@@ -77,7 +77,7 @@ static-stays : renamedStep reversed (step 0 1 15) ≡ step 0 1 15
 unfolding renamedStep renamed
 static-stays = refl
 
-beyond-stays : renamedStep reversed (step 0 1 65536) ≡ step 0 1 65536
+beyond-stays : renamedStep reversed (step 0 1 4294967296) ≡ step 0 1 4294967296
 unfolding renamedStep renamed
 beyond-stays = refl
 

@@ -52,8 +52,9 @@ startState = record {
 abbrev pub live : State → List ℕ
 live s = take (s .count) (s .created)
 
--- "42 a state with more than 64 resources, one listed twice or outside 16 to 65,535"; "42 also refuses an order longer than 64 or one
--- that disagrees with the counts", so no policy is above 64 openings; "42 also refuses a highest number below a live one"
+-- "42 a state with more than 64 resources, one listed twice or outside 16 to" the end of the range, 4,294,967,295 (02, L9); "42 also refuses
+-- an order longer than 64 or one that disagrees with the counts", so no policy is above 64 openings; "42 also refuses a highest number below
+-- a live one"
 unfoldable pub stateOk : State → Bool
 stateOk s = createdOk (s .count) (s .created) && (highestOk (s .highest) (s .count) (s .created) && orderOk (s .depth) (s .order) (s .unclosed))
 

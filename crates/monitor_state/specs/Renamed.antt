@@ -10,7 +10,7 @@ use Rattle.usage.specs.declared.RawStep.{RawStep}
 use Rattle.monitor_state.specs.declared.State.{State}
 use Rattle.monitor_state.specs.Judge.{dynamic, answersOf}
 
--- "kind 0 event (action 0 to 31, resource 0 to 65,535)", "step kind 3, retire (a the resource, b 0)": no other kind names a resource
+-- "kind 0 event (action 0 to 31, resource ..)", "step kind 3, retire (a the resource, b 0)": no other kind names a resource
 abbrev pub eventKind : ℕ
 eventKind = 0
 
@@ -28,8 +28,8 @@ pub record Occurring (raws : List RawStep) (x : ℕ) : Type 0 where
   pub inside : List·Memᴰ step raws
   pub names : Names step x
 
--- "Let the dynamic numbers of a trace be renamed one to one among 16 to 65,535", in their order. It is a function on all numbers, of which
--- only its values at the dynamic numbers that occur matter.
+-- "Let the dynamic numbers of a trace be renamed one to one among 16 to" 4,294,967,295 (02, L9), in their order. It is a function on all
+-- numbers, of which only its values at the dynamic numbers that occur matter.
 pub record Renaming (f : ℕ → ℕ) (raws : List RawStep) : Type 0 where
   pub among : (x : ℕ) → Occurring raws x → dynamic (f x) ≡ true
   pub keeps-order : (x y : ℕ) → Occurring raws x → Occurring raws y → x < y → f x < f y

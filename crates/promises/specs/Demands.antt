@@ -127,8 +127,8 @@ pub record Demand3 : Type 0 where
 
 -- ── Renumbered channels (02, L3, and L8) ──
 
--- "Let the dynamic numbers of a trace be renamed one to one among 16 to 65,535; then every step must get the same answer as before": of
--- renamings that keep the order (02, L8)
+-- "Let the dynamic numbers of a trace be renamed one to one among 16 to" 4,294,967,295 (02, L9); "then every step must get the same answer
+-- as before": of renamings that keep the order (02, L8)
 pub record Renumbered : Type 0 where
   -- "This holds from the judge's start, for traces of any length."
   pub answers : SameAnswers startState

@@ -18,6 +18,7 @@ use Rattle.usage.proofs.ValidLaws.{decides-node}
 use Rattle.usage.proofs.RuledLaws.{decides-shaped}
 use Rattle.sheet_fields.specs.Fields.{nodeLine}
 use Rattle.sheet_bytes.specs.Class.{classOf}
+use Rattle.sheet_bytes.specs.Code.{valueLimit}
 use Rattle.sheet_bytes.specs.Line.{linesOf}
 use Rattle.sheet_bytes.specs.Grammar.{one-space, Values, next-value}
 use Rattle.sheet_bytes.proofs.FaultLaws.{decides-values}
@@ -46,14 +47,14 @@ use Rattle.report.proofs.ExpressionLaws.{node-small, nodes-short}
 abbrev fourBytes : ℕ → ℕ → ℕ → ℕ → List ℕ
 fourBytes n a b c = decimal n ++ (32 ∷ threeBytes a b c)
 
-numbered-line : (n a b c : ℕ) → n < 100000 → a < 100000 → b < 100000 → c < 100000 → (bs : List ℕ)
+numbered-line : (n a b c : ℕ) → n < valueLimit → a < valueLimit → b < valueLimit → c < valueLimit → (bs : List ℕ)
     → linesOf (numberedRow n a b c ++ bs) ≡ fed (fourBytes n a b c) ∷ linesOf bs
 unfolding numberedRow
 numbered-line n a b c hn ha hb hc bs =
     ap linesOf (append-assoc (field n 32) (row a b c) bs)
     ∙ space-line n hn (row a b c ++ bs) (threeBytes a b c) (linesOf bs) (row-line a b c ha hb hc bs)
 
-four-values : (n a b c : ℕ) → n < 100000 → a < 100000 → b < 100000 → c < 100000 → Values (n ∷ a ∷ b ∷ c ∷ []) (fourBytes n a b c)
+four-values : (n a b c : ℕ) → n < valueLimit → a < valueLimit → b < valueLimit → c < valueLimit → Values (n ∷ a ∷ b ∷ c ∷ []) (fourBytes n a b c)
 unfolding classOf
 four-values n a b c hn ha hb hc = next-value (decimal-value n hn) (one-space 32 refl) (three-values a b c ha hb hc)
 

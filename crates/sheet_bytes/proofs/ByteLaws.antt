@@ -1,5 +1,5 @@
 -- Laws of one byte of a line: what the class of a digit says of the byte, and how large a value of so many digits is.
-use Prim.Native.Nat.{ℕ, zero, suc, _+_, _*_, _%_, _^_, _<_, _≤_}
+use Prim.Native.Nat.{ℕ, zero, suc, _+_, _*_, _^_, _<_, _≤_}
 use mathlib.Core.Path.{_≡_, refl}
 use mathlib.Core.Bool.{Bool, true, false, cond}
 use native.Mathlib.Omega.{arith}
@@ -7,9 +7,8 @@ use native.Mathlib.Nat.{pow-suc}
 use native.Mathlib.Numerals.{add-one}
 use lib.Dec.{eqb, ltb}
 use borrow.Author.Tests.{ltb-true, ltb-false}
-use Rattle.usage.specs.Limits.{mostDigits}
 use Rattle.sheet_bytes.specs.Class.{classOf}
-use Rattle.sheet_bytes.specs.Code.{valueLimit, valueRoom}
+use Rattle.sheet_bytes.specs.Code.{safeDigits, valueRoom}
 
 pub digit-byte : (b : ℕ) → classOf b ≡ 0 → (48 ≤ b) × (b < 58)
 unfolding classOf
@@ -50,12 +49,9 @@ ten-le zero n h = ten-pos n
 ten-le (suc d) zero h = absurd (omega arith)
 ten-le (suc d) (suc n) h = let l = ten-le d n (omega arith) in rw (pow-suc 10 d, pow-suc 10 n) (omega arith)
 
--- a value of at most so many digits
-pub few-digits : (d v : ℕ) → d ≤ mostDigits → v < 10 ^ d → v < valueLimit
-few-digits d v h l = let m = ten-le d mostDigits h in omega arith
-
-pub whole-value : (d v : ℕ) → d ≤ mostDigits → v < 10 ^ d → v % valueRoom ≡ v
-whole-value d v h l = let m = few-digits d v h l in omega arith
+-- a value that another digit may follow is one that a field may have
+pub safe-value : (d v : ℕ) → d ≤ safeDigits → v < 10 ^ d → v < valueRoom
+safe-value d v h l = let m = ten-le d safeDigits h in omega arith
 
 -- one more digit
 pub one-more : (v d x : ℕ) → v < 10 ^ d → x < 10 → v * 10 + x < 10 ^ (d + 1)

@@ -2,7 +2,7 @@
 use Prim.Native.Nat.{ℕ, _+_, _-_, _*_, _%_, _^_}
 use mathlib.Core.Bool.{Bool, cond, not, _&&_}
 use lib.Dec.{eqb, ltb}
-use Rattle.usage.specs.Limits.{mostDigits}
+use Rattle.usage.specs.Limits.{mostDigits, resources}
 use Rattle.sheet_bytes.specs.declared.Part.{Part}
 use Rattle.sheet_bytes.specs.declared.Next.{Next}
 use Rattle.sheet_bytes.specs.declared.Next.the-variants.{Goes, Ends, Malformed}
@@ -12,21 +12,28 @@ use Rattle.sheet_bytes.specs.Class.{classOf}
 abbrev pub valueLimit : ℕ
 valueLimit = 10 ^ mostDigits
 
--- and so below this
+-- a value of so many digits is one that a field may have
+abbrev pub safeDigits : ℕ
+safeDigits = mostDigits - 1
+
+-- no field goes beyond the resources: what it may hold is below this
 abbrev pub valueRoom : ℕ
-valueRoom = 4294967296
+valueRoom = resources
 
 -- ── The gravest fault of a line so far ──
 
--- none is 0, and of two the greater is told: the reverse of "11, 12, 2"
+-- none is 0, and of two the greater is told: the reverse of "11, 12, 2", and 3 after it
+abbrev pub ofRange : ℕ
+ofRange = 1
+
 abbrev pub ofForm : ℕ
-ofForm = 1
+ofForm = 2
 
 abbrev pub ofLength : ℕ
-ofLength = 2
+ofLength = 3
 
 abbrev pub ofByte : ℕ
-ofByte = 3
+ofByte = 4
 
 abbrev pub faultNumber : ℕ → ℕ
 faultNumber f = cond (eqb f ofForm) 2 (cond (eqb f ofByte) 11 12)
@@ -37,10 +44,18 @@ withFault p f =
 
 -- ── One more byte ──
 
+-- one more digit makes it this value
+abbrev pub withDigit : Part → ℕ → Part
+withDigit p v = record { count = p .count; digits = p .digits + 1; value = v; fault = p .fault }
+
+-- the last digit that a value may have can take it out of every field's range
+abbrev pub lastDigit : Part → ℕ → Part
+lastDigit p v =
+    cond (ltb (p .digits) mostDigits) (cond (ltb v valueRoom) (withDigit p v) (withFault (withDigit p 0) ofRange)) (withFault p ofLength)
+
 abbrev pub digitStep : Part → ℕ → Part
-digitStep p b = cond (ltb (p .digits) mostDigits)
-    record { count = p .count; digits = p .digits + 1; value = p .value % valueRoom * 10 + (b - 48); fault = p .fault }
-    (withFault p ofLength)
+digitStep p b = cond (ltb (p .digits) safeDigits) (withDigit p (p .value % valueRoom * 10 + (b - 48)))
+    (lastDigit p (p .value % valueRoom * 10 + (b - 48)))
 
 -- a space after the last value of a line of n fields ends the line or parts it from a value too many
 abbrev pub spaceStep : ℕ → Part → Part
@@ -53,8 +68,12 @@ spaceStep n p = cond (eqb (p .digits) 0)
 abbrev pub isComplete : ℕ → Part → Bool
 isComplete n p = not (eqb (p .digits) 0) && eqb (p .count + 1) n
 
+-- a value out of range counts only in a line that is well formed
+abbrev pub faultEnd : ℕ → Part → Next
+faultEnd n p = cond (eqb (p .fault) ofRange) (cond (isComplete n p) (Malformed 3) (Malformed 2)) (Malformed (faultNumber (p .fault)))
+
 abbrev pub endStep : ℕ → Part → Next
-endStep n p = cond (eqb (p .fault) 0) (cond (isComplete n p) Ends (Malformed 2)) (Malformed (faultNumber (p .fault)))
+endStep n p = cond (eqb (p .fault) 0) (cond (isComplete n p) Ends (Malformed 2)) (faultEnd n p)
 
 -- of a byte other than a line feed
 abbrev pub partStep : ℕ → Part → ℕ → Part

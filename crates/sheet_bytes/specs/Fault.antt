@@ -19,7 +19,7 @@ pub record HasOther (bs : List ℕ) : Type 0 where
   pub is-there : List·Memᴰ byte bs
   pub is-other : classOf byte ≡ 3
 
--- "value of more than five digits": a value is a run of digits, wherever it stands in the line
+-- "12 now means more than ten digits" (02, L9): a value is a run of digits, wherever it stands in the line
 pub record HasOverlong (bs : List ℕ) : Type 0 where
   pub front : List ℕ
   pub run : List ℕ

@@ -10,7 +10,7 @@ pub data Digits : ℕ → ℕ → List ℕ → Type 0 where
   no-digit : Digits 0 0 []
   one-more : {n v : ℕ} {bs : List ℕ} (b : ℕ) → classOf b ≡ 0 → Digits n v bs → Digits (n + 1) (v * 10 + (b - 48)) (bs ++ (b ∷ []))
 
--- "Values are 1 to 5 digits, leading zeros allowed"
+-- "Let a value have up to ten digits" (02, L9); "leading zeros allowed"
 pub record Value (v : ℕ) (bs : List ℕ) : Type 0 where
   pub count : ℕ
   pub some-digit : 1 ≤ count

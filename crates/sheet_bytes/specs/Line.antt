@@ -41,7 +41,7 @@ pub record Progress : Type 0 where
 abbrev pub nothing : Progress
 nothing = record { values = []; digits = 0; value = 0 }
 
--- "Values are 1 to 5 digits, leading zeros allowed"
+-- "Let a value have up to ten digits" (02, L9); "leading zeros allowed"
 abbrev pub digit : Progress → ℕ → Option Progress
 digit p b = cond (ltb (p .digits) mostDigits)
     (some record { values = p .values; digits = p .digits + 1; value = p .value * 10 + (b - 48) })

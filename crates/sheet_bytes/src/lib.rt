@@ -1,22 +1,28 @@
-// The values of one line of a sheet, read byte by byte, and what is wrong with it (refusals 11, 12 and 2).
+// The values of one line of a sheet, read byte by byte, and what is wrong with it (refusals 11, 12, 2, and 3 where no field has such a value).
 ghost use mathlib.Core.Path.{_≡_};
 ghost use Rattle.sheet_bytes.specs.Class.{classOf};
-ghost use Rattle.sheet_bytes.specs.Code.{withFault, faultNumber, digitStep, spaceStep, endStep, byteStep};
+ghost use Rattle.sheet_bytes.specs.Code.{withFault, faultNumber, digitStep, lastDigit, spaceStep, isComplete, faultEnd, endStep};
+ghost use Rattle.sheet_bytes.specs.Code.{byteStep};
 
 mod class;
 
-// Document 01: "Values are 1 to 5 digits", as usage's `mostDigits` has it.
-const MOST_DIGITS: usize = 5;
+// 02, L9: "Let a value have up to ten digits", as usage's `mostDigits` has it.
+const MOST_DIGITS: usize = 10;
 
-// Every value of so many digits is below this.
-const VALUES: u64 = 4294967296;
+// A value of so many digits is one that a field may have.
+const SAFE_DIGITS: usize = MOST_DIGITS - 1;
 
-// What may be wrong with a line, the gravest last. 02, L2: "within a line in the order 13, 11, 12, 2".
-const FORM: usize = 1;
+// No field goes beyond the last resource: what it may hold is below this.
+const VALUES: u64 = usage::LAST_RESOURCE as u64 + 1;
 
-const LENGTH: usize = 2;
+// What may be wrong with a line, the gravest last. 02, L2: "within a line in the order 13, 11, 12, 2", and 3 after it.
+const RANGE: usize = 1;
 
-const BYTE: usize = 3;
+const FORM: usize = 2;
+
+const LENGTH: usize = 3;
+
+const BYTE: usize = 4;
 
 // What has been read of a line: how many values before; of the value that is being read how many digits and its number so far; and the
 // gravest fault so far, 0 where there is none.
@@ -27,7 +33,7 @@ pub struct Part {
     pub fault: usize,
 }
 
-// The line goes on, ends with its last value read, or is malformed, with the number of its fault.
+// The line goes on, ends with its last value read, or is refused, with the number of its fault.
 pub enum Next {
     Goes(Part),
     Ends,
@@ -77,19 +83,46 @@ fn number(fault: usize) -> u8
     }
 }
 
-// Document 01: "Values are 1 to 5 digits, leading zeros allowed". The digits after the last that a value may have are not counted. The
-// remainder changes no value of a line; with it no part that a caller makes up overflows.
+// 02, L9: "up to ten digits"; document 01: "leading zeros allowed". The remainder changes no value of a line; with it no part that a caller
+// makes up overflows.
 fn digit(p: Part, b: u8) -> Part
     requires { ⌜ classOf b ≡ 0 ⌝ }
     ensures { λ r. ⌜ r ≡ digitStep p b ⌝ }
 {
-    if MOST_DIGITS <= p.digits {
-        return with_fault(p, LENGTH);
+    let value = p.value % VALUES * 10 + (b as u64 - 48);
+    if SAFE_DIGITS <= p.digits {
+        return last_digit(p, value);
     }
     Part {
         count: p.count,
         digits: p.digits + 1,
-        value: p.value % VALUES * 10 + (b as u64 - 48),
+        value,
+        fault: p.fault,
+    }
+}
+
+// The last digit that a value may have can take it out of every field's range; what is kept of it then does not matter. The digits after
+// that one are not counted.
+fn last_digit(p: Part, value: u64) -> Part
+    ensures { λ r. ⌜ r ≡ lastDigit p value ⌝ }
+{
+    if MOST_DIGITS <= p.digits {
+        return with_fault(p, LENGTH);
+    }
+    let digits = p.digits + 1;
+    if VALUES <= value {
+        let far = Part {
+            count: p.count,
+            digits,
+            value: 0,
+            fault: p.fault,
+        };
+        return with_fault(far, RANGE);
+    }
+    Part {
+        count: p.count,
+        digits,
+        value,
         fault: p.fault,
     }
 }
@@ -125,21 +158,41 @@ fn space(n: usize, p: Part) -> Part
     }
 }
 
+// The last of n values is being read.
+fn is_complete(n: usize, p: Part) -> bool
+    ensures { λ r. ⌜ r ≡ isComplete n p ⌝ }
+{
+    if p.digits == 0 {
+        return false;
+    }
+    if n <= p.count {
+        return false;
+    }
+    p.count + 1 == n
+}
+
+// The end of a line with a fault. A value out of range counts only in a line that is well formed.
+fn faulty(n: usize, p: Part) -> Next
+    ensures { λ r. ⌜ r ≡ faultEnd n p ⌝ }
+{
+    if p.fault != RANGE {
+        return Next::Malformed(number(p.fault));
+    }
+    if is_complete(n, p) {
+        return Next::Malformed(3);
+    }
+    Next::Malformed(2)
+}
+
 // At the line feed the last value must have been read.
 fn end(n: usize, p: Part) -> Next
     ensures { λ r. ⌜ r ≡ endStep n p ⌝ }
 {
     if p.fault != 0 {
-        return Next::Malformed(number(p.fault));
+        return faulty(n, p);
     }
-    if p.digits == 0 {
-        return Next::Malformed(2);
+    if is_complete(n, p) {
+        return Next::Ends;
     }
-    if n <= p.count {
-        return Next::Malformed(2);
-    }
-    if p.count + 1 != n {
-        return Next::Malformed(2);
-    }
-    Next::Ends
+    Next::Malformed(2)
 }

@@ -17,7 +17,7 @@ use Rattle.sheet_fields.specs.declared.Kind.the-variants.{Policies, Trac
 abbrev pub edgeLine : List ℕ → Bool
 edgeLine vs = edgeOk (edgeAt vs 0)
 
--- "`kind a b` ..: kind 0 event (action 0 to 31, resource 0 to 65,535), 1 open (policy 0 to 7, 0), 2 close (policy 0 to 7, 0)"
+-- "`kind a b` ..: kind 0 event (action 0 to 31, resource ..), 1 open (policy 0 to 7, 0), 2 close (policy 0 to 7, 0)", each in its range
 unfoldable pub stepOk : RawStep → Bool
 stepOk s = fits (getElem? stepKinds (s .kind)) (s .a) (s .b)
 

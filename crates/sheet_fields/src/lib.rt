@@ -11,6 +11,7 @@ ghost use Rattle.sheet_fields.specs.Fields.{stepOk, edgeLine, stepLine, 
 ghost use Rattle.sheet_fields.specs.Code.{spansOf, inSpan, inSpans};
 use usage::ACTIONS;
 use usage::EDGE_FIELDS;
+use usage::LAST_RESOURCE;
 use usage::STATICS;
 use usage::STEP_FIELDS;
 
@@ -31,8 +32,6 @@ const NODES: u32 = usage::MOST_NODES as u32;
 const LAST_ACTION: u32 = ACTIONS - 1;
 
 const LAST_STATIC: u32 = STATICS - 1;
-
-const LAST_RESOURCE: u32 = usage::RESOURCES - 1;
 
 const LAST_POLICY: u32 = POLICIES - 1;
 
@@ -122,8 +121,8 @@ fn node_spans(kind: u32) -> Spans
     }
 }
 
-// Document 01: "kind 0 event (action 0 to 31, resource 0 to 65,535), 1 open (policy 0 to 7, 0), 2 close (policy 0 to 7, 0)"; 02, L8: "step
-// kind 3, retire (a the resource, b 0)".
+// Document 01: "kind 0 event (action 0 to 31, resource ..), 1 open (policy 0 to 7, 0), 2 close (policy 0 to 7, 0)"; 02, L8: "step kind 3,
+// retire (a the resource, b 0)"; L9: "a resource go to 4,294,967,295".
 fn step_spans(kind: u32) -> Spans
     ensures { λ r. ⌜ r ≡ spansOf (getElem? stepKinds kind) ⌝ }
 {

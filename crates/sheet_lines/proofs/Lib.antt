@@ -1,5 +1,7 @@
 -- The laws of the definitions in specs/, for the proofs of this crate and of those above it.
 pub mod ScanLaws
+-- Values that no field may have.
+pub mod LargeLaws
 pub mod StepLaws
 pub mod LinesLaws
 pub mod BeginLaws

@@ -27,6 +27,7 @@ use Rattle.sheet_lines.specs.Sheet.{Sheet, Result, accepted, refused, re
 use Rattle.sheet_bytes.specs.Code.{endStep, byteStep}
 use Rattle.sheet_lines.specs.Sheets.{sheetOf}
 use Rattle.sheet_lines.specs.Code.{emptyPart, answerAfter, Held, held, refusing, heldBy, restAfter, heldOnto}
+use Rattle.sheet_lines.proofs.LargeLaws.{Bounded}
 use Rattle.sheet_lines.proofs.ScanLaws.{in-line, starts, cut-off, ends, more}
 use Rattle.sheet_lines.proofs.StepLaws.{Sound, Said, all-well, moved, says, read-end, said-end, ends-well, ends-malformed}
 use Rattle.sheet_lines.proofs.StepLaws.{goes-on, at-feed}
@@ -112,7 +113,7 @@ module _ (s : Sheet) (text : List ℕ) (from : ℕ) (lent buffer : List ℕ) (i 
     room = r;
     size = inv .size;
     begun = inv .begun;
-    sound = record { few = f; small = omega arith; short = omega arith };
+    sound = record { few = f; small = omega arith; short = omega arith; fits = omega arith };
     rest = refl;
     done = [];
     said = all-well refl record { no-other = refl; no-overlong = refl; run = refl } refl;
@@ -202,14 +203,15 @@ module _ (s : Sheet) (text : List ℕ) (from : ℕ) (first buffer : List ℕ) (i
             }
 
     -- the line feed
-    closed : (r : LineRead) → classOf (getD text i 0) ≡ 2 → read-end (s .fields) (before s buffer n p) p ≡ r
+    closed : Bounded s → (r : LineRead) → classOf (getD text i 0) ≡ 2 → read-end (s .fields) (before s buffer n p) p ≡ r
         → heldOnto n (take (n * s .fields) written)
         (entry s (n + 2) r (valueLines s (suc (n + 2)) (s .most - (n + 1)) (linesOf (drop (i + 1) text)))) ≡ whole s (drop from text)
-    closed r e q =
-        rw (done-same, ← q, ← (said-end (s .fields) (before s buffer n p) p (inv .done) len (inv .said)))
+    closed far r e q =
+        let rest = valueLines s (suc (n + 2)) (s .most - (n + 1)) (linesOf (drop (i + 1) text)) in
+        rw (done-same, ← q, ← (said-end s (before s buffer n p) p far (n + 2) rest (inv .done) len (inv .said)))
         (ap (heldOnto n (take (n * s .fields) buffer)) (sym (ends s (n + 2) (s .most - (n + 1)) text i (inv .done) h e)) ∙ inv .same)
 
-    module _ (q : byteStep (s .fields) p (getD text i 0) ≡ Ends) where
+    module _ (far : Bounded s) (q : byteStep (s .fields) p (getD text i 0) ≡ Ends) where
       feed : (classOf (getD text i 0) ≡ 2) × (endStep (s .fields) p ≡ Ends)
       feed = at-feed (s .fields) p (getD text i 0) Ends q (λ q e. clash (cc))
 
@@ -219,7 +221,7 @@ module _ (s : Sheet) (text : List ℕ) (from : ℕ) (first buffer : List ℕ) (i
       ended : heldOnto n (take (n * s .fields) written) (entry s (n + 2) (has-values (take (s .fields) (drop (n * s .fields) written)))
           (valueLines s (suc (n + 2)) (s .most - (n + 1)) (linesOf (drop (i + 1) text)))) ≡ whole s (drop from text)
       ended =
-          closed (has-values (take (s .fields) (drop (n * s .fields) written))) (feed .0)
+          closed far (has-values (take (s .fields) (drop (n * s .fields) written))) (feed .0)
           (ends-well (s .fields) (before s buffer n p) p (feed .1) .0
           ∙ ap has-values (sym cells ∙ ap (λ m. take m (drop (n * s .fields) written)) all-read))
 
@@ -251,12 +253,12 @@ pub record Answers (s : Sheet) (text : List ℕ) (from : ℕ) (lent buffer : Lis
   pub gives : heldBy (s .fields) (answerAfter n number) buffer ≡ whole s (drop from text)
   pub after : restAfter (s .fields) (answerAfter n number) buffer ≡ restAfter (s .fields) (answerAfter n number) lent
 
--- "11 byte that is no digit, space or line feed, 12 value of more than five digits", 2
+-- "11 byte that is no digit, space or line feed", 12, 2, and 3 where no field has such a value
 pub malformed : (s : Sheet) (text : List ℕ) (from : ℕ) (first buffer : List ℕ) (i n : ℕ) (p : Part)
-    → In-line s text from first buffer i n p → n * s .fields + s .fields ≤ mostValues → i < length text
+    → In-line s text from first buffer i n p → n * s .fields + s .fields ≤ mostValues → i < length text → Bounded s
     → (number : ℕ) → byteStep (s .fields) p (getD text i 0) ≡ Malformed number → (lent left : List ℕ)
     → Answers s text from lent left n number
-malformed s text from first buffer i n p inv fits h number q lent left =
+malformed s text from first buffer i n p inv fits h far number q lent left =
     let f = at-feed (s .fields) p (getD text i 0) (Malformed number) q (λ q e. clash (cc)) in
     let m = ends-malformed (s .fields) (before s buffer n p) p number (f .1) in
-    record { gives = rw (m .1) (closed s text from first buffer i n p inv fits h (has-fault number) (f .0) (m .0)); after = rw (m .1) refl }
+    record { gives = rw (m .1) (closed s text from first buffer i n p inv fits h far (has-fault number) (f .0) (m .0)); after = rw (m .1) refl }

@@ -27,7 +27,7 @@ use Rattle.sheet_lines.specs.Sheets.{policySheet, isLocal, outlineSheet}
 use Rattle.sheet_lines.proofs.NamesLaws.{accepted-choice, names-short}
 use Rattle.sheet_lines.proofs.AcceptLaws.{Rows, no-row, row, flat-length}
 use Rattle.sheet_reader.specs.Readers.{ruledResult, ruledRows, policiesInto, outlineInto}
-use Rattle.sheet_reader.proofs.Below.{Below, more-below, edge-below, node-below}
+use Rattle.sheet_fields.proofs.BelowLaws.{Below, more-below, edge-below, node-below}
 use Rattle.sheet_reader.proofs.OutlineLaws.{first}
 use Rattle.sheet_reader.proofs.TableLaws.{ruled-kept}
 use Rattle.sheet_reader.proofs.Written.{written, written-line}

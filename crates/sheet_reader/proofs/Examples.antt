@@ -106,15 +106,15 @@ unfolding traceInto sheet startsWith valueLines linesOf readLine hasOther hasOve
 form-few = refl
 
 -- 12: six digits, wherever they stand, and before 2 and 3
-digits-last : traceInto stepPlaces (bytes "kind a b\n1 0 000000\n") ≡ refuseAt 2 12
+digits-last : traceInto stepPlaces (bytes "kind a b\n1 0 00000000000\n") ≡ refuseAt 2 12
 unfolding traceInto sheet startsWith valueLines linesOf readLine hasOther hasOverlong valuesOf read classOf stepOk
 digits-last = refl
 
-digits-first : traceInto stepPlaces (bytes "kind a b\n000001 0 0\n") ≡ refuseAt 2 12
+digits-first : traceInto stepPlaces (bytes "kind a b\n00000000001 0 0\n") ≡ refuseAt 2 12
 unfolding traceInto sheet startsWith valueLines linesOf readLine hasOther hasOverlong valuesOf read classOf stepOk
 digits-first = refl
 
-digits-before-form : traceInto stepPlaces (bytes "kind a b\n1  000001\n") ≡ refuseAt 2 12
+digits-before-form : traceInto stepPlaces (bytes "kind a b\n1  00000000001\n") ≡ refuseAt 2 12
 unfolding traceInto sheet startsWith valueLines linesOf readLine hasOther hasOverlong valuesOf read classOf stepOk
 digits-before-form = refl
 
@@ -123,11 +123,11 @@ byte-tab : traceInto stepPlaces (bytes "kind a b\n1\t0 0\n") ≡ refuseAt 2 11
 unfolding traceInto sheet startsWith valueLines linesOf readLine hasOther hasOverlong valuesOf read classOf stepOk
 byte-tab = refl
 
-byte-before-digits : traceInto stepPlaces (bytes "kind a b\n1 2x 0000001\n") ≡ refuseAt 2 11
+byte-before-digits : traceInto stepPlaces (bytes "kind a b\n1 2x 000000000001\n") ≡ refuseAt 2 11
 unfolding traceInto sheet startsWith valueLines linesOf readLine hasOther hasOverlong valuesOf read classOf stepOk
 byte-before-digits = refl
 
-byte-after-digits : traceInto stepPlaces (bytes "kind a b\n0000001 x\n") ≡ refuseAt 2 11
+byte-after-digits : traceInto stepPlaces (bytes "kind a b\n000000000001 x\n") ≡ refuseAt 2 11
 unfolding traceInto sheet startsWith valueLines linesOf readLine hasOther hasOverlong valuesOf read classOf stepOk
 byte-after-digits = refl
 
@@ -144,7 +144,7 @@ feed-before-byte : traceInto stepPlaces (bytes "kind a b\n1 0 0\nx") ≡ refuseA
 unfolding traceInto sheet startsWith valueLines linesOf readLine hasOther hasOverlong valuesOf read classOf stepOk
 feed-before-byte = refl
 
-feed-before-digits : traceInto stepPlaces (bytes "kind a b\n1 0 000000") ≡ refuseAt 2 13
+feed-before-digits : traceInto stepPlaces (bytes "kind a b\n1 0 00000000000") ≡ refuseAt 2 13
 unfolding traceInto sheet startsWith valueLines linesOf readLine hasOther hasOverlong valuesOf read classOf stepOk
 feed-before-digits = refl
 
@@ -153,7 +153,7 @@ unfolding traceInto sheet startsWith valueLines linesOf readLine hasOther hasOve
 feed-after-line = refl
 
 -- leading zeros and further spaces are allowed
-zeros : traceInto stepPlaces (bytes "kind a b\n00001  00  0\n") ≡ accepted ((1 ∷ 0 ∷ 0 ∷ []) ∷ [])
+zeros : traceInto stepPlaces (bytes "kind a b\n0000000001  00  0\n") ≡ accepted ((1 ∷ 0 ∷ 0 ∷ []) ∷ [])
 unfolding traceInto sheet startsWith valueLines linesOf readLine hasOther hasOverlong valuesOf read classOf stepOk
 zeros = refl
 
@@ -161,6 +161,21 @@ zeros = refl
 outside : traceInto stepPlaces (bytes "kind a b\n1 0 0\n0 32 0\n0 99999 0\n") ≡ refuseAt 3 3
 unfolding traceInto sheet startsWith valueLines linesOf readLine hasOther hasOverlong valuesOf read classOf stepOk
 outside = refl
+
+-- the last resource, and one more; no value is taken modulo 2 to the 32
+last-resource : traceInto stepPlaces (bytes "kind a b\n0 1 4294967295\n3 4294967295 0\n0 1 4294967296\n")
+    ≡ refuseAt 4 3
+unfolding traceInto sheet startsWith valueLines linesOf readLine hasOther hasOverlong valuesOf read classOf stepOk
+last-resource = refl
+
+no-remainder : traceInto stepPlaces (bytes "kind a b\n4294967297 0 0\n") ≡ refuseAt 2 3
+unfolding traceInto sheet startsWith valueLines linesOf readLine hasOther hasOverlong valuesOf read classOf stepOk
+no-remainder = refl
+
+-- 2 before 3, also where no field has the value
+form-before-range : traceInto stepPlaces (bytes "kind a b\n0 9999999999\n") ≡ refuseAt 2 2
+unfolding traceInto sheet startsWith valueLines linesOf readLine hasOther hasOverlong valuesOf read classOf stepOk
+form-before-range = refl
 
 -- 9, 6, 7 and 8
 no-nodes : outlineInto nodePlaces (bytes "node kind a b\n") ≡ refuseAt 2 9

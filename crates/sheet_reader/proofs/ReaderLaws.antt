@@ -16,7 +16,7 @@ use Rattle.sheet_lines.specs.Sheets.{policySheet, isLocal}
 use Rattle.sheet_lines.specs.Answer.{Answer, count, refusal, answered, mostValues, filled}
 use Rattle.sheet_lines.proofs.AcceptLaws.{Accepted, sheet-accepted, flat-length}
 use Rattle.sheet_reader.specs.Readers.{policiesRead, roomy, has-edges, has-refusal, policiesAnswered, stored}
-use Rattle.sheet_reader.proofs.Below.{Below, below-at, below-append, below-drop, zeros-below}
+use Rattle.sheet_fields.proofs.BelowLaws.{Below, below-at, below-append, below-drop, zeros-below}
 use Rattle.sheet_reader.proofs.StoreLaws.{from-front}
 
 -- what a reader must answer, and leave in a table

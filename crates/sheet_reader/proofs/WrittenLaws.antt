@@ -22,7 +22,7 @@ use Rattle.sheet_lines.specs.Sheets.{policyNames, policySheet}
 use Rattle.sheet_lines.proofs.NamesLaws.{lines-alike}
 use Rattle.sheet_reader.proofs.Written.{digits, written-values, written-line, written}
 use Rattle.sheet_lines.proofs.AcceptLaws.{Rows, no-row, row}
-use Rattle.sheet_reader.proofs.Below.{Below, one-below}
+use Rattle.sheet_fields.proofs.BelowLaws.{Below, one-below}
 use Rattle.sheet_lines.proofs.ScanLaws.{fed}
 
 pub digit-class : (d : ℕ) → d < 10 → classOf (48 + d) ≡ 0

@@ -124,9 +124,19 @@ outerFirst = record {
 abbrev pub noSteps : JudgeCase
 noSteps = record {
   edges = P;
-  steps = step 4 0 0 ∷ step 0 32 0 ∷ step 0 1 65536 ∷ step 1 8 0 ∷ step 1 0 1 ∷ step 2 8 0 ∷ step 2 0 1 ∷ step 3 65536 0 ∷ step 3 16 1
+  steps = step 4 0 0 ∷ step 0 32 0 ∷ step 0 1 4294967296 ∷ step 1 8 0 ∷ step 1 0 1 ∷ step 2 8 0 ∷ step 2 0 1 ∷ step 3 4294967296 0 ∷ step 3 16 1
       ∷ step 2 7 0 ∷ [];
   answers = refused 21 ∷ refused 21 ∷ refused 21 ∷ refused 21 ∷ refused 21 ∷ refused 21 ∷ refused 21 ∷ refused 21 ∷ refused 21 ∷ refused 25 ∷ [];
+}
+
+-- "Let .. a resource go to 4,294,967,295" (02, L9): numbers that agree in their last 16 bits are different resources, and after a create of
+-- the last one every create is 27
+abbrev pub lastResource : JudgeCase
+lastResource = record {
+  edges = P;
+  steps = step 1 0 0 ∷ step 0 0 16 ∷ step 0 1 16 ∷ step 0 0 65552 ∷ step 0 2 16 ∷ step 0 0 4294967295 ∷ step 3 4294967295 0
+      ∷ step 0 0 4294967295 ∷ step 0 0 16 ∷ step 0 0 65553 ∷ step 0 2 65552 ∷ [];
+  answers = allowed ∷ allowed ∷ allowed ∷ allowed ∷ allowed ∷ allowed ∷ allowed ∷ refused 27 ∷ refused 27 ∷ refused 27 ∷ violated 0 ∷ [];
 }
 
 -- ── Retirings (02, L8) ──
@@ -166,4 +176,4 @@ creates66 = record {
 
 abbrev pub casesLimits : List JudgeCase
 casesLimits =
-    creates65 ∷ openings65 ∷ openingsInAll ∷ outerFirst ∷ noSteps ∷ retirings ∷ retiredBreaks ∷ retiredApart ∷ creates66 ∷ []
+    creates65 ∷ openings65 ∷ openingsInAll ∷ outerFirst ∷ noSteps ∷ lastResource ∷ retirings ∷ retiredBreaks ∷ retiredApart ∷ creates66 ∷ []

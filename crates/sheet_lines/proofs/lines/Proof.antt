@@ -1,10 +1,10 @@
-use Rattle.sheet_bytes.proofs.ByteLaws.{few-digits}
 use Rattle.sheet_bytes.specs.declared.Next.the-variants.{Ends}
 use Rattle.sheet_bytes.specs.Code.{byteStep}
 use Rattle.sheet_lines.specs.Answer.{mostValues}
 use Rattle.sheet_lines.specs.Sheets.{sheetOf}
 use Rattle.usage.proofs.Logic.{by-cases}
 use borrow.Author.Tests.{not-true, not-false}
+use Rattle.sheet_lines.proofs.LargeLaws.{bounded}
 use Rattle.sheet_lines.proofs.LinesLaws as laws
 use Rattle.sheet_lines.proofs.LinesLaws.{At-line, In-line, places, few-lines, some-field}
 use native.Mathlib.Omega.{arith}
@@ -87,7 +87,7 @@ cast-buffer : tie.Need-cast-buffer Inv-bytes μ-bytes Inv-lines μ-lines
 cast-buffer c =
     let t = c .before .before .before .bytes in
     let s = t .inv .1 .1 .sound in
-    let v = few-digits (t .p .digits) (t .p .value) (s .short) (s .small) in
+    let v = s .fits in
     search needs
 
 mul-buffer : tie.Need-mul-buffer Inv-bytes μ-bytes Inv-lines μ-lines
@@ -194,7 +194,7 @@ lines-again c =
     rw f at (sym (c .before .before .before .before .before .step .ensures) ∙ c .before .before .before .enum-told .given .1) in (
       t .inv .1 .0,
       rw f (laws.next-line (sheetOf (a .kind)) (a .text .now) (a .from) first (t .buffer) (t .i) n (t .p) inv h
-          (c .before .before .before .before .before .before .before .before .before .if2 .left) e
+          (c .before .before .before .before .before .before .before .before .before .if2 .left) (bounded (a .kind)) e
           (rw f at (sym (c .before .in-range .ensures) ∙ not-false (c .before .in-range .result) (c .if3 .left))) (a .buffer .now)
           (c .before .before .before .before .before .before .before .before .before
           .before .before .before .before .before .lines .inv .1 .rest)),
@@ -252,7 +252,7 @@ answered c =
     let inv = b .inv .1 .1 in
     let h = places (a .kind) n (inv .room) in
     rw (w .14)
-    (laws.malformed s (a .text .now) (a .from) (t .buffer) (b .buffer) (b .i) n (b .p) inv h (w .4 .left) _
+    (laws.malformed s (a .text .now) (a .from) (t .buffer) (b .buffer) (b .i) n (b .p) inv h (w .4 .left) (bounded (a .kind)) _
     (rw f at (sym (w .8 .ensures) ∙ w .10 .given .1)) (a .buffer .now) (c .lines-test .buffer)))
     (λ w.
     let b = w .3 in
@@ -260,7 +260,7 @@ answered c =
     let h = places (a .kind) n (inv .room) in
     rw (w .16) (record {
       gives =
-          laws.outside s (a .text .now) (a .from) (t .buffer) (b .buffer) (b .i) n (b .p) inv h (w .4 .left)
+          laws.outside s (a .text .now) (a .from) (t .buffer) (b .buffer) (b .i) n (b .p) inv h (w .4 .left) (bounded (a .kind))
           (rw f at (sym (w .8 .ensures) ∙ w .10 .given .1)) (rw f at (sym (w .12 .ensures) ∙ not-true (w .12 .result) (w .13 .taken)));
       after =
           refl;

@@ -75,7 +75,7 @@ returns-3 c =
     let a = c .before .before .before .before .before .before .before .before .args in
     let t = c .before .before .before .before .before .before .before .loop in
     sym (sound-again (a .created .now) (a .count) (omega arith) (t .i) (omega arith) (omega arith)
-    (c .before .before .before .before .if1 .left) (c .before .before .before .if2 .left)
+    (c .before .before .before .before .if1 .left) (omega (arith, c .before .before .before .if2 .left))
     (sym (c .before .later .ensures) ∙ c .if4 .taken))
 
 array-write-seen : tie.Need-array-write-seen Inv-loop μ-loop
@@ -93,7 +93,7 @@ loop-again c =
     let t = c .before .before .before .before .before .loop in
     let l = a .created .now in
     let next = sound-next l (a .count) (omega arith) (t .i) (omega arith) (omega arith) (t .inv .1 .0) (c .before .before .if1 .left)
-    (c .before .if2 .left) in
+    (omega (arith, c .before .if2 .left)) in
     let seen = t .inv .1 .1 in (
       search needs,
       (

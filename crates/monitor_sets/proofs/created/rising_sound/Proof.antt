@@ -3,9 +3,9 @@ use Prim.Native.Nat.{ℕ, _-_, _<_, _≤_}
 use mathlib.Core.Bool.{Bool, true, false, _&&_}
 use mathlib.Core.List.{List}
 use mathlib.Core.Path.{_≡_, refl, sym}
-use lib.Dec.{ltb}
+use lib.Dec.{leb}
 use lib.ListN.{length, getD, take}
-use borrow.Author.Tests.{ltb-true, ltb-false}
+use borrow.Author.Tests.{leb-true, leb-false}
 use Rattle.usage.specs.Limits.{statics, resources}
 use Rattle.usage.specs.Tests.{every}
 use Rattle.monitor_sets.specs.Created.{dynamic, distinct}
@@ -18,9 +18,9 @@ use Rattle.monitor_sets.proofs.created.rising_sound.Tie as tie
 
 -- the last number is in range, or it is not
 go : (l : List ℕ) (n : ℕ) (long : n ≤ length l) → 0 < n → rises l (n - 1) ≡ true → statics ≤ getD l 0 0 → (b : Bool)
-    → ltb (getD l (n - 1) 0) resources ≡ b → b ≡ (every dynamic (take n l) && distinct (take n l))
-go l n long h up low true e = sym (rising-sound l n long up low (ltb-true _ _ e))
-go l n long h up low false e = sym (high-unsound l n long (n - 1) (omega arith) (ltb-false _ _ e))
+    → leb (getD l (n - 1) 0) (resources - 1) ≡ b → b ≡ (every dynamic (take n l) && distinct (take n l))
+go l n long h up low true e = sym (rising-sound l n long up low (omega (arith, leb-true (getD l (n - 1) 0) (resources - 1) e)))
+go l n long h up low false e = sym (high-unsound l n long (n - 1) (omega arith) (omega (arith, leb-false (getD l (n - 1) 0) (resources - 1) e)))
 
 returns : tie.Need-returns
 returns c =
@@ -49,7 +49,7 @@ returns-3 c =
     let a = c .before .before .before .before .args in
     let l = a .created .now in
     go l (a .count) (omega arith) (omega arith) (c .before .before .before .before .pre .1 .1) (c .before .if2 .left)
-    (ltb (getD l (a .count - 1) 0) resources) refl
+    (leb (getD l (a .count - 1) 0) (resources - 1)) refl
 
 pub rising-sound-spec : {M : Type 1} → statement M
 rising-sound-spec =
