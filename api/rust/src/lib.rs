@@ -19,6 +19,10 @@
 //! assert_eq!(check(&edges, Past::Local, &nodes), Outcome::Named(0));
 //! ```
 
+mod writer;
+
+pub use writer::{write_policies, SheetRefusal, SHEET_ROOM};
+
 pub const EDGE_BYTES: usize = 6;
 pub const NODE_BYTES: usize = 3;
 
