@@ -128,6 +128,16 @@ size_t wiforekun_read_expression(const uint8_t *text, size_t text_length, uint8_
 #define WIFOREKUN_EXPRESSION_TEXT_ROOM 718
 size_t wiforekun_report_expression(const uint8_t *text, size_t text_length, uint8_t *out, size_t out_length);
 
+/* A policy sheet written again, as there is one way to write it: with its own names line, single spaces, no leading zeros, the edges in
+ * rising order of their six numbers from the left and none twice. `out` gets the sheet, and its length is the answer; bytes after it keep
+ * their contents, and `refusal` is not touched. It has the same edges, so every verdict under it is the same; to write it again changes no
+ * byte; and two sheets with the same names line give equal bytes exactly where they have the same edges.
+ * Where the sheet is refused the answer is 0, which no sheet has, nothing is written to `out`, and `refusal` gets the line, 0 where it is
+ * none, and the number: 40 where `out` is shorter than the room below, else the number of the sheet. */
+#define WIFOREKUN_SHEET_ROOM 32768
+#define WIFOREKUN_REFUSAL_LENGTH 2
+size_t wiforekun_write_policies(const uint8_t *text, size_t text_length, uint8_t *out, size_t out_length, uint64_t *refusal);
+
 #ifdef __cplusplus
 }
 #endif

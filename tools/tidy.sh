@@ -1,4 +1,4 @@
-# shellcheck shell=sh disable=SC2154
+# shellcheck shell=sh disable=SC2034,SC2154
 # The sheet of policies as there is one way to write it: printed, held to what is there, or written back; for ./wiforekun, which reads this
 # file. It has the folder in $folder, what is asked for in $tidy, and its functions.
 

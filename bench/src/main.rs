@@ -15,6 +15,7 @@ mod outlines;
 mod reading;
 mod rules;
 mod shortest;
+mod writing;
 
 use reference::rng::Rng;
 
@@ -42,6 +43,7 @@ fn verify() {
     println!("equal: {judged} judged steps; outlines: {accepted} accepted, {broken} broken, {refused} refused");
     println!("equal: {} refused sheets", reading::verify());
     println!("equal: {} traces", checking::verify_traces(&mut rng));
+    println!("equal: {} policy sheets written again", writing::verify());
 }
 
 fn rows(only: &str) {
@@ -49,6 +51,7 @@ fn rows(only: &str) {
     judging::rows(chosen);
     checking::rows(chosen);
     reading::rows(chosen);
+    writing::rows(chosen);
 }
 
 #[cfg(feature = "count")]

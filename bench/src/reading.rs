@@ -9,12 +9,12 @@ use wiforekun::{print_trace as proved, TRACE_ROOM};
 
 const LONGEST: usize = 32_768;
 const MOST_DIGITS: u32 = 5;
-const EDGE_VALUES: usize = 1_536;
+pub const EDGE_VALUES: usize = 1_536;
 const MOST_VALUES: usize = 6_000;
 
 /// What differs from sheet to sheet. A sheet begins with one of the names lines.
-struct Sheet {
-    names: &'static [&'static [u8]],
+pub struct Sheet {
+    pub names: &'static [&'static [u8]],
     most: usize,
     fields: usize,
     fits: fn(&[u32]) -> bool,
@@ -22,7 +22,7 @@ struct Sheet {
 
 const WHOLE: &[u8] = b"policy from action on who to\n";
 const LOCAL: &[u8] = b"local from action on who to\n";
-const POLICIES: Sheet = Sheet { names: &[WHOLE, LOCAL], most: 256, fields: 6, fits: edge_fits };
+pub const POLICIES: Sheet = Sheet { names: &[WHOLE, LOCAL], most: 256, fields: 6, fits: edge_fits };
 const TRACE: Sheet = Sheet { names: &[b"kind a b\n"], most: 2_000, fields: 3, fits: step_fits };
 
 fn edge_fits(row: &[u32]) -> bool {
@@ -39,7 +39,7 @@ fn step_fits(row: &[u32]) -> bool {
 }
 
 /// A plain program: how many lines are stored in the table, or the refusal's line and number; a refusal leaves the table as it was.
-fn read(text: &[u8], sheet: &Sheet, table: &mut [u32]) -> Result<usize, (usize, u8)> {
+pub fn read(text: &[u8], sheet: &Sheet, table: &mut [u32]) -> Result<usize, (usize, u8)> {
     let mut values = [0; MOST_VALUES];
     if text.len() > LONGEST {
         return Err((0, 5));

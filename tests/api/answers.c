@@ -1,5 +1,5 @@
 /* Single calls of the judge, on arrays that are lent as in guards.c: what each leaves of its state, and what is refused with which number. */
-#include "lend.h"
+#include "lend_state.h"
 
 static const uint32_t event[3] = {0, 1, 2};
 

@@ -2,7 +2,7 @@
  * between two pages that can't be touched: at its end, at its beginning, and inside at the least alignment; the rest of the page is a mark
  * that must stay. Tables that are lent to be read lie at the end of a page that can't be written to. A run beside, on a plain state, must
  * give the same answers and states. */
-#include "lend.h"
+#include "lend_state.h"
 
 #define STEPS 12000
 /* so many steps with openings, then so many without, and so on */

@@ -20,8 +20,10 @@
 //! ```
 
 mod expression;
+mod writer;
 
 pub use expression::{outline_from_expression, print_expression, read_expression_code, Refusal, EXPRESSION_TEXT_ROOM, NODES_ROOM};
+pub use writer::{write_policies, SheetRefusal, SHEET_ROOM};
 
 pub const EDGE_BYTES: usize = 6;
 pub const NODE_BYTES: usize = 3;

@@ -4,7 +4,7 @@
 pub const SHEET_ROOM: usize = 32_768;
 
 /// The numbers that tell a refusal: its line and its number.
-const REFUSAL_NUMBERS: usize = 2;
+const REFUSAL_LENGTH: usize = 2;
 
 // Nothing but tests/api checks this declaration against the proved code, so it stands here alone.
 extern "C" {
@@ -13,7 +13,7 @@ extern "C" {
         text_length: usize,
         out: *mut u8,
         out_length: usize,
-        refusal: *mut [u64; REFUSAL_NUMBERS],
+        refusal: *mut [u64; REFUSAL_LENGTH],
     ) -> usize;
 }
 
@@ -35,7 +35,7 @@ pub struct SheetRefusal {
 /// assert_eq!(&out[..length], b"policy from action on who to\n0 0 2 1 0 6\n0 0 10 1 0 1\n");
 /// ```
 pub fn write_policies(sheet: &[u8], out: &mut [u8]) -> Result<usize, SheetRefusal> {
-    let mut refusal = [0; REFUSAL_NUMBERS];
+    let mut refusal = [0; REFUSAL_LENGTH];
     // SAFETY: both slices are valid for their lengths and do not overlap, `refusal` is the array that the function expects; it keeps none.
     let length =
         unsafe { wiforekun_write_policies(sheet.as_ptr(), sheet.len(), out.as_mut_ptr(), out.len(), &mut refusal) };

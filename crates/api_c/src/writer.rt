@@ -6,7 +6,7 @@ ghost use Rattle.api_c.specs.Writing.{lengthIn, toldIn};
 use sheet_writer::Writing;
 
 // How many numbers tell a refusal: its line and its number.
-const REFUSAL: usize = 2;
+const REFUSAL_LENGTH: usize = 2;
 
 // The sheet of policies in `text` is written to `out`: its length; or 0 where the sheet is refused, with the refusal's line and number told
 // in `refusal`, and nothing written.
@@ -14,7 +14,7 @@ const REFUSAL: usize = 2;
 pub extern "C" fn wiforekun_write_policies(
     text: &[u8],
     out: &mut [u8],
-    refusal: &mut [u64; REFUSAL],
+    refusal: &mut [u64; REFUSAL_LENGTH],
 ) -> usize
     ensures { λ r. ⌜ r ≡ lengthIn (writtenInto (length (now (out .entry))) (now (text .entry))) ⌝ }
     ensures { λ r. ⌜ now (out .exit) ≡ rewrittenIn (writtenInto (length (now (out .entry))) (now (text .entry))) (now (out .entry)) ⌝ }

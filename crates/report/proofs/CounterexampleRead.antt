@@ -27,7 +27,7 @@ use Rattle.checker.specs.declared.counterexample.Explanation.{Explanation}
 use Rattle.checker.specs.Accepted.{rawOf}
 use Rattle.checker.specs.Explained.{Explained, stepsWritten}
 use Rattle.report_lines.specs.Decimal.{decimal}
-use Rattle.report_lines.specs.Lines.{field, row, traceNamesLine}
+use Rattle.report_lines.specs.Lines.{field, three, row, traceNamesLine}
 use Rattle.sheet_writer.proofs.FieldLaws.{decimal-value, space-line, feed-line}
 use Rattle.report.specs.Counterexample.{
   noSteps,
@@ -50,7 +50,7 @@ threeBytes a b c = decimal a ++ (32 ∷ (decimal b ++ (32 ∷ decimal c)))
 
 pub row-line : (a b c : ℕ) → a < valueLimit → b < valueLimit → c < valueLimit → (bs : List ℕ)
     → linesOf (row a b c ++ bs) ≡ fed (threeBytes a b c) ∷ linesOf bs
-unfolding row
+unfolding row three
 row-line a b c ha hb hc bs =
     ap linesOf (append-assoc (field a 32) (field b 32 ++ field c 10) bs)
     ∙ space-line a ha ((field b 32 ++ field c 10) ++ bs) (decimal b ++ (32 ∷ decimal c)) (linesOf bs)

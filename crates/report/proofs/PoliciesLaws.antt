@@ -1,5 +1,6 @@
 -- What is printed of a policy sheet, by what its writer answers and writes.
-use Prim.Native.Nat.{ℕ, _≤_}
+use Prim.Native.Nat.{ℕ, _+_, _≤_}
+use native.Mathlib.Omega.{arith}
 use mathlib.Core.Path.{_≡_, refl, ap, _∙_}
 use mathlib.Core.List.{List, _++_}
 use lib.ListN.{length}
@@ -7,13 +8,19 @@ use borrow.Author.Tests.{le-ltb}
 use Rattle.usage.specs.Limits.{longestSheet}
 use Rattle.usage.specs.Answers.{Refusal}
 use Rattle.usage.proofs.Logic.{clash}
-use Rattle.report_lines.specs.Lines.{namesLine, row}
+use Rattle.report_lines.specs.Lines.{namesLine, namesRoom, row}
 use Rattle.sheet_writer.specs.Writer.{Rewriting, is-written, not-written, writtenAgain, writtenInto, has-length, has-none}
 use Rattle.sheet_writer.specs.Writer.{rewritingAnswer, rewrittenIn}
-use Rattle.sheet_writer.proofs.WriterLaws.{within}
+use Rattle.sheet_writer.proofs.WriterLaws.{within, one-way}
 use Rattle.report.specs.Output.{fronted, lengthPut, put}
 use Rattle.report.specs.Policies.{rewritingPrinted, policiesPrinted, policiesRoom}
-use Rattle.report.proofs.OutputLaws.{Printed}
+use Rattle.report.proofs.OutputLaws.{Printed, policies-short}
+
+refusal-is : (w : Rewriting) (line number : ℕ) → has-none record { line = line; number = number } ≡ rewritingAnswer w
+    → w ≡ not-written record { line = line; number = number }
+unfolding rewritingAnswer
+refusal-is (is-written t) line number e = clash (cc)
+refusal-is (not-written r) line number e = cc
 
 module _ (out : List ℕ) (room : policiesRoom ≤ length out) where
   all-put : (output : List ℕ) → Printed policiesRoom out output (length output) (fronted out output)
@@ -50,10 +57,14 @@ module _ (out : List ℕ) (room : policiesRoom ≤ length out) where
         let same : kept ≡ out = k ∙ ap (λ (v : Rewriting). rewrittenIn v out) w ∙ z .1 in
         rw (er, eo, same, z .0) (all-put (namesLine ++ row line 3 number))
 
-    -- so its length stays
-    pub refusal-length : {kept : List ℕ} (line number : ℕ)
+    -- so its length stays, and the line is that of a sheet that reading refuses
+    pub refusal-fits : {kept : List ℕ} (line number : ℕ)
         → has-none record { line = line; number = number } ≡ rewritingAnswer (writtenInto (length out) text)
-        → kept ≡ rewrittenIn (writtenInto (length out) text) out → length kept ≡ length out
-    refusal-length line number e k =
+        → kept ≡ rewrittenIn (writtenInto (length out) text) out → namesRoom + length (row line 3 number) ≤ length kept
+    refusal-fits {kept} line number e k =
         let w = within text out room in
-        ap length (k ∙ ap (λ (v : Rewriting). rewrittenIn v out) w ∙ refusal-put (writtenAgain text) line number (e ∙ ap rewritingAnswer w) .1)
+        let told = e ∙ ap rewritingAnswer w in
+        let same : length kept ≡ length out =
+        ap length (k ∙ ap (λ (v : Rewriting). rewrittenIn v out) w ∙ refusal-put (writtenAgain text) line number told .1) in
+        let short = policies-short text line number (one-way .refuses text record { line = line; number = number } .0 (refusal-is (writtenAgain text) line number told)) in
+        omega arith

@@ -10,7 +10,7 @@ const MARK: u8 = 0xa5;
 
 /// How many sheets were written, how many refused, and how many bytes were written in all.
 #[derive(Default)]
-pub struct Tally {
+struct Tally {
     written: usize,
     refused: usize,
     bytes: usize,
@@ -29,9 +29,9 @@ fn expected(sheet: &[u8], room: usize) -> (Result<usize, Refusal>, Vec<u8>) {
 
 impl Tally {
     /// One sheet: with room enough, with a byte less, and written a second time.
-    pub fn compare(&mut self, sheet: &[u8]) -> Result<(), String> {
+    fn compare(&mut self, sheet: &[u8]) -> Result<(), String> {
         let (told, out) = proved(sheet, LONGEST + 3);
-        if (told, &out) != (expected(sheet, LONGEST + 3).0, &expected(sheet, LONGEST + 3).1) {
+        if (told, out.clone()) != expected(sheet, LONGEST + 3) {
             return Err(differs("written otherwise", sheet, told, &out));
         }
         let (short, kept) = proved(sheet, LONGEST - 1);
@@ -51,23 +51,18 @@ impl Tally {
         Ok(())
     }
 
-    /// Sheets from a seed, and the policies of other cases.
-    pub fn each(&mut self, seed: u64, most: usize) -> Result<(), String> {
-        let mut rng = Rng::new(seed);
-        for _ in 0..most {
-            self.compare(&rewritings::random_case(&mut rng))?;
-        }
-        Ok(())
-    }
+}
 
-    pub fn fixed(&mut self) -> Result<(), String> {
-        rewritings::fixed_cases().iter().try_for_each(|sheet| self.compare(sheet))
+/// The fixed sheets and as many random ones as told, compared: what came of it, or the first difference.
+pub fn compared(seed: u64, count: usize) -> Result<String, String> {
+    let mut tally = Tally::default();
+    let mut rng = Rng::new(seed);
+    rewritings::fixed_cases().iter().try_for_each(|sheet| tally.compare(sheet))?;
+    for _ in 0..count {
+        tally.compare(&rewritings::random_case(&mut rng))?;
     }
-
-    pub fn told(&self) -> String {
-        let Tally { written, refused, bytes } = self;
-        format!("{written} policy sheets written again, with {bytes} bytes, and {refused} refused")
-    }
+    let Tally { written, refused, bytes } = tally;
+    Ok(format!("{written} policy sheets written again, with {bytes} bytes, and {refused} refused"))
 }
 
 fn differs(what: &str, sheet: &[u8], told: Result<usize, Refusal>, out: &[u8]) -> String {

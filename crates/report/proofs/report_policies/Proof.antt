@@ -1,50 +1,55 @@
-use native.Mathlib.Omega.{arith}
-use mathlib.Core.Path.{_≡_, refl, sym, ap, _∙_}
-use Prim.Native.Nat.{ℕ, suc, _+_, _-_, _≤_, _<_}
-use lib.ListN.{length, getD, take, drop, set}
+use denote.Ref.{now}
+use Rattle.report.specs.Policies.{policiesPrinted, policiesRoom}
+use Rattle.report.proofs.OutputLaws.{no-room}
+use Rattle.report.proofs.PoliciesLaws.{sheet-printed, refusal-printed, refusal-fits}
 use borrow.Author.Needs.{needs}
 use Rattle.report.proofs.report_policies.Statement.{statement}
 use Rattle.report.proofs.report_policies.Tie as tie
-use Rattle.report.proofs.report_policies.Reads as reads
-use Rattle.report.proofs.report_policies.Lts as lts
-use Rattle.report.proofs.counterexample.refused.Reads as refused-reads
-use Rattle.sheet_writer.proofs.write_policies.Reads as write-policies-reads
 
--- src/lib.rt:129:9
 returns : tie.Need-returns
-returns c = search needs
+returns c =
+    let a = c .before .before .before .args in
+    no-room policiesRoom (now (a .out)) (policiesPrinted (now (a .policies))) (c .if1 .taken)
 
--- src/lib.rt:131:9
 write-policies-requires : tie.Need-write-policies-requires
 write-policies-requires c κs = search needs
 
--- src/lib.rt:133:26
 enum-known-w : tie.Need-enum-known-w
 enum-known-w c = search needs
 
--- src/lib.rt:134:28
 enum-known-w-2 : tie.Need-enum-known-w-2
 enum-known-w-2 c = search needs
 
--- src/lib.rt:134:46
 refused-requires : tie.Need-refused-requires
-refused-requires c κs = search needs
+refused-requires c κs =
+    let a = c .before .before .before .before .before .before .before .before .before .before .before .args in
+    let w = c .before .before .before .before .before .before .write-policies in
+    let g = c .before .before .w2 .given in
+    let room = c .before .before .before .before .before .before .before .before .if1 .left in
+    refusal-fits (now (a .out)) room (now (a .policies)) (g .0 .0) (g .0 .1 .0) (rw (g .1) at (w .ensures .0)) (w .ensures .1)
 
--- src/lib.rt:124:1
 same-length : tie.Need-same-length
 same-length c = search needs
 
--- src/lib.rt:124:1
 returns-2 : tie.Need-returns-2
-returns-2 c = search needs
+returns-2 c =
+    let a = c .before .before .before .before .before .before .before .before .before .before .args in
+    let w = c .before .before .before .before .before .write-policies .ensures in
+    let g = c .before .w .given in
+    let room = c .before .before .before .before .before .before .before .if1 .left in
+    sheet-printed (now (a .out)) room (now (a .policies)) (g .0 .0) (rw (g .1) at (w .0)) (w .1)
 
--- src/lib.rt:124:1
 same-length-2 : tie.Need-same-length-2
 same-length-2 c = search needs
 
--- src/lib.rt:124:1
 returns-3 : tie.Need-returns-3
-returns-3 c = search needs
+returns-3 c =
+    let a = c .before .before .before .before .before .before .before .before .before .before .before .before .before .before .args in
+    let w = c .before .before .before .before .before .before .before .before .before .write-policies .ensures in
+    let g = c .before .before .before .before .before .w2 .given in
+    let room = c .before .before .before .before .before .before .before .before .before .before .before .if1 .left in
+    let r = c .before .before .refused .ensures in
+    refusal-printed (now (a .out)) room (now (a .policies)) (g .0 .0) (g .0 .1 .0) (rw (g .1) at (w .0)) (w .1) (r .0) (r .1)
 
 pub report-policies-spec : {M : Type 1} → statement M
 report-policies-spec =
