@@ -1,12 +1,10 @@
 /* The monitor and the checker for programs in C: the functions that the proved code exports.
  *
- *   rt staticlib api_c    proves and writes target/staticlib/libapi_c.a: judge_parts, check_tables, check_counterexample
- *   rt staticlib report   proves and writes target/staticlib/libreport.a: report_trace, report_outline,
- *                         report_counterexample
+ *   rt staticlib api_c    proves all functions and writes them to target/staticlib/libapi_c.a
  *   cc -Iapi program.c target/staticlib/libapi_c.a
  *
  * They are for x86-64. No function keeps anything between calls, allocates, reads or writes anything but what it is lent, or has a case
- * in which it does not return. They may be called from several threads, each with a state of its own.
+ * in which it does not return. The archive needs memcpy and memset of who links it. They may be called from several threads, each with a state of its own.
  *
  * Asked of every call, and not tested: a pointer is not null and points to as many elements as is told, also where that is 0; it has its
  * type's alignment; and an array that is lent to be changed overlaps no other.
@@ -17,7 +15,6 @@
 
 #include <stddef.h>
 #include <stdint.h>
-#include <string.h>
 
 #ifdef __cplusplus
 extern "C" {
@@ -58,15 +55,16 @@ struct wiforekun_state {
                                                   * `order`; the highest number that was created, live or retired, or 0 */
 };
 
-/* The start: each instance in state 0 (the set with bit 0 alone), and so each policy; nothing created, nothing open, not halted. */
+/* The start, whatever the arrays held: each instance in state 0 (the set with bit 0 alone), and so each policy; nothing created, nothing
+ * open, not halted. */
+void wiforekun_start_parts(uint8_t *sets, uint8_t *possible, uint32_t *created, uint8_t *unclosed, uint8_t *order, uint64_t *numbers);
+
 static inline void wiforekun_start(struct wiforekun_state *state) {
-    memset(state, 0, sizeof *state);
-    memset(state->sets, 1, sizeof state->sets);
-    memset(state->possible, 1, sizeof state->possible);
+    wiforekun_start_parts(state->sets, state->possible, state->created, state->unclosed, state->order, state->numbers);
 }
 
 /* An answer: 0 allowed or accepted, 1 violated or refused with a policy, 2 refused with a number. Its detail: 0, the policy or the
- * number. Of check_counterexample also the length of what was written, in steps. */
+ * number. Of wiforekun_counterexample also the length of what was written, in steps. */
 #define WIFOREKUN_LENGTH(code) ((code) / 65536u)
 #define WIFOREKUN_ANSWER(code) ((code) / 256u % 256u)
 #define WIFOREKUN_DETAIL(code) ((code) % 256u)
@@ -78,19 +76,23 @@ static inline void wiforekun_start(struct wiforekun_state *state) {
  * with an entry above 7, or with some policy in it another number of times than `unclosed` tells; or a halted flag other than 0 and 1. A
  * state that passes but was never reached is judged by the sets that it holds: an event by `sets`, from which it gathers `possible`
  * anew; an opening, a closing or a retiring by `possible` as it is, that of a policy which goes back to state 0 aside. Elements of
- * `created` from the count on, and of `order` from its length on, are not looked at. */
-uint32_t judge_parts(const uint8_t *edges, size_t edges_length, uint32_t local, uint8_t *sets, uint8_t *possible, uint32_t *created,
-                     uint8_t *unclosed, uint8_t *order, uint64_t *numbers, uint32_t kind, uint32_t a, uint32_t b);
+ * `created` from the count on, and of `order` from its length on, are not looked at.
+ * Of each policy `sets` has 82 places in turn: the static resources, one that never occurs, the retired ones in one set, and the live ones in
+ * the order of `created`. A retiring joins the resource's set to that of the retired; the live ones behind it move up by one place, in
+ * `created` and in `sets`, and the last place keeps what it held. */
+uint32_t wiforekun_judge_parts(const uint8_t *edges, size_t edges_length, uint32_t local, uint8_t *sets, uint8_t *possible,
+                               uint32_t *created, uint8_t *unclosed, uint8_t *order, uint64_t *numbers, uint32_t kind, uint32_t a,
+                               uint32_t b);
 
 static inline uint32_t wiforekun_judge(struct wiforekun_state *state, const uint8_t *edges, size_t edges_length, uint32_t local,
                                        uint32_t kind, uint32_t a, uint32_t b) {
-    return judge_parts(edges, edges_length, local, state->sets, state->possible, state->created, state->unclosed, state->order,
-                       state->numbers, kind, a, b);
+    return wiforekun_judge_parts(edges, edges_length, local, state->sets, state->possible, state->created, state->unclosed,
+                                 state->order, state->numbers, kind, a, b);
 }
 
 /* The check of a table of nodes under a table of edges (lengths in bytes). 41 where no accepted sheet gives one of the tables, or `local` is
  * neither. */
-uint32_t check_tables(const uint8_t *edges, size_t edges_length, uint32_t local, const uint8_t *nodes, size_t nodes_length);
+uint32_t wiforekun_check(const uint8_t *edges, size_t edges_length, uint32_t local, const uint8_t *nodes, size_t nodes_length);
 
 /* The same check, with a counterexample. Where it names a policy and a trace of at most 200 steps leaves that policy open and not respected,
  * a shortest such trace is written to `trace`: three numbers for each step (kind, a, b), the oldest step first, fresh resources numbered 16,
@@ -100,20 +102,20 @@ uint32_t check_tables(const uint8_t *edges, size_t edges_length, uint32_t local,
  * `trace_length` is in numbers, not in bytes. 40 where it is below the room, before 41. */
 #define WIFOREKUN_STEP_NUMBERS 3
 #define WIFOREKUN_COUNTEREXAMPLE_ROOM 600
-uint32_t check_counterexample(const uint8_t *edges, size_t edges_length, uint32_t local, const uint8_t *nodes, size_t nodes_length,
-                              uint32_t *trace, size_t trace_length);
+uint32_t wiforekun_counterexample(const uint8_t *edges, size_t edges_length, uint32_t local, const uint8_t *nodes, size_t nodes_length,
+                                  uint32_t *trace, size_t trace_length);
 
 /* What the programs print, from the bytes of the sheets: the text is written to `out`, and its length is the answer. Bytes after it
  * keep their contents. Where `out` is shorter than the room below, nothing is written and the answer is 0. */
 #define WIFOREKUN_TRACE_ROOM 20019
 #define WIFOREKUN_OUTLINE_ROOM 28
 #define WIFOREKUN_COUNTEREXAMPLE_TEXT_ROOM 1809
-size_t report_trace(const uint8_t *policies, size_t policies_length, const uint8_t *trace, size_t trace_length, uint8_t *out,
-                    size_t out_length);
-size_t report_outline(const uint8_t *policies, size_t policies_length, const uint8_t *outline, size_t outline_length, uint8_t *out,
-                      size_t out_length);
-size_t report_counterexample(const uint8_t *policies, size_t policies_length, const uint8_t *outline, size_t outline_length, uint8_t *out,
-                             size_t out_length);
+size_t wiforekun_report_trace(const uint8_t *policies, size_t policies_length, const uint8_t *trace, size_t trace_length, uint8_t *out,
+                              size_t out_length);
+size_t wiforekun_report_outline(const uint8_t *policies, size_t policies_length, const uint8_t *outline, size_t outline_length,
+                                uint8_t *out, size_t out_length);
+size_t wiforekun_report_counterexample(const uint8_t *policies, size_t policies_length, const uint8_t *outline, size_t outline_length,
+                                       uint8_t *out, size_t out_length);
 
 #ifdef __cplusplus
 }

@@ -107,6 +107,32 @@ static void refused_with(uint32_t number, const char *what, const struct wiforek
     }
 }
 
+/* A retiring: its states join those of the retired, its place is closed up, and its number is gone. */
+static void retiring(enum place place) {
+    static const uint8_t edges[] = {0, 0, 1, 1, 0, 1};
+    static const uint32_t steps[][3] = {{0, 0, 16}, {0, 0, 20}, {0, 1, 16}, {3, 16, 0}};
+    static const uint32_t again[3] = {0, 0, 16}, below[3] = {0, 0, 19}, use[3] = {0, 1, 16}, twice[3] = {3, 16, 0}, fixed[3] = {3, 3, 0};
+    struct wiforekun_state plain;
+    wiforekun_start(&plain);
+    struct lent table = lend_to_read(edges, sizeof edges);
+    struct parts parts = lend_state(&plain, place);
+    for (size_t i = 0; i < 4; i++) REQUIRE(judge(&parts, table, steps[i]) == 0);
+    plain.sets[17] = 3; /* the retired ones: state 0, as at the start, and state 1 */
+    plain.possible[0] = 3;
+    plain.created[0] = plain.created[1] = 20;
+    plain.numbers[0] = 1;
+    plain.numbers[3] = 20;
+    REQUIRE(same(&parts, &plain));
+    REQUIRE(judge(&parts, table, again) == 512 + 27);
+    REQUIRE(judge(&parts, table, below) == 512 + 27);
+    REQUIRE(judge(&parts, table, use) == 512 + 24);
+    REQUIRE(judge(&parts, table, twice) == 512 + 28);
+    REQUIRE(judge(&parts, table, fixed) == 512 + 28);
+    REQUIRE(same(&parts, &plain));
+    give_state_back(&parts);
+    REQUIRE(munmap(table.ground - page, 3 * page) == 0);
+}
+
 /* Orders of openings that are refused with 42, and stay as they are. */
 static void orders(void) {
     static const uint8_t edges[] = {0, 0, 1, 1, 0, 1};
@@ -156,12 +182,20 @@ static void refusals(void) {
     refused_with(42, "the highest count", &state, edges, sizeof edges, event);
     state.numbers[0] = 2;
     state.created[0] = state.created[1] = 20;
+    state.numbers[3] = UINT32_MAX;
     refused_with(42, "a resource created twice", &state, edges, sizeof edges, event);
     state.created[1] = 15;
     refused_with(42, "a static resource created", &state, edges, sizeof edges, event);
     state.created[1] = 65536;
-    refused_with(42, "a resource above the highest", &state, edges, sizeof edges, event);
+    refused_with(42, "a resource above the range", &state, edges, sizeof edges, event);
     state.created[1] = 21;
+    state.numbers[3] = 20;
+    refused_with(42, "a highest number below a live one", &state, edges, sizeof edges, event);
+    state.numbers[3] = (uint64_t)UINT32_MAX + 1;
+    refused_with(42, "a highest number of more than 32 bits", &state, edges, sizeof edges, event);
+    state.numbers[3] = UINT64_MAX;
+    refused_with(42, "the highest highest number", &state, edges, sizeof edges, event);
+    state.numbers[3] = 21;
     state.numbers[1] = 1;
     refused_with(20, "a halted state", &state, edges, sizeof edges, event);
     state.numbers[1] = 2;
@@ -175,6 +209,7 @@ int main(void) {
     for (enum place place = END; place < PLACES; place++) {
         violation(place);
         beyond_the_order(place);
+        retiring(place);
         either_past(place, WIFOREKUN_WHOLE, 256);
         either_past(place, WIFOREKUN_LOCAL, 0);
     }

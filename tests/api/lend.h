@@ -86,8 +86,9 @@ static int same(const struct parts *parts, const struct wiforekun_state *state) 
 }
 
 static uint32_t judge_under(const struct parts *parts, struct lent edges, uint32_t local, const uint32_t step[3]) {
-    return judge_parts(edges.bytes, edges.size, local, parts->sets.bytes, parts->possible.bytes, (uint32_t *)parts->created.bytes,
-                       parts->unclosed.bytes, parts->order.bytes, (uint64_t *)parts->numbers.bytes, step[0], step[1], step[2]);
+    return wiforekun_judge_parts(edges.bytes, edges.size, local, parts->sets.bytes, parts->possible.bytes,
+                                 (uint32_t *)parts->created.bytes, parts->unclosed.bytes, parts->order.bytes,
+                                 (uint64_t *)parts->numbers.bytes, step[0], step[1], step[2]);
 }
 
 static void give_state_back(const struct parts *parts) {

@@ -9,7 +9,7 @@
 //!
 //! // read (2) only what was taken (1)
 //! let edges = [0, 0, 1, 1, 0, 1, 0, 0, 2, 1, 0, 6];
-//! let mut state = State::START;
+//! let mut state = State::start();
 //! assert_eq!(state.judge(&edges, Past::Whole, [1, 0, 0]), Answer::Allowed);
 //! assert_eq!(state.judge(&edges, Past::Whole, [0, 2, 3]), Answer::Violated(0));
 //! assert_eq!(state.judge(&edges, Past::Whole, [0, 1, 3]), Answer::Refused(20));
@@ -41,7 +41,15 @@ pub const COUNTEREXAMPLE_TEXT_ROOM: usize = 1_809;
 
 // Nothing but tests/api checks these declarations against the proved code, so they stand here alone.
 extern "C" {
-    fn judge_parts(
+    fn wiforekun_start_parts(
+        sets: *mut [u8; SETS_LENGTH],
+        possible: *mut [u8; POSSIBLE_LENGTH],
+        created: *mut [u32; CREATED_LENGTH],
+        unclosed: *mut [u8; UNCLOSED_LENGTH],
+        order: *mut [u8; ORDER_LENGTH],
+        numbers: *mut [u64; NUMBERS_LENGTH],
+    );
+    fn wiforekun_judge_parts(
         edges: *const u8,
         edges_length: usize,
         local: u32,
@@ -55,8 +63,8 @@ extern "C" {
         a: u32,
         b: u32,
     ) -> u32;
-    fn check_tables(edges: *const u8, edges_length: usize, local: u32, nodes: *const u8, nodes_length: usize) -> u32;
-    fn check_counterexample(
+    fn wiforekun_check(edges: *const u8, edges_length: usize, local: u32, nodes: *const u8, nodes_length: usize) -> u32;
+    fn wiforekun_counterexample(
         edges: *const u8,
         edges_length: usize,
         local: u32,
@@ -65,11 +73,7 @@ extern "C" {
         trace: *mut u32,
         trace_length: usize,
     ) -> u32;
-}
-
-#[cfg(feature = "report")]
-extern "C" {
-    fn report_trace(
+    fn wiforekun_report_trace(
         policies: *const u8,
         policies_length: usize,
         trace: *const u8,
@@ -77,7 +81,7 @@ extern "C" {
         out: *mut u8,
         out_length: usize,
     ) -> usize;
-    fn report_outline(
+    fn wiforekun_report_outline(
         policies: *const u8,
         policies_length: usize,
         outline: *const u8,
@@ -85,7 +89,7 @@ extern "C" {
         out: *mut u8,
         out_length: usize,
     ) -> usize;
-    fn report_counterexample(
+    fn wiforekun_report_counterexample(
         policies: *const u8,
         policies_length: usize,
         outline: *const u8,
@@ -159,8 +163,8 @@ pub enum Explained {
 pub struct State {
     /// The states that each instance may be in, as bits.
     pub sets: [u8; SETS_LENGTH],
-    /// For each policy the states that any of its instances may be in, as bits: what each event gathers anew, and what openings and closings
-    /// are judged by.
+    /// For each policy the states that any of its instances may be in, as bits: what each event gathers anew, and what openings, closings
+    /// and retirings are judged by.
     pub possible: [u8; POSSIBLE_LENGTH],
     /// The live dynamic resources, in the order of their creation.
     pub created: [u32; CREATED_LENGTH],
@@ -175,14 +179,20 @@ pub struct State {
 
 impl State {
     /// Each instance in state 0, nothing created, nothing open.
-    pub const START: State = State {
-        sets: [1; SETS_LENGTH],
-        possible: [1; POSSIBLE_LENGTH],
-        created: [0; CREATED_LENGTH],
-        unclosed: [0; UNCLOSED_LENGTH],
-        order: [0; ORDER_LENGTH],
-        numbers: [0; NUMBERS_LENGTH],
-    };
+    pub fn start() -> State {
+        let mut state = State {
+            sets: [0; SETS_LENGTH],
+            possible: [0; POSSIBLE_LENGTH],
+            created: [0; CREATED_LENGTH],
+            unclosed: [0; UNCLOSED_LENGTH],
+            order: [0; ORDER_LENGTH],
+            numbers: [0; NUMBERS_LENGTH],
+        };
+        let State { sets, possible, created, unclosed, order, numbers } = &mut state;
+        // sound: exclusive references to arrays of the declared lengths
+        unsafe { wiforekun_start_parts(sets, possible, created, unclosed, order, numbers) };
+        state
+    }
 
     /// One step (kind, a, b). The state after it is the new one where it is allowed, halted where it is violated, and unchanged where it is
     /// refused.
@@ -201,7 +211,15 @@ impl State {
     pub fn judge_code(&mut self, edges: &[u8], local: u32, [kind, a, b]: [u32; 3]) -> u32 {
         let State { sets, possible, created, unclosed, order, numbers } = self;
         // sound: slices and exclusive references to arrays of the declared lengths; the proved code keeps to these
-        unsafe { judge_parts(edges.as_ptr(), edges.len(), local, sets, possible, created, unclosed, order, numbers, kind, a, b) }
+        unsafe {
+            wiforekun_judge_parts(edges.as_ptr(), edges.len(), local, sets, possible, created, unclosed, order, numbers, kind, a, b)
+        }
+    }
+}
+
+impl Default for State {
+    fn default() -> State {
+        State::start()
     }
 }
 
@@ -223,7 +241,7 @@ pub fn check(edges: &[u8], past: Past, nodes: &[u8]) -> Outcome {
 #[inline]
 pub fn check_code(edges: &[u8], local: u32, nodes: &[u8]) -> u32 {
     // sound: two slices to read
-    unsafe { check_tables(edges.as_ptr(), edges.len(), local, nodes.as_ptr(), nodes.len()) }
+    unsafe { wiforekun_check(edges.as_ptr(), edges.len(), local, nodes.as_ptr(), nodes.len()) }
 }
 
 /// The check of a table of nodes under a table of edges, with a shortest counterexample.
@@ -248,27 +266,32 @@ pub fn explain(edges: &[u8], past: Past, nodes: &[u8]) -> Explained {
 #[inline]
 pub fn explain_code(edges: &[u8], local: u32, nodes: &[u8], trace: &mut [u32]) -> u32 {
     // sound: two slices to read and one to write
-    unsafe { check_counterexample(edges.as_ptr(), edges.len(), local, nodes.as_ptr(), nodes.len(), trace.as_mut_ptr(), trace.len()) }
+    unsafe {
+        wiforekun_counterexample(edges.as_ptr(), edges.len(), local, nodes.as_ptr(), nodes.len(), trace.as_mut_ptr(), trace.len())
+    }
 }
 
 /// What the first program prints for these sheets, put into `out`: its length, or 0 where `out` is shorter than [`TRACE_ROOM`].
-#[cfg(feature = "report")]
 pub fn print_trace(policies: &[u8], trace: &[u8], out: &mut [u8]) -> usize {
     // sound: two slices to read and one to write
-    unsafe { report_trace(policies.as_ptr(), policies.len(), trace.as_ptr(), trace.len(), out.as_mut_ptr(), out.len()) }
+    unsafe {
+        wiforekun_report_trace(policies.as_ptr(), policies.len(), trace.as_ptr(), trace.len(), out.as_mut_ptr(), out.len())
+    }
 }
 
 /// What the second program prints for these sheets, put into `out`: its length, or 0 where `out` is shorter than [`OUTLINE_ROOM`].
-#[cfg(feature = "report")]
 pub fn print_outline(policies: &[u8], outline: &[u8], out: &mut [u8]) -> usize {
     // sound: two slices to read and one to write
-    unsafe { report_outline(policies.as_ptr(), policies.len(), outline.as_ptr(), outline.len(), out.as_mut_ptr(), out.len()) }
+    unsafe {
+        wiforekun_report_outline(policies.as_ptr(), policies.len(), outline.as_ptr(), outline.len(), out.as_mut_ptr(), out.len())
+    }
 }
 
 /// What the third program prints for these sheets, a counterexample as a trace sheet, put into `out`: its length, or 0 where `out` is
 /// shorter than [`COUNTEREXAMPLE_TEXT_ROOM`].
-#[cfg(feature = "report")]
 pub fn print_counterexample(policies: &[u8], outline: &[u8], out: &mut [u8]) -> usize {
     // sound: two slices to read and one to write
-    unsafe { report_counterexample(policies.as_ptr(), policies.len(), outline.as_ptr(), outline.len(), out.as_mut_ptr(), out.len()) }
+    unsafe {
+        wiforekun_report_counterexample(policies.as_ptr(), policies.len(), outline.as_ptr(), outline.len(), out.as_mut_ptr(), out.len())
+    }
 }

@@ -6,7 +6,7 @@ use wiforekun::{check, check_code, Answer, Outcome, Past, State};
 const P: [u8; 18] = [0, 0, 1, 1, 0, 1, 0, 1, 3, 1, 0, 0, 0, 0, 2, 1, 0, 6];
 
 fn answers(edges: &[u8], past: Past, steps: &[[u32; 3]]) -> Vec<Answer> {
-    let mut state = State::START;
+    let mut state = State::start();
     steps.iter().map(|step| state.judge(edges, past, *step)).collect()
 }
 
@@ -38,7 +38,7 @@ fn the_past_before_the_opening() {
 fn an_opening_puts_its_policy_back() {
     // take moves policies 0 and 1; opening 0 puts the instances of 0 back, of every resource, and leaves those of 1
     let edges = [0, 0, 1, 1, 0, 1, 0, 0, 1, 2, 0, 2, 1, 0, 1, 1, 0, 1];
-    let mut state = State::START;
+    let mut state = State::start();
     for step in [[0, 0, 16], [0, 1, 16], [0, 0, 17]] {
         assert_eq!(state.judge(&edges, Past::Local, step), Answer::Allowed);
     }
@@ -46,7 +46,7 @@ fn an_opening_puts_its_policy_back() {
     let before = state.clone();
     assert_eq!(state.judge(&edges, Past::Local, [1, 0, 0]), Answer::Allowed);
     assert_eq!(state.possible, [1, 0b11, 1, 1, 1, 1, 1, 1]);
-    assert_eq!((state.created, state.numbers), (before.created, [2, 0, 1]));
+    assert_eq!((state.created, state.numbers), (before.created, [2, 0, 1, 17]));
     // an event after it finds 0 in state 0 everywhere, and 1 where it was
     assert_eq!(state.judge(&edges, Past::Local, [0, 2, 3]), Answer::Allowed);
     assert_eq!(state.possible, [1, 0b11, 1, 1, 1, 1, 1, 1]);
@@ -54,25 +54,35 @@ fn an_opening_puts_its_policy_back() {
 
 #[test]
 fn a_past_that_is_neither() {
-    let mut state = State::START;
+    let mut state = State::start();
     for local in [2, 255, 256, u32::MAX] {
         assert_eq!(state.judge_code(&P, local, [1, 0, 0]), 512 + 41);
         assert_eq!(check_code(&P, local, &[8, 0, 1, 1, 2, 3]), 512 + 41);
     }
-    assert!(state == State::START);
+    assert!(state == State::start());
     // 41 comes before 42 and before all else
-    state.numbers = [65, 2, 65];
+    state.numbers = [65, 2, 65, 0];
     assert_eq!(state.judge_code(&P, 2, [9, 9, 9]), 512 + 41);
     assert_eq!((Past::Whole.number(), Past::Local.number()), (0, 1));
 }
 
 #[test]
 fn a_refused_step_changes_nothing() {
-    let mut state = State::START;
+    let mut state = State::start();
     assert_eq!(state.judge(&P, Past::Whole, [0, 0, 16]), Answer::Allowed);
     assert_eq!(state.judge(&P, Past::Whole, [0, 1, 3]), Answer::Allowed);
     let before = state.clone();
-    for (step, number) in [([3, 0, 0], 21), ([0, 0, 15], 22), ([0, 0, 16], 23), ([0, 1, 17], 24), ([2, 0, 0], 25)] {
+    for (step, number) in [
+        ([4, 0, 0], 21),
+        ([3, 16, 1], 21),
+        ([3, 65_536, 0], 21),
+        ([0, 0, 15], 22),
+        ([0, 0, 16], 27),
+        ([3, 3, 0], 28),
+        ([3, 17, 0], 28),
+        ([0, 1, 17], 24),
+        ([2, 0, 0], 25),
+    ] {
         assert_eq!(state.judge(&P, Past::Whole, step), Answer::Refused(number));
         assert!(state == before, "the state after refusal {number}");
     }
@@ -81,8 +91,73 @@ fn a_refused_step_changes_nothing() {
 }
 
 #[test]
+fn the_start() {
+    let start = State::start();
+    assert_eq!((start.sets, start.possible, start.created), ([1; 656], [1; 8], [0; 64]));
+    assert_eq!((start.unclosed, start.order, start.numbers), ([0; 8], [0; 64], [0; 4]));
+    assert_eq!(State::default(), start);
+}
+
+#[test]
+fn a_retired_resource() {
+    use Answer::{Allowed, Refused, Violated};
+    let mut state = State::start();
+    for step in [[0, 0, 16], [0, 0, 20], [0, 0, 30], [3, 20, 0]] {
+        assert_eq!(state.judge(&P, Past::Whole, step), Allowed);
+    }
+    assert_eq!((&state.created[..3], state.numbers), (&[16, 30, 30][..], [2, 0, 0, 30]));
+    // its number is gone for good, and so is every lower one
+    for (step, number) in [([0, 0, 20], 27), ([0, 0, 17], 27), ([0, 0, 30], 27), ([0, 1, 20], 24), ([3, 20, 0], 28), ([3, 15, 0], 28)] {
+        assert_eq!(state.judge(&P, Past::Whole, step), Refused(number));
+    }
+    assert_eq!(state.judge(&P, Past::Whole, [0, 0, 31]), Allowed);
+    // its instance may still break a policy: use of another (4) after its own (1)
+    let later = [0, 0, 1, 1, 0, 1, 0, 1, 4, 2, 0, 6];
+    assert_eq!(answers(&later, Past::Whole, &[[1, 0, 0], [0, 0, 16], [0, 1, 16], [3, 16, 0], [0, 4, 3]])[3..], [Allowed, Violated(0)]);
+    // which a first opening of a policy that sees only its sandbox forgets
+    let before = [[0, 0, 16], [0, 1, 16], [3, 16, 0], [1, 0, 0], [0, 4, 3]];
+    assert_eq!(answers(&later, Past::Whole, &before)[4], Violated(0));
+    assert_eq!(answers(&later, Past::Local, &before)[4], Allowed);
+}
+
+#[test]
+fn sixty_four_live_ones() {
+    let mut state = State::start();
+    for number in 16..80 {
+        assert_eq!(state.judge(&P, Past::Whole, [0, 0, number]), Answer::Allowed);
+    }
+    for number in 80..300 {
+        assert_eq!(state.judge(&P, Past::Whole, [0, 0, number]), Answer::Refused(30));
+        assert_eq!(state.judge(&P, Past::Whole, [3, number - 64, 0]), Answer::Allowed);
+        assert_eq!(state.judge(&P, Past::Whole, [0, 0, number]), Answer::Allowed);
+    }
+    assert_eq!((state.numbers, state.created[0], state.created[63]), ([64, 0, 0, 299], 236, 299));
+}
+
+#[test]
+fn a_highest_number() {
+    let mut two = State { numbers: [2, 0, 0, 40], ..State::start() };
+    two.created[..2].copy_from_slice(&[40, 16]);
+    for (highest, answer) in [
+        (40, Answer::Allowed),
+        (u64::from(u32::MAX), Answer::Allowed),
+        (39, Answer::Refused(42)),
+        (0, Answer::Refused(42)),
+        (1 << 32, Answer::Refused(42)),
+        ((1 << 32) + 40, Answer::Refused(42)),
+    ] {
+        two.numbers[3] = highest;
+        assert_eq!(two.clone().judge(&P, Past::Whole, [0, 1, 3]), answer, "{highest}");
+    }
+    // with nothing live any number of 32 bits passes
+    let none = State { numbers: [0, 0, 0, u64::from(u32::MAX)], ..two };
+    assert_eq!(none.clone().judge(&P, Past::Whole, [0, 1, 3]), Answer::Allowed);
+    assert_eq!(none.clone().judge(&P, Past::Whole, [0, 0, 65_535]), Answer::Refused(27));
+}
+
+#[test]
 fn a_violation_halts_and_changes_nothing_else() {
-    let mut state = State::START;
+    let mut state = State::start();
     assert_eq!(state.judge(&P, Past::Whole, [1, 0, 0]), Answer::Allowed);
     let mut halted = state.clone();
     halted.numbers[1] = 1;
@@ -92,7 +167,7 @@ fn a_violation_halts_and_changes_nothing_else() {
 
 #[test]
 fn sandboxes_close_inside_out() {
-    let mut state = State::START;
+    let mut state = State::start();
     for step in [[1, 0, 0], [1, 3, 0], [1, 0, 0], [1, 5, 0]] {
         assert_eq!(state.judge(&P, Past::Whole, step), Answer::Allowed);
     }
@@ -105,13 +180,13 @@ fn sandboxes_close_inside_out() {
     for step in [[2, 5, 0], [2, 0, 0], [2, 3, 0], [2, 0, 0]] {
         assert_eq!(state.judge(&P, Past::Whole, step), Answer::Allowed);
     }
-    assert_eq!((state.numbers, state.unclosed), ([0; 3], [0; 8]));
+    assert_eq!((state.numbers, state.unclosed), ([0; 4], [0; 8]));
     assert_eq!(state.judge(&P, Past::Whole, [2, 0, 0]), Answer::Refused(25));
 }
 
 #[test]
 fn sixty_four_openings_in_all() {
-    let mut state = State::START;
+    let mut state = State::start();
     for place in 0..64 {
         assert_eq!(state.judge(&P, Past::Whole, [1, place % 8, 0]), Answer::Allowed);
     }
@@ -126,14 +201,14 @@ fn sixty_four_openings_in_all() {
 
 #[test]
 fn an_order_that_disagrees() {
-    let open = State { unclosed: [1, 0, 0, 0, 0, 0, 0, 0], numbers: [0, 0, 1], ..State::START };
+    let open = State { unclosed: [1, 0, 0, 0, 0, 0, 0, 0], numbers: [0, 0, 1, 0], ..State::start() };
     assert_eq!(open.clone().judge(&P, Past::Whole, [2, 0, 0]), Answer::Allowed);
     let mut wrong = vec![open.clone(); 4];
     wrong[0].order[0] = 1;
     wrong[1].order[0] = 8;
     wrong[2].numbers[2] = 2;
     wrong[3].unclosed[0] = 2;
-    wrong.push(State { numbers: [0, 0, 65], ..State::START });
+    wrong.push(State { numbers: [0, 0, 65, 0], ..State::start() });
     for state in wrong {
         let mut judged = state.clone();
         assert_eq!(judged.judge(&P, Past::Whole, [0, 1, 3]), Answer::Refused(42));
@@ -153,7 +228,6 @@ fn outlines() {
     assert_eq!((check(&P, Past::Whole, &early_take), check(&P, Past::Local, &early_take)), (Outcome::Accepted, Outcome::Named(0)));
 }
 
-#[cfg(feature = "report")]
 #[test]
 fn printed() {
     let policies = b"policy from action on who to\n0 0 1 1 0 1\n0 1 3 1 0 0\n0 0 2 1 0 6\n";

@@ -1,5 +1,4 @@
 //! Counterexamples, on outlines whose shortest ones are worked by hand.
-#![cfg(counterexample)]
 
 use wiforekun::{check_code, explain, explain_code, Explained, Past, COUNTEREXAMPLE_ROOM};
 

@@ -3,12 +3,12 @@ use Prim.Native.Nat.{ℕ, _<_, _≤_}
 use mathlib.Core.Path.{_≡_, refl, sym, ap, _∙_}
 use mathlib.Core.Bool.{Bool, true, false, not, _&&_, cond}
 use mathlib.Core.List.{List, [], _∷_}
-use borrow.Author.Tests.{le-leb, lt-leb}
+use borrow.Author.Tests.{le-leb, lt-leb, leb-true}
 use lib.Dec.{leb}
 use Rattle.usage.specs.declared.RawStep.{RawStep}
 use Rattle.usage.specs.Answers.{refused}
 use Rattle.usage.specs.Tables.{edgeTable}
-use Rattle.usage.proofs.Logic.{clash, false-true}
+use Rattle.usage.proofs.Logic.{clash, false-true, and-right}
 use Rattle.monitor_state.specs.declared.State.{State}
 use Rattle.monitor_state.specs.declared.Answer.{Answer}
 use Rattle.monitor_state.specs.declared.Answer.the-variants.{Allowed, Violated, Refused}
@@ -50,6 +50,11 @@ refusal-keeps edges choice p raw n =
     judged : Answered
     judged = answeredIn p (judgeOf edges (choiceOf choice) (heldIn p) raw .answer) (judgeOf edges (choiceOf choice) (heldIn p) raw .state)
 
+pub answered-verdict : (p : Parts) (a : Answer) (s : State) → answeredIn p a s .verdict ≡ verdictOf a
+answered-verdict p Allowed s = refl
+answered-verdict p (Violated q) s = refl
+answered-verdict p (Refused n) s = refl
+
 -- ── Whether the arrays hold a state ──
 
 -- a flag that is none
@@ -61,6 +66,11 @@ flag-above p h = simp (lt-leb (flag p) 1 h)
 pub highest-above : (p : Parts) → flag p ≤ 1 → mostNumber < highestIn p → isHeld p ≡ false
 unfolding isHeld
 highest-above p f h = simp (le-leb (flag p) 1 f) (lt-leb (highestIn p) mostNumber h)
+
+-- and the highest number of arrays that hold one
+pub held-highest : (p : Parts) → isHeld p ≡ true → highestIn p ≤ mostNumber
+unfolding isHeld
+held-highest p h = leb-true (highestIn p) mostNumber (and-right (leb (flag p) 1) (leb (highestIn p) mostNumber) h)
 
 pub is-held : (p : Parts) → flag p ≤ 1 → highestIn p ≤ mostNumber → isHeld p ≡ true
 unfolding isHeld
@@ -85,7 +95,7 @@ module _ (edges : List ℕ) (choice : ℕ) (p : Parts) (raw : RawStep) where
       go false r = refl
 
   -- else the answer is the judge's, 41 too
-  held-judged : choice ≤ 1 → isHeld p ≡ true
+  pub held-judged : choice ≤ 1 → isHeld p ≡ true
       → judgeParts edges choice p raw
       ≡ answeredIn p (judgeOf edges (choiceOf choice) (heldIn p) raw .answer) (judgeOf edges (choiceOf choice) (heldIn p) raw .state)
   unfolding judgeParts refuse
@@ -106,15 +116,10 @@ module _ (edges : List ℕ) (choice : ℕ) (p : Parts) (raw : RawStep) where
       (is : judgementOf t sets possible created unclosed order ≡ judgeOf edges (choiceOf choice) (heldIn p) raw) where
     pub told-verdict : verdictOf (t .answer) ≡ judgeParts edges choice p raw .verdict
     told-verdict =
-        sym (same (t .answer) (judgeOf edges (choiceOf choice) (heldIn p) raw .state))
+        sym (answered-verdict p (t .answer) (judgeOf edges (choiceOf choice) (heldIn p) raw .state))
         ∙ ap (λ (a : Answer). answeredIn p a (judgeOf edges (choiceOf choice) (heldIn p) raw .state) .verdict)
         (ap (λ (j : Judgement). j .answer) is)
         ∙ sym (ap (λ (r : Answered). r .verdict) (held-judged c h))
-      where
-        same : (a : Answer) (s : State) → answeredIn p a s .verdict ≡ verdictOf a
-        same Allowed s = refl
-        same (Violated q) s = refl
-        same (Refused n) s = refl
 
     left : {q : Parts} → q ≡ answeredIn p (t .answer) (judgementOf t sets possible created unclosed order .state) .parts
         → q ≡ judgeParts edges choice p raw .parts

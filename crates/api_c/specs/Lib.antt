@@ -1,5 +1,6 @@
 pub mod Choice
 pub mod Codes
 pub mod Parts
+pub mod Past
 pub mod Check
 pub mod Code

@@ -19,7 +19,11 @@ ghost use Rattle.checker.specs.Promise.{outcomeVerdict};
 ghost use Rattle.api_c.specs.Codes.{codeOf, explanationCode};
 ghost use Rattle.api_c.specs.Parts.{partsOf, judgeParts};
 ghost use Rattle.api_c.specs.Code.{isRefusal};
+ghost use Rattle.api_c.specs.Past.{KeepsIn};
 ghost use Rattle.api_c.specs.Check.{Answers, Explains};
+
+pub mod print;
+pub mod start;
 
 // document 01's two numbers for an answer, as 256 * answer + detail
 fn code(a: Answer) -> u32
@@ -74,7 +78,7 @@ const MOST_NUMBER: u64 = 4294967295;
 // where the state is halted and 0 where it is not, how many openings are not closed, and the highest number that was created. All of them
 // then hold the state that the judge returns; after a refusal they are as they were lent.
 #[no_mangle]
-pub extern "C" fn judge_parts(
+pub extern "C" fn wiforekun_judge_parts(
     edges: &[u8],
     local: u32,
     sets: &mut [u8; SETS],
@@ -100,6 +104,13 @@ pub extern "C" fn judge_parts(
         (partsOf (now (sets .entry)) (now (possible .entry)) (now (created .entry)) (now (unclosed .entry))
         (now (order .entry)) (now (numbers .entry)))
         (record { kind = kind; a = a; b = b }) .parts ⌝ }
+    ensures { λ r.
+        ⌜ KeepsIn (now (edges .entry)) local
+        (partsOf (now (sets .entry)) (now (possible .entry)) (now (created .entry)) (now (unclosed .entry))
+        (now (order .entry)) (now (numbers .entry)))
+        (record { kind = kind; a = a; b = b }) r
+        (partsOf (now (sets .exit)) (now (possible .exit)) (now (created .exit))
+        (now (unclosed .exit)) (now (order .exit)) (now (numbers .exit))) ⌝ }
 {
     let count = numbers[0] as usize;
     let flag = numbers[1];
@@ -152,7 +163,7 @@ fn outcome_code(o: Outcome) -> u32
 
 // The check of an outline, as a flat table of nodes, under a flat table of edges and the choice of past `local`.
 #[no_mangle]
-pub extern "C" fn check_tables(edges: &[u8], local: u32, nodes: &[u8]) -> u32
+pub extern "C" fn wiforekun_check(edges: &[u8], local: u32, nodes: &[u8]) -> u32
     ensures { λ r. ⌜ Answers local (now (edges .entry)) (now (nodes .entry)) r ⌝ }
 {
     if MOST_CHOICE < local {
@@ -176,9 +187,9 @@ fn explanation_code(e: Explanation) -> u32
 
 // The check of an outline, and where it names a policy a shortest trace that leaves that policy open and not respected: three numbers to
 // a step, the oldest first. Answers 65536 times the number of steps written, which is 0 where none are, and document 01's two numbers as
-// `check_tables` does. The table needs room for 200 steps, 600 numbers (else 40); what comes after the trace is left as it was.
+// `wiforekun_check` does. The table needs room for 200 steps, 600 numbers (else 40); what comes after the trace is left as it was.
 #[no_mangle]
-pub extern "C" fn check_counterexample(
+pub extern "C" fn wiforekun_counterexample(
     edges: &[u8],
     local: u32,
     nodes: &[u8],

@@ -40,8 +40,7 @@ pub const OUTLINE_ROOM: usize = NAMES + LONGEST_OUTLINE_ROW;
 pub const COUNTEREXAMPLE_ROOM: usize = TRACE_NAMES + MOST_SHOWN * LONGEST_SHOWN_ROW;
 
 // What the first program prints, from the bytes of `policies.txt` and `trace.txt`: its length, and 0 where `out` lacks the room.
-#[no_mangle]
-pub extern "C" fn report_trace(policies: &[u8], trace: &[u8], out: &mut [u8]) -> usize
+pub fn report_trace(policies: &[u8], trace: &[u8], out: &mut [u8]) -> usize
     ensures { λ r. ⌜ r ≡ lengthPut traceRoom (now (out .entry)) (tracePrinted (now (policies .entry)) (now (trace .entry))) ⌝ }
     ensures { λ r. ⌜ now (out .exit) ≡ Output·put traceRoom (now (out .entry))
         (tracePrinted (now (policies .entry)) (now (trace .entry))) ⌝ }
@@ -64,8 +63,7 @@ pub extern "C" fn report_trace(policies: &[u8], trace: &[u8], out: &mut [u8]) ->
 
 // What the second program prints, from the bytes of `policies.txt` and `outline.txt`: its length, and 0 where `out` lacks the room.
 // It is told by whichever verdict is right; where anything is printed, one is.
-#[no_mangle]
-pub extern "C" fn report_outline(policies: &[u8], outline: &[u8], out: &mut [u8]) -> usize
+pub fn report_outline(policies: &[u8], outline: &[u8], out: &mut [u8]) -> usize
     ensures { λ r. ⌜ ((v : Verdict) → RightTexts (now (policies .entry)) (now (outline .entry)) v
         → r ≡ lengthPut outlineRoom (now (out .entry)) (outlinePrinted (now (policies .entry)) (now (outline .entry)) v)) ⌝ }
     ensures { λ r. ⌜ ((v : Verdict) → RightTexts (now (policies .entry)) (now (outline .entry)) v
@@ -91,8 +89,7 @@ pub extern "C" fn report_outline(policies: &[u8], outline: &[u8], out: &mut [u8]
 
 // What the third program prints, from the bytes of `policies.txt` and `outline.txt`: a shortest counterexample as a trace sheet. Its
 // length, and 0 where `out` lacks the room.
-#[no_mangle]
-pub extern "C" fn report_counterexample(policies: &[u8], outline: &[u8], out: &mut [u8]) -> usize
+pub fn report_counterexample(policies: &[u8], outline: &[u8], out: &mut [u8]) -> usize
     ensures { λ r. ⌜ (length (now (out .entry)) < counterexampleRoom → (r ≡ 0) × (now (out .exit) ≡ now (out .entry))) ⌝ }
     ensures { λ r. ⌜ (counterexampleRoom ≤ length (now (out .entry)) → Prints
         (RightExplanation (now (policies .entry)) (now (outline .entry)))

@@ -62,12 +62,15 @@ fn table_calls() -> u64
     print::line(30, code_of(sheet_reader::read_outline(b"", &mut few_nodes)));
     print::line(
         31,
-        api_c::check_tables(&[0u8; EDGE_FIELDS], 0, &[0u8; NODE_FIELDS]),
+        api_c::wiforekun_check(&[0u8; EDGE_FIELDS], 0, &[0u8; NODE_FIELDS]),
     );
-    print::line(32, api_c::check_tables(&[0u8; 5], 0, &[0u8; NODE_FIELDS]));
+    print::line(
+        32,
+        api_c::wiforekun_check(&[0u8; 5], 0, &[0u8; NODE_FIELDS]),
+    );
     print::line(
         33,
-        api_c::check_tables(&[0u8; EDGE_FIELDS], 0, &[9u8; NODE_FIELDS]),
+        api_c::wiforekun_check(&[0u8; EDGE_FIELDS], 0, &[9u8; NODE_FIELDS]),
     );
     34
 }

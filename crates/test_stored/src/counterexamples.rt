@@ -77,7 +77,7 @@ fn follow(
         let a = trace[STEP_FIELDS * i + 1];
         let b = trace[STEP_FIELDS * i + 2];
         if is_judged(kind, a, alone, p) {
-            let code = api_c::judge_parts(
+            let code = api_c::wiforekun_judge_parts(
                 edges,
                 local,
                 &mut sets,
@@ -147,7 +147,7 @@ fn explained(n: u64, edges: &[u8], local: u32, nodes: &[u8]) -> u64
     ensures { λ r. ⌜ r ≡ n ⌝ }
 {
     let mut trace = [0u32; MOST_NUMBERS];
-    let code = api_c::check_counterexample(edges, local, nodes, &mut trace);
+    let code = api_c::wiforekun_counterexample(edges, local, nodes, &mut trace);
     let steps = (code / 65536) as usize;
     print::number(code as u64 / 256 % 256, b" ");
     print::number(code as u64 % 256, b" ");

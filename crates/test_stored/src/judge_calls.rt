@@ -54,7 +54,7 @@ fn judged(to: u8, count: u64, flag: u64, first: u32, second: u32, kind: u32, a: 
     let mut order = [0u8; MOST_UNCLOSED];
     let highest = second as u64;
     let mut numbers = [count, flag, 0, highest];
-    let code = api_c::judge_parts(
+    let code = api_c::wiforekun_judge_parts(
         &edges,
         0,
         &mut sets,
@@ -92,7 +92,7 @@ fn judged_kept(kept: u8, set: u8, kind: u32, a: u32, b: u32) -> u32
     unclosed[0] = 2;
     let mut order = [0u8; MOST_UNCLOSED];
     let mut numbers = [0u64, 0, 2, 0];
-    api_c::judge_parts(
+    api_c::wiforekun_judge_parts(
         &edges,
         0,
         &mut sets,

@@ -116,7 +116,7 @@ fn judged(local: u32, s: Lent, kind: u32, a: u32, b: u32) -> Left
     let mut unclosed = s.unclosed;
     let mut order = s.order;
     let mut numbers = s.numbers;
-    let code = api_c::judge_parts(
+    let code = api_c::wiforekun_judge_parts(
         &edges,
         local,
         &mut sets,

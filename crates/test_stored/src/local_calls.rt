@@ -77,20 +77,20 @@ fn check_calls() -> u64
 {
     print::line(
         94,
-        api_c::check_tables(&[0u8; EDGE_FIELDS], 1, &[0u8; NODE_FIELDS]),
+        api_c::wiforekun_check(&[0u8; EDGE_FIELDS], 1, &[0u8; NODE_FIELDS]),
     );
     print::line(
         95,
-        api_c::check_tables(&[0u8; EDGE_FIELDS], 2, &[0u8; NODE_FIELDS]),
+        api_c::wiforekun_check(&[0u8; EDGE_FIELDS], 2, &[0u8; NODE_FIELDS]),
     );
     print::line(
         96,
-        api_c::check_tables(&[0u8; EDGE_FIELDS], WIDEST, &[0u8; NODE_FIELDS]),
+        api_c::wiforekun_check(&[0u8; EDGE_FIELDS], WIDEST, &[0u8; NODE_FIELDS]),
     );
     let edges = OFFENDING;
     let nodes = BEFORE;
-    print::line(97, api_c::check_tables(&edges, 0, &nodes));
-    print::line(98, api_c::check_tables(&edges, 1, &nodes));
+    print::line(97, api_c::wiforekun_check(&edges, 0, &nodes));
+    print::line(98, api_c::wiforekun_check(&edges, 1, &nodes));
     99
 }
 

@@ -51,7 +51,7 @@ fn kept(trace: &[u32]) -> usize
 pub(crate) fn explain(call: u64, local: u32, edges: &[u8], nodes: &[u8], trace: &mut [u32]) -> u64
     ensures { λ r. ⌜ r ≡ call ⌝ }
 {
-    let code = api_c::check_counterexample(edges, local, nodes, trace);
+    let code = api_c::wiforekun_counterexample(edges, local, nodes, trace);
     print::told(call, code % 65536, b" ");
     print::number(code as u64 / 65536, b" ");
     print::number(written(trace) as u64, b" ");

@@ -51,8 +51,8 @@ element-copy-out-b c = search needs
 is-judged-requires : tie.Need-is-judged-requires Inv-loop μ-loop
 is-judged-requires c κs = search needs
 
-judge-parts-requires : tie.Need-judge-parts-requires Inv-loop μ-loop
-judge-parts-requires c κs = search needs
+wiforekun-judge-parts-requires : tie.Need-wiforekun-judge-parts-requires Inv-loop μ-loop
+wiforekun-judge-parts-requires c κs = search needs
 
 returns : tie.Need-returns Inv-loop μ-loop
 returns c = search needs
@@ -88,7 +88,7 @@ follow-spec =
     mul-b-2
     element-copy-out-b
     is-judged-requires
-    judge-parts-requires
+    wiforekun-judge-parts-requires
     returns
     add-i
     loop-less

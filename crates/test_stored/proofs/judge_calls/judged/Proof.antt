@@ -15,11 +15,11 @@ array-write-created c = search needs
 array-write-created-2 : tie.Need-array-write-created-2
 array-write-created-2 c = search needs
 
-slice-aggregate-judge-parts : tie.Need-slice-aggregate-judge-parts
-slice-aggregate-judge-parts c = search needs
+slice-aggregate-wiforekun-judge-parts : tie.Need-slice-aggregate-wiforekun-judge-parts
+slice-aggregate-wiforekun-judge-parts c = search needs
 
-judge-parts-requires : tie.Need-judge-parts-requires
-judge-parts-requires c κs = search needs
+wiforekun-judge-parts-requires : tie.Need-wiforekun-judge-parts-requires
+wiforekun-judge-parts-requires c κs = search needs
 
 array-read-count-left : tie.Need-array-read-count-left
 array-read-count-left c = search needs
@@ -29,7 +29,7 @@ array-read-flag-left c = search needs
 
 returns : tie.Need-returns
 returns c =
-    let e = c .judge-parts .ensures in
+    let e = c .wiforekun-judge-parts .ensures in
     (e .0, (ap (λ (p : Parts). getD (p .numbers) 0 0) (e .1), ap (λ (p : Parts). getD (p .numbers) 1 0) (e .1)))
 
 pub judged-spec : {M : Type 1} → statement M
@@ -39,8 +39,8 @@ judged-spec =
     array-write-edges
     array-write-created
     array-write-created-2
-    slice-aggregate-judge-parts
-    judge-parts-requires
+    slice-aggregate-wiforekun-judge-parts
+    wiforekun-judge-parts-requires
     array-read-count-left
     array-read-flag-left
     returns)

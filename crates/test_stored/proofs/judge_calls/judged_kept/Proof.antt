@@ -14,14 +14,14 @@ array-write-possible c = search needs
 array-write-unclosed : tie.Need-array-write-unclosed
 array-write-unclosed c = search needs
 
-slice-aggregate-judge-parts : tie.Need-slice-aggregate-judge-parts
-slice-aggregate-judge-parts c = search needs
+slice-aggregate-wiforekun-judge-parts : tie.Need-slice-aggregate-wiforekun-judge-parts
+slice-aggregate-wiforekun-judge-parts c = search needs
 
-judge-parts-requires : tie.Need-judge-parts-requires
-judge-parts-requires c κs = search needs
+wiforekun-judge-parts-requires : tie.Need-wiforekun-judge-parts-requires
+wiforekun-judge-parts-requires c κs = search needs
 
 returns : tie.Need-returns
-returns c = c .judge-parts .ensures .0
+returns c = c .wiforekun-judge-parts .ensures .0
 
 pub judged-kept-spec : {M : Type 1} → statement M
 judged-kept-spec =
@@ -31,6 +31,6 @@ judged-kept-spec =
     array-write-sets
     array-write-possible
     array-write-unclosed
-    slice-aggregate-judge-parts
-    judge-parts-requires
+    slice-aggregate-wiforekun-judge-parts
+    wiforekun-judge-parts-requires
     returns)

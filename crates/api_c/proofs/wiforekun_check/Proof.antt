@@ -6,8 +6,8 @@ use Rattle.checker.specs.Promise.{outcomeVerdict}
 use Rattle.api_c.specs.Codes.{codeOf}
 use Rattle.api_c.specs.Check.{no-choice, chosen}
 use Rattle.api_c.proofs.ChoiceLaws.{right-none, right-chosen}
-use Rattle.api_c.proofs.check_tables.Statement.{statement}
-use Rattle.api_c.proofs.check_tables.Tie as tie
+use Rattle.api_c.proofs.wiforekun_check.Statement.{statement}
+use Rattle.api_c.proofs.wiforekun_check.Tie as tie
 
 outcome-code-requires : tie.Need-outcome-code-requires
 outcome-code-requires c κs = search needs
@@ -35,5 +35,5 @@ returns-2 c =
       promised = chosen l (k .ensures);
     }
 
-pub check-tables-spec : {M : Type 1} → statement M
-check-tables-spec = tie.close (tie.spec outcome-code-requires returns check-requires outcome-code-requires-2 returns-2)
+pub wiforekun-check-spec : {M : Type 1} → statement M
+wiforekun-check-spec = tie.close (tie.spec outcome-code-requires returns check-requires outcome-code-requires-2 returns-2)

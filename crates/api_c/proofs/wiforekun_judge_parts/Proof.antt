@@ -1,18 +1,22 @@
 -- The answer is the definition's, and the arrays hold what it says.
-use mathlib.Core.Path.{sym, ap, _∙_}
+use mathlib.Core.Path.{sym, ap, _∙_, subst}
 use mathlib.Core.List.{List}
+use lib.ListN.{getD}
+use mir.Val.{Fits}
+use mir.Syntax.{w32}
 use borrow.Author.Tests.{not-true, not-false}
 use native.Mathlib.Omega.{arith}
 use borrow.Author.Needs.{needs}
-use Prim.Native.Nat.{ℕ, _<_, _≤_}
+use Prim.Native.Nat.{ℕ, _≤_}
 use Rattle.usage.specs.declared.RawStep.{RawStep}
 use Rattle.usage.proofs.Logic.{by-cases}
 use Rattle.api_c.specs.Codes.{codeOf}
-use Rattle.api_c.specs.Parts.{partsOf, flag, heldIn, Answered}
-use Rattle.api_c.proofs.PartLaws.{flag-above, highest-above, is-held, choice-refused, held-refused, told-verdict, refused-left}
-use Rattle.api_c.proofs.PartLaws.{taken-left}
-use Rattle.api_c.proofs.judge_parts.Statement.{statement}
-use Rattle.api_c.proofs.judge_parts.Tie as tie
+use Rattle.api_c.specs.Parts.{partsOf, mostNumber, heldIn}
+use Rattle.api_c.proofs.PartLaws.{flag-above, highest-above, held-highest, is-held, choice-refused, held-refused, told-verdict}
+use Rattle.api_c.proofs.PartLaws.{refused-left, taken-left}
+use Rattle.api_c.proofs.PastLaws.{owed, refused-owed}
+use Rattle.api_c.proofs.wiforekun_judge_parts.Statement.{statement}
+use Rattle.api_c.proofs.wiforekun_judge_parts.Tie as tie
 
 element-copy-out-count : tie.Need-element-copy-out-count
 element-copy-out-count c = search needs
@@ -34,7 +38,7 @@ returns c =
     let a = c .before .before .before .before .before .before .before .args in
     let p = partsOf (a .sets .now) (a .possible .now) (a .created .now) (a .unclosed .now) (a .order .now) (a .numbers .now) in
     let e = choice-refused (a .edges .now) (a .local) p (record { kind = a .kind; a = a .a; b = a .b }) (c .before .if1 .taken) in
-    (c .code .ensures ∙ sym (ap (λ (r : Answered). codeOf (r .verdict)) e), sym (ap (λ (r : Answered). r .parts) e))
+    refused-owed (a .edges .now) (a .local) p _ _ _ e (c .code .ensures)
 
 no-state-requires : tie.Need-no-state-requires
 no-state-requires c κs = search needs
@@ -45,7 +49,7 @@ returns-2 c =
     let p = partsOf (a .sets .now) (a .possible .now) (a .created .now) (a .unclosed .now) (a .order .now) (a .numbers .now) in
     let h = flag-above p (omega (arith, c .before .if2 .taken)) in
     let e = held-refused (a .edges .now) (a .local) p (record { kind = a .kind; a = a .a; b = a .b }) (c .before .before .if1 .left) h in
-    (c .no-state .ensures ∙ sym (ap (λ (r : Answered). codeOf (r .verdict)) e), sym (ap (λ (r : Answered). r .parts) e))
+    refused-owed (a .edges .now) (a .local) p _ _ _ e (c .no-state .ensures)
 
 no-state-requires-2 : tie.Need-no-state-requires-2
 no-state-requires-2 c κs = search needs
@@ -57,7 +61,7 @@ returns-3 c =
     let h = highest-above p (omega (arith, c .before .before .if2 .left)) (omega (arith, c .before .if3 .taken)) in
     let e = held-refused (a .edges .now) (a .local) p (record { kind = a .kind; a = a .a; b = a .b })
     (c .before .before .before .if1 .left) h in
-    (c .no-state2 .ensures ∙ sym (ap (λ (r : Answered). codeOf (r .verdict)) e), sym (ap (λ (r : Answered). r .parts) e))
+    refused-owed (a .edges .now) (a .local) p _ _ _ e (c .no-state2 .ensures)
 
 cast-judge-lent : tie.Need-cast-judge-lent
 cast-judge-lent c = omega (arith, c .before .before .before .before .before .if3 .left)
@@ -89,21 +93,25 @@ returns-4 c =
     (omega (arith, c .before .before .before .before .before .before .before .before .before .if3 .left)) in
     let k = c .before .before .before .before .before .before .before .before .before .before .before .if1 .left in
     let j = c .before .before .before .judge-lent in
-    let r = c .before .before .is-refusal in (
-      c .code2 .ensures ∙ ap codeOf (told-verdict (a .edges .now) (a .local) p raw k h (j .result) _ _ _ _ _ (j .ensures)),
-      by-cases (c .before .if4 .came)
-          (λ w. ap (λ (l : List ℕ). partsOf (j .last .1 .1 .0) (j .last .1 .1 .1 .0) (j .last .1 .1 .1 .1 .0) (j .last .1 .1 .1 .1 .1 .0)
-          (j .last .1 .1 .1 .1 .1 .1 .0) l) (w .4)
-          ∙ taken-left (a .edges .now) (a .local) p raw k h (j .result) _ _ _ _ _ (j .ensures) (w .1 .result)
-          (sym (r .ensures) ∙ not-true (r .result) (w .0 .taken)) (w .1 .ensures))
-          (λ w. ap (λ (l : List ℕ). partsOf (j .last .1 .1 .0) (j .last .1 .1 .1 .0) (j .last .1 .1 .1 .1 .0) (j .last .1 .1 .1 .1 .1 .0)
-          (j .last .1 .1 .1 .1 .1 .1 .0) l) (w .1)
-          ∙ refused-left (a .edges .now) (a .local) p raw k h (j .result) _ _ _ _ _
-          (j .ensures) (sym (r .ensures) ∙ not-false (r .result) (w .0 .left))),
-    )
+    let r = c .before .before .is-refusal in
+    owed (a .edges .now) (a .local) p raw _ _
+    (c .code2 .ensures ∙ ap codeOf (told-verdict (a .edges .now) (a .local) p raw k h (j .result) _ _ _ _ _ (j .ensures)))
+    (by-cases (c .before .if4 .came)
+    (λ w. ap (λ (l : List ℕ). partsOf (j .last .1 .1 .0) (j .last .1 .1 .1 .0) (j .last .1 .1 .1 .1 .0) (j .last .1 .1 .1 .1 .1 .0)
+    (j .last .1 .1 .1 .1 .1 .1 .0) l) (w .4)
+    ∙ taken-left (a .edges .now) (a .local) p raw k h (j .result) _ _ _ _ _ (j .ensures) (w .1 .result)
+    (sym (r .ensures) ∙ not-true (r .result) (w .0 .taken)) (w .1 .ensures))
+    (λ w. ap (λ (l : List ℕ). partsOf (j .last .1 .1 .0) (j .last .1 .1 .1 .0) (j .last .1 .1 .1 .1 .0) (j .last .1 .1 .1 .1 .1 .0)
+    (j .last .1 .1 .1 .1 .1 .1 .0) l) (w .1)
+    ∙ refused-left (a .edges .now) (a .local) p raw k h (j .result) _ _ _ _ _
+    (j .ensures) (sym (r .ensures) ∙ not-false (r .result) (w .0 .left))))
+    (λ held. by-cases (c .before .if4 .came)
+    (λ w. let fits : Fits w32 (j .result .highest) = search needs in
+    subst (λ (l : List ℕ). getD l 3 0 ≤ mostNumber) (sym (w .4)) (omega (arith, fits .fits)))
+    (λ w. subst (λ (l : List ℕ). getD l 3 0 ≤ mostNumber) (sym (w .1)) (held-highest p held)))
 
-pub judge-parts-spec : {M : Type 1} → statement M
-judge-parts-spec =
+pub wiforekun-judge-parts-spec : {M : Type 1} → statement M
+wiforekun-judge-parts-spec =
     tie.close
     (tie.spec
     element-copy-out-count

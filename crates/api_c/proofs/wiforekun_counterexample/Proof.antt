@@ -4,8 +4,8 @@ use borrow.Author.Needs.{needs}
 use Rattle.api_c.specs.Codes.{explanationCode}
 use Rattle.api_c.specs.Check.{refusalWithoutChoice, no-choice, chosen}
 use Rattle.api_c.proofs.ChoiceLaws.{refusal-small, refusal-roomy}
-use Rattle.api_c.proofs.check_counterexample.Statement.{statement}
-use Rattle.api_c.proofs.check_counterexample.Tie as tie
+use Rattle.api_c.proofs.wiforekun_counterexample.Statement.{statement}
+use Rattle.api_c.proofs.wiforekun_counterexample.Tie as tie
 
 explanation-code-requires : tie.Need-explanation-code-requires
 explanation-code-requires c κs = search needs
@@ -45,8 +45,8 @@ returns-3 c =
       told = c .explanation-code3 .ensures;
     }
 
-pub check-counterexample-spec : {M : Type 1} → statement M
-check-counterexample-spec =
+pub wiforekun-counterexample-spec : {M : Type 1} → statement M
+wiforekun-counterexample-spec =
     tie.close
     (tie.spec
     explanation-code-requires

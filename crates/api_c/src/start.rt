@@ -1,0 +1,40 @@
+// The start, for callers in C and Rust.
+use monitor_sets::SETS;
+use usage::MOST_CREATED;
+use usage::MOST_UNCLOSED;
+use usage::POLICIES;
+ghost use mathlib.Core.Path.{_≡_};
+ghost use Rattle.monitor_state.specs.Judge.{startState};
+ghost use Rattle.api_c.specs.Parts.{partsOf, holding};
+ghost use Rattle.api_c.specs.Past.{BeginsIn};
+
+// The lent parts are made those of the start, whatever they held.
+#[no_mangle]
+pub extern "C" fn wiforekun_start_parts(
+    sets: &mut [u8; SETS],
+    possible: &mut [u8; POLICIES],
+    created: &mut [u32; MOST_CREATED],
+    unclosed: &mut [u8; POLICIES],
+    order: &mut [u8; MOST_UNCLOSED],
+    numbers: &mut [u64; crate::NUMBERS],
+)
+    ensures { λ r.
+        ⌜ partsOf (now (sets .exit)) (now (possible .exit)) (now (created .exit)) (now (unclosed .exit)) (now (order .exit))
+        (now (numbers .exit)) ≡ holding startState ⌝ }
+    ensures { λ r.
+        ⌜ BeginsIn (partsOf (now (sets .exit)) (now (possible .exit)) (now (created .exit)) (now (unclosed .exit)) (now (order .exit))
+        (now (numbers .exit))) ⌝ }
+{
+    let s = monitor::start();
+    let first_sets = s.sets;
+    let first_possible = s.possible;
+    let first_created = s.created;
+    let first_unclosed = s.unclosed;
+    let first_order = s.order;
+    *sets = first_sets;
+    *possible = first_possible;
+    *created = first_created;
+    *unclosed = first_unclosed;
+    *order = first_order;
+    *numbers = [0, 0, 0, 0];
+}
