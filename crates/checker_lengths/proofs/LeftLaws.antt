@@ -29,18 +29,11 @@ use Rattle.checker_lengths.specs.Code.{Fell, Apart, Pass}
 use Rattle.checker_lengths.proofs.NodeLaws.{node-in}
 use Rattle.checker_lengths.proofs.MemberLaws.{member-le, member-lt, member-taken}
 use Rattle.checker_lengths.proofs.EntryLaws.{held-in, held-out}
-use Rattle.checker_lengths.proofs.PassLaws.{node-lasts}
+use Rattle.checker_lengths.proofs.PassLaws.{same-held, node-lasts}
 
 -- ── A node that is not read ──
 
 module _ {k : ℕ} {t u : List ℕ} (g : Fell k t u) where
-  same-held : (e : Entry) → (e .node ≡ k → ⊥) → held u allLengths e ≡ held t allLengths e
-  same-held e d = go (inTable e) refl
-    where
-      go : (b : Bool) → inTable e ≡ b → held u allLengths e ≡ held t allLengths e
-      go true h = held-in u allLengths e h ∙ ap (below allLengths) (g .beside e h d) ∙ sym (held-in t allLengths e h)
-      go false h = sym (held-out u allLengths e h) ∙ held-out t allLengths e h
-
   module _ (w : Watch) (rows : List ℕ) where
     offer-same : (f : Form) → (PartOf f k → ⊥) → (e : Entry) (c : ℕ)
         → offerOf w rows (held u allLengths) e c f ≡ offerOf w rows (held t allLengths) e c f
@@ -51,16 +44,16 @@ module _ {k : ℕ} {t u : List ℕ} (g : Fell k t u) where
     offer-same (sequence a b) d e c =
         let away : a ≡ k → ⊥ = λ z. d (subst (PartOf (sequence a b)) z first) in
         let far : b ≡ k → ⊥ = λ z. d (subst (PartOf (sequence a b)) z second) in
-        rw (same-held (atNode e a) away, same-held (firstEntry e a c) away, same-held (secondEntry e b c) far)
+        rw (same-held g (atNode e a) away, same-held g (firstEntry e a c) away, same-held g (secondEntry e b c) far)
     offer-same (choice a b) d e c = go (eqb c 0)
       where
         go : (z : Bool) → held u allLengths (atNode e (cond z a b)) ≡ held t allLengths (atNode e (cond z a b))
-        go true = same-held (atNode e a) (λ z. d (subst (PartOf (choice a b)) z left))
-        go false = same-held (atNode e b) (λ z. d (subst (PartOf (choice a b)) z right))
-    offer-same (loop a) d e c = same-held (atNode e a) (λ z. d (subst (PartOf (loop a)) z body))
-    offer-same (back a) d e c = same-held (atNode e a) (λ z. d (subst (PartOf (back a)) z again))
-    offer-same (fresh n b) d e c = rw (same-held (bodyEntry e n b c) (λ z. d (subst (PartOf (fresh n b)) z given)))
-    offer-same (sandbox s b) d e c = rw (same-held (innerEntry w e s b) (λ z. d (subst (PartOf (sandbox s b)) z inside)))
+        go true = same-held g (atNode e a) (λ z. d (subst (PartOf (choice a b)) z left))
+        go false = same-held g (atNode e b) (λ z. d (subst (PartOf (choice a b)) z right))
+    offer-same (loop a) d e c = same-held g (atNode e a) (λ z. d (subst (PartOf (loop a)) z body))
+    offer-same (back a) d e c = same-held g (atNode e a) (λ z. d (subst (PartOf (back a)) z again))
+    offer-same (fresh n b) d e c = rw (same-held g (bodyEntry e n b c) (λ z. d (subst (PartOf (fresh n b)) z given)))
+    offer-same (sandbox s b) d e c = rw (same-held g (innerEntry w e s b) (λ z. d (subst (PartOf (sandbox s b)) z inside)))
 
 pub apart : (w : Watch) (rows : List ℕ) (k : ℕ) (f : Option Form) → (Reads f k → ⊥) → Apart w rows k f
 apart w rows k none d t u g e c = refl

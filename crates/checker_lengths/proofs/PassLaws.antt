@@ -15,11 +15,11 @@ use Rattle.usage.proofs.Logic.{not-both, false-true}
 use Rattle.checker_account.specs.Rounds.{total}
 use Rattle.checker_lengths.specs.declared.Entry.{Entry}
 use Rattle.checker_lengths.specs.declared.Watch.{Watch}
-use Rattle.checker_lengths.specs.Entries.{allLengths, entryOf, linear, inTable, held}
+use Rattle.checker_lengths.specs.Entries.{allLengths, entryOf, linear, inTable, below, held}
 use Rattle.checker_lengths.specs.Offers.{toward, offerFrom}
 use Rattle.checker_lengths.specs.Rounds.{Reach, falls, Settled, RuleSettled, StartSettled, StatesSettled, NodeSettled}
 use Rattle.checker_lengths.specs.Code.{Fell, Apart, Pass}
-use Rattle.checker_lengths.proofs.EntryLaws.{linear-one}
+use Rattle.checker_lengths.proofs.EntryLaws.{linear-one, held-in, held-out}
 
 -- ── Sums ──
 
@@ -46,6 +46,15 @@ fell-none {t = t} = record { beside = λ e h d. refl; down = λ i. le-self (getD
 
 pub fell-then : {k : ℕ} {t u v : List ℕ} → Fell k t u → Fell k u v → Fell k t v
 fell-then p q = record { beside = λ e h d. q .beside e h d ∙ p .beside e h d; down = λ i. le-both (q .down i) (p .down i) }
+
+-- what stands for another node
+module _ {k : ℕ} {t u : List ℕ} (g : Fell k t u) where
+  pub same-held : (e : Entry) → (e .node ≡ k → ⊥) → held u allLengths e ≡ held t allLengths e
+  same-held e d = go (inTable e) refl
+    where
+      go : (b : Bool) → inTable e ≡ b → held u allLengths e ≡ held t allLengths e
+      go true h = held-in u allLengths e h ∙ ap (below allLengths) (g .beside e h d) ∙ sym (held-in t allLengths e h)
+      go false h = sym (held-out u allLengths e h) ∙ held-out t allLengths e h
 
 -- what was settled stays so, where the node does not read its own entries; and so it is with those of another node that does not read them
 module _ (w : Watch) (rows : List ℕ) (k : ℕ) (f : Option Form) (apart : Apart w rows k f) {t u : List ℕ} (g : Fell k t u) where

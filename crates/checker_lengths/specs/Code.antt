@@ -2,17 +2,17 @@
 use Prim.Native.Nat.{ℕ, _/_, _<_, _≤_}
 use mathlib.Core.Path.{_≡_}
 use mathlib.Core.Bool.{Bool, true, false}
-use mathlib.Core.Option.{Option}
+use mathlib.Core.Option.{Option, some}
 use mathlib.Core.List.{List}
 use lib.ListN.{length, getD}
 use Rattle.usage.specs.Limits.{nodeFields}
-use Rattle.usage.specs.Outline.{Form}
+use Rattle.usage.specs.Outline.{Form, sequence}
 use Rattle.checker_account.specs.Rounds.{total}
 use Rattle.checker_lengths.specs.declared.Entry.{Entry}
 use Rattle.checker_lengths.specs.declared.Watch.{Watch}
 use Rattle.checker_lengths.specs.Entries.{allLengths, linear, inTable, held}
 use Rattle.checker_lengths.specs.Offers.{offerFrom}
-use Rattle.checker_lengths.specs.Rounds.{formHere, Reach}
+use Rattle.checker_lengths.specs.Rounds.{formHere, Reach, Settled, RuleSettled}
 
 -- filling goes on from t to t′ by rules of node k alone, which has the form f
 abbrev pub Lowers : Watch → List ℕ → ℕ → Option Form → List ℕ → List ℕ → Type 0
@@ -39,3 +39,13 @@ pub record Pass (w : Watch) (rows : List ℕ) (k : ℕ) (f : Option Form) (C : L
   pub lower : r ≡ true → total t′ < total t
   pub fell : Fell k t t′
   pub done : Apart w rows k f → C t′
+
+-- The entry e is set to v, if that is less, and r tells whether it was: a pass by every rule that gives v.
+abbrev pub Puts : Entry → ℕ → List ℕ → List ℕ → Bool → Type 0
+Puts e v t t′ r = (w : Watch) (rows : List ℕ) (f : Option Form) (c : ℕ) → v ≡ offerFrom w rows (held t allLengths) e c f
+    → Pass w rows (e .node) f (λ u. Settled w rows f u e c) t t′ r
+
+-- rule c of a sequence is settled at one start
+abbrev pub SettlesSequence : Entry → ℕ → ℕ → ℕ → List ℕ → List ℕ → Bool → Type 0
+SettlesSequence s a b c t t′ r = (w : Watch) (rows : List ℕ)
+    → Pass w rows (s .node) (some (sequence a b)) (λ u. RuleSettled w rows (some (sequence a b)) u s c) t t′ r

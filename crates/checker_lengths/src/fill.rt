@@ -10,14 +10,16 @@ ghost use Rattle.checker_tables.specs.Search.{NodesFit};
 ghost use Rattle.usage.specs.Limits.{mostNodes};
 ghost use Rattle.usage.specs.Outline.{formOf};
 ghost use Rattle.automaton.specs.Mask.{has};
-ghost use Rattle.checker_lengths.specs.Entries.{size, inTable};
+ghost use Rattle.checker_lengths.specs.Entries.{atBreak, size, inTable};
 ghost use Rattle.checker_lengths.specs.Offers.{toward};
-ghost use Rattle.checker_lengths.specs.Code.{Pass};
+ghost use Rattle.checker_lengths.specs.Code.{Pass, Puts, SettlesSequence};
 ghost use Rattle.checker_lengths.specs.Rounds.{Settled, RuleSettled, StartSettled, StatesSettled, NodeSettled, Full};
 use crate::AIMS;
 use crate::ALL;
+use crate::BROKEN;
 use crate::Entry;
 use crate::Lengths;
+use crate::MOST;
 use crate::NONE;
 use crate::SIZE;
 use crate::Watch;
@@ -30,14 +32,12 @@ use usage::NODE_FIELDS;
 use usage::Node;
 use usage::STATES;
 
-// The entry set to what rule c of its node gives, f being that node, if it is less. Is it?
-fn settle(t: &mut Lengths, rows: &Table, w: Watch, f: Node, e: Entry, c: usize) -> bool
+// The entry set to v, if that is less. Is it? v is what some rule of its node gives.
+fn put(t: &mut Lengths, e: Entry, v: u8) -> bool
     requires { ⌜ length (now t) ≡ size ⌝ }
     requires { ⌜ inTable e ≡ true ⌝ }
-    ensures { λ r. ⌜ Pass w (now (rows .entry)) (e .node) (formOf f)
-        (λ u. Settled w (now (rows .entry)) (formOf f) u e c) (now (t .entry)) (now (t .exit)) r ⌝ }
+    ensures { λ r. ⌜ Puts e v (now (t .entry)) (now (t .exit)) r ⌝ }
 {
-    let v = offers::offer(t, rows, w, ALL, f, e, c);
     let at = entries::place(e);
     if v < t[at] {
         t[at] = v;
@@ -47,9 +47,46 @@ fn settle(t: &mut Lengths, rows: &Table, w: Watch, f: Node, e: Entry, c: usize) 
     }
 }
 
+// The entry set to what rule c of its node gives, f being that node, if it is less. Is it?
+fn settle(t: &mut Lengths, rows: &Table, w: Watch, f: Node, e: Entry, c: usize) -> bool
+    requires { ⌜ length (now t) ≡ size ⌝ }
+    requires { ⌜ inTable e ≡ true ⌝ }
+    ensures { λ r. ⌜ Pass w (now (rows .entry)) (e .node) (formOf f)
+        (λ u. Settled w (now (rows .entry)) (formOf f) u e c) (now (t .entry)) (now (t .exit)) r ⌝ }
+{
+    let v = offers::offer(t, rows, w, ALL, f, e, c);
+    put(t, e, v)
+}
+
+// Every aim of one start by rule c of a sequence: what its first node takes to its end is asked once. It is another node, so that its
+// length stays. Did that change the table?
+fn settle_sequence(t: &mut Lengths, s: Entry, a: u8, b: u8, c: usize) -> bool
+    requires { ⌜ length (now t) ≡ size ⌝ }
+    requires { ⌜ inTable (toward s 0) ≡ true ⌝ }
+    requires { ⌜ c < atBreak ⌝ }
+    requires { ⌜ (a ≡ s .node → ⊥) ⌝ }
+    ensures { λ r. ⌜ SettlesSequence s a b c (now (t .entry)) (now (t .exit)) r ⌝ }
+{
+    let v = entries::get(t, ALL, offers::first(s, a, c));
+    if MOST < v {
+        return false;
+    }
+    let from = offers::second(s, b, c);
+    let mut changed = false;
+    let mut i: usize = offers::low_end(s.meaning);
+    while i < AIMS {
+        let sum = entries::plus(v, entries::get(t, ALL, offers::toward(from, i)));
+        if put(t, offers::toward(s, i), sum) {
+            changed = true;
+        }
+        i += 1;
+    }
+    changed
+}
+
 // Every aim of one start by rule c. Ends before the first that is tried leave it open whether the watched resource can be created,
 // which the node's start has settled. Did that change the table?
-fn settle_rule(t: &mut Lengths, rows: &Table, w: Watch, f: Node, s: Entry, c: usize) -> bool
+fn settle_aims(t: &mut Lengths, rows: &Table, w: Watch, f: Node, s: Entry, c: usize) -> bool
     requires { ⌜ length (now t) ≡ size ⌝ }
     requires { ⌜ inTable (toward s 0) ≡ true ⌝ }
     ensures { λ r. ⌜ Pass w (now (rows .entry)) (s .node) (formOf f)
@@ -67,6 +104,23 @@ fn settle_rule(t: &mut Lengths, rows: &Table, w: Watch, f: Node, s: Entry, c: us
         i += 1;
     }
     changed
+}
+
+// The same, a sequence's in the shorter way.
+fn settle_rule(t: &mut Lengths, rows: &Table, w: Watch, f: Node, s: Entry, c: usize) -> bool
+    requires { ⌜ length (now t) ≡ size ⌝ }
+    requires { ⌜ inTable (toward s 0) ≡ true ⌝ }
+    ensures { λ r. ⌜ Pass w (now (rows .entry)) (s .node) (formOf f)
+        (λ u. RuleSettled w (now (rows .entry)) (formOf f) u s c) (now (t .entry)) (now (t .exit)) r ⌝ }
+{
+    if f.kind == 3 {
+        if c < BROKEN {
+            if f.a as usize != s.node {
+                return settle_sequence(t, s, f.a, f.b, c);
+            }
+        }
+    }
+    settle_aims(t, rows, w, f, s, c)
 }
 
 // Every rule of one start. Did that change the table?
