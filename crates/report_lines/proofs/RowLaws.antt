@@ -9,6 +9,7 @@ use lib.Seq.{sets}
 use Rattle.usage.specs.Answers.{Verdict, allowed, violated, refused, answer, detail}
 use Rattle.report_lines.specs.Lines.{namesLine, namesRoom, traceNamesLine, traceNamesRoom, nodeNamesLine, nodeNamesRoom}
 use Rattle.report_lines.specs.Lines.{three, row, numberedRow, verdictRow, valuesText, valuesRoom}
+use Rattle.report_lines.specs.Decimal.{decimal}
 use Rattle.report_lines.proofs.DecimalLaws.{tens, length-below}
 use Rattle.report_lines.specs.Put.{putAt, endAt}
 use Rattle.report_lines.proofs.PutLaws.{length-field, length-three, length-row, length-numbered, six-fields}
@@ -23,13 +24,13 @@ row-below i j k line a d hl ha hd =
     let n = length-below k d hd in
     omega (arith, length-row line a d)
 
--- three of six values, of 32 bits: half of the room
-pub three-fits : (a b c end : ℕ) → a < 4294967296 → b < 4294967296 → c < 4294967296 → length (three a b c end) ≤ 33
-three-fits a b c end ha hb hc =
-    let l = length-below 9 a (omega arith) in
-    let m = length-below 9 b (omega arith) in
-    let n = length-below 9 c (omega arith) in
-    omega (arith, length-three a b c end)
+-- a value of 32 bits
+pub ten-digits : (n : ℕ) → n < 4294967296 → length (decimal n) ≤ 10
+ten-digits n h = length-below 9 n (omega arith)
+
+-- three of six values: half of the room
+three-fits : (a b c end : ℕ) → a < 4294967296 → b < 4294967296 → c < 4294967296 → length (three a b c end) ≤ 33
+three-fits a b c end ha hb hc = omega (arith, length-three a b c end, ten-digits a ha, ten-digits b hb, ten-digits c hc)
 
 pub six-fits : (a b c d e f : ℕ) → a < 4294967296 → b < 4294967296 → c < 4294967296 → d < 4294967296 → e < 4294967296 → f < 4294967296
     → length (valuesText a (b ∷ c ∷ d ∷ e ∷ f ∷ [])) ≤ valuesRoom

@@ -110,7 +110,7 @@ pub fn values(out: &mut [u8], at: usize, v: [u32; 6]) -> usize
 
 // Three numbers with single spaces between them, and the byte after them.
 fn three(out: &mut [u8], at: usize, a: usize, b: usize, c: usize, end: u8) -> usize
-    requires { ⌜ at + length (Lines·three a b c end) ≤ length (now out) ⌝ }
+    requires { ⌜ at + (length (decimal a) + length (decimal b) + length (decimal c) + 3) ≤ length (now out) ⌝ }
     ensures { λ r. ⌜ r ≡ at + length (Lines·three a b c end) ⌝ }
     ensures { λ r. ⌜ now (out .exit) ≡ sets (now (out .entry)) at (Lines·three a b c end) ⌝ }
 {

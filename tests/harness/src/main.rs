@@ -1,12 +1,14 @@
-//! compare SEED COUNT [judge]: fresh cases from the seed. Half of them are direct calls of the judge, on states that need not have been
+//! compare SEED COUNT [judge | sheets]: fresh cases from the seed. Half of them are direct calls of the judge, on states that need not have been
 //! reached; the others are traces and outlines, as many of each, or with the word `judge` traces alone; and as many pairs of a trace and an
 //! outline with a malformed line. Half of the sheets are local. Of each outline the counterexample
 //! is compared too, each accepted one is followed along a trace with retirings added, and each trace is judged again with its dynamic
-//! numbers renamed, and with retirings added.
+//! numbers renamed, and with retirings added. And as many policy sheets
+//! are written again; with the word `sheets` these alone.
 
 mod counterexamples;
 mod renamings;
 mod retirings;
+mod rewritings;
 
 use counterexamples::Tally;
 use reference::generate::{self, malformed, outlines, states, traces, Case};
@@ -20,14 +22,22 @@ const BATCH: usize = 1_000;
 
 fn main() -> ExitCode {
     let mut words: Vec<String> = std::env::args().skip(1).collect();
-    let judge = words.len() == 3 && words[2] == "judge";
-    words.truncate(if judge { 2 } else { words.len() });
+    let word = match words.last().map(String::as_str) {
+        Some("judge" | "sheets") => words.pop().unwrap(),
+        _ => String::new(),
+    };
     let numbers: Option<Vec<u64>> = words.iter().map(|word| word.parse().ok()).collect();
     let Some([seed, count]) = numbers.as_deref() else {
-        eprintln!("usage: compare SEED COUNT [judge]");
+        eprintln!("usage: compare SEED COUNT [judge | sheets]");
         return ExitCode::from(2);
     };
-    match compare(*seed, *count as usize, judge) {
+    let (seed, count) = (*seed, *count as usize);
+    let sheets = rewritings::compared(seed, count);
+    let told = match word.as_str() {
+        "sheets" => sheets,
+        _ => sheets.and_then(|sheets| Ok(format!("{}; {sheets}", compare(seed, count, word == "judge")?))),
+    };
+    match told {
         Ok(text) => {
             println!("{text}");
             ExitCode::SUCCESS

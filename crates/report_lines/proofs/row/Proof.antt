@@ -47,11 +47,7 @@ returns-2 c =
     (sym (end-lacks (now (a .out)) (a .at) t l), sym (put-lacks (now (a .out)) (a .at) t l))
 
 three-requires : tie.Need-three-requires
-unfolding row
-three-requires c κs =
-    let a = c .before .before .before .before .before .before .before .args in
-    let e = length-row (a .line) (a .answer) (a .detail) in
-    omega arith
+three-requires c κs = omega arith
 
 same-length : tie.Need-same-length
 same-length c = search needs

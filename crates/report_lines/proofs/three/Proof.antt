@@ -7,22 +7,13 @@ use Rattle.report_lines.proofs.three.Statement.{statement}
 use Rattle.report_lines.proofs.three.Tie as tie
 
 field-requires : tie.Need-field-requires
-field-requires c κs =
-    let a = c .before .before .args in
-    let e = length-three (a .a) (a .b) (a .c) (a .end) in
-    omega arith
+field-requires c κs = omega arith
 
 field-requires-2 : tie.Need-field-requires-2
-field-requires-2 c κs =
-    let a = c .before .before .before .before .before .before .args in
-    let e = length-three (a .a) (a .b) (a .c) (a .end) in
-    let k = c .before .before .before .field .ensures .1 .1 in
-    omega arith
+field-requires-2 c κs = let k = c .before .before .before .field .ensures .1 .1 in omega arith
 
 field-requires-3 : tie.Need-field-requires-3
 field-requires-3 c κs =
-    let a = c .before .before .before .before .before .before .before .before .before .before .args in
-    let e = length-three (a .a) (a .b) (a .c) (a .end) in
     let k = c .before .before .before .before .before .before .before .field .ensures .1 .1 in
     let m = c .before .before .before .field2 .ensures .1 .1 in
     omega arith

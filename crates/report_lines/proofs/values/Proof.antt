@@ -7,9 +7,10 @@ use mir.Val.{Fits}
 use mir.Syntax.{w32}
 use lib.ListN.{length, getD, length-append}
 use lib.Seq.{sets, length-sets}
+use Rattle.report_lines.specs.Decimal.{decimal}
 use Rattle.report_lines.specs.Lines.{three, valuesLine, valuesRoom}
-use Rattle.report_lines.proofs.PutLaws.{sets-append, six-threes}
-use Rattle.report_lines.proofs.RowLaws.{three-fits}
+use Rattle.report_lines.proofs.PutLaws.{length-three, sets-append, six-threes}
+use Rattle.report_lines.proofs.RowLaws.{ten-digits}
 use Rattle.report_lines.proofs.FitLaws.{within-fits, end-within-fits, within-lacks, end-within-lacks}
 use borrow.Author.Needs.{needs}
 use Rattle.report_lines.proofs.values.Statement.{statement}
@@ -55,8 +56,9 @@ cast-three-3 c = search needs
 three-requires : tie.Need-three-requires
 three-requires c κs =
     let a = c .before .before .before .before .args in
-    let fits : (i : ℕ) → getD (a .t3) i 0 < 4294967296 = λ i. (let h : Fits w32 (getD (a .t3) i 0) = search needs in h .fits) in
-    omega (arith, three-fits (getD (a .t3) 0 0) (getD (a .t3) 1 0) (getD (a .t3) 2 0) 32 (fits 0) (fits 1) (fits 2))
+    let fits : (i : ℕ) → length (decimal (getD (a .t3) i 0)) ≤ 10 =
+    λ i. (let h : Fits w32 (getD (a .t3) i 0) = search needs in ten-digits (getD (a .t3) i 0) (h .fits)) in
+    omega (arith, fits 0, fits 1, fits 2)
 
 array-read-three-4 : tie.Need-array-read-three-4
 array-read-three-4 c = search needs
@@ -79,15 +81,13 @@ cast-three-6 c = search needs
 three-requires-2 : tie.Need-three-requires-2
 three-requires-2 c κs =
     let a = c .before .before .before .before .before .before .before .before .args in
-    let fits : (i : ℕ) → getD (a .t3) i 0 < 4294967296 = λ i. (let h : Fits w32 (getD (a .t3) i 0) = search needs in h .fits) in
+    let fits : (i : ℕ) → length (decimal (getD (a .t3) i 0)) ≤ 10 =
+    λ i. (let h : Fits w32 (getD (a .t3) i 0) = search needs in ten-digits (getD (a .t3) i 0) (h .fits)) in
     let w = c .before .before .before .three .ensures in
     let first = three (getD (a .t3) 0 0) (getD (a .t3) 1 0) (getD (a .t3) 2 0) 32 in
+    let e = length-three (getD (a .t3) 0 0) (getD (a .t3) 1 0) (getD (a .t3) 2 0) 32 in
     let k = ap length (w .1) ∙ length-sets (now (a .out)) (a .at) first in
-    omega (
-      arith,
-      three-fits (getD (a .t3) 0 0) (getD (a .t3) 1 0) (getD (a .t3) 2 0) 32 (fits 0) (fits 1) (fits 2),
-      three-fits (getD (a .t3) 3 0) (getD (a .t3) 4 0) (getD (a .t3) 5 0) 10 (fits 3) (fits 4) (fits 5),
-    )
+    omega (arith, fits 0, fits 1, fits 2, fits 3, fits 4, fits 5)
 
 same-length : tie.Need-same-length
 same-length c = search needs
