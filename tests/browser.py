@@ -18,7 +18,7 @@ class Browser:
     """One page of a browser of its own, which ends with it."""
 
     def __init__(self):
-        self.home = tempfile.TemporaryDirectory(ignore_cleanup_errors=True)
+        self.home = tempfile.mkdtemp()
         child_read, self.write = os.pipe()
         self.read, child_write = os.pipe()
 
@@ -29,7 +29,7 @@ class Browser:
             os.dup2(high, 4)
 
         words = [program(), "--headless=new", "--no-sandbox", "--disable-gpu", "--disable-dev-shm-usage", "--remote-debugging-pipe",
-                 f"--user-data-dir={self.home.name}", "--window-size=1400,1000", "about:blank"]
+                 f"--user-data-dir={self.home}", "--window-size=1400,1000", "about:blank"]
         self.process = subprocess.Popen(words, stdin=subprocess.DEVNULL, stdout=subprocess.DEVNULL, stderr=subprocess.DEVNULL,
                                         close_fds=False, preexec_fn=place)
         os.close(child_read)
@@ -48,7 +48,7 @@ class Browser:
         except (OSError, EOFError):
             pass
         self.process.wait(timeout=20)
-        self.home.cleanup()
+        shutil.rmtree(self.home, ignore_errors=True)
 
     def event(self):
         """The next message of the browser."""

@@ -1,5 +1,7 @@
 //! A policy sheet written again: one way to write its edges.
 
+use crate::{Refusal, SheetRefusal};
+
 /// The bytes that are lent for the sheet that is written, at least.
 pub const SHEET_ROOM: usize = 32_768;
 
@@ -15,13 +17,6 @@ extern "C" {
         out_length: usize,
         refusal: *mut [u64; REFUSAL_LENGTH],
     ) -> usize;
-}
-
-/// Why a sheet is refused: the line, 0 where it is none, and the number.
-#[derive(Clone, Copy, Debug, PartialEq, Eq)]
-pub struct SheetRefusal {
-    pub line: u64,
-    pub number: u8,
 }
 
 /// Writes a sheet of policies again: with its own names line, single spaces, no leading zeros, the edges in rising order of their six
@@ -41,6 +36,6 @@ pub fn write_policies(sheet: &[u8], out: &mut [u8]) -> Result<usize, SheetRefusa
         unsafe { wiforekun_write_policies(sheet.as_ptr(), sheet.len(), out.as_mut_ptr(), out.len(), &mut refusal) };
     match refusal {
         [_, 0] => Ok(length),
-        [line, number] => Err(SheetRefusal { line, number: number as u8 }),
+        [line, number] => Err(SheetRefusal { line, number: Refusal(number as u8) }),
     }
 }

@@ -1,7 +1,7 @@
 //! Outlines typed as expressions, by the crate: cases I to L, each refusal, what is left of a lent table.
 
-use wiforekun::{check, outline_from_expression, print_expression, read_expression_code, Outcome, Past, Refusal};
-use wiforekun::{EXPRESSION_TEXT_ROOM, NODES_ROOM};
+use wiforekun::{check, outline_from_expression, print_expression, read_expression_code, Outcome, Past, Refusal, SheetRefusal};
+use wiforekun::{EXPRESSION_TEXT_ROOM, NODES_ROOM, NODE_BYTES};
 
 /// Policies P, those of case J, and those of case K, six bytes to an edge.
 const P: &[u8] = &[0, 0, 1, 1, 0, 1, 0, 1, 3, 1, 0, 0, 0, 0, 2, 1, 0, 6];
@@ -12,9 +12,15 @@ const COUNTED: &[u8] = &[
 ];
 const ROUNDS: &[u8] = b"p0{m1{0+f0{1(n0).2(n0).h1}}}\n";
 
+/// The nodes of an expression.
+fn nodes(text: &[u8]) -> Result<Vec<u8>, SheetRefusal> {
+    let mut table = [0; NODES_ROOM];
+    outline_from_expression(text, &mut table).map(|count| table[..NODE_BYTES * count].to_vec())
+}
+
 #[test]
 fn cases_i_to_l() {
-    let verdict = |edges: &[u8], text: &[u8]| check(edges, Past::Whole, &outline_from_expression(text).unwrap());
+    let verdict = |edges: &[u8], text: &[u8]| check(edges, Past::Whole, &nodes(text).unwrap());
     assert_eq!(verdict(P, ROUNDS), Outcome::Accepted);
     assert_eq!(verdict(TWICE, b"p0{m1{0+f0{5(n0).h1}}}\n"), Outcome::Accepted);
     assert_eq!(verdict(COUNTED, ROUNDS), Outcome::Named(0));
@@ -23,16 +29,16 @@ fn cases_i_to_l() {
 
 #[test]
 fn each_refusal() {
-    let refused = |text: &[u8]| outline_from_expression(text).unwrap_err();
-    let on_line = |number: u8| Refusal { number, line: 1 };
-    assert_eq!(refused(&vec![b'0'; 32_769]), Refusal { number: 5, line: 0 });
+    let refused = |text: &[u8]| nodes(text).unwrap_err();
+    let on_line = |number: u8| SheetRefusal { line: 1, number: Refusal(number) };
+    assert_eq!(refused(&vec![b'0'; 32_769]), SheetRefusal { line: 0, number: Refusal::TOO_LONG });
     assert_eq!(refused(b""), on_line(15));
     assert_eq!(refused(b"0\n0"), on_line(15));
     let nested = |depth: usize| ["(".repeat(depth), "0".into(), ")".repeat(depth), "\n".into()].concat().into_bytes();
-    assert_eq!(outline_from_expression(&nested(32)), Ok(vec![0, 0, 0]));
+    assert_eq!(nodes(&nested(32)), Ok(vec![0, 0, 0]));
     assert_eq!(refused(&nested(33)), on_line(16));
     let many = |items: usize| (vec!["0"; items].join("+") + "\n").into_bytes();
-    assert_eq!(outline_from_expression(&many(32)).unwrap().len(), 63 * 3);
+    assert_eq!(nodes(&many(32)).unwrap().len(), 63 * 3);
     assert_eq!(refused(&many(33)), on_line(17));
     assert_eq!(refused(b"0(s3)\n"), on_line(3));
     assert_eq!(refused(b"m1{h2}\n"), on_line(7));

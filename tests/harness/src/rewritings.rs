@@ -18,7 +18,7 @@ struct Tally {
 
 fn proved(sheet: &[u8], room: usize) -> (Result<usize, Refusal>, Vec<u8>) {
     let mut out = vec![MARK; room];
-    let refusal = |told: wiforekun::SheetRefusal| Refusal { number: told.number.into(), line: told.line as usize };
+    let refusal = |told: wiforekun::SheetRefusal| Refusal { number: told.number.0.into(), line: told.line as usize };
     (wiforekun::write_policies(sheet, &mut out).map_err(refusal), out)
 }
 
