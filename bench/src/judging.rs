@@ -11,7 +11,9 @@ use wiforekun::State as Parts;
 /// The state as the proved code is lent it.
 fn parts_of(state: &State) -> Parts {
     let State { sets, possible, created, count, unclosed, order, depth, halted } = state.clone();
-    Parts { sets, possible, created, unclosed, order, numbers: [count as u64, halted.into(), depth as u64] }
+    let mut all = [0; 656];
+    all[..648].copy_from_slice(&sets);
+    Parts { sets: all, possible, created, unclosed, order, numbers: [count as u64, halted.into(), depth as u64, 0] }
 }
 
 fn plain_judge(state: &mut State, edges: &[u8], local: u32, [kind, a, b]: Step) -> u32 {
