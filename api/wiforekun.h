@@ -97,9 +97,11 @@ uint32_t check_tables(const uint8_t *edges, size_t edges_length, uint32_t local,
  * 17 and on as they are created. WIFOREKUN_LENGTH tells its steps; numbers after it keep their contents. Which of several shortest traces
  * it is, is left free. The length is 0, and nothing is written, where the outline is accepted, where a number refuses the call, and where
  * the policy is named but every such trace is longer.
- * `trace_length` is in numbers, not in bytes. 40 where it is below the room, before 41. */
+ * `trace_length` is in numbers, not in bytes. 40 where it is below the room, before 41. It takes so many bytes of stack at most, which a
+ * thread with a small one must have. */
 #define WIFOREKUN_STEP_NUMBERS 3
 #define WIFOREKUN_COUNTEREXAMPLE_ROOM 600
+#define WIFOREKUN_COUNTEREXAMPLE_STACK 229376
 uint32_t check_counterexample(const uint8_t *edges, size_t edges_length, uint32_t local, const uint8_t *nodes, size_t nodes_length,
                               uint32_t *trace, size_t trace_length);
 

@@ -141,7 +141,8 @@ Coming w es nodes = ComeTo (w .local) es (nodesOf nodes) (w .policy) (watching (
 -- the table is full at them, for these edges
 pub record Ready (w : Watch) (es : List Edge) (rows nodes t : List ℕ) : Type 0 where
   pub source : Source es (nodesOf nodes) (w .policy) (w .resource) rows
-  pub least : Least (w .local) es (nodesOf nodes) (w .policy) (watching (w .resource)) (Coming w es nodes) mostShown (entriesIn t allLengths)
+  pub least : Least (w .local) es (nodesOf nodes) (w .policy) (watching (w .resource)) (Coming w es nodes) mostShown
+      (entriesIn t allLengths)
 
 -- what an entry's numbers say: name n means the watched resource, c tells whether it was created, and the aim; and some run comes to it
 pub record Tells (w : Watch) (es : List Edge) (nodes : List ℕ) (e : Entry) (n : ℕ) (c : Bool) (aim : Aim Bool) : Type 0 where

@@ -498,7 +498,8 @@ write-fresh-returns t c = let a = c .before .before .before .before .before .bef
       len,
       (
         record { at = omega arith; next = omega arith },
-        wrote-born (a .w) (a .rows .now) (a .nodes .now) (a .t .now) (a .e) (a .n) (a .c) (p .0 .0) few (a .a) (a .b) ch (c .if1 .taken) (a .g)
+        wrote-born (a .w) (a .rows .now) (a .nodes .now) (a .t .now) (a .e) (a .n) (a .c) (p .0 .0) few (a .a) (a .b) ch (c .if1 .taken)
+            (a .g)
             (a .s) (a .trace .now) (c .before .before .before .create .result) made (c .before .before .before .create .last .0) tr,
       ),
     )
