@@ -45,13 +45,13 @@ pub fn verify(rng: &mut Rng) -> [usize; 3] {
     counts
 }
 
-/// How many traces both write alike.
-pub fn verify_traces(rng: &mut Rng) -> usize {
+/// How many traces both write alike, of all that is measured and of so many random outlines.
+pub fn verify_traces(rng: &mut Rng, count: u32) -> usize {
     let mut shown = 0;
     for (_, outlines) in refused_cases() {
         shown += outlines.iter().filter(|outline| verify_explain(outline) >= 65536).count();
     }
-    for round in 0..400 {
+    for round in 0..count {
         let (nodes, edges) = (rng.between(2, 40) as usize, rng.below(60) as usize);
         let outline = Outline { local: round % 2, ..inputs::grown(rng, nodes, edges, false) };
         shown += usize::from(verify_explain(&outline) >= 65536);
@@ -72,6 +72,11 @@ fn refused_cases() -> Vec<(String, Vec<Outline>)> {
         cases.push((format!("hard, policy {policy}, 64 nodes, {edges} edges"), vec![outline.clone()]));
         let local = Outline { local: 1, ..outline };
         cases.push((format!("hard, policy {policy}, local, 64 nodes, {edges} edges"), vec![local]));
+    }
+    for local in [0, 1] {
+        let outline = Outline { local, ..outlines::dearest_trace() };
+        let (nodes, edges) = (outline.nodes.len() / 3, outline.edges.len() / 6);
+        cases.push((format!("found, {}{nodes} nodes, {edges} edges", if local == 1 { "local, " } else { "" }), vec![outline]));
     }
     cases
 }

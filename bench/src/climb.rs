@@ -1,34 +1,49 @@
-//! Looks for outlines whose check is much work.
+//! Looks for outlines whose check is much work, or whose counterexample is.
 
 use crate::inputs::{self, Outline};
-use crate::{modelcheck, outlines};
+use crate::{modelcheck, outlines, shortest};
 use reference::rng::Rng;
+use std::sync::atomic::Ordering;
 use std::time::{Duration, Instant};
+use wiforekun::COUNTEREXAMPLE_ROOM;
 
-/// About how much work the check of an outline is, or 0 where it is refused.
-fn work(outline: &Outline) -> u64 {
-    modelcheck::WORK.store(0, std::sync::atomic::Ordering::Relaxed);
-    match modelcheck::check(&outline.edges, outline.local, &outline.nodes) / 256 {
-        2 => 0,
-        _ => modelcheck::WORK.load(std::sync::atomic::Ordering::Relaxed),
+/// Under which meaning, and whether the counterexample is to be much work: then an outline that is accepted does not count.
+#[derive(Clone, Copy)]
+pub struct Aim {
+    pub local: u32,
+    pub trace: bool,
+}
+
+/// About how much work an outline is, or 0 where it does not count.
+fn work(outline: &Outline, aim: Aim) -> u64 {
+    modelcheck::WORK.store(0, Ordering::Relaxed);
+    let Outline { edges, local, nodes } = outline;
+    let counts = match aim.trace {
+        true => shortest::explain(edges, *local, nodes, &mut [0; COUNTEREXAMPLE_ROOM]) / 256 % 256 == 1,
+        false => modelcheck::check(edges, *local, nodes) / 256 != 2,
+    };
+    if counts {
+        modelcheck::WORK.load(Ordering::Relaxed)
+    } else {
+        0
     }
 }
 
 /// Changes an outline and keeps what is more work, over and over: so many turns, or until the time is over. At first what is a little less
 /// work is kept too, so that a way from one height to a greater one is found. The same seed and turns give the same outline, if the time is
 /// enough.
-pub fn climb(seed: u64, turns: u64, time: Duration, local: u32) {
+pub fn climb(seed: u64, turns: u64, time: Duration, aim: Aim) {
     let end = Instant::now() + time;
     let mut rng = Rng::new(seed);
-    let mut at = Outline { local, ..first(&mut rng, seed, local) };
-    let (mut height, mut turn) = (work(&at), 0);
+    let mut at = Outline { local: aim.local, ..first(&mut rng, seed, aim) };
+    let (mut height, mut turn) = (work(&at, aim), 0);
     let (mut best, mut most) = (at.clone(), height);
     while turn < turns && Instant::now() < end {
         let mut next = at.clone();
         for _ in 0..rng.between(1, 4) {
             change(&mut rng, &mut next);
         }
-        let found = work(&next);
+        let found = work(&next, aim);
         // from a twentieth down to nothing at the half of the turns
         let less = height / 20 * turns.saturating_sub(2 * turn) / turns;
         if found > 0 && found + rng.below(less + 1) >= height {
@@ -49,11 +64,13 @@ pub fn climb(seed: u64, turns: u64, time: Duration, local: u32) {
 }
 
 /// Where a climb begins: the dearest known, the hard one, or a random one.
-fn first(rng: &mut Rng, seed: u64, local: u32) -> Outline {
-    match seed % 3 {
-        0 => outlines::dearest(local),
-        1 => inputs::hard(rng, 64),
-        _ => inputs::grown(rng, 64, 256, true),
+fn first(rng: &mut Rng, seed: u64, aim: Aim) -> Outline {
+    match (seed % 3, aim.trace) {
+        (0, true) => outlines::dearest_trace(),
+        (0, false) => outlines::dearest(aim.local),
+        (1, true) => inputs::hard_refused(rng, 64, 7),
+        (1, false) => inputs::hard(rng, 64),
+        _ => inputs::grown(rng, 64, 256, !aim.trace),
     }
 }
 

@@ -1,6 +1,6 @@
-//! `verify`: the proved code and the plain program answer the same. `rows`: runs each case once in `measured`, for callgrind, and
-//! prints a line for each; `rows NAME` only those whose names begin so. `worst`: milliseconds of the hardest outlines. With the feature
-//! `count`, `climb SEED TURNS SECONDS [local]` looks for a harder one.
+//! `verify`: the proved code and the plain program answer the same; `verify COUNT` compares only the traces, of so many outlines. `rows`:
+//! runs each case once in `measured`, for callgrind, and prints a line for each; `rows NAME` only those whose names begin so. `worst`:
+//! milliseconds of the hardest outlines. With the feature `count`, `climb SEED TURNS SECONDS [local] [trace]` looks for a harder one.
 
 mod automaton;
 mod c_step;
@@ -42,7 +42,7 @@ fn verify() {
     let [accepted, broken, refused] = checking::verify(&mut rng);
     println!("equal: {judged} judged steps; outlines: {accepted} accepted, {broken} broken, {refused} refused");
     println!("equal: {} refused sheets", reading::verify());
-    println!("equal: {} traces", checking::verify_traces(&mut rng));
+    println!("equal: {} traces", checking::verify_traces(&mut rng, 400));
     println!("equal: {} policy sheets written again", writing::verify());
 }
 
@@ -55,24 +55,24 @@ fn rows(only: &str) {
 }
 
 #[cfg(feature = "count")]
-fn climbed(seed: &str, turns: &str, seconds: &str, local: u32) {
+fn climbed(seed: &str, turns: &str, seconds: &str, aim: &[&str]) {
     let seconds = std::time::Duration::from_secs(seconds.parse().unwrap());
-    climb::climb(seed.parse().unwrap(), turns.parse().unwrap(), seconds, local);
+    let aim = climb::Aim { local: aim.contains(&"local").into(), trace: aim.contains(&"trace") };
+    climb::climb(seed.parse().unwrap(), turns.parse().unwrap(), seconds, aim);
 }
 
 fn main() {
     let words: Vec<String> = std::env::args().skip(1).collect();
     match words.iter().map(String::as_str).collect::<Vec<_>>()[..] {
         ["verify"] => verify(),
+        ["verify", count] => println!("equal: {} traces", checking::verify_traces(&mut Rng::new(6), count.parse().unwrap())),
         ["rows"] => rows(""),
         ["rows", only] => rows(only),
         ["worst"] => checking::worst(),
         #[cfg(feature = "count")]
-        ["climb", seed, turns, seconds] => climbed(seed, turns, seconds, 0),
-        #[cfg(feature = "count")]
-        ["climb", seed, turns, seconds, "local"] => climbed(seed, turns, seconds, 1),
+        ["climb", seed, turns, seconds, ref aim @ ..] => climbed(seed, turns, seconds, aim),
         _ => {
-            eprintln!("usage: bench verify | rows [NAME] | worst | climb SEED TURNS SECONDS [local]");
+            eprintln!("usage: bench verify [COUNT] | rows [NAME] | worst | climb SEED TURNS SECONDS [local] [trace]");
             std::process::exit(2);
         }
     }

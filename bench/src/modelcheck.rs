@@ -78,6 +78,11 @@ fn place(k: usize, open: bool, m: usize) -> usize {
     48 * k + m + if open { 8 } else { 0 }
 }
 
+/// The states in which a node is come to.
+pub fn come_to(u: &Table, k: usize, open: bool, m: usize) -> u16 {
+    u[place(k, open, m)]
+}
+
 /// A set for each state of a start.
 type Eight = [u16; 8];
 
@@ -155,12 +160,12 @@ fn ends_by(t: &Table, rows: &Table, reset: Option<Reset>, x: usize, node: Node, 
 pub static WORK: std::sync::atomic::AtomicU64 = std::sync::atomic::AtomicU64::new(0);
 
 #[cfg(feature = "count")]
-fn count(work: u64) {
+pub fn count(work: u64) {
     WORK.fetch_add(work, std::sync::atomic::Ordering::Relaxed);
 }
 
 #[cfg(not(feature = "count"))]
-fn count(_: u64) {}
+pub fn count(_: u64) {}
 
 /// By kind: sequences and fresh nodes take a union for each state of each start.
 fn settle_work(kind: u8) -> u64 {
@@ -186,7 +191,7 @@ fn settle_node(t: &mut Table, rows: &Table, reset: Option<Reset>, watch: Watch, 
 }
 
 /// The nodes whose rules read the ends of a node, as a bit set for each node.
-fn readers(nodes: &[u8]) -> [u64; 64] {
+pub fn readers(nodes: &[u8]) -> [u64; 64] {
     let mut readers = [0; 64];
     for k in 0..nodes.len() / 3 {
         let Node { kind, a, b, .. } = node(nodes, k);
@@ -325,7 +330,8 @@ pub fn least(resource: usize) -> usize {
     }
 }
 
-fn breaks(nodes: &[u8], rows: &Table, watch: Watch) -> bool {
+/// The table of what is come to, where the search hits.
+pub fn arrive(nodes: &[u8], rows: &Table, watch: Watch) -> Option<Table> {
     // where the policy is open no opening resets, so that the whole past needs no other table
     let mut opened = [0; 3072];
     settle(&mut opened, nodes, rows, None, watch);
@@ -337,11 +343,11 @@ fn breaks(nodes: &[u8], rows: &Table, watch: Watch) -> bool {
     found(nodes, rows, Ends { opened: &opened, shut: &shut }, watch)
 }
 
-fn found(nodes: &[u8], rows: &Table, ends: Ends, watch: Watch) -> bool {
+fn found(nodes: &[u8], rows: &Table, ends: Ends, watch: Watch) -> Option<Table> {
     let mut u = [0; 3072];
     u[watch.least] = 1;
     while pass_round(&mut u, ends, nodes, rows, watch) {}
-    hit_any(&u, nodes, rows, watch)
+    hit_any(&u, nodes, rows, watch).then_some(u)
 }
 
 pub fn fill_rows(table: &mut Table, edges: &[u8], nodes: &[u8], p: usize) {
@@ -375,7 +381,7 @@ fn leaves(edges: &[u8], local: bool, nodes: &[u8], policy: usize) -> bool {
     let mut table = [0; 3072];
     fill_rows(&mut table, edges, nodes, policy);
     (0..17).any(|resource| {
-        touched(nodes, resource) && breaks(nodes, &table, Watch { local, policy, resource, least: least(resource) })
+        touched(nodes, resource) && arrive(nodes, &table, Watch { local, policy, resource, least: least(resource) }).is_some()
     })
 }
 

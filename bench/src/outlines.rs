@@ -65,6 +65,11 @@ pub fn dearest(local: u32) -> Outline {
     Outline { local, ..read(text) }
 }
 
+/// The dearest whose counterexample is asked for.
+pub fn dearest_trace() -> Outline {
+    read(include_str!("../outlines/trace.txt"))
+}
+
 /// The same events in ever more sandboxes, and on ever more names.
 fn growth() -> Vec<Case> {
     let case = |policies: u8, names: u64| {

@@ -1,6 +1,6 @@
 //! Plain Rust: the check with a counterexample, as crates/checker_lengths, checker_trace and checker have it.
 
-use crate::modelcheck::{check, fill_rows, forget, later, least, node, Node, Table, Watch};
+use crate::modelcheck::{arrive, check, come_to, count, fill_rows, forget, later, least, node, readers, Node, Table, Watch};
 
 /// The aims of a node: to end in a state, the watched resource not created or created, or to break the policy.
 const BROKEN: usize = 16;
@@ -11,8 +11,9 @@ const NONE: u8 = 255;
 const ROOM: usize = 600;
 const WATCHED: usize = 16;
 
-/// A byte for each aim of each start of each node, the policy being open or not.
-type Lengths = [u8; 2 * 64 * 48 * AIMS];
+/// A byte for each aim of each start of each node, the policy being open or not. Only what is come to is filled.
+type Lengths = [u8; SIZE];
+const SIZE: usize = 2 * 64 * 48 * AIMS;
 
 /// Where a node is begun: the policy open or not, the meaning and the state.
 #[derive(Clone, Copy)]
@@ -134,9 +135,8 @@ fn offer(t: &Lengths, rows: &Table, watch: Watch, most: u8, node: Node, start: S
 }
 
 /// Can rule c give anything from this start?
-fn gives(t: &Lengths, rows: &Table, node: Node, start: Start, c: usize) -> bool {
+fn gives(rows: &Table, node: Node, start: Start, c: usize) -> bool {
     match node.kind {
-        3 if c < BROKEN => get(t, MOST + 1, start.at(node.a), c) <= MOST,
         7 if c < BROKEN => born(rows, start, c >= 8) >> (c % 8) & 1 == 1,
         _ => true,
     }
@@ -152,42 +152,86 @@ fn ways(kind: u8) -> usize {
     }
 }
 
+/// An entry set to v, if that is less.
+fn put(t: &mut Lengths, start: Start, aim: usize, v: u8) -> bool {
+    let entry = &mut t[start.place(aim)];
+    let less = v < *entry;
+    if less {
+        *entry = v;
+    }
+    less
+}
+
+/// What the first node takes to end in way c is asked once for all aims.
+fn settle_sequence(t: &mut Lengths, node: Node, start: Start, c: usize) -> bool {
+    let v = get(t, MOST + 1, start.at(node.a), c);
+    if v > MOST {
+        return false;
+    }
+    let from = start.second(node.b, c);
+    count((AIMS - start.low()) as u64);
+    let mut changed = false;
+    for aim in start.low()..AIMS {
+        let sum = plus(v, get(t, MOST + 1, from, aim));
+        changed |= put(t, start, aim, sum);
+    }
+    changed
+}
+
+fn settle_rule(t: &mut Lengths, rows: &Table, watch: Watch, node: Node, start: Start, c: usize) -> bool {
+    count(1);
+    if node.kind == 3 && c < BROKEN {
+        return settle_sequence(t, node, start, c);
+    }
+    let mut changed = false;
+    if gives(rows, node, start, c) {
+        count(3 * (AIMS - start.low()) as u64);
+        for aim in start.low()..AIMS {
+            let v = offer(t, rows, watch, MOST + 1, node, start, aim, c);
+            changed |= put(t, start, aim, v);
+        }
+    }
+    changed
+}
+
 fn settle_start(t: &mut Lengths, rows: &Table, watch: Watch, node: Node, start: Start) -> bool {
     let mut changed = false;
     for c in 0..ways(node.kind) {
-        if !gives(t, rows, node, start, c) {
-            continue;
-        }
-        for aim in start.low()..AIMS {
-            let v = offer(t, rows, watch, MOST + 1, node, start, aim, c);
-            let place = start.place(aim);
-            if v < t[place] {
-                t[place] = v;
-                changed = true;
-            }
-        }
+        changed |= settle_rule(t, rows, watch, node, start, c);
     }
     changed
 }
 
-fn settle_round(t: &mut Lengths, nodes: &[u8], rows: &Table, watch: Watch) -> bool {
+/// The starts of a node that are come to, by the table u.
+fn settle_node(t: &mut Lengths, rows: &Table, u: &Table, watch: Watch, node: Node) -> bool {
     let mut changed = false;
-    for k in (0..nodes.len() / 3).rev() {
-        let node = node(nodes, k);
-        for s in 8 * watch.least..48 {
-            for open in [false, true] {
-                let start = Start { node: k, open, meaning: s / 8, state: s % 8 };
-                changed |= settle_start(t, rows, watch, node, start);
+    for meaning in watch.least..6 {
+        for open in [false, true] {
+            let states = come_to(u, node.number, open, meaning);
+            count(2);
+            for state in (0..8).filter(|q| states >> q & 1 == 1) {
+                changed |= settle_start(t, rows, watch, node, Start { node: node.number, open, meaning, state });
             }
         }
     }
     changed
 }
 
-fn fill(nodes: &[u8], rows: &Table, watch: Watch) -> Lengths {
-    let mut t = [NONE; 2 * 64 * 48 * AIMS];
-    while settle_round(&mut t, nodes, rows, watch) {}
-    t
+/// A node is settled again only where the lengths of a node that its rule reads have changed. The nodes that are left are gone through in
+/// rounds, from the highest to the lowest.
+fn fill(t: &mut Lengths, nodes: &[u8], rows: &Table, u: &Table, watch: Watch) {
+    *t = [NONE; SIZE];
+    let readers = readers(nodes);
+    let mut left = u64::MAX >> (64 - nodes.len() / 3);
+    let mut k = 0;
+    while left != 0 {
+        let below = left & ((1 << k) - 1);
+        k = 63 - (if below == 0 { left } else { below }).leading_zeros() as usize;
+        left -= 1 << k;
+        if settle_node(t, rows, u, watch, node(nodes, k)) {
+            left |= readers[k];
+        }
+    }
 }
 
 /// What is written so far, and the number of the next fresh resource.
@@ -207,8 +251,14 @@ impl Writer<'_> {
         self.at += 1;
     }
 
-    fn idle(&self, start: Start, k: usize) -> bool {
-        get(self.t, 1, start.at(k), start.low() + start.state) == 0
+    /// Can a node end with no step?
+    fn idle(&self, start: Start) -> bool {
+        get(self.t, 1, start, start.low() + start.state) == 0
+    }
+
+    /// Can the second node of a sequence, begun where the whole is to end? Where the whole begins it need not be come to.
+    fn idle_after(&self, start: Start, aim: usize, b: usize) -> bool {
+        get(self.t, 1, start.second(b, aim), aim) == 0
     }
 
     /// The nodes that a node leads to with no step, as a set.
@@ -216,7 +266,7 @@ impl Writer<'_> {
         let Node { kind, a, b, .. } = node(self.nodes, k);
         let bit_if = |there: bool, k: usize| u64::from(there) << k;
         match kind {
-            3 => bit_if(aim == BROKEN || self.idle(start, b), a) | bit_if(self.idle(start, a), b),
+            3 => bit_if(aim == BROKEN || self.idle_after(start, aim, b), a) | bit_if(self.idle(start.at(a)), b),
             4 => 1 << a | 1 << b,
             5 | 6 => 1 << a,
             _ => 0,
@@ -227,6 +277,7 @@ impl Writer<'_> {
         let mut s = 1 << start.node;
         loop {
             let mut r = s;
+            count(self.nodes.len() as u64 / 3);
             for k in 0..self.nodes.len() / 3 {
                 if r >> k & 1 == 1 {
                     r |= self.leads(start, aim, k);
@@ -244,6 +295,7 @@ impl Writer<'_> {
         let s = self.closure(start, aim);
         let rule = |k: usize| {
             let node = node(self.nodes, k);
+            count(3 * ways(node.kind) as u64);
             let gives = |c: &usize| offer(self.t, self.rows, self.watch, n, node, start.at(k), aim, *c) == n;
             (0..ways(node.kind)).find(gives)
         };
@@ -304,15 +356,23 @@ fn write_shortest(edges: &[u8], local: bool, nodes: &[u8], policy: usize, trace:
     fill_rows(&mut rows, edges, nodes, policy);
     let watched = |resource: &usize| *resource == WATCHED || names_static(nodes, *resource);
     let watches = (0..=WATCHED).filter(watched).map(|resource| Watch { local, policy, resource, least: least(resource) });
-    let (mut shortest, mut length) = (None, NONE);
+    // one table, for one resource after the other
+    let mut t = [NONE; SIZE];
+    let (mut shortest, mut length, mut kept) = (None, NONE, false);
     for watch in watches {
-        let v = get(&fill(nodes, &rows, watch), MOST + 1, root(watch), BROKEN);
-        if v < length {
+        let Some(u) = arrive(nodes, &rows, watch) else { continue };
+        fill(&mut t, nodes, &rows, &u, watch);
+        let v = get(&t, MOST + 1, root(watch), BROKEN);
+        kept = v < length;
+        if kept {
             (shortest, length) = (Some(watch), v);
         }
     }
     let Some(watch) = shortest else { return 0 };
-    let t = fill(nodes, &rows, watch);
+    if !kept {
+        let Some(u) = arrive(nodes, &rows, watch) else { return 0 };
+        fill(&mut t, nodes, &rows, &u, watch);
+    }
     Writer { t: &t, nodes, rows: &rows, watch, trace, at: 0, next: 16 }.write(root(watch), BROKEN, length, [0; 4]);
     length.into()
 }

@@ -82,6 +82,7 @@ module _ (local : Bool) (es : List Edge) (ns : List Node) (p : ℕ) (S : Sight) 
   closed-least A on h closed = record { lengths = h; full = λ b a d s. goes-has A on closed d b a s }
 
 -- the entries below a number are lengths too
-pub less-lengths : {local : Bool} {es : List Edge} {ns : List Node} {p : ℕ} {S : Sight} {cap : ℕ} {E : Entries (S .Meaning) (S .Left)} (most : ℕ)
+pub less-lengths : {local : Bool} {es : List Edge} {ns : List Node} {p : ℕ} {S : Sight} {cap : ℕ} {E : Entries (S .Meaning) (S .Left)}
+    (most : ℕ)
     → Lengths local es ns p S cap E → Lengths local es ns p S cap (Less most E)
 less-lengths most h = record { sound = λ b a e. h .sound b a (e .1); capped = λ e. h .capped (e .1); one = λ e f. h .one (e .1) (f .1) }

@@ -17,7 +17,8 @@ use Rattle.usage.specs.Check.{Shown, this}
 use Rattle.checker_account.specs.Witness.{Sight, Last, each, Aim, ended, broken}
 use Rattle.checker_account.specs.Views.{views}
 use Rattle.checker_account.specs.Written.{next, Written}
-use Rattle.checker_account.specs.Least.{Entries, Starts, Followed, Aimed, at-end, at-break, Rule, Least, Less, Idle, Leads, PassesAll, ending}
+use Rattle.checker_account.specs.Least.{Entries, Starts, Followed, Aimed, at-end, at-break}
+use Rattle.checker_account.specs.Least.{Rule, Least, Less, Idle, Leads, PassesAll, ending}
 use Rattle.checker_account.proofs.Scoped.{Scoped}
 use Rattle.checker_account.proofs.Ahead.{Root, hits-exact}
 use Rattle.checker_account.proofs.Writing.{Given, given-child, given-fresh, written-length}
@@ -89,7 +90,8 @@ module _ (local : Bool) (es : List Edge) (ns : List Node) (p : ℕ) (S : Sight) 
         (h : Least local es ns p S A cap E) where
       -- every entry of fewer steps than this can be written
       abbrev Writes : ℕ → Type 0
-      Writes most = (n : ℕ) (o : Bool) (k : ℕ) (w : S .Meaning) (c : S .Left) (q : ℕ) (t : Aim (S .Left)) → n < most → A o k w c q → Aimed t → E n o k w c q t
+      Writes most = (n : ℕ) (o : Bool) (k : ℕ) (w : S .Meaning) (c : S .Left) (q : ℕ) (t : Aim (S .Left)) → n < most → A o k w c q
+          → Aimed t → E n o k w c q t
           → (names : Names) → Names-at k names → (past : Past) → (after : Past) × Written local es ns p S n o k names w c q past t after
 
       -- one rule, the entries of which can be written
@@ -111,16 +113,20 @@ module _ (local : Bool) (es : List Edge) (ns : List Node) (p : ℕ) (S : Sight) 
           (given-child local es ns p S scope outline k b₁ (outline .second i) g) mid in
           (after, Written.sequences i u v)
       by-rule r b a (Rule.chooses-left {n = n} {k = k} {w = w} {q = q} {a = a₁} {o = o} {c = c} {t = t} i (l, e)) names g past =
-          let (after, u) = r n o a₁ w c q t l (on .left i b) a e names (given-child local es ns p S scope outline k a₁ (outline .left i) g) past in
+          let (after, u) = r n o a₁ w c q t l (on .left i b) a e names
+          (given-child local es ns p S scope outline k a₁ (outline .left i) g) past in
           (after, Written.chooses-left i u)
       by-rule r b a (Rule.chooses-right {n = n} {k = k} {w = w} {q = q} {b = b₁} {o = o} {c = c} {t = t} i (l, e)) names g past =
-          let (after, u) = r n o b₁ w c q t l (on .right i b) a e names (given-child local es ns p S scope outline k b₁ (outline .right i) g) past in
+          let (after, u) = r n o b₁ w c q t l (on .right i b) a e names
+          (given-child local es ns p S scope outline k b₁ (outline .right i) g) past in
           (after, Written.chooses-right i u)
       by-rule r b a (Rule.enters {n = n} {k = k} {w = w} {q = q} {a = a₁} {o = o} {c = c} {t = t} i (l, e)) names g past =
-          let (after, u) = r n o a₁ w c q t l (on .body i b) a e names (given-child local es ns p S scope outline k a₁ (outline .body i) g) past in
+          let (after, u) = r n o a₁ w c q t l (on .body i b) a e names
+          (given-child local es ns p S scope outline k a₁ (outline .body i) g) past in
           (after, Written.enters i u)
       by-rule r b a (Rule.repeats {n = n} {k = k} {w = w} {q = q} {a = a₁} {o = o} {c = c} {t = t} i (l, e)) names g past =
-          let (after, u) = r n o a₁ w c q t l (on .again i b) a e names (given-child local es ns p S scope outline k a₁ (outline .again i) g) past in
+          let (after, u) = r n o a₁ w c q t l (on .again i b) a e names
+          (given-child local es ns p S scope outline k a₁ (outline .again i) g) past in
           (after, Written.repeats i u)
       by-rule r b a (Rule.makes {n = n} {k = k} {m = m} {b = b₁} {q₁ = q₁} {t = t} i y v (l, e)) names g past =
           let (after, u) = r n _ b₁ _ _ q₁ t l (on .created i y v b) a e (give names m (next past))

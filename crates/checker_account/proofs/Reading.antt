@@ -12,7 +12,8 @@ use Rattle.usage.specs.declared.Node.{Node}
 use Rattle.usage.specs.Outline.{Is, sequence}
 use Rattle.usage.proofs.Logic.{clash, false-true}
 use Rattle.checker_account.specs.Witness.{Sight, Last, Aim, ended, broken, Goes}
-use Rattle.checker_account.specs.Least.{Entries, Starts, Followed, Begun, Aimed, at-end, Rule, Lengths, Least, Less, Idle, Leads, PassesAll, ending, Onto}
+use Rattle.checker_account.specs.Least.{Entries, Starts, Followed, Begun, Aimed, at-end, Rule}
+use Rattle.checker_account.specs.Least.{Lengths, Least, Less, Idle, Leads, PassesAll, ending, Onto}
 use Rattle.checker_account.proofs.Ahead.{goes-in}
 
 same-left : {L : Type 0} (c c′ : L) (q q′ : ℕ) → ended c q ≡ ended c′ q′ → c ≡ c′
@@ -189,7 +190,8 @@ module _ (local : Bool) (es : List Edge) (ns : List Node) (p : ℕ) (S : Sight) 
     leads-among b (Leads.body i) = on .body i b
     leads-among b (Leads.again i) = on .again i b
 
-    pub passes-among : {whole o : Bool} {k j : ℕ} {w : S .Meaning} {c : S .Left} {q : ℕ} → A o k w c q → PassesAll ns whole k j → A o j w c q
+    pub passes-among : {whole o : Bool} {k j : ℕ} {w : S .Meaning} {c : S .Left} {q : ℕ} → A o k w c q → PassesAll ns whole k j
+        → A o j w c q
     passes-among b PassesAll.here = b
     passes-among b (PassesAll.on l s) = passes-among (leads-among b l) s
 
@@ -220,7 +222,8 @@ module _ (local : Bool) (es : List Edge) (ns : List Node) (p : ℕ) (S : Sight) 
     entry-in {o = o} {k = k} {w = w} {c = c} {q = q} {t = t} e d = subst (λ (n : ℕ). E n o k w c q t) e d
 
     -- the rule that a least derivation begins with, over the entries
-    entries : {n m : ℕ} {o : Bool} {k j : ℕ} {w : S .Meaning} {c : S .Left} {q : ℕ} {t : Aim (S .Left)} → A o k w c q → A o j w c q → Aimed t
+    entries : {n m : ℕ} {o : Bool} {k j : ℕ} {w : S .Meaning} {c : S .Left} {q : ℕ} {t : Aim (S .Left)} → A o k w c q → A o j w c q
+        → Aimed t
         → E n o k w c q t
         → PassesAll ns (ending t) k j
         → Rule local es ns p S (Less n (Goes local es ns p S)) m o j w c q t → m ≡ n → Rule local es ns p S (Less n E) m o j w c q t
@@ -233,7 +236,8 @@ module _ (local : Bool) (es : List Edge) (ns : List Node) (p : ℕ) (S : Sight) 
         let b₁ = on .second i z d₁ in
         let (m₁, k₁, e₁) = h .full z₁ at-end d₁ (omega arith) in
         let (m₂, k₂, e₂) = h .full b₁ a d₂ (omega arith) in
-        let low = entry-least b a e (passes-goes t s (Goes.sequences i (h .lengths .sound (on .occurs z₁) at-end e₁) (h .lengths .sound (on .occurs b₁) a e₂))) in
+        let low = entry-least b a e (passes-goes t s (Goes.sequences i (h .lengths .sound (on .occurs z₁) at-end e₁)
+        (h .lengths .sound (on .occurs b₁) a e₂))) in
         let same₁ : m₁ ≡ n₁ = omega arith in
         let same₂ : m₂ ≡ n₂ = omega arith in
         Rule.sequences i (l₁, entry-in same₁ e₁) (l₂, entry-in same₂ e₂)

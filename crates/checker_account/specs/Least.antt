@@ -107,14 +107,16 @@ pub record Lengths (local : Bool) (es : List Edge) (ns : List Node) (p : ℕ) (S
       → n ≡ m
 
 -- The entries of the starts in A are the least lengths, of those that are `cap` or less.
-pub record Least (local : Bool) (es : List Edge) (ns : List Node) (p : ℕ) (S : Sight) (A : Starts S) (cap : ℕ) (E : Entries (S .Meaning) (S .Left)) : Type 0 where
+pub record Least (local : Bool) (es : List Edge) (ns : List Node) (p : ℕ) (S : Sight) (A : Starts S) (cap : ℕ)
+    (E : Entries (S .Meaning) (S .Left)) : Type 0 where
   pub lengths : Lengths local es ns p S cap E
   pub full : {n : ℕ} {o : Bool} {k : ℕ} {w : S .Meaning} {c : S .Left} {q : ℕ} {t : Aim (S .Left)} → A o k w c q → Aimed t
       → Goes local es ns p S n o k w c q t → n ≤ cap → (m : ℕ) × (m ≤ n) × E m o k w c q t
 
 -- At the starts in A no rule gives less than what stands there: what filling that changes nothing any more says.
 abbrev pub Closed : Bool → List Edge → List Node → ℕ → (S : Sight) → Starts S → ℕ → Entries (S .Meaning) (S .Left) → Type 0
-Closed local es ns p S A cap E = (n : ℕ) (o : Bool) (k : ℕ) (w : S .Meaning) (c : S .Left) (q : ℕ) (t : Aim (S .Left)) → A o k w c q → Aimed t → Rule local es ns p S E n o k w c q t → n ≤ cap
+Closed local es ns p S A cap E = (n : ℕ) (o : Bool) (k : ℕ) (w : S .Meaning) (c : S .Left) (q : ℕ) (t : Aim (S .Left)) → A o k w c q
+    → Aimed t → Rule local es ns p S E n o k w c q t → n ≤ cap
     → (m : ℕ) × (m ≤ n) × E m o k w c q t
 
 -- ── How a trace is read from them ──

@@ -154,14 +154,16 @@ module _ (local : Bool) (es : List Edge) (nodes : List ℕ) (p x : ℕ) (rows : 
   come-at : {u : List ℕ} {o : Bool} {k w : ℕ} {c : Bool} {q : ℕ} → Come x u o k w c q → HasCome u k o (meaningOf w c) q
   come-at {u} {o} {k} {w} {c} {q} h =
       let same : h .meaning ≡ meaningOf w c =
-      sym (meaning-is (h .meaning)) ∙ ap (λ (z : Bool). meaningOf (nameOf (h .meaning)) z) (h .made) ∙ ap (λ (v : ℕ). meaningOf v c) (h .name) in
+      sym (meaning-is (h .meaning)) ∙ ap (λ (z : Bool). meaningOf (nameOf (h .meaning)) z) (h .made)
+      ∙ ap (λ (v : ℕ). meaningOf v c) (h .name) in
       subst (λ (m : ℕ). HasCome u k o m q) same (h .entered)
 
   abbrev pub Run : Starts (watching x)
   Run = ComeTo local es (nodesOf nodes) p (watching x)
 
   pub run-followed : Followed local es (nodesOf nodes) p (watching x) Run
-  run-followed = come-followed local es (nodesOf nodes) p (watching x) (src .edges) (watching-keeps x) (names-ok (nodesOf nodes) (src .outline))
+  run-followed = come-followed local es (nodesOf nodes) p (watching x) (src .edges) (watching-keeps x)
+      (names-ok (nodesOf nodes) (src .outline))
 
   pub full-closed : (u t : List ℕ) → HoldsComes local es (nodesOf nodes) p x u → Full (watchOf local p x) rows nodes u t
       → Lengths local es (nodesOf nodes) p (watching x) mostShown (entriesIn t allLengths)
@@ -195,5 +197,6 @@ module _ (local : Bool) (es : List Edge) (nodes : List ℕ) (p x : ℕ) (rows : 
       let holds = comes-held local es (nodesOf nodes) p x (rowsIn rows) (src .small) (src .edges) (src .moves)
       (names-ok (nodesOf nodes) (src .outline)) (targets-ok (nodesOf nodes) (src .outline)) (length nodes / 3) (formsIn nodes) (omega arith)
       (forms-of nodes) (come .ends) (come .ends-filled) u (come .comes-filled) in
-      closed-least local es (nodesOf nodes) p (watching x) (watching-keeps x) (Scope (nodesOf nodes)) (src .edges) (scoped (nodesOf nodes) (src .outline)) mostShown
+      closed-least local es (nodesOf nodes) p (watching x) (watching-keeps x) (Scope (nodesOf nodes)) (src .edges)
+      (scoped (nodesOf nodes) (src .outline)) mostShown
       (entriesIn t allLengths) Run run-followed s (full-closed u t holds full s)

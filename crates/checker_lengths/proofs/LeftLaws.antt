@@ -23,7 +23,8 @@ use Rattle.checker_tables.proofs.WorkLaws.{all-left, neither, reader-in, reader
 use Rattle.checker_lengths.specs.declared.Entry.{Entry}
 use Rattle.checker_lengths.specs.declared.Watch.{Watch}
 use Rattle.checker_lengths.specs.Entries.{size, noLength, allLengths, inTable, below, held}
-use Rattle.checker_lengths.specs.Offers.{atNode, firstEntry, secondEntry, bodyEntry, innerEntry, sequenceOf, freshOf, sandboxOf, offerOf}
+use Rattle.checker_lengths.specs.Offers.{atNode, firstEntry, secondEntry, bodyEntry}
+use Rattle.checker_lengths.specs.Offers.{innerEntry, sequenceOf, freshOf, sandboxOf, offerOf}
 use Rattle.checker_lengths.specs.Rounds.{formHere, Reach, start, NodeSettled, Full}
 use Rattle.checker_lengths.specs.Code.{Fell, Apart, Pass}
 use Rattle.checker_lengths.proofs.NodeLaws.{node-in}

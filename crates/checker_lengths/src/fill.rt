@@ -236,9 +236,10 @@ fn next(left: u64, k: usize) -> usize
     }
 }
 
-// The table, for the moves of the watched policy; u is the table of what is come to. Where settling a node changes something, the nodes that
-// read it are left again. They are gone through from the highest to the lowest, since a child has a greater number than its parent, and one
-// that is left again above the current one waits for the next round: else each change around a loop would settle the whole loop anew.
+// The table, for the moves of the watched policy; u is the table of what is come to. Where settling a node changes something, the nodes
+// that read it are left again. They are gone through from the highest to the lowest, since a child has a greater number than its parent,
+// and one that is left again above the current one waits for the next round: else each change around a loop would settle the whole loop
+// anew.
 pub fn fill(nodes: &[u8], rows: &Table, u: &Table, w: Watch, t: &mut Lengths)
     requires { ⌜ NodesFit (now nodes) ⌝ }
     ensures { λ r. ⌜ Full w (now (rows .entry)) (now (nodes .entry)) (now (u .entry)) (now (t .exit)) ⌝ }

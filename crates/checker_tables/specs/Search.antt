@@ -70,7 +70,8 @@ abbrev pub hitIn : List ℕ → Bool → List ℕ → List ℕ → ℕ → ℕ �
 hitIn nodes local rows u p x l = hitAny local (rowsIn rows) p x u l (length nodes / nodeFields) (formsIn nodes)
 
 -- what the tables of ends lead to: u, the table of what is come to, and the answer
-pub record ArrivesBy (nodes : List ℕ) (local : Bool) (rows : List ℕ) (t : Bool → List ℕ) (p x l : ℕ) (u : List ℕ) (answer : Bool) : Type 0 where
+pub record ArrivesBy (nodes : List ℕ) (local : Bool) (rows : List ℕ) (t : Bool → List ℕ) (p x l : ℕ) (u : List ℕ)
+    (answer : Bool) : Type 0 where
   pub comes-filled : Filled (ComesBy nodes local rows t p l) (begins l) u
   pub told : answer ≡ hitIn nodes local rows u p x l
 

@@ -142,7 +142,8 @@ module _ (w : Watch) (rows nodes t : List ℕ) (e : Entry) (n r : ℕ)
 
   body-own : {es : List Edge} (a b j : ℕ) (names : outline.Names) (m : ℕ) (c : Bool) (past : Past) (aim : Aim Bool)
       → Ready w es rows nodes t
-      → Tells w es nodes e m c aim → Is (nodesOf nodes) j (fresh a b) → Coming w es nodes (e .opened) j m c (e .state) → 8 ≤ r → r < 16 → 1 ≤ n
+      → Tells w es nodes e m c aim → Is (nodesOf nodes) j (fresh a b) → Coming w es nodes (e .opened) j m c (e .state) → 8 ≤ r → r < 16
+      → 1 ≤ n
       → has (born rows (entryOf j (e .opened) (meaningOf m c) (e .state) (aimAt aim)) (leb 8 r)) (r % 8) ≡ true
       → Body es a b j names m c past aim
   body-own {es} a b j names m true past aim ready tells is come low high one h =

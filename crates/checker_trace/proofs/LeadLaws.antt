@@ -132,7 +132,8 @@ module _ (local : Bool) (es : List Edge) (nodes : List ℕ) (p x : ℕ) (rows t 
   idle-first j come h = go aim a refl
     where
       go : (u : Aim Bool) → Aimed u → aim ≡ u → (eqb (aimAt aim) 16 || idleAfter t here j) ≡ true
-      go u (at-end {c = c′} {q = q′}) e = or-right (eqb (aimAt aim) 16) (idleAfter t here j) (then-idle j c′ q′ e (come c′ q′ e) (h (ap ending e)))
+      go u (at-end {c = c′} {q = q′}) e = or-right (eqb (aimAt aim) 16) (idleAfter t here j)
+          (then-idle j c′ q′ e (come c′ q′ e) (h (ap ending e)))
       go u at-break e = or-left (eqb (aimAt aim) 16) (idleAfter t here j) (eq-eqb (aimAt aim) 16 (ap aimAt e))
 
   pub leads-of : (i j : ℕ) (f : Form) → Is (nodesOf nodes) i f → j < mostNodes → has (leadsOf t here f) j ≡ true
@@ -171,7 +172,8 @@ module _ (local : Bool) (es : List Edge) (nodes : List ℕ) (p x : ℕ) (rows t 
       (subst (λ (u : Aim Bool). Goes local es (nodesOf nodes) p (watching x) n o j m c q u) e goes)) h) (form-ok (src .outline) is .0)))
   of-leads n i j come goes (Leads.second {a = d} {b = s} is h) =
       from-form i j (sequence d s) is (has-right (bitIf (eqb (aimAt aim) 16 || idleAfter t here s) d) (bitIf (idleIn t here d) s) j
-      (bit-if-at (idleIn t here d) s (at-idle d (run-followed local es nodes p x rows src .first is come) h) (form-ok (src .outline) is .1)))
+      (bit-if-at (idleIn t here d) s (at-idle d (run-followed local es nodes p x rows src .first is come) h)
+      (form-ok (src .outline) is .1)))
   of-leads n i j come goes (Leads.left {a = d} {b = s} is) = from-form i j (choice d s) is
       (has-left (bitOf d) (bitOf s) j (bit-at d (form-ok (src .outline) is .0)))
   of-leads n i j come goes (Leads.right {a = d} {b = s} is) = from-form i j (choice d s) is
@@ -235,7 +237,8 @@ module _ (local : Bool) (es : List Edge) (nodes : List ℕ) (p x : ℕ) (rows t 
       let on = found local es (nodesOf nodes) p (watching x) At (run-followed local es nodes p x rows src) mostShown
       (entriesIn t allLengths) least come a (h, few) one in
       let goes = rule-sound local es (nodesOf nodes) p (watching x) (watching-keeps x) (Scope (nodesOf nodes)) (src .edges)
-      (scoped (nodesOf nodes) (src .outline)) mostShown (Less n (entriesIn t allLengths)) (less-lengths n (least .lengths)) b a (on .rule) in
+      (scoped (nodesOf nodes) (src .outline)) mostShown (Less n (entriesIn t allLengths)) (less-lengths n (least .lengths)) b a
+      (on .rule) in
       let f = offered local es (nodesOf nodes) p x rows src (held t n) (Less n (entriesIn t allLengths)) (reads-below n) b a
       (on .rule) few in
       let j = on .node in

@@ -188,7 +188,8 @@ module _ (w : Watch) (rows nodes t : List ℕ) (e : Entry) (n r : ℕ)
       ))
 
   -- what the body of a sandbox is told by
-  inner-tells : {es : List Edge} (a b j : ℕ) {m : ℕ} {c : Bool} {aim : Aim Bool} → Ready w es rows nodes t → Is (nodesOf nodes) j (sandbox a b)
+  inner-tells : {es : List Edge} (a b j : ℕ) {m : ℕ} {c : Bool} {aim : Aim Bool} → Ready w es rows nodes t
+      → Is (nodesOf nodes) j (sandbox a b)
       → Coming w es nodes (e .opened) j m c (e .state) → Tells w es nodes e m c aim → Tells w es nodes (innerEntry w e a b) m c aim
   inner-tells {es} a b j ready is come tells = record {
     meaning = tells .meaning;
@@ -216,7 +217,8 @@ module _ (w : Watch) (rows nodes t : List ℕ) (e : Entry) (n r : ℕ)
       let v : held t n (innerEntry w e a b) ≡ n - 1 = omega arith in
       let at-j = passes-names w rows nodes t e ready (u .passes) named in
       let scope = scoped (nodesOf nodes) (ready .source .outline) in
-      let (after, d, spot, laid-is) = inside es m c aim names t₀ (opening a ∷ past) ready (inner-tells a b (ch .0) ready (u .is) (u .come) tells)
+      let (after, d, spot, laid-is) = inside es m c aim names t₀ (opening a ∷ past) ready
+      (inner-tells a b (ch .0) ready (u .is) (u .come) tells)
       (held-cut t n allLengths (innerEntry w e a b) (n - 1) v (omega arith) (omega arith))
       (λ i y. at-j i (scope .inside (u .is) i y)) agree (spotted-opening past s a spotted)
       (laid-more t₀ past (opening a) 1 a 0 (s .at) trace refl (spotted .at) same (omega arith)) (omega arith) in
@@ -236,7 +238,8 @@ module _ (w : Watch) (rows nodes t : List ℕ) (e : Entry) (n r : ℕ)
       let v : held t n (innerEntry w e a b) ≡ n - 2 = omega arith in
       let at-j = passes-names w rows nodes t e ready (u .passes) named in
       let scope = scoped (nodesOf nodes) (ready .source .outline) in
-      let (past₁, d, spot, laid-is) = inside es m c aim names t₀ (opening a ∷ past) ready (inner-tells a b (ch .0) ready (u .is) (u .come) tells)
+      let (past₁, d, spot, laid-is) = inside es m c aim names t₀ (opening a ∷ past) ready
+      (inner-tells a b (ch .0) ready (u .is) (u .come) tells)
       (held-cut t n allLengths (innerEntry w e a b) (n - 2) v (omega arith) (omega arith))
       (λ i y. at-j i (scope .inside (u .is) i y)) agree (spotted-opening past s a spotted)
       (laid-more t₀ past (opening a) 1 a 0 (s .at) trace refl (spotted .at) same (omega arith)) (omega arith) in

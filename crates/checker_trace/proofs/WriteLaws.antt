@@ -57,7 +57,8 @@ module _ (w : Watch) (rows nodes t : List ℕ) (e : Entry) where
       let here : held t allLengths (told m c aim) ≡ n = sym (ap (held t allLengths) (tells-is tells)) ∙ h in
       begun-ended (w .local) es (nodesOf nodes) (w .policy) (watching (w .resource)) (ready .source .edges) (watching-keeps (w .resource))
       (tells .begun)
-      (subst (λ (u : Aim Bool). Goes (w .local) es (nodesOf nodes) (w .policy) (watching (w .resource)) n (e .opened) (e .node) m c (e .state) u) f
+      (subst (λ (u : Aim Bool). Goes (w .local) es (nodesOf nodes) (w .policy) (watching (w .resource)) n (e .opened) (e .node) m c
+      (e .state) u) f
       (ready .least .lengths .sound (tells .begun) (tells .aimed) (here, few)))
 
   -- ── The node to go on at ──
@@ -75,7 +76,8 @@ module _ (w : Watch) (rows nodes t : List ℕ) (e : Entry) where
   arrive n j r f few on g {es} {m} {c} {aim} ready tells steps there =
       let (s, closed, l, h, offer) = subst (λ (y : Entry). OntoIs w rows nodes t y n (By j r)) (tells-is tells) on in
       let passes = closure-passes (w .local) es nodes (w .policy) (w .resource) rows t (ready .source) (ready .least) (e .opened)
-      (e .node) m c (e .state) aim (tells .begun) (tells .aimed) (end-occurs n m c aim ready tells there steps) s closed j (omega arith) h in
+      (e .node) m c (e .state) aim (tells .begun) (tells .aimed) (end-occurs n m c aim ready tells there steps) s closed j
+      (omega arith) h in
       record {
         passes = passes;
         come = passes-among (w .local) es (nodesOf nodes) (w .policy) (watching (w .resource)) (Coming w es nodes)
@@ -137,7 +139,8 @@ module _ (w : Watch) (rows nodes t : List ℕ) (e : Entry) where
       at-node c m aim k = entryOf k (e .opened) (meaningOf m c) (e .state) (aimAt aim)
 
       -- the aim has a number, since the entry is in the table
-      pub range-of : {es : List Edge} {m : ℕ} {c : Bool} {aim : Aim Bool} → held t allLengths e ≡ n → Tells w es nodes e m c aim → aimAt aim < 17
+      pub range-of : {es : List Edge} {m : ℕ} {c : Bool} {aim : Aim Bool} → held t allLengths e ≡ n → Tells w es nodes e m c aim
+          → aimAt aim < 17
       range-of h tells = let (i, y, l) = held-is t allLengths e n h (omega arith) in
           subst (λ (y : ℕ). y < 17) (tells .number) (bounds e i .aim)
 

@@ -7,7 +7,7 @@ use mathlib.Core.List.{List, []}
 use lib.Dec.{eqb, ltb}
 use lib.Bits.{bitOr}
 use lib.ListN.{length, set, getD}
-use Rattle.usage.specs.Limits.{mostNodes, states, nodeFields, stepFields, mostShown, statics}
+use Rattle.usage.specs.Limits.{mostNodes, states, nodeFields, stepFields, mostShown, statics, resources}
 use Rattle.usage.specs.Outline.{Form, end, on-static, on-name, sequence, choice, loop, back, fresh, sandbox, noNames}
 use Rattle.automaton.specs.Mask.{has}
 use Rattle.checker_tables.specs.Search.{touched, hasRoom, Arrived, ArrivesIf}
@@ -141,7 +141,8 @@ Coming w es nodes = ComeTo (w .local) es (nodesOf nodes) (w .policy) (watching (
 -- the table is full at them, for these edges
 pub record Ready (w : Watch) (es : List Edge) (rows nodes t : List ℕ) : Type 0 where
   pub source : Source es (nodesOf nodes) (w .policy) (w .resource) rows
-  pub least : Least (w .local) es (nodesOf nodes) (w .policy) (watching (w .resource)) (Coming w es nodes) mostShown (entriesIn t allLengths)
+  pub least : Least (w .local) es (nodesOf nodes) (w .policy) (watching (w .resource)) (Coming w es nodes) mostShown
+      (entriesIn t allLengths)
 
 -- what an entry's numbers say: name n means the watched resource, c tells whether it was created, and the aim; and some run comes to it
 pub record Tells (w : Watch) (es : List Edge) (nodes : List ℕ) (e : Entry) (n : ℕ) (c : Bool) (aim : Aim Bool) : Type 0 where
@@ -174,9 +175,23 @@ Writes w rows nodes t e n g s trace r trace′ =
     (e .state) past aim after
     × Spotted after r × (trace′ ≡ laid t₀ after)
 
+-- Asked and promised by each function that writes n steps from a place on. The nodes are so few that a set of them is a number, the trace
+-- has room for the steps, and resources can be numbered on; the trace keeps its length, no more is written, and it is what is to be.
+abbrev pub Room : List ℕ → ℕ → Spot → List ℕ → Type 0
+Room nodes n s trace = (length nodes / nodeFields ≤ mostNodes)
+    × ((n ≤ mostShown) × ((stepFields * (s .at + n) ≤ length trace) × (s .next + n < resources)))
+
+abbrev pub PartWritten : Watch → List ℕ → List ℕ → List ℕ → Entry → ℕ → Names → Spot → List ℕ → Spot → List ℕ → Type 0
+PartWritten w rows nodes t e n g s trace r trace′ =
+    (length trace′ ≡ length trace) × (WithinSteps s n r × Writes w rows nodes t e n g s trace r trace′)
+
 -- rule c of a node of this form is where to go on from an entry of n steps
 abbrev pub Chosen : Watch → List ℕ → List ℕ → List ℕ → Entry → ℕ → Option Form → ℕ → Type 0
 Chosen w rows nodes t e n f c = (k : ℕ) × OntoIs w rows nodes t e n (By k c) × (formHere nodes k ≡ f)
+
+-- the same, and there is a step to write
+abbrev pub Picked : Watch → List ℕ → List ℕ → List ℕ → Entry → ℕ → Option Form → ℕ → Type 0
+Picked w rows nodes t e n f c = Chosen w rows nodes t e n f c × (1 ≤ n)
 
 -- ── The whole outline ──
 

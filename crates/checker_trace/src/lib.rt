@@ -187,7 +187,8 @@ fn show(nodes: &[u8], rows: &Table, w: Watch, n: u8, kept: bool, t: &mut Lengths
 }
 
 // A shortest trace of the outline that leaves policy p open and not respected, written into the lent table, three numbers to a step;
-// `local` is the choice of past. 40 and 41 as in document 01.
+// `local` is the choice of past. 40 and 41 as in document 01. It needs some 212 KB of stack: the table of lengths, 102 KB, and the
+// writer's recursion, 528 bytes for each step of the trace, of which there are at most 200.
 pub fn counterexample(
     edges: &[u8],
     local: bool,

@@ -1,12 +1,12 @@
 // The trace, written from a full table: by recursion on the number of steps of an entry.
 ghost use mathlib.Core.Path.{_≡_};
-ghost use Prim.Native.Nat.{ℕ, _+_, _*_, _/_, _<_, _≤_};
+ghost use Prim.Native.Nat.{ℕ, _+_, _*_, _<_, _≤_};
 ghost use mathlib.Core.Option.{some};
 ghost use lib.ListN.{length, getD, set};
-ghost use Rattle.usage.specs.Limits.{mostNodes, nodeFields, stepFields, mostShown, resources};
+ghost use Rattle.usage.specs.Limits.{stepFields, resources};
 ghost use Rattle.usage.specs.Outline.{sequence, fresh, sandbox};
 ghost use Rattle.checker_account.specs.Single.{noName};
-ghost use Rattle.checker_trace.specs.Code.{storedStep, onward, created, given, WithinSteps, Writes, Chosen};
+ghost use Rattle.checker_trace.specs.Code.{storedStep, onward, created, given, Room, Picked, PartWritten};
 use crate::Names;
 use crate::Onto;
 use crate::Spot;
@@ -88,15 +88,9 @@ fn write_sequence(
     b: u8,
     c: usize,
 ) -> Spot
-    requires { ⌜ length (now nodes) / nodeFields ≤ mostNodes ⌝ }
-    requires { ⌜ n ≤ mostShown ⌝ }
-    requires { ⌜ stepFields * (s .at + n) ≤ length (now trace) ⌝ }
-    requires { ⌜ s .next + n < resources ⌝ }
-    requires { ⌜ Chosen w (now rows) (now nodes) (now t) e n (some (sequence a b)) c ⌝ }
-    requires { ⌜ 1 ≤ n ⌝ }
-    ensures { λ r. ⌜ length (now (trace .exit)) ≡ length (now (trace .entry)) ⌝ }
-    ensures { λ r. ⌜ WithinSteps s n r ⌝ }
-    ensures { λ r. ⌜ Writes w (now (rows .entry)) (now (nodes .entry))
+    requires { ⌜ Room (now nodes) n s (now trace) ⌝ }
+    requires { ⌜ Picked w (now rows) (now nodes) (now t) e n (some (sequence a b)) c ⌝ }
+    ensures { λ r. ⌜ PartWritten w (now (rows .entry)) (now (nodes .entry))
         (now (t .entry)) e n g s (now (trace .entry)) r (now (trace .exit)) ⌝ }
 {
     let first = offers::first(e, a, c);
@@ -130,15 +124,9 @@ fn write_fresh(
     b: u8,
     c: usize,
 ) -> Spot
-    requires { ⌜ length (now nodes) / nodeFields ≤ mostNodes ⌝ }
-    requires { ⌜ n ≤ mostShown ⌝ }
-    requires { ⌜ stepFields * (s .at + n) ≤ length (now trace) ⌝ }
-    requires { ⌜ s .next + n < resources ⌝ }
-    requires { ⌜ Chosen w (now rows) (now nodes) (now t) e n (some (fresh a b)) c ⌝ }
-    requires { ⌜ 1 ≤ n ⌝ }
-    ensures { λ r. ⌜ length (now (trace .exit)) ≡ length (now (trace .entry)) ⌝ }
-    ensures { λ r. ⌜ WithinSteps s n r ⌝ }
-    ensures { λ r. ⌜ Writes w (now (rows .entry)) (now (nodes .entry))
+    requires { ⌜ Room (now nodes) n s (now trace) ⌝ }
+    requires { ⌜ Picked w (now rows) (now nodes) (now t) e n (some (fresh a b)) c ⌝ }
+    ensures { λ r. ⌜ PartWritten w (now (rows .entry)) (now (nodes .entry))
         (now (t .entry)) e n g s (now (trace .entry)) r (now (trace .exit)) ⌝ }
 {
     let made = create(trace, s);
@@ -174,15 +162,9 @@ fn write_sandbox(
     b: u8,
     c: usize,
 ) -> Spot
-    requires { ⌜ length (now nodes) / nodeFields ≤ mostNodes ⌝ }
-    requires { ⌜ n ≤ mostShown ⌝ }
-    requires { ⌜ stepFields * (s .at + n) ≤ length (now trace) ⌝ }
-    requires { ⌜ s .next + n < resources ⌝ }
-    requires { ⌜ Chosen w (now rows) (now nodes) (now t) e n (some (sandbox a b)) c ⌝ }
-    requires { ⌜ 1 ≤ n ⌝ }
-    ensures { λ r. ⌜ length (now (trace .exit)) ≡ length (now (trace .entry)) ⌝ }
-    ensures { λ r. ⌜ WithinSteps s n r ⌝ }
-    ensures { λ r. ⌜ Writes w (now (rows .entry)) (now (nodes .entry))
+    requires { ⌜ Room (now nodes) n s (now trace) ⌝ }
+    requires { ⌜ Picked w (now rows) (now nodes) (now t) e n (some (sandbox a b)) c ⌝ }
+    ensures { λ r. ⌜ PartWritten w (now (rows .entry)) (now (nodes .entry))
         (now (t .entry)) e n g s (now (trace .entry)) r (now (trace .exit)) ⌝ }
 {
     let begun = step(trace, s, 1, a as u32, 0);
@@ -209,13 +191,8 @@ pub(crate) fn write(
     g: Names,
     s: Spot,
 ) -> Spot
-    requires { ⌜ length (now nodes) / nodeFields ≤ mostNodes ⌝ }
-    requires { ⌜ n ≤ mostShown ⌝ }
-    requires { ⌜ stepFields * (s .at + n) ≤ length (now trace) ⌝ }
-    requires { ⌜ s .next + n < resources ⌝ }
-    ensures { λ r. ⌜ length (now (trace .exit)) ≡ length (now (trace .entry)) ⌝ }
-    ensures { λ r. ⌜ WithinSteps s n r ⌝ }
-    ensures { λ r. ⌜ Writes w (now (rows .entry)) (now (nodes .entry))
+    requires { ⌜ Room (now nodes) n s (now trace) ⌝ }
+    ensures { λ r. ⌜ PartWritten w (now (rows .entry)) (now (nodes .entry))
         (now (t .entry)) e n g s (now (trace .entry)) r (now (trace .exit)) ⌝ }
 {
     if n == 0 {

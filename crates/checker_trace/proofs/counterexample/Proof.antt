@@ -85,10 +85,12 @@ returns-5 c = let a =
 
 show-requires : tie.Need-show-requires
 show-requires c κs = let a =
-    c .before .before .before .before .before .before .before .before .before .before .before .before .before .before .before .before .before .before .args in
+    c .before .before .before .before .before .before .before .before .before .before .before .before .before .before .before .before
+    .before .before .args in
     let et = decides-edge-table (a .edges .now) .0
     (sym (c .before .before .before .before .before .before .before .before .before .before .before .before .before .edge-table-ok .ensures)
-    ∙ not-false (c .before .before .before .before .before .before .before .before .before .before .before .before .before .edge-table-ok .result)
+    ∙ not-false (c .before .before .before .before .before .before .before .before .before .before .before .before .before .edge-table-ok
+    .result)
     (c .before .before .before .before .before .before .before .before .before .before .before .before .if2 .left)) in
     let nt = decides-node-table (a .nodes .now) .0
     (sym (c .before .before .before .before .before .before .before .before .before .before .before .node-table-ok .ensures)
@@ -104,7 +106,11 @@ show-requires c κs = let a =
       few-nodes,
       (
         c .before .before .before .if5 .left,
-        (c .before .before .before .before .least .ensures .1, c .before .before .before .before .before .before .before .before .before .before .before .before .before .before .if1 .left),
+        (
+          c .before .before .before .before .least .ensures .1,
+          c .before .before .before .before .before .before .before .before .before
+              .before .before .before .before .before .if1 .left,
+        ),
       ),
     )
 
@@ -113,15 +119,20 @@ same-length c = c .before .before .show .ensures .0
 
 returns-6 : tie.Need-returns-6
 returns-6 c = let a =
-    c .before .before .before .before .before .before .before .before .before .before .before .before .before .before .before .before .before .before .before .before .before .args in
+    c .before .before .before .before .before .before .before .before .before .before .before .before .before .before .before .before
+    .before .before .before .before .before .args in
     let et = decides-edge-table (a .edges .now) .0
-    (sym (c .before .before .before .before .before .before .before .before .before .before .before .before .before .before .before .before .edge-table-ok
+    (sym (c .before .before .before .before .before .before .before .before .before .before .before .before .before .before .before .before
+    .edge-table-ok
     .ensures) ∙ not-false
     (c .before .before .before .before .before .before .before .before .before .before .before .before .before .before .before .before
-    .edge-table-ok .result) (c .before .before .before .before .before .before .before .before .before .before .before .before .before .before .before .if2 .left)) in
+    .edge-table-ok .result) (c .before .before .before .before .before .before .before .before .before .before .before .before .before
+    .before .before .if2 .left)) in
     let nt = decides-node-table (a .nodes .now) .0
-    (sym (c .before .before .before .before .before .before .before .before .before .before .before .before .before .before .node-table-ok .ensures)
-    ∙ not-false (c .before .before .before .before .before .before .before .before .before .before .before .before .before .before .node-table-ok .result)
+    (sym (c .before .before .before .before .before .before .before .before .before .before .before .before .before .before .node-table-ok
+    .ensures)
+    ∙ not-false (c .before .before .before .before .before .before .before .before .before .before .before .before .before .before
+    .node-table-ok .result)
     (c .before .before .before .before .before .before .before .before .before .before .before .before .before .if3 .left)) in
     let rows = c .before .before .before .before .before .before .before .before .before .before .fill .last .1 .1 .1 .0 in
     let src = laws.source-of (a .edges .now) (a .nodes .now) (et .edges) (nt .outline) (a .p)
@@ -136,12 +147,14 @@ returns-6 c = let a =
     let es = edgesOf (a .edges .now) in
     let (after, run, same) = c .before .before .show .ensures .1 es (src (r .resource) small) steps in
     let shown = laws.shown-some (a .local) es (a .nodes .now) (a .p) rows src r
-    (c .before .before .before .before .before .before .before .least .ensures .0) (no-pair (et .edges) (a .p)) (r .resource) small (et .edges) (nt .outline) few after run in
+    (c .before .before .before .before .before .before .before .least .ensures .0) (no-pair (et .edges) (a .p)) (r .resource) small
+    (et .edges) (nt .outline) few after run in
     let long = written-length (a .local) es (nodesOf (a .nodes .now)) (a .p) (watching (r .resource)) run in
     let n : length after ≡ r .length = long ∙ omega arith in
     subst (λ (u : List ℕ). Told (a .local) (a .edges .now) (a .nodes .now) (a .p) (a .trace .now) (Of (r .length)) u) (sym same)
     (subst (λ (i : ℕ). Told (a .local) (a .edges .now) (a .nodes .now) (a .p) (a .trace .now) (Of i) (laid (a .trace .now) after)) n
-    (this-long (c .before .before .before .before .before .before .before .before .before .before .before .before .before .before .before .before .before .if1 .left) et nt shown))
+    (this-long (c .before .before .before .before .before .before .before .before .before .before .before .before .before .before .before
+    .before .before .if1 .left) et nt shown))
 
 pub counterexample-spec : {M : Type 1} → statement M
 counterexample-spec =

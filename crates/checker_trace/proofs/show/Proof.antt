@@ -32,7 +32,8 @@ root-requires : tie.Need-root-requires
 root-requires c κs = search needs
 
 write-requires : tie.Need-write-requires
-write-requires c κs = let p = c .before .before .before .before .before .before .before .before .pre in (p .0, (p .1 .0, (omega arith, omega arith)))
+write-requires c κs = let p = c .before .before .before .before .before .before .before .before .pre in
+    (p .0, (p .1 .0, (omega arith, omega arith)))
 
 same-length : tie.Need-same-length
 same-length c = c .before .before .write .ensures .0

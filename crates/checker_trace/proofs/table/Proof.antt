@@ -21,7 +21,8 @@ returns c =
     let r = c .before .arrive in (
       (
         r .last .1 .1 .1 .1 .1 .0,
-        subst (λ (b : Bool). ArrivesIf (hasRoom (a .nodes .now)) (a .nodes .now) (a .w .local) (a .rows .now) (a .w .policy) (a .w .resource)
+        subst (λ (b : Bool). ArrivesIf (hasRoom (a .nodes .now)) (a .nodes .now) (a .w .local) (a .rows .now) (a .w .policy)
+            (a .w .resource)
             (r .last .1 .1 .1 .1 .1 .0) b) (not-true (r .result) (c .if1 .taken)) (r .ensures),
       ),
       λ e. refl,

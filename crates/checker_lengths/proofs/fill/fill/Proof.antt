@@ -175,8 +175,19 @@ settle-node-requires c κs =
     let l = c .before .before .before .before .before .before .before .before .least .result in
     let i = c .before .before .before .before .loop in
     let h = c .before .before .next in
-    let low : l < meanings = omega (arith, c .before .before .before .before .before .before .before .before .least .ensures, least-le (a .w .resource)) in
-    (i .inv .1 .size-is, (low, small (a .w) (a .rows .now) (a .nodes .now) (a .u .now) l p (i .t) (i .left) (h .result) (i .inv .1) (h .ensures)))
+    let low : l < meanings = omega (
+      arith,
+      c .before .before .before .before .before .before .before .before .least .ensures,
+      least-le
+          (a .w .resource),
+    ) in (
+      i .inv .1 .size-is,
+      (
+        low,
+        small (a .w) (a .rows .now) (a .nodes .now) (a .u .now) l p (i .t) (i .left) (h .result) (i .inv .1)
+            (h .ensures),
+      ),
+    )
 
 mul-left : tie.Need-mul-left Inv-loop μ-loop
 mul-left c =
@@ -262,7 +273,8 @@ returns c =
     let a = c .before .before .before .before .before .before .before .before .args in
     let l = c .before .before .before .before .before .least in
     let i = c .before .loop in
-    working-full (a .w) (a .rows .now) (a .nodes .now) (a .u .now) (l .result) (c .before .before .before .before .before .before .before .before .pre .few) (l .ensures)
+    working-full (a .w) (a .rows .now) (a .nodes .now) (a .u .now) (l .result)
+    (c .before .before .before .before .before .before .before .before .pre .few) (l .ensures)
     (subst (Left (a .w) (a .rows .now) (a .nodes .now) (a .u .now) (l .result) (i .t)) (c .loop-test .left) (i .inv .1))
 
 pub fill-spec : {M : Type 1} → statement M

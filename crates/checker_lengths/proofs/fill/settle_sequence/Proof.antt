@@ -76,7 +76,8 @@ returns c = λ w rows.
     let a = c .before .before .before .before .args in
     let p = c .before .before .before .before .pre in
     let e = c .before .get .ensures ∙ ap (held (a .t .now) allLengths) (c .before .before .first .ensures) in
-    pass-none (λ i lo k. none-given (a .s) (a .a) (a .b) (a .c) (p .1 .1 .0) (a .t .now) (c .before .get .result) e (c .if1 .taken) w rows i)
+    pass-none (λ i lo k. none-given (a .s) (a .a) (a .b) (a .c) (p .1 .1 .0) (a .t .now) (c .before .get .result) e
+    (c .if1 .taken) w rows i)
 
 second-requires : tie.Need-second-requires Inv-loop μ-loop
 second-requires c κs = search needs

@@ -24,7 +24,8 @@ use Rattle.checker_lengths.proofs.offers.has.Reads as has-reads
 
 abbrev Inv-loop : tie.InvT-loop
 Inv-loop t₀ rows w f k opened meaning v changed₀ q₀ t changed q = (q ≤ 8)
-    × Pass w rows k (formOf f) (λ u. (j : ℕ) → j < q → has v j ≡ true → StartSettled w rows (formOf f) u (entryOf k opened meaning j 0)) t₀ t changed
+    × Pass w rows k (formOf f) (λ u. (j : ℕ) → j < q → has v j ≡ true → StartSettled w rows (formOf f) u (entryOf k opened meaning j 0)) t₀
+    t changed
 
 abbrev μ-loop : tie.MeasureT-loop
 μ-loop t₀ rows w f k opened meaning v changed₀ q₀ t changed q = 8 - q

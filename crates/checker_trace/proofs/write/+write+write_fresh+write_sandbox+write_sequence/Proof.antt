@@ -271,7 +271,7 @@ write-write-sequence-requires t c κs = let a = c .before .before .before .befor
     let fm : formHere (a .nodes .now) k ≡ formOf (c .before .before .node .result) = sym (ap formOf (c .before .before .node .ensures)) in
     let form = fm ∙ form-3 (c .before .before .node .result) (c .before .match2 .keys3) in
     let one : 1 ≤ a .n = omega (arith, c .before .before .before .before .before .before .before .if1 .left) in
-    (omega arith, (p .0, (few, (room, (fresh-room, ((k, on, form), one))))))
+    (omega arith, (p, ((k, on, form), one)))
 
 -- src/write.rt:226:14
 write-write-fresh-requires : (t : ℕ) → write-lts.Need-write-fresh-requires (write-known t) (write-at t) write.Post
@@ -288,7 +288,7 @@ write-write-fresh-requires t c κs = let a = c .before .before .before .before .
     let fm : formHere (a .nodes .now) k ≡ formOf (c .before .before .node .result) = sym (ap formOf (c .before .before .node .ensures)) in
     let form = fm ∙ form-7 (c .before .before .node .result) (c .before .match2 .keys4) in
     let one : 1 ≤ a .n = omega (arith, c .before .before .before .before .before .before .before .if1 .left) in
-    (omega arith, (p .0, (few, (room, (fresh-room, ((k, on, form), one))))))
+    (omega arith, (p, ((k, on, form), one)))
 
 -- src/write.rt:227:14
 write-write-sandbox-requires : (t : ℕ) → write-lts.Need-write-sandbox-requires (write-known t) (write-at t) write.Post
@@ -305,7 +305,7 @@ write-write-sandbox-requires t c κs = let a = c .before .before .before .before
     let fm : formHere (a .nodes .now) k ≡ formOf (c .before .before .node .result) = sym (ap formOf (c .before .before .node .ensures)) in
     let form = fm ∙ form-8 (c .before .before .node .result) (c .before .match2 .keys5) in
     let one : 1 ≤ a .n = omega (arith, c .before .before .before .before .before .before .before .if1 .left) in
-    (omega arith, (p .0, (few, (room, (fresh-room, ((k, on, form), one))))))
+    (omega arith, (p, ((k, on, form), one)))
 
 -- src/write.rt:194:1
 write-same-length : (t : ℕ) → write-lts.Need-same-length (write-known t) (write-at t) write.Post
@@ -461,11 +461,11 @@ write-fresh-create-requires : (t : ℕ) → write-fresh-lts.Need-create-requires
 write-fresh-create-requires t c κs = let a = c .before .before .before .args in
     let p = c .before .before .before .pre .1 in
     let mz = c .before .before .before .pre .0 in
-    let few = p .1 .0 in
-    let room = p .1 .1 .0 in
-    let fresh-room = p .1 .1 .1 .0 in
-    let ch = p .1 .1 .1 .1 .0 in
-    let one = p .1 .1 .1 .1 .1 in
+    let few = p .0 .1 .0 in
+    let room = p .0 .1 .1 .0 in
+    let fresh-room = p .0 .1 .1 .1 in
+    let ch = p .1 .0 in
+    let one = p .1 .1 in
     (omega arith, omega arith)
 
 -- src/write.rt:140:9
@@ -473,11 +473,11 @@ write-fresh-same-length : (t : ℕ) → write-fresh-lts.Need-same-length (write-
 write-fresh-same-length t c = let a = c .before .before .before .before .before .before .before .args in
     let p = c .before .before .before .before .before .before .before .pre .1 in
     let mz = c .before .before .before .before .before .before .before .pre .0 in
-    let few = p .1 .0 in
-    let room = p .1 .1 .0 in
-    let fresh-room = p .1 .1 .1 .0 in
-    let ch = p .1 .1 .1 .1 .0 in
-    let one = p .1 .1 .1 .1 .1 in
+    let few = p .0 .1 .0 in
+    let room = p .0 .1 .1 .0 in
+    let fresh-room = p .0 .1 .1 .1 in
+    let ch = p .1 .0 in
+    let one = p .1 .1 in
     ap length (c .before .before .before .create .ensures .0) ∙ stored-length (a .trace .now) (a .s .at) 0 0 (a .s .next)
 
 -- src/write.rt:140:9
@@ -485,11 +485,11 @@ write-fresh-returns : (t : ℕ) → write-fresh-lts.Need-returns (write-fresh-kn
 write-fresh-returns t c = let a = c .before .before .before .before .before .before .before .args in
     let p = c .before .before .before .before .before .before .before .pre .1 in
     let mz = c .before .before .before .before .before .before .before .pre .0 in
-    let few = p .1 .0 in
-    let room = p .1 .1 .0 in
-    let fresh-room = p .1 .1 .1 .0 in
-    let ch = p .1 .1 .1 .1 .0 in
-    let one = p .1 .1 .1 .1 .1 in
+    let few = p .0 .1 .0 in
+    let room = p .0 .1 .1 .0 in
+    let fresh-room = p .0 .1 .1 .1 in
+    let ch = p .1 .0 in
+    let one = p .1 .1 in
     let made = c .before .before .before .create .ensures .1 in
     let at = ap (λ (y : Spot). y .at) made in
     let nx = ap (λ (y : Spot). y .next) made in
@@ -498,7 +498,8 @@ write-fresh-returns t c = let a = c .before .before .before .before .before .bef
       len,
       (
         record { at = omega arith; next = omega arith },
-        wrote-born (a .w) (a .rows .now) (a .nodes .now) (a .t .now) (a .e) (a .n) (a .c) (p .0) few (a .a) (a .b) ch (c .if1 .taken) (a .g)
+        wrote-born (a .w) (a .rows .now) (a .nodes .now) (a .t .now) (a .e) (a .n) (a .c) (p .0 .0) few (a .a) (a .b) ch (c .if1 .taken)
+            (a .g)
             (a .s) (a .trace .now) (c .before .before .before .create .result) made (c .before .before .before .create .last .0) tr,
       ),
     )
@@ -516,11 +517,11 @@ write-fresh-sub-write : (t : ℕ) → write-fresh-lts.Need-sub-write (write-fres
 write-fresh-sub-write t c = let a = c .before .before .before .before .before .before .before .before .before .before .args in
     let p = c .before .before .before .before .before .before .before .before .before .before .pre .1 in
     let mz = c .before .before .before .before .before .before .before .before .before .before .pre .0 in
-    let few = p .1 .0 in
-    let room = p .1 .1 .0 in
-    let fresh-room = p .1 .1 .1 .0 in
-    let ch = p .1 .1 .1 .1 .0 in
-    let one = p .1 .1 .1 .1 .1 in
+    let few = p .0 .1 .0 in
+    let room = p .0 .1 .1 .0 in
+    let fresh-room = p .0 .1 .1 .1 in
+    let ch = p .1 .0 in
+    let one = p .1 .1 in
     omega arith
 
 -- src/write.rt:143:5
@@ -528,17 +529,17 @@ write-fresh-write-requires : (t : ℕ) → write-fresh-lts.Need-write-requires (
 write-fresh-write-requires t c κs = let a = c .before .before .before .before .before .before .before .before .before .before .args in
     let p = c .before .before .before .before .before .before .before .before .before .before .pre .1 in
     let mz = c .before .before .before .before .before .before .before .before .before .before .pre .0 in
-    let few = p .1 .0 in
-    let room = p .1 .1 .0 in
-    let fresh-room = p .1 .1 .1 .0 in
-    let ch = p .1 .1 .1 .1 .0 in
-    let one = p .1 .1 .1 .1 .1 in
+    let few = p .0 .1 .0 in
+    let room = p .0 .1 .1 .0 in
+    let fresh-room = p .0 .1 .1 .1 in
+    let ch = p .1 .0 in
+    let one = p .1 .1 in
     let made = c .before .before .before .before .before .before .create .ensures .1 in
     let at = ap (λ (y : Spot). y .at) made in
     let nx = ap (λ (y : Spot). y .next) made in
     let tr = c .before .before .before .before .before .before .create .ensures .0 in
     let len = ap length tr ∙ stored-length (a .trace .now) (a .s .at) 0 0 (a .s .next) in
-    (omega arith, (p .0, (omega arith, (omega arith, omega arith))))
+    (omega arith, (p .0 .0, (omega arith, (omega arith, omega arith))))
 
 -- src/write.rt:114:1
 write-fresh-same-length-2 : (t : ℕ) → write-fresh-lts.Need-same-length-2 (write-fresh-known t) (write-fresh-at t) write-fresh.Post
@@ -546,11 +547,11 @@ write-fresh-same-length-2 t c = let a =
     c .before .before .before .before .before .before .before .before .before .before .before .before .before .args in
     let p = c .before .before .before .before .before .before .before .before .before .before .before .before .before .pre .1 in
     let mz = c .before .before .before .before .before .before .before .before .before .before .before .before .before .pre .0 in
-    let few = p .1 .0 in
-    let room = p .1 .1 .0 in
-    let fresh-room = p .1 .1 .1 .0 in
-    let ch = p .1 .1 .1 .1 .0 in
-    let one = p .1 .1 .1 .1 .1 in
+    let few = p .0 .1 .0 in
+    let room = p .0 .1 .1 .0 in
+    let fresh-room = p .0 .1 .1 .1 in
+    let ch = p .1 .0 in
+    let one = p .1 .1 in
     c .before .before .write .ensures .0 ∙ ap length
     (c .before .before .before .before .before .before .before .before .before .create .ensures .0)
     ∙ stored-length (a .trace .now) (a .s .at) 0 0 (a .s .next)
@@ -561,11 +562,11 @@ write-fresh-returns-2 t c = let a =
     c .before .before .before .before .before .before .before .before .before .before .before .before .before .args in
     let p = c .before .before .before .before .before .before .before .before .before .before .before .before .before .pre .1 in
     let mz = c .before .before .before .before .before .before .before .before .before .before .before .before .before .pre .0 in
-    let few = p .1 .0 in
-    let room = p .1 .1 .0 in
-    let fresh-room = p .1 .1 .1 .0 in
-    let ch = p .1 .1 .1 .1 .0 in
-    let one = p .1 .1 .1 .1 .1 in
+    let few = p .0 .1 .0 in
+    let room = p .0 .1 .1 .0 in
+    let fresh-room = p .0 .1 .1 .1 in
+    let ch = p .1 .0 in
+    let one = p .1 .1 in
     let made = c .before .before .before .before .before .before .before .before .before .create .ensures .1 in
     let at = ap (λ (y : Spot). y .at) made in
     let nx = ap (λ (y : Spot). y .next) made in
@@ -591,7 +592,7 @@ write-fresh-returns-2 t c = let a =
       c .before .before .write .ensures .0 ∙ len,
       (
         record { at = omega arith; next = omega arith },
-        wrote-fresh (a .w) (a .rows .now) (a .nodes .now) (a .t .now) (a .e) (a .n) (a .c) (p .0) few (a .a) (a .b) ch
+        wrote-fresh (a .w) (a .rows .now) (a .nodes .now) (a .t .now) (a .e) (a .n) (a .c) (p .0 .0) few (a .a) (a .b) ch
             (c .before .before .before .before .before .before .if1 .left) (a .g) four (a .s) (a .trace .now)
             (c .before .before .write .result) (c .before .before .write .last .1 .1 .1 .1 .0) inside,
       ),
@@ -602,11 +603,11 @@ write-sandbox-step-requires : (t : ℕ) → write-sandbox-lts.Need-step-requires
 write-sandbox-step-requires t c κs = let a = c .before .before .before .args in
     let p = c .before .before .before .pre .1 in
     let mz = c .before .before .before .pre .0 in
-    let few = p .1 .0 in
-    let room = p .1 .1 .0 in
-    let fresh-room = p .1 .1 .1 .0 in
-    let ch = p .1 .1 .1 .1 .0 in
-    let one = p .1 .1 .1 .1 .1 in
+    let few = p .0 .1 .0 in
+    let room = p .0 .1 .1 .0 in
+    let fresh-room = p .0 .1 .1 .1 in
+    let ch = p .1 .0 in
+    let one = p .1 .1 in
     omega arith
 
 -- src/write.rt:183:9
@@ -614,11 +615,11 @@ write-sandbox-same-length : (t : ℕ) → write-sandbox-lts.Need-same-length (wr
 write-sandbox-same-length t c = let a = c .before .before .before .before .before .before .before .args in
     let p = c .before .before .before .before .before .before .before .pre .1 in
     let mz = c .before .before .before .before .before .before .before .pre .0 in
-    let few = p .1 .0 in
-    let room = p .1 .1 .0 in
-    let fresh-room = p .1 .1 .1 .0 in
-    let ch = p .1 .1 .1 .1 .0 in
-    let one = p .1 .1 .1 .1 .1 in
+    let few = p .0 .1 .0 in
+    let room = p .0 .1 .1 .0 in
+    let fresh-room = p .0 .1 .1 .1 in
+    let ch = p .1 .0 in
+    let one = p .1 .1 in
     ap length (c .before .before .before .step .ensures .0) ∙ stored-length (a .trace .now) (a .s .at) 1 (a .a) 0
 
 -- src/write.rt:183:9
@@ -626,11 +627,11 @@ write-sandbox-returns : (t : ℕ) → write-sandbox-lts.Need-returns (write-sand
 write-sandbox-returns t c = let a = c .before .before .before .before .before .before .before .args in
     let p = c .before .before .before .before .before .before .before .pre .1 in
     let mz = c .before .before .before .before .before .before .before .pre .0 in
-    let few = p .1 .0 in
-    let room = p .1 .1 .0 in
-    let fresh-room = p .1 .1 .1 .0 in
-    let ch = p .1 .1 .1 .1 .0 in
-    let one = p .1 .1 .1 .1 .1 in
+    let few = p .0 .1 .0 in
+    let room = p .0 .1 .1 .0 in
+    let fresh-room = p .0 .1 .1 .1 in
+    let ch = p .1 .0 in
+    let one = p .1 .1 in
     let made = c .before .before .before .step .ensures .1 in
     let at = ap (λ (y : Spot). y .at) made in
     let nx = ap (λ (y : Spot). y .next) made in
@@ -640,7 +641,7 @@ write-sandbox-returns t c = let a = c .before .before .before .before .before .b
       (
         record { at = omega arith; next = omega arith },
         wrote-opening (a .w) (a .rows .now) (a .nodes .now) (a .t .now) (a .e)
-            (a .n) (a .c) (p .0) few (a .a) (a .b) ch (c .if1 .taken) (a .g)
+            (a .n) (a .c) (p .0 .0) few (a .a) (a .b) ch (c .if1 .taken) (a .g)
             (a .s) (a .trace .now) (c .before .before .before .step .result) made (c .before .before .before .step .last .0) tr,
       ),
     )
@@ -655,11 +656,11 @@ write-sandbox-sub-write : (t : ℕ) → write-sandbox-lts.Need-sub-write (write-
 write-sandbox-sub-write t c = let a = c .before .before .before .before .before .before .before .before .before .before .before .args in
     let p = c .before .before .before .before .before .before .before .before .before .before .before .pre .1 in
     let mz = c .before .before .before .before .before .before .before .before .before .before .before .pre .0 in
-    let few = p .1 .0 in
-    let room = p .1 .1 .0 in
-    let fresh-room = p .1 .1 .1 .0 in
-    let ch = p .1 .1 .1 .1 .0 in
-    let one = p .1 .1 .1 .1 .1 in
+    let few = p .0 .1 .0 in
+    let room = p .0 .1 .1 .0 in
+    let fresh-room = p .0 .1 .1 .1 in
+    let ch = p .1 .0 in
+    let one = p .1 .1 in
     omega arith
 
 -- src/write.rt:187:9
@@ -669,17 +670,17 @@ write-sandbox-write-requires t c κs = let a =
     c .before .before .before .before .before .before .before .before .before .before .before .args in
     let p = c .before .before .before .before .before .before .before .before .before .before .before .pre .1 in
     let mz = c .before .before .before .before .before .before .before .before .before .before .before .pre .0 in
-    let few = p .1 .0 in
-    let room = p .1 .1 .0 in
-    let fresh-room = p .1 .1 .1 .0 in
-    let ch = p .1 .1 .1 .1 .0 in
-    let one = p .1 .1 .1 .1 .1 in
+    let few = p .0 .1 .0 in
+    let room = p .0 .1 .1 .0 in
+    let fresh-room = p .0 .1 .1 .1 in
+    let ch = p .1 .0 in
+    let one = p .1 .1 in
     let made = c .before .before .before .before .before .before .before .step .ensures .1 in
     let at = ap (λ (y : Spot). y .at) made in
     let nx = ap (λ (y : Spot). y .next) made in
     let tr = c .before .before .before .before .before .before .before .step .ensures .0 in
     let len = ap length tr ∙ stored-length (a .trace .now) (a .s .at) 1 (a .a) 0 in
-    (omega arith, (p .0, (omega arith, (omega arith, omega arith))))
+    (omega arith, (p .0 .0, (omega arith, (omega arith, omega arith))))
 
 -- src/write.rt:187:9
 write-sandbox-same-length-2 : (t : ℕ) → write-sandbox-lts.Need-same-length-2 (write-sandbox-known t) (write-sandbox-at t) write-sandbox.Post
@@ -687,11 +688,11 @@ write-sandbox-same-length-2 t c = let a =
     c .before .before .before .before .before .before .before .before .before .before .before .before .before .before .args in
     let p = c .before .before .before .before .before .before .before .before .before .before .before .before .before .before .pre .1 in
     let mz = c .before .before .before .before .before .before .before .before .before .before .before .before .before .before .pre .0 in
-    let few = p .1 .0 in
-    let room = p .1 .1 .0 in
-    let fresh-room = p .1 .1 .1 .0 in
-    let ch = p .1 .1 .1 .1 .0 in
-    let one = p .1 .1 .1 .1 .1 in
+    let few = p .0 .1 .0 in
+    let room = p .0 .1 .1 .0 in
+    let fresh-room = p .0 .1 .1 .1 in
+    let ch = p .1 .0 in
+    let one = p .1 .1 in
     c .before .before .write .ensures .0 ∙ ap length
     (c .before .before .before .before .before .before .before .before .before .before .step .ensures .0)
     ∙ stored-length (a .trace .now) (a .s .at) 1 (a .a) 0
@@ -702,11 +703,11 @@ write-sandbox-returns-2 t c = let a =
     c .before .before .before .before .before .before .before .before .before .before .before .before .before .before .args in
     let p = c .before .before .before .before .before .before .before .before .before .before .before .before .before .before .pre .1 in
     let mz = c .before .before .before .before .before .before .before .before .before .before .before .before .before .before .pre .0 in
-    let few = p .1 .0 in
-    let room = p .1 .1 .0 in
-    let fresh-room = p .1 .1 .1 .0 in
-    let ch = p .1 .1 .1 .1 .0 in
-    let one = p .1 .1 .1 .1 .1 in
+    let few = p .0 .1 .0 in
+    let room = p .0 .1 .1 .0 in
+    let fresh-room = p .0 .1 .1 .1 in
+    let ch = p .1 .0 in
+    let one = p .1 .1 in
     let made = c .before .before .before .before .before .before .before .before .before .before .step .ensures .1 in
     let at = ap (λ (y : Spot). y .at) made in
     let nx = ap (λ (y : Spot). y .next) made in
@@ -729,7 +730,7 @@ write-sandbox-returns-2 t c = let a =
       c .before .before .write .ensures .0 ∙ len,
       (
         record { at = omega arith; next = omega arith },
-        wrote-inside (a .w) (a .rows .now) (a .nodes .now) (a .t .now) (a .e) (a .n) (a .c) (p .0) few (a .a) (a .b) ch zero-c
+        wrote-inside (a .w) (a .rows .now) (a .nodes .now) (a .t .now) (a .e) (a .n) (a .c) (p .0 .0) few (a .a) (a .b) ch zero-c
             (c .before .before .before .before .if2 .taken) (a .g) (a .s) (a .trace .now) (c .before .before .write .result)
             (c .before .before .write .last .1 .1 .1 .1 .0) inside,
       ),
@@ -740,14 +741,14 @@ write-sandbox-sub-write-2 : (t : ℕ) → write-sandbox-lts.Need-sub-write-2 (wr
 write-sandbox-sub-write-2 t c = let a = c .before .before .before .before .before .before .before .before .before .before .before .args in
     let p = c .before .before .before .before .before .before .before .before .before .before .before .pre .1 in
     let mz = c .before .before .before .before .before .before .before .before .before .before .before .pre .0 in
-    let few = p .1 .0 in
-    let room = p .1 .1 .0 in
-    let fresh-room = p .1 .1 .1 .0 in
-    let ch = p .1 .1 .1 .1 .0 in
-    let one = p .1 .1 .1 .1 .1 in
+    let few = p .0 .1 .0 in
+    let room = p .0 .1 .1 .0 in
+    let fresh-room = p .0 .1 .1 .1 in
+    let ch = p .1 .0 in
+    let one = p .1 .1 in
     let zero-c : a .c ≡ 0 = omega (arith, c .before .before .before .before .if1 .left) in
     let sum = chosen-sandbox (a .w) (a .rows .now) (a .nodes .now) (a .t .now) (a .e) (a .n) (a .c) few (a .a) (a .b) ch zero-c in
-    let ar = around-end (a .w) (a .rows .now) (a .nodes .now) (a .t .now) (a .e) (a .n) (a .c) (p .0) few (c .before .if2 .left) in
+    let ar = around-end (a .w) (a .rows .now) (a .nodes .now) (a .t .now) (a .e) (a .n) (a .c) (p .0 .0) few (c .before .if2 .left) in
     omega arith
 
 -- src/write.rt:189:9
@@ -757,11 +758,11 @@ write-sandbox-write-requires-2 t c κs = let a =
     c .before .before .before .before .before .before .before .before .before .before .before .args in
     let p = c .before .before .before .before .before .before .before .before .before .before .before .pre .1 in
     let mz = c .before .before .before .before .before .before .before .before .before .before .before .pre .0 in
-    let few = p .1 .0 in
-    let room = p .1 .1 .0 in
-    let fresh-room = p .1 .1 .1 .0 in
-    let ch = p .1 .1 .1 .1 .0 in
-    let one = p .1 .1 .1 .1 .1 in
+    let few = p .0 .1 .0 in
+    let room = p .0 .1 .1 .0 in
+    let fresh-room = p .0 .1 .1 .1 in
+    let ch = p .1 .0 in
+    let one = p .1 .1 in
     let made = c .before .before .before .before .before .before .before .step .ensures .1 in
     let at = ap (λ (y : Spot). y .at) made in
     let nx = ap (λ (y : Spot). y .next) made in
@@ -769,8 +770,8 @@ write-sandbox-write-requires-2 t c κs = let a =
     let len = ap length tr ∙ stored-length (a .trace .now) (a .s .at) 1 (a .a) 0 in
     let zero-c : a .c ≡ 0 = omega (arith, c .before .before .before .before .if1 .left) in
     let sum = chosen-sandbox (a .w) (a .rows .now) (a .nodes .now) (a .t .now) (a .e) (a .n) (a .c) few (a .a) (a .b) ch zero-c in
-    let ar = around-end (a .w) (a .rows .now) (a .nodes .now) (a .t .now) (a .e) (a .n) (a .c) (p .0) few (c .before .if2 .left) in
-    (omega arith, (p .0, (omega arith, (omega arith, omega arith))))
+    let ar = around-end (a .w) (a .rows .now) (a .nodes .now) (a .t .now) (a .e) (a .n) (a .c) (p .0 .0) few (c .before .if2 .left) in
+    (omega arith, (p .0 .0, (omega arith, (omega arith, omega arith))))
 
 -- src/write.rt:190:5
 write-sandbox-step-requires-2 : (t : ℕ) → write-sandbox-lts.Need-step-requires-2 (write-sandbox-known t)
@@ -781,11 +782,11 @@ write-sandbox-step-requires-2 t c κs = let a =
     .before .before .before .before .before .before .before .pre .1 in
     let mz = c .before .before .before .before .before .before .before .before
     .before .before .before .before .before .before .before .pre .0 in
-    let few = p .1 .0 in
-    let room = p .1 .1 .0 in
-    let fresh-room = p .1 .1 .1 .0 in
-    let ch = p .1 .1 .1 .1 .0 in
-    let one = p .1 .1 .1 .1 .1 in
+    let few = p .0 .1 .0 in
+    let room = p .0 .1 .1 .0 in
+    let fresh-room = p .0 .1 .1 .1 in
+    let ch = p .1 .0 in
+    let one = p .1 .1 in
     let made = c .before .before .before .before .before .before .before .before .before .before .before .step .ensures .1 in
     let at = ap (λ (y : Spot). y .at) made in
     let nx = ap (λ (y : Spot). y .next) made in
@@ -793,7 +794,7 @@ write-sandbox-step-requires-2 t c κs = let a =
     let len = ap length tr ∙ stored-length (a .trace .now) (a .s .at) 1 (a .a) 0 in
     let zero-c : a .c ≡ 0 = omega (arith, c .before .before .before .before .before .before .before .before .if1 .left) in
     let sum = chosen-sandbox (a .w) (a .rows .now) (a .nodes .now) (a .t .now) (a .e) (a .n) (a .c) few (a .a) (a .b) ch zero-c in
-    let ar = around-end (a .w) (a .rows .now) (a .nodes .now) (a .t .now) (a .e) (a .n) (a .c) (p .0) few
+    let ar = around-end (a .w) (a .rows .now) (a .nodes .now) (a .t .now) (a .e) (a .n) (a .c) (p .0 .0) few
     (c .before .before .before .before .before .if2 .left) in
     let wi = c .before .before .before .write2 .ensures .1 .0 in
     let len2 = c .before .before .before .write2 .ensures .0 in
@@ -808,11 +809,11 @@ write-sandbox-same-length-3 t c = let a =
     .before .before .before .before .before .before .before .before .before .pre .1 in
     let mz = c .before .before .before .before .before .before .before .before .before
     .before .before .before .before .before .before .before .before .before .pre .0 in
-    let few = p .1 .0 in
-    let room = p .1 .1 .0 in
-    let fresh-room = p .1 .1 .1 .0 in
-    let ch = p .1 .1 .1 .1 .0 in
-    let one = p .1 .1 .1 .1 .1 in
+    let few = p .0 .1 .0 in
+    let room = p .0 .1 .1 .0 in
+    let fresh-room = p .0 .1 .1 .1 in
+    let ch = p .1 .0 in
+    let one = p .1 .1 in
     ap length (c .before .before .step2 .ensures .0)
     ∙ stored-length (c .before .before .before .before .before .before .write2 .last .1 .1 .1 .1 .0)
     (c .before .before .before .before .before .before .write2 .result .at) 2 (a .a) 0
@@ -829,11 +830,11 @@ write-sandbox-returns-3 t c = let a =
     .before .before .before .before .before .before .before .before .before .pre .1 in
     let mz = c .before .before .before .before .before .before .before .before .before
     .before .before .before .before .before .before .before .before .before .pre .0 in
-    let few = p .1 .0 in
-    let room = p .1 .1 .0 in
-    let fresh-room = p .1 .1 .1 .0 in
-    let ch = p .1 .1 .1 .1 .0 in
-    let one = p .1 .1 .1 .1 .1 in
+    let few = p .0 .1 .0 in
+    let room = p .0 .1 .1 .0 in
+    let fresh-room = p .0 .1 .1 .1 in
+    let ch = p .1 .0 in
+    let one = p .1 .1 in
     let made = c .before .before .before .before .before .before .before .before
     .before .before .before .before .before .before .step .ensures .1 in
     let at = ap (λ (y : Spot). y .at) made in
@@ -844,7 +845,7 @@ write-sandbox-returns-3 t c = let a =
     let zero-c : a .c ≡ 0 =
     omega (arith, c .before .before .before .before .before .before .before .before .before .before .before .if1 .left) in
     let sum = chosen-sandbox (a .w) (a .rows .now) (a .nodes .now) (a .t .now) (a .e) (a .n) (a .c) few (a .a) (a .b) ch zero-c in
-    let ar = around-end (a .w) (a .rows .now) (a .nodes .now) (a .t .now) (a .e) (a .n) (a .c) (p .0) few
+    let ar = around-end (a .w) (a .rows .now) (a .nodes .now) (a .t .now) (a .e) (a .n) (a .c) (p .0 .0) few
     (c .before .before .before .before .before .before .before .before .if2 .left) in
     let wi = c .before .before .before .before .before .before .write2 .ensures .1 .0 in
     let inside = subst (λ (y : Entry). Writes (a .w) (a .rows .now) (a .nodes .now) (a .t .now) y (a .n - 2) (a .g) (onward (a .s))
@@ -870,7 +871,7 @@ write-sandbox-returns-3 t c = let a =
           ∙ c .before .before .before .before .before .before .write2 .ensures .0 ∙ len,
       (
         record { at = omega arith; next = omega arith },
-        wrote-sandbox (a .w) (a .rows .now) (a .nodes .now) (a .t .now) (a .e) (a .n) (a .c) (p .0) few (a .a) (a .b) ch zero-c
+        wrote-sandbox (a .w) (a .rows .now) (a .nodes .now) (a .t .now) (a .e) (a .n) (a .c) (p .0 .0) few (a .a) (a .b) ch zero-c
             (c .before .before .before .before .before .before .before .before .if2 .left) (a .g) (a .s) (a .trace .now)
             (c .before .before .before .before .before .before .write2 .result)
             (c .before .before .before .before .before .before .write2 .last .1 .1 .1 .1 .0) inside (c .before .before .step2 .result) last
@@ -894,17 +895,17 @@ write-sequence-write-requires : (t : ℕ) → write-sequence-lts.Need-write-requ
 write-sequence-write-requires t c κs = let a = c .before .before .before .before .before .args in
     let p = c .before .before .before .before .before .pre .1 in
     let mz = c .before .before .before .before .before .pre .0 in
-    let few = p .1 .0 in
-    let room = p .1 .1 .0 in
-    let fresh-room = p .1 .1 .1 .0 in
-    let ch = p .1 .1 .1 .1 .0 in
-    let one = p .1 .1 .1 .1 .1 in
+    let few = p .0 .1 .0 in
+    let room = p .0 .1 .1 .0 in
+    let fresh-room = p .0 .1 .1 .1 in
+    let ch = p .1 .0 in
+    let one = p .1 .1 in
     let sp = chosen-sequence (a .w) (a .rows .now) (a .nodes .now) (a .t .now) (a .e) (a .n) (a .c) few (a .a) (a .b) ch in
     let l₁ = sp .2 in
     let l₂ = sp .3 in
     let sum = sp .1 in
     let gv = c .before .get .ensures ∙ ap (held (a .t .now) (a .n)) (c .before .before .first .ensures) in
-    (omega arith, (p .0, (omega arith, (omega arith, omega arith))))
+    (omega arith, (p .0 .0, (omega arith, (omega arith, omega arith))))
 
 -- src/write.rt:106:9
 write-sequence-second-requires : (t : ℕ) → write-sequence-lts.Need-second-requires (write-sequence-known t)
@@ -916,11 +917,11 @@ write-sequence-sub-write : (t : ℕ) → write-sequence-lts.Need-sub-write (writ
 write-sequence-sub-write t c = let a = c .before .before .before .before .before .before .before .before .before .before .args in
     let p = c .before .before .before .before .before .before .before .before .before .before .pre .1 in
     let mz = c .before .before .before .before .before .before .before .before .before .before .pre .0 in
-    let few = p .1 .0 in
-    let room = p .1 .1 .0 in
-    let fresh-room = p .1 .1 .1 .0 in
-    let ch = p .1 .1 .1 .1 .0 in
-    let one = p .1 .1 .1 .1 .1 in
+    let few = p .0 .1 .0 in
+    let room = p .0 .1 .1 .0 in
+    let fresh-room = p .0 .1 .1 .1 in
+    let ch = p .1 .0 in
+    let one = p .1 .1 in
     let sp = chosen-sequence (a .w) (a .rows .now) (a .nodes .now) (a .t .now) (a .e) (a .n) (a .c) few (a .a) (a .b) ch in
     let l₁ = sp .2 in
     let l₂ = sp .3 in
@@ -935,11 +936,11 @@ write-sequence-write-requires-2 : (t : ℕ) → write-sequence-lts.Need-write-re
 write-sequence-write-requires-2 t c κs = let a = c .before .before .before .before .before .before .before .before .before .before .args in
     let p = c .before .before .before .before .before .before .before .before .before .before .pre .1 in
     let mz = c .before .before .before .before .before .before .before .before .before .before .pre .0 in
-    let few = p .1 .0 in
-    let room = p .1 .1 .0 in
-    let fresh-room = p .1 .1 .1 .0 in
-    let ch = p .1 .1 .1 .1 .0 in
-    let one = p .1 .1 .1 .1 .1 in
+    let few = p .0 .1 .0 in
+    let room = p .0 .1 .1 .0 in
+    let fresh-room = p .0 .1 .1 .1 in
+    let ch = p .1 .0 in
+    let one = p .1 .1 in
     let sp = chosen-sequence (a .w) (a .rows .now) (a .nodes .now) (a .t .now) (a .e) (a .n) (a .c) few (a .a) (a .b) ch in
     let l₁ = sp .2 in
     let l₂ = sp .3 in
@@ -948,7 +949,7 @@ write-sequence-write-requires-2 t c κs = let a = c .before .before .before .bef
     ∙ ap (held (a .t .now) (a .n)) (c .before .before .before .before .before .before .before .first .ensures) in
     let len = c .before .before .before .before .write .ensures .0 in
     let wi = c .before .before .before .before .write .ensures .1 .0 in
-    (omega arith, (p .0, (omega arith, (omega arith, omega arith))))
+    (omega arith, (p .0 .0, (omega arith, (omega arith, omega arith))))
 
 -- src/write.rt:73:1
 write-sequence-same-length : (t : ℕ) → write-sequence-lts.Need-same-length (write-sequence-known t)
@@ -962,11 +963,11 @@ write-sequence-returns t c = let a =
     c .before .before .before .before .before .before .before .before .before .before .before .before .before .args in
     let p = c .before .before .before .before .before .before .before .before .before .before .before .before .before .pre .1 in
     let mz = c .before .before .before .before .before .before .before .before .before .before .before .before .before .pre .0 in
-    let few = p .1 .0 in
-    let room = p .1 .1 .0 in
-    let fresh-room = p .1 .1 .1 .0 in
-    let ch = p .1 .1 .1 .1 .0 in
-    let one = p .1 .1 .1 .1 .1 in
+    let few = p .0 .1 .0 in
+    let room = p .0 .1 .1 .0 in
+    let fresh-room = p .0 .1 .1 .1 in
+    let ch = p .1 .0 in
+    let one = p .1 .1 in
     let sp = chosen-sequence (a .w) (a .rows .now) (a .nodes .now) (a .t .now) (a .e) (a .n) (a .c) few (a .a) (a .b) ch in
     let l₁ = sp .2 in
     let l₂ = sp .3 in
@@ -991,7 +992,7 @@ write-sequence-returns t c = let a =
       c .before .before .write2 .ensures .0 ∙ c .before .before .before .before .before .before .before .write .ensures .0,
       (
         record { at = omega arith; next = omega arith },
-        wrote-sequence (a .w) (a .rows .now) (a .nodes .now) (a .t .now) (a .e) (a .n) (a .c) (p .0) few (a .a) (a .b) ch (a .g) (a .s)
+        wrote-sequence (a .w) (a .rows .now) (a .nodes .now) (a .t .now) (a .e) (a .n) (a .c) (p .0 .0) few (a .a) (a .b) ch (a .g) (a .s)
             (a .trace .now) (c .before .before .before .before .before .before .before .before .before .get .result) gv
             (c .before .before .before .before .before .before .before .write .result)
             (c .before .before .before .before .before .before .before .write .last .1 .1 .1 .1 .0) first
