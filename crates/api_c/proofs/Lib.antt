@@ -2,3 +2,4 @@
 pub mod ChoiceLaws
 pub mod PartLaws
 pub mod PastLaws
+pub mod LeanLaws

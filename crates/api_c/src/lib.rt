@@ -22,6 +22,7 @@ ghost use Rattle.api_c.specs.Code.{isRefusal};
 ghost use Rattle.api_c.specs.Past.{KeepsIn};
 ghost use Rattle.api_c.specs.Check.{Answers, Explains};
 
+pub mod lean;
 pub mod print;
 pub mod start;
 

@@ -15,4 +15,5 @@ pub mod run;
 pub mod search;
 pub mod sheet;
 pub mod state;
+pub mod summary;
 pub mod system;
