@@ -3,18 +3,33 @@
  *   rt staticlib api_c    proves all functions and writes them to target/staticlib/libapi_c.a
  *   cc -Iapi program.c target/staticlib/libapi_c.a
  *
- * They are for x86-64. No function keeps anything between calls, allocates, reads or writes anything but what it is lent, or has a case
- * in which it does not return. The archive needs memcpy and memset of who links it. They may be called from several threads, each with a state of its own.
+ * They are for x86-64 Linux. No function keeps anything between calls, allocates, reads or writes anything but what it is lent, or has a
+ * case in which it does not return. The archive needs memcpy and memset of who links it. They may be called from several threads, each
+ * with a state of its own.
+ *
+ * Stack: each function takes less than the bytes that WIFOREKUN_..._STACK tells, memcpy and memset aside. tests/api measures them with a
+ * painted stack on all stored cases. One function alone calls itself: that which writes a counterexample, once for each of at most 200
+ * steps, with less than 640 bytes each time; tests/api/deepest goes as deep as that.
  *
  * Asked of every call, and not tested: a pointer is not null and points to as many elements as is told, also where that is 0; it has its
  * type's alignment; and an array that is lent to be changed overlaps no other.
  *
- * docs/SHEETS.md has the meaning of all values and numbers. tests/api holds the lengths below to the proved code. */
+ * docs/SHEETS.md has the meaning of all values and numbers, wiforekun_numbers.h their names. tests/api holds the lengths below to the
+ * proved code. */
 #ifndef WIFOREKUN_H
 #define WIFOREKUN_H
 
+#include "wiforekun_numbers.h"
 #include <stddef.h>
 #include <stdint.h>
+
+#define WIFOREKUN_START_STACK 512
+#define WIFOREKUN_JUDGE_STACK 4096
+#define WIFOREKUN_CHECK_STACK 32768
+#define WIFOREKUN_COUNTEREXAMPLE_STACK 262144
+#define WIFOREKUN_REPORT_TRACE_STACK 131072
+#define WIFOREKUN_REPORT_OUTLINE_STACK 65536
+#define WIFOREKUN_REPORT_COUNTEREXAMPLE_STACK 262144
 
 #ifdef __cplusplus
 extern "C" {
@@ -31,7 +46,9 @@ extern "C" {
 #define WIFOREKUN_NODE_BYTES 3
 #define WIFOREKUN_MOST_NODES 64
 
-/* The state of the monitor: the lengths of its arrays, in elements, and their alignments, in bytes. */
+/* The state of the monitor: plain data, with no pointer in it. It may be copied, compared, kept and given on, as bytes too. One state goes
+ * with one table of edges and one choice of past for its life: under others it is judged by the sets that it holds, which mean nothing
+ * there. Below are the lengths of its arrays, in elements, and their alignments, in bytes. */
 #define WIFOREKUN_SETS_LENGTH 656
 #define WIFOREKUN_SETS_ALIGN 1
 #define WIFOREKUN_POSSIBLE_LENGTH 8
@@ -63,8 +80,8 @@ static inline void wiforekun_start(struct wiforekun_state *state) {
     wiforekun_start_parts(state->sets, state->possible, state->created, state->unclosed, state->order, state->numbers);
 }
 
-/* An answer: 0 allowed or accepted, 1 violated or refused with a policy, 2 refused with a number. Its detail: 0, the policy or the
- * number. Of wiforekun_counterexample also the length of what was written, in steps. */
+/* An answer: WIFOREKUN_ALLOWED (0; of a check: accepted), WIFOREKUN_VIOLATED (1; of a check: refused with a policy) or WIFOREKUN_REFUSED
+ * (2, with a number). Its detail: 0, the policy or the number, WIFOREKUN_REFUSED_... by name. Of wiforekun_counterexample also the length of what was written, in steps. */
 #define WIFOREKUN_LENGTH(code) ((code) / 65536u)
 #define WIFOREKUN_ANSWER(code) ((code) / 256u % 256u)
 #define WIFOREKUN_DETAIL(code) ((code) % 256u)

@@ -6,8 +6,11 @@ run does the same is the checker's word, which it repeats.
 
 import runs
 import sheets
-from explanations import ALLOWED, NAMES, REFUSED, VIOLATED, Differs, Run, explain_check, explain_monitor, opened_words, printed_rows, violated
-from sheets import CREATE, EVENT, STATICS
+from explanations import explain_check, explain_monitor, opened_words
+from folders import ALLOWED, NAMES, REFUSED, VIOLATED, Differs, printed_rows
+from names import step_words
+from sheets import CREATE, EVENT, FRESH, STATICS
+from violations import Run, violated
 
 # refusals that only say that the run is beyond the monitor's limits
 LIMITS = (30, 32)
@@ -49,25 +52,29 @@ def shown(folder, policies, nodes, steps, policy, judged):
     if moves is None:
         raise Differs("the steps are no run of the outline")
     makers = {move.step: move.node for move in moves if move.step is not None}
+    folder.names = folder.names.of_outline({steps[place][2]: nodes[node] for place, node in makers.items() if nodes[node][1] == FRESH})
     told = []
     for place, step in enumerate(steps):
-        words = sheets.step_words(folder.names, step)
+        words = step_words(folder.names, step)
         told.append((step, [f"  line {place + 2}: {words}, by {sheets.OUTLINE_SHEET.file}:{makers[place] + 2}"]))
     name = folder.names.tell("policy", policy)
     first = f"outline.txt: refused: this run of {sheets.counted(len(steps), 'step')} leaves {name} open and broken; no shorter run does"
-    return told, [first] + last_words(folder, followed(folder, policies, steps, policy), policy, judged)
-
-
-def followed(folder, policies, steps, policy):
-    """The run to its end, with no limits: only its last step may leave the policy open and broken."""
     run = Run(folder, policies, steps)
+    for _ in followed(run, policy):
+        pass
+    return told, [first] + last_words(folder, run, policy, judged)
+
+
+def followed(run, policy):
+    """Each (line, step) of the run, with no limits: only its last step may leave the policy open and broken."""
+    steps = run.steps
     for line, step in enumerate(steps, 2):
         if step[:2] == [EVENT, CREATE] and step[2] != STATICS + len(run.past.created):
             raise Differs(f"{run.at(line)} creates {step[2]}, not {STATICS + len(run.past.created)}")
         run.past.take(line, step)
         if (policy in run.past.broken()) != (line == len(steps) + 1):
             raise Differs(f"{run.at(line)} leaves policy {policy} open and broken too early, or the last step does not")
-    return run
+        yield line, step
 
 
 def last_words(folder, run, policy, judged):

@@ -5,7 +5,7 @@ It follows the steps that the monitor allowed. It gives no verdict: tools/explai
 draws it.
 """
 
-from sheets import CLOSE, CREATE, EVENT, OFFENDING, ON_OTHERS, ON_STATIC, ON_X, OPEN, POLICIES, STATICS
+from sheets import CLOSE, CREATE, EVENT, OFFENDING, ON_OTHERS, ON_STATIC, ON_X, OPEN, POLICIES, RETIRE, STATICS
 
 # a resource that is in no step so far: all of them move alike
 UNSEEN = None
@@ -69,7 +69,9 @@ class Past:
         self.events = []
         # for each policy the lines of the openings that put its instances back
         self.resets = [[] for _ in range(POLICIES)]
+        # the lines of the creates and of the retirings, by resource. A retired one keeps its instance, which moves on
         self.created = {}
+        self.retired = {}
         self.seen = set()
         # the (policy, line) of each opening that is not closed, the oldest first
         self.unclosed = []
@@ -90,6 +92,12 @@ class Past:
         elif kind == CLOSE:
             self.unclosed.remove((a, self.openings(a)[-1]))
             self.counts[a][1] += 1
+        elif kind == RETIRE:
+            self.retired[a] = line
+
+    def live(self):
+        """The resources that are created and not retired."""
+        return [resource for resource in self.created if resource not in self.retired]
 
     def openings(self, policy):
         """The lines of the openings of a policy that are not closed, the oldest first; none where it is not open."""

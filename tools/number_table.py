@@ -23,18 +23,24 @@ class Former:
         self.now = int(now)
 
 
-def table(head):
-    """The rows of the table of docs/SHEETS.md whose first column is called so, each by the number that it begins with."""
+def table_rows(document, head):
+    """The cells of each row of the tables of a document in docs/ whose first column is called so."""
     top = os.path.dirname(os.path.dirname(os.path.realpath(__file__)))
     rows = []
-    with open(os.path.join(top, "docs", "SHEETS.md"), encoding="utf-8") as file:
+    with open(os.path.join(top, "docs", document), encoding="utf-8") as file:
         for line in file:
             if line.startswith(f"| {head} |"):
                 for row in iter(file.readline, ""):
                     if not row.startswith("|"):
                         break
-                    rows.append([cell.strip().replace("`", "") for cell in row.strip().strip("|").split("|")])
-    return {int(cells[0]): cells[1:] for cells in rows if cells[0].isdigit()}
+                    if not row.startswith("|-"):
+                        rows.append([cell.strip().replace("`", "") for cell in row.strip()[1:-1].split("|")])
+    return rows
+
+
+def table(head):
+    """The rows of the table of docs/SHEETS.md whose first column is called so, each by the number that it begins with."""
+    return {int(cells[0]): cells[1:] for cells in table_rows("SHEETS.md", head)}
 
 
 @functools.lru_cache(maxsize=None)

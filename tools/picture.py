@@ -1,83 +1,42 @@
 """The picture of a trace over a policy: the states that instances went through, step by step. Plain SVG, made here."""
 
-import html
-import os
 import sys
 
+import canvas as drawing
 import sheets
-from instances import UNSEEN, Past, Reset
-from sheets import CLOSE, EVENT, OFFENDING, OPEN
+from canvas import GREY, INK, RED, Canvas
+from explanations import followed
+from folders import REFUSED, VIOLATED, printed_rows
+from instances import UNSEEN, Reset
+from labels import step_label
+from sheets import OFFENDING, OPEN
+from violations import Run
 
-FONT = "Helvetica,Arial,sans-serif"
 COLUMN, ROW = 64, 34
 LEFT, TITLE, GAP, FOOT = 70, 30, 26, 34
 # labels stand at a slant; about so wide is a letter of theirs, along it and upwards
 SLANT, ALONG, UPWARDS = 38, 5.2, 4.1
 MOST_STEPS = 200
-INK, RED, GREY = "#2f4b6e", "#c0182b", "#9aa3ad"
-VIOLATED, REFUSED = 1, 2
 
 
-class Canvas:
-    """Lines of an SVG picture."""
-
-    def __init__(self):
-        self.lines = []
-
-    def put(self, name, text=None, **marks):
-        marks = " ".join(f'{key.rstrip("_").replace("_", "-")}="{html.escape(str(value))}"' for key, value in marks.items())
-        self.lines.append(f"<{name} {marks}/>" if text is None else f"<{name} {marks}>{html.escape(text)}</{name}>")
-
-    def text(self, x, y, text, size=12, **marks):
-        self.put("text", text, x=x, y=y, font_size=size, **{"fill": "#333333", **marks})
-
-
-def read_answers(path, steps):
-    """The (answer, detail) of each step, as the monitor printed it."""
+def read_answers(path):
+    """The rows that the monitor printed."""
     if path is None:
         raise ValueError("a trace is drawn with --answers FILE, what the monitor printed for it (docs/SHEETS.md)")
-    with sys.stdin if path == "-" else open(path, encoding="ascii") as file:
-        lines = file.read().split("\n")
-    rows = [line.split(" ") for line in lines[1:-1]]
-    wanted = [str(line) for line in range(2, len(steps) + 2)]
-    if lines[0] != "line answer detail" or [row[0] for row in rows] != wanted or any(len(row) != 3 for row in rows):
-        raise ValueError(f"{path} is not what the monitor prints for this trace")
-    return [(int(answer), int(detail)) for _, answer, detail in rows]
+    with sys.stdin.buffer if path == "-" else open(path, "rb") as file:
+        return printed_rows(file.read().decode("latin-1"))
 
 
 class Column:
     """One step of the trace: what it is, what was answered, and whether each policy is open after it."""
 
-    def __init__(self, line, step, answer):
-        self.line = line
+    def __init__(self, step, row, past):
         self.step = step
-        self.answer, self.detail = answer
-        self.open = [False] * sheets.POLICIES
-
-    def label(self, names):
-        kind, a, b = self.step
-        if kind == EVENT:
-            action = names.get("action", a) or f"action {a}"
-            return f"{action}({names.get('resource', b) or b})"
-        return ("open " if kind == OPEN else "close ") + (names.get("policy", a) or f"policy {a}")
+        self.line, self.answer, self.detail = row
+        self.open = [bool(past.openings(policy)) for policy in range(sheets.POLICIES)]
 
     def told(self):
         return {VIOLATED: "violated", REFUSED: f"refused {self.detail}"}.get(self.answer, "allowed")
-
-
-def follow(policies, steps, answers):
-    """The columns, and the past as far as it was judged."""
-    past = Past(policies)
-    columns = []
-    for line, (step, answer) in enumerate(zip(steps, answers), 2):
-        column = Column(line, step, answer)
-        if column.answer != REFUSED:
-            if step[0] == CLOSE and not past.openings(step[1]):
-                raise ValueError(f"the answers are not those of the monitor: line {line} closes policy {step[1]}, which is not open")
-            past.take(line, step)
-        column.open = [bool(past.openings(policy)) for policy in range(sheets.POLICIES)]
-        columns.append(column)
-    return columns, past
 
 
 def chosen(arguments, columns, past):
@@ -106,7 +65,7 @@ def put_labels(canvas, columns, names, top):
     for number, column in enumerate(columns, 1):
         place = f"rotate(-{SLANT} {centre(number) - 4} {top - 16})"
         colour = GREY if column.answer == REFUSED else "#333333"
-        canvas.text(centre(number) - 4, top - 16, column.label(names), transform=place, fill=colour)
+        canvas.text(centre(number) - 4, top - 16, step_label(names, column.step), transform=place, fill=colour)
         canvas.text(centre(number), top - 2, str(column.line), 10, text_anchor="middle", fill=GREY)
 
 
@@ -126,9 +85,10 @@ def put_ground(canvas, columns, policy, states, top):
         canvas.text(LEFT - 10, y + 4, f"state {state}", text_anchor="end", fill=colour)
 
 
-def put_dot(canvas, number, y, state):
+def put_dot(canvas, number, y, state, hollow=False):
     colour = RED if state in OFFENDING else INK
-    canvas.put("circle", cx=centre(number), cy=y, r=6, fill="#fde8ea" if state in OFFENDING else "#eef4fb", stroke=colour, stroke_width=1.6)
+    fill = "white" if hollow else "#fde8ea" if state in OFFENDING else "#eef4fb"
+    canvas.put("circle", cx=centre(number), cy=y, r=6, fill=fill, stroke=colour, stroke_width=1.6)
 
 
 def put_moves(canvas, columns, past, policy, x, height_of):
@@ -152,7 +112,7 @@ def put_moves(canvas, columns, past, policy, x, height_of):
                 canvas.text(centre(number) - COLUMN // 2 + side, (y1 + y2) // 2 - 5, f"edge {edge}", 10, text_anchor=anchor, fill=colour)
         states = move.after if move else states
         for state in sorted(states):
-            put_dot(canvas, number, height_of(state), state)
+            put_dot(canvas, number, height_of(state), state, past.retired.get(x, column.line + 1) <= column.line)
         if column.answer == VIOLATED:
             return
 
@@ -163,19 +123,21 @@ def put_answers(canvas, columns, y):
         canvas.text(centre(number), y, column.told(), 10, text_anchor="middle", fill=colour)
 
 
-def trace(folder, steps, names, arguments):
-    """The picture of a trace."""
+def trace(folder, steps, arguments):
+    """The picture of a trace. What the monitor printed is held to the sheets, as in the explanations."""
     if len(steps) > MOST_STEPS:
         raise ValueError(f"a trace of at most {MOST_STEPS} steps can be drawn")
     try:
-        policies = sheets.Policies(sheets.load(os.path.join(folder, "policies.txt")))
+        policies = sheets.Policies(folder.data[sheets.POLICY_SHEET])
     except sheets.Refused as wrong:
         raise ValueError(f"policies.txt, {wrong}") from None
-    columns, past = follow(policies, steps, read_answers(arguments.answers, steps))
+    names, run = folder.names, Run(folder, policies, steps)
+    columns = [Column(step, row, run.past) for _, step, row, _ in followed(run, read_answers(arguments.answers))]
+    past = run.past
     policy, resources = chosen(arguments, columns, past)
     states = sorted({0} | {state for _, edge in past.edges[policy] for state in (edge[1], edge[5])})
     canvas = Canvas()
-    longest = max([len(column.label(names)) for column in columns], default=0)
+    longest = max([len(step_label(names, column.step)) for column in columns], default=0)
     panel, labels = TITLE + ROW * len(states) + GAP, 34 + int(UPWARDS * longest)
     width, height = centre(len(columns)) + COLUMN + int(ALONG * longest), labels + panel * len(resources) + FOOT
     put_labels(canvas, columns, names, labels)
@@ -189,8 +151,8 @@ def trace(folder, steps, names, arguments):
     key = f"shaded: policy {policy} is open.  edge N: line N of policies.txt"
     if policies.local:
         key += ".  dashed: the sheet is local, and the opening puts the instance back to state 0"
-        width = max(width, LEFT + int(ALONG * len(key)) + COLUMN)
+    if past.retired.keys() & set(resources):
+        key += ".  hollow: the resource is retired, and its instance still counts"
+    width = max(width, LEFT + int(ALONG * len(key)) + COLUMN)
     canvas.text(LEFT, height - 12, key, 11, fill="#666666")
-    head = f'<svg xmlns="http://www.w3.org/2000/svg" width="{width}" height="{height}" viewBox="0 0 {width} {height}" font-family="{FONT}">'
-    ground = f'<rect width="{width}" height="{height}" fill="white"/>'
-    return "\n".join(['<?xml version="1.0" encoding="UTF-8"?>', head, ground, *canvas.lines, "</svg>"]) + "\n"
+    return drawing.file(canvas.picture(width, height))

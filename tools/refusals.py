@@ -1,7 +1,7 @@
 """The refusals of a step, each with its reason in words, for tools/explain. They are derived from the steps above it alone."""
 
 import sheets
-from sheets import CLOSE, CREATE, EVENT, MOST_CREATED, MOST_UNCLOSED, OPEN, POLICIES, STATICS
+from sheets import CLOSE, CREATE, EVENT, MOST_LIVE, MOST_UNCLOSED, OPEN, POLICIES, RETIRE, STATICS
 
 
 def halted(run, step):
@@ -22,20 +22,45 @@ def create_static(run, step):
     return is_create(step) and step[2] < STATICS and [f"  resource {step[2]} is static (0 to {STATICS - 1}) and always there"]
 
 
-def create_again(run, step):
-    if not is_create(step) or step[2] not in run.past.created:
+def create_not_above(run, step):
+    created, retired = run.past.created, run.past.retired
+    highest = max(created, default=None)
+    if not is_create(step) or highest is None or step[2] > highest:
         return None
-    return [f"  resource {step[2]} was created at {run.at(run.past.created[step[2]])}"]
+    told = f"  the highest resource created so far is {highest}, at {run.at(created[highest])}; only one above it can be created here"
+    if step[2] not in created:
+        return [told]
+    gone = f", and retired at {run.at(retired[step[2]])}" if step[2] in retired else ""
+    return [f"  resource {step[2]} was created at {run.at(created[step[2]])}{gone}"] + ([told] if step[2] != highest else [])
 
 
-def not_created(run, step):
-    kind, action, resource = step
-    if kind != EVENT or action == CREATE or resource < STATICS or resource in run.past.created:
+def why_not_live(run, resource):
+    """Why a dynamic resource can't be used or retired; none where it can."""
+    created, retired = run.past.created, run.past.retired
+    if resource in retired:
+        return [f"  resource {resource} was retired at {run.at(retired[resource])}", *run.quoted(retired[resource], 4)]
+    if resource in created:
         return None
     tried = [line for line, (row, _) in run.refused.items() if is_create(row) and row[2] == resource]
     if tried:
         return [f"  the create of resource {resource} at {run.at(tried[-1])} was refused, with {run.refused[tried[-1]][1]}"]
     return [f"  resource {resource} is dynamic ({STATICS} and up), and no line above creates it"]
+
+
+def retire_not_live(run, step):
+    kind, resource, _ = step
+    if kind != RETIRE:
+        return None
+    if resource < STATICS:
+        return [f"  resource {resource} is static (0 to {STATICS - 1}) and always there"]
+    return why_not_live(run, resource)
+
+
+def event_not_live(run, step):
+    kind, action, resource = step
+    if kind != EVENT or action == CREATE or resource < STATICS:
+        return None
+    return why_not_live(run, resource)
 
 
 def not_open(run, step):
@@ -59,8 +84,12 @@ def not_newest(run, step):
     ]
 
 
-def too_many_created(run, step):
-    return is_create(step) and len(run.past.created) >= MOST_CREATED and [f"  {MOST_CREATED} dynamic resources are created above"]
+def too_many_live(run, step):
+    if not is_create(step) or len(run.past.live()) < MOST_LIVE:
+        return None
+    retired = len(run.past.retired)
+    more = f" ({retired} more {'is' if retired == 1 else 'are'} retired)" if retired else ""
+    return [f"  {MOST_LIVE} dynamic resources are created above and not retired{more}"]
 
 
 def too_many_openings(run, step):
@@ -79,11 +108,12 @@ STEP_REFUSALS = [
     (20, halted),
     (21, out_of_range),
     (22, create_static),
-    (23, create_again),
-    (24, not_created),
+    (27, create_not_above),
+    (28, retire_not_live),
+    (24, event_not_live),
     (25, not_open),
     (26, not_newest),
-    (30, too_many_created),
+    (30, too_many_live),
     (32, too_many_openings),
 ]
 

@@ -1,10 +1,10 @@
 """Which nodes of an outline a run goes through that makes given steps, for tools/draw and tools/explain.
 
 A run has the steps so far and a list of parts still to run (docs/SHEETS.md). It gives no verdict: it finds a run that makes exactly these
-steps, or none.
+steps, or none. Outlines know nothing of retirings: those that were added to the steps belong to no node, and are left out.
 """
 
-from sheets import BACK, CLOSE, CREATE, EITHER, END, EVENT, FRESH, LOOP, NAMED, OPEN, SANDBOX, STATIC, STATICS, THEN
+from sheets import BACK, CLOSE, CREATE, EITHER, END, EVENT, FRESH, LOOP, NAMED, OPEN, RETIRE, SANDBOX, STATIC, STATICS, THEN
 
 UNNAMED = (None, None, None, None)
 
@@ -134,5 +134,9 @@ class Finder:
 
 
 def path(nodes, steps):
-    """The moves of a run of the outline that makes exactly these steps; none where they are no trace of it."""
-    return Finder(nodes, steps).find()
+    """The moves of a run of the outline that makes exactly these steps, retirings aside; none where they are no trace of it."""
+    places = [place for place, step in enumerate(steps) if step[0] != RETIRE]
+    moves = Finder(nodes, [steps[place] for place in places]).find()
+    if moves is None:
+        return None
+    return [Move(move.node, None if move.step is None else places[move.step], move.closing) for move in moves]

@@ -1,4 +1,4 @@
-"""The three sheets and names.txt, for tools/draw and tools/explain.
+"""The three sheets, for tools/draw and tools/explain.
 
 A sheet is read by the rules of docs/SHEETS.md, in their order; the first that it breaks is a `Refused`, with the line, the number
 and what is wrong there in words.
@@ -13,14 +13,14 @@ POLICIES = 8
 STATICS = 16
 OFFENDING = (6, 7)
 CREATE = 0
-MOST_CREATED = 64
+MOST_LIVE = 64
 MOST_UNCLOSED = 64
 LAST_ACTION = 31
 LAST_RESOURCE = 65_535
 DIGITS = 5
 
 # the kinds of a step
-EVENT, OPEN, CLOSE = range(3)
+EVENT, OPEN, CLOSE, RETIRE = range(4)
 # the kinds of a node
 END, STATIC, NAMED, THEN, EITHER, LOOP, BACK, FRESH, SANDBOX = range(9)
 # on what an edge is
@@ -33,23 +33,29 @@ NO_FEED, OTHER_BYTE, OVERLONG, FORM = 13, 11, 12, 2
 class Refused(Exception):
     """A sheet that is refused: line and number as the programs print them, what is wrong in words, and the columns that it is about."""
 
-    def __init__(self, number, line, what, columns=None):
+    def __init__(self, number, line, what, columns=None, hint=None):
         super().__init__(f"line {line}: {what}" if line else what)
         self.number = number
         self.line = line
         self.what = what
         self.columns = columns
+        self.hint = hint
 
 
 class Kind:
-    """One of the sheets: its file, the answer that tells its refusal, its names lines, how many value lines it may have."""
+    """One of the sheets: its file, the answer that tells its refusal, its names lines, what it is and what its lines are, how many of
+    them it may have."""
 
-    def __init__(self, file, answer, names, most, ranges):
+    def __init__(self, file, answer, names, words, most, ranges):
         self.file = file
         self.answer = answer
         self.names = names
+        self.words = words
         self.most = most
         self.ranges = ranges
+
+    def limit(self):
+        return f"{self.words[0]} has at most {self.most:,} {self.words[1]}s"
 
 
 def edge_ranges(row):
@@ -65,6 +71,7 @@ STEP_FIELDS = {
     EVENT: [("a, the action,", 0, LAST_ACTION), ("b, the resource,", 0, LAST_RESOURCE)],
     OPEN: [("a, the policy,", 0, POLICIES - 1), ("b", 0, 0)],
     CLOSE: [("a, the policy,", 0, POLICIES - 1), ("b", 0, 0)],
+    RETIRE: [("a, the resource,", 0, LAST_RESOURCE), ("b", 0, 0)],
 }
 
 # what a and b are, by the kind of a node
@@ -91,9 +98,9 @@ def node_ranges(row):
 
 # the names lines of a policy sheet, by the past that its policies see
 WHOLE, LOCAL = "policy from action on who to", "local from action on who to"
-POLICY_SHEET = Kind("policies.txt", 3, [WHOLE, LOCAL], 256, edge_ranges)
-TRACE_SHEET = Kind("trace.txt", 4, ["kind a b"], 2_000, step_ranges)
-OUTLINE_SHEET = Kind("outline.txt", 5, ["node kind a b"], NODES, node_ranges)
+POLICY_SHEET = Kind("policies.txt", 3, [WHOLE, LOCAL], ("a policy sheet", "edge"), 256, edge_ranges)
+TRACE_SHEET = Kind("trace.txt", 4, ["kind a b"], ("a trace", "step"), 2_000, step_ranges)
+OUTLINE_SHEET = Kind("outline.txt", 5, ["node kind a b"], ("an outline", "node"), NODES, node_ranges)
 SHEETS = [POLICY_SHEET, TRACE_SHEET, OUTLINE_SHEET]
 
 
@@ -159,7 +166,16 @@ def out_of_range(kind, line, values):
     for (field, least, most), value, span in zip(kind.ranges(values), values, spans):
         if not least <= value <= most:
             allowed = f"{least:,} to {most:,}" if most else "0"
-            return f"{field} is {value:,}, not {allowed}", span
+            return f"{field} is {value:,}, not {allowed}", span, range_hint(kind, field, value)
+    return None
+
+
+def range_hint(kind, field, value):
+    """What an author may have meant by a value outside its range."""
+    if kind is OUTLINE_SHEET and "node" in field and value >= NODES:
+        return f"{kind.limit()}, 0 to {NODES - 1}"
+    if kind is OUTLINE_SHEET and field.startswith("b, the static") and value >= STATICS:
+        return "dynamic resources are names in an outline: a fresh node (kind 7) gives one, an event of kind 2 is on it"
     return None
 
 
@@ -170,7 +186,7 @@ def read_values(kind, text, names):
     rows = []
     for at, line in enumerate(lines + ([last] if last else []), 2):
         if at - 2 >= kind.most:
-            raise Refused(4, at, f"this is value line {at - 1:,}; at most {kind.most:,} are allowed")
+            raise Refused(4, at, f"this is value line {at - 1:,}; {kind.limit()}")
         fault = malformed(line, len(names.split()), fed=at - 2 < len(lines))
         if fault:
             number, what, columns = fault
@@ -287,91 +303,3 @@ def load(path):
             return file.read(LONGEST + 1)
     except OSError:
         return b""
-
-
-class Names:
-    """The words of names.txt for the numbers of actions, resources and policies."""
-
-    HEAD = "what number name"
-    LAST = {"action": LAST_ACTION, "resource": LAST_RESOURCE, "policy": POLICIES - 1}
-
-    def __init__(self):
-        self.words = {}
-        self.faults = []
-
-    @classmethod
-    def of_folder(cls, folder):
-        """The names of a folder. A line that can't be used is left out, and told of in `faults`."""
-        names = cls()
-        try:
-            with open(os.path.join(folder, "names.txt"), "rb") as file:
-                text = file.read().decode("utf-8", "replace")
-        except FileNotFoundError:
-            return names
-        except OSError as wrong:
-            names.faults.append(f"names.txt: {wrong.strerror}")
-            return names
-        lines = text.splitlines()
-        if not lines or lines[0] != cls.HEAD:
-            names.faults.append(f"names.txt:1: the first line must be '{cls.HEAD}'; the names are not used")
-            return names
-        for at, line in enumerate(lines[1:], 2):
-            names.add(at, line)
-        return names
-
-    def add(self, at, line):
-        found = re.fullmatch(r"(\w+) ([0-9]{1,5}) (\S.*)", line)
-        what, number, name = found.groups() if found else (None, "0", "")
-        if what not in self.LAST or int(number) > self.LAST[what]:
-            kinds = ", ".join(f"{kind} 0 to {last:,}" for kind, last in self.LAST.items())
-            self.faults.append(f"names.txt:{at}: not a kind, a number and a name ({kinds}); the line is not used")
-        elif not name.isprintable():
-            self.faults.append(f"names.txt:{at}: a name of printable characters only; the line is not used")
-        elif (what, int(number)) in self.words:
-            self.faults.append(f"names.txt:{at}: {what} {number} has a name already; the line is not used")
-        else:
-            self.words[what, int(number)] = name.strip()
-
-    def get(self, what, number):
-        """The name alone, or none. Action 0 is create, whatever it is called."""
-        return self.words.get((what, number)) or ("create" if (what, number) == ("action", CREATE) else None)
-
-    def tell(self, what, number):
-        """As `action 4 'drive'`, or `action 4` where it has no name."""
-        name = self.get(what, number)
-        return f"{what} {number} '{name}'" if name else f"{what} {number}"
-
-
-def step_words(names, step):
-    """What a step says."""
-    kind, a, b = step
-    if kind == EVENT:
-        return f"{names.tell('action', a)} on {names.tell('resource', b)}"
-    return {OPEN: "open ", CLOSE: "close "}[kind] + names.tell("policy", a)
-
-
-def seen_words(names, on, who):
-    """On what resource an edge is."""
-    return {ON_STATIC: names.tell("resource", who), ON_X: "x", ON_OTHERS: "a resource other than x"}[on]
-
-
-def edge_words(names, edge):
-    """What an edge says."""
-    policy, start, action, on, who, to = edge
-    return f"policy {policy}: in state {start}, {names.tell('action', action)} on {seen_words(names, on, who)} leads to state {to}"
-
-
-def node_words(names, node):
-    """What a node says."""
-    _, kind, a, b = node
-    return {
-        END: "end",
-        STATIC: f"{names.tell('action', a)} on {names.tell('resource', b)}",
-        NAMED: f"{names.tell('action', a)} on name {b}",
-        THEN: f"node {a}, then node {b}",
-        EITHER: f"node {a} or node {b}",
-        LOOP: f"loop: node {a}",
-        BACK: f"back to loop {a}",
-        FRESH: f"fresh: name {a}, then node {b}",
-        SANDBOX: f"sandbox: node {b} under {names.tell('policy', a)}",
-    }[kind]

@@ -1,6 +1,6 @@
 //! The safe functions, on cases whose answers are worked by hand.
 
-use wiforekun::{check, check_code, Answer, Outcome, Past, State};
+use wiforekun::{check, check_code, Answer, Edge, Node, On, Outcome, Past, Refusal, State, Step};
 
 /// Read (2) only what was taken (1) and not given back (3).
 const P: [u8; 18] = [0, 0, 1, 1, 0, 1, 0, 1, 3, 1, 0, 0, 0, 0, 2, 1, 0, 6];
@@ -14,7 +14,7 @@ fn answers(edges: &[u8], past: Past, steps: &[[u32; 3]]) -> Vec<Answer> {
 fn each_resource_has_an_instance_of_its_own() {
     use Answer::{Allowed, Refused, Violated};
     let steps = [[1, 0, 0], [0, 0, 16], [0, 1, 16], [0, 2, 16], [0, 0, 17], [0, 2, 17], [0, 3, 16]];
-    assert_eq!(answers(&P, Past::Whole, &steps), [Allowed, Allowed, Allowed, Allowed, Allowed, Violated(0), Refused(20)]);
+    assert_eq!(answers(&P, Past::Whole, &steps), [Allowed, Allowed, Allowed, Allowed, Allowed, Violated(0), Refused(Refusal(20))]);
 }
 
 #[test]
@@ -83,10 +83,10 @@ fn a_refused_step_changes_nothing() {
         ([0, 1, 17], 24),
         ([2, 0, 0], 25),
     ] {
-        assert_eq!(state.judge(&P, Past::Whole, step), Answer::Refused(number));
+        assert_eq!(state.judge(&P, Past::Whole, step), Answer::Refused(Refusal(number)));
         assert!(state == before, "the state after refusal {number}");
     }
-    assert_eq!(state.judge(&P[..17], Past::Whole, [0, 1, 3]), Answer::Refused(41));
+    assert_eq!(state.judge(&P[..17], Past::Whole, [0, 1, 3]), Answer::Refused(Refusal(41)));
     assert!(state == before);
 }
 
@@ -108,7 +108,7 @@ fn a_retired_resource() {
     assert_eq!((&state.created[..3], state.numbers), (&[16, 30, 30][..], [2, 0, 0, 30]));
     // its number is gone for good, and so is every lower one
     for (step, number) in [([0, 0, 20], 27), ([0, 0, 17], 27), ([0, 0, 30], 27), ([0, 1, 20], 24), ([3, 20, 0], 28), ([3, 15, 0], 28)] {
-        assert_eq!(state.judge(&P, Past::Whole, step), Refused(number));
+        assert_eq!(state.judge(&P, Past::Whole, step), Refused(Refusal(number)));
     }
     assert_eq!(state.judge(&P, Past::Whole, [0, 0, 31]), Allowed);
     // its instance may still break a policy: use of another (4) after its own (1)
@@ -127,7 +127,7 @@ fn sixty_four_live_ones() {
         assert_eq!(state.judge(&P, Past::Whole, [0, 0, number]), Answer::Allowed);
     }
     for number in 80..300 {
-        assert_eq!(state.judge(&P, Past::Whole, [0, 0, number]), Answer::Refused(30));
+        assert_eq!(state.judge(&P, Past::Whole, [0, 0, number]), Answer::Refused(Refusal(30)));
         assert_eq!(state.judge(&P, Past::Whole, [3, number - 64, 0]), Answer::Allowed);
         assert_eq!(state.judge(&P, Past::Whole, [0, 0, number]), Answer::Allowed);
     }
@@ -141,10 +141,10 @@ fn a_highest_number() {
     for (highest, answer) in [
         (40, Answer::Allowed),
         (u64::from(u32::MAX), Answer::Allowed),
-        (39, Answer::Refused(42)),
-        (0, Answer::Refused(42)),
-        (1 << 32, Answer::Refused(42)),
-        ((1 << 32) + 40, Answer::Refused(42)),
+        (39, Answer::Refused(Refusal(42))),
+        (0, Answer::Refused(Refusal(42))),
+        (1 << 32, Answer::Refused(Refusal(42))),
+        ((1 << 32) + 40, Answer::Refused(Refusal(42))),
     ] {
         two.numbers[3] = highest;
         assert_eq!(two.clone().judge(&P, Past::Whole, [0, 1, 3]), answer, "{highest}");
@@ -152,7 +152,7 @@ fn a_highest_number() {
     // with nothing live any number of 32 bits passes
     let none = State { numbers: [0, 0, 0, u64::from(u32::MAX)], ..two };
     assert_eq!(none.clone().judge(&P, Past::Whole, [0, 1, 3]), Answer::Allowed);
-    assert_eq!(none.clone().judge(&P, Past::Whole, [0, 0, 65_535]), Answer::Refused(27));
+    assert_eq!(none.clone().judge(&P, Past::Whole, [0, 0, 65_535]), Answer::Refused(Refusal(27)));
 }
 
 #[test]
@@ -174,14 +174,14 @@ fn sandboxes_close_inside_out() {
     assert_eq!((state.numbers[2], &state.order[..5]), (4, &[0, 3, 0, 5, 0][..]));
     let before = state.clone();
     for (step, number) in [([2, 0, 0], 26), ([2, 3, 0], 26), ([2, 1, 0], 25)] {
-        assert_eq!(state.judge(&P, Past::Whole, step), Answer::Refused(number));
+        assert_eq!(state.judge(&P, Past::Whole, step), Answer::Refused(Refusal(number)));
         assert!(state == before, "the state after refusal {number}");
     }
     for step in [[2, 5, 0], [2, 0, 0], [2, 3, 0], [2, 0, 0]] {
         assert_eq!(state.judge(&P, Past::Whole, step), Answer::Allowed);
     }
     assert_eq!((state.numbers, state.unclosed), ([0; 4], [0; 8]));
-    assert_eq!(state.judge(&P, Past::Whole, [2, 0, 0]), Answer::Refused(25));
+    assert_eq!(state.judge(&P, Past::Whole, [2, 0, 0]), Answer::Refused(Refusal(25)));
 }
 
 #[test]
@@ -192,7 +192,7 @@ fn sixty_four_openings_in_all() {
     }
     assert_eq!((state.numbers[2], state.unclosed), (64, [8; 8]));
     for policy in 0..8 {
-        assert_eq!(state.judge(&P, Past::Whole, [1, policy, 0]), Answer::Refused(32));
+        assert_eq!(state.judge(&P, Past::Whole, [1, policy, 0]), Answer::Refused(Refusal(32)));
     }
     assert_eq!(state.judge(&P, Past::Whole, [2, 7, 0]), Answer::Allowed);
     assert_eq!(state.judge(&P, Past::Whole, [1, 2, 0]), Answer::Allowed);
@@ -211,7 +211,7 @@ fn an_order_that_disagrees() {
     wrong.push(State { numbers: [0, 0, 65, 0], ..State::start() });
     for state in wrong {
         let mut judged = state.clone();
-        assert_eq!(judged.judge(&P, Past::Whole, [0, 1, 3]), Answer::Refused(42));
+        assert_eq!(judged.judge(&P, Past::Whole, [0, 1, 3]), Answer::Refused(Refusal(42)));
         assert!(judged == state);
     }
 }
@@ -221,7 +221,7 @@ fn outlines() {
     // a sandbox around: read static 3; take it and read it; and a table that is no outline
     assert_eq!(check(&P, Past::Whole, &[8, 0, 1, 1, 2, 3]), Outcome::Named(0));
     assert_eq!(check(&P, Past::Whole, &[8, 0, 1, 3, 2, 3, 1, 1, 3, 1, 2, 3]), Outcome::Accepted);
-    assert_eq!(check(&P, Past::Whole, &[]), Outcome::Refused(41));
+    assert_eq!(check(&P, Past::Whole, &[0u8; 0]), Outcome::Refused(Refusal(41)));
     // read 3, then a sandbox around nothing; take 3, then a sandbox around a read
     let (early_read, early_take) = ([3, 1, 2, 1, 2, 3, 8, 0, 3, 0, 0, 0], [3, 1, 2, 1, 1, 3, 8, 0, 3, 1, 2, 3]);
     assert_eq!((check(&P, Past::Whole, &early_read), check(&P, Past::Local, &early_read)), (Outcome::Named(0), Outcome::Accepted));
@@ -254,4 +254,43 @@ fn printed() {
     assert_eq!(&out[..length], b"kind a b\n");
     let length = wiforekun::print_counterexample(policies, b"node kind a b\n0 6 0 0\n", &mut out);
     assert_eq!(&out[..length], b"line answer detail\n2 5 7\n");
+}
+
+#[test]
+fn records_are_the_same_bytes() {
+    let edges = [Edge::new(0, 0, 1, On::X, 1), Edge::new(0, 1, 3, On::X, 0), Edge::new(0, 0, 2, On::X, 6)];
+    let steps = [Step::open(0), Step::create(16), Step::event(1, 16), Step::retire(16), Step::close(0), Step::event(2, 3)];
+    assert_eq!(steps.map(<[u32; 3]>::from), [[1, 0, 0], [0, 0, 16], [0, 1, 16], [3, 16, 0], [2, 0, 0], [0, 2, 3]]);
+    let (mut by_records, mut by_bytes) = (State::default(), State::start());
+    for step in steps {
+        assert_eq!(by_records.judge(&edges, Past::Whole, step), by_bytes.judge(&P, Past::Whole, step.0));
+        assert_eq!(by_records, by_bytes);
+    }
+    assert_eq!(by_records.judge(&edges[..2], Past::Whole, Step([4, 0, 0])), Answer::Refused(Refusal::NO_STEP));
+    // case I: a sandbox around a loop, end, or fresh n, take n, read n, back
+    let nodes = [
+        Node::sandbox(0, 1),
+        Node::repeat(2),
+        Node::either(3, 4),
+        Node::END,
+        Node::fresh(0, 5),
+        Node::then(6, 7),
+        Node::on_name(1, 0),
+        Node::then(8, 9),
+        Node::on_name(2, 0),
+        Node::back(1),
+    ];
+    assert_eq!(check(&edges, Past::Whole, &nodes), Outcome::Accepted);
+    assert_eq!(check(&P, Past::Whole, &nodes[..]), Outcome::Accepted);
+    let read = [Node::sandbox(0, 1), Node::on_static(2, 3)];
+    assert_eq!(check(&edges[..], Past::Whole, &read), Outcome::Named(0));
+    assert_eq!(check(&[Edge::new(8, 0, 0, On::Static(3), 0)], Past::Whole, &read), Outcome::Refused(Refusal::TABLE));
+    assert_eq!(check(&[Edge::new(0, 0, 4, On::Others, 6)], Past::Whole, &[Node::sandbox(0, 1), Node::on_static(4, 3)]), Outcome::Named(0));
+}
+
+#[test]
+fn refusals_in_words() {
+    assert_eq!(Refusal::HALTED.to_string(), "20: the run is halted already");
+    assert_eq!((Refusal::HALTED, u32::from(Refusal::STATE)), (Refusal(20), 42));
+    assert_eq!((Refusal(23).to_string(), Refusal(23).meaning()), ("23".to_string(), None));
 }

@@ -118,7 +118,7 @@ pub fn checked(edges: &[u8], local: u32, nodes: &[u8]) -> (u32, usize) {
 /// then. Each number of it was `mark` plus its place.
 pub fn explained(edges: &[u8], local: u32, nodes: &[u8], numbers: usize, mark: u32) -> ((u32, usize, usize), Vec<u32>) {
     let mut trace: Vec<u32> = (0..numbers as u32).map(|place| mark + place).collect();
-    let code = wiforekun::explain_code(edges, local, nodes, &mut trace);
+    let code = wiforekun::counterexample_code(edges, local, nodes, &mut trace);
     ((code / 256 % 256, (code % 256) as usize, (code / 65536) as usize), trace)
 }
 
@@ -134,10 +134,10 @@ pub fn past(sight: Sight) -> Past {
 pub fn judged(policies: &Policies, steps: &[Step]) -> Option<Vec<Answer>> {
     let (edges, past) = (flat(&policies.edges)?, past(policies.sight));
     let mut state = wiforekun::State::start();
-    let answer = |step: &Step| match state.judge(&edges, past, step.row().map(|value| value as u32)) {
+    let answer = |step: &Step| match state.judge(&edges[..], past, step.row().map(|value| value as u32)) {
         wiforekun::Answer::Allowed => Answer::Allowed,
         wiforekun::Answer::Violated(policy) => Answer::Violated(usize::from(policy)),
-        wiforekun::Answer::Refused(number) => Answer::Refused(u32::from(number)),
+        wiforekun::Answer::Refused(number) => Answer::Refused(u32::from(number.0)),
     };
     Some(steps.iter().map(answer).collect())
 }
@@ -154,10 +154,10 @@ pub fn summary(edges: &[u8], local: u32, nodes: &[u8], numbers: usize, mark: u64
 pub fn judged_lean(policies: &Policies, marks: &[u64; UNCLOSED_LENGTH], steps: &[Step]) -> Option<Vec<Answer>> {
     let (edges, past) = (flat(&policies.edges)?, past(policies.sight));
     let mut state = wiforekun::State::start();
-    let answer = |step: &Step| match state.judge_lean(marks, &edges, past, step.row().map(|value| value as u32)) {
+    let answer = |step: &Step| match state.judge_lean(marks, &edges[..], past, step.row().map(|value| value as u32)) {
         wiforekun::Answer::Allowed => Answer::Allowed,
         wiforekun::Answer::Violated(policy) => Answer::Violated(usize::from(policy)),
-        wiforekun::Answer::Refused(number) => Answer::Refused(u32::from(number)),
+        wiforekun::Answer::Refused(number) => Answer::Refused(u32::from(number.0)),
     };
     Some(steps.iter().map(answer).collect())
 }

@@ -1,0 +1,152 @@
+/* stack CASE..: how much stack each function takes on the sheets of these cases: it runs on a painted stack of its own, of which the lowest
+ * byte that was touched is looked for. A CASE is POLICIES:OTHER:KIND, two files, and t for a trace or o for an outline. Prints a line for each
+ * function: its name and the bytes. */
+#define _DEFAULT_SOURCE
+#include "wiforekun.h"
+#include <stdint.h>
+#include <stdio.h>
+#include <stdlib.h>
+#include <string.h>
+#include <sys/mman.h>
+#include <ucontext.h>
+
+#define SIZE ((size_t)1 << 20)
+#define PAINT 0xa5
+#define MOST 40000
+
+static uint8_t *stack;
+static ucontext_t here, there;
+static void (*task)(void);
+
+static uint8_t policies[MOST], other[MOST], edges[6 * 256], nodes[3 * 64], out[WIFOREKUN_TRACE_ROOM];
+static size_t policies_length, other_length, edges_length, nodes_length;
+static uint32_t local, steps[3 * 2000], trace[WIFOREKUN_COUNTEREXAMPLE_ROOM];
+static size_t step_count;
+static struct wiforekun_state state;
+
+static void enter(void) {
+    task();
+}
+
+/* The bytes of stack that the task took. */
+static size_t taken(void (*of)(void)) {
+    memset(stack, PAINT, SIZE);
+    task = of;
+    if (getcontext(&there) != 0) exit(1);
+    there.uc_stack.ss_sp = stack;
+    there.uc_stack.ss_size = SIZE;
+    there.uc_link = &here;
+    makecontext(&there, enter, 0);
+    if (swapcontext(&here, &there) != 0) exit(1);
+    size_t at = 0;
+    while (at < SIZE && stack[at] == PAINT) at++;
+    return SIZE - at;
+}
+
+static void nothing(void) {
+}
+
+static void start(void) {
+    wiforekun_start(&state);
+}
+
+static void judge(void) {
+    wiforekun_start(&state);
+    for (size_t i = 0; i < step_count; i++)
+        (void)wiforekun_judge(&state, edges, edges_length, local, steps[3 * i], steps[3 * i + 1], steps[3 * i + 2]);
+}
+
+static void check(void) {
+    (void)wiforekun_check(edges, edges_length, local, nodes, nodes_length);
+}
+
+static void counterexample(void) {
+    (void)wiforekun_counterexample(edges, edges_length, local, nodes, nodes_length, trace, WIFOREKUN_COUNTEREXAMPLE_ROOM);
+}
+
+static void report_trace(void) {
+    (void)wiforekun_report_trace(policies, policies_length, other, other_length, out, sizeof out);
+}
+
+static void report_outline(void) {
+    (void)wiforekun_report_outline(policies, policies_length, other, other_length, out, sizeof out);
+}
+
+static void report_counterexample(void) {
+    (void)wiforekun_report_counterexample(policies, policies_length, other, other_length, out, sizeof out);
+}
+
+static struct {
+    const char *name;
+    void (*of)(void);
+    char kind; /* on which sheets it works */
+    size_t most;
+} functions[] = {
+    {"wiforekun_start_parts", start, 'b', 0},
+    {"wiforekun_judge_parts", judge, 't', 0},
+    {"wiforekun_check", check, 'o', 0},
+    {"wiforekun_counterexample", counterexample, 'o', 0},
+    {"wiforekun_report_trace", report_trace, 't', 0},
+    {"wiforekun_report_outline", report_outline, 'o', 0},
+    {"wiforekun_report_counterexample", report_counterexample, 'o', 0},
+};
+
+static size_t load(const char *path, uint8_t *to) {
+    FILE *file = fopen(path, "rb");
+    if (!file) return 0;
+    size_t length = fread(to, 1, MOST, file);
+    fclose(file);
+    return length;
+}
+
+/* The values of a sheet's lines after the first, as far as they are numbers. */
+static size_t values(const uint8_t *text, size_t length, uint32_t *to, size_t most) {
+    size_t at = 0, count = 0;
+    while (at < length && text[at] != '\n') at++;
+    while (at < length && count < most) {
+        if (text[at] >= '0' && text[at] <= '9') {
+            uint32_t value = 0;
+            while (at < length && text[at] >= '0' && text[at] <= '9') value = 10 * value + (text[at++] - '0');
+            to[count++] = value;
+        } else {
+            at++;
+        }
+    }
+    return count;
+}
+
+static void tables(char kind) {
+    static uint32_t found[8000];
+    size_t count = values(policies, policies_length, found, 6 * 256);
+    local = policies_length > 0 && policies[0] == 'l' ? WIFOREKUN_LOCAL : WIFOREKUN_WHOLE;
+    edges_length = count / 6 * 6;
+    for (size_t i = 0; i < edges_length; i++) edges[i] = (uint8_t)found[i];
+    if (kind == 't') {
+        step_count = values(other, other_length, steps, 3 * 2000) / 3;
+    } else {
+        count = values(other, other_length, found, 4 * 64) / 4;
+        nodes_length = 3 * count;
+        for (size_t i = 0; i < nodes_length; i++) nodes[i] = (uint8_t)found[4 * (i / 3) + 1 + i % 3];
+    }
+}
+
+int main(int count, char **cases) {
+    stack = mmap(NULL, SIZE, PROT_READ | PROT_WRITE, MAP_PRIVATE | MAP_ANONYMOUS, -1, 0);
+    if (stack == MAP_FAILED) return 1;
+    size_t empty = taken(nothing);
+    for (int i = 1; i < count; i++) {
+        char *second = strchr(cases[i], ':'), *kind = second ? strchr(second + 1, ':') : NULL;
+        if (!kind) return 2;
+        *second++ = *kind++ = 0;
+        policies_length = load(cases[i], policies);
+        other_length = load(second, other);
+        tables(*kind);
+        for (size_t f = 0; f < sizeof functions / sizeof *functions; f++) {
+            if (functions[f].kind != *kind && functions[f].kind != 'b') continue;
+            size_t used = taken(functions[f].of) - empty;
+            if (used > functions[f].most && used < SIZE) functions[f].most = used;
+        }
+    }
+    for (size_t f = 0; f < sizeof functions / sizeof *functions; f++) printf("%s %zu\n", functions[f].name, functions[f].most);
+    return 0;
+}
