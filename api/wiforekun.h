@@ -122,6 +122,32 @@ uint32_t wiforekun_check(const uint8_t *edges, size_t edges_length, uint32_t loc
 uint32_t wiforekun_counterexample(const uint8_t *edges, size_t edges_length, uint32_t local, const uint8_t *nodes, size_t nodes_length,
                                   uint32_t *trace, size_t trace_length);
 
+/* The exact summary of a table of nodes under a table of edges: eight numbers, one for each policy, are written to `marks`. Bit a, 0 to 31,
+ * of policy p's number is set exactly where an event with action a (a create is 0), and bit 32 where p's own opening, can be the last step
+ * of a trace that leaves p open and not respected; no other bit is. Of an accepted outline all are 0. `marks_length` is in numbers; those
+ * after the eighth keep their contents. The answer is 0, or refused with 40 where there is no room, then 41 as for the check; then nothing is
+ * written. */
+#define WIFOREKUN_MARKS_LENGTH 8
+#define WIFOREKUN_MARKS_ALIGN 8
+#define WIFOREKUN_OPENING_BIT 32
+uint32_t wiforekun_summary(const uint8_t *edges, size_t edges_length, uint32_t local, const uint8_t *nodes, size_t nodes_length,
+                           uint64_t *marks, size_t marks_length);
+
+/* One step of the lean monitor: as wiforekun_judge_parts, but that an event is judged only by the policies whose number has its action's bit,
+ * an opening by its own policy alone and only where that has bit 32, and a closing or a retiring by none. The state moves alike. Any eight
+ * numbers will do; with the exact summary of an outline the answers are those of the full monitor, from the start on, for the steps of a
+ * trace of that outline, with or without retirings among them, and for as long as the steps that are not refused are such a trace. */
+uint32_t wiforekun_judge_lean_parts(const uint64_t *marks, const uint8_t *edges, size_t edges_length, uint32_t local, uint8_t *sets,
+                                    uint8_t *possible, uint32_t *created, uint8_t *unclosed, uint8_t *order, uint64_t *numbers,
+                                    uint32_t kind, uint32_t a, uint32_t b);
+
+static inline uint32_t wiforekun_judge_lean(struct wiforekun_state *state, const uint64_t marks[WIFOREKUN_MARKS_LENGTH],
+                                            const uint8_t *edges, size_t edges_length, uint32_t local, uint32_t kind, uint32_t a,
+                                            uint32_t b) {
+    return wiforekun_judge_lean_parts(marks, edges, edges_length, local, state->sets, state->possible, state->created, state->unclosed,
+                                      state->order, state->numbers, kind, a, b);
+}
+
 /* What the programs print, from the bytes of the sheets: the text is written to `out`, and its length is the answer. Bytes after it
  * keep their contents. Where `out` is shorter than the room below, nothing is written and the answer is 0. */
 #define WIFOREKUN_TRACE_ROOM 20019

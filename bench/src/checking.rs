@@ -6,7 +6,7 @@ use crate::{modelcheck, outlines, shortest};
 use reference::rng::Rng;
 use std::hint::black_box;
 use std::time::{Duration, Instant};
-use wiforekun::{check_code as proved_check, explain_code as proved_explain, COUNTEREXAMPLE_ROOM};
+use wiforekun::{check_code as proved_check, counterexample_code as proved_explain, summary_code, COUNTEREXAMPLE_ROOM, MARKS_LENGTH};
 
 fn verify_check(outline: &Outline) -> u32 {
     let proved = proved_check(&outline.edges, outline.local, &outline.nodes);
@@ -113,6 +113,27 @@ fn measure_check(name: &str, outlines: &[Outline]) {
         });
     }
     println!("{}\t2\t{name}", outlines.len());
+}
+
+/// The summary beside the check, both proved.
+pub fn summary_rows(chosen: impl Fn(&str) -> bool) {
+    for (name, outlines) in outlines::cases().into_iter().map(|(name, outlines)| (format!("summary: {name}"), outlines)) {
+        if !chosen(&name) {
+            continue;
+        }
+        let mut marks = [0; MARKS_LENGTH];
+        measured(&mut || {
+            for outline in &outlines {
+                black_box(summary_code(black_box(&outline.edges), outline.local, black_box(&outline.nodes), &mut marks));
+            }
+        });
+        measured(&mut || {
+            for outline in &outlines {
+                black_box(proved_check(black_box(&outline.edges), outline.local, black_box(&outline.nodes)));
+            }
+        });
+        println!("{}\t2\t{name}", outlines.len());
+    }
 }
 
 /// The same with a counterexample.

@@ -6,7 +6,7 @@ use crate::measured;
 use crate::monitor::{self, State};
 use reference::rng::Rng;
 use std::hint::black_box;
-use wiforekun::State as Parts;
+use wiforekun::{State as Parts, MARKS_LENGTH};
 
 /// The state as the proved code is lent it.
 fn parts_of(state: &State) -> Parts {
@@ -211,6 +211,38 @@ pub fn rows(chosen: impl Fn(&str) -> bool) {
         }
         println!("{}\t3\t{}", case.steps.len(), case.name);
     }
+}
+
+/// The lean judge beside the full one, both proved, with nothing marked and with all.
+pub fn lean_rows(chosen: impl Fn(&str) -> bool) {
+    for (what, marks) in [("nothing marked", [0; MARKS_LENGTH]), ("all marked", [u64::MAX; MARKS_LENGTH])] {
+        for case in cases().into_iter().filter(|case| !case.by_itself) {
+            let name = format!("lean, {what}: {}", case.name);
+            if chosen(&name) {
+                lean_beside_full(&case, &marks);
+                println!("{}\t2\t{name}", case.steps.len());
+            }
+        }
+    }
+}
+
+fn lean_beside_full(case: &Case, marks: &[u64; MARKS_LENGTH]) {
+    let Case { name, edges, local, steps, due, .. } = case;
+    let mut full = parts_of(&case.led_to());
+    let mut lean = full.clone();
+    let mut other = 0;
+    measured(&mut || {
+        for step in steps {
+            other |= black_box(lean.judge_lean_code(marks, black_box(edges), *local, *step)) ^ due;
+        }
+    });
+    measured(&mut || {
+        for step in steps {
+            other |= black_box(full.judge_code(black_box(edges), *local, *step)) ^ due;
+        }
+    });
+    assert_eq!(other, 0, "every step of {name} is answered alike");
+    assert!(lean == full);
 }
 
 fn one_after_the_other(case: &Case, mut state: State) {

@@ -49,7 +49,9 @@ fn verify() {
 fn rows(only: &str) {
     let chosen = |name: &str| name.starts_with(only);
     judging::rows(chosen);
+    judging::lean_rows(chosen);
     checking::rows(chosen);
+    checking::summary_rows(chosen);
     reading::rows(chosen);
     writing::rows(chosen);
 }

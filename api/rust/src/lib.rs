@@ -57,6 +57,11 @@ pub const STEP_NUMBERS: usize = 3;
 /// The numbers of the table that a counterexample is written to: 200 steps.
 pub const COUNTEREXAMPLE_ROOM: usize = 600;
 
+/// The numbers of a summary, one for each policy.
+pub const MARKS_LENGTH: usize = 8;
+/// The bit of a policy's opening in a summary; those below it are its actions'.
+pub const OPENING_BIT: u32 = 32;
+
 /// The room that the longest output of the monitor takes.
 pub const TRACE_ROOM: usize = 20_019;
 /// The room that the longest output of the checker takes.
@@ -97,6 +102,30 @@ extern "C" {
         nodes_length: usize,
         trace: *mut u32,
         trace_length: usize,
+    ) -> u32;
+    fn wiforekun_summary(
+        edges: *const u8,
+        edges_length: usize,
+        local: u32,
+        nodes: *const u8,
+        nodes_length: usize,
+        marks: *mut u64,
+        marks_length: usize,
+    ) -> u32;
+    fn wiforekun_judge_lean_parts(
+        marks: *const [u64; MARKS_LENGTH],
+        edges: *const u8,
+        edges_length: usize,
+        local: u32,
+        sets: *mut [u8; SETS_LENGTH],
+        possible: *mut [u8; POSSIBLE_LENGTH],
+        created: *mut [u32; CREATED_LENGTH],
+        unclosed: *mut [u8; UNCLOSED_LENGTH],
+        order: *mut [u8; ORDER_LENGTH],
+        numbers: *mut [u64; NUMBERS_LENGTH],
+        kind: u32,
+        a: u32,
+        b: u32,
     ) -> u32;
     fn wiforekun_report_trace(
         policies: *const u8,
@@ -305,6 +334,38 @@ impl State {
         }
     }
 
+    /// One step, judged only by the policies that a summary marks at it: an event by those whose number has its action's bit, an opening by its
+    /// own policy where that has [`OPENING_BIT`], a closing or a retiring by none. The state moves alike. With the exact summary of an outline
+    /// the answers on its traces are those of [`State::judge`].
+    #[inline]
+    pub fn judge_lean<E: Table<Edge> + ?Sized>(
+        &mut self,
+        marks: &[u64; MARKS_LENGTH],
+        edges: &E,
+        past: Past,
+        step: impl Into<Step>,
+    ) -> Answer {
+        let code = self.judge_lean_code(marks, edges.bytes(), past.number(), step.into().0);
+        match code / 256 {
+            0 => Answer::Allowed,
+            1 => Answer::Violated(detail(code)),
+            _ => Answer::Refused(Refusal(detail(code))),
+        }
+    }
+
+    /// The same as one number, as [`State::judge_code`] tells it.
+    #[inline]
+    #[must_use]
+    pub fn judge_lean_code(&mut self, marks: &[u64; MARKS_LENGTH], edges: &[u8], local: u32, [kind, a, b]: [u32; 3]) -> u32 {
+        let State { sets, possible, created, unclosed, order, numbers } = self;
+        // sound: slices and references to arrays of the declared lengths, exclusive but for the marks; the proved code keeps to these
+        unsafe {
+            wiforekun_judge_lean_parts(
+                marks, edges.as_ptr(), edges.len(), local, sets, possible, created, unclosed, order, numbers, kind, a, b,
+            )
+        }
+    }
+
     /// The same as one number: 256 times the answer (0 allowed, 1 violated, 2 refused), and the detail. The past is told by its number.
     #[inline]
     #[must_use]
@@ -364,6 +425,29 @@ pub fn counterexample<E: Table<Edge> + ?Sized, N: Table<Node> + ?Sized>(edges: &
 pub fn counterexample_code(edges: &[u8], local: u32, nodes: &[u8], trace: &mut [u32]) -> u32 {
     // sound: two slices to read and one to write
     unsafe { wiforekun_counterexample(edges.as_ptr(), edges.len(), local, nodes.as_ptr(), nodes.len(), trace.as_mut_ptr(), trace.len()) }
+}
+
+/// The exact summary of a table of nodes under a table of edges, or the number of the refusal: for each policy the actions, and whether its
+/// opening, that can be the last step of a trace that leaves it open and not respected, as bits. Of an accepted outline all are 0.
+pub fn summary<E: Table<Edge> + ?Sized, N: Table<Node> + ?Sized>(
+    edges: &E,
+    past: Past,
+    nodes: &N,
+) -> Result<[u64; MARKS_LENGTH], Refusal> {
+    let mut marks = [0; MARKS_LENGTH];
+    match summary_code(edges.bytes(), past.number(), nodes.bytes(), &mut marks) {
+        0 => Ok(marks),
+        code => Err(Refusal(detail(code))),
+    }
+}
+
+/// The same as one number, 0 or 512 and the number of the refusal. The summary is written to `marks`, and what is after it stays; refused with
+/// 40 where it is shorter than [`MARKS_LENGTH`]. The past is told by its number.
+#[inline]
+#[must_use]
+pub fn summary_code(edges: &[u8], local: u32, nodes: &[u8], marks: &mut [u64]) -> u32 {
+    // sound: two slices to read and one to write
+    unsafe { wiforekun_summary(edges.as_ptr(), edges.len(), local, nodes.as_ptr(), nodes.len(), marks.as_mut_ptr(), marks.len()) }
 }
 
 /// What the monitor prints for these sheets, put into `out`: its length, or 0 where `out` is shorter than [`TRACE_ROOM`].

@@ -6,10 +6,12 @@ use mathlib.Core.List.{List}
 use native.Mathlib.Omega.{arith}
 use borrow.Author.Tests.{lt-ltb, le-ltb}
 use lib.ListN.{length}
+use Rattle.usage.specs.Limits.{policies}
 use Rattle.checker_trace.specs.Answer.{mostNumbers}
 use Rattle.checker.specs.declared.counterexample.Explanation.the-variants.{Refused}
 use Rattle.api_c.specs.Choice.{choiceOf}
 use Rattle.api_c.specs.Check.{Chosen, no-choice, chosen, refusalWithoutChoice}
+use Rattle.api_c.specs.Summary.{numberWithoutChoice}
 
 module _ {A : Type 0} {choice : ℕ} {other : A} {Right : Bool → A → Type 0} where
   pub right-none : {a : A} → 1 < choice → Chosen choice other Right a → other ≡ a
@@ -27,3 +29,11 @@ refusal-small t l = simp (lt-ltb (length t) mostNumbers l)
 pub refusal-roomy : (t : List ℕ) → mostNumbers ≤ length t → Refused 41 ≡ refusalWithoutChoice t
 unfolding refusalWithoutChoice
 refusal-roomy t l = simp (le-ltb (length t) mostNumbers l)
+
+pub number-small : (t : List ℕ) → length t < policies → 40 ≡ numberWithoutChoice t
+unfolding numberWithoutChoice
+number-small t l = simp (lt-ltb (length t) policies l)
+
+pub number-roomy : (t : List ℕ) → policies ≤ length t → 41 ≡ numberWithoutChoice t
+unfolding numberWithoutChoice
+number-roomy t l = simp (le-ltb (length t) policies l)

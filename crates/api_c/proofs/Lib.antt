@@ -3,3 +3,4 @@ pub mod ChoiceLaws
 pub mod PartLaws
 pub mod PastLaws
 pub mod WritingLaws
+pub mod LeanLaws

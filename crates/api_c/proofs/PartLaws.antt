@@ -17,9 +17,10 @@ use Rattle.monitor_state.specs.declared.Told.{Told}
 use Rattle.monitor_state.specs.Judge.{verdictOf, refuse, judgeOf}
 use Rattle.monitor_state.specs.Code.{judgementOf}
 use Rattle.monitor_state.proofs.KeptLaws.{refused-kept}
-use Rattle.monitor.proofs.JudgeLaws.{table-refused}
+use Rattle.monitor_lean.specs.Lean.{Looks, judgeBy}
+use Rattle.monitor_lean.proofs.KeptLaws.{by-refused-kept, by-table-refused}
 use Rattle.api_c.specs.Parts.{Parts, partsOf, flag, highestIn, mostNumber, isHeld, heldIn, holding, Answered, refuseParts, answeredIn}
-use Rattle.api_c.specs.Parts.{judgeParts}
+use Rattle.api_c.specs.Parts.{Judges, partsBy}
 use Rattle.api_c.specs.Choice.{isChoice, choiceOf}
 use Rattle.api_c.specs.Code.{isRefusal}
 
@@ -38,17 +39,17 @@ answered-keeps p n (Violated q) s e = clash (cc)
 answered-keeps p n (Refused m) s e = refl
 
 -- Demand 1, of every array that the caller lent, for all inputs.
-pub refusal-keeps : (edges : List ℕ) (choice : ℕ) (p : Parts) (raw : RawStep) (n : ℕ) → judgeParts edges choice p raw .verdict ≡ refused n
-    → judgeParts edges choice p raw .parts ≡ p
-unfolding judgeParts
-refusal-keeps edges choice p raw n =
+pub refusal-keeps : (judge : Judges) (edges : List ℕ) (choice : ℕ) (p : Parts) (raw : RawStep) (n : ℕ)
+    → partsBy judge edges choice p raw .verdict ≡ refused n → partsBy judge edges choice p raw .parts ≡ p
+unfolding partsBy
+refusal-keeps judge edges choice p raw n =
     either-keeps p n (not (isChoice choice && edgeTable edges)) (refuseParts 41 p)
     (cond (not (isHeld p)) (refuseParts 42 p) judged) (λ e. refl)
     (either-keeps p n (not (isHeld p)) (refuseParts 42 p) judged (λ e. refl)
-    (answered-keeps p n (judgeOf edges (choiceOf choice) (heldIn p) raw .answer) (judgeOf edges (choiceOf choice) (heldIn p) raw .state)))
+    (answered-keeps p n (judge edges (choiceOf choice) (heldIn p) raw .answer) (judge edges (choiceOf choice) (heldIn p) raw .state)))
   where
     judged : Answered
-    judged = answeredIn p (judgeOf edges (choiceOf choice) (heldIn p) raw .answer) (judgeOf edges (choiceOf choice) (heldIn p) raw .state)
+    judged = answeredIn p (judge edges (choiceOf choice) (heldIn p) raw .answer) (judge edges (choiceOf choice) (heldIn p) raw .state)
 
 pub answered-verdict : (p : Parts) (a : Answer) (s : State) → answeredIn p a s .verdict ≡ verdictOf a
 answered-verdict p Allowed s = refl
@@ -78,15 +79,15 @@ is-held p f h = simp (le-leb (flag p) 1 f) (le-leb (highestIn p) mostNumber h)
 
 -- ── The answer ──
 
-module _ (edges : List ℕ) (choice : ℕ) (p : Parts) (raw : RawStep) where
+module _ (judge : Judges) (edges : List ℕ) (choice : ℕ) (p : Parts) (raw : RawStep) where
   -- a choice that is none
-  pub choice-refused : 1 < choice → judgeParts edges choice p raw ≡ refuseParts 41 p
-  unfolding judgeParts
+  pub choice-refused : 1 < choice → partsBy judge edges choice p raw ≡ refuseParts 41 p
+  unfolding partsBy
   choice-refused h = simp (lt-leb choice 1 h)
 
   -- arrays that hold no state
-  pub held-refused : choice ≤ 1 → isHeld p ≡ false → judgeParts edges choice p raw ≡ refuseParts (cond (edgeTable edges) 42 41) p
-  unfolding judgeParts
+  pub held-refused : choice ≤ 1 → isHeld p ≡ false → partsBy judge edges choice p raw ≡ refuseParts (cond (edgeTable edges) 42 41) p
+  unfolding partsBy
   held-refused c h = simp (le-leb choice 1 c) (go (edgeTable edges) _)
     where
       go : (b : Bool) (r : Answered)
@@ -94,41 +95,46 @@ module _ (edges : List ℕ) (choice : ℕ) (p : Parts) (raw : RawStep) where
       go true r = rw h
       go false r = refl
 
+  -- of a table that no sheet gives, and of a refusal
+  pub record Refusing : Type 0 where
+    pub table : edgeTable edges ≡ false → judge edges (choiceOf choice) (heldIn p) raw ≡ refuse 41 (heldIn p)
+    pub kept : (n : ℕ) → judge edges (choiceOf choice) (heldIn p) raw .answer ≡ Refused n
+        → judge edges (choiceOf choice) (heldIn p) raw .state ≡ heldIn p
+
   -- else the answer is the judge's, 41 too
-  pub held-judged : choice ≤ 1 → isHeld p ≡ true
-      → judgeParts edges choice p raw
-      ≡ answeredIn p (judgeOf edges (choiceOf choice) (heldIn p) raw .answer) (judgeOf edges (choiceOf choice) (heldIn p) raw .state)
-  unfolding judgeParts refuse
-  held-judged c h = simp (le-leb choice 1 c) (go (edgeTable edges) refl)
+  pub held-judged : Refusing → choice ≤ 1 → isHeld p ≡ true
+      → partsBy judge edges choice p raw
+      ≡ answeredIn p (judge edges (choiceOf choice) (heldIn p) raw .answer) (judge edges (choiceOf choice) (heldIn p) raw .state)
+  unfolding partsBy refuse
+  held-judged f c h = simp (le-leb choice 1 c) (go (edgeTable edges) refl)
     where
       go : (b : Bool) → edgeTable edges ≡ b
           → cond (not b) (refuseParts 41 p)
           (cond (not (isHeld p)) (refuseParts 42 p)
-          (answeredIn p (judgeOf edges (choiceOf choice) (heldIn p) raw .answer) (judgeOf edges (choiceOf choice) (heldIn p) raw .state)))
-          ≡ answeredIn p (judgeOf edges (choiceOf choice) (heldIn p) raw .answer) (judgeOf edges (choiceOf choice) (heldIn p) raw .state)
+          (answeredIn p (judge edges (choiceOf choice) (heldIn p) raw .answer) (judge edges (choiceOf choice) (heldIn p) raw .state)))
+          ≡ answeredIn p (judge edges (choiceOf choice) (heldIn p) raw .answer) (judge edges (choiceOf choice) (heldIn p) raw .state)
       go true e = rw h
-      go false e = sym
-          (ap (λ (j : Judgement). answeredIn p (j .answer) (j .state)) (table-refused edges (choiceOf choice) (heldIn p) raw e))
+      go false e = sym (ap (λ (j : Judgement). answeredIn p (j .answer) (j .state)) (f .table e))
 
   -- ── What is told, and what is left in the arrays ──
 
-  module _ (c : choice ≤ 1) (h : isHeld p ≡ true) (t : Told) (sets possible created unclosed order : List ℕ)
-      (is : judgementOf t sets possible created unclosed order ≡ judgeOf edges (choiceOf choice) (heldIn p) raw) where
-    pub told-verdict : verdictOf (t .answer) ≡ judgeParts edges choice p raw .verdict
+  module _ (f : Refusing) (c : choice ≤ 1) (h : isHeld p ≡ true) (t : Told) (sets possible created unclosed order : List ℕ)
+      (is : judgementOf t sets possible created unclosed order ≡ judge edges (choiceOf choice) (heldIn p) raw) where
+    pub told-verdict : verdictOf (t .answer) ≡ partsBy judge edges choice p raw .verdict
     told-verdict =
-        sym (answered-verdict p (t .answer) (judgeOf edges (choiceOf choice) (heldIn p) raw .state))
-        ∙ ap (λ (a : Answer). answeredIn p a (judgeOf edges (choiceOf choice) (heldIn p) raw .state) .verdict)
+        sym (answered-verdict p (t .answer) (judge edges (choiceOf choice) (heldIn p) raw .state))
+        ∙ ap (λ (a : Answer). answeredIn p a (judge edges (choiceOf choice) (heldIn p) raw .state) .verdict)
         (ap (λ (j : Judgement). j .answer) is)
-        ∙ sym (ap (λ (r : Answered). r .verdict) (held-judged c h))
+        ∙ sym (ap (λ (r : Answered). r .verdict) (held-judged f c h))
 
     left : {q : Parts} → q ≡ answeredIn p (t .answer) (judgementOf t sets possible created unclosed order .state) .parts
-        → q ≡ judgeParts edges choice p raw .parts
+        → q ≡ partsBy judge edges choice p raw .parts
     left e =
-        e ∙ ap (λ (j : Judgement). answeredIn p (j .answer) (j .state) .parts) is ∙ sym (ap (λ (r : Answered). r .parts) (held-judged c h))
+        e ∙ ap (λ (j : Judgement). answeredIn p (j .answer) (j .state) .parts) is ∙ sym (ap (λ (r : Answered). r .parts) (held-judged f c h))
 
     -- a refusal: the arrays are those of the state that was lent
     pub refused-left : isRefusal (t .answer) ≡ true
-        → partsOf sets possible created unclosed order (p .numbers) ≡ judgeParts edges choice p raw .parts
+        → partsOf sets possible created unclosed order (p .numbers) ≡ partsBy judge edges choice p raw .parts
     unfolding heldIn
     refused-left r = left (by-answer (t .answer) r refl)
       where
@@ -140,14 +146,14 @@ module _ (edges : List ℕ) (choice : ℕ) (p : Parts) (raw : RawStep) where
         by-answer (Refused n) r e =
             let same : judgementOf t sets possible created unclosed order .state ≡ heldIn p =
             ap (λ (j : Judgement). j .state) is
-            ∙ refused-kept edges (choiceOf choice) (heldIn p) raw n (ap (λ (j : Judgement). j .answer) (sym is) ∙ e) in
+            ∙ f .kept n (ap (λ (j : Judgement). j .answer) (sym is) ∙ e) in
             ap (λ (s : State). partsOf (s .sets) (s .possible) (s .created) (s .unclosed) (s .order) (p .numbers)) same
 
     -- otherwise the numbers are those of the new state
-    pub taken-left : (f : ℕ) → isRefusal (t .answer) ≡ false → f ≡ cond (t .halted) 1 0
-        → partsOf sets possible created unclosed order (t .count ∷ f ∷ t .depth ∷ t .highest ∷ []) ≡ judgeParts edges choice p raw .parts
+    pub taken-left : (flag : ℕ) → isRefusal (t .answer) ≡ false → flag ≡ cond (t .halted) 1 0
+        → partsOf sets possible created unclosed order (t .count ∷ flag ∷ t .depth ∷ t .highest ∷ []) ≡ partsBy judge edges choice p raw .parts
     unfolding holding
-    taken-left f r e = left
+    taken-left flag r e = left
         (ap (λ (n : ℕ). partsOf sets possible created unclosed order (t .count ∷ n ∷ t .depth ∷ t .highest ∷ [])) e
         ∙ by-answer (t .answer) r)
       where
@@ -157,3 +163,18 @@ module _ (edges : List ℕ) (choice : ℕ) (p : Parts) (raw : RawStep) where
         by-answer Allowed r = refl
         by-answer (Violated q) r = refl
         by-answer (Refused n) r = false-true (sym r)
+
+-- both judges refuse so
+pub full-refusing : (edges : List ℕ) (choice : ℕ) (p : Parts) (raw : RawStep) → Refusing judgeOf edges choice p raw
+unfolding judgeOf
+full-refusing edges choice p raw = record {
+  table = λ e. simp e;
+  kept = refused-kept edges (choiceOf choice) (heldIn p) raw;
+}
+
+pub looked-refusing : (looks : Looks) (edges : List ℕ) (choice : ℕ) (p : Parts) (raw : RawStep)
+    → Refusing (judgeBy looks) edges choice p raw
+looked-refusing looks edges choice p raw = record {
+  table = by-table-refused looks edges (choiceOf choice) (heldIn p) raw;
+  kept = by-refused-kept looks edges (choiceOf choice) (heldIn p) raw;
+}

@@ -24,7 +24,7 @@ use Rattle.api_c.specs.Codes.{codeOf}
 use Rattle.api_c.specs.Parts.{Parts, highestIn, mostNumber, isHeld, heldIn, holding, Answered, refuseParts, answeredIn}
 use Rattle.api_c.specs.Parts.{judgeParts}
 use Rattle.api_c.specs.Past.{StandsFor, KeepsIn, BeginsIn}
-use Rattle.api_c.proofs.PartLaws.{is-held, held-highest, held-judged, answered-verdict}
+use Rattle.api_c.proofs.PartLaws.{is-held, held-highest, held-judged, answered-verdict, full-refusing}
 
 -- ── The arrays that hold a state ──
 
@@ -85,7 +85,7 @@ module _ (t : List ℕ) (choice : ℕ) (p : Parts) (raw : RawStep) (r : ℕ) (p�
   keeps-past e f b past h c ok S =
       let j = judgeOf t (choiceOf choice) (heldIn p) raw in
       let k = judge-promised t (decides-edge-table t .1 ok) (choiceOf choice) past h (heldIn p) (S .represents) raw in
-      let is = held-judged t choice p raw c (S .held) in
+      let is = held-judged judgeOf t choice p raw (full-refusing t choice p raw) c (S .held) in
       let left = f ∙ ap (λ (x : Answered). x .parts) is in
       record {
         verdict = verdictOf (j .answer);

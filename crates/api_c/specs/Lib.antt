@@ -4,5 +4,6 @@ pub mod Parts
 pub mod Past
 pub mod Check
 pub mod Writing
+pub mod Summary
 pub mod Code
 pub mod Reading

@@ -12,6 +12,7 @@ use Rattle.monitor_state.specs.declared.Answer.{Answer}
 use Rattle.monitor_state.specs.declared.Answer.the-variants.{Allowed, Violated, Refused}
 use Rattle.monitor_state.specs.declared.Judgement.{Judgement}
 use Rattle.monitor_state.specs.Judge.{verdictOf, judgeOf}
+use Rattle.monitor_lean.specs.Lean.{Summary, leanOf}
 use Rattle.api_c.specs.Choice.{isChoice, choiceOf}
 
 -- the arrays; `numbers` holds how many resources are live, a flag, which is 1 where the state is halted and 0 where it is not, how many
@@ -76,10 +77,20 @@ answeredIn p Allowed s = record { verdict = verdictOf Allowed; parts = holding s
 answeredIn p (Violated q) s = record { verdict = verdictOf (Violated q); parts = holding s }
 answeredIn p (Refused n) s = refuseParts n p
 
--- The judge, over the arrays. A number that is no choice of past is 41. A flag that is neither 0 nor 1 is that of no state, and so is a
+-- A judge, over the arrays. A number that is no choice of past is 41. A flag that is neither 0 nor 1 is that of no state, and so is a
 -- highest number of more than 32 bits: 42, after 41 and before 20.
-unfoldable pub judgeParts : List ℕ → ℕ → Parts → RawStep → Answered
-judgeParts edges choice p raw =
+abbrev pub Judges : Type 0
+Judges = List ℕ → Bool → State → RawStep → Judgement
+
+unfoldable pub partsBy : Judges → List ℕ → ℕ → Parts → RawStep → Answered
+partsBy judge edges choice p raw =
     cond (not (isChoice choice && edgeTable edges)) (refuseParts 41 p)
     (cond (not (isHeld p)) (refuseParts 42 p)
-    (answeredIn p (judgeOf edges (choiceOf choice) (heldIn p) raw .answer) (judgeOf edges (choiceOf choice) (heldIn p) raw .state)))
+    (answeredIn p (judge edges (choiceOf choice) (heldIn p) raw .answer) (judge edges (choiceOf choice) (heldIn p) raw .state)))
+
+-- the full judge, and the lean one, lent any summary (02, L11)
+abbrev pub judgeParts : List ℕ → ℕ → Parts → RawStep → Answered
+judgeParts = partsBy judgeOf
+
+abbrev pub leanParts : Summary → List ℕ → ℕ → Parts → RawStep → Answered
+leanParts m = partsBy (leanOf m)

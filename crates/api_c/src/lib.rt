@@ -23,6 +23,7 @@ ghost use Rattle.api_c.specs.Past.{KeepsIn};
 ghost use Rattle.api_c.specs.Check.{Answers, Explains};
 
 pub mod expression;
+pub mod lean;
 pub mod print;
 pub mod start;
 pub mod writer;

@@ -118,7 +118,7 @@ pub fn checked(edges: &[u8], local: u32, nodes: &[u8]) -> (u32, usize) {
 /// then. Each number of it was `mark` plus its place.
 pub fn explained(edges: &[u8], local: u32, nodes: &[u8], numbers: usize, mark: u32) -> ((u32, usize, usize), Vec<u32>) {
     let mut trace: Vec<u32> = (0..numbers as u32).map(|place| mark + place).collect();
-    let code = wiforekun::explain_code(edges, local, nodes, &mut trace);
+    let code = wiforekun::counterexample_code(edges, local, nodes, &mut trace);
     ((code / 256 % 256, (code % 256) as usize, (code / 65536) as usize), trace)
 }
 
@@ -134,10 +134,40 @@ pub fn past(sight: Sight) -> Past {
 pub fn judged(policies: &Policies, steps: &[Step]) -> Option<Vec<Answer>> {
     let (edges, past) = (flat(&policies.edges)?, past(policies.sight));
     let mut state = wiforekun::State::start();
-    let answer = |step: &Step| match state.judge(&edges, past, step.row().map(|value| value as u32)) {
+    let answer = |step: &Step| match state.judge(&edges[..], past, step.row().map(|value| value as u32)) {
         wiforekun::Answer::Allowed => Answer::Allowed,
         wiforekun::Answer::Violated(policy) => Answer::Violated(usize::from(policy)),
-        wiforekun::Answer::Refused(number) => Answer::Refused(u32::from(number)),
+        wiforekun::Answer::Refused(number) => Answer::Refused(u32::from(number.0)),
     };
     Some(steps.iter().map(answer).collect())
+}
+
+/// The answer and the detail of the summary, lent a table of so many numbers, and what the table holds then. Each number of it was `mark`
+/// plus its place.
+pub fn summary(edges: &[u8], local: u32, nodes: &[u8], numbers: usize, mark: u64) -> ((u32, usize), Vec<u64>) {
+    let mut marks: Vec<u64> = (0..numbers as u64).map(|place| mark + place).collect();
+    let code = wiforekun::summary_code(edges, local, nodes, &mut marks);
+    ((code / 256, (code % 256) as usize), marks)
+}
+
+/// What the proved lean judge answers to each of these steps, from the start on. None where an edge is wider than a byte.
+pub fn judged_lean(policies: &Policies, marks: &[u64; UNCLOSED_LENGTH], steps: &[Step]) -> Option<Vec<Answer>> {
+    let (edges, past) = (flat(&policies.edges)?, past(policies.sight));
+    let mut state = wiforekun::State::start();
+    let answer = |step: &Step| match state.judge_lean(marks, &edges[..], past, step.row().map(|value| value as u32)) {
+        wiforekun::Answer::Allowed => Answer::Allowed,
+        wiforekun::Answer::Violated(policy) => Answer::Violated(usize::from(policy)),
+        wiforekun::Answer::Refused(number) => Answer::Refused(u32::from(number.0)),
+    };
+    Some(steps.iter().map(answer).collect())
+}
+
+/// One step of the lean judge on any state, as `judge`.
+pub fn judge_lean(marks: &[u64; UNCLOSED_LENGTH], edges: &[Edge], local: u64, state: &State, step: Step) -> Option<((u32, usize), State)> {
+    let edges = flat(edges)?;
+    let [local] = narrowed::<u32, 1>([local])?;
+    let step = narrowed::<u32, 3>(step.row())?;
+    let mut parts = lent(state)?;
+    let code = parts.judge_lean_code(marks, &edges, local, step);
+    Some(((code / 256, (code % 256) as usize), held(&parts)))
 }

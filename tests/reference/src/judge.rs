@@ -160,11 +160,17 @@ impl Judge {
     }
 
     pub fn judge(&mut self, step: Step) -> Answer {
+        self.judge_by(step, |_| true)
+    }
+
+    /// The step is judged only by the policies that are looked at.
+    pub fn judge_by(&mut self, step: Step, looked: impl Fn(usize) -> bool) -> Answer {
         if let Some(number) = refusal(self, step) {
             return Answer::Refused(number);
         }
         self.past.push(step);
-        match lowest_broken(&self.policies, &self.past) {
+        let broken = |number: &usize| looked(*number) && breaks(&self.policies[*number], &self.past);
+        match (0..POLICIES).find(broken) {
             None => Answer::Allowed,
             Some(policy) => {
                 self.past.pop();

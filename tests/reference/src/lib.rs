@@ -17,5 +17,6 @@ pub mod run;
 pub mod search;
 pub mod sheet;
 pub mod state;
+pub mod summary;
 pub mod system;
 pub mod writer;

@@ -42,6 +42,14 @@ struct Saturation {
 
 impl Saturation {
     fn new(system: &System) -> Saturation {
+        let symbols = system.symbols();
+        let bad = system.bad_controls().into_iter();
+        let heads: Vec<_> = bad.flat_map(|control| (0..symbols).map(move |symbol| (control, symbol))).collect();
+        Saturation::of_heads(system, &heads)
+    }
+
+    /// pre* of the configurations with one of these controls and first symbols, whatever stands below.
+    fn of_heads(system: &System, bad: &[(usize, usize)]) -> Saturation {
         let rules = system.rules();
         let symbols = system.symbols();
         let heads = heads(&rules, symbols);
@@ -54,7 +62,7 @@ impl Saturation {
             awaiting: vec![Vec::new(); PLACES * symbols],
             targets: vec![Vec::new(); PLACES * symbols],
         };
-        saturation.seed(&system.bad_controls());
+        saturation.seed(bad);
         saturation.saturate();
         saturation
     }
@@ -72,10 +80,12 @@ impl Saturation {
     }
 
     /// The bad configurations, and the rules that put nothing.
-    fn seed(&mut self, bad: &[usize]) {
+    fn seed(&mut self, bad: &[(usize, usize)]) {
         for symbol in 0..self.symbols {
             self.add((ACCEPT, symbol, ACCEPT), Reason::Bad);
-            bad.iter().for_each(|control| self.add((*control, symbol, ACCEPT), Reason::Bad));
+        }
+        for (control, symbol) in bad {
+            self.add((*control, *symbol, ACCEPT), Reason::Bad);
         }
         for index in 0..self.rules.len() {
             let rule = &self.rules[index];
@@ -123,6 +133,12 @@ impl Saturation {
         }
     }
 
+    /// Does some run lead there?
+    fn reached(&self) -> bool {
+        let (control, symbol) = System::first();
+        !matches!(self.reasons[self.slot((control, symbol, ACCEPT))], Reason::Absent)
+    }
+
     /// The rules of a run from the start into a bad configuration.
     fn witness(&self, most: usize) -> Witness {
         let (control, symbol) = System::first();
@@ -148,6 +164,11 @@ impl Saturation {
         }
         unreachable!("the last transition of a path is a bad one or comes by a rule")
     }
+}
+
+/// Does some run come to one of these controls with this symbol next?
+pub(crate) fn reaches(system: &System, heads: &[(usize, usize)]) -> bool {
+    Saturation::of_heads(system, heads).reached()
 }
 
 /// For each control and symbol the rules that put the symbol first of all, at that control.

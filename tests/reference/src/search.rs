@@ -34,7 +34,7 @@ pub fn search(policies: &Policies, nodes: &[Node], bound: usize) -> Found {
     found
 }
 
-fn successors(nodes: &[Node], run: &Run) -> Vec<Run> {
+pub(crate) fn successors(nodes: &[Node], run: &Run) -> Vec<Run> {
     if run.is_over() {
         return vec![];
     }

@@ -145,9 +145,9 @@ impl State {
         }
     }
 
-    /// "the judge looks only at it".
-    fn lowest_broken(&self) -> Option<usize> {
-        (0..POLICIES).find(|p| self.openings[*p] > 0 && offends(from_mask(self.kept[*p])))
+    /// "the judge looks only at it": the lowest of the policies that are looked at.
+    fn lowest_broken(&self, looked: impl Fn(usize) -> bool) -> Option<usize> {
+        (0..POLICIES).find(|p| looked(*p) && self.openings[*p] > 0 && offends(from_mask(self.kept[*p])))
     }
 
     /// "all its instances go back to state 0", those of the places that count; "The kept sets of L4 are reset too".
@@ -207,6 +207,17 @@ impl Standing for State {
 
 /// One call of the judge. The choice of past is told by a number beside the edges.
 pub fn judge_state(edges: &[Edge], local: u64, state: &State, step: Step) -> (Answer, State) {
+    judge_state_by(edges, local, state, step, |_| true)
+}
+
+/// The same, but that the step is judged only by the policies that are looked at.
+pub fn judge_state_by(
+    edges: &[Edge],
+    local: u64,
+    state: &State,
+    step: Step,
+    looked: impl Fn(usize) -> bool,
+) -> (Answer, State) {
     let policies = match Sight::told(local) {
         Some(sight) if edges_fit(edges) => Policies { sight, edges: edges.to_vec() },
         _ => return (Answer::Refused(41), state.clone()),
@@ -218,7 +229,7 @@ pub fn judge_state(edges: &[Edge], local: u64, state: &State, step: Step) -> (An
         return (Answer::Refused(number), state.clone());
     }
     let next = state.after(&Policy::all(&policies), step);
-    match next.lowest_broken() {
+    match next.lowest_broken(looked) {
         None => (Answer::Allowed, next),
         Some(policy) => (Answer::Violated(policy), State { halted: 1, ..state.clone() }),
     }

@@ -226,6 +226,22 @@ impl System<'_> {
         Control { state, open: true, ..control }
     }
 
+    /// The last step, as a bit of a summary, that a rule brings about, if it leaves the policy open with the instance offending: an event's
+    /// action, a create's 0, or 32 for the policy's own opening.
+    pub(crate) fn strikes(&self, rule: &Rule) -> Option<u32> {
+        let Symbol::Node { number, .. } = Symbol::at(rule.symbol) else {
+            return None;
+        };
+        let node = self.nodes[number];
+        let bit = match node.kind {
+            STATIC_EVENT | NAMED_EVENT => node.a as u32,
+            FRESH => 0,
+            SANDBOX if node.a == self.policy.number => 32,
+            _ => return None,
+        };
+        Control::at(rule.next).is_bad().then_some(bit)
+    }
+
     /// How many steps the move of a part adds.
     fn steps(&self, symbol: Symbol) -> u64 {
         match symbol {

@@ -10,10 +10,11 @@ use borrow.Author.Needs.{needs}
 use Prim.Native.Nat.{ℕ, _≤_}
 use Rattle.usage.specs.declared.RawStep.{RawStep}
 use Rattle.usage.proofs.Logic.{by-cases}
+use Rattle.monitor_state.specs.Judge.{judgeOf}
 use Rattle.api_c.specs.Codes.{codeOf}
 use Rattle.api_c.specs.Parts.{partsOf, mostNumber, heldIn}
 use Rattle.api_c.proofs.PartLaws.{flag-above, highest-above, held-highest, is-held, choice-refused, held-refused, told-verdict}
-use Rattle.api_c.proofs.PartLaws.{refused-left, taken-left}
+use Rattle.api_c.proofs.PartLaws.{refused-left, taken-left, full-refusing}
 use Rattle.api_c.proofs.PastLaws.{owed, refused-owed}
 use Rattle.api_c.proofs.wiforekun_judge_parts.Statement.{statement}
 use Rattle.api_c.proofs.wiforekun_judge_parts.Tie as tie
@@ -37,7 +38,7 @@ returns : tie.Need-returns
 returns c =
     let a = c .before .before .before .before .before .before .before .args in
     let p = partsOf (a .sets .now) (a .possible .now) (a .created .now) (a .unclosed .now) (a .order .now) (a .numbers .now) in
-    let e = choice-refused (a .edges .now) (a .local) p (record { kind = a .kind; a = a .a; b = a .b }) (c .before .if1 .taken) in
+    let e = choice-refused judgeOf (a .edges .now) (a .local) p (record { kind = a .kind; a = a .a; b = a .b }) (c .before .if1 .taken) in
     refused-owed (a .edges .now) (a .local) p _ _ _ e (c .code .ensures)
 
 no-state-requires : tie.Need-no-state-requires
@@ -48,7 +49,7 @@ returns-2 c =
     let a = c .before .before .before .before .before .before .before .before .args in
     let p = partsOf (a .sets .now) (a .possible .now) (a .created .now) (a .unclosed .now) (a .order .now) (a .numbers .now) in
     let h = flag-above p (omega (arith, c .before .if2 .taken)) in
-    let e = held-refused (a .edges .now) (a .local) p (record { kind = a .kind; a = a .a; b = a .b }) (c .before .before .if1 .left) h in
+    let e = held-refused judgeOf (a .edges .now) (a .local) p (record { kind = a .kind; a = a .a; b = a .b }) (c .before .before .if1 .left) h in
     refused-owed (a .edges .now) (a .local) p _ _ _ e (c .no-state .ensures)
 
 no-state-requires-2 : tie.Need-no-state-requires-2
@@ -59,7 +60,7 @@ returns-3 c =
     let a = c .before .before .before .before .before .before .before .before .before .args in
     let p = partsOf (a .sets .now) (a .possible .now) (a .created .now) (a .unclosed .now) (a .order .now) (a .numbers .now) in
     let h = highest-above p (omega (arith, c .before .before .if2 .left)) (omega (arith, c .before .if3 .taken)) in
-    let e = held-refused (a .edges .now) (a .local) p (record { kind = a .kind; a = a .a; b = a .b })
+    let e = held-refused judgeOf (a .edges .now) (a .local) p (record { kind = a .kind; a = a .a; b = a .b })
     (c .before .before .before .if1 .left) h in
     refused-owed (a .edges .now) (a .local) p _ _ _ e (c .no-state2 .ensures)
 
@@ -92,18 +93,19 @@ returns-4 c =
     (omega (arith, c .before .before .before .before .before .before .before .before .before .before .if2 .left))
     (omega (arith, c .before .before .before .before .before .before .before .before .before .if3 .left)) in
     let k = c .before .before .before .before .before .before .before .before .before .before .before .if1 .left in
+    let f = full-refusing (a .edges .now) (a .local) p raw in
     let j = c .before .before .before .judge-lent in
     let r = c .before .before .is-refusal in
     owed (a .edges .now) (a .local) p raw _ _
-    (c .code2 .ensures ∙ ap codeOf (told-verdict (a .edges .now) (a .local) p raw k h (j .result) _ _ _ _ _ (j .ensures)))
+    (c .code2 .ensures ∙ ap codeOf (told-verdict judgeOf (a .edges .now) (a .local) p raw f k h (j .result) _ _ _ _ _ (j .ensures)))
     (by-cases (c .before .if4 .came)
     (λ w. ap (λ (l : List ℕ). partsOf (j .last .1 .1 .0) (j .last .1 .1 .1 .0) (j .last .1 .1 .1 .1 .0) (j .last .1 .1 .1 .1 .1 .0)
     (j .last .1 .1 .1 .1 .1 .1 .0) l) (w .4)
-    ∙ taken-left (a .edges .now) (a .local) p raw k h (j .result) _ _ _ _ _ (j .ensures) (w .1 .result)
+    ∙ taken-left judgeOf (a .edges .now) (a .local) p raw f k h (j .result) _ _ _ _ _ (j .ensures) (w .1 .result)
     (sym (r .ensures) ∙ not-true (r .result) (w .0 .taken)) (w .1 .ensures))
     (λ w. ap (λ (l : List ℕ). partsOf (j .last .1 .1 .0) (j .last .1 .1 .1 .0) (j .last .1 .1 .1 .1 .0) (j .last .1 .1 .1 .1 .1 .0)
     (j .last .1 .1 .1 .1 .1 .1 .0) l) (w .1)
-    ∙ refused-left (a .edges .now) (a .local) p raw k h (j .result) _ _ _ _ _
+    ∙ refused-left judgeOf (a .edges .now) (a .local) p raw f k h (j .result) _ _ _ _ _
     (j .ensures) (sym (r .ensures) ∙ not-false (r .result) (w .0 .left))))
     (λ held. by-cases (c .before .if4 .came)
     (λ w. let fits : Fits w32 (j .result .highest) = search needs in
