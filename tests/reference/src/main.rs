@@ -21,6 +21,7 @@ const USAGE: &str = "usage:
   reference generate trace|outline|counterexample|state|expression SEED COUNT DIR
   reference expect trace|outline|counterexample|state|expression DIR COUNT
   reference borders
+  reference stops DIR COUNT
   reference expression-borders
 ";
 
@@ -58,6 +59,7 @@ fn run(words: &[&str]) -> Option<io::Result<String>> {
         ["nodes", dir] => Some(Ok(expression::sheet(&read(dir, "outline.expr")))),
         ["judge", file] => Some(run_call(Path::new(file))),
         ["borders"] => Some(Ok(reference::borders::lines())),
+        ["stops", dir, count] => Some(Ok(stops(dir, count.parse().ok()?))),
         ["expression-borders"] => Some(Ok(expression::borders())),
         ["generate", "state", seed, count, dir] => {
             Some(generate_calls(seed.parse().ok()?, count.parse().ok()?, Path::new(dir)))
@@ -146,6 +148,19 @@ fn generate_expressions(seed: u64, count: usize, dir: &Path) -> io::Result<Strin
 fn expect_expressions(dir: &str, count: usize) -> String {
     let one = |number: usize| {
         format!("case {number}\n{}", expression::sheet(&read(dir, &format!("{number:04}e"))))
+    };
+    (0..count).map(one).collect()
+}
+
+/// Where each text is refused with 15 or 16, if it is: the number, the place, and the bytes that some line has there.
+fn stops(dir: &str, count: usize) -> String {
+    let one = |number: usize| {
+        let text = read(dir, &format!("{number:04}e"));
+        let told = expression::stopped(&text).map_or("0".into(), |(number, place, bytes)| {
+            let bytes: String = bytes.iter().map(|byte| format!(" {byte}")).collect();
+            format!("{number} {place}{bytes}")
+        });
+        format!("{told}\n")
     };
     (0..count).map(one).collect()
 }
