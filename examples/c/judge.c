@@ -20,7 +20,7 @@ int main(void) {
         uint32_t code = wiforekun_judge(&state, *edges, sizeof edges, WIFOREKUN_WHOLE, steps[i][0], steps[i][1], steps[i][2]);
         printf("%u %u %u\n", i + 2, (unsigned)WIFOREKUN_ANSWER(code), (unsigned)WIFOREKUN_DETAIL(code));
     }
-    uint32_t code = check_tables(*edges, sizeof edges, WIFOREKUN_WHOLE, *nodes, sizeof nodes);
+    uint32_t code = wiforekun_check(*edges, sizeof edges, WIFOREKUN_WHOLE, *nodes, sizeof nodes);
     printf("line answer detail\n0 %u %u\n", (unsigned)WIFOREKUN_ANSWER(code), (unsigned)WIFOREKUN_DETAIL(code));
     return 0;
 }

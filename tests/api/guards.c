@@ -4,9 +4,9 @@
  * give the same answers and states. */
 #include "lend.h"
 
-#define STEPS 8000
+#define STEPS 12000
 /* so many steps with openings, then so many without, and so on */
-#define PHASE 1000
+#define PHASE 1500
 
 static uint32_t seed;
 
@@ -97,7 +97,7 @@ static void run(enum place place, uint32_t local) {
     struct parts parts = lend_state(&plain, place);
     struct openings openings = {{0}, {0}, 0};
     struct live live = {{0}, 0, 0};
-    int last_live = 0, joined = 0;
+    int last_live = 0, last_open = 0, joined = 0;
     int last_set = 0, last_possible = 0, last_unclosed = 0, emptied = 0, put_back = 0;
     unsigned refused[43] = {0};
     for (unsigned i = 0; i < STEPS; i++) {
@@ -130,6 +130,7 @@ static void run(enum place place, uint32_t local) {
         REQUIRE(plain.numbers[0] == live.count && plain.numbers[3] == live.highest);
         REQUIRE(!memcmp(plain.created, live.numbers, live.count * sizeof *live.numbers));
         last_live |= live.count == WIFOREKUN_CREATED_LENGTH;
+        last_open |= openings.depth == WIFOREKUN_ORDER_LENGTH;
         REQUIRE(plain.numbers[2] == openings.depth && !memcmp(plain.unclosed, openings.unclosed, sizeof openings.unclosed));
         REQUIRE(!memcmp(plain.order, openings.order, sizeof openings.order));
         emptied |= i > PHASE && openings.depth == 0;
@@ -139,7 +140,7 @@ static void run(enum place place, uint32_t local) {
     }
     /* the whole of each array is in use */
     REQUIRE(last_live && plain.created[WIFOREKUN_CREATED_LENGTH - 1] >= 16 && joined);
-    REQUIRE(last_set && last_possible && last_unclosed && plain.order[WIFOREKUN_ORDER_LENGTH - 1] > 0);
+    REQUIRE(last_set && last_possible && last_unclosed && last_open);
     REQUIRE(refused[21] && refused[22] && !refused[23] && refused[24] && refused[27] && refused[28] && refused[30]);
     REQUIRE(refused[25] && refused[26] && refused[32] && emptied && put_back == (local == WIFOREKUN_LOCAL));
     give_state_back(&parts);

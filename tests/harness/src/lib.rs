@@ -71,7 +71,7 @@ fn lent(state: &State) -> Option<wiforekun::State> {
         created: narrowed::<u32, CREATED_LENGTH>(state.created)?,
         unclosed: narrowed::<u8, UNCLOSED_LENGTH>(state.openings)?,
         order: narrowed::<u8, ORDER_LENGTH>(state.order)?,
-        numbers: [state.count, state.halted, state.depth],
+        numbers: [state.count, state.halted, state.depth, state.highest],
     })
 }
 
@@ -87,7 +87,7 @@ fn held(parts: &wiforekun::State) -> State {
     state.created = parts.created.map(u64::from);
     state.openings = parts.unclosed.map(u64::from);
     state.order = parts.order.map(u64::from);
-    [state.count, state.halted, state.depth] = parts.numbers;
+    [state.count, state.halted, state.depth, state.highest] = parts.numbers;
     state
 }
 
@@ -116,7 +116,6 @@ pub fn checked(edges: &[u8], local: u32, nodes: &[u8]) -> (u32, usize) {
 
 /// The answer, the detail and the length of the check with a counterexample, lent a table of so many numbers, and what the table holds
 /// then. Each number of it was `mark` plus its place.
-#[cfg(counterexample)]
 pub fn explained(edges: &[u8], local: u32, nodes: &[u8], numbers: usize, mark: u32) -> ((u32, usize, usize), Vec<u32>) {
     let mut trace: Vec<u32> = (0..numbers as u32).map(|place| mark + place).collect();
     let code = wiforekun::explain_code(edges, local, nodes, &mut trace);
@@ -134,7 +133,7 @@ pub fn past(sight: Sight) -> Past {
 /// What the proved judge answers to each of these steps, from the start on. None where an edge is wider than a byte.
 pub fn judged(policies: &Policies, steps: &[Step]) -> Option<Vec<Answer>> {
     let (edges, past) = (flat(&policies.edges)?, past(policies.sight));
-    let mut state = wiforekun::State::START;
+    let mut state = wiforekun::State::start();
     let answer = |step: &Step| match state.judge(&edges, past, step.row().map(|value| value as u32)) {
         wiforekun::Answer::Allowed => Answer::Allowed,
         wiforekun::Answer::Violated(policy) => Answer::Violated(usize::from(policy)),

@@ -1,33 +1,18 @@
 //! compare SEED COUNT [judge]: fresh cases from the seed. Half of them are direct calls of the judge, on states that need not have been
 //! reached; the others are traces and outlines, as many of each, or with the word `judge` traces alone; and as many pairs of a trace and an
 //! outline with a malformed line. Half of the sheets are local. Of each outline the counterexample
-//! is compared too, and each trace again with its dynamic numbers renamed.
+//! is compared too, each accepted one is followed along a trace with retirings added, and each trace is judged again with its dynamic
+//! numbers renamed, and with retirings added.
 
-#[cfg(counterexample)]
 mod counterexamples;
 mod renamings;
-
-#[cfg(not(counterexample))]
-mod counterexamples {
-    //! The archive lacks the function: nothing is compared.
-    #[derive(Default)]
-    pub struct Tally;
-
-    impl Tally {
-        pub fn compare(&mut self, _: &reference::generate::Case) -> Result<(), String> {
-            Ok(())
-        }
-
-        pub fn told(&self) -> String {
-            "counterexamples left out: the archive has no check_counterexample".into()
-        }
-    }
-}
+mod retirings;
 
 use counterexamples::Tally;
 use reference::generate::{self, malformed, outlines, states, traces, Case};
 use reference::program;
 use reference::rng::Rng;
+use reference::state::Call;
 use std::process::ExitCode;
 
 /// Cases of one kind that are made from one seed.
@@ -58,7 +43,8 @@ fn main() -> ExitCode {
 fn compare(seed: u64, count: usize, judge: bool) -> Result<String, String> {
     let mut tally = Tally::default();
     let mut renamed = renamings::Tally::default();
-    let fixed = fixed_cases(&mut tally, &mut renamed)?;
+    let mut retired = retirings::Tally::default();
+    let fixed = fixed_cases(&mut tally, &mut renamed, &mut retired)?;
     let mut made = [0usize; 3];
     let mut skipped = 0;
     let mut garbled = 0;
@@ -67,53 +53,58 @@ fn compare(seed: u64, count: usize, judge: bool) -> Result<String, String> {
         let from = seed.wrapping_mul(1_000_003).wrapping_add(batch);
         let sheets = if judge { 1 } else { 2 };
         let most = BATCH.min((count - made.iter().sum::<usize>()).div_ceil(2 * sheets));
-        made[0] += each_trace(from, most, &mut renamed)?;
+        made[0] += each_trace(from, most, &mut renamed, &mut retired)?;
         if !judge {
-            made[1] += each_outline(from, most, &mut tally)?;
+            made[1] += each_outline(from, most, &mut tally, &mut retired)?;
         }
-        let (calls, wide) = each_call(from, sheets * most)?;
+        let (calls, wide) = each_call(from, states::random_calls(from, sheets * most))?;
         made[2] += calls;
         skipped += wide;
         garbled += each_garbled(from, most)?;
         batch += 1;
     }
     let [traces, outlines, calls] = made;
-    Ok(format!("seed {seed}: {fixed} fixed cases, {traces} traces, {outlines} outlines, {calls} calls of the judge, {garbled} sheets with malformed lines: no difference ({skipped} calls with numbers wider than the functions take were left out); {}; {}", renamed.told(), tally.told()))
+    Ok(format!("seed {seed}: {fixed} fixed cases, {traces} traces, {outlines} outlines, {calls} calls of the judge, {garbled} sheets with malformed lines: no difference ({skipped} calls with numbers wider than the functions take were left out); {}; {}; {}", renamed.told(), retired.told(), tally.told()))
 }
 
 /// The cases that depend on no seed.
-fn fixed_cases(tally: &mut Tally, renamed: &mut renamings::Tally) -> Result<usize, String> {
+fn fixed_cases(tally: &mut Tally, renamed: &mut renamings::Tally, retired: &mut retirings::Tally) -> Result<usize, String> {
     let mut rng = Rng::new(0);
     let traces = generate::fixed::trace_cases();
     let outlines: Vec<Case> = [generate::fixed::outline_cases(), generate::counterexamples::fixed_cases()].concat();
     for (number, case) in traces.iter().enumerate() {
         same("fixed trace", 0, number, case, program::monitor(&case.policies, &case.other), harness::monitor(&case.policies, &case.other))?;
         renamed.compare(&mut rng, case)?;
+        retired.compare(&mut rng, case)?;
     }
     for (number, case) in outlines.iter().enumerate() {
         same("fixed outline", 0, number, case, program::check(&case.policies, &case.other), harness::check(&case.policies, &case.other))?;
         tally.compare(case)?;
+        retired.follow(&mut rng, case)?;
     }
-    Ok(traces.len() + outlines.len())
+    let (calls, _) = each_call(0, states::fixed_calls())?;
+    Ok(traces.len() + outlines.len() + calls)
 }
 
-fn each_trace(seed: u64, most: usize, renamed: &mut renamings::Tally) -> Result<usize, String> {
+fn each_trace(seed: u64, most: usize, renamed: &mut renamings::Tally, retired: &mut retirings::Tally) -> Result<usize, String> {
     let mut rng = Rng::new(seed);
     for number in 0..most {
         let case = traces::random_case(&mut rng);
         same("trace", seed, number, &case, program::monitor(&case.policies, &case.other), harness::monitor(&case.policies, &case.other))?;
         renamed.compare(&mut rng, &case)?;
+        retired.compare(&mut rng, &case)?;
     }
     Ok(most)
 }
 
-fn each_outline(seed: u64, most: usize, tally: &mut Tally) -> Result<usize, String> {
+fn each_outline(seed: u64, most: usize, tally: &mut Tally, retired: &mut retirings::Tally) -> Result<usize, String> {
     let mut rng = Rng::new(seed);
     let mut number = 0;
     while number < most {
         for case in outlines::random_cases(&mut rng) {
             same("outline", seed, number, &case, program::check(&case.policies, &case.other), harness::check(&case.policies, &case.other))?;
             tally.compare(&case)?;
+            retired.follow(&mut rng, &case)?;
             number += 1;
         }
     }
@@ -134,9 +125,10 @@ fn each_garbled(seed: u64, most: usize) -> Result<usize, String> {
 }
 
 /// How many calls were compared, and how many were too wide for the functions' types.
-fn each_call(seed: u64, most: usize) -> Result<(usize, usize), String> {
+fn each_call(seed: u64, calls: Vec<Call>) -> Result<(usize, usize), String> {
+    let most = calls.len();
     let mut wide = 0;
-    for (number, call) in states::calls(seed, most).into_iter().enumerate() {
+    for (number, call) in calls.into_iter().enumerate() {
         let (answer, state) = call.run();
         let Some(found) = harness::judge(&call.edges, call.local, &call.state, call.step) else {
             wide += 1;

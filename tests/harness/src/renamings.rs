@@ -1,11 +1,12 @@
-//! Renumbered channels: a trace whose dynamic numbers are renamed one to one is answered, and printed, as the trace itself is.
+//! Renumbered channels: a trace whose dynamic numbers are renamed in their order is answered, and printed, as the trace itself is.
 
 use reference::generate::traces::write;
 use reference::generate::Case;
-use reference::judge::{Answer, Judge, Step, EVENT, LARGEST_RESOURCE, OPEN};
+use reference::judge::{Answer, Judge, Step, EVENT, LARGEST_RESOURCE, OPEN, RETIRE};
 use reference::policy::{edges_fit, Edge, Policies, Sight, STATICS};
 use reference::rng::Rng;
 use reference::sheet::{read_policies, read_trace};
+use std::collections::{BTreeMap, BTreeSet};
 
 /// How many traces were renamed, how many of them under local policies, of how many steps, and how often an edge or a step was damaged first.
 #[derive(Default)]
@@ -16,35 +17,57 @@ pub struct Tally {
     damaged: usize,
 }
 
-/// What each dynamic number becomes, the first one's first.
-struct Renaming(Vec<u64>);
+/// What each dynamic number that occurs becomes.
+struct Renaming(BTreeMap<u64, u64>);
 
 impl Renaming {
-    /// In no order, in the reverse order, by one further, or the first number exchanged with another.
-    fn random(rng: &mut Rng) -> Renaming {
-        let mut to: Vec<u64> = (STATICS..=LARGEST_RESOURCE).collect();
-        let count = to.len() as u64;
-        match rng.below(8) {
-            0 => to.reverse(),
-            1 => to.rotate_left(1),
-            2 => to.swap(0, rng.between(1, count - 1) as usize),
-            _ => (1..count).for_each(|place| to.swap(place as usize, rng.below(place + 1) as usize)),
-        }
-        Renaming(to)
+    /// In the same order: next to each other at either end, each by as much as there is room for, or anywhere.
+    fn random(rng: &mut Rng, steps: &[Step]) -> Renaming {
+        let occurring: BTreeSet<u64> = steps.iter().filter_map(|step| named(*step)).collect();
+        let count = occurring.len() as u64;
+        let highest = occurring.last().copied().unwrap_or(STATICS);
+        let room = LARGEST_RESOURCE - highest;
+        let to: BTreeSet<u64> = match rng.below(6) {
+            0 => (STATICS..STATICS + count).collect(),
+            1 => (LARGEST_RESOURCE + 1 - count..=LARGEST_RESOURCE).collect(),
+            2 => occurring.iter().map(|number| number + room).collect(),
+            3 => occurring.iter().map(|number| number + room.min(1)).collect(),
+            _ => {
+                let mut any = BTreeSet::new();
+                while (any.len() as u64) < count {
+                    any.insert(rng.between(STATICS, LARGEST_RESOURCE));
+                }
+                any
+            }
+        };
+        Renaming(occurring.into_iter().zip(to).collect())
     }
 
-    /// Of an event only its resource, where it is a dynamic one; all else stays.
+    /// Of an event and of a retiring only its resource, where it is a dynamic one; all else stays.
     fn step(&self, step: Step) -> Step {
-        if step.kind != EVENT || !(STATICS..=LARGEST_RESOURCE).contains(&step.b) {
-            return step;
+        match named(step).map(|number| self.0[&number]) {
+            None => step,
+            Some(number) if step.kind == RETIRE => Step { a: number, ..step },
+            Some(number) => Step { b: number, ..step },
         }
-        Step { b: self.0[(step.b - STATICS) as usize], ..step }
     }
 }
 
-/// Steps that 21 refuses; of these none is renamed but the third and the fourth, events with an action that is none.
-const MISFITS: [Step; 8] = [
-    Step { kind: 3, a: 0, b: 16 },
+/// The dynamic resource that a step names, refused or not.
+fn named(step: Step) -> Option<u64> {
+    let number = match step.kind {
+        EVENT => step.b,
+        RETIRE => step.a,
+        _ => return None,
+    };
+    (STATICS..=LARGEST_RESOURCE).contains(&number).then_some(number)
+}
+
+/// Steps that 21 refuses; of these none is renamed but events with an action that is none, and a retiring with a number beside it.
+const MISFITS: [Step; 10] = [
+    Step { kind: 4, a: 0, b: 16 },
+    Step { kind: 3, a: 16, b: 1 },
+    Step { kind: 3, a: 65_536, b: 0 },
     Step { kind: u32::MAX as u64, a: 1, b: 65_535 },
     Step { kind: 0, a: 32, b: 16 },
     Step { kind: 0, a: 99, b: 65_535 },
@@ -60,14 +83,12 @@ impl Tally {
         let (Ok(mut policies), Ok(mut steps)) = (read_policies(&case.policies), read_trace(&case.other)) else {
             return Ok(());
         };
-        let renaming = Renaming::random(rng);
-        let rename = |steps: &[Step]| -> Vec<Step> { steps.iter().map(|step| renaming.step(*step)).collect() };
-        let renamed = write(&policies, &rename(&steps));
-        if harness::monitor(&case.policies, &case.other) != harness::monitor(&case.policies, &renamed.other) {
-            return Err(told("printed differently", &policies, &steps, &rename(&steps)));
+        let written = write(&policies, &renamed(rng, &steps));
+        if harness::monitor(&case.policies, &case.other) != harness::monitor(&case.policies, &written.other) {
+            return Err(told("printed differently", &policies, &steps, &read_trace(&written.other).unwrap_or_default()));
         }
         self.damaged += damage(rng, &mut policies.edges, &mut steps);
-        let other = rename(&steps);
+        let other = renamed(rng, &steps);
         let [found, again] = [&steps, &other].map(|steps| harness::judged(&policies, steps));
         if found != again {
             return Err(told("answered differently", &policies, &steps, &other));
@@ -85,6 +106,11 @@ impl Tally {
         let Tally { traces, local, steps, damaged } = self;
         format!("{traces} traces of {steps} steps, {local} of them under local policies, answered the same with their dynamic numbers renamed ({damaged} of them damaged first)")
     }
+}
+
+fn renamed(rng: &mut Rng, steps: &[Step]) -> Vec<Step> {
+    let renaming = Renaming::random(rng, steps);
+    steps.iter().map(|step| renaming.step(*step)).collect()
 }
 
 /// A step that is none here and there, and now and then an edge that no sheet has.

@@ -11,11 +11,17 @@ use crate::state::{Call, State, FIRST_LIVE};
 
 /// The fixed calls, then random ones.
 pub fn calls(seed: u64, count: usize) -> Vec<Call> {
+    let random = random_calls(seed, count);
+    fixed_calls().into_iter().chain(random).take(count).collect()
+}
+
+pub fn fixed_calls() -> Vec<Call> {
+    [kept_calls(), orders::fixed_calls(), sandboxes::fixed_calls(), retirings::fixed_calls()].concat()
+}
+
+pub fn random_calls(seed: u64, count: usize) -> Vec<Call> {
     let mut rng = Rng::new(seed);
-    let random = std::iter::repeat_with(|| random_call(&mut rng));
-    let fixed = [kept_calls(), orders::fixed_calls(), sandboxes::fixed_calls(), retirings::fixed_calls()];
-    let fixed = fixed.concat();
-    fixed.into_iter().chain(random).take(count).collect()
+    (0..count).map(|_| random_call(&mut rng)).collect()
 }
 
 /// States whose kept sets disagree with their instance sets, either way: an offending state that is kept and that no instance may be in,

@@ -30,7 +30,7 @@ array-read-flag-left c = search needs
 returns : tie.Need-returns
 returns c =
     let e = c .wiforekun-judge-parts .ensures in
-    (e .0, (ap (λ (p : Parts). getD (p .numbers) 0 0) (e .1), ap (λ (p : Parts). getD (p .numbers) 1 0) (e .1)))
+    (e .0, (ap (λ (p : Parts). getD (p .numbers) 0 0) (e .1 .0), ap (λ (p : Parts). getD (p .numbers) 1 0) (e .1 .0)))
 
 pub judged-spec : {M : Type 1} → statement M
 judged-spec =
