@@ -18,4 +18,5 @@ fn main() {
     counterexamples::all(320);
     borders::calls();
     expressions::all(900);
+    expressions::room_calls();
 }
