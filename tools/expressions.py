@@ -22,6 +22,10 @@ def one_of(words):
     return words[0] if len(words) == 1 else ", ".join(words[:-1]) + " or " + words[-1]
 
 
+def is_digit(byte):
+    return byte != "" and byte in "0123456789"
+
+
 class Tree:
     """A node with its fields as far as they are written, its children, its label, and its columns: all of it, and what is marked."""
 
@@ -66,7 +70,7 @@ class Reader:
     def digits(self, most, after):
         """A number of at most so many digits, with its columns; `after` is what may follow it."""
         start = self.at
-        while self.at - start < most and self.here().isdigit():
+        while self.at - start < most and is_digit(self.here()):
             self.at += 1
         if start == self.at:
             raise self.wrong(DIGIT)
@@ -116,11 +120,11 @@ class Reader:
         if letter == "h":
             start = self.at
             self.at += 1
-            if not self.here().isdigit():
+            if not is_digit(self.here()):
                 raise self.wrong(DIGIT)
             self.at += 1
             return self.new(BACK, (start, self.at), label=self.text[self.at - 1])
-        if letter.isdigit():
+        if is_digit(letter):
             return self.event(end)
         raise self.wrong(ITEM)
 
@@ -147,7 +151,7 @@ class Reader:
 
     def event(self, end):
         start = self.at
-        while self.at - start < 2 and self.here().isdigit():
+        while self.at - start < 2 and is_digit(self.here()):
             self.at += 1
         if self.here() != "(":
             more = (DIGIT,) if self.at - start < 2 else ()
@@ -316,7 +320,8 @@ def quoted(text, columns, widest, words="", indent=2):
     shown = "".join(c if " " <= c <= "~" else "?" for c in line[left:right])
     before, after = "... " if left else "", " ..." if right < len(line) else ""
     mark = " " * (len(before) + start - left) + "^" * max(1, min(end, right) - start)
-    return [" " * indent + "1 | " + before + shown + after, " " * (indent + 1) + " | " + mark + (f"   ({words})" if words else "")]
+    lines = [" " * indent + "1 | " + before + shown + after, " " * (indent + 1) + " | " + mark + (f"   ({words})" if words else "")]
+    return [line.rstrip() for line in lines]
 
 
 def is_expression(path):

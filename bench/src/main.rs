@@ -7,6 +7,7 @@ mod c_step;
 mod checking;
 #[cfg(feature = "count")]
 mod climb;
+mod expressions;
 mod inputs;
 mod judging;
 mod modelcheck;
@@ -42,6 +43,7 @@ fn verify() {
     let [accepted, broken, refused] = checking::verify(&mut rng);
     println!("equal: {judged} judged steps; outlines: {accepted} accepted, {broken} broken, {refused} refused");
     println!("equal: {} refused sheets", reading::verify());
+    println!("equal: {} expressions", expressions::verify());
     println!("equal: {} traces", checking::verify_traces(&mut rng, 400));
     println!("equal: {} policy sheets written again", writing::verify());
 }
@@ -54,6 +56,7 @@ fn rows(only: &str) {
     checking::summary_rows(chosen);
     reading::rows(chosen);
     writing::rows(chosen);
+    expressions::rows(chosen);
 }
 
 #[cfg(feature = "count")]

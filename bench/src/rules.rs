@@ -74,3 +74,22 @@ pub fn node_table_ok(nodes: &[u8]) -> bool {
         && (0..n).all(|k| back_ok(nodes, k))
         && (0..n).all(|k| name_ok(nodes, k))
 }
+
+/// The number with which the nodes of an expression are refused, 3, 7 or 8; 0 where they are not.
+pub fn expression_fault(nodes: &[u8]) -> usize {
+    let n = nodes.len() / 3;
+    if !nodes.chunks_exact(3).all(|node| fits(node[0], node[1], node[2])) {
+        return 3;
+    }
+    // the proved reader tests the tree too, which an expression can't break
+    if !(0..n).all(|k| tree_ok(nodes, k)) {
+        return 6;
+    }
+    if !(0..n).all(|k| back_ok(nodes, k)) {
+        return 7;
+    }
+    if !(0..n).all(|k| name_ok(nodes, k)) {
+        return 8;
+    }
+    0
+}

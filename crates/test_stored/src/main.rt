@@ -21,4 +21,5 @@ fn main() {
     borders::calls();
     rewritings::calls();
     expressions::all(900);
+    expressions::room_calls();
 }

@@ -47,6 +47,15 @@ pub fn sheet(text: &[u8]) -> String {
     }
 }
 
+/// The number 15 or 16 of a text, its place, and the bytes that some line has after what is before it.
+pub fn stopped(text: &[u8]) -> Option<(u32, usize, Vec<u8>)> {
+    let (number, place) = match grammar::stop(text, MOST_NESTED)? {
+        Stop::Wrong(place) => (15, place),
+        Stop::Deep(place) => (16, place),
+    };
+    Some((number, place, grammar::following(&text[..place])))
+}
+
 /// Direct calls of the reader, lent a table of one place too few and of just enough, with the empty text: the call, the answer and its detail.
 pub fn borders() -> String {
     let told = |call: usize, places: usize| {

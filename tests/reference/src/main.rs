@@ -23,6 +23,7 @@ const USAGE: &str = "usage:
   reference expect trace|outline|counterexample|state|policies|expression DIR COUNT
   reference borders
   reference writings
+  reference stops DIR COUNT
   reference expression-borders
 ";
 
@@ -62,6 +63,7 @@ fn run(words: &[&str]) -> Option<io::Result<String>> {
         ["judge", file] => Some(run_call(Path::new(file))),
         ["borders"] => Some(Ok(reference::borders::lines())),
         ["writings"] => Some(Ok(reference::writer::calls())),
+        ["stops", dir, count] => Some(Ok(stops(dir, count.parse().ok()?))),
         ["expression-borders"] => Some(Ok(expression::borders())),
         ["generate", "state", seed, count, dir] => {
             Some(generate_calls(seed.parse().ok()?, count.parse().ok()?, Path::new(dir)))
@@ -162,6 +164,19 @@ fn generate_expressions(seed: u64, count: usize, dir: &Path) -> io::Result<Strin
 fn expect_expressions(dir: &str, count: usize) -> String {
     let one = |number: usize| {
         format!("case {number}\n{}", expression::sheet(&read(dir, &format!("{number:04}e"))))
+    };
+    (0..count).map(one).collect()
+}
+
+/// Where each text is refused with 15 or 16, if it is: the number, the place, and the bytes that some line has there.
+fn stops(dir: &str, count: usize) -> String {
+    let one = |number: usize| {
+        let text = read(dir, &format!("{number:04}e"));
+        let told = expression::stopped(&text).map_or("0".into(), |(number, place, bytes)| {
+            let bytes: String = bytes.iter().map(|byte| format!(" {byte}")).collect();
+            format!("{number} {place}{bytes}")
+        });
+        format!("{told}\n")
     };
     (0..count).map(one).collect()
 }
