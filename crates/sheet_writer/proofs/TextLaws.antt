@@ -21,7 +21,7 @@ use Rattle.sheet_lines.specs.Sheet.{Sheet, accepted, followed, valueLines, shee
 use Rattle.sheet_lines.specs.Sheets.{policyNames, policySheet}
 use Rattle.sheet_lines.proofs.ScanLaws.{fed}
 use Rattle.sheet_lines.proofs.NamesLaws.{names-short}
-use Rattle.sheet_reader.proofs.Below.{Below, one-below, more-below, edge-below}
+use Rattle.sheet_fields.proofs.BelowLaws.{Below, one-below, more-below, edge-below}
 use Rattle.sheet_reader.proofs.WrittenLaws.{nothing-left, names-read}
 use Rattle.report_lines.specs.Decimal.{decimal}
 use Rattle.report_lines.specs.Lines.{field, valuesText, valuesLine, valuesRoom}

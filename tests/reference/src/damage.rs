@@ -75,12 +75,12 @@ const LINE_EDITS: [Edit; 20] = [
     |_| b"\r\n".to_vec(),
     |line| before_line_feed(&line[..last_gap(line)], b""),
     |line| before_line_feed(line, b" 0"),
-    |line| [b"0000", line].concat(),
-    |line| [b"00000", line].concat(),
-    |line| before_line_feed(&line[..last_gap(line)], b" 00000"),
-    |line| before_line_feed(&line[..last_gap(line)], b" 000000"),
-    |line| before_line_feed(&line[..last_gap(line)], b" 99999"),
-    |line| before_line_feed(&line[..last_gap(line)], b" 65536"),
+    |line| [b"000000000", line].concat(),
+    |line| [b"0000000000", line].concat(),
+    |line| before_line_feed(&line[..last_gap(line)], b" 0000000000"),
+    |line| before_line_feed(&line[..last_gap(line)], b" 00000000000"),
+    |line| before_line_feed(&line[..last_gap(line)], b" 9999999999"),
+    |line| before_line_feed(&line[..last_gap(line)], b" 4294967296"),
     |line| replace_first(line, b' ', b"\n"),
     |line| replace_first(line, b'\n', b" "),
 ];
@@ -186,9 +186,10 @@ pub fn crowded(names: &str, line: &str, most: usize) -> Vec<Text> {
 
 /// Puts a random value, often at a border, into a random field of a random value line.
 fn change_value(rng: &mut Rng, text: &[u8]) -> Text {
-    const BORDERS: [&str; 22] = [
+    const BORDERS: [&str; 29] = [
         "0", "1", "2", "3", "4", "7", "8", "9", "15", "16", "31", "32", "63", "64", "255", "256",
-        "65535", "65536", "99999", "00000", "000000", "5",
+        "65535", "65536", "99999", "00000", "000000", "5", "4294967295", "4294967296", "4294967297",
+        "9999999999", "0000000000", "00000000000", "10000000000",
     ];
     let value = rng.pick(&BORDERS);
     let field = rng.below(6) as usize;

@@ -5,7 +5,7 @@ use crate::policy::{is_static, Event, Policies, Policy, Sight, POLICIES};
 pub const MOST_CREATED: usize = 64;
 /// The openings that can be unclosed, in all.
 pub const MOST_UNCLOSED: usize = 64;
-pub const LARGEST_RESOURCE: u64 = 65_535;
+pub const LARGEST_RESOURCE: u64 = 4_294_967_295;
 
 pub const EVENT: u64 = 0;
 pub const OPEN: u64 = 1;

@@ -12,7 +12,7 @@ pub const OUTLINE_NAMES: &str = "node kind a b";
 pub const MOST_EDGES: usize = 256;
 pub const MOST_STEPS: usize = 2_000;
 pub const MOST_NODES: usize = 64;
-pub const MOST_DIGITS: usize = 5;
+pub const MOST_DIGITS: usize = 10;
 
 const FIRST_LINE: usize = 2;
 

@@ -21,8 +21,8 @@ const OUTLINE: Sheet = Sheet { names: OUTLINE_NAMES, right: "0 0 0 0", most: MOS
 
 /// Words that make a line wrong, and which fault each is.
 const OTHER: &str = "0x";
-const LONG: &str = "000000";
-const OUTSIDE: &str = "99999";
+const LONG: &str = "00000000000";
+const OUTSIDE: &str = "4294967296";
 
 pub fn policies() -> Vec<Text> {
     POLICIES.malformed()
@@ -165,7 +165,7 @@ impl Sheet {
             let place = rng.below(words.len() as u64) as usize;
             match rng.below(6) {
                 0 => words[place].push(rng.pick(BYTES)),
-                1 => words[place] = vec![b'0' + rng.below(10) as u8; rng.between(5, 7) as usize],
+                1 => words[place] = vec![b'0' + rng.below(10) as u8; rng.between(9, 12) as usize],
                 2 => words[place].insert(0, rng.pick(BYTES)),
                 3 => words[place].push(b' '),
                 4 => words.push(vec![b'0']),

@@ -1,7 +1,7 @@
 //! Fixed calls of the judge about retirings, on states that need not have been reached: what a retiring joins and closes up, 27, 28 and 30 at
 //! their borders, and the highest number in 42.
 
-use crate::judge::{Step, CREATE, MOST_CREATED};
+use crate::judge::{Step, CREATE, LARGEST_RESOURCE, MOST_CREATED};
 use crate::policy::{Edge, POLICIES};
 use crate::state::{Call, State, FIRST_LIVE, RETIRED};
 
@@ -61,7 +61,7 @@ fn joining() -> Vec<Asked> {
 /// 20, 21, 27, 28, 24 and 30.
 fn refused() -> Vec<Asked> {
     let two = told_apart(&[20, 30], &[2]);
-    let mut calls: Vec<Asked> = [0, 3, 15, 16, 19, 21, 29, 31, 65_535].map(|number| (two.clone(), Step::retire(number))).to_vec();
+    let mut calls: Vec<Asked> = [0, 3, 15, 16, 19, 21, 29, 31, 65_535, LARGEST_RESOURCE].map(|number| (two.clone(), Step::retire(number))).to_vec();
     let misfits = [[3, 20, 1], [3, 65_536, 0], [3, 3, 7], [4, 20, 0], [255, 20, 0]];
     calls.extend(misfits.map(|[kind, a, b]| (two.clone(), Step { kind, a, b })));
     calls.push((State { halted: 1, ..two.clone() }, Step::retire(20)));
@@ -69,9 +69,9 @@ fn refused() -> Vec<Asked> {
     // a number that stands beyond those in use is not live
     calls.push((State { count: 1, ..two.clone() }, Step::retire(30)));
     calls.push((State { count: 1, ..two.clone() }, Step::event(1, 30)));
-    for highest in [30, 31, 40, 65_534, 65_535] {
+    for highest in [30, 31, 40, 65_534, 65_535, LARGEST_RESOURCE - 1, LARGEST_RESOURCE] {
         let state = State { highest, ..two.clone() };
-        for number in [highest - 1, highest, (highest + 1).min(65_535), 16, 20] {
+        for number in [highest - 1, highest, (highest + 1).min(LARGEST_RESOURCE), 16, 20] {
             calls.push((state.clone(), Step::event(CREATE, number)));
         }
     }
@@ -88,7 +88,7 @@ fn refused() -> Vec<Asked> {
 fn highest() -> Vec<Asked> {
     let wide = 1 << 32;
     let mut calls = Vec::new();
-    for numbers in [&[20, 30][..], &[30, 20], &[30], &[65_535, 16, 20]] {
+    for numbers in [&[20, 30][..], &[30, 20], &[30], &[65_535, 16, 20], &[LARGEST_RESOURCE, 16, 65_536]] {
         let state = told_apart(numbers, &[2]);
         let top = state.highest;
         for highest in [0, 16, 20, top - 1, top, top + 1, wide - 1, wide, wide + top, u64::MAX] {
@@ -97,7 +97,7 @@ fn highest() -> Vec<Asked> {
     }
     for highest in [0, 3, 16, 65_535, 65_536, wide - 1, wide] {
         let state = State { highest, ..told_apart(&[], &[]) };
-        calls.extend([Step::event(2, 3), Step::event(CREATE, 16), Step::event(CREATE, 65_535)].map(|step| (state.clone(), step)));
+        calls.extend([Step::event(2, 3), Step::event(CREATE, 16), Step::event(CREATE, 65_535), Step::event(CREATE, LARGEST_RESOURCE)].map(|step| (state.clone(), step)));
     }
     calls
 }

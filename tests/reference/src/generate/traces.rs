@@ -217,9 +217,13 @@ fn used_resource(rng: &mut Rng, palette: &Palette, past: &[Step]) -> u64 {
     if rng.percent(3) { rng.below(STATICS) } else { rng.pick(&numbers) }
 }
 
-/// Mostly the next number above all earlier ones, or one not far above; else any.
+/// Mostly the next number above all earlier ones, or one not far above; else any. The first is above 65,535 in half of the traces.
 fn next_number(rng: &mut Rng, past: &[Step]) -> u64 {
-    let least = created(past).last().map_or(STATICS, |highest| highest + 1);
+    let least = match created(past).last() {
+        Some(highest) => highest + 1,
+        None if rng.percent(50) => rng.between(65_536, LARGEST_RESOURCE),
+        None => STATICS,
+    };
     let number = match rng.below(20) {
         0 => any_dynamic(rng),
         1 => least + rng.below(LARGEST_RESOURCE / 4),

@@ -75,6 +75,10 @@ pub(super) fn judged_borders() -> Vec<Case> {
         trace_case(P, "1 0 0; 1 1 0; 2 0 0; 0 2 3; 1 2 0; 2 1 0; 1 0 0"),
         trace_case(P, "0 0 65535; 0 1 65535; 1 0 0; 0 2 65535; 0 3 65535; 0 2 65535"),
         trace_case(P, "0 0 65535; 0 0 65534; 0 2 65533; 0 0 0; 0 2 0; 1 0 0"),
+        trace_case(P, "0 0 65536; 0 1 65536; 1 0 0; 0 2 65536; 0 0 4294967295; 0 1 4294967295; 0 3 65536; 0 2 65536"),
+        trace_case(P, "0 0 4294967294; 0 0 4294967295; 0 0 4294967295; 0 0 16; 0 2 4294967293; 1 0 0; 0 2 4294967294"),
+        // numbers that end in the same bits are different ones
+        trace_case(P, "0 0 17; 0 0 65553; 0 0 131089; 1 0 0; 0 1 65553; 0 2 65553; 0 2 131089"),
         // All statics have moved on: only one that never occurs offends.
         trace_case(unused_offends, &format!("1 0 0; {} 0 0 16; 0 1 16; 0 4 3", on_statics(1))),
         trace_case(unused_offends, &format!("{} 0 4 3; 1 0 0; 2 0 0", on_statics(1))),

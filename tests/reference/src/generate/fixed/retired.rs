@@ -24,6 +24,8 @@ fn refused_cases() -> Vec<Case> {
         trace_case("", "0 0 40; 3 40 0; 0 0 40; 0 0 39; 0 0 41; 3 41 0; 0 0 41; 0 0 40; 0 0 42"),
         trace_case("", "0 0 16; 0 0 18; 3 18 0; 0 0 17; 0 0 18; 0 0 19; 3 16 0; 0 0 16; 0 0 20"),
         trace_case("", "0 0 65535; 3 65535 0; 0 0 65535; 0 0 65534; 0 1 65535; 0 0 16; 0 0 15"),
+        // after a create at the end of the range every create is 27
+        trace_case("", "0 0 4294967295; 3 4294967295 0; 0 0 4294967295; 0 0 4294967294; 0 1 4294967295; 0 0 16; 0 0 15"),
         // a refused create is no part of the past
         trace_case("", "0 0 17; 0 0 16; 0 1 16; 0 0 3; 3 16 0; 3 17 0; 0 0 18; 0 1 18"),
         // events on what is retired, live again never
