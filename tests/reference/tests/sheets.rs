@@ -48,8 +48,14 @@ fn malformed_lines() {
     for line in ["", " ", "   ", " 0 1 3", "0 1 3 ", "0 1", "0 1 3 0", "0 1 3 99999", "99999 1"] {
         second_refused(line, 2);
     }
-    for line in ["0 1 000003", "000000 1 3", "0000001", " 0 1 000003", "000003 ", "0  000001 99999"]
-    {
+    for line in [
+        "0 1 00000000003",
+        "00000000000 1 3",
+        "000000000001",
+        " 0 1 00000000003",
+        "00000000003 ",
+        "0  00000000001 99999",
+    ] {
         second_refused(line, 12);
     }
     let other = [
@@ -120,13 +126,24 @@ fn made_malformed() {
 #[test]
 fn ranges() {
     let outside = [
-        "0 32 0", "0 0 65536", "0 0 99999", "1 8 0", "1 0 1", "2 8 0", "2 0 1", "3 16 1", "3 65536 0", "4 0 0",
+        "0 32 0",
+        "0 0 4294967296",
+        "0 0 9999999999",
+        "0 4294967297 3",
+        "4294967296 1 3",
+        "1 8 0",
+        "1 0 1",
+        "2 8 0",
+        "2 0 1",
+        "3 16 1",
+        "3 4294967296 0",
+        "4 0 0",
     ];
     for line in outside {
         let text = format!("kind a b\n{line}\nx\n");
         assert_eq!(trace_refusal(text.as_bytes()), Some(refused(3, 2)), "{line}");
     }
-    for line in ["3 0 0", "3 3 0", "3 65535 0"] {
+    for line in ["3 0 0", "3 3 0", "3 65536 0", "3 4294967295 0", "0000000000 0000000001 0000000003"] {
         assert_eq!(trace_refusal(format!("kind a b\n{line}\n").as_bytes()), None, "{line}");
     }
     for line in [
