@@ -44,6 +44,10 @@ withFault p f =
 
 -- ── One more byte ──
 
+-- a value with one more digit
+abbrev pub valueWith : ℕ → ℕ → ℕ
+valueWith v b = v % valueRoom * 10 + (b - 48)
+
 -- one more digit makes it this value
 abbrev pub withDigit : Part → ℕ → Part
 withDigit p v = record { count = p .count; digits = p .digits + 1; value = v; fault = p .fault }
@@ -54,8 +58,7 @@ lastDigit p v =
     cond (ltb (p .digits) mostDigits) (cond (ltb v valueRoom) (withDigit p v) (withFault (withDigit p 0) ofRange)) (withFault p ofLength)
 
 abbrev pub digitStep : Part → ℕ → Part
-digitStep p b = cond (ltb (p .digits) safeDigits) (withDigit p (p .value % valueRoom * 10 + (b - 48)))
-    (lastDigit p (p .value % valueRoom * 10 + (b - 48)))
+digitStep p b = cond (ltb (p .digits) safeDigits) (withDigit p (valueWith (p .value) b)) (lastDigit p (valueWith (p .value) b))
 
 -- a space after the last value of a line of n fields ends the line or parts it from a value too many
 abbrev pub spaceStep : ℕ → Part → Part

@@ -1,8 +1,8 @@
 // The values of one line of a sheet, read byte by byte, and what is wrong with it (refusals 11, 12, 2, and 3 where no field has such a value).
 ghost use mathlib.Core.Path.{_≡_};
 ghost use Rattle.sheet_bytes.specs.Class.{classOf};
-ghost use Rattle.sheet_bytes.specs.Code.{withFault, faultNumber, digitStep, lastDigit, spaceStep, isComplete, faultEnd, endStep};
-ghost use Rattle.sheet_bytes.specs.Code.{byteStep};
+ghost use Rattle.sheet_bytes.specs.Code.{withFault, faultNumber, valueWith, digitStep, lastDigit, spaceStep, isComplete};
+ghost use Rattle.sheet_bytes.specs.Code.{faultEnd, endStep, byteStep};
 
 mod class;
 
@@ -83,32 +83,40 @@ fn number(fault: usize) -> u8
     }
 }
 
-// 02, L9: "up to ten digits"; document 01: "leading zeros allowed". The remainder changes no value of a line; with it no part that a caller
-// makes up overflows.
+// A value with one more digit. The remainder changes no value of a line; with it no part that a caller makes up overflows.
+fn grown(value: u64, b: u8) -> u64
+    requires { ⌜ classOf b ≡ 0 ⌝ }
+    ensures { λ r. ⌜ r ≡ valueWith value b ⌝ }
+{
+    value % VALUES * 10 + (b as u64 - 48)
+}
+
+// 02, L9: "up to ten digits"; document 01: "leading zeros allowed".
 fn digit(p: Part, b: u8) -> Part
     requires { ⌜ classOf b ≡ 0 ⌝ }
     ensures { λ r. ⌜ r ≡ digitStep p b ⌝ }
 {
-    let value = p.value % VALUES * 10 + (b as u64 - 48);
     if SAFE_DIGITS <= p.digits {
-        return last_digit(p, value);
+        return last_digit(p, b);
     }
     Part {
         count: p.count,
         digits: p.digits + 1,
-        value,
+        value: grown(p.value, b),
         fault: p.fault,
     }
 }
 
 // The last digit that a value may have can take it out of every field's range; what is kept of it then does not matter. The digits after
 // that one are not counted.
-fn last_digit(p: Part, value: u64) -> Part
-    ensures { λ r. ⌜ r ≡ lastDigit p value ⌝ }
+fn last_digit(p: Part, b: u8) -> Part
+    requires { ⌜ classOf b ≡ 0 ⌝ }
+    ensures { λ r. ⌜ r ≡ lastDigit p (valueWith (p .value) b) ⌝ }
 {
     if MOST_DIGITS <= p.digits {
         return with_fault(p, LENGTH);
     }
+    let value = grown(p.value, b);
     let digits = p.digits + 1;
     if VALUES <= value {
         let far = Part {
