@@ -81,7 +81,8 @@ static inline void wiforekun_start(struct wiforekun_state *state) {
 }
 
 /* An answer: WIFOREKUN_ALLOWED (0; of a check: accepted), WIFOREKUN_VIOLATED (1; of a check: refused with a policy) or WIFOREKUN_REFUSED
- * (2, with a number). Its detail: 0, the policy or the number, WIFOREKUN_REFUSED_... by name. Of wiforekun_counterexample also the length of what was written, in steps. */
+ * (2, with a number). Its detail: 0, the policy or the number, WIFOREKUN_REFUSED_... by name. Of wiforekun_counterexample also the length
+ * of what was written, in steps. */
 #define WIFOREKUN_LENGTH(code) ((code) / 65536u)
 #define WIFOREKUN_ANSWER(code) ((code) / 256u % 256u)
 #define WIFOREKUN_DETAIL(code) ((code) % 256u)

@@ -104,7 +104,8 @@ class Browser:
     def click(self, query):
         """A click into the middle of an element."""
         self.value(f"document.querySelector({json.dumps(query)}).scrollIntoView({{block: 'center'}})")
-        box = self.value(f"(r => [r.x + r.width / 2, r.y + r.height / 2])(document.querySelector({json.dumps(query)}).getBoundingClientRect())")
+        middle = "(r => [r.x + r.width / 2, r.y + r.height / 2])"
+        box = self.value(f"{middle}(document.querySelector({json.dumps(query)}).getBoundingClientRect())")
         for kind in ("mousePressed", "mouseReleased"):
             self.ask("Input.dispatchMouseEvent", type=kind, x=box[0], y=box[1], button="left", clickCount=1)
 

@@ -1,4 +1,4 @@
-# shellcheck shell=sh
+# shellcheck shell=sh disable=SC2154
 # Building the programs, for ./wiforekun, which reads this file. It has their names in $programs, the checkout in $here, and say().
 
 # is a program missing, or older than a source file?

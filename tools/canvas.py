@@ -21,7 +21,7 @@ class Canvas:
         self.lines = []
 
     def put(self, name, text=None, **marks):
-        marks = " ".join(f'{key.rstrip("_").replace("_", "-")}="{html.escape(shown(value))}"' for key, value in marks.items())
+        marks = marked(marks)
         self.lines.append(f"<{name} {marks}/>" if text is None else f"<{name} {marks}>{html.escape(text)}</{name}>")
 
     def text(self, x, y, text, size=12, **marks):
@@ -32,7 +32,7 @@ class Canvas:
         self.text(x, y, text, size, stroke="white", stroke_width=4, stroke_linejoin="round", paint_order="stroke", **marks)
 
     def begin(self, **marks):
-        self.lines.append("<g " + " ".join(f'{key.rstrip("_").replace("_", "-")}="{html.escape(shown(value))}"' for key, value in marks.items()) + ">")
+        self.lines.append(f"<g {marked(marks)}>")
 
     def end(self):
         self.lines.append("</g>")
@@ -43,6 +43,11 @@ class Canvas:
         head = f'<svg xmlns="http://www.w3.org/2000/svg" {size} font-family="{FONT}">'
         white = [f'<rect width="{shown(width)}" height="{shown(height)}" fill="white"/>'] if ground else []
         return "\n".join([head, *white, *self.lines, "</svg>"]) + "\n"
+
+
+def marked(marks):
+    """The attributes of an element: class_ for class, font_size for font-size."""
+    return " ".join(f'{key.rstrip("_").replace("_", "-")}="{html.escape(shown(value))}"' for key, value in marks.items())
 
 
 def shown(value):

@@ -104,7 +104,8 @@ class Automaton:
     def put_state(self, canvas, state, y):
         bad = state in OFFENDING
         canvas.begin(class_="state", data_policy=self.policy, data_state=state)
-        canvas.put("circle", cx=self.at[state], cy=y, r=RADIUS, fill="#fde8ea" if bad else PALE_BLUE, stroke=RED if bad else INK, stroke_width=1.4)
+        fill, line = ("#fde8ea", RED) if bad else (PALE_BLUE, INK)
+        canvas.put("circle", cx=self.at[state], cy=y, r=RADIUS, fill=fill, stroke=line, stroke_width=1.4)
         if bad:
             canvas.put("circle", cx=self.at[state], cy=y, r=RADIUS - 4, fill="none", stroke=RED)
         canvas.text(self.at[state], y + 5, str(state), 14, text_anchor="middle", fill=DARK_RED if bad else "#222222")

@@ -13,7 +13,8 @@ BYTE_ORDER_MARKS = {b"\xef\xbb\xbf": "a byte-order mark (bytes EF BB BF)", b"\xf
 
 def file_hints(data, line):
     """What an editor put into a file besides its text: a byte-order mark at its beginning, a carriage return at the end of a line."""
-    found = [f"it begins with {words}; save it as plain text without one" for mark, words in BYTE_ORDER_MARKS.items() if data.startswith(mark)]
+    marks = [words for mark, words in BYTE_ORDER_MARKS.items() if data.startswith(mark)]
+    found = [f"it begins with {words}; save it as plain text without one" for words in marks]
     if line.endswith(b"\r"):
         found.append("lines end with carriage return and line feed (CRLF); save it with line feeds alone (LF)")
     return found

@@ -57,8 +57,9 @@ def shown(run, line, step, row, words, node):
     """One step as the page shows it."""
     past = run.past
     return {
-        "line": line, "step": " ".join(str(value) for value in step), "words": step_words(run.names, step), "answer": row[1], "detail": row[2],
-        "why": "\n".join(words), "open": [policy for policy, _ in past.unclosed], "live": resources(run.names, past.live()),
+        "line": line, "step": " ".join(str(value) for value in step), "words": step_words(run.names, step),
+        "answer": row[1], "detail": row[2], "why": "\n".join(words),
+        "open": [policy for policy, _ in past.unclosed], "live": resources(run.names, past.live()),
         "retired": resources(run.names, list(past.retired)), "states": states(run), "node": node,
     }
 

@@ -144,7 +144,8 @@ def trace(folder, steps, arguments):
     for number, x in enumerate(resources):
         top = labels + number * panel + TITLE
         told = f"resource {past.unseen_number()}, as any that is in no step" if x is UNSEEN else names.tell("resource", x)
-        canvas.text(LEFT, top - 8, f"{names.tell('policy', policy)}, the instance for x = {told[len('resource ') :]}", 13, font_weight="bold")
+        title = f"{names.tell('policy', policy)}, the instance for x = {told[len('resource ') :]}"
+        canvas.text(LEFT, top - 8, title, 13, font_weight="bold")
         put_ground(canvas, columns, policy, states, top)
         put_moves(canvas, columns, past, policy, x, lambda state, top=top: top + ROW * (len(states) - 1 - states.index(state)) + ROW // 2)
     put_answers(canvas, columns, labels + panel * len(resources) + 2)

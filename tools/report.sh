@@ -1,4 +1,4 @@
-# shellcheck shell=sh
+# shellcheck shell=sh disable=SC2154,SC2034
 # The page, for ./wiforekun, which reads this file and has the other functions that it uses.
 
 # into NAME WORD FOLDER FILE: a program, with its lines in a file of $work

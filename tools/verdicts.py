@@ -36,8 +36,8 @@ def trace_words(folder, rows):
     else:
         out += f"{sheets.counted(len(rows), 'step')}, all allowed." if rows else "no steps."
     if refused:
-        first = f"the first at line {refused[0][0]} with {refused[0][2]}" if len(refused) > 1 else f"at line {refused[0][0]} with {refused[0][2]}"
-        out += f" {sheets.counted(len(refused), 'step')} refused, {first}."
+        first = "the first at" if len(refused) > 1 else "at"
+        out += f" {sheets.counted(len(refused), 'step')} refused, {first} line {refused[0][0]} with {refused[0][2]}."
     if halted:
         out += f" {sheets.counted(halted, 'step')} after it not judged."
     return out
@@ -137,7 +137,8 @@ def notes(folder, kinds):
         opened = {row[1] for row in rows if row[0] == OPEN} if kind is TRACE_SHEET else {row[2] for row in rows if row[1] == SANDBOX}
         if not opened:
             found.append(f"{what} opens no policy, so it can break none")
-        found += [f"{what} opens {tell('policy', policy)}, which has no edge and can't be broken" for policy in sorted(opened - edges.keys())]
+        idle = sorted(opened - edges.keys())
+        found += [f"{what} opens {tell('policy', policy)}, which has no edge and can't be broken" for policy in idle]
     for policy in sorted(edges):
         if not reached(edges[policy]) & set(OFFENDING):
             found.append(f"{tell('policy', policy)} has no way from state 0 to an offending state (6 or 7), and can't be broken")

@@ -51,7 +51,8 @@ def retired_words(run, line, after, before=None):
     """That a resource's instance goes on, where it was retired between these two lines."""
     if line is None or line <= after or (before is not None and before < line):
         return []
-    return [f"    its resource is retired at {run.at(line)}: no step can be on it any more, but the instance still counts", *run.quoted(line, 6)]
+    told = f"    its resource is retired at {run.at(line)}: no step can be on it any more, but the instance still counts"
+    return [told, *run.quoted(line, 6)]
 
 
 def whichever(run, policy, way):

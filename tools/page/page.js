@@ -55,7 +55,8 @@ function shownPlaces(steps) {
 function foldRow(steps, from, to) {
   const part = steps.slice(from - 1, to);
   const allowed = part.every((step) => step.answer === 0) ? ", all allowed" : "";
-  const button = element("button", `lines ${part[0].line} to ${part[part.length - 1].line}: ${part.length} steps${allowed}. Show all`, { type: "button" });
+  const lines = `lines ${part[0].line} to ${part[part.length - 1].line}`;
+  const button = element("button", `${lines}: ${part.length} steps${allowed}. Show all`, { type: "button" });
   button.addEventListener("click", () => { unfolded = true; show(); });
   const made = element("tr", "", { class: "fold" });
   made.append(element("td", button, { colspan: 4 }));
@@ -88,7 +89,8 @@ function putStates(step) {
       const cell = element("span", "");
       states.forEach((state, place) => {
         cell.append(place ? ", " : "", element("span", state, state > 5 ? { class: "offending" } : {}));
-        for (const found of all(`#policies .state[data-policy="${policy}"][data-state="${state}"]`)) found.classList.add(state > 5 ? "hot" : "lit");
+        const lit = all(`#policies .state[data-policy="${policy}"][data-state="${state}"]`);
+        lit.forEach((found) => found.classList.add(state > 5 ? "hot" : "lit"));
       });
       rows.push(row([told, x, cell]));
     }
