@@ -35,11 +35,11 @@ pub(crate) fn all(count: u64) -> u64
 }
 
 // How many bytes hold the mark.
-fn kept(lent: &[u8]) -> u64
+fn kept(lent: &[u8]) -> usize
     ensures { λ r. ⌜ r ≤ length (now (lent .entry)) ⌝ }
 {
     let mut i: usize = 0;
-    let mut n: u64 = 0;
+    let mut n: usize = 0;
     while i < lent.len() {
         if lent[i] == MARK {
             n += 1;
@@ -61,7 +61,7 @@ fn call(n: u64, text: &[u8], room: usize) -> u64
     print::number(length as u64, b" ");
     print::number(refusal[0], b" ");
     print::number(refusal[1], b" ");
-    print::number(kept(&lent[..room]), b"\n");
+    print::number(kept(&lent[..room]) as u64, b"\n");
     n
 }
 
