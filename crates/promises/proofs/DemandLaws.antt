@@ -1,12 +1,15 @@
 -- The three demands hold.
 use Prim.Native.Nat.{ℕ}
 use mathlib.Core.Path.{_≡_, refl, subst}
-use mathlib.Core.Bool.{Bool, false}
+use mathlib.Core.Bool.{Bool, true, false}
 use mathlib.Core.List.{List, [], flatten}
 use mathlib.Core.Logic.{_↔_}
+use lib.Dec.{leb}
+use lib.ListN.{replicate}
+use borrow.Author.Tests.{leb-true, leb-false}
 use Rattle.usage.specs.declared.Edge.{Edge}
 use Rattle.usage.specs.declared.Node.{Node}
-use Rattle.usage.specs.Limits.{edgePlaces, nodePlaces}
+use Rattle.usage.specs.Limits.{policies, edgePlaces, nodePlaces}
 use Rattle.usage.specs.Answers.{allowed}
 use Rattle.usage.specs.Judge.{JudgedAll}
 use Rattle.usage.specs.Check.{Leaves, Checked, accepts}
@@ -20,7 +23,10 @@ use Rattle.sheet_reader.specs.Readers.{policiesInto, outlineInto}
 use Rattle.sheet_reader.proofs.TableLaws.{policies-valid, outline-valid}
 use Rattle.sheet_reader.proofs.Converse.{edges-given, nodes-given}
 use Rattle.checker.proofs.AcceptedLaws.{never-halted}
-use Rattle.promises.specs.Demands.{GivenBy, Demand1, Demand2, Demand3, RetiringsApart, Demands}
+use Rattle.checker.proofs.PolicyLaws.{none-higher}
+use Rattle.checker.proofs.SummaryLaws.{exact-unique, accepted-zeros, zeros-accepted}
+use Rattle.monitor_lean.proofs.LeanLaws.{lean-promise}
+use Rattle.promises.specs.Demands.{GivenBy, Demand1, Demand2, Demand3, RetiringsApart, ExactFor, LeanJudge, Demands}
 use Rattle.promises.proofs.JudgeNumbers.{judge-refuses}
 use Rattle.promises.proofs.SheetNumbers.{policies-refuses, trace-refuses, outline-refuses}
 use Rattle.promises.proofs.ExpressionPromise.{expression-refuses}
@@ -81,3 +87,26 @@ retirings-apart = others-kept
 
 pub demands : Demands
 demands = record { first = demand-1; second = demand-2; third = demand-3 }
+
+-- ── The lean judge ──
+
+module _ (local : Bool) (t n m : List ℕ) (e : EdgeTable t) (k : NodeTable n) (x : ExactFor local t n m) where
+  no-mark : Checked local (edgesOf t) (nodesOf n) allowed → m ≡ replicate policies 0
+  no-mark (accepts none-leaves) =
+      exact-unique local (edgesOf t) (nodesOf n) m (replicate policies 0) x (accepted-zeros local (edgesOf t) (nodesOf n) none-leaves)
+
+  unmarked : m ≡ replicate policies 0 → Checked local (edgesOf t) (nodesOf n) allowed
+  unmarked z = accepts (λ p l. go p l (leb policies p) refl)
+    where
+      go : (p : ℕ) → Leaves local (edgesOf t) (nodesOf n) p → (b : Bool) → leb policies p ≡ b → ⊥
+      go p l true f = none-higher local t n (e .edges) (k .outline) p (leb-true policies p f) l
+      go p l false f =
+          zeros-accepted local (edgesOf t) (nodesOf n) (k .outline) (subst (ExactFor local t n) z x) p (leb-false policies p f) l
+
+pub lean-judge : LeanJudge
+lean-judge = record {
+  one-summary = λ local t n m k. exact-unique local (edgesOf t) (nodesOf n) m k;
+  answers = λ local t n m e k x. lean-promise t local m .answers e (nodesOf n) (k .outline) x;
+  answers-all = λ local t n m e k x. lean-promise t local m .answers-all e (nodesOf n) (k .outline) x;
+  accepted = λ local t n m e k x. (no-mark local t n m e k x, unmarked local t n m e k x);
+}

@@ -9,6 +9,7 @@ use mathlib.Core.Path.{_≡_}
 use mathlib.Core.Bool.{Bool, true, false}
 use mathlib.Core.List.{List, [], _∷_, _++_, map, flatten, List·Memᴰ}
 use mathlib.Core.Logic.{_↔_}
+use lib.ListN.{replicate}
 use Rattle.usage.specs.declared.RawStep.{RawStep}
 use Rattle.usage.specs.Limits.{policies, edgePlaces, stepPlaces, nodePlaces}
 use Rattle.usage.specs.Answers.{Verdict, allowed, violated, refused, Refusal}
@@ -34,6 +35,8 @@ use Rattle.checker.specs.Accepted.{NeverHalted}
 use Rattle.checker.specs.Promise.{RightVerdict, CheckPromise}
 use Rattle.sheet_writer.specs.Writer.{is-written, writtenAgain}
 use Rattle.sheet_writer.specs.Promise.{OneWay}
+use Rattle.checker.specs.Summary.{Exact}
+use Rattle.monitor_lean.specs.Promise.{LeanAnswers, LeanAnswersAll}
 use Rattle.report.specs.Trace.{tracePrinted}
 
 -- ── Demand 1 ──
@@ -145,6 +148,23 @@ pub record Renumbered : Type 0 where
 -- all. Of the traces of an outline that the check accepts, demand 3 speaks of retirings too.
 abbrev pub RetiringsApart : Type 0
 RetiringsApart = OthersKept startState
+
+-- ── Where it can go wrong (02, L11) ──
+
+-- m is the exact summary of an outline, lent as a table of nodes, under a table of edges; `checker::summary` writes it.
+abbrev pub ExactFor : Bool → List ℕ → List ℕ → List ℕ → Type 0
+ExactFor local t n m = Exact local (edgesOf t) (nodesOf n) m
+
+pub record LeanJudge : Type 0 where
+  pub one-summary : (local : Bool) (t n m k : List ℕ) → ExactFor local t n m → ExactFor local t n k → m ≡ k
+  -- "With the exact one, from the judge's start, on every trace of that outline, with or without retirings added, it answers as the full
+  -- judge does, step by step, up to and including the first refusal."
+  pub answers : (local : Bool) (t n m : List ℕ) → EdgeTable t → NodeTable n → ExactFor local t n m → LeanAnswers t local (nodesOf n) m
+  -- and beyond refusals, as long as the steps that are not refused are such a trace
+  pub answers-all : (local : Bool) (t n m : List ℕ) → EdgeTable t → NodeTable n → ExactFor local t n m → LeanAnswersAll t local (nodesOf n) m
+  -- "Accepted outlines have no mark", and no others
+  pub accepted : (local : Bool) (t n m : List ℕ) → EdgeTable t → NodeTable n → ExactFor local t n m
+      → Checked local (edgesOf t) (nodesOf n) allowed ↔ (m ≡ replicate policies 0)
 
 -- ── One way to write a policy sheet (02, L12) ──
 

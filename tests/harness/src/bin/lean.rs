@@ -109,7 +109,8 @@ impl Tally {
         self.outlines += 1;
         self.marked += usize::from(exact != [0; POLICIES]);
         for _ in 0..2 {
-            let on = with_retirings(rng, random_trace(rng, nodes));
+            let trace = random_trace(rng, nodes);
+            let on = with_retirings(rng, trace);
             self.compare_lean(policies, &exact, &on)?;
             if up_to_refusal(&lean_answers(policies, &exact, &on)) != up_to_refusal(&full_answers(policies, &on)) {
                 return Err(format!("the exact summary leaves out an answer on {on:?}"));
