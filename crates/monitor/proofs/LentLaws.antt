@@ -15,7 +15,7 @@ use Rattle.usage.specs.declared.RawStep.{RawStep}
 use Rattle.usage.specs.Limits.{statics, mostCreated}
 use Rattle.usage.specs.Past.{Step, event, retiring}
 use Rattle.usage.specs.Judge.{stepOf}
-use Rattle.usage.proofs.Logic.{and-left, and-both}
+use Rattle.usage.proofs.Logic.{and-left, and-right, and-both}
 use Rattle.automaton.specs.Mask.{lowestIn}
 use Rattle.monitor_state.specs.declared.State.{State}
 use Rattle.monitor_state.specs.declared.Judgement.{Judgement}
@@ -40,25 +40,29 @@ pub cond-same : {A : Type 0} (b : Bool) (x : A) → cond b x x ≡ x
 cond-same true x = refl
 cond-same false x = refl
 
--- the parts that 42 asks about
-pub parts-ok : (s : State) → createdOk (s .count) (s .created) ≡ true → highestOk (s .highest) (s .count) (s .created) ≡ true
-    → orderOk (s .depth) (s .order) (s .unclosed) ≡ true → stateOk s ≡ true
-unfolding stateOk
-parts-ok s c t o = rw (c, t, o)
+-- the parts that 42 asks about: of what is live, and of the openings
+abbrev liveOk : State → Bool
+liveOk s = createdOk (s .count) (s .created) && highestOk (s .highest) (s .count) (s .created)
 
-pub created-bad : (s : State) → createdOk (s .count) (s .created) ≡ false → stateOk s ≡ false
+by-parts : (s : State) → stateOk s ≡ (liveOk s && orderOk (s .depth) (s .order) (s .unclosed))
 unfolding stateOk
-created-bad s c = rw c
+by-parts s = go (createdOk (s .count) (s .created)) (highestOk (s .highest) (s .count) (s .created)) (orderOk (s .depth) (s .order) (s .unclosed))
+  where
+    go : (c t o : Bool) → (c && (t && o)) ≡ ((c && t) && o)
+    go true t o = refl
+    go false t o = refl
 
-pub highest-bad : (s : State) → createdOk (s .count) (s .created) ≡ true → highestOk (s .highest) (s .count) (s .created) ≡ false
-    → stateOk s ≡ false
-unfolding stateOk
-highest-bad s c t = rw (c, t)
+pub parts-ok : (s : State) → liveOk s ≡ true → orderOk (s .depth) (s .order) (s .unclosed) ≡ true → stateOk s ≡ true
+parts-ok s w o = by-parts s ∙ rw (w, o)
 
-pub order-bad : (s : State) → createdOk (s .count) (s .created) ≡ true → highestOk (s .highest) (s .count) (s .created) ≡ true
-    → orderOk (s .depth) (s .order) (s .unclosed) ≡ false → stateOk s ≡ false
-unfolding stateOk
-order-bad s c t o = rw (c, t, o)
+pub live-bad : (s : State) → liveOk s ≡ false → stateOk s ≡ false
+live-bad s w = by-parts s ∙ rw w
+
+pub order-bad : (s : State) → liveOk s ≡ true → orderOk (s .depth) (s .order) (s .unclosed) ≡ false → stateOk s ≡ false
+order-bad s w o = by-parts s ∙ rw (w, o)
+
+pub live-highest : (s : State) → liveOk s ≡ true → highestOk (s .highest) (s .count) (s .created) ≡ true
+live-highest s w = and-right (createdOk (s .count) (s .created)) (highestOk (s .highest) (s .count) (s .created)) w
 
 -- a number above the highest one is that of no live resource
 pub new-above : (s : State) (r : ℕ) → highestOk (s .highest) (s .count) (s .created) ≡ true → s .highest < r → listed r (live s) ≡ false
@@ -93,9 +97,10 @@ pub refused-step : (looked : ℕ) (local : Bool) (es : List Edge) (s : State) (s
     → toldIn t s ≡ stepped looked local es s step
 refused-step looked local es s step n t e f = refused-parts s n t e ∙ sym (step-refused looked local es s step n f)
 
-pub created-few : (count : ℕ) (created : List ℕ) → createdOk count created ≡ true → count ≤ mostCreated
+pub live-few : (s : State) → liveOk s ≡ true → s .count ≤ mostCreated
 unfolding createdOk
-created-few count created e = leb-true count mostCreated (and-left (leb count mostCreated) _ e)
+live-few s w = leb-true (s .count) mostCreated
+    (and-left (leb (s .count) mostCreated) _ (and-left (createdOk (s .count) (s .created)) (highestOk (s .highest) (s .count) (s .created)) w))
 
 -- the answer from the states before and after a step: an array is that of the one after it where nothing is broken
 module _ (s t : State) (bad : ℕ) where

@@ -291,10 +291,7 @@ pub fn judge_looked(
     if !sheet_fields::edges::edge_table_ok(edges) {
         return monitor_state::refused(41, count, highest, depth, halted);
     }
-    if !monitor_sets::created::created_ok(created, count) {
-        return monitor_state::refused(42, count, highest, depth, halted);
-    }
-    if !monitor_sets::created::highest_ok(created, count, highest) {
+    if !monitor_sets::created::live_ok(created, count, highest) {
         return monitor_state::refused(42, count, highest, depth, halted);
     }
     if !monitor_sets::order::order_ok(order, depth, unclosed) {

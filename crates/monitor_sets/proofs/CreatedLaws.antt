@@ -186,6 +186,13 @@ module _ (l : List ℕ) (n : ℕ) (long : n ≤ length l) where
             (listed-none (getD l k 0) (k + 1) (omega arith) (λ j g h. apart k j (omega arith) h))
             ∙ down d (k + 1) (omega arith)
 
+    -- of rising numbers only the last can be above a number
+    pub last-most : (i : ℕ) → i < n → getD l i 0 ≤ getD l (n - 1) 0
+    last-most i h =
+        let e : i + (n - 1 - i) ≡ n - 1 = omega arith in
+        let u = subst (λ (m : ℕ). getD l i 0 + (n - 1 - i) ≤ getD l m 0) e (above (n - 1 - i) i (omega arith)) in
+        omega (arith, u)
+
   -- a number out of range
   pub low-unsound : (i : ℕ) → i < n → getD l i 0 < statics → sound 0 ≡ false
   low-unsound i h a = sound-before i (sound-low i h a)

@@ -1,9 +1,10 @@
 -- The laws of the highest number (02, L8), for a loop over an array that holds the live resources in front.
-use Prim.Native.Nat.{ℕ, suc, _+_, _<_, _≤_}
-use mathlib.Core.Path.{_≡_, refl, sym, ap, _∙_}
+use Prim.Native.Nat.{ℕ, zero, suc, _+_, _<_, _≤_}
+use mathlib.Core.Path.{_≡_, refl, sym, ap, subst, _∙_}
 use mathlib.Core.Bool.{Bool, true, false, _&&_}
 use mathlib.Core.List.{List, [], _∷_, _++_}
 use native.Mathlib.Numerals.{add-one}
+use native.Mathlib.Omega.{arith}
 use lib.Dec.{leb}
 use lib.ListN.{length, getD, take}
 use lib.Seq.{take-suc}
@@ -46,3 +47,10 @@ module _ (highest : ℕ) (l : List ℕ) where
       go : (b : Bool) → (b && true) ≡ b
       go true = refl
       go false = refl
+
+  -- none of the first n is above it, or one is
+  pub highest-all : (n : ℕ) → n ≤ length l → ((i : ℕ) → i < n → getD l i 0 ≤ highest) → highestOk highest n l ≡ true
+  highest-all zero b f = sym highest-none
+  highest-all (suc n) b f =
+      subst (λ (m : ℕ). highestOk highest m l ≡ true) (add-one n)
+      (highest-below n (omega arith) (f n (omega arith)) ∙ highest-all n (omega arith) (λ i h. f i (omega arith)))

@@ -142,22 +142,6 @@ pub fn place_of(created: &[u32; MOST_CREATED], count: usize, x: u32) -> usize
     place(created, n, x)
 }
 
-// "42 a state with more than 64 resources, one listed twice or outside 16 to" the last. It also tells the length of the array.
-pub fn created_ok(created: &[u32; MOST_CREATED], count: usize) -> bool
-    ensures { λ r. ⌜ r ≡ createdOk count (now (created .entry)) ⌝ }
-    ensures { λ r. ⌜ length (now (created .entry)) ≡ mostCreated ⌝ }
-{
-    let all = *created;
-    created_length(all);
-    if MOST_CREATED < count {
-        return false;
-    }
-    if rising(created, count) {
-        return rising_sound(created, count);
-    }
-    all_sound(created, count)
-}
-
 // Is no live resource's number above the highest one? No early exit, so that several are compared at once.
 fn none_above(created: &[u32; MOST_CREATED], count: usize, highest: u32) -> bool
     requires { ⌜ length (now created) ≡ mostCreated ⌝ }
@@ -175,12 +159,38 @@ fn none_above(created: &[u32; MOST_CREATED], count: usize, highest: u32) -> bool
     !above
 }
 
-// "42 also refuses a highest number below a live one".
-pub fn highest_ok(created: &[u32; MOST_CREATED], count: usize, highest: u32) -> bool
+// Of rising numbers only the last can be above the highest one.
+fn last_not_above(created: &[u32; MOST_CREATED], count: usize, highest: u32) -> bool
+    requires { ⌜ length (now created) ≡ mostCreated ⌝ }
+    requires { ⌜ count ≤ mostCreated ⌝ }
+    requires { ⌜ rises (now created) (count - 1) ≡ true ⌝ }
     ensures { λ r. ⌜ r ≡ highestOk highest count (now (created .entry)) ⌝ }
+{
+    if count == 0 {
+        return true;
+    }
+    created[count - 1] <= highest
+}
+
+// "42 a state with more than 64 resources, one listed twice or outside 16 to 65,535", "42 also refuses a highest number below a live
+// one". It also tells the length of the array.
+pub fn live_ok(created: &[u32; MOST_CREATED], count: usize, highest: u32) -> bool
+    ensures { λ r. ⌜ r ≡ (createdOk count (now (created .entry)) && highestOk highest count (now (created .entry))) ⌝ }
+    ensures { λ r. ⌜ length (now (created .entry)) ≡ mostCreated ⌝ }
 {
     let all = *created;
     created_length(all);
-    let n = at_most_created(count);
-    none_above(created, n, highest)
+    if MOST_CREATED < count {
+        return false;
+    }
+    if rising(created, count) {
+        if !rising_sound(created, count) {
+            return false;
+        }
+        return last_not_above(created, count, highest);
+    }
+    if !all_sound(created, count) {
+        return false;
+    }
+    none_above(created, count, highest)
 }

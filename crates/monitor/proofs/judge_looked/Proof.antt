@@ -3,7 +3,7 @@ use borrow.Author.Tests.{not-true, not-false}
 use borrow.Author.Needs.{needs}
 use Rattle.monitor_state.specs.Code.{stateOf}
 use Rattle.monitor.proofs.JudgeLaws.{table-refused, state-refused, halted-refused, judged}
-use Rattle.monitor.proofs.LentLaws.{parts-ok, created-bad, highest-bad, order-bad, refused-parts, created-few}
+use Rattle.monitor.proofs.LentLaws.{parts-ok, live-bad, order-bad, refused-parts, live-few, live-highest}
 use Rattle.monitor.proofs.judge_looked.Statement.{statement}
 use Rattle.monitor.proofs.judge_looked.Tie as tie
 
@@ -22,8 +22,8 @@ returns c =
     refused-parts s 41 (c .refused .result) (c .refused .ensures)
     ∙ sym (table-refused (a .looked) (a .edges .now) (a .local) s (a .step) (sym (table .ensures) ∙ not-true (table .result) (c .before .if1 .taken)))
 
-created-ok-requires : tie.Need-created-ok-requires
-created-ok-requires c κs = search needs
+live-ok-requires : tie.Need-live-ok-requires
+live-ok-requires c κs = search needs
 
 refused-requires-2 : tie.Need-refused-requires-2
 refused-requires-2 c κs = search needs
@@ -34,107 +34,83 @@ returns-2 c =
     let s = stateOf (a .sets .now) (a .possible .now) (a .created .now)
     (a .count) (a .highest) (a .unclosed .now) (a .order .now) (a .depth) (a .halted) in
     let table = c .before .before .before .before .before .edge-table-ok in
-    let made = c .before .before .created-ok in
+    let made = c .before .before .live-ok in
     refused-parts s 42 (c .refused2 .result) (c .refused2 .ensures)
     ∙ sym (state-refused (a .looked) (a .edges .now) (a .local) s (a .step)
     (sym (table .ensures) ∙ not-false (table .result) (c .before .before .before .before .if1 .left))
-    (created-bad s (sym (made .ensures .0) ∙ not-true (made .result) (c .before .if2 .taken))))
+    (live-bad s (sym (made .ensures .0) ∙ not-true (made .result) (c .before .if2 .taken))))
 
-highest-ok-requires : tie.Need-highest-ok-requires
-highest-ok-requires c κs = search needs
+order-ok-requires : tie.Need-order-ok-requires
+order-ok-requires c κs = search needs
 
 refused-requires-3 : tie.Need-refused-requires-3
 refused-requires-3 c κs = search needs
 
 returns-3 : tie.Need-returns-3
 returns-3 c =
-    let a = c .before .before .before .before .before .before .before .before .before .before .args in
+    let a = c .before .before .before .before .before .before .before .before .before .before .before .args in
     let s = stateOf (a .sets .now) (a .possible .now) (a .created .now)
     (a .count) (a .highest) (a .unclosed .now) (a .order .now) (a .depth) (a .halted) in
-    let table = c .before .before .before .before .before .before .before .before .edge-table-ok in
-    let made = c .before .before .before .before .before .created-ok in
-    let top = c .before .before .highest-ok in
+    let table = c .before .before .before .before .before .before .before .before .before .edge-table-ok in
+    let made = c .before .before .before .before .before .before .live-ok in
+    let order = c .before .before .order-ok in
     refused-parts s 42 (c .refused3 .result) (c .refused3 .ensures)
     ∙ sym (state-refused (a .looked) (a .edges .now) (a .local) s (a .step)
-    (sym (table .ensures) ∙ not-false (table .result) (c .before .before .before .before .before .before .before .if1 .left))
-    (highest-bad s (sym (made .ensures .0) ∙ not-false (made .result) (c .before .before .before .before .if2 .left))
-    (sym (top .ensures) ∙ not-true (top .result) (c .before .if3 .taken))))
-
-order-ok-requires : tie.Need-order-ok-requires
-order-ok-requires c κs = search needs
+    (sym (table .ensures) ∙ not-false (table .result) (c .before .before .before .before .before .before .before .before .if1 .left))
+    (order-bad s (sym (made .ensures .0) ∙ not-false (made .result) (c .before .before .before .before .before .if2 .left))
+    (sym (order .ensures .0) ∙ not-true (order .result) (c .before .if3 .taken))))
 
 refused-requires-4 : tie.Need-refused-requires-4
 refused-requires-4 c κs = search needs
 
 returns-4 : tie.Need-returns-4
 returns-4 c =
-    let a = c .before .before .before .before .before .before .before .before .before .before .before .before .before .before .args in
+    let a = c .before .before .before .before .before .before .before .before .before .before .before .before .args in
     let s = stateOf (a .sets .now) (a .possible .now) (a .created .now)
     (a .count) (a .highest) (a .unclosed .now) (a .order .now) (a .depth) (a .halted) in
-    let table = c .before .before .before .before .before .before .before .before .before .before .before .before .edge-table-ok in
-    let made = c .before .before .before .before .before .before .before .before .before .created-ok in
-    let top = c .before .before .before .before .before .before .highest-ok in
-    let order = c .before .before .order-ok in
-    refused-parts s 42 (c .refused4 .result) (c .refused4 .ensures)
-    ∙ sym (state-refused (a .looked) (a .edges .now) (a .local) s (a .step)
-    (sym (table .ensures) ∙ not-false (table .result) (c .before .before .before .before .before .before .before .before .before .before .before .if1 .left))
-    (order-bad s (sym (made .ensures .0) ∙ not-false (made .result) (c .before .before .before .before .before .before .before .before .if2 .left))
-    (sym (top .ensures) ∙ not-false (top .result) (c .before .before .before .before .before .if3 .left))
-    (sym (order .ensures .0) ∙ not-true (order .result) (c .before .if4 .taken))))
-
-refused-requires-5 : tie.Need-refused-requires-5
-refused-requires-5 c κs = search needs
-
-returns-5 : tie.Need-returns-5
-returns-5 c =
-    let a = c .before .before .before .before .before .before .before .before .before .before .before .before .before .before .before .args in
-    let s = stateOf (a .sets .now) (a .possible .now) (a .created .now)
-    (a .count) (a .highest) (a .unclosed .now) (a .order .now) (a .depth) (a .halted) in
-    let table = c .before .before .before .before .before .before .before .before .before .before .before .before .before .edge-table-ok in
-    let made = c .before .before .before .before .before .before .before .before .before .before .created-ok in
-    let top = c .before .before .before .before .before .before .before .highest-ok in
+    let table = c .before .before .before .before .before .before .before .before .before .before .edge-table-ok in
+    let made = c .before .before .before .before .before .before .before .live-ok in
     let order = c .before .before .before .order-ok in
-    refused-parts s 20 (c .refused5 .result) (c .refused5 .ensures)
+    refused-parts s 20 (c .refused4 .result) (c .refused4 .ensures)
     ∙ sym (halted-refused (a .looked) (a .edges .now) (a .local) s (a .step)
-    (sym (table .ensures) ∙ not-false (table .result) (c .before .before .before .before .before .before .before .before .before .before .before .before .if1 .left))
-    (parts-ok s (sym (made .ensures .0) ∙ not-false (made .result) (c .before .before .before .before .before .before .before .before .before .if2 .left))
-    (sym (top .ensures) ∙ not-false (top .result) (c .before .before .before .before .before .before .if3 .left))
-    (sym (order .ensures .0) ∙ not-false (order .result) (c .before .before .if4 .left)))
-    (c .before .if5 .taken))
+    (sym (table .ensures) ∙ not-false (table .result) (c .before .before .before .before .before .before .before .before .before .if1 .left))
+    (parts-ok s (sym (made .ensures .0) ∙ not-false (made .result) (c .before .before .before .before .before .before .if2 .left))
+    (sym (order .ensures .0) ∙ not-false (order .result) (c .before .before .if3 .left)))
+    (c .before .if4 .taken))
 
 judge-read-requires : tie.Need-judge-read-requires
 judge-read-requires c κs =
-    let a = c .before .before .before .before .before .before .before .before .before .before .before .before .before .before .before .before .before .before .before .args in
-    let made = c .before .before .before .before .before .before .before .before .before .before .before .before .before .before .created-ok in
-    let top = c .before .before .before .before .before .before .before .before .before .before .before .highest-ok in
-    let order = c .before .before .before .before .before .before .before .order-ok in (
+    let a = c .before .before .before .before .before .before .before .before .before .before .before .before .before .before .before .before .args in
+    let made = c .before .before .before .before .before .before .before .before .before .before .before .live-ok in
+    let order = c .before .before .before .before .before .before .before .order-ok in
+    let s = stateOf (a .sets .now) (a .possible .now) (a .created .now)
+    (a .count) (a .highest) (a .unclosed .now) (a .order .now) (a .depth) (a .halted) in
+    let live = sym (made .ensures .0) ∙ not-false (made .result) (c .before .before .before .before .before .before .before .before .before .before .if2 .left) in (
       made .ensures .1,
       (
-        created-few (a .count) (a .created .now) (sym (made .ensures .0) ∙ not-false (made .result) (c .before .before .before .before .before .before .before .before .before .before .before .before .before .if2 .left)),
+        live-few s live,
         (
-          (sym (top .ensures) ∙ not-false (top .result) (c .before .before .before .before .before .before .before .before .before .before .if3 .left)),
-          (order .ensures .1, (sym (order .ensures .0) ∙ not-false (order .result) (c .before .before .before .before .before .before .if4 .left))),
+          live-highest s live,
+          (order .ensures .1, (sym (order .ensures .0) ∙ not-false (order .result) (c .before .before .before .before .before .before .if3 .left))),
         ),
       ),
     )
 
-returns-6 : tie.Need-returns-6
-returns-6 c =
-    let a = c .before .before .before .before .before .before .before .before .before .before .before .before .before .before .before .before .before .before .before .before .args in
+returns-5 : tie.Need-returns-5
+returns-5 c =
+    let a = c .before .before .before .before .before .before .before .before .before .before .before .before .before .before .before .before .before .args in
     let s = stateOf (a .sets .now) (a .possible .now) (a .created .now)
     (a .count) (a .highest) (a .unclosed .now) (a .order .now) (a .depth) (a .halted) in
-    let table = c .before .before .before .before .before .before .before .before .before .before .before .before .before .before .before .before .before .before .edge-table-ok in
-    let made = c .before .before .before .before .before .before .before .before .before .before .before .before .before .before .before .created-ok in
-    let top = c .before .before .before .before .before .before .before .before .before .before .before .before .highest-ok in
+    let table = c .before .before .before .before .before .before .before .before .before .before .before .before .before .before .before .edge-table-ok in
+    let made = c .before .before .before .before .before .before .before .before .before .before .before .before .live-ok in
     let order = c .before .before .before .before .before .before .before .before .order-ok in
-    let h = c .before .before .before .before .before .before .if5 .left in
+    let h = c .before .before .before .before .before .before .if4 .left in
     c .judge-read .ensures
     ∙ rw (← h)
     (sym (judged (a .looked) (a .edges .now) (a .local) s (a .step)
-    (sym (table .ensures) ∙ not-false (table .result) (c .before .before .before .before .before .before .before .before .before .before .before .before .before .before .before .before .before .if1 .left))
-    (parts-ok s (sym (made .ensures .0) ∙ not-false (made .result) (c .before .before .before .before .before .before .before .before .before .before .before .before .before .before .if2 .left))
-    (sym (top .ensures) ∙ not-false (top .result) (c .before .before .before .before .before .before .before .before .before .before .before .if3 .left))
-    (sym (order .ensures .0) ∙ not-false (order .result) (c .before .before .before .before .before .before .before .if4 .left)))
+    (sym (table .ensures) ∙ not-false (table .result) (c .before .before .before .before .before .before .before .before .before .before .before .before .before .before .if1 .left))
+    (parts-ok s (sym (made .ensures .0) ∙ not-false (made .result) (c .before .before .before .before .before .before .before .before .before .before .before .if2 .left))
+    (sym (order .ensures .0) ∙ not-false (order .result) (c .before .before .before .before .before .before .before .if3 .left)))
     h))
 
 pub judge-looked-spec : {M : Type 1} → statement M
@@ -144,16 +120,13 @@ judge-looked-spec =
     edge-table-ok-requires
     refused-requires
     returns
-    created-ok-requires
+    live-ok-requires
     refused-requires-2
     returns-2
-    highest-ok-requires
+    order-ok-requires
     refused-requires-3
     returns-3
-    order-ok-requires
     refused-requires-4
     returns-4
-    refused-requires-5
-    returns-5
     judge-read-requires
-    returns-6)
+    returns-5)
