@@ -14,7 +14,6 @@ use Rattle.usage.proofs.Logic.{clash}
 use Rattle.usage.proofs.JudgeLaws.{Fits}
 use Rattle.sheet_fields.specs.Fields.{stepLine, stepOk}
 use Rattle.sheet_bytes.specs.Class.{classOf}
-use Rattle.sheet_bytes.specs.Code.{valueLimit}
 use Rattle.sheet_bytes.specs.Line.{linesOf}
 use Rattle.sheet_bytes.specs.Grammar.{one-space, Values, last-value, next-value}
 use Rattle.sheet_bytes.proofs.FaultLaws.{decides-values}
@@ -48,7 +47,7 @@ use Rattle.report.proofs.CounterexampleLaws.{rawsOf, Low-step, Low, no-
 abbrev threeBytes : ℕ → ℕ → ℕ → List ℕ
 threeBytes a b c = decimal a ++ (32 ∷ (decimal b ++ (32 ∷ decimal c)))
 
-row-line : (a b c : ℕ) → a < valueLimit → b < valueLimit → c < valueLimit → (bs : List ℕ)
+row-line : (a b c : ℕ) → a < 100000 → b < 100000 → c < 100000 → (bs : List ℕ)
     → linesOf (row a b c ++ bs) ≡ fed (threeBytes a b c) ∷ linesOf bs
 unfolding row three
 row-line a b c ha hb hc bs =
@@ -57,7 +56,7 @@ row-line a b c ha hb hc bs =
     (ap linesOf (append-assoc (field b 32) (field c 10) bs)
     ∙ space-line b hb (field c 10 ++ bs) (decimal c) (linesOf bs) (feed-line c hc bs))
 
-three-values : (a b c : ℕ) → a < valueLimit → b < valueLimit → c < valueLimit → Values (a ∷ b ∷ c ∷ []) (threeBytes a b c)
+three-values : (a b c : ℕ) → a < 100000 → b < 100000 → c < 100000 → Values (a ∷ b ∷ c ∷ []) (threeBytes a b c)
 unfolding classOf
 three-values a b c ha hb hc =
     next-value (decimal-value a ha) (one-space 32 refl)
@@ -70,9 +69,9 @@ abbrev pub stepValues : RawStep → List ℕ
 stepValues s = s .kind ∷ s .a ∷ s .b ∷ []
 
 record Readable (s : RawStep) : Type 0 where
-  kind : s .kind < valueLimit
-  a : s .a < valueLimit
-  b : s .b < valueLimit
+  kind : s .kind < 100000
+  a : s .a < 100000
+  b : s .b < 100000
   ranged : stepLine (stepValues s) ≡ true
 
 step-read : (line left : ℕ) (s : RawStep) (bs : List ℕ) → Readable s
