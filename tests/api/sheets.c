@@ -1,5 +1,5 @@
-/* A policy sheet written again: the lent sheet lies between two pages that can't be touched, at its end or at its beginning; what comes after
- * the text, and what is refused, keeps its marks. */
+/* A policy sheet written again: the lent sheet lies between two pages that can't be touched, at its end or at its beginning; what comes
+ * after the text, and what is refused, keeps its marks. */
 #include "lend.h"
 
 #define ROOM WIFOREKUN_SHEET_ROOM

@@ -27,7 +27,8 @@ module _ (out : List ℕ) (room : policiesRoom ≤ length out) where
   unfolding lengthPut put
   all-put output = (rw (le-ltb (length out) policiesRoom room), rw (le-ltb (length out) policiesRoom room))
 
-  sheet-put : (w : Rewriting) (n : ℕ) → has-length n ≡ rewritingAnswer w → Printed policiesRoom out (rewritingPrinted w) n (rewrittenIn w out)
+  sheet-put : (w : Rewriting) (n : ℕ) → has-length n ≡ rewritingAnswer w
+      → Printed policiesRoom out (rewritingPrinted w) n (rewrittenIn w out)
   unfolding rewritingAnswer rewrittenIn rewritingPrinted
   sheet-put (is-written t) n e = let q : n ≡ length t = cc in rw q (all-put t)
   sheet-put (not-written r) n e = clash (cc)
@@ -66,5 +67,6 @@ module _ (out : List ℕ) (room : policiesRoom ≤ length out) where
         let told = e ∙ ap rewritingAnswer w in
         let same : length kept ≡ length out =
         ap length (k ∙ ap (λ (v : Rewriting). rewrittenIn v out) w ∙ refusal-put (writtenAgain text) line number told .1) in
-        let short = policies-short text line number (one-way .refuses text record { line = line; number = number } .0 (refusal-is (writtenAgain text) line number told)) in
+        let again = refusal-is (writtenAgain text) line number told in
+        let short = policies-short text line number (one-way .refuses text record { line = line; number = number } .0 again) in
         omega arith

@@ -1,4 +1,5 @@
-//! Policy sheets that are written again: edges in any order, some of them twice, with more spaces and zeros than are needed; and refused ones.
+//! Policy sheets that are written again: edges in any order, some of them twice, with more spaces and zeros than are needed; and refused
+//! ones.
 
 use super::malformed;
 use crate::damage::{crowded, damaged, edit_line, random_damage, respaced, rows, sheet, Text};
