@@ -68,11 +68,11 @@ int main(void) {
     for (local = WIFOREKUN_WHOLE; local <= WIFOREKUN_LOCAL; local++) {
         size_t bytes = taken(WIFOREKUN_COUNTEREXAMPLE_STACK);
         if (code != 200 * 65536 + 256) {
-            fprintf(stderr, "tests/api/stack: the code is %u\n", code);
+            fprintf(stderr, "tests/api/deepest: the code is %u\n", code);
             return 1;
         }
         if (bytes > most) most = bytes;
     }
-    printf("tests/api/stack: a counterexample of 200 steps took %zu of %d bytes\n", most, WIFOREKUN_COUNTEREXAMPLE_STACK);
+    printf("tests/api/deepest: a counterexample of 200 steps took %zu of %d bytes\n", most, WIFOREKUN_COUNTEREXAMPLE_STACK);
     return 0;
 }
