@@ -1,16 +1,18 @@
-/* One step of the judge in C, by the method of src/monitor.rs: what a plain program of another language takes. Lent what judge_parts is lent. */
+/* One step of the judge in C, by the method of src/monitor.rs: what a plain program of another language takes. Lent what
+ * wiforekun_judge_parts is lent. */
 #include <stdbool.h>
 #include <stddef.h>
 #include <stdint.h>
 #include <string.h>
 
-enum { POLICIES = 8, INSTANCES = 81, NEVER = 16, MOST_CREATED = 64, MOST_UNCLOSED = 64, EDGE = 6, BLOCK = 48 };
+enum { POLICIES = 8, INSTANCES = 82, NEVER = 16, RETIRED = 17, FIRST_LIVE = 18, MOST_CREATED = 64, MOST_UNCLOSED = 64, EDGE = 6, BLOCK = 48 };
 
 struct state {
     uint8_t *sets, *possible;
     uint32_t *created;
     uint8_t *unclosed, *order;
     size_t count, depth;
+    uint32_t highest;
     bool halted;
 };
 
@@ -68,11 +70,13 @@ static bool distinct(const uint32_t *numbers, size_t count) {
     return true;
 }
 
-static bool created_ok(const uint32_t *created, size_t count) {
+static bool in_range(uint32_t number, uint32_t highest) { return number >= 16 && number < 65536 && number <= highest; }
+
+static bool created_ok(const uint32_t *created, size_t count, uint32_t highest) {
     if (count > MOST_CREATED) return false;
-    if (rising(created, count)) return count == 0 || (created[0] >= 16 && created[count - 1] < 65536);
+    if (rising(created, count)) return count == 0 || (created[0] >= 16 && in_range(created[count - 1], highest));
     for (size_t i = 0; i < count; i++)
-        if (created[i] < 16 || created[i] >= 65536) return false;
+        if (!in_range(created[i], highest)) return false;
     return distinct(created, count);
 }
 
@@ -89,7 +93,7 @@ static bool order_ok(const struct state *s) {
 static size_t place(const struct state *s, uint32_t resource) {
     if (resource < 16) return resource;
     for (size_t i = 0; i < s->count; i++)
-        if (s->created[i] == resource) return 17 + i;
+        if (s->created[i] == resource) return FIRST_LIVE + i;
     return NEVER;
 }
 
@@ -152,10 +156,10 @@ static uint8_t move_policy(uint8_t *restrict sets, size_t used, size_t at, const
 }
 
 static uint32_t event(struct state *s, const uint8_t *edges, size_t length, uint32_t action, uint32_t resource) {
-    size_t at = place(s, resource), used = 17 + s->count;
+    size_t at = place(s, resource), used = FIRST_LIVE + s->count;
     if (action == 0) {
         if (resource < 16) return refused(22);
-        if (at != NEVER) return refused(23);
+        if (resource <= s->highest) return refused(27);
         if (s->count >= MOST_CREATED) return refused(30);
         at = used++;
     } else if (at == NEVER) {
@@ -174,7 +178,7 @@ static uint32_t event(struct state *s, const uint8_t *edges, size_t length, uint
         return violated(bad);
     }
     memcpy(s->possible, possible, sizeof possible);
-    if (action == 0) s->created[s->count++] = resource;
+    if (action == 0) s->created[s->count++] = s->highest = resource;
     return 0;
 }
 
@@ -193,7 +197,7 @@ static uint32_t opening(struct state *s, bool local, uint8_t policy) {
     }
     if (reset) {
         s->possible[policy] = 1;
-        memset(s->sets + INSTANCES * policy, 1, 17 + s->count);
+        memset(s->sets + INSTANCES * policy, 1, FIRST_LIVE + s->count);
     }
     s->order[s->depth++] = policy;
     return 0;
@@ -213,20 +217,40 @@ static uint32_t closing(struct state *s, uint8_t policy) {
     return 0;
 }
 
+static uint32_t retiring(struct state *s, uint32_t resource) {
+    size_t at = place(s, resource), used = FIRST_LIVE + s->count;
+    if (at < FIRST_LIVE) return refused(28);
+    unsigned bad = broken(s, s->possible);
+    if (bad < POLICIES) {
+        s->halted = true;
+        return violated(bad);
+    }
+    for (int p = 0; p < POLICIES; p++) {
+        uint8_t *sets = s->sets + INSTANCES * p;
+        sets[RETIRED] |= sets[at];
+        memmove(sets + at, sets + at + 1, used - at - 1);
+    }
+    memmove(s->created + (at - FIRST_LIVE), s->created + (at - FIRST_LIVE) + 1, (used - at - 1) * sizeof *s->created);
+    s->count--;
+    return 0;
+}
+
 uint32_t c_judge(const uint8_t *edges, size_t edges_length, uint32_t local, uint8_t *sets, uint8_t *possible, uint32_t *created, uint8_t *unclosed,
                  uint8_t *order, uint64_t *numbers, uint32_t kind, uint32_t a, uint32_t b) {
-    struct state s = {sets, possible, created, unclosed, order, numbers[0], numbers[2], numbers[1] == 1};
+    struct state s = {sets, possible, created, unclosed, order, numbers[0], numbers[2], (uint32_t)numbers[3], numbers[1] == 1};
     if (local > 1 || !edges_ok(edges, edges_length)) return refused(41);
-    if (numbers[1] > 1 || !created_ok(created, s.count) || !order_ok(&s)) return refused(42);
+    if (numbers[1] > 1 || numbers[3] > UINT32_MAX || !created_ok(created, s.count, s.highest) || !order_ok(&s)) return refused(42);
     if (s.halted) return refused(20);
     uint32_t code = refused(21);
     if (kind == 0 && a < 32 && b < 65536) code = event(&s, edges, edges_length, a, b);
     else if (kind == 1 && a < POLICIES && b == 0) code = opening(&s, local == 1, (uint8_t)a);
     else if (kind == 2 && a < POLICIES && b == 0) code = closing(&s, (uint8_t)a);
+    else if (kind == 3 && a < 65536 && b == 0) code = retiring(&s, a);
     if (code < 512) {
         numbers[0] = s.count;
         numbers[1] = s.halted;
         numbers[2] = s.depth;
+        numbers[3] = s.highest;
     }
     return code;
 }

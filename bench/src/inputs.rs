@@ -48,6 +48,15 @@ pub fn deep_steps(openings: u32, created: u32) -> Vec<Step> {
     opened.chain((0..created).map(|n| [0, 0, 1000 + 7 * n])).collect()
 }
 
+/// All policies opened, as many resources created and retired, and as many created.
+pub fn renewing_steps(created: u32) -> Vec<Step> {
+    let steps = opening_steps(created);
+    let (opened, creates) = steps.split_at(8);
+    let earlier = (0..created).map(|n| [0, 0, 100 + n]);
+    let retired = (0..created).map(|n| [3, 100 + n, 0]);
+    opened.iter().copied().chain(earlier).chain(retired).chain(creates.iter().copied()).collect()
+}
+
 /// Events on statics and created resources; one step in ten opens or closes a policy.
 pub fn steps(rng: &mut Rng, count: usize, created: u32, actions: u64) -> Vec<Step> {
     let mut steps = Vec::new();
@@ -80,14 +89,24 @@ pub fn sandboxes(count: usize) -> Vec<Step> {
     (0..count as u32).map(|n| [1 + n % 2, n / 2 % 8, 0]).collect()
 }
 
-/// Steps of all sorts, many of them refused.
+/// Steps of all sorts, many of them refused; the numbers that are created rise, most of them.
 pub fn wild_steps(rng: &mut Rng, count: usize) -> Vec<Step> {
-    let step = |rng: &mut Rng| match rng.below(20) {
-        0..=12 => [0, rng.below(6) as u32, 12 + rng.below(12) as u32],
-        13..=15 => [1, rng.below(9) as u32, 0],
-        16..=17 => [2, rng.below(8) as u32, 0],
-        18 => [0, 0, 16 + rng.below(200) as u32],
-        _ => [rng.below(4) as u32, rng.below(34) as u32, rng.below(66_000) as u32],
+    let mut newest = 15;
+    let mut step = |rng: &mut Rng| {
+        let known = 12 + rng.below(u64::from(newest) - 10) as u32;
+        match rng.below(26) {
+            0..=8 => [0, rng.below(6) as u32, 12 + rng.below(12) as u32],
+            9..=12 => [0, 1 + rng.below(5) as u32, known],
+            13..=15 => [1, rng.below(9) as u32, 0],
+            16..=17 => [2, rng.below(8) as u32, 0],
+            18 => [0, 0, 16 + rng.below(200) as u32],
+            19..=21 => [3, known, 0],
+            22..=24 => {
+                newest += 1 + rng.below(3) as u32;
+                [0, 0, newest]
+            }
+            _ => [rng.below(5) as u32, rng.below(34) as u32, rng.below(66_000) as u32],
+        }
     };
     (0..count).map(|_| step(rng)).collect()
 }

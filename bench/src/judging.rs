@@ -10,16 +10,15 @@ use wiforekun::State as Parts;
 
 /// The state as the proved code is lent it.
 fn parts_of(state: &State) -> Parts {
-    let State { sets, possible, created, count, unclosed, order, depth, halted } = state.clone();
-    Parts { sets, possible, created, unclosed, order, numbers: [count as u64, halted.into(), depth as u64] }
+    let State { sets, possible, created, count, highest, unclosed, order, depth, halted } = state.clone();
+    Parts { sets, possible, created, unclosed, order, numbers: [count as u64, halted.into(), depth as u64, highest.into()] }
 }
 
 fn plain_judge(state: &mut State, edges: &[u8], local: u32, [kind, a, b]: Step) -> u32 {
     monitor::judge(edges, local, state, kind, a, b).code()
 }
 
-fn verify_judge(edges: &[u8], local: u32, steps: &[Step]) {
-    let mut state = monitor::START;
+fn verify_judge(edges: &[u8], local: u32, mut state: State, steps: &[Step]) {
     let mut parts = parts_of(&state);
     let mut in_c = parts.clone();
     for step in steps {
@@ -35,9 +34,9 @@ fn verify_judge(edges: &[u8], local: u32, steps: &[Step]) {
 pub fn verify(rng: &mut Rng) -> usize {
     let mut judged = 0;
     for case in cases() {
-        let steps = [case.before.clone(), case.steps.clone()].concat();
-        verify_judge(&case.edges, case.local, &steps);
-        judged += steps.len();
+        verify_judge(&case.edges, case.local, monitor::START, &case.before);
+        verify_judge(&case.edges, case.local, case.led_to(), &case.steps);
+        judged += case.before.len() + case.steps.len();
     }
     for _ in 0..300 {
         let count = rng.below(40) as usize;
@@ -47,15 +46,16 @@ pub fn verify(rng: &mut Rng) -> usize {
         }
         let steps = inputs::wild_steps(rng, 100);
         for local in [0, 1] {
-            verify_judge(&edges, local, &steps);
+            verify_judge(&edges, local, monitor::START, &steps);
             judged += steps.len();
         }
-        verify_judge(&edges, 2, &steps[..1]);
+        verify_judge(&edges, 2, monitor::START, &steps[..1]);
     }
     judged
 }
 
-/// Steps that are judged one after the other, from a state that others led to; each is answered with the code `due`.
+/// Steps that are judged one after the other, or each by itself, from a state that others led to, perhaps with its live numbers in no order;
+/// each is answered with the code `due`.
 #[derive(Clone)]
 struct Case {
     name: String,
@@ -63,13 +63,15 @@ struct Case {
     local: u32,
     before: Vec<Step>,
     steps: Vec<Step>,
+    by_itself: bool,
+    in_no_order: bool,
     due: u32,
 }
 
 impl Case {
     /// Steps that are all allowed.
     fn new(name: impl Into<String>, edges: Vec<u8>, before: Vec<Step>, steps: Vec<Step>) -> Case {
-        Case { name: name.into(), edges, local: 0, before, steps, due: 0 }
+        Case { name: name.into(), edges, local: 0, before, steps, by_itself: false, in_no_order: false, due: 0 }
     }
 
     /// The same under policies that see only their sandbox.
@@ -79,13 +81,46 @@ impl Case {
 
     /// The same state, and a step that is none: the tests of 41 and 42, and then 21.
     fn tests_alone(&self, name: String) -> Case {
-        let steps = vec![[3, 0, 0]; self.steps.len()];
+        let steps = vec![[4, 0, 0]; self.steps.len()];
         Case { name, steps, due: 512 + 21, ..self.clone() }
+    }
+
+    fn led_to(&self) -> State {
+        let mut state = monitor::START;
+        for step in &self.before {
+            assert_eq!(plain_judge(&mut state, &self.edges, self.local, *step), 0);
+        }
+        if self.in_no_order {
+            let count = state.count;
+            (1..count).rev().for_each(|i| state.created.swap(i, i * 37 % 64 % (i + 1)));
+        }
+        state
     }
 }
 
 fn cases() -> Vec<Case> {
-    [step_cases(), sandbox_cases(), local_cases()].concat()
+    [step_cases(), sandbox_cases(), local_cases(), retiring_cases()].concat()
+}
+
+/// Steps after as many were retired as are live, and retirings: one after the other, the oldest first or the newest, and of each place
+/// while 64 are live.
+fn retiring_cases() -> Vec<Case> {
+    let mut cases = Vec::new();
+    for edges in [64, 256] {
+        let mut rng = Rng::new(1);
+        let table = inputs::quiet_edges(&mut rng, edges, 8);
+        let steps = inputs::steps(&mut rng, 500, 64, 8);
+        cases.push(Case::new(format!("step: {edges} edges, 64 live, 64 retired"), table, inputs::renewing_steps(64), steps));
+    }
+    let edges = inputs::quiet_edges(&mut Rng::new(6), 64, 8);
+    let before = inputs::opening_steps(64);
+    let retirings: Vec<Step> = before[8..].iter().map(|create| [3, create[2], 0]).collect();
+    let newest: Vec<Step> = retirings.iter().rev().copied().collect();
+    let case = |name: &str, steps: &[Step]| Case::new(name, edges.clone(), before.clone(), steps.to_vec());
+    cases.push(Case { by_itself: true, ..case("retiring: 64 edges, 64 live", &retirings) });
+    cases.push(case("retiring: 64 edges, 64 to 1 live, the oldest", &retirings));
+    cases.push(case("retiring: 64 edges, 64 to 1 live, the newest", &newest));
+    cases
 }
 
 /// Policies that see only their sandbox. Of all steps one opening in two is that of a policy that is not open; of the openings alone each one
@@ -122,14 +157,12 @@ fn step_cases() -> Vec<Case> {
             cases.push(Case::new(name, table, inputs::opening_steps(created), steps));
         }
     }
-    // the same resources, created in no order
+    // the same resources, in no order: a state that no steps lead to
     let mut rng = Rng::new(1);
-    let mut before = inputs::opening_steps(64);
-    let created = &mut before[8..];
-    (1..created.len()).rev().for_each(|i| created.swap(i, i * 37 % 64 % (i + 1)));
     let edges = inputs::quiet_edges(&mut rng, 256, 8);
     let steps = inputs::steps(&mut rng, 500, 64, 8);
-    cases.push(Case::new("step: 256 edges, 64 created in no order", edges, before, steps));
+    let case = Case::new("step: 256 edges, 64 created in no order", edges, inputs::opening_steps(64), steps);
+    cases.push(Case { in_no_order: true, ..case });
     let mut rng = Rng::new(2);
     let mut edges = inputs::quiet_edges(&mut rng, 256, 2);
     edges.chunks_exact_mut(6).for_each(|edge| edge[2] = 1);
@@ -169,31 +202,62 @@ fn sandbox_cases() -> Vec<Case> {
 
 /// Each case once for callgrind: the proved code, the plain one, and that in C.
 pub fn rows(chosen: impl Fn(&str) -> bool) {
-    for Case { name, edges, local, before, steps, due } in cases().into_iter().filter(|case| chosen(&case.name)) {
-        let mut state = monitor::START;
-        for step in before {
-            assert_eq!(plain_judge(&mut state, &edges, local, step), 0);
+    for case in cases().into_iter().filter(|case| chosen(&case.name)) {
+        let state = case.led_to();
+        if case.by_itself {
+            each_by_itself(&case, state);
+        } else {
+            one_after_the_other(&case, state);
         }
-        let mut parts = parts_of(&state);
-        let mut in_c = parts.clone();
-        let mut other = 0;
-        measured(&mut || {
-            for step in &steps {
-                other |= black_box(parts.judge_code(black_box(&edges), local, *step)) ^ due;
-            }
-        });
-        measured(&mut || {
-            for step in &steps {
-                other |= black_box(plain_judge(&mut state, black_box(&edges), local, *step)) ^ due;
-            }
-        });
-        measured(&mut || {
-            for step in &steps {
-                other |= black_box(c_step::judge(black_box(&edges), local, &mut in_c, *step)) ^ due;
-            }
-        });
-        assert_eq!(other, 0, "every step of {name} is answered alike");
-        assert!(parts == parts_of(&state) && parts == in_c);
-        println!("{}\t3\t{name}", steps.len());
+        println!("{}\t3\t{}", case.steps.len(), case.name);
     }
+}
+
+fn one_after_the_other(case: &Case, mut state: State) {
+    let Case { name, edges, local, steps, due, .. } = case;
+    let mut parts = parts_of(&state);
+    let mut in_c = parts.clone();
+    let mut other = 0;
+    measured(&mut || {
+        for step in steps {
+            other |= black_box(parts.judge_code(black_box(edges), *local, *step)) ^ due;
+        }
+    });
+    measured(&mut || {
+        for step in steps {
+            other |= black_box(plain_judge(&mut state, black_box(edges), *local, *step)) ^ due;
+        }
+    });
+    measured(&mut || {
+        for step in steps {
+            other |= black_box(c_step::judge(black_box(edges), *local, &mut in_c, *step)) ^ due;
+        }
+    });
+    assert_eq!(other, 0, "every step of {name} is answered alike");
+    assert!(parts == parts_of(&state) && parts == in_c);
+}
+
+fn each_by_itself(case: &Case, state: State) {
+    let Case { name, edges, local, steps, due, .. } = case;
+    let mut parts = vec![parts_of(&state); steps.len()];
+    let mut in_c = parts.clone();
+    let mut states = vec![state; steps.len()];
+    let mut other = 0;
+    measured(&mut || {
+        for (parts, step) in parts.iter_mut().zip(steps) {
+            other |= black_box(parts.judge_code(black_box(edges), *local, *step)) ^ due;
+        }
+    });
+    measured(&mut || {
+        for (state, step) in states.iter_mut().zip(steps) {
+            other |= black_box(plain_judge(state, black_box(edges), *local, *step)) ^ due;
+        }
+    });
+    measured(&mut || {
+        for (in_c, step) in in_c.iter_mut().zip(steps) {
+            other |= black_box(c_step::judge(black_box(edges), *local, in_c, *step)) ^ due;
+        }
+    });
+    assert_eq!(other, 0, "every step of {name} is answered alike");
+    assert!(states.iter().map(parts_of).eq(parts.iter().cloned()) && parts == in_c);
 }

@@ -2,16 +2,20 @@
 
 use crate::automaton::{edge_table_ok, image, rows};
 
-const INSTANCES: usize = 81;
+const INSTANCES: usize = 82;
 const NEVER_OCCURRED: usize = 16;
+const RETIRED: usize = 17;
+const FIRST_LIVE: usize = 18;
 
 #[derive(Clone, PartialEq, Eq)]
 pub struct State {
-    pub sets: [u8; 648],
+    pub sets: [u8; 656],
     /// For each policy what any of its instances may be in.
     pub possible: [u8; 8],
     pub created: [u32; 64],
     pub count: usize,
+    /// The highest number that was created, live or retired.
+    pub highest: u32,
     pub unclosed: [u8; 8],
     /// The policies of the unclosed openings, the oldest first, and how many there are.
     pub order: [u8; 64],
@@ -35,8 +39,17 @@ impl Answer {
     }
 }
 
-pub const START: State =
-    State { sets: [1; 648], possible: [1; 8], created: [0; 64], count: 0, unclosed: [0; 8], order: [0; 64], depth: 0, halted: false };
+pub const START: State = State {
+    sets: [1; 656],
+    possible: [1; 8],
+    created: [0; 64],
+    count: 0,
+    highest: 0,
+    unclosed: [0; 8],
+    order: [0; 64],
+    depth: 0,
+    halted: false,
+};
 
 impl State {
     fn ok(&self) -> bool {
@@ -63,11 +76,12 @@ impl State {
             return false;
         }
         let created = &self.created[..self.count];
-        let [first, .., last] = created else { return created.iter().all(|x| (16..65536).contains(x)) };
+        let in_range = |x: &u32| (16..65536).contains(x) && *x <= self.highest;
+        let [first, .., last] = created else { return created.iter().all(in_range) };
         if rising(created) {
-            return *first >= 16 && *last < 65536;
+            return *first >= 16 && in_range(last);
         }
-        created.iter().all(|x| (16..65536).contains(x)) && distinct(created)
+        created.iter().all(in_range) && distinct(created)
     }
 
     /// The place of a resource's instance; 16 where it never occurred.
@@ -76,7 +90,7 @@ impl State {
             return resource as usize;
         }
         let created = self.created[..self.count].iter().position(|x| *x == resource);
-        created.map_or(NEVER_OCCURRED, |at| 17 + at)
+        created.map_or(NEVER_OCCURRED, |at| FIRST_LIVE + at)
     }
 
     /// The lowest policy that is open and not respected, where each may be in these states.
@@ -97,8 +111,8 @@ impl State {
             if resource < 16 {
                 return Answer::Refused(22);
             }
-            if at != NEVER_OCCURRED {
-                return Answer::Refused(23);
+            if resource <= self.highest {
+                return Answer::Refused(27);
             }
             if before >= 64 {
                 return Answer::Refused(30);
@@ -109,7 +123,7 @@ impl State {
         // to be put back where the event is a violation
         let sets_before = self.sets;
         if action == 0 {
-            at = 17 + before;
+            at = FIRST_LIVE + before;
             self.count += 1;
             for sets in self.sets.chunks_exact_mut(INSTANCES) {
                 sets[at] = sets[NEVER_OCCURRED];
@@ -119,7 +133,7 @@ impl State {
         let mut possible = [0; 8];
         let policies = self.sets.chunks_exact_mut(INSTANCES).zip(own.chunks_exact(8)).zip(other.chunks_exact(8));
         for (((sets, own), other), possible) in policies.zip(&mut possible) {
-            *possible = move_policy(&mut sets[..17 + self.count], at, own.try_into().unwrap(), other.try_into().unwrap());
+            *possible = move_policy(&mut sets[..FIRST_LIVE + self.count], at, own.try_into().unwrap(), other.try_into().unwrap());
         }
         if let Some(policy) = self.broken(&possible) {
             self.sets = sets_before;
@@ -130,6 +144,7 @@ impl State {
         self.possible = possible;
         if action == 0 {
             self.created[before] = resource;
+            self.highest = resource;
         }
         Answer::Allowed
     }
@@ -153,7 +168,7 @@ impl State {
         if reset {
             // only now: nothing is to be put back
             self.possible = possible;
-            self.sets[INSTANCES * at..][..17 + self.count].fill(1);
+            self.sets[INSTANCES * at..][..FIRST_LIVE + self.count].fill(1);
         }
         self.order[self.depth] = policy;
         self.depth += 1;
@@ -175,6 +190,24 @@ impl State {
             return Answer::Violated(broken);
         }
         self.depth -= 1;
+        Answer::Allowed
+    }
+
+    fn retiring(&mut self, resource: u32) -> Answer {
+        let at = self.place(resource);
+        if at < FIRST_LIVE {
+            return Answer::Refused(28);
+        }
+        if let Some(broken) = self.broken(&self.possible) {
+            self.halted = true;
+            return Answer::Violated(broken);
+        }
+        for sets in self.sets.chunks_exact_mut(INSTANCES) {
+            sets[RETIRED] |= sets[at];
+            sets.copy_within(at + 1..FIRST_LIVE + self.count, at);
+        }
+        self.created.copy_within(at - FIRST_LIVE + 1..self.count, at - FIRST_LIVE);
+        self.count -= 1;
         Answer::Allowed
     }
 }
@@ -233,6 +266,7 @@ pub fn judge(edges: &[u8], local: u32, state: &mut State, kind: u32, a: u32, b: 
         (0, 0..=31, 0..=65535) => state.event(edges, a, b),
         (1, 0..=7, 0) => state.opening(local == 1, a as u8),
         (2, 0..=7, 0) => state.closing(a as u8),
+        (3, 0..=65535, 0) => state.retiring(a),
         _ => Answer::Refused(21),
     }
 }

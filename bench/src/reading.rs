@@ -34,6 +34,7 @@ fn step_fits(row: &[u32]) -> bool {
     match row[0] {
         0 => row[1] < 32 && row[2] < 65_536,
         1 | 2 => row[1] < 8 && row[2] == 0,
+        3 => row[1] < 65_536 && row[2] == 0,
         _ => false,
     }
 }
