@@ -64,7 +64,7 @@ struct parts {
     struct lent sets, possible, created, unclosed, order, numbers;
 };
 
-static struct parts lend_state(const struct wiforekun_state *state, enum place place) {
+static inline struct parts lend_state(const struct wiforekun_state *state, enum place place) {
     struct parts parts = {
         lend(state->sets, sizeof state->sets, WIFOREKUN_SETS_ALIGN, place),
         lend(state->possible, sizeof state->possible, WIFOREKUN_POSSIBLE_ALIGN, place),
@@ -76,7 +76,7 @@ static struct parts lend_state(const struct wiforekun_state *state, enum place p
     return parts;
 }
 
-static int same(const struct parts *parts, const struct wiforekun_state *state) {
+static inline int same(const struct parts *parts, const struct wiforekun_state *state) {
     return !memcmp(parts->sets.bytes, state->sets, sizeof state->sets) &&
            !memcmp(parts->possible.bytes, state->possible, sizeof state->possible) &&
            !memcmp(parts->created.bytes, state->created, sizeof state->created) &&
@@ -85,13 +85,13 @@ static int same(const struct parts *parts, const struct wiforekun_state *state) 
            !memcmp(parts->numbers.bytes, state->numbers, sizeof state->numbers);
 }
 
-static uint32_t judge_under(const struct parts *parts, struct lent edges, uint32_t local, const uint32_t step[3]) {
+static inline uint32_t judge_under(const struct parts *parts, struct lent edges, uint32_t local, const uint32_t step[3]) {
     return wiforekun_judge_parts(edges.bytes, edges.size, local, parts->sets.bytes, parts->possible.bytes,
                                  (uint32_t *)parts->created.bytes, parts->unclosed.bytes, parts->order.bytes,
                                  (uint64_t *)parts->numbers.bytes, step[0], step[1], step[2]);
 }
 
-static void give_state_back(const struct parts *parts) {
+static inline void give_state_back(const struct parts *parts) {
     give_back(parts->sets);
     give_back(parts->possible);
     give_back(parts->created);
