@@ -131,7 +131,8 @@ class Reader:
     def bracket(self, depth, closing):
         """What stands in a bracket that opens here."""
         if depth == MOST_NESTED:
-            raise Refused(DEEP, 1, f"this bracket is the {depth + 1}rd around; they nest at most {MOST_NESTED} deep", (self.at, self.at + 1))
+            what = f"this bracket is the {depth + 1}rd around; they nest at most {MOST_NESTED} deep"
+            raise Refused(DEEP, 1, what, (self.at, self.at + 1))
         self.at += 1
         tree = self.choice(depth + 1, f"`{closing}`")
         if self.here() != closing:

@@ -192,12 +192,13 @@ struct Case {
 fn cases() -> Vec<Case> {
     let line = |text: String| (text + "\n").into_bytes();
     let events: Vec<String> = (0..31).map(|n| format!("{}(s{})", n % 31 + 1, n % 16)).collect();
+    let loops = |depth: usize, inside: &str| "m1{".repeat(depth) + inside + &"}".repeat(depth);
     let rounds = "f0{1(n0).m2{0+2(n0).h2}.3(n0)}";
     vec![
         Case { name: "expression: 32768 bytes, one choice of ends", text: line("0+".repeat(16_383) + "0") },
         Case { name: "expression: 32768 bytes, one sequence of events", text: line("1(s1).".repeat(5_460) + "10(s10)") },
         Case { name: "expression: 63 nodes, a sequence", text: line(format!("p0{{{}.0}}", events.join("."))) },
-        Case { name: "expression: 64 nodes, 31 loops deep, twice", text: line(format!("{0}0{1}.{0}0{1}", "m1{".repeat(31), "}".repeat(31)).replacen("0}", "h1}", 1)) },
+        Case { name: "expression: 64 nodes, loops 31 and 30 deep", text: line(loops(31, "h1") + "." + &loops(30, "0")) },
         Case { name: "expression: 20 nodes, the reference channel", text: line(format!("p0{{p1{{m1{{0+{rounds}.h1}}}}}}")) },
     ]
 }

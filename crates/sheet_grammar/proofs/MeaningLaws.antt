@@ -157,10 +157,12 @@ module _ (ns : List Node) where
   -- from a run with the part of a tree in front, by what its node says
   module _ {root : Tree} {past : Past} {names : Names} {loops : Loops} {around : List LabelledLoop} {k : ℕ} {xs : List Part}
       {ys : List TreePart} (n : Numbers loops around) (s : SameParts xs ys) where
-    then-ends : {t : Tree} → Stands loops k t Form.end → Front root past names around ys t → Follows root (record { past = past; parts = xs })
+    then-ends : {t : Tree} → Stands loops k t Form.end → Front root past names around ys t
+        → Follows root (record { past = past; parts = xs })
     then-ends is-end x = follow (TreeRuns.moved x TreeAdvance.ends) (same s)
 
-    then-static : {t : Tree} {a r : ℕ} → Stands loops k t (Form.on-static a r) → Front root past names around ys t → Follows root (record { past = event a r ∷ past; parts = xs })
+    then-static : {t : Tree} {a r : ℕ} → Stands loops k t (Form.on-static a r) → Front root past names around ys t
+        → Follows root (record { past = event a r ∷ past; parts = xs })
     then-static is-static x = follow (TreeRuns.moved x TreeAdvance.fires-static) (same s)
 
     then-name : {t : Tree} {a m r : ℕ} → Stands loops k t (Form.on-name a m) → Front root past names around ys t → names m ≡ some r
@@ -172,17 +174,21 @@ module _ (ns : List Node) where
     then-both (is-sequence h g) x =
         follow (TreeRuns.moved x TreeAdvance.sequences) (same (part (same-node n h) (part (same-node n g) s)))
 
-    then-left : {t : Tree} {a b : ℕ} → Stands loops k t (Form.choice a b) → Front root past names around ys t → Follows root (record { past = past; parts = node a names ∷ xs })
+    then-left : {t : Tree} {a b : ℕ} → Stands loops k t (Form.choice a b) → Front root past names around ys t
+        → Follows root (record { past = past; parts = node a names ∷ xs })
     then-left (is-choice h g) x = follow (TreeRuns.moved x TreeAdvance.chooses-left) (same (part (same-node n h) s))
 
-    then-right : {t : Tree} {a b : ℕ} → Stands loops k t (Form.choice a b) → Front root past names around ys t → Follows root (record { past = past; parts = node b names ∷ xs })
+    then-right : {t : Tree} {a b : ℕ} → Stands loops k t (Form.choice a b) → Front root past names around ys t
+        → Follows root (record { past = past; parts = node b names ∷ xs })
     then-right (is-choice h g) x = follow (TreeRuns.moved x TreeAdvance.chooses-right) (same (part (same-node n g) s))
 
-    then-body : {t : Tree} {a : ℕ} → At loops k t → Stands loops k t (Form.loop a) → Front root past names around ys t → Follows root (record { past = past; parts = node a names ∷ xs })
+    then-body : {t : Tree} {a : ℕ} → At loops k t → Stands loops k t (Form.loop a) → Front root past names around ys t
+        → Follows root (record { past = past; parts = node a names ∷ xs })
     then-body a (is-loop h) x = follow (TreeRuns.moved x TreeAdvance.enters) (same (part (same-node (one-more n a) h) s))
 
     -- a back whose label means nothing runs itself again, and adds no step
-    then-again : {t : Tree} {a : ℕ} → At loops k t → Stands loops k t (Form.back a) → Front root past names around ys t → Follows root (record { past = past; parts = node a names ∷ xs })
+    then-again : {t : Tree} {a : ℕ} → At loops k t → Stands loops k t (Form.back a) → Front root past names around ys t
+        → Follows root (record { past = past; parts = node a names ∷ xs })
     then-again a (is-back {l} e) x = go (loops l) refl e
       where
         go : {a : ℕ} (o : Option ℕ) → loops l ≡ o → backTo o k ≡ a → Follows root (record { past = past; parts = node a names ∷ xs })
@@ -194,7 +200,8 @@ module _ (ns : List Node) where
             subst (λ (j : ℕ). Follows root (record { past = past; parts = node j names ∷ xs })) e
             (follow (TreeRuns.moved x (TreeAdvance.repeats (y .means))) (same (part (same-node (y .numbers) (y .stands)) s)))
 
-    then-given : {t : Tree} {m b r : ℕ} → Stands loops k t (Form.fresh m b) → Front root past names around ys t → statics ≤ r → (Occurs r past → ⊥)
+    then-given : {t : Tree} {m b r : ℕ} → Stands loops k t (Form.fresh m b) → Front root past names around ys t → statics ≤ r
+        → (Occurs r past → ⊥)
         → Follows root (record { past = event create r ∷ past; parts = node b (give names m r) ∷ xs })
     then-given (is-fresh h) x l o = follow (TreeRuns.moved x (TreeAdvance.creates l o)) (same (part (same-node n h) s))
 
@@ -227,10 +234,12 @@ module _ (ns : List Node) where
     shown-end : {f : Form} → Stands loops k end f → Is ns k f → Shows (record { past = past; parts = ys })
     shown-end is-end i = show (moved x (Advance.ends i)) (same s)
 
-    shown-static : {f : Form} {a r : ℕ} → Stands loops k (on-static a r) f → Is ns k f → Shows (record { past = event a r ∷ past; parts = ys })
+    shown-static : {f : Form} {a r : ℕ} → Stands loops k (on-static a r) f → Is ns k f
+        → Shows (record { past = event a r ∷ past; parts = ys })
     shown-static is-static i = show (moved x (Advance.fires-static i)) (same s)
 
-    shown-name : {f : Form} {a m r : ℕ} → Stands loops k (on-name a m) f → Is ns k f → names m ≡ some r → Shows (record { past = event a r ∷ past; parts = ys })
+    shown-name : {f : Form} {a m r : ℕ} → Stands loops k (on-name a m) f → Is ns k f → names m ≡ some r
+        → Shows (record { past = event a r ∷ past; parts = ys })
     shown-name is-name i e = show (moved x (Advance.fires-name i e)) (same s)
 
     shown-both : {f : Form} {t u : Tree} → Stands loops k (sequence t u) f → Is ns k f
@@ -238,22 +247,26 @@ module _ (ns : List Node) where
     shown-both (is-sequence h g) i =
         show (moved x (Advance.sequences i)) (same (part (same-node n h) (part (same-node n g) s)))
 
-    shown-left : {f : Form} {t u : Tree} → Stands loops k (choice t u) f → Is ns k f → Shows (record { past = past; parts = TreePart.tree t names around ∷ ys })
+    shown-left : {f : Form} {t u : Tree} → Stands loops k (choice t u) f → Is ns k f
+        → Shows (record { past = past; parts = TreePart.tree t names around ∷ ys })
     shown-left (is-choice h g) i = show (moved x (Advance.chooses-left i)) (same (part (same-node n h) s))
 
-    shown-right : {f : Form} {t u : Tree} → Stands loops k (choice t u) f → Is ns k f → Shows (record { past = past; parts = TreePart.tree u names around ∷ ys })
+    shown-right : {f : Form} {t u : Tree} → Stands loops k (choice t u) f → Is ns k f
+        → Shows (record { past = past; parts = TreePart.tree u names around ∷ ys })
     shown-right (is-choice h g) i = show (moved x (Advance.chooses-right i)) (same (part (same-node n g) s))
 
     shown-body : {f : Form} {l : ℕ} {t : Tree} → At loops k (loop l t) → Stands loops k (loop l t) f → Is ns k f
         → Shows (record { past = past; parts = TreePart.tree t names (record { label = l; body = t } ∷ around) ∷ ys })
     shown-body a (is-loop h) i = show (moved x (Advance.enters i)) (same (part (same-node (one-more n a) h) s))
 
-    shown-again : {f : Form} {l : ℕ} {t : Tree} {outer : List LabelledLoop} → Stands loops k (back l) f → Is ns k f → MeansLoop l around t outer
+    shown-again : {f : Form} {l : ℕ} {t : Tree} {outer : List LabelledLoop} → Stands loops k (back l) f → Is ns k f
+        → MeansLoop l around t outer
         → Shows (record { past = past; parts = TreePart.tree (loop l t) names outer ∷ ys })
     shown-again {l = l} {t = t} (is-back e) i m =
         let y = by-label n m in
         let j : y .number ≡ _ = sym (ap (λ (o : Option ℕ). backTo o k) (y .is)) ∙ e in
-        show (moved x (Advance.repeats i)) (same (part (same-node (y .numbers) (subst (λ (c : ℕ). At (y .inner) c (loop l t)) j (y .stands))) s))
+        show (moved x (Advance.repeats i)) (same (part (same-node (y .numbers) (subst (λ (c : ℕ). At (y .inner) c (loop l t)) j
+        (y .stands))) s))
 
     shown-given : {f : Form} {m r : ℕ} {t : Tree} → Stands loops k (fresh m t) f → Is ns k f → statics ≤ r → (Occurs r past → ⊥)
         → Shows (record { past = event create r ∷ past; parts = TreePart.tree t (give names m r) around ∷ ys })

@@ -1,5 +1,5 @@
--- What a tree means by its own runs, with no number and no table. The moves are those of document 01 ("Outlines"), where a part is a tree in
--- the place of a node.
+-- What a tree means by its own runs, with no number and no table. The moves are those of document 01 ("Outlines"), where a part is a tree
+-- in the place of a node.
 use Prim.Native.Nat.{ℕ, _≤_}
 use mathlib.Core.Path.{_≡_}
 use mathlib.Core.Option.{some}

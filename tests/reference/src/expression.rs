@@ -1,8 +1,10 @@
-//! Outlines typed as expressions (document 02, L13). Which texts are lines, `grammar` says. The nodes of a line are found by splitting it at
-//! its signs, and no byte is looked at twice in the same way by both.
+//! Outlines typed as expressions (document 02, L13). Which texts are lines, `grammar` says. The nodes of a line are found by splitting it
+//! at its signs; the two know nothing of each other.
 
 use crate::grammar::{self, Stop};
-use crate::outline::{self, Node, BACK, CHOICE, END, FRESH, LOOP, NAMED_EVENT, SANDBOX, SEQUENCE, STATIC_EVENT};
+use crate::outline::{
+    self, Node, BACK, CHOICE, END, FRESH, LOOP, NAMED_EVENT, SANDBOX, SEQUENCE, STATIC_EVENT,
+};
 use crate::sheet::{Refusal, LONGEST, MOST_NODES, OUTLINE_NAMES};
 
 /// "round and curly brackets, an event's aside, nest at most 32 deep"
@@ -40,10 +42,13 @@ pub fn read_expression(text: &[u8]) -> Result<Vec<Node>, Refusal> {
 pub fn sheet(text: &[u8]) -> String {
     match read_expression(text) {
         Ok(nodes) => {
-            let line = |node: &Node| format!("{} {} {} {}\n", node.number, node.kind, node.a, node.b);
+            let line =
+                |node: &Node| format!("{} {} {} {}\n", node.number, node.kind, node.a, node.b);
             format!("{OUTLINE_NAMES}\n{}", nodes.iter().map(line).collect::<String>())
         }
-        Err(Refusal { number, line }) => format!("line answer detail\n{line} {OUTLINE_REFUSED} {number}\n"),
+        Err(Refusal { number, line }) => {
+            format!("line answer detail\n{line} {OUTLINE_REFUSED} {number}\n")
+        }
     }
 }
 
@@ -56,7 +61,8 @@ pub fn stopped(text: &[u8]) -> Option<(u32, usize, Vec<u8>)> {
     Some((number, place, grammar::following(&text[..place])))
 }
 
-/// Direct calls of the reader, lent a table of one place too few and of just enough, with the empty text: the call, the answer and its detail.
+/// Direct calls of the reader with the empty text, lent a table of one place too few and of just enough: the call, the answer and its
+/// detail.
 pub fn borders() -> String {
     let told = |call: usize, places: usize| {
         let room = places >= 3 * MOST_NODES;

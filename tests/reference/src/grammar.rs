@@ -69,7 +69,6 @@ impl State {
         RULES[self.rule].1.get(self.read).copied()
     }
 
-
     fn further(self) -> State {
         State { read: self.read + 1, ..self }
     }
@@ -80,7 +79,9 @@ impl State {
     }
 
     fn unnests(&self) -> bool {
-        RULES[self.rule].1[..self.read].contains(&Whole(Choice)) && RULES[self.rule].0 == Item && self.next().is_none()
+        RULES[self.rule].1[..self.read].contains(&Whole(Choice))
+            && RULES[self.rule].0 == Item
+            && self.next().is_none()
     }
 }
 
@@ -123,7 +124,11 @@ impl Sets {
     /// One byte more; the states that it leads to, before what follows from them.
     fn scan(&mut self, byte: u8) -> Vec<State> {
         let last = self.0.last().expect("there is a first set");
-        let met: Vec<State> = last.iter().filter(|s| s.next().is_some_and(|n| n.is(byte))).map(|s| s.further()).collect();
+        let met: Vec<State> = last
+            .iter()
+            .filter(|s| s.next().is_some_and(|n| n.is(byte)))
+            .map(|s| s.further())
+            .collect();
         self.close(met.clone());
         met
     }

@@ -31,37 +31,218 @@ pub fn fixed_cases() -> Vec<Text> {
     cases
 }
 
-/// Lines of the grammar: each kind of item, numbers and labels at their borders, both signs, brackets, backs; 3, 7 and 8, alone and together.
+/// Lines of the grammar: each kind of item, numbers and labels at their borders, both signs, brackets, backs; 3, 7 and 8, alone and
+/// together.
 const LINES: [&str; 96] = [
-    "0", "1(s0)", "31(s15)", "1(n0)", "f0{1(n0)}", "f3{31(n3)}", "02(s03)", "2(s3)", "32(s0)", "99(s0)", "1(s16)", "1(s99)", "0(s3)",
-    "00(s1)", "00(n1)", "f0{0(n0)}", "f4{0}", "f99{0}", "f03{0}", "f3{1(n4)}", "p0{0}", "p7{0}", "p07{0}", "p8{0}", "p99{0}", "m0{0}",
-    "m9{0}", "m1{h1}", "h1", "m1{0}.h1", "m1{h2}", "m2{m1{h2}}", "m1{m1{h1}}", "m1{m1{0}.h1}", "m1{m2{m1{h1}.h1}.h1}", "m1{m2{h1.h2}}",
-    "m1{h1+h1}", "0+0", "0.0", "0+0+0", "0.0.0", "0+0.0", "0.0+0", "0.0+0.0", "(0)", "((0))", "(0+0).0", "0.(0+0)", "0+(0+0)",
-    "(0+0)+0", "0.(0.0)", "(0.0).0", "(0+0).(0+0)", "1(s1)+2(s2)+3(s3)+4(s4)", "1(s1).2(s2).3(s3).4(s4)", "m1{0+1(s1).h1}",
-    "p0{m1{0+f0{1(n0).2(n0).h1}}}", "p0{m1{0+f0{5(n0).h1}}}", "m0{h0}", "f0{1(n0)}.1(n0)", "1(n0).f0{1(n0)}", "f0{1(n1)}", "f0{f0{1(n0)}}",
-    "f0{0}+f0{0}", "f0{0}.f1{0}", "f0{f1{f2{f3{1(n0).1(n1).1(n2).1(n3)}}}}", "f0{(1(n0))}", "f0{m1{1(n0).h1}}", "m1{f0{1(n0).h1}}",
-    "f0{1(n0).f1{2(n1)}.3(n1)}", "32(s0).h1", "h1.32(s0)", "h1.1(n0)", "1(n0).h1", "32(n0)", "1(n4).h1", "f4{h1}", "p8{h1}",
-    "p0{p0{0}}", "p0{0}.p0{0}", "p1{p0{1(s1)}.2(s2)}.3(s3)", "m1{p0{h1}}", "p0{m1{h1}}", "(m1{(h1)})", "m1{(0)}", "f0{(0)}", "p0{(0)}",
-    "p00{f00{0}}", "m1{m2{m3{m4{m5{m6{m7{m8{m9{m0{h1.h2.h3.h4.h5.h6.h7.h8.h9.h0}}}}}}}}}}", "m1{0.m1{0.h1}.h1}", "m1{(m1{h1})+h1}",
-    "m5{m5{m5{h5}}}", "9(s9)", "10(s10)", "1(s1)+0.2(s2)+0", "f1{m1{p1{1(n1)+h1}}}",
+    "0",
+    "1(s0)",
+    "31(s15)",
+    "1(n0)",
+    "f0{1(n0)}",
+    "f3{31(n3)}",
+    "02(s03)",
+    "2(s3)",
+    "32(s0)",
+    "99(s0)",
+    "1(s16)",
+    "1(s99)",
+    "0(s3)",
+    "00(s1)",
+    "00(n1)",
+    "f0{0(n0)}",
+    "f4{0}",
+    "f99{0}",
+    "f03{0}",
+    "f3{1(n4)}",
+    "p0{0}",
+    "p7{0}",
+    "p07{0}",
+    "p8{0}",
+    "p99{0}",
+    "m0{0}",
+    "m9{0}",
+    "m1{h1}",
+    "h1",
+    "m1{0}.h1",
+    "m1{h2}",
+    "m2{m1{h2}}",
+    "m1{m1{h1}}",
+    "m1{m1{0}.h1}",
+    "m1{m2{m1{h1}.h1}.h1}",
+    "m1{m2{h1.h2}}",
+    "m1{h1+h1}",
+    "0+0",
+    "0.0",
+    "0+0+0",
+    "0.0.0",
+    "0+0.0",
+    "0.0+0",
+    "0.0+0.0",
+    "(0)",
+    "((0))",
+    "(0+0).0",
+    "0.(0+0)",
+    "0+(0+0)",
+    "(0+0)+0",
+    "0.(0.0)",
+    "(0.0).0",
+    "(0+0).(0+0)",
+    "1(s1)+2(s2)+3(s3)+4(s4)",
+    "1(s1).2(s2).3(s3).4(s4)",
+    "m1{0+1(s1).h1}",
+    "p0{m1{0+f0{1(n0).2(n0).h1}}}",
+    "p0{m1{0+f0{5(n0).h1}}}",
+    "m0{h0}",
+    "f0{1(n0)}.1(n0)",
+    "1(n0).f0{1(n0)}",
+    "f0{1(n1)}",
+    "f0{f0{1(n0)}}",
+    "f0{0}+f0{0}",
+    "f0{0}.f1{0}",
+    "f0{f1{f2{f3{1(n0).1(n1).1(n2).1(n3)}}}}",
+    "f0{(1(n0))}",
+    "f0{m1{1(n0).h1}}",
+    "m1{f0{1(n0).h1}}",
+    "f0{1(n0).f1{2(n1)}.3(n1)}",
+    "32(s0).h1",
+    "h1.32(s0)",
+    "h1.1(n0)",
+    "1(n0).h1",
+    "32(n0)",
+    "1(n4).h1",
+    "f4{h1}",
+    "p8{h1}",
+    "p0{p0{0}}",
+    "p0{0}.p0{0}",
+    "p1{p0{1(s1)}.2(s2)}.3(s3)",
+    "m1{p0{h1}}",
+    "p0{m1{h1}}",
+    "(m1{(h1)})",
+    "m1{(0)}",
+    "f0{(0)}",
+    "p0{(0)}",
+    "p00{f00{0}}",
+    "m1{m2{m3{m4{m5{m6{m7{m8{m9{m0{h1.h2.h3.h4.h5.h6.h7.h8.h9.h0}}}}}}}}}}",
+    "m1{0.m1{0.h1}.h1}",
+    "m1{(m1{h1})+h1}",
+    "m5{m5{m5{h5}}}",
+    "9(s9)",
+    "10(s10)",
+    "1(s1)+0.2(s2)+0",
+    "f1{m1{p1{1(n1)+h1}}}",
 ];
 
 /// What is no line: at each place of an item, at the ends, after the line feed. Deep ones are in `depths`.
 const NO_LINES: [&str; 100] = [
-    "", "\n", "0", "0\n\n", "0\n0", "0\n ", " 0\n", "0 \n", "0\r\n", "\n0\n", "00\n", "000\n", "1\n", "01\n", "12\n", "123(s1)\n", "1(s)\n", "1(s123)\n", "1()\n",
-    "1(1)\n", "1(x1)\n", "1(S1)\n", "1(s1\n", "1(s1}\n", "1{s1}\n", "1(s1))\n", "1(ss1)\n", "1(s1n1)\n", "1(n)\n", "1(n1", "(s1)\n", "s1\n", "n0\n",
-    "h\n", "h10\n", "hh\n", "h1h1\n", "h(1)\n", "m{0}\n", "m10{0}\n", "m1\n", "m1(0)\n", "m1{}\n", "m1{0\n", "m1{0)\n", "m1{0}}\n", "m1{0}0\n",
-    "m1 {0}\n", "f{0}\n", "f100{0}\n", "f0\n", "f0(0)\n", "f0{}\n", "f0{0\n", "p{0}\n", "p100{0}\n", "p0\n", "p0{}\n", "p0{0)\n", "()\n", "(\n", ")\n",
-    "(0\n", "0)\n", "(0}\n", "{0}\n", "}\n", "{\n", "+\n", ".\n", "0+\n", "+0\n", "0.\n", ".0\n", "0++0\n", "0..0\n", "0+.0\n", "0.+0\n", "(0+)\n",
-    "(+0)\n", "m1{0+}\n", "0(0)\n", "0m1{0}\n", "0h1\n", "00+0\n", "0.00\n", "(00)\n", "0(s1)(s1)\n", "1(s1)1(s1)\n", "-\n", "0,0\n", "0-0\n",
-    "node kind a b\n", "M1{0}\n", "m1[0]\n", "1(s01)", "1(s001)\n", "f0{1(n0)", "m1{h1}", "0+0",
+    "",
+    "\n",
+    "0",
+    "0\n\n",
+    "0\n0",
+    "0\n ",
+    " 0\n",
+    "0 \n",
+    "0\r\n",
+    "\n0\n",
+    "00\n",
+    "000\n",
+    "1\n",
+    "01\n",
+    "12\n",
+    "123(s1)\n",
+    "1(s)\n",
+    "1(s123)\n",
+    "1()\n",
+    "1(1)\n",
+    "1(x1)\n",
+    "1(S1)\n",
+    "1(s1\n",
+    "1(s1}\n",
+    "1{s1}\n",
+    "1(s1))\n",
+    "1(ss1)\n",
+    "1(s1n1)\n",
+    "1(n)\n",
+    "1(n1",
+    "(s1)\n",
+    "s1\n",
+    "n0\n",
+    "h\n",
+    "h10\n",
+    "hh\n",
+    "h1h1\n",
+    "h(1)\n",
+    "m{0}\n",
+    "m10{0}\n",
+    "m1\n",
+    "m1(0)\n",
+    "m1{}\n",
+    "m1{0\n",
+    "m1{0)\n",
+    "m1{0}}\n",
+    "m1{0}0\n",
+    "m1 {0}\n",
+    "f{0}\n",
+    "f100{0}\n",
+    "f0\n",
+    "f0(0)\n",
+    "f0{}\n",
+    "f0{0\n",
+    "p{0}\n",
+    "p100{0}\n",
+    "p0\n",
+    "p0{}\n",
+    "p0{0)\n",
+    "()\n",
+    "(\n",
+    ")\n",
+    "(0\n",
+    "0)\n",
+    "(0}\n",
+    "{0}\n",
+    "}\n",
+    "{\n",
+    "+\n",
+    ".\n",
+    "0+\n",
+    "+0\n",
+    "0.\n",
+    ".0\n",
+    "0++0\n",
+    "0..0\n",
+    "0+.0\n",
+    "0.+0\n",
+    "(0+)\n",
+    "(+0)\n",
+    "m1{0+}\n",
+    "0(0)\n",
+    "0m1{0}\n",
+    "0h1\n",
+    "00+0\n",
+    "0.00\n",
+    "(00)\n",
+    "0(s1)(s1)\n",
+    "1(s1)1(s1)\n",
+    "-\n",
+    "0,0\n",
+    "0-0\n",
+    "node kind a b\n",
+    "M1{0}\n",
+    "m1[0]\n",
+    "1(s01)",
+    "1(s001)\n",
+    "f0{1(n0)",
+    "m1{h1}",
+    "0+0",
 ];
 
 /// Brackets 31, 32, 33 and 34 deep, of each kind and mixed; what stands at the tie of 15 and 16 and on either side of it.
 fn depths() -> Vec<Text> {
     let mut texts = vec![];
     for depth in 31..=34 {
-        for (open, close, brackets) in [("(", ")", 1), ("m1{", "}", 1), ("p0{", "}", 1), ("p0{(", ")}", 2)] {
+        for (open, close, brackets) in
+            [("(", ")", 1), ("m1{", "}", 1), ("p0{", "}", 1), ("p0{(", ")}", 2)]
+        {
             texts.push(line(&nested(open, "0", close, depth / brackets)));
         }
         // an event's bracket does not count
@@ -99,7 +280,11 @@ fn counts() -> Vec<Text> {
         let parts = nodes.div_ceil(2);
         for sign in ["+", "."] {
             let text = joined("0", sign, parts);
-            texts.push(line(&if nodes % 2 == 1 { text.clone() } else { format!("m1{{{}}}", joined("0", sign, nodes / 2)) }));
+            texts.push(line(&if nodes % 2 == 1 {
+                text.clone()
+            } else {
+                format!("m1{{{}}}", joined("0", sign, nodes / 2))
+            }));
             texts.push(line(&format!("({text})")));
             texts.push(line(&joined("32(s0)", sign, parts)));
             texts.push(line(&joined("h1", sign, parts)));
@@ -109,7 +294,11 @@ fn counts() -> Vec<Text> {
         }
         texts.push(line(&joined("1(s1)+2(s2)", ".", nodes.div_ceil(4))));
         texts.push(line(&joined(&nested("p0{", "0", "}", 31), ".", 2)));
-        texts.push(line(&format!("{}.{}", nested("p0{", "0", "}", 31), nested("p0{", "0", "}", nodes - 34))));
+        texts.push(line(&format!(
+            "{}.{}",
+            nested("p0{", "0", "}", 31),
+            nested("p0{", "0", "}", nodes - 34)
+        )));
         texts.push(line(&format!("m1{{{}+h1}}", joined("0", "+", parts - 1))));
     }
     texts
@@ -119,7 +308,8 @@ fn counts() -> Vec<Text> {
 fn lengths() -> Vec<Text> {
     let mut texts = vec![];
     for bytes in [LONGEST, LONGEST + 1] {
-        let filled = |part: &str| -> Text { part.bytes().cycle().take(bytes - 1).chain([b'\n']).collect() };
+        let filled =
+            |part: &str| -> Text { part.bytes().cycle().take(bytes - 1).chain([b'\n']).collect() };
         texts.push(filled("("));
         texts.push(filled("1(s1)."));
         let first = if bytes % 2 == 0 { "0" } else { "10(s1)" };
@@ -186,7 +376,12 @@ impl Maker<'_> {
             }
             4 | 5 => {
                 let action = self.rng.between(1, 31);
-                let name = if self.names.is_empty() || odd { self.rng.below(5) } else { let names = self.names.clone(); self.rng.pick(&names) };
+                let name = if self.names.is_empty() || odd {
+                    self.rng.below(5)
+                } else {
+                    let names = self.names.clone();
+                    self.rng.pick(&names)
+                };
                 if self.names.is_empty() && !odd {
                     return format!("{}(s{})", self.number(action), self.number(name));
                 }
@@ -197,7 +392,11 @@ impl Maker<'_> {
                     return "0".into();
                 }
                 let labels = self.labels.clone();
-                let label = if self.labels.is_empty() || odd { self.rng.below(10) } else { self.rng.pick(&labels) };
+                let label = if self.labels.is_empty() || odd {
+                    self.rng.below(10)
+                } else {
+                    self.rng.pick(&labels)
+                };
                 format!("h{label}")
             }
             7..=9 => {
@@ -231,7 +430,8 @@ impl Maker<'_> {
 fn random_line(rng: &mut Rng, careless: bool) -> Text {
     let left = rng.pick(&[4, 8, 16, 32, 48, 62, 64, 66, 80]);
     let depth = rng.pick(&[2, 4, 8, 30]);
-    let mut maker = Maker { rng, left, labels: vec![], names: vec![], unused: vec![3, 2, 1, 0], careless };
+    let mut maker =
+        Maker { rng, left, labels: vec![], names: vec![], unused: vec![3, 2, 1, 0], careless };
     let mut text = maker.choice(depth);
     while maker.left > 1 && maker.rng.percent(85) {
         maker.left -= 1;
