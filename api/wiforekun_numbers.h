@@ -41,7 +41,7 @@
 #define WIFOREKUN_REFUSED_NAME 8u /* a name is used outside its fresh node, or given by two nodes */
 #define WIFOREKUN_REFUSED_NO_NODES 9u /* the outline has no nodes */
 #define WIFOREKUN_REFUSED_OTHER_BYTE 11u /* a byte in a line is no digit, space or line feed */
-#define WIFOREKUN_REFUSED_OVERLONG 12u /* a value has more than five digits */
+#define WIFOREKUN_REFUSED_OVERLONG 12u /* a value has more than ten digits */
 #define WIFOREKUN_REFUSED_NO_LINE_FEED 13u /* the last line feed is missing */
 #define WIFOREKUN_REFUSED_HALTED 20u /* the run is halted already */
 #define WIFOREKUN_REFUSED_NO_STEP 21u /* the kind of a step is unknown, or a value of it is out of range */
@@ -55,6 +55,6 @@
 #define WIFOREKUN_REFUSED_TOO_MANY_OPEN 32u /* opening beyond 64 unclosed openings in all */
 #define WIFOREKUN_REFUSED_ROOM 40u /* a table lent to be filled is smaller than its sheet's largest count */
 #define WIFOREKUN_REFUSED_TABLE 41u /* a table lent to be used is one that no accepted sheet gives, or the number that tells which past counts is neither 0 nor 1 */
-#define WIFOREKUN_REFUSED_STATE 42u /* a state with more than 64 live resources, one listed twice or outside 16 to 65,535, or above the highest number created; an order of openings longer than 64, with an entry that is no policy, or in which some policy stands another number of times than its count; or a halted flag other than 0 and 1 */
+#define WIFOREKUN_REFUSED_STATE 42u /* a state with more than 64 live resources, one listed twice or outside 16 to 4,294,967,295, or above the highest number created; an order of openings longer than 64, with an entry that is no policy, or in which some policy stands another number of times than its count; or a halted flag other than 0 and 1 */
 
 #endif

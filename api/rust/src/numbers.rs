@@ -22,7 +22,7 @@ impl Refusal {
     pub const NO_NODES: Refusal = Refusal(9);
     /// 11: a byte in a line is no digit, space or line feed.
     pub const OTHER_BYTE: Refusal = Refusal(11);
-    /// 12: a value has more than five digits.
+    /// 12: a value has more than ten digits.
     pub const OVERLONG: Refusal = Refusal(12);
     /// 13: the last line feed is missing.
     pub const NO_LINE_FEED: Refusal = Refusal(13);
@@ -50,7 +50,7 @@ impl Refusal {
     pub const ROOM: Refusal = Refusal(40);
     /// 41: a table lent to be used is one that no accepted sheet gives, or the number that tells which past counts is neither 0 nor 1.
     pub const TABLE: Refusal = Refusal(41);
-    /// 42: a state with more than 64 live resources, one listed twice or outside 16 to 65,535, or above the highest number created; an order of openings longer than 64, with an entry that is no policy, or in which some policy stands another number of times than its count; or a halted flag other than 0 and 1.
+    /// 42: a state with more than 64 live resources, one listed twice or outside 16 to 4,294,967,295, or above the highest number created; an order of openings longer than 64, with an entry that is no policy, or in which some policy stands another number of times than its count; or a halted flag other than 0 and 1.
     pub const STATE: Refusal = Refusal(42);
 
     /// What the number means, in the words of docs/SHEETS.md; none for a number that no function answers with.
@@ -67,7 +67,7 @@ impl Refusal {
             8 => Some("a name is used outside its fresh node, or given by two nodes"),
             9 => Some("the outline has no nodes"),
             11 => Some("a byte in a line is no digit, space or line feed"),
-            12 => Some("a value has more than five digits"),
+            12 => Some("a value has more than ten digits"),
             13 => Some("the last line feed is missing"),
             20 => Some("the run is halted already"),
             21 => Some("the kind of a step is unknown, or a value of it is out of range"),
@@ -81,7 +81,7 @@ impl Refusal {
             32 => Some("opening beyond 64 unclosed openings in all"),
             40 => Some("a table lent to be filled is smaller than its sheet's largest count"),
             41 => Some("a table lent to be used is one that no accepted sheet gives, or the number that tells which past counts is neither 0 nor 1"),
-            42 => Some("a state with more than 64 live resources, one listed twice or outside 16 to 65,535, or above the highest number created; an order of openings longer than 64, with an entry that is no policy, or in which some policy stands another number of times than its count; or a halted flag other than 0 and 1"),
+            42 => Some("a state with more than 64 live resources, one listed twice or outside 16 to 4,294,967,295, or above the highest number created; an order of openings longer than 64, with an entry that is no policy, or in which some policy stands another number of times than its count; or a halted flag other than 0 and 1"),
             _ => None,
         }
     }
