@@ -134,7 +134,7 @@ pub fn past(sight: Sight) -> Past {
 pub fn judged(policies: &Policies, steps: &[Step]) -> Option<Vec<Answer>> {
     let (edges, past) = (flat(&policies.edges)?, past(policies.sight));
     let mut state = wiforekun::State::start();
-    let answer = |step: &Step| match state.judge(&edges, past, step.row().map(|value| value as u32)) {
+    let answer = |step: &Step| match state.judge(&edges[..], past, step.row().map(|value| value as u32)) {
         wiforekun::Answer::Allowed => Answer::Allowed,
         wiforekun::Answer::Violated(policy) => Answer::Violated(usize::from(policy)),
         wiforekun::Answer::Refused(number) => Answer::Refused(u32::from(number)),
