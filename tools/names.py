@@ -53,7 +53,7 @@ class Names:
         return names
 
     def add(self, at, line):
-        found = re.fullmatch(r"(\w+) ([0-9]{1,5}) (\S.*)", line)
+        found = re.fullmatch(r"(\w+) ([0-9]{1,10}) (\S.*)", line)
         what, number, name = found.groups() if found else (None, "0", "")
         if what not in self.LAST or int(number) > self.LAST[what]:
             kinds = ", ".join(f"{kind} 0 to {last:,}" for kind, last in self.LAST.items())
