@@ -3,4 +3,6 @@ pub mod SkipLaws
 pub mod PolicyLaws
 pub mod AcceptedLaws
 pub mod PromiseLaws
+pub mod RightLaws
 pub mod ExplainedLaws
+pub mod ExplanationLaws
