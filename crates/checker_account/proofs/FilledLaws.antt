@@ -170,14 +170,16 @@ module _ (local : Bool) (rows : Rows) (p : ℕ) (small : WideRows rows) where
         let opened = ends-filled rows x never tt (least x) n forms in
         let (shut, shut-is, shut-wide) = shut-filled local x (opened .table) (opened .wide) in
         let t = byOpen (opened .table) shut in
-        let comes = comes-filled t (both-wide (opened .table) shut (opened .wide) shut-wide) (least x) n forms in
-        (hitAny local rows p x (comes .table) (least x) n forms, record {
-          ends = t;
-          comes = comes .table;
-          ends-filled = record { opened-filled = opened .filled; shut-filled = shut-is };
-          comes-filled = comes .filled;
-          told = refl;
-        })
+        let comes = comes-filled t (both-wide (opened .table) shut (opened .wide) shut-wide) (least x) n forms in (
+          hitAny local rows p x (comes .table) (least x) n forms,
+          record {
+            ends = t;
+            comes = comes .table;
+            ends-filled = record { opened-filled = opened .filled; shut-filled = shut-is };
+            comes-filled = comes .filled;
+            told = refl;
+          },
+        )
       where
         both-wide : (opened shut : List ℕ) → Wide opened → Wide shut → (o : Bool) → Wide (byOpen opened shut o)
         both-wide opened shut a b true = a
