@@ -1,4 +1,4 @@
--- The three demands hold.
+-- The three demands hold, and what the later requests promise.
 use Prim.Native.Nat.{ℕ}
 use mathlib.Core.Path.{_≡_, refl, subst}
 use mathlib.Core.Bool.{Bool, false}
@@ -22,6 +22,11 @@ use Rattle.sheet_reader.proofs.Converse.{edges-given, nodes-given}
 use Rattle.checker.proofs.AcceptedLaws.{never-halted}
 use Rattle.promises.specs.Demands.{GivenBy, Demand1, Demand2, Demand3, RetiringsApart, Demands}
 use Rattle.promises.proofs.JudgeNumbers.{judge-refuses}
+use Rattle.monitor_state.proofs.StoredLaws.{judged-by-stored}
+use Rattle.checker.proofs.RightLaws.{promise-exists}
+use Rattle.promises.proofs.CheckNumbers.{check-refuses, counterexamples-hold}
+use Rattle.promises.proofs.RenumberedLaws.{renumbered}
+use Rattle.promises.proofs.ReadLaws.{read-enough}
 use Rattle.promises.proofs.SheetNumbers.{policies-refuses, trace-refuses, outline-refuses}
 
 edges-sheet : (local : Bool) (t : List ℕ) → EdgeTable t ↔ ((g : GivenBy edgePlaces policiesInto t) × (isLocal (g .text) ≡ local))
@@ -53,6 +58,7 @@ demand-1 = record {
   policies-reader = policies-refuses;
   trace-reader = trace-refuses;
   outline-reader = outline-refuses;
+  check = check-refuses;
   edges-given = edges-sheet;
   nodes-given = nodes-sheet;
 }
@@ -66,6 +72,7 @@ demand-2 local t edges raws vs =
 
 pub demand-3 : Demand3
 demand-3 = record {
+  told = promise-exists;
   right = λ local t n v c. c .exact v .1 refl;
   no-other = λ local t n v w c r. c .exact w .0 r;
   never-halted = λ local t n edges nodes c. never-halted t (decides-edge-table t .1 edges) local (nodesOf n) (nodes .outline) (none-left c);
@@ -78,4 +85,13 @@ pub retirings-apart : RetiringsApart
 retirings-apart = others-kept
 
 pub demands : Demands
-demands = record { first = demand-1; second = demand-2; third = demand-3 }
+demands = record {
+  first = demand-1;
+  second = demand-2;
+  third = demand-3;
+  counterexamples = counterexamples-hold;
+  renumbered = renumbered;
+  by-stored-sets = judged-by-stored;
+  retirings-apart = retirings-apart;
+  read-enough = read-enough;
+}

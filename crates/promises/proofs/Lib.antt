@@ -1,5 +1,9 @@
--- The numbers of the judge and of the readers; then the three demands; then what later requests promise.
+-- The numbers of the judge, of the readers and of the check.
 pub mod JudgeNumbers
 pub mod SheetNumbers
-pub mod DemandLaws
+pub mod CheckNumbers
+-- What later requests promise, and what the programs read.
 pub mod RenumberedLaws
+pub mod ReadLaws
+-- All of it.
+pub mod DemandLaws
