@@ -23,8 +23,11 @@ use usage::STEP_TABLE;
 // How many values a sheet has at most: a trace has the most.
 pub const MOST_VALUES: usize = STEP_TABLE;
 
-// Document 01: "5 longer than 32,768 bytes", as usage's `longest-sheet` has it.
+// Document 01: "5 longer than 32,768 bytes", as usage's `longestSheet` has it.
 const LONGEST_SHEET: usize = 32768;
+
+// A program reads one byte more, which tells a longer one.
+pub const SHEET_ROOM: usize = LONGEST_SHEET + 1;
 
 // The answer of a reader: how many value lines it stored, or the refusal.
 pub enum Reading {
