@@ -3,6 +3,8 @@ pub mod SkipLaws
 pub mod PolicyLaws
 pub mod AcceptedLaws
 pub mod PromiseLaws
+pub mod RightLaws
 pub mod ExplainedLaws
+pub mod ExplanationLaws
 pub mod MarkLaws
 pub mod SummaryLaws

@@ -35,6 +35,7 @@ pub mod CodeLaws
 pub mod FillEnds
 pub mod FillComes
 pub mod SearchLaws
+pub mod FilledLaws
 pub mod UntouchedLaws
 pub mod NodeLaws
 pub mod RowLaws

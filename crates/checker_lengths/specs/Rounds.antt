@@ -47,7 +47,8 @@ abbrev pub NodeSettled : Watch → List ℕ → Option Form → List ℕ → Lis
 NodeSettled w rows f u t l k =
     (o : Bool) (m q : ℕ) → l ≤ m → m < meanings → q < states → HasCome u k o m q → StartSettled w rows f t (entryOf k o m q 0)
 
--- The table is full: filling has come to it, and no rule gives less for any entry of a start that is come to.
+-- The table is full: filling has come to it, and no rule gives less for any entry of a start that is come to. Left free is what stands in
+-- the entries of the other starts: whatever it is, it is a length in which the aim can be come to, or that of none (`reach`).
 pub record Full (w : Watch) (rows nodes u t : List ℕ) : Type 0 where
   pub reach : Reach w rows nodes t
   pub settled : (k : ℕ) → k < length nodes / nodeFields → NodeSettled w rows (formHere nodes k) u t (least (w .resource)) k

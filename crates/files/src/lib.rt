@@ -1,9 +1,17 @@
-// What both programs do with files. No contract can say what is read or written.
+// What the programs do with files. No contract can say what is read or written.
 ghost use mathlib.Core.Path.{_≡_};
 ghost use lib.Dec.{leb};
 ghost use lib.ListN.{length};
 ghost use Rattle.io.specs.Counts.{Counts};
 use libc::STDOUT_FILENO;
+use sheet_lines::SHEET_ROOM;
+
+// A sheet, and no more of it than tells that it is too long.
+pub fn read_sheet(path: &[u8], buffer: &mut [u8; SHEET_ROOM]) -> usize
+    ensures { λ r. ⌜ Counts r (now (buffer .exit)) ⌝ }
+{
+    read_file(path, &mut buffer[..])
+}
 
 // At most as much of a file as the buffer has room for; "A file that can't be opened reads as empty."
 pub fn read_file(path: &[u8], buffer: &mut [u8]) -> usize

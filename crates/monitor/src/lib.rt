@@ -29,7 +29,8 @@ ghost use Rattle.monitor_state.specs.Looked.{lookedAt, judgeReadBy, judgeBy};
 ghost use Rattle.monitor_state.specs.Promise.{StandsForNothing, Keeps};
 ghost use Rattle.monitor_state.specs.Renamed.{SameAnswers};
 ghost use Rattle.monitor_state.specs.Others.{OthersKept};
-ghost use Rattle.monitor_state.specs.Code.{stateOf, judgementOf, stepped};
+ghost use Rattle.monitor_state.specs.Lent.{stateOf, judgementOf};
+ghost use Rattle.monitor_state.specs.Code.{stepped};
 
 mod retiring;
 mod sandboxes;

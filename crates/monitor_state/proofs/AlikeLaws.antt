@@ -28,7 +28,7 @@ use Rattle.monitor_state.specs.declared.State.{State}
 use Rattle.monitor_state.specs.declared.Answer.{Answer}
 use Rattle.monitor_state.specs.declared.Answer.the-variants.{Allowed, Violated}
 use Rattle.monitor_state.specs.declared.Judgement.{Judgement}
-use Rattle.monitor_state.specs.Judge.{startState, live, listed, distinct, dynamic, createdOk, highestOk, orderOk, stateOk, placeFrom, placeOf}
+use Rattle.monitor_state.specs.Judge.{startState, live, listed, distinct, dynamic, createdOk, highestOk, orderOk, stateOk, placeFrom, placeIn, placeOf}
 use Rattle.monitor_state.specs.Judge.{closedUp, used, movedSets, createdIn, retiredIn, movedIn, withOpenings, withSets, resetIn, after}
 use Rattle.monitor_state.specs.Judge.{broken, refusal, refuse, halt, settle}
 use Rattle.monitor_state.specs.Judge.{judgeStep, judgeRead, judgeOf, answersOf}
@@ -333,7 +333,7 @@ module _ (f : ℕ → ℕ) (N : ℕ → Type 0) (R : Orders f N) where
       listed-renamed = ap (listed (renamed f r)) (live-renamed s) ∙ listed-map (renamed f) In number-same r (live s) j (live-in s i)
 
       place-renamed : placeOf (renamedState f s) (renamed f r) ≡ placeOf s r
-      unfolding placeOf
+      unfolding placeOf placeIn
       place-renamed =
           ap₂ (λ (b : Bool) (n : ℕ). cond b (renamed f r) n) (static-same r j)
           (ap (placeFrom (renamed f r) firstCreated) (live-renamed s)

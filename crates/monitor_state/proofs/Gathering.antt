@@ -21,11 +21,11 @@ use Rattle.monitor_sets.specs.Sets.{gatheredAt}
 use Rattle.monitor_state.specs.declared.State.{State}
 use Rattle.monitor_state.specs.Judge.{placeOf, used, setAt, possibleIn, gathered}
 use Rattle.monitor_state.specs.Represents.{Tracks, TracksRetirees, Gathers}
-use Rattle.monitor_state.proofs.Places.{StateOk, place-lt, owner, far, place-far}
+use Rattle.monitor_state.proofs.Places.{StateParts, place-lt, owner, far, place-far}
 
 -- Each instance in use is some resource's or that of the retired ones, and each resource has an instance in use or is among those.
 module _ (local : Bool) (es : List Edge) (past : Past) (t : State)
-    (n : length (t .created) ≡ mostCreated) (w : StateOk t) (tracks : Tracks local es past t) (joined : TracksRetirees local es past t)
+    (n : length (t .created) ≡ mostCreated) (w : StateParts t) (tracks : Tracks local es past t) (joined : TracksRetirees local es past t)
     (gone : (x : ℕ) → Retired x past → (placeOf t x ≡ unseen) × (x ≤ t .highest))
     (e : t .possible ≡ gathered (used t) (t .sets)) where
   pub gathered-gathers : Gathers local es past t

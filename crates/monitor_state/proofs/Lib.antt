@@ -2,6 +2,8 @@
 pub mod ListLaws
 pub mod WithoutLaws
 pub mod Places
+-- Which states 42 lets pass.
+pub mod SoundLaws
 pub mod StartLaws
 pub mod Tracking
 pub mod Retiring
@@ -12,6 +14,7 @@ pub mod Preserve
 pub mod Refusals
 pub mod Verdict
 pub mod KeptLaws
+pub mod StoredLaws
 pub mod StepLaws
 -- That it answers the same where the dynamic numbers are renamed.
 pub mod AlikeLaws

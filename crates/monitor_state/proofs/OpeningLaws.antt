@@ -22,7 +22,7 @@ use Rattle.monitor_sets.proofs.PlaceLaws.{reset-at, reset-length, reset-below}
 use Rattle.monitor_state.specs.declared.State.{State}
 use Rattle.monitor_state.specs.Judge.{placeOf, used, setAt, possibleIn, openingsOf, withSets, anew, resetSets, startSet}
 use Rattle.monitor_state.specs.Represents.{Tracks, TracksRetirees, Gathers, Represents}
-use Rattle.monitor_state.proofs.Places.{StateOk, state-parts, place-lt, used-most, far, place-far}
+use Rattle.monitor_state.proofs.Places.{StateParts, state-parts, place-lt, used-most, far, place-far}
 use Rattle.monitor_state.proofs.BrokenLaws.{open-count-pos, count-pos-open}
 
 -- the sets of a state, and what it keeps of each policy, hold what the instances may be in after this past
@@ -92,7 +92,7 @@ module _ (local : Bool) (es : List Edge) (past : Past) (h : Bool) (s : State) (R
             both true n = n
             both false n = refl
 
-    w : StateOk s
+    w : StateParts s
     w = state-parts s (R .well)
 
     abbrev put-back : List ℕ

@@ -14,15 +14,15 @@ use Rattle.usage.specs.Tests.{every}
 use Rattle.usage.proofs.Logic.{not-both, or-left, or-right, or-cases, and-left, and-right, and-both}
 use Rattle.automaton.proofs.MoveLaws.{Own}
 use Rattle.monitor_state.specs.declared.State.{State}
-use Rattle.monitor_state.specs.Judge.{live, listed, distinct, dynamic, createdOk, highestOk, orderOk, stateOk, placeFrom, placeOf, used}
+use Rattle.monitor_state.specs.Judge.{live, listed, distinct, dynamic, createdOk, highestOk, orderOk, stateOk, placeFrom, placeIn, placeOf, used}
 use Rattle.monitor_state.proofs.ListLaws.{every-at, listed-at, place-absent, place-present, place-of}
 
 pub place-static : (s : State) (x : ℕ) → x < statics → placeOf s x ≡ x
-unfolding placeOf
+unfolding placeOf placeIn
 place-static s x h = ap (λ (b : Bool). cond b x (placeFrom x firstCreated (live s))) (lt-ltb x statics h)
 
 pub place-dynamic : (s : State) (x : ℕ) → statics ≤ x → placeOf s x ≡ placeFrom x firstCreated (live s)
-unfolding placeOf
+unfolding placeOf placeIn
 place-dynamic s x h = ap (λ (b : Bool). cond b x (placeFrom x firstCreated (live s))) (le-ltb x statics h)
 
 -- A resource is static, live or neither, and has its instance accordingly.
@@ -121,14 +121,14 @@ place-own s x r k = record {
 
 -- ── The parts of `stateOk` ──
 
-pub record StateOk (s : State) : Type 0 where
+pub record StateParts (s : State) : Type 0 where
   pub few : s .count ≤ mostCreated
   pub range : every dynamic (live s) ≡ true
   pub apart : distinct (live s) ≡ true
   pub top : every (λ y. leb y (s .highest)) (live s) ≡ true
   pub ordered : orderOk (s .depth) (s .order) (s .unclosed) ≡ true
 
-pub state-parts : (s : State) → stateOk s ≡ true → StateOk s
+pub state-parts : (s : State) → stateOk s ≡ true → StateParts s
 unfolding stateOk createdOk highestOk
 state-parts s h =
     let o : Bool = orderOk (s .depth) (s .order) (s .unclosed) in
@@ -145,7 +145,7 @@ state-parts s h =
       ordered = and-right t o r;
     }
 
-pub parts-state : (s : State) → StateOk s → stateOk s ≡ true
+pub parts-state : (s : State) → StateParts s → stateOk s ≡ true
 unfolding stateOk createdOk highestOk
 parts-state s p =
     and-both (createdOk (s .count) (s .created))
@@ -155,10 +155,10 @@ parts-state s p =
     (and-both (highestOk (s .highest) (s .count) (s .created)) (orderOk (s .depth) (s .order) (s .unclosed)) (p .top) (p .ordered))
 
 -- there is room for the instances in use
-pub used-most : (s : State) → StateOk s → used s ≤ instances
+pub used-most : (s : State) → StateParts s → used s ≤ instances
 used-most s p = let f = p .few in omega arith
 
-module _ (s : State) (n : length (s .created) ≡ mostCreated) (p : StateOk s) where
+module _ (s : State) (n : length (s .created) ≡ mostCreated) (p : StateParts s) where
   pub live-length : length (live s) ≡ s .count
   live-length = length-take-le (s .count) (s .created) (omega (arith, p .few))
 

@@ -43,7 +43,7 @@ use Rattle.monitor_state.specs.Judge.{
 }
 use Rattle.monitor_state.specs.Represents.{Tracks, TracksRetirees, Represents}
 use Rattle.usage.proofs.TableLaws.{length-from}
-use Rattle.monitor_state.proofs.Places.{known, StateOk, state-parts, parts-state, above-new}
+use Rattle.monitor_state.proofs.Places.{known, StateParts, state-parts, parts-state, above-new}
 use Rattle.monitor_state.proofs.Tracking.{place-moved, moved-tracks, moved-retirees, moved-ok, moved-bytes, live-created}
 use Rattle.monitor_state.proofs.Tracking.{place-kept, created-tracks, created-retirees, created-known, created-ok, created-bytes}
 use Rattle.monitor_state.proofs.Retiring.{retired-from, live-retired, retired-tracks, retired-retirees, retired-ok, retired-gone}
@@ -64,7 +64,7 @@ Ready s (closing p) = (0 < openingsOf s p) × (lastOpened s ≡ p)
 Ready s (retiring r) = listed r (live s) ≡ true
 
 module _ (local : Bool) (es : List Edge) (v : Ends es) (past : Past) (h : Bool) (s : State) (R : Represents local es past h s) where
-  w : StateOk s
+  w : StateParts s
   w = state-parts s (R .well)
 
   event-represents : (a r : ℕ) → known s r ≡ true → Represents local es (event (suc a) r ∷ past) h (movedIn es (suc a) r s)
@@ -131,7 +131,7 @@ module _ (local : Bool) (es : List Edge) (v : Ends es) (past : Past) (h : Bool) 
         t : State
         t = createdIn s r
 
-        u : StateOk t
+        u : StateParts t
         u = created-ok s (R .created-length) w r (c .2) new (c .0) f (c .1)
 
         long : length (t .created) ≡ mostCreated

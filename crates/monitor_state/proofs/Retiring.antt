@@ -24,10 +24,10 @@ use Rattle.monitor_state.specs.Judge.{live, listed, distinct, dynamic, p
 use Rattle.monitor_state.specs.Represents.{Tracks, TracksRetirees}
 use Rattle.monitor_state.proofs.ListLaws.{place-absent}
 use Rattle.monitor_state.proofs.WithoutLaws.{without-gone, every-without, distinct-without, place-from, place-without, closed-up}
-use Rattle.monitor_state.proofs.Places.{place-static, place-dynamic, known, place-own, place-lt, place-apart-retirees, StateOk, used-most}
+use Rattle.monitor_state.proofs.Places.{place-static, place-dynamic, known, place-own, place-lt, place-apart-retirees, StateParts, used-most}
 use Rattle.monitor_state.proofs.Places.{live-length, range-at, top-at}
 
-module _ (s : State) (n : length (s .created) ≡ mostCreated) (w : StateOk s) (r : ℕ) (here : listed r (live s) ≡ true) where
+module _ (s : State) (n : length (s .created) ≡ mostCreated) (w : StateParts s) (r : ℕ) (here : listed r (live s) ≡ true) where
   dyn : statics ≤ r
   dyn = range-at s n w r here .0
 
@@ -134,7 +134,7 @@ module _ (s : State) (n : length (s .created) ≡ mostCreated) (w : StateOk s) (
 
   -- ── The rest of the state ──
 
-  pub retired-ok : StateOk (retiredIn s r)
+  pub retired-ok : StateParts (retiredIn s r)
   unfolding retiredIn
   retired-ok = record {
     few = let h = w .few in omega arith;

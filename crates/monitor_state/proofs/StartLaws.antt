@@ -18,7 +18,7 @@ use Rattle.automaton.proofs.MaskLaws.{has-pow}
 use Rattle.automaton.proofs.MoveLaws.{Ends, moves-lt}
 use Rattle.monitor_sets.specs.Instances.{unseen, retirees, instances, setPlaces}
 use Rattle.monitor_sets.specs.Order.{agreeBelow}
-use Rattle.monitor_state.specs.Judge.{distinct, createdOk, highestOk, stackIn, orderOk, stateOk, placeFrom, placeOf, setAt, possibleIn, startState}
+use Rattle.monitor_state.specs.Judge.{distinct, createdOk, highestOk, stackIn, orderOk, stateOk, placeFrom, placeIn, placeOf, setAt, possibleIn, startState}
 use Rattle.monitor_state.specs.Represents.{Tracks, TracksRetirees, Gathers, Represents}
 use Rattle.monitor_state.proofs.Places.{place-lt}
 
@@ -85,7 +85,7 @@ begin-tracks local es x p q k l n = (to, back)
     back m = one ∙ eq-eqb 0 q (sym (may-start m))
 
 begin-unseen : placeOf startState statics ≡ unseen
-unfolding startState placeOf placeFrom
+unfolding startState placeOf placeIn placeFrom
 begin-unseen = refl
 
 begin-tracks-retirees : (local : Bool) (es : List Edge) → TracksRetirees local es [] startState

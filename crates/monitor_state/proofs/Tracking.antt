@@ -30,7 +30,7 @@ use Rattle.monitor_state.specs.Judge.{movedIn}
 use Rattle.monitor_state.specs.Represents.{Tracks, TracksRetirees}
 use Rattle.usage.proofs.TableLaws.{getD-from, from-below}
 use Rattle.monitor_state.proofs.ListLaws.{listed-snoc, every-snoc, every-more, distinct-snoc, place-absent, place-other, place-new}
-use Rattle.monitor_state.proofs.Places.{place-static, place-dynamic, known, not-known, place-own, place-apart-retirees, StateOk}
+use Rattle.monitor_state.proofs.Places.{place-static, place-dynamic, known, not-known, place-own, place-apart-retirees, StateParts}
 use Rattle.monitor_state.proofs.Places.{live-length, place-lt, far, place-far}
 use Rattle.monitor_state.proofs.StartLaws.{may-event, may-lt}
 
@@ -62,7 +62,7 @@ set-moved es a r s p i c k h =
     (at-mod p i l)
     ∙ ap (λ (b : Bool). cond b (moveMask es p a r (eqb i (placeOf s r)) (setAt s p i)) (setAt s p i)) (lt-ltb i (used s) h)
 
-module _ (local : Bool) (es : List Edge) (v : Ends es) (s : State) (n : length (s .created) ≡ mostCreated) (w : StateOk s) where
+module _ (local : Bool) (es : List Edge) (v : Ends es) (s : State) (n : length (s .created) ≡ mostCreated) (w : StateParts s) where
   pub moved-tracks : (past : Past) (a r : ℕ) → Tracks local es past s
       → known s r ≡ true → Tracks local es (event a r ∷ past) (movedIn es a r s)
   moved-tracks past a r t kn x p q k l gone = (to, back)
@@ -140,7 +140,7 @@ module _ (local : Bool) (es : List Edge) (v : Ends es) (s : State) (n : length (
 
 -- ── Creates ──
 
-module _ (s : State) (n : length (s .created) ≡ mostCreated) (w : StateOk s) (r : ℕ) (room : s .count < mostCreated)
+module _ (s : State) (n : length (s .created) ≡ mostCreated) (w : StateParts s) (r : ℕ) (room : s .count < mostCreated)
     (new : listed r (live s) ≡ false) (dyn : statics ≤ r) where
   pub live-created : live (createdIn s r) ≡ live s ++ (r ∷ [])
   unfolding createdIn
@@ -241,7 +241,7 @@ module _ (s : State) (n : length (s .created) ≡ mostCreated) (w : StateOk s) (
       or-right (ltb r statics) (listed r (live (createdIn s r)))
       (created-listed r ∙ or-right (listed r (live s)) (eqb r r) (eq-eqb r r refl))
 
-  pub created-ok : r < resources → s .highest < r → StateOk (createdIn s r)
+  pub created-ok : r < resources → s .highest < r → StateParts (createdIn s r)
   unfolding createdIn
   created-ok h above = record {
     few = omega arith;
@@ -256,7 +256,7 @@ module _ (s : State) (n : length (s .created) ≡ mostCreated) (w : StateOk s) (
     ordered = w .ordered;
   }
 
-pub moved-ok : (es : List Edge) (a r : ℕ) (s : State) → StateOk s → StateOk (movedIn es a r s)
+pub moved-ok : (es : List Edge) (a r : ℕ) (s : State) → StateParts s → StateParts (movedIn es a r s)
 unfolding movedIn
 moved-ok es a r s w = record { few = w .few; range = w .range; apart = w .apart; top = w .top; ordered = w .ordered }
 

@@ -15,6 +15,7 @@ use Rattle.monitor_state.specs.declared.Sizes.{Sizes}
 use Rattle.monitor_state.specs.declared.Answer.the-variants.{Allowed, Violated}
 use Rattle.monitor_state.specs.Judge.{refusal}
 use Rattle.monitor_state.specs.Looked.{lookedAt, judgeStepBy}
+pub use Rattle.monitor_state.specs.Lent.{stateOf, judgementOf}
 use Rattle.monitor_state.specs.declared.Read.{Read}
 use Rattle.monitor_state.specs.declared.Read.the-variants.{Event, Opening, Closing, Retiring, Nothing}
 
@@ -28,30 +29,12 @@ says Nothing = none
 
 -- ── A state by its parts ──
 
-abbrev pub stateOf : List ℕ → List ℕ → List ℕ → ℕ → ℕ → List ℕ → List ℕ → ℕ → Bool → State
-stateOf sets possible created count highest unclosed order depth halted = record {
-  sets = sets;
-  possible = possible;
-  created = created;
-  count = count;
-  highest = highest;
-  unclosed = unclosed;
-  order = order;
-  depth = depth;
-  halted = halted;
-}
-
 -- the counts with one opening of p more
 abbrev pub oneMore : List ℕ → ℕ → List ℕ
 oneMore unclosed p = set unclosed p (getD unclosed p 0 + 1)
 
 abbrev pub sizesOf : State → Sizes
 sizesOf s = record { count = s .count; highest = s .highest; depth = s .depth }
-
--- what is told, with the arrays as they were left
-abbrev pub judgementOf : Told → List ℕ → List ℕ → List ℕ → List ℕ → List ℕ → Judgement
-judgementOf t sets possible created unclosed order =
-    record { answer = t .answer; state = stateOf sets possible created (t .count) (t .highest) unclosed order (t .depth) (t .halted) }
 
 -- the judgement of a step that was read, by the policies `looked`
 abbrev pub stepped : ℕ → Bool → List Edge → State → Step → Judgement

@@ -15,7 +15,7 @@ use Rattle.usage.specs.Tests.{every}
 use Rattle.usage.specs.Tables.{from, edgesOf, edgeTable}
 use Rattle.monitor_sets.specs.Instances.{retirees, firstCreated, instances, setPlaces}
 use Rattle.automaton.specs.Mask.{union, offends, lowestIn}
-unfoldable pub use Rattle.monitor_sets.specs.Created.{listed, distinct, placeFrom, createdOk, highestOk, closedUp}
+unfoldable pub use Rattle.monitor_sets.specs.Created.{listed, distinct, placeFrom, placeIn, createdOk, highestOk, closedUp}
 unfoldable pub use Rattle.monitor_sets.specs.Order.{stackIn, agreeBelow, orderOk}
 pub use Rattle.monitor_sets.specs.Created.{dynamic}
 unfoldable pub use Rattle.monitor_sets.specs.Sets.{copied, retiredSets, movedSets, resetSets, gathered}
@@ -60,7 +60,7 @@ stateOk s = createdOk (s .count) (s .created) && (highestOk (s .highest) (s .cou
 
 -- the place of x's instance: its own if x is static or live, else that of the unseen ones
 unfoldable pub placeOf : State → ℕ → ℕ
-placeOf s x = cond (ltb x statics) x (placeFrom x firstCreated (live s))
+placeOf s x = placeIn x (live s)
 
 -- the instances in use: the static ones, that of the resources that never occurred, that of the retired ones, and the live ones
 abbrev pub used : State → ℕ

@@ -1,7 +1,10 @@
 pub mod Judge
 pub mod Looked
+pub mod Sound
+pub mod Lent
 pub mod Represents
 pub mod Promise
 pub mod Renamed
 pub mod Others
+pub mod Stored
 pub mod Code

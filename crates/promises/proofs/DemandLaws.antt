@@ -1,4 +1,4 @@
--- The three demands hold.
+-- The three demands hold, and what the later requests promise.
 use Prim.Native.Nat.{ℕ}
 use mathlib.Core.Path.{_≡_, refl, subst}
 use mathlib.Core.Bool.{Bool, true, false}
@@ -28,8 +28,14 @@ use Rattle.checker.proofs.SummaryLaws.{exact-unique, accepted-zeros, zeros-acce
 use Rattle.monitor_lean.proofs.LeanLaws.{lean-promise}
 use Rattle.promises.specs.Demands.{GivenBy, Demand1, Demand2, Demand3, RetiringsApart, ExactFor, LeanJudge, Demands}
 use Rattle.promises.proofs.JudgeNumbers.{judge-refuses}
+use Rattle.monitor_state.proofs.StoredLaws.{judged-by-stored}
+use Rattle.checker.proofs.RightLaws.{promise-exists}
+use Rattle.promises.proofs.CheckNumbers.{check-refuses, counterexamples-hold}
+use Rattle.promises.proofs.RenumberedLaws.{renumbered}
+use Rattle.promises.proofs.ReadLaws.{read-enough}
 use Rattle.promises.proofs.SheetNumbers.{policies-refuses, trace-refuses, outline-refuses}
-use Rattle.promises.proofs.ExpressionPromise.{expression-refuses}
+use Rattle.promises.proofs.ExpressionPromise.{expression-refuses, expressions}
+use Rattle.promises.proofs.RewrittenLaws.{rewritten}
 
 edges-sheet : (local : Bool) (t : List ℕ) → EdgeTable t ↔ ((g : GivenBy edgePlaces policiesInto t) × (isLocal (g .text) ≡ local))
 edges-sheet local t = (
@@ -61,6 +67,7 @@ demand-1 = record {
   trace-reader = trace-refuses;
   outline-reader = outline-refuses;
   expression-reader = expression-refuses;
+  check = check-refuses;
   edges-given = edges-sheet;
   nodes-given = nodes-sheet;
 }
@@ -74,6 +81,7 @@ demand-2 local t edges raws vs =
 
 pub demand-3 : Demand3
 demand-3 = record {
+  told = promise-exists;
   right = λ local t n v c. c .exact v .1 refl;
   no-other = λ local t n v w c r. c .exact w .0 r;
   never-halted = λ local t n edges nodes c. never-halted t (decides-edge-table t .1 edges) local (nodesOf n) (nodes .outline) (none-left c);
@@ -84,9 +92,6 @@ demand-3 = record {
 
 pub retirings-apart : RetiringsApart
 retirings-apart = others-kept
-
-pub demands : Demands
-demands = record { first = demand-1; second = demand-2; third = demand-3 }
 
 -- ── The lean judge ──
 
@@ -109,4 +114,19 @@ lean-judge = record {
   answers = λ local t n m e k x. lean-promise t local m .answers e (nodesOf n) (k .outline) x;
   answers-all = λ local t n m e k x. lean-promise t local m .answers-all e (nodesOf n) (k .outline) x;
   accepted = λ local t n m e k x. (no-mark local t n m e k x, unmarked local t n m e k x);
+}
+
+pub demands : Demands
+demands = record {
+  first = demand-1;
+  second = demand-2;
+  third = demand-3;
+  counterexamples = counterexamples-hold;
+  renumbered = renumbered;
+  by-stored-sets = judged-by-stored;
+  retirings-apart = retirings-apart;
+  lean-judge = lean-judge;
+  rewritten = rewritten;
+  expressions = expressions;
+  read-enough = read-enough;
 }

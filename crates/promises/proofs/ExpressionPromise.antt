@@ -1,9 +1,11 @@
 -- What is promised of outlines typed as expressions.
 use Prim.Native.Nat.{ℕ}
 use mathlib.Core.Path.{_≡_, refl, sym, ap, subst, _∙_}
+use mathlib.Core.Bool.{Bool, true, false, cond}
 use mathlib.Core.List.{List, flatten, List·Memᴰ, List·Memᴰ·tail}
 use mathlib.Core.Logic.{_↔_}
-use lib.Dec.{lit<}
+use lib.Dec.{ltb, lit<}
+use borrow.Author.Tests.{ltb-true, ltb-false, lt-ltb, le-ltb}
 use Rattle.usage.specs.declared.Node.{Node}
 use Rattle.usage.specs.Limits.{nodePlaces}
 use Rattle.usage.specs.Past.{Past}
@@ -11,8 +13,8 @@ use Rattle.usage.specs.Answers.{Refusal}
 use Rattle.usage.specs.Outline.{IsTrace}
 use Rattle.usage.specs.Tables.{nodesOf}
 use Rattle.usage.proofs.TableLaws.{decides-node-table}
-use Rattle.sheet_lines.specs.Sheet.{Result, accepted, refused}
-use Rattle.sheet_reader.specs.Readers.{outlineInto}
+use Rattle.sheet_lines.specs.Sheet.{Result, accepted, refused, refuseAt}
+use Rattle.sheet_reader.specs.Readers.{roomy, outlineInto}
 use Rattle.sheet_reader.proofs.Converse.{nodes-given}
 use Rattle.sheet_grammar.specs.Tree.{Tree}
 use Rattle.sheet_grammar.specs.Grammar.{mostNested, ExpressionLine}
@@ -23,7 +25,7 @@ use Rattle.sheet_grammar.proofs.MeaningLaws.{same-traces}
 use Rattle.sheet_expression.specs.Expression.{ReadAs, expressionOf, expressionInto}
 use Rattle.sheet_expression.proofs.ExpressionLaws.{expression-read, decides-expression, accepted-line, never-wrong, one-way}
 use Rattle.sheet_expression.proofs.TableLaws.{rows-nodes, expression-table}
-use Rattle.promises.specs.Demands.{lineNumbers, expressionNumbers, ReaderRefuses, GivenBy, Expressions}
+use Rattle.promises.specs.Demands.{lineNumbers, expressionNumbers, ReaderRefuses, ExpressionCase, GivenBy, Expressions}
 use Rattle.promises.proofs.JudgeNumbers.{nth}
 use Rattle.promises.proofs.SheetNumbers.{Number, Numbers, no-number, a-number, number-in, reader-refuses}
 
@@ -46,11 +48,28 @@ module _ (l : List ℕ) (line-in : (n : ℕ) → List·Memᴰ n lineNumbers → 
   pub expression-numbers : Numbers l (expressionOf text)
   expression-numbers = read-numbers (expression-read text)
 
-pub expression-refuses : ReaderRefuses expressionNumbers nodePlaces expressionInto
+-- refused in the stated case, and in no other
+expression-cases : (places : ℕ) (text : List ℕ) (r : Refusal)
+    → (roomy places nodePlaces (expressionOf text) ≡ refused r) ↔ ExpressionCase places text r
+expression-cases places text r = (λ e. there (ltb places nodePlaces) refl e, back)
+  where
+    there : (b : Bool) → ltb places nodePlaces ≡ b → cond b (refuseAt 0 40) (expressionOf text) ≡ refused r → ExpressionCase places text r
+    there true q e = ExpressionCase.no-room (ltb-true places nodePlaces q) (sym (same e))
+      where
+        same : refuseAt 0 40 ≡ refused r → record { line = 0; number = 40 } ≡ r
+        same e = cc
+    there false q e = ExpressionCase.in-text (ltb-false places nodePlaces q) (decides-expression text (refused r) .0 e)
+
+    back : ExpressionCase places text r → roomy places nodePlaces (expressionOf text) ≡ refused r
+    back (ExpressionCase.no-room h e) = rw (lt-ltb places nodePlaces h, e) refl
+    back (ExpressionCase.in-text h k) = rw (le-ltb places nodePlaces h) (decides-expression text (refused r) .1 k)
+
+pub expression-refuses : ReaderRefuses expressionNumbers nodePlaces expressionInto ExpressionCase
 unfolding expressionInto
 expression-refuses =
     reader-refuses expressionNumbers (nth 0 expressionNumbers refl) _ expressionOf
     (λ text. expression-numbers expressionNumbers (λ n m. List·Memᴰ·tail (List·Memᴰ·tail m)) text (λ i p. nth 1 expressionNumbers refl))
+    ExpressionCase expression-cases
 
 line-number : (n : ℕ) (text : List ℕ) (t : Tree) (r : Refusal) → ExpressionLine n text t → expressionOf text ≡ refused r
     → List·Memᴰ (r .number) lineNumbers

@@ -26,7 +26,10 @@ use Rattle.monitor_state.specs.declared.Judgement.{Judgement}
 use Rattle.monitor_sets.specs.Created.{listed}
 use Rattle.monitor_state.specs.Judge.{openingsOf, lastOpened}
 use Rattle.monitor_state.specs.Judge.{verdictOf, stateOk, live, halt, refusal, refuse, broken, after, settle, judgeStep, judgeRead, judgeOf}
+use Rattle.monitor_state.specs.Sound.{StateOk}
 use Rattle.monitor_state.proofs.BrokenLaws.{broken-lt}
+use Rattle.monitor_state.proofs.SoundLaws.{decides-state}
+use Rattle.usage.proofs.Decides.{refutes, refuted}
 use Rattle.promises.specs.Demands.{judgeNumbers, Listed, JudgeRefuses}
 
 -- What is shown of each judgement: its answer is in the list, a refusal leaves the state, and a violation halts it. The numbers are told
@@ -202,11 +205,19 @@ module _ (t : List ℕ) (local : Bool) (s : State) (raw : RawStep) where
       back : EdgeTable t → stateOk s ≡ false → judgeOf t local s raw .answer ≡ Refused 42
       back edges q = ap (λ (j : Judgement). j .answer) (is-42 (decides-edge-table t .1 edges) q)
 
+-- 42, by the rule that its test decides
+ruled-42 : (t : List ℕ) (local : Bool) (s : State) (raw : RawStep)
+    → (judgeOf t local s raw .answer ≡ Refused 42) ↔ (EdgeTable t × (StateOk s → ⊥))
+ruled-42 t local s raw =
+    let a = at-42 t local s raw in
+    let d = decides-state s in
+    (λ e. let x = a .0 e in (x .0, refutes d (x .1)), λ x. a .1 (x .0, refuted (stateOk s) d (x .1)))
+
 pub judge-refuses : JudgeRefuses
 judge-refuses = record {
   listed = λ t local s raw. judge-fine t local s raw .listed;
   keeps = λ t local s raw. judge-fine t local s raw .keeps;
   halts = λ t local s raw. judge-fine t local s raw .halts;
   no-table = at-41;
-  no-state = at-42;
+  no-state = λ t local s raw. ruled-42 t local s raw;
 }

@@ -1,7 +1,11 @@
--- The numbers of the judge and of the readers; then the three demands; then what later requests promise.
+-- The numbers of the judge, of the readers and of the check.
 pub mod JudgeNumbers
 pub mod SheetNumbers
+pub mod CheckNumbers
 pub mod ExpressionPromise
-pub mod DemandLaws
+-- What later requests promise, and what the programs read.
 pub mod RenumberedLaws
 pub mod RewrittenLaws
+pub mod ReadLaws
+-- All of it.
+pub mod DemandLaws

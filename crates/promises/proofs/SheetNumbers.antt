@@ -34,6 +34,8 @@ use Rattle.sheet_bytes.proofs.FaultLaws.{decides-fault}
 use Rattle.sheet_lines.specs.Sheet.{Sheet, Result, accepted, refused, refuseAt, followed, entry, valueLines, startsWith, sheet}
 use Rattle.sheet_lines.specs.Sheets.{policySheet, isLocal, traceSheet, outlineSheet}
 use Rattle.sheet_reader.specs.Readers.{policiesRead, ruledRows, ruledResult, roomy, policiesInto, traceInto, outlineInto, stored}
+use Rattle.sheet_reader.specs.Cases.{PoliciesCase, TraceCase, OutlineCase}
+use Rattle.sheet_reader.proofs.CaseLaws.{policies-cases, trace-cases, outline-cases}
 use Rattle.promises.specs.Demands.{sheetNumbers, outlineNumbers, ReaderRefuses}
 use Rattle.promises.proofs.JudgeNumbers.{nth}
 
@@ -155,8 +157,11 @@ module _ (l : List ℕ) (forty : List·Memᴰ 40 l) (needed : ℕ) (read : List 
       go true h e = ltb-true places needed h
       go false h e = let k = number-in (numbers text) e .1 in absurd (omega arith)
 
-  pub reader-refuses : ReaderRefuses l needed (λ places text. roomy places needed (read text))
-  reader-refuses = record { listed = roomy-listed; keeps = λ places text table r e. keeps-any _ table r e; no-room = roomy-40 }
+  pub reader-refuses : (Case : ℕ → List ℕ → Refusal → Type 0)
+      → ((places : ℕ) (text : List ℕ) (r : Refusal) → (roomy places needed (read text) ≡ refused r) ↔ Case places text r)
+      → ReaderRefuses l needed (λ places text. roomy places needed (read text)) Case
+  reader-refuses Case cases =
+      record { listed = roomy-listed; keeps = λ places text table r e. keeps-any _ table r e; no-room = roomy-40; stated = cases }
 
 same : (n : ℕ) → List·Memᴰ n sheetNumbers → List·Memᴰ n sheetNumbers
 same n m = m
@@ -169,18 +174,20 @@ longer n (x ∷ l) more m = by-cases (List·Memᴰ·cases-cons m) (λ e. List·M
 wider : (n : ℕ) → List·Memᴰ n sheetNumbers → List·Memᴰ n outlineNumbers
 wider n m = longer n sheetNumbers (9 ∷ 6 ∷ 7 ∷ 8 ∷ []) m
 
-pub policies-refuses : ReaderRefuses sheetNumbers edgePlaces policiesInto
+pub policies-refuses : ReaderRefuses sheetNumbers edgePlaces policiesInto PoliciesCase
 unfolding policiesInto
 policies-refuses =
     reader-refuses sheetNumbers (nth 0 sheetNumbers refl) _ policiesRead
-    (λ text. sheet-numbers sheetNumbers same (policySheet (isLocal text)) text)
+    (λ text. sheet-numbers sheetNumbers same (policySheet (isLocal text)) text) PoliciesCase policies-cases
 
-pub trace-refuses : ReaderRefuses sheetNumbers stepPlaces traceInto
+pub trace-refuses : ReaderRefuses sheetNumbers stepPlaces traceInto TraceCase
 unfolding traceInto
-trace-refuses = reader-refuses sheetNumbers (nth 0 sheetNumbers refl) _ (sheet traceSheet) (sheet-numbers sheetNumbers same traceSheet)
+trace-refuses =
+    reader-refuses sheetNumbers (nth 0 sheetNumbers refl) _ (sheet traceSheet) (sheet-numbers sheetNumbers same traceSheet) TraceCase
+    trace-cases
 
-pub outline-refuses : ReaderRefuses outlineNumbers nodePlaces outlineInto
+pub outline-refuses : ReaderRefuses outlineNumbers nodePlaces outlineInto OutlineCase
 unfolding outlineInto
 outline-refuses =
     reader-refuses outlineNumbers (nth 0 outlineNumbers refl) _ (λ text. ruledResult (sheet outlineSheet text))
-    (λ text. result-numbers (sheet outlineSheet text) (sheet-numbers outlineNumbers wider outlineSheet text))
+    (λ text. result-numbers (sheet outlineSheet text) (sheet-numbers outlineNumbers wider outlineSheet text)) OutlineCase outline-cases

@@ -1,43 +1,55 @@
 -- The three demands on the product, and what later requests promise of the whole, stated over the definitions that the public functions'
 -- contracts are equations with: the judge answers `judgeOf` (`monitor::judge` and `judge_lent`, `api_records`, `api_c`), the readers answer
 -- and store `policiesInto`, `traceInto` and `outlineInto` (`sheet_reader`) and `expressionInto` (`sheet_expression`), the check answers the
--- one verdict that `Checked` holds of (`checker::check`), the sheet writer answers and writes `writtenInto` (`sheet_writer`), and the first
--- program prints `tracePrinted` (`report`). proofs/ has the proof of each. That no function reads outside its memory or runs on without end
--- is what the language asks of each before it is built.
-use Prim.Native.Nat.{ℕ, suc, _<_}
+-- one verdict that `Checked` holds of (`checker::check`), an explanation is one that `Explained` holds of (`check_with_counterexample`), the
+-- sheet writer answers and writes `writtenInto` (`sheet_writer`), and the programs print `tracePrinted`, `outlinePrinted` and
+-- `counterexamplePrinted` (`report`). proofs/ has the proof of each. That no function reads outside its memory or runs on without end is
+-- what the language asks of each before it is built.
+use Prim.Native.Nat.{ℕ, suc, _<_, _≤_}
 use mathlib.Core.Path.{_≡_}
 use mathlib.Core.Bool.{Bool, true, false}
 use mathlib.Core.List.{List, [], _∷_, _++_, map, flatten, List·Memᴰ}
-use mathlib.Core.Logic.{_↔_}
-use lib.ListN.{replicate}
+use mathlib.Core.Logic.{_↔_, _⊎_}
+use lib.ListN.{length, take, replicate}
 use Rattle.usage.specs.declared.RawStep.{RawStep}
-use Rattle.usage.specs.Limits.{policies, edgePlaces, stepPlaces, nodePlaces}
+use Rattle.usage.specs.Limits.{policies, edgePlaces, stepPlaces, nodePlaces, mostShown}
 use Rattle.usage.specs.Answers.{Verdict, allowed, violated, refused, Refusal}
-use Rattle.usage.specs.Past.{Past}
+use Rattle.usage.specs.Past.{Past, Violates}
 use Rattle.usage.specs.Judge.{JudgedAll}
 use Rattle.usage.specs.Outline.{IsTrace}
-use Rattle.usage.specs.Check.{Checked}
+use Rattle.usage.specs.Check.{Checked, Shortest}
 use Rattle.usage.specs.Tables.{edgesOf, nodesOf, stepsOf, EdgeTable, NodeTable}
 use Rattle.monitor_state.specs.declared.State.{State}
 use Rattle.monitor_state.specs.declared.Answer.the-variants.{Violated, Refused}
-use Rattle.monitor_state.specs.Judge.{verdictOf, stateOk, halt, judgeOf, answersOf, startState}
+use Rattle.monitor_state.specs.Judge.{verdictOf, halt, judgeOf, answersOf, startState}
+use Rattle.monitor_state.specs.Sound.{StateOk}
+use Rattle.monitor_state.specs.Stored.{JudgedByStored}
 use Rattle.monitor_state.specs.Renamed.{Renaming, renamedStep, SameAnswers}
 use Rattle.monitor_state.specs.Others.{OthersKept}
 use Rattle.sheet_lines.specs.Sheet.{Result, accepted, refused as sheet-refused, sheet}
 use Rattle.sheet_lines.specs.Sheets.{isLocal, traceSheet}
 use Rattle.sheet_reader.specs.Readers.{policiesRead, policiesInto, traceInto, outlineInto, stored}
+use Rattle.sheet_reader.specs.Cases.{PoliciesCase, TraceCase, OutlineCase}
 use Rattle.sheet_grammar.specs.Tree.{Tree}
 use Rattle.sheet_grammar.specs.Grammar.{mostNested, ExpressionLine}
 use Rattle.sheet_grammar.specs.Nodes.{treeNodes}
 use Rattle.sheet_grammar.specs.Meaning.{TreeTrace}
 use Rattle.sheet_expression.specs.Expression.{tableRows, ReadAs, expressionOf, expressionInto}
+use Rattle.checker_trace.specs.Answer.{mostNumbers}
+use Rattle.checker_trace.specs.Steps.{laid}
 use Rattle.checker.specs.Accepted.{NeverHalted}
 use Rattle.checker.specs.Promise.{RightVerdict, CheckPromise}
+use Rattle.checker.specs.declared.counterexample.Explanation.{Explanation}
+use Rattle.checker.specs.declared.counterexample.Explanation.the-variants.{Shown, Longer}
+use Rattle.checker.specs.Explained.{Explained, explanationVerdict, stepsWritten}
 use Rattle.sheet_writer.specs.Writer.{is-written, writtenAgain}
 use Rattle.sheet_writer.specs.Promise.{OneWay}
 use Rattle.checker.specs.Summary.{Exact}
 use Rattle.monitor_lean.specs.Promise.{LeanAnswers, LeanAnswersAll}
+use Rattle.report.specs.Output.{sheetRoom}
 use Rattle.report.specs.Trace.{tracePrinted}
+use Rattle.report.specs.Outline.{RightTexts, outlinePrinted}
+use Rattle.report.specs.Counterexample.{RightExplanation, counterexamplePrinted}
 
 -- ── Demand 1 ──
 
@@ -78,15 +90,42 @@ pub record JudgeRefuses : Type 0 where
   -- the cases of the numbers that no past tells; those of the others are in demand 2
   pub no-table : (t : List ℕ) (local : Bool) (s : State) (raw : RawStep) → (judgeOf t local s raw .answer ≡ Refused 41) ↔ (EdgeTable t → ⊥)
   pub no-state : (t : List ℕ) (local : Bool) (s : State) (raw : RawStep)
-      → (judgeOf t local s raw .answer ≡ Refused 42) ↔ (EdgeTable t × (stateOk s ≡ false))
+      → (judgeOf t local s raw .answer ≡ Refused 42) ↔ (EdgeTable t × (StateOk s → ⊥))
 
--- The same of a reader, which is lent a table of so many places to fill and the bytes of a sheet.
-pub record ReaderRefuses (numbers : List ℕ) (needed : ℕ) (into : ℕ → List ℕ → Result) : Type 0 where
-  pub listed : (places : ℕ) (text : List ℕ) (r : Refusal) → into places text ≡ sheet-refused r → List·Memᴰ (r .number) numbers
-  pub keeps : (places : ℕ) (text table : List ℕ) (r : Refusal) → into places text ≡ sheet-refused r
-      → stored (into places text) table ≡ table
-  -- "40 a table lent to be filled that is smaller than its sheet's largest count"
-  pub no-room : (places : ℕ) (text : List ℕ) → (into places text ≡ sheet-refused record { line = 0; number = 40 }) ↔ (places < needed)
+-- The same of a reader, which is lent a table of so many places to fill and the bytes of a sheet. `Case` has the stated case of each number.
+pub record ReaderRefuses (numbers : List ℕ) (needed : ℕ) (into : ℕ → List ℕ → Result) (Case : ℕ → List ℕ → Refusal → Type 0) : Type 0
+  where
+    pub listed : (places : ℕ) (text : List ℕ) (r : Refusal) → into places text ≡ sheet-refused r → List·Memᴰ (r .number) numbers
+    pub keeps : (places : ℕ) (text table : List ℕ) (r : Refusal) → into places text ≡ sheet-refused r
+        → stored (into places text) table ≡ table
+    -- "40 a table lent to be filled that is smaller than its sheet's largest count"
+    pub no-room : (places : ℕ) (text : List ℕ) → (into places text ≡ sheet-refused record { line = 0; number = 40 }) ↔ (places < needed)
+    -- "in its stated case only"
+    pub stated : (places : ℕ) (text : List ℕ) (r : Refusal) → (into places text ≡ sheet-refused r) ↔ Case places text r
+
+-- of the reader of expressions (02, L13): "40" before all, then the case that the request states
+pub data ExpressionCase (places : ℕ) (text : List ℕ) (r : Refusal) : Type 0 where
+  no-room : places < nodePlaces → r ≡ record { line = 0; number = 40 } → ExpressionCase places text r
+  in-text : nodePlaces ≤ places → ReadAs text (sheet-refused r) → ExpressionCase places text r
+
+-- The same of the check, and of the check with a counterexample, which is lent a table to be filled besides: t before and t′ after.
+abbrev pub checkNumbers : List ℕ
+checkNumbers = 41 ∷ []
+
+abbrev pub explanationNumbers : List ℕ
+explanationNumbers = 40 ∷ checkNumbers
+
+pub record CheckRefuses : Type 0 where
+  pub listed : (local : Bool) (e n : List ℕ) (v : Verdict) → CheckPromise local e n v → Listed checkNumbers v
+  pub no-table : (local : Bool) (e n : List ℕ) (v : Verdict) → CheckPromise local e n v
+      → (v ≡ refused 41) ↔ ((EdgeTable e → ⊥) ⊎ (NodeTable n → ⊥))
+  pub explained-listed : (local : Bool) (e n t : List ℕ) (x : Explanation) (t′ : List ℕ) → Explained local e n t x t′
+      → Listed explanationNumbers (explanationVerdict x)
+  -- "40 also covers a lent trace table below 200 places" (02, L1)
+  pub no-room : (local : Bool) (e n t : List ℕ) (x : Explanation) (t′ : List ℕ) → Explained local e n t x t′
+      → (explanationVerdict x ≡ refused 40) ↔ (length t < mostNumbers)
+  pub keeps : (local : Bool) (e n t : List ℕ) (x : Explanation) (t′ : List ℕ) (k : ℕ) → Explained local e n t x t′
+      → explanationVerdict x ≡ refused k → t′ ≡ t
 
 -- "41 a table lent to be used that, taken whole, no accepted sheet gives": some sheet, read into a table of so many places, gives this
 -- table
@@ -99,10 +138,11 @@ pub record GivenBy (needed : ℕ) (into : ℕ → List ℕ → Result) (table : 
 -- "No sheet, step, table or state, however malformed, makes it .. answer outside its list", and a refusal changes nothing.
 pub record Demand1 : Type 0 where
   pub judge : JudgeRefuses
-  pub policies-reader : ReaderRefuses sheetNumbers edgePlaces policiesInto
-  pub trace-reader : ReaderRefuses sheetNumbers stepPlaces traceInto
-  pub outline-reader : ReaderRefuses outlineNumbers nodePlaces outlineInto
-  pub expression-reader : ReaderRefuses expressionNumbers nodePlaces expressionInto
+  pub policies-reader : ReaderRefuses sheetNumbers edgePlaces policiesInto PoliciesCase
+  pub trace-reader : ReaderRefuses sheetNumbers stepPlaces traceInto TraceCase
+  pub outline-reader : ReaderRefuses outlineNumbers nodePlaces outlineInto OutlineCase
+  pub expression-reader : ReaderRefuses expressionNumbers nodePlaces expressionInto ExpressionCase
+  pub check : CheckRefuses
   -- the tables that 41 does not refuse are those that the sheets give; of edges, those of either names line (02, L7)
   pub edges-given : (local : Bool) (t : List ℕ) → EdgeTable t ↔ ((g : GivenBy edgePlaces policiesInto t) × (isLocal (g .text) ≡ local))
   pub nodes-given : (t : List ℕ) → NodeTable t ↔ GivenBy nodePlaces outlineInto t
@@ -121,12 +161,34 @@ Demand2 = (local : Bool) (t : List ℕ) → EdgeTable t → (raws : List RawStep
 
 -- "What the check accepts, the judge never halts: one theorem over whole traces; and the check is exact, naming the lowest policy at
 -- fault." The check tells v where `CheckPromise` holds of v. Then v is right, no other verdict is, and acceptance means what it says,
--- for each choice of past.
+-- for each choice of past. Of all tables at all there is such a verdict.
 pub record Demand3 : Type 0 where
+  pub told : (local : Bool) (t n : List ℕ) → (v : Verdict) × CheckPromise local t n v
   pub right : (local : Bool) (t n : List ℕ) (v : Verdict) → CheckPromise local t n v → RightVerdict local t n v
   pub no-other : (local : Bool) (t n : List ℕ) (v w : Verdict) → CheckPromise local t n v → RightVerdict local t n w → v ≡ w
   pub never-halted : (local : Bool) (t n : List ℕ) → EdgeTable t → NodeTable n
       → Checked local (edgesOf t) (nodesOf n) allowed → NeverHalted t local (nodesOf n)
+
+-- ── The bad trace (02, L1) ──
+
+-- Of every explanation that the check with a counterexample may give of the tables e and n, with the lent table t before and t′ after.
+pub record Counterexamples : Type 0 where
+  -- the verdict is the check's, where the table has the room
+  pub verdict : (local : Bool) (e n t : List ℕ) (x : Explanation) (t′ : List ℕ) → Explained local e n t x t′ → mostNumbers ≤ length t
+      → CheckPromise local e n (explanationVerdict x)
+  -- "Any of several equally short traces will do: which one is left free", and nothing else is
+  pub one-answer : (local : Bool) (e n t : List ℕ) (x y : Explanation) (t′ u′ : List ℕ) → Explained local e n t x t′
+      → Explained local e n t y u′ → x ≡ y
+  -- "it is a trace of the outline, numbered so, that breaks the named policy while open, and no trace of the outline that does so has fewer
+  -- steps"; "Places after the trace keep their contents"
+  pub shown : (local : Bool) (e n t : List ℕ) (p s : ℕ) (t′ : List ℕ) → Explained local e n t (Shown p s) t′
+      → (past : Past) × Shortest local (edgesOf e) (nodesOf n) p past × (length past ≡ s) × (s ≤ mostShown) × (t′ ≡ laid t past)
+  -- "if every such trace is longer it says so"
+  pub longer : (local : Bool) (e n t : List ℕ) (p : ℕ) (t′ : List ℕ) → Explained local e n t (Longer p) t′
+      → (past : Past) → IsTrace (nodesOf n) past → Violates local (edgesOf e) p past → mostShown < length past
+  -- "and then, as on acceptance, nothing is written"
+  pub nothing : (local : Bool) (e n t : List ℕ) (x : Explanation) (t′ : List ℕ) → Explained local e n t x t′ → stepsWritten x ≡ 0
+      → t′ ≡ t
 
 -- ── Renumbered channels (02, L3, and L8) ──
 
@@ -205,8 +267,37 @@ pub record Expressions : Type 0 where
   pub traces : (text : List ℕ) (rows : List (List ℕ)) (t : Tree) → expressionOf text ≡ accepted rows → ExpressionLine mostNested text t
       → (past : Past) → IsTrace (nodesOf (flatten rows)) past ↔ TreeTrace t past
 
--- All three demands.
+-- ── What the programs read ──
+
+-- the bytes of a sheet that a program reads
+abbrev pub seen : List ℕ → List ℕ
+seen text = take sheetRoom text
+
+-- What a program prints of its sheets is what it prints of the bytes that it reads of them.
+pub record ReadEnough : Type 0 where
+  pub trace : (policies-text trace-text : List ℕ) → tracePrinted (seen policies-text) (seen trace-text) ≡ tracePrinted policies-text trace-text
+  pub outline : (policies-text outline-text : List ℕ) (v : Verdict)
+      → outlinePrinted (seen policies-text) (seen outline-text) v ≡ outlinePrinted policies-text outline-text v
+  pub outline-right : (policies-text outline-text : List ℕ) (v : Verdict)
+      → RightTexts (seen policies-text) (seen outline-text) v ↔ RightTexts policies-text outline-text v
+  pub counterexample : (policies-text outline-text : List ℕ) (x : Explanation) (t : List ℕ)
+      → counterexamplePrinted (seen policies-text) (seen outline-text) x t ≡ counterexamplePrinted policies-text outline-text x t
+  pub counterexample-right : (policies-text outline-text : List ℕ) (x : Explanation) (t : List ℕ)
+      → RightExplanation (seen policies-text) (seen outline-text) x t ↔ RightExplanation policies-text outline-text x t
+
+-- ── All of it ──
+
+-- The three demands, and what the later requests promise of the whole.
 pub record Demands : Type 0 where
   pub first : Demand1
   pub second : Demand2
   pub third : Demand3
+  pub counterexamples : Counterexamples
+  pub renumbered : Renumbered
+  -- 02, L4: "At an opening or closing, a state not reached from the start is judged by its stored sets"
+  pub by-stored-sets : JudgedByStored
+  pub retirings-apart : RetiringsApart
+  pub lean-judge : LeanJudge
+  pub rewritten : Rewritten
+  pub expressions : Expressions
+  pub read-enough : ReadEnough

@@ -1,10 +1,10 @@
 -- What the programs print, and what is done with a lent buffer ("The two programs").
-use Prim.Native.Nat.{ℕ, _+_, _*_}
+use Prim.Native.Nat.{ℕ, suc, _+_, _*_}
 use mathlib.Core.Bool.{cond}
 use mathlib.Core.List.{List, _++_, flatten}
 use lib.Dec.{ltb}
 use lib.ListN.{length, drop}
-use Rattle.usage.specs.Limits.{mostSteps}
+use Rattle.usage.specs.Limits.{mostSteps, longestSheet}
 use Rattle.sheet_lines.specs.Sheet.{Result, accepted, refused}
 use Rattle.report_lines.specs.Lines.{namesLine, namesRoom, refusalRow}
 
@@ -17,6 +17,12 @@ afterPolicies (refused r) rest = refusalRow 3 r
 -- "It prints `line answer detail`, then .."
 unfoldable pub printed : Result → (List ℕ → List ℕ) → List ℕ
 printed policies rest = namesLine ++ afterPolicies policies rest
+
+-- ── What is read ──
+
+-- a program reads so many bytes of a sheet at most: one more than the longest has, which tells a longer one
+abbrev pub sheetRoom : ℕ
+sheetRoom = suc longestSheet
 
 -- ── The lent buffer ──
 

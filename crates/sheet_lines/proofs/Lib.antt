@@ -8,5 +8,7 @@ pub mod BeginLaws
 -- Accepted sheets, and what is stored of them.
 pub mod AcceptLaws
 pub mod SheetLaws
+-- A sheet is refused in its stated case only.
+pub mod CaseLaws
 -- The two names lines of a sheet of policies.
 pub mod NamesLaws

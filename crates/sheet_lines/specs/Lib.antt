@@ -4,5 +4,7 @@ pub mod Bytes
 pub mod Sheet
 pub mod Sheets
 pub mod Answer
+-- The same refusals, as rules.
+pub mod Cases
 -- What only the functions compute.
 pub mod Code

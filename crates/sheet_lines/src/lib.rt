@@ -26,6 +26,9 @@ pub const MOST_VALUES: usize = STEP_TABLE;
 // Document 01: "5 longer than 32,768 bytes", as usage's `longestSheet` has it.
 pub const LONGEST_SHEET: usize = 32768;
 
+// A program reads one byte more, which tells a longer one.
+pub const SHEET_ROOM: usize = LONGEST_SHEET + 1;
+
 // The answer of a reader: how many value lines it stored, or the refusal.
 pub enum Reading {
     Stored(usize),

@@ -14,3 +14,5 @@ pub mod Examples
 -- What the readers' answers say, for the crates above.
 pub mod AnswerLaws
 pub mod RefusalLaws
+-- A reader refuses in its stated case only.
+pub mod CaseLaws

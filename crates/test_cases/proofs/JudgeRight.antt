@@ -16,7 +16,7 @@ use Rattle.usage.proofs.TableLaws.{decides-edge-table}
 use Rattle.automaton.specs.Mask.{has, single, union}
 use Rattle.automaton.specs.Move.{targets, image, move, moveMask}
 use Rattle.monitor_state.specs.Judge.{verdictOf, startState, listed, distinct, createdOk, highestOk, stackIn, agreeBelow, orderOk, stateOk}
-use Rattle.monitor_state.specs.Judge.{placeFrom, placeOf, closedUp, copied, createdIn, retiredSets, retiredIn, movedSets, movedIn, withOpenings, resetSets, withSets, resetIn, after}
+use Rattle.monitor_state.specs.Judge.{placeFrom, placeIn, placeOf, closedUp, copied, createdIn, retiredSets, retiredIn, movedSets, movedIn, withOpenings, resetSets, withSets, resetIn, after}
 use Rattle.monitor_state.specs.Judge.{gathered, broken, refusal}
 use Rattle.monitor_state.specs.Judge.{refuse, halt, settle, judgeStep, judgeRead, judgeOf, answersOf}
 use Rattle.monitor_state.proofs.Verdict.{all-judged-begin}
@@ -27,7 +27,7 @@ use Rattle.test_cases.specs.JudgeCases.{caseE, caseF, caseG, caseH, case
 unfoldable pub run : List ℕ → Bool → List RawStep → List Verdict
 unfolding stepOf from edgesOf edgeTable every someBelow edgeOk edgesOk has
     single union targets image move moveMask startState listed distinct
-    createdOk highestOk occurrences stackIn agreeBelow orderOk stateOk placeFrom placeOf closedUp copied createdIn retiredSets retiredIn movedSets movedIn withOpenings resetSets
+    createdOk highestOk occurrences stackIn agreeBelow orderOk stateOk placeFrom placeIn placeOf closedUp copied createdIn retiredSets retiredIn movedSets movedIn withOpenings resetSets
     withSets resetIn after gathered broken refusal refuse halt settle judgeStep judgeRead judgeOf answersOf trailingZeros
 run t local raws = map verdictOf (answersOf t local startState raws)
 

@@ -3,7 +3,7 @@ use Prim.Native.Nat.{ℕ, _+_}
 use mathlib.Core.Bool.{cond}
 use mathlib.Core.List.{List, [], _∷_}
 use lib.ListN.{replicate, set}
-use Rattle.usage.specs.Limits.{policies, mostCreated, mostUnclosed, edgeFields, longestSheet}
+use Rattle.usage.specs.Limits.{policies, mostCreated, mostUnclosed, edgeFields}
 use Rattle.usage.specs.Answers.{allowed, refused}
 use Rattle.sheet_lines.specs.declared.Reading.{Reading}
 use Rattle.sheet_lines.specs.declared.Reading.the-variants.{Stored, Refused}
@@ -79,7 +79,3 @@ apart p = partsOf (set (set (p .sets) firstCreated 4) retirees 2) (p .possible) 
 -- the same arrays, but that policy 1 is open
 abbrev pub opening : Parts → Parts
 opening p = partsOf (p .sets) (p .possible) (p .created) (set (p .unclosed) 1 1) (set (p .order) 0 1) (set (p .numbers) 2 1)
-
--- the bytes of a sheet that is lent to be written, at most: one more than is asked for
-abbrev pub mostLent : ℕ
-mostLent = longestSheet + 1

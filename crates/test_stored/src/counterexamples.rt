@@ -11,6 +11,7 @@ use crate::stored;
 use checker_trace::MOST_NUMBERS;
 use monitor_sets::SETS;
 use sheet_lines::Reading;
+use sheet_lines::SHEET_ROOM;
 use sheet_reader::PolicyReading;
 use usage::EDGE_FIELDS;
 use usage::EDGE_TABLE;
@@ -201,8 +202,8 @@ fn sheets(n: u64, policies: &[u8], text: &[u8]) -> u64
 fn case(n: u64) -> u64
     ensures { λ r. ⌜ r ≡ n ⌝ }
 {
-    let mut policies = [0u8; 32769];
-    let mut text = [0u8; 32769];
+    let mut policies = [0u8; SHEET_ROOM];
+    let mut text = [0u8; SHEET_ROOM];
     let p = stored::sheet(b'c', n, b'p', &mut policies);
     let o = stored::sheet(b'c', n, b'o', &mut text);
     stored::announced(n);

@@ -4,6 +4,7 @@ ghost use mathlib.Core.Path.{_≡_};
 use crate::borders;
 use crate::print;
 use crate::stored;
+use sheet_lines::SHEET_ROOM;
 use usage::NODE_TABLE;
 
 // One place too few.
@@ -12,7 +13,7 @@ const FEW_NODES: usize = NODE_TABLE - 1;
 fn case(n: u64) -> u64
     ensures { λ r. ⌜ r ≡ n ⌝ }
 {
-    let mut text = [0u8; 32769];
+    let mut text = [0u8; SHEET_ROOM];
     let mut out = [0u8; report::EXPRESSION_ROOM];
     let e = stored::sheet(b'e', n, b'e', &mut text);
     let k = report::report_expression(&text[..e], &mut out);

@@ -3,12 +3,14 @@
 ghost use mathlib.Core.Path.{_≡_};
 ghost use Prim.Native.Nat.{_≤_};
 ghost use lib.ListN.{length};
-ghost use Rattle.test_stored.specs.Code.{mostLent};
 use crate::print;
 use crate::stored;
 use sheet_lines::LONGEST_SHEET;
+use sheet_lines::SHEET_ROOM;
 
-// A lent sheet of one byte more than is asked for; a byte that no sheet has.
+// Lent sheets of one byte less and of one byte more than are asked for; a byte that no sheet has.
+const TOO_SHORT: usize = LONGEST_SHEET - 1;
+
 const MOST_LENT: usize = LONGEST_SHEET + 1;
 
 const MARK: u8 = 7;
@@ -16,7 +18,7 @@ const MARK: u8 = 7;
 fn case(n: u64) -> u64
     ensures { λ r. ⌜ r ≡ n ⌝ }
 {
-    let mut policies = [0u8; 32769];
+    let mut policies = [0u8; SHEET_ROOM];
     let mut out = [0u8; report::POLICIES_ROOM];
     let p = stored::sheet(b'p', n, b'p', &mut policies);
     let k = report::report_policies(&policies[..p], &mut out);
@@ -49,35 +51,63 @@ fn kept(lent: &[u8]) -> usize
     n
 }
 
-// One call, which is lent so many bytes.
-fn call(n: u64, text: &[u8], room: usize) -> u64
-    requires { ⌜ room ≤ mostLent ⌝ }
+// A line for a call: its number, what it answered, and how many bytes of the lent sheet are as they were.
+fn told(n: u64, length: usize, line: u64, number: u64, left: usize) -> u64
+    ensures { λ r. ⌜ r ≡ n ⌝ }
+{
+    print::number(n, b" ");
+    print::number(length as u64, b" ");
+    print::number(line, b" ");
+    print::number(number, b" ");
+    print::number(left as u64, b"\n");
+    n
+}
+
+// One call that is lent one byte less than is asked for.
+fn short(n: u64, text: &[u8]) -> u64
+    ensures { λ r. ⌜ r ≡ n ⌝ }
+{
+    let mut lent = [MARK; TOO_SHORT];
+    let mut refusal = [0u64, 0];
+    let length = api_c::writer::wiforekun_write_policies(text, &mut lent, &mut refusal);
+    let left = kept(&lent);
+    told(n, length, refusal[0], refusal[1], left)
+}
+
+// One call that is lent as many bytes as are asked for.
+fn enough(n: u64, text: &[u8]) -> u64
+    ensures { λ r. ⌜ r ≡ n ⌝ }
+{
+    let mut lent = [MARK; LONGEST_SHEET];
+    let mut refusal = [0u64, 0];
+    let length = api_c::writer::wiforekun_write_policies(text, &mut lent, &mut refusal);
+    let left = kept(&lent);
+    told(n, length, refusal[0], refusal[1], left)
+}
+
+// One call that is lent one byte more than is asked for.
+fn longer(n: u64, text: &[u8]) -> u64
     ensures { λ r. ⌜ r ≡ n ⌝ }
 {
     let mut lent = [MARK; MOST_LENT];
     let mut refusal = [0u64, 0];
-    let length = api_c::writer::wiforekun_write_policies(text, &mut lent[..room], &mut refusal);
-    print::number(n, b" ");
-    print::number(length as u64, b" ");
-    print::number(refusal[0], b" ");
-    print::number(refusal[1], b" ");
-    print::number(kept(&lent[..room]) as u64, b"\n");
-    n
+    let length = api_c::writer::wiforekun_write_policies(text, &mut lent, &mut refusal);
+    let left = kept(&lent);
+    told(n, length, refusal[0], refusal[1], left)
 }
 
 pub(crate) fn calls() -> u64
-    ensures { λ r. ⌜ r ≡ 8 ⌝ }
+    ensures { λ r. ⌜ r ≡ 7 ⌝ }
 {
     let names = b"policy from action on who to\n";
     let edges = b"policy from action on who to\n0 0 2 1 0 6\n0 0 1 1 0 1\n";
     let broken = b"policy from action on who to\n0 0 2 1 0 6\n0 0 1 3 0 1\n";
-    call(0, names, 0);
-    call(1, names, LONGEST_SHEET - 1);
-    call(2, names, LONGEST_SHEET);
-    call(3, b"local from action on who to\n", LONGEST_SHEET);
-    call(4, edges, LONGEST_SHEET - 1);
-    call(5, edges, LONGEST_SHEET);
-    call(6, edges, MOST_LENT);
-    call(7, broken, LONGEST_SHEET - 1);
-    call(8, broken, LONGEST_SHEET)
+    short(0, names);
+    enough(1, names);
+    enough(2, b"local from action on who to\n");
+    short(3, edges);
+    enough(4, edges);
+    longer(5, edges);
+    short(6, broken);
+    enough(7, broken)
 }

@@ -6,6 +6,7 @@ ghost use Prim.Native.Nat.{_+_, _%_, _/_};
 ghost use Rattle.io.specs.Counts.{Counts};
 use crate::print;
 use libc::STDOUT_FILENO;
+use sheet_lines::SHEET_ROOM;
 
 // the last digit of n
 fn digit(n: u64) -> u8
@@ -55,8 +56,8 @@ pub(crate) fn sheet(folder: u8, n: u64, which: u8, text: &mut [u8]) -> usize
 fn trace_case(n: u64) -> u64
     ensures { λ r. ⌜ r ≡ n ⌝ }
 {
-    let mut policies = [0u8; 32769];
-    let mut trace = [0u8; 32769];
+    let mut policies = [0u8; SHEET_ROOM];
+    let mut trace = [0u8; SHEET_ROOM];
     let mut out = [0u8; report::TRACE_ROOM];
     let p = sheet(b't', n, b'p', &mut policies);
     let t = sheet(b't', n, b't', &mut trace);
@@ -69,8 +70,8 @@ fn trace_case(n: u64) -> u64
 fn outline_case(n: u64) -> u64
     ensures { λ r. ⌜ r ≡ n ⌝ }
 {
-    let mut policies = [0u8; 32769];
-    let mut outline = [0u8; 32769];
+    let mut policies = [0u8; SHEET_ROOM];
+    let mut outline = [0u8; SHEET_ROOM];
     let mut out = [0u8; report::OUTLINE_ROOM];
     let p = sheet(b'o', n, b'p', &mut policies);
     let o = sheet(b'o', n, b'o', &mut outline);

@@ -11,7 +11,7 @@ use Rattle.checker_account.specs.Single.{watching}
 use Rattle.checker_account.proofs.Writing.{written-length}
 use Rattle.checker_trace.specs.declared.Length.the-variants.{Of}
 use Rattle.checker_trace.specs.Steps.{laid}
-use Rattle.checker_trace.specs.Answer.{Told, too-small, no-table, longer, this-long}
+use Rattle.checker_trace.specs.Answer.{Told, ToldAs}
 use native.Mathlib.Omega.{arith}
 use mathlib.Core.Path.{_≡_, sym, _∙_}
 use Prim.Native.Nat.{ℕ}
@@ -28,14 +28,14 @@ use Rattle.sheet_fields.proofs.edges.edge_table_ok.Reads as edge-table-ok-reads
 use Rattle.sheet_rules.proofs.node_table_ok.Reads as node-table-ok-reads
 
 returns : tie.Need-returns
-returns c = too-small (c .if1 .taken)
+returns c = ToldAs.too-small (c .if1 .taken)
 
 edge-table-ok-requires : tie.Need-edge-table-ok-requires
 edge-table-ok-requires c κs = search needs
 
 returns-2 : tie.Need-returns-2
 returns-2 c = let a = c .before .before .before .before .before .before .args in
-    no-table (c .before .before .if1 .left) (inl (refutes (decides-edge-table (a .edges .now))
+    ToldAs.no-table (c .before .before .if1 .left) (inl (refutes (decides-edge-table (a .edges .now))
     (sym (c .before .edge-table-ok .ensures) ∙ not-true (c .before .edge-table-ok .result) (c .if2 .taken))))
 
 node-table-ok-requires : tie.Need-node-table-ok-requires
@@ -43,7 +43,7 @@ node-table-ok-requires c κs = search needs
 
 returns-3 : tie.Need-returns-3
 returns-3 c = let a = c .before .before .before .before .before .before .before .before .args in
-    no-table (c .before .before .before .before .if1 .left)
+    ToldAs.no-table (c .before .before .before .before .if1 .left)
     (inr (refutes (decides-node-table (a .nodes .now))
     (sym (c .before .node-table-ok .ensures) ∙ not-true (c .before .node-table-ok .result) (c .if3 .taken))))
 
@@ -54,7 +54,7 @@ returns-4 c = let a = c .before .before .before .before .before .before .before 
     ∙ not-false (c .before .before .before .before .edge-table-ok .result) (c .before .before .before .if2 .left)) in
     let nt = decides-node-table (a .nodes .now) .0
     (sym (c .before .before .node-table-ok .ensures) ∙ not-false (c .before .before .node-table-ok .result) (c .before .if3 .left)) in
-    longer (c .before .before .before .before .before .if1 .left) et nt
+    ToldAs.longer (c .before .before .before .before .before .if1 .left) et nt
     (laws.no-policy-shown (a .local) (edgesOf (a .edges .now)) (et .edges) (a .p) (c .if4 .taken) (a .nodes .now))
 
 fill-requires : tie.Need-fill-requires
@@ -79,7 +79,7 @@ returns-5 c = let a =
     (c .before .before .before .before .before .before .if4 .left) rows (c .before .before .before .before .fill .ensures) in
     let few-nodes = laws.few-nodes (a .edges .now) (a .nodes .now) (et .edges) (nt .outline) (a .p)
     (c .before .before .before .before .before .before .if4 .left) rows (c .before .before .before .before .fill .ensures) in
-    longer (c .before .before .before .before .before .before .before .before .before .before .before .if1 .left) et nt
+    ToldAs.longer (c .before .before .before .before .before .before .before .before .before .before .before .if1 .left) et nt
     (laws.shown-none (a .local) (edgesOf (a .edges .now)) (a .nodes .now) (a .p) rows src (c .before .least .result)
     (c .before .least .ensures .0) (no-pair (et .edges) (a .p)) (et .edges) (nt .outline) (c .if5 .taken))
 
@@ -153,7 +153,7 @@ returns-6 c = let a =
     let n : length after ≡ r .length = long ∙ omega arith in
     subst (λ (u : List ℕ). Told (a .local) (a .edges .now) (a .nodes .now) (a .p) (a .trace .now) (Of (r .length)) u) (sym same)
     (subst (λ (i : ℕ). Told (a .local) (a .edges .now) (a .nodes .now) (a .p) (a .trace .now) (Of i) (laid (a .trace .now) after)) n
-    (this-long (c .before .before .before .before .before .before .before .before .before .before .before .before .before .before .before
+    (ToldAs.this-long (c .before .before .before .before .before .before .before .before .before .before .before .before .before .before .before
     .before .before .if1 .left) et nt shown))
 
 pub counterexample-spec : {M : Type 1} → statement M
