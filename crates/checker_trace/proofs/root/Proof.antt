@@ -9,11 +9,9 @@ use Rattle.checker_trace.proofs.root.Reads as reads
 use Rattle.checker_trace.proofs.root.Lts as lts
 use Rattle.checker_tables.proofs.least.Reads as least-reads
 
--- src/lib.rt:50:1
 least-requires : tie.Need-least-requires
 least-requires c κs = search needs
 
--- src/lib.rt:50:1
 returns : tie.Need-returns
 returns c = ap (λ (m : ℕ). entryOf 0 false m 0 atBreak) (c .least .ensures)
 

@@ -17,15 +17,12 @@ use Rattle.desk_positions.proofs.stride_at.Lts as lts
 use Rattle.desk_positions.proofs.event_at.Reads as event-at-reads
 use Rattle.desk_positions.proofs.sandbox.Reads as sandbox-reads
 
--- src/lib.rt:433:14
 event-at-requires : tie.Need-event-at-requires
 event-at-requires c κs = search needs
 
--- src/lib.rt:436:17
 sandbox-requires : tie.Need-sandbox-requires
 sandbox-requires c κs = search needs
 
--- src/lib.rt:423:1
 returns : tie.Need-returns
 returns c = (
   λ k l rest ls top w ok.
@@ -35,7 +32,6 @@ returns c = (
   c .event-at .ensures .1,
 )
 
--- src/lib.rt:423:1
 returns-2 : tie.Need-returns-2
 returns-2 c = (
   λ k l rest ls top w ok.
@@ -45,7 +41,6 @@ returns-2 c = (
   c .sandbox .ensures .1,
 )
 
--- src/lib.rt:423:1
 returns-3 : tie.Need-returns-3
 returns-3 c = (
   λ k l rest ls top w ok.
@@ -55,7 +50,6 @@ returns-3 c = (
   c .before .before .before .pre .1 .0,
 )
 
--- src/lib.rt:423:1
 returns-4 : tie.Need-returns-4
 returns-4 c = (
   λ k l rest ls top w ok.

@@ -17,7 +17,6 @@ use Rattle.desk_positions.proofs.stride_closing.Lts as lts
 use Rattle.desk_positions.proofs.add.Reads as add-reads
 use Rattle.desk_positions.proofs.pop.Reads as pop-reads
 
--- src/lib.rt:456:9
 returns : tie.Need-returns
 returns c = (
   λ ns p rest ls is fine dep num w. none-grown w _ (shut-others ns p rest (c .before .args .kind) (c .before .args .a) (c .before .args .b)
@@ -25,11 +24,9 @@ returns c = (
   c .before .pre .1 .0,
 )
 
--- src/lib.rt:458:16
 add-if2 : tie.Need-add-if2
 add-if2 c = search needs
 
--- src/lib.rt:459:9
 returns-2 : tie.Need-returns-2
 returns-2 c = (
   λ ns p rest ls is fine dep num w.
@@ -38,15 +35,12 @@ returns-2 c = (
   c .before .before .pre .1 .0,
 )
 
--- src/lib.rt:461:15
 pop-requires : tie.Need-pop-requires
 pop-requires c κs = search needs
 
--- src/lib.rt:461:5
 add-requires : tie.Need-add-requires
 add-requires c κs = search needs
 
--- src/lib.rt:446:1
 returns-3 : tie.Need-returns-3
 returns-3 c = (
   λ ns p rest ls is fine dep num w.

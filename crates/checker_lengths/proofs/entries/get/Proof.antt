@@ -10,29 +10,23 @@ use Rattle.checker_lengths.proofs.entries.get.Lts as lts
 use Rattle.checker_lengths.proofs.entries.inside.Reads as inside-reads
 use Rattle.checker_lengths.proofs.entries.place.Reads as place-reads
 
--- src/entries.rt:43:9
 inside-requires : tie.Need-inside-requires
 inside-requires c κs = search needs
 
--- src/entries.rt:44:9
 returns : tie.Need-returns
 returns c = held-out _ _ _ (sym (c .before .inside .ensures) ∙ not-true _ (c .if1 .taken))
 
--- src/entries.rt:46:15
 place-requires : tie.Need-place-requires
 place-requires c κs = sym (c .before .inside .ensures) ∙ not-false _ (c .if1 .left)
 
--- src/entries.rt:46:13
 element-copy-out-v : tie.Need-element-copy-out-v
 element-copy-out-v c = let h = linear-lt (c .before .before .before .args .e)
     (sym (c .before .before .inside .ensures) ∙ not-false _ (c .before .if1 .left)) in omega (arith, c .place .ensures)
 
--- src/entries.rt:40:1
 returns-2 : tie.Need-returns-2
 returns-2 c = held-less _ _ _ _ (sym (c .before .before .before .before .inside .ensures)
     ∙ not-false _ (c .before .before .before .if1 .left)) (c .before .before .place .ensures) (c .if2 .taken)
 
--- src/entries.rt:40:1
 returns-3 : tie.Need-returns-3
 returns-3 c = held-more _ _ _ _ (sym (c .before .before .before .before .inside .ensures)
     ∙ not-false _ (c .before .before .before .if1 .left)) (c .before .before .place .ensures) (c .if2 .left)

@@ -5,17 +5,14 @@ use Rattle.checker_lengths.proofs.entries.inside.Tie as tie
 use Rattle.checker_lengths.proofs.entries.inside.Reads as reads
 use Rattle.checker_lengths.proofs.entries.inside.Lts as lts
 
--- src/entries.rt:16:9
 returns : tie.Need-returns
 unfolding inTable
 returns c = simp (le-ltb _ _ (c .if1 .taken))
 
--- src/entries.rt:19:9
 returns-2 : tie.Need-returns-2
 unfolding inTable
 returns-2 c = simp (lt-ltb _ _ (c .before .before .if1 .left), le-ltb _ _ (c .if2 .taken))
 
--- src/entries.rt:22:9
 returns-3 : tie.Need-returns-3
 unfolding inTable
 returns-3 c = simp (
@@ -24,7 +21,6 @@ returns-3 c = simp (
   le-ltb _ _ (c .if3 .taken),
 )
 
--- src/entries.rt:12:1
 returns-4 : tie.Need-returns-4
 unfolding inTable
 returns-4 c = rw (

@@ -5,65 +5,50 @@ use Rattle.checker_lengths.proofs.entries.place.Tie as tie
 use Rattle.checker_lengths.proofs.entries.place.Reads as reads
 use Rattle.checker_lengths.proofs.entries.place.Lts as lts
 
--- src/entries.rt:33:11
 add-result : tie.Need-add-result
 add-result c = let b = bounds (c .before .before .args .e) (c .before .before .pre) in omega arith
 
--- src/entries.rt:33:10
 mul-result : tie.Need-mul-result
 mul-result c = let b = bounds (c .before .before .args .e) (c .before .before .pre) in omega arith
 
--- src/entries.rt:33:32
 mul-result-2 : tie.Need-mul-result-2
 mul-result-2 c = let b = bounds (c .before .before .before .args .e) (c .before .before .before .pre) in omega arith
 
--- src/entries.rt:33:32
 add-result-2 : tie.Need-add-result-2
 add-result-2 c = let b = bounds (c .before .before .before .before .args .e) (c .before .before .before .before .pre) in omega arith
 
--- src/entries.rt:33:10
 add-result-3 : tie.Need-add-result-3
 add-result-3 c = let b = bounds (c .before .before .before .before .args .e) (c .before .before .before .before .pre) in omega arith
 
--- src/entries.rt:33:9
 mul-result-3 : tie.Need-mul-result-3
 mul-result-3 c = let b = bounds (c .before .before .before .before .args .e) (c .before .before .before .before .pre) in omega arith
 
--- src/entries.rt:33:9
 add-result-4 : tie.Need-add-result-4
 add-result-4 c = let b = bounds (c .before .before .before .before .before .args .e) (c .before .before .before .before .before .pre) in
     omega arith
 
--- src/entries.rt:35:10
 mul-result-4 : tie.Need-mul-result-4
 mul-result-4 c = let b = bounds (c .before .before .args .e) (c .before .before .pre) in omega arith
 
--- src/entries.rt:35:25
 mul-result-5 : tie.Need-mul-result-5
 mul-result-5 c = let b = bounds (c .before .before .before .args .e) (c .before .before .before .pre) in omega arith
 
--- src/entries.rt:35:25
 add-result-5 : tie.Need-add-result-5
 add-result-5 c = let b = bounds (c .before .before .before .before .args .e) (c .before .before .before .before .pre) in omega arith
 
--- src/entries.rt:35:10
 add-result-6 : tie.Need-add-result-6
 add-result-6 c = let b = bounds (c .before .before .before .before .args .e) (c .before .before .before .before .pre) in omega arith
 
--- src/entries.rt:35:9
 mul-result-6 : tie.Need-mul-result-6
 mul-result-6 c = let b = bounds (c .before .before .before .before .args .e) (c .before .before .before .before .pre) in omega arith
 
--- src/entries.rt:35:9
 add-result-7 : tie.Need-add-result-7
 add-result-7 c = let b = bounds (c .before .before .before .before .before .args .e) (c .before .before .before .before .before .pre) in
     omega arith
 
--- src/entries.rt:28:1
 returns : tie.Need-returns
 returns c = rw (c .before .before .before .before .if1 .taken)
 
--- src/entries.rt:28:1
 returns-2 : tie.Need-returns-2
 returns-2 c = rw (c .before .before .before .before .if1 .left) (omega arith)
 

@@ -6,19 +6,15 @@ use Rattle.checker_lengths.proofs.entries.plus.Tie as tie
 use Rattle.checker_lengths.proofs.entries.plus.Reads as reads
 use Rattle.checker_lengths.proofs.entries.plus.Lts as lts
 
--- src/entries.rt:55:9
 returns : tie.Need-returns
 returns c = plus-none _ _ (omega arith)
 
--- src/entries.rt:58:9
 returns-2 : tie.Need-returns-2
 returns-2 c = plus-none _ _ (omega arith)
 
--- src/entries.rt:60:5
 add-result : tie.Need-add-result
 add-result c = search needs
 
--- src/entries.rt:51:1
 returns-3 : tie.Need-returns-3
 returns-3 c = plus-some _ _ (omega arith)
 

@@ -33,31 +33,25 @@ Inv-loop t₀ rows w f s c changed₀ i₀ t changed i = (i ≤ 17)
 abbrev μ-loop : tie.MeasureT-loop
 μ-loop t₀ rows w f s c changed₀ i₀ t changed i = 17 - i
 
--- src/fill.rt:46:9
 gives-requires : tie.Need-gives-requires Inv-loop μ-loop
 gives-requires c κs = search needs
 
--- src/fill.rt:47:9
 returns : tie.Need-returns Inv-loop μ-loop
 returns c =
     let a = c .before .before .before .args in
     let g = c .before .gives .ensures (not-true (c .before .gives .result) (c .if1 .taken)) in
     pass-none (λ i lo k few. absurd (omega (arith, g (a .w) i)))
 
--- src/fill.rt:50:9
 low-end-requires : tie.Need-low-end-requires Inv-loop μ-loop
 low-end-requires c κs = search needs
 
--- src/fill.rt:51:5
 loop-holds : tie.Need-loop-holds Inv-loop μ-loop
 loop-holds c = let g = c .low-end .ensures in let m = low-end-le (c .before .before .before .before .args .s .meaning) in
     (omega arith, pass-none (λ j k l. absurd (omega arith)))
 
--- src/fill.rt:52:34
 toward-requires : tie.Need-toward-requires Inv-loop μ-loop
 toward-requires c κs = search needs
 
--- src/fill.rt:52:12
 settle-requires : tie.Need-settle-requires Inv-loop μ-loop
 settle-requires c κs = let l = c .before .before .before .loop in (
   l .inv .1 .same-size ∙ c .before .before .before .before .before .before .before .before .pre .0,
@@ -66,15 +60,12 @@ settle-requires c κs = let l = c .before .before .before .loop in (
       (c .before .before .before .before .before .before .before .before .pre .1) (c .before .before .loop-test .taken)),
 )
 
--- src/fill.rt:55:9
 add-i : tie.Need-add-i Inv-loop μ-loop
 add-i c = search needs
 
--- src/fill.rt:51:5
 loop-less : tie.Need-loop-less Inv-loop μ-loop
 loop-less c = search needs
 
--- src/fill.rt:51:5
 loop-again : tie.Need-loop-again Inv-loop μ-loop
 loop-again c =
     let a = c .before .before .before .before .before .before .before .before .before .before .args in
@@ -91,7 +82,6 @@ loop-again c =
           (l .inv .1) p (by-cases (c .if2 .came) (λ u. inl (u .0 .taken, u .1)) (λ u. inr (u .0 .left, u .1))),
     )
 
--- src/fill.rt:41:1
 returns-2 : tie.Need-returns-2 Inv-loop μ-loop
 returns-2 c = let l = c .before .loop in let e : l .i ≡ 17 = omega arith in pass-map (λ _ h j lo k. h j (omega arith) lo) (l .inv .1)
 

@@ -24,30 +24,24 @@ Inv-loop t₀ rows w f s n changed₀ c₀ t changed c = (c ≤ n)
 abbrev μ-loop : tie.MeasureT-loop
 μ-loop t₀ rows w f s n changed₀ c₀ t changed c = n - c
 
--- src/fill.rt:66:9
 ways-requires : tie.Need-ways-requires Inv-loop μ-loop
 ways-requires c κs = search needs
 
--- src/fill.rt:69:5
 loop-holds : tie.Need-loop-holds Inv-loop μ-loop
 loop-holds c = (search needs, pass-none (λ j k. absurd (omega arith)))
 
--- src/fill.rt:70:12
 settle-rule-requires : tie.Need-settle-rule-requires Inv-loop μ-loop
 settle-rule-requires c κs = (
   c .before .before .loop .inv .1 .same-size ∙ c .before .before .before .before .pre .0,
   c .before .before .before .before .pre .1,
 )
 
--- src/fill.rt:73:9
 add-c : tie.Need-add-c Inv-loop μ-loop
 add-c c = search needs
 
--- src/fill.rt:69:5
 loop-less : tie.Need-loop-less Inv-loop μ-loop
 loop-less c = search needs
 
--- src/fill.rt:69:5
 loop-again : tie.Need-loop-again Inv-loop μ-loop
 loop-again c =
     let a = c .before .before .before .before .before .before .args in
@@ -62,7 +56,6 @@ loop-again c =
           (by-cases (c .if1 .came) (λ u. inl (u .0 .taken, u .1)) (λ u. inr (u .0 .left, u .1))),
     )
 
--- src/fill.rt:61:1
 returns : tie.Need-returns Inv-loop μ-loop
 returns c = let l = c .before .loop in let e = c .before .before .ways .ensures in
     pass-map (λ _ h j k. h j (omega arith)) (l .inv .1)

@@ -8,15 +8,12 @@ use Rattle.checker_lengths.proofs.offers.body.Reads as reads
 use Rattle.checker_lengths.proofs.offers.body.Lts as lts
 use Rattle.checker_tables.proofs.lose.Reads as lose-reads
 
--- src/offers.rt:177:15
 add-own : tie.Need-add-own
 add-own c = search needs
 
--- src/offers.rt:180:9
 lose-requires : tie.Need-lose-requires
 lose-requires c κs = search needs
 
--- src/offers.rt:174:1
 returns : tie.Need-returns
 returns c = let a = c .before .args in let e = a .e in
     laws.body-is e (a .n) (a .b) (a .c) (c .if1 .m)

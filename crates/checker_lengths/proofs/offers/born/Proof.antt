@@ -9,15 +9,12 @@ use Rattle.checker_lengths.proofs.offers.born.Reads as reads
 use Rattle.checker_lengths.proofs.offers.born.Lts as lts
 use Rattle.checker_lengths.proofs.offers.moved.Reads as moved-reads
 
--- src/offers.rt:89:13
 returns : tie.Need-returns
 returns c = laws.born-none _ _ _ (c .before .before .if1 .taken) (c .if2 .taken)
 
--- src/offers.rt:92:5
 moved-requires : tie.Need-moved-requires
 moved-requires c κs = search needs
 
--- src/offers.rt:84:1
 returns-2 : tie.Need-returns-2
 returns-2 c = c .moved .ensures ∙ laws.born-some _ _ _ (by-cases (c .before .if1 .came) (λ w. inl (w .2 .left)) (λ w. inr (w .left)))
 

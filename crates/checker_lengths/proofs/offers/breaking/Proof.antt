@@ -6,12 +6,10 @@ use Rattle.checker_lengths.proofs.offers.breaking.Tie as tie
 use Rattle.checker_lengths.proofs.offers.breaking.Reads as reads
 use Rattle.checker_lengths.proofs.offers.breaking.Lts as lts
 
--- src/offers.rt:115:9
 returns : tie.Need-returns
 unfolding spec.breaking
 returns c = simp (ne-eqb _ _ (c .if1 .taken))
 
--- src/offers.rt:118:9
 returns-2 : tie.Need-returns-2
 unfolding spec.breaking
 returns-2 c = simp (
@@ -19,7 +17,6 @@ returns-2 c = simp (
   not-true (c .before .before .before .before .args .e .opened) (c .if2 .taken),
 )
 
--- src/offers.rt:111:1
 returns-3 : tie.Need-returns-3
 unfolding spec.breaking
 returns-3 c = simp (
@@ -28,7 +25,6 @@ returns-3 c = simp (
   le-leb _ _ (c .if3 .taken),
 )
 
--- src/offers.rt:111:1
 returns-4 : tie.Need-returns-4
 unfolding spec.breaking
 returns-4 c = simp (

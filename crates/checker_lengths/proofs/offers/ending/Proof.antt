@@ -9,28 +9,22 @@ use Rattle.checker_lengths.proofs.offers.ending.Lts as lts
 use Rattle.checker_lengths.proofs.offers.has.Reads as has-reads
 use Rattle.checker_lengths.proofs.offers.low_end.Reads as low-end-reads
 
--- src/offers.rt:99:9
 low-end-requires : tie.Need-low-end-requires
 low-end-requires c κs = search needs
 
--- src/offers.rt:101:9
 returns : tie.Need-returns
 returns c = laws.ending-low _ _ _ (c .before .before .low-end .ensures) (c .if1 .taken)
 
--- src/offers.rt:105:9
 returns-2 : tie.Need-returns-2
 returns-2 c = laws.ending-past _ _ _ (c .before .before .before .before .low-end .ensures) (c .before .before .if1 .left) (c .if2 .taken)
 
--- src/offers.rt:107:8
 has-requires : tie.Need-has-requires
 has-requires c κs = search needs
 
--- src/offers.rt:96:1
 returns-3 : tie.Need-returns-3
 returns-3 c = laws.ending-by _ _ _ (c .before .before .before .before .before .before .low-end .ensures) true
     (c .before .before .before .before .if1 .left) (c .before .before .if2 .left) (sym (c .before .has .ensures) ∙ c .if3 .taken)
 
--- src/offers.rt:96:1
 returns-4 : tie.Need-returns-4
 returns-4 c = laws.ending-by _ _ _ (c .before .before .before .before .before .before .low-end .ensures) false
     (c .before .before .before .before .if1 .left) (c .before .before .if2 .left) (sym (c .before .has .ensures) ∙ c .if3 .left)

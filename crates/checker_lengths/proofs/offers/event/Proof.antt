@@ -8,20 +8,16 @@ use Rattle.checker_lengths.proofs.offers.event.Lts as lts
 use Rattle.checker_lengths.proofs.offers.breaking.Reads as breaking-reads
 use Rattle.checker_lengths.proofs.offers.ending.Reads as ending-reads
 
--- src/offers.rt:127:17
 ending-requires : tie.Need-ending-requires
 ending-requires c κs = search needs
 
--- src/offers.rt:127:39
 breaking-requires : tie.Need-breaking-requires
 breaking-requires c κs = search needs
 
--- src/offers.rt:124:1
 returns : tie.Need-returns
 unfolding spec.eventOf
 returns c = rw (eq-eqb _ _ (c .before .if1 .taken)) (c .ending .ensures)
 
--- src/offers.rt:124:1
 returns-2 : tie.Need-returns-2
 unfolding spec.eventOf
 returns-2 c = rw (ne-eqb _ _ (c .before .if1 .left)) (c .breaking .ensures)

@@ -18,47 +18,37 @@ use Rattle.checker_lengths.proofs.offers.born.Reads as born-reads
 use Rattle.checker_lengths.proofs.offers.breaking.Reads as breaking-reads
 use Rattle.checker_lengths.proofs.offers.has.Reads as has-reads
 
--- src/offers.rt:247:25
 born-requires : tie.Need-born-requires
 born-requires c κs = search needs
 
--- src/offers.rt:247:9
 breaking-requires : tie.Need-breaking-requires
 breaking-requires c κs = search needs
 
--- src/offers.rt:247:9
 returns : tie.Need-returns
 returns c = c .breaking .ensures ∙ ap (λ (v : ℕ). breaking v (c .before .before .before .args .e)) (c .before .born .ensures)
     ∙ laws.fresh-breaks _ _ _ _ _ _ (c .before .before .if1 .taken)
 
--- src/offers.rt:249:13
 born-requires-2 : tie.Need-born-requires-2
 born-requires-2 c κs = search needs
 
--- src/offers.rt:249:9
 has-requires : tie.Need-has-requires
 has-requires c κs = search needs
 
--- src/offers.rt:250:9
 returns-2 : tie.Need-returns-2
 returns-2 c = let a = c .before .before .before .before .args in let look = held (a .t .now) (a .most) in
     laws.fresh-dead (a .rows .now) look (a .e) (a .n) (a .b) (a .c) (c .before .before .before .if1 .left)
     (sym (c .before .has .ensures ∙ ap (λ (v : ℕ). has v (a .c % 8)) (c .before .before .born2 .ensures))
     ∙ not-true (c .before .has .result) (c .if2 .taken))
 
--- src/offers.rt:252:44
 body-requires : tie.Need-body-requires
 body-requires c κs = search needs
 
--- src/offers.rt:252:22
 get-requires : tie.Need-get-requires
 get-requires c κs = search needs
 
--- src/offers.rt:252:5
 plus-requires : tie.Need-plus-requires
 plus-requires c κs = search needs
 
--- src/offers.rt:243:1
 returns-3 : tie.Need-returns-3
 returns-3 c = let a = c .before .before .before .before .before .before .before .args in let look = held (a .t .now) (a .most) in
     c .plus .ensures ∙ ap (plus 1) (c .before .get .ensures ∙ ap look (c .before .before .body .ensures))

@@ -20,19 +20,15 @@ use Rattle.checker_lengths.proofs.offers.born.Reads as born-reads
 use Rattle.checker_lengths.proofs.offers.first.Reads as first-reads
 use Rattle.checker_lengths.proofs.offers.has.Reads as has-reads
 
--- src/offers.rt:301:9
 returns : tie.Need-returns
 returns c = λ e. false-true (sym e)
 
--- src/offers.rt:304:37
 first-requires : tie.Need-first-requires
 first-requires c κs = search needs
 
--- src/offers.rt:304:16
 get-requires : tie.Need-get-requires
 get-requires c κs = search needs
 
--- src/offers.rt:304:9
 returns-2 : tie.Need-returns-2
 unfolding formOf spec.offerOf
 returns-2 c = λ g w i.
@@ -44,15 +40,12 @@ returns-2 c = λ g w i.
     rw (c .before .before .if2 .taken) (sym (laws.sequence-dead look s (a .f .a) (a .f .b) (a .c)
     (c .before .before .before .before .if1 .left) (omega (arith, v))))
 
--- src/offers.rt:307:20
 born-requires : tie.Need-born-requires
 born-requires c κs = search needs
 
--- src/offers.rt:307:9
 has-requires : tie.Need-has-requires
 has-requires c κs = search needs
 
--- src/offers.rt:307:9
 returns-3 : tie.Need-returns-3
 unfolding formOf spec.offerOf spec.born spec.moved
 returns-3 c = λ g w i.
@@ -63,7 +56,6 @@ returns-3 c = λ g w i.
     (c .before .before .before .before .before .before .if1 .left)
     (sym (ap (λ (v : ℕ). has v (a .c % 8)) (c .before .born .ensures)) ∙ sym (c .has .ensures) ∙ g)))
 
--- src/offers.rt:297:1
 returns-4 : tie.Need-returns-4
 returns-4 c = λ e. false-true (sym e)
 

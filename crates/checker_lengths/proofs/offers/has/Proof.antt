@@ -5,19 +5,15 @@ use Rattle.checker_lengths.proofs.offers.has.Tie as tie
 use Rattle.checker_lengths.proofs.offers.has.Reads as reads
 use Rattle.checker_lengths.proofs.offers.has.Lts as lts
 
--- src/offers.rt:61:12
 cast-result : tie.Need-cast-result
 cast-result c = search needs
 
--- src/offers.rt:61:12
 cast-result-2 : tie.Need-cast-result-2
 cast-result-2 c = search needs
 
--- src/offers.rt:61:6
 shr-result : tie.Need-shr-result
 shr-result c = search needs
 
--- src/offers.rt:57:1
 returns : tie.Need-returns
 returns c = laws.has-bit _ _
 

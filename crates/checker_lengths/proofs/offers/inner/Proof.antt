@@ -10,11 +10,9 @@ use Rattle.checker_lengths.proofs.offers.inner.Reads as reads
 use Rattle.checker_lengths.proofs.offers.inner.Lts as lts
 use Rattle.checker_lengths.proofs.offers.reopened.Reads as reopened-reads
 
--- src/offers.rt:208:9
 reopened-requires : tie.Need-reopened-requires
 reopened-requires c κs = search needs
 
--- src/offers.rt:205:1
 returns : tie.Need-returns
 returns c = laws.inner-is (c .before .before .args .w) (c .before .before .args .e) (c .before .before .args .s)
     (c .before .before .args .b) _ _ (by-cases (c .if1 .came)

@@ -5,11 +5,9 @@ use Rattle.checker_lengths.proofs.offers.low_end.Tie as tie
 use Rattle.checker_lengths.proofs.offers.low_end.Reads as reads
 use Rattle.checker_lengths.proofs.offers.low_end.Lts as lts
 
--- src/offers.rt:50:1
 returns : tie.Need-returns
 returns c = search needs
 
--- src/offers.rt:50:1
 returns-2 : tie.Need-returns-2
 returns-2 c = rw (made-some _ (c .if1 .left))
 

@@ -23,87 +23,67 @@ use Rattle.checker_lengths.proofs.offers.sandbox.Reads as sandbox-reads
 use Rattle.checker_lengths.proofs.offers.sequence.Reads as sequence-reads
 use Rattle.checker_lengths.proofs.offers.still.Reads as still-reads
 
--- src/offers.rt:282:14
 still-requires : tie.Need-still-requires
 still-requires c κs = search needs
 
--- src/offers.rt:283:35
 cast-moved : tie.Need-cast-moved
 cast-moved c = search needs
 
--- src/offers.rt:283:20
 moved-requires : tie.Need-moved-requires
 moved-requires c κs = search needs
 
--- src/offers.rt:283:14
 event-requires : tie.Need-event-requires
 event-requires c κs = search needs
 
--- src/offers.rt:284:48
 cast-moved-2 : tie.Need-cast-moved-2
 cast-moved-2 c = search needs
 
--- src/offers.rt:284:48
 add-moved : tie.Need-add-moved
 add-moved c = search needs
 
--- src/offers.rt:284:20
 moved-requires-2 : tie.Need-moved-requires-2
 moved-requires-2 c κs = search needs
 
--- src/offers.rt:284:14
 event-requires-2 : tie.Need-event-requires-2
 event-requires-2 c κs = search needs
 
--- src/offers.rt:285:14
 sequence-requires : tie.Need-sequence-requires
 sequence-requires c κs = search needs
 
--- src/offers.rt:286:36
 at-requires : tie.Need-at-requires
 at-requires c κs = search needs
 
--- src/offers.rt:286:14
 get-requires : tie.Need-get-requires
 get-requires c κs = search needs
 
--- src/offers.rt:287:36
 at-requires-2 : tie.Need-at-requires-2
 at-requires-2 c κs = search needs
 
--- src/offers.rt:287:14
 get-requires-2 : tie.Need-get-requires-2
 get-requires-2 c κs = search needs
 
--- src/offers.rt:288:36
 at-requires-3 : tie.Need-at-requires-3
 at-requires-3 c κs = search needs
 
--- src/offers.rt:288:14
 get-requires-3 : tie.Need-get-requires-3
 get-requires-3 c κs = search needs
 
--- src/offers.rt:289:14
 fresh-requires : tie.Need-fresh-requires
 fresh-requires c κs = search needs
 
--- src/offers.rt:290:14
 sandbox-requires : tie.Need-sandbox-requires
 sandbox-requires c κs = search needs
 
--- src/offers.rt:277:1
 returns : tie.Need-returns
 unfolding formOf spec.offerOf
 returns c = rw (c .before .match .keys1) (c .still .ensures)
 
--- src/offers.rt:277:1
 returns-2 : tie.Need-returns-2
 unfolding formOf spec.offerOf
 returns-2 c = rw (c .before .before .match .keys2)
     (c .event .ensures ∙ ap (λ (v : ℕ). spec.eventOf v (c .before .before .before .args .e) (c .before .before .before .args .c))
     (c .before .moved .ensures))
 
--- src/offers.rt:277:1
 returns-3 : tie.Need-returns-3
 unfolding formOf spec.offerOf
 returns-3 c = rw (c .before .before .match .keys3)
@@ -112,12 +92,10 @@ returns-3 c = rw (c .before .before .match .keys3)
     (c .before .before .before .args .e) (eqb (c .before .before .before .args .e .meaning) j))
     (add-one (c .before .before .before .args .f .b))))
 
--- src/offers.rt:277:1
 returns-4 : tie.Need-returns-4
 unfolding formOf spec.offerOf
 returns-4 c = rw (c .before .match .keys4) (c .sequence .ensures)
 
--- src/offers.rt:277:1
 returns-5 : tie.Need-returns-5
 unfolding formOf spec.offerOf
 returns-5 c = let a = c .before .before .before .before .args in let look = held (a .t .now) (a .most) in
@@ -127,29 +105,24 @@ returns-5 c = let a = c .before .before .before .before .args in let look = held
     (λ u. u .1 ∙ sym (ap (λ (b : Bool). cond b (a .f .a) (a .f .b)) (eq-eqb (a .c) 0 (u .0 .taken))))
     (λ u. u .1 ∙ sym (ap (λ (b : Bool). cond b (a .f .a) (a .f .b)) (ne-eqb (a .c) 0 (u .0 .left)))))))
 
--- src/offers.rt:277:1
 returns-6 : tie.Need-returns-6
 unfolding formOf spec.offerOf
 returns-6 c = let a = c .before .before .before .args in let look = held (a .t .now) (a .most) in
     rw (c .before .before .match .keys6) (c .get2 .ensures ∙ ap look (c .before .at2 .ensures))
 
--- src/offers.rt:277:1
 returns-7 : tie.Need-returns-7
 unfolding formOf spec.offerOf
 returns-7 c = let a = c .before .before .before .args in let look = held (a .t .now) (a .most) in
     rw (c .before .before .match .keys7) (c .get3 .ensures ∙ ap look (c .before .at3 .ensures))
 
--- src/offers.rt:277:1
 returns-8 : tie.Need-returns-8
 unfolding formOf spec.offerOf
 returns-8 c = rw (c .before .match .keys8) (c .fresh .ensures)
 
--- src/offers.rt:277:1
 returns-9 : tie.Need-returns-9
 unfolding formOf spec.offerOf
 returns-9 c = rw (c .before .match .keys9) (c .sandbox .ensures)
 
--- src/offers.rt:277:1
 returns-10 : tie.Need-returns-10
 returns-10 c = sym (ap (spec.offerFrom (c .before .args .w) (c .before .args .rows .now)
     (held (c .before .args .t .now) (c .before .args .most)) (c .before .args .e) (c .before .args .c))

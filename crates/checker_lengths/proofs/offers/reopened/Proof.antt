@@ -5,18 +5,15 @@ use Rattle.checker_lengths.proofs.offers.reopened.Tie as tie
 use Rattle.checker_lengths.proofs.offers.reopened.Reads as reads
 use Rattle.checker_lengths.proofs.offers.reopened.Lts as lts
 
--- src/offers.rt:196:9
 returns : tie.Need-returns
 returns c = simp (not-true (c .before .before .args .w .local) (c .if1 .taken))
 
--- src/offers.rt:199:9
 returns-2 : tie.Need-returns-2
 returns-2 c = simp (
   not-false (c .before .before .before .before .args .w .local) (c .before .before .if1 .left),
   ne-eqb _ _ (c .if2 .taken),
 )
 
--- src/offers.rt:192:1
 returns-3 : tie.Need-returns-3
 returns-3 c = simp (
   not-false (c .before .before .before .before .before .args .w .local) (c .before .before .before .if1 .left),
@@ -24,7 +21,6 @@ returns-3 c = simp (
   c .if3 .taken,
 )
 
--- src/offers.rt:192:1
 returns-4 : tie.Need-returns-4
 returns-4 c = simp (
   not-false (c .before .before .before .before .before .args .w .local) (c .before .before .before .if1 .left),

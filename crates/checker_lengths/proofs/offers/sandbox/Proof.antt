@@ -16,19 +16,15 @@ use Rattle.checker_lengths.proofs.entries.plus.Reads as plus-reads
 use Rattle.checker_lengths.proofs.offers.inner.Reads as inner-reads
 use Rattle.checker_lengths.proofs.offers.reopened.Reads as reopened-reads
 
--- src/offers.rt:261:60
 inner-requires : tie.Need-inner-requires
 inner-requires c κs = search needs
 
--- src/offers.rt:261:38
 get-requires : tie.Need-get-requires
 get-requires c κs = search needs
 
--- src/offers.rt:261:9
 plus-requires : tie.Need-plus-requires
 plus-requires c κs = search needs
 
--- src/offers.rt:261:9
 returns : tie.Need-returns
 returns c = let a = c .before .before .before .before .before .before .args in let look = held (a .t .now) (a .most) in
     c .plus .ensures
@@ -38,26 +34,21 @@ returns c = let a = c .before .before .before .before .before .before .args in l
     (c .before .get .ensures ∙ ap look (c .before .before .inner .ensures))
     ∙ laws.sandbox-on (a .w) look (a .e) (a .s) (a .b) (a .c) (c .before .before .before .before .before .if1 .taken)
 
--- src/offers.rt:264:9
 returns-2 : tie.Need-returns-2
 returns-2 c = laws.sandbox-breaks _ _ _ _ _ _ false (c .before .before .if1 .left) (simp (ne-eqb _ _ (c .if3 .taken)))
 
--- src/offers.rt:267:9
 returns-3 : tie.Need-returns-3
 returns-3 c = laws.sandbox-breaks _ _ _ _ _ _ false (c .before .before .before .before .if1 .left)
     (simp (eq-eqb _ _ (c .before .before .if3 .left), ne-eqb _ _ (c .if4 .taken)))
 
--- src/offers.rt:269:13
 reopened-requires : tie.Need-reopened-requires
 reopened-requires c κs = search needs
 
--- src/offers.rt:256:1
 returns-4 : tie.Need-returns-4
 returns-4 c = let a = c .before .before .before .before .before .before .before .args in let look = held (a .t .now) (a .most) in
     laws.sandbox-hits (a .w) look (a .e) (a .s) (a .b) (a .c) _ (c .before .before .before .before .before .before .if1 .left)
     (c .before .before .before .before .if3 .left) (c .before .before .if4 .left) (c .before .reopened .ensures) (c .if5 .taken)
 
--- src/offers.rt:256:1
 returns-5 : tie.Need-returns-5
 returns-5 c = let a = c .before .before .before .before .before .before .before .args in let look = held (a .t .now) (a .most) in
     laws.sandbox-safe (a .w) look (a .e) (a .s) (a .b) (a .c) _ (c .before .before .before .before .before .before .if1 .left)

@@ -6,7 +6,6 @@ use Rattle.checker_lengths.proofs.offers.second.Tie as tie
 use Rattle.checker_lengths.proofs.offers.second.Reads as reads
 use Rattle.checker_lengths.proofs.offers.second.Lts as lts
 
--- src/offers.rt:157:1
 returns : tie.Need-returns
 returns c = let a = c .before .args in let e = a .e in
     laws.second-is e (a .b) (a .c) (c .if1 .m)

@@ -14,51 +14,40 @@ use Rattle.checker_lengths.proofs.offers.at.Reads as at-reads
 use Rattle.checker_lengths.proofs.offers.first.Reads as first-reads
 use Rattle.checker_lengths.proofs.offers.second.Reads as second-reads
 
--- src/offers.rt:231:13
 returns : tie.Need-returns
 returns c = laws.sequence-not _ _ _ _ _ (c .before .before .if1 .taken) (c .if2 .taken)
 
--- src/offers.rt:233:38
 at-requires : tie.Need-at-requires
 at-requires c κs = search needs
 
--- src/offers.rt:233:9
 get-requires : tie.Need-get-requires
 get-requires c κs = search needs
 
--- src/offers.rt:233:9
 returns-2 : tie.Need-returns-2
 returns-2 c = let a = c .before .before .before .before .before .args in let look = held (a .t .now) (a .most) in c .get .ensures
     ∙ ap look (c .before .at .ensures) ∙ laws.sequence-first look (a .e) (a .a) (a .b) (a .c)
     (c .before .before .before .before .if1 .taken) (c .before .before .if2 .left)
 
--- src/offers.rt:235:35
 first-requires : tie.Need-first-requires
 first-requires c κs = search needs
 
--- src/offers.rt:235:9
 get-requires-2 : tie.Need-get-requires-2
 get-requires-2 c κs = search needs
 
--- src/offers.rt:237:9
 returns-3 : tie.Need-returns-3
 returns-3 c = let a = c .before .before .before .before .args in let look = held (a .t .now) (a .most) in let g = c .before .get2 .ensures
     ∙ ap look (c .before .before .first .ensures) in
     laws.sequence-dead look (a .e) (a .a) (a .b) (a .c) (c .before .before .before .if1 .left) (omega (arith, g))
 
--- src/offers.rt:239:44
 second-requires : tie.Need-second-requires
 second-requires c κs = search needs
 
--- src/offers.rt:239:22
 get-requires-3 : tie.Need-get-requires-3
 get-requires-3 c κs = search needs
 
--- src/offers.rt:239:5
 plus-requires : tie.Need-plus-requires
 plus-requires c κs = search needs
 
--- src/offers.rt:226:1
 returns-4 : tie.Need-returns-4
 returns-4 c = let a = c .before .before .before .before .before .before .before .args in let look = held (a .t .now) (a .most) in
     c .plus .ensures ∙ ap₂ plus (c .before .before .before .before .get2 .ensures

@@ -6,20 +6,16 @@ use Rattle.checker_lengths.proofs.offers.still.Reads as reads
 use Rattle.checker_lengths.proofs.offers.still.Lts as lts
 use Rattle.checker_lengths.proofs.offers.low_end.Reads as low-end-reads
 
--- src/offers.rt:134:9
 low-end-requires : tie.Need-low-end-requires
 low-end-requires c κs = search needs
 
--- src/offers.rt:136:9
 returns : tie.Need-returns
 returns c = laws.still-low 0 _ _ (c .before .before .low-end .ensures) (c .if1 .taken)
 
--- src/offers.rt:131:1
 returns-2 : tie.Need-returns-2
 returns-2 c = laws.still-here 0 _ _ (c .before .before .before .before .before .low-end .ensures) (c .before .before .before .if1 .left)
     (c .if2 .taken)
 
--- src/offers.rt:131:1
 returns-3 : tie.Need-returns-3
 returns-3 c = laws.still-other 0 _ _ (c .before .before .before .before .before .low-end .ensures) (c .before .before .before .if1 .left)
     (c .if2 .left)

@@ -7,52 +7,42 @@ use Rattle.checker_lengths.proofs.offers.ways.Tie as tie
 use Rattle.checker_lengths.proofs.offers.ways.Reads as reads
 use Rattle.checker_lengths.proofs.offers.ways.Lts as lts
 
--- src/offers.rt:313:1
 returns : tie.Need-returns
 unfolding formOf
 returns c = rw (c .match .keys1)
 
--- src/offers.rt:313:1
 returns-2 : tie.Need-returns-2
 unfolding formOf
 returns-2 c = rw (c .match .keys2)
 
--- src/offers.rt:313:1
 returns-3 : tie.Need-returns-3
 unfolding formOf
 returns-3 c = rw (c .match .keys3)
 
--- src/offers.rt:313:1
 returns-4 : tie.Need-returns-4
 unfolding formOf
 returns-4 c = rw (c .match .keys4)
 
--- src/offers.rt:313:1
 returns-5 : tie.Need-returns-5
 unfolding formOf
 returns-5 c = rw (c .match .keys5)
 
--- src/offers.rt:313:1
 returns-6 : tie.Need-returns-6
 unfolding formOf
 returns-6 c = rw (c .match .keys6)
 
--- src/offers.rt:313:1
 returns-7 : tie.Need-returns-7
 unfolding formOf
 returns-7 c = rw (c .match .keys7)
 
--- src/offers.rt:313:1
 returns-8 : tie.Need-returns-8
 unfolding formOf
 returns-8 c = rw (c .match .keys8)
 
--- src/offers.rt:313:1
 returns-9 : tie.Need-returns-9
 unfolding formOf
 returns-9 c = rw (c .match .keys9)
 
--- src/offers.rt:313:1
 returns-10 : tie.Need-returns-10
 returns-10 c = sym (ap waysOf (let n = c .match .rest in
     no-form (c .before .args .f .kind) (c .before .args .f .a) (c .before .args .f .b) (n .0 .0 .0 .0 .0 .0 .0 .0 .1)

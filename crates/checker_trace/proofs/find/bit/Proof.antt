@@ -6,23 +6,18 @@ use Rattle.checker_trace.proofs.find.bit.Tie as tie
 use Rattle.checker_trace.proofs.find.bit.Reads as reads
 use Rattle.checker_trace.proofs.find.bit.Lts as lts
 
--- src/find.rt:49:26
 cast-result : tie.Need-cast-result
 cast-result c = search needs
 
--- src/find.rt:49:26
 cast-result-2 : tie.Need-cast-result-2
 cast-result-2 c = search needs
 
--- src/find.rt:49:17
 shl-result : tie.Need-shl-result
 shl-result c = search needs
 
--- src/find.rt:46:1
 returns : tie.Need-returns
 returns c = laws.shl-bit (c .before .args .k) (c .if1 .taken)
 
--- src/find.rt:46:1
 returns-2 : tie.Need-returns-2
 returns-2 c = sym (laws.no-bit (c .before .args .k) (c .if1 .left))
 

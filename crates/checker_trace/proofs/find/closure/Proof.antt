@@ -23,24 +23,19 @@ Inv-loop t nodes e s₀ s = Spreads t nodes e s
 abbrev μ-loop : tie.MeasureT-loop
 μ-loop t nodes e s₀ s = 18446744073709551616 - s
 
--- src/find.rt:111:9
 bit-requires : tie.Need-bit-requires Inv-loop μ-loop
 bit-requires c κs = search needs
 
--- src/find.rt:112:5
 loop-holds : tie.Need-loop-holds Inv-loop μ-loop
 loop-holds c = subst (Spreads (c .before .before .args .t .now) (c .before .before .args .nodes .now) (c .before .before .args .e))
     (sym (c .bit .ensures)) begins
 
--- src/find.rt:113:13
 spread-requires : tie.Need-spread-requires Inv-loop μ-loop
 spread-requires c κs = search needs
 
--- src/find.rt:115:13
 returns : tie.Need-returns Inv-loop μ-loop
 returns c = record { spreads = c .before .before .loop .inv; still = sym (c .before .spread .ensures) ∙ c .if1 .taken }
 
--- src/find.rt:112:5
 loop-less : tie.Need-loop-less Inv-loop μ-loop
 loop-less c =
     let a = c .before .before .before .before .before .args in
@@ -48,7 +43,6 @@ loop-less c =
     let g = laws.spread-ge (a .t .now) (a .nodes .now) (a .e) (length (a .nodes .now) / nodeFields) (c .before .before .loop .s) in
     omega (arith, h .fits, c .before .spread .ensures, c .if1 .left)
 
--- src/find.rt:112:5
 loop-again : tie.Need-loop-again Inv-loop μ-loop
 loop-again c = subst (Spreads (c .before .before .before .before .before .args .t .now)
     (c .before .before .before .before .before .args .nodes .now) (c .before .before .before .before .before .args .e))

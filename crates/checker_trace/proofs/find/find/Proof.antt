@@ -32,35 +32,27 @@ Inv-loop t nodes rows w e n s count k₀ k = (k ≤ count)
 abbrev μ-loop : tie.MeasureT-loop
 μ-loop t nodes rows w e n s count k₀ k = count - k
 
--- src/find.rt:141:9
 closure-requires : tie.Need-closure-requires Inv-loop μ-loop
 closure-requires c κs = c .before .pre
 
--- src/find.rt:144:5
 loop-holds : tie.Need-loop-holds Inv-loop μ-loop
 loop-holds c = (search needs, λ j l. absurd (omega arith))
 
--- src/find.rt:145:12
 has-requires : tie.Need-has-requires Inv-loop μ-loop
 has-requires c κs = let p = c .before .before .before .before .pre in omega arith
 
--- src/find.rt:146:17
 node-requires : tie.Need-node-requires Inv-loop μ-loop
 node-requires c κs = search needs
 
--- src/find.rt:147:41
 at-requires : tie.Need-at-requires Inv-loop μ-loop
 at-requires c κs = search needs
 
--- src/find.rt:147:17
 rule-requires : tie.Need-rule-requires Inv-loop μ-loop
 rule-requires c κs = search needs
 
--- src/find.rt:148:20
 ways-requires : tie.Need-ways-requires Inv-loop μ-loop
 ways-requires c κs = search needs
 
--- src/find.rt:149:17
 returns : tie.Need-returns Inv-loop μ-loop
 returns c =
     let a = c .before .before .before .before .before .before .before .before .before .before .before .args in
@@ -79,15 +71,12 @@ returns c =
       r .here (subst (λ (i : ℕ). c .before .before .rule .result < i) g (c .if2 .taken)),
     )
 
--- src/find.rt:152:9
 add-k : tie.Need-add-k Inv-loop μ-loop
 add-k c = search needs
 
--- src/find.rt:144:5
 loop-less : tie.Need-loop-less Inv-loop μ-loop
 loop-less c = search needs
 
--- src/find.rt:144:5
 loop-again : tie.Need-loop-again Inv-loop μ-loop
 loop-again c =
     let a = c .before .before .before .before .before .before .args in
@@ -109,7 +98,6 @@ loop-again c =
           (λ v h. not-both (c .before .has .result) (c .before .has .ensures ∙ h) (v .left))),
     )
 
--- src/find.rt:137:1
 returns-2 : tie.Need-returns-2 Inv-loop μ-loop
 returns-2 c =
     let l = c .before .loop in

@@ -5,19 +5,15 @@ use Rattle.checker_trace.proofs.find.has.Tie as tie
 use Rattle.checker_trace.proofs.find.has.Reads as reads
 use Rattle.checker_trace.proofs.find.has.Lts as lts
 
--- src/find.rt:57:12
 cast-result : tie.Need-cast-result
 cast-result c = search needs
 
--- src/find.rt:57:12
 cast-result-2 : tie.Need-cast-result-2
 cast-result-2 c = search needs
 
--- src/find.rt:57:6
 shr-result : tie.Need-shr-result
 shr-result c = search needs
 
--- src/find.rt:53:1
 returns : tie.Need-returns
 returns c = has-bit _ _
 

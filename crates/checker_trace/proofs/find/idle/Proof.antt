@@ -14,19 +14,15 @@ use Rattle.checker_trace.proofs.find.idle.Lts as lts
 use Rattle.checker_lengths.proofs.entries.get.Reads as get-reads
 use Rattle.checker_lengths.proofs.offers.low_end.Reads as low-end-reads
 
--- src/find.rt:27:14
 low-end-requires : tie.Need-low-end-requires
 low-end-requires c κs = search needs
 
--- src/find.rt:27:14
 add-t8 : tie.Need-add-t8
 add-t8 c = let h = c .before .low-end .ensures in omega (arith, low-end-le (c .before .before .args .e .meaning))
 
--- src/find.rt:29:5
 get-requires : tie.Need-get-requires
 get-requires c κs = search needs
 
--- src/find.rt:19:1
 returns : tie.Need-returns
 unfolding idleIn
 returns c = ap (λ (v : ℕ). eqb v 0) (c .get .ensures

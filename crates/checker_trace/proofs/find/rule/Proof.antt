@@ -18,19 +18,15 @@ Inv-loop t rows w f e n ways c₀ c = (c ≤ ways) × ((i : ℕ) → i < c → o
 abbrev μ-loop : tie.MeasureT-loop
 μ-loop t rows w f e n ways c₀ c = ways - c
 
--- src/find.rt:125:9
 ways-requires : tie.Need-ways-requires Inv-loop μ-loop
 ways-requires c κs = search needs
 
--- src/find.rt:127:5
 loop-holds : tie.Need-loop-holds Inv-loop μ-loop
 loop-holds c = (search needs, λ i l. absurd (omega arith))
 
--- src/find.rt:128:12
 offer-requires : tie.Need-offer-requires Inv-loop μ-loop
 offer-requires c κs = search needs
 
--- src/find.rt:129:13
 returns : tie.Need-returns Inv-loop μ-loop
 returns c =
     let a = c .before .before .before .before .before .args in
@@ -39,15 +35,12 @@ returns c =
     let k = c .before .before .loop-test .taken in
     record { here = λ _. sym (c .before .offer .ensures) ∙ c .if1 .taken; none-there = λ h. absurd (omega arith) }
 
--- src/find.rt:131:9
 add-c : tie.Need-add-c Inv-loop μ-loop
 add-c c = search needs
 
--- src/find.rt:127:5
 loop-less : tie.Need-loop-less Inv-loop μ-loop
 loop-less c = search needs
 
--- src/find.rt:127:5
 loop-again : tie.Need-loop-again Inv-loop μ-loop
 loop-again c =
     let a = c .before .before .before .before .before .args in
@@ -57,7 +50,6 @@ loop-again c =
           (l .inv .1) (λ h. c .if1 .left (c .before .offer .ensures ∙ h)),
     )
 
--- src/find.rt:122:1
 returns-2 : tie.Need-returns-2 Inv-loop μ-loop
 returns-2 c =
     let e = c .before .before .ways .ensures in

@@ -16,23 +16,18 @@ use Rattle.checker_trace.proofs.find.bit_if.Reads as bit-if-reads
 use Rattle.checker_trace.proofs.find.idle.Reads as idle-reads
 use Rattle.checker_trace.proofs.find.idle_after.Reads as idle-after-reads
 
--- src/find.rt:71:52
 idle-after-requires : tie.Need-idle-after-requires
 idle-after-requires c κs = search needs
 
--- src/find.rt:72:5
 bit-if-requires : tie.Need-bit-if-requires
 bit-if-requires c κs = search needs
 
--- src/find.rt:72:31
 idle-requires : tie.Need-idle-requires
 idle-requires c κs = search needs
 
--- src/find.rt:72:24
 bit-if-requires-2 : tie.Need-bit-if-requires-2
 bit-if-requires-2 c κs = search needs
 
--- src/find.rt:68:1
 returns : tie.Need-returns
 unfolding sequenceLeads
 returns c =

@@ -29,32 +29,25 @@ Inv-loop t nodes e s n r₀ k₀ r k = (k ≤ n) × (r ≡ spreadTo t nodes e k 
 abbrev μ-loop : tie.MeasureT-loop
 μ-loop t nodes e s n r₀ k₀ r k = n - k
 
--- src/find.rt:97:5
 loop-holds : tie.Need-loop-holds Inv-loop μ-loop
 unfolding spreadTo
 loop-holds c = (search needs, refl)
 
--- src/find.rt:98:12
 has-requires : tie.Need-has-requires Inv-loop μ-loop
 has-requires c κs = search needs
 
--- src/find.rt:99:30
 node-requires : tie.Need-node-requires Inv-loop μ-loop
 node-requires c κs = search needs
 
--- src/find.rt:99:18
 leads-requires : tie.Need-leads-requires Inv-loop μ-loop
 leads-requires c κs = search needs
 
--- src/find.rt:101:9
 add-k : tie.Need-add-k Inv-loop μ-loop
 add-k c = search needs
 
--- src/find.rt:97:5
 loop-less : tie.Need-loop-less Inv-loop μ-loop
 loop-less c = search needs
 
--- src/find.rt:97:5
 loop-again : tie.Need-loop-again Inv-loop μ-loop
 unfolding spreadTo joinIf
 loop-again c =
@@ -72,7 +65,6 @@ loop-again c =
           (h ∙ v .0 .left)))),
     )
 
--- src/find.rt:90:1
 returns : tie.Need-returns Inv-loop μ-loop
 returns c = let l = c .before .loop in let e : l .k ≡ length (c .before .before .before .args .nodes .now) / nodeFields = omega arith in
     rw e at (l .inv .1)

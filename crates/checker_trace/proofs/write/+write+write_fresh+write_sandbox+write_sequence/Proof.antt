@@ -167,7 +167,6 @@ write-sequence-known t = (
   second-reads.Learnt,
 )
 
--- src/write.rt:214:9
 write-returns : (t : ℕ) → write-lts.Need-returns (write-known t) (write-at t) write.Post
 write-returns t c = let a = c .before .before .before .args in
     let p = c .before .before .before .pre .1 in
@@ -182,19 +181,15 @@ write-returns t c = let a = c .before .before .before .args in
       ),
     )
 
--- src/write.rt:216:9
 write-find-requires : (t : ℕ) → write-lts.Need-find-requires (write-known t) (write-at t) write.Post
 write-find-requires t c κs = c .before .before .before .pre .1 .0
 
--- src/write.rt:217:26
 write-enum-known-o : (t : ℕ) → write-lts.Need-enum-known-o (write-known t) (write-at t) write.Post
 write-enum-known-o t c = search needs
 
--- src/write.rt:218:9
 write-enum-told : (t : ℕ) → write-lts.Need-enum-told (write-known t) (write-at t) write.Post
 write-enum-told t c = search needs
 
--- src/write.rt:218:9
 write-returns-2 : (t : ℕ) → write-lts.Need-returns-2 (write-known t) (write-at t) write.Post
 write-returns-2 t c = let a = c .before .before .before .before .before .before .args in
     let p = c .before .before .before .before .before .before .pre .1 in
@@ -212,19 +207,15 @@ write-returns-2 t c = let a = c .before .before .before .before .before .before 
       ),
     )
 
--- src/write.rt:220:9
 write-node-requires : (t : ℕ) → write-lts.Need-node-requires (write-known t) (write-at t) write.Post
 write-node-requires t c κs = search needs
 
--- src/write.rt:223:32
 write-cast-step : (t : ℕ) → write-lts.Need-cast-step (write-known t) (write-at t) write.Post
 write-cast-step t c = search needs
 
--- src/write.rt:223:44
 write-cast-step-2 : (t : ℕ) → write-lts.Need-cast-step-2 (write-known t) (write-at t) write.Post
 write-cast-step-2 t c = search needs
 
--- src/write.rt:223:14
 write-step-requires : (t : ℕ) → write-lts.Need-step-requires (write-known t) (write-at t) write.Post
 write-step-requires t c κs = let a =
     c .before .before .before .before .before .before .before .before .before .before .before .before .args in
@@ -236,15 +227,12 @@ write-step-requires t c κs = let a =
     let one : 1 ≤ a .n = omega (arith, c .before .before .before .before .before .before .before .before .before .if1 .left) in
     omega arith
 
--- src/write.rt:224:32
 write-cast-step-3 : (t : ℕ) → write-lts.Need-cast-step-3 (write-known t) (write-at t) write.Post
 write-cast-step-3 t c = search needs
 
--- src/write.rt:224:44
 write-name-requires : (t : ℕ) → write-lts.Need-name-requires (write-known t) (write-at t) write.Post
 write-name-requires t c κs = search needs
 
--- src/write.rt:224:14
 write-step-requires-2 : (t : ℕ) → write-lts.Need-step-requires-2 (write-known t) (write-at t) write.Post
 write-step-requires-2 t c κs = let a =
     c .before .before .before .before .before .before .before .before .before .before .before .before .args in
@@ -256,7 +244,6 @@ write-step-requires-2 t c κs = let a =
     let one : 1 ≤ a .n = omega (arith, c .before .before .before .before .before .before .before .before .before .if1 .left) in
     omega arith
 
--- src/write.rt:225:14
 write-write-sequence-requires : (t : ℕ) → write-lts.Need-write-sequence-requires (write-known t) (write-at t) write.Post
 write-write-sequence-requires t c κs = let a = c .before .before .before .before .before .before .before .before .before .before .args in
     let p = c .before .before .before .before .before .before .before .before .before .before .pre .1 in
@@ -273,7 +260,6 @@ write-write-sequence-requires t c κs = let a = c .before .before .before .befor
     let one : 1 ≤ a .n = omega (arith, c .before .before .before .before .before .before .before .if1 .left) in
     (omega arith, (p, ((k, on, form), one)))
 
--- src/write.rt:226:14
 write-write-fresh-requires : (t : ℕ) → write-lts.Need-write-fresh-requires (write-known t) (write-at t) write.Post
 write-write-fresh-requires t c κs = let a = c .before .before .before .before .before .before .before .before .before .before .args in
     let p = c .before .before .before .before .before .before .before .before .before .before .pre .1 in
@@ -290,7 +276,6 @@ write-write-fresh-requires t c κs = let a = c .before .before .before .before .
     let one : 1 ≤ a .n = omega (arith, c .before .before .before .before .before .before .before .if1 .left) in
     (omega arith, (p, ((k, on, form), one)))
 
--- src/write.rt:227:14
 write-write-sandbox-requires : (t : ℕ) → write-lts.Need-write-sandbox-requires (write-known t) (write-at t) write.Post
 write-write-sandbox-requires t c κs = let a = c .before .before .before .before .before .before .before .before .before .before .args in
     let p = c .before .before .before .before .before .before .before .before .before .before .pre .1 in
@@ -307,7 +292,6 @@ write-write-sandbox-requires t c κs = let a = c .before .before .before .before
     let one : 1 ≤ a .n = omega (arith, c .before .before .before .before .before .before .before .if1 .left) in
     (omega arith, (p, ((k, on, form), one)))
 
--- src/write.rt:194:1
 write-same-length : (t : ℕ) → write-lts.Need-same-length (write-known t) (write-at t) write.Post
 write-same-length t c = let a =
     c .before .before .before .before .before .before .before .before .before .before .before .before .before .before .before .args in
@@ -322,7 +306,6 @@ write-same-length t c = let a =
     ∙ stored-length (a .trace .now) (a .s .at) 0 (c .before .before .before .before .before .before .before .node .result .a)
     (c .before .before .before .before .before .before .before .node .result .b)
 
--- src/write.rt:194:1
 write-returns-3 : (t : ℕ) → write-lts.Need-returns-3 (write-known t) (write-at t) write.Post
 write-returns-3 t c = let a =
     c .before .before .before .before .before .before .before .before .before .before .before .before .before .before .before .args in
@@ -359,7 +342,6 @@ write-returns-3 t c = let a =
       ),
     )
 
--- src/write.rt:194:1
 write-same-length-2 : (t : ℕ) → write-lts.Need-same-length-2 (write-known t) (write-at t) write.Post
 write-same-length-2 t c = let a =
     c .before .before .before .before .before .before .before .before .before .before .before .before .before .before .before .args in
@@ -374,7 +356,6 @@ write-same-length-2 t c = let a =
     ∙ stored-length (a .trace .now) (a .s .at) 0 (c .before .before .before .before .before .before .before .node .result .a)
     (c .before .before .before .name .result)
 
--- src/write.rt:194:1
 write-returns-4 : (t : ℕ) → write-lts.Need-returns-4 (write-known t) (write-at t) write.Post
 write-returns-4 t c = let a =
     c .before .before .before .before .before .before .before .before .before .before .before .before .before .before .before .args in
@@ -414,31 +395,24 @@ write-returns-4 t c = let a =
       ),
     )
 
--- src/write.rt:194:1
 write-same-length-3 : (t : ℕ) → write-lts.Need-same-length-3 (write-known t) (write-at t) write.Post
 write-same-length-3 t c = c .before .before .write-sequence .ensures .0
 
--- src/write.rt:194:1
 write-returns-5 : (t : ℕ) → write-lts.Need-returns-5 (write-known t) (write-at t) write.Post
 write-returns-5 t c = c .before .before .write-sequence .ensures
 
--- src/write.rt:194:1
 write-same-length-4 : (t : ℕ) → write-lts.Need-same-length-4 (write-known t) (write-at t) write.Post
 write-same-length-4 t c = c .before .before .write-fresh .ensures .0
 
--- src/write.rt:194:1
 write-returns-6 : (t : ℕ) → write-lts.Need-returns-6 (write-known t) (write-at t) write.Post
 write-returns-6 t c = c .before .before .write-fresh .ensures
 
--- src/write.rt:194:1
 write-same-length-5 : (t : ℕ) → write-lts.Need-same-length-5 (write-known t) (write-at t) write.Post
 write-same-length-5 t c = c .before .before .write-sandbox .ensures .0
 
--- src/write.rt:194:1
 write-returns-7 : (t : ℕ) → write-lts.Need-returns-7 (write-known t) (write-at t) write.Post
 write-returns-7 t c = c .before .before .write-sandbox .ensures
 
--- src/write.rt:194:1
 write-returns-8 : (t : ℕ) → write-lts.Need-returns-8 (write-known t) (write-at t) write.Post
 write-returns-8 t c = let a = c .before .before .before .before .before .before .before .before .before .args in
     let p = c .before .before .before .before .before .before .before .before .before .pre .1 in
@@ -456,7 +430,6 @@ write-returns-8 t c = let a = c .before .before .before .before .before .before 
     absurd (chosen-other (a .w) (a .rows .now) (a .nodes .now) (a .t .now) (a .e) (a .n) r few one (f .a) (f .b) (f .kind)
     (rest .0 .0 .0 .0 .1) (rest .0 .0 .0 .1) (rest .0 .0 .1) (rest .0 .1) (rest .1) (k, on, sym (ap formOf (c .before .node .ensures))))
 
--- src/write.rt:138:9
 write-fresh-create-requires : (t : ℕ) → write-fresh-lts.Need-create-requires (write-fresh-known t) (write-fresh-at t) write-fresh.Post
 write-fresh-create-requires t c κs = let a = c .before .before .before .args in
     let p = c .before .before .before .pre .1 in
@@ -468,7 +441,6 @@ write-fresh-create-requires t c κs = let a = c .before .before .before .args in
     let one = p .1 .1 in
     (omega arith, omega arith)
 
--- src/write.rt:140:9
 write-fresh-same-length : (t : ℕ) → write-fresh-lts.Need-same-length (write-fresh-known t) (write-fresh-at t) write-fresh.Post
 write-fresh-same-length t c = let a = c .before .before .before .before .before .before .before .args in
     let p = c .before .before .before .before .before .before .before .pre .1 in
@@ -480,7 +452,6 @@ write-fresh-same-length t c = let a = c .before .before .before .before .before 
     let one = p .1 .1 in
     ap length (c .before .before .before .create .ensures .0) ∙ stored-length (a .trace .now) (a .s .at) 0 0 (a .s .next)
 
--- src/write.rt:140:9
 write-fresh-returns : (t : ℕ) → write-fresh-lts.Need-returns (write-fresh-known t) (write-fresh-at t) write-fresh.Post
 write-fresh-returns t c = let a = c .before .before .before .before .before .before .before .args in
     let p = c .before .before .before .before .before .before .before .pre .1 in
@@ -504,15 +475,12 @@ write-fresh-returns t c = let a = c .before .before .before .before .before .bef
       ),
     )
 
--- src/write.rt:142:9
 write-fresh-give-requires : (t : ℕ) → write-fresh-lts.Need-give-requires (write-fresh-known t) (write-fresh-at t) write-fresh.Post
 write-fresh-give-requires t c κs = search needs
 
--- src/write.rt:149:9
 write-fresh-body-requires : (t : ℕ) → write-fresh-lts.Need-body-requires (write-fresh-known t) (write-fresh-at t) write-fresh.Post
 write-fresh-body-requires t c κs = search needs
 
--- src/write.rt:150:9
 write-fresh-sub-write : (t : ℕ) → write-fresh-lts.Need-sub-write (write-fresh-known t) (write-fresh-at t) write-fresh.Post
 write-fresh-sub-write t c = let a = c .before .before .before .before .before .before .before .before .before .before .args in
     let p = c .before .before .before .before .before .before .before .before .before .before .pre .1 in
@@ -524,7 +492,6 @@ write-fresh-sub-write t c = let a = c .before .before .before .before .before .b
     let one = p .1 .1 in
     omega arith
 
--- src/write.rt:143:5
 write-fresh-write-requires : (t : ℕ) → write-fresh-lts.Need-write-requires (write-fresh-known t) (write-fresh-at t) write-fresh.Post
 write-fresh-write-requires t c κs = let a = c .before .before .before .before .before .before .before .before .before .before .args in
     let p = c .before .before .before .before .before .before .before .before .before .before .pre .1 in
@@ -541,7 +508,6 @@ write-fresh-write-requires t c κs = let a = c .before .before .before .before .
     let len = ap length tr ∙ stored-length (a .trace .now) (a .s .at) 0 0 (a .s .next) in
     (omega arith, (p .0 .0, (omega arith, (omega arith, omega arith))))
 
--- src/write.rt:114:1
 write-fresh-same-length-2 : (t : ℕ) → write-fresh-lts.Need-same-length-2 (write-fresh-known t) (write-fresh-at t) write-fresh.Post
 write-fresh-same-length-2 t c = let a =
     c .before .before .before .before .before .before .before .before .before .before .before .before .before .args in
@@ -556,7 +522,6 @@ write-fresh-same-length-2 t c = let a =
     (c .before .before .before .before .before .before .before .before .before .create .ensures .0)
     ∙ stored-length (a .trace .now) (a .s .at) 0 0 (a .s .next)
 
--- src/write.rt:114:1
 write-fresh-returns-2 : (t : ℕ) → write-fresh-lts.Need-returns-2 (write-fresh-known t) (write-fresh-at t) write-fresh.Post
 write-fresh-returns-2 t c = let a =
     c .before .before .before .before .before .before .before .before .before .before .before .before .before .args in
@@ -598,7 +563,6 @@ write-fresh-returns-2 t c = let a =
       ),
     )
 
--- src/write.rt:181:9
 write-sandbox-step-requires : (t : ℕ) → write-sandbox-lts.Need-step-requires (write-sandbox-known t) (write-sandbox-at t) write-sandbox.Post
 write-sandbox-step-requires t c κs = let a = c .before .before .before .args in
     let p = c .before .before .before .pre .1 in
@@ -610,7 +574,6 @@ write-sandbox-step-requires t c κs = let a = c .before .before .before .args in
     let one = p .1 .1 in
     omega arith
 
--- src/write.rt:183:9
 write-sandbox-same-length : (t : ℕ) → write-sandbox-lts.Need-same-length (write-sandbox-known t) (write-sandbox-at t) write-sandbox.Post
 write-sandbox-same-length t c = let a = c .before .before .before .before .before .before .before .args in
     let p = c .before .before .before .before .before .before .before .pre .1 in
@@ -622,7 +585,6 @@ write-sandbox-same-length t c = let a = c .before .before .before .before .befor
     let one = p .1 .1 in
     ap length (c .before .before .before .step .ensures .0) ∙ stored-length (a .trace .now) (a .s .at) 1 (a .a) 0
 
--- src/write.rt:183:9
 write-sandbox-returns : (t : ℕ) → write-sandbox-lts.Need-returns (write-sandbox-known t) (write-sandbox-at t) write-sandbox.Post
 write-sandbox-returns t c = let a = c .before .before .before .before .before .before .before .args in
     let p = c .before .before .before .before .before .before .before .pre .1 in
@@ -646,12 +608,10 @@ write-sandbox-returns t c = let a = c .before .before .before .before .before .b
       ),
     )
 
--- src/write.rt:185:9
 write-sandbox-inner-requires : (t : ℕ) → write-sandbox-lts.Need-inner-requires (write-sandbox-known t)
     (write-sandbox-at t) write-sandbox.Post
 write-sandbox-inner-requires t c κs = search needs
 
--- src/write.rt:187:55
 write-sandbox-sub-write : (t : ℕ) → write-sandbox-lts.Need-sub-write (write-sandbox-known t) (write-sandbox-at t) write-sandbox.Post
 write-sandbox-sub-write t c = let a = c .before .before .before .before .before .before .before .before .before .before .before .args in
     let p = c .before .before .before .before .before .before .before .before .before .before .before .pre .1 in
@@ -663,7 +623,6 @@ write-sandbox-sub-write t c = let a = c .before .before .before .before .before 
     let one = p .1 .1 in
     omega arith
 
--- src/write.rt:187:9
 write-sandbox-write-requires : (t : ℕ) → write-sandbox-lts.Need-write-requires (write-sandbox-known t)
     (write-sandbox-at t) write-sandbox.Post
 write-sandbox-write-requires t c κs = let a =
@@ -682,7 +641,6 @@ write-sandbox-write-requires t c κs = let a =
     let len = ap length tr ∙ stored-length (a .trace .now) (a .s .at) 1 (a .a) 0 in
     (omega arith, (p .0 .0, (omega arith, (omega arith, omega arith))))
 
--- src/write.rt:187:9
 write-sandbox-same-length-2 : (t : ℕ) → write-sandbox-lts.Need-same-length-2 (write-sandbox-known t) (write-sandbox-at t) write-sandbox.Post
 write-sandbox-same-length-2 t c = let a =
     c .before .before .before .before .before .before .before .before .before .before .before .before .before .before .args in
@@ -697,7 +655,6 @@ write-sandbox-same-length-2 t c = let a =
     (c .before .before .before .before .before .before .before .before .before .before .step .ensures .0)
     ∙ stored-length (a .trace .now) (a .s .at) 1 (a .a) 0
 
--- src/write.rt:187:9
 write-sandbox-returns-2 : (t : ℕ) → write-sandbox-lts.Need-returns-2 (write-sandbox-known t) (write-sandbox-at t) write-sandbox.Post
 write-sandbox-returns-2 t c = let a =
     c .before .before .before .before .before .before .before .before .before .before .before .before .before .before .args in
@@ -736,7 +693,6 @@ write-sandbox-returns-2 t c = let a =
       ),
     )
 
--- src/write.rt:189:55
 write-sandbox-sub-write-2 : (t : ℕ) → write-sandbox-lts.Need-sub-write-2 (write-sandbox-known t) (write-sandbox-at t) write-sandbox.Post
 write-sandbox-sub-write-2 t c = let a = c .before .before .before .before .before .before .before .before .before .before .before .args in
     let p = c .before .before .before .before .before .before .before .before .before .before .before .pre .1 in
@@ -751,7 +707,6 @@ write-sandbox-sub-write-2 t c = let a = c .before .before .before .before .befor
     let ar = around-end (a .w) (a .rows .now) (a .nodes .now) (a .t .now) (a .e) (a .n) (a .c) (p .0 .0) few (c .before .if2 .left) in
     omega arith
 
--- src/write.rt:189:9
 write-sandbox-write-requires-2 : (t : ℕ) → write-sandbox-lts.Need-write-requires-2 (write-sandbox-known t)
     (write-sandbox-at t) write-sandbox.Post
 write-sandbox-write-requires-2 t c κs = let a =
@@ -773,7 +728,6 @@ write-sandbox-write-requires-2 t c κs = let a =
     let ar = around-end (a .w) (a .rows .now) (a .nodes .now) (a .t .now) (a .e) (a .n) (a .c) (p .0 .0) few (c .before .if2 .left) in
     (omega arith, (p .0 .0, (omega arith, (omega arith, omega arith))))
 
--- src/write.rt:190:5
 write-sandbox-step-requires-2 : (t : ℕ) → write-sandbox-lts.Need-step-requires-2 (write-sandbox-known t)
     (write-sandbox-at t) write-sandbox.Post
 write-sandbox-step-requires-2 t c κs = let a =
@@ -800,7 +754,6 @@ write-sandbox-step-requires-2 t c κs = let a =
     let len2 = c .before .before .before .write2 .ensures .0 in
     omega arith
 
--- src/write.rt:157:1
 write-sandbox-same-length-3 : (t : ℕ) → write-sandbox-lts.Need-same-length-3 (write-sandbox-known t) (write-sandbox-at t) write-sandbox.Post
 write-sandbox-same-length-3 t c = let a =
     c .before .before .before .before .before .before .before .before .before .before
@@ -821,7 +774,6 @@ write-sandbox-same-length-3 t c = let a =
     ∙ ap length (c .before .before .before .before .before .before .before .before .before .before .before
     .before .before .before .step .ensures .0) ∙ stored-length (a .trace .now) (a .s .at) 1 (a .a) 0
 
--- src/write.rt:157:1
 write-sandbox-returns-3 : (t : ℕ) → write-sandbox-lts.Need-returns-3 (write-sandbox-known t) (write-sandbox-at t) write-sandbox.Post
 write-sandbox-returns-3 t c = let a =
     c .before .before .before .before .before .before .before .before .before .before
@@ -879,17 +831,14 @@ write-sandbox-returns-3 t c = let a =
       ),
     )
 
--- src/write.rt:97:9
 write-sequence-first-requires : (t : ℕ) → write-sequence-lts.Need-first-requires (write-sequence-known t)
     (write-sequence-at t) write-sequence.Post
 write-sequence-first-requires t c κs = search needs
 
--- src/write.rt:98:9
 write-sequence-get-requires : (t : ℕ) → write-sequence-lts.Need-get-requires (write-sequence-known t)
     (write-sequence-at t) write-sequence.Post
 write-sequence-get-requires t c κs = search needs
 
--- src/write.rt:99:9
 write-sequence-write-requires : (t : ℕ) → write-sequence-lts.Need-write-requires (write-sequence-known t)
     (write-sequence-at t) write-sequence.Post
 write-sequence-write-requires t c κs = let a = c .before .before .before .before .before .args in
@@ -907,12 +856,10 @@ write-sequence-write-requires t c κs = let a = c .before .before .before .befor
     let gv = c .before .get .ensures ∙ ap (held (a .t .now) (a .n)) (c .before .before .first .ensures) in
     (omega arith, (p .0 .0, (omega arith, (omega arith, omega arith))))
 
--- src/write.rt:106:9
 write-sequence-second-requires : (t : ℕ) → write-sequence-lts.Need-second-requires (write-sequence-known t)
     (write-sequence-at t) write-sequence.Post
 write-sequence-second-requires t c κs = search needs
 
--- src/write.rt:107:9
 write-sequence-sub-write : (t : ℕ) → write-sequence-lts.Need-sub-write (write-sequence-known t) (write-sequence-at t) write-sequence.Post
 write-sequence-sub-write t c = let a = c .before .before .before .before .before .before .before .before .before .before .args in
     let p = c .before .before .before .before .before .before .before .before .before .before .pre .1 in
@@ -930,7 +877,6 @@ write-sequence-sub-write t c = let a = c .before .before .before .before .before
     ∙ ap (held (a .t .now) (a .n)) (c .before .before .before .before .before .before .before .first .ensures) in
     omega arith
 
--- src/write.rt:100:5
 write-sequence-write-requires-2 : (t : ℕ) → write-sequence-lts.Need-write-requires-2 (write-sequence-known t)
     (write-sequence-at t) write-sequence.Post
 write-sequence-write-requires-2 t c κs = let a = c .before .before .before .before .before .before .before .before .before .before .args in
@@ -951,13 +897,11 @@ write-sequence-write-requires-2 t c κs = let a = c .before .before .before .bef
     let wi = c .before .before .before .before .write .ensures .1 .0 in
     (omega arith, (p .0 .0, (omega arith, (omega arith, omega arith))))
 
--- src/write.rt:73:1
 write-sequence-same-length : (t : ℕ) → write-sequence-lts.Need-same-length (write-sequence-known t)
     (write-sequence-at t) write-sequence.Post
 write-sequence-same-length t c = c .before .before .write2 .ensures .0
     ∙ c .before .before .before .before .before .before .before .write .ensures .0
 
--- src/write.rt:73:1
 write-sequence-returns : (t : ℕ) → write-sequence-lts.Need-returns (write-sequence-known t) (write-sequence-at t) write-sequence.Post
 write-sequence-returns t c = let a =
     c .before .before .before .before .before .before .before .before .before .before .before .before .before .args in

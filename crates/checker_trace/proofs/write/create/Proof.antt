@@ -9,19 +9,15 @@ use Rattle.checker_trace.proofs.write.create.Reads as reads
 use Rattle.checker_trace.proofs.write.create.Lts as lts
 use Rattle.checker_trace.proofs.write.step.Reads as step-reads
 
--- src/write.rt:63:9
 step-requires : tie.Need-step-requires
 step-requires c κs = search needs
 
--- src/write.rt:66:15
 add-t6 : tie.Need-add-t6
 add-t6 c = search needs
 
--- src/write.rt:57:1
 same-length : tie.Need-same-length
 same-length c = search needs
 
--- src/write.rt:57:1
 returns : tie.Need-returns
 returns c = (
   c .before .before .before .step .ensures .0,

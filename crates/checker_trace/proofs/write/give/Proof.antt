@@ -12,20 +12,16 @@ use Rattle.checker_trace.proofs.write.give.Tie as tie
 use Rattle.checker_trace.proofs.write.give.Reads as reads
 use Rattle.checker_trace.proofs.write.give.Lts as lts
 
--- src/write.rt:35:9
 mul-g : tie.Need-mul-g
 mul-g c = search needs
 
--- src/write.rt:35:9
 element-write-g : tie.Need-element-write-g
 element-write-g c = search needs
 
--- src/write.rt:30:1
 returns : tie.Need-returns
 returns c = let k : length (c .before .args .t1 .numbers) ≡ 4 = search needs in
     (refl, length-set (c .before .args .t1 .numbers) (c .before .args .i) (c .before .args .v) ∙ k)
 
--- src/write.rt:30:1
 returns-2 : tie.Need-returns-2
 returns-2 c = let k : length (c .before .args .t1 .numbers) ≡ 4 = search needs in (
   ap (λ (l : List ℕ). names-of l) (sym (set-out (c .before .args .t1 .numbers) (c .before .args .i) (c .before .args .v) (omega arith))),

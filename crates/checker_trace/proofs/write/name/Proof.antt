@@ -8,20 +8,16 @@ use Rattle.checker_trace.proofs.write.name.Tie as tie
 use Rattle.checker_trace.proofs.write.name.Reads as reads
 use Rattle.checker_trace.proofs.write.name.Lts as lts
 
--- src/write.rt:24:9
 returns : tie.Need-returns
 returns c = let k : length (c .before .args .t1 .numbers) ≡ 4 = search needs in
     sym (List·getD-eq-default (c .before .args .t1 .numbers) 0 (omega arith))
 
--- src/write.rt:26:5
 mul-result : tie.Need-mul-result
 mul-result c = search needs
 
--- src/write.rt:26:5
 element-copy-out-result : tie.Need-element-copy-out-result
 element-copy-out-result c = search needs
 
--- src/write.rt:19:1
 returns-2 : tie.Need-returns-2
 returns-2 c = search needs
 

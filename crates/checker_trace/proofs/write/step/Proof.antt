@@ -6,51 +6,39 @@ use Rattle.checker_trace.proofs.write.step.Tie as tie
 use Rattle.checker_trace.proofs.write.step.Reads as reads
 use Rattle.checker_trace.proofs.write.step.Lts as lts
 
--- src/write.rt:46:13
 mul-i : tie.Need-mul-i
 mul-i c = search needs
 
--- src/write.rt:47:5
 mul-trace : tie.Need-mul-trace
 mul-trace c = search needs
 
--- src/write.rt:47:5
 slice-write-trace : tie.Need-slice-write-trace
 slice-write-trace c = search needs
 
--- src/write.rt:48:11
 add-trace : tie.Need-add-trace
 add-trace c = search needs
 
--- src/write.rt:48:5
 mul-trace-2 : tie.Need-mul-trace-2
 mul-trace-2 c = search needs
 
--- src/write.rt:48:5
 slice-write-trace-2 : tie.Need-slice-write-trace-2
 slice-write-trace-2 c = let p = c .before .pre in simp length-set (omega arith)
 
--- src/write.rt:49:11
 add-trace-2 : tie.Need-add-trace-2
 add-trace-2 c = search needs
 
--- src/write.rt:49:5
 mul-trace-3 : tie.Need-mul-trace-3
 mul-trace-3 c = search needs
 
--- src/write.rt:49:5
 slice-write-trace-3 : tie.Need-slice-write-trace-3
 slice-write-trace-3 c = let p = c .before .pre in simp length-set (omega arith)
 
--- src/write.rt:51:13
 add-t7 : tie.Need-add-t7
 add-t7 c = search needs
 
--- src/write.rt:41:1
 same-length : tie.Need-same-length
 same-length c = search needs
 
--- src/write.rt:41:1
 returns : tie.Need-returns
 returns c = search needs
 

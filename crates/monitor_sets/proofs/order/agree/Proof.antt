@@ -16,33 +16,26 @@ Inv-loop counts unclosed p₀ p = (p ≤ 8) × ((i : ℕ) → i < p → getD cou
 abbrev μ-loop : tie.MeasureT-loop
 μ-loop counts unclosed p₀ p = 8 - p
 
--- src/order.rt:41:5
 loop-holds : tie.Need-loop-holds Inv-loop μ-loop
 loop-holds c = search needs
 
--- src/order.rt:42:12
 element-copy-out-if1 : tie.Need-element-copy-out-if1 Inv-loop μ-loop
 element-copy-out-if1 c = search needs
 
--- src/order.rt:42:25
 element-copy-out-if1-2 : tie.Need-element-copy-out-if1-2 Inv-loop μ-loop
 element-copy-out-if1-2 c = search needs
 
--- src/order.rt:43:13
 returns : tie.Need-returns Inv-loop μ-loop
 returns c =
     let t = c .before .before .before .before .loop in
     (λ h. absurd (c .if1 .taken (h (t .p) (omega arith))), λ e. false-true e)
 
--- src/order.rt:45:9
 add-p : tie.Need-add-p Inv-loop μ-loop
 add-p c = search needs
 
--- src/order.rt:41:5
 loop-less : tie.Need-loop-less Inv-loop μ-loop
 loop-less c = search needs
 
--- src/order.rt:41:5
 loop-again : tie.Need-loop-again Inv-loop μ-loop
 loop-again c =
     let a = c .before .before .before .before .before .args in
@@ -53,7 +46,6 @@ loop-again c =
           (λ h. t .inv .1 i h),
     )
 
--- src/order.rt:36:1
 returns-2 : tie.Need-returns-2 Inv-loop μ-loop
 returns-2 c = let t = c .before .loop in (λ h. refl, λ e p l. t .inv .1 p (omega arith))
 

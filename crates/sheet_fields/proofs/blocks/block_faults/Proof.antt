@@ -19,56 +19,43 @@ Inv-loop edges k most paired bad₀ j₀ bad j = (j ≤ blockBytes) × (bad ≡ 
 abbrev μ-loop : tie.MeasureT-loop
 μ-loop edges k most paired bad₀ j₀ bad j = blockBytes - j
 
--- src/blocks.rt:139:5
 loop-holds : tie.Need-loop-holds Inv-loop μ-loop
 unfolding faults
 loop-holds c = (search needs, refl)
 
--- src/blocks.rt:140:23
 add-x : tie.Need-add-x Inv-loop μ-loop
 add-x c = search needs
 
--- src/blocks.rt:140:17
 shared-slice-read-x : tie.Need-shared-slice-read-x Inv-loop μ-loop
 shared-slice-read-x c = search needs
 
--- src/blocks.rt:141:23
 add-y : tie.Need-add-y Inv-loop μ-loop
 add-y c = search needs
 
--- src/blocks.rt:141:23
 add-y-2 : tie.Need-add-y-2 Inv-loop μ-loop
 add-y-2 c = search needs
 
--- src/blocks.rt:141:17
 shared-slice-read-y : tie.Need-shared-slice-read-y Inv-loop μ-loop
 shared-slice-read-y c = search needs
 
--- src/blocks.rt:142:29
 element-copy-out-above : tie.Need-element-copy-out-above Inv-loop μ-loop
 element-copy-out-above c = search needs
 
--- src/blocks.rt:142:13
 above-requires : tie.Need-above-requires Inv-loop μ-loop
 above-requires c κs = search needs
 
--- src/blocks.rt:143:13
 lesser-requires : tie.Need-lesser-requires Inv-loop μ-loop
 lesser-requires c κs = search needs
 
--- src/blocks.rt:144:37
 element-copy-out-bad : tie.Need-element-copy-out-bad Inv-loop μ-loop
 element-copy-out-bad c = search needs
 
--- src/blocks.rt:145:9
 add-j : tie.Need-add-j Inv-loop μ-loop
 add-j c = search needs
 
--- src/blocks.rt:139:5
 loop-less : tie.Need-loop-less Inv-loop μ-loop
 loop-less c = search needs
 
--- src/blocks.rt:139:5
 loop-again : tie.Need-loop-again Inv-loop μ-loop
 unfolding faults
 loop-again c =
@@ -80,7 +67,6 @@ loop-again c =
           (ap₂ (λ (u v : ℕ). bitOr u (bitAnd v m)) (c .before .before .above .ensures) (c .before .lesser .ensures))),
     )
 
--- src/blocks.rt:133:1
 returns : tie.Need-returns Inv-loop μ-loop
 returns c = let e : c .before .loop .j ≡ blockBytes = omega arith in rw (← e) (c .before .loop .inv .1)
 

@@ -21,19 +21,15 @@ Inv-loop edges n most paired i₀ i =
 abbrev μ-loop : tie.MeasureT-loop
 μ-loop edges n most paired i₀ i = n - i
 
--- src/blocks.rt:158:5
 loop-holds : tie.Need-loop-holds Inv-loop μ-loop
 loop-holds c = (search needs, λ k l. absurd (omega arith))
 
--- src/blocks.rt:159:32
 mul-block-faults : tie.Need-mul-block-faults Inv-loop μ-loop
 mul-block-faults c = search needs
 
--- src/blocks.rt:159:12
 block-faults-requires : tie.Need-block-faults-requires Inv-loop μ-loop
 block-faults-requires c κs = search needs
 
--- src/blocks.rt:160:13
 returns : tie.Need-returns Inv-loop μ-loop
 unfolding repeated
 returns c =
@@ -41,15 +37,12 @@ returns c =
     let i = c .before .before .before .before .before .loop .i in
     sym (block-fails (a .edges .now) i (a .n) (omega arith) (λ z. c .if1 .taken (c .before .block-faults .ensures ∙ z)))
 
--- src/blocks.rt:162:9
 add-i : tie.Need-add-i Inv-loop μ-loop
 add-i c = search needs
 
--- src/blocks.rt:158:5
 loop-less : tie.Need-loop-less Inv-loop μ-loop
 loop-less c = search needs
 
--- src/blocks.rt:158:5
 loop-again : tie.Need-loop-again Inv-loop μ-loop
 unfolding repeated
 loop-again c =
@@ -57,7 +50,6 @@ loop-again c =
     let t = c .before .before .before .before .before .loop in
     (search needs, block-passes (a .edges .now) (t .i) (t .inv .1) (sym (c .before .block-faults .ensures) ∙ c .if1 .left))
 
--- src/blocks.rt:151:1
 returns-2 : tie.Need-returns-2 Inv-loop μ-loop
 returns-2 c =
     let a = c .before .before .before .args in

@@ -22,30 +22,24 @@ Inv-loop edges n blocks i₀ i = (i ≤ n) × ((k : ℕ) → k < i → edgeOk (e
 abbrev μ-loop : tie.MeasureT-loop
 μ-loop edges n blocks i₀ i = n - i
 
--- src/edges.rt:15:9
 returns : tie.Need-returns Inv-loop μ-loop
 returns c = sym (not-whole _ (c .if1 .taken))
 
--- src/edges.rt:18:9
 returns-2 : tie.Need-returns-2 Inv-loop μ-loop
 returns-2 c = sym (too-long _ (c .if2 .taken))
 
--- src/edges.rt:21:9
 returns-3 : tie.Need-returns-3 Inv-loop μ-loop
 unfolding every from
 returns-3 c =
     let t = c .before .before .before .before .args .edges .now in
     sym (each-edge t (c .before .before .if1 .left) (c .before .if2 .left) ∙ rw (c .if3 .taken))
 
--- src/edges.rt:24:19
 sub-blocks : tie.Need-sub-blocks Inv-loop μ-loop
 sub-blocks c = search needs
 
--- src/edges.rt:25:9
 blocks-ok-requires : tie.Need-blocks-ok-requires Inv-loop μ-loop
 blocks-ok-requires c κs = search needs
 
--- src/edges.rt:26:9
 returns-4 : tie.Need-returns-4 Inv-loop μ-loop
 returns-4 c =
     let t = c .before .before .before .before .before .before .args .edges .now in
@@ -55,11 +49,9 @@ returns-4 c =
     ∙ fewer-fail edgeOk (edgeAt t) n (blockEdges * ((n - 1) / blockEdges)) (omega arith)
     (sym (s .ensures) ∙ not-true (s .result) (c .if4 .taken)))
 
--- src/edges.rt:28:17
 mul-i : tie.Need-mul-i Inv-loop μ-loop
 mul-i c = search needs
 
--- src/edges.rt:29:5
 loop-holds : tie.Need-loop-holds Inv-loop μ-loop
 loop-holds c =
     let t = c .before .before .before .before .before .before .args .edges .now in
@@ -70,85 +62,65 @@ loop-holds c =
           (sym (s .ensures) ∙ not-false (s .result) (c .if4 .left)) k l,
     )
 
--- src/edges.rt:30:17
 mul-k : tie.Need-mul-k Inv-loop μ-loop
 mul-k c = search needs
 
--- src/edges.rt:32:13
 shared-slice-read-edge-fits : tie.Need-shared-slice-read-edge-fits Inv-loop μ-loop
 shared-slice-read-edge-fits c = search needs
 
--- src/edges.rt:32:13
 cast-edge-fits : tie.Need-cast-edge-fits Inv-loop μ-loop
 cast-edge-fits c = omega (arith, c .shared-slice-known2 .given (edgeFields * c .before .before .loop .i))
 
--- src/edges.rt:33:19
 add-edge-fits : tie.Need-add-edge-fits Inv-loop μ-loop
 add-edge-fits c = search needs
 
--- src/edges.rt:33:13
 shared-slice-read-edge-fits-2 : tie.Need-shared-slice-read-edge-fits-2 Inv-loop μ-loop
 shared-slice-read-edge-fits-2 c = search needs
 
--- src/edges.rt:33:13
 cast-edge-fits-2 : tie.Need-cast-edge-fits-2 Inv-loop μ-loop
 cast-edge-fits-2 c = omega (arith, c .shared-slice-known3 .given (edgeFields * c .before .before .before .loop .i + 1))
 
--- src/edges.rt:34:19
 add-edge-fits-2 : tie.Need-add-edge-fits-2 Inv-loop μ-loop
 add-edge-fits-2 c = search needs
 
--- src/edges.rt:34:13
 shared-slice-read-edge-fits-3 : tie.Need-shared-slice-read-edge-fits-3 Inv-loop μ-loop
 shared-slice-read-edge-fits-3 c = search needs
 
--- src/edges.rt:34:13
 cast-edge-fits-3 : tie.Need-cast-edge-fits-3 Inv-loop μ-loop
 cast-edge-fits-3 c = omega (arith, c .shared-slice-known4 .given (edgeFields * c .before .before .before .before .loop .i + 2))
 
--- src/edges.rt:35:19
 add-edge-fits-3 : tie.Need-add-edge-fits-3 Inv-loop μ-loop
 add-edge-fits-3 c = search needs
 
--- src/edges.rt:35:13
 shared-slice-read-edge-fits-4 : tie.Need-shared-slice-read-edge-fits-4 Inv-loop μ-loop
 shared-slice-read-edge-fits-4 c = search needs
 
--- src/edges.rt:35:13
 cast-edge-fits-4 : tie.Need-cast-edge-fits-4 Inv-loop μ-loop
 cast-edge-fits-4 c = omega (arith, c .shared-slice-known5 .given (edgeFields * c .before .before .before .before .before .loop .i + 3))
 
--- src/edges.rt:36:19
 add-edge-fits-4 : tie.Need-add-edge-fits-4 Inv-loop μ-loop
 add-edge-fits-4 c = search needs
 
--- src/edges.rt:36:13
 shared-slice-read-edge-fits-5 : tie.Need-shared-slice-read-edge-fits-5 Inv-loop μ-loop
 shared-slice-read-edge-fits-5 c = search needs
 
--- src/edges.rt:36:13
 cast-edge-fits-5 : tie.Need-cast-edge-fits-5 Inv-loop μ-loop
 cast-edge-fits-5 c =
     omega (arith, c .shared-slice-known6 .given (edgeFields * c .before .before .before .before .before .before .loop .i + 4))
 
--- src/edges.rt:37:19
 add-edge-fits-5 : tie.Need-add-edge-fits-5 Inv-loop μ-loop
 add-edge-fits-5 c = search needs
 
--- src/edges.rt:37:13
 shared-slice-read-edge-fits-6 : tie.Need-shared-slice-read-edge-fits-6 Inv-loop μ-loop
 shared-slice-read-edge-fits-6 c = search needs
 
--- src/edges.rt:37:13
 cast-edge-fits-6 : tie.Need-cast-edge-fits-6 Inv-loop μ-loop
 cast-edge-fits-6 c =
     omega (arith, c .shared-slice-known7 .given (edgeFields * c .before .before .before .before .before .before .before .loop .i + 5))
 
--- src/edges.rt:31:13
 edge-fits-requires : tie.Need-edge-fits-requires Inv-loop μ-loop
 edge-fits-requires c κs = search needs
 
--- src/edges.rt:39:13
 returns-5 : tie.Need-returns-5 Inv-loop μ-loop
 returns-5 c =
     let b = c .before .before .before .before .before .before .before .before in
@@ -158,15 +130,12 @@ returns-5 c =
     ∙ one-fails edgeOk (edgeAt t) (length t / edgeFields) (b .before .loop .i) (s .result) (s .ensures) (b .loop-test .taken)
     (c .if5 .taken))
 
--- src/edges.rt:41:9
 add-i : tie.Need-add-i Inv-loop μ-loop
 add-i c = search needs
 
--- src/edges.rt:29:5
 loop-less : tie.Need-loop-less Inv-loop μ-loop
 loop-less c = search needs
 
--- src/edges.rt:29:5
 loop-again : tie.Need-loop-again Inv-loop μ-loop
 loop-again c =
     let b = c .before .before .before .before .before .before .before .before .before in
@@ -177,7 +146,6 @@ loop-again c =
           (one-passes edgeOk (edgeAt t) (length t / edgeFields) (b .loop .i) (s .result) (s .ensures) (c .if5 .left)),
     )
 
--- src/edges.rt:10:1
 returns-6 : tie.Need-returns-6 Inv-loop μ-loop
 returns-6 c =
     let t = c .before .before .before .before .before .before .before .before .args .edges .now in
