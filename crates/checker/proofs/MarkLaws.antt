@@ -26,11 +26,11 @@ use Rattle.usage.proofs.ValidLaws.{no-pair}
 use Rattle.automaton.specs.Mask.{has, union, offends}
 use Rattle.automaton.specs.Move.{rowsOf}
 use Rattle.automaton.proofs.MaskLaws.{same-test, all-below, all-below-at, some-at, some-found, union-has, has-zero}
-use Rattle.checker_account.specs.Witness.{watched, Hits}
+use Rattle.checker_account.specs.Account.{watched, Hits}
 use Rattle.checker_account.specs.Single.{watching}
 use Rattle.checker_account.specs.Tables.{half, least, Rows, leaves, lastOf, meanings, places, rowsIn}
 use Rattle.checker_account.specs.Holds.{RowsOk, NamesOk, TargetsOk, HitsFrom, Struck}
-use Rattle.checker_account.specs.Rounds.{Forms, FormsOf, formsIn, leavesOf, hitNode, Untouched}
+use Rattle.checker_account.specs.Filling.{Forms, FormsOf, formsIn, leavesOf, hitNode, Untouched}
 use Rattle.checker_account.specs.RowTable.{fillRows}
 use Rattle.checker_account.proofs.Scoped.{Scoped}
 use Rattle.checker_account.proofs.ScopedLaws.{scoped}

@@ -19,7 +19,7 @@ use Rattle.usage.proofs.ValidLaws.{no-pair}
 use Rattle.usage.proofs.TableLaws.{nodes-length}
 use Rattle.checker_account.specs.Views.{views}
 use Rattle.checker_account.specs.Tables.{places, rowsIn}
-use Rattle.checker_account.specs.Rounds.{formsIn, SearchedAll}
+use Rattle.checker_account.specs.Filling.{formsIn, SearchedAll}
 use Rattle.checker_account.specs.RowTable.{fillRows}
 use Rattle.checker.specs.Code.{opens, hasEdge, policyVerdict}
 use Rattle.checker_account.proofs.Exact.{exact}

@@ -20,7 +20,7 @@ use Rattle.usage.proofs.Logic.{by-cases, last-or-lower, false-true}
 use Rattle.usage.proofs.TableLaws.{decides-edge-table, decides-node-table}
 use Rattle.automaton.specs.Move.{rowsOf}
 use Rattle.checker_account.specs.Tables.{places, rowsIn}
-use Rattle.checker_account.specs.Rounds.{formsIn}
+use Rattle.checker_account.specs.Filling.{formsIn}
 use Rattle.checker_account.specs.RowTable.{fillRows}
 use Rattle.checker_account.proofs.FilledLaws.{searched-exists, rows-wide}
 use Rattle.checker.specs.Promise.{RightVerdict, no-edges, no-nodes, checked, CheckPromise}

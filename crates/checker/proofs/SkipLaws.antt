@@ -20,7 +20,7 @@ use Rattle.usage.specs.Check.{Leaves}
 use Rattle.usage.proofs.Logic.{clash, not-both, and-both}
 use Rattle.usage.proofs.TableLaws.{edges-member}
 use Rattle.automaton.proofs.MaskLaws.{some-at}
-use Rattle.checker_account.specs.Witness.{Sight, Comes, Last, Hits}
+use Rattle.checker_account.specs.Account.{Sight, Comes, Last, Hits}
 use Rattle.checker.specs.Code.{opens, hasEdge}
 use Rattle.checker_account.proofs.NodeLaws.{forms-of}
 

@@ -26,9 +26,9 @@ use Rattle.usage.proofs.Logic.{last-or-lower, false-true, not-both, both-ways}
 use Rattle.automaton.specs.Mask.{has, union}
 use Rattle.automaton.proofs.MaskLaws.{has-zero}
 use Rattle.automaton.proofs.RowLaws.{union-ext}
-use Rattle.checker_account.specs.Witness.{watched}
+use Rattle.checker_account.specs.Account.{watched}
 use Rattle.checker_account.specs.Tables.{rowsIn}
-use Rattle.checker_account.specs.Rounds.{formsIn}
+use Rattle.checker_account.specs.Filling.{formsIn}
 use Rattle.checker_account.proofs.Exact.{brought-about}
 use Rattle.checker_account.proofs.JoinLaws.{zeros}
 use Rattle.checker_tables.specs.Search.{hasRoom, touched}

@@ -11,7 +11,7 @@ use Rattle.usage.specs.Answers.{Verdict, allowed, violated}
 use Rattle.usage.specs.Tests.{someBelow}
 use Rattle.usage.specs.Tables.{edgesOf, nodesOf}
 use Rattle.checker_account.specs.Tables.{rowsIn}
-use Rattle.checker_account.specs.Rounds.{formsIn, Untouched}
+use Rattle.checker_account.specs.Filling.{formsIn, Untouched}
 use Rattle.checker_tables.specs.Marks.{MarkedBy}
 use Rattle.checker.specs.Summary.{MarksExact}
 

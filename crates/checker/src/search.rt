@@ -9,7 +9,7 @@ ghost use Rattle.usage.specs.Tables.{edgesOf, nodesOf};
 ghost use Rattle.usage.specs.Check.{Leaves, Checked};
 ghost use Rattle.usage.specs.Tests.{Decides};
 ghost use Rattle.checker_account.specs.Tables.{rowsIn};
-ghost use Rattle.checker_account.specs.Rounds.{formsIn, SearchedAll};
+ghost use Rattle.checker_account.specs.Filling.{formsIn, SearchedAll};
 ghost use Rattle.checker.specs.Promise.{outcomeVerdict, RightVerdict};
 ghost use Rattle.checker.specs.Code.{policyVerdict};
 use crate::Outcome;

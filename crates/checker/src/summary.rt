@@ -12,7 +12,7 @@ ghost use Rattle.usage.specs.Policy.{EdgesOk};
 ghost use Rattle.usage.specs.Valid.{OutlineOk};
 ghost use Rattle.usage.specs.Tables.{edgesOf, nodesOf};
 ghost use Rattle.checker_account.specs.Tables.{rowsIn};
-ghost use Rattle.checker_account.specs.Rounds.{formsIn};
+ghost use Rattle.checker_account.specs.Filling.{formsIn};
 ghost use Rattle.checker_tables.specs.Marks.{MarkedAll};
 ghost use Rattle.checker.specs.Summary.{MarksExact, Summarized};
 ghost use Rattle.checker.specs.Code.{MarkedWith, MarksWritten};

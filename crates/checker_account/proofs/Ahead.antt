@@ -9,7 +9,7 @@ use native.Mathlib.Omega.{arith}
 use Rattle.usage.specs.declared.Edge.{Edge}
 use Rattle.usage.specs.declared.Node.{Node}
 use Rattle.usage.specs.Limits.{create}
-use Rattle.checker_account.specs.Witness.{Sight, Last, by-action, by-opening, Counts, Aim, Goes, Breaks, Comes, Hits}
+use Rattle.checker_account.specs.Account.{Sight, Last, by-action, by-opening, Counts, Aim, Goes, Breaks, Comes, Hits}
 
 module _ (local : Bool) (es : List Edge) (ns : List Node) (p : ℕ) (S : Sight) where
   abbrev pub Root : ℕ → Option Last → Type 0

@@ -8,7 +8,7 @@ use Rattle.usage.specs.declared.Node.{Node}
 use Rattle.usage.specs.Limits.{states, mostNames}
 use Rattle.usage.specs.Policy.{Moves, along, stays, EdgesOk}
 use Rattle.usage.specs.Past.{reopened}
-use Rattle.checker_account.specs.Witness.{Sight, Aim, ended, Goes, Ends, Comes}
+use Rattle.checker_account.specs.Account.{Sight, Aim, ended, Goes, Ends, Comes}
 use Rattle.checker_account.specs.Holds.{NamesOk}
 use Rattle.checker_account.specs.Least.{Begun, Followed, ComeTo, Anywhere}
 

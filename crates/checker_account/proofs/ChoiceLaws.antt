@@ -14,7 +14,7 @@ use Rattle.usage.specs.Tests.{isPair}
 use Rattle.usage.proofs.Logic.{false-true}
 use Rattle.usage.proofs.Decides.{refutes, refuted}
 use Rattle.usage.proofs.ValidLaws.{decides-pair}
-use Rattle.checker_account.specs.Witness.{watched, watchedToo}
+use Rattle.checker_account.specs.Account.{watched, watchedToo}
 use Rattle.checker_account.specs.Views.{Watched, one, two, apart, Chosen}
 use Rattle.checker_account.specs.Choices.{below, alone, row, grid, choices}
 

@@ -13,7 +13,7 @@ use Rattle.usage.specs.Outline.{formOf}
 use Rattle.usage.specs.Tests.{someBelow}
 use Rattle.checker_account.specs.Tables.{least, made, forgotten, meaningAfter, kept, place, Rows, arrivals, leaves, places, unnamed}
 use Rattle.checker_account.specs.Tables.{meanings}
-use Rattle.checker_account.specs.Rounds.{arrivalsOf, leavesOf}
+use Rattle.checker_account.specs.Filling.{arrivalsOf, leavesOf}
 use Rattle.checker_account.specs.RowTable.{EventTables, nodeRows}
 
 pub least-static : (x : ℕ) → x < statics → unnamed ≡ least x

@@ -15,7 +15,7 @@ use Rattle.usage.specs.Past.{reopened}
 use Rattle.usage.specs.Outline.{Form, Is, end, on-static, on-name, sequence, choice, loop, back, fresh, sandbox}
 use Rattle.automaton.specs.Mask.{has}
 use Rattle.automaton.proofs.MoveLaws.{moves-lt, ends-of}
-use Rattle.checker_account.specs.Witness.{watched, others, Comes}
+use Rattle.checker_account.specs.Account.{watched, others, Comes}
 use Rattle.checker_account.specs.Single.{forget, MakesOne, watching}
 use Rattle.checker_account.proofs.BegunLaws.{reopened-states}
 use Rattle.checker_account.specs.Tables.{

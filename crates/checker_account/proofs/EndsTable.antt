@@ -19,7 +19,7 @@ use Rattle.usage.specs.Outline.{Form, Is, end, on-static, on-name, sequence, ch
 use Rattle.automaton.specs.Mask.{has}
 use Rattle.automaton.proofs.MaskLaws.{has-pow}
 use Rattle.automaton.proofs.MoveLaws.{moves-lt, ends-of}
-use Rattle.checker_account.specs.Witness.{watched, others, Goes, ended, Ends}
+use Rattle.checker_account.specs.Account.{watched, others, Goes, ended, Ends}
 use Rattle.checker_account.specs.Single.{noName, meant, forget, MakesOne, watching}
 use Rattle.checker_account.proofs.BegunLaws.{reopened-states}
 use Rattle.checker_account.specs.Tables.{nameOf, made, forgotten, meaningAfter, at, half, base, kept, begun, Rows, Resets}

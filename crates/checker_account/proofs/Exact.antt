@@ -18,13 +18,13 @@ use Rattle.usage.specs.Outline.{noNames, IsTrace}
 use Rattle.usage.specs.Check.{Leaves, Shortest, Shown, longer}
 use Rattle.usage.proofs.PastLaws.{violates-opening, violates-closing, violates-retiring}
 use Rattle.usage.proofs.TraceLaws.{trace-tail}
-use Rattle.checker_account.specs.Witness.{Last, by-action, by-opening, Counts, Hits, Made, an-event, its-opening, LeavesBy, one}
+use Rattle.checker_account.specs.Account.{Last, by-action, by-opening, Counts, Hits, Made, an-event, its-opening, LeavesBy, one}
 use Rattle.checker_account.specs.Views.{Chosen, views}
 use Rattle.checker_account.proofs.Scoped.{Scoped}
 use Rattle.checker_account.proofs.Ahead.{hits-exact}
 use Rattle.checker_account.proofs.Writing.{written-length, goes-written}
-use Rattle.checker_account.proofs.Sound.{sound}
-use Rattle.checker_account.proofs.Complete.{written-struck}
+use Rattle.checker_account.proofs.ViolationLaws.{sound}
+use Rattle.checker_account.proofs.WrittenTrace.{written-struck}
 
 -- ── The violation, at the step that brings it about ──
 

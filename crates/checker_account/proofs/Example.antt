@@ -15,7 +15,7 @@ use Rattle.usage.specs.Tests.{someOf}
 use Rattle.usage.specs.Outline.{Form, formOf, formAt, Is, end, on-static, on-name, sequence, choice, loop, back, fresh, sandbox, IsTrace}
 use Rattle.usage.specs.Check.{Leaves}
 use Rattle.usage.proofs.Logic.{clash}
-use Rattle.checker_account.specs.Witness.{Comes, by-action, Hits}
+use Rattle.checker_account.specs.Account.{Comes, by-action, Hits}
 use Rattle.checker_account.specs.Views.{Watched, Chosen, standIn, keepIf, New, awaited, views, given}
 use Rattle.checker_account.proofs.Scoped.{Scoped}
 use Rattle.checker_account.proofs.Exact.{exact, shortest-sound}

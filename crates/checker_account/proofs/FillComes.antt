@@ -16,14 +16,14 @@ use Rattle.usage.specs.Policy.{EdgesOk}
 use Rattle.usage.specs.Outline.{Form, end, on-static, on-name, sequence, choice, loop, back, fresh, sandbox, Is}
 use Rattle.automaton.specs.Mask.{has}
 use Rattle.automaton.proofs.MaskLaws.{has-pow}
-use Rattle.checker_account.specs.Witness.{watched, Comes}
+use Rattle.checker_account.specs.Account.{watched, Comes}
 use Rattle.checker_account.specs.Tables.{least, nameOf, made, Rows, place, Arrival, arrivals, joinedAt, places, meanings}
 use Rattle.checker_account.specs.Holds.{Start, RowsOk, NamesOk, ComesFrom, HoldsEnds, ComesAt, HasCome, SoundComes, Each, Entered}
 use Rattle.checker_account.specs.Holds.{ClosedComes, HoldsComes, TargetsOk}
-use Rattle.checker_account.specs.Rounds.{Forms, FormsOf, arrivalsOf, ComesRule, leads-to, begins, Filled}
+use Rattle.checker_account.specs.Filling.{Forms, FormsOf, arrivalsOf, ComesRule, leads-to, begins, Filled}
 use Rattle.checker_account.proofs.MaskLaws.{has-none}
 use Rattle.checker_account.proofs.JoinLaws.{joined-found, joined-still, joined-keeps, zeros}
-use Rattle.checker_account.proofs.RoundLaws.{joined-grows, derived-grows, derived-keeps}
+use Rattle.checker_account.proofs.GrowsLaws.{joined-grows, derived-grows, derived-keeps}
 use Rattle.checker_account.proofs.PassLaws.{each-at, each-all}
 use Rattle.checker_account.proofs.Starts.{start-least, least-name, least-made}
 use Rattle.checker_account.proofs.CodeLaws.{forgotten-lt, after-lt, place-lt}

@@ -13,17 +13,17 @@ use Rattle.usage.specs.declared.Node.{Node}
 use Rattle.usage.specs.Policy.{EdgesOk}
 use Rattle.usage.specs.Outline.{Form}
 use Rattle.automaton.specs.Mask.{has}
-use Rattle.checker_account.specs.Witness.{watched}
+use Rattle.checker_account.specs.Account.{watched}
 use Rattle.checker_account.specs.Single.{watching}
 use Rattle.checker_account.specs.Tables.{least, at, base, joinedAt, Rows, Resets, never, opening-of, places, meanings}
 use Rattle.checker_account.specs.Holds.{Start, RowsOk, NamesOk, EndsAt, HasEnd, SoundEnds, ClosedEnds, HoldsEnds}
 use Rattle.checker_account.specs.Holds.{ResetsOk, where-open}
 use Rattle.checker_account.specs.Holds.{where-not}
-use Rattle.checker_account.specs.Rounds.{Forms, FormsOf, endsOf, EndsRule, ends-of, Filled, ShutFilled, EndsFilled}
+use Rattle.checker_account.specs.Filling.{Forms, FormsOf, endsOf, EndsRule, ends-of, Filled, ShutFilled, EndsFilled}
 use Rattle.checker_account.proofs.Whole.{ends-open}
 use Rattle.checker_account.proofs.MaskLaws.{has-none}
 use Rattle.checker_account.proofs.JoinLaws.{joined-found, joined-still, zeros}
-use Rattle.checker_account.proofs.RoundLaws.{derived-grows, derived-keeps}
+use Rattle.checker_account.proofs.GrowsLaws.{derived-grows, derived-keeps}
 use Rattle.checker_account.proofs.EndsTable.{rule-sound, holds-ends}
 
 -- a place is that of one node, one meaning and one state

@@ -15,16 +15,16 @@ use Rattle.usage.specs.Outline.{Form, end, on-static, on-name, sequence, choice
 use Rattle.usage.proofs.Logic.{by-cases, last-or-lower}
 use Rattle.automaton.specs.Move.{rowsOf}
 use Rattle.automaton.proofs.RowLaws.{rows-lt}
-use Rattle.checker_account.specs.Witness.{watched, others}
+use Rattle.checker_account.specs.Account.{watched, others}
 use Rattle.checker_account.specs.Tables.{Rows, Resets, never, opening-of, Arrival, arrivals, places, meanings, least, place, base}
 use Rattle.checker_account.specs.Tables.{half, restarted, isReset, made, joinedAt, rowAt, rowsIn}
 use Rattle.checker_account.specs.Holds.{Each}
-use Rattle.checker_account.specs.Rounds.{repeat, total, grown, Forms, Wide, Derived, start, Filled, EndsRule, settleNode, settleRound}
-use Rattle.checker_account.specs.Rounds.{ShutFilled, byOpen, entered, arrivalsOf, ComesRule, pass, odd, passNode, passRound, begins}
-use Rattle.checker_account.specs.Rounds.{hitAny, Searched, SearchedAll, found, none-found}
+use Rattle.checker_account.specs.Filling.{repeat, total, grown, Forms, Wide, Derived, start, Filled, EndsRule, settleNode, settleRound}
+use Rattle.checker_account.specs.Filling.{ShutFilled, byOpen, entered, arrivalsOf, ComesRule, pass, odd, passNode, passRound, begins}
+use Rattle.checker_account.specs.Filling.{hitAny, Searched, SearchedAll, found, none-found}
 use Rattle.checker_account.specs.RowTable.{EventTables, storeRow, rowsStored, nodeRows, fillRows}
 use Rattle.checker_account.proofs.JoinLaws.{zeros-wide, set-wide}
-use Rattle.checker_account.proofs.RoundLaws.{Grows, grown-false, repeat-grows, repeat-keeps, Filling, filling-length, most, nearer}
+use Rattle.checker_account.proofs.GrowsLaws.{Grows, grown-false, repeat-grows, repeat-keeps, Filling, filling-length, most, nearer}
 use Rattle.checker_account.proofs.SettleLaws.{node-grows, round-derived, round-closed, over-lt, cond-lt, joined-wide, WideLent, node-wide}
 use Rattle.checker_account.proofs.PassLaws.{pass-round-grows, pass-round-derived, pass-round-closed}
 use Rattle.checker_account.proofs.SearchLaws.{begins-wide}

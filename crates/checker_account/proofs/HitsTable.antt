@@ -18,7 +18,7 @@ use Rattle.usage.specs.Past.{reopened}
 use Rattle.usage.specs.Outline.{Form, Is, end, on-static, on-name, sequence, choice, loop, back, fresh, sandbox}
 use Rattle.usage.proofs.Logic.{none-some}
 use Rattle.automaton.specs.Mask.{has}
-use Rattle.checker_account.specs.Witness.{watched, Last, by-action, by-opening, Hits}
+use Rattle.checker_account.specs.Account.{watched, Last, by-action, by-opening, Hits}
 use Rattle.checker_account.specs.Single.{meant, MakesOne, watching}
 use Rattle.checker_account.specs.Tables.{nameOf, made, Rows, isReset, restarted, place, leaves, lastOf, over}
 use Rattle.checker_account.specs.Holds.{Start, Dynamic, HitsFrom, RowsOk, NamesOk, ComesAt, HasCome, HoldsComes, Struck}

@@ -11,7 +11,7 @@ use lib.ListN.{length, getD, set, replicate}
 use lib.Seq.{getD-set-same, getD-set-other, set-out}
 use borrow.Author.Tests.{leb-true, leb-false}
 use Rattle.automaton.specs.Mask.{has}
-use Rattle.checker_account.specs.Rounds.{Wide}
+use Rattle.checker_account.specs.Filling.{Wide}
 use Rattle.checker_account.proofs.MaskLaws.{has-left, has-right, has-either}
 use Rattle.checker_account.specs.Tables.{joinedAt}
 

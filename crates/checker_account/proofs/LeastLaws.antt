@@ -6,7 +6,7 @@ use native.Mathlib.Omega.{arith}
 use Rattle.usage.specs.declared.Edge.{Edge}
 use Rattle.usage.specs.declared.Node.{Node}
 use Rattle.usage.specs.Policy.{EdgesOk}
-use Rattle.checker_account.specs.Witness.{Sight, Aim, Goes}
+use Rattle.checker_account.specs.Account.{Sight, Aim, Goes}
 use Rattle.checker_account.specs.Least.{Entries, Starts, Followed, Begun, Aimed, at-end, Rule, Lengths, Least, Less, Closed}
 use Rattle.checker_account.proofs.Scoped.{Scoped}
 use Rattle.checker_account.proofs.BegunLaws.{moves-states, Keeps, begun-new, begun-opened, begun-ended}

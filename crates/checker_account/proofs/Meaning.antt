@@ -17,7 +17,7 @@ use Rattle.usage.specs.Outline.{Names, noNames, give}
 use Rattle.usage.proofs.Logic.{false-true}
 use Rattle.usage.proofs.PastLaws.{occurs-later}
 use Rattle.usage.proofs.TraceLaws.{give-same, give-other}
-use Rattle.checker_account.specs.Witness.{others}
+use Rattle.checker_account.specs.Account.{others}
 use Rattle.checker_account.specs.Single.{noName, meant, forget}
 use Rattle.checker_account.specs.Views.{noMeaning, standIn, meansNow, keepIf, leftAfter}
 

@@ -16,7 +16,7 @@ use Rattle.usage.proofs.Logic.{none-some}
 use Rattle.usage.proofs.FormLaws.{form-ok}
 use Rattle.usage.proofs.TableLaws.{nodes-at, nodes-past}
 use Rattle.checker_account.specs.Holds.{NamesOk, TargetsOk}
-use Rattle.checker_account.specs.Rounds.{FormsOf, formsIn}
+use Rattle.checker_account.specs.Filling.{FormsOf, formsIn}
 
 module _ (ns : List Node) (ok : OutlineOk ns) where
   pub names-ok : NamesOk ns

@@ -15,7 +15,7 @@ use Rattle.usage.specs.declared.Edge.{Edge}
 use Rattle.usage.specs.Limits.{mostNames}
 use Rattle.usage.specs.Tests.{someOf}
 use Rattle.usage.proofs.Logic.{false-true, by-cases}
-use Rattle.checker_account.specs.Witness.{watched, watchedToo, others}
+use Rattle.checker_account.specs.Account.{watched, watchedToo, others}
 use Rattle.checker_account.specs.Single.{noName, forget}
 use Rattle.checker_account.specs.Views.{Chosen, noMeaning, standIn, meansNow, keepIf, dynamics, leftAfter, New, another, awaited}
 use Rattle.checker_account.specs.Views.{MakesAny, given, views}

@@ -16,7 +16,7 @@ use Rattle.automaton.specs.Mask.{has, union}
 use Rattle.automaton.proofs.MaskLaws.{has-zero}
 use Rattle.checker_account.specs.Tables.{Rows, base, half, isReset, place, over, ownCreated, Arrival, arrivals, joinedAt, meanings}
 use Rattle.checker_account.specs.Holds.{Each}
-use Rattle.checker_account.specs.Rounds.{
+use Rattle.checker_account.specs.Filling.{
   Forms,
   Derived,
   joins,
@@ -30,8 +30,8 @@ use Rattle.checker_account.specs.Rounds.{
   passRound,
 }
 use Rattle.checker_account.proofs.MaskLaws.{restarted-none}
-use Rattle.checker_account.proofs.RoundLaws.{Grows, grows-self, grows-trans, grows-still, joined-grows, repeat-grows}
-use Rattle.checker_account.proofs.RoundLaws.{repeat-keeps, repeat-still}
+use Rattle.checker_account.proofs.GrowsLaws.{Grows, grows-self, grows-trans, grows-still, joined-grows, repeat-grows}
+use Rattle.checker_account.proofs.GrowsLaws.{repeat-keeps, repeat-still}
 
 pub entered-grows : (gs : List Arrival) (u : List ℕ) → Grows u (entered gs u)
 unfolding entered

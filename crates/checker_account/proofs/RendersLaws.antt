@@ -11,7 +11,7 @@ use Rattle.usage.specs.Limits.{mostNames}
 use Rattle.usage.specs.Policy.{Sees, Moves, EdgesOk}
 use Rattle.usage.specs.Past.{Past}
 use Rattle.usage.specs.Outline.{Names}
-use Rattle.checker_account.specs.Witness.{Sight, Last, Aim, ended, broken, Goes, Comes, Hits}
+use Rattle.checker_account.specs.Account.{Sight, Last, Aim, ended, broken, Goes, Comes, Hits}
 use Rattle.checker_account.specs.Written.{Written}
 use Rattle.checker_account.specs.Least.{Begun}
 use Rattle.checker_account.specs.Holds.{NamesOk}

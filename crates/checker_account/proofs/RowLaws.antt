@@ -16,7 +16,7 @@ use Rattle.usage.specs.Outline.{Is, on-static, on-name, fresh}
 use Rattle.usage.proofs.Logic.{false-true, not-both}
 use Rattle.automaton.specs.Mask.{has}
 use Rattle.automaton.proofs.MoveLaws.{Own}
-use Rattle.checker_account.specs.Witness.{watched, others}
+use Rattle.checker_account.specs.Account.{watched, others}
 use Rattle.checker_account.specs.Tables.{Rows}
 use Rattle.checker_account.specs.Holds.{Dynamic, RowsOk}
 use Rattle.checker_account.proofs.Carry.{Same, same-one, carry}

@@ -15,9 +15,9 @@ use Rattle.usage.specs.declared.Node.{Node}
 use Rattle.usage.specs.Limits.{create, states, mostNodes}
 use Rattle.usage.specs.Outline.{Form, end, on-static, on-name, sequence, choice, loop, back, fresh, sandbox, Is}
 use Rattle.usage.proofs.Logic.{by-cases, last-or-lower}
-use Rattle.checker_account.specs.Witness.{others}
+use Rattle.checker_account.specs.Account.{others}
 use Rattle.checker_account.specs.Tables.{rowAt, rowsIn, starts, places}
-use Rattle.checker_account.specs.Rounds.{repeat, Forms, FormsOf}
+use Rattle.checker_account.specs.Filling.{repeat, Forms, FormsOf}
 use Rattle.checker_account.specs.RowTable.{EventTables, imageIn, storeRow, rowsStored, eventRows, nodeRows, fillRows}
 use Rattle.checker_account.proofs.RowLaws.{RowsFrom}
 

@@ -21,11 +21,11 @@ use Rattle.usage.proofs.Decides.{d-map}
 use Rattle.usage.proofs.Logic.{false-true}
 use Rattle.automaton.specs.Mask.{has, offends}
 use Rattle.automaton.proofs.MaskLaws.{some-at, some-found}
-use Rattle.checker_account.specs.Witness.{watched, Last}
+use Rattle.checker_account.specs.Account.{watched, Last}
 use Rattle.checker_account.specs.Tables.{half, least, Rows, place, leaves, lastOf, joinedAt, places, meanings}
 use Rattle.checker_account.specs.Holds.{RowsOk, NamesOk, TargetsOk, HitsFrom, HasCome, HoldsComes, Struck}
-use Rattle.checker_account.specs.Rounds.{Forms, FormsOf, leavesOf, hitNode, hitAny, begins, Wide, Searched, SearchedAll, found}
-use Rattle.checker_account.specs.Rounds.{none-found, Untouched, EndsFilled, ComesRule, Filled}
+use Rattle.checker_account.specs.Filling.{Forms, FormsOf, leavesOf, hitNode, hitAny, begins, Wide, Searched, SearchedAll, found}
+use Rattle.checker_account.specs.Filling.{none-found, Untouched, EndsFilled, ComesRule, Filled}
 use Rattle.checker_account.proofs.Scoped.{Scoped}
 use Rattle.checker_account.proofs.SightsLaws.{exact-sights}
 use Rattle.checker_account.proofs.SingleLaws.{singles}

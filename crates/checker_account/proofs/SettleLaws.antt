@@ -13,7 +13,7 @@ use Rattle.usage.specs.Outline.{Form, end, on-static, on-name, sequence, choice
 use Rattle.automaton.specs.Mask.{has, union}
 use Rattle.checker_account.specs.Tables.{made, base, kept, Rows, Resets, never, opening-of, insideEnds, endsBy, over}
 use Rattle.checker_account.specs.Tables.{joinedAt, meanings}
-use Rattle.checker_account.specs.Rounds.{
+use Rattle.checker_account.specs.Filling.{
   Forms,
   Derived,
   joins,
@@ -25,8 +25,8 @@ use Rattle.checker_account.specs.Rounds.{
   settleNode,
   settleRound,
 }
-use Rattle.checker_account.specs.Rounds.{Wide}
-use Rattle.checker_account.proofs.RoundLaws.{Grows, joined-grows, repeat-grows, repeat-keeps, repeat-still, repeat-same}
+use Rattle.checker_account.specs.Filling.{Wide}
+use Rattle.checker_account.proofs.GrowsLaws.{Grows, joined-grows, repeat-grows, repeat-keeps, repeat-still, repeat-same}
 use Rattle.checker_account.proofs.JoinLaws.{set-wide}
 
 -- ── They grow ──

@@ -37,9 +37,9 @@ use Rattle.checker_account.specs.Tables.{
   places,
   meanings,
 }
-use Rattle.checker_account.specs.Rounds.{repeat, joinedEach, endsOf, settleMeaning, settleNode}
+use Rattle.checker_account.specs.Filling.{repeat, joinedEach, endsOf, settleMeaning, settleNode}
 use Rattle.checker_account.proofs.CodeLaws.{forgotten-lt, after-lt}
-use Rattle.checker_account.proofs.RoundLaws.{joined-grows, repeat-keeps, repeat-grows}
+use Rattle.checker_account.proofs.GrowsLaws.{joined-grows, repeat-keeps, repeat-grows}
 use Rattle.checker_account.proofs.SettleLaws.{meaning-grows, node-closed}
 
 -- ── What is in an entry ──

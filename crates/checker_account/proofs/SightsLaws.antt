@@ -14,7 +14,7 @@ use Rattle.usage.specs.Policy.{EdgesOk}
 use Rattle.usage.specs.Past.{Past, Violates}
 use Rattle.usage.specs.Outline.{IsTrace}
 use Rattle.usage.specs.Check.{Leaves, Shown, longer}
-use Rattle.checker_account.specs.Witness.{Sight, Last, Hits, LeavesBy}
+use Rattle.checker_account.specs.Account.{Sight, Last, Hits, LeavesBy}
 use Rattle.checker_account.specs.Views.{Chosen, views}
 use Rattle.checker_account.specs.Holds.{NamesOk}
 use Rattle.checker_account.proofs.Scoped.{Scoped}

@@ -16,7 +16,7 @@ use Rattle.usage.specs.Limits.{statics, mostNames}
 use Rattle.usage.specs.Policy.{PairPolicy, Instance, single, pair}
 use Rattle.usage.specs.Tests.{someOf}
 use Rattle.usage.proofs.Logic.{clash, false-true}
-use Rattle.checker_account.specs.Witness.{watched, watchedToo, others}
+use Rattle.checker_account.specs.Account.{watched, watchedToo, others}
 use Rattle.checker_account.specs.Single.{noName, meant, forget, MakesOne, other, own, OneOccurs, watching}
 use Rattle.checker_account.specs.Views.{Watched, one, noMeaning, standIn, meansNow, keepIf, dynamics, leftAfter, New, another}
 use Rattle.checker_account.specs.Views.{awaited, MakesAny, given, views}

@@ -17,12 +17,12 @@ use Rattle.usage.specs.Outline.{Is, on-static, Names, noNames, give, Part, node
 use Rattle.usage.proofs.PastLaws.{Told, more, broken-among}
 use Rattle.usage.proofs.TraceLaws.{Given, give-cases}
 use Rattle.usage.proofs.ProgressLaws.{bound, bound-dynamic, bound-new}
-use Rattle.checker_account.specs.Witness.{Last, Hits, LeavesBy}
+use Rattle.checker_account.specs.Account.{Last, Hits, LeavesBy}
 use Rattle.checker_account.specs.Views.{Chosen, views}
 use Rattle.checker_account.proofs.Scoped.{Scoped}
 use Rattle.checker_account.proofs.Standing.{Stands, cast}
-use Rattle.checker_account.proofs.Sound.{sound-at}
-use Rattle.checker_account.proofs.Complete.{occurs-none, occurs-event, occurs-opening, occurs-closing}
+use Rattle.checker_account.proofs.ViolationLaws.{sound-at}
+use Rattle.checker_account.proofs.WrittenTrace.{occurs-none, occurs-event, occurs-opening, occurs-closing}
 use Rattle.checker_account.proofs.Exact.{exact-by, brought-about}
 
 -- an event node names this static resource

@@ -15,7 +15,7 @@ use Rattle.usage.specs.Tests.{someOf}
 use Rattle.usage.proofs.Logic.{by-cases}
 use Rattle.usage.proofs.Decides.{d-eq, d-some}
 use Rattle.usage.proofs.SeesLaws.{place-map, place-unmap, place-listed, instance-map}
-use Rattle.checker_account.specs.Witness.{watched, watchedToo, others}
+use Rattle.checker_account.specs.Account.{watched, watchedToo, others}
 use Rattle.checker_account.specs.Views.{Watched, one, two, apart, Chosen, dynamics}
 use Rattle.checker_account.proofs.Carry.{Same}
 use Rattle.checker_account.proofs.Meaning.{kept, keeps}

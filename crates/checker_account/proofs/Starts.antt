@@ -9,7 +9,7 @@ use borrow.Author.Tests.{eqb-true, eqb-false, eq-eqb, ne-eqb, ltb-false, le-ltb}
 use Rattle.usage.specs.declared.Edge.{Edge}
 use Rattle.usage.specs.declared.Node.{Node}
 use Rattle.usage.specs.Limits.{statics}
-use Rattle.checker_account.specs.Witness.{watched, others, Goes, Ends}
+use Rattle.checker_account.specs.Account.{watched, others, Goes, Ends}
 use Rattle.checker_account.specs.Single.{noName, meant, forget, MakesOne, watching}
 use Rattle.checker_account.specs.Tables.{unnamed, meanings, least, nameOf, made, forgotten, meaningAfter}
 use Rattle.checker_account.specs.Holds.{Start}

@@ -13,7 +13,7 @@ use Rattle.usage.specs.Limits.{statics}
 use Rattle.usage.specs.Policy.{Sees, Moves, EdgesOk}
 use Rattle.usage.specs.Outline.{Is, on-static, on-name}
 use Rattle.usage.proofs.Logic.{false-true}
-use Rattle.checker_account.specs.Witness.{watched, others, Aim, ended, Last, Goes, Comes, Hits}
+use Rattle.checker_account.specs.Account.{watched, others, Aim, ended, Last, Goes, Comes, Hits}
 use Rattle.checker_account.specs.Single.{noName, meant, forget, MakesOne, watching}
 use Rattle.checker_account.proofs.Scoped.{Scoped}
 use Rattle.checker_account.proofs.Carry.{Same, same-one, carry}

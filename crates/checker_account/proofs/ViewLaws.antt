@@ -12,7 +12,7 @@ use lib.Seq.{getD-set-same, getD-set-other}
 use Rattle.usage.specs.declared.Edge.{Edge}
 use Rattle.usage.specs.Limits.{mostNames}
 use Rattle.usage.specs.Tests.{someOf}
-use Rattle.checker_account.specs.Witness.{watched, watchedToo, others}
+use Rattle.checker_account.specs.Account.{watched, watchedToo, others}
 use Rattle.checker_account.specs.Views.{Chosen, noMeaning, standIn, meansNow, keepIf, dynamics, leftAfter, New, another, awaited}
 use Rattle.checker_account.specs.Views.{Ordered, neither, just-first, just-second, both, View, MakesAny, given, views}
 use Rattle.checker_account.proofs.Meaning.{left-part}

@@ -5,7 +5,7 @@ use mathlib.Core.List.{List}
 use lib.Dec.{eqb}
 use Rattle.usage.specs.declared.Edge.{Edge}
 use Rattle.usage.specs.declared.Node.{Node}
-use Rattle.checker_account.specs.Witness.{Sight, Goes, Ends}
+use Rattle.checker_account.specs.Account.{Sight, Goes, Ends}
 
 module _ (es : List Edge) (ns : List Node) (p : ℕ) (S : Sight) where
   pub ends-open : {n : ℕ} {o : Bool} {k : ℕ} {w : S .Meaning} {c : S .Left} {q : ℕ} {c′ : S .Left} {q′ : ℕ}

@@ -14,7 +14,7 @@ use Rattle.usage.specs.Limits.{create}
 use Rattle.usage.specs.Past.{event, opening, Past}
 use Rattle.usage.specs.Outline.{Names, give}
 use Rattle.usage.proofs.TraceLaws.{give-same, give-other}
-use Rattle.checker_account.specs.Witness.{Sight, Aim, Goes}
+use Rattle.checker_account.specs.Account.{Sight, Aim, Goes}
 use Rattle.checker_account.specs.Written.{next, Written}
 use Rattle.checker_account.proofs.Scoped.{Scoped}
 

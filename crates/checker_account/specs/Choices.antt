@@ -2,7 +2,7 @@
 use Prim.Native.Nat.{ℕ, zero, suc}
 use mathlib.Core.Bool.{Bool, true, false}
 use mathlib.Core.List.{List, [], _∷_}
-use Rattle.checker_account.specs.Witness.{watched, watchedToo}
+use Rattle.checker_account.specs.Account.{watched, watchedToo}
 
 -- the numbers below n, the highest first
 unfoldable pub below : ℕ → List ℕ

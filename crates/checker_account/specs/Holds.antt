@@ -1,4 +1,4 @@
--- What the tables are to hold: exactly the relations `Ends` and `Comes` of Witness.antt, at every start that occurs.
+-- What the tables are to hold: exactly the relations `Ends` and `Comes` of Account.antt, at every start that occurs.
 use Prim.Native.Nat.{ℕ, _+_, _<_, _≤_}
 use mathlib.Core.Path.{_≡_}
 use mathlib.Core.Bool.{Bool, true, false, cond}
@@ -13,7 +13,7 @@ use Rattle.usage.specs.Limits.{create, states, mostNodes}
 use Rattle.usage.specs.Policy.{Sees, Moves}
 use Rattle.usage.specs.Outline.{Form, Is, on-static, on-name, sequence, choice, loop, back, fresh, sandbox}
 use Rattle.automaton.specs.Mask.{has, offends}
-use Rattle.checker_account.specs.Witness.{watched, others, Ends, Comes, Last, Hits}
+use Rattle.checker_account.specs.Account.{watched, others, Ends, Comes, Last, Hits}
 use Rattle.checker_account.specs.Single.{noName, watching}
 use Rattle.checker_account.specs.Tables.{meanings, least, nameOf, made, at, half, base, Rows, endsBy, place, Arrival, arrivals}
 use Rattle.checker_account.specs.Tables.{leaves, lastOf, Resets, never, opening-of}

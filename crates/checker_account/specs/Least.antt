@@ -14,7 +14,7 @@ use Rattle.usage.specs.Limits.{states, create}
 use Rattle.usage.specs.Policy.{Sees, Moves, Offending}
 use Rattle.usage.specs.Past.{reopened}
 use Rattle.usage.specs.Outline.{Is, end, on-static, on-name, sequence, choice, loop, back, fresh, sandbox}
-use Rattle.checker_account.specs.Witness.{Sight, Last, by-action, by-opening, Counts, Aim, ended, broken, Goes, Ends, Comes}
+use Rattle.checker_account.specs.Account.{Sight, Last, by-action, by-opening, Counts, Aim, ended, broken, Goes, Ends, Comes}
 
 abbrev pub Entries : Type 0 → Type 0 → Type 1
 Entries W L = ℕ → Bool → ℕ → W → L → ℕ → Aim L → Type 0

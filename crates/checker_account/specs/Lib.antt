@@ -1,5 +1,5 @@
 -- The finite account of an outline, as relations, one watched resource at a time.
-pub mod Witness
+pub mod Account
 -- One watched resource by two numbers; any number by stand-ins; two by numbers.
 pub mod Single
 pub mod Views
@@ -11,7 +11,7 @@ pub mod Least
 -- The tables of the check: their layout and the rules by which they are filled; how they are filled, and the search in them; the table of
 -- a policy's moves at each node.
 pub mod Tables
-pub mod Rounds
+pub mod Filling
 pub mod RowTable
 -- What the filled tables hold: exactly the account.
 pub mod Holds

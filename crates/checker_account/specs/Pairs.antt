@@ -7,7 +7,7 @@ use mathlib.Core.Bool.{Bool, true, false, not, cond}
 use mathlib.Core.List.{List, [], _∷_}
 use lib.Dec.{eqb}
 use Rattle.usage.specs.Tests.{someOf}
-use Rattle.checker_account.specs.Witness.{watched, watchedToo, others, Sight}
+use Rattle.checker_account.specs.Account.{watched, watchedToo, others, Sight}
 use Rattle.checker_account.specs.Single.{noName, forget}
 
 -- what name n means where a is the name of 16 and b that of 17

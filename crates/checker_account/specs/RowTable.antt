@@ -6,9 +6,9 @@ use mathlib.Core.List.{List}
 use lib.ListN.{getD, set}
 use Rattle.usage.specs.Limits.{create, states}
 use Rattle.usage.specs.Outline.{Form, end, on-static, on-name, sequence, choice, loop, back, fresh, sandbox}
-use Rattle.checker_account.specs.Witness.{others}
+use Rattle.checker_account.specs.Account.{others}
 use Rattle.checker_account.specs.Tables.{rowAt}
-use Rattle.checker_account.specs.Rounds.{repeat, Forms}
+use Rattle.checker_account.specs.Filling.{repeat, Forms}
 
 -- The two tables of an event, for the instance whose own resource is the event's and for the others: `tables a r mine` holds at
 -- p * states + q the states that state q of policy p moves to by the event a(r).

@@ -6,7 +6,7 @@ use mathlib.Core.Bool.{Bool, true, false, cond}
 use mathlib.Core.List.{[], _∷_}
 use lib.Dec.{eqb, ltb}
 use Rattle.usage.specs.Limits.{statics}
-use Rattle.checker_account.specs.Witness.{others, Sight}
+use Rattle.checker_account.specs.Account.{others, Sight}
 
 -- in the place of a name: no name means x
 abbrev pub noName : ℕ

@@ -1,5 +1,5 @@
 -- The tables of the check, for one policy p and one watched resource x: how they are laid out, and by which rules they are filled. What
--- a node can end in and what it is come to in are the relations `Ends` and `Comes` of Witness.antt; a table holds them as bits.
+-- a node can end in and what it is come to in are the relations `Ends` and `Comes` of Account.antt; a table holds them as bits.
 --
 -- A start of a node is a meaning m, 0 to 5, and a state q, 0 to 7. The meaning tells both the name that means x and whether x can
 -- still be created: 0 that it can be (then no name means it), 1 + n that name n means it, 5 that it cannot be and no name means it.
@@ -13,7 +13,7 @@ use lib.Bits.{bitOr}
 use Rattle.usage.specs.Limits.{statics, create, states, mostNodes}
 use Rattle.usage.specs.Outline.{Form, end, on-static, on-name, sequence, choice, loop, back, fresh, sandbox}
 use Rattle.automaton.specs.Mask.{has, union}
-use Rattle.checker_account.specs.Witness.{Last, by-action, by-opening}
+use Rattle.checker_account.specs.Account.{Last, by-action, by-opening}
 use Rattle.checker_account.specs.Single.{noName}
 
 -- ── Sets: of states, and of ends, which are twice as many ──

@@ -10,7 +10,7 @@ use lib.ListN.{length, getD, set, replicate}
 use Rattle.usage.specs.declared.Edge.{Edge}
 use Rattle.usage.specs.Policy.{Instance}
 use Rattle.usage.specs.Tests.{someOf}
-use Rattle.checker_account.specs.Witness.{watched, watchedToo, others, Sight}
+use Rattle.checker_account.specs.Account.{watched, watchedToo, others, Sight}
 
 -- The choices of stand-ins for the watched resources: 17 of one; of two 17 times 17, where 16 twice is one dynamic resource taken for both,
 -- and one for two different dynamic resources.

@@ -11,7 +11,7 @@ use Rattle.usage.specs.Limits.{statics, create}
 use Rattle.usage.specs.Policy.{Sees, Moves, Offending}
 use Rattle.usage.specs.Past.{event, opening, closing, Past, creates, reopened}
 use Rattle.usage.specs.Outline.{Is, end, on-static, on-name, sequence, choice, loop, back, fresh, sandbox, Names, give}
-use Rattle.checker_account.specs.Witness.{Sight, Last, by-action, by-opening, Counts, Aim, ended, broken}
+use Rattle.checker_account.specs.Account.{Sight, Last, by-action, by-opening, Counts, Aim, ended, broken}
 
 -- the number of the next fresh resource
 abbrev pub next : Past → ℕ

@@ -14,11 +14,11 @@ use Rattle.usage.specs.Outline.{Form, formOf, Is}
 use Rattle.usage.specs.Valid.{Scope}
 use Rattle.usage.specs.Tables.{nodesOf}
 use Rattle.usage.proofs.Logic.{false-true}
-use Rattle.checker_account.specs.Witness.{Aim, Goes}
+use Rattle.checker_account.specs.Account.{Aim, Goes}
 use Rattle.checker_account.specs.Single.{watching}
 use Rattle.checker_account.specs.Least.{Starts, Followed, ComeTo, Begun, Aimed, at-end, at-break, Rule, Lengths, Least, Closed}
 use Rattle.checker_account.specs.Tables.{nameOf, rowsIn}
-use Rattle.checker_account.specs.Rounds.{formsIn}
+use Rattle.checker_account.specs.Filling.{formsIn}
 use Rattle.checker_account.specs.Holds.{HasCome, Come, HoldsComes}
 use Rattle.checker_tables.specs.Search.{Arrived}
 use Rattle.usage.proofs.TableLaws.{nodes-length}
@@ -33,7 +33,7 @@ use Rattle.checker_lengths.proofs.NodeLaws.{node-in}
 use Rattle.checker_lengths.specs.declared.Entry.{Entry}
 use Rattle.checker_lengths.specs.Entries.{size, noLength, allLengths, entryOf, linear, inTable, held}
 use Rattle.checker_lengths.specs.Offers.{lowEnd, offerFrom, waysOf}
-use Rattle.checker_lengths.specs.Rounds.{formHere, Reach, start, falls, Settled, Full}
+use Rattle.checker_lengths.specs.Filling.{formHere, Reach, start, falls, Settled, Full}
 use Rattle.checker_lengths.specs.Held.{aimAt, meaningOf, entriesIn, watchOf, Source}
 use Rattle.checker_lengths.proofs.EntryLaws.{bounds, in-table, linear-lt, linear-one, low-end-le, held-less, held-is}
 use Rattle.checker_lengths.proofs.Numbers.{aim-ended, aim-state, start-of, meaning-is}

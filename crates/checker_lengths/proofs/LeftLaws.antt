@@ -16,7 +16,7 @@ use Rattle.usage.proofs.Logic.{not-both}
 use Rattle.automaton.specs.Mask.{has}
 use Rattle.automaton.proofs.MaskLaws.{has-zero}
 use Rattle.checker_account.specs.Tables.{least}
-use Rattle.checker_account.specs.Rounds.{total, formsIn}
+use Rattle.checker_account.specs.Filling.{total, formsIn}
 use Rattle.checker_account.proofs.SettledLaws.{PartOf, first, second, left, right, body, again, given, inside, Reads}
 use Rattle.checker_tables.specs.Work.{readersOf}
 use Rattle.checker_tables.proofs.WorkLaws.{all-left, neither, reader-in, readers-below}
@@ -25,7 +25,7 @@ use Rattle.checker_lengths.specs.declared.Watch.{Watch}
 use Rattle.checker_lengths.specs.Entries.{size, noLength, allLengths, inTable, below, held}
 use Rattle.checker_lengths.specs.Offers.{atNode, firstEntry, secondEntry, bodyEntry}
 use Rattle.checker_lengths.specs.Offers.{innerEntry, sequenceOf, freshOf, sandboxOf, offerOf}
-use Rattle.checker_lengths.specs.Rounds.{formHere, Reach, start, NodeSettled, Full}
+use Rattle.checker_lengths.specs.Filling.{formHere, Reach, start, NodeSettled, Full}
 use Rattle.checker_lengths.specs.Code.{Fell, Apart, Pass}
 use Rattle.checker_lengths.proofs.NodeLaws.{node-in}
 use Rattle.checker_lengths.proofs.MemberLaws.{member-le, member-lt, member-taken}

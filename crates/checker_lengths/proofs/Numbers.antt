@@ -7,7 +7,7 @@ use native.Mathlib.Decide.{decLe}
 use lib.Dec.{ltb, leb}
 use borrow.Author.Tests.{ltb-true, lt-ltb, le-leb, lt-leb}
 use Rattle.usage.specs.Limits.{statics}
-use Rattle.checker_account.specs.Witness.{Aim, ended, broken}
+use Rattle.checker_account.specs.Account.{Aim, ended, broken}
 use Rattle.checker_account.specs.Single.{noName, forget, watching}
 use Rattle.checker_account.specs.Tables.{unnamed, nameOf, made, forgotten, at}
 use Rattle.checker_account.specs.Holds.{Start}

@@ -12,12 +12,12 @@ use lib.ListN.{length, getD, set, length-set}
 use lib.Seq.{getD-set-same, getD-set-other}
 use Rattle.usage.specs.Outline.{Form}
 use Rattle.usage.proofs.Logic.{not-both, false-true}
-use Rattle.checker_account.specs.Rounds.{total}
+use Rattle.checker_account.specs.Filling.{total}
 use Rattle.checker_lengths.specs.declared.Entry.{Entry}
 use Rattle.checker_lengths.specs.declared.Watch.{Watch}
 use Rattle.checker_lengths.specs.Entries.{allLengths, entryOf, linear, inTable, below, held}
 use Rattle.checker_lengths.specs.Offers.{toward, offerFrom}
-use Rattle.checker_lengths.specs.Rounds.{Reach, falls, Settled, RuleSettled, StartSettled, StatesSettled, NodeSettled}
+use Rattle.checker_lengths.specs.Filling.{Reach, falls, Settled, RuleSettled, StartSettled, StatesSettled, NodeSettled}
 use Rattle.checker_lengths.specs.Code.{Fell, Apart, Pass}
 use Rattle.checker_lengths.proofs.EntryLaws.{linear-one, held-in, held-out}
 

@@ -17,7 +17,7 @@ use Rattle.usage.specs.Outline.{Form, Is, end, on-static, on-name, sequence, ch
 use Rattle.usage.proofs.Logic.{false-true, and-both}
 use Rattle.usage.proofs.FormLaws.{exists, form-ok}
 use Rattle.automaton.specs.Mask.{has, offends}
-use Rattle.checker_account.specs.Witness.{watched, others, Last, Aim, ended, broken}
+use Rattle.checker_account.specs.Account.{watched, others, Last, Aim, ended, broken}
 use Rattle.checker_account.specs.Single.{meant, MakesOne, watching}
 use Rattle.checker_account.specs.Tables.{made, forgotten, at, rowsIn, half}
 use Rattle.checker_account.specs.Least.{Entries, Begun, Aimed, Rule}

@@ -18,7 +18,7 @@ use Rattle.usage.specs.Outline.{Form, Is, end, on-static, on-name, sequence, ch
 use Rattle.usage.proofs.Logic.{by-cases, false-true}
 use Rattle.usage.proofs.FormLaws.{form-ok}
 use Rattle.automaton.specs.Mask.{has}
-use Rattle.checker_account.specs.Witness.{others, Aim, ended, broken, each}
+use Rattle.checker_account.specs.Account.{others, Aim, ended, broken, each}
 use Rattle.checker_account.specs.Single.{meant, MakesOne, watching}
 use Rattle.checker_account.specs.Tables.{made}
 use Rattle.checker_account.specs.Least.{Entries, Begun, Aimed, at-end, at-break, Rule}

@@ -7,12 +7,12 @@ use mathlib.Core.List.{List}
 use lib.ListN.{length, getD}
 use Rattle.usage.specs.Limits.{nodeFields}
 use Rattle.usage.specs.Outline.{Form, sequence}
-use Rattle.checker_account.specs.Rounds.{total}
+use Rattle.checker_account.specs.Filling.{total}
 use Rattle.checker_lengths.specs.declared.Entry.{Entry}
 use Rattle.checker_lengths.specs.declared.Watch.{Watch}
 use Rattle.checker_lengths.specs.Entries.{allLengths, linear, inTable, held}
 use Rattle.checker_lengths.specs.Offers.{offerFrom}
-use Rattle.checker_lengths.specs.Rounds.{formHere, Reach, Settled, RuleSettled}
+use Rattle.checker_lengths.specs.Filling.{formHere, Reach, Settled, RuleSettled}
 
 -- filling goes on from t to t′ by rules of node k alone, which has the form f
 abbrev pub Lowers : Watch → List ℕ → ℕ → Option Form → List ℕ → List ℕ → Type 0

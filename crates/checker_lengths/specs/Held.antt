@@ -10,7 +10,7 @@ use Rattle.usage.specs.declared.Node.{Node}
 use Rattle.usage.specs.Limits.{states, mostShown}
 use Rattle.usage.specs.Policy.{EdgesOk}
 use Rattle.usage.specs.Valid.{OutlineOk}
-use Rattle.checker_account.specs.Witness.{watched, Aim, ended, broken}
+use Rattle.checker_account.specs.Account.{watched, Aim, ended, broken}
 use Rattle.checker_account.specs.Tables.{at, rowsIn}
 use Rattle.checker_account.specs.Holds.{RowsOk}
 use Rattle.checker_account.specs.Least.{Entries}

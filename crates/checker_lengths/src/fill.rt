@@ -13,7 +13,7 @@ ghost use Rattle.automaton.specs.Mask.{has};
 ghost use Rattle.checker_lengths.specs.Entries.{atBreak, size, inTable};
 ghost use Rattle.checker_lengths.specs.Offers.{toward};
 ghost use Rattle.checker_lengths.specs.Code.{Pass, Puts, SettlesSequence};
-ghost use Rattle.checker_lengths.specs.Rounds.{Settled, RuleSettled, StartSettled, StatesSettled, NodeSettled, Full};
+ghost use Rattle.checker_lengths.specs.Filling.{Settled, RuleSettled, StartSettled, StatesSettled, NodeSettled, Full};
 use crate::AIMS;
 use crate::ALL;
 use crate::BROKEN;

@@ -6,7 +6,7 @@ use mathlib.Core.List.{List}
 use lib.ListN.{length, replicate}
 use Rattle.usage.specs.Limits.{nodeFields}
 use Rattle.checker_account.specs.Tables.{places, least, rowsIn, never, opening-of}
-use Rattle.checker_account.specs.Rounds.{formsIn, begins, Filled, ShutFilled, byOpen}
+use Rattle.checker_account.specs.Filling.{formsIn, begins, Filled, ShutFilled, byOpen}
 use Rattle.checker_tables.specs.Search.{hasRoom, EndsBy, ComesBy, hitIn, ArrivesBy, ArrivesIf, SearchedIf}
 
 module _ (nodes rows : List ℕ) (p x l : ℕ) (room : hasRoom nodes ≡ true) (e : l ≡ least x) (opened : List ℕ)

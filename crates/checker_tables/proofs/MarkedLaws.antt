@@ -15,7 +15,7 @@ use Rattle.usage.specs.Tests.{someBelow}
 use Rattle.usage.proofs.Logic.{false-true, or-left}
 use Rattle.automaton.specs.Mask.{union}
 use Rattle.checker_account.specs.Tables.{least, rowsIn}
-use Rattle.checker_account.specs.Rounds.{formsIn, hitNode, hitAny}
+use Rattle.checker_account.specs.Filling.{formsIn, hitNode, hitAny}
 use Rattle.checker_account.proofs.CodeLaws.{by-kind}
 use Rattle.checker_tables.specs.Search.{ArrivesIf}
 use Rattle.checker_tables.specs.Marks.{lastIn, markBit, hitMarks, marksIn, MarkedIf}

@@ -12,8 +12,8 @@ use Rattle.usage.specs.Outline.{on-static, nodeKinds, formOf}
 use Rattle.usage.specs.Tests.{someBelow}
 use Rattle.usage.proofs.Logic.{clash, false-true, not-both, and-both}
 use Rattle.automaton.proofs.MaskLaws.{some-at}
-use Rattle.checker_account.specs.Witness.{watched}
-use Rattle.checker_account.specs.Rounds.{formsIn, Untouched}
+use Rattle.checker_account.specs.Account.{watched}
+use Rattle.checker_account.specs.Filling.{formsIn, Untouched}
 use Rattle.checker_tables.specs.Search.{touched}
 
 -- an event on a static resource is of kind 1

@@ -9,7 +9,7 @@ use borrow.Author.Tests.{lt-ltb, le-ltb, le-leb, lt-leb}
 use Rattle.usage.specs.Limits.{policies, mostNodes, nodeFields}
 use Rattle.usage.proofs.Logic.{and-both, and-false}
 use Rattle.checker_account.specs.Tables.{places}
-use Rattle.checker_account.specs.Rounds.{formsIn}
+use Rattle.checker_account.specs.Filling.{formsIn}
 use Rattle.checker_account.specs.RowTable.{EventTables, fillRows}
 use Rattle.checker_tables.specs.Search.{wholeIf, rowTable}
 

@@ -23,7 +23,7 @@ use Rattle.automaton.specs.Mask.{has}
 use Rattle.automaton.proofs.MaskLaws.{all-below, all-below-at, has-or, has-zero}
 use Rattle.checker_account.specs.Single.{noName}
 use Rattle.checker_account.specs.Tables.{base, Rows, Resets, joinedAt, places, meanings}
-use Rattle.checker_account.specs.Rounds.{
+use Rattle.checker_account.specs.Filling.{
   repeat,
   total,
   grown,
@@ -41,7 +41,7 @@ use Rattle.checker_account.specs.Rounds.{
 use Rattle.checker_account.proofs.CodeLaws.{by-kind}
 use Rattle.checker_account.proofs.MaskLaws.{has-right}
 use Rattle.checker_account.proofs.JoinLaws.{joined-keeps, joined-below, zeros, zeros-wide}
-use Rattle.checker_account.proofs.RoundLaws.{Grows, joined-grows, grown-false, repeat-keeps, Filling, filling-length, most, nearer}
+use Rattle.checker_account.proofs.GrowsLaws.{Grows, joined-grows, grown-false, repeat-keeps, Filling, filling-length, most, nearer}
 use Rattle.checker_account.proofs.SettleLaws.{node-grows, node-derived, WideLent, node-wide}
 use Rattle.checker_account.proofs.SettledLaws.{in-still, Named, Beside, NodeClosed, node-beside, node-done, node-unchanged, node-kept}
 use Rattle.checker_account.proofs.SettledLaws.{PartOf, first, second, left, right, body, again, given, inside, Reads}

@@ -9,10 +9,10 @@ use lib.ListN.{length}
 use Rattle.usage.specs.Limits.{actions, nodeFields}
 use Rattle.usage.specs.Outline.{Form}
 use Rattle.automaton.specs.Mask.{union}
-use Rattle.checker_account.specs.Witness.{watched}
+use Rattle.checker_account.specs.Account.{watched}
 use Rattle.usage.specs.Check.{Last, by-action, by-opening}
 use Rattle.checker_account.specs.Tables.{least, Rows, rowsIn, lastOf}
-use Rattle.checker_account.specs.Rounds.{Forms, formsIn, hitNode, EndsFilled, Filled, ComesRule, begins, Untouched}
+use Rattle.checker_account.specs.Filling.{Forms, formsIn, hitNode, EndsFilled, Filled, ComesRule, begins, Untouched}
 
 -- A last step as a bit: the actions are bits 0 to 31, the opening is bit 32.
 abbrev pub bitOf : Last → ℕ

@@ -10,10 +10,10 @@ use Rattle.usage.specs.declared.Node.{Node}
 use Rattle.usage.specs.Limits.{policies, mostNodes, nodeFields}
 use Rattle.usage.specs.Tables.{nodeAt}
 use Rattle.usage.specs.Tests.{someBelow}
-use Rattle.checker_account.specs.Witness.{watched}
+use Rattle.checker_account.specs.Account.{watched}
 use Rattle.checker_account.specs.Single.{noName}
 use Rattle.checker_account.specs.Tables.{unnamed, places, least, rowsIn, Resets, never, opening-of}
-use Rattle.checker_account.specs.Rounds.{formsIn, EndsRule, EndsFilled, ComesRule, passRound, begins, Filled, hitAny, Searched}
+use Rattle.checker_account.specs.Filling.{formsIn, EndsRule, EndsFilled, ComesRule, passRound, begins, Filled, hitAny, Searched}
 use Rattle.checker_account.specs.RowTable.{EventTables, fillRows}
 
 -- meaning m once meaning n no longer occurs

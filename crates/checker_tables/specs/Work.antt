@@ -6,7 +6,7 @@ use lib.ListN.{replicate}
 use Rattle.usage.specs.Limits.{mostNodes}
 use Rattle.usage.specs.Outline.{Form, end, on-static, on-name, sequence, choice, loop, back, fresh, sandbox}
 use Rattle.checker_account.specs.Tables.{joinedAt}
-use Rattle.checker_account.specs.Rounds.{repeat, Forms}
+use Rattle.checker_account.specs.Filling.{repeat, Forms}
 
 -- for each node a set of nodes, as a mask: node k joined to the sets of the nodes that its rule reads
 unfoldable pub noted : ℕ → Option Form → List ℕ → List ℕ

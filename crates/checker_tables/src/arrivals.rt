@@ -10,7 +10,7 @@ ghost use Rattle.usage.specs.Outline.{formOf};
 ghost use Rattle.checker_account.specs.Single.{noName};
 ghost use Rattle.checker_account.specs.Tables.{meanings, places, begun, rowsIn, joinedAt, restarted, place, _by_by_with_};
 ghost use Rattle.checker_account.specs.Tables.{halves, freshArrivals};
-ghost use Rattle.checker_account.specs.Rounds.{grown, byOpen, entered, arrivalsOf, pass, passNode, begins, Wide, Filled};
+ghost use Rattle.checker_account.specs.Filling.{grown, byOpen, entered, arrivalsOf, pass, passNode, begins, Wide, Filled};
 ghost use Rattle.checker_tables.specs.Search.{Small, NodesFit, comesRound, ComesBy};
 use checker_account::MEANINGS;
 use checker_account::STARTS;

@@ -10,7 +10,7 @@ ghost use Rattle.usage.specs.Outline.{formOf};
 ghost use Rattle.automaton.specs.Mask.{has};
 ghost use Rattle.checker_account.specs.Single.{noName};
 ghost use Rattle.checker_account.specs.Tables.{meanings, places, over, base, kept, begun, rowsIn, secondEnds, freshEnds};
-ghost use Rattle.checker_account.specs.Rounds.{grown, endsOf, joinedEach, settleNode, Filled, Wide};
+ghost use Rattle.checker_account.specs.Filling.{grown, endsOf, joinedEach, settleNode, Filled, Wide};
 ghost use Rattle.checker_tables.specs.Search.{Small, NodesFit, resetsIf, EndsBy};
 ghost use Rattle.checker_tables.specs.ByState.{ByState};
 use crate::sets::PerState;

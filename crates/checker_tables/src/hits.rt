@@ -7,7 +7,7 @@ ghost use lib.ListN.{length, getD};
 ghost use Rattle.usage.specs.Limits.{mostNodes};
 ghost use Rattle.usage.specs.Outline.{formOf};
 ghost use Rattle.checker_account.specs.Tables.{meanings, rowsIn, restarted, place};
-ghost use Rattle.checker_account.specs.Rounds.{leavesOf, hitNode};
+ghost use Rattle.checker_account.specs.Filling.{leavesOf, hitNode};
 ghost use Rattle.checker_tables.specs.Search.{Small, NodesFit, hitIn};
 ghost use Rattle.checker_tables.specs.Marks.{lastIn, markBit, marksIn};
 use checker_account::MEANINGS;

@@ -8,7 +8,7 @@ ghost use lib.ListN.{length, getD, replicate};
 ghost use Rattle.usage.specs.Limits.{states, nodeFields};
 ghost use Rattle.usage.specs.Tables.{nodeAt};
 ghost use Rattle.checker_account.specs.Tables.{over, joinedAt, meanings, places, least, restarted};
-ghost use Rattle.checker_account.specs.Rounds.{grown, byOpen, Wide};
+ghost use Rattle.checker_account.specs.Filling.{grown, byOpen, Wide};
 ghost use Rattle.checker_tables.specs.Marks.{MarkedIf};
 ghost use Rattle.checker_tables.specs.Search.{lost, touched, smallNode, NodesFit, hasRoom, ArrivesBy, ArrivesIf, SearchedIf};
 use checker_account::NAMES;

@@ -6,7 +6,7 @@ ghost use lib.ListN.{length, replicate};
 ghost use Rattle.usage.specs.Limits.{mostNodes, nodeFields};
 ghost use Rattle.usage.specs.Outline.{formOf};
 ghost use Rattle.checker_account.specs.Tables.{joinedAt};
-ghost use Rattle.checker_account.specs.Rounds.{formsIn};
+ghost use Rattle.checker_account.specs.Filling.{formsIn};
 ghost use Rattle.checker_tables.specs.Search.{Small, NodesFit};
 ghost use Rattle.checker_tables.specs.Work.{noted, readersOf};
 use usage::MOST_NODES;

@@ -18,7 +18,7 @@ use Rattle.automaton.specs.Mask.{has}
 use Rattle.checker_account.proofs.MaskLaws.{has-left, has-right, has-either, has-none}
 use Rattle.automaton.proofs.MaskLaws.{all-below, all-below-at, same-test, left-le}
 use Rattle.checker_lengths.specs.declared.Entry.{Entry}
-use Rattle.checker_lengths.specs.Rounds.{formHere}
+use Rattle.checker_lengths.specs.Filling.{formHere}
 use Rattle.checker_trace.specs.declared.Names.{Names}
 use Rattle.checker_trace.specs.declared.Spot.{Spot}
 use Rattle.checker_trace.specs.Code.{bitOf, joinIf, leadsOf, leadsFrom, spreadTo, Spreads, begins, further}

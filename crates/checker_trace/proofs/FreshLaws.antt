@@ -19,7 +19,7 @@ use Rattle.usage.specs.Tables.{nodesOf}
 use Rattle.usage.proofs.Logic.{by-cases, false-true}
 use Rattle.usage.proofs.FormLaws.{form-ok}
 use Rattle.automaton.specs.Mask.{has}
-use Rattle.checker_account.specs.Witness.{Aim, broken, each}
+use Rattle.checker_account.specs.Account.{Aim, broken, each}
 use Rattle.checker_account.specs.Single.{forget, MakesOne, watching}
 use Rattle.checker_account.specs.Written.{next, Written}
 use Rattle.checker_account.specs.Least.{Begun}

@@ -18,7 +18,7 @@ use Rattle.usage.proofs.Logic.{by-cases, false-true, or-left, or-right, or-case
 use Rattle.usage.proofs.FormLaws.{form-ok}
 use Rattle.usage.proofs.TableLaws.{nodes-length}
 use Rattle.automaton.specs.Mask.{has}
-use Rattle.checker_account.specs.Witness.{Aim, ended, Goes}
+use Rattle.checker_account.specs.Account.{Aim, ended, Goes}
 use Rattle.checker_account.specs.Single.{watching}
 use Rattle.checker_account.specs.Tables.{at}
 use Rattle.checker_account.specs.Least.{Begun, Aimed, at-end, at-break, Least, Less, Idle, Leads, PassesAll, ending}
@@ -26,11 +26,11 @@ use Rattle.checker_account.proofs.SingleLaws.{watching-keeps}
 use Rattle.checker_account.proofs.LeastLaws.{less-lengths, rule-sound}
 use Rattle.checker_account.proofs.MaskLaws.{has-left, has-right, has-either, has-none}
 use Rattle.checker_account.proofs.ScopedLaws.{scoped}
-use Rattle.checker_account.proofs.Reading.{passes-toward, passes-more, found, idle-sound, idle-exact}
+use Rattle.checker_account.proofs.OntoLaws.{passes-toward, passes-more, found, idle-sound, idle-exact}
 use Rattle.checker_lengths.specs.declared.Entry.{Entry}
 use Rattle.checker_lengths.specs.Entries.{noLength, allLengths, entryOf, linear, held}
 use Rattle.checker_lengths.specs.Offers.{lowEnd, heir, secondEntry, waysOf, offerFrom}
-use Rattle.checker_lengths.specs.Rounds.{formHere}
+use Rattle.checker_lengths.specs.Filling.{formHere}
 use Rattle.checker_lengths.specs.Held.{aimAt, meaningOf, entriesIn, watchOf, Source}
 use Rattle.checker_lengths.proofs.EntryLaws.{bounds, held-is, held-less}
 use Rattle.checker_lengths.proofs.Numbers.{aim-end, aim-ended, heir-of, name-of, at-made, at-state}

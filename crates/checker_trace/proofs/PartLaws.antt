@@ -16,7 +16,7 @@ use Rattle.usage.specs.Outline.{Form, Is, end, sequence, choice, loop, back, fr
 use Rattle.usage.specs.Tables.{nodesOf}
 use Rattle.usage.proofs.Logic.{by-cases}
 use Rattle.checker_account.specs.Single.{watching}
-use Rattle.checker_account.specs.Witness.{Aim, ended, each}
+use Rattle.checker_account.specs.Account.{Aim, ended, each}
 use Rattle.checker_account.specs.Written.{Written}
 use Rattle.checker_account.specs.Tables.{nameOf}
 use Rattle.checker_account.specs.Least.{Aimed, at-end, at-break}
@@ -24,7 +24,7 @@ use Rattle.checker_account.proofs.ScopedLaws.{scoped}
 use Rattle.checker_account.proofs.SingleLaws.{watching-keeps}
 use Rattle.checker_account.proofs.BegunLaws.{begun-ended, begun-opened}
 use Rattle.checker_account.proofs.Writing.{written-length}
-use Rattle.checker_account.proofs.Reader.{passes-written}
+use Rattle.checker_account.proofs.CounterexampleLaws.{passes-written}
 use Rattle.checker_lengths.specs.declared.Entry.{Entry}
 use Rattle.checker_lengths.specs.declared.Watch.{Watch}
 use Rattle.checker_lengths.specs.Entries.{allLengths, entryOf, held}

@@ -22,11 +22,11 @@ use Rattle.usage.specs.Check.{Shown, longer}
 use Rattle.usage.proofs.Logic.{false-true}
 use Rattle.usage.proofs.TableLaws.{nodes-length}
 use Rattle.automaton.specs.Move.{rowsOf}
-use Rattle.checker_account.specs.Witness.{watched, each, broken}
+use Rattle.checker_account.specs.Account.{watched, each, broken}
 use Rattle.checker_account.specs.Single.{noName, watching}
 use Rattle.checker_account.specs.Written.{Written}
 use Rattle.checker_account.specs.Tables.{least, rowsIn, places}
-use Rattle.checker_account.specs.Rounds.{formsIn}
+use Rattle.checker_account.specs.Filling.{formsIn}
 use Rattle.checker_account.specs.RowTable.{fillRows}
 use Rattle.checker_account.specs.Least.{at-break}
 use Rattle.checker_account.proofs.SingleLaws.{watching-keeps, singles}
@@ -36,7 +36,7 @@ use Rattle.checker_account.proofs.EventLaws.{event-image}
 use Rattle.checker_account.proofs.SightsLaws.{all-longer-sights}
 use Rattle.checker_account.proofs.NodeLaws.{forms-of, names-ok, targets-ok}
 use Rattle.checker_account.proofs.SearchLaws.{searched}
-use Rattle.checker_account.proofs.Reader.{written-shown}
+use Rattle.checker_account.proofs.CounterexampleLaws.{written-shown}
 use Rattle.checker_account.proofs.RowLaws.{rows-ok}
 use Rattle.checker_account.proofs.RowTableLaws.{rows-from}
 use Rattle.checker_account.proofs.ScopedLaws.{scoped}

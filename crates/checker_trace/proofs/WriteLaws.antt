@@ -16,20 +16,20 @@ use Rattle.usage.specs.Outline.{Form, Is, on-static, on-name}
 use Rattle.usage.specs.Valid.{Scope}
 use Rattle.usage.specs.Tables.{nodesOf}
 use Rattle.checker_account.specs.Single.{watching}
-use Rattle.checker_account.specs.Witness.{Aim, ended, broken, each, Goes}
+use Rattle.checker_account.specs.Account.{Aim, ended, broken, each, Goes}
 use Rattle.checker_account.specs.Written.{Written}
 use Rattle.checker_account.specs.Least.{Begun, Leads, PassesAll, ending}
 use Rattle.checker_account.proofs.MaskLaws.{offends-has}
 use Rattle.checker_account.proofs.ScopedLaws.{scoped}
-use Rattle.checker_account.proofs.Reading.{goes-still, passes-all, passes-among}
+use Rattle.checker_account.proofs.OntoLaws.{goes-still, passes-all, passes-among}
 use Rattle.checker_account.proofs.BegunLaws.{begun-ended}
 use Rattle.checker_account.proofs.SingleLaws.{watching-keeps}
-use Rattle.checker_account.proofs.Reader.{idle-written, passes-written}
+use Rattle.checker_account.proofs.CounterexampleLaws.{idle-written, passes-written}
 use Rattle.checker_lengths.specs.declared.Entry.{Entry}
 use Rattle.checker_lengths.specs.declared.Watch.{Watch}
 use Rattle.checker_lengths.specs.Entries.{allLengths, entryOf, held}
 use Rattle.checker_lengths.specs.Offers.{offerOf, offerFrom, moved, endingOf as ends-by, breaking}
-use Rattle.checker_lengths.specs.Rounds.{formHere}
+use Rattle.checker_lengths.specs.Filling.{formHere}
 use Rattle.checker_lengths.specs.Held.{aimAt, meaningOf}
 use Rattle.checker_lengths.proofs.Inversion.{ending-inv, breaking-inv, event-inv}
 use Rattle.checker_lengths.proofs.RuledLaws.{offending-small, break-is, end-is, static-moves, name-moves}

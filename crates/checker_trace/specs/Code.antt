@@ -16,7 +16,7 @@ use Rattle.checker_lengths.specs.declared.Entry.{Entry}
 use Rattle.checker_lengths.specs.declared.Watch.{Watch}
 use Rattle.checker_lengths.specs.Entries.{atBreak, entryOf, held, allLengths, noLength}
 use Rattle.checker_lengths.specs.Offers.{atNode, lowEnd, secondEntry, offerFrom, waysOf}
-use Rattle.checker_lengths.specs.Rounds.{formHere, Full}
+use Rattle.checker_lengths.specs.Filling.{formHere, Full}
 use Rattle.checker_trace.specs.declared.Onto.{Onto}
 use Rattle.checker_trace.specs.declared.Onto.the-variants.{By, Nothing}
 use Rattle.usage.specs.Past.{Past}
@@ -28,7 +28,7 @@ use Rattle.usage.specs.declared.Node.{Node}
 use Rattle.usage.specs.Outline as outline
 use Rattle.usage.specs.Valid.{Scope}
 use Rattle.usage.specs.Tables.{nodesOf}
-use Rattle.checker_account.specs.Witness.{Aim, watched, broken}
+use Rattle.checker_account.specs.Account.{Aim, watched, broken}
 use Rattle.checker_account.specs.Single.{noName, watching}
 use Rattle.checker_account.specs.Least.{Begun, ComeTo, Aimed, Least}
 use Rattle.checker_lengths.specs.Held.{aimAt, meaningOf, entriesIn, Source, watchOf}

@@ -19,9 +19,9 @@ use Rattle.usage.specs.Check.{Leaves, Checked, accepts, names}
 use Rattle.usage.proofs.Decides.{refutes}
 use Rattle.usage.proofs.Logic.{by-cases}
 use Rattle.usage.proofs.TableLaws.{decides-edge-table, decides-node-table}
-use Rattle.checker_account.specs.Witness.{watched}
+use Rattle.checker_account.specs.Account.{watched}
 use Rattle.checker_account.specs.Tables.{unnamed, least, rowsIn}
-use Rattle.checker_account.specs.Rounds.{formsIn, SearchedAll, found}
+use Rattle.checker_account.specs.Filling.{formsIn, SearchedAll, found}
 use Rattle.checker.specs.Code.{opens}
 use Rattle.checker.proofs.PolicyLaws.{shut, looked}
 use Rattle.test_cases.specs.JudgeCases.{P}

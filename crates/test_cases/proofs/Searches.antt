@@ -14,15 +14,15 @@ use Rattle.usage.specs.Tables.{from, edgesOf}
 use Rattle.usage.specs.Tests.{someBelow}
 use Rattle.usage.proofs.Logic.{false-true, and-left, and-right, not-true, last-or-lower}
 use Rattle.automaton.specs.Move.{targets, image, rowsOf}
-use Rattle.checker_account.specs.Witness.{watched}
+use Rattle.checker_account.specs.Account.{watched}
 use Rattle.automaton.specs.Mask.{has, single, union}
 use Rattle.checker_account.specs.Tables.{places, over, joinedAt, unnamed, least, forgotten, rowsIn, Resets, never, opening-of, endsBy}
 use Rattle.checker_account.specs.Tables.{arrivals, leaves}
-use Rattle.checker_account.specs.Rounds.{repeat, joinedEach, Forms, formsIn, settleNode, settleRound, entered, passNode, passRound}
-use Rattle.checker_account.specs.Rounds.{byOpen, ShutFilled, Filled}
-use Rattle.checker_account.specs.Rounds.{begins, Derived, start, EndsRule, ComesRule, hitNode, hitAny, Searched, SearchedAll, none-found}
+use Rattle.checker_account.specs.Filling.{repeat, joinedEach, Forms, formsIn, settleNode, settleRound, entered, passNode, passRound}
+use Rattle.checker_account.specs.Filling.{byOpen, ShutFilled, Filled}
+use Rattle.checker_account.specs.Filling.{begins, Derived, start, EndsRule, ComesRule, hitNode, hitAny, Searched, SearchedAll, none-found}
 use Rattle.checker_account.specs.RowTable.{rowsStored, nodeRows, fillRows}
-use Rattle.checker_account.proofs.RoundLaws.{repeat-keeps}
+use Rattle.checker_account.proofs.GrowsLaws.{repeat-keeps}
 use Rattle.checker_account.proofs.SettleLaws.{round-derived, round-closed}
 use Rattle.checker_account.proofs.PassLaws.{pass-round-derived, pass-round-closed}
 

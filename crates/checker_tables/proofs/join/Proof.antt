@@ -3,7 +3,7 @@ use Prim.Native.Nat.{_<_}
 use lib.ListN.{length}
 use native.Mathlib.Omega.{arith}
 use Rattle.checker_account.specs.Tables.{joinedAt}
-use Rattle.checker_account.proofs.RoundLaws.{grown-joined}
+use Rattle.checker_account.proofs.GrowsLaws.{grown-joined}
 use Rattle.checker_account.proofs.SettleLaws.{joined-wide}
 use borrow.Author.Needs.{needs}
 use Rattle.checker_tables.proofs.join.Statement.{statement}

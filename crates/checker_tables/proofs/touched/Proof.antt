@@ -7,7 +7,7 @@ use borrow.Author.Tests.{eq-eqb, ne-eqb, le-leb, lt-leb}
 use Rattle.usage.specs.Tests.{someBelow}
 use Rattle.usage.proofs.Logic.{by-cases, or-left, or-right, and-both, and-false}
 use Rattle.automaton.proofs.MaskLaws.{some-at}
-use Rattle.checker_account.specs.Witness.{watched}
+use Rattle.checker_account.specs.Account.{watched}
 use Rattle.checker_account.proofs.CodeLaws.{none-more}
 use Rattle.checker_tables.specs.Search.{touched}
 use native.Mathlib.Omega.{arith}

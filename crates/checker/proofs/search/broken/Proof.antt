@@ -11,8 +11,8 @@ use Rattle.usage.specs.Limits.{nodeFields}
 use Rattle.usage.specs.Valid.{OutlineOk}
 use Rattle.usage.specs.Tables.{nodesOf}
 use Rattle.usage.proofs.Logic.{by-cases}
-use Rattle.checker_account.specs.Witness.{watched}
-use Rattle.checker_account.specs.Rounds.{formsIn, Untouched, found, none-found}
+use Rattle.checker_account.specs.Account.{watched}
+use Rattle.checker_account.specs.Filling.{formsIn, Untouched, found, none-found}
 use Rattle.checker_tables.specs.Search.{hasRoom, SearchedIn, SearchedIf}
 use Rattle.checker_tables.proofs.FitLaws.{outline-fits}
 use Rattle.checker_tables.proofs.TouchedLaws.{untouched}

@@ -3,7 +3,7 @@ use mathlib.Core.Path.{_≡_, subst}
 use Prim.Native.Nat.{ℕ, suc, _-_, _≤_}
 use native.Mathlib.Omega.{arith}
 use borrow.Author.Needs.{needs}
-use Rattle.checker_account.specs.Witness.{watched}
+use Rattle.checker_account.specs.Account.{watched}
 use Rattle.checker.proofs.SummaryLaws.{Marking, marking-none, marking-more, marking-all}
 use Rattle.checker.proofs.summary.policy_marks.Statement.{statement}
 use Rattle.checker.proofs.summary.policy_marks.Tie as tie

@@ -12,7 +12,7 @@ use Rattle.usage.specs.declared.Node.{Node}
 use Rattle.usage.specs.Limits.{mostNodes, nodeFields}
 use Rattle.usage.specs.Outline.{formOf}
 use Rattle.checker_account.specs.Tables.{meanings, least}
-use Rattle.checker_account.specs.Rounds.{formsIn}
+use Rattle.checker_account.specs.Filling.{formsIn}
 use Rattle.checker_account.proofs.Starts.{least-le}
 use Rattle.automaton.specs.Mask.{has}
 use Rattle.checker_tables.specs.Search.{NodesFit}
@@ -20,7 +20,7 @@ use Rattle.checker_tables.specs.Work.{readersOf}
 use Rattle.checker_tables.proofs.WorkLaws.{shl-node}
 use Rattle.checker_lengths.specs.declared.Watch.{Watch}
 use Rattle.checker_lengths.specs.Nodes.{nodeIn}
-use Rattle.checker_lengths.specs.Rounds.{formHere, NodeSettled}
+use Rattle.checker_lengths.specs.Filling.{formHere, NodeSettled}
 use Rattle.checker_lengths.specs.Code.{Pass}
 use Rattle.checker_lengths.proofs.LeftLaws.{
   Working,

@@ -9,7 +9,7 @@ use Rattle.checker_lengths.specs.declared.Entry.{Entry}
 use Rattle.checker_lengths.specs.Entries.{inTable}
 use Rattle.checker_lengths.specs.Offers.{toward, lowEnd}
 use Rattle.checker_lengths.specs.Code.{Pass}
-use Rattle.checker_lengths.specs.Rounds.{Settled}
+use Rattle.checker_lengths.specs.Filling.{Settled}
 use Rattle.checker_lengths.proofs.PassLaws.{pass-then, pass-none, pass-map, settled-lasts}
 use Rattle.checker_lengths.proofs.EntryLaws.{toward-in, low-end-le}
 use native.Mathlib.Omega.{arith}

@@ -9,7 +9,7 @@ use Rattle.usage.specs.Outline.{formOf}
 use Rattle.usage.proofs.Logic.{by-cases}
 use Rattle.checker_account.specs.Tables.{place}
 use Rattle.checker_lengths.specs.Code.{Pass}
-use Rattle.checker_lengths.specs.Rounds.{StatesSettled}
+use Rattle.checker_lengths.specs.Filling.{StatesSettled}
 use Rattle.checker_lengths.proofs.PassLaws.{pass-then, pass-none, pass-map, states-last}
 use Rattle.checker_lengths.proofs.EntryLaws.{meaning-turn}
 use native.Mathlib.Omega.{arith}

@@ -6,7 +6,7 @@ use Prim.Native.Nat.{ℕ}
 use Rattle.usage.specs.declared.Node.{Node}
 use Rattle.usage.specs.Outline.{Form, formOf, sequence}
 use Rattle.checker_lengths.specs.Code.{Pass}
-use Rattle.checker_lengths.specs.Rounds.{RuleSettled}
+use Rattle.checker_lengths.specs.Filling.{RuleSettled}
 use borrow.Author.Needs.{needs}
 use Rattle.checker_lengths.proofs.fill.settle_rule.Statement.{statement}
 use Rattle.checker_lengths.proofs.fill.settle_rule.Tie as tie

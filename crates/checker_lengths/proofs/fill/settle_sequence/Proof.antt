@@ -15,7 +15,7 @@ use Rattle.checker_lengths.specs.declared.Watch.{Watch}
 use Rattle.checker_lengths.specs.Entries.{allLengths, inTable, held, plus}
 use Rattle.checker_lengths.specs.Offers.{toward, lowEnd, firstEntry, secondEntry, sequenceOf, offerOf}
 use Rattle.checker_lengths.specs.Code.{Pass, Puts}
-use Rattle.checker_lengths.specs.Rounds.{Settled}
+use Rattle.checker_lengths.specs.Filling.{Settled}
 use Rattle.checker_lengths.proofs.PassLaws.{Either, same-held, pass-then, pass-none, pass-map, settled-lasts}
 use Rattle.checker_lengths.proofs.OfferLaws.{sequence-both, sequence-dead}
 use Rattle.checker_lengths.proofs.EntryLaws.{toward-in, low-end-le}

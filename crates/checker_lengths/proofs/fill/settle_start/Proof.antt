@@ -4,7 +4,7 @@ use borrow.Author.Count.{below-more}
 use Rattle.usage.specs.Outline.{formOf}
 use Rattle.usage.proofs.Logic.{by-cases}
 use Rattle.checker_lengths.specs.Code.{Pass}
-use Rattle.checker_lengths.specs.Rounds.{RuleSettled}
+use Rattle.checker_lengths.specs.Filling.{RuleSettled}
 use Rattle.checker_lengths.proofs.PassLaws.{pass-then, pass-none, pass-map, rule-lasts}
 use native.Mathlib.Omega.{arith}
 use mathlib.Core.Path.{_∙_}

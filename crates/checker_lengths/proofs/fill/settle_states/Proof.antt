@@ -8,7 +8,7 @@ use Rattle.automaton.specs.Mask.{has}
 use Rattle.checker_lengths.specs.Entries.{entryOf}
 use Rattle.checker_lengths.specs.Offers.{toward}
 use Rattle.checker_lengths.specs.Code.{Pass}
-use Rattle.checker_lengths.specs.Rounds.{StartSettled}
+use Rattle.checker_lengths.specs.Filling.{StartSettled}
 use Rattle.checker_lengths.proofs.PassLaws.{pass-then, pass-none, pass-map, start-lasts}
 use Rattle.checker_lengths.proofs.EntryLaws.{in-table}
 use native.Mathlib.Omega.{arith}

@@ -1,10 +1,10 @@
-use Rattle.checker_account.proofs.RoundLaws.{grows-joined, grown-two}
+use Rattle.checker_account.proofs.GrowsLaws.{grows-joined, grown-two}
 use Rattle.checker_account.proofs.CodeLaws.{after-lt, after-false}
 use denote.Ref.{now}
 use mathlib.Core.Bool.{true, _||_}
 use Prim.Native.Nat.{_/_, _%_, ℕ}
 use mathlib.Core.List.{List}
-use Rattle.checker_account.specs.Rounds.{entered}
+use Rattle.checker_account.specs.Filling.{entered}
 use Rattle.checker_account.specs.Tables.{place, meaningAfter, joinedAt}
 use native.Mathlib.Omega.{arith}
 use mathlib.Core.Path.{sym, ap, _∙_, refl}

@@ -1,8 +1,8 @@
 use mathlib.Core.Bool.{_||_}
-use Rattle.checker_account.proofs.RoundLaws.{grows-joined, grown-two}
+use Rattle.checker_account.proofs.GrowsLaws.{grows-joined, grown-two}
 use denote.Ref.{now}
 use mathlib.Core.List.{List}
-use Rattle.checker_account.specs.Rounds.{entered}
+use Rattle.checker_account.specs.Filling.{entered}
 use Rattle.checker_account.specs.Tables.{place, joinedAt}
 use mathlib.Core.Path.{ap, _∙_, refl}
 use Prim.Native.Nat.{ℕ}

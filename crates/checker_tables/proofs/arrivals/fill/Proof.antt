@@ -7,9 +7,9 @@ use lib.ListN.{length, replicate}
 use Rattle.usage.specs.Limits.{nodeFields}
 use Rattle.usage.proofs.Logic.{not-true, not-false}
 use Rattle.checker_account.specs.Tables.{places, joinedAt, rowsIn}
-use Rattle.checker_account.specs.Rounds.{total, formsIn, byOpen, begins, Derived, start, Filled}
+use Rattle.checker_account.specs.Filling.{total, formsIn, byOpen, begins, Derived, start, Filled}
 use Rattle.checker_tables.specs.Search.{comesRound, ComesBy}
-use Rattle.checker_account.proofs.RoundLaws.{Grows, Filling, most, joined-grows, grown-false, filling-length, nearer}
+use Rattle.checker_account.proofs.GrowsLaws.{Grows, Filling, most, joined-grows, grown-false, filling-length, nearer}
 use Rattle.checker_account.proofs.PassLaws.{pass-round-grows, pass-round-derived, pass-round-closed}
 use Rattle.checker_account.proofs.SearchLaws.{begins-wide}
 use Rattle.checker_tables.proofs.arrivals.fill.Statement.{statement}

@@ -5,8 +5,8 @@ use borrow.Author.Needs.{needs}
 use denote.Ref.{now}
 use Rattle.usage.specs.Outline.{formOf}
 use Rattle.checker_account.specs.Tables.{rowsIn}
-use Rattle.checker_account.specs.Rounds.{byOpen, entered, arrivalsOf}
-use Rattle.checker_account.proofs.RoundLaws.{grown-self}
+use Rattle.checker_account.specs.Filling.{byOpen, entered, arrivalsOf}
+use Rattle.checker_account.proofs.GrowsLaws.{grown-self}
 use Rattle.checker_account.proofs.PassLaws.{pass-none}
 use Rattle.checker_tables.proofs.arrivals.pass.Statement.{statement}
 use Rattle.checker_tables.proofs.arrivals.pass.Tie as tie

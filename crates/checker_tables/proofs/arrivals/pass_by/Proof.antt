@@ -4,8 +4,8 @@ use denote.Ref.{now}
 use mathlib.Core.List.{List}
 use Rattle.usage.specs.Outline.{formOf}
 use Rattle.checker_account.specs.Tables.{rowsIn, Arrival, arrivals}
-use Rattle.checker_account.specs.Rounds.{entered}
-use Rattle.checker_account.proofs.RoundLaws.{grown-self}
+use Rattle.checker_account.specs.Filling.{entered}
+use Rattle.checker_account.proofs.GrowsLaws.{grown-self}
 use Rattle.checker_account.proofs.CodeLaws.{no-arrivals}
 use Rattle.checker_tables.proofs.arrivals.pass_by.Statement.{statement}
 use Rattle.checker_tables.proofs.arrivals.pass_by.Tie as tie

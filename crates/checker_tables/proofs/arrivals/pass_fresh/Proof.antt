@@ -6,8 +6,8 @@ use mathlib.Core.List.{List}
 use Prim.Native.Nat.{ℕ, suc, _+_}
 use denote.Ref.{now}
 use Rattle.checker_account.specs.Tables.{over, joinedAt, place, forgotten, rowsIn}
-use Rattle.checker_account.specs.Rounds.{entered}
-use Rattle.checker_account.proofs.RoundLaws.{grows-joined, grown-two}
+use Rattle.checker_account.specs.Filling.{entered}
+use Rattle.checker_account.proofs.GrowsLaws.{grows-joined, grown-two}
 use Rattle.checker_account.proofs.CodeLaws.{forgotten-lt}
 use Rattle.checker_tables.proofs.MeaningLaws.{lost-name}
 use borrow.Author.Needs.{needs}

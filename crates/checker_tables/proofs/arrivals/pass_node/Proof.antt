@@ -8,8 +8,8 @@ use mathlib.Core.List.{List}
 use Rattle.usage.proofs.Logic.{by-cases, or-right}
 use Rattle.usage.specs.Outline.{formOf}
 use Rattle.checker_account.specs.Tables.{rowsIn, meanings}
-use Rattle.checker_account.specs.Rounds.{repeat, grown, byOpen, pass, odd, passNode, Wide}
-use Rattle.checker_account.proofs.RoundLaws.{Grows, grown-self, repeat-length, turn}
+use Rattle.checker_account.specs.Filling.{repeat, grown, byOpen, pass, odd, passNode, Wide}
+use Rattle.checker_account.proofs.GrowsLaws.{Grows, grown-self, repeat-length, turn}
 use Rattle.checker_account.proofs.PassLaws.{pass-grows}
 use Rattle.usage.specs.declared.Node.{Node}
 use Rattle.checker_tables.proofs.arrivals.pass_node.Statement.{statement}

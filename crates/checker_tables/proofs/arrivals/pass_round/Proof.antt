@@ -8,8 +8,8 @@ use mathlib.Core.Bool.{Bool}
 use mathlib.Core.List.{List}
 use Rattle.usage.specs.Limits.{mostNodes, nodeFields}
 use Rattle.checker_account.specs.Tables.{rowsIn}
-use Rattle.checker_account.specs.Rounds.{repeat, grown, formsIn, byOpen, passNode, passRound, Wide}
-use Rattle.checker_account.proofs.RoundLaws.{Grows, grown-self, repeat-length, turn}
+use Rattle.checker_account.specs.Filling.{repeat, grown, formsIn, byOpen, passNode, passRound, Wide}
+use Rattle.checker_account.proofs.GrowsLaws.{Grows, grown-self, repeat-length, turn}
 use Rattle.checker_account.proofs.PassLaws.{pass-node-grows}
 use Rattle.usage.specs.declared.Node.{Node}
 use Rattle.usage.specs.Outline.{formOf}

@@ -2,7 +2,7 @@ use mathlib.Core.Path.{ap, _∙_}
 use mathlib.Core.Bool.{_||_}
 use denote.Ref.{now}
 use Rattle.checker_account.specs.Tables.{place, joinedAt}
-use Rattle.checker_account.specs.Rounds.{entered}
+use Rattle.checker_account.specs.Filling.{entered}
 use borrow.Author.Needs.{needs}
 use Rattle.checker_tables.proofs.arrivals.pass_sandbox.Statement.{statement}
 use Rattle.checker_tables.proofs.arrivals.pass_sandbox.Tie as tie

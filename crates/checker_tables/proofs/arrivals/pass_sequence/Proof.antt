@@ -4,8 +4,8 @@ use mathlib.Core.List.{List}
 use Prim.Native.Nat.{ℕ}
 use denote.Ref.{now}
 use Rattle.checker_account.specs.Tables.{joinedAt, place, halves}
-use Rattle.checker_account.specs.Rounds.{entered}
-use Rattle.checker_account.proofs.RoundLaws.{Grows, grows-joined, grown-two}
+use Rattle.checker_account.specs.Filling.{entered}
+use Rattle.checker_account.proofs.GrowsLaws.{Grows, grows-joined, grown-two}
 use Rattle.checker_account.proofs.PassLaws.{entered-grows}
 use borrow.Author.Needs.{needs}
 use Rattle.checker_tables.proofs.arrivals.pass_sequence.Statement.{statement}

@@ -10,7 +10,7 @@ use lib.ListN.{getD, replicate}
 use Rattle.usage.specs.Limits.{states}
 use Rattle.usage.specs.Outline.{Form, formOf}
 use Rattle.checker_account.specs.Tables.{base, kept, rowsIn, insideEnds, endsBy}
-use Rattle.checker_account.specs.Rounds.{endsOf}
+use Rattle.checker_account.specs.Filling.{endsOf}
 use Rattle.checker_account.proofs.CodeLaws.{no-form}
 use Rattle.checker_account.proofs.JoinLaws.{zeros}
 use Rattle.checker_tables.specs.ByState.{ByState}

@@ -11,7 +11,7 @@ use Rattle.usage.specs.declared.Node.{Node}
 use Rattle.usage.specs.Outline.{formOf}
 use Rattle.usage.specs.Tables.{nodeAt}
 use Rattle.checker_account.specs.Tables.{meanings, rowsIn, Resets}
-use Rattle.checker_account.specs.Rounds.{grown, formsIn, settleNode, Wide}
+use Rattle.checker_account.specs.Filling.{grown, formsIn, settleNode, Wide}
 use Rattle.checker_account.proofs.SettleLaws.{WideLent}
 use Rattle.checker_tables.specs.Search.{Small, NodesFit, resetsIf}
 use Rattle.checker_tables.specs.Work.{readersOf}

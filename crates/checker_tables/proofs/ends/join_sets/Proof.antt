@@ -5,8 +5,8 @@ use Prim.Native.Nat.{ℕ, _+_, _-_, _≤_}
 use lib.ListN.{getD}
 use Rattle.usage.specs.Limits.{states}
 use Rattle.checker_account.specs.Tables.{joinedAt}
-use Rattle.checker_account.specs.Rounds.{repeat, grown, joinedEach}
-use Rattle.checker_account.proofs.RoundLaws.{Grows, joined-grows, grown-self, repeat-length, turn}
+use Rattle.checker_account.specs.Filling.{repeat, grown, joinedEach}
+use Rattle.checker_account.proofs.GrowsLaws.{Grows, joined-grows, grown-self, repeat-length, turn}
 use borrow.Author.Needs.{needs}
 use Rattle.checker_tables.proofs.ends.join_sets.Statement.{statement}
 use Rattle.checker_tables.proofs.ends.join_sets.Tie as tie

@@ -7,8 +7,8 @@ use Rattle.usage.specs.declared.Node.{Node}
 use Rattle.usage.specs.Outline.{formOf}
 use Rattle.checker_account.specs.Tables.{rowsIn, Resets, base, meanings}
 use Rattle.checker_tables.specs.Search.{resetsIf}
-use Rattle.checker_account.specs.Rounds.{repeat, grown, endsOf, settleMeaning, settleNode}
-use Rattle.checker_account.proofs.RoundLaws.{Grows, grown-self, repeat-length, turn}
+use Rattle.checker_account.specs.Filling.{repeat, grown, endsOf, settleMeaning, settleNode}
+use Rattle.checker_account.proofs.GrowsLaws.{Grows, grown-self, repeat-length, turn}
 use Rattle.checker_account.proofs.SettleLaws.{meaning-grows, each-same}
 use borrow.Author.Needs.{needs}
 use Rattle.checker_tables.proofs.ends.settle_node.Statement.{statement}

@@ -11,7 +11,7 @@ use Rattle.usage.specs.Outline.{formOf}
 use Rattle.usage.specs.Tests.{someBelow}
 use Rattle.automaton.proofs.MaskLaws.{some-at}
 use Rattle.checker_account.specs.Tables.{rowsIn}
-use Rattle.checker_account.specs.Rounds.{formsIn, hitNode, hitAny}
+use Rattle.checker_account.specs.Filling.{formsIn, hitNode, hitAny}
 use Rattle.checker_account.proofs.CodeLaws.{none-more}
 use Rattle.checker_tables.specs.Search.{Small}
 use borrow.Author.Needs.{needs}

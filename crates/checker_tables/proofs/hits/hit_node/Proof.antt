@@ -10,7 +10,7 @@ use Rattle.usage.specs.Outline.{formOf}
 use Rattle.usage.specs.Tests.{someBelow}
 use Rattle.automaton.proofs.MaskLaws.{some-at}
 use Rattle.checker_account.specs.Tables.{half, rowsIn, meanings}
-use Rattle.checker_account.specs.Rounds.{leavesOf, hitNode}
+use Rattle.checker_account.specs.Filling.{leavesOf, hitNode}
 use Rattle.checker_account.proofs.CodeLaws.{none-more}
 use Rattle.usage.specs.declared.Node.{Node}
 use Rattle.checker_tables.proofs.hits.hit_node.Statement.{statement}

@@ -10,7 +10,7 @@ use Rattle.usage.specs.Limits.{nodeFields}
 use Rattle.usage.specs.Outline.{formOf}
 use Rattle.automaton.specs.Mask.{union}
 use Rattle.checker_account.specs.Tables.{rowsIn}
-use Rattle.checker_account.specs.Rounds.{formsIn, hitNode}
+use Rattle.checker_account.specs.Filling.{formsIn, hitNode}
 use Rattle.checker_tables.specs.Search.{Small}
 use Rattle.checker_tables.specs.Marks.{lastIn, markBit, hitMarks}
 use Rattle.checker_tables.proofs.ByStateLaws.{union-more}

@@ -10,9 +10,9 @@ use Rattle.usage.specs.declared.Node.{Node}
 use Rattle.usage.specs.Outline.{formOf}
 use Rattle.usage.specs.Tables.{edgesOf}
 use Rattle.automaton.specs.Move.{rowsOf}
-use Rattle.checker_account.specs.Rounds.{repeat, formsIn}
+use Rattle.checker_account.specs.Filling.{repeat, formsIn}
 use Rattle.checker_account.specs.RowTable.{nodeRows, fillRows}
-use Rattle.checker_account.proofs.RoundLaws.{repeat-more}
+use Rattle.checker_account.proofs.GrowsLaws.{repeat-more}
 use Rattle.checker_account.proofs.RowTableLaws.{filled-length}
 use Rattle.checker_tables.proofs.WholeLaws.{whole-in, no-policy, no-room}
 use Rattle.checker_tables.proofs.rows.fill.Statement.{statement}

@@ -1,7 +1,7 @@
 use Rattle.usage.specs.Limits.{states}
 use Prim.Native.Nat.{_*_, _+_, _-_, _≤_}
-use Rattle.checker_account.specs.Rounds.{repeat}
-use Rattle.checker_account.proofs.RoundLaws.{repeat-more}
+use Rattle.checker_account.specs.Filling.{repeat}
+use Rattle.checker_account.proofs.GrowsLaws.{repeat-more}
 use Rattle.checker_account.specs.RowTable.{storeRow, rowsStored}
 use native.Mathlib.Omega.{arith}
 use mathlib.Core.Path.{_≡_, refl}

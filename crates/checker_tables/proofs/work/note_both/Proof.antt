@@ -3,7 +3,7 @@ use mathlib.Core.List.{List}
 use Prim.Native.Nat.{ℕ, _^_}
 use denote.Ref.{now}
 use Rattle.checker_account.specs.Tables.{joinedAt}
-use Rattle.checker_account.proofs.RoundLaws.{grows-joined}
+use Rattle.checker_account.proofs.GrowsLaws.{grows-joined}
 use borrow.Author.Needs.{needs}
 use Rattle.checker_tables.proofs.work.note_both.Statement.{statement}
 use Rattle.checker_tables.proofs.work.note_both.Tie as tie

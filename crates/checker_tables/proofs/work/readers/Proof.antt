@@ -6,8 +6,8 @@ use lib.ListN.{length, replicate, length-replicate}
 use Rattle.usage.specs.Limits.{mostNodes, nodeFields}
 use Rattle.usage.specs.declared.Node.{Node}
 use Rattle.usage.specs.Outline.{formOf}
-use Rattle.checker_account.specs.Rounds.{repeat, formsIn}
-use Rattle.checker_account.proofs.RoundLaws.{repeat-more}
+use Rattle.checker_account.specs.Filling.{repeat, formsIn}
+use Rattle.checker_account.proofs.GrowsLaws.{repeat-more}
 use Rattle.checker_tables.specs.Search.{Small}
 use Rattle.checker_tables.specs.Work.{noted, readersOf}
 use Rattle.checker_tables.proofs.WorkLaws.{upto-length}

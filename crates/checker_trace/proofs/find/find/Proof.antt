@@ -7,7 +7,7 @@ use Rattle.usage.proofs.Logic.{by-cases, not-both}
 use Rattle.automaton.specs.Mask.{has}
 use Rattle.checker_lengths.specs.declared.Entry.{Entry}
 use Rattle.checker_lengths.specs.Offers.{atNode, waysOf}
-use Rattle.checker_lengths.specs.Rounds.{formHere}
+use Rattle.checker_lengths.specs.Filling.{formHere}
 use Rattle.checker_trace.specs.Code.{offerBelow, RuleIs}
 use native.Mathlib.Omega.{arith}
 use mathlib.Core.Path.{_≡_, sym, ap, _∙_}

@@ -8,7 +8,7 @@ use lib.Bits.{bitOr}
 use Rattle.automaton.specs.Mask.{has}
 use Rattle.usage.specs.declared.Node.{Node}
 use Rattle.usage.specs.Outline.{formOf}
-use Rattle.checker_lengths.specs.Rounds.{formHere}
+use Rattle.checker_lengths.specs.Filling.{formHere}
 use Rattle.checker_trace.specs.Code.{spreadTo, joinIf, leadsFrom}
 use native.Mathlib.Omega.{arith}
 use mathlib.Core.Path.{_≡_, refl, sym, ap, _∙_}

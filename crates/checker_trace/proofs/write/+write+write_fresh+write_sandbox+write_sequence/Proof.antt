@@ -5,7 +5,7 @@ use lib.ListN.{length-set}
 use Rattle.usage.specs.Outline.{formOf}
 use Rattle.checker_lengths.specs.declared.Entry.{Entry}
 use Rattle.checker_lengths.specs.Entries.{held}
-use Rattle.checker_lengths.specs.Rounds.{formHere}
+use Rattle.checker_lengths.specs.Filling.{formHere}
 use Rattle.checker_trace.specs.declared.Spot.{Spot}
 use Rattle.checker_trace.specs.declared.Names.{Names}
 use Rattle.checker_trace.specs.Code.{OntoIs, storedStep, onward, created, given, Writes}

@@ -20,7 +20,7 @@ use Rattle.usage.proofs.Logic.{clash, by-cases}
 use Rattle.usage.proofs.SeesLaws.{place-map, place-unmap, place-listed, listed-place, somewhere?, Somewhere, instance-map}
 use Rattle.usage.proofs.PastLaws.{occurs-later, may-places}
 use Rattle.usage.proofs.TraceLaws.{closings-to-run}
-use Rattle.checker_account.specs.Witness.{watched, watchedToo, others, Last, Counts, Aim, ended, broken, Made, an-event, its-opening}
+use Rattle.checker_account.specs.Account.{watched, watchedToo, others, Last, Counts, Aim, ended, broken, Made, an-event, its-opening}
 use Rattle.checker_account.specs.Views.{Watched, one, two, apart, Chosen, noMeaning, standIn, meansNow, dynamics, leftAfter, New}
 use Rattle.checker_account.specs.Views.{another, awaited, views, given}
 use Rattle.checker_account.specs.Written.{next, Written}

@@ -13,7 +13,7 @@ use Rattle.usage.specs.declared.Node.{Node}
 use Rattle.usage.specs.Outline.{Form, on-static, formOf, Is}
 use Rattle.usage.specs.Tables.{nodeAt}
 use Rattle.usage.specs.Tests.{someBelow}
-use Rattle.checker_account.specs.Witness.{watched}
+use Rattle.checker_account.specs.Account.{watched}
 use Rattle.automaton.specs.Mask.{offends}
 use Rattle.checker_account.specs.Tables.{joinedAt, meanings, places, least, half, base, Rows, endsBy, place, Arrival, arrivals}
 use Rattle.checker_account.specs.Tables.{leaves, Resets, never, opening-of}

@@ -14,7 +14,7 @@ use lib.Seq.{set-out, set-getD}
 use borrow.Author.Tests.{eqb-true, eqb-false, ltb-true, ltb-false, lt-ltb, le-ltb, leb-true, leb-false}
 use Rattle.usage.proofs.Logic.{last-or-lower}
 use Rattle.automaton.proofs.MaskLaws.{left-le}
-use Rattle.checker_account.specs.Rounds.{repeat, total, grown, Wide, Derived, start, joins}
+use Rattle.checker_account.specs.Filling.{repeat, total, grown, Wide, Derived, start, joins}
 use Rattle.checker_account.specs.Tables.{joinedAt, places}
 
 -- ── The sum of the entries ──

@@ -11,7 +11,7 @@ use Rattle.usage.specs.declared.Edge.{Edge}
 use Rattle.usage.specs.declared.Node.{Node}
 use Rattle.usage.specs.Outline.{Is, sequence}
 use Rattle.usage.proofs.Logic.{clash, false-true}
-use Rattle.checker_account.specs.Witness.{Sight, Last, Aim, ended, broken, Goes}
+use Rattle.checker_account.specs.Account.{Sight, Last, Aim, ended, broken, Goes}
 use Rattle.checker_account.specs.Least.{Entries, Starts, Followed, Begun, Aimed, at-end, Rule}
 use Rattle.checker_account.specs.Least.{Lengths, Least, Less, Idle, Leads, PassesAll, ending, Onto}
 use Rattle.checker_account.proofs.Ahead.{goes-in}

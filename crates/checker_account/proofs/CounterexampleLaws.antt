@@ -14,7 +14,7 @@ use Rattle.usage.specs.Policy.{EdgesOk}
 use Rattle.usage.specs.Past.{Step, event, opening, Past, Violates}
 use Rattle.usage.specs.Outline.{Is, sequence, Names, noNames, give, IsTrace}
 use Rattle.usage.specs.Check.{Shown, this}
-use Rattle.checker_account.specs.Witness.{Sight, Last, each, Aim, ended, broken}
+use Rattle.checker_account.specs.Account.{Sight, Last, each, Aim, ended, broken}
 use Rattle.checker_account.specs.Views.{views}
 use Rattle.checker_account.specs.Written.{next, Written}
 use Rattle.checker_account.specs.Least.{Entries, Starts, Followed, Aimed, at-end, at-break}
@@ -22,10 +22,10 @@ use Rattle.checker_account.specs.Least.{Rule, Least, Less, Idle, Leads, 
 use Rattle.checker_account.proofs.Scoped.{Scoped}
 use Rattle.checker_account.proofs.Ahead.{Root, hits-exact}
 use Rattle.checker_account.proofs.Writing.{Given, given-child, given-fresh, written-length}
-use Rattle.checker_account.proofs.Complete.{written-struck}
+use Rattle.checker_account.proofs.WrittenTrace.{written-struck}
 use Rattle.checker_account.proofs.RendersLaws.{root-written}
 use Rattle.checker_account.proofs.SightsLaws.{Sights, HitsAt, shortest-sights, all-longer-sights}
-use Rattle.checker_account.proofs.Reading.{passes-all, goes-still, passes-among, found}
+use Rattle.checker_account.proofs.OntoLaws.{passes-all, goes-still, passes-among, found}
 
 module _ (local : Bool) (es : List Edge) (ns : List Node) (p : ℕ) (S : Sight) where
   -- ── What is written at a node that k leads to is written at k ──

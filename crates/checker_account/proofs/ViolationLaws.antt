@@ -18,8 +18,8 @@ use Rattle.usage.specs.Outline.{Is, end, on-static, on-name, sequence, choice, 
 use Rattle.usage.specs.Outline.{close, Run, Advance, Runs, IsTrace}
 use Rattle.usage.proofs.PastLaws.{before-all, before-event, before-opening, before-closing, occurs-later}
 use Rattle.usage.proofs.TraceLaws.{closings-to-run}
-use Rattle.checker_account.specs.Witness.{others, Goes, Ends, Comes, Last, by-action, by-opening, Hits, Made, an-event, its-opening}
-use Rattle.checker_account.specs.Witness.{LeavesBy}
+use Rattle.checker_account.specs.Account.{others, Goes, Ends, Comes, Last, by-action, by-opening, Hits, Made, an-event, its-opening}
+use Rattle.checker_account.specs.Account.{LeavesBy}
 use Rattle.checker_account.specs.Views.{noMeaning, standIn, meansNow, dynamics, leftAfter, New, another, awaited, Chosen, views}
 use Rattle.checker_account.specs.Views.{given}
 use Rattle.checker_account.proofs.Scoped.{Scoped}
