@@ -186,8 +186,6 @@ static void refusals(void) {
     refused_with(42, "a resource created twice", &state, edges, sizeof edges, event);
     state.created[1] = 15;
     refused_with(42, "a static resource created", &state, edges, sizeof edges, event);
-    state.created[1] = 65536;
-    refused_with(42, "a resource above the range", &state, edges, sizeof edges, event);
     state.created[1] = 21;
     state.numbers[3] = 20;
     refused_with(42, "a highest number below a live one", &state, edges, sizeof edges, event);

@@ -75,7 +75,10 @@ fn a_refused_step_changes_nothing() {
     for (step, number) in [
         ([4, 0, 0], 21),
         ([3, 16, 1], 21),
-        ([3, 65_536, 0], 21),
+        // no number of 32 bits is out of a resource's range
+        ([3, 65_536, 0], 28),
+        ([3, u32::MAX, 0], 28),
+        ([0, 1, u32::MAX], 24),
         ([0, 0, 15], 22),
         ([0, 0, 16], 27),
         ([3, 3, 0], 28),

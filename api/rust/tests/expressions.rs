@@ -20,7 +20,7 @@ fn nodes(text: &[u8]) -> Result<Vec<u8>, SheetRefusal> {
 
 #[test]
 fn cases_i_to_l() {
-    let verdict = |edges: &[u8], text: &[u8]| check(edges, Past::Whole, &nodes(text).unwrap());
+    let verdict = |edges: &[u8], text: &[u8]| check(edges, Past::Whole, &nodes(text).unwrap()[..]);
     assert_eq!(verdict(P, ROUNDS), Outcome::Accepted);
     assert_eq!(verdict(TWICE, b"p0{m1{0+f0{5(n0).h1}}}\n"), Outcome::Accepted);
     assert_eq!(verdict(COUNTED, ROUNDS), Outcome::Named(0));
