@@ -11,10 +11,12 @@ report() {
     workplace || return 1
     mkdir "$work/run" || return 1
     if [ -e "$folder/trace.txt" ]; then into trace_monitor monitor "$folder" monitor || return 1; fi
-    if [ -e "$folder/outline.txt" ]; then
-        into outline_checker check "$folder" check || return 1
+    if has_outline; then
+        check && [ "$found" != 2 ] && printf %s "$out" >"$work/check" || return 1
         checked=$out
-        ran outline_counterexample "$folder" && fits && printf %s "$out" >"$work/counterexample" || return 1
+        # of a refused expression there is no outline to look for one
+        [ -n "$refusal" ] || ran outline_counterexample "$place" || return 1
+        fits && printf %s "$out" >"$work/counterexample" || return 1
         case $out in
             "$trace_names
 "?*)
