@@ -70,7 +70,7 @@ static bool distinct(const uint32_t *numbers, size_t count) {
     return true;
 }
 
-static bool in_range(uint32_t number, uint32_t highest) { return number >= 16 && number < 65536 && number <= highest; }
+static bool in_range(uint32_t number, uint32_t highest) { return number >= 16 && number <= highest; }
 
 static bool created_ok(const uint32_t *created, size_t count, uint32_t highest) {
     if (count > MOST_CREATED) return false;
@@ -242,10 +242,10 @@ uint32_t c_judge(const uint8_t *edges, size_t edges_length, uint32_t local, uint
     if (numbers[1] > 1 || numbers[3] > UINT32_MAX || !created_ok(created, s.count, s.highest) || !order_ok(&s)) return refused(42);
     if (s.halted) return refused(20);
     uint32_t code = refused(21);
-    if (kind == 0 && a < 32 && b < 65536) code = event(&s, edges, edges_length, a, b);
+    if (kind == 0 && a < 32) code = event(&s, edges, edges_length, a, b);
     else if (kind == 1 && a < POLICIES && b == 0) code = opening(&s, local == 1, (uint8_t)a);
     else if (kind == 2 && a < POLICIES && b == 0) code = closing(&s, (uint8_t)a);
-    else if (kind == 3 && a < 65536 && b == 0) code = retiring(&s, a);
+    else if (kind == 3 && b == 0) code = retiring(&s, a);
     if (code < 512) {
         numbers[0] = s.count;
         numbers[1] = s.halted;

@@ -42,6 +42,12 @@ pub fn opening_steps(created: u32) -> Vec<Step> {
     deep_steps(8, created)
 }
 
+/// The same steps with the created resources numbered near the end of the range, far from each other.
+pub fn far(steps: Vec<Step>) -> Vec<Step> {
+    let moved = |n: u32| if n < 1000 { n } else { 4_000_000_000 + 9973 * (n - 1000) };
+    steps.into_iter().map(|[kind, a, b]| [kind, a, moved(b)]).collect()
+}
+
 /// So many openings, of all policies in turn, and resources created.
 pub fn deep_steps(openings: u32, created: u32) -> Vec<Step> {
     let opened = (0..openings).map(|n| [1, n % 8, 0]);

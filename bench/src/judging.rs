@@ -162,6 +162,9 @@ fn step_cases() -> Vec<Case> {
     let edges = inputs::quiet_edges(&mut rng, 256, 8);
     let steps = inputs::steps(&mut rng, 500, 64, 8);
     let case = Case::new("step: 256 edges, 64 created in no order", edges, inputs::opening_steps(64), steps);
+    cases.push(Case { in_no_order: true, ..case.clone() });
+    let (before, steps) = (inputs::far(case.before), inputs::far(case.steps));
+    let case = Case::new("step: 256 edges, 64 created in no order, long numbers", case.edges, before, steps);
     cases.push(Case { in_no_order: true, ..case });
     let mut rng = Rng::new(2);
     let mut edges = inputs::quiet_edges(&mut rng, 256, 2);

@@ -76,7 +76,7 @@ impl State {
             return false;
         }
         let created = &self.created[..self.count];
-        let in_range = |x: &u32| (16..65536).contains(x) && *x <= self.highest;
+        let in_range = |x: &u32| *x >= 16 && *x <= self.highest;
         let [first, .., last] = created else { return created.iter().all(in_range) };
         if rising(created) {
             return *first >= 16 && in_range(last);
@@ -263,10 +263,10 @@ pub fn judge(edges: &[u8], local: u32, state: &mut State, kind: u32, a: u32, b: 
         return Answer::Refused(20);
     }
     match (kind, a, b) {
-        (0, 0..=31, 0..=65535) => state.event(edges, a, b),
+        (0, 0..=31, _) => state.event(edges, a, b),
         (1, 0..=7, 0) => state.opening(local == 1, a as u8),
         (2, 0..=7, 0) => state.closing(a as u8),
-        (3, 0..=65535, 0) => state.retiring(a),
+        (3, _, 0) => state.retiring(a),
         _ => Answer::Refused(21),
     }
 }

@@ -8,7 +8,7 @@ use std::hint::black_box;
 use wiforekun::{print_trace as proved, TRACE_ROOM};
 
 const LONGEST: usize = 32_768;
-const MOST_DIGITS: u32 = 5;
+const MOST_DIGITS: u32 = 10;
 pub const EDGE_VALUES: usize = 1_536;
 const MOST_VALUES: usize = 6_000;
 
@@ -32,9 +32,9 @@ fn edge_fits(row: &[u32]) -> bool {
 
 fn step_fits(row: &[u32]) -> bool {
     match row[0] {
-        0 => row[1] < 32 && row[2] < 65_536,
+        0 => row[1] < 32,
         1 | 2 => row[1] < 8 && row[2] == 0,
-        3 => row[1] < 65_536 && row[2] == 0,
+        3 => row[2] == 0,
         _ => false,
     }
 }
@@ -55,7 +55,7 @@ pub fn read(text: &[u8], sheet: &Sheet, table: &mut [u32]) -> Result<usize, (usi
             return Err((lines + 2, 4));
         }
         let row = &mut values[lines * sheet.fields..(lines + 1) * sheet.fields];
-        let (mut count, mut digits, mut value, mut fault) = (0, 0, 0, 0);
+        let (mut count, mut digits, mut value, mut fault, mut large) = (0, 0, 0_u64, 0, false);
         loop {
             if i == text.len() {
                 return Err((lines + 2, 13));
@@ -66,14 +66,15 @@ pub fn read(text: &[u8], sheet: &Sheet, table: &mut [u32]) -> Result<usize, (usi
                 b'0'..=b'9' if digits == MOST_DIGITS => fault = fault.max(2),
                 b'0'..=b'9' => {
                     digits += 1;
-                    value = value * 10 + u32::from(byte - b'0');
+                    value = value * 10 + u64::from(byte - b'0');
                 }
                 b' ' if digits == 0 => fault = if count == 0 { fault.max(1) } else { fault },
                 b' ' => {
                     if count + 1 == sheet.fields {
                         fault = fault.max(1);
                     } else {
-                        row[count] = value;
+                        large |= value > u64::from(u32::MAX);
+                        row[count] = value as u32;
                         count += 1;
                     }
                     (digits, value) = (0, 0);
@@ -88,8 +89,9 @@ pub fn read(text: &[u8], sheet: &Sheet, table: &mut [u32]) -> Result<usize, (usi
         if fault > 0 {
             return Err((lines + 2, [2, 12, 11][fault - 1]));
         }
-        row[count] = value;
-        if !(sheet.fits)(row) {
+        large |= value > u64::from(u32::MAX);
+        row[count] = value as u32;
+        if large || !(sheet.fits)(row) {
             return Err((lines + 2, 3));
         }
         lines += 1;
@@ -144,6 +146,8 @@ fn cases() -> Vec<Case> {
     let short = |number: usize| format!("0 {} {}\n", number % 8, number % 80);
     let steps = filled(&TRACE, steps_names, 16_000, short);
     let wide = filled(&TRACE, steps_names, LONGEST, |_| format!("{:05} {:05} {:05}\n", 0, rng.below(32), rng.below(65_536)));
+    let ten = |_| format!("{:010} {:010} {:010}\n", 0, rng.below(32), rng.below(1 << 32));
+    let longest = filled(&TRACE, steps_names, LONGEST, ten);
     let spaced = filled(&TRACE, steps_names, LONGEST, |_| format!("0{}1{}3\n", " ".repeat(20), " ".repeat(20)));
     let edge = |number: usize| format!("{} {} {} 1 0 {}\n", number % 8, number % 6, number % 32, number % 8);
     let edges = filled(&POLICIES, WHOLE, 3_500, edge);
@@ -152,6 +156,7 @@ fn cases() -> Vec<Case> {
     vec![
         Case { name: "read: a trace of 16000 bytes, short values", policies: none.clone(), trace: steps },
         Case { name: "read: a trace of 32768 bytes, wide values", policies: none.clone(), trace: wide },
+        Case { name: "read: a trace of 32768 bytes, ten digits", policies: none.clone(), trace: longest },
         Case { name: "read: a trace of 32768 bytes, many spaces", policies: none.clone(), trace: spaced },
         Case { name: "read: policies of 3500 bytes", policies: edges, trace: vec![] },
         Case { name: "read: local policies of 3499 bytes", policies: local, trace: vec![] },
