@@ -31,6 +31,7 @@ use Rattle.promises.proofs.JudgeNumbers.{judge-refuses}
 use Rattle.monitor_state.proofs.StoredLaws.{judged-by-stored}
 use Rattle.checker.proofs.RightLaws.{promise-exists}
 use Rattle.promises.proofs.CheckNumbers.{check-refuses, counterexamples-hold}
+use Rattle.promises.proofs.CodeNumbers.{told-by-codes}
 use Rattle.promises.proofs.RenumberedLaws.{renumbered}
 use Rattle.promises.proofs.ReadLaws.{read-enough}
 use Rattle.promises.proofs.SheetNumbers.{policies-refuses, trace-refuses, outline-refuses}
@@ -122,6 +123,7 @@ demands = record {
   second = demand-2;
   third = demand-3;
   counterexamples = counterexamples-hold;
+  told-by-codes = told-by-codes;
   renumbered = renumbered;
   by-stored-sets = judged-by-stored;
   retirings-apart = retirings-apart;

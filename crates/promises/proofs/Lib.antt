@@ -2,6 +2,7 @@
 pub mod JudgeNumbers
 pub mod SheetNumbers
 pub mod CheckNumbers
+pub mod CodeNumbers
 pub mod ExpressionPromise
 -- What later requests promise, and what the programs read.
 pub mod RenumberedLaws

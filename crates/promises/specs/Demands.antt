@@ -2,8 +2,8 @@
 -- contracts are equations with: the judge answers `judgeOf` (`monitor::judge` and `judge_lent`, `api_records`, `api_c`), the readers answer
 -- and store `policiesInto`, `traceInto` and `outlineInto` (`sheet_reader`) and `expressionInto` (`sheet_expression`), the check answers the
 -- one verdict that `Checked` holds of (`checker::check`), an explanation is one that `Explained` holds of (`check_with_counterexample`), the
--- sheet writer answers and writes `writtenInto` (`sheet_writer`), and the programs print `tracePrinted`, `outlinePrinted` and
--- `counterexamplePrinted` (`report`). proofs/ has the proof of each. That no function reads outside its memory or runs on without end is
+-- sheet writer answers and writes `writtenInto` (`sheet_writer`), the programs print `tracePrinted`, `outlinePrinted` and
+-- `counterexamplePrinted` (`report`), and callers in C and Rust are told `codeOf` a verdict (`api_c`). proofs/ has the proof of each. That no function reads outside its memory or runs on without end is
 -- what the language asks of each before it is built.
 use Prim.Native.Nat.{ℕ, suc, _<_, _≤_}
 use mathlib.Core.Path.{_≡_}
@@ -50,6 +50,7 @@ use Rattle.report.specs.Output.{sheetRoom}
 use Rattle.report.specs.Trace.{tracePrinted}
 use Rattle.report.specs.Outline.{RightTexts, outlinePrinted}
 use Rattle.report.specs.Counterexample.{RightExplanation, counterexamplePrinted}
+use Rattle.api_c.specs.Codes.{codeOf, explanationCode}
 
 -- ── Demand 1 ──
 
@@ -190,6 +191,16 @@ pub record Counterexamples : Type 0 where
   pub nothing : (local : Bool) (e n t : List ℕ) (x : Explanation) (t′ : List ℕ) → Explained local e n t x t′ → stepsWritten x ≡ 0
       → t′ ≡ t
 
+-- ── The numbers for callers in C and Rust ──
+
+-- One number tells the answer, and where a trace is asked for how many steps of it were written: no two of what can be answered have the
+-- same one.
+pub record ToldByCodes : Type 0 where
+  pub judge : (v w : Verdict) → Listed judgeNumbers v → Listed judgeNumbers w → codeOf v ≡ codeOf w → v ≡ w
+  pub check : (v w : Verdict) → Listed checkNumbers v → Listed checkNumbers w → codeOf v ≡ codeOf w → v ≡ w
+  pub counterexample : (x y : Explanation) → Listed explanationNumbers (explanationVerdict x) → Listed explanationNumbers (explanationVerdict y)
+      → explanationCode x ≡ explanationCode y → (stepsWritten x ≡ stepsWritten y) × (explanationVerdict x ≡ explanationVerdict y)
+
 -- ── Renumbered channels (02, L3, and L8) ──
 
 -- "Let the dynamic numbers of a trace be renamed one to one among 16 to" 4,294,967,295 (02, L9); "then every step must get the same answer
@@ -293,6 +304,7 @@ pub record Demands : Type 0 where
   pub second : Demand2
   pub third : Demand3
   pub counterexamples : Counterexamples
+  pub told-by-codes : ToldByCodes
   pub renumbered : Renumbered
   -- 02, L4: "At an opening or closing, a state not reached from the start is judged by its stored sets"
   pub by-stored-sets : JudgedByStored
