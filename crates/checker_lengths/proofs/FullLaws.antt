@@ -29,7 +29,7 @@ use Rattle.checker_account.proofs.NodeLaws.{forms-of, names-ok, targets-ok}
 use Rattle.checker_account.proofs.ScopedLaws.{scoped}
 use Rattle.checker_account.proofs.Starts.{stays-made}
 use Rattle.checker_account.proofs.LeastLaws.{rule-sound, closed-least}
-use Rattle.checker_lengths.proofs.NodeLaws.{node-in}
+use Rattle.outline_nodes.proofs.SaidLaws.{form-at}
 use Rattle.checker_lengths.specs.declared.Entry.{Entry}
 use Rattle.checker_lengths.specs.Entries.{size, noLength, allLengths, entryOf, linear, inTable, held}
 use Rattle.checker_lengths.specs.Offers.{lowEnd, offerFrom, waysOf}
@@ -60,10 +60,10 @@ module _ (local : Bool) (es : List Edge) (nodes : List ℕ) (p x : ℕ) (rows : 
 
   -- the form of a node, as the code reads it
   pub form-here : (k : ℕ) (f : Form) → Is (nodesOf nodes) k f → (k < length nodes / 3) × (formHere nodes k ≡ some f)
-  form-here k f i = let (l, e) = forms-of nodes .has k f i in (l, ap formOf (node-in nodes k l) ∙ e)
+  form-here k f i = let (l, e) = forms-of nodes .has k f i in (l, form-at nodes k l ∙ e)
 
   pub here-form : (k : ℕ) (f : Form) → k < length nodes / 3 → formHere nodes k ≡ some f → Is (nodesOf nodes) k f
-  here-form k f l e = forms-of nodes .is k f l (sym (ap formOf (node-in nodes k l)) ∙ e)
+  here-form k f l e = forms-of nodes .is k f l (sym (form-at nodes k l) ∙ e)
 
   -- ── Filling keeps it that each entry is a length ──
 

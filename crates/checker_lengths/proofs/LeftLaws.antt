@@ -27,7 +27,7 @@ use Rattle.checker_lengths.specs.Offers.{atNode, firstEntry, secondEntry
 use Rattle.checker_lengths.specs.Offers.{innerEntry, sequenceOf, freshOf, sandboxOf, offerOf}
 use Rattle.checker_lengths.specs.Filling.{formHere, Reach, start, NodeSettled, Full}
 use Rattle.checker_lengths.specs.Code.{Fell, Apart, Pass}
-use Rattle.checker_lengths.proofs.NodeLaws.{node-in}
+use Rattle.outline_nodes.proofs.SaidLaws.{form-at}
 use Rattle.checker_lengths.proofs.MemberLaws.{member-le, member-lt, member-taken}
 use Rattle.checker_lengths.proofs.EntryLaws.{held-in, held-out}
 use Rattle.checker_lengths.proofs.PassLaws.{same-held, node-lasts}
@@ -129,7 +129,7 @@ module _ (w : Watch) (rows nodes come : List ℕ) (l : ℕ) (few : length nodes 
 
       away : (j : ℕ) → j < n → has readers j ≡ false → Reads (formHere nodes j) k → ⊥
       away j b z d = let b₁ = there in not-both (has readers j)
-          (reader-in (formsIn nodes) n j k b (omega arith) (subst (λ (f : Option Form). Reads f k) (ap formOf (node-in nodes j b)) d)) z
+          (reader-in (formsIn nodes) n j k b (omega arith) (subst (λ (f : Option Form). Reads f k) (form-at nodes j b) d)) z
 
       pub more-working : Working w rows nodes come l n u (bitOr (s - 2 ^ k) readers)
       more-working = record {

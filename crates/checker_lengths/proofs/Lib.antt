@@ -1,5 +1,4 @@
 -- What the code on single entries and rules computes is what the definitions say.
-pub mod NodeLaws
 pub mod EntryLaws
 pub mod OfferLaws
 pub mod PassLaws

@@ -7,18 +7,18 @@ use mathlib.Core.Option.{Option}
 use mathlib.Core.List.{List}
 use lib.ListN.{length, getD, set, replicate}
 use Rattle.usage.specs.Limits.{states, mostShown, nodeFields}
-use Rattle.usage.specs.Outline.{Form, formOf}
+use Rattle.usage.specs.Outline.{Form, formAt}
+use Rattle.usage.specs.Tables.{nodesOf}
 use Rattle.checker_account.specs.Tables.{meanings, least}
 use Rattle.checker_account.specs.Holds.{HasCome}
 use Rattle.automaton.specs.Mask.{has}
-use Rattle.checker_lengths.specs.Nodes.{nodeIn}
 use Rattle.checker_lengths.specs.declared.Entry.{Entry}
 use Rattle.checker_lengths.specs.declared.Watch.{Watch}
 use Rattle.checker_lengths.specs.Entries.{aims, size, noLength, allLengths, entryOf, linear, inTable, held}
 use Rattle.checker_lengths.specs.Offers.{lowEnd, toward, offerFrom, waysOf}
 
 abbrev pub formHere : List ℕ → ℕ → Option Form
-formHere nodes k = formOf (nodeIn nodes k)
+formHere nodes k = formAt (nodesOf nodes) k
 
 -- the tables that filling comes to: each entry falls to what a rule of its node gives
 pub data Reach (w : Watch) (rows nodes : List ℕ) : List ℕ → Type 0 where

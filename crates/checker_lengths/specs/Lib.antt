@@ -1,6 +1,5 @@
 -- Entries: the layout of a table of lengths. Offers: what the rules give. Filling: how the table is filled. Held: what it then holds.
 -- Code: what the crate's own functions do.
-pub mod Nodes
 pub mod Entries
 pub mod Offers
 pub mod Filling

@@ -8,7 +8,7 @@ ghost use lib.ListN.{length};
 ghost use Rattle.checker_account.specs.Tables.{meanings};
 ghost use Rattle.checker_tables.specs.Search.{NodesFit};
 ghost use Rattle.usage.specs.Limits.{mostNodes};
-ghost use Rattle.usage.specs.Outline.{formOf};
+ghost use Rattle.outline_nodes.specs.Said.{saidBy};
 ghost use Rattle.automaton.specs.Mask.{has};
 ghost use Rattle.checker_lengths.specs.Entries.{atBreak, size, inTable};
 ghost use Rattle.checker_lengths.specs.Offers.{toward};
@@ -27,9 +27,9 @@ use crate::entries;
 use crate::offers;
 use checker_account::MEANINGS;
 use checker_account::Table;
+use outline_nodes::NodeForm;
 use usage::MOST_NODES;
 use usage::NODE_FIELDS;
-use usage::Node;
 use usage::STATES;
 
 // The entry set to v, if that is less. Is it? v is what some rule of its node gives.
@@ -48,11 +48,11 @@ fn put(t: &mut Lengths, e: Entry, v: u8) -> bool
 }
 
 // The entry set to what rule c of its node gives, f being that node, if it is less. Is it?
-fn settle(t: &mut Lengths, rows: &Table, w: Watch, f: Node, e: Entry, c: usize) -> bool
+fn settle(t: &mut Lengths, rows: &Table, w: Watch, f: NodeForm, e: Entry, c: usize) -> bool
     requires { ⌜ length (now t) ≡ size ⌝ }
     requires { ⌜ inTable e ≡ true ⌝ }
-    ensures { λ r. ⌜ Pass w (now (rows .entry)) (e .node) (formOf f)
-        (λ u. Settled w (now (rows .entry)) (formOf f) u e c) (now (t .entry)) (now (t .exit)) r ⌝ }
+    ensures { λ r. ⌜ Pass w (now (rows .entry)) (e .node) (saidBy f)
+        (λ u. Settled w (now (rows .entry)) (saidBy f) u e c) (now (t .entry)) (now (t .exit)) r ⌝ }
 {
     let v = offers::offer(t, rows, w, ALL, f, e, c);
     put(t, e, v)
@@ -86,11 +86,11 @@ fn settle_sequence(t: &mut Lengths, s: Entry, a: u8, b: u8, c: usize) -> bool
 
 // Every aim of one start by rule c. Ends before the first that is tried leave it open whether the watched resource can be created,
 // which the node's start has settled. Did that change the table?
-fn settle_aims(t: &mut Lengths, rows: &Table, w: Watch, f: Node, s: Entry, c: usize) -> bool
+fn settle_aims(t: &mut Lengths, rows: &Table, w: Watch, f: NodeForm, s: Entry, c: usize) -> bool
     requires { ⌜ length (now t) ≡ size ⌝ }
     requires { ⌜ inTable (toward s 0) ≡ true ⌝ }
-    ensures { λ r. ⌜ Pass w (now (rows .entry)) (s .node) (formOf f)
-        (λ u. RuleSettled w (now (rows .entry)) (formOf f) u s c) (now (t .entry)) (now (t .exit)) r ⌝ }
+    ensures { λ r. ⌜ Pass w (now (rows .entry)) (s .node) (saidBy f)
+        (λ u. RuleSettled w (now (rows .entry)) (saidBy f) u s c) (now (t .entry)) (now (t .exit)) r ⌝ }
 {
     if !offers::gives(t, rows, f, s, c) {
         return false;
@@ -107,16 +107,16 @@ fn settle_aims(t: &mut Lengths, rows: &Table, w: Watch, f: Node, s: Entry, c: us
 }
 
 // The same, a sequence's in the shorter way.
-fn settle_rule(t: &mut Lengths, rows: &Table, w: Watch, f: Node, s: Entry, c: usize) -> bool
+fn settle_rule(t: &mut Lengths, rows: &Table, w: Watch, f: NodeForm, s: Entry, c: usize) -> bool
     requires { ⌜ length (now t) ≡ size ⌝ }
     requires { ⌜ inTable (toward s 0) ≡ true ⌝ }
-    ensures { λ r. ⌜ Pass w (now (rows .entry)) (s .node) (formOf f)
-        (λ u. RuleSettled w (now (rows .entry)) (formOf f) u s c) (now (t .entry)) (now (t .exit)) r ⌝ }
+    ensures { λ r. ⌜ Pass w (now (rows .entry)) (s .node) (saidBy f)
+        (λ u. RuleSettled w (now (rows .entry)) (saidBy f) u s c) (now (t .entry)) (now (t .exit)) r ⌝ }
 {
-    if f.kind == 3 {
-        if c < BROKEN {
-            if f.a as usize != s.node {
-                return settle_sequence(t, s, f.a, f.b, c);
+    if c < BROKEN {
+        if let NodeForm::Sequence { first, second } = f {
+            if first as usize != s.node {
+                return settle_sequence(t, s, first, second, c);
             }
         }
     }
@@ -124,11 +124,11 @@ fn settle_rule(t: &mut Lengths, rows: &Table, w: Watch, f: Node, s: Entry, c: us
 }
 
 // Every rule of one start. Did that change the table?
-fn settle_start(t: &mut Lengths, rows: &Table, w: Watch, f: Node, s: Entry) -> bool
+fn settle_start(t: &mut Lengths, rows: &Table, w: Watch, f: NodeForm, s: Entry) -> bool
     requires { ⌜ length (now t) ≡ size ⌝ }
     requires { ⌜ inTable (toward s 0) ≡ true ⌝ }
-    ensures { λ r. ⌜ Pass w (now (rows .entry)) (s .node) (formOf f)
-        (λ u. StartSettled w (now (rows .entry)) (formOf f) u s) (now (t .entry)) (now (t .exit)) r ⌝ }
+    ensures { λ r. ⌜ Pass w (now (rows .entry)) (s .node) (saidBy f)
+        (λ u. StartSettled w (now (rows .entry)) (saidBy f) u s) (now (t .entry)) (now (t .exit)) r ⌝ }
 {
     let n = offers::ways(f);
     let mut changed = false;
@@ -143,11 +143,11 @@ fn settle_start(t: &mut Lengths, rows: &Table, w: Watch, f: Node, s: Entry) -> b
 }
 
 // The same if it is to be settled.
-fn settle_if(t: &mut Lengths, rows: &Table, w: Watch, f: Node, s: Entry, there: bool) -> bool
+fn settle_if(t: &mut Lengths, rows: &Table, w: Watch, f: NodeForm, s: Entry, there: bool) -> bool
     requires { ⌜ length (now t) ≡ size ⌝ }
     requires { ⌜ inTable (toward s 0) ≡ true ⌝ }
-    ensures { λ r. ⌜ Pass w (now (rows .entry)) (s .node) (formOf f)
-        (λ u. there ≡ true → StartSettled w (now (rows .entry)) (formOf f) u s) (now (t .entry)) (now (t .exit)) r ⌝ }
+    ensures { λ r. ⌜ Pass w (now (rows .entry)) (s .node) (saidBy f)
+        (λ u. there ≡ true → StartSettled w (now (rows .entry)) (saidBy f) u s) (now (t .entry)) (now (t .exit)) r ⌝ }
 {
     if there {
         settle_start(t, rows, w, f, s)
@@ -161,7 +161,7 @@ fn settle_states(
     t: &mut Lengths,
     rows: &Table,
     w: Watch,
-    f: Node,
+    f: NodeForm,
     k: usize,
     opened: bool,
     meaning: usize,
@@ -170,8 +170,8 @@ fn settle_states(
     requires { ⌜ length (now t) ≡ size ⌝ }
     requires { ⌜ k < mostNodes ⌝ }
     requires { ⌜ meaning < meanings ⌝ }
-    ensures { λ r. ⌜ Pass w (now (rows .entry)) k (formOf f)
-        (λ u. StatesSettled w (now (rows .entry)) (formOf f) u k opened meaning v) (now (t .entry)) (now (t .exit)) r ⌝ }
+    ensures { λ r. ⌜ Pass w (now (rows .entry)) k (saidBy f)
+        (λ u. StatesSettled w (now (rows .entry)) (saidBy f) u k opened meaning v) (now (t .entry)) (now (t .exit)) r ⌝ }
 {
     let mut changed = false;
     let mut q: usize = 0;
@@ -197,15 +197,15 @@ fn settle_node(
     rows: &Table,
     u: &Table,
     w: Watch,
-    f: Node,
+    f: NodeForm,
     l: usize,
     k: usize,
 ) -> bool
     requires { ⌜ length (now t) ≡ size ⌝ }
     requires { ⌜ l < meanings ⌝ }
     requires { ⌜ k < mostNodes ⌝ }
-    ensures { λ r. ⌜ Pass w (now (rows .entry)) k (formOf f)
-        (λ x. NodeSettled w (now (rows .entry)) (formOf f) (now (u .entry)) x l k) (now (t .entry)) (now (t .exit)) r ⌝ }
+    ensures { λ r. ⌜ Pass w (now (rows .entry)) k (saidBy f)
+        (λ x. NodeSettled w (now (rows .entry)) (saidBy f) (now (u .entry)) x l k) (now (t .entry)) (now (t .exit)) r ⌝ }
 {
     let n = 2 * (MEANINGS - l);
     let mut changed = false;
@@ -254,7 +254,7 @@ pub fn fill(nodes: &[u8], rows: &Table, u: &Table, w: Watch, t: &mut Lengths)
     while left != 0 {
         k = next(left, k);
         left -= 1u64 << (k as u32);
-        let f = crate::nodes::node(nodes, k);
+        let f = outline_nodes::form(nodes, k);
         if settle_node(t, rows, u, w, f, l, k) {
             left |= readers[k];
         }

@@ -3,7 +3,6 @@
 // stand. fill: the table, in rounds.
 pub mod entries;
 pub mod fill;
-pub mod nodes;
 pub mod offers;
 
 use checker_account::PLACES;

@@ -3,7 +3,7 @@
 ghost use mathlib.Core.Path.{_≡_};
 ghost use mathlib.Core.Bool.{Bool, false, _||_};
 ghost use Prim.Native.Nat.{ℕ, _<_};
-ghost use Rattle.usage.specs.Outline.{formOf};
+ghost use Rattle.outline_nodes.specs.Said.{saidBy};
 ghost use Rattle.usage.specs.Past.{reopened};
 ghost use Rattle.automaton.specs.Mask.{has};
 ghost use Rattle.checker_lengths.specs.declared.Watch.{Watch};
@@ -26,8 +26,8 @@ use crate::entries;
 use checker_account::STARTS;
 use checker_account::Table;
 use checker_account::UNNAMED;
+use outline_nodes::NodeForm;
 use usage::MOST_NODES;
-use usage::Node;
 use usage::STATES;
 
 // The same start and aim at node k.
@@ -284,57 +284,73 @@ fn sandbox(t: &Lengths, w: Watch, most: u8, e: Entry, s: u8, b: u8, c: usize) ->
 }
 
 // What rule c of the entry's node gives, f being that node, by the lengths below `most`.
-pub fn offer(t: &Lengths, rows: &Table, w: Watch, most: u8, f: Node, e: Entry, c: usize) -> u8
-    ensures { λ r. ⌜ r ≡ offerFrom w (now (rows .entry)) (held (now (t .entry)) most) e c (formOf f) ⌝ }
+pub fn offer(t: &Lengths, rows: &Table, w: Watch, most: u8, f: NodeForm, e: Entry, c: usize) -> u8
+    ensures { λ r. ⌜ r ≡ offerFrom w (now (rows .entry)) (held (now (t .entry)) most) e c (saidBy f) ⌝ }
 {
-    let kind = f.kind;
-    match kind {
-        0 => still(e),
-        1 => event(moved(rows, e, f.b as usize == w.resource), e, c),
-        2 => event(moved(rows, e, e.meaning == f.b as usize + 1), e, c),
-        3 => sequence(t, most, e, f.a, f.b, c),
-        4 => entries::get(t, most, at(e, if c == 0 { f.a } else { f.b })),
-        5 => entries::get(t, most, at(e, f.a)),
-        6 => entries::get(t, most, at(e, f.a)),
-        7 => fresh(t, rows, most, e, f.a, f.b, c),
-        8 => sandbox(t, w, most, e, f.a, f.b, c),
-        _ => NONE,
+    match f {
+        NodeForm::End => still(e),
+        NodeForm::OnStatic {
+            action: _,
+            resource,
+        } => event(moved(rows, e, resource as usize == w.resource), e, c),
+        NodeForm::OnName { action: _, name } => event(
+            moved(rows, e, e.meaning == name as usize + 1),
+            e,
+            c,
+        ),
+        NodeForm::Sequence { first, second } => sequence(t, most, e, first, second, c),
+        NodeForm::Choice { one, other } => entries::get(
+            t,
+            most,
+            at(e, if c == 0 { one } else { other }),
+        ),
+        NodeForm::Loop { body } => entries::get(t, most, at(e, body)),
+        NodeForm::Back { to } => entries::get(t, most, at(e, to)),
+        NodeForm::Fresh { name, body } => fresh(t, rows, most, e, name, body, c),
+        NodeForm::Sandbox { policy, body } => sandbox(t, w, most, e, policy, body, c),
+        NodeForm::Nothing => NONE,
     }
 }
 
 // Can rule c of node f give anything from this start, whatever the aim? It cannot where the first node of a sequence has no such end,
 // or where a creation leads to no such state.
-pub(crate) fn gives(t: &Lengths, rows: &Table, f: Node, s: Entry, c: usize) -> bool
+pub(crate) fn gives(t: &Lengths, rows: &Table, f: NodeForm, s: Entry, c: usize) -> bool
     ensures { λ r. ⌜ (r ≡ false → (w : Watch) (i : ℕ)
-        → offerFrom w (now (rows .entry)) (held (now (t .entry)) allLengths) (toward s i) c (formOf f) ≡ noLength) ⌝ }
+        → offerFrom w (now (rows .entry)) (held (now (t .entry)) allLengths) (toward s i) c (saidBy f) ≡ noLength) ⌝ }
 {
     if BROKEN <= c {
         return true;
     }
-    if f.kind == 3 {
-        return entries::get(t, ALL, first(s, f.a, c)) <= MOST;
+    match f {
+        NodeForm::Sequence {
+            first: a,
+            second: _,
+        } => entries::get(t, ALL, first(s, a, c)) <= MOST,
+        NodeForm::Fresh { name: _, body: _ } => has(born(rows, s, STATES <= c), c % STATES),
+        _ => true,
     }
-    if f.kind == 7 {
-        return has(born(rows, s, STATES <= c), c % STATES);
-    }
-    true
 }
 
 // How many rules a node of this kind has.
-pub fn ways(f: Node) -> usize
-    ensures { λ r. ⌜ r ≡ waysOf (formOf f) ⌝ }
+pub fn ways(f: NodeForm) -> usize
+    ensures { λ r. ⌜ r ≡ waysOf (saidBy f) ⌝ }
 {
-    let kind = f.kind;
-    match kind {
-        0 => 1,
-        1 => 2,
-        2 => 2,
-        3 => AIMS,
-        4 => 2,
-        5 => 1,
-        6 => 1,
-        7 => FRESH_RULES,
-        8 => 2,
-        _ => 0,
+    match f {
+        NodeForm::End => 1,
+        NodeForm::OnStatic {
+            action: _,
+            resource: _,
+        } => 2,
+        NodeForm::OnName { action: _, name: _ } => 2,
+        NodeForm::Sequence {
+            first: _,
+            second: _,
+        } => AIMS,
+        NodeForm::Choice { one: _, other: _ } => 2,
+        NodeForm::Loop { body: _ } => 1,
+        NodeForm::Back { to: _ } => 1,
+        NodeForm::Fresh { name: _, body: _ } => FRESH_RULES,
+        NodeForm::Sandbox { policy: _, body: _ } => 2,
+        NodeForm::Nothing => 0,
     }
 }

@@ -6,6 +6,8 @@ pub mod MeaningLaws
 pub mod WholeLaws
 -- Eight sets at once.
 pub mod ByStateLaws
+-- What is left of a match.
+pub mod OtherLaws
 -- The nodes that are left, and those that read a node.
 pub mod WorkLaws
 -- Resources that need not be watched.

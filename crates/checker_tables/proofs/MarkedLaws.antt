@@ -16,7 +16,6 @@ use Rattle.usage.proofs.Logic.{false-true, or-left}
 use Rattle.automaton.specs.Mask.{union}
 use Rattle.checker_account.specs.Tables.{least, rowsIn}
 use Rattle.checker_account.specs.Filling.{formsIn, hitNode, hitAny}
-use Rattle.checker_account.proofs.CodeLaws.{by-kind}
 use Rattle.checker_tables.specs.Search.{ArrivesIf}
 use Rattle.checker_tables.specs.Marks.{lastIn, markBit, hitMarks, marksIn, MarkedIf}
 
@@ -24,14 +23,6 @@ use Rattle.checker_tables.specs.Marks.{lastIn, markBit, hitMarks, marksI
 
 pub shifted : (k : ℕ) → k < mostNodes → 1 * 2 ^ k % 2 ^ 64 ≡ 2 ^ k
 shifted k l = shl-exact {a = 1} 1 k 64 (lit< tt) (omega arith) ∙ one-mul (2 ^ k)
-
--- a node of a kind other than 1, 2, 7 and 8 has no mark
-pub no-mark : (n a b : ℕ) → (n ≡ 1 → ⊥) → (n ≡ 2 → ⊥) → (n ≡ 7 → ⊥) → (n ≡ 8 → ⊥)
-    → markBit (lastIn (formOf (record { kind = n; a = a; b = b }))) ≡ 0
-unfolding formOf
-no-mark n a b d₁ d₂ d₇ d₈ =
-    by-kind (λ j. n ≡ j → markBit (lastIn (formOf (record { kind = j; a = a; b = b }))) ≡ 0) (λ e. refl) (λ e. absurd (d₁ e))
-    (λ e. absurd (d₂ e)) (λ e. refl) (λ e. refl) (λ e. refl) (λ e. refl) (λ e. absurd (d₇ e)) (λ e. absurd (d₈ e)) (λ k e. refl) n refl
 
 -- ── The search, gone through to its end ──
 

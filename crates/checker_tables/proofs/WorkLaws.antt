@@ -38,14 +38,13 @@ use Rattle.checker_account.specs.Filling.{
   ends-of,
   settleNode,
 }
-use Rattle.checker_account.proofs.CodeLaws.{by-kind}
 use Rattle.checker_account.proofs.MaskLaws.{has-right}
 use Rattle.checker_account.proofs.JoinLaws.{joined-keeps, joined-below, zeros, zeros-wide}
 use Rattle.checker_account.proofs.GrowsLaws.{Grows, joined-grows, grown-false, repeat-keeps, Filling, filling-length, most, nearer}
 use Rattle.checker_account.proofs.SettleLaws.{node-grows, node-derived, WideLent, node-wide}
 use Rattle.checker_account.proofs.SettledLaws.{in-still, Named, Beside, NodeClosed, node-beside, node-done, node-unchanged, node-kept}
 use Rattle.checker_account.proofs.SettledLaws.{PartOf, first, second, left, right, body, again, given, inside, Reads}
-use Rattle.checker_tables.specs.Search.{NodesFit}
+use Rattle.checker_tables.specs.Search.{Small, NodesFit}
 use Rattle.checker_tables.specs.Work.{noted, readersOf}
 
 -- ── Sets of nodes ──
@@ -123,15 +122,6 @@ neither s v j h = go (has s j) (has v j) (sym (has-or s v j) ∙ h)
     go false false e = (refl, refl)
 
 -- ── The nodes that read a node ──
-
--- a node of a kind other than 3 to 8 reads none
-pub no-noted : (k : ℕ) (u : List ℕ) (n a b : ℕ) → (n ≡ 3 → ⊥) → (n ≡ 4 → ⊥) → (n ≡ 5 → ⊥) → (n ≡ 6 → ⊥) → (n ≡ 7 → ⊥) → (n ≡ 8 → ⊥)
-    → noted k (formOf (record { kind = n; a = a; b = b })) u ≡ u
-unfolding formOf noted
-no-noted k u n a b d₃ d₄ d₅ d₆ d₇ d₈ =
-    by-kind (λ j. n ≡ j → noted k (formOf (record { kind = j; a = a; b = b })) u ≡ u) (λ e. refl) (λ e. refl) (λ e. refl)
-    (λ e. absurd (d₃ e)) (λ e. absurd (d₄ e)) (λ e. absurd (d₅ e)) (λ e. absurd (d₆ e)) (λ e. absurd (d₇ e)) (λ e. absurd (d₈ e))
-    (λ k e. refl) n refl
 
 joined-new : (t : List ℕ) (i v d : ℕ) → i < length t → has v d ≡ true → has (getD (joinedAt t i v) i 0) d ≡ true
 unfolding joinedAt
@@ -237,14 +227,20 @@ module _ (forms : Forms) where
 
 -- ── The loop ──
 
-named-node : (n a b : ℕ) → (n ≡ 7 → a < noName) → Named (formOf (record { kind = n; a = a; b = b }))
-unfolding formOf
-named-node n a b h =
-    by-kind (λ j. n ≡ j → Named (formOf (record { kind = j; a = a; b = b }))) (λ e. tt) (λ e. tt) (λ e. tt) (λ e. tt) (λ e. tt) (λ e. tt)
-    (λ e. tt) h (λ e. tt) (λ k e. tt) n refl
+small-named : (f : Option Form) → Small f → Named f
+small-named none h = tt
+small-named (some end) h = tt
+small-named (some (on-static a s)) h = tt
+small-named (some (on-name a n)) h = tt
+small-named (some (sequence a b)) h = tt
+small-named (some (choice a b)) h = tt
+small-named (some (loop a)) h = tt
+small-named (some (back a)) h = tt
+small-named (some (fresh n b)) h = h .0
+small-named (some (sandbox s b)) h = tt
 
 pub named-forms : (t : List ℕ) → NodesFit t → (k : ℕ) → k < length t / nodeFields → Named (formsIn t k)
-named-forms t h k l = named-node (nodeAt t k .kind) (nodeAt t k .a) (nodeAt t k .b) (h .small k l .a-name)
+named-forms t h k l = small-named (formsIn t k) (h .each-small k l)
 
 -- the table so far, and the nodes that are left: no rule adds anything to the entries of the others
 pub record Working (rows : Rows) (x : ℕ) (resets : Resets) (l n : ℕ) (forms : Forms) (t : List ℕ) (s : ℕ) : Type 0 where

@@ -3,12 +3,12 @@
 use Prim.Native.Nat.{ℕ, _+_, _*_, _/_, _<_, _≤_}
 use mathlib.Core.Path.{_≡_}
 use mathlib.Core.Bool.{Bool, true, false, not, _&&_, _||_, cond}
+use mathlib.Core.Option.{Option, none, some}
 use mathlib.Core.List.{List}
 use lib.Dec.{eqb, ltb, leb}
-use lib.ListN.{length, getD, replicate}
-use Rattle.usage.specs.declared.Node.{Node}
-use Rattle.usage.specs.Limits.{policies, mostNodes, nodeFields}
-use Rattle.usage.specs.Tables.{nodeAt}
+use lib.ListN.{length, replicate}
+use Rattle.usage.specs.Limits.{actions, policies, mostNodes, nodeFields}
+use Rattle.usage.specs.Outline.{Form, end, on-static, on-name, sequence, choice, loop, back, fresh, sandbox}
 use Rattle.usage.specs.Tests.{someBelow}
 use Rattle.checker_account.specs.Account.{watched}
 use Rattle.checker_account.specs.Single.{noName}
@@ -22,30 +22,57 @@ lost m n = cond (eqb m n) unnamed m
 
 -- ── Resources that need not be watched: a static one that no event is on ──
 
--- x is the dynamic resource, or some node of the flat table is an event on it (kind 1)
+-- a node is an event on the static resource x
+abbrev pub isOn : ℕ → Option Form → Bool
+isOn x none = false
+isOn x (some end) = false
+isOn x (some (on-static a s)) = eqb s x
+isOn x (some (on-name a n)) = false
+isOn x (some (sequence a b)) = false
+isOn x (some (choice a b)) = false
+isOn x (some (loop a)) = false
+isOn x (some (back a)) = false
+isOn x (some (fresh n b)) = false
+isOn x (some (sandbox s b)) = false
+
+-- x is the dynamic resource, or some node of the flat table is an event on it
 unfoldable pub touched : List ℕ → ℕ → Bool
-touched t x =
-    leb watched x
-    || someBelow (λ k. eqb (getD t (nodeFields * k) 0) 1 && eqb (getD t (nodeFields * k + 2) 0) x) (length t / nodeFields)
+touched t x = leb watched x || someBelow (λ k. isOn x (formsIn t k)) (length t / nodeFields)
 
 -- ── What the tables have room for ──
 
--- the fields of a node, small enough for the tables: as a rule, and as a test that computes
-pub record Small (n : Node) : Type 0 where
-  pub a-node : n .a < mostNodes
-  pub b-node : n .b < mostNodes
-  pub a-name : n .kind ≡ 7 → n .a < noName
+-- the numbers of a node, small enough for the tables: as a rule, and as a test that computes
+abbrev pub Small : Option Form → Type 0
+Small none = Unit {0}
+Small (some end) = Unit {0}
+Small (some (on-static a s)) = a < actions
+Small (some (on-name a n)) = a < actions
+Small (some (sequence a b)) = (a < mostNodes) × (b < mostNodes)
+Small (some (choice a b)) = (a < mostNodes) × (b < mostNodes)
+Small (some (loop a)) = a < mostNodes
+Small (some (back a)) = a < mostNodes
+Small (some (fresh n b)) = (n < noName) × (b < mostNodes)
+Small (some (sandbox s b)) = b < mostNodes
 
-unfoldable pub smallNode : Node → Bool
-smallNode n = ltb (n .a) mostNodes && (ltb (n .b) mostNodes && cond (eqb (n .kind) 7) (ltb (n .a) noName) true)
+unfoldable pub small : Option Form → Bool
+small none = true
+small (some end) = true
+small (some (on-static a s)) = ltb a actions
+small (some (on-name a n)) = ltb a actions
+small (some (sequence a b)) = ltb a mostNodes && ltb b mostNodes
+small (some (choice a b)) = ltb a mostNodes && ltb b mostNodes
+small (some (loop a)) = ltb a mostNodes
+small (some (back a)) = ltb a mostNodes
+small (some (fresh n b)) = ltb n noName && ltb b mostNodes
+small (some (sandbox s b)) = ltb b mostNodes
 
 -- the same of a flat table of nodes: "An outline is a tree of 1 to 64 nodes"
 pub record NodesFit (t : List ℕ) : Type 0 where
   pub few : length t / nodeFields ≤ mostNodes
-  pub small : (k : ℕ) → k < length t / nodeFields → Small (nodeAt t k)
+  pub each-small : (k : ℕ) → k < length t / nodeFields → Small (formsIn t k)
 
 unfoldable pub hasRoom : List ℕ → Bool
-hasRoom t = leb (length t / nodeFields) mostNodes && not (someBelow (λ k. not (smallNode (nodeAt t k))) (length t / nodeFields))
+hasRoom t = leb (length t / nodeFields) mostNodes && not (someBelow (λ k. not (small (formsIn t k))) (length t / nodeFields))
 
 -- ── Over the flat tables that the code has: `rows` of a policy's moves, and `nodes` ──
 

@@ -6,7 +6,7 @@ ghost use mathlib.Core.List.{List, [], _∷_};
 ghost use Prim.Native.Nat.{ℕ, _<_};
 ghost use lib.ListN.{length, getD, replicate};
 ghost use Rattle.usage.specs.Limits.{mostNodes};
-ghost use Rattle.usage.specs.Outline.{formOf};
+ghost use Rattle.outline_nodes.specs.Said.{saidBy};
 ghost use Rattle.checker_account.specs.Single.{noName};
 ghost use Rattle.checker_account.specs.Tables.{meanings, places, begun, rowsIn, joinedAt, restarted, place, _by_by_with_};
 ghost use Rattle.checker_account.specs.Tables.{halves, freshArrivals};
@@ -15,8 +15,8 @@ ghost use Rattle.checker_tables.specs.Search.{Small, NodesFit, comesRoun
 use checker_account::MEANINGS;
 use checker_account::STARTS;
 use checker_account::Table;
+use outline_nodes::NodeForm;
 use usage::NODE_FIELDS;
-use usage::Node;
 use usage::STATES;
 
 // The place of a node in the table of what is come to.
@@ -151,30 +151,33 @@ fn pass_by(
     local: bool,
     p: usize,
     k: usize,
-    f: Node,
+    f: NodeForm,
     o: bool,
     m: usize,
     v: u16,
 ) -> bool
     requires { ⌜ length (now u) ≡ places ⌝ }
-    requires { ⌜ Small f ⌝ }
+    requires { ⌜ Small (saidBy f) ⌝ }
     requires { ⌜ k < mostNodes ⌝ }
     requires { ⌜ m < meanings ⌝ }
     ensures { λ r. ⌜ now (u .exit)
-        ≡ entered (arrivalsOf local (rowsIn (now (rows .entry))) p (now (t .entry)) k o m v (formOf f)) (now (u .entry)) ⌝ }
+        ≡ entered (arrivalsOf local (rowsIn (now (rows .entry))) p (now (t .entry)) k o m v (saidBy f)) (now (u .entry)) ⌝ }
     ensures { λ r. ⌜ r ≡ grown (now (u .entry)) (now (u .exit)) ⌝ }
     ensures { λ r. ⌜ (Wide (now (u .entry)) → Wide (now (u .exit))) ⌝ }
 {
-    let a = f.a as usize;
-    let b = f.b as usize;
-    let kind = f.kind;
-    match kind {
-        3 => pass_sequence(u, t, a, b, o, m, v),
-        4 => enter_two(u, a, b, o, m, v),
-        5 => enter(u, a, o, m, v),
-        6 => enter(u, a, o, m, v),
-        7 => pass_fresh(u, rows, k, a, b, o, m, v),
-        8 => pass_sandbox(u, local, a == p, b, o, m, v),
+    match f {
+        NodeForm::Sequence { first, second } => {
+            pass_sequence(u, t, first as usize, second as usize, o, m, v)
+        }
+        NodeForm::Choice { one, other } => enter_two(u, one as usize, other as usize, o, m, v),
+        NodeForm::Loop { body } => enter(u, body as usize, o, m, v),
+        NodeForm::Back { to } => enter(u, to as usize, o, m, v),
+        NodeForm::Fresh { name, body } => {
+            pass_fresh(u, rows, k, name as usize, body as usize, o, m, v)
+        }
+        NodeForm::Sandbox { policy, body } => {
+            pass_sandbox(u, local, policy as usize == p, body as usize, o, m, v)
+        }
         _ => false,
     }
 }
@@ -196,17 +199,17 @@ fn pass<'a>(
     local: bool,
     p: usize,
     k: usize,
-    f: Node,
+    f: NodeForm,
     o: bool,
     m: usize,
 ) -> bool
     requires { ⌜ length (now u) ≡ places ⌝ }
-    requires { ⌜ Small f ⌝ }
+    requires { ⌜ Small (saidBy f) ⌝ }
     requires { ⌜ k < mostNodes ⌝ }
     requires { ⌜ m < meanings ⌝ }
     ensures { λ r. ⌜ now (u .exit)
         ≡ pass local (rowsIn (now (rows .entry))) p (byOpen (now (opened .entry)) (now (shut .entry)) o)
-        k (formOf f) o m (now (u .entry)) ⌝ }
+        k (saidBy f) o m (now (u .entry)) ⌝ }
     ensures { λ r. ⌜ r ≡ grown (now (u .entry)) (now (u .exit)) ⌝ }
     ensures { λ r. ⌜ (Wide (now (u .entry)) → Wide (now (u .exit))) ⌝ }
 {
@@ -228,15 +231,15 @@ fn pass_node<'a>(
     p: usize,
     l: usize,
     k: usize,
-    f: Node,
+    f: NodeForm,
 ) -> bool
     requires { ⌜ length (now u) ≡ places ⌝ }
-    requires { ⌜ Small f ⌝ }
+    requires { ⌜ Small (saidBy f) ⌝ }
     requires { ⌜ l < meanings ⌝ }
     requires { ⌜ k < mostNodes ⌝ }
     ensures { λ r. ⌜ now (u .exit)
         ≡ passNode local (rowsIn (now (rows .entry))) p (byOpen (now (opened .entry)) (now (shut .entry)))
-        l k (formOf f) (now (u .entry)) ⌝ }
+        l k (saidBy f) (now (u .entry)) ⌝ }
     ensures { λ r. ⌜ r ≡ grown (now (u .entry)) (now (u .exit)) ⌝ }
     ensures { λ r. ⌜ (Wide (now (u .entry)) → Wide (now (u .exit))) ⌝ }
 {
@@ -278,7 +281,7 @@ fn pass_round<'a>(
     let mut changed = false;
     let mut k: usize = 0;
     while k < n {
-        let f = crate::node(nodes, k);
+        let f = outline_nodes::form(nodes, k);
         changed |= pass_node(u, opened, shut, rows, local, p, l, k, f);
         k += 1;
     }

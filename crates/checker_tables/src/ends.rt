@@ -6,7 +6,7 @@ ghost use Prim.Native.Nat.{ℕ, _+_, _*_, _<_, _≤_, _/_};
 ghost use lib.ListN.{length, getD, replicate};
 ghost use lib.Bits.{bitOr};
 ghost use Rattle.usage.specs.Limits.{states, mostNodes};
-ghost use Rattle.usage.specs.Outline.{formOf};
+ghost use Rattle.outline_nodes.specs.Said.{saidBy};
 ghost use Rattle.automaton.specs.Mask.{has};
 ghost use Rattle.checker_account.specs.Single.{noName};
 ghost use Rattle.checker_account.specs.Tables.{meanings, places, over, base, kept, begun, rowsIn, secondEnds, freshEnds};
@@ -18,9 +18,9 @@ use checker_account::MEANINGS;
 use checker_account::STARTS;
 use checker_account::Table;
 use checker_account::UNNAMED;
+use outline_nodes::NodeForm;
 use usage::MOST_NODES;
 use usage::NODE_FIELDS;
-use usage::Node;
 use usage::STATES;
 
 // ── The rules ──
@@ -125,29 +125,31 @@ fn ends_by(
     p: usize,
     x: usize,
     k: usize,
-    f: Node,
+    f: NodeForm,
     m: usize,
 ) -> PerState
-    requires { ⌜ Small f ⌝ }
+    requires { ⌜ Small (saidBy f) ⌝ }
     requires { ⌜ k < mostNodes ⌝ }
     requires { ⌜ m < meanings ⌝ }
     ensures { λ r. ⌜ ByState states
-        (λ q. endsOf (rowsIn (now (rows .entry))) x (resetsIf reset p (now (opened .entry))) (now (t .entry)) k m q (formOf f)) r ⌝ }
+        (λ q. endsOf (rowsIn (now (rows .entry))) x (resetsIf reset p (now (opened .entry))) (now (t .entry)) k m q (saidBy f)) r ⌝ }
 {
-    let a = f.a as usize;
-    let b = f.b as usize;
-    let kind = f.kind;
-    match kind {
-        0 => crate::sets::keep_each(m, [1u16, 2, 4, 8, 16, 32, 64, 128]),
-        1 => event_ends(rows, k, b == x, m),
-        2 => event_ends(rows, k, m == b + 1, m),
-        3 => second_ends(t, a, b, m),
-        4 => either_ends(t, a, b, m),
-        5 => held(t, a, m),
-        6 => held(t, a, m),
-        7 => fresh_ends(t, rows, k, a, b, m),
-        8 => inside_ends(t, opened, reset & (a == p), b, m),
-        _ => [0u16; STATES],
+    match f {
+        NodeForm::End => crate::sets::keep_each(m, [1u16, 2, 4, 8, 16, 32, 64, 128]),
+        NodeForm::OnStatic {
+            action: _,
+            resource,
+        } => event_ends(rows, k, resource as usize == x, m),
+        NodeForm::OnName { action: _, name } => event_ends(rows, k, m == name as usize + 1, m),
+        NodeForm::Sequence { first, second } => second_ends(t, first as usize, second as usize, m),
+        NodeForm::Choice { one, other } => either_ends(t, one as usize, other as usize, m),
+        NodeForm::Loop { body } => held(t, body as usize, m),
+        NodeForm::Back { to } => held(t, to as usize, m),
+        NodeForm::Fresh { name, body } => fresh_ends(t, rows, k, name as usize, body as usize, m),
+        NodeForm::Sandbox { policy, body } => {
+            inside_ends(t, opened, reset & (policy as usize == p), body as usize, m)
+        }
+        NodeForm::Nothing => [0u16; STATES],
     }
 }
 
@@ -179,14 +181,14 @@ fn settle_node(
     x: usize,
     l: usize,
     k: usize,
-    f: Node,
+    f: NodeForm,
 ) -> bool
     requires { ⌜ length (now t) ≡ places ⌝ }
-    requires { ⌜ Small f ⌝ }
+    requires { ⌜ Small (saidBy f) ⌝ }
     requires { ⌜ l < meanings ⌝ }
     requires { ⌜ k < mostNodes ⌝ }
     ensures { λ r. ⌜ now (t .exit)
-        ≡ settleNode (rowsIn (now (rows .entry))) x (resetsIf reset p (now (opened .entry))) l k (formOf f) (now (t .entry)) ⌝ }
+        ≡ settleNode (rowsIn (now (rows .entry))) x (resetsIf reset p (now (opened .entry))) l k (saidBy f) (now (t .entry)) ⌝ }
     ensures { λ r. ⌜ r ≡ grown (now (t .entry)) (now (t .exit)) ⌝ }
 {
     let n = MEANINGS - l;
@@ -230,7 +232,7 @@ pub(crate) fn fill(
     while left != 0 {
         let k = crate::work::highest(left);
         left -= 1u64 << (k as u32);
-        let f = crate::node(nodes, k);
+        let f = outline_nodes::form(nodes, k);
         if settle_node(t, rows, opened, reset, p, x, l, k, f) {
             left |= readers[k];
         }

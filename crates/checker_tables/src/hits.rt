@@ -5,15 +5,15 @@ ghost use Prim.Native.Nat.{ℕ, _<_};
 ghost use lib.Bits.{bitOr};
 ghost use lib.ListN.{length, getD};
 ghost use Rattle.usage.specs.Limits.{mostNodes};
-ghost use Rattle.usage.specs.Outline.{formOf};
+ghost use Rattle.outline_nodes.specs.Said.{saidBy};
 ghost use Rattle.checker_account.specs.Tables.{meanings, rowsIn, restarted, place};
 ghost use Rattle.checker_account.specs.Filling.{leavesOf, hitNode};
 ghost use Rattle.checker_tables.specs.Search.{Small, NodesFit, hitIn};
 ghost use Rattle.checker_tables.specs.Marks.{lastIn, markBit, marksIn};
 use checker_account::MEANINGS;
 use checker_account::Table;
+use outline_nodes::NodeForm;
 use usage::NODE_FIELDS;
-use usage::Node;
 
 // The states after the opening of the policy. Where it was not open, the opening resets under the local meaning.
 fn opened(u: &Table, local: bool, k: usize, m: usize, same: bool) -> u16
@@ -38,23 +38,27 @@ fn leaves_by(
     p: usize,
     x: usize,
     k: usize,
-    f: Node,
+    f: NodeForm,
     m: usize,
 ) -> u16
-    requires { ⌜ Small f ⌝ }
+    requires { ⌜ Small (saidBy f) ⌝ }
     requires { ⌜ k < mostNodes ⌝ }
     requires { ⌜ m < meanings ⌝ }
-    ensures { λ r. ⌜ r ≡ leavesOf local (rowsIn (now (rows .entry))) p x (now (u .entry)) k m (formOf f) ⌝ }
+    ensures { λ r. ⌜ r ≡ leavesOf local (rowsIn (now (rows .entry))) p x (now (u .entry)) k m (saidBy f) ⌝ }
 {
-    let a = f.a as usize;
-    let b = f.b as usize;
     let v = crate::arrivals::come_to(u, k, true, m);
-    let kind = f.kind;
-    match kind {
-        1 => crate::rows::moved_set(rows, k, b == x, v),
-        2 => crate::rows::moved_set(rows, k, m == b + 1, v),
-        7 => crate::rows::moved_set(rows, k, false, v) | crate::rows::own_created(rows, k, m, v),
-        8 => opened(u, local, k, m, a == p),
+    match f {
+        NodeForm::OnStatic {
+            action: _,
+            resource,
+        } => { crate::rows::moved_set(rows, k, resource as usize == x, v) }
+        NodeForm::OnName { action: _, name } => {
+            crate::rows::moved_set(rows, k, m == name as usize + 1, v)
+        }
+        NodeForm::Fresh { name: _, body: _ } => {
+            crate::rows::moved_set(rows, k, false, v) | crate::rows::own_created(rows, k, m, v)
+        }
+        NodeForm::Sandbox { policy, body: _ } => opened(u, local, k, m, policy as usize == p),
         _ => 0,
     }
 }
@@ -68,12 +72,12 @@ fn hit_node(
     x: usize,
     l: usize,
     k: usize,
-    f: Node,
+    f: NodeForm,
 ) -> bool
-    requires { ⌜ Small f ⌝ }
+    requires { ⌜ Small (saidBy f) ⌝ }
     requires { ⌜ l < meanings ⌝ }
     requires { ⌜ k < mostNodes ⌝ }
-    ensures { λ r. ⌜ r ≡ hitNode local (rowsIn (now (rows .entry))) p x (now (u .entry)) l k (formOf f) ⌝ }
+    ensures { λ r. ⌜ r ≡ hitNode local (rowsIn (now (rows .entry))) p x (now (u .entry)) l k (saidBy f) ⌝ }
 {
     let n = MEANINGS - l;
     let mut i: usize = 0;
@@ -105,7 +109,7 @@ pub(crate) fn any(
     let n = nodes.len() / NODE_FIELDS;
     let mut k: usize = 0;
     while k < n {
-        let f = crate::node(nodes, k);
+        let f = outline_nodes::form(nodes, k);
         if hit_node(u, rows, local, p, x, l, k, f) {
             return true;
         }
@@ -120,25 +124,26 @@ pub(crate) fn any(
 const OPENING_BIT: u64 = 4294967296;
 
 // The step of node f as a bit: an event by its action, a create by action 0.
-fn mark_bit(f: Node) -> u64
-    requires { ⌜ Small f ⌝ }
-    ensures { λ r. ⌜ r ≡ markBit (lastIn (formOf f)) ⌝ }
+fn mark_bit(f: NodeForm) -> u64
+    requires { ⌜ Small (saidBy f) ⌝ }
+    ensures { λ r. ⌜ r ≡ markBit (lastIn (saidBy f)) ⌝ }
 {
-    let a = f.a;
-    let kind = f.kind;
-    match kind {
-        1 => 1u64 << (a as u32),
-        2 => 1u64 << (a as u32),
-        7 => 1,
-        8 => OPENING_BIT,
+    match f {
+        NodeForm::OnStatic {
+            action,
+            resource: _,
+        } => 1u64 << (action as u32),
+        NodeForm::OnName { action, name: _ } => 1u64 << (action as u32),
+        NodeForm::Fresh { name: _, body: _ } => 1,
+        NodeForm::Sandbox { policy: _, body: _ } => OPENING_BIT,
         _ => 0,
     }
 }
 
 // It, or none.
-fn mark_if(b: bool, f: Node) -> u64
-    requires { ⌜ Small f ⌝ }
-    ensures { λ r. ⌜ r ≡ cond b (markBit (lastIn (formOf f))) 0 ⌝ }
+fn mark_if(b: bool, f: NodeForm) -> u64
+    requires { ⌜ Small (saidBy f) ⌝ }
+    ensures { λ r. ⌜ r ≡ cond b (markBit (lastIn (saidBy f))) 0 ⌝ }
 {
     if b { mark_bit(f) } else { 0 }
 }
@@ -161,7 +166,7 @@ pub(crate) fn marks(
     let mut m: u64 = 0;
     let mut k: usize = 0;
     while k < n {
-        let f = crate::node(nodes, k);
+        let f = outline_nodes::form(nodes, k);
         m = m | mark_if(hit_node(u, rows, local, p, x, l, k, f), f);
         k += 1;
     }

@@ -4,21 +4,23 @@
 ghost use mathlib.Core.Path.{_≡_};
 ghost use mathlib.Core.Bool.{Bool, not, _&&_};
 ghost use Prim.Native.Nat.{ℕ, _+_, _/_, _<_, _≤_};
+ghost use lib.Dec.{ltb};
 ghost use lib.ListN.{length, getD, replicate};
-ghost use Rattle.usage.specs.Limits.{states, nodeFields};
-ghost use Rattle.usage.specs.Tables.{nodeAt};
+ghost use Rattle.usage.specs.Limits.{states, mostNodes};
+ghost use Rattle.outline_nodes.specs.Said.{saidBy};
 ghost use Rattle.checker_account.specs.Tables.{over, joinedAt, meanings, places, least, restarted};
 ghost use Rattle.checker_account.specs.Filling.{grown, byOpen, Wide};
 ghost use Rattle.checker_tables.specs.Marks.{MarkedIf};
-ghost use Rattle.checker_tables.specs.Search.{lost, touched, smallNode, NodesFit, hasRoom, ArrivesBy, ArrivesIf, SearchedIf};
+ghost use Rattle.checker_tables.specs.Search.{lost, isOn, touched, small, NodesFit, hasRoom, ArrivesBy, ArrivesIf, SearchedIf};
 use checker_account::NAMES;
 use checker_account::PLACES;
 use checker_account::Table;
 use checker_account::UNNAMED;
 use checker_account::WATCHED;
+use outline_nodes::NodeForm;
+use usage::ACTIONS;
 use usage::MOST_NODES;
 use usage::NODE_FIELDS;
-use usage::Node;
 use usage::STATES;
 
 pub mod arrivals;
@@ -27,9 +29,6 @@ mod hits;
 pub mod rows;
 mod sets;
 pub mod work;
-
-// The kind of a node that is an event on a static resource.
-const ON_STATIC: u8 = 1;
 
 // The union of the eight sets from place i on, over the states in v.
 fn union_over(t: &Table, i: usize, v: u16) -> u16
@@ -85,6 +84,19 @@ pub fn least(x: usize) -> usize
     if x < WATCHED { UNNAMED } else { 0 }
 }
 
+// Is this node an event on the static resource x?
+fn is_on(f: NodeForm, x: usize) -> bool
+    ensures { λ r. ⌜ r ≡ isOn x (saidBy f) ⌝ }
+{
+    match f {
+        NodeForm::OnStatic {
+            action: _,
+            resource,
+        } => resource as usize == x,
+        _ => false,
+    }
+}
+
 // Is an event on the resource x? One may be on the dynamic resource. A static resource that none is on need not be watched: its instance
 // moves as that of a dynamic resource that never occurs.
 pub fn touched(nodes: &[u8], x: usize) -> bool
@@ -96,45 +108,39 @@ pub fn touched(nodes: &[u8], x: usize) -> bool
     let n = nodes.len() / NODE_FIELDS;
     let mut k: usize = 0;
     while k < n {
-        if nodes[NODE_FIELDS * k] == ON_STATIC {
-            if nodes[NODE_FIELDS * k + 2] as usize == x {
-                return true;
-            }
+        if is_on(outline_nodes::form(nodes, k), x) {
+            return true;
         }
         k += 1;
     }
     false
 }
 
-// Node k of a flat table.
-pub fn node(nodes: &[u8], k: usize) -> Node
-    requires { ⌜ k < length (now nodes) / nodeFields ⌝ }
-    ensures { λ r. ⌜ r ≡ nodeAt (now (nodes .entry)) k ⌝ }
+// Is there room for a node of this number?
+fn in_room(k: u8) -> bool
+    ensures { λ r. ⌜ r ≡ ltb k mostNodes ⌝ }
 {
-    let i = NODE_FIELDS * k;
-    Node {
-        kind: nodes[i],
-        a: nodes[i + 1],
-        b: nodes[i + 2],
-    }
+    (k as usize) < MOST_NODES
 }
 
-// Are its fields small enough for the tables?
-fn small(n: Node) -> bool
-    ensures { λ r. ⌜ r ≡ smallNode n ⌝ }
+// Are a node's numbers small enough for the tables?
+fn small(f: NodeForm) -> bool
+    ensures { λ r. ⌜ r ≡ small (saidBy f) ⌝ }
 {
-    let a = n.a as usize;
-    let b = n.b as usize;
-    if MOST_NODES <= a {
-        return false;
+    match f {
+        NodeForm::OnStatic {
+            action,
+            resource: _,
+        } => (action as u32) < ACTIONS,
+        NodeForm::OnName { action, name: _ } => (action as u32) < ACTIONS,
+        NodeForm::Sequence { first, second } => in_room(first) & in_room(second),
+        NodeForm::Choice { one, other } => in_room(one) & in_room(other),
+        NodeForm::Loop { body } => in_room(body),
+        NodeForm::Back { to } => in_room(to),
+        NodeForm::Fresh { name, body } => ((name as usize) < NAMES) & in_room(body),
+        NodeForm::Sandbox { policy: _, body } => in_room(body),
+        _ => true,
     }
-    if MOST_NODES <= b {
-        return false;
-    }
-    if n.kind == 7 {
-        return a < NAMES;
-    }
-    true
 }
 
 // Do the tables have room for these nodes?
@@ -147,8 +153,7 @@ fn fits(nodes: &[u8]) -> bool
     }
     let mut k: usize = 0;
     while k < n {
-        let f = node(nodes, k);
-        if !small(f) {
+        if !small(outline_nodes::form(nodes, k)) {
             return false;
         }
         k += 1;

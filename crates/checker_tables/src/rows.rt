@@ -4,7 +4,7 @@ ghost use mathlib.Core.Bool.{Bool};
 ghost use Prim.Native.Nat.{ℕ, _<_};
 ghost use lib.ListN.{length};
 ghost use Rattle.usage.specs.Limits.{policies, states, mostNodes};
-ghost use Rattle.usage.specs.Outline.{formOf};
+ghost use Rattle.outline_nodes.specs.Said.{saidBy};
 ghost use Rattle.usage.specs.Tables.{edgesOf};
 ghost use Rattle.automaton.specs.Move.{rowsOf};
 ghost use Rattle.checker_account.specs.Tables.{over, places, ownCreated, rowsIn};
@@ -16,11 +16,14 @@ use checker_account::OTHERS;
 use checker_account::PLACES;
 use checker_account::STARTS;
 use checker_account::Table;
+use outline_nodes::NodeForm;
 use usage::MOST_NODES;
 use usage::NODE_FIELDS;
-use usage::Node;
 use usage::POLICIES;
 use usage::STATES;
+
+// The action of a creation.
+const CREATE: u32 = 0;
 
 // The places of an event's table: each state of each policy.
 const EVENT_TABLE: usize = POLICIES * STATES;
@@ -96,19 +99,30 @@ fn event_rows(rows: &mut Table, edges: &[u8], p: usize, k: usize, action: u32, r
 }
 
 // Those of node k, if it has an event. A name and a creation are on a resource that no edge names.
-fn of_node(rows: &mut Table, edges: &[u8], p: usize, k: usize, f: Node)
+fn of_node(rows: &mut Table, edges: &[u8], p: usize, k: usize, f: NodeForm)
     requires { ⌜ length (now rows) ≡ places ⌝ }
     requires { ⌜ k < mostNodes ⌝ }
     requires { ⌜ p < policies ⌝ }
-    ensures { λ r. ⌜ now (rows .exit) ≡ nodeRows (rowsOf (edgesOf (now (edges .entry)))) p k (formOf f) (now (rows .entry)) ⌝ }
+    ensures { λ r. ⌜ now (rows .exit) ≡ nodeRows (rowsOf (edgesOf (now (edges .entry)))) p k (saidBy f) (now (rows .entry)) ⌝ }
 {
-    let a = f.a as u32;
-    let b = f.b as u32;
-    let kind = f.kind;
-    match kind {
-        1 => event_rows(rows, edges, p, k, a, b),
-        2 => event_rows(rows, edges, p, k, a, OTHERS),
-        7 => event_rows(rows, edges, p, k, 0, OTHERS),
+    match f {
+        NodeForm::OnStatic { action, resource } => event_rows(
+            rows,
+            edges,
+            p,
+            k,
+            action as u32,
+            resource as u32,
+        ),
+        NodeForm::OnName { action, name: _ } => event_rows(
+            rows,
+            edges,
+            p,
+            k,
+            action as u32,
+            OTHERS,
+        ),
+        NodeForm::Fresh { name: _, body: _ } => event_rows(rows, edges, p, k, CREATE, OTHERS),
         _ => {}
     }
 }
@@ -127,7 +141,7 @@ pub fn fill(edges: &[u8], nodes: &[u8], p: usize, rows: &mut Table)
     }
     let mut k: usize = 0;
     while k < n {
-        let f = crate::node(nodes, k);
+        let f = outline_nodes::form(nodes, k);
         of_node(rows, edges, p, k, f);
         k += 1;
     }

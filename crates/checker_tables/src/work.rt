@@ -4,14 +4,14 @@ ghost use mathlib.Core.Path.{_≡_};
 ghost use Prim.Native.Nat.{ℕ, suc, _-_, _/_, _^_, _<_, _≤_};
 ghost use lib.ListN.{length, replicate};
 ghost use Rattle.usage.specs.Limits.{mostNodes, nodeFields};
-ghost use Rattle.usage.specs.Outline.{formOf};
+ghost use Rattle.outline_nodes.specs.Said.{saidBy};
 ghost use Rattle.checker_account.specs.Tables.{joinedAt};
 ghost use Rattle.checker_account.specs.Filling.{formsIn};
 ghost use Rattle.checker_tables.specs.Search.{Small, NodesFit};
 ghost use Rattle.checker_tables.specs.Work.{noted, readersOf};
+use outline_nodes::NodeForm;
 use usage::MOST_NODES;
 use usage::NODE_FIELDS;
-use usage::Node;
 
 // Of each node, the nodes that read it.
 pub type Masks = [u64; MOST_NODES];
@@ -40,22 +40,24 @@ fn note_both(masks: &mut Masks, a: usize, b: usize, k: usize)
 }
 
 // The same of the nodes that the rule of node k reads.
-fn note_parts(masks: &mut Masks, k: usize, f: Node)
+fn note_parts(masks: &mut Masks, k: usize, f: NodeForm)
     requires { ⌜ length (now masks) ≡ mostNodes ⌝ }
-    requires { ⌜ Small f ⌝ }
+    requires { ⌜ Small (saidBy f) ⌝ }
     requires { ⌜ k < mostNodes ⌝ }
-    ensures { λ r. ⌜ now (masks .exit) ≡ noted k (formOf f) (now (masks .entry)) ⌝ }
+    ensures { λ r. ⌜ now (masks .exit) ≡ noted k (saidBy f) (now (masks .entry)) ⌝ }
 {
-    let a = f.a as usize;
-    let b = f.b as usize;
-    let kind = f.kind;
-    match kind {
-        3 => note_both(masks, a, b, k),
-        4 => note_both(masks, a, b, k),
-        5 => note(masks, a, k),
-        6 => note(masks, a, k),
-        7 => note(masks, b, k),
-        8 => note(masks, b, k),
+    match f {
+        NodeForm::Sequence { first, second } => note_both(
+            masks,
+            first as usize,
+            second as usize,
+            k,
+        ),
+        NodeForm::Choice { one, other } => note_both(masks, one as usize, other as usize, k),
+        NodeForm::Loop { body } => note(masks, body as usize, k),
+        NodeForm::Back { to } => note(masks, to as usize, k),
+        NodeForm::Fresh { name: _, body } => note(masks, body as usize, k),
+        NodeForm::Sandbox { policy: _, body } => note(masks, body as usize, k),
         _ => {}
     }
 }
@@ -69,7 +71,7 @@ pub fn readers(nodes: &[u8], masks: &mut Masks)
     let n = nodes.len() / NODE_FIELDS;
     let mut k: usize = 0;
     while k < n {
-        let f = crate::node(nodes, k);
+        let f = outline_nodes::form(nodes, k);
         note_parts(masks, k, f);
         k += 1;
     }

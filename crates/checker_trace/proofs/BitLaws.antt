@@ -2,7 +2,7 @@
 use Prim.Native.Nat.{ℕ, zero, suc, _*_, _/_, _%_, _^_, _<_, _≤_}
 use mathlib.Core.Path.{_≡_, refl, sym, ap, _∙_, subst}
 use mathlib.Core.Bool.{Bool, true, false, cond, Bool·beq}
-use mathlib.Core.List.{List}
+use mathlib.Core.List.{List, [], _∷_}
 use mathlib.Core.Logic.{_⊎_, inl, inr}
 use native.Mathlib.Omega.{arith}
 use native.Mathlib.Nat.{one-mul}
@@ -12,7 +12,11 @@ use lib.Pow.{shl-exact}
 use lib.ListN.{length}
 use borrow.Author.Tests.{eqb-true, eq-eqb, lt-ltb, le-ltb}
 use Rattle.usage.specs.Limits.{mostNodes, nodeFields}
-use Rattle.usage.specs.Outline.{formOf}
+use types.Run.{OneOf, miss}
+use Rattle.outline_nodes.specs.declared.NodeForm.{NodeForm}
+use Rattle.outline_nodes.specs.declared.NodeForm.the-variants.{End, OnStatic, OnName, Sequence, Choice, Loop, Back, Fresh, Sandbox, Nothing}
+use Rattle.outline_nodes.specs.Said.{saidBy}
+use Rattle.outline_nodes.proofs.SaidLaws.{tag}
 use Rattle.usage.proofs.Logic.{by-cases, last-or-lower}
 use Rattle.automaton.specs.Mask.{has}
 use Rattle.checker_account.proofs.MaskLaws.{has-left, has-right, has-either, has-none}
@@ -144,17 +148,16 @@ module _ (t nodes : List ℕ) (e : Entry) where
   spreads-node begins l = bit-at (e .node) l
   spreads-node (further {s = s} d) l = spread-has (length nodes / nodeFields) s (e .node) (spreads-node d l)
 
--- a node of another kind leads nowhere
-pub no-leads : (t : List ℕ) (e : Entry) (k a b : ℕ) → (k ≡ 3 → ⊥) → (k ≡ 4 → ⊥) → (k ≡ 5 → ⊥) → (k ≡ 6 → ⊥)
-    → 0 ≡ leadsFrom t e (formOf (record { kind = k; a = a; b = b }))
-unfolding formOf leadsOf
-no-leads t e zero a b h₃ h₄ h₅ h₆ = refl
-no-leads t e (suc zero) a b h₃ h₄ h₅ h₆ = refl
-no-leads t e (suc (suc zero)) a b h₃ h₄ h₅ h₆ = refl
-no-leads t e (suc (suc (suc zero))) a b h₃ h₄ h₅ h₆ = absurd (h₃ refl)
-no-leads t e (suc (suc (suc (suc zero)))) a b h₃ h₄ h₅ h₆ = absurd (h₄ refl)
-no-leads t e (suc (suc (suc (suc (suc zero))))) a b h₃ h₄ h₅ h₆ = absurd (h₅ refl)
-no-leads t e (suc (suc (suc (suc (suc (suc zero)))))) a b h₃ h₄ h₅ h₆ = absurd (h₆ refl)
-no-leads t e (suc (suc (suc (suc (suc (suc (suc zero))))))) a b h₃ h₄ h₅ h₆ = refl
-no-leads t e (suc (suc (suc (suc (suc (suc (suc (suc zero)))))))) a b h₃ h₄ h₅ h₆ = refl
-no-leads t e (suc (suc (suc (suc (suc (suc (suc (suc (suc k))))))))) a b h₃ h₄ h₅ h₆ = refl
+-- a node of another form leads nowhere
+pub no-leads : (t : List ℕ) (e : Entry) (f : NodeForm) → OneOf (0 ∷ 1 ∷ 2 ∷ 7 ∷ 8 ∷ 9 ∷ []) (tag f) → 0 ≡ leadsFrom t e (saidBy f)
+unfolding leadsOf
+no-leads t e End h = refl
+no-leads t e (OnStatic a s) h = refl
+no-leads t e (OnName a n) h = refl
+no-leads t e (Sequence a b) h = absurd (miss (0 ∷ 1 ∷ 2 ∷ 7 ∷ 8 ∷ 9 ∷ []) 3 tt h)
+no-leads t e (Choice a b) h = absurd (miss (0 ∷ 1 ∷ 2 ∷ 7 ∷ 8 ∷ 9 ∷ []) 4 tt h)
+no-leads t e (Loop a) h = absurd (miss (0 ∷ 1 ∷ 2 ∷ 7 ∷ 8 ∷ 9 ∷ []) 5 tt h)
+no-leads t e (Back a) h = absurd (miss (0 ∷ 1 ∷ 2 ∷ 7 ∷ 8 ∷ 9 ∷ []) 6 tt h)
+no-leads t e (Fresh n b) h = refl
+no-leads t e (Sandbox s b) h = refl
+no-leads t e Nothing h = refl

@@ -4,7 +4,7 @@ ghost use mathlib.Core.Path.{_≡_};
 ghost use Prim.Native.Nat.{ℕ, _/_, _<_, _≤_};
 ghost use lib.ListN.{length};
 ghost use Rattle.usage.specs.Limits.{mostNodes, nodeFields};
-ghost use Rattle.usage.specs.Outline.{formOf};
+ghost use Rattle.outline_nodes.specs.Said.{saidBy};
 ghost use Rattle.automaton.specs.Mask.{has};
 ghost use Rattle.checker_lengths.specs.Offers.{atNode};
 ghost use Rattle.checker_trace.specs.Code.{idleIn, idleAfter, bitOf, bitIf, sequenceLeads};
@@ -15,9 +15,9 @@ use checker_lengths::BROKEN;
 use checker_lengths::Entry;
 use checker_lengths::Lengths;
 use checker_lengths::Watch;
+use outline_nodes::NodeForm;
 use usage::MOST_NODES;
 use usage::NODE_FIELDS;
-use usage::Node;
 use usage::STATES;
 
 // Can node k end with no step, from the entry's start?
@@ -93,15 +93,14 @@ fn sequence(t: &Lengths, e: Entry, a: u8, b: u8) -> u64
 }
 
 // The nodes that node f leads to with no step.
-fn leads(t: &Lengths, e: Entry, f: Node) -> u64
-    ensures { λ r. ⌜ r ≡ leadsFrom (now (t .entry)) e (formOf f) ⌝ }
+fn leads(t: &Lengths, e: Entry, f: NodeForm) -> u64
+    ensures { λ r. ⌜ r ≡ leadsFrom (now (t .entry)) e (saidBy f) ⌝ }
 {
-    let kind = f.kind;
-    match kind {
-        3 => sequence(t, e, f.a, f.b),
-        4 => bit(f.a as usize) | bit(f.b as usize),
-        5 => bit(f.a as usize),
-        6 => bit(f.a as usize),
+    match f {
+        NodeForm::Sequence { first, second } => sequence(t, e, first, second),
+        NodeForm::Choice { one, other } => bit(one as usize) | bit(other as usize),
+        NodeForm::Loop { body } => bit(body as usize),
+        NodeForm::Back { to } => bit(to as usize),
         _ => 0,
     }
 }
@@ -116,7 +115,7 @@ fn spread(t: &Lengths, nodes: &[u8], e: Entry, s: u64) -> u64
     let mut k: usize = 0;
     while k < n {
         if has(r, k) {
-            r |= leads(t, e, checker_lengths::nodes::node(nodes, k));
+            r |= leads(t, e, outline_nodes::form(nodes, k));
         }
         k += 1;
     }
@@ -139,8 +138,8 @@ fn closure(t: &Lengths, nodes: &[u8], e: Entry) -> u64
 }
 
 // The first rule of node f that gives n, or as many as there are.
-fn rule(t: &Lengths, rows: &Table, w: Watch, f: Node, e: Entry, n: u8) -> usize
-    ensures { λ r. ⌜ RuleIs w (now (rows .entry)) (now (t .entry)) (formOf f) e n r ⌝ }
+fn rule(t: &Lengths, rows: &Table, w: Watch, f: NodeForm, e: Entry, n: u8) -> usize
+    ensures { λ r. ⌜ RuleIs w (now (rows .entry)) (now (t .entry)) (saidBy f) e n r ⌝ }
 {
     let ways = checker_lengths::offers::ways(f);
     let mut c: usize = 0;
@@ -163,7 +162,7 @@ pub(crate) fn find(t: &Lengths, nodes: &[u8], rows: &Table, w: Watch, e: Entry, 
     let mut k: usize = 0;
     while k < count {
         if has(s, k) {
-            let f = checker_lengths::nodes::node(nodes, k);
+            let f = outline_nodes::form(nodes, k);
             let c = rule(t, rows, w, f, at(e, k), n);
             if c < checker_lengths::offers::ways(f) {
                 return Onto::By { node: k, rule: c };

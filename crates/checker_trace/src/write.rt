@@ -18,6 +18,7 @@ use checker_lengths::Entry;
 use checker_lengths::Lengths;
 use checker_lengths::Watch;
 use checker_lengths::offers;
+use outline_nodes::NodeForm;
 use usage::STEP_FIELDS;
 
 // The number of the resource that name i means.
@@ -202,14 +203,58 @@ pub(crate) fn write(
     let Onto::By { node: k, rule: c } = o else {
         return s;
     };
-    let f = checker_lengths::nodes::node(nodes, k);
-    let kind = f.kind;
-    match kind {
-        1 => step(trace, s, 0, f.a as u32, f.b as u32),
-        2 => step(trace, s, 0, f.a as u32, name(g, f.b)),
-        3 => write_sequence(t, nodes, rows, w, trace, e, n, g, s, f.a, f.b, c),
-        7 => write_fresh(t, nodes, rows, w, trace, e, n, g, s, f.a, f.b, c),
-        8 => write_sandbox(t, nodes, rows, w, trace, e, n, g, s, f.a, f.b, c),
+    let f = outline_nodes::form(nodes, k);
+    match f {
+        NodeForm::OnStatic { action, resource } => step(
+            trace,
+            s,
+            0,
+            action as u32,
+            resource as u32,
+        ),
+        NodeForm::OnName { action, name: i } => step(trace, s, 0, action as u32, name(g, i)),
+        NodeForm::Sequence { first, second } => write_sequence(
+            t,
+            nodes,
+            rows,
+            w,
+            trace,
+            e,
+            n,
+            g,
+            s,
+            first,
+            second,
+            c,
+        ),
+        NodeForm::Fresh { name: i, body } => write_fresh(
+            t,
+            nodes,
+            rows,
+            w,
+            trace,
+            e,
+            n,
+            g,
+            s,
+            i,
+            body,
+            c,
+        ),
+        NodeForm::Sandbox { policy, body } => write_sandbox(
+            t,
+            nodes,
+            rows,
+            w,
+            trace,
+            e,
+            n,
+            g,
+            s,
+            policy,
+            body,
+            c,
+        ),
         _ => s,
     }
 }

@@ -1,6 +1,7 @@
 use denote.Ref.{now}
 use mathlib.Core.Path.{_≡_, refl, sym, ap₂, subst}
 use mathlib.Core.Bool.{Bool, true, false}
+use mathlib.Core.Option.{Option}
 use mathlib.Core.List.{List}
 use native.Mathlib.Omega.{arith}
 use lib.Dec.{lit<}
@@ -8,9 +9,10 @@ use lib.Bits.{bitOr}
 use lib.Pow.{pow-mono}
 use lib.ListN.{length, getD}
 use Prim.Native.Nat.{ℕ, suc, _-_, _*_, _/_, _%_, _^_, _<_, _≤_}
-use Rattle.usage.specs.declared.Node.{Node}
 use Rattle.usage.specs.Limits.{mostNodes, nodeFields}
-use Rattle.usage.specs.Outline.{formOf}
+use Rattle.usage.specs.Outline.{Form}
+use Rattle.outline_nodes.specs.declared.NodeForm.{NodeForm}
+use Rattle.outline_nodes.specs.Said.{saidBy}
 use Rattle.checker_account.specs.Tables.{meanings, least}
 use Rattle.checker_account.specs.Filling.{formsIn}
 use Rattle.checker_account.proofs.Starts.{least-le}
@@ -19,7 +21,6 @@ use Rattle.checker_tables.specs.Search.{NodesFit}
 use Rattle.checker_tables.specs.Work.{readersOf}
 use Rattle.checker_tables.proofs.WorkLaws.{shl-node}
 use Rattle.checker_lengths.specs.declared.Watch.{Watch}
-use Rattle.checker_lengths.specs.Nodes.{nodeIn}
 use Rattle.checker_lengths.specs.Filling.{formHere, NodeSettled}
 use Rattle.checker_lengths.specs.Code.{Pass}
 use Rattle.checker_lengths.proofs.LeftLaws.{
@@ -39,7 +40,7 @@ use Rattle.checker_lengths.proofs.fill.fill.Tie as tie
 use Rattle.checker_lengths.proofs.fill.fill.Reads as reads
 use Rattle.checker_lengths.proofs.fill.fill.Lts as lts
 use Rattle.checker_lengths.proofs.fill.settle_node.Reads as settle-node-reads
-use Rattle.checker_lengths.proofs.nodes.node.Reads as node-reads
+use Rattle.outline_nodes.proofs.form.Reads as form-reads
 use Rattle.checker_tables.proofs.least.Reads as least-reads
 use Rattle.checker_tables.proofs.work.all.Reads as all-reads
 use Rattle.checker_lengths.proofs.fill.next.Reads as next-reads
@@ -70,10 +71,10 @@ module _ (w : Watch) (rows nodes come : List ℕ) (l : ℕ) (fit : NodesFit node
   bit-low = let m = member-le s k in-s in omega (arith, shl-node k small)
 
   -- it was settled, as d says; r: did that change the table?
-  module _ (u : List ℕ) (d : Node) (at : d ≡ nodeIn nodes k) (r : Bool)
-      (p : Pass w rows k (formOf d) (λ y. NodeSettled w rows (formOf d) come y l k) t u r) where
+  module _ (u : List ℕ) (d : NodeForm) (at : saidBy d ≡ formHere nodes k) (r : Bool)
+      (p : Pass w rows k (saidBy d) (λ y. NodeSettled w rows (saidBy d) come y l k) t u r) where
     here : Pass w rows k (formHere nodes k) (λ y. NodeSettled w rows (formHere nodes k) come y l k) t u r
-    here = subst (λ (f : Node). Pass w rows k (formOf f) (λ y. NodeSettled w rows (formOf f) come y l k) t u r) at p
+    here = subst (λ (f : Option Form). Pass w rows k f (λ y. NodeSettled w rows f come y l k) t u r) at p
 
     still : r ≡ false → Left w rows nodes come l u (s - bit)
     still g =
@@ -165,8 +166,8 @@ sub-left c =
     let h = c .next in
     bit-low (a .w) (a .rows .now) (a .nodes .now) (a .u .now) l p (i .t) (i .left) (h .result) (i .inv .1) (h .ensures)
 
-node-requires : tie.Need-node-requires Inv-loop μ-loop
-node-requires c κs = search needs
+form-requires : tie.Need-form-requires Inv-loop μ-loop
+form-requires c κs = search needs
 
 settle-node-requires : tie.Need-settle-node-requires Inv-loop μ-loop
 settle-node-requires c κs =
@@ -216,7 +217,7 @@ loop-less c =
     let i = c .before .before .before .before .before .before .loop in
     let h = c .before .before .before .before .next in
     let s = c .before .settle-node in
-    let d = c .before .before .before .node in
+    let d = c .before .before .before .form in
     let r = c .before .before .before .before .before .before .before .before .readers2 in
     more-falls (a .w) (a .rows .now) (a .nodes .now) (a .u .now) l p (i .t) (i .left) (h .result) (i .inv .1) (h .ensures)
     (s .last .0) (d .result) (d .ensures) (s .result) (s .ensures)
@@ -230,7 +231,7 @@ loop-again c =
     let i = c .before .before .before .before .before .before .loop in
     let h = c .before .before .before .before .next in
     let s = c .before .settle-node in
-    let d = c .before .before .before .node in
+    let d = c .before .before .before .form in
     let r = c .before .before .before .before .before .before .before .before .readers2 in
     let b = small (a .w) (a .rows .now) (a .nodes .now) (a .u .now) l p (i .t) (i .left) (h .result) (i .inv .1) (h .ensures) in (
       b,
@@ -247,7 +248,7 @@ loop-less-2 c =
     let i = c .before .before .before .before .before .before .loop in
     let h = c .before .before .before .before .next in
     let s = c .before .settle-node in
-    let d = c .before .before .before .node in
+    let d = c .before .before .before .form in
     still-falls (a .w) (a .rows .now) (a .nodes .now) (a .u .now) l p (i .t) (i .left) (h .result) (i .inv .1) (h .ensures)
     (s .last .0) (d .result) (d .ensures) (s .result) (s .ensures)
     (c .if1 .left)
@@ -260,7 +261,7 @@ loop-again-2 c =
     let i = c .before .before .before .before .before .before .loop in
     let h = c .before .before .before .before .next in
     let s = c .before .settle-node in
-    let d = c .before .before .before .node in
+    let d = c .before .before .before .form in
     let b = small (a .w) (a .rows .now) (a .nodes .now) (a .u .now) l p (i .t) (i .left) (h .result) (i .inv .1) (h .ensures) in (
       b,
       still (a .w) (a .rows .now) (a .nodes .now) (a .u .now) l p (i .t) (i .left) (h .result) (i .inv .1) (h .ensures)
@@ -292,7 +293,7 @@ fill-spec =
     cast-left-2
     shl-left
     sub-left
-    node-requires
+    form-requires
     settle-node-requires
     mul-left
     array-read-left

@@ -1,4 +1,4 @@
-use Rattle.usage.specs.Outline.{formOf}
+use Rattle.outline_nodes.specs.Said.{saidBy}
 use borrow.Author.Needs.{needs}
 use Rattle.checker_lengths.proofs.fill.settle.Statement.{statement}
 use Rattle.checker_lengths.proofs.fill.settle.Tie as tie
@@ -16,7 +16,7 @@ put-requires c κs = c .before .before .before .pre
 returns : tie.Need-returns
 returns c =
     let a = c .before .before .before .before .args in
-    c .put .ensures (a .w) (a .rows .now) (formOf (a .f)) (a .c) (c .before .before .offer .ensures)
+    c .put .ensures (a .w) (a .rows .now) (saidBy (a .f)) (a .c) (c .before .before .offer .ensures)
 
 pub settle-spec : {M : Type 1} → statement M
 settle-spec = tie.close (tie.spec offer-requires put-requires returns)

@@ -3,7 +3,7 @@ use mathlib.Core.Path.{subst}
 use mathlib.Core.Bool.{true}
 use mathlib.Core.Logic.{inl, inr}
 use borrow.Author.Count.{below-more}
-use Rattle.usage.specs.Outline.{formOf}
+use Rattle.outline_nodes.specs.Said.{saidBy}
 use Rattle.usage.proofs.Logic.{by-cases, not-true}
 use Rattle.checker_lengths.specs.declared.Entry.{Entry}
 use Rattle.checker_lengths.specs.Entries.{inTable}
@@ -27,8 +27,8 @@ use Rattle.checker_lengths.proofs.offers.toward.Reads as toward-reads
 
 abbrev Inv-loop : tie.InvT-loop
 Inv-loop t₀ rows w f s c changed₀ i₀ t changed i = (i ≤ 17)
-    × Pass w rows (s .node) (formOf f) (λ u. (j : ℕ) → j < i → lowEnd (s .meaning) ≤ j
-    → Settled w rows (formOf f) u (toward s j) c) t₀ t changed
+    × Pass w rows (s .node) (saidBy f) (λ u. (j : ℕ) → j < i → lowEnd (s .meaning) ≤ j
+    → Settled w rows (saidBy f) u (toward s j) c) t₀ t changed
 
 abbrev μ-loop : tie.MeasureT-loop
 μ-loop t₀ rows w f s c changed₀ i₀ t changed i = 17 - i
@@ -71,7 +71,7 @@ loop-again c =
     let a = c .before .before .before .before .before .before .before .before .before .before .args in
     let l = c .before .before .before .before .before .loop in
     let k = c .before .before .before .before .loop-test .taken in
-    let f = formOf (a .f) in
+    let f = saidBy (a .f) in
     let p = subst (λ (e : Entry). Pass (a .w) (a .rows .now) (e .node) f (λ u. Settled (a .w) (a .rows .now) f u e (a .c)) (l .t)
     (c .before .settle .last .0) (c .before .settle .result)) (c .before .before .toward .ensures) (c .before .settle .ensures) in (
       omega arith,

@@ -5,7 +5,7 @@ use mathlib.Core.Logic.{inl, inr}
 use lib.Dec.{eqb}
 use lib.ListN.{getD}
 use borrow.Author.Count.{below-more}
-use Rattle.usage.specs.Outline.{formOf}
+use Rattle.outline_nodes.specs.Said.{saidBy}
 use Rattle.usage.proofs.Logic.{by-cases}
 use Rattle.checker_account.specs.Tables.{place}
 use Rattle.checker_lengths.specs.Code.{Pass}
@@ -25,7 +25,7 @@ use Rattle.checker_tables.proofs.arrivals.come_to.Reads as come-to-reads
 
 abbrev Inv-loop : tie.InvT-loop
 Inv-loop t₀ rows u w f l k n changed₀ i₀ t changed i = (i ≤ n)
-    × Pass w rows k (formOf f) (λ y. (j : ℕ) → j < i → StatesSettled w rows (formOf f) y k (eqb (j % 2) 1) (l + j / 2)
+    × Pass w rows k (saidBy f) (λ y. (j : ℕ) → j < i → StatesSettled w rows (saidBy f) y k (eqb (j % 2) 1) (l + j / 2)
     (getD u (place k (eqb (j % 2) 1) (l + j / 2)) 0)) t₀ t changed
 
 abbrev μ-loop : tie.MeasureT-loop
@@ -64,7 +64,7 @@ loop-again c =
     let a = c .before .before .before .before .before .before .args in
     let l = c .before .before .before .before .before .loop in
     let i = c .before .before .before .before .loop-test .taken in
-    let f = formOf (a .f) in
+    let f = saidBy (a .f) in
     let o = eqb (l .i % 2) 1 in
     let m = a .l + l .i / 2 in
     let here = subst (λ (v : ℕ). Pass (a .w) (a .rows .now) (a .k) f (λ y. StatesSettled (a .w) (a .rows .now) f y (a .k) o m v) (l .t)
@@ -83,7 +83,7 @@ returns : tie.Need-returns Inv-loop μ-loop
 returns c =
     let a = c .before .before .args in
     let l = c .before .loop in
-    let f = formOf (a .f) in
+    let f = saidBy (a .f) in
     pass-map (λ y h o m q low high small come.
     let (i, b, eo, em) = meaning-turn (a .l) o m low high in
     let s = subst (λ (m′ : ℕ). StatesSettled (a .w) (a .rows .now) f y (a .k) o m′ (getD (a .u .now) (place (a .k) o m′) 0)) em

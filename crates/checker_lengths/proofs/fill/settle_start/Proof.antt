@@ -1,7 +1,7 @@
 use denote.Ref.{now}
 use mathlib.Core.Logic.{inl, inr}
 use borrow.Author.Count.{below-more}
-use Rattle.usage.specs.Outline.{formOf}
+use Rattle.outline_nodes.specs.Said.{saidBy}
 use Rattle.usage.proofs.Logic.{by-cases}
 use Rattle.checker_lengths.specs.Code.{Pass}
 use Rattle.checker_lengths.specs.Filling.{RuleSettled}
@@ -19,7 +19,7 @@ use Rattle.checker_lengths.proofs.offers.ways.Reads as ways-reads
 
 abbrev Inv-loop : tie.InvT-loop
 Inv-loop t₀ rows w f s n changed₀ c₀ t changed c = (c ≤ n)
-    × Pass w rows (s .node) (formOf f) (λ u. (j : ℕ) → j < c → RuleSettled w rows (formOf f) u s j) t₀ t changed
+    × Pass w rows (s .node) (saidBy f) (λ u. (j : ℕ) → j < c → RuleSettled w rows (saidBy f) u s j) t₀ t changed
 
 abbrev μ-loop : tie.MeasureT-loop
 μ-loop t₀ rows w f s n changed₀ c₀ t changed c = n - c
@@ -47,7 +47,7 @@ loop-again c =
     let a = c .before .before .before .before .before .before .args in
     let l = c .before .before .before .before .loop in
     let k = c .before .before .before .loop-test .taken in
-    let f = formOf (a .f) in (
+    let f = saidBy (a .f) in (
       omega arith,
       pass-then
           (λ u x y. below-more (λ (j : ℕ). RuleSettled (a .w) (a .rows .now) f u (a .s) j) (l .c) x y)

@@ -2,7 +2,7 @@ use denote.Ref.{now}
 use mathlib.Core.Bool.{true}
 use mathlib.Core.Logic.{inl, inr}
 use borrow.Author.Count.{below-more}
-use Rattle.usage.specs.Outline.{formOf}
+use Rattle.outline_nodes.specs.Said.{saidBy}
 use Rattle.usage.proofs.Logic.{by-cases}
 use Rattle.automaton.specs.Mask.{has}
 use Rattle.checker_lengths.specs.Entries.{entryOf}
@@ -24,7 +24,7 @@ use Rattle.checker_lengths.proofs.offers.has.Reads as has-reads
 
 abbrev Inv-loop : tie.InvT-loop
 Inv-loop t₀ rows w f k opened meaning v changed₀ q₀ t changed q = (q ≤ 8)
-    × Pass w rows k (formOf f) (λ u. (j : ℕ) → j < q → has v j ≡ true → StartSettled w rows (formOf f) u (entryOf k opened meaning j 0)) t₀
+    × Pass w rows k (saidBy f) (λ u. (j : ℕ) → j < q → has v j ≡ true → StartSettled w rows (saidBy f) u (entryOf k opened meaning j 0)) t₀
     t changed
 
 abbrev μ-loop : tie.MeasureT-loop
@@ -57,7 +57,7 @@ loop-again c =
     let a = c .before .before .before .before .before .before .args in
     let l = c .before .before .before .before .before .loop in
     let k = c .before .before .before .before .loop-test .taken in
-    let f = formOf (a .f) in
+    let f = saidBy (a .f) in
     let here : Pass (a .w) (a .rows .now) (a .k) f
     (λ u. has (a .v) (l .q) ≡ true → StartSettled (a .w) (a .rows .now) f u (entryOf (a .k) (a .opened) (a .meaning) (l .q) 0)) (l .t)
     (c .before .settle-if .last .0) (c .before .settle-if .result) =

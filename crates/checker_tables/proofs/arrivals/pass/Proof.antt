@@ -3,7 +3,7 @@ use mathlib.Core.List.{List}
 use Prim.Native.Nat.{ℕ}
 use borrow.Author.Needs.{needs}
 use denote.Ref.{now}
-use Rattle.usage.specs.Outline.{formOf}
+use Rattle.outline_nodes.specs.Said.{saidBy}
 use Rattle.checker_account.specs.Tables.{rowsIn}
 use Rattle.checker_account.specs.Filling.{byOpen, entered, arrivalsOf}
 use Rattle.checker_account.proofs.GrowsLaws.{grown-self}
@@ -23,7 +23,7 @@ returns : tie.Need-returns
 returns c =
     let a = c .before .before .before .args in
     let none =
-    pass-none (a .local) (rowsIn (now (a .rows))) (a .p) (byOpen (now (a .opened)) (now (a .shut)) (a .o)) (a .k) (formOf (a .f)) (a .o)
+    pass-none (a .local) (rowsIn (now (a .rows))) (a .p) (byOpen (now (a .opened)) (now (a .shut)) (a .o)) (a .k) (saidBy (a .f)) (a .o)
     (a .m) (now (a .u)) (sym (c .before .come-to .ensures) ∙ c .if1 .taken) in
     (sym none, (sym (grown-self (now (a .u))), λ w. w))
 
@@ -40,7 +40,7 @@ returns-2 c =
     let h = c .pass-by .ensures in (
       h .0
           ∙ ap₂ (λ (t : List ℕ) (v : ℕ). entered (arrivalsOf (a .local) (rowsIn (now (a .rows))) (a .p) t (a .k) (a .o) (a .m) v
-          (formOf (a .f))) (now (a .u)))
+          (saidBy (a .f))) (now (a .u)))
           (e .ensures) (c .before .before .before .before .come-to .ensures),
       (h .1 .0, h .1 .1),
     )

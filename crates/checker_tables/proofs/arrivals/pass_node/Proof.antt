@@ -6,26 +6,26 @@ use denote.Ref.{now}
 use mathlib.Core.Bool.{Bool, _||_, or-false}
 use mathlib.Core.List.{List}
 use Rattle.usage.proofs.Logic.{by-cases, or-right}
-use Rattle.usage.specs.Outline.{formOf}
+use Rattle.outline_nodes.specs.Said.{saidBy}
 use Rattle.checker_account.specs.Tables.{rowsIn, meanings}
 use Rattle.checker_account.specs.Filling.{repeat, grown, byOpen, pass, odd, passNode, Wide}
 use Rattle.checker_account.proofs.GrowsLaws.{Grows, grown-self, repeat-length, turn}
 use Rattle.checker_account.proofs.PassLaws.{pass-grows}
-use Rattle.usage.specs.declared.Node.{Node}
+use Rattle.outline_nodes.specs.declared.NodeForm.{NodeForm}
 use Rattle.checker_tables.proofs.arrivals.pass_node.Statement.{statement}
 use Rattle.checker_tables.proofs.arrivals.pass_node.Tie as tie
 use Rattle.checker_tables.proofs.arrivals.pass_node.Reads as reads
 use Rattle.checker_tables.proofs.arrivals.pass_node.Lts as lts
 use Rattle.checker_tables.proofs.arrivals.pass.Reads as pass-reads
 
-abbrev steps : List ℕ → List ℕ → List ℕ → Bool → ℕ → ℕ → ℕ → Node → ℕ → List ℕ → List ℕ
+abbrev steps : List ℕ → List ℕ → List ℕ → Bool → ℕ → ℕ → ℕ → NodeForm → ℕ → List ℕ → List ℕ
 steps opened shut rows local p l k f i =
-    pass local (rowsIn rows) p (byOpen opened shut (odd i)) k (formOf f) (odd i) (l + i / 2)
+    pass local (rowsIn rows) p (byOpen opened shut (odd i)) k (saidBy f) (odd i) (l + i / 2)
 
-steps-grow : (opened shut rows : List ℕ) (local : Bool) (p l k : ℕ) (f : Node) (i : ℕ) (u : List ℕ)
+steps-grow : (opened shut rows : List ℕ) (local : Bool) (p l k : ℕ) (f : NodeForm) (i : ℕ) (u : List ℕ)
     → Grows u (steps opened shut rows local p l k f i u)
 steps-grow opened shut rows local p l k f i u =
-    pass-grows local (rowsIn rows) p (byOpen opened shut (odd i)) k (formOf f) (odd i) (l + i / 2) u
+    pass-grows local (rowsIn rows) p (byOpen opened shut (odd i)) k (saidBy f) (odd i) (l + i / 2) u
 
 abbrev Inv-loop : tie.InvT-loop
 Inv-loop u₀ opened shut rows local p l k f n changed₀ i₀ u changed i =

@@ -11,15 +11,16 @@ use Rattle.checker_account.specs.Tables.{rowsIn}
 use Rattle.checker_account.specs.Filling.{repeat, grown, formsIn, byOpen, passNode, passRound, Wide}
 use Rattle.checker_account.proofs.GrowsLaws.{Grows, grown-self, repeat-length, turn}
 use Rattle.checker_account.proofs.PassLaws.{pass-node-grows}
-use Rattle.usage.specs.declared.Node.{Node}
-use Rattle.usage.specs.Outline.{formOf}
+use mathlib.Core.Option.{Option}
+use Rattle.usage.specs.Outline.{Form}
+use Rattle.outline_nodes.proofs.SaidLaws.{form-at}
 use Rattle.checker_tables.specs.Search.{Small}
 use Rattle.checker_tables.proofs.arrivals.pass_round.Statement.{statement}
 use Rattle.checker_tables.proofs.arrivals.pass_round.Tie as tie
 use Rattle.checker_tables.proofs.arrivals.pass_round.Reads as reads
 use Rattle.checker_tables.proofs.arrivals.pass_round.Lts as lts
 use Rattle.checker_tables.proofs.arrivals.pass_node.Reads as pass-node-reads
-use Rattle.checker_tables.proofs.node.Reads as node-reads
+use Rattle.outline_nodes.proofs.form.Reads as form-reads
 
 abbrev steps : List ℕ → List ℕ → List ℕ → List ℕ → Bool → ℕ → ℕ → ℕ → List ℕ → List ℕ
 steps opened shut nodes rows local p l k = passNode local (rowsIn rows) p (byOpen opened shut) l k (formsIn nodes k)
@@ -39,8 +40,8 @@ loop-holds : tie.Need-loop-holds Inv-loop μ-loop
 unfolding repeat
 loop-holds c = (search needs, (refl, (sym (grown-self (c .before .args .u .now)), λ w. w)))
 
-node-requires : tie.Need-node-requires Inv-loop μ-loop
-node-requires c κs = search needs
+form-requires : tie.Need-form-requires Inv-loop μ-loop
+form-requires c κs = search needs
 
 pass-node-requires : tie.Need-pass-node-requires Inv-loop μ-loop
 pass-node-requires c κs =
@@ -52,7 +53,7 @@ pass-node-requires c κs =
     let h = c .before .before .loop-test .taken in
     let few : length (a .nodes .now) / nodeFields ≤ mostNodes = p .1 .0 .few in (
       repeat-length f grows (l .k) (a .u .now) (l .u) (l .inv .1 .0) ∙ p .0,
-      (subst Small (sym (c .before .node .ensures)) (p .1 .0 .small (l .k) h), (p .1 .1, omega arith)),
+      (subst Small (sym (c .before .form .ensures ∙ form-at (a .nodes .now) (l .k) h)) (p .1 .0 .each-small (l .k) h), (p .1 .1, omega arith)),
     )
 
 add-k : tie.Need-add-k Inv-loop μ-loop
@@ -71,9 +72,9 @@ loop-again c =
     let h = c .before .before .before .loop-test .taken in
     let e : w ≡ f (l .k) (l .u) =
     c .pass-node .ensures .0
-    ∙ ap (λ (d : Node). passNode (a .local) (rowsIn (a .rows .now)) (a .p) (byOpen (a .opened .now) (a .shut .now)) (a .l) (l .k) (formOf d)
+    ∙ ap (λ (d : Option Form). passNode (a .local) (rowsIn (a .rows .now)) (a .p) (byOpen (a .opened .now) (a .shut .now)) (a .l) (l .k) d
     (l .u))
-    (c .before .before .node .ensures) in
+    (c .before .before .form .ensures ∙ form-at (a .nodes .now) (l .k) h) in
     let wide : Wide (a .u .now) → Wide w = λ h. c .pass-node .ensures .1 .1 (l .inv .1 .1 .1 h) in
     let made = turn f grows (l .k) (a .u .now) (l .u) w (l .changed)
     (c .pass-node .result) (l .inv .1 .0, l .inv .1 .1 .0) e (c .pass-node .ensures .1 .0) in
@@ -93,7 +94,7 @@ pass-round-spec =
     Inv-loop
     μ-loop
     loop-holds
-    node-requires
+    form-requires
     pass-node-requires
     add-k
     loop-less

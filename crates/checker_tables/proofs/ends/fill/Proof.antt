@@ -7,9 +7,12 @@ use lib.Bits.{bitOr}
 use lib.Pow.{pow-mono}
 use lib.ListN.{length, getD}
 use Rattle.usage.specs.Limits.{mostNodes, nodeFields}
-use Rattle.usage.specs.declared.Node.{Node}
-use Rattle.usage.specs.Outline.{formOf}
-use Rattle.usage.specs.Tables.{nodeAt}
+use mathlib.Core.Option.{Option}
+use Rattle.usage.specs.Outline.{Form, formAt}
+use Rattle.outline_nodes.proofs.SaidLaws.{form-at}
+use Rattle.usage.specs.Tables.{nodesOf}
+use Rattle.outline_nodes.specs.declared.NodeForm.{NodeForm}
+use Rattle.outline_nodes.specs.Said.{saidBy}
 use Rattle.checker_account.specs.Tables.{meanings, rowsIn, Resets}
 use Rattle.checker_account.specs.Filling.{grown, formsIn, settleNode, Wide}
 use Rattle.checker_account.proofs.SettleLaws.{WideLent}
@@ -31,7 +34,7 @@ use Rattle.checker_tables.proofs.ends.fill.Tie as tie
 use Rattle.checker_tables.proofs.ends.fill.Reads as reads
 use Rattle.checker_tables.proofs.ends.fill.Lts as lts
 use Rattle.checker_tables.proofs.ends.settle_node.Reads as settle-node-reads
-use Rattle.checker_tables.proofs.node.Reads as node-reads
+use Rattle.outline_nodes.proofs.form.Reads as form-reads
 use Rattle.checker_tables.proofs.work.all.Reads as all-reads
 use Rattle.checker_tables.proofs.work.highest.Reads as highest-reads
 use Rattle.checker_tables.proofs.work.readers.Reads as readers-reads
@@ -67,10 +70,10 @@ module _ (nodes rows : List ℕ) (x : ℕ) (resets : Resets) (l : ℕ) (fit : No
   bit-low = omega (arith, shl-node k small)
 
   -- it was settled, as d says; grew: did that change the table?
-  module _ (u : List ℕ) (d : Node) (at : d ≡ nodeAt nodes k) (made : u ≡ settleNode (rowsIn rows) x resets l k (formOf d) t) (grew : Bool)
-      (tells : grew ≡ grown t u) where
+  module _ (u : List ℕ) (d : NodeForm) (at : saidBy d ≡ formAt (nodesOf nodes) k)
+      (made : u ≡ settleNode (rowsIn rows) x resets l k (saidBy d) t) (grew : Bool) (tells : grew ≡ grown t u) where
     e : u ≡ settleNode (rowsIn rows) x resets l k (formsIn nodes k) t
-    e = made ∙ ap (λ (f : Node). settleNode (rowsIn rows) x resets l k (formOf f) t) at
+    e = made ∙ ap (λ (f : Option Form). settleNode (rowsIn rows) x resets l k f t) (at ∙ form-at nodes k inside)
 
     still : grew ≡ false → Done nodes rows x resets l u (s - bit)
     still g =
@@ -167,15 +170,8 @@ sub-left c =
     bit-low (a .nodes .now) (a .rows .now) (a .x) resets (a .l) (p .0) (l .t) (l .left) (h .result) (l .inv) (h .ensures .0)
     (h .ensures .1)
 
-node-requires : tie.Need-node-requires Inv-loop μ-loop
-node-requires c κs =
-    let a = c .before .before .before .before .before .before .before .args in
-    let resets = resetsIf (a .reset) (a .p) (a .opened .now) in
-    let p = c .before .before .before .before .before .before .before .pre in
-    let l = c .before .before .loop in
-    let h = c .highest in
-    inside (a .nodes .now) (a .rows .now) (a .x) resets (a .l) (p .0) (l .t) (l .left) (h .result) (l .inv) (h .ensures .0)
-    (h .ensures .1)
+form-requires : tie.Need-form-requires Inv-loop μ-loop
+form-requires c κs = tt
 
 settle-node-requires : tie.Need-settle-node-requires Inv-loop μ-loop
 settle-node-requires c κs =
@@ -190,7 +186,7 @@ settle-node-requires c κs =
       working-length (rowsIn (a .rows .now)) (a .x) resets (a .l) (length (a .nodes .now) / nodeFields) (formsIn (a .nodes .now))
           (p .0 .few)
           (l .inv),
-      (subst Small (sym (c .before .node .ensures)) (p .0 .small (h .result) k), (p .1 .0, omega arith)),
+      (subst Small (sym (c .before .form .ensures ∙ form-at (a .nodes .now) (h .result) k)) (p .0 .each-small (h .result) k), (p .1 .0, omega arith)),
     )
 
 mul-left : tie.Need-mul-left Inv-loop μ-loop
@@ -223,7 +219,7 @@ loop-less c =
     let l = c .before .before .before .before .before .before .loop in
     let h = c .before .before .before .before .highest in
     let s = c .before .settle-node in
-    let d = c .before .before .before .node in
+    let d = c .before .before .before .form in
     more-falls (a .nodes .now) (a .rows .now) (a .x) resets (a .l) (p .0) (l .t) (l .left) (h .result) (l .inv) (h .ensures .0)
     (h .ensures .1) (s .last .0) (d .result) (d .ensures) (s .ensures .0) (s .result) (s .ensures .1)
     (lent-wide (a .reset) (a .p) (a .opened .now) (p .1 .1 .0)) (p .1 .0) (r .last .1 .0) (r .ensures)
@@ -238,7 +234,7 @@ loop-again c =
     let l = c .before .before .before .before .before .before .loop in
     let h = c .before .before .before .before .highest in
     let s = c .before .settle-node in
-    let d = c .before .before .before .node in
+    let d = c .before .before .before .form in
     more (a .nodes .now) (a .rows .now) (a .x) resets (a .l) (p .0) (l .t) (l .left) (h .result) (l .inv) (h .ensures .0)
     (h .ensures .1) (s .last .0) (d .result) (d .ensures) (s .ensures .0) (s .result) (s .ensures .1)
     (lent-wide (a .reset) (a .p) (a .opened .now) (p .1 .1 .0)) (p .1 .0) (r .last .1 .0) (r .ensures)
@@ -252,7 +248,7 @@ loop-less-2 c =
     let l = c .before .before .before .before .before .before .loop in
     let h = c .before .before .before .before .highest in
     let s = c .before .settle-node in
-    let d = c .before .before .before .node in
+    let d = c .before .before .before .form in
     still-falls (a .nodes .now) (a .rows .now) (a .x) resets (a .l) (p .0) (l .t) (l .left) (h .result) (l .inv) (h .ensures .0)
     (h .ensures .1) (s .last .0) (d .result) (d .ensures) (s .ensures .0) (s .result) (s .ensures .1) (c .if1 .left)
 
@@ -264,7 +260,7 @@ loop-again-2 c =
     let l = c .before .before .before .before .before .before .loop in
     let h = c .before .before .before .before .highest in
     let s = c .before .settle-node in
-    let d = c .before .before .before .node in
+    let d = c .before .before .before .form in
     still (a .nodes .now) (a .rows .now) (a .x) resets (a .l) (p .0) (l .t) (l .left) (h .result) (l .inv) (h .ensures .0)
     (h .ensures .1) (s .last .0) (d .result) (d .ensures) (s .ensures .0) (s .result) (s .ensures .1) (c .if1 .left)
 
@@ -293,7 +289,7 @@ fill-spec =
     cast-left-2
     shl-left
     sub-left
-    node-requires
+    form-requires
     settle-node-requires
     mul-left
     array-read-left

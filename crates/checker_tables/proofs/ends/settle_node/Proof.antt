@@ -3,8 +3,8 @@ use mathlib.Core.Path.{_≡_, refl, sym, _∙_}
 use mathlib.Core.List.{List}
 use Prim.Native.Nat.{ℕ, _+_, _-_, _≤_}
 use lib.ListN.{getD}
-use Rattle.usage.specs.declared.Node.{Node}
-use Rattle.usage.specs.Outline.{formOf}
+use Rattle.outline_nodes.specs.declared.NodeForm.{NodeForm}
+use Rattle.outline_nodes.specs.Said.{saidBy}
 use Rattle.checker_account.specs.Tables.{rowsIn, Resets, base, meanings}
 use Rattle.checker_tables.specs.Search.{resetsIf}
 use Rattle.checker_account.specs.Filling.{repeat, grown, endsOf, settleMeaning, settleNode}
@@ -18,12 +18,12 @@ use Rattle.checker_tables.proofs.ends.settle_node.Lts as lts
 use Rattle.checker_tables.proofs.ends.ends_by.Reads as ends-by-reads
 use Rattle.checker_tables.proofs.ends.join_sets.Reads as join-sets-reads
 
-abbrev settles : List ℕ → ℕ → Resets → ℕ → ℕ → Node → ℕ → List ℕ → List ℕ
-settles rows x resets l k f i = settleMeaning (rowsIn rows) x resets k (formOf f) (l + i)
+abbrev settles : List ℕ → ℕ → Resets → ℕ → ℕ → NodeForm → ℕ → List ℕ → List ℕ
+settles rows x resets l k f i = settleMeaning (rowsIn rows) x resets k (saidBy f) (l + i)
 
-settles-grow : (rows : List ℕ) (x : ℕ) (resets : Resets) (l k : ℕ) (f : Node) → (i : ℕ) (t : List ℕ)
+settles-grow : (rows : List ℕ) (x : ℕ) (resets : Resets) (l k : ℕ) (f : NodeForm) → (i : ℕ) (t : List ℕ)
     → Grows t (settles rows x resets l k f i t)
-settles-grow rows x resets l k f i t = meaning-grows (rowsIn rows) x resets k (formOf f) (l + i) t
+settles-grow rows x resets l k f i t = meaning-grows (rowsIn rows) x resets k (saidBy f) (l + i) t
 
 abbrev Inv-loop : tie.InvT-loop
 Inv-loop t₀ rows opened reset p x l k f n changed₀ i₀ t changed i = (i ≤ n) ×
@@ -84,7 +84,7 @@ loop-again c =
     let e : j .last .0 ≡ f (l .i) (l .t) =
     j .ensures .0
     ∙ each-same (l .t) (base (a .k) m) (λ q. getD (v .result) q 0)
-    (λ q. endsOf (rowsIn (a .rows .now)) (a .x) resets (l .t) (a .k) m q (formOf (a .f))) (v .ensures .held) in
+    (λ q. endsOf (rowsIn (a .rows .now)) (a .x) resets (l .t) (a .k) m q (saidBy (a .f))) (v .ensures .held) in
     let made = turn f grows (l .i) (a .t .now) (l .t) (j .last .0) (l .changed)
     (j .result) (l .inv .1) e (j .ensures .1) in
     (search needs, made)

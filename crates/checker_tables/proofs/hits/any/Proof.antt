@@ -5,9 +5,10 @@ use mathlib.Core.List.{List}
 use Prim.Native.Nat.{ℕ, _-_, _≤_, _/_}
 use lib.ListN.{length}
 use denote.Ref.{now}
-use Rattle.usage.specs.declared.Node.{Node}
 use Rattle.usage.specs.Limits.{nodeFields}
-use Rattle.usage.specs.Outline.{formOf}
+use mathlib.Core.Option.{Option}
+use Rattle.usage.specs.Outline.{Form}
+use Rattle.outline_nodes.proofs.SaidLaws.{form-at}
 use Rattle.usage.specs.Tests.{someBelow}
 use Rattle.automaton.proofs.MaskLaws.{some-at}
 use Rattle.checker_account.specs.Tables.{rowsIn}
@@ -20,7 +21,7 @@ use Rattle.checker_tables.proofs.hits.any.Tie as tie
 use Rattle.checker_tables.proofs.hits.any.Reads as reads
 use Rattle.checker_tables.proofs.hits.any.Lts as lts
 use Rattle.checker_tables.proofs.hits.hit_node.Reads as hit-node-reads
-use Rattle.checker_tables.proofs.node.Reads as node-reads
+use Rattle.outline_nodes.proofs.form.Reads as form-reads
 
 abbrev test : List ℕ → List ℕ → List ℕ → Bool → ℕ → ℕ → ℕ → ℕ → Bool
 test u nodes rows local p x l k = hitNode local (rowsIn rows) p x u l k (formsIn nodes k)
@@ -35,8 +36,8 @@ loop-holds : tie.Need-loop-holds Inv-loop μ-loop
 unfolding someBelow
 loop-holds c = (search needs, refl)
 
-node-requires : tie.Need-node-requires Inv-loop μ-loop
-node-requires c κs = search needs
+form-requires : tie.Need-form-requires Inv-loop μ-loop
+form-requires c κs = search needs
 
 hit-node-requires : tie.Need-hit-node-requires Inv-loop μ-loop
 hit-node-requires c κs =
@@ -44,7 +45,7 @@ hit-node-requires c κs =
     let p = c .before .before .before .before .pre in
     let k = c .before .before .loop .k in
     let h = c .before .loop-test .taken in
-    (subst Small (sym (c .node .ensures)) (p .0 .small k h), (p .1, omega (arith, p .0 .few)))
+    (subst Small (sym (c .form .ensures ∙ form-at (now (a .nodes)) k h)) (p .0 .each-small k h), (p .1, omega (arith, p .0 .few)))
 
 returns : tie.Need-returns Inv-loop μ-loop
 unfolding hitAny
@@ -54,8 +55,8 @@ returns c =
     let h = c .before .before .before .loop-test .taken in
     let f = test (now (a .u)) (now (a .nodes)) (now (a .rows)) (a .local) (a .p) (a .x) (a .l) in
     let s : c .before .hit-node .result ≡ f k = c .before .hit-node .ensures
-    ∙ ap (λ (d : Node). hitNode (a .local) (rowsIn (now (a .rows))) (a .p) (a .x) (now (a .u)) (a .l) k (formOf d))
-    (c .before .before .node .ensures) in
+    ∙ ap (λ (d : Option Form). hitNode (a .local) (rowsIn (now (a .rows))) (a .p) (a .x) (now (a .u)) (a .l) k d)
+    (c .before .before .form .ensures ∙ form-at (now (a .nodes)) k h) in
     sym (some-at (length (now (a .nodes)) / nodeFields) f k h (sym s ∙ c .if1 .taken))
 
 add-k : tie.Need-add-k Inv-loop μ-loop
@@ -71,8 +72,8 @@ loop-again c =
     let h = c .before .before .before .loop-test .taken in
     let f = test (now (a .u)) (now (a .nodes)) (now (a .rows)) (a .local) (a .p) (a .x) (a .l) in
     let s : c .before .hit-node .result ≡ f k = c .before .hit-node .ensures
-    ∙ ap (λ (d : Node). hitNode (a .local) (rowsIn (now (a .rows))) (a .p) (a .x) (now (a .u)) (a .l) k (formOf d))
-    (c .before .before .node .ensures) in
+    ∙ ap (λ (d : Option Form). hitNode (a .local) (rowsIn (now (a .rows))) (a .p) (a .x) (now (a .u)) (a .l) k d)
+    (c .before .before .form .ensures ∙ form-at (now (a .nodes)) k h) in
     (search needs, none-more f k (c .before .before .before .before .loop .inv .1) (sym s ∙ c .if1 .left))
 
 returns-2 : tie.Need-returns-2 Inv-loop μ-loop
@@ -89,7 +90,7 @@ any-spec =
     Inv-loop
     μ-loop
     loop-holds
-    node-requires
+    form-requires
     hit-node-requires
     returns
     add-k

@@ -6,13 +6,13 @@ use denote.Ref.{now}
 use mathlib.Core.Bool.{Bool, true, false}
 use mathlib.Core.List.{List}
 use borrow.Author.Tests.{le-leb, lt-leb}
-use Rattle.usage.specs.Outline.{formOf}
+use Rattle.outline_nodes.specs.Said.{saidBy}
 use Rattle.usage.specs.Tests.{someBelow}
 use Rattle.automaton.proofs.MaskLaws.{some-at}
 use Rattle.checker_account.specs.Tables.{half, rowsIn, meanings}
 use Rattle.checker_account.specs.Filling.{leavesOf, hitNode}
 use Rattle.checker_account.proofs.CodeLaws.{none-more}
-use Rattle.usage.specs.declared.Node.{Node}
+use Rattle.outline_nodes.specs.declared.NodeForm.{NodeForm}
 use Rattle.checker_tables.proofs.hits.hit_node.Statement.{statement}
 use Rattle.checker_tables.proofs.hits.hit_node.Tie as tie
 use Rattle.checker_tables.proofs.hits.hit_node.Reads as reads
@@ -20,8 +20,8 @@ use Rattle.checker_tables.proofs.hits.hit_node.Lts as lts
 use Rattle.checker_tables.proofs.hits.leaves_by.Reads as leaves-by-reads
 use Rattle.automaton.specs.Mask.{offends}
 
-abbrev test : List ℕ → List ℕ → Bool → ℕ → ℕ → ℕ → ℕ → Node → ℕ → Bool
-test u rows local p x l k f i = offends (half false (leavesOf local (rowsIn rows) p x u k (l + i) (formOf f)))
+abbrev test : List ℕ → List ℕ → Bool → ℕ → ℕ → ℕ → ℕ → NodeForm → ℕ → Bool
+test u rows local p x l k f i = offends (half false (leavesOf local (rowsIn rows) p x u k (l + i) (saidBy f)))
 
 hit : (v w : ℕ) → v ≡ w → 64 ≤ v % 256 → offends (half false w) ≡ true
 hit v w e h = subst (λ (n : ℕ). offends (half false n) ≡ true) e (le-leb 64 (v % 256) h)

@@ -5,9 +5,10 @@ use mathlib.Core.List.{List}
 use Prim.Native.Nat.{ℕ, _-_, _≤_, _/_}
 use lib.ListN.{length}
 use denote.Ref.{now}
-use Rattle.usage.specs.declared.Node.{Node}
 use Rattle.usage.specs.Limits.{nodeFields}
-use Rattle.usage.specs.Outline.{formOf}
+use mathlib.Core.Option.{Option}
+use Rattle.usage.specs.Outline.{Form}
+use Rattle.outline_nodes.proofs.SaidLaws.{form-at}
 use Rattle.automaton.specs.Mask.{union}
 use Rattle.checker_account.specs.Tables.{rowsIn}
 use Rattle.checker_account.specs.Filling.{formsIn, hitNode}
@@ -34,22 +35,24 @@ loop-holds : tie.Need-loop-holds Inv-loop μ-loop
 unfolding union
 loop-holds c = (search needs, refl)
 
-node-requires : tie.Need-node-requires Inv-loop μ-loop
-node-requires c κs = search needs
+form-requires : tie.Need-form-requires Inv-loop μ-loop
+form-requires c κs = search needs
 
 hit-node-requires : tie.Need-hit-node-requires Inv-loop μ-loop
 hit-node-requires c κs =
+    let t = now (c .before .before .before .before .args .nodes) in
     let p = c .before .before .before .before .pre in
     let k = c .before .before .loop .k in
     let h = c .before .loop-test .taken in
-    (subst Small (sym (c .node .ensures)) (p .0 .small k h), (p .1, omega (arith, p .0 .few)))
+    (subst Small (sym (c .form .ensures ∙ form-at t k h)) (p .0 .each-small k h), (p .1, omega (arith, p .0 .few)))
 
 mark-if-requires : tie.Need-mark-if-requires Inv-loop μ-loop
 mark-if-requires c κs =
+    let t = now (c .before .before .before .before .before .args .nodes) in
     let p = c .before .before .before .before .before .pre in
     let k = c .before .before .before .loop .k in
     let h = c .before .before .loop-test .taken in
-    subst Small (sym (c .before .node .ensures)) (p .0 .small k h)
+    subst Small (sym (c .before .form .ensures ∙ form-at t k h)) (p .0 .each-small k h)
 
 add-k : tie.Need-add-k Inv-loop μ-loop
 add-k c = search needs
@@ -64,11 +67,11 @@ loop-again c =
     let k = t .k in
     let f = mark (now (a .u)) (now (a .nodes)) (now (a .rows)) (a .local) (a .p) (a .x) (a .l) in
     let hit = c .before .hit-node in
-    let is = c .before .before .node .ensures in
+    let is = c .before .before .form .ensures ∙ form-at (now (a .nodes)) k (c .before .before .before .loop-test .taken) in
     let s : hit .result ≡ test (now (a .u)) (now (a .nodes)) (now (a .rows)) (a .local) (a .p) (a .x) (a .l) k = hit .ensures
-    ∙ ap (λ (d : Node). hitNode (a .local) (rowsIn (now (a .rows))) (a .p) (a .x) (now (a .u)) (a .l) k (formOf d)) is in
+    ∙ ap (λ (d : Option Form). hitNode (a .local) (rowsIn (now (a .rows))) (a .p) (a .x) (now (a .u)) (a .l) k d) is in
     let w : c .mark-if .result ≡ f k = c .mark-if .ensures
-    ∙ ap (λ (d : Node). cond (hit .result) (markBit (lastIn (formOf d))) 0) is
+    ∙ ap (λ (d : Option Form). cond (hit .result) (markBit (lastIn d)) 0) is
     ∙ ap (λ (b : Bool). cond b (markBit (lastIn (formsIn (now (a .nodes)) k))) 0) s in
     (search needs, rw (t .inv .1, w) (union-more f k))
 
@@ -86,7 +89,7 @@ marks-spec =
     Inv-loop
     μ-loop
     loop-holds
-    node-requires
+    form-requires
     hit-node-requires
     mark-if-requires
     add-k

@@ -6,8 +6,9 @@ use borrow.Author.Needs.{needs}
 use denote.Ref.{now}
 use mathlib.Core.List.{List}
 use Rattle.usage.specs.Limits.{mostNodes, nodeFields}
-use Rattle.usage.specs.declared.Node.{Node}
-use Rattle.usage.specs.Outline.{formOf}
+use mathlib.Core.Option.{Option}
+use Rattle.usage.specs.Outline.{Form}
+use Rattle.outline_nodes.proofs.SaidLaws.{form-at}
 use Rattle.usage.specs.Tables.{edgesOf}
 use Rattle.automaton.specs.Move.{rowsOf}
 use Rattle.checker_account.specs.Filling.{repeat, formsIn}
@@ -19,7 +20,7 @@ use Rattle.checker_tables.proofs.rows.fill.Statement.{statement}
 use Rattle.checker_tables.proofs.rows.fill.Tie as tie
 use Rattle.checker_tables.proofs.rows.fill.Reads as reads
 use Rattle.checker_tables.proofs.rows.fill.Lts as lts
-use Rattle.checker_tables.proofs.node.Reads as node-reads
+use Rattle.outline_nodes.proofs.form.Reads as form-reads
 use Rattle.checker_tables.proofs.rows.of_node.Reads as of-node-reads
 use Rattle.checker_account.specs.Tables.{places}
 
@@ -46,8 +47,8 @@ loop-holds : tie.Need-loop-holds Inv-loop μ-loop
 unfolding repeat
 loop-holds c = (search needs, refl)
 
-node-requires : tie.Need-node-requires Inv-loop μ-loop
-node-requires c κs = search needs
+form-requires : tie.Need-form-requires Inv-loop μ-loop
+form-requires c κs = search needs
 
 of-node-requires : tie.Need-of-node-requires Inv-loop μ-loop
 of-node-requires c κs =
@@ -72,8 +73,8 @@ loop-again c =
     let h = c .before .before .before .loop-test .taken in
     let e =
     c .of-node .ensures
-    ∙ ap (λ (d : Node). nodeRows (rowsOf (edgesOf (a .edges .now))) (a .p) (l .k) (formOf d) (l .rows))
-    (c .before .before .node .ensures) in
+    ∙ ap (λ (d : Option Form). nodeRows (rowsOf (edgesOf (a .edges .now))) (a .p) (l .k) d (l .rows))
+    (c .before .before .form .ensures ∙ form-at (a .nodes .now) (l .k) h) in
     let f = steps (a .edges .now) (a .nodes .now) (a .p) in
     (search needs, repeat-more f (l .k) (replicate places 0) (l .rows) (c .of-node .last .0) (l .inv .1) e)
 
@@ -97,7 +98,7 @@ fill-spec =
     returns
     returns-2
     loop-holds
-    node-requires
+    form-requires
     of-node-requires
     add-k
     loop-less

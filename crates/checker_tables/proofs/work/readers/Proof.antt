@@ -4,8 +4,9 @@ use mathlib.Core.List.{List}
 use Prim.Native.Nat.{ℕ, _-_, _/_, _≤_}
 use lib.ListN.{length, replicate, length-replicate}
 use Rattle.usage.specs.Limits.{mostNodes, nodeFields}
-use Rattle.usage.specs.declared.Node.{Node}
-use Rattle.usage.specs.Outline.{formOf}
+use mathlib.Core.Option.{Option}
+use Rattle.usage.specs.Outline.{Form}
+use Rattle.outline_nodes.proofs.SaidLaws.{form-at}
 use Rattle.checker_account.specs.Filling.{repeat, formsIn}
 use Rattle.checker_account.proofs.GrowsLaws.{repeat-more}
 use Rattle.checker_tables.specs.Search.{Small}
@@ -16,7 +17,7 @@ use Rattle.checker_tables.proofs.work.readers.Statement.{statement}
 use Rattle.checker_tables.proofs.work.readers.Tie as tie
 use Rattle.checker_tables.proofs.work.readers.Reads as reads
 use Rattle.checker_tables.proofs.work.readers.Lts as lts
-use Rattle.checker_tables.proofs.node.Reads as node-reads
+use Rattle.outline_nodes.proofs.form.Reads as form-reads
 use Rattle.checker_tables.proofs.work.note_parts.Reads as note-parts-reads
 
 abbrev steps : List ℕ → ℕ → List ℕ → List ℕ
@@ -32,8 +33,8 @@ loop-holds : tie.Need-loop-holds Inv-loop μ-loop
 unfolding repeat
 loop-holds c = (search needs, c .before .pre .1)
 
-node-requires : tie.Need-node-requires Inv-loop μ-loop
-node-requires c κs = search needs
+form-requires : tie.Need-form-requires Inv-loop μ-loop
+form-requires c κs = search needs
 
 note-parts-requires : tie.Need-note-parts-requires Inv-loop μ-loop
 note-parts-requires c κs =
@@ -43,7 +44,7 @@ note-parts-requires c κs =
     let h = c .before .before .loop-test .taken in
     let few : length (a .nodes .now) / nodeFields ≤ mostNodes = p .0 .few in (
       ap length (l .inv .1) ∙ upto-length (formsIn (a .nodes .now)) (l .k) (replicate mostNodes 0) ∙ length-replicate {A = ℕ} mostNodes 0,
-      (subst Small (sym (c .before .node .ensures)) (p .0 .small (l .k) h), omega arith),
+      (subst Small (sym (c .before .form .ensures ∙ form-at (a .nodes .now) (l .k) h)) (p .0 .each-small (l .k) h), omega arith),
     )
 
 add-k : tie.Need-add-k Inv-loop μ-loop
@@ -57,7 +58,7 @@ loop-again c =
     let a = c .before .before .before .before .before .before .args in
     let l = c .before .before .before .before .loop in
     let h = c .before .before .before .loop-test .taken in
-    let e = c .note-parts .ensures ∙ ap (λ (d : Node). noted (l .k) (formOf d) (l .masks)) (c .before .before .node .ensures) in
+    let e = c .note-parts .ensures ∙ ap (λ (d : Option Form). noted (l .k) d (l .masks)) (c .before .before .form .ensures ∙ form-at (a .nodes .now) (l .k) h) in
     (search needs, repeat-more (steps (a .nodes .now)) (l .k) (replicate mostNodes 0) (l .masks) (c .note-parts .last .0) (l .inv .1) e)
 
 returns : tie.Need-returns Inv-loop μ-loop
@@ -74,7 +75,7 @@ readers-spec =
     Inv-loop
     μ-loop
     loop-holds
-    node-requires
+    form-requires
     note-parts-requires
     add-k
     loop-less

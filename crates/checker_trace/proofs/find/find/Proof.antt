@@ -1,8 +1,9 @@
 use mathlib.Core.Bool.{true}
 use mathlib.Core.Path.{subst}
 use borrow.Author.Count.{below-more}
-use Rattle.usage.specs.declared.Node.{Node}
-use Rattle.usage.specs.Outline.{formOf}
+use mathlib.Core.Option.{Option}
+use Rattle.usage.specs.Outline.{Form}
+use Rattle.outline_nodes.specs.Said.{saidBy}
 use Rattle.usage.proofs.Logic.{by-cases, not-both}
 use Rattle.automaton.specs.Mask.{has}
 use Rattle.checker_lengths.specs.declared.Entry.{Entry}
@@ -18,7 +19,7 @@ use Rattle.checker_trace.proofs.find.find.Tie as tie
 use Rattle.checker_trace.proofs.find.find.Reads as reads
 use Rattle.checker_trace.proofs.find.find.Lts as lts
 use Rattle.checker_lengths.proofs.offers.ways.Reads as ways-reads
-use Rattle.checker_lengths.proofs.nodes.node.Reads as node-reads
+use Rattle.outline_nodes.proofs.form.Reads as form-reads
 use Rattle.checker_trace.proofs.find.at.Reads as at-reads
 use Rattle.checker_trace.proofs.find.closure.Reads as closure-reads
 use Rattle.checker_trace.proofs.find.has.Reads as has-reads
@@ -41,8 +42,8 @@ loop-holds c = (search needs, λ j l. absurd (omega arith))
 has-requires : tie.Need-has-requires Inv-loop μ-loop
 has-requires c κs = let p = c .before .before .before .before .pre in omega arith
 
-node-requires : tie.Need-node-requires Inv-loop μ-loop
-node-requires c κs = search needs
+form-requires : tie.Need-form-requires Inv-loop μ-loop
+form-requires c κs = search needs
 
 at-requires : tie.Need-at-requires Inv-loop μ-loop
 at-requires c κs = search needs
@@ -58,12 +59,12 @@ returns c =
     let a = c .before .before .before .before .before .before .before .before .before .before .before .args in
     let l = c .before .before .before .before .before .before .before .before .loop in
     let k = c .before .before .before .before .before .before .before .loop-test .taken in
-    let r = subst (λ (f : Node). RuleIs (a .w) (a .rows .now) (a .t .now) (formOf f) (atNode (a .e) (l .k)) (a .n)
-    (c .before .before .rule .result)) (c .before .before .before .before .node .ensures)
-    (subst (λ (y : Entry). RuleIs (a .w) (a .rows .now) (a .t .now) (formOf (c .before .before .before .before .node .result)) y (a .n)
+    let r = subst (λ (f : Option Form). RuleIs (a .w) (a .rows .now) (a .t .now) f (atNode (a .e) (l .k)) (a .n)
+    (c .before .before .rule .result)) (c .before .before .before .before .form .ensures)
+    (subst (λ (y : Entry). RuleIs (a .w) (a .rows .now) (a .t .now) (saidBy (c .before .before .before .before .form .result)) y (a .n)
     (c .before .before .rule .result)) (c .before .before .before .at .ensures) (c .before .before .rule .ensures)) in
     let g : c .before .ways .result ≡ waysOf (formHere (a .nodes .now) (l .k)) = c .before .ways .ensures
-    ∙ ap (λ (f : Node). waysOf (formOf f)) (c .before .before .before .before .node .ensures) in (
+    ∙ ap waysOf (c .before .before .before .before .form .ensures) in (
       c .before .before .before .before .before .before .before .before .before .closure .result,
       c .before .before .before .before .before .before .before .before .before .closure .ensures,
       omega arith,
@@ -89,11 +90,11 @@ loop-again c =
           → offerBelow (a .w) (a .rows .now) (a .t .now) (formHere nodes j) (atNode (a .e) j) (a .n) i ≡ a .n → ⊥) (l .k) (l .inv .1)
           (by-cases (c .if1 .came)
           (λ v h.
-          let r = subst (λ (f : Node). RuleIs (a .w) (a .rows .now) (a .t .now) (formOf f) (atNode (a .e) (l .k)) (a .n) (v .3 .result))
+          let r = subst (λ (f : Option Form). RuleIs (a .w) (a .rows .now) (a .t .now) f (atNode (a .e) (l .k)) (a .n) (v .3 .result))
           (v .1 .ensures)
-          (subst (λ (y : Entry). RuleIs (a .w) (a .rows .now) (a .t .now) (formOf (v .1 .result)) y (a .n) (v .3 .result)) (v .2 .ensures)
+          (subst (λ (y : Entry). RuleIs (a .w) (a .rows .now) (a .t .now) (saidBy (v .1 .result)) y (a .n) (v .3 .result)) (v .2 .ensures)
           (v .3 .ensures)) in
-          let g : v .4 .result ≡ waysOf (formHere nodes (l .k)) = v .4 .ensures ∙ ap (λ (f : Node). waysOf (formOf f)) (v .1 .ensures) in
+          let g : v .4 .result ≡ waysOf (formHere nodes (l .k)) = v .4 .ensures ∙ ap waysOf (v .1 .ensures) in
           r .none-there (subst (λ (i : ℕ). i ≤ v .3 .result) g (v .5 .left)))
           (λ v h. not-both (c .before .has .result) (c .before .has .ensures ∙ h) (v .left))),
     )
@@ -112,7 +113,7 @@ find-spec =
     closure-requires
     loop-holds
     has-requires
-    node-requires
+    form-requires
     at-requires
     rule-requires
     ways-requires

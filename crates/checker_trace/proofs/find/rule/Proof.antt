@@ -1,5 +1,5 @@
 use borrow.Author.Count.{below-more}
-use Rattle.usage.specs.Outline.{formOf}
+use Rattle.outline_nodes.specs.Said.{saidBy}
 use Rattle.checker_trace.specs.Code.{offerBelow}
 use native.Mathlib.Omega.{arith}
 use mathlib.Core.Path.{_≡_, sym, _∙_}
@@ -13,7 +13,7 @@ use Rattle.checker_lengths.proofs.offers.offer.Reads as offer-reads
 use Rattle.checker_lengths.proofs.offers.ways.Reads as ways-reads
 
 abbrev Inv-loop : tie.InvT-loop
-Inv-loop t rows w f e n ways c₀ c = (c ≤ ways) × ((i : ℕ) → i < c → offerBelow w rows t (formOf f) e n i ≡ n → ⊥)
+Inv-loop t rows w f e n ways c₀ c = (c ≤ ways) × ((i : ℕ) → i < c → offerBelow w rows t (saidBy f) e n i ≡ n → ⊥)
 
 abbrev μ-loop : tie.MeasureT-loop
 μ-loop t rows w f e n ways c₀ c = ways - c
@@ -46,7 +46,7 @@ loop-again c =
     let a = c .before .before .before .before .before .args in
     let l = c .before .before .before .loop in (
       search needs,
-      below-more (λ (i : ℕ). offerBelow (a .w) (a .rows .now) (a .t .now) (formOf (a .f)) (a .e) (a .n) i ≡ a .n → ⊥) (l .c)
+      below-more (λ (i : ℕ). offerBelow (a .w) (a .rows .now) (a .t .now) (saidBy (a .f)) (a .e) (a .n) i ≡ a .n → ⊥) (l .c)
           (l .inv .1) (λ h. c .if1 .left (c .before .offer .ensures ∙ h)),
     )
 

@@ -6,8 +6,6 @@ use mathlib.Core.Path.{ap₂}
 use mathlib.Core.Bool.{Bool}
 use lib.Bits.{bitOr}
 use Rattle.automaton.specs.Mask.{has}
-use Rattle.usage.specs.declared.Node.{Node}
-use Rattle.usage.specs.Outline.{formOf}
 use Rattle.checker_lengths.specs.Filling.{formHere}
 use Rattle.checker_trace.specs.Code.{spreadTo, joinIf, leadsFrom}
 use native.Mathlib.Omega.{arith}
@@ -19,7 +17,7 @@ use Rattle.checker_trace.proofs.find.spread.Statement.{statement}
 use Rattle.checker_trace.proofs.find.spread.Tie as tie
 use Rattle.checker_trace.proofs.find.spread.Reads as reads
 use Rattle.checker_trace.proofs.find.spread.Lts as lts
-use Rattle.checker_lengths.proofs.nodes.node.Reads as node-reads
+use Rattle.outline_nodes.proofs.form.Reads as form-reads
 use Rattle.checker_trace.proofs.find.has.Reads as has-reads
 use Rattle.checker_trace.proofs.find.leads.Reads as leads-reads
 
@@ -36,8 +34,8 @@ loop-holds c = (search needs, refl)
 has-requires : tie.Need-has-requires Inv-loop μ-loop
 has-requires c κs = search needs
 
-node-requires : tie.Need-node-requires Inv-loop μ-loop
-node-requires c κs = search needs
+form-requires : tie.Need-form-requires Inv-loop μ-loop
+form-requires c κs = search needs
 
 leads-requires : tie.Need-leads-requires Inv-loop μ-loop
 leads-requires c κs = search needs
@@ -59,7 +57,7 @@ loop-again c =
       omega arith,
       rw (add-one (l .k))
           (by-cases (c .if1 .came)
-          (λ v. v .3 ∙ ap₂ bitOr (l .inv .1) (v .2 .ensures ∙ ap (λ (f : Node). leadsFrom (a .t .now) (a .e) (formOf f)) (v .1 .ensures))
+          (λ v. v .3 ∙ ap₂ bitOr (l .inv .1) (v .2 .ensures ∙ ap (leadsFrom (a .t .now) (a .e)) (v .1 .ensures))
           ∙ sym (ap (λ (b : Bool). joinIf b u (leadsFrom (a .t .now) (a .e) (formHere (a .nodes .now) (l .k)))) (h ∙ v .0 .taken)))
           (λ v. v .1 ∙ l .inv .1 ∙ sym (ap (λ (b : Bool). joinIf b u (leadsFrom (a .t .now) (a .e) (formHere (a .nodes .now) (l .k))))
           (h ∙ v .0 .left)))),
@@ -77,7 +75,7 @@ spread-spec =
     μ-loop
     loop-holds
     has-requires
-    node-requires
+    form-requires
     leads-requires
     add-k
     loop-less

@@ -2,7 +2,7 @@ use Rattle.checker_trace.proofs.StepLaws.{stored-length}
 use mathlib.Core.Path.{subst}
 use mathlib.Core.List.{List}
 use lib.ListN.{length-set}
-use Rattle.usage.specs.Outline.{formOf}
+use Rattle.outline_nodes.specs.Said.{saidBy}
 use Rattle.checker_lengths.specs.declared.Entry.{Entry}
 use Rattle.checker_lengths.specs.Entries.{held}
 use Rattle.checker_lengths.specs.Filling.{formHere}
@@ -22,7 +22,7 @@ use Rattle.checker_trace.proofs.PartLaws.{
   around-end,
 }
 use Rattle.checker_trace.proofs.FreshLaws.{wrote-born, wrote-fresh}
-use Rattle.checker_trace.proofs.KindLaws.{form-1, form-2, form-3, form-7, form-8, chosen-other}
+use Rattle.checker_trace.proofs.KindLaws.{chosen-other}
 use native.Mathlib.Omega.{arith}
 use mathlib.Core.Path.{_≡_, refl, sym, ap, _∙_}
 use Prim.Native.Nat.{ℕ, _+_, _-_, _*_, _≤_, _<_}
@@ -47,7 +47,7 @@ use Rattle.checker_lengths.proofs.offers.body.Reads as body-reads
 use Rattle.checker_lengths.proofs.offers.first.Reads as first-reads
 use Rattle.checker_lengths.proofs.offers.inner.Reads as inner-reads
 use Rattle.checker_lengths.proofs.offers.second.Reads as second-reads
-use Rattle.checker_lengths.proofs.nodes.node.Reads as node-reads
+use Rattle.outline_nodes.proofs.form.Reads as form-reads
 use Rattle.checker_trace.proofs.find.find.Reads as find-reads
 use Rattle.checker_trace.proofs.write.create.Reads as create-reads
 use Rattle.checker_trace.proofs.write.give.Reads as give-reads
@@ -119,8 +119,8 @@ abbrev write-known : ℕ → write-lts.Claims
 write-known t = (
   find-reads.Asked,
   find-reads.Learnt,
-  node-reads.Asked,
-  node-reads.Learnt,
+  form-reads.Asked,
+  form-reads.Learnt,
   step-reads.Asked,
   step-reads.Learnt,
   name-reads.Asked,
@@ -207,8 +207,23 @@ write-returns-2 t c = let a = c .before .before .before .before .before .before 
       ),
     )
 
-write-node-requires : (t : ℕ) → write-lts.Need-node-requires (write-known t) (write-at t) write.Post
-write-node-requires t c κs = search needs
+write-form-requires : (t : ℕ) → write-lts.Need-form-requires (write-known t) (write-at t) write.Post
+write-form-requires t c κs = search needs
+
+write-enum-known-f : (t : ℕ) → write-lts.Need-enum-known-f (write-known t) (write-at t) write.Post
+write-enum-known-f t c = search needs
+
+write-enum-known-f-2 : (t : ℕ) → write-lts.Need-enum-known-f-2 (write-known t) (write-at t) write.Post
+write-enum-known-f-2 t c = search needs
+
+write-enum-known-f-3 : (t : ℕ) → write-lts.Need-enum-known-f-3 (write-known t) (write-at t) write.Post
+write-enum-known-f-3 t c = search needs
+
+write-enum-known-f-4 : (t : ℕ) → write-lts.Need-enum-known-f-4 (write-known t) (write-at t) write.Post
+write-enum-known-f-4 t c = search needs
+
+write-enum-known-f-5 : (t : ℕ) → write-lts.Need-enum-known-f-5 (write-known t) (write-at t) write.Post
+write-enum-known-f-5 t c = search needs
 
 write-cast-step : (t : ℕ) → write-lts.Need-cast-step (write-known t) (write-at t) write.Post
 write-cast-step t c = search needs
@@ -235,84 +250,77 @@ write-name-requires t c κs = search needs
 
 write-step-requires-2 : (t : ℕ) → write-lts.Need-step-requires-2 (write-known t) (write-at t) write.Post
 write-step-requires-2 t c κs = let a =
-    c .before .before .before .before .before .before .before .before .before .before .before .before .args in
+    c .before .before .before .before .before .before .before .before .before .before .before .before .before .args in
+    let p = c .before .before .before .before .before .before .before .before .before .before .before .before .before .pre .1 in
+    let mz = c .before .before .before .before .before .before .before .before .before .before .before .before .before .pre .0 in
+    let few = p .1 .0 in
+    let room = p .1 .1 .0 in
+    let fresh-room = p .1 .1 .1 in
+    let one : 1 ≤ a .n = omega (arith, c .before .before .before .before .before .before .before .before .before .before .if1 .left) in
+    omega arith
+
+write-write-sequence-requires : (t : ℕ) → write-lts.Need-write-sequence-requires (write-known t) (write-at t) write.Post
+write-write-sequence-requires t c κs = let a = c .before .before .before .before .before .before .before .before .before .before .before .before .args in
     let p = c .before .before .before .before .before .before .before .before .before .before .before .before .pre .1 in
     let mz = c .before .before .before .before .before .before .before .before .before .before .before .before .pre .0 in
     let few = p .1 .0 in
     let room = p .1 .1 .0 in
     let fresh-room = p .1 .1 .1 in
+    let on = subst (OntoIs (a .w) (a .rows .now) (a .nodes .now) (a .t .now) (a .e) (a .n)) (c .before .before .before .before .before .before .o .given .1)
+    (c .before .before .before .before .before .before .before .before .find .ensures) in
+    let k = c .before .before .before .before .before .before .o .given .0 .0 in
+    let r = c .before .before .before .before .before .before .o .given .0 .1 .0 in
+    let form = sym (c .before .before .before .before .form .ensures) ∙ ap saidBy (c .before .before .f3 .given .1) in
     let one : 1 ≤ a .n = omega (arith, c .before .before .before .before .before .before .before .before .before .if1 .left) in
-    omega arith
-
-write-write-sequence-requires : (t : ℕ) → write-lts.Need-write-sequence-requires (write-known t) (write-at t) write.Post
-write-write-sequence-requires t c κs = let a = c .before .before .before .before .before .before .before .before .before .before .args in
-    let p = c .before .before .before .before .before .before .before .before .before .before .pre .1 in
-    let mz = c .before .before .before .before .before .before .before .before .before .before .pre .0 in
-    let few = p .1 .0 in
-    let room = p .1 .1 .0 in
-    let fresh-room = p .1 .1 .1 in
-    let on = subst (OntoIs (a .w) (a .rows .now) (a .nodes .now) (a .t .now) (a .e) (a .n)) (c .before .before .before .before .o .given .1)
-    (c .before .before .before .before .before .before .find .ensures) in
-    let k = c .before .before .before .before .o .given .0 .0 in
-    let r = c .before .before .before .before .o .given .0 .1 .0 in
-    let fm : formHere (a .nodes .now) k ≡ formOf (c .before .before .node .result) = sym (ap formOf (c .before .before .node .ensures)) in
-    let form = fm ∙ form-3 (c .before .before .node .result) (c .before .match2 .keys3) in
-    let one : 1 ≤ a .n = omega (arith, c .before .before .before .before .before .before .before .if1 .left) in
     (omega arith, (p, ((k, on, form), one)))
 
 write-write-fresh-requires : (t : ℕ) → write-lts.Need-write-fresh-requires (write-known t) (write-at t) write.Post
-write-write-fresh-requires t c κs = let a = c .before .before .before .before .before .before .before .before .before .before .args in
-    let p = c .before .before .before .before .before .before .before .before .before .before .pre .1 in
-    let mz = c .before .before .before .before .before .before .before .before .before .before .pre .0 in
+write-write-fresh-requires t c κs = let a = c .before .before .before .before .before .before .before .before .before .before .before .before .args in
+    let p = c .before .before .before .before .before .before .before .before .before .before .before .before .pre .1 in
+    let mz = c .before .before .before .before .before .before .before .before .before .before .before .before .pre .0 in
     let few = p .1 .0 in
     let room = p .1 .1 .0 in
     let fresh-room = p .1 .1 .1 in
-    let on = subst (OntoIs (a .w) (a .rows .now) (a .nodes .now) (a .t .now) (a .e) (a .n)) (c .before .before .before .before .o .given .1)
-    (c .before .before .before .before .before .before .find .ensures) in
-    let k = c .before .before .before .before .o .given .0 .0 in
-    let r = c .before .before .before .before .o .given .0 .1 .0 in
-    let fm : formHere (a .nodes .now) k ≡ formOf (c .before .before .node .result) = sym (ap formOf (c .before .before .node .ensures)) in
-    let form = fm ∙ form-7 (c .before .before .node .result) (c .before .match2 .keys4) in
-    let one : 1 ≤ a .n = omega (arith, c .before .before .before .before .before .before .before .if1 .left) in
+    let on = subst (OntoIs (a .w) (a .rows .now) (a .nodes .now) (a .t .now) (a .e) (a .n)) (c .before .before .before .before .before .before .o .given .1)
+    (c .before .before .before .before .before .before .before .before .find .ensures) in
+    let k = c .before .before .before .before .before .before .o .given .0 .0 in
+    let r = c .before .before .before .before .before .before .o .given .0 .1 .0 in
+    let form = sym (c .before .before .before .before .form .ensures) ∙ ap saidBy (c .before .before .f4 .given .1) in
+    let one : 1 ≤ a .n = omega (arith, c .before .before .before .before .before .before .before .before .before .if1 .left) in
     (omega arith, (p, ((k, on, form), one)))
 
 write-write-sandbox-requires : (t : ℕ) → write-lts.Need-write-sandbox-requires (write-known t) (write-at t) write.Post
-write-write-sandbox-requires t c κs = let a = c .before .before .before .before .before .before .before .before .before .before .args in
-    let p = c .before .before .before .before .before .before .before .before .before .before .pre .1 in
-    let mz = c .before .before .before .before .before .before .before .before .before .before .pre .0 in
+write-write-sandbox-requires t c κs = let a = c .before .before .before .before .before .before .before .before .before .before .before .before .args in
+    let p = c .before .before .before .before .before .before .before .before .before .before .before .before .pre .1 in
+    let mz = c .before .before .before .before .before .before .before .before .before .before .before .before .pre .0 in
     let few = p .1 .0 in
     let room = p .1 .1 .0 in
     let fresh-room = p .1 .1 .1 in
-    let on = subst (OntoIs (a .w) (a .rows .now) (a .nodes .now) (a .t .now) (a .e) (a .n)) (c .before .before .before .before .o .given .1)
-    (c .before .before .before .before .before .before .find .ensures) in
-    let k = c .before .before .before .before .o .given .0 .0 in
-    let r = c .before .before .before .before .o .given .0 .1 .0 in
-    let fm : formHere (a .nodes .now) k ≡ formOf (c .before .before .node .result) = sym (ap formOf (c .before .before .node .ensures)) in
-    let form = fm ∙ form-8 (c .before .before .node .result) (c .before .match2 .keys5) in
-    let one : 1 ≤ a .n = omega (arith, c .before .before .before .before .before .before .before .if1 .left) in
+    let on = subst (OntoIs (a .w) (a .rows .now) (a .nodes .now) (a .t .now) (a .e) (a .n)) (c .before .before .before .before .before .before .o .given .1)
+    (c .before .before .before .before .before .before .before .before .find .ensures) in
+    let k = c .before .before .before .before .before .before .o .given .0 .0 in
+    let r = c .before .before .before .before .before .before .o .given .0 .1 .0 in
+    let form = sym (c .before .before .before .before .form .ensures) ∙ ap saidBy (c .before .before .f5 .given .1) in
+    let one : 1 ≤ a .n = omega (arith, c .before .before .before .before .before .before .before .before .before .if1 .left) in
     (omega arith, (p, ((k, on, form), one)))
 
 write-same-length : (t : ℕ) → write-lts.Need-same-length (write-known t) (write-at t) write.Post
 write-same-length t c = let a =
     c .before .before .before .before .before .before .before .before .before .before .before .before .before .before .before .args in
-    let p = c .before .before .before .before .before .before .before .before
-    .before .before .before .before .before .before .before .pre .1 in
-    let mz = c .before .before .before .before .before .before .before .before
-    .before .before .before .before .before .before .before .pre .0 in
+    let p = c .before .before .before .before .before .before .before .before .before .before .before .before .before .before .before .pre .1 in
+    let mz = c .before .before .before .before .before .before .before .before .before .before .before .before .before .before .before .pre .0 in
     let few = p .1 .0 in
     let room = p .1 .1 .0 in
     let fresh-room = p .1 .1 .1 in
     ap length (c .before .before .step .ensures .0)
-    ∙ stored-length (a .trace .now) (a .s .at) 0 (c .before .before .before .before .before .before .before .node .result .a)
-    (c .before .before .before .before .before .before .before .node .result .b)
+    ∙ stored-length (a .trace .now) (a .s .at) 0 (c .before .before .before .before .before .f .given .0 .0)
+    (c .before .before .before .before .before .f .given .0 .1 .0)
 
 write-returns-3 : (t : ℕ) → write-lts.Need-returns-3 (write-known t) (write-at t) write.Post
 write-returns-3 t c = let a =
     c .before .before .before .before .before .before .before .before .before .before .before .before .before .before .before .args in
-    let p = c .before .before .before .before .before .before .before .before
-    .before .before .before .before .before .before .before .pre .1 in
-    let mz = c .before .before .before .before .before .before .before .before
-    .before .before .before .before .before .before .before .pre .0 in
+    let p = c .before .before .before .before .before .before .before .before .before .before .before .before .before .before .before .pre .1 in
+    let mz = c .before .before .before .before .before .before .before .before .before .before .before .before .before .before .before .pre .0 in
     let few = p .1 .0 in
     let room = p .1 .1 .0 in
     let fresh-room = p .1 .1 .1 in
@@ -323,75 +331,65 @@ write-returns-3 t c = let a =
     (c .before .before .before .before .before .before .before .before .before .before .before .find .ensures) in
     let k = c .before .before .before .before .before .before .before .before .before .o .given .0 .0 in
     let r = c .before .before .before .before .before .before .before .before .before .o .given .0 .1 .0 in
-    let fm : formHere (a .nodes .now) k ≡ formOf (c .before .before .before .before .before .before .before .node .result) =
-    sym (ap formOf (c .before .before .before .before .before .before .before .node .ensures)) in
-    let form = fm ∙ form-1 (c .before .before .before .before .before .before .before .node .result)
-    (c .before .before .before .before .before .before .match2 .keys1) in
+    let form = sym (c .before .before .before .before .before .before .before .form .ensures) ∙ ap saidBy (c .before .before .before .before .before .f .given .1) in
     let made = c .before .before .step .ensures .1 in
     let at = ap (λ (y : Spot). y .at) made in
     let nx = ap (λ (y : Spot). y .next) made in (
       ap length (c .before .before .step .ensures .0)
-          ∙ stored-length (a .trace .now) (a .s .at) 0 (c .before .before .before .before .before .before .before .node .result .a)
-          (c .before .before .before .before .before .before .before .node .result .b),
+          ∙ stored-length (a .trace .now) (a .s .at) 0 (c .before .before .before .before .before .f .given .0 .0)
+          (c .before .before .before .before .before .f .given .0 .1 .0),
       (
         record { at = omega arith; next = omega arith },
         laws.wrote-static (a .w) (a .rows .now) (a .nodes .now) (a .t .now) (a .e) (a .n) (a .g) (a .s) (a .trace .now) (p .0) few k r on
-            (c .before .before .before .before .before .before .before .node .result .a)
-            (c .before .before .before .before .before .before .before .node .result .b) form (c .before .before .step .result) made
+            (c .before .before .before .before .before .f .given .0 .0)
+            (c .before .before .before .before .before .f .given .0 .1 .0) form (c .before .before .step .result) made
             (c .before .before .step .last .0) (c .before .before .step .ensures .0),
       ),
     )
 
 write-same-length-2 : (t : ℕ) → write-lts.Need-same-length-2 (write-known t) (write-at t) write.Post
 write-same-length-2 t c = let a =
-    c .before .before .before .before .before .before .before .before .before .before .before .before .before .before .before .args in
-    let p = c .before .before .before .before .before .before .before .before
-    .before .before .before .before .before .before .before .pre .1 in
-    let mz = c .before .before .before .before .before .before .before .before
-    .before .before .before .before .before .before .before .pre .0 in
+    c .before .before .before .before .before .before .before .before .before .before .before .before .before .before .before .before .args in
+    let p = c .before .before .before .before .before .before .before .before .before .before .before .before .before .before .before .before .pre .1 in
+    let mz = c .before .before .before .before .before .before .before .before .before .before .before .before .before .before .before .before .pre .0 in
     let few = p .1 .0 in
     let room = p .1 .1 .0 in
     let fresh-room = p .1 .1 .1 in
     ap length (c .before .before .step2 .ensures .0)
-    ∙ stored-length (a .trace .now) (a .s .at) 0 (c .before .before .before .before .before .before .before .node .result .a)
+    ∙ stored-length (a .trace .now) (a .s .at) 0 (c .before .before .before .before .before .before .f2 .given .0 .0)
     (c .before .before .before .name .result)
 
 write-returns-4 : (t : ℕ) → write-lts.Need-returns-4 (write-known t) (write-at t) write.Post
 write-returns-4 t c = let a =
-    c .before .before .before .before .before .before .before .before .before .before .before .before .before .before .before .args in
-    let p = c .before .before .before .before .before .before .before .before
-    .before .before .before .before .before .before .before .pre .1 in
-    let mz = c .before .before .before .before .before .before .before .before
-    .before .before .before .before .before .before .before .pre .0 in
+    c .before .before .before .before .before .before .before .before .before .before .before .before .before .before .before .before .args in
+    let p = c .before .before .before .before .before .before .before .before .before .before .before .before .before .before .before .before .pre .1 in
+    let mz = c .before .before .before .before .before .before .before .before .before .before .before .before .before .before .before .before .pre .0 in
     let few = p .1 .0 in
     let room = p .1 .1 .0 in
     let fresh-room = p .1 .1 .1 in
     let one : 1 ≤ a .n = omega
-    (arith, c .before .before .before .before .before .before .before .before .before .before .before .before .if1 .left) in
+    (arith, c .before .before .before .before .before .before .before .before .before .before .before .before .before .if1 .left) in
     let on = subst (OntoIs (a .w) (a .rows .now) (a .nodes .now) (a .t .now) (a .e) (a .n))
-    (c .before .before .before .before .before .before .before .before .before .o .given .1)
-    (c .before .before .before .before .before .before .before .before .before .before .before .find .ensures) in
-    let k = c .before .before .before .before .before .before .before .before .before .o .given .0 .0 in
-    let r = c .before .before .before .before .before .before .before .before .before .o .given .0 .1 .0 in
-    let fm : formHere (a .nodes .now) k ≡ formOf (c .before .before .before .before .before .before .before .node .result) =
-    sym (ap formOf (c .before .before .before .before .before .before .before .node .ensures)) in
-    let form = fm ∙ form-2 (c .before .before .before .before .before .before .before .node .result)
-    (c .before .before .before .before .before .before .match2 .keys2) in
+    (c .before .before .before .before .before .before .before .before .before .before .o .given .1)
+    (c .before .before .before .before .before .before .before .before .before .before .before .before .find .ensures) in
+    let k = c .before .before .before .before .before .before .before .before .before .before .o .given .0 .0 in
+    let r = c .before .before .before .before .before .before .before .before .before .before .o .given .0 .1 .0 in
+    let form = sym (c .before .before .before .before .before .before .before .before .form .ensures) ∙ ap saidBy (c .before .before .before .before .before .before .f2 .given .1) in
     let made = c .before .before .step2 .ensures .1 in
     let at = ap (λ (y : Spot). y .at) made in
     let nx = ap (λ (y : Spot). y .next) made in (
       ap length (c .before .before .step2 .ensures .0)
-          ∙ stored-length (a .trace .now) (a .s .at) 0 (c .before .before .before .before .before .before .before .node .result .a)
+          ∙ stored-length (a .trace .now) (a .s .at) 0 (c .before .before .before .before .before .before .f2 .given .0 .0)
           (c .before .before .before .name .result),
       (
         record { at = omega arith; next = omega arith },
         laws.wrote-name (a .w) (a .rows .now) (a .nodes .now) (a .t .now) (a .e) (a .n) (a .g) (a .s) (a .trace .now) (p .0) few k r on
-            (c .before .before .before .before .before .before .before .node .result .a)
-            (c .before .before .before .before .before .before .before .node .result .b) form (c .before .before .step2 .result) made
+            (c .before .before .before .before .before .before .f2 .given .0 .0)
+            (c .before .before .before .before .before .before .f2 .given .0 .1 .0) form (c .before .before .step2 .result) made
             (c .before .before .step2 .last .0)
             (c .before .before .step2 .ensures .0 ∙ ap
             (λ (y : ℕ). storedStep (a .trace .now) (a .s .at) 0
-            (c .before .before .before .before .before .before .before .node .result .a) y) (c .before .before .before .name .ensures)),
+            (c .before .before .before .before .before .before .f2 .given .0 .0) y) (c .before .before .before .name .ensures)),
       ),
     )
 
@@ -425,10 +423,8 @@ write-returns-8 t c = let a = c .before .before .before .before .before .before 
     (c .before .before .before .before .before .find .ensures) in
     let k = c .before .before .before .o .given .0 .0 in
     let r = c .before .before .before .o .given .0 .1 .0 in
-    let rest = c .match2 .rest in
-    let f = c .before .node .result in
-    absurd (chosen-other (a .w) (a .rows .now) (a .nodes .now) (a .t .now) (a .e) (a .n) r few one (f .a) (f .b) (f .kind)
-    (rest .0 .0 .0 .0 .1) (rest .0 .0 .0 .1) (rest .0 .0 .1) (rest .0 .1) (rest .1) (k, on, sym (ap formOf (c .before .node .ensures))))
+    absurd (chosen-other (a .w) (a .rows .now) (a .nodes .now) (a .t .now) (a .e) (a .n) r few one (c .before .form .result) (c .match2 .keys6)
+    (k, on, sym (c .before .form .ensures)))
 
 write-fresh-create-requires : (t : ℕ) → write-fresh-lts.Need-create-requires (write-fresh-known t) (write-fresh-at t) write-fresh.Post
 write-fresh-create-requires t c κs = let a = c .before .before .before .args in
@@ -954,15 +950,20 @@ pub +write+write-fresh+write-sandbox+write-sequence-spec : {M : Type 1} → stat
     (write-enum-known-o t)
     (write-enum-told t)
     (write-returns-2 t)
-    (write-node-requires t)
+    (write-form-requires t)
+    (write-enum-known-f t)
     (write-cast-step t)
     (write-cast-step-2 t)
     (write-step-requires t)
+    (write-enum-known-f-2 t)
     (write-cast-step-3 t)
     (write-name-requires t)
     (write-step-requires-2 t)
+    (write-enum-known-f-3 t)
     (write-write-sequence-requires t)
+    (write-enum-known-f-4 t)
     (write-write-fresh-requires t)
+    (write-enum-known-f-5 t)
     (write-write-sandbox-requires t)
     (write-same-length t)
     (write-returns-3 t)
