@@ -8,8 +8,9 @@
  * with a state of its own.
  *
  * Stack: each function takes less than the bytes that WIFOREKUN_..._STACK tells, memcpy and memset aside. tests/api measures them with a
- * painted stack on all stored cases. One function alone calls itself: that which writes a counterexample, once for each of at most 200
- * steps, with less than 640 bytes each time; tests/api/deepest goes as deep as that.
+ * painted stack on all stored cases. Three calls go deep: a counterexample is written by a function that calls itself once for each of at
+ * most 200 steps, with less than 640 bytes each time, and tests/api/deepest goes as deep as that; the readers of an expression call each
+ * other once for each of at most 32 brackets, which the stored cases do; and a number is printed digit by digit, at most 20.
  *
  * Asked of every call, and not tested: a pointer is not null and points to as many elements as is told, also where that is 0; it has its
  * type's alignment; and an array that is lent to be changed overlaps no other.
@@ -30,6 +31,12 @@
 #define WIFOREKUN_REPORT_TRACE_STACK 131072
 #define WIFOREKUN_REPORT_OUTLINE_STACK 65536
 #define WIFOREKUN_REPORT_COUNTEREXAMPLE_STACK 262144
+#define WIFOREKUN_SUMMARY_STACK 32768
+#define WIFOREKUN_JUDGE_LEAN_STACK 4096
+#define WIFOREKUN_REPORT_SUMMARY_STACK 65536
+#define WIFOREKUN_READ_EXPRESSION_STACK 32768
+#define WIFOREKUN_REPORT_EXPRESSION_STACK 32768
+#define WIFOREKUN_WRITE_POLICIES_STACK 65536
 
 #ifdef __cplusplus
 extern "C" {
@@ -154,12 +161,15 @@ static inline uint32_t wiforekun_judge_lean(struct wiforekun_state *state, const
 #define WIFOREKUN_TRACE_ROOM 20019
 #define WIFOREKUN_OUTLINE_ROOM 28
 #define WIFOREKUN_COUNTEREXAMPLE_TEXT_ROOM 1809
+#define WIFOREKUN_SUMMARY_TEXT_ROOM 1334
 size_t wiforekun_report_trace(const uint8_t *policies, size_t policies_length, const uint8_t *trace, size_t trace_length, uint8_t *out,
                               size_t out_length);
 size_t wiforekun_report_outline(const uint8_t *policies, size_t policies_length, const uint8_t *outline, size_t outline_length,
                                 uint8_t *out, size_t out_length);
 size_t wiforekun_report_counterexample(const uint8_t *policies, size_t policies_length, const uint8_t *outline, size_t outline_length,
                                        uint8_t *out, size_t out_length);
+size_t wiforekun_report_summary(const uint8_t *policies, size_t policies_length, const uint8_t *outline, size_t outline_length,
+                                uint8_t *out, size_t out_length);
 
 /* The table of nodes of an outline that is typed as an expression, from its bytes: the nodes are written to `table`, and how many there are,
  * 1 to 64, is the answer. Bytes after them keep their contents. A refusal writes nothing and answers 512 and its number, and 65536 more where

@@ -5,7 +5,7 @@ They are derived from the sheets alone. Where that does not lead to what was pri
 
 import sheets
 from folders import ALLOWED, REFUSED, VIOLATED, Differs, meaning, read_sheets, same, sheet_refused
-from names import edge_words, node_words, step_words
+from names import broken_by, edge_words, node_words, step_words
 from refusals import refusal
 from sheets import OFFENDING
 from violations import Run, violated
@@ -105,8 +105,10 @@ def explain_policies(folder, rows):
 
 def outline_refused(folder, policies, nodes, policy):
     told = folder.names.tell("policy", policy)
-    first = f"{sheets.OUTLINE_SHEET.file}: refused: some run leaves {told} open and broken"
-    return [first, *opened_words(folder, policies, nodes, policy), "  ./wiforekun why FOLDER shows a shortest run that does"]
+    first = [f"{sheets.OUTLINE_SHEET.file}: refused: some run leaves {told} open and broken"]
+    if folder.marks is not None:
+        first.append(f"  {broken_by(folder.names, folder.marks, policy)}")
+    return [*first, *opened_words(folder, policies, nodes, policy), "  ./wiforekun why FOLDER shows a shortest run that does"]
 
 
 def opened_words(folder, policies, nodes, policy):

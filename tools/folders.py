@@ -36,6 +36,8 @@ class Folder:
         self.names = Names.of_folder(path)
         # the sheets whose refusal is told already
         self.refused = set()
+        # the (policy, action) marks of the outline, where its summary is told of too
+        self.marks = None
         self.data = {kind: sheets.load(os.path.join(path, kind.file)) for kind in sheets.SHEETS}
         self.typed = expressions.of_folder(path)
         if self.typed:

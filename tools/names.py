@@ -4,7 +4,7 @@ import os
 import re
 
 from sheets import BACK, CLOSE, CREATE, EITHER, END, EVENT, FRESH, LAST_ACTION, LAST_RESOURCE, LOOP, NAMED, ON_OTHERS, ON_STATIC, ON_X, OPEN
-from sheets import OUTLINE_SHEET, POLICIES, RETIRE, SANDBOX, STATIC, STATICS, THEN
+from sheets import OPENING, OUTLINE_SHEET, POLICIES, RETIRE, SANDBOX, STATIC, STATICS, THEN
 
 
 UTF_16 = "a byte-order mark of UTF-16"
@@ -121,3 +121,15 @@ def node_words(names, node):
         FRESH: f"fresh: name {a}, then node {b}",
         SANDBOX: f"sandbox: node {b} under {names.tell('policy', a)}",
     }[kind]
+
+
+def mark_words(names, action):
+    """What a mark of a summary says of a step."""
+    return "its opening" if action == OPENING else names.tell("action", action)
+
+
+def broken_by(names, marks, policy):
+    """As `policy 1 can be broken only by action 4 'drive'`, of the (policy, action) marks of an outline."""
+    steps = [mark_words(names, action) for marked, action in marks if marked == policy]
+    told = steps[0] if len(steps) == 1 else ", ".join(steps[:-1]) + " and " + steps[-1]
+    return f"{names.tell('policy', policy)} can be broken only by {told}"

@@ -14,6 +14,8 @@ report() {
     if has_outline; then
         check && [ "$found" != 2 ] && printf %s "$out" >"$work/check" || return 1
         checked=$out
+        marked && printf %s "$out" >"$work/summary" || return 1
+        out=$checked
         # of a refused expression there is no outline to look for one
         [ -n "$refusal" ] || ran outline_counterexample "$place" || return 1
         fits && printf %s "$out" >"$work/counterexample" || return 1

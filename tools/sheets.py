@@ -16,6 +16,8 @@ CREATE = 0
 MOST_LIVE = 64
 MOST_UNCLOSED = 64
 LAST_ACTION = 31
+# what stands for the opening of a policy where a summary has an action
+OPENING = LAST_ACTION + 1
 LAST_RESOURCE = 4_294_967_295
 DIGITS = 10
 

@@ -225,6 +225,7 @@ static void reports(void) {
     static const char outline[] = "node kind a b\n0 8 0 1\n1 1 2 3\n";
     static const char judged[] = "line answer detail\n2 0 0\n3 1 0\n", checked[] = "line answer detail\n0 1 0\n";
     static const char shown[] = "kind a b\n1 0 0\n0 2 3\n";
+    static const char marked[] = "policy action\n0 2\n", refused[] = "line answer detail\n1 5 1\n";
     uint8_t *out = malloc(WIFOREKUN_TRACE_ROOM);
     REQUIRE(out != NULL);
     memset(out, MARK, WIFOREKUN_TRACE_ROOM);
@@ -233,6 +234,7 @@ static void reports(void) {
     REQUIRE(wiforekun_report_trace(p.bytes, p.size, t.bytes, t.size, out, WIFOREKUN_TRACE_ROOM - 1) == 0);
     REQUIRE(wiforekun_report_outline(p.bytes, p.size, o.bytes, o.size, out, WIFOREKUN_OUTLINE_ROOM - 1) == 0);
     REQUIRE(wiforekun_report_counterexample(p.bytes, p.size, o.bytes, o.size, out, WIFOREKUN_COUNTEREXAMPLE_TEXT_ROOM - 1) == 0);
+    REQUIRE(wiforekun_report_summary(p.bytes, p.size, o.bytes, o.size, out, WIFOREKUN_SUMMARY_TEXT_ROOM - 1) == 0);
     for (size_t i = 0; i < WIFOREKUN_TRACE_ROOM; i++) REQUIRE(out[i] == MARK);
     REQUIRE(wiforekun_report_trace(p.bytes, p.size, t.bytes, t.size, out, WIFOREKUN_TRACE_ROOM) == strlen(judged));
     REQUIRE(!memcmp(out, judged, strlen(judged)) && out[strlen(judged)] == MARK);
@@ -246,6 +248,11 @@ static void reports(void) {
     memset(out, MARK, WIFOREKUN_TRACE_ROOM);
     REQUIRE(wiforekun_report_counterexample(p.bytes, p.size, o.bytes, o.size, out, WIFOREKUN_COUNTEREXAMPLE_TEXT_ROOM) == strlen(shown));
     REQUIRE(!memcmp(out, shown, strlen(shown)) && out[strlen(shown)] == MARK);
+    memset(out, MARK, WIFOREKUN_TRACE_ROOM);
+    REQUIRE(wiforekun_report_summary(p.bytes, p.size, o.bytes, o.size, out, WIFOREKUN_SUMMARY_TEXT_ROOM) == strlen(marked));
+    REQUIRE(!memcmp(out, marked, strlen(marked)) && out[strlen(marked)] == MARK);
+    REQUIRE(wiforekun_report_summary(p.bytes, p.size, t.bytes, t.size, out, WIFOREKUN_SUMMARY_TEXT_ROOM) == strlen(refused));
+    REQUIRE(!memcmp(out, refused, strlen(refused)) && out[strlen(refused)] == MARK);
 }
 
 int main(void) {

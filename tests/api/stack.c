@@ -1,6 +1,6 @@
 /* stack CASE..: how much stack each function takes on the sheets of these cases: it runs on a painted stack of its own, of which the lowest
- * byte that was touched is looked for. A CASE is POLICIES:OTHER:KIND, two files, and t for a trace or o for an outline. Prints a line for
- * each function: its name and the bytes. */
+ * byte that was touched is looked for. A CASE is POLICIES:OTHER:KIND, two files, and t for a trace, o for an outline or e for an expression.
+ * Prints a line for each function: its name and the bytes. */
 #define _DEFAULT_SOURCE
 #include "wiforekun.h"
 #include <stdint.h>
@@ -18,11 +18,12 @@ static uint8_t *stack;
 static ucontext_t here, there;
 static void (*task)(void);
 
-static uint8_t policies[MOST], other[MOST], edges[6 * 256], nodes[3 * 64], out[WIFOREKUN_TRACE_ROOM];
+static uint8_t policies[MOST], other[MOST], edges[6 * 256], nodes[WIFOREKUN_NODES_ROOM], out[WIFOREKUN_SHEET_ROOM];
 static size_t policies_length, other_length, edges_length, nodes_length;
 static uint32_t local, steps[3 * 2000], trace[WIFOREKUN_COUNTEREXAMPLE_ROOM];
 static size_t step_count;
 static struct wiforekun_state state;
+static uint64_t marks[WIFOREKUN_MARKS_LENGTH], refusal[WIFOREKUN_REFUSAL_LENGTH];
 
 static void enter(void) {
     task();
@@ -64,6 +65,34 @@ static void counterexample(void) {
     (void)wiforekun_counterexample(edges, edges_length, local, nodes, nodes_length, trace, WIFOREKUN_COUNTEREXAMPLE_ROOM);
 }
 
+static void summary(void) {
+    (void)wiforekun_summary(edges, edges_length, local, nodes, nodes_length, marks, WIFOREKUN_MARKS_LENGTH);
+}
+
+/* every policy is looked at at each event and opening */
+static void judge_lean(void) {
+    for (size_t p = 0; p < WIFOREKUN_MARKS_LENGTH; p++) marks[p] = UINT64_MAX;
+    wiforekun_start(&state);
+    for (size_t i = 0; i < step_count; i++)
+        (void)wiforekun_judge_lean(&state, marks, edges, edges_length, local, steps[3 * i], steps[3 * i + 1], steps[3 * i + 2]);
+}
+
+static void write_policies(void) {
+    (void)wiforekun_write_policies(policies, policies_length, out, sizeof out, refusal);
+}
+
+static void read_expression(void) {
+    (void)wiforekun_read_expression(other, other_length, nodes, sizeof nodes);
+}
+
+static void report_expression(void) {
+    (void)wiforekun_report_expression(other, other_length, out, sizeof out);
+}
+
+static void report_summary(void) {
+    (void)wiforekun_report_summary(policies, policies_length, other, other_length, out, sizeof out);
+}
+
 static void report_trace(void) {
     (void)wiforekun_report_trace(policies, policies_length, other, other_length, out, sizeof out);
 }
@@ -89,6 +118,12 @@ static struct {
     {"wiforekun_report_trace", report_trace, 't', 0},
     {"wiforekun_report_outline", report_outline, 'o', 0},
     {"wiforekun_report_counterexample", report_counterexample, 'o', 0},
+    {"wiforekun_summary", summary, 'o', 0},
+    {"wiforekun_judge_lean_parts", judge_lean, 't', 0},
+    {"wiforekun_report_summary", report_summary, 'o', 0},
+    {"wiforekun_write_policies", write_policies, 'b', 0},
+    {"wiforekun_read_expression", read_expression, 'e', 0},
+    {"wiforekun_report_expression", report_expression, 'e', 0},
 };
 
 static size_t load(const char *path, uint8_t *to) {
@@ -123,7 +158,7 @@ static void tables(char kind) {
     for (size_t i = 0; i < edges_length; i++) edges[i] = (uint8_t)found[i];
     if (kind == 't') {
         step_count = values(other, other_length, steps, 3 * 2000) / 3;
-    } else {
+    } else if (kind == 'o') {
         count = values(other, other_length, found, 4 * 64) / 4;
         nodes_length = 3 * count;
         for (size_t i = 0; i < nodes_length; i++) nodes[i] = (uint8_t)found[4 * (i / 3) + 1 + i % 3];

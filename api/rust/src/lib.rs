@@ -68,6 +68,8 @@ pub const TRACE_ROOM: usize = 20_019;
 pub const OUTLINE_ROOM: usize = 28;
 /// The room that the longest counterexample takes as a trace sheet.
 pub const COUNTEREXAMPLE_TEXT_ROOM: usize = 1_809;
+/// The room that the lines of all marks of a summary take.
+pub const SUMMARY_TEXT_ROOM: usize = 1_334;
 
 // Nothing but tests/api checks these declarations against the proved code, so they stand here alone.
 extern "C" {
@@ -144,6 +146,14 @@ extern "C" {
         out_length: usize,
     ) -> usize;
     fn wiforekun_report_counterexample(
+        policies: *const u8,
+        policies_length: usize,
+        outline: *const u8,
+        outline_length: usize,
+        out: *mut u8,
+        out_length: usize,
+    ) -> usize;
+    fn wiforekun_report_summary(
         policies: *const u8,
         policies_length: usize,
         outline: *const u8,
@@ -472,6 +482,14 @@ pub fn print_counterexample(policies: &[u8], outline: &[u8], out: &mut [u8]) -> 
     unsafe {
         wiforekun_report_counterexample(policies.as_ptr(), policies.len(), outline.as_ptr(), outline.len(), out.as_mut_ptr(), out.len())
     }
+}
+
+/// What the program of summaries prints for these sheets, a line for each mark, put into `out`: its length, or 0 where `out` is shorter
+/// than [`SUMMARY_TEXT_ROOM`].
+#[must_use]
+pub fn print_summary(policies: &[u8], outline: &[u8], out: &mut [u8]) -> usize {
+    // sound: two slices to read and one to write
+    unsafe { wiforekun_report_summary(policies.as_ptr(), policies.len(), outline.as_ptr(), outline.len(), out.as_mut_ptr(), out.len()) }
 }
 
 /// The name that [`counterexample_code`] had.

@@ -1,6 +1,6 @@
 //! The summary and the lean judge, on cases whose answers are worked by hand.
 
-use wiforekun::{summary, summary_code, Answer, Past, Refusal, State, MARKS_LENGTH, OPENING_BIT};
+use wiforekun::{print_summary, summary, summary_code, Answer, Past, Refusal, State, MARKS_LENGTH, OPENING_BIT, SUMMARY_TEXT_ROOM};
 
 /// Read (2) only what was taken (1) and not given back (3).
 const P: [u8; 18] = [0, 0, 1, 1, 0, 1, 0, 1, 3, 1, 0, 0, 0, 0, 2, 1, 0, 6];
@@ -52,4 +52,20 @@ fn a_step_is_judged_where_it_is_marked() {
     assert_eq!(state.judge_lean(&opening, &P, Past::Whole, [1, 1, 0]), Answer::Allowed);
     assert_eq!(state.judge_lean(&opening, &P, Past::Whole, [2, 1, 0]), Answer::Allowed);
     assert_eq!(state.judge_lean(&opening, &P, Past::Whole, [1, 0, 0]), Answer::Violated(0));
+}
+
+#[test]
+fn a_summary_is_printed() {
+    let policies = b"policy from action on who to\n0 0 1 1 0 1\n0 1 3 1 0 0\n0 0 2 1 0 6\n";
+    let outline = b"node kind a b\n0 3 1 2\n1 1 2 3\n2 8 0 3\n3 1 1 3\n";
+    let mut out = [7; SUMMARY_TEXT_ROOM];
+    assert_eq!(print_summary(policies, outline, &mut out[1..]), 0);
+    assert_eq!(out, [7; SUMMARY_TEXT_ROOM]);
+    let due = b"policy action\n0 1\n0 32\n";
+    assert_eq!(print_summary(policies, outline, &mut out), due.len());
+    assert!(out.starts_with(due) && out[due.len()] == 7);
+    // a refused sheet as the checker tells it, policies first
+    let refused = b"line answer detail\n1 3 1\n";
+    assert_eq!(print_summary(outline, b"", &mut out), refused.len());
+    assert!(out.starts_with(refused));
 }

@@ -8,6 +8,8 @@ ghost use Rattle.report.specs.Output.{traceRoom, outlineRoom, lengthPut, put as
 ghost use Rattle.report.specs.Trace.{tracePrinted};
 ghost use Rattle.report.specs.Outline.{RightTexts, outlinePrinted};
 ghost use Rattle.report.specs.Counterexample.{RightExplanation, counterexamplePrinted, counterexampleRoom, Prints};
+ghost use Rattle.report.specs.Summary.{RightSummary, summaryPrinted, summaryRoom};
+ghost use Rattle.checker.specs.Summary.{Summary};
 
 // What the first program prints, from the bytes of `policies.txt` and `trace.txt`.
 #[no_mangle]
@@ -47,4 +49,18 @@ pub extern "C" fn wiforekun_report_counterexample(
         (now (out .entry)) r (now (out .exit))) ⌝ }
 {
     report::report_counterexample(policies, outline, out)
+}
+
+// What the program that prints a summary prints, from the bytes of `policies.txt` and `outline.txt`: a line for each mark. It is the text of
+// whichever summary is right, and there is one only; where anything is printed, one is right.
+#[no_mangle]
+pub extern "C" fn wiforekun_report_summary(policies: &[u8], outline: &[u8], out: &mut [u8]) -> usize
+    ensures { λ r. ⌜ ((m : Summary) → RightSummary (now (policies .entry)) (now (outline .entry)) m
+        → r ≡ lengthPut summaryRoom (now (out .entry)) (summaryPrinted (now (policies .entry)) (now (outline .entry)) m)) ⌝ }
+    ensures { λ r. ⌜ ((m : Summary) → RightSummary (now (policies .entry)) (now (outline .entry)) m
+        → now (out .exit) ≡ Output·put summaryRoom (now (out .entry))
+        (summaryPrinted (now (policies .entry)) (now (outline .entry)) m)) ⌝ }
+    ensures { λ r. ⌜ (0 < r → (m : Summary) × RightSummary (now (policies .entry)) (now (outline .entry)) m) ⌝ }
+{
+    report::report_summary(policies, outline, out)
 }

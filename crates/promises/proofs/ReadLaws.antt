@@ -16,6 +16,7 @@ use Rattle.report.specs.Output.{sheetRoom, printed}
 use Rattle.report.specs.Trace.{traceRows, tracePrinted}
 use Rattle.report.specs.Outline.{RightSheets, RightTexts, outlinePrinted}
 use Rattle.report.specs.Counterexample.{RightTraceOf, RightExplanation, counterexamplePrinted}
+use Rattle.report.specs.Summary.{RightSummary, summaryPrinted}
 use Rattle.promises.specs.Demands.{seen, ReadEnough}
 
 -- a longer sheet is longer also by the bytes that are read of it
@@ -58,4 +59,6 @@ read-enough = record {
   outline-right = λ p o v. rw (policies-seen p, local-seen p, outline-seen o) (λ h. h, λ h. h);
   counterexample = λ p o x t. rw (policies-seen p, outline-seen o) refl;
   counterexample-right = λ p o x t. rw (policies-seen p, local-seen p, outline-seen o) (λ h. h, λ h. h);
+  summary = λ p o m. rw (policies-seen p, outline-seen o) refl;
+  summary-right = λ p o m. rw (policies-seen p, local-seen p, outline-seen o) (λ h. h, λ h. h);
 }

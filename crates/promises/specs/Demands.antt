@@ -50,6 +50,7 @@ use Rattle.report.specs.Output.{sheetRoom}
 use Rattle.report.specs.Trace.{tracePrinted}
 use Rattle.report.specs.Outline.{RightTexts, outlinePrinted}
 use Rattle.report.specs.Counterexample.{RightExplanation, counterexamplePrinted}
+use Rattle.report.specs.Summary.{RightSummary, summaryPrinted}
 use Rattle.api_c.specs.Codes.{codeOf, explanationCode}
 
 -- ── Demand 1 ──
@@ -295,6 +296,10 @@ pub record ReadEnough : Type 0 where
       → counterexamplePrinted (seen policies-text) (seen outline-text) x t ≡ counterexamplePrinted policies-text outline-text x t
   pub counterexample-right : (policies-text outline-text : List ℕ) (x : Explanation) (t : List ℕ)
       → RightExplanation (seen policies-text) (seen outline-text) x t ↔ RightExplanation policies-text outline-text x t
+  pub summary : (policies-text outline-text : List ℕ) (m : List ℕ)
+      → summaryPrinted (seen policies-text) (seen outline-text) m ≡ summaryPrinted policies-text outline-text m
+  pub summary-right : (policies-text outline-text : List ℕ) (m : List ℕ)
+      → RightSummary (seen policies-text) (seen outline-text) m ↔ RightSummary policies-text outline-text m
 
 -- ── All of it ──
 

@@ -7,6 +7,7 @@ pub mod NumberedLaws
 pub mod CounterexampleLaws
 pub mod PoliciesLaws
 pub mod ExpressionLaws
+pub mod SummaryLaws
 -- What is printed for two accepted sheets is right.
 pub mod TraceRight
 -- What is printed of a counterexample is read back as its steps.

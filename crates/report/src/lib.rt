@@ -9,7 +9,10 @@ ghost use Rattle.report.specs.Outline.{RightTexts, outlinePrinted};
 ghost use Rattle.report.specs.Counterexample.{RightExplanation, counterexamplePrinted, counterexampleRoom, Prints};
 ghost use Rattle.report.specs.Policies.{policiesPrinted, policiesRoom};
 ghost use Rattle.report.specs.Expression.{expressionPrinted, expressionRoom};
+ghost use Rattle.report.specs.Summary.{RightSummary, summaryPrinted, summaryRoom};
+ghost use Rattle.checker.specs.Summary.{Summary};
 use checker_trace::MOST_NUMBERS;
+use report_lines::MARK_NAMES;
 use report_lines::NAMES;
 use report_lines::NODE_NAMES;
 use report_lines::TRACE_NAMES;
@@ -23,16 +26,19 @@ use usage::MOST_NODES;
 use usage::MOST_STEPS;
 use usage::NODE_FIELDS;
 use usage::NODE_TABLE;
+use usage::POLICIES;
 use usage::STEP_FIELDS;
 
 mod counterexample;
 mod expression;
 mod outline;
+mod summary;
 mod trace;
 
-// ── Sizes ── as specs/Output, specs/Counterexample and specs/Expression have them.
+// ── Sizes ── as specs/Output, specs/Counterexample, specs/Expression and specs/Summary have them.
 
-// The bytes of a line at most: of a step's answer, of an outline's or of refused policies', of a step of a counterexample, and of a node.
+// The bytes of a line at most: of a step's answer, of an outline's or of refused policies', of a step of a counterexample, of a node, and
+// of a mark.
 const LONGEST_STEP_ROW: usize = 10;
 
 const LONGEST_OUTLINE_ROW: usize = 9;
@@ -40,6 +46,8 @@ const LONGEST_OUTLINE_ROW: usize = 9;
 const LONGEST_SHOWN_ROW: usize = 9;
 
 const LONGEST_NODE_ROW: usize = 11;
+
+const LONGEST_MARK_ROW: usize = 5;
 
 // The steps of a counterexample at most.
 const MOST_SHOWN: usize = MOST_NUMBERS / STEP_FIELDS;
@@ -54,6 +62,9 @@ pub const COUNTEREXAMPLE_ROOM: usize = TRACE_NAMES + MOST_SHOWN * LONGEST_SHOWN_
 pub const POLICIES_ROOM: usize = LONGEST_SHEET;
 
 pub const EXPRESSION_ROOM: usize = NODE_NAMES + MOST_NODES * LONGEST_NODE_ROW;
+
+pub const SUMMARY_ROOM: usize = MARK_NAMES
+    + POLICIES * (summary::MARK_BITS as usize * LONGEST_MARK_ROW);
 
 // What the first program prints, from the bytes of `policies.txt` and `trace.txt`: its length, and 0 where `out` lacks the room.
 pub fn report_trace(policies: &[u8], trace: &[u8], out: &mut [u8]) -> usize
@@ -157,5 +168,30 @@ pub fn report_expression(text: &[u8], out: &mut [u8]) -> usize
     match reading {
         Reading::Stored(n) => crate::expression::sheet(&nodes[0..n * NODE_FIELDS], out),
         Reading::Refused { line, number } => crate::counterexample::refused(out, line, 5, number),
+    }
+}
+
+// What the program that prints a summary prints, from the bytes of `policies.txt` and `outline.txt`: its length, and 0 where `out` lacks the
+// room. It is the text of whichever summary is right, and there is one only; where anything is printed, one is right.
+pub fn report_summary(policies: &[u8], outline: &[u8], out: &mut [u8]) -> usize
+    ensures { λ r. ⌜ ((m : Summary) → RightSummary (now (policies .entry)) (now (outline .entry)) m
+        → r ≡ lengthPut summaryRoom (now (out .entry)) (summaryPrinted (now (policies .entry)) (now (outline .entry)) m)) ⌝ }
+    ensures { λ r. ⌜ ((m : Summary) → RightSummary (now (policies .entry)) (now (outline .entry)) m
+        → now (out .exit) ≡ Output·put summaryRoom (now (out .entry))
+        (summaryPrinted (now (policies .entry)) (now (outline .entry)) m)) ⌝ }
+    ensures { λ r. ⌜ (0 < r → (m : Summary) × RightSummary (now (policies .entry)) (now (outline .entry)) m) ⌝ }
+{
+    if out.len() < SUMMARY_ROOM {
+        return 0;
+    }
+    let mut edges = [0u8; EDGE_TABLE];
+    let reading = sheet_reader::read_policies(policies, &mut edges);
+    match reading {
+        PolicyReading::Stored { edges: n, local } => {
+            crate::summary::of_text(&edges[0..n * EDGE_FIELDS], local, outline, out)
+        }
+        PolicyReading::Refused { line, number } => {
+            crate::counterexample::refused(out, line, 3, number)
+        }
     }
 }

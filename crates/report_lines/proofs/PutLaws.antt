@@ -9,7 +9,7 @@ use lib.ListN.{length-append, getD}
 use native.Mathlib.Omega.{arith}
 use Rattle.report_lines.specs.Decimal.{digitByte, decimal}
 use Rattle.report_lines.proofs.DecimalLaws.{decimal-one}
-use Rattle.report_lines.specs.Lines.{field, three, row, numberedRow, valuesText, valuesLine}
+use Rattle.report_lines.specs.Lines.{field, three, row, numberedRow, markRow, valuesText, valuesLine}
 
 -- one run after another
 pub sets-append : (l : List ℕ) (i : ℕ) (vs ws : List ℕ) → sets l i (vs ++ ws) ≡ sets (sets l i vs) (i + length vs) ws
@@ -110,3 +110,16 @@ unfolding numberedRow
 sets-numbered l i number kind a b =
     let one : i + length (field number 32) ≡ i + length (decimal number) + 1 = omega (arith, length-field number 32) in
     sets-append l i (field number 32) (row kind a b) ∙ rw one
+
+-- a line of two numbers
+pub length-mark : (policy action : ℕ) → length (markRow policy action) ≡ length (decimal policy) + length (decimal action) + 2
+unfolding markRow
+length-mark policy action =
+    omega (arith, length-append (field policy 32) (field action 10), length-field policy 32, length-field action 10)
+
+pub sets-mark : (l : List ℕ) (i policy action : ℕ)
+    → sets l i (markRow policy action) ≡ sets (sets l i (field policy 32)) (i + length (decimal policy) + 1) (field action 10)
+unfolding markRow
+sets-mark l i policy action =
+    let one : i + length (field policy 32) ≡ i + length (decimal policy) + 1 = omega (arith, length-field policy 32) in
+    sets-append l i (field policy 32) (field action 10) ∙ rw one

@@ -8,11 +8,11 @@ use lib.ListN.{length, length-append}
 use lib.Seq.{sets}
 use Rattle.usage.specs.Answers.{Verdict, allowed, violated, refused, answer, detail}
 use Rattle.report_lines.specs.Lines.{namesLine, namesRoom, traceNamesLine, traceNamesRoom, nodeNamesLine, nodeNamesRoom}
-use Rattle.report_lines.specs.Lines.{three, row, numberedRow, verdictRow, valuesText, valuesRoom}
+use Rattle.report_lines.specs.Lines.{three, row, numberedRow, verdictRow, valuesText, valuesRoom, markNamesLine, markNamesRoom, markRow}
 use Rattle.report_lines.specs.Decimal.{decimal}
 use Rattle.report_lines.proofs.DecimalLaws.{tens, length-below}
 use Rattle.report_lines.specs.Put.{putAt, endAt}
-use Rattle.report_lines.proofs.PutLaws.{length-field, length-three, length-row, length-numbered, six-fields}
+use Rattle.report_lines.proofs.PutLaws.{length-field, length-three, length-row, length-numbered, length-mark, six-fields}
 use Rattle.report_lines.proofs.FitLaws.{stored-at}
 
 -- of numbers below ten to the powers i + 1, j + 1 and k + 1: their digits, and a byte after each
@@ -66,6 +66,13 @@ numbered-eleven number kind a b hn hk ha hb =
     let m = row-below 0 1 1 kind a b (omega arith) (omega arith) (omega arith) in
     omega (arith, length-numbered number kind a b, length-field number 32)
 
+-- those of a mark are a policy, and an action or 32
+pub mark-five : (policy action : ℕ) → policy < 10 → action < 100 → length (markRow policy action) ≤ 5
+mark-five policy action hp ha =
+    let l = length-below 0 policy (omega arith) in
+    let m = length-below 1 action (omega arith) in
+    omega (arith, length-mark policy action)
+
 answer-small : (v : Verdict) → answer v < 10
 answer-small allowed = omega arith
 answer-small (violated p) = omega arith
@@ -85,6 +92,10 @@ length-trace-names = refl
 pub length-node-names : length nodeNamesLine ≡ nodeNamesRoom
 unfolding nodeNamesLine
 length-node-names = refl
+
+pub length-mark-names : length markNamesLine ≡ markNamesRoom
+unfolding markNamesLine
+length-mark-names = refl
 
 -- a text at the start, of the numbers that the functions return
 pub begin-stored : {r : ℕ} {after : List ℕ} (buffer text : List ℕ) → length text ≤ length buffer → r ≡ endAt buffer 0 text → after

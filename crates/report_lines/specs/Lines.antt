@@ -28,6 +28,13 @@ nodeNamesLine = outlineSheet .names
 abbrev pub nodeNamesRoom : ℕ
 nodeNamesRoom = 14
 
+-- 02, L11: "which actions, and whether its opening" of each policy; where marks are printed (`length-mark-names` of proofs/RowLaws)
+unfoldable pub markNamesLine : List ℕ
+markNamesLine = bytes "policy action\n"
+
+abbrev pub markNamesRoom : ℕ
+markNamesRoom = 14
+
 -- a number and the byte after it
 unfoldable pub field : ℕ → ℕ → List ℕ
 field n end = decimal n ++ (end ∷ [])
@@ -56,6 +63,10 @@ valuesRoom = 66
 -- a line of an outline sheet: the node's number before its three
 unfoldable pub numberedRow : ℕ → ℕ → ℕ → ℕ → List ℕ
 numberedRow number kind a b = field number 32 ++ row kind a b
+
+-- a line of a summary: a policy and the action that is marked for it
+unfoldable pub markRow : ℕ → ℕ → List ℕ
+markRow policy action = field policy 32 ++ field action 10
 
 -- "0 allowed, 1 violated or 2 refused, and the policy, the number, or 0"
 abbrev pub verdictRow : ℕ → Verdict → List ℕ

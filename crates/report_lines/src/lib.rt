@@ -7,14 +7,17 @@ ghost use Rattle.sheet_lines.specs.Sheets.{policyNames};
 ghost use Rattle.report_lines.specs.Decimal.{decimal};
 ghost use Rattle.report_lines.specs.Lines.{namesLine, traceNamesLine, nodeNamesLine, field as Lines·field, three as Lines·three};
 ghost use Rattle.report_lines.specs.Lines.{row as Lines·row, numberedRow, valuesLine, valuesRoom};
+ghost use Rattle.report_lines.specs.Lines.{markNamesLine, markRow};
 ghost use Rattle.report_lines.specs.Put.{putAt, endAt, putWithin, endWithin};
 
-// The bytes of the line of names, and of those of a trace sheet and of an outline sheet.
+// The bytes of the line of names, and of those of a trace sheet, of an outline sheet and of a summary.
 pub const NAMES: usize = 19;
 
 pub const TRACE_NAMES: usize = 9;
 
 pub const NODE_NAMES: usize = 14;
+
+pub const MARK_NAMES: usize = 14;
 
 // The bytes of a line of six values at most: ten digits each, and a byte after it.
 pub const VALUES_ROOM: usize = 66;
@@ -52,6 +55,14 @@ pub fn node_names(out: &mut [u8]) -> usize
     ensures { λ r. ⌜ now (out .exit) ≡ putAt (now (out .entry)) 0 nodeNamesLine ⌝ }
 {
     begin(out, b"node kind a b\n")
+}
+
+// The same with the names line of a summary.
+pub fn mark_names(out: &mut [u8]) -> usize
+    ensures { λ r. ⌜ r ≡ endAt (now (out .entry)) 0 markNamesLine ⌝ }
+    ensures { λ r. ⌜ now (out .exit) ≡ putAt (now (out .entry)) 0 markNamesLine ⌝ }
+{
+    begin(out, b"policy action\n")
 }
 
 // A text, at the start.
@@ -140,6 +151,22 @@ pub fn numbered_row(
     }
     let next = field(out, at, number, b' ');
     row(out, next, kind, a, b)
+}
+
+// A mark of a summary on a line of its own, from `at` on: the place after it, and `at` where `out` lacks the room.
+pub fn mark_row(out: &mut [u8], at: usize, policy: usize, action: usize) -> usize
+    ensures { λ r. ⌜ r ≡ endAt (now (out .entry)) at (markRow policy action) ⌝ }
+    ensures { λ r. ⌜ now (out .exit) ≡ putAt (now (out .entry)) at (markRow policy action) ⌝ }
+{
+    if out.len() < at {
+        return at;
+    }
+    let needed = width(policy) + width(action) + 2;
+    if out.len() - at < needed {
+        return at;
+    }
+    let next = field(out, at, policy, b' ');
+    field(out, next, action, b'\n')
 }
 
 // How many digits n has.

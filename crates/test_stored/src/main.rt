@@ -4,6 +4,8 @@ mod borders;
 mod counterexamples;
 mod expressions;
 mod judge_calls;
+mod lean;
+mod lean_calls;
 mod lent;
 mod local_calls;
 mod order_calls;
@@ -22,4 +24,8 @@ fn main() {
     rewritings::calls();
     expressions::all(900);
     expressions::room_calls();
+    lean::summaries(b'o', 1000);
+    lean::summaries(b'c', 320);
+    lean::all(240);
+    lean_calls::calls();
 }

@@ -9,7 +9,8 @@ use crate::outline::Node;
 use crate::policy::Edge;
 use crate::pushdown::check_tables;
 use crate::sheet::{read_outline, read_policies, read_trace, Refusal, MOST_EDGES, MOST_NODES, MOST_STEPS};
-use crate::state::{judge_state, write_state, State, FIRST_LIVE, RETIRED};
+use crate::state::{judge_state, judge_state_by, write_state, State, FIRST_LIVE, RETIRED};
+use crate::summary::{looked, summary_tables, Marks};
 
 type Line = (u32, usize);
 
@@ -306,6 +307,74 @@ fn rounds(second: [u64; 3]) -> Vec<u64> {
     nodes.extend((5..21).map(|place| [8, 1, place + 1]));
     nodes.extend([[0, 0, 0], [3, 23, 24], [1, 1, 3], [6, 3, 0]]);
     nodes.concat()
+}
+
+/// What a lent table of marks holds before the call: no summary has such a number.
+const UNMARKED: u64 = 1 << 40;
+
+/// The summary of lent tables, into a table of so many numbers: the answer and its detail, and what the table then holds.
+fn summarized(edges: &[u64], local: u64, nodes: &[u64], room: usize) -> String {
+    // tables of no record are none, as those of a part of one
+    let (edges, nodes) = records(edges, nodes).unwrap_or_default();
+    let mut table = vec![UNMARKED; room];
+    let line = match summary_tables(&edges, local, &nodes, room) {
+        Ok(marks) => {
+            table[..marks.len()].copy_from_slice(&marks);
+            (0, 0)
+        }
+        Err(number) => (2, number as usize),
+    };
+    let table: String = table.iter().map(|number| format!(" {number}")).collect();
+    format!("{}{table}", told(line))
+}
+
+/// The lean judge on a state like the start, but that policy 0 has two openings and may be in state 6, as it is kept and by resource 0's
+/// instance; all policies have these marks.
+fn lean(marks: u64, local: u64, halted: u64, [kind, a, b]: [u64; 3]) -> String {
+    let mut state = State { halted, ..State::opened(&[0, 0]) };
+    state.kept[0] = 64;
+    state.sets[0][0] = 64;
+    let (marks, step): (Marks, Step) = ([marks; 8], Step { kind, a, b });
+    let edges = [Edge::new([0, 0, 0, 0, 0, 7])];
+    let (answer, _) = judge_state_by(&edges, local, &state, step, |policy| looked(&marks, step, policy));
+    told(answer.numbers())
+}
+
+/// The summary at the borders of its table and its choice of past, and what the lean judge looks at.
+pub fn lean_lines() -> String {
+    let before = [3, 1, 2, 1, 2, 3, 8, 0, 3, 0, 0, 0];
+    let (all, opening, wide) = (u64::MAX, 1 << 32, u64::from(u32::MAX));
+    let event = [0, 1, 0];
+    let lines = [
+        summarized(&BROKEN.0, 0, &BROKEN.1, 8),
+        summarized(&BROKEN.0, 0, &BROKEN.1, 7),
+        summarized(&BROKEN.0, 0, &BROKEN.1, 11),
+        summarized(&BROKEN.0, 0, &BROKEN.1, 0),
+        summarized(&BROKEN.0, 1, &BROKEN.1, 8),
+        summarized(&BROKEN.0, 2, &BROKEN.1, 8),
+        summarized(&BROKEN.0, 2, &BROKEN.1, 7),
+        summarized(&BROKEN.0, wide, &BROKEN.1, 8),
+        summarized(&[0; 5], 0, &[0; 3], 8),
+        summarized(&[0; 5], 0, &[0; 3], 7),
+        summarized(&[0; 6], 0, &[9; 3], 8),
+        summarized(&[0; 6], 0, &[9; 3], 7),
+        summarized(&[0; 6], 0, &[0; 3], 8),
+        summarized(&BROKEN.0, 0, &before, 8),
+        summarized(&BROKEN.0, 1, &before, 8),
+        lean(2, 0, 0, event),
+        lean(all - 2, 0, 0, event),
+        lean(opening, 0, 0, event),
+        lean(opening, 0, 0, [1, 0, 0]),
+        lean(all - opening, 0, 0, [1, 0, 0]),
+        lean(all, 0, 0, [1, 1, 0]),
+        lean(all, 0, 0, [2, 0, 0]),
+        lean(all, 1, 0, event),
+        lean(all, 2, 0, event),
+        lean(all, 0, 1, event),
+        lean(all, 0, 2, event),
+        lean(all, 0, 0, [0, 32, 0]),
+    ];
+    lines.iter().enumerate().map(|(number, line)| format!("{} {line}\n", number + 1)).collect()
 }
 
 /// The lines that the program of these calls prints.

@@ -15,13 +15,15 @@ const USAGE: &str = "usage:
   reference monitor DIR
   reference check DIR
   reference why DIR
+  reference summary DIR
   reference accepts DIR SHEET
   reference write DIR
   reference nodes DIR
   reference judge FILE
-  reference generate trace|outline|counterexample|state|policies|expression SEED COUNT DIR
-  reference expect trace|outline|counterexample|state|policies|expression DIR COUNT
+  reference generate trace|outline|counterexample|state|policies|expression|lean SEED COUNT DIR
+  reference expect trace|outline|counterexample|summary|state|policies|expression|lean DIR COUNT
   reference borders
+  reference lean-borders
   reference writings
   reference stops DIR COUNT
   reference expression-borders
@@ -57,11 +59,15 @@ fn run(words: &[&str]) -> Option<io::Result<String>> {
         ["why", dir] => {
             Some(Ok(program::why(&read(dir, "policies.txt"), &read(dir, "outline.txt"))))
         }
+        ["summary", dir] => {
+            Some(Ok(program::summarized(&read(dir, "policies.txt"), &read(dir, "outline.txt"))))
+        }
         ["accepts", dir, sheet] => Some(accepts(dir, sheet)),
         ["write", dir] => Some(Ok(program::write(&read(dir, "policies.txt")))),
         ["nodes", dir] => Some(Ok(expression::sheet(&read(dir, "outline.expr")))),
         ["judge", file] => Some(run_call(Path::new(file))),
         ["borders"] => Some(Ok(reference::borders::lines())),
+        ["lean-borders"] => Some(Ok(reference::borders::lean_lines())),
         ["writings"] => Some(Ok(reference::writer::calls())),
         ["stops", dir, count] => Some(Ok(stops(dir, count.parse().ok()?))),
         ["expression-borders"] => Some(Ok(expression::borders())),
@@ -74,6 +80,9 @@ fn run(words: &[&str]) -> Option<io::Result<String>> {
         ["generate", "expression", seed, count, dir] => {
             Some(generate_expressions(seed.parse().ok()?, count.parse().ok()?, Path::new(dir)))
         }
+        ["generate", "lean", seed, count, dir] => {
+            Some(generate_lean(seed.parse().ok()?, count.parse().ok()?, Path::new(dir)))
+        }
         ["generate", kind, seed, count, dir] => {
             let (seed, count) = (seed.parse().ok()?, count.parse().ok()?);
             Some(generate_cases(kind_of(kind)?, seed, count, Path::new(dir)))
@@ -81,6 +90,8 @@ fn run(words: &[&str]) -> Option<io::Result<String>> {
         ["expect", "state", dir, count] => Some(expect_calls(dir, count.parse().ok()?)),
         ["expect", "policies", dir, count] => Some(Ok(expect_policies(dir, count.parse().ok()?))),
         ["expect", "expression", dir, count] => Some(Ok(expect_expressions(dir, count.parse().ok()?))),
+        ["expect", "summary", dir, count] => Some(Ok(expect_summaries(dir, count.parse().ok()?))),
+        ["expect", "lean", dir, count] => Some(Ok(expect_lean(dir, count.parse().ok()?))),
         ["expect", kind, dir, count] => Some(Ok(expect(kind_of(kind)?, dir, count.parse().ok()?))),
         _ => None,
     }
@@ -164,6 +175,32 @@ fn generate_expressions(seed: u64, count: usize, dir: &Path) -> io::Result<Strin
 fn expect_expressions(dir: &str, count: usize) -> String {
     let one = |number: usize| {
         format!("case {number}\n{}", expression::sheet(&read(dir, &format!("{number:04}e"))))
+    };
+    (0..count).map(one).collect()
+}
+
+fn generate_lean(seed: u64, count: usize, dir: &Path) -> io::Result<String> {
+    fs::create_dir_all(dir)?;
+    for (number, sheets) in generate::lean::cases(seed, count).into_iter().enumerate() {
+        fs::write(dir.join(format!("{number:04}p")), sheets.policies)?;
+        fs::write(dir.join(format!("{number:04}o")), sheets.outline)?;
+        fs::write(dir.join(format!("{number:04}t")), sheets.trace)?;
+    }
+    Ok(String::new())
+}
+
+fn expect_lean(dir: &str, count: usize) -> String {
+    let one = |number: usize| {
+        let sheet = |letter: char| read(dir, &format!("{number:04}{letter}"));
+        format!("case {number}\n{}", program::lean(&sheet('p'), &sheet('o'), &sheet('t')))
+    };
+    (0..count).map(one).collect()
+}
+
+fn expect_summaries(dir: &str, count: usize) -> String {
+    let one = |number: usize| {
+        let sheet = |letter: char| read(dir, &format!("{number:04}{letter}"));
+        format!("case {number}\n{}", program::summarized(&sheet('p'), &sheet('o')))
     };
     (0..count).map(one).collect()
 }

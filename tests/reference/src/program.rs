@@ -4,12 +4,14 @@ use crate::counterexample::{counterexample, follow_alone, stops_rightly, Counter
 use crate::damage::rows;
 use crate::judge::{Judge, Step};
 use crate::outline::Node;
-use crate::policy::Policies;
+use crate::policy::{Policies, POLICIES};
 use crate::pushdown;
+use crate::summary::{lean_answers, summary, Marks, MARK_BITS};
 use crate::sheet::{read_outline, read_policies, read_trace, Refusal, TRACE_NAMES};
 use crate::writer::written;
 
 const NAMES: &str = "line answer detail\n";
+const MARK_NAMES: &str = "policy action\n";
 
 const POLICIES_REFUSED: u32 = 3;
 const TRACE_REFUSED: u32 = 4;
@@ -86,6 +88,40 @@ fn judged(policies: &Policies, policy: usize, steps: &[Step]) -> String {
     let (answer, detail) = answer.numbers();
     let rightly = u32::from(stops_rightly(policies, policy, steps));
     format!("{past} {answer} {detail} {rightly}\n")
+}
+
+/// The program that prints a summary: a line for each mark, 32 for an opening.
+pub fn summarized(policies: &[u8], outline: &[u8]) -> String {
+    let (policies, nodes) = match tables(policies, outline) {
+        Err((sheet, refusal)) => return refused(sheet, refusal),
+        Ok(tables) => tables,
+    };
+    let marks = summary(&policies, &nodes);
+    let mut text = MARK_NAMES.to_string();
+    for (policy, number) in marks.iter().enumerate() {
+        for bit in (0..MARK_BITS).filter(|bit| number >> bit & 1 == 1) {
+            text += &format!("{policy} {bit}\n");
+        }
+    }
+    text
+}
+
+/// The lean judge along a trace: the eight numbers of the exact summary; then what it answers to each step with them, with them one bit
+/// higher, and with every bit set.
+pub fn lean(policies: &[u8], outline: &[u8], trace: &[u8]) -> String {
+    let (policies, nodes) = tables(policies, outline).expect("these sheets are not refused");
+    let steps = read_trace(trace).expect("this sheet is not refused");
+    let exact = summary(&policies, &nodes);
+    let numbers: String = exact.iter().map(|number| format!(" {number}")).collect();
+    let mut text = format!("marks{numbers}\n");
+    let others: [Marks; 3] = [exact, exact.map(|number| number << 1), [u64::MAX; POLICIES]];
+    for marks in others {
+        for answer in lean_answers(&policies, &marks, &steps) {
+            let (answer, detail) = answer.numbers();
+            text += &format!("{answer} {detail}\n");
+        }
+    }
+    text
 }
 
 /// The fourth program: a sheet of policies written again.

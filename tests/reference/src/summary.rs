@@ -14,6 +14,9 @@ pub type Marks = [u64; POLICIES];
 
 pub const OPENING_BIT: u32 = 32;
 
+/// The bits of a number: the actions, and the opening.
+pub const MARK_BITS: u32 = OPENING_BIT + 1;
+
 /// "for each policy, which actions, and whether its opening, can be the last step of a trace that leaves it open and not respected". For each
 /// policy, watched resource and last step by itself: is a configuration come to in which a rule of that step leads into a bad control?
 pub fn summary(policies: &Policies, nodes: &[Node]) -> Marks {

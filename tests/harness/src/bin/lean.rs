@@ -2,23 +2,19 @@
 //! them and with any other summary, on traces of the outline and off it; and as many calls of the lean judge on states that need not have
 //! been reached, with any summary.
 
+use reference::generate::lean::{random_trace, strayed, with_retirings};
 use reference::generate::{self, outlines, states, Case};
-use reference::judge::{created, Answer, Step};
+use reference::judge::{Answer, Step};
 use reference::outline::Node;
 use reference::policy::{Policies, POLICIES};
 use reference::program::tables;
 use reference::rng::Rng;
-use reference::run::{Run, Way};
 use reference::state::judge_state_by;
 use reference::summary::{full_answers, lean_answers, looked, summary, up_to_refusal, Marks};
 use std::process::ExitCode;
 
 /// What a table holds before the call, plus its place; no summary has such numbers.
 const MARK: u64 = 1 << 40;
-
-/// The steps of a trace that is judged, at most, and the moves that it is made by.
-const MOST_STEPS: usize = 40;
-const MOST_MOVES: usize = 400;
 
 /// Calls that are made from one seed.
 const BATCH: usize = 1_000;
@@ -154,32 +150,6 @@ fn told(due: Result<Marks, u32>, room: usize) -> ((u32, usize), Vec<u64>) {
     }
 }
 
-/// The steps of a random run.
-fn random_trace(rng: &mut Rng, nodes: &[Node]) -> Vec<Step> {
-    let mut run = Run::start();
-    for _ in 0..MOST_MOVES {
-        if run.is_over() || run.steps.len() >= MOST_STEPS {
-            break;
-        }
-        run.advance(nodes, if rng.percent(50) { Way::Left } else { Way::Right });
-    }
-    run.steps
-}
-
-/// Retirings of created resources and of others, anywhere.
-fn with_retirings(rng: &mut Rng, steps: Vec<Step>) -> Vec<Step> {
-    let mut more = Vec::new();
-    for step in steps {
-        if rng.percent(10) {
-            let made = created(&more);
-            let resource = if made.is_empty() { 16 } else { made[rng.below(made.len() as u64) as usize] };
-            more.push(Step::retire(resource));
-        }
-        more.push(step);
-    }
-    more
-}
-
 /// Bits of the exact summary are taken away or put to it.
 fn random_marks(rng: &mut Rng, exact: &Marks) -> Marks {
     exact.map(|marks| match rng.below(4) {
@@ -188,16 +158,4 @@ fn random_marks(rng: &mut Rng, exact: &Marks) -> Marks {
         2 => u64::MAX << rng.below(64),
         _ => marks,
     })
-}
-
-/// A step is put in or left out.
-fn strayed(rng: &mut Rng, mut steps: Vec<Step>) -> Vec<Step> {
-    let place = rng.below(steps.len() as u64 + 1) as usize;
-    match rng.below(4) {
-        0 if place < steps.len() => drop(steps.remove(place)),
-        1 => steps.insert(place, Step::open(rng.below(8))),
-        2 => steps.insert(place, Step::close(rng.below(8))),
-        _ => steps.insert(place, Step::event(1 + rng.below(7), rng.below(18))),
-    }
-    steps
 }

@@ -3,6 +3,7 @@
 pub mod counterexamples;
 pub mod expressions;
 pub mod fixed;
+pub mod lean;
 pub mod malformed;
 pub mod orders;
 pub mod outlines;

@@ -1,0 +1,36 @@
+use native.Mathlib.Omega.{arith}
+use mathlib.Core.Path.{_≡_, refl, sym, ap, _∙_}
+use Prim.Native.Nat.{ℕ, suc, _+_, _-_, _/_, _≤_, _<_}
+use lib.ListN.{length, getD, take, drop, set}
+use borrow.Author.Needs.{needs}
+use Rattle.test_stored.proofs.lean.summaries.Statement.{statement}
+use Rattle.test_stored.proofs.lean.summaries.Tie as tie
+
+abbrev Inv-loop : tie.InvT-loop
+Inv-loop folder count n₀ n = Unit {0}
+
+abbrev μ-loop : tie.MeasureT-loop
+μ-loop folder count n₀ n = count - n
+
+loop-holds : tie.Need-loop-holds Inv-loop μ-loop
+loop-holds c = tt
+
+summary-case-requires : tie.Need-summary-case-requires Inv-loop μ-loop
+summary-case-requires c κs = search needs
+
+add-n : tie.Need-add-n Inv-loop μ-loop
+add-n c = search needs
+
+loop-less : tie.Need-loop-less Inv-loop μ-loop
+loop-less c = search needs
+
+loop-again : tie.Need-loop-again Inv-loop μ-loop
+loop-again c = tt
+
+returns : tie.Need-returns Inv-loop μ-loop
+returns c = search needs
+
+pub summaries-spec : {M : Type 1} → statement M
+summaries-spec =
+    tie.close
+    (tie.spec Inv-loop μ-loop loop-holds summary-case-requires add-n loop-less loop-again returns)
