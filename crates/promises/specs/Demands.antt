@@ -2,9 +2,9 @@
 -- contracts are equations with: the judge answers `judgeOf` (`monitor::judge` and `judge_lent`, `api_records`, `api_c`), the readers answer
 -- and store `policiesInto`, `traceInto` and `outlineInto` (`sheet_reader`) and `expressionInto` (`sheet_expression`), the check answers the
 -- one verdict that `Checked` holds of (`checker::check`), an explanation is one that `Explained` holds of (`check_with_counterexample`), the
--- sheet writer answers and writes `writtenInto` (`sheet_writer`), the programs print `tracePrinted`, `outlinePrinted` and
--- `counterexamplePrinted` (`report`), and callers in C and Rust are told `codeOf` a verdict (`api_c`). proofs/ has the proof of each. That no function reads outside its memory or runs on without end is
--- what the language asks of each before it is built.
+-- sheet writer answers and writes `writtenInto` (`sheet_writer`), the programs print `tracePrinted`, `outlinePrinted`,
+-- `counterexamplePrinted` and `summaryPrinted` (`report`), and callers in C and Rust are told `codeOf` a verdict (`api_c`). proofs/ has the
+-- proof of each. That no function reads outside its memory or runs on without end is what the language asks of each before it is built.
 use Prim.Native.Nat.{ℕ, suc, _<_, _≤_}
 use mathlib.Core.Path.{_≡_}
 use mathlib.Core.Bool.{Bool, true, false}
