@@ -11,7 +11,9 @@ marked() {
 ") return 0 ;;
         "1:$mark_names
 "?*)
-            if printf %s "$out" | awk 'NR > 1 && !/^[0-7] ([0-9]|[12][0-9]|3[0-2])$/ { bad = 1 } END { exit bad || NR > 265 }'; then return 0; fi
+            if printf %s "$out" | awk 'NR > 1 && !/^[0-7] ([0-9]|[12][0-9]|3[0-2])$/ { bad = 1 } END { exit bad || NR > 265 }'; then
+                return 0
+            fi
             ;;
     esac
     say "outline_summary printed what does not go with the checker's answer"

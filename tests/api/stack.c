@@ -1,6 +1,6 @@
 /* stack CASE..: how much stack each function takes on the sheets of these cases: it runs on a painted stack of its own, of which the lowest
- * byte that was touched is looked for. A CASE is POLICIES:OTHER:KIND, two files, and t for a trace, o for an outline or e for an expression.
- * Prints a line for each function: its name and the bytes. */
+ * byte that was touched is looked for. A CASE is POLICIES:OTHER:KIND, two files, and t for a trace, o for an outline or e for an
+ * expression. Prints a line for each function: its name and the bytes. */
 #define _DEFAULT_SOURCE
 #include "wiforekun.h"
 #include <stdint.h>

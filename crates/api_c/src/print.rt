@@ -51,8 +51,8 @@ pub extern "C" fn wiforekun_report_counterexample(
     report::report_counterexample(policies, outline, out)
 }
 
-// What the program that prints a summary prints, from the bytes of `policies.txt` and `outline.txt`: a line for each mark. It is the text of
-// whichever summary is right, and there is one only; where anything is printed, one is right.
+// What the program of summaries prints, from the bytes of `policies.txt` and `outline.txt`: a line for each mark. It is the text of whichever
+// summary is right, and there is one only; where anything is printed, one is right.
 #[no_mangle]
 pub extern "C" fn wiforekun_report_summary(policies: &[u8], outline: &[u8], out: &mut [u8]) -> usize
     ensures { λ r. ⌜ ((m : Summary) → RightSummary (now (policies .entry)) (now (outline .entry)) m

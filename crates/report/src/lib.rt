@@ -171,8 +171,8 @@ pub fn report_expression(text: &[u8], out: &mut [u8]) -> usize
     }
 }
 
-// What the program that prints a summary prints, from the bytes of `policies.txt` and `outline.txt`: its length, and 0 where `out` lacks the
-// room. It is the text of whichever summary is right, and there is one only; where anything is printed, one is right.
+// What the program of summaries prints, from the bytes of `policies.txt` and `outline.txt`: its length, and 0 where `out` lacks the room. It
+// is the text of whichever summary is right, and there is one only; where anything is printed, one is right.
 pub fn report_summary(policies: &[u8], outline: &[u8], out: &mut [u8]) -> usize
     ensures { λ r. ⌜ ((m : Summary) → RightSummary (now (policies .entry)) (now (outline .entry)) m
         → r ≡ lengthPut summaryRoom (now (out .entry)) (summaryPrinted (now (policies .entry)) (now (outline .entry)) m)) ⌝ }

@@ -8,7 +8,8 @@ use lib.ListN.{length, length-append}
 use lib.Seq.{sets}
 use Rattle.usage.specs.Answers.{Verdict, allowed, violated, refused, answer, detail}
 use Rattle.report_lines.specs.Lines.{namesLine, namesRoom, traceNamesLine, traceNamesRoom, nodeNamesLine, nodeNamesRoom}
-use Rattle.report_lines.specs.Lines.{three, row, numberedRow, verdictRow, valuesText, valuesRoom, markNamesLine, markNamesRoom, markRow}
+use Rattle.report_lines.specs.Lines.{three, row, numberedRow, verdictRow, valuesText, valuesRoom}
+use Rattle.report_lines.specs.Lines.{markNamesLine, markNamesRoom, markRow}
 use Rattle.report_lines.specs.Decimal.{decimal}
 use Rattle.report_lines.proofs.DecimalLaws.{tens, length-below}
 use Rattle.report_lines.specs.Put.{putAt, endAt}

@@ -43,7 +43,8 @@ returns c =
     let short = marks-short (k .last .1 .1 .1 .0) in
     let z = then-stored (now (a .out)) markNamesLine (w .result) (w .last .0) (w .ensures .0) (w .ensures .1) (omega arith)
     (marksText (k .last .1 .1 .1 .0)) (omega arith) (t .ensures .0) (t .ensures .1) in
-    let p = c .before .before .before .before .before .before .before .before .before .before .before .before .before .before .before .pre in
+    let p =
+    c .before .before .before .before .before .before .before .before .before .before .before .before .before .before .before .pre in
     record { summary = k .last .1 .1 .1 .0; right = summarized-exact (p .0) (p .1 .0) (k .ensures); told = z .0; holds = z .1 }
 
 pub of-nodes-spec : {M : Type 1} → statement M

@@ -1,17 +1,18 @@
-use native.Mathlib.Omega.{arith}
-use mathlib.Core.Path.{_≡_, refl, sym, ap, _∙_}
-use Prim.Native.Nat.{ℕ, suc, _+_, _-_, _/_, _≤_, _<_}
-use lib.ListN.{length, getD, take, drop, set}
-use Rattle.usage.specs.Limits.{policies, stepFields}
+use Prim.Native.Nat.{_-_, _/_, _≤_}
+use lib.ListN.{length}
+use mathlib.Core.Path.{_≡_}
+use Rattle.usage.specs.Limits.{stepFields}
 use borrow.Author.Needs.{needs}
 use Rattle.test_stored.proofs.lean.follow.Statement.{statement}
 use Rattle.test_stored.proofs.lean.follow.Tie as tie
 
 abbrev Inv-loop : tie.InvT-loop
-Inv-loop edges local trace marks sets₀ possible₀ created₀ unclosed₀ order₀ numbers₀ steps i₀ t14 t15 sets possible created unclosed order numbers i = (steps ≡ length trace / stepFields) × (i ≤ steps)
+Inv-loop edges local trace marks sets₀ possible₀ created₀ unclosed₀ order₀ numbers₀
+    steps i₀ t14 t15 sets possible created unclosed order numbers i = (steps ≡ length trace / stepFields) × (i ≤ steps)
 
 abbrev μ-loop : tie.MeasureT-loop
-μ-loop edges local trace marks sets₀ possible₀ created₀ unclosed₀ order₀ numbers₀ steps i₀ t14 t15 sets possible created unclosed order numbers i = steps - i
+μ-loop edges local trace marks sets₀ possible₀ created₀ unclosed₀ order₀ numbers₀
+    steps i₀ t14 t15 sets possible created unclosed order numbers i = steps - i
 
 loop-holds : tie.Need-loop-holds Inv-loop μ-loop
 loop-holds c = search needs

@@ -1,8 +1,7 @@
-use native.Mathlib.Omega.{arith}
-use mathlib.Core.Path.{_≡_, refl, sym, ap, _∙_}
-use Prim.Native.Nat.{ℕ, suc, _+_, _-_, _/_, _≤_, _<_}
-use lib.ListN.{length, getD, take, drop, set}
-use Rattle.usage.specs.Limits.{policies, stepFields}
+use Prim.Native.Nat.{_-_, _≤_}
+use lib.ListN.{length}
+use mathlib.Core.Path.{_≡_}
+use Rattle.usage.specs.Limits.{policies}
 use borrow.Author.Needs.{needs}
 use Rattle.test_stored.proofs.lean.higher.Statement.{statement}
 use Rattle.test_stored.proofs.lean.higher.Tie as tie
