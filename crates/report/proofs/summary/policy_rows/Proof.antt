@@ -24,9 +24,9 @@ bit-row-requires : tie.Need-bit-row-requires Inv-loop μ-loop
 bit-row-requires c κs =
     let a = c .before .before .before .before .args in
     let t = c .before .before .loop in (
-      omega arith,
+      c .before .loop-test .taken,
       writing-fits (bitText (a .n) (a .p)) markBits (now (a .out)) (a .at) (t .out) (t .next) (t .i) (t .inv .1)
-          (omega arith),
+          (c .before .loop-test .taken),
     )
 
 add-i : tie.Need-add-i Inv-loop μ-loop
@@ -42,7 +42,7 @@ loop-again c =
     let r = c .before .before .bit-row in (
       omega arith,
       writing-more (bitText (a .n) (a .p)) markBits (now (a .out)) (a .at) (t .out) (t .next) (t .i) (t .inv .1)
-          (omega arith) (r .ensures .0) (r .ensures .1),
+          (c .before .before .before .before .loop-test .taken) (r .ensures .0) (r .ensures .1),
     )
 
 same-length : tie.Need-same-length Inv-loop μ-loop
@@ -53,7 +53,7 @@ unfolding policyText
 returns c =
     let a = c .before .before .before .args in
     let t = c .before .loop in
-    writing-done (bitText (a .n) (a .p)) markBits (now (a .out)) (a .at) (t .out) (t .next) (t .i) (t .inv .1) (omega arith)
+    writing-done (bitText (a .n) (a .p)) markBits (now (a .out)) (a .at) (t .out) (t .next) (t .i) (t .inv .1) (c .loop-test .left)
 
 pub policy-rows-spec : {M : Type 1} → statement M
 policy-rows-spec =
