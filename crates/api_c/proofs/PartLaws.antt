@@ -15,7 +15,7 @@ use Rattle.monitor_state.specs.declared.Answer.the-variants.{Allowed, Violated,
 use Rattle.monitor_state.specs.declared.Judgement.{Judgement}
 use Rattle.monitor_state.specs.declared.Told.{Told}
 use Rattle.monitor_state.specs.Judge.{verdictOf, refuse, judgeOf}
-use Rattle.monitor_state.specs.Code.{judgementOf}
+use Rattle.monitor_state.specs.Lent.{lentOf, judgementOf}
 use Rattle.monitor_state.proofs.KeptLaws.{refused-kept}
 use Rattle.monitor_lean.specs.Lean.{Looks, judgeBy}
 use Rattle.monitor_lean.proofs.KeptLaws.{by-refused-kept, by-table-refused}
@@ -119,7 +119,7 @@ module _ (judge : Judges) (edges : List ℕ) (choice : ℕ) (p : Parts) (raw : R
   -- ── What is told, and what is left in the arrays ──
 
   module _ (f : Refusing) (c : choice ≤ 1) (h : isHeld p ≡ true) (t : Told) (sets possible created unclosed order : List ℕ)
-      (is : judgementOf t sets possible created unclosed order ≡ judge edges (choiceOf choice) (heldIn p) raw) where
+      (is : judgementOf t (lentOf sets possible created unclosed order) ≡ judge edges (choiceOf choice) (heldIn p) raw) where
     pub told-verdict : verdictOf (t .answer) ≡ partsBy judge edges choice p raw .verdict
     told-verdict =
         sym (answered-verdict p (t .answer) (judge edges (choiceOf choice) (heldIn p) raw .state))
@@ -127,7 +127,7 @@ module _ (judge : Judges) (edges : List ℕ) (choice : ℕ) (p : Parts) (raw : R
         (ap (λ (j : Judgement). j .answer) is)
         ∙ sym (ap (λ (r : Answered). r .verdict) (held-judged f c h))
 
-    left : {q : Parts} → q ≡ answeredIn p (t .answer) (judgementOf t sets possible created unclosed order .state) .parts
+    left : {q : Parts} → q ≡ answeredIn p (t .answer) (judgementOf t (lentOf sets possible created unclosed order) .state) .parts
         → q ≡ partsBy judge edges choice p raw .parts
     left e =
         e ∙ ap (λ (j : Judgement). answeredIn p (j .answer) (j .state) .parts) is ∙ sym (ap (λ (r : Answered). r .parts) (held-judged f c h))
@@ -140,26 +140,28 @@ module _ (judge : Judges) (edges : List ℕ) (choice : ℕ) (p : Parts) (raw : R
       where
         by-answer : (a : Answer) → isRefusal a ≡ true → t .answer ≡ a
             → partsOf sets possible created unclosed order (p .numbers)
-            ≡ answeredIn p a (judgementOf t sets possible created unclosed order .state) .parts
+            ≡ answeredIn p a (judgementOf t (lentOf sets possible created unclosed order) .state) .parts
         by-answer Allowed r e = false-true r
         by-answer (Violated q) r e = false-true r
         by-answer (Refused n) r e =
-            let same : judgementOf t sets possible created unclosed order .state ≡ heldIn p =
+            let same : judgementOf t (lentOf sets possible created unclosed order) .state ≡ heldIn p =
             ap (λ (j : Judgement). j .state) is
             ∙ f .kept n (ap (λ (j : Judgement). j .answer) (sym is) ∙ e) in
-            ap (λ (s : State). partsOf (s .sets) (s .possible) (s .created) (s .unclosed) (s .order) (p .numbers)) same
+            ap (λ (s : State). partsOf (s .tracked .sets) (s .tracked .possible) (s .created .numbers) (s .unclosed .counts) (s .unclosed .order)
+            (p .numbers)) same
 
     -- otherwise the numbers are those of the new state
-    pub taken-left : (flag : ℕ) → isRefusal (t .answer) ≡ false → flag ≡ cond (t .halted) 1 0
-        → partsOf sets possible created unclosed order (t .count ∷ flag ∷ t .depth ∷ t .highest ∷ []) ≡ partsBy judge edges choice p raw .parts
+    pub taken-left : (flag : ℕ) → isRefusal (t .answer) ≡ false → flag ≡ cond (t .sizes .halted) 1 0
+        → partsOf sets possible created unclosed order (t .sizes .count ∷ flag ∷ t .sizes .depth ∷ t .sizes .highest ∷ [])
+        ≡ partsBy judge edges choice p raw .parts
     unfolding holding
     taken-left flag r e = left
-        (ap (λ (n : ℕ). partsOf sets possible created unclosed order (t .count ∷ n ∷ t .depth ∷ t .highest ∷ [])) e
+        (ap (λ (n : ℕ). partsOf sets possible created unclosed order (t .sizes .count ∷ n ∷ t .sizes .depth ∷ t .sizes .highest ∷ [])) e
         ∙ by-answer (t .answer) r)
       where
         by-answer : (a : Answer) → isRefusal a ≡ false
-            → holding (judgementOf t sets possible created unclosed order .state) ≡ answeredIn p a
-            (judgementOf t sets possible created unclosed order .state) .parts
+            → holding (judgementOf t (lentOf sets possible created unclosed order) .state) ≡ answeredIn p a
+            (judgementOf t (lentOf sets possible created unclosed order) .state) .parts
         by-answer Allowed r = refl
         by-answer (Violated q) r = refl
         by-answer (Refused n) r = false-true (sym r)

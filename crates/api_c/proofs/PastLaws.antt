@@ -15,7 +15,7 @@ use Rattle.usage.proofs.TableLaws.{decides-edge-table}
 use Rattle.monitor_state.specs.declared.State.{State}
 use Rattle.monitor_state.specs.declared.Answer.{Answer}
 use Rattle.monitor_state.specs.declared.Answer.the-variants.{Allowed, Violated, Refused}
-use Rattle.monitor_state.specs.Judge.{verdictOf, judgeOf, startState}
+use Rattle.monitor_state.specs.Judge.{verdictOf, judgeOf, startState, startCreated}
 use Rattle.monitor_state.specs.Represents.{Represents}
 use Rattle.monitor_state.proofs.StartLaws.{begin-represents}
 use Rattle.monitor_state.proofs.Verdict.{judge-promised}
@@ -30,23 +30,14 @@ use Rattle.api_c.proofs.PartLaws.{is-held, held-highest, held-judged, a
 
 held-holding : (s : State) → heldIn (holding s) ≡ s
 unfolding heldIn holding
-held-holding s = ap (λ (b : Bool). record {
-  sets = s .sets;
-  possible = s .possible;
-  created = s .created;
-  count = s .count;
-  highest = s .highest;
-  unclosed = s .unclosed;
-  order = s .order;
-  depth = s .depth;
-  halted = b;
-}) (back (s .halted))
+held-holding s =
+    ap (λ (b : Bool). record { tracked = s .tracked; created = s .created; unclosed = s .unclosed; halted = b }) (back (s .halted))
   where
     back : (b : Bool) → eqb (cond b 1 0) 1 ≡ b
     back true = refl
     back false = refl
 
-is-holding : (s : State) → s .highest ≤ mostNumber → isHeld (holding s) ≡ true
+is-holding : (s : State) → s .created .highest ≤ mostNumber → isHeld (holding s) ≡ true
 unfolding holding
 is-holding s h = is-held (holding s) (small (s .halted)) h
   where
@@ -54,7 +45,7 @@ is-holding s h = is-held (holding s) (small (s .halted)) h
     small true = omega arith
     small false = omega arith
 
-stands-holding : {local : Bool} {es : List Edge} {past : Past} {h : Bool} (s : State) → s .highest ≤ mostNumber → Represents local es past h s
+stands-holding : {local : Bool} {es : List Edge} {past : Past} {h : Bool} (s : State) → s .created .highest ≤ mostNumber → Represents local es past h s
     → StandsFor local es past h (holding s)
 stands-holding {local} {es} {past} {h} s b R =
     record { held = is-holding s b; represents = subst (Represents local es past h) (sym (held-holding s)) R }
@@ -62,7 +53,7 @@ stands-holding {local} {es} {past} {h} s b R =
 -- ── The start ──
 
 pub begins : BeginsIn (holding startState)
-unfolding startState
+unfolding startState startCreated
 begins local es = stands-holding startState (omega arith) (begin-represents local es)
 
 -- ── A step ──

@@ -12,6 +12,7 @@ use Rattle.monitor_state.specs.declared.Answer.{Answer}
 use Rattle.monitor_state.specs.declared.Answer.the-variants.{Allowed, Violated, Refused}
 use Rattle.monitor_state.specs.declared.Judgement.{Judgement}
 use Rattle.monitor_state.specs.Judge.{verdictOf, judgeOf}
+use Rattle.monitor_state.specs.Lent.{lentOf, stateOf}
 use Rattle.monitor_lean.specs.Lean.{Summary, leanOf}
 use Rattle.api_c.specs.Choice.{isChoice, choiceOf}
 
@@ -45,22 +46,15 @@ isHeld p = leb (flag p) 1 && leb (highestIn p) mostNumber
 
 -- that state
 unfoldable pub heldIn : Parts → State
-heldIn p = record {
-  sets = p .sets;
-  possible = p .possible;
-  created = p .created;
-  count = getD (p .numbers) 0 0;
-  highest = highestIn p;
-  unclosed = p .unclosed;
-  order = p .order;
-  depth = getD (p .numbers) 2 0;
-  halted = eqb (flag p) 1;
-}
+heldIn p =
+    stateOf (lentOf (p .sets) (p .possible) (p .created) (p .unclosed) (p .order))
+    (record { count = getD (p .numbers) 0 0; highest = highestIn p; depth = getD (p .numbers) 2 0; halted = eqb (flag p) 1 })
 
 -- the arrays that hold a state
 unfoldable pub holding : State → Parts
 holding s =
-    partsOf (s .sets) (s .possible) (s .created) (s .unclosed) (s .order) (s .count ∷ cond (s .halted) 1 0 ∷ s .depth ∷ s .highest ∷ [])
+    partsOf (s .tracked .sets) (s .tracked .possible) (s .created .numbers) (s .unclosed .counts) (s .unclosed .order)
+    (s .created .count ∷ cond (s .halted) 1 0 ∷ s .unclosed .depth ∷ s .created .highest ∷ [])
 
 -- what is answered, and what the arrays then hold
 pub record Answered : Type 0 where

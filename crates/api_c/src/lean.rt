@@ -1,6 +1,7 @@
 // The exact summary and the lean judge (02, L11), for callers in C and Rust.
 use monitor_sets::SETS;
 use monitor_state::Answer;
+use monitor_state::Sizes;
 use monitor_state::Told;
 use usage::MOST_CREATED;
 use usage::MOST_UNCLOSED;
@@ -91,6 +92,13 @@ pub extern "C" fn wiforekun_judge_lean_parts(
     if crate::MOST_NUMBER < highest {
         return crate::no_state(edges);
     }
+    let top = highest as u32;
+    let sizes = Sizes {
+        count,
+        highest: top,
+        depth,
+        halted: flag == 1,
+    };
     let t = monitor_lean::judge_lean(
         marks,
         edges,
@@ -100,18 +108,16 @@ pub extern "C" fn wiforekun_judge_lean_parts(
         created,
         unclosed,
         order,
-        count,
-        highest as u32,
-        depth,
-        flag == 1,
+        sizes,
         RawStep { kind, a, b },
     );
     let answer = t.answer;
     if !crate::is_refusal(answer) {
-        let n = t.count as u64;
-        let h = crate::flag_of(t.halted);
-        let d = t.depth as u64;
-        let m = t.highest as u64;
+        let after = t.sizes;
+        let n = after.count as u64;
+        let h = crate::flag_of(after.halted);
+        let d = after.depth as u64;
+        let m = after.highest as u64;
         *numbers = [n, h, d, m];
     }
     crate::code(answer)

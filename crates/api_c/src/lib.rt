@@ -4,6 +4,7 @@ use checker::counterexample::Explanation;
 use checker_trace::MOST_NUMBERS;
 use monitor_sets::SETS;
 use monitor_state::Answer;
+use monitor_state::Sizes;
 use monitor_state::Told;
 use usage::MOST_CREATED;
 use usage::MOST_UNCLOSED;
@@ -128,6 +129,13 @@ pub extern "C" fn wiforekun_judge_parts(
     if MOST_NUMBER < highest {
         return no_state(edges);
     }
+    let top = highest as u32;
+    let sizes = Sizes {
+        count,
+        highest: top,
+        depth,
+        halted: flag == 1,
+    };
     let t = monitor::judge_lent(
         edges,
         local == 1,
@@ -136,18 +144,16 @@ pub extern "C" fn wiforekun_judge_parts(
         created,
         unclosed,
         order,
-        count,
-        highest as u32,
-        depth,
-        flag == 1,
+        sizes,
         RawStep { kind, a, b },
     );
     let answer = t.answer;
     if !is_refusal(answer) {
-        let n = t.count as u64;
-        let h = flag_of(t.halted);
-        let d = t.depth as u64;
-        let m = t.highest as u64;
+        let after = t.sizes;
+        let n = after.count as u64;
+        let h = flag_of(after.halted);
+        let d = after.depth as u64;
+        let m = after.highest as u64;
         *numbers = [n, h, d, m];
     }
     code(answer)

@@ -26,15 +26,18 @@ pub extern "C" fn wiforekun_start_parts(
         (now (numbers .exit))) ⌝ }
 {
     let s = monitor::start();
-    let first_sets = s.sets;
-    let first_possible = s.possible;
+    let first_tracked = s.tracked;
     let first_created = s.created;
     let first_unclosed = s.unclosed;
-    let first_order = s.order;
+    let first_sets = first_tracked.sets;
+    let first_possible = first_tracked.possible;
+    let first_numbers = first_created.numbers;
+    let first_counts = first_unclosed.counts;
+    let first_order = first_unclosed.order;
     *sets = first_sets;
     *possible = first_possible;
-    *created = first_created;
-    *unclosed = first_unclosed;
+    *created = first_numbers;
+    *unclosed = first_counts;
     *order = first_order;
     *numbers = [0, 0, 0, 0];
 }

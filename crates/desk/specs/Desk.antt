@@ -53,7 +53,7 @@ zeroDesk = none
 -- "52 a load while a sandbox is open and the judge is not halted"
 abbrev pub isBusy : Desk → Bool
 isBusy none = false
-isBusy (some d) = ltb 0 (d .judge .depth) && not (d .judge .halted)
+isBusy (some d) = ltb 0 (d .judge .unclosed .depth) && not (d .judge .halted)
 
 -- the answer to a load: a refusal with its line, policies that are loaded, or an outline that is, with the check's verdict
 pub data LoadAnswer : Type 0 where

@@ -35,47 +35,47 @@ module _ (looked : ℕ) (local : Bool) (es : List Edge) (s : State) (step : Step
 -- ── The number that refuses it ──
 
 module _ (s : State) (p : ℕ) where
-  pub opening-deep : mostUnclosed ≤ s .depth → refusal s (opening p) ≡ some 32
+  pub opening-deep : mostUnclosed ≤ s .unclosed .depth → refusal s (opening p) ≡ some 32
   unfolding refusal
-  opening-deep h = simp (le-leb mostUnclosed (s .depth) h)
+  opening-deep h = simp (le-leb mostUnclosed (s .unclosed .depth) h)
 
-  pub opening-free : s .depth < mostUnclosed → refusal s (opening p) ≡ none
+  pub opening-free : s .unclosed .depth < mostUnclosed → refusal s (opening p) ≡ none
   unfolding refusal
-  opening-free h = simp (lt-leb mostUnclosed (s .depth) h)
+  opening-free h = simp (lt-leb mostUnclosed (s .unclosed .depth) h)
 
-  pub closing-closed : openingsOf s p ≡ 0 → refusal s (closing p) ≡ some 25
+  pub closing-closed : openingsOf (s .unclosed) p ≡ 0 → refusal s (closing p) ≡ some 25
   unfolding refusal
-  closing-closed h = simp (le-ltb 0 (openingsOf s p) (omega arith))
+  closing-closed h = simp (le-ltb 0 (openingsOf (s .unclosed) p) (omega arith))
 
-  pub closing-not-last : 0 < openingsOf s p → (lastOpened s ≡ p → ⊥) → refusal s (closing p) ≡ some 26
+  pub closing-not-last : 0 < openingsOf (s .unclosed) p → (lastOpened (s .unclosed) ≡ p → ⊥) → refusal s (closing p) ≡ some 26
   unfolding refusal
-  closing-not-last h n = simp (lt-ltb 0 (openingsOf s p) h, ne-eqb (lastOpened s) p n)
+  closing-not-last h n = simp (lt-ltb 0 (openingsOf (s .unclosed) p) h, ne-eqb (lastOpened (s .unclosed)) p n)
 
-  pub closing-free : 0 < openingsOf s p → lastOpened s ≡ p → refusal s (closing p) ≡ none
+  pub closing-free : 0 < openingsOf (s .unclosed) p → lastOpened (s .unclosed) ≡ p → refusal s (closing p) ≡ none
   unfolding refusal
-  closing-free h e = simp (lt-ltb 0 (openingsOf s p) h, eq-eqb (lastOpened s) p e)
+  closing-free h e = simp (lt-ltb 0 (openingsOf (s .unclosed) p) h, eq-eqb (lastOpened (s .unclosed)) p e)
 
 module _ (s : State) (r : ℕ) where
   pub create-static : r < statics → refusal s (event 0 r) ≡ some 22
   unfolding refusal
   create-static h = simp (lt-ltb r statics h)
 
-  pub create-low : statics ≤ r → r ≤ s .highest → refusal s (event 0 r) ≡ some 27
+  pub create-low : statics ≤ r → r ≤ s .created .highest → refusal s (event 0 r) ≡ some 27
   unfolding refusal
-  create-low h l = simp (le-ltb r statics h, le-leb r (s .highest) l)
+  create-low h l = simp (le-ltb r statics h, le-leb r (s .created .highest) l)
 
-  pub create-full : statics ≤ r → s .highest < r → mostCreated ≤ s .count → refusal s (event 0 r) ≡ some 30
+  pub create-full : statics ≤ r → s .created .highest < r → mostCreated ≤ s .created .count → refusal s (event 0 r) ≡ some 30
   unfolding refusal
-  create-full h l f = simp (le-ltb r statics h, lt-leb r (s .highest) l, le-leb mostCreated (s .count) f)
+  create-full h l f = simp (le-ltb r statics h, lt-leb r (s .created .highest) l, le-leb mostCreated (s .created .count) f)
 
-  pub create-free : statics ≤ r → s .highest < r → s .count < mostCreated → refusal s (event 0 r) ≡ none
+  pub create-free : statics ≤ r → s .created .highest < r → s .created .count < mostCreated → refusal s (event 0 r) ≡ none
   unfolding refusal
-  create-free h l f = simp (le-ltb r statics h, lt-leb r (s .highest) l, lt-leb mostCreated (s .count) f)
+  create-free h l f = simp (le-ltb r statics h, lt-leb r (s .created .highest) l, lt-leb mostCreated (s .created .count) f)
 
   -- a retiring
-  pub retiring-unknown : known s r ≡ false → refusal s (retiring r) ≡ some 28
+  pub retiring-unknown : known (s .created) r ≡ false → refusal s (retiring r) ≡ some 28
   unfolding refusal
-  retiring-unknown k = go (ltb r statics) (listed r (live s)) k
+  retiring-unknown k = go (ltb r statics) (listed r (live (s .created))) k
     where
       go : (b c : Bool) → (b || c) ≡ false → cond {A = Option ℕ} (not b && c) none (some 28) ≡ some 28
       go true c e = refl
@@ -86,17 +86,17 @@ module _ (s : State) (r : ℕ) where
   unfolding refusal
   retiring-static h = simp (lt-ltb r statics h)
 
-  pub retiring-free : statics ≤ r → listed r (live s) ≡ true → refusal s (retiring r) ≡ none
+  pub retiring-free : statics ≤ r → listed r (live (s .created)) ≡ true → refusal s (retiring r) ≡ none
   unfolding refusal
   retiring-free h l = simp (le-ltb r statics h, l)
 
   -- another event
-  pub use-unknown : (a : ℕ) → (a ≡ 0 → ⊥) → known s r ≡ false → refusal s (event a r) ≡ some 24
+  pub use-unknown : (a : ℕ) → (a ≡ 0 → ⊥) → known (s .created) r ≡ false → refusal s (event a r) ≡ some 24
   unfolding refusal
   use-unknown zero h k = absurd (h refl)
   use-unknown (suc a) h k = simp k
 
-  pub use-known : (a : ℕ) → (a ≡ 0 → ⊥) → known s r ≡ true → refusal s (event a r) ≡ none
+  pub use-known : (a : ℕ) → (a ≡ 0 → ⊥) → known (s .created) r ≡ true → refusal s (event a r) ≡ none
   unfolding refusal
   use-known zero h k = absurd (h refl)
   use-known (suc a) h k = simp k

@@ -17,18 +17,20 @@ use Rattle.usage.specs.Past.{Step, event, retiring}
 use Rattle.usage.specs.Judge.{stepOf}
 use Rattle.usage.proofs.Logic.{and-left, and-right, and-both}
 use Rattle.automaton.specs.Mask.{lowestIn}
+use Rattle.monitor_state.specs.declared.Created.{Created}
 use Rattle.monitor_state.specs.declared.State.{State}
-use Rattle.monitor_state.specs.declared.Judgement.{Judgement}
+use Rattle.monitor_state.specs.declared.Sizes.{Sizes}
 use Rattle.monitor_state.specs.declared.Told.{Told}
 use Rattle.monitor_state.specs.declared.Answer.the-variants.{Allowed, Violated, Refused}
-use Rattle.monitor_state.specs.Judge.{listed, live, used, stateOk, placeFrom, placeOf, copied, createdIn, movedSets, gathered, movedIn, after}
-use Rattle.monitor_state.specs.Judge.{refusal, refuse, halt, settle}
+use Rattle.monitor_state.specs.Created.{listed, live, used, liveOk, placeFrom, placeOf, withNew}
+use Rattle.monitor_state.specs.Tracked.{copied, movedSets, gathered, copiedIn, movedIn}
+use Rattle.monitor_state.specs.Judge.{unclosedOk, stateOk, withTracked, creating, moving, after, refusal, refuse, halt, settle}
 use Rattle.monitor_state.specs.Looked.{brokenAmong, judgeReadBy, lookedAt}
 use Rattle.monitor_sets.specs.Instances.{unseen, firstCreated, instances}
 use Rattle.monitor_sets.specs.Created.{createdOk, highestOk, placeIn}
 use Rattle.monitor_sets.specs.Order.{orderOk}
 use Rattle.monitor_sets.specs.Code.{brokenBit, brokenIn, eventSets}
-use Rattle.monitor_state.specs.Code.{sizesOf, judgementOf, stepped, toldOf}
+use Rattle.monitor_state.specs.Code.{Lent, lentOf, stateOf, judgementOf, sizesOf, haltedSizes, stepped, toldOf}
 use Rattle.monitor_state.proofs.ListLaws.{every-at, place-absent, place-new}
 use Rattle.monitor_state.proofs.WithoutLaws.{place-from}
 use Rattle.monitor_state.proofs.Places.{place-static, place-dynamic, place-lt, is-known}
@@ -40,101 +42,93 @@ pub cond-same : {A : Type 0} (b : Bool) (x : A) → cond b x x ≡ x
 cond-same true x = refl
 cond-same false x = refl
 
--- the parts that 42 asks about: of what is live, and of the openings
-abbrev liveOk : State → Bool
-liveOk s = createdOk (s .count) (s .created) && highestOk (s .highest) (s .count) (s .created)
+-- what 42 asks of what is live, over the arrays
+abbrev LiveOk : Lent → Sizes → Bool
+LiveOk l z = createdOk (z .count) (l .numbers) && highestOk (z .highest) (z .count) (l .numbers)
 
-by-parts : (s : State) → stateOk s ≡ (liveOk s && orderOk (s .depth) (s .order) (s .unclosed))
-unfolding stateOk
-by-parts s = go (createdOk (s .count) (s .created)) (highestOk (s .highest) (s .count) (s .created)) (orderOk (s .depth) (s .order) (s .unclosed))
-  where
-    go : (c t o : Bool) → (c && (t && o)) ≡ ((c && t) && o)
-    go true t o = refl
-    go false t o = refl
+module _ (l : Lent) (z : Sizes) where
+  pub parts-ok : LiveOk l z ≡ true → orderOk (z .depth) (l .order) (l .counts) ≡ true → stateOk (stateOf l z) ≡ true
+  unfolding stateOk liveOk unclosedOk
+  parts-ok w o = rw (w, o)
 
-pub parts-ok : (s : State) → liveOk s ≡ true → orderOk (s .depth) (s .order) (s .unclosed) ≡ true → stateOk s ≡ true
-parts-ok s w o = by-parts s ∙ rw (w, o)
+  pub live-bad : LiveOk l z ≡ false → stateOk (stateOf l z) ≡ false
+  unfolding stateOk liveOk
+  live-bad w = rw w
 
-pub live-bad : (s : State) → liveOk s ≡ false → stateOk s ≡ false
-live-bad s w = by-parts s ∙ rw w
+  pub order-bad : LiveOk l z ≡ true → orderOk (z .depth) (l .order) (l .counts) ≡ false → stateOk (stateOf l z) ≡ false
+  unfolding stateOk liveOk unclosedOk
+  order-bad w o = rw (w, o)
 
-pub order-bad : (s : State) → liveOk s ≡ true → orderOk (s .depth) (s .order) (s .unclosed) ≡ false → stateOk s ≡ false
-order-bad s w o = by-parts s ∙ rw (w, o)
+  pub live-highest : LiveOk l z ≡ true → highestOk (z .highest) (z .count) (l .numbers) ≡ true
+  live-highest w = and-right (createdOk (z .count) (l .numbers)) (highestOk (z .highest) (z .count) (l .numbers)) w
 
-pub live-highest : (s : State) → liveOk s ≡ true → highestOk (s .highest) (s .count) (s .created) ≡ true
-live-highest s w = and-right (createdOk (s .count) (s .created)) (highestOk (s .highest) (s .count) (s .created)) w
+  pub live-few : LiveOk l z ≡ true → z .count ≤ mostCreated
+  unfolding createdOk
+  live-few w = leb-true (z .count) mostCreated
+      (and-left (leb (z .count) mostCreated) _ (and-left (createdOk (z .count) (l .numbers)) (highestOk (z .highest) (z .count) (l .numbers)) w))
 
 -- a number above the highest one is that of no live resource
-pub new-above : (s : State) (r : ℕ) → highestOk (s .highest) (s .count) (s .created) ≡ true → s .highest < r → listed r (live s) ≡ false
+pub new-above : (c : Created) (r : ℕ) → highestOk (c .highest) (c .count) (c .numbers) ≡ true → c .highest < r → listed r (live c) ≡ false
 unfolding highestOk
-new-above s r t h = go (listed r (live s)) refl
+new-above c r t h = go (listed r (live c)) refl
   where
-    go : (b : Bool) → listed r (live s) ≡ b → listed r (live s) ≡ false
-    go true e = absurd (let z = leb-true r (s .highest) (every-at (λ y. leb y (s .highest)) r (live s) t e) in omega arith)
+    go : (b : Bool) → listed r (live c) ≡ b → listed r (live c) ≡ false
+    go true e = absurd (let z = leb-true r (c .highest) (every-at (λ y. leb y (c .highest)) r (live c) t e) in omega arith)
     go false e = e
 
-parts-broken : (looked : ℕ) (step : Step) (s : State) → brokenAmong (lookedAt looked step) s ≡ brokenIn looked (s .possible) (s .unclosed)
+parts-broken : (looked : ℕ) (step : Step) (s : State) → brokenAmong (lookedAt looked step) s ≡ brokenIn looked (s .tracked .possible) (s .unclosed .counts)
 unfolding brokenAmong brokenIn brokenBit
 parts-broken looked step s = refl
 
-pub parts-place : (s : State) (x : ℕ) → placeOf s x ≡ placeIn x (take (s .count) (s .created))
+pub parts-place : (c : Created) (x : ℕ) → placeOf c x ≡ placeIn x (live c)
 unfolding placeOf placeIn
-parts-place s x = refl
-
--- what is told, with the arrays of a state
-abbrev pub toldIn : Told → State → Judgement
-toldIn t s = judgementOf t (s .sets) (s .possible) (s .created) (s .unclosed) (s .order)
+parts-place c x = refl
 
 -- a refusal
-pub refused-parts : (s : State) (n : ℕ) (t : Told)
-    → t ≡ record { answer = Refused n; count = s .count; highest = s .highest; depth = s .depth; halted = s .halted } → toldIn t s ≡ refuse n s
+pub refused-parts : (l : Lent) (z : Sizes) (n : ℕ) (t : Told) → t ≡ record { answer = Refused n; sizes = z }
+    → judgementOf t l ≡ refuse n (stateOf l z)
 unfolding refuse
-refused-parts s n t e = rw e
+refused-parts l z n t e = rw e
 
 -- a step that was read and is refused
-pub refused-step : (looked : ℕ) (local : Bool) (es : List Edge) (s : State) (step : Step) (n : ℕ) (t : Told)
-    → t ≡ record { answer = Refused n; count = s .count; highest = s .highest; depth = s .depth; halted = s .halted } → refusal s step ≡ some n
-    → toldIn t s ≡ stepped looked local es s step
-refused-step looked local es s step n t e f = refused-parts s n t e ∙ sym (step-refused looked local es s step n f)
-
-pub live-few : (s : State) → liveOk s ≡ true → s .count ≤ mostCreated
-unfolding createdOk
-live-few s w = leb-true (s .count) mostCreated
-    (and-left (leb (s .count) mostCreated) _ (and-left (createdOk (s .count) (s .created)) (highestOk (s .highest) (s .count) (s .created)) w))
+pub refused-step : (looked : ℕ) (local : Bool) (es : List Edge) (l : Lent) (z : Sizes) (step : Step) (n : ℕ) (t : Told)
+    → t ≡ record { answer = Refused n; sizes = z } → refusal (stateOf l z) step ≡ some n
+    → judgementOf t l ≡ stepped looked local es (stateOf l z) step
+refused-step looked local es l z step n t e f = refused-parts l z n t e ∙ sym (step-refused looked local es (stateOf l z) step n f)
 
 -- the answer from the states before and after a step: an array is that of the one after it where nothing is broken
 module _ (s t : State) (bad : ℕ) where
   abbrev pub Left : List ℕ → List ℕ → List ℕ → Type 0
   Left new old l = l ≡ cond (eqb bad 0) new old
 
-  settle-parts : t .halted ≡ false
-      → judgementOf (toldOf bad (sizesOf s) (sizesOf t))
-      (cond (eqb bad 0) (t .sets) (s .sets)) (cond (eqb bad 0) (t .possible) (s .possible))
-      (cond (eqb bad 0) (t .created) (s .created)) (cond (eqb bad 0) (t .unclosed) (s .unclosed)) (cond (eqb bad 0) (t .order) (s .order))
+  settle-parts : judgementOf (toldOf bad (sizesOf s) (sizesOf t))
+      (lentOf (cond (eqb bad 0) (t .tracked .sets) (s .tracked .sets)) (cond (eqb bad 0) (t .tracked .possible) (s .tracked .possible))
+      (cond (eqb bad 0) (t .created .numbers) (s .created .numbers)) (cond (eqb bad 0) (t .unclosed .counts) (s .unclosed .counts))
+      (cond (eqb bad 0) (t .unclosed .order) (s .unclosed .order)))
       ≡ settle bad s t
   unfolding settle halt toldOf
-  settle-parts h = go (eqb bad 0)
+  settle-parts = go (eqb bad 0)
     where
       go : (b : Bool)
           → judgementOf
-          (cond b (record { answer = Allowed; count = t .count; highest = t .highest; depth = t .depth; halted = false })
-          (record { answer = Violated (lowestIn bad); count = s .count; highest = s .highest; depth = s .depth; halted = true })) (cond b (t .sets) (s .sets))
-          (cond b (t .possible) (s .possible)) (cond b (t .created) (s .created)) (cond b (t .unclosed) (s .unclosed))
-          (cond b (t .order) (s .order))
+          (cond b (record { answer = Allowed; sizes = sizesOf t }) (record { answer = Violated (lowestIn bad); sizes = haltedSizes (sizesOf s) }))
+          (lentOf (cond b (t .tracked .sets) (s .tracked .sets)) (cond b (t .tracked .possible) (s .tracked .possible))
+          (cond b (t .created .numbers) (s .created .numbers)) (cond b (t .unclosed .counts) (s .unclosed .counts))
+          (cond b (t .unclosed .order) (s .unclosed .order)))
           ≡ cond b (record { answer = Allowed; state = t }) (record { answer = Violated (lowestIn bad); state = halt s })
-      go true = rw (← h)
+      go true = refl
       go false = refl
 
   -- a step that is taken
-  pub settled-step : (looked : ℕ) (local : Bool) (es : List Edge) (step : Step) (u : Told) {sets possible created unclosed order : List ℕ}
-      → t .halted ≡ false
-      → bad ≡ brokenIn looked (t .possible) (t .unclosed) → refusal s step ≡ none
+  pub settled-step : (looked : ℕ) (local : Bool) (es : List Edge) (step : Step) (u : Told) {sets possible numbers counts order : List ℕ}
+      → bad ≡ brokenIn looked (t .tracked .possible) (t .unclosed .counts) → refusal s step ≡ none
       → t ≡ after local es s step → u ≡ toldOf bad (sizesOf s) (sizesOf t)
-      → Left (t .sets) (s .sets) sets → Left (t .possible) (s .possible) possible → Left (t .created) (s .created) created
-      → Left (t .unclosed) (s .unclosed) unclosed → Left (t .order) (s .order) order
-      → judgementOf u sets possible created unclosed order ≡ stepped looked local es s step
-  settled-step looked local es step u h b n e told p q r v w =
-      rw (told, p, q, r, v, w) (settle-parts h) ∙ ap (λ (k : ℕ). settle k s t) (b ∙ sym (parts-broken looked step t))
+      → Left (t .tracked .sets) (s .tracked .sets) sets → Left (t .tracked .possible) (s .tracked .possible) possible
+      → Left (t .created .numbers) (s .created .numbers) numbers
+      → Left (t .unclosed .counts) (s .unclosed .counts) counts → Left (t .unclosed .order) (s .unclosed .order) order
+      → judgementOf u (lentOf sets possible numbers counts order) ≡ stepped looked local es s step
+  settled-step looked local es step u b n e told p q r v w =
+      rw (told, p, q, r, v, w) settle-parts ∙ ap (λ (k : ℕ). settle k s t) (b ∙ sym (parts-broken looked step t))
       ∙ sym (step-taken looked local es s step t n e)
 
   -- an array that the step does not change
@@ -159,88 +153,80 @@ close-done n i x y h k = simp (le-leb n mostCreated h, lt-ltb i n k)
 
 -- ── Events ──
 
--- the state with other sets, which are gathered from the first n instances, and other created resources
-abbrev pub movedTo : State → ℕ → List ℕ → List ℕ → ℕ → ℕ → State
-movedTo s n sets created count highest = record {
-  sets = sets;
-  possible = gathered n sets;
-  created = created;
-  count = count;
-  highest = highest;
-  unclosed = s .unclosed;
-  order = s .order;
-  depth = s .depth;
-  halted = s .halted;
-}
+-- the state with other sets, from whose first n instances is gathered, and with other created resources
+abbrev pub movedTo : State → ℕ → List ℕ → Created → State
+movedTo s n sets c =
+    record { tracked = record { sets = sets; possible = gathered n sets }; created = c; unclosed = s .unclosed; halted = s .halted }
 
 module _ (local : Bool) (es : List Edge) (s : State) (r : ℕ) where
   -- the place of a resource that is created now
-  place-made : s .count < length (s .created) → statics ≤ r → listed r (live s) ≡ false
-      → placeIn r (take (s .count + 1) (set (s .created) (s .count) r)) ≡ firstCreated + s .count
+  place-made : (c : Created) → c .count < length (c .numbers) → statics ≤ r → listed r (live c) ≡ false
+      → placeIn r (take (c .count + 1) (set (c .numbers) (c .count) r)) ≡ firstCreated + c .count
   unfolding placeIn
-  place-made h d l =
+  place-made c h d l =
       simp (
         le-ltb r statics d,
-        add-one (s .count),
-        take-suc-set (s .created) (s .count) r h,
-        place-new r firstCreated (live s) l,
-        length-take-le (s .count) (s .created) (omega arith),
+        add-one (c .count),
+        take-suc-set (c .numbers) (c .count) r h,
+        place-new r firstCreated (live c) l,
+        length-take-le (c .count) (c .numbers) (omega arith),
       )
 
-  pub create-after : s .count < length (s .created) → statics ≤ r → listed r (live s) ≡ false
-      → (let n = firstCreated + s .count + 1 in
-      movedTo s n (eventSets es 0 r (firstCreated + s .count) n (s .sets)) (set (s .created) (s .count) r) (s .count + 1) r
+  pub create-after : s .created .count < length (s .created .numbers) → statics ≤ r → listed r (live (s .created)) ≡ false
+      → (let n = firstCreated + s .created .count + 1 in
+      movedTo s n (eventSets es 0 r (firstCreated + s .created .count) n (s .tracked .sets)) (withNew (s .created) r)
       ≡ after local es s (event 0 r))
-  unfolding after eventSets movedIn createdIn placeOf placeIn
+  unfolding after eventSets withTracked moving creating movedIn copiedIn withNew placeOf placeIn
   create-after h d l =
-      let m : firstCreated + s .count + 1 ≡ firstCreated + (s .count + 1) = omega arith in
-      let moved : ℕ → ℕ → List ℕ = λ (i n : ℕ). movedSets es 0 r i n (copied (s .sets) (firstCreated + s .count)) in
-      ap₂ (λ (i n : ℕ). movedTo s n (moved i n) (set (s .created) (s .count) r) (s .count + 1) r) (sym (place-made h d l)) m
+      let c = s .created in
+      let m : firstCreated + c .count + 1 ≡ firstCreated + (c .count + 1) = omega arith in
+      let moved : ℕ → ℕ → List ℕ = λ (i n : ℕ). movedSets es 0 r i n (copied (s .tracked .sets) (firstCreated + c .count)) in
+      ap₂ (λ (i n : ℕ). movedTo s n (moved i n) (withNew c r)) (sym (place-made c h d l)) m
 
-  pub event-after : (a at : ℕ) → (a ≡ 0 → ⊥) → at ≡ placeIn r (live s)
-      → movedTo s (used s) (eventSets es a r at (used s) (s .sets)) (s .created) (s .count) (s .highest) ≡ after local es s (event a r)
-  unfolding after eventSets movedIn placeOf placeIn
+  pub event-after : (a at : ℕ) → (a ≡ 0 → ⊥) → at ≡ placeIn r (live (s .created))
+      → movedTo s (used (s .created)) (eventSets es a r at (used (s .created)) (s .tracked .sets)) (s .created) ≡ after local es s (event a r)
+  unfolding after eventSets withTracked moving movedIn placeOf placeIn
   event-after zero at n p = absurd (n refl)
   event-after (suc a) at n p = rw p (simp (ne-eqb (suc a) 0 n))
 
-  pub event-free : (a at : ℕ) → (a ≡ 0 → ⊥) → at ≡ placeIn r (live s) → (at ≡ unseen → ⊥) → refusal s (event a r) ≡ none
-  event-free a at n p k = use-known s r a n (is-known s r (λ q. k (p ∙ sym (parts-place s r) ∙ q)))
+  pub event-free : (a at : ℕ) → (a ≡ 0 → ⊥) → at ≡ placeIn r (live (s .created)) → (at ≡ unseen → ⊥) → refusal s (event a r) ≡ none
+  event-free a at n p k = use-known s r a n (is-known (s .created) r (λ q. k (p ∙ sym (parts-place (s .created) r) ∙ q)))
 
 -- ── Retirings ──
 
-module _ (s : State) (r at : ℕ) (p : at ≡ placeIn r (live s)) where
-  at-dynamic : statics ≤ r → at ≡ placeFrom r firstCreated (live s)
-  at-dynamic d = p ∙ sym (parts-place s r) ∙ place-dynamic s r d
+module _ (s : State) (r at : ℕ) (p : at ≡ placeIn r (live (s .created))) where
+  at-dynamic : statics ≤ r → at ≡ placeFrom r firstCreated (live (s .created))
+  at-dynamic d = p ∙ sym (parts-place (s .created) r) ∙ place-dynamic (s .created) r d
 
   pub retiring-low : at < firstCreated → refusal s (retiring r) ≡ some 28
-  retiring-low h = go (ltb r statics) refl (listed r (live s)) refl
+  retiring-low h = go (ltb r statics) refl (listed r (live (s .created))) refl
     where
-      go : (b : Bool) → ltb r statics ≡ b → (c : Bool) → listed r (live s) ≡ c → refusal s (retiring r) ≡ some 28
+      go : (b : Bool) → ltb r statics ≡ b → (c : Bool) → listed r (live (s .created)) ≡ c → refusal s (retiring r) ≡ some 28
       go true b c m = retiring-static s r (ltb-true r statics b)
       go false b true m =
-          absurd (let z = at-dynamic (ltb-false r statics b) in omega (arith, place-from r firstCreated (live s) m))
+          absurd (let z = at-dynamic (ltb-false r statics b) in omega (arith, place-from r firstCreated (live (s .created)) m))
       go false b false m = retiring-unknown s r (rw b m)
 
   -- a resource whose place is that of a live one
-  pub retiring-high : firstCreated ≤ at → (statics ≤ r) × (listed r (live s) ≡ true)
-  retiring-high h = go (ltb r statics) refl (listed r (live s)) refl
+  pub retiring-high : firstCreated ≤ at → (statics ≤ r) × (listed r (live (s .created)) ≡ true)
+  retiring-high h = go (ltb r statics) refl (listed r (live (s .created))) refl
     where
-      go : (b : Bool) → ltb r statics ≡ b → (c : Bool) → listed r (live s) ≡ c → (statics ≤ r) × (listed r (live s) ≡ true)
+      go : (b : Bool) → ltb r statics ≡ b → (c : Bool) → listed r (live (s .created)) ≡ c → (statics ≤ r) × (listed r (live (s .created)) ≡ true)
       go true b c m =
           let l = ltb-true r statics b in
-          let z : at ≡ r = p ∙ sym (parts-place s r) ∙ place-static s r l in
+          let z : at ≡ r = p ∙ sym (parts-place (s .created) r) ∙ place-static (s .created) r l in
           absurd (omega arith)
       go false b true m = (ltb-false r statics b, m)
       go false b false m =
-          let z : at ≡ unseen = at-dynamic (ltb-false r statics b) ∙ place-absent r firstCreated (live s) m in
+          let z : at ≡ unseen = at-dynamic (ltb-false r statics b) ∙ place-absent r firstCreated (live (s .created)) m in
           absurd (omega arith)
 
   pub retiring-taken : firstCreated ≤ at → refusal s (retiring r) ≡ none
   retiring-taken h = let k = retiring-high h in retiring-free s r (k .0) (k .1)
 
   -- its instance is one of those in use
-  pub retiring-used : at < firstCreated + s .count
-  retiring-used = omega (arith, p, parts-place s r, place-lt s r)
+  pub retiring-used : at < firstCreated + s .created .count
+  retiring-used = omega (arith, p, parts-place (s .created) r, place-lt (s .created) r)
 
 -- ── The step as it is handed over ──
 

@@ -2,11 +2,14 @@
 use monitor_sets::FIRST_CREATED;
 use monitor_sets::SETS;
 use monitor_sets::UNSEEN;
+use monitor_state::Created;
 use monitor_state::Judgement;
 use monitor_state::Read;
 use monitor_state::Sizes;
 use monitor_state::State;
 use monitor_state::Told;
+use monitor_state::Tracked;
+use monitor_state::Unclosed;
 use usage::MOST_CREATED;
 use usage::MOST_UNCLOSED;
 use usage::POLICIES;
@@ -29,7 +32,7 @@ ghost use Rattle.monitor_state.specs.Looked.{lookedAt, judgeReadBy, judgeBy};
 ghost use Rattle.monitor_state.specs.Promise.{StandsForNothing, Keeps};
 ghost use Rattle.monitor_state.specs.Renamed.{SameAnswers};
 ghost use Rattle.monitor_state.specs.Others.{OthersKept};
-ghost use Rattle.monitor_state.specs.Lent.{stateOf, judgementOf};
+ghost use Rattle.monitor_state.specs.Lent.{lentOf, stateOf, judgementOf};
 ghost use Rattle.monitor_state.specs.Code.{stepped};
 
 mod retiring;
@@ -48,18 +51,24 @@ pub fn start() -> State
 {
     let sets = [1u8; SETS];
     let possible = [1u8; POLICIES];
-    let created = [0u32; MOST_CREATED];
-    let unclosed = [0u8; POLICIES];
+    let numbers = [0u32; MOST_CREATED];
+    let counts = [0u8; POLICIES];
     let order = [0u8; MOST_UNCLOSED];
-    State {
-        sets,
-        possible,
-        created,
+    let tracked = Tracked { sets, possible };
+    let created = Created {
+        numbers,
         count: 0,
         highest: 0,
-        unclosed,
+    };
+    let unclosed = Unclosed {
+        counts,
         order,
         depth: 0,
+    };
+    State {
+        tracked,
+        created,
+        unclosed,
         halted: false,
     }
 }
@@ -73,29 +82,28 @@ fn judge_create(
     possible: &mut [u8; POLICIES],
     created: &mut [u32; MOST_CREATED],
     unclosed: &[u8; POLICIES],
-    count: usize,
-    highest: u32,
-    depth: usize,
+    sizes: Sizes,
     r: u32,
 ) -> Told
     requires { ⌜ length (now created) ≡ mostCreated ⌝ }
-    requires { ⌜ count ≤ mostCreated ⌝ }
-    requires { ⌜ highestOk highest count (now created) ≡ true ⌝ }
+    requires { ⌜ sizes .count ≤ mostCreated ⌝ }
+    requires { ⌜ highestOk (sizes .highest) (sizes .count) (now created) ≡ true ⌝ }
     ensures { λ t.
         ⌜ ((local : Bool) (order : List ℕ)
-        → judgementOf t (now (sets .exit)) (now (possible .exit)) (now (created .exit)) (now (unclosed .entry)) order
+        → judgementOf t (lentOf (now (sets .exit)) (now (possible .exit)) (now (created .exit)) (now (unclosed .entry)) order)
         ≡ stepped looked local (edgesOf (now (edges .entry)))
-        (stateOf (now (sets .entry)) (now (possible .entry)) (now (created .entry)) count highest (now (unclosed .entry)) order depth false)
+        (stateOf (lentOf (now (sets .entry)) (now (possible .entry)) (now (created .entry)) (now (unclosed .entry)) order) sizes)
         (event 0 r)) ⌝ }
 {
     if r < STATICS {
-        return monitor_state::refused(22, count, highest, depth, false);
+        return monitor_state::refused(22, sizes);
     }
-    if r <= highest {
-        return monitor_state::refused(27, count, highest, depth, false);
+    if r <= sizes.highest {
+        return monitor_state::refused(27, sizes);
     }
+    let count = sizes.count;
     if MOST_CREATED <= count {
-        return monitor_state::refused(30, count, highest, depth, false);
+        return monitor_state::refused(30, sizes);
     }
     let at = FIRST_CREATED + count;
     let bad = monitor_sets::instances::take_event(
@@ -112,18 +120,14 @@ fn judge_create(
     if bad == 0 {
         created[count] = r;
     }
-    let before = Sizes {
-        count,
-        highest,
-        depth,
-    };
     let more = count + 1;
     let after = Sizes {
         count: more,
         highest: r,
-        depth,
+        depth: sizes.depth,
+        halted: sizes.halted,
     };
-    monitor_state::settled(bad, before, after)
+    monitor_state::settled(bad, sizes, after)
 }
 
 fn judge_event(
@@ -133,41 +137,28 @@ fn judge_event(
     possible: &mut [u8; POLICIES],
     created: &mut [u32; MOST_CREATED],
     unclosed: &[u8; POLICIES],
-    count: usize,
-    highest: u32,
-    depth: usize,
+    sizes: Sizes,
     action: u32,
     r: u32,
 ) -> Told
     requires { ⌜ length (now created) ≡ mostCreated ⌝ }
-    requires { ⌜ count ≤ mostCreated ⌝ }
-    requires { ⌜ highestOk highest count (now created) ≡ true ⌝ }
+    requires { ⌜ sizes .count ≤ mostCreated ⌝ }
+    requires { ⌜ highestOk (sizes .highest) (sizes .count) (now created) ≡ true ⌝ }
     ensures { λ t.
         ⌜ ((local : Bool) (order : List ℕ)
-        → judgementOf t (now (sets .exit)) (now (possible .exit)) (now (created .exit)) (now (unclosed .entry)) order
+        → judgementOf t (lentOf (now (sets .exit)) (now (possible .exit)) (now (created .exit)) (now (unclosed .entry)) order)
         ≡ stepped looked local (edgesOf (now (edges .entry)))
-        (stateOf (now (sets .entry)) (now (possible .entry)) (now (created .entry)) count highest (now (unclosed .entry)) order depth false)
+        (stateOf (lentOf (now (sets .entry)) (now (possible .entry)) (now (created .entry)) (now (unclosed .entry)) order) sizes)
         (event action r)) ⌝ }
 {
     if action == 0 {
-        return judge_create(
-            looked,
-            edges,
-            sets,
-            possible,
-            created,
-            unclosed,
-            count,
-            highest,
-            depth,
-            r,
-        );
+        return judge_create(looked, edges, sets, possible, created, unclosed, sizes, r);
     }
-    let at = monitor_sets::created::place_of(created, count, r);
+    let at = monitor_sets::created::place_of(created, sizes.count, r);
     if at == UNSEEN {
-        return monitor_state::refused(24, count, highest, depth, false);
+        return monitor_state::refused(24, sizes);
     }
-    let n = FIRST_CREATED + count;
+    let n = FIRST_CREATED + sizes.count;
     let bad = monitor_sets::instances::take_event(
         looked,
         edges,
@@ -179,11 +170,6 @@ fn judge_event(
         action,
         r,
     );
-    let sizes = Sizes {
-        count,
-        highest,
-        depth,
-    };
     monitor_state::settled(bad, sizes, sizes)
 }
 
@@ -196,21 +182,19 @@ fn judge_read(
     created: &mut [u32; MOST_CREATED],
     unclosed: &mut [u8; POLICIES],
     order: &mut [u8; MOST_UNCLOSED],
-    count: usize,
-    highest: u32,
-    depth: usize,
+    sizes: Sizes,
     step: RawStep,
 ) -> Told
     requires { ⌜ length (now created) ≡ mostCreated ⌝ }
-    requires { ⌜ count ≤ mostCreated ⌝ }
-    requires { ⌜ highestOk highest count (now created) ≡ true ⌝ }
+    requires { ⌜ sizes .count ≤ mostCreated ⌝ }
+    requires { ⌜ highestOk (sizes .highest) (sizes .count) (now created) ≡ true ⌝ }
     requires { ⌜ length (now order) ≡ mostUnclosed ⌝ }
-    requires { ⌜ orderOk depth (now order) (now unclosed) ≡ true ⌝ }
+    requires { ⌜ orderOk (sizes .depth) (now order) (now unclosed) ≡ true ⌝ }
     ensures { λ r.
-        ⌜ judgementOf r (now (sets .exit)) (now (possible .exit)) (now (created .exit)) (now (unclosed .exit)) (now (order .exit))
+        ⌜ judgementOf r
+        (lentOf (now (sets .exit)) (now (possible .exit)) (now (created .exit)) (now (unclosed .exit)) (now (order .exit)))
         ≡ judgeReadBy (lookedAt looked) local (edgesOf (now (edges .entry)))
-        (stateOf (now (sets .entry)) (now (possible .entry)) (now (created .entry)) count highest (now (unclosed .entry)) (now (order .entry)) depth
-        false)
+        (stateOf (lentOf (now (sets .entry)) (now (possible .entry)) (now (created .entry)) (now (unclosed .entry)) (now (order .entry))) sizes)
         (stepOf step) ⌝ }
 {
     let read = monitor_state::read_step(step);
@@ -222,9 +206,7 @@ fn judge_read(
             possible,
             created,
             unclosed,
-            count,
-            highest,
-            depth,
+            sizes,
             action,
             r,
         ),
@@ -235,33 +217,20 @@ fn judge_read(
             possible,
             unclosed,
             order,
-            count,
-            highest,
-            depth,
+            sizes,
             p,
         ),
-        Read::Closing(p) => crate::sandboxes::judge_closing(
-            looked,
-            possible,
-            unclosed,
-            order,
-            count,
-            highest,
-            depth,
-            p,
-        ),
+        Read::Closing(p) => crate::sandboxes::leave(looked, possible, unclosed, order, sizes, p),
         Read::Retiring(r) => crate::retiring::judge_retiring(
             looked,
             sets,
             possible,
             created,
             unclosed,
-            count,
-            highest,
-            depth,
+            sizes,
             r,
         ),
-        Read::Nothing => monitor_state::refused(21, count, highest, depth, false),
+        Read::Nothing => monitor_state::refused(21, sizes),
     }
 }
 
@@ -276,30 +245,27 @@ pub fn judge_looked(
     created: &mut [u32; MOST_CREATED],
     unclosed: &mut [u8; POLICIES],
     order: &mut [u8; MOST_UNCLOSED],
-    count: usize,
-    highest: u32,
-    depth: usize,
-    halted: bool,
+    sizes: Sizes,
     step: RawStep,
 ) -> Told
     ensures { λ r.
-        ⌜ judgementOf r (now (sets .exit)) (now (possible .exit)) (now (created .exit)) (now (unclosed .exit)) (now (order .exit))
+        ⌜ judgementOf r
+        (lentOf (now (sets .exit)) (now (possible .exit)) (now (created .exit)) (now (unclosed .exit)) (now (order .exit)))
         ≡ judgeBy (lookedAt looked) (now (edges .entry)) local
-        (stateOf (now (sets .entry)) (now (possible .entry)) (now (created .entry)) count highest (now (unclosed .entry)) (now (order .entry)) depth
-        halted)
+        (stateOf (lentOf (now (sets .entry)) (now (possible .entry)) (now (created .entry)) (now (unclosed .entry)) (now (order .entry))) sizes)
         step ⌝ }
 {
     if !sheet_fields::edges::edge_table_ok(edges) {
-        return monitor_state::refused(41, count, highest, depth, halted);
+        return monitor_state::refused(41, sizes);
     }
-    if !monitor_sets::created::live_ok(created, count, highest) {
-        return monitor_state::refused(42, count, highest, depth, halted);
+    if !monitor_sets::created::live_ok(created, sizes.count, sizes.highest) {
+        return monitor_state::refused(42, sizes);
     }
-    if !monitor_sets::order::order_ok(order, depth, unclosed) {
-        return monitor_state::refused(42, count, highest, depth, halted);
+    if !monitor_sets::order::order_ok(order, sizes.depth, unclosed) {
+        return monitor_state::refused(42, sizes);
     }
-    if halted {
-        return monitor_state::refused(20, count, highest, depth, halted);
+    if sizes.halted {
+        return monitor_state::refused(20, sizes);
     }
     judge_read(
         looked,
@@ -310,9 +276,7 @@ pub fn judge_looked(
         created,
         unclosed,
         order,
-        count,
-        highest,
-        depth,
+        sizes,
         step,
     )
 }
@@ -326,17 +290,14 @@ pub fn judge_lent(
     created: &mut [u32; MOST_CREATED],
     unclosed: &mut [u8; POLICIES],
     order: &mut [u8; MOST_UNCLOSED],
-    count: usize,
-    highest: u32,
-    depth: usize,
-    halted: bool,
+    sizes: Sizes,
     step: RawStep,
 ) -> Told
     ensures { λ r.
-        ⌜ judgementOf r (now (sets .exit)) (now (possible .exit)) (now (created .exit)) (now (unclosed .exit)) (now (order .exit))
+        ⌜ judgementOf r
+        (lentOf (now (sets .exit)) (now (possible .exit)) (now (created .exit)) (now (unclosed .exit)) (now (order .exit)))
         ≡ judgeOf (now (edges .entry)) local
-        (stateOf (now (sets .entry)) (now (possible .entry)) (now (created .entry)) count highest (now (unclosed .entry)) (now (order .entry)) depth
-        halted)
+        (stateOf (lentOf (now (sets .entry)) (now (possible .entry)) (now (created .entry)) (now (unclosed .entry)) (now (order .entry))) sizes)
         step ⌝ }
 {
     judge_looked(
@@ -348,12 +309,42 @@ pub fn judge_lent(
         created,
         unclosed,
         order,
-        count,
-        highest,
-        depth,
-        halted,
+        sizes,
         step,
     )
+}
+
+// What is told, with the arrays as they were left.
+fn state_of(
+    t: Told,
+    sets: [u8; SETS],
+    possible: [u8; POLICIES],
+    numbers: [u32; MOST_CREATED],
+    counts: [u8; POLICIES],
+    order: [u8; MOST_UNCLOSED],
+) -> Judgement
+    ensures { λ r. ⌜ r ≡ judgementOf t (lentOf sets possible numbers counts order) ⌝ }
+{
+    let answer = t.answer;
+    let left = t.sizes;
+    let tracked = Tracked { sets, possible };
+    let created = Created {
+        numbers,
+        count: left.count,
+        highest: left.highest,
+    };
+    let unclosed = Unclosed {
+        counts,
+        order,
+        depth: left.depth,
+    };
+    let state = State {
+        tracked,
+        created,
+        unclosed,
+        halted: left.halted,
+    };
+    Judgement { answer, state }
 }
 
 // One step. `local` says which past counts, and goes with the edges. From every state at all the judge answers as its definition says;
@@ -362,11 +353,20 @@ pub fn judge(edges: &[u8], local: bool, s: State, step: RawStep) -> Judgement
     ensures { λ r. ⌜ r ≡ judgeOf (now (edges .entry)) local s step ⌝ }
     ensures { λ r. ⌜ Keeps (now (edges .entry)) local s step r ⌝ }
 {
-    let mut sets = s.sets;
-    let mut possible = s.possible;
-    let mut created = s.created;
-    let mut unclosed = s.unclosed;
-    let mut order = s.order;
+    let tracked = s.tracked;
+    let listed = s.created;
+    let opened = s.unclosed;
+    let mut sets = tracked.sets;
+    let mut possible = tracked.possible;
+    let mut created = listed.numbers;
+    let mut unclosed = opened.counts;
+    let mut order = opened.order;
+    let sizes = Sizes {
+        count: listed.count,
+        highest: listed.highest,
+        depth: opened.depth,
+        halted: s.halted,
+    };
     let t = judge_lent(
         edges,
         local,
@@ -375,23 +375,8 @@ pub fn judge(edges: &[u8], local: bool, s: State, step: RawStep) -> Judgement
         &mut created,
         &mut unclosed,
         &mut order,
-        s.count,
-        s.highest,
-        s.depth,
-        s.halted,
+        sizes,
         step,
     );
-    let answer = t.answer;
-    let state = State {
-        sets,
-        possible,
-        created,
-        count: t.count,
-        highest: t.highest,
-        unclosed,
-        order,
-        depth: t.depth,
-        halted: t.halted,
-    };
-    Judgement { answer, state }
+    state_of(t, sets, possible, created, unclosed, order)
 }

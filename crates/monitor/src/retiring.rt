@@ -13,7 +13,7 @@ ghost use lib.ListN.{length};
 ghost use Rattle.usage.specs.declared.Edge.{Edge};
 ghost use Rattle.usage.specs.Limits.{mostCreated};
 ghost use Rattle.usage.specs.Past.{retiring};
-ghost use Rattle.monitor_state.specs.Code.{stateOf, judgementOf, stepped};
+ghost use Rattle.monitor_state.specs.Code.{lentOf, stateOf, judgementOf, stepped};
 
 // The answer is the same whatever the edges, the order and the choice of past are.
 pub(crate) fn judge_retiring(
@@ -22,41 +22,36 @@ pub(crate) fn judge_retiring(
     possible: &[u8; POLICIES],
     created: &mut [u32; MOST_CREATED],
     unclosed: &[u8; POLICIES],
-    count: usize,
-    highest: u32,
-    depth: usize,
+    sizes: Sizes,
     r: u32,
 ) -> Told
-    requires { ⌜ count ≤ mostCreated ⌝ }
+    requires { ⌜ sizes .count ≤ mostCreated ⌝ }
     ensures { λ t.
         ⌜ ((local : Bool) (es : List Edge) (order : List ℕ)
-        → judgementOf t (now (sets .exit)) (now (possible .entry)) (now (created .exit)) (now (unclosed .entry)) order
+        → judgementOf t (lentOf (now (sets .exit)) (now (possible .entry)) (now (created .exit)) (now (unclosed .entry)) order)
         ≡ stepped looked local es
-        (stateOf (now (sets .entry)) (now (possible .entry)) (now (created .entry)) count highest (now (unclosed .entry)) order depth false)
+        (stateOf (lentOf (now (sets .entry)) (now (possible .entry)) (now (created .entry)) (now (unclosed .entry)) order) sizes)
         (retiring r)) ⌝ }
 {
+    let count = sizes.count;
     let at = monitor_sets::created::place_of(created, count, r);
     if at < FIRST_CREATED {
-        return monitor_state::refused(28, count, highest, depth, false);
+        return monitor_state::refused(28, sizes);
     }
     let bad = monitor_sets::instances::broken_set(looked, possible, unclosed);
-    let before = Sizes {
-        count,
-        highest,
-        depth,
-    };
     let fewer = count - 1;
     let after = Sizes {
         count: fewer,
-        highest,
-        depth,
+        highest: sizes.highest,
+        depth: sizes.depth,
+        halted: sizes.halted,
     };
     if bad != 0 {
-        return monitor_state::settled(bad, before, after);
+        return monitor_state::settled(bad, sizes, after);
     }
     let n = FIRST_CREATED + count;
     monitor_sets::retiring::retire(sets, n, at);
     let i = at - FIRST_CREATED;
     monitor_sets::retiring::close_up(created, count, i);
-    monitor_state::settled(bad, before, after)
+    monitor_state::settled(bad, sizes, after)
 }

@@ -19,7 +19,7 @@ ghost use Rattle.monitor_sets.specs.Instances.{instances};
 ghost use Rattle.monitor_sets.specs.Sets.{startSet, resetSets};
 ghost use Rattle.monitor_sets.specs.Code.{brokenIn};
 ghost use Rattle.monitor_sets.specs.Order.{orderOk};
-ghost use Rattle.monitor_state.specs.Code.{oneMore, stateOf, judgementOf, stepped};
+ghost use Rattle.monitor_state.specs.Code.{oneMore, lentOf, stateOf, judgementOf, stepped};
 
 // Policy p has n openings that are not closed. Which open policies are then not respected? Where one is not, the count stays as it was.
 fn recount(
@@ -120,83 +120,73 @@ pub(crate) fn judge_opening(
     possible: &mut [u8; POLICIES],
     unclosed: &mut [u8; POLICIES],
     order: &mut [u8; MOST_UNCLOSED],
-    count: usize,
-    highest: u32,
-    depth: usize,
+    sizes: Sizes,
     p: usize,
 ) -> Told
     requires { ⌜ p < policies ⌝ }
-    requires { ⌜ count ≤ mostCreated ⌝ }
+    requires { ⌜ sizes .count ≤ mostCreated ⌝ }
     requires { ⌜ length (now order) ≡ mostUnclosed ⌝ }
-    requires { ⌜ orderOk depth (now order) (now unclosed) ≡ true ⌝ }
+    requires { ⌜ orderOk (sizes .depth) (now order) (now unclosed) ≡ true ⌝ }
     ensures { λ r.
         ⌜ ((es : List Edge) (created : List ℕ)
-        → judgementOf r (now (sets .exit)) (now (possible .exit)) created (now (unclosed .exit)) (now (order .exit))
+        → judgementOf r (lentOf (now (sets .exit)) (now (possible .exit)) created (now (unclosed .exit)) (now (order .exit)))
         ≡ stepped looked local es
-        (stateOf (now (sets .entry)) (now (possible .entry)) created count highest (now (unclosed .entry)) (now (order .entry)) depth false)
+        (stateOf (lentOf (now (sets .entry)) (now (possible .entry)) created (now (unclosed .entry)) (now (order .entry))) sizes)
         (opening p)) ⌝ }
 {
+    let depth = sizes.depth;
     if MOST_UNCLOSED <= depth {
-        return monitor_state::refused(32, count, highest, depth, false);
+        return monitor_state::refused(32, sizes);
     }
-    let before = Sizes {
-        count,
-        highest,
-        depth,
-    };
     let deeper = depth + 1;
     let after = Sizes {
-        count,
-        highest,
+        count: sizes.count,
+        highest: sizes.highest,
         depth: deeper,
+        halted: sizes.halted,
     };
     if is_anew(local, unclosed, p) {
-        let n = FIRST_CREATED + count;
+        let n = FIRST_CREATED + sizes.count;
         let broken = enter_anew(looked, sets, possible, unclosed, order, n, depth, p);
-        return monitor_state::settled(broken, before, after);
+        return monitor_state::settled(broken, sizes, after);
     }
     let broken = enter(looked, possible, unclosed, order, depth, p);
-    monitor_state::settled(broken, before, after)
+    monitor_state::settled(broken, sizes, after)
 }
 
 // A closing puts nothing back.
-pub(crate) fn judge_closing(
+pub(crate) fn leave(
     looked: u8,
     possible: &[u8; POLICIES],
     unclosed: &mut [u8; POLICIES],
     order: &[u8; MOST_UNCLOSED],
-    count: usize,
-    highest: u32,
-    depth: usize,
+    sizes: Sizes,
     p: usize,
 ) -> Told
     requires { ⌜ p < policies ⌝ }
     requires { ⌜ length (now order) ≡ mostUnclosed ⌝ }
-    requires { ⌜ orderOk depth (now order) (now unclosed) ≡ true ⌝ }
+    requires { ⌜ orderOk (sizes .depth) (now order) (now unclosed) ≡ true ⌝ }
     ensures { λ r.
         ⌜ ((local : Bool) (es : List Edge) (sets created : List ℕ)
-        → judgementOf r sets (now (possible .entry)) created (now (unclosed .exit)) (now (order .entry))
+        → judgementOf r (lentOf sets (now (possible .entry)) created (now (unclosed .exit)) (now (order .entry)))
         ≡ stepped looked local es
-        (stateOf sets (now (possible .entry)) created count highest (now (unclosed .entry)) (now (order .entry)) depth false) (closing p)) ⌝ }
+        (stateOf (lentOf sets (now (possible .entry)) created (now (unclosed .entry)) (now (order .entry))) sizes) (closing p)) ⌝ }
 {
+    let depth = sizes.depth;
     let n = unclosed[p];
     if n == 0 {
-        return monitor_state::refused(25, count, highest, depth, false);
+        return monitor_state::refused(25, sizes);
     }
     if monitor_sets::order::wide(order[depth - 1]) != p {
-        return monitor_state::refused(26, count, highest, depth, false);
+        return monitor_state::refused(26, sizes);
     }
     let bad = recount(looked, possible, unclosed, p, n - 1);
-    let before = Sizes {
-        count,
-        highest,
-        depth,
-    };
     let left = depth - 1;
     let after = Sizes {
-        count,
-        highest,
+        count: sizes.count,
+        highest: sizes.highest,
         depth: left,
+        halted: sizes.halted,
     };
-    monitor_state::settled(bad, before, after)
+    monitor_state::settled(bad, sizes, after)
 }

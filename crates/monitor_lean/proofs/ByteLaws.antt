@@ -1,15 +1,28 @@
 -- The policies that a step is judged by, as a set.
-use Prim.Native.Nat.{ℕ, _^_, _<_}
+use Prim.Native.Nat.{ℕ, zero, suc, _*_, _/_, _%_, _^_, _<_}
 use mathlib.Core.Path.{_≡_, sym, ap, _∙_}
 use mathlib.Core.Bool.{Bool, true, false, _&&_, cond}
+use native.Mathlib.Nat.{zero-mul}
 use native.Mathlib.Decide.{ℕ-discrete}
+use native.Mathlib.Omega.{arith}
+use lib.Bits.{bitAnd, and-mask}
 use lib.Dec.{eqb}
 use borrow.Author.Tests.{eq-eqb, ne-eqb}
 use Rattle.usage.specs.Limits.{policies}
 use Rattle.usage.specs.Past.{opening}
 use Rattle.automaton.specs.Mask.{has, union}
-use Rattle.automaton.proofs.MaskLaws.{has-zero, has-pow, maskOf-has}
+use Rattle.automaton.proofs.MaskLaws.{has-zero, has-pow, maskOf-has, bit-shifted}
 use Rattle.monitor_lean.specs.Lean.{Summary, openingBit, markAt, marked}
+
+-- a bit of the marks, at the place of the policy
+pub mark-shifted : (m i p : ℕ) → p < policies → bitAnd (m / 2 ^ i) 1 * 2 ^ p % 2 ^ 8 ≡ cond (has m i) (2 ^ p) 0
+unfolding has
+mark-shifted m i p l = ap (λ (r : ℕ). r * 2 ^ p % 2 ^ 8) (and-mask (m / 2 ^ i) 1) ∙ go (m / 2 ^ i % 2) (omega arith)
+  where
+    go : (r : ℕ) → r < 2 → r * 2 ^ p % 2 ^ 8 ≡ cond (eqb r 1) (2 ^ p) 0
+    go zero h = ap (λ (n : ℕ). n % 2 ^ 8) (zero-mul (2 ^ p))
+    go (suc zero) h = bit-shifted p l
+    go (suc (suc r)) h = absurd (omega arith)
 
 -- an event: the policies whose marks have its action's bit
 pub event-set : (m : Summary) (a q : ℕ) → q < policies → has (union policies (λ p. cond (markAt m p a) (2 ^ p) 0)) q ≡ markAt m q a

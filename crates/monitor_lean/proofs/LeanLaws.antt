@@ -41,11 +41,12 @@ use Rattle.monitor_state.specs.Judge.{halt, judgeOf, answersOf, startState}
 use Rattle.monitor_state.specs.Represents.{Represents}
 use Rattle.monitor_state.specs.Promise.{Promised, Kept}
 use Rattle.monitor_state.proofs.StartLaws.{begin-represents}
-use Rattle.monitor_state.proofs.BrokenLaws.{offends-broken, count-pos-open}
+use Rattle.monitor_state.proofs.UnclosedLaws.{count-pos-open}
+use Rattle.monitor_state.proofs.BrokenLaws.{offends-broken}
 use Rattle.monitor_state.proofs.Preserve.{after-represents}
 use Rattle.monitor_state.proofs.Refusals.{Settled, refuses, takes, settled}
 use Rattle.monitor_state.proofs.LookedLaws.{broken-among-all}
-use Rattle.monitor_state.proofs.Verdict.{judge-promised}
+use Rattle.monitor_state.proofs.Verdict.{state-well, judge-promised}
 use Rattle.checker.specs.Accepted.{rawOf, onto}
 use Rattle.checker.specs.Summary.{marks, Exact}
 use Rattle.checker.proofs.SummaryLaws.{in-table}
@@ -86,9 +87,9 @@ module _ (local : Bool) (es : List Edge) (m : Summary) (past : Past) (clean : Cl
       where
         violates : (p : ℕ) → p < policies → breaksIn t p ≡ true → Violates local es p (step ∷ past)
         violates p l b = (
-          count-pos-open local es (step ∷ past) false t T p
-              (ltb-true 0 (openingsOf t p) (and-left (ltb 0 (openingsOf t p)) (offends (possibleIn t p)) b)),
-          offends-broken local es (step ∷ past) false t T v p l (and-right (ltb 0 (openingsOf t p)) (offends (possibleIn t p)) b),
+          count-pos-open (step ∷ past) (t .unclosed) (T .unclosed) p
+              (ltb-true 0 (openingsOf (t .unclosed) p) (and-left (ltb 0 (openingsOf (t .unclosed) p)) (offends (possibleIn (t .tracked) p)) b)),
+          offends-broken local es (step ∷ past) false t T v p l (and-right (ltb 0 (openingsOf (t .unclosed) p)) (offends (possibleIn (t .tracked) p)) b),
         )
 
     step-same-by : (step : Step) → stepOf raw ≡ some step → (Taken past false raw → Covered local es m step past) → (o : Option ℕ)
@@ -210,7 +211,7 @@ module _ (t : List ℕ) (ok : edgeTable t ≡ true) (local : Bool) (m : Summary)
       go (Violated p) e j T rest =
           let T₁ : Represents local (edgesOf t) past true u =
           subst (λ (a : Answer). Represents local (edgesOf t) (pastAfter past raw (verdictOf a)) (haltedAfter false (verdictOf a)) u) e T in
-          next same (halted-agree u (T₁ .halted) (T₁ .well) raws)
+          next same (halted-agree u (T₁ .halted) (state-well T₁) raws)
       go (Refused n) e j T rest = stops same e
 
   -- ── Over all steps ──
@@ -285,7 +286,7 @@ module _ (t : List ℕ) (ok : edgeTable t ≡ true) (local : Bool) (m : Summary)
           later Allowed j T on =
               both (same Allowed j on)
               (rest (then (stepOf raw) past) u T (clean-next t ok local past false s R (λ z. clean) raw allowed j refl) on)
-          later (Violated p) j T on = both (same (Violated p) j on) (halted-agree-all raws u (T .halted) (T .well))
+          later (Violated p) j T on = both (same (Violated p) j on) (halted-agree-all raws u (T .halted) (state-well T))
           later (Refused n) j T on = both (same (Refused n) j on) (rest past u T clean on)
 
   pub agree-all-start : (raws : List RawStep) → On (notRefused t local startState raws []) → AgreeAll (marked m) t local startState raws

@@ -2,6 +2,7 @@
 // outline (`checker::summary`) it answers as the full judge on the traces of that outline.
 use monitor_sets::SETS;
 use monitor_state::Read;
+use monitor_state::Sizes;
 use monitor_state::Told;
 use usage::MOST_CREATED;
 use usage::MOST_UNCLOSED;
@@ -15,27 +16,22 @@ ghost use Rattle.usage.specs.Limits.{policies};
 ghost use Rattle.usage.specs.Past.{Step};
 ghost use Rattle.usage.specs.Judge.{stepOf};
 ghost use Rattle.automaton.specs.Mask.{has, union};
-ghost use Rattle.monitor_state.specs.Code.{stateOf, judgementOf};
+ghost use Rattle.monitor_state.specs.Lent.{lentOf, stateOf, judgementOf};
 ghost use Rattle.monitor_lean.specs.Lean.{openingBit, markAt, marked, leanOf};
 ghost use Rattle.monitor_lean.specs.Promise.{LeanPromise};
 
 // The bit of a policy's opening; those below it are its actions'.
 const OPENING: u32 = 32;
 
-// Is bit i set?
-fn has(m: u64, i: u32) -> bool
+// Policy p as a set, where its marks m have bit i, or no policy.
+fn mark_bit(m: u64, i: u32, p: usize) -> u8
     requires { ⌜ i ≤ openingBit ⌝ }
-    ensures { λ r. ⌜ r ≡ has m i ⌝ }
-{
-    (m >> i) & 1 == 1
-}
-
-// Policy p as a set, or no policy.
-fn bit_if(b: bool, p: usize) -> u8
     requires { ⌜ p < policies ⌝ }
-    ensures { λ r. ⌜ r ≡ cond b (2 ^ p) 0 ⌝ }
+    ensures { λ r. ⌜ r ≡ cond (has m i) (2 ^ p) 0 ⌝ }
 {
-    if b { 1u8 << (p as u32) } else { 0 }
+    let marked = (m >> i) & 1;
+    let bit = marked as u8;
+    bit << (p as u32)
 }
 
 // The policies whose marks have bit i.
@@ -46,7 +42,7 @@ fn marked_at(marks: &[u64; POLICIES], i: u32) -> u8
     let mut s: u8 = 0;
     let mut p: usize = 0;
     while p < POLICIES {
-        s = s | bit_if(has(marks[p], i), p);
+        s = s | mark_bit(marks[p], i, p);
         p += 1;
     }
     s
@@ -60,7 +56,7 @@ fn looked_at(marks: &[u64; POLICIES], step: RawStep) -> u8
     let read = monitor_state::read_step(step);
     match read {
         Read::Event(action, _r) => marked_at(marks, action),
-        Read::Opening(p) => bit_if(has(marks[p], OPENING), p),
+        Read::Opening(p) => mark_bit(marks[p], OPENING, p),
         Read::Closing(_p) => 0,
         Read::Retiring(_r) => 0,
         Read::Nothing => 0,
@@ -77,17 +73,14 @@ pub fn judge_lean(
     created: &mut [u32; MOST_CREATED],
     unclosed: &mut [u8; POLICIES],
     order: &mut [u8; MOST_UNCLOSED],
-    count: usize,
-    highest: u32,
-    depth: usize,
-    halted: bool,
+    sizes: Sizes,
     step: RawStep,
 ) -> Told
     ensures { λ r.
-        ⌜ judgementOf r (now (sets .exit)) (now (possible .exit)) (now (created .exit)) (now (unclosed .exit)) (now (order .exit))
+        ⌜ judgementOf r
+        (lentOf (now (sets .exit)) (now (possible .exit)) (now (created .exit)) (now (unclosed .exit)) (now (order .exit)))
         ≡ leanOf (now (marks .entry)) (now (edges .entry)) local
-        (stateOf (now (sets .entry)) (now (possible .entry)) (now (created .entry)) count highest (now (unclosed .entry)) (now (order .entry)) depth
-        halted)
+        (stateOf (lentOf (now (sets .entry)) (now (possible .entry)) (now (created .entry)) (now (unclosed .entry)) (now (order .entry))) sizes)
         step ⌝ }
     ensures { λ r. ⌜ LeanPromise (now (edges .entry)) local (now (marks .entry)) ⌝ }
 {
@@ -101,10 +94,7 @@ pub fn judge_lean(
         created,
         unclosed,
         order,
-        count,
-        highest,
-        depth,
-        halted,
+        sizes,
         step,
     )
 }

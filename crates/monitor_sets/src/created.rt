@@ -172,8 +172,8 @@ fn last_not_above(created: &[u32; MOST_CREATED], count: usize, highest: u32) -> 
     created[count - 1] <= highest
 }
 
-// "42 a state with more than 64 resources, one listed twice or outside 16 to 65,535", "42 also refuses a highest number below a live
-// one". It also tells the length of the array.
+// "42 a state with more than 64 resources, one listed twice or outside 16 to" 4,294,967,295 (02, L9), "42 also refuses a highest number below
+// a live one". It also tells the length of the array.
 pub fn live_ok(created: &[u32; MOST_CREATED], count: usize, highest: u32) -> bool
     ensures { λ r. ⌜ r ≡ (createdOk count (now (created .entry)) && highestOk highest count (now (created .entry))) ⌝ }
     ensures { λ r. ⌜ length (now (created .entry)) ≡ mostCreated ⌝ }

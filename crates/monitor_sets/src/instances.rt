@@ -18,7 +18,7 @@ ghost use lib.Dec.{eqb, ltb, leb};
 ghost use lib.ListN.{length, getD};
 ghost use Rattle.usage.specs.Limits.{policies};
 ghost use Rattle.usage.specs.Tables.{edgesOf};
-ghost use Rattle.automaton.specs.Mask.{has, union};
+ghost use Rattle.automaton.specs.Mask.{union};
 ghost use Rattle.automaton.specs.Move.{moveBy};
 ghost use Rattle.monitor_sets.specs.Instances.{instances, setPlaces};
 ghost use Rattle.monitor_sets.specs.Sets.{copied, resetSets, gatheredAt, gathered};
@@ -88,29 +88,18 @@ fn union_from(sets: &[u8; SETS], k: usize, n: usize) -> u8
     union_lanes(&all)
 }
 
-// Is policy p in the set?
-fn has(s: u8, p: usize) -> bool
-    requires { ⌜ p < policies ⌝ }
-    ensures { λ r. ⌜ r ≡ has s p ⌝ }
-{
-    (s >> (p as u32)) & 1 == 1
-}
-
 // The bit of policy p, if it is looked at, is open, and an offending state is among its possible ones.
 fn broken_bit(looked: u8, possible: u8, openings: u8, p: usize) -> u8
     requires { ⌜ p < policies ⌝ }
     ensures { λ r. ⌜ r ≡ brokenBit looked possible openings p ⌝ }
 {
-    if !has(looked, p) {
-        return 0;
-    }
     if openings == 0 {
         return 0;
     }
     if possible < 64 {
         return 0;
     }
-    1u8 << (p as u32)
+    looked & (1u8 << (p as u32))
 }
 
 // The open policies that are not respected, of those that are looked at, as a bit set: those with an offending state among their possible
@@ -118,6 +107,9 @@ fn broken_bit(looked: u8, possible: u8, openings: u8, p: usize) -> u8
 pub fn broken_set(looked: u8, possible: &[u8; POLICIES], unclosed: &[u8; POLICIES]) -> u8
     ensures { λ r. ⌜ r ≡ brokenIn looked (now (possible .entry)) (now (unclosed .entry)) ⌝ }
 {
+    if looked == 0 {
+        return 0;
+    }
     let mut bad: u8 = 0;
     let mut p: usize = 0;
     while p < POLICIES {
@@ -336,8 +328,8 @@ pub fn reset(sets: &mut [u8; SETS], n: usize, p: usize)
 }
 
 // Moves the sets of the first n instances on an event, instance `at` as that of its resource, gathers what each policy may then be in, and
-// says which open policies, of those that are looked at, are then not respected. Where one is not, both stay as they were; so they do where there are not n instances, or
-// n is not above `at`.
+// says which open policies, of those that are looked at, are then not respected. Where one is not, both stay as they were; so they do where
+// there are not n instances, or n is not above `at`.
 pub fn take_event(
     looked: u8,
     edges: &[u8],

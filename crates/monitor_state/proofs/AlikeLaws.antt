@@ -28,8 +28,11 @@ use Rattle.monitor_state.specs.declared.State.{State}
 use Rattle.monitor_state.specs.declared.Answer.{Answer}
 use Rattle.monitor_state.specs.declared.Answer.the-variants.{Allowed, Violated}
 use Rattle.monitor_state.specs.declared.Judgement.{Judgement}
-use Rattle.monitor_state.specs.Judge.{startState, live, listed, distinct, dynamic, createdOk, highestOk, orderOk, stateOk, placeFrom, placeIn, placeOf}
-use Rattle.monitor_state.specs.Judge.{closedUp, used, movedSets, createdIn, retiredIn, movedIn, withOpenings, withSets, resetIn, after}
+use Rattle.monitor_state.specs.declared.Created.{Created}
+use Rattle.monitor_state.specs.Created.{startCreated, live, listed, distinct, dynamic, createdOk, highestOk, liveOk, placeFrom, placeIn, placeOf}
+use Rattle.monitor_state.specs.Created.{closedUp, used, withNew, withRetired}
+use Rattle.monitor_state.specs.Tracked.{movedSets, movedIn}
+use Rattle.monitor_state.specs.Judge.{startState, unclosedOk, stateOk, withTracked, creating, moving, entering, leaving, releasing, after}
 use Rattle.monitor_state.specs.Judge.{broken, refusal, refuse, halt, settle}
 use Rattle.monitor_state.specs.Judge.{judgeStep, judgeRead, judgeOf, answersOf}
 use Rattle.monitor_state.specs.Renamed.{eventKind, retiringKind, Names, Occurring, Renaming, renamed, renamedStep, SameAnswers}
@@ -111,18 +114,12 @@ module _ (g : ℕ → ℕ) where
 
 -- Two states are alike under the renaming where the lists of live resources are renamed place by place, and so is the highest number, and
 -- all else is equal.
+abbrev renamedCreated : (ℕ → ℕ) → Created → Created
+renamedCreated f c = record { numbers = map (renamed f) (c .numbers); count = c .count; highest = renamed f (c .highest) }
+
 abbrev renamedState : (ℕ → ℕ) → State → State
-renamedState f s = record {
-  sets = s .sets;
-  possible = s .possible;
-  created = map (renamed f) (s .created);
-  count = s .count;
-  highest = renamed f (s .highest);
-  unclosed = s .unclosed;
-  order = s .order;
-  depth = s .depth;
-  halted = s .halted;
-}
+renamedState f s =
+    record { tracked = s .tracked; created = renamedCreated f (s .created); unclosed = s .unclosed; halted = s .halted }
 
 abbrev renamedJudgement : (ℕ → ℕ) → Judgement → Judgement
 renamedJudgement f j = record { answer = j .answer; state = renamedState f (j .state) }
@@ -302,85 +299,89 @@ module _ (f : ℕ → ℕ) (N : ℕ → Type 0) (R : Orders f N) where
           ∙ guarded (within (0 until resources) (raw .a) && within unused (raw .b)) (retiring (raw .a))
       go (suc (suc (suc (suc k)))) e = refl
 
-  -- ── The state ──
+  -- ── What is created ──
 
-  -- all numbers of the state are not dynamic or renamed
-  record StateIn (s : State) : Type 0 where
-    each : All In (s .created)
-    top : In (s .highest)
+  -- all its numbers are not dynamic or renamed
+  record CreatedIn (c : Created) : Type 0 where
+    each : All In (c .numbers)
+    top : In (c .highest)
 
-  live-in : (s : State) → StateIn s → All In (live s)
-  live-in s i = all-take In (s .count) (s .created) (i .each)
+  live-in : (c : Created) → CreatedIn c → All In (live c)
+  live-in c i = all-take In (c .count) (c .numbers) (i .each)
 
-  live-renamed : (s : State) → live (renamedState f s) ≡ map (renamed f) (live s)
-  live-renamed s = take-map (renamed f) (s .count) (s .created)
+  live-renamed : (c : Created) → live (renamedCreated f c) ≡ map (renamed f) (live c)
+  live-renamed c = take-map (renamed f) (c .count) (c .numbers)
 
-  module _ (s : State) (i : StateIn s) where
-    state-renamed : stateOk (renamedState f s) ≡ stateOk s
-    unfolding stateOk createdOk highestOk
-    state-renamed =
-        let o : Bool = orderOk (s .depth) (s .order) (s .unclosed) in
-        let h : ℕ = renamed f (s .highest) in
-        ap (λ (l : List ℕ). (leb (s .count) mostCreated && (every dynamic l && distinct l)) && (every (λ y. leb y h) l && o)) (live-renamed s)
-        ∙ ap₂ (λ (b c : Bool). (leb (s .count) mostCreated && (b && c)) && (every (λ y. leb y h) (map (renamed f) (live s)) && o))
-        (every-map (renamed f) In dynamic dynamic dynamic-same (live s) (live-in s i))
-        (distinct-map (renamed f) In number-same (live s) (live-in s i))
-        ∙ ap (λ (b : Bool). (leb (s .count) mostCreated && (every dynamic (live s) && distinct (live s))) && (b && o))
-        (every-map (renamed f) In (λ y. leb y h) (λ y. leb y (s .highest)) (λ y j. order-same y (s .highest) j (i .top)) (live s) (live-in s i))
+  module _ (c : Created) (i : CreatedIn c) where
+    live-ok-renamed : liveOk (renamedCreated f c) ≡ liveOk c
+    unfolding liveOk createdOk highestOk
+    live-ok-renamed =
+        let h : ℕ = renamed f (c .highest) in
+        ap (λ (l : List ℕ). (leb (c .count) mostCreated && (every dynamic l && distinct l)) && every (λ y. leb y h) l) (live-renamed c)
+        ∙ ap₂ (λ (b d : Bool). (leb (c .count) mostCreated && (b && d)) && every (λ y. leb y h) (map (renamed f) (live c)))
+        (every-map (renamed f) In dynamic dynamic dynamic-same (live c) (live-in c i))
+        (distinct-map (renamed f) In number-same (live c) (live-in c i))
+        ∙ ap (λ (b : Bool). (leb (c .count) mostCreated && (every dynamic (live c) && distinct (live c))) && b)
+        (every-map (renamed f) In (λ y. leb y h) (λ y. leb y (c .highest)) (λ y j. order-same y (c .highest) j (i .top)) (live c) (live-in c i))
 
     module _ (r : ℕ) (j : In r) where
-      listed-renamed : listed (renamed f r) (live (renamedState f s)) ≡ listed r (live s)
-      listed-renamed = ap (listed (renamed f r)) (live-renamed s) ∙ listed-map (renamed f) In number-same r (live s) j (live-in s i)
+      listed-renamed : listed (renamed f r) (live (renamedCreated f c)) ≡ listed r (live c)
+      listed-renamed = ap (listed (renamed f r)) (live-renamed c) ∙ listed-map (renamed f) In number-same r (live c) j (live-in c i)
 
-      place-renamed : placeOf (renamedState f s) (renamed f r) ≡ placeOf s r
+      place-renamed : placeOf (renamedCreated f c) (renamed f r) ≡ placeOf c r
       unfolding placeOf placeIn
       place-renamed =
           ap₂ (λ (b : Bool) (n : ℕ). cond b (renamed f r) n) (static-same r j)
-          (ap (placeFrom (renamed f r) firstCreated) (live-renamed s)
-          ∙ place-map (renamed f) In number-same r firstCreated (live s) j (live-in s i))
+          (ap (placeFrom (renamed f r) firstCreated) (live-renamed c)
+          ∙ place-map (renamed f) In number-same r firstCreated (live c) j (live-in c i))
           ∙ go (ltb r statics) refl
         where
           go : (b : Bool) → ltb r statics ≡ b
-              → cond b (renamed f r) (placeFrom r firstCreated (live s)) ≡ cond b r (placeFrom r firstCreated (live s))
+              → cond b (renamed f r) (placeFrom r firstCreated (live c)) ≡ cond b r (placeFrom r firstCreated (live c))
           go true e = at-static r (ltb-true r statics e)
           go false e = refl
 
-      created-renamed : createdIn (renamedState f s) (renamed f r) ≡ renamedState f (createdIn s r)
-      unfolding createdIn
-      created-renamed = rw (set-map (renamed f) (s .created) (s .count) r)
+      created-renamed : withNew (renamedCreated f c) (renamed f r) ≡ renamedCreated f (withNew c r)
+      unfolding withNew
+      created-renamed = rw (set-map (renamed f) (c .numbers) (c .count) r)
 
-      created-in : StateIn (createdIn s r)
-      unfolding createdIn
-      created-in = record { each = all-set In (s .created) (s .count) r j (i .each); top = j }
+      created-in : CreatedIn (withNew c r)
+      unfolding withNew
+      created-in = record { each = all-set In (c .numbers) (c .count) r j (i .each); top = j }
 
-      retired-renamed : retiredIn (renamedState f s) (renamed f r) ≡ renamedState f (retiredIn s r)
-      unfolding retiredIn
+      retired-renamed : withRetired (renamedCreated f c) (renamed f r) ≡ renamedCreated f (withRetired c r)
+      unfolding withRetired
       retired-renamed =
-          rw (place-renamed, closed-map (renamed f) (at-static 0 (lit< tt)) (placeOf s r - firstCreated) (s .count) (s .created))
+          rw (place-renamed, closed-map (renamed f) (at-static 0 (lit< tt)) (placeOf c r - firstCreated) (c .count) (c .numbers))
 
-      retired-in : StateIn (retiredIn s r)
-      unfolding retiredIn closedUp
+      retired-in : CreatedIn (withRetired c r)
+      unfolding withRetired closedUp
       retired-in = record {
-        each = all-from In (λ k. getD (s .created) (behind (placeOf s r - firstCreated) (s .count) k) 0) 0 mostCreated
-            (λ k. all-at In (static-in 0 (lit< tt)) (s .created) (behind (placeOf s r - firstCreated) (s .count) k) (i .each));
+        each = all-from In (λ k. getD (c .numbers) (behind (placeOf c r - firstCreated) (c .count) k) 0) 0 mostCreated
+            (λ k. all-at In (static-in 0 (lit< tt)) (c .numbers) (behind (placeOf c r - firstCreated) (c .count) k) (i .each));
         top = i .top;
       }
+
+  -- ── The state ──
+
+  abbrev StateIn : State → Type 0
+  StateIn s = CreatedIn (s .created)
+
+  state-renamed : (s : State) → StateIn s → stateOk (renamedState f s) ≡ stateOk s
+  unfolding stateOk
+  state-renamed s i = ap (λ (b : Bool). b && unclosedOk (s .unclosed)) (live-ok-renamed (s .created) i)
 
   -- the edges name static resources only
   abbrev Named : List Edge → Type 0
   Named es = (e : Edge) → List·Memᴰ e es → e .on ≡ 0 → e .who < statics
 
-  moved-in : (es : List Edge) (a r : ℕ) (s : State) → StateIn s → StateIn (movedIn es a r s)
-  unfolding movedIn
-  moved-in es a r s i = record { each = i .each; top = i .top }
-
   after-in : (local : Bool) (es : List Edge) (s : State) → StateIn s → (step : Step) → StepIn step → StateIn (after local es s step)
-  unfolding after withOpenings withSets resetIn
-  after-in local es s i (event zero r) j = moved-in es 0 r (createdIn s r) (created-in s i r j)
-  after-in local es s i (event (suc a) r) j = moved-in es (suc a) r s i
-  after-in local es s i (opening p) j = record { each = i .each; top = i .top }
-  after-in local es s i (closing p) j = record { each = i .each; top = i .top }
-  after-in local es s i (retiring r) j = retired-in s i r j
+  unfolding after withTracked creating moving entering leaving releasing
+  after-in local es s i (event zero r) j = created-in (s .created) i r j
+  after-in local es s i (event (suc a) r) j = i
+  after-in local es s i (opening p) j = i
+  after-in local es s i (closing p) j = i
+  after-in local es s i (retiring r) j = retired-in (s .created) i r j
 
   module _ (es : List Edge) (names : Named es) where
     sets-renamed : (a r own n : ℕ) (sets : List ℕ) → In r → movedSets es a (renamed f r) own n sets ≡ movedSets es a r own n sets
@@ -391,19 +392,26 @@ module _ (f : ℕ → ℕ) (N : ℕ → Type 0) (R : Orders f N) where
         (moveMask-same (renamed f r) r (eqb ((0 + k) % instances) own) es (λ e m o. named-same r (e .who) j (names e m o))
         ((0 + k) / instances) a (getD sets (0 + k) 0)))
 
-    moved-renamed : (a r : ℕ) (s : State) → StateIn s → In r → movedIn es a (renamed f r) (renamedState f s) ≡ renamedState f (movedIn es a r s)
-    unfolding movedIn
-    moved-renamed a r s i j = rw (place-renamed s i r j, sets-renamed a r (placeOf s r) (used s) (s .sets) j)
+    moved-renamed : (a r : ℕ) (s : State) → StateIn s → In r → moving es a (renamed f r) (renamedState f s) ≡ renamedState f (moving es a r s)
+    unfolding movedIn withTracked moving
+    moved-renamed a r s i j =
+        rw (place-renamed (s .created) i r j, sets-renamed a r (placeOf (s .created) r) (used (s .created)) (s .tracked .sets) j)
 
     after-renamed : (local : Bool) (s : State) → StateIn s → (step : Step) → StepIn step
         → after local es (renamedState f s) (renamedRead f step) ≡ renamedState f (after local es s step)
-    unfolding after withOpenings withSets resetIn
+    unfolding after creating entering leaving releasing
     after-renamed local s i (event zero r) j =
-        ap (movedIn es 0 (renamed f r)) (created-renamed s i r j) ∙ moved-renamed 0 r (createdIn s r) (created-in s i r j) j
+        ap (λ (c : Created). moving es 0 (renamed f r) (record {
+          tracked = creating s r .tracked;
+          created = c;
+          unclosed = s .unclosed;
+          halted = s .halted;
+        })) (created-renamed (s .created) i r j)
+        ∙ moved-renamed 0 r (creating s r) (created-in (s .created) i r j) j
     after-renamed local s i (event (suc a) r) j = moved-renamed (suc a) r s i j
     after-renamed local s i (opening p) j = refl
     after-renamed local s i (closing p) j = refl
-    after-renamed local s i (retiring r) j = retired-renamed s i r j
+    after-renamed local s i (retiring r) j = rw (place-renamed (s .created) i r j, retired-renamed (s .created) i r j)
 
   -- ── The answer ──
 
@@ -414,12 +422,12 @@ module _ (f : ℕ → ℕ) (N : ℕ → Type 0) (R : Orders f N) where
   refusal-renamed : (s : State) → StateIn s → (step : Step) → StepIn step → refusal (renamedState f s) (renamedRead f step) ≡ refusal s step
   unfolding refusal
   refusal-renamed s i (event zero r) j =
-      ap₂ (λ (b c : Bool). cond b (some 22) (cond c (some 27) (cond (leb mostCreated (s .count)) (some 30) none))) (static-same r j)
-      (order-same r (s .highest) j (i .top))
-  refusal-renamed s i (event (suc a) r) j = ap₂ (λ (b c : Bool). cond (b || c) none (some 24)) (static-same r j) (listed-renamed s i r j)
+      ap₂ (λ (b c : Bool). cond b (some 22) (cond c (some 27) (cond (leb mostCreated (s .created .count)) (some 30) none))) (static-same r j)
+      (order-same r (s .created .highest) j (i .top))
+  refusal-renamed s i (event (suc a) r) j = ap₂ (λ (b c : Bool). cond (b || c) none (some 24)) (static-same r j) (listed-renamed (s .created) i r j)
   refusal-renamed s i (opening p) j = refl
   refusal-renamed s i (closing p) j = refl
-  refusal-renamed s i (retiring r) j = ap₂ (λ (b c : Bool). cond (not b && c) none (some 28)) (static-same r j) (listed-renamed s i r j)
+  refusal-renamed s i (retiring r) j = ap₂ (λ (b c : Bool). cond (not b && c) none (some 28)) (static-same r j) (listed-renamed (s .created) i r j)
 
   refuse-renamed : (n : ℕ) (s : State) → refuse n (renamedState f s) ≡ renamedJudgement f (refuse n s)
   unfolding refuse
@@ -449,7 +457,7 @@ module _ (f : ℕ → ℕ) (N : ℕ → Type 0) (R : Orders f N) where
   unfolding settle halt
   settle-in bad s t i j =
       either-in (eqb bad 0) (record { answer = Allowed; state = t }) (record { answer = Violated (lowestIn bad); state = halt s }) j
-      (record { each = i .each; top = i .top })
+      i
 
   module _ (local : Bool) (es : List Edge) (names : Named es) (s : State) (i : StateIn s) where
     judge-step : (step : Step) → StepIn step → (o : Option ℕ)
@@ -527,11 +535,11 @@ module _ (f : ℕ → ℕ) (N : ℕ → Type 0) (R : Orders f N) where
 
   -- the start has nothing that is renamed
   start-renamed : startState ≡ renamedState f startState
-  unfolding startState renamed
+  unfolding startState startCreated renamed
   start-renamed = refl
 
   start-in : StateIn startState
-  unfolding startState
+  unfolding startState startCreated
   start-in = record { each = zeros mostCreated; top = static-in 0 (lit< tt) }
     where
       zeros : (n : ℕ) → All In (replicate n 0)

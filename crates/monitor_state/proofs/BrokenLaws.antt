@@ -19,46 +19,40 @@ use Rattle.automaton.specs.Mask.{has, offends, lowestIn}
 use Rattle.automaton.proofs.MaskLaws.{has-zero, has-offending, maskOf-has, maskOf-lt, lowest-is}
 use Rattle.automaton.proofs.MoveLaws.{ends-of}
 use Rattle.monitor_state.specs.declared.State.{State}
-use Rattle.monitor_state.specs.Judge.{possibleIn, broken}
+use Rattle.monitor_state.specs.Judge.{openingsOf, possibleIn, broken}
 use Rattle.monitor_state.specs.Represents.{Represents}
 use Rattle.monitor_state.proofs.StartLaws.{may-lt}
+use Rattle.monitor_state.proofs.UnclosedLaws.{open-count-pos, count-pos-open}
 
 -- the set of broken policies is a byte, from every state at all
 pub broken-lt : (s : State) → broken s < 256
 unfolding broken
-broken-lt s = maskOf-lt (λ p. ltb 0 (getD (s .unclosed) p 0) && offends (possibleIn s p))
+broken-lt s = maskOf-lt (λ p. ltb 0 (openingsOf (s .unclosed) p) && offends (possibleIn (s .tracked) p))
 
 module _ (local : Bool) (es : List Edge) (past : Past) (h : Bool) (s : State) (R : Represents local es past h s) where
   -- an offending state is among the possible ones exactly where some instance, which is that of one resource, may be in it
-  pub offends-broken : EdgesOk es → (p : ℕ) → p < policies → offends (possibleIn s p) ≡ true → Broken local es p past
+  pub offends-broken : EdgesOk es → (p : ℕ) → p < policies → offends (possibleIn (s .tracked) p) ≡ true → Broken local es p past
   offends-broken v p k o =
       broken-single (no-pair v p) .1
-      (go (or-cases (has (possibleIn s p) 6) (has (possibleIn s p) 7) (sym (has-offending (possibleIn s p) (R .possible-bytes p)) ∙ o)))
+      (go (or-cases (has (possibleIn (s .tracked) p) 6) (has (possibleIn (s .tracked) p) 7) (sym (has-offending (possibleIn (s .tracked) p) (R .tracked .possible-bytes p)) ∙ o)))
     where
-      go : (has (possibleIn s p) 6 ≡ true) ⊎ (has (possibleIn s p) 7 ≡ true)
+      go : (has (possibleIn (s .tracked) p) 6 ≡ true) ⊎ (has (possibleIn (s .tracked) p) 7 ≡ true)
           → (x : ℕ) × (q : ℕ) × May local es p (Sees (x ∷ [])) past q × Offending q
-      go (inl e) = let m = R .gathers p 6 k (lit< tt) .0 e in (m .0, 6, m .1, inl refl)
-      go (inr e) = let m = R .gathers p 7 k (lit< tt) .0 e in (m .0, 7, m .1, inr refl)
+      go (inl e) = let m = R .tracked .gathers p 6 k (lit< tt) .0 e in (m .0, 6, m .1, inl refl)
+      go (inr e) = let m = R .tracked .gathers p 7 k (lit< tt) .0 e in (m .0, 7, m .1, inr refl)
 
-  broken-offends : EdgesOk es → (p : ℕ) → p < policies → Broken local es p past → offends (possibleIn s p) ≡ true
+  broken-offends : EdgesOk es → (p : ℕ) → p < policies → Broken local es p past → offends (possibleIn (s .tracked) p) ≡ true
   broken-offends v p k broken = let b = broken-single (no-pair v p) .0 broken in offends-at (b .0) (b .1) (b .2) (b .3)
     where
       m : ℕ
-      m = possibleIn s p
+      m = possibleIn (s .tracked) p
 
       go : {q : ℕ} → has m q ≡ true → Offending q → (has m 6 || has m 7) ≡ true
       go e (inl o) = or-left (has m 6) (has m 7) (ap (has m) (sym o) ∙ e)
       go e (inr o) = or-right (has m 6) (has m 7) (ap (has m) (sym o) ∙ e)
 
       offends-at : (x q : ℕ) → May local es p (Sees (x ∷ [])) past q → Offending q → offends m ≡ true
-      offends-at x q i o = has-offending m (R .possible-bytes p) ∙ go (R .gathers p q k (may-lt (ends-of v) i) .1 (x, i)) o
-
-  -- a policy is open where its count of unclosed openings is not 0
-  pub open-count-pos : (p : ℕ) → Open p past → 0 < getD (s .unclosed) p 0
-  open-count-pos p o = omega (arith, o, R .open-count p)
-
-  pub count-pos-open : (p : ℕ) → 0 < getD (s .unclosed) p 0 → Open p past
-  count-pos-open p o = omega (arith, o, R .open-count p)
+      offends-at x q i o = has-offending m (R .tracked .possible-bytes p) ∙ go (R .tracked .gathers p q k (may-lt (ends-of v) i) .1 (x, i)) o
 
   -- only policies 0 to 7 can be open
   open-lt : (p : ℕ) → Open p past → p < policies
@@ -67,25 +61,25 @@ module _ (local : Bool) (es : List Edge) (past : Past) (h : Bool) (s : State) (R
       go : (b : Bool) → ltb p policies ≡ b → p < policies
       go true e = ltb-true p policies e
       go false e =
-          let z : getD (s .unclosed) p 0 ≡ 0 =
-          List·getD-eq-default (s .unclosed) 0 (subst (λ (n : ℕ). n ≤ p) (sym (R .unclosed-length)) (ltb-false p policies e)) in
-          absurd (omega (arith, open-count-pos p o, z))
+          let z : openingsOf (s .unclosed) p ≡ 0 =
+          List·getD-eq-default (s .unclosed .counts) 0 (subst (λ (n : ℕ). n ≤ p) (sym (R .unclosed .counts-length)) (ltb-false p policies e)) in
+          absurd (omega (arith, open-count-pos past (s .unclosed) (R .unclosed) p o, z))
 
   violates-has : EdgesOk es → (p : ℕ) → Violates local es p past → has (broken s) p ≡ true
   unfolding broken
   violates-has v p b =
       let l : p < policies = open-lt p (b .0) in
-      maskOf-has (λ p. ltb 0 (getD (s .unclosed) p 0) && offends (possibleIn s p)) p l
-      ∙ and-both (ltb 0 (getD (s .unclosed) p 0)) (offends (possibleIn s p)) (lt-ltb 0 (getD (s .unclosed) p 0) (open-count-pos p (b .0)))
+      maskOf-has (λ p. ltb 0 (openingsOf (s .unclosed) p) && offends (possibleIn (s .tracked) p)) p l
+      ∙ and-both (ltb 0 (openingsOf (s .unclosed) p)) (offends (possibleIn (s .tracked) p)) (lt-ltb 0 (openingsOf (s .unclosed) p) (open-count-pos past (s .unclosed) (R .unclosed) p (b .0)))
       (broken-offends v p l (b .1))
 
   has-violates : EdgesOk es → (p : ℕ) → p < policies → has (broken s) p ≡ true → Violates local es p past
   unfolding broken
   has-violates v p l e =
-      let t : (ltb 0 (getD (s .unclosed) p 0) && offends (possibleIn s p)) ≡ true =
-      sym (maskOf-has (λ p. ltb 0 (getD (s .unclosed) p 0) && offends (possibleIn s p)) p l) ∙ e in (
-        count-pos-open p (ltb-true 0 (getD (s .unclosed) p 0) (and-left (ltb 0 (getD (s .unclosed) p 0)) (offends (possibleIn s p)) t)),
-        offends-broken v p l (and-right (ltb 0 (getD (s .unclosed) p 0)) (offends (possibleIn s p)) t),
+      let t : (ltb 0 (openingsOf (s .unclosed) p) && offends (possibleIn (s .tracked) p)) ≡ true =
+      sym (maskOf-has (λ p. ltb 0 (openingsOf (s .unclosed) p) && offends (possibleIn (s .tracked) p)) p l) ∙ e in (
+        count-pos-open past (s .unclosed) (R .unclosed) p (ltb-true 0 (openingsOf (s .unclosed) p) (and-left (ltb 0 (openingsOf (s .unclosed) p)) (offends (possibleIn (s .tracked) p)) t)),
+        offends-broken v p l (and-right (ltb 0 (openingsOf (s .unclosed) p)) (offends (possibleIn (s .tracked) p)) t),
       )
 
   -- where the set is empty every open policy is respected

@@ -20,7 +20,7 @@ use Rattle.monitor_sets.specs.Sets.{movedSets, gathered}
 use Rattle.monitor_state.specs.declared.State.{State}
 use Rattle.monitor_state.specs.declared.Answer.{Answer}
 use Rattle.monitor_state.specs.declared.Judgement.{Judgement}
-use Rattle.monitor_state.specs.Judge.{placeOf, used, createdIn, movedIn, after, broken, refusal, settle}
+use Rattle.monitor_state.specs.Judge.{placeOf, used, creating, movedIn, moving, after, broken, refusal, settle}
 use Rattle.monitor_state.specs.Judge.{judgeStep, judgeRead, judgeOf, answersOf}
 
 module _ (es fs : List Edge) (h : SameEdges es fs) where
@@ -34,13 +34,13 @@ module _ (es fs : List Edge) (h : SameEdges es fs) where
       at : List Edge → ℕ → ℕ
       at gs k = cond (ltb (k % instances) n) (moveMask gs (k / instances) a r (eqb (k % instances) own) (getD sets k 0)) (getD sets k 0)
 
-  moved-set : (a r : ℕ) (s : State) → movedIn es a r s ≡ movedIn fs a r s
-  unfolding movedIn
-  moved-set a r s = rw (sets-set a r (placeOf s r) (used s) (s .sets)) refl
+  moved-set : (a r : ℕ) (s : State) → moving es a r s ≡ moving fs a r s
+  unfolding movedIn moving
+  moved-set a r s = rw (sets-set a r (placeOf (s .created) r) (used (s .created)) (s .tracked .sets)) refl
 
   after-set : (local : Bool) (s : State) (step : Step) → after local es s step ≡ after local fs s step
   unfolding after
-  after-set local s (event zero r) = moved-set 0 r (createdIn s r)
+  after-set local s (event zero r) = moved-set 0 r (creating s r)
   after-set local s (event (suc a) r) = moved-set (suc a) r s
   after-set local s (opening p) = refl
   after-set local s (closing p) = refl

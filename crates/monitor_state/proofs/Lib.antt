@@ -2,6 +2,8 @@
 pub mod ListLaws
 pub mod WithoutLaws
 pub mod Places
+pub mod CreatedLaws
+pub mod UnclosedLaws
 -- Which states 42 lets pass.
 pub mod SoundLaws
 pub mod StartLaws

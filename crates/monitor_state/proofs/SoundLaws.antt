@@ -13,8 +13,12 @@ use Rattle.usage.proofs.Decides.{d-eq, d-le, d-lt, d-and, d-or, d-not, d-map, d
 use Rattle.monitor_sets.specs.Order.{isPolicy}
 use Rattle.monitor_sets.proofs.OrderLaws.{agree-below, below-agree}
 use Rattle.monitor_state.specs.declared.State.{State}
-use Rattle.monitor_state.specs.Judge.{live, listed, distinct, dynamic, createdOk, highestOk, agreeBelow, orderOk, stateOk, openingsOf}
-use Rattle.monitor_state.specs.Sound.{Distinct, remembered, StateOk}
+use Rattle.monitor_state.specs.declared.Created.{Created}
+use Rattle.monitor_state.specs.declared.Unclosed.{Unclosed}
+use Rattle.monitor_state.specs.Created.{live, listed, distinct, dynamic, createdOk, highestOk, liveOk}
+use Rattle.monitor_state.specs.Unclosed.{agreeBelow, orderOk, unclosedOk, openingsOf, remembered}
+use Rattle.monitor_state.specs.Judge.{stateOk}
+use Rattle.monitor_state.specs.Sound.{Distinct, LiveOk, UnclosedOk, StateOk}
 
 decides-listed : (x : ℕ) (l : List ℕ) → Decides (listed x l) (List·Memᴰ x l)
 unfolding listed
@@ -41,22 +45,27 @@ decides-agree : (stack unclosed : List ℕ) → Decides (agreeBelow stack unclos
     ((p : ℕ) → p < policies → occurrences p stack ≡ getD unclosed p 0)
 decides-agree stack unclosed = (below-agree stack unclosed policies, agree-below stack unclosed policies)
 
-pub decides-state : (s : State) → Decides (stateOk s) (StateOk s)
-unfolding stateOk createdOk highestOk orderOk
-decides-state s =
+decides-live : (c : Created) → Decides (liveOk c) (LiveOk c)
+unfolding liveOk createdOk highestOk
+decides-live c =
     d-map
-    (d-and _ _ (d-and _ _ (d-le (s .count) mostCreated)
-    (d-and _ _ (d-every dynamic (λ x. d-and _ _ (d-le statics x) (d-lt x resources)) (live s)) (decides-distinct (live s))))
-    (d-and _ _ (d-every (λ y. leb y (s .highest)) (λ x. d-le x (s .highest)) (live s))
-    (d-and _ _ (d-le (s .depth) mostUnclosed)
-    (d-and _ _ (d-every isPolicy (λ p. d-lt p policies) (remembered s)) (decides-agree (remembered s) (s .unclosed))))))
-    (λ t. record {
-      few = t .0 .0;
-      in-range = t .0 .1 .0;
-      apart = t .0 .1 .1;
-      none-above = t .1 .0;
-      short = t .1 .1 .0;
-      of-policies = t .1 .1 .1 .0;
-      agrees = t .1 .1 .1 .1;
-    })
-    (λ r. ((r .few, (r .in-range, r .apart)), (r .none-above, (r .short, (r .of-policies, r .agrees)))))
+    (d-and _ _ (d-and _ _ (d-le (c .count) mostCreated)
+    (d-and _ _ (d-every dynamic (λ x. d-and _ _ (d-le statics x) (d-lt x resources)) (live c)) (decides-distinct (live c))))
+    (d-every (λ y. leb y (c .highest)) (λ x. d-le x (c .highest)) (live c)))
+    (λ t. record { few = t .0 .0; in-range = t .0 .1 .0; apart = t .0 .1 .1; none-above = t .1 })
+    (λ r. ((r .few, (r .in-range, r .apart)), r .none-above))
+
+decides-unclosed : (u : Unclosed) → Decides (unclosedOk u) (UnclosedOk u)
+unfolding unclosedOk orderOk
+decides-unclosed u =
+    d-map
+    (d-and _ _ (d-le (u .depth) mostUnclosed)
+    (d-and _ _ (d-every isPolicy (λ p. d-lt p policies) (remembered u)) (decides-agree (remembered u) (u .counts))))
+    (λ t. record { short = t .0; of-policies = t .1 .0; agrees = t .1 .1 })
+    (λ r. (r .short, (r .of-policies, r .agrees)))
+
+pub decides-state : (s : State) → Decides (stateOk s) (StateOk s)
+unfolding stateOk
+decides-state s =
+    d-map (d-and _ _ (decides-live (s .created)) (decides-unclosed (s .unclosed))) (λ t. record { created = t .0; unclosed = t .1 })
+    (λ r. (r .created, r .unclosed))

@@ -18,8 +18,11 @@ use Rattle.automaton.proofs.MaskLaws.{has-pow}
 use Rattle.automaton.proofs.MoveLaws.{Ends, moves-lt}
 use Rattle.monitor_sets.specs.Instances.{unseen, retirees, instances, setPlaces}
 use Rattle.monitor_sets.specs.Order.{agreeBelow}
-use Rattle.monitor_state.specs.Judge.{distinct, createdOk, highestOk, stackIn, orderOk, stateOk, placeFrom, placeIn, placeOf, setAt, possibleIn, startState}
-use Rattle.monitor_state.specs.Represents.{Tracks, TracksRetirees, Gathers, Represents}
+use Rattle.monitor_state.specs.Tracked.{setAt, possibleIn, startTracked}
+use Rattle.monitor_state.specs.Created.{distinct, createdOk, highestOk, liveOk, placeFrom, placeIn, placeOf, startCreated}
+use Rattle.monitor_state.specs.Unclosed.{stackIn, orderOk, unclosedOk, startUnclosed}
+use Rattle.monitor_state.specs.Judge.{startState}
+use Rattle.monitor_state.specs.Represents.{Tracks, TracksRetirees, Gathers, HoldsStates, ListsLive, CountsOpenings, Represents}
 use Rattle.monitor_state.proofs.Places.{place-lt}
 
 -- ── The last step ──
@@ -56,91 +59,91 @@ replicate-below zero a b k h = omega arith
 replicate-below (suc n) a b zero h = h
 replicate-below (suc n) a b (suc k) h = replicate-below n a b k h
 
-begin-ok : stateOk startState ≡ true
-unfolding stateOk startState createdOk highestOk orderOk stackIn agreeBelow occurrences every distinct
-begin-ok = refl
-
-begin-created : length (startState .created) ≡ mostCreated
-unfolding startState
-begin-created = refl
-
-begin-set : (i p : ℕ) → i < instances → p < policies → setAt startState p i ≡ 1
-unfolding startState
+begin-set : (i p : ℕ) → i < instances → p < policies → setAt startTracked p i ≡ 1
+unfolding startTracked
 begin-set i p l h = getD-replicate setPlaces (p * instances + i) 1 0 (omega arith)
 
-begin-place : (x : ℕ) → placeOf startState x < instances
-unfolding startState
-begin-place x = omega (arith, place-lt startState x)
+begin-place : (x : ℕ) → placeOf startCreated x < instances
+unfolding startCreated
+begin-place x = omega (arith, place-lt startCreated x)
 
-begin-tracks : (local : Bool) (es : List Edge) → Tracks local es [] startState
+begin-tracks : (local : Bool) (es : List Edge) → Tracks local es [] startCreated startTracked
 begin-tracks local es x p q k l n = (to, back)
   where
-    one : has (setAt startState p (placeOf startState x)) q ≡ eqb 0 q
-    one = ap (λ (m : ℕ). has m q) (begin-set (placeOf startState x) p (begin-place x) k) ∙ has-pow 0 q (lit< tt) l
+    one : has (setAt startTracked p (placeOf startCreated x)) q ≡ eqb 0 q
+    one = ap (λ (m : ℕ). has m q) (begin-set (placeOf startCreated x) p (begin-place x) k) ∙ has-pow 0 q (lit< tt) l
 
-    to : has (setAt startState p (placeOf startState x)) q ≡ true → May local es p (Sees (x ∷ [])) [] q
+    to : has (setAt startTracked p (placeOf startCreated x)) q ≡ true → May local es p (Sees (x ∷ [])) [] q
     to h = subst (λ (n : ℕ). May local es p (Sees (x ∷ [])) [] n) (eqb-true 0 q (sym one ∙ h)) start
 
-    back : May local es p (Sees (x ∷ [])) [] q → has (setAt startState p (placeOf startState x)) q ≡ true
+    back : May local es p (Sees (x ∷ [])) [] q → has (setAt startTracked p (placeOf startCreated x)) q ≡ true
     back m = one ∙ eq-eqb 0 q (sym (may-start m))
 
-begin-unseen : placeOf startState statics ≡ unseen
-unfolding startState placeOf placeIn placeFrom
+begin-unseen : placeOf startCreated statics ≡ unseen
+unfolding startCreated placeOf placeIn placeFrom
 begin-unseen = refl
 
-begin-tracks-retirees : (local : Bool) (es : List Edge) → TracksRetirees local es [] startState
+begin-tracks-retirees : (local : Bool) (es : List Edge) → TracksRetirees local es [] startCreated startTracked
 begin-tracks-retirees local es p q k l = (to, back)
   where
-    one : has (setAt startState p retirees) q ≡ eqb 0 q
+    one : has (setAt startTracked p retirees) q ≡ eqb 0 q
     one = ap (λ (m : ℕ). has m q) (begin-set retirees p (lit< tt) k) ∙ has-pow 0 q (lit< tt) l
 
-    to : has (setAt startState p retirees) q ≡ true → (x : ℕ) × (placeOf startState x ≡ unseen) × May local es p (Sees (x ∷ [])) [] q
+    to : has (setAt startTracked p retirees) q ≡ true → (x : ℕ) × (placeOf startCreated x ≡ unseen) × May local es p (Sees (x ∷ [])) [] q
     to h = (
       statics,
       begin-unseen,
       subst (λ (n : ℕ). May local es p (Sees (statics ∷ [])) [] n) (eqb-true 0 q (sym one ∙ h)) start,
     )
 
-    back : ((x : ℕ) × (placeOf startState x ≡ unseen) × May local es p (Sees (x ∷ [])) [] q) → has (setAt startState p retirees) q ≡ true
+    back : ((x : ℕ) × (placeOf startCreated x ≡ unseen) × May local es p (Sees (x ∷ [])) [] q) → has (setAt startTracked p retirees) q ≡ true
     back m = one ∙ eq-eqb 0 q (sym (may-start (m .2)))
 
-begin-possible : (p : ℕ) → p < policies → possibleIn startState p ≡ 1
-unfolding startState
+begin-possible : (p : ℕ) → p < policies → possibleIn startTracked p ≡ 1
+unfolding startTracked
 begin-possible p h = getD-replicate policies p 1 0 h
 
-begin-gathers : (local : Bool) (es : List Edge) → Gathers local es [] startState
+begin-gathers : (local : Bool) (es : List Edge) → Gathers local es [] startTracked
 begin-gathers local es p q k l = (to, back)
   where
-    one : has (possibleIn startState p) q ≡ eqb 0 q
+    one : has (possibleIn startTracked p) q ≡ eqb 0 q
     one = ap (λ (m : ℕ). has m q) (begin-possible p k) ∙ has-pow 0 q (lit< tt) l
 
-    to : has (possibleIn startState p) q ≡ true → (x : ℕ) × May local es p (Sees (x ∷ [])) [] q
+    to : has (possibleIn startTracked p) q ≡ true → (x : ℕ) × May local es p (Sees (x ∷ [])) [] q
     to h = (0, subst (λ (n : ℕ). May local es p (Sees (0 ∷ [])) [] n) (eqb-true 0 q (sym one ∙ h)) start)
 
-    back : ((x : ℕ) × May local es p (Sees (x ∷ [])) [] q) → has (possibleIn startState p) q ≡ true
+    back : ((x : ℕ) × May local es p (Sees (x ∷ [])) [] q) → has (possibleIn startTracked p) q ≡ true
     back m = one ∙ eq-eqb 0 q (sym (may-start (m .1)))
 
-pub begin-represents : (local : Bool) (es : List Edge) → Represents local es [] false startState
-unfolding startState count stackIn openStack liveIn highest
-begin-represents local es = record {
-  halted = refl;
-  well = begin-ok;
+begin-states : (local : Bool) (es : List Edge) → HoldsStates local es [] startCreated startTracked
+unfolding startTracked
+begin-states local es = record {
   tracks = begin-tracks local es;
   tracks-retirees = begin-tracks-retirees local es;
   gathers = begin-gathers local es;
-  lives = refl;
-  most = refl;
-  gone = λ x m. absurd (List·Memᴰ·not-nil m);
-  stack = refl;
-  open-count = λ p. zero-add (getD (replicate policies 0) p 0) ∙ zero-of (replicate-below policies 0 1 p (lit< tt));
   sets-length = length-replicate {A = ℕ} setPlaces 1;
   possible-length = refl;
-  created-length = begin-created;
-  unclosed-length = refl;
-  order-length = refl;
   bytes = λ k. replicate-below setPlaces 1 256 k (lit< tt);
   possible-bytes = λ p. replicate-below policies 1 256 p (lit< tt);
+}
+
+begin-live : ListsLive [] startCreated
+unfolding startCreated liveOk createdOk highestOk every distinct liveIn highest
+begin-live = record { well = refl; lives = refl; most = refl; gone = λ x m. absurd (List·Memᴰ·not-nil m); numbers-length = refl }
+
+begin-openings : CountsOpenings [] startUnclosed
+unfolding startUnclosed unclosedOk orderOk stackIn agreeBelow occurrences every count openStack
+begin-openings = record {
+  well = refl;
+  open-count = λ p. zero-add (getD (replicate policies 0) p 0) ∙ zero-of (replicate-below policies 0 1 p (lit< tt));
+  stack = refl;
+  counts-length = refl;
+  order-length = refl;
 }
   where
     zero-of : {n : ℕ} → n < 1 → n ≡ 0
     zero-of h = omega arith
+
+pub begin-represents : (local : Bool) (es : List Edge) → Represents local es [] false startState
+unfolding startState
+begin-represents local es = record { halted = refl; tracked = begin-states local es; created = begin-live; unclosed = begin-openings }

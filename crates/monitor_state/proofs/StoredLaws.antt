@@ -14,7 +14,7 @@ use Rattle.automaton.specs.Mask.{lowestIn}
 use Rattle.monitor_state.specs.declared.State.{State}
 use Rattle.monitor_state.specs.declared.Judgement.{Judgement}
 use Rattle.monitor_state.specs.declared.Answer.the-variants.{Allowed, Violated}
-use Rattle.monitor_state.specs.Judge.{stateOk, halt, withSets, withOpenings, resetIn, retiredIn, after, broken, refusal, refuse, settle}
+use Rattle.monitor_state.specs.Judge.{stateOk, halt, withTracked, resetIn, retiredIn, entering, leaving, releasing, after, broken, refusal, refuse, settle}
 use Rattle.monitor_state.specs.Judge.{judgeStep, judgeRead, judgeOf}
 use Rattle.monitor_state.specs.Stored.{NoEvent, JudgedByStored}
 
@@ -31,7 +31,7 @@ settle-same bad s t u v =
 
 module _ (s : State) (sets : List ℕ) where
   abbrev other : State
-  other = withSets s sets (s .possible)
+  other = withTracked s (record { sets = sets; possible = s .tracked .possible })
 
   step-same : (local : Bool) (es : List Edge) (step : Step) → broken (after local es other step) ≡ broken (after local es s step)
       → (o : Option ℕ) → judgeStep local es other step o .answer ≡ judgeStep local es s step o .answer
@@ -42,14 +42,14 @@ module _ (s : State) (sets : List ℕ) where
 
   read-same : (local : Bool) (es : List Edge) (step : Step) → NoEvent step
       → judgeRead local es other (some step) .answer ≡ judgeRead local es s (some step) .answer
-  unfolding judgeRead withSets withOpenings resetIn retiredIn after broken refusal
+  unfolding judgeRead withTracked resetIn retiredIn entering leaving releasing after broken refusal
   read-same local es (event a r) h = absurd h
   read-same local es (opening p) h = step-same local es (opening p) refl (refusal s (opening p))
   read-same local es (closing p) h = step-same local es (closing p) refl (refusal s (closing p))
   read-same local es (retiring r) h = step-same local es (retiring r) refl (refusal s (retiring r))
 
 pub judged-by-stored : JudgedByStored
-unfolding judgeOf stateOk withSets refuse
+unfolding judgeOf stateOk withTracked refuse
 judged-by-stored t local s raw step e h sets =
     rw e (either-same (not (edgeTable t)) _ _ _ _ refl (either-same (not (stateOk s)) _ _ _ _ refl (either-same (s .halted) _ _ _ _ refl
     (read-same s sets local (edgesOf t) step h))))

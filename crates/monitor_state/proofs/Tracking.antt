@@ -24,14 +24,16 @@ use Rattle.automaton.specs.Mask.{has}
 use Rattle.automaton.specs.Move.{moveMask}
 use Rattle.automaton.proofs.MoveLaws.{Ends, Own, moveMask-found, moveMask-at, moveMask-lt}
 use Rattle.monitor_sets.specs.Instances.{unseen, retirees, firstCreated, instances, setPlaces}
-use Rattle.monitor_state.specs.declared.State.{State}
-use Rattle.monitor_state.specs.Judge.{live, listed, distinct, dynamic, placeFrom, placeOf, used, setAt, copied, createdIn, movedSets}
-use Rattle.monitor_state.specs.Judge.{movedIn}
+use Rattle.monitor_state.specs.declared.Tracked.{Tracked}
+use Rattle.monitor_state.specs.declared.Created.{Created}
+use Rattle.monitor_state.specs.Created.{live, listed, distinct, dynamic, placeFrom, placeOf, used, withNew}
+use Rattle.monitor_state.specs.Tracked.{setAt, copied, copiedIn, movedSets, movedIn}
 use Rattle.monitor_state.specs.Represents.{Tracks, TracksRetirees}
 use Rattle.usage.proofs.TableLaws.{getD-from, from-below}
-use Rattle.monitor_state.proofs.ListLaws.{listed-snoc, every-snoc, every-more, distinct-snoc, place-absent, place-other, place-new}
-use Rattle.monitor_state.proofs.Places.{place-static, place-dynamic, known, not-known, place-own, place-apart-retirees, StateParts}
-use Rattle.monitor_state.proofs.Places.{live-length, place-lt, far, place-far}
+use Rattle.monitor_state.proofs.ListLaws.{place-absent}
+use Rattle.monitor_state.proofs.Places.{place-dynamic, known, not-known, place-own, place-apart-retirees, LiveParts}
+use Rattle.monitor_state.proofs.Places.{place-lt, far, place-far}
+use Rattle.monitor_state.proofs.CreatedLaws.{place-created, place-kept}
 use Rattle.monitor_state.proofs.StartLaws.{may-event, may-lt}
 
 -- place p * instances + i of a table of sets
@@ -46,245 +48,191 @@ getD-table f p i h k = getD-from f 0 setPlaces (p * instances + i) 0 (omega arit
 
 -- ── Events ──
 
-pub place-moved : (es : List Edge) (a r : ℕ) (s : State) (x : ℕ) → placeOf (movedIn es a r s) x ≡ placeOf s x
-unfolding placeOf movedIn
-place-moved es a r s x = refl
-
-set-moved : (es : List Edge) (a r : ℕ) (s : State) (p i : ℕ) → s .count ≤ mostCreated → p < policies → i < used s
-    → setAt (movedIn es a r s) p i ≡ moveMask es p a r (eqb i (placeOf s r)) (setAt s p i)
+set-moved : (es : List Edge) (a r : ℕ) (c : Created) (t : Tracked) (p i : ℕ) → c .count ≤ mostCreated → p < policies → i < used c
+    → setAt (movedIn es a r (placeOf c r) (used c) t) p i ≡ moveMask es p a r (eqb i (placeOf c r)) (setAt t p i)
 unfolding movedIn movedSets
-set-moved es a r s p i c k h =
+set-moved es a r c t p i few k h =
     let l : i < instances = omega arith in
     getD-table
-    (λ k. cond (ltb (k % instances) (used s)) (moveMask es (k / instances) a r (eqb (k % instances) (placeOf s r)) (getD (s .sets) k 0))
-    (getD (s .sets) k 0)) p i k l
-    ∙ ap₂ (λ (u v : ℕ). cond (ltb v (used s)) (moveMask es u a r (eqb v (placeOf s r)) (setAt s p i)) (setAt s p i)) (at-div p i l)
+    (λ k. cond (ltb (k % instances) (used c)) (moveMask es (k / instances) a r (eqb (k % instances) (placeOf c r)) (getD (t .sets) k 0))
+    (getD (t .sets) k 0)) p i k l
+    ∙ ap₂ (λ (u v : ℕ). cond (ltb v (used c)) (moveMask es u a r (eqb v (placeOf c r)) (setAt t p i)) (setAt t p i)) (at-div p i l)
     (at-mod p i l)
-    ∙ ap (λ (b : Bool). cond b (moveMask es p a r (eqb i (placeOf s r)) (setAt s p i)) (setAt s p i)) (lt-ltb i (used s) h)
+    ∙ ap (λ (b : Bool). cond b (moveMask es p a r (eqb i (placeOf c r)) (setAt t p i)) (setAt t p i)) (lt-ltb i (used c) h)
 
-module _ (local : Bool) (es : List Edge) (v : Ends es) (s : State) (n : length (s .created) ≡ mostCreated) (w : StateParts s) where
-  pub moved-tracks : (past : Past) (a r : ℕ) → Tracks local es past s
-      → known s r ≡ true → Tracks local es (event a r ∷ past) (movedIn es a r s)
-  moved-tracks past a r t kn x p q k l gone = (to, back)
+module _ (local : Bool) (es : List Edge) (v : Ends es) (c : Created) (t : Tracked) (n : length (c .numbers) ≡ mostCreated) (w : LiveParts c) where
+  pub moved-tracks : (past : Past) (a r : ℕ) → Tracks local es past c t
+      → known c r ≡ true → Tracks local es (event a r ∷ past) c (movedIn es a r (placeOf c r) (used c) t)
+  moved-tracks past a r held kn x p q k l gone = (to, back)
     where
       m : ℕ
-      m = setAt s p (placeOf s x)
+      m = setAt t p (placeOf c x)
 
-      same : setAt (movedIn es a r s) p (placeOf (movedIn es a r s) x) ≡ moveMask es p a r (eqb (placeOf s x) (placeOf s r)) m
-      same = ap (λ (i : ℕ). setAt (movedIn es a r s) p i) (place-moved es a r s x)
-          ∙ set-moved es a r s p (placeOf s x) (w .few) k (place-lt s x)
+      same : setAt (movedIn es a r (placeOf c r) (used c) t) p (placeOf c x) ≡ moveMask es p a r (eqb (placeOf c x) (placeOf c r)) m
+      same = set-moved es a r c t p (placeOf c x) (w .few) k (place-lt c x)
 
-      to : has (setAt (movedIn es a r s) p (placeOf (movedIn es a r s) x)) q ≡ true → May local es p (Sees (x ∷ [])) (event a r ∷ past) q
+      to : has (setAt (movedIn es a r (placeOf c r) (used c) t) p (placeOf c x)) q ≡ true → May local es p (Sees (x ∷ [])) (event a r ∷ past) q
       to h =
-          let f = moveMask-found es v p x a r (eqb (placeOf s x) (placeOf s r)) (place-own s x r kn) m q l
+          let f = moveMask-found es v p x a r (eqb (placeOf c x) (placeOf c r)) (place-own c x r kn) m q l
           (ap (λ (m : ℕ). has m q) (sym same) ∙ h) in
-          moved (t x p (f .0) k (f .1) (λ g. gone (List·Memᴰ·tail g)) .0 (f .2)) (f .3)
+          moved (held x p (f .0) k (f .1) (λ g. gone (List·Memᴰ·tail g)) .0 (f .2)) (f .3)
 
-      back : May local es p (Sees (x ∷ [])) (event a r ∷ past) q → has (setAt (movedIn es a r s) p (placeOf (movedIn es a r s) x)) q ≡ true
+      back : May local es p (Sees (x ∷ [])) (event a r ∷ past) q → has (setAt (movedIn es a r (placeOf c r) (used c) t) p (placeOf c x)) q ≡ true
       back y =
-          let c = may-event y in
-          let b : c .q < states = may-lt v (c .before) in
+          let came = may-event y in
+          let b : came .q < states = may-lt v (came .before) in
           ap (λ (m : ℕ). has m q) same
-          ∙ moveMask-at es v p x a r (eqb (placeOf s x) (placeOf s r)) (place-own s x r kn) m (c .q) q b
-          (t x p (c .q) k b (λ g. gone (List·Memᴰ·tail g)) .1 (c .before)) (c .moves)
+          ∙ moveMask-at es v p x a r (eqb (placeOf c x) (placeOf c r)) (place-own c x r kn) m (came .q) q b
+          (held x p (came .q) k b (λ g. gone (List·Memᴰ·tail g)) .1 (came .before)) (came .moves)
 
   -- The instances of all that have no place of their own move as one: the event is on none of them.
-  pub moved-retirees : (past : Past) (a r : ℕ) → TracksRetirees local es past s
-      → known s r ≡ true → TracksRetirees local es (event a r ∷ past) (movedIn es a r s)
-  moved-retirees past a r t kn p q k l = (to, back)
+  pub moved-retirees : (past : Past) (a r : ℕ) → TracksRetirees local es past c t
+      → known c r ≡ true → TracksRetirees local es (event a r ∷ past) c (movedIn es a r (placeOf c r) (used c) t)
+  moved-retirees past a r held kn p q k l = (to, back)
     where
       m : ℕ
-      m = setAt s p retirees
+      m = setAt t p retirees
 
       y : ℕ
-      y = far s n w
+      y = far c n w
 
       -- r has a place of its own
-      placed : (x : ℕ) → placeOf s x ≡ unseen → r ≡ x → ⊥
-      placed x u e = not-both (known s x) (ap (known s) (sym e) ∙ kn) (not-known s x u)
+      placed : (x : ℕ) → placeOf c x ≡ unseen → r ≡ x → ⊥
+      placed x u e = not-both (known c x) (ap (known c) (sym e) ∙ kn) (not-known c x u)
 
       away : r ≡ y → ⊥
-      away = placed y (place-far s n w)
+      away = placed y (place-far c n w)
 
       none-own : Own y r false
       none-own = record { is = λ e. false-true e; not = λ e. away }
 
-      alike : (x : ℕ) → placeOf s x ≡ unseen → (i who : ℕ) → Sees (x ∷ []) r i who ↔ Sees (y ∷ []) r i who
+      alike : (x : ℕ) → placeOf c x ≡ unseen → (i who : ℕ) → Sees (x ∷ []) r i who ↔ Sees (y ∷ []) r i who
       alike x u = sees-other-alike (placed x u) away
 
-      same : setAt (movedIn es a r s) p retirees ≡ moveMask es p a r false m
-      same = set-moved es a r s p retirees (w .few) k (omega arith)
-          ∙ ap (λ (b : Bool). moveMask es p a r b m) (ne-eqb retirees (placeOf s r) (λ e. place-apart-retirees s r (sym e)))
+      same : setAt (movedIn es a r (placeOf c r) (used c) t) p retirees ≡ moveMask es p a r false m
+      same = set-moved es a r c t p retirees (w .few) k (omega arith)
+          ∙ ap (λ (b : Bool). moveMask es p a r b m) (ne-eqb retirees (placeOf c r) (λ e. place-apart-retirees c r (sym e)))
 
-      joined : ((x : ℕ) × (placeOf s x ≡ unseen) × May local es p (Sees (x ∷ [])) (event a r ∷ past) q)
-          ↔ ((q₀ : ℕ) × ((x : ℕ) × (placeOf s x ≡ unseen) × May local es p (Sees (x ∷ [])) past q₀) × Moves es p a (Sees (y ∷ []) r) q₀ q)
-      joined = joined-event (λ x. placeOf s x ≡ unseen) (λ x. Sees (x ∷ [])) local es p a r (Sees (y ∷ []) r) alike past q
+      joined : ((x : ℕ) × (placeOf c x ≡ unseen) × May local es p (Sees (x ∷ [])) (event a r ∷ past) q)
+          ↔ ((q₀ : ℕ) × ((x : ℕ) × (placeOf c x ≡ unseen) × May local es p (Sees (x ∷ [])) past q₀) × Moves es p a (Sees (y ∷ []) r) q₀ q)
+      joined = joined-event (λ x. placeOf c x ≡ unseen) (λ x. Sees (x ∷ [])) local es p a r (Sees (y ∷ []) r) alike past q
 
-      here : (x : ℕ) → placeOf (movedIn es a r s) x ≡ placeOf s x
-      here x = place-moved es a r s x
-
-      to : has (setAt (movedIn es a r s) p retirees) q ≡ true
-          → (x : ℕ) × (placeOf (movedIn es a r s) x ≡ unseen) × May local es p (Sees (x ∷ [])) (event a r ∷ past) q
+      to : has (setAt (movedIn es a r (placeOf c r) (used c) t) p retirees) q ≡ true
+          → (x : ℕ) × (placeOf c x ≡ unseen) × May local es p (Sees (x ∷ [])) (event a r ∷ past) q
       to h =
           let f = moveMask-found es v p y a r false none-own m q l (ap (λ (m : ℕ). has m q) (sym same) ∙ h) in
-          let j = joined .1 (f .0, t p (f .0) k (f .1) .0 (f .2), f .3) in
-          (j .0, here (j .0) ∙ j .1, j .2)
+          let j = joined .1 (f .0, held p (f .0) k (f .1) .0 (f .2), f .3) in
+          (j .0, j .1, j .2)
 
-      back : ((x : ℕ) × (placeOf (movedIn es a r s) x ≡ unseen) × May local es p (Sees (x ∷ [])) (event a r ∷ past) q)
-          → has (setAt (movedIn es a r s) p retirees) q ≡ true
+      back : ((x : ℕ) × (placeOf c x ≡ unseen) × May local es p (Sees (x ∷ [])) (event a r ∷ past) q)
+          → has (setAt (movedIn es a r (placeOf c r) (used c) t) p retirees) q ≡ true
       back (x, u, y₁) =
-          let j = joined .0 (x, sym (here x) ∙ u, y₁) in
+          let j = joined .0 (x, u, y₁) in
           let b : j .0 < states = may-lt v (j .1 .2) in
           ap (λ (m : ℕ). has m q) same
-          ∙ moveMask-at es v p y a r false none-own m (j .0) q b (t p (j .0) k b .1 (j .1)) (j .2)
+          ∙ moveMask-at es v p y a r false none-own m (j .0) q b (held p (j .0) k b .1 (j .1)) (j .2)
 
 -- ── Creates ──
 
-module _ (s : State) (n : length (s .created) ≡ mostCreated) (w : StateParts s) (r : ℕ) (room : s .count < mostCreated)
-    (new : listed r (live s) ≡ false) (dyn : statics ≤ r) where
-  pub live-created : live (createdIn s r) ≡ live s ++ (r ∷ [])
-  unfolding createdIn
-  live-created = ap (λ (k : ℕ). take k (set (s .created) (s .count) r)) (add-one (s .count))
-      ∙ take-suc-set (s .created) (s .count) r (omega arith)
-
-  set-copied : (p i : ℕ) → p < policies → i < instances → setAt (createdIn s r) p i ≡ cond (eqb i (used s)) (setAt s p unseen) (setAt s p i)
-  unfolding createdIn copied
+module _ (c : Created) (t : Tracked) (n : length (c .numbers) ≡ mostCreated) (w : LiveParts c) (r : ℕ) (room : c .count < mostCreated)
+    (new : listed r (live c) ≡ false) (dyn : statics ≤ r) where
+  set-copied : (p i : ℕ) → p < policies → i < instances → setAt (copiedIn t (used c)) p i ≡ cond (eqb i (used c)) (setAt t p unseen) (setAt t p i)
+  unfolding copiedIn copied
   set-copied p i h k =
       getD-table
-      (λ k. cond (eqb (k % instances) (used s)) (getD (s .sets) (k / instances * instances + unseen) 0) (getD (s .sets) k 0)) p i h k
-      ∙ ap₂ (λ (u v : ℕ). cond (eqb v (used s)) (setAt s u unseen) (setAt s p i)) (at-div p i k) (at-mod p i k)
+      (λ k. cond (eqb (k % instances) (used c)) (getD (t .sets) (k / instances * instances + unseen) 0) (getD (t .sets) k 0)) p i h k
+      ∙ ap₂ (λ (u v : ℕ). cond (eqb v (used c)) (setAt t u unseen) (setAt t p i)) (at-div p i k) (at-mod p i k)
 
-  set-kept : (p i : ℕ) → p < policies → i < used s → setAt (createdIn s r) p i ≡ setAt s p i
-  set-kept p i h k = set-copied p i h (omega arith) ∙ ap (λ (b : Bool). cond b (setAt s p unseen) (setAt s p i)) (ne-eqb i (used s) lower)
+  set-kept : (p i : ℕ) → p < policies → i < used c → setAt (copiedIn t (used c)) p i ≡ setAt t p i
+  set-kept p i h k = set-copied p i h (omega arith) ∙ ap (λ (b : Bool). cond b (setAt t p unseen) (setAt t p i)) (ne-eqb i (used c) lower)
     where
-      lower : i ≡ used s → ⊥
+      lower : i ≡ used c → ⊥
       lower e = omega arith
 
-  set-new : (p : ℕ) → p < policies → setAt (createdIn s r) p (used s) ≡ setAt s p unseen
-  set-new p h = set-copied p (used s) h (omega arith)
-      ∙ ap (λ (b : Bool). cond b (setAt s p unseen) (setAt s p (used s))) (eq-eqb (used s) (used s) refl)
-
-  place-created : placeOf (createdIn s r) r ≡ used s
-  place-created = place-dynamic (createdIn s r) r dyn ∙ ap (placeFrom r firstCreated) live-created ∙ place-new r firstCreated (live s) new
-      ∙ ap (λ (k : ℕ). firstCreated + k) (live-length s n w)
-
-  pub place-kept : (x : ℕ) → eqb r x ≡ false → placeOf (createdIn s r) x ≡ placeOf s x
-  place-kept x e = go (ltb x statics) refl
-    where
-      go : (b : Bool) → ltb x statics ≡ b → placeOf (createdIn s r) x ≡ placeOf s x
-      go true h = place-static (createdIn s r) x (ltb-true x statics h) ∙ sym (place-static s x (ltb-true x statics h))
-      go false h =
-          place-dynamic (createdIn s r) x (ltb-false x statics h) ∙ ap (placeFrom x firstCreated) live-created
-          ∙ place-other x r firstCreated (live s) e
-          ∙ sym (place-dynamic s x (ltb-false x statics h))
+  set-new : (p : ℕ) → p < policies → setAt (copiedIn t (used c)) p (used c) ≡ setAt t p unseen
+  set-new p h = set-copied p (used c) h (omega arith)
+      ∙ ap (λ (b : Bool). cond b (setAt t p unseen) (setAt t p (used c))) (eq-eqb (used c) (used c) refl)
 
   -- Each resource's instance holds what it held: the new one what the instance of the resources that never occurred holds.
-  created-set : (x p : ℕ) → p < policies → setAt (createdIn s r) p (placeOf (createdIn s r) x) ≡ setAt s p (placeOf s x)
+  created-set : (x p : ℕ) → p < policies → setAt (copiedIn t (used c)) p (placeOf (withNew c r) x) ≡ setAt t p (placeOf c x)
   created-set x p k = go (eqb r x) refl
     where
-      own : setAt (createdIn s r) p (placeOf (createdIn s r) r) ≡ setAt s p (placeOf s r)
+      own : setAt (copiedIn t (used c)) p (placeOf (withNew c r) r) ≡ setAt t p (placeOf c r)
       own =
-          ap (λ (i : ℕ). setAt (createdIn s r) p i) place-created ∙ set-new p k
-          ∙ ap (λ (i : ℕ). setAt s p i) (sym (place-dynamic s r dyn ∙ place-absent r firstCreated (live s) new))
+          ap (λ (i : ℕ). setAt (copiedIn t (used c)) p i) (place-created c n w r room new dyn) ∙ set-new p k
+          ∙ ap (λ (i : ℕ). setAt t p i) (sym (place-dynamic c r dyn ∙ place-absent r firstCreated (live c) new))
 
-      go : (b : Bool) → eqb r x ≡ b → setAt (createdIn s r) p (placeOf (createdIn s r) x) ≡ setAt s p (placeOf s x)
-      go true e = subst (λ (x : ℕ). setAt (createdIn s r) p (placeOf (createdIn s r) x) ≡ setAt s p (placeOf s x)) (eqb-true r x e) own
-      go false e = ap (λ (i : ℕ). setAt (createdIn s r) p i) (place-kept x e) ∙ set-kept p (placeOf s x) k (place-lt s x)
+      go : (b : Bool) → eqb r x ≡ b → setAt (copiedIn t (used c)) p (placeOf (withNew c r) x) ≡ setAt t p (placeOf c x)
+      go true e = subst (λ (x : ℕ). setAt (copiedIn t (used c)) p (placeOf (withNew c r) x) ≡ setAt t p (placeOf c x)) (eqb-true r x e) own
+      go false e = ap (λ (i : ℕ). setAt (copiedIn t (used c)) p i) (place-kept c n w r room new dyn x e) ∙ set-kept p (placeOf c x) k (place-lt c x)
 
-  pub created-tracks : (local : Bool) (es : List Edge) (past : Past) → Tracks local es past s → Tracks local es past (createdIn s r)
-  created-tracks local es past t x p q k l gone =
-      let same : has (setAt (createdIn s r) p (placeOf (createdIn s r) x)) q ≡ has (setAt s p (placeOf s x)) q =
+  pub created-tracks : (local : Bool) (es : List Edge) (past : Past) → Tracks local es past c t → Tracks local es past (withNew c r) (copiedIn t (used c))
+  created-tracks local es past held x p q k l gone =
+      let same : has (setAt (copiedIn t (used c)) p (placeOf (withNew c r) x)) q ≡ has (setAt t p (placeOf c x)) q =
       ap (λ (m : ℕ). has m q) (created-set x p k) in
-      (λ h. t x p q k l gone .0 (sym same ∙ h), λ m. same ∙ t x p q k l gone .1 m)
+      (λ h. held x p q k l gone .0 (sym same ∙ h), λ m. same ∙ held x p q k l gone .1 m)
 
   -- The new one is no longer among those without a place of their own; but others that never occurred are, and may be in the same states.
   pub created-retirees : (local : Bool) (es : List Edge) (past : Past) → r < resources
-      → ((x : ℕ) → Retired x past → x ≤ s .highest) → s .highest < r
-      → Tracks local es past s → TracksRetirees local es past s → TracksRetirees local es past (createdIn s r)
-  created-retirees local es past fits gone above t u p q k l = (to, back)
+      → ((x : ℕ) → Retired x past → x ≤ c .highest) → c .highest < r
+      → Tracks local es past c t → TracksRetirees local es past c t → TracksRetirees local es past (withNew c r) (copiedIn t (used c))
+  created-retirees local es past fits gone above held u p q k l = (to, back)
     where
-      same : has (setAt (createdIn s r) p retirees) q ≡ has (setAt s p retirees) q
+      same : has (setAt (copiedIn t (used c)) p retirees) q ≡ has (setAt t p retirees) q
       same = ap (λ (m : ℕ). has m q) (set-kept p retirees k (omega arith))
 
       -- what r may be in, another may that never occurred
-      another : May local es p (Sees (r ∷ [])) past q → May local es p (Sees (far s n w ∷ [])) past q
+      another : May local es p (Sees (r ∷ [])) past q → May local es p (Sees (far c n w ∷ [])) past q
       another m =
-          t (far s n w) p q k l (λ g. let h = gone (far s n w) g in omega arith) .0
-          (ap (λ (i : ℕ). has (setAt s p i) q) (place-far s n w ∙ sym (place-dynamic s r dyn ∙ place-absent r firstCreated (live s) new))
-          ∙ t r p q k l (λ g. let h = gone r g in omega arith) .1 m)
+          held (far c n w) p q k l (λ g. let h = gone (far c n w) g in omega arith) .0
+          (ap (λ (i : ℕ). has (setAt t p i) q) (place-far c n w ∙ sym (place-dynamic c r dyn ∙ place-absent r firstCreated (live c) new))
+          ∙ held r p q k l (λ g. let h = gone r g in omega arith) .1 m)
 
-      to : has (setAt (createdIn s r) p retirees) q ≡ true → (x : ℕ) × (placeOf (createdIn s r) x ≡ unseen)
+      to : has (setAt (copiedIn t (used c)) p retirees) q ≡ true → (x : ℕ) × (placeOf (withNew c r) x ≡ unseen)
           × May local es p (Sees (x ∷ [])) past q
       to h = let (x, i, m) = u p q k l .0 (sym same ∙ h) in go x i m (eqb r x) refl
         where
-          go : (x : ℕ) → placeOf s x ≡ unseen → May local es p (Sees (x ∷ [])) past q → (b : Bool) → eqb r x ≡ b
-              → (x : ℕ) × (placeOf (createdIn s r) x ≡ unseen) × May local es p (Sees (x ∷ [])) past q
+          go : (x : ℕ) → placeOf c x ≡ unseen → May local es p (Sees (x ∷ [])) past q → (b : Bool) → eqb r x ≡ b
+              → (x : ℕ) × (placeOf (withNew c r) x ≡ unseen) × May local es p (Sees (x ∷ [])) past q
           go x i m true e = (
-            far s n w,
-            place-kept (far s n w) (ne-eqb r (far s n w) (λ z. omega arith)) ∙ place-far s n w,
+            far c n w,
+            place-kept c n w r room new dyn (far c n w) (ne-eqb r (far c n w) (λ z. omega arith)) ∙ place-far c n w,
             another (subst (λ (z : ℕ). May local es p (Sees (z ∷ [])) past q) (sym (eqb-true r x e)) m),
           )
-          go x i m false e = (x, place-kept x e ∙ i, m)
+          go x i m false e = (x, place-kept c n w r room new dyn x e ∙ i, m)
 
-      back : ((x : ℕ) × (placeOf (createdIn s r) x ≡ unseen) × May local es p (Sees (x ∷ [])) past q)
-          → has (setAt (createdIn s r) p retirees) q ≡ true
+      back : ((x : ℕ) × (placeOf (withNew c r) x ≡ unseen) × May local es p (Sees (x ∷ [])) past q)
+          → has (setAt (copiedIn t (used c)) p retirees) q ≡ true
       back (x, i, m) =
           let d : eqb r x ≡ false =
-          ne-eqb r x (λ e. let z : placeOf (createdIn s r) x ≡ used s = ap (placeOf (createdIn s r)) (sym e) ∙ place-created in omega arith) in
-          same ∙ u p q k l .1 (x, sym (place-kept x d) ∙ i, m)
-
-  pub created-listed : (x : ℕ) → listed x (live (createdIn s r)) ≡ (listed x (live s) || eqb r x)
-  created-listed x = ap (listed x) live-created ∙ listed-snoc x r (live s)
-
-  pub created-known : known (createdIn s r) r ≡ true
-  created-known =
-      or-right (ltb r statics) (listed r (live (createdIn s r)))
-      (created-listed r ∙ or-right (listed r (live s)) (eqb r r) (eq-eqb r r refl))
-
-  pub created-ok : r < resources → s .highest < r → StateParts (createdIn s r)
-  unfolding createdIn
-  created-ok h above = record {
-    few = omega arith;
-    range = subst (λ (l : List ℕ). every dynamic l ≡ true) (sym live-created)
-        (every-snoc dynamic r (live s) (w .range)
-        (and-both (leb statics r) (ltb r resources) (le-leb statics r dyn) (lt-ltb r resources h)));
-    apart = subst (λ (l : List ℕ). distinct l ≡ true) (sym live-created) (distinct-snoc r (live s) (w .apart) new);
-    top = subst (λ (l : List ℕ). every (λ y. leb y r) l ≡ true) (sym live-created)
-        (every-snoc (λ y. leb y r) r (live s)
-        (every-more (λ y. leb y (s .highest)) (λ y. leb y r)
-        (λ y e. le-leb y r (let z = leb-true y (s .highest) e in omega arith)) (live s) (w .top)) (le-leb r r (omega arith)));
-    ordered = w .ordered;
-  }
-
-pub moved-ok : (es : List Edge) (a r : ℕ) (s : State) → StateParts s → StateParts (movedIn es a r s)
-unfolding movedIn
-moved-ok es a r s w = record { few = w .few; range = w .range; apart = w .apart; top = w .top; ordered = w .ordered }
+          ne-eqb r x (λ e. let z : placeOf (withNew c r) x ≡ used c = ap (placeOf (withNew c r)) (sym e) ∙ (place-created c n w r room new dyn) in omega arith) in
+          same ∙ u p q k l .1 (x, sym (place-kept c n w r room new dyn x d) ∙ i, m)
 
 -- ── Sets stay bytes ──
 
-abbrev Bytes : State → Type 0
-Bytes s = (k : ℕ) → getD (s .sets) k 0 < 256
+abbrev Bytes : Tracked → Type 0
+Bytes t = (k : ℕ) → getD (t .sets) k 0 < 256
 
-pub moved-bytes : (es : List Edge) (a r : ℕ) (s : State) → Bytes s → Bytes (movedIn es a r s)
+pub moved-bytes : (es : List Edge) (a r own n : ℕ) (t : Tracked) → Bytes t → Bytes (movedIn es a r own n t)
 unfolding movedIn movedSets
-moved-bytes es a r s b i =
+moved-bytes es a r own n t h i =
     from-below
-    (λ k. cond (ltb (k % instances) (used s)) (moveMask es (k / instances) a r (eqb (k % instances) (placeOf s r)) (getD (s .sets) k 0))
-    (getD (s .sets) k 0)) 256 (lit< tt)
-    (λ k. go k (ltb (k % instances) (used s))) 0 setPlaces i
+    (λ k. cond (ltb (k % instances) n) (moveMask es (k / instances) a r (eqb (k % instances) own) (getD (t .sets) k 0))
+    (getD (t .sets) k 0)) 256 (lit< tt)
+    (λ k. go k (ltb (k % instances) n)) 0 setPlaces i
   where
-    go : (k : ℕ) (c : Bool)
-        → cond c (moveMask es (k / instances) a r (eqb (k % instances) (placeOf s r)) (getD (s .sets) k 0)) (getD (s .sets) k 0) < 256
-    go k true = moveMask-lt es (k / instances) a r (eqb (k % instances) (placeOf s r)) (getD (s .sets) k 0)
-    go k false = b k
+    go : (k : ℕ) (b : Bool)
+        → cond b (moveMask es (k / instances) a r (eqb (k % instances) own) (getD (t .sets) k 0)) (getD (t .sets) k 0) < 256
+    go k true = moveMask-lt es (k / instances) a r (eqb (k % instances) own) (getD (t .sets) k 0)
+    go k false = h k
 
-pub created-bytes : (s : State) (r : ℕ) → Bytes s → Bytes (createdIn s r)
-unfolding createdIn copied
-created-bytes s r b i =
-    from-below (λ k. cond (eqb (k % instances) (used s)) (getD (s .sets) (k / instances * instances + unseen) 0) (getD (s .sets) k 0)) 256
+pub copied-bytes : (t : Tracked) (i : ℕ) → Bytes t → Bytes (copiedIn t i)
+unfolding copiedIn copied
+copied-bytes t i h k₀ =
+    from-below (λ k. cond (eqb (k % instances) i) (getD (t .sets) (k / instances * instances + unseen) 0) (getD (t .sets) k 0)) 256
     (lit< tt)
-    (λ k. go k (eqb (k % instances) (used s))) 0 setPlaces i
+    (λ k. go k (eqb (k % instances) i)) 0 setPlaces k₀
   where
-    go : (k : ℕ) (c : Bool) → cond c (getD (s .sets) (k / instances * instances + unseen) 0) (getD (s .sets) k 0) < 256
-    go k true = b (k / instances * instances + unseen)
-    go k false = b k
+    go : (k : ℕ) (b : Bool) → cond b (getD (t .sets) (k / instances * instances + unseen) 0) (getD (t .sets) k 0) < 256
+    go k true = h (k / instances * instances + unseen)
+    go k false = h k

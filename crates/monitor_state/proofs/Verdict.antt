@@ -13,6 +13,7 @@ use Rattle.usage.specs.Answers.{Verdict, allowed}
 use Rattle.usage.specs.Judge.{stepOf, Taken, Judged, is-refused, is-violated, is-allowed, then, pastAfter, haltedAfter}
 use Rattle.usage.specs.Judge.{JudgedAll, done, next}
 use Rattle.usage.specs.Tables.{edgesOf, edgeTable}
+use Rattle.usage.proofs.Logic.{and-both}
 use Rattle.usage.proofs.TableLaws.{decides-edge-table}
 use Rattle.usage.proofs.JudgeLaws.{step-fits, judged-unique}
 use Rattle.automaton.specs.Mask.{lowestIn}
@@ -20,7 +21,7 @@ use Rattle.automaton.proofs.MoveLaws.{ends-of}
 use Rattle.monitor_state.specs.declared.State.{State}
 use Rattle.monitor_state.specs.declared.Answer.{Answer}
 use Rattle.monitor_state.specs.declared.Answer.the-variants.{Allowed, Violated, Refused}
-use Rattle.monitor_state.specs.Judge.{verdictOf, stateOk, placeOf, halt, after, broken, refusal, refuse, settle, judgeStep, judgeRead}
+use Rattle.monitor_state.specs.Judge.{verdictOf, liveOk, unclosedOk, stateOk, halt, after, broken, refusal, refuse, settle, judgeStep, judgeRead}
 use Rattle.monitor_state.specs.Judge.{judgeOf, answersOf, startState}
 use Rattle.monitor_state.specs.Represents.{Represents}
 use Rattle.monitor_state.specs.Promise.{Promised}
@@ -33,26 +34,13 @@ use Rattle.monitor_state.proofs.Refusals.{refuses-halted, refuses-unrea
 
 halt-represents : (local : Bool) (es : List Edge) (past : Past) (h : Bool) (s : State) → Represents local es past h s
     → Represents local es past true (halt s)
-unfolding halt placeOf stateOk
-halt-represents local es past h s R = record {
-  halted = refl;
-  well = R .well;
-  tracks = R .tracks;
-  tracks-retirees = R .tracks-retirees;
-  gathers = R .gathers;
-  lives = R .lives;
-  most = R .most;
-  gone = R .gone;
-  open-count = R .open-count;
-  stack = R .stack;
-  sets-length = R .sets-length;
-  possible-length = R .possible-length;
-  created-length = R .created-length;
-  unclosed-length = R .unclosed-length;
-  order-length = R .order-length;
-  bytes = R .bytes;
-  possible-bytes = R .possible-bytes;
-}
+unfolding halt
+halt-represents local es past h s R = record { halted = refl; tracked = R .tracked; created = R .created; unclosed = R .unclosed }
+
+-- such a state passes 42
+pub state-well : {local : Bool} {es : List Edge} {past : Past} {h : Bool} {s : State} → Represents local es past h s → stateOk s ≡ true
+unfolding stateOk
+state-well {s = s} R = and-both (liveOk (s .created)) (unclosedOk (s .unclosed)) (R .created .well) (R .unclosed .well)
 
 module _ (local : Bool) (es : List Edge) (v : EdgesOk es) (past : Past)
     (s : State) (R : Represents local es past false s) (raw : RawStep) where
@@ -99,7 +87,7 @@ pub judge-promised : (t : List ℕ) → edgeTable t ≡ true
     → (raw : RawStep) → Promised local (edgesOf t) past h s raw (judgeOf t local s raw)
 unfolding refuse
 judge-promised t p local past h s R raw = subst (Promised local (edgesOf t) past h s raw)
-    (sym (judge-is t local s raw p (R .well))) (go h R)
+    (sym (judge-is t local s raw p (state-well R))) (go h R)
   where
     go : (h : Bool) → Represents local (edgesOf t) past h s
         → Promised local (edgesOf t) past h s raw (cond (s .halted) (refuse 20 s) (judgeRead local (edgesOf t) s (stepOf raw)))

@@ -15,7 +15,7 @@ use Rattle.monitor_state.specs.declared.Sizes.{Sizes}
 use Rattle.monitor_state.specs.declared.Answer.the-variants.{Allowed, Violated}
 use Rattle.monitor_state.specs.Judge.{refusal}
 use Rattle.monitor_state.specs.Looked.{lookedAt, judgeStepBy}
-pub use Rattle.monitor_state.specs.Lent.{stateOf, judgementOf}
+pub use Rattle.monitor_state.specs.Lent.{Lent, lentOf, stateOf, judgementOf, arraysOf, sizesOf}
 use Rattle.monitor_state.specs.declared.Read.{Read}
 use Rattle.monitor_state.specs.declared.Read.the-variants.{Event, Opening, Closing, Retiring, Nothing}
 
@@ -33,15 +33,15 @@ says Nothing = none
 abbrev pub oneMore : List ℕ → ℕ → List ℕ
 oneMore unclosed p = set unclosed p (getD unclosed p 0 + 1)
 
-abbrev pub sizesOf : State → Sizes
-sizesOf s = record { count = s .count; highest = s .highest; depth = s .depth }
-
 -- the judgement of a step that was read, by the policies `looked`
 abbrev pub stepped : ℕ → Bool → List Edge → State → Step → Judgement
 stepped looked local es s step = judgeStepBy (lookedAt looked) local es s step (refusal s step)
 
+-- the same, halted
+abbrev pub haltedSizes : Sizes → Sizes
+haltedSizes z = record { count = z .count; highest = z .highest; depth = z .depth; halted = true }
+
 -- what is told of a step that leaves the policies `bad` broken
 unfoldable pub toldOf : ℕ → Sizes → Sizes → Told
 toldOf bad before after =
-    cond (eqb bad 0) (record { answer = Allowed; count = after .count; highest = after .highest; depth = after .depth; halted = false })
-    (record { answer = Violated (lowestIn bad); count = before .count; highest = before .highest; depth = before .depth; halted = true })
+    cond (eqb bad 0) (record { answer = Allowed; sizes = after }) (record { answer = Violated (lowestIn bad); sizes = haltedSizes before })

@@ -1,25 +1,43 @@
 -- A state whose arrays are lent one by one, and the judgement that is told of it.
 use Prim.Native.Nat.{ℕ}
-use mathlib.Core.Bool.{Bool}
 use mathlib.Core.List.{List}
 use Rattle.monitor_state.specs.declared.State.{State}
+use Rattle.monitor_state.specs.declared.Sizes.{Sizes}
 use Rattle.monitor_state.specs.declared.Judgement.{Judgement}
 use Rattle.monitor_state.specs.declared.Told.{Told}
 
-abbrev pub stateOf : List ℕ → List ℕ → List ℕ → ℕ → ℕ → List ℕ → List ℕ → ℕ → Bool → State
-stateOf sets possible created count highest unclosed order depth halted = record {
-  sets = sets;
-  possible = possible;
-  created = created;
-  count = count;
-  highest = highest;
-  unclosed = unclosed;
-  order = order;
-  depth = depth;
-  halted = halted;
+-- the arrays, as they are before a call or after it
+pub record Lent : Type 0 where
+  pub sets : List ℕ
+  pub possible : List ℕ
+  pub numbers : List ℕ
+  pub counts : List ℕ
+  pub order : List ℕ
+
+abbrev pub lentOf : List ℕ → List ℕ → List ℕ → List ℕ → List ℕ → Lent
+lentOf sets possible numbers counts order =
+    record { sets = sets; possible = possible; numbers = numbers; counts = counts; order = order }
+
+abbrev pub stateOf : Lent → Sizes → State
+stateOf l z = record {
+  tracked = record { sets = l .sets; possible = l .possible };
+  created = record { numbers = l .numbers; count = z .count; highest = z .highest };
+  unclosed = record { counts = l .counts; order = l .order; depth = z .depth };
+  halted = z .halted;
 }
 
 -- what is told, with the arrays as they were left
-abbrev pub judgementOf : Told → List ℕ → List ℕ → List ℕ → List ℕ → List ℕ → Judgement
-judgementOf t sets possible created unclosed order =
-    record { answer = t .answer; state = stateOf sets possible created (t .count) (t .highest) unclosed order (t .depth) (t .halted) }
+abbrev pub judgementOf : Told → Lent → Judgement
+judgementOf t l = record { answer = t .answer; state = stateOf l (t .sizes) }
+
+-- the arrays of a state, and what it has beside them
+abbrev pub arraysOf : State → Lent
+arraysOf s = lentOf (s .tracked .sets) (s .tracked .possible) (s .created .numbers) (s .unclosed .counts) (s .unclosed .order)
+
+abbrev pub sizesOf : State → Sizes
+sizesOf s = record {
+  count = s .created .count;
+  highest = s .created .highest;
+  depth = s .unclosed .depth;
+  halted = s .halted;
+}

@@ -1,3 +1,7 @@
+-- The parts of the state, each with its definitions and its share of 42.
+pub mod Tracked
+pub mod Created
+pub mod Unclosed
 pub mod Judge
 pub mod Looked
 pub mod Sound

@@ -25,7 +25,7 @@ atAll step p = true
 
 -- whether p is open with an offending state among its possible ones
 abbrev pub breaksIn : State → ℕ → Bool
-breaksIn s p = ltb 0 (openingsOf s p) && offends (possibleIn s p)
+breaksIn s p = ltb 0 (openingsOf (s .unclosed) p) && offends (possibleIn (s .tracked) p)
 
 -- the broken policies among those that are looked at, as a bit set
 unfoldable pub brokenAmong : (ℕ → Bool) → State → ℕ

@@ -12,42 +12,62 @@ use Rattle.usage.specs.Past.{Past, May, liveIn, highest, Retired, openings, clo
 use Rattle.monitor_sets.specs.Instances.{unseen, retirees, setPlaces}
 use Rattle.automaton.specs.Mask.{has}
 use Rattle.monitor_state.specs.declared.State.{State}
-use Rattle.monitor_state.specs.Judge.{live, stackIn, stateOk, placeOf, setAt, openingsOf, possibleIn}
+use Rattle.monitor_state.specs.declared.Tracked.{Tracked}
+use Rattle.monitor_state.specs.declared.Created.{Created}
+use Rattle.monitor_state.specs.declared.Unclosed.{Unclosed}
+use Rattle.monitor_state.specs.Judge.{live, liveOk, placeOf, setAt, possibleIn, openingsOf, remembered, unclosedOk}
+
+-- ── What is tracked ──
 
 -- The set at x's instance holds exactly the states that x's instance may be in: for every number x, created or not, but retired ones.
-abbrev pub Tracks : Bool → List Edge → Past → State → Type 0
-Tracks local es past s =
+abbrev pub Tracks : Bool → List Edge → Past → Created → Tracked → Type 0
+Tracks local es past c t =
     (x p q : ℕ) → p < policies → q < states → (Retired x past → ⊥)
-    → (has (setAt s p (placeOf s x)) q ≡ true) ↔ May local es p (Sees (x ∷ [])) past q
+    → (has (setAt t p (placeOf c x)) q ≡ true) ↔ May local es p (Sees (x ∷ [])) past q
 
 -- The set of the retired ones holds exactly the states that the instance of some resource may be in that has no place of its own: of one
 -- that was retired, or that never occurred.
-abbrev pub TracksRetirees : Bool → List Edge → Past → State → Type 0
-TracksRetirees local es past s =
+abbrev pub TracksRetirees : Bool → List Edge → Past → Created → Tracked → Type 0
+TracksRetirees local es past c t =
     (p q : ℕ) → p < policies → q < states
-    → (has (setAt s p retirees) q ≡ true) ↔ ((x : ℕ) × (placeOf s x ≡ unseen) × May local es p (Sees (x ∷ [])) past q)
+    → (has (setAt t p retirees) q ≡ true) ↔ ((x : ℕ) × (placeOf c x ≡ unseen) × May local es p (Sees (x ∷ [])) past q)
 
 -- The set that is kept of p holds exactly the states that some instance of it, of any number x at all, may be in.
-abbrev pub Gathers : Bool → List Edge → Past → State → Type 0
-Gathers local es past s =
-    (p q : ℕ) → p < policies → q < states → (has (possibleIn s p) q ≡ true) ↔ ((x : ℕ) × May local es p (Sees (x ∷ [])) past q)
+abbrev pub Gathers : Bool → List Edge → Past → Tracked → Type 0
+Gathers local es past t =
+    (p q : ℕ) → p < policies → q < states → (has (possibleIn t p) q ≡ true) ↔ ((x : ℕ) × May local es p (Sees (x ∷ [])) past q)
+
+-- what is tracked stands for a past, with what is created
+pub record HoldsStates (local : Bool) (es : List Edge) (past : Past) (c : Created) (t : Tracked) : Type 0 where
+  pub tracks : Tracks local es past c t
+  pub tracks-retirees : TracksRetirees local es past c t
+  pub gathers : Gathers local es past t
+  pub sets-length : length (t .sets) ≡ setPlaces
+  pub possible-length : length (t .possible) ≡ policies
+  pub bytes : (k : ℕ) → getD (t .sets) k 0 < 256
+  pub possible-bytes : (p : ℕ) → possibleIn t p < 256
+
+-- ── What is created ──
+
+pub record ListsLive (past : Past) (c : Created) : Type 0 where
+  pub well : liveOk c ≡ true
+  pub lives : live c ≡ liveIn past
+  pub most : c .highest ≡ highest past
+  pub gone : (x : ℕ) → Retired x past → (placeOf c x ≡ unseen) × (x ≤ c .highest)
+  pub numbers-length : length (c .numbers) ≡ mostCreated
+
+-- ── What is not closed ──
+
+pub record CountsOpenings (past : Past) (u : Unclosed) : Type 0 where
+  pub well : unclosedOk u ≡ true
+  pub open-count : (p : ℕ) → closings p past + openingsOf u p ≡ openings p past
+  pub stack : remembered u ≡ openStack past
+  pub counts-length : length (u .counts) ≡ policies
+  pub order-length : length (u .order) ≡ mostUnclosed
 
 -- After this past, with an earlier step violated or not as `h` says, the judge may be in this state.
 pub record Represents (local : Bool) (es : List Edge) (past : Past) (h : Bool) (s : State) : Type 0 where
   pub halted : s .halted ≡ h
-  pub well : stateOk s ≡ true
-  pub tracks : Tracks local es past s
-  pub tracks-retirees : TracksRetirees local es past s
-  pub gathers : Gathers local es past s
-  pub lives : live s ≡ liveIn past
-  pub most : s .highest ≡ highest past
-  pub gone : (x : ℕ) → Retired x past → (placeOf s x ≡ unseen) × (x ≤ s .highest)
-  pub open-count : (p : ℕ) → closings p past + openingsOf s p ≡ openings p past
-  pub stack : stackIn (s .depth) (s .order) ≡ openStack past
-  pub sets-length : length (s .sets) ≡ setPlaces
-  pub possible-length : length (s .possible) ≡ policies
-  pub created-length : length (s .created) ≡ mostCreated
-  pub unclosed-length : length (s .unclosed) ≡ policies
-  pub order-length : length (s .order) ≡ mostUnclosed
-  pub bytes : (k : ℕ) → getD (s .sets) k 0 < 256
-  pub possible-bytes : (p : ℕ) → possibleIn s p < 256
+  pub tracked : HoldsStates local es past (s .created) (s .tracked)
+  pub created : ListsLive past (s .created)
+  pub unclosed : CountsOpenings past (s .unclosed)

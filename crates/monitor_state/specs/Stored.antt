@@ -8,7 +8,7 @@ use Rattle.usage.specs.declared.RawStep.{RawStep}
 use Rattle.usage.specs.Past.{Step, event, opening, closing, retiring}
 use Rattle.usage.specs.Judge.{stepOf}
 use Rattle.monitor_state.specs.declared.State.{State}
-use Rattle.monitor_state.specs.Judge.{withSets, judgeOf}
+use Rattle.monitor_state.specs.Judge.{withTracked, judgeOf}
 
 -- "At an opening or closing", and at a retiring, which "like an opening, is judged by the stored sets" (02, L8)
 abbrev pub NoEvent : Step → Type 0
@@ -20,4 +20,4 @@ NoEvent (retiring r) = Unit {0}
 -- "a state not reached from the start is judged by its stored sets": whatever its instances' sets are, the answer is the same
 abbrev pub JudgedByStored : Type 0
 JudgedByStored = (t : List ℕ) (local : Bool) (s : State) (raw : RawStep) (step : Step) → stepOf raw ≡ some step → NoEvent step
-    → (sets : List ℕ) → judgeOf t local (withSets s sets (s .possible)) raw .answer ≡ judgeOf t local s raw .answer
+    → (sets : List ℕ) → judgeOf t local (withTracked s (record { sets = sets; possible = s .tracked .possible })) raw .answer ≡ judgeOf t local s raw .answer

@@ -11,18 +11,41 @@ ghost use Rattle.usage.specs.Judge.{stepOf};
 ghost use Rattle.monitor_state.specs.declared.Answer.the-variants.{Refused};
 ghost use Rattle.monitor_state.specs.Code.{says, toldOf};
 
-// What the judge keeps between steps: the sets of states of the instances, as `monitor_sets::instances` lays them out; for each policy the
-// set of states that any of its instances may be in; the live resources, which are the first `count` numbers; the highest number that was
-// created; for each policy its openings that are not closed; the policies of all these openings in their order, the oldest first, which are
-// the first `depth` numbers; and whether a step was violated.
-pub struct State {
+// What is tracked: the sets of states of the instances, as `monitor_sets::instances` lays them out, and for each policy the set of states
+// that any of its instances may be in.
+pub struct Tracked {
     pub sets: [u8; SETS],
     pub possible: [u8; POLICIES],
-    pub created: [u32; MOST_CREATED],
+}
+
+// What is created: the live resources, which are the first `count` numbers, and the highest number that was created.
+pub struct Created {
+    pub numbers: [u32; MOST_CREATED],
     pub count: usize,
     pub highest: u32,
-    pub unclosed: [u8; POLICIES],
+}
+
+// What is not closed: for each policy how many of its openings, and the policies of all these openings in their order, the oldest first,
+// which are the first `depth` numbers.
+pub struct Unclosed {
+    pub counts: [u8; POLICIES],
     pub order: [u8; MOST_UNCLOSED],
+    pub depth: usize,
+}
+
+// What the judge keeps between steps, in its parts, and whether a step was violated.
+pub struct State {
+    pub tracked: Tracked,
+    pub created: Created,
+    pub unclosed: Unclosed,
+    pub halted: bool,
+}
+
+// What a state has beside its arrays: how many resources are live, the highest number that was created, how many openings are not closed,
+// and whether it is halted.
+pub struct Sizes {
+    pub count: usize,
+    pub highest: u32,
     pub depth: usize,
     pub halted: bool,
 }
@@ -41,10 +64,7 @@ pub struct Judgement {
 // A judgement without the arrays of its state, which are lent.
 pub struct Told {
     pub answer: Answer,
-    pub count: usize,
-    pub highest: u32,
-    pub depth: usize,
-    pub halted: bool,
+    pub sizes: Sizes,
 }
 
 // A step whose numbers are in their ranges, or nothing.
@@ -76,23 +96,13 @@ pub fn read_step(step: RawStep) -> Read
 }
 
 // A refused step: nothing is changed.
-pub fn refused(n: u8, count: usize, highest: u32, depth: usize, before: bool) -> Told
-    ensures { λ r. ⌜ r ≡ record { answer = Refused n; count = count; highest = highest; depth = depth; halted = before } ⌝ }
+pub fn refused(n: u8, sizes: Sizes) -> Told
+    ensures { λ r. ⌜ r ≡ record { answer = Refused n; sizes = sizes } ⌝ }
 {
     Told {
         answer: Answer::Refused(n),
-        count,
-        highest,
-        depth,
-        halted: before,
+        sizes,
     }
-}
-
-// How many resources are live, the highest number that was created, and how many openings are not closed.
-pub struct Sizes {
-    pub count: usize,
-    pub highest: u32,
-    pub depth: usize,
 }
 
 // The answer to a step that leaves these policies open and not respected: the lowest of them, if any. `before` and `after` are
@@ -103,18 +113,19 @@ pub fn settled(broken: u8, before: Sizes, after: Sizes) -> Told
     if broken == 0 {
         return Told {
             answer: Answer::Allowed,
-            count: after.count,
-            highest: after.highest,
-            depth: after.depth,
-            halted: false,
+            sizes: after,
         };
     }
-    let p = u8::trailing_zeros(broken);
-    Told {
-        answer: Answer::Violated(p as u8),
+    let lowest = u8::trailing_zeros(broken);
+    let p = lowest as u8;
+    let sizes = Sizes {
         count: before.count,
         highest: before.highest,
         depth: before.depth,
         halted: true,
+    };
+    Told {
+        answer: Answer::Violated(p),
+        sizes,
     }
 }

@@ -98,14 +98,14 @@ refusal-routine : (s : State) (step : Step) → Routine (refusal s step)
 unfolding refusal
 refusal-routine s (event zero r) =
     cond-routine (ltb r statics) _ _ (nth 2 judgeNumbers refl, lit< tt)
-    (cond-routine (leb r (s .highest)) _ _ (nth 3 judgeNumbers refl, lit< tt)
-    (cond-routine (leb mostCreated (s .count)) _ _ (nth 8 judgeNumbers refl, lit< tt) tt))
-refusal-routine s (event (suc a) r) = cond-routine (ltb r statics || listed r (live s)) _ _ tt (nth 5 judgeNumbers refl, lit< tt)
-refusal-routine s (opening p) = cond-routine (leb mostUnclosed (s .depth)) _ _ (nth 9 judgeNumbers refl, lit< tt) tt
+    (cond-routine (leb r (s .created .highest)) _ _ (nth 3 judgeNumbers refl, lit< tt)
+    (cond-routine (leb mostCreated (s .created .count)) _ _ (nth 8 judgeNumbers refl, lit< tt) tt))
+refusal-routine s (event (suc a) r) = cond-routine (ltb r statics || listed r (live (s .created))) _ _ tt (nth 5 judgeNumbers refl, lit< tt)
+refusal-routine s (opening p) = cond-routine (leb mostUnclosed (s .unclosed .depth)) _ _ (nth 9 judgeNumbers refl, lit< tt) tt
 refusal-routine s (closing p) =
-    cond-routine (ltb 0 (openingsOf s p)) _ _ (cond-routine (eqb (lastOpened s) p) _ _ tt (nth 7 judgeNumbers refl, lit< tt))
+    cond-routine (ltb 0 (openingsOf (s .unclosed) p)) _ _ (cond-routine (eqb (lastOpened (s .unclosed)) p) _ _ tt (nth 7 judgeNumbers refl, lit< tt))
     (nth 6 judgeNumbers refl, lit< tt)
-refusal-routine s (retiring r) = cond-routine (not (ltb r statics) && listed r (live s)) _ _ tt (nth 4 judgeNumbers refl, lit< tt)
+refusal-routine s (retiring r) = cond-routine (not (ltb r statics) && listed r (live (s .created))) _ _ tt (nth 4 judgeNumbers refl, lit< tt)
 
 -- a refusal that comes after the tests of the table and of the state
 abbrev Low : Judgement → Type 0

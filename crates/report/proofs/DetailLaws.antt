@@ -50,15 +50,15 @@ number false x y h k = k
 refusal-number : (s : State) (step : Step) → Number (refusal s step)
 unfolding refusal
 refusal-number s (event zero r) =
-    number (ltb r statics) (some 22) (cond (leb r (s .highest)) (some 27) (cond (leb mostCreated (s .count)) (some 30) none)) (omega arith)
-    (number (leb r (s .highest)) (some 27) (cond (leb mostCreated (s .count)) (some 30) none) (omega arith)
-    (number (leb mostCreated (s .count)) (some 30) none (omega arith) tt))
-refusal-number s (event (suc a) r) = number (ltb r statics || listed r (live s)) none (some 24) tt (omega arith)
-refusal-number s (opening p) = number (leb mostUnclosed (s .depth)) (some 32) none (omega arith) tt
+    number (ltb r statics) (some 22) (cond (leb r (s .created .highest)) (some 27) (cond (leb mostCreated (s .created .count)) (some 30) none)) (omega arith)
+    (number (leb r (s .created .highest)) (some 27) (cond (leb mostCreated (s .created .count)) (some 30) none) (omega arith)
+    (number (leb mostCreated (s .created .count)) (some 30) none (omega arith) tt))
+refusal-number s (event (suc a) r) = number (ltb r statics || listed r (live (s .created))) none (some 24) tt (omega arith)
+refusal-number s (opening p) = number (leb mostUnclosed (s .unclosed .depth)) (some 32) none (omega arith) tt
 refusal-number s (closing p) =
-    number (ltb 0 (openingsOf s p)) (cond (eqb (lastOpened s) p) none (some 26)) (some 25)
-    (number (eqb (lastOpened s) p) none (some 26) tt (omega arith)) (omega arith)
-refusal-number s (retiring r) = number (not (ltb r statics) && listed r (live s)) none (some 28) tt (omega arith)
+    number (ltb 0 (openingsOf (s .unclosed) p)) (cond (eqb (lastOpened (s .unclosed)) p) none (some 26)) (some 25)
+    (number (eqb (lastOpened (s .unclosed)) p) none (some 26) tt (omega arith)) (omega arith)
+refusal-number s (retiring r) = number (not (ltb r statics) && listed r (live (s .created))) none (some 28) tt (omega arith)
 
 step-short : (local : Bool) (es : List Edge) (s : State) (step : Step) (o : Option ℕ) → Number o → Short (judgeStep local es s step o)
 unfolding judgeStep

@@ -12,6 +12,7 @@ ghost use Rattle.monitor_state.specs.Judge.{verdictOf, startState};
 ghost use Rattle.report.specs.Output.{longestStepRow, stepsRoom};
 ghost use Rattle.report.specs.Trace.{judgedRows, traceRows};
 use monitor_state::Answer;
+use monitor_state::Sizes;
 use sheet_lines::Reading;
 use usage::RawStep;
 use usage::STEP_FIELDS;
@@ -42,15 +43,20 @@ fn judge_all(edges: &[u8], local: bool, steps: &[u32], out: &mut [u8], at: usize
 {
     let n = steps.len() / STEP_FIELDS;
     let s = monitor::start();
-    let mut sets = s.sets;
-    let mut possible = s.possible;
-    let mut created = s.created;
-    let mut unclosed = s.unclosed;
-    let mut order = s.order;
-    let mut count = s.count;
-    let mut highest = s.highest;
-    let mut depth = s.depth;
-    let mut halted = s.halted;
+    let tracked = s.tracked;
+    let created = s.created;
+    let unclosed = s.unclosed;
+    let mut sets = tracked.sets;
+    let mut possible = tracked.possible;
+    let mut numbers = created.numbers;
+    let mut counts = unclosed.counts;
+    let mut order = unclosed.order;
+    let mut sizes = Sizes {
+        count: created.count,
+        highest: created.highest,
+        depth: unclosed.depth,
+        halted: s.halted,
+    };
     let mut next = at;
     let mut i: usize = 0;
     while i < n {
@@ -59,21 +65,15 @@ fn judge_all(edges: &[u8], local: bool, steps: &[u32], out: &mut [u8], at: usize
             local,
             &mut sets,
             &mut possible,
-            &mut created,
-            &mut unclosed,
+            &mut numbers,
+            &mut counts,
             &mut order,
-            count,
-            highest,
-            depth,
-            halted,
+            sizes,
             step_at(steps, i),
         );
         let a = t.answer;
         next = report_lines::row(out, next, i + 2, number_of(a), detail_of(a));
-        count = t.count;
-        highest = t.highest;
-        depth = t.depth;
-        halted = t.halted;
+        sizes = t.sizes;
         i += 1;
     }
     next

@@ -15,9 +15,12 @@ use Rattle.usage.proofs.Logic.{by-cases, and-left, and-right}
 use Rattle.usage.proofs.TableLaws.{decides-edge-table}
 use Rattle.automaton.specs.Mask.{has, single, union}
 use Rattle.automaton.specs.Move.{targets, image, move, moveMask}
-use Rattle.monitor_state.specs.Judge.{verdictOf, startState, listed, distinct, createdOk, highestOk, stackIn, agreeBelow, orderOk, stateOk}
-use Rattle.monitor_state.specs.Judge.{placeFrom, placeIn, placeOf, closedUp, copied, createdIn, retiredSets, retiredIn, movedSets, movedIn, withOpenings, resetSets, withSets, resetIn, after}
-use Rattle.monitor_state.specs.Judge.{gathered, broken, refusal}
+use Rattle.monitor_state.specs.Tracked.{startTracked, copied, copiedIn, retiredSets, retiredIn, movedSets, gathered, movedIn, resetSets, resetIn}
+use Rattle.monitor_state.specs.Created.{startCreated, listed, distinct, createdOk, highestOk, liveOk, placeFrom, placeIn, placeOf}
+use Rattle.monitor_state.specs.Created.{closedUp, withNew, withRetired}
+use Rattle.monitor_state.specs.Unclosed.{startUnclosed, stackIn, agreeBelow, orderOk, unclosedOk, withOpening, withClosing}
+use Rattle.monitor_state.specs.Judge.{verdictOf, startState, stateOk, withTracked, creating, moving, entering, leaving, releasing, after}
+use Rattle.monitor_state.specs.Judge.{broken, refusal}
 use Rattle.monitor_state.specs.Judge.{refuse, halt, settle, judgeStep, judgeRead, judgeOf, answersOf}
 use Rattle.monitor_state.proofs.Verdict.{all-judged-begin}
 use Rattle.test_cases.specs.JudgeCases.{JudgeCase, JudgedRight, P, caseA, caseB, caseC, caseD}
@@ -26,9 +29,11 @@ use Rattle.test_cases.specs.JudgeCases.{caseE, caseF, caseG, caseH, case
 -- the judge's definition, computed
 unfoldable pub run : List ℕ → Bool → List RawStep → List Verdict
 unfolding stepOf from edgesOf edgeTable every someBelow edgeOk edgesOk has
-    single union targets image move moveMask startState listed distinct
-    createdOk highestOk occurrences stackIn agreeBelow orderOk stateOk placeFrom placeIn placeOf closedUp copied createdIn retiredSets retiredIn movedSets movedIn withOpenings resetSets
-    withSets resetIn after gathered broken refusal refuse halt settle judgeStep judgeRead judgeOf answersOf trailingZeros
+    single union targets image move moveMask startTracked startCreated startUnclosed startState listed distinct
+    createdOk highestOk liveOk occurrences stackIn agreeBelow orderOk unclosedOk stateOk placeFrom placeIn placeOf closedUp
+    copied copiedIn withNew creating movedSets gathered movedIn withTracked moving resetSets resetIn withOpening entering
+    withClosing leaving retiredSets retiredIn withRetired releasing after
+    broken refusal refuse halt settle judgeStep judgeRead judgeOf answersOf trailingZeros
 run t local raws = map verdictOf (answersOf t local startState raws)
 
 unfoldable pub possible : List ℕ → Bool

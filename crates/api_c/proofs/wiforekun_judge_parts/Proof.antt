@@ -64,8 +64,8 @@ returns-3 c =
     (c .before .before .before .if1 .left) h in
     refused-owed (a .edges .now) (a .local) p _ _ _ e (c .no-state2 .ensures)
 
-cast-judge-lent : tie.Need-cast-judge-lent
-cast-judge-lent c = omega (arith, c .before .before .before .before .before .if3 .left)
+cast-top : tie.Need-cast-top
+cast-top c = omega (arith, c .if3 .left)
 
 judge-lent-requires : tie.Need-judge-lent-requires
 judge-lent-requires c κs = search needs
@@ -100,16 +100,16 @@ returns-4 c =
     (c .code2 .ensures ∙ ap codeOf (told-verdict judgeOf (a .edges .now) (a .local) p raw f k h (j .result) _ _ _ _ _ (j .ensures)))
     (by-cases (c .before .if4 .came)
     (λ w. ap (λ (l : List ℕ). partsOf (j .last .1 .1 .0) (j .last .1 .1 .1 .0) (j .last .1 .1 .1 .1 .0) (j .last .1 .1 .1 .1 .1 .0)
-    (j .last .1 .1 .1 .1 .1 .1 .0) l) (w .4)
-    ∙ taken-left judgeOf (a .edges .now) (a .local) p raw f k h (j .result) _ _ _ _ _ (j .ensures) (w .1 .result)
-    (sym (r .ensures) ∙ not-true (r .result) (w .0 .taken)) (w .1 .ensures))
+    (j .last .1 .1 .1 .1 .1 .1 .0) l) (w .5)
+    ∙ taken-left judgeOf (a .edges .now) (a .local) p raw f k h (j .result) _ _ _ _ _ (j .ensures) (w .2 .result)
+    (sym (r .ensures) ∙ not-true (r .result) (w .0 .taken)) (w .2 .ensures))
     (λ w. ap (λ (l : List ℕ). partsOf (j .last .1 .1 .0) (j .last .1 .1 .1 .0) (j .last .1 .1 .1 .1 .0) (j .last .1 .1 .1 .1 .1 .0)
     (j .last .1 .1 .1 .1 .1 .1 .0) l) (w .1)
     ∙ refused-left judgeOf (a .edges .now) (a .local) p raw f k h (j .result) _ _ _ _ _
     (j .ensures) (sym (r .ensures) ∙ not-false (r .result) (w .0 .left))))
     (λ held. by-cases (c .before .if4 .came)
-    (λ w. let fits : Fits w32 (j .result .highest) = search needs in
-    subst (λ (l : List ℕ). getD l 3 0 ≤ mostNumber) (sym (w .4)) (omega (arith, fits .fits)))
+    (λ w. let fits : Fits w32 (j .result .sizes .highest) = search needs in
+    subst (λ (l : List ℕ). getD l 3 0 ≤ mostNumber) (sym (w .5)) (omega (arith, fits .fits)))
     (λ w. subst (λ (l : List ℕ). getD l 3 0 ≤ mostNumber) (sym (w .1)) (held-highest p held)))
 
 pub wiforekun-judge-parts-spec : {M : Type 1} → statement M
@@ -126,7 +126,7 @@ wiforekun-judge-parts-spec =
     returns-2
     no-state-requires-2
     returns-3
-    cast-judge-lent
+    cast-top
     judge-lent-requires
     is-refusal-requires
     flag-of-requires

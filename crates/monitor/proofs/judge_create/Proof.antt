@@ -12,7 +12,8 @@ use Rattle.usage.specs.Tables.{edgesOf}
 use Rattle.usage.proofs.Logic.{by-cases}
 use Rattle.monitor_sets.specs.Instances.{firstCreated, instances}
 use Rattle.monitor_sets.specs.Code.{eventSets}
-use Rattle.monitor_state.specs.Code.{stateOf}
+use Rattle.monitor_state.specs.Created.{withNew}
+use Rattle.monitor_state.specs.Code.{lentOf, stateOf}
 use Rattle.monitor.proofs.JudgeLaws.{create-static, create-low, create-full, create-free}
 use Rattle.monitor.proofs.LentLaws.{refused-step, new-above, taken, taken-sets, movedTo, create-after, settled-step, kept}
 use Rattle.monitor.proofs.judge_create.Statement.{statement}
@@ -25,8 +26,9 @@ returns : tie.Need-returns
 returns c =
     let a = c .before .before .before .args in
     λ local order.
-    let s = stateOf (a .sets .now) (a .possible .now) (a .created .now) (a .count) (a .highest) (a .unclosed .now) order (a .depth) false in
-    refused-step (a .looked) local (edgesOf (a .edges .now)) s (event 0 (a .r)) 22 (c .refused .result) (c .refused .ensures)
+    let l = lentOf (a .sets .now) (a .possible .now) (a .created .now) (a .unclosed .now) order in
+    let s = stateOf l (a .sizes) in
+    refused-step (a .looked) local (edgesOf (a .edges .now)) l (a .sizes) (event 0 (a .r)) 22 (c .refused .result) (c .refused .ensures)
     (create-static s (a .r) (c .before .if1 .taken))
 
 refused-requires-2 : tie.Need-refused-requires-2
@@ -34,11 +36,12 @@ refused-requires-2 c κs = search needs
 
 returns-2 : tie.Need-returns-2
 returns-2 c =
-    let a = c .before .before .before .before .args in
-    let dyn = c .before .before .if1 .left in
+    let a = c .before .before .before .before .before .args in
+    let dyn = c .before .before .before .if1 .left in
     λ local order.
-    let s = stateOf (a .sets .now) (a .possible .now) (a .created .now) (a .count) (a .highest) (a .unclosed .now) order (a .depth) false in
-    refused-step (a .looked) local (edgesOf (a .edges .now)) s (event 0 (a .r)) 27 (c .refused2 .result) (c .refused2 .ensures)
+    let l = lentOf (a .sets .now) (a .possible .now) (a .created .now) (a .unclosed .now) order in
+    let s = stateOf l (a .sizes) in
+    refused-step (a .looked) local (edgesOf (a .edges .now)) l (a .sizes) (event 0 (a .r)) 27 (c .refused2 .result) (c .refused2 .ensures)
     (create-low s (a .r) dyn (c .before .if2 .taken))
 
 refused-requires-3 : tie.Need-refused-requires-3
@@ -46,11 +49,12 @@ refused-requires-3 c κs = search needs
 
 returns-3 : tie.Need-returns-3
 returns-3 c =
-    let a = c .before .before .before .before .before .args in
-    let dyn = c .before .before .before .if1 .left in
+    let a = c .before .before .before .before .before .before .args in
+    let dyn = c .before .before .before .before .if1 .left in
     λ local order.
-    let s = stateOf (a .sets .now) (a .possible .now) (a .created .now) (a .count) (a .highest) (a .unclosed .now) order (a .depth) false in
-    refused-step (a .looked) local (edgesOf (a .edges .now)) s (event 0 (a .r)) 30 (c .refused3 .result) (c .refused3 .ensures)
+    let l = lentOf (a .sets .now) (a .possible .now) (a .created .now) (a .unclosed .now) order in
+    let s = stateOf l (a .sizes) in
+    refused-step (a .looked) local (edgesOf (a .edges .now)) l (a .sizes) (event 0 (a .r)) 30 (c .refused3 .result) (c .refused3 .ensures)
     (create-full s (a .r) dyn (c .before .before .if2 .left) (c .before .if3 .taken))
 
 add-at : tie.Need-add-at
@@ -75,30 +79,32 @@ settled-requires : tie.Need-settled-requires
 settled-requires c κs = search needs
 
 returns-4 : tie.Need-returns-4
+unfolding withNew
 returns-4 c =
-    let a = c .before .before .before .before .before .before .before .before .before .args in
-    let pre = c .before .before .before .before .before .before .before .before .before .pre in
+    let a = c .before .before .before .before .before .before .before .before .before .before .args in
+    let pre = c .before .before .before .before .before .before .before .before .before .before .pre in
     let e = c .before .before .take-event in
     let bad = e .result in
-    let new = set (a .created .now) (a .count) (a .r) in
+    let new = set (a .created .now) (a .sizes .count) (a .r) in
     let made : c .before .if4 .created ≡ cond (eqb bad 0) new (a .created .now) =
     by-cases (c .before .if4 .came)
     (λ w. w .1 ∙ sym (ap (λ (b : Bool). cond b new (a .created .now)) (eq-eqb _ _ (w .0 .taken))))
     (λ w. w .1 ∙ sym (ap (λ (b : Bool). cond b new (a .created .now)) (ne-eqb _ _ (w .0 .left)))) in
-    let room : a .count < mostCreated = c .before .before .before .before .before .if3 .left in
-    let above : a .highest < a .r = c .before .before .before .before .before .before .if2 .left in
-    let l : a .count < length (a .created .now) = omega arith in
-    let at = firstCreated + a .count in
+    let room : a .sizes .count < mostCreated = c .before .before .before .before .before .if3 .left in
+    let above : a .sizes .highest < a .r = c .before .before .before .before .before .before .if2 .left in
+    let inside : a .sizes .count < length (a .created .now) = omega arith in
+    let at = firstCreated + a .sizes .count in
     let m : at + 1 ≤ instances = omega arith in
     let k : at < at + 1 = omega arith in
-    let dyn = c .before .before .before .before .before .before .before .if1 .left in
+    let dyn = c .before .before .before .before .before .before .before .before .if1 .left in
     let es = edgesOf (a .edges .now) in
     λ local order.
-    let s = stateOf (a .sets .now) (a .possible .now) (a .created .now) (a .count) (a .highest) (a .unclosed .now) order (a .depth) false in
-    let absent = new-above s (a .r) (pre .1 .1) above in
-    let t = movedTo s (at + 1) (eventSets es 0 (a .r) at (at + 1) (a .sets .now)) new (a .count + 1) (a .r) in
-    settled-step s t bad (a .looked) local es (event 0 (a .r)) (c .settled .result) refl (e .ensures .0 ∙ taken (at + 1) at _ _ m k)
-    (create-free s (a .r) dyn above room) (create-after local es s (a .r) l dyn absent) (c .settled .ensures)
+    let l = lentOf (a .sets .now) (a .possible .now) (a .created .now) (a .unclosed .now) order in
+    let s = stateOf l (a .sizes) in
+    let absent = new-above (s .created) (a .r) (pre .1 .1) above in
+    let t = movedTo s (at + 1) (eventSets es 0 (a .r) at (at + 1) (a .sets .now)) (withNew (s .created) (a .r)) in
+    settled-step s t bad (a .looked) local es (event 0 (a .r)) (c .settled .result) (e .ensures .0 ∙ taken (at + 1) at _ _ m k)
+    (create-free s (a .r) dyn above room) (create-after local es s (a .r) inside dyn absent) (c .settled .ensures)
     (e .ensures .1 .0 ∙ taken-sets (at + 1) at bad _ _ m k) (e .ensures .1 .1 ∙ taken-sets (at + 1) at bad _ _ m k) made
     (kept s t bad (a .unclosed .now)) (kept s t bad order)
 

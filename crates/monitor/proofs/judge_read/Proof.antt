@@ -2,7 +2,7 @@ use mathlib.Core.Path.{sym, ap, _∙_}
 use mathlib.Core.Bool.{false}
 use borrow.Author.Needs.{needs}
 use Rattle.usage.specs.Tables.{edgesOf}
-use Rattle.monitor_state.specs.Code.{says, stateOf}
+use Rattle.monitor_state.specs.Code.{lentOf, says, stateOf}
 use Rattle.monitor_state.specs.declared.Read.{Read}
 use Rattle.usage.specs.Past.{opening, closing}
 use Rattle.usage.proofs.JudgeLaws.{step-fits}
@@ -36,8 +36,8 @@ judge-opening-requires c κs =
 enum-known-read-3 : tie.Need-enum-known-read-3
 enum-known-read-3 c = search needs
 
-judge-closing-requires : tie.Need-judge-closing-requires
-judge-closing-requires c κs =
+leave-requires : tie.Need-leave-requires
+leave-requires c κs =
     let pre = c .before .before .before .before .before .before .before .before .pre in (
       step-fits (c .before .before .before .before .before .before .before .before .args .step) (closing _)
           (sym (c .before .before .before .before .before .before .read-step .ensures)
@@ -60,7 +60,8 @@ refused-requires c κs = search needs
 returns : tie.Need-returns
 returns c =
     let a = c .before .before .before .before .before .before .before .before .before .before .args in
-    let s = stateOf (a .sets .now) (a .possible .now) (a .created .now) (a .count) (a .highest) (a .unclosed .now) (a .order .now) (a .depth) false in
+    let l = lentOf (a .sets .now) (a .possible .now) (a .created .now) (a .unclosed .now) (a .order .now) in
+    let s = stateOf l (a .sizes) in
     c .judge-event .ensures (a .local) (a .order .now)
     ∙ read-is (a .looked) (a .local) (edgesOf (a .edges .now)) s _ (a .step)
     (sym (c .before .before .before .before .before .before .before .before .read-step .ensures)
@@ -69,7 +70,8 @@ returns c =
 returns-2 : tie.Need-returns-2
 returns-2 c =
     let a = c .before .before .before .before .before .before .before .before .before .before .args in
-    let s = stateOf (a .sets .now) (a .possible .now) (a .created .now) (a .count) (a .highest) (a .unclosed .now) (a .order .now) (a .depth) false in
+    let l = lentOf (a .sets .now) (a .possible .now) (a .created .now) (a .unclosed .now) (a .order .now) in
+    let s = stateOf l (a .sizes) in
     c .judge-opening .ensures (edgesOf (a .edges .now)) (a .created .now)
     ∙ read-is (a .looked) (a .local) (edgesOf (a .edges .now)) s _ (a .step)
     (sym (c .before .before .before .before .before .before .before .before .read-step .ensures)
@@ -78,8 +80,9 @@ returns-2 c =
 returns-3 : tie.Need-returns-3
 returns-3 c =
     let a = c .before .before .before .before .before .before .before .before .before .args in
-    let s = stateOf (a .sets .now) (a .possible .now) (a .created .now) (a .count) (a .highest) (a .unclosed .now) (a .order .now) (a .depth) false in
-    c .judge-closing .ensures (a .local) (edgesOf (a .edges .now)) (a .sets .now) (a .created .now)
+    let l = lentOf (a .sets .now) (a .possible .now) (a .created .now) (a .unclosed .now) (a .order .now) in
+    let s = stateOf l (a .sizes) in
+    c .leave .ensures (a .local) (edgesOf (a .edges .now)) (a .sets .now) (a .created .now)
     ∙ read-is (a .looked) (a .local) (edgesOf (a .edges .now)) s _ (a .step)
     (sym (c .before .before .before .before .before .before .before .read-step .ensures)
     ∙ ap (λ (x : Read). says x) (c .before .before .before .before .before .read3 .given .1))
@@ -87,7 +90,8 @@ returns-3 c =
 returns-4 : tie.Need-returns-4
 returns-4 c =
     let a = c .before .before .before .before .before .before .before .before .before .before .args in
-    let s = stateOf (a .sets .now) (a .possible .now) (a .created .now) (a .count) (a .highest) (a .unclosed .now) (a .order .now) (a .depth) false in
+    let l = lentOf (a .sets .now) (a .possible .now) (a .created .now) (a .unclosed .now) (a .order .now) in
+    let s = stateOf l (a .sizes) in
     c .judge-retiring .ensures (a .local) (edgesOf (a .edges .now)) (a .order .now)
     ∙ read-is (a .looked) (a .local) (edgesOf (a .edges .now)) s _ (a .step)
     (sym (c .before .before .before .before .before .before .before .before .read-step .ensures)
@@ -96,8 +100,9 @@ returns-4 c =
 returns-5 : tie.Need-returns-5
 returns-5 c =
     let a = c .before .before .before .before .before .args in
-    let s = stateOf (a .sets .now) (a .possible .now) (a .created .now) (a .count) (a .highest) (a .unclosed .now) (a .order .now) (a .depth) false in
-    refused-parts s 21 (c .refused .result) (c .refused .ensures)
+    let l = lentOf (a .sets .now) (a .possible .now) (a .created .now) (a .unclosed .now) (a .order .now) in
+    let s = stateOf l (a .sizes) in
+    refused-parts l (a .sizes) 21 (c .refused .result) (c .refused .ensures)
     ∙ unread-is (a .looked) (a .local) (edgesOf (a .edges .now)) s (a .step)
     (sym (c .before .before .before .read-step .ensures) ∙ ap (λ (x : Read). says x) (c .before .enum-told .given .1))
 
@@ -111,7 +116,7 @@ judge-read-spec =
     enum-known-read-2
     judge-opening-requires
     enum-known-read-3
-    judge-closing-requires
+    leave-requires
     enum-known-read-4
     judge-retiring-requires
     enum-told

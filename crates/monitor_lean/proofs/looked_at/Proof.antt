@@ -1,5 +1,5 @@
 use Prim.Native.Nat.{ℕ, _<_}
-use mathlib.Core.Path.{_≡_, sym, ap, _∙_, subst}
+use mathlib.Core.Path.{_≡_, refl, sym, ap, _∙_, subst}
 use mathlib.Core.Option.{Option, none, some}
 use native.Mathlib.Omega.{arith}
 use borrow.Author.Needs.{needs}
@@ -32,25 +32,24 @@ marked-at-requires c κs =
 enum-known-read-2 : tie.Need-enum-known-read-2
 enum-known-read-2 c = search needs
 
-mul-has : tie.Need-mul-has
-mul-has c =
+mul-mark-bit : tie.Need-mul-mark-bit
+mul-mark-bit c =
     let f = step-fits (c .before .before .before .before .args .step) (opening _)
     (sym (c .before .before .before .read-step .ensures) ∙ ap (λ (x : Read). says x) (c .before .read2 .given .1)) in
     search (needs, f)
 
-element-copy-out-has : tie.Need-element-copy-out-has
-element-copy-out-has c =
+element-copy-out-mark-bit : tie.Need-element-copy-out-mark-bit
+element-copy-out-mark-bit c =
     let f = step-fits (c .before .before .before .before .args .step) (opening _)
     (sym (c .before .before .before .read-step .ensures) ∙ ap (λ (x : Read). says x) (c .before .read2 .given .1)) in
     omega (arith, f)
 
-has-requires : tie.Need-has-requires
-has-requires c κs = search needs
-
-bit-if-requires : tie.Need-bit-if-requires
-bit-if-requires c κs =
-    step-fits (c .before .before .before .before .before .before .args .step) (opening _)
-    (sym (c .before .before .before .before .before .read-step .ensures) ∙ ap (λ (x : Read). says x) (c .before .before .before .read2 .given .1))
+mark-bit-requires : tie.Need-mark-bit-requires
+mark-bit-requires c κs = (
+  search needs,
+  step-fits (c .before .before .before .before .before .args .step) (opening _)
+      (sym (c .before .before .before .before .read-step .ensures) ∙ ap (λ (x : Read). says x) (c .before .before .read2 .given .1)),
+)
 
 enum-known-read-3 : tie.Need-enum-known-read-3
 enum-known-read-3 c = search needs
@@ -70,12 +69,11 @@ returns c read e p l =
 
 returns-2 : tie.Need-returns-2
 returns-2 c read e p l =
-    let a = c .before .before .before .before .before .before .before .args in
-    let is = sym (c .before .before .before .before .before .before .read-step .ensures)
-    ∙ ap (λ (x : Read). says x) (c .before .before .before .before .read2 .given .1) in
-    subst (λ (s : Step). has (c .bit-if .result) p ≡ marked (a .marks .now) s p) (step-same is e)
-    (ap (λ (n : ℕ). has n p) (c .bit-if .ensures)
-    ∙ opening-set (a .marks .now) _ p (step-fits (a .step) (opening _) is) l (c .before .has .result) (c .before .has .ensures))
+    let a = c .before .before .before .before .before .before .args in
+    let is = sym (c .before .before .before .before .before .read-step .ensures)
+    ∙ ap (λ (x : Read). says x) (c .before .before .before .read2 .given .1) in
+    subst (λ (s : Step). has (c .mark-bit .result) p ≡ marked (a .marks .now) s p) (step-same is e)
+    (ap (λ (n : ℕ). has n p) (c .mark-bit .ensures) ∙ opening-set (a .marks .now) _ p (step-fits (a .step) (opening _) is) l _ refl)
 
 returns-3 : tie.Need-returns-3
 returns-3 c read e p l =
@@ -103,10 +101,9 @@ looked-at-spec =
     enum-known-read
     marked-at-requires
     enum-known-read-2
-    mul-has
-    element-copy-out-has
-    has-requires
-    bit-if-requires
+    mul-mark-bit
+    element-copy-out-mark-bit
+    mark-bit-requires
     enum-known-read-3
     enum-known-read-4
     enum-told

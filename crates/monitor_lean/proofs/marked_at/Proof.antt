@@ -20,17 +20,14 @@ loop-holds : tie.Need-loop-holds Inv-loop μ-loop
 unfolding union
 loop-holds c = (search needs, refl)
 
-mul-has : tie.Need-mul-has Inv-loop μ-loop
-mul-has c = search needs
+mul-mark-bit : tie.Need-mul-mark-bit Inv-loop μ-loop
+mul-mark-bit c = search needs
 
-element-copy-out-has : tie.Need-element-copy-out-has Inv-loop μ-loop
-element-copy-out-has c = search needs
+element-copy-out-mark-bit : tie.Need-element-copy-out-mark-bit Inv-loop μ-loop
+element-copy-out-mark-bit c = search needs
 
-has-requires : tie.Need-has-requires Inv-loop μ-loop
-has-requires c κs = search needs
-
-bit-if-requires : tie.Need-bit-if-requires Inv-loop μ-loop
-bit-if-requires c κs = search needs
+mark-bit-requires : tie.Need-mark-bit-requires Inv-loop μ-loop
+mark-bit-requires c κs = search needs
 
 add-p : tie.Need-add-p Inv-loop μ-loop
 add-p c = search needs
@@ -40,10 +37,10 @@ loop-less c = search needs
 
 loop-again : tie.Need-loop-again Inv-loop μ-loop
 loop-again c =
-    let a = c .before .before .before .before .before .args in
-    let t = c .before .before .before .before .loop in (
+    let a = c .before .before .before .before .args in
+    let t = c .before .before .before .loop in (
       search needs,
-      rw (t .inv .1, c .bit-if .ensures, c .before .has .ensures)
+      rw (t .inv .1, c .mark-bit .ensures)
           (union-more (t .p) (λ q. cond (markAt (a .marks .now) q (a .i)) (2 ^ q) 0)),
     )
 
@@ -55,4 +52,4 @@ returns c =
 pub marked-at-spec : {M : Type 1} → statement M
 marked-at-spec =
     tie.close
-    (tie.spec Inv-loop μ-loop loop-holds mul-has element-copy-out-has has-requires bit-if-requires add-p loop-less loop-again returns)
+    (tie.spec Inv-loop μ-loop loop-holds mul-mark-bit element-copy-out-mark-bit mark-bit-requires add-p loop-less loop-again returns)

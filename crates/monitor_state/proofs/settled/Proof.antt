@@ -10,12 +10,12 @@ returns : tie.Need-returns
 unfolding toldOf
 returns c = simp (eq-eqb _ _ (c .if1 .taken))
 
-cast-t7 : tie.Need-cast-t7
-cast-t7 c = record { fits = lt-of-le-of-lt (trailing-le 8 _) (lit< tt) }
+cast-p : tie.Need-cast-p
+cast-p c = record { fits = lt-of-le-of-lt (trailing-le 8 _) (lit< tt) }
 
 returns-2 : tie.Need-returns-2
 unfolding toldOf
 returns-2 c = simp (ne-eqb _ _ (c .if1 .left))
 
 pub settled-spec : {M : Type 1} → statement M
-settled-spec = tie.close (tie.spec returns cast-t7 returns-2)
+settled-spec = tie.close (tie.spec returns cast-p returns-2)

@@ -61,8 +61,8 @@ returns-3 c =
     (c .before .before .before .if1 .left) h in
     refused-told (a .marks .now) (a .edges .now) (a .local) p _ _ _ e (c .no-state2 .ensures)
 
-cast-judge-lean : tie.Need-cast-judge-lean
-cast-judge-lean c = omega (arith, c .before .before .before .before .before .if3 .left)
+cast-top : tie.Need-cast-top
+cast-top c = omega (arith, c .if3 .left)
 
 judge-lean-requires : tie.Need-judge-lean-requires
 judge-lean-requires c κs = search needs
@@ -97,9 +97,9 @@ returns-4 c =
     (c .code2 .ensures ∙ ap codeOf (told-verdict (leanOf (a .marks .now)) (a .edges .now) (a .local) p raw f k h (j .result) _ _ _ _ _ (j .ensures .0)))
     (by-cases (c .before .if4 .came)
     (λ w. ap (λ (l : List ℕ). partsOf (j .last .1 .1 .1 .0) (j .last .1 .1 .1 .1 .0) (j .last .1 .1 .1 .1 .1 .0) (j .last .1 .1 .1 .1 .1 .1 .0)
-    (j .last .1 .1 .1 .1 .1 .1 .1 .0) l) (w .4)
-    ∙ taken-left (leanOf (a .marks .now)) (a .edges .now) (a .local) p raw f k h (j .result) _ _ _ _ _ (j .ensures .0) (w .1 .result)
-    (sym (r .ensures) ∙ not-true (r .result) (w .0 .taken)) (w .1 .ensures))
+    (j .last .1 .1 .1 .1 .1 .1 .1 .0) l) (w .5)
+    ∙ taken-left (leanOf (a .marks .now)) (a .edges .now) (a .local) p raw f k h (j .result) _ _ _ _ _ (j .ensures .0) (w .2 .result)
+    (sym (r .ensures) ∙ not-true (r .result) (w .0 .taken)) (w .2 .ensures))
     (λ w. ap (λ (l : List ℕ). partsOf (j .last .1 .1 .1 .0) (j .last .1 .1 .1 .1 .0) (j .last .1 .1 .1 .1 .1 .0) (j .last .1 .1 .1 .1 .1 .1 .0)
     (j .last .1 .1 .1 .1 .1 .1 .1 .0) l) (w .1)
     ∙ refused-left (leanOf (a .marks .now)) (a .edges .now) (a .local) p raw f k h (j .result) _ _ _ _ _
@@ -119,7 +119,7 @@ wiforekun-judge-lean-parts-spec =
     returns-2
     no-state-requires-2
     returns-3
-    cast-judge-lean
+    cast-top
     judge-lean-requires
     is-refusal-requires
     flag-of-requires

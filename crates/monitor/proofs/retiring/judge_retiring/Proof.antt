@@ -10,8 +10,8 @@ use Rattle.usage.specs.Past.{retiring}
 use Rattle.monitor_sets.specs.Instances.{firstCreated, instances}
 use Rattle.monitor_sets.specs.Created.{closedUp}
 use Rattle.monitor_sets.specs.Sets.{retiredSets}
-use Rattle.monitor_state.specs.Judge.{placeOf, retiredIn, after}
-use Rattle.monitor_state.specs.Code.{stateOf}
+use Rattle.monitor_state.specs.Judge.{placeOf, retiredIn, withRetired, releasing, after}
+use Rattle.monitor_state.specs.Code.{lentOf, stateOf}
 use Rattle.monitor.proofs.LentLaws.{refused-step, parts-place, retiring-low, retiring-taken, retiring-used, settled-step, kept, retire-done, close-done}
 use Rattle.monitor.proofs.retiring.judge_retiring.Statement.{statement}
 use Rattle.monitor.proofs.retiring.judge_retiring.Tie as tie
@@ -27,8 +27,9 @@ returns c =
     let a = c .before .before .before .before .args in
     let place = c .before .before .place-of in
     λ local es order.
-    let s = stateOf (a .sets .now) (a .possible .now) (a .created .now) (a .count) (a .highest) (a .unclosed .now) order (a .depth) false in
-    refused-step (a .looked) local es s (retiring (a .r)) 28 (c .refused .result) (c .refused .ensures)
+    let l = lentOf (a .sets .now) (a .possible .now) (a .created .now) (a .unclosed .now) order in
+    let s = stateOf l (a .sizes) in
+    refused-step (a .looked) local es l (a .sizes) (retiring (a .r)) 28 (c .refused .result) (c .refused .ensures)
     (retiring-low s (a .r) (place .result) (place .ensures) (c .before .if1 .taken))
 
 broken-set-requires : tie.Need-broken-set-requires
@@ -38,14 +39,14 @@ sub-fewer : tie.Need-sub-fewer
 sub-fewer c =
     let a = c .before .before .before .before .args in
     let place = c .before .before .place-of in
-    let s = stateOf (a .sets .now) (a .possible .now) (a .created .now) (a .count) (a .highest) (a .unclosed .now) [] (a .depth) false in
+    let s = stateOf (lentOf (a .sets .now) (a .possible .now) (a .created .now) (a .unclosed .now) []) (a .sizes) in
     omega (arith, c .before .if1 .left, retiring-used s (a .r) (place .result) (place .ensures))
 
 settled-requires : tie.Need-settled-requires
 settled-requires c κs = search needs
 
 returns-2 : tie.Need-returns-2
-unfolding retiredIn after
+unfolding releasing retiredIn withRetired after
 returns-2 c =
     let a = c .before .before .before .before .before .before .args in
     let place = c .before .before .before .before .place-of in
@@ -53,12 +54,13 @@ returns-2 c =
     let bad = e .result in
     let off : eqb bad 0 ≡ false = ne-eqb bad 0 (c .before .if2 .taken) in
     λ local es order.
-    let s = stateOf (a .sets .now) (a .possible .now) (a .created .now) (a .count) (a .highest) (a .unclosed .now) order (a .depth) false in
-    let t = retiredIn s (a .r) in
-    settled-step s t bad (a .looked) local es (retiring (a .r)) (c .settled .result) refl (e .ensures)
+    let l = lentOf (a .sets .now) (a .possible .now) (a .created .now) (a .unclosed .now) order in
+    let s = stateOf l (a .sizes) in
+    let t = releasing s (a .r) in
+    settled-step s t bad (a .looked) local es (retiring (a .r)) (c .settled .result) (e .ensures)
     (retiring-taken s (a .r) (place .result) (place .ensures) (c .before .before .before .if1 .left)) refl (c .settled .ensures)
-    (sym (ap (λ (b : Bool). cond b (t .sets) (a .sets .now)) off)) (kept s t bad (a .possible .now))
-    (sym (ap (λ (b : Bool). cond b (t .created) (a .created .now)) off)) (kept s t bad (a .unclosed .now)) (kept s t bad order)
+    (sym (ap (λ (b : Bool). cond b (t .tracked .sets) (a .sets .now)) off)) (kept s t bad (a .possible .now))
+    (sym (ap (λ (b : Bool). cond b (t .created .numbers) (a .created .now)) off)) (kept s t bad (a .unclosed .now)) (kept s t bad order)
 
 add-n : tie.Need-add-n
 add-n c = search needs
@@ -73,7 +75,7 @@ settled-requires-2 : tie.Need-settled-requires-2
 settled-requires-2 c κs = search needs
 
 returns-3 : tie.Need-returns-3
-unfolding retiredIn after
+unfolding releasing retiredIn withRetired after
 returns-3 c =
     let a = c .before .before .before .before .before .before .before .before .before .before .args in
     let pre = c .before .before .before .before .before .before .before .before .before .before .pre in
@@ -83,21 +85,22 @@ returns-3 c =
     let e = c .before .before .before .before .before .before .broken-set in
     let bad = e .result in
     let on : eqb bad 0 ≡ true = eq-eqb bad 0 (c .before .before .before .before .before .if2 .left) in
-    let n = firstCreated + a .count in
+    let n = firstCreated + a .sizes .count in
     λ local es order.
-    let s = stateOf (a .sets .now) (a .possible .now) (a .created .now) (a .count) (a .highest) (a .unclosed .now) order (a .depth) false in
+    let l = lentOf (a .sets .now) (a .possible .now) (a .created .now) (a .unclosed .now) order in
+    let s = stateOf l (a .sizes) in
     let used = retiring-used s (a .r) at (place .ensures) in
-    let is : at ≡ placeOf s (a .r) = place .ensures ∙ sym (parts-place s (a .r)) in
-    let t = retiredIn s (a .r) in
+    let is : at ≡ placeOf (s .created) (a .r) = place .ensures ∙ sym (parts-place (s .created) (a .r)) in
+    let t = releasing s (a .r) in
     let sets = c .before .before .before .retire .ensures
     ∙ retire-done n at _ _ (omega (arith, pre)) used low ∙ ap (λ (i : ℕ). retiredSets i n (a .sets .now)) is in
     let created = c .before .close-up .ensures
-    ∙ close-done (a .count) (at - firstCreated) _ _ pre (omega (arith, low, used))
-    ∙ ap (λ (i : ℕ). closedUp (i - firstCreated) (a .count) (a .created .now)) is in
-    settled-step s t bad (a .looked) local es (retiring (a .r)) (c .settled2 .result) refl (e .ensures)
+    ∙ close-done (a .sizes .count) (at - firstCreated) _ _ pre (omega (arith, low, used))
+    ∙ ap (λ (i : ℕ). closedUp (i - firstCreated) (a .sizes .count) (a .created .now)) is in
+    settled-step s t bad (a .looked) local es (retiring (a .r)) (c .settled2 .result) (e .ensures)
     (retiring-taken s (a .r) at (place .ensures) low) refl (c .settled2 .ensures)
-    (sets ∙ sym (ap (λ (b : Bool). cond b (t .sets) (a .sets .now)) on)) (kept s t bad (a .possible .now))
-    (created ∙ sym (ap (λ (b : Bool). cond b (t .created) (a .created .now)) on)) (kept s t bad (a .unclosed .now)) (kept s t bad order)
+    (sets ∙ sym (ap (λ (b : Bool). cond b (t .tracked .sets) (a .sets .now)) on)) (kept s t bad (a .possible .now))
+    (created ∙ sym (ap (λ (b : Bool). cond b (t .created .numbers) (a .created .now)) on)) (kept s t bad (a .unclosed .now)) (kept s t bad order)
 
 pub judge-retiring-spec : {M : Type 1} → statement M
 judge-retiring-spec =

@@ -6,16 +6,12 @@ use borrow.Author.Needs.{needs}
 use lib.ListN.{set}
 use Rattle.usage.specs.Past.{opening}
 use Rattle.monitor_state.specs.declared.State.{State}
-use Rattle.monitor_state.specs.Judge.{withOpenings, withSets, resetIn, after}
-use Rattle.monitor_state.specs.Code.{oneMore, stateOf}
+use Rattle.monitor_state.specs.Judge.{resetIn, withOpening, entering, after}
+use Rattle.monitor_state.specs.Code.{lentOf, stateOf}
 use Rattle.monitor.proofs.JudgeLaws.{opening-deep, opening-free}
 use Rattle.monitor.proofs.LentLaws.{refused-step, settled-step, kept}
 use Rattle.monitor.proofs.sandboxes.judge_opening.Statement.{statement}
 use Rattle.monitor.proofs.sandboxes.judge_opening.Tie as tie
-
--- the state after the opening, where it puts the instances back and where it does not
-abbrev opened : Bool → State → ℕ → State
-opened b s p = withOpenings (resetIn b s p) (oneMore (s .unclosed) p) (set (s .order) (s .depth) p) (s .depth + 1)
 
 refused-requires : tie.Need-refused-requires
 refused-requires c κs = search needs
@@ -24,8 +20,9 @@ returns : tie.Need-returns
 returns c =
     let a = c .before .before .args in
     λ es created.
-    let s = stateOf (a .sets .now) (a .possible .now) created (a .count) (a .highest) (a .unclosed .now) (a .order .now) (a .depth) false in
-    refused-step (a .looked) (a .local) es s (opening (a .p)) 32 (c .refused .result)
+    let l = lentOf (a .sets .now) (a .possible .now) created (a .unclosed .now) (a .order .now) in
+    let s = stateOf l (a .sizes) in
+    refused-step (a .looked) (a .local) es l (a .sizes) (opening (a .p)) 32 (c .refused .result)
     (c .refused .ensures) (opening-deep s (a .p) (c .before .if1 .taken))
 
 add-deeper : tie.Need-add-deeper
@@ -39,27 +36,28 @@ add-n c = search needs
 
 enter-anew-requires : tie.Need-enter-anew-requires
 enter-anew-requires c κs =
-    let pre = c .before .before .before .before .before .before .before .before .pre in
+    let pre = c .before .before .before .before .before .before .before .before .before .pre in
     let few = pre .1 .0 in
-    (pre .0, (pre .1 .1 .0, (pre .1 .1 .1, (c .before .before .before .before .before .before .before .if1 .left, omega arith))))
+    (pre .0, (pre .1 .1 .0, (pre .1 .1 .1, (c .before .before .before .before .before .before .before .before .if1 .left, omega arith))))
 
 settled-requires : tie.Need-settled-requires
 settled-requires c κs = search needs
 
 returns-2 : tie.Need-returns-2
-unfolding withOpenings withSets resetIn after
+unfolding entering resetIn withOpening after
 returns-2 c =
-    let a = c .before .before .before .before .before .before .before .before .before .before .args in
+    let a = c .before .before .before .before .before .before .before .before .before .before .before .args in
     let e = c .before .enter-anew in
     let bad = e .result in
-    let is = sym (c .before .before .before .before .before .before .before .is-anew .ensures)
-    ∙ c .before .before .before .before .before .before .if2 .taken in
+    let is = sym (c .before .before .before .before .before .before .before .before .is-anew .ensures)
+    ∙ c .before .before .before .before .before .before .before .if2 .taken in
     λ es created.
-    let s = stateOf (a .sets .now) (a .possible .now) created (a .count) (a .highest) (a .unclosed .now) (a .order .now) (a .depth) false in
-    let t = opened true s (a .p) in
-    settled-step s t bad (a .looked) (a .local) es (opening (a .p)) (c .settled .result) refl (e .ensures .0)
-    (opening-free s (a .p) (c .before .before .before .before .before .before .before .before .before .if1 .left))
-    (ap (λ (b : Bool). opened b s (a .p)) (sym is)) (c .settled .ensures)
+    let l = lentOf (a .sets .now) (a .possible .now) created (a .unclosed .now) (a .order .now) in
+    let s = stateOf l (a .sizes) in
+    let t = entering true s (a .p) in
+    settled-step s t bad (a .looked) (a .local) es (opening (a .p)) (c .settled .result) (e .ensures .0)
+    (opening-free s (a .p) (c .before .before .before .before .before .before .before .before .before .before .if1 .left))
+    (ap (λ (b : Bool). entering b s (a .p)) (sym is)) (c .settled .ensures)
     (e .ensures .1 .0) (e .ensures .1 .1 .0) (kept s t bad created) (e .ensures .1 .1 .1 .0) (e .ensures .1 .1 .1 .1)
 
 enter-requires : tie.Need-enter-requires
@@ -71,7 +69,7 @@ settled-requires-2 : tie.Need-settled-requires-2
 settled-requires-2 c κs = search needs
 
 returns-3 : tie.Need-returns-3
-unfolding withOpenings withSets resetIn after
+unfolding entering resetIn withOpening after
 returns-3 c =
     let a = c .before .before .before .before .before .before .before .before .before .args in
     let e = c .before .enter in
@@ -79,11 +77,12 @@ returns-3 c =
     let is = sym (c .before .before .before .before .before .before .is-anew .ensures)
     ∙ c .before .before .before .before .before .if2 .left in
     λ es created.
-    let s = stateOf (a .sets .now) (a .possible .now) created (a .count) (a .highest) (a .unclosed .now) (a .order .now) (a .depth) false in
-    let t = opened false s (a .p) in
-    settled-step s t bad (a .looked) (a .local) es (opening (a .p)) (c .settled2 .result) refl (e .ensures .0)
+    let l = lentOf (a .sets .now) (a .possible .now) created (a .unclosed .now) (a .order .now) in
+    let s = stateOf l (a .sizes) in
+    let t = entering false s (a .p) in
+    settled-step s t bad (a .looked) (a .local) es (opening (a .p)) (c .settled2 .result) (e .ensures .0)
     (opening-free s (a .p) (c .before .before .before .before .before .before .before .before .if1 .left))
-    (ap (λ (b : Bool). opened b s (a .p)) (sym is)) (c .settled2 .ensures)
+    (ap (λ (b : Bool). entering b s (a .p)) (sym is)) (c .settled2 .ensures)
     (kept s t bad (a .sets .now)) (kept s t bad (a .possible .now)) (kept s t bad created) (e .ensures .1 .0) (e .ensures .1 .1)
 
 pub judge-opening-spec : {M : Type 1} → statement M

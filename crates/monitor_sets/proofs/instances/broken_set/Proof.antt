@@ -1,12 +1,12 @@
 use Prim.Native.Nat.{_-_, _≤_}
-use mathlib.Core.Path.{_≡_, refl}
+use mathlib.Core.Path.{_≡_, refl, sym}
 use native.Mathlib.Omega.{arith}
 use borrow.Author.Needs.{needs}
 use lib.ListN.{getD}
 use Rattle.usage.specs.Limits.{policies}
 use Rattle.automaton.specs.Mask.{union}
 use Rattle.monitor_sets.specs.Code.{brokenBit, brokenIn}
-use Rattle.monitor_sets.proofs.SetLaws.{union-more}
+use Rattle.monitor_sets.proofs.SetLaws.{union-more, none-looked}
 use Rattle.monitor_sets.proofs.instances.broken_set.Statement.{statement}
 use Rattle.monitor_sets.proofs.instances.broken_set.Tie as tie
 
@@ -15,6 +15,9 @@ Inv-loop looked possible unclosed bad₀ p₀ bad p = (p ≤ policies) × (bad �
 
 abbrev μ-loop : tie.MeasureT-loop
 μ-loop looked possible unclosed bad₀ p₀ bad p = policies - p
+
+returns : tie.Need-returns Inv-loop μ-loop
+returns c = let a = c .before .args in rw (c .if1 .taken) (sym (none-looked (a .possible .now) (a .unclosed .now)))
 
 loop-holds : tie.Need-loop-holds Inv-loop μ-loop
 unfolding union
@@ -37,16 +40,16 @@ loop-less c = search needs
 
 loop-again : tie.Need-loop-again Inv-loop μ-loop
 loop-again c =
-    let a = c .before .before .before .before .before .args in
+    let a = c .before .before .before .before .before .before .args in
     let t = c .before .before .before .before .loop in (
       search needs,
       rw (t .inv .1, c .broken-bit .ensures)
           (union-more (t .p) (λ q. brokenBit (a .looked) (getD (a .possible .now) q 0) (getD (a .unclosed .now) q 0) q)),
     )
 
-returns : tie.Need-returns Inv-loop μ-loop
+returns-2 : tie.Need-returns-2 Inv-loop μ-loop
 unfolding brokenIn
-returns c =
+returns-2 c =
     let e : c .before .loop .p ≡ policies = omega arith in
     rw e at (c .before .loop .inv .1)
 
@@ -56,6 +59,7 @@ broken-set-spec =
     (tie.spec
     Inv-loop
     μ-loop
+    returns
     loop-holds
     element-copy-out-broken-bit
     element-copy-out-broken-bit-2
@@ -63,4 +67,4 @@ broken-set-spec =
     add-p
     loop-less
     loop-again
-    returns)
+    returns-2)

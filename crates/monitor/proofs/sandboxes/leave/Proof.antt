@@ -10,12 +10,12 @@ use Rattle.usage.specs.Past.{closing}
 use Rattle.monitor_sets.specs.Order.{orderOk}
 use Rattle.monitor_sets.proofs.SetLaws.{pos}
 use Rattle.monitor_sets.proofs.OrderLaws.{order-parts, order-some}
-use Rattle.monitor_state.specs.Judge.{withOpenings, after}
-use Rattle.monitor_state.specs.Code.{stateOf}
+use Rattle.monitor_state.specs.Judge.{withClosing, leaving, after}
+use Rattle.monitor_state.specs.Code.{lentOf, stateOf}
 use Rattle.monitor.proofs.JudgeLaws.{closing-closed, closing-not-last, closing-free}
 use Rattle.monitor.proofs.LentLaws.{refused-step, settled-step, kept}
-use Rattle.monitor.proofs.sandboxes.judge_closing.Statement.{statement}
-use Rattle.monitor.proofs.sandboxes.judge_closing.Tie as tie
+use Rattle.monitor.proofs.sandboxes.leave.Statement.{statement}
+use Rattle.monitor.proofs.sandboxes.leave.Tie as tie
 
 -- where p is open the order has a last entry
 range : (depth : ℕ) (order unclosed : List ℕ) (p : ℕ) → orderOk depth order unclosed ≡ true → p < policies → (getD unclosed p 0 ≡ 0 → ⊥)
@@ -34,20 +34,21 @@ returns : tie.Need-returns
 returns c =
     let a = c .before .before .before .args in
     λ local es sets created.
-    let s = stateOf sets (a .possible .now) created (a .count) (a .highest) (a .unclosed .now) (a .order .now) (a .depth) false in
-    refused-step (a .looked) local es s (closing (a .p)) 25 (c .refused .result) (c .refused .ensures) (closing-closed s (a .p) (c .before .if1 .taken))
+    let l = lentOf sets (a .possible .now) created (a .unclosed .now) (a .order .now) in
+    let s = stateOf l (a .sizes) in
+    refused-step (a .looked) local es l (a .sizes) (closing (a .p)) 25 (c .refused .result) (c .refused .ensures) (closing-closed s (a .p) (c .before .if1 .taken))
 
 sub-wide : tie.Need-sub-wide
 sub-wide c =
     let a = c .before .before .args in
     let pre = c .before .before .pre in
-    omega (arith, range (a .depth) (a .order .now) (a .unclosed .now) (a .p) (pre .1 .1) (pre .0) (c .if1 .left) .0)
+    omega (arith, range (a .sizes .depth) (a .order .now) (a .unclosed .now) (a .p) (pre .1 .1) (pre .0) (c .if1 .left) .0)
 
 element-copy-out-wide : tie.Need-element-copy-out-wide
 element-copy-out-wide c =
     let a = c .before .before .args in
     let pre = c .before .before .pre in
-    let r = range (a .depth) (a .order .now) (a .unclosed .now) (a .p) (pre .1 .1) (pre .0) (c .if1 .left) in
+    let r = range (a .sizes .depth) (a .order .now) (a .unclosed .now) (a .p) (pre .1 .1) (pre .0) (c .if1 .left) in
     omega (arith, r .0, r .1)
 
 wide-requires : tie.Need-wide-requires
@@ -60,8 +61,9 @@ returns-2 : tie.Need-returns-2
 returns-2 c =
     let a = c .before .before .before .before .before .before .args in
     λ local es sets created.
-    let s = stateOf sets (a .possible .now) created (a .count) (a .highest) (a .unclosed .now) (a .order .now) (a .depth) false in
-    refused-step (a .looked) local es s (closing (a .p)) 26 (c .refused2 .result) (c .refused2 .ensures)
+    let l = lentOf sets (a .possible .now) created (a .unclosed .now) (a .order .now) in
+    let s = stateOf l (a .sizes) in
+    refused-step (a .looked) local es l (a .sizes) (closing (a .p)) 26 (c .refused2 .result) (c .refused2 .ensures)
     (closing-not-last s (a .p) (pos _ (c .before .before .before .before .if1 .left))
     (λ e. c .before .if2 .taken (c .before .before .wide .ensures ∙ e)))
 
@@ -77,7 +79,7 @@ sub-left c =
     let pre = c .before .before .before .before .before .before .before .pre in
     omega (
       arith,
-      range (a .depth) (a .order .now) (a .unclosed .now) (a .p) (pre .1 .1) (pre .0)
+      range (a .sizes .depth) (a .order .now) (a .unclosed .now) (a .p) (pre .1 .1) (pre .0)
           (c .before .before .before .before .before .if1 .left) .0,
     )
 
@@ -85,22 +87,22 @@ settled-requires : tie.Need-settled-requires
 settled-requires c κs = search needs
 
 returns-3 : tie.Need-returns-3
-unfolding withOpenings after
+unfolding leaving withClosing after
 returns-3 c =
     let a = c .before .before .before .before .before .before .before .before .args in
     let bad = c .before .recount in
-    let n = getD (a .unclosed .now) (a .p) 0 - 1 in
     λ local es sets created.
-    let s = stateOf sets (a .possible .now) created (a .count) (a .highest) (a .unclosed .now) (a .order .now) (a .depth) false in
-    let t = withOpenings s (set (a .unclosed .now) (a .p) n) (a .order .now) (a .depth - 1) in
-    settled-step s t (bad .result) (a .looked) local es (closing (a .p)) (c .settled .result) refl (bad .ensures .0)
+    let l = lentOf sets (a .possible .now) created (a .unclosed .now) (a .order .now) in
+    let s = stateOf l (a .sizes) in
+    let t = leaving s (a .p) in
+    settled-step s t (bad .result) (a .looked) local es (closing (a .p)) (c .settled .result) (bad .ensures .0)
     (closing-free s (a .p) (pos _ (c .before .before .before .before .before .before .if1 .left))
     (sym (c .before .before .before .before .wide .ensures) ∙ c .before .before .before .if2 .left)) refl (c .settled .ensures)
     (kept s t (bad .result) sets) (kept s t (bad .result) (a .possible .now)) (kept s t (bad .result) created) (bad .ensures .1)
     (kept s t (bad .result) (a .order .now))
 
-pub judge-closing-spec : {M : Type 1} → statement M
-judge-closing-spec =
+pub leave-spec : {M : Type 1} → statement M
+leave-spec =
     tie.close
     (tie.spec
     element-copy-out-n
