@@ -6,6 +6,7 @@ pub mod StepLaws
 pub mod WriteLaws
 pub mod PartLaws
 pub mod FreshLaws
-pub mod KindLaws
+pub mod PartWrittenLaws
+pub mod OtherLaws
 -- What is shown.
 pub mod ShownLaws

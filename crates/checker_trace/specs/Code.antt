@@ -1,5 +1,5 @@
 -- What the crate's own functions compute and write.
-use Prim.Native.Nat.{ℕ, zero, suc, _+_, _/_, _%_, _^_, _<_, _≤_, _*_}
+use Prim.Native.Nat.{ℕ, zero, suc, _+_, _-_, _/_, _%_, _^_, _<_, _≤_, _*_}
 use mathlib.Core.Path.{_≡_}
 use mathlib.Core.Bool.{Bool, true, _||_, cond, false}
 use mathlib.Core.Option.{Option, none, some}
@@ -15,7 +15,7 @@ use mathlib.Core.Logic.{_⊎_}
 use Rattle.checker_lengths.specs.declared.Entry.{Entry}
 use Rattle.checker_lengths.specs.declared.Watch.{Watch}
 use Rattle.checker_lengths.specs.Entries.{atBreak, entryOf, held, allLengths, noLength}
-use Rattle.checker_lengths.specs.Offers.{atNode, lowEnd, secondEntry, offerFrom, waysOf}
+use Rattle.checker_lengths.specs.Offers.{atNode, lowEnd, firstEntry, secondEntry, bodyEntry, innerEntry, offerFrom, waysOf}
 use Rattle.checker_lengths.specs.Filling.{formHere, Full}
 use Rattle.checker_trace.specs.declared.Onto.{Onto}
 use Rattle.checker_trace.specs.declared.Onto.the-variants.{By, Nothing}
@@ -23,6 +23,8 @@ use Rattle.usage.specs.Past.{Past}
 use Rattle.checker_account.specs.Written.{next, Written}
 use Rattle.checker_trace.specs.declared.Spot.{Spot}
 use Rattle.checker_trace.specs.declared.Names.{Names}
+use Rattle.checker_trace.specs.declared.Part.{Part}
+use Rattle.checker_trace.specs.declared.Way.{Way}
 use Rattle.usage.specs.declared.Edge.{Edge}
 use Rattle.usage.specs.declared.Node.{Node}
 use Rattle.usage.specs.Outline as outline
@@ -175,23 +177,47 @@ Writes w rows nodes t e n g s trace r trace′ =
     (e .state) past aim after
     × Spotted after r × (trace′ ≡ laid t₀ after)
 
--- Asked and promised by each function that writes n steps from a place on. The nodes are so few that a set of them is a number, the trace
--- has room for the steps, and resources can be numbered on; the trace keeps its length, no more is written, and it is what is to be.
-abbrev pub Room : List ℕ → ℕ → Spot → List ℕ → Type 0
-Room nodes n s trace = (length nodes / nodeFields ≤ mostNodes)
-    × ((n ≤ mostShown) × ((stepFields * (s .at + n) ≤ length trace) × (s .next + n < resources)))
+-- Asked and promised by each function that writes a part. The nodes are so few that a set of them is a number, the trace has room for the
+-- steps, and resources can be numbered on.
+pub record Room (nodes : List ℕ) (p : Part) (trace : List ℕ) : Type 0 where
+  pub few-nodes : length nodes / nodeFields ≤ mostNodes
+  pub few : p .steps ≤ mostShown
+  pub long : stepFields * (p .spot .at + p .steps) ≤ length trace
+  pub numbered : p .spot .next + p .steps < resources
 
-abbrev pub PartWritten : Watch → List ℕ → List ℕ → List ℕ → Entry → ℕ → Names → Spot → List ℕ → Spot → List ℕ → Type 0
-PartWritten w rows nodes t e n g s trace r trace′ =
-    (length trace′ ≡ length trace) × (WithinSteps s n r × Writes w rows nodes t e n g s trace r trace′)
+-- The trace keeps its length, no more is written, and it is what is to be.
+pub record PartWritten (w : Watch) (rows nodes t : List ℕ) (p : Part) (trace : List ℕ) (r : Spot) (trace′ : List ℕ) : Type 0 where
+  pub length-kept : length trace′ ≡ length trace
+  pub within : WithinSteps (p .spot) (p .steps) r
+  pub writes : Writes w rows nodes t (p .entry) (p .steps) (p .names) (p .spot) trace r trace′
 
 -- rule c of a node of this form is where to go on from an entry of n steps
 abbrev pub Chosen : Watch → List ℕ → List ℕ → List ℕ → Entry → ℕ → Option Form → ℕ → Type 0
 Chosen w rows nodes t e n f c = (k : ℕ) × OntoIs w rows nodes t e n (By k c) × (formHere nodes k ≡ f)
 
--- the same, and there is a step to write
-abbrev pub Picked : Watch → List ℕ → List ℕ → List ℕ → Entry → ℕ → Option Form → ℕ → Type 0
-Picked w rows nodes t e n f c = Chosen w rows nodes t e n f c × (1 ≤ n)
+-- it is where to go on from a part, and there is a step to write
+pub record Picked (w : Watch) (rows nodes t : List ℕ) (p : Part) (f : Option Form) (c : ℕ) : Type 0 where
+  pub chosen : Chosen w rows nodes t (p .entry) (p .steps) f c
+  pub one : 1 ≤ p .steps
+
+-- the parts that a rule leads to: the first node of a sequence, of v steps, and the second; the body of a fresh node, whose name means what
+-- was created; and the body of a sandbox, n steps being around it
+abbrev pub firstPart : Part → Way → ℕ → Part
+firstPart p y v = record { entry = firstEntry (p .entry) (y .a) (y .rule); steps = v; names = p .names; spot = p .spot }
+
+abbrev pub secondPart : Part → Way → ℕ → Spot → Part
+secondPart p y v mid = record { entry = secondEntry (p .entry) (y .b) (y .rule); steps = p .steps - v; names = p .names; spot = mid }
+
+abbrev pub bodyPart : Part → Way → Spot → Part
+bodyPart p y made = record {
+  entry = bodyEntry (p .entry) (y .a) (y .b) (y .rule);
+  steps = p .steps - 1;
+  names = given (p .names) (y .a) (p .spot .next);
+  spot = made;
+}
+
+abbrev pub innerPart : Watch → Part → Way → ℕ → Spot → Part
+innerPart w p y n begun = record { entry = innerEntry w (p .entry) (y .a) (y .b); steps = p .steps - n; names = p .names; spot = begun }
 
 -- ── The whole outline ──
 

@@ -69,6 +69,21 @@ pub struct Names {
     pub numbers: [u32; NAMES],
 }
 
+// What is to be written: the steps of an entry, how many they are, what the names mean there, and the place of the first.
+pub struct Part {
+    pub entry: Entry,
+    pub steps: u8,
+    pub names: Names,
+    pub spot: Spot,
+}
+
+// The rule by which a part is written: the two numbers of its node, and which of the node's rules it is.
+pub struct Way {
+    pub a: u8,
+    pub b: u8,
+    pub rule: usize,
+}
+
 // The entry of the whole outline: to break the policy.
 fn root(x: usize) -> Entry
     ensures { λ r. ⌜ r ≡ rootOf x ⌝ }
@@ -176,14 +191,20 @@ fn show(nodes: &[u8], rows: &Table, w: Watch, n: u8, kept: bool, t: &mut Lengths
     if !again(nodes, rows, w, kept, t) {
         return;
     }
-    let none = Names {
+    let names = Names {
         numbers: [0u32; NAMES],
     };
-    let start = Spot {
+    let spot = Spot {
         at: 0,
         next: STATICS,
     };
-    write::write(t, nodes, rows, w, trace, root(w.resource), n, none, start);
+    let whole = Part {
+        entry: root(w.resource),
+        steps: n,
+        names,
+        spot,
+    };
+    write::write(t, nodes, rows, w, trace, whole);
 }
 
 // A shortest trace of the outline that leaves policy p open and not respected, written into the lent table, three numbers to a step;

@@ -1,25 +1,38 @@
-// The trace, written from a full table: by recursion on the number of steps of an entry.
+// The trace, written from a full table: by recursion on the number of steps of an entry. What is to be written is one value, a part; the
+// four functions that call each other ask for room for it, and where they write by a rule that the rule was picked, and promise that it
+// is written.
 ghost use mathlib.Core.Path.{_≡_};
 ghost use Prim.Native.Nat.{ℕ, _+_, _*_, _<_, _≤_};
 ghost use mathlib.Core.Option.{some};
-ghost use lib.ListN.{length, getD, set};
+ghost use lib.ListN.{length, getD};
 ghost use Rattle.usage.specs.Limits.{stepFields, resources};
 ghost use Rattle.usage.specs.Outline.{sequence, fresh, sandbox};
 ghost use Rattle.checker_account.specs.Single.{noName};
-ghost use Rattle.checker_trace.specs.Code.{storedStep, onward, created, given, Room, Picked, PartWritten};
+ghost use Rattle.checker_trace.specs.Code.{storedStep, onward, created, given};
+ghost use Rattle.checker_trace.specs.Code.{firstPart, secondPart, bodyPart, innerPart, Room, Picked, PartWritten};
 use crate::Names;
 use crate::Onto;
+use crate::Part;
 use crate::Spot;
+use crate::Way;
 use crate::find;
 use checker_account::NAMES;
 use checker_account::Table;
 use checker_lengths::BROKEN;
-use checker_lengths::Entry;
 use checker_lengths::Lengths;
 use checker_lengths::Watch;
 use checker_lengths::offers;
 use outline_nodes::NodeForm;
 use usage::STEP_FIELDS;
+
+// The kinds of a step.
+const EVENT: u32 = 0;
+
+const OPENING: u32 = 1;
+
+const CLOSING: u32 = 2;
+
+// ── Names and single steps ──
 
 // The number of the resource that name i means.
 fn name(g: Names, i: u8) -> u32
@@ -67,194 +80,191 @@ fn create(trace: &mut [u32], s: Spot) -> Spot
     ensures { λ r. ⌜ now (trace .exit) ≡ storedStep (now (trace .entry)) (s .at) 0 0 (s .next) ⌝ }
     ensures { λ r. ⌜ r ≡ created s ⌝ }
 {
-    let r = step(trace, s, 0, 0, s.next);
+    let r = step(trace, s, EVENT, 0, s.next);
     Spot {
         at: r.at,
         next: s.next + 1,
     }
 }
 
-// By rule c of a sequence: its first node, to end in way c, and then its second.
+// ── The parts that a rule leads to ──
+
+// The first node of a sequence, of v steps.
+fn first_part(p: Part, y: Way, v: u8) -> Part
+    ensures { λ r. ⌜ r ≡ firstPart p y v ⌝ }
+{
+    let names = p.names;
+    let spot = p.spot;
+    Part {
+        entry: offers::first(p.entry, y.a, y.rule),
+        steps: v,
+        names,
+        spot,
+    }
+}
+
+// Its second, with the steps that are left, from where the first came to.
+fn second_part(p: Part, y: Way, v: u8, mid: Spot) -> Part
+    requires { ⌜ v ≤ p .steps ⌝ }
+    ensures { λ r. ⌜ r ≡ secondPart p y v mid ⌝ }
+{
+    let names = p.names;
+    Part {
+        entry: offers::second(p.entry, y.b, y.rule),
+        steps: p.steps - v,
+        names,
+        spot: mid,
+    }
+}
+
+// The body of a fresh node, after its creation: its name means the resource that was created.
+fn body_part(p: Part, y: Way, made: Spot) -> Part
+    requires { ⌜ 1 ≤ p .steps ⌝ }
+    ensures { λ r. ⌜ r ≡ bodyPart p y made ⌝ }
+    ensures { λ r. ⌜ length (r .names .numbers) ≡ noName ⌝ }
+{
+    Part {
+        entry: offers::body(p.entry, y.a, y.b, y.rule),
+        steps: p.steps - 1,
+        names: give(p.names, y.a, p.spot.next),
+        spot: made,
+    }
+}
+
+// The body of a sandbox, n steps being around it, after its opening.
+fn inner_part(w: Watch, p: Part, y: Way, n: u8, begun: Spot) -> Part
+    requires { ⌜ n ≤ p .steps ⌝ }
+    ensures { λ r. ⌜ r ≡ innerPart w p y n begun ⌝ }
+{
+    let names = p.names;
+    Part {
+        entry: offers::inner(w, p.entry, y.a, y.b),
+        steps: p.steps - n,
+        names,
+        spot: begun,
+    }
+}
+
+// ── Writing ──
+
+// By a rule of a sequence: its first node, to end in the way that the rule says, and then its second.
 fn write_sequence(
     t: &Lengths,
     nodes: &[u8],
     rows: &Table,
     w: Watch,
     trace: &mut [u32],
-    e: Entry,
-    n: u8,
-    g: Names,
-    s: Spot,
-    a: u8,
-    b: u8,
-    c: usize,
+    p: Part,
+    y: Way,
 ) -> Spot
-    requires { ⌜ Room (now nodes) n s (now trace) ⌝ }
-    requires { ⌜ Picked w (now rows) (now nodes) (now t) e n (some (sequence a b)) c ⌝ }
-    ensures { λ r. ⌜ PartWritten w (now (rows .entry)) (now (nodes .entry))
-        (now (t .entry)) e n g s (now (trace .entry)) r (now (trace .exit)) ⌝ }
+    requires { ⌜ Room (now nodes) p (now trace) ⌝ }
+    requires { ⌜ Picked w (now rows) (now nodes) (now t) p (some (sequence (y .a) (y .b))) (y .rule) ⌝ }
+    ensures { λ r. ⌜ PartWritten w (now (rows .entry)) (now (nodes .entry)) (now (t .entry)) p (now (trace .entry)) r (now (trace .exit)) ⌝ }
 {
-    let first = offers::first(e, a, c);
-    let v = checker_lengths::entries::get(t, n, first);
-    let mid = write(t, nodes, rows, w, trace, first, v, g, s);
-    write(
-        t,
-        nodes,
-        rows,
-        w,
-        trace,
-        offers::second(e, b, c),
-        n - v,
-        g,
-        mid,
-    )
+    let v = checker_lengths::entries::get(t, p.steps, offers::first(p.entry, y.a, y.rule));
+    let mid = write(t, nodes, rows, w, trace, first_part(p, y, v));
+    write(t, nodes, rows, w, trace, second_part(p, y, v, mid))
 }
 
-// By rule c of a fresh node for name a: its creation, and then its body.
+// By a rule of a fresh node: its creation, and then its body.
 fn write_fresh(
     t: &Lengths,
     nodes: &[u8],
     rows: &Table,
     w: Watch,
     trace: &mut [u32],
-    e: Entry,
-    n: u8,
-    g: Names,
-    s: Spot,
-    a: u8,
-    b: u8,
-    c: usize,
+    p: Part,
+    y: Way,
 ) -> Spot
-    requires { ⌜ Room (now nodes) n s (now trace) ⌝ }
-    requires { ⌜ Picked w (now rows) (now nodes) (now t) e n (some (fresh a b)) c ⌝ }
-    ensures { λ r. ⌜ PartWritten w (now (rows .entry)) (now (nodes .entry))
-        (now (t .entry)) e n g s (now (trace .entry)) r (now (trace .exit)) ⌝ }
+    requires { ⌜ Room (now nodes) p (now trace) ⌝ }
+    requires { ⌜ Picked w (now rows) (now nodes) (now t) p (some (fresh (y .a) (y .b))) (y .rule) ⌝ }
+    ensures { λ r. ⌜ PartWritten w (now (rows .entry)) (now (nodes .entry)) (now (t .entry)) p (now (trace .entry)) r (now (trace .exit)) ⌝ }
 {
-    let made = create(trace, s);
-    if BROKEN <= c {
+    let made = create(trace, p.spot);
+    if BROKEN <= y.rule {
         return made;
     }
-    let inner = give(g, a, s.next);
-    write(
-        t,
-        nodes,
-        rows,
-        w,
-        trace,
-        offers::body(e, a, b, c),
-        n - 1,
-        inner,
-        made,
-    )
+    write(t, nodes, rows, w, trace, body_part(p, y, made))
 }
 
-// By rule c of a sandbox of policy a: its opening, its body, and where that ends its closing.
+// By a rule of a sandbox: its opening, its body, and where that ends its closing.
 fn write_sandbox(
     t: &Lengths,
     nodes: &[u8],
     rows: &Table,
     w: Watch,
     trace: &mut [u32],
-    e: Entry,
-    n: u8,
-    g: Names,
-    s: Spot,
-    a: u8,
-    b: u8,
-    c: usize,
+    p: Part,
+    y: Way,
 ) -> Spot
-    requires { ⌜ Room (now nodes) n s (now trace) ⌝ }
-    requires { ⌜ Picked w (now rows) (now nodes) (now t) e n (some (sandbox a b)) c ⌝ }
-    ensures { λ r. ⌜ PartWritten w (now (rows .entry)) (now (nodes .entry))
-        (now (t .entry)) e n g s (now (trace .entry)) r (now (trace .exit)) ⌝ }
+    requires { ⌜ Room (now nodes) p (now trace) ⌝ }
+    requires { ⌜ Picked w (now rows) (now nodes) (now t) p (some (sandbox (y .a) (y .b))) (y .rule) ⌝ }
+    ensures { λ r. ⌜ PartWritten w (now (rows .entry)) (now (nodes .entry)) (now (t .entry)) p (now (trace .entry)) r (now (trace .exit)) ⌝ }
 {
-    let begun = step(trace, s, 1, a as u32, 0);
-    if 0 < c {
+    let begun = step(trace, p.spot, OPENING, y.a as u32, 0);
+    if 0 < y.rule {
         return begun;
     }
-    let inner = offers::inner(w, e, a, b);
-    if e.aim == BROKEN {
-        return write(t, nodes, rows, w, trace, inner, n - 1, g, begun);
+    if p.entry.aim == BROKEN {
+        return write(t, nodes, rows, w, trace, inner_part(w, p, y, 1, begun));
     }
-    let done = write(t, nodes, rows, w, trace, inner, n - 2, g, begun);
-    step(trace, done, 2, a as u32, 0)
+    let done = write(t, nodes, rows, w, trace, inner_part(w, p, y, 2, begun));
+    step(trace, done, CLOSING, y.a as u32, 0)
 }
 
-// The steps of an entry of n steps.
+// The part: where its entry is gone on from, by the rule that is found there.
 pub(crate) fn write(
     t: &Lengths,
     nodes: &[u8],
     rows: &Table,
     w: Watch,
     trace: &mut [u32],
-    e: Entry,
-    n: u8,
-    g: Names,
-    s: Spot,
+    p: Part,
 ) -> Spot
-    requires { ⌜ Room (now nodes) n s (now trace) ⌝ }
-    ensures { λ r. ⌜ PartWritten w (now (rows .entry)) (now (nodes .entry))
-        (now (t .entry)) e n g s (now (trace .entry)) r (now (trace .exit)) ⌝ }
+    requires { ⌜ Room (now nodes) p (now trace) ⌝ }
+    ensures { λ r. ⌜ PartWritten w (now (rows .entry)) (now (nodes .entry)) (now (t .entry)) p (now (trace .entry)) r (now (trace .exit)) ⌝ }
 {
-    if n == 0 {
-        return s;
+    if p.steps == 0 {
+        return p.spot;
     }
-    let o = find::find(t, nodes, rows, w, e, n);
-    let Onto::By { node: k, rule: c } = o else {
-        return s;
+    let o = find::find(t, nodes, rows, w, p.entry, p.steps);
+    let Onto::By { node: k, rule } = o else {
+        return p.spot;
     };
     let f = outline_nodes::form(nodes, k);
     match f {
-        NodeForm::OnStatic { action, resource } => step(
+        NodeForm::OnStatic { action, resource } => {
+            step(trace, p.spot, EVENT, action as u32, resource as u32)
+        }
+        NodeForm::OnName { action, name: i } => step(
             trace,
-            s,
-            0,
+            p.spot,
+            EVENT,
             action as u32,
-            resource as u32,
+            name(p.names, i),
         ),
-        NodeForm::OnName { action, name: i } => step(trace, s, 0, action as u32, name(g, i)),
-        NodeForm::Sequence { first, second } => write_sequence(
+        NodeForm::Sequence {
+            first: a,
+            second: b,
+        } => write_sequence(t, nodes, rows, w, trace, p, Way { a, b, rule }),
+        NodeForm::Fresh { name: a, body: b } => write_fresh(
             t,
             nodes,
             rows,
             w,
             trace,
-            e,
-            n,
-            g,
-            s,
-            first,
-            second,
-            c,
+            p,
+            Way { a, b, rule },
         ),
-        NodeForm::Fresh { name: i, body } => write_fresh(
+        NodeForm::Sandbox { policy: a, body: b } => write_sandbox(
             t,
             nodes,
             rows,
             w,
             trace,
-            e,
-            n,
-            g,
-            s,
-            i,
-            body,
-            c,
+            p,
+            Way { a, b, rule },
         ),
-        NodeForm::Sandbox { policy, body } => write_sandbox(
-            t,
-            nodes,
-            rows,
-            w,
-            trace,
-            e,
-            n,
-            g,
-            s,
-            policy,
-            body,
-            c,
-        ),
-        _ => s,
+        _ => p.spot,
     }
 }

@@ -33,10 +33,10 @@ root-requires c κs = search needs
 
 write-requires : tie.Need-write-requires
 write-requires c κs = let p = c .before .before .before .before .before .before .before .before .pre in
-    (p .0, (p .1 .0, (omega arith, omega arith)))
+    record { few-nodes = p .0; few = p .1 .0; long = omega arith; numbered = omega arith }
 
 same-length : tie.Need-same-length
-same-length c = c .before .before .write .ensures .0
+same-length c = c .before .before .write .ensures .length-kept
 
 returns-2 : tie.Need-returns-2
 returns-2 c =
@@ -45,12 +45,12 @@ returns-2 c =
     let r = c .before .before .before .before .before .before .before .again in
     let t = r .last .1 .1 .1 .1 .0 in
     let w = c .before .before .write in (
-      w .ensures .0,
+      w .ensures .length-kept,
       laws.root-shows (a .w) (a .rows .now) (a .nodes .now) t (a .n) (a .trace .now) (w .result) (w .last .1 .1 .1 .1 .0)
           (laws.table-of (r .result) (a .w) (a .rows .now) (a .nodes .now) t (r .ensures)
           (not-false (r .result) (c .before .before .before .before .before .before .if1 .left))) (p .1 .0) (p .1 .1 .1)
           (subst (λ (y : Entry). Writes (a .w) (a .rows .now) (a .nodes .now) t y (a .n) laws.none-given laws.at-first (a .trace .now)
-          (w .result) (w .last .1 .1 .1 .1 .0)) (c .before .before .before .root .ensures) (w .ensures .1 .1)),
+          (w .result) (w .last .1 .1 .1 .1 .0)) (c .before .before .before .before .before .root .ensures) (w .ensures .writes)),
     )
 
 pub show-spec : {M : Type 1} → statement M
