@@ -232,7 +232,7 @@ pub(crate) fn fill(
     while left != 0 {
         let k = crate::work::highest(left);
         left -= 1u64 << (k as u32);
-        let f = outline_nodes::form(nodes, k);
+        let f = crate::form(nodes, k);
         if settle_node(t, rows, opened, reset, p, x, l, k, f) {
             left |= readers[k];
         }

@@ -6,10 +6,10 @@ ghost use mathlib.Core.Bool.{Bool, not, _&&_};
 ghost use Prim.Native.Nat.{ℕ, _+_, _/_, _<_, _≤_};
 ghost use lib.Dec.{ltb};
 ghost use lib.ListN.{length, getD, replicate};
-ghost use Rattle.usage.specs.Limits.{states, mostNodes};
+ghost use Rattle.usage.specs.Limits.{states, mostNodes, nodeFields};
 ghost use Rattle.outline_nodes.specs.Said.{saidBy};
 ghost use Rattle.checker_account.specs.Tables.{over, joinedAt, meanings, places, least, restarted};
-ghost use Rattle.checker_account.specs.Filling.{grown, byOpen, Wide};
+ghost use Rattle.checker_account.specs.Filling.{grown, byOpen, formsIn, Wide};
 ghost use Rattle.checker_tables.specs.Marks.{MarkedIf};
 ghost use Rattle.checker_tables.specs.Search.{lost, isOn, touched, small, NodesFit, hasRoom, ArrivesBy, ArrivesIf, SearchedIf};
 use checker_account::NAMES;
@@ -21,6 +21,7 @@ use outline_nodes::NodeForm;
 use usage::ACTIONS;
 use usage::MOST_NODES;
 use usage::NODE_FIELDS;
+use usage::Node;
 use usage::STATES;
 
 pub mod arrivals;
@@ -114,6 +115,19 @@ pub fn touched(nodes: &[u8], x: usize) -> bool
         k += 1;
     }
     false
+}
+
+// What node k says, where there is such a node: the loop that settles knows that there is, and does not ask again.
+fn form(nodes: &[u8], k: usize) -> NodeForm
+    requires { ⌜ k < length (now nodes) / nodeFields ⌝ }
+    ensures { λ r. ⌜ saidBy r ≡ formsIn (now (nodes .entry)) k ⌝ }
+{
+    let i = NODE_FIELDS * k;
+    outline_nodes::form_of(Node {
+        kind: nodes[i],
+        a: nodes[i + 1],
+        b: nodes[i + 2],
+    })
 }
 
 // Is there room for a node of this number?

@@ -1,9 +1,10 @@
 -- What a node of a flat table says.
-use Prim.Native.Nat.{ℕ, zero, suc, _+_, _*_, _/_, _<_, _≤_}
-use mathlib.Core.Path.{_≡_, refl, sym, ap, _∙_}
+use Prim.Native.Nat.{ℕ, zero, suc, _/_, _<_, _≤_}
+use mathlib.Core.Path.{_≡_, refl, sym, ap}
 use mathlib.Core.Option.{none}
 use mathlib.Core.List.{List}
-use lib.ListN.{length, getD, getElem?}
+use lib.ListN.{length, getElem?}
+use Rattle.usage.specs.declared.Node.{Node}
 use Rattle.usage.specs.Limits.{nodeFields, said}
 use Rattle.usage.specs.Outline.{nodeKinds, formOf, formIn, formAt}
 use Rattle.usage.specs.Tables.{nodeAt, nodesOf}
@@ -19,11 +20,10 @@ module _ (t : List ℕ) (k : ℕ) where
   pub form-past : length t / nodeFields ≤ k → formAt (nodesOf t) k ≡ none
   form-past h = ap formIn (nodes-past t k h)
 
-  -- by the number of its kind
-  pub form-by : (n : ℕ) → k < length t / nodeFields → getD t (nodeFields * k) 0 ≡ n
-      → said (getElem? nodeKinds n) (getD t (nodeFields * k + 1) 0) (getD t (nodeFields * k + 2) 0) ≡ formAt (nodesOf t) k
-  unfolding formOf
-  form-by n h e = sym (form-at h ∙ ap (λ (j : ℕ). said (getElem? nodeKinds j) (nodeAt t k .a) (nodeAt t k .b)) e)
+-- by the number of its kind
+pub form-by : (n : Node) (k : ℕ) → n .kind ≡ k → said (getElem? nodeKinds k) (n .a) (n .b) ≡ formOf n
+unfolding formOf
+form-by n k e = sym (ap (λ (j : ℕ). said (getElem? nodeKinds j) (n .a) (n .b)) e)
 
 -- a kind above 8 says nothing
 pub no-form : (n a b : ℕ) → (n ≡ 0 → ⊥) → (n ≡ 1 → ⊥) → (n ≡ 2 → ⊥) → (n ≡ 3 → ⊥) → (n ≡ 4 → ⊥) → (n ≡ 5 → ⊥) → (n ≡ 6 → ⊥) → (n ≡ 7 → ⊥)

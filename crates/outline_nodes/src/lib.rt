@@ -1,9 +1,10 @@
 // Single nodes of an outline's flat table. Here alone a node's kind is told by its number; everyone else matches on what the node says.
 ghost use mathlib.Core.Path.{_≡_};
-ghost use Rattle.usage.specs.Outline.{formAt};
+ghost use Rattle.usage.specs.Outline.{formOf, formAt};
 ghost use Rattle.usage.specs.Tables.{nodesOf};
 ghost use Rattle.outline_nodes.specs.Said.{saidBy};
 use usage::NODE_FIELDS;
+use usage::Node;
 
 // What a node says, as document 01 has the kinds, 0 to 8 in order; or nothing.
 pub enum NodeForm {
@@ -19,17 +20,13 @@ pub enum NodeForm {
     Nothing,
 }
 
-// What node k says: nothing where there is no such node, or none of its kind.
-pub fn form(nodes: &[u8], k: usize) -> NodeForm
-    ensures { λ r. ⌜ saidBy r ≡ formAt (nodesOf (now (nodes .entry))) k ⌝ }
+// What a node says by its numbers: nothing where there is none of its kind.
+pub fn form_of(n: Node) -> NodeForm
+    ensures { λ r. ⌜ saidBy r ≡ formOf n ⌝ }
 {
-    if nodes.len() / NODE_FIELDS <= k {
-        return NodeForm::Nothing;
-    }
-    let i = NODE_FIELDS * k;
-    let kind = nodes[i];
-    let a = nodes[i + 1];
-    let b = nodes[i + 2];
+    let kind = n.kind;
+    let a = n.a;
+    let b = n.b;
     match kind {
         0 => NodeForm::End,
         1 => NodeForm::OnStatic {
@@ -48,4 +45,19 @@ pub fn form(nodes: &[u8], k: usize) -> NodeForm
         8 => NodeForm::Sandbox { policy: a, body: b },
         _ => NodeForm::Nothing,
     }
+}
+
+// What node k of a flat table says: nothing where there is no such node.
+pub fn form(nodes: &[u8], k: usize) -> NodeForm
+    ensures { λ r. ⌜ saidBy r ≡ formAt (nodesOf (now (nodes .entry))) k ⌝ }
+{
+    if nodes.len() / NODE_FIELDS <= k {
+        return NodeForm::Nothing;
+    }
+    let i = NODE_FIELDS * k;
+    form_of(Node {
+        kind: nodes[i],
+        a: nodes[i + 1],
+        b: nodes[i + 2],
+    })
 }

@@ -8,9 +8,7 @@ use lib.Pow.{pow-mono}
 use lib.ListN.{length, getD}
 use Rattle.usage.specs.Limits.{mostNodes, nodeFields}
 use mathlib.Core.Option.{Option}
-use Rattle.usage.specs.Outline.{Form, formAt}
-use Rattle.outline_nodes.proofs.SaidLaws.{form-at}
-use Rattle.usage.specs.Tables.{nodesOf}
+use Rattle.usage.specs.Outline.{Form}
 use Rattle.outline_nodes.specs.declared.NodeForm.{NodeForm}
 use Rattle.outline_nodes.specs.Said.{saidBy}
 use Rattle.checker_account.specs.Tables.{meanings, rowsIn, Resets}
@@ -34,7 +32,7 @@ use Rattle.checker_tables.proofs.ends.fill.Tie as tie
 use Rattle.checker_tables.proofs.ends.fill.Reads as reads
 use Rattle.checker_tables.proofs.ends.fill.Lts as lts
 use Rattle.checker_tables.proofs.ends.settle_node.Reads as settle-node-reads
-use Rattle.outline_nodes.proofs.form.Reads as form-reads
+use Rattle.checker_tables.proofs.form.Reads as form-reads
 use Rattle.checker_tables.proofs.work.all.Reads as all-reads
 use Rattle.checker_tables.proofs.work.highest.Reads as highest-reads
 use Rattle.checker_tables.proofs.work.readers.Reads as readers-reads
@@ -70,10 +68,10 @@ module _ (nodes rows : List ℕ) (x : ℕ) (resets : Resets) (l : ℕ) (fit : No
   bit-low = omega (arith, shl-node k small)
 
   -- it was settled, as d says; grew: did that change the table?
-  module _ (u : List ℕ) (d : NodeForm) (at : saidBy d ≡ formAt (nodesOf nodes) k)
+  module _ (u : List ℕ) (d : NodeForm) (at : saidBy d ≡ formsIn nodes k)
       (made : u ≡ settleNode (rowsIn rows) x resets l k (saidBy d) t) (grew : Bool) (tells : grew ≡ grown t u) where
     e : u ≡ settleNode (rowsIn rows) x resets l k (formsIn nodes k) t
-    e = made ∙ ap (λ (f : Option Form). settleNode (rowsIn rows) x resets l k f t) (at ∙ form-at nodes k inside)
+    e = made ∙ ap (λ (f : Option Form). settleNode (rowsIn rows) x resets l k f t) at
 
     still : grew ≡ false → Done nodes rows x resets l u (s - bit)
     still g =
@@ -171,7 +169,14 @@ sub-left c =
     (h .ensures .1)
 
 form-requires : tie.Need-form-requires Inv-loop μ-loop
-form-requires c κs = tt
+form-requires c κs =
+    let a = c .before .before .before .before .before .before .before .args in
+    let resets = resetsIf (a .reset) (a .p) (a .opened .now) in
+    let p = c .before .before .before .before .before .before .before .pre in
+    let l = c .before .before .loop in
+    let h = c .highest in
+    inside (a .nodes .now) (a .rows .now) (a .x) resets (a .l) (p .0) (l .t) (l .left) (h .result) (l .inv) (h .ensures .0)
+    (h .ensures .1)
 
 settle-node-requires : tie.Need-settle-node-requires Inv-loop μ-loop
 settle-node-requires c κs =
@@ -186,7 +191,7 @@ settle-node-requires c κs =
       working-length (rowsIn (a .rows .now)) (a .x) resets (a .l) (length (a .nodes .now) / nodeFields) (formsIn (a .nodes .now))
           (p .0 .few)
           (l .inv),
-      (subst Small (sym (c .before .form .ensures ∙ form-at (a .nodes .now) (h .result) k)) (p .0 .each-small (h .result) k), (p .1 .0, omega arith)),
+      (subst Small (sym (c .before .form .ensures)) (p .0 .each-small (h .result) k), (p .1 .0, omega arith)),
     )
 
 mul-left : tie.Need-mul-left Inv-loop μ-loop
