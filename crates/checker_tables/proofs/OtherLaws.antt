@@ -5,7 +5,8 @@ use mathlib.Core.Bool.{Bool, true, false}
 use mathlib.Core.List.{List, [], _∷_}
 use types.Run.{OneOf, miss}
 use Rattle.outline_nodes.specs.declared.NodeForm.{NodeForm}
-use Rattle.outline_nodes.specs.declared.NodeForm.the-variants.{End, OnStatic, OnName, Sequence, Choice, Loop, Back, Fresh, Sandbox, Nothing}
+use Rattle.outline_nodes.specs.declared.NodeForm.the-variants.{End, OnStatic, OnName, Sequence, Choice}
+use Rattle.outline_nodes.specs.declared.NodeForm.the-variants.{Loop, Back, Fresh, Sandbox, Nothing}
 use Rattle.outline_nodes.specs.Said.{saidBy}
 use Rattle.outline_nodes.proofs.SaidLaws.{tag}
 use Rattle.checker_account.specs.Tables.{Rows, arrivals, leaves}
@@ -43,7 +44,8 @@ no-number (Sandbox s b) h = absurd (miss (0 ∷ 9 ∷ []) 8 tt h)
 no-number Nothing h = refl
 
 -- they have no event
-pub no-rows : (tables : EventTables) (p k : ℕ) (r : List ℕ) (f : NodeForm) → OneOf (0 ∷ 3 ∷ 4 ∷ 5 ∷ 6 ∷ 8 ∷ 9 ∷ []) (tag f) → r ≡ nodeRows tables p k (saidBy f) r
+pub no-rows : (tables : EventTables) (p k : ℕ) (r : List ℕ) (f : NodeForm) → OneOf (0 ∷ 3 ∷ 4 ∷ 5 ∷ 6 ∷ 8 ∷ 9 ∷ []) (tag f)
+    → r ≡ nodeRows tables p k (saidBy f) r
 unfolding nodeRows
 no-rows tables p k r End h = refl
 no-rows tables p k r (OnStatic a s) h = absurd (miss (0 ∷ 3 ∷ 4 ∷ 5 ∷ 6 ∷ 8 ∷ 9 ∷ []) 1 tt h)
@@ -57,7 +59,8 @@ no-rows tables p k r (Sandbox s b) h = refl
 no-rows tables p k r Nothing h = refl
 
 -- they take no step
-pub no-step : (local : Bool) (rows : Rows) (p x : ℕ) (u : List ℕ) (k m : ℕ) (f : NodeForm) → OneOf (0 ∷ 3 ∷ 4 ∷ 5 ∷ 6 ∷ 9 ∷ []) (tag f) → 0 ≡ leavesOf local rows p x u k m (saidBy f)
+pub no-step : (local : Bool) (rows : Rows) (p x : ℕ) (u : List ℕ) (k m : ℕ) (f : NodeForm)
+    → OneOf (0 ∷ 3 ∷ 4 ∷ 5 ∷ 6 ∷ 9 ∷ []) (tag f) → 0 ≡ leavesOf local rows p x u k m (saidBy f)
 unfolding leaves
 no-step local rows p x u k m End h = refl
 no-step local rows p x u k m (OnStatic a s) h = absurd (miss (0 ∷ 3 ∷ 4 ∷ 5 ∷ 6 ∷ 9 ∷ []) 1 tt h)
@@ -84,7 +87,8 @@ no-mark (Sandbox s b) h = absurd (miss (0 ∷ 3 ∷ 4 ∷ 5 ∷ 6 ∷ 9 ∷ []) 
 no-mark Nothing h = refl
 
 -- they lead to nothing
-pub no-arrivals : (local : Bool) (rows : Rows) (p : ℕ) (t : List ℕ) (k : ℕ) (o : Bool) (m v : ℕ) (f : NodeForm) → OneOf (0 ∷ 1 ∷ 2 ∷ 9 ∷ []) (tag f) → arrivalsOf local rows p t k o m v (saidBy f) ≡ []
+pub no-arrivals : (local : Bool) (rows : Rows) (p : ℕ) (t : List ℕ) (k : ℕ) (o : Bool) (m v : ℕ) (f : NodeForm)
+    → OneOf (0 ∷ 1 ∷ 2 ∷ 9 ∷ []) (tag f) → arrivalsOf local rows p t k o m v (saidBy f) ≡ []
 unfolding arrivals
 no-arrivals local rows p t k o m v End h = refl
 no-arrivals local rows p t k o m v (OnStatic a s) h = refl

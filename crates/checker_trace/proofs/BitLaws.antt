@@ -14,7 +14,8 @@ use borrow.Author.Tests.{eqb-true, eq-eqb, lt-ltb, le-ltb}
 use Rattle.usage.specs.Limits.{mostNodes, nodeFields}
 use types.Run.{OneOf, miss}
 use Rattle.outline_nodes.specs.declared.NodeForm.{NodeForm}
-use Rattle.outline_nodes.specs.declared.NodeForm.the-variants.{End, OnStatic, OnName, Sequence, Choice, Loop, Back, Fresh, Sandbox, Nothing}
+use Rattle.outline_nodes.specs.declared.NodeForm.the-variants.{End, OnStatic, OnName, Sequence, Choice}
+use Rattle.outline_nodes.specs.declared.NodeForm.the-variants.{Loop, Back, Fresh, Sandbox, Nothing}
 use Rattle.outline_nodes.specs.Said.{saidBy}
 use Rattle.outline_nodes.proofs.SaidLaws.{tag}
 use Rattle.usage.proofs.Logic.{by-cases, last-or-lower}

@@ -5,7 +5,8 @@ use native.Mathlib.Omega.{arith}
 use types.Run.{OneOf, miss}
 use Rattle.usage.specs.Limits.{mostShown}
 use Rattle.outline_nodes.specs.declared.NodeForm.{NodeForm}
-use Rattle.outline_nodes.specs.declared.NodeForm.the-variants.{End, OnStatic, OnName, Sequence, Choice, Loop, Back, Fresh, Sandbox, Nothing}
+use Rattle.outline_nodes.specs.declared.NodeForm.the-variants.{End, OnStatic, OnName, Sequence, Choice}
+use Rattle.outline_nodes.specs.declared.NodeForm.the-variants.{Loop, Back, Fresh, Sandbox, Nothing}
 use Rattle.outline_nodes.specs.Said.{saidBy}
 use Rattle.outline_nodes.proofs.SaidLaws.{tag}
 use Rattle.checker_lengths.specs.declared.Entry.{Entry}

@@ -66,8 +66,8 @@ module _ (w : Watch) (rows nodes t : List ℕ) (p : Part) (trace : List ℕ) (ro
           writes = h;
         }
 
-  module _ (one : 1 ≤ p .steps) (k c : ℕ) (on : OntoIs w rows nodes t (p .entry) (p .steps) (By k c)) (r : Spot) (is : r ≡ onward (p .spot))
-      (trace′ : List ℕ) (d i : ℕ) where
+  module _ (one : 1 ≤ p .steps) (k c : ℕ) (on : OntoIs w rows nodes t (p .entry) (p .steps) (By k c)) (r : Spot)
+      (is : r ≡ onward (p .spot)) (trace′ : List ℕ) (d i : ℕ) where
     pub static-written : formHere nodes k ≡ some (on-static d i) → trace′ ≡ storedStep trace (p .spot .at) 0 d i → Whole r trace′
     static-written form stored =
         step-written one r is 0 d i trace′ stored
@@ -117,7 +117,8 @@ module _ (w : Watch) (rows nodes t : List ℕ) (p : Part) (trace : List ℕ) (ro
           let nx = first .within .next in
           record { few-nodes = room .few-nodes; few = omega arith; long = omega arith; numbered = omega arith }
 
-      pub sequence-written : (r : Spot) (trace₂ : List ℕ) → PartWritten w rows nodes t (secondPart p y v mid) trace₁ r trace₂ → Whole r trace₂
+      pub sequence-written : (r : Spot) (trace₂ : List ℕ) → PartWritten w rows nodes t (secondPart p y v mid) trace₁ r trace₂
+          → Whole r trace₂
       sequence-written r trace₂ second =
           let l = first-fewer in
           let at = first .within .at in
@@ -133,8 +134,8 @@ module _ (w : Watch) (rows nodes t : List ℕ) (p : Part) (trace : List ℕ) (ro
 
   -- ── A fresh node ──
 
-  module _ (y : Way) (picked : Picked w rows nodes t p (some (fresh (y .a) (y .b))) (y .rule)) (made : Spot) (is : made ≡ created (p .spot))
-      (trace₁ : List ℕ) (stored : trace₁ ≡ storedStep trace (p .spot .at) 0 0 (p .spot .next)) where
+  module _ (y : Way) (picked : Picked w rows nodes t p (some (fresh (y .a) (y .b))) (y .rule)) (made : Spot)
+      (is : made ≡ created (p .spot)) (trace₁ : List ℕ) (stored : trace₁ ≡ storedStep trace (p .spot .at) 0 0 (p .spot .next)) where
     kept : length trace₁ ≡ length trace
     kept = ap length stored ∙ stored-length trace (p .spot .at) 0 0 (p .spot .next)
 
@@ -146,7 +147,8 @@ module _ (w : Watch) (rows nodes t : List ℕ) (p : Part) (trace : List ℕ) (ro
         record {
           length-kept = kept;
           within = record { at = omega arith; next = omega arith };
-          writes = wrote-born w rows nodes t (p .entry) (p .steps) (y .rule) (room .few-nodes) (room .few) (y .a) (y .b) (picked .chosen) big
+          writes = wrote-born w rows nodes t (p .entry) (p .steps) (y .rule) (room .few-nodes) (room .few) (y .a) (y .b)
+              (picked .chosen) big
               (p .names) (p .spot) trace made is trace₁ stored;
         }
 
@@ -172,18 +174,20 @@ module _ (w : Watch) (rows nodes t : List ℕ) (p : Part) (trace : List ℕ) (ro
         record {
           length-kept = body .length-kept ∙ kept;
           within = record { at = omega arith; next = omega arith };
-          writes = wrote-fresh w rows nodes t (p .entry) (p .steps) (y .rule) (room .few-nodes) (room .few) (y .a) (y .b) (picked .chosen) low
+          writes = wrote-fresh w rows nodes t (p .entry) (p .steps) (y .rule) (room .few-nodes) (room .few) (y .a) (y .b)
+              (picked .chosen) low
               (p .names) four (p .spot) trace r trace₂
               (subst (λ (s : Spot). Writes w rows nodes t (bodyPart p y made .entry) (p .steps - 1) (bodyPart p y made .names) s
               (storedStep trace (p .spot .at) 0 0 (p .spot .next)) r trace₂) is
-              (subst (λ (u : List ℕ). Writes w rows nodes t (bodyPart p y made .entry) (p .steps - 1) (bodyPart p y made .names) made u r trace₂)
+              (subst (λ (u : List ℕ). Writes w rows nodes t (bodyPart p y made .entry) (p .steps - 1)
+              (bodyPart p y made .names) made u r trace₂)
               stored (body .writes)));
         }
 
   -- ── A sandbox ──
 
-  module _ (y : Way) (picked : Picked w rows nodes t p (some (sandbox (y .a) (y .b))) (y .rule)) (begun : Spot) (is : begun ≡ onward (p .spot))
-      (trace₁ : List ℕ) (stored : trace₁ ≡ storedStep trace (p .spot .at) 1 (y .a) 0) where
+  module _ (y : Way) (picked : Picked w rows nodes t p (some (sandbox (y .a) (y .b))) (y .rule)) (begun : Spot)
+      (is : begun ≡ onward (p .spot)) (trace₁ : List ℕ) (stored : trace₁ ≡ storedStep trace (p .spot .at) 1 (y .a) 0) where
     pub opening-written : 0 < y .rule → Whole begun trace₁
     opening-written pos =
         step-written (picked .one) begun is 1 (y .a) 0 trace₁ stored
@@ -222,7 +226,8 @@ module _ (w : Watch) (rows nodes t : List ℕ) (p : Part) (trace : List ℕ) (ro
         record {
           length-kept = body .length-kept ∙ ap length stored ∙ stored-length trace (p .spot .at) 1 (y .a) 0;
           within = record { at = omega arith; next = omega arith };
-          writes = wrote-inside w rows nodes t (p .entry) (p .steps) (y .rule) (room .few-nodes) (room .few) (y .a) (y .b) (picked .chosen)
+          writes = wrote-inside w rows nodes t (p .entry) (p .steps) (y .rule) (room .few-nodes) (room .few) (y .a) (y .b)
+              (picked .chosen)
               first breaks (p .names) (p .spot) trace r trace₂ (from-opening 1 r trace₂ body);
         }
 
@@ -244,7 +249,8 @@ module _ (w : Watch) (rows nodes t : List ℕ) (p : Part) (trace : List ℕ) (ro
             let e = body .length-kept ∙ ap length stored ∙ stored-length trace (p .spot .at) 1 (y .a) 0 in
             omega arith
 
-        pub sandbox-written : (r : Spot) → r ≡ onward mid → (trace₃ : List ℕ) → trace₃ ≡ storedStep trace₂ (mid .at) 2 (y .a) 0 → Whole r trace₃
+        pub sandbox-written : (r : Spot) → r ≡ onward mid → (trace₃ : List ℕ) → trace₃ ≡ storedStep trace₂ (mid .at) 2 (y .a) 0
+            → Whole r trace₃
         sandbox-written r last trace₃ closed =
             let two = two-steps in
             let at = ap (λ (z : Spot). z .at) is in
@@ -257,6 +263,7 @@ module _ (w : Watch) (rows nodes t : List ℕ) (p : Part) (trace : List ℕ) (ro
               length-kept = ap length closed ∙ stored-length trace₂ (mid .at) 2 (y .a) 0 ∙ body .length-kept ∙ ap length stored
                   ∙ stored-length trace (p .spot .at) 1 (y .a) 0;
               within = record { at = omega arith; next = omega arith };
-              writes = wrote-sandbox w rows nodes t (p .entry) (p .steps) (y .rule) (room .few-nodes) (room .few) (y .a) (y .b) (picked .chosen)
+              writes = wrote-sandbox w rows nodes t (p .entry) (p .steps) (y .rule) (room .few-nodes) (room .few) (y .a) (y .b)
+                  (picked .chosen)
                   first ends (p .names) (p .spot) trace mid trace₂ (from-opening 2 mid trace₂ body) r last trace₃ closed;
             }

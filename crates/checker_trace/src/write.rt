@@ -159,7 +159,8 @@ fn write_sequence(
 ) -> Spot
     requires { ⌜ Room (now nodes) p (now trace) ⌝ }
     requires { ⌜ Picked w (now rows) (now nodes) (now t) p (some (sequence (y .a) (y .b))) (y .rule) ⌝ }
-    ensures { λ r. ⌜ PartWritten w (now (rows .entry)) (now (nodes .entry)) (now (t .entry)) p (now (trace .entry)) r (now (trace .exit)) ⌝ }
+    ensures { λ r. ⌜ PartWritten w (now (rows .entry)) (now (nodes .entry)) (now (t .entry)) p
+        (now (trace .entry)) r (now (trace .exit)) ⌝ }
 {
     let v = checker_lengths::entries::get(t, p.steps, offers::first(p.entry, y.a, y.rule));
     let mid = write(t, nodes, rows, w, trace, first_part(p, y, v));
@@ -178,7 +179,8 @@ fn write_fresh(
 ) -> Spot
     requires { ⌜ Room (now nodes) p (now trace) ⌝ }
     requires { ⌜ Picked w (now rows) (now nodes) (now t) p (some (fresh (y .a) (y .b))) (y .rule) ⌝ }
-    ensures { λ r. ⌜ PartWritten w (now (rows .entry)) (now (nodes .entry)) (now (t .entry)) p (now (trace .entry)) r (now (trace .exit)) ⌝ }
+    ensures { λ r. ⌜ PartWritten w (now (rows .entry)) (now (nodes .entry)) (now (t .entry)) p
+        (now (trace .entry)) r (now (trace .exit)) ⌝ }
 {
     let made = create(trace, p.spot);
     if BROKEN <= y.rule {
@@ -199,7 +201,8 @@ fn write_sandbox(
 ) -> Spot
     requires { ⌜ Room (now nodes) p (now trace) ⌝ }
     requires { ⌜ Picked w (now rows) (now nodes) (now t) p (some (sandbox (y .a) (y .b))) (y .rule) ⌝ }
-    ensures { λ r. ⌜ PartWritten w (now (rows .entry)) (now (nodes .entry)) (now (t .entry)) p (now (trace .entry)) r (now (trace .exit)) ⌝ }
+    ensures { λ r. ⌜ PartWritten w (now (rows .entry)) (now (nodes .entry)) (now (t .entry)) p
+        (now (trace .entry)) r (now (trace .exit)) ⌝ }
 {
     let begun = step(trace, p.spot, OPENING, y.a as u32, 0);
     if 0 < y.rule {
@@ -222,7 +225,8 @@ pub(crate) fn write(
     p: Part,
 ) -> Spot
     requires { ⌜ Room (now nodes) p (now trace) ⌝ }
-    ensures { λ r. ⌜ PartWritten w (now (rows .entry)) (now (nodes .entry)) (now (t .entry)) p (now (trace .entry)) r (now (trace .exit)) ⌝ }
+    ensures { λ r. ⌜ PartWritten w (now (rows .entry)) (now (nodes .entry)) (now (t .entry)) p
+        (now (trace .entry)) r (now (trace .exit)) ⌝ }
 {
     if p.steps == 0 {
         return p.spot;

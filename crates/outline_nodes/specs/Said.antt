@@ -2,7 +2,8 @@
 use mathlib.Core.Option.{Option, none, some}
 use Rattle.usage.specs.Outline.{Form, end, on-static, on-name, sequence, choice, loop, back, fresh, sandbox}
 use Rattle.outline_nodes.specs.declared.NodeForm.{NodeForm}
-use Rattle.outline_nodes.specs.declared.NodeForm.the-variants.{End, OnStatic, OnName, Sequence, Choice, Loop, Back, Fresh, Sandbox, Nothing}
+use Rattle.outline_nodes.specs.declared.NodeForm.the-variants.{End, OnStatic, OnName, Sequence, Choice}
+use Rattle.outline_nodes.specs.declared.NodeForm.the-variants.{Loop, Back, Fresh, Sandbox, Nothing}
 
 -- what it says
 abbrev pub saidBy : NodeForm → Option Form

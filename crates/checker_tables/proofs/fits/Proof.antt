@@ -61,7 +61,8 @@ returns-2 c =
     let t = now (c .before .before .before .before .before .before .before .args .nodes) in
     let k = c .before .before .before .before .loop .k in
     let l = c .before .before .before .loop-test .taken in
-    let s = here t k l (c .before .before .form .ensures) (c .before .small .ensures) ∙ not-true (c .before .small .result) (c .if2 .taken) in
+    let s = here t k l (c .before .before .form .ensures) (c .before .small .ensures) ∙ not-true (c .before .small .result)
+    (c .if2 .taken) in
     let e = some-at (length t / nodeFields) (big t) k l (ap not s) in
     let few : length t / nodeFields ≤ mostNodes = omega (arith, c .before .before .before .before .before .if1 .left) in
     simp (le-leb (length t / nodeFields) mostNodes few, e)
@@ -77,7 +78,8 @@ loop-again c =
     let t = now (c .before .before .before .before .before .before .before .args .nodes) in
     let k = c .before .before .before .before .loop .k in
     let l = c .before .before .before .loop-test .taken in
-    let s = here t k l (c .before .before .form .ensures) (c .before .small .ensures) ∙ not-false (c .before .small .result) (c .if2 .left) in
+    let s = here t k l (c .before .before .form .ensures) (c .before .small .ensures) ∙ not-false (c .before .small .result)
+    (c .if2 .left) in
     (search needs, none-more (big t) k (c .before .before .before .before .loop .inv .1) (ap not s))
 
 returns-3 : tie.Need-returns-3 Inv-loop μ-loop

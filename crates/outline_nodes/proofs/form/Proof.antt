@@ -33,7 +33,8 @@ form-of-requires : tie.Need-form-of-requires
 form-of-requires c κs = search needs
 
 returns-2 : tie.Need-returns-2
-returns-2 c = let a = c .before .before .before .before .before .before .args in c .form-of .ensures ∙ sym (form-at (now (a .nodes)) (a .k) (c .before .before .before .before .if1 .left))
+returns-2 c = let a = c .before .before .before .before .before .before .args in c .form-of .ensures ∙ sym (form-at (now (a .nodes))
+    (a .k) (c .before .before .before .before .if1 .left))
 
 pub form-spec : {M : Type 1} → statement M
 form-spec =

@@ -110,7 +110,8 @@ returns-2 : tie.Need-returns-2
 unfolding spec.offerOf
 returns-2 c =
     let a = c .before .before .before .before .before .args in
-    rw (c .before .before .before .f .given .1) (c .event .ensures ∙ ap (λ (v : ℕ). spec.eventOf v (a .e) (a .c)) (c .before .moved .ensures))
+    rw (c .before .before .before .f .given .1) (c .event .ensures ∙ ap (λ (v : ℕ). spec.eventOf v (a .e) (a .c))
+    (c .before .moved .ensures))
 
 returns-3 : tie.Need-returns-3
 unfolding spec.offerOf

@@ -53,7 +53,10 @@ pass-node-requires c κs =
     let h = c .before .before .loop-test .taken in
     let few : length (a .nodes .now) / nodeFields ≤ mostNodes = p .1 .0 .few in (
       repeat-length f grows (l .k) (a .u .now) (l .u) (l .inv .1 .0) ∙ p .0,
-      (subst Small (sym (c .before .form .ensures ∙ form-at (a .nodes .now) (l .k) h)) (p .1 .0 .each-small (l .k) h), (p .1 .1, omega arith)),
+      (
+        subst Small (sym (c .before .form .ensures ∙ form-at (a .nodes .now) (l .k) h)) (p .1 .0 .each-small (l .k) h),
+        (p .1 .1, omega arith),
+      ),
     )
 
 add-k : tie.Need-add-k Inv-loop μ-loop

@@ -67,7 +67,8 @@ returns c =
     let a = c .before .before .before .before .before .args in
     rw (c .before .before .f .given .1)
     (c .moved-set .ensures
-    ∙ ap (over (rowsIn (now (a .rows)) (a .k) (eqb (c .before .before .f .given .0 .1 .0) (a .x)))) (c .before .before .before .before .come-to .ensures))
+    ∙ ap (over (rowsIn (now (a .rows)) (a .k) (eqb (c .before .before .f .given .0 .1 .0) (a .x))))
+    (c .before .before .before .before .come-to .ensures))
 
 returns-2 : tie.Need-returns-2
 unfolding leaves

@@ -58,7 +58,8 @@ loop-again c =
     let a = c .before .before .before .before .before .before .args in
     let l = c .before .before .before .before .loop in
     let h = c .before .before .before .loop-test .taken in
-    let e = c .note-parts .ensures ∙ ap (λ (d : Option Form). noted (l .k) d (l .masks)) (c .before .before .form .ensures ∙ form-at (a .nodes .now) (l .k) h) in
+    let e = c .note-parts .ensures ∙ ap (λ (d : Option Form). noted (l .k) d (l .masks)) (c .before .before .form .ensures ∙ form-at
+    (a .nodes .now) (l .k) h) in
     (search needs, repeat-more (steps (a .nodes .now)) (l .k) (replicate mostNodes 0) (l .masks) (c .note-parts .last .0) (l .inv .1) e)
 
 returns : tie.Need-returns Inv-loop μ-loop

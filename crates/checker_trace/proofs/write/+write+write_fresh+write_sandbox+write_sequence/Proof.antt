@@ -12,7 +12,8 @@ use Rattle.checker_trace.proofs.OtherLaws.{chosen-other}
 use Rattle.checker_trace.proofs.PartWrittenLaws.{none-written, nowhere-written, step-room, static-written, name-written}
 use Rattle.checker_trace.proofs.PartWrittenLaws.{first-fewer, second-fewer, first-room, second-room, sequence-written}
 use Rattle.checker_trace.proofs.PartWrittenLaws.{born-written, body-room, fresh-written}
-use Rattle.checker_trace.proofs.PartWrittenLaws.{opening-written, inside-room, inside-written, two-steps, closing-room, sandbox-written}
+use Rattle.checker_trace.proofs.PartWrittenLaws.{opening-written, inside-room, inside-written}
+use Rattle.checker_trace.proofs.PartWrittenLaws.{two-steps, closing-room, sandbox-written}
 use borrow.Author.Needs.{needs}
 use Prim.Native.Nat.{ℕ, _<_}
 use borrow.Fn.Kinds.{In}
@@ -182,9 +183,10 @@ write-returns-2 : (t : ℕ) → write-lts.Need-returns-2 (write-known t) (write-
 write-returns-2 t c =
     let a = c .before .before .before .before .before .before .before .before .args in
     let p = c .before .before .before .before .before .before .before .before .pre .1 in
-    nowhere-written (a .w) (a .rows .now) (a .nodes .now) (a .t .now) (a .p) (a .trace .now) p
-    (subst (OntoIs (a .w) (a .rows .now) (a .nodes .now) (a .t .now) (a .p .entry) (a .p .steps)) (c .before .enum-told .given .1) (c .before .before .before .find .ensures))
-    (pos _ (c .before .before .before .before .if1 .left))
+    let on = subst (OntoIs (a .w) (a .rows .now) (a .nodes .now) (a .t .now) (a .p .entry) (a .p .steps)) (c .before .enum-told .given .1)
+    (c .before .before .before .find .ensures) in
+    nowhere-written (a .w) (a .rows .now) (a .nodes .now) (a .t .now) (a .p) (a .trace .now) p on (pos _
+    (c .before .before .before .before .if1 .left))
 
 write-form-requires : (t : ℕ) → write-lts.Need-form-requires (write-known t) (write-at t) write.Post
 write-form-requires t c κs = search needs
@@ -200,9 +202,13 @@ write-cast-step-2 t c = search needs
 
 write-step-requires : (t : ℕ) → write-lts.Need-step-requires (write-known t) (write-at t) write.Post
 write-step-requires t c κs =
-    let a = c .before .before .before .before .before .before .before .before .before .before .before .before .before .args in
-    let p = c .before .before .before .before .before .before .before .before .before .before .before .before .before .pre .1 in
-    step-room (a .w) (a .rows .now) (a .nodes .now) (a .t .now) (a .p) (a .trace .now) p (pos _ (c .before .before .before .before .before .before .before .before .before .if1 .left))
+    let k = c .before .before .before .before in
+    let o = k .before .before in
+    let d = o .before .before in
+    let z = d .before .before .before .before .before in
+    let a = z .args in
+    let p = z .pre .1 in
+    step-room (a .w) (a .rows .now) (a .nodes .now) (a .t .now) (a .p) (a .trace .now) p (pos _ (d .before .if1 .left))
 
 write-enum-known-f-2 : (t : ℕ) → write-lts.Need-enum-known-f-2 (write-known t) (write-at t) write.Post
 write-enum-known-f-2 t c = search needs
@@ -215,93 +221,113 @@ write-name-requires t c κs = search needs
 
 write-step-requires-2 : (t : ℕ) → write-lts.Need-step-requires-2 (write-known t) (write-at t) write.Post
 write-step-requires-2 t c κs =
-    let a = c .before .before .before .before .before .before .before .before .before .before .before .before .before .before .args in
-    let p = c .before .before .before .before .before .before .before .before .before .before .before .before .before .before .pre .1 in
-    step-room (a .w) (a .rows .now) (a .nodes .now) (a .t .now) (a .p) (a .trace .now) p (pos _ (c .before .before .before .before .before .before .before .before .before .before .if1 .left))
+    let k = c .before .before .before .before .before in
+    let o = k .before .before in
+    let d = o .before .before in
+    let z = d .before .before .before .before .before in
+    let a = z .args in
+    let p = z .pre .1 in
+    step-room (a .w) (a .rows .now) (a .nodes .now) (a .t .now) (a .p) (a .trace .now) p (pos _ (d .before .if1 .left))
 
 write-enum-known-f-3 : (t : ℕ) → write-lts.Need-enum-known-f-3 (write-known t) (write-at t) write.Post
 write-enum-known-f-3 t c = search needs
 
 write-write-sequence-requires : (t : ℕ) → write-lts.Need-write-sequence-requires (write-known t) (write-at t) write.Post
 write-write-sequence-requires t c κs =
-    let a = c .before .before .before .before .before .before .before .before .before .before .before .before .before .args in
-    let p = c .before .before .before .before .before .before .before .before .before .before .before .before .before .pre .1 in
-    let m = c .before .before .before .before .before .before .before .before .before .before .before .before .before .pre .0 in (
-      omega arith,
-      (
-        p,
-        record {
-          chosen = (c .before .before .before .before .before .before .o .given .0 .0, (subst (OntoIs (a .w) (a .rows .now) (a .nodes .now) (a .t .now) (a .p .entry) (a .p .steps)) (c .before .before .before .before .before .before .o .given .1) (c .before .before .before .before .before .before .before .before .find .ensures)), sym (c .before .before .before .before .form .ensures) ∙ ap saidBy (c .before .before .f3 .given .1));
-          one = (pos _ (c .before .before .before .before .before .before .before .before .before .if1 .left));
-        },
-      ),
-    )
+    let k = c .before .before .before .before in
+    let o = k .before .before in
+    let d = o .before .before in
+    let z = d .before .before .before .before .before in
+    let a = z .args in
+    let p = z .pre .1 in
+    let m = z .pre .0 in
+    let on = subst (OntoIs (a .w) (a .rows .now) (a .nodes .now) (a .t .now) (a .p .entry) (a .p .steps)) (o .o .given .1)
+    (d .find .ensures) in
+    let form = sym (k .form .ensures) ∙ ap saidBy (c .before .before .f3 .given .1) in
+    (omega arith, (p, record { chosen = (o .o .given .0 .0, on, form); one = pos _ (d .before .if1 .left) }))
 
 write-enum-known-f-4 : (t : ℕ) → write-lts.Need-enum-known-f-4 (write-known t) (write-at t) write.Post
 write-enum-known-f-4 t c = search needs
 
 write-write-fresh-requires : (t : ℕ) → write-lts.Need-write-fresh-requires (write-known t) (write-at t) write.Post
 write-write-fresh-requires t c κs =
-    let a = c .before .before .before .before .before .before .before .before .before .before .before .before .before .args in
-    let p = c .before .before .before .before .before .before .before .before .before .before .before .before .before .pre .1 in
-    let m = c .before .before .before .before .before .before .before .before .before .before .before .before .before .pre .0 in (
-      omega arith,
-      (
-        p,
-        record {
-          chosen = (c .before .before .before .before .before .before .o .given .0 .0, (subst (OntoIs (a .w) (a .rows .now) (a .nodes .now) (a .t .now) (a .p .entry) (a .p .steps)) (c .before .before .before .before .before .before .o .given .1) (c .before .before .before .before .before .before .before .before .find .ensures)), sym (c .before .before .before .before .form .ensures) ∙ ap saidBy (c .before .before .f4 .given .1));
-          one = (pos _ (c .before .before .before .before .before .before .before .before .before .if1 .left));
-        },
-      ),
-    )
+    let k = c .before .before .before .before in
+    let o = k .before .before in
+    let d = o .before .before in
+    let z = d .before .before .before .before .before in
+    let a = z .args in
+    let p = z .pre .1 in
+    let m = z .pre .0 in
+    let on = subst (OntoIs (a .w) (a .rows .now) (a .nodes .now) (a .t .now) (a .p .entry) (a .p .steps)) (o .o .given .1)
+    (d .find .ensures) in
+    let form = sym (k .form .ensures) ∙ ap saidBy (c .before .before .f4 .given .1) in
+    (omega arith, (p, record { chosen = (o .o .given .0 .0, on, form); one = pos _ (d .before .if1 .left) }))
 
 write-enum-known-f-5 : (t : ℕ) → write-lts.Need-enum-known-f-5 (write-known t) (write-at t) write.Post
 write-enum-known-f-5 t c = search needs
 
 write-write-sandbox-requires : (t : ℕ) → write-lts.Need-write-sandbox-requires (write-known t) (write-at t) write.Post
 write-write-sandbox-requires t c κs =
-    let a = c .before .before .before .before .before .before .before .before .before .before .before .before .before .args in
-    let p = c .before .before .before .before .before .before .before .before .before .before .before .before .before .pre .1 in
-    let m = c .before .before .before .before .before .before .before .before .before .before .before .before .before .pre .0 in (
-      omega arith,
-      (
-        p,
-        record {
-          chosen = (c .before .before .before .before .before .before .o .given .0 .0, (subst (OntoIs (a .w) (a .rows .now) (a .nodes .now) (a .t .now) (a .p .entry) (a .p .steps)) (c .before .before .before .before .before .before .o .given .1) (c .before .before .before .before .before .before .before .before .find .ensures)), sym (c .before .before .before .before .form .ensures) ∙ ap saidBy (c .before .before .f5 .given .1));
-          one = (pos _ (c .before .before .before .before .before .before .before .before .before .if1 .left));
-        },
-      ),
-    )
+    let k = c .before .before .before .before in
+    let o = k .before .before in
+    let d = o .before .before in
+    let z = d .before .before .before .before .before in
+    let a = z .args in
+    let p = z .pre .1 in
+    let m = z .pre .0 in
+    let on = subst (OntoIs (a .w) (a .rows .now) (a .nodes .now) (a .t .now) (a .p .entry) (a .p .steps)) (o .o .given .1)
+    (d .find .ensures) in
+    let form = sym (k .form .ensures) ∙ ap saidBy (c .before .before .f5 .given .1) in
+    (omega arith, (p, record { chosen = (o .o .given .0 .0, on, form); one = pos _ (d .before .if1 .left) }))
 
 write-same-length : (t : ℕ) → write-lts.Need-same-length (write-known t) (write-at t) write.Post
 write-same-length t c =
-    let a = c .before .before .before .before .before .before .before .before .before .before .before .before .before .before .before .before .args in
+    let b = c .before .before .before .before .before .before .before .before .before .before .before .before in
+    let a = b .before .before .before .before .args in
     let f = c .before .before .before .before .before .f .given .0 in
     ap length (c .before .before .step .ensures .0) ∙ stored-length (a .trace .now) (a .p .spot .at) 0 (f .0) (f .1 .0)
 
 write-returns-3 : (t : ℕ) → write-lts.Need-returns-3 (write-known t) (write-at t) write.Post
 write-returns-3 t c =
-    let a = c .before .before .before .before .before .before .before .before .before .before .before .before .before .before .before .before .args in
-    let p = c .before .before .before .before .before .before .before .before .before .before .before .before .before .before .before .before .pre .1 in
-    static-written (a .w) (a .rows .now) (a .nodes .now) (a .t .now) (a .p) (a .trace .now) p (pos _ (c .before .before .before .before .before .before .before .before .before .before .before .before .if1 .left)) (c .before .before .before .before .before .before .before .before .before .o .given .0 .0) (c .before .before .before .before .before .before .before .before .before .o .given .0 .1 .0)
-    (subst (OntoIs (a .w) (a .rows .now) (a .nodes .now) (a .t .now) (a .p .entry) (a .p .steps)) (c .before .before .before .before .before .before .before .before .before .o .given .1) (c .before .before .before .before .before .before .before .before .before .before .before .find .ensures))
-    (c .before .before .step .result) (c .before .before .step .ensures .1) (c .before .before .step .last .0) (c .before .before .before .before .before .f .given .0 .0) (c .before .before .before .before .before .f .given .0 .1 .0)
-    (sym (c .before .before .before .before .before .before .before .form .ensures) ∙ ap saidBy (c .before .before .before .before .before .f .given .1)) (c .before .before .step .ensures .0)
+    let k = c .before .before .before .before .before .before .before in
+    let o = k .before .before in
+    let d = o .before .before in
+    let z = d .before .before .before .before .before in
+    let a = z .args in
+    let p = z .pre .1 in
+    let on = subst (OntoIs (a .w) (a .rows .now) (a .nodes .now) (a .t .now) (a .p .entry) (a .p .steps)) (o .o .given .1)
+    (d .find .ensures) in
+    let f = c .before .before .before .before .before .f .given in
+    let r = c .before .before .step in
+    static-written (a .w) (a .rows .now) (a .nodes .now) (a .t .now) (a .p) (a .trace .now) p (pos _ (d .before .if1 .left))
+    (o .o .given .0 .0) (o .o .given .0 .1 .0) on
+    (r .result) (r .ensures .1) (r .last .0) (f .0 .0) (f .0 .1 .0) (sym (k .form .ensures) ∙ ap saidBy (f .1)) (r .ensures .0)
 
 write-same-length-2 : (t : ℕ) → write-lts.Need-same-length-2 (write-known t) (write-at t) write.Post
 write-same-length-2 t c =
-    let a = c .before .before .before .before .before .before .before .before .before .before .before .before .before .before .before .before .before .args in
-    ap length (c .before .before .step2 .ensures .0) ∙ stored-length (a .trace .now) (a .p .spot .at) 0 (c .before .before .before .before .before .before .f2 .given .0 .0) (c .before .before .before .name .result)
+    let b = c .before .before .before .before .before .before .before .before .before .before .before .before in
+    let a = b .before .before .before .before .before .args in
+    ap length (c .before .before .step2 .ensures .0)
+    ∙ stored-length (a .trace .now) (a .p .spot .at) 0 (c .before .before .before .before .before .before .f2 .given .0 .0)
+    (c .before .before .before .name .result)
 
 write-returns-4 : (t : ℕ) → write-lts.Need-returns-4 (write-known t) (write-at t) write.Post
 write-returns-4 t c =
-    let a = c .before .before .before .before .before .before .before .before .before .before .before .before .before .before .before .before .before .args in
-    let p = c .before .before .before .before .before .before .before .before .before .before .before .before .before .before .before .before .before .pre .1 in
-    name-written (a .w) (a .rows .now) (a .nodes .now) (a .t .now) (a .p) (a .trace .now) p (pos _ (c .before .before .before .before .before .before .before .before .before .before .before .before .before .if1 .left)) (c .before .before .before .before .before .before .before .before .before .before .o .given .0 .0) (c .before .before .before .before .before .before .before .before .before .before .o .given .0 .1 .0)
-    (subst (OntoIs (a .w) (a .rows .now) (a .nodes .now) (a .t .now) (a .p .entry) (a .p .steps)) (c .before .before .before .before .before .before .before .before .before .before .o .given .1) (c .before .before .before .before .before .before .before .before .before .before .before .before .find .ensures))
-    (c .before .before .step2 .result) (c .before .before .step2 .ensures .1) (c .before .before .step2 .last .0) (c .before .before .before .before .before .before .f2 .given .0 .0) (c .before .before .before .before .before .before .f2 .given .0 .1 .0)
-    (sym (c .before .before .before .before .before .before .before .before .form .ensures) ∙ ap saidBy (c .before .before .before .before .before .before .f2 .given .1))
-    (c .before .before .step2 .ensures .0 ∙ ap (storedStep (a .trace .now) (a .p .spot .at) 0 (c .before .before .before .before .before .before .f2 .given .0 .0)) (c .before .before .before .name .ensures))
+    let k = c .before .before .before .before .before .before .before .before in
+    let o = k .before .before in
+    let d = o .before .before in
+    let z = d .before .before .before .before .before in
+    let a = z .args in
+    let p = z .pre .1 in
+    let on = subst (OntoIs (a .w) (a .rows .now) (a .nodes .now) (a .t .now) (a .p .entry) (a .p .steps)) (o .o .given .1)
+    (d .find .ensures) in
+    let f = c .before .before .before .before .before .before .f2 .given in
+    let r = c .before .before .step2 in
+    let stored = r .ensures .0 ∙ ap (storedStep (a .trace .now) (a .p .spot .at) 0 (f .0 .0))
+    (c .before .before .before .name .ensures) in
+    name-written (a .w) (a .rows .now) (a .nodes .now) (a .t .now) (a .p) (a .trace .now) p (pos _ (d .before .if1 .left))
+    (o .o .given .0 .0) (o .o .given .0 .1 .0) on
+    (r .result) (r .ensures .1) (r .last .0) (f .0 .0) (f .0 .1 .0) (sym (k .form .ensures) ∙ ap saidBy (f .1)) stored
 
 write-same-length-3 : (t : ℕ) → write-lts.Need-same-length-3 (write-known t) (write-at t) write.Post
 write-same-length-3 t c = c .before .before .write-sequence .ensures .length-kept
@@ -323,10 +349,16 @@ write-returns-7 t c = c .before .before .write-sandbox .ensures
 
 write-returns-8 : (t : ℕ) → write-lts.Need-returns-8 (write-known t) (write-at t) write.Post
 write-returns-8 t c =
-    let a = c .before .before .before .before .before .before .before .before .before .before .before .args in
-    let p = c .before .before .before .before .before .before .before .before .before .before .before .pre .1 in
-    absurd (chosen-other (a .w) (a .rows .now) (a .nodes .now) (a .t .now) (a .p .entry) (a .p .steps) (c .before .before .before .before .o .given .0 .1 .0) (p .few) (pos _ (c .before .before .before .before .before .before .before .if1 .left))
-    (c .before .before .form .result) (c .before .match2 .keys6) (c .before .before .before .before .o .given .0 .0, (subst (OntoIs (a .w) (a .rows .now) (a .nodes .now) (a .t .now) (a .p .entry) (a .p .steps)) (c .before .before .before .before .o .given .1) (c .before .before .before .before .before .before .find .ensures)), sym (c .before .before .form .ensures)))
+    let k = c .before .before in
+    let o = k .before .before in
+    let d = o .before .before in
+    let z = d .before .before .before .before .before in
+    let a = z .args in
+    let p = z .pre .1 in
+    let on = subst (OntoIs (a .w) (a .rows .now) (a .nodes .now) (a .t .now) (a .p .entry) (a .p .steps)) (o .o .given .1)
+    (d .find .ensures) in
+    absurd (chosen-other (a .w) (a .rows .now) (a .nodes .now) (a .t .now) (a .p .entry) (a .p .steps) (o .o .given .0 .1 .0) (p .few)
+    (pos _ (d .before .if1 .left)) (k .form .result) (c .before .match2 .keys6) (o .o .given .0 .0, on, sym (k .form .ensures)))
 
 -- ── `write_fresh` ──
 
@@ -341,43 +373,58 @@ write-fresh-create-requires t c κs =
 write-fresh-same-length : (t : ℕ) → write-fresh-lts.Need-same-length (write-fresh-known t) (write-fresh-at t) write-fresh.Post
 write-fresh-same-length t c =
     let a = c .before .before .before .before .before .before .before .before .args in
-    ap length (c .before .before .before .before .create .ensures .0) ∙ stored-length (a .trace .now) (a .p .spot .at) 0 0 (a .p .spot .next)
+    ap length (c .before .before .before .before .create .ensures .0) ∙ stored-length (a .trace .now) (a .p .spot .at) 0 0
+    (a .p .spot .next)
 
 write-fresh-returns : (t : ℕ) → write-fresh-lts.Need-returns (write-fresh-known t) (write-fresh-at t) write-fresh.Post
 write-fresh-returns t c =
     let a = c .before .before .before .before .before .before .before .before .args in
+    let k = c .before .before .before .before .create in
     let p = c .before .before .before .before .before .before .before .before .pre .1 in
-    born-written (a .w) (a .rows .now) (a .nodes .now) (a .t .now) (a .p) (a .trace .now) (p .0) (a .y) (p .1) (c .before .before .before .before .create .result) (c .before .before .before .before .create .ensures .1) (c .before .before .before .before .create .last .0) (c .before .before .before .before .create .ensures .0) (c .if1 .taken)
+    born-written (a .w) (a .rows .now) (a .nodes .now) (a .t .now) (a .p) (a .trace .now) (p .0) (a .y) (p .1) (k .result)
+    (k .ensures .1) (k .last .0) (k .ensures .0) (c .if1 .taken)
 
-write-fresh-body-part-requires : (t : ℕ) → write-fresh-lts.Need-body-part-requires (write-fresh-known t) (write-fresh-at t) write-fresh.Post
+write-fresh-body-part-requires : (t : ℕ) → write-fresh-lts.Need-body-part-requires (write-fresh-known t)
+    (write-fresh-at t) write-fresh.Post
 write-fresh-body-part-requires t c κs = c .before .before .before .before .before .before .before .before .before .pre .1 .1 .one
 
 write-fresh-write-requires : (t : ℕ) → write-fresh-lts.Need-write-requires (write-fresh-known t) (write-fresh-at t) write-fresh.Post
 write-fresh-write-requires t c κs =
     let a = c .before .before .before .before .before .before .before .before .before .before .args in
+    let k = c .before .before .before .before .before .before .create in
     let p = c .before .before .before .before .before .before .before .before .before .before .pre .1 in
     let one = p .1 .one in
     let same = c .body-part .ensures .0 in
     let n = ap (λ (q : Part). q .steps) same in
-    let m = c .before .before .before .before .before .before .before .before .before .before .pre .0 in
-    (omega arith, subst (λ (q : Part). Room (a .nodes .now) q (c .before .before .before .before .before .before .create .last .0)) (sym same) (body-room (a .w) (a .rows .now) (a .nodes .now) (a .t .now) (a .p) (a .trace .now) (p .0) (a .y) (p .1) (c .before .before .before .before .before .before .create .result) (c .before .before .before .before .before .before .create .ensures .1) (c .before .before .before .before .before .before .create .last .0) (c .before .before .before .before .before .before .create .ensures .0)))
+    let m = c .before .before .before .before .before .before .before .before .before .before .pre .0 in (
+      omega arith,
+      subst (λ (q : Part). Room (a .nodes .now) q (k .last .0)) (sym same) (body-room (a .w) (a .rows .now) (a .nodes .now)
+          (a .t .now) (a .p) (a .trace .now) (p .0) (a .y) (p .1) (k .result) (k .ensures .1) (k .last .0) (k .ensures .0)),
+    )
 
 write-fresh-same-length-2 : (t : ℕ) → write-fresh-lts.Need-same-length-2 (write-fresh-known t) (write-fresh-at t) write-fresh.Post
 write-fresh-same-length-2 t c =
-    let a = c .before .before .before .before .before .before .before .before .before .before .before .before .before .args in
-    c .before .before .write .ensures .length-kept ∙ ap length (c .before .before .before .before .before .before .before .before .before .create .ensures .0)
+    let b = c .before .before .before .before .before .before .before .before .before .before .before .before in
+    let a = b .before .args in
+    c .before .before .write .ensures .length-kept ∙ ap length
+    (c .before .before .before .before .before .before .before .before .before .create .ensures .0)
     ∙ stored-length (a .trace .now) (a .p .spot .at) 0 0 (a .p .spot .next)
 
 write-fresh-returns-2 : (t : ℕ) → write-fresh-lts.Need-returns-2 (write-fresh-known t) (write-fresh-at t) write-fresh.Post
 write-fresh-returns-2 t c =
-    let a = c .before .before .before .before .before .before .before .before .before .before .before .before .before .args in
-    let p = c .before .before .before .before .before .before .before .before .before .before .before .before .before .pre .1 in
+    let b = c .before .before .before .before .before .before .before .before .before .before .before .before in
+    let a = b .before .args in
+    let k = c .before .before .before .before .before .before .before .before .before .create in
+    let p = b .before .pre .1 in
     let same = c .before .before .before .body-part .ensures .0 in
-    let four = sym (length-set (a .p .names .numbers) (a .y .a) (a .p .spot .next)) ∙ sym (ap (λ (q : Part). length (q .names .numbers)) same)
+    let four = sym (length-set (a .p .names .numbers) (a .y .a) (a .p .spot .next)) ∙ sym (ap (λ (q : Part). length
+    (q .names .numbers)) same)
     ∙ c .before .before .before .body-part .ensures .1 in
     let r = c .before .before .write in
-    fresh-written (a .w) (a .rows .now) (a .nodes .now) (a .t .now) (a .p) (a .trace .now) (p .0) (a .y) (p .1) (c .before .before .before .before .before .before .before .before .before .create .result) (c .before .before .before .before .before .before .before .before .before .create .ensures .1) (c .before .before .before .before .before .before .before .before .before .create .last .0) (c .before .before .before .before .before .before .before .before .before .create .ensures .0) (c .before .before .before .before .before .if1 .left) four (r .result) (r .last .1 .1 .1 .1 .0)
-    (subst (λ (q : Part). PartWritten (a .w) (a .rows .now) (a .nodes .now) (a .t .now) q (c .before .before .before .before .before .before .before .before .before .create .last .0) (r .result)
+    fresh-written (a .w) (a .rows .now) (a .nodes .now) (a .t .now) (a .p) (a .trace .now) (p .0) (a .y) (p .1) (k .result)
+    (k .ensures .1) (k .last .0) (k .ensures .0) (c .before .before .before .before .before .if1 .left) four (r .result)
+    (r .last .1 .1 .1 .1 .0)
+    (subst (λ (q : Part). PartWritten (a .w) (a .rows .now) (a .nodes .now) (a .t .now) q (k .last .0) (r .result)
     (r .last .1 .1 .1 .1 .0)) same (r .ensures))
 
 -- ── `write_sandbox` ──
@@ -385,7 +432,8 @@ write-fresh-returns-2 t c =
 write-sandbox-cast-step : (t : ℕ) → write-sandbox-lts.Need-cast-step (write-sandbox-known t) (write-sandbox-at t) write-sandbox.Post
 write-sandbox-cast-step t c = search needs
 
-write-sandbox-step-requires : (t : ℕ) → write-sandbox-lts.Need-step-requires (write-sandbox-known t) (write-sandbox-at t) write-sandbox.Post
+write-sandbox-step-requires : (t : ℕ) → write-sandbox-lts.Need-step-requires (write-sandbox-known t)
+    (write-sandbox-at t) write-sandbox.Post
 write-sandbox-step-requires t c κs =
     let a = c .before .before .before .before .args in
     let p = c .before .before .before .before .pre .1 in
@@ -399,145 +447,231 @@ write-sandbox-same-length t c =
 write-sandbox-returns : (t : ℕ) → write-sandbox-lts.Need-returns (write-sandbox-known t) (write-sandbox-at t) write-sandbox.Post
 write-sandbox-returns t c =
     let a = c .before .before .before .before .before .before .before .before .before .args in
+    let k = c .before .before .before .before .step in
     let p = c .before .before .before .before .before .before .before .before .before .pre .1 in
-    opening-written (a .w) (a .rows .now) (a .nodes .now) (a .t .now) (a .p) (a .trace .now) (p .0) (a .y) (p .1) (c .before .before .before .before .step .result) (c .before .before .before .before .step .ensures .1) (c .before .before .before .before .step .last .0) (c .before .before .before .before .step .ensures .0) (c .if1 .taken)
+    opening-written (a .w) (a .rows .now) (a .nodes .now) (a .t .now) (a .p) (a .trace .now) (p .0) (a .y) (p .1) (k .result)
+    (k .ensures .1) (k .last .0) (k .ensures .0) (c .if1 .taken)
 
-write-sandbox-inner-part-requires : (t : ℕ) → write-sandbox-lts.Need-inner-part-requires (write-sandbox-known t) (write-sandbox-at t) write-sandbox.Post
-write-sandbox-inner-part-requires t c κs = c .before .before .before .before .before .before .before .before .before .before .before .before .pre .1 .1 .one
+write-sandbox-inner-part-requires : (t : ℕ) → write-sandbox-lts.Need-inner-part-requires (write-sandbox-known t)
+    (write-sandbox-at t) write-sandbox.Post
+write-sandbox-inner-part-requires t c κs =
+    c .before .before .before .before .before .before .before .before .before .before .before .before .pre .1 .1 .one
 
-write-sandbox-write-requires : (t : ℕ) → write-sandbox-lts.Need-write-requires (write-sandbox-known t) (write-sandbox-at t) write-sandbox.Post
+write-sandbox-write-requires : (t : ℕ) → write-sandbox-lts.Need-write-requires (write-sandbox-known t)
+    (write-sandbox-at t) write-sandbox.Post
 write-sandbox-write-requires t c κs =
-    let a = c .before .before .before .before .before .before .before .before .before .before .before .before .before .args in
-    let p = c .before .before .before .before .before .before .before .before .before .before .before .before .before .pre .1 in
+    let b = c .before .before .before .before .before .before .before .before .before .before .before .before in
+    let a = b .before .args in
+    let k = c .before .before .before .before .before .before .before .before .step in
+    let p = b .before .pre .1 in
     let one = p .1 .one in
     let same = c .inner-part .ensures in
     let n = ap (λ (q : Part). q .steps) same in
-    let m = c .before .before .before .before .before .before .before .before .before .before .before .before .before .pre .0 in
-    (omega arith, subst (λ (q : Part). Room (a .nodes .now) q (c .before .before .before .before .before .before .before .before .step .last .0)) (sym same) (inside-room (a .w) (a .rows .now) (a .nodes .now) (a .t .now) (a .p) (a .trace .now) (p .0) (a .y) (p .1) (c .before .before .before .before .before .before .before .before .step .result) (c .before .before .before .before .before .before .before .before .step .ensures .1) (c .before .before .before .before .before .before .before .before .step .last .0) (c .before .before .before .before .before .before .before .before .step .ensures .0) 1 (lit≤ tt) one))
+    let m = b .before .pre .0 in (
+      omega arith,
+      subst (λ (q : Part). Room (a .nodes .now) q (k .last .0)) (sym same) (inside-room (a .w) (a .rows .now)
+          (a .nodes .now) (a .t .now) (a .p) (a .trace .now) (p .0) (a .y) (p .1) (k .result) (k .ensures .1) (k .last .0) (k .ensures .0) 1
+          (lit≤ tt) one),
+    )
 
-write-sandbox-same-length-2 : (t : ℕ) → write-sandbox-lts.Need-same-length-2 (write-sandbox-known t) (write-sandbox-at t) write-sandbox.Post
+write-sandbox-same-length-2 : (t : ℕ) → write-sandbox-lts.Need-same-length-2 (write-sandbox-known t)
+    (write-sandbox-at t) write-sandbox.Post
 write-sandbox-same-length-2 t c =
-    let a = c .before .before .before .before .before .before .before .before .before .before .before .before .before .before .before .before .args in
-    c .before .before .write .ensures .length-kept ∙ ap length (c .before .before .before .before .before .before .before .before .before .before .before .step .ensures .0) ∙ stored-length (a .trace .now) (a .p .spot .at) 1 (a .y .a) 0
+    let b = c .before .before .before .before .before .before .before .before .before .before .before .before in
+    let a = b .before .before .before .before .args in
+    c .before .before .write .ensures .length-kept ∙ ap length
+    (c .before .before .before .before .before .before .before .before .before .before .before .step .ensures .0) ∙ stored-length
+    (a .trace .now) (a .p .spot .at) 1 (a .y .a) 0
 
 write-sandbox-returns-2 : (t : ℕ) → write-sandbox-lts.Need-returns-2 (write-sandbox-known t) (write-sandbox-at t) write-sandbox.Post
 write-sandbox-returns-2 t c =
-    let a = c .before .before .before .before .before .before .before .before .before .before .before .before .before .before .before .before .args in
-    let p = c .before .before .before .before .before .before .before .before .before .before .before .before .before .before .before .before .pre .1 in
+    let b = c .before .before .before .before .before .before .before .before .before .before .before .before in
+    let a = b .before .before .before .before .args in
+    let k = c .before .before .before .before .before .before .before .before .before .before .before .step in
+    let p = b .before .before .before .before .pre .1 in
     let r = c .before .before .write in
-    inside-written (a .w) (a .rows .now) (a .nodes .now) (a .t .now) (a .p) (a .trace .now) (p .0) (a .y) (p .1) (c .before .before .before .before .before .before .before .before .before .before .before .step .result) (c .before .before .before .before .before .before .before .before .before .before .before .step .ensures .1) (c .before .before .before .before .before .before .before .before .before .before .before .step .last .0) (c .before .before .before .before .before .before .before .before .before .before .before .step .ensures .0) (none-below _ (c .before .before .before .before .before .before .before .if1 .left)) (c .before .before .before .before .before .if2 .taken) (r .result) (r .last .1 .1 .1 .1 .0)
-    (subst (λ (q : Part). PartWritten (a .w) (a .rows .now) (a .nodes .now) (a .t .now) q (c .before .before .before .before .before .before .before .before .before .before .before .step .last .0) (r .result)
+    inside-written (a .w) (a .rows .now) (a .nodes .now) (a .t .now) (a .p) (a .trace .now) (p .0) (a .y) (p .1) (k .result)
+    (k .ensures .1) (k .last .0) (k .ensures .0) (none-below _ (c .before .before .before .before .before .before .before .if1 .left))
+    (c .before .before .before .before .before .if2 .taken) (r .result) (r .last .1 .1 .1 .1 .0)
+    (subst (λ (q : Part). PartWritten (a .w) (a .rows .now) (a .nodes .now) (a .t .now) q (k .last .0) (r .result)
     (r .last .1 .1 .1 .1 .0)) (c .before .before .before .inner-part .ensures) (r .ensures))
 
-write-sandbox-inner-part-requires-2 : (t : ℕ) → write-sandbox-lts.Need-inner-part-requires-2 (write-sandbox-known t) (write-sandbox-at t) write-sandbox.Post
+write-sandbox-inner-part-requires-2 : (t : ℕ) → write-sandbox-lts.Need-inner-part-requires-2 (write-sandbox-known t)
+    (write-sandbox-at t) write-sandbox.Post
 write-sandbox-inner-part-requires-2 t c κs =
     let a = c .before .before .before .before .before .before .before .before .before .before .before .before .args in
+    let k = c .before .before .before .before .before .before .before .step in
     let p = c .before .before .before .before .before .before .before .before .before .before .before .before .pre .1 in
-    two-steps (a .w) (a .rows .now) (a .nodes .now) (a .t .now) (a .p) (a .trace .now) (p .0) (a .y) (p .1) (c .before .before .before .before .before .before .before .step .result) (c .before .before .before .before .before .before .before .step .ensures .1) (c .before .before .before .before .before .before .before .step .last .0) (c .before .before .before .before .before .before .before .step .ensures .0) (none-below _ (c .before .before .before .if1 .left)) (c .before .if2 .left)
+    two-steps (a .w) (a .rows .now) (a .nodes .now) (a .t .now) (a .p) (a .trace .now) (p .0) (a .y) (p .1) (k .result) (k .ensures .1)
+    (k .last .0) (k .ensures .0) (none-below _ (c .before .before .before .if1 .left)) (c .before .if2 .left)
 
-write-sandbox-write-requires-2 : (t : ℕ) → write-sandbox-lts.Need-write-requires-2 (write-sandbox-known t) (write-sandbox-at t) write-sandbox.Post
+write-sandbox-write-requires-2 : (t : ℕ) → write-sandbox-lts.Need-write-requires-2 (write-sandbox-known t)
+    (write-sandbox-at t) write-sandbox.Post
 write-sandbox-write-requires-2 t c κs =
-    let a = c .before .before .before .before .before .before .before .before .before .before .before .before .before .args in
-    let p = c .before .before .before .before .before .before .before .before .before .before .before .before .before .pre .1 in
-    let two = two-steps (a .w) (a .rows .now) (a .nodes .now) (a .t .now) (a .p) (a .trace .now) (p .0) (a .y) (p .1) (c .before .before .before .before .before .before .before .before .step .result) (c .before .before .before .before .before .before .before .before .step .ensures .1) (c .before .before .before .before .before .before .before .before .step .last .0) (c .before .before .before .before .before .before .before .before .step .ensures .0) (none-below _ (c .before .before .before .before .if1 .left)) (c .before .before .if2 .left) in
+    let b = c .before .before .before .before .before .before .before .before .before .before .before .before in
+    let a = b .before .args in
+    let k = c .before .before .before .before .before .before .before .before .step in
+    let p = b .before .pre .1 in
+    let two = two-steps (a .w) (a .rows .now) (a .nodes .now) (a .t .now) (a .p) (a .trace .now) (p .0) (a .y) (p .1) (k .result)
+    (k .ensures .1) (k .last .0) (k .ensures .0) (none-below _ (c .before .before .before .before .if1 .left))
+    (c .before .before .if2 .left) in
     let same = c .inner-part2 .ensures in
     let n = ap (λ (q : Part). q .steps) same in
-    let m = c .before .before .before .before .before .before .before .before .before .before .before .before .before .pre .0 in
-    (omega arith, subst (λ (q : Part). Room (a .nodes .now) q (c .before .before .before .before .before .before .before .before .step .last .0)) (sym same) (inside-room (a .w) (a .rows .now) (a .nodes .now) (a .t .now) (a .p) (a .trace .now) (p .0) (a .y) (p .1) (c .before .before .before .before .before .before .before .before .step .result) (c .before .before .before .before .before .before .before .before .step .ensures .1) (c .before .before .before .before .before .before .before .before .step .last .0) (c .before .before .before .before .before .before .before .before .step .ensures .0) 2 (lit≤ tt) two))
+    let m = b .before .pre .0 in (
+      omega arith,
+      subst (λ (q : Part). Room (a .nodes .now) q (k .last .0)) (sym same) (inside-room (a .w) (a .rows .now)
+          (a .nodes .now) (a .t .now) (a .p) (a .trace .now) (p .0) (a .y) (p .1) (k .result) (k .ensures .1) (k .last .0) (k .ensures .0) 2
+          (lit≤ tt) two),
+    )
 
 write-sandbox-cast-step-2 : (t : ℕ) → write-sandbox-lts.Need-cast-step-2 (write-sandbox-known t) (write-sandbox-at t) write-sandbox.Post
 write-sandbox-cast-step-2 t c = search needs
 
-write-sandbox-step-requires-2 : (t : ℕ) → write-sandbox-lts.Need-step-requires-2 (write-sandbox-known t) (write-sandbox-at t) write-sandbox.Post
+write-sandbox-step-requires-2 : (t : ℕ) → write-sandbox-lts.Need-step-requires-2 (write-sandbox-known t)
+    (write-sandbox-at t) write-sandbox.Post
 write-sandbox-step-requires-2 t c κs =
-    let a = c .before .before .before .before .before .before .before .before .before .before .before .before .before .before .before .before .before .before .args in
-    let p = c .before .before .before .before .before .before .before .before .before .before .before .before .before .before .before .before .before .before .pre .1 in
+    let b = c .before .before .before .before .before .before .before .before .before .before .before .before in
+    let a = b .before .before .before .before .before .before .args in
+    let k = b .before .step in
+    let p = b .before .before .before .before .before .before .pre .1 in
     let r = c .before .before .before .before .write2 in
-    closing-room (a .w) (a .rows .now) (a .nodes .now) (a .t .now) (a .p) (a .trace .now) (p .0) (a .y) (p .1) (c .before .before .before .before .before .before .before .before .before .before .before .before .before .step .result) (c .before .before .before .before .before .before .before .before .before .before .before .before .before .step .ensures .1) (c .before .before .before .before .before .before .before .before .before .before .before .before .before .step .last .0) (c .before .before .before .before .before .before .before .before .before .before .before .before .before .step .ensures .0) (none-below _ (c .before .before .before .before .before .before .before .before .before .if1 .left)) (c .before .before .before .before .before .before .before .if2 .left) (r .result) (r .last .1 .1 .1 .1 .0)
-    (subst (λ (q : Part). PartWritten (a .w) (a .rows .now) (a .nodes .now) (a .t .now) q (c .before .before .before .before .before .before .before .before .before .before .before .before .before .step .last .0) (r .result)
+    closing-room (a .w) (a .rows .now) (a .nodes .now) (a .t .now) (a .p) (a .trace .now) (p .0) (a .y) (p .1) (k .result)
+    (k .ensures .1) (k .last .0) (k .ensures .0) (none-below _
+    (c .before .before .before .before .before .before .before .before .before .if1 .left))
+    (c .before .before .before .before .before .before .before .if2 .left) (r .result) (r .last .1 .1 .1 .1 .0)
+    (subst (λ (q : Part). PartWritten (a .w) (a .rows .now) (a .nodes .now) (a .t .now) q (k .last .0) (r .result)
     (r .last .1 .1 .1 .1 .0)) (c .before .before .before .before .before .inner-part2 .ensures) (r .ensures))
 
-write-sandbox-same-length-3 : (t : ℕ) → write-sandbox-lts.Need-same-length-3 (write-sandbox-known t) (write-sandbox-at t) write-sandbox.Post
+write-sandbox-same-length-3 : (t : ℕ) → write-sandbox-lts.Need-same-length-3 (write-sandbox-known t)
+    (write-sandbox-at t) write-sandbox.Post
 write-sandbox-same-length-3 t c =
-    let a = c .before .before .before .before .before .before .before .before .before .before .before .before .before .before .before .before .before .before .before .before .before .args in
+    let b = c .before .before .before .before .before .before .before .before .before .before .before .before in
+    let a = b .before .before .before .before .before .before .before .before .before .args in
     let r = c .before .before .before .before .before .before .before .write2 in
-    ap length (c .before .before .step2 .ensures .0) ∙ stored-length (r .last .1 .1 .1 .1 .0) (r .result .at) 2 (a .y .a) 0 ∙ r .ensures .length-kept
-    ∙ ap length (c .before .before .before .before .before .before .before .before .before .before .before .before .before .before .before .before .step .ensures .0) ∙ stored-length (a .trace .now) (a .p .spot .at) 1 (a .y .a) 0
+    ap length (c .before .before .step2 .ensures .0) ∙ stored-length (r .last .1 .1 .1 .1 .0) (r .result .at) 2 (a .y .a) 0
+    ∙ r .ensures .length-kept
+    ∙ ap length (b .before .before .before .before .step .ensures .0) ∙ stored-length (a .trace .now) (a .p .spot .at) 1 (a .y .a) 0
 
 write-sandbox-returns-3 : (t : ℕ) → write-sandbox-lts.Need-returns-3 (write-sandbox-known t) (write-sandbox-at t) write-sandbox.Post
 write-sandbox-returns-3 t c =
-    let a = c .before .before .before .before .before .before .before .before .before .before .before .before .before .before .before .before .before .before .before .before .before .args in
-    let p = c .before .before .before .before .before .before .before .before .before .before .before .before .before .before .before .before .before .before .before .before .before .pre .1 in
+    let b = c .before .before .before .before .before .before .before .before .before .before .before .before in
+    let a = b .before .before .before .before .before .before .before .before .before .args in
+    let k = b .before .before .before .before .step in
+    let p = b .before .before .before .before .before .before .before .before .before .pre .1 in
     let r = c .before .before .before .before .before .before .before .write2 in
-    sandbox-written (a .w) (a .rows .now) (a .nodes .now) (a .t .now) (a .p) (a .trace .now) (p .0) (a .y) (p .1) (c .before .before .before .before .before .before .before .before .before .before .before .before .before .before .before .before .step .result) (c .before .before .before .before .before .before .before .before .before .before .before .before .before .before .before .before .step .ensures .1) (c .before .before .before .before .before .before .before .before .before .before .before .before .before .before .before .before .step .last .0) (c .before .before .before .before .before .before .before .before .before .before .before .before .before .before .before .before .step .ensures .0) (none-below _ (c .before .before .before .before .before .before .before .before .before .before .before .before .if1 .left)) (c .before .before .before .before .before .before .before .before .before .before .if2 .left) (r .result) (r .last .1 .1 .1 .1 .0)
-    (subst (λ (q : Part). PartWritten (a .w) (a .rows .now) (a .nodes .now) (a .t .now) q (c .before .before .before .before .before .before .before .before .before .before .before .before .before .before .before .before .step .last .0) (r .result)
-    (r .last .1 .1 .1 .1 .0)) (c .before .before .before .before .before .before .before .before .inner-part2 .ensures) (r .ensures)) (c .before .before .step2 .result) (c .before .before .step2 .ensures .1) (c .before .before .step2 .last .0) (c .before .before .step2 .ensures .0)
+    sandbox-written (a .w) (a .rows .now) (a .nodes .now) (a .t .now) (a .p) (a .trace .now) (p .0) (a .y) (p .1) (k .result)
+    (k .ensures .1) (k .last .0) (k .ensures .0) (none-below _ (b .if1 .left))
+    (c .before .before .before .before .before .before .before .before .before .before .if2 .left) (r .result) (r .last .1 .1 .1 .1 .0)
+    (subst (λ (q : Part). PartWritten (a .w) (a .rows .now) (a .nodes .now) (a .t .now) q (k .last .0) (r .result)
+    (r .last .1 .1 .1 .1 .0)) (c .before .before .before .before .before .before .before .before .inner-part2 .ensures) (r .ensures))
+    (c .before .before .step2 .result) (c .before .before .step2 .ensures .1) (c .before .before .step2 .last .0)
+    (c .before .before .step2 .ensures .0)
 
 -- ── `write_sequence` ──
 
-write-sequence-first-requires : (t : ℕ) → write-sequence-lts.Need-first-requires (write-sequence-known t) (write-sequence-at t) write-sequence.Post
+write-sequence-first-requires : (t : ℕ) → write-sequence-lts.Need-first-requires (write-sequence-known t)
+    (write-sequence-at t) write-sequence.Post
 write-sequence-first-requires t c κs = search needs
 
-write-sequence-get-requires : (t : ℕ) → write-sequence-lts.Need-get-requires (write-sequence-known t) (write-sequence-at t) write-sequence.Post
+write-sequence-get-requires : (t : ℕ) → write-sequence-lts.Need-get-requires (write-sequence-known t)
+    (write-sequence-at t) write-sequence.Post
 write-sequence-get-requires t c κs = search needs
 
-write-sequence-first-part-requires : (t : ℕ) → write-sequence-lts.Need-first-part-requires (write-sequence-known t) (write-sequence-at t) write-sequence.Post
+write-sequence-first-part-requires : (t : ℕ) → write-sequence-lts.Need-first-part-requires (write-sequence-known t)
+    (write-sequence-at t) write-sequence.Post
 write-sequence-first-part-requires t c κs = search needs
 
-write-sequence-write-requires : (t : ℕ) → write-sequence-lts.Need-write-requires (write-sequence-known t) (write-sequence-at t) write-sequence.Post
+write-sequence-write-requires : (t : ℕ) → write-sequence-lts.Need-write-requires (write-sequence-known t)
+    (write-sequence-at t) write-sequence.Post
 write-sequence-write-requires t c κs =
     let a = c .before .before .before .before .before .before .args in
+    let g = c .before .before .get in
     let p = c .before .before .before .before .before .before .pre .1 in
-    let l = first-fewer (a .w) (a .rows .now) (a .nodes .now) (a .t .now) (a .p) (a .trace .now) (p .0) (a .y) (p .1) (c .before .before .get .result) (c .before .before .get .ensures ∙ ap (held (a .t .now) (a .p .steps)) (c .before .before .before .first .ensures)) in
+    let l = first-fewer (a .w) (a .rows .now) (a .nodes .now) (a .t .now) (a .p) (a .trace .now) (p .0) (a .y) (p .1) (g .result)
+    (g .ensures ∙ ap (held (a .t .now) (a .p .steps)) (c .before .before .before .first .ensures)) in
     let same = c .first-part .ensures in
     let n = ap (λ (q : Part). q .steps) same in
-    let m = c .before .before .before .before .before .before .pre .0 in
-    (omega arith, subst (λ (q : Part). Room (a .nodes .now) q (a .trace .now)) (sym same) (first-room (a .w) (a .rows .now) (a .nodes .now) (a .t .now) (a .p) (a .trace .now) (p .0) (a .y) (p .1) (c .before .before .get .result) (c .before .before .get .ensures ∙ ap (held (a .t .now) (a .p .steps)) (c .before .before .before .first .ensures))))
+    let m = c .before .before .before .before .before .before .pre .0 in (
+      omega arith,
+      subst (λ (q : Part). Room (a .nodes .now) q (a .trace .now)) (sym same) (first-room (a .w) (a .rows .now)
+          (a .nodes .now) (a .t .now) (a .p) (a .trace .now) (p .0) (a .y) (p .1) (g .result) (g .ensures ∙ ap (held (a .t .now)
+          (a .p .steps)) (c .before .before .before .first .ensures))),
+    )
 
-write-sequence-second-part-requires : (t : ℕ) → write-sequence-lts.Need-second-part-requires (write-sequence-known t) (write-sequence-at t) write-sequence.Post
+write-sequence-second-part-requires : (t : ℕ) → write-sequence-lts.Need-second-part-requires (write-sequence-known t)
+    (write-sequence-at t) write-sequence.Post
 write-sequence-second-part-requires t c κs =
     let a = c .before .before .before .before .before .before .before .before .before .before .args in
+    let g = c .before .before .before .before .before .before .get in
     let p = c .before .before .before .before .before .before .before .before .before .before .pre .1 in
-    let l = first-fewer (a .w) (a .rows .now) (a .nodes .now) (a .t .now) (a .p) (a .trace .now) (p .0) (a .y) (p .1) (c .before .before .before .before .before .before .get .result) (c .before .before .before .before .before .before .get .ensures ∙ ap (held (a .t .now) (a .p .steps)) (c .before .before .before .before .before .before .before .first .ensures)) in
+    let l = first-fewer (a .w) (a .rows .now) (a .nodes .now) (a .t .now) (a .p) (a .trace .now) (p .0) (a .y) (p .1) (g .result)
+    (g .ensures ∙ ap (held (a .t .now) (a .p .steps)) (c .before .before .before .before .before .before .before .first .ensures)) in
     omega arith
 
-write-sequence-write-requires-2 : (t : ℕ) → write-sequence-lts.Need-write-requires-2 (write-sequence-known t) (write-sequence-at t) write-sequence.Post
+write-sequence-write-requires-2 : (t : ℕ) → write-sequence-lts.Need-write-requires-2 (write-sequence-known t)
+    (write-sequence-at t) write-sequence.Post
 write-sequence-write-requires-2 t c κs =
     let a = c .before .before .before .before .before .before .before .before .before .before .before .args in
+    let g = c .before .before .before .before .before .before .before .get in
+    let u = c .before .before .before .before .write in
     let p = c .before .before .before .before .before .before .before .before .before .before .before .pre .1 in
-    let l = second-fewer (a .w) (a .rows .now) (a .nodes .now) (a .t .now) (a .p) (a .trace .now) (p .0) (a .y) (p .1) (c .before .before .before .before .before .before .before .get .result) (c .before .before .before .before .before .before .before .get .ensures ∙ ap (held (a .t .now) (a .p .steps)) (c .before .before .before .before .before .before .before .before .first .ensures)) in
+    let l = second-fewer (a .w) (a .rows .now) (a .nodes .now) (a .t .now) (a .p) (a .trace .now) (p .0) (a .y) (p .1) (g .result)
+    (g .ensures ∙ ap (held (a .t .now) (a .p .steps))
+    (c .before .before .before .before .before .before .before .before .first .ensures)) in
     let same = c .second-part .ensures in
     let n = ap (λ (q : Part). q .steps) same in
     let m = c .before .before .before .before .before .before .before .before .before .before .before .pre .0 in (
       omega arith,
-      subst (λ (q : Part). Room (a .nodes .now) q (c .before .before .before .before .write .last .1 .1 .1 .1 .0)) (sym same)
-          (second-room (a .w) (a .rows .now) (a .nodes .now) (a .t .now) (a .p) (a .trace .now) (p .0) (a .y) (p .1) (c .before .before .before .before .before .before .before .get .result) (c .before .before .before .before .before .before .before .get .ensures ∙ ap (held (a .t .now) (a .p .steps)) (c .before .before .before .before .before .before .before .before .first .ensures)) (c .before .before .before .before .write .result) (c .before .before .before .before .write .last .1 .1 .1 .1 .0)
-          (subst (λ (q : Part). PartWritten (a .w) (a .rows .now) (a .nodes .now) (a .t .now) q (a .trace .now) (c .before .before .before .before .write .result)
-          (c .before .before .before .before .write .last .1 .1 .1 .1 .0)) (c .before .before .before .before .before .first-part .ensures) (c .before .before .before .before .write .ensures))),
+      subst (λ (q : Part). Room (a .nodes .now) q (u .last .1 .1 .1 .1 .0)) (sym same)
+          (second-room (a .w) (a .rows .now) (a .nodes .now) (a .t .now) (a .p) (a .trace .now) (p .0) (a .y) (p .1) (g .result) (g .ensures
+          ∙ ap (held (a .t .now) (a .p .steps)) (c .before .before .before .before .before .before .before .before .first .ensures))
+          (u .result) (u .last .1 .1 .1 .1 .0)
+          (subst (λ (q : Part). PartWritten (a .w) (a .rows .now) (a .nodes .now) (a .t .now) q (a .trace .now) (u .result)
+          (u .last .1 .1 .1 .1 .0)) (c .before .before .before .before .before .first-part .ensures) (u .ensures))),
     )
 
-write-sequence-same-length : (t : ℕ) → write-sequence-lts.Need-same-length (write-sequence-known t) (write-sequence-at t) write-sequence.Post
-write-sequence-same-length t c = c .before .before .write2 .ensures .length-kept ∙ c .before .before .before .before .before .before .before .write .ensures .length-kept
+write-sequence-same-length : (t : ℕ) → write-sequence-lts.Need-same-length (write-sequence-known t)
+    (write-sequence-at t) write-sequence.Post
+write-sequence-same-length t c = c .before .before .write2 .ensures .length-kept
+    ∙ c .before .before .before .before .before .before .before .write .ensures .length-kept
 
 write-sequence-returns : (t : ℕ) → write-sequence-lts.Need-returns (write-sequence-known t) (write-sequence-at t) write-sequence.Post
 write-sequence-returns t c =
-    let a = c .before .before .before .before .before .before .before .before .before .before .before .before .before .before .args in
-    let p = c .before .before .before .before .before .before .before .before .before .before .before .before .before .before .pre .1 in
+    let b = c .before .before .before .before .before .before .before .before .before .before .before .before in
+    let a = b .before .before .args in
+    let g = c .before .before .before .before .before .before .before .before .before .before .get in
+    let u = c .before .before .before .before .before .before .before .write in
+    let p = b .before .before .pre .1 in
     let r = c .before .before .write2 in
-    sequence-written (a .w) (a .rows .now) (a .nodes .now) (a .t .now) (a .p) (a .trace .now) (p .0) (a .y) (p .1) (c .before .before .before .before .before .before .before .before .before .before .get .result) (c .before .before .before .before .before .before .before .before .before .before .get .ensures ∙ ap (held (a .t .now) (a .p .steps)) (c .before .before .before .before .before .before .before .before .before .before .before .first .ensures)) (c .before .before .before .before .before .before .before .write .result) (c .before .before .before .before .before .before .before .write .last .1 .1 .1 .1 .0)
-    (subst (λ (q : Part). PartWritten (a .w) (a .rows .now) (a .nodes .now) (a .t .now) q (a .trace .now) (c .before .before .before .before .before .before .before .write .result)
-    (c .before .before .before .before .before .before .before .write .last .1 .1 .1 .1 .0)) (c .before .before .before .before .before .before .before .before .first-part .ensures) (c .before .before .before .before .before .before .before .write .ensures)) (r .result) (r .last .1 .1 .1 .1 .0)
-    (subst (λ (q : Part). PartWritten (a .w) (a .rows .now) (a .nodes .now) (a .t .now) q (c .before .before .before .before .before .before .before .write .last .1 .1 .1 .1 .0) (r .result)
+    sequence-written (a .w) (a .rows .now) (a .nodes .now) (a .t .now) (a .p) (a .trace .now) (p .0) (a .y) (p .1) (g .result)
+    (g .ensures ∙ ap (held (a .t .now) (a .p .steps))
+    (c .before .before .before .before .before .before .before .before .before .before .before .first .ensures)) (u .result)
+    (u .last .1 .1 .1 .1 .0)
+    (subst (λ (q : Part). PartWritten (a .w) (a .rows .now) (a .nodes .now) (a .t .now) q (a .trace .now) (u .result)
+    (u .last .1 .1 .1 .1 .0)) (c .before .before .before .before .before .before .before .before .first-part .ensures) (u .ensures))
+    (r .result) (r .last .1 .1 .1 .1 .0)
+    (subst (λ (q : Part). PartWritten (a .w) (a .rows .now) (a .nodes .now) (a .t .now) q (u .last .1 .1 .1 .1 .0) (r .result)
     (r .last .1 .1 .1 .1 .0)) (c .before .before .before .second-part .ensures) (r .ensures))
 
 pub +write+write-fresh+write-sandbox+write-sequence-spec : {M : Type 1} → statement M
 +write+write-fresh+write-sandbox+write-sequence-spec =
     close μ-write μ-write-fresh μ-write-sandbox μ-write-sequence
     (λ t. write-lts.spec (write-known t) (write-at t) write.Post
-    (write-returns t) (write-find-requires t) (write-enum-known-o t) (write-enum-told t) (write-returns-2 t) (write-form-requires t) (write-enum-known-f t) (write-cast-step t) (write-cast-step-2 t) (write-step-requires t) (write-enum-known-f-2 t) (write-cast-step-3 t) (write-name-requires t) (write-step-requires-2 t) (write-enum-known-f-3 t) (write-write-sequence-requires t) (write-enum-known-f-4 t) (write-write-fresh-requires t) (write-enum-known-f-5 t) (write-write-sandbox-requires t) (write-same-length t) (write-returns-3 t) (write-same-length-2 t) (write-returns-4 t) (write-same-length-3 t) (write-returns-5 t) (write-same-length-4 t) (write-returns-6 t) (write-same-length-5 t) (write-returns-7 t) (write-returns-8 t))
+    (write-returns t) (write-find-requires t) (write-enum-known-o t) (write-enum-told t) (write-returns-2 t) (write-form-requires t)
+    (write-enum-known-f t) (write-cast-step t) (write-cast-step-2 t) (write-step-requires t) (write-enum-known-f-2 t)
+    (write-cast-step-3 t) (write-name-requires t) (write-step-requires-2 t) (write-enum-known-f-3 t) (write-write-sequence-requires t)
+    (write-enum-known-f-4 t) (write-write-fresh-requires t) (write-enum-known-f-5 t) (write-write-sandbox-requires t)
+    (write-same-length t) (write-returns-3 t) (write-same-length-2 t) (write-returns-4 t) (write-same-length-3 t) (write-returns-5 t)
+    (write-same-length-4 t) (write-returns-6 t) (write-same-length-5 t) (write-returns-7 t) (write-returns-8 t))
     (λ t. write-fresh-lts.spec (write-fresh-known t) (write-fresh-at t) write-fresh.Post
-    (write-fresh-create-requires t) (write-fresh-same-length t) (write-fresh-returns t) (write-fresh-body-part-requires t) (write-fresh-write-requires t) (write-fresh-same-length-2 t) (write-fresh-returns-2 t))
+    (write-fresh-create-requires t) (write-fresh-same-length t) (write-fresh-returns t) (write-fresh-body-part-requires t)
+    (write-fresh-write-requires t) (write-fresh-same-length-2 t) (write-fresh-returns-2 t))
     (λ t. write-sandbox-lts.spec (write-sandbox-known t) (write-sandbox-at t) write-sandbox.Post
-    (write-sandbox-cast-step t) (write-sandbox-step-requires t) (write-sandbox-same-length t) (write-sandbox-returns t) (write-sandbox-inner-part-requires t) (write-sandbox-write-requires t) (write-sandbox-same-length-2 t) (write-sandbox-returns-2 t) (write-sandbox-inner-part-requires-2 t) (write-sandbox-write-requires-2 t) (write-sandbox-cast-step-2 t) (write-sandbox-step-requires-2 t) (write-sandbox-same-length-3 t) (write-sandbox-returns-3 t))
+    (write-sandbox-cast-step t) (write-sandbox-step-requires t) (write-sandbox-same-length t) (write-sandbox-returns t)
+    (write-sandbox-inner-part-requires t) (write-sandbox-write-requires t) (write-sandbox-same-length-2 t) (write-sandbox-returns-2 t)
+    (write-sandbox-inner-part-requires-2 t) (write-sandbox-write-requires-2 t) (write-sandbox-cast-step-2 t)
+    (write-sandbox-step-requires-2 t) (write-sandbox-same-length-3 t) (write-sandbox-returns-3 t))
     (λ t. write-sequence-lts.spec (write-sequence-known t) (write-sequence-at t) write-sequence.Post
-    (write-sequence-first-requires t) (write-sequence-get-requires t) (write-sequence-first-part-requires t) (write-sequence-write-requires t) (write-sequence-second-part-requires t) (write-sequence-write-requires-2 t) (write-sequence-same-length t) (write-sequence-returns t))
+    (write-sequence-first-requires t) (write-sequence-get-requires t) (write-sequence-first-part-requires t)
+    (write-sequence-write-requires t) (write-sequence-second-part-requires t) (write-sequence-write-requires-2 t)
+    (write-sequence-same-length t) (write-sequence-returns t))
