@@ -1,4 +1,4 @@
-# shellcheck shell=sh disable=SC2034,SC2154
+# shellcheck shell=sh disable=SC2034,SC2086,SC2154
 # The summary of an outline, for ./wiforekun, which reads this file and has the functions that it uses.
 mark_names='policy action'
 
