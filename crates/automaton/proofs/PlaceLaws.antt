@@ -5,16 +5,19 @@ use mathlib.Core.Path.{_≡_, refl, sym, ap, subst, _∙_}
 use mathlib.Core.Bool.{Bool, true, false, not, _&&_, cond}
 use mathlib.Core.List.{List, [], _∷_}
 use mathlib.Core.Logic.{_↔_}
+use mathlib.Core.Option.{Option, some, Option·some-injective}
 use lib.Dec.{eqb}
 use borrow.Author.Tests.{eq-eqb, eqb-true}
 use Rattle.usage.specs.declared.Edge.{Edge}
 use Rattle.usage.specs.Limits.{states}
 use Rattle.usage.specs.Policy.{Place, Moves}
 use Rattle.usage.specs.Past.{event, Past}
-use Rattle.usage.proofs.Logic.{false-true, and-left, and-right, and-both}
-use Rattle.usage.proofs.PlacedLaws.{At, SeesAt, named, own, other, second, Alone, at-event}
+use Rattle.usage.proofs.Logic.{none-some, false-true, and-left, and-right, and-both}
+use Rattle.usage.specs.Placed.{At}
+use Rattle.usage.proofs.PlacedLaws.{SeesAt, named, own, other, second, Alone, at-event}
 use Rattle.automaton.specs.Mask.{has}
-use Rattle.automaton.specs.Move.{move, labelled, labelledAt, firesAt}
+use Rattle.automaton.specs.Move.{move, labelled, fires, labelledAt, firesAt, moveMask}
+use Rattle.automaton.proofs.SameLaws.{move-same}
 use Rattle.automaton.proofs.MoveLaws.{Ends, Matches, moved-found, moved-at, moves-lt}
 
 -- with one place, these are the labels of `labelled`
@@ -25,11 +28,28 @@ labelled-one (suc (suc zero)) who mine r = refl
 labelled-one (suc (suc (suc zero))) who mine r = refl
 labelled-one (suc (suc (suc (suc k)))) who mine r = refl
 
+fires-one : (p a r : ℕ) (mine : Bool) (e : Edge) → firesAt p a r mine false e ≡ fires p a r mine e
+fires-one p a r mine e =
+    ap (λ (b : Bool). (eqb (e .policy) p && eqb (e .action) a) && b) (labelled-one (e .on) (e .who) mine r)
+
+pub moved-one : (es : List Edge) (p a r : ℕ) (mine : Bool) (m : ℕ) → move (firesAt p a r mine false) es m ≡ moveMask es p a r mine m
+unfolding moveMask
+moved-one es p a r mine m = move-same (firesAt p a r mine false) (fires p a r mine) es (λ e k. fires-one p a r mine e) m
+
 -- the two tests say whether the first and the second place is i, and there are no more
 pub record Seats (places : List ℕ) (i : ℕ) (first last : Bool) : Type 0 where
   pub is-first : (first ≡ true) ↔ Place places 0 i
   pub is-second : (last ≡ true) ↔ Place places 1 i
   pub no-more : (j : ℕ) → Place places (suc (suc j)) i → ⊥
+
+seat : (j i : ℕ) → (eqb j i ≡ true) ↔ (some j ≡ some i)
+seat j i = (λ e. ap {B = Option ℕ} some (eqb-true j i e), λ e. eq-eqb j i (Option·some-injective j i e))
+
+pub one-seat : (j i : ℕ) → Seats (j ∷ []) i (eqb j i) false
+one-seat j i = record { is-first = seat j i; is-second = (λ e. false-true e, λ e. none-some e); no-more = λ k e. none-some e }
+
+pub two-seats : (j k i : ℕ) → Seats (j ∷ k ∷ []) i (eqb j i) (eqb k i)
+two-seats j k i = record { is-first = seat j i; is-second = seat k i; no-more = λ l e. none-some e }
 
 nowhere : (places : List ℕ) (i : ℕ) → Seats places i false false → (j : ℕ) → Place places j i → ⊥
 nowhere places i s zero h = false-true (s .is-first .1 h)

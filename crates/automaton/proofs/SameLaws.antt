@@ -26,7 +26,7 @@ image-same : (f g : Edge → Bool) (es : List Edge) → Agree f g es → (q : �
 unfolding image
 image-same f g es h q = ap (λ (n : ℕ). cond (eqb n 0) (single q) n) (targets-same f g es h q)
 
-move-same : (f g : Edge → Bool) (es : List Edge) → Agree f g es → (m : ℕ) → move f es m ≡ move g es m
+pub move-same : (f g : Edge → Bool) (es : List Edge) → Agree f g es → (m : ℕ) → move f es m ≡ move g es m
 unfolding move
 move-same f g es h m =
     union-ext states (λ q. cond (has m q) (image f es q) 0) (λ q. cond (has m q) (image g es q) 0)

@@ -3,25 +3,27 @@ use Prim.Native.Nat.{ℕ, _<_, _≤_}
 use mathlib.Core.Path.{_≡_, refl, sym, ap, _∙_, subst}
 use mathlib.Core.Bool.{Bool, true, false, _&&_, _||_}
 use mathlib.Core.List.{List, [], _∷_}
-use mathlib.Core.Logic.{_⊎_, inl, inr}
+use mathlib.Core.Logic.{_⊎_, inl, inr, _↔_}
 use native.Mathlib.Omega.{arith}
 use lib.Dec.{eqb, ltb, lit<}
 use lib.ListN.{getD, List·getD-eq-default}
 use borrow.Author.Tests.{eqb-true, lt-ltb, ltb-true, ltb-false}
 use Rattle.usage.specs.declared.Edge.{Edge}
 use Rattle.usage.specs.Limits.{policies}
-use Rattle.usage.specs.Policy.{Sees, Offending, EdgesOk}
-use Rattle.usage.specs.Past.{Past, May, Broken, Open, Violates}
+use Rattle.usage.specs.Policy.{Offending, EdgesOk}
+use Rattle.usage.specs.Past.{Past, Broken, Open, Violates}
+use Rattle.usage.specs.Placed.{At}
 use Rattle.usage.proofs.Logic.{not-both, or-left, or-right, or-cases, and-left, and-right, and-both}
-use Rattle.usage.proofs.PastLaws.{broken-single}
+use Rattle.usage.proofs.PlacedLaws.{broken-placed}
 use Rattle.usage.proofs.ValidLaws.{no-pair}
 use Rattle.automaton.specs.Mask.{has, offends, lowestIn}
 use Rattle.automaton.proofs.MaskLaws.{has-zero, has-offending, maskOf-has, maskOf-lt, lowest-is}
 use Rattle.automaton.proofs.MoveLaws.{ends-of}
 use Rattle.monitor_state.specs.declared.State.{State}
 use Rattle.monitor_state.specs.Judge.{openingsOf, possibleIn, broken}
-use Rattle.monitor_state.specs.Represents.{Represents}
+use Rattle.monitor_state.specs.Represents.{Stands, Represents}
 use Rattle.monitor_state.proofs.StartLaws.{may-lt}
+use Rattle.monitor_state.proofs.StandsLaws.{somewhere}
 use Rattle.monitor_state.proofs.UnclosedLaws.{open-count-pos, count-pos-open}
 
 -- the set of broken policies is a byte, from every state at all
@@ -30,19 +32,25 @@ unfolding broken
 broken-lt s = maskOf-lt (λ p. ltb 0 (openingsOf (s .unclosed) p) && offends (possibleIn (s .tracked) p))
 
 module _ (local : Bool) (es : List Edge) (past : Past) (h : Bool) (s : State) (R : Represents local es past h s) where
-  -- an offending state is among the possible ones exactly where some instance, which is that of one resource, may be in it
+  -- an offending state is among the possible ones exactly where some instance, wherever it stands, may be in it
+  placed : (p : ℕ) → Broken local es p past
+      ↔ ((places : List ℕ) × (q : ℕ) × At local es p (Stands past (s .created)) past places q × Offending q)
+  placed p = broken-placed local es p (Stands past (s .created)) (somewhere past (s .created) (R .created)) past
+
   pub offends-broken : EdgesOk es → (p : ℕ) → p < policies → offends (possibleIn (s .tracked) p) ≡ true → Broken local es p past
   offends-broken v p k o =
-      broken-single (no-pair v p) .1
-      (go (or-cases (has (possibleIn (s .tracked) p) 6) (has (possibleIn (s .tracked) p) 7) (sym (has-offending (possibleIn (s .tracked) p) (R .tracked .possible-bytes p)) ∙ o)))
+      placed p .1 (go (or-cases (has m 6) (has m 7) (sym (has-offending m (R .tracked .possible-bytes p)) ∙ o)))
     where
-      go : (has (possibleIn (s .tracked) p) 6 ≡ true) ⊎ (has (possibleIn (s .tracked) p) 7 ≡ true)
-          → (x : ℕ) × (q : ℕ) × May local es p (Sees (x ∷ [])) past q × Offending q
-      go (inl e) = let m = R .tracked .gathers p 6 k (lit< tt) .0 e in (m .0, 6, m .1, inl refl)
-      go (inr e) = let m = R .tracked .gathers p 7 k (lit< tt) .0 e in (m .0, 7, m .1, inr refl)
+      m : ℕ
+      m = possibleIn (s .tracked) p
+
+      go : (has m 6 ≡ true) ⊎ (has m 7 ≡ true)
+          → (places : List ℕ) × (q : ℕ) × At local es p (Stands past (s .created)) past places q × Offending q
+      go (inl e) = let (places, y) = R .tracked .gathers p 6 k (no-pair v p) (lit< tt) .0 e in (places, 6, y, inl refl)
+      go (inr e) = let (places, y) = R .tracked .gathers p 7 k (no-pair v p) (lit< tt) .0 e in (places, 7, y, inr refl)
 
   broken-offends : EdgesOk es → (p : ℕ) → p < policies → Broken local es p past → offends (possibleIn (s .tracked) p) ≡ true
-  broken-offends v p k broken = let b = broken-single (no-pair v p) .0 broken in offends-at (b .0) (b .1) (b .2) (b .3)
+  broken-offends v p k b = let (places, q, y, o) = placed p .0 b in offends-at places q y o
     where
       m : ℕ
       m = possibleIn (s .tracked) p
@@ -51,8 +59,10 @@ module _ (local : Bool) (es : List Edge) (past : Past) (h : Bool) (s : State) (R
       go e (inl o) = or-left (has m 6) (has m 7) (ap (has m) (sym o) ∙ e)
       go e (inr o) = or-right (has m 6) (has m 7) (ap (has m) (sym o) ∙ e)
 
-      offends-at : (x q : ℕ) → May local es p (Sees (x ∷ [])) past q → Offending q → offends m ≡ true
-      offends-at x q i o = has-offending m (R .tracked .possible-bytes p) ∙ go (R .tracked .gathers p q k (may-lt (ends-of v) i) .1 (x, i)) o
+      offends-at : (places : List ℕ) (q : ℕ) → At local es p (Stands past (s .created)) past places q → Offending q → offends m ≡ true
+      offends-at places q y o =
+          has-offending m (R .tracked .possible-bytes p)
+          ∙ go (R .tracked .gathers p q k (no-pair v p) (may-lt (ends-of v) (y .may)) .1 (places, y)) o
 
   -- only policies 0 to 7 can be open
   open-lt : (p : ℕ) → Open p past → p < policies

@@ -2,7 +2,7 @@
 use Prim.Native.Nat.{ℕ, _+_, _-_, _<_, _≤_}
 use mathlib.Core.Path.{_≡_, refl, sym, ap, _∙_, subst}
 use mathlib.Core.Bool.{Bool, true, false, _||_, cond}
-use mathlib.Core.List.{List, [], _∷_, _++_, List·Memᴰ·cases-cons}
+use mathlib.Core.List.{List, [], _∷_, _++_, List·Memᴰ·head, List·Memᴰ·tail, List·Memᴰ·cases-cons}
 use native.Mathlib.Numerals.{add-one}
 use native.Mathlib.Omega.{arith}
 use lib.Dec.{eqb, leb, ltb}
@@ -10,7 +10,7 @@ use lib.ListN.{length, getD, take, set, length-set}
 use lib.Seq.{take-suc-set}
 use borrow.Author.Tests.{eq-eqb, ne-eqb, eqb-true, eqb-false, lt-ltb, le-ltb, ltb-true, ltb-false, le-leb, leb-true}
 use Rattle.usage.specs.Limits.{statics, resources, mostCreated}
-use Rattle.usage.specs.Past.{Step, event, retiring, Past, without, Retired, liveIn, highest}
+use Rattle.usage.specs.Past.{Step, event, retiring, Past, without, Occurs, Retired, liveIn, highest}
 use Rattle.usage.specs.Tests.{every}
 use Rattle.usage.proofs.Logic.{by-cases, clash, or-right, and-both}
 use Rattle.usage.proofs.TableLaws.{length-from}
@@ -28,16 +28,26 @@ use Rattle.monitor_state.proofs.Places.{range-at, top-at, above-new}
 pub retired-before : {x : ℕ} {step : Step} {past : Past} → (retiring x ≡ step → ⊥) → Retired x (step ∷ past) → Retired x past
 retired-before n m = by-cases (List·Memᴰ·cases-cons m) (λ e. absurd (n e)) (λ m. m)
 
+-- a step that is no event on x
+pub occurs-before : {x : ℕ} {step : Step} {past : Past} → ((a : ℕ) → event a x ≡ step → ⊥) → Occurs x (step ∷ past) → Occurs x past
+occurs-before n (a, m) = by-cases (List·Memᴰ·cases-cons m) (λ e. absurd (n a e)) (λ m. (a, m))
+
 -- after a step that creates and retires nothing
 pub same-live : {past : Past} {c : Created} {step : Step} → liveIn (step ∷ past) ≡ liveIn past → highest (step ∷ past) ≡ highest past
-    → ((x : ℕ) → retiring x ≡ step → ⊥) → ListsLive past c → ListsLive (step ∷ past) c
-same-live lives most none L = record {
+    → ((x : ℕ) → retiring x ≡ step → ⊥) → ((x : ℕ) → Occurs x (step ∷ past) → placeOf c x ≡ unseen → Occurs x past)
+    → ListsLive past c → ListsLive (step ∷ past) c
+same-live lives most none before L = record {
   well = L .well;
   lives = L .lives ∙ sym lives;
   most = L .most ∙ sym most;
   gone = λ x m. L .gone x (retired-before (none x) m);
+  occurred = λ x o u. List·Memᴰ·tail (L .occurred x (before x o u) u);
   numbers-length = L .numbers-length;
 }
+
+-- events that are the same are on the same resource
+pub resource-same : {a b x r : ℕ} → event a x ≡ event b r → x ≡ r
+resource-same e = cc
 
 -- ── A create ──
 
@@ -91,6 +101,9 @@ module _ (c : Created) (n : length (c .numbers) ≡ mostCreated) (w : LiveParts 
     lives = live-created ∙ ap (λ (l : List ℕ). l ++ (r ∷ [])) (L .lives);
     most = omega (arith, L .most);
     gone = gone;
+    occurred = λ x o u.
+        let d : eqb r x ≡ false = ne-eqb r x (λ e. let z : placeOf (withNew c r) x ≡ used c = ap (placeOf (withNew c r)) (sym e) ∙ place-created in omega arith) in
+        List·Memᴰ·tail (L .occurred x (occurs-before (λ a e. eqb-false r x d (sym (resource-same e))) o) (sym (place-kept x d) ∙ u));
     numbers-length = length-set (c .numbers) (c .count) r ∙ n;
   }
     where
@@ -186,5 +199,10 @@ module _ (c : Created) (n : length (c .numbers) ≡ mostCreated) (w : LiveParts 
     lives = live-retired ∙ ap (without r) (L .lives);
     most = L .most;
     gone = retired-gone past (L .gone);
+    occurred = λ x o u. by-number x (eqb r x) refl (occurs-before (λ a e. clash (cc)) o) u;
     numbers-length = length-from _ 0 mostCreated;
   }
+    where
+      by-number : (x : ℕ) (b : Bool) → eqb r x ≡ b → Occurs x past → placeOf (withRetired c r) x ≡ unseen → Retired x (retiring r ∷ past)
+      by-number x true e o u = List·Memᴰ·head (ap retiring (sym (eqb-true r x e)))
+      by-number x false e o u = List·Memᴰ·tail (L .occurred x o (unseen-before x e u))

@@ -3,6 +3,7 @@ pub mod ListLaws
 pub mod WithoutLaws
 pub mod Places
 pub mod CreatedLaws
+pub mod StandsLaws
 pub mod UnclosedLaws
 -- Which states 42 lets pass.
 pub mod SoundLaws

@@ -11,10 +11,12 @@ use lib.Seq.{getD-set-same, getD-set-other}
 use borrow.Author.Tests.{eq-eqb, eqb-true, eqb-false, lt-ltb}
 use Rattle.usage.specs.declared.Edge.{Edge}
 use Rattle.usage.specs.Limits.{policies, states}
-use Rattle.usage.specs.Policy.{Sees}
-use Rattle.usage.specs.Past.{Step, opening, closing, Past, May, closed, Open}
-use Rattle.usage.proofs.Logic.{and-left, and-right}
-use Rattle.usage.proofs.PastLaws.{before-closing, may-anew, may-same}
+use Rattle.usage.specs.Policy.{PairPolicy}
+use Rattle.usage.specs.Past.{Step, opening, closing, retiring, Past, Open}
+use Rattle.usage.specs.Placed.{At}
+use Rattle.usage.proofs.Logic.{clash, and-left, and-right}
+use Rattle.usage.proofs.PastLaws.{may-some}
+use Rattle.usage.proofs.PlacedLaws.{at-more, one-placed, at-closing, at-same, at-reset}
 use Rattle.automaton.specs.Mask.{has}
 use Rattle.automaton.proofs.MaskLaws.{has-pow}
 use Rattle.monitor_sets.specs.Instances.{unseen, retirees, instances, setPlaces}
@@ -24,24 +26,33 @@ use Rattle.monitor_state.specs.declared.Tracked.{Tracked}
 use Rattle.monitor_state.specs.Tracked.{setAt, possibleIn, resetSets, startSet, resetIn}
 use Rattle.monitor_state.specs.Created.{placeOf, used}
 use Rattle.monitor_state.specs.Unclosed.{openingsOf, anew}
-use Rattle.monitor_state.specs.Represents.{Tracks, TracksRetirees, Gathers, HoldsStates, Represents}
-use Rattle.monitor_state.proofs.Places.{LiveParts, live-parts, place-lt, used-most, far, place-far}
+use Rattle.monitor_state.specs.Represents.{Stands, Tracks, Gathers, HoldsStates, Represents}
+use Rattle.monitor_state.proofs.Places.{LiveParts, live-parts, used-most}
+use Rattle.monitor_state.proofs.StandsLaws.{stands-after, stands-before, someone}
 use Rattle.monitor_state.proofs.UnclosedLaws.{open-count-pos, count-pos-open}
 
 module _ (local : Bool) (es : List Edge) (past : Past) (h : Bool) (s : State) (R : Represents local es past h s) where
+  -- the instances at these places, before and after the step
+  abbrev Before : ℕ → List ℕ → ℕ → Type 0
+  Before p places q = At local es p (Stands past (s .created)) past places q
+
+  abbrev After : Step → ℕ → List ℕ → ℕ → Type 0
+  After step p places q = At local es p (Stands (step ∷ past) (s .created)) (step ∷ past) places q
+
+  -- a step that retires nothing leaves each place to those that it stands for
+  after-as : {step : Step} {p q : ℕ} {places : List ℕ} {q₀ : ℕ} → ((x : ℕ) → retiring x ≡ step → ⊥)
+      → At local es p (Stands past (s .created)) (step ∷ past) places q ↔ Before p places q₀ → After step p places q ↔ Before p places q₀
+  after-as none f = (λ y. f .0 (at-more (stands-before none) y), λ y. at-more (stands-after none) (f .1 y))
+
   -- after a step that changes no state
-  same-held : (step : Step) → ((x p q : ℕ) → May local es p (Sees (x ∷ [])) past q ↔ May local es p (Sees (x ∷ [])) (step ∷ past) q)
+  same-held : (step : Step) → ((p q : ℕ) (places : List ℕ) → After step p places q ↔ Before p places q)
       → HoldsStates local es (step ∷ past) (s .created) (s .tracked)
   same-held step may = record {
-    tracks = λ x p q k l d. let t = R .tracked .tracks x p q k l (λ g. d (List·Memᴰ·tail g)) in
-        (λ e. may x p q .0 (t .0 e), λ m. t .1 (may x p q .1 m));
-    tracks-retirees = λ p q k l. (
-      λ e. let (x, u, m) = R .tracked .tracks-retirees p q k l .0 e in (x, u, may x p q .0 m),
-      λ (x, u, m). R .tracked .tracks-retirees p q k l .1 (x, u, may x p q .1 m),
-    );
-    gathers = λ p q k l. (
-      λ e. let m = R .tracked .gathers p q k l .0 e in (m .0, may (m .0) p q .0 (m .1)),
-      λ m. R .tracked .gathers p q k l .1 (m .0, may (m .0) p q .1 (m .1)),
+    tracks = λ p i q k single l b. let t = R .tracked .tracks p i q k single l b in
+        (λ e. may p q (i ∷ []) .1 (t .0 e), λ y. t .1 (may p q (i ∷ []) .0 y));
+    gathers = λ p q k single b. (
+      λ e. let (places, y) = R .tracked .gathers p q k single b .0 e in (places, may p q places .1 y),
+      λ (places, y). R .tracked .gathers p q k single b .1 (places, may p q places .0 y),
     );
     sets-length = R .tracked .sets-length;
     possible-length = R .tracked .possible-length;
@@ -50,24 +61,38 @@ module _ (local : Bool) (es : List Edge) (past : Past) (h : Bool) (s : State) (R
   }
 
   pub closing-held : (p : ℕ) → HoldsStates local es (closing p ∷ past) (s .created) (s .tracked)
-  closing-held p = same-held (closing p) (λ x p q. (closed, before-closing))
+  closing-held p =
+      same-held (closing p) (λ p′ q places. after-as (λ x e. clash (cc)) (at-closing local es p′ (Stands past (s .created)) p past places q))
 
   -- ── An opening of p ──
 
   module _ (p : ℕ) (l : p < policies) where
-    -- what p′ may be in is put back where the opening is one of p′ and p was not open, and else kept
-    anew-may : anew local (s .unclosed) p ≡ true → (x p′ q : ℕ) → eqb p′ p ≡ true → May local es p′ (Sees (x ∷ [])) (opening p ∷ past) q ↔ (q ≡ 0)
-    anew-may b x p′ q e =
+    shut : anew local (s .unclosed) p ≡ true → (p′ : ℕ) → eqb p′ p ≡ true → (local ≡ true) × (p ≡ p′) × (Open p′ past → ⊥)
+    shut b p′ e =
         let z : openingsOf (s .unclosed) p ≡ 0 = eqb-true (openingsOf (s .unclosed) p) 0 (and-right local (eqb (openingsOf (s .unclosed) p) 0) b) in
-        let i : p′ ≡ p = eqb-true p′ p e in
-        let shut : Open p′ past
-        → ⊥ = λ o. let k = open-count-pos past (s .unclosed) (R .unclosed) p (subst (λ (n : ℕ). Open n past) i o) in omega arith in
-        subst (λ (c : Bool). May c es p′ (Sees (x ∷ [])) (opening p ∷ past) q ↔ (q ≡ 0)) (sym (and-left local (eqb (openingsOf (s .unclosed) p) 0) b))
-        (may-anew es p′ (x ∷ []) p past q (sym i) shut)
+        let i : p′ ≡ p = eqb-true p′ p e in (
+          and-left local (eqb (openingsOf (s .unclosed) p) 0) b,
+          sym i,
+          λ o. let k = open-count-pos past (s .unclosed) (R .unclosed) p (subst (λ (n : ℕ). Open n past) i o) in omega arith,
+        )
 
-    kept-may : (x p′ q : ℕ) → (anew local (s .unclosed) p && eqb p′ p) ≡ false
-        → May local es p′ (Sees (x ∷ [])) (opening p ∷ past) q ↔ May local es p′ (Sees (x ∷ [])) past q
-    kept-may x p′ q n = may-same local es p′ (x ∷ []) p past q (why local refl (eqb p′ p) refl n)
+    -- what p′ may be in is put back where the opening is one of p′ and p was not open, and else kept
+    anew-may : anew local (s .unclosed) p ≡ true → (p′ q : ℕ) (places : List ℕ) → eqb p′ p ≡ true
+        → After (opening p) p′ places q ↔ ((q ≡ 0) × ((q₀ : ℕ) × Before p′ places q₀))
+    anew-may b p′ q places e =
+        let (loc, i, no-longer) = shut b p′ e in
+        let law : At local es p′ (Stands past (s .created)) (opening p ∷ past) places q ↔ ((q ≡ 0) × ((q₀ : ℕ) × Before p′ places q₀)) =
+        subst (λ (m : Bool). At m es p′ (Stands past (s .created)) (opening p ∷ past) places q
+        ↔ ((q ≡ 0) × ((q₀ : ℕ) × At m es p′ (Stands past (s .created)) past places q₀))) (sym loc)
+        (at-reset es p′ (Stands past (s .created)) p past places q i no-longer) in (
+          λ y. law .0 (at-more (stands-before (λ x e. clash (cc))) y),
+          λ y. at-more (stands-after (λ x e. clash (cc))) (law .1 y),
+        )
+
+    kept-may : (p′ q : ℕ) (places : List ℕ) → (anew local (s .unclosed) p && eqb p′ p) ≡ false
+        → After (opening p) p′ places q ↔ Before p′ places q
+    kept-may p′ q places n =
+        after-as (λ x e. clash (cc)) (at-same local es p′ (Stands past (s .created)) p past places q (why local refl (eqb p′ p) refl n))
       where
         further : (c : Bool) → eqb (openingsOf (s .unclosed) p) 0 ≡ c → c ≡ false → eqb p′ p ≡ true → Open p′ past
         further c e n i =
@@ -127,79 +152,54 @@ module _ (local : Bool) (es : List Edge) (past : Past) (h : Bool) (s : State) (R
     start-is : (q : ℕ) → q < states → has startSet q ≡ eqb 0 q
     start-is q k = has-pow 0 q (lit< tt) k
 
+    -- where a set is put back it holds state 0 alone, which all instances there are in
+    pieced : (m₀ m₁ : ℕ) (p′ q : ℕ) (P : Type 0) → m₁ ≡ cond (anew local (s .unclosed) p && eqb p′ p) startSet m₀ → q < states
+        → (anew local (s .unclosed) p ≡ true → eqb p′ p ≡ true → P ↔ (q ≡ 0))
+        → ((anew local (s .unclosed) p && eqb p′ p) ≡ false → (has m₀ q ≡ true) ↔ P) → (has m₁ q ≡ true) ↔ P
+    pieced m₀ m₁ p′ q P is b back kept = go (anew local (s .unclosed) p && eqb p′ p) refl
+      where
+        go : (c : Bool) → (anew local (s .unclosed) p && eqb p′ p) ≡ c → (has m₁ q ≡ true) ↔ P
+        go true c =
+            let f = back (and-left (anew local (s .unclosed) p) (eqb p′ p) c) (and-right (anew local (s .unclosed) p) (eqb p′ p) c) in
+            let one : has m₁ q ≡ eqb 0 q = ap (λ (n : ℕ). has n q) (is ∙ ap (λ (b : Bool). cond b startSet m₀) c) ∙ start-is q b in
+            (λ e. f .1 (sym (eqb-true 0 q (sym one ∙ e))), λ y. one ∙ eq-eqb 0 q (sym (f .0 y)))
+        go false c =
+            let same : has m₁ q ≡ has m₀ q = ap (λ (n : ℕ). has n q) (is ∙ ap (λ (b : Bool). cond b startSet m₀) c) in
+            let f = kept c in
+            (λ e. f .0 (sym same ∙ e), λ y. same ∙ f .1 y)
+
     tracks : Tracks local es (opening p ∷ past) (s .created) after
     unfolding resetIn
-    tracks x p′ q k m gone = go (anew local (s .unclosed) p && eqb p′ p) refl
+    tracks p′ i q k single u b =
+        pieced (setAt (s .tracked) p′ i) (getD put-back (p′ * instances + i) 0) p′ q (After (opening p) p′ (i ∷ []) q) (set-is i p′ u k) b
+        (λ new e. let f = anew-may new p′ q (i ∷ []) e in
+        (λ y. f .0 y .0, λ z. f .1 (z, let (x, g) = someone past (s .created) (R .created) i u in standing p′ single g)))
+        (λ n. let t = R .tracked .tracks p′ i q k single u b in
+        let f = kept-may p′ q (i ∷ []) n in
+        (λ e. f .1 (t .0 e), λ y. t .1 (f .0 y)))
       where
-        go : (c : Bool) → (anew local (s .unclosed) p && eqb p′ p) ≡ c
-            → (has (getD put-back (p′ * instances + placeOf (s .created) x) 0) q ≡ true) ↔ May local es p′ (Sees (x ∷ [])) (opening p ∷ past) q
-        go true c =
-            let t = anew-may (and-left (anew local (s .unclosed) p) (eqb p′ p) c) x p′ q (and-right (anew local (s .unclosed) p) (eqb p′ p) c) in
-            let is : has (getD put-back (p′ * instances + placeOf (s .created) x) 0) q ≡ eqb 0 q =
-            ap (λ (n : ℕ). has n q) (set-is (placeOf (s .created) x) p′ (place-lt (s .created) x) k ∙ ap (λ (b : Bool). cond b startSet (setAt (s .tracked) p′ (placeOf (s .created) x))) c)
-            ∙ start-is q m in
-            (λ e. t .1 (sym (eqb-true 0 q (sym is ∙ e))), λ y. is ∙ eq-eqb 0 q (sym (t .0 y)))
-        go false c =
-            let t = kept-may x p′ q c in
-            let is : getD put-back (p′ * instances + placeOf (s .created) x) 0 ≡ setAt (s .tracked) p′ (placeOf (s .created) x) =
-            set-is (placeOf (s .created) x) p′ (place-lt (s .created) x) k ∙ ap (λ (b : Bool). cond b startSet (setAt (s .tracked) p′ (placeOf (s .created) x))) c in
-            let r = R .tracked .tracks x p′ q k m (λ g. gone (List·Memᴰ·tail g)) in
-            (λ e. t .1 (r .0 (ap (λ (n : ℕ). has n q) (sym is) ∙ e)), λ y. ap (λ (n : ℕ). has n q) is ∙ r .1 (t .0 y))
+        standing : (p′ : ℕ) → (PairPolicy es p′ → ⊥) → {x : ℕ} → Stands past (s .created) i x → (q₀ : ℕ) × Before p′ (i ∷ []) q₀
+        standing p′ single {x} g = let (q₀, m) = may-some local es p′ (x ∷ []) past in (q₀, one-placed single g local past q₀ m)
 
-    -- all go back to state 0, those without a place of their own too
-    tracks-retirees : TracksRetirees local es (opening p ∷ past) (s .created) after
+    gathers : Gathers local es (opening p ∷ past) (s .created) after
     unfolding resetIn
-    tracks-retirees p′ q k m = go (anew local (s .unclosed) p && eqb p′ p) refl
-      where
-        inside : retirees < used (s .created)
-        inside = omega arith
-
-        y : ℕ
-        y = far (s .created) (R .created .numbers-length) w
-
-        go : (c : Bool) → (anew local (s .unclosed) p && eqb p′ p) ≡ c
-            → (has (getD put-back (p′ * instances + retirees) 0) q ≡ true)
-            ↔ ((x : ℕ) × (placeOf (s .created) x ≡ unseen) × May local es p′ (Sees (x ∷ [])) (opening p ∷ past) q)
-        go true c =
-            let t : (x : ℕ) → May local es p′ (Sees (x ∷ [])) (opening p ∷ past) q ↔ (q ≡ 0) =
-            λ x. anew-may (and-left (anew local (s .unclosed) p) (eqb p′ p) c) x p′ q (and-right (anew local (s .unclosed) p) (eqb p′ p) c) in
-            let is : has (getD put-back (p′ * instances + retirees) 0) q ≡ eqb 0 q =
-            ap (λ (n : ℕ). has n q) (set-is retirees p′ inside k ∙ ap (λ (b : Bool). cond b startSet (setAt (s .tracked) p′ retirees)) c) ∙ start-is q m in (
-              λ e. (y, place-far (s .created) (R .created .numbers-length) w, t y .1 (sym (eqb-true 0 q (sym is ∙ e)))),
-              λ (x, u, z). is ∙ eq-eqb 0 q (sym (t x .0 z)),
-            )
-        go false c =
-            let is : getD put-back (p′ * instances + retirees) 0 ≡ setAt (s .tracked) p′ retirees =
-            set-is retirees p′ inside k ∙ ap (λ (b : Bool). cond b startSet (setAt (s .tracked) p′ retirees)) c in
-            let r = R .tracked .tracks-retirees p′ q k m in (
-              λ e. let (x, u, z) = r .0 (ap (λ (n : ℕ). has n q) (sym is) ∙ e) in (x, u, kept-may x p′ q c .1 z),
-              λ (x, u, z). ap (λ (n : ℕ). has n q) is ∙ r .1 (x, u, kept-may x p′ q c .0 z),
-            )
-
-    gathers : Gathers local es (opening p ∷ past) after
-    unfolding resetIn
-    gathers p′ q k m = go (anew local (s .unclosed) p && eqb p′ p) refl
-      where
-        go : (c : Bool) → (anew local (s .unclosed) p && eqb p′ p) ≡ c
-            → (has (getD kept-back p′ 0) q ≡ true) ↔ ((x : ℕ) × May local es p′ (Sees (x ∷ [])) (opening p ∷ past) q)
-        go true c =
-            let t : (x : ℕ) → May local es p′ (Sees (x ∷ [])) (opening p ∷ past) q ↔ (q ≡ 0) =
-            λ x. anew-may (and-left (anew local (s .unclosed) p) (eqb p′ p) c) x p′ q (and-right (anew local (s .unclosed) p) (eqb p′ p) c) in
-            let is : has (getD kept-back p′ 0) q ≡ eqb 0 q =
-            ap (λ (n : ℕ). has n q) (possible-is p′ ∙ ap (λ (b : Bool). cond b startSet (possibleIn (s .tracked) p′)) c) ∙ start-is q m in
-            (λ e. (0, t 0 .1 (sym (eqb-true 0 q (sym is ∙ e)))), λ y. is ∙ eq-eqb 0 q (sym (t (y .0) .0 (y .1))))
-        go false c =
-            let is : getD kept-back p′ 0 ≡ possibleIn (s .tracked) p′ = possible-is p′ ∙ ap (λ (b : Bool). cond b startSet (possibleIn (s .tracked) p′)) c in
-            let r = R .tracked .gathers p′ q k m in (
-              λ e. let y = r .0 (ap (λ (n : ℕ). has n q) (sym is) ∙ e) in (y .0, kept-may (y .0) p′ q c .1 (y .1)),
-              λ y. ap (λ (n : ℕ). has n q) is ∙ r .1 (y .0, kept-may (y .0) p′ q c .0 (y .1)),
-            )
+    gathers p′ q k single b =
+        pieced (possibleIn (s .tracked) p′) (getD kept-back p′ 0) p′ q ((places : List ℕ) × After (opening p) p′ places q) (possible-is p′) b
+        (λ new e. (
+          λ (places, y). anew-may new p′ q places e .0 y .0,
+          λ z. let (x, g) = someone past (s .created) (R .created) 0 (omega arith) in
+              let (q₀, m) = may-some local es p′ (x ∷ []) past in
+              (0 ∷ [], anew-may new p′ q (0 ∷ []) e .1 (z, (q₀, one-placed single g local past q₀ m))),
+        ))
+        (λ n. (
+          λ e. let (places, y) = R .tracked .gathers p′ q k single b .0 e in (places, kept-may p′ q places n .1 y),
+          λ (places, y). R .tracked .gathers p′ q k single b .1 (places, kept-may p′ q places n .0 y),
+        ))
 
     pub opening-held : HoldsStates local es (opening p ∷ past) (s .created) after
     unfolding resetIn
     opening-held = record {
       tracks = tracks;
-      tracks-retirees = tracks-retirees;
       gathers = gathers;
       sets-length = sets-length (anew local (s .unclosed) p);
       possible-length = possible-length (anew local (s .unclosed) p);

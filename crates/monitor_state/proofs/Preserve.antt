@@ -1,20 +1,20 @@
 -- The state after a step stands for the past with that step: part by part.
 use Prim.Native.Nat.{ℕ, zero, suc, _<_, _≤_}
-use mathlib.Core.Path.{_≡_, refl}
+use mathlib.Core.Path.{_≡_, refl, ap, _∙_}
 use mathlib.Core.Bool.{Bool, true, false}
 use mathlib.Core.List.{List, [], _∷_}
 use native.Mathlib.Omega.{arith}
 use lib.ListN.{length, getD}
 use Rattle.usage.specs.declared.Edge.{Edge}
 use Rattle.usage.specs.Limits.{statics, resources, policies, mostCreated, mostUnclosed}
-use Rattle.usage.specs.Past.{Step, event, opening, closing, retiring, Past, count, retired, Retired}
+use Rattle.usage.specs.Past.{Step, event, opening, closing, retiring, Past, count, Occurs}
 use Rattle.usage.specs.Past.{openStack, liveIn, highest}
-use Rattle.usage.proofs.PastLaws.{before-retiring}
+use Rattle.usage.proofs.PlacedLaws.{at-retiring, wherever}
 use Rattle.usage.proofs.JudgeLaws.{Fits}
-use Rattle.usage.proofs.Logic.{clash}
+use Rattle.usage.proofs.Logic.{clash, not-both}
 use Rattle.usage.proofs.TableLaws.{length-from}
 use Rattle.automaton.proofs.MoveLaws.{Ends}
-use Rattle.monitor_sets.specs.Instances.{setPlaces}
+use Rattle.monitor_sets.specs.Instances.{unseen, setPlaces}
 use Rattle.monitor_sets.proofs.RetiredLaws.{retired-length, retired-below}
 use Rattle.monitor_state.specs.declared.Tracked.{Tracked}
 use Rattle.monitor_state.specs.declared.Created.{Created}
@@ -22,12 +22,13 @@ use Rattle.monitor_state.specs.declared.State.{State}
 use Rattle.monitor_state.specs.Tracked.{movedSets, gathered, copiedIn, movedIn, retiredIn}
 use Rattle.monitor_state.specs.Created.{live, listed, placeOf, used, withNew, withRetired}
 use Rattle.monitor_state.specs.Judge.{openingsOf, lastOpened, withTracked, creating, moving, entering, leaving, releasing, after}
-use Rattle.monitor_state.specs.Represents.{Tracks, TracksRetirees, HoldsStates, ListsLive, Represents}
-use Rattle.monitor_state.proofs.Places.{known, LiveParts, live-parts, above-new}
-use Rattle.monitor_state.proofs.CreatedLaws.{same-live, created-known, created-live, retired-from, retired-live}
+use Rattle.monitor_state.specs.Represents.{Tracks, HoldsStates, ListsLive, Represents}
+use Rattle.monitor_state.proofs.Places.{known, not-known, LiveParts, live-parts, above-new}
+use Rattle.monitor_state.proofs.CreatedLaws.{occurs-before, resource-same, same-live, created-known, created-live, retired-live}
 use Rattle.monitor_state.proofs.UnclosedLaws.{same-openings, opening-counts, closing-counts}
-use Rattle.monitor_state.proofs.Tracking.{moved-tracks, moved-retirees, moved-bytes, created-tracks, created-retirees, copied-bytes}
-use Rattle.monitor_state.proofs.Retiring.{retired-tracks, retired-retirees}
+use Rattle.monitor_state.proofs.StandsLaws.{somewhere}
+use Rattle.monitor_state.proofs.Tracking.{moved-tracks, moved-bytes, created-tracks, copied-bytes}
+use Rattle.monitor_state.proofs.Retiring.{retired-tracks}
 use Rattle.monitor_state.proofs.Gathering.{gathered-gathers, gathered-bytes}
 use Rattle.monitor_state.proofs.OpeningLaws.{opening-held, closing-held}
 
@@ -44,14 +45,12 @@ Ready s (retiring r) = listed r (live (s .created)) ≡ true
 
 -- what moved, and what is gathered from it
 moved-states : (local : Bool) (es : List Edge) (v : Ends es) (past : Past) (a r : ℕ) (c : Created) (t : Tracked)
-    → ListsLive (event a r ∷ past) c → known c r ≡ true → Tracks local es past c t → TracksRetirees local es past c t
-    → ((k : ℕ) → getD (t .sets) k 0 < 256)
+    → LiveParts c → known c r ≡ true → Tracks local es past c t → ((k : ℕ) → getD (t .sets) k 0 < 256)
     → HoldsStates local es (event a r ∷ past) c (movedIn es a r (placeOf c r) (used c) t)
 unfolding movedIn movedSets gathered
-moved-states local es v past a r c t L k tracks retirees bytes = record {
+moved-states local es v past a r c t w k tracks bytes = record {
   tracks = ahead;
-  tracks-retirees = joined;
-  gathers = gathered-gathers local es (event a r ∷ past) c new (L .numbers-length) w ahead joined (L .gone) refl;
+  gathers = gathered-gathers local es (event a r ∷ past) c new ahead refl;
   sets-length = length-from _ 0 setPlaces;
   possible-length = length-from _ 0 policies;
   bytes = moved-bytes es a r (placeOf c r) (used c) t bytes;
@@ -61,27 +60,21 @@ moved-states local es v past a r c t L k tracks retirees bytes = record {
     new : Tracked
     new = movedIn es a r (placeOf c r) (used c) t
 
-    w : LiveParts c
-    w = live-parts c (L .well)
-
     ahead : Tracks local es (event a r ∷ past) c new
-    ahead = moved-tracks local es v c t (L .numbers-length) w past a r tracks k
+    ahead = moved-tracks local es v c t w past a r tracks k
 
-    joined : TracksRetirees local es (event a r ∷ past) c new
-    joined = moved-retirees local es v c t (L .numbers-length) w past a r retirees k
-
--- what is kept of each policy stays
-retired-states : (local : Bool) (es : List Edge) (past : Past) (r : ℕ) (c : Created) (t : Tracked) → ListsLive past c
-    → listed r (live c) ≡ true → HoldsStates local es past c t
+-- what is kept of each policy stays: it is that of all instances, wherever they stand
+retired-states : (local : Bool) (es : List Edge) (past : Past) (r : ℕ) (c : Created) (t : Tracked) (L : ListsLive past c)
+    (here : listed r (live c) ≡ true) → HoldsStates local es past c t
     → HoldsStates local es (retiring r ∷ past) (withRetired c r) (retiredIn (placeOf c r) (used c) t)
 unfolding retiredIn
 retired-states local es past r c t L here H = record {
-  tracks = retired-tracks c t n w r here local es past (H .tracks);
-  tracks-retirees = retired-retirees c t n w r here local es past (H .tracks)
-      (λ m. let z = L .gone r m .0 in omega (arith, retired-from c n w r here)) (H .tracks-retirees);
-  gathers = λ p q k l. (
-    λ e. let (x, m) = H .gathers p q k l .0 e in (x, retired m),
-    λ (x, m). H .gathers p q k l .1 (x, before-retiring m),
+  tracks = retired-tracks past c t L r here local es (H .tracks);
+  gathers = λ p q k single b. (
+    λ e. let (places, y) = H .gathers p q k single b .0 e in
+        wherever local es p (somewhere (retiring r ∷ past) (withRetired c r) (retired-live c n w r here L)) (at-retiring local es p _ r past places q .1 y),
+    λ (places, y). H .gathers p q k single b .1
+        (wherever local es p (somewhere past c L) (at-retiring local es p _ r past places q .0 y)),
   );
   sets-length = retired-length (placeOf c r) (used c) (t .sets);
   possible-length = H .possible-length;
@@ -102,24 +95,26 @@ module _ (local : Bool) (es : List Edge) (v : Ends es) (past : Past) (h : Bool) 
   unfolding moving withTracked count openStack liveIn highest
   event-represents a r k = record {
     halted = R .halted;
-    tracked = moved-states local es v past (suc a) r (s .created) (s .tracked) lives k (R .tracked .tracks) (R .tracked .tracks-retirees)
-        (R .tracked .bytes);
+    tracked = moved-states local es v past (suc a) r (s .created) (s .tracked) (live-parts (s .created) (R .created .well)) k
+        (R .tracked .tracks) (R .tracked .bytes);
     created = lives;
     unclosed = same-openings (λ p. refl) (λ p. refl) refl (R .unclosed);
   }
     where
+      -- r has a place of its own
+      seen : (x : ℕ) → Occurs x (event (suc a) r ∷ past) → placeOf (s .created) x ≡ unseen → Occurs x past
+      seen x o u = occurs-before (λ b e. not-both (known (s .created) x) (ap (known (s .created)) (resource-same e) ∙ k) (not-known (s .created) x u)) o
+
       lives : ListsLive (event (suc a) r ∷ past) (s .created)
-      lives = same-live refl refl (λ x e. clash (cc)) (R .created)
+      lives = same-live refl refl (λ x e. clash (cc)) seen (R .created)
 
   create-represents : (r : ℕ) → Ready s (event 0 r) → r < resources → Represents local es (event 0 r ∷ past) h (moving es 0 r (creating s r))
   unfolding moving creating withTracked count openStack
   create-represents r c f = record {
     halted = R .halted;
-    tracked = moved-states local es v past 0 r (withNew (s .created) r) (copiedIn (s .tracked) (used (s .created))) lives
-        (created-known (s .created) n w r (c .2) new (c .0))
-        (created-tracks (s .created) (s .tracked) n w r (c .2) new (c .0) local es past (R .tracked .tracks))
-        (created-retirees (s .created) (s .tracked) n w r (c .2) new (c .0) local es past f (λ x m. R .created .gone x m .1) (c .1)
-        (R .tracked .tracks) (R .tracked .tracks-retirees))
+    tracked = moved-states local es v past 0 r (withNew (s .created) r) (copiedIn (s .tracked) (used (s .created)))
+        (live-parts (withNew (s .created) r) (lives .well)) (created-known (s .created) n w r (c .2) new (c .0))
+        (created-tracks (s .created) (s .tracked) n w r (c .2) new (c .0) local es past (R .created) f (c .1) (R .tracked .tracks))
         (copied-bytes (s .tracked) (used (s .created)) (R .tracked .bytes));
     created = lives;
     unclosed = same-openings (λ p. refl) (λ p. refl) refl (R .unclosed);
@@ -143,7 +138,7 @@ module _ (local : Bool) (es : List Edge) (v : Ends es) (past : Past) (h : Bool) 
   opening-represents p l room = record {
     halted = R .halted;
     tracked = opening-held local es past h s R p l;
-    created = same-live refl refl (λ x e. clash (cc)) (R .created);
+    created = same-live refl refl (λ x e. clash (cc)) (λ x o u. occurs-before (λ b e. clash (cc)) o) (R .created);
     unclosed = opening-counts past (s .unclosed) (R .unclosed) p l room;
   }
 
@@ -153,7 +148,7 @@ module _ (local : Bool) (es : List Edge) (v : Ends es) (past : Past) (h : Bool) 
   closing-represents p l o last = record {
     halted = R .halted;
     tracked = closing-held local es past h s R p;
-    created = same-live refl refl (λ x e. clash (cc)) (R .created);
+    created = same-live refl refl (λ x e. clash (cc)) (λ x o u. occurs-before (λ b e. clash (cc)) o) (R .created);
     unclosed = closing-counts past (s .unclosed) (R .unclosed) p l o last;
   }
 

@@ -3,19 +3,18 @@
 use Prim.Native.Nat.{ℕ, _+_, _-_, _<_, _≤_}
 use mathlib.Core.Path.{_≡_, refl, sym, ap, _∙_, subst}
 use mathlib.Core.Bool.{Bool, true, false, _||_, cond}
-use mathlib.Core.List.{List, [], _∷_, List·Memᴰ·head, List·Memᴰ·tail, List·Memᴰ·cases-cons}
-use mathlib.Core.Logic.{_⊎_, inl, inr}
+use mathlib.Core.List.{List, [], _∷_}
+use mathlib.Core.Logic.{_⊎_, inl, inr, _↔_}
 use native.Mathlib.Omega.{arith}
 use lib.Dec.{eqb, leb, ltb}
 use lib.ListN.{length, getD, take}
-use borrow.Author.Tests.{eq-eqb, ne-eqb, eqb-true, eqb-false, le-ltb, ltb-true, ltb-false}
+use borrow.Author.Tests.{eqb-true, eqb-false, lt-ltb, le-ltb, ltb-true, ltb-false}
 use Rattle.usage.specs.declared.Edge.{Edge}
 use Rattle.usage.specs.Limits.{statics, policies, mostCreated}
-use Rattle.usage.specs.Policy.{Sees}
-use Rattle.usage.specs.Past.{retiring, Past, without, May, retired, Retired}
-use Rattle.usage.specs.Tests.{every}
+use Rattle.usage.specs.Past.{retiring, Past}
+use Rattle.usage.specs.Placed.{At}
 use Rattle.usage.proofs.Logic.{by-cases, or-left, or-right, or-cases}
-use Rattle.usage.proofs.PastLaws.{before-retiring}
+use Rattle.usage.proofs.PlacedLaws.{at-retiring, Takes, none-taken, next-taken, at-taken}
 use Rattle.automaton.specs.Mask.{has}
 use Rattle.automaton.proofs.MaskLaws.{has-or}
 use Rattle.monitor_sets.specs.Instances.{unseen, retirees, firstCreated, instances}
@@ -24,50 +23,106 @@ use Rattle.monitor_state.specs.declared.Tracked.{Tracked}
 use Rattle.monitor_state.specs.declared.Created.{Created}
 use Rattle.monitor_state.specs.Created.{live, listed, distinct, dynamic, placeFrom, placeOf, used, withRetired}
 use Rattle.monitor_state.specs.Tracked.{setAt, retiredIn}
-use Rattle.monitor_state.specs.Represents.{Tracks, TracksRetirees}
-use Rattle.monitor_state.proofs.Places.{place-lt, place-apart-retirees, LiveParts, used-most}
-use Rattle.monitor_state.proofs.CreatedLaws.{retired-from, apart, place-retired, place-lowered, unseen-after, unseen-before}
+use Rattle.monitor_state.specs.Represents.{Stands, Tracks, ListsLive}
+use Rattle.monitor_state.proofs.Places.{place-lt, LiveParts, live-parts, used-most}
+use Rattle.monitor_state.proofs.CreatedLaws.{retired-from}
+use Rattle.monitor_state.proofs.StandsLaws.{Gives, retired-stands, place-used}
 
-module _ (c : Created) (t : Tracked) (n : length (c .numbers) ≡ mostCreated) (w : LiveParts c) (r : ℕ) (here : listed r (live c) ≡ true) where
-  -- every other instance holds what it held
-  set-kept : (x p : ℕ) → eqb r x ≡ false → p < policies → setAt (retiredIn (placeOf c r) (used c) t) p (placeOf (withRetired c r) x) ≡ setAt t p (placeOf c x)
+module _ (past : Past) (c : Created) (t : Tracked) (L : ListsLive past c) (r : ℕ) (here : listed r (live c) ≡ true) where
+  n : length (c .numbers) ≡ mostCreated
+  n = L .numbers-length
+
+  w : LiveParts c
+  w = live-parts c (L .well)
+
+  abbrev at : ℕ
+  at = placeOf c r
+
+  abbrev new : Tracked
+  new = retiredIn at (used c) t
+
+  from : firstCreated ≤ at
+  from = retired-from c n w r here
+
+  -- every place but that of the retired ones holds what the one that it takes from held
+  set-kept : (p j : ℕ) → p < policies → j < used c → (j ≡ at → ⊥) → (j ≡ retirees → ⊥) → setAt new p (lowered at j) ≡ setAt t p j
   unfolding retiredIn
-  set-kept x p d k =
-      ap (λ (i : ℕ). setAt (retiredIn (placeOf c r) (used c) t) p i) (place-lowered c n w r here x d)
-      ∙ retired-other (placeOf c r) (used c) (t .sets) p (placeOf c x) k (omega (arith, place-lt c x, used-most c w)) (place-lt c x) (retired-from c n w r here)
-      (apart c n w r here x d) (place-apart-retirees c x)
+  set-kept p j k l d e = retired-other at (used c) (t .sets) p j k (omega (arith, used-most c w)) l from d e
 
-  set-joined : (p q : ℕ) → p < policies
-      → has (setAt (retiredIn (placeOf c r) (used c) t) p retirees) q ≡ (has (setAt t p retirees) q || has (setAt t p (placeOf c r)) q)
+  set-joined : (p q : ℕ) → p < policies → has (setAt new p retirees) q ≡ (has (setAt t p retirees) q || has (setAt t p at) q)
   unfolding retiredIn
   set-joined p q k =
-      ap (λ (m : ℕ). has m q) (retired-joined (placeOf c r) (used c) (t .sets) p k) ∙ has-or (setAt t p retirees) (setAt t p (placeOf c r)) q
+      ap (λ (m : ℕ). has m q) (retired-joined at (used c) (t .sets) p k) ∙ has-or (setAt t p retirees) (setAt t p at) q
 
-  module _ (local : Bool) (es : List Edge) (past : Past) (held : Tracks local es past c t) where
-    pub retired-tracks : Tracks local es (retiring r ∷ past) (withRetired c r) (retiredIn (placeOf c r) (used c) t)
-    retired-tracks x p q k l gone =
-        let d : eqb r x ≡ false = ne-eqb r x (λ e. gone (List·Memᴰ·head (ap retiring (sym e)))) in
-        let same : has (setAt (retiredIn (placeOf c r) (used c) t) p (placeOf (withRetired c r) x)) q ≡ has (setAt t p (placeOf c x)) q =
-        ap (λ (m : ℕ). has m q) (set-kept x p d k) in
-        let u = held x p q k l (λ g. gone (List·Memᴰ·tail g)) in
-        (λ h. retired (u .0 (sym same ∙ h)), λ m. same ∙ u .1 (before-retiring m))
+  -- the place that place i takes from
+  raised : (i : ℕ) → i < used c - 1 → (i ≡ retirees → ⊥)
+      → (j : ℕ) × (j < used c) × (i ≡ lowered at j) × (j ≡ at → ⊥) × (j ≡ retirees → ⊥)
+  raised i l d = go (ltb i at) refl
+    where
+      go : (b : Bool) → ltb i at ≡ b → (j : ℕ) × (j < used c) × (i ≡ lowered at j) × (j ≡ at → ⊥) × (j ≡ retirees → ⊥)
+      go true e =
+          let h = ltb-true i at e in
+          (i, omega arith, sym (ap (λ (b : Bool). cond b (i - 1) i) (le-ltb at i (omega arith))), λ q. omega arith, d)
+      go false e =
+          let h = ltb-false i at e in (
+            i + 1,
+            omega arith,
+            sym (ap (λ (b : Bool). cond b (i + 1 - 1) (i + 1)) (lt-ltb at (i + 1) (omega arith)) ∙ omega arith),
+            λ q. omega arith,
+            λ q. omega (arith, from),
+          )
 
-    pub retired-retirees : (Retired r past → ⊥) → TracksRetirees local es past c t → TracksRetirees local es (retiring r ∷ past) (withRetired c r) (retiredIn (placeOf c r) (used c) t)
-    retired-retirees new u p q k l = (λ h. to (or-cases (has (setAt t p retirees) q) (has (setAt t p (placeOf c r)) q) (sym (set-joined p q k) ∙ h)), back)
+  module _ (local : Bool) (es : List Edge) (held : Tracks local es past c t) where
+    taken : (p i q : ℕ) → At local es p (Stands (retiring r ∷ past) (withRetired c r)) (retiring r ∷ past) (i ∷ []) q
+        ↔ ((before : List ℕ) × Takes (Gives past c L r here) (i ∷ []) before × At local es p (Stands past c) past before q)
+    taken p i q =
+        let now = Stands (retiring r ∷ past) (withRetired c r) in
+        let lift = at-retiring local es p now r past (i ∷ []) q in
+        let take = at-taken local es p (Stands past c) now (Gives past c L r here) (retired-stands past c L r here) past (i ∷ []) q in
+        (λ y. take .0 (lift .0 y), λ y. lift .1 (take .1 y))
+
+    at-used : at < used c
+    at-used = place-lt c r
+
+    pub retired-tracks : Tracks local es (retiring r ∷ past) (withRetired c r) new
+    unfolding withRetired
+    retired-tracks p i q k single l b = (to (eqb i retirees) refl, back)
       where
-        to : (has (setAt t p retirees) q ≡ true) ⊎ (has (setAt t p (placeOf c r)) q ≡ true)
-            → (x : ℕ) × (placeOf (withRetired c r) x ≡ unseen) × May local es p (Sees (x ∷ [])) (retiring r ∷ past) q
-        to (inl h) = let (x, i, m) = u p q k l .0 h in (x, unseen-after c n w r here x i, retired m)
-        to (inr h) = (r, (place-retired c n w r here), retired (held r p q k l new .0 h))
+        inside : i < used c - 1
+        inside = omega (arith, from, at-used)
 
-        back : ((x : ℕ) × (placeOf (withRetired c r) x ≡ unseen) × May local es p (Sees (x ∷ [])) (retiring r ∷ past) q)
-            → has (setAt (retiredIn (placeOf c r) (used c) t) p retirees) q ≡ true
-        back (x, i, m) = set-joined p q k ∙ go (eqb r x) refl
+        -- from a place that it takes from
+        give : (j : ℕ) → j < used c → Gives past c L r here i j → has (setAt t p j) q ≡ true
+            → At local es p (Stands (retiring r ∷ past) (withRetired c r)) (retiring r ∷ past) (i ∷ []) q
+        give j m g h = taken p i q .1 (j ∷ [], next-taken g none-taken, held p j q k single m b .0 h)
+
+        to : (f : Bool) → eqb i retirees ≡ f → has (setAt new p i) q ≡ true
+            → At local es p (Stands (retiring r ∷ past) (withRetired c r)) (retiring r ∷ past) (i ∷ []) q
+        to true e h =
+            let z = eqb-true i retirees e in
+            by-cases (or-cases (has (setAt t p retirees) q) (has (setAt t p at) q)
+            (sym (set-joined p q k) ∙ ap (λ (j : ℕ). has (setAt new p j) q) (sym z) ∙ h))
+            (λ f. give retirees (omega arith) (inl (z, inl refl)) f) (λ f. give at at-used (inl (z, inr refl)) f)
+        to false e h =
+            let (j, m, f, d, g) = raised i inside (eqb-false i retirees e) in
+            give j m (inr (f, d, g)) (ap (λ (n : ℕ). has n q) (sym (set-kept p j k m d g) ∙ ap (setAt new p) (sym f)) ∙ h)
+
+        gave : {j : ℕ} → Gives past c L r here i j → At local es p (Stands past c) past (j ∷ []) q → has (setAt new p i) q ≡ true
+        gave {j} (inl (e, inl f)) y =
+            ap (λ (j : ℕ). has (setAt new p j) q) e ∙ set-joined p q k
+            ∙ or-left (has (setAt t p retirees) q) (has (setAt t p at) q)
+            (ap (λ (j : ℕ). has (setAt t p j) q) (sym f) ∙ held p j q k single (place-used y) b .1 y)
+        gave {j} (inl (e, inr f)) y =
+            ap (λ (j : ℕ). has (setAt new p j) q) e ∙ set-joined p q k
+            ∙ or-right (has (setAt t p retirees) q) (has (setAt t p at) q)
+            (ap (λ (j : ℕ). has (setAt t p j) q) (sym f) ∙ held p j q k single (place-used y) b .1 y)
+        gave {j} (inr (e, d, f)) y =
+            ap (λ (n : ℕ). has n q) (ap (setAt new p) e ∙ set-kept p j k (place-used y) d f)
+            ∙ held p j q k single (place-used y) b .1 y
+
+        back : At local es p (Stands (retiring r ∷ past) (withRetired c r)) (retiring r ∷ past) (i ∷ []) q → has (setAt new p i) q ≡ true
+        back y = let (before, ts, z) = taken p i q .0 y in one ts z
           where
-            go : (b : Bool) → eqb r x ≡ b → (has (setAt t p retirees) q || has (setAt t p (placeOf c r)) q) ≡ true
-            go true e =
-                or-right (has (setAt t p retirees) q) (has (setAt t p (placeOf c r)) q)
-                (held r p q k l new .1 (subst (λ (y : ℕ). May local es p (Sees (y ∷ [])) past q) (sym (eqb-true r x e)) (before-retiring m)))
-            go false e =
-                or-left (has (setAt t p retirees) q) (has (setAt t p (placeOf c r)) q)
-                (u p q k l .1 (x, unseen-before c n w r here x e i, before-retiring m))
+            one : {before : List ℕ} → Takes (Gives past c L r here) (i ∷ []) before → At local es p (Stands past c) past before q
+                → has (setAt new p i) q ≡ true
+            one (next-taken g none-taken) z = gave g z

@@ -3,6 +3,7 @@ use Prim.Native.Nat.{ℕ, zero, suc, _+_, _*_, _<_}
 use mathlib.Core.Path.{_≡_, refl, sym, ap, _∙_, subst}
 use mathlib.Core.Bool.{Bool, true, false, not, _&&_, cond}
 use mathlib.Core.List.{List, [], _∷_, List·Memᴰ·not-nil}
+use mathlib.Core.Logic.{_↔_}
 use native.Mathlib.Nat.{zero-add}
 use native.Mathlib.Omega.{arith}
 use lib.Dec.{eqb, lit<}
@@ -10,20 +11,22 @@ use lib.ListN.{length, getD, replicate, length-replicate, getD-replicate}
 use borrow.Author.Tests.{eq-eqb, eqb-true}
 use Rattle.usage.specs.declared.Edge.{Edge}
 use Rattle.usage.specs.Limits.{statics, policies, states, mostCreated}
-use Rattle.usage.specs.Policy.{Sees, Moves}
+use Rattle.usage.specs.Policy.{PairPolicy, Sees, Moves}
+use Rattle.usage.specs.Placed.{At}
+use Rattle.usage.proofs.PlacedLaws.{one-placed}
 use Rattle.usage.specs.Past.{Past, event, May, start, moved, opened, closed, retired, count, openStack, liveIn, highest, occurrences, isOpen}
 use Rattle.usage.specs.Tests.{every}
 use Rattle.automaton.specs.Mask.{has}
 use Rattle.automaton.proofs.MaskLaws.{has-pow}
 use Rattle.automaton.proofs.MoveLaws.{Ends, moves-lt}
-use Rattle.monitor_sets.specs.Instances.{unseen, retirees, instances, setPlaces}
+use Rattle.monitor_sets.specs.Instances.{instances, setPlaces}
 use Rattle.monitor_sets.specs.Order.{agreeBelow}
 use Rattle.monitor_state.specs.Tracked.{setAt, possibleIn, startTracked}
-use Rattle.monitor_state.specs.Created.{distinct, createdOk, highestOk, liveOk, placeFrom, placeIn, placeOf, startCreated}
+use Rattle.monitor_state.specs.Created.{distinct, createdOk, highestOk, liveOk, placeOf, used, startCreated}
 use Rattle.monitor_state.specs.Unclosed.{stackIn, orderOk, unclosedOk, startUnclosed}
 use Rattle.monitor_state.specs.Judge.{startState}
-use Rattle.monitor_state.specs.Represents.{Tracks, TracksRetirees, Gathers, HoldsStates, ListsLive, CountsOpenings, Represents}
-use Rattle.monitor_state.proofs.Places.{place-lt}
+use Rattle.monitor_state.specs.Represents.{Stands, Tracks, Gathers, HoldsStates, ListsLive, CountsOpenings, Represents}
+use Rattle.monitor_state.proofs.StandsLaws.{someone}
 
 -- ── The last step ──
 
@@ -63,73 +66,50 @@ begin-set : (i p : ℕ) → i < instances → p < policies → setAt startTracke
 unfolding startTracked
 begin-set i p l h = getD-replicate setPlaces (p * instances + i) 1 0 (omega arith)
 
-begin-place : (x : ℕ) → placeOf startCreated x < instances
+begin-used : (i : ℕ) → i < used startCreated → i < instances
 unfolding startCreated
-begin-place x = omega (arith, place-lt startCreated x)
+begin-used i l = omega arith
+
+begin-live : ListsLive [] startCreated
+unfolding startCreated liveOk createdOk highestOk every distinct liveIn highest
+begin-live = record { well = refl; lives = refl; most = refl; gone = λ x m. absurd (List·Memᴰ·not-nil m); occurred = λ x o u. absurd (List·Memᴰ·not-nil (o .1)); numbers-length = refl }
+
+-- every instance is in state 0, and there is one wherever a place is in use
+begin-at : (local : Bool) (es : List Edge) (p i q : ℕ) → (PairPolicy es p → ⊥) → i < used startCreated
+    → (eqb 0 q ≡ true) ↔ At local es p (Stands [] startCreated) [] (i ∷ []) q
+begin-at local es p i q single l = (
+  λ e. let (x, g) = someone [] startCreated begin-live i l in
+      one-placed single g local [] q (subst (λ (n : ℕ). May local es p (Sees (x ∷ [])) [] n) (eqb-true 0 q e) start),
+  λ y. eq-eqb 0 q (sym (may-start (y .may))),
+)
 
 begin-tracks : (local : Bool) (es : List Edge) → Tracks local es [] startCreated startTracked
-begin-tracks local es x p q k l n = (to, back)
-  where
-    one : has (setAt startTracked p (placeOf startCreated x)) q ≡ eqb 0 q
-    one = ap (λ (m : ℕ). has m q) (begin-set (placeOf startCreated x) p (begin-place x) k) ∙ has-pow 0 q (lit< tt) l
-
-    to : has (setAt startTracked p (placeOf startCreated x)) q ≡ true → May local es p (Sees (x ∷ [])) [] q
-    to h = subst (λ (n : ℕ). May local es p (Sees (x ∷ [])) [] n) (eqb-true 0 q (sym one ∙ h)) start
-
-    back : May local es p (Sees (x ∷ [])) [] q → has (setAt startTracked p (placeOf startCreated x)) q ≡ true
-    back m = one ∙ eq-eqb 0 q (sym (may-start m))
-
-begin-unseen : placeOf startCreated statics ≡ unseen
-unfolding startCreated placeOf placeIn placeFrom
-begin-unseen = refl
-
-begin-tracks-retirees : (local : Bool) (es : List Edge) → TracksRetirees local es [] startCreated startTracked
-begin-tracks-retirees local es p q k l = (to, back)
-  where
-    one : has (setAt startTracked p retirees) q ≡ eqb 0 q
-    one = ap (λ (m : ℕ). has m q) (begin-set retirees p (lit< tt) k) ∙ has-pow 0 q (lit< tt) l
-
-    to : has (setAt startTracked p retirees) q ≡ true → (x : ℕ) × (placeOf startCreated x ≡ unseen) × May local es p (Sees (x ∷ [])) [] q
-    to h = (
-      statics,
-      begin-unseen,
-      subst (λ (n : ℕ). May local es p (Sees (statics ∷ [])) [] n) (eqb-true 0 q (sym one ∙ h)) start,
-    )
-
-    back : ((x : ℕ) × (placeOf startCreated x ≡ unseen) × May local es p (Sees (x ∷ [])) [] q) → has (setAt startTracked p retirees) q ≡ true
-    back m = one ∙ eq-eqb 0 q (sym (may-start (m .2)))
+begin-tracks local es p i q k single l b =
+    let one : has (setAt startTracked p i) q ≡ eqb 0 q = ap (λ (m : ℕ). has m q) (begin-set i p (begin-used i l) k) ∙ has-pow 0 q (lit< tt) b in
+    let f = begin-at local es p i q single l in
+    (λ e. f .0 (sym one ∙ e), λ y. one ∙ f .1 y)
 
 begin-possible : (p : ℕ) → p < policies → possibleIn startTracked p ≡ 1
 unfolding startTracked
 begin-possible p h = getD-replicate policies p 1 0 h
 
-begin-gathers : (local : Bool) (es : List Edge) → Gathers local es [] startTracked
-begin-gathers local es p q k l = (to, back)
-  where
-    one : has (possibleIn startTracked p) q ≡ eqb 0 q
-    one = ap (λ (m : ℕ). has m q) (begin-possible p k) ∙ has-pow 0 q (lit< tt) l
-
-    to : has (possibleIn startTracked p) q ≡ true → (x : ℕ) × May local es p (Sees (x ∷ [])) [] q
-    to h = (0, subst (λ (n : ℕ). May local es p (Sees (0 ∷ [])) [] n) (eqb-true 0 q (sym one ∙ h)) start)
-
-    back : ((x : ℕ) × May local es p (Sees (x ∷ [])) [] q) → has (possibleIn startTracked p) q ≡ true
-    back m = one ∙ eq-eqb 0 q (sym (may-start (m .1)))
+begin-gathers : (local : Bool) (es : List Edge) → Gathers local es [] startCreated startTracked
+begin-gathers local es p q k single b =
+    let one : has (possibleIn startTracked p) q ≡ eqb 0 q = ap (λ (m : ℕ). has m q) (begin-possible p k) ∙ has-pow 0 q (lit< tt) b in (
+      λ e. (0 ∷ [], begin-at local es p 0 q single (omega arith) .0 (sym one ∙ e)),
+      λ (places, y). one ∙ eq-eqb 0 q (sym (may-start (y .may))),
+    )
 
 begin-states : (local : Bool) (es : List Edge) → HoldsStates local es [] startCreated startTracked
 unfolding startTracked
 begin-states local es = record {
   tracks = begin-tracks local es;
-  tracks-retirees = begin-tracks-retirees local es;
   gathers = begin-gathers local es;
   sets-length = length-replicate {A = ℕ} setPlaces 1;
   possible-length = refl;
   bytes = λ k. replicate-below setPlaces 1 256 k (lit< tt);
   possible-bytes = λ p. replicate-below policies 1 256 p (lit< tt);
 }
-
-begin-live : ListsLive [] startCreated
-unfolding startCreated liveOk createdOk highestOk every distinct liveIn highest
-begin-live = record { well = refl; lives = refl; most = refl; gone = λ x m. absurd (List·Memᴰ·not-nil m); numbers-length = refl }
 
 begin-openings : CountsOpenings [] startUnclosed
 unfolding startUnclosed unclosedOk orderOk stackIn agreeBelow occurrences every count openStack

@@ -7,41 +7,41 @@ use mathlib.Core.Logic.{_↔_}
 use lib.ListN.{length, getD}
 use Rattle.usage.specs.declared.Edge.{Edge}
 use Rattle.usage.specs.Limits.{policies, states, mostCreated, mostUnclosed}
-use Rattle.usage.specs.Policy.{Sees}
-use Rattle.usage.specs.Past.{Past, May, liveIn, highest, Retired, openings, closings, openStack}
+use Rattle.usage.specs.Policy.{PairPolicy}
+use Rattle.usage.specs.Past.{Past, liveIn, highest, Occurs, Retired, openings, closings, openStack}
+use Rattle.usage.specs.Placed.{At}
 use Rattle.monitor_sets.specs.Instances.{unseen, retirees, setPlaces}
 use Rattle.automaton.specs.Mask.{has}
 use Rattle.monitor_state.specs.declared.State.{State}
 use Rattle.monitor_state.specs.declared.Tracked.{Tracked}
 use Rattle.monitor_state.specs.declared.Created.{Created}
 use Rattle.monitor_state.specs.declared.Unclosed.{Unclosed}
-use Rattle.monitor_state.specs.Judge.{live, liveOk, placeOf, setAt, possibleIn, openingsOf, remembered, unclosedOk}
+use Rattle.monitor_state.specs.Judge.{live, liveOk, placeOf, used, setAt, possibleIn, openingsOf, remembered, unclosedOk}
 
 -- ── What is tracked ──
 
--- The set at x's instance holds exactly the states that x's instance may be in: for every number x, created or not, but retired ones.
+-- Place i stands for the number x: a static or live resource has a place of its own; a number that is neither has that of the unseen ones,
+-- unless it was retired; and all that have no place of their own have that of the retired ones.
+pub data Stands (past : Past) (c : Created) (i x : ℕ) : Type 0 where
+  at-own : placeOf c x ≡ i → (Retired x past → ⊥) → Stands past c i x
+  at-retirees : i ≡ retirees → placeOf c x ≡ unseen → Stands past c i x
+
+-- The set at a place holds exactly the states that some instance there may be in: of a policy about one resource.
 abbrev pub Tracks : Bool → List Edge → Past → Created → Tracked → Type 0
 Tracks local es past c t =
-    (x p q : ℕ) → p < policies → q < states → (Retired x past → ⊥)
-    → (has (setAt t p (placeOf c x)) q ≡ true) ↔ May local es p (Sees (x ∷ [])) past q
+    (p i q : ℕ) → p < policies → (PairPolicy es p → ⊥) → i < used c → q < states
+    → (has (setAt t p i) q ≡ true) ↔ At local es p (Stands past c) past (i ∷ []) q
 
--- The set of the retired ones holds exactly the states that the instance of some resource may be in that has no place of its own: of one
--- that was retired, or that never occurred.
-abbrev pub TracksRetirees : Bool → List Edge → Past → Created → Tracked → Type 0
-TracksRetirees local es past c t =
-    (p q : ℕ) → p < policies → q < states
-    → (has (setAt t p retirees) q ≡ true) ↔ ((x : ℕ) × (placeOf c x ≡ unseen) × May local es p (Sees (x ∷ [])) past q)
-
--- The set that is kept of p holds exactly the states that some instance of it, of any number x at all, may be in.
-abbrev pub Gathers : Bool → List Edge → Past → Tracked → Type 0
-Gathers local es past t =
-    (p q : ℕ) → p < policies → q < states → (has (possibleIn t p) q ≡ true) ↔ ((x : ℕ) × May local es p (Sees (x ∷ [])) past q)
+-- The set that is kept of p holds exactly the states that some instance of it, wherever it stands, may be in.
+abbrev pub Gathers : Bool → List Edge → Past → Created → Tracked → Type 0
+Gathers local es past c t =
+    (p q : ℕ) → p < policies → (PairPolicy es p → ⊥) → q < states
+    → (has (possibleIn t p) q ≡ true) ↔ ((places : List ℕ) × At local es p (Stands past c) past places q)
 
 -- what is tracked stands for a past, with what is created
 pub record HoldsStates (local : Bool) (es : List Edge) (past : Past) (c : Created) (t : Tracked) : Type 0 where
   pub tracks : Tracks local es past c t
-  pub tracks-retirees : TracksRetirees local es past c t
-  pub gathers : Gathers local es past t
+  pub gathers : Gathers local es past c t
   pub sets-length : length (t .sets) ≡ setPlaces
   pub possible-length : length (t .possible) ≡ policies
   pub bytes : (k : ℕ) → getD (t .sets) k 0 < 256
@@ -54,6 +54,7 @@ pub record ListsLive (past : Past) (c : Created) : Type 0 where
   pub lives : live c ≡ liveIn past
   pub most : c .highest ≡ highest past
   pub gone : (x : ℕ) → Retired x past → (placeOf c x ≡ unseen) × (x ≤ c .highest)
+  pub occurred : (x : ℕ) → Occurs x past → placeOf c x ≡ unseen → Retired x past
   pub numbers-length : length (c .numbers) ≡ mostCreated
 
 -- ── What is not closed ──

@@ -1,6 +1,5 @@
--- Instances by the places of their resources, for a judge that keeps one set of states for each list of places. `has i x` says that place
--- i stands for the number x: a place may stand for many (all that never occurred; all that are not live), and a number have several. Each
--- law says what one step makes of the states that the instances at some places may be in. None asks how many resources an instance has.
+-- The laws of instances by the places of their resources. Each says what one step makes of the states that the instances at some places may
+-- be in. None asks how many resources an instance has.
 use Prim.Native.Nat.{ℕ, zero, suc}
 use mathlib.Core.Path.{_≡_, refl, sym, ap, subst, _∙_}
 use mathlib.Core.Bool.{Bool, true, false, cond}
@@ -11,23 +10,12 @@ use native.Mathlib.Decide.{ℕ-discrete}
 use lib.Dec.{eqb}
 use borrow.Author.Tests.{eq-eqb, ne-eqb}
 use Rattle.usage.specs.declared.Edge.{Edge}
-use Rattle.usage.specs.Policy.{Instance, single, pair, Place, Sees, Moves, Offending}
+use Rattle.usage.specs.Policy.{PairPolicy, Instance, single, pair, Place, Sees, Moves, Offending}
+use Rattle.usage.specs.Placed.{Placed, none-placed, next-placed, At}
 use Rattle.usage.specs.Past.{event, opening, closing, retiring, Past, Open, May, moved, opened, closed, retired, Broken, Occurs}
 use Rattle.usage.proofs.SeesLaws.{place-nowhere, moves-alike}
 use Rattle.usage.proofs.PastLaws.{before-event, before-closing, before-retiring, may-some, may-anew, may-same, Unseen, none-left}
 use Rattle.usage.proofs.PastLaws.{same, swapped, unseen}
-
--- place by place, these places stand for these numbers
-pub data Placed (has : ℕ → ℕ → Type 0) : List ℕ → List ℕ → Type 0 where
-  none-placed : Placed has [] []
-  next-placed : {x i : ℕ} {xs places : List ℕ} → has i x → Placed has xs places → Placed has (x ∷ xs) (i ∷ places)
-
--- Some instance of p at these places may be in state q: what the set that is kept for these places holds.
-pub record At (local : Bool) (es : List Edge) (p : ℕ) (has : ℕ → ℕ → Type 0) (past : Past) (places : List ℕ) (q : ℕ) : Type 0 where
-  pub resources : List ℕ
-  pub fits : Instance es p resources
-  pub placed : Placed has resources places
-  pub may : May local es p (Sees resources) past q
 
 -- How an instance at these places sees an event on r, for which place i stands: told by the places alone. Of an instance of two there are
 -- four ways, as i is the first place, the second, both or neither.
@@ -75,6 +63,20 @@ module _ (has : ℕ → ℕ → Type 0) (i r : ℕ) (alone : Alone has i r) wher
     λ m. moves-alike (λ d k. (to-seen h, from-seen h)) m,
     λ m. moves-alike (λ d k. (from-seen h, to-seen h)) m,
   )
+
+-- places that stand for more
+placed-more : {has now : ℕ → ℕ → Type 0} → ((i x : ℕ) → has i x → now i x) → {xs places : List ℕ} → Placed has xs places → Placed now xs places
+placed-more f none-placed = none-placed
+placed-more f (next-placed {x = x} {i = i} h p) = next-placed (f i x h) (placed-more f p)
+
+pub at-more : {local : Bool} {es : List Edge} {p : ℕ} {has now : ℕ → ℕ → Type 0} {past : Past} {places : List ℕ} {q : ℕ}
+    → ((i x : ℕ) → has i x → now i x) → At local es p has past places q → At local es p now past places q
+at-more f h = record { resources = h .resources; fits = h .fits; placed = placed-more f (h .placed); may = h .may }
+
+-- an instance of one resource has one place, which stands for it
+pub one-placed : {es : List Edge} {p x : ℕ} {has : ℕ → ℕ → Type 0} {i : ℕ} → (PairPolicy es p → ⊥) → has i x
+    → (local : Bool) (past : Past) (q : ℕ) → May local es p (Sees (x ∷ [])) past q → At local es p has past (i ∷ []) q
+one-placed {x = x} n h local past q m = record { resources = x ∷ []; fits = single n; placed = next-placed h none-placed; may = m }
 
 module _ (local : Bool) (es : List Edge) (p : ℕ) where
   -- ── Events ──
@@ -138,6 +140,13 @@ at-reset es p has s past places q e n = (
   },
 )
 
+all-placed : (has : ℕ → ℕ → Type 0) → ((x : ℕ) → (i : ℕ) × has i x) → (xs : List ℕ) → (places : List ℕ) × Placed has xs places
+all-placed has some-place [] = ([], none-placed)
+all-placed has some-place (x ∷ xs) =
+    let (i, h) = some-place x in
+    let (places, p) = all-placed has some-place xs in
+    (i ∷ places, next-placed h p)
+
 -- ── Places that change ──
 
 -- place by place, these places take from those
@@ -167,20 +176,20 @@ module _ (local : Bool) (es : List Edge) (p : ℕ) where
       λ (before, t, h). record { resources = h .resources; fits = h .fits; placed = given t (h .placed); may = h .may },
     )
 
+  -- where every number has a place, so has every instance
+  pub wherever : {has now : ℕ → ℕ → Type 0} {past : Past} {places : List ℕ} {q : ℕ} → ((x : ℕ) → (i : ℕ) × now i x)
+      → At local es p has past places q → (places : List ℕ) × At local es p now past places q
+  wherever {now = now} some-place h =
+      let (places, g) = all-placed now some-place (h .resources) in
+      (places, record { resources = h .resources; fits = h .fits; placed = g; may = h .may })
+
   -- where every number has a place: the policy is broken if a set that is kept has an offending state
   pub broken-placed : (has : ℕ → ℕ → Type 0) → ((x : ℕ) → (i : ℕ) × has i x) → (past : Past)
       → Broken local es p past ↔ ((places : List ℕ) × (q : ℕ) × At local es p has past places q × Offending q)
   broken-placed has some-place past = (
-    λ (xs, i, q, m, o). let (places, h) = all-placed xs in (places, q, record { resources = xs; fits = i; placed = h; may = m }, o),
+    λ (xs, i, q, m, o). let (places, h) = all-placed has some-place xs in (places, q, record { resources = xs; fits = i; placed = h; may = m }, o),
     λ (places, q, h, o). (h .resources, h .fits, q, h .may, o),
   )
-    where
-      all-placed : (xs : List ℕ) → (places : List ℕ) × Placed has xs places
-      all-placed [] = ([], none-placed)
-      all-placed (x ∷ xs) =
-          let (i, h) = some-place x in
-          let (places, p) = all-placed xs in
-          (i ∷ places, next-placed h p)
 
 instance-unseen : {es : List Edge} {p : ℕ} {past : Past} {xs ys : List ℕ} → Unseen past xs ys → Instance es p xs → Instance es p ys
 instance-unseen (same none-left) (single n) = single n
