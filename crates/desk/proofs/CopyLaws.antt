@@ -18,6 +18,10 @@ use Rattle.desk.specs.Layout.{Read, byteAt, wordAt, wideAt, numbersIn, G
 
 -- ── Places ──
 
+pub pos : (n : ℕ) → (n ≡ 0 → ⊥) → 0 < n
+pos zero h = absurd (h refl)
+pos (suc n) h = omega arith
+
 turn : (w k i : ℕ) → k < i → w * k + w ≤ w * i
 turn w k zero h = absurd (omega arith)
 turn w k (suc i) h = go (last-or-lower k i h) (turn w k i)
@@ -316,5 +320,13 @@ pub head-kept : (b b′ : List ℕ) → ((m : ℕ) → m < 32 → getD b′ m 0 
 unfolding headIn
 head-kept b b′ same =
     let at : (i : ℕ) → i + 4 ≤ 32 → wordAt b′ i ≡ wordAt b i = λ i h. words-local .same b′ b i (λ k l. same (i + k) (omega arith)) in
-    rw (at 0 (omega arith), at 4 (omega arith), at 8 (omega arith), at 12 (omega arith), at 16 (omega arith), at 20 (omega arith),
-    at 24 (omega arith), at 28 (omega arith))
+    rw (
+      at 0 (omega arith),
+      at 4 (omega arith),
+      at 8 (omega arith),
+      at 12 (omega arith),
+      at 16 (omega arith),
+      at 20 (omega arith),
+      at 24 (omega arith),
+      at 28 (omega arith),
+    )

@@ -3,7 +3,11 @@ ghost use Prim.Native.Nat.{ℕ, _≤_};
 ghost use mathlib.Core.Path.{_≡_};
 ghost use lib.ListN.{length};
 ghost use Rattle.desk.specs.Layout.{deskBytes, edgesAt, headIn, Within};
+ghost use Rattle.desk.specs.State.{headOk, isListed};
 use crate::Head;
+use desk_positions::MOST_POSITIONS;
+use usage::MOST_EDGES;
+use usage::MOST_NODES;
 
 pub(crate) fn head_in(b: &[u8]) -> Head
     requires { ⌜ deskBytes ≤ length (now b) ⌝ }
@@ -19,6 +23,38 @@ pub(crate) fn head_in(b: &[u8]) -> Head
         highest: crate::bytes::word(b, 24),
         depth: crate::bytes::word(b, 28),
     }
+}
+
+// Are the numbers in their ranges?
+pub(crate) fn head_ok(h: Head) -> bool
+    ensures { λ r. ⌜ r ≡ headOk h ⌝ }
+{
+    if crate::LOCAL < h.policies {
+        return false;
+    }
+    if (MOST_EDGES as u32) < h.edges {
+        return false;
+    }
+    if (MOST_NODES as u32) < h.nodes {
+        return false;
+    }
+    if (MOST_POSITIONS as u32) + 1 < h.positions {
+        return false;
+    }
+    h.halted <= 1
+}
+
+// Is a position listed?
+pub(crate) fn is_listed(h: Head) -> bool
+    ensures { λ r. ⌜ r ≡ isListed h ⌝ }
+{
+    if h.nodes == 0 {
+        return false;
+    }
+    if h.positions == 0 {
+        return false;
+    }
+    h.positions <= MOST_POSITIONS as u32
 }
 
 const HEAD_WORDS: usize = 8;

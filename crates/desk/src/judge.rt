@@ -6,6 +6,7 @@ ghost use lib.Dec.{eqb};
 ghost use lib.ListN.{length};
 ghost use Rattle.usage.specs.Limits.{policies, mostCreated, mostUnclosed, mostEdges};
 ghost use Rattle.monitor_sets.specs.Instances.{setPlaces};
+ghost use Rattle.monitor_state.specs.Judge.{stateOk};
 ghost use Rattle.monitor_lean.specs.Lean.{leanOf, judgeBy};
 ghost use Rattle.desk.specs.Layout.{deskBytes, createdAt, possibleAt, unclosedAt, orderAt, setsAt, byteAt, wordAt, Put};
 ghost use Rattle.desk.specs.JudgeBytes.{judgeIn, headWith, Small, Arrays, Stored};
@@ -22,9 +23,13 @@ use usage::RawStep;
 
 // Where each part stands, as specs/Layout has it.
 const CREATED_AT: usize = 1824;
+
 const POSSIBLE_AT: usize = 2080;
+
 const UNCLOSED_AT: usize = 2088;
+
 const ORDER_AT: usize = 2096;
+
 const SETS_AT: usize = 2160;
 
 pub(crate) fn judge_in(b: &[u8], h: Head) -> State
@@ -52,6 +57,19 @@ pub(crate) fn judge_in(b: &[u8], h: Head) -> State
         depth: h.depth as usize,
         halted: h.halted == 1,
     }
+}
+
+// What the judge's own 42 asks.
+pub(crate) fn state_ok(s: State) -> bool
+    ensures { λ r. ⌜ r ≡ stateOk s ⌝ }
+{
+    let created = s.created;
+    if !monitor_sets::created::live_ok(&created, s.count, s.highest) {
+        return false;
+    }
+    let order = s.order;
+    let unclosed = s.unclosed;
+    monitor_sets::order::order_ok(&order, s.depth, &unclosed)
 }
 
 fn flag_of(x: bool) -> u32
@@ -150,7 +168,13 @@ pub(crate) fn judge_out(b: &mut [u8], h: Head, s: State, positions: u32)
 }
 
 // One step of the lean judge on a state by value.
-fn judge_lean(marks: &[u64; POLICIES], edges: &[u8], local: bool, s: State, step: RawStep) -> Judgement
+fn judge_lean(
+    marks: &[u64; POLICIES],
+    edges: &[u8],
+    local: bool,
+    s: State,
+    step: RawStep,
+) -> Judgement
     ensures { λ r. ⌜ r ≡ leanOf (now (marks .entry)) (now (edges .entry)) local s step ⌝ }
 {
     let mut sets = s.sets;
