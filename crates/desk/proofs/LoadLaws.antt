@@ -33,6 +33,7 @@ use Rattle.desk.specs.Desk.{Desk, isBusy, withPolicies, LoadsPolicies, b
 use Rattle.desk.specs.Calls.{codeOf, plain, givenLoad, Called, no-desk, called, ByPolicies, loaded}
 use Rattle.desk.specs.Code.{mostLine}
 use Rattle.desk.proofs.CopyLaws.{bytes-local, numbers-kept}
+use Rattle.desk.proofs.CallLaws.{desk-is}
 use Rattle.desk.proofs.StepLaws.{HeadParts, parts-head, left-encodes}
 
 -- ── 42 ──
@@ -91,6 +92,17 @@ module _ (b : List ℕ) (h : Head) (is : headIn b ≡ h) where
   pub desk-by : deskBy b h ≡ deskIn b
   unfolding deskIn
   desk-by = ap (deskBy b) (sym is)
+
+  -- a desk at which policies are loaded
+  pub loaded-desk : (h .policies ≡ 0 → ⊥) → whole b h ≡ true
+      → (deskOf b ≡ some (some (loadedIn b h))) × (deskBy b h ≡ some (loadedIn b h)) × (headOk h ≡ true) × (edgeTable (edgesIn b h) ≡ true)
+  loaded-desk pol e =
+      let f = sym (desk-some b h pol) ∙ e in (
+        desk-of e ∙ ap some (desk-is b h is pol),
+        desk-by ∙ desk-is b h is pol,
+        and-left (headOk h) (rowsFit b h) (and-left (headOk h && rowsFit b h) (edgeTable (edgesIn b h) && stateOk (judgeIn b h)) f),
+        and-left (edgeTable (edgesIn b h)) (stateOk (judgeIn b h)) (and-right (headOk h && rowsFit b h) (edgeTable (edgesIn b h) && stateOk (judgeIn b h)) f),
+      )
 
 -- ── 52 ──
 

@@ -206,7 +206,7 @@ module _ (b : List ℕ) (h : Head) (raw : RawStep) (l : deskBytes ≤ length b) 
           outlined-is b b b′ h (j .state) (h .positions) ok st (λ m x y. refl) ∙ whole b h
           ∙ sym (off-for (j .answer) (outlinedIn b h) (off-head b h off (head-parts h ok .positions)) (stepOf raw))
 
-positions-is : (h : Head) (s : State) (k : ℕ) → headWith h s k .positions ≡ k
+pub positions-is : (h : Head) (s : State) (k : ℕ) → headWith h s k .positions ≡ k
 unfolding headWith
 positions-is h s k = refl
 
