@@ -105,7 +105,7 @@ pub record Fit (d : Loaded) (past : Past) (h : Bool) : Type 0 where
 
 -- ── The positions after a step that was allowed ──
 
-stray-next : (ns : List Node) (step : Step) → nextPositions ns step [] ≡ some []
+pub stray-next : (ns : List Node) (step : Step) → nextPositions ns step [] ≡ some []
 unfolding settledFrom strideAll spread addedAll every
 stray-next ns step = refl
 

@@ -38,6 +38,14 @@ abbrev pub Settles : Option (List Position) → ℕ → List ℕ → Type 0
 Settles none m t = (m ≡ suc mostPositions) × (length t ≡ rowPlaces)
 Settles (some l) m t = Tabled l m t
 
+-- What holds of every table and number of rows that are told, whatever was lent: the table keeps its size, and the number is at most 65.
+abbrev pub InTable : ℕ → List ℕ → Type 0
+InTable m t = (length t ≡ rowPlaces) × (m ≤ suc mostPositions)
+
+-- More rows than a table has: 65 is told, and nothing is written.
+abbrev pub TooMany : ℕ → ℕ → List ℕ → List ℕ → Type 0
+TooMany n m t₀ t = mostPositions < n → (m ≡ suc mostPositions) × (t ≡ t₀)
+
 -- the step of a kind and two numbers: 0 an event, 1 an opening, 2 a closing, else a retiring
 abbrev pub stepFrom : ℕ → ℕ → ℕ → Step
 stepFrom zero a b = event a b

@@ -4,6 +4,8 @@ ghost use mathlib.Core.Path.{_≡_};
 ghost use mathlib.Core.List.{List, [], _∷_};
 ghost use Prim.Native.Nat.{ℕ, suc, _+_, _*_, _/_, _<_, _≤_};
 ghost use lib.ListN.{length, getD, set};
+ghost use mathlib.Core.Bool.{_&&_};
+ghost use lib.Dec.{leb};
 ghost use Rattle.desk_positions.specs.Closure.{member, addedAll, spread};
 ghost use Rattle.usage.specs.Limits.{mostNodes, mostNames, nodeFields};
 ghost use Rattle.usage.specs.Past.{event, opening};
@@ -11,10 +13,11 @@ ghost use Rattle.usage.specs.Outline.{formOf};
 ghost use Rattle.usage.specs.Valid.{NodeOk, OutlineOk};
 ghost use Rattle.usage.specs.Tables.{nodeAt, nodesOf};
 ghost use Rattle.desk_positions.specs.Positions.{mostPositions, mostParts, sameMeanings, samePosition, Meanings, at, shut, Position, short};
-ghost use Rattle.desk_positions.specs.Positions.{silentBy, silentNext, strideBy, strideNext, strideAll, startPositions, nextPositions};
-ghost use Rattle.desk_positions.specs.Growth.{Fine, Tabled, Grown, OnTop, Settles, stepFrom};
+ghost use Rattle.desk_positions.specs.Positions.{silentBy, silentNext, strideBy, strideNext, strideAll, startPositions};
+ghost use Rattle.desk_positions.specs.Growth.{Fine, Tabled, Grown, OnTop, Settles, InTable, TooMany, stepFrom};
 ghost use Rattle.usage.specs.declared.Node.{Node};
 ghost use Rattle.desk_positions.specs.Rows.{rowWidth, rowPlaces, base, pushed, popped, rowOf, rowIn, rowsIn, Written, Adds};
+ghost use Rattle.desk_positions.specs.Reading.{itemIn, partsIn, rowOk, rowsOk};
 use usage::MOST_NODES;
 use usage::NODE_FIELDS;
 use usage::Node;
@@ -274,12 +277,13 @@ fn silent(nodes: &[u8], t: &mut Rows, n: usize, r: Row) -> usize
 }
 
 // All that the first n positions lead to without a step is added to them, unless a limit is exceeded.
-pub fn settle(nodes: &[u8], t: &mut Rows, n: usize) -> usize
+fn spread(nodes: &[u8], t: &mut Rows, n: usize) -> usize
     requires { ⌜ n ≤ mostPositions ⌝ }
     requires { ⌜ length (now t) ≡ rowPlaces ⌝ }
     ensures { λ m. ⌜ ((ls : List Position) → OutlineOk (nodesOf (now (nodes .entry))) → Tabled ls n (now (t .entry))
         → Settles (spread samePosition (silentNext (nodesOf (now (nodes .entry)))) mostPositions short (suc mostPositions) 0 ls) m
         (now (t .exit))) ⌝ }
+    ensures { λ m. ⌜ InTable m (now (t .exit)) ⌝ }
 {
     let mut m = n;
     let mut i: usize = 0;
@@ -502,12 +506,12 @@ fn stride(nodes: &[u8], t: &mut Rows, n: usize, r: Row, kind: u32, a: u32, b: u3
 // ── All positions ──
 
 // Where a step leads from each of the first n positions of the table `old`, in the table t.
-pub fn strides(nodes: &[u8], old: &Rows, n: usize, t: &mut Rows, kind: u32, a: u32, b: u32) -> usize
+fn collect(nodes: &[u8], old: &Rows, n: usize, t: &mut Rows, kind: u32, a: u32, b: u32) -> usize
     requires { ⌜ n ≤ mostPositions ⌝ }
     requires { ⌜ length (now t) ≡ rowPlaces ⌝ }
     ensures { λ m. ⌜ ((ls : List Position) → OutlineOk (nodesOf (now (nodes .entry))) → Tabled ls n (now (old .entry))
         → Grown (addedAll samePosition [] (strideAll (nodesOf (now (nodes .entry))) (stepFrom kind a b) ls)) m (now (t .exit))) ⌝ }
-    ensures { λ m. ⌜ length (now (t .exit)) ≡ rowPlaces ⌝ }
+    ensures { λ m. ⌜ InTable m (now (t .exit)) ⌝ }
 {
     let mut m: usize = 0;
     let mut i: usize = 0;
@@ -522,28 +526,118 @@ pub fn strides(nodes: &[u8], old: &Rows, n: usize, t: &mut Rows, kind: u32, a: u
     m
 }
 
-// The positions after a step, from those of the first n rows of the table `old`, in the table t: how many, or 65 where a limit is exceeded.
-pub fn next(nodes: &[u8], old: &Rows, n: usize, t: &mut Rows, kind: u32, a: u32, b: u32) -> usize
-    requires { ⌜ n ≤ mostPositions ⌝ }
-    requires { ⌜ length (now t) ≡ rowPlaces ⌝ }
+// A proof is told the length of an array that is passed by value, and not that of a lent one. Compiled, it copies nothing.
+fn rows_length(t: Rows)
+    ensures { λ r. ⌜ length t ≡ rowPlaces ⌝ }
+{}
+
+// Where a step leads from each of the first n positions of the table `old`, in the table t: how many rows t then has, or 65 where there is
+// no room. More rows than a table has are answered with 65, and nothing is written.
+pub fn strides(nodes: &[u8], old: &Rows, n: usize, t: &mut Rows, kind: u32, a: u32, b: u32) -> usize
     ensures { λ m. ⌜ ((ls : List Position) → OutlineOk (nodesOf (now (nodes .entry))) → Tabled ls n (now (old .entry))
-        → Settles (nextPositions (nodesOf (now (nodes .entry))) (stepFrom kind a b) ls) m (now (t .exit))) ⌝ }
+        → Grown (addedAll samePosition [] (strideAll (nodesOf (now (nodes .entry))) (stepFrom kind a b) ls)) m (now (t .exit))) ⌝ }
+    ensures { λ m. ⌜ InTable m (now (t .exit)) ⌝ }
+    ensures { λ m. ⌜ TooMany n m (now (t .entry)) (now (t .exit)) ⌝ }
 {
-    let m = strides(nodes, old, n, t, kind, a, b);
-    if MOST_POSITIONS < m {
+    let all = *t;
+    rows_length(all);
+    if MOST_POSITIONS < n {
         return MOST_POSITIONS + 1;
     }
-    settle(nodes, t, m)
+    collect(nodes, old, n, t, kind, a, b)
+}
+
+// All that the first n positions of a table lead to without a step is added to them: how many there are then, or 65 where a limit is
+// exceeded. More rows than a table has are answered with 65, and nothing is written.
+pub fn settle(nodes: &[u8], t: &mut Rows, n: usize) -> usize
+    ensures { λ m. ⌜ ((ls : List Position) → OutlineOk (nodesOf (now (nodes .entry))) → Tabled ls n (now (t .entry))
+        → Settles (spread samePosition (silentNext (nodesOf (now (nodes .entry)))) mostPositions short (suc mostPositions) 0 ls) m
+        (now (t .exit))) ⌝ }
+    ensures { λ m. ⌜ InTable m (now (t .exit)) ⌝ }
+    ensures { λ m. ⌜ TooMany n m (now (t .entry)) (now (t .exit)) ⌝ }
+{
+    let all = *t;
+    rows_length(all);
+    if MOST_POSITIONS < n {
+        return MOST_POSITIONS + 1;
+    }
+    spread(nodes, t, n)
 }
 
 // The positions at the load.
 pub fn start(nodes: &[u8], t: &mut Rows) -> usize
-    requires { ⌜ length (now t) ≡ rowPlaces ⌝ }
     ensures { λ m. ⌜ (OutlineOk (nodesOf (now (nodes .entry)))
         → Settles (startPositions (nodesOf (now (nodes .entry)))) m (now (t .exit))) ⌝ }
+    ensures { λ m. ⌜ InTable m (now (t .exit)) ⌝ }
 {
+    let all = *t;
+    rows_length(all);
     let cells = [0u32; ROW];
     let r = push(Row { cells }, 0, 0, 0, 0, 0, 0);
     store(t, 0, r);
-    settle(nodes, t, 1)
+    spread(nodes, t, 1)
+}
+
+// ── Rows that a caller hands over ──
+
+// Part j of the row r on top of a stack of so many.
+fn copy_part(s: Row, r: Row, j: usize) -> Row
+    requires { ⌜ j < mostParts ⌝ }
+    ensures { λ u. ⌜ ((c : Position) → length c ≡ j → s .cells ≡ rowOf c → u .cells ≡ rowOf (itemIn (r .cells) j ∷ c)) ⌝ }
+{
+    let i = 1 + PART * j;
+    let code = r.cells[i];
+    if MOST_NODES as u32 <= code {
+        return push(s, j, code, 0, 0, 0, 0);
+    }
+    let n0 = r.cells[i + 1];
+    let n1 = r.cells[i + 2];
+    let n2 = r.cells[i + 3];
+    let n3 = r.cells[i + 4];
+    push(s, j, code, n0, n1, n2, n3)
+}
+
+// The first parts of a row, written down anew.
+fn rewritten(r: Row, depth: usize) -> Row
+    requires { ⌜ depth ≤ mostParts ⌝ }
+    ensures { λ s. ⌜ s .cells ≡ rowOf (partsIn (r .cells) depth) ⌝ }
+{
+    let cells = [0u32; ROW];
+    let mut s = Row { cells };
+    let mut j: usize = 0;
+    while j < depth {
+        s = copy_part(s, r, j);
+        j += 1;
+    }
+    s
+}
+
+// Is row i that of a position?
+fn row_ok(t: &Rows, i: usize) -> bool
+    requires { ⌜ i < mostPositions ⌝ }
+    ensures { λ b. ⌜ b ≡ rowOk (rowIn (now (t .entry)) i) ⌝ }
+{
+    let r = load(t, i);
+    let depth = r.cells[0] as usize;
+    if MOST_PARTS < depth {
+        return false;
+    }
+    same(t, i, rewritten(r, depth))
+}
+
+// Are the first n rows those of positions? More rows than a table has are none.
+pub fn rows_ok(t: &Rows, n: usize) -> bool
+    ensures { λ b. ⌜ b ≡ (leb n mostPositions && rowsOk (now (t .entry)) n) ⌝ }
+{
+    if MOST_POSITIONS < n {
+        return false;
+    }
+    let mut i = n;
+    while 0 < i {
+        i -= 1;
+        if !row_ok(t, i) {
+            return false;
+        }
+    }
+    true
 }

@@ -1,0 +1,198 @@
+// A step at the desk: on the outline by the lean judge, off it by the full one.
+ghost use Prim.Native.Nat.{ℕ, suc, _<_, _≤_};
+ghost use mathlib.Core.Path.{_≡_};
+ghost use mathlib.Core.Bool.{true, false, cond};
+ghost use mathlib.Core.List.{List, []};
+ghost use lib.Dec.{eqb};
+ghost use lib.ListN.{length};
+ghost use Rattle.usage.specs.Limits.{mostNodes};
+ghost use Rattle.usage.specs.Valid.{OutlineOk};
+ghost use Rattle.usage.specs.Tables.{nodesOf};
+ghost use Rattle.desk_positions.specs.Closure.{addedAll, spread};
+ghost use Rattle.desk_positions.specs.Positions.{Position, mostPositions, samePosition, strideAll, silentNext, short};
+ghost use Rattle.desk_positions.specs.Growth.{Tabled, Grown, stepFrom};
+ghost use Rattle.desk_positions.specs.Reading.{positionsIn};
+ghost use Rattle.desk.specs.Layout.{deskBytes, rowsAt, Within, headIn};
+ghost use Rattle.desk.specs.State.{nodesIn, tableIn, headOk, isListed, encodedBy};
+ghost use Rattle.desk.specs.Calls.{codeOf, givenBy, Called, ByStep};
+ghost use Rattle.desk.specs.Promise.{isRefusal};
+ghost use Rattle.desk.specs.Code.{told, moves, SettledIn};
+use crate::Head;
+use desk_positions::MOST_POSITIONS;
+use desk_positions::ROW;
+use desk_positions::ROWS;
+use desk_positions::Rows;
+use monitor_state::Answer;
+use usage::NODE_FIELDS;
+use usage::RawStep;
+
+// The kind of a retiring among the steps.
+const RETIRING: u32 = 3;
+
+// The judge's refusal of a table of edges; at the desk it is 42, since no caller lends one.
+const NO_TABLE: u8 = 41;
+
+// The number that is told of a refusal by the judge.
+fn shown(n: u8) -> u32
+    ensures { λ r. ⌜ r ≡ cond (eqb n 41) 42 n ⌝ }
+    ensures { λ r. ⌜ r < 256 ⌝ }
+{
+    if n == NO_TABLE {
+        return 42;
+    }
+    n as u32
+}
+
+// What the lean judge's answer has more.
+fn lean_bit(lean: bool) -> u32
+    ensures { λ r. ⌜ r ≡ cond lean 65536 0 ⌝ }
+    ensures { λ r. ⌜ r ≤ 65536 ⌝ }
+{
+    if lean { 65536 } else { 0 }
+}
+
+// The answer to a step as one number.
+fn reply_code(a: Answer, lean: bool) -> u32
+    ensures { λ r. ⌜ r ≡ codeOf (givenBy (told a) lean) ⌝ }
+{
+    match a {
+        Answer::Allowed => lean_bit(lean),
+        Answer::Violated(p) => p as u32 + 256 + lean_bit(lean),
+        Answer::Refused(n) => shown(n) + 512,
+    }
+}
+
+fn is_refusal(a: Answer) -> bool
+    ensures { λ r. ⌜ r ≡ isRefusal a ⌝ }
+{
+    match a {
+        Answer::Allowed => false,
+        Answer::Violated(_) => false,
+        Answer::Refused(_) => true,
+    }
+}
+
+// Do the positions move? "Refused steps and retirings move no position", and after a violated step every step is refused.
+fn moves(a: Answer, kind: u32) -> bool
+    ensures { λ r. ⌜ r ≡ moves a kind ⌝ }
+{
+    match a {
+        Answer::Allowed => kind != RETIRING,
+        Answer::Violated(_) => false,
+        Answer::Refused(_) => false,
+    }
+}
+
+// Where no position is listed.
+pub(crate) fn off_outline(b: &mut [u8], h: Head, step: RawStep) -> u32
+    requires { ⌜ deskBytes ≤ length (now b) ⌝ }
+    requires { ⌜ headIn (now b) ≡ h ⌝ }
+    requires { ⌜ (h .policies ≡ 0 → ⊥) ⌝ }
+    requires { ⌜ headOk h ≡ true ⌝ }
+    requires { ⌜ isListed h ≡ false ⌝ }
+    ensures { λ r. ⌜ Called (ByStep step) (now (b .entry)) r (now (b .exit)) ⌝ }
+{
+    let j = crate::judge::judged(b, h, false, step);
+    let answer = j.answer;
+    if is_refusal(answer) {
+        return reply_code(answer, false);
+    }
+    let s = j.state;
+    crate::judge::judge_out(b, h, s, h.positions);
+    reply_code(answer, false)
+}
+
+// Where the step leads from the listed positions, in the table `new`: how many rows that is. At a retiring the routine stays where it is.
+fn stride_rows(b: &[u8], h: Head, old: &Rows, new: &mut Rows, step: RawStep) -> usize
+    requires { ⌜ deskBytes ≤ length (now b) ⌝ }
+    requires { ⌜ h .nodes ≤ mostNodes ⌝ }
+    ensures { λ m. ⌜ (step .kind ≡ 3 → m ≡ h .positions) ⌝ }
+    ensures { λ m. ⌜ ((step .kind ≡ 3 → ⊥) → (ls : List Position) → OutlineOk (nodesOf (nodesIn (now (b .entry)) h))
+        → Tabled ls (h .positions) (now (old .entry))
+        → Grown (addedAll samePosition [] (strideAll (nodesOf (nodesIn (now (b .entry)) h)) (stepFrom (step .kind) (step .a) (step .b)) ls)) m
+        (now (new .exit))) ⌝ }
+{
+    let n = h.positions as usize;
+    if step.kind == RETIRING {
+        return n;
+    }
+    let e = crate::NODES_AT + NODE_FIELDS * h.nodes as usize;
+    desk_positions::strides(
+        &b[crate::NODES_AT..e],
+        old,
+        n,
+        new,
+        step.kind,
+        step.a,
+        step.b,
+    )
+}
+
+// All that these rows lead to without a step is written to the bytes: how many positions there are, or 65.
+fn settle_rows(b: &mut [u8], h: Head, new: &mut Rows, m: usize) -> u32
+    requires { ⌜ deskBytes ≤ length (now b) ⌝ }
+    requires { ⌜ h .nodes ≤ mostNodes ⌝ }
+    ensures { λ k. ⌜ ((ls : List Position) → OutlineOk (nodesOf (nodesIn (now (b .entry)) h)) → Tabled ls m (now (new .entry))
+        → SettledIn (spread samePosition (silentNext (nodesOf (nodesIn (now (b .entry)) h))) mostPositions short (suc mostPositions) 0 ls) k
+        (now (b .exit))) ⌝ }
+    ensures { λ k. ⌜ (mostPositions < m → k ≡ suc mostPositions) ⌝ }
+    ensures { λ k. ⌜ Within (now (b .entry)) rowsAt deskBytes (now (b .exit)) ⌝ }
+{
+    let e = crate::NODES_AT + NODE_FIELDS * h.nodes as usize;
+    let k = desk_positions::settle(&b[crate::NODES_AT..e], new, m);
+    if MOST_POSITIONS < k {
+        return k as u32;
+    }
+    crate::bytes::words_out(b, crate::ROWS_AT, ROW * k, new);
+    k as u32
+}
+
+// Where positions are listed, which the table `old` holds.
+fn on_rows(b: &mut [u8], h: Head, old: &Rows, step: RawStep) -> u32
+    requires { ⌜ deskBytes ≤ length (now b) ⌝ }
+    requires { ⌜ headIn (now b) ≡ h ⌝ }
+    requires { ⌜ (h .policies ≡ 0 → ⊥) ⌝ }
+    requires { ⌜ encodedBy (now b) h ≡ true ⌝ }
+    requires { ⌜ isListed h ≡ true ⌝ }
+    requires { ⌜ Tabled (positionsIn (tableIn (now b)) (h .positions)) (h .positions) (now old) ⌝ }
+    ensures { λ r. ⌜ Called (ByStep step) (now (b .entry)) r (now (b .exit)) ⌝ }
+{
+    let mut new = [0u32; ROWS];
+    let m = stride_rows(b, h, old, &mut new, step);
+    let lean = 0 < m;
+    let j = crate::judge::judged(b, h, lean, step);
+    let answer = j.answer;
+    if is_refusal(answer) {
+        return reply_code(answer, lean);
+    }
+    let s = j.state;
+    if moves(answer, step.kind) {
+        let k = settle_rows(b, h, &mut new, m);
+        crate::judge::judge_out(b, h, s, k);
+        return reply_code(answer, lean);
+    }
+    crate::judge::judge_out(b, h, s, h.positions);
+    reply_code(answer, lean)
+}
+
+// Where the head lists positions: the nodes and the rows are tested (42).
+pub(crate) fn on_outline(b: &mut [u8], h: Head, step: RawStep) -> u32
+    requires { ⌜ deskBytes ≤ length (now b) ⌝ }
+    requires { ⌜ headIn (now b) ≡ h ⌝ }
+    requires { ⌜ (h .policies ≡ 0 → ⊥) ⌝ }
+    requires { ⌜ headOk h ≡ true ⌝ }
+    requires { ⌜ isListed h ≡ true ⌝ }
+    ensures { λ r. ⌜ Called (ByStep step) (now (b .entry)) r (now (b .exit)) ⌝ }
+{
+    let e = crate::NODES_AT + NODE_FIELDS * h.nodes as usize;
+    if !sheet_rules::node_table_ok(&b[crate::NODES_AT..e]) {
+        return reply_code(Answer::Refused(42), false);
+    }
+    let n = h.positions as usize;
+    let mut old = [0u32; ROWS];
+    crate::bytes::words_in(b, crate::ROWS_AT, ROW * n, &mut old);
+    if !desk_positions::rows_ok(&old, n) {
+        return reply_code(Answer::Refused(42), false);
+    }
+    on_rows(b, h, &old, step)
+}

@@ -1,0 +1,68 @@
+use denote.Ref.{now}
+use borrow.Author.Tests.{lt-leb, le-leb}
+use Rattle.desk_positions.specs.Positions.{mostParts}
+use Rattle.desk_positions.specs.Rows.{rowOf, rowIn}
+use Rattle.desk_positions.specs.Reading.{positionIn, rowOk}
+use native.Mathlib.Omega.{arith}
+use mathlib.Core.Path.{_≡_, refl, sym, ap, _∙_}
+use Prim.Native.Nat.{ℕ, suc, _+_, _-_, _≤_, _<_}
+use lib.ListN.{length, getD, take, drop, set}
+use borrow.Author.Needs.{needs}
+use Rattle.desk_positions.proofs.row_ok.Statement.{statement}
+use Rattle.desk_positions.proofs.row_ok.Tie as tie
+use Rattle.desk_positions.proofs.row_ok.Reads as reads
+use Rattle.desk_positions.proofs.row_ok.Lts as lts
+use Rattle.desk_positions.proofs.load.Reads as load-reads
+use Rattle.desk_positions.proofs.rewritten.Reads as rewritten-reads
+use Rattle.desk_positions.proofs.same.Reads as same-reads
+
+-- src/lib.rt:620:13
+load-requires : tie.Need-load-requires
+load-requires c κs = search needs
+
+-- src/lib.rt:621:17
+element-copy-out-depth : tie.Need-element-copy-out-depth
+element-copy-out-depth c = search needs
+
+-- src/lib.rt:621:17
+cast-depth : tie.Need-cast-depth
+cast-depth c = search needs
+
+-- src/lib.rt:623:9
+returns : tie.Need-returns
+unfolding rowOk
+returns c =
+    let a = c .before .before .before .args in
+    let e : c .before .before .load .result .cells ≡ rowIn (now (a .t)) (a .i) = c .before .before .load .ensures in
+    let h : mostParts < getD (rowIn (now (a .t)) (a .i)) 0 0 = rw e at (c .if1 .taken) in
+    simp (lt-leb _ _ h)
+
+-- src/lib.rt:625:16
+rewritten-requires : tie.Need-rewritten-requires
+rewritten-requires c κs = search needs
+
+-- src/lib.rt:625:5
+same-requires : tie.Need-same-requires
+same-requires c κs = search needs
+
+-- src/lib.rt:616:1
+returns-2 : tie.Need-returns-2
+unfolding rowOk
+returns-2 c =
+    let a = c .before .before .before .before .before .args in
+    let e : c .before .before .before .before .load .result .cells ≡ rowIn (now (a .t)) (a .i) = c .before .before .before .before .load .ensures in
+    let h : getD (rowIn (now (a .t)) (a .i)) 0 0 ≤ mostParts = rw e at (c .before .before .if1 .left) in
+    let k : c .before .rewritten .result .cells ≡ rowOf (positionIn (rowIn (now (a .t)) (a .i))) = rw e at (c .before .rewritten .ensures) in
+    c .same .ensures ∙ rw k (simp (le-leb _ _ h))
+
+pub row-ok-spec : {M : Type 1} → statement M
+row-ok-spec =
+    tie.close
+    (tie.spec
+    load-requires
+    element-copy-out-depth
+    cast-depth
+    returns
+    rewritten-requires
+    same-requires
+    returns-2)
