@@ -108,7 +108,7 @@ fn outline_in(bytes: &[u8], nodes: usize, positions: usize) -> Option<Outline> {
     let positions = match positions {
         0 => Some(BTreeSet::new()),
         listed if listed <= MOST_POSITIONS => {
-            let rows: Option<BTreeSet<Position>> = (0..listed).map(|row| position_in(bytes, row, nodes.len())).collect();
+            let rows: Option<BTreeSet<Position>> = (0..listed).map(|row| position_in(bytes, row)).collect();
             Some(rows.filter(|_| nodes_fit(&nodes))?)
         }
         _ => None,
@@ -117,24 +117,22 @@ fn outline_in(bytes: &[u8], nodes: usize, positions: usize) -> Option<Outline> {
 }
 
 /// "the part that is run last first".
-fn position_in(bytes: &[u8], row: usize, nodes: usize) -> Option<Position> {
+fn position_in(bytes: &[u8], row: usize) -> Option<Position> {
     let numbers: [u64; ROW_NUMBERS] = std::array::from_fn(|i| number(bytes, ROWS + ROW_BYTES * row + 4 * i));
     let parts = usize::try_from(numbers[0]).ok().filter(|parts| *parts <= MOST_PARTS)?;
     let used = 1 + PART_NUMBERS * parts;
     if numbers[used..].iter().any(|number| *number != 0) {
         return None;
     }
-    numbers[1..used].chunks(PART_NUMBERS).map(|part| part_of(part, nodes)).collect()
+    numbers[1..used].chunks(PART_NUMBERS).map(part_of).collect()
 }
 
-fn part_of(numbers: &[u64], nodes: usize) -> Option<Part> {
+/// A node, also one that the outline does not have, or a closing, also of what is no policy: neither leads anywhere.
+fn part_of(numbers: &[u64]) -> Option<Part> {
     let meaning = std::array::from_fn(|name| Some(numbers[1 + name]).filter(|resource| *resource != 0));
     match numbers[0] {
-        node if node < nodes as u64 => Some(Part::Node(node as usize, meaning)),
-        closing if (CLOSINGS..CLOSINGS + POLICIES as u64).contains(&closing) => {
-            (meaning == [None; NAMES]).then_some(Part::Closing(closing - CLOSINGS))
-        }
-        _ => None,
+        node if node < CLOSINGS => Some(Part::Node(node as usize, meaning)),
+        closing => (meaning == [None; NAMES]).then_some(Part::Closing(closing - CLOSINGS)),
     }
 }
 

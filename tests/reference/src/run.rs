@@ -42,12 +42,13 @@ impl Run {
         &self.parts
     }
 
-    /// Is the first part an event on a name that means nothing? No run of an outline comes to that.
+    /// Is the first part a node that is not there, or an event on a name that means nothing? No run of an outline comes to that.
     pub fn is_stuck(&self, nodes: &[Node]) -> bool {
         match self.parts.last() {
-            Some(Part::Node(n, meaning)) if nodes[*n].kind == NAMED_EVENT => {
-                meaning[nodes[*n].b as usize].is_none()
-            }
+            Some(Part::Node(n, meaning)) => match nodes.get(*n) {
+                None => true,
+                Some(node) => node.kind == NAMED_EVENT && meaning[node.b as usize].is_none(),
+            },
             _ => false,
         }
     }
