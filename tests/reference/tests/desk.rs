@@ -131,7 +131,7 @@ fn refused_bytes_are_told_before_all_else() {
 
 #[test]
 fn stored_sequences_have_every_number() {
-    let told: String = sessions(20_016, 300).iter().map(answers).chain([borders()]).collect();
+    let told: String = sessions(20_017, 300).iter().map(answers).chain([borders()]).collect();
     let rows: Vec<Vec<u64>> = told.lines().map(|line| line.split(' ').map(|word| word.parse().unwrap()).collect()).collect();
     let refused: BTreeSet<u64> = rows.iter().filter(|row| row[0] == 2).map(|row| row[1]).collect();
     let every = [1, 2, 3, 4, 5, 6, 7, 8, 11, 12, 13, 20, 22, 24, 25, 26, 27, 28, 30, 32, 42, 50, 51, 52];
