@@ -38,6 +38,9 @@
 #define WIFOREKUN_READ_EXPRESSION_STACK 131072
 #define WIFOREKUN_REPORT_EXPRESSION_STACK 131072
 #define WIFOREKUN_WRITE_POLICIES_STACK 65536
+#define WIFOREKUN_DESK_POLICIES_STACK 65536
+#define WIFOREKUN_DESK_OUTLINE_STACK 131072
+#define WIFOREKUN_DESK_STEP_STACK 65536
 
 #ifdef __cplusplus
 extern "C" {
@@ -192,6 +195,35 @@ size_t wiforekun_report_expression(const uint8_t *text, size_t text_length, uint
 #define WIFOREKUN_SHEET_ROOM 32768
 #define WIFOREKUN_REFUSAL_LENGTH 2
 size_t wiforekun_write_policies(const uint8_t *text, size_t text_length, uint8_t *out, size_t out_length, uint64_t *refusal);
+
+/* The routine desk: policies, an outline and the monitor's state as one object of WIFOREKUN_DESK_STATE bytes, all zero at first:
+ *
+ *   static uint8_t desk[WIFOREKUN_DESK_STATE];
+ *   wiforekun_desk_policies(desk, sizeof desk, policies, policies_length);
+ *   wiforekun_desk_outline(desk, sizeof desk, outline, outline_length);
+ *   wiforekun_desk_step(desk, sizeof desk, kind, a, b);
+ *
+ * It is plain data, without a pointer or an alignment: it may be copied, kept and taken up again. docs/DESK.md has its layout. Bytes behind the
+ * length are not looked at and keep their contents.
+ * An answer is one number. WIFOREKUN_ANSWER and WIFOREKUN_DETAIL take it apart as for the monitor and the checker; WIFOREKUN_LINE is the line of
+ * a refused sheet, 0 where there is none, and WIFOREKUN_IS_LEAN is 1 where a step is not refused and the lean monitor gave the answer, else 0.
+ * A refused call changes no byte. Of the numbers these come first, in this order: 40 where the state is shorter than the length, 42 where its bytes
+ * encode no desk state, 50 a step before policies are loaded, 51 an outline before policies are, 52 a load while a sandbox is open and the run is
+ * not halted. A state that passes 42 but that no desk has written is answered by what it holds. */
+#define WIFOREKUN_DESK_STATE 23552
+#define WIFOREKUN_IS_LEAN(code) ((code) / 65536u % 2u)
+#define WIFOREKUN_LINE(code) ((code) / 131072u)
+
+/* Loads a policy sheet from its bytes, drops the outline and starts the monitor afresh. */
+uint32_t wiforekun_desk_policies(uint8_t *state, size_t state_length, const uint8_t *text, size_t text_length);
+
+/* Loads an outline sheet from its bytes, starts the monitor afresh and answers with the check's verdict; the outline is kept either way. */
+uint32_t wiforekun_desk_outline(uint8_t *state, size_t state_length, const uint8_t *text, size_t text_length);
+
+/* One step. It is handed to the lean monitor while the routine stays on the outline, from the first stray step on, or once there are more than 64
+ * places of the outline at which the routine may be or one with more than 16 parts still to run, to the full one. The answers are those of the
+ * full monitor started at the last load. */
+uint32_t wiforekun_desk_step(uint8_t *state, size_t state_length, uint32_t kind, uint32_t a, uint32_t b);
 
 #ifdef __cplusplus
 }

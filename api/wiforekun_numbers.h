@@ -59,5 +59,8 @@
 #define WIFOREKUN_REFUSED_ROOM 40u /* a table lent to be filled is smaller than its sheet's largest count, or a sheet lent to be written has less than 32,768 bytes */
 #define WIFOREKUN_REFUSED_TABLE 41u /* a table lent to be used is one that no accepted sheet gives, or the number that tells which past counts is neither 0 nor 1 */
 #define WIFOREKUN_REFUSED_STATE 42u /* a state with more than 64 live resources, one listed twice or outside 16 to 4,294,967,295, or above the highest number created; an order of openings longer than 64, with an entry that is no policy, or in which some policy stands another number of times than its count; or a halted flag other than 0 and 1 */
+#define WIFOREKUN_REFUSED_STEP_BEFORE_POLICIES 50u /* a step at a desk before policies are loaded */
+#define WIFOREKUN_REFUSED_OUTLINE_BEFORE_POLICIES 51u /* an outline is loaded at a desk before policies are */
+#define WIFOREKUN_REFUSED_LOAD_WHILE_OPEN 52u /* a load at a desk while a sandbox is open and the run is not halted */
 
 #endif

@@ -7,6 +7,7 @@ mod c_step;
 mod checking;
 #[cfg(feature = "count")]
 mod climb;
+mod desk;
 mod expressions;
 mod inputs;
 mod judging;
@@ -46,6 +47,7 @@ fn verify() {
     println!("equal: {} expressions", expressions::verify());
     println!("equal: {} traces", checking::verify_traces(&mut rng, 400));
     println!("equal: {} policy sheets written again", writing::verify());
+    println!("equal: {} steps at the desk and by the judge", desk::verify(&mut rng));
 }
 
 fn rows(only: &str) {
@@ -57,6 +59,8 @@ fn rows(only: &str) {
     reading::rows(chosen);
     writing::rows(chosen);
     expressions::rows(chosen);
+    desk::rows(chosen);
+    desk::load_rows(chosen);
 }
 
 #[cfg(feature = "count")]

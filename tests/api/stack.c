@@ -24,6 +24,7 @@ static uint32_t local, steps[3 * 2000], trace[WIFOREKUN_COUNTEREXAMPLE_ROOM];
 static size_t step_count;
 static struct wiforekun_state state;
 static uint64_t marks[WIFOREKUN_MARKS_LENGTH], refusal[WIFOREKUN_REFUSAL_LENGTH];
+static uint8_t desk[WIFOREKUN_DESK_STATE];
 
 static void enter(void) {
     task();
@@ -105,25 +106,72 @@ static void report_counterexample(void) {
     (void)wiforekun_report_counterexample(policies, policies_length, other, other_length, out, sizeof out);
 }
 
+static void empty_desk(void) {
+    memset(desk, 0, sizeof desk);
+}
+
+static void desk_policies(void) {
+    (void)wiforekun_desk_policies(desk, sizeof desk, policies, policies_length);
+}
+
+/* the policies of the case are loaded */
+static void desk_with_policies(void) {
+    empty_desk();
+    desk_policies();
+}
+
+static void desk_outline(void) {
+    (void)wiforekun_desk_outline(desk, sizeof desk, other, other_length);
+}
+
+/* and its outline; for a trace one that has every kind of node, at which several positions are listed */
+static void desk_with_outline(void) {
+    static const uint8_t kinds[] = "node kind a b\n0 8 0 1\n1 5 2 0\n2 4 3 4\n3 0 0 0\n4 7 0 5\n5 3 6 7\n6 2 1 0\n7 3 8 9\n8 1 2 3\n9 6 1 0\n";
+    desk_with_policies();
+    desk_outline();
+    (void)wiforekun_desk_outline(desk, sizeof desk, kinds, sizeof kinds - 1);
+}
+
+static void desk_steps(void) {
+    for (size_t i = 0; i < step_count; i++)
+        (void)wiforekun_desk_step(desk, sizeof desk, steps[3 * i], steps[3 * i + 1], steps[3 * i + 2]);
+}
+
+/* one that the outline may have */
+static void desk_step(void) {
+    static const uint32_t any[][3] = {{1, 0, 0}, {0, 0, 16}, {0, 1, 16}, {0, 2, 3}, {3, 16, 0}, {2, 0, 0}, {9, 0, 0}};
+    for (size_t i = 0; i < sizeof any / sizeof *any; i++) (void)wiforekun_desk_step(desk, sizeof desk, any[i][0], any[i][1], any[i][2]);
+}
+
+static void desk_with_own_outline(void) {
+    desk_with_policies();
+    desk_outline();
+}
+
 static struct {
     const char *name;
     void (*of)(void);
-    char kind; /* on which sheets it works */
+    char kind;             /* on which sheets it works */
+    void (*before)(void); /* what is done first, and not measured */
     size_t most;
 } functions[] = {
-    {"wiforekun_start_parts", start, 'b', 0},
-    {"wiforekun_judge_parts", judge, 't', 0},
-    {"wiforekun_check", check, 'o', 0},
-    {"wiforekun_counterexample", counterexample, 'o', 0},
-    {"wiforekun_report_trace", report_trace, 't', 0},
-    {"wiforekun_report_outline", report_outline, 'o', 0},
-    {"wiforekun_report_counterexample", report_counterexample, 'o', 0},
-    {"wiforekun_summary", summary, 'o', 0},
-    {"wiforekun_judge_lean_parts", judge_lean, 't', 0},
-    {"wiforekun_report_summary", report_summary, 'o', 0},
-    {"wiforekun_write_policies", write_policies, 'b', 0},
-    {"wiforekun_read_expression", read_expression, 'e', 0},
-    {"wiforekun_report_expression", report_expression, 'e', 0},
+    {"wiforekun_start_parts", start, 'b', nothing, 0},
+    {"wiforekun_judge_parts", judge, 't', nothing, 0},
+    {"wiforekun_check", check, 'o', nothing, 0},
+    {"wiforekun_counterexample", counterexample, 'o', nothing, 0},
+    {"wiforekun_report_trace", report_trace, 't', nothing, 0},
+    {"wiforekun_report_outline", report_outline, 'o', nothing, 0},
+    {"wiforekun_report_counterexample", report_counterexample, 'o', nothing, 0},
+    {"wiforekun_summary", summary, 'o', nothing, 0},
+    {"wiforekun_judge_lean_parts", judge_lean, 't', nothing, 0},
+    {"wiforekun_report_summary", report_summary, 'o', nothing, 0},
+    {"wiforekun_write_policies", write_policies, 'b', nothing, 0},
+    {"wiforekun_read_expression", read_expression, 'e', nothing, 0},
+    {"wiforekun_report_expression", report_expression, 'e', nothing, 0},
+    {"wiforekun_desk_policies", desk_policies, 'b', empty_desk, 0},
+    {"wiforekun_desk_outline", desk_outline, 'o', desk_with_policies, 0},
+    {"wiforekun_desk_step", desk_steps, 't', desk_with_outline, 0},
+    {"wiforekun_desk_step", desk_step, 'o', desk_with_own_outline, 0},
 };
 
 static size_t load(const char *path, uint8_t *to) {
@@ -178,6 +226,7 @@ int main(int count, char **cases) {
         tables(*kind);
         for (size_t f = 0; f < sizeof functions / sizeof *functions; f++) {
             if (functions[f].kind != *kind && functions[f].kind != 'b') continue;
+            functions[f].before();
             size_t used = taken(functions[f].of) - empty;
             if (used > functions[f].most && used < SIZE) functions[f].most = used;
         }

@@ -24,12 +24,16 @@
 #![no_std]
 #![warn(missing_docs)]
 
+mod desk;
 mod expression;
 mod numbers;
 mod tables;
 mod writer;
 
 use core::fmt;
+pub use desk::{
+    desk_outline_code, desk_policies_code, desk_step_code, Desk, Judge, Reply, Verdict, DESK_STATE,
+};
 pub use expression::{outline_from_expression, print_expression, read_expression_code, EXPRESSION_TEXT_ROOM, NODES_ROOM};
 pub use tables::{Edge, Node, On, Step, Table};
 pub use writer::{write_policies, SHEET_ROOM};

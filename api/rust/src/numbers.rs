@@ -58,6 +58,12 @@ impl Refusal {
     pub const TABLE: Refusal = Refusal(41);
     /// 42: a state with more than 64 live resources, one listed twice or outside 16 to 4,294,967,295, or above the highest number created; an order of openings longer than 64, with an entry that is no policy, or in which some policy stands another number of times than its count; or a halted flag other than 0 and 1.
     pub const STATE: Refusal = Refusal(42);
+    /// 50: a step at a desk before policies are loaded.
+    pub const STEP_BEFORE_POLICIES: Refusal = Refusal(50);
+    /// 51: an outline is loaded at a desk before policies are.
+    pub const OUTLINE_BEFORE_POLICIES: Refusal = Refusal(51);
+    /// 52: a load at a desk while a sandbox is open and the run is not halted.
+    pub const LOAD_WHILE_OPEN: Refusal = Refusal(52);
 
     /// What the number means, in the words of docs/SHEETS.md; none for a number that no function answers with.
     #[must_use]
@@ -91,6 +97,9 @@ impl Refusal {
             40 => Some("a table lent to be filled is smaller than its sheet's largest count, or a sheet lent to be written has less than 32,768 bytes"),
             41 => Some("a table lent to be used is one that no accepted sheet gives, or the number that tells which past counts is neither 0 nor 1"),
             42 => Some("a state with more than 64 live resources, one listed twice or outside 16 to 4,294,967,295, or above the highest number created; an order of openings longer than 64, with an entry that is no policy, or in which some policy stands another number of times than its count; or a halted flag other than 0 and 1"),
+            50 => Some("a step at a desk before policies are loaded"),
+            51 => Some("an outline is loaded at a desk before policies are"),
+            52 => Some("a load at a desk while a sandbox is open and the run is not halted"),
             _ => None,
         }
     }

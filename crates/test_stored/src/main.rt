@@ -2,6 +2,8 @@
 // the borders of the numbers that no sheet can bring about. What is printed is compared with what the reference program printed.
 mod borders;
 mod counterexamples;
+mod desk_calls;
+mod desk_cases;
 mod expressions;
 mod judge_calls;
 mod lean;
@@ -28,4 +30,6 @@ fn main() {
     lean::summaries(b'c', 320);
     lean::all(240);
     lean_calls::calls();
+    desk_cases::all(300);
+    desk_calls::calls();
 }

@@ -37,13 +37,13 @@ pub(crate) fn all(count: u64) -> u64
 }
 
 // How many bytes hold the mark.
-fn kept(lent: &[u8]) -> usize
+pub(crate) fn kept(lent: &[u8], mark: u8) -> usize
     ensures { λ r. ⌜ r ≤ length (now (lent .entry)) ⌝ }
 {
     let mut i: usize = 0;
     let mut n: usize = 0;
     while i < lent.len() {
-        if lent[i] == MARK {
+        if lent[i] == mark {
             n += 1;
         }
         i += 1;
@@ -70,7 +70,7 @@ fn short(n: u64, text: &[u8]) -> u64
     let mut lent = [MARK; TOO_SHORT];
     let mut refusal = [0u64, 0];
     let length = api_c::writer::wiforekun_write_policies(text, &mut lent, &mut refusal);
-    let left = kept(&lent);
+    let left = kept(&lent, MARK);
     told(n, length, refusal[0], refusal[1], left)
 }
 
@@ -81,7 +81,7 @@ fn enough(n: u64, text: &[u8]) -> u64
     let mut lent = [MARK; LONGEST_SHEET];
     let mut refusal = [0u64, 0];
     let length = api_c::writer::wiforekun_write_policies(text, &mut lent, &mut refusal);
-    let left = kept(&lent);
+    let left = kept(&lent, MARK);
     told(n, length, refusal[0], refusal[1], left)
 }
 
@@ -92,7 +92,7 @@ fn longer(n: u64, text: &[u8]) -> u64
     let mut lent = [MARK; MOST_LENT];
     let mut refusal = [0u64, 0];
     let length = api_c::writer::wiforekun_write_policies(text, &mut lent, &mut refusal);
-    let left = kept(&lent);
+    let left = kept(&lent, MARK);
     told(n, length, refusal[0], refusal[1], left)
 }
 

@@ -3,6 +3,9 @@
 pub mod borders;
 pub mod counterexample;
 pub mod damage;
+pub mod desk;
+pub mod desk_bytes;
+pub mod desk_sessions;
 pub mod expression;
 pub mod generate;
 pub mod grammar;
@@ -10,6 +13,7 @@ pub mod judge;
 pub mod least;
 pub mod outline;
 pub mod policy;
+pub mod positions;
 pub mod program;
 pub mod pushdown;
 pub mod rng;

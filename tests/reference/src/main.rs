@@ -1,6 +1,7 @@
 //! The command line of the reference.
 
 use reference::counterexample::shown_fault;
+use reference::desk_sessions;
 use reference::expression;
 use reference::generate::{self, Case, Kind};
 use reference::program;
@@ -20,13 +21,15 @@ const USAGE: &str = "usage:
   reference write DIR
   reference nodes DIR
   reference judge FILE
-  reference generate trace|outline|counterexample|state|policies|expression|lean SEED COUNT DIR
-  reference expect trace|outline|counterexample|summary|state|policies|expression|lean DIR COUNT
+  reference generate trace|outline|counterexample|state|policies|expression|lean|desk SEED COUNT DIR
+  reference expect trace|outline|counterexample|summary|state|policies|expression|lean|desk DIR COUNT
   reference borders
   reference lean-borders
   reference writings
   reference stops DIR COUNT
   reference expression-borders
+  reference desk-borders
+  reference desk DIR
 ";
 
 fn main() -> ExitCode {
@@ -70,6 +73,11 @@ fn run(words: &[&str]) -> Option<io::Result<String>> {
         ["lean-borders"] => Some(Ok(reference::borders::lean_lines())),
         ["writings"] => Some(Ok(reference::writer::calls())),
         ["stops", dir, count] => Some(Ok(stops(dir, count.parse().ok()?))),
+        ["desk-borders"] => Some(Ok(desk_sessions::borders())),
+        ["desk", dir] => {
+            let [policies, outline, trace] = ["policies.txt", "outline.txt", "trace.txt"].map(|name| read(dir, name));
+            Some(Ok(desk_sessions::printed(&policies, &outline, &trace)))
+        }
         ["expression-borders"] => Some(Ok(expression::borders())),
         ["generate", "state", seed, count, dir] => {
             Some(generate_calls(seed.parse().ok()?, count.parse().ok()?, Path::new(dir)))
@@ -83,6 +91,9 @@ fn run(words: &[&str]) -> Option<io::Result<String>> {
         ["generate", "lean", seed, count, dir] => {
             Some(generate_lean(seed.parse().ok()?, count.parse().ok()?, Path::new(dir)))
         }
+        ["generate", "desk", seed, count, dir] => {
+            Some(desk_sessions::write(seed.parse().ok()?, count.parse().ok()?, Path::new(dir)))
+        }
         ["generate", kind, seed, count, dir] => {
             let (seed, count) = (seed.parse().ok()?, count.parse().ok()?);
             Some(generate_cases(kind_of(kind)?, seed, count, Path::new(dir)))
@@ -92,6 +103,7 @@ fn run(words: &[&str]) -> Option<io::Result<String>> {
         ["expect", "expression", dir, count] => Some(Ok(expect_expressions(dir, count.parse().ok()?))),
         ["expect", "summary", dir, count] => Some(Ok(expect_summaries(dir, count.parse().ok()?))),
         ["expect", "lean", dir, count] => Some(Ok(expect_lean(dir, count.parse().ok()?))),
+        ["expect", "desk", dir, count] => Some(Ok(desk_sessions::expected(Path::new(dir), count.parse().ok()?))),
         ["expect", kind, dir, count] => Some(Ok(expect(kind_of(kind)?, dir, count.parse().ok()?))),
         _ => None,
     }

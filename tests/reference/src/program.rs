@@ -10,7 +10,7 @@ use crate::summary::{lean_answers, summary, Marks, MARK_BITS};
 use crate::sheet::{read_outline, read_policies, read_trace, Refusal, TRACE_NAMES};
 use crate::writer::written;
 
-const NAMES: &str = "line answer detail\n";
+pub const NAMES: &str = "line answer detail\n";
 const MARK_NAMES: &str = "policy action\n";
 
 const POLICIES_REFUSED: u32 = 3;

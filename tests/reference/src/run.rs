@@ -9,7 +9,7 @@ use crate::policy::{Policy, POLICIES, STATICS};
 /// What each name means.
 pub type Meaning = [Option<u64>; NAMES];
 
-#[derive(Clone, Debug, PartialEq, Eq, Hash)]
+#[derive(Clone, Debug, PartialEq, Eq, PartialOrd, Ord, Hash)]
 pub enum Part {
     Node(usize, Meaning),
     Closing(u64),
@@ -42,21 +42,42 @@ impl Run {
         &self.parts
     }
 
+    /// Is the first part a node that is not there, or an event on a name that means nothing? No run of an outline comes to that.
+    pub fn is_stuck(&self, nodes: &[Node]) -> bool {
+        match self.parts.last() {
+            Some(Part::Node(n, meaning)) => match nodes.get(*n) {
+                None => true,
+                Some(node) => node.kind == NAMED_EVENT && meaning[node.b as usize].is_none(),
+            },
+            _ => false,
+        }
+    }
+
     /// Is the first part a choice?
     pub fn chooses(&self, nodes: &[Node]) -> bool {
         matches!(self.parts.last(), Some(Part::Node(n, _)) if nodes[*n].kind == CHOICE)
     }
 
+    /// A run that holds these parts, of which the steps so far are not kept.
+    pub fn holding(parts: Vec<Part>) -> Run {
+        Run { steps: vec![], parts }
+    }
+
     /// One move. A fresh node picks the lowest resource not used so far.
     pub fn advance(&mut self, nodes: &[Node], way: Way) {
+        self.advance_giving(nodes, way, self.unused());
+    }
+
+    /// One move. A fresh node gives this resource.
+    pub fn advance_giving(&mut self, nodes: &[Node], way: Way, resource: u64) {
         match self.parts.pop() {
             None => {}
             Some(Part::Closing(policy)) => self.steps.push(Step::close(policy)),
-            Some(Part::Node(number, meaning)) => self.enter(nodes[number], meaning, way),
+            Some(Part::Node(number, meaning)) => self.enter(nodes[number], meaning, way, resource),
         }
     }
 
-    fn enter(&mut self, node: Node, meaning: Meaning, way: Way) {
+    fn enter(&mut self, node: Node, meaning: Meaning, way: Way, unused: u64) {
         match node.kind {
             END => {}
             STATIC_EVENT => self.steps.push(Step::event(node.a, node.b)),
@@ -71,10 +92,9 @@ impl Run {
             CHOICE => self.put(if way == Way::Left { node.a } else { node.b }, meaning),
             LOOP | BACK => self.put(node.a, meaning),
             FRESH => {
-                let resource = self.unused();
-                self.steps.push(Step::event(CREATE, resource));
+                self.steps.push(Step::event(CREATE, unused));
                 let mut given = meaning;
-                given[node.a as usize] = Some(resource);
+                given[node.a as usize] = Some(unused);
                 self.put(node.b, given);
             }
             SANDBOX => {

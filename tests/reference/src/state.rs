@@ -73,7 +73,7 @@ impl State {
     }
 
     /// Does the state pass 42?
-    fn fits(&self) -> bool {
+    pub fn fits(&self) -> bool {
         self.halted <= 1
             && self.count <= MOST_CREATED as u64
             && self.depth <= MOST_UNCLOSED as u64

@@ -29,19 +29,19 @@ fn stored(kind: &str) -> PathBuf {
 }
 
 /// What is expected for the cases of a kind. The program's output has the traces, the outlines, the counterexamples, the sheets that are
-/// written again, the border calls and those of the writer.
+/// written again with the border calls and those of the writer after them, the expressions and the sequences of calls of the desk.
 fn text_of(kind: &str) -> String {
     if kind == "state" {
         return fs::read_to_string(root().join("tests/cases/state.expected")).unwrap();
     }
     let text = fs::read_to_string(root().join("crates/test_stored/stdout")).unwrap();
-    let sheets = text.strip_suffix(&writer::calls()).expect("the calls of the writer come last");
-    let sheets = sheets.strip_suffix(&borders::lines()).expect("the border calls come before them");
     let first = "case 0\n";
-    let parts: Vec<&str> = sheets.split(first).collect();
-    let ["", traces, outlines, counterexamples, policies] = parts[..] else {
-        panic!("four kinds of cases")
+    let parts: Vec<&str> = text.split(first).collect();
+    let ["", traces, outlines, counterexamples, policies, ..] = parts[..] else {
+        panic!("four kinds of cases, and more")
     };
+    let policies = policies.strip_suffix(&writer::calls()).expect("the calls of the writer come after the policies");
+    let policies = policies.strip_suffix(&borders::lines()).expect("the border calls come before them");
     let part = match kind {
         "trace" => traces,
         "outline" => outlines,

@@ -1,6 +1,8 @@
 //! Cases from a seed.
 
 pub mod counterexamples;
+pub mod desk_cases;
+pub mod desks;
 pub mod expressions;
 pub mod fixed;
 pub mod lean;

@@ -8,10 +8,10 @@ use Rattle.test_stored.proofs.rewritings.kept.Statement.{statement}
 use Rattle.test_stored.proofs.rewritings.kept.Tie as tie
 
 abbrev Inv-loop : tie.InvT-loop
-Inv-loop lent i₀ n₀ i n = (i ≤ length lent) × (n ≤ i)
+Inv-loop lent mark i₀ n₀ i n = (i ≤ length lent) × (n ≤ i)
 
 abbrev μ-loop : tie.MeasureT-loop
-μ-loop lent i₀ n₀ i n = length lent - i
+μ-loop lent mark i₀ n₀ i n = length lent - i
 
 loop-holds : tie.Need-loop-holds Inv-loop μ-loop
 loop-holds c = search needs
