@@ -26,6 +26,7 @@ ghost use Rattle.api_c.specs.Check.{Answers, Explains};
 pub mod expression;
 pub mod lean;
 pub mod print;
+pub mod routine;
 pub mod start;
 pub mod writer;
 

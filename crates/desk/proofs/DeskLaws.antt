@@ -38,6 +38,7 @@ use Rattle.monitor_state.specs.Represents.{Represents}
 use Rattle.monitor_state.specs.Promise.{Promised}
 use Rattle.monitor_state.proofs.StartLaws.{begin-represents}
 use Rattle.monitor_state.proofs.Verdict.{judge-promised}
+use Rattle.monitor_state.proofs.KeptLaws.{refused-kept}
 use Rattle.monitor_lean.specs.Lean.{Looks, atAll, Summary, marked, judgeBy}
 use Rattle.checker.specs.Summary.{Exact}
 use Rattle.monitor_state.proofs.LookedLaws.{full-looks-at-all}
@@ -50,6 +51,7 @@ use Rattle.desk.specs.Desk.{Reply, replyWith, stepLoaded, stepDesk, repl
 use Rattle.desk.specs.Desk.{LoadAnswer, has-policies, has-outline, LoadsPolicies, LoadsOutline, withPolicies, withOutline}
 use Rattle.desk.specs.Promise.{Exceeded, NeverExceeded, Lean, isRefusal, TellsWhich, Replies, done, next, outlineIn, FreshDesk}
 use Rattle.desk.specs.Promise.{DeskPromise}
+use Rattle.desk.specs.Calls.{isRefused}
 
 -- ── Limits ──
 
@@ -236,6 +238,20 @@ module _ (d : Loaded) (past : Past) (h : Bool) (F : Fit d past h) (raw : RawStep
   reply-is =
       ap (replyWith d (stepOf raw) (staysOn (d .outline) (stepOf raw)))
       (same-by (d .outline) (F .outline) (staysOn (d .outline) (stepOf raw)) refl)
+
+  -- a refused step leaves the desk as it was
+  pub refused-keeps : isRefused (verdictOf (stepDesk (some d) raw .answer)) ≡ true → stepDesk (some d) raw .desk ≡ some d
+  refused-keeps e =
+      ap (λ (r : Reply). r .desk) reply-is
+      ∙ go (full .answer) refl (sym (ap (λ (r : Reply). isRefused (verdictOf (r .answer))) reply-is) ∙ e)
+    where
+      go : (a : Answer) → full .answer ≡ a → isRefused (verdictOf a) ≡ true
+          → replyWith d (stepOf raw) (staysOn (d .outline) (stepOf raw)) full .desk ≡ some d
+      go Allowed q x = false-true x
+      go (Violated p) q x = false-true x
+      go (Refused n) q x =
+          ap₂ (λ (u : Option Outlined) (s : State). some record { edges = d .edges; local = d .local; outline = u; judge = s })
+          (ap (λ (a : Answer). outlineFor a (d .outline) (stepOf raw)) q) (refused-kept (d .edges) (d .local) (d .judge) raw n q)
 
   -- the desk after it
   abbrev later : Loaded

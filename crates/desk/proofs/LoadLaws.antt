@@ -21,7 +21,7 @@ use Rattle.sheet_reader.specs.Readers.{policiesRead, policiesInto}
 use Rattle.sheet_reader.proofs.RefusalLaws.{Low, sheet-low}
 use Rattle.sheet_reader.proofs.AnswerLaws.{Holds}
 use Rattle.monitor_state.specs.declared.State.{State}
-use Rattle.monitor_state.specs.Judge.{stateOk, liveOk, unclosedOk, createdOk, highestOk, orderOk, startState}
+use Rattle.monitor_state.specs.Judge.{stateOk, liveOk, unclosedOk, createdOk, highestOk, orderOk, startState, startCreated, startUnclosed}
 use Rattle.desk_positions.specs.Positions.{mostPositions}
 use Rattle.desk_positions.specs.Reading.{rowsOk}
 use Rattle.desk.specs.declared.Head.{Head}
@@ -117,7 +117,7 @@ module _ (h : Head) (b : List ℕ) where
 -- ── Policies ──
 
 pub start-small : (s : State) → s ≡ startState → Small s
-unfolding startState
+unfolding startState startCreated startUnclosed
 start-small s e = rw e (omega arith, omega arith)
 
 put-take : (read : Read) (w : ℕ) (b₀ : List ℕ) (place n : ℕ) (l b : List ℕ) → Put read w b₀ place n l b → n ≤ length l

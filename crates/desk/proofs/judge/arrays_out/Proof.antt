@@ -41,7 +41,7 @@ same-length c = search needs
 -- src/judge.rt:109:1
 returns : tie.Need-returns
 returns c =
-    let a = c .before .before .before .before .before .before .before .before .before .before .before .before .before .before .before .before .before .before .before .before .before .before .before .before .before .before .args in
+    let a = c .before .before .before .before .before .before .before .before .before .before .before .before .before .before .before .before .before .before .before .before .before .before .before .before .before .before .before .before .before .args in
     let p₁ = c .before .before .before .before .before .before .before .before .before .before .before .before .before .before .before .before .before .before .before .before .before .before .sets-out .ensures in
     let p₂ = c .before .before .before .before .before .before .before .before .before .before .before .before .before .before .before .before .before .possible-out .ensures in
     let p₃ = c .before .before .before .before .before .before .before .before .before .before .before .before .created-out .ensures in

@@ -15,12 +15,12 @@ flag-of-requires : tie.Need-flag-of-requires
 flag-of-requires c κs = search needs
 
 -- src/judge.rt:135:16
-cast-t5 : tie.Need-cast-t5
-cast-t5 c = search needs
+cast-t7 : tie.Need-cast-t7
+cast-t7 c = search needs
 
 -- src/judge.rt:137:16
-cast-t6 : tie.Need-cast-t6
-cast-t6 c = search needs
+cast-t8 : tie.Need-cast-t8
+cast-t8 c = search needs
 
 -- src/judge.rt:125:1
 returns : tie.Need-returns
@@ -28,4 +28,4 @@ unfolding headWith
 returns c = rw (c .before .before .flag-of .ensures)
 
 pub head-of-spec : {M : Type 1} → statement M
-head-of-spec = tie.close (tie.spec flag-of-requires cast-t5 cast-t6 returns)
+head-of-spec = tie.close (tie.spec flag-of-requires cast-t7 cast-t8 returns)

@@ -52,12 +52,12 @@ bytes-in-requires-4 : tie.Need-bytes-in-requires-4
 bytes-in-requires-4 c κs = search needs
 
 -- src/judge.rt:48:16
-cast-t22 : tie.Need-cast-t22
-cast-t22 c = search needs
-
--- src/judge.rt:52:16
 cast-t25 : tie.Need-cast-t25
 cast-t25 c = search needs
+
+-- src/judge.rt:52:16
+cast-t25-2 : tie.Need-cast-t25-2
+cast-t25-2 c = search needs
 
 -- src/judge.rt:30:1
 returns : tie.Need-returns
@@ -80,6 +80,6 @@ judge-in-spec =
     bytes-in-requires-3
     slice-aggregate-bytes-in-4
     bytes-in-requires-4
-    cast-t22
     cast-t25
+    cast-t25-2
     returns)

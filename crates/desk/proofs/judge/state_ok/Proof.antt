@@ -21,7 +21,7 @@ live-ok-requires c κs = search needs
 -- src/judge.rt:64:9
 returns : tie.Need-returns
 returns c =
-    let s = c .before .before .before .before .args .s in
+    let s = c .before .before .before .before .before .args .s in
     let x = c .before .live-ok in
     sym (ap (λ y. y && orderOk (s .unclosed .depth) (s .unclosed .order) (s .unclosed .counts)) (not-true (x .result) (c .if1 .taken)))
     ∙ state-parts s (x .result) (orderOk (s .unclosed .depth) (s .unclosed .order) (s .unclosed .counts)) (x .ensures .0) refl
@@ -33,9 +33,9 @@ order-ok-requires c κs = search needs
 -- src/judge.rt:59:1
 returns-2 : tie.Need-returns-2
 returns-2 c =
-    let s = c .before .before .before .before .before .before .before .before .before .args .s in
-    let x = c .before .before .before .before .before .before .live-ok in
-    sym (ap (λ y. y && c .order-ok .result) (not-false (x .result) (c .before .before .before .before .before .if1 .left)))
+    let s = c .before .before .before .before .before .before .before .before .before .before .before .args .s in
+    let x = c .before .before .before .before .before .before .before .live-ok in
+    sym (ap (λ y. y && c .order-ok .result) (not-false (x .result) (c .before .before .before .before .before .before .if1 .left)))
     ∙ state-parts s (x .result) (c .order-ok .result) (x .ensures .0) (c .order-ok .ensures .0)
 
 pub state-ok-spec : {M : Type 1} → statement M
