@@ -34,7 +34,7 @@ fit-sound (some d) (past, h, F) =
     and-both (edgeTable (d .edges)) (stateOk (d .judge)) (F .edges)
     (and-both (liveOk (d .judge .created)) (unclosedOk (d .judge .unclosed)) (F .judge .created .well) (F .judge .unclosed .well))
 
-encodes-desk : (b : List ℕ) (d : Desk) → Encodes b d → Reached d → deskOf b ≡ some d
+pub encodes-desk : (b : List ℕ) (d : Desk) → Encodes b d → Reached d → deskOf b ≡ some d
 unfolding deskOf
 encodes-desk b d e r =
     rw (e .form, e .desk) (ap (λ x. cond x (some d) none) (fit-sound d (reached-fit r)))
@@ -60,7 +60,7 @@ pub record Holding (b : List ℕ) : Type 0 where
   pub reached : Reached desk
   pub long : deskBytes ≤ length b
 
-same-desk : (b : List ℕ) {d e : Desk} → deskOf b ≡ some d → deskOf b ≡ some e → d ≡ e
+pub same-desk : (b : List ℕ) {d e : Desk} → deskOf b ≡ some d → deskOf b ≡ some e → d ≡ e
 same-desk b p q = Option·some-injective _ _ (sym p ∙ q)
 
 left : (b b′ : List ℕ) (x : Bool) (d d′ : Desk) → deskBytes ≤ length b → deskOf b ≡ some d → Reached d → Reached d′ → Leaves x b d′ b′ → Holding b′

@@ -37,6 +37,7 @@ use Rattle.promises.proofs.ReadLaws.{read-enough}
 use Rattle.promises.proofs.SheetNumbers.{policies-refuses, trace-refuses, outline-refuses}
 use Rattle.promises.proofs.ExpressionPromise.{expression-refuses, expressions}
 use Rattle.promises.proofs.RewrittenLaws.{rewritten}
+use Rattle.promises.proofs.DeskPromise.{routine-desk}
 
 edges-sheet : (local : Bool) (t : List ℕ) → EdgeTable t ↔ ((g : GivenBy edgePlaces policiesInto t) × (isLocal (g .text) ≡ local))
 edges-sheet local t = (
@@ -130,5 +131,6 @@ demands = record {
   lean-judge = lean-judge;
   rewritten = rewritten;
   expressions = expressions;
+  routine-desk = routine-desk;
   read-enough = read-enough;
 }

@@ -7,6 +7,7 @@ pub mod ExpressionPromise
 -- What later requests promise, and what the programs read.
 pub mod RenumberedLaws
 pub mod RewrittenLaws
+pub mod DeskPromise
 pub mod ReadLaws
 -- All of it.
 pub mod DemandLaws

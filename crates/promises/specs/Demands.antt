@@ -8,9 +8,11 @@
 use Prim.Native.Nat.{ℕ, suc, _<_, _≤_}
 use mathlib.Core.Path.{_≡_}
 use mathlib.Core.Bool.{Bool, true, false}
+use mathlib.Core.Option.{none, some}
 use mathlib.Core.List.{List, [], _∷_, _++_, map, flatten, List·Memᴰ}
 use mathlib.Core.Logic.{_↔_, _⊎_}
 use lib.ListN.{length, take, replicate}
+use Rattle.usage.specs.declared.Node.{Node}
 use Rattle.usage.specs.declared.RawStep.{RawStep}
 use Rattle.usage.specs.Limits.{policies, edgePlaces, stepPlaces, nodePlaces, mostShown}
 use Rattle.usage.specs.Answers.{Verdict, allowed, violated, refused, Refusal}
@@ -46,6 +48,12 @@ use Rattle.sheet_writer.specs.Writer.{is-written, writtenAgain}
 use Rattle.sheet_writer.specs.Promise.{OneWay}
 use Rattle.checker.specs.Summary.{Exact}
 use Rattle.monitor_lean.specs.Promise.{LeanAnswers, LeanAnswersAll}
+use Rattle.desk.specs.Desk.{Loaded, Desk, isBusy}
+use Rattle.desk.specs.Promise.{outlineIn}
+use Rattle.desk.specs.Layout.{deskBytes}
+use Rattle.desk.specs.State.{deskOf}
+use Rattle.desk.specs.Calls.{Given, codeOf as deskCode, plain, Called, ByPolicies, ByOutline, ByStep}
+use Rattle.desk.specs.Sequences.{Written, CallsPromise}
 use Rattle.report.specs.Output.{sheetRoom}
 use Rattle.report.specs.Trace.{tracePrinted}
 use Rattle.report.specs.Outline.{RightTexts, outlinePrinted}
@@ -279,6 +287,54 @@ pub record Expressions : Type 0 where
   pub traces : (text : List ℕ) (rows : List (List ℕ)) (t : Tree) → expressionOf text ≡ accepted rows → ExpressionLine mostNested text t
       → (past : Past) → IsTrace (nodesOf (flatten rows)) past ↔ TreeTrace t past
 
+-- ── The routine desk (02, L14) ──
+
+-- The bytes hold a desk with an outline, and no routine that keeps to the outline is halted there: its full judge, which answers as the desk
+-- does (`Served`), allows every step up to the limits.
+pub record RunsFree (b : List ℕ) : Type 0 where
+  pub desk : Loaded
+  pub is : deskOf b ≡ some (some desk)
+  pub nodes : List Node
+  pub outline : outlineIn (desk .outline) ≡ some nodes
+  pub never-halted : NeverHalted (desk .edges) (desk .local) nodes
+
+-- the desk's own numbers: "in this order, after 40 to 42 and ahead of 5 and 20"
+abbrev pub deskNumbers : List ℕ
+deskNumbers = 40 ∷ 42 ∷ 50 ∷ 51 ∷ 52 ∷ []
+
+-- a refusal that has no line, as the number that a call returns
+abbrev pub refusedBy : ℕ → ℕ
+refusedBy n = deskCode (plain (refused n))
+
+-- of a call on any bytes at all: "40 also covers a shorter state, and 42 bytes that encode no desk state"
+pub record BytesRefuse (Does : Desk → Given → Desk → Type 0) : Type 0 where
+  pub too-short : (b : List ℕ) (r : ℕ) (b′ : List ℕ) → Called Does b r b′ → length b < deskBytes → (r ≡ refusedBy 40) × (b′ ≡ b)
+  pub no-desk : (b : List ℕ) (r : ℕ) (b′ : List ℕ) → Called Does b r b′ → deskBytes ≤ length b → deskOf b ≡ none
+      → (r ≡ refusedBy 42) × (b′ ≡ b)
+
+-- then, each in its case, "50 a step before policies are loaded, 51 an outline loaded before policies, 52 a load while a sandbox is open and
+-- the judge is not halted"
+pub record DeskRefuses : Type 0 where
+  pub policies-bytes : (text : List ℕ) → BytesRefuse (ByPolicies text)
+  pub outline-bytes : (text : List ℕ) → BytesRefuse (ByOutline text)
+  pub step-bytes : (raw : RawStep) → BytesRefuse (ByStep raw)
+  pub step-first : (raw : RawStep) (b : List ℕ) (r : ℕ) (b′ : List ℕ) → Called (ByStep raw) b r b′ → deskBytes ≤ length b
+      → deskOf b ≡ some none → (r ≡ refusedBy 50) × (b′ ≡ b)
+  pub outline-first : (text b : List ℕ) (r : ℕ) (b′ : List ℕ) → Called (ByOutline text) b r b′ → deskBytes ≤ length b
+      → deskOf b ≡ some none → (r ≡ refusedBy 51) × (b′ ≡ b)
+  pub policies-busy : (text b : List ℕ) (r : ℕ) (b′ : List ℕ) → Called (ByPolicies text) b r b′ → deskBytes ≤ length b
+      → (d : Desk) → deskOf b ≡ some d → isBusy d ≡ true → (r ≡ refusedBy 52) × (b′ ≡ b)
+  pub outline-busy : (text b : List ℕ) (r : ℕ) (b′ : List ℕ) → Called (ByOutline text) b r b′ → deskBytes ≤ length b
+      → (d : Desk) → deskOf b ≡ some d → isBusy d ≡ true → (r ≡ refusedBy 52) × (b′ ≡ b)
+
+pub record RoutineDesk : Type 0 where
+  pub refuses : DeskRefuses
+  -- "From the zero state, with only the desk writing it, its answers to any sequence of steps after a load are those of a full judge started
+  -- there", and which judge gave each: over the calls and their bytes
+  pub calls : CallsPromise
+  -- with demand 3: of an outline that the desk accepts, which the number 0 tells
+  pub accepted : (b b′ text : List ℕ) (r : ℕ) → Written b → Called (ByOutline text) b r b′ → r ≡ 0 → RunsFree b′
+
 -- ── What the programs read ──
 
 -- the bytes of a sheet that a program reads
@@ -317,4 +373,5 @@ pub record Demands : Type 0 where
   pub lean-judge : LeanJudge
   pub rewritten : Rewritten
   pub expressions : Expressions
+  pub routine-desk : RoutineDesk
   pub read-enough : ReadEnough
