@@ -8,10 +8,11 @@ use lib.Dec.{eqb, leb, ltb}
 use lib.ListN.{length, take, length-take}
 use lib.Seq.{take-all, length-take-le}
 use borrow.Author.Tests.{leb-true, leb-false, lt-ltb}
-use Rattle.usage.specs.Limits.{longestSheet}
+use Rattle.usage.specs.Limits.{longestSheet, edgePlaces, nodePlaces}
 use Rattle.sheet_lines.specs.Sheet.{Sheet, refuseAt, startsWith, sheet}
 use Rattle.sheet_lines.specs.Sheets.{policyNames, isLocal, traceSheet, policySheet, outlineSheet}
-use Rattle.sheet_reader.specs.Readers.{policiesRead, ruledResult}
+use Rattle.sheet_reader.specs.Readers.{policiesRead, ruledResult, roomy, policiesInto, outlineInto}
+use Rattle.report_desk.proofs.ReadLaws.{desk-alike}
 use Rattle.report.specs.Output.{sheetRoom, printed}
 use Rattle.report.specs.Trace.{traceRows, tracePrinted}
 use Rattle.report.specs.Outline.{RightSheets, RightTexts, outlinePrinted}
@@ -51,6 +52,15 @@ policies-seen text = ap (λ (b : Bool). sheet (policySheet b) (seen text)) (loca
 outline-seen : (text : List ℕ) → ruledResult (sheet outlineSheet (seen text)) ≡ ruledResult (sheet outlineSheet text)
 outline-seen text = ap ruledResult (sheet-seen outlineSheet text)
 
+-- the same of a table with room
+policies-into : (text : List ℕ) → policiesInto edgePlaces (seen text) ≡ policiesInto edgePlaces text
+unfolding policiesInto
+policies-into text = ap (roomy edgePlaces edgePlaces) (policies-seen text)
+
+outline-into : (text : List ℕ) → outlineInto nodePlaces (seen text) ≡ outlineInto nodePlaces text
+unfolding outlineInto
+outline-into text = ap (roomy nodePlaces nodePlaces) (outline-seen text)
+
 pub read-enough : ReadEnough
 unfolding tracePrinted outlinePrinted
 read-enough = record {
@@ -61,4 +71,8 @@ read-enough = record {
   counterexample-right = λ p o x t. rw (policies-seen p, local-seen p, outline-seen o) (λ h. h, λ h. h);
   summary = λ p o m. rw (policies-seen p, outline-seen o) refl;
   summary-right = λ p o m. rw (policies-seen p, local-seen p, outline-seen o) (λ h. h, λ h. h);
+  desk = λ p o t out. (
+    desk-alike (seen p) p (seen o) o (seen t) t (policies-into p) (local-seen p) (outline-into o) (sheet-seen traceSheet t) out,
+    desk-alike p (seen p) o (seen o) t (seen t) (sym (policies-into p)) (sym (local-seen p)) (sym (outline-into o)) (sym (sheet-seen traceSheet t)) out,
+  );
 }

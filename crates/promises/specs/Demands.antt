@@ -58,6 +58,7 @@ use Rattle.report.specs.Output.{sheetRoom}
 use Rattle.report.specs.Trace.{tracePrinted}
 use Rattle.report.specs.Outline.{RightTexts, outlinePrinted}
 use Rattle.report.specs.Counterexample.{RightExplanation, counterexamplePrinted}
+use Rattle.report_desk.specs.Printed.{DeskRows}
 use Rattle.report.specs.Summary.{RightSummary, summaryPrinted}
 use Rattle.api_c.specs.Codes.{codeOf, explanationCode}
 
@@ -356,6 +357,8 @@ pub record ReadEnough : Type 0 where
       → summaryPrinted (seen policies-text) (seen outline-text) m ≡ summaryPrinted policies-text outline-text m
   pub summary-right : (policies-text outline-text : List ℕ) (m : List ℕ)
       → RightSummary (seen policies-text) (seen outline-text) m ↔ RightSummary policies-text outline-text m
+  pub desk : (policies-text outline-text trace-text out : List ℕ)
+      → DeskRows (seen policies-text) (seen outline-text) (seen trace-text) out ↔ DeskRows policies-text outline-text trace-text out
 
 -- ── All of it ──
 
