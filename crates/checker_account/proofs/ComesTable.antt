@@ -18,6 +18,7 @@ use Rattle.automaton.proofs.MoveLaws.{moves-lt, ends-of}
 use Rattle.checker_account.specs.Account.{watched, others, Comes}
 use Rattle.checker_account.specs.Single.{forget, MakesOne, watching}
 use Rattle.checker_account.proofs.BegunLaws.{reopened-states}
+use Rattle.checker_account.specs.declared.Arrival.{Arrival}
 use Rattle.checker_account.specs.Tables.{
   least,
   nameOf,
@@ -30,7 +31,6 @@ use Rattle.checker_account.specs.Tables.{
   begun,
   Rows,
   place,
-  Arrival,
   arrivals,
 }
 use Rattle.checker_account.specs.Tables.{over, isReset, restarted}
@@ -47,7 +47,7 @@ module _ (local : Bool) (es : List Edge) (ns : List Node) (p x : ℕ) (rows : Ro
 
   -- each state of the arrival is come to
   abbrev pub Right : Arrival → Type 0
-  Right g = (q : ℕ) → q < states → has (g .states) q ≡ true → ComesAt local es ns p x (g .to) (g .is-open) (g .meaning) q
+  Right g = (q : ℕ) → q < states → has (g .states) q ≡ true → ComesAt local es ns p x (g .to) (g .opened) (g .meaning) q
 
   other-right : {k n b : ℕ} (o : Bool) (m v : ℕ) → Is ns k (fresh n b)
       → ((q : ℕ) → q < states → has v q ≡ true → ComesAt local es ns p x k o m q)

@@ -15,7 +15,8 @@ use Rattle.usage.specs.Outline.{Form, Is, on-static, on-name, sequence, choice,
 use Rattle.automaton.specs.Mask.{has, offends}
 use Rattle.checker_account.specs.Account.{watched, others, Ends, Comes, Last, Hits}
 use Rattle.checker_account.specs.Single.{noName, watching}
-use Rattle.checker_account.specs.Tables.{meanings, least, nameOf, made, at, half, base, Rows, endsBy, place, Arrival, arrivals}
+use Rattle.checker_account.specs.declared.Arrival.{Arrival}
+use Rattle.checker_account.specs.Tables.{meanings, least, nameOf, made, at, half, base, Rows, endsBy, place, arrivals}
 use Rattle.checker_account.specs.Tables.{leaves, lastOf, Resets, never, opening-of}
 
 -- the meanings that occur where x is watched
@@ -104,7 +105,7 @@ Each P [] = Unit {0}
 Each P (g ∷ gs) = P g × Each P gs
 
 abbrev pub Entered : List ℕ → Arrival → Type 0
-Entered u g = (q : ℕ) → q < states → has (g .states) q ≡ true → HasCome u (g .to) (g .is-open) (g .meaning) q
+Entered u g = (q : ℕ) → q < states → has (g .states) q ≡ true → HasCome u (g .to) (g .opened) (g .meaning) q
 
 -- the start is in the table, and the rules add nothing to it
 pub record ClosedComes (local : Bool) (ns : List Node) (p x : ℕ) (rows : Rows) (t : Bool → List ℕ) (u : List ℕ) : Type 0 where
