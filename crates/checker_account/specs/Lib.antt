@@ -10,6 +10,7 @@ pub mod Written
 pub mod Least
 -- The tables of the check: their layout and the rules by which they are filled; how they are filled, and the search in them; the table of
 -- a policy's moves at each node.
+pub mod Lens
 pub mod Tables
 pub mod Filling
 pub mod RowTable
