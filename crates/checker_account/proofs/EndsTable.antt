@@ -52,7 +52,7 @@ module _ (es : List Edge) (ns : List Node) (p x : ℕ) (rows : Rows) (small : x 
 -- ── Through the lens of one watched resource ──
 
 -- the ends that a table has, of the states that there are
-abbrev Held : List ℕ → EndTable ℕ
+abbrev pub Held : List ℕ → EndTable ℕ
 Held t k m q c q′ = (q < states) × ((q′ < states) × HasEnd t k m q c q′)
 
 -- the table where p is open, where an opening resets

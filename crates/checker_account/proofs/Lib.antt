@@ -24,6 +24,7 @@ pub mod Example
 pub mod MaskLaws
 pub mod Starts
 pub mod LensEnds
+pub mod LensComes
 pub mod OneLens
 pub mod PairLens
 pub mod EndsTable

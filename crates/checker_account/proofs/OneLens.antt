@@ -6,10 +6,10 @@ use mathlib.Core.Logic.{_⊎_, inl, inr}
 use Rattle.checker_account.specs.Account.{others}
 use Rattle.checker_account.specs.Single.{noName, forget, MakesOne, watching}
 use Rattle.checker_account.specs.Tables.{nameOf, made, forgotten, meaningAfter}
-use Rattle.checker_account.specs.Lens.{LensOk, SplitRight, GiveRight, Given}
-use Rattle.checker_account.specs.Holds.{Start, oneLens}
+use Rattle.checker_account.specs.Lens.{LensOk, SplitRight, GiveRight, Given, CodesOk}
+use Rattle.checker_account.specs.Holds.{Start, oneLens, oneCodes}
 use Rattle.checker_account.proofs.Starts.{start-after, start-forgotten, start-named, after-name, after-made, forgotten-name}
-use Rattle.checker_account.proofs.Starts.{forgotten-made}
+use Rattle.checker_account.proofs.Starts.{forgotten-made, start-least, least-name, least-made}
 
 module _ (x : ℕ) where
   -- the two ways to make a resource
@@ -83,4 +83,23 @@ module _ (x : ℕ) where
         record { first = m; half = c; second = meaningAfter m c; splits = (refl, (before, refl)); ended = refl };
     gives-right = give-right;
     gives-full = λ e h n d w c u l m after. give-full e n d w c l m;
+  }
+
+  pub one-codes : CodesOk (watching x) (oneLens x) (oneCodes x)
+  one-codes = record {
+    first-occurs = start-least x;
+    first-named = least-name x;
+    first-kept = least-made x;
+    then-right = λ c f h d u t. let r = split-right c f h d u t in record {
+      used = r .first-used;
+      first-meaning = r .first-meaning;
+      first-left = r .first-left;
+      occurs = r .second-used;
+      second-named = r .second-meaning;
+      second-kept = r .second-left;
+    };
+    then-full = λ m c u later. record { entry = m; half = c; next = meaningAfter m c; then = (refl, (later, refl)); ended = refl };
+    new-right = λ c n r d u l t. let g = give-right c n r d u l t in record { occurs = g .used; makes = g .makes };
+    new-full = λ c n r w d u l m.
+        let g = give-full c n r w d l m in record { next = g .entry; new = g .gives; named = g .meaning; kept = g .left };
   }

@@ -1,15 +1,16 @@
 -- The lens of two watched resources is right: its rules are those of the account.
 use Prim.Native.Nat.{ℕ, zero, suc, _<_}
 use mathlib.Core.Path.{_≡_, refl, sym, ap, ap₂, _∙_, subst}
-use mathlib.Core.Bool.{Bool, true, false, _||_, true≢false}
+use mathlib.Core.Bool.{Bool, true, false, not, _||_, true≢false}
 use mathlib.Core.List.{List}
 use mathlib.Core.Logic.{_⊎_, inl, inr}
 use native.Mathlib.Omega.{arith}
 use Rattle.checker_account.specs.Account.{watched, watchedToo, others}
 use Rattle.checker_account.specs.Single.{noName, forget}
 use Rattle.checker_account.specs.Tables.{unnamed, meanings, nameOf, made, forgotten, meaningAfter}
-use Rattle.checker_account.specs.Lens.{LensOk, SplitRight, GiveRight, Split, Given}
+use Rattle.checker_account.specs.Lens.{LensOk, SplitRight, GiveRight, Split, Given, CodesOk, ThenRight, NewRight, Onward, Anew}
 use Rattle.checker_account.specs.Pairs.{MakesTwo, numbers, PairEntry, pairEntry, PairUsed, PairSplits, PairGives, pairLens}
+use Rattle.checker_account.specs.Pairs.{isWatched, PairThen, PairNew, firstMeaning, pairCodes}
 use Rattle.checker_account.proofs.CodeLaws.{forgotten-lt, after-lt}
 use Rattle.checker_account.proofs.Starts.{after-name, after-made, forgotten-name, forgotten-made}
 
@@ -192,4 +193,117 @@ module _ (us : List ℕ) where
     splits-full = λ e h c u before after. split-full (e .first) (e .second) (e .late) h (c .0) (c .1) u before after;
     gives-right = give-right;
     gives-full = λ e h n d w c u l m after. give-full (e .first) (e .second) (e .late) h n d w c u l (made-by m) after;
+  }
+
+  -- ── Codes ──
+
+  abbrev In : ℕ × ℕ → Type 0
+  In c = (c .0 < meanings) × (c .1 < meanings)
+
+  then-right : (c : ℕ × ℕ) (f : PairEntry) (h : Bool) (d : ℕ × ℕ) → In c → PairThen c f h d
+      → ThenRight (numbers us) (pairLens us) (pairCodes us) c f h d
+  then-right c f h d u (PairThen.kept {a = a} {b = b} keep) = record {
+    used = record { first-in = u .0; second-in = u .1; late-unmade = λ d. absurd (true≢false (sym d)) };
+    first-meaning = refl;
+    first-left = refl;
+    occurs = (after-lt a h (u .0), u .1);
+    second-named = both (after-name a h) refl;
+    second-kept = both (after-made a h keep) (go (made b));
+  }
+    where
+      go : (m : Bool) → m ≡ (m || false)
+      go true = refl
+      go false = refl
+  then-right c f h d u (PairThen.made-first {a = a} keep) = record {
+    used = record { first-in = u .0; second-in = u .1; late-unmade = λ d. refl };
+    first-meaning = refl;
+    first-left = refl;
+    occurs = (after-lt a h (u .0), omega arith);
+    second-named = both (after-name a h) refl;
+    second-kept = both (after-made a h keep) refl;
+  }
+
+  then-full : (a b : ℕ) (c d : Bool) → Became (made a, made b) (c, d) → Onward (numbers us) (pairLens us) (pairCodes us) (a, b) (c, d)
+  then-full a (suc b) c d (f, g) = record {
+    entry = pairEntry a (suc b) false;
+    half = c;
+    next = (meaningAfter a c, suc b);
+    then = PairThen.kept f;
+    ended = both refl (sym (g refl));
+  }
+  then-full a zero c false (f, g) = record {
+    entry = pairEntry a 0 false;
+    half = c;
+    next = (meaningAfter a c, 0);
+    then = PairThen.kept f;
+    ended = refl;
+  }
+  then-full a zero c true (f, g) = record {
+    entry = pairEntry a 0 true;
+    half = c;
+    next = (meaningAfter a c, unnamed);
+    then = PairThen.made-first f;
+    ended = refl;
+  }
+
+  new-right : (c : ℕ × ℕ) (n r : ℕ) (d : ℕ × ℕ) → In c → n < noName → PairNew c n r d
+      → NewRight (numbers us) (pairLens us) (pairCodes us) c n r d
+  new-right c n r d u l (PairNew.other {a = a} {b = b}) = record {
+    occurs = (forgotten-lt a n (u .0), forgotten-lt b n (u .1));
+    makes = makes-as (sym (both (forgotten-name a n l) (forgotten-name b n l))) (sym (both (forgotten-made a n) (forgotten-made b n)))
+        MakesTwo.other;
+  }
+  new-right c n r d u l (PairNew.first {b = b}) = record {
+    occurs = (omega arith, forgotten-lt b n (u .1));
+    makes = makes-as (sym (both refl (forgotten-name b n l))) (sym (both refl (forgotten-made b n))) MakesTwo.first;
+  }
+  new-right c n r d u l (PairNew.second {a = a}) = record {
+    occurs = (forgotten-lt a n (u .0), omega arith);
+    makes = makes-as (sym (both (forgotten-name a n l) refl)) (sym (both (forgotten-made a n) refl)) MakesTwo.second;
+  }
+
+  new-full : (a b n r : ℕ) (w : ℕ × ℕ) (c : Bool × Bool) → n < noName → Ways n r (nameOf a, nameOf b) (made a, made b) w c
+      → Anew (numbers us) (pairLens us) (pairCodes us) (a, b) n r w c
+  new-full a b n r w c l (inl (ed, (ew, ec))) = record {
+    next = (forgotten a n, forgotten b n);
+    new = subst (λ (r : ℕ). PairNew (a, b) n r (forgotten a n, forgotten b n)) (sym ed) PairNew.other;
+    named = both (forgotten-name a n l) (forgotten-name b n l) ∙ ew;
+    kept = both (forgotten-made a n) (forgotten-made b n) ∙ ec;
+  }
+  new-full zero b n r w c l (inr (inl (ed, (em, (ew, ec))))) = record {
+    next = (suc n, forgotten b n);
+    new = subst (λ (r : ℕ). PairNew (0, b) n r (suc n, forgotten b n)) (sym ed) PairNew.first;
+    named = both refl (forgotten-name b n l) ∙ ew;
+    kept = both refl (forgotten-made b n) ∙ ec;
+  }
+  new-full (suc a) b n r w c l (inr (inl (ed, (em, (ew, ec))))) = absurd (true≢false em)
+  new-full a zero n r w c l (inr (inr (ed, (em, (ew, ec))))) = record {
+    next = (forgotten a n, suc n);
+    new = subst (λ (r : ℕ). PairNew (a, 0) n r (forgotten a n, suc n)) (sym ed) PairNew.second;
+    named = both (forgotten-name a n l) refl ∙ ew;
+    kept = both (forgotten-made a n) refl ∙ ec;
+  }
+  new-full a (suc b) n r w c l (inr (inr (ed, (em, (ew, ec))))) = absurd (true≢false em)
+
+  first-in : (b : Bool) → firstMeaning b < meanings
+  first-in true = omega arith
+  first-in false = omega arith
+
+  first-name : (b : Bool) → nameOf (firstMeaning b) ≡ noName
+  first-name true = refl
+  first-name false = refl
+
+  first-made : (b : Bool) → made (firstMeaning b) ≡ not b
+  first-made true = refl
+  first-made false = refl
+
+  pub pair-codes : CodesOk (numbers us) (pairLens us) (pairCodes us)
+  pair-codes = record {
+    first-occurs = (first-in (isWatched us watched), first-in (isWatched us watchedToo));
+    first-named = both (first-name (isWatched us watched)) (first-name (isWatched us watchedToo));
+    first-kept = both (first-made (isWatched us watched)) (first-made (isWatched us watchedToo));
+    then-right = then-right;
+    then-full = λ c d u later. then-full (c .0) (c .1) (d .0) (d .1) later;
+    new-right = new-right;
+    new-full = λ c n r w d u l m. new-full (c .0) (c .1) n r w d l (made-by m);
   }

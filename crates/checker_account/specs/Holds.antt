@@ -15,7 +15,7 @@ use Rattle.usage.specs.Outline.{Form, Is, on-static, on-name, sequence, choice,
 use Rattle.automaton.specs.Mask.{has, offends}
 use Rattle.checker_account.specs.Account.{watched, others, Ends, Comes, Last, Hits}
 use Rattle.checker_account.specs.Single.{noName, watching}
-use Rattle.checker_account.specs.Lens.{Lens}
+use Rattle.checker_account.specs.Lens.{Lens, Codes}
 use Rattle.checker_account.specs.declared.Arrival.{Arrival}
 use Rattle.checker_account.specs.Tables.{meanings, least, nameOf, made, forgotten, meaningAfter, at, half, base, Rows, endsBy, place, arrivals}
 use Rattle.checker_account.specs.Tables.{leaves, lastOf, Resets, never, opening-of}
@@ -38,6 +38,18 @@ oneLens x = record {
   Still = λ m c. made m ≡ c;
   Splits = λ m f c g. (f ≡ m) × ((made m ≡ true → c ≡ true) × (g ≡ meaningAfter m c));
   Gives = λ m n d g. ((d ≡ others) × (g ≡ forgotten m n)) ⊎ ((d ≡ x) × ((made m ≡ false) × (g ≡ suc n)));
+}
+
+-- its codes are the meanings too
+abbrev pub oneCodes : (x : ℕ) → Codes (watching x) (oneLens x)
+oneCodes x = record {
+  Code = ℕ;
+  named = nameOf;
+  kept = made;
+  Occurs = Start x;
+  first = least x;
+  Then = λ m f c g. (f ≡ m) × ((made m ≡ true → c ≡ true) × (g ≡ meaningAfter m c));
+  New = λ m n d g. ((d ≡ others) × (g ≡ forgotten m n)) ⊎ ((d ≡ x) × ((made m ≡ false) × (g ≡ suc n)));
 }
 
 -- state q moves to q′ by an event with action a, which is on x or on another dynamic resource

@@ -9,7 +9,7 @@ use lib.Dec.{eqb}
 use Rattle.usage.specs.Tests.{someOf}
 use Rattle.checker_account.specs.Account.{watched, watchedToo, others, Sight}
 use Rattle.checker_account.specs.Single.{noName, forget}
-use Rattle.checker_account.specs.Lens.{Lens}
+use Rattle.checker_account.specs.Lens.{Lens, Codes}
 use Rattle.checker_account.specs.Tables.{unnamed, meanings, nameOf, made, forgotten, meaningAfter}
 
 -- what name n means where a is the name of 16 and b that of 17
@@ -89,4 +89,31 @@ pairLens us = record {
   Still = λ e h. (made (e .first) ≡ h) × (e .late ≡ false);
   Splits = PairSplits;
   Gives = PairGives;
+}
+
+-- ── Codes ──
+
+-- a sequence: 17 is as it was when its first node ends, or its first node makes it
+pub data PairThen : ℕ × ℕ → PairEntry → Bool → ℕ × ℕ → Type 0 where
+  kept : {a b : ℕ} {h : Bool} → (made a ≡ true → h ≡ true) → PairThen (a, b) (pairEntry a b false) h (meaningAfter a h, b)
+  made-first : {a : ℕ} {h : Bool} → (made a ≡ true → h ≡ true) → PairThen (a, 0) (pairEntry a 0 true) h (meaningAfter a h, unnamed)
+
+pub data PairNew : ℕ × ℕ → ℕ → ℕ → ℕ × ℕ → Type 0 where
+  other : {a b n : ℕ} → PairNew (a, b) n others (forgotten a n, forgotten b n)
+  first : {b n : ℕ} → PairNew (0, b) n watched (suc n, forgotten b n)
+  second : {a n : ℕ} → PairNew (a, 0) n watchedToo (forgotten a n, suc n)
+
+-- at first what is watched is not created, and of the others only that no name means them is told
+abbrev pub firstMeaning : Bool → ℕ
+firstMeaning watches = cond watches 0 unnamed
+
+abbrev pub pairCodes : (us : List ℕ) → Codes (numbers us) (pairLens us)
+pairCodes us = record {
+  Code = ℕ × ℕ;
+  named = λ c. (nameOf (c .0), nameOf (c .1));
+  kept = λ c. (made (c .0), made (c .1));
+  Occurs = λ c. (c .0 < meanings) × (c .1 < meanings);
+  first = (firstMeaning (isWatched us watched), firstMeaning (isWatched us watchedToo));
+  Then = PairThen;
+  New = PairNew;
 }
