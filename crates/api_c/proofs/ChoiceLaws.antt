@@ -8,7 +8,7 @@ use borrow.Author.Tests.{lt-ltb, le-ltb}
 use lib.ListN.{length}
 use Rattle.usage.specs.Limits.{policies}
 use Rattle.checker_trace.specs.Answer.{mostNumbers}
-use Rattle.checker.specs.declared.counterexample.Explanation.the-variants.{Refused}
+use Rattle.checker_counterexample.specs.declared.Explanation.the-variants.{Refused}
 use Rattle.api_c.specs.Choice.{choiceOf}
 use Rattle.api_c.specs.Check.{Chosen, no-choice, chosen, refusalWithoutChoice}
 use Rattle.api_c.specs.Summary.{numberWithoutChoice}

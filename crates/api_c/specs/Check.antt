@@ -8,9 +8,9 @@ use lib.ListN.{length}
 use Rattle.usage.specs.Answers.{Verdict, refused}
 use Rattle.checker_trace.specs.Answer.{mostNumbers}
 use Rattle.checker.specs.Promise.{RightVerdict, CheckPromise}
-use Rattle.checker.specs.declared.counterexample.Explanation.{Explanation}
-use Rattle.checker.specs.declared.counterexample.Explanation.the-variants.{Refused}
-use Rattle.checker.specs.Explained.{Explained}
+use Rattle.checker_counterexample.specs.declared.Explanation.{Explanation}
+use Rattle.checker_counterexample.specs.declared.Explanation.the-variants.{Refused}
+use Rattle.checker_counterexample.specs.Explained.{Explained}
 use Rattle.api_c.specs.Choice.{choiceOf}
 use Rattle.api_c.specs.Codes.{codeOf, explanationCode}
 

@@ -1,8 +1,8 @@
 -- An answer as one number.
 use Prim.Native.Nat.{ℕ, _+_, _*_}
 use Rattle.usage.specs.Answers.{Verdict, answer, detail}
-use Rattle.checker.specs.declared.counterexample.Explanation.{Explanation}
-use Rattle.checker.specs.Explained.{explanationVerdict, stepsWritten}
+use Rattle.checker_counterexample.specs.declared.Explanation.{Explanation}
+use Rattle.checker_counterexample.specs.Explained.{explanationVerdict, stepsWritten}
 
 -- document 01's answer and its detail, which is below 256
 abbrev pub codeOf : Verdict → ℕ

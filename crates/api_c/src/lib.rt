@@ -1,6 +1,6 @@
 // The judge and the check for callers in C and Rust: numbers and arrays in the place of structs. Tests and benchmarks call them.
 use checker::Outcome;
-use checker::counterexample::Explanation;
+use checker_counterexample::Explanation;
 use checker_trace::MOST_NUMBERS;
 use monitor_sets::SETS;
 use monitor_state::Answer;
@@ -213,6 +213,6 @@ pub extern "C" fn wiforekun_counterexample(
         }
         return explanation_code(Explanation::Refused(41));
     }
-    let e = checker::counterexample::check_with_counterexample(edges, local == 1, nodes, trace);
+    let e = checker_counterexample::check_with_counterexample(edges, local == 1, nodes, trace);
     explanation_code(e)
 }

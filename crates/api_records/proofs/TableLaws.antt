@@ -13,8 +13,8 @@ use Rattle.usage.specs.Limits.{mostEdges}
 use Rattle.usage.specs.Answers.{Verdict, refused}
 use Rattle.usage.specs.Tests.{edgesOk}
 use Rattle.checker.specs.Promise.{RightVerdict, CheckPromise}
-use Rattle.checker.specs.declared.counterexample.Explanation.{Explanation}
-use Rattle.checker.specs.Explained.{Explained}
+use Rattle.checker_counterexample.specs.declared.Explanation.{Explanation}
+use Rattle.checker_counterexample.specs.Explained.{Explained}
 use Rattle.checker.proofs.PromiseLaws.{edges-refused, right-promised}
 use Rattle.monitor_state.specs.declared.State.{State}
 use Rattle.monitor_state.specs.Judge.{refuse, judgeOf}

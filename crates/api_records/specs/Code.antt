@@ -9,9 +9,9 @@ use Rattle.usage.specs.declared.RawStep.{RawStep}
 use Rattle.usage.specs.Limits.{mostEdges, edgeFields, edgePlaces}
 use Rattle.usage.specs.Answers.{Verdict, refused}
 use Rattle.checker.specs.Promise.{RightVerdict}
-use Rattle.checker.specs.declared.counterexample.Explanation.{Explanation}
-use Rattle.checker.specs.declared.counterexample.Explanation.the-variants as explanation
-use Rattle.checker.specs.Explained.{Explained}
+use Rattle.checker_counterexample.specs.declared.Explanation.{Explanation}
+use Rattle.checker_counterexample.specs.declared.Explanation.the-variants as explanation
+use Rattle.checker_counterexample.specs.Explained.{Explained}
 use Rattle.checker_trace.specs.Answer.{mostNumbers}
 use Rattle.monitor_state.specs.declared.State.{State}
 use Rattle.monitor_state.specs.declared.Judgement.{Judgement}

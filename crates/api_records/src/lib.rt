@@ -3,7 +3,7 @@
 // `local` says which past counts, and goes with the edges.
 use crate::flat::Flat;
 use checker::Outcome;
-use checker::counterexample::Explanation;
+use checker_counterexample::Explanation;
 use checker_trace::MOST_NUMBERS;
 use monitor_state::Answer;
 use monitor_state::Judgement;
@@ -14,7 +14,7 @@ use usage::MOST_EDGES;
 use usage::RawStep;
 ghost use mathlib.Core.Path.{_≡_};
 ghost use Rattle.checker.specs.Promise.{outcomeVerdict, CheckPromise};
-ghost use Rattle.checker.specs.Explained.{Explained};
+ghost use Rattle.checker_counterexample.specs.Explained.{Explained};
 ghost use Rattle.api_records.specs.Flat.{flat};
 ghost use Rattle.api_records.specs.Records.{judgeRecords, KeepsRecords};
 ghost use Rattle.api_records.specs.Code.{judgeFlat, RightFlat, ExplainedFlat};
@@ -78,7 +78,7 @@ fn explain_flat(f: Flat, local: bool, nodes: &[u8], trace: &mut [u32]) -> Explan
     }
     let n = EDGE_FIELDS * records;
     let bytes = f.bytes;
-    checker::counterexample::check_with_counterexample(&bytes[0..n], local, nodes, trace)
+    checker_counterexample::check_with_counterexample(&bytes[0..n], local, nodes, trace)
 }
 
 // The check of an outline with room for the steps of a counterexample, lent the edges as a slice of records.

@@ -4,7 +4,5 @@ pub mod PolicyLaws
 pub mod AcceptedLaws
 pub mod PromiseLaws
 pub mod RightLaws
-pub mod ExplainedLaws
-pub mod ExplanationLaws
 pub mod MarkLaws
 pub mod SummaryLaws

@@ -7,7 +7,6 @@ ghost use Rattle.checker.specs.Code.{opens, hasEdge};
 use usage::EDGE_FIELDS;
 use usage::NODE_FIELDS;
 
-pub mod counterexample;
 mod search;
 pub mod summary;
 

@@ -12,14 +12,14 @@ use Rattle.usage.specs.Answers.{Verdict, allowed, violated, refused}
 use Rattle.usage.specs.Tables.{EdgeTable, NodeTable}
 use Rattle.usage.proofs.Logic.{clash}
 use Rattle.checker_trace.specs.Answer.{mostNumbers}
-use Rattle.checker.specs.declared.counterexample.Explanation.{Explanation}
-use Rattle.checker.specs.declared.counterexample.Explanation.the-variants.{Accepted, Shown, Longer, Refused}
+use Rattle.checker_counterexample.specs.declared.Explanation.{Explanation}
+use Rattle.checker_counterexample.specs.declared.Explanation.the-variants.{Accepted, Shown, Longer, Refused}
 use Rattle.checker.specs.Promise.{RightVerdict, CheckPromise}
-use Rattle.checker.specs.Explained.{Explained, explanationVerdict, stepsWritten}
+use Rattle.checker_counterexample.specs.Explained.{Explained, explanationVerdict, stepsWritten}
 use Rattle.checker.proofs.PromiseLaws.{promised-right, promise-no-edges, promise-no-nodes}
 use Rattle.checker.proofs.RightLaws.{right-policy, right-number}
-use Rattle.checker.proofs.ExplanationLaws.{explained-verdict, explained-small, explained-nothing, explained-shown, explained-longer}
-use Rattle.checker.proofs.ExplanationLaws.{explained-unique}
+use Rattle.checker_counterexample.proofs.ExplanationLaws.{explained-verdict, explained-small, explained-nothing, explained-shown, explained-longer}
+use Rattle.checker_counterexample.proofs.ExplanationLaws.{explained-unique}
 use Rattle.promises.specs.Demands.{Listed, checkNumbers, explanationNumbers, CheckRefuses, Counterexamples}
 use Rattle.promises.proofs.JudgeNumbers.{nth}
 

@@ -8,7 +8,7 @@ use lib.Dec.{ltb}
 use Rattle.usage.specs.Answers.{Verdict, allowed, violated, refused, detail}
 use Rattle.usage.specs.Tests.{every}
 use Rattle.usage.proofs.Decides.{d-lt, d-every}
-use Rattle.checker.specs.Explained.{explanationVerdict, stepsWritten}
+use Rattle.checker_counterexample.specs.Explained.{explanationVerdict, stepsWritten}
 use Rattle.api_c.proofs.CodeLaws.{code-one, code-with-steps-one}
 use Rattle.promises.specs.Demands.{judgeNumbers, checkNumbers, explanationNumbers, Listed, ToldByCodes}
 

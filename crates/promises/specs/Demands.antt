@@ -41,9 +41,9 @@ use Rattle.checker_trace.specs.Answer.{mostNumbers}
 use Rattle.checker_trace.specs.Steps.{laid}
 use Rattle.checker.specs.Accepted.{NeverHalted}
 use Rattle.checker.specs.Promise.{RightVerdict, CheckPromise}
-use Rattle.checker.specs.declared.counterexample.Explanation.{Explanation}
-use Rattle.checker.specs.declared.counterexample.Explanation.the-variants.{Shown, Longer}
-use Rattle.checker.specs.Explained.{Explained, explanationVerdict, stepsWritten}
+use Rattle.checker_counterexample.specs.declared.Explanation.{Explanation}
+use Rattle.checker_counterexample.specs.declared.Explanation.the-variants.{Shown, Longer}
+use Rattle.checker_counterexample.specs.Explained.{Explained, explanationVerdict, stepsWritten}
 use Rattle.sheet_writer.specs.Writer.{is-written, writtenAgain}
 use Rattle.sheet_writer.specs.Promise.{OneWay}
 use Rattle.checker.specs.Summary.{Exact}

@@ -26,11 +26,11 @@ use Rattle.sheet_reader.proofs.AnswerLaws.{Holds, HoldsNodes}
 use Rattle.checker_trace.specs.Steps.{three, numbers, laid}
 use Rattle.checker_trace.specs.Answer.{mostNumbers}
 use Rattle.checker_trace.proofs.StepLaws.{numbers-length, laid-length}
-use Rattle.checker.specs.declared.counterexample.Explanation.{Explanation}
-use Rattle.checker.specs.declared.counterexample.Explanation.the-variants as told
+use Rattle.checker_counterexample.specs.declared.Explanation.{Explanation}
+use Rattle.checker_counterexample.specs.declared.Explanation.the-variants as told
 use Rattle.checker.specs.Accepted.{rawOf}
 use Rattle.checker.specs.Promise.{RightVerdict, no-edges, no-nodes, checked, CheckPromise}
-use Rattle.checker.specs.Explained.{Explained, stepsWritten}
+use Rattle.checker_counterexample.specs.Explained.{Explained, stepsWritten}
 use Rattle.checker.proofs.PromiseLaws.{promised-right}
 use Rattle.report_lines.specs.Lines.{namesLine, row}
 use Rattle.report_lines.proofs.RowLaws.{step-nine}

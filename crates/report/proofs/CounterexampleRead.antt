@@ -23,9 +23,9 @@ use Rattle.sheet_lines.specs.Sheets.{traceSheet, outlineSheet, isLocal}
 use Rattle.sheet_lines.proofs.ScanLaws.{fed}
 use Rattle.sheet_reader.specs.Readers.{policiesRead, ruledResult}
 use Rattle.sheet_reader.proofs.WrittenLaws.{nothing-left, names-read}
-use Rattle.checker.specs.declared.counterexample.Explanation.{Explanation}
+use Rattle.checker_counterexample.specs.declared.Explanation.{Explanation}
 use Rattle.checker.specs.Accepted.{rawOf}
-use Rattle.checker.specs.Explained.{Explained, stepsWritten}
+use Rattle.checker_counterexample.specs.Explained.{Explained, stepsWritten}
 use Rattle.report_lines.specs.Decimal.{decimal}
 use Rattle.report_lines.specs.Lines.{field, three, row, traceNamesLine}
 use Rattle.sheet_writer.proofs.FieldLaws.{decimal-value, space-line, feed-line}

@@ -11,8 +11,8 @@ use Rattle.sheet_lines.specs.Sheet.{Result, accepted, refused, sheet}
 use Rattle.sheet_lines.specs.Sheets.{outlineSheet, isLocal}
 use Rattle.sheet_reader.specs.Readers.{policiesRead, ruledResult}
 use Rattle.checker_trace.specs.Answer.{mostNumbers}
-use Rattle.checker.specs.declared.counterexample.Explanation.{Explanation}
-use Rattle.checker.specs.Explained.{Explained, stepsWritten}
+use Rattle.checker_counterexample.specs.declared.Explanation.{Explanation}
+use Rattle.checker_counterexample.specs.Explained.{Explained, stepsWritten}
 use Rattle.report_lines.specs.Lines.{namesLine, traceNamesLine, traceNamesRoom, row, refusalRow}
 use Rattle.report.specs.Output.{fronted}
 

@@ -9,11 +9,11 @@ ghost use Rattle.usage.specs.Tables.{from, stepAt};
 ghost use Rattle.sheet_lines.specs.Sheet.{sheet};
 ghost use Rattle.sheet_lines.specs.Sheets.{outlineSheet};
 ghost use Rattle.sheet_reader.specs.Readers.{ruledResult};
-ghost use Rattle.checker.specs.Explained.{Explained, stepsWritten};
+ghost use Rattle.checker_counterexample.specs.Explained.{Explained, stepsWritten};
 ghost use Rattle.report_lines.specs.Lines.{namesLine, namesRoom, row};
 ghost use Rattle.report.specs.Output.{fronted};
 ghost use Rattle.report.specs.Counterexample.{noSteps, RightTrace, stepRows, shownSheet, nodesSheet, counterexampleRoom, Prints};
-use checker::counterexample::Explanation;
+use checker_counterexample::Explanation;
 use checker_trace::MOST_NUMBERS;
 use sheet_lines::Reading;
 use usage::NODE_FIELDS;
@@ -50,7 +50,7 @@ fn of_nodes(edges: &[u8], local: bool, nodes: &[u8], out: &mut [u8]) -> usize
         (now (out .entry)) r (now (out .exit)) ⌝ }
 {
     let mut trace = [0u32; MOST_NUMBERS];
-    let e = checker::counterexample::check_with_counterexample(edges, local, nodes, &mut trace);
+    let e = checker_counterexample::check_with_counterexample(edges, local, nodes, &mut trace);
     let at = report_lines::trace_names(out);
     rows(&trace, steps_written(e), out, at)
 }

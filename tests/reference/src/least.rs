@@ -11,13 +11,17 @@ use crate::outline::{Node, SANDBOX};
 use crate::policy::{Policies, Policy};
 use crate::pushdown::{by_rule, heads, replacement, Reason, Transition};
 use crate::run::{Run, Way};
-use crate::system::{Rule, System, Watched, ACCEPT, PLACES};
+use crate::system::{Choice, Rule, System};
 use std::cmp::Reverse;
 use std::collections::BinaryHeap;
 
 struct Least {
     rules: Vec<Rule>,
     symbols: usize,
+    /// The configuration in which every run begins.
+    first: (usize, usize),
+    /// The one accepting state of the automaton, after the controls.
+    accept: usize,
     /// The least weight found so far of each transition, and why.
     weights: Vec<u64>,
     reasons: Vec<Reason>,
@@ -35,26 +39,33 @@ impl Least {
     fn new(system: &System) -> Least {
         let rules = system.rules();
         let symbols = system.symbols();
-        let heads = heads(&rules, symbols);
-        let slots = PLACES * symbols * PLACES;
+        let heads = heads(&rules, system);
+        let (accept, places) = (system.controls(), system.controls() + 1);
+        let slots = places * symbols * places;
         let mut least = Least {
             rules,
             symbols,
+            first: system.first(),
+            accept,
             weights: vec![u64::MAX; slots],
             reasons: vec![Reason::Absent; slots],
             settled: vec![false; slots],
             waiting: BinaryHeap::new(),
             heads,
-            awaiting: vec![Vec::new(); PLACES * symbols],
-            targets: vec![Vec::new(); PLACES * symbols],
+            awaiting: vec![Vec::new(); places * symbols],
+            targets: vec![Vec::new(); places * symbols],
         };
         least.seed(&system.bad_controls());
         least.settle();
         least
     }
 
+    fn places(&self) -> usize {
+        self.accept + 1
+    }
+
     fn slot(&self, (from, symbol, to): Transition) -> usize {
-        (from * self.symbols + symbol) * PLACES + to
+        (from * self.symbols + symbol) * self.places() + to
     }
 
     fn offer(&mut self, transition: Transition, weight: u64, reason: Reason) {
@@ -70,8 +81,8 @@ impl Least {
     /// What is bad already, and the rules that put nothing.
     fn seed(&mut self, bad: &[usize]) {
         for symbol in 0..self.symbols {
-            self.offer((ACCEPT, symbol, ACCEPT), 0, Reason::Bad);
-            bad.iter().for_each(|control| self.offer((*control, symbol, ACCEPT), 0, Reason::Bad));
+            self.offer((self.accept, symbol, self.accept), 0, Reason::Bad);
+            bad.iter().for_each(|control| self.offer((*control, symbol, self.accept), 0, Reason::Bad));
         }
         for index in 0..self.rules.len() {
             let rule = &self.rules[index];
@@ -88,10 +99,10 @@ impl Least {
                 continue;
             }
             self.settled[slot] = true;
-            let (place, to) = (slot / PLACES, slot % PLACES);
+            let (place, to) = (slot / self.places(), slot % self.places());
             self.targets[place].push(to);
             self.complete(place, to, weight);
-            if place / self.symbols != ACCEPT {
+            if place / self.symbols != self.accept {
                 self.begin(place, to, weight);
             }
         }
@@ -119,7 +130,7 @@ impl Least {
                     let waiting_at = to * self.symbols + second;
                     self.awaiting[waiting_at].push((index, before));
                     for end in self.targets[waiting_at].clone() {
-                        let rest = self.weights[waiting_at * PLACES + end];
+                        let rest = self.weights[waiting_at * self.places() + end];
                         let whole = before.saturating_add(rest);
                         self.offer((control, symbol, end), whole, by_rule(index, to));
                     }
@@ -129,8 +140,8 @@ impl Least {
     }
 
     fn start(&self) -> Transition {
-        let (control, symbol) = System::first();
-        (control, symbol, ACCEPT)
+        let (control, symbol) = self.first;
+        (control, symbol, self.accept)
     }
 
     /// The fewest steps from the start into a bad configuration.
@@ -158,16 +169,16 @@ impl Least {
     }
 }
 
-fn least(policies: &Policies, nodes: &[Node], number: usize, watched: Watched) -> Least {
+fn least(policies: &Policies, nodes: &[Node], number: usize, watched: Choice) -> Least {
     let policy = &Policy::of(policies, number);
     Least::new(&System { nodes, policy, watched })
 }
 
-/// The resources to watch; none where no node opens the policy.
-fn watched(nodes: &[Node], number: usize) -> Vec<Watched> {
+/// The choices of resources to watch; none where no node opens the policy.
+fn watched(policies: &Policies, nodes: &[Node], number: usize) -> Vec<Choice> {
     let opened = |node: &Node| node.kind == SANDBOX && node.a == number as u64;
     if nodes.iter().any(opened) {
-        Watched::of(nodes)
+        Choice::of(&Policy::of(policies, number), nodes)
     } else {
         vec![]
     }
@@ -175,7 +186,7 @@ fn watched(nodes: &[Node], number: usize) -> Vec<Watched> {
 
 /// The fewest steps of a trace that leaves the policy open and not respected.
 pub fn shortest_length(policies: &Policies, nodes: &[Node], number: usize) -> Option<u64> {
-    let each = watched(nodes, number).into_iter();
+    let each = watched(policies, nodes, number).into_iter();
     each.filter_map(|watched| least(policies, nodes, number, watched).length()).min()
 }
 
@@ -187,7 +198,7 @@ pub fn shortest_run(
     number: usize,
     most: u64,
 ) -> Option<(u64, Option<Run>)> {
-    let each = watched(nodes, number).into_iter();
+    let each = watched(policies, nodes, number).into_iter();
     let found = each.map(|watched| least(policies, nodes, number, watched));
     let (length, shortest) = found
         .filter_map(|least| Some((least.length()?, least)))

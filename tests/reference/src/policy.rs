@@ -8,6 +8,12 @@ pub const MOST_EDGES: usize = 256;
 pub const ON_STATIC: u64 = 0;
 pub const ON_OWN: u64 = 1;
 pub const ON_OTHER: u64 = 2;
+pub const ON_SECOND: u64 = 3;
+
+/// "on" is below this in every sheet. With 4, sheets have pair policies: "An edge may have on 3".
+pub const KINDS_OF_ON: u64 = 3;
+/// "At most two policies may be such."
+pub const MOST_PAIRS: usize = 2;
 
 #[derive(Clone, Copy, Debug, PartialEq, Eq)]
 pub struct Edge {
@@ -25,8 +31,33 @@ pub struct Event {
     pub resource: u64,
 }
 
-/// The resource taken as x. `None` is a dynamic resource in no event.
+/// A resource of an instance. `None` is a dynamic resource in no event.
 pub type Own = Option<u64>;
+
+/// "One instance of a policy belongs to each resource taken as x"; a pair policy "has an instance for each x and y, equal ones too".
+#[derive(Clone, Copy, Debug, PartialEq, Eq)]
+pub struct Instance {
+    pub x: Own,
+    pub y: Option<Own>,
+}
+
+impl Instance {
+    pub fn single(x: Own) -> Instance {
+        Instance { x, y: None }
+    }
+
+    pub fn pair(x: Own, y: Own) -> Instance {
+        Instance { x, y: Some(y) }
+    }
+
+    fn is_first(self, resource: u64) -> bool {
+        self.x == Some(resource)
+    }
+
+    fn is_second(self, resource: u64) -> bool {
+        self.y == Some(Some(resource))
+    }
+}
 
 /// The states that an instance may be in.
 pub type States = [bool; STATES];
@@ -59,25 +90,38 @@ impl Edge {
     fn who_fits(&self) -> bool {
         match self.on {
             ON_STATIC => self.who <= 15,
-            ON_OWN | ON_OTHER => self.who == 0,
-            _ => false,
+            _ => self.on < KINDS_OF_ON && self.who == 0,
         }
     }
 
-    pub fn matches(&self, own: Own, event: Event) -> bool {
+    /// "on 2 means neither x nor y, and an event on x = y matches both kinds of edge".
+    pub fn matches(&self, instance: Instance, event: Event) -> bool {
+        let (first, second) = (instance.is_first(event.resource), instance.is_second(event.resource));
         self.action == event.action
             && match self.on {
                 ON_STATIC => is_static(event.resource) && event.resource == self.who,
-                ON_OWN => own == Some(event.resource),
-                ON_OTHER => own != Some(event.resource),
+                ON_OWN => first,
+                ON_OTHER => !first && !second,
+                ON_SECOND => second,
                 _ => false,
             }
     }
 }
 
+/// The policies with an edge on y, each once, in the order in which such edges first stand.
+pub fn pair_policies(edges: &[Edge]) -> Vec<u64> {
+    let mut found = Vec::new();
+    for edge in edges.iter().filter(|edge| edge.on == ON_SECOND) {
+        if !found.contains(&edge.policy) {
+            found.push(edge.policy);
+        }
+    }
+    found
+}
+
 /// Is this a table of edges that an accepted sheet gives?
 pub fn edges_fit(edges: &[Edge]) -> bool {
-    edges.len() <= MOST_EDGES && edges.iter().all(Edge::fits)
+    edges.len() <= MOST_EDGES && edges.iter().all(Edge::fits) && pair_policies(edges).len() <= MOST_PAIRS
 }
 
 /// The past that the policies of a sheet see: all of it, or only what happens inside their sandbox.
@@ -130,12 +174,32 @@ impl Policy {
         (0..POLICIES).map(|number| Policy::of(policies, number)).collect()
     }
 
+    /// "A policy with such an edge is a pair policy".
+    pub fn is_pair(&self) -> bool {
+        self.edges.iter().any(|edge| edge.on == ON_SECOND)
+    }
+
+    /// The instances whose resources are among these; an instance of a single policy is each by itself.
+    pub fn instances_of(&self, owns: &[Own]) -> Vec<Instance> {
+        if self.is_pair() {
+            let with_each = |x: &Own| owns.iter().map(|y| Instance::pair(*x, *y)).collect::<Vec<_>>();
+            owns.iter().flat_map(with_each).collect()
+        } else {
+            owns.iter().map(|x| Instance::single(*x)).collect()
+        }
+    }
+
+    /// All instances that these events tell apart.
+    pub fn instances(&self, events: &[Event]) -> Vec<Instance> {
+        self.instances_of(&owns(events))
+    }
+
     /// The ends of the matching edges from a state; the state itself if there is none.
-    pub fn successors(&self, own: Own, from: usize, event: Event) -> Vec<usize> {
+    pub fn successors(&self, instance: Instance, from: usize, event: Event) -> Vec<usize> {
         let mut ends: Vec<usize> = self
             .edges
             .iter()
-            .filter(|e| e.from == from as u64 && e.matches(own, event))
+            .filter(|e| e.from == from as u64 && e.matches(instance, event))
             .map(|e| e.to as usize)
             .collect();
         ends.sort_unstable();
@@ -146,11 +210,11 @@ impl Policy {
         ends
     }
 
-    pub fn moved(&self, own: Own, states: States, event: Event) -> States {
+    pub fn moved(&self, instance: Instance, states: States, event: Event) -> States {
         let mut stuck = states;
         let mut after = [false; STATES];
         for edge in &self.edges {
-            if states[edge.from as usize] && edge.matches(own, event) {
+            if states[edge.from as usize] && edge.matches(instance, event) {
                 stuck[edge.from as usize] = false;
                 after[edge.to as usize] = true;
             }
@@ -161,14 +225,14 @@ impl Policy {
         after
     }
 
-    /// The states of the instance of `own` after all events.
-    pub fn states_after(&self, own: Own, events: &[Event]) -> States {
-        events.iter().fold(START, |states, event| self.moved(own, states, *event))
+    /// The states of an instance after all events.
+    pub fn states_after(&self, instance: Instance, events: &[Event]) -> States {
+        events.iter().fold(START, |states, event| self.moved(instance, states, *event))
     }
 
     /// May no instance at all be in an offending state after these events?
     pub fn respected(&self, events: &[Event]) -> bool {
-        instances(events).into_iter().all(|own| !offends(self.states_after(own, events)))
+        self.instances(events).into_iter().all(|instance| !offends(self.states_after(instance, events)))
     }
 }
 
@@ -176,8 +240,8 @@ pub fn offends(states: States) -> bool {
     (0..STATES).any(|state| states[state] && is_offending(state))
 }
 
-/// All statics, each dynamic resource of the events, and one that is in none.
-pub fn instances(events: &[Event]) -> Vec<Own> {
+/// All statics, each dynamic resource of the events, and one that is in none. Two that are in none are alike, equal or not.
+fn owns(events: &[Event]) -> Vec<Own> {
     let mut dynamic: Vec<u64> =
         events.iter().map(|e| e.resource).filter(|r| !is_static(*r)).collect();
     dynamic.sort_unstable();

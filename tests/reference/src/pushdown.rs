@@ -8,7 +8,7 @@
 use crate::outline::{nodes_fit, Node, SANDBOX};
 use crate::policy::{edges_fit, Edge, Policies, Policy, Sight, POLICIES};
 use crate::run::{Run, Way};
-use crate::system::{Rule, System, Watched, ACCEPT, CONTROLS, PLACES};
+use crate::system::{Choice, Rule, System};
 
 /// A transition of the automaton over the stack.
 pub(crate) type Transition = (usize, usize, usize);
@@ -30,6 +30,10 @@ pub(crate) enum Reason {
 struct Saturation {
     rules: Vec<Rule>,
     symbols: usize,
+    /// The configuration in which every run begins.
+    first: (usize, usize),
+    /// The one accepting state of the automaton, after the controls.
+    accept: usize,
     reasons: Vec<Reason>,
     waiting: Vec<Transition>,
     /// The rules that put a symbol at a control, first of all.
@@ -52,15 +56,18 @@ impl Saturation {
     fn of_heads(system: &System, bad: &[(usize, usize)]) -> Saturation {
         let rules = system.rules();
         let symbols = system.symbols();
-        let heads = heads(&rules, symbols);
+        let (accept, places) = (system.controls(), system.controls() + 1);
+        let heads = heads(&rules, system);
         let mut saturation = Saturation {
             rules,
             symbols,
-            reasons: vec![Reason::Absent; PLACES * symbols * PLACES],
+            first: system.first(),
+            accept,
+            reasons: vec![Reason::Absent; places * symbols * places],
             waiting: Vec::new(),
             heads,
-            awaiting: vec![Vec::new(); PLACES * symbols],
-            targets: vec![Vec::new(); PLACES * symbols],
+            awaiting: vec![Vec::new(); places * symbols],
+            targets: vec![Vec::new(); places * symbols],
         };
         saturation.seed(bad);
         saturation.saturate();
@@ -68,7 +75,7 @@ impl Saturation {
     }
 
     fn slot(&self, (from, symbol, to): Transition) -> usize {
-        (from * self.symbols + symbol) * PLACES + to
+        (from * self.symbols + symbol) * (self.accept + 1) + to
     }
 
     fn add(&mut self, transition: Transition, reason: Reason) {
@@ -82,10 +89,10 @@ impl Saturation {
     /// The bad configurations, and the rules that put nothing.
     fn seed(&mut self, bad: &[(usize, usize)]) {
         for symbol in 0..self.symbols {
-            self.add((ACCEPT, symbol, ACCEPT), Reason::Bad);
+            self.add((self.accept, symbol, self.accept), Reason::Bad);
         }
         for (control, symbol) in bad {
-            self.add((*control, *symbol, ACCEPT), Reason::Bad);
+            self.add((*control, *symbol, self.accept), Reason::Bad);
         }
         for index in 0..self.rules.len() {
             let rule = &self.rules[index];
@@ -101,7 +108,7 @@ impl Saturation {
             let place = from * self.symbols + symbol;
             self.targets[place].push(to as u8);
             self.complete(place, from, to);
-            if from != ACCEPT {
+            if from != self.accept {
                 self.begin(place, to);
             }
         }
@@ -135,14 +142,14 @@ impl Saturation {
 
     /// Does some run lead there?
     fn reached(&self) -> bool {
-        let (control, symbol) = System::first();
-        !matches!(self.reasons[self.slot((control, symbol, ACCEPT))], Reason::Absent)
+        let (control, symbol) = self.first;
+        !matches!(self.reasons[self.slot((control, symbol, self.accept))], Reason::Absent)
     }
 
     /// The rules of a run from the start into a bad configuration.
     fn witness(&self, most: usize) -> Witness {
-        let (control, symbol) = System::first();
-        let first = (control, symbol, ACCEPT);
+        let (control, symbol) = self.first;
+        let first = (control, symbol, self.accept);
         if matches!(self.reasons[self.slot(first)], Reason::Absent) {
             return Witness::None;
         }
@@ -172,8 +179,9 @@ pub(crate) fn reaches(system: &System, heads: &[(usize, usize)]) -> bool {
 }
 
 /// For each control and symbol the rules that put the symbol first of all, at that control.
-pub(crate) fn heads(rules: &[Rule], symbols: usize) -> Vec<Vec<u32>> {
-    let mut heads = vec![Vec::new(); CONTROLS * symbols];
+pub(crate) fn heads(rules: &[Rule], system: &System) -> Vec<Vec<u32>> {
+    let symbols = system.symbols();
+    let mut heads = vec![Vec::new(); system.controls() * symbols];
     for (index, rule) in rules.iter().enumerate() {
         if let Some(first) = rule.put.first() {
             heads[rule.next * symbols + first].push(index as u32);
@@ -208,7 +216,7 @@ pub fn witness(
     policies: &Policies,
     nodes: &[Node],
     number: usize,
-    watched: Watched,
+    watched: Choice,
     most: usize,
 ) -> Witness {
     let policy = &Policy::of(policies, number);
@@ -220,7 +228,7 @@ pub fn breaks(policies: &Policies, nodes: &[Node], number: usize) -> bool {
     // A policy that no node opens is never open.
     let opened = |node: &Node| node.kind == SANDBOX && node.a == number as u64;
     nodes.iter().any(opened)
-        && Watched::of(nodes)
+        && Choice::of(&Policy::of(policies, number), nodes)
             .into_iter()
             .any(|watched| !matches!(witness(policies, nodes, number, watched, 0), Witness::None))
 }

@@ -2,7 +2,7 @@
 
 use crate::judge::{events, seen, unclosed};
 use crate::outline::Node;
-use crate::policy::{instances, Policies, Policy, States, POLICIES};
+use crate::policy::{Policies, Policy, States, POLICIES};
 use crate::run::{Part, Run, Way};
 use std::collections::{HashSet, VecDeque};
 
@@ -64,8 +64,8 @@ type Standing = (Vec<Part>, usize, Vec<States>);
 
 fn standing(policy: &Policy, run: &Run) -> Standing {
     let seen = seen(policy, &run.steps);
-    let instances = instances(&events(&run.steps)).into_iter();
-    let states = instances.map(|own| policy.states_after(own, &seen));
+    let instances = policy.instances(&events(&run.steps)).into_iter();
+    let states = instances.map(|instance| policy.states_after(instance, &seen));
     let unclosed = unclosed(&run.steps).into_iter().filter(|open| *open == policy.number).count();
     (run.parts().to_vec(), unclosed, states.collect())
 }

@@ -2,7 +2,7 @@
 
 use crate::judge::Step;
 use crate::outline::{self, Node};
-use crate::policy::{Edge, Policies, Sight};
+use crate::policy::{pair_policies, Edge, Policies, Sight, MOST_PAIRS};
 
 pub const LONGEST: usize = 32_768;
 pub const POLICY_NAMES: &str = "policy from action on who to";
@@ -39,21 +39,29 @@ pub fn read_policies(bytes: &[u8]) -> Result<Policies, Refusal> {
     let begins = |sight: &Sight| bytes.starts_with(format!("{}\n", policy_names(*sight)).as_bytes());
     // a sheet with neither line is refused by either
     let sight = Sight::BOTH.into_iter().find(begins).unwrap_or(Sight::Whole);
-    let edges = read(bytes, policy_names(sight), MOST_EDGES, |row| {
-        Some(Edge::new(row)).filter(Edge::fits)
-    })?;
+    let edges = read(bytes, policy_names(sight), MOST_EDGES, edge_after)?;
     Ok(Policies { sight, edges })
 }
 
+/// The edge of a line after those above it: 3, and 14 for "an edge with on 3 that makes a third pair policy, at that line after 3".
+fn edge_after(above: &[Edge], row: [u64; 6]) -> Result<Edge, u32> {
+    let edge = within(Edge::new(row), Edge::fits)?;
+    let pairs = pair_policies(&[above, &[edge]].concat());
+    if pairs.len() > MOST_PAIRS { Err(14) } else { Ok(edge) }
+}
+
+/// 3 where some value is out of its range.
+fn within<T>(record: T, fits: impl Fn(&T) -> bool) -> Result<T, u32> {
+    if fits(&record) { Ok(record) } else { Err(3) }
+}
+
 pub fn read_trace(bytes: &[u8]) -> Result<Vec<Step>, Refusal> {
-    read(bytes, TRACE_NAMES, MOST_STEPS, |[kind, a, b]| {
-        Some(Step { kind, a, b }).filter(Step::fits)
-    })
+    read(bytes, TRACE_NAMES, MOST_STEPS, |_, [kind, a, b]| within(Step { kind, a, b }, Step::fits))
 }
 
 pub fn read_outline(bytes: &[u8]) -> Result<Vec<Node>, Refusal> {
-    let nodes = read(bytes, OUTLINE_NAMES, MOST_NODES, |[number, kind, a, b]| {
-        Some(Node { number, kind, a, b }).filter(Node::fits)
+    let nodes = read(bytes, OUTLINE_NAMES, MOST_NODES, |_, [number, kind, a, b]| {
+        within(Node { number, kind, a, b }, Node::fits)
     })?;
     if nodes.is_empty() {
         return refuse(9, FIRST_LINE);
@@ -64,12 +72,12 @@ pub fn read_outline(bytes: &[u8]) -> Result<Vec<Node>, Refusal> {
     }
 }
 
-/// Reads value lines of N fields; `record` answers none for a value out of range.
+/// Reads value lines of N fields; `record` makes one of a line's values, or tells the number of what is wrong with them after the lines above.
 fn read<const N: usize, T>(
     bytes: &[u8],
     names: &str,
     most: usize,
-    record: impl Fn([u64; N]) -> Option<T>,
+    record: impl Fn(&[T], [u64; N]) -> Result<T, u32>,
 ) -> Result<Vec<T>, Refusal> {
     if bytes.len() > LONGEST {
         return refuse(5, 0);
@@ -84,10 +92,8 @@ fn read<const N: usize, T>(
             return refuse(4, number);
         }
         let row = fields(line).or_else(|fault| refuse(fault, number))?;
-        match record(row) {
-            Some(record) => records.push(record),
-            None => return refuse(3, number),
-        }
+        let record = record(&records, row).or_else(|fault| refuse(fault, number))?;
+        records.push(record);
     }
     Ok(records)
 }

@@ -5,7 +5,7 @@ use crate::judge::{
     MOST_UNCLOSED, OPEN,
 };
 use crate::policy::{
-    edges_fit, offends, Edge, Event, Own, Policies, Policy, Sight, States, POLICIES, START,
+    edges_fit, offends, Edge, Event, Instance, Own, Policies, Policy, Sight, States, POLICIES, START,
     STATES, STATICS,
 };
 
@@ -132,7 +132,7 @@ impl State {
         for place in 0..self.places() {
             let own = self.own(place);
             for (policy, mask) in policies.iter().zip(self.sets[place].iter_mut()) {
-                *mask = to_mask(policy.moved(own, from_mask(*mask), event));
+                *mask = to_mask(policy.moved(Instance::single(own), from_mask(*mask), event));
             }
         }
     }

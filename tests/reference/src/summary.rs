@@ -6,7 +6,7 @@ use crate::policy::{Edge, Policies, Policy, POLICIES};
 use crate::pushdown::{reaches, tables};
 use crate::run::Run;
 use crate::search::successors;
-use crate::system::{System, Watched};
+use crate::system::{Choice, System};
 use std::collections::{BTreeMap, VecDeque};
 
 /// For each policy a number: bits 0 to 31 are its marked actions, bit 32 is its opening's mark.
@@ -32,7 +32,7 @@ pub fn summary(policies: &Policies, nodes: &[Node]) -> Marks {
 
 fn policy_marks(policy: &Policy, nodes: &[Node]) -> u64 {
     let mut marks = 0;
-    for watched in Watched::of(nodes) {
+    for watched in Choice::of(policy, nodes) {
         let system = System { nodes, policy, watched };
         let mut heads: BTreeMap<u32, Vec<(usize, usize)>> = BTreeMap::new();
         for rule in system.rules() {

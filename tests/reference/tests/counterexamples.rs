@@ -13,7 +13,7 @@ use reference::generate::outlines::{
 use reference::judge::{seen, unclosed, Answer, Judge, Step, OPEN};
 use reference::least::{shortest_length, shortest_run};
 use reference::outline::Node;
-use reference::policy::{instances, offends, Policies, Policy, POLICIES};
+use reference::policy::{offends, Policies, Policy, POLICIES};
 use reference::program::{self, tables as tables_of};
 use reference::pushdown::{breaks, check};
 use reference::rng::Rng;
@@ -377,14 +377,14 @@ impl Has {
     fn look(&mut self, edges: &Policies, policy: usize, steps: &[Step]) {
         let number = Policy::of(edges, policy);
         let events = seen(&number, steps);
-        let offending = |own| offends(number.states_after(own, &events));
+        let offending = |instance| offends(number.states_after(instance, &events));
         let offenders: Vec<_> =
-            instances(&events).into_iter().filter(|own| offending(*own)).collect();
+            number.instances(&events).into_iter().filter(|instance| offending(*instance)).collect();
         let last = steps[steps.len() - 1];
         let created = events.iter().filter(|event| event.action == 0).count();
         self.lengths.push(steps.len() as u64);
         self.opening_last |= last.kind == OPEN;
-        self.never_used |= offenders.iter().all(|own| own.is_none());
+        self.never_used |= offenders.iter().all(|instance| instance.x.is_none());
         self.seventy |= created == 70;
         let most = (0..=steps.len()).map(|end| unclosed(&steps[..end]).len()).max();
         self.most_unclosed.extend(most);

@@ -2,7 +2,7 @@
 
 use reference::generate::{cases, states, Kind};
 use reference::judge::{created, is_open, live, seen, unclosed, Answer, Judge, Step, RETIRE};
-use reference::policy::{is_static, Edge, Policies, Policy, States, POLICIES};
+use reference::policy::{is_static, Edge, Instance, Policies, Policy, States, POLICIES};
 use reference::sheet::{read_policies, read_trace};
 use reference::state::{judge_state, Call, State, FIRST_LIVE, NEVER, RETIRED};
 
@@ -55,13 +55,13 @@ fn assert_state(policies: &Policies, past: &[Step], state: &State) {
             let mask = state.sets[place][number];
             assert!((0..8).all(|s| held[s] == (mask >> s & 1 == 1)), "place {place}");
         };
-        (0..NEVER).for_each(|place| holds(place, policy.states_after(Some(place as u64), &seen)));
-        holds(NEVER, policy.states_after(None, &seen));
+        (0..NEVER).for_each(|place| holds(place, policy.states_after(Instance::single(Some(place as u64)), &seen)));
+        holds(NEVER, policy.states_after(Instance::single(None), &seen));
         for (place, resource) in live.iter().enumerate() {
-            holds(FIRST_LIVE + place, policy.states_after(Some(*resource), &seen));
+            holds(FIRST_LIVE + place, policy.states_after(Instance::single(Some(*resource)), &seen));
         }
-        let gone = retired.iter().map(|resource| policy.states_after(Some(*resource), &seen));
-        let all = gone.fold(policy.states_after(None, &seen), |all, held| std::array::from_fn(|s| all[s] || held[s]));
+        let gone = retired.iter().map(|resource| policy.states_after(Instance::single(Some(*resource)), &seen));
+        let all = gone.fold(policy.states_after(Instance::single(None), &seen), |all, held| std::array::from_fn(|s| all[s] || held[s]));
         holds(RETIRED, all);
     }
 }

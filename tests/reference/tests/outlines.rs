@@ -11,7 +11,7 @@ use reference::pushdown::{breaks, check, check_tables, replay, witness, Witness}
 use reference::rng::Rng;
 use reference::run::{Run, Way};
 use reference::search::search;
-use reference::system::Watched;
+use reference::system::Choice;
 
 #[derive(Default)]
 struct Tally {
@@ -45,17 +45,21 @@ fn cross_check(draft: &Draft, bound: usize, tally: &mut Tally) {
     }
 }
 
+fn choices(draft: &Draft, policy: usize) -> Vec<Choice> {
+    Choice::all(&Policy::of(&draft.policies, policy))
+}
+
 /// The same over all statics, also those in no event.
 fn some_instance_breaks(draft: &Draft, policy: usize) -> bool {
     let run = |watched| witness(&draft.policies, &draft.nodes, policy, watched, 0);
-    Watched::all().into_iter().any(|watched| !matches!(run(watched), Witness::None))
+    choices(draft, policy).into_iter().any(|watched| !matches!(run(watched), Witness::None))
 }
 
 /// Replays a run for each watched resource that has one.
 fn replay_all(draft: &Draft, policy: usize) -> usize {
     let policies = Policy::all(&draft.policies);
     let mut replayed = 0;
-    for watched in Watched::all() {
+    for watched in choices(draft, policy) {
         if let Witness::Ways(ways) = witness(&draft.policies, &draft.nodes, policy, watched, 5_000) {
             let run = replay(&draft.nodes, &ways);
             assert!(run.broken(&policies).contains(&policy), "{policy} {watched:?}: {draft:?}");
@@ -115,7 +119,7 @@ fn the_judge_agrees_on_traces_of_outlines() {
                 (0..20).for_each(|_| assert!(!violated(&draft, &random_run(&mut rng, &draft))));
             }
             Some(policy) => {
-                for watched in Watched::all() {
+                for watched in choices(&draft, policy) {
                     let found = witness(&draft.policies, &draft.nodes, policy, watched, 1_000);
                     if let Witness::Ways(ways) = found {
                         assert!(violated(&draft, &replay(&draft.nodes, &ways)));

@@ -7,7 +7,7 @@ use reference::program::{check, monitor, shown, tables, write};
 use reference::pushdown::{self, replay, witness, Witness};
 use reference::sheet::{read_outline, read_policies};
 use reference::state::Call;
-use reference::system::Watched;
+use reference::system::Choice;
 use reference::writer;
 use std::collections::BTreeSet;
 use std::fs;
@@ -123,7 +123,7 @@ fn replay_refused(policies: &[u8], outline: &[u8]) {
         Witness::Ways(ways) => replay(&nodes, &ways).broken(&all).contains(&policy),
         _ => false,
     };
-    assert!(Watched::all().into_iter().any(breaks));
+    assert!(Choice::all(&all[policy]).into_iter().any(breaks));
 }
 
 /// Every border of the length, verdicts of all sorts, and traces that the judge follows to the end, or not.

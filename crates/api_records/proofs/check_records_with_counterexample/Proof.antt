@@ -89,10 +89,10 @@ use denote.Triple.Walked.{Walks, ends-at, walked, walk-meets}
 use denote.Exit.{yes}
 use Rattle.usage.specs.declared.Edge.{Edge}
 use Rattle.api_records.specs.declared.flat.Flat.{Flat}
-use Rattle.checker.specs.declared.counterexample.Explanation.{Explanation}
-use Rattle.checker.proofs.counterexample.Explanation as N
-use Rattle.checker.proofs.counterexample.Explanation.Laws as N′
-use Rattle.checker.specs.Explained.{Explained}
+use Rattle.checker_counterexample.specs.declared.Explanation.{Explanation}
+use Rattle.checker_counterexample.proofs.Explanation as N
+use Rattle.checker_counterexample.proofs.Explanation.Laws as N′
+use Rattle.checker_counterexample.specs.Explained.{Explained}
 use Rattle.api_records.specs.Flat.{flat}
 use Rattle.api_records.specs.Code.{zeros, flatOf}
 use Rattle.api_records.specs.Code.{ExplainedFlat}

@@ -1,7 +1,7 @@
 -- One number for each case of the explanation.
 use mathlib.Core.Path.{sym, ap}
 use borrow.Author.Needs.{needs}
-use Rattle.checker.specs.Explained.{stepsWritten}
+use Rattle.checker_counterexample.specs.Explained.{stepsWritten}
 use Rattle.report.proofs.counterexample.steps_written.Statement.{statement}
 use Rattle.report.proofs.counterexample.steps_written.Tie as tie
 

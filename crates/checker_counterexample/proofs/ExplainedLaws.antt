@@ -10,9 +10,9 @@ use Rattle.usage.proofs.Logic.{clash}
 use Rattle.checker_trace.specs.Answer.{mostNumbers}
 use Rattle.checker_trace.specs.Answer as trace
 use Rattle.usage.specs.Answers.{Verdict, violated, refused}
-use Rattle.checker.specs.declared.counterexample.Explanation.{Explanation}
+use Rattle.checker_counterexample.specs.declared.Explanation.{Explanation}
 use Rattle.checker.specs.Promise.{CheckPromise, no-edges, no-nodes}
-use Rattle.checker.specs.Explained.{NamedBy, Explained}
+use Rattle.checker_counterexample.specs.Explained.{NamedBy, Explained}
 
 no-refusal : {A : Type 0} {p k : ℕ} → _≡_ {A = Verdict} (violated p) (refused k) → A
 no-refusal e = clash (cc)

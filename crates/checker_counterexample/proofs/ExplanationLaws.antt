@@ -16,11 +16,11 @@ use Rattle.usage.specs.Tables.{edgesOf, nodesOf}
 use Rattle.usage.proofs.Logic.{clash}
 use Rattle.checker_trace.specs.Answer.{mostNumbers}
 use Rattle.checker_trace.specs.Steps.{numbers, laid}
-use Rattle.checker.specs.declared.counterexample.Explanation.{Explanation}
-use Rattle.checker.specs.declared.counterexample.Explanation.the-variants.{Accepted, Shown, Longer, Refused}
+use Rattle.checker_counterexample.specs.declared.Explanation.{Explanation}
+use Rattle.checker_counterexample.specs.declared.Explanation.the-variants.{Accepted, Shown, Longer, Refused}
 use Rattle.checker.specs.Promise.{CheckPromise}
-use Rattle.checker.specs.Explained.{Explained, explanationVerdict, stepsWritten}
+use Rattle.checker_counterexample.specs.Explained.{Explained, explanationVerdict, stepsWritten}
 use Rattle.checker.proofs.PromiseLaws.{promised-right}
 
 policy-violates : {local : Bool} {es : List Edge} {p q : ℕ} {past : Past} → p ≡ q → Violates local es p past → Violates local es q past
 policy-violates {local} {es} {past = past} h v = subst (λ (i : ℕ). Violates local es i past) h v

@@ -1,6 +1,6 @@
 // The check with a counterexample: where it names a policy, a shortest trace that leaves that policy open and not respected.
-ghost use Rattle.checker.specs.Explained.{NamedBy, Explained};
-use crate::Outcome;
+ghost use Rattle.checker_counterexample.specs.Explained.{NamedBy, Explained};
+use checker::Outcome;
 use checker_trace::Length;
 use checker_trace::MOST_NUMBERS;
 
@@ -42,7 +42,7 @@ pub fn check_with_counterexample(
     if trace.len() < MOST_NUMBERS {
         return Explanation::Refused(40);
     }
-    let o = crate::check(edges, local, nodes);
+    let o = checker::check(edges, local, nodes);
     match o {
         Outcome::Accepted => Explanation::Accepted,
         Outcome::Named(p) => named(edges, local, nodes, p, trace),

@@ -12,9 +12,9 @@ use Rattle.checker_trace.specs.Answer.{mostNumbers}
 use Rattle.checker_trace.specs.Answer as trace
 use Rattle.checker_trace.specs.declared.Length.the-variants as lengths
 use Rattle.usage.specs.Answers.{Verdict, allowed, violated, refused}
-use Rattle.checker.specs.declared.counterexample.Explanation.{Explanation}
-use Rattle.checker.specs.declared.counterexample.Explanation.the-variants.{Accepted, Shown, Longer, Refused}
+use Rattle.checker_counterexample.specs.declared.Explanation.{Explanation}
+use Rattle.checker_counterexample.specs.declared.Explanation.the-variants.{Accepted, Shown, Longer, Refused}
 use Rattle.checker.specs.Promise.{CheckPromise}
 
 -- document 01's numbers for each answer, and how many steps were written
 abbrev pub explanationVerdict : Explanation → Verdict

@@ -1,15 +1,15 @@
 use mathlib.Core.Path.{subst}
 use Rattle.checker.specs.declared.Outcome.{Outcome}
 use Rattle.checker.specs.Promise.{outcomeVerdict, CheckPromise}
-use Rattle.checker.specs.Explained.{Explained}
-use Rattle.checker.proofs.ExplainedLaws.{named-explained}
+use Rattle.checker_counterexample.specs.Explained.{Explained}
+use Rattle.checker_counterexample.proofs.ExplainedLaws.{named-explained}
 use borrow.Author.Needs.{needs}
-use Rattle.checker.proofs.counterexample.check_with_counterexample.Statement.{statement}
-use Rattle.checker.proofs.counterexample.check_with_counterexample.Tie as tie
-use Rattle.checker.proofs.counterexample.check_with_counterexample.Reads as reads
-use Rattle.checker.proofs.counterexample.check_with_counterexample.Lts as lts
+use Rattle.checker_counterexample.proofs.check_with_counterexample.Statement.{statement}
+use Rattle.checker_counterexample.proofs.check_with_counterexample.Tie as tie
+use Rattle.checker_counterexample.proofs.check_with_counterexample.Reads as reads
+use Rattle.checker_counterexample.proofs.check_with_counterexample.Lts as lts
 use Rattle.checker.proofs.check.Reads as check-reads
-use Rattle.checker.proofs.counterexample.named.Reads as named-reads
+use Rattle.checker_counterexample.proofs.named.Reads as named-reads
 
 returns : tie.Need-returns
 returns c = Explained.too-small (c .if1 .taken)

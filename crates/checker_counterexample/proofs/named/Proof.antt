@@ -1,12 +1,12 @@
 use mathlib.Core.Path.{subst}
 use Rattle.checker_trace.specs.declared.Length.{Length}
 use Rattle.checker_trace.specs.Answer.{Told}
-use Rattle.checker.specs.Explained.{NamedBy}
+use Rattle.checker_counterexample.specs.Explained.{NamedBy}
 use borrow.Author.Needs.{needs}
-use Rattle.checker.proofs.counterexample.named.Statement.{statement}
-use Rattle.checker.proofs.counterexample.named.Tie as tie
-use Rattle.checker.proofs.counterexample.named.Reads as reads
-use Rattle.checker.proofs.counterexample.named.Lts as lts
+use Rattle.checker_counterexample.proofs.named.Statement.{statement}
+use Rattle.checker_counterexample.proofs.named.Tie as tie
+use Rattle.checker_counterexample.proofs.named.Reads as reads
+use Rattle.checker_counterexample.proofs.named.Lts as lts
 use Rattle.checker_trace.proofs.counterexample.Reads as counterexample-reads
 
 counterexample-requires : tie.Need-counterexample-requires

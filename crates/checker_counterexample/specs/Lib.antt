@@ -1,0 +1,2 @@
+-- Explained: what the check with a counterexample promises.
+pub mod Explained
