@@ -143,7 +143,7 @@ module _ (local : Bool) (es : List Edge) (ns : List Node) (p x : ℕ) (rows : Ro
     unfolding arrivals
     rules-closed k o m q l Leads.begins = (l, closed .begun)
     rules-closed k o m q l (Leads.to-first {k = j} {a = a} {b = b} i s (l₀, e)) = (l, closed .step j o m (sequence a b) i s .0 q l e)
-    rules-closed k o d q l (Leads.to-second {k = j} {a = a} {b = b} {q = q₀} {h = c} {c = m} i s (l₀, e) (ef, (keep, eg)) v (l₁, (l₂, y))) = (
+    rules-closed k o d q l (Leads.to-second {a = a} {b = b} {q = q₀} {h = c} {c = m} i s (l₀, e) (ef, (keep, eg)) v (l₁, (l₂, y))) = (
       l,
       subst (λ (g : ℕ). HasCome u b o g q) (sym eg)
           (second-in o m q₀ c q i s l₀ l e (subst (λ (f : ℕ). HasEnd (t o) a f q₀ c q) ef y)),

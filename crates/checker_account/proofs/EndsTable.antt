@@ -18,7 +18,8 @@ use Rattle.automaton.specs.Mask.{has}
 use Rattle.automaton.proofs.MaskLaws.{has-pow}
 use Rattle.checker_account.specs.Account.{watched, others}
 use Rattle.checker_account.specs.Single.{meant, watching}
-use Rattle.checker_account.specs.Tables.{nameOf, made, forgotten, meaningAfter, at, half, base, kept, begun, Rows, Resets, never, opening-of}
+use Rattle.checker_account.specs.Tables.{nameOf, made, forgotten, meaningAfter, at, half, base, kept}
+use Rattle.checker_account.specs.Tables.{begun, Rows, Resets, never, opening-of}
 use Rattle.checker_account.specs.Tables.{isReset, insideEnds, secondEnds, freshEnds, endsBy}
 use Rattle.checker_account.specs.Holds.{Start, Dynamic, RowsOk, NamesOk, oneLens, EndsAt, HasEnd, SoundEnds, ClosedEnds, HoldsEnds}
 use Rattle.checker_account.specs.Holds.{ResetsOk, where-open, where-not}

@@ -1,5 +1,5 @@
--- The table of what is come to through any lens, and the hits that it shows: what the rules add to a sound table is come to, a table to which
--- they add nothing has all, and it strikes exactly where the account hits.
+-- The table of what is come to through any lens, and the hits that it shows: what the rules add to a sound table is come to, a table to
+-- which they add nothing has all, and it strikes exactly where the account hits.
 use Prim.Native.Nat.{ℕ, _<_}
 use mathlib.Core.Path.{_≡_, refl, sym, ap, _∙_, subst}
 use mathlib.Core.Bool.{Bool, true, false, _||_}
@@ -55,7 +55,8 @@ module _ (local : Bool) (es : List Edge) (ns : List Node) (p : ℕ) (S : Sight) 
 
     -- ── What the rules add ──
 
-    pub leads-sound : ((o : Bool) → Sound local es ns p S L o (H o)) → SoundCome U → (k : ℕ) (o : Bool) (c : C .Code) (q : ℕ) → Rules k o c q
+    pub leads-sound : ((o : Bool) → Sound local es ns p S L o (H o)) → SoundCome U → (k : ℕ) (o : Bool) (c : C .Code) (q : ℕ)
+        → Rules k o c q
         → ComesBy k o c q
     leads-sound ends sound k o c q Leads.begins = (0, comes-as (sym (ok .first-named)) (sym (ok .first-kept)) Comes.begins)
     leads-sound ends sound k o c q (Leads.to-first {k = j} i u x) = (_, Comes.first i (sound j o c q u x .1))

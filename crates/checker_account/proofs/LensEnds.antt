@@ -66,7 +66,8 @@ module _ (local : Bool) (es : List Edge) (ns : List Node) (p : ℕ) (S : Sight) 
   Sound o H = (k : ℕ) (e : L .Entry) (q : ℕ) (h : Bool) (q′ : ℕ) → L .Used e → H k e q h q′ → EndsBy o k e q h q′
 
   abbrev pub Whole : Bool → EndTable (L .Entry) → Type 0
-  Whole o H = (k : ℕ) (e : L .Entry) (q : ℕ) (h : Bool) (q′ : ℕ) → L .Used e → q < states → EndsBy o k e q h q′ → (q′ < states) × H k e q h q′
+  Whole o H = (k : ℕ) (e : L .Entry) (q : ℕ) (h : Bool) (q′ : ℕ) → L .Used e → q < states → EndsBy o k e q h q′ →
+      (q′ < states) × H k e q h q′
 
   ends-as : {n k : ℕ} {o : Bool} {w w′ : S .Meaning} {c c′ d d′ : S .Left} {q q′ : ℕ} → w ≡ w′ → c ≡ c′ → d ≡ d′
       → Ends local es ns p S n o k w c q d q′ → Ends local es ns p S n o k w′ c′ q d′ q′
@@ -123,7 +124,8 @@ module _ (local : Bool) (es : List Edge) (ns : List Node) (p : ℕ) (S : Sight) 
     -- ── A table to which they add nothing ──
 
     module _ (edges : EdgesOk es) (opened : (s : ℕ) → isReset local p s o ≡ true → Whole true O)
-        (closed : (k : ℕ) (e : L .Entry) (q : ℕ) (h : Bool) (q′ : ℕ) → L .Used e → q < states → q′ < states → Rules k e q h q′ → H k e q h q′) where
+        (closed : (k : ℕ) (e : L .Entry) (q : ℕ) (h : Bool)
+        (q′ : ℕ) → L .Used e → q < states → q′ < states → Rules k e q h q′ → H k e q h q′) where
       abbrev Full : EndTable (L .Entry)
       Full k e q h q′ = (q′ < states) × H k e q h q′
 

@@ -36,7 +36,8 @@ module _ (us : List ℕ) where
       go false z f = sym f
 
   still-full : (e : PairEntry) (h : Bool) → PairUsed e
-      → _≡_ {A = Bool × Bool} (made (e .first), made (e .second)) (h, made (e .second) || e .late) → (made (e .first) ≡ h) × (e .late ≡ false)
+      → _≡_ {A = Bool × Bool} (made (e .first), made (e .second)) (h, made (e .second) || e .late) → (made (e .first) ≡ h) ×
+      (e .late ≡ false)
   still-full e h u f = (ap (λ (c : Bool × Bool). c .0) f, go (e .second) (e .late) (u .late-unmade) (ap (λ (c : Bool × Bool). c .1) f))
     where
       go : (m : ℕ) (z : Bool) → (z ≡ true → m ≡ 0) → made m ≡ (made m || z) → z ≡ false
@@ -44,7 +45,8 @@ module _ (us : List ℕ) where
       go (suc m) true l f = absurd (let g = l refl in omega arith)
       go (suc m) false l f = refl
 
-  split-right : (e f : PairEntry) (h : Bool) (g : PairEntry) → PairUsed e → PairSplits e f h g → SplitRight (numbers us) (pairLens us) e f h g
+  split-right : (e f : PairEntry) (h : Bool) (g : PairEntry) → PairUsed e → PairSplits e f h g
+      → SplitRight (numbers us) (pairLens us) e f h g
   split-right e f h g u (PairSplits.kept {a = a} {b = b} {z = z} keep) = record {
     first-used = record { first-in = u .first-in; second-in = u .second-in; late-unmade = λ d. absurd (true≢false (sym d)) };
     first-meaning = refl;

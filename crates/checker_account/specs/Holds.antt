@@ -17,7 +17,8 @@ use Rattle.checker_account.specs.Account.{watched, others, Ends, Comes, 
 use Rattle.checker_account.specs.Single.{noName, watching}
 use Rattle.checker_account.specs.Lens.{Lens, Codes}
 use Rattle.checker_account.specs.declared.Arrival.{Arrival}
-use Rattle.checker_account.specs.Tables.{meanings, least, nameOf, made, forgotten, meaningAfter, at, half, base, Rows, endsBy, place, arrivals}
+use Rattle.checker_account.specs.Tables.{meanings, least, nameOf, made, forgotten, meaningAfter, at, half}
+use Rattle.checker_account.specs.Tables.{base, Rows, endsBy, place, arrivals}
 use Rattle.checker_account.specs.Tables.{leaves, lastOf, Resets, never, opening-of}
 
 -- the meanings that occur where x is watched

@@ -96,10 +96,13 @@ pub data Adds (es : List Edge) (ns : List Node) (p : ℕ) (S : Sight) (L : Lens 
   by-other : {k q a b q′ : ℕ} {e : L .Entry} {h : Bool} → Is ns k (choice a b) → H b e q h q′ → Adds es ns p S L reset O H k e q h q′
   by-body : {k q a q′ : ℕ} {e : L .Entry} {h : Bool} → Is ns k (loop a) → H a e q h q′ → Adds es ns p S L reset O H k e q h q′
   by-loop : {k q a q′ : ℕ} {e : L .Entry} {h : Bool} → Is ns k (back a) → H a e q h q′ → Adds es ns p S L reset O H k e q h q′
-  by-new : {k q n b d q₁ q′ : ℕ} {e g : L .Entry} {h : Bool} → Is ns k (fresh n b) → L .Gives e n d g → Moves es p create (Sees (S .watches) d) q q₁
+  by-new : {k q n b d q₁ q′ : ℕ} {e g : L .Entry} {h : Bool} → Is ns k (fresh n b) → L .Gives e n d g
+      → Moves es p create (Sees (S .watches) d) q q₁
       → H b g q₁ h q′ → Adds es ns p S L reset O H k e q h q′
-  by-inner : {k q s b q′ : ℕ} {e : L .Entry} {h : Bool} → Is ns k (sandbox s b) → reset s ≡ false → H b e q h q′ → Adds es ns p S L reset O H k e q h q′
-  by-reset : {k q s b q′ : ℕ} {e : L .Entry} {h : Bool} → Is ns k (sandbox s b) → reset s ≡ true → O b e 0 h q′ → Adds es ns p S L reset O H k e q h q′
+  by-inner : {k q s b q′ : ℕ} {e : L .Entry} {h : Bool} → Is ns k (sandbox s b) → reset s ≡ false → H b e q h q′
+      → Adds es ns p S L reset O H k e q h q′
+  by-reset : {k q s b q′ : ℕ} {e : L .Entry} {h : Bool} → Is ns k (sandbox s b) → reset s ≡ true → O b e 0 h q′
+      → Adds es ns p S L reset O H k e q h q′
 
 -- ── Starts, as the table of what is come to has them ──
 
@@ -161,7 +164,8 @@ ComeTable C = ℕ → Bool → C → ℕ → Type 0
 pub data Leads (local : Bool) (es : List Edge) (ns : List Node) (p : ℕ) (S : Sight) (L : Lens S) (C : Codes S L)
     (H : Bool → EndTable (L .Entry)) (U : ComeTable (C .Code)) : ℕ → Bool → C .Code → ℕ → Type 0 where
   begins : Leads local es ns p S L C H U 0 false (C .first) 0
-  to-first : {k a b q : ℕ} {o : Bool} {c : C .Code} → Is ns k (sequence a b) → C .Occurs c → U k o c q → Leads local es ns p S L C H U a o c q
+  to-first : {k a b q : ℕ} {o : Bool} {c : C .Code} → Is ns k (sequence a b) → C .Occurs c → U k o c q
+      → Leads local es ns p S L C H U a o c q
   to-second : {k a b q q₁ : ℕ} {o h : Bool} {c d : C .Code} {f : L .Entry} → Is ns k (sequence a b) → C .Occurs c → U k o c q
       → C .Then c f h d → L .Used f → H o a f q h q₁ → Leads local es ns p S L C H U b o d q₁
   to-one : {k a b q : ℕ} {o : Bool} {c : C .Code} → Is ns k (choice a b) → C .Occurs c → U k o c q → Leads local es ns p S L C H U a o c q

@@ -24,7 +24,8 @@ module _ (nodes rows : List ℕ) (p x : ℕ) (room : hasRoom nodes ≡ true) (op
   })
 
   -- where the whole past counts, by the one table
-  pub whole-answer : (local answer : Bool) (u : List ℕ) → local ≡ false → ArrivesBy nodes local rows (byOpen opened opened) p x (least x) u answer
+  pub whole-answer : (local answer : Bool) (u : List ℕ) → local ≡ false
+      → ArrivesBy nodes local rows (byOpen opened opened) p x (least x) u answer
       → ArrivesIf (hasRoom nodes) nodes local rows p x u answer
   whole-answer local answer u d f = answered local opened u answer
       (subst (λ (b : Bool). ShutFilled b (rowsIn rows) p x (length nodes / nodeFields) (formsIn nodes) opened opened) (sym d) refl) f

@@ -14,7 +14,8 @@ use Rattle.checker_account.specs.Account.{watched}
 use Rattle.checker_account.specs.Single.{noName}
 use Rattle.checker_account.specs.declared.Arrival.{Arrival}
 use Rattle.checker_account.specs.Tables.{unnamed, meanings, places, least, rowsIn, place, Resets, never, opening-of}
-use Rattle.checker_account.specs.Filling.{grown, Wide, entered, formsIn, EndsRule, EndsFilled, ComesRule, passRound, begins, Filled, hitAny, Searched}
+use Rattle.checker_account.specs.Filling.{grown, Wide, entered, formsIn, EndsRule, EndsFilled, ComesRule, passRound}
+use Rattle.checker_account.specs.Filling.{begins, Filled, hitAny, Searched}
 use Rattle.checker_account.specs.RowTable.{EventTables, fillRows}
 
 -- meaning m once meaning n no longer occurs

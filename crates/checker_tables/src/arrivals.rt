@@ -131,7 +131,8 @@ fn pass_sequence(u: &mut Table, t: &Table, a: usize, b: usize, from: Arrival) ->
     requires { ⌜ b < mostNodes ⌝ }
     requires { ⌜ from .meaning < meanings ⌝ }
     ensures { λ r. ⌜ Enters
-        ((a by from .opened by from .meaning with from .states) ∷ halves b (from .opened) (from .meaning) (begun (now (t .entry)) a (from .meaning) (from .states)))
+        ((a by from .opened by from .meaning with from .states) ∷ halves b (from .opened) (from .meaning) (begun (now (t .entry)) a
+        (from .meaning) (from .states)))
         (now (u .entry)) (now (u .exit)) r ⌝ }
 {
     let after = Arrival {
@@ -200,7 +201,8 @@ fn pass_by(u: &mut Table, t: &Table, rows: &Table, w: Watch, f: NodeForm, from: 
     requires { ⌜ from .to < mostNodes ⌝ }
     requires { ⌜ from .meaning < meanings ⌝ }
     ensures { λ r. ⌜ Enters
-        (arrivalsOf (w .local) (rowsIn (now (rows .entry))) (w .policy) (now (t .entry)) (from .to) (from .opened) (from .meaning) (from .states) (saidBy f))
+        (arrivalsOf (w .local) (rowsIn (now (rows .entry))) (w .policy) (now (t .entry)) (from .to) (from .opened) (from .meaning)
+        (from .states) (saidBy f))
         (now (u .entry)) (now (u .exit)) r ⌝ }
 {
     match f {
@@ -243,7 +245,8 @@ fn pass<'a>(
     requires { ⌜ from .to < mostNodes ⌝ }
     requires { ⌜ from .meaning < meanings ⌝ }
     ensures { λ r. ⌜ Enters
-        (arrivalsOf (w .local) (rowsIn (now (rows .entry))) (w .policy) (byOpen (now (opened .entry)) (now (shut .entry)) (from .opened)) (from .to) (from .opened) (from .meaning) (from .states) (saidBy f))
+        (arrivalsOf (w .local) (rowsIn (now (rows .entry))) (w .policy) (byOpen (now (opened .entry)) (now (shut .entry))
+        (from .opened)) (from .to) (from .opened) (from .meaning) (from .states) (saidBy f))
         (now (u .entry)) (now (u .exit)) r ⌝ }
 {
     if from.states == 0 {

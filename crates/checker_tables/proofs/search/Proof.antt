@@ -34,8 +34,11 @@ found-requires : tie.Need-found-requires
 found-requires c κs =
     let a = c .before .before .before .before .before .before .before .before .before .before .args in
     let f = c .before .before .before .before .before .before .before .before .fits2 in
-    let left = c .before .before .before .before .before .before .before .if1 .left in
-    (fits-rule (now (a .nodes)) (sym (f .ensures) ∙ not-false (f .result) left), c .before .before .before .before .before .before .before .before .before .before .pre)
+    let left = c .before .before .before .before .before .before .before .if1 .left in (
+      fits-rule (now (a .nodes)) (sym (f .ensures) ∙ not-false
+          (f .result) left),
+      c .before .before .before .before .before .before .before .before .before .before .pre,
+    )
 
 returns-2 : tie.Need-returns-2
 returns-2 c =

@@ -124,7 +124,8 @@ loop-holds c =
     let p = c .before .before .before .before .before .before .pre in
     let l = c .before .before .before .least .result in (
       lit< tt,
-      subst (Left (a .w) (a .rows .now) (a .nodes .now) (a .u .now) l _) (sym (c .all .ensures ∙ ap (λ (n : ℕ). 2 ^ n - 1) (fewer (length (a .nodes .now) / nodeFields) (p .few))))
+      subst (Left (a .w) (a .rows .now) (a .nodes .now) (a .u .now) l _) (sym (c .all .ensures ∙ ap (λ (n : ℕ). 2 ^ n - 1) (fewer
+          (length (a .nodes .now) / nodeFields) (p .few))))
           (working-start (a .w) (a .rows .now) (a .nodes .now) (a .u .now) l (p .few)),
     )
 

@@ -42,7 +42,8 @@ settle-if-requires c κs =
     let p = c .before .before .before .before .pre in
     let l = c .before .before .before .loop in (
       l .inv .1 .same-size ∙ p .0,
-      in-table (toward (entryOf (a .g .to) (a .g .opened) (a .g .meaning) (l .q) 0) 0) (p .1 .0) (p .1 .1) (c .before .before .loop-test .taken)
+      in-table (toward (entryOf (a .g .to) (a .g .opened) (a .g .meaning) (l .q) 0) 0) (p .1 .0) (p .1 .1)
+          (c .before .before .loop-test .taken)
           (omega arith),
     )
 
@@ -59,14 +60,16 @@ loop-again c =
     let k = c .before .before .before .before .loop-test .taken in
     let f = saidBy (a .f) in
     let here : Pass (a .w) (a .rows .now) (a .g .to) f
-    (λ u. has (a .g .states) (l .q) ≡ true → StartSettled (a .w) (a .rows .now) f u (entryOf (a .g .to) (a .g .opened) (a .g .meaning) (l .q) 0)) (l .t)
+    (λ u. has (a .g .states) (l .q) ≡ true → StartSettled (a .w) (a .rows .now) f u (entryOf (a .g .to) (a .g .opened) (a .g .meaning)
+    (l .q) 0)) (l .t)
     (c .before .settle-if .last .0) (c .before .settle-if .result) =
     pass-map (λ _ h e. h (c .before .before .has .ensures ∙ e)) (c .before .settle-if .ensures) in (
       omega arith,
       pass-then
           (λ u x y. below-more (λ (j : ℕ). has (a .g .states) j ≡ true
           → StartSettled (a .w) (a .rows .now) f u (entryOf (a .g .to) (a .g .opened) (a .g .meaning) j 0)) (l .q) x y)
-          (λ z g h j b e. start-lasts (a .w) (a .rows .now) (a .g .to) f z g (entryOf (a .g .to) (a .g .opened) (a .g .meaning) j 0) (h j b e))
+          (λ z g h j b e. start-lasts (a .w) (a .rows .now) (a .g .to) f z g (entryOf (a .g .to) (a .g .opened) (a .g .meaning) j 0)
+          (h j b e))
           (l .inv .1) here (by-cases (c .if1 .came) (λ u. inl (u .0 .taken, u .1)) (λ u. inr (u .0 .left, u .1))),
     )
 

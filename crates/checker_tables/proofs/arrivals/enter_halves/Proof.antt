@@ -28,7 +28,8 @@ enter-requires-2 c κs =
     let p = c .before .before .before .before .before .before .pre in
     let g = a .g in
     let s = c .before .enter in (
-      enters-length ((g .to by g .opened by g .meaning with g .states % 256) ∷ []) (now (a .u)) (s .last .0) (s .result) (p .0) (s .ensures),
+      enters-length ((g .to by g .opened by g .meaning with g .states % 256) ∷ []) (now (a .u)) (s .last .0) (s .result) (p .0)
+          (s .ensures),
       (
         p .1 .0,
         omega (arith, c .before .before .before .before .lose .ensures, lost-created (g .meaning), after-lt (g .meaning) true (p .1 .1)),

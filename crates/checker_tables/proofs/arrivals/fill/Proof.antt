@@ -50,7 +50,8 @@ loop-holds c =
     let t = byOpen (a .opened .now) (a .shut .now) in
     let r = ComesBy (a .nodes .now) (a .w .local) (a .rows .now) t (a .w .policy) (least (a .w .resource)) in
     let m : c .join .last .0 ≡ begins (least (a .w .resource)) =
-    c .join .ensures .0 ∙ ap₂ (λ (u : List ℕ) (l : ℕ). joinedAt u l 1) (c .before .before .before .before .pre .1) (c .before .before .least .ensures) in
+    c .join .ensures .0 ∙ ap₂ (λ (u : List ℕ) (l : ℕ). joinedAt u l 1) (c .before .before .before .before .pre .1)
+    (c .before .before .least .ensures) in
     subst (Filling r (begins (least (a .w .resource)))) (sym m) (record { derived = start; wide = begins-wide (least (a .w .resource)) })
 
 pass-round-requires : tie.Need-pass-round-requires Inv-loop μ-loop
@@ -71,10 +72,12 @@ returns c =
     let s = c .before .pass-round in
     let same : s .last .0 ≡ l .u =
     grown-false (subst (Grows (l .u)) (sym (s .ensures .0)) (g (l .u))) (sym (s .ensures .1 .0) ∙ not-true (s .result) (c .if1 .taken)) in
-    subst (Filled (ComesBy (a .nodes .now) (a .w .local) (a .rows .now) t (a .w .policy) (least (a .w .resource))) (begins (least (a .w .resource)))) (sym same) (record {
+    subst (Filled (ComesBy (a .nodes .now) (a .w .local) (a .rows .now) t (a .w .policy) (least (a .w .resource))) (begins (least
+    (a .w .resource)))) (sym same) (record {
       derived = l .inv .derived;
       closed =
-          pass-round-closed (a .w .local) (rowsIn (a .rows .now)) (a .w .policy) t (least (a .w .resource)) (length (a .nodes .now) / nodeFields)
+          pass-round-closed (a .w .local) (rowsIn (a .rows .now)) (a .w .policy) t (least (a .w .resource)) (length
+          (a .nodes .now) / nodeFields)
           (formsIn (a .nodes .now)) (l .u)
           (sym (s .ensures .0) ∙ same);
     })
@@ -99,8 +102,10 @@ loop-again c =
     let s = c .before .pass-round in
     record {
       derived =
-          subst (Derived (ComesBy (a .nodes .now) (a .w .local) (a .rows .now) t (a .w .policy) (least (a .w .resource))) (begins (least (a .w .resource)))) (sym (s .ensures .0))
-          (pass-round-derived (a .w .local) (rowsIn (a .rows .now)) (a .w .policy) t (least (a .w .resource)) (length (a .nodes .now) / nodeFields)
+          subst (Derived (ComesBy (a .nodes .now) (a .w .local) (a .rows .now) t (a .w .policy) (least (a .w .resource))) (begins (least
+          (a .w .resource)))) (sym (s .ensures .0))
+          (pass-round-derived (a .w .local) (rowsIn (a .rows .now)) (a .w .policy) t (least (a .w .resource)) (length
+          (a .nodes .now) / nodeFields)
           (formsIn (a .nodes .now)) (begins (least (a .w .resource)))
           (l .u) (l .inv .derived));
       wide = s .ensures .1 .1 (l .inv .wide);

@@ -188,7 +188,8 @@ returns-9 c =
     let b = c .before .before .before .before .f8 .given .0 .1 .0 in
     rw (c .before .before .before .before .f8 .given .1)
     (by-as (λ q. insideEnds (resetsIf (a .w .local) (a .w .policy) (now (a .opened))) (now (a .t)) s b (a .m) q)
-    (λ q. cond (a .w .local && eqb s (a .w .policy)) (getD (now (a .opened)) (base b (a .m) + 0) 0) (getD (now (a .t)) (base b (a .m) + q) 0))
+    (λ q. cond (a .w .local && eqb s (a .w .policy)) (getD (now (a .opened)) (base b (a .m) + 0) 0) (getD (now (a .t)) (base b
+    (a .m) + q) 0))
     (c .inside-ends .result) (c .inside-ends .ensures)
     (λ q l. inside-if (a .w .local) (a .w .policy) (now (a .opened)) (now (a .t)) s b (a .m) q))
 

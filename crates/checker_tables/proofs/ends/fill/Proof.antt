@@ -127,9 +127,11 @@ loop-holds c =
     let p = c .before .before .before .before .pre in
     subst (Done (a .nodes .now) (a .rows .now) (a .w .resource) resets (least (a .w .resource)) (a .t .now))
     (sym (c .all .ensures ∙ ap (λ (n : ℕ). 2 ^ n - 1) (fewer (length (a .nodes .now) / nodeFields) (p .0 .few))))
-    (subst (λ (u : List ℕ). Done (a .nodes .now) (a .rows .now) (a .w .resource) resets (least (a .w .resource)) u (2 ^ (length (a .nodes .now) / nodeFields) - 1))
+    (subst (λ (u : List ℕ). Done (a .nodes .now) (a .rows .now) (a .w .resource) resets (least (a .w .resource)) u (2 ^ (length
+    (a .nodes .now) / nodeFields) - 1))
     (sym (p .1 .1))
-    (working-start (rowsIn (a .rows .now)) (a .w .resource) resets (least (a .w .resource)) (length (a .nodes .now) / nodeFields) (formsIn (a .nodes .now))
+    (working-start (rowsIn (a .rows .now)) (a .w .resource) resets (least (a .w .resource)) (length (a .nodes .now) / nodeFields)
+    (formsIn (a .nodes .now))
     (p .0 .few)))
 
 highest-requires : tie.Need-highest-requires Inv-loop μ-loop
@@ -143,7 +145,8 @@ cast-left c =
     let l = c .before .before .loop in
     let pos = positive (l .left) (c .before .loop-test .taken) in
     let h = c .highest in
-    let k = small (a .nodes .now) (a .rows .now) (a .w .resource) resets (least (a .w .resource)) (p .0) (l .t) (l .left) (h .result) (l .inv) (h .ensures .0 pos)
+    let k = small (a .nodes .now) (a .rows .now) (a .w .resource) resets (least (a .w .resource)) (p .0) (l .t) (l .left) (h .result)
+    (l .inv) (h .ensures .0 pos)
     (h .ensures .1 .0) in
     omega arith
 
@@ -155,7 +158,8 @@ cast-left-2 c =
     let l = c .before .before .loop in
     let pos = positive (l .left) (c .before .loop-test .taken) in
     let h = c .highest in
-    let k = small (a .nodes .now) (a .rows .now) (a .w .resource) resets (least (a .w .resource)) (p .0) (l .t) (l .left) (h .result) (l .inv) (h .ensures .0 pos)
+    let k = small (a .nodes .now) (a .rows .now) (a .w .resource) resets (least (a .w .resource)) (p .0) (l .t) (l .left) (h .result)
+    (l .inv) (h .ensures .0 pos)
     (h .ensures .1 .0) in
     omega arith
 
@@ -167,7 +171,8 @@ shl-left c =
     let l = c .before .before .loop in
     let pos = positive (l .left) (c .before .loop-test .taken) in
     let h = c .highest in
-    let k = small (a .nodes .now) (a .rows .now) (a .w .resource) resets (least (a .w .resource)) (p .0) (l .t) (l .left) (h .result) (l .inv) (h .ensures .0 pos)
+    let k = small (a .nodes .now) (a .rows .now) (a .w .resource) resets (least (a .w .resource)) (p .0) (l .t) (l .left) (h .result)
+    (l .inv) (h .ensures .0 pos)
     (h .ensures .1 .0) in
     omega arith
 
@@ -179,7 +184,8 @@ sub-left c =
     let l = c .before .before .loop in
     let pos = positive (l .left) (c .before .loop-test .taken) in
     let h = c .highest in
-    bit-low (a .nodes .now) (a .rows .now) (a .w .resource) resets (least (a .w .resource)) (p .0) (l .t) (l .left) (h .result) (l .inv) (h .ensures .0 pos)
+    bit-low (a .nodes .now) (a .rows .now) (a .w .resource) resets (least (a .w .resource)) (p .0) (l .t) (l .left) (h .result) (l .inv)
+    (h .ensures .0 pos)
     (h .ensures .1 .0)
 
 form-requires : tie.Need-form-requires Inv-loop μ-loop
@@ -190,7 +196,8 @@ form-requires c κs =
     let l = c .before .before .loop in
     let pos = positive (l .left) (c .before .loop-test .taken) in
     let h = c .highest in
-    inside (a .nodes .now) (a .rows .now) (a .w .resource) resets (least (a .w .resource)) (p .0) (l .t) (l .left) (h .result) (l .inv) (h .ensures .0 pos)
+    inside (a .nodes .now) (a .rows .now) (a .w .resource) resets (least (a .w .resource)) (p .0) (l .t) (l .left) (h .result) (l .inv)
+    (h .ensures .0 pos)
     (h .ensures .1 .0)
 
 settle-node-requires : tie.Need-settle-node-requires Inv-loop μ-loop
@@ -201,10 +208,12 @@ settle-node-requires c κs =
     let l = c .before .before .before .before .loop in
     let pos = positive (l .left) (c .before .before .before .loop-test .taken) in
     let h = c .before .before .highest in
-    let k = inside (a .nodes .now) (a .rows .now) (a .w .resource) resets (least (a .w .resource)) (p .0) (l .t) (l .left) (h .result) (l .inv) (h .ensures .0 pos)
+    let k = inside (a .nodes .now) (a .rows .now) (a .w .resource) resets (least (a .w .resource)) (p .0) (l .t) (l .left) (h .result)
+    (l .inv) (h .ensures .0 pos)
     (h .ensures .1 .0) in
     let few : length (a .nodes .now) / nodeFields ≤ mostNodes = p .0 .few in (
-      working-length (rowsIn (a .rows .now)) (a .w .resource) resets (least (a .w .resource)) (length (a .nodes .now) / nodeFields) (formsIn (a .nodes .now))
+      working-length (rowsIn (a .rows .now)) (a .w .resource) resets (least (a .w .resource)) (length (a .nodes .now) / nodeFields)
+          (formsIn (a .nodes .now))
           (p .0 .few)
           (l .inv),
       (subst Small (sym (c .before .form .ensures)) (p .0 .each-small (h .result) k), omega arith),
@@ -218,7 +227,8 @@ mul-left c =
     let l = c .before .before .before .before .before .before .loop in
     let pos = positive (l .left) (c .before .before .before .before .before .loop-test .taken) in
     let h = c .before .before .before .before .highest in
-    let k = small (a .nodes .now) (a .rows .now) (a .w .resource) resets (least (a .w .resource)) (p .0) (l .t) (l .left) (h .result) (l .inv) (h .ensures .0 pos)
+    let k = small (a .nodes .now) (a .rows .now) (a .w .resource) resets (least (a .w .resource)) (p .0) (l .t) (l .left) (h .result)
+    (l .inv) (h .ensures .0 pos)
     (h .ensures .1 .0) in
     omega arith
 
@@ -230,7 +240,8 @@ array-read-left c =
     let l = c .before .before .before .before .before .before .loop in
     let pos = positive (l .left) (c .before .before .before .before .before .loop-test .taken) in
     let h = c .before .before .before .before .highest in
-    small (a .nodes .now) (a .rows .now) (a .w .resource) resets (least (a .w .resource)) (p .0) (l .t) (l .left) (h .result) (l .inv) (h .ensures .0 pos)
+    small (a .nodes .now) (a .rows .now) (a .w .resource) resets (least (a .w .resource)) (p .0) (l .t) (l .left) (h .result) (l .inv)
+    (h .ensures .0 pos)
     (h .ensures .1 .0)
 
 loop-less : tie.Need-loop-less Inv-loop μ-loop
@@ -244,7 +255,8 @@ loop-less c =
     let h = c .before .before .before .before .highest in
     let s = c .before .settle-node in
     let d = c .before .before .before .form in
-    more-falls (a .nodes .now) (a .rows .now) (a .w .resource) resets (least (a .w .resource)) (p .0) (l .t) (l .left) (h .result) (l .inv) (h .ensures .0 pos)
+    more-falls (a .nodes .now) (a .rows .now) (a .w .resource) resets (least (a .w .resource)) (p .0) (l .t) (l .left) (h .result)
+    (l .inv) (h .ensures .0 pos)
     (h .ensures .1 .0) (s .last .0) (d .result) (d .ensures) (s .ensures .0) (s .result) (s .ensures .1)
     (lent-wide (a .w .local) (a .w .policy) (a .opened .now) (p .1 .0)) (low (a .w .resource)) (r .last .1 .0) (r .ensures)
     (c .if1 .taken)
@@ -260,7 +272,8 @@ loop-again c =
     let h = c .before .before .before .before .highest in
     let s = c .before .settle-node in
     let d = c .before .before .before .form in
-    more (a .nodes .now) (a .rows .now) (a .w .resource) resets (least (a .w .resource)) (p .0) (l .t) (l .left) (h .result) (l .inv) (h .ensures .0 pos)
+    more (a .nodes .now) (a .rows .now) (a .w .resource) resets (least (a .w .resource)) (p .0) (l .t) (l .left) (h .result) (l .inv)
+    (h .ensures .0 pos)
     (h .ensures .1 .0) (s .last .0) (d .result) (d .ensures) (s .ensures .0) (s .result) (s .ensures .1)
     (lent-wide (a .w .local) (a .w .policy) (a .opened .now) (p .1 .0)) (low (a .w .resource)) (r .last .1 .0) (r .ensures)
     (c .if1 .taken)
@@ -275,7 +288,8 @@ loop-less-2 c =
     let h = c .before .before .before .before .highest in
     let s = c .before .settle-node in
     let d = c .before .before .before .form in
-    still-falls (a .nodes .now) (a .rows .now) (a .w .resource) resets (least (a .w .resource)) (p .0) (l .t) (l .left) (h .result) (l .inv) (h .ensures .0 pos)
+    still-falls (a .nodes .now) (a .rows .now) (a .w .resource) resets (least (a .w .resource)) (p .0) (l .t) (l .left) (h .result)
+    (l .inv) (h .ensures .0 pos)
     (h .ensures .1 .0) (s .last .0) (d .result) (d .ensures) (s .ensures .0) (s .result) (s .ensures .1) (c .if1 .left)
 
 loop-again-2 : tie.Need-loop-again-2 Inv-loop μ-loop
@@ -288,7 +302,8 @@ loop-again-2 c =
     let h = c .before .before .before .before .highest in
     let s = c .before .settle-node in
     let d = c .before .before .before .form in
-    still (a .nodes .now) (a .rows .now) (a .w .resource) resets (least (a .w .resource)) (p .0) (l .t) (l .left) (h .result) (l .inv) (h .ensures .0 pos)
+    still (a .nodes .now) (a .rows .now) (a .w .resource) resets (least (a .w .resource)) (p .0) (l .t) (l .left) (h .result) (l .inv)
+    (h .ensures .0 pos)
     (h .ensures .1 .0) (s .last .0) (d .result) (d .ensures) (s .ensures .0) (s .result) (s .ensures .1) (c .if1 .left)
 
 returns : tie.Need-returns Inv-loop μ-loop
@@ -296,9 +311,11 @@ returns c =
     let a = c .before .before .before .before .before .before .args in
     let resets = resetsIf (a .w .local) (a .w .policy) (a .opened .now) in
     let l = c .before .loop in (
-      working-ends (rowsIn (a .rows .now)) (a .w .resource) resets (least (a .w .resource)) (length (a .nodes .now) / nodeFields) (formsIn (a .nodes .now))
+      working-ends (rowsIn (a .rows .now)) (a .w .resource) resets (least (a .w .resource)) (length (a .nodes .now) / nodeFields)
+          (formsIn (a .nodes .now))
           (c .before .before .before .before .before .before .pre .0 .few)
-          (subst (Done (a .nodes .now) (a .rows .now) (a .w .resource) resets (least (a .w .resource)) (l .t)) (c .loop-test .left) (l .inv)),
+          (subst (Done (a .nodes .now) (a .rows .now) (a .w .resource) resets (least (a .w .resource)) (l .t)) (c .loop-test .left)
+          (l .inv)),
       l .inv .filling .wide,
     )
 

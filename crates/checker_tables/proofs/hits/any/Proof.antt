@@ -27,7 +27,8 @@ abbrev test : List ℕ → List ℕ → List ℕ → Bool → ℕ → ℕ → �
 test u nodes rows local p x l k = hitNode local (rowsIn rows) p x u l k (formsIn nodes k)
 
 abbrev Inv-loop : tie.InvT-loop
-Inv-loop nodes rows u w n k₀ k = (k ≤ n) × (someBelow (test u nodes rows (w .local) (w .policy) (w .resource) (least (w .resource))) k ≡ false)
+Inv-loop nodes rows u w n k₀ k = (k ≤ n) × (someBelow (test u nodes rows (w .local) (w .policy) (w .resource) (least
+    (w .resource))) k ≡ false)
 
 abbrev μ-loop : tie.MeasureT-loop
 μ-loop nodes rows u w n k₀ k = n - k
@@ -55,7 +56,8 @@ returns c =
     let h = c .before .before .before .loop-test .taken in
     let f = test (now (a .u)) (now (a .nodes)) (now (a .rows)) (a .w .local) (a .w .policy) (a .w .resource) (least (a .w .resource)) in
     let s : c .before .hit-node .result ≡ f k = c .before .hit-node .ensures
-    ∙ ap (λ (d : Option Form). hitNode (a .w .local) (rowsIn (now (a .rows))) (a .w .policy) (a .w .resource) (now (a .u)) (least (a .w .resource)) k d)
+    ∙ ap (λ (d : Option Form). hitNode (a .w .local) (rowsIn (now (a .rows))) (a .w .policy) (a .w .resource) (now (a .u)) (least
+    (a .w .resource)) k d)
     (c .before .before .form .ensures ∙ form-at (now (a .nodes)) k h) in
     sym (some-at (length (now (a .nodes)) / nodeFields) f k h (sym s ∙ c .if1 .taken))
 
@@ -72,7 +74,8 @@ loop-again c =
     let h = c .before .before .before .loop-test .taken in
     let f = test (now (a .u)) (now (a .nodes)) (now (a .rows)) (a .w .local) (a .w .policy) (a .w .resource) (least (a .w .resource)) in
     let s : c .before .hit-node .result ≡ f k = c .before .hit-node .ensures
-    ∙ ap (λ (d : Option Form). hitNode (a .w .local) (rowsIn (now (a .rows))) (a .w .policy) (a .w .resource) (now (a .u)) (least (a .w .resource)) k d)
+    ∙ ap (λ (d : Option Form). hitNode (a .w .local) (rowsIn (now (a .rows))) (a .w .policy) (a .w .resource) (now (a .u)) (least
+    (a .w .resource)) k d)
     (c .before .before .form .ensures ∙ form-at (now (a .nodes)) k h) in
     (search needs, none-more f k (c .before .before .before .before .loop .inv .1) (sym s ∙ c .if1 .left))
 

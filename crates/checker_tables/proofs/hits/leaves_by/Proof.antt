@@ -94,7 +94,8 @@ returns-4 c =
     let a = c .before .before .before .before .before .before .args in
     rw (c .before .before .before .f3 .given .1)
     (c .opened .ensures
-    ∙ opened-if (a .w .local) (eqb (c .before .before .before .f3 .given .0 .0) (a .w .policy)) (getD (now (a .u)) (place (a .k) false (a .m)) 0)
+    ∙ opened-if (a .w .local) (eqb (c .before .before .before .f3 .given .0 .0) (a .w .policy)) (getD (now (a .u)) (place (a .k) false
+    (a .m)) 0)
     (getD (now (a .u)) (place (a .k) true (a .m)) 0))
 
 returns-5 : tie.Need-returns-5

@@ -68,8 +68,10 @@ loop-again c =
     let f = mark (now (a .u)) (now (a .nodes)) (now (a .rows)) (a .w .local) (a .w .policy) (a .w .resource) (least (a .w .resource)) in
     let hit = c .before .hit-node in
     let is = c .before .before .form .ensures ∙ form-at (now (a .nodes)) k (c .before .before .before .loop-test .taken) in
-    let s : hit .result ≡ test (now (a .u)) (now (a .nodes)) (now (a .rows)) (a .w .local) (a .w .policy) (a .w .resource) (least (a .w .resource)) k = hit .ensures
-    ∙ ap (λ (d : Option Form). hitNode (a .w .local) (rowsIn (now (a .rows))) (a .w .policy) (a .w .resource) (now (a .u)) (least (a .w .resource)) k d) is in
+    let s : hit .result ≡ test (now (a .u)) (now (a .nodes)) (now (a .rows)) (a .w .local) (a .w .policy) (a .w .resource) (least
+    (a .w .resource)) k = hit .ensures
+    ∙ ap (λ (d : Option Form). hitNode (a .w .local) (rowsIn (now (a .rows))) (a .w .policy) (a .w .resource) (now (a .u)) (least
+    (a .w .resource)) k d) is in
     let w : c .mark-if .result ≡ f k = c .mark-if .ensures
     ∙ ap (λ (d : Option Form). cond (hit .result) (markBit (lastIn d)) 0) is
     ∙ ap (λ (b : Bool). cond b (markBit (lastIn (formsIn (now (a .nodes)) k))) 0) s in
