@@ -1,6 +1,6 @@
 -- The set that is kept for the instances at some places, moved by an event: it holds what they may be in after it. Over the list of places,
 -- for policies about one resource and about two alike.
-use Prim.Native.Nat.{ℕ, zero, suc, _<_}
+use Prim.Native.Nat.{ℕ, zero, suc, _+_, _/_, _%_, _<_}
 use mathlib.Core.Path.{_≡_, refl, sym, ap, subst, _∙_}
 use mathlib.Core.Bool.{Bool, true, false, not, _&&_, cond}
 use mathlib.Core.List.{List, [], _∷_}
@@ -14,10 +14,11 @@ use Rattle.usage.specs.Policy.{Place, Moves}
 use Rattle.usage.specs.Past.{event, Past}
 use Rattle.usage.proofs.Logic.{none-some, false-true, and-left, and-right, and-both}
 use Rattle.usage.specs.Placed.{At}
+use Rattle.usage.proofs.TableLaws.{from-ext}
 use Rattle.usage.proofs.PlacedLaws.{SeesAt, named, own, other, second, Alone, at-event}
 use Rattle.automaton.specs.Mask.{has}
-use Rattle.automaton.specs.Move.{move, labelled, fires, labelledAt, firesAt, moveMask}
-use Rattle.automaton.proofs.SameLaws.{move-same}
+use Rattle.automaton.specs.Move.{image, move, labelled, fires, labelledAt, firesAt, moveMask, rowPlaces, rowsOf, rowsAt}
+use Rattle.automaton.proofs.SameLaws.{image-same, move-same}
 use Rattle.automaton.proofs.MoveLaws.{Ends, Matches, moved-found, moved-at, moves-lt}
 
 -- with one place, these are the labels of `labelled`
@@ -35,6 +36,14 @@ fires-one p a r mine e =
 pub moved-one : (es : List Edge) (p a r : ℕ) (mine : Bool) (m : ℕ) → move (firesAt p a r mine false) es m ≡ moveMask es p a r mine m
 unfolding moveMask
 moved-one es p a r mine m = move-same (firesAt p a r mine false) (fires p a r mine) es (λ e k. fires-one p a r mine e) m
+
+pub rows-one : (es : List Edge) (a r : ℕ) (mine : Bool) → rowsAt es a r mine false ≡ rowsOf es a r mine
+unfolding rowsAt rowsOf
+rows-one es a r mine =
+    from-ext (λ k. image (firesAt (k / states) a r mine false) es (k % states)) (λ k. image (fires (k / states) a r mine) es (k % states)) 0
+    rowPlaces
+    (λ k l. image-same (firesAt ((0 + k) / states) a r mine false) (fires ((0 + k) / states) a r mine) es
+    (λ e m. fires-one ((0 + k) / states) a r mine e) ((0 + k) % states))
 
 -- the two tests say whether the first and the second place is i, and there are no more
 pub record Seats (places : List ℕ) (i : ℕ) (first last : Bool) : Type 0 where

@@ -17,7 +17,7 @@ use Rattle.usage.specs.Tables.{from, edgeAt}
 use Rattle.usage.proofs.Logic.{false-true, by-cases, last-or-lower}
 use Rattle.usage.proofs.TableLaws.{length-from, getD-from, from-snoc, from-ext, is-from}
 use Rattle.automaton.specs.Mask.{has, single, union}
-use Rattle.automaton.specs.Move.{part, targets, image, move, labelled, fires, moveMask, rowPlaces, rowsOf, moveBy}
+use Rattle.automaton.specs.Move.{part, targets, image, move, labelledAt, fires, firesAt, moveMask, rowPlaces, rowsOf, rowsAt, moveBy}
 use Rattle.automaton.specs.Code.{endOf, joined, followed, edgeEnds, stayed, changed, moveByPolicy}
 use Rattle.automaton.proofs.MaskLaws.{or-assoc, bit-shifted, single-is, left-le, right-le, all-below, all-below-at}
 use Rattle.automaton.proofs.MoveLaws.{image-lt}
@@ -178,12 +178,12 @@ gate-off true false l d e = refl
 gate-off true true true d e = e
 gate-off true true false d e = refl
 
-module _ (es : List Edge) (e : Edge) (a r : ℕ) (mine : Bool) where
+module _ (es : List Edge) (e : Edge) (a r : ℕ) (first second : Bool) where
   abbrev old : ℕ → ℕ
-  old k = targets (fires (k / states) a r mine) es (k % states)
+  old k = targets (firesAt (k / states) a r first second) es (k % states)
 
   abbrev new : ℕ → ℕ
-  new k = targets (fires (k / states) a r mine) (es ++ (e ∷ [])) (k % states)
+  new k = targets (firesAt (k / states) a r first second) (es ++ (e ∷ [])) (k % states)
 
   -- the edge leaves the state of place k, and has the action
   abbrev tests : ℕ → Bool
@@ -191,21 +191,21 @@ module _ (es : List Edge) (e : Edge) (a r : ℕ) (mine : Bool) where
 
   unmet : (k : ℕ) → tests k ≡ false → new k ≡ old k
   unmet k h =
-      targets-snoc (fires (k / states) a r mine) es e (k % states)
+      targets-snoc (firesAt (k / states) a r first second) es e (k % states)
       ∙ ap (λ b. bitOr (old k) (cond b (single (e .to)) 0))
-      (gate-off (eqb (e .policy) (k / states)) (eqb (e .action) a) (labelled (e .on) (e .who) mine r) (eqb (e .from) (k % states)) h)
+      (gate-off (eqb (e .policy) (k / states)) (eqb (e .action) a) (labelledAt (e .on) (e .who) first second r) (eqb (e .from) (k % states)) h)
       ∙ or-zero-r (old k)
 
   met : (k : ℕ) → e .action ≡ a → e .policy ≡ k / states → e .from ≡ k % states
-      → new k ≡ bitOr (old k) (endOf (e .on) (e .who) (e .to) mine r)
+      → new k ≡ bitOr (old k) (endOf (e .on) (e .who) (e .to) first second r)
   met k x y z =
-      targets-snoc (fires (k / states) a r mine) es e (k % states)
+      targets-snoc (firesAt (k / states) a r first second) es e (k % states)
       ∙ ap (λ b. bitOr (old k) (cond b (single (e .to)) 0))
-      (gate-on (eqb (e .policy) (k / states)) (eqb (e .action) a) (labelled (e .on) (e .who) mine r) (eqb (e .from) (k % states))
+      (gate-on (eqb (e .policy) (k / states)) (eqb (e .action) a) (labelledAt (e .on) (e .who) first second r) (eqb (e .from) (k % states))
       (eq-eqb _ _ y) (eq-eqb _ _ x) (eq-eqb _ _ z))
 
   -- an edge with another action adds nothing
-  ends-other : (e .action ≡ a → ⊥) → edgeEnds (es ++ (e ∷ [])) a r mine ≡ edgeEnds es a r mine
+  ends-other : (e .action ≡ a → ⊥) → edgeEnds (es ++ (e ∷ [])) a r first second ≡ edgeEnds es a r first second
   unfolding edgeEnds
   ends-other h =
       from-ext new old 0 rowPlaces
@@ -213,7 +213,7 @@ module _ (es : List Edge) (e : Edge) (a r : ℕ) (mine : Bool) where
 
   -- an edge with the action is joined at its place, where it has one
   ends-joined : e .action ≡ a
-      → joined (edgeEnds es a r mine) (e .policy) (e .from) (endOf (e .on) (e .who) (e .to) mine r) ≡ edgeEnds (es ++ (e ∷ [])) a r mine
+      → joined (edgeEnds es a r first second) (e .policy) (e .from) (endOf (e .on) (e .who) (e .to) first second r) ≡ edgeEnds (es ++ (e ∷ [])) a r first second
   unfolding joined edgeEnds
   ends-joined x = go (ltb (e .policy) policies) (ltb (e .from) states) refl refl
     where
@@ -224,7 +224,7 @@ module _ (es : List Edge) (e : Edge) (a r : ℕ) (mine : Bool) where
       all = from old 0 rowPlaces
 
       more : List ℕ
-      more = set all at (bitOr (getD all at 0) (endOf (e .on) (e .who) (e .to) mine r))
+      more = set all at (bitOr (getD all at 0) (endOf (e .on) (e .who) (e .to) first second r))
 
       all-length : length all ≡ rowPlaces
       all-length = length-from old 0 rowPlaces
@@ -248,7 +248,7 @@ module _ (es : List Edge) (e : Edge) (a r : ℕ) (mine : Bool) where
           let j : at < rowPlaces = omega arith in
           ap (λ (n : ℕ). getD more n 0) i
           ∙ getD-set-same all at _ 0 (subst (λ (n : ℕ). at < n) (sym all-length) j)
-          ∙ ap (λ (n : ℕ). bitOr n (endOf (e .on) (e .who) (e .to) mine r)) (all-at at j)
+          ∙ ap (λ (n : ℕ). bitOr n (endOf (e .on) (e .who) (e .to) first second r)) (all-at at j)
           ∙ sym (met at x (sym (place-policy (e .policy) (e .from) z)) (sym (place-state (e .policy) (e .from) z)))
           ∙ ap new (sym i)
       each y z k l false b =
@@ -268,57 +268,57 @@ module _ (es : List Edge) (e : Edge) (a r : ℕ) (mine : Bool) where
           (unmet (0 + i) (elsewhere (0 + i) (λ w. let u = w .0 in let v = ltb-false (e .policy) policies y in omega arith))))
 
 -- an edge is followed exactly where it has the action
-module _ (t : List ℕ) (e : Edge) (a r : ℕ) (mine : Bool) where
-  pub followed-met : e .action ≡ a → followed t e a r mine ≡ joined t (e .policy) (e .from) (endOf (e .on) (e .who) (e .to) mine r)
+module _ (t : List ℕ) (e : Edge) (a r : ℕ) (first second : Bool) where
+  pub followed-met : e .action ≡ a → followed t e a r first second ≡ joined t (e .policy) (e .from) (endOf (e .on) (e .who) (e .to) first second r)
   unfolding followed
-  followed-met q = ap (λ b. cond b (joined t (e .policy) (e .from) (endOf (e .on) (e .who) (e .to) mine r)) t) (eq-eqb _ _ q)
+  followed-met q = ap (λ b. cond b (joined t (e .policy) (e .from) (endOf (e .on) (e .who) (e .to) first second r)) t) (eq-eqb _ _ q)
 
-  pub followed-unmet : (e .action ≡ a → ⊥) → followed t e a r mine ≡ t
+  pub followed-unmet : (e .action ≡ a → ⊥) → followed t e a r first second ≡ t
   unfolding followed
-  followed-unmet q = ap (λ b. cond b (joined t (e .policy) (e .from) (endOf (e .on) (e .who) (e .to) mine r)) t) (ne-eqb _ _ q)
+  followed-unmet q = ap (λ b. cond b (joined t (e .policy) (e .from) (endOf (e .on) (e .who) (e .to) first second r)) t) (ne-eqb _ _ q)
 
 -- the same over the first i edges of a table
-module _ (t : List ℕ) (a r : ℕ) (mine : Bool) where
-  pub ends-none : replicate rowPlaces 0 ≡ edgeEnds (from (edgeAt t) 0 0) a r mine
+module _ (t : List ℕ) (a r : ℕ) (first second : Bool) where
+  pub ends-none : replicate rowPlaces 0 ≡ edgeEnds (from (edgeAt t) 0 0) a r first second
   unfolding edgeEnds from targets
   ends-none = refl
 
   -- one more edge
-  pub ends-more : (i : ℕ) (s : List ℕ) → s ≡ edgeEnds (from (edgeAt t) 0 i) a r mine
-      → followed s (edgeAt t i) a r mine ≡ edgeEnds (from (edgeAt t) 0 (i + 1)) a r mine
+  pub ends-more : (i : ℕ) (s : List ℕ) → s ≡ edgeEnds (from (edgeAt t) 0 i) a r first second
+      → followed s (edgeAt t i) a r first second ≡ edgeEnds (from (edgeAt t) 0 (i + 1)) a r first second
   ends-more i s d = rw (d, add-one i, edges-more t i) (go (eqb (edgeAt t i .action) a) refl)
     where
       old : List ℕ
-      old = edgeEnds (from (edgeAt t) 0 i) a r mine
+      old = edgeEnds (from (edgeAt t) 0 i) a r first second
 
       go : (b : Bool) → eqb (edgeAt t i .action) a ≡ b
-          → followed old (edgeAt t i) a r mine ≡ edgeEnds (from (edgeAt t) 0 i ++ (edgeAt t i ∷ [])) a r mine
+          → followed old (edgeAt t i) a r first second ≡ edgeEnds (from (edgeAt t) 0 i ++ (edgeAt t i ∷ [])) a r first second
       go true q =
           let x = eqb-true (edgeAt t i .action) a q in
-          followed-met old (edgeAt t i) a r mine x ∙ ends-joined (from (edgeAt t) 0 i) (edgeAt t i) a r mine x
+          followed-met old (edgeAt t i) a r first second x ∙ ends-joined (from (edgeAt t) 0 i) (edgeAt t i) a r first second x
       go false q =
           let x = eqb-false (edgeAt t i .action) a q in
-          followed-unmet old (edgeAt t i) a r mine x ∙ sym (ends-other (from (edgeAt t) 0 i) (edgeAt t i) a r mine x)
+          followed-unmet old (edgeAt t i) a r first second x ∙ sym (ends-other (from (edgeAt t) 0 i) (edgeAt t i) a r first second x)
 
   -- four more
-  pub ends-four : (i : ℕ) (s s₁ s₂ s₃ s₄ : List ℕ) → s ≡ edgeEnds (from (edgeAt t) 0 (4 * i)) a r mine
-      → s₁ ≡ followed s (edgeAt t (4 * i)) a r mine → s₂ ≡ followed s₁ (edgeAt t (4 * i + 1)) a r mine
-      → s₃ ≡ followed s₂ (edgeAt t (4 * i + 2)) a r mine → s₄ ≡ followed s₃ (edgeAt t (4 * i + 3)) a r mine
-      → s₄ ≡ edgeEnds (from (edgeAt t) 0 (4 * (i + 1))) a r mine
+  pub ends-four : (i : ℕ) (s s₁ s₂ s₃ s₄ : List ℕ) → s ≡ edgeEnds (from (edgeAt t) 0 (4 * i)) a r first second
+      → s₁ ≡ followed s (edgeAt t (4 * i)) a r first second → s₂ ≡ followed s₁ (edgeAt t (4 * i + 1)) a r first second
+      → s₃ ≡ followed s₂ (edgeAt t (4 * i + 2)) a r first second → s₄ ≡ followed s₃ (edgeAt t (4 * i + 3)) a r first second
+      → s₄ ≡ edgeEnds (from (edgeAt t) 0 (4 * (i + 1))) a r first second
   ends-four i s s₁ s₂ s₃ s₄ e e₁ e₂ e₃ e₄ =
       let f₁ = e₁ ∙ ends-more (4 * i) s e in
       let f₂ = e₂ ∙ ends-more (4 * i + 1) s₁ f₁ ∙ again (4 * i + 1 + 1) (4 * i + 2) (omega arith) in
       let f₃ = e₃ ∙ ends-more (4 * i + 2) s₂ f₂ ∙ again (4 * i + 2 + 1) (4 * i + 3) (omega arith) in
       e₄ ∙ ends-more (4 * i + 3) s₃ f₃ ∙ again (4 * i + 3 + 1) (4 * (i + 1)) (omega arith)
     where
-      again : (m n : ℕ) → m ≡ n → edgeEnds (from (edgeAt t) 0 m) a r mine ≡ edgeEnds (from (edgeAt t) 0 n) a r mine
-      again m n q = ap (λ (n : ℕ). edgeEnds (from (edgeAt t) 0 n) a r mine) q
+      again : (m n : ℕ) → m ≡ n → edgeEnds (from (edgeAt t) 0 m) a r first second ≡ edgeEnds (from (edgeAt t) 0 n) a r first second
+      again m n q = ap (λ (n : ℕ). edgeEnds (from (edgeAt t) 0 n) a r first second) q
 
   -- an action that no edge has
-  pub ends-wide : (n : ℕ) → ((k : ℕ) → getD t k 0 < a) → replicate rowPlaces 0 ≡ edgeEnds (from (edgeAt t) 0 n) a r mine
+  pub ends-wide : (n : ℕ) → ((k : ℕ) → getD t k 0 < a) → replicate rowPlaces 0 ≡ edgeEnds (from (edgeAt t) 0 n) a r first second
   ends-wide zero h = ends-none
   ends-wide (suc n) h = ends-wide n h
-      ∙ rw (edges-more t n) (sym (ends-other (from (edgeAt t) 0 n) (edgeAt t n) a r mine
+      ∙ rw (edges-more t n) (sym (ends-other (from (edgeAt t) 0 n) (edgeAt t n) a r first second
       (λ e. absurd (omega (arith, e, h (edgeFields * n + 2))))))
 
 -- joining the empty set changes nothing
@@ -362,28 +362,30 @@ module _ (t : List ℕ) where
       ahead = λ j l. getD-set-other s k j _ 0 (λ z. omega arith) ∙ h .ahead j (omega arith);
     }
 
-pub ends-length : (es : List Edge) (a r : ℕ) (mine : Bool) → length (edgeEnds es a r mine) ≡ rowPlaces
+pub ends-length : (es : List Edge) (a r : ℕ) (first second : Bool) → length (edgeEnds es a r first second) ≡ rowPlaces
 unfolding edgeEnds
-ends-length es a r mine = length-from (λ k. targets (fires (k / states) a r mine) es (k % states)) 0 rowPlaces
+ends-length es a r first second = length-from (λ k. targets (firesAt (k / states) a r first second) es (k % states)) 0 rowPlaces
 
 -- the ends, with the states that stay, are the rows
-pub stayed-rows : (es : List Edge) (a r : ℕ) (mine : Bool) → stayed (edgeEnds es a r mine) ≡ rowsOf es a r mine
-unfolding stayed edgeEnds rowsOf image
-stayed-rows es a r mine =
+pub stayed-rows : (es : List Edge) (a r : ℕ) (first second : Bool) → stayed (edgeEnds es a r first second) ≡ rowsAt es a r first second
+unfolding stayed edgeEnds rowsAt image
+stayed-rows es a r first second =
     from-ext (stayAt (from ends 0 rowPlaces)) (λ k. cond (eqb (ends k) 0) (single (k % states)) (ends k)) 0 rowPlaces
     (λ i l. ap (λ (n : ℕ). cond (eqb n 0) (single ((0 + i) % states)) n)
     (getD-from ends 0 rowPlaces (0 + i) 0 (omega arith) ∙ ap ends (zero-add (0 + i))))
   where
     ends : ℕ → ℕ
-    ends k = targets (fires (k / states) a r mine) es (k % states)
+    ends k = targets (firesAt (k / states) a r first second) es (k % states)
 
 -- a bit shifted to a state's place is the set of that state
 pub shifted-single : (q : ℕ) → q < states → 1 * 2 ^ q % 2 ^ 8 ≡ single q
 shifted-single q h = bit-shifted q h ∙ sym (single-is q h)
 
--- an `on` above 2 matches nothing
-pub label-none : (on who : ℕ) (mine : Bool) (r : ℕ) → (on ≡ 0 → ⊥) → (on ≡ 1 → ⊥) → (on ≡ 2 → ⊥) → labelled on who mine r ≡ false
-label-none zero who mine r x y z = absurd (x refl)
-label-none (suc zero) who mine r x y z = absurd (y refl)
-label-none (suc (suc zero)) who mine r x y z = absurd (z refl)
-label-none (suc (suc (suc k))) who mine r x y z = refl
+-- an `on` above 3 matches nothing
+pub label-none : (on who : ℕ) (first second : Bool) (r : ℕ) → (on ≡ 0 → ⊥) → (on ≡ 1 → ⊥) → (on ≡ 2 → ⊥) → (on ≡ 3 → ⊥)
+    → labelledAt on who first second r ≡ false
+label-none zero who first second r x y z w = absurd (x refl)
+label-none (suc zero) who first second r x y z w = absurd (y refl)
+label-none (suc (suc zero)) who first second r x y z w = absurd (z refl)
+label-none (suc (suc (suc zero))) who first second r x y z w = absurd (w refl)
+label-none (suc (suc (suc (suc k)))) who first second r x y z w = refl

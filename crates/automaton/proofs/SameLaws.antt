@@ -22,7 +22,7 @@ targets-same f g (e ∷ es) h q =
     ap₂ (λ (m n : ℕ). bitOr m n) (ap (λ (b : Bool). cond (b && eqb (e .from) q) (single (e .to)) 0) (h e (List·Memᴰ·head refl)))
     (targets-same f g es (λ d m. h d (List·Memᴰ·tail m)) q)
 
-image-same : (f g : Edge → Bool) (es : List Edge) → Agree f g es → (q : ℕ) → image f es q ≡ image g es q
+pub image-same : (f g : Edge → Bool) (es : List Edge) → Agree f g es → (q : ℕ) → image f es q ≡ image g es q
 unfolding image
 image-same f g es h q = ap (λ (n : ℕ). cond (eqb n 0) (single q) n) (targets-same f g es h q)
 

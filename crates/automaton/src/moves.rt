@@ -5,15 +5,21 @@ use usage::EDGE_FIELDS;
 use usage::STATES;
 ghost use Prim.Native.Nat.{_/_, _*_, _+_, _<_, _≤_};
 ghost use mathlib.Core.Path.{_≡_};
-ghost use mathlib.Core.Bool.{true, false, cond};
+ghost use mathlib.Core.Bool.{Bool, true, false, cond};
 ghost use lib.Dec.{eqb};
 ghost use lib.ListN.{length, replicate};
 ghost use Rattle.usage.specs.declared.Edge.{Edge};
 ghost use Rattle.usage.specs.Limits.{states, edgeFields};
 ghost use Rattle.usage.specs.Tables.{from, edgeAt, edgesOf};
 ghost use Rattle.automaton.specs.Mask.{single};
-ghost use Rattle.automaton.specs.Move.{rowPlaces, rowsOf};
+ghost use Rattle.automaton.specs.Move.{rowPlaces, labelledAt, rowsOf, rowsAt};
 ghost use Rattle.automaton.specs.Code.{endOf, joined, followed, edgeEnds, stayed};
+
+// The resource of an event, and whether it is the second one of the instances that look at it. Of a policy about one resource it never is.
+pub struct Seen {
+    pub resource: u32,
+    pub second: bool,
+}
 
 // The end of an edge, joined to what stands at its state of its policy. One test for the three numbers: each is below 8 exactly where
 // their union as bits is; where one is not, the edge has no place or no end.
@@ -26,8 +32,23 @@ fn join(table: &mut [u8; ROWS], policy: u8, from: u8, to: u8)
     }
 }
 
-// The end of an edge that an event on the resource may match, joined to the two tables: `own` is that of the instance whose resource
-// the event is on, `other` that of the other instances.
+// Is an edge's label, which is about no first resource, about the event's resource?
+fn matches_both(on: u8, who: u8, seen: Seen) -> bool
+    requires { ⌜ (on ≡ 1 → ⊥) ⌝ }
+    requires { ⌜ (on ≡ 2 → ⊥) ⌝ }
+    ensures { λ r. ⌜ ((first : Bool) → r ≡ labelledAt on who first (seen .second) (seen .resource)) ⌝ }
+{
+    if on == 0 {
+        return seen.resource == who as u32;
+    }
+    if on == 3 {
+        return seen.second;
+    }
+    false
+}
+
+// The end of an edge that an event on the resource may match, joined to the two tables: `own` is that of the instances whose first
+// resource the event is on, `other` that of the other instances.
 fn follow(
     own: &mut [u8; ROWS],
     other: &mut [u8; ROWS],
@@ -36,24 +57,25 @@ fn follow(
     on: u8,
     who: u8,
     to: u8,
-    resource: u32,
+    seen: Seen,
 )
-    ensures { λ r. ⌜ now (own .exit) ≡ joined (now (own .entry)) policy from (endOf on who to true resource) ⌝ }
-    ensures { λ r. ⌜ now (other .exit) ≡ joined (now (other .entry)) policy from (endOf on who to false resource) ⌝ }
+    ensures { λ r. ⌜ now (own .exit) ≡ joined (now (own .entry)) policy from (endOf on who to true (seen .second) (seen .resource)) ⌝ }
+    ensures { λ r. ⌜ now (other .exit) ≡ joined (now (other .entry)) policy from (endOf on who to false (seen .second) (seen .resource)) ⌝ }
 {
     if on == 1 {
         join(own, policy, from, to);
         return;
     }
     if on == 2 {
+        if seen.second {
+            return;
+        }
         join(other, policy, from, to);
         return;
     }
-    if on == 0 {
-        if resource == who as u32 {
-            join(own, policy, from, to);
-            join(other, policy, from, to);
-        }
+    if matches_both(on, who, seen) {
+        join(own, policy, from, to);
+        join(other, policy, from, to);
     }
 }
 
@@ -62,13 +84,13 @@ fn follow_edge(
     edges: &[u8],
     i: usize,
     a: u8,
-    resource: u32,
+    seen: Seen,
     own: &mut [u8; ROWS],
     other: &mut [u8; ROWS],
 )
     requires { ⌜ edgeFields * i + edgeFields ≤ length (now edges) ⌝ }
-    ensures { λ r. ⌜ now (own .exit) ≡ followed (now (own .entry)) (edgeAt (now (edges .entry)) i) a resource true ⌝ }
-    ensures { λ r. ⌜ now (other .exit) ≡ followed (now (other .entry)) (edgeAt (now (edges .entry)) i) a resource false ⌝ }
+    ensures { λ r. ⌜ now (own .exit) ≡ followed (now (own .entry)) (edgeAt (now (edges .entry)) i) a (seen .resource) true (seen .second) ⌝ }
+    ensures { λ r. ⌜ now (other .exit) ≡ followed (now (other .entry)) (edgeAt (now (edges .entry)) i) a (seen .resource) false (seen .second) ⌝ }
 {
     let k = EDGE_FIELDS * i;
     if edges[k + 2] == a {
@@ -80,7 +102,7 @@ fn follow_edge(
             edges[k + 3],
             edges[k + 4],
             edges[k + 5],
-            resource,
+            seen,
         );
     }
 }
@@ -90,38 +112,32 @@ fn follow_fours(
     edges: &[u8],
     n: usize,
     a: u8,
-    resource: u32,
+    seen: Seen,
     own: &mut [u8; ROWS],
     other: &mut [u8; ROWS],
 )
     requires { ⌜ edgeFields * (4 * n) ≤ length (now edges) ⌝ }
     requires { ⌜ now own ≡ replicate rowPlaces 0 ⌝ }
     requires { ⌜ now other ≡ replicate rowPlaces 0 ⌝ }
-    ensures { λ r. ⌜ now (own .exit) ≡ edgeEnds (from (edgeAt (now (edges .entry))) 0 (4 * n)) a resource true ⌝ }
-    ensures { λ r. ⌜ now (other .exit) ≡ edgeEnds (from (edgeAt (now (edges .entry))) 0 (4 * n)) a resource false ⌝ }
+    ensures { λ r. ⌜ now (own .exit) ≡ edgeEnds (from (edgeAt (now (edges .entry))) 0 (4 * n)) a (seen .resource) true (seen .second) ⌝ }
+    ensures { λ r. ⌜ now (other .exit) ≡ edgeEnds (from (edgeAt (now (edges .entry))) 0 (4 * n)) a (seen .resource) false (seen .second) ⌝ }
 {
     let mut i: usize = 0;
     while i < n {
-        follow_edge(edges, 4 * i, a, resource, own, other);
-        follow_edge(edges, 4 * i + 1, a, resource, own, other);
-        follow_edge(edges, 4 * i + 2, a, resource, own, other);
-        follow_edge(edges, 4 * i + 3, a, resource, own, other);
+        follow_edge(edges, 4 * i, a, seen, own, other);
+        follow_edge(edges, 4 * i + 1, a, seen, own, other);
+        follow_edge(edges, 4 * i + 2, a, seen, own, other);
+        follow_edge(edges, 4 * i + 3, a, seen, own, other);
         i += 1;
     }
 }
 
 // The ends of the matching edges, joined to two empty tables. An action is compared as a byte, and no edge has a greater one.
-fn collect_ends(
-    edges: &[u8],
-    action: u32,
-    resource: u32,
-    own: &mut [u8; ROWS],
-    other: &mut [u8; ROWS],
-)
+fn collect_ends(edges: &[u8], action: u32, seen: Seen, own: &mut [u8; ROWS], other: &mut [u8; ROWS])
     requires { ⌜ now own ≡ replicate rowPlaces 0 ⌝ }
     requires { ⌜ now other ≡ replicate rowPlaces 0 ⌝ }
-    ensures { λ r. ⌜ now (own .exit) ≡ edgeEnds (edgesOf (now (edges .entry))) action resource true ⌝ }
-    ensures { λ r. ⌜ now (other .exit) ≡ edgeEnds (edgesOf (now (edges .entry))) action resource false ⌝ }
+    ensures { λ r. ⌜ now (own .exit) ≡ edgeEnds (edgesOf (now (edges .entry))) action (seen .resource) true (seen .second) ⌝ }
+    ensures { λ r. ⌜ now (other .exit) ≡ edgeEnds (edgesOf (now (edges .entry))) action (seen .resource) false (seen .second) ⌝ }
 {
     if 255 < action {
         return;
@@ -129,10 +145,10 @@ fn collect_ends(
     let a = action as u8;
     let n = edges.len() / EDGE_FIELDS;
     let fours = n / 4;
-    follow_fours(edges, fours, a, resource, own, other);
+    follow_fours(edges, fours, a, seen, own, other);
     let mut i = 4 * fours;
     while i < n {
-        follow_edge(edges, i, a, resource, own, other);
+        follow_edge(edges, i, a, seen, own, other);
         i += 1;
     }
 }
@@ -164,14 +180,44 @@ fn stay(table: &mut [u8; ROWS])
     }
 }
 
-// The rows of an event for its own resource's instance, and for every other instance. What the tables held does not matter.
+// The rows of an event for the instances whose first resource it is on, and for the others. What the tables held does not matter.
+fn fill(edges: &[u8], action: u32, seen: Seen, own: &mut [u8; ROWS], other: &mut [u8; ROWS])
+    ensures { λ r. ⌜ now (own .exit) ≡ rowsAt (edgesOf (now (edges .entry))) action (seen .resource) true (seen .second) ⌝ }
+    ensures { λ r. ⌜ now (other .exit) ≡ rowsAt (edgesOf (now (edges .entry))) action (seen .resource) false (seen .second) ⌝ }
+{
+    clear(own);
+    clear(other);
+    collect_ends(edges, action, seen, own, other);
+    stay(own);
+    stay(other);
+}
+
+// The rows of an event for its own resource's instance, and for every other instance; of two resources, where it is not the second.
 pub fn rows(edges: &[u8], action: u32, resource: u32, own: &mut [u8; ROWS], other: &mut [u8; ROWS])
     ensures { λ r. ⌜ now (own .exit) ≡ rowsOf (edgesOf (now (edges .entry))) action resource true ⌝ }
     ensures { λ r. ⌜ now (other .exit) ≡ rowsOf (edgesOf (now (edges .entry))) action resource false ⌝ }
 {
-    clear(own);
-    clear(other);
-    collect_ends(edges, action, resource, own, other);
-    stay(own);
-    stay(other);
+    let seen = Seen {
+        resource,
+        second: false,
+    };
+    fill(edges, action, seen, own, other);
+}
+
+// The rows of an event for the instances of two resources whose second it is on: for those of which it is the first too, and for the others.
+pub fn rows_second(
+    edges: &[u8],
+    action: u32,
+    resource: u32,
+    both: &mut [u8; ROWS],
+    second: &mut [u8; ROWS],
+)
+    ensures { λ r. ⌜ now (both .exit) ≡ rowsAt (edgesOf (now (edges .entry))) action resource true true ⌝ }
+    ensures { λ r. ⌜ now (second .exit) ≡ rowsAt (edgesOf (now (edges .entry))) action resource false true ⌝ }
+{
+    let seen = Seen {
+        resource,
+        second: true,
+    };
+    fill(edges, action, seen, both, second);
 }

@@ -9,7 +9,7 @@ use lib.Seq.{sets}
 use Rattle.usage.specs.Answers.{Verdict, allowed, violated, refused, answer, detail}
 use Rattle.report_lines.specs.Lines.{namesLine, namesRoom, traceNamesLine, traceNamesRoom, nodeNamesLine, nodeNamesRoom}
 use Rattle.report_lines.specs.Lines.{three, row, numberedRow, verdictRow, valuesText, valuesRoom}
-use Rattle.report_lines.specs.Lines.{markNamesLine, markNamesRoom, markRow}
+use Rattle.report_lines.specs.Lines.{markNamesLine, markNamesRoom, deskNamesLine, deskNamesRoom, markRow}
 use Rattle.report_lines.specs.Decimal.{decimal}
 use Rattle.report_lines.proofs.DecimalLaws.{tens, length-below}
 use Rattle.report_lines.specs.Put.{putAt, endAt}
@@ -67,6 +67,14 @@ numbered-eleven number kind a b hn hk ha hb =
     let m = row-below 0 1 1 kind a b (omega arith) (omega arith) (omega arith) in
     omega (arith, length-numbered number kind a b, length-field number 32)
 
+-- those of a call of the desk are a line, and what its number tells
+pub numbered-sixteen : (number kind a b : ℕ) → number < 100000 → kind < 1000 → a < 1000 → b < 10
+    → length (numberedRow number kind a b) ≤ 16
+numbered-sixteen number kind a b hn hk ha hb =
+    let l = length-below 4 number (omega arith) in
+    let m = row-below 2 2 0 kind a b (omega arith) (omega arith) (omega arith) in
+    omega (arith, length-numbered number kind a b, length-field number 32)
+
 -- those of a mark are a policy, and an action or 32
 pub mark-five : (policy action : ℕ) → policy < 10 → action < 100 → length (markRow policy action) ≤ 5
 mark-five policy action hp ha =
@@ -97,6 +105,10 @@ length-node-names = refl
 pub length-mark-names : length markNamesLine ≡ markNamesRoom
 unfolding markNamesLine
 length-mark-names = refl
+
+pub length-desk-names : length deskNamesLine ≡ deskNamesRoom
+unfolding deskNamesLine
+length-desk-names = refl
 
 -- a text at the start, of the numbers that the functions return
 pub begin-stored : {r : ℕ} {after : List ℕ} (buffer text : List ℕ) → length text ≤ length buffer → r ≡ endAt buffer 0 text → after

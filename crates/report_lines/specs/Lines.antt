@@ -35,6 +35,13 @@ markNamesLine = bytes "policy action\n"
 abbrev pub markNamesRoom : ℕ
 markNamesRoom = 14
 
+-- 02, L14: "An answer to a step, if no refusal, tells which judge gave it" (`length-desk-names` of proofs/RowLaws)
+unfoldable pub deskNamesLine : List ℕ
+deskNamesLine = bytes "line answer detail lean\n"
+
+abbrev pub deskNamesRoom : ℕ
+deskNamesRoom = 24
+
 -- a number and the byte after it
 unfoldable pub field : ℕ → ℕ → List ℕ
 field n end = decimal n ++ (end ∷ [])

@@ -7,10 +7,10 @@ ghost use Rattle.sheet_lines.specs.Sheets.{policyNames};
 ghost use Rattle.report_lines.specs.Decimal.{decimal};
 ghost use Rattle.report_lines.specs.Lines.{namesLine, traceNamesLine, nodeNamesLine, field as Lines·field, three as Lines·three};
 ghost use Rattle.report_lines.specs.Lines.{row as Lines·row, numberedRow, valuesLine, valuesRoom};
-ghost use Rattle.report_lines.specs.Lines.{markNamesLine, markRow};
+ghost use Rattle.report_lines.specs.Lines.{markNamesLine, deskNamesLine, markRow};
 ghost use Rattle.report_lines.specs.Put.{putAt, endAt, putWithin, endWithin};
 
-// The bytes of the line of names, and of those of a trace sheet, of an outline sheet and of a summary.
+// The bytes of the line of names, and of those of a trace sheet, of an outline sheet, of a summary and of a desk's answers.
 pub const NAMES: usize = 19;
 
 pub const TRACE_NAMES: usize = 9;
@@ -18,6 +18,8 @@ pub const TRACE_NAMES: usize = 9;
 pub const NODE_NAMES: usize = 14;
 
 pub const MARK_NAMES: usize = 14;
+
+pub const DESK_NAMES: usize = 24;
 
 // The bytes of a line of six values at most: ten digits each, and a byte after it.
 pub const VALUES_ROOM: usize = 66;
@@ -63,6 +65,14 @@ pub fn mark_names(out: &mut [u8]) -> usize
     ensures { λ r. ⌜ now (out .exit) ≡ putAt (now (out .entry)) 0 markNamesLine ⌝ }
 {
     begin(out, b"policy action\n")
+}
+
+// The same with the names of a desk's answers, which also tell whether the lean judge gave one.
+pub fn desk_names(out: &mut [u8]) -> usize
+    ensures { λ r. ⌜ r ≡ endAt (now (out .entry)) 0 deskNamesLine ⌝ }
+    ensures { λ r. ⌜ now (out .exit) ≡ putAt (now (out .entry)) 0 deskNamesLine ⌝ }
+{
+    begin(out, b"line answer detail lean\n")
 }
 
 // A text, at the start.

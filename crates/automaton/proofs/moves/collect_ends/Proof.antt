@@ -13,12 +13,12 @@ use Rattle.automaton.proofs.moves.collect_ends.Statement.{statement}
 use Rattle.automaton.proofs.moves.collect_ends.Tie as tie
 
 abbrev Inv-loop : tie.InvT-loop
-Inv-loop edges action resource own₀ other₀ a n fours i₀ own other i =
+Inv-loop edges action seen own₀ other₀ a n fours i₀ own other i =
     (i ≤ n) ×
-    ((own ≡ edgeEnds (from (edgeAt edges) 0 i) action resource true) × (other ≡ edgeEnds (from (edgeAt edges) 0 i) action resource false))
+    ((own ≡ edgeEnds (from (edgeAt edges) 0 i) action (seen .resource) true (seen .second)) × (other ≡ edgeEnds (from (edgeAt edges) 0 i) action (seen .resource) false (seen .second)))
 
 abbrev μ-loop : tie.MeasureT-loop
-μ-loop edges action resource own₀ other₀ a n fours i₀ own other i = n - i
+μ-loop edges action seen own₀ other₀ a n fours i₀ own other i = n - i
 
 returns : tie.Need-returns Inv-loop μ-loop
 unfolding edgesOf
@@ -26,8 +26,8 @@ returns c =
     let a = c .before .before .args in
     let t = a .edges .now in
     let wide : (k : ℕ) → getD t k 0 < a .action = λ k. omega (arith, c .before .shared-slice-known .given k, c .if1 .taken) in (
-      c .before .before .pre .0 ∙ ends-wide t (a .action) (a .resource) true (length t / edgeFields) wide,
-      c .before .before .pre .1 ∙ ends-wide t (a .action) (a .resource) false (length t / edgeFields) wide,
+      c .before .before .pre .0 ∙ ends-wide t (a .action) (a .seen .resource) true (a .seen .second) (length t / edgeFields) wide,
+      c .before .before .pre .1 ∙ ends-wide t (a .action) (a .seen .resource) false (a .seen .second) (length t / edgeFields) wide,
     )
 
 cast-a : tie.Need-cast-a Inv-loop μ-loop
@@ -58,8 +58,8 @@ loop-again c =
     let u = c .before .before .before .before .loop in (
       search needs,
       (
-        c .follow-edge .ensures .0 ∙ ends-more t (a .action) (a .resource) true (u .i) _ (u .inv .1 .0),
-        c .follow-edge .ensures .1 ∙ ends-more t (a .action) (a .resource) false (u .i) _ (u .inv .1 .1),
+        c .follow-edge .ensures .0 ∙ ends-more t (a .action) (a .seen .resource) true (a .seen .second) (u .i) _ (u .inv .1 .0),
+        c .follow-edge .ensures .1 ∙ ends-more t (a .action) (a .seen .resource) false (a .seen .second) (u .i) _ (u .inv .1 .1),
       ),
     )
 

@@ -51,8 +51,8 @@ returns c =
     let a = c .before .before .before .before .before .before .before .before .before .before .before .args in
     let m = c .before .before .before .before .before .before .before .before .if1 .taken in
     let e = edgeAt (a .edges .now) (a .i) in (
-      c .follow .ensures .0 ∙ sym (followed-met (a .own .now) e (a .a) (a .resource) true m),
-      c .follow .ensures .1 ∙ sym (followed-met (a .other .now) e (a .a) (a .resource) false m),
+      c .follow .ensures .0 ∙ sym (followed-met (a .own .now) e (a .a) (a .seen .resource) true (a .seen .second) m),
+      c .follow .ensures .1 ∙ sym (followed-met (a .other .now) e (a .a) (a .seen .resource) false (a .seen .second) m),
     )
 
 returns-2 : tie.Need-returns-2
@@ -60,8 +60,8 @@ returns-2 c =
     let a = c .before .before .before .args in
     let m = c .if1 .left in
     let e = edgeAt (a .edges .now) (a .i) in (
-      sym (followed-unmet (a .own .now) e (a .a) (a .resource) true m),
-      sym (followed-unmet (a .other .now) e (a .a) (a .resource) false m),
+      sym (followed-unmet (a .own .now) e (a .a) (a .seen .resource) true (a .seen .second) m),
+      sym (followed-unmet (a .other .now) e (a .a) (a .seen .resource) false (a .seen .second) m),
     )
 
 pub follow-edge-spec : {M : Type 1} → statement M

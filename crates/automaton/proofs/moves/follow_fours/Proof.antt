@@ -11,20 +11,20 @@ use Rattle.automaton.proofs.moves.follow_fours.Statement.{statement}
 use Rattle.automaton.proofs.moves.follow_fours.Tie as tie
 
 abbrev Inv-loop : tie.InvT-loop
-Inv-loop edges n a resource own₀ other₀ i₀ own other i =
+Inv-loop edges n a seen own₀ other₀ i₀ own other i =
     (i ≤ n) ×
-    ((own ≡ edgeEnds (from (edgeAt edges) 0 (4 * i)) a resource true) × (other ≡ edgeEnds (from (edgeAt edges) 0 (4 * i)) a resource false))
+    ((own ≡ edgeEnds (from (edgeAt edges) 0 (4 * i)) a (seen .resource) true (seen .second)) × (other ≡ edgeEnds (from (edgeAt edges) 0 (4 * i)) a (seen .resource) false (seen .second)))
 
 abbrev μ-loop : tie.MeasureT-loop
-μ-loop edges n a resource own₀ other₀ i₀ own other i = n - i
+μ-loop edges n a seen own₀ other₀ i₀ own other i = n - i
 
 loop-holds : tie.Need-loop-holds Inv-loop μ-loop
 loop-holds c =
     let a = c .before .args in (
       search needs,
       (
-        c .before .pre .1 .0 ∙ ends-none (a .edges .now) (a .a) (a .resource) true,
-        c .before .pre .1 .1 ∙ ends-none (a .edges .now) (a .a) (a .resource) false,
+        c .before .pre .1 .0 ∙ ends-none (a .edges .now) (a .a) (a .seen .resource) true (a .seen .second),
+        c .before .pre .1 .1 ∙ ends-none (a .edges .now) (a .a) (a .seen .resource) false (a .seen .second),
       ),
     )
 
@@ -78,8 +78,8 @@ loop-again c =
     let fourth = c .follow-edge4 .ensures in (
       search needs,
       (
-        ends-four (a .edges .now) (a .a) (a .resource) true (t .i) _ _ _ _ _ (t .inv .1 .0) (first .0) (second .0) (third .0) (fourth .0),
-        ends-four (a .edges .now) (a .a) (a .resource) false (t .i) _ _ _ _ _ (t .inv .1 .1) (first .1) (second .1) (third .1) (fourth .1),
+        ends-four (a .edges .now) (a .a) (a .seen .resource) true (a .seen .second) (t .i) _ _ _ _ _ (t .inv .1 .0) (first .0) (second .0) (third .0) (fourth .0),
+        ends-four (a .edges .now) (a .a) (a .seen .resource) false (a .seen .second) (t .i) _ _ _ _ _ (t .inv .1 .1) (first .1) (second .1) (third .1) (fourth .1),
       ),
     )
 

@@ -1,39 +1,16 @@
--- `rows` meets its contract. The tables are cleared, then hold the ends of the matching edges, then the rows.
-use mathlib.Core.Path.{ap, _∙_}
-use lib.ListN.{length}
+-- `rows` meets its contract: nothing is the second resource of an instance that has one.
+use mathlib.Core.Bool.{true, false}
+use mathlib.Core.Path.{_∙_}
 use borrow.Author.Needs.{needs}
-use Rattle.automaton.specs.Code.{stayed}
-use Rattle.automaton.proofs.RowLaws.{ends-length, stayed-rows}
+use Rattle.automaton.proofs.PlaceLaws.{rows-one}
 use Rattle.automaton.proofs.moves.rows.Statement.{statement}
 use Rattle.automaton.proofs.moves.rows.Tie as tie
 
-clear-requires : tie.Need-clear-requires
-clear-requires c κs = search needs
-
-clear-requires-2 : tie.Need-clear-requires-2
-clear-requires-2 c κs = search needs
-
-collect-ends-requires : tie.Need-collect-ends-requires
-collect-ends-requires c κs = search needs
-
-stay-requires : tie.Need-stay-requires
-stay-requires c κs = ap length (c .before .collect-ends .ensures .0) ∙ ends-length _ _ _ _
-
-stay-requires-2 : tie.Need-stay-requires-2
-stay-requires-2 c κs = ap length (c .before .before .before .collect-ends .ensures .1) ∙ ends-length _ _ _ _
+fill-requires : tie.Need-fill-requires
+fill-requires c κs = search needs
 
 returns : tie.Need-returns
-returns c =
-    let g = c .before .before .before .before .collect-ends .ensures in
-    (c .before .before .stay .ensures ∙ ap stayed (g .0) ∙ stayed-rows _ _ _ _, c .stay2 .ensures ∙ ap stayed (g .1) ∙ stayed-rows _ _ _ _)
+returns c = (c .fill .ensures .0 ∙ rows-one _ _ _ true, c .fill .ensures .1 ∙ rows-one _ _ _ false)
 
 pub rows-spec : {M : Type 1} → statement M
-rows-spec =
-    tie.close
-    (tie.spec
-    clear-requires
-    clear-requires-2
-    collect-ends-requires
-    stay-requires
-    stay-requires-2
-    returns)
+rows-spec = tie.close (tie.spec fill-requires returns)
