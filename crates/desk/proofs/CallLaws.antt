@@ -35,7 +35,7 @@ use Rattle.desk.specs.Promise.{isRefusal}
 use Rattle.desk.specs.Calls.{Given, codeOf, isRefused, plain, givenBy, givenStep, Leaves, Called, too-short, no-desk, called, ByStep}
 use Rattle.desk.specs.Calls.{replied}
 use Rattle.desk.specs.Code.{told}
-use Rattle.desk.proofs.CopyLaws.{bytes-local, words-local, wides-local, numbers-kept}
+use Rattle.desk_positions.proofs.CopyLaws.{bytes-local, words-local, wides-local, numbers-kept}
 use Rattle.desk.proofs.JudgedLaws.{judge-41, judge-42, taken-ok, not-41}
 
 -- ── An answer as one number ──

@@ -32,7 +32,7 @@ use Rattle.desk.specs.State.{encodedBy, isEncoded, isSound, deskOf, Enco
 use Rattle.desk.specs.Desk.{Desk, isBusy, withPolicies, LoadsPolicies, byNumber, is-refused, has-policies}
 use Rattle.desk.specs.Calls.{codeOf, plain, givenLoad, Called, no-desk, called, ByPolicies, loaded}
 use Rattle.desk.specs.Code.{mostLine}
-use Rattle.desk.proofs.CopyLaws.{bytes-local, numbers-kept}
+use Rattle.desk_positions.proofs.CopyLaws.{bytes-local, numbers-kept}
 use Rattle.desk.proofs.CallLaws.{desk-is}
 use Rattle.desk.proofs.StepLaws.{HeadParts, parts-head, left-encodes}
 

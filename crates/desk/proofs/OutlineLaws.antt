@@ -33,9 +33,10 @@ use Rattle.desk_positions.proofs.ReadingLaws.{rows-alike, tabled-passes, tabled
 use Rattle.desk.specs.declared.Head.{Head}
 use Rattle.desk.specs.Layout.{deskBytes, edgesAt, nodesAt, summaryAt, createdAt, rowsAt, byteAt, wordAt, wideAt, numbersIn, Got, Put, Within}
 use Rattle.desk.specs.State.{nodesIn, summaryIn, tableIn, listedIn, outlinedIn, headOk, isListed, exceeded, looksOf}
-use Rattle.desk.specs.Desk.{Outlined, isAny, onPositions, staysOn, looksBy, positionsAfter, outlineAfter, outlineFor}
+use Rattle.desk_positions.specs.Positions.{isAny}
+use Rattle.desk.specs.Desk.{Outlined, onPositions, staysOn, looksBy, positionsAfter, outlineAfter, outlineFor}
 use Rattle.desk.specs.Code.{SettledIn}
-use Rattle.desk.proofs.CopyLaws.{bytes-local, words-local, wides-local, numbers-kept}
+use Rattle.desk_positions.proofs.CopyLaws.{bytes-local, words-local, wides-local, numbers-kept}
 use Rattle.desk.proofs.DeskLaws.{stray-next}
 
 -- ── Off the outline ──

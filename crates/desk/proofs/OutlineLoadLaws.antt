@@ -38,7 +38,7 @@ use Rattle.desk.specs.State.{exceeded, deskOf}
 use Rattle.desk.specs.Desk.{Outlined, Desk, isBusy, withOutline, LoadsOutline}
 use Rattle.desk.specs.Calls.{codeOf, plain, isRefused, Leaves, Called, called, ByOutline, loaded}
 use Rattle.desk.specs.Code.{mostLine, SettledIn, withNodes, KeptOutline}
-use Rattle.desk.proofs.CopyLaws.{bytes-local, wides-local, numbers-kept, put-all}
+use Rattle.desk_positions.proofs.CopyLaws.{bytes-local, wides-local, numbers-kept, put-all}
 use Rattle.desk.proofs.StepLaws.{HeadParts, head-parts, parts-head, listed-parts, positions-is, nodes-same, table-same, outlined-is, left-encodes}
 
 -- ── What is left ──

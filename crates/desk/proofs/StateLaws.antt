@@ -17,7 +17,7 @@ use Rattle.desk.specs.declared.Head.{Head}
 use Rattle.desk.specs.Layout.{deskBytes, edgesAt, nodesAt, summaryAt, numbersIn, wideAt, headIn}
 use Rattle.desk.specs.JudgeBytes.{judgeIn}
 use Rattle.desk.specs.State.{edgesIn, nodesIn, localIn, summaryIn, looksOf}
-use Rattle.desk.proofs.CopyLaws.{slice-is}
+use Rattle.desk_positions.proofs.CopyLaws.{slice-is}
 
 -- ── The tables that are lent ──
 

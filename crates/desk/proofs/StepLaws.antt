@@ -22,8 +22,9 @@ use Rattle.desk_positions.specs.Positions.{Position, samePosition, strideAll, s
 use Rattle.desk_positions.specs.Growth.{Tabled, Grown, stepFrom}
 use Rattle.desk_positions.specs.Reading.{rowsOk, positionsIn}
 use Rattle.desk_positions.proofs.NextLaws.{no-row-none, none-no-row, next-beyond, grown-tabled}
-use Rattle.desk.specs.Desk.{isAny, onPositions, outlineAfter}
-use Rattle.desk.proofs.CopyLaws.{pos}
+use Rattle.desk.specs.Desk.{onPositions, outlineAfter}
+use Rattle.desk_positions.specs.Positions.{isAny}
+use Rattle.desk_positions.proofs.CopyLaws.{pos}
 use Rattle.desk.proofs.OutlineLaws.{step-from, kind-low, looks-on, listed-few, rows-exceeded}
 use Rattle.usage.proofs.Logic.{and-left, and-right, and-both, false-true, none-some}
 use Rattle.monitor_state.specs.declared.State.{State}
@@ -43,7 +44,7 @@ use Rattle.desk.specs.Desk.{Outlined, Loaded, staysOn, looksBy, outlineF
 use Rattle.desk.specs.Promise.{isRefusal}
 use Rattle.desk.specs.Calls.{codeOf, givenBy, Leaves, Called, ByStep}
 use Rattle.desk.specs.Code.{told, moves, SettledIn}
-use Rattle.desk.proofs.CopyLaws.{bytes-local, words-local, wides-local, numbers-kept}
+use Rattle.desk_positions.proofs.CopyLaws.{bytes-local, words-local, wides-local, numbers-kept}
 use Rattle.desk.proofs.CallLaws.{encoded-is, desk-is, step-refused, step-stored}
 use Rattle.desk.proofs.JudgedLaws.{taken-small, none-refused}
 use Rattle.desk.proofs.OutlineLaws.{off-stays, off-for, looks-off, off-head}

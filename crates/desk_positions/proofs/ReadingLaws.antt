@@ -154,15 +154,14 @@ unfolding from
 map-from g f k zero = refl
 map-from {B = B} g f k (suc n) = ap (λ (l : List B). g (f k) ∷ l) (map-from g f (suc k) n)
 
-pub reads-tabled : (t : List ℕ) (n : ℕ) → n ≤ mostPositions → length t ≡ rowPlaces → rowsOk t n ≡ true → Tabled (positionsIn t n) n t
+pub reads-tabled : (t : List ℕ) (n : ℕ) → n ≤ mostPositions → rowsOk t n ≡ true → Tabled (positionsIn t n) n t
 unfolding positionsIn
-reads-tabled t n h long e = record {
+reads-tabled t n h e = record {
   few = rw (length-from (λ i. positionIn (rowIn t i)) 0 n) h;
   fine = λ c m.
       let (i, l, q) = member-from (λ i. positionIn (rowIn t i)) 0 n c m in
       subst Fine (sym (q ∙ ap (λ (j : ℕ). positionIn (rowIn t j)) (zero-add i))) (row-reads (rowIn t i) (row-passed t n i e l) .1);
   number = sym (length-from (λ i. positionIn (rowIn t i)) 0 n);
-  long = long;
   rows = from-ext (rowIn t) (λ i. rowOf (positionIn (rowIn t i))) 0 n (λ i l. sym
       (row-reads (rowIn t (0 + i)) (row-passed t n (0 + i) e (rw (zero-add i) l)) .0))
       ∙ sym (map-from rowOf (λ i. positionIn (rowIn t i)) 0 n);

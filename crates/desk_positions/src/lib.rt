@@ -4,8 +4,7 @@ ghost use mathlib.Core.Path.{_≡_};
 ghost use mathlib.Core.List.{List, [], _∷_};
 ghost use Prim.Native.Nat.{ℕ, suc, _+_, _*_, _/_, _<_, _≤_};
 ghost use lib.ListN.{length, getD, set};
-ghost use mathlib.Core.Bool.{_&&_};
-ghost use lib.Dec.{leb};
+ghost use mathlib.Core.Bool.{false};
 ghost use Rattle.desk_positions.specs.Closure.{member, addedAll, spread};
 ghost use Rattle.usage.specs.Limits.{mostNodes, mostNames, nodeFields};
 ghost use Rattle.usage.specs.Past.{event, opening};
@@ -13,10 +12,11 @@ ghost use Rattle.usage.specs.Outline.{formOf};
 ghost use Rattle.usage.specs.Valid.{NodeOk, OutlineOk};
 ghost use Rattle.usage.specs.Tables.{nodeAt, nodesOf};
 ghost use Rattle.desk_positions.specs.Positions.{mostPositions, mostParts, sameMeanings, samePosition, Meanings, at, shut, Position, short};
-ghost use Rattle.desk_positions.specs.Positions.{silentBy, silentNext, strideBy, strideNext, strideAll, startPositions};
-ghost use Rattle.desk_positions.specs.Growth.{Fine, Tabled, Grown, OnTop, Settles, InTable, TooMany, stepFrom};
+ghost use Rattle.desk_positions.specs.Positions.{silentBy, silentNext, strideBy, strideNext, strideAll, isAny, startPositions, nextPositions};
+ghost use Rattle.desk_positions.specs.Growth.{Fine, Tabled, Grown, OnTop, Settles, InTable, NoTable, Untouched, stepFrom};
 ghost use Rattle.usage.specs.declared.Node.{Node};
-ghost use Rattle.desk_positions.specs.Rows.{rowWidth, rowPlaces, base, pushed, popped, rowOf, rowIn, rowsIn, Written, Adds};
+ghost use Rattle.desk_positions.specs.Bytes.{wordAt, Put};
+ghost use Rattle.desk_positions.specs.Rows.{rowWidth, rowBytes, rowPlaces, base, pushed, popped, rowOf, rowIn, rowsIn, Room, Adds, Kept};
 ghost use Rattle.desk_positions.specs.Reading.{itemIn, partsIn, rowOk, rowsOk};
 use usage::MOST_NODES;
 use usage::NODE_FIELDS;
@@ -45,12 +45,50 @@ pub const ROW: usize = 81;
 
 pub const MOST_POSITIONS: usize = 64;
 
-pub const ROWS: usize = 5184;
+// The bytes of a number, of a row and of a table.
+const CELL: usize = 4;
 
-pub type Rows = [u32; ROWS];
+const ROW_BYTES: usize = 324;
+
+pub const ROWS: usize = 20736;
 
 pub struct Row {
     pub cells: [u32; ROW],
+}
+
+// ── Numbers in bytes ── little endian.
+
+// Four bytes as a number.
+fn joined(a: u8, b: u8, c: u8, d: u8) -> u32
+    ensures { λ r. ⌜ r ≡ a + 256 * b + 65536 * c + 16777216 * d ⌝ }
+{
+    a as u32 + 256 * b as u32 + 65536 * c as u32 + 16777216 * d as u32
+}
+
+// The four bytes from i on.
+fn word(b: &[u8], i: usize) -> u32
+    requires { ⌜ i + 4 ≤ length (now b) ⌝ }
+    ensures { λ r. ⌜ r ≡ wordAt (now (b .entry)) i ⌝ }
+{
+    joined(b[i], b[i + 1], b[i + 2], b[i + 3])
+}
+
+fn put_byte(b: &mut [u8], i: usize, x: u8)
+    requires { ⌜ i < length (now b) ⌝ }
+    ensures { λ r. ⌜ now (b .exit) ≡ set (now (b .entry)) i x ⌝ }
+    ensures { λ r. ⌜ length (now (b .exit)) ≡ length (now (b .entry)) ⌝ }
+{
+    b[i] = x;
+}
+
+fn put_word(b: &mut [u8], i: usize, x: u32)
+    requires { ⌜ i + 4 ≤ length (now b) ⌝ }
+    ensures { λ r. ⌜ Put wordAt 4 (now (b .entry)) i 1 (x ∷ []) (now (b .exit)) ⌝ }
+{
+    put_byte(b, i, (x % 256) as u8);
+    put_byte(b, i + 1, (x / 256 % 256) as u8);
+    put_byte(b, i + 2, (x / 65536 % 256) as u8);
+    put_byte(b, i + 3, (x / 16777216) as u8);
 }
 
 // ── A row ──
@@ -98,27 +136,34 @@ fn replace(mut r: Row, depth: usize, code: u32) -> Row
 // ── A table of rows ──
 
 // Row i of the table.
-fn load(t: &Rows, i: usize) -> Row
-    requires { ⌜ i < mostPositions ⌝ }
+fn load(t: &[u8], i: usize) -> Row
+    requires { ⌜ rowBytes * i + rowBytes ≤ length (now t) ⌝ }
     ensures { λ r. ⌜ r .cells ≡ rowIn (now (t .entry)) i ⌝ }
 {
     let mut cells = [0u32; ROW];
+    let place = ROW_BYTES * i;
     let mut j: usize = 0;
     while j < ROW {
-        cells[j] = t[ROW * i + j];
+        cells[j] = word(t, place + CELL * j);
         j += 1;
     }
     Row { cells }
 }
 
-// Is row i of the table this one?
-fn same(t: &Rows, i: usize, r: Row) -> bool
-    requires { ⌜ i < mostPositions ⌝ }
-    ensures { λ b. ⌜ b ≡ sameMeanings (r .cells) (rowIn (now (t .entry)) i) ⌝ }
+// Is row i of the table this one? Number `top` of the rows is asked first.
+fn same(t: &[u8], i: usize, r: &[u32; ROW], top: usize) -> bool
+    requires { ⌜ rowBytes * i + rowBytes ≤ length (now t) ⌝ }
+    requires { ⌜ length (now r) ≡ rowWidth ⌝ }
+    requires { ⌜ top < rowWidth ⌝ }
+    ensures { λ b. ⌜ b ≡ sameMeanings (now (r .entry)) (rowIn (now (t .entry)) i) ⌝ }
 {
+    let place = ROW_BYTES * i;
+    if r[top] != word(t, place + CELL * top) {
+        return false;
+    }
     let mut j: usize = 0;
     while j < ROW {
-        if r.cells[j] != t[ROW * i + j] {
+        if r[j] != word(t, place + CELL * j) {
             return false;
         }
         j += 1;
@@ -127,26 +172,41 @@ fn same(t: &Rows, i: usize, r: Row) -> bool
 }
 
 // A row written to place i of the table.
-fn store(t: &mut Rows, i: usize, r: Row)
-    requires { ⌜ i < mostPositions ⌝ }
-    requires { ⌜ length (now t) ≡ rowPlaces ⌝ }
-    ensures { λ u. ⌜ Written (now (t .entry)) (rowWidth * i) (r .cells) rowWidth (now (t .exit)) ⌝ }
+fn store(t: &mut [u8], i: usize, r: &[u32; ROW])
+    requires { ⌜ rowBytes * i + rowBytes ≤ length (now t) ⌝ }
+    ensures { λ u. ⌜ Put wordAt 4 (now (t .entry)) (rowBytes * i) rowWidth (now (r .entry)) (now (t .exit)) ⌝ }
 {
+    let place = ROW_BYTES * i;
     let mut j: usize = 0;
     while j < ROW {
-        t[ROW * i + j] = r.cells[j];
+        put_word(t, place + CELL * j, r[j]);
         j += 1;
     }
 }
 
-// Is one of the first n rows this one?
-fn find(t: &Rows, n: usize, r: Row) -> bool
-    requires { ⌜ n ≤ mostPositions ⌝ }
-    ensures { λ b. ⌜ b ≡ member sameMeanings (r .cells) (rowsIn (now (t .entry)) n) ⌝ }
+// Where the node or closing of a row's top stands: rows that differ mostly do so there.
+fn top_of(depth: u32) -> usize
+    ensures { λ r. ⌜ r < rowWidth ⌝ }
 {
+    if depth == 0 {
+        return 0;
+    }
+    if (MOST_PARTS as u32) < depth {
+        return 0;
+    }
+    1 + PART * (depth as usize - 1)
+}
+
+// Is one of the first n rows this one?
+fn find(t: &[u8], n: usize, r: &[u32; ROW]) -> bool
+    requires { ⌜ rowBytes * n ≤ length (now t) ⌝ }
+    requires { ⌜ length (now r) ≡ rowWidth ⌝ }
+    ensures { λ b. ⌜ b ≡ member sameMeanings (now (r .entry)) (rowsIn (now (t .entry)) n) ⌝ }
+{
+    let top = top_of(r[0]);
     let mut i: usize = 0;
     while i < n {
-        if same(t, i, r) {
+        if same(t, i, r, top) {
             return true;
         }
         i += 1;
@@ -155,18 +215,19 @@ fn find(t: &Rows, n: usize, r: Row) -> bool
 }
 
 // A row is added, unless it is there.
-fn add(t: &mut Rows, n: usize, r: Row) -> usize
+fn add(t: &mut [u8], n: usize, r: Row) -> usize
     requires { ⌜ n ≤ mostPositions ⌝ }
-    requires { ⌜ length (now t) ≡ rowPlaces ⌝ }
+    requires { ⌜ Room n (now t) ⌝ }
     ensures { λ m. ⌜ Adds (now (t .entry)) n (r .cells) m (now (t .exit)) ⌝ }
 {
-    if find(t, n, r) {
+    let cells = r.cells;
+    if find(t, n, &cells) {
         return n;
     }
     if MOST_POSITIONS <= n {
         return MOST_POSITIONS + 1;
     }
-    store(t, n, r);
+    store(t, n, &cells);
     n + 1
 }
 
@@ -174,7 +235,7 @@ fn add(t: &mut Rows, n: usize, r: Row) -> usize
 // The position of the row r, with a node on top and d parts below it, leads to others; they are added to the first n rows.
 
 // Node a, then node b.
-fn then(t: &mut Rows, n: usize, r: Row, d: usize, a: u32, b: u32) -> usize
+fn then(t: &mut [u8], n: usize, r: Row, d: usize, a: u32, b: u32) -> usize
     requires { ⌜ n ≤ mostPositions ⌝ }
     requires { ⌜ length (now t) ≡ rowPlaces ⌝ }
     requires { ⌜ d < mostParts ⌝ }
@@ -197,7 +258,7 @@ fn then(t: &mut Rows, n: usize, r: Row, d: usize, a: u32, b: u32) -> usize
 }
 
 // Node a, or node b.
-fn either(t: &mut Rows, n: usize, r: Row, d: usize, a: u32, b: u32) -> usize
+fn either(t: &mut [u8], n: usize, r: Row, d: usize, a: u32, b: u32) -> usize
     requires { ⌜ n ≤ mostPositions ⌝ }
     requires { ⌜ length (now t) ≡ rowPlaces ⌝ }
     requires { ⌜ d < mostParts ⌝ }
@@ -214,7 +275,7 @@ fn either(t: &mut Rows, n: usize, r: Row, d: usize, a: u32, b: u32) -> usize
 }
 
 // What node f leads to.
-fn silent_at(t: &mut Rows, n: usize, r: Row, d: usize, f: Node) -> usize
+fn silent_at(t: &mut [u8], n: usize, r: Row, d: usize, f: Node) -> usize
     requires { ⌜ n ≤ mostPositions ⌝ }
     requires { ⌜ length (now t) ≡ rowPlaces ⌝ }
     requires { ⌜ d < mostParts ⌝ }
@@ -249,7 +310,7 @@ fn node(nodes: &[u8], k: usize) -> Node
 }
 
 // What the position of the row r leads to.
-fn silent(nodes: &[u8], t: &mut Rows, n: usize, r: Row) -> usize
+fn silent(nodes: &[u8], t: &mut [u8], n: usize, r: Row) -> usize
     requires { ⌜ n ≤ mostPositions ⌝ }
     requires { ⌜ length (now t) ≡ rowPlaces ⌝ }
     ensures { λ m. ⌜ ((c : Position) (ls : List Position) → OutlineOk (nodesOf (now (nodes .entry))) → Fine c → r .cells ≡ rowOf c
@@ -277,7 +338,7 @@ fn silent(nodes: &[u8], t: &mut Rows, n: usize, r: Row) -> usize
 }
 
 // All that the first n positions lead to without a step is added to them, unless a limit is exceeded.
-fn spread(nodes: &[u8], t: &mut Rows, n: usize) -> usize
+fn spread(nodes: &[u8], t: &mut [u8], n: usize) -> usize
     requires { ⌜ n ≤ mostPositions ⌝ }
     requires { ⌜ length (now t) ≡ rowPlaces ⌝ }
     ensures { λ m. ⌜ ((ls : List Position) → OutlineOk (nodesOf (now (nodes .entry))) → Tabled ls n (now (t .entry))
@@ -301,14 +362,14 @@ fn spread(nodes: &[u8], t: &mut Rows, n: usize) -> usize
 // ── Moves that add a step ──
 
 // An event on a static resource.
-fn on_static(t: &mut Rows, n: usize, r: Row, d: usize, f: Node, action: u32, res: u32) -> usize
+fn on_static(t: &mut [u8], n: usize, r: Row, d: usize, f: Node, action: u32, res: u32) -> usize
     requires { ⌜ n ≤ mostPositions ⌝ }
-    requires { ⌜ length (now t) ≡ rowPlaces ⌝ }
+    requires { ⌜ Room n (now t) ⌝ }
     requires { ⌜ d < mostParts ⌝ }
     ensures { λ m. ⌜ ((k : ℕ) (l : Meanings) (rest : Position) (ls : List Position) → OnTop (r .cells) d k l rest → Tabled ls n (now (t .entry))
         → NodeOk f → f .kind ≡ 1
         → Grown (addedAll samePosition ls (strideBy (formOf f) l rest (event action res))) m (now (t .exit))) ⌝ }
-    ensures { λ m. ⌜ length (now (t .exit)) ≡ rowPlaces ⌝ }
+    ensures { λ m. ⌜ Kept (now (t .entry)) n m (now (t .exit)) ⌝ }
 {
     if f.a as u32 != action {
         return n;
@@ -320,14 +381,14 @@ fn on_static(t: &mut Rows, n: usize, r: Row, d: usize, f: Node, action: u32, res
 }
 
 // An event on what a name means.
-fn on_name(t: &mut Rows, n: usize, r: Row, d: usize, f: Node, action: u32, res: u32) -> usize
+fn on_name(t: &mut [u8], n: usize, r: Row, d: usize, f: Node, action: u32, res: u32) -> usize
     requires { ⌜ n ≤ mostPositions ⌝ }
-    requires { ⌜ length (now t) ≡ rowPlaces ⌝ }
+    requires { ⌜ Room n (now t) ⌝ }
     requires { ⌜ d < mostParts ⌝ }
     ensures { λ m. ⌜ ((k : ℕ) (l : Meanings) (rest : Position) (ls : List Position) → OnTop (r .cells) d k l rest → Tabled ls n (now (t .entry))
         → NodeOk f → f .kind ≡ 2
         → Grown (addedAll samePosition ls (strideBy (formOf f) l rest (event action res))) m (now (t .exit))) ⌝ }
-    ensures { λ m. ⌜ length (now (t .exit)) ≡ rowPlaces ⌝ }
+    ensures { λ m. ⌜ Kept (now (t .entry)) n m (now (t .exit)) ⌝ }
 {
     if f.a as u32 != action {
         return n;
@@ -347,14 +408,14 @@ fn on_name(t: &mut Rows, n: usize, r: Row, d: usize, f: Node, action: u32, res: 
 }
 
 // A creation: name f.a means the resource from now on.
-fn fresh(t: &mut Rows, n: usize, r: Row, d: usize, f: Node, action: u32, res: u32) -> usize
+fn fresh(t: &mut [u8], n: usize, r: Row, d: usize, f: Node, action: u32, res: u32) -> usize
     requires { ⌜ n ≤ mostPositions ⌝ }
-    requires { ⌜ length (now t) ≡ rowPlaces ⌝ }
+    requires { ⌜ Room n (now t) ⌝ }
     requires { ⌜ d < mostParts ⌝ }
     ensures { λ m. ⌜ ((k : ℕ) (l : Meanings) (rest : Position) (ls : List Position) → OnTop (r .cells) d k l rest → Tabled ls n (now (t .entry))
         → NodeOk f → f .kind ≡ 7
         → Grown (addedAll samePosition ls (strideBy (formOf f) l rest (event action res))) m (now (t .exit))) ⌝ }
-    ensures { λ m. ⌜ length (now (t .exit)) ≡ rowPlaces ⌝ }
+    ensures { λ m. ⌜ Kept (now (t .entry)) n m (now (t .exit)) ⌝ }
 {
     if action != CREATE {
         return n;
@@ -381,14 +442,14 @@ fn rename(mut r: Row, d: usize, name: usize, res: u32) -> Row
 }
 
 // A sandbox: its opening, then node f.b and a closing.
-fn sandbox(t: &mut Rows, n: usize, r: Row, d: usize, f: Node, p: u32) -> usize
+fn sandbox(t: &mut [u8], n: usize, r: Row, d: usize, f: Node, p: u32) -> usize
     requires { ⌜ n ≤ mostPositions ⌝ }
-    requires { ⌜ length (now t) ≡ rowPlaces ⌝ }
+    requires { ⌜ Room n (now t) ⌝ }
     requires { ⌜ d < mostParts ⌝ }
     ensures { λ m. ⌜ ((k : ℕ) (l : Meanings) (rest : Position) (ls : List Position) → OnTop (r .cells) d k l rest → Tabled ls n (now (t .entry))
         → NodeOk f → f .kind ≡ 8
         → Grown (addedAll samePosition ls (strideBy (formOf f) l rest (opening p))) m (now (t .exit))) ⌝ }
-    ensures { λ m. ⌜ length (now (t .exit)) ≡ rowPlaces ⌝ }
+    ensures { λ m. ⌜ Kept (now (t .entry)) n m (now (t .exit)) ⌝ }
 {
     if f.a as u32 != p {
         return n;
@@ -406,14 +467,14 @@ fn sandbox(t: &mut Rows, n: usize, r: Row, d: usize, f: Node, p: u32) -> usize
 }
 
 // Where an event leads from node f.
-fn event_at(t: &mut Rows, n: usize, r: Row, d: usize, f: Node, action: u32, res: u32) -> usize
+fn event_at(t: &mut [u8], n: usize, r: Row, d: usize, f: Node, action: u32, res: u32) -> usize
     requires { ⌜ n ≤ mostPositions ⌝ }
-    requires { ⌜ length (now t) ≡ rowPlaces ⌝ }
+    requires { ⌜ Room n (now t) ⌝ }
     requires { ⌜ d < mostParts ⌝ }
     ensures { λ m. ⌜ ((k : ℕ) (l : Meanings) (rest : Position) (ls : List Position) → OnTop (r .cells) d k l rest → Tabled ls n (now (t .entry))
         → NodeOk f
         → Grown (addedAll samePosition ls (strideBy (formOf f) l rest (event action res))) m (now (t .exit))) ⌝ }
-    ensures { λ m. ⌜ length (now (t .exit)) ≡ rowPlaces ⌝ }
+    ensures { λ m. ⌜ Kept (now (t .entry)) n m (now (t .exit)) ⌝ }
 {
     let kind = f.kind;
     match kind {
@@ -425,14 +486,14 @@ fn event_at(t: &mut Rows, n: usize, r: Row, d: usize, f: Node, action: u32, res:
 }
 
 // Where a step leads from node f.
-fn stride_at(t: &mut Rows, n: usize, r: Row, d: usize, f: Node, kind: u32, a: u32, b: u32) -> usize
+fn stride_at(t: &mut [u8], n: usize, r: Row, d: usize, f: Node, kind: u32, a: u32, b: u32) -> usize
     requires { ⌜ n ≤ mostPositions ⌝ }
-    requires { ⌜ length (now t) ≡ rowPlaces ⌝ }
+    requires { ⌜ Room n (now t) ⌝ }
     requires { ⌜ d < mostParts ⌝ }
     ensures { λ m. ⌜ ((k : ℕ) (l : Meanings) (rest : Position) (ls : List Position) → OnTop (r .cells) d k l rest → Tabled ls n (now (t .entry))
         → NodeOk f
         → Grown (addedAll samePosition ls (strideBy (formOf f) l rest (stepFrom kind a b))) m (now (t .exit))) ⌝ }
-    ensures { λ m. ⌜ length (now (t .exit)) ≡ rowPlaces ⌝ }
+    ensures { λ m. ⌜ Kept (now (t .entry)) n m (now (t .exit)) ⌝ }
 {
     match kind {
         0 => event_at(t, n, r, d, f, a, b),
@@ -449,7 +510,7 @@ fn stride_at(t: &mut Rows, n: usize, r: Row, d: usize, f: Node, kind: u32, a: u3
 
 // Where it leads from a closing.
 fn stride_closing(
-    t: &mut Rows,
+    t: &mut [u8],
     n: usize,
     r: Row,
     d: usize,
@@ -459,12 +520,12 @@ fn stride_closing(
     b: u32,
 ) -> usize
     requires { ⌜ n ≤ mostPositions ⌝ }
-    requires { ⌜ length (now t) ≡ rowPlaces ⌝ }
+    requires { ⌜ Room n (now t) ⌝ }
     requires { ⌜ d < mostParts ⌝ }
     ensures { λ m. ⌜ ((ns : List Node) (p : ℕ) (rest : Position) (ls : List Position) → r .cells ≡ rowOf (shut p ∷ rest) → Fine (shut p ∷ rest)
         → length rest ≡ d → code ≡ mostNodes + p → Tabled ls n (now (t .entry))
         → Grown (addedAll samePosition ls (strideNext ns (stepFrom kind a b) (shut p ∷ rest))) m (now (t .exit))) ⌝ }
-    ensures { λ m. ⌜ length (now (t .exit)) ≡ rowPlaces ⌝ }
+    ensures { λ m. ⌜ Kept (now (t .entry)) n m (now (t .exit)) ⌝ }
 {
     if kind != CLOSING {
         return n;
@@ -476,13 +537,13 @@ fn stride_closing(
 }
 
 // Where it leads from the position of the row r.
-fn stride(nodes: &[u8], t: &mut Rows, n: usize, r: Row, kind: u32, a: u32, b: u32) -> usize
+fn stride(nodes: &[u8], t: &mut [u8], n: usize, r: Row, kind: u32, a: u32, b: u32) -> usize
     requires { ⌜ n ≤ mostPositions ⌝ }
-    requires { ⌜ length (now t) ≡ rowPlaces ⌝ }
+    requires { ⌜ Room n (now t) ⌝ }
     ensures { λ m. ⌜ ((c : Position) (ls : List Position) → OutlineOk (nodesOf (now (nodes .entry))) → Fine c → r .cells ≡ rowOf c
         → Tabled ls n (now (t .entry))
         → Grown (addedAll samePosition ls (strideNext (nodesOf (now (nodes .entry))) (stepFrom kind a b) c)) m (now (t .exit))) ⌝ }
-    ensures { λ m. ⌜ length (now (t .exit)) ≡ rowPlaces ⌝ }
+    ensures { λ m. ⌜ Kept (now (t .entry)) n m (now (t .exit)) ⌝ }
 {
     let depth = r.cells[0] as usize;
     if depth == 0 {
@@ -505,18 +566,38 @@ fn stride(nodes: &[u8], t: &mut Rows, n: usize, r: Row, kind: u32, a: u32, b: u3
 
 // ── All positions ──
 
-// Where a step leads from each of the first n positions of the table `old`, in the table t.
-fn collect(nodes: &[u8], old: &Rows, n: usize, t: &mut Rows, kind: u32, a: u32, b: u32) -> usize
+// Does a step lead anywhere from one of the first n positions? What it leads to is written to a table of one row, and forgotten.
+fn leads_from(nodes: &[u8], t: &[u8], n: usize, kind: u32, a: u32, b: u32) -> bool
     requires { ⌜ n ≤ mostPositions ⌝ }
     requires { ⌜ length (now t) ≡ rowPlaces ⌝ }
-    ensures { λ m. ⌜ ((ls : List Position) → OutlineOk (nodesOf (now (nodes .entry))) → Tabled ls n (now (old .entry))
+    ensures { λ r. ⌜ ((ls : List Position) → OutlineOk (nodesOf (now (nodes .entry))) → Tabled ls n (now (t .entry))
+        → r ≡ isAny (strideAll (nodesOf (now (nodes .entry))) (stepFrom kind a b) ls)) ⌝ }
+{
+    let mut i: usize = 0;
+    while i < n {
+        let mut one = [0u8; ROW_BYTES];
+        let r = load(t, i);
+        let m = stride(nodes, &mut one, 0, r, kind, a, b);
+        if 0 < m {
+            return true;
+        }
+        i += 1;
+    }
+    false
+}
+
+// Where a step leads from each of the first n positions, in place: no row leads to more than one.
+fn collect(nodes: &[u8], t: &mut [u8], n: usize, kind: u32, a: u32, b: u32) -> usize
+    requires { ⌜ n ≤ mostPositions ⌝ }
+    requires { ⌜ length (now t) ≡ rowPlaces ⌝ }
+    ensures { λ m. ⌜ ((ls : List Position) → OutlineOk (nodesOf (now (nodes .entry))) → Tabled ls n (now (t .entry))
         → Grown (addedAll samePosition [] (strideAll (nodesOf (now (nodes .entry))) (stepFrom kind a b) ls)) m (now (t .exit))) ⌝ }
     ensures { λ m. ⌜ InTable m (now (t .exit)) ⌝ }
 {
     let mut m: usize = 0;
     let mut i: usize = 0;
     while i < n {
-        let r = load(old, i);
+        let r = load(t, i);
         m = stride(nodes, t, m, r, kind, a, b);
         if MOST_POSITIONS < m {
             return MOST_POSITIONS + 1;
@@ -526,55 +607,56 @@ fn collect(nodes: &[u8], old: &Rows, n: usize, t: &mut Rows, kind: u32, a: u32, 
     m
 }
 
-// A proof is told the length of an array that is passed by value, and not that of a lent one. Compiled, it copies nothing.
-fn rows_length(t: Rows)
-    ensures { λ r. ⌜ length t ≡ rowPlaces ⌝ }
-{}
-
-// Where a step leads from each of the first n positions of the table `old`, in the table t: how many rows t then has, or 65 where there is
-// no room. More rows than a table has are answered with 65, and nothing is written.
-pub fn strides(nodes: &[u8], old: &Rows, n: usize, t: &mut Rows, kind: u32, a: u32, b: u32) -> usize
-    ensures { λ m. ⌜ ((ls : List Position) → OutlineOk (nodesOf (now (nodes .entry))) → Tabled ls n (now (old .entry))
-        → Grown (addedAll samePosition [] (strideAll (nodesOf (now (nodes .entry))) (stepFrom kind a b) ls)) m (now (t .exit))) ⌝ }
-    ensures { λ m. ⌜ InTable m (now (t .exit)) ⌝ }
-    ensures { λ m. ⌜ TooMany n m (now (t .entry)) (now (t .exit)) ⌝ }
+// Does a step lead anywhere from one of the first n positions of a table? From no table, and from more rows than one has, nowhere.
+pub fn leads(nodes: &[u8], t: &[u8], n: usize, kind: u32, a: u32, b: u32) -> bool
+    ensures { λ r. ⌜ ((ls : List Position) → OutlineOk (nodesOf (now (nodes .entry))) → length (now (t .entry)) ≡ rowPlaces
+        → Tabled ls n (now (t .entry)) → r ≡ isAny (strideAll (nodesOf (now (nodes .entry))) (stepFrom kind a b) ls)) ⌝ }
+    ensures { λ r. ⌜ (NoTable n (now (t .entry)) → r ≡ false) ⌝ }
 {
-    let all = *t;
-    rows_length(all);
+    if t.len() != ROWS {
+        return false;
+    }
+    if MOST_POSITIONS < n {
+        return false;
+    }
+    leads_from(nodes, t, n, kind, a, b)
+}
+
+// The positions after a step, from the first n of a table, in their place: how many there are then, or 65 where a limit is exceeded. No
+// table, and more rows than one has, are answered with 65, and nothing is written.
+pub fn next(nodes: &[u8], t: &mut [u8], n: usize, kind: u32, a: u32, b: u32) -> usize
+    ensures { λ m. ⌜ ((ls : List Position) → OutlineOk (nodesOf (now (nodes .entry))) → length (now (t .entry)) ≡ rowPlaces
+        → Tabled ls n (now (t .entry)) → Settles (nextPositions (nodesOf (now (nodes .entry))) (stepFrom kind a b) ls) m (now (t .exit))) ⌝ }
+    ensures { λ m. ⌜ m ≤ suc mostPositions ⌝ }
+    ensures { λ m. ⌜ (NoTable n (now (t .entry)) → Untouched m (now (t .entry)) (now (t .exit))) ⌝ }
+{
+    if t.len() != ROWS {
+        return MOST_POSITIONS + 1;
+    }
     if MOST_POSITIONS < n {
         return MOST_POSITIONS + 1;
     }
-    collect(nodes, old, n, t, kind, a, b)
-}
-
-// All that the first n positions of a table lead to without a step is added to them: how many there are then, or 65 where a limit is
-// exceeded. More rows than a table has are answered with 65, and nothing is written.
-pub fn settle(nodes: &[u8], t: &mut Rows, n: usize) -> usize
-    ensures { λ m. ⌜ ((ls : List Position) → OutlineOk (nodesOf (now (nodes .entry))) → Tabled ls n (now (t .entry))
-        → Settles (spread samePosition (silentNext (nodesOf (now (nodes .entry)))) mostPositions short (suc mostPositions) 0 ls) m
-        (now (t .exit))) ⌝ }
-    ensures { λ m. ⌜ InTable m (now (t .exit)) ⌝ }
-    ensures { λ m. ⌜ TooMany n m (now (t .entry)) (now (t .exit)) ⌝ }
-{
-    let all = *t;
-    rows_length(all);
-    if MOST_POSITIONS < n {
-        return MOST_POSITIONS + 1;
+    let m = collect(nodes, t, n, kind, a, b);
+    if MOST_POSITIONS < m {
+        return m;
     }
-    spread(nodes, t, n)
+    spread(nodes, t, m)
 }
 
-// The positions at the load.
-pub fn start(nodes: &[u8], t: &mut Rows) -> usize
-    ensures { λ m. ⌜ (OutlineOk (nodesOf (now (nodes .entry)))
+// The positions at the load. No table is answered with 65, and nothing is written.
+pub fn start(nodes: &[u8], t: &mut [u8]) -> usize
+    ensures { λ m. ⌜ (OutlineOk (nodesOf (now (nodes .entry))) → length (now (t .entry)) ≡ rowPlaces
         → Settles (startPositions (nodesOf (now (nodes .entry)))) m (now (t .exit))) ⌝ }
-    ensures { λ m. ⌜ InTable m (now (t .exit)) ⌝ }
+    ensures { λ m. ⌜ m ≤ suc mostPositions ⌝ }
+    ensures { λ m. ⌜ (NoTable 0 (now (t .entry)) → Untouched m (now (t .entry)) (now (t .exit))) ⌝ }
 {
-    let all = *t;
-    rows_length(all);
+    if t.len() != ROWS {
+        return MOST_POSITIONS + 1;
+    }
     let cells = [0u32; ROW];
     let r = push(Row { cells }, 0, 0, 0, 0, 0, 0);
-    store(t, 0, r);
+    let first = r.cells;
+    store(t, 0, &first);
     spread(nodes, t, 1)
 }
 
@@ -613,8 +695,8 @@ fn rewritten(r: Row, depth: usize) -> Row
 }
 
 // Is row i that of a position?
-fn row_ok(t: &Rows, i: usize) -> bool
-    requires { ⌜ i < mostPositions ⌝ }
+fn row_ok(t: &[u8], i: usize) -> bool
+    requires { ⌜ rowBytes * i + rowBytes ≤ length (now t) ⌝ }
     ensures { λ b. ⌜ b ≡ rowOk (rowIn (now (t .entry)) i) ⌝ }
 {
     let r = load(t, i);
@@ -622,13 +704,19 @@ fn row_ok(t: &Rows, i: usize) -> bool
     if MOST_PARTS < depth {
         return false;
     }
-    same(t, i, rewritten(r, depth))
+    let anew = rewritten(r, depth);
+    let cells = anew.cells;
+    same(t, i, &cells, 0)
 }
 
-// Are the first n rows those of positions? More rows than a table has are none.
-pub fn rows_ok(t: &Rows, n: usize) -> bool
-    ensures { λ b. ⌜ b ≡ (leb n mostPositions && rowsOk (now (t .entry)) n) ⌝ }
+// Are the first n rows those of positions? No table has any, and no table has more rows than 64.
+pub fn rows_ok(t: &[u8], n: usize) -> bool
+    ensures { λ b. ⌜ (length (now (t .entry)) ≡ rowPlaces → n ≤ mostPositions → b ≡ rowsOk (now (t .entry)) n) ⌝ }
+    ensures { λ b. ⌜ (NoTable n (now (t .entry)) → b ≡ false) ⌝ }
 {
+    if t.len() != ROWS {
+        return false;
+    }
     if MOST_POSITIONS < n {
         return false;
     }

@@ -12,9 +12,7 @@ use lib.Seq.{getD-set-same, getD-set-other, ext-getD, length-take-le, getD-take,
 use Rattle.usage.specs.Tables.{from}
 use Rattle.usage.proofs.Logic.{by-cases, last-or-lower}
 use Rattle.usage.proofs.TableLaws.{length-from, getD-from, from-ext, is-from}
-use Rattle.desk.specs.declared.Head.{Head}
-use Rattle.desk.specs.Layout.{headWords, headIn}
-use Rattle.desk.specs.Layout.{Read, byteAt, wordAt, wideAt, numbersIn, Got, Put, Within}
+use Rattle.desk_positions.specs.Bytes.{Read, byteAt, wordAt, wideAt, numbersIn, Got, Put}
 
 -- ── Places ──
 
@@ -270,13 +268,6 @@ pub put-all : (read : Read) (w : ℕ) (b₀ : List ℕ) (place n : ℕ) (l b : L
 unfolding numbersIn
 put-all read w b₀ place n l b p h = sym (is-from (λ i. read b (place + w * i)) 0 n l h (λ i k. sym (p .inside i k)))
 
-pub put-within : {read : Read} {w : ℕ} {b₀ : List ℕ} {place n : ℕ} {l b : List ℕ} (e : ℕ) → Put read w b₀ place n l b → place + w * n ≡ e
-    → Within b₀ place e b
-put-within {place = place} e p h = record {
-  long = p .long;
-  outside = λ m o. p .outside m (by-cases o (λ l. inl l) (λ l. inr (omega arith)));
-}
-
 -- what stands elsewhere
 pub numbers-kept : (read : Read) (w : ℕ) → Local read w → (b₀ b : List ℕ) (place n : ℕ)
     → ((m : ℕ) → place ≤ m → m < place + w * n → getD b m 0 ≡ getD b₀ m 0) → numbersIn read w place n b ≡ numbersIn read w place n b₀
@@ -297,36 +288,3 @@ slice-is b place n e h l =
     (length-take-le (e - place) (drop place b) (omega (arith, length-drop place b)) ∙ (let z : e - place ≡ n = omega arith in z))
     (λ i k. getD-take (e - place) (drop place b) i 0 (omega arith) ∙ getD-drop place b i 0
     ∙ ap (λ (j : ℕ). getD b j 0) (let z : place + i ≡ place + 1 * i = omega arith in z))
-
--- ── The head ──
-
-pub head-put : (b b′ : List ℕ) (h : Head)
-    → Put wordAt 4 b 0 headWords
-    (h .policies ∷ h .edges ∷ h .nodes ∷ h .positions ∷ h .halted ∷ h .count ∷ h .highest ∷ h .depth ∷ []) b′ → headIn b′ ≡ h
-unfolding headIn
-head-put b b′ h p =
-    let e0 : wordAt b′ 0 ≡ h .policies = p .inside 0 (omega arith) in
-    let e1 : wordAt b′ 4 ≡ h .edges = p .inside 1 (omega arith) in
-    let e2 : wordAt b′ 8 ≡ h .nodes = p .inside 2 (omega arith) in
-    let e3 : wordAt b′ 12 ≡ h .positions = p .inside 3 (omega arith) in
-    let e4 : wordAt b′ 16 ≡ h .halted = p .inside 4 (omega arith) in
-    let e5 : wordAt b′ 20 ≡ h .count = p .inside 5 (omega arith) in
-    let e6 : wordAt b′ 24 ≡ h .highest = p .inside 6 (omega arith) in
-    let e7 : wordAt b′ 28 ≡ h .depth = p .inside 7 (omega arith) in
-    rw (e0, e1, e2, e3, e4, e5, e6, e7)
-
--- the same head where its bytes are the same
-pub head-kept : (b b′ : List ℕ) → ((m : ℕ) → m < 32 → getD b′ m 0 ≡ getD b m 0) → headIn b′ ≡ headIn b
-unfolding headIn
-head-kept b b′ same =
-    let at : (i : ℕ) → i + 4 ≤ 32 → wordAt b′ i ≡ wordAt b i = λ i h. words-local .same b′ b i (λ k l. same (i + k) (omega arith)) in
-    rw (
-      at 0 (omega arith),
-      at 4 (omega arith),
-      at 8 (omega arith),
-      at 12 (omega arith),
-      at 16 (omega arith),
-      at 20 (omega arith),
-      at 24 (omega arith),
-      at 28 (omega arith),
-    )
