@@ -1,10 +1,12 @@
--- The bytes of the desk's state: where each part stands, and how numbers are read from bytes.
+-- The bytes of the desk's state: where each part stands. How numbers are read from bytes stands in desk_positions/specs/Bytes.
 use Prim.Native.Nat.{ℕ, _+_, _*_, _<_, _≤_}
 use mathlib.Core.Path.{_≡_}
 use mathlib.Core.List.{List}
 use mathlib.Core.Logic.{_⊎_}
 use lib.ListN.{length, getD}
 use Rattle.desk.specs.declared.Head.{Head}
+pub use Rattle.desk_positions.specs.Bytes.{Read, bytesIn, wordsIn, widesIn, Got, Put}
+unfoldable pub use Rattle.desk_positions.specs.Bytes.{byteAt, wordAt, wideAt, numbersIn}
 
 -- ── Sizes ──
 
@@ -42,11 +44,6 @@ setsAt = 2160
 
 abbrev pub rowsAt : ℕ
 rowsAt = 2816
-
--- ── Numbers ── little endian
-
-pub use Rattle.desk_positions.specs.Bytes.{Read, bytesIn, wordsIn, widesIn, Got, Put}
-unfoldable pub use Rattle.desk_positions.specs.Bytes.{byteAt, wordAt, wideAt, numbersIn}
 
 -- Only the bytes from a place up to another are changed.
 pub record Within (b₀ : List ℕ) (place end : ℕ) (b : List ℕ) : Type 0 where

@@ -21,9 +21,6 @@ ghost use Rattle.desk.specs.Calls.{codeOf, plain, Called, ByPolicies, By
 ghost use Rattle.desk.specs.Code.{mostLine, SettledIn, withNodes, KeptOutline};
 use crate::Head;
 use checker::Outcome;
-use desk_positions::MOST_POSITIONS;
-use desk_positions::ROW;
-use desk_positions::ROWS;
 use sheet_lines::Reading;
 use sheet_reader::PolicyReading;
 use usage::EDGE_FIELDS;
@@ -46,9 +43,7 @@ fn rows_fit(b: &[u8], h: Head) -> bool
         return false;
     }
     let n = h.positions as usize;
-    let mut rows = [0u32; ROWS];
-    crate::bytes::words_in(b, crate::ROWS_AT, ROW * n, &mut rows);
-    desk_positions::rows_ok(&rows, n)
+    desk_positions::rows_ok(&b[crate::ROWS_AT..crate::DESK_BYTES], n)
 }
 
 // Are the edges a policy sheet's, and does the judge take its state?
@@ -193,12 +188,7 @@ fn start_rows(b: &mut [u8], nodes: &[u8]) -> u32
     ensures { λ k. ⌜ Within (now (b .entry)) rowsAt deskBytes (now (b .exit)) ⌝ }
     ensures { λ k. ⌜ length (now (b .exit)) ≡ length (now (b .entry)) ⌝ }
 {
-    let mut rows = [0u32; ROWS];
-    let k = desk_positions::start(nodes, &mut rows);
-    if MOST_POSITIONS < k {
-        return k as u32;
-    }
-    crate::bytes::words_out(b, crate::ROWS_AT, ROW * k, &rows);
+    let k = desk_positions::start(nodes, &mut b[crate::ROWS_AT..crate::DESK_BYTES]);
     k as u32
 }
 

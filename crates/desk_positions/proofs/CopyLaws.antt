@@ -1,14 +1,14 @@
 -- Numbers that are copied one after the other out of bytes and into them, over how many bytes a number has.
 use Prim.Native.Nat.{ℕ, zero, suc, _+_, _-_, _*_, _/_, _%_, _<_, _≤_}
 use mathlib.Core.Path.{_≡_, refl, sym, ap, ap₂, _∙_, subst}
-use mathlib.Core.List.{List, [], _∷_}
+use mathlib.Core.List.{List, [], _∷_, _++_}
 use mathlib.Core.Logic.{_⊎_, inl, inr}
 use native.Mathlib.Omega.{arith}
 use native.Mathlib.Nat.{mul-suc, zero-add, add-zero}
 use native.Mathlib.Numerals.{add-one}
 use native.Mathlib.Decide.{ℕ-discrete}
-use lib.ListN.{length, getD, set, take, drop, length-set, length-drop}
-use lib.Seq.{getD-set-same, getD-set-other, ext-getD, length-take-le, getD-take, getD-drop}
+use lib.ListN.{length, getD, set, take, drop, length-set, length-drop, length-append, List·getD-append}
+use lib.Seq.{getD-set-same, getD-set-other, ext-getD, length-take-le, getD-take, getD-drop, getD-append-add}
 use Rattle.usage.specs.Tables.{from}
 use Rattle.usage.proofs.Logic.{by-cases, last-or-lower}
 use Rattle.usage.proofs.TableLaws.{length-from, getD-from, from-ext, is-from}
@@ -288,3 +288,35 @@ slice-is b place n e h l =
     (length-take-le (e - place) (drop place b) (omega (arith, length-drop place b)) ∙ (let z : e - place ≡ n = omega arith in z))
     (λ i k. getD-take (e - place) (drop place b) i 0 (omega arith) ∙ getD-drop place b i 0
     ∙ ap (λ (j : ℕ). getD b j 0) (let z : place + i ≡ place + 1 * i = omega arith in z))
+
+-- and what it makes of the bytes when it comes back
+pub part-put : (b ys : List ℕ) (place n e : ℕ) → place + n ≡ e → e ≤ length b → length ys ≡ n
+    → Put byteAt 1 b place n ys (take place b ++ (ys ++ drop (e - place) (drop place b)))
+unfolding byteAt
+part-put b ys place n e h l k = record {
+  long = length-append (take place b) (ys ++ rest) ∙ (let z = length-append ys rest in omega (arith, front, behind));
+  inside = λ i x.
+      ap (λ (j : ℕ). getD (take place b ++ (ys ++ rest)) j 0) (let z : place + 1 * i ≡ length (take place b) + i = omega (arith, front) in z)
+      ∙ getD-append-add (take place b) (ys ++ rest) i 0 ∙ List·getD-append ys rest 0 i (omega arith);
+  outside = λ m o. by-cases o (low m) (high m);
+}
+  where
+    rest : List ℕ
+    rest = drop (e - place) (drop place b)
+
+    front : length (take place b) ≡ place
+    front = length-take-le place b (omega arith)
+
+    behind : length rest ≡ length b - place - (e - place)
+    behind = length-drop (e - place) (drop place b) ∙ ap (λ (j : ℕ). j - (e - place)) (length-drop place b)
+
+    low : (m : ℕ) → m < place → getD (take place b ++ (ys ++ rest)) m 0 ≡ getD b m 0
+    low m x = List·getD-append (take place b) (ys ++ rest) 0 m (omega (arith, front)) ∙ getD-take place b m 0 x
+
+    high : (m : ℕ) → place + 1 * n ≤ m → getD (take place b ++ (ys ++ rest)) m 0 ≡ getD b m 0
+    high m x =
+        ap (λ (j : ℕ). getD (take place b ++ (ys ++ rest)) j 0)
+        (let z : m ≡ length (take place b) + (length ys + (m - e)) = omega (arith, front) in z)
+        ∙ getD-append-add (take place b) (ys ++ rest) (length ys + (m - e)) 0 ∙ getD-append-add ys rest (m - e) 0
+        ∙ getD-drop (e - place) (drop place b) (m - e) 0 ∙ getD-drop place b (e - place + (m - e)) 0
+        ∙ ap (λ (j : ℕ). getD b j 0) (let z : place + (e - place + (m - e)) ≡ m = omega arith in z)
