@@ -24,7 +24,7 @@ use Rattle.monitor_state.specs.declared.Answer.{Answer}
 use Rattle.monitor_state.specs.declared.Answer.the-variants.{Allowed, Violated, Refused}
 use Rattle.monitor_lean.specs.Lean.{atAll, marked}
 use Rattle.desk_positions.specs.Positions.{Position, mostPositions, strideAll}
-use Rattle.desk_positions.specs.Rows.{rowPlaces}
+use Rattle.desk_positions.specs.Rows.{tableBytes}
 use Rattle.desk_positions.specs.Growth.{Settles, stepFrom}
 use Rattle.desk_positions.specs.Reading.{rowsOk, positionsIn}
 use Rattle.desk_positions.proofs.ReadingLaws.{tabled-passes, tabled-reads}
@@ -155,23 +155,23 @@ looks-on u false = refl
 -- the part of the bytes that is lent as the table
 pub table-lent : (b : List ℕ) → deskBytes ≤ length b → take (deskBytes - rowsAt) (drop rowsAt b) ≡ tableIn b
 unfolding tableIn
-table-lent b h = slice-is b rowsAt rowPlaces deskBytes refl h
+table-lent b h = slice-is b rowsAt tableBytes deskBytes refl h
 
-pub table-long : (b : List ℕ) → length (tableIn b) ≡ rowPlaces
+pub table-long : (b : List ℕ) → length (tableIn b) ≡ tableBytes
 unfolding tableIn numbersIn
-table-long b = length-from (λ i. byteAt b (rowsAt + 1 * i)) 0 rowPlaces
+table-long b = length-from (λ i. byteAt b (rowsAt + 1 * i)) 0 tableBytes
 
 -- and the bytes when it comes back
-module _ (b t : List ℕ) (h : deskBytes ≤ length b) (l : length t ≡ rowPlaces) where
+module _ (b t : List ℕ) (h : deskBytes ≤ length b) (l : length t ≡ tableBytes) where
   abbrev back : List ℕ
   back = take rowsAt b ++ (t ++ drop (deskBytes - rowsAt) (drop rowsAt b))
 
-  put-back : Put byteAt 1 b rowsAt rowPlaces t back
-  put-back = part-put b t rowsAt rowPlaces deskBytes refl h l
+  put-back : Put byteAt 1 b rowsAt tableBytes t back
+  put-back = part-put b t rowsAt tableBytes deskBytes refl h l
 
   pub table-back : tableIn back ≡ t
   unfolding tableIn
-  table-back = put-all byteAt 1 b rowsAt rowPlaces t back put-back l
+  table-back = put-all byteAt 1 b rowsAt tableBytes t back put-back l
 
   pub within-back : Within b rowsAt deskBytes back
   within-back = put-within deskBytes put-back refl

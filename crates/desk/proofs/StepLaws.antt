@@ -32,7 +32,7 @@ use Rattle.monitor_state.specs.declared.Judgement.{Judgement}
 use Rattle.monitor_state.proofs.LookedLaws.{looks-alike}
 use Rattle.monitor_lean.specs.Lean.{Looks, judgeBy}
 use Rattle.desk_positions.specs.Positions.{mostPositions}
-use Rattle.desk_positions.specs.Rows.{rowPlaces}
+use Rattle.desk_positions.specs.Rows.{tableBytes}
 use Rattle.desk.specs.declared.Head.{Head}
 use Rattle.desk.specs.Layout.{deskBytes, edgesAt, nodesAt, summaryAt, createdAt, rowsAt, byteAt, wordAt, wideAt, headIn, Within}
 use Rattle.desk.specs.JudgeBytes.{judgeIn, headWith, Small, Stored}
@@ -40,7 +40,7 @@ use Rattle.desk.specs.State.{localIn, edgesIn, nodesIn, summaryIn, table
 use Rattle.desk.specs.State.{isListed, rowsFit, encodedBy, isEncoded, Encodes, looksOf, exceeded}
 use Rattle.desk.specs.Desk.{Outlined, Loaded, staysOn, looksBy, outlineFor}
 use Rattle.desk.specs.Promise.{isRefusal}
-use Rattle.desk.specs.Calls.{codeOf, givenBy, Leaves, Called, ByStep}
+use Rattle.desk.specs.Calls.{deskCode, givenBy, LeavesBytes, Called, ByStep}
 use Rattle.desk.specs.Code.{told, moves, SettledIn}
 use Rattle.desk_positions.proofs.CopyLaws.{bytes-local, words-local, wides-local, numbers-kept}
 use Rattle.desk.proofs.CallLaws.{encoded-is, desk-is, step-refused, step-stored}
@@ -113,7 +113,7 @@ module _ (b b₁ b′ : List ℕ) (h : Head) (s : State) (k : ℕ) (ok : headOk 
 
   pub table-same : tableIn b′ ≡ tableIn b₁
   unfolding tableIn
-  table-same = numbers-kept byteAt 1 bytes-local b₁ b′ rowsAt rowPlaces (λ m x y. st .behind m x)
+  table-same = numbers-kept byteAt 1 bytes-local b₁ b′ rowsAt tableBytes (λ m x y. st .behind m x)
 
   pub outlined-is : outlinedIn b′ g
       ≡ cond (eqb (h .nodes) 0) none (some record { nodes = nodesIn b h; summary = summaryIn b; positions = listedIn (tableIn b₁) k })
@@ -174,7 +174,7 @@ module _ (b : List ℕ) (h : Head) (raw : RawStep) (l : deskBytes ≤ length b) 
       ap (λ (looks : Looks). judgeBy looks (edgesIn b h) (localIn h) (judgeIn b h) raw)
       (sym (looks-off (outlinedIn b h) (staysOn (outlinedIn b h) (stepOf raw)) stays))
 
-  pub off-refused : (j : Judgement) → j ≡ full → isRefusal (j .answer) ≡ true → Called (ByStep raw) b (codeOf (givenBy (told (j .answer)) false)) b
+  pub off-refused : (j : Judgement) → j ≡ full → isRefusal (j .answer) ≡ true → Called (ByStep raw) b (deskCode (givenBy (told (j .answer)) false)) b
   off-refused j e r = step-refused b h raw l is pol enc false same j e r
 
   pub off-small : (j : Judgement) → j ≡ full → isRefusal (j .answer) ≡ false → Small (j .state)
@@ -184,7 +184,7 @@ module _ (b : List ℕ) (h : Head) (raw : RawStep) (l : deskBytes ≤ length b) 
       (ap (λ (k : Judgement). isRefusal (k .answer)) (sym e) ∙ r))
 
   pub off-stored : (j : Judgement) → j ≡ full → isRefusal (j .answer) ≡ false → (b′ : List ℕ) → Stored b h (j .state) (h .positions) b′
-      → Called (ByStep raw) b (codeOf (givenBy (told (j .answer)) false)) b′
+      → Called (ByStep raw) b (deskCode (givenBy (told (j .answer)) false)) b′
   unfolding loadedIn
   off-stored j e r b′ st =
       step-stored b h raw l is pol enc false same j e r stays b′ (
@@ -330,7 +330,7 @@ module _ (b : List ℕ) (h : Head) (raw : RawStep) (l : deskBytes ≤ length b) 
           (sym (ap₂ looksBy (on-stays step e) outlined ∙ looks-on u lean))
 
   module _ (j : Judgement) (e : j ≡ asked) where
-    pub on-refused : isRefusal (j .answer) ≡ true → Called (ByStep raw) b (codeOf (givenBy (told (j .answer)) lean)) b
+    pub on-refused : isRefusal (j .answer) ≡ true → Called (ByStep raw) b (deskCode (givenBy (told (j .answer)) lean)) b
     on-refused r = step-refused b h raw l is pol enc lean on-same j e r
 
     module _ (r : isRefusal (j .answer) ≡ false) where
@@ -354,7 +354,7 @@ module _ (b : List ℕ) (h : Head) (raw : RawStep) (l : deskBytes ≤ length b) 
           → rowsFit b′ (headWith h (j .state) k) ≡ true
           → some record { nodes = nodesIn b h; summary = summaryIn b; positions = listedIn (tableIn b₁) k }
           ≡ outlineFor (j .answer) (some u) (stepOf raw)
-          → Called (ByStep raw) b (codeOf (givenBy (told (j .answer)) lean)) b′
+          → Called (ByStep raw) b (deskCode (givenBy (told (j .answer)) lean)) b′
       unfolding loadedIn
       left b₁ b′ k st w few fit same =
           step-stored b h raw l is pol enc lean on-same j e r (on-stays (read .0) (read .1)) b′ (
@@ -390,7 +390,7 @@ module _ (b : List ℕ) (h : Head) (raw : RawStep) (l : deskBytes ≤ length b) 
 
       -- "Refused steps and retirings move no position"
       pub on-kept : moves (j .answer) (raw .kind) ≡ false → (b′ : List ℕ) → Stored b h (j .state) (h .positions) b′
-          → Called (ByStep raw) b (codeOf (givenBy (told (j .answer)) lean)) b′
+          → Called (ByStep raw) b (deskCode (givenBy (told (j .answer)) lean)) b′
       on-kept q b′ st =
           left b b′ (h .positions) st untouched (head-parts h ok .positions)
           (rows-left b b′ (h .positions) st untouched (λ z. and-right (nodeTable (nodesIn b h)) (rowsOk (tableIn b) (h .positions)) fits))
@@ -420,7 +420,7 @@ module _ (b : List ℕ) (h : Head) (raw : RawStep) (l : deskBytes ≤ length b) 
       pub on-moved : moves (j .answer) (raw .kind) ≡ true → (b₁ b′ : List ℕ) (k : ℕ) → Within b rowsAt deskBytes b₁
           → ((xs : List Position) → OutlineOk ns → Tabled xs (h .positions) (tableIn b)
           → SettledIn (nextPositions ns (stepFrom (raw .kind) (raw .a) (raw .b)) xs) k b₁) → Stored b₁ h (j .state) k b′
-          → Called (ByStep raw) b (codeOf (givenBy (told (j .answer)) lean)) b′
+          → Called (ByStep raw) b (deskCode (givenBy (told (j .answer)) lean)) b′
       on-moved q b₁ b′ k w settles st =
           left b₁ b′ k st w (settled .few) (rows-left b₁ b′ k st w (settled .rows))
           (ap (λ (p : Option (List Position)). some record { nodes = nodesIn b h; summary = summaryIn b; positions = p }) (settled .lists)

@@ -17,7 +17,7 @@ ghost use Rattle.desk.specs.Desk.{isBusy, withPolicies, withOutline};
 ghost use Rattle.desk.specs.Layout.{deskBytes, summaryAt, rowsAt, wideAt, headIn, Put, Within};
 ghost use Rattle.desk.specs.JudgeBytes.{judgeIn};
 ghost use Rattle.desk.specs.State.{edgesIn, nodesIn, tableIn, loadedIn, deskBy, deskIn, headOk, encodedBy, isSound, deskOf, Encodes};
-ghost use Rattle.desk.specs.Calls.{codeOf, plain, Called, ByPolicies, ByOutline};
+ghost use Rattle.desk.specs.Calls.{deskCode, plain, Called, ByPolicies, ByOutline};
 ghost use Rattle.desk.specs.Code.{mostLine, SettledIn, withNodes, KeptOutline};
 use crate::Head;
 use checker::Outcome;
@@ -96,7 +96,7 @@ pub(crate) fn is_busy(h: Head) -> bool
 // The number for a sheet's refusal, with its line.
 fn refused_at(line: usize, number: u8) -> u32
     requires { ⌜ line ≤ mostLine ⌝ }
-    ensures { λ r. ⌜ r ≡ codeOf (record { verdict = refused number; lean = false; line = line }) ⌝ }
+    ensures { λ r. ⌜ r ≡ deskCode (record { verdict = refused number; lean = false; line = line }) ⌝ }
 {
     number as u32 + 512 + 131072 * line as u32
 }
@@ -161,7 +161,7 @@ pub(crate) fn load_policies(b: &mut [u8], text: &[u8]) -> u32
 
 // The check's verdict as a number.
 fn outcome_code(o: Outcome) -> u32
-    ensures { λ r. ⌜ r ≡ codeOf (plain (outcomeVerdict o)) ⌝ }
+    ensures { λ r. ⌜ r ≡ deskCode (plain (outcomeVerdict o)) ⌝ }
 {
     match o {
         Outcome::Accepted => 0,

@@ -12,7 +12,7 @@ ghost use Rattle.desk_positions.specs.Positions.{Position, strideAll, isAny, ne
 ghost use Rattle.desk_positions.specs.Growth.{Tabled, stepFrom};
 ghost use Rattle.desk.specs.Layout.{deskBytes, rowsAt, Within, headIn};
 ghost use Rattle.desk.specs.State.{nodesIn, tableIn, headOk, isListed, encodedBy};
-ghost use Rattle.desk.specs.Calls.{codeOf, givenBy, Called, ByStep};
+ghost use Rattle.desk.specs.Calls.{deskCode, givenBy, Called, ByStep};
 ghost use Rattle.desk.specs.Promise.{isRefusal};
 ghost use Rattle.desk.specs.Code.{told, moves, SettledIn};
 use crate::Head;
@@ -48,7 +48,7 @@ fn lean_bit(lean: bool) -> u32
 
 // The answer to a step as one number.
 fn reply_code(a: Answer, lean: bool) -> u32
-    ensures { λ r. ⌜ r ≡ codeOf (givenBy (told a) lean) ⌝ }
+    ensures { λ r. ⌜ r ≡ deskCode (givenBy (told a) lean) ⌝ }
 {
     match a {
         Answer::Allowed => lean_bit(lean),

@@ -9,7 +9,7 @@ use lib.ListN.{length}
 use Rattle.usage.specs.Past.{Step, event, opening, closing, retiring}
 use Rattle.desk_positions.specs.Closure.{inLimits}
 use Rattle.desk_positions.specs.Positions.{mostPositions, mostParts, Meanings, at, Position, short}
-use Rattle.desk_positions.specs.Rows.{rowPlaces, rowOf, rowsIn, AllCoded}
+use Rattle.desk_positions.specs.Rows.{tableBytes, rowOf, rowsIn, AllCoded}
 
 -- a position that has a row
 abbrev pub Fine : Position → Type 0
@@ -39,16 +39,16 @@ Settles none m t = m ≡ suc mostPositions
 Settles (some l) m t = Tabled l m t
 
 -- What holds of every table and number of rows that are told, whatever was lent: the table keeps its size, and the number is at most 65.
-abbrev pub InTable : ℕ → List ℕ → Type 0
-InTable m t = (length t ≡ rowPlaces) × (m ≤ suc mostPositions)
+abbrev pub RowsCounted : ℕ → List ℕ → Type 0
+RowsCounted m t = (length t ≡ tableBytes) × (m ≤ suc mostPositions)
 
 -- what is lent is no table, or has not so many rows
 abbrev pub NoTable : ℕ → List ℕ → Type 0
-NoTable n t = (length t ≡ rowPlaces → ⊥) ⊎ (mostPositions < n)
+NoTable n t = (length t ≡ tableBytes → ⊥) ⊎ (mostPositions < n)
 
 -- 65 is told then, and nothing is written
-abbrev pub Untouched : ℕ → List ℕ → List ℕ → Type 0
-Untouched m t₀ t = (m ≡ suc mostPositions) × (t ≡ t₀)
+abbrev pub NothingWritten : ℕ → List ℕ → List ℕ → Type 0
+NothingWritten m t₀ t = (m ≡ suc mostPositions) × (t ≡ t₀)
 
 -- the step of a kind and two numbers: 0 an event, 1 an opening, 2 a closing, else a retiring
 abbrev pub stepFrom : ℕ → ℕ → ℕ → Step

@@ -8,7 +8,7 @@ use Rattle.desk_positions.proofs.leads.Statement.{statement}
 use Rattle.desk_positions.proofs.leads.Tie as tie
 use Rattle.desk_positions.proofs.leads.Reads as reads
 use Rattle.desk_positions.proofs.leads.Lts as lts
-use Rattle.desk_positions.proofs.leads_from.Reads as leads-from-reads
+use Rattle.desk_positions.proofs.strides.leads_from.Reads as leads-from-reads
 
 -- src/lib.rt:617:9
 returns : tie.Need-returns

@@ -11,7 +11,7 @@ use Rattle.desk_positions.proofs.rows_ok.Statement.{statement}
 use Rattle.desk_positions.proofs.rows_ok.Tie as tie
 use Rattle.desk_positions.proofs.rows_ok.Reads as reads
 use Rattle.desk_positions.proofs.rows_ok.Lts as lts
-use Rattle.desk_positions.proofs.row_ok.Reads as row-ok-reads
+use Rattle.desk_positions.proofs.reading.row_ok.Reads as row-ok-reads
 
 abbrev Inv-loop : tie.InvT-loop
 Inv-loop t n i₀ i = (i ≤ mostPositions) × (rowsOk t n ≡ rowsOk t i)
