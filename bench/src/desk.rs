@@ -9,6 +9,9 @@ use wiforekun::{check_code, desk_outline_code, desk_policies_code, desk_step_cod
 /// What is added to an answer of the lean judge.
 const LEAN: u32 = 65_536;
 
+/// A step of a kind that there is none of, refused with 21.
+const NO_STEP: u32 = 2 * 256 + 21;
+
 /// A sheet of rows, each of so many bytes.
 fn sheet(names: &str, rows: &[u8], width: usize, numbered: bool) -> Vec<u8> {
     let mut text = format!("{names}\n");
@@ -70,36 +73,40 @@ struct Case {
     nodes: Vec<u8>,
     before: Vec<Step>,
     steps: Vec<Step>,
-    lean: bool,
+    due: u32,
 }
 
 fn cases() -> Vec<Case> {
     let mut cases = Vec::new();
     for count in [0, 64, 256] {
         let edges = inputs::quiet_edges(&mut Rng::new(1), count, 8);
-        let case = |name: &str, nodes: Vec<u8>, before: Vec<Step>, steps: Vec<Step>, lean: bool| {
-            Case { name: format!("desk, {name}: {count} edges"), edges: edges.clone(), nodes, before, steps, lean }
+        let case = |name: &str, nodes: Vec<u8>, before: Vec<Step>, steps: Vec<Step>, due: u32| {
+            Case { name: format!("desk, {name}: {count} edges"), edges: edges.clone(), nodes, before, steps, due }
         };
         let turns = |events: u32| (0..500).map(|i| [0, 1 + i % events, 3]).collect::<Vec<Step>>();
         let line: Vec<Step> = (0..15).map(|i| [0, 1 + i % 7, 3]).collect();
-        cases.push(case("1 position", straight(15), line[..1].to_vec(), line[1..].to_vec(), true));
-        cases.push(case("20 positions", looped(9), vec![], turns(9), true));
-        cases.push(case("64 positions", looped(31), vec![], turns(31), true));
-        cases.push(case("strayed", looped(31), vec![[0, 1, 4]], turns(31), false));
-        cases.push(case("no outline", vec![], vec![], turns(31), false));
+        cases.push(case("1 position", straight(15), line[..1].to_vec(), line[1..].to_vec(), LEAN));
+        cases.push(case("20 positions", looped(9), vec![], turns(9), LEAN));
+        cases.push(case("64 positions", looped(31), vec![], turns(31), LEAN));
+        cases.push(case("strayed", looped(31), vec![[0, 1, 4]], turns(31), 0));
+        cases.push(case("no outline", vec![], vec![], turns(31), 0));
+        // a kind that there is none of is refused when all is tested and nothing else is done
+        let none = vec![[9, 0, 0]; 500];
+        cases.push(case("1 position, tests alone", straight(15), line[..1].to_vec(), none.clone(), NO_STEP));
+        cases.push(case("20 positions, tests alone", looped(9), vec![], none.clone(), NO_STEP));
+        cases.push(case("64 positions, tests alone", looped(31), vec![], none, NO_STEP));
     }
     cases
 }
 
 /// A step at the desk, and the judge's own.
 pub fn rows(chosen: impl Fn(&str) -> bool) {
-    for Case { name, edges, nodes, before, steps, lean } in cases().into_iter().filter(|case| chosen(&case.name)) {
+    for Case { name, edges, nodes, before, steps, due } in cases().into_iter().filter(|case| chosen(&case.name)) {
         let mut desk = loaded(&edges, &nodes);
         let mut state = State::start();
         for step in &before {
             assert_eq!(desk_step_code(&mut desk, *step) % LEAN, state.judge_code(&edges, 0, *step));
         }
-        let due = if lean { LEAN } else { 0 };
         let mut other = 0;
         measured(&mut || {
             for step in &steps {
@@ -108,10 +115,10 @@ pub fn rows(chosen: impl Fn(&str) -> bool) {
         });
         measured(&mut || {
             for step in &steps {
-                other |= black_box(state.judge_code(black_box(&edges), 0, *step));
+                other |= black_box(state.judge_code(black_box(&edges), 0, *step)) ^ (due % LEAN);
             }
         });
-        assert_eq!(other, 0, "every step of {name} is allowed, by the judge that is due");
+        assert_eq!(other, 0, "every step of {name} is answered as is due, by the judge that is due");
         println!("{}\t2\t{name}", steps.len());
     }
 }

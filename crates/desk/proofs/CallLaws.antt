@@ -23,7 +23,7 @@ use Rattle.monitor_state.specs.declared.Judgement.{Judgement}
 use Rattle.monitor_state.specs.Judge.{verdictOf, stateOk, refuse}
 use Rattle.monitor_lean.specs.Lean.{judgeBy}
 use Rattle.desk_positions.specs.Positions.{Position, mostPositions}
-use Rattle.desk_positions.specs.Rows.{rowPlaces}
+use Rattle.desk_positions.specs.Rows.{tableBytes}
 use Rattle.desk_positions.specs.Reading.{rowsOk}
 use Rattle.desk.specs.declared.Head.{Head}
 use Rattle.desk.specs.Layout.{deskBytes, edgesAt, nodesAt, summaryAt, createdAt, rowsAt, byteAt, wordAt, wideAt, headIn}
@@ -32,23 +32,23 @@ use Rattle.desk.specs.State.{localIn, edgesIn, nodesIn, summaryIn, table
 use Rattle.desk.specs.State.{isListed, rowsFit, encodedBy, isEncoded, isSound, deskOf, Encodes, looksOf, exceeded}
 use Rattle.desk.specs.Desk.{Outlined, Loaded, Desk, staysOn, looksBy, outlineFor, Reply, replyWith, stepLoaded, stepDesk}
 use Rattle.desk.specs.Promise.{isRefusal}
-use Rattle.desk.specs.Calls.{Given, codeOf, isRefused, plain, givenBy, givenStep, Leaves, Called, too-short, no-desk, called, ByStep}
+use Rattle.desk.specs.Calls.{Given, deskCode, isRefused, plain, givenBy, givenStep, LeavesBytes, Called, too-short, no-desk, called, ByStep}
 use Rattle.desk.specs.Calls.{replied}
 use Rattle.desk.specs.Code.{told}
-use Rattle.desk.proofs.CopyLaws.{bytes-local, words-local, wides-local, numbers-kept}
+use Rattle.desk_positions.proofs.CopyLaws.{bytes-local, words-local, wides-local, numbers-kept}
 use Rattle.desk.proofs.JudgedLaws.{judge-41, judge-42, taken-ok, not-41}
 
 -- ── An answer as one number ──
 
-pub plain-bit : (lean : Bool) → cond lean 65536 0 ≡ codeOf (givenBy allowed lean)
+pub plain-bit : (lean : Bool) → cond lean 65536 0 ≡ deskCode (givenBy allowed lean)
 plain-bit true = refl
 plain-bit false = refl
 
-pub violated-bit : (p : ℕ) (lean : Bool) → p + 256 + cond lean 65536 0 ≡ codeOf (givenBy (violated p) lean)
+pub violated-bit : (p : ℕ) (lean : Bool) → p + 256 + cond lean 65536 0 ≡ deskCode (givenBy (violated p) lean)
 violated-bit p true = omega arith
 violated-bit p false = omega arith
 
-pub refused-bit : (n : ℕ) (lean : Bool) → n + 512 ≡ codeOf (givenBy (refused n) lean)
+pub refused-bit : (n : ℕ) (lean : Bool) → n + 512 ≡ deskCode (givenBy (refused n) lean)
 refused-bit n lean = omega arith
 
 -- ── Which desk ──
@@ -106,21 +106,21 @@ module _ (b : List ℕ) (h : Head) (raw : RawStep) (l : deskBytes ≤ length b) 
 
   -- the answer of the desk, from what it is
   called-step : isSound (some d) ≡ true → (g : Given) (d′ : Desk) (b′ : List ℕ) → givenStep (stepDesk (some d) raw) ≡ g
-      → stepDesk (some d) raw .desk ≡ d′ → Leaves (isRefused (g .verdict)) b d′ b′ → Called (ByStep raw) b (codeOf g) b′
+      → stepDesk (some d) raw .desk ≡ d′ → LeavesBytes (isRefused (g .verdict)) b d′ b′ → Called (ByStep raw) b (deskCode g) b′
   called-step ok g d′ b′ e f leaves =
-      subst (λ (g : Given). Leaves (isRefused (g .verdict)) b d′ b′ → Called (ByStep raw) b (codeOf g) b′) e
-      (subst (λ (d′ : Desk). Leaves (isRefused (givenStep (stepDesk (some d) raw) .verdict)) b d′ b′
-      → Called (ByStep raw) b (codeOf (givenStep (stepDesk (some d) raw))) b′) f
+      subst (λ (g : Given). LeavesBytes (isRefused (g .verdict)) b d′ b′ → Called (ByStep raw) b (deskCode g) b′) e
+      (subst (λ (d′ : Desk). LeavesBytes (isRefused (givenStep (stepDesk (some d) raw) .verdict)) b d′ b′
+      → Called (ByStep raw) b (deskCode (givenStep (stepDesk (some d) raw))) b′) f
       (λ leaves. called l (sound-desk b h is pol enc ok) replied leaves))
       leaves
 
   pub step-refused : (lean : Bool) → Same lean → (j : Judgement) → j ≡ asked lean → isRefusal (j .answer) ≡ true
-      → Called (ByStep raw) b (codeOf (givenBy (told (j .answer)) lean)) b
+      → Called (ByStep raw) b (deskCode (givenBy (told (j .answer)) lean)) b
   unfolding loadedIn isSound refuse
   step-refused lean same j e r = go (j .answer) refl r (edgeTable (edgesIn b h)) refl (stateOk (judgeIn b h)) refl
     where
       Goal : Answer → Type 0
-      Goal a = Called (ByStep raw) b (codeOf (givenBy (told a) lean)) b
+      Goal a = Called (ByStep raw) b (deskCode (givenBy (told a) lean)) b
 
       bad : edgeTable (edgesIn b h) ≡ true → stateOk (judgeIn b h) ≡ false → isSound (some d) ≡ false
       bad p s = ap₂ (λ x y. x && y) p s
@@ -139,7 +139,7 @@ module _ (b : List ℕ) (h : Head) (raw : RawStep) (l : deskBytes ≤ length b) 
           let f : asked lean .answer ≡ Refused n = ap (λ (k : Judgement). k .answer) (sym e) ∙ q in
           let apart : n ≡ 41 → ⊥ = not-41 (looksOf lean (summaryIn b)) (edgesIn b h) (localIn h) (judgeIn b h) raw p s n f in
           let shown : told (j .answer) ≡ refused n = ap told q ∙ ap (λ x. refused (cond x 42 n)) (ne-eqb n 41 apart) in
-          subst (λ (v : Verdict). Called (ByStep raw) b (codeOf (givenBy v lean)) b) (sym shown)
+          subst (λ (v : Verdict). Called (ByStep raw) b (deskCode (givenBy v lean)) b) (sym shown)
           (called-step (ap₂ (λ x y. x && y) p s) (plain (refused n)) _ b
           (ap givenStep (reply-is lean same) ∙ ap (λ (a : Answer). givenBy (verdictOf a) (staysOn (d .outline) (stepOf raw))) f) refl refl)
 
@@ -153,8 +153,8 @@ module _ (b : List ℕ) (h : Head) (raw : RawStep) (l : deskBytes ≤ length b) 
   }
 
   pub step-stored : (lean : Bool) → Same lean → (j : Judgement) → j ≡ asked lean → isRefusal (j .answer) ≡ false
-      → staysOn (d .outline) (stepOf raw) ≡ lean → (b′ : List ℕ) → Leaves false b (deskAfter j) b′
-      → Called (ByStep raw) b (codeOf (givenBy (told (j .answer)) lean)) b′
+      → staysOn (d .outline) (stepOf raw) ≡ lean → (b′ : List ℕ) → LeavesBytes false b (deskAfter j) b′
+      → Called (ByStep raw) b (deskCode (givenBy (told (j .answer)) lean)) b′
   unfolding loadedIn isSound
   step-stored lean same j e r stays b′ leaves = go (j .answer) refl r
     where
@@ -171,11 +171,11 @@ module _ (b : List ℕ) (h : Head) (raw : RawStep) (l : deskBytes ≤ length b) 
       after : stepDesk (some d) raw .desk ≡ deskAfter j
       after = ap (λ r. r .desk) (reply-is lean same) ∙ ap deskAfter (sym e)
 
-      go : (a : Answer) → j .answer ≡ a → isRefusal a ≡ false → Called (ByStep raw) b (codeOf (givenBy (told (j .answer)) lean)) b′
+      go : (a : Answer) → j .answer ≡ a → isRefusal a ≡ false → Called (ByStep raw) b (deskCode (givenBy (told (j .answer)) lean)) b′
       go Allowed q r =
-          subst (λ (a : Answer). Called (ByStep raw) b (codeOf (givenBy (told a) lean)) b′) (sym q)
+          subst (λ (a : Answer). Called (ByStep raw) b (deskCode (givenBy (told a) lean)) b′) (sym q)
           (called-step (ap₂ (λ x y. x && y) (ok .0) (ok .1)) (givenBy (verdictOf Allowed) lean) (deskAfter j) b′ (given Allowed q) after leaves)
       go (Violated n) q r =
-          subst (λ (a : Answer). Called (ByStep raw) b (codeOf (givenBy (told a) lean)) b′) (sym q)
+          subst (λ (a : Answer). Called (ByStep raw) b (deskCode (givenBy (told a) lean)) b′) (sym q)
           (called-step (ap₂ (λ x y. x && y) (ok .0) (ok .1)) (givenBy (verdictOf (Violated n)) lean) (deskAfter j) b′ (given (Violated n) q) after leaves)
       go (Refused n) q r = false-true (sym r)

@@ -46,7 +46,8 @@ use Rattle.monitor_lean.proofs.LeanLaws.{Clean, Covered, lean-step, clean-next,
 use Rattle.desk_positions.specs.Closure.{addedAll, spread}
 use Rattle.desk_positions.specs.Positions.{Held, Exceeds, Position, Fresh, strideAll, settledFrom, startPositions, nextPositions, Lists, Told}
 use Rattle.desk_positions.proofs.PositionLaws.{told-start, told-next, trace-strides, strides-trace, lists-trace, lists-stray, lists-within}
-use Rattle.desk.specs.Desk.{Outlined, Loaded, Desk, isAny, onPositions, staysOn, looksBy, positionsAfter, outlineAfter, outlineFor}
+use Rattle.desk_positions.specs.Positions.{isAny}
+use Rattle.desk.specs.Desk.{Outlined, Loaded, Desk, onPositions, staysOn, looksBy, positionsAfter, outlineAfter, outlineFor}
 use Rattle.desk.specs.Desk.{Reply, replyWith, stepLoaded, stepDesk, repliesOf, Reached, zero, by-policies, by-outline, by-step}
 use Rattle.desk.specs.Desk.{LoadAnswer, has-policies, has-outline, LoadsPolicies, LoadsOutline, withPolicies, withOutline}
 use Rattle.desk.specs.Promise.{Exceeded, NeverExceeded, Lean, isRefusal, TellsWhich, Replies, done, next, outlineIn, FreshDesk}

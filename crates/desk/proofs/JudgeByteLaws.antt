@@ -15,7 +15,8 @@ use Rattle.desk.specs.declared.Head.{Head}
 use Rattle.desk.specs.Layout.{edgesAt, createdAt, possibleAt, unclosedAt, orderAt, setsAt, rowsAt, byteAt, wordAt, numbersIn, bytesIn}
 use Rattle.desk.specs.Layout.{wordsIn, headIn, Got, Put, Within}
 use Rattle.desk.specs.JudgeBytes.{judgeIn, headWith, Arrays, Stored}
-use Rattle.desk.proofs.CopyLaws.{bytes-local, words-local, got-all, put-all, numbers-kept, head-kept}
+use Rattle.desk_positions.proofs.CopyLaws.{bytes-local, words-local, got-all, put-all, numbers-kept}
+use Rattle.desk.proofs.HeadLaws.{head-kept}
 
 -- ── Out of the bytes ──
 

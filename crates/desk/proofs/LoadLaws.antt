@@ -30,9 +30,9 @@ use Rattle.desk.specs.JudgeBytes.{judgeIn, headWith, Small, Stored}
 use Rattle.desk.specs.State.{localIn, edgesIn, nodesIn, tableIn, outlinedIn, loadedIn, deskBy, deskIn, headOk, isListed, rowsFit}
 use Rattle.desk.specs.State.{encodedBy, isEncoded, isSound, deskOf, Encodes, exceeded}
 use Rattle.desk.specs.Desk.{Desk, isBusy, withPolicies, LoadsPolicies, byNumber, is-refused, has-policies}
-use Rattle.desk.specs.Calls.{codeOf, plain, givenLoad, Called, no-desk, called, ByPolicies, loaded}
+use Rattle.desk.specs.Calls.{deskCode, plain, givenLoad, Called, no-desk, called, ByPolicies, loaded}
 use Rattle.desk.specs.Code.{mostLine}
-use Rattle.desk.proofs.CopyLaws.{bytes-local, numbers-kept}
+use Rattle.desk_positions.proofs.CopyLaws.{bytes-local, numbers-kept}
 use Rattle.desk.proofs.CallLaws.{desk-is}
 use Rattle.desk.proofs.StepLaws.{HeadParts, parts-head, left-encodes}
 
@@ -193,12 +193,12 @@ pub policies-line : (text : List ℕ) (line number : ℕ) → policiesRead text 
 policies-line text line number e = let p = sheet-low (policySheet (isLocal text)) text record { line = line; number = number } e .line in omega arith
 
 module _ (text b : List ℕ) (l : deskBytes ≤ length b) (is : deskOf b ≡ some (deskIn b)) where
-  pub policies-busy : isBusy (deskIn b) ≡ true → Called (ByPolicies text) b (codeOf (plain (refused 52))) b
+  pub policies-busy : isBusy (deskIn b) ≡ true → Called (ByPolicies text) b (deskCode (plain (refused 52))) b
   policies-busy e = called l is (loaded (LoadsPolicies.busy e)) refl
 
   module _ (free : isBusy (deskIn b) ≡ false) where
     pub policies-no-sheet : (line number : ℕ) → policiesRead text ≡ sheet-refused record { line = line; number = number }
-        → Called (ByPolicies text) b (codeOf (record { verdict = refused number; lean = false; line = line })) b
+        → Called (ByPolicies text) b (deskCode (record { verdict = refused number; lean = false; line = line })) b
     policies-no-sheet line number e =
         called l is (loaded (LoadsPolicies.no-sheet {r = record { line = line; number = number }} free (policies-into text _ e))) refl
 

@@ -3,13 +3,13 @@ use Prim.Native.Nat.{ℕ, zero, suc, _+_, _-_, _*_, _<_, _≤_}
 use mathlib.Core.Path.{_≡_, refl, sym, ap, ap₂, _∙_, subst}
 use mathlib.Core.Bool.{Bool, true, false, not, _&&_, cond}
 use mathlib.Core.Option.{Option, none, some}
-use mathlib.Core.List.{List, [], _∷_}
+use mathlib.Core.List.{List, [], _∷_, _++_}
 use mathlib.Core.Logic.{_⊎_, inl, inr}
 use native.Mathlib.Omega.{arith}
 use native.Mathlib.Nat.{zero-add}
 use native.Mathlib.Decide.{ℕ-discrete}
 use lib.Dec.{eqb, leb, ltb}
-use lib.ListN.{length, getD, getElem?}
+use lib.ListN.{length, getElem?, take, drop}
 use borrow.Author.Tests.{eq-eqb, ne-eqb, eqb-true, eqb-false, leb-true, leb-false, le-leb, lt-leb, lt-ltb, ltb-true, ltb-false}
 use Rattle.usage.specs.declared.Node.{Node}
 use Rattle.usage.specs.declared.RawStep.{RawStep}
@@ -19,23 +19,23 @@ use Rattle.usage.specs.Judge.{stepOf, guard, inRange, stepKinds}
 use Rattle.usage.specs.Limits.{within, Kind, _until_, unused, actions, resources}
 use Rattle.usage.specs.Tables.{from, nodesOf}
 use Rattle.usage.proofs.Logic.{and-left, and-right, and-both, false-true, none-some}
-use Rattle.usage.proofs.TableLaws.{length-from, getD-from, from-ext}
+use Rattle.usage.proofs.TableLaws.{length-from}
 use Rattle.monitor_state.specs.declared.Answer.{Answer}
 use Rattle.monitor_state.specs.declared.Answer.the-variants.{Allowed, Violated, Refused}
 use Rattle.monitor_lean.specs.Lean.{atAll, marked}
-use Rattle.desk_positions.specs.Closure.{addedAll, spread}
-use Rattle.desk_positions.specs.Positions.{Position, mostPositions, strideAll, settledFrom, nextPositions, samePosition, silentNext, short}
-use Rattle.desk_positions.specs.Rows.{rowWidth, rowPlaces, rowIn}
-use Rattle.desk_positions.specs.Growth.{Tabled, Grown, Settles, stepFrom}
+use Rattle.desk_positions.specs.Positions.{Position, mostPositions, strideAll}
+use Rattle.desk_positions.specs.Rows.{tableBytes}
+use Rattle.desk_positions.specs.Growth.{Settles, stepFrom}
 use Rattle.desk_positions.specs.Reading.{rowsOk, positionsIn}
-use Rattle.desk_positions.proofs.NextLaws.{no-row-none, none-no-row, next-settles, next-beyond, grown-tabled}
-use Rattle.desk_positions.proofs.ReadingLaws.{rows-alike, tabled-passes, tabled-reads, reads-tabled}
+use Rattle.desk_positions.proofs.ReadingLaws.{tabled-passes, tabled-reads}
 use Rattle.desk.specs.declared.Head.{Head}
-use Rattle.desk.specs.Layout.{deskBytes, edgesAt, nodesAt, summaryAt, createdAt, rowsAt, byteAt, wordAt, wideAt, numbersIn, Got, Put, Within}
+use Rattle.desk.specs.Layout.{deskBytes, rowsAt, byteAt, numbersIn, Put, Within}
 use Rattle.desk.specs.State.{nodesIn, summaryIn, tableIn, listedIn, outlinedIn, headOk, isListed, exceeded, looksOf}
-use Rattle.desk.specs.Desk.{Outlined, isAny, onPositions, staysOn, looksBy, positionsAfter, outlineAfter, outlineFor}
+use Rattle.desk_positions.specs.Positions.{isAny}
+use Rattle.desk.specs.Desk.{Outlined, onPositions, staysOn, looksBy, positionsAfter, outlineAfter, outlineFor}
 use Rattle.desk.specs.Code.{SettledIn}
-use Rattle.desk.proofs.CopyLaws.{bytes-local, words-local, wides-local, numbers-kept}
+use Rattle.desk_positions.proofs.CopyLaws.{slice-is, part-put, put-all}
+use Rattle.desk.proofs.HeadLaws.{put-within}
 use Rattle.desk.proofs.DeskLaws.{stray-next}
 
 -- ── Off the outline ──
@@ -152,67 +152,45 @@ looks-on u false = refl
 
 -- ── Rows ──
 
-table-long : (b : List ℕ) → length (tableIn b) ≡ rowPlaces
+-- the part of the bytes that is lent as the table
+pub table-lent : (b : List ℕ) → deskBytes ≤ length b → take (deskBytes - rowsAt) (drop rowsAt b) ≡ tableIn b
+unfolding tableIn
+table-lent b h = slice-is b rowsAt tableBytes deskBytes refl h
+
+pub table-long : (b : List ℕ) → length (tableIn b) ≡ tableBytes
 unfolding tableIn numbersIn
-table-long b = length-from (λ i. wordAt b (rowsAt + 4 * i)) 0 rowPlaces
+table-long b = length-from (λ i. byteAt b (rowsAt + 1 * i)) 0 tableBytes
 
-table-at : (b : List ℕ) (x : ℕ) → x < rowPlaces → getD (tableIn b) x 0 ≡ wordAt b (rowsAt + 4 * x)
-unfolding tableIn numbersIn
-table-at b x h = getD-from (λ i. wordAt b (rowsAt + 4 * i)) 0 rowPlaces x 0 h ∙ ap (λ (i : ℕ). wordAt b (rowsAt + 4 * i)) (zero-add x)
+-- and the bytes when it comes back
+module _ (b t : List ℕ) (h : deskBytes ≤ length b) (l : length t ≡ tableBytes) where
+  abbrev back : List ℕ
+  back = take rowsAt b ++ (t ++ drop (deskBytes - rowsAt) (drop rowsAt b))
 
--- rows that agree number by number
-rows-same : (t u : List ℕ) (n : ℕ) → ((x : ℕ) → x < rowWidth * n → getD t x 0 ≡ getD u x 0) → (i : ℕ) → i < n → rowIn t i ≡ rowIn u i
-unfolding rowIn
-rows-same t u n same i h =
-    from-ext (λ j. getD t (rowWidth * i + j) 0) (λ j. getD u (rowWidth * i + j) 0) 0 rowWidth (λ j l. same (rowWidth * i + (0 + j)) (omega arith))
+  put-back : Put byteAt 1 b rowsAt tableBytes t back
+  put-back = part-put b t rowsAt tableBytes deskBytes refl h l
 
-pub rows-got : (b zeros old : List ℕ) (n : ℕ) → n ≤ mostPositions → length zeros ≡ rowPlaces → Got wordAt 4 b rowsAt (rowWidth * n) zeros old
-    → (rowsOk old n ≡ rowsOk (tableIn b) n) × (positionsIn old n ≡ positionsIn (tableIn b) n)
-rows-got b zeros old n h l g =
-    rows-alike old (tableIn b) n (rows-same old (tableIn b) n (λ x k. g .inside x k ∙ sym (table-at b x (omega arith))))
+  pub table-back : tableIn back ≡ t
+  unfolding tableIn
+  table-back = put-all byteAt 1 b rowsAt tableBytes t back put-back l
 
-pub rows-tabled : (b zeros old : List ℕ) (n : ℕ) → n ≤ mostPositions → length zeros ≡ rowPlaces → Got wordAt 4 b rowsAt (rowWidth * n) zeros old
-    → rowsOk old n ≡ true → Tabled (positionsIn (tableIn b) n) n old
-rows-tabled b zeros old n h l g e =
-    subst (λ (ls : List Position). Tabled ls n old) (rows-got b zeros old n h l g .1) (reads-tabled old n h (g .long ∙ l) e)
+  pub within-back : Within b rowsAt deskBytes back
+  within-back = put-within deskBytes put-back refl
 
--- written rows are read back
 pub listed-few : (t : List ℕ) (k : ℕ) → k ≤ mostPositions → listedIn t k ≡ some (positionsIn t k)
 unfolding listedIn
 listed-few t k h = rw (ne-eqb k exceeded (λ e. omega arith))
 
-pub rows-settled : (b b′ t : List ℕ) (o : Option (List Position)) (k : ℕ) → k ≤ mostPositions → Put wordAt 4 b rowsAt (rowWidth * k) t b′
-    → Settles o k t → SettledIn o k b′
-rows-settled b b′ t none k h p (e, l) = absurd (omega arith)
-rows-settled b b′ t (some ls) k h p w =
-    let same = rows-alike (tableIn b′) t k (rows-same (tableIn b′) t k (λ x l. table-at b′ x (omega arith) ∙ p .inside x l)) in
-    record {
-      few = omega arith;
-      lists = listed-few (tableIn b′) k h ∙ ap some (same .1 ∙ tabled-reads w);
-      rows = λ q. same .0 ∙ tabled-passes w;
-    }
-
-pub rows-exceeded : (b t : List ℕ) (o : Option (List Position)) (k : ℕ) → mostPositions < k → Settles o k t → SettledIn o k b
-rows-exceeded b t none k h (e, l) = record {
-  few = omega arith;
-  lists = ap (listedIn (tableIn b)) e ∙ over (tableIn b);
+-- what is told of a table is read from the bytes
+pub rows-settled : (b t : List ℕ) (o : Option (List Position)) (k : ℕ) → tableIn b ≡ t → k ≤ suc mostPositions → Settles o k t → SettledIn o k b
+rows-settled b t none k e h s = record {
+  few = h;
+  lists = ap (listedIn (tableIn b)) s ∙ over (tableIn b);
   rows = λ q. absurd (omega arith);
 }
-rows-exceeded b t (some ls) k h w = absurd (let x = w .few in let y = w .number in omega arith)
-
-pub put-within-rows : (b t b′ : List ℕ) (k : ℕ) → k ≤ mostPositions → Put wordAt 4 b rowsAt (rowWidth * k) t b′ → Within b rowsAt deskBytes b′
-put-within-rows b t b′ k h p = record { long = p .long; outside = λ m o. p .outside m (side m o) }
-  where
-    side : (m : ℕ) → (m < rowsAt) ⊎ (deskBytes ≤ m) → (m < rowsAt) ⊎ (rowsAt + 4 * (rowWidth * k) ≤ m)
-    side m (inl x) = inl x
-    side m (inr x) = inr (omega arith)
-
--- the test of rows, of few rows
-pub few-false : (t : List ℕ) (n : ℕ) → n ≤ mostPositions → (leb n mostPositions && rowsOk t n) ≡ false → rowsOk t n ≡ false
-few-false t n h e = ap (λ x. x && rowsOk t n) (sym (le-leb n mostPositions h)) ∙ e
-
-pub few-true : (t : List ℕ) (n : ℕ) → n ≤ mostPositions → (leb n mostPositions && rowsOk t n) ≡ true → rowsOk t n ≡ true
-few-true t n h e = ap (λ x. x && rowsOk t n) (sym (le-leb n mostPositions h)) ∙ e
-
-pub few-is : (t : List ℕ) (n : ℕ) → n ≤ mostPositions → (leb n mostPositions && rowsOk t n) ≡ rowsOk t n
-few-is t n h = ap (λ x. x && rowsOk t n) (le-leb n mostPositions h)
+rows-settled b t (some ls) k e h w =
+    let q : k ≤ mostPositions = let x = w .few in let y = w .number in omega arith in
+    record {
+      few = h;
+      lists = listed-few (tableIn b) k q ∙ ap some (ap (λ (x : List ℕ). positionsIn x k) e ∙ tabled-reads w);
+      rows = λ z. ap (λ (x : List ℕ). rowsOk x k) e ∙ tabled-passes w;
+    }

@@ -36,9 +36,9 @@ use Rattle.desk.specs.JudgeBytes.{headWith, Stored}
 use Rattle.desk.specs.State.{localIn, edgesIn, nodesIn, summaryIn, tableIn, listedIn, outlinedIn, loadedIn, headOk, isListed, rowsFit, Encodes}
 use Rattle.desk.specs.State.{exceeded, deskOf}
 use Rattle.desk.specs.Desk.{Outlined, Desk, isBusy, withOutline, LoadsOutline}
-use Rattle.desk.specs.Calls.{codeOf, plain, isRefused, Leaves, Called, called, ByOutline, loaded}
+use Rattle.desk.specs.Calls.{deskCode, plain, isRefused, LeavesBytes, Called, called, ByOutline, loaded}
 use Rattle.desk.specs.Code.{mostLine, SettledIn, withNodes, KeptOutline}
-use Rattle.desk.proofs.CopyLaws.{bytes-local, wides-local, numbers-kept, put-all}
+use Rattle.desk_positions.proofs.CopyLaws.{bytes-local, wides-local, numbers-kept, put-all}
 use Rattle.desk.proofs.StepLaws.{HeadParts, head-parts, parts-head, listed-parts, positions-is, nodes-same, table-same, outlined-is, left-encodes}
 
 -- ── What is left ──
@@ -156,10 +156,10 @@ module _ (b b₁ b₂ b₃ b′ nodes marks : List ℕ) (h : Head) (k : ℕ) (ok
 
 -- ── An answer as one number ──
 
-pub named-code : (p : ℕ) → p + 256 ≡ codeOf (plain (violated p))
+pub named-code : (p : ℕ) → p + 256 ≡ deskCode (plain (violated p))
 named-code p = omega arith
 
-pub number-code : (n : ℕ) → n + 512 ≡ codeOf (plain (refused n))
+pub number-code : (n : ℕ) → n + 512 ≡ deskCode (plain (refused n))
 number-code n = omega arith
 
 -- ── The check and the summary ──
@@ -198,7 +198,7 @@ plain-verdict (refused n) c = absurd (none-refused c)
 
 pub kept-outline : (b : List ℕ) (h : Head) (nodes : List ℕ) (r : ℕ) (b′ : List ℕ) (v : Verdict) (m : Summary) (edges : List ℕ) → edges ≡ edgesIn b h
     → edgeTable (edgesIn b h) ≡ true → nodeTable nodes ≡ true → CheckPromise (localIn h) edges nodes v → (t : List ℕ) (z : ℕ) → length t ≡ policies
-    → Summarized (localIn h) edges nodes t z m → r ≡ codeOf (plain v) → Encodes b′ (withOutline (loadedIn b h) nodes m) → Within b 0 deskBytes b′
+    → Summarized (localIn h) edges nodes t z m → r ≡ deskCode (plain v) → Encodes b′ (withOutline (loadedIn b h) nodes m) → Within b 0 deskBytes b′
     → KeptOutline b h nodes r b′
 kept-outline b h nodes r b′ v m edges is e n check t z l sum code enc w =
     let c = right-checked (localIn h) (edgesIn b h) nodes e n v (subst (λ (x : List ℕ). CheckPromise (localIn h) x nodes v) is check) in
@@ -241,12 +241,12 @@ pub outline-line : (text : List ℕ) (line number : ℕ) → ruledResult (sheet 
 outline-line text line number e = let p = outline-low text record { line = line; number = number } e .line in omega arith
 
 module _ (text b : List ℕ) (h : Head) (l : deskBytes ≤ length b) (is : deskOf b ≡ some (some (loadedIn b h))) where
-  pub outline-busy : isBusy (some (loadedIn b h)) ≡ true → Called (ByOutline text) b (codeOf (plain (refused 52))) b
+  pub outline-busy : isBusy (some (loadedIn b h)) ≡ true → Called (ByOutline text) b (deskCode (plain (refused 52))) b
   outline-busy e = called l is (loaded (LoadsOutline.busy e)) refl
 
   module _ (free : isBusy (some (loadedIn b h)) ≡ false) where
     pub outline-no-sheet : (line number : ℕ) → ruledResult (sheet outlineSheet text) ≡ sheet-refused record { line = line; number = number }
-        → Called (ByOutline text) b (codeOf (record { verdict = refused number; lean = false; line = line })) b
+        → Called (ByOutline text) b (deskCode (record { verdict = refused number; lean = false; line = line })) b
     outline-no-sheet line number e =
         called l is (loaded (LoadsOutline.no-sheet {r = record { line = line; number = number }} free (outline-into text _ e))) refl
 
@@ -259,7 +259,7 @@ module _ (text b : List ℕ) (h : Head) (l : deskBytes ≤ length b) (is : deskO
         (loaded (LoadsOutline.loads {d = loadedIn b h} {rows = rows} {v = k .verdict} {m = k .summary} free (outline-into text _ e)
         (subst (λ (t : List ℕ). Checked (localIn h) (edgesOf (edgesIn b h)) (nodesOf t) (k .verdict)) f (k .checked))
         (subst (λ (t : List ℕ). Exact (localIn h) (edgesOf (edgesIn b h)) (nodesOf t) (k .summary)) f (k .exact))))
-        (subst (λ (x : Bool). Leaves x b (withOutline (loadedIn b h) (flatten rows) (k .summary)) b′) (sym (k .plainly)) (
+        (subst (λ (x : Bool). LeavesBytes x b (withOutline (loadedIn b h) (flatten rows) (k .summary)) b′) (sym (k .plainly)) (
           k .within .long,
           subst (λ (t : List ℕ). Encodes b′ (withOutline (loadedIn b h) t (k .summary))) f (k .encodes),
           λ m x. k .within .outside m (inr x),

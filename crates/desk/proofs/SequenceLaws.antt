@@ -18,7 +18,7 @@ use Rattle.desk.specs.Desk as desk
 use Rattle.desk.specs.Promise.{Fresh, FreshDesk}
 use Rattle.desk.specs.Layout.{deskBytes, wordAt, headIn}
 use Rattle.desk.specs.State.{deskIn, isEncoded, isSound, deskOf, Encodes}
-use Rattle.desk.specs.Calls.{Given, codeOf, plain, givenStep, givenLoad, isRefused, Leaves, Called, too-short, no-desk, called, ByPolicies, ByOutline}
+use Rattle.desk.specs.Calls.{Given, deskCode, plain, givenStep, givenLoad, isRefused, LeavesBytes, Called, too-short, no-desk, called, ByPolicies, ByOutline}
 use Rattle.desk.specs.Calls.{ByStep, replied}
 use Rattle.desk.specs.Sequences.{refusals, Written, zeros, by-policies, by-outline, by-step, Stepped, done, next, Served, CallsPromise}
 use Rattle.desk.proofs.DeskLaws.{DeskFit, reached-fit, refused-keeps, desk-promise}
@@ -63,7 +63,7 @@ pub record Holding (b : List ℕ) : Type 0 where
 pub same-desk : (b : List ℕ) {d e : Desk} → deskOf b ≡ some d → deskOf b ≡ some e → d ≡ e
 same-desk b p q = Option·some-injective _ _ (sym p ∙ q)
 
-left : (b b′ : List ℕ) (x : Bool) (d d′ : Desk) → deskBytes ≤ length b → deskOf b ≡ some d → Reached d → Reached d′ → Leaves x b d′ b′ → Holding b′
+left : (b b′ : List ℕ) (x : Bool) (d d′ : Desk) → deskBytes ≤ length b → deskOf b ≡ some d → Reached d → Reached d′ → LeavesBytes x b d′ b′ → Holding b′
 left b b′ true d d′ l e r r′ q = subst Holding (sym q) (record { desk = d; is = e; reached = r; long = l })
 left b b′ false d d′ l e r r′ q = record {
   desk = d′;
@@ -109,11 +109,11 @@ step-kept none raw r e = refl
 step-kept (some d) raw r e = let (past, h, F) = reached-fit r in refused-keeps d past h F raw e
 
 abbrev numbersOf : Desk → List RawStep → List ℕ
-numbersOf d raws = map (λ (r : Reply). codeOf (givenStep r)) (repliesOf d raws)
+numbersOf d raws = map (λ (r : Reply). deskCode (givenStep r)) (repliesOf d raws)
 
 -- what one step leaves, with the desk that the definition says
 step-holds : (raw : RawStep) (b b′ : List ℕ) (d : Desk) → deskBytes ≤ length b → deskOf b ≡ some d → Reached d → (x : Bool)
-    → isRefused (verdictOf (stepDesk d raw .answer)) ≡ x → Leaves x b (stepDesk d raw .desk) b′
+    → isRefused (verdictOf (stepDesk d raw .answer)) ≡ x → LeavesBytes x b (stepDesk d raw .desk) b′
     → (h : Holding b′) × (h .desk ≡ stepDesk d raw .desk)
 step-holds raw b b′ d l e r true q v =
     (record { desk = d; is = ap deskOf v ∙ e; reached = r; long = subst (λ (c : List ℕ). deskBytes ≤ length c) (sym v) l }, sym (step-kept d raw r q))
@@ -129,13 +129,13 @@ step-holds raw b b′ d l e r false q v = (
 
 -- the number of one call, and the bytes after it
 one-step : (raw : RawStep) (b b′ : List ℕ) (r : ℕ) (h : Holding b) → Called (ByStep raw) b r b′
-    → (r ≡ codeOf (givenStep (stepDesk (h .desk) raw))) × (h′ : Holding b′) × (h′ .desk ≡ stepDesk (h .desk) raw .desk)
+    → (r ≡ deskCode (givenStep (stepDesk (h .desk) raw))) × (h′ : Holding b′) × (h′ .desk ≡ stepDesk (h .desk) raw .desk)
 one-step raw b b′ r h (too-short l) = absurd (let x = h .long in omega arith)
 one-step raw b b′ r h (no-desk l e) = none-some (sym e ∙ h .is)
 one-step raw b b′ r h (called {d = d₀} l f replied leaves) =
     let q : d₀ ≡ h .desk = same-desk b f (h .is) in
     let (h′, e) = step-holds raw b b′ d₀ l f (subst Reached (sym q) (h .reached)) (isRefused (verdictOf (stepDesk d₀ raw .answer))) refl leaves in
-    (ap (λ (d : Desk). codeOf (givenStep (stepDesk d raw))) q, h′, e ∙ ap (λ (d : Desk). stepDesk d raw .desk) q)
+    (ap (λ (d : Desk). deskCode (givenStep (stepDesk d raw))) q, h′, e ∙ ap (λ (d : Desk). stepDesk d raw .desk) q)
 
 stepped-numbers : {b : List ℕ} {raws : List RawStep} {rs : List ℕ} → Stepped b raws rs → (h : Holding b) → rs ≡ numbersOf (h .desk) raws
 unfolding repliesOf
@@ -158,7 +158,7 @@ serve b h f = go (h .desk) refl f
       numbers = λ raws rs s. stepped-numbers s h ∙ ap (λ (d : Desk). numbersOf d raws) e;
     }
 
-abbrev after-load : (b b′ : List ℕ) (d : Desk) → deskBytes ≤ length b → Reached d → Leaves false b d b′ → Holding b′
+abbrev after-load : (b b′ : List ℕ) (d : Desk) → deskBytes ≤ length b → Reached d → LeavesBytes false b d b′ → Holding b′
 after-load b b′ d l r v = record {
   desk = d;
   is = encodes-desk b′ d (v .1) r;
@@ -185,7 +185,7 @@ outline-served text b b′ r h (called {d = d₀} l f (ByOutline.loaded (LoadsOu
 outline-served text b b′ r h (called {d = d₀} l f (ByOutline.loaded (LoadsOutline.loads {d} {rows} {v} {m} e g c x)) leaves) q =
     let reached = subst Reached (same-desk b (h .is) f) (h .reached) in
     let does : LoadsOutline text (some d) (has-outline v) (withOutline d (flatten rows) m) = LoadsOutline.loads {rows = rows} {v = v} {m = m} e g c x in
-    serve b′ (after-load b b′ _ l (desk.by-outline reached does) (subst (λ (z : Bool). Leaves z b (withOutline d (flatten rows) m) b′) (plain-verdict v c) leaves))
+    serve b′ (after-load b b′ _ l (desk.by-outline reached does) (subst (λ (z : Bool). LeavesBytes z b (withOutline d (flatten rows) m) b′) (plain-verdict v c) leaves))
     (desk-promise .outline (some d) _ text v reached does)
 
 -- ── The promise ──

@@ -7,17 +7,19 @@ use mathlib.Core.List.{List}
 use native.Mathlib.Omega.{arith}
 use lib.Dec.{eqb, leb, ltb}
 use lib.ListN.{length, getD, take, drop}
+use lib.Seq.{length-take-le, getD-take}
 use Rattle.usage.specs.declared.RawStep.{RawStep}
-use Rattle.usage.specs.Limits.{policies, mostEdges, mostNodes, edgeFields, nodeFields}
+use Rattle.usage.specs.Limits.{policies, mostEdges, mostNodes, edgeFields, nodeFields, nodePlaces}
+use Rattle.usage.proofs.TableLaws.{is-from}
 use Rattle.monitor_state.specs.declared.State.{State}
 use Rattle.monitor_state.specs.Judge.{judgeOf}
 use Rattle.monitor_state.proofs.LookedLaws.{full-looks-at-all}
 use Rattle.monitor_lean.specs.Lean.{leanOf, judgeBy, marked}
 use Rattle.desk.specs.declared.Head.{Head}
-use Rattle.desk.specs.Layout.{deskBytes, edgesAt, nodesAt, summaryAt, numbersIn, wideAt, headIn}
+use Rattle.desk.specs.Layout.{deskBytes, edgesAt, nodesAt, summaryAt, numbersIn, byteAt, wideAt, headIn, Got}
 use Rattle.desk.specs.JudgeBytes.{judgeIn}
 use Rattle.desk.specs.State.{edgesIn, nodesIn, localIn, summaryIn, looksOf}
-use Rattle.desk.proofs.CopyLaws.{slice-is}
+use Rattle.desk_positions.proofs.CopyLaws.{slice-is}
 
 -- ── The tables that are lent ──
 
@@ -30,6 +32,15 @@ pub nodes-lent : (b : List ℕ) (h : Head) → deskBytes ≤ length b → h .nod
     → take (nodesAt + nodeFields * h .nodes - nodesAt) (drop nodesAt b) ≡ nodesIn b h
 unfolding nodesIn
 nodes-lent b h l k = slice-is b nodesAt (nodeFields * h .nodes) (nodesAt + nodeFields * h .nodes) refl (omega arith)
+
+-- the nodes copied to a table of their own
+pub nodes-got : (b : List ℕ) (h : Head) (zeros t : List ℕ) (m : ℕ) → length zeros ≡ nodePlaces → h .nodes ≤ mostNodes
+    → Got byteAt 1 b nodesAt (nodeFields * h .nodes) zeros t → m ≡ nodeFields * h .nodes → take m (drop 0 t) ≡ nodesIn b h
+unfolding nodesIn numbersIn
+nodes-got b h zeros t m l k g e =
+    is-from (λ i. byteAt b (nodesAt + 1 * i)) 0 (nodeFields * h .nodes) (take m (drop 0 t))
+    (length-take-le m (drop 0 t) (let z = g .long in omega arith) ∙ e)
+    (λ i x. getD-take m (drop 0 t) i 0 (omega arith) ∙ g .inside i x)
 
 -- ── The judge that is asked ──
 

@@ -17,14 +17,13 @@ use Rattle.usage.specs.Judge.{stepOf}
 use Rattle.usage.specs.Valid.{OutlineOk}
 use Rattle.usage.specs.Tables.{nodesOf, nodeTable}
 use Rattle.usage.proofs.TableLaws.{decides-node-table}
-use Rattle.desk_positions.specs.Closure.{addedAll, spread}
-use Rattle.desk_positions.specs.Positions.{Position, samePosition, strideAll, silentNext, short, settledFrom, nextPositions}
-use Rattle.desk_positions.specs.Growth.{Tabled, Grown, stepFrom}
+use Rattle.desk_positions.specs.Positions.{Position, strideAll, nextPositions}
+use Rattle.desk_positions.specs.Growth.{Tabled, stepFrom}
 use Rattle.desk_positions.specs.Reading.{rowsOk, positionsIn}
-use Rattle.desk_positions.proofs.NextLaws.{no-row-none, none-no-row, next-beyond, grown-tabled}
-use Rattle.desk.specs.Desk.{isAny, onPositions, outlineAfter}
-use Rattle.desk.proofs.CopyLaws.{pos}
-use Rattle.desk.proofs.OutlineLaws.{step-from, kind-low, looks-on, listed-few, rows-exceeded}
+use Rattle.desk_positions.proofs.ReadingLaws.{reads-tabled}
+use Rattle.desk.specs.Desk.{onPositions, outlineAfter}
+use Rattle.desk_positions.specs.Positions.{isAny}
+use Rattle.desk.proofs.OutlineLaws.{step-from, kind-low, looks-on, listed-few}
 use Rattle.usage.proofs.Logic.{and-left, and-right, and-both, false-true, none-some}
 use Rattle.monitor_state.specs.declared.State.{State}
 use Rattle.monitor_state.specs.declared.Answer.{Answer}
@@ -33,7 +32,7 @@ use Rattle.monitor_state.specs.declared.Judgement.{Judgement}
 use Rattle.monitor_state.proofs.LookedLaws.{looks-alike}
 use Rattle.monitor_lean.specs.Lean.{Looks, judgeBy}
 use Rattle.desk_positions.specs.Positions.{mostPositions}
-use Rattle.desk_positions.specs.Rows.{rowPlaces}
+use Rattle.desk_positions.specs.Rows.{tableBytes}
 use Rattle.desk.specs.declared.Head.{Head}
 use Rattle.desk.specs.Layout.{deskBytes, edgesAt, nodesAt, summaryAt, createdAt, rowsAt, byteAt, wordAt, wideAt, headIn, Within}
 use Rattle.desk.specs.JudgeBytes.{judgeIn, headWith, Small, Stored}
@@ -41,9 +40,9 @@ use Rattle.desk.specs.State.{localIn, edgesIn, nodesIn, summaryIn, table
 use Rattle.desk.specs.State.{isListed, rowsFit, encodedBy, isEncoded, Encodes, looksOf, exceeded}
 use Rattle.desk.specs.Desk.{Outlined, Loaded, staysOn, looksBy, outlineFor}
 use Rattle.desk.specs.Promise.{isRefusal}
-use Rattle.desk.specs.Calls.{codeOf, givenBy, Leaves, Called, ByStep}
+use Rattle.desk.specs.Calls.{deskCode, givenBy, LeavesBytes, Called, ByStep}
 use Rattle.desk.specs.Code.{told, moves, SettledIn}
-use Rattle.desk.proofs.CopyLaws.{bytes-local, words-local, wides-local, numbers-kept}
+use Rattle.desk_positions.proofs.CopyLaws.{bytes-local, words-local, wides-local, numbers-kept}
 use Rattle.desk.proofs.CallLaws.{encoded-is, desk-is, step-refused, step-stored}
 use Rattle.desk.proofs.JudgedLaws.{taken-small, none-refused}
 use Rattle.desk.proofs.OutlineLaws.{off-stays, off-for, looks-off, off-head}
@@ -114,7 +113,7 @@ module _ (b b₁ b′ : List ℕ) (h : Head) (s : State) (k : ℕ) (ok : headOk 
 
   pub table-same : tableIn b′ ≡ tableIn b₁
   unfolding tableIn
-  table-same = numbers-kept wordAt 4 words-local b₁ b′ rowsAt rowPlaces (λ m x y. st .behind m x)
+  table-same = numbers-kept byteAt 1 bytes-local b₁ b′ rowsAt tableBytes (λ m x y. st .behind m x)
 
   pub outlined-is : outlinedIn b′ g
       ≡ cond (eqb (h .nodes) 0) none (some record { nodes = nodesIn b h; summary = summaryIn b; positions = listedIn (tableIn b₁) k })
@@ -175,7 +174,7 @@ module _ (b : List ℕ) (h : Head) (raw : RawStep) (l : deskBytes ≤ length b) 
       ap (λ (looks : Looks). judgeBy looks (edgesIn b h) (localIn h) (judgeIn b h) raw)
       (sym (looks-off (outlinedIn b h) (staysOn (outlinedIn b h) (stepOf raw)) stays))
 
-  pub off-refused : (j : Judgement) → j ≡ full → isRefusal (j .answer) ≡ true → Called (ByStep raw) b (codeOf (givenBy (told (j .answer)) false)) b
+  pub off-refused : (j : Judgement) → j ≡ full → isRefusal (j .answer) ≡ true → Called (ByStep raw) b (deskCode (givenBy (told (j .answer)) false)) b
   off-refused j e r = step-refused b h raw l is pol enc false same j e r
 
   pub off-small : (j : Judgement) → j ≡ full → isRefusal (j .answer) ≡ false → Small (j .state)
@@ -185,7 +184,7 @@ module _ (b : List ℕ) (h : Head) (raw : RawStep) (l : deskBytes ≤ length b) 
       (ap (λ (k : Judgement). isRefusal (k .answer)) (sym e) ∙ r))
 
   pub off-stored : (j : Judgement) → j ≡ full → isRefusal (j .answer) ≡ false → (b′ : List ℕ) → Stored b h (j .state) (h .positions) b′
-      → Called (ByStep raw) b (codeOf (givenBy (told (j .answer)) false)) b′
+      → Called (ByStep raw) b (deskCode (givenBy (told (j .answer)) false)) b′
   unfolding loadedIn
   off-stored j e r b′ st =
       step-stored b h raw l is pol enc false same j e r stays b′ (
@@ -209,12 +208,6 @@ module _ (b : List ℕ) (h : Head) (raw : RawStep) (l : deskBytes ≤ length b) 
 pub positions-is : (h : Head) (s : State) (k : ℕ) → headWith h s k .positions ≡ k
 unfolding headWith
 positions-is h s k = refl
-
-next-settled : (ns : List Node) (step : Step) (ls : List Position) (k : ℕ) (b : List ℕ)
-    → SettledIn (spread samePosition (silentNext ns) mostPositions short (suc mostPositions) 0 (addedAll samePosition [] (strideAll ns step ls))) k b
-    → SettledIn (nextPositions ns step ls) k b
-unfolding settledFrom
-next-settled ns step ls k b s = s
 
 -- ── The tests of 42 ──
 
@@ -254,11 +247,9 @@ listed-parts h e =
     }
 
 module _ (b : List ℕ) (h : Head) (raw : RawStep) (l : deskBytes ≤ length b) (is : headIn b ≡ h) (pol : h .policies ≡ 0 → ⊥)
-    (enc : encodedBy b h ≡ true) (on : isListed h ≡ true) (old new : List ℕ)
-    (tabled : Tabled (positionsIn (tableIn b) (h .positions)) (h .positions) old) (m : ℕ)
-    (retires : raw .kind ≡ 3 → m ≡ h .positions)
-    (strides : (raw .kind ≡ 3 → ⊥) → (ls : List Position) → OutlineOk (nodesOf (nodesIn b h)) → Tabled ls (h .positions) old
-    → Grown (addedAll samePosition [] (strideAll (nodesOf (nodesIn b h)) (stepFrom (raw .kind) (raw .a) (raw .b)) ls)) m new) where
+    (enc : encodedBy b h ≡ true) (on : isListed h ≡ true) (lean : Bool) (retires : raw .kind ≡ 3 → lean ≡ true)
+    (strides : (raw .kind ≡ 3 → ⊥) → (ls : List Position) → OutlineOk (nodesOf (nodesIn b h)) → Tabled ls (h .positions) (tableIn b)
+    → lean ≡ isAny (strideAll (nodesOf (nodesIn b h)) (stepFrom (raw .kind) (raw .a) (raw .b)) ls)) where
   abbrev ns : List Node
   ns = nodesOf (nodesIn b h)
 
@@ -289,19 +280,12 @@ module _ (b : List ℕ) (h : Head) (raw : RawStep) (l : deskBytes ≤ length b) 
       let y = p .few in
       rw (ne-eqb (h .nodes) 0 (λ e. omega arith), ne-eqb (h .positions) exceeded (λ e. omega arith))
 
-  abbrev lean : Bool
-  lean = ltb 0 m
+  tabled : Tabled ls (h .positions) (tableIn b)
+  tabled =
+      reads-tabled (tableIn b) (h .positions) (listed-parts h on .few) (and-right (nodeTable (nodesIn b h)) (rowsOk (tableIn b) (h .positions)) fits)
 
-  -- the routine is on the outline exactly where a row was written
-  any-is : (kind : (raw .kind ≡ 3 → ⊥)) → isAny (strideAll ns (stepFrom (raw .kind) (raw .a) (raw .b)) ls) ≡ lean
-  any-is kind = go (strideAll ns (stepFrom (raw .kind) (raw .a) (raw .b)) ls) refl
-    where
-      g : Grown (addedAll samePosition [] (strideAll ns (stepFrom (raw .kind) (raw .a) (raw .b)) ls)) m new
-      g = strides kind ls valid tabled
-
-      go : (x : List Position) → strideAll ns (stepFrom (raw .kind) (raw .a) (raw .b)) ls ≡ x → isAny x ≡ ltb 0 m
-      go [] e = rw (none-no-row (strideAll ns (stepFrom (raw .kind) (raw .a) (raw .b)) ls) g e)
-      go (y ∷ x) e = sym (lt-ltb 0 m (pos m (λ z. false-true (ap isAny (sym (no-row-none (strideAll ns (stepFrom (raw .kind) (raw .a) (raw .b)) ls) g z) ∙ e)))))
+  any-is : (raw .kind ≡ 3 → ⊥) → isAny (strideAll ns (stepFrom (raw .kind) (raw .a) (raw .b)) ls) ≡ lean
+  any-is kind = sym (strides kind ls valid tabled)
 
   any-listed : raw .kind ≡ 3 → isAny ls ≡ lean
   any-listed k = go ls refl
@@ -309,9 +293,9 @@ module _ (b : List ℕ) (h : Head) (raw : RawStep) (l : deskBytes ≤ length b) 
       long : (x : List Position) → ls ≡ x → length x ≡ h .positions
       long x e = ap length (sym e) ∙ sym (tabled .number)
 
-      go : (x : List Position) → ls ≡ x → isAny x ≡ ltb 0 m
+      go : (x : List Position) → ls ≡ x → isAny x ≡ lean
       go [] e = absurd (let p = listed-parts h on .positions in omega (arith, long [] e))
-      go (y ∷ x) e = sym (lt-ltb 0 m (let p = listed-parts h on .positions in omega (arith, retires k)))
+      go (y ∷ x) e = sym (retires k)
 
   -- which judge the definition asks, where the numbers are a step
   pub on-stays : (step : Step) → stepOf raw ≡ some step → staysOn (outlinedIn b h) (stepOf raw) ≡ lean
@@ -346,7 +330,7 @@ module _ (b : List ℕ) (h : Head) (raw : RawStep) (l : deskBytes ≤ length b) 
           (sym (ap₂ looksBy (on-stays step e) outlined ∙ looks-on u lean))
 
   module _ (j : Judgement) (e : j ≡ asked) where
-    pub on-refused : isRefusal (j .answer) ≡ true → Called (ByStep raw) b (codeOf (givenBy (told (j .answer)) lean)) b
+    pub on-refused : isRefusal (j .answer) ≡ true → Called (ByStep raw) b (deskCode (givenBy (told (j .answer)) lean)) b
     on-refused r = step-refused b h raw l is pol enc lean on-same j e r
 
     module _ (r : isRefusal (j .answer) ≡ false) where
@@ -370,7 +354,7 @@ module _ (b : List ℕ) (h : Head) (raw : RawStep) (l : deskBytes ≤ length b) 
           → rowsFit b′ (headWith h (j .state) k) ≡ true
           → some record { nodes = nodesIn b h; summary = summaryIn b; positions = listedIn (tableIn b₁) k }
           ≡ outlineFor (j .answer) (some u) (stepOf raw)
-          → Called (ByStep raw) b (codeOf (givenBy (told (j .answer)) lean)) b′
+          → Called (ByStep raw) b (deskCode (givenBy (told (j .answer)) lean)) b′
       unfolding loadedIn
       left b₁ b′ k st w few fit same =
           step-stored b h raw l is pol enc lean on-same j e r (on-stays (read .0) (read .1)) b′ (
@@ -406,7 +390,7 @@ module _ (b : List ℕ) (h : Head) (raw : RawStep) (l : deskBytes ≤ length b) 
 
       -- "Refused steps and retirings move no position"
       pub on-kept : moves (j .answer) (raw .kind) ≡ false → (b′ : List ℕ) → Stored b h (j .state) (h .positions) b′
-          → Called (ByStep raw) b (codeOf (givenBy (told (j .answer)) lean)) b′
+          → Called (ByStep raw) b (deskCode (givenBy (told (j .answer)) lean)) b′
       on-kept q b′ st =
           left b b′ (h .positions) st untouched (head-parts h ok .positions)
           (rows-left b b′ (h .positions) st untouched (λ z. and-right (nodeTable (nodesIn b h)) (rowsOk (tableIn b) (h .positions)) fits))
@@ -434,11 +418,10 @@ module _ (b : List ℕ) (h : Head) (raw : RawStep) (l : deskBytes ≤ length b) 
 
       -- where it leads
       pub on-moved : moves (j .answer) (raw .kind) ≡ true → (b₁ b′ : List ℕ) (k : ℕ) → Within b rowsAt deskBytes b₁
-          → ((xs : List Position) → OutlineOk ns → Tabled xs m new
-          → SettledIn (spread samePosition (silentNext ns) mostPositions short (suc mostPositions) 0 xs) k b₁)
-          → (mostPositions < m → k ≡ suc mostPositions) → Stored b₁ h (j .state) k b′
-          → Called (ByStep raw) b (codeOf (givenBy (told (j .answer)) lean)) b′
-      on-moved q b₁ b′ k w settles over st =
+          → ((xs : List Position) → OutlineOk ns → Tabled xs (h .positions) (tableIn b)
+          → SettledIn (nextPositions ns (stepFrom (raw .kind) (raw .a) (raw .b)) xs) k b₁) → Stored b₁ h (j .state) k b′
+          → Called (ByStep raw) b (deskCode (givenBy (told (j .answer)) lean)) b′
+      on-moved q b₁ b′ k w settles st =
           left b₁ b′ k st w (settled .few) (rows-left b₁ b′ k st w (settled .rows))
           (ap (λ (p : Option (List Position)). some record { nodes = nodesIn b h; summary = summaryIn b; positions = p }) (settled .lists)
           ∙ led (j .answer) q)
@@ -451,19 +434,8 @@ module _ (b : List ℕ) (h : Head) (raw : RawStep) (l : deskBytes ≤ length b) 
           no-retiring (Violated n) p z = false-true p
           no-retiring (Refused n) p z = false-true p
 
-          grown : Grown (addedAll samePosition [] (strideAll ns step ls)) m new
-          grown = strides (no-retiring (j .answer) q) ls valid tabled
-
           settled : SettledIn (nextPositions ns step ls) k b₁
-          settled = go (leb m mostPositions) refl
-            where
-              go : (x : Bool) → leb m mostPositions ≡ x → SettledIn (nextPositions ns step ls) k b₁
-              go true p =
-                  next-settled ns step ls k b₁ (settles (addedAll samePosition [] (strideAll ns step ls)) valid (grown-tabled ns step grown (leb-true m mostPositions p)))
-              go false p =
-                  let z : mostPositions < m = leb-false m mostPositions p in
-                  subst (λ (n : ℕ). SettledIn (nextPositions ns step ls) n b₁) (sym (over z))
-                  (rows-exceeded b₁ new (nextPositions ns step ls) (suc mostPositions) (omega arith) (next-beyond ns step ls grown z))
+          settled = settles ls valid tabled
 
           plainly : (n : ℕ) → raw .kind ≡ n → (n ≡ 3 → ⊥) → n ≤ 3
               → outlineAfter (some u) (some (stepFrom n (raw .a) (raw .b)))

@@ -20,8 +20,8 @@ pub record Given : Type 0 where
   pub lean : Bool
   pub line : ℕ
 
-abbrev pub codeOf : Given → ℕ
-codeOf g = detail (g .verdict) + 256 * answer (g .verdict) + cond (g .lean) 65536 0 + 131072 * g .line
+abbrev pub deskCode : Given → ℕ
+deskCode g = detail (g .verdict) + 256 * answer (g .verdict) + cond (g .lean) 65536 0 + 131072 * g .line
 
 abbrev pub isRefused : Verdict → Bool
 isRefused allowed = false
@@ -46,16 +46,16 @@ givenLoad (has-outline v) = plain v
 -- ── The bytes after it ──
 
 -- "It stores nothing": a refused call changes no byte. Any other leaves bytes that encode the desk; those behind keep their contents.
-abbrev pub Leaves : Bool → List ℕ → Desk → List ℕ → Type 0
-Leaves true b₀ d b = b ≡ b₀
-Leaves false b₀ d b = (length b ≡ length b₀) × Encodes b d × ((m : ℕ) → deskBytes ≤ m → getD b m 0 ≡ getD b₀ m 0)
+abbrev pub LeavesBytes : Bool → List ℕ → Desk → List ℕ → Type 0
+LeavesBytes true b₀ d b = b ≡ b₀
+LeavesBytes false b₀ d b = (length b ≡ length b₀) × Encodes b d × ((m : ℕ) → deskBytes ≤ m → getD b m 0 ≡ getD b₀ m 0)
 
 -- A call, by what it does with a desk: 40, 42, or the answer of the desk that the bytes encode.
 pub data Called (Does : Desk → Given → Desk → Type 0) (b : List ℕ) : ℕ → List ℕ → Type 0 where
-  too-short : length b < deskBytes → Called Does b (codeOf (plain (refused 40))) b
-  no-desk : deskBytes ≤ length b → deskOf b ≡ none → Called Does b (codeOf (plain (refused 42))) b
+  too-short : length b < deskBytes → Called Does b (deskCode (plain (refused 40))) b
+  no-desk : deskBytes ≤ length b → deskOf b ≡ none → Called Does b (deskCode (plain (refused 42))) b
   called : {d d′ : Desk} {g : Given} {b′ : List ℕ} → deskBytes ≤ length b → deskOf b ≡ some d → Does d g d′
-      → Leaves (isRefused (g .verdict)) b d′ b′ → Called Does b (codeOf g) b′
+      → LeavesBytes (isRefused (g .verdict)) b d′ b′ → Called Does b (deskCode g) b′
 
 -- ── The three calls ──
 

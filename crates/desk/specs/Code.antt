@@ -14,7 +14,7 @@ use Rattle.desk.specs.declared.Head.{Head}
 use Rattle.desk.specs.Layout.{deskBytes, Within}
 use Rattle.desk.specs.Desk.{withOutline}
 use Rattle.desk.specs.State.{localIn, edgesIn, loadedIn, tableIn, listedIn, Encodes}
-use Rattle.desk.specs.Calls.{codeOf, plain, isRefused}
+use Rattle.desk.specs.Calls.{deskCode, plain, isRefused}
 use Rattle.usage.specs.Answers.{Verdict, allowed, violated, refused}
 use Rattle.monitor_state.specs.declared.Answer.{Answer}
 use Rattle.monitor_state.specs.declared.Answer.the-variants.{Allowed, Violated, Refused}
@@ -61,6 +61,6 @@ pub record KeptOutline (b₀ : List ℕ) (h : Head) (nodes : List ℕ) (r : ℕ)
   pub checked : Checked (localIn h) (edgesOf (edgesIn b₀ h)) (nodesOf nodes) verdict
   pub exact : Exact (localIn h) (edgesOf (edgesIn b₀ h)) (nodesOf nodes) summary
   pub plainly : isRefused verdict ≡ false
-  pub code : r ≡ codeOf (plain verdict)
+  pub code : r ≡ deskCode (plain verdict)
   pub encodes : Encodes b (withOutline (loadedIn b₀ h) nodes summary)
   pub within : Within b₀ 0 deskBytes b

@@ -23,7 +23,7 @@ use Rattle.monitor_state.specs.declared.Judgement.{Judgement}
 use Rattle.monitor_state.specs.Judge.{startState}
 use Rattle.monitor_lean.specs.Lean.{Looks, atAll, Summary, marked, judgeBy}
 use Rattle.checker.specs.Summary.{Exact}
-use Rattle.desk_positions.specs.Positions.{Position, strideAll, startPositions, nextPositions}
+use Rattle.desk_positions.specs.Positions.{Position, strideAll, isAny, startPositions, nextPositions}
 
 -- ── What is kept ──
 
@@ -97,10 +97,6 @@ pub data LoadsOutline (text : List ℕ) : Desk → LoadAnswer → Desk → Type 
       → LoadsOutline text (some d) (has-outline v) (withOutline d (flatten rows) m)
 
 -- ── A step ──
-
-abbrev pub isAny : List Position → Bool
-isAny [] = false
-isAny (c ∷ l) = true
 
 -- at a retiring the first, at any other step the second
 abbrev pub atRetiring : {A : Type 0} → Step → A → A → A

@@ -9,7 +9,7 @@ use Rattle.desk.specs.Desk.{Loaded, Desk, Reply, repliesOf}
 use Rattle.desk.specs.Promise.{Fresh}
 use Rattle.desk.specs.Layout.{deskBytes}
 use Rattle.desk.specs.State.{deskOf}
-use Rattle.desk.specs.Calls.{codeOf, givenStep, Called, ByPolicies, ByOutline, ByStep}
+use Rattle.desk.specs.Calls.{deskCode, givenStep, Called, ByPolicies, ByOutline, ByStep}
 
 -- a load's number from here up tells a refusal
 abbrev pub refusals : ℕ
@@ -34,7 +34,7 @@ pub record Served (b : List ℕ) : Type 0 where
   pub is : deskOf b ≡ some (some desk)
   pub fresh : Fresh desk
   pub numbers : (raws : List RawStep) (rs : List ℕ) → Stepped b raws rs
-      → rs ≡ map (λ (r : Reply). codeOf (givenStep r)) (repliesOf (some desk) raws)
+      → rs ≡ map (λ (r : Reply). deskCode (givenStep r)) (repliesOf (some desk) raws)
 
 -- "its answers to any sequence of steps after a load are those of a full judge started there", over the calls themselves: `Fresh` says so
 -- of the replies, and which judge gave each. No call finds bytes that encode no desk.

@@ -10,10 +10,10 @@ use Rattle.usage.specs.Tables.{edgeTable, nodeTable}
 use Rattle.monitor_state.specs.Judge.{stateOk}
 use Rattle.monitor_lean.specs.Lean.{Looks, atAll, Summary, marked}
 use Rattle.desk_positions.specs.Positions.{Position, mostPositions}
-use Rattle.desk_positions.specs.Rows.{rowPlaces}
+use Rattle.desk_positions.specs.Rows.{tableBytes}
 use Rattle.desk_positions.specs.Reading.{rowsOk, positionsIn}
 use Rattle.desk.specs.declared.Head.{Head}
-use Rattle.desk.specs.Layout.{edgesAt, nodesAt, summaryAt, rowsAt, bytesIn, wordsIn, widesIn, headIn}
+use Rattle.desk.specs.Layout.{edgesAt, nodesAt, summaryAt, rowsAt, bytesIn, widesIn, headIn}
 use Rattle.desk.specs.JudgeBytes.{judgeIn}
 use Rattle.desk.specs.Desk.{Outlined, Loaded, Desk}
 
@@ -32,8 +32,9 @@ nodesIn b h = bytesIn nodesAt (nodeFields * h .nodes) b
 unfoldable pub summaryIn : List ℕ → Summary
 summaryIn b = widesIn summaryAt policies b
 
+-- the rows of the positions
 unfoldable pub tableIn : List ℕ → List ℕ
-tableIn b = wordsIn rowsAt rowPlaces b
+tableIn b = bytesIn rowsAt tableBytes b
 
 -- 65 positions tell that a limit was exceeded
 abbrev pub exceeded : ℕ

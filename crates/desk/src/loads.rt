@@ -17,13 +17,10 @@ ghost use Rattle.desk.specs.Desk.{isBusy, withPolicies, withOutline};
 ghost use Rattle.desk.specs.Layout.{deskBytes, summaryAt, rowsAt, wideAt, headIn, Put, Within};
 ghost use Rattle.desk.specs.JudgeBytes.{judgeIn};
 ghost use Rattle.desk.specs.State.{edgesIn, nodesIn, tableIn, loadedIn, deskBy, deskIn, headOk, encodedBy, isSound, deskOf, Encodes};
-ghost use Rattle.desk.specs.Calls.{codeOf, plain, Called, ByPolicies, ByOutline};
+ghost use Rattle.desk.specs.Calls.{deskCode, plain, Called, ByPolicies, ByOutline};
 ghost use Rattle.desk.specs.Code.{mostLine, SettledIn, withNodes, KeptOutline};
 use crate::Head;
 use checker::Outcome;
-use desk_positions::MOST_POSITIONS;
-use desk_positions::ROW;
-use desk_positions::ROWS;
 use sheet_lines::Reading;
 use sheet_reader::PolicyReading;
 use usage::EDGE_FIELDS;
@@ -46,9 +43,7 @@ fn rows_fit(b: &[u8], h: Head) -> bool
         return false;
     }
     let n = h.positions as usize;
-    let mut rows = [0u32; ROWS];
-    crate::bytes::words_in(b, crate::ROWS_AT, ROW * n, &mut rows);
-    desk_positions::rows_ok(&rows, n)
+    desk_positions::rows_ok(&b[crate::ROWS_AT..crate::DESK_BYTES], n)
 }
 
 // Are the edges a policy sheet's, and does the judge take its state?
@@ -101,7 +96,7 @@ pub(crate) fn is_busy(h: Head) -> bool
 // The number for a sheet's refusal, with its line.
 fn refused_at(line: usize, number: u8) -> u32
     requires { ⌜ line ≤ mostLine ⌝ }
-    ensures { λ r. ⌜ r ≡ codeOf (record { verdict = refused number; lean = false; line = line }) ⌝ }
+    ensures { λ r. ⌜ r ≡ deskCode (record { verdict = refused number; lean = false; line = line }) ⌝ }
 {
     number as u32 + 512 + 131072 * line as u32
 }
@@ -166,7 +161,7 @@ pub(crate) fn load_policies(b: &mut [u8], text: &[u8]) -> u32
 
 // The check's verdict as a number.
 fn outcome_code(o: Outcome) -> u32
-    ensures { λ r. ⌜ r ≡ codeOf (plain (outcomeVerdict o)) ⌝ }
+    ensures { λ r. ⌜ r ≡ deskCode (plain (outcomeVerdict o)) ⌝ }
 {
     match o {
         Outcome::Accepted => 0,
@@ -193,12 +188,7 @@ fn start_rows(b: &mut [u8], nodes: &[u8]) -> u32
     ensures { λ k. ⌜ Within (now (b .entry)) rowsAt deskBytes (now (b .exit)) ⌝ }
     ensures { λ k. ⌜ length (now (b .exit)) ≡ length (now (b .entry)) ⌝ }
 {
-    let mut rows = [0u32; ROWS];
-    let k = desk_positions::start(nodes, &mut rows);
-    if MOST_POSITIONS < k {
-        return k as u32;
-    }
-    crate::bytes::words_out(b, crate::ROWS_AT, ROW * k, &rows);
+    let k = desk_positions::start(nodes, &mut b[crate::ROWS_AT..crate::DESK_BYTES]);
     k as u32
 }
 

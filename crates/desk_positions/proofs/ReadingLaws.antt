@@ -16,7 +16,7 @@ use Rattle.usage.specs.Tables.{from}
 use Rattle.usage.proofs.Logic.{and-left, and-right, and-both, none-some, last-or-lower}
 use Rattle.usage.proofs.TableLaws.{length-from, from-ext, member-from, is-from}
 use Rattle.desk_positions.specs.Positions.{mostPositions, mostParts, Item, at, shut, Position, sameMeanings}
-use Rattle.desk_positions.specs.Rows.{rowWidth, rowPlaces, base, codeOf, meantIn, pushed, rowOf, rowIn, rowsIn, Coded, AllCoded}
+use Rattle.desk_positions.specs.Rows.{rowWidth, tableBytes, base, partCode, meantIn, pushed, rowOf, rowIn, rowsIn, Coded, AllCoded}
 use Rattle.desk_positions.specs.Growth.{Fine, Tabled, Settles}
 use Rattle.desk_positions.specs.Reading.{itemIn, partsIn, positionIn, rowOk, rowsOk, positionsIn}
 use Rattle.desk_positions.proofs.RowLaws.{cell, row-depth, row-top, row-under}
@@ -79,7 +79,7 @@ row-reads row e =
 
 -- the five numbers of a part are those of the item
 item-read : (row : List ℕ) (j : ℕ) (i : Item) → Coded i
-    → ((m n : ℕ) → m ≡ base j + n → n < 5 → getD row m 0 ≡ cell (codeOf i) (meantIn i 0) (meantIn i 1) (meantIn i 2) (meantIn i 3) n)
+    → ((m n : ℕ) → m ≡ base j + n → n < 5 → getD row m 0 ≡ cell (partCode i) (meantIn i 0) (meantIn i 1) (meantIn i 2) (meantIn i 3) n)
     → itemIn row j ≡ i
 item-read row j (at k l) (h, four) f =
     let e : getD row (base j) 0 ≡ k = f (base j) 0 (omega arith) (lit< tt) in
@@ -154,15 +154,14 @@ unfolding from
 map-from g f k zero = refl
 map-from {B = B} g f k (suc n) = ap (λ (l : List B). g (f k) ∷ l) (map-from g f (suc k) n)
 
-pub reads-tabled : (t : List ℕ) (n : ℕ) → n ≤ mostPositions → length t ≡ rowPlaces → rowsOk t n ≡ true → Tabled (positionsIn t n) n t
+pub reads-tabled : (t : List ℕ) (n : ℕ) → n ≤ mostPositions → rowsOk t n ≡ true → Tabled (positionsIn t n) n t
 unfolding positionsIn
-reads-tabled t n h long e = record {
+reads-tabled t n h e = record {
   few = rw (length-from (λ i. positionIn (rowIn t i)) 0 n) h;
   fine = λ c m.
       let (i, l, q) = member-from (λ i. positionIn (rowIn t i)) 0 n c m in
       subst Fine (sym (q ∙ ap (λ (j : ℕ). positionIn (rowIn t j)) (zero-add i))) (row-reads (rowIn t i) (row-passed t n i e l) .1);
   number = sym (length-from (λ i. positionIn (rowIn t i)) 0 n);
-  long = long;
   rows = from-ext (rowIn t) (λ i. rowOf (positionIn (rowIn t i))) 0 n (λ i l. sym
       (row-reads (rowIn t (0 + i)) (row-passed t n (0 + i) e (rw (zero-add i) l)) .0))
       ∙ sym (map-from rowOf (λ i. positionIn (rowIn t i)) 0 n);

@@ -171,6 +171,10 @@ unfoldable pub strideAll : List Node → Step → List Position → List Positio
 strideAll ns step [] = []
 strideAll ns step (c ∷ l) = strideNext ns step c ++ strideAll ns step l
 
+abbrev pub isAny : List Position → Bool
+isAny [] = false
+isAny (c ∷ l) = true
+
 -- what no step leads to from these, all listed, unless a limit is exceeded
 unfoldable pub settledFrom : List Node → List Position → Option (List Position)
 settledFrom ns seeds = reached samePosition (silentNext ns) mostPositions short seeds

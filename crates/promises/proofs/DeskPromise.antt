@@ -23,14 +23,14 @@ use Rattle.desk.specs.Desk as desk
 use Rattle.desk.specs.Desk.{Desk, isBusy, Reached, LoadsPolicies, LoadsOutline, has-outline, withOutline}
 use Rattle.desk.specs.Layout.{deskBytes}
 use Rattle.desk.specs.State.{deskOf}
-use Rattle.desk.specs.Calls.{Given, codeOf, plain, isRefused, Called, too-short, no-desk, called, ByPolicies, ByOutline, ByStep, replied}
-use Rattle.desk.specs.Calls.{Leaves as LeavesBytes}
+use Rattle.desk.specs.Calls.{Given, deskCode, plain, isRefused, Called, too-short, no-desk, called, ByPolicies, ByOutline, ByStep, replied}
+use Rattle.desk.specs.Calls.{LeavesBytes}
 use Rattle.desk.proofs.DeskLaws.{reached-fit}
 use Rattle.desk.proofs.SequenceLaws.{Holding, encodes-desk, same-desk, written-holds, calls-promise}
 use Rattle.promises.specs.Demands.{refusedBy, BytesRefuse, RunsFree, RoutineDesk}
 
 -- no other verdict has the number 0
-zero-allowed : (v : Verdict) → codeOf (plain v) ≡ 0 → v ≡ allowed
+zero-allowed : (v : Verdict) → deskCode (plain v) ≡ 0 → v ≡ allowed
 zero-allowed allowed e = refl
 zero-allowed (violated p) e = absurd (omega arith)
 zero-allowed (refused n) e = absurd (omega arith)

@@ -52,7 +52,7 @@ use Rattle.desk.specs.Desk.{Loaded, Desk, isBusy}
 use Rattle.desk.specs.Promise.{outlineIn}
 use Rattle.desk.specs.Layout.{deskBytes}
 use Rattle.desk.specs.State.{deskOf}
-use Rattle.desk.specs.Calls.{Given, codeOf as deskCode, plain, Called, ByPolicies, ByOutline, ByStep}
+use Rattle.desk.specs.Calls.{Given, deskCode, plain, Called, ByPolicies, ByOutline, ByStep}
 use Rattle.desk.specs.Sequences.{Written, CallsPromise}
 use Rattle.report.specs.Output.{sheetRoom}
 use Rattle.report.specs.Trace.{tracePrinted}

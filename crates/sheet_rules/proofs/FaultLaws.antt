@@ -1,6 +1,6 @@
 -- The laws of a whole table of nodes: every node in range, and the refusal by what is found.
 use Prim.Native.Nat.{ℕ, suc, _+_, _-_, _/_, _%_, _<_, _≤_}
-use mathlib.Core.Path.{_≡_, refl, ap, _∙_}
+use mathlib.Core.Path.{_≡_, refl, sym, ap, _∙_}
 use mathlib.Core.Bool.{Bool, true, false, _&&_}
 use mathlib.Core.Option.{Option, none, some}
 use mathlib.Core.List.{List}
@@ -13,6 +13,8 @@ use Rattle.usage.specs.Answers.{Refusal}
 use Rattle.usage.specs.Tests.{every, nodeOk, treeOk, backOk, nameOk, lowestFailing, orElse, numbered, noNodes, ruledBy, isNone, outlineOk}
 use Rattle.usage.specs.Tables.{from, nodesOf, nodeTable}
 use Rattle.usage.proofs.TableLaws.{nodes-length}
+use Rattle.usage.proofs.Logic.{false-true}
+use Rattle.sheet_rules.specs.Code.{isNothing}
 
 -- ── The refusal ──
 
@@ -93,3 +95,18 @@ module _ (t : List ℕ) (test : ℕ → Bool) (h : nodeFields ≤ length t) wher
 
       pub clean : lowestFailing (nameOk (nodesOf t)) 0 (length t / nodeFields) ≡ none → ruledBy test (nodesOf t) ≡ none
       clean g = ruled-nodes t test h ∙ rw (e, f, g) refl
+
+  -- whether a node fails the test for 6
+  pub six-none : isNothing (lowestFailing test 0 (length t / nodeFields)) ≡ true → lowestFailing test 0 (length t / nodeFields) ≡ none
+  six-none e = go (lowestFailing test 0 (length t / nodeFields)) e
+    where
+      go : (o : Option ℕ) → isNothing o ≡ true → o ≡ none
+      go (some k) e = false-true e
+      go none e = refl
+
+  pub six-some : isNothing (lowestFailing test 0 (length t / nodeFields)) ≡ false → isNone (ruledBy test (nodesOf t)) ≡ false
+  six-some e = go (lowestFailing test 0 (length t / nodeFields)) refl e
+    where
+      go : (o : Option ℕ) → lowestFailing test 0 (length t / nodeFields) ≡ o → isNothing o ≡ false → isNone (ruledBy test (nodesOf t)) ≡ false
+      go (some k) q e = ap isNone (at-six k q)
+      go none q e = false-true (sym e)

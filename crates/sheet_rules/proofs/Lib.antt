@@ -5,3 +5,4 @@ pub mod RuleLaws
 -- The laws of a table of nodes, for the proofs of this crate and of those above it.
 pub mod NodeLaws
 pub mod ChildLaws
+pub mod CountLaws

@@ -31,3 +31,8 @@ sought Giver ns x j = givesName ns x j
 abbrev pub found : Found → Option ℕ
 found (At k) = some k
 found Nothing = none
+
+-- no node was found
+abbrev pub isNothing : Option ℕ → Bool
+isNothing (some k) = false
+isNothing none = true

@@ -90,9 +90,19 @@ pub fn node_table_ok(table: &[u8]) -> bool
     if !all_fit(table) {
         return false;
     }
-    let f = ruled(table, b"", Rule::Tree);
-    match f {
-        Fault::Clean => true,
-        Fault::Refused { line: _, number: _ } => false,
+    if table.len() < NODE_FIELDS {
+        return false;
+    }
+    if !crate::tree::trees_ok(table) {
+        return false;
+    }
+    let seven = crate::node_rules::lowest(table, b"", Rule::Back);
+    if let Found::At(_k) = seven {
+        return false;
+    }
+    let eight = crate::node_rules::lowest(table, b"", Rule::Name);
+    match eight {
+        Found::At(_k) => false,
+        Found::Nothing => true,
     }
 }

@@ -1,4 +1,4 @@
-use Rattle.desk.proofs.CopyLaws.{wide-put}
+use Rattle.desk_positions.proofs.CopyLaws.{wide-put}
 use native.Mathlib.Omega.{arith}
 use mathlib.Core.Path.{_≡_, refl, sym, ap, _∙_}
 use Prim.Native.Nat.{ℕ, suc, _+_, _-_, _≤_, _<_}

@@ -2,7 +2,7 @@ use mathlib.Core.Path.{subst}
 use mathlib.Core.List.{List, [], _∷_}
 use Prim.Native.Nat.{_/_, _%_}
 use Rattle.desk.specs.Layout.{wordAt, Put}
-use Rattle.desk.proofs.CopyLaws.{word-put}
+use Rattle.desk_positions.proofs.CopyLaws.{word-put}
 use native.Mathlib.Omega.{arith}
 use mathlib.Core.Path.{_≡_, refl, sym, ap, _∙_}
 use Prim.Native.Nat.{ℕ, suc, _+_, _-_, _≤_, _<_}

@@ -1,6 +1,6 @@
 use borrow.Author.Tests.{lt-ltb}
 use Rattle.desk.specs.State.{isListed}
-use Rattle.desk.proofs.CopyLaws.{pos}
+use Rattle.desk_positions.proofs.CopyLaws.{pos}
 use native.Mathlib.Omega.{arith}
 use mathlib.Core.Path.{_≡_, refl, sym, ap, _∙_}
 use Prim.Native.Nat.{ℕ, suc, _+_, _-_, _≤_, _<_}

@@ -1,6 +1,6 @@
 use Rattle.usage.specs.Limits.{policies}
 use Rattle.desk.specs.Layout.{summaryAt, wideAt}
-use Rattle.desk.proofs.CopyLaws.{got-all}
+use Rattle.desk_positions.proofs.CopyLaws.{got-all}
 use Rattle.desk.proofs.StateLaws.{judged-lean, judged-full}
 use native.Mathlib.Omega.{arith}
 use mathlib.Core.Path.{_≡_, refl, sym, ap, _∙_}

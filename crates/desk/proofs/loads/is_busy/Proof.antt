@@ -1,4 +1,4 @@
-use Rattle.desk.proofs.CopyLaws.{pos}
+use Rattle.desk_positions.proofs.CopyLaws.{pos}
 use Rattle.desk.proofs.LoadLaws.{busy-none, busy-closed, busy-open}
 use native.Mathlib.Omega.{arith}
 use mathlib.Core.Path.{_≡_, refl, sym, ap, _∙_}

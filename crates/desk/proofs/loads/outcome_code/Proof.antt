@@ -1,6 +1,6 @@
 use Rattle.checker.specs.declared.Outcome.{Outcome}
 use Rattle.checker.specs.Promise.{outcomeVerdict}
-use Rattle.desk.specs.Calls.{codeOf, plain}
+use Rattle.desk.specs.Calls.{deskCode, plain}
 use Rattle.desk.proofs.OutlineLoadLaws.{named-code, number-code}
 use native.Mathlib.Omega.{arith}
 use mathlib.Core.Path.{_≡_, refl, sym, ap, _∙_}
@@ -42,15 +42,15 @@ add-result-2 c = search needs
 
 -- src/loads.rt:168:1
 returns : tie.Need-returns
-returns c = sym (ap (λ (o : Outcome). codeOf (plain (outcomeVerdict o))) (c .enum-told .given .1))
+returns c = sym (ap (λ (o : Outcome). deskCode (plain (outcomeVerdict o))) (c .enum-told .given .1))
 
 -- src/loads.rt:168:1
 returns-2 : tie.Need-returns-2
-returns-2 c = named-code (c .before .o .given .0 .0) ∙ sym (ap (λ (o : Outcome). codeOf (plain (outcomeVerdict o))) (c .before .o .given .1))
+returns-2 c = named-code (c .before .o .given .0 .0) ∙ sym (ap (λ (o : Outcome). deskCode (plain (outcomeVerdict o))) (c .before .o .given .1))
 
 -- src/loads.rt:168:1
 returns-3 : tie.Need-returns-3
-returns-3 c = number-code (c .before .o2 .given .0 .0) ∙ sym (ap (λ (o : Outcome). codeOf (plain (outcomeVerdict o))) (c .before .o2 .given .1))
+returns-3 c = number-code (c .before .o2 .given .0 .0) ∙ sym (ap (λ (o : Outcome). deskCode (plain (outcomeVerdict o))) (c .before .o2 .given .1))
 
 pub outcome-code-spec : {M : Type 1} → statement M
 outcome-code-spec =

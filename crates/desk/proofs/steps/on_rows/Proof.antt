@@ -13,119 +13,119 @@ use Rattle.desk.proofs.steps.on_rows.Lts as lts
 use Rattle.desk.proofs.judge.judge_out.Reads as judge-out-reads
 use Rattle.desk.proofs.judge.judged.Reads as judged-reads
 use Rattle.desk.proofs.steps.is_refusal.Reads as is-refusal-reads
+use Rattle.desk.proofs.steps.move_rows.Reads as move-rows-reads
 use Rattle.desk.proofs.steps.moves.Reads as moves-reads
 use Rattle.desk.proofs.steps.reply_code.Reads as reply-code-reads
-use Rattle.desk.proofs.steps.settle_rows.Reads as settle-rows-reads
-use Rattle.desk.proofs.steps.stride_rows.Reads as stride-rows-reads
+use Rattle.desk.proofs.steps.stays.Reads as stays-reads
 
--- src/steps.rt:138:9
-stride-rows-requires : tie.Need-stride-rows-requires
-stride-rows-requires c κs =
-    let a = c .before .before .before .args in
-    let p = c .before .before .before .pre in
+-- src/steps.rt:157:9
+stays-requires : tie.Need-stays-requires
+stays-requires c κs =
+    let a = c .before .before .args in
+    let p = c .before .before .pre in
     (p .0, head-parts (a .h) (encoded-head (a .b .now) (a .h) (p .1 .0) (p .1 .1 .0) (p .1 .1 .1 .0)) .nodes)
 
--- src/steps.rt:140:9
+-- src/steps.rt:158:9
 judged-requires : tie.Need-judged-requires
 judged-requires c κs =
-    let a = c .before .before .before .before .before .args in
-    let p = c .before .before .before .before .before .pre in
+    let a = c .before .before .before .before .args in
+    let p = c .before .before .before .before .pre in
     (p .0, head-parts (a .h) (encoded-head (a .b .now) (a .h) (p .1 .0) (p .1 .1 .0) (p .1 .1 .1 .0)) .edges)
 
--- src/steps.rt:142:8
+-- src/steps.rt:160:8
 is-refusal-requires : tie.Need-is-refusal-requires
 is-refusal-requires c κs = search needs
 
--- src/steps.rt:143:9
+-- src/steps.rt:161:9
 reply-code-requires : tie.Need-reply-code-requires
 reply-code-requires c κs = search needs
 
--- src/steps.rt:143:9
+-- src/steps.rt:161:9
 same-length : tie.Need-same-length
 same-length c = search needs
 
--- src/steps.rt:143:9
+-- src/steps.rt:161:9
 returns : tie.Need-returns
 returns c =
-    let a = c .before .before .before .before .before .before .before .before .before .args in
-    let p = c .before .before .before .before .before .before .before .before .before .pre in
+    let a = c .before .before .before .before .before .before .before .before .args in
+    let p = c .before .before .before .before .before .before .before .before .pre in
     subst (λ (r : ℕ). Called (ByStep (a .step)) (a .b .now) r (a .b .now)) (sym (c .reply-code .ensures))
-    (on-refused (a .b .now) (a .h) (a .step) (p .0) (p .1 .0) (p .1 .1 .0) (p .1 .1 .1 .0) (p .1 .1 .1 .1 .0) (a .old .now) _ (p .1 .1 .1 .1 .1)
-    (c .before .before .before .before .before .stride-rows .result) (c .before .before .before .before .before .stride-rows .ensures .0) (c .before .before .before .before .before .stride-rows .ensures .1) (c .before .before .before .judged .result) (c .before .before .before .judged .ensures)
+    (on-refused (a .b .now) (a .h) (a .step) (p .0) (p .1 .0) (p .1 .1 .0) (p .1 .1 .1 .0) (p .1 .1 .1 .1)
+    (c .before .before .before .before .before .stays .result) (c .before .before .before .before .before .stays .ensures .0) (c .before .before .before .before .before .stays .ensures .1) (c .before .before .before .judged .result) (c .before .before .before .judged .ensures)
     (sym (c .before .before .is-refusal .ensures) ∙ c .before .if1 .taken))
 
--- src/steps.rt:146:8
+-- src/steps.rt:164:8
 moves-requires : tie.Need-moves-requires
 moves-requires c κs = search needs
 
--- src/steps.rt:147:13
-settle-rows-requires : tie.Need-settle-rows-requires
-settle-rows-requires c κs =
-    let a = c .before .before .before .before .before .before .before .before .before .before .before .before .before .args in
-    let p = c .before .before .before .before .before .before .before .before .before .before .before .before .before .pre in
+-- src/steps.rt:165:13
+move-rows-requires : tie.Need-move-rows-requires
+move-rows-requires c κs =
+    let a = c .before .before .before .before .before .before .before .before .before .before .before .args in
+    let p = c .before .before .before .before .before .before .before .before .before .before .before .pre in
     (p .0, head-parts (a .h) (encoded-head (a .b .now) (a .h) (p .1 .0) (p .1 .1 .0) (p .1 .1 .1 .0)) .nodes)
 
--- src/steps.rt:148:9
+-- src/steps.rt:166:9
 judge-out-requires : tie.Need-judge-out-requires
 judge-out-requires c κs =
-    let a = c .before .before .before .before .before .before .before .before .before .before .before .before .before .before .before .before .before .args in
-    let p = c .before .before .before .before .before .before .before .before .before .before .before .before .before .before .before .before .before .pre in
-    let w = c .before .before .before .settle-rows .ensures .1 .1 in (
+    let a = c .before .before .before .before .before .before .before .before .before .before .before .before .before .before .before .args in
+    let p = c .before .before .before .before .before .before .before .before .before .before .before .before .before .before .before .pre in
+    let w = c .before .before .before .move-rows .ensures .1 in (
       rw (w .long) (p .0),
-      on-small (a .b .now) (a .h) (a .step) (p .0) (p .1 .0) (p .1 .1 .0) (p .1 .1 .1 .0) (p .1 .1 .1 .1 .0) (a .old .now) _ (p .1 .1 .1 .1 .1)
-          (c .before .before .before .before .before .before .before .before .before .before .before .before .before .stride-rows .result) (c .before .before .before .before .before .before .before .before .before .before .before .before .before .stride-rows .ensures .0) (c .before .before .before .before .before .before .before .before .before .before .before .before .before .stride-rows .ensures .1) (c .before .before .before .before .before .before .before .before .before .before .before .judged .result) (c .before .before .before .before .before .before .before .before .before .before .before .judged .ensures)
-          (sym (c .before .before .before .before .before .before .before .before .before .before .is-refusal .ensures) ∙ c .before .before .before .before .before .before .before .before .before .if1 .left),
+      on-small (a .b .now) (a .h) (a .step) (p .0) (p .1 .0) (p .1 .1 .0) (p .1 .1 .1 .0) (p .1 .1 .1 .1)
+          (c .before .before .before .before .before .before .before .before .before .before .before .before .stays .result) (c .before .before .before .before .before .before .before .before .before .before .before .before .stays .ensures .0) (c .before .before .before .before .before .before .before .before .before .before .before .before .stays .ensures .1) (c .before .before .before .before .before .before .before .before .before .before .judged .result) (c .before .before .before .before .before .before .before .before .before .before .judged .ensures)
+          (sym (c .before .before .before .before .before .before .before .before .before .is-refusal .ensures) ∙ c .before .before .before .before .before .before .before .before .if1 .left),
     )
 
--- src/steps.rt:149:9
+-- src/steps.rt:167:9
 reply-code-requires-2 : tie.Need-reply-code-requires-2
 reply-code-requires-2 c κs = search needs
 
--- src/steps.rt:149:9
+-- src/steps.rt:167:9
 same-length-2 : tie.Need-same-length-2
 same-length-2 c = search needs
 
--- src/steps.rt:149:9
+-- src/steps.rt:167:9
 returns-2 : tie.Need-returns-2
 returns-2 c =
-    let a = c .before .before .before .before .before .before .before .before .before .before .before .before .before .before .before .before .before .before .before .before .before .args in
-    let p = c .before .before .before .before .before .before .before .before .before .before .before .before .before .before .before .before .before .before .before .before .before .pre in
-    let s = c .before .before .before .before .before .before .before .settle-rows .ensures in
+    let a = c .before .before .before .before .before .before .before .before .before .before .before .before .before .before .before .before .before .before .before .args in
+    let p = c .before .before .before .before .before .before .before .before .before .before .before .before .before .before .before .before .before .before .before .pre in
+    let s = c .before .before .before .before .before .before .before .move-rows .ensures in
     let b = c .before .before .before .judge-out .last .0 in
     subst (λ (r : ℕ). Called (ByStep (a .step)) (a .b .now) r b) (sym (c .reply-code2 .ensures))
-    (on-moved (a .b .now) (a .h) (a .step) (p .0) (p .1 .0) (p .1 .1 .0) (p .1 .1 .1 .0) (p .1 .1 .1 .1 .0) (a .old .now) _ (p .1 .1 .1 .1 .1)
-    (c .before .before .before .before .before .before .before .before .before .before .before .before .before .before .before .before .before .stride-rows .result) (c .before .before .before .before .before .before .before .before .before .before .before .before .before .before .before .before .before .stride-rows .ensures .0) (c .before .before .before .before .before .before .before .before .before .before .before .before .before .before .before .before .before .stride-rows .ensures .1) (c .before .before .before .before .before .before .before .before .before .before .before .before .before .before .before .judged .result) (c .before .before .before .before .before .before .before .before .before .before .before .before .before .before .before .judged .ensures)
-    (sym (c .before .before .before .before .before .before .before .before .before .before .before .before .before .before .is-refusal .ensures) ∙ c .before .before .before .before .before .before .before .before .before .before .before .before .before .if1 .left)
-    (sym (c .before .before .before .before .before .before .before .before .before .before .before .moves .ensures) ∙ c .before .before .before .before .before .before .before .before .before .before .if2 .taken) _ b (c .before .before .before .before .before .before .before .settle-rows .result) (s .1 .1) (s .0) (s .1 .0) (c .before .before .before .judge-out .ensures))
+    (on-moved (a .b .now) (a .h) (a .step) (p .0) (p .1 .0) (p .1 .1 .0) (p .1 .1 .1 .0) (p .1 .1 .1 .1)
+    (c .before .before .before .before .before .before .before .before .before .before .before .before .before .before .before .before .stays .result) (c .before .before .before .before .before .before .before .before .before .before .before .before .before .before .before .before .stays .ensures .0) (c .before .before .before .before .before .before .before .before .before .before .before .before .before .before .before .before .stays .ensures .1) (c .before .before .before .before .before .before .before .before .before .before .before .before .before .before .judged .result) (c .before .before .before .before .before .before .before .before .before .before .before .before .before .before .judged .ensures)
+    (sym (c .before .before .before .before .before .before .before .before .before .before .before .before .before .is-refusal .ensures) ∙ c .before .before .before .before .before .before .before .before .before .before .before .before .if1 .left)
+    (sym (c .before .before .before .before .before .before .before .before .before .before .moves .ensures) ∙ c .before .before .before .before .before .before .before .before .before .if2 .taken) _ b (c .before .before .before .before .before .before .before .move-rows .result) (s .1) (s .0) (c .before .before .before .judge-out .ensures))
 
--- src/steps.rt:151:5
+-- src/steps.rt:169:5
 judge-out-requires-2 : tie.Need-judge-out-requires-2
 judge-out-requires-2 c κs =
-    let a = c .before .before .before .before .before .before .before .before .before .before .before .before .args in
-    let p = c .before .before .before .before .before .before .before .before .before .before .before .before .pre in (
+    let a = c .before .before .before .before .before .before .before .before .before .before .before .args in
+    let p = c .before .before .before .before .before .before .before .before .before .before .before .pre in (
       p .0,
-      on-small (a .b .now) (a .h) (a .step) (p .0) (p .1 .0) (p .1 .1 .0) (p .1 .1 .1 .0) (p .1 .1 .1 .1 .0) (a .old .now) _ (p .1 .1 .1 .1 .1)
-          (c .before .before .before .before .before .before .before .before .stride-rows .result) (c .before .before .before .before .before .before .before .before .stride-rows .ensures .0) (c .before .before .before .before .before .before .before .before .stride-rows .ensures .1) (c .before .before .before .before .before .before .judged .result) (c .before .before .before .before .before .before .judged .ensures)
+      on-small (a .b .now) (a .h) (a .step) (p .0) (p .1 .0) (p .1 .1 .0) (p .1 .1 .1 .0) (p .1 .1 .1 .1)
+          (c .before .before .before .before .before .before .before .before .stays .result) (c .before .before .before .before .before .before .before .before .stays .ensures .0) (c .before .before .before .before .before .before .before .before .stays .ensures .1) (c .before .before .before .before .before .before .judged .result) (c .before .before .before .before .before .before .judged .ensures)
           (sym (c .before .before .before .before .before .is-refusal .ensures) ∙ c .before .before .before .before .if1 .left),
     )
 
--- src/steps.rt:152:5
+-- src/steps.rt:170:5
 reply-code-requires-3 : tie.Need-reply-code-requires-3
 reply-code-requires-3 c κs = search needs
 
--- src/steps.rt:128:1
+-- src/steps.rt:149:1
 same-length-3 : tie.Need-same-length-3
 same-length-3 c = search needs
 
--- src/steps.rt:128:1
+-- src/steps.rt:149:1
 returns-3 : tie.Need-returns-3
 returns-3 c =
-    let a = c .before .before .before .before .before .before .before .before .before .before .before .before .before .before .before .before .args in
-    let p = c .before .before .before .before .before .before .before .before .before .before .before .before .before .before .before .before .pre in
+    let a = c .before .before .before .before .before .before .before .before .before .before .before .before .before .before .before .args in
+    let p = c .before .before .before .before .before .before .before .before .before .before .before .before .before .before .before .pre in
     let b = c .before .before .before .judge-out2 .last .0 in
     subst (λ (r : ℕ). Called (ByStep (a .step)) (a .b .now) r b) (sym (c .reply-code3 .ensures))
-    (on-kept (a .b .now) (a .h) (a .step) (p .0) (p .1 .0) (p .1 .1 .0) (p .1 .1 .1 .0) (p .1 .1 .1 .1 .0) (a .old .now) _ (p .1 .1 .1 .1 .1)
-    (c .before .before .before .before .before .before .before .before .before .before .before .before .stride-rows .result) (c .before .before .before .before .before .before .before .before .before .before .before .before .stride-rows .ensures .0) (c .before .before .before .before .before .before .before .before .before .before .before .before .stride-rows .ensures .1) (c .before .before .before .before .before .before .before .before .before .before .judged .result) (c .before .before .before .before .before .before .before .before .before .before .judged .ensures)
+    (on-kept (a .b .now) (a .h) (a .step) (p .0) (p .1 .0) (p .1 .1 .0) (p .1 .1 .1 .0) (p .1 .1 .1 .1)
+    (c .before .before .before .before .before .before .before .before .before .before .before .before .stays .result) (c .before .before .before .before .before .before .before .before .before .before .before .before .stays .ensures .0) (c .before .before .before .before .before .before .before .before .before .before .before .before .stays .ensures .1) (c .before .before .before .before .before .before .before .before .before .before .judged .result) (c .before .before .before .before .before .before .before .before .before .before .judged .ensures)
     (sym (c .before .before .before .before .before .before .before .before .before .is-refusal .ensures) ∙ c .before .before .before .before .before .before .before .before .if1 .left)
     (sym (c .before .before .before .before .before .before .moves .ensures) ∙ c .before .before .before .before .before .if2 .left) b (c .before .before .before .judge-out2 .ensures))
 
@@ -133,14 +133,14 @@ pub on-rows-spec : {M : Type 1} → statement M
 on-rows-spec =
     tie.close
     (tie.spec
-    stride-rows-requires
+    stays-requires
     judged-requires
     is-refusal-requires
     reply-code-requires
     same-length
     returns
     moves-requires
-    settle-rows-requires
+    move-rows-requires
     judge-out-requires
     reply-code-requires-2
     same-length-2

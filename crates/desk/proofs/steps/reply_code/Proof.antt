@@ -1,5 +1,5 @@
 use Rattle.monitor_state.specs.declared.Answer.{Answer}
-use Rattle.desk.specs.Calls.{codeOf, givenBy}
+use Rattle.desk.specs.Calls.{deskCode, givenBy}
 use Rattle.desk.specs.Code.{told}
 use Rattle.desk.proofs.CallLaws.{plain-bit, violated-bit, refused-bit}
 use native.Mathlib.Omega.{arith}
@@ -58,7 +58,7 @@ add-result-3 c = search needs
 returns : tie.Need-returns
 returns c =
     let a = c .before .before .before .args in
-    c .lean-bit .ensures .0 ∙ plain-bit (a .lean) ∙ sym (ap (λ (x : Answer). codeOf (givenBy (told x) (a .lean))) (c .before .enum-told .given .1))
+    c .lean-bit .ensures .0 ∙ plain-bit (a .lean) ∙ sym (ap (λ (x : Answer). deskCode (givenBy (told x) (a .lean))) (c .before .enum-told .given .1))
 
 -- src/steps.rt:55:1
 returns-2 : tie.Need-returns-2
@@ -66,14 +66,14 @@ returns-2 c =
     let a = c .before .before .before .before .args in
     let p = c .before .before .a .given .0 .0 in
     ap (λ (n : ℕ). p + 256 + n) (c .lean-bit2 .ensures .0) ∙ violated-bit p (a .lean)
-    ∙ sym (ap (λ (x : Answer). codeOf (givenBy (told x) (a .lean))) (c .before .before .a .given .1))
+    ∙ sym (ap (λ (x : Answer). deskCode (givenBy (told x) (a .lean))) (c .before .before .a .given .1))
 
 -- src/steps.rt:55:1
 returns-3 : tie.Need-returns-3
 returns-3 c =
     let a = c .before .before .before .before .args in
     ap (λ (n : ℕ). n + 512) (c .shown .ensures .0) ∙ refused-bit _ (a .lean)
-    ∙ sym (ap (λ (x : Answer). codeOf (givenBy (told x) (a .lean))) (c .before .before .a2 .given .1))
+    ∙ sym (ap (λ (x : Answer). deskCode (givenBy (told x) (a .lean))) (c .before .before .a2 .given .1))
 
 pub reply-code-spec : {M : Type 1} → statement M
 reply-code-spec =
