@@ -1,0 +1,41 @@
+-- What the functions compute on the way.
+use Prim.Native.Nat.{ℕ, _+_, _-_, _*_, _/_, _%_}
+use mathlib.Core.Bool.{Bool, _&&_, cond}
+use mathlib.Core.List.{List}
+use lib.Dec.{eqb, ltb, leb}
+use lib.ListN.{getD}
+use Rattle.usage.specs.Tables.{from}
+use Rattle.automaton.specs.Move.{moveBy}
+use Rattle.automaton.specs.Code.{changed}
+use Rattle.monitor_sets.specs.Instances.{instances}
+use Rattle.monitor_pairs.specs.Pairs.{pairPlaces, pairAt}
+
+-- eight rows leave every state where it is
+unfoldable pub staysBy : List ℕ → Bool
+staysBy l =
+    eqb (changed (getD l 0 0) (getD l 1 0) (getD l 2 0) (getD l 3 0) (getD l 4 0) (getD l 5 0) (getD l 6 0) (getD l 7 0)) 0
+
+-- the first n sets, moved
+unfoldable pub runMoved : List ℕ → ℕ → List ℕ → List ℕ
+runMoved rows n sets = from (λ k. cond (ltb k n) (moveBy rows 0 (getD sets k 0)) (getD sets k 0)) 0 pairPlaces
+
+-- a row or a column, moved
+unfoldable pub lineMoved : List ℕ → List ℕ → List ℕ
+lineMoved rows line = from (λ j. moveBy rows 0 (getD line j 0)) 0 instances
+
+-- the row that starts at place k
+unfoldable pub rowOf : ℕ → List ℕ → List ℕ
+rowOf k sets = from (λ j. getD sets (k + j) 0) 0 instances
+
+-- column `at` in the first n rows
+unfoldable pub columnOf : ℕ → ℕ → List ℕ → List ℕ
+columnOf n at sets = from (λ i. cond (ltb i n) (pairAt sets i at) 0) 0 instances
+
+-- the first m sets of a row are put at place k
+unfoldable pub rowPut : ℕ → List ℕ → ℕ → List ℕ → List ℕ
+rowPut k row m sets = from (λ l. cond (leb k l && ltb l (k + m)) (getD row (l - k) 0) (getD sets l 0)) 0 pairPlaces
+
+-- column `at` of the first n rows is this one
+unfoldable pub columnPut : ℕ → List ℕ → ℕ → List ℕ → List ℕ
+columnPut at column n sets =
+    from (λ k. cond (ltb (k / instances) n && eqb (k % instances) at) (getD column (k / instances) 0) (getD sets k 0)) 0 pairPlaces
