@@ -2,18 +2,25 @@
 use Prim.Native.Nat.{ℕ, _+_, _-_, _*_, _/_, _%_}
 use mathlib.Core.Bool.{Bool, _&&_, cond}
 use mathlib.Core.List.{List}
+use lib.Bits.{bitOr}
 use lib.Dec.{eqb, ltb, leb}
 use lib.ListN.{getD}
 use Rattle.usage.specs.Tables.{from}
+use Rattle.automaton.specs.Mask.{union}
 use Rattle.automaton.specs.Move.{moveBy}
 use Rattle.automaton.specs.Code.{changed}
 use Rattle.monitor_sets.specs.Instances.{instances}
+use Rattle.monitor_pairs.specs.declared.Ways.{Ways}
 use Rattle.monitor_pairs.specs.Pairs.{pairPlaces, pairAt}
 
 -- eight rows leave every state where it is
 unfoldable pub staysBy : List ℕ → Bool
 staysBy l =
     eqb (changed (getD l 0 0) (getD l 1 0) (getD l 2 0) (getD l 3 0) (getD l 4 0) (getD l 5 0) (getD l 6 0) (getD l 7 0)) 0
+
+-- all four ways do
+unfoldable pub staysAll : Ways → Bool
+staysAll w = staysBy (w .neither) && (staysBy (w .first) && (staysBy (w .second) && staysBy (w .both)))
 
 -- the first n sets, moved
 unfoldable pub runMoved : List ℕ → ℕ → List ℕ → List ℕ
@@ -39,3 +46,11 @@ rowPut k row m sets = from (λ l. cond (leb k l && ltb l (k + m)) (getD row (l -
 unfoldable pub columnPut : ℕ → List ℕ → ℕ → List ℕ → List ℕ
 columnPut at column n sets =
     from (λ k. cond (ltb (k / instances) n && eqb (k % instances) at) (getD column (k / instances) 0) (getD sets k 0)) 0 pairPlaces
+
+-- the row that starts at place k, joined to a line
+unfoldable pub rowJoined : ℕ → List ℕ → List ℕ → List ℕ
+rowJoined k sets line = from (λ j. bitOr (getD line j 0) (getD sets (k + j) 0)) 0 instances
+
+-- the union of each column in the first n rows, without row `at`
+unfoldable pub besideColumns : ℕ → ℕ → List ℕ → List ℕ
+besideColumns n at sets = from (λ j. union n (λ i. cond (eqb i at) 0 (pairAt sets i j))) 0 instances

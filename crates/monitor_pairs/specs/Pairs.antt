@@ -34,3 +34,7 @@ unfoldable pub eventPairs : Ways → ℕ → ℕ → List ℕ → List ℕ
 eventPairs w at n sets =
     from (λ k. cond (ltb (k / instances) n) (moveBy (wayOf w (eqb (k / instances) at) (eqb (k % instances) at)) 0 (getD sets k 0))
     (getD sets k 0)) 0 pairPlaces
+
+-- "Stored sets are gathered over all pairs": which states the sets of the first n rows have
+unfoldable pub gatherPairs : ℕ → List ℕ → ℕ
+gatherPairs n sets = union n (λ i. union instances (λ j. pairAt sets i j))

@@ -3,6 +3,7 @@
 use monitor_sets::INSTANCES;
 
 pub mod events;
+pub mod gathering;
 
 // The sets of one policy: that of places i and j is at i * INSTANCES + j.
 pub const PAIRS: usize = INSTANCES * INSTANCES;
