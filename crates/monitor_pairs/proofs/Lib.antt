@@ -2,3 +2,4 @@
 pub mod RunLaws
 pub mod EventLaws
 pub mod GatherLaws
+pub mod RetireLaws

@@ -85,6 +85,12 @@ module _ (s : ℕ) (f g : ℕ → ℕ) (m : ℕ) where
       let q : (s + i) + 1 ≡ s + (i + 1) = omega arith in
       ap (λ (t : Bool). cond (leb s k && t) (f k) (g k)) (ltb-next k (s + i) d ∙ ap (λ (n : ℕ). ltb k n) q))
 
+  -- the places that are not reached
+  pub span-ahead : (i k : ℕ) → k < m → s + i ≤ k → getD (span i) k 0 ≡ g k
+  span-ahead i k b h =
+      at-from (spanAt i) m k b
+      ∙ ap (λ (t : Bool). cond t (f k) (g k)) (and-false (leb s k) (ltb k (s + i)) (le-ltb k (s + i) h))
+
 -- ── Column `at` ──
 
 module _ (at : ℕ) (f g : ℕ → ℕ) where

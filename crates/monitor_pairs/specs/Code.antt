@@ -11,7 +11,7 @@ use Rattle.automaton.specs.Move.{moveBy}
 use Rattle.automaton.specs.Code.{changed}
 use Rattle.monitor_sets.specs.Instances.{instances}
 use Rattle.monitor_pairs.specs.declared.Ways.{Ways}
-use Rattle.monitor_pairs.specs.Pairs.{pairPlaces, pairAt}
+use Rattle.monitor_pairs.specs.Pairs.{pairPlaces, pairAt, taken}
 
 -- eight rows leave every state where it is
 unfoldable pub staysBy : List ℕ → Bool
@@ -54,3 +54,17 @@ rowJoined k sets line = from (λ j. bitOr (getD line j 0) (getD sets (k + j) 0))
 -- the union of each column in the first n rows, without row `at`
 unfoldable pub besideColumns : ℕ → ℕ → List ℕ → List ℕ
 besideColumns n at sets = from (λ j. union n (λ i. cond (eqb i at) 0 (pairAt sets i j))) 0 instances
+
+-- each of the n sets from place s on is the one that was so far behind it
+unfoldable pub movedUp : ℕ → ℕ → ℕ → List ℕ → List ℕ
+movedUp s n by sets = from (λ l. cond (leb s l && ltb l (s + n)) (getD sets (l + by) 0) (getD sets l 0)) 0 pairPlaces
+
+-- in the row that starts at place k, the second place `at` is retired
+unfoldable pub lineRetired : ℕ → ℕ → List ℕ → List ℕ
+lineRetired k at sets =
+    from (λ l. cond (leb k l && ltb l (k + instances)) (taken at (instances - 1) (λ j. getD sets (k + j) 0) (l - k)) (getD sets l 0)) 0 pairPlaces
+
+-- so in the first n rows
+unfoldable pub columnsRetired : ℕ → ℕ → List ℕ → List ℕ
+columnsRetired at n sets =
+    from (λ k. cond (ltb (k / instances) n) (taken at (instances - 1) (pairAt sets (k / instances)) (k % instances)) (getD sets k 0)) 0 pairPlaces

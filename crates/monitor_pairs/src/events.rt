@@ -126,7 +126,7 @@ fn column_of(sets: &[u8; PAIRS], n: usize, at: usize) -> [u8; INSTANCES]
 }
 
 // The row that starts at place k becomes this one.
-fn put_row(sets: &mut [u8; PAIRS], k: usize, row: &[u8; INSTANCES])
+pub(crate) fn put_row(sets: &mut [u8; PAIRS], k: usize, row: &[u8; INSTANCES])
     requires { ⌜ length (now sets) ≡ pairPlaces ⌝ }
     requires { ⌜ k + instances ≤ pairPlaces ⌝ }
     ensures { λ r. ⌜ now (sets .exit) ≡ rowPut k (now (row .entry)) instances (now (sets .entry)) ⌝ }

@@ -78,7 +78,7 @@ pub fn gather(sets: &[u8; PAIRS], n: usize) -> u8
 }
 
 // The row that starts at place k, joined to a line.
-fn join_row(line: &mut [u8; INSTANCES], sets: &[u8; PAIRS], k: usize)
+pub(crate) fn join_row(line: &mut [u8; INSTANCES], sets: &[u8; PAIRS], k: usize)
     requires { ⌜ length (now line) ≡ instances ⌝ }
     requires { ⌜ k + instances ≤ pairPlaces ⌝ }
     ensures { λ r. ⌜ length (now (line .exit)) ≡ instances ⌝ }

@@ -4,6 +4,8 @@ use monitor_sets::INSTANCES;
 
 pub mod events;
 pub mod gathering;
+pub mod places;
+pub mod retiring;
 
 // The sets of one policy: that of places i and j is at i * INSTANCES + j.
 pub const PAIRS: usize = INSTANCES * INSTANCES;
