@@ -3,3 +3,5 @@ pub mod RunLaws
 pub mod EventLaws
 pub mod GatherLaws
 pub mod RetireLaws
+-- The sets hold what the instances may be in.
+pub mod TrackedLaws
