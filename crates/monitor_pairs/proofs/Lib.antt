@@ -5,3 +5,4 @@ pub mod GatherLaws
 pub mod RetireLaws
 -- The sets hold what the instances may be in.
 pub mod TrackedLaws
+pub mod SideLaws

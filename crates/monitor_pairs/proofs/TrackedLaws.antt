@@ -36,14 +36,14 @@ use Rattle.monitor_pairs.proofs.RunLaws.{at-from, at-replicate}
 use Rattle.monitor_pairs.proofs.GatherLaws.{event-at}
 use Rattle.monitor_pairs.proofs.RetireLaws.{cell-row, cell-column}
 
-seat-in : (n j : ℕ) → j < n → seatIn n j ≡ j
+pub seat-in : (n j : ℕ) → j < n → seatIn n j ≡ j
 seat-in n j h = ap (λ (t : Bool). cond t j unseen) (lt-ltb j n h)
 
-seat-out : (n j : ℕ) → n ≤ j → seatIn n j ≡ unseen
+pub seat-out : (n j : ℕ) → n ≤ j → seatIn n j ≡ unseen
 seat-out n j h = ap (λ (t : Bool). cond t j unseen) (le-ltb j n h)
 
 -- every column is of a place in use
-seat-used : (n j : ℕ) → unseen < n → seatIn n j < n
+pub seat-used : (n j : ℕ) → unseen < n → seatIn n j < n
 seat-used n j h = go (ltb j n) refl
   where
     go : (b : Bool) → ltb j n ≡ b → cond b j unseen < n
