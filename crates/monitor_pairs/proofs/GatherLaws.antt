@@ -300,3 +300,15 @@ module _ (w : Ways) (e : staysAll w ≡ true) where
       union-ext n (λ i. union instances (λ j. pairAt sets i j)) (λ i. union instances (λ j. pairAt (eventPairs w at n sets) i j))
       (λ i b. union-ext instances (λ j. pairAt sets i j) (λ j. pairAt (eventPairs w at n sets) i j)
       (λ j d. sym (event-at w at n sets i j b h d ∙ stays-way (eqb i at) (eqb j at) (pairAt sets i j) (small (i * instances + j)))))
+
+  -- nor does an event move a set
+  pub stays-event : (at n : ℕ) (sets : List ℕ) → length sets ≡ pairPlaces → ((k : ℕ) → getD sets k 0 < 256) → sets ≡ eventPairs w at n sets
+  unfolding eventPairs
+  stays-event at n sets size small =
+      is-from (λ k. cond (ltb (k / instances) n) (moveBy (wayOf w (eqb (k / instances) at) (eqb (k % instances) at)) 0 (getD sets k 0))
+      (getD sets k 0)) 0 pairPlaces sets size
+      (λ k b. sym (either (ltb (k / instances) n) (stays-way (eqb (k / instances) at) (eqb (k % instances) at) (getD sets k 0) (small k))))
+    where
+      either : {u v : ℕ} (t : Bool) → u ≡ v → cond t u v ≡ v
+      either true q = q
+      either false q = refl

@@ -2,6 +2,7 @@
 pub mod RunLaws
 pub mod EventLaws
 pub mod GatherLaws
+pub mod TwoLaws
 pub mod RetireLaws
 -- The sets hold what the instances may be in.
 pub mod TrackedLaws

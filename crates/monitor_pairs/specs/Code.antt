@@ -2,7 +2,7 @@
 use Prim.Native.Nat.{ℕ, _+_, _-_, _*_, _/_, _%_}
 use mathlib.Core.Bool.{Bool, _&&_, cond}
 use mathlib.Core.List.{List}
-use lib.Bits.{bitOr}
+use lib.Bits.{bitAnd, bitOr}
 use lib.Dec.{eqb, ltb, leb}
 use lib.ListN.{getD}
 use Rattle.usage.specs.Tables.{from}
@@ -25,6 +25,19 @@ staysAll w = staysBy (w .neither) && (staysBy (w .first) && (staysBy (w .second)
 -- the first n sets, moved
 unfoldable pub runMoved : List ℕ → ℕ → List ℕ → List ℕ
 runMoved rows n sets = from (λ k. cond (ltb k n) (moveBy rows 0 (getD sets k 0)) (getD sets k 0)) 0 pairPlaces
+
+-- the row of the states m, where one of them is in the set x
+unfoldable pub rowWhere : ℕ → ℕ → ℕ → ℕ
+rowWhere x m row = cond (eqb (bitAnd x m) 0) 0 row
+
+-- the set x by two states: what is kept of it, and where they go
+unfoldable pub twoMoved : ℕ → ℕ → ℕ → ℕ → ℕ → ℕ → ℕ
+twoMoved keep low lows high highs x = bitOr (bitOr (bitAnd x keep) (rowWhere x low lows)) (rowWhere x high highs)
+
+-- the first n sets, moved so
+unfoldable pub runByTwo : ℕ → ℕ → ℕ → ℕ → ℕ → ℕ → List ℕ → List ℕ
+runByTwo keep low lows high highs n sets =
+    from (λ k. cond (ltb k n) (twoMoved keep low lows high highs (getD sets k 0)) (getD sets k 0)) 0 pairPlaces
 
 -- a row or a column, moved
 unfoldable pub lineMoved : List ℕ → List ℕ → List ℕ

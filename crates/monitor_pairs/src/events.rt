@@ -3,6 +3,8 @@
 // proof has no length of an array behind a reference from its type, so the private functions that change one require it.
 use crate::PAIRS;
 use crate::Ways;
+use crate::gathering;
+use crate::runs;
 use monitor_sets::INSTANCES;
 ghost use Prim.Native.Nat.{ℕ, _+_, _*_, _<_, _≤_};
 ghost use mathlib.Core.Path.{_≡_};
@@ -12,7 +14,7 @@ ghost use lib.ListN.{length, getD};
 ghost use Rattle.automaton.specs.Move.{moveBy};
 ghost use Rattle.monitor_sets.specs.Instances.{instances};
 ghost use Rattle.monitor_pairs.specs.Pairs.{pairPlaces, eventPairs};
-ghost use Rattle.monitor_pairs.specs.Code.{staysBy, runMoved, lineMoved, rowOf, columnOf, rowPut, columnPut};
+ghost use Rattle.monitor_pairs.specs.Code.{staysBy, lineMoved, rowOf, columnOf, rowPut, columnPut};
 
 // A proof is told the length and the range of an array that is passed by value, and not of a lent one. Compiled, it copies nothing.
 pub(crate) fn known(sets: [u8; PAIRS])
@@ -53,29 +55,7 @@ pub(crate) fn moved(x: u8, rows: [u8; 8]) -> u8
     )
 }
 
-// Moves the first n sets by eight rows, which are held as numbers so that several sets are moved at once.
-fn move_run(sets: &mut [u8; PAIRS], n: usize, rows: [u8; 8])
-    requires { ⌜ length (now sets) ≡ pairPlaces ⌝ }
-    requires { ⌜ n ≤ pairPlaces ⌝ }
-    ensures { λ r. ⌜ now (sets .exit) ≡ runMoved rows n (now (sets .entry)) ⌝ }
-    ensures { λ r. ⌜ length (now (sets .exit)) ≡ pairPlaces ⌝ }
-{
-    let a = rows[0];
-    let b = rows[1];
-    let c = rows[2];
-    let d = rows[3];
-    let e = rows[4];
-    let f = rows[5];
-    let g = rows[6];
-    let h = rows[7];
-    let mut k: usize = 0;
-    while k < n {
-        sets[k] = automaton::move_by_rows(sets[k], a, b, c, d, e, f, g, h);
-        k += 1;
-    }
-}
-
-// The same of a row or a column.
+// A row or a column, moved by eight rows, which are held as numbers so that several sets are moved at once.
 fn move_line(line: [u8; INSTANCES], rows: [u8; 8]) -> [u8; INSTANCES]
     ensures { λ r. ⌜ r ≡ lineMoved rows line ⌝ }
 {
@@ -170,7 +150,7 @@ fn move_rows(sets: &mut [u8; PAIRS], n: usize, at: usize, ways: Ways)
     let row = move_line(row_of(sets, k), first);
     let mut column = move_line(column_of(sets, n, at), second);
     column[at] = own;
-    move_run(sets, n * INSTANCES, neither);
+    runs::move_run(sets, n * INSTANCES, neither);
     put_row(sets, k, &row);
     put_column(sets, n, at, &column);
 }
@@ -190,5 +170,8 @@ pub fn take_event(sets: &mut [u8; PAIRS], n: usize, at: usize, ways: Ways)
     }
     let old = *sets;
     known(old);
+    if gathering::all_stay(ways) {
+        return;
+    }
     move_rows(sets, n, at, ways);
 }

@@ -6,6 +6,7 @@ pub mod events;
 pub mod gathering;
 pub mod places;
 pub mod retiring;
+pub mod runs;
 
 // The sets of one policy: that of places i and j is at i * INSTANCES + j.
 pub const PAIRS: usize = INSTANCES * INSTANCES;

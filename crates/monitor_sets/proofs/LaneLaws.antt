@@ -22,7 +22,7 @@ union-add a (suc b) f = ap (λ (n : ℕ). union n f) (add-suc a b) ∙ ap (λ (u
     ∙ or-assoc (union a f) (union b (λ i. f (a + i))) (f (a + b))
 
 -- (u ∪ v) ∪ (x ∪ y) = (u ∪ x) ∪ (v ∪ y)
-shuffle : (u v x y : ℕ) → bitOr (bitOr u v) (bitOr x y) ≡ bitOr (bitOr u x) (bitOr v y)
+pub shuffle : (u v x y : ℕ) → bitOr (bitOr u v) (bitOr x y) ≡ bitOr (bitOr u x) (bitOr v y)
 shuffle u v x y =
     or-assoc u v (bitOr x y)
     ∙ ap (bitOr u) (sym (or-assoc v x y) ∙ ap (λ (w : ℕ). bitOr w y) (or-comm v x) ∙ or-assoc x v y)

@@ -14,7 +14,7 @@ use Rattle.monitor_pairs.proofs.events.move_rows.Reads as reads
 use Rattle.monitor_pairs.proofs.events.move_rows.Lts as lts
 use Rattle.monitor_pairs.proofs.events.column_of.Reads as column-of-reads
 use Rattle.monitor_pairs.proofs.events.move_line.Reads as move-line-reads
-use Rattle.monitor_pairs.proofs.events.move_run.Reads as move-run-reads
+use Rattle.monitor_pairs.proofs.runs.move_run.Reads as move-run-reads
 use Rattle.monitor_pairs.proofs.events.moved.Reads as moved-reads
 use Rattle.monitor_pairs.proofs.events.put_column.Reads as put-column-reads
 use Rattle.monitor_pairs.proofs.events.put_row.Reads as put-row-reads

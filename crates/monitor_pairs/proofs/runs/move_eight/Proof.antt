@@ -13,10 +13,10 @@ use Rattle.monitor_pairs.specs.Code.{runMoved, lineMoved, rowOf, columnO
 use Rattle.monitor_pairs.proofs.RunLaws.{filled, filled-none, filled-zeros, filled-next, filled-more, filled-all, filled-length, same-from}
 use Rattle.monitor_pairs.proofs.RunLaws.{span, span-none, span-more, column, column-none, column-more}
 use borrow.Author.Needs.{needs}
-use Rattle.monitor_pairs.proofs.events.move_run.Statement.{statement}
-use Rattle.monitor_pairs.proofs.events.move_run.Tie as tie
-use Rattle.monitor_pairs.proofs.events.move_run.Reads as reads
-use Rattle.monitor_pairs.proofs.events.move_run.Lts as lts
+use Rattle.monitor_pairs.proofs.runs.move_eight.Statement.{statement}
+use Rattle.monitor_pairs.proofs.runs.move_eight.Tie as tie
+use Rattle.monitor_pairs.proofs.runs.move_eight.Reads as reads
+use Rattle.monitor_pairs.proofs.runs.move_eight.Lts as lts
 use Rattle.automaton.proofs.move_by_rows.Reads as move-by-rows-reads
 
 abbrev Inv-loop : tie.InvT-loop
@@ -108,8 +108,8 @@ returns c =
       t .inv .1 .0,
     )
 
-pub move-run-spec : {M : Type 1} → statement M
-move-run-spec =
+pub move-eight-spec : {M : Type 1} → statement M
+move-eight-spec =
     tie.close
     (tie.spec
     Inv-loop
