@@ -7,3 +7,4 @@ pub mod RetireLaws
 -- The sets hold what the instances may be in.
 pub mod TrackedLaws
 pub mod SideLaws
+pub mod Examples
