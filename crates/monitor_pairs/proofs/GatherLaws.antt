@@ -40,7 +40,7 @@ none true = refl
 none false = refl
 
 -- a union of sets of which one alone is not empty
-union-only : (n at : ℕ) (f : ℕ → ℕ) → at < n → ((i : ℕ) → i < n → (i ≡ at → ⊥) → f i ≡ 0) → union n f ≡ f at
+pub union-only : (n at : ℕ) (f : ℕ → ℕ) → at < n → ((i : ℕ) → i < n → (i ≡ at → ⊥) → f i ≡ 0) → union n f ≡ f at
 union-only n at f h z =
     sym (union-with n at (f at) (λ i. 0) f h refl refl (λ i l d. sym (z i l d)))
     ∙ ap (λ (u : ℕ). bitOr u (f at)) (union-none n (λ i. 0) (λ i l. refl)) ∙ or-zero-l (f at)

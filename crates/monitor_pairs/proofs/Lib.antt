@@ -8,3 +8,5 @@ pub mod RetireLaws
 pub mod TrackedLaws
 pub mod SideLaws
 pub mod Examples
+-- Which policies are pair policies.
+pub mod WhichLaws

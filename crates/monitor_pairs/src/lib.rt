@@ -7,6 +7,7 @@ pub mod gathering;
 pub mod places;
 pub mod retiring;
 pub mod runs;
+pub mod which;
 
 // The sets of one policy: that of places i and j is at i * INSTANCES + j.
 pub const PAIRS: usize = INSTANCES * INSTANCES;
