@@ -16,11 +16,10 @@ use Rattle.usage.specs.Tables.{from}
 use Rattle.usage.proofs.TableLaws.{length-from, is-from}
 use Rattle.automaton.specs.Mask.{has, union}
 use Rattle.automaton.specs.Move.{moveBy}
-use Rattle.automaton.proofs.MaskLaws.{or-assoc, has-or}
+use Rattle.automaton.proofs.MaskLaws.{has-or}
 use Rattle.automaton.proofs.RowLaws.{union-ext, moveBy-held, changed-none, stay-moves}
 use Rattle.monitor_sets.specs.Instances.{instances}
-use Rattle.monitor_sets.specs.Code.{lanes}
-use Rattle.monitor_sets.proofs.LaneLaws.{union-add, union-or, union-shift}
+use Rattle.monitor_sets.proofs.LaneLaws.{union-add, union-or}
 use Rattle.monitor_sets.proofs.MovedLaws.{moved-empty}
 use Rattle.monitor_sets.proofs.SetLaws.{union-more, union-with}
 use Rattle.monitor_pairs.specs.declared.Ways.{Ways}
@@ -60,26 +59,6 @@ union-rows (suc n) f =
   where
     next : (n : ℕ) → suc n * instances ≡ n * instances + instances
     next n = omega arith
-
--- sixteen sets after the other, four times
-pub union-fours : (sets : List ℕ) (k m : ℕ)
-    → bitOr (bitOr (bitOr (bitOr m (union lanes (λ i. getD sets (k + i) 0))) (union lanes (λ i. getD sets (k + lanes + i) 0)))
-    (union lanes (λ i. getD sets (k + 2 * lanes + i) 0))) (union lanes (λ i. getD sets (k + 3 * lanes + i) 0))
-    ≡ bitOr m (union (4 * lanes) (λ i. getD sets (k + i) 0))
-union-fours sets k m =
-    ap (bitOr (bitOr (bitOr (bitOr m (union lanes f)) (union lanes (λ i. getD sets (k + lanes + i) 0))) (union lanes (λ i. getD sets (k + 2 * lanes + i) 0))))
-    (union-shift sets k (3 * lanes))
-    ∙ ap (λ (u : ℕ). bitOr u (union lanes (λ i. f (3 * lanes + i))))
-    (ap (bitOr (bitOr (bitOr m (union lanes f)) (union lanes (λ i. getD sets (k + lanes + i) 0)))) (union-shift sets k (2 * lanes))
-    ∙ ap (λ (u : ℕ). bitOr u (union lanes (λ i. f (2 * lanes + i))))
-    (ap (bitOr (bitOr m (union lanes f))) (union-shift sets k lanes) ∙ more lanes) ∙ more (2 * lanes))
-    ∙ more (3 * lanes)
-  where
-    f : ℕ → ℕ
-    f i = getD sets (k + i) 0
-
-    more : (a : ℕ) → bitOr (bitOr m (union a f)) (union lanes (λ i. f (a + i))) ≡ bitOr m (union (a + lanes) f)
-    more a = or-assoc m (union a f) (union lanes (λ i. f (a + i))) ∙ ap (bitOr m) (sym (union-add a lanes f))
 
 -- ── Moving a union ──
 

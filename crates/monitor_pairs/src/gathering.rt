@@ -4,7 +4,7 @@ use crate::PAIRS;
 use crate::Ways;
 use crate::events;
 use monitor_sets::INSTANCES;
-ghost use Prim.Native.Nat.{_+_, _*_, _<_, _≤_};
+ghost use Prim.Native.Nat.{_+_, _<_, _≤_};
 ghost use mathlib.Core.Path.{_≡_};
 ghost use mathlib.Core.Bool.{_&&_, cond};
 ghost use lib.Bits.{bitOr};
@@ -47,34 +47,20 @@ fn union_lanes(all: &[u8; LANES]) -> u8
     m
 }
 
-// Four times as many.
-fn join_fours(all: &mut [u8; LANES], sets: &[u8; PAIRS], k: usize)
-    requires { ⌜ length (now all) ≡ lanes ⌝ }
-    requires { ⌜ k + 4 * lanes ≤ pairPlaces ⌝ }
-    ensures { λ r. ⌜ length (now (all .exit)) ≡ lanes ⌝ }
-    ensures { λ r. ⌜ union lanes (λ i. getD (now (all .exit)) i 0)
-        ≡ bitOr (union lanes (λ i. getD (now (all .entry)) i 0)) (union (4 * lanes) (λ i. getD (now (sets .entry)) (k + i) 0)) ⌝ }
-{
-    join_lanes(all, sets, k);
-    join_lanes(all, sets, k + LANES);
-    join_lanes(all, sets, k + 2 * LANES);
-    join_lanes(all, sets, k + 3 * LANES);
-}
-
 // The union of the first n sets, many at once. The last ones reach back over some that are joined already, which changes nothing.
 fn union_run(sets: &[u8; PAIRS], n: usize) -> u8
-    requires { ⌜ 4 * lanes ≤ n ⌝ }
+    requires { ⌜ lanes ≤ n ⌝ }
     requires { ⌜ n ≤ pairPlaces ⌝ }
     ensures { λ r. ⌜ r ≡ union n (λ i. getD (now (sets .entry)) i 0) ⌝ }
 {
     let mut all = [0u8; LANES];
-    let whole = n / (4 * LANES);
+    let whole = n / LANES;
     let mut i: usize = 0;
     while i < whole {
-        join_fours(&mut all, sets, 4 * LANES * i);
+        join_lanes(&mut all, sets, LANES * i);
         i += 1;
     }
-    join_fours(&mut all, sets, n - 4 * LANES);
+    join_lanes(&mut all, sets, n - LANES);
     union_lanes(&all)
 }
 

@@ -33,10 +33,10 @@ unfolding union
 union-or zero f g = sym (or-self 0)
 union-or (suc n) f g = ap (λ (u : ℕ). bitOr u (bitOr (f n) (g n))) (union-or n f g) ∙ shuffle (union n f) (union n g) (f n) (g n)
 
--- the last w, joined to the first a of n, which some of them are among
-pub union-reach : (w : ℕ) (f : ℕ → ℕ) (a n : ℕ) → a ≤ n → n ≤ a + w → w ≤ n
-    → bitOr (union a f) (union w (λ i. f (n - w + i))) ≡ union n f
-union-reach w f a n h b l =
+-- the last sixteen, joined to the first a of n, which some of them are among
+pub union-back : (f : ℕ → ℕ) (a n : ℕ) → a ≤ n → n ≤ a + lanes → lanes ≤ n
+    → bitOr (union a f) (union lanes (λ i. f (n - lanes + i))) ≡ union n f
+union-back f a n h b l =
     ap₂ (λ (u v : ℕ). bitOr u v) first last
     ∙ sym (or-assoc (bitOr y x) x z)
     ∙ ap (λ (u : ℕ). bitOr u z) (or-assoc y x x ∙ ap (bitOr y) (or-self x) ∙ sym first)
@@ -44,7 +44,7 @@ union-reach w f a n h b l =
     ∙ ap (λ (m : ℕ). union m f) all
   where
     s : ℕ
-    s = n - w
+    s = n - lanes
 
     x : ℕ
     x = union (a - s) (λ i. f (s + i))
@@ -64,20 +64,15 @@ union-reach w f a n h b l =
     first : union a f ≡ bitOr y x
     first = ap (λ (m : ℕ). union m f) (sym start) ∙ union-add s (a - s) f
 
-    parts : a - s + (n - a) ≡ w
+    parts : a - s + (n - a) ≡ lanes
     parts = omega arith
 
-    last : union w (λ i. f (s + i)) ≡ bitOr x z
+    last : union lanes (λ i. f (s + i)) ≡ bitOr x z
     last = ap (λ (m : ℕ). union m (λ i. f (s + i))) (sym parts) ∙ union-add (a - s) (n - a) (λ i. f (s + i))
         ∙ ap (bitOr x) (union-ext (n - a) (λ i. f (s + (a - s + i))) (λ i. f (a + i)) (λ i l. ap f (place i)))
       where
         place : (i : ℕ) → s + (a - s + i) ≡ a + i
         place i = omega (arith, start)
-
--- so of sixteen
-pub union-back : (f : ℕ → ℕ) (a n : ℕ) → a ≤ n → n ≤ a + lanes → lanes ≤ n
-    → bitOr (union a f) (union lanes (λ i. f (n - lanes + i))) ≡ union n f
-union-back = union-reach lanes
 
 -- sixteen more
 pub union-next : (f : ℕ → ℕ) (i : ℕ) → bitOr (union (lanes * i) f) (union lanes (λ j. f (lanes * i + j))) ≡ union (lanes * (i + 1)) f
