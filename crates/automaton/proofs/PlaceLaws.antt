@@ -1,20 +1,22 @@
 -- The set that is kept for the instances at some places, moved by an event: it holds what they may be in after it. Over the list of places,
 -- for policies about one resource and about two alike.
-use Prim.Native.Nat.{ℕ, zero, suc, _+_, _/_, _%_, _<_}
+use Prim.Native.Nat.{ℕ, zero, suc, _+_, _*_, _/_, _%_, _<_}
 use mathlib.Core.Path.{_≡_, refl, sym, ap, subst, _∙_}
 use mathlib.Core.Bool.{Bool, true, false, not, _&&_, cond}
 use mathlib.Core.List.{List, [], _∷_}
 use mathlib.Core.Logic.{_↔_}
 use mathlib.Core.Option.{Option, some, Option·some-injective}
 use lib.Dec.{eqb}
+use native.Mathlib.Omega.{arith}
+use lib.ListN.{getD}
 use borrow.Author.Tests.{eq-eqb, eqb-true}
 use Rattle.usage.specs.declared.Edge.{Edge}
-use Rattle.usage.specs.Limits.{states}
+use Rattle.usage.specs.Limits.{policies, states}
 use Rattle.usage.specs.Policy.{Place, Moves}
 use Rattle.usage.specs.Past.{event, Past}
 use Rattle.usage.proofs.Logic.{none-some, false-true, and-left, and-right, and-both}
 use Rattle.usage.specs.Placed.{At}
-use Rattle.usage.proofs.TableLaws.{from-ext}
+use Rattle.usage.proofs.TableLaws.{getD-from, from-ext}
 use Rattle.usage.proofs.PlacedLaws.{SeesAt, named, own, other, second, Alone, at-event}
 use Rattle.automaton.specs.Mask.{has}
 use Rattle.automaton.specs.Move.{image, move, labelled, fires, labelledAt, firesAt, moveMask, rowPlaces, rowsOf, rowsAt}
@@ -44,6 +46,17 @@ rows-one es a r mine =
     rowPlaces
     (λ k l. image-same (firesAt ((0 + k) / states) a r mine false) (fires ((0 + k) / states) a r mine) es
     (λ e m. fires-one ((0 + k) / states) a r mine e) ((0 + k) % states))
+
+-- the row of state q of policy p
+pub row-placed : (es : List Edge) (a r : ℕ) (x y : Bool) (p q : ℕ) → p < policies → q < states
+    → getD (rowsAt es a r x y) (p * states + q) 0 ≡ image (firesAt p a r x y) es q
+unfolding rowsAt
+row-placed es a r x y p q h l =
+    let k : (0 + (p * states + q)) / states ≡ p = omega arith in
+    let j : (0 + (p * states + q)) % states ≡ q = omega arith in
+    getD-from (λ k. image (firesAt (k / states) a r x y) es (k % states)) 0 rowPlaces (p * states + q) 0 (omega arith)
+    ∙ ap (λ (n : ℕ). image (firesAt n a r x y) es ((0 + (p * states + q)) % states)) k
+    ∙ ap (λ (n : ℕ). image (firesAt p a r x y) es n) j
 
 -- the two tests say whether the first and the second place is i, and there are no more
 pub record Seats (places : List ℕ) (i : ℕ) (first last : Bool) : Type 0 where

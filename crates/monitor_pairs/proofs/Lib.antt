@@ -10,3 +10,5 @@ pub mod SideLaws
 pub mod Examples
 -- Which policies are pair policies.
 pub mod WhichLaws
+-- The ways of an event, out of the rows for all policies.
+pub mod WaysLaws

@@ -1,10 +1,11 @@
 -- What the functions compute on the way.
 use Prim.Native.Nat.{ℕ, _+_, _-_, _*_, _/_, _%_}
 use mathlib.Core.Bool.{Bool, _&&_, cond}
-use mathlib.Core.List.{List}
+use mathlib.Core.List.{List, [], _∷_}
 use lib.Bits.{bitAnd, bitOr}
 use lib.Dec.{eqb, ltb, leb}
 use lib.ListN.{getD}
+use Rattle.usage.specs.Limits.{policies, states}
 use Rattle.usage.specs.Tables.{from}
 use Rattle.automaton.specs.Mask.{union}
 use Rattle.automaton.specs.Move.{moveBy}
@@ -81,3 +82,18 @@ lineRetired k at sets =
 unfoldable pub columnsRetired : ℕ → ℕ → List ℕ → List ℕ
 columnsRetired at n sets =
     from (λ k. cond (ltb (k / instances) n) (taken at (instances - 1) (pairAt sets (k / instances)) (k % instances)) (getD sets k 0)) 0 pairPlaces
+
+-- the eight rows of policy p in a table of all policies' rows
+unfoldable pub policyRows : List ℕ → ℕ → List ℕ
+policyRows table p = from (λ q. getD table (p * states + q) 0) 0 states
+
+-- rows that leave every state where it is
+abbrev pub stayRows : List ℕ
+stayRows = 1 ∷ 2 ∷ 4 ∷ 8 ∷ 16 ∷ 32 ∷ 64 ∷ 128 ∷ []
+
+-- The four ways of policy p, out of four such tables; there is no other policy than the eight, and nothing moves.
+unfoldable pub waysIn : List ℕ → List ℕ → List ℕ → List ℕ → ℕ → Ways
+waysIn neither first second both p =
+    cond (ltb p policies)
+    record { neither = policyRows neither p; first = policyRows first p; second = policyRows second p; both = policyRows both p }
+    record { neither = stayRows; first = stayRows; second = stayRows; both = stayRows }

@@ -6,6 +6,7 @@ pub mod events;
 pub mod gathering;
 pub mod places;
 pub mod retiring;
+pub mod rows;
 pub mod runs;
 pub mod which;
 
