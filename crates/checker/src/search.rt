@@ -16,6 +16,7 @@ use crate::Outcome;
 use checker_account::PLACES;
 use checker_account::Table;
 use checker_account::WATCHED;
+use checker_tables::Watch;
 use usage::POLICIES;
 
 // Is policy p, whose moves the table of rows has, broken with some resource watched? `local` is the choice of past, here and below.
@@ -27,7 +28,12 @@ fn broken(nodes: &[u8], rows: &Table, local: bool, p: usize) -> bool
     let mut x: usize = 0;
     while x <= WATCHED {
         if checker_tables::touched(nodes, x) {
-            if checker_tables::breaks(nodes, rows, local, p, x) {
+            let w = Watch {
+                local,
+                policy: p,
+                resource: x,
+            };
+            if checker_tables::breaks(nodes, rows, w) {
                 return true;
             }
         }

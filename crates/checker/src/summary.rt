@@ -3,6 +3,7 @@
 use checker_account::PLACES;
 use checker_account::Table;
 use checker_account::WATCHED;
+use checker_tables::Watch;
 use usage::POLICIES;
 ghost use Prim.Native.Nat.{ℕ, _/_, _<_, _≤_};
 ghost use mathlib.Core.Path.{_≡_};
@@ -25,7 +26,12 @@ fn marks_with(nodes: &[u8], rows: &Table, local: bool, p: usize, x: usize) -> u6
     if !checker_tables::touched(nodes, x) {
         return 0;
     }
-    checker_tables::marks_of(nodes, rows, local, p, x)
+    let w = Watch {
+        local,
+        policy: p,
+        resource: x,
+    };
+    checker_tables::marks_of(nodes, rows, w)
 }
 
 // The marks of policy p, whose moves the table of rows has.

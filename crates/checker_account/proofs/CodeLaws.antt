@@ -65,58 +65,6 @@ pub place-lt : (k : ℕ) (o : Bool) (m : ℕ) → k < mostNodes → m < meanings
 place-lt k false m h l = omega arith
 place-lt k true m h l = omega arith
 
--- ── The kinds of node ──
-
--- what holds of each kind and of every number above them holds of every number
-pub by-kind : (P : ℕ → Type 0) → P 0 → P 1 → P 2 → P 3 → P 4 → P 5 → P 6 → P 7 → P 8
-    → ((n : ℕ) → P (suc (suc (suc (suc (suc (suc (suc (suc (suc n)))))))))) → (n : ℕ) → P n
-by-kind P h₀ h₁ h₂ h₃ h₄ h₅ h₆ h₇ h₈ h zero = h₀
-by-kind P h₀ h₁ h₂ h₃ h₄ h₅ h₆ h₇ h₈ h (suc zero) = h₁
-by-kind P h₀ h₁ h₂ h₃ h₄ h₅ h₆ h₇ h₈ h (suc (suc zero)) = h₂
-by-kind P h₀ h₁ h₂ h₃ h₄ h₅ h₆ h₇ h₈ h (suc (suc (suc zero))) = h₃
-by-kind P h₀ h₁ h₂ h₃ h₄ h₅ h₆ h₇ h₈ h (suc (suc (suc (suc zero)))) = h₄
-by-kind P h₀ h₁ h₂ h₃ h₄ h₅ h₆ h₇ h₈ h (suc (suc (suc (suc (suc zero))))) = h₅
-by-kind P h₀ h₁ h₂ h₃ h₄ h₅ h₆ h₇ h₈ h (suc (suc (suc (suc (suc (suc zero)))))) = h₆
-by-kind P h₀ h₁ h₂ h₃ h₄ h₅ h₆ h₇ h₈ h (suc (suc (suc (suc (suc (suc (suc zero))))))) = h₇
-by-kind P h₀ h₁ h₂ h₃ h₄ h₅ h₆ h₇ h₈ h (suc (suc (suc (suc (suc (suc (suc (suc zero)))))))) = h₈
-by-kind P h₀ h₁ h₂ h₃ h₄ h₅ h₆ h₇ h₈ h (suc (suc (suc (suc (suc (suc (suc (suc (suc n))))))))) = h n
-
--- a kind above 8 says nothing
-pub no-form : (n a b : ℕ) → (n ≡ 0 → ⊥) → (n ≡ 1 → ⊥) → (n ≡ 2 → ⊥) → (n ≡ 3 → ⊥) → (n ≡ 4 → ⊥) → (n ≡ 5 → ⊥) → (n ≡ 6 → ⊥) → (n ≡ 7 → ⊥)
-    → (n ≡ 8 → ⊥) → formOf (record { kind = n; a = a; b = b }) ≡ none
-unfolding formOf
-no-form n a b d₀ d₁ d₂ d₃ d₄ d₅ d₆ d₇ d₈ =
-    by-kind (λ j. n ≡ j → formOf (record { kind = j; a = a; b = b }) ≡ none) (λ e. absurd (d₀ e)) (λ e. absurd (d₁ e)) (λ e. absurd (d₂ e))
-    (λ e. absurd (d₃ e)) (λ e. absurd (d₄ e)) (λ e. absurd (d₅ e)) (λ e. absurd (d₆ e)) (λ e. absurd (d₇ e)) (λ e. absurd (d₈ e))
-    (λ k e. refl) n refl
-
--- a node of a kind other than 3 to 8 leads to nothing
-pub no-arrivals : (local : Bool) (rows : Rows) (p : ℕ) (t : List ℕ) (k : ℕ) (o : Bool) (m v n a b : ℕ) → (n ≡ 3 → ⊥) → (n ≡ 4 → ⊥)
-    → (n ≡ 5 → ⊥)
-    → (n ≡ 6 → ⊥) → (n ≡ 7 → ⊥) → (n ≡ 8 → ⊥) → arrivalsOf local rows p t k o m v (formOf (record { kind = n; a = a; b = b })) ≡ []
-unfolding formOf arrivals
-no-arrivals local rows p t k o m v n a b d₃ d₄ d₅ d₆ d₇ d₈ =
-    by-kind (λ j. n ≡ j → arrivalsOf local rows p t k o m v (formOf (record { kind = j; a = a; b = b })) ≡ []) (λ e. refl) (λ e. refl)
-    (λ e. refl)
-    (λ e. absurd (d₃ e)) (λ e. absurd (d₄ e)) (λ e. absurd (d₅ e)) (λ e. absurd (d₆ e)) (λ e. absurd (d₇ e)) (λ e. absurd (d₈ e))
-    (λ k e. refl) n refl
-
--- and one of a kind other than 1, 2, 7 and 8 takes no step
-pub no-step : (local : Bool) (rows : Rows) (p x : ℕ) (u : List ℕ) (k m n a b : ℕ) → (n ≡ 1 → ⊥) → (n ≡ 2 → ⊥) → (n ≡ 7 → ⊥) → (n ≡ 8 → ⊥)
-    → leavesOf local rows p x u k m (formOf (record { kind = n; a = a; b = b })) ≡ 0
-unfolding formOf leaves
-no-step local rows p x u k m n a b d₁ d₂ d₇ d₈ =
-    by-kind (λ j. n ≡ j → leavesOf local rows p x u k m (formOf (record { kind = j; a = a; b = b })) ≡ 0) (λ e. refl) (λ e. absurd (d₁ e))
-    (λ e. absurd (d₂ e)) (λ e. refl) (λ e. refl) (λ e. refl) (λ e. refl) (λ e. absurd (d₇ e)) (λ e. absurd (d₈ e)) (λ k e. refl) n refl
-
--- one of a kind other than 1, 2 and 7 has no event
-pub no-rows : (tables : EventTables) (p k : ℕ) (r : List ℕ) (n a b : ℕ) → (n ≡ 1 → ⊥) → (n ≡ 2 → ⊥) → (n ≡ 7 → ⊥)
-    → nodeRows tables p k (formOf (record { kind = n; a = a; b = b })) r ≡ r
-unfolding formOf nodeRows
-no-rows tables p k r n a b d₁ d₂ d₇ =
-    by-kind (λ j. n ≡ j → nodeRows tables p k (formOf (record { kind = j; a = a; b = b })) r ≡ r) (λ e. refl) (λ e. absurd (d₁ e))
-    (λ e. absurd (d₂ e)) (λ e. refl) (λ e. refl) (λ e. refl) (λ e. refl) (λ e. absurd (d₇ e)) (λ e. refl) (λ k e. refl) n refl
-
 -- ── A search ──
 
 pub none-more : (f : ℕ → Bool) (n : ℕ) → someBelow f n ≡ false → f n ≡ false → someBelow f (n + 1) ≡ false

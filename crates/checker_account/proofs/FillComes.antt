@@ -17,7 +17,8 @@ use Rattle.usage.specs.Outline.{Form, end, on-static, on-name, sequence, choice
 use Rattle.automaton.specs.Mask.{has}
 use Rattle.automaton.proofs.MaskLaws.{has-pow}
 use Rattle.checker_account.specs.Account.{watched, Comes}
-use Rattle.checker_account.specs.Tables.{least, nameOf, made, Rows, place, Arrival, arrivals, joinedAt, places, meanings}
+use Rattle.checker_account.specs.declared.Arrival.{Arrival}
+use Rattle.checker_account.specs.Tables.{least, nameOf, made, Rows, place, arrivals, joinedAt, places, meanings}
 use Rattle.checker_account.specs.Holds.{Start, RowsOk, NamesOk, ComesFrom, HoldsEnds, ComesAt, HasCome, SoundComes, Each, Entered}
 use Rattle.checker_account.specs.Holds.{ClosedComes, HoldsComes, TargetsOk}
 use Rattle.checker_account.specs.Filling.{Forms, FormsOf, arrivalsOf, ComesRule, leads-to, begins, Filled}
@@ -79,17 +80,17 @@ module _ (local : Bool) (es : List Edge) (ns : List Node) (p x : ℕ) (rows : Ro
 
   joined-sound : (u : List ℕ) (g : Arrival) → g .meaning < meanings → Right local es ns p x rows small ok names t ends g
       → SoundComes local es ns p x u
-      → SoundComes local es ns p x (joinedAt u (place (g .to) (g .is-open) (g .meaning)) (g .states))
+      → SoundComes local es ns p x (joinedAt u (place (g .to) (g .opened) (g .meaning)) (g .states))
   joined-sound u g l right sound k o m q st lq h =
-      go (joined-found u (place (g .to) (g .is-open) (g .meaning)) (g .states) (place k o m) q h)
+      go (joined-found u (place (g .to) (g .opened) (g .meaning)) (g .states) (place k o m) q h)
     where
-      go : HasCome u k o m q ⊎ ((place k o m ≡ place (g .to) (g .is-open) (g .meaning)) × (has (g .states) q ≡ true))
+      go : HasCome u k o m q ⊎ ((place k o m ≡ place (g .to) (g .opened) (g .meaning)) × (has (g .states) q ≡ true))
           → ComesAt local es ns p x k o m q
       go (inl e) = sound k o m q st lq e
       go (inr (e, f)) =
-          let s = same-place (g .to) (g .is-open) (g .meaning) k o m l (st .high) (sym e) in
+          let s = same-place (g .to) (g .opened) (g .meaning) k o m l (st .high) (sym e) in
           let r = right q lq f in
-          let r₁ = subst (λ (j : ℕ). ComesAt local es ns p x j (g .is-open) (g .meaning) q) (s .node) r in
+          let r₁ = subst (λ (j : ℕ). ComesAt local es ns p x j (g .opened) (g .meaning) q) (s .node) r in
           let r₂ = subst (λ (b : Bool). ComesAt local es ns p x k b (g .meaning) q) (s .opened) r₁ in
           subst (λ (j : ℕ). ComesAt local es ns p x k o j q) (s .meaning) r₂
 
@@ -105,7 +106,7 @@ module _ (local : Bool) (es : List Edge) (ns : List Node) (p x : ℕ) (rows : Ro
       st = record { low = low; high = high }
 
       go : (f : Option Form) → forms k ≡ f → List·Memᴰ g (arrivalsOf local rows p (t o) k o m from f)
-          → SoundComes local es ns p x (joinedAt u (place (g .to) (g .is-open) (g .meaning)) (g .states))
+          → SoundComes local es ns p x (joinedAt u (place (g .to) (g .opened) (g .meaning)) (g .states))
       go none e mem = absurd (List·Memᴰ·not-nil mem)
       go (some f) e mem =
           let i = reads .is k f l e in
@@ -117,11 +118,11 @@ module _ (local : Bool) (es : List Edge) (ns : List Node) (p x : ℕ) (rows : Ro
   -- ── Closed ──
 
   all-entered : (gs : List Arrival) (u : List ℕ) → length u ≡ places → Each InTable gs
-      → Each (λ g. joinedAt u (place (g .to) (g .is-open) (g .meaning)) (g .states) ≡ u) gs → Each (Entered u) gs
+      → Each (λ g. joinedAt u (place (g .to) (g .opened) (g .meaning)) (g .states) ≡ u) gs → Each (Entered u) gs
   all-entered [] u len i s = tt
   all-entered (g ∷ gs) u len i s = (
-    (λ q lq h. joined-still u (place (g .to) (g .is-open) (g .meaning)) (g .states)
-        (let l = place-lt (g .to) (g .is-open) (g .meaning) (i .0 .node) (i .0 .meaning) in omega arith) (s .0) q h),
+    (λ q lq h. joined-still u (place (g .to) (g .opened) (g .meaning)) (g .states)
+        (let l = place-lt (g .to) (g .opened) (g .meaning) (i .0 .node) (i .0 .meaning) in omega arith) (s .0) q h),
     all-entered gs u len (i .1) (s .1),
   )
 
@@ -134,8 +135,8 @@ module _ (local : Bool) (es : List Edge) (ns : List Node) (p x : ℕ) (rows : Ro
         let v = getD u (place k o m) 0 in
         let gs = arrivals local rows p (t o) k o m v f in
         all-entered gs u len (arrivals-in k o m v f i (st .high))
-        (each-all (λ g. joinedAt u (place (g .to) (g .is-open) (g .meaning)) (g .states) ≡ u) gs
-        (λ g mem. closed (place (g .to) (g .is-open) (g .meaning)) (g .states)
+        (each-all (λ g. joinedAt u (place (g .to) (g .opened) (g .meaning)) (g .states) ≡ u) gs
+        (λ g mem. closed (place (g .to) (g .opened) (g .meaning)) (g .states)
         (leads-to k o m g l (st .low) (st .high)
         (subst (λ (o′ : Option Form). List·Memᴰ g (arrivalsOf local rows p (t o) k o m v o′)) (sym e) mem))));
   }

@@ -16,7 +16,8 @@ use Rattle.usage.proofs.Logic.{by-cases, last-or-lower}
 use Rattle.automaton.specs.Move.{rowsOf}
 use Rattle.automaton.proofs.RowLaws.{rows-lt}
 use Rattle.checker_account.specs.Account.{watched, others}
-use Rattle.checker_account.specs.Tables.{Rows, Resets, never, opening-of, Arrival, arrivals, places, meanings, least, place, base}
+use Rattle.checker_account.specs.declared.Arrival.{Arrival}
+use Rattle.checker_account.specs.Tables.{Rows, Resets, never, opening-of, arrivals, places, meanings, least, place, base}
 use Rattle.checker_account.specs.Tables.{half, restarted, isReset, made, joinedAt, rowAt, rowsIn}
 use Rattle.checker_account.specs.Holds.{Each}
 use Rattle.checker_account.specs.Filling.{repeat, total, grown, Forms, Wide, Derived, start, Filled, EndsRule, settleNode, settleRound}
@@ -122,8 +123,8 @@ module _ (local : Bool) (rows : Rows) (p : ℕ) (small : WideRows rows) where
   unfolding entered
   entered-wide [] u h w = w
   entered-wide (g ∷ gs) u (h, hs) w =
-      entered-wide gs (joinedAt u (place (g .to) (g .is-open) (g .meaning)) (g .states)) hs
-      (joined-wide u (place (g .to) (g .is-open) (g .meaning)) (g .states) h w)
+      entered-wide gs (joinedAt u (place (g .to) (g .opened) (g .meaning)) (g .states)) hs
+      (joined-wide u (place (g .to) (g .opened) (g .meaning)) (g .states) h w)
 
   round-wide : (t : Bool → List ℕ) → ((o : Bool) → Wide (t o)) → (l n : ℕ) (forms : Forms) (u : List ℕ) → Wide u
       → Wide (passRound local rows p t l n forms u)

@@ -23,6 +23,10 @@ pub mod ChoiceLaws
 pub mod Example
 pub mod MaskLaws
 pub mod Starts
+pub mod LensEnds
+pub mod LensComes
+pub mod OneLens
+pub mod PairLens
 pub mod EndsTable
 pub mod ComesTable
 pub mod HitsTable

@@ -14,7 +14,8 @@ use Rattle.usage.specs.Limits.{states}
 use Rattle.usage.specs.Outline.{Form, end, on-static, on-name, sequence, choice, loop, back, fresh, sandbox}
 use Rattle.automaton.specs.Mask.{has, union}
 use Rattle.automaton.proofs.MaskLaws.{has-zero}
-use Rattle.checker_account.specs.Tables.{Rows, base, half, isReset, place, over, ownCreated, Arrival, arrivals, joinedAt, meanings}
+use Rattle.checker_account.specs.declared.Arrival.{Arrival}
+use Rattle.checker_account.specs.Tables.{Rows, base, half, isReset, place, over, ownCreated, arrivals, joinedAt, meanings}
 use Rattle.checker_account.specs.Holds.{Each}
 use Rattle.checker_account.specs.Filling.{
   Forms,
@@ -37,8 +38,8 @@ pub entered-grows : (gs : List Arrival) (u : List ℕ) → Grows u (entered gs u
 unfolding entered
 entered-grows [] u = grows-self u
 entered-grows (g ∷ gs) u =
-    grows-trans (joined-grows u (place (g .to) (g .is-open) (g .meaning)) (g .states))
-    (entered-grows gs (joinedAt u (place (g .to) (g .is-open) (g .meaning)) (g .states)))
+    grows-trans (joined-grows u (place (g .to) (g .opened) (g .meaning)) (g .states))
+    (entered-grows gs (joinedAt u (place (g .to) (g .opened) (g .meaning)) (g .states)))
 
 -- ── A node that is not come to leads to nothing ──
 
@@ -64,7 +65,7 @@ entered-none : (gs : List Arrival) (u : List ℕ) → Each (λ g. g .states ≡ 
 unfolding entered
 entered-none [] u h = refl
 entered-none (g ∷ gs) u (e, h) =
-    ap (entered gs) (joined-none u (place (g .to) (g .is-open) (g .meaning)) (g .states) e) ∙ entered-none gs u h
+    ap (entered gs) (joined-none u (place (g .to) (g .opened) (g .meaning)) (g .states) e) ∙ entered-none gs u h
 
 none-arrives : (local : Bool) (rows : Rows) (p : ℕ) (t : List ℕ) (k : ℕ) (o : Bool) (m : ℕ) (f : Option Form)
     → Each (λ g. g .states ≡ 0) (arrivalsOf local rows p t k o m 0 f)
@@ -81,11 +82,10 @@ none-arrives local rows p t k o m (some (back a)) = (refl, tt)
 none-arrives local rows p t k o m (some (fresh n b)) = (over-none (rows k false), (created-none rows k m, tt))
 none-arrives local rows p t k o m (some (sandbox s b)) = (restarted-none (isReset local p s o), tt)
 
-pub pass-none : (local : Bool) (rows : Rows) (p : ℕ) (t : List ℕ) (k : ℕ) (f : Option Form) (o : Bool) (m : ℕ) (u : List ℕ)
-    → getD u (place k o m) 0 ≡ 0
-    → pass local rows p t k f o m u ≡ u
-pass-none local rows p t k f o m u e =
-    ap (λ (v : ℕ). entered (arrivalsOf local rows p t k o m v f) u) e
+pub pass-none : (local : Bool) (rows : Rows) (p : ℕ) (t : List ℕ) (k : ℕ) (f : Option Form) (o : Bool) (m v : ℕ) (u : List ℕ)
+    → v ≡ 0 → entered (arrivalsOf local rows p t k o m v f) u ≡ u
+pass-none local rows p t k f o m v u e =
+    ap (λ (n : ℕ). entered (arrivalsOf local rows p t k o m n f) u) e
     ∙ entered-none (arrivalsOf local rows p t k o m 0 f) u (none-arrives local rows p t k o m f)
 
 -- ── They grow ──
@@ -121,12 +121,12 @@ each-all P [] h = tt
 each-all P (g ∷ gs) h = (h g (List·Memᴰ·head refl), each-all P gs (λ f m. h f (List·Memᴰ·tail m)))
 
 entered-still : (gs : List Arrival) (u : List ℕ) → entered gs u ≡ u
-    → Each (λ g. joinedAt u (place (g .to) (g .is-open) (g .meaning)) (g .states) ≡ u) gs
+    → Each (λ g. joinedAt u (place (g .to) (g .opened) (g .meaning)) (g .states) ≡ u) gs
 unfolding entered
 entered-still [] u e = tt
 entered-still (g ∷ gs) u e =
-    let w = joinedAt u (place (g .to) (g .is-open) (g .meaning)) (g .states) in
-    let a = joined-grows u (place (g .to) (g .is-open) (g .meaning)) (g .states) in
+    let w = joinedAt u (place (g .to) (g .opened) (g .meaning)) (g .states) in
+    let a = joined-grows u (place (g .to) (g .opened) (g .meaning)) (g .states) in
     let b = entered-grows gs w in
     let same : w ≡ u = grows-still a b e in
     (same, entered-still gs u (ap (entered gs) (sym same) ∙ e))
@@ -157,12 +157,12 @@ module _ (local : Bool) (rows : Rows) (p : ℕ) (t : Bool → List ℕ) (l n : �
     Made = Derived (ComesRule local rows p t l n forms) u₀
 
     entered-derived : (by : List ℕ) → Made by → (gs : List Arrival)
-        → ((g : Arrival) → List·Memᴰ g gs → ComesRule local rows p t l n forms by (place (g .to) (g .is-open) (g .meaning)) (g .states))
+        → ((g : Arrival) → List·Memᴰ g gs → ComesRule local rows p t l n forms by (place (g .to) (g .opened) (g .meaning)) (g .states))
         → (u : List ℕ) → Made u → Made (entered gs u)
     unfolding entered
     entered-derived by b [] h u d = d
     entered-derived by b (g ∷ gs) h u d =
-        entered-derived by b gs (λ f m. h f (List·Memᴰ·tail m)) (joinedAt u (place (g .to) (g .is-open) (g .meaning)) (g .states))
+        entered-derived by b gs (λ f m. h f (List·Memᴰ·tail m)) (joinedAt u (place (g .to) (g .opened) (g .meaning)) (g .states))
         (joins d b (h g (List·Memᴰ·head refl)))
 
     pass-derived : (k : ℕ) (o : Bool) (m : ℕ) (u : List ℕ) → k < n → l ≤ m → m < meanings → Made u
@@ -198,5 +198,5 @@ module _ (local : Bool) (rows : Rows) (p : ℕ) (t : Bool → List ℕ) (l n : �
     pub pass-round-closed : (i v : ℕ) → ComesRule local rows p t l n forms u i v → joinedAt u i v ≡ u
     pass-round-closed i v (leads-to k o m g b low high mem) =
         let gs = arrivalsOf local rows p (t o) k o m (getD u (place k o m) 0) (forms k) in
-        each-at (λ g. joinedAt u (place (g .to) (g .is-open) (g .meaning)) (g .states) ≡ u) gs g
+        each-at (λ g. joinedAt u (place (g .to) (g .opened) (g .meaning)) (g .states) ≡ u) gs g
         (entered-still gs u (pass-still k o m b low high)) mem

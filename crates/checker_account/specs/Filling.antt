@@ -15,7 +15,8 @@ use Rattle.usage.specs.Tables.{nodeAt}
 use Rattle.usage.specs.Tests.{someBelow}
 use Rattle.checker_account.specs.Account.{watched}
 use Rattle.automaton.specs.Mask.{offends}
-use Rattle.checker_account.specs.Tables.{joinedAt, meanings, places, least, half, base, Rows, endsBy, place, Arrival, arrivals}
+use Rattle.checker_account.specs.declared.Arrival.{Arrival}
+use Rattle.checker_account.specs.Tables.{joinedAt, meanings, places, least, half, base, Rows, endsBy, place, arrivals}
 use Rattle.checker_account.specs.Tables.{leaves, Resets, never, opening-of}
 
 -- f 0, then f 1, …, then f (n - 1)
@@ -111,7 +112,7 @@ byOpen opened shut true = opened
 -- each arrival, joined
 unfoldable pub entered : List Arrival → List ℕ → List ℕ
 entered [] u = u
-entered (g ∷ gs) u = entered gs (joinedAt u (place (g .to) (g .is-open) (g .meaning)) (g .states))
+entered (g ∷ gs) u = entered gs (joinedAt u (place (g .to) (g .opened) (g .meaning)) (g .states))
 
 abbrev pub arrivalsOf : Bool → Rows → ℕ → List ℕ → ℕ → Bool → ℕ → ℕ → Option Form → List Arrival
 arrivalsOf local rows p t k o m v none = []
@@ -121,7 +122,7 @@ arrivalsOf local rows p t k o m v (some f) = arrivals local rows p t k o m v f
 pub data ComesRule (local : Bool) (rows : Rows) (p : ℕ) (t : Bool → List ℕ) (l n : ℕ) (forms : Forms) (u : List ℕ) : ℕ → ℕ → Type 0 where
   leads-to : (k : ℕ) (o : Bool) (m : ℕ) (g : Arrival) → k < n → l ≤ m → m < meanings
       → List·Memᴰ g (arrivalsOf local rows p (t o) k o m (getD u (place k o m) 0) (forms k))
-      → ComesRule local rows p t l n forms u (place (g .to) (g .is-open) (g .meaning)) (g .states)
+      → ComesRule local rows p t l n forms u (place (g .to) (g .opened) (g .meaning)) (g .states)
 
 -- what node k, come to with o and m, leads to; t is the table of ends for o
 abbrev pub pass : Bool → Rows → ℕ → List ℕ → ℕ → Option Form → Bool → ℕ → List ℕ → List ℕ

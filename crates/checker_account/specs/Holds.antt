@@ -1,10 +1,10 @@
 -- What the tables are to hold: exactly the relations `Ends` and `Comes` of Account.antt, at every start that occurs.
-use Prim.Native.Nat.{ℕ, _+_, _<_, _≤_}
+use Prim.Native.Nat.{ℕ, suc, _+_, _<_, _≤_}
 use mathlib.Core.Path.{_≡_}
 use mathlib.Core.Bool.{Bool, true, false, cond}
 use mathlib.Core.Option.{some}
 use mathlib.Core.List.{List, [], _∷_}
-use mathlib.Core.Logic.{_↔_}
+use mathlib.Core.Logic.{_⊎_, _↔_}
 use lib.Dec.{eqb}
 use lib.ListN.{getD}
 use Rattle.usage.specs.declared.Edge.{Edge}
@@ -15,13 +15,43 @@ use Rattle.usage.specs.Outline.{Form, Is, on-static, on-name, sequence, choice,
 use Rattle.automaton.specs.Mask.{has, offends}
 use Rattle.checker_account.specs.Account.{watched, others, Ends, Comes, Last, Hits}
 use Rattle.checker_account.specs.Single.{noName, watching}
-use Rattle.checker_account.specs.Tables.{meanings, least, nameOf, made, at, half, base, Rows, endsBy, place, Arrival, arrivals}
+use Rattle.checker_account.specs.Lens.{Lens, Codes}
+use Rattle.checker_account.specs.declared.Arrival.{Arrival}
+use Rattle.checker_account.specs.Tables.{meanings, least, nameOf, made, forgotten, meaningAfter, at, half}
+use Rattle.checker_account.specs.Tables.{base, Rows, endsBy, place, arrivals}
 use Rattle.checker_account.specs.Tables.{leaves, lastOf, Resets, never, opening-of}
 
 -- the meanings that occur where x is watched
 pub record Start (x m : ℕ) : Type 0 where
   pub low : least x ≤ m
   pub high : m < meanings
+
+-- The lens of one watched resource: an entry is a meaning, and its halves tell whether x was created. Of one that was, no end tells that it
+-- was not.
+abbrev pub oneLens : (x : ℕ) → Lens (watching x)
+oneLens x = record {
+  Entry = ℕ;
+  meaning = nameOf;
+  left = made;
+  ended = λ m c. c;
+  Used = Start x;
+  Later = λ c d. c ≡ true → d ≡ true;
+  Still = λ m c. made m ≡ c;
+  Splits = λ m f c g. (f ≡ m) × ((made m ≡ true → c ≡ true) × (g ≡ meaningAfter m c));
+  Gives = λ m n d g. ((d ≡ others) × (g ≡ forgotten m n)) ⊎ ((d ≡ x) × ((made m ≡ false) × (g ≡ suc n)));
+}
+
+-- its codes are the meanings too
+abbrev pub oneCodes : (x : ℕ) → Codes (watching x) (oneLens x)
+oneCodes x = record {
+  Code = ℕ;
+  named = nameOf;
+  kept = made;
+  Occurs = Start x;
+  first = least x;
+  Then = λ m f c g. (f ≡ m) × ((made m ≡ true → c ≡ true) × (g ≡ meaningAfter m c));
+  New = λ m n d g. ((d ≡ others) × (g ≡ forgotten m n)) ⊎ ((d ≡ x) × ((made m ≡ false) × (g ≡ suc n)));
+}
 
 -- state q moves to q′ by an event with action a, which is on x or on another dynamic resource
 abbrev pub Dynamic : List Edge → ℕ → ℕ → ℕ → Bool → ℕ → ℕ → Type 0
@@ -104,7 +134,7 @@ Each P [] = Unit {0}
 Each P (g ∷ gs) = P g × Each P gs
 
 abbrev pub Entered : List ℕ → Arrival → Type 0
-Entered u g = (q : ℕ) → q < states → has (g .states) q ≡ true → HasCome u (g .to) (g .is-open) (g .meaning) q
+Entered u g = (q : ℕ) → q < states → has (g .states) q ≡ true → HasCome u (g .to) (g .opened) (g .meaning) q
 
 -- the start is in the table, and the rules add nothing to it
 pub record ClosedComes (local : Bool) (ns : List Node) (p x : ℕ) (rows : Rows) (t : Bool → List ℕ) (u : List ℕ) : Type 0 where

@@ -15,6 +15,7 @@ use Rattle.usage.specs.Outline.{Form, end, on-static, on-name, sequence, choice
 use Rattle.automaton.specs.Mask.{has, union}
 use Rattle.checker_account.specs.Account.{Last, by-action, by-opening}
 use Rattle.checker_account.specs.Single.{noName}
+use Rattle.checker_account.specs.declared.Arrival.{Arrival}
 
 -- ── Sets: of states, and of ends, which are twice as many ──
 
@@ -152,16 +153,10 @@ endsBy rows x resets t k m q (sandbox s b) = insideEnds resets t s b m q
 abbrev pub place : ℕ → Bool → ℕ → ℕ
 place k o m = starts * k + at o m
 
--- node `to` is come to, p being open or not, with this meaning, in these states
-pub record Arrival : Type 0 where
-  pub to : ℕ
-  pub is-open : Bool
-  pub meaning : ℕ
-  pub states : ℕ
-
+-- node k is come to, p being open or not, with this meaning, in these states
 infix 40 _by_by_with_
 abbrev pub _by_by_with_ : ℕ → Bool → ℕ → ℕ → Arrival
-k by o by m with v = record { to = k; is-open = o; meaning = m; states = v }
+k by o by m with v = record { to = k; opened = o; meaning = m; states = v }
 
 -- node b after one that ended in e, with x as it was and with x made
 abbrev pub halves : ℕ → Bool → ℕ → ℕ → List Arrival

@@ -31,3 +31,11 @@ pub const STARTS: usize = MEANINGS * STATES;
 pub const PLACES: usize = MOST_NODES * STARTS;
 
 pub type Table = [u16; PLACES];
+
+// A node is come to, the policy being open or not, with this meaning, in these states.
+pub struct Arrival {
+    pub to: usize,
+    pub opened: bool,
+    pub meaning: usize,
+    pub states: u16,
+}

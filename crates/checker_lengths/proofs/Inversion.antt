@@ -13,7 +13,7 @@ use Rattle.usage.proofs.Logic.{and-left, and-right}
 use Rattle.checker_account.specs.Tables.{half}
 use Rattle.automaton.specs.Mask.{has, offends}
 use Rattle.checker_lengths.specs.declared.Entry.{Entry}
-use Rattle.checker_lengths.specs.declared.Watch.{Watch}
+use Rattle.checker_tables.specs.declared.Watch.{Watch}
 use Rattle.checker_lengths.specs.Entries.{noLength}
 use Rattle.checker_lengths.specs.Offers.{
   lowEnd,

@@ -21,7 +21,7 @@ use Rattle.checker_account.proofs.SettledLaws.{PartOf, first, second, left, rig
 use Rattle.checker_tables.specs.Work.{readersOf}
 use Rattle.checker_tables.proofs.WorkLaws.{all-left, neither, reader-in, readers-below}
 use Rattle.checker_lengths.specs.declared.Entry.{Entry}
-use Rattle.checker_lengths.specs.declared.Watch.{Watch}
+use Rattle.checker_tables.specs.declared.Watch.{Watch}
 use Rattle.checker_lengths.specs.Entries.{size, noLength, allLengths, inTable, below, held}
 use Rattle.checker_lengths.specs.Offers.{atNode, firstEntry, secondEntry, bodyEntry}
 use Rattle.checker_lengths.specs.Offers.{innerEntry, sequenceOf, freshOf, sandboxOf, offerOf}

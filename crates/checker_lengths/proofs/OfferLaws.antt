@@ -17,7 +17,7 @@ use Rattle.checker_account.proofs.CodeLaws.{made-some}
 use Rattle.checker_tables.specs.Search.{lost}
 use Rattle.checker_tables.proofs.MeaningLaws.{lost-name}
 use Rattle.checker_lengths.specs.declared.Entry.{Entry}
-use Rattle.checker_lengths.specs.declared.Watch.{Watch}
+use Rattle.checker_tables.specs.declared.Watch.{Watch}
 use Rattle.checker_lengths.specs.Entries.{noLength, entryOf, plus}
 use Rattle.checker_lengths.specs.Offers.{
   lowEnd,

@@ -14,7 +14,7 @@ use Rattle.usage.specs.Outline.{Form}
 use Rattle.usage.proofs.Logic.{not-both, false-true}
 use Rattle.checker_account.specs.Filling.{total}
 use Rattle.checker_lengths.specs.declared.Entry.{Entry}
-use Rattle.checker_lengths.specs.declared.Watch.{Watch}
+use Rattle.checker_tables.specs.declared.Watch.{Watch}
 use Rattle.checker_lengths.specs.Entries.{allLengths, entryOf, linear, inTable, below, held}
 use Rattle.checker_lengths.specs.Offers.{toward, offerFrom}
 use Rattle.checker_lengths.specs.Filling.{Reach, falls, Settled, RuleSettled, StartSettled, StatesSettled, NodeSettled}

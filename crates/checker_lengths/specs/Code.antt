@@ -9,7 +9,7 @@ use Rattle.usage.specs.Limits.{nodeFields}
 use Rattle.usage.specs.Outline.{Form, sequence}
 use Rattle.checker_account.specs.Filling.{total}
 use Rattle.checker_lengths.specs.declared.Entry.{Entry}
-use Rattle.checker_lengths.specs.declared.Watch.{Watch}
+use Rattle.checker_tables.specs.declared.Watch.{Watch}
 use Rattle.checker_lengths.specs.Entries.{allLengths, linear, inTable, held}
 use Rattle.checker_lengths.specs.Offers.{offerFrom}
 use Rattle.checker_lengths.specs.Filling.{formHere, Reach, Settled, RuleSettled}

@@ -2,7 +2,7 @@
 -- `nodes` is the flat table of nodes, `rows` the table of rows of the policy, and `u` the table of what is come to.
 use Prim.Native.Nat.{ℕ, _/_, _<_, _≤_}
 use mathlib.Core.Path.{_≡_}
-use mathlib.Core.Bool.{Bool, true}
+use mathlib.Core.Bool.{Bool, true, false}
 use mathlib.Core.Option.{Option}
 use mathlib.Core.List.{List}
 use lib.ListN.{length, getD, set, replicate}
@@ -13,7 +13,7 @@ use Rattle.checker_account.specs.Tables.{meanings, least}
 use Rattle.checker_account.specs.Holds.{HasCome}
 use Rattle.automaton.specs.Mask.{has}
 use Rattle.checker_lengths.specs.declared.Entry.{Entry}
-use Rattle.checker_lengths.specs.declared.Watch.{Watch}
+use Rattle.checker_tables.specs.declared.Watch.{Watch}
 use Rattle.checker_lengths.specs.Entries.{aims, size, noLength, allLengths, entryOf, linear, inTable, held}
 use Rattle.checker_lengths.specs.Offers.{lowEnd, toward, offerFrom, waysOf}
 
@@ -52,3 +52,8 @@ NodeSettled w rows f u t l k =
 pub record Full (w : Watch) (rows nodes u t : List ℕ) : Type 0 where
   pub reach : Reach w rows nodes t
   pub settled : (k : ℕ) → k < length nodes / nodeFields → NodeSettled w rows (formHere nodes k) u t (least (w .resource)) k
+
+-- it is, or where there is no room for the nodes it has no length
+abbrev pub FullIf : Bool → Watch → List ℕ → List ℕ → List ℕ → List ℕ → Type 0
+FullIf true w rows nodes u t = Full w rows nodes u t
+FullIf false w rows nodes u t = t ≡ replicate size noLength

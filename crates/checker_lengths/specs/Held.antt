@@ -14,7 +14,7 @@ use Rattle.checker_account.specs.Account.{watched, Aim, ended, broken}
 use Rattle.checker_account.specs.Tables.{at, rowsIn}
 use Rattle.checker_account.specs.Holds.{RowsOk}
 use Rattle.checker_account.specs.Least.{Entries}
-use Rattle.checker_lengths.specs.declared.Watch.{Watch}
+use Rattle.checker_tables.specs.declared.Watch.{Watch}
 use Rattle.checker_lengths.specs.Entries.{atBreak, aims, entryOf, held}
 
 -- the number of an aim, and of the start in which name w means the watched resource and c tells whether it was created

@@ -10,7 +10,7 @@ use Rattle.usage.specs.Outline.{Form, end, on-static, on-name, sequence, choice
 use Rattle.automaton.specs.Mask.{has, offends}
 use Rattle.checker_account.specs.Tables.{nameOf, made, forgotten, rowsIn, half}
 use Rattle.checker_lengths.specs.declared.Entry.{Entry}
-use Rattle.checker_lengths.specs.declared.Watch.{Watch}
+use Rattle.checker_tables.specs.declared.Watch.{Watch}
 use Rattle.checker_lengths.specs.Entries.{atBreak, aims, noLength, entryOf, plus}
 
 -- the same start and aim at node k

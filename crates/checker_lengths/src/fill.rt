@@ -6,14 +6,14 @@ ghost use mathlib.Core.List.{List};
 ghost use Prim.Native.Nat.{ℕ, _<_};
 ghost use lib.ListN.{length};
 ghost use Rattle.checker_account.specs.Tables.{meanings};
-ghost use Rattle.checker_tables.specs.Search.{NodesFit};
+ghost use Rattle.checker_tables.specs.Search.{NodesFit, hasRoom};
 ghost use Rattle.usage.specs.Limits.{mostNodes};
 ghost use Rattle.outline_nodes.specs.Said.{saidBy};
 ghost use Rattle.automaton.specs.Mask.{has};
 ghost use Rattle.checker_lengths.specs.Entries.{atBreak, size, inTable};
 ghost use Rattle.checker_lengths.specs.Offers.{toward};
 ghost use Rattle.checker_lengths.specs.Code.{Pass, Puts, SettlesSequence};
-ghost use Rattle.checker_lengths.specs.Filling.{Settled, RuleSettled, StartSettled, StatesSettled, NodeSettled, Full};
+ghost use Rattle.checker_lengths.specs.Filling.{Settled, RuleSettled, StartSettled, StatesSettled, NodeSettled, Full, FullIf};
 use crate::AIMS;
 use crate::ALL;
 use crate::BROKEN;
@@ -22,11 +22,12 @@ use crate::Lengths;
 use crate::MOST;
 use crate::NONE;
 use crate::SIZE;
-use crate::Watch;
 use crate::entries;
 use crate::offers;
+use checker_account::Arrival;
 use checker_account::MEANINGS;
 use checker_account::Table;
+use checker_tables::Watch;
 use outline_nodes::NodeForm;
 use usage::MOST_NODES;
 use usage::NODE_FIELDS;
@@ -156,34 +157,26 @@ fn settle_if(t: &mut Lengths, rows: &Table, w: Watch, f: NodeForm, s: Entry, the
     }
 }
 
-// The starts of node k with one meaning, the policy being open or not, and the states v. Did that change the table?
-fn settle_states(
-    t: &mut Lengths,
-    rows: &Table,
-    w: Watch,
-    f: NodeForm,
-    k: usize,
-    opened: bool,
-    meaning: usize,
-    v: u16,
-) -> bool
+// The starts in which a node is come to. Did that change the table?
+fn settle_states(t: &mut Lengths, rows: &Table, w: Watch, f: NodeForm, g: Arrival) -> bool
     requires { ⌜ length (now t) ≡ size ⌝ }
-    requires { ⌜ k < mostNodes ⌝ }
-    requires { ⌜ meaning < meanings ⌝ }
-    ensures { λ r. ⌜ Pass w (now (rows .entry)) k (saidBy f)
-        (λ u. StatesSettled w (now (rows .entry)) (saidBy f) u k opened meaning v) (now (t .entry)) (now (t .exit)) r ⌝ }
+    requires { ⌜ g .to < mostNodes ⌝ }
+    requires { ⌜ g .meaning < meanings ⌝ }
+    ensures { λ r. ⌜ Pass w (now (rows .entry)) (g .to) (saidBy f)
+        (λ u. StatesSettled w (now (rows .entry)) (saidBy f) u (g .to) (g .opened) (g .meaning) (g .states))
+        (now (t .entry)) (now (t .exit)) r ⌝ }
 {
     let mut changed = false;
     let mut q: usize = 0;
     while q < STATES {
         let s = Entry {
-            node: k,
-            opened,
-            meaning,
+            node: g.to,
+            opened: g.opened,
+            meaning: g.meaning,
             state: q,
             aim: 0,
         };
-        if settle_if(t, rows, w, f, s, offers::has(v, q)) {
+        if settle_if(t, rows, w, f, s, offers::has(g.states, q)) {
             changed = true;
         }
         q += 1;
@@ -213,8 +206,13 @@ fn settle_node(
     while i < n {
         let m = l + i / 2;
         let o = i % 2 == 1;
-        let v = checker_tables::arrivals::come_to(u, k, o, m);
-        if settle_states(t, rows, w, f, k, o, m, v) {
+        let g = Arrival {
+            to: k,
+            opened: o,
+            meaning: m,
+            states: checker_tables::arrivals::come_to(u, k, o, m),
+        };
+        if settle_states(t, rows, w, f, g) {
             changed = true;
         }
         i += 1;
@@ -236,11 +234,11 @@ fn next(left: u64, k: usize) -> usize
     }
 }
 
-// The table, for the moves of the watched policy; u is the table of what is come to. Where settling a node changes something, the nodes
+// The table, where there is room for the nodes. Where settling a node changes something, the nodes
 // that read it are left again. They are gone through from the highest to the lowest, since a child has a greater number than its parent,
 // and one that is left again above the current one waits for the next round: else each change around a loop would settle the whole loop
 // anew.
-pub fn fill(nodes: &[u8], rows: &Table, u: &Table, w: Watch, t: &mut Lengths)
+fn settle_all(nodes: &[u8], rows: &Table, u: &Table, w: Watch, t: &mut Lengths)
     requires { ⌜ NodesFit (now nodes) ⌝ }
     ensures { λ r. ⌜ Full w (now (rows .entry)) (now (nodes .entry)) (now (u .entry)) (now (t .exit)) ⌝ }
 {
@@ -259,4 +257,16 @@ pub fn fill(nodes: &[u8], rows: &Table, u: &Table, w: Watch, t: &mut Lengths)
             left |= readers[k];
         }
     }
+}
+
+// The table, for the moves of the watched policy; u is the table of what is come to. It has no length where there is no room for the
+// nodes.
+pub fn fill(nodes: &[u8], rows: &Table, u: &Table, w: Watch, t: &mut Lengths)
+    ensures { λ r. ⌜ FullIf (hasRoom (now (nodes .entry))) w (now (rows .entry)) (now (nodes .entry)) (now (u .entry)) (now (t .exit)) ⌝ }
+{
+    if !checker_tables::fits(nodes) {
+        *t = [NONE; SIZE];
+        return;
+    }
+    settle_all(nodes, rows, u, w, t);
 }

@@ -30,13 +30,6 @@ pub const ALL: u8 = MOST + 1;
 
 pub const NONE: u8 = 255;
 
-// What a table is for: whether only the past since the opening counts, the policy, and the watched resource.
-pub struct Watch {
-    pub local: bool,
-    pub policy: usize,
-    pub resource: usize,
-}
-
 // Which entry: the node, whether the policy is open, the meaning (what is known of the watched resource), the state, and the aim.
 pub struct Entry {
     pub node: usize,

@@ -1,45 +1,43 @@
 -- The answer of the search, from the tables that were filled.
 use Prim.Native.Nat.{ℕ, _/_}
-use mathlib.Core.Path.{_≡_, refl, sym, ap, _∙_, subst}
+use mathlib.Core.Path.{_≡_, refl, sym, subst}
 use mathlib.Core.Bool.{Bool, true, false}
 use mathlib.Core.List.{List}
 use lib.ListN.{length, replicate}
 use Rattle.usage.specs.Limits.{nodeFields}
-use Rattle.checker_account.specs.Tables.{places, least, rowsIn, never, opening-of}
-use Rattle.checker_account.specs.Filling.{formsIn, begins, Filled, ShutFilled, byOpen}
-use Rattle.checker_tables.specs.Search.{hasRoom, EndsBy, ComesBy, hitIn, ArrivesBy, ArrivesIf, SearchedIf}
+use Rattle.checker_account.specs.Tables.{places, least, rowsIn, never}
+use Rattle.checker_account.specs.Filling.{formsIn, Filled, ShutFilled, byOpen}
+use Rattle.checker_tables.specs.Search.{hasRoom, resetsIf, EndsBy, ArrivesBy, ArrivesIf, SearchedIf}
 
-module _ (nodes rows : List ℕ) (p x l : ℕ) (room : hasRoom nodes ≡ true) (e : l ≡ least x) (opened : List ℕ)
-    (filled : Filled (EndsBy nodes rows x never l) (replicate places 0) opened) where
+module _ (nodes rows : List ℕ) (p x : ℕ) (room : hasRoom nodes ≡ true) (opened : List ℕ)
+    (filled : Filled (EndsBy nodes rows x never (least x)) (replicate places 0) opened) where
   answered : (local : Bool) (shut u : List ℕ) (answer : Bool)
       → ShutFilled local (rowsIn rows) p x (length nodes / nodeFields) (formsIn nodes) opened shut
-      → ArrivesBy nodes local rows (byOpen opened shut) p x l u answer → ArrivesIf (hasRoom nodes) nodes local rows p x u answer
+      → ArrivesBy nodes local rows (byOpen opened shut) p x (least x) u answer → ArrivesIf (hasRoom nodes) nodes local rows p x u answer
   answered local shut u answer s f = subst (λ (b : Bool). ArrivesIf b nodes local rows p x u answer) (sym room) (record {
     arrived = record {
       ends = byOpen opened shut;
-      ends-filled = record {
-        opened-filled = subst (λ (m : ℕ). Filled (EndsBy nodes rows x never m) (replicate places 0) opened) e filled;
-        shut-filled = s;
-      };
-      comes-filled = subst (λ (m : ℕ). Filled (ComesBy nodes local rows (byOpen opened shut) p m) (begins m) u) e (f .comes-filled);
+      ends-filled = record { opened-filled = filled; shut-filled = s };
+      comes-filled = f .comes-filled;
     };
-    told = f .told ∙ ap (λ (m : ℕ). hitIn nodes local rows u p x m) e;
+    told = f .told;
   })
 
   -- where the whole past counts, by the one table
-  pub whole-answer : (local answer : Bool) (u : List ℕ) → local ≡ false → ArrivesBy nodes local rows (byOpen opened opened) p x l u answer
+  pub whole-answer : (local answer : Bool) (u : List ℕ) → local ≡ false
+      → ArrivesBy nodes local rows (byOpen opened opened) p x (least x) u answer
       → ArrivesIf (hasRoom nodes) nodes local rows p x u answer
   whole-answer local answer u d f = answered local opened u answer
       (subst (λ (b : Bool). ShutFilled b (rowsIn rows) p x (length nodes / nodeFields) (formsIn nodes) opened opened) (sym d) refl) f
 
   -- under the local meaning, by both
   pub local-answer : (local answer : Bool) (u : List ℕ) → local ≡ true → (shut : List ℕ)
-      → Filled (EndsBy nodes rows x (opening-of p opened) l) (replicate places 0) shut
-      → ArrivesBy nodes local rows (byOpen opened shut) p x l u answer → ArrivesIf (hasRoom nodes) nodes local rows p x u answer
+      → Filled (EndsBy nodes rows x (resetsIf local p opened) (least x)) (replicate places 0) shut
+      → ArrivesBy nodes local rows (byOpen opened shut) p x (least x) u answer → ArrivesIf (hasRoom nodes) nodes local rows p x u answer
   local-answer local answer u d shut s f =
-      let s₁ = subst (λ (m : ℕ). Filled (EndsBy nodes rows x (opening-of p opened) m) (replicate places 0) shut) e s in
+      let t = subst (λ (b : Bool). Filled (EndsBy nodes rows x (resetsIf b p opened) (least x)) (replicate places 0) shut) d s in
       answered local shut u answer
-      (subst (λ (b : Bool). ShutFilled b (rowsIn rows) p x (length nodes / nodeFields) (formsIn nodes) opened shut) (sym d) s₁) f
+      (subst (λ (b : Bool). ShutFilled b (rowsIn rows) p x (length nodes / nodeFields) (formsIn nodes) opened shut) (sym d) t) f
 
 -- the answer alone
 pub arrives-searched : (room : Bool) (nodes : List ℕ) (local : Bool) (rows : List ℕ) (p x : ℕ) (u : List ℕ) (answer : Bool)
@@ -51,4 +49,4 @@ arrives-searched true nodes local rows p x u answer h = record {
   comes-filled = h .arrived .comes-filled;
   told = h .told;
 }
-arrives-searched false nodes local rows p x u answer h = h
+arrives-searched false nodes local rows p x u answer h = h .0

@@ -1,12 +1,12 @@
 -- The test of what the tables have room for says what the rules say, and the nodes of an accepted outline pass it.
 use Prim.Native.Nat.{ℕ, _/_, _<_, _≤_}
 use mathlib.Core.Path.{_≡_, refl, sym, ap, _∙_, subst}
-use mathlib.Core.Bool.{Bool, true, false, not, _&&_}
+use mathlib.Core.Bool.{Bool, true, false, not, _&&_, cond}
 use mathlib.Core.Option.{Option, none, some}
 use mathlib.Core.List.{List}
 use native.Mathlib.Omega.{arith}
 use lib.Dec.{ltb, leb}
-use lib.ListN.{length}
+use lib.ListN.{length, replicate}
 use borrow.Author.Tests.{ltb-true, lt-ltb, leb-true, le-leb}
 use Rattle.usage.specs.Limits.{actions, mostNodes, nodeFields}
 use Rattle.usage.specs.Outline.{Form, end, on-static, on-name, sequence, choice, loop, back, fresh, sandbox}
@@ -20,6 +20,7 @@ use Rattle.automaton.proofs.MaskLaws.{some-at, some-found}
 use Rattle.checker_account.specs.Single.{noName}
 use Rattle.checker_account.specs.Filling.{formsIn}
 use Rattle.checker_tables.specs.Search.{Small, small, NodesFit, hasRoom}
+use Rattle.checker_tables.specs.Work.{readersOf, readersIn}
 
 -- ── One node ──
 
@@ -77,6 +78,22 @@ module _ (t : List ℕ) where
       go k l true e = small-rule (formsIn t k) e
       go k l false e = false-true (sym none-big ∙ some-at (length t / nodeFields) big k l (ap not e))
 
+  -- they pass it
+  pub fits-test : NodesFit t → hasRoom t ≡ true
+  unfolding hasRoom
+  fits-test f =
+      and-both (leb (length t / nodeFields) mostNodes) _ (le-leb (length t / nodeFields) mostNodes (f .few))
+      (ap not (none-big (someBelow big (length t / nodeFields)) refl))
+    where
+      none-big : (b : Bool) → someBelow big (length t / nodeFields) ≡ b → b ≡ false
+      none-big false e = refl
+      none-big true e =
+          let (k, l, g) = some-found (length t / nodeFields) big e in
+          sym (small-test (formsIn t k) (f .each-small k l)) ∙ not-true (small (formsIn t k)) g
+
+  pub readers-fit : NodesFit t → readersIn t ≡ readersOf (length t / nodeFields) (formsIn t)
+  readers-fit f = ap (λ (b : Bool). cond b (readersOf (length t / nodeFields) (formsIn t)) (replicate mostNodes 0)) (fits-test f)
+
 -- ── The nodes of an accepted outline ──
 
 form-small : (f : Form) → FormOk f → Small (some f)
@@ -98,16 +115,4 @@ module _ (t : List ℕ) (ok : OutlineOk (nodesOf t)) where
       subst Small (sym e) (form-small f g)
 
   pub outline-fits : hasRoom t ≡ true
-  unfolding hasRoom
-  outline-fits =
-      and-both (leb (length t / nodeFields) mostNodes) _ (le-leb (length t / nodeFields) mostNodes few)
-      (ap not (none-big (someBelow (big t) (length t / nodeFields)) refl))
-    where
-      few : length t / nodeFields ≤ mostNodes
-      few = let l = ok .few in let n = nodes-length t in omega arith
-
-      none-big : (b : Bool) → someBelow (big t) (length t / nodeFields) ≡ b → b ≡ false
-      none-big false e = refl
-      none-big true e =
-          let (k, l, f) = some-found (length t / nodeFields) (big t) e in
-          sym (small-test (formsIn t k) (small-nodes k l)) ∙ not-true (small (formsIn t k)) f
+  outline-fits = fits-test t (record { few = let l = ok .few in let n = nodes-length t in omega arith; each-small = small-nodes })

@@ -12,6 +12,8 @@ pub mod OtherLaws
 pub mod WorkLaws
 -- Resources that need not be watched.
 pub mod TouchedLaws
+-- Arrivals that are entered one after the other.
+pub mod EnterLaws
 -- Openings that reset.
 pub mod ResetLaws
 -- The search's answer, from filled tables.

@@ -54,16 +54,16 @@ unmarked false nodes local rows p x u answer e h = refl
 pub found-room : (room : Bool) (nodes : List ℕ) (local : Bool) (rows : List ℕ) (p x : ℕ) (u : List ℕ) (answer : Bool) → answer ≡ true
     → ArrivesIf room nodes local rows p x u answer → room ≡ true
 found-room true nodes local rows p x u answer e h = refl
-found-room false nodes local rows p x u answer e h = sym h ∙ e
+found-room false nodes local rows p x u answer e h = sym (h .0) ∙ e
 
-pub all-marked : (room : Bool) (nodes : List ℕ) (local : Bool) (rows : List ℕ) (p x : ℕ) (u : List ℕ) (answer : Bool) (l marks : ℕ)
-    → answer ≡ true → l ≡ least x → marks ≡ marksIn nodes local rows u p x l
+pub all-marked : (room : Bool) (nodes : List ℕ) (local : Bool) (rows : List ℕ) (p x : ℕ) (u : List ℕ) (answer : Bool) (marks : ℕ)
+    → answer ≡ true → marks ≡ marksIn nodes local rows u p x (least x)
     → ArrivesIf room nodes local rows p x u answer → MarkedIf room nodes local rows p x marks
-all-marked true nodes local rows p x u answer l marks e s m h = record {
+all-marked true nodes local rows p x u answer marks e m h = record {
   ends = h .arrived .ends;
   comes = u;
   ends-filled = h .arrived .ends-filled;
   comes-filled = h .arrived .comes-filled;
-  told = m ∙ ap (λ (j : ℕ). marksIn nodes local rows u p x j) s;
+  told = m;
 }
-all-marked false nodes local rows p x u answer l marks e s m h = false-true (sym h ∙ e)
+all-marked false nodes local rows p x u answer marks e m h = false-true (sym (h .0) ∙ e)

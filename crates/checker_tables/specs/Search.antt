@@ -6,14 +6,16 @@ use mathlib.Core.Bool.{Bool, true, false, not, _&&_, _||_, cond}
 use mathlib.Core.Option.{Option, none, some}
 use mathlib.Core.List.{List}
 use lib.Dec.{eqb, ltb, leb}
-use lib.ListN.{length, replicate}
+use lib.ListN.{length, getD, replicate}
 use Rattle.usage.specs.Limits.{actions, policies, mostNodes, nodeFields}
 use Rattle.usage.specs.Outline.{Form, end, on-static, on-name, sequence, choice, loop, back, fresh, sandbox}
 use Rattle.usage.specs.Tests.{someBelow}
 use Rattle.checker_account.specs.Account.{watched}
 use Rattle.checker_account.specs.Single.{noName}
-use Rattle.checker_account.specs.Tables.{unnamed, places, least, rowsIn, Resets, never, opening-of}
-use Rattle.checker_account.specs.Filling.{formsIn, EndsRule, EndsFilled, ComesRule, passRound, begins, Filled, hitAny, Searched}
+use Rattle.checker_account.specs.declared.Arrival.{Arrival}
+use Rattle.checker_account.specs.Tables.{unnamed, meanings, places, least, rowsIn, place, Resets, never, opening-of}
+use Rattle.checker_account.specs.Filling.{grown, Wide, entered, formsIn, EndsRule, EndsFilled, ComesRule, passRound}
+use Rattle.checker_account.specs.Filling.{begins, Filled, hitAny, Searched}
 use Rattle.checker_account.specs.RowTable.{EventTables, fillRows}
 
 -- meaning m once meaning n no longer occurs
@@ -74,6 +76,12 @@ pub record NodesFit (t : List ℕ) : Type 0 where
 unfoldable pub hasRoom : List ℕ → Bool
 hasRoom t = leb (length t / nodeFields) mostNodes && not (someBelow (λ k. not (small (formsIn t k))) (length t / nodeFields))
 
+-- ── Arrivals ──
+
+-- the arrivals gs are entered into u, which gives u′; r tells whether any of them is new
+abbrev pub Enters : List Arrival → List ℕ → List ℕ → Bool → Type 0
+Enters gs u u′ r = (u′ ≡ entered gs u) × ((r ≡ grown u u′) × (Wide u → Wide u′))
+
 -- ── Over the flat tables that the code has: `rows` of a policy's moves, and `nodes` ──
 
 -- an opening of p resets, where the table of ends is one where p is not open; then `opened` is the one where it is
@@ -119,14 +127,19 @@ SearchedIn nodes local rows p x answer = Searched local (rowsIn rows) p x (lengt
 
 -- ── For all inputs at all ──
 
+-- the states in which node k is come to: none where the table has no such place
+unfoldable pub comeTo : List ℕ → ℕ → Bool → ℕ → ℕ
+comeTo u k o m = cond (ltb k mostNodes && ltb m meanings) (getD u (place k o m) 0) 0
+
 -- a policy is not broken where the tables have no room for the nodes
 abbrev pub SearchedIf : Bool → List ℕ → Bool → List ℕ → ℕ → ℕ → Bool → Type 0
 SearchedIf true nodes local rows p x answer = SearchedIn nodes local rows p x answer
 SearchedIf false nodes local rows p x answer = answer ≡ false
 
+-- nor is it then come to anything
 abbrev pub ArrivesIf : Bool → List ℕ → Bool → List ℕ → ℕ → ℕ → List ℕ → Bool → Type 0
 ArrivesIf true nodes local rows p x u answer = Arrives nodes local rows p x u answer
-ArrivesIf false nodes local rows p x u answer = answer ≡ false
+ArrivesIf false nodes local rows p x u answer = (answer ≡ false) × (u ≡ replicate places 0)
 
 -- the table of rows is one of zeros where there is no such policy or no room for the nodes
 abbrev pub wholeIf : Bool → List ℕ → List ℕ

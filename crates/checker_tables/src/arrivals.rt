@@ -8,14 +8,17 @@ ghost use lib.ListN.{length, getD, replicate};
 ghost use Rattle.usage.specs.Limits.{mostNodes};
 ghost use Rattle.outline_nodes.specs.Said.{saidBy};
 ghost use Rattle.checker_account.specs.Single.{noName};
-ghost use Rattle.checker_account.specs.Tables.{meanings, places, begun, rowsIn, joinedAt, restarted, place, _by_by_with_};
+ghost use Rattle.checker_account.specs.Tables.{meanings, places, least, begun, rowsIn, restarted, place, _by_by_with_};
 ghost use Rattle.checker_account.specs.Tables.{halves, freshArrivals};
-ghost use Rattle.checker_account.specs.Filling.{grown, byOpen, entered, arrivalsOf, pass, passNode, begins, Wide, Filled};
-ghost use Rattle.checker_tables.specs.Search.{Small, NodesFit, comesRound, ComesBy};
+ghost use Rattle.checker_account.specs.Filling.{grown, byOpen, arrivalsOf, passNode, begins, Wide, Filled};
+ghost use Rattle.checker_tables.specs.Search.{Small, NodesFit, Enters, comeTo, comesRound, ComesBy};
+use crate::Watch;
+use checker_account::Arrival;
 use checker_account::MEANINGS;
 use checker_account::STARTS;
 use checker_account::Table;
 use outline_nodes::NodeForm;
+use usage::MOST_NODES;
 use usage::NODE_FIELDS;
 use usage::STATES;
 
@@ -33,7 +36,7 @@ fn place(k: usize, o: bool, m: usize) -> usize
 }
 
 // The states in which node k is come to, by the table.
-pub fn come_to(u: &Table, k: usize, o: bool, m: usize) -> u16
+pub(crate) fn states_at(u: &Table, k: usize, o: bool, m: usize) -> u16
     requires { ⌜ k < mostNodes ⌝ }
     requires { ⌜ m < meanings ⌝ }
     ensures { λ r. ⌜ r ≡ getD (now (u .entry)) (place k o m) 0 ⌝ }
@@ -41,142 +44,179 @@ pub fn come_to(u: &Table, k: usize, o: bool, m: usize) -> u16
     u[place(k, o, m)]
 }
 
-// Node k is come to in the states v. Is that new?
-fn enter(u: &mut Table, k: usize, o: bool, m: usize, v: u16) -> bool
-    requires { ⌜ length (now u) ≡ places ⌝ }
-    requires { ⌜ k < mostNodes ⌝ }
-    requires { ⌜ m < meanings ⌝ }
-    ensures { λ r. ⌜ now (u .exit) ≡ joinedAt (now (u .entry)) (place k o m) v ⌝ }
-    ensures { λ r. ⌜ r ≡ grown (now (u .entry)) (now (u .exit)) ⌝ }
-    ensures { λ r. ⌜ (Wide (now (u .entry)) → Wide (now (u .exit))) ⌝ }
+// The same for other crates: none where the table has no such place.
+pub fn come_to(u: &Table, k: usize, o: bool, m: usize) -> u16
+    ensures { λ r. ⌜ r ≡ comeTo (now (u .entry)) k o m ⌝ }
 {
-    let i = place(k, o, m);
-    crate::join(u, i, v)
+    if MOST_NODES <= k {
+        return 0;
+    }
+    if MEANINGS <= m {
+        return 0;
+    }
+    states_at(u, k, o, m)
+}
+
+// The same arrival at another node.
+fn onto(from: Arrival, to: usize) -> Arrival
+    ensures { λ r. ⌜ r ≡ (to by from .opened by from .meaning with from .states) ⌝ }
+{
+    Arrival {
+        to,
+        opened: from.opened,
+        meaning: from.meaning,
+        states: from.states,
+    }
+}
+
+// A node is come to. Is that new?
+fn enter(u: &mut Table, g: Arrival) -> bool
+    requires { ⌜ length (now u) ≡ places ⌝ }
+    requires { ⌜ g .to < mostNodes ⌝ }
+    requires { ⌜ g .meaning < meanings ⌝ }
+    ensures { λ r. ⌜ Enters
+        (g ∷ [])
+        (now (u .entry)) (now (u .exit)) r ⌝ }
+{
+    let i = place(g.to, g.opened, g.meaning);
+    crate::join(u, i, g.states)
 }
 
 // Two nodes are, in the same states.
-fn enter_two(u: &mut Table, a: usize, b: usize, o: bool, m: usize, v: u16) -> bool
+fn enter_two(u: &mut Table, a: usize, b: usize, from: Arrival) -> bool
     requires { ⌜ length (now u) ≡ places ⌝ }
     requires { ⌜ a < mostNodes ⌝ }
     requires { ⌜ b < mostNodes ⌝ }
-    requires { ⌜ m < meanings ⌝ }
-    ensures { λ r. ⌜ now (u .exit) ≡ entered ((a by o by m with v) ∷ (b by o by m with v) ∷ []) (now (u .entry)) ⌝ }
-    ensures { λ r. ⌜ r ≡ grown (now (u .entry)) (now (u .exit)) ⌝ }
-    ensures { λ r. ⌜ (Wide (now (u .entry)) → Wide (now (u .exit))) ⌝ }
+    requires { ⌜ from .meaning < meanings ⌝ }
+    ensures { λ r. ⌜ Enters
+        ((a by from .opened by from .meaning with from .states) ∷ (b by from .opened by from .meaning with from .states) ∷ [])
+        (now (u .entry)) (now (u .exit)) r ⌝ }
 {
-    let first = enter(u, a, o, m, v);
-    let second = enter(u, b, o, m, v);
+    let first = enter(u, onto(from, a));
+    let second = enter(u, onto(from, b));
     first | second
 }
 
-// One is in the states of the lower half of e, the resource being as it was, and of the upper half, the resource being made.
-fn enter_halves(u: &mut Table, b: usize, o: bool, m: usize, e: u16) -> bool
+// One is after a node that ended in g.states: in those of the lower half, the resource being as it was, and of the upper half, the
+// resource being made.
+fn enter_halves(u: &mut Table, g: Arrival) -> bool
     requires { ⌜ length (now u) ≡ places ⌝ }
-    requires { ⌜ b < mostNodes ⌝ }
-    requires { ⌜ m < meanings ⌝ }
-    ensures { λ r. ⌜ now (u .exit) ≡ entered (halves b o m e) (now (u .entry)) ⌝ }
-    ensures { λ r. ⌜ r ≡ grown (now (u .entry)) (now (u .exit)) ⌝ }
-    ensures { λ r. ⌜ (Wide (now (u .entry)) → Wide (now (u .exit))) ⌝ }
+    requires { ⌜ g .to < mostNodes ⌝ }
+    requires { ⌜ g .meaning < meanings ⌝ }
+    ensures { λ r. ⌜ Enters
+        (halves (g .to) (g .opened) (g .meaning) (g .states))
+        (now (u .entry)) (now (u .exit)) r ⌝ }
 {
-    let n = crate::lose(m, 0);
-    let low = enter(u, b, o, m, e % 256);
-    let high = enter(u, b, o, n, e / 256);
+    let same = Arrival {
+        to: g.to,
+        opened: g.opened,
+        meaning: g.meaning,
+        states: g.states % 256,
+    };
+    let made = Arrival {
+        to: g.to,
+        opened: g.opened,
+        meaning: crate::lose(g.meaning, 0),
+        states: g.states / 256,
+    };
+    let low = enter(u, same);
+    let high = enter(u, made);
     low | high
 }
 
 // A sequence leads to its first node, and to its second in what the first ends in.
-fn pass_sequence(u: &mut Table, t: &Table, a: usize, b: usize, o: bool, m: usize, v: u16) -> bool
+fn pass_sequence(u: &mut Table, t: &Table, a: usize, b: usize, from: Arrival) -> bool
     requires { ⌜ length (now u) ≡ places ⌝ }
     requires { ⌜ a < mostNodes ⌝ }
     requires { ⌜ b < mostNodes ⌝ }
-    requires { ⌜ m < meanings ⌝ }
-    ensures { λ r. ⌜ now (u .exit) ≡ entered ((a by o by m with v) ∷ halves b o m (begun (now (t .entry)) a m v)) (now (u .entry)) ⌝ }
-    ensures { λ r. ⌜ r ≡ grown (now (u .entry)) (now (u .exit)) ⌝ }
-    ensures { λ r. ⌜ (Wide (now (u .entry)) → Wide (now (u .exit))) ⌝ }
+    requires { ⌜ from .meaning < meanings ⌝ }
+    ensures { λ r. ⌜ Enters
+        ((a by from .opened by from .meaning with from .states) ∷ halves b (from .opened) (from .meaning) (begun (now (t .entry)) a
+        (from .meaning) (from .states)))
+        (now (u .entry)) (now (u .exit)) r ⌝ }
 {
-    let e = crate::ends::begun(t, a, m, v);
-    let first = enter(u, a, o, m, v);
-    let second = enter_halves(u, b, o, m, e);
+    let after = Arrival {
+        to: b,
+        opened: from.opened,
+        meaning: from.meaning,
+        states: crate::ends::begun(t, a, from.meaning, from.states),
+    };
+    let first = enter(u, onto(from, a));
+    let second = enter_halves(u, after);
     first | second
 }
 
 // A fresh node leads to its body, another resource or the watched one being created.
-fn pass_fresh(
-    u: &mut Table,
-    rows: &Table,
-    k: usize,
-    n: usize,
-    b: usize,
-    o: bool,
-    m: usize,
-    v: u16,
-) -> bool
+fn pass_fresh(u: &mut Table, rows: &Table, n: usize, b: usize, from: Arrival) -> bool
     requires { ⌜ length (now u) ≡ places ⌝ }
-    requires { ⌜ k < mostNodes ⌝ }
     requires { ⌜ n < noName ⌝ }
     requires { ⌜ b < mostNodes ⌝ }
-    requires { ⌜ m < meanings ⌝ }
-    ensures { λ r. ⌜ now (u .exit) ≡ entered (freshArrivals (rowsIn (now (rows .entry))) k n b o m v) (now (u .entry)) ⌝ }
-    ensures { λ r. ⌜ r ≡ grown (now (u .entry)) (now (u .exit)) ⌝ }
-    ensures { λ r. ⌜ (Wide (now (u .entry)) → Wide (now (u .exit))) ⌝ }
+    requires { ⌜ from .to < mostNodes ⌝ }
+    requires { ⌜ from .meaning < meanings ⌝ }
+    ensures { λ r. ⌜ Enters
+        (freshArrivals (rowsIn (now (rows .entry))) (from .to) n b (from .opened) (from .meaning) (from .states))
+        (now (u .entry)) (now (u .exit)) r ⌝ }
 {
-    let f = crate::lose(m, n + 1);
-    let other = crate::rows::moved_set(rows, k, false, v);
-    let own = crate::rows::own_created(rows, k, m, v);
-    let first = enter(u, b, o, f, other);
-    let second = enter(u, b, o, n + 1, own);
+    let other = Arrival {
+        to: b,
+        opened: from.opened,
+        meaning: crate::lose(from.meaning, n + 1),
+        states: crate::rows::moved_set(rows, from.to, false, from.states),
+    };
+    let own = Arrival {
+        to: b,
+        opened: from.opened,
+        meaning: n + 1,
+        states: crate::rows::own_created(rows, from.to, from.meaning, from.states),
+    };
+    let first = enter(u, other);
+    let second = enter(u, own);
     first | second
 }
 
 // A sandbox leads to its body. `same`: it is one of the policy, which is open in it; where it was not, its opening resets under the local
 // meaning.
-fn pass_sandbox(u: &mut Table, local: bool, same: bool, b: usize, o: bool, m: usize, v: u16) -> bool
+fn pass_sandbox(u: &mut Table, local: bool, same: bool, b: usize, from: Arrival) -> bool
     requires { ⌜ length (now u) ≡ places ⌝ }
     requires { ⌜ b < mostNodes ⌝ }
-    requires { ⌜ m < meanings ⌝ }
-    ensures { λ r. ⌜ now (u .exit)
-        ≡ entered ((b by (o || same) by m with restarted (local && (same && not o)) v) ∷ []) (now (u .entry)) ⌝ }
-    ensures { λ r. ⌜ r ≡ grown (now (u .entry)) (now (u .exit)) ⌝ }
-    ensures { λ r. ⌜ (Wide (now (u .entry)) → Wide (now (u .exit))) ⌝ }
+    requires { ⌜ from .meaning < meanings ⌝ }
+    ensures { λ r. ⌜ Enters
+        ((b by (from .opened || same) by from .meaning with restarted (local && (same && not (from .opened))) (from .states)) ∷ [])
+        (now (u .entry)) (now (u .exit)) r ⌝ }
 {
-    let w = crate::restarted(local & (same & !o), v);
-    enter(u, b, o | same, m, w)
+    let o = from.opened;
+    let inside = Arrival {
+        to: b,
+        opened: o | same,
+        meaning: from.meaning,
+        states: crate::restarted(local & (same & !o), from.states),
+    };
+    enter(u, inside)
 }
 
-// What node k, come to with o and m in the states v, leads to; t is the table of ends for o. Is anything of it new?
-fn pass_by(
-    u: &mut Table,
-    t: &Table,
-    rows: &Table,
-    local: bool,
-    p: usize,
-    k: usize,
-    f: NodeForm,
-    o: bool,
-    m: usize,
-    v: u16,
-) -> bool
+// What a node that is come to leads to; t is the table of ends where the policy is open or not, as it is there. Is anything of it new?
+fn pass_by(u: &mut Table, t: &Table, rows: &Table, w: Watch, f: NodeForm, from: Arrival) -> bool
     requires { ⌜ length (now u) ≡ places ⌝ }
     requires { ⌜ Small (saidBy f) ⌝ }
-    requires { ⌜ k < mostNodes ⌝ }
-    requires { ⌜ m < meanings ⌝ }
-    ensures { λ r. ⌜ now (u .exit)
-        ≡ entered (arrivalsOf local (rowsIn (now (rows .entry))) p (now (t .entry)) k o m v (saidBy f)) (now (u .entry)) ⌝ }
-    ensures { λ r. ⌜ r ≡ grown (now (u .entry)) (now (u .exit)) ⌝ }
-    ensures { λ r. ⌜ (Wide (now (u .entry)) → Wide (now (u .exit))) ⌝ }
+    requires { ⌜ from .to < mostNodes ⌝ }
+    requires { ⌜ from .meaning < meanings ⌝ }
+    ensures { λ r. ⌜ Enters
+        (arrivalsOf (w .local) (rowsIn (now (rows .entry))) (w .policy) (now (t .entry)) (from .to) (from .opened) (from .meaning)
+        (from .states) (saidBy f))
+        (now (u .entry)) (now (u .exit)) r ⌝ }
 {
     match f {
         NodeForm::Sequence { first, second } => {
-            pass_sequence(u, t, first as usize, second as usize, o, m, v)
+            pass_sequence(u, t, first as usize, second as usize, from)
         }
-        NodeForm::Choice { one, other } => enter_two(u, one as usize, other as usize, o, m, v),
-        NodeForm::Loop { body } => enter(u, body as usize, o, m, v),
-        NodeForm::Back { to } => enter(u, to as usize, o, m, v),
+        NodeForm::Choice { one, other } => enter_two(u, one as usize, other as usize, from),
+        NodeForm::Loop { body } => enter(u, onto(from, body as usize)),
+        NodeForm::Back { to } => enter(u, onto(from, to as usize)),
         NodeForm::Fresh { name, body } => {
-            pass_fresh(u, rows, k, name as usize, body as usize, o, m, v)
+            pass_fresh(u, rows, name as usize, body as usize, from)
         }
         NodeForm::Sandbox { policy, body } => {
-            pass_sandbox(u, local, policy as usize == p, body as usize, o, m, v)
+            pass_sandbox(u, w.local, policy as usize == w.policy, body as usize, from)
         }
         _ => false,
     }
@@ -189,67 +229,66 @@ fn ends_for<'a>(opened: &'a Table, shut: &'a Table, o: bool) -> &'a Table
     if o { opened } else { shut }
 }
 
-// What node k, with o and m, leads to. A node that is not come to leads to nothing: most of the table is empty and passed over by one
-// test. Is anything of it new?
+// The same by the tables of ends. A node that is not come to leads to nothing: most of the table is empty and passed over by one test. Is
+// anything of it new?
 fn pass<'a>(
     u: &mut Table,
     opened: &'a Table,
     shut: &'a Table,
     rows: &Table,
-    local: bool,
-    p: usize,
-    k: usize,
+    w: Watch,
     f: NodeForm,
-    o: bool,
-    m: usize,
+    from: Arrival,
 ) -> bool
     requires { ⌜ length (now u) ≡ places ⌝ }
     requires { ⌜ Small (saidBy f) ⌝ }
-    requires { ⌜ k < mostNodes ⌝ }
-    requires { ⌜ m < meanings ⌝ }
-    ensures { λ r. ⌜ now (u .exit)
-        ≡ pass local (rowsIn (now (rows .entry))) p (byOpen (now (opened .entry)) (now (shut .entry)) o)
-        k (saidBy f) o m (now (u .entry)) ⌝ }
-    ensures { λ r. ⌜ r ≡ grown (now (u .entry)) (now (u .exit)) ⌝ }
-    ensures { λ r. ⌜ (Wide (now (u .entry)) → Wide (now (u .exit))) ⌝ }
+    requires { ⌜ from .to < mostNodes ⌝ }
+    requires { ⌜ from .meaning < meanings ⌝ }
+    ensures { λ r. ⌜ Enters
+        (arrivalsOf (w .local) (rowsIn (now (rows .entry))) (w .policy) (byOpen (now (opened .entry)) (now (shut .entry))
+        (from .opened)) (from .to) (from .opened) (from .meaning) (from .states) (saidBy f))
+        (now (u .entry)) (now (u .exit)) r ⌝ }
 {
-    let v = come_to(u, k, o, m);
-    if v == 0 {
+    if from.states == 0 {
         return false;
     }
-    let t = ends_for(opened, shut, o);
-    pass_by(u, t, rows, local, p, k, f, o, m, v)
+    let t = ends_for(opened, shut, from.opened);
+    pass_by(u, t, rows, w, f, from)
 }
 
-// Node k with every meaning from l on, the policy being open or not. Is anything new?
+// Node k with every meaning that occurs, the policy being open or not. Is anything new?
 fn pass_node<'a>(
     u: &mut Table,
     opened: &'a Table,
     shut: &'a Table,
     rows: &Table,
-    local: bool,
-    p: usize,
-    l: usize,
+    w: Watch,
     k: usize,
     f: NodeForm,
 ) -> bool
     requires { ⌜ length (now u) ≡ places ⌝ }
     requires { ⌜ Small (saidBy f) ⌝ }
-    requires { ⌜ l < meanings ⌝ }
     requires { ⌜ k < mostNodes ⌝ }
     ensures { λ r. ⌜ now (u .exit)
-        ≡ passNode local (rowsIn (now (rows .entry))) p (byOpen (now (opened .entry)) (now (shut .entry)))
-        l k (saidBy f) (now (u .entry)) ⌝ }
+        ≡ passNode (w .local) (rowsIn (now (rows .entry))) (w .policy) (byOpen (now (opened .entry)) (now (shut .entry)))
+        (least (w .resource)) k (saidBy f) (now (u .entry)) ⌝ }
     ensures { λ r. ⌜ r ≡ grown (now (u .entry)) (now (u .exit)) ⌝ }
     ensures { λ r. ⌜ (Wide (now (u .entry)) → Wide (now (u .exit))) ⌝ }
 {
+    let l = crate::least(w.resource);
     let n = 2 * (MEANINGS - l);
     let mut changed = false;
     let mut i: usize = 0;
     while i < n {
         let m = l + i / 2;
         let o = i % 2 == 1;
-        if pass(u, opened, shut, rows, local, p, k, f, o, m) {
+        let from = Arrival {
+            to: k,
+            opened: o,
+            meaning: m,
+            states: states_at(u, k, o, m),
+        };
+        if pass(u, opened, shut, rows, w, f, from) {
             changed = true;
         }
         i += 1;
@@ -264,16 +303,13 @@ fn pass_round<'a>(
     shut: &'a Table,
     nodes: &[u8],
     rows: &Table,
-    local: bool,
-    p: usize,
-    l: usize,
+    w: Watch,
 ) -> bool
     requires { ⌜ length (now u) ≡ places ⌝ }
     requires { ⌜ NodesFit (now nodes) ⌝ }
-    requires { ⌜ l < meanings ⌝ }
     ensures { λ r. ⌜ now (u .exit)
-        ≡ comesRound (now (nodes .entry)) local (now (rows .entry)) (byOpen (now (opened .entry)) (now (shut .entry)))
-        p l (now (u .entry)) ⌝ }
+        ≡ comesRound (now (nodes .entry)) (w .local) (now (rows .entry)) (byOpen (now (opened .entry)) (now (shut .entry)))
+        (w .policy) (least (w .resource)) (now (u .entry)) ⌝ }
     ensures { λ r. ⌜ r ≡ grown (now (u .entry)) (now (u .exit)) ⌝ }
     ensures { λ r. ⌜ (Wide (now (u .entry)) → Wide (now (u .exit))) ⌝ }
 {
@@ -282,34 +318,32 @@ fn pass_round<'a>(
     let mut k: usize = 0;
     while k < n {
         let f = outline_nodes::form(nodes, k);
-        changed |= pass_node(u, opened, shut, rows, local, p, l, k, f);
+        changed |= pass_node(u, opened, shut, rows, w, k, f);
         k += 1;
     }
     changed
 }
 
-// The table, for the moves of policy p, the tables of ends where it is open and where it is not, and the meanings from l on; u is empty
-// at first.
+// The table, by the tables of ends where the policy is open and where it is not; u is empty at first.
 pub(crate) fn fill<'a>(
     nodes: &[u8],
     rows: &Table,
     opened: &'a Table,
     shut: &'a Table,
-    local: bool,
-    p: usize,
-    l: usize,
+    w: Watch,
     u: &mut Table,
 )
     requires { ⌜ NodesFit (now nodes) ⌝ }
-    requires { ⌜ l < meanings ⌝ }
     requires { ⌜ now u ≡ replicate places 0 ⌝ }
     ensures { λ r. ⌜ Filled
-        (ComesBy (now (nodes .entry)) local (now (rows .entry)) (byOpen (now (opened .entry)) (now (shut .entry))) p l)
-        (begins l) (now (u .exit)) ⌝ }
+        (ComesBy (now (nodes .entry)) (w .local) (now (rows .entry)) (byOpen (now (opened .entry)) (now (shut .entry)))
+        (w .policy) (least (w .resource)))
+        (begins (least (w .resource))) (now (u .exit)) ⌝ }
 {
+    let l = crate::least(w.resource);
     crate::join(u, l, 1);
     loop {
-        if !pass_round(u, opened, shut, nodes, rows, local, p, l) {
+        if !pass_round(u, opened, shut, nodes, rows, w) {
             return;
         }
     }

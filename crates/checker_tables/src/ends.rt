@@ -9,10 +9,11 @@ ghost use Rattle.usage.specs.Limits.{states, mostNodes};
 ghost use Rattle.outline_nodes.specs.Said.{saidBy};
 ghost use Rattle.automaton.specs.Mask.{has};
 ghost use Rattle.checker_account.specs.Single.{noName};
-ghost use Rattle.checker_account.specs.Tables.{meanings, places, over, base, kept, begun, rowsIn, secondEnds, freshEnds};
+ghost use Rattle.checker_account.specs.Tables.{meanings, places, least, over, base, kept, begun, rowsIn, secondEnds, freshEnds};
 ghost use Rattle.checker_account.specs.Filling.{grown, endsOf, joinedEach, settleNode, Filled, Wide};
 ghost use Rattle.checker_tables.specs.Search.{Small, NodesFit, resetsIf, EndsBy};
 ghost use Rattle.checker_tables.specs.ByState.{ByState};
+use crate::Watch;
 use crate::sets::PerState;
 use checker_account::MEANINGS;
 use checker_account::STARTS;
@@ -115,15 +116,13 @@ fn inside_ends(t: &Table, opened: &Table, reset: bool, b: usize, m: usize) -> Pe
     held(t, b, m)
 }
 
-// By one rule: what node k ends in from the starts with meaning m. `reset`: an opening of policy p resets, since it is not open; then
+// By one rule: what node k ends in from the starts with meaning m. `w.local`: an opening of the policy resets, since it is not open; then
 // `opened` is the table of ends where it is.
 fn ends_by(
     t: &Table,
     rows: &Table,
     opened: &Table,
-    reset: bool,
-    p: usize,
-    x: usize,
+    w: Watch,
     k: usize,
     f: NodeForm,
     m: usize,
@@ -132,14 +131,15 @@ fn ends_by(
     requires { ⌜ k < mostNodes ⌝ }
     requires { ⌜ m < meanings ⌝ }
     ensures { λ r. ⌜ ByState states
-        (λ q. endsOf (rowsIn (now (rows .entry))) x (resetsIf reset p (now (opened .entry))) (now (t .entry)) k m q (saidBy f)) r ⌝ }
+        (λ q. endsOf (rowsIn (now (rows .entry))) (w .resource) (resetsIf (w .local) (w .policy) (now (opened .entry))) (now (t .entry))
+        k m q (saidBy f)) r ⌝ }
 {
     match f {
         NodeForm::End => crate::sets::keep_each(m, [1u16, 2, 4, 8, 16, 32, 64, 128]),
         NodeForm::OnStatic {
             action: _,
             resource,
-        } => event_ends(rows, k, resource as usize == x, m),
+        } => event_ends(rows, k, resource as usize == w.resource, m),
         NodeForm::OnName { action: _, name } => event_ends(rows, k, m == name as usize + 1, m),
         NodeForm::Sequence { first, second } => second_ends(t, first as usize, second as usize, m),
         NodeForm::Choice { one, other } => either_ends(t, one as usize, other as usize, m),
@@ -147,7 +147,13 @@ fn ends_by(
         NodeForm::Back { to } => held(t, to as usize, m),
         NodeForm::Fresh { name, body } => fresh_ends(t, rows, k, name as usize, body as usize, m),
         NodeForm::Sandbox { policy, body } => {
-            inside_ends(t, opened, reset & (policy as usize == p), body as usize, m)
+            inside_ends(
+                t,
+                opened,
+                w.local & (policy as usize == w.policy),
+                body as usize,
+                m,
+            )
         }
         NodeForm::Nothing => [0u16; STATES],
     }
@@ -171,69 +177,51 @@ fn join_sets(t: &mut Table, i: usize, v: PerState) -> bool
     changed
 }
 
-// Every start of node k with a meaning from l on. Did that change the table?
-fn settle_node(
-    t: &mut Table,
-    rows: &Table,
-    opened: &Table,
-    reset: bool,
-    p: usize,
-    x: usize,
-    l: usize,
-    k: usize,
-    f: NodeForm,
-) -> bool
+// Every start of node k with a meaning that occurs. Did that change the table?
+fn settle_node(t: &mut Table, rows: &Table, opened: &Table, w: Watch, k: usize, f: NodeForm) -> bool
     requires { ⌜ length (now t) ≡ places ⌝ }
     requires { ⌜ Small (saidBy f) ⌝ }
-    requires { ⌜ l < meanings ⌝ }
     requires { ⌜ k < mostNodes ⌝ }
     ensures { λ r. ⌜ now (t .exit)
-        ≡ settleNode (rowsIn (now (rows .entry))) x (resetsIf reset p (now (opened .entry))) l k (saidBy f) (now (t .entry)) ⌝ }
+        ≡ settleNode (rowsIn (now (rows .entry))) (w .resource) (resetsIf (w .local) (w .policy) (now (opened .entry)))
+        (least (w .resource)) k (saidBy f) (now (t .entry)) ⌝ }
     ensures { λ r. ⌜ r ≡ grown (now (t .entry)) (now (t .exit)) ⌝ }
 {
+    let l = crate::least(w.resource);
     let n = MEANINGS - l;
     let mut changed = false;
     let mut i: usize = 0;
     while i < n {
         let m = l + i;
-        let v = ends_by(t, rows, opened, reset, p, x, k, f, m);
+        let v = ends_by(t, rows, opened, w, k, f, m);
         changed |= join_sets(t, STARTS * k + STATES * m, v);
         i += 1;
     }
     changed
 }
 
-// The table, for the moves of a policy, the watched resource x and the meanings from l on; t is empty at first. The highest node that is
-// left is settled first, since a child has a greater number than its parent and ends come from the children; where that changes
-// something, the nodes that read it are left again. `reset`: the table is one where policy p is not open, so that its opening resets;
-// `opened` is the one where it is, and is not looked at but then.
-pub(crate) fn fill(
-    nodes: &[u8],
-    rows: &Table,
-    opened: &Table,
-    reset: bool,
-    p: usize,
-    x: usize,
-    l: usize,
-    t: &mut Table,
-)
+// The table; t is empty at first. The highest node that is left is settled first, since a child has a greater number than its parent and
+// ends come from the children; where that changes something, the nodes that read it are left again. `w.local`: the table is one where the
+// policy is not open, so that its opening resets; `opened` is the one where it is, and is not looked at but then.
+pub(crate) fn fill(nodes: &[u8], rows: &Table, opened: &Table, w: Watch, t: &mut Table)
     requires { ⌜ NodesFit (now nodes) ⌝ }
-    requires { ⌜ l < meanings ⌝ }
-    requires { ⌜ (reset ≡ true → Wide (now opened)) ⌝ }
+    requires { ⌜ (w .local ≡ true → Wide (now opened)) ⌝ }
     requires { ⌜ now t ≡ replicate places 0 ⌝ }
-    ensures { λ r. ⌜ Filled (EndsBy (now (nodes .entry)) (now (rows .entry)) x (resetsIf reset p (now (opened .entry))) l)
+    ensures { λ r. ⌜ Filled
+        (EndsBy (now (nodes .entry)) (now (rows .entry)) (w .resource) (resetsIf (w .local) (w .policy) (now (opened .entry)))
+        (least (w .resource)))
         (replicate places 0) (now (t .exit)) ⌝ }
     ensures { λ r. ⌜ Wide (now (t .exit)) ⌝ }
 {
     let n = nodes.len() / NODE_FIELDS;
     let mut readers = [0u64; MOST_NODES];
-    crate::work::readers(nodes, &mut readers);
+    crate::work::note_all(nodes, &mut readers);
     let mut left = crate::work::all(n);
     while left != 0 {
         let k = crate::work::highest(left);
         left -= 1u64 << (k as u32);
         let f = crate::form(nodes, k);
-        if settle_node(t, rows, opened, reset, p, x, l, k, f) {
+        if settle_node(t, rows, opened, w, k, f) {
             left |= readers[k];
         }
     }

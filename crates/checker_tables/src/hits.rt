@@ -6,10 +6,11 @@ ghost use lib.Bits.{bitOr};
 ghost use lib.ListN.{length, getD};
 ghost use Rattle.usage.specs.Limits.{mostNodes};
 ghost use Rattle.outline_nodes.specs.Said.{saidBy};
-ghost use Rattle.checker_account.specs.Tables.{meanings, rowsIn, restarted, place};
+ghost use Rattle.checker_account.specs.Tables.{meanings, least, rowsIn, restarted, place};
 ghost use Rattle.checker_account.specs.Filling.{leavesOf, hitNode};
 ghost use Rattle.checker_tables.specs.Search.{Small, NodesFit, hitIn};
 ghost use Rattle.checker_tables.specs.Marks.{lastIn, markBit, marksIn};
+use crate::Watch;
 use checker_account::MEANINGS;
 use checker_account::Table;
 use outline_nodes::NodeForm;
@@ -23,66 +24,55 @@ fn opened(u: &Table, local: bool, k: usize, m: usize, same: bool) -> u16
         (bitOr (restarted local (getD (now (u .entry)) (place k false m) 0)) (getD (now (u .entry)) (place k true m) 0)) 0 ⌝ }
 {
     if same {
-        crate::restarted(local, crate::arrivals::come_to(u, k, false, m))
-            | crate::arrivals::come_to(u, k, true, m)
+        crate::restarted(local, crate::arrivals::states_at(u, k, false, m))
+            | crate::arrivals::states_at(u, k, true, m)
     } else {
         0
     }
 }
 
 // The states that the step of node k leaves, the policy being open.
-fn leaves_by(
-    u: &Table,
-    rows: &Table,
-    local: bool,
-    p: usize,
-    x: usize,
-    k: usize,
-    f: NodeForm,
-    m: usize,
-) -> u16
+fn leaves_by(u: &Table, rows: &Table, w: Watch, k: usize, f: NodeForm, m: usize) -> u16
     requires { ⌜ Small (saidBy f) ⌝ }
     requires { ⌜ k < mostNodes ⌝ }
     requires { ⌜ m < meanings ⌝ }
-    ensures { λ r. ⌜ r ≡ leavesOf local (rowsIn (now (rows .entry))) p x (now (u .entry)) k m (saidBy f) ⌝ }
+    ensures { λ r. ⌜ r ≡ leavesOf (w .local) (rowsIn (now (rows .entry))) (w .policy) (w .resource) (now (u .entry)) k m (saidBy f) ⌝ }
 {
-    let v = crate::arrivals::come_to(u, k, true, m);
+    let v = crate::arrivals::states_at(u, k, true, m);
     match f {
         NodeForm::OnStatic {
             action: _,
             resource,
-        } => { crate::rows::moved_set(rows, k, resource as usize == x, v) }
+        } => { crate::rows::moved_set(rows, k, resource as usize == w.resource, v) }
         NodeForm::OnName { action: _, name } => {
             crate::rows::moved_set(rows, k, m == name as usize + 1, v)
         }
         NodeForm::Fresh { name: _, body: _ } => {
             crate::rows::moved_set(rows, k, false, v) | crate::rows::own_created(rows, k, m, v)
         }
-        NodeForm::Sandbox { policy, body: _ } => opened(u, local, k, m, policy as usize == p),
+        NodeForm::Sandbox { policy, body: _ } => opened(
+            u,
+            w.local,
+            k,
+            m,
+            policy as usize == w.policy,
+        ),
         _ => 0,
     }
 }
 
-// Does the step of node k leave an offending state, with some meaning from l on?
-fn hit_node(
-    u: &Table,
-    rows: &Table,
-    local: bool,
-    p: usize,
-    x: usize,
-    l: usize,
-    k: usize,
-    f: NodeForm,
-) -> bool
+// Does the step of node k leave an offending state, with some meaning that occurs?
+fn hit_node(u: &Table, rows: &Table, w: Watch, k: usize, f: NodeForm) -> bool
     requires { ⌜ Small (saidBy f) ⌝ }
-    requires { ⌜ l < meanings ⌝ }
     requires { ⌜ k < mostNodes ⌝ }
-    ensures { λ r. ⌜ r ≡ hitNode local (rowsIn (now (rows .entry))) p x (now (u .entry)) l k (saidBy f) ⌝ }
+    ensures { λ r. ⌜ r ≡ hitNode (w .local) (rowsIn (now (rows .entry))) (w .policy) (w .resource) (now (u .entry))
+        (least (w .resource)) k (saidBy f) ⌝ }
 {
+    let l = crate::least(w.resource);
     let n = MEANINGS - l;
     let mut i: usize = 0;
     while i < n {
-        let v = leaves_by(u, rows, local, p, x, k, f, l + i);
+        let v = leaves_by(u, rows, w, k, f, l + i);
         if 64 <= v % 256 {
             return true;
         }
@@ -91,26 +81,17 @@ fn hit_node(
     false
 }
 
-// Does that of some node? u is the table of what is come to, for the moves of policy p, the watched resource x and the meanings from
-// l on.
-pub(crate) fn any(
-    nodes: &[u8],
-    rows: &Table,
-    u: &Table,
-    local: bool,
-    p: usize,
-    x: usize,
-    l: usize,
-) -> bool
+// Does that of some node? u is the table of what is come to.
+pub(crate) fn any(nodes: &[u8], rows: &Table, u: &Table, w: Watch) -> bool
     requires { ⌜ NodesFit (now nodes) ⌝ }
-    requires { ⌜ l < meanings ⌝ }
-    ensures { λ r. ⌜ r ≡ hitIn (now (nodes .entry)) local (now (rows .entry)) (now (u .entry)) p x l ⌝ }
+    ensures { λ r. ⌜ r ≡ hitIn (now (nodes .entry)) (w .local) (now (rows .entry)) (now (u .entry)) (w .policy) (w .resource)
+        (least (w .resource)) ⌝ }
 {
     let n = nodes.len() / NODE_FIELDS;
     let mut k: usize = 0;
     while k < n {
         let f = outline_nodes::form(nodes, k);
-        if hit_node(u, rows, local, p, x, l, k, f) {
+        if hit_node(u, rows, w, k, f) {
             return true;
         }
         k += 1;
@@ -149,25 +130,17 @@ fn mark_if(b: bool, f: NodeForm) -> u64
 }
 
 // The steps of all nodes that leave an offending state.
-pub(crate) fn marks(
-    nodes: &[u8],
-    rows: &Table,
-    u: &Table,
-    local: bool,
-    p: usize,
-    x: usize,
-    l: usize,
-) -> u64
+pub(crate) fn marks(nodes: &[u8], rows: &Table, u: &Table, w: Watch) -> u64
     requires { ⌜ NodesFit (now nodes) ⌝ }
-    requires { ⌜ l < meanings ⌝ }
-    ensures { λ r. ⌜ r ≡ marksIn (now (nodes .entry)) local (now (rows .entry)) (now (u .entry)) p x l ⌝ }
+    ensures { λ r. ⌜ r ≡ marksIn (now (nodes .entry)) (w .local) (now (rows .entry)) (now (u .entry)) (w .policy) (w .resource)
+        (least (w .resource)) ⌝ }
 {
     let n = nodes.len() / NODE_FIELDS;
     let mut m: u64 = 0;
     let mut k: usize = 0;
     while k < n {
         let f = outline_nodes::form(nodes, k);
-        m = m | mark_if(hit_node(u, rows, local, p, x, l, k, f), f);
+        m = m | mark_if(hit_node(u, rows, w, k, f), f);
         k += 1;
     }
     m

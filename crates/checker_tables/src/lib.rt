@@ -8,7 +8,7 @@ ghost use lib.Dec.{ltb};
 ghost use lib.ListN.{length, getD, replicate};
 ghost use Rattle.usage.specs.Limits.{states, mostNodes, nodeFields};
 ghost use Rattle.outline_nodes.specs.Said.{saidBy};
-ghost use Rattle.checker_account.specs.Tables.{over, joinedAt, meanings, places, least, restarted};
+ghost use Rattle.checker_account.specs.Tables.{over, joinedAt, places, least, restarted};
 ghost use Rattle.checker_account.specs.Filling.{grown, byOpen, formsIn, Wide};
 ghost use Rattle.checker_tables.specs.Marks.{MarkedIf};
 ghost use Rattle.checker_tables.specs.Search.{lost, isOn, touched, small, NodesFit, hasRoom, ArrivesBy, ArrivesIf, SearchedIf};
@@ -30,6 +30,13 @@ mod hits;
 pub mod rows;
 mod sets;
 pub mod work;
+
+// What tables are for: whether only the past since the opening counts, the policy, and the watched resource.
+pub struct Watch {
+    pub local: bool,
+    pub policy: usize,
+    pub resource: usize,
+}
 
 // The union of the eight sets from place i on, over the states in v.
 fn union_over(t: &Table, i: usize, v: u16) -> u16
@@ -158,7 +165,7 @@ fn small(f: NodeForm) -> bool
 }
 
 // Do the tables have room for these nodes?
-fn fits(nodes: &[u8]) -> bool
+pub fn fits(nodes: &[u8]) -> bool
     ensures { λ r. ⌜ r ≡ hasRoom (now (nodes .entry)) ⌝ }
 {
     let n = nodes.len() / NODE_FIELDS;
@@ -175,67 +182,77 @@ fn fits(nodes: &[u8]) -> bool
     true
 }
 
-// Is it, by the tables of ends where the policy is open and where it is not? u becomes the table of what is come to.
+// Is the policy broken, by the tables of ends where it is open and where it is not? u becomes the table of what is come to.
 fn found<'a>(
     nodes: &[u8],
     rows: &Table,
     opened: &'a Table,
     shut: &'a Table,
-    local: bool,
-    p: usize,
-    x: usize,
-    l: usize,
+    w: Watch,
     u: &mut Table,
 ) -> bool
     requires { ⌜ NodesFit (now nodes) ⌝ }
-    requires { ⌜ l < meanings ⌝ }
     requires { ⌜ now u ≡ replicate places 0 ⌝ }
-    ensures { λ r. ⌜ ArrivesBy (now (nodes .entry)) local (now (rows .entry))
-        (byOpen (now (opened .entry)) (now (shut .entry))) p x l (now (u .exit)) r ⌝ }
+    ensures { λ r. ⌜ ArrivesBy (now (nodes .entry)) (w .local) (now (rows .entry))
+        (byOpen (now (opened .entry)) (now (shut .entry))) (w .policy) (w .resource) (least (w .resource)) (now (u .exit)) r ⌝ }
 {
-    arrivals::fill(nodes, rows, opened, shut, local, p, l, u);
-    hits::any(nodes, rows, u, local, p, x, l)
+    arrivals::fill(nodes, rows, opened, shut, w, u);
+    hits::any(nodes, rows, u, w)
 }
 
-// Is policy p, whose moves the table of rows has, broken with the resource x watched, where the whole past counts or, under the local
-// meaning, that of the sandbox? u, empty at first, becomes the table of what is come to. Where the tables have no room for the nodes, it
-// is not, and u says nothing. Where the policy is open, no opening resets anything: the table of ends there serves both meanings, and the
+// The same by the nodes. Where the policy is open, no opening resets anything: the table of ends there serves both meanings, and the
 // whole past needs no other.
-pub fn arrive(nodes: &[u8], rows: &Table, local: bool, p: usize, x: usize, u: &mut Table) -> bool
+fn search(nodes: &[u8], rows: &Table, w: Watch, u: &mut Table) -> bool
     requires { ⌜ now u ≡ replicate places 0 ⌝ }
-    ensures { λ r. ⌜ ArrivesIf (hasRoom (now (nodes .entry))) (now (nodes .entry)) local (now (rows .entry)) p x (now (u .exit)) r ⌝ }
+    ensures { λ r. ⌜ ArrivesIf (hasRoom (now (nodes .entry))) (now (nodes .entry)) (w .local) (now (rows .entry))
+        (w .policy) (w .resource) (now (u .exit)) r ⌝ }
 {
     if !fits(nodes) {
         return false;
     }
-    let l = least(x);
+    let open = Watch {
+        local: false,
+        policy: w.policy,
+        resource: w.resource,
+    };
     let mut opened = [0u16; PLACES];
-    ends::fill(nodes, rows, rows, false, p, x, l, &mut opened);
-    if !local {
-        return found(nodes, rows, &opened, &opened, local, p, x, l, u);
+    ends::fill(nodes, rows, rows, open, &mut opened);
+    if !w.local {
+        return found(nodes, rows, &opened, &opened, w, u);
     }
     let mut shut = [0u16; PLACES];
-    ends::fill(nodes, rows, &opened, true, p, x, l, &mut shut);
-    found(nodes, rows, &opened, &shut, local, p, x, l, u)
+    ends::fill(nodes, rows, &opened, w, &mut shut);
+    found(nodes, rows, &opened, &shut, w, u)
+}
+
+// Is the policy, whose moves the table of rows has, broken with the resource watched? u becomes the table of what is come to. Where the
+// tables have no room for the nodes, it is not, and u is empty.
+pub fn arrive(nodes: &[u8], rows: &Table, w: Watch, u: &mut Table) -> bool
+    ensures { λ r. ⌜ ArrivesIf (hasRoom (now (nodes .entry))) (now (nodes .entry)) (w .local) (now (rows .entry))
+        (w .policy) (w .resource) (now (u .exit)) r ⌝ }
+{
+    *u = [0u16; PLACES];
+    search(nodes, rows, w, u)
 }
 
 // The answer alone.
-pub fn breaks(nodes: &[u8], rows: &Table, local: bool, p: usize, x: usize) -> bool
-    ensures { λ r. ⌜ SearchedIf (hasRoom (now (nodes .entry))) (now (nodes .entry)) local (now (rows .entry)) p x r ⌝ }
+pub fn breaks(nodes: &[u8], rows: &Table, w: Watch) -> bool
+    ensures { λ r. ⌜ SearchedIf (hasRoom (now (nodes .entry))) (now (nodes .entry)) (w .local) (now (rows .entry))
+        (w .policy) (w .resource) r ⌝ }
 {
     let mut u = [0u16; PLACES];
-    arrive(nodes, rows, local, p, x, &mut u)
+    search(nodes, rows, w, &mut u)
 }
 
-// The marks of policy p with the resource x watched: the search, and where it finds something, gone through to the end. Where the tables
+// The marks of the policy with the resource watched: the search, and where it finds something, gone through to the end. Where the tables
 // have no room for the nodes, there are none.
-pub fn marks_of(nodes: &[u8], rows: &Table, local: bool, p: usize, x: usize) -> u64
-    ensures { λ r. ⌜ MarkedIf (hasRoom (now (nodes .entry))) (now (nodes .entry)) local (now (rows .entry)) p x r ⌝ }
+pub fn marks_of(nodes: &[u8], rows: &Table, w: Watch) -> u64
+    ensures { λ r. ⌜ MarkedIf (hasRoom (now (nodes .entry))) (now (nodes .entry)) (w .local) (now (rows .entry))
+        (w .policy) (w .resource) r ⌝ }
 {
     let mut u = [0u16; PLACES];
-    if !arrive(nodes, rows, local, p, x, &mut u) {
+    if !search(nodes, rows, w, &mut u) {
         return 0;
     }
-    let l = least(x);
-    hits::marks(nodes, rows, &u, local, p, x, l)
+    hits::marks(nodes, rows, &u, w)
 }

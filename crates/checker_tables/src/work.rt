@@ -1,14 +1,14 @@
 // Which nodes are left to settle, as bits of a number, and which are to be settled again once the ends of a node have changed: those whose
 // rules read them.
 ghost use mathlib.Core.Path.{_≡_};
-ghost use Prim.Native.Nat.{ℕ, suc, _-_, _/_, _^_, _<_, _≤_};
+ghost use Prim.Native.Nat.{ℕ, suc, _-_, _/_, _^_, _<_, _≤_, min};
 ghost use lib.ListN.{length, replicate};
 ghost use Rattle.usage.specs.Limits.{mostNodes, nodeFields};
 ghost use Rattle.outline_nodes.specs.Said.{saidBy};
 ghost use Rattle.checker_account.specs.Tables.{joinedAt};
 ghost use Rattle.checker_account.specs.Filling.{formsIn};
 ghost use Rattle.checker_tables.specs.Search.{Small, NodesFit};
-ghost use Rattle.checker_tables.specs.Work.{noted, readersOf};
+ghost use Rattle.checker_tables.specs.Work.{noted, readersOf, readersIn};
 use outline_nodes::NodeForm;
 use usage::MOST_NODES;
 use usage::NODE_FIELDS;
@@ -63,7 +63,7 @@ fn note_parts(masks: &mut Masks, k: usize, f: NodeForm)
 }
 
 // Which nodes read which; the sets are empty at first.
-pub fn readers(nodes: &[u8], masks: &mut Masks)
+pub(crate) fn note_all(nodes: &[u8], masks: &mut Masks)
     requires { ⌜ NodesFit (now nodes) ⌝ }
     requires { ⌜ now masks ≡ replicate mostNodes 0 ⌝ }
     ensures { λ r. ⌜ now (masks .exit) ≡ readersOf (length (now (nodes .entry)) / nodeFields) (formsIn (now (nodes .entry))) ⌝ }
@@ -77,23 +77,35 @@ pub fn readers(nodes: &[u8], masks: &mut Masks)
     }
 }
 
-// All of n nodes.
-pub fn all(n: usize) -> u64
-    requires { ⌜ n ≤ mostNodes ⌝ }
-    ensures { λ r. ⌜ r ≡ 2 ^ n - 1 ⌝ }
+// The same for other crates: the sets are empty where the tables have no room for the nodes.
+pub fn readers(nodes: &[u8], masks: &mut Masks)
+    ensures { λ r. ⌜ now (masks .exit) ≡ readersIn (now (nodes .entry)) ⌝ }
 {
-    if n == MOST_NODES {
+    *masks = [0u64; MOST_NODES];
+    if crate::fits(nodes) {
+        note_all(nodes, masks);
+    }
+}
+
+// All of n nodes, of which at most 64 count.
+pub fn all(n: usize) -> u64
+    ensures { λ r. ⌜ r ≡ 2 ^ min n mostNodes - 1 ⌝ }
+{
+    if MOST_NODES <= n {
         18446744073709551615
     } else {
         (1u64 << (n as u32)) - 1
     }
 }
 
-// The highest node of a set that is not empty.
+// The highest node of a set; 0 of an empty one.
 pub fn highest(s: u64) -> usize
-    requires { ⌜ 0 < s ⌝ }
-    ensures { λ r. ⌜ 2 ^ r ≤ s ⌝ }
+    ensures { λ r. ⌜ (0 < s → 2 ^ r ≤ s) ⌝ }
     ensures { λ r. ⌜ s < 2 ^ suc r ⌝ }
+    ensures { λ r. ⌜ (s ≡ 0 → r ≡ 0) ⌝ }
 {
+    if s == 0 {
+        return 0;
+    }
     63 - u64::leading_zeros(s) as usize
 }

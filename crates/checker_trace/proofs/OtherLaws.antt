@@ -10,7 +10,7 @@ use Rattle.outline_nodes.specs.declared.NodeForm.the-variants.{Loop, Back, Fres
 use Rattle.outline_nodes.specs.Said.{saidBy}
 use Rattle.outline_nodes.proofs.SaidLaws.{tag}
 use Rattle.checker_lengths.specs.declared.Entry.{Entry}
-use Rattle.checker_lengths.specs.declared.Watch.{Watch}
+use Rattle.checker_tables.specs.declared.Watch.{Watch}
 use Rattle.checker_trace.specs.Code.{Chosen}
 use Rattle.checker_trace.proofs.PartLaws.{chosen-end, chosen-none, chosen-choice, chosen-loop, chosen-back}
 

@@ -26,7 +26,7 @@ use Rattle.checker_account.proofs.BegunLaws.{begun-ended, begun-opened}
 use Rattle.checker_account.proofs.Writing.{written-length}
 use Rattle.checker_account.proofs.CounterexampleLaws.{passes-written}
 use Rattle.checker_lengths.specs.declared.Entry.{Entry}
-use Rattle.checker_lengths.specs.declared.Watch.{Watch}
+use Rattle.checker_tables.specs.declared.Watch.{Watch}
 use Rattle.checker_lengths.specs.Entries.{allLengths, entryOf, held}
 use Rattle.checker_lengths.specs.Offers.{atNode, firstEntry, secondEntry, bodyEntry, innerEntry, stateIn, around, named, offerOf, offerFrom}
 use Rattle.checker_lengths.specs.Held.{aimAt, meaningOf}

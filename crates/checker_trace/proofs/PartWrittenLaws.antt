@@ -9,7 +9,7 @@ use lib.ListN.{length, getD}
 use Rattle.usage.specs.Limits.{stepFields}
 use Rattle.usage.specs.Outline.{on-static, on-name, sequence, fresh, sandbox}
 use Rattle.checker_account.specs.Single.{noName}
-use Rattle.checker_lengths.specs.declared.Watch.{Watch}
+use Rattle.checker_tables.specs.declared.Watch.{Watch}
 use Rattle.checker_lengths.specs.Entries.{atBreak, held}
 use Rattle.checker_lengths.specs.Offers.{firstEntry}
 use Rattle.checker_lengths.specs.Filling.{formHere}

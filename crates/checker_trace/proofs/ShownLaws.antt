@@ -47,7 +47,7 @@ use Rattle.checker_tables.proofs.FitLaws.{outline-fits}
 use Rattle.checker_tables.proofs.AnswerLaws.{arrives-searched}
 use Rattle.checker_tables.proofs.TouchedLaws.{untouched, dynamic-touched}
 use Rattle.checker_tables.proofs.WholeLaws.{whole-in}
-use Rattle.checker_lengths.specs.declared.Watch.{Watch}
+use Rattle.checker_tables.specs.declared.Watch.{Watch}
 use Rattle.checker_lengths.specs.Entries.{noLength, allLengths, entryOf, held}
 use Rattle.checker_lengths.specs.Held.{aimAt, meaningOf, watchOf, Source}
 use Rattle.checker_lengths.proofs.FullLaws.{full-least}
@@ -215,7 +215,7 @@ module _ (local : Bool) (es : List Edge) (edges : EdgesOk es) (p : ℕ) (big : 8
 pub arrives-room : (b : Bool) (nodes : List ℕ) (local : Bool) (rows : List ℕ) (p x : ℕ) (u : List ℕ) (r : Bool)
     → ArrivesIf b nodes local rows p x u r → r ≡ true → (b ≡ true) × Came nodes local rows p x u
 arrives-room true nodes local rows p x u r h e = (refl, h .arrived)
-arrives-room false nodes local rows p x u r h e = false-true (sym h ∙ e)
+arrives-room false nodes local rows p x u r h e = false-true (sym (h .0) ∙ e)
 
 pub table-of : (b : Bool) (w : Watch) (rows nodes t : List ℕ) → TableIf b w rows nodes t → b ≡ true → TableOf w rows nodes t
 table-of true w rows nodes t h e = h

@@ -26,7 +26,7 @@ use Rattle.checker_account.proofs.BegunLaws.{begun-ended}
 use Rattle.checker_account.proofs.SingleLaws.{watching-keeps}
 use Rattle.checker_account.proofs.CounterexampleLaws.{idle-written, passes-written}
 use Rattle.checker_lengths.specs.declared.Entry.{Entry}
-use Rattle.checker_lengths.specs.declared.Watch.{Watch}
+use Rattle.checker_tables.specs.declared.Watch.{Watch}
 use Rattle.checker_lengths.specs.Entries.{allLengths, entryOf, held}
 use Rattle.checker_lengths.specs.Offers.{offerOf, offerFrom, moved, endingOf as ends-by, breaking}
 use Rattle.checker_lengths.specs.Filling.{formHere}

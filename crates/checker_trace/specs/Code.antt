@@ -13,7 +13,7 @@ use Rattle.automaton.specs.Mask.{has}
 use Rattle.checker_tables.specs.Search.{touched, hasRoom, Arrived, ArrivesIf}
 use mathlib.Core.Logic.{_⊎_}
 use Rattle.checker_lengths.specs.declared.Entry.{Entry}
-use Rattle.checker_lengths.specs.declared.Watch.{Watch}
+use Rattle.checker_tables.specs.declared.Watch.{Watch}
 use Rattle.checker_lengths.specs.Entries.{atBreak, entryOf, held, allLengths, noLength}
 use Rattle.checker_lengths.specs.Offers.{atNode, lowEnd, firstEntry, secondEntry, bodyEntry, innerEntry, offerFrom, waysOf}
 use Rattle.checker_lengths.specs.Filling.{formHere, Full}

@@ -14,7 +14,7 @@ use checker_account::Table;
 use checker_lengths::BROKEN;
 use checker_lengths::Entry;
 use checker_lengths::Lengths;
-use checker_lengths::Watch;
+use checker_tables::Watch;
 use outline_nodes::NodeForm;
 use usage::MOST_NODES;
 use usage::NODE_FIELDS;

@@ -20,7 +20,7 @@ use checker_lengths::Lengths;
 use checker_lengths::MOST;
 use checker_lengths::NONE;
 use checker_lengths::SIZE;
-use checker_lengths::Watch;
+use checker_tables::Watch;
 use usage::POLICIES;
 use usage::STATICS;
 use usage::STEP_FIELDS;
@@ -103,7 +103,7 @@ fn table(nodes: &[u8], rows: &Table, w: Watch, t: &mut Lengths) -> bool
     ensures { λ r. ⌜ (r ≡ false → now (t .exit) ≡ now (t .entry)) ⌝ }
 {
     let mut u = [0u16; PLACES];
-    if !checker_tables::arrive(nodes, rows, w.local, w.policy, w.resource, &mut u) {
+    if !checker_tables::arrive(nodes, rows, w, &mut u) {
         return false;
     }
     checker_lengths::fill::fill(nodes, rows, &u, w, t);

@@ -20,8 +20,8 @@ use checker_account::NAMES;
 use checker_account::Table;
 use checker_lengths::BROKEN;
 use checker_lengths::Lengths;
-use checker_lengths::Watch;
 use checker_lengths::offers;
+use checker_tables::Watch;
 use outline_nodes::NodeForm;
 use usage::STEP_FIELDS;
 

@@ -9,7 +9,7 @@ fill-requires : tie.Need-fill-requires
 fill-requires c κs = c .before .before .pre
 
 any-requires : tie.Need-any-requires
-any-requires c κs = let p = c .before .before .before .before .pre in (p .0, p .1 .0)
+any-requires c κs = c .before .before .before .before .pre .0
 
 returns : tie.Need-returns
 returns c = record { comes-filled = c .before .before .fill .ensures; told = c .any .ensures }

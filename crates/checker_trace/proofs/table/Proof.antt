@@ -3,8 +3,9 @@ use mathlib.Core.Path.{refl, sym, subst}
 use mathlib.Core.Bool.{Bool}
 use Rattle.usage.proofs.Logic.{false-true, not-true, not-false}
 use Rattle.checker_tables.specs.Search.{hasRoom, ArrivesIf}
-use Rattle.checker_tables.proofs.FitLaws.{fits-rule}
+use Rattle.checker_lengths.specs.Filling.{FullIf}
 use Rattle.checker_trace.proofs.ShownLaws.{arrives-room}
+use borrow.Author.Needs.{needs}
 use Rattle.checker_trace.proofs.table.Statement.{statement}
 use Rattle.checker_trace.proofs.table.Tie as tie
 use Rattle.checker_trace.proofs.table.Reads as reads
@@ -13,38 +14,35 @@ use Rattle.checker_lengths.proofs.fill.fill.Reads as fill-reads
 use Rattle.checker_tables.proofs.arrive.Reads as arrive-reads
 
 arrive-requires : tie.Need-arrive-requires
-arrive-requires c κs = refl
+arrive-requires c κs = search needs
 
 returns : tie.Need-returns
 returns c =
     let a = c .before .before .before .before .args in
     let r = c .before .arrive in (
       (
-        r .last .1 .1 .1 .1 .1 .0,
+        r .last .1 .1 .1 .0,
         subst (λ (b : Bool). ArrivesIf (hasRoom (a .nodes .now)) (a .nodes .now) (a .w .local) (a .rows .now) (a .w .policy)
             (a .w .resource)
-            (r .last .1 .1 .1 .1 .1 .0) b) (not-true (r .result) (c .if1 .taken)) (r .ensures),
+            (r .last .1 .1 .1 .0) b) (not-true (r .result) (c .if1 .taken)) (r .ensures),
       ),
       λ e. refl,
     )
 
 fill-requires : tie.Need-fill-requires
-fill-requires c κs =
-    let a = c .before .before .before .before .before .before .args in
-    let r = c .before .before .before .arrive in
-    fits-rule (a .nodes .now) (arrives-room (hasRoom (a .nodes .now)) (a .nodes .now) (a .w .local) (a .rows .now) (a .w .policy)
-    (a .w .resource) (r .last .1 .1 .1 .1 .1 .0) (r .result) (r .ensures) (not-false (r .result) (c .before .before .if1 .left)) .0)
+fill-requires c κs = search needs
 
 returns-2 : tie.Need-returns-2
 returns-2 c =
     let a = c .before .before .before .before .before .before .before .args in
     let r = c .before .before .before .before .arrive in
-    let u = r .last .1 .1 .1 .1 .1 .0 in (
+    let u = r .last .1 .1 .1 .0 in
+    let came = arrives-room (hasRoom (a .nodes .now)) (a .nodes .now) (a .w .local) (a .rows .now) (a .w .policy) (a .w .resource) u
+    (r .result) (r .ensures) (not-false (r .result) (c .before .before .before .if1 .left)) in (
       (
         u,
-        arrives-room (hasRoom (a .nodes .now)) (a .nodes .now) (a .w .local) (a .rows .now) (a .w .policy) (a .w .resource) u (r .result)
-            (r .ensures) (not-false (r .result) (c .before .before .before .if1 .left)) .1,
-        c .fill .ensures,
+        came .1,
+        subst (λ (b : Bool). FullIf b (a .w) (a .rows .now) (a .nodes .now) u (c .fill .last .1 .1 .1 .1 .0)) (came .0) (c .fill .ensures),
       ),
       λ e. false-true (sym e),
     )

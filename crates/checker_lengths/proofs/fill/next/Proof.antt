@@ -21,6 +21,9 @@ of-part s k r b h =
     let h′ : has (s % 2 ^ k) r ≡ true = sym (ap (λ (n : ℕ). has n r) part) ∙ h in
     sym (has-low s r k (member-lt (s % 2 ^ k) r h′ k (mod-lt s (pow-pos k)))) ∙ h′
 
+positive : (s : ℕ) → (s ≡ 0 → ⊥) → 0 < s
+positive s d = omega arith
+
 cast-below : tie.Need-cast-below
 cast-below c = search needs
 
@@ -40,14 +43,16 @@ highest-requires-2 : tie.Need-highest-requires-2
 highest-requires-2 c κs = search needs
 
 returns : tie.Need-returns
-returns c = highest-in (c .before .before .args .left) (c .highest .result) (c .highest .ensures .0) (c .highest .ensures .1)
+returns c =
+    highest-in (c .before .before .args .left) (c .highest .result)
+    (c .highest .ensures .0 (c .before .before .pre .0)) (c .highest .ensures .1 .0)
 
 returns-2 : tie.Need-returns-2
 returns-2 c =
     let a = c .before .before .args in
     let h = c .highest2 in
     of-part (a .left) (a .k) (h .result) (c .before .before .pre .1)
-    (highest-in (a .left % (1 * 2 ^ a .k % 2 ^ 64)) (h .result) (h .ensures .0) (h .ensures .1))
+    (highest-in (a .left % (1 * 2 ^ a .k % 2 ^ 64)) (h .result) (h .ensures .0 (positive _ (c .before .if1 .left))) (h .ensures .1 .0))
 
 pub next-spec : {M : Type 1} → statement M
 next-spec =

@@ -8,6 +8,7 @@ use borrow.Author.Count.{below-more}
 use Rattle.outline_nodes.specs.Said.{saidBy}
 use Rattle.usage.proofs.Logic.{by-cases}
 use Rattle.checker_account.specs.Tables.{place}
+use Rattle.checker_tables.proofs.EnterLaws.{come-to-in}
 use Rattle.checker_lengths.specs.Code.{Pass}
 use Rattle.checker_lengths.specs.Filling.{StatesSettled}
 use Rattle.checker_lengths.proofs.PassLaws.{pass-then, pass-none, pass-map, states-last}
@@ -44,7 +45,7 @@ add-m : tie.Need-add-m Inv-loop μ-loop
 add-m c = search needs
 
 come-to-requires : tie.Need-come-to-requires Inv-loop μ-loop
-come-to-requires c κs = (c .before .before .pre .1 .1, omega arith)
+come-to-requires c κs = search needs
 
 settle-states-requires : tie.Need-settle-states-requires Inv-loop μ-loop
 settle-states-requires c κs =
@@ -68,7 +69,8 @@ loop-again c =
     let o = eqb (l .i % 2) 1 in
     let m = a .l + l .i / 2 in
     let here = subst (λ (v : ℕ). Pass (a .w) (a .rows .now) (a .k) f (λ y. StatesSettled (a .w) (a .rows .now) f y (a .k) o m v) (l .t)
-    (c .before .settle-states .last .0) (c .before .settle-states .result)) (c .before .before .before .come-to .ensures)
+    (c .before .settle-states .last .0) (c .before .settle-states .result)) (c .before .before .before .come-to .ensures
+    ∙ come-to-in (a .u .now) (a .k) o m (c .before .before .before .before .before .before .pre .1 .1) (omega arith))
     (c .before .settle-states .ensures) in (
       omega arith,
       pass-then

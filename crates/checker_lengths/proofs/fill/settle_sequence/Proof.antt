@@ -11,7 +11,7 @@ use borrow.Author.Needs.{needs}
 use Rattle.usage.specs.Outline.{sequence}
 use Rattle.usage.proofs.Logic.{by-cases}
 use Rattle.checker_lengths.specs.declared.Entry.{Entry}
-use Rattle.checker_lengths.specs.declared.Watch.{Watch}
+use Rattle.checker_tables.specs.declared.Watch.{Watch}
 use Rattle.checker_lengths.specs.Entries.{allLengths, inTable, held, plus}
 use Rattle.checker_lengths.specs.Offers.{toward, lowEnd, firstEntry, secondEntry, sequenceOf, offerOf}
 use Rattle.checker_lengths.specs.Code.{Pass, Puts}

@@ -23,12 +23,12 @@ use Rattle.checker_lengths.proofs.fill.settle_if.Reads as settle-if-rea
 use Rattle.checker_lengths.proofs.offers.has.Reads as has-reads
 
 abbrev Inv-loop : tie.InvT-loop
-Inv-loop t₀ rows w f k opened meaning v changed₀ q₀ t changed q = (q ≤ 8)
-    × Pass w rows k (saidBy f) (λ u. (j : ℕ) → j < q → has v j ≡ true → StartSettled w rows (saidBy f) u (entryOf k opened meaning j 0)) t₀
-    t changed
+Inv-loop t₀ rows w f g changed₀ q₀ t changed q = (q ≤ 8)
+    × Pass w rows (g .to) (saidBy f) (λ u. (j : ℕ) → j < q → has (g .states) j ≡ true
+    → StartSettled w rows (saidBy f) u (entryOf (g .to) (g .opened) (g .meaning) j 0)) t₀ t changed
 
 abbrev μ-loop : tie.MeasureT-loop
-μ-loop t₀ rows w f k opened meaning v changed₀ q₀ t changed q = 8 - q
+μ-loop t₀ rows w f g changed₀ q₀ t changed q = 8 - q
 
 loop-holds : tie.Need-loop-holds Inv-loop μ-loop
 loop-holds c = (search needs, pass-none (λ j k. absurd (omega arith)))
@@ -42,7 +42,8 @@ settle-if-requires c κs =
     let p = c .before .before .before .before .pre in
     let l = c .before .before .before .loop in (
       l .inv .1 .same-size ∙ p .0,
-      in-table (toward (entryOf (a .k) (a .opened) (a .meaning) (l .q) 0) 0) (p .1 .0) (p .1 .1) (c .before .before .loop-test .taken)
+      in-table (toward (entryOf (a .g .to) (a .g .opened) (a .g .meaning) (l .q) 0) 0) (p .1 .0) (p .1 .1)
+          (c .before .before .loop-test .taken)
           (omega arith),
     )
 
@@ -58,15 +59,17 @@ loop-again c =
     let l = c .before .before .before .before .before .loop in
     let k = c .before .before .before .before .loop-test .taken in
     let f = saidBy (a .f) in
-    let here : Pass (a .w) (a .rows .now) (a .k) f
-    (λ u. has (a .v) (l .q) ≡ true → StartSettled (a .w) (a .rows .now) f u (entryOf (a .k) (a .opened) (a .meaning) (l .q) 0)) (l .t)
+    let here : Pass (a .w) (a .rows .now) (a .g .to) f
+    (λ u. has (a .g .states) (l .q) ≡ true → StartSettled (a .w) (a .rows .now) f u (entryOf (a .g .to) (a .g .opened) (a .g .meaning)
+    (l .q) 0)) (l .t)
     (c .before .settle-if .last .0) (c .before .settle-if .result) =
     pass-map (λ _ h e. h (c .before .before .has .ensures ∙ e)) (c .before .settle-if .ensures) in (
       omega arith,
       pass-then
-          (λ u x y. below-more (λ (j : ℕ). has (a .v) j ≡ true
-          → StartSettled (a .w) (a .rows .now) f u (entryOf (a .k) (a .opened) (a .meaning) j 0)) (l .q) x y)
-          (λ z g h j b e. start-lasts (a .w) (a .rows .now) (a .k) f z g (entryOf (a .k) (a .opened) (a .meaning) j 0) (h j b e))
+          (λ u x y. below-more (λ (j : ℕ). has (a .g .states) j ≡ true
+          → StartSettled (a .w) (a .rows .now) f u (entryOf (a .g .to) (a .g .opened) (a .g .meaning) j 0)) (l .q) x y)
+          (λ z g h j b e. start-lasts (a .w) (a .rows .now) (a .g .to) f z g (entryOf (a .g .to) (a .g .opened) (a .g .meaning) j 0)
+          (h j b e))
           (l .inv .1) here (by-cases (c .if1 .came) (λ u. inl (u .0 .taken, u .1)) (λ u. inr (u .0 .left, u .1))),
     )
 

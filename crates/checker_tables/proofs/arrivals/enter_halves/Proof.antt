@@ -1,15 +1,14 @@
-use Rattle.checker_account.proofs.GrowsLaws.{grows-joined, grown-two}
-use Rattle.checker_account.proofs.CodeLaws.{after-lt, after-false}
 use denote.Ref.{now}
-use mathlib.Core.Bool.{true, _||_}
-use Prim.Native.Nat.{_/_, _%_, ℕ}
-use mathlib.Core.List.{List}
-use Rattle.checker_account.specs.Filling.{entered}
-use Rattle.checker_account.specs.Tables.{place, meaningAfter, joinedAt}
+use mathlib.Core.Path.{sym, ap, _∙_}
+use mathlib.Core.Bool.{true, false}
+use mathlib.Core.List.{[], _∷_}
+use Prim.Native.Nat.{ℕ, _/_, _%_}
 use native.Mathlib.Omega.{arith}
-use mathlib.Core.Path.{sym, ap, _∙_, refl}
-use borrow.Author.Needs.{needs}
+use Rattle.checker_account.specs.Tables.{meaningAfter, _by_by_with_}
+use Rattle.checker_account.proofs.CodeLaws.{after-lt, after-false}
 use Rattle.checker_tables.proofs.MeaningLaws.{lost-created}
+use Rattle.checker_tables.proofs.EnterLaws.{enters-both, enters-length, enters-as}
+use borrow.Author.Needs.{needs}
 use Rattle.checker_tables.proofs.arrivals.enter_halves.Statement.{statement}
 use Rattle.checker_tables.proofs.arrivals.enter_halves.Tie as tie
 use Rattle.checker_tables.proofs.arrivals.enter_halves.Reads as reads
@@ -21,37 +20,36 @@ lose-requires : tie.Need-lose-requires
 lose-requires c κs = search needs
 
 enter-requires : tie.Need-enter-requires
-enter-requires c κs = search needs
+enter-requires c κs = let p = c .before .before .before .before .pre in (p .0, (p .1 .0, p .1 .1))
 
 enter-requires-2 : tie.Need-enter-requires-2
 enter-requires-2 c κs =
-    let a = c .before .before .before .before .args in
-    let p = c .before .before .before .before .pre in
-    let e = c .before .enter .ensures .0 in (
-      grows-joined (now (a .u)) (c .before .enter .last .0) (place (a .b) (a .o) (a .m)) (a .e % 256) e .len ∙ p .0,
-      (p .1 .0, omega (arith, c .before .before .before .lose .ensures, lost-created (a .m), after-lt (a .m) true (p .1 .1))),
-    )
-
-returns : tie.Need-returns
-unfolding entered
-returns c =
-    let a = c .before .before .before .before .before .args in
-    let n = c .before .before .before .before .lose in
-    let s = c .before .before .enter in
-    let t = c .enter2 in (
-      t .ensures .0
-          ∙ ap (λ (m : ℕ). joinedAt (s .last .0) (place (a .b) (a .o) m) (a .e / 256)) (n .ensures ∙ lost-created (a .m))
-          ∙ ap (λ (u : List ℕ). joinedAt u (place (a .b) (a .o) (meaningAfter (a .m) true)) (a .e / 256))
-          (s .ensures .0 ∙ ap (λ (m : ℕ). joinedAt (now (a .u)) (place (a .b) (a .o) m) (a .e % 256)) (sym (after-false (a .m)))),
+    let a = c .before .before .before .before .before .before .args in
+    let p = c .before .before .before .before .before .before .pre in
+    let g = a .g in
+    let s = c .before .enter in (
+      enters-length ((g .to by g .opened by g .meaning with g .states % 256) ∷ []) (now (a .u)) (s .last .0) (s .result) (p .0)
+          (s .ensures),
       (
-        grown-two (now (a .u)) (s .last .0) (t .last .0) (s .result) (t .result) (s .result || t .result)
-            (grows-joined (now (a .u)) (s .last .0) (place (a .b) (a .o) (a .m)) (a .e % 256) (s .ensures .0))
-            (grows-joined (s .last .0) (t .last .0) (place (a .b) (a .o) (n .result)) (a .e / 256) (t .ensures .0)) (s .ensures .1 .0)
-            (t .ensures .1 .0) refl,
-        λ w. t .ensures .1 .1 (s .ensures .1 .1 w),
+        p .1 .0,
+        omega (arith, c .before .before .before .before .lose .ensures, lost-created (g .meaning), after-lt (g .meaning) true (p .1 .1)),
       ),
     )
 
+returns : tie.Need-returns
+returns c =
+    let a = c .before .before .before .before .before .before .before .args in
+    let g = a .g in
+    let n = c .before .before .before .before .before .lose in
+    let s = c .before .before .enter in
+    let t = c .enter2 in
+    let low = g .to by g .opened by meaningAfter (g .meaning) false with g .states % 256 in
+    let high = g .to by g .opened by meaningAfter (g .meaning) true with g .states / 256 in
+    enters-both (low ∷ []) (high ∷ []) (now (a .u)) (s .last .0) (t .last .0) (s .result) (t .result)
+    (enters-as (g .to by g .opened by g .meaning with g .states % 256) low (now (a .u)) (s .last .0) (s .result)
+    (ap (λ (m : ℕ). g .to by g .opened by m with g .states % 256) (sym (after-false (g .meaning)))) (s .ensures))
+    (enters-as (g .to by g .opened by n .result with g .states / 256) high (s .last .0) (t .last .0) (t .result)
+    (ap (λ (m : ℕ). g .to by g .opened by m with g .states / 256) (n .ensures ∙ lost-created (g .meaning))) (t .ensures))
+
 pub enter-halves-spec : {M : Type 1} → statement M
-enter-halves-spec =
-    tie.close (tie.spec lose-requires enter-requires enter-requires-2 returns)
+enter-halves-spec = tie.close (tie.spec lose-requires enter-requires enter-requires-2 returns)

@@ -1,16 +1,19 @@
 use mathlib.Core.Path.{sym, ap}
 use denote.Ref.{now}
 use mathlib.Core.List.{List}
-use Rattle.checker_account.specs.Tables.{rowsIn, Arrival, arrivals}
+use Rattle.checker_account.specs.declared.Arrival.{Arrival}
+use Rattle.checker_account.specs.Tables.{rowsIn, arrivals}
 use Rattle.checker_account.specs.Filling.{entered}
 use Rattle.checker_account.proofs.GrowsLaws.{grown-self}
 use Rattle.checker_tables.proofs.OtherLaws.{no-arrivals}
+use Rattle.checker_tables.proofs.EnterLaws.{enters-as, inside-as}
 use borrow.Author.Needs.{needs}
 use Rattle.checker_tables.proofs.arrivals.pass_by.Statement.{statement}
 use Rattle.checker_tables.proofs.arrivals.pass_by.Tie as tie
 use Rattle.checker_tables.proofs.arrivals.pass_by.Reads as reads
 use Rattle.checker_tables.proofs.arrivals.pass_by.Lts as lts
 use Rattle.checker_tables.proofs.arrivals.enter.Reads as enter-reads
+use Rattle.checker_tables.proofs.arrivals.onto.Reads as onto-reads
 use Rattle.checker_tables.proofs.arrivals.enter_two.Reads as enter-two-reads
 use Rattle.checker_tables.proofs.arrivals.pass_fresh.Reads as pass-fresh-reads
 use Rattle.checker_tables.proofs.arrivals.pass_sandbox.Reads as pass-sandbox-reads
@@ -29,7 +32,7 @@ pass-sequence-requires : tie.Need-pass-sequence-requires
 pass-sequence-requires c κs =
     let p = c .before .before .before .before .pre in
     let s = rw (c .before .before .f .given .1) at (p .1 .0) in
-    (search needs, (s .0, (s .1, p .1 .1 .1)))
+    (p .0, (s .0, (s .1, p .1 .1 .1)))
 
 enum-known-f-2 : tie.Need-enum-known-f-2
 enum-known-f-2 c = search needs
@@ -44,31 +47,37 @@ enter-two-requires : tie.Need-enter-two-requires
 enter-two-requires c κs =
     let p = c .before .before .before .before .pre in
     let s = rw (c .before .before .f2 .given .1) at (p .1 .0) in
-    (search needs, (s .0, (s .1, p .1 .1 .1)))
+    (p .0, (s .0, (s .1, p .1 .1 .1)))
 
 enum-known-f-3 : tie.Need-enum-known-f-3
 enum-known-f-3 c = search needs
 
-cast-enter : tie.Need-cast-enter
-cast-enter c = search needs
+cast-onto : tie.Need-cast-onto
+cast-onto c = search needs
+
+onto-requires : tie.Need-onto-requires
+onto-requires c κs = search needs
 
 enter-requires : tie.Need-enter-requires
 enter-requires c κs =
-    let p = c .before .before .before .before .pre in
-    let s = rw (c .before .before .f3 .given .1) at (p .1 .0) in
-    (search needs, (s, p .1 .1 .1))
+    let p = c .before .before .before .before .before .pre in
+    let s = rw (c .before .before .before .f3 .given .1) at (p .1 .0) in
+    (p .0, inside-as (c .onto .result) _ (c .onto .ensures) (s, p .1 .1 .1))
 
 enum-known-f-4 : tie.Need-enum-known-f-4
 enum-known-f-4 c = search needs
 
-cast-enter-2 : tie.Need-cast-enter-2
-cast-enter-2 c = search needs
+cast-onto-2 : tie.Need-cast-onto-2
+cast-onto-2 c = search needs
+
+onto-requires-2 : tie.Need-onto-requires-2
+onto-requires-2 c κs = search needs
 
 enter-requires-2 : tie.Need-enter-requires-2
 enter-requires-2 c κs =
-    let p = c .before .before .before .before .pre in
-    let s = rw (c .before .before .f4 .given .1) at (p .1 .0) in
-    (search needs, (s, p .1 .1 .1))
+    let p = c .before .before .before .before .before .pre in
+    let s = rw (c .before .before .before .f4 .given .1) at (p .1 .0) in
+    (p .0, inside-as (c .onto2 .result) _ (c .onto2 .ensures) (s, p .1 .1 .1))
 
 enum-known-f-5 : tie.Need-enum-known-f-5
 enum-known-f-5 c = search needs
@@ -83,7 +92,7 @@ pass-fresh-requires : tie.Need-pass-fresh-requires
 pass-fresh-requires c κs =
     let p = c .before .before .before .before .pre in
     let s = rw (c .before .before .f5 .given .1) at (p .1 .0) in
-    (search needs, (p .1 .1 .0, (s .0, (s .1, p .1 .1 .1))))
+    (p .0, (s .0, (s .1, (p .1 .1 .0, p .1 .1 .1))))
 
 enum-known-f-6 : tie.Need-enum-known-f-6
 enum-known-f-6 c = search needs
@@ -96,39 +105,47 @@ cast-pass-sandbox-2 c = search needs
 
 pass-sandbox-requires : tie.Need-pass-sandbox-requires
 pass-sandbox-requires c κs =
-    let p = c .before .before .before .before .pre in
-    let s = rw (c .before .before .f6 .given .1) at (p .1 .0) in
-    (search needs, (s, p .1 .1 .1))
+    let p = c .before .before .before .before .before .pre in
+    let s = rw (c .before .before .before .f6 .given .1) at (p .1 .0) in
+    (p .0, (s, p .1 .1 .1))
 
 returns : tie.Need-returns
-unfolding arrivals entered
-returns c = (rw (c .before .before .before .f .given .1) (c .pass-sequence .ensures .0), c .pass-sequence .ensures .1)
+unfolding arrivals
+returns c = rw (c .before .before .before .f .given .1) (c .pass-sequence .ensures)
 
 returns-2 : tie.Need-returns-2
-unfolding arrivals entered
-returns-2 c = (rw (c .before .before .before .f2 .given .1) (c .enter-two .ensures .0), c .enter-two .ensures .1)
+unfolding arrivals
+returns-2 c = rw (c .before .before .before .f2 .given .1) (c .enter-two .ensures)
 
 returns-3 : tie.Need-returns-3
-unfolding arrivals entered
-returns-3 c = (rw (c .before .before .before .f3 .given .1) (c .enter .ensures .0), c .enter .ensures .1)
+unfolding arrivals
+returns-3 c =
+    let u = now (c .before .before .before .before .before .before .args .u) in
+    rw (c .before .before .before .before .f3 .given .1)
+    (enters-as (c .before .onto .result) _ u (c .enter .last .0) (c .enter .result) (c .before .onto .ensures) (c .enter .ensures))
 
 returns-4 : tie.Need-returns-4
-unfolding arrivals entered
-returns-4 c = (rw (c .before .before .before .f4 .given .1) (c .enter2 .ensures .0), c .enter2 .ensures .1)
+unfolding arrivals
+returns-4 c =
+    let u = now (c .before .before .before .before .before .before .args .u) in
+    rw (c .before .before .before .before .f4 .given .1)
+    (enters-as (c .before .onto2 .result) _ u (c .enter2 .last .0) (c .enter2 .result) (c .before .onto2 .ensures) (c .enter2 .ensures))
 
 returns-5 : tie.Need-returns-5
-unfolding arrivals entered
-returns-5 c = (rw (c .before .before .before .f5 .given .1) (c .pass-fresh .ensures .0), c .pass-fresh .ensures .1)
+unfolding arrivals
+returns-5 c = rw (c .before .before .before .f5 .given .1) (c .pass-fresh .ensures)
 
 returns-6 : tie.Need-returns-6
-unfolding arrivals entered
-returns-6 c = (rw (c .before .before .before .f6 .given .1) (c .pass-sandbox .ensures .0), c .pass-sandbox .ensures .1)
+unfolding arrivals
+returns-6 c = rw (c .before .before .before .before .f6 .given .1) (c .pass-sandbox .ensures)
 
 returns-7 : tie.Need-returns-7
 unfolding entered
 returns-7 c =
     let a = c .before .args in
-    let e = no-arrivals (a .local) (rowsIn (now (a .rows))) (a .p) (now (a .t)) (a .k) (a .o) (a .m) (a .v) (a .f) (c .match .keys7) in
+    let g = a .from in
+    let e = no-arrivals (a .w .local) (rowsIn (now (a .rows))) (a .w .policy) (now (a .t)) (g .to) (g .opened) (g .meaning) (g .states)
+    (a .f) (c .match .keys7) in
     (sym (ap (λ (gs : List Arrival). entered gs (now (a .u))) e), (sym (grown-self (now (a .u))), λ w. w))
 
 pub pass-by-spec : {M : Type 1} → statement M
@@ -144,10 +161,12 @@ pass-by-spec =
     cast-enter-two-2
     enter-two-requires
     enum-known-f-3
-    cast-enter
+    cast-onto
+    onto-requires
     enter-requires
     enum-known-f-4
-    cast-enter-2
+    cast-onto-2
+    onto-requires-2
     enter-requires-2
     enum-known-f-5
     cast-pass-fresh

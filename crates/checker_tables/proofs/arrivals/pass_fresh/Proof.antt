@@ -1,15 +1,14 @@
 use native.Mathlib.Omega.{arith}
 use native.Mathlib.Numerals.{add-one}
-use mathlib.Core.Path.{_≡_, ap, ap₂, _∙_, refl}
-use mathlib.Core.Bool.{false, _||_}
-use mathlib.Core.List.{List}
-use Prim.Native.Nat.{ℕ, suc, _+_}
 use denote.Ref.{now}
-use Rattle.checker_account.specs.Tables.{over, joinedAt, place, forgotten, rowsIn}
-use Rattle.checker_account.specs.Filling.{entered}
-use Rattle.checker_account.proofs.GrowsLaws.{grows-joined, grown-two}
+use mathlib.Core.Path.{ap₂, _∙_}
+use mathlib.Core.Bool.{false}
+use mathlib.Core.List.{[], _∷_}
+use Prim.Native.Nat.{ℕ, suc, _+_}
+use Rattle.checker_account.specs.Tables.{over, forgotten, ownCreated, rowsIn, _by_by_with_}
 use Rattle.checker_account.proofs.CodeLaws.{forgotten-lt}
 use Rattle.checker_tables.proofs.MeaningLaws.{lost-name}
+use Rattle.checker_tables.proofs.EnterLaws.{enters-both, enters-length, enters-as}
 use borrow.Author.Needs.{needs}
 use Rattle.checker_tables.proofs.arrivals.pass_fresh.Statement.{statement}
 use Rattle.checker_tables.proofs.arrivals.pass_fresh.Tie as tie
@@ -29,6 +28,9 @@ lose-requires c κs = search needs
 moved-set-requires : tie.Need-moved-set-requires
 moved-set-requires c κs = search needs
 
+add-t10 : tie.Need-add-t10
+add-t10 c = search needs
+
 own-created-requires : tie.Need-own-created-requires
 own-created-requires c κs = search needs
 
@@ -38,55 +40,44 @@ enter-requires c κs =
     let p = c .before .before .before .before .pre in (
       p .0,
       (
-        p .1 .1 .1 .0,
+        p .1 .1 .0,
         omega (
           arith,
           c .before .before .before .lose .ensures,
-          lost-name (a .m) (a .n),
-          forgotten-lt (a .m) (a .n) (p .1 .1 .1 .1),
+          lost-name (a .from .meaning) (a .n),
+          forgotten-lt (a .from .meaning) (a .n) (p .1 .1 .1 .1),
         ),
       ),
     )
-
-add-enter : tie.Need-add-enter
-add-enter c = search needs
 
 enter-requires-2 : tie.Need-enter-requires-2
 enter-requires-2 c κs =
     let a = c .before .before .before .before .before .before .args in
     let p = c .before .before .before .before .before .before .pre in
+    let f = c .before .before .before .before .before .lose in
+    let x = c .before .before .before .before .moved-set in
     let s = c .before .enter in (
-      grows-joined (now (a .u)) (s .last .0) (place (a .b) (a .o) (c .before .before .before .before .before .lose .result))
-          (c .before .before .before .before .moved-set .result) (s .ensures .0) .len
-          ∙ p .0,
-      (p .1 .1 .1 .0, omega (arith, p .1 .1 .0)),
+      enters-length ((a .b by a .from .opened by f .result with x .result) ∷ []) (now (a .u)) (s .last .0) (s .result) (p .0) (s .ensures),
+      (p .1 .1 .0, omega (arith, p .1 .0)),
     )
 
 returns : tie.Need-returns
-unfolding entered
 returns c =
     let a = c .before .before .before .before .before .before .before .args in
+    let g = a .from in
     let f = c .before .before .before .before .before .before .lose in
     let x = c .before .before .before .before .before .moved-set in
     let y = c .before .before .before .before .own-created in
     let s = c .before .before .enter in
     let t = c .enter2 in
-    let i = place (a .b) (a .o) (forgotten (a .m) (a .n)) in
-    let first : s .last .0 ≡ joinedAt (now (a .u)) i (over (rowsIn (now (a .rows)) (a .k) false) (a .v)) =
-    s .ensures .0
-    ∙ ap (λ (m : ℕ). joinedAt (now (a .u)) (place (a .b) (a .o) m) (x .result)) (f .ensures ∙ lost-name (a .m) (a .n))
-    ∙ ap (joinedAt (now (a .u)) i) (x .ensures) in (
-      t .ensures .0
-          ∙ ap (λ (m : ℕ). joinedAt (s .last .0) (place (a .b) (a .o) m) (y .result)) (add-one (a .n))
-          ∙ ap₂ (λ (u : List ℕ) (v : ℕ). joinedAt u (place (a .b) (a .o) (suc (a .n))) v) first (y .ensures),
-      (
-        grown-two (now (a .u)) (s .last .0) (t .last .0) (s .result) (t .result) (s .result || t .result)
-            (grows-joined (now (a .u)) (s .last .0) (place (a .b) (a .o) (f .result)) (x .result) (s .ensures .0))
-            (grows-joined (s .last .0) (t .last .0) (place (a .b) (a .o) (a .n + 1)) (y .result) (t .ensures .0)) (s .ensures .1 .0)
-            (t .ensures .1 .0) refl,
-        λ w. t .ensures .1 .1 (s .ensures .1 .1 w),
-      ),
-    )
+    let rows = rowsIn (now (a .rows)) in
+    let other = a .b by g .opened by forgotten (g .meaning) (a .n) with over (rows (g .to) false) (g .states) in
+    let own = a .b by g .opened by suc (a .n) with ownCreated rows (g .to) (g .meaning) (g .states) in
+    enters-both (other ∷ []) (own ∷ []) (now (a .u)) (s .last .0) (t .last .0) (s .result) (t .result)
+    (enters-as (a .b by g .opened by f .result with x .result) other (now (a .u)) (s .last .0) (s .result)
+    (ap₂ (λ (m v : ℕ). a .b by g .opened by m with v) (f .ensures ∙ lost-name (g .meaning) (a .n)) (x .ensures)) (s .ensures))
+    (enters-as (a .b by g .opened by (a .n + 1) with y .result) own (s .last .0) (t .last .0) (t .result)
+    (ap₂ (λ (m v : ℕ). a .b by g .opened by m with v) (add-one (a .n)) (y .ensures)) (t .ensures))
 
 pub pass-fresh-spec : {M : Type 1} → statement M
 pass-fresh-spec =
@@ -95,8 +86,8 @@ pass-fresh-spec =
     add-lose
     lose-requires
     moved-set-requires
+    add-t10
     own-created-requires
     enter-requires
-    add-enter
     enter-requires-2
     returns)

@@ -7,13 +7,14 @@ use denote.Ref.{now}
 use mathlib.Core.Bool.{Bool}
 use mathlib.Core.List.{List}
 use Rattle.usage.specs.Limits.{mostNodes, nodeFields}
-use Rattle.checker_account.specs.Tables.{rowsIn}
+use Rattle.checker_account.specs.Tables.{rowsIn, least}
 use Rattle.checker_account.specs.Filling.{repeat, grown, formsIn, byOpen, passNode, passRound, Wide}
 use Rattle.checker_account.proofs.GrowsLaws.{Grows, grown-self, repeat-length, turn}
 use Rattle.checker_account.proofs.PassLaws.{pass-node-grows}
 use mathlib.Core.Option.{Option}
 use Rattle.usage.specs.Outline.{Form}
 use Rattle.outline_nodes.proofs.SaidLaws.{form-at}
+use Rattle.checker_tables.specs.declared.Watch.{Watch}
 use Rattle.checker_tables.specs.Search.{Small}
 use Rattle.checker_tables.proofs.arrivals.pass_round.Statement.{statement}
 use Rattle.checker_tables.proofs.arrivals.pass_round.Tie as tie
@@ -22,19 +23,20 @@ use Rattle.checker_tables.proofs.arrivals.pass_round.Lts as lts
 use Rattle.checker_tables.proofs.arrivals.pass_node.Reads as pass-node-reads
 use Rattle.outline_nodes.proofs.form.Reads as form-reads
 
-abbrev steps : List ℕ → List ℕ → List ℕ → List ℕ → Bool → ℕ → ℕ → ℕ → List ℕ → List ℕ
-steps opened shut nodes rows local p l k = passNode local (rowsIn rows) p (byOpen opened shut) l k (formsIn nodes k)
+abbrev steps : List ℕ → List ℕ → List ℕ → List ℕ → Watch → ℕ → List ℕ → List ℕ
+steps opened shut nodes rows w k =
+    passNode (w .local) (rowsIn rows) (w .policy) (byOpen opened shut) (least (w .resource)) k (formsIn nodes k)
 
-steps-grow : (opened shut nodes rows : List ℕ) (local : Bool) (p l k : ℕ) (u : List ℕ)
-    → Grows u (steps opened shut nodes rows local p l k u)
-steps-grow opened shut nodes rows local p l k u = pass-node-grows local (rowsIn rows) p (byOpen opened shut) l k (formsIn nodes k) u
+steps-grow : (opened shut nodes rows : List ℕ) (w : Watch) (k : ℕ) (u : List ℕ) → Grows u (steps opened shut nodes rows w k u)
+steps-grow opened shut nodes rows w k u =
+    pass-node-grows (w .local) (rowsIn rows) (w .policy) (byOpen opened shut) (least (w .resource)) k (formsIn nodes k) u
 
 abbrev Inv-loop : tie.InvT-loop
-Inv-loop u₀ opened shut nodes rows local p l n changed₀ k₀ u changed k =
-    (k ≤ n) × ((u ≡ repeat (steps opened shut nodes rows local p l) k u₀) × ((changed ≡ grown u₀ u) × (Wide u₀ → Wide u)))
+Inv-loop u₀ opened shut nodes rows w n changed₀ k₀ u changed k =
+    (k ≤ n) × ((u ≡ repeat (steps opened shut nodes rows w) k u₀) × ((changed ≡ grown u₀ u) × (Wide u₀ → Wide u)))
 
 abbrev μ-loop : tie.MeasureT-loop
-μ-loop u₀ opened shut nodes rows local p l n changed₀ k₀ u changed k = n - k
+μ-loop u₀ opened shut nodes rows w n changed₀ k₀ u changed k = n - k
 
 loop-holds : tie.Need-loop-holds Inv-loop μ-loop
 unfolding repeat
@@ -46,16 +48,16 @@ form-requires c κs = search needs
 pass-node-requires : tie.Need-pass-node-requires Inv-loop μ-loop
 pass-node-requires c κs =
     let a = c .before .before .before .before .before .args in
-    let f = steps (a .opened .now) (a .shut .now) (a .nodes .now) (a .rows .now) (a .local) (a .p) (a .l) in
-    let grows = steps-grow (a .opened .now) (a .shut .now) (a .nodes .now) (a .rows .now) (a .local) (a .p) (a .l) in
+    let f = steps (a .opened .now) (a .shut .now) (a .nodes .now) (a .rows .now) (a .w) in
+    let grows = steps-grow (a .opened .now) (a .shut .now) (a .nodes .now) (a .rows .now) (a .w) in
     let l = c .before .before .before .loop in
     let p = c .before .before .before .before .before .pre in
     let h = c .before .before .loop-test .taken in
-    let few : length (a .nodes .now) / nodeFields ≤ mostNodes = p .1 .0 .few in (
+    let few : length (a .nodes .now) / nodeFields ≤ mostNodes = p .1 .few in (
       repeat-length f grows (l .k) (a .u .now) (l .u) (l .inv .1 .0) ∙ p .0,
       (
-        subst Small (sym (c .before .form .ensures ∙ form-at (a .nodes .now) (l .k) h)) (p .1 .0 .each-small (l .k) h),
-        (p .1 .1, omega arith),
+        subst Small (sym (c .before .form .ensures ∙ form-at (a .nodes .now) (l .k) h)) (p .1 .each-small (l .k) h),
+        omega arith,
       ),
     )
 
@@ -69,13 +71,14 @@ loop-again : tie.Need-loop-again Inv-loop μ-loop
 loop-again c =
     let a = c .before .before .before .before .before .before .args in
     let l = c .before .before .before .before .loop in
-    let f = steps (a .opened .now) (a .shut .now) (a .nodes .now) (a .rows .now) (a .local) (a .p) (a .l) in
-    let grows = steps-grow (a .opened .now) (a .shut .now) (a .nodes .now) (a .rows .now) (a .local) (a .p) (a .l) in
+    let f = steps (a .opened .now) (a .shut .now) (a .nodes .now) (a .rows .now) (a .w) in
+    let grows = steps-grow (a .opened .now) (a .shut .now) (a .nodes .now) (a .rows .now) (a .w) in
     let w = c .pass-node .last .0 in
     let h = c .before .before .before .loop-test .taken in
     let e : w ≡ f (l .k) (l .u) =
     c .pass-node .ensures .0
-    ∙ ap (λ (d : Option Form). passNode (a .local) (rowsIn (a .rows .now)) (a .p) (byOpen (a .opened .now) (a .shut .now)) (a .l) (l .k) d
+    ∙ ap (λ (d : Option Form). passNode (a .w .local) (rowsIn (a .rows .now)) (a .w .policy) (byOpen (a .opened .now) (a .shut .now))
+    (least (a .w .resource)) (l .k) d
     (l .u))
     (c .before .before .form .ensures ∙ form-at (a .nodes .now) (l .k) h) in
     let wide : Wide (a .u .now) → Wide w = λ h. c .pass-node .ensures .1 .1 (l .inv .1 .1 .1 h) in

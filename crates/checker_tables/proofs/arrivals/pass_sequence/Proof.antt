@@ -1,12 +1,10 @@
-use mathlib.Core.Bool.{_||_}
-use mathlib.Core.Path.{sym, ap, _∙_, subst, refl}
-use mathlib.Core.List.{List}
-use Prim.Native.Nat.{ℕ}
 use denote.Ref.{now}
-use Rattle.checker_account.specs.Tables.{joinedAt, place, halves}
-use Rattle.checker_account.specs.Filling.{entered}
-use Rattle.checker_account.proofs.GrowsLaws.{Grows, grows-joined, grown-two}
-use Rattle.checker_account.proofs.PassLaws.{entered-grows}
+use mathlib.Core.Path.{ap, subst}
+use mathlib.Core.List.{[], _∷_}
+use Prim.Native.Nat.{ℕ}
+use Rattle.checker_account.specs.Tables.{halves, begun, _by_by_with_}
+use Rattle.checker_tables.specs.Search.{Enters}
+use Rattle.checker_tables.proofs.EnterLaws.{enters-both, enters-length, enters-as, inside-as}
 use borrow.Author.Needs.{needs}
 use Rattle.checker_tables.proofs.arrivals.pass_sequence.Statement.{statement}
 use Rattle.checker_tables.proofs.arrivals.pass_sequence.Tie as tie
@@ -14,43 +12,41 @@ use Rattle.checker_tables.proofs.arrivals.pass_sequence.Reads as reads
 use Rattle.checker_tables.proofs.arrivals.pass_sequence.Lts as lts
 use Rattle.checker_tables.proofs.arrivals.enter.Reads as enter-reads
 use Rattle.checker_tables.proofs.arrivals.enter_halves.Reads as enter-halves-reads
+use Rattle.checker_tables.proofs.arrivals.onto.Reads as onto-reads
 use Rattle.checker_tables.proofs.ends.begun.Reads as begun-reads
 
 begun-requires : tie.Need-begun-requires
 begun-requires c κs = search needs
 
+onto-requires : tie.Need-onto-requires
+onto-requires c κs = search needs
+
 enter-requires : tie.Need-enter-requires
-enter-requires c κs = search needs
+enter-requires c κs =
+    let p = c .before .before .before .pre in
+    (p .0, inside-as (c .onto .result) _ (c .onto .ensures) (p .1 .0, p .1 .1 .1))
 
 enter-halves-requires : tie.Need-enter-halves-requires
 enter-halves-requires c κs =
-    let a = c .before .before .before .before .args in
-    let p = c .before .before .before .before .pre in (
-      grows-joined (now (a .u)) (c .before .enter .last .0) (place (a .a) (a .o) (a .m)) (a .v) (c .before .enter .ensures .0) .len ∙ p .0,
-      (p .1 .1 .0, p .1 .1 .1),
-    )
+    let a = c .before .before .before .before .before .args in
+    let p = c .before .before .before .before .before .pre in
+    let s = c .before .enter in
+    let g = c .before .before .onto in
+    (enters-length (g .result ∷ []) (now (a .u)) (s .last .0) (s .result) (p .0) (s .ensures), (p .1 .1 .0, p .1 .1 .1))
 
 returns : tie.Need-returns
-unfolding entered
 returns c =
-    let a = c .before .before .before .before .before .args in
-    let e = c .before .before .before .before .begun in
+    let a = c .before .before .before .before .before .before .args in
+    let f = a .from in
+    let e = c .before .before .before .before .before .begun in
+    let g = c .before .before .before .onto in
     let s = c .before .before .enter in
-    let t = c .enter-halves in (
-      t .ensures .0
-          ∙ ap (λ (u : List ℕ). entered (halves (a .b) (a .o) (a .m) (e .result)) u) (s .ensures .0)
-          ∙ ap (λ (n : ℕ). entered (halves (a .b) (a .o) (a .m) n) (joinedAt (now (a .u)) (place (a .a) (a .o) (a .m)) (a .v)))
-          (e .ensures),
-      (
-        grown-two (now (a .u)) (s .last .0) (t .last .0) (s .result) (t .result) (s .result || t .result)
-            (grows-joined (now (a .u)) (s .last .0) (place (a .a) (a .o) (a .m)) (a .v) (s .ensures .0))
-            (subst (Grows (s .last .0)) (sym (t .ensures .0)) (entered-grows (halves (a .b) (a .o) (a .m) (e .result)) (s .last .0)))
-            (s .ensures .1 .0) (t .ensures .1 .0) refl,
-        λ w. t .ensures .1 .1 (s .ensures .1 .1 w),
-      ),
-    )
+    let t = c .enter-halves in
+    let first = a .a by f .opened by f .meaning with f .states in
+    enters-both (first ∷ []) (halves (a .b) (f .opened) (f .meaning) (begun (now (a .t)) (a .a) (f .meaning) (f .states))) (now (a .u))
+    (s .last .0) (t .last .0) (s .result) (t .result)
+    (enters-as (g .result) first (now (a .u)) (s .last .0) (s .result) (g .ensures) (s .ensures))
+    (subst (λ (v : ℕ). Enters (halves (a .b) (f .opened) (f .meaning) v) (s .last .0) (t .last .0) (t .result)) (e .ensures) (t .ensures))
 
 pub pass-sequence-spec : {M : Type 1} → statement M
-pass-sequence-spec =
-    tie.close
-    (tie.spec begun-requires enter-requires enter-halves-requires returns)
+pass-sequence-spec = tie.close (tie.spec begun-requires onto-requires enter-requires enter-halves-requires returns)

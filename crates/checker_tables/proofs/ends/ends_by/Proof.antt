@@ -133,8 +133,8 @@ cast-inside-ends-2 c = search needs
 
 inside-ends-requires : tie.Need-inside-ends-requires
 inside-ends-requires c κs =
-    let p = c .before .before .before .pre in
-    let s = rw (c .before .f8 .given .1) at (p .0) in
+    let p = c .before .before .before .before .before .pre in
+    let s = rw (c .before .before .before .f8 .given .1) at (p .0) in
     (s, p .1 .1)
 
 enum-told-2 : tie.Need-enum-told-2
@@ -150,7 +150,7 @@ returns c =
 
 returns-2 : tie.Need-returns-2
 unfolding endsBy
-returns-2 c = rw (c .before .before .f .given .1) (c .event-ends .ensures)
+returns-2 c = rw (c .before .before .before .f .given .1) (c .event-ends .ensures)
 
 returns-3 : tie.Need-returns-3
 unfolding endsBy
@@ -183,14 +183,15 @@ returns-8 c = rw (c .before .before .f7 .given .1) (c .fresh-ends .ensures)
 returns-9 : tie.Need-returns-9
 unfolding endsBy
 returns-9 c =
-    let a = c .before .before .before .before .args in
-    let s = c .before .before .f8 .given .0 .0 in
-    let b = c .before .before .f8 .given .0 .1 .0 in
-    rw (c .before .before .f8 .given .1)
-    (by-as (λ q. insideEnds (resetsIf (a .reset) (a .p) (now (a .opened))) (now (a .t)) s b (a .m) q)
-    (λ q. cond (a .reset && eqb s (a .p)) (getD (now (a .opened)) (base b (a .m) + 0) 0) (getD (now (a .t)) (base b (a .m) + q) 0))
+    let a = c .before .before .before .before .before .before .args in
+    let s = c .before .before .before .before .f8 .given .0 .0 in
+    let b = c .before .before .before .before .f8 .given .0 .1 .0 in
+    rw (c .before .before .before .before .f8 .given .1)
+    (by-as (λ q. insideEnds (resetsIf (a .w .local) (a .w .policy) (now (a .opened))) (now (a .t)) s b (a .m) q)
+    (λ q. cond (a .w .local && eqb s (a .w .policy)) (getD (now (a .opened)) (base b (a .m) + 0) 0) (getD (now (a .t)) (base b
+    (a .m) + q) 0))
     (c .inside-ends .result) (c .inside-ends .ensures)
-    (λ q l. inside-if (a .reset) (a .p) (now (a .opened)) (now (a .t)) s b (a .m) q))
+    (λ q l. inside-if (a .w .local) (a .w .policy) (now (a .opened)) (now (a .t)) s b (a .m) q))
 
 returns-10 : tie.Need-returns-10
 returns-10 c = rw (c .enum-told2 .given .1) (record { len = refl; held = λ q l. zeros states q })

@@ -2,7 +2,8 @@ use native.Mathlib.Omega.{arith}
 use mathlib.Core.Path.{_≡_, refl, sym, ap, ap₂, _∙_, subst}
 use mathlib.Core.Bool.{Bool, true, false}
 use mathlib.Core.List.{List}
-use Prim.Native.Nat.{ℕ, suc, _-_, _*_, _/_, _%_, _^_, _≤_, _<_}
+use borrow.Author.Needs.{needs}
+use Prim.Native.Nat.{ℕ, suc, _-_, _*_, _/_, _%_, _^_, _≤_, _<_, min}
 use lib.Bits.{bitOr}
 use lib.Pow.{pow-mono}
 use lib.ListN.{length, getD}
@@ -11,8 +12,9 @@ use mathlib.Core.Option.{Option}
 use Rattle.usage.specs.Outline.{Form}
 use Rattle.outline_nodes.specs.declared.NodeForm.{NodeForm}
 use Rattle.outline_nodes.specs.Said.{saidBy}
-use Rattle.checker_account.specs.Tables.{meanings, rowsIn, Resets}
+use Rattle.checker_account.specs.Tables.{meanings, least, rowsIn, Resets}
 use Rattle.checker_account.specs.Filling.{grown, formsIn, settleNode, Wide}
+use Rattle.checker_account.proofs.Starts.{least-le}
 use Rattle.checker_account.proofs.SettleLaws.{WideLent}
 use Rattle.checker_tables.specs.Search.{Small, NodesFit, resetsIf}
 use Rattle.checker_tables.specs.Work.{readersOf}
@@ -35,7 +37,7 @@ use Rattle.checker_tables.proofs.ends.settle_node.Reads as settle-node-
 use Rattle.checker_tables.proofs.form.Reads as form-reads
 use Rattle.checker_tables.proofs.work.all.Reads as all-reads
 use Rattle.checker_tables.proofs.work.highest.Reads as highest-reads
-use Rattle.checker_tables.proofs.work.readers.Reads as readers-reads
+use Rattle.checker_tables.proofs.work.note_all.Reads as note-all-reads
 
 abbrev Done : List ℕ → List ℕ → ℕ → Resets → ℕ → List ℕ → ℕ → Type 0
 Done nodes rows x resets l = Working (rowsIn rows) x resets l (length nodes / nodeFields) (formsIn nodes)
@@ -44,6 +46,12 @@ Done nodes rows x resets l = Working (rowsIn rows) x resets l (length nodes / no
 lent-wide : (reset : Bool) (p : ℕ) (opened : List ℕ) → (reset ≡ true → Wide opened) → WideLent (resetsIf reset p opened)
 lent-wide false p opened w = tt
 lent-wide true p opened w = w refl
+
+low : (x : ℕ) → least x < meanings
+low x = omega (arith, least-le x)
+
+fewer : (n : ℕ) → n ≤ mostNodes → min n mostNodes ≡ n
+fewer n h = omega arith
 
 positive : (s : ℕ) → (s ≡ 0 → ⊥) → 0 < s
 positive s d = omega arith
@@ -100,183 +108,214 @@ module _ (nodes rows : List ℕ) (x : ℕ) (resets : Resets) (l : ℕ) (fit : No
           (bitOr (s - bit) (getD readers k 0)) (omega (arith, more .nodes))
 
 abbrev Inv-loop : tie.InvT-loop
-Inv-loop nodes rows opened reset p x l t₀ n readers left₀ t left = Done nodes rows x (resetsIf reset p opened) l t left
+Inv-loop nodes rows opened w t₀ n readers left₀ t left =
+    Done nodes rows (w .resource) (resetsIf (w .local) (w .policy) opened) (least (w .resource)) t left
 
 abbrev μ-loop : tie.MeasureT-loop
-μ-loop nodes rows opened reset p x l t₀ n readers left₀ t left = leftOf t left
+μ-loop nodes rows opened w t₀ n readers left₀ t left = leftOf t left
 
-readers-requires : tie.Need-readers-requires Inv-loop μ-loop
-readers-requires c κs = (c .before .before .pre .0, refl)
+note-all-requires : tie.Need-note-all-requires Inv-loop μ-loop
+note-all-requires c κs = (c .before .before .pre .0, refl)
 
 all-requires : tie.Need-all-requires Inv-loop μ-loop
-all-requires c κs = c .before .before .before .pre .0 .few
+all-requires c κs = search needs
 
 loop-holds : tie.Need-loop-holds Inv-loop μ-loop
 loop-holds c =
     let a = c .before .before .before .before .args in
-    let resets = resetsIf (a .reset) (a .p) (a .opened .now) in
+    let resets = resetsIf (a .w .local) (a .w .policy) (a .opened .now) in
     let p = c .before .before .before .before .pre in
-    subst (Done (a .nodes .now) (a .rows .now) (a .x) resets (a .l) (a .t .now)) (sym (c .all .ensures))
-    (subst (λ (u : List ℕ). Done (a .nodes .now) (a .rows .now) (a .x) resets (a .l) u (2 ^ (length (a .nodes .now) / nodeFields) - 1))
-    (sym (p .1 .1 .1))
-    (working-start (rowsIn (a .rows .now)) (a .x) resets (a .l) (length (a .nodes .now) / nodeFields) (formsIn (a .nodes .now))
+    subst (Done (a .nodes .now) (a .rows .now) (a .w .resource) resets (least (a .w .resource)) (a .t .now))
+    (sym (c .all .ensures ∙ ap (λ (n : ℕ). 2 ^ n - 1) (fewer (length (a .nodes .now) / nodeFields) (p .0 .few))))
+    (subst (λ (u : List ℕ). Done (a .nodes .now) (a .rows .now) (a .w .resource) resets (least (a .w .resource)) u (2 ^ (length
+    (a .nodes .now) / nodeFields) - 1))
+    (sym (p .1 .1))
+    (working-start (rowsIn (a .rows .now)) (a .w .resource) resets (least (a .w .resource)) (length (a .nodes .now) / nodeFields)
+    (formsIn (a .nodes .now))
     (p .0 .few)))
 
 highest-requires : tie.Need-highest-requires Inv-loop μ-loop
-highest-requires c κs = positive (c .before .loop .left) (c .loop-test .taken)
+highest-requires c κs = search needs
 
 cast-left : tie.Need-cast-left Inv-loop μ-loop
 cast-left c =
     let a = c .before .before .before .before .before .before .before .args in
-    let resets = resetsIf (a .reset) (a .p) (a .opened .now) in
+    let resets = resetsIf (a .w .local) (a .w .policy) (a .opened .now) in
     let p = c .before .before .before .before .before .before .before .pre in
     let l = c .before .before .loop in
+    let pos = positive (l .left) (c .before .loop-test .taken) in
     let h = c .highest in
-    let k = small (a .nodes .now) (a .rows .now) (a .x) resets (a .l) (p .0) (l .t) (l .left) (h .result) (l .inv) (h .ensures .0)
-    (h .ensures .1) in
+    let k = small (a .nodes .now) (a .rows .now) (a .w .resource) resets (least (a .w .resource)) (p .0) (l .t) (l .left) (h .result)
+    (l .inv) (h .ensures .0 pos)
+    (h .ensures .1 .0) in
     omega arith
 
 cast-left-2 : tie.Need-cast-left-2 Inv-loop μ-loop
 cast-left-2 c =
     let a = c .before .before .before .before .before .before .before .args in
-    let resets = resetsIf (a .reset) (a .p) (a .opened .now) in
+    let resets = resetsIf (a .w .local) (a .w .policy) (a .opened .now) in
     let p = c .before .before .before .before .before .before .before .pre in
     let l = c .before .before .loop in
+    let pos = positive (l .left) (c .before .loop-test .taken) in
     let h = c .highest in
-    let k = small (a .nodes .now) (a .rows .now) (a .x) resets (a .l) (p .0) (l .t) (l .left) (h .result) (l .inv) (h .ensures .0)
-    (h .ensures .1) in
+    let k = small (a .nodes .now) (a .rows .now) (a .w .resource) resets (least (a .w .resource)) (p .0) (l .t) (l .left) (h .result)
+    (l .inv) (h .ensures .0 pos)
+    (h .ensures .1 .0) in
     omega arith
 
 shl-left : tie.Need-shl-left Inv-loop μ-loop
 shl-left c =
     let a = c .before .before .before .before .before .before .before .args in
-    let resets = resetsIf (a .reset) (a .p) (a .opened .now) in
+    let resets = resetsIf (a .w .local) (a .w .policy) (a .opened .now) in
     let p = c .before .before .before .before .before .before .before .pre in
     let l = c .before .before .loop in
+    let pos = positive (l .left) (c .before .loop-test .taken) in
     let h = c .highest in
-    let k = small (a .nodes .now) (a .rows .now) (a .x) resets (a .l) (p .0) (l .t) (l .left) (h .result) (l .inv) (h .ensures .0)
-    (h .ensures .1) in
+    let k = small (a .nodes .now) (a .rows .now) (a .w .resource) resets (least (a .w .resource)) (p .0) (l .t) (l .left) (h .result)
+    (l .inv) (h .ensures .0 pos)
+    (h .ensures .1 .0) in
     omega arith
 
 sub-left : tie.Need-sub-left Inv-loop μ-loop
 sub-left c =
     let a = c .before .before .before .before .before .before .before .args in
-    let resets = resetsIf (a .reset) (a .p) (a .opened .now) in
+    let resets = resetsIf (a .w .local) (a .w .policy) (a .opened .now) in
     let p = c .before .before .before .before .before .before .before .pre in
     let l = c .before .before .loop in
+    let pos = positive (l .left) (c .before .loop-test .taken) in
     let h = c .highest in
-    bit-low (a .nodes .now) (a .rows .now) (a .x) resets (a .l) (p .0) (l .t) (l .left) (h .result) (l .inv) (h .ensures .0)
-    (h .ensures .1)
+    bit-low (a .nodes .now) (a .rows .now) (a .w .resource) resets (least (a .w .resource)) (p .0) (l .t) (l .left) (h .result) (l .inv)
+    (h .ensures .0 pos)
+    (h .ensures .1 .0)
 
 form-requires : tie.Need-form-requires Inv-loop μ-loop
 form-requires c κs =
     let a = c .before .before .before .before .before .before .before .args in
-    let resets = resetsIf (a .reset) (a .p) (a .opened .now) in
+    let resets = resetsIf (a .w .local) (a .w .policy) (a .opened .now) in
     let p = c .before .before .before .before .before .before .before .pre in
     let l = c .before .before .loop in
+    let pos = positive (l .left) (c .before .loop-test .taken) in
     let h = c .highest in
-    inside (a .nodes .now) (a .rows .now) (a .x) resets (a .l) (p .0) (l .t) (l .left) (h .result) (l .inv) (h .ensures .0)
-    (h .ensures .1)
+    inside (a .nodes .now) (a .rows .now) (a .w .resource) resets (least (a .w .resource)) (p .0) (l .t) (l .left) (h .result) (l .inv)
+    (h .ensures .0 pos)
+    (h .ensures .1 .0)
 
 settle-node-requires : tie.Need-settle-node-requires Inv-loop μ-loop
 settle-node-requires c κs =
     let a = c .before .before .before .before .before .before .before .before .before .args in
-    let resets = resetsIf (a .reset) (a .p) (a .opened .now) in
+    let resets = resetsIf (a .w .local) (a .w .policy) (a .opened .now) in
     let p = c .before .before .before .before .before .before .before .before .before .pre in
     let l = c .before .before .before .before .loop in
+    let pos = positive (l .left) (c .before .before .before .loop-test .taken) in
     let h = c .before .before .highest in
-    let k = inside (a .nodes .now) (a .rows .now) (a .x) resets (a .l) (p .0) (l .t) (l .left) (h .result) (l .inv) (h .ensures .0)
-    (h .ensures .1) in
+    let k = inside (a .nodes .now) (a .rows .now) (a .w .resource) resets (least (a .w .resource)) (p .0) (l .t) (l .left) (h .result)
+    (l .inv) (h .ensures .0 pos)
+    (h .ensures .1 .0) in
     let few : length (a .nodes .now) / nodeFields ≤ mostNodes = p .0 .few in (
-      working-length (rowsIn (a .rows .now)) (a .x) resets (a .l) (length (a .nodes .now) / nodeFields) (formsIn (a .nodes .now))
+      working-length (rowsIn (a .rows .now)) (a .w .resource) resets (least (a .w .resource)) (length (a .nodes .now) / nodeFields)
+          (formsIn (a .nodes .now))
           (p .0 .few)
           (l .inv),
-      (subst Small (sym (c .before .form .ensures)) (p .0 .each-small (h .result) k), (p .1 .0, omega arith)),
+      (subst Small (sym (c .before .form .ensures)) (p .0 .each-small (h .result) k), omega arith),
     )
 
 mul-left : tie.Need-mul-left Inv-loop μ-loop
 mul-left c =
     let a = c .before .before .before .before .before .before .before .before .before .before .before .args in
-    let resets = resetsIf (a .reset) (a .p) (a .opened .now) in
+    let resets = resetsIf (a .w .local) (a .w .policy) (a .opened .now) in
     let p = c .before .before .before .before .before .before .before .before .before .before .before .pre in
     let l = c .before .before .before .before .before .before .loop in
+    let pos = positive (l .left) (c .before .before .before .before .before .loop-test .taken) in
     let h = c .before .before .before .before .highest in
-    let k = small (a .nodes .now) (a .rows .now) (a .x) resets (a .l) (p .0) (l .t) (l .left) (h .result) (l .inv) (h .ensures .0)
-    (h .ensures .1) in
+    let k = small (a .nodes .now) (a .rows .now) (a .w .resource) resets (least (a .w .resource)) (p .0) (l .t) (l .left) (h .result)
+    (l .inv) (h .ensures .0 pos)
+    (h .ensures .1 .0) in
     omega arith
 
 array-read-left : tie.Need-array-read-left Inv-loop μ-loop
 array-read-left c =
     let a = c .before .before .before .before .before .before .before .before .before .before .before .args in
-    let resets = resetsIf (a .reset) (a .p) (a .opened .now) in
+    let resets = resetsIf (a .w .local) (a .w .policy) (a .opened .now) in
     let p = c .before .before .before .before .before .before .before .before .before .before .before .pre in
     let l = c .before .before .before .before .before .before .loop in
+    let pos = positive (l .left) (c .before .before .before .before .before .loop-test .taken) in
     let h = c .before .before .before .before .highest in
-    small (a .nodes .now) (a .rows .now) (a .x) resets (a .l) (p .0) (l .t) (l .left) (h .result) (l .inv) (h .ensures .0)
-    (h .ensures .1)
+    small (a .nodes .now) (a .rows .now) (a .w .resource) resets (least (a .w .resource)) (p .0) (l .t) (l .left) (h .result) (l .inv)
+    (h .ensures .0 pos)
+    (h .ensures .1 .0)
 
 loop-less : tie.Need-loop-less Inv-loop μ-loop
 loop-less c =
     let a = c .before .before .before .before .before .before .before .before .before .before .before .args in
-    let resets = resetsIf (a .reset) (a .p) (a .opened .now) in
+    let resets = resetsIf (a .w .local) (a .w .policy) (a .opened .now) in
     let p = c .before .before .before .before .before .before .before .before .before .before .before .pre in
-    let r = c .before .before .before .before .before .before .before .before .readers2 in
+    let r = c .before .before .before .before .before .before .before .before .note-all in
     let l = c .before .before .before .before .before .before .loop in
+    let pos = positive (l .left) (c .before .before .before .before .before .loop-test .taken) in
     let h = c .before .before .before .before .highest in
     let s = c .before .settle-node in
     let d = c .before .before .before .form in
-    more-falls (a .nodes .now) (a .rows .now) (a .x) resets (a .l) (p .0) (l .t) (l .left) (h .result) (l .inv) (h .ensures .0)
-    (h .ensures .1) (s .last .0) (d .result) (d .ensures) (s .ensures .0) (s .result) (s .ensures .1)
-    (lent-wide (a .reset) (a .p) (a .opened .now) (p .1 .1 .0)) (p .1 .0) (r .last .1 .0) (r .ensures)
+    more-falls (a .nodes .now) (a .rows .now) (a .w .resource) resets (least (a .w .resource)) (p .0) (l .t) (l .left) (h .result)
+    (l .inv) (h .ensures .0 pos)
+    (h .ensures .1 .0) (s .last .0) (d .result) (d .ensures) (s .ensures .0) (s .result) (s .ensures .1)
+    (lent-wide (a .w .local) (a .w .policy) (a .opened .now) (p .1 .0)) (low (a .w .resource)) (r .last .1 .0) (r .ensures)
     (c .if1 .taken)
 
 loop-again : tie.Need-loop-again Inv-loop μ-loop
 loop-again c =
     let a = c .before .before .before .before .before .before .before .before .before .before .before .args in
-    let resets = resetsIf (a .reset) (a .p) (a .opened .now) in
+    let resets = resetsIf (a .w .local) (a .w .policy) (a .opened .now) in
     let p = c .before .before .before .before .before .before .before .before .before .before .before .pre in
-    let r = c .before .before .before .before .before .before .before .before .readers2 in
+    let r = c .before .before .before .before .before .before .before .before .note-all in
     let l = c .before .before .before .before .before .before .loop in
+    let pos = positive (l .left) (c .before .before .before .before .before .loop-test .taken) in
     let h = c .before .before .before .before .highest in
     let s = c .before .settle-node in
     let d = c .before .before .before .form in
-    more (a .nodes .now) (a .rows .now) (a .x) resets (a .l) (p .0) (l .t) (l .left) (h .result) (l .inv) (h .ensures .0)
-    (h .ensures .1) (s .last .0) (d .result) (d .ensures) (s .ensures .0) (s .result) (s .ensures .1)
-    (lent-wide (a .reset) (a .p) (a .opened .now) (p .1 .1 .0)) (p .1 .0) (r .last .1 .0) (r .ensures)
+    more (a .nodes .now) (a .rows .now) (a .w .resource) resets (least (a .w .resource)) (p .0) (l .t) (l .left) (h .result) (l .inv)
+    (h .ensures .0 pos)
+    (h .ensures .1 .0) (s .last .0) (d .result) (d .ensures) (s .ensures .0) (s .result) (s .ensures .1)
+    (lent-wide (a .w .local) (a .w .policy) (a .opened .now) (p .1 .0)) (low (a .w .resource)) (r .last .1 .0) (r .ensures)
     (c .if1 .taken)
 
 loop-less-2 : tie.Need-loop-less-2 Inv-loop μ-loop
 loop-less-2 c =
     let a = c .before .before .before .before .before .before .before .before .before .before .before .args in
-    let resets = resetsIf (a .reset) (a .p) (a .opened .now) in
+    let resets = resetsIf (a .w .local) (a .w .policy) (a .opened .now) in
     let p = c .before .before .before .before .before .before .before .before .before .before .before .pre in
     let l = c .before .before .before .before .before .before .loop in
+    let pos = positive (l .left) (c .before .before .before .before .before .loop-test .taken) in
     let h = c .before .before .before .before .highest in
     let s = c .before .settle-node in
     let d = c .before .before .before .form in
-    still-falls (a .nodes .now) (a .rows .now) (a .x) resets (a .l) (p .0) (l .t) (l .left) (h .result) (l .inv) (h .ensures .0)
-    (h .ensures .1) (s .last .0) (d .result) (d .ensures) (s .ensures .0) (s .result) (s .ensures .1) (c .if1 .left)
+    still-falls (a .nodes .now) (a .rows .now) (a .w .resource) resets (least (a .w .resource)) (p .0) (l .t) (l .left) (h .result)
+    (l .inv) (h .ensures .0 pos)
+    (h .ensures .1 .0) (s .last .0) (d .result) (d .ensures) (s .ensures .0) (s .result) (s .ensures .1) (c .if1 .left)
 
 loop-again-2 : tie.Need-loop-again-2 Inv-loop μ-loop
 loop-again-2 c =
     let a = c .before .before .before .before .before .before .before .before .before .before .before .args in
-    let resets = resetsIf (a .reset) (a .p) (a .opened .now) in
+    let resets = resetsIf (a .w .local) (a .w .policy) (a .opened .now) in
     let p = c .before .before .before .before .before .before .before .before .before .before .before .pre in
     let l = c .before .before .before .before .before .before .loop in
+    let pos = positive (l .left) (c .before .before .before .before .before .loop-test .taken) in
     let h = c .before .before .before .before .highest in
     let s = c .before .settle-node in
     let d = c .before .before .before .form in
-    still (a .nodes .now) (a .rows .now) (a .x) resets (a .l) (p .0) (l .t) (l .left) (h .result) (l .inv) (h .ensures .0)
-    (h .ensures .1) (s .last .0) (d .result) (d .ensures) (s .ensures .0) (s .result) (s .ensures .1) (c .if1 .left)
+    still (a .nodes .now) (a .rows .now) (a .w .resource) resets (least (a .w .resource)) (p .0) (l .t) (l .left) (h .result) (l .inv)
+    (h .ensures .0 pos)
+    (h .ensures .1 .0) (s .last .0) (d .result) (d .ensures) (s .ensures .0) (s .result) (s .ensures .1) (c .if1 .left)
 
 returns : tie.Need-returns Inv-loop μ-loop
 returns c =
     let a = c .before .before .before .before .before .before .args in
-    let resets = resetsIf (a .reset) (a .p) (a .opened .now) in
+    let resets = resetsIf (a .w .local) (a .w .policy) (a .opened .now) in
     let l = c .before .loop in (
-      working-ends (rowsIn (a .rows .now)) (a .x) resets (a .l) (length (a .nodes .now) / nodeFields) (formsIn (a .nodes .now))
+      working-ends (rowsIn (a .rows .now)) (a .w .resource) resets (least (a .w .resource)) (length (a .nodes .now) / nodeFields)
+          (formsIn (a .nodes .now))
           (c .before .before .before .before .before .before .pre .0 .few)
-          (subst (Done (a .nodes .now) (a .rows .now) (a .x) resets (a .l) (l .t)) (c .loop-test .left) (l .inv)),
+          (subst (Done (a .nodes .now) (a .rows .now) (a .w .resource) resets (least (a .w .resource)) (l .t)) (c .loop-test .left)
+          (l .inv)),
       l .inv .filling .wide,
     )
 
@@ -286,7 +325,7 @@ fill-spec =
     (tie.spec
     Inv-loop
     μ-loop
-    readers-requires
+    note-all-requires
     all-requires
     loop-holds
     highest-requires

@@ -11,7 +11,7 @@ use Rattle.usage.specs.Outline.{Form}
 use Rattle.outline_nodes.proofs.SaidLaws.{form-at}
 use Rattle.usage.specs.Tests.{someBelow}
 use Rattle.automaton.proofs.MaskLaws.{some-at}
-use Rattle.checker_account.specs.Tables.{rowsIn}
+use Rattle.checker_account.specs.Tables.{rowsIn, least}
 use Rattle.checker_account.specs.Filling.{formsIn, hitNode, hitAny}
 use Rattle.checker_account.proofs.CodeLaws.{none-more}
 use Rattle.checker_tables.specs.Search.{Small}
@@ -27,10 +27,11 @@ abbrev test : List ℕ → List ℕ → List ℕ → Bool → ℕ → ℕ → �
 test u nodes rows local p x l k = hitNode local (rowsIn rows) p x u l k (formsIn nodes k)
 
 abbrev Inv-loop : tie.InvT-loop
-Inv-loop nodes rows u local p x l n k₀ k = (k ≤ n) × (someBelow (test u nodes rows local p x l) k ≡ false)
+Inv-loop nodes rows u w n k₀ k = (k ≤ n) × (someBelow (test u nodes rows (w .local) (w .policy) (w .resource) (least
+    (w .resource))) k ≡ false)
 
 abbrev μ-loop : tie.MeasureT-loop
-μ-loop nodes rows u local p x l n k₀ k = n - k
+μ-loop nodes rows u w n k₀ k = n - k
 
 loop-holds : tie.Need-loop-holds Inv-loop μ-loop
 unfolding someBelow
@@ -45,7 +46,7 @@ hit-node-requires c κs =
     let p = c .before .before .before .before .pre in
     let k = c .before .before .loop .k in
     let h = c .before .loop-test .taken in
-    (subst Small (sym (c .form .ensures ∙ form-at (now (a .nodes)) k h)) (p .0 .each-small k h), (p .1, omega (arith, p .0 .few)))
+    (subst Small (sym (c .form .ensures ∙ form-at (now (a .nodes)) k h)) (p .each-small k h), omega (arith, p .few))
 
 returns : tie.Need-returns Inv-loop μ-loop
 unfolding hitAny
@@ -53,9 +54,10 @@ returns c =
     let a = c .before .before .before .before .before .before .args in
     let k = c .before .before .before .before .loop .k in
     let h = c .before .before .before .loop-test .taken in
-    let f = test (now (a .u)) (now (a .nodes)) (now (a .rows)) (a .local) (a .p) (a .x) (a .l) in
+    let f = test (now (a .u)) (now (a .nodes)) (now (a .rows)) (a .w .local) (a .w .policy) (a .w .resource) (least (a .w .resource)) in
     let s : c .before .hit-node .result ≡ f k = c .before .hit-node .ensures
-    ∙ ap (λ (d : Option Form). hitNode (a .local) (rowsIn (now (a .rows))) (a .p) (a .x) (now (a .u)) (a .l) k d)
+    ∙ ap (λ (d : Option Form). hitNode (a .w .local) (rowsIn (now (a .rows))) (a .w .policy) (a .w .resource) (now (a .u)) (least
+    (a .w .resource)) k d)
     (c .before .before .form .ensures ∙ form-at (now (a .nodes)) k h) in
     sym (some-at (length (now (a .nodes)) / nodeFields) f k h (sym s ∙ c .if1 .taken))
 
@@ -70,9 +72,10 @@ loop-again c =
     let a = c .before .before .before .before .before .before .args in
     let k = c .before .before .before .before .loop .k in
     let h = c .before .before .before .loop-test .taken in
-    let f = test (now (a .u)) (now (a .nodes)) (now (a .rows)) (a .local) (a .p) (a .x) (a .l) in
+    let f = test (now (a .u)) (now (a .nodes)) (now (a .rows)) (a .w .local) (a .w .policy) (a .w .resource) (least (a .w .resource)) in
     let s : c .before .hit-node .result ≡ f k = c .before .hit-node .ensures
-    ∙ ap (λ (d : Option Form). hitNode (a .local) (rowsIn (now (a .rows))) (a .p) (a .x) (now (a .u)) (a .l) k d)
+    ∙ ap (λ (d : Option Form). hitNode (a .w .local) (rowsIn (now (a .rows))) (a .w .policy) (a .w .resource) (now (a .u)) (least
+    (a .w .resource)) k d)
     (c .before .before .form .ensures ∙ form-at (now (a .nodes)) k h) in
     (search needs, none-more f k (c .before .before .before .before .loop .inv .1) (sym s ∙ c .if1 .left))
 

@@ -14,13 +14,13 @@ use Rattle.checker_tables.proofs.hits.leaves_by.Statement.{statement}
 use Rattle.checker_tables.proofs.hits.leaves_by.Tie as tie
 use Rattle.checker_tables.proofs.hits.leaves_by.Reads as reads
 use Rattle.checker_tables.proofs.hits.leaves_by.Lts as lts
-use Rattle.checker_tables.proofs.arrivals.come_to.Reads as come-to-reads
+use Rattle.checker_tables.proofs.arrivals.states_at.Reads as states-at-reads
 use Rattle.checker_tables.proofs.hits.opened.Reads as opened-reads
 use Rattle.checker_tables.proofs.rows.moved_set.Reads as moved-set-reads
 use Rattle.checker_tables.proofs.rows.own_created.Reads as own-created-reads
 
-come-to-requires : tie.Need-come-to-requires
-come-to-requires c κs = search needs
+states-at-requires : tie.Need-states-at-requires
+states-at-requires c κs = search needs
 
 enum-known-f : tie.Need-enum-known-f
 enum-known-f c = search needs
@@ -64,11 +64,11 @@ opened-requires c κs = search needs
 returns : tie.Need-returns
 unfolding leaves
 returns c =
-    let a = c .before .before .before .before .before .args in
-    rw (c .before .before .f .given .1)
+    let a = c .before .before .before .before .before .before .args in
+    rw (c .before .before .before .f .given .1)
     (c .moved-set .ensures
-    ∙ ap (over (rowsIn (now (a .rows)) (a .k) (eqb (c .before .before .f .given .0 .1 .0) (a .x))))
-    (c .before .before .before .before .come-to .ensures))
+    ∙ ap (over (rowsIn (now (a .rows)) (a .k) (eqb (c .before .before .before .f .given .0 .1 .0) (a .w .resource))))
+    (c .before .before .before .before .before .states-at .ensures))
 
 returns-2 : tie.Need-returns-2
 unfolding leaves
@@ -77,13 +77,13 @@ returns-2 c =
     rw (c .before .before .f2 .given .1)
     (c .moved-set2 .ensures
     ∙ ap₂ (λ (n v : ℕ). over (rowsIn (now (a .rows)) (a .k) (eqb (a .m) n)) v) (add-one (c .before .before .f2 .given .0 .1 .0))
-    (c .before .before .before .before .come-to .ensures))
+    (c .before .before .before .before .states-at .ensures))
 
 returns-3 : tie.Need-returns-3
 unfolding leaves
 returns-3 c =
     let a = c .before .before .before .before .before .args in
-    let e = c .before .before .before .before .come-to .ensures in
+    let e = c .before .before .before .before .states-at .ensures in
     rw (c .before .before .enum-told .given .1)
     (ap₂ (λ (x y : ℕ). bitOr x y) (c .before .moved-set3 .ensures ∙ ap (over (rowsIn (now (a .rows)) (a .k) false)) e)
     (c .own-created .ensures ∙ ap (ownCreated (rowsIn (now (a .rows))) (a .k) (a .m)) e))
@@ -91,22 +91,23 @@ returns-3 c =
 returns-4 : tie.Need-returns-4
 unfolding leaves
 returns-4 c =
-    let a = c .before .before .before .before .before .args in
-    rw (c .before .before .f3 .given .1)
+    let a = c .before .before .before .before .before .before .args in
+    rw (c .before .before .before .f3 .given .1)
     (c .opened .ensures
-    ∙ opened-if (a .local) (eqb (c .before .before .f3 .given .0 .0) (a .p)) (getD (now (a .u)) (place (a .k) false (a .m)) 0)
+    ∙ opened-if (a .w .local) (eqb (c .before .before .before .f3 .given .0 .0) (a .w .policy)) (getD (now (a .u)) (place (a .k) false
+    (a .m)) 0)
     (getD (now (a .u)) (place (a .k) true (a .m)) 0))
 
 returns-5 : tie.Need-returns-5
 returns-5 c =
     let a = c .before .before .args in
-    no-step (a .local) (rowsIn (now (a .rows))) (a .p) (a .x) (now (a .u)) (a .k) (a .m) (a .f) (c .match .keys5)
+    no-step (a .w .local) (rowsIn (now (a .rows))) (a .w .policy) (a .w .resource) (now (a .u)) (a .k) (a .m) (a .f) (c .match .keys5)
 
 pub leaves-by-spec : {M : Type 1} → statement M
 leaves-by-spec =
     tie.close
     (tie.spec
-    come-to-requires
+    states-at-requires
     enum-known-f
     cast-moved-set
     moved-set-requires

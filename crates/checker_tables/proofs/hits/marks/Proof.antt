@@ -10,7 +10,7 @@ use mathlib.Core.Option.{Option}
 use Rattle.usage.specs.Outline.{Form}
 use Rattle.outline_nodes.proofs.SaidLaws.{form-at}
 use Rattle.automaton.specs.Mask.{union}
-use Rattle.checker_account.specs.Tables.{rowsIn}
+use Rattle.checker_account.specs.Tables.{rowsIn, least}
 use Rattle.checker_account.specs.Filling.{formsIn, hitNode}
 use Rattle.checker_tables.specs.Search.{Small}
 use Rattle.checker_tables.specs.Marks.{lastIn, markBit, hitMarks}
@@ -26,10 +26,10 @@ abbrev mark : List ℕ → List ℕ → List ℕ → Bool → ℕ → ℕ → �
 mark u nodes rows local p x l k = cond (test u nodes rows local p x l k) (markBit (lastIn (formsIn nodes k))) 0
 
 abbrev Inv-loop : tie.InvT-loop
-Inv-loop nodes rows u local p x l n m₀ k₀ m k = (k ≤ n) × (m ≡ union k (mark u nodes rows local p x l))
+Inv-loop nodes rows u w n m₀ k₀ m k = (k ≤ n) × (m ≡ union k (mark u nodes rows (w .local) (w .policy) (w .resource) (least (w .resource))))
 
 abbrev μ-loop : tie.MeasureT-loop
-μ-loop nodes rows u local p x l n m₀ k₀ m k = n - k
+μ-loop nodes rows u w n m₀ k₀ m k = n - k
 
 loop-holds : tie.Need-loop-holds Inv-loop μ-loop
 unfolding union
@@ -44,7 +44,7 @@ hit-node-requires c κs =
     let p = c .before .before .before .before .pre in
     let k = c .before .before .loop .k in
     let h = c .before .loop-test .taken in
-    (subst Small (sym (c .form .ensures ∙ form-at t k h)) (p .0 .each-small k h), (p .1, omega (arith, p .0 .few)))
+    (subst Small (sym (c .form .ensures ∙ form-at t k h)) (p .each-small k h), omega (arith, p .few))
 
 mark-if-requires : tie.Need-mark-if-requires Inv-loop μ-loop
 mark-if-requires c κs =
@@ -52,7 +52,7 @@ mark-if-requires c κs =
     let p = c .before .before .before .before .before .pre in
     let k = c .before .before .before .loop .k in
     let h = c .before .before .loop-test .taken in
-    subst Small (sym (c .before .form .ensures ∙ form-at t k h)) (p .0 .each-small k h)
+    subst Small (sym (c .before .form .ensures ∙ form-at t k h)) (p .each-small k h)
 
 add-k : tie.Need-add-k Inv-loop μ-loop
 add-k c = search needs
@@ -65,11 +65,13 @@ loop-again c =
     let a = c .before .before .before .before .before .before .args in
     let t = c .before .before .before .before .loop in
     let k = t .k in
-    let f = mark (now (a .u)) (now (a .nodes)) (now (a .rows)) (a .local) (a .p) (a .x) (a .l) in
+    let f = mark (now (a .u)) (now (a .nodes)) (now (a .rows)) (a .w .local) (a .w .policy) (a .w .resource) (least (a .w .resource)) in
     let hit = c .before .hit-node in
     let is = c .before .before .form .ensures ∙ form-at (now (a .nodes)) k (c .before .before .before .loop-test .taken) in
-    let s : hit .result ≡ test (now (a .u)) (now (a .nodes)) (now (a .rows)) (a .local) (a .p) (a .x) (a .l) k = hit .ensures
-    ∙ ap (λ (d : Option Form). hitNode (a .local) (rowsIn (now (a .rows))) (a .p) (a .x) (now (a .u)) (a .l) k d) is in
+    let s : hit .result ≡ test (now (a .u)) (now (a .nodes)) (now (a .rows)) (a .w .local) (a .w .policy) (a .w .resource) (least
+    (a .w .resource)) k = hit .ensures
+    ∙ ap (λ (d : Option Form). hitNode (a .w .local) (rowsIn (now (a .rows))) (a .w .policy) (a .w .resource) (now (a .u)) (least
+    (a .w .resource)) k d) is in
     let w : c .mark-if .result ≡ f k = c .mark-if .ensures
     ∙ ap (λ (d : Option Form). cond (hit .result) (markBit (lastIn d)) 0) is
     ∙ ap (λ (b : Bool). cond b (markBit (lastIn (formsIn (now (a .nodes)) k))) 0) s in

@@ -1,84 +1,40 @@
-use native.Mathlib.Omega.{arith}
-use mathlib.Core.Path.{_≡_, sym, ap, _∙_, subst}
-use mathlib.Core.List.{List}
-use Prim.Native.Nat.{ℕ, _-_, _/_, _≤_}
-use lib.ListN.{length, replicate, length-replicate}
+use mathlib.Core.Path.{refl, sym, ap, _∙_}
+use mathlib.Core.Bool.{Bool, cond}
+use Prim.Native.Nat.{_/_}
+use lib.ListN.{length, replicate}
+use denote.Ref.{now}
 use Rattle.usage.specs.Limits.{mostNodes, nodeFields}
-use mathlib.Core.Option.{Option}
-use Rattle.usage.specs.Outline.{Form}
-use Rattle.outline_nodes.proofs.SaidLaws.{form-at}
-use Rattle.checker_account.specs.Filling.{repeat, formsIn}
-use Rattle.checker_account.proofs.GrowsLaws.{repeat-more}
-use Rattle.checker_tables.specs.Search.{Small}
-use Rattle.checker_tables.specs.Work.{noted, readersOf}
-use Rattle.checker_tables.proofs.WorkLaws.{upto-length}
+use Rattle.checker_account.specs.Filling.{formsIn}
+use Rattle.checker_tables.specs.Work.{readersOf}
+use Rattle.checker_tables.proofs.FitLaws.{fits-rule}
 use borrow.Author.Needs.{needs}
 use Rattle.checker_tables.proofs.work.readers.Statement.{statement}
 use Rattle.checker_tables.proofs.work.readers.Tie as tie
 use Rattle.checker_tables.proofs.work.readers.Reads as reads
 use Rattle.checker_tables.proofs.work.readers.Lts as lts
-use Rattle.outline_nodes.proofs.form.Reads as form-reads
-use Rattle.checker_tables.proofs.work.note_parts.Reads as note-parts-reads
+use Rattle.checker_tables.proofs.fits.Reads as fits-reads
+use Rattle.checker_tables.proofs.work.note_all.Reads as note-all-reads
 
-abbrev steps : List ℕ → ℕ → List ℕ → List ℕ
-steps nodes k = noted k (formsIn nodes k)
+fits-requires : tie.Need-fits-requires
+fits-requires c κs = search needs
 
-abbrev Inv-loop : tie.InvT-loop
-Inv-loop nodes masks₀ n k₀ masks k = (k ≤ n) × (masks ≡ repeat (steps nodes) k (replicate mostNodes 0))
-
-abbrev μ-loop : tie.MeasureT-loop
-μ-loop nodes masks₀ n k₀ masks k = n - k
-
-loop-holds : tie.Need-loop-holds Inv-loop μ-loop
-unfolding repeat
-loop-holds c = (search needs, c .before .pre .1)
-
-form-requires : tie.Need-form-requires Inv-loop μ-loop
-form-requires c κs = search needs
-
-note-parts-requires : tie.Need-note-parts-requires Inv-loop μ-loop
-note-parts-requires c κs =
+note-all-requires : tie.Need-note-all-requires
+note-all-requires c κs =
     let a = c .before .before .before .before .before .args in
-    let l = c .before .before .before .loop in
-    let p = c .before .before .before .before .before .pre in
-    let h = c .before .before .loop-test .taken in
-    let few : length (a .nodes .now) / nodeFields ≤ mostNodes = p .0 .few in (
-      ap length (l .inv .1) ∙ upto-length (formsIn (a .nodes .now)) (l .k) (replicate mostNodes 0) ∙ length-replicate {A = ℕ} mostNodes 0,
-      (subst Small (sym (c .before .form .ensures ∙ form-at (a .nodes .now) (l .k) h)) (p .0 .each-small (l .k) h), omega arith),
-    )
+    (fits-rule (now (a .nodes)) (sym (c .before .before .fits2 .ensures) ∙ c .before .if1 .taken), refl)
 
-add-k : tie.Need-add-k Inv-loop μ-loop
-add-k c = search needs
-
-loop-less : tie.Need-loop-less Inv-loop μ-loop
-loop-less c = search needs
-
-loop-again : tie.Need-loop-again Inv-loop μ-loop
-loop-again c =
-    let a = c .before .before .before .before .before .before .args in
-    let l = c .before .before .before .before .loop in
-    let h = c .before .before .before .loop-test .taken in
-    let e = c .note-parts .ensures ∙ ap (λ (d : Option Form). noted (l .k) d (l .masks)) (c .before .before .form .ensures ∙ form-at
-    (a .nodes .now) (l .k) h) in
-    (search needs, repeat-more (steps (a .nodes .now)) (l .k) (replicate mostNodes 0) (l .masks) (c .note-parts .last .0) (l .inv .1) e)
-
-returns : tie.Need-returns Inv-loop μ-loop
-unfolding readersOf
+returns : tie.Need-returns
 returns c =
-    let l = c .before .loop in
-    let e : l .k ≡ length (c .before .before .before .args .nodes .now) / nodeFields = omega arith in
-    rw e at (l .inv .1)
+    let t = now (c .before .before .before .before .before .before .args .nodes) in
+    c .note-all .ensures
+    ∙ sym (ap (λ (b : Bool). cond b (readersOf (length t / nodeFields) (formsIn t)) (replicate mostNodes 0))
+    (sym (c .before .before .before .fits2 .ensures) ∙ c .before .before .if1 .taken))
+
+returns-2 : tie.Need-returns-2
+returns-2 c =
+    let t = now (c .before .before .before .before .args .nodes) in
+    sym (ap (λ (b : Bool). cond b (readersOf (length t / nodeFields) (formsIn t)) (replicate mostNodes 0))
+    (sym (c .before .fits2 .ensures) ∙ c .if1 .left))
 
 pub readers-spec : {M : Type 1} → statement M
-readers-spec =
-    tie.close
-    (tie.spec
-    Inv-loop
-    μ-loop
-    loop-holds
-    form-requires
-    note-parts-requires
-    add-k
-    loop-less
-    loop-again
-    returns)
+readers-spec = tie.close (tie.spec fits-requires note-all-requires returns returns-2)
