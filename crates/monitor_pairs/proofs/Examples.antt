@@ -1,7 +1,6 @@
 -- "After reading one reference and driving from one, use no others" (02, L10), computed: action 1 reads, 2 drives, 3 uses.
 use Prim.Native.Nat.{ℕ, _+_, _*_}
 use mathlib.Core.Path.{_≡_, refl, ap, _∙_}
-use mathlib.Core.Bool.{true, false}
 use mathlib.Core.List.{List, [], _∷_}
 use lib.Dec.{lit<, lit≤}
 use lib.ListN.{replicate}
@@ -11,8 +10,7 @@ use Rattle.automaton.specs.Mask.{has, single, union}
 use Rattle.automaton.specs.Move.{targets, image, moveBy}
 use Rattle.automaton.proofs.RowLaws.{stayRows}
 use Rattle.monitor_sets.specs.Instances.{unseen, instances}
-use Rattle.monitor_pairs.specs.declared.Ways.{Ways}
-use Rattle.monitor_pairs.specs.Pairs.{pairPlaces, pairAt, wayOf, eventPairs}
+use Rattle.monitor_pairs.specs.Pairs.{pairPlaces, pairAt, eventPairs}
 use Rattle.monitor_pairs.specs.Tracked.{rowsFor, waysOf}
 use Rattle.monitor_pairs.proofs.RunLaws.{at-replicate}
 use Rattle.monitor_pairs.proofs.GatherLaws.{event-at}

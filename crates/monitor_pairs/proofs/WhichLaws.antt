@@ -7,7 +7,7 @@ use mathlib.Core.Logic.{_↔_}
 use native.Mathlib.Nat.{zero-add}
 use native.Mathlib.Numerals.{add-one}
 use native.Mathlib.Omega.{arith}
-use borrow.Author.Tests.{eq-eqb, ne-eqb, eqb-true, eqb-false, ltb-true, ltb-false}
+use borrow.Author.Tests.{eq-eqb, ne-eqb, ltb-true, ltb-false}
 use lib.Bits.{bitOr, or-zero-l, or-zero-r, or-self}
 use lib.Dec.{eqb, ltb}
 use Rattle.usage.specs.declared.Edge.{Edge}
@@ -75,7 +75,8 @@ module _ (es : List Edge) (e : Edge) where
   with-edge = go (eqb (e .on) 3) refl (ltb (e .policy) policies) refl ∙ sym joined
     where
       nothing : ((p : ℕ) → p < policies → test p e ≡ false) → pairSet es ≡ bitOr (pairSet es) (union policies adds)
-      nothing h = sym (ap (bitOr (pairSet es)) (union-none policies adds (λ p l. ap (λ (b : Bool). cond b (2 ^ p) 0) (h p l))) ∙ or-zero-r (pairSet es))
+      nothing h = sym (ap (bitOr (pairSet es)) (union-none policies adds (λ p l. ap (λ (b : Bool). cond b (2 ^ p) 0) (h p l)))
+          ∙ or-zero-r (pairSet es))
 
       go : (x : Bool) → eqb (e .on) 3 ≡ x → (y : Bool) → ltb (e .policy) policies ≡ y
           → cond (x && y) (bitOr (pairSet es) (2 ^ e .policy)) (pairSet es) ≡ bitOr (pairSet es) (union policies adds)

@@ -75,9 +75,11 @@ movedUp s n by sets = from (λ l. cond (leb s l && ltb l (s + n)) (getD sets (l 
 -- in the row that starts at place k, the second place `at` is retired
 unfoldable pub lineRetired : ℕ → ℕ → List ℕ → List ℕ
 lineRetired k at sets =
-    from (λ l. cond (leb k l && ltb l (k + instances)) (taken at (instances - 1) (λ j. getD sets (k + j) 0) (l - k)) (getD sets l 0)) 0 pairPlaces
+    from (λ l. cond (leb k l && ltb l (k + instances)) (taken at (instances - 1) (λ j. getD sets (k + j) 0) (l - k)) (getD sets l 0)) 0
+    pairPlaces
 
 -- so in the first n rows
 unfoldable pub columnsRetired : ℕ → ℕ → List ℕ → List ℕ
 columnsRetired at n sets =
-    from (λ k. cond (ltb (k / instances) n) (taken at (instances - 1) (pairAt sets (k / instances)) (k % instances)) (getD sets k 0)) 0 pairPlaces
+    from (λ k. cond (ltb (k / instances) n) (taken at (instances - 1) (pairAt sets (k / instances)) (k % instances)) (getD sets k 0)) 0
+    pairPlaces
