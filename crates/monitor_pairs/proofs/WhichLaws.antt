@@ -104,10 +104,10 @@ module _ (t : List ℕ) where
 -- ── The two lowest ──
 
 -- p is in the set and none is below it; p is in it above the first, and none is between
-abbrev isFirst : ℕ → ℕ → Bool
+abbrev pub isFirst : ℕ → ℕ → Bool
 isFirst m p = has m p && all-below p (λ k. not (has m k))
 
-abbrev isSecond : ℕ → ℕ → Bool
+abbrev pub isSecond : ℕ → ℕ → Bool
 isSecond m p = has m p && (ltb (blocksOf m .first) p && all-below p (λ k. not (has m k) || eqb k (blocksOf m .first)))
 
 firsts : ℕ → Bool
