@@ -24,7 +24,7 @@ use Rattle.monitor_sets.proofs.MovedLaws.{moved-empty}
 use Rattle.monitor_sets.proofs.SetLaws.{union-more, union-with}
 use Rattle.monitor_pairs.specs.declared.Ways.{Ways}
 use Rattle.monitor_pairs.specs.Pairs.{pairPlaces, pairAt, wayOf, eventPairs, gatherPairs}
-use Rattle.monitor_pairs.specs.Code.{staysBy, staysAll, rowOf, rowJoined, besideColumns}
+use Rattle.monitor_pairs.specs.Code.{staysBy, staysAll, pairRow, rowJoined, besideColumns}
 use Rattle.monitor_pairs.proofs.RunLaws.{at-from, same-from, at-replicate}
 
 -- ── Unions ──
@@ -168,14 +168,14 @@ module _ (w : Ways) (at n : ℕ) (sets : List ℕ) (h : n ≤ instances) (l : at
   line = besideColumns n at sets
 
   abbrev row : List ℕ
-  row = rowOf (at * instances) sets
+  row = pairRow (at * instances) sets
 
   line-at : (j : ℕ) → j < instances → getD line j 0 ≡ union n (λ i. cond (eqb i at) 0 (pairAt sets i j))
   unfolding besideColumns
   line-at j b = at-from (λ j. union n (λ i. cond (eqb i at) 0 (pairAt sets i j))) instances j b
 
   row-at : (j : ℕ) → j < instances → getD row j 0 ≡ pairAt sets at j
-  unfolding rowOf
+  unfolding pairRow
   row-at j b = at-from (λ j. getD sets (at * instances + j) 0) instances j b
 
   -- a line of which the element `at` is taken out
@@ -202,7 +202,7 @@ module _ (w : Ways) (at n : ℕ) (sets : List ℕ) (h : n ≤ instances) (l : at
       pull j false = refl
 
   pub first-joined : union instances (λ j. getD (set row at 0) j 0) ≡ all inFirst
-  unfolding rowOf
+  unfolding pairRow
   first-joined =
       without row (λ j. pairAt sets at j) (length-from (λ j. getD sets (at * instances + j) 0) 0 instances) row-at
       ∙ sym (union-only n at (λ i. union instances (inFirst i)) l

@@ -16,7 +16,7 @@ use Rattle.usage.proofs.TableLaws.{length-from, is-from}
 use Rattle.monitor_sets.specs.Instances.{unseen, retirees, firstCreated, instances}
 use Rattle.monitor_sets.proofs.PlaceLaws.{ltb-next}
 use Rattle.monitor_pairs.specs.Pairs.{pairPlaces, pairAt, rowCopied, taken, retirePairs}
-use Rattle.monitor_pairs.specs.Code.{rowOf, rowPut, rowJoined, movedUp, lineRetired, columnsRetired}
+use Rattle.monitor_pairs.specs.Code.{pairRow, rowPut, rowJoined, movedUp, lineRetired, columnsRetired}
 use Rattle.monitor_pairs.proofs.RunLaws.{at-from, same-from, row-places}
 
 -- place i * instances + j
@@ -47,8 +47,8 @@ put-size : (k : ℕ) (row l : List ℕ) → length (rowPut k row instances l) �
 unfolding rowPut
 put-size k row l = length-from (λ j. cond (leb k j && ltb j (k + instances)) (getD row (j - k) 0) (getD l j 0)) 0 pairPlaces
 
-pub row-copied : (source to : ℕ) (s : List ℕ) → rowPut (to * instances) (rowOf (source * instances) s) instances s ≡ rowCopied source to s
-unfolding rowCopied rowOf
+pub row-copied : (source to : ℕ) (s : List ℕ) → rowPut (to * instances) (pairRow (source * instances) s) instances s ≡ rowCopied source to s
+unfolding rowCopied pairRow
 row-copied source to s =
     is-from (λ k. cond (eqb (k / instances) to) (pairAt s source (k % instances)) (getD s k 0)) 0 pairPlaces _ (put-size _ _ _) (λ k b.
     row-put-at to (from (λ j. getD s (source * instances + j) 0) 0 instances) s k b
@@ -274,11 +274,11 @@ module _ (at n : ℕ) (s : List ℕ) (h : n ≤ instances) (f : firstCreated ≤
 
   -- the row of the retired ones
   abbrev with-row : List ℕ
-  with-row = rowPut (retirees * instances) (rowJoined (at * instances) columns (rowOf (retirees * instances) columns)) instances columns
+  with-row = rowPut (retirees * instances) (rowJoined (at * instances) columns (pairRow (retirees * instances) columns)) instances columns
 
   joined-at : (j : ℕ) → j < instances
-      → getD (rowJoined (at * instances) columns (rowOf (retirees * instances) columns)) j 0 ≡ bitOr (side retirees j) (side at j)
-  unfolding rowJoined rowOf
+      → getD (rowJoined (at * instances) columns (pairRow (retirees * instances) columns)) j 0 ≡ bitOr (side retirees j) (side at j)
+  unfolding rowJoined pairRow
   joined-at j b =
       at-from (λ j. bitOr (getD (from (λ j. getD columns (retirees * instances + j) 0) 0 instances) j 0) (getD columns (at * instances
       + j) 0))
@@ -291,7 +291,7 @@ module _ (at n : ℕ) (s : List ℕ) (h : n ≤ instances) (f : firstCreated ≤
       → getD with-row k 0
       ≡ cond (eqb (k / instances) retirees) (bitOr (side retirees (k % instances)) (side at (k % instances))) (getD columns k 0)
   row-at k b =
-      row-put-at retirees (rowJoined (at * instances) columns (rowOf (retirees * instances) columns)) columns k b
+      row-put-at retirees (rowJoined (at * instances) columns (pairRow (retirees * instances) columns)) columns k b
       ∙ ap (λ (v : ℕ). cond (eqb (k / instances) retirees) v (getD columns k 0)) (joined-at (k % instances) (omega arith))
 
   other-at : (i j : ℕ) → i < n → j < instances → (i ≡ retirees → ⊥) → pairAt with-row i j ≡ side i j

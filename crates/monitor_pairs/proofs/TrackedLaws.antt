@@ -27,7 +27,7 @@ use Rattle.automaton.proofs.PlaceLaws.{two-seats, Holds, holds-event}
 use Rattle.monitor_sets.specs.Instances.{unseen, instances}
 use Rattle.monitor_sets.specs.Sets.{startSet}
 use Rattle.monitor_pairs.specs.Pairs.{pairPlaces, pairAt, wayOf, eventPairs, gatherPairs, rowCopied, createPairs, resetPairs}
-use Rattle.monitor_pairs.specs.Tracked.{seatIn, TracksPairs, rowsFor, waysOf}
+use Rattle.monitor_pairs.specs.Tracked.{seatIn, TracksPairs, rowsFor, eventWays}
 use Rattle.monitor_pairs.proofs.RunLaws.{at-from, at-replicate}
 use Rattle.monitor_pairs.proofs.GatherLaws.{event-at}
 use Rattle.monitor_pairs.proofs.RetireLaws.{cell-row, cell-column}
@@ -58,9 +58,9 @@ rows-move es p a r x y m =
     ∙ at-from (λ q. image (firesAt p a r x y) es q) states q l))
 
 -- a set moved by the rows of a way is moved by the edges
-pub moved-way : (es : List Edge) (p a r : ℕ) (x y : Bool) (m : ℕ) → moveBy (wayOf (waysOf es p a r) x y) 0 m ≡ move (firesAt p a r x y)
+pub moved-way : (es : List Edge) (p a r : ℕ) (x y : Bool) (m : ℕ) → moveBy (wayOf (eventWays es p a r) x y) 0 m ≡ move (firesAt p a r x y)
     es m
-unfolding waysOf
+unfolding eventWays
 moved-way es p a r true true m = rows-move es p a r true true m
 moved-way es p a r true false m = rows-move es p a r true false m
 moved-way es p a r false true m = rows-move es p a r false true m
@@ -70,7 +70,7 @@ moved-way es p a r false false m = rows-move es p a r false false m
 pub event-tracks : (local : Bool) (es : List Edge) → Ends es → (p : ℕ) (stands : ℕ → ℕ → Type 0) (a at r : ℕ) → Alone stands at r
     → (at ≡ unseen → ⊥) → (past : Past) → ((places : List ℕ) (q : ℕ) → At local es p stands past places q → q < states) → (n : ℕ)
     → n ≤ instances → at < n → (sets : List ℕ) → TracksPairs local es p stands past n sets
-    → TracksPairs local es p stands (event a r ∷ past) n (eventPairs (waysOf es p a r) at n sets)
+    → TracksPairs local es p stands (event a r ∷ past) n (eventPairs (eventWays es p a r) at n sets)
 event-tracks local es v p stands a at r alone d past small n most l sets held i j q h b k =
     (λ e. after q k .0 (sym same ∙ e), λ y. same ∙ after q k .1 y)
   where
@@ -91,10 +91,10 @@ event-tracks local es v p stands a at r alone d past small n most l sets held i 
         let z = ltb-false j n e in
         ne-eqb j at (λ w. omega arith) ∙ sym (ne-eqb unseen at (λ w. d (sym w)))
 
-    same : has (pairAt (eventPairs (waysOf es p a r) at n sets) i j) q ≡ has (move (firesAt p a r x y) es (pairAt sets i j)) q
+    same : has (pairAt (eventPairs (eventWays es p a r) at n sets) i j) q ≡ has (move (firesAt p a r x y) es (pairAt sets i j)) q
     same =
         ap (λ (m : ℕ). has m q)
-        (event-at (waysOf es p a r) at n sets i j h most b
+        (event-at (eventWays es p a r) at n sets i j h most b
         ∙ moved-way es p a r (eqb i at) (eqb j at) (pairAt sets i j)
         ∙ ap (λ (t : Bool). move (firesAt p a r (eqb i at) t) es (pairAt sets i j)) (seen (ltb j n) refl))
 

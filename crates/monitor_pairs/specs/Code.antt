@@ -1,5 +1,5 @@
 -- What the functions compute on the way.
-use Prim.Native.Nat.{ℕ, _+_, _-_, _*_, _/_, _%_}
+use Prim.Native.Nat.{ℕ, _+_, _-_, _/_, _%_}
 use mathlib.Core.Bool.{Bool, _&&_, cond}
 use mathlib.Core.List.{List}
 use lib.Bits.{bitAnd, bitOr}
@@ -44,8 +44,8 @@ unfoldable pub lineMoved : List ℕ → List ℕ → List ℕ
 lineMoved rows line = from (λ j. moveBy rows 0 (getD line j 0)) 0 instances
 
 -- the row that starts at place k
-unfoldable pub rowOf : ℕ → List ℕ → List ℕ
-rowOf k sets = from (λ j. getD sets (k + j) 0) 0 instances
+unfoldable pub pairRow : ℕ → List ℕ → List ℕ
+pairRow k sets = from (λ j. getD sets (k + j) 0) 0 instances
 
 -- column `at` in the first n rows
 unfoldable pub columnOf : ℕ → ℕ → List ℕ → List ℕ

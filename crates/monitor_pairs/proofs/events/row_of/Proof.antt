@@ -3,7 +3,7 @@ use mathlib.Core.Path.{_≡_, refl, _∙_}
 use native.Mathlib.Omega.{arith}
 use lib.ListN.{getD}
 use Rattle.monitor_sets.specs.Instances.{instances}
-use Rattle.monitor_pairs.specs.Code.{rowOf}
+use Rattle.monitor_pairs.specs.Code.{pairRow}
 use Rattle.monitor_pairs.proofs.RunLaws.{filled, filled-zeros, filled-more, filled-all}
 use borrow.Author.Needs.{needs}
 use Rattle.monitor_pairs.proofs.events.row_of.Statement.{statement}
@@ -41,7 +41,7 @@ loop-again c =
     (search needs, rw (t .inv .1) (filled-more (λ i. getD (a .sets .now) (a .k + i) 0) (λ i. 0) instances (t .j) _ (omega arith) refl))
 
 returns : tie.Need-returns Inv-loop μ-loop
-unfolding rowOf
+unfolding pairRow
 returns c =
     let a = c .before .before .args in
     let t = c .before .loop in

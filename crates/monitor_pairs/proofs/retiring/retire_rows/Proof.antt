@@ -4,7 +4,7 @@ use mathlib.Core.List.{List}
 use native.Mathlib.Omega.{arith}
 use Rattle.monitor_sets.specs.Instances.{instances, unseen, retirees}
 use Rattle.monitor_pairs.specs.Pairs.{rowCopied}
-use Rattle.monitor_pairs.specs.Code.{rowOf, rowPut, rowJoined, movedUp}
+use Rattle.monitor_pairs.specs.Code.{pairRow, rowPut, rowJoined, movedUp}
 use Rattle.monitor_pairs.proofs.RetireLaws.{retired-both}
 use borrow.Author.Needs.{needs}
 use Rattle.monitor_pairs.proofs.retiring.retire_rows.Statement.{statement}
@@ -60,7 +60,7 @@ returns c =
     .ensures .0 in
     let row = c .before .before .before .before .before .before .before .join-row .ensures .1
     ∙ ap₂ (λ (u v : List ℕ). rowJoined (a .at * instances) u v) cols (c .before .before .before .before .before .before .before .before
-    .before .before .row-of .ensures ∙ ap (rowOf (retirees * instances)) cols) in
+    .before .before .row-of .ensures ∙ ap (pairRow (retirees * instances)) cols) in
     let put = c .before .before .before .before .put-row .ensures .0 ∙ ap₂ (λ (u v : List ℕ). rowPut (retirees * instances) u instances
     v) row cols in
     let rows = c .before .before .move-up .ensures .0 ∙ ap (movedUp (a .at * instances) ((a .n - 1 - a .at) * instances) instances) put in
