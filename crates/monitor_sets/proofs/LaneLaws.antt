@@ -15,20 +15,20 @@ use Rattle.monitor_sets.specs.Code.{lanes}
 
 -- ── Unions ──
 
-union-add : (a b : ℕ) (f : ℕ → ℕ) → union (a + b) f ≡ bitOr (union a f) (union b (λ i. f (a + i)))
+pub union-add : (a b : ℕ) (f : ℕ → ℕ) → union (a + b) f ≡ bitOr (union a f) (union b (λ i. f (a + i)))
 unfolding union
 union-add a zero f = ap (λ (n : ℕ). union n f) (add-zero a) ∙ sym (or-zero-r (union a f))
 union-add a (suc b) f = ap (λ (n : ℕ). union n f) (add-suc a b) ∙ ap (λ (u : ℕ). bitOr u (f (a + b))) (union-add a b f)
     ∙ or-assoc (union a f) (union b (λ i. f (a + i))) (f (a + b))
 
 -- (u ∪ v) ∪ (x ∪ y) = (u ∪ x) ∪ (v ∪ y)
-shuffle : (u v x y : ℕ) → bitOr (bitOr u v) (bitOr x y) ≡ bitOr (bitOr u x) (bitOr v y)
+pub shuffle : (u v x y : ℕ) → bitOr (bitOr u v) (bitOr x y) ≡ bitOr (bitOr u x) (bitOr v y)
 shuffle u v x y =
     or-assoc u v (bitOr x y)
     ∙ ap (bitOr u) (sym (or-assoc v x y) ∙ ap (λ (w : ℕ). bitOr w y) (or-comm v x) ∙ or-assoc x v y)
     ∙ sym (or-assoc u x (bitOr v y))
 
-union-or : (n : ℕ) (f g : ℕ → ℕ) → union n (λ i. bitOr (f i) (g i)) ≡ bitOr (union n f) (union n g)
+pub union-or : (n : ℕ) (f g : ℕ → ℕ) → union n (λ i. bitOr (f i) (g i)) ≡ bitOr (union n f) (union n g)
 unfolding union
 union-or zero f g = sym (or-self 0)
 union-or (suc n) f g = ap (λ (u : ℕ). bitOr u (bitOr (f n) (g n))) (union-or n f g) ∙ shuffle (union n f) (union n g) (f n) (g n)

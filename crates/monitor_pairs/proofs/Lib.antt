@@ -1,0 +1,12 @@
+-- The laws that the proofs of the functions cite.
+pub mod RunLaws
+pub mod EventLaws
+pub mod GatherLaws
+pub mod TwoLaws
+pub mod RetireLaws
+-- The sets hold what the instances may be in.
+pub mod TrackedLaws
+pub mod SideLaws
+pub mod Examples
+-- Which policies are pair policies.
+pub mod WhichLaws

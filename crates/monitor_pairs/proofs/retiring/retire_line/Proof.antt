@@ -1,0 +1,90 @@
+use Rattle.monitor_pairs.proofs.RetireLaws.{line-size, line-retired}
+use Prim.Native.Nat.{ℕ, _+_, _-_}
+use mathlib.Core.Path.{ap, _∙_}
+use mathlib.Core.List.{List}
+use native.Mathlib.Omega.{arith}
+use lib.ListN.{length, getD, set, length-set}
+use Rattle.monitor_sets.specs.Instances.{instances, unseen}
+use borrow.Author.Needs.{needs}
+use Rattle.monitor_pairs.proofs.retiring.retire_line.Statement.{statement}
+use Rattle.monitor_pairs.proofs.retiring.retire_line.Tie as tie
+
+add-unused : tie.Need-add-unused
+add-unused c = search needs
+
+element-copy-out-unused : tie.Need-element-copy-out-unused
+element-copy-out-unused c = search needs
+
+add-sets : tie.Need-add-sets
+add-sets c = search needs
+
+element-copy-out-sets : tie.Need-element-copy-out-sets
+element-copy-out-sets c = search needs
+
+add-sets-2 : tie.Need-add-sets-2
+add-sets-2 c = search needs
+
+element-copy-out-sets-2 : tie.Need-element-copy-out-sets-2
+element-copy-out-sets-2 c = search needs
+
+add-sets-3 : tie.Need-add-sets-3
+add-sets-3 c = search needs
+
+element-write-sets : tie.Need-element-write-sets
+element-write-sets c = search needs
+
+add-move-up : tie.Need-add-move-up
+add-move-up c = search needs
+
+sub-move-up : tie.Need-sub-move-up
+sub-move-up c = search needs
+
+sub-move-up-2 : tie.Need-sub-move-up-2
+sub-move-up-2 c = search needs
+
+move-up-requires : tie.Need-move-up-requires
+move-up-requires c κs = (
+  length-set (c .before .before .before .before .args .sets .now) _ _
+      ∙ c .before .before .before .before .pre .0,
+  search needs,
+)
+
+sub-sets : tie.Need-sub-sets
+sub-sets c = search needs
+
+add-sets-4 : tie.Need-add-sets-4
+add-sets-4 c = search needs
+
+element-write-sets-2 : tie.Need-element-write-sets-2
+element-write-sets-2 c = search needs
+
+returns : tie.Need-returns
+returns c =
+    let s = c .before .before .before .before .before in
+    let a = s .args in
+    let l = a .sets .now in
+    let last = a .k + (instances - 1) in
+    let same = ap (λ (u : List ℕ). set u last (getD l (a .k + unseen) 0)) (c .move-up .ensures .0)
+    ∙ line-retired (a .k) (a .at) l (s .pre .0) (omega arith) (omega arith) (omega arith) in
+    (same, ap length same ∙ line-size (a .k) (a .at) l (s .pre .0) (omega arith) (omega arith) (omega arith))
+
+pub retire-line-spec : {M : Type 1} → statement M
+retire-line-spec =
+    tie.close
+    (tie.spec
+    add-unused
+    element-copy-out-unused
+    add-sets
+    element-copy-out-sets
+    add-sets-2
+    element-copy-out-sets-2
+    add-sets-3
+    element-write-sets
+    add-move-up
+    sub-move-up
+    sub-move-up-2
+    move-up-requires
+    sub-sets
+    add-sets-4
+    element-write-sets-2
+    returns)

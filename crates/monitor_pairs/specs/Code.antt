@@ -1,0 +1,85 @@
+-- What the functions compute on the way.
+use Prim.Native.Nat.{ℕ, _+_, _-_, _/_, _%_}
+use mathlib.Core.Bool.{Bool, _&&_, cond}
+use mathlib.Core.List.{List}
+use lib.Bits.{bitAnd, bitOr}
+use lib.Dec.{eqb, ltb, leb}
+use lib.ListN.{getD}
+use Rattle.usage.specs.Tables.{from}
+use Rattle.automaton.specs.Mask.{union}
+use Rattle.automaton.specs.Move.{moveBy}
+use Rattle.automaton.specs.Code.{changed}
+use Rattle.monitor_sets.specs.Instances.{instances}
+use Rattle.monitor_pairs.specs.declared.Ways.{Ways}
+use Rattle.monitor_pairs.specs.Pairs.{pairPlaces, pairAt, taken}
+
+-- eight rows leave every state where it is
+unfoldable pub staysBy : List ℕ → Bool
+staysBy l =
+    eqb (changed (getD l 0 0) (getD l 1 0) (getD l 2 0) (getD l 3 0) (getD l 4 0) (getD l 5 0) (getD l 6 0) (getD l 7 0)) 0
+
+-- all four ways do
+unfoldable pub staysAll : Ways → Bool
+staysAll w = staysBy (w .neither) && (staysBy (w .first) && (staysBy (w .second) && staysBy (w .both)))
+
+-- the first n sets, moved
+unfoldable pub runMoved : List ℕ → ℕ → List ℕ → List ℕ
+runMoved rows n sets = from (λ k. cond (ltb k n) (moveBy rows 0 (getD sets k 0)) (getD sets k 0)) 0 pairPlaces
+
+-- the row of the states m, where one of them is in the set x
+unfoldable pub rowWhere : ℕ → ℕ → ℕ → ℕ
+rowWhere x m row = cond (eqb (bitAnd x m) 0) 0 row
+
+-- the set x by two states: what is kept of it, and where they go
+unfoldable pub twoMoved : ℕ → ℕ → ℕ → ℕ → ℕ → ℕ → ℕ
+twoMoved keep low lows high highs x = bitOr (bitOr (bitAnd x keep) (rowWhere x low lows)) (rowWhere x high highs)
+
+-- the first n sets, moved so
+unfoldable pub runByTwo : ℕ → ℕ → ℕ → ℕ → ℕ → ℕ → List ℕ → List ℕ
+runByTwo keep low lows high highs n sets =
+    from (λ k. cond (ltb k n) (twoMoved keep low lows high highs (getD sets k 0)) (getD sets k 0)) 0 pairPlaces
+
+-- a row or a column, moved
+unfoldable pub lineMoved : List ℕ → List ℕ → List ℕ
+lineMoved rows line = from (λ j. moveBy rows 0 (getD line j 0)) 0 instances
+
+-- the row that starts at place k
+unfoldable pub pairRow : ℕ → List ℕ → List ℕ
+pairRow k sets = from (λ j. getD sets (k + j) 0) 0 instances
+
+-- column `at` in the first n rows
+unfoldable pub columnOf : ℕ → ℕ → List ℕ → List ℕ
+columnOf n at sets = from (λ i. cond (ltb i n) (pairAt sets i at) 0) 0 instances
+
+-- the first m sets of a row are put at place k
+unfoldable pub rowPut : ℕ → List ℕ → ℕ → List ℕ → List ℕ
+rowPut k row m sets = from (λ l. cond (leb k l && ltb l (k + m)) (getD row (l - k) 0) (getD sets l 0)) 0 pairPlaces
+
+-- column `at` of the first n rows is this one
+unfoldable pub columnPut : ℕ → List ℕ → ℕ → List ℕ → List ℕ
+columnPut at column n sets =
+    from (λ k. cond (ltb (k / instances) n && eqb (k % instances) at) (getD column (k / instances) 0) (getD sets k 0)) 0 pairPlaces
+
+-- the row that starts at place k, joined to a line
+unfoldable pub rowJoined : ℕ → List ℕ → List ℕ → List ℕ
+rowJoined k sets line = from (λ j. bitOr (getD line j 0) (getD sets (k + j) 0)) 0 instances
+
+-- the union of each column in the first n rows, without row `at`
+unfoldable pub besideColumns : ℕ → ℕ → List ℕ → List ℕ
+besideColumns n at sets = from (λ j. union n (λ i. cond (eqb i at) 0 (pairAt sets i j))) 0 instances
+
+-- each of the n sets from place s on is the one that was so far behind it
+unfoldable pub movedUp : ℕ → ℕ → ℕ → List ℕ → List ℕ
+movedUp s n by sets = from (λ l. cond (leb s l && ltb l (s + n)) (getD sets (l + by) 0) (getD sets l 0)) 0 pairPlaces
+
+-- in the row that starts at place k, the second place `at` is retired
+unfoldable pub lineRetired : ℕ → ℕ → List ℕ → List ℕ
+lineRetired k at sets =
+    from (λ l. cond (leb k l && ltb l (k + instances)) (taken at (instances - 1) (λ j. getD sets (k + j) 0) (l - k)) (getD sets l 0)) 0
+    pairPlaces
+
+-- so in the first n rows
+unfoldable pub columnsRetired : ℕ → ℕ → List ℕ → List ℕ
+columnsRetired at n sets =
+    from (λ k. cond (ltb (k / instances) n) (taken at (instances - 1) (pairAt sets (k / instances)) (k % instances)) (getD sets k 0)) 0
+    pairPlaces

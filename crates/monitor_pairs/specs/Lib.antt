@@ -1,0 +1,4 @@
+pub mod Pairs
+pub mod Tracked
+pub mod Which
+pub mod Code
