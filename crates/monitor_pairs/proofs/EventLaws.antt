@@ -1,21 +1,20 @@
 -- An event, cell by cell: the run of all sets, then the row and the column of the event's place.
-use Prim.Native.Nat.{ℕ, suc, _+_, _-_, _*_, _/_, _%_, _<_, _≤_}
-use mathlib.Core.Path.{_≡_, refl, sym, ap, ap₂, _∙_}
+use Prim.Native.Nat.{ℕ, _+_, _-_, _*_, _/_, _%_, _<_, _≤_}
+use mathlib.Core.Path.{_≡_, refl, ap, _∙_}
 use mathlib.Core.Bool.{Bool, true, false, _&&_, cond}
 use mathlib.Core.List.{List}
 use native.Mathlib.Omega.{arith}
 use borrow.Author.Tests.{eqb-true, eqb-false, lt-ltb, ltb-true, ltb-false}
 use lib.Dec.{eqb, ltb, leb}
-use lib.ListN.{length, getD, set, length-set}
+use lib.ListN.{length, getD, set}
 use lib.Seq.{getD-set-same, getD-set-other}
 use Rattle.usage.specs.Tables.{from}
-use Rattle.usage.proofs.Logic.{false-true}
 use Rattle.usage.proofs.TableLaws.{length-from}
 use Rattle.automaton.specs.Move.{moveBy}
 use Rattle.monitor_sets.specs.Instances.{instances}
 use Rattle.monitor_pairs.specs.declared.Ways.{Ways}
 use Rattle.monitor_pairs.specs.Pairs.{pairPlaces, pairAt, wayOf, eventPairs}
-use Rattle.monitor_pairs.specs.Code.{runMoved, lineMoved, rowOf, columnOf, rowPut, columnPut}
+use Rattle.monitor_pairs.specs.Code.{runMoved, lineMoved, pairRow, columnOf, rowPut, columnPut}
 use Rattle.monitor_pairs.proofs.RunLaws.{at-from, same-from, rows-places, row-places}
 
 -- what is kept at one cell
@@ -27,8 +26,8 @@ module _ (rows sets : List ℕ) where
       at-from (λ k. cond (ltb k (n * instances)) (moveBy rows 0 (getD sets k 0)) (getD sets k 0)) pairPlaces k h
       ∙ ap (λ (t : Bool). cond t (moveBy rows 0 (getD sets k 0)) (getD sets k 0)) (rows-places k n)
 
-  row-at : (s j : ℕ) → j < instances → getD (lineMoved rows (rowOf s sets)) j 0 ≡ moveBy rows 0 (getD sets (s + j) 0)
-  unfolding lineMoved rowOf
+  row-at : (s j : ℕ) → j < instances → getD (lineMoved rows (pairRow s sets)) j 0 ≡ moveBy rows 0 (getD sets (s + j) 0)
+  unfolding lineMoved pairRow
   row-at s j h =
       at-from (λ j. moveBy rows 0 (getD (from (λ j. getD sets (s + j) 0) 0 instances) j 0)) instances j h
       ∙ ap (moveBy rows 0) (at-from (λ j. getD sets (s + j) 0) instances j h)
@@ -52,7 +51,7 @@ module _ (w : Ways) (at n : ℕ) (sets : List ℕ) (h : n ≤ instances) (l : at
   run = runMoved (w .neither) (n * instances) sets
 
   abbrev row : List ℕ
-  row = lineMoved (w .first) (rowOf (at * instances) sets)
+  row = lineMoved (w .first) (pairRow (at * instances) sets)
 
   abbrev line : List ℕ
   line = lineMoved (w .second) (columnOf n at sets)

@@ -24,7 +24,7 @@ use Rattle.monitor_sets.proofs.MovedLaws.{moved-empty}
 use Rattle.monitor_sets.proofs.SetLaws.{union-more, union-with}
 use Rattle.monitor_pairs.specs.declared.Ways.{Ways}
 use Rattle.monitor_pairs.specs.Pairs.{pairPlaces, pairAt, wayOf, eventPairs, gatherPairs}
-use Rattle.monitor_pairs.specs.Code.{staysBy, staysAll, rowOf, rowJoined, besideColumns}
+use Rattle.monitor_pairs.specs.Code.{staysBy, staysAll, pairRow, rowJoined, besideColumns}
 use Rattle.monitor_pairs.proofs.RunLaws.{at-from, same-from, at-replicate}
 
 -- ── Unions ──
@@ -83,7 +83,8 @@ module _ (rows : List ℕ) (k : ℕ) where
   moved-union (suc n) f =
       ap (λ (u : ℕ). bitOr u (moveBy rows k (f n))) (moved-union n f) ∙ sym (moved-or (union n f) (f n))
 
-  moved-both : (n m : ℕ) (f : ℕ → ℕ → ℕ) → union n (λ i. union m (λ j. moveBy rows k (f i j))) ≡ moveBy rows k (union n (λ i. union m (f i)))
+  moved-both : (n m : ℕ) (f : ℕ → ℕ → ℕ) → union n (λ i. union m (λ j. moveBy rows k (f i j))) ≡ moveBy rows k (union n (λ i. union m
+      (f i)))
   moved-both n m f =
       union-ext n (λ i. union m (λ j. moveBy rows k (f i j))) (λ i. moveBy rows k (union m (f i))) (λ i l. moved-union m (f i))
       ∙ moved-union n (λ i. union m (f i))
@@ -167,14 +168,14 @@ module _ (w : Ways) (at n : ℕ) (sets : List ℕ) (h : n ≤ instances) (l : at
   line = besideColumns n at sets
 
   abbrev row : List ℕ
-  row = rowOf (at * instances) sets
+  row = pairRow (at * instances) sets
 
   line-at : (j : ℕ) → j < instances → getD line j 0 ≡ union n (λ i. cond (eqb i at) 0 (pairAt sets i j))
   unfolding besideColumns
   line-at j b = at-from (λ j. union n (λ i. cond (eqb i at) 0 (pairAt sets i j))) instances j b
 
   row-at : (j : ℕ) → j < instances → getD row j 0 ≡ pairAt sets at j
-  unfolding rowOf
+  unfolding pairRow
   row-at j b = at-from (λ j. getD sets (at * instances + j) 0) instances j b
 
   -- a line of which the element `at` is taken out
@@ -201,11 +202,12 @@ module _ (w : Ways) (at n : ℕ) (sets : List ℕ) (h : n ≤ instances) (l : at
       pull j false = refl
 
   pub first-joined : union instances (λ j. getD (set row at 0) j 0) ≡ all inFirst
-  unfolding rowOf
+  unfolding pairRow
   first-joined =
       without row (λ j. pairAt sets at j) (length-from (λ j. getD sets (at * instances + j) 0) 0 instances) row-at
       ∙ sym (union-only n at (λ i. union instances (inFirst i)) l
-      (λ i b d. union-none instances (inFirst i) (λ j c. ap (λ (t : Bool). cond t (cond (eqb j at) 0 (pairAt sets i j)) 0) (ne-eqb i at d)))
+      (λ i b d. union-none instances (inFirst i) (λ j c. ap (λ (t : Bool). cond t (cond (eqb j at) 0 (pairAt sets i j)) 0) (ne-eqb i at
+      d)))
       ∙ union-ext instances (inFirst at) (λ j. cond (eqb j at) 0 (pairAt sets at j))
       (λ j b. ap (λ (t : Bool). cond t (cond (eqb j at) 0 (pairAt sets at j)) 0) (eq-eqb at at refl)))
 
@@ -223,7 +225,8 @@ module _ (w : Ways) (at n : ℕ) (sets : List ℕ) (h : n ≤ instances) (l : at
   both-joined =
       row-at at (omega arith)
       ∙ sym (union-only n at (λ i. union instances (inBoth i)) l
-      (λ i b d. union-none instances (inBoth i) (λ j c. ap (λ (t : Bool). cond t (cond (eqb j at) (pairAt sets i j) 0) 0) (ne-eqb i at d)))
+      (λ i b d. union-none instances (inBoth i) (λ j c. ap (λ (t : Bool). cond t (cond (eqb j at) (pairAt sets i j) 0) 0) (ne-eqb i at
+      d)))
       ∙ union-only instances at (inBoth at) (omega arith)
       (λ j c d. ap (λ (t : Bool). cond t (cond (eqb j at) (pairAt sets at j) 0) 0) (eq-eqb at at refl)
       ∙ ap (λ (t : Bool). cond t (pairAt sets at j) 0) (ne-eqb j at d))
@@ -237,7 +240,8 @@ module _ (at : ℕ) (sets : List ℕ) where
 
   pub beside-none : replicate instances 0 ≡ besideColumns 0 at sets
   unfolding besideColumns union
-  beside-none = is-from (besideTo 0) 0 instances (replicate instances 0) (length-replicate {A = ℕ} instances 0) (λ k b. at-replicate instances 0 k b)
+  beside-none = is-from (besideTo 0) 0 instances (replicate instances 0) (length-replicate {A = ℕ} instances 0) (λ k b. at-replicate
+      instances 0 k b)
 
   pub beside-length : (n : ℕ) → length (besideColumns n at sets) ≡ instances
   unfolding besideColumns
@@ -302,12 +306,14 @@ module _ (w : Ways) (e : staysAll w ≡ true) where
       (λ j d. sym (event-at w at n sets i j b h d ∙ stays-way (eqb i at) (eqb j at) (pairAt sets i j) (small (i * instances + j)))))
 
   -- nor does an event move a set
-  pub stays-event : (at n : ℕ) (sets : List ℕ) → length sets ≡ pairPlaces → ((k : ℕ) → getD sets k 0 < 256) → sets ≡ eventPairs w at n sets
+  pub stays-event : (at n : ℕ) (sets : List ℕ) → length sets ≡ pairPlaces → ((k : ℕ) → getD sets k 0 < 256) → sets ≡ eventPairs w at n
+      sets
   unfolding eventPairs
   stays-event at n sets size small =
       is-from (λ k. cond (ltb (k / instances) n) (moveBy (wayOf w (eqb (k / instances) at) (eqb (k % instances) at)) 0 (getD sets k 0))
       (getD sets k 0)) 0 pairPlaces sets size
-      (λ k b. sym (either (ltb (k / instances) n) (stays-way (eqb (k / instances) at) (eqb (k % instances) at) (getD sets k 0) (small k))))
+      (λ k b. sym (either (ltb (k / instances) n) (stays-way (eqb (k / instances) at) (eqb (k % instances) at) (getD sets k 0) (small
+      k))))
     where
       either : {u v : ℕ} (t : Bool) → u ≡ v → cond t u v ≡ v
       either true q = q

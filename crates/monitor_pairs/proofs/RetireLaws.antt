@@ -1,5 +1,5 @@
 -- Rows that are copied, and a retiring step by step: the columns, the row of the retired ones, the rows behind, and the row that is free.
-use Prim.Native.Nat.{ℕ, suc, _+_, _-_, _*_, _/_, _%_, _<_, _≤_}
+use Prim.Native.Nat.{ℕ, _+_, _-_, _*_, _/_, _%_, _<_, _≤_}
 use mathlib.Core.Path.{_≡_, refl, sym, ap, ap₂, _∙_}
 use mathlib.Core.Bool.{Bool, true, false, _&&_, cond}
 use mathlib.Core.List.{List}
@@ -16,8 +16,8 @@ use Rattle.usage.proofs.TableLaws.{length-from, is-from}
 use Rattle.monitor_sets.specs.Instances.{unseen, retirees, firstCreated, instances}
 use Rattle.monitor_sets.proofs.PlaceLaws.{ltb-next}
 use Rattle.monitor_pairs.specs.Pairs.{pairPlaces, pairAt, rowCopied, taken, retirePairs}
-use Rattle.monitor_pairs.specs.Code.{rowOf, rowPut, rowJoined, movedUp, lineRetired, columnsRetired}
-use Rattle.monitor_pairs.proofs.RunLaws.{at-from, same-from, rows-places, row-places}
+use Rattle.monitor_pairs.specs.Code.{pairRow, rowPut, rowJoined, movedUp, lineRetired, columnsRetired}
+use Rattle.monitor_pairs.proofs.RunLaws.{at-from, same-from, row-places}
 
 -- place i * instances + j
 pub cell-row : (i j : ℕ) → j < instances → (i * instances + j) / instances ≡ i
@@ -31,10 +31,12 @@ row-put-at : (i : ℕ) (row s : List ℕ) (k : ℕ) → k < pairPlaces
     → getD (rowPut (i * instances) row instances s) k 0 ≡ cond (eqb (k / instances) i) (getD row (k % instances) 0) (getD s k 0)
 unfolding rowPut
 row-put-at i row s k h =
-    at-from (λ l. cond (leb (i * instances) l && ltb l (i * instances + instances)) (getD row (l - i * instances) 0) (getD s l 0)) pairPlaces k h
+    at-from (λ l. cond (leb (i * instances) l && ltb l (i * instances + instances)) (getD row (l - i * instances) 0) (getD s l 0))
+    pairPlaces k h
     ∙ ap (λ (t : Bool). cond t (getD row (k - i * instances) 0) (getD s k 0)) (row-places k i) ∙ go (eqb (k / instances) i) refl
   where
-    go : (b : Bool) → eqb (k / instances) i ≡ b → cond b (getD row (k - i * instances) 0) (getD s k 0) ≡ cond b (getD row (k % instances) 0) (getD s k 0)
+    go : (b : Bool) → eqb (k / instances) i ≡ b → cond b (getD row (k - i * instances) 0) (getD s k 0) ≡ cond b (getD row (k %
+        instances) 0) (getD s k 0)
     go true e =
         let q = eqb-true (k / instances) i e in
         let r : k - i * instances ≡ k % instances = omega arith in
@@ -45,12 +47,13 @@ put-size : (k : ℕ) (row l : List ℕ) → length (rowPut k row instances l) �
 unfolding rowPut
 put-size k row l = length-from (λ j. cond (leb k j && ltb j (k + instances)) (getD row (j - k) 0) (getD l j 0)) 0 pairPlaces
 
-pub row-copied : (source to : ℕ) (s : List ℕ) → rowPut (to * instances) (rowOf (source * instances) s) instances s ≡ rowCopied source to s
-unfolding rowCopied rowOf
+pub row-copied : (source to : ℕ) (s : List ℕ) → rowPut (to * instances) (pairRow (source * instances) s) instances s ≡ rowCopied source to s
+unfolding rowCopied pairRow
 row-copied source to s =
     is-from (λ k. cond (eqb (k / instances) to) (pairAt s source (k % instances)) (getD s k 0)) 0 pairPlaces _ (put-size _ _ _) (λ k b.
     row-put-at to (from (λ j. getD s (source * instances + j) 0) 0 instances) s k b
-    ∙ ap (λ (v : ℕ). cond (eqb (k / instances) to) v (getD s k 0)) (at-from (λ j. getD s (source * instances + j) 0) instances (k % instances) (omega arith)))
+    ∙ ap (λ (v : ℕ). cond (eqb (k / instances) to) v (getD s k 0)) (at-from (λ j. getD s (source * instances + j) 0) instances (k %
+    instances) (omega arith)))
 
 -- ── One row ──
 
@@ -67,7 +70,8 @@ taken-same at last f g m i r a h l e s = go (eqb i retirees) (leb at i) (eqb i l
     go false true false q = let z = eqb-false i last q in s (i + 1) (omega arith)
     go false false d q = s i h
 
-module _ (k at : ℕ) (s : List ℕ) (size : length s ≡ pairPlaces) (fits : k + instances ≤ pairPlaces) (f : firstCreated ≤ at) (l : at < instances) where
+module _ (k at : ℕ) (s : List ℕ) (size : length s ≡ pairPlaces) (fits : k + instances ≤ pairPlaces) (f : firstCreated ≤ at) (l : at <
+    instances) where
   abbrev joined : ℕ
   joined = bitOr (getD s (k + retirees) 0) (getD s (k + at) 0)
 
@@ -80,11 +84,13 @@ module _ (k at : ℕ) (s : List ℕ) (size : length s ≡ pairPlaces) (fits : k 
   up-at : (j : ℕ) → j < pairPlaces
       → getD up j 0 ≡ cond (leb (k + at) j && ltb j (k + at + (instances - 1 - at))) (getD one (j + 1) 0) (getD one j 0)
   unfolding movedUp
-  up-at j h = at-from (λ j. cond (leb (k + at) j && ltb j (k + at + (instances - 1 - at))) (getD one (j + 1) 0) (getD one j 0)) pairPlaces j h
+  up-at j h = at-from (λ j. cond (leb (k + at) j && ltb j (k + at + (instances - 1 - at))) (getD one (j + 1) 0) (getD one j 0))
+      pairPlaces j h
 
   up-size : length up ≡ pairPlaces
   unfolding movedUp
-  up-size = length-from (λ j. cond (leb (k + at) j && ltb j (k + at + (instances - 1 - at))) (getD one (j + 1) 0) (getD one j 0)) 0 pairPlaces
+  up-size = length-from (λ j. cond (leb (k + at) j && ltb j (k + at + (instances - 1 - at))) (getD one (j + 1) 0) (getD one j 0)) 0
+      pairPlaces
 
   abbrev goal : ℕ → ℕ
   goal j = cond (leb k j && ltb j (k + instances)) (taken at (instances - 1) (λ i. getD s (k + i) 0) (j - k)) (getD s j 0)
@@ -93,7 +99,13 @@ module _ (k at : ℕ) (s : List ℕ) (size : length s ≡ pairPlaces) (fits : k 
   at-last : getD s (k + unseen) 0 ≡ goal (k + (instances - 1))
   at-last =
       let z : k + (instances - 1) - k ≡ instances - 1 = omega arith in
-      sym (rw (z, le-leb k (k + (instances - 1)) (omega arith), lt-ltb (k + (instances - 1)) (k + instances) (omega arith), le-leb at (instances - 1) (omega arith)) refl)
+      sym (rw (
+        z,
+        le-leb k (k + (instances - 1)) (omega arith),
+        lt-ltb (k + (instances - 1)) (k + instances) (omega arith),
+        le-leb at
+            (instances - 1) (omega arith),
+      ) refl)
 
   -- the place of the retired ones
   at-joined : joined ≡ goal (k + retirees)
@@ -141,7 +153,8 @@ module _ (k at : ℕ) (s : List ℕ) (size : length s ≡ pairPlaces) (fits : k 
       plain : (j : ℕ) → (j ≡ k + retirees → ⊥) → getD one j 0 ≡ getD s j 0
       plain j d = getD-set-other s (k + retirees) j joined 0 d
 
-      stays : (j : ℕ) → j < pairPlaces → (j < k + at) ⊎ (k + instances ≤ j) → (b : Bool) → eqb j (k + retirees) ≡ b → getD one j 0 ≡ goal j
+      stays : (j : ℕ) → j < pairPlaces → (j < k + at) ⊎ (k + instances ≤ j) → (b : Bool) → eqb j (k + retirees) ≡ b → getD one j 0 ≡
+          goal j
       stays j h w true e =
           let q = eqb-true j (k + retirees) e in
           ap (λ (i : ℕ). getD one i 0) q ∙ getD-set-same s (k + retirees) joined 0 (omega arith) ∙ at-joined ∙ ap goal (sym q)
@@ -186,7 +199,8 @@ module _ (at : ℕ) (s : List ℕ) (l : at < instances) where
   unfolding columnsRetired
   columns-none e =
       is-from (columnsTo 0) 0 pairPlaces s e (λ k b. sym
-      (ap (λ (t : Bool). cond t (taken at (instances - 1) (pairAt s (k / instances)) (k % instances)) (getD s k 0)) (le-ltb (k / instances) 0 (omega arith))))
+      (ap (λ (t : Bool). cond t (taken at (instances - 1) (pairAt s (k / instances)) (k % instances)) (getD s k 0)) (le-ltb (k /
+      instances) 0 (omega arith))))
 
   pub columns-size : (n : ℕ) → length (columnsRetired at n s) ≡ pairPlaces
   unfolding columnsRetired
@@ -197,7 +211,8 @@ module _ (at : ℕ) (s : List ℕ) (l : at < instances) where
   columns-at n k h = at-from (columnsTo n) pairPlaces k h
 
   rows : (k : ℕ) (t : List ℕ) → lineRetired k at t
-      ≡ from (λ l. cond (leb k l && ltb l (k + instances)) (taken at (instances - 1) (λ j. getD t (k + j) 0) (l - k)) (getD t l 0)) 0 pairPlaces
+      ≡ from (λ l. cond (leb k l && ltb l (k + instances)) (taken at (instances - 1) (λ j. getD t (k + j) 0) (l - k)) (getD t l 0)) 0
+      pairPlaces
   unfolding lineRetired
   rows k t = refl
 
@@ -215,11 +230,13 @@ module _ (at : ℕ) (s : List ℕ) (l : at < instances) where
           (λ k. cond (leb (n * instances) k && ltb k (n * instances + instances))
           (taken at (instances - 1) (λ j. getD old (n * instances + j) 0) (k - n * instances)) (getD old k 0))
           (columnsTo (n + 1)) pairPlaces
-          (λ k b. ap (λ (t : Bool). cond t (taken at (instances - 1) (λ j. getD old (n * instances + j) 0) (k - n * instances)) (getD old k 0)) (row-places k n)
+          (λ k b. ap (λ (t : Bool). cond t (taken at (instances - 1) (λ j. getD old (n * instances + j) 0) (k - n * instances)) (getD
+          old k 0)) (row-places k n)
           ∙ go k b (eqb (k / instances) n) refl)
         where
           go : (k : ℕ) → k < pairPlaces → (b : Bool) → eqb (k / instances) n ≡ b
-              → cond b (taken at (instances - 1) (λ j. getD old (n * instances + j) 0) (k - n * instances)) (getD old k 0) ≡ columnsTo (n + 1) k
+              → cond b (taken at (instances - 1) (λ j. getD old (n * instances + j) 0) (k - n * instances)) (getD old k 0) ≡ columnsTo
+              (n + 1) k
           go k b true e =
               let q = eqb-true (k / instances) n e in
               let r : k - n * instances ≡ k % instances = omega arith in
@@ -227,7 +244,8 @@ module _ (at : ℕ) (s : List ℕ) (l : at < instances) where
               ∙ taken-same at (instances - 1) (λ j. getD old (n * instances + j) 0) (pairAt s (k / instances)) instances (k % instances)
               (lit< tt) l (omega arith) (lit< tt) (omega arith)
               (λ j c. columns-at n (n * instances + j) (omega arith)
-              ∙ ap (λ (t : Bool). cond t (taken at (instances - 1) (pairAt s ((n * instances + j) / instances)) ((n * instances + j) % instances)) (getD s (n * instances + j) 0))
+              ∙ ap (λ (t : Bool). cond t (taken at (instances - 1) (pairAt s ((n * instances + j) / instances)) ((n * instances + j) %
+              instances)) (getD s (n * instances + j) 0))
               (le-ltb ((n * instances + j) / instances) n (omega (arith, cell-row n j c)))
               ∙ ap (λ (i : ℕ). getD s (i * instances + j) 0) (sym q))
               ∙ sym (ap (λ (t : Bool). cond t (taken at (instances - 1) (pairAt s (k / instances)) (k % instances)) (getD s k 0))
@@ -256,13 +274,14 @@ module _ (at n : ℕ) (s : List ℕ) (h : n ≤ instances) (f : firstCreated ≤
 
   -- the row of the retired ones
   abbrev with-row : List ℕ
-  with-row = rowPut (retirees * instances) (rowJoined (at * instances) columns (rowOf (retirees * instances) columns)) instances columns
+  with-row = rowPut (retirees * instances) (rowJoined (at * instances) columns (pairRow (retirees * instances) columns)) instances columns
 
   joined-at : (j : ℕ) → j < instances
-      → getD (rowJoined (at * instances) columns (rowOf (retirees * instances) columns)) j 0 ≡ bitOr (side retirees j) (side at j)
-  unfolding rowJoined rowOf
+      → getD (rowJoined (at * instances) columns (pairRow (retirees * instances) columns)) j 0 ≡ bitOr (side retirees j) (side at j)
+  unfolding rowJoined pairRow
   joined-at j b =
-      at-from (λ j. bitOr (getD (from (λ j. getD columns (retirees * instances + j) 0) 0 instances) j 0) (getD columns (at * instances + j) 0))
+      at-from (λ j. bitOr (getD (from (λ j. getD columns (retirees * instances + j) 0) 0 instances) j 0) (getD columns (at * instances
+      + j) 0))
       instances j b
       ∙ ap₂ (λ (u v : ℕ). bitOr u v)
       (at-from (λ j. getD columns (retirees * instances + j) 0) instances j b ∙ side-at retirees j (omega arith) b)
@@ -272,7 +291,7 @@ module _ (at n : ℕ) (s : List ℕ) (h : n ≤ instances) (f : firstCreated ≤
       → getD with-row k 0
       ≡ cond (eqb (k / instances) retirees) (bitOr (side retirees (k % instances)) (side at (k % instances))) (getD columns k 0)
   row-at k b =
-      row-put-at retirees (rowJoined (at * instances) columns (rowOf (retirees * instances) columns)) columns k b
+      row-put-at retirees (rowJoined (at * instances) columns (pairRow (retirees * instances) columns)) columns k b
       ∙ ap (λ (v : ℕ). cond (eqb (k / instances) retirees) v (getD columns k 0)) (joined-at (k % instances) (omega arith))
 
   other-at : (i j : ℕ) → i < n → j < instances → (i ≡ retirees → ⊥) → pairAt with-row i j ≡ side i j
@@ -288,7 +307,8 @@ module _ (at n : ℕ) (s : List ℕ) (h : n ≤ instances) (f : firstCreated ≤
 
   rows-at : (k : ℕ) → k < pairPlaces
       → getD closed k 0
-      ≡ cond (leb (at * instances) k && ltb k (at * instances + (n - 1 - at) * instances)) (getD with-row (k + instances) 0) (getD with-row k 0)
+      ≡ cond (leb (at * instances) k && ltb k (at * instances + (n - 1 - at) * instances)) (getD with-row (k + instances) 0) (getD
+      with-row k 0)
   unfolding movedUp
   rows-at k b =
       at-from (λ k. cond (leb (at * instances) k && ltb k (at * instances + (n - 1 - at) * instances)) (getD with-row (k + instances) 0)
@@ -338,11 +358,13 @@ module _ (at n : ℕ) (s : List ℕ) (h : n ≤ instances) (f : firstCreated ≤
           let z = leb-true at (k / instances) q in
           let p : k + instances ≡ (k / instances + 1) * instances + k % instances = omega arith in
           rows-at k b
-          ∙ ap₂ (λ (t u : Bool). cond (t && u) (getD with-row (k + instances) 0) (getD with-row k 0)) (le-leb (at * instances) k (omega arith))
+          ∙ ap₂ (λ (t u : Bool). cond (t && u) (getD with-row (k + instances) 0) (getD with-row k 0)) (le-leb (at * instances) k (omega
+          arith))
           (lt-ltb k (at * instances + (n - 1 - at) * instances) (omega arith))
           ∙ ap (λ (i : ℕ). getD with-row i 0) p
           ∙ other-at (k / instances + 1) (k % instances) (omega arith) (omega arith) (λ y. omega arith)
-          ∙ sym (ap (λ (t : Bool). side (cond t unseen (k / instances + 1)) (k % instances)) (ne-eqb (k / instances) (n - 1) (λ y. omega arith)))
+          ∙ sym (ap (λ (t : Bool). side (cond t unseen (k / instances + 1)) (k % instances)) (ne-eqb (k / instances) (n - 1) (λ y.
+          omega arith)))
       used k b a false e false q =
           let z = leb-false at (k / instances) q in
           let p : k ≡ k / instances * instances + k % instances = omega arith in

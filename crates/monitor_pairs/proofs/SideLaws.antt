@@ -6,14 +6,13 @@ use mathlib.Core.List.{List, [], _∷_}
 use mathlib.Core.Logic.{_⊎_, inl, inr, _↔_}
 use native.Mathlib.Nat.{le-refl}
 use native.Mathlib.Omega.{arith}
-use borrow.Author.Tests.{eq-eqb, ne-eqb, eqb-true, eqb-false, lt-ltb, le-ltb, ltb-true, ltb-false, le-leb, lt-leb, leb-true, leb-false}
+use borrow.Author.Tests.{ne-eqb, eqb-true, eqb-false, lt-ltb, le-ltb, ltb-true, ltb-false, le-leb, lt-leb}
 use lib.Bits.{bitOr}
 use lib.Dec.{eqb, ltb, leb}
 use lib.ListN.{getD}
 use Rattle.usage.specs.declared.Edge.{Edge}
-use Rattle.usage.specs.Limits.{states}
 use Rattle.usage.specs.Past.{Past}
-use Rattle.usage.specs.Placed.{Placed, none-placed, next-placed, At}
+use Rattle.usage.specs.Placed.{At}
 use Rattle.usage.proofs.Logic.{by-cases, or-left, or-right, or-cases}
 use Rattle.usage.proofs.PlacedLaws.{Takes, none-taken, next-taken, at-taken}
 use Rattle.automaton.specs.Mask.{has}
@@ -24,7 +23,7 @@ use Rattle.monitor_pairs.specs.Pairs.{pairPlaces, pairAt, taken, retireP
 use Rattle.monitor_pairs.specs.Tracked.{seatIn, TracksPairs}
 use Rattle.monitor_pairs.proofs.RunLaws.{at-from}
 use Rattle.monitor_pairs.proofs.RetireLaws.{cell-row, cell-column}
-use Rattle.monitor_pairs.proofs.TrackedLaws.{seat-in, seat-out, seat-used}
+use Rattle.monitor_pairs.proofs.TrackedLaws.{seat-in, seat-out}
 
 -- Once place `at` is retired, place i takes from place s: that of the retired ones from its own and from `at`, the others from where they
 -- were before they moved up.
@@ -93,7 +92,8 @@ module _ (at n w : ℕ) (first : firstCreated ≤ at) (l : at < n) (h : n ≤ w)
       go : (x : Bool) → ltb j at ≡ x → (y : Bool) → ltb j (n - 1) ≡ y → (z : Bool) → eqb j (w - 1) ≡ z → Sourced j
       go true p y q z r =
           let a = ltb-true j at p in
-          made j j j b (ap (λ (t : Bool). cond t (cond (eqb j (w - 1)) unseen (j + 1)) j) (lt-leb at j a)) (seat-in (n - 1) j (omega arith))
+          made j j j b (ap (λ (t : Bool). cond t (cond (eqb j (w - 1)) unseen (j + 1)) j) (lt-leb at j a)) (seat-in (n - 1) j (omega
+          arith))
           (seat-in n j (omega arith)) d (inl (a, refl))
       go false p true q z r =
           let a = ltb-false j at p in
@@ -166,7 +166,8 @@ retire-at at n sets i j h most b =
     at-from (λ k. cond (ltb (k / instances) n)
     (taken at (n - 1) (λ i. taken at (instances - 1) (pairAt sets i) (k % instances)) (k / instances)) (getD sets k 0)) pairPlaces
     (i * instances + j) (omega arith)
-    ∙ ap₂ (λ (u v : ℕ). cond (ltb u n) (taken at (n - 1) (λ i. taken at (instances - 1) (pairAt sets i) v) u) (pairAt sets i j)) (cell-row i j b)
+    ∙ ap₂ (λ (u v : ℕ). cond (ltb u n) (taken at (n - 1) (λ i. taken at (instances - 1) (pairAt sets i) v) u) (pairAt sets i j))
+    (cell-row i j b)
     (cell-column i j b)
     ∙ ap (λ (t : Bool). cond t (taken at (n - 1) (λ i. taken at (instances - 1) (pairAt sets i) j) i) (pairAt sets i j)) (lt-ltb i n h)
 

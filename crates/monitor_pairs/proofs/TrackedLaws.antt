@@ -2,36 +2,32 @@
 -- list of places (`usage`: PlacedLaws, `automaton`: PlaceLaws), at lists of two.
 use Prim.Native.Nat.{ℕ, _+_, _-_, _*_, _/_, _%_, _<_, _≤_}
 use mathlib.Core.Path.{_≡_, refl, sym, ap, ap₂, subst, _∙_}
-use mathlib.Core.Bool.{Bool, true, false, _&&_, _||_, cond}
-use mathlib.Core.List.{List, [], _∷_, map}
-use mathlib.Core.Logic.{_⊎_, inl, inr, _↔_}
+use mathlib.Core.Bool.{Bool, true, false, cond}
+use mathlib.Core.List.{List, [], _∷_}
+use mathlib.Core.Logic.{_↔_}
 use native.Mathlib.Nat.{zero-add}
 use native.Mathlib.Omega.{arith}
-use borrow.Author.Tests.{eq-eqb, ne-eqb, eqb-true, eqb-false, lt-ltb, le-ltb, ltb-true, ltb-false, le-leb, lt-leb, leb-true, leb-false}
-use lib.Bits.{bitOr}
-use lib.Dec.{eqb, ltb, leb, lit<}
+use borrow.Author.Tests.{eq-eqb, ne-eqb, eqb-true, eqb-false, lt-ltb, le-ltb, ltb-true, ltb-false}
+use lib.Dec.{eqb, ltb, lit<}
 use lib.ListN.{getD, replicate}
 use Rattle.usage.specs.declared.Edge.{Edge}
 use Rattle.usage.specs.Limits.{states}
-use Rattle.usage.specs.Policy.{PairPolicy, Instance, single, pair, Sees}
+use Rattle.usage.specs.Policy.{PairPolicy, Instance, single, pair}
 use Rattle.usage.specs.Past.{event, opening, Past, Open, May, start}
 use Rattle.usage.specs.Placed.{Placed, none-placed, next-placed, At}
 use Rattle.usage.specs.Tables.{from}
-use Rattle.usage.proofs.Logic.{by-cases, or-left, or-right, or-cases}
 use Rattle.usage.proofs.PastLaws.{may-some}
-use Rattle.usage.proofs.PlacedLaws.{Alone, Fresh, Has, before, at-create, at-reset, Takes, none-taken, next-taken, at-taken}
+use Rattle.usage.proofs.PlacedLaws.{Alone, Fresh, Has, at-create, at-reset}
 use Rattle.automaton.specs.Mask.{has, union}
 use Rattle.automaton.specs.Move.{image, move, moveBy, firesAt}
-use Rattle.automaton.proofs.MaskLaws.{has-or, has-pow, union-has, some-at, some-found}
+use Rattle.automaton.proofs.MaskLaws.{has-pow, union-has, some-at, some-found}
 use Rattle.automaton.proofs.MoveLaws.{Ends}
 use Rattle.automaton.proofs.RowLaws.{union-ext}
 use Rattle.automaton.proofs.PlaceLaws.{two-seats, Holds, holds-event}
-use Rattle.monitor_sets.specs.Instances.{unseen, retirees, firstCreated, instances}
+use Rattle.monitor_sets.specs.Instances.{unseen, instances}
 use Rattle.monitor_sets.specs.Sets.{startSet}
-use Rattle.monitor_sets.proofs.RetiredLaws.{lowered}
-use Rattle.monitor_pairs.specs.declared.Ways.{Ways}
-use Rattle.monitor_pairs.specs.Pairs.{pairPlaces, pairAt, wayOf, eventPairs, gatherPairs, rowCopied, createPairs, resetPairs, taken, retirePairs}
-use Rattle.monitor_pairs.specs.Tracked.{seatIn, TracksPairs, rowsFor, waysOf}
+use Rattle.monitor_pairs.specs.Pairs.{pairPlaces, pairAt, wayOf, eventPairs, gatherPairs, rowCopied, createPairs, resetPairs}
+use Rattle.monitor_pairs.specs.Tracked.{seatIn, TracksPairs, rowsFor, eventWays}
 use Rattle.monitor_pairs.proofs.RunLaws.{at-from, at-replicate}
 use Rattle.monitor_pairs.proofs.GatherLaws.{event-at}
 use Rattle.monitor_pairs.proofs.RetireLaws.{cell-row, cell-column}
@@ -57,12 +53,14 @@ unfolding rowsFor moveBy move
 rows-move es p a r x y m =
     union-ext states (λ q. cond (has m q) (getD (from (λ q. image (firesAt p a r x y) es q) 0 states) (0 + q) 0) 0)
     (λ q. cond (has m q) (image (firesAt p a r x y) es q) 0)
-    (λ q l. ap (λ (n : ℕ). cond (has m q) n 0) (ap (λ (k : ℕ). getD (from (λ q. image (firesAt p a r x y) es q) 0 states) k 0) (zero-add q)
+    (λ q l. ap (λ (n : ℕ). cond (has m q) n 0) (ap (λ (k : ℕ). getD (from (λ q. image (firesAt p a r x y) es q) 0 states) k 0)
+    (zero-add q)
     ∙ at-from (λ q. image (firesAt p a r x y) es q) states q l))
 
 -- a set moved by the rows of a way is moved by the edges
-pub moved-way : (es : List Edge) (p a r : ℕ) (x y : Bool) (m : ℕ) → moveBy (wayOf (waysOf es p a r) x y) 0 m ≡ move (firesAt p a r x y) es m
-unfolding waysOf
+pub moved-way : (es : List Edge) (p a r : ℕ) (x y : Bool) (m : ℕ) → moveBy (wayOf (eventWays es p a r) x y) 0 m ≡ move (firesAt p a r x y)
+    es m
+unfolding eventWays
 moved-way es p a r true true m = rows-move es p a r true true m
 moved-way es p a r true false m = rows-move es p a r true false m
 moved-way es p a r false true m = rows-move es p a r false true m
@@ -72,7 +70,7 @@ moved-way es p a r false false m = rows-move es p a r false false m
 pub event-tracks : (local : Bool) (es : List Edge) → Ends es → (p : ℕ) (stands : ℕ → ℕ → Type 0) (a at r : ℕ) → Alone stands at r
     → (at ≡ unseen → ⊥) → (past : Past) → ((places : List ℕ) (q : ℕ) → At local es p stands past places q → q < states) → (n : ℕ)
     → n ≤ instances → at < n → (sets : List ℕ) → TracksPairs local es p stands past n sets
-    → TracksPairs local es p stands (event a r ∷ past) n (eventPairs (waysOf es p a r) at n sets)
+    → TracksPairs local es p stands (event a r ∷ past) n (eventPairs (eventWays es p a r) at n sets)
 event-tracks local es v p stands a at r alone d past small n most l sets held i j q h b k =
     (λ e. after q k .0 (sym same ∙ e), λ y. same ∙ after q k .1 y)
   where
@@ -93,17 +91,18 @@ event-tracks local es v p stands a at r alone d past small n most l sets held i 
         let z = ltb-false j n e in
         ne-eqb j at (λ w. omega arith) ∙ sym (ne-eqb unseen at (λ w. d (sym w)))
 
-    same : has (pairAt (eventPairs (waysOf es p a r) at n sets) i j) q ≡ has (move (firesAt p a r x y) es (pairAt sets i j)) q
+    same : has (pairAt (eventPairs (eventWays es p a r) at n sets) i j) q ≡ has (move (firesAt p a r x y) es (pairAt sets i j)) q
     same =
         ap (λ (m : ℕ). has m q)
-        (event-at (waysOf es p a r) at n sets i j h most b
+        (event-at (eventWays es p a r) at n sets i j h most b
         ∙ moved-way es p a r (eqb i at) (eqb j at) (pairAt sets i j)
         ∙ ap (λ (t : Bool). move (firesAt p a r (eqb i at) t) es (pairAt sets i j)) (seen (ltb j n) refl))
 
 -- ── Gathering ──
 
 -- "Stored sets are gathered over all pairs": the union has what some instance, wherever it stands, may be in
-pub gather-tracks : (local : Bool) (es : List Edge) (p : ℕ) → PairPolicy es p → (stands : ℕ → ℕ → Type 0) (past : Past) (n : ℕ) → n ≤ instances
+pub gather-tracks : (local : Bool) (es : List Edge) (p : ℕ) → PairPolicy es p → (stands : ℕ → ℕ → Type 0) (past : Past) (n : ℕ) → n ≤
+    instances
     → ((i x : ℕ) → stands i x → i < n) → (sets : List ℕ) → TracksPairs local es p stands past n sets → (q : ℕ) → q < states
     → (has (gatherPairs n sets) q ≡ true) ↔ ((places : List ℕ) × At local es p stands past places q)
 unfolding gatherPairs
@@ -118,7 +117,8 @@ gather-tracks local es p is-pair stands past n most used sets held q k = (to, ba
         let (j, l, g) = some-found instances (λ j. has (pairAt sets i j) q) (sym (union-has instances (λ j. pairAt sets i j) q) ∙ f) in
         (i ∷ seatIn n j ∷ [], held i j q h l k .0 g)
 
-    both : {xs places : List ℕ} → Instance es p xs → Placed stands xs places → At local es p stands past places q → has (union n row) q ≡ true
+    both : {xs places : List ℕ} → Instance es p xs → Placed stands xs places → At local es p stands past places q → has (union n row) q
+        ≡ true
     both (single c) g y = absurd (c is-pair)
     both (pair c) (next-placed {x = x} {i = i} g (next-placed {x = z} {i = j} f none-placed)) y =
         let h = used i x g in
@@ -148,7 +148,8 @@ copied-at source to sets i j h l =
 
 -- "A create copies the unused partner's sets on both sides": place n stands for r alone, and has as first and as second place what that of
 -- the unseen ones had.
-pub create-tracks : (stands : ℕ → ℕ → Type 0) (past : Past) (r y n : ℕ) (fresh : Fresh stands past r y unseen) (local : Bool) (es : List Edge)
+pub create-tracks : (stands : ℕ → ℕ → Type 0) (past : Past) (r y n : ℕ) (fresh : Fresh stands past r y unseen) (local : Bool) (es :
+    List Edge)
     (p : ℕ) (sets : List ℕ) → unseen < n → n < instances → TracksPairs local es p stands past n sets
     → TracksPairs local es p (Has stands past r y unseen n fresh) past (n + 1) (createPairs n sets)
 unfolding createPairs
@@ -170,7 +171,8 @@ create-tracks stands past r y n fresh local es p sets u most held i j q h b k =
         go false e false f =
             let z = ltb-false j n e in
             let w = eqb-false j n f in
-            ap was (seat-out (n + 1) j (omega (arith, w, z))) ∙ ap (λ (c : Bool). cond c unseen unseen) (ne-eqb unseen n (λ w. omega arith))
+            ap was (seat-out (n + 1) j (omega (arith, w, z))) ∙ ap (λ (c : Bool). cond c unseen unseen) (ne-eqb unseen n (λ w. omega
+            arith))
 
     inside : was i < n
     inside = go (eqb i n) refl
@@ -233,12 +235,19 @@ module _ (es : List Edge) (p : ℕ) (is-pair : PairPolicy es p) (stands : ℕ �
       → TracksPairs true es p stands (opening s ∷ past) n (resetPairs n sets)
   unfolding resetPairs
   reset-tracks past s e d most sets i j q h b k =
-      let anew = at-reset es p stands s past (i ∷ seatIn n j ∷ []) q e d in
-      (λ f. anew .1 (sym (eqb-true 0 q (sym same ∙ f)), someAt true past i (seatIn n j) h (seat-used n j u)), λ y. same ∙ eq-eqb 0 q (sym (anew .0 y .0)))
+      let anew = at-reset es p stands s past (i ∷ seatIn n j ∷ []) q e d in (
+        λ f. anew .1 (sym (eqb-true 0 q (sym same ∙ f)), someAt true past i (seatIn n j) h (seat-used n j u)),
+        λ y. same
+            ∙ eq-eqb 0 q (sym (anew .0 y .0)),
+      )
     where
       same : has (pairAt (from (λ k. cond (ltb (k / instances) n) startSet (getD sets k 0)) 0 pairPlaces) i j) q ≡ eqb 0 q
       same =
           ap (λ (m : ℕ). has m q)
           (at-from (λ k. cond (ltb (k / instances) n) startSet (getD sets k 0)) pairPlaces (i * instances + j) (omega arith)
-          ∙ ap (λ (t : Bool). cond t startSet (pairAt sets i j)) (lt-ltb ((i * instances + j) / instances) n (omega (arith, cell-row i j b))))
+          ∙ ap (λ (t : Bool). cond t startSet (pairAt sets i j)) (lt-ltb ((i * instances + j) / instances) n (omega (
+            arith,
+            cell-row i
+                j b,
+          ))))
           ∙ start-has q k

@@ -1,5 +1,5 @@
 -- Moving by two states: it is additive, so that where it agrees with eight rows at each state, it agrees with them at each set.
-use Prim.Native.Nat.{ℕ, zero, suc, _+_, _*_, _/_, _%_, _^_, _<_, _≤_, min, max}
+use Prim.Native.Nat.{ℕ, zero, suc, _+_, _*_, _/_, _%_, _^_, _<_, min, max}
 use mathlib.Core.Path.{_≡_, refl, sym, ap, ap₂, _∙_}
 use mathlib.Core.Bool.{Bool, true, false, cond}
 use mathlib.Core.List.{List}
@@ -14,7 +14,7 @@ use Rattle.usage.specs.Limits.{states}
 use Rattle.usage.proofs.TableLaws.{is-from}
 use Rattle.automaton.specs.Mask.{has, union}
 use Rattle.automaton.specs.Move.{moveBy}
-use Rattle.automaton.proofs.MaskLaws.{or-assoc, left-le, right-le, all-below, all-below-at}
+use Rattle.automaton.proofs.MaskLaws.{left-le, right-le, all-below, all-below-at}
 use Rattle.automaton.proofs.RowLaws.{union-ext, stayRows, stay-moves}
 use Rattle.monitor_sets.proofs.LaneLaws.{shuffle}
 use Rattle.monitor_pairs.specs.Pairs.{pairPlaces}
@@ -58,7 +58,8 @@ where-or a b m row = ap (λ (u : ℕ). cond (eqb u 0) 0 row) (and-or a b m) ∙ 
 
     go : (s : Bool) → eqb x 0 ≡ s → (t : Bool) → eqb y 0 ≡ t → cond (eqb (bitOr x y) 0) 0 row ≡ bitOr (cond s 0 row) (cond t 0 row)
     go true e true f =
-        ap (λ (t : Bool). cond t 0 row) (eq-eqb (bitOr x y) 0 (ap₂ (λ (u v : ℕ). bitOr u v) (eqb-true x 0 e) (eqb-true y 0 f) ∙ or-self 0))
+        ap (λ (t : Bool). cond t 0 row) (eq-eqb (bitOr x y) 0 (ap₂ (λ (u v : ℕ). bitOr u v) (eqb-true x 0 e) (eqb-true y 0 f)
+        ∙ or-self 0))
         ∙ sym (or-self 0)
     go true e false f = some (λ z. eqb-false y 0 f (omega (arith, right-le x y))) ∙ sym (or-zero-l row)
     go false e true f = some (λ z. eqb-false x 0 e (omega (arith, left-le x y))) ∙ sym (or-zero-r row)
@@ -101,7 +102,8 @@ module _ (keep low lows high highs : ℕ) where
     where
       each : (q : ℕ) → q < states → (b : Bool) → two (cond b (getD stayRows (0 + q) 0) 0) ≡ cond b (getD rows (0 + q) 0) 0
       each q k true =
-          ap two (eqb-true (getD stayRows (0 + q) 0) (2 ^ q) (all-below-at states (λ q. eqb (getD stayRows (0 + q) 0) (2 ^ q)) bit-test q k))
+          ap two (eqb-true (getD stayRows (0 + q) 0) (2 ^ q) (all-below-at states (λ q. eqb (getD stayRows (0 + q) 0) (2 ^ q)) bit-test
+          q k))
           ∙ h q k ∙ ap (λ (i : ℕ). getD rows i 0) (sym (zero-add q))
       each q k false = two-none
 
@@ -109,7 +111,8 @@ module _ (keep low lows high highs : ℕ) where
       → ((k : ℕ) → getD sets k 0 < 256) → runByTwo keep low lows high highs n sets ≡ runMoved rows n sets
   unfolding runByTwo runMoved
   two-run rows h n sets small =
-      same-from (λ k. cond (ltb k n) (two (getD sets k 0)) (getD sets k 0)) (λ k. cond (ltb k n) (moveBy rows 0 (getD sets k 0)) (getD sets k 0))
+      same-from (λ k. cond (ltb k n) (two (getD sets k 0)) (getD sets k 0)) (λ k. cond (ltb k n) (moveBy rows 0 (getD sets k 0)) (getD
+      sets k 0))
       pairPlaces (λ k b. ap (λ (u : ℕ). cond (ltb k n) u (getD sets k 0)) (two-moves rows h (getD sets k 0) (small k)))
 
 -- ── Rows that leave every state where it is ──

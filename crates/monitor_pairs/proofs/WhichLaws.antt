@@ -1,14 +1,15 @@
 -- The pair policies of a table, one edge after the other.
 use Prim.Native.Nat.{ℕ, _+_, _^_, _<_}
 use mathlib.Core.Path.{_≡_, refl, sym, ap, ap₂, _∙_}
-use mathlib.Core.Bool.{Bool, true, false, _&&_, _||_, cond}
+use mathlib.Core.Bool.{Bool, true, false, not, _&&_, _||_, cond, Bool·beq}
 use mathlib.Core.List.{List, [], _∷_, _++_}
 use mathlib.Core.Logic.{_↔_}
 use native.Mathlib.Nat.{zero-add}
 use native.Mathlib.Numerals.{add-one}
 use native.Mathlib.Omega.{arith}
-use borrow.Author.Tests.{eq-eqb, ne-eqb, eqb-true, eqb-false, ltb-true, ltb-false}
+use borrow.Author.Tests.{eq-eqb, ne-eqb, ltb-true, ltb-false}
 use lib.Bits.{bitOr, or-zero-l, or-zero-r, or-self}
+use lib.Count.{trailingZeros}
 use lib.Dec.{eqb, ltb}
 use Rattle.usage.specs.declared.Edge.{Edge}
 use Rattle.usage.specs.Limits.{policies}
@@ -18,10 +19,10 @@ use Rattle.usage.specs.Tests.{someOf, isPair}
 use Rattle.usage.proofs.TableLaws.{from-snoc}
 use Rattle.usage.proofs.ValidLaws.{decides-pair}
 use Rattle.automaton.specs.Mask.{has, union}
-use Rattle.automaton.proofs.MaskLaws.{maskOf-has}
+use Rattle.automaton.proofs.MaskLaws.{maskOf-has, same-test, all-below, all-below-at}
 use Rattle.automaton.proofs.RowLaws.{union-ext}
 use Rattle.monitor_sets.proofs.LaneLaws.{union-or}
-use Rattle.monitor_pairs.specs.Which.{pairSet, withEdge}
+use Rattle.monitor_pairs.specs.Which.{pairSet, withEdge, blocksOf}
 use Rattle.monitor_pairs.proofs.GatherLaws.{union-none, union-only}
 
 -- a policy is in the set exactly if it is a pair policy
@@ -75,7 +76,8 @@ module _ (es : List Edge) (e : Edge) where
   with-edge = go (eqb (e .on) 3) refl (ltb (e .policy) policies) refl ∙ sym joined
     where
       nothing : ((p : ℕ) → p < policies → test p e ≡ false) → pairSet es ≡ bitOr (pairSet es) (union policies adds)
-      nothing h = sym (ap (bitOr (pairSet es)) (union-none policies adds (λ p l. ap (λ (b : Bool). cond b (2 ^ p) 0) (h p l))) ∙ or-zero-r (pairSet es))
+      nothing h = sym (ap (bitOr (pairSet es)) (union-none policies adds (λ p l. ap (λ (b : Bool). cond b (2 ^ p) 0) (h p l)))
+          ∙ or-zero-r (pairSet es))
 
       go : (x : Bool) → eqb (e .on) 3 ≡ x → (y : Bool) → ltb (e .policy) policies ≡ y
           → cond (x && y) (bitOr (pairSet es) (2 ^ e .policy)) (pairSet es) ≡ bitOr (pairSet es) (union policies adds)
@@ -98,3 +100,40 @@ module _ (t : List ℕ) where
       ap (λ (u : ℕ). withEdge u (edgeAt t i)) e ∙ with-edge (from (edgeAt t) 0 i) (edgeAt t i)
       ∙ ap pairSet (ap (λ (j : ℕ). from (edgeAt t) 0 i ++ (edgeAt t j ∷ [])) (sym (zero-add i)) ∙ sym (from-snoc (edgeAt t) 0 i)
       ∙ ap (from (edgeAt t) 0) (sym (add-one i)))
+
+-- ── The two lowest ──
+
+-- p is in the set and none is below it; p is in it above the first, and none is between
+abbrev pub isFirst : ℕ → ℕ → Bool
+isFirst m p = has m p && all-below p (λ k. not (has m k))
+
+abbrev pub isSecond : ℕ → ℕ → Bool
+isSecond m p = has m p && (ltb (blocksOf m .first) p && all-below p (λ k. not (has m k) || eqb k (blocksOf m .first)))
+
+firsts : ℕ → Bool
+firsts m = all-below 8 (λ p. Bool·beq (isFirst m p) (eqb p (blocksOf m .first)))
+
+seconds : ℕ → Bool
+seconds m = all-below 8 (λ p. Bool·beq (isSecond m p) (eqb p (blocksOf m .second)))
+
+first-test : all-below 256 firsts ≡ true
+unfolding all-below firsts has blocksOf trailingZeros
+first-test = refl
+
+second-test : all-below 256 seconds ≡ true
+unfolding all-below seconds has blocksOf trailingZeros
+second-test = refl
+
+-- the first block is that of the lowest number in the set
+pub first-block : (m p : ℕ) → m < 256 → p < 8 → isFirst m p ≡ eqb p (blocksOf m .first)
+unfolding firsts
+first-block m p l h =
+    same-test (isFirst m p) (eqb p (blocksOf m .first))
+    (all-below-at 8 (λ p. Bool·beq (isFirst m p) (eqb p (blocksOf m .first))) (all-below-at 256 firsts first-test m l) p h)
+
+-- the second that of the lowest above it
+pub second-block : (m p : ℕ) → m < 256 → p < 8 → isSecond m p ≡ eqb p (blocksOf m .second)
+unfolding seconds
+second-block m p l h =
+    same-test (isSecond m p) (eqb p (blocksOf m .second))
+    (all-below-at 8 (λ p. Bool·beq (isSecond m p) (eqb p (blocksOf m .second))) (all-below-at 256 seconds second-test m l) p h)

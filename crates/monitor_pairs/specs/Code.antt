@@ -45,8 +45,8 @@ unfoldable pub lineMoved : List ℕ → List ℕ → List ℕ
 lineMoved rows line = from (λ j. moveBy rows 0 (getD line j 0)) 0 instances
 
 -- the row that starts at place k
-unfoldable pub rowOf : ℕ → List ℕ → List ℕ
-rowOf k sets = from (λ j. getD sets (k + j) 0) 0 instances
+unfoldable pub pairRow : ℕ → List ℕ → List ℕ
+pairRow k sets = from (λ j. getD sets (k + j) 0) 0 instances
 
 -- column `at` in the first n rows
 unfoldable pub columnOf : ℕ → ℕ → List ℕ → List ℕ
@@ -76,12 +76,14 @@ movedUp s n by sets = from (λ l. cond (leb s l && ltb l (s + n)) (getD sets (l 
 -- in the row that starts at place k, the second place `at` is retired
 unfoldable pub lineRetired : ℕ → ℕ → List ℕ → List ℕ
 lineRetired k at sets =
-    from (λ l. cond (leb k l && ltb l (k + instances)) (taken at (instances - 1) (λ j. getD sets (k + j) 0) (l - k)) (getD sets l 0)) 0 pairPlaces
+    from (λ l. cond (leb k l && ltb l (k + instances)) (taken at (instances - 1) (λ j. getD sets (k + j) 0) (l - k)) (getD sets l 0)) 0
+    pairPlaces
 
 -- so in the first n rows
 unfoldable pub columnsRetired : ℕ → ℕ → List ℕ → List ℕ
 columnsRetired at n sets =
-    from (λ k. cond (ltb (k / instances) n) (taken at (instances - 1) (pairAt sets (k / instances)) (k % instances)) (getD sets k 0)) 0 pairPlaces
+    from (λ k. cond (ltb (k / instances) n) (taken at (instances - 1) (pairAt sets (k / instances)) (k % instances)) (getD sets k 0)) 0
+    pairPlaces
 
 -- the eight rows of policy p in a table of all policies' rows
 unfoldable pub policyRows : List ℕ → ℕ → List ℕ

@@ -2,7 +2,7 @@
 -- is at i * instances + j. The first n places are in use. A place of y that is not in use has in each of the first n rows what that of the
 -- unseen ones has, as one more number that never occurred; a row that is not in use keeps its contents.
 use Prim.Native.Nat.{ℕ, _+_, _-_, _*_, _/_, _%_}
-use mathlib.Core.Bool.{Bool, true, false, _&&_, cond}
+use mathlib.Core.Bool.{Bool, true, false, cond}
 use mathlib.Core.List.{List}
 use lib.Bits.{bitOr}
 use lib.Dec.{eqb, ltb, leb}

@@ -31,8 +31,8 @@ TracksPairs local es p stands past n sets =
 unfoldable pub rowsFor : List Edge → ℕ → ℕ → ℕ → Bool → Bool → List ℕ
 rowsFor es p a r first second = from (λ q. image (firesAt p a r first second) es q) 0 states
 
-unfoldable pub waysOf : List Edge → ℕ → ℕ → ℕ → Ways
-waysOf es p a r = record {
+unfoldable pub eventWays : List Edge → ℕ → ℕ → ℕ → Ways
+eventWays es p a r = record {
   neither = rowsFor es p a r false false;
   first = rowsFor es p a r true false;
   second = rowsFor es p a r false true;

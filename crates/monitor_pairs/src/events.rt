@@ -9,12 +9,12 @@ use monitor_sets::INSTANCES;
 ghost use Prim.Native.Nat.{ℕ, _+_, _*_, _<_, _≤_};
 ghost use mathlib.Core.Path.{_≡_};
 ghost use mathlib.Core.Bool.{_&&_, cond};
-ghost use lib.Dec.{eqb, ltb, leb};
+ghost use lib.Dec.{ltb, leb};
 ghost use lib.ListN.{length, getD};
 ghost use Rattle.automaton.specs.Move.{moveBy};
 ghost use Rattle.monitor_sets.specs.Instances.{instances};
 ghost use Rattle.monitor_pairs.specs.Pairs.{pairPlaces, eventPairs};
-ghost use Rattle.monitor_pairs.specs.Code.{staysBy, lineMoved, rowOf, columnOf, rowPut, columnPut};
+ghost use Rattle.monitor_pairs.specs.Code.{staysBy, lineMoved, pairRow, columnOf, rowPut, columnPut};
 
 // A proof is told the length and the range of an array that is passed by value, and not of a lent one. Compiled, it copies nothing.
 pub(crate) fn known(sets: [u8; PAIRS])
@@ -79,7 +79,7 @@ fn move_line(line: [u8; INSTANCES], rows: [u8; 8]) -> [u8; INSTANCES]
 // The sets of the row that starts at place k.
 pub(crate) fn row_of(sets: &[u8; PAIRS], k: usize) -> [u8; INSTANCES]
     requires { ⌜ k + instances ≤ pairPlaces ⌝ }
-    ensures { λ r. ⌜ r ≡ rowOf k (now (sets .entry)) ⌝ }
+    ensures { λ r. ⌜ r ≡ pairRow k (now (sets .entry)) ⌝ }
 {
     let mut row = [0u8; INSTANCES];
     let mut j: usize = 0;

@@ -64,7 +64,9 @@ fn move_by_two(x: u8, keep: u8, low: u8, lows: u8, high: u8, highs: u8) -> u8
 
 // Do the two states move each state as the eight rows do?
 fn agrees(two: Two, rows: [u8; 8]) -> bool
-    ensures { λ r. ⌜ (r ≡ true → (q : ℕ) → q < states → twoMoved (two .keep) (two .low) (two .lows) (two .high) (two .highs) (2 ^ q) ≡ getD rows q 0) ⌝ }
+    ensures { λ r.
+        ⌜ (r ≡ true → (q : ℕ) → q < states
+        → twoMoved (two .keep) (two .low) (two .lows) (two .high) (two .highs) (2 ^ q) ≡ getD rows q 0) ⌝ }
 {
     let mut q: usize = 0;
     while q < 8 {

@@ -5,7 +5,7 @@ ghost use mathlib.Core.Path.{_≡_};
 ghost use lib.ListN.{length};
 ghost use Rattle.usage.specs.Limits.{edgeFields};
 ghost use Rattle.usage.specs.Tables.{edgeAt, edgesOf};
-ghost use Rattle.monitor_pairs.specs.Which.{pairSet, withEdge};
+ghost use Rattle.monitor_pairs.specs.Which.{pairSet, withEdge, blocksOf};
 
 // The policy of edge i joined to a set of policies, where the edge is about the second resource.
 fn join_edge(m: u8, edges: &[u8], i: usize) -> u8
@@ -35,4 +35,25 @@ pub fn pair_set(edges: &[u8]) -> u8
         i += 1;
     }
     m
+}
+
+// The policies that the two blocks of sets belong to, the lowest first; POLICIES where there is none.
+pub struct Blocks {
+    pub first: u32,
+    pub second: u32,
+}
+
+pub fn lowest_two(edges: &[u8]) -> Blocks
+    ensures { λ r. ⌜ r ≡ blocksOf (pairSet (edgesOf (now (edges .entry)))) ⌝ }
+{
+    let m = pair_set(edges);
+    let first = u8::trailing_zeros(m);
+    if m == 0 {
+        return Blocks {
+            first,
+            second: first,
+        };
+    }
+    let second = u8::trailing_zeros(m & (m - 1));
+    Blocks { first, second }
 }

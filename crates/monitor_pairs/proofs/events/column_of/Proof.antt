@@ -1,22 +1,13 @@
-use Prim.Native.Nat.{ℕ, suc, _+_, _-_, _*_, _/_, _≤_, _<_}
-use mathlib.Core.Path.{_≡_, refl, sym, ap, _∙_}
-use mathlib.Core.Bool.{cond}
-use mathlib.Core.List.{List, [], _∷_}
+use Prim.Native.Nat.{_-_, _≤_}
+use mathlib.Core.Path.{_≡_, refl}
 use native.Mathlib.Omega.{arith}
-use lib.Dec.{ltb}
-use lib.ListN.{length, getD, set, length-set}
-use Rattle.automaton.specs.Move.{moveBy}
-use Rattle.automaton.proofs.RowLaws.{moveBy-held}
 use Rattle.monitor_sets.specs.Instances.{instances}
-use Rattle.monitor_pairs.specs.Pairs.{pairPlaces, pairAt}
-use Rattle.monitor_pairs.specs.Code.{runMoved, lineMoved, rowOf, columnOf, rowPut, columnPut, staysBy}
-use Rattle.monitor_pairs.proofs.RunLaws.{filled, filled-none, filled-zeros, filled-next, filled-more, filled-all, filled-length, same-from}
-use Rattle.monitor_pairs.proofs.RunLaws.{span, span-none, span-more, column, column-none, column-more}
+use Rattle.monitor_pairs.specs.Pairs.{pairAt}
+use Rattle.monitor_pairs.specs.Code.{columnOf}
+use Rattle.monitor_pairs.proofs.RunLaws.{filled, filled-zeros, filled-more, column}
 use borrow.Author.Needs.{needs}
 use Rattle.monitor_pairs.proofs.events.column_of.Statement.{statement}
 use Rattle.monitor_pairs.proofs.events.column_of.Tie as tie
-use Rattle.monitor_pairs.proofs.events.column_of.Reads as reads
-use Rattle.monitor_pairs.proofs.events.column_of.Lts as lts
 
 abbrev Inv-loop : tie.InvT-loop
 Inv-loop sets n at column₀ i₀ column i =

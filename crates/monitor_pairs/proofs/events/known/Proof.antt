@@ -3,11 +3,8 @@ use lib.ListN.{getD}
 use borrow.Author.Needs.{needs}
 use mir.Val.{Fits}
 use mir.Syntax.{w8}
-use borrow.Author.Needs.{needs}
 use Rattle.monitor_pairs.proofs.events.known.Statement.{statement}
 use Rattle.monitor_pairs.proofs.events.known.Tie as tie
-use Rattle.monitor_pairs.proofs.events.known.Reads as reads
-use Rattle.monitor_pairs.proofs.events.known.Lts as lts
 
 returns : tie.Need-returns
 returns c =

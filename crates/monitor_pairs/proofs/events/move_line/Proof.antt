@@ -1,23 +1,16 @@
-use Prim.Native.Nat.{ℕ, suc, _+_, _-_, _*_, _/_, _≤_, _<_}
-use mathlib.Core.Path.{_≡_, refl, sym, ap, _∙_}
-use mathlib.Core.Bool.{cond}
+use Prim.Native.Nat.{ℕ, _-_, _≤_}
+use mathlib.Core.Path.{_≡_, refl, sym, _∙_}
 use mathlib.Core.List.{List, [], _∷_}
 use native.Mathlib.Omega.{arith}
-use lib.Dec.{ltb}
-use lib.ListN.{length, getD, set, length-set}
+use lib.ListN.{getD}
 use Rattle.automaton.specs.Move.{moveBy}
 use Rattle.automaton.proofs.RowLaws.{moveBy-held}
 use Rattle.monitor_sets.specs.Instances.{instances}
-use Rattle.monitor_pairs.specs.Pairs.{pairPlaces, pairAt}
-use Rattle.monitor_pairs.specs.Code.{runMoved, lineMoved, rowOf, columnOf, rowPut, columnPut, staysBy}
-use Rattle.monitor_pairs.proofs.RunLaws.{filled, filled-none, filled-zeros, filled-next, filled-more, filled-all, filled-length, same-from}
-use Rattle.monitor_pairs.proofs.RunLaws.{span, span-none, span-more, column, column-none, column-more}
+use Rattle.monitor_pairs.specs.Code.{lineMoved}
+use Rattle.monitor_pairs.proofs.RunLaws.{filled, filled-zeros, filled-more, filled-all, same-from}
 use borrow.Author.Needs.{needs}
 use Rattle.monitor_pairs.proofs.events.move_line.Statement.{statement}
 use Rattle.monitor_pairs.proofs.events.move_line.Tie as tie
-use Rattle.monitor_pairs.proofs.events.move_line.Reads as reads
-use Rattle.monitor_pairs.proofs.events.move_line.Lts as lts
-use Rattle.automaton.proofs.move_by_rows.Reads as move-by-rows-reads
 
 abbrev Inv-loop : tie.InvT-loop
 Inv-loop line moved₀ a b c d e f g h i₀ moved i =
@@ -77,8 +70,11 @@ loop-again c =
     let s = c .before .before .before in
     let w = s .args .t2 in
     let rows : List ℕ = getD w 0 0 ∷ getD w 1 0 ∷ getD w 2 0 ∷ getD w 3 0 ∷ getD w 4 0 ∷ getD w 5 0 ∷ getD w 6 0 ∷ getD w 7 0 ∷ [] in
-    let t = c .before .before .loop in
-    (search needs, rw (t .inv .1) (filled-more (λ j. moveBy rows 0 (getD (s .args .t1) j 0)) (λ j. 0) instances (t .i) _ (omega arith) (c .move-by-rows .ensures)))
+    let t = c .before .before .loop in (
+      search needs,
+      rw (t .inv .1) (filled-more (λ j. moveBy rows 0 (getD (s .args .t1) j 0)) (λ j. 0) instances (t .i) _ (omega arith)
+          (c .move-by-rows .ensures)),
+    )
 
 returns : tie.Need-returns Inv-loop μ-loop
 unfolding lineMoved

@@ -1,24 +1,14 @@
-use Prim.Native.Nat.{ℕ, _*_, _+_}
-use mathlib.Core.Path.{_≡_, refl, sym, ap, ap₂, _∙_}
+use Prim.Native.Nat.{ℕ, _*_}
+use mathlib.Core.Path.{ap, ap₂, _∙_}
 use mathlib.Core.List.{List}
-use lib.ListN.{getD, set}
+use lib.ListN.{set}
 use native.Mathlib.Omega.{arith}
-use Rattle.automaton.specs.Move.{moveBy}
 use Rattle.monitor_sets.specs.Instances.{instances}
-use Rattle.monitor_pairs.specs.Code.{runMoved, lineMoved, rowOf, columnOf, rowPut, columnPut}
+use Rattle.monitor_pairs.specs.Code.{lineMoved, rowPut, columnPut}
 use Rattle.monitor_pairs.proofs.EventLaws.{event-made}
 use borrow.Author.Needs.{needs}
 use Rattle.monitor_pairs.proofs.events.move_rows.Statement.{statement}
 use Rattle.monitor_pairs.proofs.events.move_rows.Tie as tie
-use Rattle.monitor_pairs.proofs.events.move_rows.Reads as reads
-use Rattle.monitor_pairs.proofs.events.move_rows.Lts as lts
-use Rattle.monitor_pairs.proofs.events.column_of.Reads as column-of-reads
-use Rattle.monitor_pairs.proofs.events.move_line.Reads as move-line-reads
-use Rattle.monitor_pairs.proofs.runs.move_run.Reads as move-run-reads
-use Rattle.monitor_pairs.proofs.events.moved.Reads as moved-reads
-use Rattle.monitor_pairs.proofs.events.put_column.Reads as put-column-reads
-use Rattle.monitor_pairs.proofs.events.put_row.Reads as put-row-reads
-use Rattle.monitor_pairs.proofs.events.row_of.Reads as row-of-reads
 
 mul-k : tie.Need-mul-k
 mul-k c = search needs
@@ -61,13 +51,19 @@ put-column-requires c κs = search needs
 
 returns : tie.Need-returns
 returns c =
-    let s = c .before .before .before .before .before .before .before .before .before .before .before .before .before .before .before .before .before .before .before .before in
+    let s = c .before .before .before .before .before .before .before .before .before .before .before .before .before .before .before
+    .before .before .before .before .before in
     let a = s .args in
     let l = a .sets .now in
     let k : ℕ = a .at * instances in
-    let row = c .before .before .before .before .before .before .before .before .before .before .before .move-line .ensures ∙ ap (lineMoved (a .ways .first)) (c .before .before .before .before .before .before .before .before .before .before .before .before .row-of .ensures) in
-    let line = c .before .before .before .before .before .before .before .before .move-line2 .ensures ∙ ap (lineMoved (a .ways .second)) (c .before .before .before .before .before .before .before .before .before .column-of .ensures) in
-    let own = c .before .before .before .before .before .before .before .before .before .before .before .before .before .before .moved .ensures in
+    let row = c .before .before .before .before .before .before .before .before .before .before .before .move-line .ensures
+    ∙ ap (lineMoved (a .ways .first)) (c .before .before .before .before .before .before .before .before .before .before .before
+    .before .row-of .ensures) in
+    let line = c .before .before .before .before .before .before .before .before .move-line2 .ensures
+    ∙ ap (lineMoved (a .ways .second)) (c .before .before .before .before .before .before .before .before .before .column-of
+    .ensures) in
+    let own = c .before .before .before .before .before .before .before .before .before .before .before .before .before .before .moved
+    .ensures in
     c .put-column .ensures .0
     ∙ ap₂ (λ (u v : List ℕ). columnPut (a .at) u (a .n) v) (ap₂ (λ (u : List ℕ) (v : ℕ). set u (a .at) v) line own)
     (c .before .before .before .put-row .ensures .0

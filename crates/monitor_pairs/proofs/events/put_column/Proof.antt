@@ -1,22 +1,15 @@
-use Prim.Native.Nat.{ℕ, suc, _+_, _-_, _*_, _/_, _≤_, _<_}
+use Prim.Native.Nat.{ℕ, _+_, _-_, _*_, _/_, _≤_}
 use mathlib.Core.Path.{_≡_, refl, sym, ap, _∙_}
-use mathlib.Core.Bool.{cond}
-use mathlib.Core.List.{List, [], _∷_}
+use mathlib.Core.List.{List}
 use native.Mathlib.Omega.{arith}
-use lib.Dec.{ltb}
 use lib.ListN.{length, getD, set, length-set}
-use Rattle.automaton.specs.Move.{moveBy}
-use Rattle.automaton.proofs.RowLaws.{moveBy-held}
 use Rattle.monitor_sets.specs.Instances.{instances}
-use Rattle.monitor_pairs.specs.Pairs.{pairPlaces, pairAt}
-use Rattle.monitor_pairs.specs.Code.{runMoved, lineMoved, rowOf, columnOf, rowPut, columnPut, staysBy}
-use Rattle.monitor_pairs.proofs.RunLaws.{filled, filled-none, filled-zeros, filled-next, filled-more, filled-all, filled-length, same-from}
-use Rattle.monitor_pairs.proofs.RunLaws.{span, span-none, span-more, column, column-none, column-more}
+use Rattle.monitor_pairs.specs.Pairs.{pairPlaces}
+use Rattle.monitor_pairs.specs.Code.{columnPut}
+use Rattle.monitor_pairs.proofs.RunLaws.{column, column-none, column-more}
 use borrow.Author.Needs.{needs}
 use Rattle.monitor_pairs.proofs.events.put_column.Statement.{statement}
 use Rattle.monitor_pairs.proofs.events.put_column.Tie as tie
-use Rattle.monitor_pairs.proofs.events.put_column.Reads as reads
-use Rattle.monitor_pairs.proofs.events.put_column.Lts as lts
 
 abbrev Inv-loop : tie.InvT-loop
 Inv-loop sets₀ n at line i₀ sets i =
@@ -26,7 +19,14 @@ abbrev μ-loop : tie.MeasureT-loop
 μ-loop sets₀ n at line i₀ sets i = n - i
 
 loop-holds : tie.Need-loop-holds Inv-loop μ-loop
-loop-holds c = (search needs, (c .pre .0, column-none (c .args .at) (λ k. getD (c .args .column .now) (k / instances) 0) (λ k. getD (c .args .sets .now) k 0) _ (c .pre .0) (λ l b. refl)))
+loop-holds c = (
+  search needs,
+  (
+    c .pre .0,
+    column-none (c .args .at) (λ k. getD (c .args .column .now) (k / instances) 0) (λ k. getD (c
+        .args .sets .now) k 0) _ (c .pre .0) (λ l b. refl),
+  ),
+)
 
 element-copy-out-sets : tie.Need-element-copy-out-sets Inv-loop μ-loop
 element-copy-out-sets c = search needs

@@ -1,22 +1,13 @@
-use Prim.Native.Nat.{ℕ, suc, _+_, _-_, _*_, _/_, _≤_, _<_}
-use mathlib.Core.Path.{_≡_, refl, sym, ap, _∙_}
-use mathlib.Core.Bool.{cond}
-use mathlib.Core.List.{List, [], _∷_}
+use Prim.Native.Nat.{_+_, _-_, _≤_}
+use mathlib.Core.Path.{_≡_, refl, _∙_}
 use native.Mathlib.Omega.{arith}
-use lib.Dec.{ltb}
-use lib.ListN.{length, getD, set, length-set}
-use Rattle.automaton.specs.Move.{moveBy}
-use Rattle.automaton.proofs.RowLaws.{moveBy-held}
+use lib.ListN.{getD}
 use Rattle.monitor_sets.specs.Instances.{instances}
-use Rattle.monitor_pairs.specs.Pairs.{pairPlaces, pairAt}
-use Rattle.monitor_pairs.specs.Code.{runMoved, lineMoved, rowOf, columnOf, rowPut, columnPut, staysBy}
-use Rattle.monitor_pairs.proofs.RunLaws.{filled, filled-none, filled-zeros, filled-next, filled-more, filled-all, filled-length, same-from}
-use Rattle.monitor_pairs.proofs.RunLaws.{span, span-none, span-more, column, column-none, column-more}
+use Rattle.monitor_pairs.specs.Code.{pairRow}
+use Rattle.monitor_pairs.proofs.RunLaws.{filled, filled-zeros, filled-more, filled-all}
 use borrow.Author.Needs.{needs}
 use Rattle.monitor_pairs.proofs.events.row_of.Statement.{statement}
 use Rattle.monitor_pairs.proofs.events.row_of.Tie as tie
-use Rattle.monitor_pairs.proofs.events.row_of.Reads as reads
-use Rattle.monitor_pairs.proofs.events.row_of.Lts as lts
 
 abbrev Inv-loop : tie.InvT-loop
 Inv-loop sets k row₀ j₀ row j =
@@ -50,7 +41,7 @@ loop-again c =
     (search needs, rw (t .inv .1) (filled-more (λ i. getD (a .sets .now) (a .k + i) 0) (λ i. 0) instances (t .j) _ (omega arith) refl))
 
 returns : tie.Need-returns Inv-loop μ-loop
-unfolding rowOf
+unfolding pairRow
 returns c =
     let a = c .before .before .args in
     let t = c .before .loop in

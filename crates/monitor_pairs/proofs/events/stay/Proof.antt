@@ -1,23 +1,8 @@
-use Prim.Native.Nat.{ℕ, suc, _+_, _-_, _*_, _/_, _≤_, _<_}
-use mathlib.Core.Path.{_≡_, refl, sym, ap, _∙_}
-use mathlib.Core.Bool.{cond}
-use mathlib.Core.List.{List, [], _∷_}
-use native.Mathlib.Omega.{arith}
-use lib.Dec.{ltb}
-use lib.ListN.{length, getD, set, length-set}
-use Rattle.automaton.specs.Move.{moveBy}
-use Rattle.automaton.proofs.RowLaws.{moveBy-held}
-use Rattle.monitor_sets.specs.Instances.{instances}
-use Rattle.monitor_pairs.specs.Pairs.{pairPlaces, pairAt}
-use Rattle.monitor_pairs.specs.Code.{runMoved, lineMoved, rowOf, columnOf, rowPut, columnPut, staysBy}
-use Rattle.monitor_pairs.proofs.RunLaws.{filled, filled-none, filled-zeros, filled-next, filled-more, filled-all, filled-length, same-from}
-use Rattle.monitor_pairs.proofs.RunLaws.{span, span-none, span-more, column, column-none, column-more}
+use Prim.Native.Nat.{_-_}
+use Rattle.monitor_pairs.specs.Code.{staysBy}
 use borrow.Author.Needs.{needs}
 use Rattle.monitor_pairs.proofs.events.stay.Statement.{statement}
 use Rattle.monitor_pairs.proofs.events.stay.Tie as tie
-use Rattle.monitor_pairs.proofs.events.stay.Reads as reads
-use Rattle.monitor_pairs.proofs.events.stay.Lts as lts
-use Rattle.automaton.proofs.stays.Reads as stays-reads
 
 array-read-stays : tie.Need-array-read-stays
 array-read-stays c = search needs

@@ -4,11 +4,6 @@ use Rattle.monitor_pairs.proofs.GatherLaws.{stays-event}
 use borrow.Author.Needs.{needs}
 use Rattle.monitor_pairs.proofs.events.take_event.Statement.{statement}
 use Rattle.monitor_pairs.proofs.events.take_event.Tie as tie
-use Rattle.monitor_pairs.proofs.events.take_event.Reads as reads
-use Rattle.monitor_pairs.proofs.events.take_event.Lts as lts
-use Rattle.monitor_pairs.proofs.events.known.Reads as known-reads
-use Rattle.monitor_pairs.proofs.events.move_rows.Reads as move-rows-reads
-use Rattle.monitor_pairs.proofs.gathering.all_stay.Reads as all-stay-reads
 
 returns : tie.Need-returns
 returns c = simp (lt-leb _ _ (c .if1 .taken))
@@ -27,13 +22,20 @@ returns-3 c =
     let a = c .before .before .before .before .before .before .args in
     let known = c .before .before .known .ensures in
     stays-event (a .ways) (sym (c .before .all-stay .ensures) ∙ c .if3 .taken) (a .at) (a .n) (a .sets .now) (known .0) (known .1)
-    ∙ sym (simp (le-leb _ _ (c .before .before .before .before .before .if1 .left), lt-ltb _ _ (c .before .before .before .before .if2 .left)))
+    ∙ sym (simp (
+      le-leb _ _ (c .before .before .before .before .before .if1 .left),
+      lt-ltb _ _ (c .before .before .before .before .if2
+          .left),
+    ))
 
 move-rows-requires : tie.Need-move-rows-requires
 move-rows-requires c κs = search needs
 
 returns-4 : tie.Need-returns-4
-returns-4 c = c .move-rows .ensures ∙ sym (simp (le-leb _ _ (c .before .before .before .before .before .before .before .if1 .left), lt-ltb _ _ (c .before .before .before .before .before .before .if2 .left)))
+returns-4 c = c .move-rows .ensures ∙ sym (simp (
+  le-leb _ _ (c .before .before .before .before .before .before .before .if1 .left),
+  lt-ltb _ _ (c .before .before .before .before .before .before .if2 .left),
+))
 
 pub take-event-spec : {M : Type 1} → statement M
 take-event-spec =

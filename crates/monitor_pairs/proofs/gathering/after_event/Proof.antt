@@ -1,29 +1,13 @@
-use Prim.Native.Nat.{ℕ, suc, _+_, _-_, _*_, _/_, _≤_, _<_}
-use mathlib.Core.Path.{_≡_, refl, sym, ap, ap₂, _∙_}
-use mathlib.Core.Bool.{Bool, true, false, cond}
-use mathlib.Core.List.{List}
+use Prim.Native.Nat.{_-_}
+use mathlib.Core.Path.{sym, _∙_}
 use native.Mathlib.Omega.{arith}
-use lib.Bits.{bitOr}
-use lib.Dec.{ltb}
-use lib.ListN.{length, getD, set, length-set}
-use Rattle.automaton.specs.Mask.{union}
-use Rattle.monitor_sets.specs.Instances.{instances}
-use Rattle.monitor_sets.proofs.SetLaws.{union-more}
-use Rattle.monitor_pairs.specs.Pairs.{pairPlaces, pairAt}
-use Rattle.monitor_pairs.specs.Code.{staysAll, rowJoined, besideColumns}
-use Rattle.monitor_pairs.proofs.RunLaws.{filled, filled-none, filled-zeros, filled-next, filled-more, filled-all, filled-length, same-from}
+use lib.ListN.{getD}
 use borrow.Author.Tests.{le-leb, lt-leb, lt-ltb, le-ltb}
-use Rattle.monitor_pairs.specs.Pairs.{gatherPairs, eventPairs}
+use Rattle.monitor_pairs.specs.Pairs.{gatherPairs}
 use Rattle.monitor_pairs.proofs.GatherLaws.{union-rows, stays-gathered}
 use borrow.Author.Needs.{needs}
 use Rattle.monitor_pairs.proofs.gathering.after_event.Statement.{statement}
 use Rattle.monitor_pairs.proofs.gathering.after_event.Tie as tie
-use Rattle.monitor_pairs.proofs.gathering.after_event.Reads as reads
-use Rattle.monitor_pairs.proofs.gathering.after_event.Lts as lts
-use Rattle.monitor_pairs.proofs.events.known.Reads as known-reads
-use Rattle.monitor_pairs.proofs.gathering.after_rows.Reads as after-rows-reads
-use Rattle.monitor_pairs.proofs.gathering.all_stay.Reads as all-stay-reads
-use Rattle.monitor_pairs.proofs.gathering.union_run.Reads as union-run-reads
 
 returns : tie.Need-returns
 returns c = simp (lt-leb _ _ (c .if1 .taken))
@@ -49,14 +33,23 @@ returns-3 c =
     let a = c .before .before .before .before .before .before .before .args in
     let l = a .sets .now in
     c .union-run .ensures ∙ union-rows (a .n) (λ k. getD l k 0)
-    ∙ stays-gathered (a .ways) (sym (c .before .before .before .before .all-stay .ensures) ∙ c .before .before .before .if3 .taken) (a .at) (a .n) l (omega arith) (c .before .known .ensures .1)
-    ∙ sym (simp (le-leb _ _ (c .before .before .before .before .before .before .if1 .left), lt-ltb _ _ (c .before .before .before .before .before .if2 .left)))
+    ∙ stays-gathered (a .ways) (sym (c .before .before .before .before .all-stay .ensures)
+    ∙ c .before .before .before .if3 .taken) (a .at) (a .n) l (omega arith) (c .before .known .ensures .1)
+    ∙ sym (simp (
+      le-leb _ _ (c .before .before .before .before .before .before .if1 .left),
+      lt-ltb _ _ (c .before .before .before
+          .before .before .if2 .left),
+    ))
 
 after-rows-requires : tie.Need-after-rows-requires
 after-rows-requires c κs = search needs
 
 returns-4 : tie.Need-returns-4
-returns-4 c = c .after-rows .ensures ∙ sym (simp (le-leb _ _ (c .before .before .before .before .if1 .left), lt-ltb _ _ (c .before .before .before .if2 .left)))
+returns-4 c = c .after-rows .ensures ∙ sym (simp (
+  le-leb _ _ (c .before .before .before .before .if1 .left),
+  lt-ltb _ _ (c .before
+      .before .before .if2 .left),
+))
 
 pub after-event-spec : {M : Type 1} → statement M
 after-event-spec =

@@ -1,28 +1,16 @@
-use Prim.Native.Nat.{ℕ, suc, _+_, _-_, _*_, _/_, _≤_, _<_}
-use mathlib.Core.Path.{_≡_, refl, sym, ap, ap₂, _∙_}
-use mathlib.Core.Bool.{Bool, true, false, cond}
+use Prim.Native.Nat.{ℕ, _-_, _≤_, _<_}
+use mathlib.Core.Path.{sym, ap, ap₂, _∙_}
 use mathlib.Core.List.{List}
 use native.Mathlib.Omega.{arith}
 use lib.Bits.{bitOr}
-use lib.Dec.{ltb}
-use lib.ListN.{length, getD, set, length-set}
+use lib.ListN.{getD, set}
 use Rattle.automaton.specs.Mask.{union}
 use Rattle.monitor_sets.specs.Instances.{instances}
-use Rattle.monitor_sets.proofs.SetLaws.{union-more}
-use Rattle.monitor_pairs.specs.Pairs.{pairPlaces, pairAt}
-use Rattle.monitor_pairs.specs.Code.{staysAll, rowJoined, besideColumns}
-use Rattle.monitor_pairs.proofs.RunLaws.{filled, filled-none, filled-zeros, filled-next, filled-more, filled-all, filled-length, same-from}
 use Rattle.automaton.specs.Move.{moveBy}
 use Rattle.monitor_pairs.proofs.GatherLaws.{four-parts, neither-joined, first-joined, second-joined, both-joined}
 use borrow.Author.Needs.{needs}
 use Rattle.monitor_pairs.proofs.gathering.after_rows.Statement.{statement}
 use Rattle.monitor_pairs.proofs.gathering.after_rows.Tie as tie
-use Rattle.monitor_pairs.proofs.gathering.after_rows.Reads as reads
-use Rattle.monitor_pairs.proofs.gathering.after_rows.Lts as lts
-use Rattle.monitor_pairs.proofs.events.moved.Reads as moved-reads
-use Rattle.monitor_pairs.proofs.events.row_of.Reads as row-of-reads
-use Rattle.monitor_pairs.proofs.gathering.columns_beside.Reads as columns-beside-reads
-use Rattle.monitor_pairs.proofs.gathering.union_line.Reads as union-line-reads
 
 columns-beside-requires : tie.Need-columns-beside-requires
 columns-beside-requires c κs = search needs
@@ -72,7 +60,8 @@ returns c =
     let m : a .at < a .n = omega arith in
     let line = c .before .before .before .before .before .before .before .columns-beside .ensures in
     let row = c .before .before .before .before .before .before .row-of .ensures in
-    let neither = c .before .before .before .before .moved .ensures ∙ ap (moveBy (w .neither) 0) (c .before .before .before .before .before .union-line .ensures
+    let neither = c .before .before .before .before .moved .ensures ∙ ap (moveBy (w .neither) 0) (c .before .before .before .before
+    .before .union-line .ensures
     ∙ ap (λ (u : List ℕ). union instances (λ j. getD (set u (a .at) 0) j 0)) line ∙ neither-joined w (a .at) (a .n) l n m) in
     let first = c .before .before .moved2 .ensures ∙ ap (moveBy (w .first) 0) (c .before .before .before .union-line2 .ensures
     ∙ ap (λ (u : List ℕ). union instances (λ j. getD (set u (a .at) 0) j 0)) row ∙ first-joined w (a .at) (a .n) l n m) in

@@ -1,26 +1,14 @@
-use Prim.Native.Nat.{ℕ, suc, _+_, _-_, _*_, _/_, _≤_, _<_}
-use mathlib.Core.Path.{_≡_, refl, sym, ap, ap₂, _∙_}
-use mathlib.Core.Bool.{Bool, true, false, cond}
-use mathlib.Core.List.{List}
+use Prim.Native.Nat.{_-_, _*_, _≤_}
+use mathlib.Core.Path.{_≡_, ap, _∙_}
 use native.Mathlib.Omega.{arith}
-use lib.Bits.{bitOr}
-use lib.Dec.{ltb}
-use lib.ListN.{length, getD, set, length-set}
-use Rattle.automaton.specs.Mask.{union}
+use lib.ListN.{length}
 use Rattle.monitor_sets.specs.Instances.{instances}
-use Rattle.monitor_sets.proofs.SetLaws.{union-more}
-use Rattle.monitor_pairs.specs.Pairs.{pairPlaces, pairAt}
-use Rattle.monitor_pairs.specs.Code.{staysAll, rowJoined, besideColumns}
-use Rattle.monitor_pairs.proofs.RunLaws.{filled, filled-none, filled-zeros, filled-next, filled-more, filled-all, filled-length, same-from}
-use borrow.Author.Tests.{eq-eqb, ne-eqb}
+use Rattle.monitor_pairs.specs.Code.{rowJoined, besideColumns}
 use Rattle.usage.proofs.Logic.{by-cases}
 use Rattle.monitor_pairs.proofs.GatherLaws.{beside-none, beside-length, beside-row, beside-own}
 use borrow.Author.Needs.{needs}
 use Rattle.monitor_pairs.proofs.gathering.columns_beside.Statement.{statement}
 use Rattle.monitor_pairs.proofs.gathering.columns_beside.Tie as tie
-use Rattle.monitor_pairs.proofs.gathering.columns_beside.Reads as reads
-use Rattle.monitor_pairs.proofs.gathering.columns_beside.Lts as lts
-use Rattle.monitor_pairs.proofs.gathering.join_row.Reads as join-row-reads
 
 abbrev Inv-loop : tie.InvT-loop
 Inv-loop sets n at line₀ i₀ line i =
@@ -53,7 +41,8 @@ loop-again c =
     let t = c .before .before .loop in (
       search needs,
       by-cases (c .if1 .came)
-          (λ w. w .3 ∙ w .2 .ensures .1 ∙ ap (rowJoined (t .i * instances) (a .sets .now)) (t .inv .1) ∙ beside-row (a .at) (a .sets .now) (t .i) (w .0 .taken))
+          (λ w. w .3 ∙ w .2 .ensures .1 ∙ ap (rowJoined (t .i * instances) (a .sets .now)) (t .inv .1)
+          ∙ beside-row (a .at) (a .sets .now) (t .i) (w .0 .taken))
           (λ w. w .1 ∙ t .inv .1 ∙ beside-own (a .at) (a .sets .now) (t .i) (w .0 .left)),
     )
 

@@ -1,22 +1,15 @@
-use Prim.Native.Nat.{ℕ, suc, _+_, _-_, _*_, _/_, _≤_, _<_}
-use mathlib.Core.Path.{_≡_, refl, sym, ap, ap₂, _∙_}
-use mathlib.Core.Bool.{Bool, true, false, cond}
+use Prim.Native.Nat.{ℕ, _+_, _-_, _≤_, _<_}
+use mathlib.Core.Path.{_≡_, refl, ap, _∙_}
 use mathlib.Core.List.{List}
 use native.Mathlib.Omega.{arith}
 use lib.Bits.{bitOr}
-use lib.Dec.{ltb}
 use lib.ListN.{length, getD, set, length-set}
-use Rattle.automaton.specs.Mask.{union}
 use Rattle.monitor_sets.specs.Instances.{instances}
-use Rattle.monitor_sets.proofs.SetLaws.{union-more}
-use Rattle.monitor_pairs.specs.Pairs.{pairPlaces, pairAt}
-use Rattle.monitor_pairs.specs.Code.{staysAll, rowJoined, besideColumns}
-use Rattle.monitor_pairs.proofs.RunLaws.{filled, filled-none, filled-zeros, filled-next, filled-more, filled-all, filled-length, same-from}
+use Rattle.monitor_pairs.specs.Code.{rowJoined}
+use Rattle.monitor_pairs.proofs.RunLaws.{filled, filled-none, filled-next, filled-more, filled-all}
 use borrow.Author.Needs.{needs}
 use Rattle.monitor_pairs.proofs.gathering.join_row.Statement.{statement}
 use Rattle.monitor_pairs.proofs.gathering.join_row.Tie as tie
-use Rattle.monitor_pairs.proofs.gathering.join_row.Reads as reads
-use Rattle.monitor_pairs.proofs.gathering.join_row.Lts as lts
 
 abbrev Inv-loop : tie.InvT-loop
 Inv-loop line₀ sets k j₀ line j =
@@ -31,8 +24,14 @@ loop-holds : tie.Need-loop-holds Inv-loop μ-loop
 loop-holds c =
     let l = c .args .line .now in
     let s = c .args .sets .now in
-    let k = c .args .k in
-    (search needs, (c .pre .0, filled-none (λ j. bitOr (getD l j 0) (getD s (k + j) 0)) (λ j. getD l j 0) instances l (c .pre .0) (λ j b. refl)))
+    let k = c .args .k in (
+      search needs,
+      (
+        c .pre .0,
+        filled-none (λ j. bitOr (getD l j 0) (getD s (k + j) 0)) (λ j. getD l j 0) instances l (c .pre .0) (λ j
+            b. refl),
+      ),
+    )
 
 element-copy-out-line : tie.Need-element-copy-out-line Inv-loop μ-loop
 element-copy-out-line c = search needs
@@ -62,7 +61,8 @@ loop-again c =
     let f : ℕ → ℕ = λ j. bitOr (getD l j 0) (getD s (k + j) 0) in
     let g : ℕ → ℕ = λ j. getD l j 0 in
     let h : t .j < instances = omega arith in
-    let e : getD (t .line) (t .j) 0 ≡ g (t .j) = ap (λ (u : List ℕ). getD u (t .j) 0) (t .inv .1 .1) ∙ filled-next f g instances (t .j) h in (
+    let e : getD (t .line) (t .j) 0 ≡ g (t .j) = ap (λ (u : List ℕ). getD u (t .j) 0) (t .inv .1 .1)
+    ∙ filled-next f g instances (t .j) h in (
       search needs,
       (
         length-set (t .line) _ _ ∙ t .inv .1 .0,
@@ -78,8 +78,11 @@ returns c =
     let t = c .before .loop in
     let l = a .line .now in
     let s = a .sets .now in
-    let k = a .k in
-    (t .inv .1 .0, t .inv .1 .1 ∙ filled-all (λ j. bitOr (getD l j 0) (getD s (k + j) 0)) (λ j. getD l j 0) instances (t .j) (omega arith))
+    let k = a .k in (
+      t .inv .1 .0,
+      t .inv .1 .1 ∙ filled-all (λ j. bitOr (getD l j 0) (getD s (k + j) 0)) (λ j. getD l j 0) instances (t .j) (omega
+          arith),
+    )
 
 pub join-row-spec : {M : Type 1} → statement M
 join-row-spec =

@@ -1,22 +1,13 @@
-use Prim.Native.Nat.{ℕ, suc, _+_, _-_, _*_, _/_, _≤_, _<_}
-use mathlib.Core.Path.{_≡_, refl, sym, ap, ap₂, _∙_}
-use mathlib.Core.Bool.{Bool, true, false, cond}
-use mathlib.Core.List.{List}
+use Prim.Native.Nat.{_-_, _≤_}
+use mathlib.Core.Path.{_≡_, refl}
 use native.Mathlib.Omega.{arith}
-use lib.Bits.{bitOr}
-use lib.Dec.{ltb}
-use lib.ListN.{length, getD, set, length-set}
+use lib.ListN.{getD}
 use Rattle.automaton.specs.Mask.{union}
 use Rattle.monitor_sets.specs.Instances.{instances}
 use Rattle.monitor_sets.proofs.SetLaws.{union-more}
-use Rattle.monitor_pairs.specs.Pairs.{pairPlaces, pairAt}
-use Rattle.monitor_pairs.specs.Code.{staysAll, rowJoined, besideColumns}
-use Rattle.monitor_pairs.proofs.RunLaws.{filled, filled-none, filled-zeros, filled-next, filled-more, filled-all, filled-length, same-from}
 use borrow.Author.Needs.{needs}
 use Rattle.monitor_pairs.proofs.gathering.union_line.Statement.{statement}
 use Rattle.monitor_pairs.proofs.gathering.union_line.Tie as tie
-use Rattle.monitor_pairs.proofs.gathering.union_line.Reads as reads
-use Rattle.monitor_pairs.proofs.gathering.union_line.Lts as lts
 
 abbrev Inv-loop : tie.InvT-loop
 Inv-loop line m₀ j₀ m j =

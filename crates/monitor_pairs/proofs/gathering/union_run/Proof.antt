@@ -1,26 +1,14 @@
-use Prim.Native.Nat.{ℕ, suc, _+_, _-_, _*_, _/_, _≤_, _<_}
-use mathlib.Core.Path.{_≡_, refl, sym, ap, ap₂, _∙_}
-use mathlib.Core.Bool.{Bool, true, false, cond}
-use mathlib.Core.List.{List}
+use Prim.Native.Nat.{ℕ, _+_, _-_, _*_, _≤_}
+use mathlib.Core.Path.{_≡_, refl, ap, _∙_}
 use native.Mathlib.Omega.{arith}
 use lib.Bits.{bitOr}
-use lib.Dec.{ltb}
-use lib.ListN.{length, getD, set, length-set}
+use lib.ListN.{length, getD}
 use Rattle.automaton.specs.Mask.{union}
-use Rattle.monitor_sets.specs.Instances.{instances}
-use Rattle.monitor_sets.proofs.SetLaws.{union-more}
-use Rattle.monitor_pairs.specs.Pairs.{pairPlaces, pairAt}
-use Rattle.monitor_pairs.specs.Code.{staysAll, rowJoined, besideColumns}
-use Rattle.monitor_pairs.proofs.RunLaws.{filled, filled-none, filled-zeros, filled-next, filled-more, filled-all, filled-length, same-from}
 use Rattle.monitor_sets.specs.Code.{lanes}
 use Rattle.monitor_sets.proofs.LaneLaws.{union-next, union-back}
 use borrow.Author.Needs.{needs}
 use Rattle.monitor_pairs.proofs.gathering.union_run.Statement.{statement}
 use Rattle.monitor_pairs.proofs.gathering.union_run.Tie as tie
-use Rattle.monitor_pairs.proofs.gathering.union_run.Reads as reads
-use Rattle.monitor_pairs.proofs.gathering.union_run.Lts as lts
-use Rattle.monitor_pairs.proofs.gathering.join_lanes.Reads as join-lanes-reads
-use Rattle.monitor_pairs.proofs.gathering.union_lanes.Reads as union-lanes-reads
 
 abbrev Inv-loop : tie.InvT-loop
 Inv-loop sets n all₀ whole i₀ all i =
@@ -49,8 +37,14 @@ loop-again : tie.Need-loop-again Inv-loop μ-loop
 loop-again c =
     let l = c .before .before .before .before .args .sets .now in
     let t = c .before .before .before .loop in
-    let e = c .join-lanes .ensures in
-    (search needs, (e .0, e .1 ∙ ap (λ (u : ℕ). bitOr u (union lanes (λ j. getD l (lanes * t .i + j) 0))) (t .inv .1 .1) ∙ union-next (λ j. getD l j 0) (t .i)))
+    let e = c .join-lanes .ensures in (
+      search needs,
+      (
+        e .0,
+        e .1 ∙ ap (λ (u : ℕ). bitOr u (union lanes (λ j. getD l (lanes * t .i + j) 0))) (t .inv .1 .1)
+            ∙ union-next (λ j. getD l j 0) (t .i),
+      ),
+    )
 
 sub-join-lanes : tie.Need-sub-join-lanes Inv-loop μ-loop
 sub-join-lanes c = search needs

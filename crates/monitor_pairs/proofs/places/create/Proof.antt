@@ -1,29 +1,10 @@
-use Prim.Native.Nat.{ℕ, suc, _+_, _-_, _*_, _/_, _≤_, _<_}
-use mathlib.Core.Path.{_≡_, refl, sym, ap, ap₂, _∙_}
-use mathlib.Core.Bool.{Bool, true, false, cond}
-use mathlib.Core.List.{List}
-use native.Mathlib.Omega.{arith}
-use lib.Bits.{bitOr}
-use lib.Dec.{ltb}
-use lib.ListN.{length, getD, set, length-set}
-use Rattle.automaton.specs.Mask.{union}
-use Rattle.monitor_sets.specs.Instances.{instances}
-use Rattle.monitor_sets.proofs.SetLaws.{union-more}
-use Rattle.monitor_pairs.specs.Pairs.{pairPlaces, pairAt, rowCopied, createPairs, resetPairs, retirePairs}
-use Rattle.monitor_pairs.specs.Code.{rowOf, rowPut, rowJoined, movedUp, lineRetired, columnsRetired}
-use Rattle.monitor_pairs.proofs.RunLaws.{filled, filled-none, filled-zeros, filled-next, filled-more, filled-all, filled-length, same-from}
-use borrow.Author.Tests.{le-leb, lt-leb, lt-ltb, le-ltb}
-use Rattle.monitor_sets.specs.Instances.{unseen, retirees}
-use Rattle.monitor_sets.specs.Sets.{startSet}
-use Rattle.monitor_pairs.proofs.RunLaws.{span, span-none, span-ahead, span-more, rows-places}
-use Rattle.monitor_pairs.proofs.RetireLaws.{row-copied, line-retired, columns-none, columns-size, columns-more}
+use Prim.Native.Nat.{_-_}
+use mathlib.Core.Path.{sym, _∙_}
+use Rattle.monitor_pairs.specs.Pairs.{createPairs}
+use borrow.Author.Tests.{lt-ltb, le-ltb}
 use borrow.Author.Needs.{needs}
 use Rattle.monitor_pairs.proofs.places.create.Statement.{statement}
 use Rattle.monitor_pairs.proofs.places.create.Tie as tie
-use Rattle.monitor_pairs.proofs.places.create.Reads as reads
-use Rattle.monitor_pairs.proofs.places.create.Lts as lts
-use Rattle.monitor_pairs.proofs.events.known.Reads as known-reads
-use Rattle.monitor_pairs.proofs.places.copy_row.Reads as copy-row-reads
 
 returns : tie.Need-returns
 returns c = simp (le-ltb _ _ (c .if1 .taken))

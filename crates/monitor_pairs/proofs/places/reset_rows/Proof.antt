@@ -1,27 +1,17 @@
-use Prim.Native.Nat.{ℕ, suc, _+_, _-_, _*_, _/_, _≤_, _<_}
-use mathlib.Core.Path.{_≡_, refl, sym, ap, ap₂, _∙_}
-use mathlib.Core.Bool.{Bool, true, false, cond}
+use Prim.Native.Nat.{ℕ, _-_, _*_, _/_, _≤_}
+use mathlib.Core.Path.{_≡_, refl, ap, _∙_}
+use mathlib.Core.Bool.{Bool, cond}
 use mathlib.Core.List.{List}
 use native.Mathlib.Omega.{arith}
-use lib.Bits.{bitOr}
 use lib.Dec.{ltb}
-use lib.ListN.{length, getD, set, length-set}
-use Rattle.automaton.specs.Mask.{union}
+use lib.ListN.{getD, set}
 use Rattle.monitor_sets.specs.Instances.{instances}
-use Rattle.monitor_sets.proofs.SetLaws.{union-more}
-use Rattle.monitor_pairs.specs.Pairs.{pairPlaces, pairAt, rowCopied, createPairs, resetPairs, retirePairs}
-use Rattle.monitor_pairs.specs.Code.{rowOf, rowPut, rowJoined, movedUp, lineRetired, columnsRetired}
-use Rattle.monitor_pairs.proofs.RunLaws.{filled, filled-none, filled-zeros, filled-next, filled-more, filled-all, filled-length, same-from}
-use borrow.Author.Tests.{le-leb, lt-leb, lt-ltb, le-ltb}
-use Rattle.monitor_sets.specs.Instances.{unseen, retirees}
+use Rattle.monitor_pairs.specs.Pairs.{pairPlaces, resetPairs}
+use Rattle.monitor_pairs.proofs.RunLaws.{filled, filled-none, filled-more, same-from, rows-places}
 use Rattle.monitor_sets.specs.Sets.{startSet}
-use Rattle.monitor_pairs.proofs.RunLaws.{span, span-none, span-ahead, span-more, rows-places}
-use Rattle.monitor_pairs.proofs.RetireLaws.{row-copied, line-retired, columns-none, columns-size, columns-more}
 use borrow.Author.Needs.{needs}
 use Rattle.monitor_pairs.proofs.places.reset_rows.Statement.{statement}
 use Rattle.monitor_pairs.proofs.places.reset_rows.Tie as tie
-use Rattle.monitor_pairs.proofs.places.reset_rows.Reads as reads
-use Rattle.monitor_pairs.proofs.places.reset_rows.Lts as lts
 
 abbrev Inv-loop : tie.InvT-loop
 Inv-loop sets₀ n end k₀ sets k =
@@ -50,8 +40,14 @@ loop-less c = search needs
 loop-again : tie.Need-loop-again Inv-loop μ-loop
 loop-again c =
     let t = c .before .loop in
-    let l = c .before .before .args .sets .now in
-    (search needs, (search needs, ap (λ (u : List ℕ). set u (t .k) startSet) (t .inv .1 .1) ∙ filled-more (λ k. startSet) (λ k. getD l k 0) pairPlaces (t .k) startSet (omega arith) refl))
+    let l = c .before .before .args .sets .now in (
+      search needs,
+      (
+        search needs,
+        ap (λ (u : List ℕ). set u (t .k) startSet) (t .inv .1 .1)
+            ∙ filled-more (λ k. startSet) (λ k. getD l k 0) pairPlaces (t .k) startSet (omega arith) refl,
+      ),
+    )
 
 returns : tie.Need-returns Inv-loop μ-loop
 unfolding resetPairs
@@ -60,7 +56,8 @@ returns c =
     let a = c .before .before .args in
     let l = a .sets .now in
     let e : t .k ≡ a .n * instances = omega arith in
-    rw e at (t .inv .1 .1) ∙ same-from (λ k. cond (ltb k (a .n * instances)) startSet (getD l k 0)) (λ k. cond (ltb (k / instances) (a .n)) startSet (getD l k 0)) pairPlaces
+    rw e at (t .inv .1 .1) ∙ same-from (λ k. cond (ltb k (a .n * instances)) startSet (getD l k 0)) (λ k. cond (ltb (k / instances) (a
+    .n)) startSet (getD l k 0)) pairPlaces
     (λ k b. ap (λ (u : Bool). cond u startSet (getD l k 0)) (rows-places k (a .n)))
 
 pub reset-rows-spec : {M : Type 1} → statement M

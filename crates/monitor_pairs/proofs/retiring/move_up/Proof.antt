@@ -1,27 +1,14 @@
-use Prim.Native.Nat.{ℕ, suc, _+_, _-_, _*_, _/_, _≤_, _<_}
-use mathlib.Core.Path.{_≡_, refl, sym, ap, ap₂, _∙_}
-use mathlib.Core.Bool.{Bool, true, false, cond}
+use Prim.Native.Nat.{ℕ, _+_, _-_, _≤_}
+use mathlib.Core.Path.{_≡_, refl, ap, _∙_}
 use mathlib.Core.List.{List}
 use native.Mathlib.Omega.{arith}
-use lib.Bits.{bitOr}
-use lib.Dec.{ltb}
 use lib.ListN.{length, getD, set, length-set}
-use Rattle.automaton.specs.Mask.{union}
-use Rattle.monitor_sets.specs.Instances.{instances}
-use Rattle.monitor_sets.proofs.SetLaws.{union-more}
-use Rattle.monitor_pairs.specs.Pairs.{pairPlaces, pairAt, rowCopied, createPairs, resetPairs, retirePairs}
-use Rattle.monitor_pairs.specs.Code.{rowOf, rowPut, rowJoined, movedUp, lineRetired, columnsRetired}
-use Rattle.monitor_pairs.proofs.RunLaws.{filled, filled-none, filled-zeros, filled-next, filled-more, filled-all, filled-length, same-from}
-use borrow.Author.Tests.{le-leb, lt-leb, lt-ltb, le-ltb}
-use Rattle.monitor_sets.specs.Instances.{unseen, retirees}
-use Rattle.monitor_sets.specs.Sets.{startSet}
-use Rattle.monitor_pairs.proofs.RunLaws.{span, span-none, span-ahead, span-more, rows-places}
-use Rattle.monitor_pairs.proofs.RetireLaws.{row-copied, line-retired, columns-none, columns-size, columns-more}
+use Rattle.monitor_pairs.specs.Pairs.{pairPlaces}
+use Rattle.monitor_pairs.specs.Code.{movedUp}
+use Rattle.monitor_pairs.proofs.RunLaws.{span, span-none, span-ahead, span-more}
 use borrow.Author.Needs.{needs}
 use Rattle.monitor_pairs.proofs.retiring.move_up.Statement.{statement}
 use Rattle.monitor_pairs.proofs.retiring.move_up.Tie as tie
-use Rattle.monitor_pairs.proofs.retiring.move_up.Reads as reads
-use Rattle.monitor_pairs.proofs.retiring.move_up.Lts as lts
 
 abbrev Inv-loop : tie.InvT-loop
 Inv-loop sets₀ s n by i₀ sets i =

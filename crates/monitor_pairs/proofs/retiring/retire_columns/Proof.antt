@@ -1,28 +1,14 @@
-use Prim.Native.Nat.{ℕ, suc, _+_, _-_, _*_, _/_, _≤_, _<_}
-use mathlib.Core.Path.{_≡_, refl, sym, ap, ap₂, _∙_}
-use mathlib.Core.Bool.{Bool, true, false, cond}
-use mathlib.Core.List.{List}
+use Prim.Native.Nat.{_-_, _*_, _≤_}
+use mathlib.Core.Path.{_≡_, ap, _∙_}
 use native.Mathlib.Omega.{arith}
-use lib.Bits.{bitOr}
-use lib.Dec.{ltb}
-use lib.ListN.{length, getD, set, length-set}
-use Rattle.automaton.specs.Mask.{union}
+use lib.ListN.{length}
 use Rattle.monitor_sets.specs.Instances.{instances}
-use Rattle.monitor_sets.proofs.SetLaws.{union-more}
-use Rattle.monitor_pairs.specs.Pairs.{pairPlaces, pairAt, rowCopied, createPairs, resetPairs, retirePairs}
-use Rattle.monitor_pairs.specs.Code.{rowOf, rowPut, rowJoined, movedUp, lineRetired, columnsRetired}
-use Rattle.monitor_pairs.proofs.RunLaws.{filled, filled-none, filled-zeros, filled-next, filled-more, filled-all, filled-length, same-from}
-use borrow.Author.Tests.{le-leb, lt-leb, lt-ltb, le-ltb}
-use Rattle.monitor_sets.specs.Instances.{unseen, retirees}
-use Rattle.monitor_sets.specs.Sets.{startSet}
-use Rattle.monitor_pairs.proofs.RunLaws.{span, span-none, span-ahead, span-more, rows-places}
-use Rattle.monitor_pairs.proofs.RetireLaws.{row-copied, line-retired, columns-none, columns-size, columns-more}
+use Rattle.monitor_pairs.specs.Pairs.{pairPlaces}
+use Rattle.monitor_pairs.specs.Code.{lineRetired, columnsRetired}
+use Rattle.monitor_pairs.proofs.RetireLaws.{columns-none, columns-more}
 use borrow.Author.Needs.{needs}
 use Rattle.monitor_pairs.proofs.retiring.retire_columns.Statement.{statement}
 use Rattle.monitor_pairs.proofs.retiring.retire_columns.Tie as tie
-use Rattle.monitor_pairs.proofs.retiring.retire_columns.Reads as reads
-use Rattle.monitor_pairs.proofs.retiring.retire_columns.Lts as lts
-use Rattle.monitor_pairs.proofs.retiring.retire_line.Reads as retire-line-reads
 
 abbrev Inv-loop : tie.InvT-loop
 Inv-loop sets₀ n at i₀ sets i =
@@ -54,7 +40,8 @@ loop-again c =
       search needs,
       (
         e .1,
-        e .0 ∙ ap (lineRetired (t .i * instances) (a .at)) (t .inv .1 .1) ∙ columns-more (a .at) (a .sets .now) (omega arith) (t .i) (omega arith),
+        e .0 ∙ ap (lineRetired (t .i * instances) (a .at)) (t .inv .1 .1)
+            ∙ columns-more (a .at) (a .sets .now) (omega arith) (t .i) (omega arith),
       ),
     )
 

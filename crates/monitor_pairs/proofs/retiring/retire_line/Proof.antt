@@ -1,29 +1,13 @@
-use Rattle.monitor_pairs.proofs.RetireLaws.{line-size}
-use Prim.Native.Nat.{ℕ, suc, _+_, _-_, _*_, _/_, _≤_, _<_}
-use mathlib.Core.Path.{_≡_, refl, sym, ap, ap₂, _∙_}
-use mathlib.Core.Bool.{Bool, true, false, cond}
+use Rattle.monitor_pairs.proofs.RetireLaws.{line-size, line-retired}
+use Prim.Native.Nat.{ℕ, _+_, _-_}
+use mathlib.Core.Path.{ap, _∙_}
 use mathlib.Core.List.{List}
 use native.Mathlib.Omega.{arith}
-use lib.Bits.{bitOr}
-use lib.Dec.{ltb}
 use lib.ListN.{length, getD, set, length-set}
-use Rattle.automaton.specs.Mask.{union}
-use Rattle.monitor_sets.specs.Instances.{instances}
-use Rattle.monitor_sets.proofs.SetLaws.{union-more}
-use Rattle.monitor_pairs.specs.Pairs.{pairPlaces, pairAt, rowCopied, createPairs, resetPairs, retirePairs}
-use Rattle.monitor_pairs.specs.Code.{rowOf, rowPut, rowJoined, movedUp, lineRetired, columnsRetired}
-use Rattle.monitor_pairs.proofs.RunLaws.{filled, filled-none, filled-zeros, filled-next, filled-more, filled-all, filled-length, same-from}
-use borrow.Author.Tests.{le-leb, lt-leb, lt-ltb, le-ltb}
-use Rattle.monitor_sets.specs.Instances.{unseen, retirees}
-use Rattle.monitor_sets.specs.Sets.{startSet}
-use Rattle.monitor_pairs.proofs.RunLaws.{span, span-none, span-ahead, span-more, rows-places}
-use Rattle.monitor_pairs.proofs.RetireLaws.{row-copied, line-retired, columns-none, columns-size, columns-more}
+use Rattle.monitor_sets.specs.Instances.{instances, unseen}
 use borrow.Author.Needs.{needs}
 use Rattle.monitor_pairs.proofs.retiring.retire_line.Statement.{statement}
 use Rattle.monitor_pairs.proofs.retiring.retire_line.Tie as tie
-use Rattle.monitor_pairs.proofs.retiring.retire_line.Reads as reads
-use Rattle.monitor_pairs.proofs.retiring.retire_line.Lts as lts
-use Rattle.monitor_pairs.proofs.retiring.move_up.Reads as move-up-reads
 
 add-unused : tie.Need-add-unused
 add-unused c = search needs
@@ -59,7 +43,11 @@ sub-move-up-2 : tie.Need-sub-move-up-2
 sub-move-up-2 c = search needs
 
 move-up-requires : tie.Need-move-up-requires
-move-up-requires c κs = (length-set (c .before .before .before .before .args .sets .now) _ _ ∙ c .before .before .before .before .pre .0, search needs)
+move-up-requires c κs = (
+  length-set (c .before .before .before .before .args .sets .now) _ _
+      ∙ c .before .before .before .before .pre .0,
+  search needs,
+)
 
 sub-sets : tie.Need-sub-sets
 sub-sets c = search needs

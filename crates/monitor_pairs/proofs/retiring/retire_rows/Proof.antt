@@ -1,33 +1,14 @@
-use Prim.Native.Nat.{ℕ, suc, _+_, _-_, _*_, _/_, _≤_, _<_}
-use mathlib.Core.Path.{_≡_, refl, sym, ap, ap₂, _∙_}
-use mathlib.Core.Bool.{Bool, true, false, cond}
+use Prim.Native.Nat.{ℕ, _-_, _*_}
+use mathlib.Core.Path.{ap, ap₂, _∙_}
 use mathlib.Core.List.{List}
 use native.Mathlib.Omega.{arith}
-use lib.Bits.{bitOr}
-use lib.Dec.{ltb}
-use lib.ListN.{length, getD, set, length-set}
-use Rattle.automaton.specs.Mask.{union}
-use Rattle.monitor_sets.specs.Instances.{instances}
-use Rattle.monitor_sets.proofs.SetLaws.{union-more}
-use Rattle.monitor_pairs.specs.Pairs.{pairPlaces, pairAt, rowCopied, createPairs, resetPairs, retirePairs}
-use Rattle.monitor_pairs.specs.Code.{rowOf, rowPut, rowJoined, movedUp, lineRetired, columnsRetired}
-use Rattle.monitor_pairs.proofs.RunLaws.{filled, filled-none, filled-zeros, filled-next, filled-more, filled-all, filled-length, same-from}
-use borrow.Author.Tests.{le-leb, lt-leb, lt-ltb, le-ltb}
-use Rattle.monitor_sets.specs.Instances.{unseen, retirees}
-use Rattle.monitor_sets.specs.Sets.{startSet}
-use Rattle.monitor_pairs.proofs.RunLaws.{span, span-none, span-ahead, span-more, rows-places}
-use Rattle.monitor_pairs.proofs.RetireLaws.{row-copied, line-retired, columns-none, columns-size, columns-more, retired-both}
+use Rattle.monitor_sets.specs.Instances.{instances, unseen, retirees}
+use Rattle.monitor_pairs.specs.Pairs.{rowCopied}
+use Rattle.monitor_pairs.specs.Code.{pairRow, rowPut, rowJoined, movedUp}
+use Rattle.monitor_pairs.proofs.RetireLaws.{retired-both}
 use borrow.Author.Needs.{needs}
 use Rattle.monitor_pairs.proofs.retiring.retire_rows.Statement.{statement}
 use Rattle.monitor_pairs.proofs.retiring.retire_rows.Tie as tie
-use Rattle.monitor_pairs.proofs.retiring.retire_rows.Reads as reads
-use Rattle.monitor_pairs.proofs.retiring.retire_rows.Lts as lts
-use Rattle.monitor_pairs.proofs.events.put_row.Reads as put-row-reads
-use Rattle.monitor_pairs.proofs.events.row_of.Reads as row-of-reads
-use Rattle.monitor_pairs.proofs.gathering.join_row.Reads as join-row-reads
-use Rattle.monitor_pairs.proofs.places.copy_row.Reads as copy-row-reads
-use Rattle.monitor_pairs.proofs.retiring.move_up.Reads as move-up-reads
-use Rattle.monitor_pairs.proofs.retiring.retire_columns.Reads as retire-columns-reads
 
 retire-columns-requires : tie.Need-retire-columns-requires
 retire-columns-requires c κs = search needs
@@ -75,10 +56,13 @@ returns : tie.Need-returns
 returns c =
     let a = c .before .before .before .before .before .before .before .before .before .before .before .before .before .before .args in
     let l = a .sets .now in
-    let cols = c .before .before .before .before .before .before .before .before .before .before .before .before .retire-columns .ensures .0 in
+    let cols = c .before .before .before .before .before .before .before .before .before .before .before .before .retire-columns
+    .ensures .0 in
     let row = c .before .before .before .before .before .before .before .join-row .ensures .1
-    ∙ ap₂ (λ (u v : List ℕ). rowJoined (a .at * instances) u v) cols (c .before .before .before .before .before .before .before .before .before .before .row-of .ensures ∙ ap (rowOf (retirees * instances)) cols) in
-    let put = c .before .before .before .before .put-row .ensures .0 ∙ ap₂ (λ (u v : List ℕ). rowPut (retirees * instances) u instances v) row cols in
+    ∙ ap₂ (λ (u v : List ℕ). rowJoined (a .at * instances) u v) cols (c .before .before .before .before .before .before .before .before
+    .before .before .row-of .ensures ∙ ap (pairRow (retirees * instances)) cols) in
+    let put = c .before .before .before .before .put-row .ensures .0 ∙ ap₂ (λ (u v : List ℕ). rowPut (retirees * instances) u instances
+    v) row cols in
     let rows = c .before .before .move-up .ensures .0 ∙ ap (movedUp (a .at * instances) ((a .n - 1 - a .at) * instances) instances) put in
     c .copy-row .ensures .0 ∙ ap (rowCopied unseen (a .n - 1)) rows
     ∙ retired-both (a .at) (a .n) l (omega arith) (omega arith) (omega arith)

@@ -1,4 +1,4 @@
-use Prim.Native.Nat.{ℕ, _+_, _-_, _^_, _≤_, _<_}
+use Prim.Native.Nat.{ℕ, _-_, _^_, _≤_, _<_}
 use mathlib.Core.Path.{_≡_, sym, ap, _∙_}
 use native.Mathlib.Omega.{arith}
 use borrow.Author.Count.{below-more}
@@ -9,9 +9,6 @@ use Rattle.monitor_pairs.specs.Code.{twoMoved}
 use borrow.Author.Needs.{needs}
 use Rattle.monitor_pairs.proofs.runs.agrees.Statement.{statement}
 use Rattle.monitor_pairs.proofs.runs.agrees.Tie as tie
-use Rattle.monitor_pairs.proofs.runs.agrees.Reads as reads
-use Rattle.monitor_pairs.proofs.runs.agrees.Lts as lts
-use Rattle.monitor_pairs.proofs.runs.move_by_two.Reads as move-by-two-reads
 
 abbrev Inv-loop : tie.InvT-loop
 Inv-loop two rows q₀ q =

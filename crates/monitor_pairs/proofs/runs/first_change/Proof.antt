@@ -1,10 +1,7 @@
-use Prim.Native.Nat.{ℕ, _+_, _-_, _≤_, _<_}
-use native.Mathlib.Omega.{arith}
+use Prim.Native.Nat.{_-_, _≤_}
 use borrow.Author.Needs.{needs}
 use Rattle.monitor_pairs.proofs.runs.first_change.Statement.{statement}
 use Rattle.monitor_pairs.proofs.runs.first_change.Tie as tie
-use Rattle.monitor_pairs.proofs.runs.first_change.Reads as reads
-use Rattle.monitor_pairs.proofs.runs.first_change.Lts as lts
 
 abbrev Inv-loop : tie.InvT-loop
 Inv-loop rows q₀ q =

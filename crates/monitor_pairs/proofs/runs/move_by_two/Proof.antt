@@ -1,13 +1,10 @@
 use Prim.Native.Nat.{ℕ}
-use mathlib.Core.Path.{_≡_, ap₂}
+use mathlib.Core.Path.{ap₂}
 use lib.Bits.{bitAnd, bitOr}
 use Rattle.monitor_pairs.specs.Code.{twoMoved}
 use borrow.Author.Needs.{needs}
 use Rattle.monitor_pairs.proofs.runs.move_by_two.Statement.{statement}
 use Rattle.monitor_pairs.proofs.runs.move_by_two.Tie as tie
-use Rattle.monitor_pairs.proofs.runs.move_by_two.Reads as reads
-use Rattle.monitor_pairs.proofs.runs.move_by_two.Lts as lts
-use Rattle.monitor_pairs.proofs.runs.pick_any.Reads as pick-any-reads
 
 pick-any-requires : tie.Need-pick-any-requires
 pick-any-requires c κs = search needs

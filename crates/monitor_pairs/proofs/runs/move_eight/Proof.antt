@@ -1,4 +1,4 @@
-use Prim.Native.Nat.{ℕ, suc, _+_, _-_, _*_, _/_, _≤_, _<_}
+use Prim.Native.Nat.{ℕ, _-_, _≤_, _<_}
 use mathlib.Core.Path.{_≡_, refl, sym, ap, _∙_}
 use mathlib.Core.Bool.{cond}
 use mathlib.Core.List.{List, [], _∷_}
@@ -7,17 +7,12 @@ use lib.Dec.{ltb}
 use lib.ListN.{length, getD, set, length-set}
 use Rattle.automaton.specs.Move.{moveBy}
 use Rattle.automaton.proofs.RowLaws.{moveBy-held}
-use Rattle.monitor_sets.specs.Instances.{instances}
-use Rattle.monitor_pairs.specs.Pairs.{pairPlaces, pairAt}
-use Rattle.monitor_pairs.specs.Code.{runMoved, lineMoved, rowOf, columnOf, rowPut, columnPut, staysBy}
-use Rattle.monitor_pairs.proofs.RunLaws.{filled, filled-none, filled-zeros, filled-next, filled-more, filled-all, filled-length, same-from}
-use Rattle.monitor_pairs.proofs.RunLaws.{span, span-none, span-more, column, column-none, column-more}
+use Rattle.monitor_pairs.specs.Pairs.{pairPlaces}
+use Rattle.monitor_pairs.specs.Code.{runMoved}
+use Rattle.monitor_pairs.proofs.RunLaws.{filled, filled-none, filled-next, filled-more, same-from}
 use borrow.Author.Needs.{needs}
 use Rattle.monitor_pairs.proofs.runs.move_eight.Statement.{statement}
 use Rattle.monitor_pairs.proofs.runs.move_eight.Tie as tie
-use Rattle.monitor_pairs.proofs.runs.move_eight.Reads as reads
-use Rattle.monitor_pairs.proofs.runs.move_eight.Lts as lts
-use Rattle.automaton.proofs.move_by_rows.Reads as move-by-rows-reads
 
 abbrev Inv-loop : tie.InvT-loop
 Inv-loop sets₀ n a b c d e f g h k₀ sets k =
@@ -84,7 +79,8 @@ loop-again c =
     let f : ℕ → ℕ = λ k. moveBy rows 0 (getD l k 0) in
     let g : ℕ → ℕ = λ k. getD l k 0 in
     let h : t .k < pairPlaces = omega arith in
-    let e : getD (t .sets) (t .k) 0 ≡ getD l (t .k) 0 = ap (λ (u : List ℕ). getD u (t .k) 0) (t .inv .1 .1) ∙ filled-next f g pairPlaces (t .k) h in (
+    let e : getD (t .sets) (t .k) 0 ≡ getD l (t .k) 0 = ap (λ (u : List ℕ). getD u (t .k) 0) (t .inv .1 .1)
+    ∙ filled-next f g pairPlaces (t .k) h in (
       search needs,
       (
         length-set (t .sets) _ _ ∙ t .inv .1 .0,

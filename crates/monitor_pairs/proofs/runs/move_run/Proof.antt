@@ -1,19 +1,9 @@
-use Prim.Native.Nat.{ℕ}
-use mathlib.Core.Path.{_≡_, refl, sym, _∙_}
+use mathlib.Core.Path.{sym, _∙_}
 use Rattle.monitor_pairs.proofs.GatherLaws.{stays-moved}
 use Rattle.monitor_pairs.proofs.TwoLaws.{two-run, stays-run}
 use borrow.Author.Needs.{needs}
 use Rattle.monitor_pairs.proofs.runs.move_run.Statement.{statement}
 use Rattle.monitor_pairs.proofs.runs.move_run.Tie as tie
-use Rattle.monitor_pairs.proofs.runs.move_run.Reads as reads
-use Rattle.monitor_pairs.proofs.runs.move_run.Lts as lts
-use Rattle.monitor_pairs.proofs.events.known.Reads as known-reads
-use Rattle.monitor_pairs.proofs.events.stay.Reads as stay-reads
-use Rattle.monitor_pairs.proofs.runs.agrees.Reads as agrees-reads
-use Rattle.monitor_pairs.proofs.runs.first_change.Reads as first-change-reads
-use Rattle.monitor_pairs.proofs.runs.last_change.Reads as last-change-reads
-use Rattle.monitor_pairs.proofs.runs.move_eight.Reads as move-eight-reads
-use Rattle.monitor_pairs.proofs.runs.move_two.Reads as move-two-reads
 
 known-requires : tie.Need-known-requires
 known-requires c κs = search needs
@@ -69,7 +59,8 @@ returns-2 : tie.Need-returns-2
 returns-2 c =
     let a = c .before .before .before .before .before .before .before .before .before .before .args in
     let agree = c .before .before .before .agrees .ensures (c .before .before .if2 .taken) in (
-      c .move-two .ensures .0 ∙ two-run _ _ _ _ _ (a .t3) agree (a .n) (a .sets .now) (c .before .before .before .before .before .before .before .before .known .ensures .1),
+      c .move-two .ensures .0 ∙ two-run _ _ _ _ _ (a .t3) agree (a .n) (a .sets .now) (c .before .before .before .before .before
+          .before .before .before .known .ensures .1),
       c .move-two .ensures .1,
     )
 

@@ -1,5 +1,5 @@
-use Prim.Native.Nat.{ℕ, _+_, _-_, _≤_, _<_}
-use mathlib.Core.Path.{_≡_, refl, sym, ap, _∙_}
+use Prim.Native.Nat.{ℕ, _-_, _≤_, _<_}
+use mathlib.Core.Path.{_≡_, refl, ap, _∙_}
 use mathlib.Core.List.{List}
 use native.Mathlib.Omega.{arith}
 use lib.ListN.{length, getD, set, length-set}
@@ -9,9 +9,6 @@ use Rattle.monitor_pairs.proofs.RunLaws.{filled, filled-none, filled-ne
 use borrow.Author.Needs.{needs}
 use Rattle.monitor_pairs.proofs.runs.move_two.Statement.{statement}
 use Rattle.monitor_pairs.proofs.runs.move_two.Tie as tie
-use Rattle.monitor_pairs.proofs.runs.move_two.Reads as reads
-use Rattle.monitor_pairs.proofs.runs.move_two.Lts as lts
-use Rattle.monitor_pairs.proofs.runs.move_by_two.Reads as move-by-two-reads
 
 abbrev Inv-loop : tie.InvT-loop
 Inv-loop sets₀ n keep low lows high highs k₀ sets k =
@@ -54,7 +51,8 @@ loop-again c =
     let f : ℕ → ℕ = λ k. m (getD l k 0) in
     let g : ℕ → ℕ = λ k. getD l k 0 in
     let h : t .k < pairPlaces = omega arith in
-    let e : getD (t .sets) (t .k) 0 ≡ getD l (t .k) 0 = ap (λ (u : List ℕ). getD u (t .k) 0) (t .inv .1 .1) ∙ filled-next f g pairPlaces (t .k) h in (
+    let e : getD (t .sets) (t .k) 0 ≡ getD l (t .k) 0 = ap (λ (u : List ℕ). getD u (t .k) 0) (t .inv .1 .1)
+    ∙ filled-next f g pairPlaces (t .k) h in (
       search needs,
       (
         length-set (t .sets) _ _ ∙ t .inv .1 .0,

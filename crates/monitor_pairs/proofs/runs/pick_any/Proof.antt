@@ -1,12 +1,7 @@
-use mathlib.Core.Path.{_≡_, refl, sym, ap, _∙_}
-use mathlib.Core.Bool.{Bool, cond}
 use borrow.Author.Tests.{eq-eqb, ne-eqb}
 use Rattle.monitor_pairs.specs.Code.{rowWhere}
-use borrow.Author.Needs.{needs}
 use Rattle.monitor_pairs.proofs.runs.pick_any.Statement.{statement}
 use Rattle.monitor_pairs.proofs.runs.pick_any.Tie as tie
-use Rattle.monitor_pairs.proofs.runs.pick_any.Reads as reads
-use Rattle.monitor_pairs.proofs.runs.pick_any.Lts as lts
 
 returns : tie.Need-returns
 unfolding rowWhere

@@ -1,17 +1,11 @@
-use Prim.Native.Nat.{ℕ, _+_, _*_, _^_}
-use mathlib.Core.Path.{_≡_, refl, sym, ap, ap₂, _∙_}
-use mathlib.Core.Bool.{Bool, _&&_, cond}
+use mathlib.Core.Path.{sym, ap, _∙_}
 use borrow.Author.Tests.{eq-eqb, ne-eqb, lt-ltb, le-ltb}
 use lib.Bits.{bitOr}
-use lib.ListN.{getD}
-use Rattle.usage.specs.Limits.{edgeFields, policies}
 use Rattle.automaton.proofs.MaskLaws.{bit-shifted}
 use Rattle.monitor_pairs.specs.Which.{withEdge}
 use borrow.Author.Needs.{needs}
 use Rattle.monitor_pairs.proofs.which.join_edge.Statement.{statement}
 use Rattle.monitor_pairs.proofs.which.join_edge.Tie as tie
-use Rattle.monitor_pairs.proofs.which.join_edge.Reads as reads
-use Rattle.monitor_pairs.proofs.which.join_edge.Lts as lts
 
 mul-k : tie.Need-mul-k
 mul-k c = search needs

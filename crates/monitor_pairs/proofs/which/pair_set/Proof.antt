@@ -1,5 +1,5 @@
-use Prim.Native.Nat.{ℕ, _+_, _-_, _/_, _≤_, _<_}
-use mathlib.Core.Path.{_≡_, refl, sym, ap, _∙_}
+use Prim.Native.Nat.{_-_, _/_, _≤_}
+use mathlib.Core.Path.{_≡_, _∙_}
 use native.Mathlib.Omega.{arith}
 use lib.ListN.{length}
 use Rattle.usage.specs.Limits.{edgeFields}
@@ -9,9 +9,6 @@ use Rattle.monitor_pairs.proofs.WhichLaws.{set-none, set-more}
 use borrow.Author.Needs.{needs}
 use Rattle.monitor_pairs.proofs.which.pair_set.Statement.{statement}
 use Rattle.monitor_pairs.proofs.which.pair_set.Tie as tie
-use Rattle.monitor_pairs.proofs.which.pair_set.Reads as reads
-use Rattle.monitor_pairs.proofs.which.pair_set.Lts as lts
-use Rattle.monitor_pairs.proofs.which.join_edge.Reads as join-edge-reads
 
 abbrev Inv-loop : tie.InvT-loop
 Inv-loop edges n m₀ i₀ m i =
