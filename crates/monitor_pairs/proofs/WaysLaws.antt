@@ -9,7 +9,7 @@ use Rattle.usage.specs.declared.Edge.{Edge}
 use Rattle.usage.specs.Limits.{policies, states}
 use Rattle.automaton.specs.Move.{image, firesAt, rowsAt}
 use Rattle.automaton.proofs.PlaceLaws.{row-placed}
-use Rattle.monitor_pairs.specs.Tracked.{rowsFor, waysOf}
+use Rattle.monitor_pairs.specs.Tracked.{rowsFor, eventWays}
 use Rattle.monitor_pairs.specs.Code.{policyRows, waysIn}
 use Rattle.monitor_pairs.proofs.RunLaws.{same-from}
 
@@ -21,6 +21,6 @@ module _ (es : List Edge) (p a r : ℕ) (h : p < policies) where
       (λ q l. row-placed es a r x y p q h l)
 
   pub ways-in : waysIn (rowsAt es a r false false) (rowsAt es a r true false) (rowsAt es a r false true) (rowsAt es a r true true) p
-      ≡ waysOf es p a r
-  unfolding waysIn waysOf
+      ≡ eventWays es p a r
+  unfolding waysIn eventWays
   ways-in = rw (lt-ltb p policies h, rows-for false false, rows-for true false, rows-for false true, rows-for true true)
