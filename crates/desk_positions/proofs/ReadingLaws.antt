@@ -1,5 +1,5 @@
 -- Rows that are read: one that passes is the row of the position that is read from it, and the row of a position passes and tells it.
-use Prim.Native.Nat.{ℕ, zero, suc, _+_, _-_, _*_, _<_, _≤_}
+use Prim.Native.Nat.{ℕ, zero, suc, _+_, _-_, _*_, _/_, _%_, _<_, _≤_}
 use mathlib.Core.Path.{_≡_, refl, sym, ap, ap₂, _∙_, subst}
 use mathlib.Core.Bool.{Bool, true, false, _&&_, cond}
 use mathlib.Core.Option.{Option, some, Option·some-injective}
@@ -7,10 +7,12 @@ use mathlib.Core.List.{List, [], _∷_, map, List·Memᴰ}
 use mathlib.Core.Logic.{_⊎_, inl, inr}
 use native.Mathlib.Omega.{arith}
 use native.Mathlib.Nat.{zero-add}
+use native.Mathlib.Numerals.{add-one}
+use native.Mathlib.Decide.{ℕ-discrete}
 use lib.Dec.{lit<, leb, ltb}
 use lib.ListN.{length, getD, getElem?}
 use lib.Seq.{ext-getD}
-use borrow.Author.Tests.{ltb-true, lt-ltb, le-ltb, leb-true, le-leb}
+use borrow.Author.Tests.{ltb-true, ltb-false, lt-ltb, le-ltb, leb-true, le-leb}
 use Rattle.usage.specs.Limits.{mostNodes, mostNames}
 use Rattle.usage.specs.Tables.{from}
 use Rattle.usage.proofs.Logic.{and-left, and-right, and-both, none-some, last-or-lower}
@@ -18,8 +20,8 @@ use Rattle.usage.proofs.TableLaws.{length-from, from-ext, member-from, is-from}
 use Rattle.desk_positions.specs.Positions.{mostPositions, mostParts, Item, at, shut, Position, sameMeanings}
 use Rattle.desk_positions.specs.Rows.{rowWidth, tableBytes, base, partCode, meantIn, pushed, rowOf, rowIn, rowsIn, Coded, AllCoded}
 use Rattle.desk_positions.specs.Growth.{Fine, Tabled, Settles}
-use Rattle.desk_positions.specs.Reading.{itemIn, partsIn, positionIn, rowOk, rowsOk, positionsIn}
-use Rattle.desk_positions.proofs.RowLaws.{cell, row-depth, row-top, row-under}
+use Rattle.desk_positions.specs.Reading.{itemIn, partsIn, positionIn, PartFits, ZerosFrom, rowOk, rowsOk, positionsIn}
+use Rattle.desk_positions.proofs.RowLaws.{cell, length-row, row-depth, row-behind, row-top, row-under}
 use Rattle.desk_positions.proofs.PositionLaws.{same-meanings}
 use Rattle.desk_positions.proofs.SettleLaws.{here}
 
@@ -115,6 +117,168 @@ unfolding rowOk
 row-passes c (h, q) =
     and-both (leb (getD (rowOf c) 0 0) mostParts) (sameMeanings (rowOf (positionIn (rowOf c))) (rowOf c))
     (le-leb (getD (rowOf c) 0 0) mostParts (rw (row-depth c) h)) (same-meanings _ _ .1 (ap rowOf (row-read c (h, q))))
+
+-- ── A row by its numbers ──
+
+-- number k of part j
+parts-cell : (row : List ℕ) (n : ℕ) → n ≤ mostParts → (j : ℕ) → j < n → (m k : ℕ) → m ≡ base j + k → k < 5
+    → getD (rowOf (partsIn row n)) m 0
+    ≡ cell (partCode (itemIn row j)) (meantIn (itemIn row j) 0) (meantIn (itemIn row j) 1) (meantIn (itemIn row j) 2) (meantIn (itemIn row j) 3) k
+unfolding partsIn
+parts-cell row zero h j l m k e q = absurd (omega arith)
+parts-cell row (suc n) h j l m k e q = go (last-or-lower j n l) (parts-cell row n (omega arith) j)
+  where
+    z : length (partsIn row n) ≡ n
+    z = parts-length row n
+
+    is : ℕ → ℕ
+    is x = cell (partCode (itemIn row x)) (meantIn (itemIn row x) 0) (meantIn (itemIn row x) 1) (meantIn (itemIn row x) 2) (meantIn (itemIn row x) 3) k
+
+    go : (j ≡ n) ⊎ (j < n)
+        → (j < n → (m k : ℕ) → m ≡ base j + k → k < 5 → getD (rowOf (partsIn row n)) m 0
+        ≡ cell (partCode (itemIn row j)) (meantIn (itemIn row j) 0) (meantIn (itemIn row j) 1) (meantIn (itemIn row j) 2) (meantIn (itemIn row j) 3) k)
+        → getD (rowOf (itemIn row n ∷ partsIn row n)) m 0 ≡ is j
+    go (inl p) ih = row-top (itemIn row n) (partsIn row n) m k (omega (arith, z)) (omega (arith, z, p)) q ∙ ap is (sym p)
+    go (inr p) ih = row-under (itemIn row n) (partsIn row n) m (λ w. omega arith) (inl (omega (arith, z))) ∙ ih p m k e q
+
+-- a part that fits is written as it is
+item-fits : (row : List ℕ) (j : ℕ) → PartFits row j → (m k : ℕ) → m ≡ base j + k → k < 5
+    → cell (partCode (itemIn row j)) (meantIn (itemIn row j) 0) (meantIn (itemIn row j) 1) (meantIn (itemIn row j) 2) (meantIn (itemIn row j) 3) k
+    ≡ getD row m 0
+item-fits row j f m k e q = go (ltb (getD row (base j) 0) mostNodes) refl k e q
+  where
+    x : ℕ
+    x = getD row (base j) 0
+
+    item : Bool → Item
+    item b = cond b
+        (at x (getD row (base j + 1) 0 ∷ getD row (base j + 2) 0 ∷ getD row (base j + 3) 0 ∷ getD row (base j + 4) 0 ∷ [])) (shut (x - mostNodes))
+
+    place : (n : ℕ) → m ≡ n → getD row n 0 ≡ getD row m 0
+    place n p = ap (λ (y : ℕ). getD row y 0) (sym p)
+
+    go : (b : Bool) → ltb x mostNodes ≡ b → (k : ℕ) → m ≡ base j + k → k < 5
+        → cell (partCode (item b)) (meantIn (item b) 0) (meantIn (item b) 1) (meantIn (item b) 2) (meantIn (item b) 3) k ≡ getD row m 0
+    go true p zero e q = place (base j) (omega arith)
+    go true p (suc zero) e q = place (base j + 1) (omega arith)
+    go true p (suc (suc zero)) e q = place (base j + 2) (omega arith)
+    go true p (suc (suc (suc zero))) e q = place (base j + 3) (omega arith)
+    go true p (suc (suc (suc (suc zero)))) e q = place (base j + 4) (omega arith)
+    go true p (suc (suc (suc (suc (suc k))))) e q = absurd (omega arith)
+    go false p zero e q =
+        (let h = ltb-false x mostNodes p in let y : mostNodes + (x - mostNodes) ≡ x = omega arith in y) ∙ place (base j) (omega arith)
+    go false p (suc zero) e q = sym (f (ltb-false x mostNodes p) 0 (omega arith)) ∙ place (base j + 1 + 0) (omega arith)
+    go false p (suc (suc zero)) e q = sym (f (ltb-false x mostNodes p) 1 (omega arith)) ∙ place (base j + 1 + 1) (omega arith)
+    go false p (suc (suc (suc zero))) e q = sym (f (ltb-false x mostNodes p) 2 (omega arith)) ∙ place (base j + 1 + 2) (omega arith)
+    go false p (suc (suc (suc (suc zero)))) e q = sym (f (ltb-false x mostNodes p) 3 (omega arith)) ∙ place (base j + 1 + 3) (omega arith)
+    go false p (suc (suc (suc (suc (suc k))))) e q = absurd (omega arith)
+
+-- a closing is written without meanings
+item-closing : (row : List ℕ) (j : ℕ) → mostNodes ≤ getD row (base j) 0 → (k : ℕ) → k < 4
+    → cell (partCode (itemIn row j)) (meantIn (itemIn row j) 0) (meantIn (itemIn row j) 1) (meantIn (itemIn row j) 2) (meantIn (itemIn row j) 3) (suc k) ≡ 0
+item-closing row j h k q = rw (le-ltb (getD row (base j) 0) mostNodes h) (go k q)
+  where
+    go : (k : ℕ) → k < 4 → cell (mostNodes + (getD row (base j) 0 - mostNodes)) 0 0 0 0 (suc k) ≡ 0
+    go zero q = refl
+    go (suc zero) q = refl
+    go (suc (suc zero)) q = refl
+    go (suc (suc (suc zero))) q = refl
+    go (suc (suc (suc (suc k)))) q = absurd (omega arith)
+
+pub part-fits : (row : List ℕ) (j : ℕ) → getD row (base j + 1) 0 ≡ 0 → getD row (base j + 2) 0 ≡ 0 → getD row (base j + 3) 0 ≡ 0
+    → getD row (base j + 4) 0 ≡ 0 → PartFits row j
+part-fits row j a b c d h k q = go k q
+  where
+    place : (m n : ℕ) → m ≡ n → getD row n 0 ≡ 0 → getD row m 0 ≡ 0
+    place m n e z = ap (λ (x : ℕ). getD row x 0) e ∙ z
+
+    go : (k : ℕ) → k < 4 → getD row (base j + 1 + k) 0 ≡ 0
+    go zero q = place (base j + 1 + 0) (base j + 1) (omega arith) a
+    go (suc zero) q = place (base j + 1 + 1) (base j + 2) (omega arith) b
+    go (suc (suc zero)) q = place (base j + 1 + 2) (base j + 3) (omega arith) c
+    go (suc (suc (suc zero))) q = place (base j + 1 + 3) (base j + 4) (omega arith) d
+    go (suc (suc (suc (suc k)))) q = absurd (omega arith)
+
+pub part-misfits : (row : List ℕ) (j k m : ℕ) → k < 4 → m ≡ base j + 1 + k → mostNodes ≤ getD row (base j) 0 → (getD row m 0 ≡ 0 → ⊥)
+    → PartFits row j → ⊥
+part-misfits row j k m q e h d f = d (ap (λ (x : ℕ). getD row x 0) e ∙ f h k q)
+
+pub parts-more : (row : List ℕ) (j : ℕ) → ((k : ℕ) → k < j → PartFits row k) → PartFits row j → (k : ℕ) → k < j + 1 → PartFits row k
+parts-more row j all here k l = go (last-or-lower k j (subst (λ (m : ℕ). k < m) (add-one j) l))
+  where
+    go : (k ≡ j) ⊎ (k < j) → PartFits row k
+    go (inl e) = subst (PartFits row) (sym e) here
+    go (inr h) = all k h
+
+pub zeros-more : (row : List ℕ) (n k : ℕ) → ((m : ℕ) → n ≤ m → m < k → getD row m 0 ≡ 0) → getD row k 0 ≡ 0
+    → (m : ℕ) → n ≤ m → m < k + 1 → getD row m 0 ≡ 0
+zeros-more row n k all here m h l = go (last-or-lower m k (subst (λ (x : ℕ). m < x) (add-one k) l))
+  where
+    go : (m ≡ k) ⊎ (m < k) → getD row m 0 ≡ 0
+    go (inl e) = ap (λ (x : ℕ). getD row x 0) e ∙ here
+    go (inr q) = all m h q
+
+module _ (row : List ℕ) (long : length row ≡ rowWidth) where
+  abbrev Fits : Type 0
+  Fits = ((j : ℕ) → j < getD row 0 0 → PartFits row j) × ZerosFrom row (base (getD row 0 0))
+
+  pub row-fits : getD row 0 0 ≤ mostParts → Fits → true ≡ rowOk row
+  unfolding rowOk
+  row-fits h (f, z) =
+      sym (and-both (leb (getD row 0 0) mostParts) (sameMeanings (rowOf (positionIn row)) row) (le-leb _ _ h)
+      (same-meanings _ _ .1 (ext-getD 0 (rowOf (positionIn row)) row (length-row (positionIn row) ∙ sym long)
+      (λ m l. at m (omega (arith, length-row (positionIn row))) (ℕ-discrete m 0)))))
+    where
+      n : length (positionIn row) ≡ getD row 0 0
+      n = parts-length row (getD row 0 0)
+
+      at : (m : ℕ) → m < rowWidth → Dec (m ≡ 0) → getD (rowOf (positionIn row)) m 0 ≡ getD row m 0
+      at m l (yes e) =
+          ap (λ (y : ℕ). getD (rowOf (positionIn row)) y 0) e ∙ row-depth (positionIn row) ∙ n ∙ ap (λ (y : ℕ). getD row y 0) (sym e)
+      at m l (no d) = go (ltb m (base (getD row 0 0))) refl
+        where
+          go : (b : Bool) → ltb m (base (getD row 0 0)) ≡ b → getD (rowOf (positionIn row)) m 0 ≡ getD row m 0
+          go true e =
+              let q = ltb-true m (base (getD row 0 0)) e in
+              let j = (m - 1) / 5 in
+              let k = (m - 1) % 5 in
+              let w : m ≡ base j + k = omega arith in
+              let x : j < getD row 0 0 = omega arith in
+              parts-cell row (getD row 0 0) h j x m k w (omega arith) ∙ item-fits row j (f j x) m k w (omega arith)
+          go false e =
+              let q = ltb-false m (base (getD row 0 0)) e in
+              row-behind (positionIn row) m (omega (arith, n)) ∙ sym (z m q l)
+
+  pub row-misfits : (Fits → ⊥) → false ≡ rowOk row
+  row-misfits d = go (rowOk row) refl
+    where
+      go : (b : Bool) → rowOk row ≡ b → false ≡ b
+      go false e = refl
+      go true e = absurd (d (parts, zeros))
+        where
+          h : getD row 0 0 ≤ mostParts
+          h = let x = row-reads row e .1 .0 in let y = parts-length row (getD row 0 0) in omega (arith, x, y)
+
+          same : (m : ℕ) → getD row m 0 ≡ getD (rowOf (positionIn row)) m 0
+          same m = ap (λ (l : List ℕ). getD l m 0) (sym (row-reads row e .0))
+
+          parts : (j : ℕ) → j < getD row 0 0 → PartFits row j
+          parts j l c k q = same (base j + 1 + k) ∙ parts-cell row (getD row 0 0) h j l (base j + 1 + k) (suc k) (omega arith) (omega arith) ∙ item-closing row j c k q
+
+          zeros : ZerosFrom row (base (getD row 0 0))
+          zeros m l q = same m ∙ row-behind (positionIn row) m (let y = parts-length row (getD row 0 0) in omega (arith, l, y))
+
+  -- d is how many parts there are
+  module _ (d : ℕ) (e : d ≡ getD row 0 0) where
+    pub part-fails : (((j : ℕ) → j < d → PartFits row j) → ⊥) → false ≡ rowOk row
+    part-fails n = row-misfits (λ f. n (λ j l. f .0 j (subst (λ (x : ℕ). j < x) e l)))
+
+    pub row-decided : d ≤ mostParts → ((j : ℕ) → j < d → PartFits row j) → (r : Bool) → (r ≡ true → ZerosFrom row (base d))
+        → (r ≡ false → ZerosFrom row (base d) → ⊥) → r ≡ rowOk row
+    row-decided h p true y n =
+        row-fits (subst (λ (x : ℕ). x ≤ mostParts) e h)
+        (λ j l. p j (subst (λ (x : ℕ). j < x) (sym e) l), subst (λ (x : ℕ). ZerosFrom row (base x)) e (y refl))
+    row-decided h p false y n = row-misfits (λ f. n refl (subst (λ (x : ℕ). ZerosFrom row (base x)) (sym e) (f .1)))
 
 -- ── A table ──
 

@@ -1,60 +1,94 @@
 // Rows that a caller hands over: whether they are those of positions.
 ghost use mathlib.Core.Path.{_≡_};
-ghost use mathlib.Core.List.{_∷_};
-ghost use Prim.Native.Nat.{_+_, _*_, _<_, _≤_};
-ghost use lib.ListN.{length};
-ghost use Rattle.desk_positions.specs.Positions.{mostParts, Position};
-ghost use Rattle.desk_positions.specs.Rows.{rowBytes, rowOf, rowIn};
-ghost use Rattle.desk_positions.specs.Reading.{itemIn, partsIn, rowOk};
+ghost use mathlib.Core.Bool.{true, false};
+ghost use Prim.Native.Nat.{ℕ, _+_, _*_, _<_, _≤_};
+ghost use lib.ListN.{length, getD};
+ghost use Rattle.desk_positions.specs.Positions.{mostParts};
+ghost use Rattle.desk_positions.specs.Rows.{rowWidth, rowBytes, rowIn};
+ghost use Rattle.desk_positions.specs.Reading.{PartFits, ZerosFrom, rowOk};
+use crate::CELL;
 use crate::MOST_PARTS;
 use crate::PART;
 use crate::ROW;
-use crate::Row;
+use crate::ROW_BYTES;
 use usage::MOST_NODES;
 
-// Part j of the row r on top of a stack of so many.
-fn copy_part(s: Row, r: Row, j: usize) -> Row
-    requires { ⌜ j < mostParts ⌝ }
-    ensures { λ u. ⌜ ((c : Position) → length c ≡ j → s .cells ≡ rowOf c → u .cells ≡ rowOf (itemIn (r .cells) j ∷ c)) ⌝ }
+// Number k of row i.
+fn cell(t: &[u8], i: usize, k: usize) -> u32
+    requires { ⌜ rowBytes * i + rowBytes ≤ length (now t) ⌝ }
+    requires { ⌜ k < rowWidth ⌝ }
+    ensures { λ r. ⌜ r ≡ getD (rowIn (now (t .entry)) i) k 0 ⌝ }
 {
-    let i = 1 + PART * j;
-    let code = r.cells[i];
-    if MOST_NODES as u32 <= code {
-        return crate::rows::push(s, j, code, 0, 0, 0, 0);
-    }
-    let n0 = r.cells[i + 1];
-    let n1 = r.cells[i + 2];
-    let n2 = r.cells[i + 3];
-    let n3 = r.cells[i + 4];
-    crate::rows::push(s, j, code, n0, n1, n2, n3)
+    crate::bytes::word(t, ROW_BYTES * i + CELL * k)
 }
 
-// The first parts of a row, written down anew.
-fn rewritten(r: Row, depth: usize) -> Row
-    requires { ⌜ depth ≤ mostParts ⌝ }
-    ensures { λ s. ⌜ s .cells ≡ rowOf (partsIn (r .cells) depth) ⌝ }
+// Has part j of row i no meanings, where it is a closing?
+fn part_ok(t: &[u8], i: usize, j: usize) -> bool
+    requires { ⌜ rowBytes * i + rowBytes ≤ length (now t) ⌝ }
+    requires { ⌜ j < mostParts ⌝ }
+    ensures { λ r. ⌜ (r ≡ true → PartFits (rowIn (now (t .entry)) i) j) ⌝ }
+    ensures { λ r. ⌜ (r ≡ false → PartFits (rowIn (now (t .entry)) i) j → ⊥) ⌝ }
 {
-    let cells = [0u32; ROW];
-    let mut s = Row { cells };
+    let at = 1 + PART * j;
+    if cell(t, i, at) < MOST_NODES as u32 {
+        return true;
+    }
+    if cell(t, i, at + 1) != 0 {
+        return false;
+    }
+    if cell(t, i, at + 2) != 0 {
+        return false;
+    }
+    if cell(t, i, at + 3) != 0 {
+        return false;
+    }
+    cell(t, i, at + 4) == 0
+}
+
+// Is it so of the first n parts?
+fn parts_ok(t: &[u8], i: usize, n: usize) -> bool
+    requires { ⌜ rowBytes * i + rowBytes ≤ length (now t) ⌝ }
+    requires { ⌜ n ≤ mostParts ⌝ }
+    ensures { λ r. ⌜ (r ≡ true → (j : ℕ) → j < n → PartFits (rowIn (now (t .entry)) i) j) ⌝ }
+    ensures { λ r. ⌜ (r ≡ false → ((j : ℕ) → j < n → PartFits (rowIn (now (t .entry)) i) j) → ⊥) ⌝ }
+{
     let mut j: usize = 0;
-    while j < depth {
-        s = copy_part(s, r, j);
+    while j < n {
+        if !part_ok(t, i, j) {
+            return false;
+        }
         j += 1;
     }
-    s
+    true
 }
 
-// Is row i that of a position?
+// Are the numbers of row i from number n on 0?
+fn zeros_from(t: &[u8], i: usize, n: usize) -> bool
+    requires { ⌜ rowBytes * i + rowBytes ≤ length (now t) ⌝ }
+    ensures { λ r. ⌜ (r ≡ true → ZerosFrom (rowIn (now (t .entry)) i) n) ⌝ }
+    ensures { λ r. ⌜ (r ≡ false → ZerosFrom (rowIn (now (t .entry)) i) n → ⊥) ⌝ }
+{
+    let mut k = n;
+    while k < ROW {
+        if cell(t, i, k) != 0 {
+            return false;
+        }
+        k += 1;
+    }
+    true
+}
+
+// Is row i that of a position? As if it were written down anew, number by number.
 pub(crate) fn row_ok(t: &[u8], i: usize) -> bool
     requires { ⌜ rowBytes * i + rowBytes ≤ length (now t) ⌝ }
     ensures { λ b. ⌜ b ≡ rowOk (rowIn (now (t .entry)) i) ⌝ }
 {
-    let r = crate::rows::load(t, i);
-    let depth = r.cells[0] as usize;
+    let depth = cell(t, i, 0) as usize;
     if MOST_PARTS < depth {
         return false;
     }
-    let anew = rewritten(r, depth);
-    let cells = anew.cells;
-    crate::rows::same(t, i, &cells, 0)
+    if !parts_ok(t, i, depth) {
+        return false;
+    }
+    zeros_from(t, i, 1 + PART * depth)
 }
