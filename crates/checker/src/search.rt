@@ -56,7 +56,7 @@ fn leaves(edges: &[u8], local: bool, nodes: &[u8], p: usize) -> bool
         return false;
     }
     let mut table = [0u16; PLACES];
-    checker_tables::rows::fill(edges, nodes, p, &mut table);
+    checker_rows::fill(edges, nodes, p, &mut table);
     broken(nodes, &table, local, p)
 }
 

@@ -62,7 +62,7 @@ fn exact_marks(edges: &[u8], local: bool, nodes: &[u8], p: usize) -> u64
         return 0;
     }
     let mut table = [0u16; PLACES];
-    checker_tables::rows::fill(edges, nodes, p, &mut table);
+    checker_rows::fill(edges, nodes, p, &mut table);
     policy_marks(nodes, &table, local, p)
 }
 

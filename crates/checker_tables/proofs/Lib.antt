@@ -2,8 +2,6 @@
 pub mod FitLaws
 -- Meanings that no longer occur.
 pub mod MeaningLaws
--- Where there is room for it, the table of rows is the one that the search reads.
-pub mod WholeLaws
 -- Eight sets at once.
 pub mod ByStateLaws
 -- What is left of a match.

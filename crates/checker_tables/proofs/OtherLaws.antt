@@ -11,7 +11,6 @@ use Rattle.outline_nodes.specs.Said.{saidBy}
 use Rattle.outline_nodes.proofs.SaidLaws.{tag}
 use Rattle.checker_account.specs.Tables.{Rows, arrivals, leaves}
 use Rattle.checker_account.specs.Filling.{arrivalsOf, leavesOf}
-use Rattle.checker_account.specs.RowTable.{EventTables, nodeRows}
 use Rattle.checker_tables.specs.Search.{isOn, small}
 use Rattle.checker_tables.specs.Work.{noted}
 use Rattle.checker_tables.specs.Marks.{lastIn, markBit}
@@ -42,21 +41,6 @@ no-number (Back a) h = absurd (miss (0 ∷ 9 ∷ []) 6 tt h)
 no-number (Fresh n b) h = absurd (miss (0 ∷ 9 ∷ []) 7 tt h)
 no-number (Sandbox s b) h = absurd (miss (0 ∷ 9 ∷ []) 8 tt h)
 no-number Nothing h = refl
-
--- they have no event
-pub no-rows : (tables : EventTables) (p k : ℕ) (r : List ℕ) (f : NodeForm) → OneOf (0 ∷ 3 ∷ 4 ∷ 5 ∷ 6 ∷ 8 ∷ 9 ∷ []) (tag f)
-    → r ≡ nodeRows tables p k (saidBy f) r
-unfolding nodeRows
-no-rows tables p k r End h = refl
-no-rows tables p k r (OnStatic a s) h = absurd (miss (0 ∷ 3 ∷ 4 ∷ 5 ∷ 6 ∷ 8 ∷ 9 ∷ []) 1 tt h)
-no-rows tables p k r (OnName a n) h = absurd (miss (0 ∷ 3 ∷ 4 ∷ 5 ∷ 6 ∷ 8 ∷ 9 ∷ []) 2 tt h)
-no-rows tables p k r (Sequence a b) h = refl
-no-rows tables p k r (Choice a b) h = refl
-no-rows tables p k r (Loop a) h = refl
-no-rows tables p k r (Back a) h = refl
-no-rows tables p k r (Fresh n b) h = absurd (miss (0 ∷ 3 ∷ 4 ∷ 5 ∷ 6 ∷ 8 ∷ 9 ∷ []) 7 tt h)
-no-rows tables p k r (Sandbox s b) h = refl
-no-rows tables p k r Nothing h = refl
 
 -- they take no step
 pub no-step : (local : Bool) (rows : Rows) (p x : ℕ) (u : List ℕ) (k m : ℕ) (f : NodeForm)

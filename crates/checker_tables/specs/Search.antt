@@ -16,7 +16,6 @@ use Rattle.checker_account.specs.declared.Arrival.{Arrival}
 use Rattle.checker_account.specs.Tables.{unnamed, meanings, places, least, rowsIn, place, Resets, never, opening-of}
 use Rattle.checker_account.specs.Filling.{grown, Wide, entered, formsIn, EndsRule, EndsFilled, ComesRule, passRound}
 use Rattle.checker_account.specs.Filling.{begins, Filled, hitAny, Searched}
-use Rattle.checker_account.specs.RowTable.{EventTables, fillRows}
 
 -- meaning m once meaning n no longer occurs
 unfoldable pub lost : ℕ → ℕ → ℕ
@@ -140,13 +139,3 @@ SearchedIf false nodes local rows p x answer = answer ≡ false
 abbrev pub ArrivesIf : Bool → List ℕ → Bool → List ℕ → ℕ → ℕ → List ℕ → Bool → Type 0
 ArrivesIf true nodes local rows p x u answer = Arrives nodes local rows p x u answer
 ArrivesIf false nodes local rows p x u answer = (answer ≡ false) × (u ≡ replicate places 0)
-
--- the table of rows is one of zeros where there is no such policy or no room for the nodes
-abbrev pub wholeIf : Bool → List ℕ → List ℕ
-wholeIf true r = r
-wholeIf false r = replicate places 0
-
-unfoldable pub rowTable : EventTables → ℕ → List ℕ → List ℕ
-rowTable tables p nodes =
-    wholeIf (ltb p policies && leb (length nodes / nodeFields) mostNodes)
-    (fillRows tables p (length nodes / nodeFields) (formsIn nodes) (replicate places 0))

@@ -1,6 +1,6 @@
-// Is a policy broken, with one resource watched? The tables of the account are filled (`ends`, `arrivals`) by the policy's moves
-// (`rows`), and a violation is looked for in them (`hits`). Here stand the search, and what the modules share: single entries of a
-// table, single nodes, and whether the tables have room for them.
+// Is a policy broken, with one resource watched? The tables of the account are filled (`ends`, `arrivals`) by the policy's moves, of
+// which the crate `checker_rows` has made a table (`rows`), and a violation is looked for in them (`hits`). Here stand the search, and
+// what the modules share: single entries of a table, single nodes, and whether the tables have room for them.
 ghost use mathlib.Core.Path.{_≡_};
 ghost use mathlib.Core.Bool.{Bool, not, _&&_};
 ghost use Prim.Native.Nat.{ℕ, _+_, _/_, _<_, _≤_};
@@ -27,7 +27,7 @@ use usage::STATES;
 pub mod arrivals;
 mod ends;
 mod hits;
-pub mod rows;
+mod rows;
 mod sets;
 pub mod work;
 

@@ -42,11 +42,12 @@ use Rattle.checker_account.proofs.RowTableLaws.{rows-from}
 use Rattle.checker_account.proofs.ScopedLaws.{scoped}
 use borrow.Author.Tests.{lt-ltb}
 use Rattle.checker_account.proofs.UntouchedLaws.{goes-watched}
-use Rattle.checker_tables.specs.Search.{rowTable, touched, hasRoom, SearchedIf, ArrivesIf, Arrived as Came}
+use Rattle.checker_rows.specs.Rows.{rowTable}
+use Rattle.checker_tables.specs.Search.{touched, hasRoom, SearchedIf, ArrivesIf, Arrived as Came}
 use Rattle.checker_tables.proofs.FitLaws.{outline-fits}
 use Rattle.checker_tables.proofs.AnswerLaws.{arrives-searched}
 use Rattle.checker_tables.proofs.TouchedLaws.{untouched, dynamic-touched}
-use Rattle.checker_tables.proofs.WholeLaws.{whole-in}
+use Rattle.checker_rows.proofs.WholeLaws.{whole-in}
 use Rattle.checker_tables.specs.declared.Watch.{Watch}
 use Rattle.checker_lengths.specs.Entries.{noLength, allLengths, entryOf, held}
 use Rattle.checker_lengths.specs.Held.{aimAt, meaningOf, watchOf, Source}

@@ -232,7 +232,7 @@ pub fn counterexample(
         return Length::Longer;
     }
     let mut rows = [0u16; PLACES];
-    checker_tables::rows::fill(edges, nodes, p, &mut rows);
+    checker_rows::fill(edges, nodes, p, &mut rows);
     let mut t = [NONE; SIZE];
     let found = least(nodes, &rows, local, p, &mut t);
     let n = found.length;

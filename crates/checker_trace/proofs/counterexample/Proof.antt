@@ -21,7 +21,7 @@ use Rattle.checker_trace.proofs.counterexample.Statement.{statement}
 use Rattle.checker_trace.proofs.counterexample.Tie as tie
 use Rattle.checker_trace.proofs.counterexample.Reads as reads
 use Rattle.checker_trace.proofs.counterexample.Lts as lts
-use Rattle.checker_tables.proofs.rows.fill.Reads as fill-reads
+use Rattle.checker_rows.proofs.fill.Reads as fill-reads
 use Rattle.checker_trace.proofs.least.Reads as least-reads
 use Rattle.checker_trace.proofs.show.Reads as show-reads
 use Rattle.sheet_fields.proofs.edges.edge_table_ok.Reads as edge-table-ok-reads

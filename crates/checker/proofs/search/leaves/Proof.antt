@@ -5,7 +5,7 @@ use Rattle.usage.proofs.Logic.{not-true}
 use Rattle.automaton.specs.Move.{rowsOf}
 use Rattle.checker.proofs.PolicyLaws.{few-nodes, shut, bare, looked}
 use borrow.Author.Needs.{needs}
-use Rattle.checker_tables.proofs.WholeLaws.{whole-in}
+use Rattle.checker_rows.proofs.WholeLaws.{whole-in}
 use Rattle.checker.proofs.search.leaves.Statement.{statement}
 use Rattle.checker.proofs.search.leaves.Tie as tie
 

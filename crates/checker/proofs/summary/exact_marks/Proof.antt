@@ -4,7 +4,7 @@ use borrow.Author.Needs.{needs}
 use Rattle.usage.specs.Tables.{edgesOf}
 use Rattle.usage.proofs.Logic.{not-true}
 use Rattle.automaton.specs.Move.{rowsOf}
-use Rattle.checker_tables.proofs.WholeLaws.{whole-in}
+use Rattle.checker_rows.proofs.WholeLaws.{whole-in}
 use Rattle.checker.proofs.PolicyLaws.{few-nodes, shut, bare}
 use Rattle.checker.proofs.MarkLaws.{policy-exact, unmarked}
 use Rattle.checker.proofs.summary.exact_marks.Statement.{statement}

@@ -10,12 +10,12 @@ use Rattle.checker_account.specs.RowTable.{Bytes, rowsStored}
 use Prim.Native.Nat.{ℕ, _<_}
 use lib.ListN.{getD}
 use borrow.Author.Needs.{needs}
-use Rattle.checker_tables.proofs.rows.event_rows.Statement.{statement}
-use Rattle.checker_tables.proofs.rows.event_rows.Tie as tie
-use Rattle.checker_tables.proofs.rows.event_rows.Reads as reads
-use Rattle.checker_tables.proofs.rows.event_rows.Lts as lts
+use Rattle.checker_rows.proofs.event_rows.Statement.{statement}
+use Rattle.checker_rows.proofs.event_rows.Tie as tie
+use Rattle.checker_rows.proofs.event_rows.Reads as reads
+use Rattle.checker_rows.proofs.event_rows.Lts as lts
 use Rattle.automaton.proofs.moves.rows.Reads as rows-reads
-use Rattle.checker_tables.proofs.rows.store.Reads as store-reads
+use Rattle.checker_rows.proofs.store.Reads as store-reads
 
 bytes : (es : List Edge) (action resource : ℕ) (mine : Bool) (t : List ℕ) → t ≡ rowsOf es action resource mine → Bytes t
 bytes es action resource mine t e i = subst (λ (t : List ℕ). getD t i 0 < 256) (sym e) (rows-lt es action resource mine i)

@@ -11,7 +11,7 @@ use Rattle.usage.proofs.Logic.{and-both, and-false}
 use Rattle.checker_account.specs.Tables.{places}
 use Rattle.checker_account.specs.Filling.{formsIn}
 use Rattle.checker_account.specs.RowTable.{EventTables, fillRows}
-use Rattle.checker_tables.specs.Search.{wholeIf, rowTable}
+use Rattle.checker_rows.specs.Rows.{wholeIf, rowTable}
 
 module _ (tables : EventTables) (p : ℕ) (nodes : List ℕ) where
   abbrev filled : List ℕ

@@ -15,13 +15,13 @@ use Rattle.checker_account.specs.Filling.{repeat, formsIn}
 use Rattle.checker_account.specs.RowTable.{nodeRows, fillRows}
 use Rattle.checker_account.proofs.GrowsLaws.{repeat-more}
 use Rattle.checker_account.proofs.RowTableLaws.{filled-length}
-use Rattle.checker_tables.proofs.WholeLaws.{whole-in, no-policy, no-room}
-use Rattle.checker_tables.proofs.rows.fill.Statement.{statement}
-use Rattle.checker_tables.proofs.rows.fill.Tie as tie
-use Rattle.checker_tables.proofs.rows.fill.Reads as reads
-use Rattle.checker_tables.proofs.rows.fill.Lts as lts
+use Rattle.checker_rows.proofs.WholeLaws.{whole-in, no-policy, no-room}
+use Rattle.checker_rows.proofs.fill.Statement.{statement}
+use Rattle.checker_rows.proofs.fill.Tie as tie
+use Rattle.checker_rows.proofs.fill.Reads as reads
+use Rattle.checker_rows.proofs.fill.Lts as lts
 use Rattle.outline_nodes.proofs.form.Reads as form-reads
-use Rattle.checker_tables.proofs.rows.of_node.Reads as of-node-reads
+use Rattle.checker_rows.proofs.of_node.Reads as of-node-reads
 use Rattle.checker_account.specs.Tables.{places}
 
 abbrev steps : List ℕ → List ℕ → ℕ → ℕ → List ℕ → List ℕ

@@ -2,13 +2,13 @@ use denote.Ref.{now}
 use Rattle.usage.specs.Tables.{edgesOf}
 use Rattle.automaton.specs.Move.{rowsOf}
 use Rattle.checker_account.specs.RowTable.{nodeRows}
-use Rattle.checker_tables.proofs.OtherLaws.{no-rows}
+use Rattle.checker_rows.proofs.OtherLaws.{no-rows}
 use borrow.Author.Needs.{needs}
-use Rattle.checker_tables.proofs.rows.of_node.Statement.{statement}
-use Rattle.checker_tables.proofs.rows.of_node.Tie as tie
-use Rattle.checker_tables.proofs.rows.of_node.Reads as reads
-use Rattle.checker_tables.proofs.rows.of_node.Lts as lts
-use Rattle.checker_tables.proofs.rows.event_rows.Reads as event-rows-reads
+use Rattle.checker_rows.proofs.of_node.Statement.{statement}
+use Rattle.checker_rows.proofs.of_node.Tie as tie
+use Rattle.checker_rows.proofs.of_node.Reads as reads
+use Rattle.checker_rows.proofs.of_node.Lts as lts
+use Rattle.checker_rows.proofs.event_rows.Reads as event-rows-reads
 
 enum-known-f : tie.Need-enum-known-f
 enum-known-f c = search needs

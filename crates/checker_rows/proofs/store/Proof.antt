@@ -6,10 +6,10 @@ use Rattle.checker_account.specs.RowTable.{storeRow, rowsStored}
 use native.Mathlib.Omega.{arith}
 use mathlib.Core.Path.{_≡_, refl}
 use borrow.Author.Needs.{needs}
-use Rattle.checker_tables.proofs.rows.store.Statement.{statement}
-use Rattle.checker_tables.proofs.rows.store.Tie as tie
-use Rattle.checker_tables.proofs.rows.store.Reads as reads
-use Rattle.checker_tables.proofs.rows.store.Lts as lts
+use Rattle.checker_rows.proofs.store.Statement.{statement}
+use Rattle.checker_rows.proofs.store.Tie as tie
+use Rattle.checker_rows.proofs.store.Reads as reads
+use Rattle.checker_rows.proofs.store.Lts as lts
 
 abbrev Inv-loop : tie.InvT-loop
 Inv-loop rows₀ k p own other q₀ rows q = (q ≤ states) × (rows ≡ repeat (storeRow k p own other) q rows₀)

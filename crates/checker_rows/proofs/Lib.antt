@@ -1,0 +1,4 @@
+-- Where there is room for it, the table is the one that the search reads.
+pub mod WholeLaws
+-- What is left of a match.
+pub mod OtherLaws

@@ -1,0 +1,2 @@
+-- Rows: the table that is filled.
+pub mod Rows
