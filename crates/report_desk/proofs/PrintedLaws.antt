@@ -1,6 +1,6 @@
 -- Laws of the desk's printed lines: the lines of a list of steps, one after the other, and how they stand in a buffer.
 use Prim.Native.Nat.{ℕ, suc, _+_, _-_, _*_, _/_, _≤_, _<_}
-use mathlib.Core.Path.{_≡_, refl, sym, ap, subst, _∙_}
+use mathlib.Core.Path.{_≡_, refl, sym, ap, _∙_}
 use mathlib.Core.List.{List, [], _∷_, _++_, append-nil, append-assoc}
 use native.Mathlib.Nat.{zero-add, add-zero, suc-add, add-suc, sub-zero}
 use native.Mathlib.Numerals.{add-one}

@@ -1,6 +1,6 @@
 -- What the desk's program prints depends on its texts only by what reading them gives.
 use Prim.Native.Nat.{ℕ}
-use mathlib.Core.Path.{_≡_, sym, ap, subst, _∙_}
+use mathlib.Core.Path.{_≡_, sym, subst, _∙_}
 use mathlib.Core.Bool.{Bool}
 use mathlib.Core.List.{List, flatten}
 use Rattle.usage.specs.Limits.{edgePlaces, nodePlaces}

@@ -3,7 +3,6 @@ use Prim.Native.Nat.{ℕ, suc, _+_, _*_, _/_, _%_}
 use mathlib.Core.Path.{_≡_}
 use mathlib.Core.List.{List, [], _∷_, _++_, flatten}
 use lib.ListN.{length, replicate}
-use Rattle.usage.specs.declared.RawStep.{RawStep}
 use Rattle.usage.specs.Answers.{Refusal}
 use Rattle.usage.specs.Limits.{mostSteps}
 use Rattle.usage.specs.Tables.{stepsOf}

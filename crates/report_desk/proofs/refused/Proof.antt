@@ -1,8 +1,6 @@
 -- `refused` meets its contract: the line has room.
 use native.Mathlib.Omega.{arith}
-use Prim.Native.Nat.{_≤_}
 use denote.Ref.{now}
-use lib.ListN.{length}
 use borrow.Author.Needs.{needs}
 use Rattle.report_lines.proofs.RowLaws.{numbered-sixteen}
 use Rattle.report_lines.proofs.FitLaws.{stored-at}

@@ -2,8 +2,6 @@
 use native.Mathlib.Omega.{arith}
 use Prim.Native.Nat.{_-_, _*_, _≤_}
 use denote.Ref.{now}
-use mir.Syntax.{w8, w64}
-use mir.Val.{Fits}
 use lib.ListN.{length-take}
 use Rattle.usage.specs.Limits.{mostSteps}
 use Rattle.sheet_lines.specs.Sheets.{traceSheet}
