@@ -47,7 +47,7 @@ module _ (f : Edge → Bool) (q : ℕ) where
   targets-set es fs h =
       sym (targets-within fs es (λ e. h e .1)) ∙ or-comm (targets f fs q) (targets f es q) ∙ targets-within es fs (λ e. h e .0)
 
-image-set : (f : Edge → Bool) (es fs : List Edge) → SameEdges es fs → (q : ℕ) → image f es q ≡ image f fs q
+pub image-set : (f : Edge → Bool) (es fs : List Edge) → SameEdges es fs → (q : ℕ) → image f es q ≡ image f fs q
 unfolding image
 image-set f es fs h q = ap (λ (n : ℕ). cond (eqb n 0) (single q) n) (targets-set f q es fs h)
 

@@ -6,3 +6,4 @@ pub mod SameLaws
 pub mod UnionLaws
 pub mod PlaceLaws
 pub mod EdgeSetLaws
+pub mod PairSetLaws

@@ -122,7 +122,7 @@ unfolding union
 union-lt zero f h = lit< tt
 union-lt (suc n) f h = or-lt 8 (union n f) (f n) (union-lt n f (λ i l. h i (omega arith))) (h n (omega arith))
 
-pow-byte : (t : ℕ) → t < 8 → 2 ^ t < 256
+pub pow-byte : (t : ℕ) → t < 8 → 2 ^ t < 256
 pow-byte t h = pow-lt h
 
 -- the bit of a number below 8, as the code makes it

@@ -178,7 +178,7 @@ module _ (f : Edge → Bool) where
       go false = targets-lt es q
 
   -- a moved set is a byte again
-  move-lt : (es : List Edge) (m : ℕ) → move f es m < 256
+  pub move-lt : (es : List Edge) (m : ℕ) → move f es m < 256
   unfolding move
   move-lt es m = union-lt 8 (λ q. cond (has m q) (image f es q) 0) (λ q l. go q (has m q))
     where

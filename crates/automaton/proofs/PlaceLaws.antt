@@ -98,7 +98,7 @@ seen-labelled false false s (other d) = refl
 seen-labelled a b s (second h) = s .is-second .1 h
 
 module _ (p a : ℕ) (places : List ℕ) (i r : ℕ) (x y : Bool) (s : Seats places i x y) where
-  fires-seen : (e : Edge) → firesAt p a r x y e ≡ true → Matches p a (SeesAt places i r) e
+  pub fires-seen : (e : Edge) → firesAt p a r x y e ≡ true → Matches p a (SeesAt places i r) e
   fires-seen e h =
       let b : Bool = eqb (e .policy) p && eqb (e .action) a in
       let l : Bool = labelledAt (e .on) (e .who) x y r in
@@ -108,7 +108,7 @@ module _ (p a : ℕ) (places : List ℕ) (i r : ℕ) (x y : Bool) (s : Seats pla
         label = labelled-seen (e .on) (e .who) places i r x y s (and-right b l h);
       }
 
-  seen-fires : (e : Edge) → Matches p a (SeesAt places i r) e → firesAt p a r x y e ≡ true
+  pub seen-fires : (e : Edge) → Matches p a (SeesAt places i r) e → firesAt p a r x y e ≡ true
   seen-fires e m =
       and-both (eqb (e .policy) p && eqb (e .action) a) (labelledAt (e .on) (e .who) x y r)
       (and-both (eqb (e .policy) p) (eqb (e .action) a) (eq-eqb (e .policy) p (m .policy)) (eq-eqb (e .action) a (m .action)))

@@ -8,7 +8,7 @@ use lib.Dec.{eqb}
 use Rattle.usage.specs.declared.Edge.{Edge}
 use Rattle.usage.specs.Limits.{states}
 use Rattle.automaton.specs.Mask.{has, single}
-use Rattle.automaton.specs.Move.{targets, image, move, labelled, fires, moveMask}
+use Rattle.automaton.specs.Move.{targets, image, move, labelled, fires, labelledAt, firesAt, moveMask}
 use Rattle.automaton.proofs.RowLaws.{union-ext}
 
 -- two tests that agree on every edge
@@ -46,3 +46,17 @@ module _ (x r : ℕ) (mine : Bool) where
   moveMask-same es h p a m =
       move-same (fires p a x mine) (fires p a r mine) es
       (λ e k. ap (λ (b : Bool). (eqb (e .policy) p && eqb (e .action) a) && b) (label-same (e .on) (e .who) (h e k))) m
+
+  -- so for an instance with one place or two
+  pub image-named : (second : Bool) (es : List Edge) → ((e : Edge) → List·Memᴰ e es → e .on ≡ 0 → eqb x (e .who) ≡ eqb r (e .who))
+      → (p a q : ℕ) → image (firesAt p a x mine second) es q ≡ image (firesAt p a r mine second) es q
+  image-named second es h p a q =
+      image-same (firesAt p a x mine second) (firesAt p a r mine second) es
+      (λ e k. ap (λ (b : Bool). (eqb (e .policy) p && eqb (e .action) a) && b) (at-same (e .on) (e .who) (h e k))) q
+    where
+      at-same : (on who : ℕ) → (on ≡ 0 → eqb x who ≡ eqb r who) → labelledAt on who mine second x ≡ labelledAt on who mine second r
+      at-same zero who h = h refl
+      at-same (suc zero) who h = refl
+      at-same (suc (suc zero)) who h = refl
+      at-same (suc (suc (suc zero))) who h = refl
+      at-same (suc (suc (suc (suc k)))) who h = refl

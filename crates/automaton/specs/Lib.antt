@@ -1,3 +1,4 @@
 pub mod Mask
+pub mod PairSet
 pub mod Move
 pub mod Code

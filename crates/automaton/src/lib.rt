@@ -10,6 +10,7 @@ ghost use Rattle.automaton.specs.Move.{moveBy};
 ghost use Rattle.automaton.specs.Code.{changed, moveByPolicy};
 
 pub mod moves;
+pub mod pairs;
 
 // The places of a table of rows: one for each state of each policy.
 pub const ROWS: usize = POLICIES * STATES;

@@ -1,4 +1,4 @@
--- A block of eight edges has no fault exactly where each of its edges is in range.
+-- Where a block of eight edges has no fault each of its edges is in range and none is on 3.
 use Prim.Native.Nat.{ℕ, zero, suc, _+_, _-_, _*_, _/_, _%_, _<_, _≤_, min}
 use mathlib.Core.Path.{_≡_, refl, sym, ap, subst, _∙_}
 use mathlib.Core.Bool.{Bool, true, false}
@@ -17,13 +17,11 @@ use Rattle.usage.specs.Tests.{every, edgeOk}
 use Rattle.usage.specs.Tables.{from, edgeAt}
 use Rattle.usage.proofs.Logic.{by-cases, last-or-lower}
 use Rattle.usage.proofs.ValidLaws.{decides-edge}
-use Rattle.sheet_fields.specs.Code.{blockEdges, blockBytes, repeated, fieldMost, fieldPaired, byteFault, faultAt, faults}
+use Rattle.sheet_fields.specs.Code.{testedIn, blockEdges, blockBytes, repeated, fieldMost, fieldPaired, byteFault, faultAt, faults}
 use Rattle.sheet_fields.proofs.EveryLaws.{each-passes}
+use Rattle.sheet_fields.proofs.EdgeLaws.{Plain, tested-plain}
 
 -- ── Joined faults ──
-
-or-none : (a b : ℕ) → a ≡ 0 → b ≡ 0 → bitOr a b ≡ 0
-or-none a b p q = omega (arith, or-add-and a b)
 
 none-left : (a b : ℕ) → bitOr a b ≡ 0 → a ≡ 0
 none-left a b e = omega (arith, or-add-and a b, and-le-r a b)
@@ -32,11 +30,6 @@ none-right : (a b : ℕ) → bitOr a b ≡ 0 → b ≡ 0
 none-right a b e = omega (arith, or-add-and a b, and-le-l a b)
 
 module _ (t : List ℕ) (k : ℕ) (most masks : List ℕ) where
-  no-faults : (n : ℕ) → ((j : ℕ) → j < n → faultAt t k most masks j ≡ 0) → faults t k most masks n ≡ 0
-  unfolding faults
-  no-faults zero h = refl
-  no-faults (suc n) h = or-none _ _ (no-faults n (λ j l. h j (omega arith))) (h n (omega arith))
-
   no-fault : (n : ℕ) → faults t k most masks n ≡ 0 → (j : ℕ) → j < n → faultAt t k most masks j ≡ 0
   unfolding faults
   no-fault zero e j l = absurd (omega arith)
@@ -45,13 +38,6 @@ module _ (t : List ℕ) (k : ℕ) (most masks : List ℕ) where
       (λ q. no-fault n (none-left (faults t k most masks n) (faultAt t k most masks n) e) j q)
 
 -- ── One byte ──
-
-in-range : (x y m : ℕ) → x ≤ m → byteFault x y m 0 ≡ 0
-in-range x y m l = or-none (x - m) (bitAnd (min x y) 0) (omega arith) (and-zero-r (min x y))
-
-paired-none : (x y m : ℕ) → x ≤ m → (x ≡ 0) ⊎ (y ≡ 0) → byteFault x y m 255 ≡ 0
-paired-none x y m l h = or-none (x - m) (bitAnd (min x y) 255) (omega arith) (ap (λ (v : ℕ). bitAnd v 255) (by-cases h
-    (λ e. ap (λ (v : ℕ). min v y) e ∙ zero-min y) (λ e. ap (λ (v : ℕ). min x v) e ∙ min-zero x)) ∙ and-zero-l 255)
 
 range-in : (x y m mask : ℕ) → byteFault x y m mask ≡ 0 → x ≤ m
 range-in x y m mask e = omega (arith, none-left (x - m) (bitAnd (min x y) mask) e)
@@ -90,12 +76,6 @@ six P a b c d e f (suc (suc (suc zero))) l = d
 six P a b c d e f (suc (suc (suc (suc zero)))) l = e
 six P a b c d e f (suc (suc (suc (suc (suc zero))))) l = f
 six P a b c d e f (suc (suc (suc (suc (suc (suc r)))))) l = absurd (omega arith)
-
-who-or : (e : Edge) → EdgeOk e → (n : ℕ) → e .on ≡ n → ((e .on ≡ 0) ⊎ (e .who ≡ 0)) × (e .who ≤ statics - 1)
-who-or e ok zero h = (inl h, omega (arith, ok .who-static h))
-who-or e ok (suc n) h =
-    let z = ok .who-unused (λ q. absurd (omega (arith, q, h))) in
-    (inr z, omega (arith, z))
 
 -- edge e of block i
 module _ (t : List ℕ) (i e : ℕ) (l : e < blockEdges) where
@@ -139,34 +119,29 @@ module _ (t : List ℕ) (i e : ℕ) (l : e < blockEdges) where
   unfolding every from repeated
   to-is = fault-is 5 (start + 5) (start + 6) (states - 1) 0 (omega arith) (omega arith) refl refl
 
-  edge-none : edgeOk (edgeAt t number) ≡ true → (r : ℕ) → r < edgeFields → fault r ≡ 0
-  edge-none h =
-      let ok = decides-edge (edgeAt t number) .0 h in
-      let w = who-or (edgeAt t number) ok (getD t (start + 3) 0) refl in
-      six (λ r. fault r ≡ 0)
-      (policy-is ∙ in-range (getD t start 0) (getD t (start + 1) 0) (policies - 1) (omega (arith, ok .policy)))
-      (from-is ∙ in-range (getD t (start + 1) 0) (getD t (start + 2) 0) (states - 1) (omega (arith, ok .from)))
-      (action-is ∙ in-range (getD t (start + 2) 0) (getD t (start + 3) 0) (actions - 1) (omega (arith, ok .action)))
-      (on-is ∙ paired-none (getD t (start + 3) 0) (getD t (start + 4) 0) 2 (omega (arith, ok .on)) (w .0))
-      (who-is ∙ in-range (getD t (start + 4) 0) (getD t (start + 5) 0) (statics - 1) (w .1))
-      (to-is ∙ in-range (getD t (start + 5) 0) (getD t (start + 6) 0) (states - 1) (omega (arith, ok .to)))
-
-  none-edge : ((r : ℕ) → r < edgeFields → fault r ≡ 0) → edgeOk (edgeAt t number) ≡ true
+  none-edge : ((r : ℕ) → r < edgeFields → fault r ≡ 0) → Plain t number
   none-edge h =
-      let one = none-paired (getD t (start + 3) 0) (getD t (start + 4) 0) 2 (omega arith) (sym on-is ∙ h 3 (omega arith)) in
-      decides-edge (edgeAt t number) .1 (record {
-        policy = omega (arith, range-in (getD t start 0) (getD t (start + 1) 0) (policies - 1) 0 (sym policy-is ∙ h 0 (omega arith)));
-        «from» = omega (arith, range-in (getD t (start + 1) 0) (getD t (start + 2) 0) (states - 1) 0 (sym from-is ∙ h 1 (omega arith)));
-        action = omega (arith, range-in (getD t (start + 2) 0) (getD t (start + 3) 0) (actions - 1) 0 (sym action-is ∙ h 2 (omega arith)));
-        on = omega (arith, range-in (getD t (start + 3) 0) (getD t (start + 4) 0) 2 255 (sym on-is ∙ h 3 (omega arith)));
-        who-static = λ q. omega (
-          arith,
-          range-in (getD t (start + 4) 0) (getD t (start + 5) 0) (statics - 1) 0
-              (sym who-is ∙ h 4 (omega arith)),
-        );
-        who-unused = λ q. by-cases one (λ z. absurd (q z)) (λ z. z);
-        to = omega (arith, range-in (getD t (start + 5) 0) (getD t (start + 6) 0) (states - 1) 0 (sym to-is ∙ h 5 (omega arith)));
-      })
+      let low = range-in (getD t (start + 3) 0) (getD t (start + 4) 0) 2 255 (sym on-is ∙ h 3 (omega arith)) in
+      let one = none-paired (getD t (start + 3) 0) (getD t (start + 4) 0) 2 (omega arith) (sym on-is ∙ h 3 (omega arith)) in (
+        decides-edge (edgeAt t number) .1 (record {
+          policy = omega (arith, range-in (getD t start 0) (getD t (start + 1) 0) (policies - 1) 0 (sym policy-is ∙ h 0 (omega arith)));
+          «from» = omega (arith, range-in (getD t (start + 1) 0) (getD t (start + 2) 0) (states - 1) 0 (sym from-is ∙ h 1 (omega arith)));
+          action = omega (
+            arith,
+            range-in (getD t (start + 2) 0) (getD t (start + 3) 0) (actions - 1) 0
+                (sym action-is ∙ h 2 (omega arith)),
+          );
+          on = omega arith;
+          who-static = λ q. omega (
+            arith,
+            range-in (getD t (start + 4) 0) (getD t (start + 5) 0) (statics - 1) 0
+                (sym who-is ∙ h 4 (omega arith)),
+          );
+          who-unused = λ q. by-cases one (λ z. absurd (q z)) (λ z. z);
+          to = omega (arith, range-in (getD t (start + 5) 0) (getD t (start + 6) 0) (states - 1) 0 (sym to-is ∙ h 5 (omega arith)));
+        }),
+        λ q. omega (arith, low),
+      )
 
 -- ── A block ──
 
@@ -174,36 +149,11 @@ module _ (t : List ℕ) (i : ℕ) where
   abbrev blockFaults : ℕ
   blockFaults = faults t (blockBytes * i) blockMost blockPaired blockBytes
 
-  pub block-none : ((e : ℕ) → e < blockEdges → edgeOk (edgeAt t (blockEdges * i + e)) ≡ true) → blockFaults ≡ 0
-  block-none h = no-faults t (blockBytes * i) blockMost blockPaired blockBytes (λ j l.
-      subst (λ (n : ℕ). faultAt t (blockBytes * i) blockMost blockPaired n ≡ 0) (sym (parts j))
-      (edge-none t i (j / edgeFields) (omega (arith, l)) (h (j / edgeFields) (omega (arith, l))) (j % edgeFields) (omega arith)))
+  -- the blocks up to this one say what this one says with them
+  pub block-plain : blockFaults ≡ 0 → testedIn t (blockEdges * i) ≡ testedIn t (blockEdges * (i + 1))
+  block-plain h = tested-plain t (blockEdges * i) blockEdges (λ e l. none-edge t i e l
+      (λ r b. no-fault t (blockBytes * i) blockMost blockPaired blockBytes h (edgeFields * e + r) (omega (arith, l, b))))
+      ∙ ap (testedIn t) (next i)
     where
-      parts : (j : ℕ) → j ≡ edgeFields * (j / edgeFields) + j % edgeFields
-      parts j = omega arith
-
-  pub none-block : blockFaults ≡ 0 → (e : ℕ) → e < blockEdges → edgeOk (edgeAt t (blockEdges * i + e)) ≡ true
-  none-block h e l = none-edge t i e l
-      (λ r b. no-fault t (blockBytes * i) blockMost blockPaired blockBytes h (edgeFields * e + r) (omega (arith, l, b)))
-
-  -- the blocks up to this one, and this one
-  pub block-passes : ((k : ℕ) → k < blockEdges * i → edgeOk (edgeAt t k) ≡ true) → blockFaults ≡ 0
-      → (k : ℕ) → k < blockEdges * (i + 1) → edgeOk (edgeAt t k) ≡ true
-  block-passes h z k l = go (leb (blockEdges * i) k) refl
-    where
-      back : (k : ℕ) → blockEdges * i ≤ k → blockEdges * i + (k - blockEdges * i) ≡ k
-      back k b = omega (arith, b)
-
-      go : (b : Bool) → leb (blockEdges * i) k ≡ b → edgeOk (edgeAt t k) ≡ true
-      go true q =
-          let b = leb-true (blockEdges * i) k q in
-          subst (λ (n : ℕ). edgeOk (edgeAt t n) ≡ true) (back k b) (none-block z (k - blockEdges * i) (omega (arith, l, b)))
-      go false q = h k (leb-false (blockEdges * i) k q)
-
-  pub block-fails : (n : ℕ) → i < n → (blockFaults ≡ 0 → ⊥) → every edgeOk (from (edgeAt t) 0 (blockEdges * n)) ≡ false
-  block-fails n l h = go (every edgeOk (from (edgeAt t) 0 (blockEdges * n))) refl
-    where
-      go : (b : Bool) → every edgeOk (from (edgeAt t) 0 (blockEdges * n)) ≡ b → every edgeOk (from (edgeAt t) 0 (blockEdges * n)) ≡ false
-      go true q = absurd (h (block-none (λ e b. each-passes edgeOk (edgeAt t) (blockEdges * n) q (blockEdges * i + e)
-          (omega (arith, l, b)))))
-      go false q = q
+      next : (i : ℕ) → blockEdges * i + blockEdges ≡ blockEdges * (i + 1)
+      next i = omega arith

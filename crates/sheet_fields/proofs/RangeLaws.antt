@@ -8,8 +8,8 @@ use native.Mathlib.Nat.{le-of-suc-le-suc, not-suc-le-zero, add-zero}
 use lib.ListN.{length, getD, take, drop, getElem?}
 use lib.Seq.{getD-take, getD-drop}
 use Rattle.usage.specs.Limits.{edgeFields, Kind}
-use Rattle.usage.specs.Tests.{fits, edgeOk}
-use Rattle.sheet_fields.specs.Fields.{edgeLine}
+use Rattle.usage.specs.Tests.{fits}
+use Rattle.sheet_fields.specs.Fields.{edgeOf}
 use Rattle.sheet_fields.specs.declared.Spans.{Spans}
 use Rattle.sheet_fields.specs.Code.{spansOf, inSpans}
 
@@ -54,19 +54,19 @@ module _ (b : ℕ) (l : List ℕ) where
   pub cell-first : (n : ℕ) → 0 < n → getD (take n (drop b l)) 0 0 ≡ getD l b 0
   cell-first n h = cell n 0 h ∙ ap (λ i. getD l i 0) (add-zero b)
 
-  pub edge-cells : edgeLine (take edgeFields (drop b l)) ≡ edgeOk (record {
+  pub edge-of-cells : edgeOf (take edgeFields (drop b l)) ≡ record {
     policy = getD l b 0;
     «from» = getD l (b + 1) 0;
     action = getD l (b + 2) 0;
     on = getD l (b + 3) 0;
     who = getD l (b + 4) 0;
     to = getD l (b + 5) 0;
-  })
-  edge-cells = simp (
+  }
+  edge-of-cells = rw (
     cell-first edgeFields (omega arith),
     cell edgeFields 1 (omega arith),
     cell edgeFields 2 (omega arith),
     cell edgeFields 3 (omega arith),
     cell edgeFields 4 (omega arith),
     cell edgeFields 5 (omega arith),
-  )
+  ) refl

@@ -1,11 +1,16 @@
 -- The ranges of a kind as the functions hold them.
 use Prim.Native.Nat.{ℕ, zero, suc, _+_, _-_, _*_, min}
-use mathlib.Core.Bool.{Bool, true, false, _&&_}
+use mathlib.Core.Bool.{Bool, true, false, _&&_, cond}
 use mathlib.Core.Option.{Option, none, some}
 use mathlib.Core.List.{List, [], _∷_, _++_}
 use lib.Bits.{bitAnd, bitOr}
 use lib.ListN.{getD}
+use Rattle.usage.specs.declared.Edge.{Edge}
 use Rattle.usage.specs.Limits.{policies, states, actions, statics, edgeFields, Kind, _to_, within}
+use Rattle.usage.specs.Tests.{every, edgeOk}
+use Rattle.usage.specs.Tables.{from, edgeAt}
+use Rattle.automaton.specs.PairSet.{pairSet, withEdge}
+use Rattle.sheet_fields.specs.declared.edges.Tested.{Tested}
 use Rattle.sheet_fields.specs.declared.Span.{Span}
 use Rattle.sheet_fields.specs.declared.Spans.{Spans}
 
@@ -23,6 +28,19 @@ inSpan s v = within (s .least to s .most) v
 unfoldable pub inSpans : Spans → ℕ → ℕ → Bool
 inSpans s a b = s .known && (inSpan (s .a) a && inSpan (s .b) b)
 
+-- ── Edges tested one after the other ──
+
+-- what the test says of these edges, and with one more
+unfoldable pub tested : List Edge → Tested
+tested es = record { fits = every edgeOk es; pairs = pairSet es }
+
+abbrev pub testedWith : Tested → Edge → Tested
+testedWith s e = record { fits = cond (edgeOk e) (s .fits) false; pairs = withEdge (s .pairs) e }
+
+-- of the first n edges of a table
+abbrev pub testedIn : List ℕ → ℕ → Tested
+testedIn t n = tested (from (edgeAt t) 0 n)
+
 -- ── Edges tested eight at a time ──
 
 -- a block's edges, and its bytes
@@ -37,7 +55,7 @@ unfoldable pub repeated : ℕ → List ℕ → List ℕ
 repeated zero l = []
 repeated (suc n) l = l ++ repeated n l
 
--- the highest number of each field of an edge; and all bits at `on`, which is 0 or the next field, `who`, is
+-- the highest number of each field of an edge, 2 for `on`; and all bits at `on`, which is 0 or the next field, `who`, is
 abbrev pub fieldMost : List ℕ
 fieldMost = (policies - 1) ∷ (states - 1) ∷ (actions - 1) ∷ 2 ∷ (statics - 1) ∷ (states - 1) ∷ []
 

@@ -4,6 +4,7 @@ use mathlib.Core.Bool.{Bool, _&&_}
 use mathlib.Core.List.{List}
 use lib.Dec.{eqb, ltb}
 use lib.ListN.{length, getD, getElem?}
+use Rattle.usage.specs.declared.Edge.{Edge}
 use Rattle.usage.specs.declared.Node.{Node}
 use Rattle.usage.specs.declared.RawStep.{RawStep}
 use Rattle.usage.specs.Limits.{mostNodes, edgeFields, nodeFields, stepFields}
@@ -14,8 +15,11 @@ use Rattle.sheet_fields.specs.declared.Kind.{Kind}
 use Rattle.sheet_fields.specs.declared.Kind.the-variants.{Policies, Trace, Outline}
 
 -- "`policy from action on who to`"
+abbrev pub edgeOf : List ℕ → Edge
+edgeOf vs = edgeAt vs 0
+
 abbrev pub edgeLine : List ℕ → Bool
-edgeLine vs = edgeOk (edgeAt vs 0)
+edgeLine vs = edgeOk (edgeOf vs)
 
 -- "`kind a b` ..: kind 0 event (action 0 to 31, resource ..), 1 open (policy 0 to 7, 0), 2 close (policy 0 to 7, 0)", each in its range
 unfoldable pub stepOk : RawStep → Bool

@@ -2,9 +2,8 @@
 ghost use mathlib.Core.Path.{_≡_};
 ghost use Prim.Native.Nat.{_+_, _*_, _-_, _≤_, _<_, min};
 ghost use lib.ListN.{length};
-ghost use Rattle.usage.specs.Tests.{every, edgeOk};
-ghost use Rattle.usage.specs.Tables.{from, edgeAt};
-ghost use Rattle.sheet_fields.specs.Code.{blockEdges, blockBytes, faults};
+ghost use Rattle.sheet_fields.specs.Code.{testedIn, blockEdges, blockBytes, faults};
+use crate::edges::Tested;
 use usage::EDGE_FIELDS;
 
 // The edges of a block, and its bytes.
@@ -12,7 +11,7 @@ pub(crate) const BLOCK_EDGES: usize = 8;
 
 const BLOCK_BYTES: usize = BLOCK_EDGES * EDGE_FIELDS;
 
-// The highest number of each field: policy, from, action, on, who, to.
+// The highest number of each field: policy, from, action, on (3 is left to the test edge by edge), who, to.
 const MOST: [u8; BLOCK_BYTES] = [
     7,
     7,
@@ -64,7 +63,7 @@ const MOST: [u8; BLOCK_BYTES] = [
     7,
 ];
 
-// All bits at `on`, one of which and `who` is 0 ("who" is 0 when "on" is 1 or 2).
+// All bits at `on`, one of which and `who` is 0 (""who" is 0 when "on" is 1 or 2").
 const PAIRED: [u8; BLOCK_BYTES] = [
     0,
     0,
@@ -147,19 +146,24 @@ fn block_faults(edges: &[u8], k: usize, most: &[u8; BLOCK_BYTES], paired: &[u8; 
     bad
 }
 
-// Are the edges of the first n blocks in range? One byte beyond them is read.
-pub(crate) fn blocks_ok(edges: &[u8], n: usize) -> bool
+// The edges of the first n blocks. One byte beyond them is read. A block with a fault is tested edge by edge: it may be that an
+// edge is on 3.
+pub(crate) fn blocks_tested(edges: &[u8], n: usize) -> Tested
     requires { ⌜ blockBytes * n ≤ length (now edges) - 1 ⌝ }
-    ensures { λ r. ⌜ r ≡ every edgeOk (from (edgeAt (now (edges .entry))) 0 (blockEdges * n)) ⌝ }
+    ensures { λ r. ⌜ r ≡ testedIn (now (edges .entry)) (blockEdges * n) ⌝ }
 {
     let most = MOST;
     let paired = PAIRED;
+    let mut s = Tested {
+        fits: true,
+        pairs: 0,
+    };
     let mut i: usize = 0;
     while i < n {
         if block_faults(edges, BLOCK_BYTES * i, &most, &paired) != 0 {
-            return false;
+            s = crate::edges::more_tested(s, edges, BLOCK_EDGES * i, BLOCK_EDGES * (i + 1));
         }
         i += 1;
     }
-    true
+    s
 }

@@ -11,6 +11,7 @@ ghost use Rattle.sheet_fields.specs.Fields.{stepOk, edgeLine, stepLine, 
 ghost use Rattle.sheet_fields.specs.Code.{spansOf, inSpan, inSpans};
 use usage::ACTIONS;
 use usage::EDGE_FIELDS;
+use usage::KINDS_OF_ON;
 use usage::LAST_RESOURCE;
 use usage::STATICS;
 use usage::STEP_FIELDS;
@@ -165,7 +166,7 @@ fn edge_fits(policy: u32, from: u32, action: u32, on: u32, who: u32, to: u32) ->
     if STATES <= to {
         return false;
     }
-    if 3 <= on {
+    if KINDS_OF_ON <= on {
         return false;
     }
     if on == 0 {

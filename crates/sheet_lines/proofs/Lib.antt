@@ -8,6 +8,8 @@ pub mod BeginLaws
 -- Accepted sheets, and what is stored of them.
 pub mod AcceptLaws
 pub mod SheetLaws
+-- The pair policies of the lines so far.
+pub mod PairsLaws
 -- A sheet is refused in its stated case only.
 pub mod CaseLaws
 -- The two names lines of a sheet of policies.

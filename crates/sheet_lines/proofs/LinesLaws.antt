@@ -23,7 +23,7 @@ use Rattle.sheet_bytes.specs.Line.{Line, linesOf, cut, read}
 use Rattle.sheet_bytes.specs.Fault.{hasOther, hasOverlong, LineRead, has-values, has-fault}
 use Rattle.sheet_bytes.proofs.MoreLaws.{last-run}
 use Rattle.sheet_lines.specs.Answer.{mostValues}
-use Rattle.sheet_lines.specs.Sheet.{Sheet, Result, accepted, refused, refuseAt, followed, entry, valueLines}
+use Rattle.sheet_lines.specs.Sheet.{Sheet, afterLine, Result, accepted, refused, refuseAt, followed, entry, valueLines}
 use Rattle.sheet_bytes.specs.Code.{endStep, byteStep}
 use Rattle.sheet_lines.specs.Sheets.{sheetOf}
 use Rattle.sheet_lines.specs.Code.{emptyPart, answerAfter, Held, held, refusing, heldBy, restAfter, heldOnto}
@@ -54,20 +54,19 @@ drop-later m k l r h e =
 
 -- At the start of value line n, at i in the text: the answer to what is left, after the lines before, is the answer to the whole.
 -- In the buffer, the places after the values are as they were when it was lent.
-pub record At-line (s : Sheet) (text : List ℕ) (from : ℕ) (lent buffer : List ℕ) (i n : ℕ) : Type 0 where
+pub record At-line (s : Sheet) (text : List ℕ) (goal : Held) (lent buffer : List ℕ) (i n : ℕ) : Type 0 where
   pub few : n ≤ s .most
   pub size : length buffer ≡ mostValues
   pub begun : i ≤ length text
   pub rest : drop (n * s .fields) buffer ≡ drop (n * s .fields) lent
-  pub same : heldOnto n (take (n * s .fields) buffer) (valueLines s (n + 2) (s .most - n) (linesOf (drop i text))) ≡ whole s
-      (drop from text)
+  pub same : heldOnto n (take (n * s .fields) buffer) (valueLines s (n + 2) (s .most - n) (linesOf (drop i text))) ≡ goal
 
 -- the values before in line n
 abbrev pub before : Sheet → List ℕ → ℕ → Part → List ℕ
 before s buffer n p = take (p .count) (drop (n * s .fields) buffer)
 
 -- Within value line n, at i in the text, after the bytes `done` of the line; `first` is the buffer at the start of the line.
-pub record In-line (s : Sheet) (text : List ℕ) (from : ℕ) (first buffer : List ℕ) (i n : ℕ) (p : Part) : Type 0 where
+pub record In-line (s : Sheet) (text : List ℕ) (goal : Held) (first buffer : List ℕ) (i n : ℕ) (p : Part) : Type 0 where
   pub room : n < s .most
   pub size : length buffer ≡ mostValues
   pub begun : i ≤ length text
@@ -75,10 +74,10 @@ pub record In-line (s : Sheet) (text : List ℕ) (from : ℕ) (first buffer : Li
   pub rest : drop (n * s .fields + p .count + 1) buffer ≡ drop (n * s .fields + p .count + 1) first
   pub done : List ℕ
   pub said : Said (s .fields) done (before s buffer n p) p
-  pub same : heldOnto n (take (n * s .fields) buffer) (in-line s (n + 2) (s .most - (n + 1)) done (drop i text)) ≡ whole s (drop from text)
+  pub same : heldOnto n (take (n * s .fields) buffer) (in-line s (n + 2) (s .most - (n + 1)) done (drop i text)) ≡ goal
 
 pub begin : (s : Sheet) (text : List ℕ) (from : ℕ) (buffer : List ℕ) → length buffer ≡ mostValues → from ≤ length text
-    → At-line s text from buffer buffer from 0
+    → At-line s text (whole s (drop from text)) buffer buffer from 0
 begin s text from buffer l h =
     record { few = omega arith; size = l; begun = h; rest = refl; same = rw (zero-mul (s .fields), sub-zero (s .most)) refl }
 
@@ -93,21 +92,21 @@ first-line s line (b ∷ bs) h = go (eqb (classOf b) 2) (linesOf bs)
     go false [] = refl
     go false (l ∷ ls) = refl
 
-module _ (s : Sheet) (text : List ℕ) (from : ℕ) (lent buffer : List ℕ) (i n : ℕ) (inv : At-line s text from lent buffer i n) where
+module _ (s : Sheet) (text : List ℕ) (goal : Held) (lent buffer : List ℕ) (i n : ℕ) (inv : At-line s text goal lent buffer i n) where
   -- the text has ended
-  pub line-end : length text ≤ i → held n (take (n * s .fields) buffer) ≡ whole s (drop from text)
+  pub line-end : length text ≤ i → held n (take (n * s .fields) buffer) ≡ goal
   unfolding valueLines linesOf flatten
   line-end h = sym (rw (drop-of-length-le text h) (rw (add-zero n, append-nil (take (n * s .fields) buffer)) refl)) ∙ inv .same
 
   -- "4 more value lines than allowed"
-  pub too-many : i < length text → n ≡ s .most → refusing (n + 2) 4 ≡ whole s (drop from text)
+  pub too-many : i < length text → n ≡ s .most → refusing (n + 2) 4 ≡ goal
   too-many h e =
       let z : s .most - n ≡ 0 = omega arith in
       let l : 0 < length (drop i text) = omega (arith, length-drop i text) in
       ap (heldOnto n (take (n * s .fields) buffer))
       (sym (ap (λ m. valueLines s (n + 2) m (linesOf (drop i text))) z ∙ first-line s (n + 2) (drop i text) l)) ∙ inv .same
 
-  pub enter : 0 < s .fields → i < length text → n < s .most → In-line s text from buffer buffer i n emptyPart
+  pub enter : 0 < s .fields → i < length text → n < s .most → In-line s text goal buffer buffer i n emptyPart
   unfolding hasOther hasOverlong last-run read
   enter f h r = record {
     room = r;
@@ -143,8 +142,8 @@ onto-more n done vs (accepted rows) =
     rw (add-one n, add-suc n (length rows), suc-add n (length rows), append-assoc done vs (flatten rows)) refl
 onto-more n done vs (refused r) = refl
 
-module _ (s : Sheet) (text : List ℕ) (from : ℕ) (first buffer : List ℕ) (i n : ℕ) (p : Part)
-    (inv : In-line s text from first buffer i n p) (fits : n * s .fields + s .fields ≤ mostValues) where
+module _ (s : Sheet) (text : List ℕ) (goal : Held) (first buffer : List ℕ) (i n : ℕ) (p : Part)
+    (inv : In-line s text goal first buffer i n p) (fits : n * s .fields + s .fields ≤ mostValues) where
   -- the buffer with the value so far in its place
   abbrev pub written : List ℕ
   written = set buffer (n * s .fields + p .count) (p .value)
@@ -169,12 +168,12 @@ module _ (s : Sheet) (text : List ℕ) (from : ℕ) (first buffer : List ℕ) (i
   rest-same = drop-set-lt (n * s .fields + p .count + 1) buffer (n * s .fields + p .count) (p .value) (omega arith) ∙ inv .rest
 
   -- "13 last line feed missing"
-  pub unended : length text ≤ i → refusing (n + 2) 13 ≡ whole s (drop from text)
+  pub unended : length text ≤ i → refusing (n + 2) 13 ≡ goal
   unended h = sym (ap (heldOnto n (take (n * s .fields) buffer)) (cut-off s (n + 2) (s .most - (n + 1)) text i (inv .done) h)) ∙ inv .same
 
   module _ (h : i < length text) where
     -- a byte other than a line feed
-    pub goes : (q : Part) → byteStep (s .fields) p (getD text i 0) ≡ Goes q → In-line s text from first written (i + 1) n q
+    pub goes : (q : Part) → byteStep (s .fields) p (getD text i 0) ≡ Goes q → In-line s text goal first written (i + 1) n q
     goes q g =
         let b = getD text i 0 in
         let t = goes-on (s .fields) p b q g in
@@ -184,7 +183,7 @@ module _ (s : Sheet) (text : List ℕ) (from : ℕ) (first buffer : List ℕ) (i
       where
         goes-to : (q : Part) → (classOf (getD text i 0) ≡ 2 → ⊥) → Sound (s .fields) q → (q .count ≤ p .count + 1) × (p .count ≤ q .count)
             → Said (s .fields) (inv .done ++ (getD text i 0 ∷ [])) (take (q .count) (before s buffer n p ++ (p .value ∷ []))) q
-            → In-line s text from first written (i + 1) n q
+            → In-line s text goal first written (i + 1) n q
         goes-to q e o near v =
             let k : take (q .count) (before s buffer n p ++ (p .value ∷ [])) ≡ before s written n q = ap (take (q .count)) (sym cells)
             ∙ take-take (q .count) (p .count + 1) (drop (n * s .fields) written) (near .0) in
@@ -205,9 +204,9 @@ module _ (s : Sheet) (text : List ℕ) (from : ℕ) (first buffer : List ℕ) (i
     -- the line feed
     closed : Bounded s → (r : LineRead) → classOf (getD text i 0) ≡ 2 → read-end (s .fields) (before s buffer n p) p ≡ r
         → heldOnto n (take (n * s .fields) written)
-        (entry s (n + 2) r (valueLines s (suc (n + 2)) (s .most - (n + 1)) (linesOf (drop (i + 1) text)))) ≡ whole s (drop from text)
+        (entry s (n + 2) r (λ t. valueLines t (suc (n + 2)) (s .most - (n + 1)) (linesOf (drop (i + 1) text)))) ≡ goal
     closed far r e q =
-        let rest = valueLines s (suc (n + 2)) (s .most - (n + 1)) (linesOf (drop (i + 1) text)) in
+        let rest : Sheet → Result = λ t. valueLines t (suc (n + 2)) (s .most - (n + 1)) (linesOf (drop (i + 1) text)) in
         rw (done-same, ← q, ← (said-end s (before s buffer n p) p far (n + 2) rest (inv .done) len (inv .said)))
         (ap (heldOnto n (take (n * s .fields) buffer)) (sym (ends s (n + 2) (s .most - (n + 1)) text i (inv .done) h e)) ∙ inv .same)
 
@@ -219,27 +218,36 @@ module _ (s : Sheet) (text : List ℕ) (from : ℕ) (first buffer : List ℕ) (i
       all-read = ends-well (s .fields) (before s buffer n p) p (feed .1) .1
 
       ended : heldOnto n (take (n * s .fields) written) (entry s (n + 2) (has-values (take (s .fields) (drop (n * s .fields) written)))
-          (valueLines s (suc (n + 2)) (s .most - (n + 1)) (linesOf (drop (i + 1) text)))) ≡ whole s (drop from text)
+          (λ t. valueLines t (suc (n + 2)) (s .most - (n + 1)) (linesOf (drop (i + 1) text)))) ≡ goal
       ended =
           closed far (has-values (take (s .fields) (drop (n * s .fields) written))) (feed .0)
           (ends-well (s .fields) (before s buffer n p) p (feed .1) .0
           ∙ ap has-values (sym cells ∙ ap (λ m. take m (drop (n * s .fields) written)) all-read))
 
+      -- the values of the line
+      abbrev pub line-values : List ℕ
+      line-values = take (s .fields) (drop (n * s .fields) written)
+
       -- "3 a value outside its field's range"
-      pub outside : s .in-range (take (s .fields) (drop (n * s .fields) written)) ≡ false → refusing (n + 2) 3 ≡ whole s (drop from text)
+      pub outside : s .in-range line-values ≡ false → refusing (n + 2) 3 ≡ goal
       outside r = rw r at ended
 
-      pub next-line : s .in-range (take (s .fields) (drop (n * s .fields) written)) ≡ true → (lent : List ℕ)
-          → drop (n * s .fields) first ≡ drop (n * s .fields) lent → At-line s text from lent written (i + 1) (n + 1)
-      next-line r lent z = record {
+      -- "14 an edge with on 3 that makes a third pair policy, at that line after 3"
+      pub crowded : s .in-range line-values ≡ true → s .together (line-values ∷ []) ≡ false → refusing (n + 2) 14 ≡ goal
+      crowded r t = rw (r, t) at ended
+
+      pub next-line : s .in-range line-values ≡ true → s .together (line-values ∷ []) ≡ true → (lent : List ℕ)
+          → drop (n * s .fields) first ≡ drop (n * s .fields) lent
+          → At-line (afterLine s line-values) text goal lent written (i + 1) (n + 1)
+      next-line r t lent z = record {
         few = let r = inv .room in omega arith;
         size = length-set buffer (n * s .fields + p .count) (p .value) ∙ inv .size;
         begun = omega arith;
         rest = drop-later (n * s .fields + p .count + 1) ((n + 1) * s .fields) written first (omega (arith, longer, all-read)) rest-same
             ∙ drop-later (n * s .fields) ((n + 1) * s .fields) first lent (omega (arith, longer)) z;
         same = rw (longer, take-add (n * s .fields) (s .fields) written, line)
-            (sym (onto-more n (take (n * s .fields) written) (take (s .fields) (drop (n * s .fields) written))
-            (valueLines s (suc (n + 2)) (s .most - (n + 1)) (linesOf (drop (i + 1) text)))) ∙ rw r at ended);
+            (sym (onto-more n (take (n * s .fields) written) line-values
+            (valueLines (afterLine s line-values) (suc (n + 2)) (s .most - (n + 1)) (linesOf (drop (i + 1) text)))) ∙ rw (r, t) at ended);
       }
         where
           longer : (n + 1) * s .fields ≡ n * s .fields + s .fields
@@ -249,16 +257,19 @@ module _ (s : Sheet) (text : List ℕ) (from : ℕ) (first buffer : List ℕ) (i
           line = omega arith
 
 -- what the loops leave: the answer, and the places after the values as they were
-pub record Answers (s : Sheet) (text : List ℕ) (from : ℕ) (lent buffer : List ℕ) (n number : ℕ) : Type 0 where
-  pub gives : heldBy (s .fields) (answerAfter n number) buffer ≡ whole s (drop from text)
+pub record Answers (s : Sheet) (text : List ℕ) (goal : Held) (lent buffer : List ℕ) (n number : ℕ) : Type 0 where
+  pub gives : heldBy (s .fields) (answerAfter n number) buffer ≡ goal
   pub after : restAfter (s .fields) (answerAfter n number) buffer ≡ restAfter (s .fields) (answerAfter n number) lent
 
 -- "11 byte that is no digit, space or line feed", 12, 2, and 3 where no field has such a value
-pub malformed : (s : Sheet) (text : List ℕ) (from : ℕ) (first buffer : List ℕ) (i n : ℕ) (p : Part)
-    → In-line s text from first buffer i n p → n * s .fields + s .fields ≤ mostValues → i < length text → Bounded s
+pub malformed : (s : Sheet) (text : List ℕ) (goal : Held) (first buffer : List ℕ) (i n : ℕ) (p : Part)
+    → In-line s text goal first buffer i n p → n * s .fields + s .fields ≤ mostValues → i < length text → Bounded s
     → (number : ℕ) → byteStep (s .fields) p (getD text i 0) ≡ Malformed number → (lent left : List ℕ)
-    → Answers s text from lent left n number
-malformed s text from first buffer i n p inv fits h far number q lent left =
+    → Answers s text goal lent left n number
+malformed s text goal first buffer i n p inv fits h far number q lent left =
     let f = at-feed (s .fields) p (getD text i 0) (Malformed number) q (λ q e. clash (cc)) in
     let m = ends-malformed (s .fields) (before s buffer n p) p number (f .1) in
-    record { gives = rw (m .1) (closed s text from first buffer i n p inv fits h far (has-fault number) (f .0) (m .0)); after = rw (m .1) refl }
+    record {
+      gives = rw (m .1) (closed s text goal first buffer i n p inv fits h far (has-fault number) (f .0) (m .0));
+      after = rw (m .1) refl;
+    }

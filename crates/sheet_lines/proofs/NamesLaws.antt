@@ -1,7 +1,7 @@
 -- The two names lines of a sheet of policies: no text has both, an accepted sheet has the one that it was read by, and after it all is
 -- the same.
 use Prim.Native.Nat.{ℕ, zero, suc, _≤_}
-use mathlib.Core.Path.{_≡_, refl, sym, _∙_}
+use mathlib.Core.Path.{_≡_, refl, sym, ap, _∙_}
 use mathlib.Core.Bool.{Bool, true, false, cond}
 use mathlib.Core.List.{List, [], _∷_}
 use mathlib.Core.Logic.{_↔_}
@@ -14,7 +14,7 @@ use Rattle.usage.specs.Answers.{Refusal}
 use Rattle.usage.proofs.Logic.{clash, and-left, false-true}
 use Rattle.sheet_bytes.specs.Line.{Line, linesOf}
 use Rattle.sheet_bytes.specs.Fault.{LineRead, has-values, has-fault, readLine}
-use Rattle.sheet_lines.specs.Sheet.{Sheet, Result, accepted, refused, refuseAt, followed, entry, valueLines, startsWith, sheet}
+use Rattle.sheet_lines.specs.Sheet.{Sheet, afterLine, Result, accepted, refused, refuseAt, followed, entry, valueLines, startsWith, sheet}
 use Rattle.sheet_lines.specs.Sheets.{policyNames, policySheet, isLocal}
 
 pub names-short : (local : Bool) → length (policyNames local) ≤ 29
@@ -63,20 +63,22 @@ unfolding valueLines
 lines-from s line left [] r e = clash (cc)
 lines-from s line zero (l ∷ ls) r e = let h = stated line 4 r e in omega arith
 lines-from s line (suc left) (l ∷ ls) r e =
-    go (readLine (s .fields) l) (valueLines s (suc line) left ls) (lines-from s (suc line) left ls r) e
+    go (readLine (s .fields) l) (λ t. valueLines t (suc line) left ls) (λ t. lines-from t (suc line) left ls r) e
   where
     later : (vs : List ℕ) (rest : Result) → (rest ≡ refused r → suc line ≤ r .line) → followed vs rest ≡ refused r → line ≤ r .line
     later vs (accepted rows) ih e = clash (cc)
     later vs (refused q) ih e = let h = ih e in omega arith
 
-    ranged : (vs : List ℕ) (rest : Result) (x : Bool) → (rest ≡ refused r → suc line ≤ r .line)
-        → cond x (followed vs rest) (refuseAt line 3) ≡ refused r → line ≤ r .line
-    ranged vs rest true ih e = later vs rest ih e
-    ranged vs rest false ih e = let h = stated line 3 r e in omega arith
+    tested : (vs : List ℕ) (rest : Result) (x y : Bool) → (rest ≡ refused r → suc line ≤ r .line)
+        → cond x (cond y (followed vs rest) (refuseAt line 14)) (refuseAt line 3) ≡ refused r → line ≤ r .line
+    tested vs rest true true ih e = later vs rest ih e
+    tested vs rest true false ih e = let h = stated line 14 r e in omega arith
+    tested vs rest false y ih e = let h = stated line 3 r e in omega arith
 
-    go : (o : LineRead) (rest : Result) → (rest ≡ refused r → suc line ≤ r .line) → entry s line o rest ≡ refused r → line ≤ r .line
+    go : (o : LineRead) (rest : Sheet → Result) → ((t : Sheet) → rest t ≡ refused r → suc line ≤ r .line)
+        → entry s line o rest ≡ refused r → line ≤ r .line
     go (has-fault number) rest ih e = let h = stated line number r e in omega arith
-    go (has-values vs) rest ih e = ranged vs rest (s .in-range vs) ih e
+    go (has-values vs) rest ih e = tested vs (rest (afterLine s vs)) (s .in-range vs) (s .together (vs ∷ [])) (ih (afterLine s vs)) e
 
 -- "1 names line differs, is missing or lacks its line feed": that is the case of 1, after 5
 pub refused-names : (s : Sheet) (text : List ℕ)
@@ -118,15 +120,27 @@ neither-names text = (to, back)
 
 -- ── After the names line ──
 
+-- with another names line
+abbrev renamed : Sheet → List ℕ → Sheet
+renamed s names = record { names = names; most = s .most; fields = s .fields; in-range = s .in-range; together = s .together }
+
+lines-renamed : (s : Sheet) (m n : List ℕ) (line left : ℕ) (ls : List Line)
+    → valueLines (renamed s m) line left ls ≡ valueLines (renamed s n) line left ls
+unfolding valueLines
+lines-renamed s m n line left [] = refl
+lines-renamed s m n line zero (l ∷ ls) = refl
+lines-renamed s m n line (suc left) (l ∷ ls) = go (readLine (s .fields) l) (λ t. lines-renamed t m n (suc line) left ls)
+  where
+    go : (o : LineRead)
+        → ((t : Sheet) → valueLines (renamed t m) (suc line) left ls ≡ valueLines (renamed t n) (suc line) left ls)
+        → entry (renamed s m) line o (λ t. valueLines t (suc line) left ls)
+        ≡ entry (renamed s n) line o (λ t. valueLines t (suc line) left ls)
+    go (has-fault number) ih = refl
+    go (has-values vs) ih =
+        ap (λ (r : Result). cond (s .in-range vs) (cond (s .together (vs ∷ [])) (followed vs r) (refuseAt line 14)) (refuseAt line 3))
+        (ih (afterLine s vs))
+
 -- the value lines are read the same
 pub lines-alike : (line left : ℕ) (ls : List Line)
     → valueLines (policySheet true) line left ls ≡ valueLines (policySheet false) line left ls
-unfolding valueLines
-lines-alike line left [] = refl
-lines-alike line zero (l ∷ ls) = refl
-lines-alike line (suc left) (l ∷ ls) = rw (lines-alike (suc line) left ls) (go (readLine (policySheet true .fields) l))
-  where
-    go : (o : LineRead) → entry (policySheet true) line o (valueLines (policySheet false) (suc line) left ls)
-        ≡ entry (policySheet false) line o (valueLines (policySheet false) (suc line) left ls)
-    go (has-fault number) = refl
-    go (has-values vs) = refl
+lines-alike = lines-renamed (policySheet false) (policyNames true) (policyNames false)

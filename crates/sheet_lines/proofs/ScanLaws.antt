@@ -21,7 +21,7 @@ fed bs = record { bytes = bs; ended = true }
 unfoldable pub in-line : Sheet → ℕ → ℕ → List ℕ → List ℕ → Result
 in-line s line left done [] = refuseAt line 13
 in-line s line left done (b ∷ bs) = cond (eqb (classOf b) 2)
-    (entry s line (readLine (s .fields) (fed done)) (valueLines s (suc line) left (linesOf bs)))
+    (entry s line (readLine (s .fields) (fed done)) (λ t. valueLines t (suc line) left (linesOf bs)))
     (in-line s line left (done ++ (b ∷ [])) bs)
 
 module _ (s : Sheet) (line left : ℕ) where
@@ -29,7 +29,7 @@ module _ (s : Sheet) (line left : ℕ) where
   abbrev goes-on : List ℕ → List Line → Result
   goes-on done [] = refuseAt line 13
   goes-on done (l ∷ ls) =
-      entry s line (readLine (s .fields) record { bytes = done ++ l .bytes; ended = l .ended }) (valueLines s (suc line) left ls)
+      entry s line (readLine (s .fields) record { bytes = done ++ l .bytes; ended = l .ended }) (λ t. valueLines t (suc line) left ls)
 
   split : (bs done : List ℕ) → in-line s line left done bs ≡ goes-on done (linesOf bs)
   unfolding in-line linesOf readLine
@@ -37,15 +37,15 @@ module _ (s : Sheet) (line left : ℕ) where
   split (b ∷ bs) done = go (eqb (classOf b) 2) (linesOf bs) (split bs (done ++ (b ∷ [])))
     where
       go : (x : Bool) (ls : List Line) → in-line s line left (done ++ (b ∷ [])) bs ≡ goes-on (done ++ (b ∷ [])) ls
-          → cond x (entry s line (readLine (s .fields) (fed done)) (valueLines s (suc line) left ls))
+          → cond x (entry s line (readLine (s .fields) (fed done)) (λ t. valueLines t (suc line) left ls))
           (in-line s line left (done ++ (b ∷ [])) bs)
           ≡ goes-on done (cut x b ls)
       go true ls ih =
-          ap (λ (bs : List ℕ). entry s line (readLine (s .fields) (fed bs)) (valueLines s (suc line) left ls)) (sym (append-nil done))
+          ap (λ (bs : List ℕ). entry s line (readLine (s .fields) (fed bs)) (λ t. valueLines t (suc line) left ls)) (sym (append-nil done))
       go false [] ih = ih
       go false (l ∷ ls) ih =
           ih ∙ ap (λ (bs : List ℕ). entry s line (readLine (s .fields) record { bytes = bs; ended = l .ended })
-          (valueLines s (suc line) left ls))
+          (λ t. valueLines t (suc line) left ls))
           (append-snoc done b (l .bytes))
 
   first : (b : ℕ) (bs : List ℕ) → valueLines s line (suc left) (linesOf (b ∷ bs)) ≡ goes-on [] (linesOf (b ∷ bs))
@@ -69,7 +69,7 @@ module _ (s : Sheet) (line left : ℕ) where
 
     pub ends : (done : List ℕ) → i < length text → classOf (getD text i 0) ≡ 2
         → in-line s line left done (drop i text) ≡ entry s line (readLine (s .fields) (fed done))
-        (valueLines s (suc line) left (linesOf (drop (i + 1) text)))
+        (λ t. valueLines t (suc line) left (linesOf (drop (i + 1) text)))
     unfolding in-line
     ends done h e = rw (drop-cons text i 0 h, add-one i) (simp (eq-eqb _ _ e))
 

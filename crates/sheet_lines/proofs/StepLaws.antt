@@ -414,7 +414,7 @@ module _ (n : ℕ) (p : Part) where
       omega (arith, length-append vs (v ∷ []), eqb-true (p .count + 1) n (and-right (not (eqb (p .digits) 0)) (eqb (p .count + 1) n) e))
 
 -- the line as it is read is entered as the code's part says
-module _ (s : Sheet) (vs : List ℕ) (p : Part) (far : Bounded s) (line : ℕ) (rest : Result) where
+module _ (s : Sheet) (vs : List ℕ) (p : Part) (far : Bounded s) (line : ℕ) (rest : Sheet → Result) where
   abbrev Entered : LineRead → LineRead → Type 0
   Entered r q = entry s line r rest ≡ entry s line q rest
 

@@ -18,6 +18,18 @@ pub record Sheet : Type 0 where
   pub fields : ℕ
   -- whether the values of a line are in the ranges of their fields
   pub in-range : List ℕ → Bool
+  -- whether the values of the lines up to one may stand in one sheet
+  pub together : List (List ℕ) → Bool
+
+-- the sheet that the lines after one with these values make
+abbrev pub afterLine : Sheet → List ℕ → Sheet
+afterLine s vs = record {
+  names = s .names;
+  most = s .most;
+  fields = s .fields;
+  in-range = s .in-range;
+  together = λ rows. s .together (vs ∷ rows);
+}
 
 -- What reading a sheet gives: the values of each line, or a refusal.
 pub data Result : Type 0 where
@@ -33,16 +45,18 @@ abbrev pub followed : List ℕ → Result → Result
 followed vs (accepted rows) = accepted (vs ∷ rows)
 followed vs (refused r) = refused r
 
--- the fault of a line (02, L2: "13, 11, 12, 2, where 2 stood"), then "3 a value outside its field's range"
-abbrev pub entry : Sheet → ℕ → LineRead → Result → Result
+-- the fault of a line (02, L2: "13, 11, 12, 2, where 2 stood"), then "3 a value outside its field's range", then "14 an edge with on 3 that
+-- makes a third pair policy, at that line after 3" (02, L10)
+abbrev pub entry : Sheet → ℕ → LineRead → (Sheet → Result) → Result
 entry s line (has-fault number) rest = refuseAt line number
-entry s line (has-values vs) rest = cond (s .in-range vs) (followed vs rest) (refuseAt line 3)
+entry s line (has-values vs) rest =
+    cond (s .in-range vs) (cond (s .together (vs ∷ [])) (followed vs (rest (afterLine s vs))) (refuseAt line 14)) (refuseAt line 3)
 
 -- "then line by line 4, 2, 3": the value lines from line `line` on, of which `left` are allowed
 unfoldable pub valueLines : Sheet → ℕ → ℕ → List Line → Result
 valueLines s line left [] = accepted []
 valueLines s line zero (l ∷ ls) = refuseAt line 4
-valueLines s line (suc left) (l ∷ ls) = entry s line (readLine (s .fields) l) (valueLines s (suc line) left ls)
+valueLines s line (suc left) (l ∷ ls) = entry s line (readLine (s .fields) l) (λ t. valueLines t (suc line) left ls)
 
 unfoldable pub startsWith : List ℕ → List ℕ → Bool
 startsWith [] text = true

@@ -1,4 +1,4 @@
-// A text of one of the three sheets is read into a buffer of values (document 01, "Sheets"; refusals 5, 1, 4, 13, 11, 12, 2, 3).
+// A text of one of the three sheets is read into a buffer of values (document 01, "Sheets"; refusals 5, 1, 4, 13, 11, 12, 2, 3, 14).
 ghost use mathlib.Core.Path.{_≡_};
 ghost use mathlib.Core.List.{[]};
 ghost use Prim.Native.Nat.{_+_, _≤_};
@@ -8,7 +8,8 @@ ghost use Rattle.sheet_bytes.specs.Line.{linesOf};
 ghost use Rattle.sheet_lines.specs.Sheet.{valueLines, startsWith, sheet as sheet-of};
 ghost use Rattle.sheet_lines.specs.Sheets.{policyNames, isLocal as local-text, sheetOf};
 ghost use Rattle.sheet_lines.specs.Answer.{readingAnswer, answered, mostValues, filled};
-ghost use Rattle.sheet_lines.specs.Code.{emptyPart as nothing-read, answerAfter, isStored as stored-in, heldBy, restAfter, heldOnto};
+ghost use Rattle.sheet_lines.specs.Code.{emptyPart as nothing-read, answerAfter, isStored as stored-in, pairsWith};
+ghost use Rattle.sheet_lines.specs.Code.{heldBy, restAfter, heldOnto};
 use sheet_bytes::Next;
 use sheet_bytes::Part;
 use sheet_fields::Kind;
@@ -155,6 +156,23 @@ fn in_range(kind: Kind, buffer: &[u32; MOST_VALUES], base: usize) -> bool
     sheet_fields::line_fits(kind, &all[base..end])
 }
 
+// The pair policies of the lines so far, as a bit set, with those of the line whose values stand in the buffer from base on (02, L10).
+fn with_line(kind: Kind, buffer: &[u32; MOST_VALUES], base: usize, pairs: u8) -> u8
+    requires { ⌜ base + (sheetOf kind) .fields ≤ mostValues ⌝ }
+    requires { ⌜ length (now buffer) ≡ mostValues ⌝ }
+    ensures { λ r. ⌜ r ≡ pairsWith kind pairs (take ((sheetOf kind) .fields) (drop base (now (buffer .entry)))) ⌝ }
+{
+    match kind {
+        Kind::Policies { local: _ } => automaton::pairs::joined(
+            pairs,
+            buffer[base],
+            buffer[base + 3],
+        ),
+        Kind::Trace => pairs,
+        Kind::Outline => pairs,
+    }
+}
+
 // The answer after n lines that were accepted.
 fn answer_after(n: usize, number: u8) -> Reading
     requires { ⌜ n ≤ mostSteps ⌝ }
@@ -179,7 +197,7 @@ fn is_stored(r: Reading) -> bool
 }
 
 // The value lines of a text from `from` on are read into the buffer, the values one after the other. Document 01: "then line by
-// line 4, 2, 3", and 02, L2: "13, 11, 12, 2, where 2 stood". The first line that is refused ends both loops, at its end.
+// line 4, 2, 3", 02, L2: "13, 11, 12, 2, where 2 stood", and L10: 14 "after 3". The first line that is refused ends both loops, at its end.
 fn lines(text: &[u8], from: usize, kind: Kind, buffer: &mut [u32; MOST_VALUES]) -> Reading
     requires { ⌜ from ≤ length (now text) ⌝ }
     requires { ⌜ length (now buffer) ≡ mostValues ⌝ }
@@ -193,6 +211,7 @@ fn lines(text: &[u8], from: usize, kind: Kind, buffer: &mut [u32; MOST_VALUES]) 
     let mut i = from;
     let mut n: usize = 0;
     let mut number: u8 = 0;
+    let mut pairs: u8 = 0;
     'lines: while i < text.len() {
         if n == most {
             number = 4;
@@ -220,6 +239,11 @@ fn lines(text: &[u8], from: usize, kind: Kind, buffer: &mut [u32; MOST_VALUES]) 
         }
         if !in_range(kind, buffer, base) {
             number = 3;
+            break 'lines;
+        }
+        pairs = with_line(kind, buffer, base, pairs);
+        if automaton::pairs::many(pairs) {
+            number = 14;
             break 'lines;
         }
         n += 1;

@@ -1,7 +1,7 @@
 -- Every valid table of edges or nodes is what some accepted sheet gives.
 use Prim.Native.Nat.{ℕ, zero, suc, _+_, _*_, _/_, _<_, _≤_}
-use mathlib.Core.Path.{_≡_, refl, sym, ap, _∙_}
-use mathlib.Core.Bool.{Bool, true, _&&_}
+use mathlib.Core.Path.{_≡_, refl, sym, ap, _∙_, fun-ext}
+use mathlib.Core.Bool.{Bool, true, not, _&&_}
 use mathlib.Core.Option.{none}
 use mathlib.Core.List.{List, _∷_, _++_, map, tail, flatten}
 use native.Mathlib.Omega.{arith}
@@ -10,22 +10,24 @@ use lib.Dec.{ltb}
 use lib.ListN.{length, getD, take, drop, length-take, length-drop, length-append, take-append-drop, drop-of-length-le}
 use lib.Seq.{drop-drop}
 use borrow.Author.Tests.{eq-eqb, lt-ltb}
+use Rattle.usage.specs.declared.Edge.{Edge}
 use Rattle.usage.specs.declared.Node.{Node}
 use Rattle.usage.specs.Limits.{mostNodes, mostDigits, longestSheet, edgeFields, nodeFields, edgePlaces, nodePlaces}
-use Rattle.usage.specs.Tests.{nodeOk, treeOk, placeOk, isSome, ruledBy, ruledSheet}
-use Rattle.usage.specs.Tables.{from, edgeAt, nodeAt, nodesOf, EdgeTable, NodeTable, edgeTable, nodeTable}
+use Rattle.usage.specs.Tests.{edgeOk, threePairs, nodeOk, treeOk, placeOk, isSome, ruledBy, ruledSheet}
+use Rattle.usage.specs.Tables.{from, edgeAt, edgesOf, nodeAt, nodesOf, EdgeTable, NodeTable, edgeTable, nodeTable}
 use Rattle.usage.proofs.Logic.{and-both}
-use Rattle.usage.proofs.ValidLaws.{decides-edge, decides-node}
+use Rattle.usage.proofs.ValidLaws.{decides-edge, decides-few, decides-node}
 use Rattle.usage.proofs.RuledLaws.{decides-shaped}
 use Rattle.usage.proofs.TableLaws.{length-from, getElem-from, edges-length, nodes-length, edges-member, nodes-member, decides-edge-table}
 use Rattle.usage.proofs.TableLaws.{decides-node-table}
-use Rattle.sheet_fields.specs.Fields.{nodeLine, nodeLineFields}
-use Rattle.sheet_fields.proofs.RangeLaws.{cell, cell-first, edge-cells}
+use Rattle.sheet_fields.specs.Fields.{edgeOf, nodeLine, nodeLineFields}
+use Rattle.sheet_fields.proofs.RangeLaws.{cell, cell-first, edge-of-cells}
 use Rattle.sheet_bytes.specs.Code.{valueLimit}
 use Rattle.sheet_lines.specs.Sheet.{Sheet, Result, accepted, sheet}
 use Rattle.sheet_lines.specs.Sheets.{policySheet, isLocal, outlineSheet}
 use Rattle.sheet_lines.proofs.NamesLaws.{accepted-choice, names-short}
-use Rattle.sheet_lines.proofs.AcceptLaws.{Rows, no-row, row, flat-length}
+use Rattle.sheet_lines.proofs.AcceptLaws.{Together, Rows, no-row, row, flat-length}
+use Rattle.sheet_lines.proofs.PairsLaws.{few-together}
 use Rattle.sheet_reader.specs.Readers.{ruledResult, ruledRows, policiesInto, outlineInto}
 use Rattle.sheet_fields.proofs.BelowLaws.{Below, more-below, edge-below, node-below}
 use Rattle.sheet_reader.proofs.OutlineLaws.{first}
@@ -67,14 +69,16 @@ module _ (s : Sheet) (line : ℕ → List ℕ) where
 
   -- the sheet that is written from n such lines is accepted with these lines
   lines-given : (n : ℕ) → 0 < s .fields → n ≤ s .most → length (s .names) + n * s .fields * suc mostDigits ≤ longestSheet
-      → ((j : ℕ) → j < n → Line-ok s (line j)) → sheet s (written s (from line 0 n)) ≡ accepted (from line 0 n)
-  lines-given n f few short h =
+      → ((j : ℕ) → j < n → Line-ok s (line j)) → Together s (from line 0 n)
+      → sheet s (written s (from line 0 n)) ≡ accepted (from line 0 n)
+  lines-given n f few short h together =
       let rows = from line 0 n in
       let g = rows-good n 0 (λ j a b. h j (omega arith)) in
       let count : length rows ≡ n = length-from line 0 n in
       let flat : length (flatten rows) ≡ n * s .fields = flat-length s (g .rows) ∙ ap (λ m. m * s .fields) count in
       let long = lines-length s f (g .rows) in
-      written-read s rows f (g .rows) (g .small) (omega arith) (omega (arith, length-append (s .names) (flatten (map written-line rows))))
+      written-read s rows f (g .rows) together (g .small) (omega arith)
+      (omega (arith, length-append (s .names) (flatten (map written-line rows))))
 
 -- ── Records of a table ──
 
@@ -104,9 +108,20 @@ edge-row local t v i l =
     let w = v .whole in
     let k : length (part edgeFields t i)
     ≡ edgeFields = omega (arith, length-take edgeFields (drop (edgeFields * i) t), length-drop (edgeFields * i) t) in
-    let m = edge-cells (edgeFields * i) t ∙ decides-edge (edgeAt t i) .1
+    let m = ap edgeOk (edge-of-cells (edgeFields * i) t) ∙ decides-edge (edgeAt t i) .1
     (v .edges .each (edgeAt t i) (edges-member t (edgeAt t i) .1 (i, l, refl))) in
     record { fields = k; ranged = m; small = edge-below (part edgeFields t i) k m }
+
+-- at most two of the policies are pair policies, as the table's edges say
+rows-together : (local : Bool) (t : List ℕ) → EdgeTable t
+    → Together (policySheet local) (from (part edgeFields t) 0 (length t / edgeFields))
+unfolding edgesOf
+rows-together local t v =
+    let n = length t / edgeFields in
+    let same : map edgeOf (from (part edgeFields t) 0 n) ≡ edgesOf t = map-from edgeOf (part edgeFields t) 0 n
+    ∙ ap (λ (f : ℕ → Edge). from f 0 n) (fun-ext (λ i. edge-of-cells (edgeFields * i) t)) in
+    few-together local (from (part edgeFields t) 0 n)
+    (ap (λ (es : List Edge). not (threePairs es)) same ∙ decides-few (edgesOf t) (v .edges .each) .1 (v .edges .few-pairs))
 
 -- whichever past the policies see
 pub edges-given : (local : Bool) (t : List ℕ) → edgeTable t ≡ true
@@ -121,7 +136,8 @@ edges-given local t e =
     let rows = from (part edgeFields t) 0 n in
     let s = policySheet local in
     let long = names-short local in
-    let read = lines-given s (part edgeFields t) n (omega arith) (omega arith) (omega arith) (edge-row local t v) in
+    let read = lines-given s (part edgeFields t) n (omega arith) (omega arith) (omega arith) (edge-row local t v)
+    (rows-together local t v) in
     let choice = accepted-choice local (written s rows) rows read in (
       record {
         text = written s rows;
@@ -182,7 +198,8 @@ nodes-given t e =
     let few = v .outline .few in
     let many = nodes-length t in
     let rows = from (node-row t) 0 n in
-    let read = lines-given outlineSheet (node-row t) n (omega arith) (omega arith) (omega arith) (node-row-ok t v) in
+    let read = lines-given outlineSheet (node-row t) n (omega arith) (omega arith) (omega arith) (node-row-ok t v)
+    (λ k. refl) in
     let same : flatten (map tail rows) ≡ t = ap flatten (map-from tail (node-row t) 0 n) ∙ parts-flat nodeFields t n 0 (omega arith) in
     let numbers : map first rows ≡ from (λ i. i) 0 n = map-from first (node-row t) 0 n in
     let clean : ruledSheet (map first rows) (nodesOf (flatten (map tail rows))) ≡ none =

@@ -3,8 +3,9 @@ use Prim.Native.Nat.{_-_}
 use mathlib.Core.Path.{_≡_, refl}
 use mathlib.Core.Bool.{true, false}
 use mathlib.Core.List.{[], _∷_, flatten}
-use Rattle.usage.specs.Limits.{edgePlaces, nodePlaces, stepPlaces}
-use Rattle.usage.specs.Tests.{edgeOk, nodeOk, every, between, treeOk, isChild, above, backOk, nameOk, lowestFailing, ruledBy}
+use Rattle.usage.specs.Limits.{mostEdges, edgeFields, edgePlaces, nodePlaces, stepPlaces}
+use Rattle.usage.specs.Tests.{someOf, someBelow, edgeOk, isPair, threePairs}
+use Rattle.usage.specs.Tests.{nodeOk, every, between, treeOk, isChild, above, backOk, nameOk, lowestFailing, ruledBy}
 use Rattle.usage.specs.Outline.{formOf}
 use Rattle.usage.specs.Valid.{times, timesChild}
 use Rattle.usage.specs.Tables.{from, nodesOf}
@@ -12,8 +13,8 @@ use Rattle.sheet_lines.specs.Bytes.{bytes}
 use Rattle.sheet_bytes.specs.Class.{classOf}
 use Rattle.sheet_bytes.specs.Line.{linesOf, read, valuesOf}
 use Rattle.sheet_bytes.specs.Fault.{hasOther, hasOverlong, readLine}
-use Rattle.sheet_lines.specs.Sheet.{accepted, refuseAt, valueLines, startsWith, sheet}
-use Rattle.sheet_lines.specs.Sheets.{isLocal}
+use Rattle.sheet_lines.specs.Sheet.{Sheet, accepted, refuseAt, valueLines, startsWith, sheet}
+use Rattle.sheet_lines.specs.Sheets.{policyNames, fewPairs, isLocal}
 use Rattle.sheet_fields.specs.Fields.{stepOk}
 use Rattle.sheet_reader.specs.Readers.{ruledResult, policiesInto, traceInto, outlineInto}
 
@@ -21,12 +22,14 @@ use Rattle.sheet_reader.specs.Readers.{ruledResult, policiesInto, traceI
 policies-p : policiesInto edgePlaces (bytes "policy from action on who to\n0 0 1 1 0 1\n0 1 3 1 0 0\n0 0 2 1 0 6\n")
     ≡ accepted ((0 ∷ 0 ∷ 1 ∷ 1 ∷ 0 ∷ 1 ∷ []) ∷ (0 ∷ 1 ∷ 3 ∷ 1 ∷ 0 ∷ 0 ∷ []) ∷ (0 ∷ 0 ∷ 2 ∷ 1 ∷ 0 ∷ 6 ∷ []) ∷ [])
 unfolding policiesInto isLocal sheet startsWith valueLines linesOf readLine hasOther hasOverlong valuesOf read classOf edgeOk
+    threePairs isPair someOf someBelow
 policies-p = refl
 
 -- the same as local policies (02, L7)
 local-p : policiesInto edgePlaces (bytes "local from action on who to\n0 0 1 1 0 1\n0 1 3 1 0 0\n0 0 2 1 0 6\n")
     ≡ accepted ((0 ∷ 0 ∷ 1 ∷ 1 ∷ 0 ∷ 1 ∷ []) ∷ (0 ∷ 1 ∷ 3 ∷ 1 ∷ 0 ∷ 0 ∷ []) ∷ (0 ∷ 0 ∷ 2 ∷ 1 ∷ 0 ∷ 6 ∷ []) ∷ [])
 unfolding policiesInto isLocal sheet startsWith valueLines linesOf readLine hasOther hasOverlong valuesOf read classOf edgeOk
+    threePairs isPair someOf someBelow
 local-p = refl
 
 local-chosen : isLocal (bytes "local from action on who to\n") ≡ true
@@ -51,9 +54,25 @@ unfolding policiesInto isLocal sheet startsWith
 spaced-local = refl
 
 -- the line of a fault is the same
-local-fault : policiesInto edgePlaces (bytes "local from action on who to\n0 0 1 1 0 1\n0 0 1 3 0 1\n") ≡ refuseAt 3 3
+local-fault : policiesInto edgePlaces (bytes "local from action on who to\n0 0 1 1 0 1\n0 0 1 4 0 1\n") ≡ refuseAt 3 3
 unfolding policiesInto isLocal sheet startsWith valueLines linesOf readLine hasOther hasOverlong valuesOf read classOf edgeOk
+    threePairs isPair someOf someBelow
 local-fault = refl
+
+-- whatever the ranges: two pair policies are read, and a third is refused with 14 at its line
+abbrev unranged : Sheet
+unranged = record { names = policyNames false; most = mostEdges; fields = edgeFields; in-range = λ vs. true; together = fewPairs }
+
+two-pairs : sheet unranged (bytes "policy from action on who to\n5 0 1 3 0 1\n0 0 1 3 0 1\n7 0 1 2 0 1\n5 1 1 3 0 6\n")
+    ≡ accepted ((5 ∷ 0 ∷ 1 ∷ 3 ∷ 0 ∷ 1 ∷ []) ∷ (0 ∷ 0 ∷ 1 ∷ 3 ∷ 0 ∷ 1 ∷ [])
+    ∷ (7 ∷ 0 ∷ 1 ∷ 2 ∷ 0 ∷ 1 ∷ []) ∷ (5 ∷ 1 ∷ 1 ∷ 3 ∷ 0 ∷ 6 ∷ []) ∷ [])
+unfolding sheet startsWith valueLines linesOf readLine hasOther hasOverlong valuesOf read classOf threePairs isPair someOf someBelow
+two-pairs = refl
+
+third-pair : sheet unranged (bytes "policy from action on who to\n5 0 1 3 0 1\n0 0 1 3 0 1\n5 1 1 3 0 2\n7 0 1 3 0 1\n5 0\n")
+    ≡ refuseAt 5 14
+unfolding sheet startsWith valueLines linesOf readLine hasOther hasOverlong valuesOf read classOf threePairs isPair someOf someBelow
+third-pair = refl
 
 -- and its trace
 trace-b : traceInto stepPlaces (bytes "kind a b\n1 0 0\n0 0 16\n0 1 16\n0 2 16\n0 0 17\n0 2 17\n0 3 16\n")

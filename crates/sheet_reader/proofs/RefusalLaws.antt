@@ -20,7 +20,7 @@ use Rattle.usage.proofs.TableLaws.{nodes-length}
 use Rattle.sheet_bytes.specs.Line.{Line, linesOf}
 use Rattle.sheet_bytes.specs.Fault.{LineFault, no-feed, other-byte, overlong, form, LineRead, has-values, has-fault, readLine}
 use Rattle.sheet_bytes.proofs.FaultLaws.{decides-fault}
-use Rattle.sheet_lines.specs.Sheet.{Sheet, Result, accepted, refused, refuseAt, followed, entry, valueLines, startsWith, sheet}
+use Rattle.sheet_lines.specs.Sheet.{Sheet, afterLine, Result, accepted, refused, refuseAt, followed, entry, valueLines, startsWith, sheet}
 use Rattle.sheet_lines.specs.Sheets.{outlineSheet}
 use Rattle.sheet_reader.specs.Readers.{ruledRows, ruledResult}
 use Rattle.sheet_lines.proofs.AcceptLaws.{sheet-accepted}
@@ -40,30 +40,31 @@ fault-low (other-byte p h) = omega arith
 fault-low (overlong p f h) = omega arith
 fault-low (form p f g w) = omega arith
 
+lines-low : (s : Sheet) (line left : ℕ) (ls : List Line) (r : Refusal) → valueLines s line left ls ≡ refused r → Low (line + left) r
+unfolding valueLines
+lines-low s line left [] r e = clash (cc)
+lines-low s line zero (l ∷ ls) r e = stated (line + 0) line 4 r (omega arith) (omega arith) e
+lines-low s line (suc left) (l ∷ ls) r e = go (readLine (s .fields) l) refl (λ t. valueLines t (suc line) left ls)
+    (λ t. lines-low t (suc line) left ls r) e
+  where
+    later : (vs : List ℕ) (rest : Result) → (rest ≡ refused r → Low (suc line + left) r) → followed vs rest ≡ refused r
+        → Low (line + suc left) r
+    later vs (accepted rows) ih e = clash (cc)
+    later vs (refused q) ih e = let l = ih e in record { line = let h = l .line in omega arith; number = l .number }
+
+    tested : (vs : List ℕ) (rest : Result) (x y : Bool) → (rest ≡ refused r → Low (suc line + left) r)
+        → cond x (cond y (followed vs rest) (refuseAt line 14)) (refuseAt line 3) ≡ refused r → Low (line + suc left) r
+    tested vs rest true true ih e = later vs rest ih e
+    tested vs rest true false ih e = stated (line + suc left) line 14 r (omega arith) (omega arith) e
+    tested vs rest false y ih e = stated (line + suc left) line 3 r (omega arith) (omega arith) e
+
+    go : (o : LineRead) → readLine (s .fields) l ≡ o → (rest : Sheet → Result)
+        → ((t : Sheet) → rest t ≡ refused r → Low (suc line + left) r) → entry s line o rest ≡ refused r → Low (line + suc left) r
+    go (has-fault number) q rest ih e =
+        stated (line + suc left) line number r (omega arith) (fault-low (decides-fault (s .fields) l number .0 q)) e
+    go (has-values vs) q rest ih e = tested vs (rest (afterLine s vs)) (s .in-range vs) (s .together (vs ∷ [])) (ih (afterLine s vs)) e
+
 module _ (s : Sheet) where
-  lines-low : (line left : ℕ) (ls : List Line) (r : Refusal) → valueLines s line left ls ≡ refused r → Low (line + left) r
-  unfolding valueLines
-  lines-low line left [] r e = clash (cc)
-  lines-low line zero (l ∷ ls) r e = stated (line + 0) line 4 r (omega arith) (omega arith) e
-  lines-low line (suc left) (l ∷ ls) r e = go (readLine (s .fields) l) refl (valueLines s (suc line) left ls)
-      (lines-low (suc line) left ls r) e
-    where
-      later : (vs : List ℕ) (rest : Result) → (rest ≡ refused r → Low (suc line + left) r) → followed vs rest ≡ refused r
-          → Low (line + suc left) r
-      later vs (accepted rows) ih e = clash (cc)
-      later vs (refused q) ih e = let l = ih e in record { line = let h = l .line in omega arith; number = l .number }
-
-      ranged : (vs : List ℕ) (rest : Result) (x : Bool) → (rest ≡ refused r → Low (suc line + left) r)
-          → cond x (followed vs rest) (refuseAt line 3) ≡ refused r → Low (line + suc left) r
-      ranged vs rest true ih e = later vs rest ih e
-      ranged vs rest false ih e = stated (line + suc left) line 3 r (omega arith) (omega arith) e
-
-      go : (o : LineRead) → readLine (s .fields) l ≡ o → (rest : Result) → (rest ≡ refused r → Low (suc line + left) r)
-          → entry s line o rest ≡ refused r → Low (line + suc left) r
-      go (has-fault number) q rest ih e =
-          stated (line + suc left) line number r (omega arith) (fault-low (decides-fault (s .fields) l number .0 q)) e
-      go (has-values vs) q rest ih e = ranged vs rest (s .in-range vs) ih e
-
   pub sheet-low : (text : List ℕ) (r : Refusal) → sheet s text ≡ refused r → Low (2 + s .most) r
   unfolding sheet
   sheet-low text r e = go (ltb longestSheet (length text)) (startsWith (s .names) text) e
@@ -71,7 +72,7 @@ module _ (s : Sheet) where
       go : (x y : Bool) → cond x (refuseAt 0 5) (cond y (valueLines s 2 (s .most) (linesOf (drop (length (s .names)) text))) (refuseAt 1 1))
           ≡ refused r → Low (2 + s .most) r
       go true y e = stated (2 + s .most) 0 5 r (omega arith) (omega arith) e
-      go false true e = lines-low 2 (s .most) (linesOf (drop (length (s .names)) text)) r e
+      go false true e = lines-low s 2 (s .most) (linesOf (drop (length (s .names)) text)) r e
       go false false e = stated (2 + s .most) 1 1 r (omega arith) (omega arith) e
 
 -- ── Of an outline ──

@@ -1,29 +1,33 @@
 -- What an accepted sheet of policies or outline stores is a table that may be lent to be used (else 41).
 use Prim.Native.Nat.{ℕ, zero, suc, _+_, _*_, _/_, _%_, _<_}
-use mathlib.Core.Path.{_≡_, refl, ap, _∙_}
+use mathlib.Core.Path.{_≡_, refl, sym, ap, _∙_}
 use mathlib.Core.Bool.{Bool, true, _&&_}
 use mathlib.Core.Option.{Option, none, some}
-use mathlib.Core.List.{List, _∷_, _++_, map, tail, flatten}
+use mathlib.Core.List.{List, _∷_, _++_, map, tail, flatten, List·Memᴰ}
 use native.Mathlib.Omega.{arith}
 use lib.Dec.{eqb, ltb, leb}
-use lib.ListN.{length, getD, List·getD-append}
+use lib.ListN.{length, getD, length-map, List·getD-append}
 use lib.Seq.{getD-append-add}
 use borrow.Author.Tests.{eq-eqb, le-leb}
+use Rattle.usage.specs.declared.Edge.{Edge}
 use Rattle.usage.specs.declared.Node.{Node}
 use Rattle.usage.specs.Limits.{mostNodes, edgeFields, nodeFields, edgePlaces, nodePlaces}
+use Rattle.usage.specs.Policy.{EdgeOk}
 use Rattle.usage.specs.Answers.{Refusal}
+use Rattle.sheet_fields.specs.Fields.{edgeOf}
 use Rattle.usage.specs.Tests.{every, edgeOk, nodeOk, treeOk, backOk, nameOk, placeOk, lowestFailing, orElse, numbered, noNodes, ruledBy}
 use Rattle.usage.specs.Tests.{ruledSheet, isNone, outlineOk}
-use Rattle.usage.specs.Tables.{from, edgeAt, edgeTable, nodeAt, nodesOf, nodeTable}
+use Rattle.usage.specs.Tables.{from, edgeAt, edgesOf, edgeTable, nodeAt, nodesOf, nodeTable}
 use Rattle.usage.proofs.Logic.{clash, and-both, and-right}
 use Rattle.sheet_lines.specs.Sheet.{Result, accepted, refused, sheet}
-use Rattle.sheet_lines.specs.Sheets.{policySheet, isLocal, outlineSheet}
+use Rattle.sheet_lines.specs.Sheets.{fewPairs, policySheet, isLocal, outlineSheet}
 use Rattle.sheet_reader.specs.Readers.{policiesRead, ruledResult, ruledRows, policiesInto, outlineInto}
-use Rattle.sheet_lines.proofs.AcceptLaws.{Rows, no-row, row, Accepted, sheet-accepted, flat-length}
+use Rattle.sheet_lines.proofs.AcceptLaws.{Rows, no-row, row, Accepted, sheet-accepted, sheet-together, flat-length}
 use Rattle.usage.proofs.RuledLaws.{lowest-none, none-lowest}
-use Rattle.usage.proofs.TableLaws.{length-from}
+use Rattle.usage.proofs.ValidLaws.{decides-edge, decides-few}
+use Rattle.usage.proofs.TableLaws.{length-from, is-from, member-from, edges-length, decides-edge-table}
 use Rattle.sheet_fields.proofs.EveryLaws.{all-pass}
-use Rattle.sheet_fields.proofs.EdgeLaws.{each-edge}
+use Rattle.sheet_lines.proofs.PairsLaws.{no-lines-few}
 use Rattle.sheet_reader.proofs.ReaderLaws.{within-room}
 use Rattle.sheet_reader.proofs.OutlineLaws.{Four, four, is-four, first, nodes-size}
 
@@ -61,6 +65,9 @@ module _ (vs rest : List ℕ) (k : length vs ≡ edgeFields) where
     after (edgeFields * suc i + 5) (edgeFields * i + 5) (omega arith),
   ) refl
 
+abbrev no-edge : Edge
+no-edge = record { policy = 0; «from» = 0; action = 0; on = 0; who = 0; to = 0 }
+
 module _ (local : Bool) where
   edge-ok : {rows : List (List ℕ)} → Rows (policySheet local) rows → (i : ℕ) → i < length rows
       → edgeOk (edgeAt (flatten rows) i) ≡ true
@@ -69,21 +76,46 @@ module _ (local : Bool) where
   edge-ok (row {vs} {rows} k m r) zero h = ap edgeOk (first-edge vs (flatten rows) k) ∙ m
   edge-ok (row {vs} {rows} k m r) (suc i) h = ap edgeOk (later-edge vs (flatten rows) k i) ∙ edge-ok r i (omega arith)
 
-  rows-edges : {rows : List (List ℕ)} → Accepted (policySheet local) rows → edgeTable (flatten rows) ≡ true
-  rows-edges {rows} a =
+  -- the lines' edges are the table's
+  edge-of-row : {rows : List (List ℕ)} → Rows (policySheet local) rows → (i : ℕ) → i < length rows
+      → getD (map edgeOf rows) i no-edge ≡ edgeAt (flatten rows) i
+  unfolding flatten
+  edge-of-row no-row i h = absurd (omega arith)
+  edge-of-row (row {vs} {rows} k m r) zero h = sym (first-edge vs (flatten rows) k)
+  edge-of-row (row {vs} {rows} k m r) (suc i) h = edge-of-row r i (omega arith) ∙ sym (later-edge vs (flatten rows) k i)
+
+  rows-edges : {rows : List (List ℕ)} → Accepted (policySheet local) rows → fewPairs rows ≡ true → edgeTable (flatten rows) ≡ true
+  unfolding edgesOf
+  rows-edges {rows} a p =
       let t = flatten rows in
       let size = flat-length (policySheet local) (a .each) in
       let few = a .few in
-      each-edge t (omega arith) (omega arith)
-      ∙ all-pass edgeOk (edgeAt t) (length t / edgeFields) (λ i l. edge-ok (a .each) i (omega arith))
+      let n = length t / edgeFields in
+      let count : length (map edgeOf rows) ≡ n = omega (arith, length-map rows edgeOf) in
+      let same : map edgeOf rows ≡ edgesOf t = is-from (edgeAt t) no-edge n (map edgeOf rows) count
+      (λ i l. edge-of-row (a .each) i (omega arith)) in
+      let each : (e : Edge) → List·Memᴰ e (edgesOf t) → EdgeOk e = λ e m.
+      let r = member-from (edgeAt t) 0 n e m in
+      let l = r .1 in
+      decides-edge e .0 (ap edgeOk (r .2) ∙ edge-ok (a .each) (0 + r .0) (omega arith)) in
+      decides-edge-table t .1 record {
+        whole = omega arith;
+        edges = record {
+          few = omega (arith, edges-length t);
+          each = each;
+          few-pairs = decides-few (edgesOf t) each .0 (rw same at p);
+        };
+      }
 
 -- every accepted sheet of policies stores a valid table of edges
 pub policies-valid : (places : ℕ) (text : List ℕ) (rows : List (List ℕ)) → policiesInto places text ≡ accepted rows
     → edgeTable (flatten rows) ≡ true
 unfolding policiesInto
 policies-valid places text rows e =
-    rows-edges (isLocal text)
-    (sheet-accepted (policySheet (isLocal text)) text rows (within-room places edgePlaces (policiesRead text) rows e .1))
+    let local = isLocal text in
+    let read = within-room places edgePlaces (policiesRead text) rows e .1 in
+    rows-edges local (sheet-accepted (policySheet local) text rows read)
+    (sheet-together (policySheet local) text rows (no-lines-few local) read)
 
 -- ── Nodes ──
 

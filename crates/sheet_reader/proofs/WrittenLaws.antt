@@ -1,7 +1,7 @@
 -- A sheet that is written from values in range is read back as these values.
 use Prim.Native.Nat.{ℕ, zero, suc, _+_, _-_, _*_, _/_, _%_, _^_, _<_, _≤_}
 use mathlib.Core.Path.{_≡_, refl, sym, ap, _∙_}
-use mathlib.Core.Bool.{true, false}
+use mathlib.Core.Bool.{Bool, true, false}
 use mathlib.Core.List.{List, [], _∷_, _++_, map, flatten, append-nil, append-assoc}
 use native.Mathlib.Omega.{arith}
 use native.Mathlib.Nat.{pow-suc}
@@ -17,11 +17,11 @@ use Rattle.sheet_bytes.specs.Code.{valueLimit}
 use Rattle.sheet_bytes.specs.Line.{Line, prefixed, linesOf}
 use Rattle.sheet_bytes.specs.Grammar.{Digits, no-digit, one-more, Value, one-space, Values, last-value, next-value}
 use Rattle.sheet_bytes.proofs.FaultLaws.{decides-values}
-use Rattle.sheet_lines.specs.Sheet.{Sheet, accepted, followed, valueLines, startsWith, sheet}
+use Rattle.sheet_lines.specs.Sheet.{Sheet, afterLine, accepted, followed, valueLines, startsWith, sheet}
 use Rattle.sheet_lines.specs.Sheets.{policyNames, policySheet}
 use Rattle.sheet_lines.proofs.NamesLaws.{lines-alike}
 use Rattle.sheet_reader.proofs.Written.{digits, written-values, written-line, written}
-use Rattle.sheet_lines.proofs.AcceptLaws.{Rows, no-row, row}
+use Rattle.sheet_lines.proofs.AcceptLaws.{asking, Together, Rows, no-row, row}
 use Rattle.sheet_fields.proofs.BelowLaws.{Below, one-below}
 use Rattle.sheet_lines.proofs.ScanLaws.{fed}
 
@@ -106,13 +106,14 @@ values-line v (w ∷ vs) bs =
     ∙ digits-before mostDigits v (32 ∷ (written-values w vs ++ (10 ∷ bs))) (fed (32 ∷ written-values w vs)) (linesOf bs)
     (ap (prefixed 32) (values-line w vs bs))
 
--- one line in range
+-- one line in range, which may stand after those before it
 line-read : (s : Sheet) (line left : ℕ) (vs bs : List ℕ) → length vs ≡ s .fields → 0 < s .fields → s .in-range vs ≡ true
-    → Below valueLimit vs
-    → valueLines s line (suc left) (linesOf (written-line vs ++ bs)) ≡ followed vs (valueLines s (suc line) left (linesOf bs))
+    → s .together (vs ∷ []) ≡ true → Below valueLimit vs
+    → valueLines s line (suc left) (linesOf (written-line vs ++ bs))
+    ≡ followed vs (valueLines (afterLine s vs) (suc line) left (linesOf bs))
 unfolding valueLines
-line-read s line left [] bs k f m b = absurd (omega arith)
-line-read s line left (v ∷ vs) bs k f m b =
+line-read s line left [] bs k f m t b = absurd (omega arith)
+line-read s line left (v ∷ vs) bs k f m t b =
     let w = decides-values (s .fields) (fed (written-values v vs)) (v ∷ vs) .1 record {
       is-ended = refl;
       has = values-written v vs b;
@@ -120,7 +121,7 @@ line-read s line left (v ∷ vs) bs k f m b =
     } in
     ap (λ (xs : List ℕ). valueLines s line (suc left) (linesOf xs)) (append-snoc (written-values v vs) 10 bs)
     ∙ ap (valueLines s line (suc left)) (values-line v vs bs)
-    ∙ rw (w, m) refl
+    ∙ rw (w, m, t) refl
 
 pub data Rows-below (m : ℕ) : List (List ℕ) → Type 0 where
   none-below : Rows-below m []
@@ -130,14 +131,15 @@ pub nothing-left : (s : Sheet) (line left : ℕ) → valueLines s line left (lin
 unfolding valueLines linesOf
 nothing-left s line left = refl
 
-rows-read : (s : Sheet) (line left : ℕ) {rows : List (List ℕ)} → 0 < s .fields → Rows s rows → Rows-below valueLimit rows
-    → length rows ≤ left
-    → valueLines s line left (linesOf (flatten (map written-line rows))) ≡ accepted rows
+rows-read : (s : Sheet) (f : List (List ℕ) → Bool) (line left : ℕ) {rows : List (List ℕ)} → 0 < s .fields → Rows s rows
+    → Together (asking s f) rows → Rows-below valueLimit rows → length rows ≤ left
+    → valueLines (asking s f) line left (linesOf (flatten (map written-line rows))) ≡ accepted rows
 unfolding flatten
-rows-read s line left f no-row none-below h = nothing-left s line left
-rows-read s line zero f (row k m r) b h = absurd (omega arith)
-rows-read s line (suc left) f (row {vs} {rows} k m r) (row-below b bs) h =
-    line-read s line left vs (flatten (map written-line rows)) k f m b ∙ ap (followed vs) (rows-read s (suc line) left f r bs (omega arith))
+rows-read s f line left z no-row t none-below h = nothing-left (asking s f) line left
+rows-read s f line zero z (row k m r) t b h = absurd (omega arith)
+rows-read s f line (suc left) z (row {vs} {rows} k m r) t (row-below b bs) h =
+    line-read (asking s f) line left vs (flatten (map written-line rows)) k z m (t 1) b
+    ∙ ap (followed vs) (rows-read s (λ rows. f (vs ∷ rows)) (suc line) left z r (λ k. t (suc k)) bs (omega arith))
 
 starts-self : (names rest : List ℕ) → startsWith names (names ++ rest) ≡ true
 unfolding startsWith
@@ -159,10 +161,12 @@ policies-alike rest short long =
     ∙ sym (names-read (policySheet false) rest long)
 
 -- the sheet that is written from rows in range is accepted with these rows
-pub written-read : (s : Sheet) (rows : List (List ℕ)) → 0 < s .fields → Rows s rows → Rows-below valueLimit rows → length rows ≤ s .most
-    → length (written s rows) ≤ longestSheet
+pub written-read : (s : Sheet) (rows : List (List ℕ)) → 0 < s .fields → Rows s rows → Together s rows → Rows-below valueLimit rows
+    → length rows ≤ s .most → length (written s rows) ≤ longestSheet
     → sheet s (written s rows) ≡ accepted rows
-written-read s rows f r b few short = names-read s (flatten (map written-line rows)) short ∙ rows-read s 2 (s .most) f r b few
+written-read s rows f r t b few short =
+    names-read s (flatten (map written-line rows)) short
+    ∙ rows-read s (s .together) 2 (s .most) f r t b few
 
 pub lines-length : (s : Sheet) {rows : List (List ℕ)} → 0 < s .fields → Rows s rows
     → length (flatten (map written-line rows)) ≡ length (flatten rows) * suc mostDigits

@@ -2,7 +2,7 @@
 use mathlib.Core.Path.{_≡_, refl}
 use mathlib.Core.Bool.{true, false}
 use mathlib.Core.List.{[], flatten}
-use Rattle.usage.specs.Tests.{every, edgeOk}
+use Rattle.usage.specs.Tests.{every, someOf, someBelow, edgeOk, isPair, threePairs}
 use Rattle.usage.specs.Tables.{from, edgesOf}
 use Rattle.sheet_bytes.specs.Class.{classOf}
 use Rattle.sheet_bytes.specs.Line.{linesOf, read, valuesOf}
@@ -21,7 +21,8 @@ pub in-order : writtenAgain (bytes "policy from action on who to\n0 0 10 1 0 1\n
     ≡ is-written (bytes "policy from action on who to\n0 0 2 1 0 1\n0 0 2 1 0 6\n0 0 10 1 0 1\n")
 unfolding
     writtenAgain rewriting isLocal startsWith sheet valueLines readLine hasOther hasOverlong valuesOf read linesOf classOf edgeOk edgesOf
-    from flatten sheetText edgesText edgeText valuesText field decimal spelled sorted placed earlier before
+    from flatten sheetText edgesText edgeText valuesText field decimal spelled sorted placed earlier before threePairs isPair
+    someOf someBelow
 in-order = refl
 
 -- no edge: the names line alone, which is that of the sheet

@@ -1,7 +1,7 @@
 -- The text of edges is read back as these edges, and is short enough for a sheet.
 use Prim.Native.Nat.{ℕ, zero, suc, _+_, _*_, _/_, _<_, _≤_}
 use mathlib.Core.Path.{_≡_, refl, sym, ap, _∙_}
-use mathlib.Core.Bool.{Bool, true}
+use mathlib.Core.Bool.{Bool, true, not}
 use mathlib.Core.List.{List, [], _∷_, _++_, map, flatten, append-assoc, List·Memᴰ, List·Memᴰ·head, List·Memᴰ·tail}
 use native.Mathlib.Omega.{arith}
 use lib.ListN.{length, getD, length-append}
@@ -9,17 +9,21 @@ use Rattle.usage.specs.declared.Edge.{Edge}
 use Rattle.usage.specs.Limits.{longestSheet, edgeFields}
 use Rattle.usage.specs.Policy.{EdgeOk, EdgesOk}
 use Rattle.usage.specs.Tables.{from, edgeAt, edgesOf}
-use Rattle.usage.proofs.ValidLaws.{decides-edge}
+use Rattle.usage.specs.Tests.{threePairs}
+use Rattle.usage.proofs.ValidLaws.{decides-edge, decides-few}
+use Rattle.usage.proofs.EdgeSetLaws.{few-among}
 use Rattle.usage.proofs.TableLaws.{is-from}
-use Rattle.sheet_fields.specs.Fields.{edgeLine}
+use Rattle.sheet_fields.specs.Fields.{edgeOf, edgeLine}
 use Rattle.sheet_bytes.specs.Class.{classOf}
 use Rattle.sheet_bytes.specs.Code.{valueLimit}
 use Rattle.sheet_bytes.specs.Line.{linesOf}
 use Rattle.sheet_bytes.specs.Grammar.{one-space, Values, last-value, next-value}
 use Rattle.sheet_bytes.proofs.FaultLaws.{decides-values}
-use Rattle.sheet_lines.specs.Sheet.{Sheet, accepted, followed, valueLines, sheet}
-use Rattle.sheet_lines.specs.Sheets.{policyNames, policySheet}
+use Rattle.sheet_lines.specs.Sheet.{Sheet, afterLine, accepted, followed, valueLines, sheet}
+use Rattle.sheet_lines.specs.Sheets.{policyNames, fewPairs, policySheet}
 use Rattle.sheet_lines.proofs.ScanLaws.{fed}
+use Rattle.sheet_lines.proofs.AcceptLaws.{asking, Together}
+use Rattle.sheet_lines.proofs.PairsLaws.{few-together}
 use Rattle.sheet_lines.proofs.NamesLaws.{names-short}
 use Rattle.sheet_fields.proofs.BelowLaws.{Below, one-below, more-below, edge-below}
 use Rattle.sheet_reader.proofs.WrittenLaws.{nothing-left, names-read}
@@ -52,17 +56,17 @@ values-written v [] (one-below h b) = last-value (decimal-value v h)
 values-written v (w ∷ vs) (one-below h b) = next-value (decimal-value v h) (one-space 32 refl) (values-written w vs b)
 
 line-read : (s : Sheet) (line left : ℕ) (vs bs : List ℕ) → length vs ≡ s .fields → 0 < s .fields → s .in-range vs ≡ true
-    → Below valueLimit vs
-    → valueLines s line (suc left) (linesOf (valuesLine vs ++ bs)) ≡ followed vs (valueLines s (suc line) left (linesOf bs))
+    → s .together (vs ∷ []) ≡ true → Below valueLimit vs
+    → valueLines s line (suc left) (linesOf (valuesLine vs ++ bs)) ≡ followed vs (valueLines (afterLine s vs) (suc line) left (linesOf bs))
 unfolding valueLines
-line-read s line left [] bs k f m b = absurd (omega arith)
-line-read s line left (v ∷ vs) bs k f m b =
+line-read s line left [] bs k f m t b = absurd (omega arith)
+line-read s line left (v ∷ vs) bs k f m t b =
     let w = decides-values (s .fields) (fed (values-bytes v vs)) (v ∷ vs) .1 record {
       is-ended = refl;
       has = values-written v vs b;
       all-fields = k;
     } in
-    ap (valueLines s line (suc left)) (values-line v vs bs b) ∙ rw (w, m) refl
+    ap (valueLines s line (suc left)) (values-line v vs bs b) ∙ rw (w, m, t) refl
 
 -- at most three digits and a byte after each value
 values-length : (v : ℕ) (vs : List ℕ) → Below 256 (v ∷ vs) → length (valuesText v vs) ≤ 4 * length (v ∷ vs)
@@ -104,23 +108,40 @@ edges-length (e ∷ es) h =
       edges-length es (λ f m. h f (List·Memᴰ·tail m)),
     )
 
-edges-read : (local : Bool) (line left : ℕ) (es : List Edge) → AllOk es → length es ≤ left
-    → valueLines (policySheet local) line left (linesOf (edgesText es)) ≡ accepted (map edgeValues es)
+edges-read : (s : Sheet) (f : List (List ℕ) → Bool) → s .fields ≡ edgeFields → ((vs : List ℕ) → s .in-range vs ≡ edgeLine vs)
+    → (line left : ℕ) (es : List Edge) → AllOk es → Together (asking s f) (map edgeValues es) → length es ≤ left
+    → valueLines (asking s f) line left (linesOf (edgesText es)) ≡ accepted (map edgeValues es)
 unfolding edgesText flatten edgeText
-edges-read local line left [] h few = nothing-left (policySheet local) line left
-edges-read local line zero (e ∷ es) h few = absurd (omega arith)
-edges-read local line (suc left) (e ∷ es) h few =
+edges-read s f six ranged line left [] h t few = nothing-left (asking s f) line left
+edges-read s f six ranged line zero (e ∷ es) h t few = absurd (omega arith)
+edges-read s f six ranged line (suc left) (e ∷ es) h t few =
     let ok = h e (List·Memᴰ·head refl) in
-    line-read (policySheet local) line left (edgeValues e) (edgesText es) refl (omega arith) (edge-ranged e ok)
+    line-read (asking s f) line left (edgeValues e) (edgesText es) (sym six) (omega arith) (ranged (edgeValues e) ∙ edge-ranged e ok) (t 1)
     (more-below valueLimit (omega arith) (edge-small e ok))
-    ∙ ap (followed (edgeValues e)) (edges-read local (suc line) left es (λ f m. h f (List·Memᴰ·tail m)) (omega arith))
+    ∙ ap (followed (edgeValues e)) (edges-read s (λ rows. f (edgeValues e ∷ rows)) six ranged (suc line) left es
+    (λ g m. h g (List·Memᴰ·tail m)) (λ k. t (suc k)) (omega arith))
+
+-- the edges of the lines
+edges-back : (es : List Edge) → map edgeOf (map edgeValues es) ≡ es
+edges-back [] = refl
+edges-back (e ∷ es) = ap (λ (l : List Edge). e ∷ l) (edges-back es)
+
+edges-together : (local : Bool) (es : List Edge) → EdgesOk es → Together (policySheet local) (map edgeValues es)
+edges-together local es ok =
+    few-together local (map edgeValues es)
+    (ap (λ (l : List Edge). not (threePairs l)) (edges-back es) ∙ decides-few es (ok .each) .1 (ok .few-pairs))
 
 -- ── A sheet ──
 
 pub sorted-ok : (es : List Edge) → EdgesOk es → EdgesOk (sorted earlier es)
 sorted-ok es ok =
     let few = ok .few in
-    record { few = omega (arith, sorted-length earlier es); each = λ e m. ok .each e (sorted-members earlier edges-ordered es e .0 m) }
+    let back : (e : Edge) → List·Memᴰ e (sorted earlier es) → List·Memᴰ e es = λ e m. sorted-members earlier edges-ordered es e .0 m in
+    record {
+      few = omega (arith, sorted-length earlier es);
+      each = λ e m. ok .each e (back e m);
+      few-pairs = few-among back (ok .few-pairs);
+    }
 
 -- how long the text is
 pub sheet-short : (local : Bool) (es : List Edge) → EdgesOk es → length (sheetText local es) ≤ longestSheet
@@ -142,7 +163,8 @@ unfolding sheetText
 sheet-read local es ok =
     let k = sorted-ok es ok in
     names-read (policySheet local) (edgesText (sorted earlier es)) (sheet-short local es ok)
-    ∙ edges-read local 2 (policySheet local .most) (sorted earlier es) (k .each) (k .few)
+    ∙ edges-read (policySheet local) fewPairs refl (λ vs. refl) 2 (policySheet local .most) (sorted earlier es) (k .each)
+    (edges-together local (sorted earlier es) k) (k .few)
 
 -- ── The edges of their values ──
 

@@ -1,15 +1,19 @@
 -- Every verdict depends on the edges as a set only (02, L12: "the same edges as a set and hence the same verdicts").
 use Prim.Native.Nat.{ℕ, _<_}
-use mathlib.Core.Bool.{Bool}
+use mathlib.Core.Path.{_≡_}
+use mathlib.Core.Bool.{Bool, true, not}
 use mathlib.Core.Option.{Option}
-use mathlib.Core.List.{List}
+use mathlib.Core.List.{List, List·Memᴰ}
 use mathlib.Core.Logic.{_↔_}
 use Rattle.usage.specs.declared.Edge.{Edge}
 use Rattle.usage.specs.declared.Node.{Node}
 use Rattle.usage.specs.declared.RawStep.{RawStep}
-use Rattle.usage.specs.Policy.{PairPolicy, Instance, single, pair, Fires, Moves, along, stays, SameEdges}
+use Rattle.usage.specs.Policy.{PairPolicy, FewPairs, Instance, single, pair, Fires, Moves, along, stays, SameEdges}
 use Rattle.usage.specs.Past.{Past, May, start, moved, opened, closed, retired, Broken, Violates, Valid, empty, further}
 use Rattle.usage.specs.Answers.{Verdict}
+use Rattle.usage.specs.Tests.{threePairs}
+use Rattle.usage.proofs.Decides.{d-not}
+use Rattle.usage.proofs.ValidLaws.{Three, decides-three}
 use Rattle.usage.specs.Judge.{Judged, is-refused, is-violated, is-allowed, JudgedAll, done, next}
 use Rattle.usage.specs.Check.{Leaves, Checked, accepts, names, Shortest, Shown, this, longer}
 
@@ -26,6 +30,20 @@ same-edges-trans h k e = (λ m. k e .0 (h e .0 m), λ m. h e .1 (k e .1 m))
 
 -- ── What follows from one to the other ──
 
+-- where each edge of the first is one of the second
+pub pair-among : {es fs : List Edge} → ((e : Edge) → List·Memᴰ e es → List·Memᴰ e fs) → {p : ℕ} → PairPolicy es p → PairPolicy fs p
+pair-among h w = record { edge = w .edge; listed = h (w .edge) (w .listed); policy = w .policy; second = w .second }
+
+pub few-among : {es fs : List Edge} → ((e : Edge) → List·Memᴰ e es → List·Memᴰ e fs) → FewPairs fs → FewPairs es
+few-among h few a b c l k i j m = few a b c l k (pair-among h i) (pair-among h j) (pair-among h m)
+
+pub fewer-pairs : (es fs : List Edge) → ((e : Edge) → List·Memᴰ e es → List·Memᴰ e fs) → not (threePairs fs) ≡ true
+    → not (threePairs es) ≡ true
+fewer-pairs es fs h q = d-not _ (decides-three es) .1 (λ t. d-not _ (decides-three fs) .0 q (more t))
+  where
+    more : Three es → Three fs
+    more (a, l, (i, (b, k, (j, (c, m, p))))) = (a, l, (pair-among h i, (b, k, (pair-among h j, (c, m, pair-among h p)))))
+
 module _ {es fs : List Edge} (h : SameEdges es fs) where
   moves-to : {p a : ℕ} {sees : ℕ → ℕ → Type 0} {q q′ : ℕ} → Moves es p a sees q q′ → Moves fs p a sees q q′
   moves-to (along e m f) = along e (h e .0 m) f
@@ -39,13 +57,10 @@ module _ {es fs : List Edge} (h : SameEdges es fs) where
   may-to (closed m) = closed (may-to m)
   may-to (retired m) = retired (may-to m)
 
-  pair-to : {p : ℕ} → PairPolicy es p → PairPolicy fs p
-  pair-to w = record { edge = w .edge; listed = h (w .edge) .0 (w .listed); policy = w .policy; second = w .second }
-
 module _ {es fs : List Edge} (h : SameEdges es fs) where
   instance-to : {p : ℕ} {xs : List ℕ} → Instance es p xs → Instance fs p xs
-  instance-to (single n) = single (λ w. n (pair-to (same-edges-sym h) w))
-  instance-to (pair w) = pair (pair-to h w)
+  instance-to (single n) = single (λ w. n (pair-among (λ e m. h e .1 m) w))
+  instance-to (pair w) = pair (pair-among (λ e m. h e .0 m) w)
 
   broken-to : {local : Bool} {p : ℕ} {past : Past} → Broken local es p past → Broken local fs p past
   broken-to (xs, i, q, m, b) = (xs, instance-to i, q, may-to h m, b)
