@@ -15,6 +15,10 @@ use Rattle.usage.specs.declared.RawStep.{RawStep}
 use Rattle.usage.specs.Limits.{statics, mostCreated}
 use Rattle.usage.specs.Past.{Step, event, retiring}
 use Rattle.usage.specs.Judge.{stepOf}
+use Rattle.usage.specs.Tables.{edgesOf, edgeTable}
+use Rattle.automaton.specs.PairSet.{pairSet}
+use Rattle.sheet_fields.specs.TableTest.{tableTested, noTable}
+use Rattle.monitor_pairs.specs.Which.{blocksOf}
 use Rattle.usage.proofs.Logic.{and-left, and-right, and-both}
 use Rattle.automaton.specs.Mask.{lowestIn}
 use Rattle.monitor_state.specs.declared.Created.{Created}
@@ -30,6 +34,8 @@ use Rattle.monitor_sets.specs.Instances.{unseen, firstCreated, instances}
 use Rattle.monitor_sets.specs.Created.{createdOk, highestOk, placeIn}
 use Rattle.monitor_sets.specs.Order.{orderOk}
 use Rattle.monitor_sets.specs.Code.{brokenBit, brokenIn, eventSets}
+use Rattle.monitor_pairs.specs.Blocks.{pairsOf, blocksMoved, blocksCreated, withGathered}
+use Rattle.monitor_state.specs.Code.{eventBlocks, eventPossible}
 use Rattle.monitor_state.specs.Code.{Lent, lentOf, stateOf, judgementOf, sizesOf, haltedSizes, stepped, toldOf}
 use Rattle.monitor_state.proofs.ListLaws.{every-at, place-absent, place-new}
 use Rattle.monitor_state.proofs.WithoutLaws.{place-from}
@@ -102,7 +108,8 @@ module _ (s t : State) (bad : ℕ) where
   Left new old l = l ≡ cond (eqb bad 0) new old
 
   settle-parts : judgementOf (toldOf bad (sizesOf s) (sizesOf t))
-      (lentOf (cond (eqb bad 0) (t .tracked .sets) (s .tracked .sets)) (cond (eqb bad 0) (t .tracked .possible) (s .tracked .possible))
+      (lentOf (cond (eqb bad 0) (t .tracked .sets) (s .tracked .sets)) (cond (eqb bad 0) (t .tracked .pairs) (s .tracked .pairs))
+      (cond (eqb bad 0) (t .tracked .possible) (s .tracked .possible))
       (cond (eqb bad 0) (t .created .numbers) (s .created .numbers)) (cond (eqb bad 0) (t .unclosed .counts) (s .unclosed .counts))
       (cond (eqb bad 0) (t .unclosed .order) (s .unclosed .order)))
       ≡ settle bad s t
@@ -112,7 +119,8 @@ module _ (s t : State) (bad : ℕ) where
       go : (b : Bool)
           → judgementOf
           (cond b (record { answer = Allowed; sizes = sizesOf t }) (record { answer = Violated (lowestIn bad); sizes = haltedSizes (sizesOf s) }))
-          (lentOf (cond b (t .tracked .sets) (s .tracked .sets)) (cond b (t .tracked .possible) (s .tracked .possible))
+          (lentOf (cond b (t .tracked .sets) (s .tracked .sets)) (cond b (t .tracked .pairs) (s .tracked .pairs))
+          (cond b (t .tracked .possible) (s .tracked .possible))
           (cond b (t .created .numbers) (s .created .numbers)) (cond b (t .unclosed .counts) (s .unclosed .counts))
           (cond b (t .unclosed .order) (s .unclosed .order)))
           ≡ cond b (record { answer = Allowed; state = t }) (record { answer = Violated (lowestIn bad); state = halt s })
@@ -120,15 +128,17 @@ module _ (s t : State) (bad : ℕ) where
       go false = refl
 
   -- a step that is taken
-  pub settled-step : (looked : ℕ) (local : Bool) (es : List Edge) (step : Step) (u : Told) {sets possible numbers counts order : List ℕ}
+  pub settled-step : (looked : ℕ) (local : Bool) (es : List Edge) (step : Step) (u : Told)
+      {sets pairs possible numbers counts order : List ℕ}
       → bad ≡ brokenIn looked (t .tracked .possible) (t .unclosed .counts) → refusal s step ≡ none
       → t ≡ after local es s step → u ≡ toldOf bad (sizesOf s) (sizesOf t)
-      → Left (t .tracked .sets) (s .tracked .sets) sets → Left (t .tracked .possible) (s .tracked .possible) possible
+      → Left (t .tracked .sets) (s .tracked .sets) sets → Left (t .tracked .pairs) (s .tracked .pairs) pairs
+      → Left (t .tracked .possible) (s .tracked .possible) possible
       → Left (t .created .numbers) (s .created .numbers) numbers
       → Left (t .unclosed .counts) (s .unclosed .counts) counts → Left (t .unclosed .order) (s .unclosed .order) order
-      → judgementOf u (lentOf sets possible numbers counts order) ≡ stepped looked local es s step
-  settled-step looked local es step u b n e told p q r v w =
-      rw (told, p, q, r, v, w) settle-parts ∙ ap (λ (k : ℕ). settle k s t) (b ∙ sym (parts-broken looked step t))
+      → judgementOf u (lentOf sets pairs possible numbers counts order) ≡ stepped looked local es s step
+  settled-step looked local es step u b n e told p o q r v w =
+      rw (told, p, o, q, r, v, w) settle-parts ∙ ap (λ (k : ℕ). settle k s t) (b ∙ sym (parts-broken looked step t))
       ∙ sym (step-taken looked local es s step t n e)
 
   -- an array that the step does not change
@@ -153,10 +163,15 @@ close-done n i x y h k = simp (le-leb n mostCreated h, lt-ltb i n k)
 
 -- ── Events ──
 
--- the state with other sets, from whose first n instances is gathered, and with other created resources
-abbrev pub movedTo : State → ℕ → List ℕ → Created → State
-movedTo s n sets c =
-    record { tracked = record { sets = sets; possible = gathered n sets }; created = c; unclosed = s .unclosed; halted = s .halted }
+-- the state with other sets, and with other created resources
+abbrev pub movedTo : State → List ℕ → List ℕ → List ℕ → Created → State
+movedTo s sets pairs possible c =
+    record {
+      tracked = record { sets = sets; pairs = pairs; possible = possible };
+      created = c;
+      unclosed = s .unclosed;
+      halted = s .halted;
+    }
 
 module _ (local : Bool) (es : List Edge) (s : State) (r : ℕ) where
   -- the place of a resource that is created now
@@ -174,18 +189,24 @@ module _ (local : Bool) (es : List Edge) (s : State) (r : ℕ) where
 
   pub create-after : s .created .count < length (s .created .numbers) → statics ≤ r → listed r (live (s .created)) ≡ false
       → (let n = firstCreated + s .created .count + 1 in
-      movedTo s n (eventSets es 0 r (firstCreated + s .created .count) n (s .tracked .sets)) (withNew (s .created) r)
+      let at = firstCreated + s .created .count in
+      movedTo s (eventSets es 0 r at n (s .tracked .sets)) (eventBlocks es 0 r at n (s .tracked .pairs))
+      (eventPossible es 0 r at n (s .tracked .sets) (s .tracked .pairs)) (withNew (s .created) r)
       ≡ after local es s (event 0 r))
-  unfolding after eventSets withTracked moving creating movedIn copiedIn withNew placeOf placeIn
+  unfolding after eventSets eventBlocks eventPossible withTracked moving creating movedIn copiedIn withNew placeOf placeIn
   create-after h d l =
       let c = s .created in
       let m : firstCreated + c .count + 1 ≡ firstCreated + (c .count + 1) = omega arith in
       let moved : ℕ → ℕ → List ℕ = λ (i n : ℕ). movedSets es 0 r i n (copied (s .tracked .sets) (firstCreated + c .count)) in
-      ap₂ (λ (i n : ℕ). movedTo s n (moved i n) (withNew c r)) (sym (place-made c h d l)) m
+      let blocks : ℕ → ℕ → List ℕ = λ (i n : ℕ). blocksMoved es 0 r i n (blocksCreated es (firstCreated + c .count) (s .tracked .pairs)) in
+      ap₂ (λ (i n : ℕ). movedTo s (moved i n) (blocks i n) (withGathered (pairsOf es) n (blocks i n) (gathered n (moved i n))) (withNew c r))
+      (sym (place-made c h d l)) m
 
   pub event-after : (a at : ℕ) → (a ≡ 0 → ⊥) → at ≡ placeIn r (live (s .created))
-      → movedTo s (used (s .created)) (eventSets es a r at (used (s .created)) (s .tracked .sets)) (s .created) ≡ after local es s (event a r)
-  unfolding after eventSets withTracked moving movedIn placeOf placeIn
+      → movedTo s (eventSets es a r at (used (s .created)) (s .tracked .sets)) (eventBlocks es a r at (used (s .created)) (s .tracked .pairs))
+      (eventPossible es a r at (used (s .created)) (s .tracked .sets) (s .tracked .pairs)) (s .created)
+      ≡ after local es s (event a r)
+  unfolding after eventSets eventBlocks eventPossible withTracked moving movedIn placeOf placeIn
   event-after zero at n p = absurd (n refl)
   event-after (suc a) at n p = rw p (simp (ne-eqb (suc a) 0 n))
 
@@ -239,3 +260,16 @@ pub unread-is : (looked : ℕ) (local : Bool) (es : List Edge) (s : State) (raw 
     → stepOf raw ≡ none → refuse 21 s ≡ judgeReadBy (lookedAt looked) local es s (stepOf raw)
 unfolding judgeReadBy
 unread-is looked local es s raw e = rw e
+
+-- a table that passes 41 tells its pair policies
+pub fits-is : (t : List ℕ) → tableTested t .fits ≡ edgeTable t
+unfolding tableTested
+fits-is t = go (edgeTable t)
+  where
+    go : (b : Bool) → cond b record { fits = true; pairs = pairSet (edgesOf t) } noTable .fits ≡ b
+    go true = refl
+    go false = refl
+
+pub pairs-told : (t : List ℕ) → edgeTable t ≡ true → blocksOf (tableTested t .pairs) ≡ pairsOf (edgesOf t)
+unfolding tableTested
+pairs-told t e = rw e refl

@@ -1,4 +1,5 @@
 // Openings and closings of sandboxes: the counts, the order, and under a local sheet the sets that an opening puts back.
+use monitor_pairs::which::Blocks;
 use monitor_sets::FIRST_CREATED;
 use monitor_sets::SETS;
 use monitor_sets::START_SET;
@@ -19,6 +20,9 @@ ghost use Rattle.monitor_sets.specs.Instances.{instances};
 ghost use Rattle.monitor_sets.specs.Sets.{startSet, resetSets};
 ghost use Rattle.monitor_sets.specs.Code.{brokenIn};
 ghost use Rattle.monitor_sets.specs.Order.{orderOk};
+ghost use Rattle.monitor_pairs.specs.Pairs.{resetPairs};
+ghost use Rattle.monitor_pairs.specs.Blocks.{pairsOf, eachBlock};
+ghost use Rattle.monitor_state.specs.Judge.{pairSets};
 ghost use Rattle.monitor_state.specs.Code.{oneMore, lentOf, stateOf, judgementOf, stepped};
 
 // Policy p has n openings that are not closed. Which open policies are then not respected? Where one is not, the count stays as it was.
@@ -100,6 +104,22 @@ fn enter_anew(
     0
 }
 
+// So those of two resources, where nothing is broken.
+fn put_back(pairs: &mut [u8], which: Blocks, n: usize, p: usize, violated: u8)
+    requires { ⌜ length (now pairs) ≡ pairSets ⌝ }
+    requires { ⌜ n ≤ instances ⌝ }
+    requires { ⌜ p < policies ⌝ }
+    ensures { λ r.
+        ⌜ now (pairs .exit)
+        ≡ cond (eqb violated 0) (eachBlock which (λ q sets. cond (eqb q p) (resetPairs n sets) sets) (now (pairs .entry)))
+        (now (pairs .entry)) ⌝ }
+{
+    if violated == 0 {
+        monitor_pairs::blocks::reset(pairs, which, n, p as u32);
+        return;
+    }
+}
+
 // "At an opening of a policy that is not open, all its instances go back to state 0", where the sheet is local.
 fn is_anew(local: bool, unclosed: &[u8; POLICIES], p: usize) -> bool
     requires { ⌜ p < policies ⌝ }
@@ -116,7 +136,9 @@ fn is_anew(local: bool, unclosed: &[u8; POLICIES], p: usize) -> bool
 pub(crate) fn judge_opening(
     looked: u8,
     local: bool,
+    which: Blocks,
     sets: &mut [u8; SETS],
+    pairs: &mut [u8],
     possible: &mut [u8; POLICIES],
     unclosed: &mut [u8; POLICIES],
     order: &mut [u8; MOST_UNCLOSED],
@@ -125,14 +147,18 @@ pub(crate) fn judge_opening(
 ) -> Told
     requires { ⌜ p < policies ⌝ }
     requires { ⌜ sizes .count ≤ mostCreated ⌝ }
+    requires { ⌜ length (now pairs) ≡ pairSets ⌝ }
     requires { ⌜ length (now order) ≡ mostUnclosed ⌝ }
     requires { ⌜ orderOk (sizes .depth) (now order) (now unclosed) ≡ true ⌝ }
     ensures { λ r.
-        ⌜ ((es : List Edge) (created : List ℕ)
-        → judgementOf r (lentOf (now (sets .exit)) (now (possible .exit)) created (now (unclosed .exit)) (now (order .exit)))
+        ⌜ ((es : List Edge) (created : List ℕ) → which ≡ pairsOf es
+        → judgementOf r (lentOf (now (sets .exit)) (now (pairs .exit)) (now (possible .exit)) created
+        (now (unclosed .exit)) (now (order .exit)))
         ≡ stepped looked local es
-        (stateOf (lentOf (now (sets .entry)) (now (possible .entry)) created (now (unclosed .entry)) (now (order .entry))) sizes)
+        (stateOf (lentOf (now (sets .entry)) (now (pairs .entry)) (now (possible .entry)) created
+        (now (unclosed .entry)) (now (order .entry))) sizes)
         (opening p)) ⌝ }
+    ensures { λ t. ⌜ length (now (pairs .exit)) ≡ length (now (pairs .entry)) ⌝ }
 {
     let depth = sizes.depth;
     if MOST_UNCLOSED <= depth {
@@ -148,6 +174,7 @@ pub(crate) fn judge_opening(
     if is_anew(local, unclosed, p) {
         let n = FIRST_CREATED + sizes.count;
         let broken = enter_anew(looked, sets, possible, unclosed, order, n, depth, p);
+        put_back(pairs, which, n, p, broken);
         return monitor_state::settled(broken, sizes, after);
     }
     let broken = enter(looked, possible, unclosed, order, depth, p);
@@ -167,10 +194,10 @@ pub(crate) fn leave(
     requires { ⌜ length (now order) ≡ mostUnclosed ⌝ }
     requires { ⌜ orderOk (sizes .depth) (now order) (now unclosed) ≡ true ⌝ }
     ensures { λ r.
-        ⌜ ((local : Bool) (es : List Edge) (sets created : List ℕ)
-        → judgementOf r (lentOf sets (now (possible .entry)) created (now (unclosed .exit)) (now (order .entry)))
+        ⌜ ((local : Bool) (es : List Edge) (sets pairs created : List ℕ)
+        → judgementOf r (lentOf sets pairs (now (possible .entry)) created (now (unclosed .exit)) (now (order .entry)))
         ≡ stepped looked local es
-        (stateOf (lentOf sets (now (possible .entry)) created (now (unclosed .entry)) (now (order .entry))) sizes) (closing p)) ⌝ }
+        (stateOf (lentOf sets pairs (now (possible .entry)) created (now (unclosed .entry)) (now (order .entry))) sizes) (closing p)) ⌝ }
 {
     let depth = sizes.depth;
     let n = unclosed[p];

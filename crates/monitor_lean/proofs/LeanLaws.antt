@@ -31,7 +31,6 @@ use Rattle.usage.proofs.JudgeLaws.{Fits, step-fits, step-same}
 use Rattle.usage.proofs.TraceLaws.{trace-tail}
 use Rattle.automaton.specs.Mask.{has, union, offends}
 use Rattle.usage.proofs.TableLaws.{decides-edge-table}
-use Rattle.automaton.proofs.MoveLaws.{ends-of}
 use Rattle.monitor_state.specs.declared.State.{State}
 use Rattle.monitor_state.specs.declared.Answer.{Answer}
 use Rattle.monitor_state.specs.declared.Answer.the-variants.{Allowed, Violated, Refused}
@@ -99,7 +98,7 @@ module _ (local : Bool) (es : List Edge) (m : Summary) (past : Past) (clean : Cl
     step-same-by step e cover _ (refuses r) = refl
     step-same-by step e cover _ (takes k ready) =
         ap (λ (bad : ℕ). settle bad s (after local es s step))
-        (broken-same step (after local es s step) (after-represents local es (ends-of v) past false s R step (step-fits raw step e) ready) (cover k))
+        (broken-same step (after local es s step) (after-represents local es v past false s R step (step-fits raw step e) ready) (cover k))
 
     read-same-by : (o : Option Step) → stepOf raw ≡ o → ((step : Step) → o ≡ some step → Taken past false raw → Covered local es m step past)
         → judgeReadBy (marked m) local es s o ≡ judgeRead local es s o

@@ -15,7 +15,7 @@ use Rattle.monitor_state.specs.declared.Judgement.{Judgement}
 use Rattle.monitor_state.specs.Judge.{judgeOf}
 pub use Rattle.checker.specs.Summary.{Summary, openingBit, markAt}
 pub use Rattle.monitor_state.specs.Looked.{Looks, atAll, breaksIn}
-unfoldable pub use Rattle.monitor_state.specs.Looked.{brokenAmong, judgeStepBy, judgeReadBy, judgeBy}
+unfoldable pub use Rattle.monitor_state.specs.Looked.{brokenAmong, judgeStepBy, judgeReadBy, judgeBy, judgeSized}
 
 -- ── A list of steps ──
 
@@ -36,6 +36,10 @@ marked m (retiring r) p = false
 -- "A lean judge, lent any summary"
 abbrev pub leanOf : Summary → List ℕ → Bool → State → RawStep → Judgement
 leanOf m t local s raw = judgeBy (marked m) t local s raw
+
+-- where the sets of pairs are lent as a slice
+abbrev pub leanSized : Summary → List ℕ → Bool → State → RawStep → Judgement
+leanSized m t local s raw = judgeSized (marked m) t local s raw
 
 abbrev pub leanAnswers : Summary → List ℕ → Bool → State → List RawStep → List Answer
 leanAnswers m t local s raws = answersBy (marked m) t local s raws

@@ -12,12 +12,13 @@ ghost use Prim.Native.Nat.{ℕ, _<_, _≤_, _^_};
 ghost use mathlib.Core.Path.{_≡_};
 ghost use mathlib.Core.Bool.{cond};
 ghost use mathlib.Core.Option.{some};
+ghost use lib.ListN.{length};
 ghost use Rattle.usage.specs.Limits.{policies};
 ghost use Rattle.usage.specs.Past.{Step};
 ghost use Rattle.usage.specs.Judge.{stepOf};
 ghost use Rattle.automaton.specs.Mask.{has, union};
 ghost use Rattle.monitor_state.specs.Lent.{lentOf, stateOf, judgementOf};
-ghost use Rattle.monitor_lean.specs.Lean.{openingBit, markAt, marked, leanOf};
+ghost use Rattle.monitor_lean.specs.Lean.{openingBit, markAt, marked, leanSized};
 ghost use Rattle.monitor_lean.specs.Promise.{LeanPromise};
 
 // The bit of a policy's opening; those below it are its actions'.
@@ -49,7 +50,7 @@ fn marked_at(marks: &[u64; POLICIES], i: u32) -> u8
 }
 
 // The policies that a step is judged by.
-fn looked_at(marks: &[u64; POLICIES], step: RawStep) -> u8
+pub fn looked_at(marks: &[u64; POLICIES], step: RawStep) -> u8
     ensures { λ r.
         ⌜ ((read : Step) → stepOf step ≡ some read → (p : ℕ) → p < policies → has r p ≡ marked (now (marks .entry)) read p) ⌝ }
 {
@@ -63,12 +64,14 @@ fn looked_at(marks: &[u64; POLICIES], step: RawStep) -> u8
     }
 }
 
-// One step of the lean judge, over a state whose arrays are lent, with any marks at all.
+// One step of the lean judge, over a state whose arrays are lent, with any marks at all. A slice of another length than that of the sets of
+// pairs is 42.
 pub fn judge_lean(
     marks: &[u64; POLICIES],
     edges: &[u8],
     local: bool,
     sets: &mut [u8; SETS],
+    pairs: &mut [u8],
     possible: &mut [u8; POLICIES],
     created: &mut [u32; MOST_CREATED],
     unclosed: &mut [u8; POLICIES],
@@ -78,10 +81,13 @@ pub fn judge_lean(
 ) -> Told
     ensures { λ r.
         ⌜ judgementOf r
-        (lentOf (now (sets .exit)) (now (possible .exit)) (now (created .exit)) (now (unclosed .exit)) (now (order .exit)))
-        ≡ leanOf (now (marks .entry)) (now (edges .entry)) local
-        (stateOf (lentOf (now (sets .entry)) (now (possible .entry)) (now (created .entry)) (now (unclosed .entry)) (now (order .entry))) sizes)
+        (lentOf (now (sets .exit)) (now (pairs .exit)) (now (possible .exit)) (now (created .exit))
+        (now (unclosed .exit)) (now (order .exit)))
+        ≡ leanSized (now (marks .entry)) (now (edges .entry)) local
+        (stateOf (lentOf (now (sets .entry)) (now (pairs .entry)) (now (possible .entry)) (now (created .entry))
+        (now (unclosed .entry)) (now (order .entry))) sizes)
         step ⌝ }
+    ensures { λ r. ⌜ length (now (pairs .exit)) ≡ length (now (pairs .entry)) ⌝ }
     ensures { λ r. ⌜ LeanPromise (now (edges .entry)) local (now (marks .entry)) ⌝ }
 {
     let looked = looked_at(marks, step);
@@ -90,6 +96,7 @@ pub fn judge_lean(
         edges,
         local,
         sets,
+        pairs,
         possible,
         created,
         unclosed,

@@ -12,3 +12,8 @@ pub mod Examples
 pub mod WhichLaws
 -- The ways of an event, out of the rows for all policies.
 pub mod WaysLaws
+-- Both blocks.
+pub mod BlockLaws
+pub mod EachLaws
+pub mod ByteLaws
+pub mod SameWays

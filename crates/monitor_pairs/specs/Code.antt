@@ -1,10 +1,10 @@
 -- What the functions compute on the way.
 use Prim.Native.Nat.{ℕ, _+_, _-_, _*_, _/_, _%_}
 use mathlib.Core.Bool.{Bool, _&&_, cond}
-use mathlib.Core.List.{List, [], _∷_}
+use mathlib.Core.List.{List, [], _∷_, _++_}
 use lib.Bits.{bitAnd, bitOr}
 use lib.Dec.{eqb, ltb, leb}
-use lib.ListN.{getD}
+use lib.ListN.{length, getD, set}
 use Rattle.usage.specs.Limits.{policies, states}
 use Rattle.usage.specs.Tables.{from}
 use Rattle.automaton.specs.Mask.{union}
@@ -12,7 +12,10 @@ use Rattle.automaton.specs.Move.{moveBy}
 use Rattle.automaton.specs.Code.{changed}
 use Rattle.monitor_sets.specs.Instances.{instances}
 use Rattle.monitor_pairs.specs.declared.Ways.{Ways}
-use Rattle.monitor_pairs.specs.Pairs.{pairPlaces, pairAt, taken}
+use Rattle.monitor_pairs.specs.declared.which.Blocks.{Blocks}
+use Rattle.monitor_pairs.specs.declared.blocks.Turn.{Turn}
+use Rattle.monitor_pairs.specs.Pairs.{pairPlaces, pairAt, taken, eventPairs, gatherPairs, createPairs}
+use Rattle.monitor_pairs.specs.Blocks.{pairSets, lowerBlock, upperBlock, ofPolicy}
 
 -- eight rows leave every state where it is
 unfoldable pub staysBy : List ℕ → Bool
@@ -99,3 +102,24 @@ waysIn neither first second both p =
     cond (ltb p policies)
     record { neither = policyRows neither p; first = policyRows first p; second = policyRows second p; both = policyRows both p }
     record { neither = stayRows; first = stayRows; second = stayRows; both = stayRows }
+
+-- ── Both blocks ──
+
+-- a block after an event, whose resource is first created where it creates one
+unfoldable pub turned : Turn → Ways → List ℕ → List ℕ
+turned t w sets = eventPairs w (t .at) (t .n) (cond (t .creates) (createPairs (t .at) sets) sets)
+
+-- there are two blocks, so many places, and the event's is among them
+abbrev pub takesTurn : Turn → List ℕ → Bool
+takesTurn t pairs = eqb (length pairs) pairSets && (leb (t .n) instances && ltb (t .at) (t .n))
+
+-- either block, in its ways
+unfoldable pub turnedBlocks : Blocks → Turn → Ways → Ways → List ℕ → List ℕ
+turnedBlocks b t lower upper pairs =
+    ofPolicy (b .first) (λ p. turned t lower) (lowerBlock pairs) ++ ofPolicy (b .second) (λ p. turned t upper) (upperBlock pairs)
+
+-- what it leads to, put among what is gathered of all policies
+unfoldable pub ledBlocks : Blocks → Turn → Ways → Ways → List ℕ → List ℕ → List ℕ
+ledBlocks b t lower upper pairs after =
+    set (set after (b .first) (gatherPairs (t .n) (turned t lower (lowerBlock pairs)))) (b .second)
+    (gatherPairs (t .n) (turned t upper (upperBlock pairs)))

@@ -1,26 +1,17 @@
 // What an event makes of the sets of a pair policy. The sets of one first place are a row, those of one second place a column. The row
 // and the column of the event's place are moved by themselves; all others see the event alike and are moved in one run, without gaps. A
-// proof has no length of an array behind a reference from its type, so the private functions that change one require it.
-use crate::PAIRS;
+// block is lent as a part of the array of both, so its length and its range are required.
 use crate::Ways;
 use crate::gathering;
 use crate::runs;
 use monitor_sets::INSTANCES;
 ghost use Prim.Native.Nat.{ℕ, _+_, _*_, _<_, _≤_};
 ghost use mathlib.Core.Path.{_≡_};
-ghost use mathlib.Core.Bool.{_&&_, cond};
-ghost use lib.Dec.{ltb, leb};
 ghost use lib.ListN.{length, getD};
 ghost use Rattle.automaton.specs.Move.{moveBy};
 ghost use Rattle.monitor_sets.specs.Instances.{instances};
 ghost use Rattle.monitor_pairs.specs.Pairs.{pairPlaces, eventPairs};
 ghost use Rattle.monitor_pairs.specs.Code.{staysBy, lineMoved, pairRow, columnOf, rowPut, columnPut};
-
-// A proof is told the length and the range of an array that is passed by value, and not of a lent one. Compiled, it copies nothing.
-pub(crate) fn known(sets: [u8; PAIRS])
-    ensures { λ r. ⌜ length sets ≡ pairPlaces ⌝ }
-    ensures { λ r. ⌜ ((k : ℕ) → getD sets k 0 < 256) ⌝ }
-{}
 
 // Do eight rows leave every state where it is?
 pub(crate) fn stay(rows: [u8; 8]) -> bool
@@ -77,7 +68,8 @@ fn move_line(line: [u8; INSTANCES], rows: [u8; 8]) -> [u8; INSTANCES]
 }
 
 // The sets of the row that starts at place k.
-pub(crate) fn row_of(sets: &[u8; PAIRS], k: usize) -> [u8; INSTANCES]
+pub(crate) fn row_of(sets: &[u8], k: usize) -> [u8; INSTANCES]
+    requires { ⌜ length (now sets) ≡ pairPlaces ⌝ }
     requires { ⌜ k + instances ≤ pairPlaces ⌝ }
     ensures { λ r. ⌜ r ≡ pairRow k (now (sets .entry)) ⌝ }
 {
@@ -91,7 +83,8 @@ pub(crate) fn row_of(sets: &[u8; PAIRS], k: usize) -> [u8; INSTANCES]
 }
 
 // The sets of column `at` in the first n rows.
-fn column_of(sets: &[u8; PAIRS], n: usize, at: usize) -> [u8; INSTANCES]
+fn column_of(sets: &[u8], n: usize, at: usize) -> [u8; INSTANCES]
+    requires { ⌜ length (now sets) ≡ pairPlaces ⌝ }
     requires { ⌜ n ≤ instances ⌝ }
     requires { ⌜ at < instances ⌝ }
     ensures { λ r. ⌜ r ≡ columnOf n at (now (sets .entry)) ⌝ }
@@ -106,7 +99,7 @@ fn column_of(sets: &[u8; PAIRS], n: usize, at: usize) -> [u8; INSTANCES]
 }
 
 // The row that starts at place k becomes this one.
-pub(crate) fn put_row(sets: &mut [u8; PAIRS], k: usize, row: &[u8; INSTANCES])
+pub(crate) fn put_row(sets: &mut [u8], k: usize, row: &[u8; INSTANCES])
     requires { ⌜ length (now sets) ≡ pairPlaces ⌝ }
     requires { ⌜ k + instances ≤ pairPlaces ⌝ }
     ensures { λ r. ⌜ now (sets .exit) ≡ rowPut k (now (row .entry)) instances (now (sets .entry)) ⌝ }
@@ -120,7 +113,7 @@ pub(crate) fn put_row(sets: &mut [u8; PAIRS], k: usize, row: &[u8; INSTANCES])
 }
 
 // Column `at` of the first n rows becomes this one.
-fn put_column(sets: &mut [u8; PAIRS], n: usize, at: usize, column: &[u8; INSTANCES])
+fn put_column(sets: &mut [u8], n: usize, at: usize, column: &[u8; INSTANCES])
     requires { ⌜ length (now sets) ≡ pairPlaces ⌝ }
     requires { ⌜ n ≤ instances ⌝ }
     requires { ⌜ at < instances ⌝ }
@@ -135,11 +128,13 @@ fn put_column(sets: &mut [u8; PAIRS], n: usize, at: usize, column: &[u8; INSTANC
 }
 
 // The first n rows move, each set in the way in which its two places see an event on the resource at place `at`.
-fn move_rows(sets: &mut [u8; PAIRS], n: usize, at: usize, ways: Ways)
+fn move_rows(sets: &mut [u8], n: usize, at: usize, ways: Ways)
     requires { ⌜ length (now sets) ≡ pairPlaces ⌝ }
+    requires { ⌜ ((k : ℕ) → getD (now sets) k 0 < 256) ⌝ }
     requires { ⌜ n ≤ instances ⌝ }
     requires { ⌜ at < n ⌝ }
     ensures { λ r. ⌜ now (sets .exit) ≡ eventPairs ways at n (now (sets .entry)) ⌝ }
+    ensures { λ r. ⌜ length (now (sets .exit)) ≡ pairPlaces ⌝ }
 {
     let first = ways.first;
     let second = ways.second;
@@ -155,21 +150,15 @@ fn move_rows(sets: &mut [u8; PAIRS], n: usize, at: usize, ways: Ways)
     put_column(sets, n, at, &column);
 }
 
-// Moves the sets of the first n places on an event on the resource at place `at`. Where there are not n places, or n is not above `at`,
-// nothing happens.
-pub fn take_event(sets: &mut [u8; PAIRS], n: usize, at: usize, ways: Ways)
-    ensures { λ r.
-        ⌜ now (sets .exit)
-        ≡ cond (leb n instances && ltb at n) (eventPairs ways at n (now (sets .entry))) (now (sets .entry)) ⌝ }
+// The same, where an event that moves nothing costs little.
+pub(crate) fn take_event(sets: &mut [u8], n: usize, at: usize, ways: Ways)
+    requires { ⌜ length (now sets) ≡ pairPlaces ⌝ }
+    requires { ⌜ ((k : ℕ) → getD (now sets) k 0 < 256) ⌝ }
+    requires { ⌜ n ≤ instances ⌝ }
+    requires { ⌜ at < n ⌝ }
+    ensures { λ r. ⌜ now (sets .exit) ≡ eventPairs ways at n (now (sets .entry)) ⌝ }
+    ensures { λ r. ⌜ length (now (sets .exit)) ≡ pairPlaces ⌝ }
 {
-    if INSTANCES < n {
-        return;
-    }
-    if n <= at {
-        return;
-    }
-    let old = *sets;
-    known(old);
     if gathering::all_stay(ways) {
         return;
     }

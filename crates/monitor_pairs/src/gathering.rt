@@ -1,14 +1,11 @@
 // Which states some pair of places in use may be in, and which after an event. Moving a union of sets is the union of the moved ones, so
 // what an event leads to is told before any set is moved: where a policy would be broken, nothing has to be put back.
-use crate::PAIRS;
 use crate::Ways;
 use crate::events;
 use monitor_sets::INSTANCES;
-ghost use Prim.Native.Nat.{_+_, _<_, _≤_};
+ghost use Prim.Native.Nat.{ℕ, _+_, _<_, _≤_};
 ghost use mathlib.Core.Path.{_≡_};
-ghost use mathlib.Core.Bool.{_&&_, cond};
 ghost use lib.Bits.{bitOr};
-ghost use lib.Dec.{ltb, leb};
 ghost use lib.ListN.{length, getD};
 ghost use Rattle.automaton.specs.Mask.{union};
 ghost use Rattle.monitor_sets.specs.Instances.{instances};
@@ -20,9 +17,10 @@ ghost use Rattle.monitor_pairs.specs.Code.{staysAll, rowJoined, besideCo
 const LANES: usize = 16;
 
 // As many sets from place k on, joined to as many others.
-fn join_lanes(all: &mut [u8; LANES], sets: &[u8; PAIRS], k: usize)
+fn join_lanes(all: &mut [u8; LANES], sets: &[u8], k: usize)
     requires { ⌜ length (now all) ≡ lanes ⌝ }
     requires { ⌜ k + lanes ≤ pairPlaces ⌝ }
+    requires { ⌜ length (now sets) ≡ pairPlaces ⌝ }
     ensures { λ r. ⌜ length (now (all .exit)) ≡ lanes ⌝ }
     ensures { λ r. ⌜ union lanes (λ i. getD (now (all .exit)) i 0)
         ≡ bitOr (union lanes (λ i. getD (now (all .entry)) i 0)) (union lanes (λ i. getD (now (sets .entry)) (k + i) 0)) ⌝ }
@@ -48,7 +46,8 @@ fn union_lanes(all: &[u8; LANES]) -> u8
 }
 
 // The union of the first n sets, many at once. The last ones reach back over some that are joined already, which changes nothing.
-fn union_run(sets: &[u8; PAIRS], n: usize) -> u8
+fn union_run(sets: &[u8], n: usize) -> u8
+    requires { ⌜ length (now sets) ≡ pairPlaces ⌝ }
     requires { ⌜ lanes ≤ n ⌝ }
     requires { ⌜ n ≤ pairPlaces ⌝ }
     ensures { λ r. ⌜ r ≡ union n (λ i. getD (now (sets .entry)) i 0) ⌝ }
@@ -64,23 +63,11 @@ fn union_run(sets: &[u8; PAIRS], n: usize) -> u8
     union_lanes(&all)
 }
 
-// Which states some two of the first n places may be in. Where there are not n places, none.
-pub fn gather(sets: &[u8; PAIRS], n: usize) -> u8
-    ensures { λ r. ⌜ r ≡ cond (leb n instances) (gatherPairs n (now (sets .entry))) 0 ⌝ }
-{
-    if INSTANCES < n {
-        return 0;
-    }
-    if n == 0 {
-        return 0;
-    }
-    union_run(sets, n * INSTANCES)
-}
-
 // The row that starts at place k, joined to a line.
-pub(crate) fn join_row(line: &mut [u8; INSTANCES], sets: &[u8; PAIRS], k: usize)
+pub(crate) fn join_row(line: &mut [u8; INSTANCES], sets: &[u8], k: usize)
     requires { ⌜ length (now line) ≡ instances ⌝ }
     requires { ⌜ k + instances ≤ pairPlaces ⌝ }
+    requires { ⌜ length (now sets) ≡ pairPlaces ⌝ }
     ensures { λ r. ⌜ length (now (line .exit)) ≡ instances ⌝ }
     ensures { λ r. ⌜ now (line .exit) ≡ rowJoined k (now (sets .entry)) (now (line .entry)) ⌝ }
 {
@@ -92,7 +79,8 @@ pub(crate) fn join_row(line: &mut [u8; INSTANCES], sets: &[u8; PAIRS], k: usize)
 }
 
 // The union of each column in the first n rows, without row `at`.
-fn columns_beside(sets: &[u8; PAIRS], n: usize, at: usize) -> [u8; INSTANCES]
+fn columns_beside(sets: &[u8], n: usize, at: usize) -> [u8; INSTANCES]
+    requires { ⌜ length (now sets) ≡ pairPlaces ⌝ }
     requires { ⌜ n ≤ instances ⌝ }
     ensures { λ r. ⌜ r ≡ besideColumns n at (now (sets .entry)) ⌝ }
 {
@@ -121,7 +109,8 @@ fn union_line(line: [u8; INSTANCES]) -> u8
 }
 
 // What the event leads to: the sets that see it alike are joined first, and each of the four unions is moved.
-fn after_rows(sets: &[u8; PAIRS], n: usize, at: usize, ways: Ways) -> u8
+fn after_rows(sets: &[u8], n: usize, at: usize, ways: Ways) -> u8
+    requires { ⌜ length (now sets) ≡ pairPlaces ⌝ }
     requires { ⌜ n ≤ instances ⌝ }
     requires { ⌜ at < n ⌝ }
     ensures { λ r. ⌜ r ≡ gatherPairs n (eventPairs ways at n (now (sets .entry))) ⌝ }
@@ -162,21 +151,15 @@ pub(crate) fn all_stay(ways: Ways) -> bool
     events::stay(both)
 }
 
-// Which states some two of the first n places may be in after an event on the resource at place `at`. Where there are not n places, or n
-// is not above `at`, none.
-pub fn after_event(sets: &[u8; PAIRS], n: usize, at: usize, ways: Ways) -> u8
-    ensures { λ r.
-        ⌜ r ≡ cond (leb n instances && ltb at n) (gatherPairs n (eventPairs ways at n (now (sets .entry)))) 0 ⌝ }
+// Which states some two of the first n places may be in after an event on the resource at place `at`.
+pub(crate) fn after_event(sets: &[u8], n: usize, at: usize, ways: Ways) -> u8
+    requires { ⌜ length (now sets) ≡ pairPlaces ⌝ }
+    requires { ⌜ ((k : ℕ) → getD (now sets) k 0 < 256) ⌝ }
+    requires { ⌜ n ≤ instances ⌝ }
+    requires { ⌜ at < n ⌝ }
+    ensures { λ r. ⌜ r ≡ gatherPairs n (eventPairs ways at n (now (sets .entry))) ⌝ }
 {
-    if INSTANCES < n {
-        return 0;
-    }
-    if n <= at {
-        return 0;
-    }
     if all_stay(ways) {
-        let old = *sets;
-        events::known(old);
         return union_run(sets, n * INSTANCES);
     }
     after_rows(sets, n, at, ways)

@@ -1,6 +1,5 @@
 // A retiring: what stood at the place joins what stands at that of the retired ones, as first place and as second, and the places behind
 // it move up by one.
-use crate::PAIRS;
 use crate::events;
 use crate::gathering;
 use crate::places;
@@ -10,15 +9,13 @@ use monitor_sets::RETIREES;
 use monitor_sets::UNSEEN;
 ghost use Prim.Native.Nat.{_+_, _<_, _≤_};
 ghost use mathlib.Core.Path.{_≡_};
-ghost use mathlib.Core.Bool.{_&&_, cond};
-ghost use lib.Dec.{leb, ltb};
 ghost use lib.ListN.{length};
 ghost use Rattle.monitor_sets.specs.Instances.{firstCreated, instances};
 ghost use Rattle.monitor_pairs.specs.Pairs.{pairPlaces, retirePairs};
 ghost use Rattle.monitor_pairs.specs.Code.{movedUp, lineRetired, columnsRetired};
 
 // Each of the n sets from place s on becomes the one that is so far behind it.
-fn move_up(sets: &mut [u8; PAIRS], s: usize, n: usize, by: usize)
+fn move_up(sets: &mut [u8], s: usize, n: usize, by: usize)
     requires { ⌜ length (now sets) ≡ pairPlaces ⌝ }
     requires { ⌜ s + n + by ≤ pairPlaces ⌝ }
     requires { ⌜ 0 < by ⌝ }
@@ -33,7 +30,7 @@ fn move_up(sets: &mut [u8; PAIRS], s: usize, n: usize, by: usize)
 }
 
 // In the row that starts at place k, the second place `at` is retired.
-fn retire_line(sets: &mut [u8; PAIRS], k: usize, at: usize)
+fn retire_line(sets: &mut [u8], k: usize, at: usize)
     requires { ⌜ length (now sets) ≡ pairPlaces ⌝ }
     requires { ⌜ k + instances ≤ pairPlaces ⌝ }
     requires { ⌜ firstCreated ≤ at ⌝ }
@@ -48,7 +45,7 @@ fn retire_line(sets: &mut [u8; PAIRS], k: usize, at: usize)
 }
 
 // In the first n rows, the second place `at` is retired.
-fn retire_columns(sets: &mut [u8; PAIRS], n: usize, at: usize)
+fn retire_columns(sets: &mut [u8], n: usize, at: usize)
     requires { ⌜ length (now sets) ≡ pairPlaces ⌝ }
     requires { ⌜ n ≤ instances ⌝ }
     requires { ⌜ firstCreated ≤ at ⌝ }
@@ -64,12 +61,13 @@ fn retire_columns(sets: &mut [u8; PAIRS], n: usize, at: usize)
 }
 
 // Place `at` of the first n is retired, as second place and then as first.
-fn retire_rows(sets: &mut [u8; PAIRS], n: usize, at: usize)
+pub(crate) fn retire(sets: &mut [u8], n: usize, at: usize)
     requires { ⌜ length (now sets) ≡ pairPlaces ⌝ }
     requires { ⌜ n ≤ instances ⌝ }
     requires { ⌜ firstCreated ≤ at ⌝ }
     requires { ⌜ at < n ⌝ }
     ensures { λ r. ⌜ now (sets .exit) ≡ retirePairs at n (now (sets .entry)) ⌝ }
+    ensures { λ r. ⌜ length (now (sets .exit)) ≡ pairPlaces ⌝ }
 {
     retire_columns(sets, n, at);
     let mut row = events::row_of(sets, RETIREES * INSTANCES);
@@ -77,24 +75,4 @@ fn retire_rows(sets: &mut [u8; PAIRS], n: usize, at: usize)
     events::put_row(sets, RETIREES * INSTANCES, &row);
     move_up(sets, at * INSTANCES, (n - 1 - at) * INSTANCES, INSTANCES);
     places::copy_row(sets, UNSEEN, n - 1);
-}
-
-// Place `at` of the first n is retired. Where there are not so many, or it is not that of a live resource, nothing happens.
-pub fn retire(sets: &mut [u8; PAIRS], n: usize, at: usize)
-    ensures { λ r.
-        ⌜ now (sets .exit)
-        ≡ cond (leb n instances && (ltb at n && leb firstCreated at)) (retirePairs at n (now (sets .entry))) (now (sets .entry)) ⌝ }
-{
-    if INSTANCES < n {
-        return;
-    }
-    if n <= at {
-        return;
-    }
-    if at < FIRST_CREATED {
-        return;
-    }
-    let old = *sets;
-    events::known(old);
-    retire_rows(sets, n, at);
 }

@@ -1,7 +1,6 @@
 // Moving a run of sets. Most events move one state or two, and then a set is moved in a third of the instructions that eight rows take:
 // what stays is kept as it is. That the short way is the right one is not worked out from the rows but tried at each state: moving a
 // union is the union of the moved, so two ways that agree at each state agree at each set.
-use crate::PAIRS;
 use crate::events;
 ghost use Prim.Native.Nat.{ℕ, _<_, _≤_, _^_};
 ghost use mathlib.Core.Path.{_≡_};
@@ -88,7 +87,7 @@ fn agrees(two: Two, rows: [u8; 8]) -> bool
 }
 
 // Moves the first n sets by two states.
-fn move_two(sets: &mut [u8; PAIRS], n: usize, two: Two)
+fn move_two(sets: &mut [u8], n: usize, two: Two)
     requires { ⌜ length (now sets) ≡ pairPlaces ⌝ }
     requires { ⌜ n ≤ pairPlaces ⌝ }
     ensures { λ r. ⌜ now (sets .exit) ≡ runByTwo (two .keep) (two .low) (two .lows) (two .high) (two .highs) n (now (sets .entry)) ⌝ }
@@ -107,7 +106,7 @@ fn move_two(sets: &mut [u8; PAIRS], n: usize, two: Two)
 }
 
 // Moves the first n sets by eight rows, which are held as numbers so that several sets are moved at once.
-fn move_eight(sets: &mut [u8; PAIRS], n: usize, rows: [u8; 8])
+fn move_eight(sets: &mut [u8], n: usize, rows: [u8; 8])
     requires { ⌜ length (now sets) ≡ pairPlaces ⌝ }
     requires { ⌜ n ≤ pairPlaces ⌝ }
     ensures { λ r. ⌜ now (sets .exit) ≡ runMoved rows n (now (sets .entry)) ⌝ }
@@ -129,14 +128,13 @@ fn move_eight(sets: &mut [u8; PAIRS], n: usize, rows: [u8; 8])
 }
 
 // The same, in the short way where there is one.
-pub(crate) fn move_run(sets: &mut [u8; PAIRS], n: usize, rows: [u8; 8])
+pub(crate) fn move_run(sets: &mut [u8], n: usize, rows: [u8; 8])
     requires { ⌜ length (now sets) ≡ pairPlaces ⌝ }
+    requires { ⌜ ((k : ℕ) → getD (now sets) k 0 < 256) ⌝ }
     requires { ⌜ n ≤ pairPlaces ⌝ }
     ensures { λ r. ⌜ now (sets .exit) ≡ runMoved rows n (now (sets .entry)) ⌝ }
     ensures { λ r. ⌜ length (now (sets .exit)) ≡ pairPlaces ⌝ }
 {
-    let old = *sets;
-    events::known(old);
     if events::stay(rows) {
         return;
     }

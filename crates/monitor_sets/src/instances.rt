@@ -15,7 +15,7 @@ ghost use mathlib.Core.Path.{_≡_};
 ghost use mathlib.Core.Bool.{_&&_, cond};
 ghost use mathlib.Core.List.{List, [], _∷_};
 ghost use lib.Dec.{eqb, ltb, leb};
-ghost use lib.ListN.{length, getD};
+ghost use lib.ListN.{length, getD, replicate};
 ghost use Rattle.usage.specs.Limits.{policies};
 ghost use Rattle.usage.specs.Tables.{edgesOf};
 ghost use Rattle.automaton.specs.Mask.{union};
@@ -362,4 +362,32 @@ pub fn take_event(
     let old = *sets;
     sets_known(old);
     take(looked, edges, sets, possible, unclosed, n, at, action, r)
+}
+
+// Moves the sets of the first n instances on an event, instance `at` as that of its resource, and hands back what each policy may then be
+// in. Where there are not n instances, or n is not above `at`, nothing happens, and nothing is possible.
+pub fn move_event(
+    edges: &[u8],
+    sets: &mut [u8; SETS],
+    n: usize,
+    at: usize,
+    action: u32,
+    r: u32,
+) -> [u8; POLICIES]
+    ensures { λ u.
+        ⌜ now (sets .exit)
+        ≡ cond (leb n instances && ltb at n) (eventSets (edgesOf (now (edges .entry))) action r at n (now (sets .entry))) (now (sets .entry)) ⌝ }
+    ensures { λ u.
+        ⌜ u ≡ cond (leb n instances && ltb at n) (gathered n (eventSets (edgesOf (now (edges .entry))) action r at n (now (sets .entry))))
+        (replicate policies 0) ⌝ }
+{
+    if INSTANCES < n {
+        return [0u8; POLICIES];
+    }
+    if n <= at {
+        return [0u8; POLICIES];
+    }
+    let old = *sets;
+    sets_known(old);
+    move_sets(edges, sets, n, at, action, r)
 }

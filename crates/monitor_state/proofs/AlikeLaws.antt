@@ -31,6 +31,12 @@ use Rattle.monitor_state.specs.declared.Judgement.{Judgement}
 use Rattle.monitor_state.specs.declared.Created.{Created}
 use Rattle.monitor_state.specs.Created.{startCreated, live, listed, distinct, dynamic, createdOk, highestOk, liveOk, placeFrom, placeIn, placeOf}
 use Rattle.monitor_state.specs.Created.{closedUp, used, withNew, withRetired}
+use Rattle.monitor_pairs.specs.declared.Ways.{Ways}
+use Rattle.monitor_pairs.specs.Pairs.{eventPairs}
+use Rattle.monitor_pairs.specs.Tracked.{eventWays}
+use Rattle.monitor_pairs.specs.Blocks.{pairsOf, blocksMoved}
+use Rattle.monitor_pairs.proofs.EachLaws.{each-same}
+use Rattle.monitor_pairs.proofs.SameWays.{ways-named}
 use Rattle.monitor_state.specs.Tracked.{movedSets, movedIn}
 use Rattle.monitor_state.specs.Judge.{startState, unclosedOk, stateOk, withTracked, creating, moving, entering, leaving, releasing, after}
 use Rattle.monitor_state.specs.Judge.{broken, refusal, refuse, halt, settle}
@@ -392,22 +398,32 @@ module _ (f : ℕ → ℕ) (N : ℕ → Type 0) (R : Orders f N) where
         (moveMask-same (renamed f r) r (eqb ((0 + k) % instances) own) es (λ e m o. named-same r (e .who) j (names e m o))
         ((0 + k) / instances) a (getD sets (0 + k) 0)))
 
+    pairs-renamed : (a r own n : ℕ) (pairs : List ℕ) → In r → blocksMoved es a (renamed f r) own n pairs ≡ blocksMoved es a r own n pairs
+    pairs-renamed a r own n pairs j =
+        each-same (pairsOf es) (λ p. eventPairs (eventWays es p a (renamed f r)) own n) (λ p. eventPairs (eventWays es p a r) own n) pairs
+        (λ p sets. ap (λ (w : Ways). eventPairs w own n sets)
+        (ways-named (renamed f r) r es (λ e m o. named-same r (e .who) j (names e m o)) p a))
+
     moved-renamed : (a r : ℕ) (s : State) → StateIn s → In r → moving es a (renamed f r) (renamedState f s) ≡ renamedState f (moving es a r s)
     unfolding movedIn withTracked moving
     moved-renamed a r s i j =
-        rw (place-renamed (s .created) i r j, sets-renamed a r (placeOf (s .created) r) (used (s .created)) (s .tracked .sets) j)
+        rw (
+          place-renamed (s .created) i r j,
+          sets-renamed a r (placeOf (s .created) r) (used (s .created)) (s .tracked .sets) j,
+          pairs-renamed a r (placeOf (s .created) r) (used (s .created)) (s .tracked .pairs) j,
+        )
 
     after-renamed : (local : Bool) (s : State) → StateIn s → (step : Step) → StepIn step
         → after local es (renamedState f s) (renamedRead f step) ≡ renamedState f (after local es s step)
     unfolding after creating entering leaving releasing
     after-renamed local s i (event zero r) j =
         ap (λ (c : Created). moving es 0 (renamed f r) (record {
-          tracked = creating s r .tracked;
+          tracked = creating es s r .tracked;
           created = c;
           unclosed = s .unclosed;
           halted = s .halted;
         })) (created-renamed (s .created) i r j)
-        ∙ moved-renamed 0 r (creating s r) (created-in (s .created) i r j) j
+        ∙ moved-renamed 0 r (creating es s r) (created-in (s .created) i r j) j
     after-renamed local s i (event (suc a) r) j = moved-renamed (suc a) r s i j
     after-renamed local s i (opening p) j = refl
     after-renamed local s i (closing p) j = refl

@@ -15,7 +15,6 @@ use Rattle.usage.specs.Past.{Past, Broken, Open, Violates}
 use Rattle.usage.specs.Placed.{At}
 use Rattle.usage.proofs.Logic.{not-both, or-left, or-right, or-cases, and-left, and-right, and-both}
 use Rattle.usage.proofs.PlacedLaws.{broken-placed}
-use Rattle.usage.proofs.ValidLaws.{no-pair}
 use Rattle.automaton.specs.Mask.{has, offends, lowestIn}
 use Rattle.automaton.proofs.MaskLaws.{has-zero, has-offending, maskOf-has, maskOf-lt, lowest-is}
 use Rattle.automaton.proofs.MoveLaws.{ends-of}
@@ -46,8 +45,8 @@ module _ (local : Bool) (es : List Edge) (past : Past) (h : Bool) (s : State) (R
 
       go : (has m 6 ≡ true) ⊎ (has m 7 ≡ true)
           → (places : List ℕ) × (q : ℕ) × At local es p (Stands past (s .created)) past places q × Offending q
-      go (inl e) = let (places, y) = R .tracked .gathers p 6 k (no-pair v p) (lit< tt) .0 e in (places, 6, y, inl refl)
-      go (inr e) = let (places, y) = R .tracked .gathers p 7 k (no-pair v p) (lit< tt) .0 e in (places, 7, y, inr refl)
+      go (inl e) = let (places, y) = R .tracked .gathers p 6 k (lit< tt) .0 e in (places, 6, y, inl refl)
+      go (inr e) = let (places, y) = R .tracked .gathers p 7 k (lit< tt) .0 e in (places, 7, y, inr refl)
 
   broken-offends : EdgesOk es → (p : ℕ) → p < policies → Broken local es p past → offends (possibleIn (s .tracked) p) ≡ true
   broken-offends v p k b = let (places, q, y, o) = placed p .0 b in offends-at places q y o
@@ -62,7 +61,7 @@ module _ (local : Bool) (es : List Edge) (past : Past) (h : Bool) (s : State) (R
       offends-at : (places : List ℕ) (q : ℕ) → At local es p (Stands past (s .created)) past places q → Offending q → offends m ≡ true
       offends-at places q y o =
           has-offending m (R .tracked .possible-bytes p)
-          ∙ go (R .tracked .gathers p q k (no-pair v p) (may-lt (ends-of v) (y .may)) .1 (places, y)) o
+          ∙ go (R .tracked .gathers p q k (may-lt (ends-of v) (y .may)) .1 (places, y)) o
 
   -- only policies 0 to 7 can be open
   open-lt : (p : ℕ) → Open p past → p < policies

@@ -20,7 +20,15 @@ use Rattle.monitor_sets.specs.Sets.{movedSets, gathered}
 use Rattle.monitor_state.specs.declared.State.{State}
 use Rattle.monitor_state.specs.declared.Answer.{Answer}
 use Rattle.monitor_state.specs.declared.Judgement.{Judgement}
-use Rattle.monitor_state.specs.Judge.{placeOf, used, creating, movedIn, moving, after, broken, refusal, settle}
+use Rattle.monitor_pairs.specs.declared.which.Blocks.{Blocks}
+use Rattle.monitor_pairs.specs.declared.Ways.{Ways}
+use Rattle.monitor_pairs.specs.Pairs.{eventPairs}
+use Rattle.monitor_pairs.specs.Tracked.{eventWays}
+use Rattle.monitor_pairs.specs.Which.{blocksOf}
+use Rattle.monitor_pairs.specs.Blocks.{pairsOf, eachBlock, blocksMoved}
+use Rattle.monitor_pairs.proofs.EachLaws.{each-same}
+use Rattle.monitor_pairs.proofs.SameWays.{ways-set, pairs-set}
+use Rattle.monitor_state.specs.Judge.{placeOf, used, creating, copiedIn, movedIn, moving, entering, resetIn, releasing, retiredIn, after, broken, refusal, settle}
 use Rattle.monitor_state.specs.Judge.{judgeStep, judgeRead, judgeOf, answersOf}
 
 module _ (es fs : List Edge) (h : SameEdges es fs) where
@@ -34,17 +42,30 @@ module _ (es fs : List Edge) (h : SameEdges es fs) where
       at : List Edge → ℕ → ℕ
       at gs k = cond (ltb (k % instances) n) (moveMask gs (k / instances) a r (eqb (k % instances) own) (getD sets k 0)) (getD sets k 0)
 
+  blocks-set : pairsOf es ≡ pairsOf fs
+  blocks-set = ap blocksOf (pairs-set es fs h)
+
+  pairs-moved-set : (a r own n : ℕ) (pairs : List ℕ) → blocksMoved es a r own n pairs ≡ blocksMoved fs a r own n pairs
+  pairs-moved-set a r own n pairs =
+      ap (λ (b : Blocks). eachBlock b (λ p. eventPairs (eventWays es p a r) own n) pairs) blocks-set
+      ∙ each-same (pairsOf fs) (λ p. eventPairs (eventWays es p a r) own n) (λ p. eventPairs (eventWays fs p a r) own n) pairs
+      (λ p sets. ap (λ (w : Ways). eventPairs w own n sets) (ways-set es fs h p a r))
+
   moved-set : (a r : ℕ) (s : State) → moving es a r s ≡ moving fs a r s
   unfolding movedIn moving
-  moved-set a r s = rw (sets-set a r (placeOf (s .created) r) (used (s .created)) (s .tracked .sets)) refl
+  moved-set a r s = rw (
+    sets-set a r (placeOf (s .created) r) (used (s .created)) (s .tracked .sets),
+    pairs-moved-set a r (placeOf (s .created) r) (used (s .created)) (s .tracked .pairs),
+    blocks-set,
+  ) refl
 
   after-set : (local : Bool) (s : State) (step : Step) → after local es s step ≡ after local fs s step
-  unfolding after
-  after-set local s (event zero r) = moved-set 0 r (creating s r)
+  unfolding after creating copiedIn entering resetIn releasing retiredIn
+  after-set local s (event zero r) = moved-set 0 r (creating es s r) ∙ ap (moving fs 0 r) (rw blocks-set refl)
   after-set local s (event (suc a) r) = moved-set (suc a) r s
-  after-set local s (opening p) = refl
+  after-set local s (opening p) = rw blocks-set refl
   after-set local s (closing p) = refl
-  after-set local s (retiring r) = refl
+  after-set local s (retiring r) = rw blocks-set refl
 
   step-set : (local : Bool) (s : State) (step : Step) (o : Option ℕ) → judgeStep local es s step o ≡ judgeStep local fs s step o
   unfolding judgeStep

@@ -9,6 +9,7 @@ pub mod UnclosedLaws
 pub mod SoundLaws
 pub mod StartLaws
 pub mod Tracking
+pub mod PairTracking
 pub mod Retiring
 pub mod Gathering
 pub mod BrokenLaws

@@ -5,6 +5,9 @@ use mathlib.Core.Bool.{Bool, true, false, not, _&&_, cond}
 use mathlib.Core.List.{List}
 use mathlib.Core.Option.{Option, none, some}
 use native.Mathlib.Omega.{arith}
+use borrow.Author.Tests.{eq-eqb}
+use lib.Dec.{eqb}
+use lib.ListN.{length}
 use Rattle.usage.specs.declared.Edge.{Edge}
 use Rattle.usage.specs.declared.RawStep.{RawStep}
 use Rattle.usage.specs.Limits.{policies}
@@ -16,8 +19,8 @@ use Rattle.automaton.specs.Mask.{has, union}
 use Rattle.automaton.proofs.RowLaws.{union-ext}
 use Rattle.monitor_state.specs.declared.State.{State}
 use Rattle.monitor_state.specs.declared.Judgement.{Judgement}
-use Rattle.monitor_state.specs.Judge.{stateOk, after, broken, refusal, refuse, settle, judgeStep, judgeRead, judgeOf}
-use Rattle.monitor_state.specs.Looked.{Looks, atAll, breaksIn, brokenAmong, judgeStepBy, judgeReadBy, judgeBy, lookedAt, allPolicies}
+use Rattle.monitor_state.specs.Judge.{stateOk, after, broken, refusal, refuse, settle, judgeStep, judgeRead, judgeOf, pairSets}
+use Rattle.monitor_state.specs.Looked.{Looks, atAll, breaksIn, brokenAmong, judgeStepBy, judgeReadBy, judgeBy, judgeSized, lookedAt, allPolicies}
 
 -- ── The full judge is the one that looks at all ──
 
@@ -41,6 +44,13 @@ unfolding judgeBy judgeOf
 full-looks-at-all t local s raw =
     ap (λ (j : Judgement). cond (not (edgeTable t)) (refuse 41 s) (cond (not (stateOk s)) (refuse 42 s) (cond (s .halted) (refuse 20 s) j)))
     (read-all local (edgesOf t) s (stepOf raw))
+
+-- ── A slice of the right length for the sets of pairs ──
+
+pub sized-by : (looks : Looks) (t : List ℕ) (local : Bool) (s : State) (raw : RawStep) → length (s .tracked .pairs) ≡ pairSets
+    → judgeSized looks t local s raw ≡ judgeBy looks t local s raw
+unfolding judgeSized
+sized-by looks t local s raw e = simp (eq-eqb _ _ e)
 
 -- ── Looking at every policy that is broken is looking at all ──
 
@@ -84,8 +94,14 @@ module _ (looks others : Looks) where
       ap (λ (j : Judgement). cond (not (edgeTable t)) (refuse 41 s) (cond (not (stateOk s)) (refuse 42 s) (cond (s .halted) (refuse 20 s) j)))
       (read-alike local (edgesOf t) s (stepOf raw) h)
 
+  pub sized-alike : (t : List ℕ) (local : Bool) (s : State) (raw : RawStep) → ((step : Step) → stepOf raw ≡ some step → Alike step)
+      → judgeSized looks t local s raw ≡ judgeSized others t local s raw
+  unfolding judgeSized
+  sized-alike t local s raw h =
+      ap (λ (j : Judgement). cond (eqb (length (s .tracked .pairs)) pairSets) j (refuse 42 s)) (looks-alike t local s raw h)
+
 -- every policy is one of all
-has-all : (p : ℕ) → p < policies → has allPolicies p ≡ true
+pub has-all : (p : ℕ) → p < policies → has allPolicies p ≡ true
 unfolding has
 has-all zero l = refl
 has-all (suc zero) l = refl

@@ -14,13 +14,19 @@ use Rattle.usage.specs.Limits.{policies, states}
 use Rattle.usage.specs.Policy.{PairPolicy}
 use Rattle.usage.specs.Past.{Step, opening, closing, retiring, Past, Open}
 use Rattle.usage.specs.Placed.{At}
-use Rattle.usage.proofs.Logic.{clash, and-left, and-right}
+use Rattle.usage.proofs.Logic.{clash, not-both, and-left, and-right}
 use Rattle.usage.proofs.PastLaws.{may-some}
 use Rattle.usage.proofs.PlacedLaws.{at-more, one-placed, at-closing, at-same, at-reset}
 use Rattle.automaton.specs.Mask.{has}
 use Rattle.automaton.proofs.MaskLaws.{has-pow}
 use Rattle.monitor_sets.specs.Instances.{unseen, retirees, instances, setPlaces}
 use Rattle.monitor_sets.proofs.PlaceLaws.{reset-at, reset-length, reset-below}
+use Rattle.monitor_pairs.specs.Pairs.{pairPlaces, resetPairs}
+use Rattle.monitor_pairs.specs.Tracked.{TracksPairs}
+use Rattle.monitor_pairs.specs.Blocks.{pairSets, lowerBlock, upperBlock, pairsOf, eachBlock}
+use Rattle.monitor_pairs.proofs.TrackedLaws.{reset-tracks}
+use Rattle.monitor_pairs.proofs.EachLaws.{Sized, reset-size, each-size}
+use Rattle.monitor_pairs.proofs.ByteLaws.{reset-bytes, each-bytes}
 use Rattle.monitor_state.specs.declared.State.{State}
 use Rattle.monitor_state.specs.declared.Tracked.{Tracked}
 use Rattle.monitor_state.specs.Tracked.{setAt, possibleIn, resetSets, startSet, resetIn}
@@ -28,7 +34,8 @@ use Rattle.monitor_state.specs.Created.{placeOf, used}
 use Rattle.monitor_state.specs.Unclosed.{openingsOf, anew}
 use Rattle.monitor_state.specs.Represents.{Stands, Tracks, Gathers, HoldsStates, Represents}
 use Rattle.monitor_state.proofs.Places.{LiveParts, live-parts, used-most}
-use Rattle.monitor_state.proofs.StandsLaws.{stands-after, stands-before, someone}
+use Rattle.monitor_state.proofs.StandsLaws.{stands-after, stands-before, someone, placed-some}
+use Rattle.monitor_state.proofs.PairTracking.{tracks-as, lower-each, upper-each}
 use Rattle.monitor_state.proofs.UnclosedLaws.{open-count-pos, count-pos-open}
 
 module _ (local : Bool) (es : List Edge) (past : Past) (h : Bool) (s : State) (R : Represents local es past h s) where
@@ -50,13 +57,17 @@ module _ (local : Bool) (es : List Edge) (past : Past) (h : Bool) (s : State) (R
   same-held step may = record {
     tracks = λ p i q k single l b. let t = R .tracked .tracks p i q k single l b in
         (λ e. may p q (i ∷ []) .1 (t .0 e), λ y. t .1 (may p q (i ∷ []) .0 y));
-    gathers = λ p q k single b. (
-      λ e. let (places, y) = R .tracked .gathers p q k single b .0 e in (places, may p q places .1 y),
-      λ (places, y). R .tracked .gathers p q k single b .1 (places, may p q places .0 y),
+    lower = λ h. tracks-as (used (s .created)) (lowerBlock (s .tracked .pairs)) (λ places q. (may (pairsOf es .first) q places .1, may (pairsOf es .first) q places .0)) (R .tracked .lower h);
+    upper = λ h. tracks-as (used (s .created)) (upperBlock (s .tracked .pairs)) (λ places q. (may (pairsOf es .second) q places .1, may (pairsOf es .second) q places .0)) (R .tracked .upper h);
+    gathers = λ p q k b. (
+      λ e. let (places, y) = R .tracked .gathers p q k b .0 e in (places, may p q places .1 y),
+      λ (places, y). R .tracked .gathers p q k b .1 (places, may p q places .0 y),
     );
     sets-length = R .tracked .sets-length;
+    pairs-length = R .tracked .pairs-length;
     possible-length = R .tracked .possible-length;
     bytes = R .tracked .bytes;
+    pair-bytes = R .tracked .pair-bytes;
     possible-bytes = R .tracked .possible-bytes;
   }
 
@@ -113,7 +124,7 @@ module _ (local : Bool) (es : List Edge) (past : Past) (h : Bool) (s : State) (R
     w = live-parts (s .created) (R .created .well)
 
     abbrev after : Tracked
-    after = resetIn (anew local (s .unclosed) p) (used (s .created)) p (s .tracked)
+    after = resetIn es (anew local (s .unclosed) p) (used (s .created)) p (s .tracked)
 
     abbrev put-back : List ℕ
     put-back = cond (anew local (s .unclosed) p) (resetSets (used (s .created)) p (s .tracked .sets)) (s .tracked .sets)
@@ -183,27 +194,93 @@ module _ (local : Bool) (es : List Edge) (past : Past) (h : Bool) (s : State) (R
 
     gathers : Gathers local es (opening p ∷ past) (s .created) after
     unfolding resetIn
-    gathers p′ q k single b =
+    gathers p′ q k b =
         pieced (possibleIn (s .tracked) p′) (getD kept-back p′ 0) p′ q ((places : List ℕ) × After (opening p) p′ places q) (possible-is p′) b
         (λ new e. (
           λ (places, y). anew-may new p′ q places e .0 y .0,
-          λ z. let (x, g) = someone past (s .created) (R .created) 0 (omega arith) in
-              let (q₀, m) = may-some local es p′ (x ∷ []) past in
-              (0 ∷ [], anew-may new p′ q (0 ∷ []) e .1 (z, (q₀, one-placed single g local past q₀ m))),
+          λ z. let (places, y) = placed-some es p′ (Stands past (s .created)) 0 (someone past (s .created) (R .created) 0 (omega arith)) in
+              let (q₀, m) = may-some local es p′ (y .numbers) past in
+              (places, anew-may new p′ q places e .1 (z, (q₀, record { resources = y .numbers; fits = y .fits; placed = y .placed; may = m }))),
         ))
         (λ n. (
-          λ e. let (places, y) = R .tracked .gathers p′ q k single b .0 e in (places, kept-may p′ q places n .1 y),
-          λ (places, y). R .tracked .gathers p′ q k single b .1 (places, kept-may p′ q places n .0 y),
+          λ e. let (places, y) = R .tracked .gathers p′ q k b .0 e in (places, kept-may p′ q places n .1 y),
+          λ (places, y). R .tracked .gathers p′ q k b .1 (places, kept-may p′ q places n .0 y),
         ))
+
+    -- a block of p′, put back or not
+    abbrev put : ℕ → List ℕ → List ℕ
+    put p′ sets = cond (eqb p′ p) (resetPairs (used (s .created)) sets) sets
+
+    put-sized : Sized put
+    put-sized p′ sets e = go (eqb p′ p)
+      where
+        go : (c : Bool) → length (cond c (resetPairs (used (s .created)) sets) sets) ≡ pairPlaces
+        go true = reset-size (used (s .created)) sets
+        go false = e
+
+    abbrev Stood : ℕ → List ℕ → Type 0
+    Stood p′ sets = TracksPairs local es p′ (Stands past (s .created)) past (used (s .created)) sets
+
+    abbrev Standing : ℕ → List ℕ → Type 0
+    Standing p′ sets = TracksPairs local es p′ (Stands (opening p ∷ past) (s .created)) (opening p ∷ past) (used (s .created)) sets
+
+    kept-block : (p′ : ℕ) (sets : List ℕ) → (anew local (s .unclosed) p && eqb p′ p) ≡ false → Stood p′ sets → Standing p′ sets
+    kept-block p′ sets n held = tracks-as (used (s .created)) sets (λ places q. (kept-may p′ q places n .1, kept-may p′ q places n .0)) held
+
+    put-block : anew local (s .unclosed) p ≡ true → (p′ : ℕ) (sets : List ℕ) → p′ < policies → PairPolicy es p′ → Stood p′ sets
+        → Standing p′ (put p′ sets)
+    put-block b p′ sets h is held = go (eqb p′ p) refl
+      where
+        off : (c : Bool) → (c && false) ≡ false
+        off true = refl
+        off false = refl
+
+        go : (c : Bool) → eqb p′ p ≡ c → Standing p′ (cond c (resetPairs (used (s .created)) sets) sets)
+        go true e =
+            let (loc, i, no-longer) = shut b p′ e in
+            tracks-as (used (s .created)) (resetPairs (used (s .created)) sets)
+            (λ places q. (λ y. at-more (stands-after (λ x e. clash (cc))) y, λ y. at-more (stands-before (λ x e. clash (cc))) y))
+            (subst (λ (m : Bool). TracksPairs m es p′ (Stands past (s .created)) (opening p ∷ past) (used (s .created))
+            (resetPairs (used (s .created)) sets)) (sym loc)
+            (reset-tracks es p′ is (Stands past (s .created)) (used (s .created)) (omega arith) (someone past (s .created) (R .created)) past p i
+            no-longer (used-most (s .created) w) sets))
+        go false e = kept-block p′ sets (ap (λ (c : Bool). anew local (s .unclosed) p && c) e ∙ off (anew local (s .unclosed) p)) held
+
+    abbrev put-pairs : Bool → List ℕ
+    put-pairs b = cond b (eachBlock (pairsOf es) put (s .tracked .pairs)) (s .tracked .pairs)
+
+    not-anew : (b c : Bool) → b ≡ false → (b && c) ≡ false
+    not-anew true c e = not-both true refl e
+    not-anew false c e = refl
+
+    low : (b : Bool) → anew local (s .unclosed) p ≡ b → pairsOf es .first < policies → Standing (pairsOf es .first) (lowerBlock (put-pairs b))
+    low true b h = lower-each es Stood Standing put put-sized (put-block b) (s .tracked .pairs) (R .tracked .pairs-length) (R .tracked .lower) h
+    low false b h = kept-block (pairsOf es .first) (lowerBlock (s .tracked .pairs)) (not-anew _ _ b) (R .tracked .lower h)
+
+    high : (b : Bool) → anew local (s .unclosed) p ≡ b → pairsOf es .second < policies
+        → Standing (pairsOf es .second) (upperBlock (put-pairs b))
+    high true b h = upper-each es Stood Standing put put-sized (put-block b) (s .tracked .pairs) (R .tracked .pairs-length) (R .tracked .upper) h
+    high false b h = kept-block (pairsOf es .second) (upperBlock (s .tracked .pairs)) (not-anew _ _ b) (R .tracked .upper h)
+
+    put-bytes : (p′ : ℕ) (sets : List ℕ) → ((k : ℕ) → getD sets k 0 < 256) → (k : ℕ) → getD (put p′ sets) k 0 < 256
+    put-bytes p′ sets b k = go (eqb p′ p)
+      where
+        go : (c : Bool) → getD (cond c (resetPairs (used (s .created)) sets) sets) k 0 < 256
+        go true = reset-bytes (used (s .created)) sets b k
+        go false = b k
 
     pub opening-held : HoldsStates local es (opening p ∷ past) (s .created) after
     unfolding resetIn
     opening-held = record {
       tracks = tracks;
+      lower = low (anew local (s .unclosed) p) refl;
+      upper = high (anew local (s .unclosed) p) refl;
       gathers = gathers;
       sets-length = sets-length (anew local (s .unclosed) p);
+      pairs-length = pairs-length (anew local (s .unclosed) p);
       possible-length = possible-length (anew local (s .unclosed) p);
       bytes = bytes (anew local (s .unclosed) p);
+      pair-bytes = pair-bytes (anew local (s .unclosed) p);
       possible-bytes = λ p′. subst (λ (n : ℕ). n < 256) (sym (possible-is p′)) (either (anew local (s .unclosed) p && eqb p′ p) (possibleIn (s .tracked) p′)
           (R .tracked .possible-bytes p′));
     }
@@ -219,6 +296,15 @@ module _ (local : Bool) (es : List Edge) (past : Past) (h : Bool) (s : State) (R
         possible-length : (b : Bool) → length (cond b (set (s .tracked .possible) p startSet) (s .tracked .possible)) ≡ policies
         possible-length true = length-set (s .tracked .possible) p startSet ∙ R .tracked .possible-length
         possible-length false = R .tracked .possible-length
+
+        pairs-length : (b : Bool) → length (put-pairs b) ≡ pairSets
+        pairs-length true = each-size (pairsOf es) put put-sized (s .tracked .pairs) (R .tracked .pairs-length)
+        pairs-length false = R .tracked .pairs-length
+
+        pair-bytes : (b : Bool) (k : ℕ) → getD (put-pairs b) k 0 < 256
+        pair-bytes true k =
+            each-bytes (pairsOf es) put put-sized put-bytes (s .tracked .pairs) (R .tracked .pairs-length) (R .tracked .pair-bytes) k
+        pair-bytes false k = R .tracked .pair-bytes k
 
         bytes : (b : Bool) (k : ℕ) → getD (cond b (resetSets (used (s .created)) p (s .tracked .sets)) (s .tracked .sets)) k 0 < 256
         bytes true k = reset-below (s .tracked .sets) p (used (s .created)) (R .tracked .bytes) k

@@ -28,7 +28,7 @@ use Rattle.monitor_state.proofs.Places.{place-lt, LiveParts, live-parts
 use Rattle.monitor_state.proofs.CreatedLaws.{retired-from}
 use Rattle.monitor_state.proofs.StandsLaws.{Gives, retired-stands, place-used}
 
-module _ (past : Past) (c : Created) (t : Tracked) (L : ListsLive past c) (r : ℕ) (here : listed r (live c) ≡ true) where
+module _ (es : List Edge) (past : Past) (c : Created) (t : Tracked) (L : ListsLive past c) (r : ℕ) (here : listed r (live c) ≡ true) where
   n : length (c .numbers) ≡ mostCreated
   n = L .numbers-length
 
@@ -39,7 +39,7 @@ module _ (past : Past) (c : Created) (t : Tracked) (L : ListsLive past c) (r : �
   at = placeOf c r
 
   abbrev new : Tracked
-  new = retiredIn at (used c) t
+  new = retiredIn es at (used c) t
 
   from : firstCreated ≤ at
   from = retired-from c n w r here
@@ -72,7 +72,7 @@ module _ (past : Past) (c : Created) (t : Tracked) (L : ListsLive past c) (r : �
             λ q. omega (arith, from),
           )
 
-  module _ (local : Bool) (es : List Edge) (held : Tracks local es past c t) where
+  module _ (local : Bool) (held : Tracks local es past c t) where
     taken : (p i q : ℕ) → At local es p (Stands (retiring r ∷ past) (withRetired c r)) (retiring r ∷ past) (i ∷ []) q
         ↔ ((before : List ℕ) × Takes (Gives past c L r here) (i ∷ []) before × At local es p (Stands past c) past before q)
     taken p i q =

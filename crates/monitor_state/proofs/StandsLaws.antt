@@ -9,10 +9,13 @@ use lib.Dec.{eqb}
 use lib.ListN.{length}
 use borrow.Author.Tests.{eq-eqb, ne-eqb, eqb-true, eqb-false}
 use Rattle.usage.specs.declared.Edge.{Edge}
+use Rattle.usage.specs.Policy.{PairPolicy, Instance, single, pair}
+use Rattle.usage.specs.Tests.{isPair}
 use Rattle.usage.specs.Placed.{Placed, none-placed, next-placed, At}
 use Rattle.usage.specs.Limits.{statics, resources, mostCreated}
 use Rattle.usage.specs.Past.{Step, retiring, Past, Occurs, Retired}
 use Rattle.usage.proofs.Logic.{not-both}
+use Rattle.usage.proofs.ValidLaws.{decides-pair}
 use Rattle.usage.proofs.PlacedLaws.{Alone, Fresh, Has}
 use Rattle.monitor_sets.specs.Instances.{unseen, retirees, firstCreated}
 use Rattle.monitor_sets.proofs.RetiredLaws.{lowered}
@@ -36,6 +39,27 @@ stands-alone past c r k = record { only = only; nowhere = nowhere }
     nowhere : (j : ℕ) → Stands past c j r → j ≡ placeOf c r
     nowhere j (at-own e d) = sym e
     nowhere j (at-retirees e u) = not-both (known c r) k (not-known c r u)
+
+-- some instance of p, and the places that it stands at
+pub record Somewhere (es : List Edge) (p : ℕ) (stands : ℕ → ℕ → Type 0) (places : List ℕ) : Type 0 where
+  pub numbers : List ℕ
+  pub fits : Instance es p numbers
+  pub placed : Placed stands numbers places
+
+-- there is one of any policy where some place stands for a number
+pub placed-some : (es : List Edge) (p : ℕ) (stands : ℕ → ℕ → Type 0) (i : ℕ) → (x : ℕ) × stands i x
+    → (places : List ℕ) × Somewhere es p stands places
+placed-some es p stands i (x, g) = go (isPair es p) refl
+  where
+    go : (b : Bool) → isPair es p ≡ b → (places : List ℕ) × Somewhere es p stands places
+    go true e = (
+      i ∷ i ∷ [],
+      record { numbers = x ∷ x ∷ []; fits = pair (decides-pair es p .0 e); placed = next-placed g (next-placed g none-placed) },
+    )
+    go false e = (
+      i ∷ [],
+      record { numbers = x ∷ []; fits = single (λ w. not-both (isPair es p) (decides-pair es p .1 w) e); placed = next-placed g none-placed },
+    )
 
 -- a step that retires nothing changes none
 module _ {past : Past} {c : Created} {step : Step} (none : (x : ℕ) → retiring x ≡ step → ⊥) where

@@ -1,5 +1,5 @@
 -- What a past's last step says of the states that an instance may be in, and that the start stands for the empty past.
-use Prim.Native.Nat.{ℕ, zero, suc, _+_, _*_, _<_}
+use Prim.Native.Nat.{ℕ, zero, suc, _+_, _*_, _<_, _≤_}
 use mathlib.Core.Path.{_≡_, refl, sym, ap, _∙_, subst}
 use mathlib.Core.Bool.{Bool, true, false, not, _&&_, cond}
 use mathlib.Core.List.{List, [], _∷_, List·Memᴰ·not-nil}
@@ -21,12 +21,17 @@ use Rattle.automaton.proofs.MaskLaws.{has-pow}
 use Rattle.automaton.proofs.MoveLaws.{Ends, moves-lt}
 use Rattle.monitor_sets.specs.Instances.{instances, setPlaces}
 use Rattle.monitor_sets.specs.Order.{agreeBelow}
-use Rattle.monitor_state.specs.Tracked.{setAt, possibleIn, startTracked}
+use Rattle.monitor_state.specs.Tracked.{pairSets, setAt, possibleIn, startTracked}
 use Rattle.monitor_state.specs.Created.{distinct, createdOk, highestOk, liveOk, placeOf, used, startCreated}
 use Rattle.monitor_state.specs.Unclosed.{stackIn, orderOk, unclosedOk, startUnclosed}
 use Rattle.monitor_state.specs.Judge.{startState}
-use Rattle.monitor_state.specs.Represents.{Stands, Tracks, Gathers, HoldsStates, ListsLive, CountsOpenings, Represents}
-use Rattle.monitor_state.proofs.StandsLaws.{someone}
+use Rattle.monitor_state.specs.Represents.{Stands, Tracks, TracksBlock, Gathers, HoldsStates, ListsLive, CountsOpenings, Represents}
+use Rattle.monitor_pairs.specs.Pairs.{pairPlaces}
+use Rattle.monitor_pairs.specs.Tracked.{TracksPairs}
+use Rattle.monitor_pairs.specs.Blocks.{pairsOf}
+use Rattle.monitor_pairs.proofs.TrackedLaws.{start-tracks}
+use Rattle.monitor_pairs.proofs.EachLaws.{lower-pair, upper-pair, start-lower, start-upper}
+use Rattle.monitor_state.proofs.StandsLaws.{someone, Somewhere, placed-some}
 
 -- ── The last step ──
 
@@ -93,21 +98,46 @@ begin-possible : (p : ℕ) → p < policies → possibleIn startTracked p ≡ 1
 unfolding startTracked
 begin-possible p h = getD-replicate policies p 1 0 h
 
+-- some instance of any policy, wherever it stands, is in state 0
 begin-gathers : (local : Bool) (es : List Edge) → Gathers local es [] startCreated startTracked
-begin-gathers local es p q k single b =
+begin-gathers local es p q k b =
     let one : has (possibleIn startTracked p) q ≡ eqb 0 q = ap (λ (m : ℕ). has m q) (begin-possible p k) ∙ has-pow 0 q (lit< tt) b in (
-      λ e. (0 ∷ [], begin-at local es p 0 q single (omega arith) .0 (sym one ∙ e)),
+      λ e. let (places, y) = placed-some es p (Stands [] startCreated) 0 (someone [] startCreated begin-live 0 (omega arith)) in
+          (places, at-zero local es p places q (eqb-true 0 q (sym one ∙ e)) y),
       λ (places, y). one ∙ eq-eqb 0 q (sym (may-start (y .may))),
     )
+  where
+    at-zero : (local : Bool) (es : List Edge) (p : ℕ) (places : List ℕ) (q : ℕ) → 0 ≡ q
+        → Somewhere es p (Stands [] startCreated) places → At local es p (Stands [] startCreated) [] places q
+    at-zero local es p places q e y = record {
+      resources = y .numbers;
+      fits = y .fits;
+      placed = y .placed;
+      may = subst (λ (n : ℕ). May local es p (Sees (y .numbers)) [] n) e start;
+    }
+
+begin-block : (local : Bool) (es : List Edge) (p : ℕ) (sets : List ℕ) → PairPolicy es p → sets ≡ replicate pairPlaces 1
+    → TracksBlock local es [] startCreated p sets
+unfolding startCreated
+begin-block local es p sets is-pair e h =
+    subst (TracksPairs local es p (Stands [] startCreated) [] (used startCreated)) (sym e)
+    (start-tracks es p is-pair (Stands [] startCreated) (used startCreated) (omega arith) (someone [] startCreated begin-live) local few)
+  where
+    few : used startCreated ≤ instances
+    few = omega arith
 
 begin-states : (local : Bool) (es : List Edge) → HoldsStates local es [] startCreated startTracked
 unfolding startTracked
 begin-states local es = record {
   tracks = begin-tracks local es;
+  lower = λ h. begin-block local es (pairsOf es .first) _ (lower-pair es h) start-lower h;
+  upper = λ h. begin-block local es (pairsOf es .second) _ (upper-pair es h) start-upper h;
   gathers = begin-gathers local es;
   sets-length = length-replicate {A = ℕ} setPlaces 1;
+  pairs-length = length-replicate {A = ℕ} pairSets 1;
   possible-length = refl;
   bytes = λ k. replicate-below setPlaces 1 256 k (lit< tt);
+  pair-bytes = λ k. replicate-below pairSets 1 256 k (lit< tt);
   possible-bytes = λ p. replicate-below policies 1 256 p (lit< tt);
 }
 

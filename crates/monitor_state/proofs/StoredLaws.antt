@@ -29,9 +29,9 @@ settle-same bad s t u v =
     either-same (eqb bad 0) (record { answer = Allowed; state = t }) (record { answer = Violated (lowestIn bad); state = halt s })
     (record { answer = Allowed; state = v }) (record { answer = Violated (lowestIn bad); state = halt u }) refl refl
 
-module _ (s : State) (sets : List ℕ) where
+module _ (s : State) (sets pairs : List ℕ) where
   abbrev other : State
-  other = withTracked s (record { sets = sets; possible = s .tracked .possible })
+  other = withTracked s (record { sets = sets; pairs = pairs; possible = s .tracked .possible })
 
   step-same : (local : Bool) (es : List Edge) (step : Step) → broken (after local es other step) ≡ broken (after local es s step)
       → (o : Option ℕ) → judgeStep local es other step o .answer ≡ judgeStep local es s step o .answer
@@ -50,6 +50,6 @@ module _ (s : State) (sets : List ℕ) where
 
 pub judged-by-stored : JudgedByStored
 unfolding judgeOf stateOk withTracked refuse
-judged-by-stored t local s raw step e h sets =
+judged-by-stored t local s raw step e h sets pairs =
     rw e (either-same (not (edgeTable t)) _ _ _ _ refl (either-same (not (stateOk s)) _ _ _ _ refl (either-same (s .halted) _ _ _ _ refl
-    (read-same s sets local (edgesOf t) step h))))
+    (read-same s sets pairs local (edgesOf t) step h))))

@@ -83,9 +83,10 @@ moved-tracks local es v c t w past a r held kn p i q k single l b = (
 
 module _ (c : Created) (t : Tracked) (n : length (c .numbers) ≡ mostCreated) (w : LiveParts c) (r : ℕ) (room : c .count < mostCreated)
     (new : listed r (live c) ≡ false) (dyn : statics ≤ r) where
-  set-copied : (p i : ℕ) → p < policies → i < instances → setAt (copiedIn t (used c)) p i ≡ cond (eqb i (used c)) (setAt t p unseen) (setAt t p i)
+  set-copied : (es : List Edge) (p i : ℕ) → p < policies → i < instances
+      → setAt (copiedIn es t (used c)) p i ≡ cond (eqb i (used c)) (setAt t p unseen) (setAt t p i)
   unfolding copiedIn copied
-  set-copied p i h k =
+  set-copied es p i h k =
       getD-table
       (λ k. cond (eqb (k % instances) (used c)) (getD (t .sets) (k / instances * instances + unseen) 0) (getD (t .sets) k 0)) p i h k
       ∙ ap₂ (λ (u v : ℕ). cond (eqb v (used c)) (setAt t u unseen) (setAt t p i)) (at-div p i k) (at-mod p i k)
@@ -93,8 +94,8 @@ module _ (c : Created) (t : Tracked) (n : length (c .numbers) ≡ mostCreated) (
   abbrev past-place : ℕ → ℕ
   past-place i = cond (eqb i (used c)) unseen i
 
-  set-before : (p i : ℕ) → p < policies → i < instances → setAt (copiedIn t (used c)) p i ≡ setAt t p (past-place i)
-  set-before p i h k = set-copied p i h k ∙ go (eqb i (used c))
+  set-before : (es : List Edge) (p i : ℕ) → p < policies → i < instances → setAt (copiedIn es t (used c)) p i ≡ setAt t p (past-place i)
+  set-before es p i h k = set-copied es p i h k ∙ go (eqb i (used c))
     where
       go : (b : Bool) → cond b (setAt t p unseen) (setAt t p i) ≡ setAt t p (cond b unseen i)
       go true = refl
@@ -109,12 +110,12 @@ module _ (c : Created) (t : Tracked) (n : length (c .numbers) ≡ mostCreated) (
 
   -- The new resource's instance holds what that of the resources that never occurred holds.
   pub created-tracks : (local : Bool) (es : List Edge) (past : Past) (L : ListsLive past c) (fits : r < resources) (above : c .highest < r)
-      → Tracks local es past c t → Tracks local es past (withNew c r) (copiedIn t (used c))
+      → Tracks local es past c t → Tracks local es past (withNew c r) (copiedIn es t (used c))
   unfolding withNew
   created-tracks local es past L fits above held p i q k single l b =
       let inside : i < used c + 1 = subst (λ (n : ℕ). i < n) used-more l in
-      let same : has (setAt (copiedIn t (used c)) p i) q ≡ has (setAt t p (past-place i)) q =
-      ap (λ (m : ℕ). has m q) (set-before p i k (omega arith)) in
+      let same : has (setAt (copiedIn es t (used c)) p i) q ≡ has (setAt t p (past-place i)) q =
+      ap (λ (m : ℕ). has m q) (set-before es p i k (omega arith)) in
       let stood = created-stands past c L r room new dyn fits above in
       let create = at-create (Stands past c) past r _ unseen (used c) (stands-fresh past c L r room new dyn fits above) local es p (i ∷ []) q in
       let old = held p (past-place i) q k single (before-used i inside) b in (
@@ -143,9 +144,9 @@ moved-bytes es a r own n t h i =
     go k true = moveMask-lt es (k / instances) a r (eqb (k % instances) own) (getD (t .sets) k 0)
     go k false = h k
 
-pub copied-bytes : (t : Tracked) (i : ℕ) → Bytes t → Bytes (copiedIn t i)
+pub copied-bytes : (es : List Edge) (t : Tracked) (i : ℕ) → Bytes t → Bytes (copiedIn es t i)
 unfolding copiedIn copied
-copied-bytes t i h k₀ =
+copied-bytes es t i h k₀ =
     from-below (λ k. cond (eqb (k % instances) i) (getD (t .sets) (k / instances * instances + unseen) 0) (getD (t .sets) k 0)) 256
     (lit< tt)
     (λ k. go k (eqb (k % instances) i)) 0 setPlaces k₀

@@ -17,7 +17,6 @@ use Rattle.usage.proofs.Logic.{and-both}
 use Rattle.usage.proofs.TableLaws.{decides-edge-table}
 use Rattle.usage.proofs.JudgeLaws.{step-fits, judged-unique}
 use Rattle.automaton.specs.Mask.{lowestIn}
-use Rattle.automaton.proofs.MoveLaws.{ends-of}
 use Rattle.monitor_state.specs.declared.State.{State}
 use Rattle.monitor_state.specs.declared.Answer.{Answer}
 use Rattle.monitor_state.specs.declared.Answer.the-variants.{Allowed, Violated, Refused}
@@ -67,7 +66,7 @@ module _ (local : Bool) (es : List Edge) (v : EdgesOk es) (past : Past)
   step-promised step e _ (refuses r) = record { answer = is-refused r; state = R; kept = refl }
   step-promised step e _ (takes k ready) =
       settle-promised step (after local es s step) e k
-      (after-represents local es (ends-of v) past false s R step (step-fits raw step e) ready)
+      (after-represents local es v past false s R step (step-fits raw step e) ready)
 
   read-promised : (o : Option Step) → stepOf raw ≡ o → Promised local es past false s raw (judgeRead local es s o)
   unfolding judgeRead refuse

@@ -8,6 +8,9 @@ use lib.ListN.{getD, set}
 use Rattle.usage.specs.declared.Edge.{Edge}
 use Rattle.usage.specs.Past.{Step, event, opening, closing, retiring}
 use Rattle.automaton.specs.Mask.{lowestIn}
+use Rattle.monitor_sets.specs.Sets.{gathered}
+use Rattle.monitor_sets.specs.Code.{eventSets}
+use Rattle.monitor_pairs.specs.Blocks.{pairsOf, blocksMoved, blocksCreated, withGathered}
 use Rattle.monitor_state.specs.declared.State.{State}
 use Rattle.monitor_state.specs.declared.Judgement.{Judgement}
 use Rattle.monitor_state.specs.declared.Told.{Told}
@@ -36,6 +39,15 @@ oneMore unclosed p = set unclosed p (getD unclosed p 0 + 1)
 -- the judgement of a step that was read, by the policies `looked`
 abbrev pub stepped : ℕ → Bool → List Edge → State → Step → Judgement
 stepped looked local es s step = judgeStepBy (lookedAt looked) local es s step (refusal s step)
+
+-- the sets of the pair policies after the event a(r): where it creates r, its place is first taken in use
+unfoldable pub eventBlocks : List Edge → ℕ → ℕ → ℕ → ℕ → List ℕ → List ℕ
+eventBlocks es a r at n pairs = blocksMoved es a r at n (cond (eqb a 0) (blocksCreated es at pairs) pairs)
+
+-- and what each policy may then be in
+unfoldable pub eventPossible : List Edge → ℕ → ℕ → ℕ → ℕ → List ℕ → List ℕ → List ℕ
+eventPossible es a r at n sets pairs =
+    withGathered (pairsOf es) n (eventBlocks es a r at n pairs) (gathered n (eventSets es a r at n sets))
 
 -- the same, halted
 abbrev pub haltedSizes : Sizes → Sizes

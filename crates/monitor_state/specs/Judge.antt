@@ -13,7 +13,7 @@ use Rattle.usage.specs.Judge.{stepOf}
 use Rattle.usage.specs.Tables.{edgesOf, edgeTable}
 use Rattle.automaton.specs.Mask.{union, offends, lowestIn}
 unfoldable pub use Rattle.monitor_state.specs.Tracked.{copied, retiredSets, movedSets, resetSets, gathered, startTracked, copiedIn, movedIn, retiredIn, resetIn}
-pub use Rattle.monitor_state.specs.Tracked.{startSet, setAt, possibleIn}
+pub use Rattle.monitor_state.specs.Tracked.{startSet, pairSets, setAt, possibleIn}
 unfoldable pub use Rattle.monitor_state.specs.Created.{listed, distinct, placeFrom, placeIn, createdOk, highestOk, closedUp}
 unfoldable pub use Rattle.monitor_state.specs.Created.{startCreated, liveOk, placeOf, withNew, withRetired}
 pub use Rattle.monitor_state.specs.Created.{dynamic, live, used}
@@ -45,9 +45,9 @@ unfoldable pub withTracked : State → Tracked → State
 withTracked s t = record { tracked = t; created = s .created; unclosed = s .unclosed; halted = s .halted }
 
 -- r is created; its instance has moved as one that never occurs
-unfoldable pub creating : State → ℕ → State
-creating s r = record {
-  tracked = copiedIn (s .tracked) (used (s .created));
+unfoldable pub creating : List Edge → State → ℕ → State
+creating es s r = record {
+  tracked = copiedIn es (s .tracked) (used (s .created));
   created = withNew (s .created) r;
   unclosed = s .unclosed;
   halted = s .halted;
@@ -56,9 +56,9 @@ creating s r = record {
 unfoldable pub moving : List Edge → ℕ → ℕ → State → State
 moving es a r s = withTracked s (movedIn es a r (placeOf (s .created) r) (used (s .created)) (s .tracked))
 
-unfoldable pub entering : Bool → State → ℕ → State
-entering b s p = record {
-  tracked = resetIn b (used (s .created)) p (s .tracked);
+unfoldable pub entering : List Edge → Bool → State → ℕ → State
+entering es b s p = record {
+  tracked = resetIn es b (used (s .created)) p (s .tracked);
   created = s .created;
   unclosed = withOpening (s .unclosed) p;
   halted = s .halted;
@@ -67,20 +67,20 @@ entering b s p = record {
 unfoldable pub leaving : State → ℕ → State
 leaving s p = record { tracked = s .tracked; created = s .created; unclosed = withClosing (s .unclosed) p; halted = s .halted }
 
-unfoldable pub releasing : State → ℕ → State
-releasing s r = record {
-  tracked = retiredIn (placeOf (s .created) r) (used (s .created)) (s .tracked);
+unfoldable pub releasing : List Edge → State → ℕ → State
+releasing es s r = record {
+  tracked = retiredIn es (placeOf (s .created) r) (used (s .created)) (s .tracked);
   created = withRetired (s .created) r;
   unclosed = s .unclosed;
   halted = s .halted;
 }
 
 unfoldable pub after : Bool → List Edge → State → Step → State
-after local es s (event zero r) = moving es 0 r (creating s r)
+after local es s (event zero r) = moving es 0 r (creating es s r)
 after local es s (event (suc a) r) = moving es (suc a) r s
-after local es s (opening p) = entering (anew local (s .unclosed) p) s p
+after local es s (opening p) = entering es (anew local (s .unclosed) p) s p
 after local es s (closing p) = leaving s p
-after local es s (retiring r) = releasing s r
+after local es s (retiring r) = releasing es s r
 
 -- ── The answer ──
 

@@ -9,18 +9,19 @@ use Rattle.monitor_state.specs.declared.Told.{Told}
 -- the arrays, as they are before a call or after it
 pub record Lent : Type 0 where
   pub sets : List ℕ
+  pub pairs : List ℕ
   pub possible : List ℕ
   pub numbers : List ℕ
   pub counts : List ℕ
   pub order : List ℕ
 
-abbrev pub lentOf : List ℕ → List ℕ → List ℕ → List ℕ → List ℕ → Lent
-lentOf sets possible numbers counts order =
-    record { sets = sets; possible = possible; numbers = numbers; counts = counts; order = order }
+abbrev pub lentOf : List ℕ → List ℕ → List ℕ → List ℕ → List ℕ → List ℕ → Lent
+lentOf sets pairs possible numbers counts order =
+    record { sets = sets; pairs = pairs; possible = possible; numbers = numbers; counts = counts; order = order }
 
 abbrev pub stateOf : Lent → Sizes → State
 stateOf l z = record {
-  tracked = record { sets = l .sets; possible = l .possible };
+  tracked = record { sets = l .sets; pairs = l .pairs; possible = l .possible };
   created = record { numbers = l .numbers; count = z .count; highest = z .highest };
   unclosed = record { counts = l .counts; order = l .order; depth = z .depth };
   halted = z .halted;
@@ -32,7 +33,8 @@ judgementOf t l = record { answer = t .answer; state = stateOf l (t .sizes) }
 
 -- the arrays of a state, and what it has beside them
 abbrev pub arraysOf : State → Lent
-arraysOf s = lentOf (s .tracked .sets) (s .tracked .possible) (s .created .numbers) (s .unclosed .counts) (s .unclosed .order)
+arraysOf s =
+    lentOf (s .tracked .sets) (s .tracked .pairs) (s .tracked .possible) (s .created .numbers) (s .unclosed .counts) (s .unclosed .order)
 
 abbrev pub sizesOf : State → Sizes
 sizesOf s = record {

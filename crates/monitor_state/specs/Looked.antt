@@ -3,7 +3,8 @@ use Prim.Native.Nat.{ℕ, _^_}
 use mathlib.Core.Bool.{Bool, true, not, _&&_, cond}
 use mathlib.Core.List.{List}
 use mathlib.Core.Option.{Option, none, some}
-use lib.Dec.{ltb}
+use lib.Dec.{eqb, ltb}
+use lib.ListN.{length}
 use Rattle.usage.specs.declared.Edge.{Edge}
 use Rattle.usage.specs.declared.RawStep.{RawStep}
 use Rattle.usage.specs.Limits.{policies}
@@ -13,7 +14,7 @@ use Rattle.usage.specs.Tables.{edgesOf, edgeTable}
 use Rattle.automaton.specs.Mask.{has, union, offends}
 use Rattle.monitor_state.specs.declared.State.{State}
 use Rattle.monitor_state.specs.declared.Judgement.{Judgement}
-use Rattle.monitor_state.specs.Judge.{stateOk, openingsOf, possibleIn, after, refusal, refuse, settle}
+use Rattle.monitor_state.specs.Judge.{stateOk, openingsOf, pairSets, possibleIn, after, refusal, refuse, settle}
 
 -- which policies are looked at at a step
 abbrev pub Looks : Type 0
@@ -46,6 +47,10 @@ judgeBy looks t local s raw =
     (cond (not (stateOk s)) (refuse 42 s)
     (cond (s .halted) (refuse 20 s)
     (judgeReadBy looks local (edgesOf t) s (stepOf raw))))
+
+-- the same where the sets of pairs are lent as a slice: one of another length than theirs is 42, before all others
+unfoldable pub judgeSized : Looks → List ℕ → Bool → State → RawStep → Judgement
+judgeSized looks t local s raw = cond (eqb (length (s .tracked .pairs)) pairSets) (judgeBy looks t local s raw) (refuse 42 s)
 
 -- the policies of a set, at every step; all of them as a set
 abbrev pub lookedAt : ℕ → Looks

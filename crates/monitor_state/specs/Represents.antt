@@ -12,11 +12,13 @@ use Rattle.usage.specs.Past.{Past, liveIn, highest, Occurs, Retired, openings, 
 use Rattle.usage.specs.Placed.{At}
 use Rattle.monitor_sets.specs.Instances.{unseen, retirees, setPlaces}
 use Rattle.automaton.specs.Mask.{has}
+use Rattle.monitor_pairs.specs.Tracked.{TracksPairs}
+use Rattle.monitor_pairs.specs.Blocks.{pairsOf, lowerBlock, upperBlock}
 use Rattle.monitor_state.specs.declared.State.{State}
 use Rattle.monitor_state.specs.declared.Tracked.{Tracked}
 use Rattle.monitor_state.specs.declared.Created.{Created}
 use Rattle.monitor_state.specs.declared.Unclosed.{Unclosed}
-use Rattle.monitor_state.specs.Judge.{live, liveOk, placeOf, used, setAt, possibleIn, openingsOf, remembered, unclosedOk}
+use Rattle.monitor_state.specs.Judge.{live, liveOk, placeOf, used, pairSets, setAt, possibleIn, openingsOf, remembered, unclosedOk}
 
 -- ── What is tracked ──
 
@@ -32,19 +34,27 @@ Tracks local es past c t =
     (p i q : ℕ) → p < policies → (PairPolicy es p → ⊥) → i < used c → q < states
     → (has (setAt t p i) q ≡ true) ↔ At local es p (Stands past c) past (i ∷ []) q
 
+-- "has an instance for each x and y, equal ones too" (02, L10): so the sets of the pair policy p; a block that no policy has holds anything.
+abbrev pub TracksBlock : Bool → List Edge → Past → Created → ℕ → List ℕ → Type 0
+TracksBlock local es past c p sets = p < policies → TracksPairs local es p (Stands past c) past (used c) sets
+
 -- The set that is kept of p holds exactly the states that some instance of it, wherever it stands, may be in.
 abbrev pub Gathers : Bool → List Edge → Past → Created → Tracked → Type 0
 Gathers local es past c t =
-    (p q : ℕ) → p < policies → (PairPolicy es p → ⊥) → q < states
+    (p q : ℕ) → p < policies → q < states
     → (has (possibleIn t p) q ≡ true) ↔ ((places : List ℕ) × At local es p (Stands past c) past places q)
 
 -- what is tracked stands for a past, with what is created
 pub record HoldsStates (local : Bool) (es : List Edge) (past : Past) (c : Created) (t : Tracked) : Type 0 where
   pub tracks : Tracks local es past c t
+  pub lower : TracksBlock local es past c (pairsOf es .first) (lowerBlock (t .pairs))
+  pub upper : TracksBlock local es past c (pairsOf es .second) (upperBlock (t .pairs))
   pub gathers : Gathers local es past c t
   pub sets-length : length (t .sets) ≡ setPlaces
+  pub pairs-length : length (t .pairs) ≡ pairSets
   pub possible-length : length (t .possible) ≡ policies
   pub bytes : (k : ℕ) → getD (t .sets) k 0 < 256
+  pub pair-bytes : (k : ℕ) → getD (t .pairs) k 0 < 256
   pub possible-bytes : (p : ℕ) → possibleIn t p < 256
 
 -- ── What is created ──

@@ -17,7 +17,10 @@ NoEvent (opening p) = Unit {0}
 NoEvent (closing p) = Unit {0}
 NoEvent (retiring r) = Unit {0}
 
--- "a state not reached from the start is judged by its stored sets": whatever its instances' sets are, the answer is the same
+-- "a state not reached from the start is judged by its stored sets": whatever its instances' sets are, those of two resources too, the
+-- answer is the same
 abbrev pub JudgedByStored : Type 0
 JudgedByStored = (t : List ℕ) (local : Bool) (s : State) (raw : RawStep) (step : Step) → stepOf raw ≡ some step → NoEvent step
-    → (sets : List ℕ) → judgeOf t local (withTracked s (record { sets = sets; possible = s .tracked .possible })) raw .answer ≡ judgeOf t local s raw .answer
+    → (sets pairs : List ℕ)
+    → judgeOf t local (withTracked s (record { sets = sets; pairs = pairs; possible = s .tracked .possible })) raw .answer
+    ≡ judgeOf t local s raw .answer

@@ -7,14 +7,20 @@ use usage::POLICIES;
 use usage::RawStep;
 ghost use Prim.Native.Nat.{ℕ};
 ghost use mathlib.Core.Path.{_≡_};
+ghost use lib.ListN.{length};
 ghost use Rattle.usage.specs.Judge.{stepOf};
 ghost use Rattle.monitor_state.specs.declared.Answer.the-variants.{Refused};
+ghost use Rattle.monitor_state.specs.Tracked.{pairSets};
 ghost use Rattle.monitor_state.specs.Code.{says, toldOf};
 
-// What is tracked: the sets of states of the instances, as `monitor_sets::instances` lays them out, and for each policy the set of states
-// that any of its instances may be in.
+// The sets of the policies about two resources, as `monitor_pairs` lays them out.
+pub const PAIR_SETS: usize = monitor_pairs::PAIR_SETS;
+
+// What is tracked: the sets of states of the instances, as `monitor_sets::instances` lays them out, those of the policies about two
+// resources, of which none can be written yet, and for each policy the set of states that any of its instances may be in.
 pub struct Tracked {
     pub sets: [u8; SETS],
+    pub pairs: [u8; PAIR_SETS],
     pub possible: [u8; POLICIES],
 }
 
@@ -75,6 +81,11 @@ pub enum Read {
     Retiring(u32),
     Nothing,
 }
+
+// A proof is told the length of an array that is passed by value, and not of a lent one. Compiled, it copies nothing.
+pub fn known(pairs: [u8; PAIR_SETS])
+    ensures { λ r. ⌜ length pairs ≡ pairSets ⌝ }
+{}
 
 // A step as it is handed over; what refusal 21 is for reads as nothing.
 pub fn read_step(step: RawStep) -> Read

@@ -16,7 +16,7 @@ state-of-requires c κs = search needs
 
 returns : tie.Need-returns
 returns c =
-    let a = c .before .before .before .before .before .before .before .before .before .before .before .before .before .before .before .before .args in
+    let a = c .before .before .before .before .before .before .before .before .before .before .before .before .before .before .before .before .before .before .args in
     let t = a .edges .now in
     let is = c .state-of .ensures ∙ c .before .judge-lent .ensures in (
       is,

@@ -33,8 +33,8 @@ refused-requires c κs = search needs
 returns : tie.Need-returns
 returns c =
     let a = c .before .before .before .args in
-    λ local es sets created.
-    let l = lentOf sets (a .possible .now) created (a .unclosed .now) (a .order .now) in
+    λ local es sets pairs created.
+    let l = lentOf sets pairs (a .possible .now) created (a .unclosed .now) (a .order .now) in
     let s = stateOf l (a .sizes) in
     refused-step (a .looked) local es l (a .sizes) (closing (a .p)) 25 (c .refused .result) (c .refused .ensures) (closing-closed s (a .p) (c .before .if1 .taken))
 
@@ -60,8 +60,8 @@ refused-requires-2 c κs = search needs
 returns-2 : tie.Need-returns-2
 returns-2 c =
     let a = c .before .before .before .before .before .before .args in
-    λ local es sets created.
-    let l = lentOf sets (a .possible .now) created (a .unclosed .now) (a .order .now) in
+    λ local es sets pairs created.
+    let l = lentOf sets pairs (a .possible .now) created (a .unclosed .now) (a .order .now) in
     let s = stateOf l (a .sizes) in
     refused-step (a .looked) local es l (a .sizes) (closing (a .p)) 26 (c .refused2 .result) (c .refused2 .ensures)
     (closing-not-last s (a .p) (pos _ (c .before .before .before .before .if1 .left))
@@ -91,14 +91,14 @@ unfolding leaving withClosing after
 returns-3 c =
     let a = c .before .before .before .before .before .before .before .before .args in
     let bad = c .before .recount in
-    λ local es sets created.
-    let l = lentOf sets (a .possible .now) created (a .unclosed .now) (a .order .now) in
+    λ local es sets pairs created.
+    let l = lentOf sets pairs (a .possible .now) created (a .unclosed .now) (a .order .now) in
     let s = stateOf l (a .sizes) in
     let t = leaving s (a .p) in
     settled-step s t (bad .result) (a .looked) local es (closing (a .p)) (c .settled .result) (bad .ensures .0)
     (closing-free s (a .p) (pos _ (c .before .before .before .before .before .before .if1 .left))
     (sym (c .before .before .before .before .wide .ensures) ∙ c .before .before .before .if2 .left)) refl (c .settled .ensures)
-    (kept s t (bad .result) sets) (kept s t (bad .result) (a .possible .now)) (kept s t (bad .result) created) (bad .ensures .1)
+    (kept s t (bad .result) sets) (kept s t (bad .result) pairs) (kept s t (bad .result) (a .possible .now)) (kept s t (bad .result) created) (bad .ensures .1)
     (kept s t (bad .result) (a .order .now))
 
 pub leave-spec : {M : Type 1} → statement M

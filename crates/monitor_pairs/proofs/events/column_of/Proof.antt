@@ -8,6 +8,8 @@ use Rattle.monitor_pairs.proofs.RunLaws.{filled, filled-zeros, filled-m
 use borrow.Author.Needs.{needs}
 use Rattle.monitor_pairs.proofs.events.column_of.Statement.{statement}
 use Rattle.monitor_pairs.proofs.events.column_of.Tie as tie
+use Rattle.monitor_pairs.proofs.events.column_of.Reads as reads
+use Rattle.monitor_pairs.proofs.events.column_of.Lts as lts
 
 abbrev Inv-loop : tie.InvT-loop
 Inv-loop sets n at column₀ i₀ column i =
@@ -25,8 +27,8 @@ mul-column c = search needs
 add-column : tie.Need-add-column Inv-loop μ-loop
 add-column c = search needs
 
-element-copy-out-column : tie.Need-element-copy-out-column Inv-loop μ-loop
-element-copy-out-column c = search needs
+shared-slice-read-column : tie.Need-shared-slice-read-column Inv-loop μ-loop
+shared-slice-read-column c = search needs
 
 array-write-column : tie.Need-array-write-column Inv-loop μ-loop
 array-write-column c = search needs
@@ -60,7 +62,7 @@ column-of-spec =
     loop-holds
     mul-column
     add-column
-    element-copy-out-column
+    shared-slice-read-column
     array-write-column
     add-i
     loop-less

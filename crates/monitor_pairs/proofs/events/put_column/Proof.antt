@@ -10,6 +10,8 @@ use Rattle.monitor_pairs.proofs.RunLaws.{column, column-none, column-mo
 use borrow.Author.Needs.{needs}
 use Rattle.monitor_pairs.proofs.events.put_column.Statement.{statement}
 use Rattle.monitor_pairs.proofs.events.put_column.Tie as tie
+use Rattle.monitor_pairs.proofs.events.put_column.Reads as reads
+use Rattle.monitor_pairs.proofs.events.put_column.Lts as lts
 
 abbrev Inv-loop : tie.InvT-loop
 Inv-loop sets₀ n at line i₀ sets i =
@@ -37,8 +39,8 @@ mul-sets c = search needs
 add-sets : tie.Need-add-sets Inv-loop μ-loop
 add-sets c = search needs
 
-element-write-sets : tie.Need-element-write-sets Inv-loop μ-loop
-element-write-sets c = search needs
+slice-write-sets : tie.Need-slice-write-sets Inv-loop μ-loop
+slice-write-sets c = search needs
 
 add-i : tie.Need-add-i Inv-loop μ-loop
 add-i c = search needs
@@ -60,6 +62,9 @@ loop-again c =
       ),
     )
 
+same-length : tie.Need-same-length Inv-loop μ-loop
+same-length c = search needs
+
 returns : tie.Need-returns Inv-loop μ-loop
 unfolding columnPut
 returns c =
@@ -78,8 +83,9 @@ put-column-spec =
     element-copy-out-sets
     mul-sets
     add-sets
-    element-write-sets
+    slice-write-sets
     add-i
     loop-less
     loop-again
+    same-length
     returns)

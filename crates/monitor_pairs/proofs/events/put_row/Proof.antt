@@ -10,6 +10,8 @@ use Rattle.monitor_pairs.proofs.RunLaws.{span, span-none, span-more}
 use borrow.Author.Needs.{needs}
 use Rattle.monitor_pairs.proofs.events.put_row.Statement.{statement}
 use Rattle.monitor_pairs.proofs.events.put_row.Tie as tie
+use Rattle.monitor_pairs.proofs.events.put_row.Reads as reads
+use Rattle.monitor_pairs.proofs.events.put_row.Lts as lts
 
 abbrev Inv-loop : tie.InvT-loop
 Inv-loop sets₀ k row j₀ sets j =
@@ -34,8 +36,8 @@ element-copy-out-sets c = search needs
 add-sets : tie.Need-add-sets Inv-loop μ-loop
 add-sets c = search needs
 
-element-write-sets : tie.Need-element-write-sets Inv-loop μ-loop
-element-write-sets c = search needs
+slice-write-sets : tie.Need-slice-write-sets Inv-loop μ-loop
+slice-write-sets c = search needs
 
 add-j : tie.Need-add-j Inv-loop μ-loop
 add-j c = search needs
@@ -57,6 +59,9 @@ loop-again c =
       ),
     )
 
+same-length : tie.Need-same-length Inv-loop μ-loop
+same-length c = search needs
+
 returns : tie.Need-returns Inv-loop μ-loop
 unfolding rowPut
 returns c =
@@ -74,8 +79,9 @@ put-row-spec =
     loop-holds
     element-copy-out-sets
     add-sets
-    element-write-sets
+    slice-write-sets
     add-j
     loop-less
     loop-again
+    same-length
     returns)

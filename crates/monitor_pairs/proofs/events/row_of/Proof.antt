@@ -8,6 +8,8 @@ use Rattle.monitor_pairs.proofs.RunLaws.{filled, filled-zeros, filled-m
 use borrow.Author.Needs.{needs}
 use Rattle.monitor_pairs.proofs.events.row_of.Statement.{statement}
 use Rattle.monitor_pairs.proofs.events.row_of.Tie as tie
+use Rattle.monitor_pairs.proofs.events.row_of.Reads as reads
+use Rattle.monitor_pairs.proofs.events.row_of.Lts as lts
 
 abbrev Inv-loop : tie.InvT-loop
 Inv-loop sets k row₀ j₀ row j =
@@ -22,8 +24,8 @@ loop-holds c = (search needs, filled-zeros (λ i. getD (c .args .sets .now) (c .
 add-row : tie.Need-add-row Inv-loop μ-loop
 add-row c = search needs
 
-element-copy-out-row : tie.Need-element-copy-out-row Inv-loop μ-loop
-element-copy-out-row c = search needs
+shared-slice-read-row : tie.Need-shared-slice-read-row Inv-loop μ-loop
+shared-slice-read-row c = search needs
 
 array-write-row : tie.Need-array-write-row Inv-loop μ-loop
 array-write-row c = search needs
@@ -55,7 +57,7 @@ row-of-spec =
     μ-loop
     loop-holds
     add-row
-    element-copy-out-row
+    shared-slice-read-row
     array-write-row
     add-j
     loop-less

@@ -11,6 +11,12 @@ use Rattle.monitor_pairs.proofs.GatherLaws.{four-parts, neither-joined,
 use borrow.Author.Needs.{needs}
 use Rattle.monitor_pairs.proofs.gathering.after_rows.Statement.{statement}
 use Rattle.monitor_pairs.proofs.gathering.after_rows.Tie as tie
+use Rattle.monitor_pairs.proofs.gathering.after_rows.Reads as reads
+use Rattle.monitor_pairs.proofs.gathering.after_rows.Lts as lts
+use Rattle.monitor_pairs.proofs.events.moved.Reads as moved-reads
+use Rattle.monitor_pairs.proofs.events.row_of.Reads as row-of-reads
+use Rattle.monitor_pairs.proofs.gathering.columns_beside.Reads as columns-beside-reads
+use Rattle.monitor_pairs.proofs.gathering.union_line.Reads as union-line-reads
 
 columns-beside-requires : tie.Need-columns-beside-requires
 columns-beside-requires c κs = search needs
@@ -53,7 +59,7 @@ moved-requires-4 c κs = search needs
 
 returns : tie.Need-returns
 returns c =
-    let a = c .before .before .before .before .before .before .before .before .before .before .before .before .args in
+    let a = c .before .before .before .before .before .before .before .before .before .before .before .before .before .args in
     let w = a .ways in
     let l = a .sets .now in
     let n : a .n ≤ instances = omega arith in

@@ -9,6 +9,9 @@ use Rattle.monitor_pairs.proofs.GatherLaws.{beside-none, beside-length,
 use borrow.Author.Needs.{needs}
 use Rattle.monitor_pairs.proofs.gathering.columns_beside.Statement.{statement}
 use Rattle.monitor_pairs.proofs.gathering.columns_beside.Tie as tie
+use Rattle.monitor_pairs.proofs.gathering.columns_beside.Reads as reads
+use Rattle.monitor_pairs.proofs.gathering.columns_beside.Lts as lts
+use Rattle.monitor_pairs.proofs.gathering.join_row.Reads as join-row-reads
 
 abbrev Inv-loop : tie.InvT-loop
 Inv-loop sets n at line₀ i₀ line i =
@@ -18,14 +21,14 @@ abbrev μ-loop : tie.MeasureT-loop
 μ-loop sets n at line₀ i₀ line i = n - i
 
 loop-holds : tie.Need-loop-holds Inv-loop μ-loop
-loop-holds c = (search needs, beside-none (c .args .at) (c .args .sets .now))
+loop-holds c = (search needs, beside-none (c .before .args .at) (c .before .args .sets .now))
 
 mul-join-row : tie.Need-mul-join-row Inv-loop μ-loop
 mul-join-row c = search needs
 
 join-row-requires : tie.Need-join-row-requires Inv-loop μ-loop
 join-row-requires c κs =
-    let a = c .before .before .before .before .args in
+    let a = c .before .before .before .before .before .args in
     let t = c .before .before .before .loop in
     (ap length (t .inv .1) ∙ beside-length (a .at) (a .sets .now) (t .i), search needs)
 
@@ -37,7 +40,7 @@ loop-less c = search needs
 
 loop-again : tie.Need-loop-again Inv-loop μ-loop
 loop-again c =
-    let a = c .before .before .before .args in
+    let a = c .before .before .before .before .args in
     let t = c .before .before .loop in (
       search needs,
       by-cases (c .if1 .came)
@@ -49,7 +52,7 @@ loop-again c =
 returns : tie.Need-returns Inv-loop μ-loop
 returns c =
     let t = c .before .loop in
-    let e : t .i ≡ c .before .before .args .n = omega arith in
+    let e : t .i ≡ c .before .before .before .args .n = omega arith in
     rw (← e) (t .inv .1)
 
 pub columns-beside-spec : {M : Type 1} → statement M

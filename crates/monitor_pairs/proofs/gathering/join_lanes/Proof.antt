@@ -1,4 +1,3 @@
--- `join_lanes` meets its contract. The invariant: the places below i are joined.
 use Prim.Native.Nat.{_+_, _-_, _≤_}
 use mathlib.Core.Path.{_≡_, _∙_}
 use native.Mathlib.Omega.{arith}
@@ -8,6 +7,10 @@ use Rattle.monitor_sets.specs.Code.{lanes}
 use Rattle.monitor_sets.proofs.LaneLaws.{Joining, joining-none, joining-more, joined-all}
 use Rattle.monitor_pairs.proofs.gathering.join_lanes.Statement.{statement}
 use Rattle.monitor_pairs.proofs.gathering.join_lanes.Tie as tie
+use Rattle.monitor_pairs.proofs.gathering.join_lanes.Reads as reads
+use Rattle.monitor_pairs.proofs.gathering.join_lanes.Lts as lts
+
+-- `join_lanes` meets its contract. The invariant: the places below i are joined.
 
 abbrev Inv-loop : tie.InvT-loop
 Inv-loop all₀ sets k i₀ all i = (i ≤ lanes) × Joining all₀ (λ j. getD sets (k + j) 0) all i
@@ -24,8 +27,8 @@ element-copy-out-all c = search needs
 add-all : tie.Need-add-all Inv-loop μ-loop
 add-all c = search needs
 
-element-copy-out-all-2 : tie.Need-element-copy-out-all-2 Inv-loop μ-loop
-element-copy-out-all-2 c = search needs
+shared-slice-read-all : tie.Need-shared-slice-read-all Inv-loop μ-loop
+shared-slice-read-all c = search needs
 
 element-write-all : tie.Need-element-write-all Inv-loop μ-loop
 element-write-all c = search needs
@@ -59,7 +62,7 @@ join-lanes-spec =
     loop-holds
     element-copy-out-all
     add-all
-    element-copy-out-all-2
+    shared-slice-read-all
     element-write-all
     add-i
     loop-less

@@ -10,6 +10,8 @@ use Rattle.monitor_pairs.proofs.RunLaws.{filled, filled-none, filled-ne
 use borrow.Author.Needs.{needs}
 use Rattle.monitor_pairs.proofs.gathering.join_row.Statement.{statement}
 use Rattle.monitor_pairs.proofs.gathering.join_row.Tie as tie
+use Rattle.monitor_pairs.proofs.gathering.join_row.Reads as reads
+use Rattle.monitor_pairs.proofs.gathering.join_row.Lts as lts
 
 abbrev Inv-loop : tie.InvT-loop
 Inv-loop line₀ sets k j₀ line j =
@@ -39,8 +41,8 @@ element-copy-out-line c = search needs
 add-line : tie.Need-add-line Inv-loop μ-loop
 add-line c = search needs
 
-element-copy-out-line-2 : tie.Need-element-copy-out-line-2 Inv-loop μ-loop
-element-copy-out-line-2 c = search needs
+shared-slice-read-line : tie.Need-shared-slice-read-line Inv-loop μ-loop
+shared-slice-read-line c = search needs
 
 element-write-line : tie.Need-element-write-line Inv-loop μ-loop
 element-write-line c = search needs
@@ -93,7 +95,7 @@ join-row-spec =
     loop-holds
     element-copy-out-line
     add-line
-    element-copy-out-line-2
+    shared-slice-read-line
     element-write-line
     add-j
     loop-less

@@ -9,6 +9,10 @@ use Rattle.monitor_sets.proofs.LaneLaws.{union-next, union-back}
 use borrow.Author.Needs.{needs}
 use Rattle.monitor_pairs.proofs.gathering.union_run.Statement.{statement}
 use Rattle.monitor_pairs.proofs.gathering.union_run.Tie as tie
+use Rattle.monitor_pairs.proofs.gathering.union_run.Reads as reads
+use Rattle.monitor_pairs.proofs.gathering.union_run.Lts as lts
+use Rattle.monitor_pairs.proofs.gathering.join_lanes.Reads as join-lanes-reads
+use Rattle.monitor_pairs.proofs.gathering.union_lanes.Reads as union-lanes-reads
 
 abbrev Inv-loop : tie.InvT-loop
 Inv-loop sets n all₀ whole i₀ all i =
@@ -35,7 +39,7 @@ loop-less c = search needs
 
 loop-again : tie.Need-loop-again Inv-loop μ-loop
 loop-again c =
-    let l = c .before .before .before .before .args .sets .now in
+    let l = c .before .before .before .before .before .args .sets .now in
     let t = c .before .before .before .loop in
     let e = c .join-lanes .ensures in (
       search needs,
@@ -57,7 +61,7 @@ union-lanes-requires c κs = search needs
 
 returns : tie.Need-returns Inv-loop μ-loop
 returns c =
-    let a = c .before .before .before .before .before .before .args in
+    let a = c .before .before .before .before .before .before .before .args in
     let t = c .before .before .before .before .before .loop in
     let e = c .before .before .join-lanes2 .ensures in
     c .union-lanes .ensures ∙ e .1

@@ -1,23 +1,20 @@
-use Prim.Native.Nat.{_-_}
-use mathlib.Core.Path.{sym, _∙_}
 use Rattle.monitor_pairs.specs.Pairs.{createPairs}
-use borrow.Author.Tests.{lt-ltb, le-ltb}
 use borrow.Author.Needs.{needs}
 use Rattle.monitor_pairs.proofs.places.create.Statement.{statement}
 use Rattle.monitor_pairs.proofs.places.create.Tie as tie
-
-returns : tie.Need-returns
-returns c = simp (le-ltb _ _ (c .if1 .taken))
-
-known-requires : tie.Need-known-requires
-known-requires c κs = search needs
+use Rattle.monitor_pairs.proofs.places.create.Reads as reads
+use Rattle.monitor_pairs.proofs.places.create.Lts as lts
+use Rattle.monitor_pairs.proofs.places.copy_row.Reads as copy-row-reads
 
 copy-row-requires : tie.Need-copy-row-requires
 copy-row-requires c κs = search needs
 
-returns-2 : tie.Need-returns-2
+same-length : tie.Need-same-length
+same-length c = search needs
+
+returns : tie.Need-returns
 unfolding createPairs
-returns-2 c = c .copy-row .ensures .0 ∙ sym (simp (lt-ltb _ _ (c .before .before .before .before .if1 .left)))
+returns c = c .before .before .copy-row .ensures
 
 pub create-spec : {M : Type 1} → statement M
-create-spec = tie.close (tie.spec returns known-requires copy-row-requires returns-2)
+create-spec = tie.close (tie.spec copy-row-requires same-length returns)

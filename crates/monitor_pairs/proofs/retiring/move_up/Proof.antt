@@ -9,6 +9,8 @@ use Rattle.monitor_pairs.proofs.RunLaws.{span, span-none, span-ahead, s
 use borrow.Author.Needs.{needs}
 use Rattle.monitor_pairs.proofs.retiring.move_up.Statement.{statement}
 use Rattle.monitor_pairs.proofs.retiring.move_up.Tie as tie
+use Rattle.monitor_pairs.proofs.retiring.move_up.Reads as reads
+use Rattle.monitor_pairs.proofs.retiring.move_up.Lts as lts
 
 abbrev Inv-loop : tie.InvT-loop
 Inv-loop sets₀ s n by i₀ sets i =
@@ -30,14 +32,14 @@ add-sets c = search needs
 add-sets-2 : tie.Need-add-sets-2 Inv-loop μ-loop
 add-sets-2 c = search needs
 
-element-copy-out-sets : tie.Need-element-copy-out-sets Inv-loop μ-loop
-element-copy-out-sets c = search needs
+slice-read-sets : tie.Need-slice-read-sets Inv-loop μ-loop
+slice-read-sets c = search needs
 
 add-sets-3 : tie.Need-add-sets-3 Inv-loop μ-loop
 add-sets-3 c = search needs
 
-element-write-sets : tie.Need-element-write-sets Inv-loop μ-loop
-element-write-sets c = search needs
+slice-write-sets : tie.Need-slice-write-sets Inv-loop μ-loop
+slice-write-sets c = search needs
 
 add-i : tie.Need-add-i Inv-loop μ-loop
 add-i c = search needs
@@ -62,6 +64,9 @@ loop-again c =
       ),
     )
 
+same-length : tie.Need-same-length Inv-loop μ-loop
+same-length c = search needs
+
 returns : tie.Need-returns Inv-loop μ-loop
 unfolding movedUp
 returns c =
@@ -79,10 +84,11 @@ move-up-spec =
     loop-holds
     add-sets
     add-sets-2
-    element-copy-out-sets
+    slice-read-sets
     add-sets-3
-    element-write-sets
+    slice-write-sets
     add-i
     loop-less
     loop-again
+    same-length
     returns)

@@ -9,6 +9,9 @@ use Rattle.monitor_pairs.proofs.RetireLaws.{columns-none, columns-more}
 use borrow.Author.Needs.{needs}
 use Rattle.monitor_pairs.proofs.retiring.retire_columns.Statement.{statement}
 use Rattle.monitor_pairs.proofs.retiring.retire_columns.Tie as tie
+use Rattle.monitor_pairs.proofs.retiring.retire_columns.Reads as reads
+use Rattle.monitor_pairs.proofs.retiring.retire_columns.Lts as lts
+use Rattle.monitor_pairs.proofs.retiring.retire_line.Reads as retire-line-reads
 
 abbrev Inv-loop : tie.InvT-loop
 Inv-loop sets₀ n at i₀ sets i =
@@ -18,7 +21,7 @@ abbrev μ-loop : tie.MeasureT-loop
 μ-loop sets₀ n at i₀ sets i = n - i
 
 loop-holds : tie.Need-loop-holds Inv-loop μ-loop
-loop-holds c = (search needs, (c .pre .0, columns-none (c .args .at) (c .args .sets .now) (omega arith) (c .pre .0)))
+loop-holds c = (search needs, (c .before .pre .0, columns-none (c .before .args .at) (c .before .args .sets .now) (omega arith) (c .before .pre .0)))
 
 mul-retire-line : tie.Need-mul-retire-line Inv-loop μ-loop
 mul-retire-line c = search needs
@@ -34,9 +37,9 @@ loop-less c = search needs
 
 loop-again : tie.Need-loop-again Inv-loop μ-loop
 loop-again c =
-    let a = c .before .before .before .before .args in
-    let t = c .before .before .before .loop in
-    let e = c .retire-line .ensures in (
+    let a = c .before .before .before .before .before .before .before .args in
+    let t = c .before .before .before .before .before .loop in
+    let e = c .before .before .retire-line .ensures in (
       search needs,
       (
         e .1,
@@ -45,10 +48,13 @@ loop-again c =
       ),
     )
 
+same-length : tie.Need-same-length Inv-loop μ-loop
+same-length c = search needs
+
 returns : tie.Need-returns Inv-loop μ-loop
 returns c =
     let t = c .before .loop in
-    let e : t .i ≡ c .before .before .args .n = omega arith in
+    let e : t .i ≡ c .before .before .before .args .n = omega arith in
     (rw (← e) (t .inv .1 .1), t .inv .1 .0)
 
 pub retire-columns-spec : {M : Type 1} → statement M
@@ -63,4 +69,5 @@ retire-columns-spec =
     add-i
     loop-less
     loop-again
+    same-length
     returns)

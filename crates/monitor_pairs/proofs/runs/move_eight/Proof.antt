@@ -13,6 +13,9 @@ use Rattle.monitor_pairs.proofs.RunLaws.{filled, filled-none, filled-ne
 use borrow.Author.Needs.{needs}
 use Rattle.monitor_pairs.proofs.runs.move_eight.Statement.{statement}
 use Rattle.monitor_pairs.proofs.runs.move_eight.Tie as tie
+use Rattle.monitor_pairs.proofs.runs.move_eight.Reads as reads
+use Rattle.monitor_pairs.proofs.runs.move_eight.Lts as lts
+use Rattle.automaton.proofs.move_by_rows.Reads as move-by-rows-reads
 
 abbrev Inv-loop : tie.InvT-loop
 Inv-loop sets₀ n a b c d e f g h k₀ sets k =
@@ -49,19 +52,19 @@ array-read-h c = search needs
 
 loop-holds : tie.Need-loop-holds Inv-loop μ-loop
 loop-holds c =
-    let w = c .args .t3 in
+    let w = c .before .args .t3 in
     let rows : List ℕ = getD w 0 0 ∷ getD w 1 0 ∷ getD w 2 0 ∷ getD w 3 0 ∷ getD w 4 0 ∷ getD w 5 0 ∷ getD w 6 0 ∷ getD w 7 0 ∷ [] in
-    let l = c .args .sets .now in
-    (search needs, (c .pre .0, filled-none (λ k. moveBy rows 0 (getD l k 0)) (λ k. getD l k 0) pairPlaces l (c .pre .0) (λ k b. refl)))
+    let l = c .before .args .sets .now in
+    (search needs, (c .before .pre .0, filled-none (λ k. moveBy rows 0 (getD l k 0)) (λ k. getD l k 0) pairPlaces l (c .before .pre .0) (λ k b. refl)))
 
-element-copy-out-move-by-rows : tie.Need-element-copy-out-move-by-rows Inv-loop μ-loop
-element-copy-out-move-by-rows c = search needs
+slice-read-move-by-rows : tie.Need-slice-read-move-by-rows Inv-loop μ-loop
+slice-read-move-by-rows c = search needs
 
 move-by-rows-requires : tie.Need-move-by-rows-requires Inv-loop μ-loop
 move-by-rows-requires c κs = search needs
 
-element-write-sets : tie.Need-element-write-sets Inv-loop μ-loop
-element-write-sets c = search needs
+slice-write-sets : tie.Need-slice-write-sets Inv-loop μ-loop
+slice-write-sets c = search needs
 
 add-k : tie.Need-add-k Inv-loop μ-loop
 add-k c = search needs
@@ -72,9 +75,9 @@ loop-less c = search needs
 loop-again : tie.Need-loop-again Inv-loop μ-loop
 loop-again c =
     let s = c .before .before .before .before in
-    let w = s .args .t3 in
+    let w = s .before .args .t3 in
     let rows : List ℕ = getD w 0 0 ∷ getD w 1 0 ∷ getD w 2 0 ∷ getD w 3 0 ∷ getD w 4 0 ∷ getD w 5 0 ∷ getD w 6 0 ∷ getD w 7 0 ∷ [] in
-    let l = s .args .sets .now in
+    let l = s .before .args .sets .now in
     let t = c .before .before .before .loop in
     let f : ℕ → ℕ = λ k. moveBy rows 0 (getD l k 0) in
     let g : ℕ → ℕ = λ k. getD l k 0 in
@@ -89,18 +92,21 @@ loop-again c =
       ),
     )
 
+same-length : tie.Need-same-length Inv-loop μ-loop
+same-length c = search needs
+
 returns : tie.Need-returns Inv-loop μ-loop
 unfolding runMoved
 returns c =
     let s = c .before .before in
-    let w = s .args .t3 in
+    let w = s .before .args .t3 in
     let rows : List ℕ = getD w 0 0 ∷ getD w 1 0 ∷ getD w 2 0 ∷ getD w 3 0 ∷ getD w 4 0 ∷ getD w 5 0 ∷ getD w 6 0 ∷ getD w 7 0 ∷ [] in
-    let l = s .args .sets .now in
+    let l = s .before .args .sets .now in
     let t = c .before .loop in
-    let e : t .k ≡ s .args .n = omega arith in (
-      rw e at (t .inv .1 .1) ∙ same-from (λ k. cond (ltb k (s .args .n)) (moveBy rows 0 (getD l k 0)) (getD l k 0))
-          (λ k. cond (ltb k (s .args .n)) (moveBy w 0 (getD l k 0)) (getD l k 0)) pairPlaces
-          (λ k b. ap (λ (m : ℕ). cond (ltb k (s .args .n)) m (getD l k 0)) (sym (moveBy-held w 0 (getD l k 0)))),
+    let e : t .k ≡ s .before .args .n = omega arith in (
+      rw e at (t .inv .1 .1) ∙ same-from (λ k. cond (ltb k (s .before .args .n)) (moveBy rows 0 (getD l k 0)) (getD l k 0))
+          (λ k. cond (ltb k (s .before .args .n)) (moveBy w 0 (getD l k 0)) (getD l k 0)) pairPlaces
+          (λ k b. ap (λ (m : ℕ). cond (ltb k (s .before .args .n)) m (getD l k 0)) (sym (moveBy-held w 0 (getD l k 0)))),
       t .inv .1 .0,
     )
 
@@ -119,10 +125,11 @@ move-eight-spec =
     array-read-g
     array-read-h
     loop-holds
-    element-copy-out-move-by-rows
+    slice-read-move-by-rows
     move-by-rows-requires
-    element-write-sets
+    slice-write-sets
     add-k
     loop-less
     loop-again
+    same-length
     returns)

@@ -9,6 +9,9 @@ use Rattle.monitor_pairs.proofs.RunLaws.{filled, filled-none, filled-ne
 use borrow.Author.Needs.{needs}
 use Rattle.monitor_pairs.proofs.runs.move_two.Statement.{statement}
 use Rattle.monitor_pairs.proofs.runs.move_two.Tie as tie
+use Rattle.monitor_pairs.proofs.runs.move_two.Reads as reads
+use Rattle.monitor_pairs.proofs.runs.move_two.Lts as lts
+use Rattle.monitor_pairs.proofs.runs.move_by_two.Reads as move-by-two-reads
 
 abbrev Inv-loop : tie.InvT-loop
 Inv-loop sets₀ n keep low lows high highs k₀ sets k =
@@ -21,19 +24,19 @@ abbrev μ-loop : tie.MeasureT-loop
 
 loop-holds : tie.Need-loop-holds Inv-loop μ-loop
 loop-holds c =
-    let w = c .args .two in
-    let l = c .args .sets .now in
+    let w = c .before .args .two in
+    let l = c .before .args .sets .now in
     let f : ℕ → ℕ = λ k. twoMoved (w .keep) (w .low) (w .lows) (w .high) (w .highs) (getD l k 0) in
-    (search needs, (c .pre .0, filled-none f (λ k. getD l k 0) pairPlaces l (c .pre .0) (λ k b. refl)))
+    (search needs, (c .before .pre .0, filled-none f (λ k. getD l k 0) pairPlaces l (c .before .pre .0) (λ k b. refl)))
 
-element-copy-out-move-by-two : tie.Need-element-copy-out-move-by-two Inv-loop μ-loop
-element-copy-out-move-by-two c = search needs
+slice-read-move-by-two : tie.Need-slice-read-move-by-two Inv-loop μ-loop
+slice-read-move-by-two c = search needs
 
 move-by-two-requires : tie.Need-move-by-two-requires Inv-loop μ-loop
 move-by-two-requires c κs = search needs
 
-element-write-sets : tie.Need-element-write-sets Inv-loop μ-loop
-element-write-sets c = search needs
+slice-write-sets : tie.Need-slice-write-sets Inv-loop μ-loop
+slice-write-sets c = search needs
 
 add-k : tie.Need-add-k Inv-loop μ-loop
 add-k c = search needs
@@ -44,8 +47,8 @@ loop-less c = search needs
 loop-again : tie.Need-loop-again Inv-loop μ-loop
 loop-again c =
     let s = c .before .before .before .before in
-    let w = s .args .two in
-    let l = s .args .sets .now in
+    let w = s .before .args .two in
+    let l = s .before .args .sets .now in
     let t = c .before .before .before .loop in
     let m : ℕ → ℕ = twoMoved (w .keep) (w .low) (w .lows) (w .high) (w .highs) in
     let f : ℕ → ℕ = λ k. m (getD l k 0) in
@@ -61,11 +64,14 @@ loop-again c =
       ),
     )
 
+same-length : tie.Need-same-length Inv-loop μ-loop
+same-length c = search needs
+
 returns : tie.Need-returns Inv-loop μ-loop
 unfolding runByTwo
 returns c =
     let t = c .before .loop in
-    let e : t .k ≡ c .before .before .args .n = omega arith in
+    let e : t .k ≡ c .before .before .before .args .n = omega arith in
     (rw e at (t .inv .1 .1), t .inv .1 .0)
 
 pub move-two-spec : {M : Type 1} → statement M
@@ -75,10 +81,11 @@ move-two-spec =
     Inv-loop
     μ-loop
     loop-holds
-    element-copy-out-move-by-two
+    slice-read-move-by-two
     move-by-two-requires
-    element-write-sets
+    slice-write-sets
     add-k
     loop-less
     loop-again
+    same-length
     returns)
