@@ -8,7 +8,7 @@ use mathlib.Core.Logic.{_⊎_, inl, inr}
 use native.Mathlib.Omega.{arith}
 use lib.Dec.{leb}
 use borrow.Author.Tests.{leb-true, leb-false}
-use lib.ListN.{length, replicate}
+use lib.ListN.{length}
 use Rattle.usage.specs.Limits.{policies}
 use Rattle.usage.specs.Answers.{Verdict, allowed, violated, refused}
 use Rattle.usage.specs.Policy.{EdgesOk}
@@ -18,13 +18,12 @@ use Rattle.usage.specs.Check.{Leaves, Checked, accepts, names}
 use Rattle.usage.specs.Tests.{Decides}
 use Rattle.usage.proofs.Logic.{by-cases, last-or-lower, false-true}
 use Rattle.usage.proofs.TableLaws.{decides-edge-table, decides-node-table}
-use Rattle.automaton.specs.Move.{rowsOf}
-use Rattle.checker_account.specs.Tables.{places, rowsIn}
+use Rattle.checker_account.specs.Tables.{rowsIn}
 use Rattle.checker_account.specs.Filling.{formsIn}
-use Rattle.checker_account.specs.RowTable.{fillRows}
 use Rattle.checker_account.proofs.FilledLaws.{searched-exists, rows-wide}
+use Rattle.checker.specs.Code.{pairIn}
 use Rattle.checker.specs.Promise.{RightVerdict, no-edges, no-nodes, checked, CheckPromise}
-use Rattle.checker.proofs.PolicyLaws.{looked, none-higher}
+use Rattle.checker.proofs.PolicyLaws.{rowsFor, looked, none-higher}
 use Rattle.checker.proofs.PromiseLaws.{edges-refused, nodes-refused, right-promised}
 
 module _ (local : Bool) (e t : List ℕ) (edges : EdgesOk (edgesOf e)) (ok : OutlineOk (nodesOf t)) where
@@ -33,8 +32,9 @@ module _ (local : Bool) (e t : List ℕ) (edges : EdgesOk (edgesOf e)) (ok : Out
 
   answer-exists : (p : ℕ) → p < policies → (answer : Bool) × Decides answer (Left p)
   answer-exists p small =
-      let r = fillRows (rowsOf (edgesOf e)) p (length t / 3) (formsIn t) (replicate places 0) in
-      let (answer, s) = searched-exists local (rowsIn r) p (rows-wide (edgesOf e) p (length t / 3) (formsIn t)) (length t / 3) (formsIn t) in
+      let r = rowsFor local e t edges ok p in
+      let (answer, s) = searched-exists local (rowsIn r) p (rows-wide (edgesOf e) (pairIn e p) p (length t / 3) (formsIn t)) (pairIn e p)
+      (length t / 3) (formsIn t) in
       (answer, looked local e t edges ok p small r refl answer s)
 
   -- the lowest of the first m policies that some trace leaves so, or none of them

@@ -26,64 +26,70 @@ use Rattle.usage.proofs.Logic.{last-or-lower, false-true, not-both, both-ways}
 use Rattle.automaton.specs.Mask.{has, union}
 use Rattle.automaton.proofs.MaskLaws.{has-zero}
 use Rattle.automaton.proofs.RowLaws.{union-ext}
-use Rattle.checker_account.specs.Account.{watched}
+use Rattle.checker_account.specs.declared.Resources.{Resources}
 use Rattle.checker_account.specs.Tables.{rowsIn}
 use Rattle.checker_account.specs.Filling.{formsIn}
+use Rattle.checker_account.specs.Choices.{choiceCount, choiceAt}
 use Rattle.checker_account.proofs.Exact.{brought-about}
 use Rattle.checker_account.proofs.JoinLaws.{zeros}
-use Rattle.checker_tables.specs.Search.{hasRoom, touched}
+use Rattle.checker_tables.specs.Search.{hasRoom}
 use Rattle.checker_tables.specs.Marks.{MarkedAll, MarkedIf}
 use Rattle.checker_tables.proofs.FitLaws.{outline-fits}
-use Rattle.checker_tables.proofs.TouchedLaws.{untouched}
 use Rattle.checker_tables.proofs.ByStateLaws.{union-more}
-use Rattle.checker.specs.Code.{MarkedWith, MarksWritten}
+use Rattle.checker.specs.Code.{worthOf, MarkedIn, MarksWritten}
+use Rattle.checker.proofs.WorthLaws.{not-worth}
 use Rattle.checker.specs.Summary.{markBits, InTable, bitOf, MarksExact, Exact, Summarized, told}
 
 module _ (nodes : List ℕ) (local : Bool) (rows : List ℕ) (p : ℕ) where
   -- the nodes of an accepted outline fit
-  pub with-room : (x r : ℕ) → OutlineOk (nodesOf nodes) → MarkedIf (hasRoom nodes) nodes local rows p x r → MarkedWith nodes local rows p x r
+  pub with-room : (x : Resources) (r : ℕ) → OutlineOk (nodesOf nodes) → MarkedIf (hasRoom nodes) nodes local rows p x r
+      → MarkedIn nodes local rows p x r
   with-room x r ok h = inr (subst (λ (b : Bool). MarkedIf b nodes local rows p x r) (outline-fits nodes ok) h)
 
-  pub with-none : (x : ℕ) → touched nodes x ≡ false → MarkedWith nodes local rows p x 0
-  with-none x e = inl (untouched nodes x e, refl)
+  pub with-none : (x : Resources) → worthOf nodes x ≡ false → MarkedIn nodes local rows p x 0
+  with-none x e = inl (not-worth nodes x e, refl)
 
-  -- the resources below x are watched, and their marks joined
-  pub record Marking (x m : ℕ) : Type 0 where
-    pub by : ℕ → ℕ
-    pub each : (y : ℕ) → y < x → MarkedWith nodes local rows p y (by y)
-    pub joined : m ≡ union x by
+  module _ (pair : Bool) where
+    -- the choices below i are watched, and their marks joined
+    pub record Marking (i m : ℕ) : Type 0 where
+      pub by : ℕ → ℕ
+      pub each : (j : ℕ) → j < i → MarkedIn nodes local rows p (choiceAt pair j) (by j)
+      pub joined : m ≡ union i by
 
-  pub marking-none : Marking 0 0
-  unfolding union
-  marking-none = record { by = λ y. 0; each = λ y h. absurd (omega arith); joined = refl }
+    pub marking-none : Marking 0 0
+    unfolding union
+    marking-none = record { by = λ y. 0; each = λ y h. absurd (omega arith); joined = refl }
 
-  pub marking-more : (x m v : ℕ) → Marking x m → MarkedWith nodes local rows p x v → Marking (x + 1) (bitOr m v)
-  marking-more x m v h w = record { by = by; each = each; joined = joined }
-    where
-      by : ℕ → ℕ
-      by y = cond (eqb y x) v (h .by y)
+    pub marking-more : (i m v : ℕ) → Marking i m → MarkedIn nodes local rows p (choiceAt pair i) v → Marking (i + 1) (bitOr m v)
+    marking-more i m v h w = record { by = by; each = each; joined = joined }
+      where
+        by : ℕ → ℕ
+        by y = cond (eqb y i) v (h .by y)
 
-      here : v ≡ by x
-      here = sym (ap (λ (b : Bool). cond b v (h .by x)) (eq-eqb x x refl))
+        here : v ≡ by i
+        here = sym (ap (λ (b : Bool). cond b v (h .by i)) (eq-eqb i i refl))
 
-      there : (y : ℕ) → y < x → h .by y ≡ by y
-      there y l = sym (ap (λ (b : Bool). cond b v (h .by y)) (ne-eqb y x (λ e. lower y x l e)))
-        where
-          lower : (y x : ℕ) → y < x → y ≡ x → ⊥
-          lower y x l e = omega arith
+        there : (y : ℕ) → y < i → h .by y ≡ by y
+        there y l = sym (ap (λ (b : Bool). cond b v (h .by y)) (ne-eqb y i (λ e. lower y i l e)))
+          where
+            lower : (y i : ℕ) → y < i → y ≡ i → ⊥
+            lower y i l e = omega arith
 
-      each : (y : ℕ) → y < x + 1 → MarkedWith nodes local rows p y (by y)
-      each y l = go (last-or-lower y x (omega arith))
-        where
-          go : (y ≡ x) ⊎ (y < x) → MarkedWith nodes local rows p y (by y)
-          go (inl e) = subst (λ (z : ℕ). MarkedWith nodes local rows p z (by z)) (sym e) (subst (MarkedWith nodes local rows p x) here w)
-          go (inr l) = subst (MarkedWith nodes local rows p y) (there y l) (h .each y l)
+        each : (y : ℕ) → y < i + 1 → MarkedIn nodes local rows p (choiceAt pair y) (by y)
+        each y l = go (last-or-lower y i (omega arith))
+          where
+            go : (y ≡ i) ⊎ (y < i) → MarkedIn nodes local rows p (choiceAt pair y) (by y)
+            go (inl e) =
+                subst (λ (z : ℕ). MarkedIn nodes local rows p (choiceAt pair z) (by z)) (sym e)
+                (subst (MarkedIn nodes local rows p (choiceAt pair i)) here w)
+            go (inr l) = subst (MarkedIn nodes local rows p (choiceAt pair y)) (there y l) (h .each y l)
 
-      joined : bitOr m v ≡ union (x + 1) by
-      joined = ap₂ (λ (a b : ℕ). bitOr a b) (h .joined ∙ union-ext x (h .by) by there) here ∙ union-more by x
+        joined : bitOr m v ≡ union (i + 1) by
+        joined = ap₂ (λ (a b : ℕ). bitOr a b) (h .joined ∙ union-ext i (h .by) by there) here ∙ union-more by i
 
-  pub marking-all : (m : ℕ) → Marking (suc watched) m → MarkedAll local (rowsIn rows) p (length nodes / nodeFields) (formsIn nodes) m
-  marking-all m h = record { by = h .by; each = λ x l. h .each x (omega arith); joined = h .joined }
+    pub marking-all : (m : ℕ) → Marking (choiceCount pair) m
+        → MarkedAll local (rowsIn rows) p pair (length nodes / nodeFields) (formsIn nodes) m
+    marking-all m h = record { by = h .by; each = h .each; joined = h .joined }
 
 -- ── The numbers of all policies ──
 

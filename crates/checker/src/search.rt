@@ -1,4 +1,4 @@
-// The search: which policy is broken, with which resource watched.
+// The search: which policy is broken, with which resources watched.
 ghost use mathlib.Core.Path.{_≡_};
 ghost use Prim.Native.Nat.{ℕ, _/_, _<_};
 ghost use lib.ListN.{length};
@@ -15,29 +15,31 @@ ghost use Rattle.checker.specs.Code.{policyVerdict};
 use crate::Outcome;
 use checker_account::PLACES;
 use checker_account::Table;
-use checker_account::WATCHED;
-use checker_tables::Watch;
+use checker_account::Watch;
 use usage::POLICIES;
 
-// Is policy p, whose moves the table of rows has, broken with some resource watched? `local` is the choice of past, here and below.
-fn broken(nodes: &[u8], rows: &Table, local: bool, p: usize) -> bool
+// Is policy p, a pair policy or not, whose moves the table of rows has, broken with some resources watched? `local` is the choice of past,
+// here and below.
+fn broken(nodes: &[u8], rows: &Table, local: bool, p: usize, pair: bool) -> bool
     requires { ⌜ OutlineOk (nodesOf (now nodes)) ⌝ }
-    ensures { λ r. ⌜ SearchedAll local (rowsIn (now (rows .entry))) p
+    ensures { λ r. ⌜ SearchedAll local (rowsIn (now (rows .entry))) p pair
         (length (now (nodes .entry)) / nodeFields) (formsIn (now (nodes .entry))) r ⌝ }
 {
-    let mut x: usize = 0;
-    while x <= WATCHED {
-        if checker_tables::touched(nodes, x) {
+    let n = crate::choices::count(pair);
+    let mut i: usize = 0;
+    while i < n {
+        let x = crate::choices::at(pair, i);
+        if crate::choices::worth(nodes, x) {
             let w = Watch {
                 local,
                 policy: p,
-                resource: x,
+                resources: x,
             };
             if checker_tables::breaks(nodes, rows, w) {
                 return true;
             }
         }
-        x += 1;
+        i += 1;
     }
     false
 }
@@ -56,8 +58,9 @@ fn leaves(edges: &[u8], local: bool, nodes: &[u8], p: usize) -> bool
         return false;
     }
     let mut table = [0u16; PLACES];
-    checker_rows::fill(edges, nodes, p, &mut table);
-    broken(nodes, &table, local, p)
+    let pair = crate::is_pair(edges, p);
+    checker_rows::fill(edges, nodes, p, pair, &mut table);
+    broken(nodes, &table, local, p, pair)
 }
 
 // The lowest policy that some trace leaves open and not respected, or POLICIES where there is none.

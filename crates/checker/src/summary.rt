@@ -1,9 +1,8 @@
-// The exact summary of an outline (02, L11), from the tables that the check fills: for each policy the marks of all resources that are
-// watched in turn.
+// The exact summary of an outline (02, L11), from the tables that the check fills: for each policy the marks of all choices of resources
+// that are watched in turn.
 use checker_account::PLACES;
 use checker_account::Table;
-use checker_account::WATCHED;
-use checker_tables::Watch;
+use checker_account::Watch;
 use usage::POLICIES;
 ghost use Prim.Native.Nat.{ℕ, _/_, _<_, _≤_};
 ghost use mathlib.Core.Path.{_≡_};
@@ -16,34 +15,37 @@ ghost use Rattle.checker_account.specs.Tables.{rowsIn};
 ghost use Rattle.checker_account.specs.Filling.{formsIn};
 ghost use Rattle.checker_tables.specs.Marks.{MarkedAll};
 ghost use Rattle.checker.specs.Summary.{MarksExact, Summarized};
-ghost use Rattle.checker.specs.Code.{MarkedWith, MarksWritten};
+ghost use Rattle.checker.specs.Code.{MarkedIn, MarksWritten};
 
-// The marks of policy p with the resource x watched: none where no event is on it.
-fn marks_with(nodes: &[u8], rows: &Table, local: bool, p: usize, x: usize) -> u64
+// The marks with some resources watched: none where no event is on a static one of them.
+fn marks_with(nodes: &[u8], rows: &Table, w: Watch) -> u64
     requires { ⌜ OutlineOk (nodesOf (now nodes)) ⌝ }
-    ensures { λ r. ⌜ MarkedWith (now (nodes .entry)) local (now (rows .entry)) p x r ⌝ }
+    ensures { λ r. ⌜ MarkedIn (now (nodes .entry)) (w .local) (now (rows .entry)) (w .policy) (w .resources) r ⌝ }
 {
-    if !checker_tables::touched(nodes, x) {
-        return 0;
+    let x = w.resources;
+    if crate::choices::worth(nodes, x) {
+        return checker_tables::marks_of(nodes, rows, w);
     }
-    let w = Watch {
-        local,
-        policy: p,
-        resource: x,
-    };
-    checker_tables::marks_of(nodes, rows, w)
+    0
 }
 
-// The marks of policy p, whose moves the table of rows has.
-fn policy_marks(nodes: &[u8], rows: &Table, local: bool, p: usize) -> u64
+// The marks of policy p, a pair policy or not, whose moves the table of rows has.
+fn policy_marks(nodes: &[u8], rows: &Table, local: bool, p: usize, pair: bool) -> u64
     requires { ⌜ OutlineOk (nodesOf (now nodes)) ⌝ }
-    ensures { λ r. ⌜ MarkedAll local (rowsIn (now (rows .entry))) p (length (now (nodes .entry)) / nodeFields) (formsIn (now (nodes .entry))) r ⌝ }
+    ensures { λ r. ⌜ MarkedAll local (rowsIn (now (rows .entry))) p pair (length (now (nodes .entry)) / nodeFields)
+        (formsIn (now (nodes .entry))) r ⌝ }
 {
+    let n = crate::choices::count(pair);
     let mut m: u64 = 0;
-    let mut x: usize = 0;
-    while x <= WATCHED {
-        m = m | marks_with(nodes, rows, local, p, x);
-        x += 1;
+    let mut i: usize = 0;
+    while i < n {
+        let w = Watch {
+            local,
+            policy: p,
+            resources: crate::choices::at(pair, i),
+        };
+        m = m | marks_with(nodes, rows, w);
+        i += 1;
     }
     m
 }
@@ -62,8 +64,9 @@ fn exact_marks(edges: &[u8], local: bool, nodes: &[u8], p: usize) -> u64
         return 0;
     }
     let mut table = [0u16; PLACES];
-    checker_rows::fill(edges, nodes, p, &mut table);
-    policy_marks(nodes, &table, local, p)
+    let pair = crate::is_pair(edges, p);
+    checker_rows::fill(edges, nodes, p, pair, &mut table);
+    policy_marks(nodes, &table, local, p, pair)
 }
 
 // The numbers of all policies, one after the other.

@@ -16,14 +16,6 @@ use Rattle.checker_account.specs.Tables.{meanings}
 use Rattle.checker_account.specs.Filling.{arrivalsOf, leavesOf}
 use Rattle.checker_account.specs.RowTable.{EventTables, nodeRows}
 
-pub least-static : (x : ℕ) → x < statics → unnamed ≡ least x
-unfolding least
-least-static x h = rw (lt-ltb x statics h)
-
-pub least-dynamic : (x : ℕ) → statics ≤ x → 0 ≡ least x
-unfolding least
-least-dynamic x h = rw (le-ltb x statics h)
-
 -- ── A meaning that is 0, and one that is not ──
 
 pub kept-none : (m v : ℕ) → m ≡ 0 → v % 256 ≡ kept m v
@@ -60,10 +52,6 @@ pub after-lt : (m : ℕ) (c : Bool) → m < meanings → meaningAfter m c < mean
 after-lt zero false h = h
 after-lt zero true h = omega arith
 after-lt (suc m) c h = h
-
-pub place-lt : (k : ℕ) (o : Bool) (m : ℕ) → k < mostNodes → m < meanings → place k o m < places
-place-lt k false m h l = omega arith
-place-lt k true m h l = omega arith
 
 -- ── A search ──
 

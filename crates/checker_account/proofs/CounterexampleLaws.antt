@@ -191,7 +191,7 @@ module _ (local : Bool) (es : List Edge) (ns : List Node) (scope : ℕ → ℕ �
       → ((j : all .Choice) (m : ℕ) → RootAt j m → n ≤ m) → Shown local es ns p (some after)
   written-shown i {n} {after} u few low =
       let t = root-written local es ns p (all .sight i) (views (all .stand-ins i)) (all .keeps i) (all .renders i) edges
-      (record { used = outline .name-small; given = outline .fresh-small }) u in
+      (record { static = outline .static-small; used = outline .name-small; given = outline .fresh-small }) u in
       let d = written-struck local es ns p (all .stand-ins i) scope edges outline (all .chosen i) t in
       let e : length after ≡ n = written-length local es ns p (all .sight i) u ∙ zero-steps in
       subst (λ (t : Past). Shown local es ns p (some t)) (d .same)

@@ -52,6 +52,7 @@ edges : EdgesOk es
 edges = record {
   few = omega arith;
   each = λ e m. subst EdgeOk (sym (List·Memᴰ·eq-of-singleton m)) edge-ok;
+  few-pairs = λ a b c l k i j h. no-pair a i;
 }
 
 Three : ℕ → Form → Type 0

@@ -15,7 +15,7 @@ use borrow.Author.Tests.{eqb-true, eqb-false, ltb-true, ltb-false, lt-ltb, le-lt
 use Rattle.usage.proofs.Logic.{last-or-lower}
 use Rattle.automaton.proofs.MaskLaws.{left-le}
 use Rattle.checker_account.specs.Filling.{repeat, total, grown, Wide, Derived, start, joins}
-use Rattle.checker_account.specs.Tables.{joinedAt, places}
+use Rattle.checker_account.specs.Tables.{joinedAt}
 
 -- ── The sum of the entries ──
 
@@ -205,15 +205,15 @@ pub record Filling (Rule : List ℕ → ℕ → ℕ → Type 0) (t₀ t : List �
   pub derived : Derived Rule t₀ t
   pub wide : Wide t
 
-pub filling-length : (Rule : List ℕ → ℕ → ℕ → Type 0) (t₀ t : List ℕ) → length t₀ ≡ places → Filling Rule t₀ t → length t ≡ places
-filling-length Rule t₀ t l h = derived-grows Rule t₀ (h .derived) .len ∙ l
+pub filling-length : (size : ℕ) (Rule : List ℕ → ℕ → ℕ → Type 0) (t₀ t : List ℕ) → length t₀ ≡ size → Filling Rule t₀ t → length t ≡ size
+filling-length size Rule t₀ t l h = derived-grows Rule t₀ (h .derived) .len ∙ l
 
 -- what a table of entries of 16 bits can sum up to; one that grows comes nearer to it
-abbrev pub most : ℕ
-most = 65536 * places
+abbrev pub most : ℕ → ℕ
+most size = 65536 * size
 
-pub nearer : (t u : List ℕ) → length u ≡ places → Wide u → grown t u ≡ true → most - total u < most - total t
-nearer t u l w g =
+pub nearer : (size : ℕ) (t u : List ℕ) → length u ≡ size → Wide u → grown t u ≡ true → most size - total u < most size - total t
+nearer size t u l w g =
     let b = total-le u w in
     let m = grown-true t u g in
     omega arith

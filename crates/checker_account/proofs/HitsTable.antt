@@ -12,27 +12,32 @@ use lib.Bits.{bitOr}
 use borrow.Author.Tests.{eqb-true, eq-eqb}
 use Rattle.usage.specs.declared.Edge.{Edge}
 use Rattle.usage.specs.declared.Node.{Node}
-use Rattle.usage.specs.Limits.{create, states}
+use Rattle.usage.specs.Limits.{create, states, mostNodes}
 use Rattle.usage.specs.Policy.{Sees, Moves, Offending, EdgesOk}
 use Rattle.usage.specs.Past.{reopened}
 use Rattle.usage.specs.Outline.{Form, Is, end, on-static, on-name, sequence, choice, loop, back, fresh, sandbox}
 use Rattle.usage.proofs.Logic.{none-some}
 use Rattle.automaton.specs.Mask.{has}
-use Rattle.checker_account.specs.Account.{watched, others, Last, by-action, by-opening}
-use Rattle.checker_account.specs.Single.{watching}
-use Rattle.checker_account.specs.Tables.{made, Rows, isReset, restarted, place, leaves, lastOf, over}
-use Rattle.checker_account.specs.Holds.{Start, HitsFrom, RowsOk, NamesOk, oneLens, oneCodes, HasCome, HoldsComes, Struck}
-use Rattle.checker_account.proofs.MaskLaws.{has-left, has-right, has-either, has-none, over-found, over-at, offends-has, has-offends}
-use Rattle.checker_account.proofs.MaskLaws.{restarted-found, restarted-at}
+use Rattle.checker_account.specs.Account.{watched, watchedToo, others, Last, by-action, by-opening}
+use Rattle.checker_account.specs.Pairs.{numbers}
+use Rattle.checker_account.specs.declared.Resources.{Resources}
+use Rattle.checker_account.specs.Tables.{watchedBy, made, meaningIn, groupIn, lateGroup, waits, meantAt, Rows, rowOn, isReset, restarted}
+use Rattle.checker_account.specs.Tables.{firstCreated, secondCreated, place, leaves, lastOf, over}
+use Rattle.checker_account.specs.Filling.{Asked}
+use Rattle.checker_account.specs.Holds.{Start, HitsFrom, EntryGives, tableLens, tableCodes, StandsFor, RowsOk, NamesOk, TargetsOk}
+use Rattle.checker_account.specs.Holds.{HasCome, HoldsComes, Struck}
+use Rattle.checker_account.proofs.MaskLaws.{has-left, has-right, has-either, has-none, has-if, has-unless, has-where, has-where-not}
+use Rattle.checker_account.proofs.MaskLaws.{over-found, over-at, offends-has, has-offends, restarted-found, restarted-at}
 use Rattle.checker_account.specs.Lens.{Strikes}
 use Rattle.checker_account.proofs.LensComes.{SoundCome, WholeCome, strikes-hit, hit-strikes}
-use Rattle.checker_account.proofs.OneLens.{one-codes}
-use Rattle.checker_account.proofs.EndsTable.{unmade-watched, name-moves}
+use Rattle.checker_account.proofs.EntryLaws.{start-fits}
+use Rattle.checker_account.proofs.TableLens.{table-codes}
+use Rattle.checker_account.proofs.EndsTable.{name-moves, others-stands, first-stands, second-stands}
 use Rattle.checker_account.proofs.ComesTable.{EnteredIn}
 
-module _ (local : Bool) (es : List Edge) (ns : List Node) (p x : ℕ) (rows : Rows) (small : x ≤ watched) (ok : RowsOk es ns p x rows)
-    (names : NamesOk ns)
-    (edges : EdgesOk es) (u : List ℕ) (comes : HoldsComes local es ns p x u) where
+module _ (local : Bool) (es : List Edge) (ns : List Node) (p : ℕ) (x : Resources) {pair : Bool} (asked : Asked pair x) (rows : Rows)
+    (ok : RowsOk es ns p x rows) (names : NamesOk ns) (targets : TargetsOk ns) (edges : EdgesOk es) (u : List ℕ)
+    (comes : HoldsComes local es ns p x u) where
   offending-lt : {q : ℕ} → Offending q → q < states
   offending-lt (inl e) = omega arith
   offending-lt (inr e) = omega arith
@@ -41,7 +46,7 @@ module _ (local : Bool) (es : List Edge) (ns : List Node) (p x : ℕ) (rows : Ro
   same-last e = cc
 
   abbrev StruckBy : Last → Type 0
-  StruckBy last = Strikes local es ns p (watching x) (oneLens x) (oneCodes x) (EnteredIn u) last
+  StruckBy last = Strikes local es ns p (numbers (watchedBy x)) (tableLens x) (tableCodes x) (EnteredIn u) last
 
   -- the states after the opening of r by node k
   abbrev after : ℕ → ℕ → ℕ → Bool → ℕ
@@ -50,30 +55,28 @@ module _ (local : Bool) (es : List Edge) (ns : List Node) (p x : ℕ) (rows : Ro
   -- ── What the table says strikes ──
 
   -- where the states that are come to, moved by a row, have q
-  moved-found : (k m : ℕ) (own : Bool) (q : ℕ) → has (over (rows k own) (getD u (place k true m) 0)) q ≡ true
-      → (j : ℕ) × EnteredIn u k true m j × (has (rows k own j) q ≡ true)
-  moved-found k m own q h =
-      let (j, lj, hv, hr) = over-found (rows k own) (getD u (place k true m) 0) q h in (j, (lj, hv), hr)
+  moved-found : (k m r q : ℕ) → k < mostNodes → has (over (rowOn rows x k r) (getD u (place k true m) 0)) q ≡ true
+      → (j : ℕ) × EnteredIn u k true m j × (has (rowOn rows x k r j) q ≡ true)
+  moved-found k m r q l h =
+      let (j, lj, hv, hr) = over-found (rowOn rows x k r) (getD u (place k true m) 0) q h in (j, (l, (lj, hv)), hr)
 
-  own-strikes : {k n b : ℕ} (m q : ℕ) → Is ns k (fresh n b) → Start x m → Offending q
-      → has (cond (made m) 0 (over (rows k true) (getD u (place k true m) 0))) q ≡ true → StruckBy (by-action create)
-  own-strikes {k} zero q i s f h =
-      let (j, c, r) = moved-found k 0 true q h in
-      Strikes.by-a-new {r = x} i s c (inr (refl, (refl, refl)))
-      (ok .created i true (λ _. unmade-watched es ns p x rows small ok names s) j q (c .0) (offending-lt f) .0 r) f
-  own-strikes (suc m) q i s f h = has-none q h
+  new-strikes : {k n b : ℕ} (m q r d : ℕ) → Is ns k (fresh n b) → Start x m → StandsFor r → EntryGives waits m n r d → Offending q
+      → has (over (rowOn rows x k r) (getD u (place k true m) 0)) q ≡ true → StruckBy (by-action create)
+  new-strikes {k} m q r d i s stands gives f h =
+      let (j, c, v) = moved-found k m r q (targets .own i) h in
+      Strikes.by-a-new {r = r} i s c gives (ok .created i r stands j q (c .1 .0) (offending-lt f) .0 v) f
 
   strikes-at : {k : ℕ} (m q : ℕ) (g : Form) → Is ns k g → Start x m → Offending q → has (leaves local rows p x u k m g) q ≡ true
       → (last : Last) → lastOf g ≡ some last → StruckBy last
   unfolding leaves
   strikes-at m q end i s f h last e = none-some e
   strikes-at {k} m q (on-static a r) i s f h last e =
-      let (j, c, v) = moved-found k m (eqb r x) q h in
-      subst StruckBy (same-last e) (Strikes.on-a-static i s c (ok .static i j q (c .0) (offending-lt f) .0 v) f)
+      let (j, c, v) = moved-found k m r q (targets .own i) h in
+      subst StruckBy (same-last e) (Strikes.on-a-static i s c (ok .static i j q (c .1 .0) (offending-lt f) .0 v) f)
   strikes-at {k} m q (on-name a n) i s f h last e =
-      let (j, c, v) = moved-found k m (eqb m (suc n)) q h in
+      let (j, c, v) = moved-found k m (meantAt m n) q (targets .own i) h in
       subst StruckBy (same-last e)
-      (Strikes.on-a-name i s c (name-moves es ns p x rows small ok names m j q i s (c .0) (offending-lt f) .0 v) f)
+      (Strikes.on-a-name i s c (name-moves es ns p x rows ok names m j q i (start-fits asked s .group) (c .1 .0) (offending-lt f) .0 v) f)
   strikes-at m q (sequence a b) i s f h last e = none-some e
   strikes-at m q (choice a b) i s f h last e = none-some e
   strikes-at m q (loop a) i s f h last e = none-some e
@@ -83,12 +86,18 @@ module _ (local : Bool) (es : List Edge) (ns : List Node) (p x : ℕ) (rows : Ro
       v : ℕ
       v = getD u (place k true m) 0
 
-      go : (has (over (rows k false) v) q ≡ true) ⊎ (has (cond (made m) 0 (over (rows k true) v)) q ≡ true) → StruckBy (by-action create)
-      go (inl g) =
-          let (j, c, r) = moved-found k m false q g in
-          Strikes.by-a-new {r = others} i s c (inl (refl, refl))
-          (ok .created i false (λ e. absurd (true≢false (sym e))) j q (c .0) (offending-lt f) .0 r) f
-      go (inr g) = own-strikes m q i s f g
+      low : (has (over (rowOn rows x k others) v) q ≡ true) ⊎ (has (firstCreated rows x k m v) q ≡ true) → StruckBy (by-action create)
+      low (inl g) = new-strikes m q others _ i s others-stands EntryGives.other f g
+      low (inr g) =
+          let (em, g₁) = has-unless (made (meaningIn m)) (over (rowOn rows x k watched) v) q g in
+          new-strikes m q watched _ i s first-stands (EntryGives.first em) f g₁
+
+      go : (has (bitOr (over (rowOn rows x k others) v) (firstCreated rows x k m v)) q ≡ true) ⊎ (has (secondCreated rows x k m v) q ≡ true)
+          → StruckBy (by-action create)
+      go (inl g) = low (has-either _ _ q g)
+      go (inr g) =
+          let (w, g₁) = has-if (waits m) (over (rowOn rows x k watchedToo) v) q g in
+          new-strikes m q watchedToo _ i s second-stands (EntryGives.second w) f g₁
   strikes-at {k} m q (sandbox r b) i s f h last e = subst StruckBy (same-last e) (go (eqb r p) refl h)
     where
       at-opening : (o : Bool) → r ≡ p → has (after k r m o) q ≡ true → StruckBy by-opening
@@ -96,7 +105,7 @@ module _ (local : Bool) (es : List Edge) (ns : List Node) (p x : ℕ) (rows : Ro
           let (j, lj, hj, e) = restarted-found (isReset local p r o) (getD u (place k o m) 0) q (offending-lt f) g in
           let i₁ = subst (λ (r : ℕ). Is ns k (sandbox r b)) d i in
           let f₁ = subst (λ (r : ℕ). Offending (reopened local p r o j)) d (subst Offending (sym e) f) in
-          Strikes.by-its-opening {q = j} {o = o} i₁ s (lj, hj) f₁
+          Strikes.by-its-opening {q = j} {o = o} i₁ s (targets .own i, (lj, hj)) f₁
 
       go : (d : Bool) → eqb r p ≡ d → has (cond d (bitOr (after k r m false) (after k r m true)) 0) q ≡ true → StruckBy by-opening
       go true d h = either (has-either (after k r m false) (after k r m true) q h)
@@ -108,8 +117,8 @@ module _ (local : Bool) (es : List Edge) (ns : List Node) (p x : ℕ) (rows : Ro
 
   struck-strikes : {last : Last} → Struck local ns p x rows u last → StruckBy last
   struck-strikes {last} h =
-      let (q, f, g) = offends-has (leaves local rows p x u (h .node) (h .meaning) (h .form)) (h .offending) in
-      strikes-at (h .meaning) q (h .form) (h .is) (h .start) f g last (h .step)
+      let (q, f, g) = offends-has (leaves local rows p x u (h .node) (h .code) (h .form)) (h .offending) in
+      strikes-at (h .code) q (h .form) (h .is) (h .start) f g last (h .step)
 
   -- ── What strikes is in the table ──
 
@@ -117,73 +126,74 @@ module _ (local : Bool) (es : List Edge) (ns : List Node) (p x : ℕ) (rows : Ro
       → has (leaves local rows p x u k m g) q ≡ true
       → Struck local ns p x rows u last
   struck {k = k} {q = q} m g i s e f h =
-      record { node = k; meaning = m; form = g; is = i; start = s; step = e; offending = has-offends (leaves local rows p x u k m g) q f h }
+      record { node = k; code = m; form = g; is = i; start = s; step = e; offending = has-offends (leaves local rows p x u k m g) q f h }
 
-  moved-at : (k m : ℕ) (own : Bool) (j q : ℕ) → j < states → HasCome u k true m j → has (rows k own j) q ≡ true
-      → has (over (rows k own) (getD u (place k true m) 0)) q ≡ true
-  moved-at k m own j q l h g = over-at (rows k own) (getD u (place k true m) 0) q j l h g
+  moved-at : (k m r j q : ℕ) → j < states → HasCome u k true m j → has (rowOn rows x k r j) q ≡ true
+      → has (over (rowOn rows x k r) (getD u (place k true m) 0)) q ≡ true
+  moved-at k m r j q l h g = over-at (rowOn rows x k r) (getD u (place k true m) 0) q j l h g
 
-  own-struck : {k n b : ℕ} (m q q′ : ℕ) → Is ns k (fresh n b) → Start x m → made m ≡ false → EnteredIn u k true m q
-      → Moves es p create (Sees (x ∷ []) x) q q′ → Offending q′ → Struck local ns p x rows u (by-action create)
-  unfolding leaves
-  own-struck {k} {n} {b} zero q q′ i s d c v f =
-      let w = getD u (place k true 0) 0 in
-      struck 0 (fresh n b) i s refl f
-      (has-right (over (rows k false) w) (over (rows k true) w) q′
-      (moved-at k 0 true q q′ (c .0) (c .1)
-      (ok .created i true (λ _. unmade-watched es ns p x rows small ok names s) q q′ (c .0) (offending-lt f) .1 v)))
-  own-struck (suc m) q q′ i s d c v f = absurd (true≢false d)
+  -- by a creation
+  new-in : (k : ℕ) {n : ℕ} (m r d q v : ℕ) → EntryGives waits m n r d → has (over (rowOn rows x k r) v) q ≡ true
+      → has (bitOr (bitOr (over (rowOn rows x k others) v) (firstCreated rows x k m v)) (secondCreated rows x k m v)) q ≡ true
+  new-in k m r d q v EntryGives.other h = has-left _ _ q (has-left _ _ q h)
+  new-in k m r d q v (EntryGives.first em) h =
+      has-left _ _ q
+      (has-right (over (rowOn rows x k others) v) (firstCreated rows x k m v) q
+      (has-where-not (made (meaningIn m)) (over (rowOn rows x k watched) v) q em h))
+  new-in k m r d q v (EntryGives.second w) h =
+      has-right (bitOr (over (rowOn rows x k others) v) (firstCreated rows x k m v)) (secondCreated rows x k m v) q
+      (has-where (waits m) (over (rowOn rows x k watchedToo) v) q w h)
+
+  new-stands : {m n r d : ℕ} → EntryGives waits m n r d → StandsFor r
+  new-stands EntryGives.other = others-stands
+  new-stands (EntryGives.first em) = first-stands
+  new-stands (EntryGives.second w) = second-stands
 
   strikes-struck : {last : Last} → StruckBy last → Struck local ns p x rows u last
   unfolding leaves
   strikes-struck (Strikes.on-a-static {k = k} {a = a} {s = r} {q = q} {q′ = q′} {c = m} i s c v f) =
       struck m (on-static a r) i s refl f
-      (moved-at k m (eqb r x) q q′ (c .0) (c .1) (ok .static i q q′ (c .0) (offending-lt f) .1 v))
+      (moved-at k m r q q′ (c .1 .0) (c .1 .1) (ok .static i q q′ (c .1 .0) (offending-lt f) .1 v))
   strikes-struck (Strikes.on-a-name {k = k} {a = a} {n = n} {q = q} {q′ = q′} {c = m} i s c v f) =
       struck m (on-name a n) i s refl f
-      (moved-at k m (eqb m (suc n)) q q′ (c .0) (c .1)
-      (name-moves es ns p x rows small ok names m q q′ i s (c .0) (offending-lt f) .1 v))
-  strikes-struck (Strikes.by-a-new {k = k} {n = n} {b = b} {q = q} {q′ = q′} {c = m} i s c (inl (er, eg)) v f) =
-      let w = getD u (place k true m) 0 in
-      let v₁ = subst (λ (r : ℕ). Moves es p create (Sees (x ∷ []) r) q q′) er v in
+      (moved-at k m (meantAt m n) q q′ (c .1 .0) (c .1 .1)
+      (name-moves es ns p x rows ok names m q q′ i (start-fits asked s .group) (c .1 .0) (offending-lt f) .1 v))
+  strikes-struck (Strikes.by-a-new {k = k} {n = n} {b = b} {r = r} {q = q} {q′ = q′} {c = m} {d = d} i s c gives v f) =
       struck m (fresh n b) i s refl f
-      (has-left (over (rows k false) w) (cond (made m) 0 (over (rows k true) w)) q′
-      (moved-at k m false q q′ (c .0) (c .1)
-      (ok .created i false (λ e. absurd (true≢false (sym e))) q q′ (c .0) (offending-lt f) .1 v₁)))
-  strikes-struck (Strikes.by-a-new {q = q} {q′ = q′} {c = m} i s c (inr (er, (em, eg))) v f) =
-      own-struck m q q′ i s em c (subst (λ (r : ℕ). Moves es p create (Sees (x ∷ []) r) q q′) er v) f
+      (new-in k m r d q′ (getD u (place k true m) 0) gives
+      (moved-at k m r q q′ (c .1 .0) (c .1 .1) (ok .created i r (new-stands gives) q q′ (c .1 .0) (offending-lt f) .1 v)))
   strikes-struck (Strikes.by-its-opening {k = k} {b = b} {q = q} {o = o} {c = m} i s c f) =
       struck m (sandbox p b) i s refl f
       (ap (λ (d : Bool). has (cond d (bitOr (after k p m false) (after k p m true)) 0) (reopened local p p o q)) (eq-eqb p p refl)
       ∙ go o (reopened local p p o q)
-      (restarted-at (isReset local p p o) (getD u (place k o m) 0) q (c .0) (c .1)))
+      (restarted-at (isReset local p p o) (getD u (place k o m) 0) q (c .1 .0) (c .1 .1)))
     where
       go : (o : Bool) (j : ℕ) → has (after k p m o) j ≡ true → has (bitOr (after k p m false) (after k p m true)) j ≡ true
       go false j e = has-left (after k p m false) (after k p m true) j e
       go true j e = has-right (after k p m false) (after k p m true) j e
 
-  -- ── Through the lens of one watched resource ──
+  -- ── Through the lens ──
 
-  sound-come : SoundCome local es ns p (watching x) (oneLens x) (oneCodes x) (EnteredIn u)
-  sound-come k o m q s (l, h) = comes .sound k o m q s l h
+  sound-come : SoundCome local es ns p (numbers (watchedBy x)) (tableLens x) (tableCodes x) (EnteredIn u)
+  sound-come k o m q s (lk, (l, h)) = comes .sound k o m q lk s l h
 
-  whole-come : WholeCome local es ns p (watching x) (oneLens x) (oneCodes x) (EnteredIn u)
+  whole-come : WholeCome local es ns p (numbers (watchedBy x)) (tableLens x) (tableCodes x) (EnteredIn u)
   whole-come = record {
     full = λ c. let h = comes .full c in record {
-      code = h .meaning;
+      code = h .code;
       occurs = h .start;
-      named = h .name;
+      named = h .names;
       kept = h .made;
       state = h .state;
-      entered = (h .state, h .entered);
+      entered = (h .node, (h .state, h .entered));
     };
   }
 
   -- the account's hits are those that the table shows
   pub hits-exact : (last : Last) → HitsFrom local es ns p x last ↔ Struck local ns p x rows u last
   hits-exact last = (
-    λ h. strikes-struck (hit-strikes local es ns p (watching x) (oneLens x) (oneCodes x) (one-codes x) names
+    λ h. strikes-struck (hit-strikes local es ns p (numbers (watchedBy x)) (tableLens x) (tableCodes x) (table-codes asked) names
         (EnteredIn u) whole-come (h .1)),
-    λ h. strikes-hit local es ns p (watching x) (oneLens x) (oneCodes x) (one-codes x) names (EnteredIn u) sound-come
+    λ h. strikes-hit local es ns p (numbers (watchedBy x)) (tableLens x) (tableCodes x) (table-codes asked) names (EnteredIn u) sound-come
         (struck-strikes h),
   )

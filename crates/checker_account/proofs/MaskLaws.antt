@@ -16,7 +16,7 @@ use Rattle.usage.specs.Tests.{someBelow}
 use Rattle.usage.proofs.Logic.{not-both, or-left, or-right, or-cases}
 use Rattle.automaton.specs.Mask.{has, union, offends}
 use Rattle.automaton.proofs.MaskLaws.{all-below, all-below-at, some-at, some-found, has-or, has-zero, has-pow, has-offending, union-has}
-use Rattle.checker_account.specs.Tables.{at, half, made, kept, over, restarted}
+use Rattle.checker_account.specs.Tables.{at, half, made, kept, keptIn, meaningIn, isLate, over, restarted}
 
 -- ── Members of unions ──
 
@@ -32,6 +32,21 @@ has-either a b q h = or-cases (has a q) (has b q) (sym (has-or a b q) ∙ h)
 -- nothing is in the empty set
 pub has-none : {A : Type 0} (q : ℕ) → has 0 q ≡ true → A
 has-none q h = not-both (has 0 q) h (has-zero q)
+
+-- a set that is told to be there or not
+pub has-if : (b : Bool) (v q : ℕ) → has (cond b v 0) q ≡ true → (b ≡ true) × (has v q ≡ true)
+has-if true v q h = (refl, h)
+has-if false v q h = has-none q h
+
+pub has-unless : (b : Bool) (v q : ℕ) → has (cond b 0 v) q ≡ true → (b ≡ false) × (has v q ≡ true)
+has-unless true v q h = has-none q h
+has-unless false v q h = (refl, h)
+
+pub has-where : (b : Bool) (v q : ℕ) → b ≡ true → has v q ≡ true → has (cond b v 0) q ≡ true
+has-where b v q e h = ap (λ (b : Bool). has (cond b v 0) q) e ∙ h
+
+pub has-where-not : (b : Bool) (v q : ℕ) → b ≡ false → has v q ≡ true → has (cond b 0 v) q ≡ true
+has-where-not b v q e h = ap (λ (b : Bool). has (cond b 0 v) q) e ∙ h
 
 -- a member of the union over a set comes from a member of the set
 pub over-found : (f : ℕ → ℕ) (m d : ℕ) → has (over f m) d ≡ true → (q : ℕ) × (q < states) × (has m q ≡ true) × (has (f q) d ≡ true)
@@ -111,6 +126,22 @@ module _ (v : ℕ) where
   pub kept-at : (m q : ℕ) → q < states → has v q ≡ true → has (kept m v) (at (made m) q) ≡ true
   kept-at zero q l h = low-bit v q l ∙ h
   kept-at (suc m) q l h = has-half true (v % 256 * 256) q l ∙ ap (λ (n : ℕ). has n q) high-all ∙ low-bit v q l ∙ h
+
+-- by an entry in which 17 is made there is no end
+pub kept-in-found : (e v : ℕ) (h : Bool) (q : ℕ) → q < states → has (keptIn e v) (at h q) ≡ true
+    → ((made (meaningIn e) ≡ h) × (isLate e ≡ false)) × (has v q ≡ true)
+unfolding keptIn
+kept-in-found e v h q l s =
+    let (late, r) = has-unless (isLate e) (kept (meaningIn e) v) (at h q) s in
+    let (m, k) = kept-found v (meaningIn e) h q l r in
+    ((m, late), k)
+
+pub kept-in-at : (e v : ℕ) (h : Bool) (q : ℕ) → q < states → (made (meaningIn e) ≡ h) × (isLate e ≡ false) → has v q ≡ true
+    → has (keptIn e v) (at h q) ≡ true
+unfolding keptIn
+kept-in-at e v h q l (m, late) s =
+    ap (λ (b : Bool). has (cond b 0 (kept (meaningIn e) v)) (at h q)) late
+    ∙ subst (λ (d : Bool). has (kept (meaningIn e) v) (at d q) ≡ true) m (kept-at v (meaningIn e) q l s)
 
 -- ── Offending states ──
 

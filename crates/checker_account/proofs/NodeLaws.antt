@@ -1,29 +1,31 @@
 -- The nodes of an accepted outline: their fields are small enough for the tables, and the flat table tells their forms.
-use Prim.Native.Nat.{ℕ, _/_, _<_}
+use Prim.Native.Nat.{ℕ, _/_, _<_, _≤_}
 use mathlib.Core.Path.{_≡_, refl, sym, ap, _∙_}
 use mathlib.Core.Bool.{Bool, true, false}
 use mathlib.Core.Option.{some}
 use mathlib.Core.List.{List}
+use native.Mathlib.Omega.{arith}
 use lib.Dec.{leb}
 use lib.ListN.{length}
 use borrow.Author.Tests.{leb-true, leb-false}
 use Rattle.usage.specs.declared.Node.{Node}
-use Rattle.usage.specs.Limits.{nodeFields}
+use Rattle.usage.specs.Limits.{nodeFields, mostNodes}
 use Rattle.usage.specs.Outline.{Form, formIn, formAt}
 use Rattle.usage.specs.Valid.{OutlineOk}
 use Rattle.usage.specs.Tables.{nodesOf}
 use Rattle.usage.proofs.Logic.{none-some}
-use Rattle.usage.proofs.FormLaws.{form-ok}
+use Rattle.usage.proofs.FormLaws.{form-ok, exists}
 use Rattle.usage.proofs.TableLaws.{nodes-at, nodes-past}
 use Rattle.checker_account.specs.Holds.{NamesOk, TargetsOk}
 use Rattle.checker_account.specs.Filling.{FormsOf, formsIn}
 
 module _ (ns : List Node) (ok : OutlineOk ns) where
   pub names-ok : NamesOk ns
-  names-ok = record { used = λ i. form-ok ok i .2; given = λ i. form-ok ok i .0 }
+  names-ok = record { static = λ i. form-ok ok i .2; used = λ i. form-ok ok i .2; given = λ i. form-ok ok i .0 }
 
   pub targets-ok : TargetsOk ns
   targets-ok = record {
+    own = λ i. let l = exists i in let few : length ns ≤ mostNodes = ok .few in omega arith;
     sequence = λ i. form-ok ok i;
     choice = λ i. form-ok ok i;
     loop = λ i. form-ok ok i;

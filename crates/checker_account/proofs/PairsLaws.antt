@@ -337,7 +337,7 @@ module _ (us : List ℕ) where
     meaning = namesBy;
     left = leftBy;
     watches = refl;
-    stands = λ w m l. sym (names-which w m l);
+    stands = λ w c m l o. sym (names-which w m l);
     to = λ l h y. to-stand-ins l h y;
     back = λ l h f g y. from-stand-ins l h f g y;
     first-meaning = names-none;

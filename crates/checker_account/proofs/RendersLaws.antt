@@ -23,7 +23,7 @@ pub record Renders (S T : Sight) : Type 0 where
   pub meaning : S .Meaning → T .Meaning
   pub left : S .Left → T .Left
   pub watches : S .watches ≡ T .watches
-  pub stands : (w : S .Meaning) (m : ℕ) → m < mostNames → S .stands w m ≡ T .stands (meaning w) m
+  pub stands : (w : S .Meaning) (c : S .Left) (m : ℕ) → m < mostNames → S .Occurring w c → S .stands w m ≡ T .stands (meaning w) m
   pub to : {m d : ℕ} {w w₁ : S .Meaning} {c c₁ : S .Left} → m < mostNames → S .Occurring w c → S .Makes m d w c w₁ c₁
       → T .Makes m d (meaning w) (left c) (meaning w₁) (left c₁)
   pub back : {m d : ℕ} {w : S .Meaning} {c : S .Left} {v v₁ : T .Meaning} {e e₁ : T .Left} → m < mostNames → S .Occurring w c
@@ -47,15 +47,16 @@ module _ (local : Bool) (es : List Edge) (ns : List Node) (p : ℕ) (S T : Sight
   from-moves : {a r q q′ : ℕ} → Moves es p a (Sees (T .watches) r) q q′ → Moves es p a (Sees (S .watches) r) q q′
   from-moves {a} {r} {q} {q′} v = subst (λ (us : List ℕ). Moves es p a (Sees us r) q q′) (sym (h .watches)) v
 
-  to-name : {a q q′ : ℕ} (w : S .Meaning) (m : ℕ) → m < mostNames → Moves es p a (Sees (S .watches) (S .stands w m)) q q′
+  to-name : {a q q′ : ℕ} (w : S .Meaning) (c : S .Left) (m : ℕ) → m < mostNames → S .Occurring w c
+      → Moves es p a (Sees (S .watches) (S .stands w m)) q q′
       → Moves es p a (Sees (T .watches) (T .stands (h .meaning w) m)) q q′
-  to-name {a} {q} {q′} w m l v = subst (λ (r : ℕ). Moves es p a (Sees (T .watches) r) q q′) (h .stands w m l) (to-moves v)
+  to-name {a} {q} {q′} w c m l b v = subst (λ (r : ℕ). Moves es p a (Sees (T .watches) r) q q′) (h .stands w c m l b) (to-moves v)
 
-  from-name : {a q q′ : ℕ} {v : T .Meaning} (w : S .Meaning) (m : ℕ) → v ≡ h .meaning w → m < mostNames
+  from-name : {a q q′ : ℕ} {v : T .Meaning} (w : S .Meaning) (c : S .Left) (m : ℕ) → v ≡ h .meaning w → m < mostNames → S .Occurring w c
       → Moves es p a (Sees (T .watches) (T .stands v m)) q q′ → Moves es p a (Sees (S .watches) (S .stands w m)) q q′
-  from-name {a} {q} {q′} w m e l u =
+  from-name {a} {q} {q′} w c m e l b u =
       from-moves (subst (λ (r : ℕ). Moves es p a (Sees (T .watches) r) q q′) (ap (λ (t : T .Meaning). T .stands t m) e ∙ sym
-      (h .stands w m l)) u)
+      (h .stands w c m l b)) u)
 
   -- ── What a node can come to ──
 
@@ -63,7 +64,7 @@ module _ (local : Bool) (es : List Edge) (ns : List Node) (p : ℕ) (S T : Sight
       → Begun S w c q → Goes local es ns p T n o k (h .meaning w) (h .left c) q (aimBy t)
   to-goes (Goes.ends i) b = Goes.ends i
   to-goes (Goes.fires-static i v) b = Goes.fires-static i (to-moves v)
-  to-goes (Goes.fires-name {w = w} {m = m} i v) b = Goes.fires-name i (to-name w m (names .used i) v)
+  to-goes (Goes.fires-name {w = w} {m = m} {c = c} i v) b = Goes.fires-name i (to-name w c m (names .used i) (b .view) v)
   to-goes (Goes.sequences i d f) b = Goes.sequences i (to-goes d b) (to-goes f (begun-ended local es ns p S edges keeps b d))
   to-goes (Goes.chooses-left i d) b = Goes.chooses-left i (to-goes d b)
   to-goes (Goes.chooses-right i d) b = Goes.chooses-right i (to-goes d b)
@@ -74,7 +75,8 @@ module _ (local : Bool) (es : List Edge) (ns : List Node) (p : ℕ) (S T : Sight
       Goes.makes i (h .to l (b .view) y) (to-moves v) (to-goes d (begun-new keeps b q₁ l y (moves-states edges v (b .state))))
   to-goes (Goes.sandboxes {s = s} {o = o} i d) b = Goes.sandboxes i (to-goes d (begun-opened b local p s o))
   to-goes (Goes.breaks-static i v f z) b = Goes.breaks-static i (to-moves v) f z
-  to-goes (Goes.breaks-name {w = w} {m = m} i v f z) b = Goes.breaks-name i (to-name w m (names .used i) v) f z
+  to-goes (Goes.breaks-name {w = w} {m = m} {c = c} i v f z) b =
+      Goes.breaks-name i (to-name w c m (names .used i) (b .view) v) f z
   to-goes (Goes.breaks-fresh i y v f z) b = Goes.breaks-fresh i (h .to (names .given i) (b .view) y) (to-moves v) f z
   to-goes (Goes.breaks-opening i f z) b = Goes.breaks-opening i f z
   to-goes (Goes.breaks-first i d) b = Goes.breaks-first i (to-goes d b)
@@ -95,7 +97,7 @@ module _ (local : Bool) (es : List Edge) (ns : List Node) (p : ℕ) (S T : Sight
       → (w : S .Meaning) (c : S .Left) → v ≡ h .meaning w → d ≡ h .left c → Begun S w c q → Reads n o k w c q t
   from-goes (Goes.ends i) w c e f b = (c, f, Goes.ends i)
   from-goes (Goes.fires-static i v) w c e f b = (c, f, Goes.fires-static i (from-moves v))
-  from-goes (Goes.fires-name {m = m} i v) w c e f b = (c, f, Goes.fires-name i (from-name w m e (names .used i) v))
+  from-goes (Goes.fires-name {m = m} i v) w c e f b = (c, f, Goes.fires-name i (from-name w c m e (names .used i) (b .view) v))
   from-goes (Goes.sequences {t = t} i a d) w c e f b =
       let (c₁, g, d₁) = from-goes a w c e f b in
       reads-then t (λ s d₂. Goes.sequences i d₁ d₂) (from-goes d w c₁ e g (begun-ended local es ns p S edges keeps b d₁))
@@ -111,7 +113,7 @@ module _ (local : Bool) (es : List Edge) (ns : List Node) (p : ℕ) (S T : Sight
   from-goes (Goes.sandboxes {s = s} {o = o} i a) w c e f b =
       let (c′, g, d) = from-goes a w c e f (begun-opened b local p s o) in (c′, g, Goes.sandboxes i d)
   from-goes (Goes.breaks-static i v f z) w c e g b = Goes.breaks-static i (from-moves v) f z
-  from-goes (Goes.breaks-name {m = m} i v f z) w c e g b = Goes.breaks-name i (from-name w m e (names .used i) v) f z
+  from-goes (Goes.breaks-name {m = m} i v f z) w c e g b = Goes.breaks-name i (from-name w c m e (names .used i) (b .view) v) f z
   from-goes (Goes.breaks-fresh i y v f z) w c e g b =
       let (w₁, c₁, e₁, f₁, y₁) = h .back (names .given i) (b .view) e g y in Goes.breaks-fresh i y₁ (from-moves v) f z
   from-goes (Goes.breaks-opening i f z) w c e g b = Goes.breaks-opening i f z
@@ -137,7 +139,7 @@ module _ (local : Bool) (es : List Edge) (ns : List Node) (p : ℕ) (S T : Sight
   comes-as {n} {o} {k} {w} {v} {c} {d} {q} e f g =
       subst (λ (a : T .Left). Comes local es ns p T n o k v a q) f (subst (λ (a : T .Meaning). Comes local es ns p T n o k a c q) e g)
 
-  to-comes : {n : ℕ} {o : Bool} {k : ℕ} {w : S .Meaning} {c : S .Left} {q : ℕ} → Comes local es ns p S n o k w c q
+  pub to-comes : {n : ℕ} {o : Bool} {k : ℕ} {w : S .Meaning} {c : S .Left} {q : ℕ} → Comes local es ns p S n o k w c q
       → Comes local es ns p T n o k (h .meaning w) (h .left c) q
   to-comes Comes.begins = comes-as (sym (h .first-meaning)) (sym (h .first-left)) Comes.begins
   to-comes (Comes.first i e) = Comes.first i (to-comes e)
@@ -186,14 +188,16 @@ module _ (local : Bool) (es : List Edge) (ns : List Node) (p : ℕ) (S T : Sight
 
   to-hits : {n : ℕ} {last : Last} → Hits local es ns p S n last → Hits local es ns p T n last
   to-hits (Hits.at-static i e v f) = Hits.at-static i (to-comes e) (to-moves v) f
-  to-hits (Hits.at-name {w = w} {m = m} i e v f) = Hits.at-name i (to-comes e) (to-name w m (names .used i) v) f
+  to-hits (Hits.at-name {w = w} {m = m} {c = c} i e v f) =
+      Hits.at-name i (to-comes e) (to-name w c m (names .used i) (comes-begun e .view) v) f
   to-hits (Hits.at-fresh i y e v f) = Hits.at-fresh i (h .to (names .given i) (comes-begun e .view) y) (to-comes e) (to-moves v) f
   to-hits (Hits.at-opening i e f) = Hits.at-opening i (to-comes e) f
 
   from-hits : {n : ℕ} {last : Last} → Hits local es ns p T n last → Hits local es ns p S n last
   from-hits (Hits.at-static i e v f) = let r = from-comes e in Hits.at-static i (r .comes) (from-moves v) f
   from-hits (Hits.at-name {m = m} i e v f) =
-      let r = from-comes e in Hits.at-name i (r .comes) (from-name (r .w) m (r .meant) (names .used i) v) f
+      let r = from-comes e in
+      Hits.at-name i (r .comes) (from-name (r .w) (r .c) m (r .meant) (names .used i) (comes-begun (r .comes) .view) v) f
   from-hits (Hits.at-fresh i y e u f) =
       let r = from-comes e in
       let (w₁, c₁, e₁, f₁, y₁) = h .back (names .given i) (comes-begun (r .comes) .view) (r .meant) (r .left) y in
@@ -210,7 +214,8 @@ module _ (local : Bool) (es : List Edge) (ns : List Node) (p : ℕ) (S T : Sight
       → Written local es ns p T n o k given (h .meaning w) (h .left c) q past (aimBy t) after
   to-written (Written.ends i) b = Written.ends i
   to-written (Written.fires-static i v) b = Written.fires-static i (to-moves v)
-  to-written (Written.fires-name {w = w} {m = m} i e v) b = Written.fires-name i e (to-name w m (names .used i) v)
+  to-written (Written.fires-name {w = w} {m = m} {c = c} i e v) b =
+      Written.fires-name i e (to-name w c m (names .used i) (b .view) v)
   to-written (Written.sequences i d f) b =
       Written.sequences i (to-written d b) (to-written f (begun-ended local es ns p S edges keeps b (written-goes local es ns p S d)))
   to-written (Written.chooses-left i d) b = Written.chooses-left i (to-written d b)
@@ -222,7 +227,8 @@ module _ (local : Bool) (es : List Edge) (ns : List Node) (p : ℕ) (S T : Sight
       Written.makes i (h .to l (b .view) y) (to-moves v) (to-written d (begun-new keeps b q₁ l y (moves-states edges v (b .state))))
   to-written (Written.sandboxes {s = s} {o = o} i d) b = Written.sandboxes i (to-written d (begun-opened b local p s o))
   to-written (Written.breaks-static i v f z) b = Written.breaks-static i (to-moves v) f z
-  to-written (Written.breaks-name {w = w} {m = m} i e v f z) b = Written.breaks-name i e (to-name w m (names .used i) v) f z
+  to-written (Written.breaks-name {w = w} {m = m} {c = c} i e v f z) b =
+      Written.breaks-name i e (to-name w c m (names .used i) (b .view) v) f z
   to-written (Written.breaks-fresh i y v f z) b = Written.breaks-fresh i (h .to (names .given i) (b .view) y) (to-moves v) f z
   to-written (Written.breaks-opening i f z) b = Written.breaks-opening i f z
   to-written (Written.breaks-first i d) b = Written.breaks-first i (to-written d b)

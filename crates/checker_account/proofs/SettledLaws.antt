@@ -17,30 +17,14 @@ use Rattle.usage.specs.Outline.{Form, end, on-static, on-name, sequence, choice
 use Rattle.usage.proofs.Logic.{last-or-lower}
 use Rattle.automaton.specs.Mask.{has, union}
 use Rattle.automaton.proofs.MaskLaws.{or-assoc}
-use Rattle.checker_account.specs.Single.{noName}
-use Rattle.checker_account.specs.Tables.{
-  made,
-  base,
-  half,
-  begun,
-  meaningAfter,
-  forgotten,
-  Rows,
-  Resets,
-  never,
-  opening-of,
-  insideEnds,
-  endsBy,
-  over,
-  joinedAt,
-  starts,
-  places,
-  meanings,
-}
-use Rattle.checker_account.specs.Filling.{repeat, joinedEach, endsOf, settleMeaning, settleNode}
-use Rattle.checker_account.proofs.CodeLaws.{forgotten-lt, after-lt}
+use Rattle.checker_account.specs.Account.{watched, watchedToo, others}
+use Rattle.checker_account.specs.declared.Resources.{Resources}
+use Rattle.checker_account.specs.Tables.{made, meaningIn, waitingGroup, isLate, inGroup, forgottenIn, firstNamed, secondNamed, entryAfter}
+use Rattle.checker_account.specs.Tables.{least, entriesOf, base, placesOf, half, begun, Rows, rowOn, Resets, never, opening-of}
+use Rattle.checker_account.specs.Tables.{inTurn, sequenceEnds, freshEnds, insideEnds, endsBy, over, joinedAt}
+use Rattle.checker_account.specs.Filling.{repeat, joinedEach, endsOf, settleEntry, settleNode}
 use Rattle.checker_account.proofs.GrowsLaws.{joined-grows, repeat-keeps, repeat-grows}
-use Rattle.checker_account.proofs.SettleLaws.{meaning-grows, node-closed}
+use Rattle.checker_account.proofs.SettleLaws.{entry-grows, node-closed}
 
 -- ── What is in an entry ──
 
@@ -135,22 +119,13 @@ abbrev pub Reads : Option Form → ℕ → Type 0
 Reads none j = ⊥
 Reads (some f) j = PartOf f j
 
--- the name that a fresh node gives is one of four
-abbrev pub Named : Option Form → Type 0
-Named none = Unit {0}
-Named (some end) = Unit {0}
-Named (some (on-static a s)) = Unit {0}
-Named (some (on-name a n)) = Unit {0}
-Named (some (sequence a b)) = Unit {0}
-Named (some (choice a b)) = Unit {0}
-Named (some (loop a)) = Unit {0}
-Named (some (back a)) = Unit {0}
-Named (some (fresh n b)) = n < noName
-Named (some (sandbox s b)) = Unit {0}
+-- they are in the table
+abbrev pub Placed : Option Form → Type 0
+Placed f = (j : ℕ) → Reads f j → j < mostNodes
 
 -- two tables that differ at node k alone
 abbrev pub Beside : ℕ → List ℕ → List ℕ → Type 0
-Beside k t u = (j m q : ℕ) → (j ≡ k → ⊥) → m < meanings → q < states → getD t (base j m + q) 0 ≡ getD u (base j m + q) 0
+Beside k t u = (j m q : ℕ) → (j ≡ k → ⊥) → j < mostNodes → q < states → getD t (base j m + q) 0 ≡ getD u (base j m + q) 0
 
 union-same : (f g : ℕ → ℕ) (v n : ℕ) → n ≤ states → ((q : ℕ) → q < states → f q ≡ g q)
     → union n (λ q. cond (has v q) (f q) 0) ≡ union n (λ q. cond (has v q) (g q) 0)
@@ -164,117 +139,132 @@ unfolding over
 over-same f g v h = union-same f g v states (omega arith) h
 
 module _ (k : ℕ) (t u : List ℕ) (same : Beside k t u) where
-  begun-same : (b m v : ℕ) → (b ≡ k → ⊥) → m < meanings → begun t b m v ≡ begun u b m v
+  begun-same : (b m v : ℕ) → (b ≡ k → ⊥) → b < mostNodes → begun t b m v ≡ begun u b m v
   begun-same b m v d l = over-same (λ q. getD t (base b m + q) 0) (λ q. getD u (base b m + q) 0) v (λ q h. same b m q d l h)
 
-  second-same : (b m v w : ℕ) → (b ≡ k → ⊥) → m < meanings → v ≡ w
-      → bitOr (begun t b (meaningAfter m false) (half false v)) (begun t b (meaningAfter m true) (half true v))
-      ≡ bitOr (begun u b (meaningAfter m false) (half false w)) (begun u b (meaningAfter m true) (half true w))
-  second-same b m v w d l e =
+  turn-same : (a b f e q : ℕ) → (a ≡ k → ⊥) → a < mostNodes → (b ≡ k → ⊥) → b < mostNodes → q < states
+      → inTurn t a b f e q ≡ inTurn u a b f e q
+  turn-same a b f e q da la db lb h =
+      let same-first = same a f q da la h in
       ap₂ (λ (x y : ℕ). bitOr x y)
-      (begun-same b (meaningAfter m false) (half false v) d (after-lt m false l)
-      ∙ ap (λ (z : ℕ). begun u b (meaningAfter m false) (half false z)) e)
-      (begun-same b (meaningAfter m true) (half true v) d (after-lt m true l)
-      ∙ ap (λ (z : ℕ). begun u b (meaningAfter m true) (half true z)) e)
+      (begun-same b (entryAfter e false) (half false (getD t (base a f + q) 0)) db lb
+      ∙ ap (λ (v : ℕ). begun u b (entryAfter e false) (half false v)) same-first)
+      (begun-same b (entryAfter e true) (half true (getD t (base a f + q) 0)) db lb
+      ∙ ap (λ (v : ℕ). begun u b (entryAfter e true) (half true v)) same-first)
 
-  inside-same : (resets : Resets) (s b m q : ℕ) → (b ≡ k → ⊥) → m < meanings → q < states
+  sequence-same : (a b e q : ℕ) → (a ≡ k → ⊥) → a < mostNodes → (b ≡ k → ⊥) → b < mostNodes → q < states
+      → sequenceEnds t a b e q ≡ sequenceEnds u a b e q
+  unfolding sequenceEnds
+  sequence-same a b e q da la db lb h =
+      ap₂ (λ (v w : ℕ). cond (isLate e) v w)
+      (ap₂ (λ (v w : ℕ). bitOr v w) (turn-same a b (inGroup waitingGroup e) e q da la db lb h)
+      (turn-same a b e (inGroup 0 e) q da la db lb h))
+      (turn-same a b e e q da la db lb h)
+
+  fresh-same : (rows : Rows) (x : Resources) (i n b e q : ℕ) → (b ≡ k → ⊥) → b < mostNodes
+      → freshEnds rows x t i n b e q ≡ freshEnds rows x u i n b e q
+  unfolding freshEnds
+  fresh-same rows x i n b e q d l =
+      ap₂ (λ (v w : ℕ). bitOr v w)
+      (ap₂ (λ (v w : ℕ). bitOr v w) (begun-same b (forgottenIn e n) (rowOn rows x i others q) d l)
+      (ap (cond (made (meaningIn e)) 0) (begun-same b (firstNamed e n) (rowOn rows x i watched q) d l)))
+      (ap (λ (v : ℕ). cond (isLate e) v 0) (begun-same b (secondNamed e n) (rowOn rows x i watchedToo q) d l))
+
+  inside-same : (resets : Resets) (s b m q : ℕ) → (b ≡ k → ⊥) → b < mostNodes → q < states
       → insideEnds resets t s b m q ≡ insideEnds resets u s b m q
   inside-same never s b m q d l h = same b m q d l h
   inside-same (opening-of p opened) s b m q d l h = ap (cond (eqb s p) (getD opened (base b m + 0) 0)) (same b m q d l h)
 
   -- a rule that does not read node k gives the same
-  pub ends-same : (rows : Rows) (x : ℕ) (resets : Resets) (i m q : ℕ) (f : Option Form) → Named f → (Reads f k → ⊥) → m < meanings
-      → q < states
+  pub ends-same : (rows : Rows) (x : Resources) (resets : Resets) (i m q : ℕ) (f : Option Form) → Placed f → (Reads f k → ⊥) → q < states
       → endsOf rows x resets t i m q f ≡ endsOf rows x resets u i m q f
   unfolding endsBy
-  ends-same rows x resets i m q none s d l h = refl
-  ends-same rows x resets i m q (some end) s d l h = refl
-  ends-same rows x resets i m q (some (on-static a b)) s d l h = refl
-  ends-same rows x resets i m q (some (on-name a b)) s d l h = refl
-  ends-same rows x resets i m q (some (sequence a b)) s d l h =
-      second-same b m (getD t (base a m + q) 0) (getD u (base a m + q) 0) (λ e. d (subst (PartOf (sequence a b)) e second)) l
-      (same a m q (λ e. d (subst (PartOf (sequence a b)) e first)) l h)
-  ends-same rows x resets i m q (some (choice a b)) s d l h =
-      ap₂ (λ (x y : ℕ). bitOr x y) (same a m q (λ e. d (subst (PartOf (choice a b)) e left)) l h)
-      (same b m q (λ e. d (subst (PartOf (choice a b)) e right)) l h)
-  ends-same rows x resets i m q (some (loop a)) s d l h = same a m q (λ e. d (subst (PartOf (loop a)) e body)) l h
-  ends-same rows x resets i m q (some (back a)) s d l h = same a m q (λ e. d (subst (PartOf (back a)) e again)) l h
-  ends-same rows x resets i m q (some (fresh n b)) s d l h =
-      let away : b ≡ k → ⊥ = λ e. d (subst (PartOf (fresh n b)) e given) in
-      ap₂ (λ (x y : ℕ). bitOr x y) (begun-same b (forgotten m n) (rows i false q) away (forgotten-lt m n l))
-      (ap (cond (made m) 0) (begun-same b (suc n) (rows i true q) away (omega arith)))
-  ends-same rows x resets i m q (some (sandbox a b)) s d l h = inside-same resets a b m q
-      (λ e. d (subst (PartOf (sandbox a b)) e inside)) l h
+  ends-same rows x resets i m q none s d h = refl
+  ends-same rows x resets i m q (some end) s d h = refl
+  ends-same rows x resets i m q (some (on-static a b)) s d h = refl
+  ends-same rows x resets i m q (some (on-name a b)) s d h = refl
+  ends-same rows x resets i m q (some (sequence a b)) s d h =
+      sequence-same a b m q (λ e. d (subst (PartOf (sequence a b)) e first)) (s a first)
+      (λ e. d (subst (PartOf (sequence a b)) e second)) (s b second) h
+  ends-same rows x resets i m q (some (choice a b)) s d h =
+      ap₂ (λ (x y : ℕ). bitOr x y) (same a m q (λ e. d (subst (PartOf (choice a b)) e left)) (s a left) h)
+      (same b m q (λ e. d (subst (PartOf (choice a b)) e right)) (s b right) h)
+  ends-same rows x resets i m q (some (loop a)) s d h = same a m q (λ e. d (subst (PartOf (loop a)) e body)) (s a body) h
+  ends-same rows x resets i m q (some (back a)) s d h = same a m q (λ e. d (subst (PartOf (back a)) e again)) (s a again) h
+  ends-same rows x resets i m q (some (fresh n b)) s d h =
+      fresh-same rows x i n b m q (λ e. d (subst (PartOf (fresh n b)) e given)) (s b given)
+  ends-same rows x resets i m q (some (sandbox a b)) s d h = inside-same resets a b m q
+      (λ e. d (subst (PartOf (sandbox a b)) e inside)) (s b inside) h
 
 -- ── A node, settled ──
 
 -- no rule adds anything to the entries of node k
-abbrev pub NodeClosed : Rows → ℕ → Resets → ℕ → ℕ → Option Form → List ℕ → Type 0
-NodeClosed rows x resets l k f t = (m q : ℕ) → l ≤ m → m < meanings → q < states → In (endsOf rows x resets t k m q f) t (base k m + q)
+abbrev pub NodeClosed : Rows → Resources → Resets → ℕ → Option Form → List ℕ → Type 0
+NodeClosed rows x resets k f t = (m q : ℕ) → least x ≤ m → m < entriesOf x → q < states → In (endsOf rows x resets t k m q f) t (base k m + q)
 
-module _ (rows : Rows) (x : ℕ) (resets : Resets) (l k : ℕ) (f : Option Form) where
-  meaning-beside : (t u : List ℕ) (m : ℕ) → m < meanings → Beside k u t → Beside k (settleMeaning rows x resets k f m u) t
+module _ (rows : Rows) (x : Resources) (resets : Resets) (k : ℕ) (f : Option Form) (small : k < mostNodes) where
+  entry-beside : (t u : List ℕ) (m : ℕ) → Beside k u t → Beside k (settleEntry rows x resets k f m u) t
   unfolding joinedEach
-  meaning-beside t u m high h =
+  entry-beside t u m h =
       repeat-keeps (λ w. Beside k w t) (λ q w. joinedAt w (base k m + q) (endsOf rows x resets u k m q f)) states
       (λ q w b g j n p d c e. joined-other w (base k m + q) (endsOf rows x resets u k m q f) (base j n + p) (λ z. d (omega arith))
       ∙ g j n p d c e) u h
 
   abbrev after : ℕ → List ℕ → List ℕ
-  after i t = repeat (λ i. settleMeaning rows x resets k f (l + i)) i t
+  after i t = repeat (λ i. settleEntry rows x resets k f (least x + i)) i t
 
-  after-beside : (i : ℕ) (t : List ℕ) → l + i ≤ meanings → Beside k (after i t) t
-  after-beside i t h =
-      repeat-keeps (λ u. Beside k u t) (λ i. settleMeaning rows x resets k f (l + i)) i
-      (λ j u b g. meaning-beside t u (l + j) (omega arith) g) t
+  after-beside : (i : ℕ) (t : List ℕ) → Beside k (after i t) t
+  after-beside i t =
+      repeat-keeps (λ u. Beside k u t) (λ i. settleEntry rows x resets k f (least x + i)) i
+      (λ j u b g. entry-beside t u (least x + j) g) t
       (λ j m q d c e. refl)
 
-  pub node-beside : (t : List ℕ) → l ≤ meanings → Beside k (settleNode rows x resets l k f t) t
+  pub node-beside : (t : List ℕ) → Beside k (settleNode rows x resets k f t) t
   unfolding settleNode
-  node-beside t h = after-beside (meanings - l) t (omega arith)
+  node-beside t = after-beside (entriesOf x - least x) t
 
-  module _ (t : List ℕ) (len : length t ≡ places) (small : k < mostNodes) where
-    after-length : (i : ℕ) → length (after i t) ≡ places
-    after-length i = repeat-grows (λ i. settleMeaning rows x resets k f (l + i)) (λ i. meaning-grows rows x resets k f (l + i)) i t .len
+  module _ (t : List ℕ) (len : length t ≡ placesOf x) where
+    after-length : (i : ℕ) → length (after i t) ≡ placesOf x
+    after-length i = repeat-grows (λ i. settleEntry rows x resets k f (least x + i)) (λ i. entry-grows rows x resets k f (least x + i)) i t .len
         ∙ len
 
     -- the meanings that are settled, by the table as it was
-    after-in : Named f → (Reads f k → ⊥) → (i : ℕ) → l + i ≤ meanings → (m q : ℕ) → l ≤ m → m < l + i → q < states
+    after-in : Placed f → (Reads f k → ⊥) → (i : ℕ) → least x + i ≤ entriesOf x → (m q : ℕ) → least x ≤ m → m < least x + i → q < states
         → In (endsOf rows x resets t k m q f) (after i t) (base k m + q)
     unfolding repeat
     after-in s d zero h m q low high b = absurd (omega arith)
     after-in s d (suc i) h m q low high b =
-        go (after i t) (after-length i) (after-beside i t (omega arith)) (λ c. after-in s d i (omega arith) m q low c b)
-        (last-or-lower m (l + i) (omega arith))
+        go (after i t) (after-length i) (after-beside i t) (λ c. after-in s d i (omega arith) m q low c b)
+        (last-or-lower m (least x + i) (omega arith))
       where
-        go : (u : List ℕ) → length u ≡ places → Beside k u t → (m < l + i → In (endsOf rows x resets t k m q f) u (base k m + q))
-            → (m ≡ l + i) ⊎ (m < l + i) → In (endsOf rows x resets t k m q f) (settleMeaning rows x resets k f (l + i) u) (base k m + q)
+        go : (u : List ℕ) → length u ≡ placesOf x → Beside k u t → (m < least x + i → In (endsOf rows x resets t k m q f) u (base k m + q))
+            → (m ≡ least x + i) ⊎ (m < least x + i) → In (endsOf rows x resets t k m q f) (settleEntry rows x resets k f (least x + i) u) (base k m + q)
         go u lu same ih (inl e) =
-            subst (λ (n : ℕ). In (endsOf rows x resets t k n q f) (settleMeaning rows x resets k f (l + i) u) (base k n + q)) (sym e)
-            (subst (λ (v : ℕ). In v (settleMeaning rows x resets k f (l + i) u) (base k (l + i) + q))
-            (ends-same k u t same rows x resets k (l + i) q f s d (omega arith) b)
-            (each-in u (base k (l + i)) (λ q. endsOf rows x resets u k (l + i) q f) (omega arith) q b))
+            subst (λ (n : ℕ). In (endsOf rows x resets t k n q f) (settleEntry rows x resets k f (least x + i) u) (base k n + q)) (sym e)
+            (subst (λ (v : ℕ). In v (settleEntry rows x resets k f (least x + i) u) (base k (least x + i) + q))
+            (ends-same k u t same rows x resets k (least x + i) q f s d b)
+            (each-in u (base k (least x + i)) (λ q. endsOf rows x resets u k (least x + i) q f) (omega arith) q b))
         go u lu same ih (inr c) =
-            each-keeps u (base k (l + i)) (λ q. endsOf rows x resets u k (l + i) q f) (endsOf rows x resets t k m q f) (base k m + q) (ih c)
+            each-keeps u (base k (least x + i)) (λ q. endsOf rows x resets u k (least x + i) q f) (endsOf rows x resets t k m q f) (base k m + q) (ih c)
 
     -- a node that does not read itself is done
-    pub node-done : Named f → (Reads f k → ⊥) → l ≤ meanings → NodeClosed rows x resets l k f (settleNode rows x resets l k f t)
+    pub node-done : Placed f → (Reads f k → ⊥) → NodeClosed rows x resets k f (settleNode rows x resets k f t)
     unfolding settleNode
-    node-done s d h m q low high b =
-        subst (λ (v : ℕ). In v (after (meanings - l) t) (base k m + q))
-        (sym (ends-same k (after (meanings - l) t) t (after-beside (meanings - l) t (omega arith)) rows x resets k m q f s d high b))
-        (after-in s d (meanings - l) (omega arith) m q low (omega arith) b)
+    node-done s d m q low high b =
+        subst (λ (v : ℕ). In v (after (entriesOf x - least x) t) (base k m + q))
+        (sym (ends-same k (after (entriesOf x - least x) t) t (after-beside (entriesOf x - least x) t) rows x resets k m q f s d b))
+        (after-in s d (entriesOf x - least x) (omega arith) m q low (omega arith) b)
 
     -- and so is one that settling leaves as it is
-    pub node-unchanged : settleNode rows x resets l k f t ≡ t → NodeClosed rows x resets l k f t
+    pub node-unchanged : settleNode rows x resets k f t ≡ t → NodeClosed rows x resets k f t
     node-unchanged e m q low high b =
-        still-in t (base k m + q) (endsOf rows x resets t k m q f) (omega arith) (node-closed rows x resets l k f t e m q low high b)
+        still-in t (base k m + q) (endsOf rows x resets t k m q f) (omega arith) (node-closed rows x resets k f t e m q low high b)
 
 -- another node, which does not read the one that was settled, is as before
-pub node-kept : (rows : Rows) (x : ℕ) (resets : Resets) (l k j : ℕ) (f : Option Form) (t u : List ℕ) → Beside k u t → (j ≡ k → ⊥) → Named f
+pub node-kept : (rows : Rows) (x : Resources) (resets : Resets) (k j : ℕ) (f : Option Form) (t u : List ℕ) → Beside k u t → (j ≡ k → ⊥) → j < mostNodes → Placed f
     → (Reads f k → ⊥)
-    → NodeClosed rows x resets l j f t → NodeClosed rows x resets l j f u
-node-kept rows x resets l k j f t u same d s r closed m q low high b =
-    let e = same j m q d high b in
-    let v = ends-same k u t same rows x resets j m q f s r high b in
+    → NodeClosed rows x resets j f t → NodeClosed rows x resets j f u
+node-kept rows x resets k j f t u same d small s r closed m q low high b =
+    let e = same j m q d small b in
+    let v = ends-same k u t same rows x resets j m q f s r b in
     ap₂ (λ (y z : ℕ). bitOr y z) e v ∙ closed m q low high b ∙ sym e

@@ -35,7 +35,7 @@ pub record Sights (es : List Edge) (p : ℕ) : Type 1 where
 module _ (local : Bool) (es : List Edge) (ns : List Node) (scope : ℕ → ℕ → Type 0) (p : ℕ) (edges : EdgesOk es)
     (outline : Scoped ns scope) (all : Sights es p) where
   names-ok : NamesOk ns
-  names-ok = record { used = outline .name-small; given = outline .fresh-small }
+  names-ok = record { static = outline .static-small; used = outline .name-small; given = outline .fresh-small }
 
   abbrev pub HitsAt : all .Choice → ℕ → Last → Type 0
   HitsAt i n last = Hits local es ns p (all .sight i) n last

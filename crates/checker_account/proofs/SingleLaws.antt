@@ -188,7 +188,7 @@ module _ (x : ℕ) (small : x ≤ watched) where
     meaning = namesOf x;
     left = leftOf x;
     watches = refl;
-    stands = λ w m l. sym (names-meant x w m l);
+    stands = λ w c m l o. sym (names-meant x w m l);
     to = λ l h y. to-stand-ins l h y;
     back = λ l h f g y. from-stand-ins l h f g y;
     first-meaning = names-none x;

@@ -1,28 +1,24 @@
--- The choices of stand-ins for the watched resources, as a list to be gone through: 17 of one, 290 of two.
-use Prim.Native.Nat.{ℕ, zero, suc}
-use mathlib.Core.Bool.{Bool, true, false}
-use mathlib.Core.List.{List, [], _∷_}
+-- The choices of watched resources by numbers, as a search goes through them: 17 of one, 290 of two, row by row.
+use Prim.Native.Nat.{ℕ, suc, _*_, _/_, _%_}
+use mathlib.Core.Bool.{Bool, true, false, cond}
+use lib.Dec.{eqb}
 use Rattle.checker_account.specs.Account.{watched, watchedToo}
+use Rattle.checker_account.specs.declared.Resources.{Resources}
+use Rattle.checker_account.specs.Tables.{oneResource, twoResources}
 
--- the numbers below n, the highest first
-unfoldable pub below : ℕ → List ℕ
-below zero = []
-below (suc n) = n ∷ below n
+-- the resources up to 16, and two of them
+abbrev pub singleCount : ℕ
+singleCount = suc watched
 
-unfoldable pub alone : List ℕ → List (List ℕ)
-alone [] = []
-alone (x ∷ xs) = (x ∷ []) ∷ alone xs
-
--- x with each of ys, and each of xs with each of ys, before the rest
-unfoldable pub row : ℕ → List ℕ → List (List ℕ) → List (List ℕ)
-row x [] rest = rest
-row x (y ∷ ys) rest = (x ∷ y ∷ []) ∷ row x ys rest
-
-unfoldable pub grid : List ℕ → List ℕ → List (List ℕ) → List (List ℕ)
-grid [] ys rest = rest
-grid (x ∷ xs) ys rest = row x ys (grid xs ys rest)
+abbrev pub gridCount : ℕ
+gridCount = singleCount * singleCount
 
 -- of one, or of two for a pair policy
-abbrev pub choices : Bool → List (List ℕ)
-choices false = alone (below (suc watched))
-choices true = grid (below (suc watched)) (below (suc watched)) ((watched ∷ watchedToo ∷ []) ∷ [])
+abbrev pub choiceCount : Bool → ℕ
+choiceCount false = singleCount
+choiceCount true = suc gridCount
+
+unfoldable pub choiceAt : Bool → ℕ → Resources
+choiceAt false i = oneResource i
+choiceAt true i =
+    cond (eqb i gridCount) (twoResources watched watchedToo) (twoResources (i / singleCount) (i % singleCount))

@@ -8,8 +8,8 @@ pub mod Pairs
 pub mod Written
 -- Tables of least lengths: what they hold, and how a trace is read from them.
 pub mod Least
--- The tables of the check: how they hold what a sight keeps, and by which rules; the layout for one watched resource and its rules as sets;
--- how they are filled, and the search in them; the table of a policy's moves at each node.
+-- The tables of the check: how they hold what a sight keeps, and by which rules; their layout and the rules as sets; how they are
+-- filled, and the search in them; the table of a policy's moves at each node.
 pub mod Lens
 pub mod Tables
 pub mod Filling

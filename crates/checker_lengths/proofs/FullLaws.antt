@@ -17,13 +17,14 @@ use Rattle.usage.proofs.Logic.{false-true}
 use Rattle.checker_account.specs.Account.{Aim, Goes}
 use Rattle.checker_account.specs.Single.{watching}
 use Rattle.checker_account.specs.Least.{Starts, Followed, ComeTo, Begun, Aimed, at-end, at-break, Rule, Lengths, Least, Closed}
-use Rattle.checker_account.specs.Tables.{nameOf, rowsIn}
-use Rattle.checker_account.specs.Filling.{formsIn}
-use Rattle.checker_account.specs.Holds.{HasCome, Come, HoldsComes}
+use Rattle.checker_account.specs.Tables.{oneResource, nameOf, rowsIn}
+use Rattle.checker_account.specs.Filling.{formsIn, one}
+use Rattle.checker_account.specs.Holds.{HasCome, HoldsComes}
 use Rattle.checker_tables.specs.Search.{Arrived}
 use Rattle.usage.proofs.TableLaws.{nodes-length}
 use Rattle.checker_account.proofs.BegunLaws.{come-followed}
 use Rattle.checker_account.proofs.SearchLaws.{comes-held}
+use Rattle.checker_account.proofs.OneLaws.{Met, one-come}
 use Rattle.checker_account.proofs.SingleLaws.{watching-keeps}
 use Rattle.checker_account.proofs.NodeLaws.{forms-of, names-ok, targets-ok}
 use Rattle.checker_account.proofs.ScopedLaws.{scoped}
@@ -36,7 +37,7 @@ use Rattle.checker_lengths.specs.Offers.{lowEnd, offerFrom, waysOf}
 use Rattle.checker_lengths.specs.Filling.{formHere, Reach, start, falls, Settled, Full}
 use Rattle.checker_lengths.specs.Held.{aimAt, meaningOf, entriesIn, watchOf, Source}
 use Rattle.checker_lengths.proofs.EntryLaws.{bounds, in-table, linear-lt, linear-one, low-end-le, held-less, held-is}
-use Rattle.checker_lengths.proofs.Numbers.{aim-ended, aim-state, start-of, meaning-is}
+use Rattle.checker_lengths.proofs.Numbers.{aim-ended, aim-state, start-of, meaning-lt, meaning-is}
 use Rattle.checker_lengths.proofs.RuleLaws.{Reads, offered, small-node}
 use Rattle.checker_lengths.proofs.RuledLaws.{Stands, ruled}
 
@@ -151,7 +152,9 @@ module _ (local : Bool) (es : List Edge) (nodes : List ℕ) (p x : ℕ) (rows : 
       false-true (stays-made d refl)
 
   -- a start that is come to is in the table of what is come to, by the code's number of its meaning
-  come-at : {u : List ℕ} {o : Bool} {k w : ℕ} {c : Bool} {q : ℕ} → Come x u o k w c q → HasCome u k o (meaningOf w c) q
+  come-at : {u : List ℕ} {o : Bool} {k w : ℕ} {c : Bool} {q : ℕ}
+      → Met x (src .small) local es (nodesOf nodes) p (src .edges) (names-ok (nodesOf nodes) (src .outline)) u o k w c q
+      → HasCome u k o (meaningOf w c) q
   come-at {u} {o} {k} {w} {c} {q} h =
       let same : h .meaning ≡ meaningOf w c =
       sym (meaning-is (h .meaning)) ∙ ap (λ (z : Bool). meaningOf (nameOf (h .meaning)) z) (h .made)
@@ -165,7 +168,7 @@ module _ (local : Bool) (es : List Edge) (nodes : List ℕ) (p x : ℕ) (rows : 
   run-followed = come-followed local es (nodesOf nodes) p (watching x) (src .edges) (watching-keeps x)
       (names-ok (nodesOf nodes) (src .outline))
 
-  pub full-closed : (u t : List ℕ) → HoldsComes local es (nodesOf nodes) p x u → Full (watchOf local p x) rows nodes u t
+  pub full-closed : (u t : List ℕ) → HoldsComes local es (nodesOf nodes) p (oneResource x) u → Full (watchOf local p x) rows nodes u t
       → Lengths local es (nodesOf nodes) p (watching x) mostShown (entriesIn t allLengths)
       → Closed local es (nodesOf nodes) p (watching x) Run mostShown (entriesIn t allLengths)
   full-closed u t holds full s n o k w c q a come m r few =
@@ -174,27 +177,28 @@ module _ (local : Bool) (es : List Edge) (nodes : List ℕ) (p x : ℕ) (rows : 
       let f = offered local es (nodesOf nodes) p x rows src (held t allLengths) (entriesIn t allLengths)
       (reads-in t allLengths) b m r few in
       let (l, e) = form-here k (f .form) (f .is) in
-      let st = start-of b in
+      let st = start-of b (src .small) in
       let low = low-aim t s n o k w c q a b m (f .in-range) r in
-      let set-at = full .settled k l o (meaningOf w c) q (st .low) (st .high) (b .state) (come-at (holds .full (come .1))) in
+      let set-at = full .settled k l o (meaningOf w c) q (st .low) (meaning-lt b) (b .state) (come-at
+      (one-come x (src .small) local es (nodesOf nodes) p (src .edges) (names-ok (nodesOf nodes) (src .outline)) u holds (come .1))) in
       let settled : getD t (linear here) 0 ≤ n =
       at-most (f .gives) (subst (λ (y : Option Form). (j : ℕ) → j < waysOf y → (i : ℕ) → lowEnd (meaningOf w c) ≤ i → i < 17
       → Settled (watchOf local p x) rows y t (entryOf k o (meaningOf w c) q i) j) e set-at (f .rule) (f .listed) (aimAt a) low
       (f .in-range)) in
-      let inside = in-table here (small-node local es (nodesOf nodes) p x rows src (held t allLengths) (f .is)) (st .high) (b .state)
+      let inside = in-table here (small-node local es (nodesOf nodes) p x rows src (held t allLengths) (f .is)) (meaning-lt b) (b .state)
       (f .in-range) in
       (getD t (linear here) 0, settled, (sym (held-less t allLengths here (linear here) inside refl (omega arith)), omega arith))
     where
       at-most : {u v : ℕ} → v ≡ n → (v ≤ mostShown → u ≤ v) → u ≤ n
       at-most e h = let l = h (omega arith) in omega arith
 
-  pub full-least : (u t : List ℕ) → Arrived nodes local rows p x u → Full (watchOf local p x) rows nodes u t
+  pub full-least : (u t : List ℕ) → Arrived nodes local rows p (oneResource x) u → Full (watchOf local p x) rows nodes u t
       → Least local es (nodesOf nodes) p (watching x) Run mostShown (entriesIn t allLengths)
   full-least u t come full =
       let s = reach-lengths (full .reach) .1 in
       let few = src .outline .few in
       let count = nodes-length nodes in
-      let holds = comes-held local es (nodesOf nodes) p x (rowsIn rows) (src .small) (src .edges) (src .moves)
+      let holds = comes-held local es (nodesOf nodes) p (oneResource x) (one (src .small)) (rowsIn rows) (src .edges) (src .moves)
       (names-ok (nodesOf nodes) (src .outline)) (targets-ok (nodesOf nodes) (src .outline)) (length nodes / 3) (formsIn nodes) (omega arith)
       (forms-of nodes) (come .ends) (come .ends-filled) u (come .comes-filled) in
       closed-least local es (nodesOf nodes) p (watching x) (watching-keeps x) (Scope (nodesOf nodes)) (src .edges)

@@ -13,7 +13,7 @@ use Rattle.usage.proofs.Logic.{and-left, and-right}
 use Rattle.checker_account.specs.Tables.{half}
 use Rattle.automaton.specs.Mask.{has, offends}
 use Rattle.checker_lengths.specs.declared.Entry.{Entry}
-use Rattle.checker_tables.specs.declared.Watch.{Watch}
+use Rattle.checker_lengths.specs.declared.WatchOne.{WatchOne}
 use Rattle.checker_lengths.specs.Entries.{noLength}
 use Rattle.checker_lengths.specs.Offers.{
   lowEnd,
@@ -110,7 +110,7 @@ module _ (e : Entry) (n : ℕ) (few : n ≤ mostShown) where
           inl (k, f, plus-is 1 (look (bodyEntry e m b r)) n (fresh-on rows look e m b r k f ∙ h) few)
       go (no l) false f = let g = fresh-dead rows look e m b r (omega arith) f in absurd (omega arith)
 
-  pub sandbox-inv : (w : Watch) (look : Entry → ℕ) (s b r : ℕ) → sandboxOf w look e s b r ≡ n
+  pub sandbox-inv : (w : WatchOne) (look : Entry → ℕ) (s b r : ℕ) → sandboxOf w look e s b r ≡ n
       → ((r ≡ 0) × (around e + look (innerEntry w e s b) ≡ n))
       ⊎ ((r ≡ 0 → ⊥) × (n ≡ 1) × (e .aim ≡ 16) × (s ≡ w .policy) × (6 ≤ stateIn w e s))
   sandbox-inv w look s b r h = go (ℕ-discrete r 0)

@@ -15,13 +15,13 @@ use Rattle.usage.specs.Outline.{Form, end, on-static, on-name, sequence, choice
 use Rattle.usage.proofs.Logic.{not-both}
 use Rattle.automaton.specs.Mask.{has}
 use Rattle.automaton.proofs.MaskLaws.{has-zero}
-use Rattle.checker_account.specs.Tables.{least}
+use Rattle.checker_account.specs.Tables.{oneResource, least}
 use Rattle.checker_account.specs.Filling.{total, formsIn}
 use Rattle.checker_account.proofs.SettledLaws.{PartOf, first, second, left, right, body, again, given, inside, Reads}
 use Rattle.checker_tables.specs.Work.{readersOf}
 use Rattle.checker_tables.proofs.WorkLaws.{all-left, neither, reader-in, readers-below}
 use Rattle.checker_lengths.specs.declared.Entry.{Entry}
-use Rattle.checker_tables.specs.declared.Watch.{Watch}
+use Rattle.checker_lengths.specs.declared.WatchOne.{WatchOne}
 use Rattle.checker_lengths.specs.Entries.{size, noLength, allLengths, inTable, below, held}
 use Rattle.checker_lengths.specs.Offers.{atNode, firstEntry, secondEntry, bodyEntry}
 use Rattle.checker_lengths.specs.Offers.{innerEntry, sequenceOf, freshOf, sandboxOf, offerOf}
@@ -35,7 +35,7 @@ use Rattle.checker_lengths.proofs.PassLaws.{same-held, node-lasts}
 -- ── A node that is not read ──
 
 module _ {k : ℕ} {t u : List ℕ} (g : Fell k t u) where
-  module _ (w : Watch) (rows : List ℕ) where
+  module _ (w : WatchOne) (rows : List ℕ) where
     offer-same : (f : Form) → (PartOf f k → ⊥) → (e : Entry) (c : ℕ)
         → offerOf w rows (held u allLengths) e c f ≡ offerOf w rows (held t allLengths) e c f
     unfolding offerOf sequenceOf freshOf sandboxOf
@@ -56,14 +56,14 @@ module _ {k : ℕ} {t u : List ℕ} (g : Fell k t u) where
     offer-same (fresh n b) d e c = rw (same-held g (bodyEntry e n b c) (λ z. d (subst (PartOf (fresh n b)) z given)))
     offer-same (sandbox s b) d e c = rw (same-held g (innerEntry w e s b) (λ z. d (subst (PartOf (sandbox s b)) z inside)))
 
-pub apart : (w : Watch) (rows : List ℕ) (k : ℕ) (f : Option Form) → (Reads f k → ⊥) → Apart w rows k f
+pub apart : (w : WatchOne) (rows : List ℕ) (k : ℕ) (f : Option Form) → (Reads f k → ⊥) → Apart w rows k f
 apart w rows k none d t u g e c = refl
 apart w rows k (some f) d t u g e c = offer-same g w rows f d e c
 
 -- ── The loop ──
 
 -- the table so far, and the nodes that are left: no rule gives less for the entries of the others
-pub record Working (w : Watch) (rows nodes come : List ℕ) (l n : ℕ) (t : List ℕ) (s : ℕ) : Type 0 where
+pub record Working (w : WatchOne) (rows nodes come : List ℕ) (l n : ℕ) (t : List ℕ) (s : ℕ) : Type 0 where
   pub size-is : length t ≡ size
   pub reach : Reach w rows nodes t
   pub left : s < 2 ^ n
@@ -73,7 +73,7 @@ pub record Working (w : Watch) (rows nodes come : List ℕ) (l n : ℕ) (t : Lis
 abbrev pub leftOf : List ℕ → ℕ → ℕ
 leftOf t s = total t * 18446744073709551616 + s
 
-module _ (w : Watch) (rows nodes come : List ℕ) (l : ℕ) (few : length nodes / nodeFields ≤ mostNodes) where
+module _ (w : WatchOne) (rows nodes come : List ℕ) (l : ℕ) (few : length nodes / nodeFields ≤ mostNodes) where
   abbrev n : ℕ
   n = length nodes / nodeFields
 
@@ -85,7 +85,7 @@ module _ (w : Watch) (rows nodes come : List ℕ) (l : ℕ) (few : length nodes 
     settled = λ k b h. not-both (has (2 ^ n - 1) k) (all-left n k few b) h;
   }
 
-  pub working-full : {t : List ℕ} → l ≡ least (w .resource) → Working w rows nodes come l n t 0 → Full w rows nodes come t
+  pub working-full : {t : List ℕ} → l ≡ least (oneResource (w .resource)) → Working w rows nodes come l n t 0 → Full w rows nodes come t
   working-full {t} e h = record {
     reach = h .reach;
     settled = λ k b. subst (λ (m : ℕ). NodeSettled w rows (formHere nodes k) come t m k) e (h .settled k b (has-zero k));

@@ -4,15 +4,16 @@ use mathlib.Core.Path.{_≡_, refl, sym, ap, _∙_, subst}
 use mathlib.Core.Bool.{Bool, true, false, cond}
 use native.Mathlib.Omega.{arith}
 use native.Mathlib.Decide.{decLe}
-use lib.Dec.{ltb, leb}
-use borrow.Author.Tests.{ltb-true, lt-ltb, le-leb, lt-leb}
+use lib.Dec.{eqb, ltb, leb}
+use borrow.Author.Tests.{eqb-true, ltb-true, lt-ltb, le-leb, lt-leb}
 use Rattle.usage.specs.Limits.{statics}
-use Rattle.checker_account.specs.Account.{Aim, ended, broken}
+use Rattle.checker_account.specs.Account.{watched, Aim, ended, broken}
 use Rattle.checker_account.specs.Single.{noName, forget, watching}
-use Rattle.checker_account.specs.Tables.{unnamed, nameOf, made, forgotten, at}
+use Rattle.checker_account.specs.Tables.{oneResource, unnamed, nameOf, made, forgotten, at}
 use Rattle.checker_account.specs.Holds.{Start}
 use Rattle.checker_account.specs.Least.{Begun, Aimed, at-end, at-break}
-use Rattle.checker_account.proofs.Starts.{start-unnamed, start-any, forgotten-name, forgotten-made}
+use Rattle.checker_account.proofs.Starts.{forgotten-name, forgotten-made}
+use Rattle.checker_account.proofs.OneLaws.{start-unnamed, start-any}
 use Rattle.checker_lengths.specs.Offers.{lowEnd, heir}
 use Rattle.checker_lengths.specs.Held.{noAim, aimAt, meaningOf}
 
@@ -71,22 +72,31 @@ module _ {x w : ℕ} {c : Bool} {q : ℕ} (b : Begun (watching x) w c q) where
       go false e = sym (b .view .unmade e)
       go true e = refl
 
-  meaning-lt : meaningOf w c < 6
+  pub meaning-lt : meaningOf w c < 6
   meaning-lt = go c
     where
       go : (d : Bool) → meaningOf w d < 6
       go false = omega arith
       go true = let l = b .view .name in omega arith
 
-  pub start-of : Start x (meaningOf w c)
-  start-of = go (decLe statics x)
+  -- of a static resource it is the last meaning
+  static-is : x < statics → meaningOf w c ≡ unnamed
+  static-is l = let (f, g) = b .view .static l in ap (meaningOf w) g ∙ ap suc f
+
+  pub start-of : x ≤ watched → Start (oneResource x) (meaningOf w c)
+  start-of small = go (decLe statics x)
     where
-      go : Dec (statics ≤ x) → Start x (meaningOf w c)
-      go (yes l) = start-any x (meaningOf w c) l meaning-lt
-      go (no l) =
-          let (f, g) = b .view .static (omega arith) in
-          let e : meaningOf w c ≡ unnamed = ap (meaningOf w) g ∙ ap suc f in
-          subst (Start x) (sym e) (start-unnamed x)
+      go : Dec (statics ≤ x) → Start (oneResource x) (meaningOf w c)
+      go (yes l) = start-any x (meaningOf w c) l small meaning-lt
+      go (no l) = subst (Start (oneResource x)) (sym (static-is (omega arith))) (start-unnamed x)
+
+  -- x is meant by a name: it is the watched dynamic resource
+  pub own-watched : (n : ℕ) → x ≤ watched → n < noName → eqb (meaningOf w c) (suc n) ≡ true → x ≡ watched
+  own-watched n small l e = go (decLe statics x)
+    where
+      go : Dec (statics ≤ x) → x ≡ watched
+      go (yes k) = omega arith
+      go (no k) = absurd (let f = static-is (omega arith) in let g = eqb-true (meaningOf w c) (suc n) e in omega arith)
 
 pub made-of : (w : ℕ) (c : Bool) → made (meaningOf w c) ≡ c
 made-of w false = refl

@@ -17,7 +17,7 @@ use Rattle.checker_account.proofs.CodeLaws.{made-some}
 use Rattle.checker_tables.specs.Search.{lost}
 use Rattle.checker_tables.proofs.MeaningLaws.{lost-name}
 use Rattle.checker_lengths.specs.declared.Entry.{Entry}
-use Rattle.checker_tables.specs.declared.Watch.{Watch}
+use Rattle.checker_lengths.specs.declared.WatchOne.{WatchOne}
 use Rattle.checker_lengths.specs.Entries.{noLength, entryOf, plus}
 use Rattle.checker_lengths.specs.Offers.{
   lowEnd,
@@ -118,7 +118,7 @@ second-is e b c m h = ap (λ (i : ℕ). entryOf b (e .opened) i (c % 8) (e .aim)
 pub body-is : (e : Entry) (n b c m : ℕ) → m ≡ named (e .meaning) n c → entryOf b (e .opened) m (c % 8) (e .aim) ≡ bodyEntry e n b c
 body-is e n b c m h = ap (λ (i : ℕ). entryOf b (e .opened) i (c % 8) (e .aim)) h
 
-pub inner-is : (w : Watch) (e : Entry) (s b q : ℕ) (o : Bool) → o ≡ (e .opened || eqb s (w .policy))
+pub inner-is : (w : WatchOne) (e : Entry) (s b q : ℕ) (o : Bool) → o ≡ (e .opened || eqb s (w .policy))
     → q ≡ reopened (w .local) (w .policy) s (e .opened) (e .state)
     → entryOf b o (e .meaning) q (e .aim) ≡ innerEntry w e s b
 inner-is w e s b q o f g = rw (f, g)
@@ -156,7 +156,7 @@ module _ (rows : List ℕ) (look : Entry → ℕ) (e : Entry) (n b c : ℕ) wher
   unfolding freshOf
   fresh-on l d = rw (lt-leb 16 c l, d)
 
-module _ (w : Watch) (look : Entry → ℕ) (e : Entry) (s b c : ℕ) where
+module _ (w : WatchOne) (look : Entry → ℕ) (e : Entry) (s b c : ℕ) where
   pub sandbox-on : c ≡ 0 → plus (cond (eqb (e .aim) 16) 1 2) (look (innerEntry w e s b)) ≡ sandboxOf w look e s b c
   unfolding sandboxOf
   sandbox-on h = rw (eq-eqb c 0 h)

@@ -14,7 +14,7 @@ use Rattle.usage.specs.Outline.{Form}
 use Rattle.usage.proofs.Logic.{not-both, false-true}
 use Rattle.checker_account.specs.Filling.{total}
 use Rattle.checker_lengths.specs.declared.Entry.{Entry}
-use Rattle.checker_tables.specs.declared.Watch.{Watch}
+use Rattle.checker_lengths.specs.declared.WatchOne.{WatchOne}
 use Rattle.checker_lengths.specs.Entries.{allLengths, entryOf, linear, inTable, below, held}
 use Rattle.checker_lengths.specs.Offers.{toward, offerFrom}
 use Rattle.checker_lengths.specs.Filling.{Reach, falls, Settled, RuleSettled, StartSettled, StatesSettled, NodeSettled}
@@ -57,7 +57,7 @@ module _ {k : ℕ} {t u : List ℕ} (g : Fell k t u) where
       go false h = sym (held-out u allLengths e h) ∙ held-out t allLengths e h
 
 -- what was settled stays so, where the node does not read its own entries; and so it is with those of another node that does not read them
-module _ (w : Watch) (rows : List ℕ) (k : ℕ) (f : Option Form) (apart : Apart w rows k f) {t u : List ℕ} (g : Fell k t u) where
+module _ (w : WatchOne) (rows : List ℕ) (k : ℕ) (f : Option Form) (apart : Apart w rows k f) {t u : List ℕ} (g : Fell k t u) where
   pub settled-lasts : (e : Entry) (c : ℕ) → Settled w rows f t e c → Settled w rows f u e c
   settled-lasts e c h few =
       let same = apart t u g e c in
@@ -77,7 +77,7 @@ module _ (w : Watch) (rows : List ℕ) (k : ℕ) (f : Option Form) (apart : Apar
   pub node-lasts : (come : List ℕ) (l j : ℕ) → NodeSettled w rows f come t l j → NodeSettled w rows f come u l j
   node-lasts come l j h o m q low high small b = start-lasts (entryOf j o m q 0) (h o m q low high small b)
 
-module _ {w : Watch} {rows : List ℕ} {k : ℕ} {f : Option Form} where
+module _ {w : WatchOne} {rows : List ℕ} {k : ℕ} {f : Option Form} where
   less-or-same : {C : List ℕ → Type 0} {t u : List ℕ} (r : Bool) → Pass w rows k f C t u r → total u ≤ total t
   less-or-same {t = t} {u = u} true p = let l = p .lower refl in omega arith
   less-or-same {t = t} {u = u} false p = let e : total u ≡ total t = ap total (p .kept refl) in omega arith
@@ -129,7 +129,7 @@ module _ {w : Watch} {rows : List ℕ} {k : ℕ} {f : Option Form} where
 
 -- ── A single entry ──
 
-module _ (w : Watch) (rows : List ℕ) (f : Option Form) (e : Entry) (c : ℕ) (t : List ℕ) (at v : ℕ) (place : at ≡ linear e)
+module _ (w : WatchOne) (rows : List ℕ) (f : Option Form) (e : Entry) (c : ℕ) (t : List ℕ) (at v : ℕ) (place : at ≡ linear e)
     (offered : v ≡ offerFrom w rows (held t allLengths) e c f) where
   pub pass-kept : getD t at 0 ≤ v → Pass w rows (e .node) f (λ u. Settled w rows f u e c) t t false
   pass-kept l =

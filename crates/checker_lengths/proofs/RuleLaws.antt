@@ -22,7 +22,9 @@ use Rattle.checker_account.specs.Single.{meant, MakesOne, watching}
 use Rattle.checker_account.specs.Tables.{made, forgotten, at, rowsIn, half}
 use Rattle.checker_account.specs.Least.{Entries, Begun, Aimed, Rule}
 use Rattle.checker_account.proofs.MaskLaws.{has-offends}
-use Rattle.checker_account.proofs.Starts.{meant-is, own-watched}
+use Rattle.checker_account.proofs.Starts.{meant-is}
+use Rattle.checker_account.proofs.OneLaws.{one-static, one-name, one-created}
+use Rattle.checker_account.proofs.NodeLaws.{names-ok}
 use Rattle.checker_account.proofs.BegunLaws.{moves-states}
 use Rattle.checker_lengths.specs.declared.Entry.{Entry}
 use Rattle.checker_lengths.specs.Entries.{entryOf, plus, aims}
@@ -68,7 +70,7 @@ use Rattle.checker_lengths.proofs.Numbers.{
   aim-state,
   aim-break,
   name-of,
-  start-of,
+  own-watched,
   made-of,
   heir-of,
   at-made,
@@ -110,9 +112,9 @@ offending-least q (inl e) = omega arith
 offending-least q (inr e) = omega arith
 
 pub moved-in : (rows : List ℕ) (e : Entry) (own : Bool) → e .node < mostNodes → e .state < states
-    → moved rows e own ≡ rowsIn rows (e .node) own (e .state)
+    → moved rows e own ≡ rowsIn rows (e .node) own false (e .state)
 unfolding moved
-moved-in rows e own k q = ap (λ (b : Bool). cond b (rowsIn rows (e .node) own (e .state)) 0)
+moved-in rows e own k q = ap (λ (b : Bool). cond b (rowsIn rows (e .node) own false (e .state)) 0)
     (and-both (ltb (e .node) mostNodes) (ltb (e .state) states) (lt-ltb (e .node) mostNodes k) (lt-ltb (e .state) states q))
 
 pub born-in : (rows : List ℕ) (e : Entry) (own : Bool) → (own ≡ true → made (e .meaning) ≡ false) → born rows e own ≡ moved rows e own
@@ -146,7 +148,7 @@ module _ (local : Bool) (es : List Edge) (ns : List Node) (p x : ℕ) (rows : Li
         → has (moved rows here (eqb s x)) q′ ≡ true
     static-row {s = s} {q′ = q′} is v =
         ap (λ (n : ℕ). has n q′) (moved-in rows here (eqb s x) (small-node is) (b .state))
-        ∙ src .moves .static is q q′ (b .state) (state-lt v (b .state)) .1 v
+        ∙ one-static (src .moves) (names-ok ns (src .outline)) (src .small) is q q′ (b .state) (state-lt v (b .state)) .1 v
 
     pub name-row : {a n q′ : ℕ} → Is ns k (on-name a n) → Moves es p a (Sees (x ∷ []) (meant x w n)) q q′
         → has (moved rows here (eqb (meaningOf w c) (suc n))) q′ ≡ true
@@ -155,14 +157,14 @@ module _ (local : Bool) (es : List Edge) (ns : List Node) (p x : ℕ) (rows : Li
         let small = form-ok (src .outline) is .2 in
         let m : meant x w n ≡ cond own x others = ap (λ (u : ℕ). meant x u n) (sym (name-of b)) ∙ meant-is x (meaningOf w c) n small in
         ap (λ (r : ℕ). has r q′) (moved-in rows here own (small-node is) (b .state))
-        ∙ src .moves .name is own (λ g. own-watched n (src .small) small (start-of b) g) q q′ (b .state) (state-lt v (b .state)) .1
+        ∙ one-name (src .moves) (names-ok ns (src .outline)) (src .small) is own (λ g. own-watched b n (src .small) small g) q q′ (b .state) (state-lt v (b .state)) .1
         (subst (λ (r : ℕ). Moves es p a (Sees (x ∷ []) r) q q′) m v)
 
     pub other-row : {n d q′ : ℕ} → Is ns k (fresh n d) → Moves es p create (Sees (x ∷ []) others) q q′
         → has (born rows here false) q′ ≡ true
     other-row {q′ = q′} is v =
         ap (λ (r : ℕ). has r q′) (born-in rows here false (λ g. false-true g) ∙ moved-in rows here false (small-node is) (b .state))
-        ∙ src .moves .created is false (λ g. false-true g) q q′ (b .state) (state-lt v (b .state)) .1 v
+        ∙ one-created (src .moves) (names-ok ns (src .outline)) (src .small) is false (λ g. false-true g) q q′ (b .state) (state-lt v (b .state)) .1 v
 
   pub dynamic : {w q : ℕ} → Begun (watching x) w false q → x ≡ watched
   dynamic b = go (decLe statics x)
@@ -177,7 +179,7 @@ module _ (local : Bool) (es : List Edge) (ns : List Node) (p x : ℕ) (rows : Li
   own-row {k} {w} {q} o i b {q′ = q′} is v =
       ap (λ (r : ℕ). has r q′) (born-in rows (entryOf k o 0 q i) true (λ g. refl)
       ∙ moved-in rows (entryOf k o 0 q i) true (small-node is) (b .state))
-      ∙ src .moves .created is true (λ g. dynamic b) q q′ (b .state) (state-lt v (b .state)) .1 v
+      ∙ one-created (src .moves) (names-ok ns (src .outline)) (src .small) is true (λ g. dynamic b) q q′ (b .state) (state-lt v (b .state)) .1 v
 
   -- ── From the rules to the numbers ──
 

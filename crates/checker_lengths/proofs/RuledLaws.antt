@@ -23,7 +23,9 @@ use Rattle.checker_account.specs.Single.{meant, MakesOne, watching}
 use Rattle.checker_account.specs.Tables.{made}
 use Rattle.checker_account.specs.Least.{Entries, Begun, Aimed, at-end, at-break, Rule}
 use Rattle.checker_account.proofs.MaskLaws.{has-none, offends-has}
-use Rattle.checker_account.proofs.Starts.{meant-is, own-watched}
+use Rattle.checker_account.proofs.Starts.{meant-is}
+use Rattle.checker_account.proofs.OneLaws.{one-static, one-name, one-created}
+use Rattle.checker_account.proofs.NodeLaws.{names-ok}
 use Rattle.checker_account.proofs.BegunLaws.{begun-opened}
 use Rattle.checker_lengths.specs.declared.Entry.{Entry}
 use Rattle.checker_lengths.specs.Entries.{entryOf, aims}
@@ -54,7 +56,7 @@ use Rattle.checker_lengths.proofs.Numbers.{
   aim-state,
   aim-one,
   name-of,
-  start-of,
+  own-watched,
   heir-of,
   way-aim,
   forgotten-of,
@@ -97,7 +99,7 @@ module _ (local : Bool) (es : List Edge) (ns : List Node) (p x : ℕ) (rows : Li
 
     pub static-moves : {a s : ℕ} → Is ns k (on-static a s) → has (moved rows here (eqb s x)) q′ ≡ true → Moves es p a (Sees (x ∷ []) s) q q′
     static-moves {s = s} is h =
-        src .moves .static is q q′ (b .state) l .0
+        one-static (src .moves) (names-ok ns (src .outline)) (src .small) is q q′ (b .state) l .0
         (sym (ap (λ (n : ℕ). has n q′) (moved-in rows here (eqb s x) (small-node local es ns p x rows src (λ e. 0) is) (b .state))) ∙ h)
 
     pub name-moves : {a n : ℕ} → Is ns k (on-name a n) → has (moved rows here (eqb (meaningOf w c) (suc n))) q′ ≡ true
@@ -107,12 +109,12 @@ module _ (local : Bool) (es : List Edge) (ns : List Node) (p x : ℕ) (rows : Li
         let small = form-ok (src .outline) is .2 in
         let m : meant x w n ≡ cond own x others = ap (λ (u : ℕ). meant x u n) (sym (name-of b)) ∙ meant-is x (meaningOf w c) n small in
         subst (λ (r : ℕ). Moves es p a (Sees (x ∷ []) r) q q′) (sym m)
-        (src .moves .name is own (λ g. own-watched n (src .small) small (start-of b) g) q q′ (b .state) l .0
+        (one-name (src .moves) (names-ok ns (src .outline)) (src .small) is own (λ g. own-watched b n (src .small) small g) q q′ (b .state) l .0
         (sym (ap (λ (r : ℕ). has r q′) (moved-in rows here own (small-node local es ns p x rows src (λ e. 0) is) (b .state))) ∙ h))
 
     pub other-moves : {n d : ℕ} → Is ns k (fresh n d) → has (born rows here false) q′ ≡ true → Moves es p create (Sees (x ∷ []) others) q q′
     other-moves is h =
-        src .moves .created is false (λ g. false-true g) q q′ (b .state) l .0
+        one-created (src .moves) (names-ok ns (src .outline)) (src .small) is false (λ g. false-true g) q q′ (b .state) l .0
         (sym (ap (λ (r : ℕ). has r q′) (born-in rows here false (λ g. false-true g)
         ∙ moved-in rows here false (small-node local es ns p x rows src (λ e. 0) is) (b .state))) ∙ h)
 
@@ -120,7 +122,7 @@ module _ (local : Bool) (es : List Edge) (ns : List Node) (p x : ℕ) (rows : Li
       → has (born rows (entryOf k o 0 q i) true) q′ ≡ true
       → Moves es p create (Sees (x ∷ []) x) q q′
   own-moves k {w} {q} o i q′ b l is h =
-      src .moves .created is true (λ g. dynamic local es ns p x rows src (λ e. 0) b) q q′ (b .state) l .0
+      one-created (src .moves) (names-ok ns (src .outline)) (src .small) is true (λ g. dynamic local es ns p x rows src (λ e. 0) b) q q′ (b .state) l .0
       (sym (ap (λ (r : ℕ). has r q′) (born-in rows (entryOf k o 0 q i) true (λ g. refl)
       ∙ moved-in rows (entryOf k o 0 q i) true (small-node local es ns p x rows src (λ e. 0) is) (b .state))) ∙ h)
 

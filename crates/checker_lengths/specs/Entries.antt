@@ -5,7 +5,7 @@ use mathlib.Core.List.{List}
 use lib.Dec.{ltb, leb}
 use lib.ListN.{getD}
 use Rattle.usage.specs.Limits.{mostNodes, states, mostShown}
-use Rattle.checker_account.specs.Tables.{meanings, starts, places}
+use Rattle.checker_account.specs.Tables.{meanings, places}
 use Rattle.checker_lengths.specs.declared.Entry.{Entry}
 
 -- the aim to break the policy; those below it are ends, numbered as in the table of ends
@@ -14,6 +14,10 @@ atBreak = 2 * states
 
 abbrev pub aims : ℕ
 aims = suc atBreak
+
+-- the starts of a node: a meaning and a state
+abbrev pub starts : ℕ
+starts = meanings * states
 
 -- an entry for each aim of each start of each node, the policy being open or not
 abbrev pub size : ℕ

@@ -11,10 +11,10 @@ use Rattle.usage.specs.Limits.{states, mostShown}
 use Rattle.usage.specs.Policy.{EdgesOk}
 use Rattle.usage.specs.Valid.{OutlineOk}
 use Rattle.checker_account.specs.Account.{watched, Aim, ended, broken}
-use Rattle.checker_account.specs.Tables.{at, rowsIn}
+use Rattle.checker_account.specs.Tables.{oneResource, at, rowsIn}
 use Rattle.checker_account.specs.Holds.{RowsOk}
 use Rattle.checker_account.specs.Least.{Entries}
-use Rattle.checker_tables.specs.declared.Watch.{Watch}
+use Rattle.checker_lengths.specs.declared.WatchOne.{WatchOne}
 use Rattle.checker_lengths.specs.Entries.{atBreak, aims, entryOf, held}
 
 -- the number of an aim, and of the start in which name w means the watched resource and c tells whether it was created
@@ -34,7 +34,7 @@ meaningOf w true = suc w
 abbrev pub entriesIn : List ℕ → ℕ → Entries ℕ Bool
 entriesIn t most n o k w c q aim = (held t most (entryOf k o (meaningOf w c) q (aimAt aim)) ≡ n) × (n ≤ mostShown)
 
-abbrev pub watchOf : Bool → ℕ → ℕ → Watch
+abbrev pub watchOf : Bool → ℕ → ℕ → WatchOne
 watchOf local p x = record { local = local; policy = p; resource = x }
 
 -- what the tables of a policy and an outline are filled from
@@ -42,4 +42,4 @@ pub record Source (es : List Edge) (ns : List Node) (p x : ℕ) (rows : List ℕ
   pub edges : EdgesOk es
   pub outline : OutlineOk ns
   pub small : x ≤ watched
-  pub moves : RowsOk es ns p x (rowsIn rows)
+  pub moves : RowsOk es ns p (oneResource x) (rowsIn rows)

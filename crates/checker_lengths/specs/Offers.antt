@@ -10,7 +10,7 @@ use Rattle.usage.specs.Outline.{Form, end, on-static, on-name, sequence, choice
 use Rattle.automaton.specs.Mask.{has, offends}
 use Rattle.checker_account.specs.Tables.{nameOf, made, forgotten, rowsIn, half}
 use Rattle.checker_lengths.specs.declared.Entry.{Entry}
-use Rattle.checker_tables.specs.declared.Watch.{Watch}
+use Rattle.checker_lengths.specs.declared.WatchOne.{WatchOne}
 use Rattle.checker_lengths.specs.Entries.{atBreak, aims, noLength, entryOf, plus}
 
 -- the same start and aim at node k
@@ -23,7 +23,7 @@ toward e i = entryOf (e .node) (e .opened) (e .meaning) (e .state) i
 
 -- the states after the event of the entry's node, which is on the watched resource or not
 unfoldable pub moved : List ℕ → Entry → Bool → ℕ
-moved rows e own = cond (ltb (e .node) mostNodes && ltb (e .state) states) (rowsIn rows (e .node) own (e .state)) 0
+moved rows e own = cond (ltb (e .node) mostNodes && ltb (e .state) states) (rowsIn rows (e .node) own false (e .state)) 0
 
 -- the states after a creation: the watched resource is not created a second time
 unfoldable pub born : List ℕ → Entry → Bool → ℕ
@@ -70,10 +70,10 @@ named m n c = cond (ltb c states) (forgotten m n) (suc n)
 abbrev pub bodyEntry : Entry → ℕ → ℕ → ℕ → Entry
 bodyEntry e n b c = entryOf b (e .opened) (named (e .meaning) n c) (c % states) (e .aim)
 
-abbrev pub stateIn : Watch → Entry → ℕ → ℕ
+abbrev pub stateIn : WatchOne → Entry → ℕ → ℕ
 stateIn w e s = reopened (w .local) (w .policy) s (e .opened) (e .state)
 
-abbrev pub innerEntry : Watch → Entry → ℕ → ℕ → Entry
+abbrev pub innerEntry : WatchOne → Entry → ℕ → ℕ → Entry
 innerEntry w e s b = entryOf b (e .opened || eqb s (w .policy)) (e .meaning) (stateIn w e s) (e .aim)
 
 unfoldable pub sequenceOf : (Entry → ℕ) → Entry → ℕ → ℕ → ℕ → ℕ
@@ -94,12 +94,12 @@ freshOf rows look e n b c =
 abbrev pub around : Entry → ℕ
 around e = cond (eqb (e .aim) atBreak) 1 2
 
-unfoldable pub sandboxOf : Watch → (Entry → ℕ) → Entry → ℕ → ℕ → ℕ → ℕ
+unfoldable pub sandboxOf : WatchOne → (Entry → ℕ) → Entry → ℕ → ℕ → ℕ → ℕ
 sandboxOf w look e s b c =
     cond (eqb c 0) (plus (around e) (look (innerEntry w e s b)))
     (oneIf (eqb (e .aim) atBreak && (eqb s (w .policy) && leb 6 (stateIn w e s))))
 
-unfoldable pub offerOf : Watch → List ℕ → (Entry → ℕ) → Entry → ℕ → Form → ℕ
+unfoldable pub offerOf : WatchOne → List ℕ → (Entry → ℕ) → Entry → ℕ → Form → ℕ
 offerOf w rows look e c end = stillOf e
 offerOf w rows look e c (on-static a s) = eventOf (moved rows e (eqb s (w .resource))) e c
 offerOf w rows look e c (on-name a n) = eventOf (moved rows e (eqb (e .meaning) (suc n))) e c
@@ -110,7 +110,7 @@ offerOf w rows look e c (back a) = look (atNode e a)
 offerOf w rows look e c (fresh n b) = freshOf rows look e n b c
 offerOf w rows look e c (sandbox s b) = sandboxOf w look e s b c
 
-abbrev pub offerFrom : Watch → List ℕ → (Entry → ℕ) → Entry → ℕ → Option Form → ℕ
+abbrev pub offerFrom : WatchOne → List ℕ → (Entry → ℕ) → Entry → ℕ → Option Form → ℕ
 offerFrom w rows look e c none = noLength
 offerFrom w rows look e c (some f) = offerOf w rows look e c f
 

@@ -7,8 +7,8 @@ use crate::Entry;
 use crate::Lengths;
 use crate::MOST;
 use crate::NONE;
+use crate::STARTS;
 use checker_account::MEANINGS;
-use checker_account::STARTS;
 use usage::MOST_NODES;
 use usage::STATES;
 

@@ -22,12 +22,14 @@ use crate::Lengths;
 use crate::MOST;
 use crate::NONE;
 use crate::SIZE;
+use crate::WatchOne;
 use crate::entries;
 use crate::offers;
 use checker_account::Arrival;
 use checker_account::MEANINGS;
+use checker_account::NOTHING;
+use checker_account::Resources;
 use checker_account::Table;
-use checker_tables::Watch;
 use outline_nodes::NodeForm;
 use usage::MOST_NODES;
 use usage::NODE_FIELDS;
@@ -49,7 +51,7 @@ fn put(t: &mut Lengths, e: Entry, v: u8) -> bool
 }
 
 // The entry set to what rule c of its node gives, f being that node, if it is less. Is it?
-fn settle(t: &mut Lengths, rows: &Table, w: Watch, f: NodeForm, e: Entry, c: usize) -> bool
+fn settle(t: &mut Lengths, rows: &Table, w: WatchOne, f: NodeForm, e: Entry, c: usize) -> bool
     requires { ⌜ length (now t) ≡ size ⌝ }
     requires { ⌜ inTable e ≡ true ⌝ }
     ensures { λ r. ⌜ Pass w (now (rows .entry)) (e .node) (saidBy f)
@@ -87,7 +89,7 @@ fn settle_sequence(t: &mut Lengths, s: Entry, a: u8, b: u8, c: usize) -> bool
 
 // Every aim of one start by rule c. Ends before the first that is tried leave it open whether the watched resource can be created,
 // which the node's start has settled. Did that change the table?
-fn settle_aims(t: &mut Lengths, rows: &Table, w: Watch, f: NodeForm, s: Entry, c: usize) -> bool
+fn settle_aims(t: &mut Lengths, rows: &Table, w: WatchOne, f: NodeForm, s: Entry, c: usize) -> bool
     requires { ⌜ length (now t) ≡ size ⌝ }
     requires { ⌜ inTable (toward s 0) ≡ true ⌝ }
     ensures { λ r. ⌜ Pass w (now (rows .entry)) (s .node) (saidBy f)
@@ -108,7 +110,7 @@ fn settle_aims(t: &mut Lengths, rows: &Table, w: Watch, f: NodeForm, s: Entry, c
 }
 
 // The same, a sequence's in the shorter way.
-fn settle_rule(t: &mut Lengths, rows: &Table, w: Watch, f: NodeForm, s: Entry, c: usize) -> bool
+fn settle_rule(t: &mut Lengths, rows: &Table, w: WatchOne, f: NodeForm, s: Entry, c: usize) -> bool
     requires { ⌜ length (now t) ≡ size ⌝ }
     requires { ⌜ inTable (toward s 0) ≡ true ⌝ }
     ensures { λ r. ⌜ Pass w (now (rows .entry)) (s .node) (saidBy f)
@@ -125,7 +127,7 @@ fn settle_rule(t: &mut Lengths, rows: &Table, w: Watch, f: NodeForm, s: Entry, c
 }
 
 // Every rule of one start. Did that change the table?
-fn settle_start(t: &mut Lengths, rows: &Table, w: Watch, f: NodeForm, s: Entry) -> bool
+fn settle_start(t: &mut Lengths, rows: &Table, w: WatchOne, f: NodeForm, s: Entry) -> bool
     requires { ⌜ length (now t) ≡ size ⌝ }
     requires { ⌜ inTable (toward s 0) ≡ true ⌝ }
     ensures { λ r. ⌜ Pass w (now (rows .entry)) (s .node) (saidBy f)
@@ -144,7 +146,7 @@ fn settle_start(t: &mut Lengths, rows: &Table, w: Watch, f: NodeForm, s: Entry) 
 }
 
 // The same if it is to be settled.
-fn settle_if(t: &mut Lengths, rows: &Table, w: Watch, f: NodeForm, s: Entry, there: bool) -> bool
+fn settle_if(t: &mut Lengths, rows: &Table, w: WatchOne, f: NodeForm, s: Entry, there: bool) -> bool
     requires { ⌜ length (now t) ≡ size ⌝ }
     requires { ⌜ inTable (toward s 0) ≡ true ⌝ }
     ensures { λ r. ⌜ Pass w (now (rows .entry)) (s .node) (saidBy f)
@@ -158,7 +160,7 @@ fn settle_if(t: &mut Lengths, rows: &Table, w: Watch, f: NodeForm, s: Entry, the
 }
 
 // The starts in which a node is come to. Did that change the table?
-fn settle_states(t: &mut Lengths, rows: &Table, w: Watch, f: NodeForm, g: Arrival) -> bool
+fn settle_states(t: &mut Lengths, rows: &Table, w: WatchOne, f: NodeForm, g: Arrival) -> bool
     requires { ⌜ length (now t) ≡ size ⌝ }
     requires { ⌜ g .to < mostNodes ⌝ }
     requires { ⌜ g .meaning < meanings ⌝ }
@@ -189,7 +191,7 @@ fn settle_node(
     t: &mut Lengths,
     rows: &Table,
     u: &Table,
-    w: Watch,
+    w: WatchOne,
     f: NodeForm,
     l: usize,
     k: usize,
@@ -238,12 +240,15 @@ fn next(left: u64, k: usize) -> usize
 // that read it are left again. They are gone through from the highest to the lowest, since a child has a greater number than its parent,
 // and one that is left again above the current one waits for the next round: else each change around a loop would settle the whole loop
 // anew.
-fn settle_all(nodes: &[u8], rows: &Table, u: &Table, w: Watch, t: &mut Lengths)
+fn settle_all(nodes: &[u8], rows: &Table, u: &Table, w: WatchOne, t: &mut Lengths)
     requires { ⌜ NodesFit (now nodes) ⌝ }
     ensures { λ r. ⌜ Full w (now (rows .entry)) (now (nodes .entry)) (now (u .entry)) (now (t .exit)) ⌝ }
 {
     *t = [NONE; SIZE];
-    let l = checker_tables::least(w.resource);
+    let l = checker_tables::numbers::least(Resources {
+        first: w.resource,
+        second: NOTHING,
+    });
     let n = nodes.len() / NODE_FIELDS;
     let mut readers = [0u64; MOST_NODES];
     checker_tables::work::readers(nodes, &mut readers);
@@ -261,7 +266,7 @@ fn settle_all(nodes: &[u8], rows: &Table, u: &Table, w: Watch, t: &mut Lengths)
 
 // The table, for the moves of the watched policy; u is the table of what is come to. It has no length where there is no room for the
 // nodes.
-pub fn fill(nodes: &[u8], rows: &Table, u: &Table, w: Watch, t: &mut Lengths)
+pub fn fill(nodes: &[u8], rows: &Table, u: &Table, w: WatchOne, t: &mut Lengths)
     ensures { λ r. ⌜ FullIf (hasRoom (now (nodes .entry))) w (now (rows .entry)) (now (nodes .entry)) (now (u .entry)) (now (t .exit)) ⌝ }
 {
     if !checker_tables::fits(nodes) {

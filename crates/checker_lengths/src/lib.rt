@@ -5,6 +5,7 @@ pub mod entries;
 pub mod fill;
 pub mod offers;
 
+use checker_account::MEANINGS;
 use checker_account::PLACES;
 use usage::STATES;
 
@@ -18,6 +19,9 @@ pub const OWN_BREAK: usize = BROKEN + 1;
 
 pub const FRESH_RULES: usize = OWN_BREAK + 1;
 
+// The starts of a node: a meaning and a state.
+pub const STARTS: usize = MEANINGS * STATES;
+
 // A byte for each aim of each start of each node, the policy being open or not.
 pub const SIZE: usize = 2 * PLACES * AIMS;
 
@@ -29,6 +33,13 @@ pub const MOST: u8 = 200;
 pub const ALL: u8 = MOST + 1;
 
 pub const NONE: u8 = 255;
+
+// What a table is for: whether only the past since the opening counts, the policy, and the one watched resource.
+pub struct WatchOne {
+    pub local: bool,
+    pub policy: usize,
+    pub resource: usize,
+}
 
 // Which entry: the node, whether the policy is open, the meaning (what is known of the watched resource), the state, and the aim.
 pub struct Entry {

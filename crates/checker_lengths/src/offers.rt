@@ -6,7 +6,7 @@ ghost use Prim.Native.Nat.{ℕ, _<_};
 ghost use Rattle.outline_nodes.specs.Said.{saidBy};
 ghost use Rattle.usage.specs.Past.{reopened};
 ghost use Rattle.automaton.specs.Mask.{has};
-ghost use Rattle.checker_tables.specs.declared.Watch.{Watch};
+ghost use Rattle.checker_lengths.specs.declared.WatchOne.{WatchOne};
 ghost use Rattle.usage.specs.Limits.{states};
 ghost use Rattle.checker_lengths.specs.Entries.{noLength, allLengths, held};
 ghost use Rattle.checker_lengths.specs.Offers.{atNode, toward, lowEnd, moved, born, endingOf, breaking, eventOf, stillOf};
@@ -21,11 +21,11 @@ use crate::Lengths;
 use crate::MOST;
 use crate::NONE;
 use crate::OWN_BREAK;
+use crate::WatchOne;
 use crate::entries;
-use checker_account::STARTS;
+use checker_account::LAYER;
 use checker_account::Table;
 use checker_account::UNNAMED;
-use checker_tables::Watch;
 use outline_nodes::NodeForm;
 use usage::MOST_NODES;
 use usage::STATES;
@@ -84,9 +84,9 @@ fn moved(rows: &Table, e: Entry, own: bool) -> u16
         return 0;
     }
     if own {
-        rows[STARTS * k + STATES + q]
+        rows[LAYER + STATES * k + q]
     } else {
-        rows[STARTS * k + q]
+        rows[STATES * k + q]
     }
 }
 
@@ -199,7 +199,7 @@ pub fn body(e: Entry, n: u8, b: u8, c: usize) -> Entry
 }
 
 // The state after an opening of policy s.
-fn reopened(w: Watch, s: u8, o: bool, q: usize) -> usize
+fn reopened(w: WatchOne, s: u8, o: bool, q: usize) -> usize
     ensures { λ r. ⌜ r ≡ reopened (w .local) (w .policy) s o q ⌝ }
 {
     if !w.local {
@@ -212,7 +212,7 @@ fn reopened(w: Watch, s: u8, o: bool, q: usize) -> usize
 }
 
 // The body of a sandbox of policy s.
-pub fn inner(w: Watch, e: Entry, s: u8, b: u8) -> Entry
+pub fn inner(w: WatchOne, e: Entry, s: u8, b: u8) -> Entry
     ensures { λ r. ⌜ r ≡ innerEntry w e s b ⌝ }
 {
     let q = reopened(w, s, e.opened, e.state);
@@ -263,7 +263,7 @@ fn fresh(t: &Lengths, rows: &Table, most: u8, e: Entry, n: u8, b: u8, c: usize) 
 }
 
 // A sandbox of policy s: its body comes to the aim, and where it ends there is the closing; or its opening breaks the policy.
-fn sandbox(t: &Lengths, w: Watch, most: u8, e: Entry, s: u8, b: u8, c: usize) -> u8
+fn sandbox(t: &Lengths, w: WatchOne, most: u8, e: Entry, s: u8, b: u8, c: usize) -> u8
     ensures { λ r. ⌜ r ≡ sandboxOf w (held (now (t .entry)) most) e s b c ⌝ }
 {
     if c == 0 {
@@ -284,7 +284,15 @@ fn sandbox(t: &Lengths, w: Watch, most: u8, e: Entry, s: u8, b: u8, c: usize) ->
 }
 
 // What rule c of the entry's node gives, f being that node, by the lengths below `most`.
-pub fn offer(t: &Lengths, rows: &Table, w: Watch, most: u8, f: NodeForm, e: Entry, c: usize) -> u8
+pub fn offer(
+    t: &Lengths,
+    rows: &Table,
+    w: WatchOne,
+    most: u8,
+    f: NodeForm,
+    e: Entry,
+    c: usize,
+) -> u8
     ensures { λ r. ⌜ r ≡ offerFrom w (now (rows .entry)) (held (now (t .entry)) most) e c (saidBy f) ⌝ }
 {
     match f {
@@ -315,7 +323,7 @@ pub fn offer(t: &Lengths, rows: &Table, w: Watch, most: u8, f: NodeForm, e: Entr
 // Can rule c of node f give anything from this start, whatever the aim? It cannot where the first node of a sequence has no such end,
 // or where a creation leads to no such state.
 pub(crate) fn gives(t: &Lengths, rows: &Table, f: NodeForm, s: Entry, c: usize) -> bool
-    ensures { λ r. ⌜ (r ≡ false → (w : Watch) (i : ℕ)
+    ensures { λ r. ⌜ (r ≡ false → (w : WatchOne) (i : ℕ)
         → offerFrom w (now (rows .entry)) (held (now (t .entry)) allLengths) (toward s i) c (saidBy f) ≡ noLength) ⌝ }
 {
     if BROKEN <= c {

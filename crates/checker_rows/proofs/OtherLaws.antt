@@ -1,6 +1,7 @@
 -- What is left of a match: the forms that no arm of it names.
 use Prim.Native.Nat.{ℕ}
 use mathlib.Core.Path.{_≡_, refl}
+use mathlib.Core.Bool.{Bool}
 use mathlib.Core.List.{List, [], _∷_}
 use types.Run.{OneOf, miss}
 use Rattle.outline_nodes.specs.declared.NodeForm.{NodeForm}
@@ -11,16 +12,16 @@ use Rattle.outline_nodes.proofs.SaidLaws.{tag}
 use Rattle.checker_account.specs.RowTable.{EventTables, nodeRows}
 
 -- they have no event
-pub no-rows : (tables : EventTables) (p k : ℕ) (r : List ℕ) (f : NodeForm) → OneOf (0 ∷ 3 ∷ 4 ∷ 5 ∷ 6 ∷ 8 ∷ 9 ∷ []) (tag f)
-    → r ≡ nodeRows tables p k (saidBy f) r
+pub no-rows : (tables : EventTables) (pair : Bool) (p k : ℕ) (r : List ℕ) (f : NodeForm) → OneOf (0 ∷ 3 ∷ 4 ∷ 5 ∷ 6 ∷ 8 ∷ 9 ∷ []) (tag f)
+    → r ≡ nodeRows tables pair p k (saidBy f) r
 unfolding nodeRows
-no-rows tables p k r End h = refl
-no-rows tables p k r (OnStatic a s) h = absurd (miss (0 ∷ 3 ∷ 4 ∷ 5 ∷ 6 ∷ 8 ∷ 9 ∷ []) 1 tt h)
-no-rows tables p k r (OnName a n) h = absurd (miss (0 ∷ 3 ∷ 4 ∷ 5 ∷ 6 ∷ 8 ∷ 9 ∷ []) 2 tt h)
-no-rows tables p k r (Sequence a b) h = refl
-no-rows tables p k r (Choice a b) h = refl
-no-rows tables p k r (Loop a) h = refl
-no-rows tables p k r (Back a) h = refl
-no-rows tables p k r (Fresh n b) h = absurd (miss (0 ∷ 3 ∷ 4 ∷ 5 ∷ 6 ∷ 8 ∷ 9 ∷ []) 7 tt h)
-no-rows tables p k r (Sandbox s b) h = refl
-no-rows tables p k r Nothing h = refl
+no-rows tables pair p k r End h = refl
+no-rows tables pair p k r (OnStatic a s) h = absurd (miss (0 ∷ 3 ∷ 4 ∷ 5 ∷ 6 ∷ 8 ∷ 9 ∷ []) 1 tt h)
+no-rows tables pair p k r (OnName a n) h = absurd (miss (0 ∷ 3 ∷ 4 ∷ 5 ∷ 6 ∷ 8 ∷ 9 ∷ []) 2 tt h)
+no-rows tables pair p k r (Sequence a b) h = refl
+no-rows tables pair p k r (Choice a b) h = refl
+no-rows tables pair p k r (Loop a) h = refl
+no-rows tables pair p k r (Back a) h = refl
+no-rows tables pair p k r (Fresh n b) h = absurd (miss (0 ∷ 3 ∷ 4 ∷ 5 ∷ 6 ∷ 8 ∷ 9 ∷ []) 7 tt h)
+no-rows tables pair p k r (Sandbox s b) h = refl
+no-rows tables pair p k r Nothing h = refl

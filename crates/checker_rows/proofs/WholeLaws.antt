@@ -13,22 +13,22 @@ use Rattle.checker_account.specs.Filling.{formsIn}
 use Rattle.checker_account.specs.RowTable.{EventTables, fillRows}
 use Rattle.checker_rows.specs.Rows.{wholeIf, rowTable}
 
-module _ (tables : EventTables) (p : ℕ) (nodes : List ℕ) where
+module _ (tables : EventTables) (pair : Bool) (p : ℕ) (nodes : List ℕ) where
   abbrev filled : List ℕ
-  filled = fillRows tables p (length nodes / nodeFields) (formsIn nodes) (replicate places 0)
+  filled = fillRows tables pair p (length nodes / nodeFields) (formsIn nodes) (replicate places 0)
 
-  pub whole-in : p < policies → length nodes / nodeFields ≤ mostNodes → rowTable tables p nodes ≡ filled
+  pub whole-in : p < policies → length nodes / nodeFields ≤ mostNodes → rowTable tables pair p nodes ≡ filled
   unfolding rowTable
   whole-in h l =
       ap (λ (b : Bool). wholeIf b filled)
       (and-both (ltb p policies) (leb (length nodes / nodeFields) mostNodes) (lt-ltb p policies h)
       (le-leb (length nodes / nodeFields) mostNodes l))
 
-  pub no-policy : policies ≤ p → rowTable tables p nodes ≡ replicate places 0
+  pub no-policy : policies ≤ p → rowTable tables pair p nodes ≡ replicate places 0
   unfolding rowTable
   no-policy h = ap (λ (b : Bool). wholeIf (b && leb (length nodes / nodeFields) mostNodes) filled) (le-ltb p policies h)
 
-  pub no-room : mostNodes < length nodes / nodeFields → rowTable tables p nodes ≡ replicate places 0
+  pub no-room : mostNodes < length nodes / nodeFields → rowTable tables pair p nodes ≡ replicate places 0
   unfolding rowTable
   no-room h =
       ap (λ (b : Bool). wholeIf b filled)

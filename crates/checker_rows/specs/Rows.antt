@@ -14,7 +14,7 @@ abbrev pub wholeIf : Bool → List ℕ → List ℕ
 wholeIf true r = r
 wholeIf false r = replicate places 0
 
-unfoldable pub rowTable : EventTables → ℕ → List ℕ → List ℕ
-rowTable tables p nodes =
+unfoldable pub rowTable : EventTables → Bool → ℕ → List ℕ → List ℕ
+rowTable tables pair p nodes =
     wholeIf (ltb p policies && leb (length nodes / nodeFields) mostNodes)
-    (fillRows tables p (length nodes / nodeFields) (formsIn nodes) (replicate places 0))
+    (fillRows tables pair p (length nodes / nodeFields) (formsIn nodes) (replicate places 0))

@@ -13,8 +13,7 @@ use borrow.Author.Count.{below-more}
 use Rattle.usage.specs.Limits.{states}
 use Rattle.automaton.specs.Mask.{has, union}
 use Rattle.automaton.proofs.MaskLaws.{has-or, or-assoc}
-use Rattle.checker_account.specs.Tables.{over, base, unnamed, forgotten, begun, Rows, secondEnds, freshEnds}
-use Rattle.checker_account.proofs.CodeLaws.{made-none, made-some}
+use Rattle.checker_account.specs.Tables.{over}
 use Rattle.checker_account.proofs.MaskLaws.{has-half}
 use Rattle.checker_tables.specs.ByState.{ByState}
 
@@ -101,7 +100,7 @@ union-or f v w (suc n) =
     ∙ exchange (union n (λ q. cond (has v q) (f q) 0)) (union n (λ q. cond (has w q) (f q) 0)) (cond (has v n) (f n) 0)
     (cond (has w n) (f n) 0)
 
-over-or : (f : ℕ → ℕ) (v w : ℕ) → over f (bitOr v w) ≡ bitOr (over f v) (over f w)
+pub over-or : (f : ℕ → ℕ) (v w : ℕ) → over f (bitOr v w) ≡ bitOr (over f v) (over f w)
 unfolding over
 over-or f v w = union-or f v w states
 
@@ -111,73 +110,6 @@ union-low f v zero h = refl
 union-low f v (suc n) h =
     ap₂ (λ (a b : ℕ). bitOr a b) (union-low f v n (omega arith)) (ap (λ (b : Bool). cond b (f n) 0) (has-half false v n (omega arith)))
 
-over-low : (f : ℕ → ℕ) (v : ℕ) → over f v ≡ over f (v % 256)
+pub over-low : (f : ℕ → ℕ) (v : ℕ) → over f v ≡ over f (v % 256)
 unfolding over
 over-low f v = union-low f v states (omega arith)
-
--- ── What follows on a node that ended in v ──
-
-module _ (t : List ℕ) (b m v : ℕ) where
-  pub second-unmade : m ≡ 0 → bitOr (over (λ q. getD t (base b m + q) 0) v)
-      (over (λ q. getD t (base b unnamed + q) 0) (v / 256)) ≡ secondEnds t b m v
-  second-unmade e = go m e
-    where
-      go : (m : ℕ) → m ≡ 0
-          → bitOr (over (λ q. getD t (base b m + q) 0) v) (over (λ q. getD t (base b unnamed + q) 0) (v / 256)) ≡ secondEnds t b m v
-      go zero e = ap (λ (n : ℕ). bitOr n (over (λ q. getD t (base b unnamed + q) 0) (v / 256))) (over-low (λ q. getD t (base b 0 + q) 0) v)
-      go (suc m) e = absurd (omega arith)
-
-  pub second-made : (m ≡ 0 → ⊥) → over (λ q. getD t (base b m + q) 0) (bitOr v (v / 256)) ≡ secondEnds t b m v
-  second-made d = go m d
-    where
-      go : (m : ℕ) → (m ≡ 0 → ⊥) → over (λ q. getD t (base b m + q) 0) (bitOr v (v / 256)) ≡ secondEnds t b m v
-      go zero d = absurd (d refl)
-      go (suc m) d =
-          over-or (λ q. getD t (base b (suc m) + q) 0) v (v / 256)
-          ∙ ap (λ (n : ℕ). bitOr n (over (λ q. getD t (base b (suc m) + q) 0) (v / 256))) (over-low (λ q. getD t (base b (suc m) + q) 0) v)
-
--- ── The rules, eight starts at once ──
-
-module _ (t : List ℕ) (a b m : ℕ) (v high r : List ℕ) (at-a : ByState states (λ q. getD t (base a m + q) 0) v)
-    (upper : ByState states (λ q. getD v q 0 / 256) high) where
-  pub second-first : (same made : List ℕ) → m ≡ 0 → ByState states (λ q. over (λ j. getD t (base b m + j) 0) (getD v q 0)) same
-      → ByState states (λ q. over (λ j. getD t (base b unnamed + j) 0) (getD high q 0)) made
-      → ByState states (λ q. bitOr (getD same q 0) (getD made q 0)) r
-      → ByState states (λ q. secondEnds t b m (getD t (base a m + q) 0)) r
-  second-first same made z s w h =
-      by-as (λ q. secondEnds t b m (getD t (base a m + q) 0)) (λ q. bitOr (getD same q 0) (getD made q 0)) r h (λ q l.
-      ap₂ (λ (x y : ℕ). bitOr x y) (s .held q l) (w .held q l ∙ ap (over (λ j. getD t (base b unnamed + j) 0)) (upper .held q l))
-      ∙ second-unmade t b m (getD v q 0) z
-      ∙ ap (secondEnds t b m) (at-a .held q l))
-
-  pub second-later : (both : List ℕ) → (m ≡ 0 → ⊥) → ByState states (λ q. bitOr (getD v q 0) (getD high q 0)) both
-      → ByState states (λ q. over (λ j. getD t (base b m + j) 0) (getD both q 0)) r
-      → ByState states (λ q. secondEnds t b m (getD t (base a m + q) 0)) r
-  second-later both z s h =
-      by-as (λ q. secondEnds t b m (getD t (base a m + q) 0)) (λ q. over (λ j. getD t (base b m + j) 0) (getD both q 0)) r h (λ q l.
-      ap (over (λ j. getD t (base b m + j) 0)) (s .held q l ∙ ap (bitOr (getD v q 0)) (upper .held q l))
-      ∙ second-made t b m (getD v q 0) z
-      ∙ ap (secondEnds t b m) (at-a .held q l))
-
-module _ (t : List ℕ) (rows : Rows) (k n b m f : ℕ) (v other : List ℕ) (to : f ≡ forgotten m n) (from : ByState states (rows k false) v)
-    (others : ByState states (λ q. over (λ j. getD t (base b f + j) 0) (getD v q 0)) other) where
-  pub other-is : (q : ℕ) → q < states → getD other q 0 ≡ begun t b (forgotten m n) (rows k false q)
-  other-is q l = others .held q l ∙ ap₂ (begun t b) to (from .held q l)
-
-  pub fresh-later : (m ≡ 0 → ⊥) → ByState states (freshEnds rows t k n b m) other
-  fresh-later d = record {
-    len = others .len;
-    held = λ q l.
-        other-is q l ∙ sym (or-zero-r (begun t b (forgotten m n) (rows k false q)))
-        ∙ ap (λ (c : Bool). bitOr (begun t b (forgotten m n) (rows k false q)) (cond c 0 (begun t b (suc n) (rows k true q))))
-        (sym (made-some m d));
-  }
-
-  pub fresh-first : (w own r : List ℕ) → m ≡ 0 → ByState states (rows k true) w
-      → ByState states (λ q. over (λ j. getD t (base b (n + 1) + j) 0) (getD w q 0)) own
-      → ByState states (λ q. bitOr (getD other q 0) (getD own q 0)) r → ByState states (freshEnds rows t k n b m) r
-  fresh-first w own r z s o h =
-      by-as (freshEnds rows t k n b m) (λ q. bitOr (getD other q 0) (getD own q 0)) r h (λ q l.
-      ap₂ (λ (x y : ℕ). bitOr x y) (other-is q l) (o .held q l ∙ ap₂ (begun t b) (add-one n) (s .held q l))
-      ∙ ap (λ (c : Bool). bitOr (begun t b (forgotten m n) (rows k false q)) (cond c 0 (begun t b (suc n) (rows k true q))))
-      (sym (made-none m z)))

@@ -1,5 +1,5 @@
 -- Arrivals that are entered into the table of what is come to, one after the other.
-use Prim.Native.Nat.{ℕ, _<_}
+use Prim.Native.Nat.{ℕ, _<_, _≤_}
 use mathlib.Core.Path.{_≡_, refl, sym, ap, _∙_, subst}
 use mathlib.Core.Bool.{Bool, _||_, cond}
 use mathlib.Core.List.{List, [], _∷_, _++_}
@@ -9,11 +9,11 @@ use borrow.Author.Tests.{lt-ltb}
 use Rattle.usage.specs.Limits.{mostNodes}
 use Rattle.usage.proofs.Logic.{and-both}
 use Rattle.checker_account.specs.declared.Arrival.{Arrival}
-use Rattle.checker_account.specs.Tables.{joinedAt, meanings, place, places}
+use Rattle.checker_account.specs.Tables.{joinedAt, meanings, groupIn, lateGroup, place}
 use Rattle.checker_account.specs.Filling.{entered}
 use Rattle.checker_account.proofs.GrowsLaws.{Grows, grown-two}
 use Rattle.checker_account.proofs.PassLaws.{entered-grows}
-use Rattle.checker_tables.specs.Search.{Enters, comeTo}
+use Rattle.checker_tables.specs.Search.{groupEnd, Enters, comeTo}
 
 entered-more : (gs hs : List Arrival) (u : List ℕ) → entered (gs ++ hs) u ≡ entered hs (entered gs u)
 unfolding entered
@@ -33,19 +33,23 @@ enters-both gs hs u v w a b s t = (
   ),
 )
 
-pub enters-length : (gs : List Arrival) (u v : List ℕ) (a : Bool) → length u ≡ places → Enters gs u v a → length v ≡ places
-enters-length gs u v a e s = enters-grows gs u v a s .len ∙ e
+pub enters-length : (gs : List Arrival) (u v : List ℕ) (a : Bool) → Enters gs u v a → length v ≡ length u
+enters-length gs u v a s = enters-grows gs u v a s .len
 
 -- ── The same arrival, told otherwise ──
 
 pub enters-as : (g h : Arrival) (u v : List ℕ) (a : Bool) → g ≡ h → Enters (g ∷ []) u v a → Enters (h ∷ []) u v a
 enters-as g h u v a e s = subst (λ (i : Arrival). Enters (i ∷ []) u v a) e s
 
-abbrev pub Inside : Arrival → Type 0
-Inside g = (g .to < mostNodes) × (g .meaning < meanings)
+-- it has a place in a table of n places
+abbrev pub Room : ℕ → Arrival → Type 0
+Room n g = (g .to < mostNodes) × ((groupIn (g .meaning) ≤ lateGroup) × (groupEnd (groupIn (g .meaning)) ≤ n))
 
-pub inside-as : (g h : Arrival) → g ≡ h → Inside h → Inside g
-inside-as g h e i = subst Inside (sym e) i
+pub room-as : (n : ℕ) (g h : Arrival) → g ≡ h → Room n h → Room n g
+room-as n g h e i = subst (Room n) (sym e) i
+
+pub room-in : {n m : ℕ} (g : Arrival) → m ≡ n → Room n g → Room m g
+room-in g e i = subst (λ (k : ℕ). Room k g) (sym e) i
 
 -- ── Reading it ──
 

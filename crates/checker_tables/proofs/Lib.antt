@@ -4,6 +4,10 @@ pub mod FitLaws
 pub mod MeaningLaws
 -- Eight sets at once.
 pub mod ByStateLaws
+-- The rules of the table of ends.
+pub mod RuleLaws
+-- The numbers of entries.
+pub mod NumberLaws
 -- What is left of a match.
 pub mod OtherLaws
 -- The nodes that are left, and those that read a node.

@@ -14,7 +14,8 @@ use Rattle.usage.specs.Outline.{formOf}
 use Rattle.usage.specs.Tests.{someBelow}
 use Rattle.usage.proofs.Logic.{false-true, or-left}
 use Rattle.automaton.specs.Mask.{union}
-use Rattle.checker_account.specs.Tables.{least, rowsIn}
+use Rattle.checker_account.specs.declared.Resources.{Resources}
+use Rattle.checker_account.specs.Tables.{rowsIn}
 use Rattle.checker_account.specs.Filling.{formsIn, hitNode, hitAny}
 use Rattle.checker_tables.specs.Search.{ArrivesIf}
 use Rattle.checker_tables.specs.Marks.{lastIn, markBit, hitMarks, marksIn, MarkedIf}
@@ -37,7 +38,7 @@ no-marks (suc n) test f e = go (test n) refl (no-marks n test f)
     go false h ih = rw (h, ih (sym (ap (λ (b : Bool). b || someBelow test n) h) ∙ e)) refl
 
 -- a search that finds nothing leaves no mark
-pub unmarked : (room : Bool) (nodes : List ℕ) (local : Bool) (rows : List ℕ) (p x : ℕ) (u : List ℕ) (answer : Bool) → answer ≡ false
+pub unmarked : (room : Bool) (nodes : List ℕ) (local : Bool) (rows : List ℕ) (p : ℕ) (x : Resources) (u : List ℕ) (answer : Bool) → answer ≡ false
     → ArrivesIf room nodes local rows p x u answer → MarkedIf room nodes local rows p x 0
 unfolding hitAny hitMarks
 unmarked true nodes local rows p x u answer e h = record {
@@ -45,19 +46,19 @@ unmarked true nodes local rows p x u answer e h = record {
   comes = u;
   ends-filled = h .arrived .ends-filled;
   comes-filled = h .arrived .comes-filled;
-  told = sym (no-marks (length nodes / nodeFields) (λ k. hitNode local (rowsIn rows) p x u (least x) k (formsIn nodes k))
+  told = sym (no-marks (length nodes / nodeFields) (λ k. hitNode local (rowsIn rows) p x u k (formsIn nodes k))
       (λ k. markBit (lastIn (formsIn nodes k))) (sym (h .told) ∙ e));
 }
 unmarked false nodes local rows p x u answer e h = refl
 
 -- where it finds something, the tables have room, and the marks are those of all nodes
-pub found-room : (room : Bool) (nodes : List ℕ) (local : Bool) (rows : List ℕ) (p x : ℕ) (u : List ℕ) (answer : Bool) → answer ≡ true
+pub found-room : (room : Bool) (nodes : List ℕ) (local : Bool) (rows : List ℕ) (p : ℕ) (x : Resources) (u : List ℕ) (answer : Bool) → answer ≡ true
     → ArrivesIf room nodes local rows p x u answer → room ≡ true
 found-room true nodes local rows p x u answer e h = refl
 found-room false nodes local rows p x u answer e h = sym (h .0) ∙ e
 
-pub all-marked : (room : Bool) (nodes : List ℕ) (local : Bool) (rows : List ℕ) (p x : ℕ) (u : List ℕ) (answer : Bool) (marks : ℕ)
-    → answer ≡ true → marks ≡ marksIn nodes local rows u p x (least x)
+pub all-marked : (room : Bool) (nodes : List ℕ) (local : Bool) (rows : List ℕ) (p : ℕ) (x : Resources) (u : List ℕ) (answer : Bool) (marks : ℕ)
+    → answer ≡ true → marks ≡ marksIn nodes local rows u p x
     → ArrivesIf room nodes local rows p x u answer → MarkedIf room nodes local rows p x marks
 all-marked true nodes local rows p x u answer marks e m h = record {
   ends = h .arrived .ends;

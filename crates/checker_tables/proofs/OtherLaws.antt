@@ -9,6 +9,7 @@ use Rattle.outline_nodes.specs.declared.NodeForm.the-variants.{End, OnStatic, O
 use Rattle.outline_nodes.specs.declared.NodeForm.the-variants.{Loop, Back, Fresh, Sandbox, Nothing}
 use Rattle.outline_nodes.specs.Said.{saidBy}
 use Rattle.outline_nodes.proofs.SaidLaws.{tag}
+use Rattle.checker_account.specs.declared.Resources.{Resources}
 use Rattle.checker_account.specs.Tables.{Rows, arrivals, leaves}
 use Rattle.checker_account.specs.Filling.{arrivalsOf, leavesOf}
 use Rattle.checker_tables.specs.Search.{isOn, small}
@@ -43,7 +44,7 @@ no-number (Sandbox s b) h = absurd (miss (0 ∷ 9 ∷ []) 8 tt h)
 no-number Nothing h = refl
 
 -- they take no step
-pub no-step : (local : Bool) (rows : Rows) (p x : ℕ) (u : List ℕ) (k m : ℕ) (f : NodeForm)
+pub no-step : (local : Bool) (rows : Rows) (p : ℕ) (x : Resources) (u : List ℕ) (k m : ℕ) (f : NodeForm)
     → OneOf (0 ∷ 3 ∷ 4 ∷ 5 ∷ 6 ∷ 9 ∷ []) (tag f) → 0 ≡ leavesOf local rows p x u k m (saidBy f)
 unfolding leaves
 no-step local rows p x u k m End h = refl
@@ -71,19 +72,19 @@ no-mark (Sandbox s b) h = absurd (miss (0 ∷ 3 ∷ 4 ∷ 5 ∷ 6 ∷ 9 ∷ []) 
 no-mark Nothing h = refl
 
 -- they lead to nothing
-pub no-arrivals : (local : Bool) (rows : Rows) (p : ℕ) (t : List ℕ) (k : ℕ) (o : Bool) (m v : ℕ) (f : NodeForm)
-    → OneOf (0 ∷ 1 ∷ 2 ∷ 9 ∷ []) (tag f) → arrivalsOf local rows p t k o m v (saidBy f) ≡ []
+pub no-arrivals : (local : Bool) (rows : Rows) (p : ℕ) (x : Resources) (t : List ℕ) (k : ℕ) (o : Bool) (m v : ℕ) (f : NodeForm)
+    → OneOf (0 ∷ 1 ∷ 2 ∷ 9 ∷ []) (tag f) → arrivalsOf local rows p x t k o m v (saidBy f) ≡ []
 unfolding arrivals
-no-arrivals local rows p t k o m v End h = refl
-no-arrivals local rows p t k o m v (OnStatic a s) h = refl
-no-arrivals local rows p t k o m v (OnName a n) h = refl
-no-arrivals local rows p t k o m v (Sequence a b) h = absurd (miss (0 ∷ 1 ∷ 2 ∷ 9 ∷ []) 3 tt h)
-no-arrivals local rows p t k o m v (Choice a b) h = absurd (miss (0 ∷ 1 ∷ 2 ∷ 9 ∷ []) 4 tt h)
-no-arrivals local rows p t k o m v (Loop a) h = absurd (miss (0 ∷ 1 ∷ 2 ∷ 9 ∷ []) 5 tt h)
-no-arrivals local rows p t k o m v (Back a) h = absurd (miss (0 ∷ 1 ∷ 2 ∷ 9 ∷ []) 6 tt h)
-no-arrivals local rows p t k o m v (Fresh n b) h = absurd (miss (0 ∷ 1 ∷ 2 ∷ 9 ∷ []) 7 tt h)
-no-arrivals local rows p t k o m v (Sandbox s b) h = absurd (miss (0 ∷ 1 ∷ 2 ∷ 9 ∷ []) 8 tt h)
-no-arrivals local rows p t k o m v Nothing h = refl
+no-arrivals local rows p x t k o m v End h = refl
+no-arrivals local rows p x t k o m v (OnStatic a s) h = refl
+no-arrivals local rows p x t k o m v (OnName a n) h = refl
+no-arrivals local rows p x t k o m v (Sequence a b) h = absurd (miss (0 ∷ 1 ∷ 2 ∷ 9 ∷ []) 3 tt h)
+no-arrivals local rows p x t k o m v (Choice a b) h = absurd (miss (0 ∷ 1 ∷ 2 ∷ 9 ∷ []) 4 tt h)
+no-arrivals local rows p x t k o m v (Loop a) h = absurd (miss (0 ∷ 1 ∷ 2 ∷ 9 ∷ []) 5 tt h)
+no-arrivals local rows p x t k o m v (Back a) h = absurd (miss (0 ∷ 1 ∷ 2 ∷ 9 ∷ []) 6 tt h)
+no-arrivals local rows p x t k o m v (Fresh n b) h = absurd (miss (0 ∷ 1 ∷ 2 ∷ 9 ∷ []) 7 tt h)
+no-arrivals local rows p x t k o m v (Sandbox s b) h = absurd (miss (0 ∷ 1 ∷ 2 ∷ 9 ∷ []) 8 tt h)
+no-arrivals local rows p x t k o m v Nothing h = refl
 
 -- they read no other node
 pub no-noted : (k : ℕ) (u : List ℕ) (f : NodeForm) → OneOf (0 ∷ 1 ∷ 2 ∷ 9 ∷ []) (tag f) → u ≡ noted k (saidBy f) u

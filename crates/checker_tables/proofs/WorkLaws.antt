@@ -12,7 +12,7 @@ use lib.Dec.{eqb, leb, lit<}
 use lib.Bits.{bitOr, or-lt}
 use lib.Pow.{pow-pos, pow-lt, pow-mono, ones-lt, low, field, mod-mod-pow, shl-shr, shl-exact}
 use lib.Count.{leadingZeros, leading-top}
-use lib.ListN.{length, getD, replicate}
+use lib.ListN.{length, getD, replicate, length-replicate}
 use lib.Seq.{getD-set-same}
 use borrow.Author.Tests.{leb-true, leb-false}
 use Rattle.usage.specs.Limits.{mostNodes, nodeFields}
@@ -22,7 +22,8 @@ use Rattle.usage.proofs.Logic.{last-or-lower, not-both, false-true}
 use Rattle.automaton.specs.Mask.{has}
 use Rattle.automaton.proofs.MaskLaws.{all-below, all-below-at, has-or, has-zero}
 use Rattle.checker_account.specs.Single.{noName}
-use Rattle.checker_account.specs.Tables.{base, Rows, Resets, joinedAt, places, meanings}
+use Rattle.checker_account.specs.declared.Resources.{Resources}
+use Rattle.checker_account.specs.Tables.{base, Rows, Resets, joinedAt, placesOf}
 use Rattle.checker_account.specs.Filling.{
   repeat,
   total,
@@ -42,7 +43,7 @@ use Rattle.checker_account.proofs.MaskLaws.{has-right}
 use Rattle.checker_account.proofs.JoinLaws.{joined-keeps, joined-below, zeros, zeros-wide}
 use Rattle.checker_account.proofs.GrowsLaws.{Grows, joined-grows, grown-false, repeat-keeps, Filling, filling-length, most, nearer}
 use Rattle.checker_account.proofs.SettleLaws.{node-grows, node-derived, WideLent, node-wide}
-use Rattle.checker_account.proofs.SettledLaws.{in-still, Named, Beside, NodeClosed, node-beside, node-done, node-unchanged, node-kept}
+use Rattle.checker_account.proofs.SettledLaws.{in-still, Placed, Beside, NodeClosed, node-beside, node-done, node-unchanged, node-kept}
 use Rattle.checker_account.proofs.SettledLaws.{PartOf, first, second, left, right, body, again, given, inside, Reads}
 use Rattle.checker_tables.specs.Search.{Small, NodesFit}
 use Rattle.checker_tables.specs.Work.{noted, readersOf}
@@ -227,52 +228,50 @@ module _ (forms : Forms) where
 
 -- ── The loop ──
 
-small-named : (f : Option Form) → Small f → Named f
-small-named none h = tt
-small-named (some end) h = tt
-small-named (some (on-static a s)) h = tt
-small-named (some (on-name a n)) h = tt
-small-named (some (sequence a b)) h = tt
-small-named (some (choice a b)) h = tt
-small-named (some (loop a)) h = tt
-small-named (some (back a)) h = tt
-small-named (some (fresh n b)) h = h .0
-small-named (some (sandbox s b)) h = tt
+small-placed : (f : Option Form) → Small f → Placed f
+small-placed (some (sequence a b)) h j first = h .0
+small-placed (some (sequence a b)) h j second = h .1
+small-placed (some (choice a b)) h j left = h .0
+small-placed (some (choice a b)) h j right = h .1
+small-placed (some (loop a)) h j body = h
+small-placed (some (back a)) h j again = h
+small-placed (some (fresh n b)) h j given = h .1
+small-placed (some (sandbox s b)) h j inside = h
 
-pub named-forms : (t : List ℕ) → NodesFit t → (k : ℕ) → k < length t / nodeFields → Named (formsIn t k)
-named-forms t h k l = small-named (formsIn t k) (h .each-small k l)
+pub placed-forms : (t : List ℕ) → NodesFit t → (k : ℕ) → k < length t / nodeFields → Placed (formsIn t k)
+placed-forms t h k l = small-placed (formsIn t k) (h .each-small k l)
 
 -- the table so far, and the nodes that are left: no rule adds anything to the entries of the others
-pub record Working (rows : Rows) (x : ℕ) (resets : Resets) (l n : ℕ) (forms : Forms) (t : List ℕ) (s : ℕ) : Type 0 where
-  pub filling : Filling (EndsRule rows x resets l n forms) (replicate places 0) t
+pub record Working (rows : Rows) (x : Resources) (resets : Resets) (n : ℕ) (forms : Forms) (t : List ℕ) (s : ℕ) : Type 0 where
+  pub filling : Filling (EndsRule rows x resets n forms) (replicate (placesOf x) 0) t
   pub nodes : s < 2 ^ n
-  pub closed : (k : ℕ) → k < n → has s k ≡ false → NodeClosed rows x resets l k (forms k) t
+  pub closed : (k : ℕ) → k < n → has s k ≡ false → NodeClosed rows x resets k (forms k) t
 
 -- A turn of the loop makes the table's sum greater, or takes a node away and adds none.
-abbrev pub leftOf : List ℕ → ℕ → ℕ
-leftOf t s = (most - total t) * 18446744073709551616 + s
+abbrev pub leftOf : ℕ → List ℕ → ℕ → ℕ
+leftOf size t s = (most size - total t) * 18446744073709551616 + s
 
-module _ (rows : Rows) (x : ℕ) (resets : Resets) (l n : ℕ) (forms : Forms) (few : n ≤ mostNodes) where
-  pub working-start : Working rows x resets l n forms (replicate places 0) (2 ^ n - 1)
+module _ (rows : Rows) (x : Resources) (resets : Resets) (n : ℕ) (forms : Forms) (few : n ≤ mostNodes) where
+  pub working-start : Working rows x resets n forms (replicate (placesOf x) 0) (2 ^ n - 1)
   working-start = record {
-    filling = record { derived = start; wide = zeros-wide places };
+    filling = record { derived = start; wide = zeros-wide (placesOf x) };
     nodes = ones-lt n;
     closed = λ k b h. not-both (has (2 ^ n - 1) k) (all-left n k few b) h;
   }
 
-  pub working-length : {t : List ℕ} {s : ℕ} → Working rows x resets l n forms t s → length t ≡ places
-  working-length {t} w = filling-length (EndsRule rows x resets l n forms) (replicate places 0) t refl (w .filling)
+  pub working-length : {t : List ℕ} {s : ℕ} → Working rows x resets n forms t s → length t ≡ placesOf x
+  working-length {t} w = filling-length (placesOf x) (EndsRule rows x resets n forms) (replicate (placesOf x) 0) t (length-replicate {A = ℕ} (placesOf x) 0) (w .filling)
 
-  rule-closed : {t : List ℕ} {i v : ℕ} → Working rows x resets l n forms t 0 → EndsRule rows x resets l n forms t i v → joinedAt t i v ≡ t
+  rule-closed : {t : List ℕ} {i v : ℕ} → Working rows x resets n forms t 0 → EndsRule rows x resets n forms t i v → joinedAt t i v ≡ t
   rule-closed {t} w (ends-of k m q b low high lq) =
       in-still t (base k m + q) (endsOf rows x resets t k m q (forms k)) (w .closed k b (has-zero k) m q low high lq)
 
-  pub working-ends : {t : List ℕ} → Working rows x resets l n forms t 0 → Filled (EndsRule rows x resets l n forms) (replicate places 0) t
+  pub working-ends : {t : List ℕ} → Working rows x resets n forms t 0 → Filled (EndsRule rows x resets n forms) (replicate (placesOf x) 0) t
   working-ends w = record { derived = w .filling .derived; closed = λ i v r. rule-closed w r }
 
   -- node k, the highest that is left, is settled
-  module _ (t u : List ℕ) (s k : ℕ) (w : Working rows x resets l n forms t s) (low-is : 2 ^ k ≤ s) (high-is : s < 2 ^ suc k)
-      (e : u ≡ settleNode rows x resets l k (forms k) t) where
+  module _ (t u : List ℕ) (s k : ℕ) (w : Working rows x resets n forms t s) (low-is : 2 ^ k ≤ s) (high-is : s < 2 ^ suc k)
+      (e : u ≡ settleNode rows x resets k (forms k) t) where
     pub there : k < n
     there = highest-lt s k low-is high-is n (w .nodes)
 
@@ -280,7 +279,7 @@ module _ (rows : Rows) (x : ℕ) (resets : Resets) (l n : ℕ) (forms : Forms) (
     small = let b = there in omega arith
 
     grows : Grows t u
-    grows = subst (Grows t) (sym e) (node-grows rows x resets l k (forms k) t)
+    grows = subst (Grows t) (sym e) (node-grows rows x resets k (forms k) t)
 
     fewer : s - 2 ^ k < 2 ^ n
     fewer = let b = w .nodes in omega arith
@@ -289,38 +288,38 @@ module _ (rows : Rows) (x : ℕ) (resets : Resets) (l n : ℕ) (forms : Forms) (
       same : u ≡ t
       same = grown-false grows g
 
-      pub still-working : Working rows x resets l n forms u (s - 2 ^ k)
-      still-working = subst (λ (v : List ℕ). Working rows x resets l n forms v (s - 2 ^ k)) (sym same) (record {
+      pub still-working : Working rows x resets n forms u (s - 2 ^ k)
+      still-working = subst (λ (v : List ℕ). Working rows x resets n forms v (s - 2 ^ k)) (sym same) (record {
         filling = w .filling;
         nodes = fewer;
         closed = λ j b h. go j b (taken s k low-is high-is j h);
       })
         where
-          go : (j : ℕ) → j < n → (j ≡ k) ⊎ (has s j ≡ false) → NodeClosed rows x resets l j (forms j) t
+          go : (j : ℕ) → j < n → (j ≡ k) ⊎ (has s j ≡ false) → NodeClosed rows x resets j (forms j) t
           go j b (inl d) =
-              subst (λ (i : ℕ). NodeClosed rows x resets l i (forms i) t) (sym d)
-              (node-unchanged rows x resets l k (forms k) t (working-length w) small (sym e ∙ same))
+              subst (λ (i : ℕ). NodeClosed rows x resets i (forms i) t) (sym d)
+              (node-unchanged rows x resets k (forms k) small t (working-length w) (sym e ∙ same))
           go j b (inr h) = w .closed j b h
 
-      pub still-less : leftOf u (s - 2 ^ k) < leftOf t s
+      pub still-less : leftOf (placesOf x) u (s - 2 ^ k) < leftOf (placesOf x) t s
       still-less = let d : total u ≡ total t = ap total same in let b = pow-pos k in omega arith
 
-    module _ (lent : WideLent resets) (named : (j : ℕ) → j < n → Named (forms j)) (less : l ≤ meanings) (g : grown t u ≡ true) where
+    module _ (lent : WideLent resets) (placed : (j : ℕ) → j < n → Placed (forms j)) (g : grown t u ≡ true) where
       abbrev readers : ℕ
       readers = getD (readersOf n forms) k 0
 
       wide : Wide u
-      wide = subst Wide (sym e) (node-wide rows x resets lent l k (forms k) t (w .filling .wide))
+      wide = subst Wide (sym e) (node-wide rows x resets lent k (forms k) t (w .filling .wide))
 
       beside : Beside k u t
-      beside = subst (λ (v : List ℕ). Beside k v t) (sym e) (node-beside rows x resets l k (forms k) t less)
+      beside = subst (λ (v : List ℕ). Beside k v t) (sym e) (node-beside rows x resets k (forms k) small t)
 
-      pub more-working : Working rows x resets l n forms u (bitOr (s - 2 ^ k) readers)
+      pub more-working : Working rows x resets n forms u (bitOr (s - 2 ^ k) readers)
       more-working = record {
         filling = record {
           derived =
-              subst (Derived (EndsRule rows x resets l n forms) (replicate places 0)) (sym e)
-              (node-derived rows x resets l n forms (replicate places 0) k t there (w .filling .derived));
+              subst (Derived (EndsRule rows x resets n forms) (replicate (placesOf x) 0)) (sym e)
+              (node-derived rows x resets n forms (replicate (placesOf x) 0) k t there (w .filling .derived));
           wide = wide;
         };
         nodes = or-lt n (s - 2 ^ k) readers fewer (readers-below forms n k);
@@ -329,14 +328,15 @@ module _ (rows : Rows) (x : ℕ) (resets : Resets) (l n : ℕ) (forms : Forms) (
       }
         where
           go : (j : ℕ) → j < n → (Reads (forms j) k → ⊥) → Dec (j ≡ k) → (j ≡ k) ⊎ (has s j ≡ false)
-              → NodeClosed rows x resets l j (forms j) u
+              → NodeClosed rows x resets j (forms j) u
           go j b away (yes d) h =
-              subst (λ (i : ℕ). NodeClosed rows x resets l i (forms i) u) (sym d)
-              (subst (NodeClosed rows x resets l k (forms k)) (sym e)
-              (node-done rows x resets l k (forms k) t (working-length w) small (named k there)
-              (λ r. away (subst (λ (i : ℕ). Reads (forms i) k) (sym d) r)) less))
+              subst (λ (i : ℕ). NodeClosed rows x resets i (forms i) u) (sym d)
+              (subst (NodeClosed rows x resets k (forms k)) (sym e)
+              (node-done rows x resets k (forms k) small t (working-length w) (placed k there)
+              (λ r. away (subst (λ (i : ℕ). Reads (forms i) k) (sym d) r))))
           go j b away (no d) (inl f) = absurd (d f)
-          go j b away (no d) (inr h) = node-kept rows x resets l k j (forms j) t u beside d (named j b) away (w .closed j b h)
+          go j b away (no d) (inr h) =
+              node-kept rows x resets k j (forms j) t u beside d (omega arith) (placed j b) away (w .closed j b h)
 
-      pub more-less : (s′ : ℕ) → s′ < 18446744073709551616 → leftOf u s′ < leftOf t s
-      more-less s′ b = let m = nearer t u (grows .len ∙ working-length w) wide g in omega arith
+      pub more-less : (s′ : ℕ) → s′ < 18446744073709551616 → leftOf (placesOf x) u s′ < leftOf (placesOf x) t s
+      more-less s′ b = let m = nearer (placesOf x) t u (grows .len ∙ working-length w) wide g in omega arith

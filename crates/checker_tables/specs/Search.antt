@@ -1,19 +1,23 @@
 -- What the functions compute beside the tables of checker_account: meanings that are lost, what the tables have room for, and the
 -- answers for inputs for which they have none.
-use Prim.Native.Nat.{ℕ, _+_, _*_, _/_, _<_, _≤_}
+use Prim.Native.Nat.{ℕ, suc, _+_, _*_, _/_, _<_, _≤_}
 use mathlib.Core.Path.{_≡_}
 use mathlib.Core.Bool.{Bool, true, false, not, _&&_, _||_, cond}
 use mathlib.Core.Option.{Option, none, some}
-use mathlib.Core.List.{List}
+use mathlib.Core.List.{List, [], _∷_}
 use lib.Dec.{eqb, ltb, leb}
+use lib.Bits.{bitOr}
 use lib.ListN.{length, getD, replicate}
 use Rattle.usage.specs.Limits.{actions, policies, mostNodes, nodeFields}
 use Rattle.usage.specs.Outline.{Form, end, on-static, on-name, sequence, choice, loop, back, fresh, sandbox}
 use Rattle.usage.specs.Tests.{someBelow}
-use Rattle.checker_account.specs.Account.{watched}
+use Rattle.checker_account.specs.Account.{watched, others}
 use Rattle.checker_account.specs.Single.{noName}
 use Rattle.checker_account.specs.declared.Arrival.{Arrival}
-use Rattle.checker_account.specs.Tables.{unnamed, meanings, places, least, rowsIn, place, Resets, never, opening-of}
+use Rattle.checker_account.specs.declared.Resources.{Resources}
+use Rattle.checker_account.specs.Tables.{unnamed, meanings, made, numbered, meaningIn, lateGroup, forgottenIn, firstNamed}
+use Rattle.checker_account.specs.Tables.{layer, placesOf, Rows, rowOn, rowsIn, begun, over, firstCreated, place, _by_by_with_}
+use Rattle.checker_account.specs.Tables.{Resets, never, opening-of}
 use Rattle.checker_account.specs.Filling.{grown, Wide, entered, formsIn, EndsRule, EndsFilled, ComesRule, passRound}
 use Rattle.checker_account.specs.Filling.{begins, Filled, hitAny, Searched}
 
@@ -75,6 +79,26 @@ pub record NodesFit (t : List ℕ) : Type 0 where
 unfoldable pub hasRoom : List ℕ → Bool
 hasRoom t = leb (length t / nodeFields) mostNodes && not (someBelow (λ k. not (small (formsIn t k))) (length t / nodeFields))
 
+-- the places of the entries of all groups up to g, and those of a table with both dynamic resources watched
+abbrev pub groupEnd : ℕ → ℕ
+groupEnd g = layer * (meanings * suc g)
+
+abbrev pub pairPlaces : ℕ
+pairPlaces = numbered 0 (suc lateGroup) * layer
+
+-- ── Creations ──
+
+-- what the body b of a fresh node k ends in, name n given to another resource, or to 16 where it can still be created
+abbrev pub firstEnds : Rows → Resources → List ℕ → ℕ → ℕ → ℕ → ℕ → ℕ → ℕ
+firstEnds rows x t k n b e q =
+    bitOr (begun t b (forgottenIn e n) (rowOn rows x k others q))
+    (cond (made (meaningIn e)) 0 (begun t b (firstNamed e n) (rowOn rows x k watched q)))
+
+-- the body of such a fresh node
+abbrev pub firstArrivals : Rows → Resources → ℕ → ℕ → ℕ → Bool → ℕ → ℕ → List Arrival
+firstArrivals rows x k n b o c v =
+    (b by o by forgottenIn c n with over (rowOn rows x k others) v) ∷ (b by o by firstNamed c n with firstCreated rows x k c v) ∷ []
+
 -- ── Arrivals ──
 
 -- the arrivals gs are entered into u, which gives u′; r tells whether any of them is new
@@ -89,39 +113,39 @@ resetsIf false p opened = never
 resetsIf true p opened = opening-of p opened
 
 -- the rules of the table of ends, and of the table of what is come to
-abbrev pub EndsBy : List ℕ → List ℕ → ℕ → Resets → ℕ → List ℕ → ℕ → ℕ → Type 0
-EndsBy nodes rows x resets l = EndsRule (rowsIn rows) x resets l (length nodes / nodeFields) (formsIn nodes)
+abbrev pub EndsBy : List ℕ → List ℕ → Resources → Resets → List ℕ → ℕ → ℕ → Type 0
+EndsBy nodes rows x resets = EndsRule (rowsIn rows) x resets (length nodes / nodeFields) (formsIn nodes)
 
-abbrev pub ComesBy : List ℕ → Bool → List ℕ → (Bool → List ℕ) → ℕ → ℕ → List ℕ → ℕ → ℕ → Type 0
-ComesBy nodes local rows t p l = ComesRule local (rowsIn rows) p t l (length nodes / nodeFields) (formsIn nodes)
+abbrev pub ComesBy : List ℕ → Bool → List ℕ → (Bool → List ℕ) → ℕ → Resources → List ℕ → ℕ → ℕ → Type 0
+ComesBy nodes local rows t p x = ComesRule local (rowsIn rows) p x t (length nodes / nodeFields) (formsIn nodes)
 
 -- a round of filling the table of what is come to
-abbrev pub comesRound : List ℕ → Bool → List ℕ → (Bool → List ℕ) → ℕ → ℕ → List ℕ → List ℕ
-comesRound nodes local rows t p l = passRound local (rowsIn rows) p t l (length nodes / nodeFields) (formsIn nodes)
+abbrev pub comesRound : List ℕ → Bool → List ℕ → (Bool → List ℕ) → ℕ → Resources → List ℕ → List ℕ
+comesRound nodes local rows t p x = passRound local (rowsIn rows) p x t (length nodes / nodeFields) (formsIn nodes)
 
 -- the step of some node leaves an offending state
-abbrev pub hitIn : List ℕ → Bool → List ℕ → List ℕ → ℕ → ℕ → ℕ → Bool
-hitIn nodes local rows u p x l = hitAny local (rowsIn rows) p x u l (length nodes / nodeFields) (formsIn nodes)
+abbrev pub hitIn : List ℕ → Bool → List ℕ → List ℕ → ℕ → Resources → Bool
+hitIn nodes local rows u p x = hitAny local (rowsIn rows) p x u (length nodes / nodeFields) (formsIn nodes)
 
 -- what the tables of ends lead to: u, the table of what is come to, and the answer
-pub record ArrivesBy (nodes : List ℕ) (local : Bool) (rows : List ℕ) (t : Bool → List ℕ) (p x l : ℕ) (u : List ℕ)
+pub record ArrivesBy (nodes : List ℕ) (local : Bool) (rows : List ℕ) (t : Bool → List ℕ) (p : ℕ) (x : Resources) (u : List ℕ)
     (answer : Bool) : Type 0 where
-  pub comes-filled : Filled (ComesBy nodes local rows t p l) (begins l) u
-  pub told : answer ≡ hitIn nodes local rows u p x l
+  pub comes-filled : Filled (ComesBy nodes local rows t p x) (begins x) u
+  pub told : answer ≡ hitIn nodes local rows u p x
 
--- u is the table of what is come to with the resource x watched
-pub record Arrived (nodes : List ℕ) (local : Bool) (rows : List ℕ) (p x : ℕ) (u : List ℕ) : Type 0 where
+-- u is the table of what is come to with the resources x watched
+pub record Arrived (nodes : List ℕ) (local : Bool) (rows : List ℕ) (p : ℕ) (x : Resources) (u : List ℕ) : Type 0 where
   pub ends : Bool → List ℕ
   pub ends-filled : EndsFilled local (rowsIn rows) p x (length nodes / nodeFields) (formsIn nodes) ends
-  pub comes-filled : Filled (ComesBy nodes local rows ends p (least x)) (begins (least x)) u
+  pub comes-filled : Filled (ComesBy nodes local rows ends p x) (begins x) u
 
 -- it, and the answer to whether policy p is broken
-pub record Arrives (nodes : List ℕ) (local : Bool) (rows : List ℕ) (p x : ℕ) (u : List ℕ) (answer : Bool) : Type 0 where
+pub record Arrives (nodes : List ℕ) (local : Bool) (rows : List ℕ) (p : ℕ) (x : Resources) (u : List ℕ) (answer : Bool) : Type 0 where
   pub arrived : Arrived nodes local rows p x u
-  pub told : answer ≡ hitIn nodes local rows u p x (least x)
+  pub told : answer ≡ hitIn nodes local rows u p x
 
--- the answer to whether policy p is broken for the watched resource x
-abbrev pub SearchedIn : List ℕ → Bool → List ℕ → ℕ → ℕ → Bool → Type 0
+-- the answer to whether policy p is broken for the watched resources x
+abbrev pub SearchedIn : List ℕ → Bool → List ℕ → ℕ → Resources → Bool → Type 0
 SearchedIn nodes local rows p x answer = Searched local (rowsIn rows) p x (length nodes / nodeFields) (formsIn nodes) answer
 
 -- ── For all inputs at all ──
@@ -131,11 +155,11 @@ unfoldable pub comeTo : List ℕ → ℕ → Bool → ℕ → ℕ
 comeTo u k o m = cond (ltb k mostNodes && ltb m meanings) (getD u (place k o m) 0) 0
 
 -- a policy is not broken where the tables have no room for the nodes
-abbrev pub SearchedIf : Bool → List ℕ → Bool → List ℕ → ℕ → ℕ → Bool → Type 0
+abbrev pub SearchedIf : Bool → List ℕ → Bool → List ℕ → ℕ → Resources → Bool → Type 0
 SearchedIf true nodes local rows p x answer = SearchedIn nodes local rows p x answer
 SearchedIf false nodes local rows p x answer = answer ≡ false
 
 -- nor is it then come to anything
-abbrev pub ArrivesIf : Bool → List ℕ → Bool → List ℕ → ℕ → ℕ → List ℕ → Bool → Type 0
+abbrev pub ArrivesIf : Bool → List ℕ → Bool → List ℕ → ℕ → Resources → List ℕ → Bool → Type 0
 ArrivesIf true nodes local rows p x u answer = Arrives nodes local rows p x u answer
-ArrivesIf false nodes local rows p x u answer = (answer ≡ false) × (u ≡ replicate places 0)
+ArrivesIf false nodes local rows p x u answer = (answer ≡ false) × (u ≡ replicate (placesOf x) 0)

@@ -1,75 +1,75 @@
 // The search for a violation: a node whose step leaves the policy open with an offending state, by the table of what is come to.
 ghost use mathlib.Core.Path.{_≡_};
 ghost use mathlib.Core.Bool.{Bool, true, false, cond};
-ghost use Prim.Native.Nat.{ℕ, _<_};
+ghost use Prim.Native.Nat.{ℕ, _<_, _≤_};
 ghost use lib.Bits.{bitOr};
 ghost use lib.ListN.{length, getD};
 ghost use Rattle.usage.specs.Limits.{mostNodes};
 ghost use Rattle.outline_nodes.specs.Said.{saidBy};
-ghost use Rattle.checker_account.specs.Tables.{meanings, least, rowsIn, restarted, place};
+ghost use Rattle.checker_account.specs.Tables.{lateGroup, groupIn, placesOf, rowsIn, restarted, place};
 ghost use Rattle.checker_account.specs.Filling.{leavesOf, hitNode};
-ghost use Rattle.checker_tables.specs.Search.{Small, NodesFit, hitIn};
+ghost use Rattle.checker_tables.specs.Search.{groupEnd, Small, NodesFit, hitIn};
 ghost use Rattle.checker_tables.specs.Marks.{lastIn, markBit, marksIn};
-use crate::Watch;
-use checker_account::MEANINGS;
 use checker_account::Table;
+use checker_account::Watch;
 use outline_nodes::NodeForm;
 use usage::NODE_FIELDS;
 
 // The states after the opening of the policy. Where it was not open, the opening resets under the local meaning.
-fn opened(u: &Table, local: bool, k: usize, m: usize, same: bool) -> u16
+fn opened(u: &[u16], local: bool, k: usize, c: usize, same: bool) -> u16
     requires { ⌜ k < mostNodes ⌝ }
-    requires { ⌜ m < meanings ⌝ }
+    requires { ⌜ groupIn (c) ≤ lateGroup ⌝ }
+    requires { ⌜ groupEnd (groupIn (c)) ≤ length (now u) ⌝ }
     ensures { λ r. ⌜ r ≡ cond same
-        (bitOr (restarted local (getD (now (u .entry)) (place k false m) 0)) (getD (now (u .entry)) (place k true m) 0)) 0 ⌝ }
+        (bitOr (restarted local (getD (now (u .entry)) (place k false c) 0)) (getD (now (u .entry)) (place k true c) 0)) 0 ⌝ }
 {
     if same {
-        crate::restarted(local, crate::arrivals::states_at(u, k, false, m))
-            | crate::arrivals::states_at(u, k, true, m)
+        crate::restarted(local, crate::arrivals::states_at(u, k, false, c))
+            | crate::arrivals::states_at(u, k, true, c)
     } else {
         0
     }
 }
 
 // The states that the step of node k leaves, the policy being open.
-fn leaves_by(u: &Table, rows: &Table, w: Watch, k: usize, f: NodeForm, m: usize) -> u16
+fn leaves_by(u: &[u16], rows: &Table, w: Watch, k: usize, f: NodeForm, c: usize) -> u16
     requires { ⌜ Small (saidBy f) ⌝ }
     requires { ⌜ k < mostNodes ⌝ }
-    requires { ⌜ m < meanings ⌝ }
-    ensures { λ r. ⌜ r ≡ leavesOf (w .local) (rowsIn (now (rows .entry))) (w .policy) (w .resource) (now (u .entry)) k m (saidBy f) ⌝ }
+    requires { ⌜ groupIn (c) ≤ lateGroup ⌝ }
+    requires { ⌜ groupEnd (groupIn (c)) ≤ length (now u) ⌝ }
+    ensures { λ r. ⌜ r ≡ leavesOf (w .local) (rowsIn (now (rows .entry))) (w .policy) (w .resources) (now (u .entry)) k c (saidBy f) ⌝ }
 {
-    let v = crate::arrivals::states_at(u, k, true, m);
+    let v = crate::arrivals::states_at(u, k, true, c);
     match f {
         NodeForm::OnStatic {
             action: _,
             resource,
-        } => { crate::rows::moved_set(rows, k, resource as usize == w.resource, v) }
+        } => { crate::rows::moved_set(rows, w.resources, k, resource as usize, v) }
         NodeForm::OnName { action: _, name } => {
-            crate::rows::moved_set(rows, k, m == name as usize + 1, v)
+            let r = crate::numbers::meant(c, name as usize);
+            crate::rows::moved_set(rows, w.resources, k, r, v)
         }
-        NodeForm::Fresh { name: _, body: _ } => {
-            crate::rows::moved_set(rows, k, false, v) | crate::rows::own_created(rows, k, m, v)
-        }
+        NodeForm::Fresh { name: _, body: _ } => { crate::rows::created(rows, w.resources, k, c, v) }
         NodeForm::Sandbox { policy, body: _ } => opened(
             u,
             w.local,
             k,
-            m,
+            c,
             policy as usize == w.policy,
         ),
         _ => 0,
     }
 }
 
-// Does the step of node k leave an offending state, with some meaning that occurs?
-fn hit_node(u: &Table, rows: &Table, w: Watch, k: usize, f: NodeForm) -> bool
+// Does the step of node k leave an offending state, with some code that occurs?
+fn hit_node(u: &[u16], rows: &Table, w: Watch, k: usize, f: NodeForm) -> bool
+    requires { ⌜ length (now u) ≡ placesOf (w .resources) ⌝ }
     requires { ⌜ Small (saidBy f) ⌝ }
     requires { ⌜ k < mostNodes ⌝ }
-    ensures { λ r. ⌜ r ≡ hitNode (w .local) (rowsIn (now (rows .entry))) (w .policy) (w .resource) (now (u .entry))
-        (least (w .resource)) k (saidBy f) ⌝ }
+    ensures { λ r. ⌜ r ≡ hitNode (w .local) (rowsIn (now (rows .entry))) (w .policy) (w .resources) (now (u .entry)) k (saidBy f) ⌝ }
 {
-    let l = crate::least(w.resource);
-    let n = MEANINGS - l;
+    let l = crate::numbers::least(w.resources);
+    let n = crate::numbers::codes_of(w.resources) - l;
     let mut i: usize = 0;
     while i < n {
         let v = leaves_by(u, rows, w, k, f, l + i);
@@ -82,10 +82,10 @@ fn hit_node(u: &Table, rows: &Table, w: Watch, k: usize, f: NodeForm) -> bool
 }
 
 // Does that of some node? u is the table of what is come to.
-pub(crate) fn any(nodes: &[u8], rows: &Table, u: &Table, w: Watch) -> bool
+pub(crate) fn any(nodes: &[u8], rows: &Table, u: &[u16], w: Watch) -> bool
     requires { ⌜ NodesFit (now nodes) ⌝ }
-    ensures { λ r. ⌜ r ≡ hitIn (now (nodes .entry)) (w .local) (now (rows .entry)) (now (u .entry)) (w .policy) (w .resource)
-        (least (w .resource)) ⌝ }
+    requires { ⌜ length (now u) ≡ placesOf (w .resources) ⌝ }
+    ensures { λ r. ⌜ r ≡ hitIn (now (nodes .entry)) (w .local) (now (rows .entry)) (now (u .entry)) (w .policy) (w .resources) ⌝ }
 {
     let n = nodes.len() / NODE_FIELDS;
     let mut k: usize = 0;
@@ -130,10 +130,10 @@ fn mark_if(b: bool, f: NodeForm) -> u64
 }
 
 // The steps of all nodes that leave an offending state.
-pub(crate) fn marks(nodes: &[u8], rows: &Table, u: &Table, w: Watch) -> u64
+pub(crate) fn marks(nodes: &[u8], rows: &Table, u: &[u16], w: Watch) -> u64
     requires { ⌜ NodesFit (now nodes) ⌝ }
-    ensures { λ r. ⌜ r ≡ marksIn (now (nodes .entry)) (w .local) (now (rows .entry)) (now (u .entry)) (w .policy) (w .resource)
-        (least (w .resource)) ⌝ }
+    requires { ⌜ length (now u) ≡ placesOf (w .resources) ⌝ }
+    ensures { λ r. ⌜ r ≡ marksIn (now (nodes .entry)) (w .local) (now (rows .entry)) (now (u .entry)) (w .policy) (w .resources) ⌝ }
 {
     let n = nodes.len() / NODE_FIELDS;
     let mut m: u64 = 0;

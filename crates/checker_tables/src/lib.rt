@@ -1,22 +1,30 @@
-// Is a policy broken, with one resource watched? The tables of the account are filled (`ends`, `arrivals`) by the policy's moves, of
+// Is a policy broken, with one or two resources watched? The tables of the account are filled (`ends`, `arrivals`) by the policy's moves, of
 // which the crate `checker_rows` has made a table (`rows`), and a violation is looked for in them (`hits`). Here stand the search, and
 // what the modules share: single entries of a table, single nodes, and whether the tables have room for them.
 ghost use mathlib.Core.Path.{_≡_};
-ghost use mathlib.Core.Bool.{Bool, not, _&&_};
+ghost use mathlib.Core.Bool.{Bool, true, false, not, _&&_};
 ghost use Prim.Native.Nat.{ℕ, _+_, _/_, _<_, _≤_};
 ghost use lib.Dec.{ltb};
 ghost use lib.ListN.{length, getD, replicate};
 ghost use Rattle.usage.specs.Limits.{states, mostNodes, nodeFields};
 ghost use Rattle.outline_nodes.specs.Said.{saidBy};
-ghost use Rattle.checker_account.specs.Tables.{over, joinedAt, places, least, restarted};
+ghost use Rattle.checker_account.specs.Account.{watchedToo};
+ghost use Rattle.checker_account.specs.Tables.{over, joinedAt, oneResource, places, placesOf, restarted};
 ghost use Rattle.checker_account.specs.Filling.{grown, byOpen, formsIn, Wide};
 ghost use Rattle.checker_tables.specs.Marks.{MarkedIf};
-ghost use Rattle.checker_tables.specs.Search.{lost, isOn, touched, small, NodesFit, hasRoom, ArrivesBy, ArrivesIf, SearchedIf};
+ghost use Rattle.checker_tables.specs.Search.{lost, isOn, touched, small, NodesFit, hasRoom, pairPlaces, ArrivesBy, ArrivesIf};
+ghost use Rattle.checker_tables.specs.Search.{SearchedIf};
 use checker_account::NAMES;
+use checker_account::NOTHING;
+use checker_account::PAIR_PLACES;
 use checker_account::PLACES;
+use checker_account::PairTable;
+use checker_account::Resources;
 use checker_account::Table;
 use checker_account::UNNAMED;
 use checker_account::WATCHED;
+use checker_account::WATCHED_TOO;
+use checker_account::Watch;
 use outline_nodes::NodeForm;
 use usage::ACTIONS;
 use usage::MOST_NODES;
@@ -27,37 +35,30 @@ use usage::STATES;
 pub mod arrivals;
 mod ends;
 mod hits;
+pub mod numbers;
 mod rows;
 mod sets;
 pub mod work;
 
-// What tables are for: whether only the past since the opening counts, the policy, and the watched resource.
-pub struct Watch {
-    pub local: bool,
-    pub policy: usize,
-    pub resource: usize,
-}
-
 // The union of the eight sets from place i on, over the states in v.
-fn union_over(t: &Table, i: usize, v: u16) -> u16
-    requires { ⌜ i + states ≤ places ⌝ }
+fn union_over(t: &[u16], i: usize, v: u16) -> u16
+    requires { ⌜ i + states ≤ length (now t) ⌝ }
     ensures { λ r. ⌜ r ≡ over (λ q. getD (now (t .entry)) (i + q) 0) v ⌝ }
 {
     let mut r: u16 = 0;
     let mut q: usize = 0;
     while q < STATES {
-        if (v >> (q as u32)) & 1 == 1 {
-            r |= t[i + q];
-        }
+        let e = t[i + q];
+        let more = if (v >> (q as u32)) & 1 == 1 { e } else { 0 };
+        r |= more;
         q += 1;
     }
     r
 }
 
 // A set joined to the one at place i. Did that change?
-fn join(t: &mut Table, i: usize, v: u16) -> bool
-    requires { ⌜ length (now t) ≡ places ⌝ }
-    requires { ⌜ i < places ⌝ }
+fn join(t: &mut [u16], i: usize, v: u16) -> bool
+    requires { ⌜ i < length (now t) ⌝ }
     ensures { λ r. ⌜ now (t .exit) ≡ joinedAt (now (t .entry)) i v ⌝ }
     ensures { λ r. ⌜ r ≡ grown (now (t .entry)) (now (t .exit)) ⌝ }
     ensures { λ r. ⌜ (Wide (now (t .entry)) → Wide (now (t .exit))) ⌝ }
@@ -83,13 +84,6 @@ pub fn lose(m: usize, n: usize) -> usize
     ensures { λ r. ⌜ r ≡ lost m n ⌝ }
 {
     if m == n { UNNAMED } else { m }
-}
-
-// The least meaning that occurs: of a static resource only the last one does.
-pub fn least(x: usize) -> usize
-    ensures { λ r. ⌜ r ≡ least x ⌝ }
-{
-    if x < WATCHED { UNNAMED } else { 0 }
 }
 
 // Is this node an event on the static resource x?
@@ -186,73 +180,163 @@ pub fn fits(nodes: &[u8]) -> bool
 fn found<'a>(
     nodes: &[u8],
     rows: &Table,
-    opened: &'a Table,
-    shut: &'a Table,
+    opened: &'a [u16],
+    shut: &'a [u16],
     w: Watch,
-    u: &mut Table,
+    u: &mut [u16],
 ) -> bool
     requires { ⌜ NodesFit (now nodes) ⌝ }
-    requires { ⌜ now u ≡ replicate places 0 ⌝ }
+    requires { ⌜ length (now opened) ≡ placesOf (w .resources) ⌝ }
+    requires { ⌜ length (now shut) ≡ placesOf (w .resources) ⌝ }
+    requires { ⌜ now u ≡ replicate (placesOf (w .resources)) 0 ⌝ }
     ensures { λ r. ⌜ ArrivesBy (now (nodes .entry)) (w .local) (now (rows .entry))
-        (byOpen (now (opened .entry)) (now (shut .entry))) (w .policy) (w .resource) (least (w .resource)) (now (u .exit)) r ⌝ }
+        (byOpen (now (opened .entry)) (now (shut .entry))) (w .policy) (w .resources) (now (u .exit)) r ⌝ }
 {
     arrivals::fill(nodes, rows, opened, shut, w, u);
     hits::any(nodes, rows, u, w)
 }
 
-// The same by the nodes. Where the policy is open, no opening resets anything: the table of ends there serves both meanings, and the
-// whole past needs no other.
-fn search(nodes: &[u8], rows: &Table, w: Watch, u: &mut Table) -> bool
+// The same by the nodes, where the whole past counts; the tables are empty at first. One table of ends serves: no opening resets anything.
+fn search_whole(nodes: &[u8], rows: &Table, w: Watch, opened: &mut [u16], u: &mut [u16]) -> bool
+    requires { ⌜ w .local ≡ false ⌝ }
+    requires { ⌜ now opened ≡ replicate (placesOf (w .resources)) 0 ⌝ }
+    requires { ⌜ now u ≡ replicate (placesOf (w .resources)) 0 ⌝ }
+    ensures { λ r. ⌜ ArrivesIf (hasRoom (now (nodes .entry))) (now (nodes .entry)) (w .local) (now (rows .entry))
+        (w .policy) (w .resources) (now (u .exit)) r ⌝ }
+{
+    if fits(nodes) {
+        ends::fill(nodes, rows, rows, w, opened);
+        return found(nodes, rows, opened, opened, w, u);
+    }
+    false
+}
+
+// Where only the past since the opening counts. Where the policy is open, no opening resets anything.
+fn search_local(
+    nodes: &[u8],
+    rows: &Table,
+    w: Watch,
+    opened: &mut [u16],
+    shut: &mut [u16],
+    u: &mut [u16],
+) -> bool
+    requires { ⌜ w .local ≡ true ⌝ }
+    requires { ⌜ now opened ≡ replicate (placesOf (w .resources)) 0 ⌝ }
+    requires { ⌜ now shut ≡ replicate (placesOf (w .resources)) 0 ⌝ }
+    requires { ⌜ now u ≡ replicate (placesOf (w .resources)) 0 ⌝ }
+    ensures { λ r. ⌜ ArrivesIf (hasRoom (now (nodes .entry))) (now (nodes .entry)) (w .local) (now (rows .entry))
+        (w .policy) (w .resources) (now (u .exit)) r ⌝ }
+{
+    if fits(nodes) {
+        let x = w.resources;
+        let open = Watch {
+            local: false,
+            policy: w.policy,
+            resources: x,
+        };
+        ends::fill(nodes, rows, rows, open, opened);
+        ends::fill(nodes, rows, opened, w, shut);
+        return found(nodes, rows, opened, shut, w, u);
+    }
+    false
+}
+
+// With one dynamic resource watched at most.
+fn search_one(nodes: &[u8], rows: &Table, w: Watch, u: &mut Table) -> bool
+    requires { ⌜ (w .resources .second ≡ watchedToo → ⊥) ⌝ }
     requires { ⌜ now u ≡ replicate places 0 ⌝ }
     ensures { λ r. ⌜ ArrivesIf (hasRoom (now (nodes .entry))) (now (nodes .entry)) (w .local) (now (rows .entry))
-        (w .policy) (w .resource) (now (u .exit)) r ⌝ }
+        (w .policy) (w .resources) (now (u .exit)) r ⌝ }
 {
-    if !fits(nodes) {
-        return false;
-    }
-    let open = Watch {
-        local: false,
-        policy: w.policy,
-        resource: w.resource,
-    };
     let mut opened = [0u16; PLACES];
-    ends::fill(nodes, rows, rows, open, &mut opened);
-    if !w.local {
-        return found(nodes, rows, &opened, &opened, w, u);
+    if w.local {
+        let mut shut = [0u16; PLACES];
+        return search_local(nodes, rows, w, &mut opened, &mut shut, u);
     }
-    let mut shut = [0u16; PLACES];
-    ends::fill(nodes, rows, &opened, w, &mut shut);
-    found(nodes, rows, &opened, &shut, w, u)
+    search_whole(nodes, rows, w, &mut opened, u)
 }
 
-// Is the policy, whose moves the table of rows has, broken with the resource watched? u becomes the table of what is come to. Where the
-// tables have no room for the nodes, it is not, and u is empty.
+// With both.
+fn search_both(nodes: &[u8], rows: &Table, w: Watch, u: &mut PairTable) -> bool
+    requires { ⌜ w .resources .second ≡ watchedToo ⌝ }
+    requires { ⌜ now u ≡ replicate pairPlaces 0 ⌝ }
+    ensures { λ r. ⌜ ArrivesIf (hasRoom (now (nodes .entry))) (now (nodes .entry)) (w .local) (now (rows .entry))
+        (w .policy) (w .resources) (now (u .exit)) r ⌝ }
+{
+    let mut opened = [0u16; PAIR_PLACES];
+    if w.local {
+        let mut shut = [0u16; PAIR_PLACES];
+        return search_local(nodes, rows, w, &mut opened, &mut shut, u);
+    }
+    search_whole(nodes, rows, w, &mut opened, u)
+}
+
+// Is the policy, whose moves the table of rows has, broken with the first resource watched alone? u becomes the table of what is come to.
+// Where the tables have no room for the nodes, it is not, and u is empty.
 pub fn arrive(nodes: &[u8], rows: &Table, w: Watch, u: &mut Table) -> bool
     ensures { λ r. ⌜ ArrivesIf (hasRoom (now (nodes .entry))) (now (nodes .entry)) (w .local) (now (rows .entry))
-        (w .policy) (w .resource) (now (u .exit)) r ⌝ }
+        (w .policy) (oneResource (w .resources .first)) (now (u .exit)) r ⌝ }
 {
     *u = [0u16; PLACES];
-    search(nodes, rows, w, u)
+    let one = Resources {
+        first: w.resources.first,
+        second: NOTHING,
+    };
+    let alone = Watch {
+        local: w.local,
+        policy: w.policy,
+        resources: one,
+    };
+    search_one(nodes, rows, alone, u)
 }
 
-// The answer alone.
+// The answer alone, with the resources watched.
 pub fn breaks(nodes: &[u8], rows: &Table, w: Watch) -> bool
     ensures { λ r. ⌜ SearchedIf (hasRoom (now (nodes .entry))) (now (nodes .entry)) (w .local) (now (rows .entry))
-        (w .policy) (w .resource) r ⌝ }
+        (w .policy) (w .resources) r ⌝ }
 {
+    if w.resources.second == WATCHED_TOO {
+        let mut u = [0u16; PAIR_PLACES];
+        return search_both(nodes, rows, w, &mut u);
+    }
     let mut u = [0u16; PLACES];
-    search(nodes, rows, w, &mut u)
+    search_one(nodes, rows, w, &mut u)
 }
 
-// The marks of the policy with the resource watched: the search, and where it finds something, gone through to the end. Where the tables
-// have no room for the nodes, there are none.
-pub fn marks_of(nodes: &[u8], rows: &Table, w: Watch) -> u64
+// The marks of the policy with one dynamic resource watched at most: the search, and where it finds something, gone through to the end.
+fn marks_one(nodes: &[u8], rows: &Table, w: Watch) -> u64
+    requires { ⌜ (w .resources .second ≡ watchedToo → ⊥) ⌝ }
     ensures { λ r. ⌜ MarkedIf (hasRoom (now (nodes .entry))) (now (nodes .entry)) (w .local) (now (rows .entry))
-        (w .policy) (w .resource) r ⌝ }
+        (w .policy) (w .resources) r ⌝ }
 {
     let mut u = [0u16; PLACES];
-    if !search(nodes, rows, w, &mut u) {
-        return 0;
+    if search_one(nodes, rows, w, &mut u) {
+        return hits::marks(nodes, rows, &u, w);
     }
-    hits::marks(nodes, rows, &u, w)
+    0
+}
+
+// With both.
+fn marks_both(nodes: &[u8], rows: &Table, w: Watch) -> u64
+    requires { ⌜ w .resources .second ≡ watchedToo ⌝ }
+    ensures { λ r. ⌜ MarkedIf (hasRoom (now (nodes .entry))) (now (nodes .entry)) (w .local) (now (rows .entry))
+        (w .policy) (w .resources) r ⌝ }
+{
+    let mut u = [0u16; PAIR_PLACES];
+    if search_both(nodes, rows, w, &mut u) {
+        return hits::marks(nodes, rows, &u, w);
+    }
+    0
+}
+
+// With the resources watched. Where the tables have no room for the nodes, there are none.
+pub fn marks_of(nodes: &[u8], rows: &Table, w: Watch) -> u64
+    ensures { λ r. ⌜ MarkedIf (hasRoom (now (nodes .entry))) (now (nodes .entry)) (w .local) (now (rows .entry))
+        (w .policy) (w .resources) r ⌝ }
+{
+    if w.resources.second == WATCHED_TOO {
+        marks_both(nodes, rows, w)
+    } else {
+        marks_one(nodes, rows, w)
+    }
 }

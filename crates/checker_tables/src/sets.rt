@@ -2,20 +2,19 @@
 ghost use mathlib.Core.Path.{_≡_};
 ghost use mathlib.Core.Bool.{cond};
 ghost use Prim.Native.Nat.{ℕ, _+_, _<_, _≤_, _/_};
-ghost use lib.ListN.{getD};
+ghost use lib.ListN.{length, getD};
 ghost use lib.Bits.{bitOr};
 ghost use Rattle.usage.specs.Limits.{states};
 ghost use Rattle.automaton.specs.Mask.{has};
-ghost use Rattle.checker_account.specs.Tables.{places, over, kept};
+ghost use Rattle.checker_account.specs.Tables.{over, kept, keptIn};
 ghost use Rattle.checker_tables.specs.ByState.{ByState};
-use checker_account::Table;
 use usage::STATES;
 
 pub(crate) type PerState = [u16; STATES];
 
 // The eight entries from place i on.
-pub(crate) fn entries(t: &Table, i: usize) -> PerState
-    requires { ⌜ i + states ≤ places ⌝ }
+pub(crate) fn entries(t: &[u16], i: usize) -> PerState
+    requires { ⌜ i + states ≤ length (now t) ⌝ }
     ensures { λ r. ⌜ ByState states (λ q. getD (now (t .entry)) (i + q) 0) r ⌝ }
 {
     let mut r = [0u16; STATES];
@@ -36,7 +35,7 @@ fn keep(m: usize, v: u16) -> u16
 }
 
 // Each of eight sets as ends.
-pub(crate) fn keep_each(m: usize, mut v: PerState) -> PerState
+fn keep_each(m: usize, mut v: PerState) -> PerState
     ensures { λ r. ⌜ ByState states (λ q. kept m (getD v q 0)) r ⌝ }
 {
     let mut q: usize = 0;
@@ -45,6 +44,16 @@ pub(crate) fn keep_each(m: usize, mut v: PerState) -> PerState
         q += 1;
     }
     v
+}
+
+// The same with entry e: where the second dynamic resource is created by the end, there are none.
+pub(crate) fn keep_in(e: usize, v: PerState) -> PerState
+    ensures { λ r. ⌜ ByState states (λ q. keptIn e (getD v q 0)) r ⌝ }
+{
+    if crate::numbers::is_late(e) {
+        return [0u16; STATES];
+    }
+    keep_each(crate::numbers::meaning(e), v)
 }
 
 // Their upper halves.
@@ -86,8 +95,8 @@ fn join_where(mut w: PerState, v: PerState, s: u32, e: u16) -> PerState
 }
 
 // The union of the eight entries from place i on, over the states of each of the sets v.
-pub(crate) fn union_each(t: &Table, i: usize, v: PerState) -> PerState
-    requires { ⌜ i + states ≤ places ⌝ }
+pub(crate) fn union_each(t: &[u16], i: usize, v: PerState) -> PerState
+    requires { ⌜ i + states ≤ length (now t) ⌝ }
     ensures { λ r. ⌜ ByState states (λ q. over (λ j. getD (now (t .entry)) (i + j) 0) (getD v q 0)) r ⌝ }
 {
     let mut r = [0u16; STATES];

@@ -29,7 +29,7 @@ use Rattle.checker_account.proofs.SingleLaws.{watching-keeps}
 use Rattle.checker_account.proofs.BegunLaws.{begun-new}
 use Rattle.checker_account.proofs.Writing.{given-fresh}
 use Rattle.checker_lengths.specs.declared.Entry.{Entry}
-use Rattle.checker_tables.specs.declared.Watch.{Watch}
+use Rattle.checker_lengths.specs.declared.WatchOne.{WatchOne}
 use Rattle.checker_lengths.specs.Entries.{allLengths, entryOf, held}
 use Rattle.checker_lengths.specs.Offers.{bodyEntry, named, born, breaking, offerOf}
 use Rattle.checker_lengths.specs.Held.{aimAt, meaningOf}
@@ -46,7 +46,7 @@ use Rattle.checker_trace.proofs.StepLaws.{laid-more, spotted-create, ag
 use Rattle.checker_trace.proofs.PartLaws.{Run, run-in, back-to, chosen-fresh}
 use Rattle.checker_trace.proofs.WriteLaws.{arrive, passes-names}
 
-module _ (w : Watch) (rows nodes t : List ℕ) (e : Entry) (n r : ℕ)
+module _ (w : WatchOne) (rows nodes t : List ℕ) (e : Entry) (n r : ℕ)
     (few-nodes : length nodes / nodeFields ≤ mostNodes) (few : n ≤ mostShown) where
   abbrev Here : List Edge → ℕ → Bool → ℕ → outline.Names → ℕ → Bool → ℕ → Past → Aim Bool → Past → Type 0
   Here es i o k names m c q past aim after = Run w rows nodes t e n r few-nodes few es i o k names m c q past aim after

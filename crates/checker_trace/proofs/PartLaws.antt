@@ -26,7 +26,7 @@ use Rattle.checker_account.proofs.BegunLaws.{begun-ended, begun-opened}
 use Rattle.checker_account.proofs.Writing.{written-length}
 use Rattle.checker_account.proofs.CounterexampleLaws.{passes-written}
 use Rattle.checker_lengths.specs.declared.Entry.{Entry}
-use Rattle.checker_tables.specs.declared.Watch.{Watch}
+use Rattle.checker_lengths.specs.declared.WatchOne.{WatchOne}
 use Rattle.checker_lengths.specs.Entries.{allLengths, entryOf, held}
 use Rattle.checker_lengths.specs.Offers.{atNode, firstEntry, secondEntry, bodyEntry, innerEntry, stateIn, around, named, offerOf, offerFrom}
 use Rattle.checker_lengths.specs.Held.{aimAt, meaningOf}
@@ -44,7 +44,7 @@ use Rattle.checker_trace.proofs.WriteLaws.{tells-is, Arrived, arrive, p
 
 -- ── What the rule read ──
 
-module _ (w : Watch) (rows nodes t : List ℕ) (e : Entry) (n r : ℕ) (few : n ≤ mostShown) where
+module _ (w : WatchOne) (rows nodes t : List ℕ) (e : Entry) (n r : ℕ) (few : n ≤ mostShown) where
   offer-of : (f : Option Form) → Chosen w rows nodes t e n f r → (k : ℕ) × (offerFrom w rows (held t n) (atNode e k) r f ≡ n)
   offer-of f (k, on, g) = (k, subst (λ (y : Option Form). offerFrom w rows (held t n) (atNode e k) r y ≡ n) g (on .4))
 
@@ -101,7 +101,7 @@ module _ (w : Watch) (rows nodes t : List ℕ) (e : Entry) (n r : ℕ) (few : n 
 
 -- ── What is written ──
 
-module _ (w : Watch) (rows nodes t : List ℕ) (e : Entry) (n r : ℕ)
+module _ (w : WatchOne) (rows nodes t : List ℕ) (e : Entry) (n r : ℕ)
     (few-nodes : length nodes / nodeFields ≤ mostNodes) (few : n ≤ mostShown) where
   abbrev pub Run : List Edge → ℕ → Bool → ℕ → outline.Names → ℕ → Bool → ℕ → Past → Aim Bool → Past → Type 0
   Run es i o k names m c q past aim after =

@@ -9,7 +9,7 @@ use lib.ListN.{length, getD}
 use Rattle.usage.specs.Limits.{stepFields}
 use Rattle.usage.specs.Outline.{on-static, on-name, sequence, fresh, sandbox}
 use Rattle.checker_account.specs.Single.{noName}
-use Rattle.checker_tables.specs.declared.Watch.{Watch}
+use Rattle.checker_lengths.specs.declared.WatchOne.{WatchOne}
 use Rattle.checker_lengths.specs.Entries.{atBreak, held}
 use Rattle.checker_lengths.specs.Offers.{firstEntry}
 use Rattle.checker_lengths.specs.Filling.{formHere}
@@ -25,7 +25,7 @@ use Rattle.checker_trace.proofs.PartLaws.{chosen-sequence, chosen-fresh
 use Rattle.checker_trace.proofs.PartLaws.{wrote-sequence, wrote-opening, wrote-inside, wrote-sandbox}
 use Rattle.checker_trace.proofs.FreshLaws.{wrote-born, wrote-fresh}
 
-module _ (w : Watch) (rows nodes t : List ℕ) (p : Part) (trace : List ℕ) (room : Room nodes p trace) where
+module _ (w : WatchOne) (rows nodes t : List ℕ) (p : Part) (trace : List ℕ) (room : Room nodes p trace) where
   abbrev Whole : Spot → List ℕ → Type 0
   Whole r trace′ = PartWritten w rows nodes t p trace r trace′
 

@@ -21,13 +21,14 @@ use Rattle.usage.specs.Tables.{edgesOf, nodesOf}
 use Rattle.usage.specs.Check.{Shown, longer}
 use Rattle.usage.proofs.Logic.{false-true}
 use Rattle.usage.proofs.TableLaws.{nodes-length}
-use Rattle.automaton.specs.Move.{rowsOf}
+use Rattle.automaton.specs.Move.{rowsAt}
 use Rattle.checker_account.specs.Account.{watched, each, broken}
 use Rattle.checker_account.specs.Single.{noName, watching}
 use Rattle.checker_account.specs.Written.{Written}
-use Rattle.checker_account.specs.Tables.{least, rowsIn, places}
-use Rattle.checker_account.specs.Filling.{formsIn}
-use Rattle.checker_account.specs.RowTable.{fillRows}
+use Rattle.checker_account.specs.declared.Resources.{Resources}
+use Rattle.checker_account.specs.Tables.{oneResource, unnamed, least, rowsIn, places}
+use Rattle.checker_account.specs.Filling.{formsIn, one}
+use Rattle.checker_account.specs.RowTable.{imageIn, fillRows}
 use Rattle.checker_account.specs.Least.{at-break}
 use Rattle.checker_account.proofs.SingleLaws.{watching-keeps, singles}
 use Rattle.checker_account.proofs.Ahead.{Root, hits-exact}
@@ -35,7 +36,7 @@ use Rattle.checker_account.proofs.BegunLaws.{begun-root, come-root}
 use Rattle.checker_account.proofs.EventLaws.{event-image}
 use Rattle.checker_account.proofs.SightsLaws.{all-longer-sights}
 use Rattle.checker_account.proofs.NodeLaws.{forms-of, names-ok, targets-ok}
-use Rattle.checker_account.proofs.SearchLaws.{searched}
+use Rattle.checker_account.proofs.OneLaws.{one-least, one-searched}
 use Rattle.checker_account.proofs.CounterexampleLaws.{written-shown}
 use Rattle.checker_account.proofs.RowLaws.{rows-ok}
 use Rattle.checker_account.proofs.RowTableLaws.{rows-from}
@@ -48,7 +49,7 @@ use Rattle.checker_tables.proofs.FitLaws.{outline-fits}
 use Rattle.checker_tables.proofs.AnswerLaws.{arrives-searched}
 use Rattle.checker_tables.proofs.TouchedLaws.{untouched, dynamic-touched}
 use Rattle.checker_rows.proofs.WholeLaws.{whole-in}
-use Rattle.checker_tables.specs.declared.Watch.{Watch}
+use Rattle.checker_lengths.specs.declared.WatchOne.{WatchOne}
 use Rattle.checker_lengths.specs.Entries.{noLength, allLengths, entryOf, held}
 use Rattle.checker_lengths.specs.Held.{aimAt, meaningOf, watchOf, Source}
 use Rattle.checker_lengths.proofs.FullLaws.{full-least}
@@ -73,32 +74,32 @@ use Rattle.checker_trace.specs.Code.{
 use Rattle.checker_trace.proofs.StepLaws.{laid-none}
 
 -- the entry of the root, as the account tells it
-pub root-meaning : (x : ℕ) → least x ≡ meaningOf noName (ltb x statics)
-unfolding least
-root-meaning x = go (ltb x statics)
+pub root-meaning : (x : ℕ) → x ≤ watched → least (oneResource x) ≡ meaningOf noName (ltb x statics)
+root-meaning x small = one-least x small ∙ go (ltb x statics)
   where
-    go : (b : Bool) → cond b 5 0 ≡ meaningOf noName b
+    go : (b : Bool) → cond b unnamed 0 ≡ meaningOf noName b
     go true = refl
     go false = refl
 
-pub root-is : (x : ℕ) → rootOf x ≡ entryOf 0 false (meaningOf noName (ltb x statics)) 0 (aimAt (broken none))
-root-is x = ap (λ (m : ℕ). entryOf 0 false m 0 16) (root-meaning x)
+pub root-is : (x : ℕ) → x ≤ watched → rootOf x ≡ entryOf 0 false (meaningOf noName (ltb x statics)) 0 (aimAt (broken none))
+root-is x small = ap (λ (m : ℕ). entryOf 0 false m 0 16) (root-meaning x small)
 
 -- ── From the flat tables ──
 
 module _ (e t : List ℕ) (edges : EdgesOk (edgesOf e)) (ok : OutlineOk (nodesOf t)) (p : ℕ) (policy : p < 8) (rows : List ℕ)
-    (filled : rows ≡ rowTable (rowsOf (edgesOf e)) p t) where
+    (filled : rows ≡ rowTable (rowsAt (edgesOf e)) false p t) where
   pub few-nodes : length t / nodeFields ≤ mostNodes
   few-nodes = let l = ok .few in let n = nodes-length t in omega arith
 
   pub source-of : (x : ℕ) → x ≤ watched → Source (edgesOf e) (nodesOf t) p x rows
   source-of x l =
       let es = edgesOf e in
-      let made = rows-from (rowsOf es) p (formsIn t) (replicate places 0) refl (nodesOf t) (length t / nodeFields) few-nodes (forms-of t) in
-      let right = rows-ok es (nodesOf t) p x
-      (rowsIn (fillRows (rowsOf es) p (length t / nodeFields) (formsIn t) (replicate places 0))) _ l edges
-      (event-image es edges p policy) made in
-      subst (λ (r : List ℕ). Source es (nodesOf t) p x r) (sym (filled ∙ whole-in (rowsOf es) p t policy few-nodes))
+      let made = rows-from (rowsAt es) false p (formsIn t) (replicate places 0) refl (nodesOf t) (length t / nodeFields) few-nodes
+      (forms-of t) in
+      let right = rows-ok es (nodesOf t) p (oneResource x) (one l)
+      (rowsIn (fillRows (rowsAt es) false p (length t / nodeFields) (formsIn t) (replicate places 0))) (imageIn (rowsAt es) p) edges
+      (names-ok (nodesOf t) ok) (event-image es edges p policy) made in
+      subst (λ (r : List ℕ). Source es (nodesOf t) p x r) (sym (filled ∙ whole-in (rowsAt es) false p t policy few-nodes))
       (record { edges = edges; outline = ok; small = l; moves = right })
 
 module _ (local : Bool) (es : List Edge) (nodes : List ℕ) (p : ℕ) (rows : List ℕ) where
@@ -108,7 +109,7 @@ module _ (local : Bool) (es : List Edge) (nodes : List ℕ) (p : ℕ) (rows : Li
   steps-least x src v (t, (u, come, full), h) m d l =
       let f = full-least local es nodes p x rows src u t come full in
       let (i, k, g) = f .full come-root at-break d l in
-      let same : v ≡ i = h ∙ ap (held t allLengths) (root-is x) ∙ g .0 in
+      let same : v ≡ i = h ∙ ap (held t allLengths) (root-is x (src .small)) ∙ g .0 in
       omega arith
 
   -- the least length is one
@@ -116,7 +117,7 @@ module _ (local : Bool) (es : List Edge) (nodes : List ℕ) (p : ℕ) (rows : Li
       → Root local es (nodesOf nodes) p (watching x) v none
   steps-goes x src v (t, (u, come, full), h) l =
       let f = full-least local es nodes p x rows src u t come full in
-      f .lengths .sound (begun-root (watching-keeps x)) at-break (sym (h ∙ ap (held t allLengths) (root-is x)), l)
+      f .lengths .sound (begun-root (watching-keeps x)) at-break (sym (h ∙ ap (held t allLengths) (root-is x (src .small))), l)
 
   -- two full tables tell the same length
   pub steps-one : (x : ℕ) → Source es (nodesOf nodes) p x rows → (v u : ℕ) → StepsIs (watchOf local p x) rows nodes v
@@ -134,12 +135,12 @@ module _ (local : Bool) (es : List Edge) (nodes : List ℕ) (p : ℕ) (rows : Li
       let few = ok .few in
       let count = nodes-length nodes in
       let room = outline-fits nodes ok in
-      let answer = subst (λ (b : Bool). SearchedIf b nodes local rows p x false) room
-      (arrives-searched (hasRoom nodes) nodes local rows p x u false never) in
+      let answer = subst (λ (b : Bool). SearchedIf b nodes local rows p (oneResource x) false) room
+      (arrives-searched (hasRoom nodes) nodes local rows p (oneResource x) u false never) in
       let (last, z, k) = hits-exact local es (nodesOf nodes) p (watching x) m none .1 d in
-      false-true (searched local es (nodesOf nodes) p x (rowsIn rows) (src .small) (src .edges) (src .moves) (names-ok (nodesOf nodes) ok)
+      false-true (one-searched x (src .small) local es (nodesOf nodes) p (src .edges) (names-ok (nodesOf nodes) ok) (rowsIn rows) (src .moves)
       (targets-ok (nodesOf nodes) ok) (length nodes / nodeFields) (formsIn nodes) (omega arith) (forms-of nodes) false answer .1
-      (last, (m, k)))
+      (last, m, k))
 
 module _ (local : Bool) (es : List Edge) (nodes : List ℕ) (p : ℕ) (rows : List ℕ)
     (src : (x : ℕ) → x ≤ watched → Source es (nodesOf nodes) p x rows) (r : Shortest) (h : ShortestIs local p rows nodes r)
@@ -213,16 +214,16 @@ module _ (local : Bool) (es : List Edge) (edges : EdgesOk es) (p : ℕ) (big : 8
 
 -- ── The table of one watched resource ──
 
-pub arrives-room : (b : Bool) (nodes : List ℕ) (local : Bool) (rows : List ℕ) (p x : ℕ) (u : List ℕ) (r : Bool)
+pub arrives-room : (b : Bool) (nodes : List ℕ) (local : Bool) (rows : List ℕ) (p : ℕ) (x : Resources) (u : List ℕ) (r : Bool)
     → ArrivesIf b nodes local rows p x u r → r ≡ true → (b ≡ true) × Came nodes local rows p x u
 arrives-room true nodes local rows p x u r h e = (refl, h .arrived)
 arrives-room false nodes local rows p x u r h e = false-true (sym (h .0) ∙ e)
 
-pub table-of : (b : Bool) (w : Watch) (rows nodes t : List ℕ) → TableIf b w rows nodes t → b ≡ true → TableOf w rows nodes t
+pub table-of : (b : Bool) (w : WatchOne) (rows nodes t : List ℕ) → TableIf b w rows nodes t → b ≡ true → TableOf w rows nodes t
 table-of true w rows nodes t h e = h
 table-of false w rows nodes t h e = false-true e
 
-pub table-none : (b : Bool) (w : Watch) (rows nodes t : List ℕ) → TableIf b w rows nodes t → b ≡ false → NeverHits w rows nodes
+pub table-none : (b : Bool) (w : WatchOne) (rows nodes t : List ℕ) → TableIf b w rows nodes t → b ≡ false → NeverHits w rows nodes
 table-none true w rows nodes t h e = false-true (sym e)
 table-none false w rows nodes t h e = h
 
@@ -298,13 +299,13 @@ unfolding count
 first-spot = record { at = refl; next = refl }
 
 -- nothing is shown where the search hits nothing: there is no such length
-pub never-shows : (w : Watch) (rows nodes : List ℕ) (n : ℕ) (trace trace′ : List ℕ) → NeverHits w rows nodes → n ≤ mostShown
+pub never-shows : (w : WatchOne) (rows nodes : List ℕ) (n : ℕ) (trace trace′ : List ℕ) → NeverHits w rows nodes → n ≤ mostShown
     → Shows w rows nodes n trace trace′
 never-shows w rows nodes n trace trace′ never few es src steps =
     absurd (never-root (w .local) es nodes (w .policy) rows (w .resource) src never n
     (steps-goes (w .local) es nodes (w .policy) rows (w .resource) src n steps few))
 
-pub root-shows : (w : Watch) (rows nodes t : List ℕ) (n : ℕ) (trace : List ℕ) (r : Spot) (trace′ : List ℕ) → TableOf w rows nodes t
+pub root-shows : (w : WatchOne) (rows nodes t : List ℕ) (n : ℕ) (trace : List ℕ) (r : Spot) (trace′ : List ℕ) → TableOf w rows nodes t
     → n ≤ mostShown → mostNumbers ≤ length trace
     → Writes w rows nodes t (rootOf (w .resource)) n none-given at-first trace r trace′ → Shows w rows nodes n trace trace′
 root-shows w rows nodes t n trace r trace′ (u, come, full) few room d es src steps =
@@ -314,7 +315,7 @@ root-shows w rows nodes t n trace r trace′ (u, come, full) few room d es src s
     (held t allLengths (rootOf x)) steps (t, (u, come, full), refl) few in
     let (after, run, spot, laid-is) = d es noName (ltb x statics) (broken none) noNames trace [] (record { source = src; least = least-is })
     (record {
-      meaning = root-meaning x;
+      meaning = root-meaning x (src .small);
       number = refl;
       come = come-root;
       begun = begun-root (watching-keeps x);

@@ -26,7 +26,7 @@ use Rattle.checker_account.proofs.BegunLaws.{begun-ended}
 use Rattle.checker_account.proofs.SingleLaws.{watching-keeps}
 use Rattle.checker_account.proofs.CounterexampleLaws.{idle-written, passes-written}
 use Rattle.checker_lengths.specs.declared.Entry.{Entry}
-use Rattle.checker_tables.specs.declared.Watch.{Watch}
+use Rattle.checker_lengths.specs.declared.WatchOne.{WatchOne}
 use Rattle.checker_lengths.specs.Entries.{allLengths, entryOf, held}
 use Rattle.checker_lengths.specs.Offers.{offerOf, offerFrom, moved, endingOf as ends-by, breaking}
 use Rattle.checker_lengths.specs.Filling.{formHere}
@@ -42,7 +42,7 @@ use Rattle.checker_trace.specs.Code.{OntoIs, storedStep, onward, Spotted
 use Rattle.checker_trace.proofs.LeadLaws.{closure-passes, never-nothing}
 use Rattle.checker_trace.proofs.StepLaws.{laid-more, spotted-event}
 
-module _ (w : Watch) (rows nodes t : List ℕ) (e : Entry) where
+module _ (w : WatchOne) (rows nodes t : List ℕ) (e : Entry) where
   -- the entry, as the account tells it
   abbrev told : ℕ → Bool → Aim Bool → Entry
   told m c aim = entryOf (e .node) (e .opened) (meaningOf m c) (e .state) (aimAt aim)

@@ -13,7 +13,7 @@ use Rattle.automaton.specs.Mask.{has}
 use Rattle.checker_tables.specs.Search.{touched, hasRoom, Arrived, ArrivesIf}
 use mathlib.Core.Logic.{_⊎_}
 use Rattle.checker_lengths.specs.declared.Entry.{Entry}
-use Rattle.checker_tables.specs.declared.Watch.{Watch}
+use Rattle.checker_lengths.specs.declared.WatchOne.{WatchOne}
 use Rattle.checker_lengths.specs.Entries.{atBreak, entryOf, held, allLengths, noLength}
 use Rattle.checker_lengths.specs.Offers.{atNode, lowEnd, firstEntry, secondEntry, bodyEntry, innerEntry, offerFrom, waysOf}
 use Rattle.checker_lengths.specs.Filling.{formHere, Full}
@@ -34,7 +34,7 @@ use Rattle.checker_account.specs.Account.{Aim, watched, broken}
 use Rattle.checker_account.specs.Single.{noName, watching}
 use Rattle.checker_account.specs.Least.{Begun, ComeTo, Aimed, Least}
 use Rattle.checker_lengths.specs.Held.{aimAt, meaningOf, entriesIn, Source, watchOf}
-use Rattle.checker_account.specs.Tables.{least}
+use Rattle.checker_account.specs.Tables.{oneResource, least}
 use Rattle.checker_trace.specs.declared.Shortest.{Shortest}
 use Rattle.checker_trace.specs.Steps.{laid}
 
@@ -97,16 +97,16 @@ pub record Closure (t nodes : List ℕ) (e : Entry) (s : ℕ) : Type 0 where
   pub still : spreadTo t nodes e (length nodes / nodeFields) s ≡ s
 
 -- what rule c of a node of this form gives, by the entries of fewer steps than n
-abbrev pub offerBelow : Watch → List ℕ → List ℕ → Option Form → Entry → ℕ → ℕ → ℕ
+abbrev pub offerBelow : WatchOne → List ℕ → List ℕ → Option Form → Entry → ℕ → ℕ → ℕ
 offerBelow w rows t f e n c = offerFrom w rows (held t n) e c f
 
 -- r is a rule that gives n, or as many as there are and none does
-pub record RuleIs (w : Watch) (rows t : List ℕ) (f : Option Form) (e : Entry) (n r : ℕ) : Type 0 where
+pub record RuleIs (w : WatchOne) (rows t : List ℕ) (f : Option Form) (e : Entry) (n r : ℕ) : Type 0 where
   pub here : r < waysOf f → offerBelow w rows t f e n r ≡ n
   pub none-there : waysOf f ≤ r → (c : ℕ) → c < waysOf f → offerBelow w rows t f e n c ≡ n → ⊥
 
 -- where to go on from an entry of n steps
-abbrev pub OntoIs : Watch → List ℕ → List ℕ → List ℕ → Entry → ℕ → Onto → Type 0
+abbrev pub OntoIs : WatchOne → List ℕ → List ℕ → List ℕ → Entry → ℕ → Onto → Type 0
 OntoIs w rows nodes t e n (By k c) =
     (s : ℕ) × Closure t nodes e s × (k < length nodes / nodeFields) × (has s k ≡ true)
     × (offerBelow w rows t (formHere nodes k) (atNode e k) n c ≡ n)
@@ -137,17 +137,17 @@ pub record Spotted (past : Past) (s : Spot) : Type 0 where
 -- ── What is written for an entry of a full table: a part of a run that comes to the aim in its number of steps ──
 
 -- the starts that some run comes to
-abbrev pub Coming : Watch → List Edge → List ℕ → Bool → ℕ → ℕ → Bool → ℕ → Type 0
+abbrev pub Coming : WatchOne → List Edge → List ℕ → Bool → ℕ → ℕ → Bool → ℕ → Type 0
 Coming w es nodes = ComeTo (w .local) es (nodesOf nodes) (w .policy) (watching (w .resource))
 
 -- the table is full at them, for these edges
-pub record Ready (w : Watch) (es : List Edge) (rows nodes t : List ℕ) : Type 0 where
+pub record Ready (w : WatchOne) (es : List Edge) (rows nodes t : List ℕ) : Type 0 where
   pub source : Source es (nodesOf nodes) (w .policy) (w .resource) rows
   pub least : Least (w .local) es (nodesOf nodes) (w .policy) (watching (w .resource)) (Coming w es nodes) mostShown
       (entriesIn t allLengths)
 
 -- what an entry's numbers say: name n means the watched resource, c tells whether it was created, and the aim; and some run comes to it
-pub record Tells (w : Watch) (es : List Edge) (nodes : List ℕ) (e : Entry) (n : ℕ) (c : Bool) (aim : Aim Bool) : Type 0 where
+pub record Tells (w : WatchOne) (es : List Edge) (nodes : List ℕ) (e : Entry) (n : ℕ) (c : Bool) (aim : Aim Bool) : Type 0 where
   pub meaning : e .meaning ≡ meaningOf n c
   pub number : e .aim ≡ aimAt aim
   pub come : Coming w es nodes (e .opened) (e .node) n c (e .state)
@@ -167,7 +167,7 @@ pub record WithinSteps (s : Spot) (n : ℕ) (r : Spot) : Type 0 where
   pub next : r .next ≤ s .next + n
 
 -- The steps are those of a part of a run, whatever past there is in the table t₀ before them. t is the table of lengths.
-abbrev pub Writes : Watch → List ℕ → List ℕ → List ℕ → Entry → ℕ → Names → Spot → List ℕ → Spot → List ℕ → Type 0
+abbrev pub Writes : WatchOne → List ℕ → List ℕ → List ℕ → Entry → ℕ → Names → Spot → List ℕ → Spot → List ℕ → Type 0
 Writes w rows nodes t e n g s trace r trace′ =
     (es : List Edge) (m : ℕ) (c : Bool) (aim : Aim Bool) (names : outline.Names) (t₀ : List ℕ) (past : Past)
     → Ready w es rows nodes t → Tells w es nodes e m c aim
@@ -186,17 +186,17 @@ pub record Room (nodes : List ℕ) (p : Part) (trace : List ℕ) : Type 0 where
   pub numbered : p .spot .next + p .steps < resources
 
 -- The trace keeps its length, no more is written, and it is what is to be.
-pub record PartWritten (w : Watch) (rows nodes t : List ℕ) (p : Part) (trace : List ℕ) (r : Spot) (trace′ : List ℕ) : Type 0 where
+pub record PartWritten (w : WatchOne) (rows nodes t : List ℕ) (p : Part) (trace : List ℕ) (r : Spot) (trace′ : List ℕ) : Type 0 where
   pub length-kept : length trace′ ≡ length trace
   pub within : WithinSteps (p .spot) (p .steps) r
   pub writes : Writes w rows nodes t (p .entry) (p .steps) (p .names) (p .spot) trace r trace′
 
 -- rule c of a node of this form is where to go on from an entry of n steps
-abbrev pub Chosen : Watch → List ℕ → List ℕ → List ℕ → Entry → ℕ → Option Form → ℕ → Type 0
+abbrev pub Chosen : WatchOne → List ℕ → List ℕ → List ℕ → Entry → ℕ → Option Form → ℕ → Type 0
 Chosen w rows nodes t e n f c = (k : ℕ) × OntoIs w rows nodes t e n (By k c) × (formHere nodes k ≡ f)
 
 -- it is where to go on from a part, and there is a step to write
-pub record Picked (w : Watch) (rows nodes t : List ℕ) (p : Part) (f : Option Form) (c : ℕ) : Type 0 where
+pub record Picked (w : WatchOne) (rows nodes t : List ℕ) (p : Part) (f : Option Form) (c : ℕ) : Type 0 where
   pub chosen : Chosen w rows nodes t (p .entry) (p .steps) f c
   pub one : 1 ≤ p .steps
 
@@ -216,31 +216,31 @@ bodyPart p y made = record {
   spot = made;
 }
 
-abbrev pub innerPart : Watch → Part → Way → ℕ → Spot → Part
+abbrev pub innerPart : WatchOne → Part → Way → ℕ → Spot → Part
 innerPart w p y n begun = record { entry = innerEntry w (p .entry) (y .a) (y .b); steps = p .steps - n; names = p .names; spot = begun }
 
 -- ── The whole outline ──
 
 abbrev pub rootOf : ℕ → Entry
-rootOf x = entryOf 0 false (least x) 0 atBreak
+rootOf x = entryOf 0 false (least (oneResource x)) 0 atBreak
 
 -- t is the table of one watched resource; and the search for it hits nothing
-abbrev pub TableOf : Watch → List ℕ → List ℕ → List ℕ → Type 0
-TableOf w rows nodes t = (u : List ℕ) × Arrived nodes (w .local) rows (w .policy) (w .resource) u × Full w rows nodes u t
+abbrev pub TableOf : WatchOne → List ℕ → List ℕ → List ℕ → Type 0
+TableOf w rows nodes t = (u : List ℕ) × Arrived nodes (w .local) rows (w .policy) (oneResource (w .resource)) u × Full w rows nodes u t
 
-abbrev pub NeverHits : Watch → List ℕ → List ℕ → Type 0
-NeverHits w rows nodes = (u : List ℕ) × ArrivesIf (hasRoom nodes) nodes (w .local) rows (w .policy) (w .resource) u false
+abbrev pub NeverHits : WatchOne → List ℕ → List ℕ → Type 0
+NeverHits w rows nodes = (u : List ℕ) × ArrivesIf (hasRoom nodes) nodes (w .local) rows (w .policy) (oneResource (w .resource)) u false
 
-abbrev pub TableIf : Bool → Watch → List ℕ → List ℕ → List ℕ → Type 0
+abbrev pub TableIf : Bool → WatchOne → List ℕ → List ℕ → List ℕ → Type 0
 TableIf true w rows nodes t = TableOf w rows nodes t
 TableIf false w rows nodes t = NeverHits w rows nodes
 
 -- the least length with one resource watched, by such a table
-abbrev pub StepsIs : Watch → List ℕ → List ℕ → ℕ → Type 0
+abbrev pub StepsIs : WatchOne → List ℕ → List ℕ → ℕ → Type 0
 StepsIs w rows nodes r = (t : List ℕ) × TableOf w rows nodes t × (r ≡ held t allLengths (rootOf (w .resource)))
 
 -- no length, where the resource need not be watched or is not hit; and else the least
-pub data Sought (w : Watch) (rows nodes : List ℕ) : ℕ → Type 0 where
+pub data Sought (w : WatchOne) (rows nodes : List ℕ) : ℕ → Type 0 where
   not-touched : touched nodes (w .resource) ≡ false → Sought w rows nodes noLength
   not-hit : NeverHits w rows nodes → Sought w rows nodes noLength
   sought : {v : ℕ} → StepsIs w rows nodes v → Sought w rows nodes v
@@ -252,7 +252,7 @@ pub record ShortestIs (local : Bool) (p : ℕ) (rows nodes : List ℕ) (r : Shor
       → NeverHits (watchOf local p x) rows nodes ⊎ ((v : ℕ) × StepsIs (watchOf local p x) rows nodes v × (r .length ≤ v))
 
 -- what is written where n is that length
-abbrev pub Shows : Watch → List ℕ → List ℕ → ℕ → List ℕ → List ℕ → Type 0
+abbrev pub Shows : WatchOne → List ℕ → List ℕ → ℕ → List ℕ → List ℕ → Type 0
 Shows w rows nodes n trace trace′ =
     (es : List Edge) → Source es (nodesOf nodes) (w .policy) (w .resource) rows → StepsIs w rows nodes n
     → (after : Past) × Written (w .local) es (nodesOf nodes) (w .policy) (watching (w .resource)) n false 0 noNames noName

@@ -14,7 +14,7 @@ use checker_account::Table;
 use checker_lengths::BROKEN;
 use checker_lengths::Entry;
 use checker_lengths::Lengths;
-use checker_tables::Watch;
+use checker_lengths::WatchOne;
 use outline_nodes::NodeForm;
 use usage::MOST_NODES;
 use usage::NODE_FIELDS;
@@ -138,7 +138,7 @@ fn closure(t: &Lengths, nodes: &[u8], e: Entry) -> u64
 }
 
 // The first rule of node f that gives n, or as many as there are.
-fn rule(t: &Lengths, rows: &Table, w: Watch, f: NodeForm, e: Entry, n: u8) -> usize
+fn rule(t: &Lengths, rows: &Table, w: WatchOne, f: NodeForm, e: Entry, n: u8) -> usize
     ensures { λ r. ⌜ RuleIs w (now (rows .entry)) (now (t .entry)) (saidBy f) e n r ⌝ }
 {
     let ways = checker_lengths::offers::ways(f);
@@ -153,7 +153,7 @@ fn rule(t: &Lengths, rows: &Table, w: Watch, f: NodeForm, e: Entry, n: u8) -> us
 }
 
 // Where to go on from an entry of n steps.
-pub(crate) fn find(t: &Lengths, nodes: &[u8], rows: &Table, w: Watch, e: Entry, n: u8) -> Onto
+pub(crate) fn find(t: &Lengths, nodes: &[u8], rows: &Table, w: WatchOne, e: Entry, n: u8) -> Onto
     requires { ⌜ length (now nodes) / nodeFields ≤ mostNodes ⌝ }
     ensures { λ r. ⌜ OntoIs w (now (rows .entry)) (now (nodes .entry)) (now (t .entry)) e n r ⌝ }
 {

@@ -10,9 +10,12 @@ ghost use Rattle.checker_trace.specs.Code.{rootOf, TableOf, TableIf, Sou
 ghost use Rattle.checker_lengths.specs.Entries.{noLength};
 ghost use Rattle.checker_lengths.specs.Held.{watchOf};
 use checker_account::NAMES;
+use checker_account::NOTHING;
 use checker_account::PLACES;
+use checker_account::Resources;
 use checker_account::Table;
 use checker_account::WATCHED;
+use checker_account::Watch;
 use checker_lengths::ALL;
 use checker_lengths::BROKEN;
 use checker_lengths::Entry;
@@ -20,7 +23,7 @@ use checker_lengths::Lengths;
 use checker_lengths::MOST;
 use checker_lengths::NONE;
 use checker_lengths::SIZE;
-use checker_tables::Watch;
+use checker_lengths::WatchOne;
 use usage::POLICIES;
 use usage::STATICS;
 use usage::STEP_FIELDS;
@@ -91,19 +94,30 @@ fn root(x: usize) -> Entry
     Entry {
         node: 0,
         opened: false,
-        meaning: checker_tables::least(x),
+        meaning: checker_tables::numbers::least(Resources {
+            first: x,
+            second: NOTHING,
+        }),
         state: 0,
         aim: BROKEN,
     }
 }
 
 // The table for one watched resource, where the search hits. Does it?
-fn table(nodes: &[u8], rows: &Table, w: Watch, t: &mut Lengths) -> bool
+fn table(nodes: &[u8], rows: &Table, w: WatchOne, t: &mut Lengths) -> bool
     ensures { λ r. ⌜ TableIf r w (now (rows .entry)) (now (nodes .entry)) (now (t .exit)) ⌝ }
     ensures { λ r. ⌜ (r ≡ false → now (t .exit) ≡ now (t .entry)) ⌝ }
 {
+    let one = Watch {
+        local: w.local,
+        policy: w.policy,
+        resources: Resources {
+            first: w.resource,
+            second: NOTHING,
+        },
+    };
     let mut u = [0u16; PLACES];
-    if !checker_tables::arrive(nodes, rows, w, &mut u) {
+    if !checker_tables::arrive(nodes, rows, one, &mut u) {
         return false;
     }
     checker_lengths::fill::fill(nodes, rows, &u, w, t);
@@ -111,7 +125,7 @@ fn table(nodes: &[u8], rows: &Table, w: Watch, t: &mut Lengths) -> bool
 }
 
 // The least length with one resource watched; none where it need not be or is not hit.
-fn steps(nodes: &[u8], rows: &Table, w: Watch, t: &mut Lengths) -> Found
+fn steps(nodes: &[u8], rows: &Table, w: WatchOne, t: &mut Lengths) -> Found
     ensures { λ r. ⌜ Sought w (now (rows .entry)) (now (nodes .entry)) (r .length) ⌝ }
     ensures { λ r. ⌜ (r .filled ≡ false → now (t .exit) ≡ now (t .entry)) ⌝ }
     ensures { λ r. ⌜ (r .length < noLength → TableOf w (now (rows .entry)) (now (nodes .entry)) (now (t .exit))) ⌝ }
@@ -146,7 +160,7 @@ fn least(nodes: &[u8], rows: &Table, local: bool, p: usize, t: &mut Lengths) -> 
     let mut kept = false;
     let mut x: usize = 0;
     while x <= WATCHED {
-        let w = Watch {
+        let w = WatchOne {
             local,
             policy: p,
             resource: x,
@@ -169,7 +183,7 @@ fn least(nodes: &[u8], rows: &Table, local: bool, p: usize, t: &mut Lengths) -> 
 }
 
 // The table for one watched resource, where it is not that already.
-fn again(nodes: &[u8], rows: &Table, w: Watch, kept: bool, t: &mut Lengths) -> bool
+fn again(nodes: &[u8], rows: &Table, w: WatchOne, kept: bool, t: &mut Lengths) -> bool
     requires { ⌜ (kept ≡ true → TableOf w (now rows) (now nodes) (now t)) ⌝ }
     ensures { λ r. ⌜ TableIf r w (now (rows .entry)) (now (nodes .entry)) (now (t .exit)) ⌝ }
 {
@@ -180,7 +194,15 @@ fn again(nodes: &[u8], rows: &Table, w: Watch, kept: bool, t: &mut Lengths) -> b
 }
 
 // The trace of n steps. `kept`: the table is that of the watched resource.
-fn show(nodes: &[u8], rows: &Table, w: Watch, n: u8, kept: bool, t: &mut Lengths, trace: &mut [u32])
+fn show(
+    nodes: &[u8],
+    rows: &Table,
+    w: WatchOne,
+    n: u8,
+    kept: bool,
+    t: &mut Lengths,
+    trace: &mut [u32],
+)
     requires { ⌜ length (now nodes) / nodeFields ≤ mostNodes ⌝ }
     requires { ⌜ n ≤ mostShown ⌝ }
     requires { ⌜ (kept ≡ true → TableOf w (now rows) (now nodes) (now t)) ⌝ }
@@ -232,14 +254,14 @@ pub fn counterexample(
         return Length::Longer;
     }
     let mut rows = [0u16; PLACES];
-    checker_rows::fill(edges, nodes, p, &mut rows);
+    checker_rows::fill(edges, nodes, p, false, &mut rows);
     let mut t = [NONE; SIZE];
     let found = least(nodes, &rows, local, p, &mut t);
     let n = found.length;
     if MOST < n {
         return Length::Longer;
     }
-    let w = Watch {
+    let w = WatchOne {
         local,
         policy: p,
         resource: found.resource,

@@ -20,8 +20,8 @@ use checker_account::NAMES;
 use checker_account::Table;
 use checker_lengths::BROKEN;
 use checker_lengths::Lengths;
+use checker_lengths::WatchOne;
 use checker_lengths::offers;
-use checker_tables::Watch;
 use outline_nodes::NodeForm;
 use usage::STEP_FIELDS;
 
@@ -132,7 +132,7 @@ fn body_part(p: Part, y: Way, made: Spot) -> Part
 }
 
 // The body of a sandbox, n steps being around it, after its opening.
-fn inner_part(w: Watch, p: Part, y: Way, n: u8, begun: Spot) -> Part
+fn inner_part(w: WatchOne, p: Part, y: Way, n: u8, begun: Spot) -> Part
     requires { ⌜ n ≤ p .steps ⌝ }
     ensures { λ r. ⌜ r ≡ innerPart w p y n begun ⌝ }
 {
@@ -152,7 +152,7 @@ fn write_sequence(
     t: &Lengths,
     nodes: &[u8],
     rows: &Table,
-    w: Watch,
+    w: WatchOne,
     trace: &mut [u32],
     p: Part,
     y: Way,
@@ -172,7 +172,7 @@ fn write_fresh(
     t: &Lengths,
     nodes: &[u8],
     rows: &Table,
-    w: Watch,
+    w: WatchOne,
     trace: &mut [u32],
     p: Part,
     y: Way,
@@ -194,7 +194,7 @@ fn write_sandbox(
     t: &Lengths,
     nodes: &[u8],
     rows: &Table,
-    w: Watch,
+    w: WatchOne,
     trace: &mut [u32],
     p: Part,
     y: Way,
@@ -220,7 +220,7 @@ pub(crate) fn write(
     t: &Lengths,
     nodes: &[u8],
     rows: &Table,
-    w: Watch,
+    w: WatchOne,
     trace: &mut [u32],
     p: Part,
 ) -> Spot

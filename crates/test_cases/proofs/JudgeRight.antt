@@ -10,11 +10,14 @@ use Rattle.usage.specs.Answers.{Verdict}
 use Rattle.usage.specs.Past.{Valid, empty, occurrences}
 use Rattle.usage.specs.Judge.{stepOf, JudgedAll}
 use Rattle.usage.specs.Tables.{from, edgesOf, EdgeTable, edgeTable}
-use Rattle.usage.specs.Tests.{every, someBelow, edgeOk, edgesOk}
+use Rattle.usage.specs.Tests.{every, someOf, someBelow, edgeOk, isPair, threePairs, edgesOk}
 use Rattle.usage.proofs.Logic.{by-cases, and-left, and-right}
 use Rattle.usage.proofs.TableLaws.{decides-edge-table}
 use Rattle.automaton.specs.Mask.{has, single, union}
 use Rattle.automaton.specs.Move.{targets, image, move, moveMask}
+use Rattle.automaton.specs.PairSet.{pairSet}
+use Rattle.monitor_pairs.specs.Which.{blocksOf}
+use Rattle.monitor_pairs.specs.Blocks.{ofPolicy, eachBlock, withGathered}
 use Rattle.monitor_state.specs.Tracked.{startTracked, copied, copiedIn, retiredSets, retiredIn, movedSets, gathered, movedIn, resetSets, resetIn}
 use Rattle.monitor_state.specs.Created.{startCreated, listed, distinct, createdOk, highestOk, liveOk, placeFrom, placeIn, placeOf}
 use Rattle.monitor_state.specs.Created.{closedUp, withNew, withRetired}
@@ -28,16 +31,16 @@ use Rattle.test_cases.specs.JudgeCases.{caseE, caseF, caseG, caseH, case
 
 -- the judge's definition, computed
 unfoldable pub run : List ℕ → Bool → List RawStep → List Verdict
-unfolding stepOf from edgesOf edgeTable every someBelow edgeOk edgesOk has
+unfolding stepOf from edgesOf edgeTable every someOf someBelow edgeOk isPair threePairs edgesOk has
     single union targets image move moveMask startTracked startCreated startUnclosed startState listed distinct
     createdOk highestOk liveOk occurrences stackIn agreeBelow orderOk unclosedOk stateOk placeFrom placeIn placeOf closedUp
     copied copiedIn withNew creating movedSets gathered movedIn withTracked moving resetSets resetIn withOpening entering
-    withClosing leaving retiredSets retiredIn withRetired releasing after
+    withClosing leaving retiredSets retiredIn withRetired releasing after pairSet blocksOf ofPolicy eachBlock withGathered
     broken refusal refuse halt settle judgeStep judgeRead judgeOf answersOf trailingZeros
 run t local raws = map verdictOf (answersOf t local startState raws)
 
 unfoldable pub possible : List ℕ → Bool
-unfolding from edgesOf edgeTable every edgeOk edgesOk
+unfolding from edgesOf edgeTable every someOf someBelow edgeOk isPair threePairs edgesOk
 possible t = edgeTable t
 
 -- What it gives for each case of a list, where all tables are possible, is right.

@@ -1,45 +1,85 @@
-use denote.Ref.{now}
-use mathlib.Core.Path.{_≡_, subst, sym, ap, _∙_}
-use mathlib.Core.Bool.{Bool, true, false}
-use mathlib.Core.List.{List}
-use Rattle.usage.specs.declared.Edge.{Edge}
-use Rattle.usage.specs.Tables.{edgesOf}
-use Rattle.automaton.specs.Move.{rowsOf}
-use Rattle.automaton.proofs.RowLaws.{rows-lt}
-use Rattle.checker_account.specs.RowTable.{Bytes, rowsStored}
-use Prim.Native.Nat.{ℕ, _<_}
-use lib.ListN.{getD}
+use native.Mathlib.Omega.{arith}
+use mathlib.Core.Path.{_≡_, refl, sym, ap, _∙_}
+use Prim.Native.Nat.{ℕ, suc, _+_, _-_, _≤_, _<_}
+use lib.ListN.{length, getD, take, drop, set}
 use borrow.Author.Needs.{needs}
+use denote.Ref.{now}
+use mathlib.Core.Bool.{true, false}
+use Rattle.usage.specs.Tables.{edgesOf}
+use Rattle.checker_rows.proofs.SideLaws.{one-bytes, second-bytes, first-side, second-side, one-side, both-sides, stored-length}
 use Rattle.checker_rows.proofs.event_rows.Statement.{statement}
 use Rattle.checker_rows.proofs.event_rows.Tie as tie
 use Rattle.checker_rows.proofs.event_rows.Reads as reads
 use Rattle.checker_rows.proofs.event_rows.Lts as lts
 use Rattle.automaton.proofs.moves.rows.Reads as rows-reads
+use Rattle.automaton.proofs.moves.rows_second.Reads as rows-second-reads
 use Rattle.checker_rows.proofs.store.Reads as store-reads
 
-bytes : (es : List Edge) (action resource : ℕ) (mine : Bool) (t : List ℕ) → t ≡ rowsOf es action resource mine → Bytes t
-bytes es action resource mine t e i = subst (λ (t : List ℕ). getD t i 0 < 256) (sym e) (rows-lt es action resource mine i)
-
+-- src/lib.rt:74:5
 rows-requires : tie.Need-rows-requires
 rows-requires c κs = search needs
 
+-- src/lib.rt:75:5
 store-requires : tie.Need-store-requires
 store-requires c κs =
     let a = c .before .before .before .before .before .before .before .args in
     let p = c .before .before .before .before .before .before .before .pre in
     let e = c .before .before .before .rows .ensures in
-    let es = edgesOf (now (a .edges)) in
-    (p .0, (p .1 .0, (p .1 .1, (bytes es (a .action) (a .resource) true _ (e .0), bytes es (a .action) (a .resource) false _ (e .1)))))
+    let es = edgesOf (now (a .edges)) in (
+      p .0,
+      (
+        p .1 .0,
+        (
+          omega arith,
+          (p .1 .1, (one-bytes es (a .action) (a .resource) true _ (e .0), one-bytes es (a .action) (a .resource) false _ (e .1))),
+        ),
+      ),
+    )
 
+-- src/lib.rt:77:9
+rows-second-requires : tie.Need-rows-second-requires
+rows-second-requires c κs = search needs
+
+-- src/lib.rt:78:9
+store-requires-2 : tie.Need-store-requires-2
+store-requires-2 c κs =
+    let a = c .before .before .before .before .before .before .before .before .before .before .before .before .before .before .before .args in
+    let p = c .before .before .before .before .before .before .before .before .before .before .before .before .before .before .before .pre in
+    let e = c .before .before .before .rows-second .ensures in
+    let es = edgesOf (now (a .edges)) in
+    let st = c .before .before .before .before .before .before .before .store in (
+      stored-length (a .s .node) (a .s .policy) _ _ (now (a .rows)) _ (p .1 .0) (p .0) (st .ensures),
+      (
+        p .1 .0,
+        (
+          omega arith,
+          (p .1 .1, (second-bytes es (a .action) (a .resource) true _ (e .0), second-bytes es (a .action) (a .resource) false _ (e .1))),
+        ),
+      ),
+    )
+
+-- src/lib.rt:65:1
 returns : tie.Need-returns
 returns c =
-    let a = c .before .before .before .before .before .before .before .before .args in
-    let e = c .before .before .before .before .rows in
-    c .store .ensures
-    ∙ ap (λ (own : List ℕ). rowsStored (a .k) (a .p) own (e .last .1 .1 .1 .1 .0) (now (a .rows))) (e .ensures .0)
-    ∙ ap (λ (other : List ℕ). rowsStored (a .k) (a .p) (rowsOf (edgesOf (now (a .edges))) (a .action) (a .resource) true) other
-    (now (a .rows)))
-    (e .ensures .1)
+    let a = c .before .before .before .before .before .before .before .before .before .before .before .before .before .before .before .before .args in
+    let es = edgesOf (now (a .edges)) in
+    let st = c .before .before .before .before .before .before .before .before .store in
+    let e = c .before .before .before .before .before .before .before .before .before .before .before .before .rows .ensures in
+    let f = c .before .before .before .before .rows-second .ensures in
+    both-sides es (a .action) (a .resource) (a .s .pair) (a .s .policy) (a .s .node) (now (a .rows)) _ _ (c .before .before .before .before .before .before .before .if1 .taken)
+    (first-side es (a .action) (a .resource) (a .s .policy) (a .s .node) _ _ (now (a .rows)) _ (e .0) (e .1) (st .ensures))
+    (second-side es (a .action) (a .resource) (a .s .policy) (a .s .node) _ _ _ _ (f .0) (f .1) (c .store2 .ensures))
+
+-- src/lib.rt:65:1
+returns-2 : tie.Need-returns-2
+returns-2 c =
+    let a = c .before .before .before .before .before .before .before .before .before .args in
+    let es = edgesOf (now (a .edges)) in
+    let e = c .before .before .before .before .before .rows .ensures in
+    one-side es (a .action) (a .resource) (a .s .pair) (a .s .policy) (a .s .node) (now (a .rows)) _ (c .if1 .left)
+    (first-side es (a .action) (a .resource) (a .s .policy) (a .s .node) _ _ (now (a .rows)) _ (e .0) (e .1) (c .before .store .ensures))
 
 pub event-rows-spec : {M : Type 1} → statement M
-event-rows-spec = tie.close (tie.spec rows-requires store-requires returns)
+event-rows-spec =
+    tie.close
+    (tie.spec rows-requires store-requires rows-second-requires store-requires-2 returns returns-2)

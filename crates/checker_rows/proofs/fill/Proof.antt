@@ -4,13 +4,14 @@ use Prim.Native.Nat.{ℕ, _-_, _≤_, _/_}
 use lib.ListN.{length, replicate}
 use borrow.Author.Needs.{needs}
 use denote.Ref.{now}
+use mathlib.Core.Bool.{Bool}
 use mathlib.Core.List.{List}
 use Rattle.usage.specs.Limits.{mostNodes, nodeFields}
 use mathlib.Core.Option.{Option}
 use Rattle.usage.specs.Outline.{Form}
 use Rattle.outline_nodes.proofs.SaidLaws.{form-at}
 use Rattle.usage.specs.Tables.{edgesOf}
-use Rattle.automaton.specs.Move.{rowsOf}
+use Rattle.automaton.specs.Move.{rowsAt}
 use Rattle.checker_account.specs.Filling.{repeat, formsIn}
 use Rattle.checker_account.specs.RowTable.{nodeRows, fillRows}
 use Rattle.checker_account.proofs.GrowsLaws.{repeat-more}
@@ -24,24 +25,24 @@ use Rattle.outline_nodes.proofs.form.Reads as form-reads
 use Rattle.checker_rows.proofs.of_node.Reads as of-node-reads
 use Rattle.checker_account.specs.Tables.{places}
 
-abbrev steps : List ℕ → List ℕ → ℕ → ℕ → List ℕ → List ℕ
-steps edges nodes p k = nodeRows (rowsOf (edgesOf edges)) p k (formsIn nodes k)
+abbrev steps : List ℕ → List ℕ → ℕ → Bool → ℕ → List ℕ → List ℕ
+steps edges nodes p pair k = nodeRows (rowsAt (edgesOf edges)) pair p k (formsIn nodes k)
 
 abbrev Inv-loop : tie.InvT-loop
-Inv-loop edges nodes p rows₀ n k₀ rows k = (k ≤ n) × (rows ≡ repeat (steps edges nodes p) k (replicate places 0))
+Inv-loop edges nodes p pair rows₀ n k₀ rows k = (k ≤ n) × (rows ≡ repeat (steps edges nodes p pair) k (replicate places 0))
 
 abbrev μ-loop : tie.MeasureT-loop
-μ-loop edges nodes p rows₀ n k₀ rows k = n - k
+μ-loop edges nodes p pair rows₀ n k₀ rows k = n - k
 
 returns : tie.Need-returns Inv-loop μ-loop
 returns c =
     let a = c .before .before .before .before .args in
-    sym (no-policy (rowsOf (edgesOf (now (a .edges)))) (a .p) (now (a .nodes)) (c .if1 .taken))
+    sym (no-policy (rowsAt (edgesOf (now (a .edges)))) (a .pair) (a .p) (now (a .nodes)) (c .if1 .taken))
 
 returns-2 : tie.Need-returns-2 Inv-loop μ-loop
 returns-2 c =
     let a = c .before .before .before .before .before .args in
-    sym (no-room (rowsOf (edgesOf (now (a .edges)))) (a .p) (now (a .nodes)) (c .if2 .taken))
+    sym (no-room (rowsAt (edgesOf (now (a .edges)))) (a .pair) (a .p) (now (a .nodes)) (c .if2 .taken))
 
 loop-holds : tie.Need-loop-holds Inv-loop μ-loop
 unfolding repeat
@@ -56,7 +57,7 @@ of-node-requires c κs =
     let l = c .before .before .before .loop in
     let h = c .before .before .loop-test .taken in
     let few : length (a .nodes .now) / nodeFields ≤ mostNodes = c .before .before .before .before .if2 .left in
-    let len = filled-length (rowsOf (edgesOf (a .edges .now))) (a .p) (formsIn (a .nodes .now)) (replicate places 0) refl (l .k)
+    let len = filled-length (rowsAt (edgesOf (a .edges .now))) (a .pair) (a .p) (formsIn (a .nodes .now)) (replicate places 0) refl (l .k)
     (omega arith) in
     (ap length (l .inv .1) ∙ len, (omega arith, c .before .before .before .before .before .if1 .left))
 
@@ -73,9 +74,9 @@ loop-again c =
     let h = c .before .before .before .loop-test .taken in
     let e =
     c .of-node .ensures
-    ∙ ap (λ (d : Option Form). nodeRows (rowsOf (edgesOf (a .edges .now))) (a .p) (l .k) d (l .rows))
+    ∙ ap (λ (d : Option Form). nodeRows (rowsAt (edgesOf (a .edges .now))) (a .pair) (a .p) (l .k) d (l .rows))
     (c .before .before .form .ensures ∙ form-at (a .nodes .now) (l .k) h) in
-    let f = steps (a .edges .now) (a .nodes .now) (a .p) in
+    let f = steps (a .edges .now) (a .nodes .now) (a .p) (a .pair) in
     (search needs, repeat-more f (l .k) (replicate places 0) (l .rows) (c .of-node .last .0) (l .inv .1) e)
 
 returns-3 : tie.Need-returns-3 Inv-loop μ-loop
@@ -86,7 +87,7 @@ returns-3 c =
     let e : l .k ≡ length (a .nodes .now) / nodeFields = omega arith in
     (rw e at (l .inv .1))
     ∙ sym
-    (whole-in (rowsOf (edgesOf (now (a .edges)))) (a .p) (now (a .nodes)) (c .before .before .before .if1 .left)
+    (whole-in (rowsAt (edgesOf (now (a .edges)))) (a .pair) (a .p) (now (a .nodes)) (c .before .before .before .if1 .left)
     (c .before .before .if2 .left))
 
 pub fill-spec : {M : Type 1} → statement M

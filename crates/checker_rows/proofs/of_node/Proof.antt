@@ -1,6 +1,6 @@
 use denote.Ref.{now}
 use Rattle.usage.specs.Tables.{edgesOf}
-use Rattle.automaton.specs.Move.{rowsOf}
+use Rattle.automaton.specs.Move.{rowsAt}
 use Rattle.checker_account.specs.RowTable.{nodeRows}
 use Rattle.checker_rows.proofs.OtherLaws.{no-rows}
 use borrow.Author.Needs.{needs}
@@ -52,7 +52,7 @@ returns-3 c = rw (c .before .before .enum-told .given .1) (c .event-rows3 .ensur
 returns-4 : tie.Need-returns-4
 returns-4 c =
     let a = c .before .before .args in
-    no-rows (rowsOf (edgesOf (now (a .edges)))) (a .p) (a .k) (now (a .rows)) (a .f) (c .match .keys4)
+    no-rows (rowsAt (edgesOf (now (a .edges)))) (a .s .pair) (a .s .policy) (a .s .node) (now (a .rows)) (a .f) (c .match .keys4)
 
 pub of-node-spec : {M : Type 1} → statement M
 of-node-spec =

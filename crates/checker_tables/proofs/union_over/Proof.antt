@@ -1,11 +1,11 @@
-use lib.Bits.{bitOr}
+use lib.Bits.{bitOr, or-zero-r}
 use Rattle.usage.specs.Limits.{states}
 use Rattle.usage.proofs.Logic.{by-cases}
 use Rattle.automaton.specs.Mask.{has, union}
 use Rattle.checker_account.proofs.MaskLaws.{over-in, over-out}
 use mathlib.Core.Bool.{cond}
 use native.Mathlib.Omega.{arith}
-use mathlib.Core.Path.{_≡_, refl, ap, _∙_}
+use mathlib.Core.Path.{_≡_, refl, ap, ap₂, _∙_}
 use Prim.Native.Nat.{ℕ, _+_, _-_, _≤_}
 use lib.ListN.{getD}
 use borrow.Author.Needs.{needs}
@@ -25,6 +25,15 @@ loop-holds : tie.Need-loop-holds Inv-loop μ-loop
 unfolding union
 loop-holds c = (search needs, refl)
 
+add-e : tie.Need-add-e Inv-loop μ-loop
+add-e c = search needs
+
+mul-e : tie.Need-mul-e Inv-loop μ-loop
+mul-e c = search needs
+
+shared-slice-read-e : tie.Need-shared-slice-read-e Inv-loop μ-loop
+shared-slice-read-e c = search needs
+
 cast-if1 : tie.Need-cast-if1 Inv-loop μ-loop
 cast-if1 c = search needs
 
@@ -34,15 +43,6 @@ cast-if1-2 c = search needs
 shr-if1 : tie.Need-shr-if1 Inv-loop μ-loop
 shr-if1 c = search needs
 
-add-r : tie.Need-add-r Inv-loop μ-loop
-add-r c = search needs
-
-mul-r : tie.Need-mul-r Inv-loop μ-loop
-mul-r c = search needs
-
-element-copy-out-r : tie.Need-element-copy-out-r Inv-loop μ-loop
-element-copy-out-r c = search needs
-
 add-q : tie.Need-add-q Inv-loop μ-loop
 add-q c = search needs
 
@@ -51,12 +51,15 @@ loop-less c = search needs
 
 loop-again : tie.Need-loop-again Inv-loop μ-loop
 loop-again c =
-    let a = c .before .before .before .args in
-    let l = c .before .before .loop in
+    let a = c .before .before .before .before .before .args in
+    let l = c .before .before .before .before .loop in
     let f : ℕ → ℕ = λ (j : ℕ). getD (a .t .now) (a .i + j) 0 in
-    by-cases (c .if1 .came)
-    (λ w. (search needs, w .2 ∙ ap (λ (n : ℕ). bitOr n (f (l .q))) (l .inv .1) ∙ over-in f (a .v) (l .q) (w .0 .taken)))
-    (λ w. (search needs, w .1 ∙ l .inv .1 ∙ over-out f (a .v) (l .q) (w .0 .left)))
+    by-cases (c .before .if1 .came)
+    (λ w. (search needs, ap₂ (λ (n m : ℕ). bitOr n m) (l .inv .1) (w .1) ∙ over-in f (a .v) (l .q) (w .0 .taken)))
+    (λ w. (
+      search needs,
+      ap₂ (λ (n m : ℕ). bitOr n m) (l .inv .1) (w .1) ∙ or-zero-r _ ∙ over-out f (a .v) (l .q) (w .0 .left),
+    ))
 
 returns : tie.Need-returns Inv-loop μ-loop
 unfolding over
@@ -71,12 +74,12 @@ union-over-spec =
     Inv-loop
     μ-loop
     loop-holds
+    add-e
+    mul-e
+    shared-slice-read-e
     cast-if1
     cast-if1-2
     shr-if1
-    add-r
-    mul-r
-    element-copy-out-r
     add-q
     loop-less
     loop-again

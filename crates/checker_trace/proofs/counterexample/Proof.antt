@@ -74,7 +74,7 @@ returns-5 c = let a =
     (sym (c .before .before .before .before .before .before .before .before .node-table-ok .ensures)
     ∙ not-false (c .before .before .before .before .before .before .before .before .node-table-ok .result)
     (c .before .before .before .before .before .before .before .if3 .left)) in
-    let rows = c .before .before .before .before .fill .last .1 .1 .1 .0 in
+    let rows = c .before .before .before .before .fill .last .1 .1 .1 .1 .0 in
     let src = laws.source-of (a .edges .now) (a .nodes .now) (et .edges) (nt .outline) (a .p)
     (c .before .before .before .before .before .before .if4 .left) rows (c .before .before .before .before .fill .ensures) in
     let few-nodes = laws.few-nodes (a .edges .now) (a .nodes .now) (et .edges) (nt .outline) (a .p)
@@ -96,7 +96,7 @@ show-requires c κs = let a =
     (sym (c .before .before .before .before .before .before .before .before .before .before .before .node-table-ok .ensures)
     ∙ not-false (c .before .before .before .before .before .before .before .before .before .before .before .node-table-ok .result)
     (c .before .before .before .before .before .before .before .before .before .before .if3 .left)) in
-    let rows = c .before .before .before .before .before .before .before .fill .last .1 .1 .1 .0 in
+    let rows = c .before .before .before .before .before .before .before .fill .last .1 .1 .1 .1 .0 in
     let src = laws.source-of (a .edges .now) (a .nodes .now) (et .edges) (nt .outline) (a .p)
     (c .before .before .before .before .before .before .before .before .before .if4 .left) rows
     (c .before .before .before .before .before .before .before .fill .ensures) in
@@ -134,7 +134,7 @@ returns-6 c = let a =
     ∙ not-false (c .before .before .before .before .before .before .before .before .before .before .before .before .before .before
     .node-table-ok .result)
     (c .before .before .before .before .before .before .before .before .before .before .before .before .before .if3 .left)) in
-    let rows = c .before .before .before .before .before .before .before .before .before .before .fill .last .1 .1 .1 .0 in
+    let rows = c .before .before .before .before .before .before .before .before .before .before .fill .last .1 .1 .1 .1 .0 in
     let src = laws.source-of (a .edges .now) (a .nodes .now) (et .edges) (nt .outline) (a .p)
     (c .before .before .before .before .before .before .before .before .before .before .before .before .if4 .left) rows
     (c .before .before .before .before .before .before .before .before .before .before .fill .ensures) in

@@ -5,6 +5,7 @@ use Rattle.usage.proofs.Logic.{false-true, not-true, not-false}
 use Rattle.checker_tables.specs.Search.{hasRoom, ArrivesIf}
 use Rattle.checker_lengths.specs.Filling.{FullIf}
 use Rattle.checker_trace.proofs.ShownLaws.{arrives-room}
+use Rattle.checker_account.specs.Tables.{oneResource}
 use borrow.Author.Needs.{needs}
 use Rattle.checker_trace.proofs.table.Statement.{statement}
 use Rattle.checker_trace.proofs.table.Tie as tie
@@ -23,7 +24,7 @@ returns c =
       (
         r .last .1 .1 .1 .0,
         subst (λ (b : Bool). ArrivesIf (hasRoom (a .nodes .now)) (a .nodes .now) (a .w .local) (a .rows .now) (a .w .policy)
-            (a .w .resource)
+            (oneResource (a .w .resource))
             (r .last .1 .1 .1 .0) b) (not-true (r .result) (c .if1 .taken)) (r .ensures),
       ),
       λ e. refl,
@@ -37,7 +38,7 @@ returns-2 c =
     let a = c .before .before .before .before .before .before .before .args in
     let r = c .before .before .before .before .arrive in
     let u = r .last .1 .1 .1 .0 in
-    let came = arrives-room (hasRoom (a .nodes .now)) (a .nodes .now) (a .w .local) (a .rows .now) (a .w .policy) (a .w .resource) u
+    let came = arrives-room (hasRoom (a .nodes .now)) (a .nodes .now) (a .w .local) (a .rows .now) (a .w .policy) (oneResource (a .w .resource)) u
     (r .result) (r .ensures) (not-false (r .result) (c .before .before .before .if1 .left)) in (
       (
         u,

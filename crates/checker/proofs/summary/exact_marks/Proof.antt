@@ -3,10 +3,10 @@ use mathlib.Core.Path.{sym, _∙_}
 use borrow.Author.Needs.{needs}
 use Rattle.usage.specs.Tables.{edgesOf}
 use Rattle.usage.proofs.Logic.{not-true}
-use Rattle.automaton.specs.Move.{rowsOf}
+use Rattle.automaton.specs.Move.{rowsAt}
 use Rattle.checker_rows.proofs.WholeLaws.{whole-in}
 use Rattle.checker.proofs.PolicyLaws.{few-nodes, shut, bare}
-use Rattle.checker.proofs.MarkLaws.{policy-exact, unmarked}
+use Rattle.checker.proofs.MarkLaws.{policy-exact-by, unmarked}
 use Rattle.checker.proofs.summary.exact_marks.Statement.{statement}
 use Rattle.checker.proofs.summary.exact_marks.Tie as tie
 
@@ -32,24 +32,29 @@ returns-2 c =
     unmarked (a .local) (now (a .edges)) (now (a .nodes)) (p .0) (p .1 .0) (a .p)
     (bare (a .local) (now (a .edges)) (now (a .nodes)) (p .0) (p .1 .0) (a .p) (sym (o .ensures) ∙ not-true (o .result) (c .if2 .taken)))
 
+is-pair-requires : tie.Need-is-pair-requires
+is-pair-requires c κs = search needs
+
 fill-requires : tie.Need-fill-requires
 fill-requires c κs = search needs
 
 policy-marks-requires : tie.Need-policy-marks-requires
-policy-marks-requires c κs = c .before .before .before .before .before .before .before .before .before .pre .1 .0
+policy-marks-requires c κs = c .before .before .before .before .before .before .before .before .before .before .pre .1 .0
 
 returns-3 : tie.Need-returns-3
 returns-3 c =
-    let a = c .before .before .before .before .before .before .before .before .before .before .args in
-    let p = c .before .before .before .before .before .before .before .before .before .before .pre in
+    let a = c .before .before .before .before .before .before .before .before .before .before .before .args in
+    let p = c .before .before .before .before .before .before .before .before .before .before .before .pre in
     let f = c .before .before .fill in
+    let k = c .before .before .before .before .is-pair in
     let e =
-    f .ensures ∙ whole-in (rowsOf (edgesOf (now (a .edges)))) (a .p) (now (a .nodes)) (p .1 .1)
+    f .ensures ∙ whole-in (rowsAt (edgesOf (now (a .edges)))) (k .result) (a .p) (now (a .nodes)) (p .1 .1)
     (few-nodes (a .local) (now (a .edges)) (now (a .nodes)) (p .0) (p .1 .0)) in
-    policy-exact (a .local) (now (a .edges)) (now (a .nodes)) (p .0) (p .1 .0) (a .p) (p .1 .1) (f .last .1 .1 .1 .0) e (c .policy-marks .result)
+    policy-exact-by (a .local) (now (a .edges)) (now (a .nodes)) (p .0) (p .1 .0) (a .p) (p .1 .1) (k .result) (k .ensures)
+    (f .last .1 .1 .1 .1 .0) e (c .policy-marks .result)
     (c .policy-marks .ensures)
 
 pub exact-marks-spec : {M : Type 1} → statement M
 exact-marks-spec =
     tie.close
-    (tie.spec opens-requires returns has-edge-requires returns-2 fill-requires policy-marks-requires returns-3)
+    (tie.spec opens-requires returns has-edge-requires returns-2 is-pair-requires fill-requires policy-marks-requires returns-3)

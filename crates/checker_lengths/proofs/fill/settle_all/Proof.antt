@@ -13,15 +13,14 @@ use Rattle.usage.specs.Limits.{mostNodes, nodeFields}
 use Rattle.usage.specs.Outline.{Form}
 use Rattle.outline_nodes.specs.declared.NodeForm.{NodeForm}
 use Rattle.outline_nodes.specs.Said.{saidBy}
-use Rattle.checker_account.specs.Tables.{meanings, least}
+use Rattle.checker_account.specs.Tables.{oneResource, meanings, least}
 use Rattle.checker_account.specs.Filling.{formsIn}
-use Rattle.checker_account.proofs.Starts.{least-le}
 use Rattle.automaton.specs.Mask.{has}
 use Rattle.checker_tables.specs.Search.{NodesFit}
 use Rattle.checker_tables.specs.Work.{readersOf}
 use Rattle.checker_tables.proofs.WorkLaws.{shl-node}
 use Rattle.checker_tables.proofs.FitLaws.{readers-fit}
-use Rattle.checker_tables.specs.declared.Watch.{Watch}
+use Rattle.checker_lengths.specs.declared.WatchOne.{WatchOne}
 use Rattle.checker_lengths.specs.Filling.{formHere, NodeSettled}
 use Rattle.checker_lengths.specs.Code.{Pass}
 use Rattle.checker_lengths.proofs.LeftLaws.{
@@ -42,12 +41,12 @@ use Rattle.checker_lengths.proofs.fill.settle_all.Reads as reads
 use Rattle.checker_lengths.proofs.fill.settle_all.Lts as lts
 use Rattle.checker_lengths.proofs.fill.settle_node.Reads as settle-node-reads
 use Rattle.outline_nodes.proofs.form.Reads as form-reads
-use Rattle.checker_tables.proofs.least.Reads as least-reads
+use Rattle.checker_tables.proofs.numbers.least.Reads as least-reads
 use Rattle.checker_tables.proofs.work.all.Reads as all-reads
 use Rattle.checker_lengths.proofs.fill.next.Reads as next-reads
 use Rattle.checker_tables.proofs.work.readers.Reads as readers-reads
 
-abbrev Left : Watch → List ℕ → List ℕ → List ℕ → ℕ → List ℕ → ℕ → Type 0
+abbrev Left : WatchOne → List ℕ → List ℕ → List ℕ → ℕ → List ℕ → ℕ → Type 0
 Left w rows nodes come l = Working w rows nodes come l (length nodes / nodeFields)
 
 fewer : (n : ℕ) → n ≤ mostNodes → min n mostNodes ≡ n
@@ -57,7 +56,7 @@ positive : (s : ℕ) → (s ≡ 0 → ⊥) → 0 < s
 positive s d = omega arith
 
 -- a node that is left
-module _ (w : Watch) (rows nodes come : List ℕ) (l : ℕ) (fit : NodesFit nodes) (t : List ℕ) (s k : ℕ) (h : Left w rows nodes come l t s)
+module _ (w : WatchOne) (rows nodes come : List ℕ) (l : ℕ) (fit : NodesFit nodes) (t : List ℕ) (s k : ℕ) (h : Left w rows nodes come l t s)
     (in-s : has s k ≡ true) where
   abbrev n : ℕ
   n = length nodes / nodeFields
@@ -181,12 +180,7 @@ settle-node-requires c κs =
     let l = c .before .before .before .before .before .before .before .before .least .result in
     let i = c .before .before .before .before .loop in
     let h = c .before .before .next in
-    let low : l < meanings = omega (
-      arith,
-      c .before .before .before .before .before .before .before .before .least .ensures,
-      least-le
-          (a .w .resource),
-    ) in (
+    let low : l < meanings = omega (arith, c .before .before .before .before .before .before .before .before .least .ensures .1) in (
       i .inv .1 .size-is,
       (
         low,
@@ -280,7 +274,7 @@ returns c =
     let l = c .before .before .before .before .before .least in
     let i = c .before .loop in
     working-full (a .w) (a .rows .now) (a .nodes .now) (a .u .now) (l .result)
-    (c .before .before .before .before .before .before .before .before .pre .few) (l .ensures)
+    (c .before .before .before .before .before .before .before .before .pre .few) (l .ensures .0)
     (subst (Left (a .w) (a .rows .now) (a .nodes .now) (a .u .now) (l .result) (i .t)) (c .loop-test .left) (i .inv .1))
 
 pub settle-all-spec : {M : Type 1} → statement M

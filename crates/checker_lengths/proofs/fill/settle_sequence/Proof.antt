@@ -11,7 +11,7 @@ use borrow.Author.Needs.{needs}
 use Rattle.usage.specs.Outline.{sequence}
 use Rattle.usage.proofs.Logic.{by-cases}
 use Rattle.checker_lengths.specs.declared.Entry.{Entry}
-use Rattle.checker_tables.specs.declared.Watch.{Watch}
+use Rattle.checker_lengths.specs.declared.WatchOne.{WatchOne}
 use Rattle.checker_lengths.specs.Entries.{allLengths, inTable, held, plus}
 use Rattle.checker_lengths.specs.Offers.{toward, lowEnd, firstEntry, secondEntry, sequenceOf, offerOf}
 use Rattle.checker_lengths.specs.Code.{Pass, Puts}
@@ -33,12 +33,12 @@ use Rattle.checker_lengths.proofs.offers.toward.Reads as toward-reads
 
 -- the aims below i are settled, by which t₀ has become t
 abbrev Below : Entry → ℕ → ℕ → ℕ → ℕ → List ℕ → List ℕ → Bool → Type 0
-Below s a b c i t₀ t r = (w : Watch) (rows : List ℕ) → Pass w rows (s .node) (some (sequence a b))
+Below s a b c i t₀ t r = (w : WatchOne) (rows : List ℕ) → Pass w rows (s .node) (some (sequence a b))
     (λ u. (j : ℕ) → j < i → lowEnd (s .meaning) ≤ j → Settled w rows (some (sequence a b)) u (toward s j) c) t₀ t r
 
 module _ (s : Entry) (a b c : ℕ) (low : c < 16) where
   -- where the first node comes to no such end
-  none-given : (t : List ℕ) (v : ℕ) → v ≡ held t allLengths (firstEntry s a c) → 200 < v → (w : Watch) (rows : List ℕ) (i : ℕ)
+  none-given : (t : List ℕ) (v : ℕ) → v ≡ held t allLengths (firstEntry s a c) → 200 < v → (w : WatchOne) (rows : List ℕ) (i : ℕ)
       → Settled w rows (some (sequence a b)) t (toward s i) c
   unfolding offerOf
   none-given t v e l w rows i few =

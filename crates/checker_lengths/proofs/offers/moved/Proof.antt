@@ -1,5 +1,6 @@
 use borrow.Author.Tests.{lt-ltb, le-ltb}
 use Rattle.checker_lengths.specs.Offers as spec
+use native.Mathlib.Nat.{zero-add}
 use borrow.Author.Needs.{needs}
 use Rattle.checker_lengths.proofs.offers.moved.Statement.{statement}
 use Rattle.checker_lengths.proofs.offers.moved.Tie as tie
@@ -47,7 +48,7 @@ returns-3 c = simp (lt-ltb _ _ (c .before .before .before .if1 .left), lt-ltb _ 
 
 returns-4 : tie.Need-returns-4
 unfolding spec.moved
-returns-4 c = simp (lt-ltb _ _ (c .before .before .before .if1 .left), lt-ltb _ _ (c .before .before .if2 .left), c .before .if3 .left)
+returns-4 c = simp (lt-ltb _ _ (c .before .before .before .if1 .left), lt-ltb _ _ (c .before .before .if2 .left), c .before .if3 .left, zero-add)
 
 pub moved-spec : {M : Type 1} → statement M
 moved-spec =

@@ -1,3 +1,6 @@
+use native.Mathlib.Omega.{arith}
+use mathlib.Core.Path.{_≡_}
+use lib.ListN.{length}
 use mathlib.Core.Path.{sym, ap, _∙_}
 use mathlib.Core.Bool.{Bool, _&&_, cond}
 use lib.Dec.{ltb}
@@ -31,12 +34,18 @@ returns-2 c =
     (and-false (ltb (a .k) mostNodes) (ltb (a .m) meanings) (le-ltb (a .m) meanings (c .if2 .taken))))
 
 states-at-requires : tie.Need-states-at-requires
-states-at-requires c κs = (c .before .if1 .left, c .if2 .left)
+states-at-requires c κs =
+    let a = (c .before .before .before .args) in
+    let l : length (a .u .now) ≡ 3072 = search needs in
+    let h = c .before .if2 .left in
+    (c .before .before .if1 .left, (omega arith, omega arith))
 
 returns-3 : tie.Need-returns-3
 returns-3 c =
-    let a = c .before .before .before .args in
-    c .states-at .ensures ∙ sym (come-to-in (now (a .u)) (a .k) (a .o) (a .m) (c .before .before .if1 .left) (c .before .if2 .left))
+    let a = c .before .before .before .before .args in
+    c .states-at .ensures ∙ sym (come-to-in (now (a .u)) (a .k) (a .o) (a .m) (c .before .before .before .if1 .left) (c .before .before .if2 .left))
 
 pub come-to-spec : {M : Type 1} → statement M
-come-to-spec = tie.close (tie.spec returns returns-2 states-at-requires returns-3)
+come-to-spec =
+    tie.close
+    (tie.spec returns returns-2 states-at-requires returns-3)

@@ -1,7 +1,12 @@
-use denote.Ref.{now}
-use mathlib.Core.List.{[], _∷_}
+use mathlib.Core.Path.{_≡_, refl, sym, ap, ap₂, _∙_, subst}
+use mathlib.Core.Bool.{Bool, true, false, not, _&&_, _||_, cond}
+use mathlib.Core.List.{List, [], _∷_}
+use Prim.Native.Nat.{ℕ, suc, _+_, _-_, _*_, _/_, _%_, _<_, _≤_}
+use native.Mathlib.Omega.{arith}
+use lib.ListN.{length, getD, replicate}
+use Rattle.checker_account.specs.declared.Arrival.{Arrival}
 use Rattle.checker_account.specs.Tables.{_by_by_with_}
-use Rattle.checker_tables.proofs.EnterLaws.{enters-both, enters-length, enters-as, inside-as}
+use Rattle.checker_tables.proofs.EnterLaws.{enters-both, enters-length, enters-as, room-as, room-in}
 use borrow.Author.Needs.{needs}
 use Rattle.checker_tables.proofs.arrivals.enter_two.Statement.{statement}
 use Rattle.checker_tables.proofs.arrivals.enter_two.Tie as tie
@@ -15,34 +20,39 @@ onto-requires c κs = search needs
 
 enter-requires : tie.Need-enter-requires
 enter-requires c κs =
-    let p = c .before .before .pre in
-    (p .0, inside-as (c .onto .result) _ (c .onto .ensures) (p .1 .0, p .1 .1 .1))
+    let p = c .before .before .before .pre in room-as _ (c .onto .result) _ (c .onto .ensures) (p .0, p .1 .1)
 
 onto-requires-2 : tie.Need-onto-requires-2
 onto-requires-2 c κs = search needs
 
 enter-requires-2 : tie.Need-enter-requires-2
 enter-requires-2 c κs =
-    let a = c .before .before .before .before .before .args in
-    let p = c .before .before .before .before .before .pre in
-    let s = c .before .before .enter in
-    let g = c .before .before .before .onto in (
-      enters-length (g .result ∷ []) (now (a .u)) (s .last .0) (s .result) (p .0) (s .ensures),
-      inside-as (c .onto2 .result) _ (c .onto2 .ensures) (p .1 .1 .0, p .1 .1 .1),
-    )
+    let p = c .before .before .before .before .before .before .before .before .pre in
+    let s = c .before .before .before .before .enter in
+    room-in (c .onto2 .result) (enters-length (c .before .before .before .before .before .onto .result ∷ []) (c .before .before .before .before .before .before .before .before .args .u .now) (s .last .0) (s .result) (s .ensures))
+    (room-as _ (c .onto2 .result) _ (c .onto2 .ensures) (p .1 .0, p .1 .1))
+
+same-length : tie.Need-same-length
+same-length c =
+    let s = c .before .before .before .before .before .before .before .enter in
+    let t = c .before .before .enter2 in
+    enters-length (c .before .before .before .onto2 .result ∷ []) (s .last .0) (t .last .0) (t .result) (t .ensures)
+    ∙ enters-length (c .before .before .before .before .before .before .before .before .onto .result ∷ []) (c .before .before .before .before .before .before .before .before .before .before .before .args .u .now) (s .last .0) (s .result) (s .ensures)
 
 returns : tie.Need-returns
 returns c =
-    let a = c .before .before .before .before .before .before .args in
-    let s = c .before .before .before .enter in
-    let t = c .enter2 in
-    let g = c .before .before .before .before .onto in
-    let h = c .before .onto2 in
+    let a = c .before .before .before .before .before .before .before .before .before .before .before .args in
+    let s = c .before .before .before .before .before .before .before .enter in
+    let t = c .before .before .enter2 in
+    let g = c .before .before .before .before .before .before .before .before .onto in
+    let h = c .before .before .before .onto2 in
     let first = a .a by a .from .opened by a .from .meaning with a .from .states in
     let second = a .b by a .from .opened by a .from .meaning with a .from .states in
-    enters-both (first ∷ []) (second ∷ []) (now (a .u)) (s .last .0) (t .last .0) (s .result) (t .result)
-    (enters-as (g .result) first (now (a .u)) (s .last .0) (s .result) (g .ensures) (s .ensures))
+    enters-both (first ∷ []) (second ∷ []) (a .u .now) (s .last .0) (t .last .0) (s .result) (t .result)
+    (enters-as (g .result) first (a .u .now) (s .last .0) (s .result) (g .ensures) (s .ensures))
     (enters-as (h .result) second (s .last .0) (t .last .0) (t .result) (h .ensures) (t .ensures))
 
 pub enter-two-spec : {M : Type 1} → statement M
-enter-two-spec = tie.close (tie.spec onto-requires enter-requires onto-requires-2 enter-requires-2 returns)
+enter-two-spec =
+    tie.close
+    (tie.spec onto-requires enter-requires onto-requires-2 enter-requires-2 same-length returns)

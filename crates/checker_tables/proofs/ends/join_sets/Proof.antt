@@ -28,7 +28,7 @@ abbrev μ-loop : tie.MeasureT-loop
 
 loop-holds : tie.Need-loop-holds Inv-loop μ-loop
 unfolding repeat
-loop-holds c = (search needs, (refl, sym (grown-self (c .args .t .now))))
+loop-holds c = (search needs, (refl, sym (grown-self (c .before .args .t .now))))
 
 add-join : tie.Need-add-join Inv-loop μ-loop
 add-join c = search needs
@@ -41,11 +41,12 @@ array-read-join c = search needs
 
 join-requires : tie.Need-join-requires Inv-loop μ-loop
 join-requires c κs =
-    let a = c .before .before .before .args in
+    let a = c .before .before .before .before .args in
     let l = c .before .before .loop in
     let h = c .before .loop-test .taken in
-    let p = c .before .before .before .pre in
-    (repeat-length (steps (a .i) (a .t3)) (steps-grow (a .i) (a .t3)) (l .q) (a .t .now) (l .t) (l .inv .1 .0) ∙ p .0, omega (arith, p .1))
+    let p = c .before .before .before .before .pre in
+    let e = repeat-length (steps (a .i) (a .t3)) (steps-grow (a .i) (a .t3)) (l .q) (a .t .now) (l .t) (l .inv .1 .0) in
+    omega (arith, p, e)
 
 add-q : tie.Need-add-q Inv-loop μ-loop
 add-q c = search needs
@@ -55,12 +56,18 @@ loop-less c = search needs
 
 loop-again : tie.Need-loop-again Inv-loop μ-loop
 loop-again c =
-    let a = c .before .before .before .before .args in
-    let l = c .before .before .before .loop in
-    let j = c .join in
+    let a = c .before .before .before .before .before .before .before .args in
+    let l = c .before .before .before .before .before .loop in
+    let j = c .before .before .join in
     let made = turn (steps (a .i) (a .t3)) (steps-grow (a .i) (a .t3)) (l .q) (a .t .now) (l .t) (j .last .0) (l .changed)
     (j .result) (l .inv .1) (j .ensures .0) (j .ensures .1 .0) in
     (search needs, made)
+
+same-length : tie.Need-same-length Inv-loop μ-loop
+same-length c =
+    let a = c .before .before .before .args in
+    let l = c .before .loop in
+    repeat-length (steps (a .i) (a .t3)) (steps-grow (a .i) (a .t3)) (l .q) (a .t .now) (l .t) (l .inv .1 .0)
 
 returns : tie.Need-returns Inv-loop μ-loop
 unfolding joinedEach
@@ -83,4 +90,5 @@ join-sets-spec =
     add-q
     loop-less
     loop-again
+    same-length
     returns)

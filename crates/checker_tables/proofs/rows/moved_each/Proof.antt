@@ -1,18 +1,30 @@
-use mathlib.Core.Path.{sym, subst}
-use mathlib.Core.Bool.{Bool}
-use denote.Ref.{now}
+use mathlib.Core.Path.{_≡_, refl, sym, ap, ap₂, _∙_, subst}
+use mathlib.Core.Bool.{Bool, true, false, not, _&&_, _||_, cond}
+use mathlib.Core.List.{List, [], _∷_}
+use Prim.Native.Nat.{ℕ, suc, _+_, _-_, _*_, _/_, _%_, _<_, _≤_}
+use native.Mathlib.Omega.{arith}
+use lib.ListN.{length, getD, replicate}
 use Rattle.usage.specs.Limits.{states}
-use Rattle.checker_account.specs.Tables.{rowsIn}
 use Rattle.checker_tables.specs.ByState.{ByState}
+use Rattle.checker_account.specs.Tables.{base, rowOn, rowsIn, meaningIn}
+use lib.Dec.{eqb}
+use Rattle.checker_account.specs.Tables.{wayOf}
 use borrow.Author.Needs.{needs}
 use Rattle.checker_tables.proofs.rows.moved_each.Statement.{statement}
 use Rattle.checker_tables.proofs.rows.moved_each.Tie as tie
 use Rattle.checker_tables.proofs.rows.moved_each.Reads as reads
 use Rattle.checker_tables.proofs.rows.moved_each.Lts as lts
+use Rattle.checker_tables.proofs.rows.way.Reads as way-reads
 use Rattle.checker_tables.proofs.sets.entries.Reads as entries-reads
+
+way-requires : tie.Need-way-requires
+way-requires c κs = search needs
 
 mul-entries : tie.Need-mul-entries
 mul-entries c = search needs
+
+mul-entries-2 : tie.Need-mul-entries-2
+mul-entries-2 c = search needs
 
 add-entries : tie.Need-add-entries
 add-entries c = search needs
@@ -20,32 +32,13 @@ add-entries c = search needs
 entries-requires : tie.Need-entries-requires
 entries-requires c κs = search needs
 
-mul-entries-2 : tie.Need-mul-entries-2
-mul-entries-2 c = search needs
-
-entries-requires-2 : tie.Need-entries-requires-2
-entries-requires-2 c κs = search needs
-
 returns : tie.Need-returns
 returns c =
-    let a = c .before .before .args in
-    subst (λ (b : Bool). ByState states (rowsIn (now (a .rows)) (a .k) b) (c .entries .result)) (sym (c .before .if1 .taken))
-    (c .entries .ensures)
-
-returns-2 : tie.Need-returns-2
-returns-2 c =
-    let a = c .before .before .args in
-    subst (λ (b : Bool). ByState states (rowsIn (now (a .rows)) (a .k) b) (c .entries2 .result)) (sym (c .before .if1 .left))
-    (c .entries2 .ensures)
+    let a = c .before .before .before .args in
+    let w = c .before .before .way in
+    subst (λ (j : ℕ). ByState states (λ q. getD (a .rows .now) (base (a .k) j + q) 0) (c .entries .result)) (w .ensures .0) (c .entries .ensures)
 
 pub moved-each-spec : {M : Type 1} → statement M
 moved-each-spec =
     tie.close
-    (tie.spec
-    mul-entries
-    add-entries
-    entries-requires
-    mul-entries-2
-    entries-requires-2
-    returns
-    returns-2)
+    (tie.spec way-requires mul-entries mul-entries-2 add-entries entries-requires returns)

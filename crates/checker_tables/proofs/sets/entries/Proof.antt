@@ -26,8 +26,8 @@ add-r c = search needs
 mul-r : tie.Need-mul-r Inv-loop μ-loop
 mul-r c = search needs
 
-element-copy-out-r : tie.Need-element-copy-out-r Inv-loop μ-loop
-element-copy-out-r c = search needs
+shared-slice-read-r : tie.Need-shared-slice-read-r Inv-loop μ-loop
+shared-slice-read-r c = search needs
 
 mul-r-2 : tie.Need-mul-r-2 Inv-loop μ-loop
 mul-r-2 c = search needs
@@ -63,7 +63,7 @@ entries-spec =
     loop-holds
     add-r
     mul-r
-    element-copy-out-r
+    shared-slice-read-r
     mul-r-2
     array-write-r
     add-q

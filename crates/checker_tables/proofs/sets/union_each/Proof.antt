@@ -38,8 +38,8 @@ add-e c = search needs
 mul-e : tie.Need-mul-e Inv-loop μ-loop
 mul-e c = search needs
 
-element-copy-out-e : tie.Need-element-copy-out-e Inv-loop μ-loop
-element-copy-out-e c = search needs
+shared-slice-read-e : tie.Need-shared-slice-read-e Inv-loop μ-loop
+shared-slice-read-e c = search needs
 
 cast-join-where : tie.Need-cast-join-where Inv-loop μ-loop
 cast-join-where c = search needs
@@ -55,7 +55,7 @@ loop-less c = search needs
 
 loop-again : tie.Need-loop-again Inv-loop μ-loop
 loop-again c =
-    let a = c .before .before .before .before .args in
+    let a = c .before .before .before .before .before .args in
     let l = c .before .before .before .loop in
     let t = a .t .now in
     let j = c .join-where in
@@ -68,7 +68,7 @@ loop-again c =
 returns : tie.Need-returns Inv-loop μ-loop
 unfolding over
 returns c =
-    let a = c .before .before .args in
+    let a = c .before .before .before .args in
     let l = c .before .loop in
     let e : l .s ≡ states = omega arith in
     subst (λ (n : ℕ). ByState states (λ q. union n (part (a .t .now) (a .i) (a .v) q)) (l .r)) e (l .inv .1)
@@ -82,7 +82,7 @@ union-each-spec =
     loop-holds
     add-e
     mul-e
-    element-copy-out-e
+    shared-slice-read-e
     cast-join-where
     join-where-requires
     add-s
