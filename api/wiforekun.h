@@ -62,6 +62,8 @@ extern "C" {
  * there. Below are the lengths of its arrays, in elements, and their alignments, in bytes. */
 #define WIFOREKUN_SETS_LENGTH 656
 #define WIFOREKUN_SETS_ALIGN 1
+#define WIFOREKUN_PAIRS_LENGTH 13448
+#define WIFOREKUN_PAIRS_ALIGN 1
 #define WIFOREKUN_POSSIBLE_LENGTH 8
 #define WIFOREKUN_POSSIBLE_ALIGN 1
 #define WIFOREKUN_CREATED_LENGTH 64
@@ -75,6 +77,7 @@ extern "C" {
 
 struct wiforekun_state {
     uint8_t sets[WIFOREKUN_SETS_LENGTH];         /* the states that each instance may be in, as bits */
+    uint8_t pairs[WIFOREKUN_PAIRS_LENGTH];       /* sets of the policies about two resources; none can be written yet */
     uint8_t possible[WIFOREKUN_POSSIBLE_LENGTH]; /* for each policy the states that any of its instances may be in, as bits */
     uint32_t created[WIFOREKUN_CREATED_LENGTH];  /* the live dynamic resources, in the order of their creation */
     uint8_t unclosed[WIFOREKUN_UNCLOSED_LENGTH]; /* for each policy its openings that are not closed */
@@ -85,10 +88,11 @@ struct wiforekun_state {
 
 /* The start, whatever the arrays held: each instance in state 0 (the set with bit 0 alone), and so each policy; nothing created, nothing
  * open, not halted. */
-void wiforekun_start_parts(uint8_t *sets, uint8_t *possible, uint32_t *created, uint8_t *unclosed, uint8_t *order, uint64_t *numbers);
+void wiforekun_start_parts(uint8_t *sets, uint8_t *pairs, uint8_t *possible, uint32_t *created, uint8_t *unclosed, uint8_t *order,
+                           uint64_t *numbers);
 
 static inline void wiforekun_start(struct wiforekun_state *state) {
-    wiforekun_start_parts(state->sets, state->possible, state->created, state->unclosed, state->order, state->numbers);
+    wiforekun_start_parts(state->sets, state->pairs, state->possible, state->created, state->unclosed, state->order, state->numbers);
 }
 
 /* An answer: WIFOREKUN_ALLOWED (0; of a check: accepted), WIFOREKUN_VIOLATED (1; of a check: refused with a policy) or WIFOREKUN_REFUSED
@@ -108,15 +112,16 @@ static inline void wiforekun_start(struct wiforekun_state *state) {
  * `created` from the count on, and of `order` from its length on, are not looked at.
  * Of each policy `sets` has 82 places in turn: the static resources, one that never occurs, the retired ones in one set, and the live ones in
  * the order of `created`. A retiring joins the resource's set to that of the retired; the live ones behind it move up by one place, in
- * `created` and in `sets`, and the last place keeps what it held. */
-uint32_t wiforekun_judge_parts(const uint8_t *edges, size_t edges_length, uint32_t local, uint8_t *sets, uint8_t *possible,
-                               uint32_t *created, uint8_t *unclosed, uint8_t *order, uint64_t *numbers, uint32_t kind, uint32_t a,
-                               uint32_t b);
+ * `created` and in `sets`, and the last place keeps what it held. `pairs` has two blocks of 82 times 82 places; one that no policy has, as none can yet, is
+ * left as it was. */
+uint32_t wiforekun_judge_parts(const uint8_t *edges, size_t edges_length, uint32_t local, uint8_t *sets, uint8_t *pairs,
+                               uint8_t *possible, uint32_t *created, uint8_t *unclosed, uint8_t *order, uint64_t *numbers,
+                               uint32_t kind, uint32_t a, uint32_t b);
 
 static inline uint32_t wiforekun_judge(struct wiforekun_state *state, const uint8_t *edges, size_t edges_length, uint32_t local,
                                        uint32_t kind, uint32_t a, uint32_t b) {
-    return wiforekun_judge_parts(edges, edges_length, local, state->sets, state->possible, state->created, state->unclosed,
-                                 state->order, state->numbers, kind, a, b);
+    return wiforekun_judge_parts(edges, edges_length, local, state->sets, state->pairs, state->possible, state->created,
+                                 state->unclosed, state->order, state->numbers, kind, a, b);
 }
 
 /* The check of a table of nodes under a table of edges (lengths in bytes). 41 where no accepted sheet gives one of the tables, or `local` is
@@ -150,14 +155,14 @@ uint32_t wiforekun_summary(const uint8_t *edges, size_t edges_length, uint32_t l
  * numbers will do; with the exact summary of an outline the answers are those of the full monitor, from the start on, for the steps of a
  * trace of that outline, with or without retirings among them, and for as long as the steps that are not refused are such a trace. */
 uint32_t wiforekun_judge_lean_parts(const uint64_t *marks, const uint8_t *edges, size_t edges_length, uint32_t local, uint8_t *sets,
-                                    uint8_t *possible, uint32_t *created, uint8_t *unclosed, uint8_t *order, uint64_t *numbers,
-                                    uint32_t kind, uint32_t a, uint32_t b);
+                                    uint8_t *pairs, uint8_t *possible, uint32_t *created, uint8_t *unclosed, uint8_t *order,
+                                    uint64_t *numbers, uint32_t kind, uint32_t a, uint32_t b);
 
 static inline uint32_t wiforekun_judge_lean(struct wiforekun_state *state, const uint64_t marks[WIFOREKUN_MARKS_LENGTH],
                                             const uint8_t *edges, size_t edges_length, uint32_t local, uint32_t kind, uint32_t a,
                                             uint32_t b) {
-    return wiforekun_judge_lean_parts(marks, edges, edges_length, local, state->sets, state->possible, state->created, state->unclosed,
-                                      state->order, state->numbers, kind, a, b);
+    return wiforekun_judge_lean_parts(marks, edges, edges_length, local, state->sets, state->pairs, state->possible, state->created,
+                                      state->unclosed, state->order, state->numbers, kind, a, b);
 }
 
 /* What the programs print, from the bytes of the sheets: the text is written to `out`, and its length is the answer. Bytes after it
@@ -210,7 +215,7 @@ size_t wiforekun_write_policies(const uint8_t *text, size_t text_length, uint8_t
  * A refused call changes no byte. Of the numbers these come first, in this order: 40 where the state is shorter than the length, 42 where its bytes
  * encode no desk state, 50 a step before policies are loaded, 51 an outline before policies are, 52 a load while a sandbox is open and the run is
  * not halted. A state that passes 42 but that no desk has written is answered by what it holds. */
-#define WIFOREKUN_DESK_STATE 23552
+#define WIFOREKUN_DESK_STATE 37000
 #define WIFOREKUN_IS_LEAN(code) ((code) / 65536u % 2u)
 #define WIFOREKUN_LINE(code) ((code) / 131072u)
 

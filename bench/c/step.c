@@ -1,5 +1,5 @@
 /* One step of the judge in C, by the method of src/monitor.rs: what a plain program of another language takes. Lent what
- * wiforekun_judge_parts is lent. */
+ * wiforekun_judge_parts is lent, but for the sets of pairs, which no step changes. */
 #include <stdbool.h>
 #include <stddef.h>
 #include <stdint.h>

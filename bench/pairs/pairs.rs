@@ -4,10 +4,8 @@ use plain::{Rows, Sets, CELLS, PLACES, RETIRED, STAY, UNUSED};
 use std::hint::black_box;
 
 extern "C" {
-    fn pairs_after(s: *const u8, n: usize, at: usize, r: *const u8) -> u8;
-    fn pairs_take(s: *mut u8, n: usize, at: usize, r: *const u8);
-    fn pairs_gather(s: *const u8, n: usize) -> u8;
-    fn pairs_create(s: *mut u8, n: usize);
+    fn pairs_lead(s: *mut u8, n: usize, at: usize, creates: bool, r: *const u8, q: *const u8) -> u32;
+    fn pairs_take(s: *mut u8, n: usize, at: usize, creates: bool, r: *const u8, q: *const u8);
     fn pairs_reset(s: *mut u8, n: usize);
     fn pairs_retire(s: *mut u8, n: usize, at: usize);
 }
@@ -21,17 +19,23 @@ fn flat(r: &Rows) -> [u8; 32] {
     f
 }
 
+fn base(s: &mut [Sets; 2]) -> *mut u8 {
+    s.as_mut_ptr() as *mut u8
+}
+
+// What each policy may be in once the event is taken.
+fn lead(s: &mut [Sets; 2], n: usize, at: usize, creates: bool, r: &[[u8; 32]; 2]) -> [u8; 2] {
+    let both = unsafe { pairs_lead(base(s), n, at, creates, r[0].as_ptr(), r[1].as_ptr()) };
+    [both as u8, (both >> 8) as u8]
+}
+
 // What the judge does: it looks at what the event leads to, and moves the sets where nothing is broken.
-fn event(s: &mut [Sets; 2], n: usize, at: usize, r: &[[u8; 32]; 2]) -> u8 {
-    unsafe {
-        let bad = pairs_after(s[0].as_ptr(), n, at, r[0].as_ptr()) | pairs_after(s[1].as_ptr(), n, at, r[1].as_ptr());
-        if bad < 128 {
-            for p in 0..2 {
-                pairs_take(s[p].as_mut_ptr(), n, at, r[p].as_ptr());
-            }
-        }
-        bad
+fn event(s: &mut [Sets; 2], n: usize, at: usize, creates: bool, r: &[[u8; 32]; 2]) -> u8 {
+    let [p, q] = lead(s, n, at, creates, r);
+    if p | q < 128 {
+        unsafe { pairs_take(base(s), n, at, creates, r[0].as_ptr(), r[1].as_ptr()) };
     }
+    p | q
 }
 
 struct Case<'a> {
@@ -46,13 +50,16 @@ struct Case<'a> {
 #[inline(never)]
 fn measured(c: &mut Case, proved: bool, what: &str) -> u8 {
     match (what, proved) {
-        ("create", true) => unsafe { (0..2).for_each(|p| pairs_create(c.sets[p].as_mut_ptr(), c.n - 1)) },
-        ("create", false) => (0..2).for_each(|p| plain::create(&mut c.sets[p], c.n - 1)),
-        ("reset", true) => unsafe { (0..2).for_each(|p| pairs_reset(c.sets[p].as_mut_ptr(), c.n)) },
+        ("create", true) => return event(c.sets, c.n, c.n - 1, true, &c.flat),
+        ("create", false) => {
+            (0..2).for_each(|p| plain::create(&mut c.sets[p], c.n - 1));
+            return plain::event(c.sets, c.old, c.n, c.n - 1, &c.rows);
+        }
+        ("reset", true) => unsafe { pairs_reset(base(c.sets), c.n) },
         ("reset", false) => (0..2).for_each(|p| plain::reset(&mut c.sets[p], c.n)),
-        ("retire", true) => unsafe { (0..2).for_each(|p| pairs_retire(c.sets[p].as_mut_ptr(), c.n, c.at)) },
+        ("retire", true) => unsafe { pairs_retire(base(c.sets), c.n, c.at) },
         ("retire", false) => (0..2).for_each(|p| plain::retire(&mut c.sets[p], c.n, c.at)),
-        (_, true) => return event(c.sets, c.n, c.at, &c.flat),
+        (_, true) => return event(c.sets, c.n, c.at, false, &c.flat),
         (_, false) => return plain::event(c.sets, c.old, c.n, c.at, &c.rows),
     }
     0
@@ -86,6 +93,7 @@ fn verify() {
     let mut s = Box::new([[1u8; CELLS]; 2]);
     let (mut t, mut old) = (s.clone(), s.clone());
     let mut n = 18usize;
+    let stay = [flat(&rows("")), flat(&rows(""))];
     let mut counts = [0usize; 5];
     for _ in 0..40000 {
         match next(10) {
@@ -111,41 +119,36 @@ fn verify() {
                 };
                 let mut u = t.clone();
                 let x = plain::cells(&mut u[0], n, at, &q[0]) | plain::cells(&mut u[1], n, at, &q[1]);
-                let y = event(&mut s, n, at, &[flat(&q[0]), flat(&q[1])]);
+                let y = event(&mut s, n, at, false, &[flat(&q[0]), flat(&q[1])]);
                 let z = plain::event(&mut t, &mut old, n, at, &q);
                 assert!(x == y && y == z);
                 counts[if x >= 128 { 1 } else { 0 }] += 1;
                 assert!(x >= 128 || (0..2).all(|p| u[p][..n * PLACES] == s[p][..n * PLACES]));
             }
             6 | 7 if n < PLACES => {
-                for p in 0..2 {
-                    plain::create(&mut t[p], n);
-                    unsafe { pairs_create(s[p].as_mut_ptr(), n) };
-                }
+                (0..2).for_each(|p| plain::create(&mut t[p], n));
                 n += 1;
+                event(&mut s, n, n - 1, true, &stay);
                 counts[2] += 1;
             }
             8 if n > 18 && next(2) == 0 => {
                 let at = 18 + next((n - 18) as u64) as usize;
-                for p in 0..2 {
-                    plain::retire(&mut t[p], n, at);
-                    unsafe { pairs_retire(s[p].as_mut_ptr(), n, at) };
-                }
+                (0..2).for_each(|p| plain::retire(&mut t[p], n, at));
+                unsafe { pairs_retire(base(&mut s), n, at) };
                 n -= 1;
                 counts[3] += 1;
             }
             9 if next(20) == 0 => {
-                for p in 0..2 {
-                    plain::reset(&mut t[p], n);
-                    unsafe { pairs_reset(s[p].as_mut_ptr(), n) };
-                }
+                (0..2).for_each(|p| plain::reset(&mut t[p], n));
+                unsafe { pairs_reset(base(&mut s), n) };
                 counts[4] += 1;
             }
             _ => {}
         }
+        let gathered = lead(&mut s, n, 3, false, &stay);
         for p in 0..2 {
             assert!(s[p][..n * PLACES] == t[p][..n * PLACES]);
-            assert!(plain::union(&t[p], n * PLACES) == unsafe { pairs_gather(s[p].as_ptr(), n) });
+            assert!(plain::union(&t[p], n * PLACES) == gathered[p]);
         }
     }
     println!("equal on {} events, {} more refused, {} creations, {} retirings, {} resets", counts[0], counts[1], counts[2], counts[3], counts[4]);

@@ -1,4 +1,4 @@
-//! The step in C (`c/step.c`), lent what the proved one is lent.
+//! The step in C (`c/step.c`), lent what the proved one is lent but for the sets of pairs, which it leaves as they are.
 
 use crate::inputs::Step;
 use wiforekun::State;
@@ -21,7 +21,7 @@ extern "C" {
 }
 
 pub fn judge(edges: &[u8], local: u32, state: &mut State, [kind, a, b]: Step) -> u32 {
-    let State { sets, possible, created, unclosed, order, numbers } = state;
+    let State { sets, pairs: _, possible, created, unclosed, order, numbers } = state;
     // sound: a slice and exclusive references to arrays of the lengths that the C program has for them
     unsafe {
         c_judge(

@@ -6,12 +6,13 @@ use crate::measured;
 use crate::monitor::{self, State};
 use reference::rng::Rng;
 use std::hint::black_box;
-use wiforekun::{State as Parts, MARKS_LENGTH};
+use wiforekun::{State as Parts, MARKS_LENGTH, PAIRS_LENGTH};
 
 /// The state as the proved code is lent it.
 fn parts_of(state: &State) -> Parts {
     let State { sets, possible, created, count, highest, unclosed, order, depth, halted } = state.clone();
-    Parts { sets, possible, created, unclosed, order, numbers: [count as u64, halted.into(), depth as u64, highest.into()] }
+    let numbers = [count as u64, halted.into(), depth as u64, highest.into()];
+    Parts { sets, pairs: [1; PAIRS_LENGTH], possible, created, unclosed, order, numbers }
 }
 
 fn plain_judge(state: &mut State, edges: &[u8], local: u32, [kind, a, b]: Step) -> u32 {

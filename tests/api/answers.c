@@ -26,7 +26,7 @@ static void violation(enum place place) {
     REQUIRE(judge(&parts, table, event) == 512 + 20);
     REQUIRE(same(&parts, &plain));
     give_state_back(&parts);
-    REQUIRE(munmap(table.ground - page, 3 * page) == 0);
+    give_back(table);
 }
 
 /* What is beyond the length of an order counts for nothing: an opening writes one place, a closing none. */
@@ -48,7 +48,7 @@ static void beyond_the_order(enum place place) {
     plain.numbers[2] = 0;
     REQUIRE(same(&parts, &plain));
     give_state_back(&parts);
-    REQUIRE(munmap(table.ground - page, 3 * page) == 0);
+    give_back(table);
 }
 
 /* Case C, under both pasts: read 3, then open the policy. */
@@ -69,7 +69,7 @@ static void either_past(enum place place, uint32_t local, uint32_t answer) {
         REQUIRE(same(&parts, &plain));
     }
     give_state_back(&parts);
-    REQUIRE(munmap(table.ground - page, 3 * page) == 0);
+    give_back(table);
 }
 
 /* A past that is neither is refused with 41, before a state with 42. */
@@ -86,7 +86,7 @@ static void neither_past(void) {
             REQUIRE(judge_under(&parts, table, neither[i], event) == 512 + 41);
             REQUIRE(same(&parts, &plain));
             give_state_back(&parts);
-            REQUIRE(munmap(table.ground - page, 3 * page) == 0);
+            give_back(table);
         }
     }
 }
@@ -103,7 +103,7 @@ static void refused_with(uint32_t number, const char *what, const struct wiforek
             exit(1);
         }
         give_state_back(&parts);
-        REQUIRE(munmap(table.ground - page, 3 * page) == 0);
+        give_back(table);
     }
 }
 
@@ -130,7 +130,7 @@ static void retiring(enum place place) {
     REQUIRE(judge(&parts, table, fixed) == 512 + 28);
     REQUIRE(same(&parts, &plain));
     give_state_back(&parts);
-    REQUIRE(munmap(table.ground - page, 3 * page) == 0);
+    give_back(table);
 }
 
 /* Orders of openings that are refused with 42, and stay as they are. */

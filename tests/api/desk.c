@@ -121,7 +121,7 @@ static void damaged(void) {
     static const struct {
         size_t at;
         uint8_t value;
-    } bytes[] = {{0, 3}, {3, 1}, {5, 2}, {8, 65}, {12, 66}, {16, 2}, {20, 65}, {28, 65}, {32, 8}, {1568, 9}, {2088, 1}, {2816, 17}};
+    } bytes[] = {{0, 3}, {3, 1}, {5, 2}, {8, 65}, {12, 66}, {16, 2}, {20, 65}, {28, 65}, {32, 8}, {1568, 9}, {2088, 1}, {16264, 17}};
     static uint8_t state[LENGTH], before[LENGTH];
     REQUIRE(call(state, LENGTH, policies, strlen(policies), 0) == 0);
     REQUIRE(call(state, LENGTH, outline, strlen(outline), 1) == 0);

@@ -13,7 +13,7 @@ static void stored(enum place place) {
     REQUIRE(!memcmp(table.bytes, nodes, sizeof nodes));
     REQUIRE(!memcmp(table.bytes + sizeof nodes, empty, sizeof empty - sizeof nodes));
     give_back(table);
-    REQUIRE(munmap(t.ground - page, 3 * page) == 0);
+    give_back(t);
 }
 
 /* A refusal leaves the table as it was. */
@@ -24,7 +24,7 @@ static void refused(const char *text, size_t room, size_t answer) {
     REQUIRE(wiforekun_read_expression(t.bytes, t.size, table.bytes, table.size) == answer);
     REQUIRE(!memcmp(table.bytes, empty, room));
     give_back(table);
-    REQUIRE(munmap(t.ground - page, 3 * page) == 0);
+    give_back(t);
 }
 
 /* What is printed, and nothing where the room is one byte less than the header tells. */

@@ -1,5 +1,5 @@
-/* The exported functions keep to the lengths and need no more than the alignments of wiforekun.h. Each lent array lies in a page of its own
- * between two pages that can't be touched: at its end, at its beginning, and inside at the least alignment; the rest of the page is a mark
+/* The exported functions keep to the lengths and need no more than the alignments of wiforekun.h. Each lent array lies in pages of its own
+ * between two pages that can't be touched: at their end, at their beginning, and inside at the least alignment; the rest of them is a mark
  * that must stay. Tables that are lent to be read lie at the end of a page that can't be written to. A run beside, on a plain state, must
  * give the same answers and states. */
 #include "lend_state.h"
@@ -144,7 +144,7 @@ static void run(enum place place, uint32_t local) {
     REQUIRE(refused[21] && refused[22] && !refused[23] && refused[24] && refused[27] && refused[28] && refused[30]);
     REQUIRE(refused[25] && refused[26] && refused[32] && emptied && put_back == (local == WIFOREKUN_LOCAL));
     give_state_back(&parts);
-    REQUIRE(munmap(table.ground - page, 3 * page) == 0);
+    give_back(table);
 }
 
 /* The start fills its arrays, whatever they held, and nothing else. */
@@ -152,10 +152,11 @@ static void starts(enum place place) {
     struct wiforekun_state any, plain;
     memset(&any, 0x5a, sizeof any);
     struct parts parts = lend_state(&any, place);
-    wiforekun_start_parts(parts.sets.bytes, parts.possible.bytes, (uint32_t *)parts.created.bytes, parts.unclosed.bytes, parts.order.bytes,
-                          (uint64_t *)parts.numbers.bytes);
+    wiforekun_start_parts(parts.sets.bytes, parts.pairs.bytes, parts.possible.bytes, (uint32_t *)parts.created.bytes, parts.unclosed.bytes,
+                          parts.order.bytes, (uint64_t *)parts.numbers.bytes);
     memset(&plain, 0, sizeof plain);
     memset(plain.sets, 1, sizeof plain.sets);
+    memset(plain.pairs, 1, sizeof plain.pairs);
     memset(plain.possible, 1, sizeof plain.possible);
     REQUIRE(same(&parts, &plain));
     wiforekun_start(&any);

@@ -1,4 +1,4 @@
-/* Memory to lend: each array in a page of its own between two pages that can't be touched. */
+/* Memory to lend: each array in pages of its own between two pages that can't be touched. */
 #define _DEFAULT_SOURCE
 #include "wiforekun.h"
 #include <stdint.h>
@@ -23,23 +23,24 @@ static size_t page;
 enum place { END, BEGINNING, LEAST_ALIGNED, PLACES };
 
 struct lent {
-    uint8_t *ground; /* the page, between two that can't be touched */
+    uint8_t *ground; /* the pages, between two that can't be touched */
+    size_t room;     /* their bytes */
     uint8_t *bytes;
     size_t size;
 };
 
-static uint8_t *ground(void) {
-    uint8_t *three = mmap(NULL, 3 * page, PROT_NONE, MAP_PRIVATE | MAP_ANONYMOUS, -1, 0);
-    REQUIRE(three != MAP_FAILED);
-    REQUIRE(mprotect(three + page, page, PROT_READ | PROT_WRITE) == 0);
-    memset(three + page, MARK, page);
-    return three + page;
+static uint8_t *ground(size_t room) {
+    uint8_t *all = mmap(NULL, room + 2 * page, PROT_NONE, MAP_PRIVATE | MAP_ANONYMOUS, -1, 0);
+    REQUIRE(all != MAP_FAILED);
+    REQUIRE(mprotect(all + page, room, PROT_READ | PROT_WRITE) == 0);
+    memset(all + page, MARK, room);
+    return all + page;
 }
 
 static struct lent lend(const void *from, size_t size, size_t align, enum place place) {
-    struct lent lent = {ground(), NULL, size};
-    REQUIRE(size + 2 * align <= page);
-    lent.bytes = place == END ? lent.ground + page - size : place == BEGINNING ? lent.ground : lent.ground + align;
+    size_t room = (size + 2 * align + page - 1) / page * page;
+    struct lent lent = {ground(room), room, NULL, size};
+    lent.bytes = place == END ? lent.ground + room - size : place == BEGINNING ? lent.ground : lent.ground + align;
     REQUIRE((uintptr_t)lent.bytes % align == 0);
     /* no more than its alignment */
     REQUIRE(place != LEAST_ALIGNED || (uintptr_t)lent.bytes % (2 * align) != 0);
@@ -48,13 +49,13 @@ static struct lent lend(const void *from, size_t size, size_t align, enum place 
 }
 
 static void give_back(struct lent lent) {
-    for (uint8_t *at = lent.ground; at < lent.ground + page; at++)
+    for (uint8_t *at = lent.ground; at < lent.ground + lent.room; at++)
         REQUIRE((at >= lent.bytes && at < lent.bytes + lent.size) || *at == MARK);
-    REQUIRE(munmap(lent.ground - page, 3 * page) == 0);
+    REQUIRE(munmap(lent.ground - page, lent.room + 2 * page) == 0);
 }
 
 static struct lent lend_to_read(const void *from, size_t size) {
     struct lent lent = lend(from, size, 1, END);
-    REQUIRE(mprotect(lent.ground, page, PROT_READ) == 0);
+    REQUIRE(mprotect(lent.ground, lent.room, PROT_READ) == 0);
     return lent;
 }

@@ -18,7 +18,7 @@ static void called(const char *sheet, size_t room, const char *expected, uint64_
         const uint64_t *refusal = (const uint64_t *)told.bytes;
         REQUIRE(refusal[0] == (expected ? 77 : line) && refusal[1] == (expected ? 88 : number));
         give_back(told);
-        REQUIRE(munmap(text.ground - page, 3 * page) == 0);
+        give_back(text);
         give_wide_back(lent, out, length);
     }
 }

@@ -3,7 +3,7 @@
 use crate::{Answer, Refusal, SheetRefusal, Step};
 
 /// The bytes of a desk's state.
-pub const DESK_STATE: usize = 23_552;
+pub const DESK_STATE: usize = 37_000;
 
 // Nothing but tests/api checks these declarations against the proved code, so they stand here alone.
 extern "C" {

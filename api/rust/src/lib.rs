@@ -45,6 +45,8 @@ pub const NODE_BYTES: usize = 3;
 
 /// The length of [`State::sets`].
 pub const SETS_LENGTH: usize = 656;
+/// The length of [`State::pairs`].
+pub const PAIRS_LENGTH: usize = 13_448;
 /// The length of [`State::possible`].
 pub const POSSIBLE_LENGTH: usize = 8;
 /// The length of [`State::created`].
@@ -79,6 +81,7 @@ pub const SUMMARY_TEXT_ROOM: usize = 1_334;
 extern "C" {
     fn wiforekun_start_parts(
         sets: *mut [u8; SETS_LENGTH],
+        pairs: *mut [u8; PAIRS_LENGTH],
         possible: *mut [u8; POSSIBLE_LENGTH],
         created: *mut [u32; CREATED_LENGTH],
         unclosed: *mut [u8; UNCLOSED_LENGTH],
@@ -90,6 +93,7 @@ extern "C" {
         edges_length: usize,
         local: u32,
         sets: *mut [u8; SETS_LENGTH],
+        pairs: *mut [u8; PAIRS_LENGTH],
         possible: *mut [u8; POSSIBLE_LENGTH],
         created: *mut [u32; CREATED_LENGTH],
         unclosed: *mut [u8; UNCLOSED_LENGTH],
@@ -124,6 +128,7 @@ extern "C" {
         edges_length: usize,
         local: u32,
         sets: *mut [u8; SETS_LENGTH],
+        pairs: *mut [u8; PAIRS_LENGTH],
         possible: *mut [u8; POSSIBLE_LENGTH],
         created: *mut [u32; CREATED_LENGTH],
         unclosed: *mut [u8; UNCLOSED_LENGTH],
@@ -305,6 +310,8 @@ impl fmt::Debug for Trace {
 pub struct State {
     /// The states that each instance may be in, as bits.
     pub sets: [u8; SETS_LENGTH],
+    /// The sets of the policies about two resources; none can be written yet.
+    pub pairs: [u8; PAIRS_LENGTH],
     /// For each policy the states that any of its instances may be in, as bits: what each event gathers anew, and what openings, closings
     /// and retirings are judged by.
     pub possible: [u8; POSSIBLE_LENGTH],
@@ -325,15 +332,16 @@ impl State {
     pub fn start() -> State {
         let mut state = State {
             sets: [0; SETS_LENGTH],
+            pairs: [0; PAIRS_LENGTH],
             possible: [0; POSSIBLE_LENGTH],
             created: [0; CREATED_LENGTH],
             unclosed: [0; UNCLOSED_LENGTH],
             order: [0; ORDER_LENGTH],
             numbers: [0; NUMBERS_LENGTH],
         };
-        let State { sets, possible, created, unclosed, order, numbers } = &mut state;
+        let State { sets, pairs, possible, created, unclosed, order, numbers } = &mut state;
         // sound: exclusive references to arrays of the declared lengths
-        unsafe { wiforekun_start_parts(sets, possible, created, unclosed, order, numbers) };
+        unsafe { wiforekun_start_parts(sets, pairs, possible, created, unclosed, order, numbers) };
         state
     }
 
@@ -371,11 +379,11 @@ impl State {
     #[inline]
     #[must_use]
     pub fn judge_lean_code(&mut self, marks: &[u64; MARKS_LENGTH], edges: &[u8], local: u32, [kind, a, b]: [u32; 3]) -> u32 {
-        let State { sets, possible, created, unclosed, order, numbers } = self;
+        let State { sets, pairs, possible, created, unclosed, order, numbers } = self;
         // sound: slices and references to arrays of the declared lengths, exclusive but for the marks; the proved code keeps to these
         unsafe {
             wiforekun_judge_lean_parts(
-                marks, edges.as_ptr(), edges.len(), local, sets, possible, created, unclosed, order, numbers, kind, a, b,
+                marks, edges.as_ptr(), edges.len(), local, sets, pairs, possible, created, unclosed, order, numbers, kind, a, b,
             )
         }
     }
@@ -384,9 +392,11 @@ impl State {
     #[inline]
     #[must_use]
     pub fn judge_code(&mut self, edges: &[u8], local: u32, [kind, a, b]: [u32; 3]) -> u32 {
-        let State { sets, possible, created, unclosed, order, numbers } = self;
+        let State { sets, pairs, possible, created, unclosed, order, numbers } = self;
         // sound: slices and exclusive references to arrays of the declared lengths; the proved code keeps to these
-        unsafe { wiforekun_judge_parts(edges.as_ptr(), edges.len(), local, sets, possible, created, unclosed, order, numbers, kind, a, b) }
+        unsafe {
+            wiforekun_judge_parts(edges.as_ptr(), edges.len(), local, sets, pairs, possible, created, unclosed, order, numbers, kind, a, b)
+        }
     }
 }
 

@@ -96,7 +96,7 @@ fn a_refused_step_changes_nothing() {
 #[test]
 fn the_start() {
     let start = State::start();
-    assert_eq!((start.sets, start.possible, start.created), ([1; 656], [1; 8], [0; 64]));
+    assert_eq!((start.sets, start.pairs, start.possible, start.created), ([1; 656], [1; 13_448], [1; 8], [0; 64]));
     assert_eq!((start.unclosed, start.order, start.numbers), ([0; 8], [0; 64], [0; 4]));
     assert_eq!(State::default(), start);
 }

@@ -118,8 +118,8 @@ module _ (judge : Judges) (edges : List ℕ) (choice : ℕ) (p : Parts) (raw : R
 
   -- ── What is told, and what is left in the arrays ──
 
-  module _ (f : Refusing) (c : choice ≤ 1) (h : isHeld p ≡ true) (t : Told) (sets possible created unclosed order : List ℕ)
-      (is : judgementOf t (lentOf sets possible created unclosed order) ≡ judge edges (choiceOf choice) (heldIn p) raw) where
+  module _ (f : Refusing) (c : choice ≤ 1) (h : isHeld p ≡ true) (t : Told) (sets pairs possible created unclosed order : List ℕ)
+      (is : judgementOf t (lentOf sets pairs possible created unclosed order) ≡ judge edges (choiceOf choice) (heldIn p) raw) where
     pub told-verdict : verdictOf (t .answer) ≡ partsBy judge edges choice p raw .verdict
     told-verdict =
         sym (answered-verdict p (t .answer) (judge edges (choiceOf choice) (heldIn p) raw .state))
@@ -127,41 +127,41 @@ module _ (judge : Judges) (edges : List ℕ) (choice : ℕ) (p : Parts) (raw : R
         (ap (λ (j : Judgement). j .answer) is)
         ∙ sym (ap (λ (r : Answered). r .verdict) (held-judged f c h))
 
-    left : {q : Parts} → q ≡ answeredIn p (t .answer) (judgementOf t (lentOf sets possible created unclosed order) .state) .parts
+    left : {q : Parts} → q ≡ answeredIn p (t .answer) (judgementOf t (lentOf sets pairs possible created unclosed order) .state) .parts
         → q ≡ partsBy judge edges choice p raw .parts
     left e =
         e ∙ ap (λ (j : Judgement). answeredIn p (j .answer) (j .state) .parts) is ∙ sym (ap (λ (r : Answered). r .parts) (held-judged f c h))
 
     -- a refusal: the arrays are those of the state that was lent
     pub refused-left : isRefusal (t .answer) ≡ true
-        → partsOf sets possible created unclosed order (p .numbers) ≡ partsBy judge edges choice p raw .parts
+        → partsOf sets pairs possible created unclosed order (p .numbers) ≡ partsBy judge edges choice p raw .parts
     unfolding heldIn
     refused-left r = left (by-answer (t .answer) r refl)
       where
         by-answer : (a : Answer) → isRefusal a ≡ true → t .answer ≡ a
-            → partsOf sets possible created unclosed order (p .numbers)
-            ≡ answeredIn p a (judgementOf t (lentOf sets possible created unclosed order) .state) .parts
+            → partsOf sets pairs possible created unclosed order (p .numbers)
+            ≡ answeredIn p a (judgementOf t (lentOf sets pairs possible created unclosed order) .state) .parts
         by-answer Allowed r e = false-true r
         by-answer (Violated q) r e = false-true r
         by-answer (Refused n) r e =
-            let same : judgementOf t (lentOf sets possible created unclosed order) .state ≡ heldIn p =
+            let same : judgementOf t (lentOf sets pairs possible created unclosed order) .state ≡ heldIn p =
             ap (λ (j : Judgement). j .state) is
             ∙ f .kept n (ap (λ (j : Judgement). j .answer) (sym is) ∙ e) in
-            ap (λ (s : State). partsOf (s .tracked .sets) (s .tracked .possible) (s .created .numbers) (s .unclosed .counts) (s .unclosed .order)
+            ap (λ (s : State). partsOf (s .tracked .sets) (s .tracked .pairs) (s .tracked .possible) (s .created .numbers) (s .unclosed .counts) (s .unclosed .order)
             (p .numbers)) same
 
     -- otherwise the numbers are those of the new state
     pub taken-left : (flag : ℕ) → isRefusal (t .answer) ≡ false → flag ≡ cond (t .sizes .halted) 1 0
-        → partsOf sets possible created unclosed order (t .sizes .count ∷ flag ∷ t .sizes .depth ∷ t .sizes .highest ∷ [])
+        → partsOf sets pairs possible created unclosed order (t .sizes .count ∷ flag ∷ t .sizes .depth ∷ t .sizes .highest ∷ [])
         ≡ partsBy judge edges choice p raw .parts
     unfolding holding
     taken-left flag r e = left
-        (ap (λ (n : ℕ). partsOf sets possible created unclosed order (t .sizes .count ∷ n ∷ t .sizes .depth ∷ t .sizes .highest ∷ [])) e
+        (ap (λ (n : ℕ). partsOf sets pairs possible created unclosed order (t .sizes .count ∷ n ∷ t .sizes .depth ∷ t .sizes .highest ∷ [])) e
         ∙ by-answer (t .answer) r)
       where
         by-answer : (a : Answer) → isRefusal a ≡ false
-            → holding (judgementOf t (lentOf sets possible created unclosed order) .state) ≡ answeredIn p a
-            (judgementOf t (lentOf sets possible created unclosed order) .state) .parts
+            → holding (judgementOf t (lentOf sets pairs possible created unclosed order) .state) ≡ answeredIn p a
+            (judgementOf t (lentOf sets pairs possible created unclosed order) .state) .parts
         by-answer Allowed r = refl
         by-answer (Violated q) r = refl
         by-answer (Refused n) r = false-true (sym r)

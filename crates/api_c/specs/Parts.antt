@@ -20,15 +20,16 @@ use Rattle.api_c.specs.Choice.{isChoice, choiceOf}
 -- openings are not closed, and the highest number that was created
 pub record Parts : Type 0 where
   pub sets : List ℕ
+  pub pairs : List ℕ
   pub possible : List ℕ
   pub created : List ℕ
   pub unclosed : List ℕ
   pub order : List ℕ
   pub numbers : List ℕ
 
-abbrev pub partsOf : List ℕ → List ℕ → List ℕ → List ℕ → List ℕ → List ℕ → Parts
-partsOf sets possible created unclosed order numbers =
-    record { sets = sets; possible = possible; created = created; unclosed = unclosed; order = order; numbers = numbers }
+abbrev pub partsOf : List ℕ → List ℕ → List ℕ → List ℕ → List ℕ → List ℕ → List ℕ → Parts
+partsOf sets pairs possible created unclosed order numbers =
+    record { sets = sets; pairs = pairs; possible = possible; created = created; unclosed = unclosed; order = order; numbers = numbers }
 
 abbrev pub flag : Parts → ℕ
 flag p = getD (p .numbers) 1 0
@@ -47,13 +48,13 @@ isHeld p = leb (flag p) 1 && leb (highestIn p) mostNumber
 -- that state
 unfoldable pub heldIn : Parts → State
 heldIn p =
-    stateOf (lentOf (p .sets) (p .possible) (p .created) (p .unclosed) (p .order))
+    stateOf (lentOf (p .sets) (p .pairs) (p .possible) (p .created) (p .unclosed) (p .order))
     (record { count = getD (p .numbers) 0 0; highest = highestIn p; depth = getD (p .numbers) 2 0; halted = eqb (flag p) 1 })
 
 -- the arrays that hold a state
 unfoldable pub holding : State → Parts
 holding s =
-    partsOf (s .tracked .sets) (s .tracked .possible) (s .created .numbers) (s .unclosed .counts) (s .unclosed .order)
+    partsOf (s .tracked .sets) (s .tracked .pairs) (s .tracked .possible) (s .created .numbers) (s .unclosed .counts) (s .unclosed .order)
     (s .created .count ∷ cond (s .halted) 1 0 ∷ s .unclosed .depth ∷ s .created .highest ∷ [])
 
 -- what is answered, and what the arrays then hold

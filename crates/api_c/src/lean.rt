@@ -1,6 +1,7 @@
 // The exact summary and the lean judge (02, L11), for callers in C and Rust.
 use monitor_sets::SETS;
 use monitor_state::Answer;
+use monitor_state::PAIR_SETS;
 use monitor_state::Sizes;
 use monitor_state::Told;
 use usage::MOST_CREATED;
@@ -55,6 +56,7 @@ pub extern "C" fn wiforekun_judge_lean_parts(
     edges: &[u8],
     local: u32,
     sets: &mut [u8; SETS],
+    pairs: &mut [u8; PAIR_SETS],
     possible: &mut [u8; POLICIES],
     created: &mut [u32; MOST_CREATED],
     unclosed: &mut [u8; POLICIES],
@@ -67,14 +69,14 @@ pub extern "C" fn wiforekun_judge_lean_parts(
     ensures { λ r.
         ⌜ r ≡ codeOf
         (leanParts (now (marks .entry)) (now (edges .entry)) local
-        (partsOf (now (sets .entry)) (now (possible .entry)) (now (created .entry)) (now (unclosed .entry))
+        (partsOf (now (sets .entry)) (now (pairs .entry)) (now (possible .entry)) (now (created .entry)) (now (unclosed .entry))
         (now (order .entry)) (now (numbers .entry)))
         (record { kind = kind; a = a; b = b }) .verdict) ⌝ }
     ensures { λ r.
-        ⌜ partsOf (now (sets .exit)) (now (possible .exit)) (now (created .exit))
+        ⌜ partsOf (now (sets .exit)) (now (pairs .exit)) (now (possible .exit)) (now (created .exit))
         (now (unclosed .exit)) (now (order .exit)) (now (numbers .exit))
         ≡ leanParts (now (marks .entry)) (now (edges .entry)) local
-        (partsOf (now (sets .entry)) (now (possible .entry)) (now (created .entry)) (now (unclosed .entry))
+        (partsOf (now (sets .entry)) (now (pairs .entry)) (now (possible .entry)) (now (created .entry)) (now (unclosed .entry))
         (now (order .entry)) (now (numbers .entry)))
         (record { kind = kind; a = a; b = b }) .parts ⌝ }
     ensures { λ r. ⌜ LeanPromise (now (edges .entry)) (choiceOf local) (now (marks .entry)) ⌝ }
@@ -99,11 +101,14 @@ pub extern "C" fn wiforekun_judge_lean_parts(
         depth,
         halted: flag == 1,
     };
+    let lent = *pairs;
+    monitor_state::known(lent);
     let t = monitor_lean::judge_lean(
         marks,
         edges,
         local == 1,
         sets,
+        pairs,
         possible,
         created,
         unclosed,

@@ -4,6 +4,7 @@ use checker_counterexample::Explanation;
 use checker_trace::MOST_NUMBERS;
 use monitor_sets::SETS;
 use monitor_state::Answer;
+use monitor_state::PAIR_SETS;
 use monitor_state::Sizes;
 use monitor_state::Told;
 use usage::MOST_CREATED;
@@ -78,8 +79,8 @@ const NUMBERS: usize = 4;
 // The greatest number that a resource can have: one above it is the highest of no state.
 const MOST_NUMBER: u64 = 4294967295;
 
-// One step of the judge, under the choice of past `local`. The state lies in the lent parts: the sets, what each policy may be in, the
-// numbers of the live resources, the counts of unclosed openings and their order, and in `numbers` how many resources are live, a flag, 1
+// One step of the judge, under the choice of past `local`. The state lies in the lent parts: the sets, those of the policies about two
+// resources, of which none can be written yet, what each policy may be in, the numbers of the live resources, the counts of unclosed openings and their order, and in `numbers` how many resources are live, a flag, 1
 // where the state is halted and 0 where it is not, how many openings are not closed, and the highest number that was created. All of them
 // then hold the state that the judge returns; after a refusal they are as they were lent.
 #[no_mangle]
@@ -87,6 +88,7 @@ pub extern "C" fn wiforekun_judge_parts(
     edges: &[u8],
     local: u32,
     sets: &mut [u8; SETS],
+    pairs: &mut [u8; PAIR_SETS],
     possible: &mut [u8; POLICIES],
     created: &mut [u32; MOST_CREATED],
     unclosed: &mut [u8; POLICIES],
@@ -99,22 +101,22 @@ pub extern "C" fn wiforekun_judge_parts(
     ensures { λ r.
         ⌜ r ≡ codeOf
         (judgeParts (now (edges .entry)) local
-        (partsOf (now (sets .entry)) (now (possible .entry)) (now (created .entry)) (now (unclosed .entry))
+        (partsOf (now (sets .entry)) (now (pairs .entry)) (now (possible .entry)) (now (created .entry)) (now (unclosed .entry))
         (now (order .entry)) (now (numbers .entry)))
         (record { kind = kind; a = a; b = b }) .verdict) ⌝ }
     ensures { λ r.
-        ⌜ partsOf (now (sets .exit)) (now (possible .exit)) (now (created .exit))
+        ⌜ partsOf (now (sets .exit)) (now (pairs .exit)) (now (possible .exit)) (now (created .exit))
         (now (unclosed .exit)) (now (order .exit)) (now (numbers .exit))
         ≡ judgeParts (now (edges .entry)) local
-        (partsOf (now (sets .entry)) (now (possible .entry)) (now (created .entry)) (now (unclosed .entry))
+        (partsOf (now (sets .entry)) (now (pairs .entry)) (now (possible .entry)) (now (created .entry)) (now (unclosed .entry))
         (now (order .entry)) (now (numbers .entry)))
         (record { kind = kind; a = a; b = b }) .parts ⌝ }
     ensures { λ r.
         ⌜ KeepsIn (now (edges .entry)) local
-        (partsOf (now (sets .entry)) (now (possible .entry)) (now (created .entry)) (now (unclosed .entry))
+        (partsOf (now (sets .entry)) (now (pairs .entry)) (now (possible .entry)) (now (created .entry)) (now (unclosed .entry))
         (now (order .entry)) (now (numbers .entry)))
         (record { kind = kind; a = a; b = b }) r
-        (partsOf (now (sets .exit)) (now (possible .exit)) (now (created .exit))
+        (partsOf (now (sets .exit)) (now (pairs .exit)) (now (possible .exit)) (now (created .exit))
         (now (unclosed .exit)) (now (order .exit)) (now (numbers .exit))) ⌝ }
 {
     let count = numbers[0] as usize;
@@ -141,6 +143,7 @@ pub extern "C" fn wiforekun_judge_parts(
         edges,
         local == 1,
         sets,
+        pairs,
         possible,
         created,
         unclosed,

@@ -9,17 +9,22 @@ use lib.Dec.{eqb, leb, ltb}
 use lib.ListN.{length, getD, take, drop}
 use lib.Seq.{length-take-le, getD-take}
 use Rattle.usage.specs.declared.RawStep.{RawStep}
-use Rattle.usage.specs.Limits.{policies, mostEdges, mostNodes, edgeFields, nodeFields, nodePlaces}
+use Rattle.usage.specs.Limits.{policies, mostEdges, mostNodes, edgeFields, nodeFields, edgePlaces, nodePlaces}
 use Rattle.usage.proofs.TableLaws.{is-from}
-use Rattle.monitor_state.specs.declared.State.{State}
-use Rattle.monitor_state.specs.Judge.{judgeOf}
-use Rattle.monitor_state.proofs.LookedLaws.{full-looks-at-all}
-use Rattle.monitor_lean.specs.Lean.{leanOf, judgeBy, marked}
+use Rattle.usage.specs.Past.{Step}
+use Rattle.usage.specs.Judge.{stepOf}
+use Rattle.automaton.specs.Mask.{has}
+use Rattle.monitor_state.specs.declared.Sizes.{Sizes}
+use Rattle.monitor_state.specs.Lent.{stateOf}
+use Rattle.monitor_state.specs.Looked.{judgeBy, judgeSized, lookedAt}
+use Rattle.monitor_state.proofs.LookedLaws.{sized-by, sized-alike}
 use Rattle.desk.specs.declared.Head.{Head}
 use Rattle.desk.specs.Layout.{deskBytes, edgesAt, nodesAt, summaryAt, numbersIn, byteAt, wideAt, headIn, Got}
-use Rattle.desk.specs.JudgeBytes.{judgeIn}
+use Rattle.desk.specs.declared.Held.{Held}
+use Rattle.desk.specs.JudgeBytes.{heldIn, pairsIn, lentBy, sizesIn, judgeIn}
 use Rattle.desk.specs.State.{edgesIn, nodesIn, localIn, summaryIn, looksOf}
 use Rattle.desk_positions.proofs.CopyLaws.{slice-is}
+use Rattle.desk.proofs.JudgeByteLaws.{pairs-long}
 
 -- ── The tables that are lent ──
 
@@ -42,16 +47,23 @@ nodes-got b h zeros t m l k g e =
     (length-take-le m (drop 0 t) (let z = g .long in omega arith) ∙ e)
     (λ i x. getD-take m (drop 0 t) i 0 (omega arith) ∙ g .inside i x)
 
+-- the edges copied to a table of their own
+pub edges-got : (b : List ℕ) (h : Head) (zeros t : List ℕ) (m : ℕ) → length zeros ≡ edgePlaces → h .edges ≤ mostEdges
+    → Got byteAt 1 b edgesAt (edgeFields * h .edges) zeros t → m ≡ edgeFields * h .edges → take m (drop 0 t) ≡ edgesIn b h
+unfolding edgesIn numbersIn
+edges-got b h zeros t m l k g e =
+    is-from (λ i. byteAt b (edgesAt + 1 * i)) 0 (edgeFields * h .edges) (take m (drop 0 t))
+    (length-take-le m (drop 0 t) (let z = g .long in omega arith) ∙ e)
+    (λ i x. getD-take m (drop 0 t) i 0 (omega arith) ∙ g .inside i x)
+
 -- ── The judge that is asked ──
 
-module _ (b : List ℕ) (h : Head) (step : RawStep) (l : deskBytes ≤ length b) (k : h .edges ≤ mostEdges) (s : State) where
-  pub judged-lean : (marks : List ℕ) (lean : Bool) → lean ≡ true → marks ≡ numbersIn wideAt 8 summaryAt policies b → s ≡ judgeIn b h
-      → leanOf marks (take (edgesAt + edgeFields * h .edges - edgesAt) (drop edgesAt b)) (localIn h) s step
-      ≡ judgeBy (looksOf lean (summaryIn b)) (edgesIn b h) (localIn h) (judgeIn b h) step
-  unfolding summaryIn
-  judged-lean marks lean e m j = rw (edges-lent b h l k, m, j, e)
-
-  pub judged-full : (lean : Bool) → lean ≡ false → s ≡ judgeIn b h
-      → judgeOf (take (edgesAt + edgeFields * h .edges - edgesAt) (drop edgesAt b)) (localIn h) s step
-      ≡ judgeBy (looksOf lean (summaryIn b)) (edgesIn b h) (localIn h) (judgeIn b h) step
-  judged-full lean e j = rw (edges-lent b h l k, j, e) (sym (full-looks-at-all (edgesIn b h) (localIn h) (judgeIn b h) step))
+pub judged-by : (b : List ℕ) (h : Head) (step : RawStep) (lean : Bool) (looked : ℕ) (edges : List ℕ) (held : Held) (pairs : List ℕ) (z : Sizes)
+    → ((read : Step) → stepOf step ≡ some read → (p : ℕ) → p < policies → has looked p ≡ looksOf lean (summaryIn b) read p)
+    → edges ≡ edgesIn b h → held ≡ heldIn b → pairs ≡ pairsIn b → z ≡ sizesIn h
+    → judgeSized (lookedAt looked) edges (localIn h) (stateOf (lentBy held pairs) z) step
+    ≡ judgeBy (looksOf lean (summaryIn b)) (edgesIn b h) (localIn h) (judgeIn b h) step
+unfolding judgeIn
+judged-by b h step lean looked edges held pairs z alike e f g i =
+    rw (e, f, g, i) (sized-alike (lookedAt looked) (looksOf lean (summaryIn b)) (edgesIn b h) (localIn h) _ step alike
+    ∙ sized-by (looksOf lean (summaryIn b)) (edgesIn b h) (localIn h) _ step (pairs-long b))

@@ -350,7 +350,7 @@ module _ (b : List ℕ) (h : Head) (raw : RawStep) (l : deskBytes ≤ length b) 
               ∙ none-refused (looksOf lean (summaryIn b)) (edgesIn b h) (localIn h) (judgeIn b h) raw q)
 
       -- what is left, from the outline that is left
-      left : (b₁ b′ : List ℕ) (k : ℕ) → Stored b₁ h (j .state) k b′ → Within b rowsAt deskBytes b₁ → k ≤ exceeded
+      left : (b₁ b′ : List ℕ) (k : ℕ) → Stored b₁ h (j .state) k b′ → Within b createdAt deskBytes b₁ → k ≤ exceeded
           → rowsFit b′ (headWith h (j .state) k) ≡ true
           → some record { nodes = nodesIn b h; summary = summaryIn b; positions = listedIn (tableIn b₁) k }
           ≡ outlineFor (j .answer) (some u) (stepOf raw)
@@ -371,7 +371,7 @@ module _ (b : List ℕ) (h : Head) (raw : RawStep) (l : deskBytes ≤ length b) 
       nodes-good : nodeTable (nodesIn b h) ≡ true
       nodes-good = and-left (nodeTable (nodesIn b h)) (rowsOk (tableIn b) (h .positions)) fits
 
-      rows-left : (b₁ b′ : List ℕ) (k : ℕ) → Stored b₁ h (j .state) k b′ → Within b rowsAt deskBytes b₁
+      rows-left : (b₁ b′ : List ℕ) (k : ℕ) → Stored b₁ h (j .state) k b′ → Within b createdAt deskBytes b₁
           → (k ≤ mostPositions → rowsOk (tableIn b₁) k ≡ true) → rowsFit b′ (headWith h (j .state) k) ≡ true
       unfolding rowsFit
       rows-left b₁ b′ k st w good = go (isListed (headWith h (j .state) k)) refl
@@ -396,7 +396,7 @@ module _ (b : List ℕ) (h : Head) (raw : RawStep) (l : deskBytes ≤ length b) 
           (rows-left b b′ (h .positions) st untouched (λ z. and-right (nodeTable (nodesIn b h)) (rowsOk (tableIn b) (h .positions)) fits))
           (listed-again ∙ stay (j .answer) q r)
         where
-          untouched : Within b rowsAt deskBytes b
+          untouched : Within b createdAt deskBytes b
           untouched = record { long = refl; outside = λ m x. refl }
 
           listed-again : some record { nodes = nodesIn b h; summary = summaryIn b; positions = listedIn (tableIn b) (h .positions) } ≡ some u
@@ -417,7 +417,7 @@ module _ (b : List ℕ) (h : Head) (raw : RawStep) (l : deskBytes ≤ length b) 
           stay (Refused n) p x = refl
 
       -- where it leads
-      pub on-moved : moves (j .answer) (raw .kind) ≡ true → (b₁ b′ : List ℕ) (k : ℕ) → Within b rowsAt deskBytes b₁
+      pub on-moved : moves (j .answer) (raw .kind) ≡ true → (b₁ b′ : List ℕ) (k : ℕ) → Within b createdAt deskBytes b₁
           → ((xs : List Position) → OutlineOk ns → Tabled xs (h .positions) (tableIn b)
           → SettledIn (nextPositions ns (stepFrom (raw .kind) (raw .a) (raw .b)) xs) k b₁) → Stored b₁ h (j .state) k b′
           → Called (ByStep raw) b (deskCode (givenBy (told (j .answer)) lean)) b′

@@ -12,7 +12,7 @@ unfoldable pub use Rattle.desk_positions.specs.Bytes.{byteAt, wordAt, wideAt, n
 
 -- "One of these slices is the desk's state, of a length fixed in docs/" (docs/DESK.md)
 abbrev pub deskBytes : ℕ
-deskBytes = 23552
+deskBytes = 37000
 
 -- where each part begins; the head stands first
 abbrev pub headWords : ℕ
@@ -42,8 +42,11 @@ orderAt = 2096
 abbrev pub setsAt : ℕ
 setsAt = 2160
 
+abbrev pub pairsAt : ℕ
+pairsAt = 2816
+
 abbrev pub rowsAt : ℕ
-rowsAt = 2816
+rowsAt = 16264
 
 -- Only the bytes from a place up to another are changed.
 pub record Within (b₀ : List ℕ) (place end : ℕ) (b : List ℕ) : Type 0 where

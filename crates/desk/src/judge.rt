@@ -2,26 +2,28 @@
 ghost use Prim.Native.Nat.{ℕ, _+_, _*_, _<_, _≤_};
 ghost use mathlib.Core.Path.{_≡_};
 ghost use mathlib.Core.Bool.{cond};
+ghost use mathlib.Core.Option.{some};
 ghost use lib.Dec.{eqb};
 ghost use lib.ListN.{length};
 ghost use Rattle.usage.specs.Limits.{policies, mostCreated, mostUnclosed, mostEdges};
+ghost use Rattle.usage.specs.Past.{Step};
+ghost use Rattle.usage.specs.Judge.{stepOf};
+ghost use Rattle.automaton.specs.Mask.{has};
 ghost use Rattle.monitor_sets.specs.Instances.{setPlaces};
-ghost use Rattle.monitor_state.specs.Judge.{stateOk};
-ghost use Rattle.monitor_state.specs.Lent.{lentOf, judgementOf};
-ghost use Rattle.monitor_lean.specs.Lean.{leanOf, judgeBy};
-ghost use Rattle.desk.specs.Layout.{deskBytes, createdAt, possibleAt, unclosedAt, orderAt, setsAt, byteAt, wordAt, Put};
-ghost use Rattle.desk.specs.JudgeBytes.{judgeIn, headWith, Small, Arrays, Stored};
+ghost use Rattle.monitor_state.specs.Judge.{stateOk, pairSets};
+ghost use Rattle.monitor_lean.specs.Lean.{judgeBy};
+ghost use Rattle.desk.specs.Layout.{deskBytes, edgesAt, createdAt, possibleAt, unclosedAt, orderAt, setsAt, pairsAt, byteAt, wordAt, headIn, Put, Within};
+ghost use Rattle.desk.specs.JudgeBytes.{heldIn, judgeIn, sizesIn, headFor, SmallSizes, Small, Copied, Arrays, JudgedIn, Stored};
 ghost use Rattle.desk.specs.State.{edgesIn, localIn, summaryIn, looksOf};
 use crate::Head;
+use crate::Held;
 use monitor_sets::SETS;
-use monitor_state::Created;
-use monitor_state::Judgement;
+use monitor_state::PAIR_SETS;
 use monitor_state::Sizes;
 use monitor_state::State;
 use monitor_state::Told;
-use monitor_state::Tracked;
-use monitor_state::Unclosed;
 use usage::EDGE_FIELDS;
+use usage::EDGE_TABLE;
 use usage::MOST_CREATED;
 use usage::MOST_UNCLOSED;
 use usage::POLICIES;
@@ -38,52 +40,57 @@ const ORDER_AT: usize = 2096;
 
 const SETS_AT: usize = 2160;
 
-pub(crate) fn judge_in(b: &[u8], h: Head) -> State
+// The sets of the policies about two resources; none can be written yet.
+const PAIRS_AT: usize = 2816;
+
+fn held_in(b: &[u8]) -> Held
     requires { ⌜ deskBytes ≤ length (now b) ⌝ }
-    ensures { λ r. ⌜ r ≡ judgeIn (now (b .entry)) h ⌝ }
+    ensures { λ r. ⌜ r ≡ heldIn (now (b .entry)) ⌝ }
 {
     let mut sets = [0u8; SETS];
     crate::bytes::bytes_in(b, SETS_AT, SETS, &mut sets);
     let mut possible = [0u8; POLICIES];
     crate::bytes::bytes_in(b, POSSIBLE_AT, POLICIES, &mut possible);
-    let mut created = [0u32; MOST_CREATED];
-    crate::bytes::words_in(b, CREATED_AT, MOST_CREATED, &mut created);
-    let mut unclosed = [0u8; POLICIES];
-    crate::bytes::bytes_in(b, UNCLOSED_AT, POLICIES, &mut unclosed);
+    let mut numbers = [0u32; MOST_CREATED];
+    crate::bytes::words_in(b, CREATED_AT, MOST_CREATED, &mut numbers);
+    let mut counts = [0u8; POLICIES];
+    crate::bytes::bytes_in(b, UNCLOSED_AT, POLICIES, &mut counts);
     let mut order = [0u8; MOST_UNCLOSED];
     crate::bytes::bytes_in(b, ORDER_AT, MOST_UNCLOSED, &mut order);
-    let tracked = Tracked { sets, possible };
-    let listed = Created {
-        numbers: created,
+    Held {
+        sets,
+        possible,
+        numbers,
+        counts,
+        order,
+    }
+}
+
+fn sizes_in(h: Head) -> Sizes
+    ensures { λ r. ⌜ r ≡ sizesIn h ⌝ }
+{
+    Sizes {
         count: h.count as usize,
         highest: h.highest,
-    };
-    let opened = Unclosed {
-        counts: unclosed,
-        order,
         depth: h.depth as usize,
-    };
-    State {
-        tracked,
-        created: listed,
-        unclosed: opened,
         halted: h.halted == 1,
     }
 }
 
 // What the judge's own 42 asks.
-pub(crate) fn state_ok(s: State) -> bool
-    ensures { λ r. ⌜ r ≡ stateOk s ⌝ }
+pub(crate) fn state_ok(b: &[u8], h: Head) -> bool
+    requires { ⌜ deskBytes ≤ length (now b) ⌝ }
+    ensures { λ r. ⌜ r ≡ stateOk (judgeIn (now (b .entry)) h) ⌝ }
 {
-    let listed = s.created;
-    let created = listed.numbers;
-    if !monitor_sets::created::live_ok(&created, listed.count, listed.highest) {
+    let k = held_in(b);
+    let z = sizes_in(h);
+    let numbers = k.numbers;
+    if !monitor_sets::created::live_ok(&numbers, z.count, z.highest) {
         return false;
     }
-    let opened = s.unclosed;
-    let order = opened.order;
-    let unclosed = opened.counts;
-    monitor_sets::order::order_ok(&order, opened.depth, &unclosed)
+    let order = k.order;
+    let counts = k.counts;
+    monitor_sets::order::order_ok(&order, z.depth, &counts)
 }
 
 fn flag_of(x: bool) -> u32
@@ -100,6 +107,15 @@ fn sets_out(b: &mut [u8], sets: [u8; SETS])
     ensures { λ r. ⌜ length (now (b .exit)) ≡ length (now (b .entry)) ⌝ }
 {
     crate::bytes::bytes_out(b, SETS_AT, SETS, &sets);
+}
+
+fn pairs_out(b: &mut [u8], pairs: [u8; PAIR_SETS])
+    requires { ⌜ deskBytes ≤ length (now b) ⌝ }
+    ensures { λ r. ⌜ Put byteAt 1 (now (b .entry)) pairsAt pairSets pairs (now (b .exit)) ⌝ }
+    ensures { λ r. ⌜ length pairs ≡ pairSets ⌝ }
+    ensures { λ r. ⌜ length (now (b .exit)) ≡ length (now (b .entry)) ⌝ }
+{
+    crate::bytes::bytes_out(b, PAIRS_AT, PAIR_SETS, &pairs);
 }
 
 fn possible_out(b: &mut [u8], possible: [u8; POLICIES])
@@ -138,6 +154,22 @@ fn order_out(b: &mut [u8], order: [u8; MOST_UNCLOSED])
     crate::bytes::bytes_out(b, ORDER_AT, MOST_UNCLOSED, &order);
 }
 
+fn held_out(b: &mut [u8], k: Held)
+    requires { ⌜ deskBytes ≤ length (now b) ⌝ }
+    ensures { λ r. ⌜ Copied (now (b .entry)) k (now (b .exit)) ⌝ }
+{
+    let sets = k.sets;
+    sets_out(b, sets);
+    let possible = k.possible;
+    possible_out(b, possible);
+    let numbers = k.numbers;
+    created_out(b, numbers);
+    let counts = k.counts;
+    unclosed_out(b, counts);
+    let order = k.order;
+    order_out(b, order);
+}
+
 fn arrays_out(b: &mut [u8], s: State)
     requires { ⌜ deskBytes ≤ length (now b) ⌝ }
     ensures { λ r. ⌜ Arrays (now (b .entry)) s (now (b .exit)) ⌝ }
@@ -145,34 +177,41 @@ fn arrays_out(b: &mut [u8], s: State)
     let tracked = s.tracked;
     let listed = s.created;
     let opened = s.unclosed;
+    let pairs = tracked.pairs;
+    pairs_out(b, pairs);
     let sets = tracked.sets;
-    sets_out(b, sets);
     let possible = tracked.possible;
-    possible_out(b, possible);
-    let created = listed.numbers;
-    created_out(b, created);
-    let unclosed = opened.counts;
-    unclosed_out(b, unclosed);
+    let numbers = listed.numbers;
+    let counts = opened.counts;
     let order = opened.order;
-    order_out(b, order);
+    let k = Held {
+        sets,
+        possible,
+        numbers,
+        counts,
+        order,
+    };
+    held_out(b, k);
 }
 
-fn head_of(h: Head, s: State, positions: u32) -> Head
-    requires { ⌜ Small s ⌝ }
-    ensures { λ r. ⌜ r ≡ headWith h s positions ⌝ }
+// The head is written, with these numbers of the judge.
+pub(crate) fn sizes_out(b: &mut [u8], h: Head, z: Sizes, positions: u32)
+    requires { ⌜ deskBytes ≤ length (now b) ⌝ }
+    requires { ⌜ SmallSizes z ⌝ }
+    ensures { λ r. ⌜ headIn (now (b .exit)) ≡ headFor h z positions ⌝ }
+    ensures { λ r. ⌜ Within (now (b .entry)) 0 edgesAt (now (b .exit)) ⌝ }
 {
-    let listed = s.created;
-    let opened = s.unclosed;
-    Head {
+    let g = Head {
         policies: h.policies,
         edges: h.edges,
         nodes: h.nodes,
         positions,
-        halted: flag_of(s.halted),
-        count: listed.count as u32,
-        highest: listed.highest,
-        depth: opened.depth as u32,
-    }
+        halted: flag_of(z.halted),
+        count: z.count as u32,
+        highest: z.highest,
+        depth: z.depth as u32,
+    };
+    crate::heading::head_out(b, g);
 }
 
 // The head and the judge's part of the bytes are written.
@@ -181,97 +220,76 @@ pub(crate) fn judge_out(b: &mut [u8], h: Head, s: State, positions: u32)
     requires { ⌜ Small s ⌝ }
     ensures { λ r. ⌜ Stored (now (b .entry)) h s positions (now (b .exit)) ⌝ }
 {
-    let g = head_of(h, s, positions);
-    arrays_out(b, s);
-    crate::heading::head_out(b, g);
-}
-
-// What is told, with the arrays as they were left.
-fn state_of(
-    t: Told,
-    sets: [u8; SETS],
-    possible: [u8; POLICIES],
-    numbers: [u32; MOST_CREATED],
-    counts: [u8; POLICIES],
-    order: [u8; MOST_UNCLOSED],
-) -> Judgement
-    ensures { λ r. ⌜ r ≡ judgementOf t (lentOf sets possible numbers counts order) ⌝ }
-{
-    let answer = t.answer;
-    let left = t.sizes;
-    let tracked = Tracked { sets, possible };
-    let created = Created {
-        numbers,
-        count: left.count,
-        highest: left.highest,
-    };
-    let unclosed = Unclosed {
-        counts,
-        order,
-        depth: left.depth,
-    };
-    let state = State {
-        tracked,
-        created,
-        unclosed,
-        halted: left.halted,
-    };
-    Judgement { answer, state }
-}
-
-// One step of the lean judge on a state by value.
-fn judge_lean(
-    marks: &[u64; POLICIES],
-    edges: &[u8],
-    local: bool,
-    s: State,
-    step: RawStep,
-) -> Judgement
-    ensures { λ r. ⌜ r ≡ leanOf (now (marks .entry)) (now (edges .entry)) local s step ⌝ }
-{
-    let tracked = s.tracked;
     let listed = s.created;
     let opened = s.unclosed;
-    let mut sets = tracked.sets;
-    let mut possible = tracked.possible;
-    let mut created = listed.numbers;
-    let mut unclosed = opened.counts;
-    let mut order = opened.order;
-    let sizes = Sizes {
+    let z = Sizes {
         count: listed.count,
         highest: listed.highest,
         depth: opened.depth,
         halted: s.halted,
     };
-    let t = monitor_lean::judge_lean(
-        marks,
-        edges,
-        local,
-        &mut sets,
-        &mut possible,
-        &mut created,
-        &mut unclosed,
-        &mut order,
-        sizes,
-        step,
-    );
-    state_of(t, sets, possible, created, unclosed, order)
+    arrays_out(b, s);
+    sizes_out(b, h, z, positions);
 }
 
-// One step, judged from the bytes: by the lean judge with the summary that they hold, or by the full one.
-pub(crate) fn judged(b: &[u8], h: Head, lean: bool, step: RawStep) -> Judgement
+// The policies that a step is judged by: those that the summary in the bytes marks at it, or all.
+fn looked_at(b: &[u8], lean: bool, step: RawStep) -> u8
     requires { ⌜ deskBytes ≤ length (now b) ⌝ }
-    requires { ⌜ h .edges ≤ mostEdges ⌝ }
-    ensures { λ r.
-        ⌜ r ≡ judgeBy (looksOf lean (summaryIn (now (b .entry)))) (edgesIn (now (b .entry)) h) (localIn h) (judgeIn (now (b .entry)) h) step ⌝ }
+    ensures { λ r. ⌜ ((read : Step) → stepOf step ≡ some read → (p : ℕ) → p < policies
+        → has r p ≡ looksOf lean (summaryIn (now (b .entry))) read p) ⌝ }
 {
-    let s = judge_in(b, h);
-    let local = h.policies == crate::LOCAL;
-    let e = crate::EDGES_AT + EDGE_FIELDS * h.edges as usize;
     if lean {
         let mut marks = [0u64; POLICIES];
         crate::bytes::longs_in(b, crate::SUMMARY_AT, POLICIES, &mut marks);
-        return judge_lean(&marks, &b[crate::EDGES_AT..e], local, s, step);
+        return monitor_lean::looked_at(&marks, step);
     }
-    monitor::judge(&b[crate::EDGES_AT..e], local, s, step)
+    monitor::ALL_POLICIES
+}
+
+// One step, judged from the bytes: by the lean judge with the summary that they hold, or by the full one. The sets of pairs are lent where
+// they stand.
+pub(crate) fn judged(b: &mut [u8], h: Head, lean: bool, step: RawStep) -> Told
+    requires { ⌜ deskBytes ≤ length (now b) ⌝ }
+    requires { ⌜ h .edges ≤ mostEdges ⌝ }
+    ensures { λ t.
+        ⌜ JudgedIn (judgeBy (looksOf lean (summaryIn (now (b .entry)))) (edgesIn (now (b .entry)) h) (localIn h) (judgeIn (now (b .entry)) h) step)
+        (now (b .entry)) t (now (b .exit)) ⌝ }
+    ensures { λ t. ⌜ length (now (b .exit)) ≡ length (now (b .entry)) ⌝ }
+{
+    let looked = looked_at(b, lean, step);
+    let e = EDGE_FIELDS * h.edges as usize;
+    let mut edges = [0u8; EDGE_TABLE];
+    crate::bytes::bytes_in(b, crate::EDGES_AT, e, &mut edges);
+    let k = held_in(b);
+    let mut sets = k.sets;
+    let mut possible = k.possible;
+    let mut numbers = k.numbers;
+    let mut counts = k.counts;
+    let mut order = k.order;
+    let t = monitor::judge_looked(
+        looked,
+        &edges[0..e],
+        h.policies == crate::LOCAL,
+        &mut sets,
+        &mut b[PAIRS_AT..crate::ROWS_AT],
+        &mut possible,
+        &mut numbers,
+        &mut counts,
+        &mut order,
+        sizes_in(h),
+        step,
+    );
+    let answer = t.answer;
+    if crate::steps::is_refusal(answer) {
+        return t;
+    }
+    let left = Held {
+        sets,
+        possible,
+        numbers,
+        counts,
+        order,
+    };
+    held_out(b, left);
+    t
 }

@@ -56,7 +56,7 @@ fn is_sound(b: &[u8], h: Head) -> bool
     if !sheet_fields::edges::edge_table_ok(&b[crate::EDGES_AT..e]) {
         return false;
     }
-    crate::judge::state_ok(crate::judge::judge_in(b, h))
+    crate::judge::state_ok(b, h)
 }
 
 // Do the bytes encode a desk?

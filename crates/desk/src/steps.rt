@@ -57,7 +57,7 @@ fn reply_code(a: Answer, lean: bool) -> u32
     }
 }
 
-fn is_refusal(a: Answer) -> bool
+pub(crate) fn is_refusal(a: Answer) -> bool
     ensures { λ r. ⌜ r ≡ isRefusal a ⌝ }
 {
     match a {
@@ -87,13 +87,13 @@ pub(crate) fn off_outline(b: &mut [u8], h: Head, step: RawStep) -> u32
     requires { ⌜ isListed h ≡ false ⌝ }
     ensures { λ r. ⌜ Called (ByStep step) (now (b .entry)) r (now (b .exit)) ⌝ }
 {
-    let j = crate::judge::judged(b, h, false, step);
-    let answer = j.answer;
+    let t = crate::judge::judged(b, h, false, step);
+    let answer = t.answer;
     if is_refusal(answer) {
         return reply_code(answer, false);
     }
-    let s = j.state;
-    crate::judge::judge_out(b, h, s, h.positions);
+    let z = t.sizes;
+    crate::judge::sizes_out(b, h, z, h.positions);
     reply_code(answer, false)
 }
 
@@ -155,18 +155,18 @@ fn on_rows(b: &mut [u8], h: Head, step: RawStep) -> u32
     ensures { λ r. ⌜ Called (ByStep step) (now (b .entry)) r (now (b .exit)) ⌝ }
 {
     let lean = stays(b, h, step);
-    let j = crate::judge::judged(b, h, lean, step);
-    let answer = j.answer;
+    let t = crate::judge::judged(b, h, lean, step);
+    let answer = t.answer;
     if is_refusal(answer) {
         return reply_code(answer, lean);
     }
-    let s = j.state;
+    let z = t.sizes;
     if moves(answer, step.kind) {
         let k = move_rows(b, h, step);
-        crate::judge::judge_out(b, h, s, k);
+        crate::judge::sizes_out(b, h, z, k);
         return reply_code(answer, lean);
     }
-    crate::judge::judge_out(b, h, s, h.positions);
+    crate::judge::sizes_out(b, h, z, h.positions);
     reply_code(answer, lean)
 }
 

@@ -17,7 +17,7 @@ use mathlib.Core.List.{
   List·Memᴰ·cases-cons,
   List·Memᴰ·not-nil,
 }
-use mathlib.Core.Logic.{_↔_}
+use mathlib.Core.Logic.{_⊎_, inl, inr, _↔_}
 use native.Mathlib.Omega.{arith}
 use lib.Dec.{ltb, lit<}
 use lib.ListN.{length, drop, getD}
@@ -31,12 +31,12 @@ use Rattle.usage.proofs.Logic.{clash, by-cases}
 use Rattle.sheet_bytes.specs.Line.{Line, linesOf}
 use Rattle.sheet_bytes.specs.Fault.{LineFault, no-feed, other-byte, overlong, form, LineRead, has-values, has-fault, readLine}
 use Rattle.sheet_bytes.proofs.FaultLaws.{decides-fault}
-use Rattle.sheet_lines.specs.Sheet.{Sheet, Result, accepted, refused, refuseAt, followed, entry, valueLines, startsWith, sheet}
+use Rattle.sheet_lines.specs.Sheet.{Sheet, afterLine, Result, accepted, refused, refuseAt, followed, entry, valueLines, startsWith, sheet}
 use Rattle.sheet_lines.specs.Sheets.{policySheet, isLocal, traceSheet, outlineSheet}
 use Rattle.sheet_reader.specs.Readers.{policiesRead, ruledRows, ruledResult, roomy, policiesInto, traceInto, outlineInto, stored}
 use Rattle.sheet_reader.specs.Cases.{PoliciesCase, TraceCase, OutlineCase}
 use Rattle.sheet_reader.proofs.CaseLaws.{policies-cases, trace-cases, outline-cases}
-use Rattle.promises.specs.Demands.{sheetNumbers, outlineNumbers, ReaderRefuses}
+use Rattle.promises.specs.Demands.{sheetNumbers, policyNumbers, outlineNumbers, ReaderRefuses}
 use Rattle.promises.proofs.JudgeNumbers.{nth}
 
 -- the number of a refusal is in the list, and is not 40
@@ -64,24 +64,39 @@ module _ (l : List ℕ) (in-list : (n : ℕ) → List·Memᴰ n sheetNumbers →
   fault-number (overlong p f h) = (in-list 12 (nth 6 sheetNumbers refl), lit< tt)
   fault-number (form p f g w) = (in-list 2 (nth 7 sheetNumbers refl), lit< tt)
 
-  entry-numbers : (s : Sheet) (line : ℕ) (x : Line) (o : LineRead) → readLine (s .fields) x ≡ o → (rest : Result) → Numbers l rest
-      → Numbers l (entry s line o rest)
-  entry-numbers s line x (has-fault number) q rest n = a-number (fault-number (decides-fault (s .fields) x number .0 q))
-  entry-numbers s line x (has-values vs) q rest n =
-      cond-numbers (s .in-range vs) (followed-numbers vs rest n) (a-number (in-list 3 (nth 8 sheetNumbers refl), lit< tt))
+  -- 14 is in the list, unless the sheet asks nothing of its lines together
+  abbrev Asks : Sheet → Type 0
+  Asks s = ((rows : List (List ℕ)) → s .together rows ≡ true) ⊎ List·Memᴰ 14 l
 
-  lines-numbers : (s : Sheet) (line left : ℕ) (ls : List Line) → Numbers l (valueLines s line left ls)
+  asks-after : (s : Sheet) (vs : List ℕ) → Asks s → Asks (afterLine s vs)
+  asks-after s vs (inl h) = inl (λ rows. h (vs ∷ rows))
+  asks-after s vs (inr m) = inr m
+
+  together-numbers : (s : Sheet) (line : ℕ) (vs : List ℕ) → Asks s → {r : Result} → Numbers l r
+      → Numbers l (cond (s .together (vs ∷ [])) r (refuseAt line 14))
+  together-numbers s line vs (inl h) n = rw (h (vs ∷ [])) n
+  together-numbers s line vs (inr m) n = cond-numbers (s .together (vs ∷ [])) n (a-number (m, lit< tt))
+
+  entry-numbers : (s : Sheet) → Asks s → (line : ℕ) (x : Line) (o : LineRead) → readLine (s .fields) x ≡ o → (rest : Sheet → Result)
+      → ((t : Sheet) → Asks t → Numbers l (rest t)) → Numbers l (entry s line o rest)
+  entry-numbers s a line x (has-fault number) q rest n = a-number (fault-number (decides-fault (s .fields) x number .0 q))
+  entry-numbers s a line x (has-values vs) q rest n =
+      cond-numbers (s .in-range vs)
+      (together-numbers s line vs a (followed-numbers vs (rest (afterLine s vs)) (n (afterLine s vs) (asks-after s vs a))))
+      (a-number (in-list 3 (nth 8 sheetNumbers refl), lit< tt))
+
+  lines-numbers : (s : Sheet) → Asks s → (line left : ℕ) (ls : List Line) → Numbers l (valueLines s line left ls)
   unfolding valueLines
-  lines-numbers s line left [] = no-number
-  lines-numbers s line zero (x ∷ ls) = a-number (in-list 4 (nth 3 sheetNumbers refl), lit< tt)
-  lines-numbers s line (suc left) (x ∷ ls) =
-      entry-numbers s line x (readLine (s .fields) x) refl _ (lines-numbers s (suc line) left ls)
+  lines-numbers s a line left [] = no-number
+  lines-numbers s a line zero (x ∷ ls) = a-number (in-list 4 (nth 3 sheetNumbers refl), lit< tt)
+  lines-numbers s a line (suc left) (x ∷ ls) =
+      entry-numbers s a line x (readLine (s .fields) x) refl _ (λ t b. lines-numbers t b (suc line) left ls)
 
-  pub sheet-numbers : (s : Sheet) (text : List ℕ) → Numbers l (sheet s text)
+  pub sheet-numbers : (s : Sheet) → Asks s → (text : List ℕ) → Numbers l (sheet s text)
   unfolding sheet
-  sheet-numbers s text =
+  sheet-numbers s a text =
       cond-numbers (ltb longestSheet (length text)) (a-number (in-list 5 (nth 1 sheetNumbers refl), lit< tt))
-      (cond-numbers (startsWith (s .names) text) (lines-numbers s 2 (s .most) (linesOf (drop (length (s .names)) text)))
+      (cond-numbers (startsWith (s .names) text) (lines-numbers s a 2 (s .most) (linesOf (drop (length (s .names)) text)))
       (a-number (in-list 1 (nth 2 sheetNumbers refl), lit< tt)))
 
 -- ── The rules of an outline ──
@@ -174,20 +189,22 @@ longer n (x ∷ l) more m = by-cases (List·Memᴰ·cases-cons m) (λ e. List·M
 wider : (n : ℕ) → List·Memᴰ n sheetNumbers → List·Memᴰ n outlineNumbers
 wider n m = longer n sheetNumbers (9 ∷ 6 ∷ 7 ∷ 8 ∷ []) m
 
-pub policies-refuses : ReaderRefuses sheetNumbers edgePlaces policiesInto PoliciesCase
+pub policies-refuses : ReaderRefuses policyNumbers edgePlaces policiesInto PoliciesCase
 unfolding policiesInto
 policies-refuses =
-    reader-refuses sheetNumbers (nth 0 sheetNumbers refl) _ policiesRead
-    (λ text. sheet-numbers sheetNumbers same (policySheet (isLocal text)) text) PoliciesCase policies-cases
+    reader-refuses policyNumbers (nth 0 policyNumbers refl) _ policiesRead
+    (λ text. sheet-numbers policyNumbers (λ n m. longer n sheetNumbers (14 ∷ []) m) (policySheet (isLocal text))
+    (inr (nth 9 policyNumbers refl)) text) PoliciesCase policies-cases
 
 pub trace-refuses : ReaderRefuses sheetNumbers stepPlaces traceInto TraceCase
 unfolding traceInto
 trace-refuses =
-    reader-refuses sheetNumbers (nth 0 sheetNumbers refl) _ (sheet traceSheet) (sheet-numbers sheetNumbers same traceSheet) TraceCase
-    trace-cases
+    reader-refuses sheetNumbers (nth 0 sheetNumbers refl) _ (sheet traceSheet)
+    (sheet-numbers sheetNumbers same traceSheet (inl (λ rows. refl))) TraceCase trace-cases
 
 pub outline-refuses : ReaderRefuses outlineNumbers nodePlaces outlineInto OutlineCase
 unfolding outlineInto
 outline-refuses =
     reader-refuses outlineNumbers (nth 0 outlineNumbers refl) _ (λ text. ruledResult (sheet outlineSheet text))
-    (λ text. result-numbers (sheet outlineSheet text) (sheet-numbers outlineNumbers wider outlineSheet text)) OutlineCase outline-cases
+    (λ text. result-numbers (sheet outlineSheet text) (sheet-numbers outlineNumbers wider outlineSheet (inl (λ rows. refl)) text))
+    OutlineCase outline-cases

@@ -69,9 +69,12 @@ use Rattle.api_c.specs.Codes.{codeOf, explanationCode}
 abbrev pub judgeNumbers : List ℕ
 judgeNumbers = 20 ∷ 21 ∷ 22 ∷ 27 ∷ 28 ∷ 24 ∷ 25 ∷ 26 ∷ 30 ∷ 32 ∷ 41 ∷ 42 ∷ []
 
--- "The author of a sheet", 02, L2, and 40: the numbers that a sheet has, and those that an outline has besides
+-- "The author of a sheet", 02, L2, and 40: the numbers that a sheet has, and those that one of policies (02, L10) or an outline has besides
 abbrev pub sheetNumbers : List ℕ
 sheetNumbers = 40 ∷ 5 ∷ 1 ∷ 4 ∷ 13 ∷ 11 ∷ 12 ∷ 2 ∷ 3 ∷ []
+
+abbrev pub policyNumbers : List ℕ
+policyNumbers = sheetNumbers ++ (14 ∷ [])
 
 abbrev pub outlineNumbers : List ℕ
 outlineNumbers = sheetNumbers ++ (9 ∷ 6 ∷ 7 ∷ 8 ∷ [])
@@ -149,7 +152,7 @@ pub record GivenBy (needed : ℕ) (into : ℕ → List ℕ → Result) (table : 
 -- "No sheet, step, table or state, however malformed, makes it .. answer outside its list", and a refusal changes nothing.
 pub record Demand1 : Type 0 where
   pub judge : JudgeRefuses
-  pub policies-reader : ReaderRefuses sheetNumbers edgePlaces policiesInto PoliciesCase
+  pub policies-reader : ReaderRefuses policyNumbers edgePlaces policiesInto PoliciesCase
   pub trace-reader : ReaderRefuses sheetNumbers stepPlaces traceInto TraceCase
   pub outline-reader : ReaderRefuses outlineNumbers nodePlaces outlineInto OutlineCase
   pub expression-reader : ReaderRefuses expressionNumbers nodePlaces expressionInto ExpressionCase

@@ -47,6 +47,7 @@ fn judge_all(edges: &[u8], local: bool, steps: &[u32], out: &mut [u8], at: usize
     let created = s.created;
     let unclosed = s.unclosed;
     let mut sets = tracked.sets;
+    let mut pairs = tracked.pairs;
     let mut possible = tracked.possible;
     let mut numbers = created.numbers;
     let mut counts = unclosed.counts;
@@ -64,6 +65,7 @@ fn judge_all(edges: &[u8], local: bool, steps: &[u32], out: &mut [u8], at: usize
             edges,
             local,
             &mut sets,
+            &mut pairs,
             &mut possible,
             &mut numbers,
             &mut counts,

@@ -10,6 +10,7 @@ use crate::print;
 use crate::stored;
 use checker_trace::MOST_NUMBERS;
 use monitor_sets::SETS;
+use monitor_state::PAIR_SETS;
 use sheet_lines::Reading;
 use sheet_lines::SHEET_ROOM;
 use sheet_reader::PolicyReading;
@@ -67,6 +68,7 @@ fn follow(
     ensures { λ r. ⌜ r .past ≤ steps ⌝ }
 {
     let mut sets = [1u8; SETS];
+    let mut pairs = [1u8; PAIR_SETS];
     let mut possible = [1u8; POLICIES];
     let mut created = [0u32; MOST_CREATED];
     let mut unclosed = [0u8; POLICIES];
@@ -82,6 +84,7 @@ fn follow(
                 edges,
                 local,
                 &mut sets,
+                &mut pairs,
                 &mut possible,
                 &mut created,
                 &mut unclosed,

@@ -98,7 +98,7 @@ fn round(state: &mut [u8], n: u64, policies: u8, outline: u8, trace: u8) -> u64
 
 // How many bytes are not the same.
 fn changed(a: [u8; DESK_BYTES], b: [u8; DESK_BYTES]) -> usize
-    ensures { λ r. ⌜ r ≤ 23552 ⌝ }
+    ensures { λ r. ⌜ r ≤ 37000 ⌝ }
 {
     let mut i: usize = 0;
     let mut n: usize = 0;
@@ -113,7 +113,7 @@ fn changed(a: [u8; DESK_BYTES], b: [u8; DESK_BYTES]) -> usize
 
 // A step with one byte changed: 256 times its place, and the value.
 fn poked(mut state: [u8; DESK_BYTES], poke: u32) -> usize
-    ensures { λ r. ⌜ r ≤ 23552 ⌝ }
+    ensures { λ r. ⌜ r ≤ 37000 ⌝ }
 {
     let place = poke as usize / 256;
     if DESK_BYTES <= place {

@@ -8,6 +8,7 @@ ghost use Rattle.api_c.specs.Parts.{judgeParts};
 ghost use Rattle.test_stored.specs.Code.{edgeTo, bordering, disagreeing};
 use crate::print;
 use monitor_sets::SETS;
+use monitor_state::PAIR_SETS;
 use usage::EDGE_FIELDS;
 use usage::MOST_CREATED;
 use usage::MOST_UNCLOSED;
@@ -46,6 +47,7 @@ fn judged(to: u8, count: u64, flag: u64, first: u32, second: u32, kind: u32, a: 
     let mut edges = [0u8; EDGE_FIELDS];
     edges[5] = to;
     let mut sets = [1u8; SETS];
+    let mut pairs = [1u8; PAIR_SETS];
     let mut possible = [1u8; POLICIES];
     let mut created = [0u32; MOST_CREATED];
     created[0] = first;
@@ -58,6 +60,7 @@ fn judged(to: u8, count: u64, flag: u64, first: u32, second: u32, kind: u32, a: 
         &edges,
         0,
         &mut sets,
+        &mut pairs,
         &mut possible,
         &mut created,
         &mut unclosed,
@@ -84,6 +87,7 @@ fn judged_kept(kept: u8, set: u8, kind: u32, a: u32, b: u32) -> u32
     let mut edges = [0u8; EDGE_FIELDS];
     edges[5] = 7;
     let mut sets = [1u8; SETS];
+    let mut pairs = [1u8; PAIR_SETS];
     sets[0] = set;
     let mut possible = [1u8; POLICIES];
     possible[0] = kept;
@@ -96,6 +100,7 @@ fn judged_kept(kept: u8, set: u8, kind: u32, a: u32, b: u32) -> u32
         &edges,
         0,
         &mut sets,
+        &mut pairs,
         &mut possible,
         &mut created,
         &mut unclosed,

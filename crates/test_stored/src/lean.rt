@@ -9,6 +9,7 @@ use crate::print;
 use crate::stored;
 use libc::STDOUT_FILENO;
 use monitor_sets::SETS;
+use monitor_state::PAIR_SETS;
 use sheet_lines::Reading;
 use sheet_lines::SHEET_ROOM;
 use sheet_reader::PolicyReading;
@@ -54,6 +55,7 @@ fn follow(edges: &[u8], local: u32, trace: &[u32], marks: &[u64; POLICIES]) -> u
     ensures { λ r. ⌜ r ≡ length (now (trace .entry)) / stepFields ⌝ }
 {
     let mut sets = [1u8; SETS];
+    let mut pairs = [1u8; PAIR_SETS];
     let mut possible = [1u8; POLICIES];
     let mut created = [0u32; MOST_CREATED];
     let mut unclosed = [0u8; POLICIES];
@@ -67,6 +69,7 @@ fn follow(edges: &[u8], local: u32, trace: &[u32], marks: &[u64; POLICIES]) -> u
             edges,
             local,
             &mut sets,
+            &mut pairs,
             &mut possible,
             &mut created,
             &mut unclosed,

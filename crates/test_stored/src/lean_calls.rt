@@ -4,6 +4,7 @@ ghost use mathlib.Core.Path.{_≡_};
 use crate::lean;
 use crate::print;
 use monitor_sets::SETS;
+use monitor_state::PAIR_SETS;
 use usage::EDGE_FIELDS;
 use usage::MOST_CREATED;
 use usage::MOST_UNCLOSED;
@@ -63,6 +64,7 @@ fn judged(call: u64, marks: u64, local: u32, flag: u64, kind: u32, a: u32, b: u3
     let mut edges = [0u8; EDGE_FIELDS];
     edges[5] = 7;
     let mut sets = [1u8; SETS];
+    let mut pairs = [1u8; PAIR_SETS];
     sets[0] = 64;
     let mut possible = [1u8; POLICIES];
     possible[0] = 64;
@@ -77,6 +79,7 @@ fn judged(call: u64, marks: u64, local: u32, flag: u64, kind: u32, a: u32, b: u3
         &edges,
         local,
         &mut sets,
+        &mut pairs,
         &mut possible,
         &mut created,
         &mut unclosed,

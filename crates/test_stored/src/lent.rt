@@ -9,6 +9,7 @@ ghost use Rattle.api_c.specs.Parts.{judgeParts};
 ghost use Rattle.test_stored.specs.Code.{edgeTo, lentParts};
 use crate::print;
 use monitor_sets::SETS;
+use monitor_state::PAIR_SETS;
 use usage::EDGE_FIELDS;
 use usage::MOST_CREATED;
 use usage::MOST_UNCLOSED;
@@ -111,6 +112,7 @@ fn judged(local: u32, s: Lent, kind: u32, a: u32, b: u32) -> Left
     let mut edges = [0u8; EDGE_FIELDS];
     edges[5] = 7;
     let mut sets = s.sets;
+    let mut pairs = [1u8; PAIR_SETS];
     let mut possible = s.possible;
     let mut created = s.created;
     let mut unclosed = s.unclosed;
@@ -120,6 +122,7 @@ fn judged(local: u32, s: Lent, kind: u32, a: u32, b: u32) -> Left
         &edges,
         local,
         &mut sets,
+        &mut pairs,
         &mut possible,
         &mut created,
         &mut unclosed,

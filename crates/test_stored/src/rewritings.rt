@@ -101,7 +101,7 @@ pub(crate) fn calls() -> u64
 {
     let names = b"policy from action on who to\n";
     let edges = b"policy from action on who to\n0 0 2 1 0 6\n0 0 1 1 0 1\n";
-    let broken = b"policy from action on who to\n0 0 2 1 0 6\n0 0 1 3 0 1\n";
+    let broken = b"policy from action on who to\n0 0 2 1 0 6\n0 0 1 4 0 1\n";
     short(0, names);
     enough(1, names);
     enough(2, b"local from action on who to\n");

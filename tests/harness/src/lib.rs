@@ -2,9 +2,10 @@
 
 use reference::judge::{Answer, Step};
 use reference::outline::Node;
+use reference::pair_sets::of_masks;
 use reference::policy::{Edge, Policies, Sight};
 use reference::state::State;
-use wiforekun::{Past, CREATED_LENGTH, ORDER_LENGTH, SETS_LENGTH, TRACE_ROOM, UNCLOSED_LENGTH};
+use wiforekun::{Past, CREATED_LENGTH, ORDER_LENGTH, PAIRS_LENGTH, SETS_LENGTH, TRACE_ROOM, UNCLOSED_LENGTH};
 
 /// The sets of one policy: one for each instance.
 const INSTANCES: usize = SETS_LENGTH / UNCLOSED_LENGTH;
@@ -65,8 +66,13 @@ fn lent(state: &State) -> Option<wiforekun::State> {
             sets[policy * INSTANCES + instance] = *mask;
         }
     }
+    let mut pairs = [0u8; PAIRS_LENGTH];
+    for (place, mask) in pairs.iter_mut().zip(state.pairs.iter().flatten().flatten()) {
+        *place = *mask;
+    }
     Some(wiforekun::State {
         sets,
+        pairs,
         possible: state.kept,
         created: narrowed::<u32, CREATED_LENGTH>(state.created)?,
         unclosed: narrowed::<u8, UNCLOSED_LENGTH>(state.openings)?,
@@ -83,6 +89,7 @@ fn held(parts: &wiforekun::State) -> State {
             *mask = parts.sets[policy * INSTANCES + instance];
         }
     }
+    state.pairs = of_masks(&parts.pairs).expect("as many bytes as sets");
     state.kept = parts.possible;
     state.created = parts.created.map(u64::from);
     state.openings = parts.unclosed.map(u64::from);

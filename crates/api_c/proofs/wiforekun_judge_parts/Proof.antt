@@ -37,7 +37,7 @@ code-requires c κs = search needs
 returns : tie.Need-returns
 returns c =
     let a = c .before .before .before .before .before .before .before .args in
-    let p = partsOf (a .sets .now) (a .possible .now) (a .created .now) (a .unclosed .now) (a .order .now) (a .numbers .now) in
+    let p = partsOf (a .sets .now) (a .pairs .now) (a .possible .now) (a .created .now) (a .unclosed .now) (a .order .now) (a .numbers .now) in
     let e = choice-refused judgeOf (a .edges .now) (a .local) p (record { kind = a .kind; a = a .a; b = a .b }) (c .before .if1 .taken) in
     refused-owed (a .edges .now) (a .local) p _ _ _ e (c .code .ensures)
 
@@ -47,7 +47,7 @@ no-state-requires c κs = search needs
 returns-2 : tie.Need-returns-2
 returns-2 c =
     let a = c .before .before .before .before .before .before .before .before .args in
-    let p = partsOf (a .sets .now) (a .possible .now) (a .created .now) (a .unclosed .now) (a .order .now) (a .numbers .now) in
+    let p = partsOf (a .sets .now) (a .pairs .now) (a .possible .now) (a .created .now) (a .unclosed .now) (a .order .now) (a .numbers .now) in
     let h = flag-above p (omega (arith, c .before .if2 .taken)) in
     let e = held-refused judgeOf (a .edges .now) (a .local) p (record { kind = a .kind; a = a .a; b = a .b }) (c .before .before .if1 .left) h in
     refused-owed (a .edges .now) (a .local) p _ _ _ e (c .no-state .ensures)
@@ -58,7 +58,7 @@ no-state-requires-2 c κs = search needs
 returns-3 : tie.Need-returns-3
 returns-3 c =
     let a = c .before .before .before .before .before .before .before .before .before .args in
-    let p = partsOf (a .sets .now) (a .possible .now) (a .created .now) (a .unclosed .now) (a .order .now) (a .numbers .now) in
+    let p = partsOf (a .sets .now) (a .pairs .now) (a .possible .now) (a .created .now) (a .unclosed .now) (a .order .now) (a .numbers .now) in
     let h = highest-above p (omega (arith, c .before .before .if2 .left)) (omega (arith, c .before .if3 .taken)) in
     let e = held-refused judgeOf (a .edges .now) (a .local) p (record { kind = a .kind; a = a .a; b = a .b })
     (c .before .before .before .if1 .left) h in
@@ -85,27 +85,26 @@ code-requires-2 c κs = search needs
 returns-4 : tie.Need-returns-4
 unfolding heldIn
 returns-4 c =
-    let a = c .before .before .before .before .before .before .before .before .before
-    .before .before .before .before .before .before .before .before .args in
-    let p = partsOf (a .sets .now) (a .possible .now) (a .created .now) (a .unclosed .now) (a .order .now) (a .numbers .now) in
+    let a = c .before .before .before .before .before .before .before .before .before .before .before .before .before .before .before .before .before .before .args in
+    let p = partsOf (a .sets .now) (a .pairs .now) (a .possible .now) (a .created .now) (a .unclosed .now) (a .order .now) (a .numbers .now) in
     let raw : RawStep = record { kind = a .kind; a = a .a; b = a .b } in
     let h = is-held p
-    (omega (arith, c .before .before .before .before .before .before .before .before .before .before .if2 .left))
-    (omega (arith, c .before .before .before .before .before .before .before .before .before .if3 .left)) in
-    let k = c .before .before .before .before .before .before .before .before .before .before .before .if1 .left in
+    (omega (arith, c .before .before .before .before .before .before .before .before .before .before .before .if2 .left))
+    (omega (arith, c .before .before .before .before .before .before .before .before .before .before .if3 .left)) in
+    let k = c .before .before .before .before .before .before .before .before .before .before .before .before .if1 .left in
     let f = full-refusing (a .edges .now) (a .local) p raw in
     let j = c .before .before .before .judge-lent in
     let r = c .before .before .is-refusal in
     owed (a .edges .now) (a .local) p raw _ _
-    (c .code2 .ensures ∙ ap codeOf (told-verdict judgeOf (a .edges .now) (a .local) p raw f k h (j .result) _ _ _ _ _ (j .ensures)))
+    (c .code2 .ensures ∙ ap codeOf (told-verdict judgeOf (a .edges .now) (a .local) p raw f k h (j .result) _ _ _ _ _ _ (j .ensures)))
     (by-cases (c .before .if4 .came)
     (λ w. ap (λ (l : List ℕ). partsOf (j .last .1 .1 .0) (j .last .1 .1 .1 .0) (j .last .1 .1 .1 .1 .0) (j .last .1 .1 .1 .1 .1 .0)
-    (j .last .1 .1 .1 .1 .1 .1 .0) l) (w .5)
-    ∙ taken-left judgeOf (a .edges .now) (a .local) p raw f k h (j .result) _ _ _ _ _ (j .ensures) (w .2 .result)
+    (j .last .1 .1 .1 .1 .1 .1 .0) (j .last .1 .1 .1 .1 .1 .1 .1 .0) l) (w .5)
+    ∙ taken-left judgeOf (a .edges .now) (a .local) p raw f k h (j .result) _ _ _ _ _ _ (j .ensures) (w .2 .result)
     (sym (r .ensures) ∙ not-true (r .result) (w .0 .taken)) (w .2 .ensures))
     (λ w. ap (λ (l : List ℕ). partsOf (j .last .1 .1 .0) (j .last .1 .1 .1 .0) (j .last .1 .1 .1 .1 .0) (j .last .1 .1 .1 .1 .1 .0)
-    (j .last .1 .1 .1 .1 .1 .1 .0) l) (w .1)
-    ∙ refused-left judgeOf (a .edges .now) (a .local) p raw f k h (j .result) _ _ _ _ _
+    (j .last .1 .1 .1 .1 .1 .1 .0) (j .last .1 .1 .1 .1 .1 .1 .1 .0) l) (w .1)
+    ∙ refused-left judgeOf (a .edges .now) (a .local) p raw f k h (j .result) _ _ _ _ _ _
     (j .ensures) (sym (r .ensures) ∙ not-false (r .result) (w .0 .left))))
     (λ held. by-cases (c .before .if4 .came)
     (λ w. let fits : Fits w32 (j .result .sizes .highest) = search needs in

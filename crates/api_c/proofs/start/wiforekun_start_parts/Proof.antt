@@ -16,8 +16,8 @@ start-requires c κs = search needs
 returns : tie.Need-returns
 unfolding startState startTracked startCreated startUnclosed holding
 returns c =
-    let e = ap (λ (s : State). partsOf (s .tracked .sets) (s .tracked .possible) (s .created .numbers) (s .unclosed .counts) (s .unclosed .order) (0 ∷ 0 ∷ 0 ∷ 0 ∷ []))
-    (c .before .before .before .before .before .before .before .before .before .start .ensures .0) in
+    let e = ap (λ (s : State). partsOf (s .tracked .sets) (s .tracked .pairs) (s .tracked .possible) (s .created .numbers) (s .unclosed .counts) (s .unclosed .order) (0 ∷ 0 ∷ 0 ∷ 0 ∷ []))
+    (c .before .before .before .before .before .before .before .before .before .before .start .ensures .0) in
     (e, subst BeginsIn (sym e) begins)
 
 pub wiforekun-start-parts-spec : {M : Type 1} → statement M

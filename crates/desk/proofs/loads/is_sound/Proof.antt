@@ -13,7 +13,6 @@ use Rattle.desk.proofs.loads.is_sound.Statement.{statement}
 use Rattle.desk.proofs.loads.is_sound.Tie as tie
 use Rattle.desk.proofs.loads.is_sound.Reads as reads
 use Rattle.desk.proofs.loads.is_sound.Lts as lts
-use Rattle.desk.proofs.judge.judge_in.Reads as judge-in-reads
 use Rattle.desk.proofs.judge.state_ok.Reads as state-ok-reads
 use Rattle.sheet_fields.proofs.edges.edge_table_ok.Reads as edge-table-ok-reads
 
@@ -54,10 +53,6 @@ returns c =
     let n = edges-lent (a .b .now) (a .h) (p .0) (p .1) in
     sym (ap (λ x. x && stateOk (judgeIn (a .b .now) (a .h))) (ap edgeTable (sym n) ∙ sym (t .ensures) ∙ not-true (t .result) (c .if1 .taken)))
 
--- src/loads.rt:57:28
-judge-in-requires : tie.Need-judge-in-requires
-judge-in-requires c κs = search needs
-
 -- src/loads.rt:57:5
 state-ok-requires : tie.Need-state-ok-requires
 state-ok-requires c κs = search needs
@@ -65,12 +60,12 @@ state-ok-requires c κs = search needs
 -- src/loads.rt:48:1
 returns-2 : tie.Need-returns-2
 returns-2 c =
-    let a = c .before .before .before .before .before .before .before .args in
-    let p = c .before .before .before .before .before .before .before .pre in
-    let t = c .before .before .before .edge-table-ok in
+    let a = c .before .before .before .before .before .before .args in
+    let p = c .before .before .before .before .before .before .pre in
+    let t = c .before .before .edge-table-ok in
     let n = edges-lent (a .b .now) (a .h) (p .0) (p .1) in
-    c .state-ok .ensures ∙ ap stateOk (c .before .judge-in .ensures)
-    ∙ sym (ap (λ x. x && stateOk (judgeIn (a .b .now) (a .h))) (ap edgeTable (sym n) ∙ sym (t .ensures) ∙ not-false (t .result) (c .before .before .if1 .left)))
+    c .state-ok .ensures
+    ∙ sym (ap (λ x. x && stateOk (judgeIn (a .b .now) (a .h))) (ap edgeTable (sym n) ∙ sym (t .ensures) ∙ not-false (t .result) (c .before .if1 .left)))
 
 pub is-sound-spec : {M : Type 1} → statement M
 is-sound-spec =
@@ -84,6 +79,5 @@ is-sound-spec =
     part-edge-table-ok-end
     edge-table-ok-requires
     returns
-    judge-in-requires
     state-ok-requires
     returns-2)

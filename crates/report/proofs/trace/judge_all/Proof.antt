@@ -12,18 +12,18 @@ use Rattle.report.proofs.trace.judge_all.Tie as tie
 
 -- the state lies in its arrays, and in what it has beside them
 abbrev Inv-loop : tie.InvT-loop
-Inv-loop edges local steps out₀ at n sets₀ possible₀ numbers₀ counts₀ order₀ sizes₀ next₀ i₀ out ss possible numbers counts order sizes next i =
-    Going edges local steps n out₀ at out (stateOf (lentOf ss possible numbers counts order) sizes) next i
+Inv-loop edges local steps out₀ at n sets₀ pairs₀ possible₀ numbers₀ counts₀ order₀ sizes₀ next₀ i₀ out ss pairs possible numbers counts order sizes next i =
+    Going edges local steps n out₀ at out (stateOf (lentOf ss pairs possible numbers counts order) sizes) next i
 
 abbrev μ-loop : tie.MeasureT-loop
-μ-loop edges local steps out₀ at n sets₀ possible₀ numbers₀ counts₀ order₀ sizes₀ next₀ i₀ out ss possible numbers counts order sizes next i = n - i
+μ-loop edges local steps out₀ at n sets₀ pairs₀ possible₀ numbers₀ counts₀ order₀ sizes₀ next₀ i₀ out ss pairs possible numbers counts order sizes next i = n - i
 
 start-requires : tie.Need-start-requires Inv-loop μ-loop
 start-requires c κs = search needs
 
 loop-holds : tie.Need-loop-holds Inv-loop μ-loop
 loop-holds c =
-    let e = c .before .before .before .before .before .before .before .before .start .ensures .0 in
+    let e = c .before .before .before .before .before .before .before .before .before .start .ensures .0 in
     record { within = omega arith; long = refl; room = omega arith; end = rw e; put = rw e }
 
 step-at-requires : tie.Need-step-at-requires Inv-loop μ-loop
@@ -34,9 +34,9 @@ judge-lent-requires c κs = search needs
 
 add-row : tie.Need-add-row Inv-loop μ-loop
 add-row c =
-    let p = c .before .before .before .before .before .before .before .before .before .before .before .before .before .before .before .before .before .before .before .before .before .before .pre .0 in
-    let t = c .before .before .before .before .before .before .before .before .before .loop in
-    let q = c .before .before .before .before .before .before .before .before .loop-test .taken in
+    let p = c .before .before .before .before .before .before .before .before .before .before .before .before .before .before .before .before .before .before .before .before .before .before .before .before .pre .0 in
+    let t = c .before .before .before .before .before .before .before .before .before .before .loop in
+    let q = c .before .before .before .before .before .before .before .before .before .loop-test .taken in
     record { fits = omega arith }
 
 number-of-requires : tie.Need-number-of-requires Inv-loop μ-loop
@@ -50,9 +50,9 @@ row-requires c κs = search needs
 
 add-i : tie.Need-add-i Inv-loop μ-loop
 add-i c =
-    let p = c .before .before .before .before .before .before .before .before .before .before .before .before .before .before .before .before .before .before .before .before .before .before .before .before .before .before .before .before .pre .0 in
-    let t = c .before .before .before .before .before .before .before .before .before .before .before .before .before .before .before .loop in
-    let q = c .before .before .before .before .before .before .before .before .before .before .before .before .before .before .loop-test .taken in
+    let p = c .before .before .before .before .before .before .before .before .before .before .before .before .before .before .before .before .before .before .before .before .before .before .before .before .before .before .before .before .before .before .pre .0 in
+    let t = c .before .before .before .before .before .before .before .before .before .before .before .before .before .before .before .before .loop in
+    let q = c .before .before .before .before .before .before .before .before .before .before .before .before .before .before .before .loop-test .taken in
     record { fits = omega arith }
 
 loop-less : tie.Need-loop-less Inv-loop μ-loop
@@ -60,16 +60,16 @@ loop-less c = search needs
 
 loop-again : tie.Need-loop-again Inv-loop μ-loop
 loop-again c =
-    let p = c .before .before .before .before .before .before .before .before .before .before .before .before .before .before .before .before .before .before .before .before .before .before .before .before .before .before .before .before .pre .0 in
+    let p = c .before .before .before .before .before .before .before .before .before .before .before .before .before .before .before .before .before .before .before .before .before .before .before .before .before .before .before .before .before .before .pre .0 in
     let k = c .before .before .before .before .before .before .before .judge-lent in
     let r = c .before .before .before .row in
-    going-on (c .before .before .before .before .before .before .before .before .before .before .before .before .before .before .before .loop .inv)
+    going-on (c .before .before .before .before .before .before .before .before .before .before .before .before .before .before .before .before .loop .inv)
     (judgementOf (k .result) (lentOf (k .last .1 .1 .0) (k .last .1 .1 .1 .0)
-    (k .last .1 .1 .1 .1 .0) (k .last .1 .1 .1 .1 .1 .0) (k .last .1 .1 .1 .1 .1 .1 .0)))
+    (k .last .1 .1 .1 .1 .0) (k .last .1 .1 .1 .1 .1 .0) (k .last .1 .1 .1 .1 .1 .1 .0) (k .last .1 .1 .1 .1 .1 .1 .1 .0)))
     (c .before .before .before .before .before .before .before .before .step-at .ensures)
     (k .ensures) (c .before .before .before .before .before .number-of .ensures) (c .before .before .before .before .detail-of .ensures)
     (r .ensures .0) (r .ensures .1)
-    (c .before .before .before .before .before .before .before .before .before .before .before .before .before .before .loop-test .taken)
+    (c .before .before .before .before .before .before .before .before .before .before .before .before .before .before .before .loop-test .taken)
     (omega arith)
 
 same-length : tie.Need-same-length Inv-loop μ-loop
@@ -77,9 +77,9 @@ same-length c = search needs
 
 returns : tie.Need-returns Inv-loop μ-loop
 returns c =
-    let a = c .before .before .before .before .before .before .before .before .before .before .before .before .before .before .args in
+    let a = c .before .before .before .before .before .before .before .before .before .before .before .before .before .before .before .args in
     let t = c .before .loop in
-    let s = stateOf (lentOf (t .sets) (t .possible) (t .numbers) (t .counts) (t .order)) (t .sizes) in
+    let s = stateOf (lentOf (t .sets) (t .pairs) (t .possible) (t .numbers) (t .counts) (t .order)) (t .sizes) in
     let e = all-left (now (a .edges)) (a .local) (now (a .steps)) in
     let z = none-left (now (a .edges)) (a .local) (now (a .steps)) (length (now (a .steps)) / 3) s (t .i) (c .loop-test .left) in
     let g = ap length z in

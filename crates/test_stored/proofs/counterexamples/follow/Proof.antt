@@ -5,12 +5,12 @@ use Rattle.test_stored.proofs.counterexamples.follow.Statement.{stateme
 use Rattle.test_stored.proofs.counterexamples.follow.Tie as tie
 
 abbrev Inv-loop : tie.InvT-loop
-Inv-loop edges local trace steps alone p sets₀ possible₀ created₀ unclosed₀
-    order₀ numbers₀ i₀ sets possible created unclosed order numbers i = i ≤ steps
+Inv-loop edges local trace steps alone p sets₀ pairs₀ possible₀ created₀ unclosed₀
+    order₀ numbers₀ i₀ sets pairs possible created unclosed order numbers i = i ≤ steps
 
 abbrev μ-loop : tie.MeasureT-loop
-μ-loop edges local trace steps alone p sets₀ possible₀ created₀ unclosed₀ order₀
-    numbers₀ i₀ sets possible created unclosed order numbers i = steps - i
+μ-loop edges local trace steps alone p sets₀ pairs₀ possible₀ created₀ unclosed₀ order₀
+    numbers₀ i₀ sets pairs possible created unclosed order numbers i = steps - i
 
 loop-holds : tie.Need-loop-holds Inv-loop μ-loop
 loop-holds c = search needs

@@ -7,10 +7,10 @@ use Rattle.test_stored.proofs.desk_cases.changed.Statement.{statement}
 use Rattle.test_stored.proofs.desk_cases.changed.Tie as tie
 
 abbrev Inv-loop : tie.InvT-loop
-Inv-loop a b i₀ n₀ i n = (i ≤ 23552) × (n ≤ i)
+Inv-loop a b i₀ n₀ i n = (i ≤ 37000) × (n ≤ i)
 
 abbrev μ-loop : tie.MeasureT-loop
-μ-loop a b i₀ n₀ i n = 23552 - i
+μ-loop a b i₀ n₀ i n = 37000 - i
 
 loop-holds : tie.Need-loop-holds Inv-loop μ-loop
 loop-holds c = search needs

@@ -7,12 +7,12 @@ use Rattle.test_stored.proofs.lean.follow.Statement.{statement}
 use Rattle.test_stored.proofs.lean.follow.Tie as tie
 
 abbrev Inv-loop : tie.InvT-loop
-Inv-loop edges local trace marks sets₀ possible₀ created₀ unclosed₀ order₀ numbers₀
-    steps i₀ t14 t15 sets possible created unclosed order numbers i = (steps ≡ length trace / stepFields) × (i ≤ steps)
+Inv-loop edges local trace marks sets₀ pairs₀ possible₀ created₀ unclosed₀ order₀ numbers₀
+    steps i₀ t14 t15 sets pairs possible created unclosed order numbers i = (steps ≡ length trace / stepFields) × (i ≤ steps)
 
 abbrev μ-loop : tie.MeasureT-loop
-μ-loop edges local trace marks sets₀ possible₀ created₀ unclosed₀ order₀ numbers₀
-    steps i₀ t14 t15 sets possible created unclosed order numbers i = steps - i
+μ-loop edges local trace marks sets₀ pairs₀ possible₀ created₀ unclosed₀ order₀ numbers₀
+    steps i₀ t14 t15 sets pairs possible created unclosed order numbers i = steps - i
 
 loop-holds : tie.Need-loop-holds Inv-loop μ-loop
 loop-holds c = search needs

@@ -1,13 +1,13 @@
-use Rattle.desk.proofs.JudgeByteLaws.{judge-got}
+use Rattle.desk.proofs.JudgeByteLaws.{held-got}
 use native.Mathlib.Omega.{arith}
 use mathlib.Core.Path.{_≡_, refl, sym, ap, _∙_}
 use Prim.Native.Nat.{ℕ, suc, _+_, _-_, _≤_, _<_}
 use lib.ListN.{length, getD, take, drop, set}
 use borrow.Author.Needs.{needs}
-use Rattle.desk.proofs.judge.judge_in.Statement.{statement}
-use Rattle.desk.proofs.judge.judge_in.Tie as tie
-use Rattle.desk.proofs.judge.judge_in.Reads as reads
-use Rattle.desk.proofs.judge.judge_in.Lts as lts
+use Rattle.desk.proofs.judge.held_in.Statement.{statement}
+use Rattle.desk.proofs.judge.held_in.Tie as tie
+use Rattle.desk.proofs.judge.held_in.Reads as reads
+use Rattle.desk.proofs.judge.held_in.Lts as lts
 use Rattle.desk.proofs.bytes.bytes_in.Reads as bytes-in-reads
 use Rattle.desk.proofs.bytes.words_in.Reads as words-in-reads
 
@@ -51,23 +51,15 @@ slice-aggregate-bytes-in-4 c = search needs
 bytes-in-requires-4 : tie.Need-bytes-in-requires-4
 bytes-in-requires-4 c κs = search needs
 
--- src/judge.rt:48:16
-cast-t25 : tie.Need-cast-t25
-cast-t25 c = search needs
-
--- src/judge.rt:52:16
-cast-t25-2 : tie.Need-cast-t25-2
-cast-t25-2 c = search needs
-
 -- src/judge.rt:30:1
 returns : tie.Need-returns
 returns c =
-    let a = c .before .before .before .before .before .before .before .before .before .before .before .before .before .before .before .before .before .before .before .args in
-    judge-got (a .b .now) (a .h) _ _ _ _ _ _ _ _ _ _ (c .before .before .before .before .before .before .before .before .before .before .before .before .before .before .before .before .bytes-in .ensures) refl (c .before .before .before .before .before .before .before .before .before .before .before .before .before .bytes-in2 .ensures) refl
-    (c .before .before .before .before .before .before .before .before .before .before .words-in .ensures) refl (c .before .before .before .before .before .before .before .bytes-in3 .ensures) refl (c .before .before .before .before .bytes-in4 .ensures) refl
+    let a = c .before .before .before .before .before .before .before .before .before .before .before .before .before .before .before .before .args in
+    held-got (a .b .now) _ _ _ _ _ _ _ _ _ _ (c .before .before .before .before .before .before .before .before .before .before .before .before .before .bytes-in .ensures) refl (c .before .before .before .before .before .before .before .before .before .before .bytes-in2 .ensures) refl
+    (c .before .before .before .before .before .before .before .words-in .ensures) refl (c .before .before .before .before .bytes-in3 .ensures) refl (c .before .bytes-in4 .ensures) refl
 
-pub judge-in-spec : {M : Type 1} → statement M
-judge-in-spec =
+pub held-in-spec : {M : Type 1} → statement M
+held-in-spec =
     tie.close
     (tie.spec
     slice-aggregate-bytes-in
@@ -80,6 +72,4 @@ judge-in-spec =
     bytes-in-requires-3
     slice-aggregate-bytes-in-4
     bytes-in-requires-4
-    cast-t25
-    cast-t25-2
     returns)
