@@ -6,7 +6,7 @@ down to its end, one that leads back below the row; each is as high as it must b
 
 from canvas import DARK_RED, GREY, INK, PALE_BLUE, RED, Canvas, file, wide
 from labels import edge_label, policy_label
-from sheets import OFFENDING
+from sheets import OFFENDING, pair_policies
 
 GAP, RADIUS, LEG, CORNER = 118, 17, 7, 8
 SIZE, LINE = 12, 14
@@ -31,9 +31,9 @@ def filled(labels):
 class Arrow:
     """The edges from one state to another: their words, and where these stand."""
 
-    def __init__(self, names, start, to, edges):
+    def __init__(self, names, start, to, edges, pair):
         self.start, self.to = start, to
-        labels = list(dict.fromkeys(edge_label(names, edge) for _, edge in edges))
+        labels = list(dict.fromkeys(edge_label(names, edge, pair) for _, edge in edges))
         self.words = filled(labels)
         lines = [str(line) for line, _ in edges]
         self.lines = f"line {lines[0]}" if len(lines) == 1 else f"lines {', '.join(lines)}"
@@ -52,9 +52,10 @@ class Automaton:
         ends = {}
         for line, edge in edges:
             ends.setdefault((edge[1], edge[5]), []).append((line, edge))
-        self.states = sorted({0} | {state for pair in ends for state in pair})
+        self.states = sorted({0} | {state for both in ends for state in both})
         self.at = {state: 62 + place * GAP for place, state in enumerate(self.states)}
-        arrows = [Arrow(names, *pair, found) for pair, found in ends.items()]
+        pair = bool(pair_policies(edge for _, edge in edges))
+        arrows = [Arrow(names, *both, found, pair) for both, found in ends.items()]
         arrows.sort(key=lambda arrow: (abs(self.at[arrow.to] - self.at[arrow.start]), arrow.start, arrow.to))
         self.above = [arrow for arrow in arrows if arrow.start <= arrow.to]
         self.below = [arrow for arrow in arrows if arrow.start > arrow.to]

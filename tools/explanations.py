@@ -113,7 +113,7 @@ def outline_refused(folder, policies, nodes, policy):
 
 def opened_words(folder, policies, nodes, policy):
     """A policy that some run breaks while it is open: where it is opened, and which edges lead to an offending state."""
-    edges = policies.edges
+    edges, pairs = policies.edges, sheets.pair_policies(policies.edges)
     told = folder.names.tell("policy", policy)
     opened = [place for place, node in enumerate(nodes) if node[1] == sheets.SANDBOX and node[2] == policy]
     into = [line for line, edge in enumerate(edges, 2) if edge[0] == policy and edge[5] in OFFENDING]
@@ -126,5 +126,5 @@ def opened_words(folder, policies, nodes, policy):
         out.append("  the sheet is local: where it is opened and is not open, all its instances go back to state 0")
     out.append("  and these edges lead to an offending state of it (policies.txt)")
     for line in into:
-        out += folder.quote(sheets.POLICY_SHEET, line, edge_words(folder.names, edges[line - 2]), 4)
+        out += folder.quote(sheets.POLICY_SHEET, line, edge_words(folder.names, edges[line - 2], pairs), 4)
     return out

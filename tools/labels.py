@@ -1,7 +1,8 @@
 """How an event, a step, a node and a policy are written in pictures: the same everywhere, in the form of the outlines that are typed as
 expressions, with names in the place of numbers."""
 
-from sheets import BACK, CLOSE, CREATE, EITHER, END, EVENT, FRESH, LOOP, NAMED, ON_STATIC, ON_X, RETIRE, SANDBOX, STATIC, STATICS, THEN
+from sheets import BACK, CLOSE, CREATE, EITHER, END, EVENT, FRESH, LOOP, NAMED, ON_OTHERS, ON_STATIC, ON_X, ON_Y, RETIRE, SANDBOX
+from sheets import STATIC, STATICS, THEN
 
 
 def action_label(names, action):
@@ -21,10 +22,11 @@ def event_label(names, action, resource):
     return f"{action_label(names, action)}({resource})"
 
 
-def edge_label(names, edge):
-    """The event that an edge is about; other resources than x are written ¬x."""
+def edge_label(names, edge, pair=False):
+    """The event that an edge is about; other resources than x are written ¬x, other than x and y ¬x¬y."""
     _, _, action, on, who, _ = edge
-    return event_label(names, action, resource_label(names, who) if on == ON_STATIC else "x" if on == ON_X else "¬x")
+    seen = {ON_X: "x", ON_Y: "y", ON_OTHERS: "¬x¬y" if pair else "¬x"}
+    return event_label(names, action, resource_label(names, who) if on == ON_STATIC else seen[on])
 
 
 def step_label(names, step):

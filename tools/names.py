@@ -3,8 +3,8 @@
 import os
 import re
 
-from sheets import BACK, CLOSE, CREATE, EITHER, END, EVENT, FRESH, LAST_ACTION, LAST_RESOURCE, LOOP, NAMED, ON_OTHERS, ON_STATIC, ON_X, OPEN
-from sheets import OPENING, OUTLINE_SHEET, POLICIES, RETIRE, SANDBOX, STATIC, STATICS, THEN
+from sheets import BACK, CLOSE, CREATE, EITHER, END, EVENT, FRESH, LAST_ACTION, LAST_RESOURCE, LOOP, NAMED, ON_OTHERS, ON_STATIC, ON_X
+from sheets import ON_Y, OPEN, OPENING, OUTLINE_SHEET, POLICIES, RETIRE, SANDBOX, STATIC, STATICS, THEN
 
 
 UTF_16 = "a byte-order mark of UTF-16"
@@ -96,15 +96,17 @@ def step_words(names, step):
     return {OPEN: "open ", CLOSE: "close "}[kind] + names.tell("policy", a)
 
 
-def seen_words(names, on, who):
-    """On what resource an edge is."""
-    return {ON_STATIC: names.tell("resource", who), ON_X: "x", ON_OTHERS: "a resource other than x"}[on]
+def seen_words(names, on, who, pair):
+    """On what resource an edge is, of a policy about one resource or two."""
+    others = "a resource other than x and y" if pair else "a resource other than x"
+    return {ON_STATIC: names.tell("resource", who), ON_X: "x", ON_Y: "the second resource, y,", ON_OTHERS: others}[on]
 
 
-def edge_words(names, edge):
-    """What an edge says."""
+def edge_words(names, edge, pairs=()):
+    """What an edge says, where these policies are about two resources."""
     policy, start, action, on, who, to = edge
-    return f"policy {policy}: in state {start}, {names.tell('action', action)} on {seen_words(names, on, who)} leads to state {to}"
+    seen = seen_words(names, on, who, policy in pairs)
+    return f"policy {policy}: in state {start}, {names.tell('action', action)} on {seen} leads to state {to}"
 
 
 def node_words(names, node):

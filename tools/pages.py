@@ -15,6 +15,8 @@ from violations import Run
 
 # so many steps are looked for in the outline, and so many resources are told by name
 MOST_SOUGHT, MOST_NAMED = 700, 4
+# and of the pairs of resources in the same states so many x
+MOST_ROWS = 6
 
 
 def ranges(numbers):
@@ -36,21 +38,42 @@ def resources(names, numbers):
     return "; ".join(names.tell("resource", number)[len("resource ") :] for number in sorted(numbers))
 
 
+def single_states(run, policy):
+    """The resources, seen ones by what their instances may be in, and the states."""
+    past, groups = run.past, {}
+    for x in past.seen:
+        groups.setdefault((x in past.retired, past.may_be_in(policy, (x,))), []).append(x)
+    told = [
+        [resources(run.names, numbers) + (" (retired)" if retired else ""), sorted(found)]
+        for (retired, found), numbers in sorted(groups.items(), key=lambda group: min(group[1]))
+    ]
+    return told + [["any other", sorted(past.may_be_in(policy, (UNSEEN,)))]]
+
+
+def pair_states(run, policy):
+    """The pairs of resources, by what their instances may be in where that is not what those of all others may be in: for each x the y."""
+    past, groups = run.past, {}
+    rest = past.may_be_in(policy, (UNSEEN, UNSEEN))
+    for (x, y), found in past.states[policy].items():
+        if found != rest:
+            groups.setdefault(found, {}).setdefault(x, []).append(y)
+    return [[pairs_words(group), sorted(found)] for found, group in groups.items()] + [["any others", sorted(rest)]]
+
+
+def pairs_words(group):
+    """As `x 16: y 17, 18 or any other`."""
+    told = []
+    for x, ys in sorted(group.items(), key=lambda row: (row[0] is UNSEEN, row[0])):
+        numbers = [y for y in ys if y is not UNSEEN]
+        seconds = ([ranges(numbers)] if numbers else []) + ["any other"] * (UNSEEN in ys)
+        told.append(f"x {'any other' if x is UNSEEN else x}: y {' or '.join(seconds)}")
+    return "; ".join(told) if len(told) <= MOST_ROWS else "; ".join(told[:MOST_ROWS]) + f"; and for {len(told) - MOST_ROWS} more x"
+
+
 def states(run):
-    """For each policy with an edge: the resources, seen ones by what their instances may be in, and the states."""
-    past, out = run.past, {}
-    for policy in range(sheets.POLICIES):
-        if not past.edges[policy]:
-            continue
-        groups = {}
-        for x in past.seen:
-            groups.setdefault((x in past.retired, past.states[policy][x]), []).append(x)
-        told = [
-            [resources(run.names, numbers) + (" (retired)" if retired else ""), sorted(found)]
-            for (retired, found), numbers in sorted(groups.items(), key=lambda group: min(group[1]))
-        ]
-        out[policy] = told + [["any other", sorted(past.states[policy][UNSEEN])]]
-    return out
+    """For each policy with an edge: whose instances may be in what."""
+    each = lambda policy: pair_states(run, policy) if policy in run.past.pairs else single_states(run, policy)
+    return {policy: each(policy) for policy in range(sheets.POLICIES) if run.past.edges[policy]}
 
 
 def shown(run, line, step, row, words, node):

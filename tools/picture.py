@@ -17,6 +17,8 @@ LEFT, TITLE, GAP, FOOT = 70, 30, 26, 34
 # labels stand at a slant; about so wide is a letter of theirs, along it and upwards
 SLANT, ALONG, UPWARDS = 38, 5.2, 4.1
 MOST_STEPS = 200
+# so many instances of two resources are drawn, where none is asked for
+MOST_PAIRS = 6
 
 
 def read_answers(path):
@@ -47,12 +49,25 @@ def chosen(arguments, columns, past):
         opened = [column.step[1] for column in columns if column.step[0] == OPEN]
         drawn = [number for number in range(sheets.POLICIES) if past.edges[number]]
         policy = violated[0].detail if violated else min([p for p in opened if p in drawn] or drawn or [0])
+    number = 2 if policy in past.pairs else 1
+    if any(len(instance) != number for instance in arguments.resource):
+        raise ValueError(f"policy {policy} is about {sheets.counted(number, 'resource')}: --resource " + "X,Y"[: 2 * number - 1])
     if arguments.resource:
         return policy, arguments.resource
     if violated and past.breakers(policy):
         return policy, [past.breaker(policy, violated[0].step)]
-    moved = [x for x in sorted(past.seen) if any(edge for move in past.moves(policy, x) for _, edge, _ in move.steps)]
-    return policy, moved or [UNSEEN]
+    known = [(x,) for x in sorted(past.seen)] if number == 1 else sorted(pair for pair in past.states[policy] if UNSEEN not in pair)
+    moved = [instance for instance in known if any(edge for move in past.moves(policy, instance) for _, edge, _ in move.steps)]
+    return policy, moved[: MOST_PAIRS if number == 2 else None] or [(UNSEEN,) * number]
+
+
+def resource_words(names, past, x):
+    return f"{past.unseen_number()}, as any that is in no step" if x is UNSEEN else names.tell("resource", x)[len("resource ") :]
+
+
+def is_retired(past, instance, line):
+    """Can no step be on a resource of the instance any more?"""
+    return all(past.retired.get(x, line + 1) <= line for x in instance)
 
 
 def centre(number):
@@ -91,9 +106,9 @@ def put_dot(canvas, number, y, state, hollow=False):
     canvas.put("circle", cx=centre(number), cy=y, r=6, fill=fill, stroke=colour, stroke_width=1.6)
 
 
-def put_moves(canvas, columns, past, policy, x, height_of):
+def put_moves(canvas, columns, past, policy, instance, height_of):
     """The states of one instance after each step, and what led from one to the next."""
-    moves = {move.line: move for move in past.moves(policy, x)}
+    moves = {move.line: move for move in past.moves(policy, instance)}
     states = frozenset([0])
     put_dot(canvas, 0, height_of(0), 0)
     for number, column in enumerate(columns, 1):
@@ -112,7 +127,7 @@ def put_moves(canvas, columns, past, policy, x, height_of):
                 canvas.text(centre(number) - COLUMN // 2 + side, (y1 + y2) // 2 - 5, f"edge {edge}", 10, text_anchor=anchor, fill=colour)
         states = move.after if move else states
         for state in sorted(states):
-            put_dot(canvas, number, height_of(state), state, past.retired.get(x, column.line + 1) <= column.line)
+            put_dot(canvas, number, height_of(state), state, is_retired(past, instance, column.line))
         if column.answer == VIOLATED:
             return
 
@@ -134,25 +149,26 @@ def trace(folder, steps, arguments):
     names, run = folder.names, Run(folder, policies, steps)
     columns = [Column(step, row, run.past) for _, step, row, _ in followed(run, read_answers(arguments.answers))]
     past = run.past
-    policy, resources = chosen(arguments, columns, past)
+    policy, instances = chosen(arguments, columns, past)
     states = sorted({0} | {state for _, edge in past.edges[policy] for state in (edge[1], edge[5])})
     canvas = Canvas()
     longest = max([len(step_label(names, column.step)) for column in columns], default=0)
     panel, labels = TITLE + ROW * len(states) + GAP, 34 + int(UPWARDS * longest)
-    width, height = centre(len(columns)) + COLUMN + int(ALONG * longest), labels + panel * len(resources) + FOOT
+    width, height = centre(len(columns)) + COLUMN + int(ALONG * longest), labels + panel * len(instances) + FOOT
     put_labels(canvas, columns, names, labels)
-    for number, x in enumerate(resources):
+    for number, instance in enumerate(instances):
         top = labels + number * panel + TITLE
-        told = f"resource {past.unseen_number()}, as any that is in no step" if x is UNSEEN else names.tell("resource", x)
-        title = f"{names.tell('policy', policy)}, the instance for x = {told[len('resource ') :]}"
+        told = " and ".join(f"{name} = {resource_words(names, past, x)}" for name, x in zip("xy", instance))
+        title = f"{names.tell('policy', policy)}, the instance for {told}"
         canvas.text(LEFT, top - 8, title, 13, font_weight="bold")
         put_ground(canvas, columns, policy, states, top)
-        put_moves(canvas, columns, past, policy, x, lambda state, top=top: top + ROW * (len(states) - 1 - states.index(state)) + ROW // 2)
-    put_answers(canvas, columns, labels + panel * len(resources) + 2)
+        height_of = lambda state, top=top: top + ROW * (len(states) - 1 - states.index(state)) + ROW // 2
+        put_moves(canvas, columns, past, policy, instance, height_of)
+    put_answers(canvas, columns, labels + panel * len(instances) + 2)
     key = f"shaded: policy {policy} is open.  edge N: line N of policies.txt"
     if policies.local:
         key += ".  dashed: the sheet is local, and the opening puts the instance back to state 0"
-    if past.retired.keys() & set(resources):
+    if any(is_retired(past, instance, max(past.retired.values(), default=0)) for instance in instances):
         key += ".  hollow: the resource is retired, and its instance still counts"
     width = max(width, LEFT + int(ALONG * len(key)) + COLUMN)
     canvas.text(LEFT, height - 12, key, 11, fill="#666666")

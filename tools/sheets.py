@@ -25,11 +25,14 @@ DIGITS = 10
 EVENT, OPEN, CLOSE, RETIRE = range(4)
 # the kinds of a node
 END, STATIC, NAMED, THEN, EITHER, LOOP, BACK, FRESH, SANDBOX = range(9)
-# on what an edge is
-ON_STATIC, ON_X, ON_OTHERS = range(3)
+# on what an edge is. "on" is below KINDS_OF_ON in every sheet: with 4 there are policies about two resources, x and y
+ON_STATIC, ON_X, ON_OTHERS, ON_Y = range(4)
+KINDS_OF_ON = 3
+MOST_PAIRS = 2
 
 # the numbers of a malformed line, by what is wrong with it, in the order in which they are looked for
 NO_FEED, OTHER_BYTE, OVERLONG, FORM = 13, 11, 12, 2
+THIRD_PAIR = 14
 
 
 class Refused(Exception):
@@ -71,8 +74,21 @@ def edge_ranges(row):
     """(field, least, most) for each value of an edge."""
     who = STATICS - 1 if row[3] == ON_STATIC else 0
     return [
-        ("policy", 0, POLICIES - 1), ("from", 0, 7), ("action", 0, LAST_ACTION), ("on", 0, 2), ("who", 0, who), ("to", 0, 7),
+        ("policy", 0, POLICIES - 1), ("from", 0, 7), ("action", 0, LAST_ACTION), ("on", 0, KINDS_OF_ON - 1), ("who", 0, who), ("to", 0, 7),
     ]
+
+
+def pair_policies(edges):
+    """The policies about two resources: those with an edge on y, each once, in the order in which such edges first stand."""
+    return list(dict.fromkeys(edge[0] for edge in edges if edge[3] == ON_Y))
+
+
+def third_pair(edges):
+    """Refusal 14 of the last of these edges, in words."""
+    pairs = pair_policies(edges)
+    if len(pairs) <= MOST_PAIRS:
+        return None
+    return f"an edge on y makes policy {pairs[-1]} the third about two resources, after {listed([str(policy) for policy in pairs[:-1]])}"
 
 
 # what a and b are, by the kind of a step
@@ -189,7 +205,7 @@ def range_hint(kind, field, value):
 
 
 def read_values(kind, text, names):
-    """Refusals 4, 13, 11, 12, 2 and 3, line by line. The rows of values."""
+    """Refusals 4, 13, 11, 12, 2, 3 and 14, line by line. The rows of values."""
     lines = text.split("\n")
     last = lines.pop()
     rows = []
@@ -205,6 +221,9 @@ def read_values(kind, text, names):
         if fault:
             raise Refused(3, at, *fault)
         rows.append(values)
+        fault = third_pair(rows) if kind is POLICY_SHEET else None
+        if fault:
+            raise Refused(THIRD_PAIR, at, fault)
     return rows
 
 

@@ -4,6 +4,7 @@
 use crate::desk::{Desk, Loaded, Reply};
 use crate::judge::{Answer, Step, MOST_CREATED, MOST_UNCLOSED, RETIRE};
 use crate::outline::{nodes_fit, Node, NAMES};
+use crate::pair_sets::of_masks;
 use crate::policy::{edges_fit, Edge, Policies, Sight, POLICIES};
 use crate::positions::{after, at_start, strode, Position, Positions, MOST_PARTS, MOST_POSITIONS};
 use crate::run::Part;
@@ -13,7 +14,7 @@ use crate::summary::{looked, summary, Marks};
 use std::collections::BTreeSet;
 
 /// The bytes of a state; those behind them are not looked at.
-pub const STATE_BYTES: usize = 23_552;
+pub const STATE_BYTES: usize = 37_000;
 
 // where each part stands
 pub const LOADED: usize = 0;
@@ -32,7 +33,8 @@ pub const POSSIBLE: usize = 2_080;
 pub const UNCLOSED: usize = 2_088;
 pub const ORDER: usize = 2_096;
 pub const SETS: usize = 2_160;
-pub const ROWS: usize = 2_816;
+pub const PAIRS: usize = 2_816;
+pub const ROWS: usize = 16_264;
 
 const EDGE_BYTES: usize = 6;
 const NODE_BYTES: usize = 3;
@@ -147,6 +149,7 @@ fn state_in(bytes: &[u8]) -> State {
         depth: number(bytes, DEPTH),
         order: std::array::from_fn(|i| u64::from(bytes[ORDER + i])),
         sets: std::array::from_fn(|place| std::array::from_fn(|policy| set(place, policy))),
+        pairs: of_masks(&bytes[PAIRS..ROWS]).expect("as many bytes as sets"),
         kept: std::array::from_fn(|policy| bytes[POSSIBLE + policy]),
     }
 }
@@ -183,6 +186,9 @@ fn put_state(bytes: &mut [u8], state: &State) {
     }
     for i in 0..MOST_UNCLOSED {
         bytes[ORDER + i] = state.order[i] as u8;
+    }
+    for (i, mask) in state.pairs.iter().flatten().flatten().enumerate() {
+        bytes[PAIRS + i] = *mask;
     }
     for policy in 0..POLICIES {
         bytes[POSSIBLE + policy] = state.kept[policy];

@@ -12,6 +12,7 @@ pub mod grammar;
 pub mod judge;
 pub mod least;
 pub mod outline;
+pub mod pair_sets;
 pub mod policy;
 pub mod positions;
 pub mod program;

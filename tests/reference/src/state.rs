@@ -4,6 +4,7 @@ use crate::judge::{
     refusal, Answer, Standing, Step, CLOSE, CREATE, EVENT, LARGEST_RESOURCE, MOST_CREATED,
     MOST_UNCLOSED, OPEN,
 };
+use crate::pair_sets::{self, blocks_of, Blocks};
 use crate::policy::{
     edges_fit, offends, Edge, Event, Instance, Own, Policies, Policy, Sight, States, POLICIES, START,
     STATES, STATICS,
@@ -31,6 +32,8 @@ pub struct State {
     pub order: [u64; MOST_UNCLOSED],
     /// Bit s of a mask: the instance may be in state s.
     pub sets: [[u8; POLICIES]; INSTANCES],
+    /// The same for two places, of the two policies that may be pair policies.
+    pub pairs: Blocks,
     /// For each policy the states that any instance may be in, as the last event gathered them.
     pub kept: [u8; POLICIES],
 }
@@ -46,6 +49,7 @@ impl State {
             depth: 0,
             order: [0; MOST_UNCLOSED],
             sets: [[1; POLICIES]; INSTANCES],
+            pairs: pair_sets::FRESH,
             kept: [1; POLICIES],
         }
     }
@@ -95,13 +99,17 @@ impl State {
             && (0..POLICIES).all(|policy| times(policy) as u64 == self.openings[policy])
     }
 
-    /// The resource that a place of the sets stands for.
+    /// The resource that a place of the sets stands for; one that is not in use stands for none that occurs.
     fn own(&self, place: usize) -> Own {
         match place {
-            NEVER | RETIRED => None,
             static_place if static_place < NEVER => Some(static_place as u64),
-            later => Some(self.created[later - FIRST_LIVE]),
+            live if (FIRST_LIVE..self.places()).contains(&live) => Some(self.created[live - FIRST_LIVE]),
+            _ => None,
         }
+    }
+
+    fn owns(&self) -> [Own; INSTANCES] {
+        std::array::from_fn(|place| self.own(place))
     }
 
     /// How many places count: the statics, one that never occurs, the retired ones, the live ones.
@@ -109,39 +117,50 @@ impl State {
         FIRST_LIVE + self.count as usize
     }
 
-    fn add_created(&mut self, resource: u64) {
-        self.sets[self.places()] = self.sets[NEVER];
+    fn add_created(&mut self, policies: &[Policy], resource: u64) {
+        let places = self.places();
+        self.sets[places] = self.sets[NEVER];
+        blocks_of(policies).for_each(|(at, _)| pair_sets::create(&mut self.pairs[at], places));
         self.created[self.count as usize] = resource;
         self.count += 1;
         self.highest = resource;
     }
 
     /// "its possible states join one set per policy"; the places behind it move up by one, and the last one keeps what it holds.
-    fn retire(&mut self, resource: u64) {
+    fn retire(&mut self, policies: &[Policy], resource: u64) {
         let at = self.numbers().iter().position(|r| *r == resource).expect("a live one is retired");
         let (row, places, count) = (self.sets[FIRST_LIVE + at], self.places(), self.count as usize);
         for (mask, joining) in self.sets[RETIRED].iter_mut().zip(row) {
             *mask |= joining;
         }
         self.sets.copy_within(FIRST_LIVE + at + 1..places, FIRST_LIVE + at);
+        blocks_of(policies).for_each(|(block, _)| pair_sets::retire(&mut self.pairs[block], places, FIRST_LIVE + at));
         self.created.copy_within(at + 1..count, at);
         self.count -= 1;
     }
 
+    /// The sets of one resource move for a pair policy too, by its edges but those on y; nothing looks at them.
     fn move_all(&mut self, policies: &[Policy], event: Event) {
-        for place in 0..self.places() {
-            let own = self.own(place);
-            for (policy, mask) in policies.iter().zip(self.sets[place].iter_mut()) {
+        let (owns, places) = (self.owns(), self.places());
+        for (row, own) in self.sets[..places].iter_mut().zip(owns) {
+            for (policy, mask) in policies.iter().zip(row) {
                 *mask = to_mask(policy.moved(Instance::single(own), from_mask(*mask), event));
             }
+        }
+        for (block, policy) in blocks_of(policies) {
+            let moved = |mask: u8, x: Own, y: Own| to_mask(policy.moved(Instance::pair(x, y), from_mask(mask), event));
+            pair_sets::change(&mut self.pairs[block], &owns, places, moved);
         }
     }
 
     /// "Every event gathers it from the moved instances".
-    fn gather(&mut self) {
+    fn gather(&mut self, policies: &[Policy]) {
         for policy in 0..POLICIES {
             let may = |state: usize| (0..self.places()).any(|i| from_mask(self.sets[i][policy])[state]);
             self.kept[policy] = to_mask(std::array::from_fn(may));
+        }
+        for (block, policy) in blocks_of(policies) {
+            self.kept[policy.number as usize] = pair_sets::union(&self.pairs[block], self.places());
         }
     }
 
@@ -151,9 +170,12 @@ impl State {
     }
 
     /// "all its instances go back to state 0", those of the places that count; "The kept sets of L4 are reset too".
-    fn forget(&mut self, policy: usize) {
-        let places = self.places();
+    fn forget(&mut self, policies: &[Policy], policy: usize) {
+        let (owns, places) = (self.owns(), self.places());
         self.sets[..places].iter_mut().for_each(|row| row[policy] = to_mask(START));
+        for (block, _) in blocks_of(policies).filter(|(_, pair)| pair.number == policy as u64) {
+            pair_sets::change(&mut self.pairs[block], &owns, places, |_, _, _| to_mask(START));
+        }
         self.kept[policy] = to_mask(START);
     }
 
@@ -163,7 +185,7 @@ impl State {
             OPEN => {
                 let policy = step.a as usize;
                 if policies[policy].sight == Sight::Local && self.openings[policy] == 0 {
-                    next.forget(policy);
+                    next.forget(policies, policy);
                 }
                 next.order[self.depth as usize] = step.a;
                 next.depth += 1;
@@ -175,13 +197,13 @@ impl State {
             }
             EVENT => {
                 if step.a == CREATE {
-                    next.add_created(step.b);
+                    next.add_created(policies, step.b);
                 }
                 next.move_all(policies, Event { action: step.a, resource: step.b });
-                next.gather();
+                next.gather(policies);
             }
             // "is no event and, like an opening, is judged by the stored sets"
-            _ => next.retire(step.a),
+            _ => next.retire(policies, step.a),
         }
         next
     }
@@ -218,17 +240,21 @@ pub fn judge_state_by(
     step: Step,
     looked: impl Fn(usize) -> bool,
 ) -> (Answer, State) {
-    let policies = match Sight::told(local) {
-        Some(sight) if edges_fit(edges) => Policies { sight, edges: edges.to_vec() },
-        _ => return (Answer::Refused(41), state.clone()),
-    };
+    match Sight::told(local) {
+        Some(sight) if edges_fit(edges) => judge_policies(&Policies { sight, edges: edges.to_vec() }, state, step, looked),
+        _ => (Answer::Refused(41), state.clone()),
+    }
+}
+
+/// The same under policies of which nothing is asked, so that a sheet need not have them.
+pub fn judge_policies(policies: &Policies, state: &State, step: Step, looked: impl Fn(usize) -> bool) -> (Answer, State) {
     if !state.fits() {
         return (Answer::Refused(42), state.clone());
     }
     if let Some(number) = refusal(state, step) {
         return (Answer::Refused(number), state.clone());
     }
-    let next = state.after(&Policy::all(&policies), step);
+    let next = state.after(&Policy::all(policies), step);
     match next.lowest_broken(looked) {
         None => (Answer::Allowed, next),
         Some(policy) => (Answer::Violated(policy), State { halted: 1, ..state.clone() }),
@@ -297,10 +323,12 @@ fn read_state(next: &mut impl FnMut() -> Option<u64>) -> Option<State> {
     for mask in state.kept.iter_mut().chain(state.sets.iter_mut().flatten()) {
         *mask = u8::try_from(next()?).ok()?;
     }
+    state.pairs = pair_sets::from_runs(next)?;
     Some(state)
 }
 
-/// Halted, count, depth and highest; the openings; their order; the live numbers; the kept masks; a line of masks for each instance.
+/// Halted, count, depth and highest; the openings; their order; the live numbers; the kept masks; a line of masks for each instance; the
+/// runs of masks of the pair policies.
 pub fn write_state(state: &State) -> String {
     let mut text = line(&[state.halted, state.count, state.depth, state.highest]);
     text += &line(&state.openings);
@@ -310,7 +338,7 @@ pub fn write_state(state: &State) -> String {
     for row in &state.sets {
         text += &line(&row.map(u64::from));
     }
-    text
+    text + &line(&pair_sets::runs(&state.pairs))
 }
 
 fn line(numbers: &[u64]) -> String {

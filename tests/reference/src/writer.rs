@@ -30,7 +30,7 @@ pub fn calls() -> String {
     let names = b"policy from action on who to\n".to_vec();
     let local = b"local from action on who to\n".to_vec();
     let edges = [&names[..], b"0 0 2 1 0 6\n0 0 1 1 0 1\n"].concat();
-    let broken = [&names[..], b"0 0 2 1 0 6\n0 0 1 3 0 1\n"].concat();
+    let broken = [&names[..], b"0 0 2 1 0 6\n0 0 1 4 0 1\n"].concat();
     let calls: [(&[u8], usize); 8] = [
         (&names, LONGEST - 1),
         (&names, LONGEST),

@@ -1,10 +1,13 @@
 //! The judge over the whole past against the judge over states.
 
+mod held;
+
+use held::{assert_state, check_step};
 use reference::generate::{cases, states, Kind};
-use reference::judge::{created, is_open, live, seen, unclosed, Answer, Judge, Step, RETIRE};
-use reference::policy::{is_static, Edge, Instance, Policies, Policy, States, POLICIES};
+use reference::judge::{Answer, Judge, Step, RETIRE};
+use reference::policy::{Edge, POLICIES};
 use reference::sheet::{read_policies, read_trace};
-use reference::state::{judge_state, Call, State, FIRST_LIVE, NEVER, RETIRED};
+use reference::state::{judge_state, Call, State, FIRST_LIVE, RETIRED};
 
 #[test]
 fn states_agree_with_the_whole_past() {
@@ -28,42 +31,6 @@ fn states_agree_with_the_whole_past() {
         assert_state(&policies, judge.past(), &state);
     }
     assert!(judged > 10_000 && retired > 1_000, "{judged} {retired}");
-}
-
-/// A refused step changes nothing; a violated one only halts.
-fn check_step(before: &State, after: &State, answer: Answer) {
-    match answer {
-        Answer::Allowed => assert_eq!(after.halted, 0),
-        Answer::Violated(_) => assert_eq!(*after, State { halted: 1, ..before.clone() }),
-        Answer::Refused(_) => assert_eq!(after, before),
-    }
-}
-
-/// The state holds what the past says. In the set of the retired are the states of every retired resource, each by its own number, and beside
-/// them those of one that never occurs, as from the start.
-fn assert_state(policies: &Policies, past: &[Step], state: &State) {
-    let (created, live) = (created(past), live(past));
-    assert!(created.iter().all(|r| !is_static(*r)));
-    assert_eq!(state.created[..state.count as usize], live[..]);
-    assert_eq!(state.highest, created.last().copied().unwrap_or(0));
-    assert_eq!(state.order[..state.depth as usize], unclosed(past)[..]);
-    let retired: Vec<u64> = created.into_iter().filter(|r| !live.contains(r)).collect();
-    for (number, policy) in Policy::all(policies).iter().enumerate() {
-        let seen = seen(policy, past);
-        assert_eq!(state.openings[number] > 0, is_open(past, number));
-        let holds = |place: usize, held: States| {
-            let mask = state.sets[place][number];
-            assert!((0..8).all(|s| held[s] == (mask >> s & 1 == 1)), "place {place}");
-        };
-        (0..NEVER).for_each(|place| holds(place, policy.states_after(Instance::single(Some(place as u64)), &seen)));
-        holds(NEVER, policy.states_after(Instance::single(None), &seen));
-        for (place, resource) in live.iter().enumerate() {
-            holds(FIRST_LIVE + place, policy.states_after(Instance::single(Some(*resource)), &seen));
-        }
-        let gone = retired.iter().map(|resource| policy.states_after(Instance::single(Some(*resource)), &seen));
-        let all = gone.fold(policy.states_after(Instance::single(None), &seen), |all, held| std::array::from_fn(|s| all[s] || held[s]));
-        holds(RETIRED, all);
-    }
 }
 
 fn edge(row: [u64; 6]) -> Edge {

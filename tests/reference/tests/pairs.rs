@@ -1,17 +1,24 @@
 //! Pair policies: the definition by hand, and the check, the shortest counterexamples and the summary against explicit runs. The policies are
 //! handed over as edges, since no sheet has them while `KINDS_OF_ON` is 3.
 
+mod held;
+
+use held::{assert_state, check_step};
 use reference::generate::outlines::{
     counting_draft, crowded_draft, dense_draft, mutated, naming_draft, recursive_draft, sized_draft, Draft,
 };
-use reference::judge::{Answer, Judge, Step};
+use reference::generate::policies::with_pairs;
+use reference::generate::{cases, Kind};
+use reference::judge::{Answer, Judge, Step, RETIRE};
 use reference::least::{shortest_length, shortest_run};
 use reference::policy::{
-    pair_policies, Edge, Policies, Policy, Sight, KINDS_OF_ON, ON_OTHER, ON_OWN, ON_SECOND, POLICIES,
+    pair_policies, Edge, Policies, Policy, Sight, ON_OTHER, ON_OWN, ON_SECOND, PAIRS_ALLOWED, POLICIES,
 };
 use reference::pushdown::{breaks, replay, witness, Witness};
 use reference::rng::Rng;
 use reference::search::{search, shortest};
+use reference::sheet::{read_policies, read_trace};
+use reference::state::{judge_policies, judge_state, State, FIRST_LIVE, INSTANCES, NEVER, RETIRED};
 use reference::summary::{enumerated, summary};
 use reference::system::Choice;
 
@@ -94,8 +101,87 @@ fn pair_policies_are_told_by_an_edge_on_y() {
     let edges = [on(5, ON_OWN), on(3, ON_SECOND), on(1, ON_OTHER), on(3, ON_SECOND), on(0, ON_SECOND)];
     assert_eq!(pair_policies(&edges), [3, 0]);
     // an edge on y is in range exactly where sheets have it
-    assert_eq!(on(3, ON_SECOND).fits(), ON_SECOND < KINDS_OF_ON);
+    assert_eq!(on(3, ON_SECOND).fits(), PAIRS_ALLOWED);
     assert!(!Edge::new([3, 0, 1, ON_SECOND, 1, 1]).fits());
+}
+
+/// The judge on states and the judge over the past, answer by answer, and the sets after each trace.
+#[test]
+fn states_agree_with_the_whole_past() {
+    let mut rng = Rng::new(404);
+    let (mut judged, mut retired, mut violated, mut blocks) = (0, 0, 0, 0);
+    for case in cases(Kind::Trace, 12, 1_500) {
+        let (Ok(policies), Ok(steps)) = (read_policies(&case.policies), read_trace(&case.other)) else {
+            continue;
+        };
+        let whole = pair_policies(&policies.edges).is_empty();
+        let policies = if whole { Policies { edges: with_pairs(&mut rng, policies.edges), ..policies } } else { policies };
+        let mut judge = Judge::new(&policies);
+        let mut state = State::start();
+        for step in steps.iter().take(150) {
+            let (answer, next) = judge_policies(&policies, &state, *step, |_| true);
+            assert_eq!(judge.judge(*step), answer);
+            check_step(&state, &next, answer);
+            state = next;
+            judged += 1;
+            retired += usize::from(step.kind == RETIRE && answer == Answer::Allowed);
+            violated += usize::from(matches!(answer, Answer::Violated(_)));
+        }
+        blocks += pair_policies(&policies.edges).len();
+        assert_state(&policies, judge.past(), &state);
+    }
+    println!("{judged} steps, {retired} retirings, {violated} violated, {blocks} pair policies");
+    assert!(judged > 10_000 && retired > 800 && violated > 150 && blocks > 400);
+}
+
+/// Three live ones, and in each place of the two blocks another mask.
+fn told_apart() -> State {
+    let mut state = State::with_live(&[20, 30, 40]);
+    for (place, mask) in state.pairs.iter_mut().flatten().flatten().enumerate() {
+        *mask = (1 + place * 31 % 63) as u8;
+    }
+    state
+}
+
+/// Only the blocks of pair policies change, the lowest one's first; rows and columns of a create and of a retiring, by hand.
+#[test]
+fn blocks_of_pair_policies_change() {
+    let on = |policy, on| Edge::new([policy, 0, 1, on, 0, 1]);
+    let one = Policies { sight: Sight::Local, edges: vec![on(5, ON_SECOND), on(2, ON_OWN)] };
+    let two = Policies { sight: Sight::Local, edges: vec![on(5, ON_SECOND), on(2, ON_SECOND)] };
+    let state = told_apart();
+    let after = |policies: &Policies, step: Step| judge_policies(policies, &state, step, |_| true).1;
+    // the second block is no policy's; it is policy 5's where 2 is one too
+    for step in [Step::event(7, 3), Step::event(0, 41), Step::retire(30), Step::open(5)] {
+        assert_eq!(after(&one, step).pairs[1], state.pairs[1]);
+    }
+    let opened = after(&two, Step::open(5));
+    assert_eq!((&opened.pairs[0], opened.pairs[1][FIRST_LIVE + 2]), (&state.pairs[0], [1; INSTANCES]));
+    assert_eq!(opened.pairs[1][FIRST_LIVE + 3..], state.pairs[1][FIRST_LIVE + 3..]);
+    // no edge has the action: nothing moves, and what is kept is gathered over the rows in use
+    let idle = after(&two, Step::event(7, 3));
+    let all = |block: usize| state.pairs[block][..FIRST_LIVE + 3].iter().flatten().fold(0, |all, mask| all | mask);
+    assert_eq!((&idle.pairs, idle.kept[2], idle.kept[5]), (&state.pairs, all(0), all(1)));
+    let created = after(&two, Step::event(0, 41)).pairs;
+    assert_eq!(created[0][FIRST_LIVE + 3], state.pairs[0][NEVER]);
+    let (retired, was) = (after(&two, Step::retire(30)).pairs[1], state.pairs[1]);
+    let (at, last) = (FIRST_LIVE + 1, INSTANCES - 1);
+    assert_eq!(retired[3][RETIRED], was[3][RETIRED] | was[3][at]);
+    assert_eq!(retired[RETIRED][3], was[RETIRED][3] | was[at][3]);
+    assert_eq!(retired[RETIRED][RETIRED], was[RETIRED][RETIRED] | was[at][RETIRED] | was[RETIRED][at] | was[at][at]);
+    assert_eq!((retired[at][at], retired[at][3], retired[3][at]), (was[at + 1][at + 1], was[at + 1][3], was[3][at + 1]));
+    assert_eq!((retired[3][last], retired[at + 1][3], retired[at + 1][last]), (was[3][NEVER], was[NEVER][3], was[NEVER][NEVER]));
+    assert_eq!(retired[at + 2..], was[at + 2..]);
+}
+
+/// 41 is asked of the edges before all else; three pair policies are no sheet's.
+#[test]
+fn a_third_pair_policy_is_refused() {
+    let on = |policy| Edge::new([policy, 0, 1, ON_SECOND, 0, 1]);
+    let asked = |edges: &[Edge]| judge_state(edges, 0, &State { halted: 1, ..State::start() }, Step::open(0)).0;
+    assert_eq!(asked(&[on(7), on(0), on(3)]), Answer::Refused(41));
+    let told = Answer::Refused(if PAIRS_ALLOWED { 20 } else { 41 });
+    assert_eq!(asked(&[on(7), on(0), on(7)]), told);
 }
 
 /// Some edges on x and on others become ones on y.

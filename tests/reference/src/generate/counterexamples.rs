@@ -1,6 +1,7 @@
 //! Cases of counterexamples: every border of the length, and random outlines.
 
 use super::fixed::local::{both, local, sandbox_outlines};
+use super::fixed::paired::verdict_cases;
 use super::fixed::{
     all_statics, both_refused, outline, outline_case, policies, OUTLINE_I, OUTLINE_J, OUTLINE_L, P,
     POLICIES_J, POLICIES_K,
@@ -13,7 +14,7 @@ use super::trees::{choice, fresh, looped, number, sandbox, sequence, Tree};
 use super::Case;
 use crate::damage::rows;
 use crate::outline::Node;
-use crate::policy::{ON_OTHER, ON_OWN, ON_STATIC};
+use crate::policy::{ON_OTHER, ON_OWN, ON_STATIC, PAIRS_ALLOWED};
 use crate::rng::Rng;
 use crate::sheet::{OUTLINE_NAMES, POLICY_NAMES};
 
@@ -28,6 +29,9 @@ pub fn fixed_cases() -> Vec<Case> {
     cases.extend(accepted_cases());
     cases.extend(refused_cases());
     cases.extend(local_cases());
+    if PAIRS_ALLOWED {
+        cases.extend(both(verdict_cases()));
+    }
     cases
 }
 

@@ -1,17 +1,19 @@
 //! The fixed sequences of calls of the routine desk.
 
 use super::desks::{limits, nodes_sheet, round, sheet_of, Round, Session};
+use super::fixed::paired::NO_OTHERS;
 use super::fixed::{outline, policies, trace, OUTLINE_L, POLICIES_J, POLICIES_K};
 use crate::damage::{damaged, padded, rows, Text};
 use crate::desk::Desk;
 use crate::desk_bytes::{
     DEPTH, EDGES, EDGE_COUNT, HALTED, HIGHEST, LIVE, LIVE_COUNT, LOADED, MARKS, NODES, NODE_COUNT, ORDER,
-    POSITION_COUNT, POSSIBLE, ROWS, ROW_BYTES, SETS, STATE_BYTES, UNCLOSED,
+    PAIRS, POSITION_COUNT, POSSIBLE, ROWS, ROW_BYTES, SETS, STATE_BYTES, UNCLOSED,
 };
 use crate::judge::Step;
-use crate::policy::{Sight, STATICS};
+use crate::policy::{Sight, KINDS_OF_ON, PAIRS_ALLOWED, STATICS};
 use crate::positions::next_steps;
 use crate::sheet::{LONGEST, OUTLINE_NAMES, POLICY_NAMES, TRACE_NAMES};
+use crate::state::INSTANCES;
 
 /// The policies P of document 01, and the outline of I.
 const P: &str = "0 0 1 1 0 1; 0 1 3 1 0 0; 0 0 2 1 0 6";
@@ -38,6 +40,42 @@ pub fn fixed() -> Vec<Session> {
     sessions.extend(limits().iter().map(|nodes| walked(nodes_sheet(nodes))));
     sessions.extend(many());
     sessions.extend(pokes());
+    if PAIRS_ALLOWED {
+        sessions.extend(paired());
+    }
+    sessions
+}
+
+/// Pair policies, on the outline and off it, with retirings and under both sights; and a third, which is refused.
+fn paired() -> Vec<Session> {
+    // read n0, drive n1, then use n1, or anything but n0 and n1
+    let tree = |last: &str| format!("8 0 1; 7 0 2; 7 1 3; 3 4 5; 2 2 0; 3 6 7; 2 3 1; {last}");
+    let begun = "1 0 0; 0 0 16; 0 0 17; 0 2 16; 0 3 17;";
+    let mut sessions = Vec::new();
+    for (last, steps) in [
+        ("2 4 1", "0 4 17; 2 0 0"),
+        ("2 4 1", "3 16 0; 0 4 17; 3 17 0; 2 0 0; 0 4 3"),
+        ("2 4 1", "0 4 16; 0 4 17; 0 4 3"),
+        ("1 4 3", "0 4 3; 2 0 0"),
+        ("1 4 3", "3 16 0; 3 17 0; 0 4 3"),
+        ("1 4 3", "2 0 0; 1 0 0; 0 4 3"),
+    ] {
+        for sight in Sight::BOTH {
+            let other = round(NO_OTHERS, &tree(last), &format!("{begun} {steps}"));
+            sessions.push(one(Round { policies: sheet_of(sight, NO_OTHERS), ..other }));
+        }
+    }
+    // the step that is taken on poked bytes is a read of 3: a set of two statics, of 3 itself, of 3 and an unused one, of the second policy, of none
+    let both = "0 0 2 1 0 1; 0 1 2 3 0 6; 5 0 2 3 0 1; 5 2 2 2 0 7";
+    let places = [[3, 4], [4, 3], [3, 3], [16, 3], [17, 17], [15, 81], [18, 0], [81, 81]];
+    let at = |block: usize, [x, y]: [usize; 2]| PAIRS + INSTANCES * INSTANCES * block + INSTANCES * x + y;
+    let pokes: Vec<Vec<u64>> = (0..2).flat_map(|block| places.map(|place| each(at(block, place), &[0, 2, 4, 64, 255]))).collect();
+    for steps in ["1 0 0; 1 5 0", "0 0 16; 1 5 0; 1 0 0"] {
+        sessions.push(poked(vec![Round { outline: vec![], ..round(both, TWO, steps) }], pokes.clone()));
+    }
+    let third = policies("1 0 1 3 0 1; 5 0 1 3 0 1; 3 0 1 3 0 1");
+    let refused = Round { policies: third, outline: vec![], trace: trace("1 0 0; 0 4 4") };
+    sessions.push(several(vec![round(NO_OTHERS, &tree("2 4 1"), "0 2 3; 0 3 3"), refused]));
     sessions
 }
 
@@ -214,7 +252,8 @@ fn poked(rounds: Vec<Round>, pokes: Vec<Vec<u64>>) -> Session {
 
 /// Bytes at the border of every flag, count and field that 42 asks about, and those of which it asks nothing.
 fn pokes() -> Vec<Session> {
-    let fields: Vec<u64> = [(0, [7, 8]), (1, [7, 8]), (2, [31, 32]), (3, [2, 3]), (4, [0, 1]), (5, [7, 8])]
+    let on = KINDS_OF_ON as u8;
+    let fields: Vec<u64> = [(0, [7, 8]), (1, [7, 8]), (2, [31, 32]), (3, [on - 1, on]), (4, [0, 1]), (5, [7, 8])]
         .into_iter()
         .flat_map(|(field, values)| each(EDGES + field, &values))
         .collect();
@@ -256,6 +295,7 @@ fn pokes() -> Vec<Session> {
                 each(UNCLOSED, &[1]),
                 each(ORDER, &[1, 255]),
                 each(SETS, &[0, 64, 255]),
+                each(PAIRS, &[0, 64, 255]),
                 wide(row(0), &[0, 1, 2, 16, 17]),
                 wide(row(1), &[0, 1, 2, 3, 63, 64, 71, 72, 255]),
                 wide(row(2), &[1, 16]),

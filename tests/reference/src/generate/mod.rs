@@ -9,6 +9,7 @@ pub mod lean;
 pub mod malformed;
 pub mod orders;
 pub mod outlines;
+mod paired;
 pub mod policies;
 pub mod retirings;
 pub mod rewritings;

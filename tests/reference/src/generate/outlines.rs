@@ -8,7 +8,7 @@ use crate::damage::{random_damage, respaced, rows};
 use crate::outline::{
     nodes_fit, Node, BACK, CHOICE, END, FRESH, LOOP, NAMED_EVENT, SANDBOX, SEQUENCE, STATIC_EVENT,
 };
-use crate::policy::{Edge, Policies, Sight, ON_OWN, ON_STATIC};
+use crate::policy::{Edge, Policies, Sight, ON_OWN, ON_SECOND, ON_STATIC};
 use crate::pushdown::check;
 use crate::rng::Rng;
 use crate::sheet::OUTLINE_NAMES;
@@ -335,8 +335,11 @@ pub fn mutated(rng: &mut Rng, draft: &Draft) -> Draft {
         let edges = &mut next.policies.edges;
         if rng.percent(50) && !edges.is_empty() {
             let at = rng.below(edges.len() as u64) as usize;
-            let policy = edges[at].policy;
+            let Edge { policy, on, .. } = edges[at];
             edges[at] = random_edge(rng, &draft.palette, policy, 4);
+            if on == ON_SECOND && rng.percent(60) {
+                edges[at] = Edge { on, who: 0, ..edges[at] };
+            }
         } else {
             let at = rng.below(next.nodes.len() as u64) as usize;
             change_node(rng, &draft.palette, &mut next.nodes[at]);

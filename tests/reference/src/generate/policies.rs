@@ -1,6 +1,6 @@
 //! Random policies over a small choice of actions, statics and policies.
 
-use crate::policy::{Edge, Policies, Sight, ON_OTHER, ON_OWN, ON_STATIC};
+use crate::policy::{Edge, Policies, Sight, MOST_PAIRS, ON_OTHER, ON_OWN, ON_SECOND, ON_STATIC, PAIRS_ALLOWED};
 use crate::rng::Rng;
 
 /// What a case is about. The actions do not hold create.
@@ -51,7 +51,29 @@ fn distinct(rng: &mut Rng, least: u64, most: u64, low: u64, high: u64) -> Vec<u6
 
 /// These edges, in half of the sheets of policies that see only their sandbox.
 pub fn sighted(rng: &mut Rng, edges: Vec<Edge>) -> Policies {
+    let edges = paired(rng, edges);
     Policies { sight: rng.pick(&Sight::BOTH), edges }
+}
+
+/// These edges, in half of the sheets with pair policies, where sheets have such.
+pub fn paired(rng: &mut Rng, edges: Vec<Edge>) -> Vec<Edge> {
+    if PAIRS_ALLOWED && rng.percent(50) { with_pairs(rng, edges) } else { edges }
+}
+
+/// One or two of the policies become pair policies, if they have edges on x or on others: some of these are on y instead.
+pub fn with_pairs(rng: &mut Rng, mut edges: Vec<Edge>) -> Vec<Edge> {
+    let mut policies: Vec<u64> = edges.iter().map(|edge| edge.policy).collect();
+    policies.sort_unstable();
+    policies.dedup();
+    for _ in 0..rng.between(1, MOST_PAIRS as u64).min(policies.len() as u64) {
+        let policy = policies.remove(rng.below(policies.len() as u64) as usize);
+        for edge in edges.iter_mut().filter(|edge| edge.policy == policy && edge.on != ON_STATIC) {
+            if rng.percent(if edge.on == ON_OWN { 50 } else { 15 }) {
+                edge.on = ON_SECOND;
+            }
+        }
+    }
+    edges
 }
 
 pub fn random_policies(rng: &mut Rng, palette: &Palette, most: u64) -> Policies {

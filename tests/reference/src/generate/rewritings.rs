@@ -1,9 +1,10 @@
 //! Policy sheets that are written again: edges in any order, some of them twice, with more spaces and zeros than are needed; and refused
 //! ones.
 
+use super::fixed::paired::third_pairs;
 use super::malformed;
 use crate::damage::{crowded, damaged, edit_line, random_damage, respaced, rows, sheet, Text};
-use crate::policy::{Sight, STATICS};
+use crate::policy::{Sight, MOST_PAIRS, ON_SECOND, PAIRS_ALLOWED, STATICS};
 use crate::rng::Rng;
 use crate::sheet::{policy_names, MOST_DIGITS, MOST_EDGES};
 
@@ -31,6 +32,9 @@ pub fn fixed_cases() -> Vec<Text> {
         let full = full_rows();
         let falling: Vec<Row> = full.iter().rev().copied().collect();
         cases.extend(SHORT.iter().map(|values| sheet(names, values)));
+        if PAIRS_ALLOWED {
+            cases.extend(PAIRED.iter().map(|values| sheet(names, values)));
+        }
         cases.extend([
             rows(names, full.clone()),
             rows(names, falling.clone()),
@@ -43,8 +47,19 @@ pub fn fixed_cases() -> Vec<Text> {
         cases.extend(damaged(&sheet(names, "7 6 31 0 15 7; 0 0 2 1 0 6; 0 0 10 1 0 1")));
     }
     cases.extend(malformed::policies());
+    if PAIRS_ALLOWED {
+        cases.extend(third_pairs());
+    }
     cases
 }
+
+/// With edges on y, where sheets have such: in order and out of it, twice, of two policies.
+const PAIRED: [&str; 4] = [
+    "3 3 3 3 0 3; 3 3 3 2 0 3; 3 3 3 0 15 3; 3 3 3 1 0 3",
+    "7 7 31 3 0 7; 0 0 0 3 0 0; 7 7 31 2 0 7; 0 0 0 0 0 0",
+    "0 0 1 3 0 1; 0 0 1 3 0 1; 4 0 1 3 0 1; 0 0 1 2 0 1",
+    "0 0 1 3 0 2; 0 0 1 3 0 7; 0 0 10 3 0 1; 0 0 2 3 0 1",
+];
 
 /// Edges by their lines: none; one; those that differ in one field, the later first; a later field that would say otherwise; numbers that
 /// stand in another order as text; an edge twice, at once and with others between.
@@ -121,12 +136,13 @@ pub fn random_case(rng: &mut Rng) -> Text {
     let most = if rng.percent(15) { MOST_EDGES as u64 } else { rng.pick(&[3, 8, 30]) };
     let count = if rng.percent(10) { most } else { rng.below(most + 1) };
     let few = rng.percent(40);
+    let pairs = if PAIRS_ALLOWED && rng.percent(50) { pair_numbers(rng, few) } else { vec![] };
     let mut edges: Vec<Row> = Vec::new();
     for _ in 0..count {
         edges.push(if !edges.is_empty() && rng.percent(20) {
             rng.pick(&edges)
         } else {
-            random_row(rng, few)
+            random_row(rng, few, &pairs)
         });
     }
     if rng.percent(20) {
@@ -142,11 +158,20 @@ pub fn random_case(rng: &mut Rng) -> Text {
     text
 }
 
-/// An edge of any values in range; of few different ones, so that many differ in one field alone.
-fn random_row(rng: &mut Rng, few: bool) -> Row {
+/// One or two policies that may have edges on y; now and then one more, which 14 refuses.
+fn pair_numbers(rng: &mut Rng, few: bool) -> Vec<u64> {
+    let count = if rng.percent(10) { MOST_PAIRS + 1 } else { rng.between(1, MOST_PAIRS as u64) as usize };
+    (0..count).map(|_| rng.below(if few { 2 } else { LARGEST[0] + 1 })).collect()
+}
+
+/// An edge of any values in range; of few different ones, so that many differ in one field alone. Some of these policies' are on y.
+fn random_row(rng: &mut Rng, few: bool, pairs: &[u64]) -> Row {
     let mut row = LARGEST.map(|largest| rng.below(if few { 2 } else { largest + 1 }));
     if few && rng.percent(50) {
         row[2] = rng.pick(&[1, 2, 10, 11, 20]);
+    }
+    if pairs.contains(&row[0]) && rng.percent(40) {
+        row[3] = ON_SECOND;
     }
     if row[3] != 0 {
         row[4] = 0;

@@ -1,13 +1,15 @@
 //! Random calls of the judge on states that need not have been reached.
 
 use super::orders;
+use super::paired;
 use super::sandboxes;
-use super::policies::{random_edges, Palette};
+use super::policies::{paired, random_edges, Palette};
 use super::retirings;
 use crate::judge::{Step, CREATE, LARGEST_RESOURCE, MOST_CREATED};
-use crate::policy::{Edge, POLICIES, STATICS};
+use crate::pair_sets::{union, Block};
+use crate::policy::{pair_policies, Edge, KINDS_OF_ON, MOST_PAIRS, ON_SECOND, PAIRS_ALLOWED, POLICIES, STATICS};
 use crate::rng::Rng;
-use crate::state::{Call, State, FIRST_LIVE};
+use crate::state::{Call, State, FIRST_LIVE, INSTANCES, NEVER};
 
 /// The fixed calls, then random ones.
 pub fn calls(seed: u64, count: usize) -> Vec<Call> {
@@ -16,7 +18,8 @@ pub fn calls(seed: u64, count: usize) -> Vec<Call> {
 }
 
 pub fn fixed_calls() -> Vec<Call> {
-    [kept_calls(), orders::fixed_calls(), sandboxes::fixed_calls(), retirings::fixed_calls()].concat()
+    let paired = if PAIRS_ALLOWED { paired::fixed_calls() } else { vec![] };
+    [kept_calls(), orders::fixed_calls(), sandboxes::fixed_calls(), retirings::fixed_calls(), paired].concat()
 }
 
 pub fn random_calls(seed: u64, count: usize) -> Vec<Call> {
@@ -60,8 +63,9 @@ fn kept_calls() -> Vec<Call> {
 
 fn random_call(rng: &mut Rng) -> Call {
     let palette = Palette::random(rng);
-    let mut edges = random_edges(rng, &palette, 8);
-    let mut state = random_state(rng, &palette);
+    let edges = random_edges(rng, &palette, 8);
+    let mut edges = paired(rng, edges);
+    let mut state = random_state(rng, &palette, &edges);
     let step = random_step(rng, &palette, &state);
     if rng.percent(12) {
         damage_state(rng, &mut state);
@@ -77,7 +81,7 @@ fn random_call(rng: &mut Rng) -> Call {
 }
 
 /// A state that passes 42.
-fn random_state(rng: &mut Rng, palette: &Palette) -> State {
+fn random_state(rng: &mut Rng, palette: &Palette, edges: &[Edge]) -> State {
     let mut state = State::start();
     state.halted = rng.percent(6).into();
     state.count = match rng.below(4) {
@@ -88,7 +92,10 @@ fn random_state(rng: &mut Rng, palette: &Palette) -> State {
     fill_created(rng, &mut state);
     orders::fill(rng, palette, &mut state);
     fill_sets(rng, &mut state);
-    fill_kept(rng, &mut state);
+    for block in 0..MOST_PAIRS {
+        fill_block(rng, state.places(), &mut state.pairs[block]);
+    }
+    fill_kept(rng, edges, &mut state);
     state
 }
 
@@ -148,12 +155,45 @@ fn fill_sets(rng: &mut Rng, state: &mut State) {
     }
 }
 
+/// As at the start; or a few sets to a row and some that stand alone, without offending states where they count, save in some blocks. A
+/// place of y that is not in use mostly holds what the unused one does.
+fn fill_block(rng: &mut Rng, used: usize, block: &mut Block) {
+    if rng.percent(40) {
+        return;
+    }
+    let least = if rng.percent(80) { 0x3f } else { 0xff };
+    let likely = 1 << rng.below(6);
+    for row in block.iter_mut() {
+        match rng.below(10) {
+            0 | 1 => *row = [likely; INSTANCES],
+            2 => *row = [rng.below(256) as u8 & least; INSTANCES],
+            _ => {}
+        }
+    }
+    for _ in 0..rng.pick(&[0, 3, 10, 40]) {
+        let [x, y] = [used, INSTANCES].map(|most| rng.below(most as u64) as usize);
+        let [x, y] = if rng.percent(20) { [x, x] } else { [x, y] };
+        block[x][y] = if rng.percent(80) { 1 << rng.below(6) } else { rng.below(256) as u8 & least };
+    }
+    if rng.percent(70) {
+        for row in block.iter_mut() {
+            let unused = row[NEVER];
+            row[used..].fill(unused);
+        }
+    }
+}
+
 /// What the instances in use may be in, in half of the states; else fewer, more, or anything at all.
-fn fill_kept(rng: &mut Rng, state: &mut State) {
+fn fill_kept(rng: &mut Rng, edges: &[Edge], state: &mut State) {
     let used = state.places();
     let sort = rng.below(10);
+    let mut pairs = pair_policies(edges);
+    pairs.sort_unstable();
     for policy in 0..POLICIES {
-        let gathered = state.sets[..used].iter().fold(0, |all, row| all | row[policy]);
+        let gathered = match pairs.iter().position(|pair| *pair == policy as u64) {
+            Some(block) => union(&state.pairs[block], used),
+            None => state.sets[..used].iter().fold(0, |all, row| all | row[policy]),
+        };
         let any = rng.below(256) as u8;
         state.kept[policy] = match sort {
             0..=4 => gathered,
@@ -258,10 +298,23 @@ fn damage_edges(rng: &mut Rng, edges: &mut Vec<Edge>) {
         0 => edge.policy = 8,
         1 => edge.from = 8,
         2 => edge.action = 32,
-        3 => edge.on = 3,
+        3 if PAIRS_ALLOWED && rng.percent(60) => *edges = three_pairs(rng),
+        3 => edge.on = KINDS_OF_ON,
         4 if edge.on == 0 => edge.who = 16,
         4 => edge.who = 1,
         5 => edge.to = 8,
         _ => *edges = vec![Edge::new([0, 0, 1, 1, 0, 1]); 257],
     }
+}
+
+/// Three policies with an edge on y, in any order, edges of a fourth among them.
+fn three_pairs(rng: &mut Rng) -> Vec<Edge> {
+    let first = rng.below(8);
+    let mut edges: Vec<Edge> = (0..3).map(|more| Edge::new([(first + 3 * more) % 8, more, 1, ON_SECOND, 0, 6])).collect();
+    for _ in 0..rng.below(6) {
+        let at = rng.below(edges.len() as u64 + 1) as usize;
+        let edge = Edge { policy: (first + 1) % 8, on: rng.between(1, 2), ..edges[0] };
+        edges.insert(at, edge);
+    }
+    edges
 }

@@ -4,6 +4,7 @@ mod fields;
 mod judged;
 pub mod local;
 mod orders;
+pub mod paired;
 mod retired;
 mod shapes;
 mod verdicts;
@@ -11,11 +12,13 @@ mod verdicts;
 use super::malformed;
 use super::Case;
 use crate::damage::{crowded, damaged, rows, sheet, Text};
+use crate::policy::PAIRS_ALLOWED;
 use crate::sheet::{MOST_EDGES, MOST_NODES, MOST_STEPS, OUTLINE_NAMES, POLICY_NAMES, TRACE_NAMES};
 use fields::{edge_borders, node_borders, step_borders};
 use judged::{judged_borders, trace_examples};
 use local::{local_outlines, local_traces};
 use orders::order_cases;
+use paired::{paired_outlines, paired_traces};
 use retired::retired_cases;
 use shapes::{large_outlines, misshapen};
 use verdicts::{checked_examples, outline_examples};
@@ -84,6 +87,9 @@ pub fn trace_cases() -> Vec<Case> {
     cases.extend(order_cases());
     cases.extend(retired_cases());
     cases.extend(local_traces());
+    if PAIRS_ALLOWED {
+        cases.extend(paired_traces());
+    }
     cases
 }
 
@@ -105,6 +111,9 @@ pub fn outline_cases() -> Vec<Case> {
     cases.extend(both_refused(&outline(OUTLINE_I)));
     cases.extend(with_other(&policies(P), malformed::outlines()));
     cases.extend(local_outlines());
+    if PAIRS_ALLOWED {
+        cases.extend(paired_outlines());
+    }
     cases
 }
 
