@@ -11,7 +11,8 @@
  * painted stack on all stored cases. Three calls go deep: a counterexample is written by a function that calls itself once for each of at
  * most 200 steps, with less than 640 bytes each time, and tests/api/deepest goes as deep as that; the readers of an expression call each
  * other once for each of at most 32 brackets, with less than 3,400 bytes each time, and the stored cases go as deep as that; and a number is
- * printed digit by digit, at most 20.
+ * printed digit by digit, at most 20. Of what the check of an outline takes, 129,024 bytes are the three tables for two watched resources, which
+ * no policy asks for yet.
  *
  * Asked of every call, and not tested: a pointer is not null and points to as many elements as is told, also where that is 0; it has its
  * type's alignment; and an array that is lent to be changed overlaps no other.
@@ -27,19 +28,19 @@
 
 #define WIFOREKUN_START_STACK 512
 #define WIFOREKUN_JUDGE_STACK 4096
-#define WIFOREKUN_CHECK_STACK 32768
+#define WIFOREKUN_CHECK_STACK 163840
 #define WIFOREKUN_COUNTEREXAMPLE_STACK 262144
 #define WIFOREKUN_REPORT_TRACE_STACK 131072
-#define WIFOREKUN_REPORT_OUTLINE_STACK 65536
+#define WIFOREKUN_REPORT_OUTLINE_STACK 163840
 #define WIFOREKUN_REPORT_COUNTEREXAMPLE_STACK 262144
-#define WIFOREKUN_SUMMARY_STACK 32768
+#define WIFOREKUN_SUMMARY_STACK 163840
 #define WIFOREKUN_JUDGE_LEAN_STACK 4096
-#define WIFOREKUN_REPORT_SUMMARY_STACK 65536
+#define WIFOREKUN_REPORT_SUMMARY_STACK 163840
 #define WIFOREKUN_READ_EXPRESSION_STACK 131072
 #define WIFOREKUN_REPORT_EXPRESSION_STACK 131072
 #define WIFOREKUN_WRITE_POLICIES_STACK 65536
 #define WIFOREKUN_DESK_POLICIES_STACK 65536
-#define WIFOREKUN_DESK_OUTLINE_STACK 65536
+#define WIFOREKUN_DESK_OUTLINE_STACK 163840
 #define WIFOREKUN_DESK_STEP_STACK 8192
 
 #ifdef __cplusplus
