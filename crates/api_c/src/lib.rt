@@ -1,4 +1,6 @@
 // The judge and the check for callers in C and Rust: numbers and arrays in the place of structs. Tests and benchmarks call them.
+#![tactic(auto)]
+
 ghost use Rattle.std.specs.Prelude.{◌≡◌, cond};
 ghost use Rattle.usage.specs.declared.RawStep.{RawStep};
 ghost use Rattle.usage.specs.Answers.{refused};

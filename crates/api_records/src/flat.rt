@@ -8,7 +8,7 @@ use usage::{EDGE_FIELDS, EDGE_TABLE, Edge, MOST_EDGES};
 const TOO_MANY: usize = MOST_EDGES + 1;
 
 // The edges as a flat table: those of the first `count` records. Where `count` is TOO_MANY the bytes say nothing.
-#[derive(Drop)]
+#[derive(Clone, Copy)]
 pub(crate) struct Flat {
     pub(crate) bytes: [u8; EDGE_TABLE],
     pub(crate) count: usize,

@@ -1,6 +1,8 @@
 // The judge and the check over a slice of records (document 01: "The judge and the check are lent the edges as a slice of records."):
 // each record is copied into a flat table, six bytes to an edge, and what is proved over the flat table answers.
 // `local` says which past counts, and goes with the edges.
+#![tactic(auto)]
+
 ghost use Rattle.std.specs.Prelude.{◌≡◌};
 ghost use Rattle.checker.specs.Promise.{outcome_verdict, CheckPromise};
 ghost use Rattle.checker_counterexample.specs.Explained.{Explained};

@@ -1,4 +1,6 @@
 // Sets of states as bit masks, and how a set is moved: the leaf functions that both the judge and the check call.
+#![tactic(auto)]
+
 ghost use Rattle.std.specs.Prelude.{◌/◌, ◌%◌, ◌<◌, ◌≡◌, cond, List, [], ◌∷◌, eqb};
 ghost use Rattle.automaton.specs.Move.{move_by};
 ghost use Rattle.automaton.specs.Code.{changed, move_by_policy};

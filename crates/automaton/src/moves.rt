@@ -12,7 +12,7 @@ use crate::ROWS;
 use usage::{EDGE_FIELDS, STATES};
 
 // The resource of an event, and whether it is the second one of the instances that look at it. Of a policy about one resource it never is.
-#[derive(Drop)]
+#[derive(Clone, Copy)]
 pub struct Seen {
     pub resource: u32,
     pub second: bool,

@@ -1,5 +1,7 @@
 // The static check of outlines: document 01's check. For each policy and choice of watched resources the crate `checker_tables` fills the tables of
 // the account and looks for a violation in them.
+#![tactic(auto)]
+
 ghost use Rattle.std.specs.Prelude.{◌≡◌, ℕ};
 ghost use Rattle.checker.specs.Promise.{outcome_verdict, CheckPromise};
 ghost use Rattle.checker.specs.Code.{opens, has_edge_lem, pair_in};
@@ -15,7 +17,7 @@ const SANDBOX: u8 = 8;
 
 // The answer of the check: accepted; refused with the lowest policy that some trace leaves open and not respected; or a refusal with
 // its number.
-#[derive(Drop)]
+#[derive(Clone, Copy)]
 pub enum Outcome {
     Accepted,
     Named(u8),

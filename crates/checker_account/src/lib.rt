@@ -1,6 +1,8 @@
 // The finite account of an outline, and the tables that hold it. A run creates any number of resources, and looking at one instance at a
 // time settles whether some run breaks a policy. No function: specs/ has the account, how the tables are laid out and how they are filled;
 // proofs/ has that the account is exact, and that filled tables hold exactly the account.
+#![tactic(auto)]
+
 use usage::{MOST_NODES, STATES, STATICS};
 
 // ── Sizes ── as specs/ has them under the same names.
@@ -49,14 +51,14 @@ pub type Table = [u16; PLACES];
 pub type PairTable = [u16; PAIR_PLACES];
 
 // The watched resources: the second is NOTHING where the policy is about one.
-#[derive(Drop)]
+#[derive(Clone, Copy)]
 pub struct Resources {
     pub first: usize,
     pub second: usize,
 }
 
 // What tables are for: whether only the past since the opening counts, the policy, and the watched resources.
-#[derive(Drop)]
+#[derive(Clone, Copy)]
 pub struct Watch {
     pub local: bool,
     pub policy: usize,
@@ -64,7 +66,7 @@ pub struct Watch {
 }
 
 // A node is come to, the policy being open or not, with this meaning (a code where two dynamic resources are watched), in these states.
-#[derive(Drop)]
+#[derive(Clone, Copy)]
 pub struct Arrival {
     pub to: usize,
     pub opened: bool,

@@ -1,4 +1,6 @@
 // The check with a counterexample: where it names a policy, a shortest trace that leaves that policy open and not respected.
+#![tactic(auto)]
+
 ghost use Rattle.checker_counterexample.specs.Explained.{NamedBy, Explained};
 
 use checker::Outcome;
@@ -7,7 +9,7 @@ use checker_trace::{Length, MOST_NUMBERS};
 // The answer of the check with a counterexample: accepted; refused with the lowest policy that some trace leaves open and not
 // respected, and the number of steps of the trace that was written; the same where every such trace has more than 200 steps; or a
 // refusal with its number.
-#[derive(Drop)]
+#[derive(Clone, Copy)]
 pub enum Explanation {
     Accepted,
     Shown { policy: u8, steps: u8 },

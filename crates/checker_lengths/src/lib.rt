@@ -1,6 +1,8 @@
 // Tables of least lengths, for one policy and one watched resource: in how many steps, at least, each node can come to each aim. A
 // shortest trace is read from them (`checker_trace`). entries: single entries. offers: what the rules give by the entries that
 // stand. fill: the table, in rounds.
+#![tactic(auto)]
+
 pub mod entries;
 pub mod fill;
 pub mod offers;
@@ -34,7 +36,7 @@ pub const ALL: u8 = MOST + 1;
 pub const NONE: u8 = 255;
 
 // What a table is for: whether only the past since the opening counts, the policy, and the one watched resource.
-#[derive(Drop)]
+#[derive(Clone, Copy)]
 pub struct WatchOne {
     pub local: bool,
     pub policy: usize,
@@ -42,7 +44,7 @@ pub struct WatchOne {
 }
 
 // Which entry: the node, whether the policy is open, the meaning (what is known of the watched resource), the state, and the aim.
-#[derive(Drop)]
+#[derive(Clone, Copy)]
 pub struct Entry {
     pub node: usize,
     pub opened: bool,

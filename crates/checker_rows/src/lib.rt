@@ -1,5 +1,7 @@
 // The table of rows: of each node with an event, the states that each state of policy p moves to by it, which is on the first watched resource
 // or not, and for a pair policy on the second or not.
+#![tactic(auto)]
+
 ghost use Rattle.std.specs.Prelude.{◌≡◌, ◌<◌, length};
 ghost use Rattle.usage.specs.Limits.{policies, most_nodes};
 ghost use Rattle.outline_nodes.specs.Said.{said_by};
@@ -23,7 +25,7 @@ const EVENT_TABLE: usize = POLICIES * STATES;
 const SECOND: usize = 2;
 
 // Whose rows are made: a node's event, for a policy, a pair policy or not.
-#[derive(Drop)]
+#[derive(Clone, Copy)]
 struct Slot {
     node: usize,
     policy: usize,

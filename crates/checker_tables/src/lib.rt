@@ -1,6 +1,8 @@
 // Is a policy broken, with one or two resources watched? The tables of the account are filled (`ends`, `arrivals`) by the policy's moves, of
 // which the crate `checker_rows` has made a table (`rows`), and a violation is looked for in them (`hits`). Here stand the search, and
 // what the modules share: single entries of a table, single nodes, and whether the tables have room for them.
+#![tactic(auto)]
+
 ghost use Rattle.std.specs.Prelude.{◌≡◌, Bool, true, false, not, ◌&&◌, ℕ, ◌+◌, ◌/◌, ◌<◌, ◌≤◌, ltb, length, get_or, replicate};
 ghost use Rattle.usage.specs.Limits.{states, most_nodes, node_fields};
 ghost use Rattle.outline_nodes.specs.Said.{said_by};

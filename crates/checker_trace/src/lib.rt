@@ -1,5 +1,7 @@
 // A shortest trace that leaves a policy open and not respected, a counterexample to the outline, read from tables of least lengths.
 // find: where to go on from an entry. write: the steps.
+#![tactic(auto)]
+
 ghost use Rattle.std.specs.Prelude.{◌≡◌, Bool, true, false, ℕ, ◌/◌, ◌<◌, ◌≤◌, length};
 ghost use Rattle.usage.specs.Limits.{most_nodes, node_fields, most_shown};
 ghost use Rattle.checker_trace.specs.Answer.{most_numbers, Told};
@@ -19,7 +21,7 @@ pub const MOST_NUMBERS: usize = MOST as usize * STEP_FIELDS;
 
 // The answer: a trace of this many steps was written; every such trace is longer than 200 steps, also where there is none; or a
 // refusal with its number.
-#[derive(Drop)]
+#[derive(Clone, Copy)]
 pub enum Length {
     Of(u8),
     Longer,
@@ -27,7 +29,7 @@ pub enum Length {
 }
 
 // The watched resource with the least length, and that length, 255 where there is none; and whether the table is still its own.
-#[derive(Drop)]
+#[derive(Clone, Copy)]
 pub struct Shortest {
     pub resource: usize,
     pub length: u8,
@@ -35,34 +37,34 @@ pub struct Shortest {
 }
 
 // The least length with one resource watched, 255 where there is none, and whether the table was filled for it.
-#[derive(Drop)]
+#[derive(Clone, Copy)]
 pub struct Found {
     pub length: u8,
     pub filled: bool,
 }
 
 // Where to go on: by a rule of a node, or nowhere.
-#[derive(Drop)]
+#[derive(Clone, Copy)]
 pub enum Onto {
     By { node: usize, rule: usize },
     Nothing,
 }
 
 // How many steps are written, and the number of the next fresh resource.
-#[derive(Drop)]
+#[derive(Clone, Copy)]
 pub struct Spot {
     pub at: usize,
     pub next: u32,
 }
 
 // The number of the resource that each name means; 0 where none is given.
-#[derive(Drop)]
+#[derive(Clone, Copy)]
 pub struct Names {
     pub numbers: [u32; NAMES],
 }
 
 // What is to be written: the steps of an entry, how many they are, what the names mean there, and the place of the first.
-#[derive(Drop)]
+#[derive(Clone, Copy)]
 pub struct Part {
     pub entry: Entry,
     pub steps: u8,
@@ -71,7 +73,7 @@ pub struct Part {
 }
 
 // The rule by which a part is written: the two numbers of its node, and which of the node's rules it is.
-#[derive(Drop)]
+#[derive(Clone, Copy)]
 pub struct Way {
     pub a: u8,
     pub b: u8,

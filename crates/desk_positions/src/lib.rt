@@ -1,5 +1,7 @@
 // The positions of an outline (02, L14): all the different lists of parts that runs with the steps so far can hold, as long as they are few
 // and short. A position is a row of numbers, a stack whose top is the first part still to run; the positions are a table of rows.
+#![tactic(auto)]
+
 ghost use Rattle.std.specs.Prelude.{◌≡◌, List, suc, ◌/◌, ◌<◌, ◌≤◌, length, false};
 ghost use Rattle.usage.specs.Limits.{node_fields};
 ghost use Rattle.usage.specs.Valid.{OutlineOk};
@@ -47,7 +49,7 @@ const ROW_BYTES: usize = 324;
 
 pub const ROWS: usize = 20736;
 
-#[derive(Drop)]
+#[derive(Clone, Copy)]
 pub struct Row {
     pub cells: [u32; ROW],
 }

@@ -1,5 +1,7 @@
 // The program that reads an outline typed as an expression (02, L13): reads `outline.expr` in the folder that it is run in, and prints its
 // outline sheet.
+#![tactic(auto)]
+
 use sheet_lines::SHEET_ROOM;
 
 fn main() {

@@ -1,4 +1,6 @@
 // What the programs do with files. No contract can say what is read or written.
+#![tactic(auto)]
+
 ghost use Rattle.std.specs.Prelude.{◌≡◌, leb, length};
 ghost use Rattle.io.specs.Counts.{IsPrefixLen};
 

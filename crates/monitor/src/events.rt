@@ -16,7 +16,7 @@ use monitor_sets::SETS;
 use usage::POLICIES;
 
 // The ways of an event for the two pair policies.
-#[derive(Drop)]
+#[derive(Clone, Copy)]
 struct BothWays {
     lower: Ways,
     upper: Ways,

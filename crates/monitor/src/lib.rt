@@ -1,4 +1,6 @@
 // The judge (document 01's word for the run-time monitor): its start and one step.
+#![tactic(auto)]
+
 ghost use Rattle.std.specs.Prelude.{ℕ, ◌<◌, ◌≤◌, ◌≡◌, List, Bool, true, false, length};
 ghost use Rattle.usage.specs.Limits.{most_created, most_unclosed};
 ghost use Rattle.usage.specs.Past.{event};

@@ -1,5 +1,7 @@
 // The lean judge (02, L11): the judge that looks, at each step, only at the policies that a summary marks there. With the exact summary of an
 // outline (`checker::summary`) it answers as the full judge on the traces of that outline.
+#![tactic(auto)]
+
 ghost use Rattle.std.specs.Prelude.{ℕ, ◌<◌, ◌≤◌, ◌^◌, ◌≡◌, cond, length};
 ghost use Rattle.std.proofs.Math.Option.{some};
 ghost use Rattle.usage.specs.Limits.{policies};

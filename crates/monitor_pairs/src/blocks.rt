@@ -11,7 +11,7 @@ use monitor_sets::{FIRST_CREATED, INSTANCES};
 use usage::POLICIES;
 
 // An event on the resource at place `at` of the first n, which it creates, or not.
-#[derive(Drop)]
+#[derive(Clone, Copy)]
 pub struct Turn {
     pub n: usize,
     pub at: usize,

@@ -1,5 +1,7 @@
 // The sets of states that the judge keeps for a policy about two resources (02, L10): one for each two places, x's and then y's. The
 // places are those of `monitor_sets`: the static resources', that of the unseen ones, that of the retired ones, and the live ones'.
+#![tactic(auto)]
+
 use monitor_sets::INSTANCES;
 
 pub mod blocks;
@@ -19,7 +21,7 @@ pub const PAIR_SETS: usize = 2 * PAIRS;
 
 // Where each state goes by an event, in the four ways in which two places can see it: the event's place is neither of them, the first,
 // the second, or both.
-#[derive(Drop)]
+#[derive(Clone, Copy)]
 pub struct Ways {
     pub neither: [u8; 8],
     pub first: [u8; 8],

@@ -9,7 +9,7 @@ ghost use Rattle.monitor_pairs.specs.Code.{run_moved, row_where, two_moved, run_
 use crate::events;
 
 // The states that are kept, and two more, as bits, with where they go.
-#[derive(Drop)]
+#[derive(Clone, Copy)]
 pub struct Two {
     pub keep: u8,
     pub low: u8,

@@ -3,7 +3,7 @@ ghost use Rattle.std.specs.Prelude.{◌≡◌};
 ghost use Rattle.monitor_pairs.specs.Which.{blocks_of};
 
 // The two lowest of the pair policies, the lowest first; POLICIES where there is none.
-#[derive(Drop)]
+#[derive(Clone, Copy)]
 pub struct Blocks {
     pub first: u32,
     pub second: u32,

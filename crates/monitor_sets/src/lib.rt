@@ -1,4 +1,6 @@
 // What the judge keeps of the past, array by array: the created resources, the sets of states of the instances, and the order of openings.
+#![tactic(auto)]
+
 use usage::{MOST_CREATED, POLICIES, STATICS};
 
 pub mod created;

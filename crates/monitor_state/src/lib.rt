@@ -1,5 +1,7 @@
 // The judge's state and its answers (document 01's judge is the run-time monitor): what it keeps between steps, a step as it is
 // read, and the answer to it. The definition of the judge stands in specs/, and proofs/ has that it answers as the whole past says.
+#![tactic(auto)]
+
 ghost use Rattle.std.specs.Prelude.{ℕ, ◌≡◌, length};
 ghost use Rattle.usage.specs.Judge.{step_of};
 ghost use Rattle.monitor_state.specs.declared.Answer.TheVariants.{Refused};
@@ -14,7 +16,7 @@ pub const PAIR_SETS: usize = monitor_pairs::PAIR_SETS;
 
 // What is tracked: the sets of states of the instances, as `monitor_sets::instances` lays them out, those of the policies about two
 // resources, of which none can be written yet, and for each policy the set of states that any of its instances may be in.
-#[derive(Drop)]
+#[derive(Clone, Copy)]
 pub struct Tracked {
     pub sets: [u8; SETS],
     pub pairs: [u8; PAIR_SETS],
@@ -22,7 +24,7 @@ pub struct Tracked {
 }
 
 // What is created: the live resources, which are the first `count` numbers, and the highest number that was created.
-#[derive(Drop)]
+#[derive(Clone, Copy)]
 pub struct Created {
     pub numbers: [u32; MOST_CREATED],
     pub count: usize,
@@ -31,7 +33,7 @@ pub struct Created {
 
 // What is not closed: for each policy how many of its openings, and the policies of all these openings in their order, the oldest first,
 // which are the first `depth` numbers.
-#[derive(Drop)]
+#[derive(Clone, Copy)]
 pub struct Unclosed {
     pub counts: [u8; POLICIES],
     pub order: [u8; MOST_UNCLOSED],
@@ -39,7 +41,7 @@ pub struct Unclosed {
 }
 
 // What the judge keeps between steps, in its parts, and whether a step was violated.
-#[derive(Drop)]
+#[derive(Clone, Copy)]
 pub struct State {
     pub tracked: Tracked,
     pub created: Created,
@@ -49,7 +51,7 @@ pub struct State {
 
 // What a state has beside its arrays: how many resources are live, the highest number that was created, how many openings are not closed,
 // and whether it is halted.
-#[derive(Drop)]
+#[derive(Clone, Copy)]
 pub struct Sizes {
     pub count: usize,
     pub highest: u32,
@@ -57,28 +59,28 @@ pub struct Sizes {
     pub halted: bool,
 }
 
-#[derive(Drop)]
+#[derive(Clone, Copy)]
 pub enum Answer {
     Allowed,
     Violated(u8),
     Refused(u8),
 }
 
-#[derive(Drop)]
+#[derive(Clone, Copy)]
 pub struct Judgement {
     pub answer: Answer,
     pub state: State,
 }
 
 // A judgement without the arrays of its state, which are lent.
-#[derive(Drop)]
+#[derive(Clone, Copy)]
 pub struct Told {
     pub answer: Answer,
     pub sizes: Sizes,
 }
 
 // A step whose numbers are in their ranges, or nothing.
-#[derive(Drop)]
+#[derive(Clone, Copy)]
 pub enum Read {
     Event(u32, u32),
     Opening(usize),

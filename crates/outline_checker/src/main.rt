@@ -1,5 +1,7 @@
 // The second program (document 01, "The two programs"): reads `policies.txt` and `outline.txt` in the folder that it is run in, and
 // prints whether some trace of the outline breaks a policy while it is open.
+#![tactic(auto)]
+
 use sheet_lines::SHEET_ROOM;
 
 fn main() {

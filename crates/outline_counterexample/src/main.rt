@@ -1,5 +1,7 @@
 // The third program (02, L1): reads `policies.txt` and `outline.txt` in the folder that it is run in, and prints a shortest
 // counterexample as a trace sheet, where some trace of the outline breaks a policy while it is open.
+#![tactic(auto)]
+
 use sheet_lines::SHEET_ROOM;
 
 fn main() {

@@ -1,4 +1,6 @@
 // Single nodes of an outline's flat table. Here alone a node's kind is told by its number; everyone else matches on what the node says.
+#![tactic(auto)]
+
 ghost use Rattle.std.specs.Prelude.{◌≡◌};
 ghost use Rattle.usage.specs.Outline.{form_of, form_at};
 ghost use Rattle.usage.specs.Tables.{nodes_of};
@@ -7,7 +9,7 @@ ghost use Rattle.outline_nodes.specs.Said.{said_by};
 use usage::{NODE_FIELDS, Node};
 
 // What a node says, as document 01 has the kinds, 0 to 8 in order; or nothing.
-#[derive(Drop)]
+#[derive(Clone, Copy)]
 pub enum NodeForm {
     End,
     OnStatic { action: u8, resource: u8 },

@@ -1,5 +1,7 @@
 // The program that prints a summary (02, L11): reads `policies.txt` and `outline.txt` in the folder that it is run in, and prints which
 // actions, and whether its opening, can be the last step of a trace that leaves each policy open and not respected.
+#![tactic(auto)]
+
 use sheet_lines::SHEET_ROOM;
 
 fn main() {

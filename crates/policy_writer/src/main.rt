@@ -1,4 +1,6 @@
 // The fourth program (02, L12): reads `policies.txt` in the folder that it is run in, and prints the sheet as there is one way to write it.
+#![tactic(auto)]
+
 use sheet_lines::SHEET_ROOM;
 
 fn main() {

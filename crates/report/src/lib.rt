@@ -1,4 +1,6 @@
 // What the programs print: the bytes of the sheets in, the bytes of the printed lines out.
+#![tactic(auto)]
+
 ghost use Rattle.std.specs.Prelude.{◌<◌, ◌≤◌, ◌≡◌, length};
 ghost use Rattle.usage.specs.Answers.{Verdict};
 ghost use Rattle.report.specs.Output.{trace_room, outline_room, length_put, put as output_put};

@@ -1,4 +1,6 @@
 // What the program of the routine desk prints (02, L14): the bytes of three sheets in, the bytes of the printed lines out.
+#![tactic(auto)]
+
 ghost use Rattle.std.specs.Prelude.{◌+◌, ◌*◌, ◌/◌, ◌<◌, ◌≤◌, ◌≡◌, length};
 ghost use Rattle.std.proofs.lemmas.List.Edits.{sets};
 ghost use Rattle.usage.specs.Limits.{step_fields, step_places, most_steps};

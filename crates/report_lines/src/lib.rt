@@ -1,4 +1,6 @@
 // The lines that the programs print, put into a lent buffer. Where the buffer lacks the room for one, nothing is written.
+#![tactic(auto)]
+
 ghost use Rattle.std.specs.Prelude.{◌≡◌, ◌+◌, ◌<◌, ◌≤◌, length};
 ghost use Rattle.std.proofs.lemmas.List.Edits.{sets};
 ghost use Rattle.sheet_lines.specs.Sheets.{policy_names_lem};

@@ -1,6 +1,8 @@
 // The program of the routine desk (02, L14): reads `policies.txt`, `outline.txt` and `trace.txt` in the folder that it is run in, loads the first
 // two at a desk and hands it the steps of the third. It prints the monitor's lines with a number more, 1 where the lean judge gave the answer; in
 // front of them, with line 0, what the check says of the outline. Of refused sheets only the first is told: policies, outline, trace.
+#![tactic(auto)]
+
 use sheet_lines::SHEET_ROOM;
 
 fn main() {

@@ -1,4 +1,6 @@
 // The values of one line of a sheet, read byte by byte, and what is wrong with it (refusals 11, 12, 2, and 3 where no field has such a value).
+#![tactic(auto)]
+
 ghost use Rattle.std.specs.Prelude.{◌≡◌};
 ghost use Rattle.sheet_bytes.specs.Class.{class_of};
 ghost use Rattle.sheet_bytes.specs.Code.{with_fault_lem, fault_number, value_with, digit_step, last_digit_lem, space_step, is_complete};
@@ -26,7 +28,7 @@ const BYTE: usize = 4;
 
 // What has been read of a line: how many values before; of the value that is being read how many digits and its number so far; and the
 // gravest fault so far, 0 where there is none.
-#[derive(Drop)]
+#[derive(Clone, Copy)]
 pub struct Part {
     pub count: usize,
     pub digits: usize,
@@ -35,7 +37,7 @@ pub struct Part {
 }
 
 // The line goes on, ends with its last value read, or is refused, with the number of its fault.
-#[derive(Drop)]
+#[derive(Clone, Copy)]
 pub enum Next {
     Goes(Part),
     Ends,

@@ -16,21 +16,21 @@ ghost use Rattle.sheet_grammar.specs.Reader.{
 };
 ghost use Rattle.sheet_expression.specs.Code.{digit_of, num_of, leaf_of, bracket_of, tag_of, letter_of, event_tree, head_of};
 
-#[derive(Drop)]
+#[derive(Clone, Copy)]
 enum Digit {
     Is(u8),
     Nothing,
 }
 
 // A number with the place after it, or the place at which a digit is missing.
-#[derive(Drop)]
+#[derive(Clone, Copy)]
 enum Num {
     Number { value: u8, end: usize },
     Missing(usize),
 }
 
 // An item with no choice in it.
-#[derive(Drop)]
+#[derive(Clone, Copy)]
 pub(crate) enum Leaf {
     End,
     Static { action: u8, resource: u8 },
@@ -39,7 +39,7 @@ pub(crate) enum Leaf {
 }
 
 // What may stand around a choice.
-#[derive(Drop)]
+#[derive(Clone, Copy)]
 pub(crate) enum Bracket {
     Round,
     Loop(u8),
@@ -48,7 +48,7 @@ pub(crate) enum Bracket {
 }
 
 // An item and the place after it; a bracket and its place; or the place at which it goes wrong.
-#[derive(Drop)]
+#[derive(Clone, Copy)]
 pub(crate) enum Head {
     Atom { leaf: Leaf, end: usize },
     Opens { bracket: Bracket, place: usize },
@@ -56,7 +56,7 @@ pub(crate) enum Head {
 }
 
 // Which bracket a letter before a curly bracket makes.
-#[derive(Drop)]
+#[derive(Clone, Copy)]
 enum Tag {
     Loop,
     Fresh,
@@ -64,7 +64,7 @@ enum Tag {
 }
 
 // Which letter stands in an event.
-#[derive(Drop)]
+#[derive(Clone, Copy)]
 enum Letter {
     Static,
     Name,

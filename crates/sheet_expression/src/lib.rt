@@ -1,4 +1,6 @@
 // An outline typed as an expression, read into a lent table of nodes (02, L13).
+#![tactic(auto)]
+
 ghost use Rattle.std.specs.Prelude.{◌≡◌, ◌++◌, ◌≤◌, length, get_or, drop};
 ghost use Rattle.usage.specs.Limits.{node_places, longest_sheet};
 ghost use Rattle.usage.specs.Tables.{nodes_of, from};

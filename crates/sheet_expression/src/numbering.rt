@@ -6,7 +6,7 @@ ghost use Rattle.sheet_expression.specs.Code.{listed_nodes, up_one, moved_a_lem,
 
 use usage::{MOST_NODES, NODE_FIELDS, NODE_TABLE};
 
-#[derive(Drop)]
+#[derive(Clone, Copy)]
 pub(crate) struct NodeList {
     pub table: [u8; NODE_TABLE],
     pub count: usize,

@@ -37,7 +37,7 @@ const SEQUENCE: u8 = 3;
 const CHOICE: u8 = 4;
 
 // What was read up to place `at`, with its nodes; or the number of a refusal, whose place is `at`. The number is 0 where there is none.
-#[derive(Drop)]
+#[derive(Clone, Copy)]
 pub(crate) struct Read {
     pub nodes: NodeList,
     pub at: usize,

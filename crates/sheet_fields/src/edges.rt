@@ -10,7 +10,7 @@ use crate::blocks::BLOCK_EDGES;
 use usage::{EDGE_FIELDS, MOST_EDGES};
 
 // What a test says of edges: whether each is in range, and which policies are pair policies, as a bit set.
-#[derive(Drop)]
+#[derive(Clone, Copy)]
 pub struct Tested {
     pub fits: bool,
     pub pairs: u8,

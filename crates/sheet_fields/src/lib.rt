@@ -1,4 +1,6 @@
 // The ranges of a line's fields (refusal 3).
+#![tactic(auto)]
+
 ghost use Rattle.std.specs.Prelude.{◌≡◌, true, false, ◌&&◌, eqb, length};
 ghost use Rattle.std.proofs.Math.ListN.{get_elem?};
 ghost use Rattle.usage.specs.Limits.{edge_fields, step_fields};
@@ -36,7 +38,7 @@ const LAST_NODE: u32 = NODES - 1;
 const LAST_NAME: u32 = 3;
 
 // Which sheet is read; of policies also which past they see, as the names line says.
-#[derive(Drop)]
+#[derive(Clone, Copy)]
 pub enum Kind {
     Policies { local: bool },
     Trace,
@@ -44,14 +46,14 @@ pub enum Kind {
 }
 
 // The values that a field may hold.
-#[derive(Drop)]
+#[derive(Clone, Copy)]
 struct Span {
     pub least: u32,
     pub most: u32,
 }
 
 // The ranges of the fields a and b of a kind; not known where there is no such kind.
-#[derive(Drop)]
+#[derive(Clone, Copy)]
 struct Spans {
     pub known: bool,
     pub a: Span,

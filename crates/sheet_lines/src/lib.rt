@@ -1,4 +1,6 @@
 // A text of one of the three sheets is read into a buffer of values (document 01, "Sheets"; refusals 5, 1, 4, 13, 11, 12, 2, 3, 14).
+#![tactic(auto)]
+
 ghost use Rattle.std.specs.Prelude.{◌≡◌, [], ◌+◌, ◌≤◌, length, take, drop};
 ghost use Rattle.usage.specs.Limits.{most_steps};
 ghost use Rattle.sheet_bytes.specs.Line.{lines_of};
@@ -22,7 +24,7 @@ pub const LONGEST_SHEET: usize = 32768;
 pub const SHEET_ROOM: usize = LONGEST_SHEET + 1;
 
 // The answer of a reader: how many value lines it stored, or the refusal.
-#[derive(Drop)]
+#[derive(Clone, Copy)]
 pub enum Reading {
     Stored(usize),
     Refused { line: usize, number: u8 },

@@ -1,4 +1,6 @@
 // The three text sheets: policies, trace and outline (document 01, "Sheets").
+#![tactic(auto)]
+
 ghost use Rattle.std.specs.Prelude.{◌≡◌, ◌++◌, ℕ, ◌*◌, ◌<◌, ◌≤◌, length, get_or, drop};
 ghost use Rattle.usage.specs.Limits.{most_edges, most_nodes, most_steps, node_fields, step_fields};
 ghost use Rattle.usage.specs.Tests.{ruled_sheet};
@@ -18,7 +20,7 @@ use usage::{
 };
 
 // The answer of the reader of policies: how many edges it stored and whether their sheet is local, or the refusal.
-#[derive(Drop)]
+#[derive(Clone, Copy)]
 pub enum PolicyReading {
     Stored { edges: usize, local: bool },
     Refused { line: usize, number: u8 },
@@ -119,7 +121,7 @@ fn checked(buffer: &[u32; MOST_VALUES], n: usize) -> Fault
 }
 
 // Which values of each line are stored as bytes: all of an edge's, or of a node's line its number or the others.
-#[derive(Drop)]
+#[derive(Clone, Copy)]
 enum Pick {
     Edges,
     Numbers,

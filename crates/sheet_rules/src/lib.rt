@@ -1,5 +1,7 @@
 // The rules of an outline over a flat table of nodes, three numbers to a node (refusals 9, 6, 7, 8), and the test of a table that is
 // lent (41).
+#![tactic(auto)]
+
 ghost use Rattle.std.specs.Prelude.{◌≡◌};
 ghost use Rattle.usage.specs.Tables.{nodes_of, is_node_table};
 ghost use Rattle.usage.specs.Tests.{every, node_ok, ruled_by};
@@ -13,14 +15,14 @@ mod node_rules;
 mod tree;
 
 // The refusal of a table of nodes.
-#[derive(Drop)]
+#[derive(Clone, Copy)]
 pub enum Fault {
     Clean,
     Refused { line: usize, number: u8 },
 }
 
 // One rule, asked of a node. `Place` is refusal 6 of a sheet, whose lines hold node numbers of their own, and `Tree` that of a table.
-#[derive(Drop)]
+#[derive(Clone, Copy)]
 pub enum Rule {
     Place,
     Tree,

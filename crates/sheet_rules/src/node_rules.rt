@@ -10,7 +10,7 @@ use crate::Rule;
 use usage::NODE_FIELDS;
 
 // The lowest node that breaks a rule.
-#[derive(Drop)]
+#[derive(Clone, Copy)]
 pub(crate) enum Found {
     At(usize),
     Nothing,
@@ -100,7 +100,7 @@ pub(crate) fn lowest(table: &[u8], places: &[u8], rule: Rule) -> Found
 }
 
 // What is sought among the nodes that a node lies inside: a loop by its number, or a fresh node by its name.
-#[derive(Drop)]
+#[derive(Clone, Copy)]
 enum Ancestor {
     Loop,
     Giver,

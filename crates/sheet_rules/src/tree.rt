@@ -71,7 +71,7 @@ pub(crate) fn is_child(nodes: &[u8], p: usize, c: usize) -> bool
 }
 
 // Which fields of a kind are child numbers.
-#[derive(Drop)]
+#[derive(Clone, Copy)]
 struct ChildFields {
     pub a: bool,
     pub b: bool,

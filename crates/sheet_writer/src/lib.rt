@@ -1,5 +1,7 @@
 // A policy sheet written again (02, L12): with its own names line, single spaces, no leading zeros, the edges in rising order and none
 // twice.
+#![tactic(auto)]
+
 ghost use Rattle.std.specs.Prelude.{◌≡◌, length};
 ghost use Rattle.sheet_writer.specs.Writer.{written_into, writing_answer, rewriting_answer, rewritten_in};
 
@@ -11,7 +13,7 @@ mod keys;
 mod text;
 
 // The answer: how many bytes were written, or the refusal.
-#[derive(Drop)]
+#[derive(Clone, Copy)]
 pub enum Writing {
     Written(usize),
     Refused { line: usize, number: u8 },

@@ -29,7 +29,7 @@ const BEYOND_CREATED: u32 = 512 + 30;
 const BEYOND_UNCLOSED: u32 = 512 + 32;
 
 // Where the judge stops along a trace: how many steps it is past, and the code of its answer to the next; 0 where it allows all.
-#[derive(Drop)]
+#[derive(Clone, Copy)]
 pub struct Stop {
     pub past: u64,
     pub code: u32,

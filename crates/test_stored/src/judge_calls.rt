@@ -12,7 +12,7 @@ use monitor_state::PAIR_SETS;
 use usage::{EDGE_FIELDS, MOST_CREATED, MOST_UNCLOSED, POLICIES};
 
 // What a call of the judge answers, and the numbers that it leaves.
-#[derive(Drop)]
+#[derive(Clone, Copy)]
 struct Left {
     pub code: u32,
     pub count: u64,

@@ -12,7 +12,7 @@ use monitor_sets::SETS;
 use monitor_state::PAIR_SETS;
 use usage::{EDGE_FIELDS, MOST_CREATED, MOST_UNCLOSED, POLICIES};
 
-#[derive(Drop)]
+#[derive(Clone, Copy)]
 pub struct Lent {
     pub sets: [u8; SETS],
     pub possible: [u8; POLICIES],
@@ -98,7 +98,7 @@ fn changed(a: Lent, b: Lent) -> u64
 }
 
 // What a call answers, and how many places of the arrays are then not as they were lent.
-#[derive(Drop)]
+#[derive(Clone, Copy)]
 struct Left {
     pub code: u32,
     pub changed: u64,

@@ -1,5 +1,7 @@
 // What is run against the reference program: the stored cases of the programs and of the check with a counterexample, and calls at
 // the borders of the numbers that no sheet can bring about. What is printed is compared with what the reference program printed.
+#![tactic(auto)]
+
 mod borders;
 mod counterexamples;
 mod desk_calls;

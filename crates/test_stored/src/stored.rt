@@ -14,7 +14,7 @@ fn digit(n: u64) -> u8
     (48 + n % 10) as u8
 }
 
-#[derive(Drop)]
+#[derive(Clone, Copy)]
 struct Path {
     pub bytes: [u8; 7],
 }

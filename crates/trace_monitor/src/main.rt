@@ -1,5 +1,7 @@
 // The first program (document 01, "The two programs"): reads `policies.txt` and `trace.txt` in the folder that it is run in, and
 // prints the answer to each step.
+#![tactic(auto)]
+
 use sheet_lines::SHEET_ROOM;
 
 fn main() {

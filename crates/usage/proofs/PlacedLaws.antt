@@ -198,6 +198,15 @@ instance-unseen (same (same none_left)) (pair h) = pair h
 instance-unseen (same (swapped d f none_left)) (pair h) = pair h
 instance-unseen (swapped d f (same none_left)) (pair h) = pair h
 instance-unseen (swapped d f (swapped c g none_left)) (pair h) = pair h
+instance-unseen none_left i = elim i [ ]
+instance-unseen (same (same (same _))) i = elim i [ ]
+instance-unseen (same (same (swapped _ _ _))) i = elim i [ ]
+instance-unseen (same (swapped _ _ (same _))) i = elim i [ ]
+instance-unseen (same (swapped _ _ (swapped _ _ _))) i = elim i [ ]
+instance-unseen (swapped _ _ (same (same _))) i = elim i [ ]
+instance-unseen (swapped _ _ (same (swapped _ _ _))) i = elim i [ ]
+instance-unseen (swapped _ _ (swapped _ _ (same _))) i = elim i [ ]
+instance-unseen (swapped _ _ (swapped _ _ (swapped _ _ _))) i = elim i [ ]
 
 -- Creating r, which never occurred: place n then stands for r, and no other place does any more. The sets with n are those with a place u
 -- that stood for r and only for numbers that never occurred. Where r had a place, another such number, y, has it too.

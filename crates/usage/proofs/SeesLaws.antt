@@ -27,7 +27,7 @@ place-listed [] i r e = absurd (place-nowhere i r e)
 place-listed (x ∷ xs) zero r e = Memᴰ.head (sym (some-injective x r e))
 place-listed (x ∷ xs) (suc i) r e = Memᴰ.tail (place-listed xs i r e)
 
-pub listed-place : {xs : List ℕ} {r : ℕ} → Memᴰ r xs → (i : ℕ) × Place xs i r
+pub listed-place : {r : ℕ} {xs : List ℕ} → Memᴰ r xs → (i : ℕ) × Place xs i r
 listed-place (Memᴰ.head e) = (0, ap {B = Option ℕ} some (sym e))
 listed-place (Memᴰ.tail m) = let (i, e) = listed-place m in (suc i, e)
 
