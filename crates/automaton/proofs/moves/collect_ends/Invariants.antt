@@ -1,0 +1,19 @@
+-- `collect_ends` meets its contract. The invariant: each table holds the ends of the edges before i.
+use Prim.Native.Nat.{ℕ, ◌/◌, ◌-◌, ◌<◌, ◌≤◌}
+use mathlib.Core.Bool.{true, false}
+use mathlib.Core.Path.{◌≡◌, ◌∙◌}
+use native.Mathlib.Omega.{arith}
+use lib.ListN.{length, get_or}
+use Rattle.usage.specs.Limits.{edge_fields}
+use Rattle.usage.specs.Tables.{from, edge_at, edges_of}
+use Rattle.automaton.specs.Code.{edge_ends}
+use Rattle.automaton.proofs.RowLaws.{ends_more, ends-wide}
+use Rattle.automaton.proofs.moves.collect_ends.Given as goal
+
+abbrev pub invariant-loop-i : goal.invariant-loop-i
+invariant-loop-i l =
+    (l.i ≤ l.n) ×
+    ((l.own ≡ edge_ends (from (edge_at l.edges) 0 l.i) l.action l.seen.resource true l.seen.second) × (l.other ≡ edge_ends (from (edge_at l.edges) 0 l.i) l.action l.seen.resource false l.seen.second))
+
+abbrev pub decreases-loop-i : goal.decreases-loop-i
+decreases-loop-i l = l.n - l.i
