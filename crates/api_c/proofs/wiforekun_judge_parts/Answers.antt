@@ -1,0 +1,75 @@
+-- The answer is the definition's, and the arrays hold what it says.
+use mathlib.Core.Path.{sym, ap, ◌∙◌, subst}
+use mathlib.Core.List.{List}
+use lib.ListN.{get_or}
+use mir.Val.{Fits}
+use mir.Syntax.{w32}
+use borrow.Author.Tests.{not-true, not-false}
+use native.Mathlib.Omega.{arith}
+use Prim.Native.Nat.{ℕ, ◌≤◌}
+use Rattle.usage.specs.declared.RawStep.{RawStep}
+use Rattle.usage.proofs.Logic.{by_cases}
+use Rattle.monitor_state.specs.Judge.{judge_of}
+use Rattle.api_c.specs.Codes.{code_of}
+use Rattle.api_c.specs.Parts.{parts_of, most_number, held_in_lem}
+use Rattle.api_c.proofs.PartLaws.{flag-above, highest-above, held-highest, is-held, choice-refused, held-refused, told-verdict}
+use Rattle.api_c.proofs.PartLaws.{refused-left, taken-left, full-refusing}
+use Rattle.api_c.proofs.PastLaws.{owed, refused-owed}
+use borrow.Author.Rules.{rules}
+use Rattle.api_c.proofs.wiforekun_judge_parts.Goals as goal
+
+pub returns-then-local-gt-MOST_CHOICE : goal.returns-then-local-gt-MOST_CHOICE
+returns-then-local-gt-MOST_CHOICE c =
+    let a = c.args in
+    let p = parts_of a.sets.now a.pairs.now a.possible.now a.created.now a.unclosed.now a.order.now a.numbers.now in
+    let e = choice-refused judge_of a.edges.now a.local p (record { kind = a.kind; a = a.a; b = a.b }) c.if-local-gt-MOST_CHOICE.true in
+    refused-owed a.edges.now a.local p _ _ _ e c.code.ensures
+
+pub returns-then-flag-gt1 : goal.returns-then-flag-gt1
+returns-then-flag-gt1 c =
+    let a = c.args in
+    let p = parts_of a.sets.now a.pairs.now a.possible.now a.created.now a.unclosed.now a.order.now a.numbers.now in
+    let h = flag-above p (omega (arith, c.if-flag-gt1.true)) in
+    let e = held-refused judge_of a.edges.now a.local p (record { kind = a.kind; a = a.a; b = a.b }) c.if-local-gt-MOST_CHOICE.false h in
+    refused-owed a.edges.now a.local p _ _ _ e c.no_state.ensures
+
+pub returns-then-highest-gt-MOST_NUMBER : goal.returns-then-highest-gt-MOST_NUMBER
+returns-then-highest-gt-MOST_NUMBER c =
+    let a = c.args in
+    let p = parts_of a.sets.now a.pairs.now a.possible.now a.created.now a.unclosed.now a.order.now a.numbers.now in
+    let h = highest-above p (omega (arith, c.if-flag-gt1.false)) (omega (arith, c.if-highest-gt-MOST_NUMBER.true)) in
+    let e = held-refused judge_of a.edges.now a.local p (record { kind = a.kind; a = a.a; b = a.b })
+    c.if-local-gt-MOST_CHOICE.false h in
+    refused-owed a.edges.now a.local p _ _ _ e c.no_state-then-highest-gt-MOST_NUMBER.ensures
+
+pub overflow_cast-top : goal.overflow_cast-top
+overflow_cast-top c = omega (arith, c.if-highest-gt-MOST_NUMBER.false)
+
+pub returns : goal.returns
+unfolding held_in_lem
+returns c =
+    let a = c.args in
+    let p = parts_of a.sets.now a.pairs.now a.possible.now a.created.now a.unclosed.now a.order.now a.numbers.now in
+    let raw : RawStep = record { kind = a.kind; a = a.a; b = a.b } in
+    let h = is-held p
+    (omega (arith, c.if-flag-gt1.false))
+    (omega (arith, c.if-highest-gt-MOST_NUMBER.false)) in
+    let k = c.if-local-gt-MOST_CHOICE.false in
+    let f = full-refusing a.edges.now a.local p raw in
+    let j = c.judge_lent-t in
+    let r = c.is_refusal in
+    owed a.edges.now a.local p raw _ _
+    (c.code-2.ensures ∙ ap code_of (told-verdict judge_of a.edges.now a.local p raw f k h j.result _ _ _ _ _ _ j.ensures))
+    (by_cases c.if-not-is_refusal.branch
+    (λ w. ap (λ (l : List ℕ). parts_of j.new.1.1.0 j.new.1.1.1.0 j.new.1.1.1.1.0 j.new.1.1.1.1.1.0
+    j.new.1.1.1.1.1.1.0 j.new.1.1.1.1.1.1.1.0 l) w.5
+    ∙ taken-left judge_of a.edges.now a.local p raw f k h j.result _ _ _ _ _ _ j.ensures w.2.result
+    (sym r.ensures ∙ not-true r.result w.0.taken) w.2.ensures)
+    (λ w. ap (λ (l : List ℕ). parts_of j.new.1.1.0 j.new.1.1.1.0 j.new.1.1.1.1.0 j.new.1.1.1.1.1.0
+    j.new.1.1.1.1.1.1.0 j.new.1.1.1.1.1.1.1.0 l) w.1
+    ∙ refused-left judge_of a.edges.now a.local p raw f k h j.result _ _ _ _ _ _
+    j.ensures (sym r.ensures ∙ not-false r.result w.0.left)))
+    (λ held. by_cases c.if-not-is_refusal.branch
+    (λ w. let fits : Fits w32 j.result.sizes.highest = search rules in
+    subst (λ (l : List ℕ). get_or l 3 0 ≤ most_number) (sym w.5) (omega (arith, fits.fits)))
+    (λ w. subst (λ (l : List ℕ). get_or l 3 0 ≤ most_number) (sym w.1) (held-highest p held)))

@@ -1,0 +1,46 @@
+use lib.Dec.{eqb}
+use mathlib.Core.Bool.{Bool, false}
+use mathlib.Core.List.{List}
+use Prim.Native.Nat.{◌*◌, ◌/◌, ℕ, ◌-◌, ◌≤◌}
+use borrow.Author.Tests.{eq-eqb, ne_eqb}
+use Rattle.usage.specs.Tests.{some_below}
+use Rattle.automaton.proofs.MaskLaws.{some_at}
+use Rattle.checker.specs.Code.{has_edge_lem}
+use Rattle.checker_account.proofs.CodeLaws.{none_more}
+use native.Mathlib.Omega.{arith}
+use mathlib.Core.Path.{◌≡◌, refl, sym}
+use lib.ListN.{length, get_or}
+use borrow.Author.Rules.{rules}
+use Rattle.checker.proofs.has_edge.Goals as goal
+use Rattle.checker.proofs.has_edge.Invariants.{test}
+
+pub loop-i-init : goal.loop-i-init
+unfolding some_below
+loop-i-init c = (search rules, refl)
+
+pub overflow_cast-edges : goal.overflow_cast-edges
+overflow_cast-edges c = omega (arith, c.type_inv.edges (6 * c.loop-i.i))
+
+pub returns-then-edges-i : goal.returns-then-edges-i
+unfolding has_edge_lem
+returns-then-edges-i c =
+    let a = c.args in
+    let i = c.loop-i.i in
+    sym (some_at (length a.edges.now / 6) (test a.edges.now a.p) i c.loop-i-test.true
+    (eq-eqb (get_or a.edges.now (6 * i) 0) a.p c.if-edges-i.true))
+
+pub loop-i-preserved : goal.loop-i-preserved
+loop-i-preserved c =
+    let a = c.args in
+    let l = c.loop-i in (
+      search rules,
+      none_more (test a.edges.now a.p) l.i l.invariant.1
+          (ne_eqb (get_or a.edges.now (6 * l.i) 0) a.p c.if-edges-i.false),
+    )
+
+pub returns : goal.returns
+unfolding has_edge_lem
+returns c =
+    let l = c.loop-i in
+    let e : l.i ≡ length c.args.edges.now / 6 = omega arith in
+    sym (rw e at l.invariant.1)

@@ -1,0 +1,14 @@
+use mathlib.Core.Path.{◌≡◌, refl, sym, ◌∙◌, subst}
+use Prim.Native.Nat.{ℕ, ◌-◌, ◌≤◌}
+use native.Mathlib.Omega.{arith}
+use lib.ListN.{length, length-set}
+use Rattle.usage.specs.Limits.{policies}
+use Rattle.checker.proofs.SummaryLaws.{Writing, writing-none, writing_more, writing-all}
+use Rattle.checker.proofs.summary.write.Given as goal
+
+abbrev pub invariant-loop-p : goal.invariant-loop-p
+invariant-loop-p l =
+    (l.p ≤ policies) × ((length l.marks ≡ length l.initial.marks) × Writing l.local l.edges l.nodes l.initial.marks l.p l.marks)
+
+abbrev pub decreases-loop-p : goal.decreases-loop-p
+decreases-loop-p l = policies - l.p

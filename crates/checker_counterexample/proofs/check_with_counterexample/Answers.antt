@@ -1,0 +1,31 @@
+use mathlib.Core.Path.{subst}
+use Rattle.checker.specs.declared.Outcome.{Outcome}
+use Rattle.checker.specs.Promise.{outcome_verdict, CheckPromise}
+use Rattle.checker_counterexample.specs.Explained.{Explained}
+use Rattle.checker_counterexample.proofs.ExplainedLaws.{named-explained}
+use Rattle.checker_counterexample.proofs.check_with_counterexample.Reads as reads
+use Rattle.checker.proofs.check.Reads as check-reads
+use Rattle.checker_counterexample.proofs.named.Reads as named-reads
+use Rattle.checker_counterexample.proofs.check_with_counterexample.Goals as goal
+
+pub returns-then-trace-lt-MOST_NUMBERS : goal.returns-then-trace-lt-MOST_NUMBERS
+returns-then-trace-lt-MOST_NUMBERS c = Explained.too_small c.if-trace-lt-MOST_NUMBERS.true
+
+pub returns-in-Accepted : goal.returns-in-Accepted
+returns-in-Accepted c = let a = c.args in
+    Explained.accepted c.if-trace-lt-MOST_NUMBERS.false
+    (subst (λ (o : Outcome). CheckPromise a.local a.edges.now a.nodes.now (outcome_verdict o)) c.in-Accepted.is
+    c.check-o.ensures)
+
+pub returns-in-Named : goal.returns-in-Named
+returns-in-Named c = let a = c.args in
+    named-explained c.if-trace-lt-MOST_NUMBERS.false
+    (subst (λ (o : Outcome). CheckPromise a.local a.edges.now a.nodes.now (outcome_verdict o))
+    c.in-Named.is c.check-o.ensures)
+    c.named.ensures
+
+pub returns-in-Refused : goal.returns-in-Refused
+returns-in-Refused c = let a = c.args in
+    Explained.refused_with c.if-trace-lt-MOST_NUMBERS.false
+    (subst (λ (o : Outcome). CheckPromise a.local a.edges.now a.nodes.now (outcome_verdict o)) c.in-Refused.is
+    c.check-o.ensures)

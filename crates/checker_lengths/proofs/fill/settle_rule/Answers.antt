@@ -1,0 +1,31 @@
+use mathlib.Core.Path.{◌≡◌, sym, subst, ◌∙◌}
+use Rattle.usage.proofs.Logic.{by_cases}
+use Rattle.outline_nodes.specs.declared.NodeForm.{NodeForm}
+use Rattle.outline_nodes.specs.Said.{said_by}
+use Rattle.checker_lengths.specs.Code.{Pass}
+use Rattle.checker_lengths.specs.Filling.{RuleSettled}
+use Rattle.checker_lengths.proofs.fill.settle_rule.Reads as reads
+use Rattle.checker_lengths.proofs.fill.settle_aims.Reads as settle-aims-reads
+use Rattle.checker_lengths.proofs.fill.settle_sequence.Reads as settle-sequence-reads
+use borrow.Author.Rules.{rules}
+use Rattle.checker_lengths.proofs.fill.settle_rule.Goals as goal
+
+pub settle_sequence-requires : goal.settle_sequence-requires
+settle_sequence-requires c =
+    let p = c.requires in
+    record { t_len = search rules; s_value = p.s_value; c_lt_at_break = c.if-c-lt-BROKEN.true; fact = c.if-first-s.true }
+
+pub returns-then-first-s : goal.returns-then-first-s
+returns-then-first-s c =
+    let a = c.args in
+    let r = c.settle_sequence in
+    rw c.in-Sequence.is (r.ensures a.w a.rows.now)
+
+pub returns : goal.returns
+returns c =
+    let a = c.args in
+    let r = c.settle_aims in
+    let same : c.if-c-lt-BROKEN.f ≡ a.f =
+    by_cases c.if-c-lt-BROKEN.branch (λ w. w.6 ∙ sym w.2.given.1) (λ v. by_cases v (λ w. w.2) (λ w. w.1)) in
+    subst (λ (f : NodeForm). Pass a.w a.rows.now a.s.node (said_by f)
+    (λ u. RuleSettled a.w a.rows.now (said_by f) u a.s a.c) a.t.now r.new.0 r.result) same r.ensures

@@ -1,0 +1,39 @@
+use mathlib.Core.Logic.{inl, inr}
+use borrow.Author.Count.{below_more}
+use Rattle.outline_nodes.specs.Said.{said_by}
+use Rattle.usage.proofs.Logic.{by_cases}
+use Rattle.checker_lengths.specs.Code.{Pass}
+use Rattle.checker_lengths.specs.Filling.{RuleSettled}
+use Rattle.checker_lengths.proofs.PassLaws.{pass-then, pass-none, pass-map, rule-lasts}
+use native.Mathlib.Omega.{arith}
+use mathlib.Core.Path.{◌∙◌}
+use Prim.Native.Nat.{ℕ, ◌-◌, ◌≤◌, ◌<◌}
+use Rattle.checker_lengths.proofs.fill.settle_start.Reads as reads
+use Rattle.checker_lengths.proofs.fill.settle_rule.Reads as settle-rule-reads
+use Rattle.checker_lengths.proofs.offers.ways.Reads as ways-reads
+use borrow.Author.Rules.{rules}
+use Rattle.checker_lengths.proofs.fill.settle_start.Goals as goal
+
+pub loop-c-init : goal.loop-c-init
+loop-c-init c = (search rules, pass-none (λ j k. absurd (omega arith)))
+
+pub settle_rule-requires : goal.settle_rule-requires
+settle_rule-requires c = record { t_len = c.loop-c.invariant.1.same_size ∙ c.requires.t_len; s_value = c.requires.s_value }
+
+pub loop-c-preserved : goal.loop-c-preserved
+loop-c-preserved c =
+    let a = c.args in
+    let l = c.loop-c in
+    let k = c.loop-c-test.true in
+    let f = said_by a.f in (
+      omega arith,
+      pass-then
+          (λ u x y. below_more (λ (j : ℕ). RuleSettled a.w a.rows.now f u a.s j) l.c x y)
+          (λ z g h j b. rule-lasts a.w a.rows.now a.s.node f z g a.s j (h j b))
+          l.invariant.1 c.settle_rule.ensures
+          (by_cases c.if-settle_rule.branch (λ u. inl (u.0.taken, u.1)) (λ u. inr (u.0.left, u.1))),
+    )
+
+pub returns : goal.returns
+returns c = let l = c.loop-c in let e = c.ways-n.ensures in
+    pass-map (λ _ h j k. h j (omega arith)) l.invariant.1

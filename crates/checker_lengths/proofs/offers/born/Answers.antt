@@ -1,0 +1,13 @@
+use Rattle.checker_lengths.proofs.OfferLaws as laws
+use Rattle.usage.proofs.Logic.{by_cases}
+use mathlib.Core.Logic.{inl, inr}
+use mathlib.Core.Path.{◌∙◌}
+use Rattle.checker_lengths.proofs.offers.born.Reads as reads
+use Rattle.checker_lengths.proofs.offers.moved.Reads as moved-reads
+use Rattle.checker_lengths.proofs.offers.born.Goals as goal
+
+pub returns-then-e-gt0 : goal.returns-then-e-gt0
+returns-then-e-gt0 c = laws.born-none _ _ _ c.if-own.true c.if-e-gt0.true
+
+pub returns : goal.returns
+returns c = c.moved.ensures ∙ laws.born-some _ _ _ (by_cases c.if-own.branch (λ w. inl w.2.left) (λ w. inr w.left))

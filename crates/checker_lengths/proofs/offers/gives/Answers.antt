@@ -1,0 +1,42 @@
+use Prim.Native.Nat.{ℕ, ◌%◌}
+use mathlib.Core.Path.{sym, ap, ◌∙◌}
+use native.Mathlib.Omega.{arith}
+use borrow.Author.Tests.{leb-false}
+use Rattle.usage.specs.Limits.{most_shown}
+use Rattle.usage.proofs.Logic.{false-true}
+use Rattle.automaton.specs.Mask.{has}
+use Rattle.checker_lengths.specs.Entries.{all_lengths, held}
+use Rattle.checker_lengths.specs.Offers as spec
+use Rattle.checker_lengths.proofs.OfferLaws as laws
+use Rattle.checker_lengths.proofs.offers.gives.Reads as reads
+use Rattle.checker_lengths.proofs.entries.get.Reads as get-reads
+use Rattle.checker_lengths.proofs.offers.born.Reads as born-reads
+use Rattle.checker_lengths.proofs.offers.first.Reads as first_reads
+use Rattle.checker_lengths.proofs.offers.has.Reads as has-reads
+use Rattle.checker_lengths.proofs.offers.gives.Goals as goal
+
+pub returns-then-c-ge-BROKEN : goal.returns-then-c-ge-BROKEN
+returns-then-c-ge-BROKEN c = λ e. false-true (sym e)
+
+pub returns-in-Sequence : goal.returns-in-Sequence
+unfolding spec.offer_of
+returns-in-Sequence c = λ g w i.
+    let a = c.args in
+    let look = held a.t.now all_lengths in
+    let s = spec.toward a.s i in
+    let v = c.get.ensures ∙ ap look c.first.ensures in
+    let l = leb-false c.get.result most_shown g in
+    rw c.in-Sequence.is (sym (laws.sequence-dead look s c.in-Sequence.a c.in-Sequence.second a.c c.if-c-ge-BROKEN.false
+    (omega (arith, v))))
+
+pub returns-in-Fresh : goal.returns-in-Fresh
+unfolding spec.offer_of spec.born spec.moved
+returns-in-Fresh c = λ g w i.
+    let a = c.args in
+    let look = held a.t.now all_lengths in
+    let s = spec.toward a.s i in
+    rw c.in-Fresh.is (sym (laws.fresh-dead a.rows.now look s c.in-Fresh.name c.in-Fresh.body a.c c.if-c-ge-BROKEN.false
+    (sym (ap (λ (v : ℕ). has v (a.c % 8)) c.born.ensures) ∙ sym c.has.ensures ∙ g)))
+
+pub returns-in_default : goal.returns-in_default
+returns-in_default c = λ e. false-true (sym e)

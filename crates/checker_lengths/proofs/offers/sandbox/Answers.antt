@@ -1,0 +1,40 @@
+use Rattle.checker_lengths.specs.Entries.{held, plus}
+use mathlib.Core.Bool.{Bool, cond}
+use mathlib.Core.Path.{ap₂}
+use Rattle.checker_lengths.proofs.OfferLaws as laws
+use Rattle.usage.proofs.Logic.{by_cases}
+use borrow.Author.Tests.{eq-eqb, ne_eqb}
+use mathlib.Core.Bool.{false}
+use mathlib.Core.Path.{sym, ap, ◌∙◌}
+use Rattle.checker_lengths.proofs.offers.sandbox.Reads as reads
+use Rattle.checker_lengths.proofs.entries.get.Reads as get-reads
+use Rattle.checker_lengths.proofs.entries.plus.Reads as plus-reads
+use Rattle.checker_lengths.proofs.offers.inner.Reads as inner-reads
+use Rattle.checker_lengths.proofs.offers.reopened.Reads as reopened-reads
+use Rattle.checker_lengths.proofs.offers.sandbox.Goals as goal
+
+pub returns-then-c-eq0 : goal.returns-then-c-eq0
+returns-then-c-eq0 c = let a = c.args in let look = held a.t.now a.most in
+    c.plus.ensures
+    ∙ ap₂ plus (by_cases c.if-e-eq-BROKEN.branch
+    (λ u. u.1 ∙ sym (ap (λ (b : Bool). cond b 1 2) (eq-eqb a.e.aim 16 u.0.taken)))
+    (λ u. u.1 ∙ sym (ap (λ (b : Bool). cond b 1 2) (ne_eqb a.e.aim 16 u.0.left))))
+    (c.get.ensures ∙ ap look c.inner.ensures)
+    ∙ laws.sandbox-on a.w look a.e a.s a.b a.c c.if-c-eq0.true
+
+pub returns-then-e-ne-BROKEN : goal.returns-then-e-ne-BROKEN
+returns-then-e-ne-BROKEN c = laws.sandbox-breaks _ _ _ _ _ _ false c.if-c-eq0.false (simp (ne_eqb _ _ c.if-e-ne-BROKEN.true))
+
+pub returns-then-s-w : goal.returns-then-s-w
+returns-then-s-w c = laws.sandbox-breaks _ _ _ _ _ _ false c.if-c-eq0.false
+    (simp (eq-eqb _ _ c.if-e-ne-BROKEN.false, ne_eqb _ _ c.if-s-w.true))
+
+pub returns-then-reopened-ge6 : goal.returns-then-reopened-ge6
+returns-then-reopened-ge6 c = let a = c.args in let look = held a.t.now a.most in
+    laws.sandbox-hits a.w look a.e a.s a.b a.c _ c.if-c-eq0.false
+    c.if-e-ne-BROKEN.false c.if-s-w.false c.reopened.ensures c.if-reopened-ge6.true
+
+pub returns-else-reopened-ge6 : goal.returns-else-reopened-ge6
+returns-else-reopened-ge6 c = let a = c.args in let look = held a.t.now a.most in
+    laws.sandbox-safe a.w look a.e a.s a.b a.c _ c.if-c-eq0.false
+    c.if-e-ne-BROKEN.false c.if-s-w.false c.reopened.ensures c.if-reopened-ge6.false

@@ -1,0 +1,31 @@
+use native.Mathlib.Omega.{arith}
+use mathlib.Core.Path.{◌≡◌, refl, sym, ap, ◌∙◌}
+use Prim.Native.Nat.{ℕ, ◌-◌, ◌≤◌, ◌/◌}
+use lib.ListN.{length, replicate}
+use mathlib.Core.Bool.{Bool}
+use mathlib.Core.List.{List}
+use Rattle.usage.specs.Limits.{most_nodes, node_fields}
+use mathlib.Core.Option.{Option}
+use Rattle.usage.specs.Outline.{Form}
+use Rattle.outline_nodes.proofs.SaidLaws.{form-at}
+use Rattle.usage.specs.Tables.{edges_of}
+use Rattle.automaton.specs.Move.{rows_at}
+use Rattle.checker_account.specs.Filling.{repeat, forms_in}
+use Rattle.checker_account.specs.RowTable.{node_rows, fill_rows}
+use Rattle.checker_account.proofs.GrowsLaws.{repeat-more}
+use Rattle.checker_account.proofs.RowTableLaws.{filled-length}
+use Rattle.checker_rows.proofs.WholeLaws.{whole_in, no-policy, no_room}
+use Rattle.checker_rows.proofs.fill.Reads as reads
+use Rattle.outline_nodes.proofs.form.Reads as form-reads
+use Rattle.checker_rows.proofs.of_node.Reads as of-node-reads
+use Rattle.checker_account.specs.Tables.{places}
+use Rattle.checker_rows.proofs.fill.Given as goal
+
+abbrev pub steps : List ℕ → List ℕ → ℕ → Bool → ℕ → List ℕ → List ℕ
+steps edges nodes p pair k = node_rows (rows_at (edges_of edges)) pair p k (forms_in nodes k)
+
+abbrev pub invariant-loop-k : goal.invariant-loop-k
+invariant-loop-k l = (l.k ≤ l.n) × (l.rows ≡ repeat (steps l.edges l.nodes l.p l.pair) l.k (replicate places 0))
+
+abbrev pub decreases-loop-k : goal.decreases-loop-k
+decreases-loop-k l = l.n - l.k

@@ -1,0 +1,18 @@
+use native.Mathlib.Omega.{arith}
+use mathlib.Core.Path.{◌≡◌, refl, sym, ap, ◌∙◌}
+use Prim.Native.Nat.{ℕ, suc, ◌+◌, ◌-◌, ◌*◌, ◌≤◌, ◌<◌}
+use Rattle.usage.specs.Limits.{states}
+use Rattle.checker_account.specs.Filling.{repeat}
+use Rattle.checker_account.specs.RowTable.{store_row, rows_stored}
+use Rattle.checker_account.proofs.GrowsLaws.{repeat-more}
+use lib.ListN.{length, get_or, take, drop, set}
+use native.Mathlib.Numerals.{add-one}
+use Rattle.checker_account.specs.Tables.{row_at}
+use Rattle.checker_rows.proofs.store.Reads as reads
+use Rattle.checker_rows.proofs.store.Given as goal
+
+abbrev pub invariant-loop-q : goal.invariant-loop-q
+invariant-loop-q l = (l.q ≤ states) × (l.rows ≡ repeat (store_row l.k l.way l.p l.own l.other) l.q l.initial.rows)
+
+abbrev pub decreases-loop-q : goal.decreases-loop-q
+decreases-loop-q l = states - l.q

@@ -1,0 +1,47 @@
+use mathlib.Core.Path.{◌≡◌, refl, sym, ap, ap₂, ◌∙◌, subst}
+use mathlib.Core.Bool.{Bool, true, false, not, ◌&&◌, ◌||◌, cond}
+use mathlib.Core.List.{List, [], ◌∷◌}
+use Prim.Native.Nat.{ℕ, suc, ◌+◌, ◌-◌, ◌*◌, ◌/◌, ◌%◌, ◌<◌, ◌≤◌}
+use native.Mathlib.Omega.{arith}
+use lib.ListN.{length, get_or, replicate}
+use Rattle.checker_account.specs.declared.Arrival.{Arrival}
+use Rattle.checker_account.specs.Tables.{◌by◌by◌with◌}
+use Rattle.checker_tables.proofs.EnterLaws.{enters-both, enters-length, enters-as, room_as, room_in}
+use Rattle.checker_account.specs.Tables.{group_in, late_group, waiting_group, in_group_lem, meaning_in, halves, second_arrivals, fresh_arrivals}
+use Rattle.checker_account.specs.Tables.{forgotten_in, first_named_lem, second_named_lem, begun, over, row_on, rows_in, first_created_lem, waits}
+use Rattle.checker_account.specs.Account.{others, watched, watched_too}
+use Rattle.checker_account.proofs.EntryLaws.{meaning-lt, group-numbered}
+use Rattle.checker_tables.specs.Search.{first_arrivals, Enters}
+use Rattle.checker_tables.proofs.arrivals.enter_late.Reads as reads
+use Rattle.checker_tables.proofs.arrivals.enter_halves.Reads as enter-halves-reads
+use Rattle.checker_tables.proofs.ends.begun.Reads as begun-reads
+use Rattle.checker_tables.proofs.numbers.in_group.Reads as in-group-reads
+use Rattle.checker_tables.proofs.arrivals.enter_late.Goals as goal
+
+pub begun-requires : goal.begun-requires
+begun-requires c =
+    let p = c.requires in
+    let c' = c.args.from.meaning in
+    let f : group_in c.in_group-late.result ≡ late_group = ap group_in c.in_group-late.ensures ∙ group-numbered (meaning_in c') late_group (meaning-lt c') in
+    record { k_lt_most_nodes = p.a_lt_most_nodes; e_bound = omega (arith, f); e_in_bounds = omega (arith, f, p.late_group_in_bounds) }
+
+pub enter_halves-requires : goal.enter_halves-requires
+enter_halves-requires c =
+    let p = c.requires in
+    let c' = c.args.from.meaning in
+    let f : group_in c.in_group.result ≡ 0 = ap group_in c.in_group.ensures ∙ group-numbered (meaning_in c') 0 (meaning-lt c') in
+    record { to_lt_most_nodes = p.b_lt_most_nodes; meaning_bound = omega (arith, f); meaning_in_bounds = omega (arith, f, p.meaning_in_bounds) }
+
+pub shape_of-u : goal.shape_of-u
+shape_of-u c =
+    let a = c.args in
+    enters-length (halves a.b a.from.opened c.in_group.result c.begun.result []) a.u.now c.enter_halves.new.0
+    c.enter_halves.result c.enter_halves.ensures
+
+pub returns : goal.returns
+returns c =
+    let a = c.args in
+    let h = c.enter_halves in
+    let v = c.begun.ensures ∙ ap (λ (e : ℕ). begun a.t.now a.a e a.from.states) c.in_group-late.ensures in
+    subst (λ (gs : List Arrival). Enters gs a.u.now h.new.0 h.result)
+    (ap₂ (λ (e s : ℕ). halves a.b a.from.opened e s []) c.in_group.ensures v) h.ensures

@@ -1,0 +1,82 @@
+use mathlib.Core.Path.{◌≡◌, refl, sym, ap, ap₂, ◌∙◌, subst}
+use mathlib.Core.Bool.{Bool, true, false, not, ◌&&◌, ◌||◌, cond}
+use mathlib.Core.List.{List, [], ◌∷◌}
+use Prim.Native.Nat.{ℕ, suc, ◌+◌, ◌-◌, ◌*◌, ◌/◌, ◌%◌, ◌<◌, ◌≤◌}
+use native.Mathlib.Omega.{arith}
+use lib.ListN.{length, get_or, replicate}
+use Rattle.checker_account.specs.declared.Arrival.{Arrival}
+use Rattle.checker_account.specs.Tables.{◌by◌by◌with◌}
+use Rattle.checker_tables.proofs.EnterLaws.{enters-both, enters-length, enters-as, room_as, room_in}
+use Rattle.checker_account.specs.Tables.{group_in, late_group, waiting_group, in_group_lem, meaning_in, halves, second_arrivals, fresh_arrivals}
+use Rattle.checker_account.specs.Tables.{forgotten_in, first_named_lem, second_named_lem, begun, over, row_on, rows_in, first_created_lem, waits}
+use Rattle.checker_account.specs.Account.{others, watched, watched_too}
+use Rattle.checker_account.proofs.EntryLaws.{meaning-lt, group-numbered}
+use Rattle.checker_tables.specs.Search.{first_arrivals, Enters}
+use Rattle.checker_tables.proofs.arrivals.enter_second.Reads as reads
+use Rattle.checker_tables.proofs.arrivals.enter_halves.Reads as enter-halves-reads
+use Rattle.checker_tables.proofs.arrivals.enter_late.Reads as enter-late-reads
+use Rattle.checker_tables.proofs.ends.begun.Reads as begun-reads
+use Rattle.checker_tables.proofs.numbers.waits.Reads as waits-reads
+use Rattle.checker_tables.proofs.arrivals.enter_second.Goals as goal
+
+pub begun-requires : goal.begun-requires
+begun-requires c =
+    let p = c.requires in record { k_lt_most_nodes = p.a_lt_most_nodes; e_bound = p.meaning_bound; e_in_bounds = p.meaning_in_bounds_2 }
+
+pub enter_halves-new-requires : goal.enter_halves-new-requires
+enter_halves-new-requires c =
+    let p = c.requires in record { to_lt_most_nodes = p.b_lt_most_nodes; meaning_bound = p.meaning_bound; meaning_in_bounds = p.meaning_in_bounds }
+
+pub enter_late-late-requires : goal.enter_late-late-requires
+enter_late-late-requires c =
+    let a = c.args in
+    let p = c.requires in
+    let h = c.enter_halves-new in
+    let l = enters-length (halves a.b a.from.opened a.from.meaning c.begun.result []) a.u.now h.new.0 h.result
+    h.ensures in
+    record { a_lt_most_nodes = p.a_lt_most_nodes; b_lt_most_nodes = p.b_lt_most_nodes; meaning_bound = p.meaning_bound; meaning_in_bounds = omega (arith, l, p.meaning_in_bounds); late_group_in_bounds = p.late_group_in_bounds (sym c.waits.ensures ∙ c.if-waits.true) }
+
+pub shape_of-u-then-waits : goal.shape_of-u-then-waits
+shape_of-u-then-waits c =
+    let a = c.args in
+    let h = c.enter_halves-new in
+    let d = c.enter_late-late in
+    enters-length (halves a.b a.from.opened (in_group_lem 0 a.from.meaning) (begun a.t.now a.a (in_group_lem late_group a.from.meaning)
+    a.from.states) []) h.new.0 d.new.0 d.result d.ensures
+    ∙ enters-length (halves a.b a.from.opened a.from.meaning c.begun.result []) a.u.now h.new.0 h.result
+    h.ensures
+
+pub returns-then-waits : goal.returns-then-waits
+unfolding second_arrivals
+returns-then-waits c =
+    let a = c.args in
+    let g = a.from in
+    let h = c.enter_halves-new in
+    let d = c.enter_late-late in
+    let late = halves a.b g.opened (in_group_lem 0 g.meaning) (begun a.t.now a.a (in_group_lem late_group g.meaning) g.states) [] in
+    let first : Enters (halves a.b g.opened g.meaning (begun a.t.now a.a g.meaning g.states) []) a.u.now h.new.0
+    h.result =
+    subst (λ (v : ℕ). Enters (halves a.b g.opened g.meaning v []) a.u.now h.new.0 h.result) c.begun.ensures h.ensures in
+    subst (λ (w : Bool). Enters (halves a.b g.opened g.meaning (begun a.t.now a.a g.meaning g.states) (cond w late []))
+    a.u.now d.new.0 (h.result || d.result)) (sym c.if-waits.true ∙ c.waits.ensures)
+    (enters-both (halves a.b g.opened g.meaning (begun a.t.now a.a g.meaning g.states) []) late a.u.now h.new.0
+    d.new.0 h.result d.result first d.ensures)
+
+pub shape_of-u : goal.shape_of-u
+shape_of-u c =
+    let a = c.args in
+    let h = c.enter_halves-new in
+    enters-length (halves a.b a.from.opened a.from.meaning c.begun.result []) a.u.now h.new.0 h.result
+    h.ensures
+
+pub returns : goal.returns
+unfolding second_arrivals
+returns c =
+    let a = c.args in
+    let g = a.from in
+    let h = c.enter_halves-new in
+    let late = halves a.b g.opened (in_group_lem 0 g.meaning) (begun a.t.now a.a (in_group_lem late_group g.meaning) g.states) [] in
+    subst (λ (w : Bool). Enters (halves a.b g.opened g.meaning (begun a.t.now a.a g.meaning g.states) (cond w late []))
+    a.u.now h.new.0 h.result) (sym c.if-waits.false ∙ c.waits.ensures)
+    (subst (λ (v : ℕ). Enters (halves a.b g.opened g.meaning v []) a.u.now h.new.0 h.result) c.begun.ensures
+    h.ensures)

@@ -1,0 +1,124 @@
+use mathlib.Core.Path.{◌≡◌, refl, sym, ap, ap₂, ◌∙◌, subst}
+use mathlib.Core.Bool.{Bool, true, false, not, ◌&&◌, ◌||◌, cond}
+use mathlib.Core.List.{List, [], ◌∷◌}
+use Prim.Native.Nat.{ℕ, suc, ◌+◌, ◌-◌, ◌*◌, ◌/◌, ◌%◌, ◌<◌, ◌≤◌}
+use native.Mathlib.Omega.{arith}
+use lib.ListN.{length, get_or, replicate}
+use Rattle.checker_account.specs.declared.Arrival.{Arrival}
+use Rattle.checker_account.specs.Tables.{◌by◌by◌with◌}
+use Rattle.checker_tables.proofs.EnterLaws.{enters-both, enters-length, enters-as, room_as, room_in}
+use Rattle.checker_account.specs.Tables.{rows_in, arrivals}
+use Rattle.checker_account.specs.Filling.{entered}
+use Rattle.checker_account.proofs.GrowsLaws.{grown-self}
+use Rattle.checker_tables.proofs.OtherLaws.{no-arrivals}
+use Rattle.checker_tables.proofs.arrivals.pass_by.Reads as reads
+use Rattle.checker_tables.proofs.arrivals.enter.Reads as enter-reads
+use Rattle.checker_tables.proofs.arrivals.enter_two.Reads as enter-two-reads
+use Rattle.checker_tables.proofs.arrivals.onto.Reads as onto-reads
+use Rattle.checker_tables.proofs.arrivals.pass_fresh.Reads as pass-fresh-reads
+use Rattle.checker_tables.proofs.arrivals.pass_sandbox.Reads as pass-sandbox-reads
+use Rattle.checker_tables.proofs.arrivals.pass_sequence.Reads as pass-sequence-reads
+use Rattle.checker_tables.proofs.arrivals.pass_by.Goals as goal
+
+pub pass_sequence-requires : goal.pass_sequence-requires
+pass_sequence-requires c =
+    let p = c.requires in
+    let s = rw c.in-Sequence.is at p.small in
+    (s.0, (s.1, p.1.1))
+
+pub enter_two-requires : goal.enter_two-requires
+enter_two-requires c =
+    let p = c.requires in
+    let s = rw c.in-Choice.is at p.small in
+    record { a_lt_most_nodes = s.0; b_lt_most_nodes = s.1; meaning_bound = p.meaning_bound; meaning_in_bounds = p.meaning_in_bounds }
+
+pub enter-requires : goal.enter-requires
+enter-requires c =
+    let p = c.requires in
+    let s = rw c.in-Loop.is at p.small in
+    room_as _ c.onto.result _ c.onto.ensures (record { to_lt_most_nodes = s; meaning_bound = p.meaning_bound; meaning_in_bounds = p.meaning_in_bounds })
+
+pub enter-requires-in-Back : goal.enter-requires-in-Back
+enter-requires-in-Back c =
+    let p = c.requires in
+    let s = rw c.in-Back.is at p.small in
+    room_as _ c.onto-in-Back.result _ c.onto-in-Back.ensures (record { to_lt_most_nodes = s; meaning_bound = p.meaning_bound; meaning_in_bounds = p.meaning_in_bounds })
+
+pub pass_fresh-requires : goal.pass_fresh-requires
+pass_fresh-requires c =
+    let p = c.requires in
+    let s = rw c.in-Fresh.is at p.small in
+    record { n_lt_no_name = s.0; b_lt_most_nodes = s.1; to_lt_most_nodes = p.to_lt_most_nodes; meaning_bound = p.meaning_bound; meaning_in_bounds = p.meaning_in_bounds }
+
+pub pass_sandbox-requires : goal.pass_sandbox-requires
+pass_sandbox-requires c =
+    let p = c.requires in
+    let s = rw c.in-Sandbox.is at p.small in
+    record { b_lt_most_nodes = s; meaning_bound = p.meaning_bound; meaning_in_bounds = p.meaning_in_bounds }
+
+pub shape_of-u-in-Sequence : goal.shape_of-u-in-Sequence
+shape_of-u-in-Sequence c =
+    enters-length _ c.args.u.now c.pass_sequence.new.0 c.pass_sequence.result c.pass_sequence.ensures
+
+pub returns-in-Sequence : goal.returns-in-Sequence
+unfolding arrivals
+returns-in-Sequence c =
+    rw c.in-Sequence.is c.pass_sequence.ensures
+
+pub shape_of-u-in-Choice : goal.shape_of-u-in-Choice
+shape_of-u-in-Choice c =
+    enters-length _ c.args.u.now c.enter_two.new.0 c.enter_two.result c.enter_two.ensures
+
+pub returns-in-Choice : goal.returns-in-Choice
+unfolding arrivals
+returns-in-Choice c =
+    rw c.in-Choice.is c.enter_two.ensures
+
+pub shape_of-u-in-Loop : goal.shape_of-u-in-Loop
+shape_of-u-in-Loop c =
+    enters-length _ c.args.u.now c.enter.new.0 c.enter.result c.enter.ensures
+
+pub returns-in-Loop : goal.returns-in-Loop
+unfolding arrivals
+returns-in-Loop c =
+    let u = c.args.u.now in
+    rw c.in-Loop.is
+    (enters-as c.onto.result _ u c.enter.new.0 c.enter.result c.onto.ensures c.enter.ensures)
+
+pub shape_of-u-in-Back : goal.shape_of-u-in-Back
+shape_of-u-in-Back c =
+    enters-length _ c.args.u.now c.enter-in-Back.new.0 c.enter-in-Back.result c.enter-in-Back.ensures
+
+pub returns-in-Back : goal.returns-in-Back
+unfolding arrivals
+returns-in-Back c =
+    let u = c.args.u.now in
+    rw c.in-Back.is
+    (enters-as c.onto-in-Back.result _ u c.enter-in-Back.new.0 c.enter-in-Back.result c.onto-in-Back.ensures c.enter-in-Back.ensures)
+
+pub shape_of-u-in-Fresh : goal.shape_of-u-in-Fresh
+shape_of-u-in-Fresh c =
+    enters-length _ c.args.u.now c.pass_fresh.new.0 c.pass_fresh.result c.pass_fresh.ensures
+
+pub returns-in-Fresh : goal.returns-in-Fresh
+unfolding arrivals
+returns-in-Fresh c =
+    rw c.in-Fresh.is c.pass_fresh.ensures
+
+pub shape_of-u-in-Sandbox : goal.shape_of-u-in-Sandbox
+shape_of-u-in-Sandbox c =
+    enters-length _ c.args.u.now c.pass_sandbox.new.0 c.pass_sandbox.result c.pass_sandbox.ensures
+
+pub returns-in-Sandbox : goal.returns-in-Sandbox
+unfolding arrivals
+returns-in-Sandbox c =
+    rw c.in-Sandbox.is c.pass_sandbox.ensures
+
+pub returns-in_default : goal.returns-in_default
+unfolding entered
+returns-in_default c =
+    let a = c.args in
+    let g = a.from in
+    let e = no-arrivals a.w.local (rows_in a.rows.now) a.w.policy a.w.resources a.t.now g.to g.opened g.meaning g.states
+    a.f c.in-Sequence.keys7 in
+    (sym (ap (λ (gs : List Arrival). entered gs a.u.now) e), (sym (grown-self a.u.now), λ w. w))

@@ -1,0 +1,52 @@
+use native.Mathlib.Omega.{arith}
+use mathlib.Core.Path.{◌≡◌, refl, sym, ◌∙◌}
+use mathlib.Core.List.{List}
+use Prim.Native.Nat.{ℕ, ◌+◌, ◌-◌, ◌≤◌}
+use lib.ListN.{get_or}
+use Rattle.usage.specs.Limits.{states}
+use Rattle.checker_account.specs.Tables.{joined_at}
+use Rattle.checker_account.specs.Filling.{repeat, grown, joined_each}
+use Rattle.checker_account.proofs.GrowsLaws.{Grows, joined-grows, grown-self, repeat-length, turn}
+use Rattle.checker_tables.proofs.ends.join_sets.Reads as reads
+use Rattle.checker_tables.proofs.join.Reads as join-reads
+use borrow.Author.Rules.{rules}
+use Rattle.checker_tables.proofs.ends.join_sets.Goals as goal
+use Rattle.checker_tables.proofs.ends.join_sets.Invariants.{steps}
+
+steps-grow : (i : ℕ) (v : List ℕ) (q : ℕ) (u : List ℕ) → Grows u (steps i v q u)
+steps-grow i v q u = joined-grows u (i + q) (get_or v q 0)
+
+pub loop-q-init : goal.loop-q-init
+unfolding repeat
+loop-q-init c = (search rules, (refl, sym (grown-self c.args.t.now)))
+
+pub join-changed-requires : goal.join-changed-requires
+join-changed-requires c =
+    let a = c.args in
+    let l = c.loop-q in
+    let h = c.loop-q-test.true in
+    let p = c.requires in
+    let e = repeat-length (steps a.i a.t3) (steps-grow a.i a.t3) l.q a.t.now l.t l.invariant.1.0 in
+    omega (arith, p, e)
+
+pub loop-q-preserved : goal.loop-q-preserved
+loop-q-preserved c =
+    let a = c.args in
+    let l = c.loop-q in
+    let j = c.join-changed in
+    let made = turn (steps a.i a.t3) (steps-grow a.i a.t3) l.q a.t.now l.t j.new.0 l.changed
+    j.result l.invariant.1 j.ensures.t_after j.ensures.value in
+    (search rules, made)
+
+pub shape_of-t : goal.shape_of-t
+shape_of-t c =
+    let a = c.args in
+    let l = c.loop-q in
+    repeat-length (steps a.i a.t3) (steps-grow a.i a.t3) l.q a.t.now l.t l.invariant.1.0
+
+pub returns : goal.returns
+unfolding joined_each
+returns c =
+    let l = c.loop-q in
+    let e : l.q ≡ states = omega arith in
+    record { t_after = rw e at l.invariant.1.0; value = l.invariant.1.1 }

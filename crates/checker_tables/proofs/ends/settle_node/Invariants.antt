@@ -1,0 +1,31 @@
+use native.Mathlib.Omega.{arith}
+use mathlib.Core.Path.{◌≡◌, refl, sym, ◌∙◌}
+use mathlib.Core.List.{List}
+use Prim.Native.Nat.{ℕ, ◌+◌, ◌-◌, ◌≤◌}
+use lib.ListN.{get_or}
+use Rattle.outline_nodes.specs.declared.NodeForm.{NodeForm}
+use Rattle.outline_nodes.specs.Said.{said_by}
+use Rattle.checker_account.specs.declared.Resources.{Resources}
+use Rattle.checker_account.specs.Tables.{rows_in, Resets, base}
+use Rattle.checker_tables.specs.Search.{resets_if}
+use Rattle.checker_account.specs.Filling.{repeat, grown, ends_of_lem, settle_entry, settle_node_lem}
+use Rattle.checker_account.proofs.GrowsLaws.{Grows, grown-self, repeat-length, turn}
+use Rattle.checker_account.proofs.SettleLaws.{entry-grows, each_same}
+use Rattle.checker_account.proofs.EntryBounds.{least-le, meanings-le, codes-le}
+use Rattle.checker_tables.proofs.NumberLaws.{entry-room}
+use Rattle.checker_tables.proofs.ends.settle_node.Reads as reads
+use Rattle.checker_tables.proofs.ends.ends_by.Reads as ends-by-reads
+use Rattle.checker_tables.proofs.ends.join_sets.Reads as join-sets-reads
+use Rattle.checker_tables.proofs.numbers.entries_of.Reads as entries-of-reads
+use Rattle.checker_tables.proofs.numbers.least.Reads as least-reads
+use Rattle.checker_tables.proofs.ends.settle_node.Given as goal
+
+abbrev pub settles : List ℕ → Resources → Resets → ℕ → ℕ → NodeForm → ℕ → List ℕ → List ℕ
+settles rows x resets l k f i = settle_entry (rows_in rows) x resets k (said_by f) (l + i)
+
+abbrev pub invariant-loop-i : goal.invariant-loop-i
+invariant-loop-i l = (l.i ≤ l.n) ×
+    ((l.t ≡ repeat (settles l.rows l.w.resources (resets_if l.w.local l.w.policy l.opened) l.l l.k l.f) l.i l.initial.t) × (l.changed ≡ grown l.initial.t l.t))
+
+abbrev pub decreases-loop-i : goal.decreases-loop-i
+decreases-loop-i l = l.n - l.i

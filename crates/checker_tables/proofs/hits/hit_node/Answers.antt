@@ -1,0 +1,87 @@
+use mathlib.Core.Path.{◌≡◌, refl, sym, ap, ap₂, ◌∙◌, subst}
+use mathlib.Core.Bool.{Bool, true, false, not, ◌&&◌, ◌||◌, cond}
+use mathlib.Core.List.{List, [], ◌∷◌}
+use Prim.Native.Nat.{ℕ, suc, ◌+◌, ◌-◌, ◌*◌, ◌/◌, ◌%◌, ◌<◌, ◌≤◌}
+use native.Mathlib.Omega.{arith}
+use lib.ListN.{length, get_or, replicate}
+use lib.Bits.{bit_or}
+use lib.Dec.{eqb}
+use mathlib.Core.Option.{Option}
+use Rattle.usage.specs.Limits.{most_nodes, node_fields}
+use Rattle.usage.specs.Outline.{Form}
+use Rattle.usage.specs.Tests.{some_below}
+use Rattle.outline_nodes.specs.declared.NodeForm.{NodeForm}
+use Rattle.outline_nodes.specs.Said.{said_by}
+use Rattle.outline_nodes.proofs.SaidLaws.{form-at}
+use Rattle.checker_account.specs.declared.Resources.{Resources}
+use Rattle.checker_account.specs.declared.Watch.{Watch}
+use borrow.Author.Tests.{le-leb, lt-leb}
+use Rattle.automaton.specs.Mask.{offends}
+use Rattle.automaton.proofs.MaskLaws.{some_at}
+use Rattle.checker_account.specs.Tables.{half, rows_in}
+use Rattle.checker_account.specs.Filling.{leaves_of, hit_node_lem}
+use Rattle.checker_account.proofs.CodeLaws.{none_more}
+use Rattle.checker_account.proofs.EntryBounds.{meanings-le}
+use Rattle.checker_tables.proofs.NumberLaws.{code-room}
+use Rattle.checker_tables.proofs.hits.hit_node.Reads as reads
+use Rattle.checker_tables.proofs.hits.leaves_by.Reads as leaves-by-reads
+use Rattle.checker_tables.proofs.numbers.codes_of.Reads as codes-of-reads
+use Rattle.checker_tables.proofs.numbers.least.Reads as least-reads
+use borrow.Author.Rules.{rules}
+use Rattle.checker_tables.proofs.hits.hit_node.Goals as goal
+use Rattle.checker_tables.proofs.hits.hit_node.Invariants.{test}
+
+hit : (v w : ℕ) → v ≡ w → 64 ≤ v % 256 → offends (half false w) ≡ true
+hit v w e h = subst (λ (n : ℕ). offends (half false n) ≡ true) e (le-leb 64 (v % 256) h)
+
+miss : (v w : ℕ) → v ≡ w → v % 256 < 64 → offends (half false w) ≡ false
+miss v w e h = subst (λ (n : ℕ). offends (half false n) ≡ false) e (lt-leb 64 (v % 256) h)
+
+pub overflow_sub-n : goal.overflow_sub-n
+overflow_sub-n c =
+    let m = meanings-le c.args.w.resources in omega (arith, c.least-l.ensures.upper_bound, c.codes_of.ensures)
+
+pub loop-i-init : goal.loop-i-init
+unfolding some_below
+loop-i-init c =
+    (search rules, refl)
+
+pub overflow_add-l : goal.overflow_add-l
+overflow_add-l c =
+    let r = code-room c.args.w.resources (c.least-l.result + c.loop-i.i) (omega (arith, c.loop-i-test.true, c.codes_of.ensures)) in omega (arith, r.0)
+
+pub leaves_by-v-requires : goal.leaves_by-v-requires
+leaves_by-v-requires c =
+    let p = c.requires in
+    let r = code-room c.args.w.resources (c.least-l.result + c.loop-i.i) (omega (arith, c.loop-i-test.true, c.codes_of.ensures)) in
+    record { small = p.small; k_lt_most_nodes = p.k_lt_most_nodes; c_bound = r.0; c_in_bounds = omega (arith, r.1, p.u_len) }
+
+pub returns-then-v-ge64 : goal.returns-then-v-ge64
+unfolding hit_node_lem
+returns-then-v-ge64 c =
+    let a = c.args in
+    let low = c.least-l in
+    let i = c.loop-i.i in
+    let f = test a.u.now a.rows.now a.w.local a.w.policy a.w.resources low.result a.k a.f in
+    let v = c.leaves_by-v in
+    let h : i < c.codes_of.result - low.result = omega (arith, c.loop-i-test.true) in
+    let m : 64 ≤ v.result % 256 = omega (arith, c.if-v-ge64.true) in
+    rw (sym low.ensures.value, sym c.codes_of.ensures) (sym (some_at (c.codes_of.result - low.result) f i h (hit v.result _ v.ensures m)))
+
+pub loop-i-preserved : goal.loop-i-preserved
+loop-i-preserved c =
+    let a = c.args in
+    let low = c.least-l in
+    let i = c.loop-i.i in
+    let f = test a.u.now a.rows.now a.w.local a.w.policy a.w.resources low.result a.k a.f in
+    let v = c.leaves_by-v in
+    let m : v.result % 256 < 64 = omega (arith, c.if-v-ge64.false) in
+    (search rules, none_more f i c.loop-i.invariant.1 (miss v.result _ v.ensures m))
+
+pub returns : goal.returns
+unfolding hit_node_lem
+returns c =
+    let l = c.loop-i in
+    let low = c.least-l in
+    let e : l.i ≡ c.codes_of.result - low.result = omega arith in
+    rw (sym low.ensures.value, sym c.codes_of.ensures) (sym (rw e at l.invariant.1))

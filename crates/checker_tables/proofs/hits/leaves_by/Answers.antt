@@ -1,0 +1,68 @@
+use mathlib.Core.Path.{◌≡◌, refl, sym, ap, ap₂, ◌∙◌, subst}
+use mathlib.Core.Bool.{Bool, true, false, not, ◌&&◌, ◌||◌, cond}
+use mathlib.Core.List.{List, [], ◌∷◌}
+use Prim.Native.Nat.{ℕ, suc, ◌+◌, ◌-◌, ◌*◌, ◌/◌, ◌%◌, ◌<◌, ◌≤◌}
+use native.Mathlib.Omega.{arith}
+use lib.ListN.{length, get_or, replicate}
+use lib.Bits.{bit_or}
+use lib.Dec.{eqb}
+use mathlib.Core.Option.{Option}
+use Rattle.usage.specs.Limits.{most_nodes, node_fields}
+use Rattle.usage.specs.Outline.{Form}
+use Rattle.usage.specs.Tests.{some_below}
+use Rattle.outline_nodes.specs.declared.NodeForm.{NodeForm}
+use Rattle.outline_nodes.specs.Said.{said_by}
+use Rattle.outline_nodes.proofs.SaidLaws.{form-at}
+use Rattle.checker_account.specs.declared.Resources.{Resources}
+use Rattle.checker_account.specs.declared.Watch.{Watch}
+use Rattle.checker_account.specs.Account.{others}
+use Rattle.checker_account.specs.Tables.{over, row_on, rows_in, first_created_lem, second_created_lem, place, leaves}
+use Rattle.checker_tables.proofs.OtherLaws.{no_step}
+use Rattle.checker_tables.proofs.ResetLaws.{opened-if}
+use Rattle.checker_tables.proofs.hits.leaves_by.Reads as reads
+use Rattle.checker_tables.proofs.arrivals.states_at.Reads as states-at-reads
+use Rattle.checker_tables.proofs.hits.opened.Reads as opened-reads
+use Rattle.checker_tables.proofs.numbers.meant.Reads as meant-reads
+use Rattle.checker_tables.proofs.rows.created.Reads as created-reads
+use Rattle.checker_tables.proofs.rows.moved_set.Reads as moved-set-reads
+use Rattle.checker_tables.proofs.hits.leaves_by.Goals as goal
+
+pub returns-in-OnStatic : goal.returns-in-OnStatic
+unfolding leaves
+returns-in-OnStatic c =
+    let a = c.args in
+    rw c.in-OnStatic.is
+    (c.moved_set.ensures ∙ ap (over (row_on (rows_in a.rows.now) a.w.resources a.k c.in-OnStatic.resource)) c.states_at-v.ensures)
+
+pub returns-in-OnName : goal.returns-in-OnName
+unfolding leaves
+returns-in-OnName c =
+    let a = c.args in
+    rw c.in-OnName.is
+    (c.moved_set-in-OnName.ensures
+    ∙ ap₂ (λ (r v : ℕ). over (row_on (rows_in a.rows.now) a.w.resources a.k r) v) c.meant-r.ensures c.states_at-v.ensures)
+
+pub returns-in-Fresh : goal.returns-in-Fresh
+unfolding leaves
+returns-in-Fresh c =
+    let a = c.args in
+    let rows = rows_in a.rows.now in
+    let x = a.w.resources in
+    rw c.in-Fresh.is
+    (c.created.ensures
+    ∙ ap (λ (v : ℕ). bit_or (bit_or (over (row_on rows x a.k others) v) (first_created_lem rows x a.k a.c v)) (second_created_lem rows x a.k a.c v))
+    c.states_at-v.ensures)
+
+pub returns-in-Sandbox : goal.returns-in-Sandbox
+unfolding leaves
+returns-in-Sandbox c =
+    let a = c.args in
+    rw c.in-Sandbox.is
+    (c.opened.ensures
+    ∙ opened-if a.w.local (eqb c.in-Sandbox.policy a.w.policy) (get_or a.u.now (place a.k false a.c) 0)
+    (get_or a.u.now (place a.k true a.c) 0))
+
+pub returns-in_default : goal.returns-in_default
+returns-in_default c =
+    let a = c.args in
+    no_step a.w.local (rows_in a.rows.now) a.w.policy a.w.resources a.u.now a.k a.c a.f c.in-OnStatic.keys5

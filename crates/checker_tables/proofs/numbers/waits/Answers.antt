@@ -1,0 +1,10 @@
+use mathlib.Core.Path.{◌≡◌, refl, sym, ap, ap₂, ◌∙◌, subst}
+use Prim.Native.Nat.{ℕ, suc, ◌+◌, ◌*◌, ◌-◌, ◌<◌, ◌≤◌, ◌/◌, ◌%◌}
+use native.Mathlib.Omega.{arith}
+use borrow.Author.Tests.{eq-eqb, ne_eqb}
+use Rattle.checker_tables.proofs.numbers.waits.Reads as reads
+use Rattle.checker_tables.proofs.numbers.waits.Goals as goal
+
+pub returns-then-e-lt-MEANINGS : goal.returns-then-e-lt-MEANINGS
+returns-then-e-lt-MEANINGS c =
+    let l = c.if-e-lt-MEANINGS.true in sym (ne_eqb (c.args.e / 6) 5 (λ d. omega arith))

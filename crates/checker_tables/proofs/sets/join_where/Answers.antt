@@ -1,0 +1,44 @@
+use native.Mathlib.Omega.{arith}
+use mathlib.Core.Path.{◌≡◌, sym, ap, ap₂, ◌∙◌}
+use Prim.Native.Nat.{ℕ, ◌-◌, ◌≤◌}
+use mathlib.Core.List.{List}
+use lib.ListN.{length, get_or}
+use mathlib.Core.Bool.{Bool, cond}
+use lib.Bits.{bit_or}
+use Rattle.automaton.specs.Mask.{has}
+use Rattle.usage.proofs.Logic.{by_cases}
+use Rattle.checker_account.proofs.MaskLaws.{test_in, test-out}
+use Rattle.usage.specs.Limits.{states}
+use Rattle.checker_tables.proofs.ByStateLaws.{InPlace, place_none, place-more, place-all}
+use Rattle.checker_tables.proofs.sets.join_where.Reads as reads
+use borrow.Author.Rules.{rules}
+use Rattle.checker_tables.proofs.sets.join_where.Goals as goal
+use Rattle.checker_tables.proofs.sets.join_where.Invariants.{each}
+
+pub loop-q-init : goal.loop-q-init
+loop-q-init c =
+    let a = c.args in
+    let e : length a.t1 ≡ states = search rules in
+    (search rules, place_none (each a.s a.e a.t1 a.t2) a.t1 e)
+
+pub loop-q-preserved : goal.loop-q-preserved
+loop-q-preserved c =
+    let a = c.args in
+    let l = c.loop-q in
+    let h = c.loop-q-test.true in
+    let v = get_or a.t2 l.q 0 in
+    let more : c.if-v-q-eq1.more ≡ cond (has v a.s) a.e 0 =
+    by_cases c.if-v-q-eq1.branch
+    (λ w. w.1 ∙ ap (λ (b : Bool). cond b a.e 0) (sym (test_in (λ j. 0) v a.s w.0.taken)))
+    (λ w. w.1 ∙ ap (λ (b : Bool). cond b a.e 0) (sym (test-out (λ j. 0) v a.s w.0.left))) in
+    let still = l.invariant.1.left l.q (omega arith) in (
+      search rules,
+      place-more (each a.s a.e a.t1 a.t2) a.t1 l.q l.w _ (omega arith) (ap₂ (λ (x y : ℕ). bit_or x y) still more)
+          l.invariant.1,
+    )
+
+pub returns : goal.returns
+returns c =
+    let a = c.args in
+    let l = c.loop-q in
+    place-all (each a.s a.e a.t1 a.t2) a.t1 l.q l.w (omega arith) l.invariant.1

@@ -1,0 +1,22 @@
+use Rattle.checker_lengths.proofs.EntryLaws.{low-end-le}
+use Rattle.checker_trace.specs.Code.{idle_in}
+use lib.Dec.{eqb}
+use Rattle.checker_lengths.specs.Entries.{entry_of, held}
+use Prim.Native.Nat.{◌%◌}
+use native.Mathlib.Omega.{arith}
+use mathlib.Core.Path.{ap, ◌∙◌}
+use Prim.Native.Nat.{ℕ, ◌+◌}
+use Rattle.checker_trace.proofs.find.idle.Reads as reads
+use Rattle.checker_lengths.proofs.entries.get.Reads as get-reads
+use Rattle.checker_lengths.proofs.offers.low_end.Reads as low-end-reads
+use Rattle.checker_trace.proofs.find.idle.Goals as goal
+
+pub overflow_add-same : goal.overflow_add-same
+overflow_add-same c = let h = c.low_end.ensures in omega (arith, low-end-le c.args.e.meaning)
+
+pub returns : goal.returns
+unfolding idle_in
+returns c = ap (λ (v : ℕ). eqb v 0) (c.get.ensures
+    ∙ ap (λ (i : ℕ). held c.args.t.now 1
+    (entry_of c.args.k c.args.e.opened c.args.e.meaning
+    c.args.e.state (i + c.args.e.state % 8))) c.low_end.ensures)

@@ -1,0 +1,45 @@
+use Rattle.usage.specs.Limits.{node_fields}
+use Rattle.usage.proofs.Logic.{by_cases}
+use Prim.Native.Nat.{◌/◌}
+use native.Mathlib.Numerals.{add-one}
+use mathlib.Core.Path.{ap₂}
+use mathlib.Core.Bool.{Bool}
+use lib.Bits.{bit_or}
+use Rattle.automaton.specs.Mask.{has}
+use Rattle.checker_lengths.specs.Filling.{form_here}
+use Rattle.checker_trace.specs.Code.{spread_to, join_if, leads_from}
+use native.Mathlib.Omega.{arith}
+use mathlib.Core.Path.{◌≡◌, refl, sym, ap, ◌∙◌}
+use Prim.Native.Nat.{ℕ, ◌-◌, ◌≤◌}
+use lib.ListN.{length}
+use Rattle.checker_trace.proofs.find.spread.Reads as reads
+use Rattle.outline_nodes.proofs.form.Reads as form-reads
+use Rattle.checker_trace.proofs.find.has.Reads as has-reads
+use Rattle.checker_trace.proofs.find.leads.Reads as leads-reads
+use borrow.Author.Rules.{rules}
+use Rattle.checker_trace.proofs.find.spread.Goals as goal
+
+pub loop-k-init : goal.loop-k-init
+unfolding spread_to
+loop-k-init c = (search rules, refl)
+
+pub loop-k-preserved : goal.loop-k-preserved
+unfolding spread_to join_if
+loop-k-preserved c =
+    let a = c.args in
+    let l = c.loop-k in
+    let k = c.loop-k-test.true in
+    let u = spread_to a.t.now a.nodes.now a.e l.k a.s in
+    let h : has u l.k ≡ c.has.result = sym (c.has.ensures ∙ ap (λ (v : ℕ). has v l.k) l.invariant.1) in (
+      omega arith,
+      rw (add-one l.k)
+          (by_cases c.if-has.branch
+          (λ v. v.3 ∙ ap₂ bit_or l.invariant.1 (v.2.ensures ∙ ap (leads_from a.t.now a.e) v.1.ensures)
+          ∙ sym (ap (λ (b : Bool). join_if b u (leads_from a.t.now a.e (form_here a.nodes.now l.k))) (h ∙ v.0.taken)))
+          (λ v. v.1 ∙ l.invariant.1 ∙ sym (ap (λ (b : Bool). join_if b u (leads_from a.t.now a.e (form_here a.nodes.now l.k)))
+          (h ∙ v.0.left)))),
+    )
+
+pub returns : goal.returns
+returns c = let l = c.loop-k in let e : l.k ≡ length c.args.nodes.now / node_fields = omega arith in
+    rw e at l.invariant.1

@@ -1,0 +1,7 @@
+use Rattle.checker_trace.proofs.write.body_part.Reads as reads
+use Rattle.checker_lengths.proofs.offers.body.Reads as body-Reads
+use Rattle.checker_trace.proofs.write.give.Reads as give-reads
+use Rattle.checker_trace.proofs.write.body_part.Goals as goal
+
+pub returns : goal.returns
+returns c = record { value = rw (c.body.ensures, c.give.ensures.value); numbers_len = c.give.ensures.numbers_len }

@@ -1,0 +1,11 @@
+use lib.ListN.{get_or-eq_default}
+use native.Mathlib.Omega.{arith}
+use mathlib.Core.Path.{◌≡◌, sym}
+use lib.ListN.{length, get_or}
+use Rattle.checker_trace.proofs.write.name.Reads as reads
+use borrow.Author.Rules.{rules}
+use Rattle.checker_trace.proofs.write.name.Goals as goal
+
+pub returns-then-k-ge-NAMES : goal.returns-then-k-ge-NAMES
+returns-then-k-ge-NAMES c = let k : length c.args.t1.numbers ≡ 4 = search rules in
+    sym (get_or-eq_default c.args.t1.numbers 0 (omega arith))

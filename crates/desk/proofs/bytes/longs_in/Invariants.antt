@@ -1,0 +1,15 @@
+use Rattle.desk.specs.Layout.{byte_at, word_at, wide_at, Got, Put}
+use Rattle.desk_positions.proofs.CopyLaws.{bytes-local, words-local, wides-local, got-none, got-next, put-none, put_next, byte_put}
+use native.Mathlib.Omega.{arith}
+use mathlib.Core.Path.{◌≡◌, refl, sym, ap, ◌∙◌}
+use Prim.Native.Nat.{ℕ, suc, ◌+◌, ◌-◌, ◌≤◌, ◌<◌}
+use lib.ListN.{length, get_or, take, drop, set}
+use Rattle.desk.proofs.bytes.longs_in.Reads as reads
+use Rattle.desk.proofs.bytes.long.Reads as long-reads
+use Rattle.desk.proofs.bytes.longs_in.Given as goal
+
+abbrev pub invariant-loop-i : goal.invariant-loop-i
+invariant-loop-i l = (l.i ≤ l.n) × ((length l.t ≡ length l.initial.t) × Got wide_at 8 l.b l.place l.i l.initial.t l.t)
+
+abbrev pub decreases-loop-i : goal.decreases-loop-i
+decreases-loop-i l = l.n - l.i

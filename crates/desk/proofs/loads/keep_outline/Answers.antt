@@ -1,0 +1,41 @@
+use Rattle.desk.proofs.StateLaws.{edges_lent}
+use Rattle.desk.proofs.StepLaws.{head-parts}
+use Rattle.desk.proofs.OutlineLoadLaws.{kept-outline}
+use native.Mathlib.Omega.{arith}
+use mathlib.Core.Path.{◌≡◌, refl, sym, ap, ◌∙◌}
+use Prim.Native.Nat.{ℕ, suc, ◌+◌, ◌-◌, ◌≤◌, ◌<◌}
+use lib.ListN.{length, get_or, take, drop, set}
+use Rattle.desk.proofs.loads.keep_outline.Reads as reads
+use Rattle.checker.proofs.check.Reads as check-reads
+use Rattle.checker.proofs.summary.summary.Reads as summary-reads
+use Rattle.desk.proofs.loads.outcome_code.Reads as outcome-code-reads
+use Rattle.desk.proofs.loads.store_outline.Reads as store-outline-reads
+use borrow.Author.Rules.{rules}
+use Rattle.desk.proofs.loads.keep_outline.Goals as goal
+
+-- src/loads.rt:251:28
+pub slice_bounds-check-end : goal.slice_bounds-check-end
+slice_bounds-check-end c =
+    let k = (head-parts c.args.h c.requires.h_value).edges in
+    search rules
+
+-- src/loads.rt:253:31
+pub slice_bounds-summary-end : goal.slice_bounds-summary-end
+slice_bounds-summary-end c =
+    let k = (head-parts c.args.h c.requires.h_value).edges in
+    search rules
+
+-- src/loads.rt:254:5
+pub store_outline-requires : goal.store_outline-requires
+store_outline-requires c =
+    let p = c.requires in
+    record { desk_bytes_in_bounds = p.desk_bytes_in_bounds; h_value = p.h_value; fact = p.fact; nodes_value = p.nodes_value; nodes_len_bound = p.nodes_len_bound }
+
+-- src/loads.rt:240:1
+pub returns : goal.returns
+returns c =
+    let a = c.args in
+    let p = c.requires in
+    kept-outline a.b.now a.h a.nodes.now _ _ _ _ _ (edges_lent a.b.now a.h p.desk_bytes_in_bounds (head-parts a.h p.h_value).edges) p.h_value_2
+    p.nodes_value c.check-o.ensures _ _ refl c.summary.ensures c.outcome_code.ensures c.store_outline.ensures.encodes
+    c.store_outline.ensures.within

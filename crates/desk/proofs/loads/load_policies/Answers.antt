@@ -1,0 +1,51 @@
+use mathlib.Core.Path.{subst}
+use Rattle.sheet_reader.proofs.AnswerLaws.{policies-held, policies-choice, policies-refused}
+use Rattle.desk.specs.Calls.{Called, ByPolicies}
+use Rattle.desk.proofs.LoadLaws.{policies-line, policies-no-sheet, policies-loaded}
+use native.Mathlib.Omega.{arith}
+use mathlib.Core.Path.{◌≡◌, refl, sym, ap, ◌∙◌}
+use Prim.Native.Nat.{ℕ, suc, ◌+◌, ◌-◌, ◌≤◌, ◌<◌}
+use lib.ListN.{length, get_or, take, drop, set}
+use Rattle.desk.proofs.loads.load_policies.Reads as reads
+use Rattle.desk.proofs.loads.refused_at.Reads as refused-at-reads
+use Rattle.desk.proofs.loads.store_policies.Reads as store-policies-reads
+use Rattle.sheet_reader.proofs.read_policies.Reads as read-policies-reads
+use Rattle.desk.proofs.loads.load_policies.Goals as goal
+
+-- src/loads.rt:142:52
+pub refused_at-requires : goal.refused_at-requires
+refused_at-requires c =
+    let a = c.args in
+    let t = c.read_policies-r in
+    policies-line a.text.now c.in-Refused.line c.in-Refused.number (policies-refused a.text.now c.in-Refused.line c.in-Refused.number (rw c.in-Refused.is at t.ensures.result_value))
+
+-- src/loads.rt:144:13
+pub store_policies-requires : goal.store_policies-requires
+store_policies-requires c =
+    let a = c.args in
+    let p = c.requires in
+    let t = c.read_policies-r in
+    let h = policies-held a.text.now t.new.1.0 c.in-Stored.n c.in-Stored.local (rw c.in-Stored.is at t.ensures.result_value) t.ensures.table_after in
+    let f : c.in-Stored.n ≤ 256 = h.few in
+    record { desk_bytes_in_bounds = p.desk_bytes_in_bounds; n_le_most_edges = f; n_in_bounds = omega arith }
+
+-- src/loads.rt:133:1
+pub returns-in-Refused : goal.returns-in-Refused
+returns-in-Refused c =
+    let a = c.args in
+    let p = c.requires in
+    let t = c.read_policies-r in
+    subst (λ (r : ℕ). Called (ByPolicies a.text.now) a.b.now r a.b.now) (sym c.refused_at.ensures)
+    (policies-no-sheet a.text.now a.b.now p.desk_bytes_in_bounds p.b_value p.b_value_2 c.in-Refused.line c.in-Refused.number
+    (policies-refused a.text.now c.in-Refused.line c.in-Refused.number (rw c.in-Refused.is at t.ensures.result_value)))
+
+-- src/loads.rt:133:1
+pub returns-in-Stored : goal.returns-in-Stored
+returns-in-Stored c =
+    let a = c.args in
+    let p = c.requires in
+    let t = c.read_policies-r in
+    let s = c.store_policies in
+    policies-loaded a.text.now a.b.now p.desk_bytes_in_bounds p.b_value p.b_value_2 c.in-Stored.n c.in-Stored.local t.new.1.0 s.new.0
+    (policies-held a.text.now t.new.1.0 c.in-Stored.n c.in-Stored.local (rw c.in-Stored.is at t.ensures.result_value) t.ensures.table_after)
+    (policies-choice a.text.now c.in-Stored.n c.in-Stored.local (rw c.in-Stored.is at t.ensures.result_value)) s.ensures.encodes s.ensures.within

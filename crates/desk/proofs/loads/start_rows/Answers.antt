@@ -1,0 +1,19 @@
+use Rattle.desk.proofs.OutlineLaws.{table-lent, table-long, table-back, within-back, rows_settled}
+use native.Mathlib.Omega.{arith}
+use mathlib.Core.Path.{◌≡◌, refl, sym, ap, ◌∙◌}
+use Prim.Native.Nat.{ℕ, suc, ◌+◌, ◌-◌, ◌≤◌, ◌<◌}
+use lib.ListN.{length, get_or, take, drop, set}
+use Rattle.desk.proofs.loads.start_rows.Reads as reads
+use Rattle.desk_positions.proofs.start.Reads as start-reads
+use Rattle.desk.proofs.loads.start_rows.Goals as goal
+
+-- src/loads.rt:184:1
+pub returns : goal.returns
+returns c =
+    let a = c.args in
+    let p = c.requires in
+    let x = c.start-k in
+    let t = table-lent a.b.now (p) in
+    let l = x.auto.1.0 ∙ ap length t ∙ table-long a.b.now in
+    let w = within-back a.b.now x.new.1.0 p l in record { settled_in = λ ok. rows_settled _ x.new.1.0 _ _ (table-back a.b.now x.new.1.0 p l) x.ensures.upper_bound
+          (x.ensures.settles ok (ap length t ∙ table-long a.b.now)); within = w; b_len_unchanged = w.long }

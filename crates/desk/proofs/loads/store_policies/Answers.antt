@@ -1,0 +1,26 @@
+use Rattle.desk.proofs.LoadLaws.{start_small, policies-stored}
+use native.Mathlib.Omega.{arith}
+use mathlib.Core.Path.{◌≡◌, refl, sym, ap, ◌∙◌}
+use Prim.Native.Nat.{ℕ, suc, ◌+◌, ◌-◌, ◌≤◌, ◌<◌}
+use lib.ListN.{length, get_or, take, drop, set}
+use Rattle.desk.proofs.loads.store_policies.Reads as reads
+use Rattle.desk.proofs.bytes.bytes_out.Reads as bytes-out-reads
+use Rattle.desk.proofs.judge.judge_out.Reads as judge-out-reads
+use Rattle.desk.proofs.loads.policies_head.Reads as policies-head-reads
+use Rattle.monitor.proofs.start.Reads as start-reads
+use Rattle.desk.proofs.loads.store_policies.Goals as goal
+
+-- src/loads.rt:130:5
+pub judge_out-requires : goal.judge_out-requires
+judge_out-requires c =
+    let a = c.args in
+    let p = c.requires in
+    record { desk_bytes_in_bounds = rw c.bytes_out.ensures.long p.desk_bytes_in_bounds; small = start_small c.start.result c.start.ensures.value }
+
+-- src/loads.rt:121:1
+pub returns : goal.returns
+returns c =
+    let a = c.args in
+    let p = c.requires in
+    policies-stored a.b.now _ _ a.edges.now a.n a.local _ _ p.n_le_most_edges p.n_in_bounds c.bytes_out.ensures c.policies_head-h.ensures
+    c.start.ensures.value c.judge_out.ensures

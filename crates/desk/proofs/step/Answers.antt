@@ -1,0 +1,47 @@
+use mathlib.Core.Path.{subst}
+use Rattle.usage.proofs.Logic.{not-true, not-false}
+use Rattle.desk.specs.Calls.{Called, too_short, no_desk, called, ByStep, replied}
+use Rattle.desk.proofs.CallLaws.{nothing-loaded, bad-head}
+use native.Mathlib.Omega.{arith}
+use mathlib.Core.Path.{◌≡◌, refl, sym, ap, ◌∙◌}
+use Prim.Native.Nat.{ℕ, suc, ◌+◌, ◌-◌, ◌≤◌, ◌<◌}
+use lib.ListN.{length, get_or, take, drop, set}
+use Rattle.desk.proofs.step.Reads as reads
+use Rattle.desk.proofs.heading.head_in.Reads as head-in-reads
+use Rattle.desk.proofs.heading.head_ok.Reads as head-ok-reads
+use Rattle.desk.proofs.heading.is_listed.Reads as is-listed-reads
+use Rattle.desk.proofs.refused.Reads as refused-reads
+use Rattle.desk.proofs.steps.off_outline.Reads as off-outline-reads
+use Rattle.desk.proofs.steps.on_outline.Reads as on-outline-reads
+use Rattle.desk.proofs.step.Goals as goal
+
+-- src/lib.rt:51:9
+pub returns-then-state-lt-DESK_BYTES : goal.returns-then-state-lt-DESK_BYTES
+returns-then-state-lt-DESK_BYTES c =
+    let a = c.args in
+    subst (λ (r : ℕ). Called (ByStep (record { kind = a.kind; a = a.a; b = a.b })) a.state.now r a.state.now) (sym c.refused.ensures)
+    (too_short c.if-state-lt-DESK_BYTES.true)
+
+-- src/lib.rt:55:9
+pub returns-then-h-eq0 : goal.returns-then-h-eq0
+returns-then-h-eq0 c =
+    let a = c.args in
+    subst (λ (r : ℕ). Called (ByStep (record { kind = a.kind; a = a.a; b = a.b })) a.state.now r a.state.now) (sym c.refused-then-h-eq0.ensures)
+    (called c.if-state-lt-DESK_BYTES.false (nothing-loaded a.state.now _ (sym c.head_in-h.ensures) c.if-h-eq0.true) replied refl)
+
+-- src/lib.rt:58:9
+pub returns-then-not-head_ok : goal.returns-then-not-head_ok
+returns-then-not-head_ok c =
+    let a = c.args in
+    let e = not-true c.head_ok.result c.if-not-head_ok.true-raw in
+    let h = sym c.head_in-h.ensures in
+    subst (λ (r : ℕ). Called (ByStep (record { kind = a.kind; a = a.a; b = a.b })) a.state.now r a.state.now) (sym c.refused-then-not-head_ok.ensures)
+    (no_desk c.if-state-lt-DESK_BYTES.false (bad-head a.state.now _ h c.if-h-eq0.false (sym c.head_ok.ensures ∙ e)))
+
+-- src/lib.rt:62:9
+pub on_outline-requires : goal.on_outline-requires
+on_outline-requires c = record { desk_bytes_in_bounds = c.if-state-lt-DESK_BYTES.false; b_value = sym c.head_in-h.ensures; fact = c.if-h-eq0.false; h_value = sym c.head_ok.ensures ∙ not-false c.head_ok.result c.if-not-head_ok.false-raw; h_value_2 = sym c.is_listed.ensures ∙ c.if-is_listed.true }
+
+-- src/lib.rt:64:5
+pub off_outline-requires : goal.off_outline-requires
+off_outline-requires c = record { desk_bytes_in_bounds = c.if-state-lt-DESK_BYTES.false; b_value = sym c.head_in-h.ensures; fact = c.if-h-eq0.false; h_value = sym c.head_ok.ensures ∙ not-false c.head_ok.result c.if-not-head_ok.false-raw; h_value_2 = sym c.is_listed.ensures ∙ c.if-is_listed.false }

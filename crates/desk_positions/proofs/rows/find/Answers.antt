@@ -1,0 +1,40 @@
+use mathlib.Core.Bool.{false}
+use Rattle.desk_positions.specs.Closure.{member}
+use Rattle.desk_positions.specs.Positions.{same_meanings}
+use Rattle.desk_positions.specs.Rows.{rows_in}
+use Rattle.desk_positions.proofs.CellLaws.{member-none, member-more, member-found}
+use native.Mathlib.Omega.{arith}
+use mathlib.Core.Path.{◌≡◌, refl, sym, ap, ◌∙◌}
+use Prim.Native.Nat.{ℕ, suc, ◌+◌, ◌-◌, ◌≤◌, ◌<◌}
+use lib.ListN.{length, get_or, take, drop, set}
+use Rattle.desk_positions.proofs.rows.find.Reads as reads
+use Rattle.desk_positions.proofs.rows.same.Reads as same_Reads
+use Rattle.desk_positions.proofs.rows.top_of.Reads as top-of-reads
+use borrow.Author.Rules.{rules}
+use Rattle.desk_positions.proofs.rows.find.Goals as goal
+
+-- src/lib.rt:208:5
+pub loop-i-init : goal.loop-i-init
+loop-i-init c = (search rules, member-none c.args.t.now c.args.r.now)
+
+-- src/lib.rt:210:13
+pub returns-then-same : goal.returns-then-same
+returns-then-same c =
+    let a = c.args in
+    let t = c.loop-i in
+    member-found a.t.now a.r.now t.i a.n (omega arith) (sym c.same.ensures ∙ c.if-same.true)
+
+-- src/lib.rt:208:5
+pub loop-i-preserved : goal.loop-i-preserved
+loop-i-preserved c =
+    let a = c.args in
+    let t = c.loop-i in
+    (search rules, member-more a.t.now a.r.now t.i t.invariant.1 (sym c.same.ensures ∙ c.if-same.false))
+
+-- src/lib.rt:201:1
+pub returns : goal.returns
+returns c =
+    let a = c.args in
+    let t = c.loop-i in
+    let e : t.i ≡ a.n = omega arith in
+    sym (rw e at t.invariant.1)

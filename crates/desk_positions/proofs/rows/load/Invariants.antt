@@ -1,0 +1,19 @@
+use Prim.Native.Nat.{◌*◌}
+use Rattle.desk_positions.specs.Bytes.{word_at}
+use Rattle.desk_positions.specs.Rows.{row_width, row_bytes}
+use Rattle.desk_positions.proofs.CellLaws.{row_is, cells-more}
+use lib.ListN.{length-set}
+use native.Mathlib.Omega.{arith}
+use mathlib.Core.Path.{◌≡◌, refl, sym, ap, ◌∙◌}
+use Prim.Native.Nat.{ℕ, suc, ◌+◌, ◌-◌, ◌≤◌, ◌<◌}
+use lib.ListN.{length, get_or, take, drop, set}
+use Rattle.desk_positions.proofs.rows.load.Reads as reads
+use Rattle.desk_positions.proofs.bytes.word.Reads as word-reads
+use Rattle.desk_positions.proofs.rows.load.Given as goal
+
+abbrev pub invariant-loop-j : goal.invariant-loop-j
+invariant-loop-j l =
+    (l.j ≤ row_width) × ((length l.cells ≡ row_width) × ((k : ℕ) → k < l.j → get_or l.cells k 0 ≡ word_at l.t (row_bytes * l.i + 4 * k)))
+
+abbrev pub decreases-loop-j : goal.decreases-loop-j
+decreases-loop-j l = row_width - l.j

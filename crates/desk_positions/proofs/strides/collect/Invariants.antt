@@ -1,0 +1,25 @@
+use mathlib.Core.List.{List}
+use Rattle.usage.specs.Valid.{OutlineOk}
+use Rattle.usage.specs.Tables.{nodes_of}
+use Rattle.usage.proofs.Logic.{by_cases}
+use Rattle.desk_positions.specs.Positions.{most_positions, Position}
+use Rattle.desk_positions.specs.Rows.{table_bytes, row_in}
+use Rattle.desk_positions.specs.Growth.{Tabled, step_from}
+use Rattle.desk_positions.proofs.SettleLaws.{Here, here}
+use Rattle.desk_positions.proofs.NextLaws.{led, led-none, led-next, led-beyond, led-all}
+use native.Mathlib.Omega.{arith}
+use mathlib.Core.Path.{◌≡◌, refl, sym, ap, ◌∙◌}
+use Prim.Native.Nat.{ℕ, suc, ◌+◌, ◌-◌, ◌≤◌, ◌<◌}
+use lib.ListN.{length, get_or, take, drop, set}
+use Rattle.desk_positions.proofs.strides.collect.Reads as reads
+use Rattle.desk_positions.proofs.rows.load.Reads as load-reads
+use Rattle.desk_positions.proofs.strides.stride.Reads as stride-reads
+use Rattle.desk_positions.proofs.strides.collect.Given as goal
+
+abbrev pub invariant-loop-i : goal.invariant-loop-i
+invariant-loop-i l =
+    (l.i ≤ l.n) × ((l.m ≤ l.i) × ((length l.t ≡ table_bytes) × (((k : ℕ) → l.i ≤ k → row_in l.t k ≡ row_in l.initial.t k)
+    × ((ls : List Position) → OutlineOk (nodes_of l.nodes) → Tabled ls l.n l.initial.t → Tabled (led (nodes_of l.nodes) (step_from l.kind l.a l.b) ls l.i) l.m l.t))))
+
+abbrev pub decreases-loop-i : goal.decreases-loop-i
+decreases-loop-i l = l.n - l.i

@@ -1,0 +1,24 @@
+use mathlib.Core.Bool.{true, false}
+use mathlib.Core.List.{List}
+use Rattle.usage.specs.Tables.{edges_of}
+use Rattle.automaton.specs.Move.{rows_at}
+use Rattle.automaton.proofs.PlaceLaws.{rows-one}
+use Rattle.monitor.proofs.EventLaws.{ways-same}
+use native.Mathlib.Omega.{arith}
+use mathlib.Core.Path.{◌≡◌, refl, sym, ap, ap₂, subst, ◌∙◌}
+use Prim.Native.Nat.{ℕ, suc, ◌+◌, ◌-◌, ◌≤◌, ◌<◌}
+use lib.ListN.{length, get_or, take, drop, set}
+use Rattle.monitor.proofs.events.ways_of.Reads as reads
+use Rattle.automaton.proofs.moves.rows.Reads as rows-reads
+use Rattle.automaton.proofs.moves.rows_second.Reads as rows-second-reads
+use Rattle.monitor_pairs.proofs.rows.ways_of.Reads as ways-of-reads
+use Rattle.monitor.proofs.events.ways_of.Goals as goal
+
+pub returns : goal.returns
+returns c =
+    let a = c.args in
+    let es = edges_of a.edges.now in
+    let n = c.rows.ensures.other_after ∙ sym (rows-one es a.action a.r false) in
+    let f = c.rows.ensures.own_after ∙ sym (rows-one es a.action a.r true) in
+    let s = c.rows_second.ensures.second_after in
+    let b = c.rows_second.ensures.both_after in record { lower_value = c.ways_of-lower.ensures ∙ ways-same a.which.first n f s b; upper_value = c.ways_of-upper.ensures ∙ ways-same a.which.second n f s b }

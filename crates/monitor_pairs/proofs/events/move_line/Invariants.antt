@@ -1,0 +1,19 @@
+use Prim.Native.Nat.{ℕ, ◌-◌, ◌≤◌}
+use mathlib.Core.Path.{◌≡◌, refl, sym, ◌∙◌}
+use mathlib.Core.List.{List, [], ◌∷◌}
+use native.Mathlib.Omega.{arith}
+use lib.ListN.{get_or}
+use Rattle.automaton.specs.Move.{move_by}
+use Rattle.automaton.proofs.RowLaws.{move_by-held}
+use Rattle.monitor_sets.specs.Instances.{instances}
+use Rattle.monitor_pairs.specs.Code.{line_moved}
+use Rattle.monitor_pairs.proofs.RunLaws.{filled, filled-zeros, filled_more, filled-all, same_from}
+use Rattle.monitor_pairs.proofs.events.move_line.Given as goal
+
+abbrev pub invariant-loop-i : goal.invariant-loop-i
+invariant-loop-i l =
+    let rows = l.a ∷ l.b ∷ l.c ∷ l.d ∷ l.e ∷ l.f ∷ l.g ∷ l.h ∷ [] in
+    (l.i ≤ instances) × (l.moved ≡ filled (λ j. move_by rows 0 (get_or l.line j 0)) (λ j. 0) instances l.i)
+
+abbrev pub decreases-loop-i : goal.decreases-loop-i
+decreases-loop-i l = instances - l.i

@@ -1,0 +1,38 @@
+use Prim.Native.Nat.{◌-◌, ◌*◌, ◌≤◌}
+use mathlib.Core.Path.{◌≡◌, ap, ◌∙◌}
+use native.Mathlib.Omega.{arith}
+use lib.ListN.{length}
+use Rattle.monitor_sets.specs.Instances.{instances}
+use Rattle.monitor_pairs.specs.Code.{row_joined, beside_columns}
+use Rattle.usage.proofs.Logic.{by_cases}
+use Rattle.monitor_pairs.proofs.GatherLaws.{beside_none, beside-length, beside-row, beside-own}
+use Rattle.monitor_pairs.proofs.gathering.columns_beside.Reads as reads
+use Rattle.monitor_pairs.proofs.gathering.join_row.Reads as join-row-reads
+use borrow.Author.Rules.{rules}
+use Rattle.monitor_pairs.proofs.gathering.columns_beside.Goals as goal
+
+pub loop-i-init : goal.loop-i-init
+loop-i-init c = (search rules, beside_none c.args.at c.args.sets.now)
+
+pub join_row-requires : goal.join_row-requires
+join_row-requires c =
+    let a = c.args in
+    let t = c.loop-i in
+    (ap length t.invariant.1 ∙ beside-length a.at a.sets.now t.i, search rules)
+
+pub loop-i-preserved : goal.loop-i-preserved
+loop-i-preserved c =
+    let a = c.args in
+    let t = c.loop-i in (
+      search rules,
+      by_cases c.if-i-at.branch
+          (λ w. w.3 ∙ w.2.ensures.1 ∙ ap (row_joined (t.i * instances) a.sets.now) t.invariant.1
+          ∙ beside-row a.at a.sets.now t.i w.0.taken)
+          (λ w. w.1 ∙ t.invariant.1 ∙ beside-own a.at a.sets.now t.i w.0.left),
+    )
+
+pub returns : goal.returns
+returns c =
+    let t = c.loop-i in
+    let e : t.i ≡ c.args.n = omega arith in
+    rw (← e) t.invariant.1

@@ -1,0 +1,18 @@
+use Prim.Native.Nat.{◌-◌, ◌*◌, ◌≤◌}
+use mathlib.Core.Path.{◌≡◌, ap, ◌∙◌}
+use native.Mathlib.Omega.{arith}
+use lib.ListN.{length}
+use Rattle.monitor_sets.specs.Instances.{instances}
+use Rattle.monitor_pairs.specs.Pairs.{pair_places}
+use Rattle.monitor_pairs.specs.Code.{line_retired, columns_retired}
+use Rattle.monitor_pairs.proofs.RetireLaws.{columns-none, columns-more}
+use Rattle.monitor_pairs.proofs.retiring.retire_columns.Reads as reads
+use Rattle.monitor_pairs.proofs.retiring.retire_line.Reads as retire-line-reads
+use Rattle.monitor_pairs.proofs.retiring.retire_columns.Given as goal
+
+abbrev pub invariant-loop-i : goal.invariant-loop-i
+invariant-loop-i l =
+    (l.i ≤ l.n) × ((length l.sets ≡ pair_places) × (l.sets ≡ columns_retired l.at l.i l.initial.sets))
+
+abbrev pub decreases-loop-i : goal.decreases-loop-i
+decreases-loop-i l = l.n - l.i

@@ -1,0 +1,30 @@
+-- `all_sound` meets its contract. The invariant: the numbers from i on are sound, and the endings of all of them are seen.
+use Prim.Native.Nat.{ℕ, ◌-◌, ◌%◌, ◌<◌, ◌≤◌}
+use mathlib.Core.Bool.{true, false, ◌&&◌}
+use mathlib.Core.Path.{◌≡◌, sym, ◌∙◌}
+use native.Mathlib.Omega.{arith}
+use lib.ListN.{length, get_or, take, drop, length-set}
+use Rattle.usage.specs.Tests.{every}
+use Rattle.monitor_sets.specs.Created.{dynamic, distinct}
+use Rattle.monitor_sets.specs.Code.{endings}
+use Rattle.usage.proofs.Logic.{by_cases}
+use Rattle.monitor_sets.proofs.CreatedLaws.{
+  sound-end,
+  low-unsound,
+  high-unsound,
+  sound-again,
+  sound-next,
+  unseen-unlisted,
+  seen_more,
+}
+use Rattle.monitor_sets.proofs.created.all_sound.Given as goal
+
+abbrev pub invariant-loop-i : goal.invariant-loop-i
+invariant-loop-i l =
+    (l.i ≤ l.count)
+    × (((every dynamic (drop l.i (take l.count l.created)) && distinct (drop l.i (take l.count l.created))) ≡ true)
+    × ((length l.seen ≡ endings)
+    × ((j : ℕ) → l.i ≤ j → j < l.count → get_or l.seen (get_or l.created j 0 % endings) false ≡ true)))
+
+abbrev pub decreases-loop-i : goal.decreases-loop-i
+decreases-loop-i l = l.i

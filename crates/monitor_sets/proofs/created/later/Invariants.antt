@@ -1,0 +1,16 @@
+use Prim.Native.Nat.{◌-◌, ◌≤◌}
+use mathlib.Core.Bool.{◌||◌}
+use mathlib.Core.Path.{◌≡◌, refl, sym, ap, ◌∙◌}
+use native.Mathlib.Omega.{arith}
+use lib.ListN.{take, drop}
+use Rattle.usage.proofs.Logic.{or_right, by_cases}
+use Rattle.monitor_sets.specs.Created.{listed}
+use Rattle.monitor_sets.proofs.CreatedLaws.{or-false, listed_here, listed_more, listed-end}
+use Rattle.monitor_sets.proofs.created.later.Given as goal
+
+abbrev pub invariant-loop-i : goal.invariant-loop-i
+invariant-loop-i l =
+    (l.k ≤ l.i) × ((l.i ≤ l.count) × ((l.found || listed l.x (drop l.i (take l.count l.created))) ≡ listed l.x (drop l.k (take l.count l.created))))
+
+abbrev pub decreases-loop-i : goal.decreases-loop-i
+decreases-loop-i l = l.count - l.i

@@ -1,0 +1,34 @@
+use Prim.Native.Nat.{◌+◌, ◌-◌, ◌≤◌}
+use mathlib.Core.Bool.{Bool, true, false, not}
+use mathlib.Core.Path.{◌≡◌, refl, sym, ap, ◌∙◌}
+use native.Mathlib.Omega.{arith}
+use Rattle.usage.proofs.Logic.{by_cases}
+use Rattle.monitor_sets.specs.Created.{highest_ok}
+use Rattle.monitor_sets.proofs.HighestLaws.{highest-none, highest-above, highest-below}
+use borrow.Author.Rules.{rules}
+use Rattle.monitor_sets.proofs.created.none_above.Goals as goal
+
+twice : (b : Bool) → not (not b) ≡ b
+twice true = refl
+twice false = refl
+
+pub loop-i-init : goal.loop-i-init
+loop-i-init c = (search rules, ap not (highest-none c.args.highest c.args.created.now))
+
+pub loop-i-preserved : goal.loop-i-preserved
+loop-i-preserved c =
+    let a = c.args in
+    let t = c.loop-i in
+    let l = a.created.now in (
+      search rules,
+      by_cases c.if-highest-created.branch
+          (λ w. w.1 ∙ sym (ap not (highest-above a.highest l t.i (omega arith) w.0.taken)))
+          (λ w. w.1 ∙ t.invariant.1 ∙ sym (ap not (highest-below a.highest l t.i (omega arith) w.0.left))),
+    )
+
+pub returns : goal.returns
+returns c =
+    let t = c.loop-i in
+    let a = c.args in
+    let k : t.i ≡ a.count = omega arith in
+    ap not t.invariant.1 ∙ twice (highest_ok a.highest t.i a.created.now) ∙ ap (λ n. highest_ok a.highest n a.created.now) k

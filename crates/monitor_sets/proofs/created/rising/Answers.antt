@@ -1,0 +1,39 @@
+use Prim.Native.Nat.{◌+◌, ◌-◌, ◌≤◌}
+use mathlib.Core.Bool.{Bool, true, false, not}
+use mathlib.Core.Path.{◌≡◌, refl, sym, ap, ◌∙◌}
+use native.Mathlib.Omega.{arith}
+use Rattle.usage.proofs.Logic.{by_cases}
+use Rattle.monitor_sets.specs.Code.{rises}
+use Rattle.monitor_sets.proofs.CreatedLaws.{rises-less, rises-more}
+use borrow.Author.Rules.{rules}
+use Rattle.monitor_sets.proofs.created.rising.Goals as goal
+
+twice : (b : Bool) → not (not b) ≡ b
+twice true = refl
+twice false = refl
+
+pub loop-i-init : goal.loop-i-init
+unfolding rises
+loop-i-init c = (search rules, (search rules, refl))
+
+pub loop-i-preserved : goal.loop-i-preserved
+loop-i-preserved c =
+    let a = c.args in
+    let t = c.loop-i in
+    let l = a.created.now in
+    let k : t.i + 1 - 1 ≡ t.i = omega arith in (
+      search rules,
+      (
+        omega arith,
+        rw k (by_cases c.if-created-i.branch
+            (λ w. w.1 ∙ sym (ap not (rises-less l a.count (omega arith) t.i t.invariant.0 w.0.taken)))
+            (λ w. w.1 ∙ t.invariant.1.1 ∙ sym (ap not (rises-more l a.count (omega arith) t.i t.invariant.0 w.0.left)))),
+      ),
+    )
+
+pub returns : goal.returns
+returns c =
+    let t = c.loop-i in
+    let a = c.args in
+    let k : t.i - 1 ≡ a.count - 1 = omega arith in
+    ap not t.invariant.1.1 ∙ twice (rises a.created.now (t.i - 1)) ∙ ap (rises a.created.now) k

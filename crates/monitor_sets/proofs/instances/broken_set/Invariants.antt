@@ -1,0 +1,15 @@
+use Prim.Native.Nat.{◌-◌, ◌≤◌}
+use mathlib.Core.Path.{◌≡◌, refl, sym}
+use native.Mathlib.Omega.{arith}
+use lib.ListN.{get_or}
+use Rattle.usage.specs.Limits.{policies}
+use Rattle.automaton.specs.Mask.{union}
+use Rattle.monitor_sets.specs.Code.{broken_bit_lem, broken_in}
+use Rattle.monitor_sets.proofs.SetLaws.{union_more, none-looked}
+use Rattle.monitor_sets.proofs.instances.broken_set.Given as goal
+
+abbrev pub invariant-loop-p : goal.invariant-loop-p
+invariant-loop-p l = (l.p ≤ policies) × (l.bad ≡ union l.p (λ q. broken_bit_lem l.looked (get_or l.possible q 0) (get_or l.unclosed q 0) q))
+
+abbrev pub decreases-loop-p : goal.decreases-loop-p
+decreases-loop-p l = policies - l.p

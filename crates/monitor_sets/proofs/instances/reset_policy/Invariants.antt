@@ -1,0 +1,15 @@
+use Prim.Native.Nat.{ℕ, ◌+◌, ◌-◌, ◌*◌, ◌≤◌}
+use mathlib.Core.Path.{◌≡◌, refl, ap, ◌∙◌}
+use mathlib.Core.List.{List}
+use native.Mathlib.Omega.{arith}
+use lib.ListN.{length, set, length-set}
+use Rattle.monitor_sets.specs.Instances.{instances, set_places}
+use Rattle.monitor_sets.specs.Sets.{start_set, reset_sets}
+use Rattle.monitor_sets.proofs.PlaceLaws.{reset-none, reset-more}
+use Rattle.monitor_sets.proofs.instances.reset_policy.Given as goal
+
+abbrev pub invariant-loop-i : goal.invariant-loop-i
+invariant-loop-i l = (l.i ≤ l.n) × ((l.k ≡ l.p * instances) × ((length l.sets ≡ set_places) × (l.sets ≡ reset_sets l.i l.p l.initial.sets)))
+
+abbrev pub decreases-loop-i : goal.decreases-loop-i
+decreases-loop-i l = l.n - l.i

@@ -1,0 +1,19 @@
+-- `close_row` meets its contract. The invariant: the places from k + at to below j have what stood behind them.
+use Prim.Native.Nat.{ℕ, ◌+◌, ◌-◌, ◌<◌, ◌≤◌}
+use mathlib.Core.Path.{◌≡◌, refl, ap, ◌∙◌}
+use mathlib.Core.List.{List}
+use native.Mathlib.Omega.{arith}
+use lib.ListN.{length, set, length-set, get_or}
+use Rattle.usage.specs.Tables.{from}
+use Rattle.monitor_sets.specs.Instances.{set_places}
+use Rattle.monitor_sets.specs.Code.{row_closed}
+use Rattle.monitor_sets.proofs.ClosingLaws.{closed_to, closed_none, closed-source, closed-more, closed_all}
+use Rattle.monitor_sets.proofs.retiring.close_row.Given as goal
+
+abbrev pub invariant-loop-j : goal.invariant-loop-j
+invariant-loop-j l =
+    (l.k + l.at ≤ l.j)
+    × ((l.j < l.k + l.n) × ((l.end ≡ l.k + l.n) × ((length l.sets ≡ set_places) × (l.sets ≡ from (closed_to set_places (l.k + l.at) l.initial.sets l.j) 0 set_places))))
+
+abbrev pub decreases-loop-j : goal.decreases-loop-j
+decreases-loop-j l = l.k + l.n - l.j

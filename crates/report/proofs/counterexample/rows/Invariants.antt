@@ -1,0 +1,20 @@
+use native.Mathlib.Omega.{arith}
+use mathlib.Core.Path.{◌≡◌, refl, sym, ap, ◌∙◌}
+use Prim.Native.Nat.{◌+◌, ◌-◌, ◌≤◌}
+use lib.ListN.{length, length-append}
+use lib.Seq.{sets, length-sets}
+use Rattle.report_lines.proofs.PutLaws.{sets-append}
+use Rattle.report_lines.proofs.FitLaws.{stored_at}
+use Rattle.report.specs.Counterexample.{step_row}
+use Rattle.report.proofs.CounterexampleLaws.{rows_left, all-rows-left, no-row-left, next-row-left}
+use Rattle.report.proofs.counterexample.rows.Given as goal
+
+-- what is stored and what is left make the whole, and the whole has room
+abbrev pub invariant-loop-i : goal.invariant-loop-i
+invariant-loop-i l =
+    (l.i ≤ l.n) × ((length l.out ≡ length l.initial.out) × ((l.at + length (rows_left l.trace l.n 0) ≤ length l.initial.out)
+    × ((l.next + length (rows_left l.trace l.n l.i) ≡ l.at + length (rows_left l.trace l.n 0))
+    × (sets l.out l.next (rows_left l.trace l.n l.i) ≡ sets l.initial.out l.at (rows_left l.trace l.n 0)))))
+
+abbrev pub decreases-loop-i : goal.decreases-loop-i
+decreases-loop-i l = l.n - l.i

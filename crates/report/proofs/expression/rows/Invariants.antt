@@ -1,0 +1,20 @@
+use native.Mathlib.Omega.{arith}
+use mathlib.Core.Path.{◌≡◌, refl, sym, ap, ◌∙◌}
+use Prim.Native.Nat.{◌+◌, ◌-◌, ◌≤◌}
+use lib.ListN.{length, length-append}
+use lib.Seq.{sets, length-sets}
+use Rattle.report_lines.proofs.PutLaws.{sets-append}
+use Rattle.report_lines.proofs.FitLaws.{stored_at}
+use Rattle.report.specs.Expression.{numbered_node}
+use Rattle.report.proofs.ExpressionLaws.{nodes_left, all-nodes-left, no-node-left, next-node-left}
+use Rattle.report.proofs.expression.rows.Given as goal
+
+-- what is stored and what is left make the whole, and the whole has room
+abbrev pub invariant-loop-i : goal.invariant-loop-i
+invariant-loop-i l =
+    (l.i ≤ l.n) × ((length l.out ≡ length l.initial.out) × ((l.at + length (nodes_left l.nodes 0) ≤ length l.initial.out)
+    × ((l.next + length (nodes_left l.nodes l.i) ≡ l.at + length (nodes_left l.nodes 0))
+    × (sets l.out l.next (nodes_left l.nodes l.i) ≡ sets l.initial.out l.at (nodes_left l.nodes 0)))))
+
+abbrev pub decreases-loop-i : goal.decreases-loop-i
+decreases-loop-i l = l.n - l.i

@@ -1,0 +1,54 @@
+use native.Mathlib.Omega.{arith}
+use Prim.Native.Nat.{◌≤◌}
+use mir.Syntax.{w8}
+use mir.Val.{Fits}
+use Rattle.usage.specs.Limits.{most_nodes}
+use Rattle.usage.specs.Answers.{allowed}
+use Rattle.sheet_reader.proofs.AnswerLaws.{outline-held, outline-refused-as}
+use Rattle.checker.specs.Promise.{outcome_verdict}
+use Rattle.report.proofs.OutlineLaws.{put-checked, put_refused}
+use borrow.Author.Rules.{rules}
+use Rattle.report.proofs.outline.row.Goals as goal
+
+pub overflow_mul-n : goal.overflow_mul-n
+overflow_mul-n c =
+    let a = c.args in
+    let r = c.read_outline-reading in
+    let n = c.in-Stored.n in
+    let h = outline-held a.text.now r.new.1.0 n (rw c.in-Stored.is at r.ensures.result_value) r.ensures.table_after in
+    let f : n ≤ most_nodes = h.few in
+    search rules
+
+pub slice_bounds-check-end : goal.slice_bounds-check-end
+slice_bounds-check-end c =
+    let a = c.args in
+    let r = c.read_outline-reading in
+    let n = c.in-Stored.n in
+    let h = outline-held a.text.now r.new.1.0 n (rw c.in-Stored.is at r.ensures.result_value) r.ensures.table_after in
+    let f : n ≤ most_nodes = h.few in
+    search rules
+
+pub returns-in-Stored : goal.returns-in-Stored
+returns-in-Stored c =
+    let a = c.args in
+    let r = c.read_outline-reading in
+    let n = c.in-Stored.n in
+    let h = outline-held a.text.now r.new.1.0 n (rw c.in-Stored.is at r.ensures.result_value) r.ensures.table_after in
+    let w = c.row in
+    let m = c.outcome_number in
+    let d = c.outcome_detail in
+    let k = c.check-a in
+    let room = c.requires in
+    let b : Fits w8 d.result = search rules in
+    put-checked a.local a.edges.now a.text.now a.out.now w.new.0 a.at w.result room r.new.1.0 n h
+    (outcome_verdict k.result) m.result d.result k.ensures m.ensures d.ensures b.fits w.ensures.value w.ensures.out_after
+
+pub returns-in-Refused : goal.returns-in-Refused
+returns-in-Refused c =
+    let a = c.args in
+    let r = c.read_outline-reading in
+    let w = c.row-in-Refused in
+    let z = outline-refused-as a.text.now c.in-Refused.line c.in-Refused.number (rw c.in-Refused.is at r.ensures.result_value) in
+    put_refused a.local a.edges.now a.text.now a.out.now
+    w.new.0 a.at w.result (omega arith) c.in-Refused.line c.in-Refused.number z
+    allowed w.ensures.value w.ensures.out_after

@@ -1,0 +1,54 @@
+use native.Mathlib.Omega.{arith}
+use mathlib.Core.Path.{refl}
+use Prim.Native.Nat.{◌≤◌}
+use Rattle.usage.specs.Limits.{most_edges}
+use Rattle.sheet_reader.proofs.AnswerLaws.{policies-held, policies-choice, policies-refused}
+use Rattle.report.proofs.OutputLaws.{policies-short}
+use Rattle.report.proofs.CounterexampleLaws.{edges-held, edges_none}
+use borrow.Author.Rules.{rules}
+use Rattle.report.proofs.report_counterexample.Goals as goal
+
+pub returns-then-out-lt-COUNTEREXAMPLE_ROOM : goal.returns-then-out-lt-COUNTEREXAMPLE_ROOM
+returns-then-out-lt-COUNTEREXAMPLE_ROOM c = record { value = (λ l. (refl, refl)); prints = (λ l. absurd (omega arith)) }
+
+pub overflow_mul-n : goal.overflow_mul-n
+overflow_mul-n c =
+    let a = c.args in
+    let p = c.read_policies-reading in
+    let n = c.in-Stored.n in
+    let h = policies-held a.policies.now p.new.1.0 n c.in-Stored.local (rw c.in-Stored.is at p.ensures.result_value) p.ensures.table_after in
+    let f : n ≤ most_edges = h.few in
+    search rules
+
+pub slice_bounds-of_text-end : goal.slice_bounds-of_text-end
+slice_bounds-of_text-end c =
+    let a = c.args in
+    let p = c.read_policies-reading in
+    let n = c.in-Stored.n in
+    let h = policies-held a.policies.now p.new.1.0 n c.in-Stored.local (rw c.in-Stored.is at p.ensures.result_value) p.ensures.table_after in
+    let f : n ≤ most_edges = h.few in
+    search rules
+
+pub refused-requires : goal.refused-requires
+refused-requires c =
+    let a = c.args in
+    let p = c.read_policies-reading in
+    let z = policies-refused a.policies.now c.in-Refused.line c.in-Refused.number (rw c.in-Refused.is at p.ensures.result_value) in
+    let l = policies-short a.policies.now c.in-Refused.line c.in-Refused.number z in
+    omega arith
+
+pub returns-in-Stored : goal.returns-in-Stored
+returns-in-Stored c =
+    let a = c.args in
+    let p = c.read_policies-reading in
+    let n = c.in-Stored.n in
+    let h = policies-held a.policies.now p.new.1.0 n c.in-Stored.local (rw c.in-Stored.is at p.ensures.result_value) p.ensures.table_after in
+    let choice = policies-choice a.policies.now n c.in-Stored.local (rw c.in-Stored.is at p.ensures.result_value) in record { value = (λ l. absurd (omega arith)); prints = (λ l. edges-held a.policies.now a.outline.now a.out.now p.new.1.0 n h
+          (rw choice at c.of_text.ensures)) }
+
+pub returns-in-Refused : goal.returns-in-Refused
+returns-in-Refused c =
+    let a = c.args in
+    let p = c.read_policies-reading in
+    let z = policies-refused a.policies.now c.in-Refused.line c.in-Refused.number (rw c.in-Refused.is at p.ensures.result_value) in record { value = (λ l. absurd (omega arith)); prints = (λ l.
+          edges_none a.policies.now a.outline.now a.out.now c.in-Refused.line c.in-Refused.number z c.refused.ensures) }

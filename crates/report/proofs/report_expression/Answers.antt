@@ -1,0 +1,65 @@
+use native.Mathlib.Omega.{arith}
+use Prim.Native.Nat.{◌≤◌}
+use Rattle.usage.specs.Limits.{most_nodes}
+use Rattle.sheet_expression.proofs.AnswerLaws.{expression-held, expression-refused-as}
+use Rattle.report.specs.Expression.{expression_printed, expression_room}
+use Rattle.report.proofs.OutputLaws.{no_room}
+use Rattle.report.proofs.ExpressionLaws.{held-short, printed-nodes, refused-short, printed-refusal}
+use borrow.Author.Rules.{rules}
+use Rattle.report.proofs.report_expression.Goals as goal
+
+pub returns-then-out-lt-EXPRESSION_ROOM : goal.returns-then-out-lt-EXPRESSION_ROOM
+returns-then-out-lt-EXPRESSION_ROOM c =
+    let a = c.args in
+    no_room expression_room a.out.now (expression_printed a.text.now) c.if-out-lt-EXPRESSION_ROOM.true
+
+pub overflow_mul-n : goal.overflow_mul-n
+overflow_mul-n c =
+    let a = c.args in
+    let p = c.read_expression-reading in
+    let n = c.in-Stored.n in
+    let h = expression-held a.text.now p.new.1.0 n (rw c.in-Stored.is at p.ensures.result_value) p.ensures.table_after in
+    let f : n ≤ most_nodes = h.few in
+    search rules
+
+pub slice_bounds-sheet-end : goal.slice_bounds-sheet-end
+slice_bounds-sheet-end c =
+    let a = c.args in
+    let p = c.read_expression-reading in
+    let n = c.in-Stored.n in
+    let h = expression-held a.text.now p.new.1.0 n (rw c.in-Stored.is at p.ensures.result_value) p.ensures.table_after in
+    let f : n ≤ most_nodes = h.few in
+    search rules
+
+pub sheet-requires : goal.sheet-requires
+sheet-requires c =
+    let a = c.args in
+    let p = c.read_expression-reading in
+    let n = c.in-Stored.n in
+    let h = expression-held a.text.now p.new.1.0 n (rw c.in-Stored.is at p.ensures.result_value) p.ensures.table_after in
+    let l = held-short a.text.now p.new.1.0 n h in
+    omega arith
+
+pub refused-requires : goal.refused-requires
+refused-requires c =
+    let a = c.args in
+    let p = c.read_expression-reading in
+    let z = expression-refused-as a.text.now c.in-Refused.line c.in-Refused.number (rw c.in-Refused.is at p.ensures.result_value) in
+    let l = refused-short a.text.now c.in-Refused.line c.in-Refused.number z in
+    omega arith
+
+pub returns-in-Stored : goal.returns-in-Stored
+returns-in-Stored c =
+    let a = c.args in
+    let p = c.read_expression-reading in
+    let n = c.in-Stored.n in
+    let h = expression-held a.text.now p.new.1.0 n (rw c.in-Stored.is at p.ensures.result_value) p.ensures.table_after in
+    let s = c.sheet in
+    printed-nodes a.text.now p.new.1.0 n h a.out.now c.if-out-lt-EXPRESSION_ROOM.false s.ensures.value s.ensures.out_after
+
+pub returns-in-Refused : goal.returns-in-Refused
+returns-in-Refused c =
+    let a = c.args in
+    let p = c.read_expression-reading in
+    let z = expression-refused-as a.text.now c.in-Refused.line c.in-Refused.number (rw c.in-Refused.is at p.ensures.result_value) in
+    printed-refusal a.text.now c.in-Refused.line c.in-Refused.number z a.out.now c.if-out-lt-EXPRESSION_ROOM.false c.refused.ensures

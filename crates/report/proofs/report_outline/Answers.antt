@@ -1,0 +1,84 @@
+use native.Mathlib.Omega.{arith}
+use Prim.Native.Nat.{ℕ, ◌≤◌}
+use mathlib.Core.List.{List}
+use Rattle.usage.specs.Limits.{most_edges}
+use Rattle.usage.specs.Answers.{Verdict, allowed}
+use Rattle.sheet_lines.specs.Sheet.{sheet}
+use Rattle.sheet_lines.specs.Sheets.{outline_sheet}
+use Rattle.sheet_reader.specs.Readers.{ruled_result}
+use Rattle.sheet_reader.proofs.AnswerLaws.{policies-held, policies-choice, policies-refused}
+use Rattle.report.specs.Output.{outline_room}
+use Rattle.report.specs.Outline.{nodes_row, outline_printed}
+use Rattle.report.proofs.OutputLaws.{names-end, names-length, printed-held, printed-refused}
+use Rattle.report.proofs.OutlineLaws.{outline-no-room, outline-put, right-held, right-refused}
+use borrow.Author.Rules.{rules}
+use Rattle.report.proofs.report_outline.Goals as goal
+
+-- what is printed with the edges, by the verdict that is right
+abbrev rest : List ℕ → Verdict → List ℕ → List ℕ
+rest text v edges = nodes_row (ruled_result (sheet outline_sheet text)) v
+
+pub returns-then-out-lt-OUTLINE_ROOM : goal.returns-then-out-lt-OUTLINE_ROOM
+returns-then-out-lt-OUTLINE_ROOM c =
+    let a = c.args in
+    outline-no-room a.policies.now a.outline.now a.out.now (omega arith)
+
+pub overflow_mul-n : goal.overflow_mul-n
+overflow_mul-n c =
+    let a = c.args in
+    let p = c.read_policies-reading in
+    let n = c.in-Stored.n in
+    let h = policies-held a.policies.now p.new.1.0 n c.in-Stored.local (rw c.in-Stored.is at p.ensures.result_value) p.ensures.table_after in
+    let f : n ≤ most_edges = h.few in
+    search rules
+
+pub slice_bounds-row-end : goal.slice_bounds-row-end
+slice_bounds-row-end c =
+    let a = c.args in
+    let p = c.read_policies-reading in
+    let n = c.in-Stored.n in
+    let h = policies-held a.policies.now p.new.1.0 n c.in-Stored.local (rw c.in-Stored.is at p.ensures.result_value) p.ensures.table_after in
+    let f : n ≤ most_edges = h.few in
+    search rules
+
+pub row-requires : goal.row-requires
+row-requires c =
+    let a = c.args in
+    let w = c.names-next in
+    let e = names-end a.out.now (omega arith) w.result w.new.0 w.ensures.value w.ensures.out_after in
+    let l = names-length a.out.now (omega arith) w.result w.new.0 w.ensures.value w.ensures.out_after in
+    omega arith
+
+pub returns-in-Stored : goal.returns-in-Stored
+unfolding outline_printed
+returns-in-Stored c =
+    let a = c.args in
+    let w = c.names-next in
+    let p = c.read_policies-reading in
+    let t = c.row in
+    let n = c.in-Stored.n in
+    let h = policies-held a.policies.now p.new.1.0 n c.in-Stored.local (rw c.in-Stored.is at p.ensures.result_value) p.ensures.table_after in
+    let right = right-held a.policies.now a.outline.now p.new.1.0 n h in
+    let choice = policies-choice a.policies.now n c.in-Stored.local (rw c.in-Stored.is at p.ensures.result_value) in
+    let told = rw choice at t.ensures in
+    let w₀ = told.1.1.0.0 in
+    outline-put a.policies.now a.outline.now a.out.now t.result _ w₀ ((right w₀).1 told.1.1.0.1) (λ v l.
+    let r = told.0 v ((right v).0 l) in
+    let b = told.1.1.1 in
+    printed-held a.out.now (omega arith) w.result w.new.0 w.ensures.value w.ensures.out_after outline_room a.policies.now
+    (rest a.outline.now v)
+    (omega arith) (omega arith) p.new.1.0 n h r (told.1.0 v ((right v).0 l)) (omega arith))
+
+pub returns-in-Refused : goal.returns-in-Refused
+unfolding outline_printed
+returns-in-Refused c =
+    let a = c.args in
+    let w = c.names-next in
+    let p = c.read_policies-reading in
+    let t = c.row-in-Refused in
+    let z = policies-refused a.policies.now c.in-Refused.line c.in-Refused.number (rw c.in-Refused.is at p.ensures.result_value) in
+    let right = right-refused a.policies.now a.outline.now c.in-Refused.line c.in-Refused.number z in
+    outline-put a.policies.now a.outline.now a.out.now t.result _ allowed (right allowed) (λ v l.
+    printed-refused a.out.now (omega arith) w.result w.new.0 w.ensures.value w.ensures.out_after outline_room a.policies.now
+    (rest a.outline.now v)
+    (omega arith) (omega arith) c.in-Refused.line c.in-Refused.number z t.ensures.value t.ensures.out_after)

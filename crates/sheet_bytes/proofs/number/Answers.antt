@@ -1,0 +1,11 @@
+use borrow.Author.Tests.{ne_eqb}
+use Rattle.sheet_bytes.proofs.number.Goals as goal
+
+pub returns-in-2 : goal.returns-in-2
+returns-in-2 c = rw c.in-2.is
+
+pub returns-in-4 : goal.returns-in-4
+returns-in-4 c = rw c.in-4.is
+
+pub returns-in_default : goal.returns-in_default
+returns-in_default c = simp (ne_eqb _ _ c.in-2.rest.0.1, ne_eqb _ _ c.in-2.rest.1)

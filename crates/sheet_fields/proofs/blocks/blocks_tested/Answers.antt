@@ -1,0 +1,35 @@
+use Prim.Native.Nat.{◌*◌, ◌-◌, ◌≤◌}
+use mathlib.Core.Path.{◌≡◌, sym, ◌∙◌}
+use native.Mathlib.Omega.{arith}
+use Rattle.usage.proofs.Logic.{by_cases}
+use Rattle.sheet_fields.specs.Code.{tested_in, block_edges, repeated}
+use Rattle.sheet_fields.proofs.EdgeLaws.{tested-none}
+use Rattle.sheet_fields.proofs.BlockLaws.{block-plain}
+use Rattle.sheet_fields.proofs.blocks.blocks_tested.Reads as reads
+use Rattle.sheet_fields.proofs.blocks.block_faults.Reads as block-faults-reads
+use Rattle.sheet_fields.proofs.edges.more_tested.Reads as more-tested-reads
+use borrow.Author.Rules.{rules}
+use Rattle.sheet_fields.proofs.blocks.blocks_tested.Goals as goal
+
+pub loop-i-init : goal.loop-i-init
+loop-i-init c = (search rules, tested-none c.args.edges.now)
+
+pub more_tested-s-requires : goal.more_tested-s-requires
+more_tested-s-requires c =
+    let t = c.loop-i in
+    record { before_value = t.invariant.1; start_le_end = search rules; end_in_bounds = search rules }
+
+pub loop-i-preserved : goal.loop-i-preserved
+unfolding repeated
+loop-i-preserved c =
+    let a = c.args in
+    let t = c.loop-i in (
+      search rules,
+      by_cases c.if-block_faults-ne0.branch (λ w. w.2 ∙ w.1.ensures)
+          (λ w. w.1 ∙ t.invariant.1 ∙ block-plain a.edges.now t.i (sym c.block_faults.ensures ∙ w.0.left)),
+    )
+
+pub returns : goal.returns
+returns c =
+    let e : c.loop-i.i ≡ c.args.n = omega arith in
+    rw e at c.loop-i.invariant.1

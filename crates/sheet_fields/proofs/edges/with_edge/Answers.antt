@@ -1,0 +1,42 @@
+use Prim.Native.Nat.{◌+◌, ◌*◌}
+use mathlib.Core.Path.{refl, sym, ◌∙◌}
+use native.Mathlib.Omega.{arith}
+use borrow.Author.Tests.{not-true, not-false}
+use Rattle.usage.specs.Limits.{edge_fields}
+use Rattle.sheet_fields.proofs.edges.with_edge.Reads as reads
+use Rattle.automaton.proofs.pairs.joined.Reads as joined-reads
+use Rattle.sheet_fields.proofs.edge_fits.Reads as edge-fits-reads
+use Rattle.sheet_fields.proofs.edges.with_edge.Goals as goal
+
+pub overflow_cast-policy : goal.overflow_cast-policy
+overflow_cast-policy c = omega (arith, c.type_inv.edges (edge_fields * c.args.i))
+
+pub overflow_cast-from : goal.overflow_cast-from
+overflow_cast-from c = omega (arith, c.type_inv.edges (edge_fields * c.args.i + 1))
+
+pub overflow_cast-action : goal.overflow_cast-action
+overflow_cast-action c = omega (arith, c.type_inv.edges (edge_fields * c.args.i + 2))
+
+pub overflow_cast-on : goal.overflow_cast-on
+overflow_cast-on c = omega (arith, c.type_inv.edges (edge_fields * c.args.i + 3))
+
+pub overflow_cast-who : goal.overflow_cast-who
+overflow_cast-who c = omega (arith, c.type_inv.edges (edge_fields * c.args.i + 4))
+
+pub overflow_cast-to : goal.overflow_cast-to
+overflow_cast-to c =
+    omega (arith, c.type_inv.edges (edge_fields * c.args.i + 5))
+
+pub returns-then-not-edge_fits : goal.returns-then-not-edge_fits
+returns-then-not-edge_fits c =
+    rw (
+      ← c.joined-pairs.ensures,
+      (sym c.edge_fits.ensures ∙ not-true c.edge_fits.result c.if-not-edge_fits.true-raw),
+    ) refl
+
+pub returns-else-not-edge_fits : goal.returns-else-not-edge_fits
+returns-else-not-edge_fits c =
+    rw (
+      ← c.joined-pairs.ensures,
+      (sym c.edge_fits.ensures ∙ not-false c.edge_fits.result c.if-not-edge_fits.false-raw),
+    ) refl

@@ -1,0 +1,13 @@
+use native.Mathlib.Omega.{arith}
+use Rattle.usage.specs.Tables.{nodes_of}
+use Rattle.usage.specs.Tests.{some_below, gives_name_lem}
+use Rattle.sheet_rules.proofs.NodeLaws.{found_below, on_below}
+use mathlib.Core.Path.{◌≡◌, refl, sym, ◌∙◌}
+use Prim.Native.Nat.{◌≤◌}
+use Rattle.sheet_rules.proofs.node_rules.given_below.Given as goal
+
+abbrev pub invariant-loop-j : goal.invariant-loop-j
+invariant-loop-j l = (l.j ≤ l.k) × (some_below (gives_name_lem (nodes_of l.nodes) l.x) l.j ≡ some_below (gives_name_lem (nodes_of l.nodes) l.x) l.k)
+
+abbrev pub decreases-loop-j : goal.decreases-loop-j
+decreases-loop-j l = l.j

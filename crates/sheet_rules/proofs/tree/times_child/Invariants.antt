@@ -1,0 +1,17 @@
+use native.Mathlib.Omega.{arith}
+use Rattle.usage.specs.Limits.{node_fields}
+use Rattle.usage.specs.Tables.{from, node_at_lem, nodes_of}
+use Rattle.usage.specs.Valid.{times_child_lem}
+use native.Mathlib.Nat.{zero-add}
+use Prim.Native.Nat.{◌*◌, ◌/◌, ◌+◌, ◌-◌, ◌≤◌}
+use Rattle.sheet_rules.proofs.NodeLaws.{times-begin, times_more, times-end}
+use mathlib.Core.Path.{◌≡◌, ◌∙◌}
+use lib.ListN.{length}
+use Rattle.sheet_rules.proofs.tree.times_child.Given as goal
+
+abbrev pub invariant-loop-j : goal.invariant-loop-j
+invariant-loop-j l =
+    (l.j ≤ l.n) × ((l.count ≤ 2 * l.j) × (l.count + times_child_lem l.c (from (node_at_lem l.nodes) l.j (l.n - l.j)) ≡ times_child_lem l.c (nodes_of l.nodes)))
+
+abbrev pub decreases-loop-j : goal.decreases-loop-j
+decreases-loop-j l = l.n - l.j

@@ -1,0 +1,12 @@
+use native.Mathlib.Omega.{arith}
+use mathlib.Core.Path.{◌≡◌, refl}
+use Prim.Native.Nat.{◌-◌, ◌≤◌}
+use lib.ListN.{length}
+use Rattle.sheet_writer.proofs.LineLaws.{Lines, no_lines, lines-length, one_line, named-lines, names-end}
+use Rattle.sheet_writer.proofs.text.write.Given as goal
+
+abbrev pub invariant-loop-i : goal.invariant-loop-i
+invariant-loop-i l = (l.i ≤ l.n) × ((length l.out ≡ length l.initial.out) × Lines l.initial.out l.initial.at l.keys l.i l.at l.out)
+
+abbrev pub decreases-loop-i : goal.decreases-loop-i
+decreases-loop-i l = l.n - l.i
