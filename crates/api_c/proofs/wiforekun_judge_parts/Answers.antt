@@ -17,6 +17,7 @@ use Rattle.api_c.proofs.PartLaws.{refused-left, taken-left, full-refusing}
 use Rattle.api_c.proofs.PastLaws.{owed, refused-owed}
 use borrow.Author.Rules.{rules}
 use Rattle.api_c.proofs.wiforekun_judge_parts.Goals as goal
+use Rattle.api_c.proofs.wiforekun_judge_parts.Goals.{else-not-is_refusal, then-not-is_refusal}
 
 pub returns-then-local-gt-MOST_CHOICE : goal.returns-then-local-gt-MOST_CHOICE
 returns-then-local-gt-MOST_CHOICE c =
@@ -60,16 +61,12 @@ returns c =
     let r = c.is_refusal in
     owed a.edges.now a.local p raw _ _
     (c.code-2.ensures ∙ ap code_of (told-verdict judge_of a.edges.now a.local p raw f k h j.result _ _ _ _ _ _ j.ensures))
-    (by_cases c.if-not-is_refusal.branch
-    (λ w. ap (λ (l : List ℕ). parts_of j.new.1.1.0 j.new.1.1.1.0 j.new.1.1.1.1.0 j.new.1.1.1.1.1.0
-    j.new.1.1.1.1.1.1.0 j.new.1.1.1.1.1.1.1.0 l) w.5
+    (elim c.if-not-is_refusal.branch [ then-not-is_refusal w ↦ ap (λ (l : List ℕ). parts_of j.new.pairs.1.0 j.new.pairs.1.1.0 j.new.pairs.1.1.1.0 j.new.pairs.1.1.1.1.0
+    j.new.pairs.1.1.1.1.1.0 j.new.pairs.1.1.1.1.1.1.0 l) w.5
     ∙ taken-left judge_of a.edges.now a.local p raw f k h j.result _ _ _ _ _ _ j.ensures w.2.result
-    (sym r.ensures ∙ not-true r.result w.0.taken) w.2.ensures)
-    (λ w. ap (λ (l : List ℕ). parts_of j.new.1.1.0 j.new.1.1.1.0 j.new.1.1.1.1.0 j.new.1.1.1.1.1.0
-    j.new.1.1.1.1.1.1.0 j.new.1.1.1.1.1.1.1.0 l) w.1
+    (sym r.ensures ∙ not-true r.result w.if-not-is_refusal.true) w.2.ensures | else-not-is_refusal w ↦ ap (λ (l : List ℕ). parts_of j.new.pairs.1.0 j.new.pairs.1.1.0 j.new.pairs.1.1.1.0 j.new.pairs.1.1.1.1.0
+    j.new.pairs.1.1.1.1.1.0 j.new.pairs.1.1.1.1.1.1.0 l) w.1
     ∙ refused-left judge_of a.edges.now a.local p raw f k h j.result _ _ _ _ _ _
-    j.ensures (sym r.ensures ∙ not-false r.result w.0.left)))
-    (λ held. by_cases c.if-not-is_refusal.branch
-    (λ w. let fits : Fits w32 j.result.sizes.highest = search rules in
-    subst (λ (l : List ℕ). get_or l 3 0 ≤ most_number) (sym w.5) (omega (arith, fits.fits)))
-    (λ w. subst (λ (l : List ℕ). get_or l 3 0 ≤ most_number) (sym w.1) (held-highest p held)))
+    j.ensures (sym r.ensures ∙ not-false r.result w.if-not-is_refusal.false) ])
+    (λ held. elim c.if-not-is_refusal.branch [ then-not-is_refusal w ↦ let fits : Fits w32 j.result.sizes.highest = search rules in
+    subst (λ (l : List ℕ). get_or l 3 0 ≤ most_number) (sym w.5) (omega (arith, fits.fits)) | else-not-is_refusal w ↦ subst (λ (l : List ℕ). get_or l 3 0 ≤ most_number) (sym w.1) (held-highest p held) ])

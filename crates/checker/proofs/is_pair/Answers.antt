@@ -13,6 +13,7 @@ use Rattle.checker_account.proofs.CodeLaws.{none_more}
 use Rattle.checker.specs.Code.{pair_in}
 use borrow.Author.Rules.{rules}
 use Rattle.checker.proofs.is_pair.Goals as goal
+use Rattle.checker.proofs.is_pair.Goals.{else-edges-i, then-edges-i}
 use Rattle.checker.proofs.is_pair.Invariants.{test}
 
 pub loop-i-init : goal.loop-i-init
@@ -38,15 +39,13 @@ loop-i-preserved c =
     let l = c.loop-i in
     let x = get_or a.edges.now (6 * l.i) 0 in
     let y = get_or a.edges.now (6 * l.i + 3) 0 in
-    by_cases c.if-edges-i.branch
-    (λ w. (
+    elim c.if-edges-i.branch [ then-edges-i w ↦ (
       search rules,
       none_more (test a.edges.now a.p) l.i l.invariant.1 (and-false (eqb x a.p) (eqb y 3) (ne_eqb y 3 w.2.left)),
-    ))
-    (λ w. (
+    ) | else-edges-i w ↦ (
       search rules,
       none_more (test a.edges.now a.p) l.i l.invariant.1 (ap (λ (b : Bool). b && eqb y 3) (ne_eqb x a.p w.left)),
-    ))
+    ) ]
 
 pub returns : goal.returns
 unfolding pair_in

@@ -13,6 +13,7 @@ use mathlib.Core.Path.{◌≡◌, refl, sym, ap}
 use lib.ListN.{length, get_or}
 use borrow.Author.Rules.{rules}
 use Rattle.checker.proofs.opens.Goals as goal
+use Rattle.checker.proofs.opens.Goals.{else-nodes-k-eq-SANDBOX, then-nodes-k-eq-SANDBOX}
 use Rattle.checker.proofs.opens.Invariants.{test}
 
 pub loop-k-init : goal.loop-k-init
@@ -38,17 +39,15 @@ loop-k-preserved c =
     let l = c.loop-k in
     let x = get_or a.nodes.now (3 * l.k) 0 in
     let y = get_or a.nodes.now (3 * l.k + 1) 0 in
-    by_cases c.if-nodes-k-eq-SANDBOX.branch
-    (λ w. (
+    elim c.if-nodes-k-eq-SANDBOX.branch [ then-nodes-k-eq-SANDBOX w ↦ (
       search rules,
       none_more (test a.nodes.now a.p) l.k l.invariant.1
           (and-false (eqb x 8) (eqb y a.p) (ne_eqb y a.p w.2.left)),
-    ))
-    (λ w. (
+    ) | else-nodes-k-eq-SANDBOX w ↦ (
       search rules,
       none_more (test a.nodes.now a.p) l.k l.invariant.1
           (ap (λ (b : Bool). b && eqb y a.p) (ne_eqb x 8 w.left)),
-    ))
+    ) ]
 
 pub returns : goal.returns
 unfolding opens

@@ -57,7 +57,7 @@ loop-k-preserved c =
     ∙ ap (λ (d : Option Form). node_rows (rows_at (edges_of a.edges.now)) a.pair a.p l.k d l.rows)
     (c.form-f.ensures ∙ form-at a.nodes.now l.k h) in
     let f = steps a.edges.now a.nodes.now a.p a.pair in
-    (search rules, repeat-more f l.k (replicate places 0) l.rows c.of_node.new.0 l.invariant.1 e)
+    (search rules, repeat-more f l.k (replicate places 0) l.rows c.of_node.new.rows l.invariant.1 e)
 
 pub returns : goal.returns
 unfolding fill_rows

@@ -21,4 +21,4 @@ returns-in-Fresh c = rw c.in-Fresh.is c.event_rows-in-Fresh.ensures
 pub returns-in_default : goal.returns-in_default
 returns-in_default c =
     let a = c.args in
-    no_rows (rows_at (edges_of a.edges.now)) a.s.pair a.s.policy a.s.node a.rows.now a.f c.in-OnStatic.keys4
+    no_rows (rows_at (edges_of a.edges.now)) a.s.pair a.s.policy a.s.node a.rows.now a.f c.in_default.in_default-own

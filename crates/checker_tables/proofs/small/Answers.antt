@@ -41,4 +41,4 @@ unfolding small
 returns-in-Sandbox c = rw c.in-Sandbox.is c.in_room-in-Sandbox.ensures
 
 pub returns-in_default : goal.returns-in_default
-returns-in_default c = no_number c.args.f c.in-OnStatic.keys9
+returns-in_default c = no_number c.args.f c.in_default.in_default-own

@@ -12,6 +12,7 @@ use Rattle.checker_tables.proofs.union_over.Reads as reads
 use Rattle.checker_account.specs.Tables.{over}
 use borrow.Author.Rules.{rules}
 use Rattle.checker_tables.proofs.union_over.Goals as goal
+use Rattle.checker_tables.proofs.union_over.Goals.{else-v-q-eq1, then-v-q-eq1}
 
 pub loop-q-init : goal.loop-q-init
 unfolding union
@@ -22,12 +23,10 @@ loop-q-preserved c =
     let a = c.args in
     let l = c.loop-q in
     let f : ℕ → ℕ = λ (j : ℕ). get_or a.t.now (a.i + j) 0 in
-    by_cases c.if-v-q-eq1.branch
-    (λ w. (search rules, ap₂ (λ (n m : ℕ). bit_or n m) l.invariant.1 w.1 ∙ over-in f a.v l.q w.0.taken))
-    (λ w. (
+    elim c.if-v-q-eq1.branch [ then-v-q-eq1 w ↦ (search rules, ap₂ (λ (n m : ℕ). bit_or n m) l.invariant.1 w.1 ∙ over-in f a.v l.q w.if-v-q-eq1.true) | else-v-q-eq1 w ↦ (
       search rules,
-      ap₂ (λ (n m : ℕ). bit_or n m) l.invariant.1 w.1 ∙ or_zero_r _ ∙ over-out f a.v l.q w.0.left,
-    ))
+      ap₂ (λ (n m : ℕ). bit_or n m) l.invariant.1 w.1 ∙ or_zero_r _ ∙ over-out f a.v l.q w.if-v-q-eq1.false,
+    ) ]
 
 pub returns : goal.returns
 unfolding over

@@ -26,4 +26,4 @@ returns c =
     let s = c.store in
     let k : length p.result.cells ≡ 81 = search rules in record { settles = λ ok l. start-settles (nodes_of a.nodes.now) c.spread.result c.spread.new.1.0
           (c.spread.ensures.settles (start_position ∷ []) ok
-          (start-tabled a.t.now p.result.cells s.new.0 k p.ensures s.ensures)); upper_bound = c.spread.ensures.rows_counted.1; nothing_written = λ o. absurd (by_cases o (λ d. d c.if-t-ne-ROWS.false) (λ d. omega arith)) }
+          (start-tabled a.t.now p.result.cells s.new.t k p.ensures s.ensures)); upper_bound = c.spread.ensures.rows_counted.1; nothing_written = λ o. absurd (by_cases o (λ d. d c.if-t-ne-ROWS.false) (λ d. omega arith)) }

@@ -21,6 +21,7 @@ use Rattle.monitor_state.proofs.refused.Reads as refused-reads
 use Rattle.monitor_state.proofs.settled.Reads as settled-reads
 use borrow.Author.Rules.{rules}
 use Rattle.monitor.proofs.judge_create.Goals as goal
+use Rattle.monitor.proofs.judge_create.Goals.{else-bad-eq0, then-bad-eq0}
 
 pub returns-then-r-lt-STATICS : goal.returns-then-r-lt-STATICS
 returns-then-r-lt-STATICS c =
@@ -64,9 +65,7 @@ returns c =
     let bad = e.result in
     let new = set a.created.now a.sizes.count a.r in
     let made : c.if-bad-eq0.created ≡ cond (eqb bad 0) new a.created.now =
-    by_cases c.if-bad-eq0.branch
-    (λ w. w.1 ∙ sym (ap (λ (b : Bool). cond b new a.created.now) (eq-eqb _ _ w.0.taken)))
-    (λ w. w.1 ∙ sym (ap (λ (b : Bool). cond b new a.created.now) (ne_eqb _ _ w.0.left))) in
+    elim c.if-bad-eq0.branch [ then-bad-eq0 w ↦ w.created-is ∙ sym (ap (λ (b : Bool). cond b new a.created.now) (eq-eqb _ _ w.if-bad-eq0.true)) | else-bad-eq0 w ↦ w.created-is ∙ sym (ap (λ (b : Bool). cond b new a.created.now) (ne_eqb _ _ w.if-bad-eq0.false)) ] in
     let room : a.sizes.count < most_created = c.if-count-ge-MOST_CREATED.false in
     let above : a.sizes.highest < a.r = c.if-r-sizes.false in
     let inside : a.sizes.count < length a.created.now = omega arith in

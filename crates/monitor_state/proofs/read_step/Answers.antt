@@ -32,5 +32,5 @@ returns-in-3 c =
 pub returns-in_default : goal.returns-in_default
 unfolding step_of
 returns-in_default c =
-    rw (no_kind c.args.step.kind c.in-0.rest.0.0.0.1 c.in-0.rest.0.0.1 c.in-0.rest.0.1
-    c.in-0.rest.1)
+    rw (no_kind c.args.step.kind c.in_default.in_default-own.0.0.0.1 c.in_default.in_default-own.0.0.1 c.in_default.in_default-own.0.1
+    c.in_default.in_default-own.1)

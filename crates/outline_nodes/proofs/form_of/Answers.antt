@@ -33,6 +33,6 @@ returns-in-8 c = form-by c.args.n 8 c.in-8.is
 pub returns-in_default : goal.returns-in_default
 returns-in_default c =
     let f = c.args.n in
-    let n = c.in-0.rest in
+    let n = c.in_default.in_default-own in
     sym (no-form f.kind f.a f.b n.0.0.0.0.0.0.0.0.1 n.0.0.0.0.0.0.0.1 n.0.0.0.0.0.0.1
     n.0.0.0.0.0.1 n.0.0.0.0.1 n.0.0.0.1 n.0.0.1 n.0.1 n.1)

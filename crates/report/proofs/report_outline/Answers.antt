@@ -45,8 +45,8 @@ pub row-requires : goal.row-requires
 row-requires c =
     let a = c.args in
     let w = c.names-next in
-    let e = names-end a.out.now (omega arith) w.result w.new.0 w.ensures.value w.ensures.out_after in
-    let l = names-length a.out.now (omega arith) w.result w.new.0 w.ensures.value w.ensures.out_after in
+    let e = names-end a.out.now (omega arith) w.result w.new.out w.ensures.value w.ensures.out_after in
+    let l = names-length a.out.now (omega arith) w.result w.new.out w.ensures.value w.ensures.out_after in
     omega arith
 
 pub returns-in-Stored : goal.returns-in-Stored
@@ -65,7 +65,7 @@ returns-in-Stored c =
     outline-put a.policies.now a.outline.now a.out.now t.result _ w₀ ((right w₀).1 told.1.1.0.1) (λ v l.
     let r = told.0 v ((right v).0 l) in
     let b = told.1.1.1 in
-    printed-held a.out.now (omega arith) w.result w.new.0 w.ensures.value w.ensures.out_after outline_room a.policies.now
+    printed-held a.out.now (omega arith) w.result w.new.out w.ensures.value w.ensures.out_after outline_room a.policies.now
     (rest a.outline.now v)
     (omega arith) (omega arith) p.new.1.0 n h r (told.1.0 v ((right v).0 l)) (omega arith))
 
@@ -79,6 +79,6 @@ returns-in-Refused c =
     let z = policies-refused a.policies.now c.in-Refused.line c.in-Refused.number (rw c.in-Refused.is at p.ensures.result_value) in
     let right = right-refused a.policies.now a.outline.now c.in-Refused.line c.in-Refused.number z in
     outline-put a.policies.now a.outline.now a.out.now t.result _ allowed (right allowed) (λ v l.
-    printed-refused a.out.now (omega arith) w.result w.new.0 w.ensures.value w.ensures.out_after outline_room a.policies.now
+    printed-refused a.out.now (omega arith) w.result w.new.out w.ensures.value w.ensures.out_after outline_room a.policies.now
     (rest a.outline.now v)
     (omega arith) (omega arith) c.in-Refused.line c.in-Refused.number z t.ensures.value t.ensures.out_after)

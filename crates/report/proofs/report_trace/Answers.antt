@@ -45,8 +45,8 @@ pub rows-requires : goal.rows-requires
 rows-requires c =
     let a = c.args in
     let w = c.names-at in
-    let e = names-end a.out.now (omega arith) w.result w.new.0 w.ensures.value w.ensures.out_after in
-    let l = names-length a.out.now (omega arith) w.result w.new.0 w.ensures.value w.ensures.out_after in
+    let e = names-end a.out.now (omega arith) w.result w.new.out w.ensures.value w.ensures.out_after in
+    let l = names-length a.out.now (omega arith) w.result w.new.out w.ensures.value w.ensures.out_after in
     omega arith
 
 pub returns-in-Stored : goal.returns-in-Stored
@@ -60,7 +60,7 @@ returns-in-Stored c =
     let h = policies-held a.policies.now p.new.1.0 n c.in-Stored.local (rw c.in-Stored.is at p.ensures.result_value) p.ensures.table_after in
     let choice = policies-choice a.policies.now n c.in-Stored.local (rw c.in-Stored.is at p.ensures.result_value) in
     let l = rows_fit (take (n * 6 - 0) p.new.1.0) (is_local a.policies.now) a.trace.now in
-    printed-held a.out.now (omega arith) w.result w.new.0 w.ensures.value w.ensures.out_after trace_room a.policies.now
+    printed-held a.out.now (omega arith) w.result w.new.out w.ensures.value w.ensures.out_after trace_room a.policies.now
     (rest (is_local a.policies.now) a.trace.now)
     (omega arith) (omega arith) p.new.1.0 n h (rw choice at t.ensures.value) (rw choice at t.ensures.out_after) (omega arith)
 
@@ -72,6 +72,6 @@ returns-in-Refused c =
     let p = c.read_policies-reading in
     let t = c.row in
     let z = policies-refused a.policies.now c.in-Refused.line c.in-Refused.number (rw c.in-Refused.is at p.ensures.result_value) in
-    printed-refused a.out.now (omega arith) w.result w.new.0 w.ensures.value w.ensures.out_after trace_room a.policies.now
+    printed-refused a.out.now (omega arith) w.result w.new.out w.ensures.value w.ensures.out_after trace_room a.policies.now
     (rest (is_local a.policies.now) a.trace.now)
     (omega arith) (omega arith) c.in-Refused.line c.in-Refused.number z t.ensures.value t.ensures.out_after

@@ -28,7 +28,7 @@ pub returns-then-n-ge10 : goal.returns-then-n-ge10
 returns-then-n-ge10 c =
     let a = c.args in
     let n = c.number-last in
-    let k = ap length n.ensures.out_after ∙ length-sets _ _ (decimal a.n) in record { value = omega arith; out_after = rw (n.ensures.out_after, n.ensures.value) (sym (sets-field _ _ a.n a.end)); out_len_unchanged = length-set n.new.0 n.result a.end
+    let k = ap length n.ensures.out_after ∙ length-sets _ _ (decimal a.n) in record { value = omega arith; out_after = rw (n.ensures.out_after, n.ensures.value) (sym (sets-field _ _ a.n a.end)); out_len_unchanged = length-set n.new.out n.result a.end
             ∙ k }
 
 pub bounds-out-at-2 : goal.bounds-out-at-2

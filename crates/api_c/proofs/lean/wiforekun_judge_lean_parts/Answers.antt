@@ -15,6 +15,7 @@ use Rattle.api_c.proofs.PartLaws.{flag-above, highest-above, is-held, choice-ref
 use Rattle.api_c.proofs.PartLaws.{refused-left, taken-left, looked-refusing}
 use Rattle.api_c.proofs.LeanLaws.{parts-told, refused-told}
 use Rattle.api_c.proofs.lean.wiforekun_judge_lean_parts.Goals as goal
+use Rattle.api_c.proofs.lean.wiforekun_judge_lean_parts.Goals.{else-not-is_refusal, then-not-is_refusal}
 
 pub returns-then-local-gt-MOST_CHOICE : goal.returns-then-local-gt-MOST_CHOICE
 returns-then-local-gt-MOST_CHOICE c =
@@ -59,12 +60,10 @@ returns c =
     let r = c.is_refusal in
     parts-told a.marks.now a.edges.now a.local p raw _ _
     (c.code-2.ensures ∙ ap code_of (told-verdict (lean_of a.marks.now) a.edges.now a.local p raw f k h j.result _ _ _ _ _ _ is))
-    (by_cases c.if-not-is_refusal.branch
-    (λ w. ap (λ (l : List ℕ). parts_of j.new.1.1.1.0 j.new.1.1.1.1.0 j.new.1.1.1.1.1.0 j.new.1.1.1.1.1.1.0
-    j.new.1.1.1.1.1.1.1.0 j.new.1.1.1.1.1.1.1.1.0 l) w.5
+    (elim c.if-not-is_refusal.branch [ then-not-is_refusal w ↦ ap (λ (l : List ℕ). parts_of j.new.pairs.1.1.0 j.new.pairs.1.1.1.0 j.new.pairs.1.1.1.1.0 j.new.pairs.1.1.1.1.1.0
+    j.new.pairs.1.1.1.1.1.1.0 j.new.pairs.1.1.1.1.1.1.1.0 l) w.5
     ∙ taken-left (lean_of a.marks.now) a.edges.now a.local p raw f k h j.result _ _ _ _ _ _ is w.2.result
-    (sym r.ensures ∙ not-true r.result w.0.taken) w.2.ensures)
-    (λ w. ap (λ (l : List ℕ). parts_of j.new.1.1.1.0 j.new.1.1.1.1.0 j.new.1.1.1.1.1.0 j.new.1.1.1.1.1.1.0
-    j.new.1.1.1.1.1.1.1.0 j.new.1.1.1.1.1.1.1.1.0 l) w.1
+    (sym r.ensures ∙ not-true r.result w.if-not-is_refusal.true) w.2.ensures | else-not-is_refusal w ↦ ap (λ (l : List ℕ). parts_of j.new.pairs.1.1.0 j.new.pairs.1.1.1.0 j.new.pairs.1.1.1.1.0 j.new.pairs.1.1.1.1.1.0
+    j.new.pairs.1.1.1.1.1.1.0 j.new.pairs.1.1.1.1.1.1.1.0 l) w.1
     ∙ refused-left (lean_of a.marks.now) a.edges.now a.local p raw f k h j.result _ _ _ _ _ _
-    is (sym r.ensures ∙ not-false r.result w.0.left)))
+    is (sym r.ensures ∙ not-false r.result w.if-not-is_refusal.false) ])

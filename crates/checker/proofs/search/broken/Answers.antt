@@ -21,6 +21,7 @@ use Rattle.checker.specs.Code.{worth_of}
 use Rattle.checker.proofs.WorthLaws.{not-worth}
 use borrow.Author.Rules.{rules}
 use Rattle.checker.proofs.search.broken.Goals as goal
+use Rattle.checker.proofs.search.broken.Goals.{else-worth, then-worth}
 use Rattle.checker.proofs.search.broken.Invariants.{Clear}
 
 -- the nodes of an accepted outline fit
@@ -57,11 +58,9 @@ loop-i-preserved c =
     let x = c.at-x in
     let t = c.worth in
     let clear : Clear a.nodes.now a.local a.rows.now a.p a.pair l.i =
-    by_cases c.if-worth.branch
-    (λ w. inr (told a.nodes.now a.local a.rows.now a.p x.result (choice_at a.pair l.i) w.1.result false p
-    x.ensures w.1.ensures w.2.left))
-    (λ w. skipped a.nodes.now a.local a.rows.now a.p a.pair l.i x.result t.result x.ensures t.ensures
-    w.left) in
+    elim c.if-worth.branch [ then-worth w ↦ inr (told a.nodes.now a.local a.rows.now a.p x.result (choice_at a.pair l.i) w.1.result false p
+    x.ensures w.1.ensures w.2.left) | else-worth w ↦ skipped a.nodes.now a.local a.rows.now a.p a.pair l.i x.result t.result x.ensures t.ensures
+    w.left ] in
     (search rules, below_more (Clear a.nodes.now a.local a.rows.now a.p a.pair) l.i l.invariant.1 clear)
 
 pub returns : goal.returns

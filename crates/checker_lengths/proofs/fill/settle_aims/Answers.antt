@@ -20,6 +20,7 @@ use Rattle.checker_lengths.proofs.offers.gives.Reads as gives-reads
 use Rattle.checker_lengths.proofs.offers.low_end.Reads as low-end-reads
 use Rattle.checker_lengths.proofs.offers.toward.Reads as toward-reads
 use Rattle.checker_lengths.proofs.fill.settle_aims.Goals as goal
+use Rattle.checker_lengths.proofs.fill.settle_aims.Goals.{else-settle, then-settle}
 
 pub returns-then-not-gives : goal.returns-then-not-gives
 returns-then-not-gives c =
@@ -43,13 +44,13 @@ loop-i-preserved c =
     let k = c.loop-i-test.true in
     let f = said_by a.f in
     let p = subst (λ (e : Entry). Pass a.w a.rows.now e.node f (λ u. Settled a.w a.rows.now f u e a.c) l.t
-    c.settle.new.0 c.settle.result) c.toward.ensures c.settle.ensures in (
+    c.settle.new.t c.settle.result) c.toward.ensures c.settle.ensures in (
       omega arith,
       pass-then
           (λ u x y. below_more (λ (j : ℕ). low_end_lem a.s.meaning ≤ j → Settled a.w a.rows.now f u (toward a.s j) a.c)
           l.i x (λ _. y))
           (λ z g h j b low. settled-lasts a.w a.rows.now a.s.node f z g (toward a.s j) a.c (h j b low))
-          l.invariant.1 p (by_cases c.if-settle.branch (λ u. inl (u.0.taken, u.1)) (λ u. inr (u.0.left, u.1))),
+          l.invariant.1 p (elim c.if-settle.branch [ then-settle u ↦ inl (u.if-settle.true, u.1) | else-settle u ↦ inr (u.if-settle.false, u.1) ]),
     )
 
 pub returns : goal.returns

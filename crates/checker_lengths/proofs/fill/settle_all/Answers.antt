@@ -189,7 +189,7 @@ loop-left-smaller-then-settle_node c =
     let d = c.form-f in
     let r = c.readers in
     more-falls a.w a.rows.now a.nodes.now a.u.now l p i.t i.left h.result i.invariant.1 h.ensures
-    s.new.0 d.result d.ensures s.result s.ensures
+    s.new.t d.result d.ensures s.result s.ensures
     r.new.1.0 (r.ensures ∙ readers-fit a.nodes.now p) c.if-settle_node.true
 
 pub loop-left-preserved-then-settle_node : goal.loop-left-preserved-then-settle_node
@@ -205,7 +205,7 @@ loop-left-preserved-then-settle_node c =
     let b = small a.w a.rows.now a.nodes.now a.u.now l p i.t i.left h.result i.invariant.1 h.ensures in (
       b,
       more a.w a.rows.now a.nodes.now a.u.now l p i.t i.left h.result i.invariant.1 h.ensures
-          s.new.0 d.result d.ensures s.result s.ensures
+          s.new.t d.result d.ensures s.result s.ensures
           r.new.1.0 (r.ensures ∙ readers-fit a.nodes.now p) c.if-settle_node.true,
     )
 
@@ -219,7 +219,7 @@ loop-left-smaller c =
     let s = c.settle_node in
     let d = c.form-f in
     still-falls a.w a.rows.now a.nodes.now a.u.now l p i.t i.left h.result i.invariant.1 h.ensures
-    s.new.0 d.result d.ensures s.result s.ensures
+    s.new.t d.result d.ensures s.result s.ensures
     c.if-settle_node.false
 
 pub loop-left-preserved : goal.loop-left-preserved
@@ -234,7 +234,7 @@ loop-left-preserved c =
     let b = small a.w a.rows.now a.nodes.now a.u.now l p i.t i.left h.result i.invariant.1 h.ensures in (
       b,
       still a.w a.rows.now a.nodes.now a.u.now l p i.t i.left h.result i.invariant.1 h.ensures
-          s.new.0 d.result d.ensures s.result s.ensures
+          s.new.t d.result d.ensures s.result s.ensures
           c.if-settle_node.false,
     )
 

@@ -20,6 +20,7 @@ use Rattle.checker_lengths.proofs.fill.settle_states.Reads as settle-states-read
 use Rattle.checker_tables.proofs.arrivals.come_to.Reads as come-to-reads
 use borrow.Author.Rules.{rules}
 use Rattle.checker_lengths.proofs.fill.settle_node.Goals as goal
+use Rattle.checker_lengths.proofs.fill.settle_node.Goals.{else-settle_states, then-settle_states}
 
 pub loop-i-init : goal.loop-i-init
 loop-i-init c = (search rules, pass-none (λ j k. absurd (omega arith)))
@@ -40,7 +41,7 @@ loop-i-preserved c =
     let o = eqb (l.i % 2) 1 in
     let m = a.l + l.i / 2 in
     let here = subst (λ (v : ℕ). Pass a.w a.rows.now a.k f (λ y. StatesSettled a.w a.rows.now f y a.k o m v) l.t
-    c.settle_states.new.0 c.settle_states.result) (c.come_to.ensures
+    c.settle_states.new.t c.settle_states.result) (c.come_to.ensures
     ∙ come-to-in a.u.now a.k o m c.requires.k_lt_most_nodes (omega arith))
     c.settle_states.ensures in (
       omega arith,
@@ -49,7 +50,7 @@ loop-i-preserved c =
           (get_or a.u.now (place a.k (eqb (j % 2) 1) (a.l + j / 2)) 0)) l.i u v)
           (λ z g h j b. states-last a.w a.rows.now a.k f z g a.k (eqb (j % 2) 1) (a.l + j / 2)
           (get_or a.u.now (place a.k (eqb (j % 2) 1) (a.l + j / 2)) 0) (h j b))
-          l.invariant.1 here (by_cases c.if-settle_states.branch (λ u. inl (u.0.taken, u.1)) (λ u. inr (u.0.left, u.1))),
+          l.invariant.1 here (elim c.if-settle_states.branch [ then-settle_states u ↦ inl (u.if-settle_states.true, u.1) | else-settle_states u ↦ inr (u.if-settle_states.false, u.1) ]),
     )
 
 pub returns : goal.returns

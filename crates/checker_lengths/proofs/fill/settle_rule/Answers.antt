@@ -9,6 +9,7 @@ use Rattle.checker_lengths.proofs.fill.settle_aims.Reads as settle-aims-reads
 use Rattle.checker_lengths.proofs.fill.settle_sequence.Reads as settle-sequence-reads
 use borrow.Author.Rules.{rules}
 use Rattle.checker_lengths.proofs.fill.settle_rule.Goals as goal
+use Rattle.checker_lengths.proofs.fill.settle_rule.Goals.{else-c-lt-BROKEN, then-c-lt-BROKEN}
 
 pub settle_sequence-requires : goal.settle_sequence-requires
 settle_sequence-requires c =
@@ -26,6 +27,6 @@ returns c =
     let a = c.args in
     let r = c.settle_aims in
     let same : c.if-c-lt-BROKEN.f ≡ a.f =
-    by_cases c.if-c-lt-BROKEN.branch (λ w. w.6 ∙ sym w.2.given.1) (λ v. by_cases v (λ w. w.2) (λ w. w.1)) in
+    elim c.if-c-lt-BROKEN.branch [ then-c-lt-BROKEN w ↦ w.f-is ∙ sym w.2.given.1 | else-c-lt-BROKEN v ↦ by_cases v (λ w. w.2) (λ w. w.1) ] in
     subst (λ (f : NodeForm). Pass a.w a.rows.now a.s.node (said_by f)
-    (λ u. RuleSettled a.w a.rows.now (said_by f) u a.s a.c) a.t.now r.new.0 r.result) same r.ensures
+    (λ u. RuleSettled a.w a.rows.now (said_by f) u a.s a.c) a.t.now r.new.t r.result) same r.ensures

@@ -26,6 +26,7 @@ use Rattle.checker_lengths.proofs.offers.low_end.Reads as low-end-reads
 use Rattle.checker_lengths.proofs.offers.second.Reads as second_reads
 use Rattle.checker_lengths.proofs.offers.toward.Reads as toward-reads
 use Rattle.checker_lengths.proofs.fill.settle_sequence.Goals as goal
+use Rattle.checker_lengths.proofs.fill.settle_sequence.Goals.{else-put, then-put}
 use Rattle.checker_lengths.proofs.fill.settle_sequence.Invariants.{Below}
 
 module _ (s : Entry) (a b c : ℕ) (low : c < 16) where
@@ -86,13 +87,13 @@ loop-i-preserved c =
     c.second-from.ensures in
     let sum = c.plus-sum.ensures
     ∙ ap (plus v.result) (c.get.ensures ∙ ap (held l.t all_lengths) from) in
-    let puts = subst (λ (n : ℕ). Puts (toward a.s l.i) n l.t q.new.0 q.result) sum
-    (subst (λ (y : Entry). Puts y c.plus-sum.result l.t q.new.0 q.result)
+    let puts = subst (λ (n : ℕ). Puts (toward a.s l.i) n l.t q.new.t q.result) sum
+    (subst (λ (y : Entry). Puts y c.plus-sum.result l.t q.new.t q.result)
     c.toward-in-loop-i.ensures q.ensures) in (
       omega arith,
-      more a.s a.a a.b a.c p.c_lt_at_break p.fact l.i a.t.now l.t q.new.0 v.result l.changed q.result
+      more a.s a.a a.b a.c p.c_lt_at_break p.fact l.i a.t.now l.t q.new.t v.result l.changed q.result
           c.if-put.changed e l.invariant.1 puts
-          (by_cases c.if-put.branch (λ u. inl (u.0.taken, u.1)) (λ u. inr (u.0.left, u.1))),
+          (elim c.if-put.branch [ then-put u ↦ inl (u.if-put.true, u.changed-is) | else-put u ↦ inr (u.if-put.false, u.changed-is) ]),
     )
 
 pub returns : goal.returns

@@ -13,6 +13,7 @@ use Rattle.checker_lengths.proofs.fill.settle_rule.Reads as settle-rule-reads
 use Rattle.checker_lengths.proofs.offers.ways.Reads as ways-reads
 use borrow.Author.Rules.{rules}
 use Rattle.checker_lengths.proofs.fill.settle_start.Goals as goal
+use Rattle.checker_lengths.proofs.fill.settle_start.Goals.{else-settle_rule, then-settle_rule}
 
 pub loop-c-init : goal.loop-c-init
 loop-c-init c = (search rules, pass-none (λ j k. absurd (omega arith)))
@@ -31,7 +32,7 @@ loop-c-preserved c =
           (λ u x y. below_more (λ (j : ℕ). RuleSettled a.w a.rows.now f u a.s j) l.c x y)
           (λ z g h j b. rule-lasts a.w a.rows.now a.s.node f z g a.s j (h j b))
           l.invariant.1 c.settle_rule.ensures
-          (by_cases c.if-settle_rule.branch (λ u. inl (u.0.taken, u.1)) (λ u. inr (u.0.left, u.1))),
+          (elim c.if-settle_rule.branch [ then-settle_rule u ↦ inl (u.if-settle_rule.true, u.1) | else-settle_rule u ↦ inr (u.if-settle_rule.false, u.1) ]),
     )
 
 pub returns : goal.returns

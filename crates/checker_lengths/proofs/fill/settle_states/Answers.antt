@@ -18,6 +18,7 @@ use Rattle.checker_lengths.proofs.fill.settle_if.Reads as settle-if-reads
 use Rattle.checker_lengths.proofs.offers.has.Reads as has-reads
 use borrow.Author.Rules.{rules}
 use Rattle.checker_lengths.proofs.fill.settle_states.Goals as goal
+use Rattle.checker_lengths.proofs.fill.settle_states.Goals.{else-settle_if, then-settle_if}
 
 pub loop-q-init : goal.loop-q-init
 loop-q-init c = (search rules, pass-none (λ j k. absurd (omega arith)))
@@ -39,7 +40,7 @@ loop-q-preserved c =
     let here : Pass a.w a.rows.now a.g.to f
     (λ u. has a.g.states l.q ≡ true → StartSettled a.w a.rows.now f u (entry_of a.g.to a.g.opened a.g.meaning
     l.q 0)) l.t
-    c.settle_if.new.0 c.settle_if.result =
+    c.settle_if.new.t c.settle_if.result =
     pass-map (λ _ h e. h (c.has.ensures ∙ e)) c.settle_if.ensures in (
       omega arith,
       pass-then
@@ -47,7 +48,7 @@ loop-q-preserved c =
           → StartSettled a.w a.rows.now f u (entry_of a.g.to a.g.opened a.g.meaning j 0)) l.q x y)
           (λ z g h j b e. start-lasts a.w a.rows.now a.g.to f z g (entry_of a.g.to a.g.opened a.g.meaning j 0)
           (h j b e))
-          l.invariant.1 here (by_cases c.if-settle_if.branch (λ u. inl (u.0.taken, u.1)) (λ u. inr (u.0.left, u.1))),
+          l.invariant.1 here (elim c.if-settle_if.branch [ then-settle_if u ↦ inl (u.if-settle_if.true, u.1) | else-settle_if u ↦ inr (u.if-settle_if.false, u.1) ]),
     )
 
 pub returns : goal.returns

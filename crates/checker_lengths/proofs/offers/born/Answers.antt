@@ -5,9 +5,10 @@ use mathlib.Core.Path.{◌∙◌}
 use Rattle.checker_lengths.proofs.offers.born.Reads as reads
 use Rattle.checker_lengths.proofs.offers.moved.Reads as moved-reads
 use Rattle.checker_lengths.proofs.offers.born.Goals as goal
+use Rattle.checker_lengths.proofs.offers.born.Goals.{else-own, then-own}
 
 pub returns-then-e-gt0 : goal.returns-then-e-gt0
 returns-then-e-gt0 c = laws.born-none _ _ _ c.if-own.true c.if-e-gt0.true
 
 pub returns : goal.returns
-returns c = c.moved.ensures ∙ laws.born-some _ _ _ (by_cases c.if-own.branch (λ w. inl w.2.left) (λ w. inr w.left))
+returns c = c.moved.ensures ∙ laws.born-some _ _ _ (elim c.if-own.branch [ then-own w ↦ inl w.2.left | else-own w ↦ inr w.left ])

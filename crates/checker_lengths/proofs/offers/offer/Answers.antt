@@ -17,6 +17,7 @@ use Rattle.checker_lengths.proofs.offers.sandbox.Reads as sandbox-reads
 use Rattle.checker_lengths.proofs.offers.sequence.Reads as sequence-reads
 use Rattle.checker_lengths.proofs.offers.still.Reads as still-reads
 use Rattle.checker_lengths.proofs.offers.offer.Goals as goal
+use Rattle.checker_lengths.proofs.offers.offer.Goals.{else-c-eq0, then-c-eq0}
 
 pub returns-in-End : goal.returns-in-End
 unfolding spec.offer_of
@@ -49,9 +50,7 @@ returns-after-c-eq0 c =
     let look = held a.t.now a.most in
     rw c.in-Choice.is
     (c.get.ensures ∙ ap look (c.at.ensures
-    ∙ ap (spec.at_node a.e) (by_cases c.if-c-eq0.branch
-    (λ u. u.1 ∙ sym (ap (λ (b : Bool). cond b c.in-Choice.one c.in-Choice.other) (eq-eqb a.c 0 u.0.taken)))
-    (λ u. u.1 ∙ sym (ap (λ (b : Bool). cond b c.in-Choice.one c.in-Choice.other) (ne_eqb a.c 0 u.0.left))))))
+    ∙ ap (spec.at_node a.e) (elim c.if-c-eq0.branch [ then-c-eq0 u ↦ u.1 ∙ sym (ap (λ (b : Bool). cond b c.in-Choice.one c.in-Choice.other) (eq-eqb a.c 0 u.if-c-eq0.true)) | else-c-eq0 u ↦ u.1 ∙ sym (ap (λ (b : Bool). cond b c.in-Choice.one c.in-Choice.other) (ne_eqb a.c 0 u.if-c-eq0.false)) ])))
 
 pub returns-in-Loop : goal.returns-in-Loop
 unfolding spec.offer_of

@@ -12,13 +12,12 @@ use Rattle.checker_lengths.proofs.entries.plus.Reads as plus-reads
 use Rattle.checker_lengths.proofs.offers.inner.Reads as inner-reads
 use Rattle.checker_lengths.proofs.offers.reopened.Reads as reopened-reads
 use Rattle.checker_lengths.proofs.offers.sandbox.Goals as goal
+use Rattle.checker_lengths.proofs.offers.sandbox.Goals.{else-e-eq-BROKEN, then-e-eq-BROKEN}
 
 pub returns-then-c-eq0 : goal.returns-then-c-eq0
 returns-then-c-eq0 c = let a = c.args in let look = held a.t.now a.most in
     c.plus.ensures
-    ∙ ap₂ plus (by_cases c.if-e-eq-BROKEN.branch
-    (λ u. u.1 ∙ sym (ap (λ (b : Bool). cond b 1 2) (eq-eqb a.e.aim 16 u.0.taken)))
-    (λ u. u.1 ∙ sym (ap (λ (b : Bool). cond b 1 2) (ne_eqb a.e.aim 16 u.0.left))))
+    ∙ ap₂ plus (elim c.if-e-eq-BROKEN.branch [ then-e-eq-BROKEN u ↦ u.1 ∙ sym (ap (λ (b : Bool). cond b 1 2) (eq-eqb a.e.aim 16 u.if-e-eq-BROKEN.true)) | else-e-eq-BROKEN u ↦ u.1 ∙ sym (ap (λ (b : Bool). cond b 1 2) (ne_eqb a.e.aim 16 u.if-e-eq-BROKEN.false)) ])
     (c.get.ensures ∙ ap look c.inner.ensures)
     ∙ laws.sandbox-on a.w look a.e a.s a.b a.c c.if-c-eq0.true
 

@@ -26,7 +26,7 @@ join-requires c =
 
 pub shape_of-u : goal.shape_of-u
 shape_of-u c =
-    let a = c.args in (grows-joined a.u.now c.join.new.0 c.place-i.result a.g.states c.join.ensures.t_after).len
+    let a = c.args in (grows-joined a.u.now c.join.new.t c.place-i.result a.g.states c.join.ensures.t_after).len
 
 pub returns : goal.returns
 unfolding entered

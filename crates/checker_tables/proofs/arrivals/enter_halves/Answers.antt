@@ -29,7 +29,7 @@ enter-high-requires c =
     let g = a.g in
     let n = c.after in
     let s = c.enter-low in
-    let l = enters-length ((g.to by g.opened by g.meaning with g.states % 256) ∷ []) a.u.now s.new.0 s.result s.ensures in
+    let l = enters-length ((g.to by g.opened by g.meaning with g.states % 256) ∷ []) a.u.now s.new.u s.result s.ensures in
     record { to_lt_most_nodes = p.to_lt_most_nodes; meaning_bound = omega (arith, n.ensures.result_value, p.meaning_bound); meaning_in_bounds = omega (arith, l, n.ensures.result_value, p.meaning_in_bounds) }
 
 pub shape_of-u : goal.shape_of-u
@@ -38,8 +38,8 @@ shape_of-u c =
     let g = a.g in
     let s = c.enter-low in
     let t = c.enter-high in
-    enters-length ((g.to by g.opened by c.after.result with g.states / 256) ∷ []) s.new.0 t.new.0 t.result t.ensures
-    ∙ enters-length ((g.to by g.opened by g.meaning with g.states % 256) ∷ []) a.u.now s.new.0 s.result s.ensures
+    enters-length ((g.to by g.opened by c.after.result with g.states / 256) ∷ []) s.new.u t.new.u t.result t.ensures
+    ∙ enters-length ((g.to by g.opened by g.meaning with g.states % 256) ∷ []) a.u.now s.new.u s.result s.ensures
 
 pub returns : goal.returns
 returns c =
@@ -50,8 +50,8 @@ returns c =
     let t = c.enter-high in
     let low = g.to by g.opened by entry_after g.meaning false with g.states % 256 in
     let high = g.to by g.opened by entry_after g.meaning true with g.states / 256 in
-    enters-both (low ∷ []) (high ∷ []) a.u.now s.new.0 t.new.0 s.result t.result
-    (enters-as (g.to by g.opened by g.meaning with g.states % 256) low a.u.now s.new.0 s.result
+    enters-both (low ∷ []) (high ∷ []) a.u.now s.new.u t.new.u s.result t.result
+    (enters-as (g.to by g.opened by g.meaning with g.states % 256) low a.u.now s.new.u s.result
     (ap (λ (m : ℕ). g.to by g.opened by m with g.states % 256) (sym (after_same g.meaning))) s.ensures)
-    (enters-as (g.to by g.opened by n.result with g.states / 256) high s.new.0 t.new.0 t.result
+    (enters-as (g.to by g.opened by n.result with g.states / 256) high s.new.u t.new.u t.result
     (ap (λ (m : ℕ). g.to by g.opened by m with g.states / 256) n.ensures.value) t.ensures)

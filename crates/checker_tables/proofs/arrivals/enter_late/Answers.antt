@@ -35,7 +35,7 @@ enter_halves-requires c =
 pub shape_of-u : goal.shape_of-u
 shape_of-u c =
     let a = c.args in
-    enters-length (halves a.b a.from.opened c.in_group.result c.begun.result []) a.u.now c.enter_halves.new.0
+    enters-length (halves a.b a.from.opened c.in_group.result c.begun.result []) a.u.now c.enter_halves.new.u
     c.enter_halves.result c.enter_halves.ensures
 
 pub returns : goal.returns
@@ -43,5 +43,5 @@ returns c =
     let a = c.args in
     let h = c.enter_halves in
     let v = c.begun.ensures ∙ ap (λ (e : ℕ). begun a.t.now a.a e a.from.states) c.in_group-late.ensures in
-    subst (λ (gs : List Arrival). Enters gs a.u.now h.new.0 h.result)
+    subst (λ (gs : List Arrival). Enters gs a.u.now h.new.u h.result)
     (ap₂ (λ (e s : ℕ). halves a.b a.from.opened e s []) c.in_group.ensures v) h.ensures

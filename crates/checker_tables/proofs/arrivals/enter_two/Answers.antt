@@ -20,15 +20,15 @@ pub enter-second-requires : goal.enter-second-requires
 enter-second-requires c =
     let p = c.requires in
     let s = c.enter-first in
-    room_in c.onto-2.result (enters-length (c.onto.result ∷ []) c.args.u.now s.new.0 s.result s.ensures)
+    room_in c.onto-2.result (enters-length (c.onto.result ∷ []) c.args.u.now s.new.u s.result s.ensures)
     (room_as _ c.onto-2.result _ c.onto-2.ensures (p.b_lt_most_nodes, p.1.1))
 
 pub shape_of-u : goal.shape_of-u
 shape_of-u c =
     let s = c.enter-first in
     let t = c.enter-second in
-    enters-length (c.onto-2.result ∷ []) s.new.0 t.new.0 t.result t.ensures
-    ∙ enters-length (c.onto.result ∷ []) c.args.u.now s.new.0 s.result s.ensures
+    enters-length (c.onto-2.result ∷ []) s.new.u t.new.u t.result t.ensures
+    ∙ enters-length (c.onto.result ∷ []) c.args.u.now s.new.u s.result s.ensures
 
 pub returns : goal.returns
 returns c =
@@ -39,6 +39,6 @@ returns c =
     let h = c.onto-2 in
     let first = a.a by a.from.opened by a.from.meaning with a.from.states in
     let second = a.b by a.from.opened by a.from.meaning with a.from.states in
-    enters-both (first ∷ []) (second ∷ []) a.u.now s.new.0 t.new.0 s.result t.result
-    (enters-as g.result first a.u.now s.new.0 s.result g.ensures s.ensures)
-    (enters-as h.result second s.new.0 t.new.0 t.result h.ensures t.ensures)
+    enters-both (first ∷ []) (second ∷ []) a.u.now s.new.u t.new.u s.result t.result
+    (enters-as g.result first a.u.now s.new.u s.result g.ensures s.ensures)
+    (enters-as h.result second s.new.u t.new.u t.result h.ensures t.ensures)

@@ -48,7 +48,7 @@ loop-w-init c =
     let a = c.args in
     let t = by_open a.opened.now a.shut.now in
     let r = ComesBy a.nodes.now a.w.local a.rows.now t a.w.policy a.w.resources in
-    let m : c.join.new.0 ≡ begins a.w.resources =
+    let m : c.join.new.t ≡ begins a.w.resources =
     c.join.ensures.t_after ∙ ap₂ (λ (u : List ℕ) (i : ℕ). joined_at u i 1) c.requires.u_value
     (c.place-i.ensures ∙ ap (place 0 false) c.first_code-c.ensures) in
     subst (Filling r (begins a.w.resources)) (sym m) (record { derived = start; wide = begins-wide a.w.resources })
@@ -82,7 +82,7 @@ returns-then-not-pass_round c =
     let g = grows t a.nodes.now a.rows.now a.w.local a.w.policy a.w.resources in
     let l = c.loop-w in
     let s = c.pass_round in
-    let same : s.new.0 ≡ l.u =
+    let same : s.new.u ≡ l.u =
     grown-false (subst (Grows l.u) (sym s.ensures.u_after) (g l.u)) (sym s.ensures.value ∙ not-true s.result c.if-not-pass_round.true-raw) in
     subst (Filled (ComesBy a.nodes.now a.w.local a.rows.now t a.w.policy a.w.resources) (begins a.w.resources)) (sym same) (record {
       derived = l.invariant.derived;
@@ -103,7 +103,7 @@ loop-w-smaller c =
     let s = c.pass_round in
     let len = (subst (Grows l.u) (sym s.ensures.u_after) (g l.u)).len
     ∙ filling-length (places_of a.w.resources) r (begins a.w.resources) l.u (begins-length a.w.resources) l.invariant in
-    nearer (places_of a.w.resources) l.u s.new.0 len (s.ensures.wide l.invariant.wide) (sym s.ensures.value ∙ not-false s.result c.if-not-pass_round.false-raw)
+    nearer (places_of a.w.resources) l.u s.new.u len (s.ensures.wide l.invariant.wide) (sym s.ensures.value ∙ not-false s.result c.if-not-pass_round.false-raw)
 
 pub loop-w-preserved : goal.loop-w-preserved
 loop-w-preserved c =

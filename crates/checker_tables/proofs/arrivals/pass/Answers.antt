@@ -42,7 +42,7 @@ pass_by-requires c =
 
 pub shape_of-u : goal.shape_of-u
 shape_of-u c =
-    enters-length _ c.args.u.now c.pass_by.new.0 c.pass_by.result c.pass_by.ensures
+    enters-length _ c.args.u.now c.pass_by.new.u c.pass_by.result c.pass_by.ensures
 
 pub returns : goal.returns
 returns c =

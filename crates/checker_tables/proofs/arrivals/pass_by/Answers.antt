@@ -58,7 +58,7 @@ pass_sandbox-requires c =
 
 pub shape_of-u-in-Sequence : goal.shape_of-u-in-Sequence
 shape_of-u-in-Sequence c =
-    enters-length _ c.args.u.now c.pass_sequence.new.0 c.pass_sequence.result c.pass_sequence.ensures
+    enters-length _ c.args.u.now c.pass_sequence.new.u c.pass_sequence.result c.pass_sequence.ensures
 
 pub returns-in-Sequence : goal.returns-in-Sequence
 unfolding arrivals
@@ -67,7 +67,7 @@ returns-in-Sequence c =
 
 pub shape_of-u-in-Choice : goal.shape_of-u-in-Choice
 shape_of-u-in-Choice c =
-    enters-length _ c.args.u.now c.enter_two.new.0 c.enter_two.result c.enter_two.ensures
+    enters-length _ c.args.u.now c.enter_two.new.u c.enter_two.result c.enter_two.ensures
 
 pub returns-in-Choice : goal.returns-in-Choice
 unfolding arrivals
@@ -76,29 +76,29 @@ returns-in-Choice c =
 
 pub shape_of-u-in-Loop : goal.shape_of-u-in-Loop
 shape_of-u-in-Loop c =
-    enters-length _ c.args.u.now c.enter.new.0 c.enter.result c.enter.ensures
+    enters-length _ c.args.u.now c.enter.new.u c.enter.result c.enter.ensures
 
 pub returns-in-Loop : goal.returns-in-Loop
 unfolding arrivals
 returns-in-Loop c =
     let u = c.args.u.now in
     rw c.in-Loop.is
-    (enters-as c.onto.result _ u c.enter.new.0 c.enter.result c.onto.ensures c.enter.ensures)
+    (enters-as c.onto.result _ u c.enter.new.u c.enter.result c.onto.ensures c.enter.ensures)
 
 pub shape_of-u-in-Back : goal.shape_of-u-in-Back
 shape_of-u-in-Back c =
-    enters-length _ c.args.u.now c.enter-in-Back.new.0 c.enter-in-Back.result c.enter-in-Back.ensures
+    enters-length _ c.args.u.now c.enter-in-Back.new.u c.enter-in-Back.result c.enter-in-Back.ensures
 
 pub returns-in-Back : goal.returns-in-Back
 unfolding arrivals
 returns-in-Back c =
     let u = c.args.u.now in
     rw c.in-Back.is
-    (enters-as c.onto-in-Back.result _ u c.enter-in-Back.new.0 c.enter-in-Back.result c.onto-in-Back.ensures c.enter-in-Back.ensures)
+    (enters-as c.onto-in-Back.result _ u c.enter-in-Back.new.u c.enter-in-Back.result c.onto-in-Back.ensures c.enter-in-Back.ensures)
 
 pub shape_of-u-in-Fresh : goal.shape_of-u-in-Fresh
 shape_of-u-in-Fresh c =
-    enters-length _ c.args.u.now c.pass_fresh.new.0 c.pass_fresh.result c.pass_fresh.ensures
+    enters-length _ c.args.u.now c.pass_fresh.new.u c.pass_fresh.result c.pass_fresh.ensures
 
 pub returns-in-Fresh : goal.returns-in-Fresh
 unfolding arrivals
@@ -107,7 +107,7 @@ returns-in-Fresh c =
 
 pub shape_of-u-in-Sandbox : goal.shape_of-u-in-Sandbox
 shape_of-u-in-Sandbox c =
-    enters-length _ c.args.u.now c.pass_sandbox.new.0 c.pass_sandbox.result c.pass_sandbox.ensures
+    enters-length _ c.args.u.now c.pass_sandbox.new.u c.pass_sandbox.result c.pass_sandbox.ensures
 
 pub returns-in-Sandbox : goal.returns-in-Sandbox
 unfolding arrivals
@@ -120,5 +120,5 @@ returns-in_default c =
     let a = c.args in
     let g = a.from in
     let e = no-arrivals a.w.local (rows_in a.rows.now) a.w.policy a.w.resources a.t.now g.to g.opened g.meaning g.states
-    a.f c.in-Sequence.keys7 in
+    a.f c.in_default.in_default-own in
     (sym (ap (λ (gs : List Arrival). entered gs a.u.now) e), (sym (grown-self a.u.now), λ w. w))

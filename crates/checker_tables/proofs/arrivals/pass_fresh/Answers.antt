@@ -38,7 +38,7 @@ enter-more-requires c =
     let f = c.second_named.ensures.result_bound in
     let w = eqb-true (group_in g.meaning) waiting_group (sym c.waits.ensures ∙ c.if-waits.true) in
     let l = enters-length (first_arrivals (rows_in a.rows.now) a.x g.to a.n a.b g.opened g.meaning g.states) a.u.now
-    s.new.0 s.result s.ensures in
+    s.new.u s.result s.ensures in
     record { to_lt_most_nodes = p.b_lt_most_nodes; meaning_bound = omega (arith, f); meaning_in_bounds = omega (arith, l, f, w, p.meaning_in_bounds) }
 
 pub shape_of-u-then-waits : goal.shape_of-u-then-waits
@@ -47,9 +47,9 @@ shape_of-u-then-waits c =
     let g = a.from in
     let s = c.enter_fresh-new in
     let t = c.enter-more in
-    enters-length ((a.b by g.opened by c.second_named.result with c.moved_set.result) ∷ []) s.new.0 t.new.0 t.result t.ensures
+    enters-length ((a.b by g.opened by c.second_named.result with c.moved_set.result) ∷ []) s.new.u t.new.u t.result t.ensures
     ∙ enters-length (first_arrivals (rows_in a.rows.now) a.x g.to a.n a.b g.opened g.meaning g.states) a.u.now
-    s.new.0 s.result s.ensures
+    s.new.u s.result s.ensures
 
 pub returns-then-waits : goal.returns-then-waits
 unfolding fresh_arrivals
@@ -64,9 +64,9 @@ returns-then-waits c =
     subst (λ (w : Bool). Enters
     ((a.b by g.opened by forgotten_in g.meaning a.n with over (row_on rows a.x g.to others) g.states)
     ∷ (a.b by g.opened by first_named_lem g.meaning a.n with first_created_lem rows a.x g.to g.meaning g.states)
-    ∷ cond w (second ∷ []) []) a.u.now t.new.0 (s.result || t.result)) (sym c.if-waits.true ∙ c.waits.ensures)
-    (enters-both gs (second ∷ []) a.u.now s.new.0 t.new.0 s.result t.result s.ensures
-    (enters-as (a.b by g.opened by c.second_named.result with c.moved_set.result) second s.new.0 t.new.0 t.result
+    ∷ cond w (second ∷ []) []) a.u.now t.new.u (s.result || t.result)) (sym c.if-waits.true ∙ c.waits.ensures)
+    (enters-both gs (second ∷ []) a.u.now s.new.u t.new.u s.result t.result s.ensures
+    (enters-as (a.b by g.opened by c.second_named.result with c.moved_set.result) second s.new.u t.new.u t.result
     (ap₂ (λ (m v : ℕ). a.b by g.opened by m with v) c.second_named.ensures.value c.moved_set.ensures) t.ensures))
 
 pub shape_of-u : goal.shape_of-u
@@ -75,7 +75,7 @@ shape_of-u c =
     let g = a.from in
     let s = c.enter_fresh-new in
     enters-length (first_arrivals (rows_in a.rows.now) a.x g.to a.n a.b g.opened g.meaning g.states) a.u.now
-    s.new.0 s.result s.ensures
+    s.new.u s.result s.ensures
 
 pub returns : goal.returns
 unfolding fresh_arrivals
@@ -88,4 +88,4 @@ returns c =
     subst (λ (w : Bool). Enters
     ((a.b by g.opened by forgotten_in g.meaning a.n with over (row_on rows a.x g.to others) g.states)
     ∷ (a.b by g.opened by first_named_lem g.meaning a.n with first_created_lem rows a.x g.to g.meaning g.states)
-    ∷ cond w (second ∷ []) []) a.u.now s.new.0 s.result) (sym c.if-waits.false ∙ c.waits.ensures) s.ensures
+    ∷ cond w (second ∷ []) []) a.u.now s.new.u s.result) (sym c.if-waits.false ∙ c.waits.ensures) s.ensures

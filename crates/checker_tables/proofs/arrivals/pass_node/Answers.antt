@@ -30,6 +30,7 @@ use Rattle.checker_tables.proofs.numbers.codes_of.Reads as codes-of-reads
 use Rattle.checker_tables.proofs.numbers.least.Reads as least-reads
 use borrow.Author.Rules.{rules}
 use Rattle.checker_tables.proofs.arrivals.pass_node.Goals as goal
+use Rattle.checker_tables.proofs.arrivals.pass_node.Goals.{else-pass, then-pass}
 use Rattle.checker_tables.proofs.arrivals.pass_node.Invariants.{steps}
 
 steps-grow : (opened shut rows : List ℕ) (w : Watch) (l k : ℕ) (f : NodeForm) (i : ℕ) (u : List ℕ)
@@ -102,7 +103,7 @@ loop-i-preserved c =
     let f = steps a.opened.now a.shut.now a.rows.now a.w low a.k a.f in
     let grows = steps-grow a.opened.now a.shut.now a.rows.now a.w low a.k a.f in
     let s = c.pass in
-    let w = s.new.0 in
+    let w = s.new.u in
     let e : w ≡ f l.i l.u =
     s.ensures.0
     ∙ ap (λ (v : ℕ). entered (arrivals_of a.w.local (rows_in a.rows.now) a.w.policy a.w.resources
@@ -112,8 +113,7 @@ loop-i-preserved c =
     let r = s.result in
     let made = turn f grows l.i a.u.now l.u w l.changed r (l.invariant.1.0, l.invariant.1.1.0) e s.ensures.1.0 in
     let noted : c.if-pass.changed ≡ (l.changed || r) =
-    by_cases c.if-pass.branch (λ w. w.1 ∙ sym (or_right l.changed r w.0.taken))
-    (λ w. w.1 ∙ sym (or-false l.changed) ∙ ap (λ (b : Bool). l.changed || b) (sym w.0.left)) in
+    elim c.if-pass.branch [ then-pass w ↦ w.changed-is ∙ sym (or_right l.changed r w.if-pass.true) | else-pass w ↦ w.changed-is ∙ sym (or-false l.changed) ∙ ap (λ (b : Bool). l.changed || b) (sym w.if-pass.false) ] in
     (search rules, (made.0, (noted ∙ made.1, wide)))
 
 pub shape_of-u : goal.shape_of-u

@@ -51,7 +51,7 @@ loop-k-preserved c =
     let l = c.loop-k in
     let f = steps a.opened.now a.shut.now a.nodes.now a.rows.now a.w in
     let grows = steps-grow a.opened.now a.shut.now a.nodes.now a.rows.now a.w in
-    let w = c.pass_node-changed.new.0 in
+    let w = c.pass_node-changed.new.u in
     let h = c.loop-k-test.true in
     let e : w ≡ f l.k l.u =
     c.pass_node-changed.ensures.u_after

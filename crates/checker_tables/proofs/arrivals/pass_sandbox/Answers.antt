@@ -20,7 +20,7 @@ pub shape_of-u : goal.shape_of-u
 shape_of-u c =
     let a = c.args in
     let g = a.from in
-    enters-length ((a.b by (g.opened || a.same) by g.meaning with c.restarted.result) ∷ []) a.u.now c.enter.new.0 c.enter.result
+    enters-length ((a.b by (g.opened || a.same) by g.meaning with c.restarted.result) ∷ []) a.u.now c.enter.new.u c.enter.result
     c.enter.ensures
 
 pub returns : goal.returns
@@ -28,5 +28,5 @@ returns c =
     let a = c.args in
     let g = a.from in
     let v = c.restarted in
-    enters-as (a.b by (g.opened || a.same) by g.meaning with v.result) _ a.u.now c.enter.new.0 c.enter.result
+    enters-as (a.b by (g.opened || a.same) by g.meaning with v.result) _ a.u.now c.enter.new.u c.enter.result
     (ap (λ (s : ℕ). a.b by (g.opened || a.same) by g.meaning with s) v.ensures) c.enter.ensures

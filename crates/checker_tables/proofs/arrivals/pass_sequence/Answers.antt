@@ -26,7 +26,7 @@ pub enter_second-second-requires : goal.enter_second-second-requires
 enter_second-second-requires c =
     let p = c.requires in
     let s = c.enter-first in
-    let l = enters-length (c.onto.result ∷ []) c.args.u.now s.new.0 s.result s.ensures in
+    let l = enters-length (c.onto.result ∷ []) c.args.u.now s.new.u s.result s.ensures in
     (p.a_lt_most_nodes, (p.b_lt_most_nodes, (p.meaning_bound, (omega (arith, l, p.meaning_in_bounds), p.1.1.1.1))))
 
 pub shape_of-u : goal.shape_of-u
@@ -34,9 +34,9 @@ shape_of-u c =
     let a = c.args in
     let s = c.enter-first in
     let t = c.enter_second-second in
-    enters-length (second_arrivals a.t.now a.a a.b a.from.opened a.from.meaning a.from.states) s.new.0 t.new.0
+    enters-length (second_arrivals a.t.now a.a a.b a.from.opened a.from.meaning a.from.states) s.new.u t.new.u
     t.result t.ensures
-    ∙ enters-length (c.onto.result ∷ []) a.u.now s.new.0 s.result s.ensures
+    ∙ enters-length (c.onto.result ∷ []) a.u.now s.new.u s.result s.ensures
 
 pub returns : goal.returns
 returns c =
@@ -46,5 +46,5 @@ returns c =
     let g = c.onto in
     let first = a.a by a.from.opened by a.from.meaning with a.from.states in
     enters-both (first ∷ []) (second_arrivals a.t.now a.a a.b a.from.opened a.from.meaning a.from.states) a.u.now
-    s.new.0 t.new.0 s.result t.result
-    (enters-as g.result first a.u.now s.new.0 s.result g.ensures s.ensures) t.ensures
+    s.new.u t.new.u s.result t.result
+    (enters-as g.result first a.u.now s.new.u s.result g.ensures s.ensures) t.ensures

@@ -233,7 +233,7 @@ loop-left-smaller-then-settle_node c =
     let d = c.form-f in
     more-falls a.nodes.now a.rows.now a.w.resources resets p.nodes_fit l.t l.left h.result
     l.invariant (h.ensures.result_bound pos)
-    h.ensures.s_bound s.new.0 d.result d.ensures s.ensures.t_after s.result s.ensures.value
+    h.ensures.s_bound s.new.t d.result d.ensures s.ensures.t_after s.result s.ensures.value
     (lent-wide a.w.local a.w.policy a.opened.now p.wide) r.new.1.0 r.ensures
     c.if-settle_node.true
 
@@ -250,7 +250,7 @@ loop-left-preserved-then-settle_node c =
     let d = c.form-f in
     more a.nodes.now a.rows.now a.w.resources resets p.nodes_fit l.t l.left h.result l.invariant
     (h.ensures.result_bound pos)
-    h.ensures.s_bound s.new.0 d.result d.ensures s.ensures.t_after s.result s.ensures.value
+    h.ensures.s_bound s.new.t d.result d.ensures s.ensures.t_after s.result s.ensures.value
     (lent-wide a.w.local a.w.policy a.opened.now p.wide) r.new.1.0 r.ensures
     c.if-settle_node.true
 
@@ -266,7 +266,7 @@ loop-left-smaller c =
     let d = c.form-f in
     still-falls a.nodes.now a.rows.now a.w.resources resets p.nodes_fit l.t l.left h.result
     l.invariant (h.ensures.result_bound pos)
-    h.ensures.s_bound s.new.0 d.result d.ensures s.ensures.t_after s.result s.ensures.value c.if-settle_node.false
+    h.ensures.s_bound s.new.t d.result d.ensures s.ensures.t_after s.result s.ensures.value c.if-settle_node.false
 
 pub loop-left-preserved : goal.loop-left-preserved
 loop-left-preserved c =
@@ -280,7 +280,7 @@ loop-left-preserved c =
     let d = c.form-f in
     still a.nodes.now a.rows.now a.w.resources resets p.nodes_fit l.t l.left h.result l.invariant
     (h.ensures.result_bound pos)
-    h.ensures.s_bound s.new.0 d.result d.ensures s.ensures.t_after s.result s.ensures.value c.if-settle_node.false
+    h.ensures.s_bound s.new.t d.result d.ensures s.ensures.t_after s.result s.ensures.value c.if-settle_node.false
 
 pub shape_of-t : goal.shape_of-t
 shape_of-t c =

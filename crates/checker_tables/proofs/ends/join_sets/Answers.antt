@@ -26,7 +26,7 @@ join-changed-requires c =
     let l = c.loop-q in
     let h = c.loop-q-test.true in
     let p = c.requires in
-    let e = repeat-length (steps a.i a.t3) (steps-grow a.i a.t3) l.q a.t.now l.t l.invariant.1.0 in
+    let e = repeat-length (steps a.i a.v) (steps-grow a.i a.v) l.q a.t.now l.t l.invariant.1.0 in
     omega (arith, p, e)
 
 pub loop-q-preserved : goal.loop-q-preserved
@@ -34,7 +34,7 @@ loop-q-preserved c =
     let a = c.args in
     let l = c.loop-q in
     let j = c.join-changed in
-    let made = turn (steps a.i a.t3) (steps-grow a.i a.t3) l.q a.t.now l.t j.new.0 l.changed
+    let made = turn (steps a.i a.v) (steps-grow a.i a.v) l.q a.t.now l.t j.new.t l.changed
     j.result l.invariant.1 j.ensures.t_after j.ensures.value in
     (search rules, made)
 
@@ -42,7 +42,7 @@ pub shape_of-t : goal.shape_of-t
 shape_of-t c =
     let a = c.args in
     let l = c.loop-q in
-    repeat-length (steps a.i a.t3) (steps-grow a.i a.t3) l.q a.t.now l.t l.invariant.1.0
+    repeat-length (steps a.i a.v) (steps-grow a.i a.v) l.q a.t.now l.t l.invariant.1.0
 
 pub returns : goal.returns
 unfolding joined_each

@@ -92,11 +92,11 @@ loop-i-preserved c =
     let m = low.result + l.i in
     let v = c.ends_by-v in
     let j = c.join_sets-changed in
-    let e : j.new.0 ≡ f l.i l.t =
+    let e : j.new.t ≡ f l.i l.t =
     j.ensures.t_after
     ∙ each_same l.t (base a.k m) (λ q. get_or v.result q 0)
     (λ q. ends_of_lem (rows_in a.rows.now) a.w.resources resets l.t a.k m q (said_by a.f)) v.ensures.held in
-    let made = turn f grows l.i a.t.now l.t j.new.0 l.changed
+    let made = turn f grows l.i a.t.now l.t j.new.t l.changed
     j.result l.invariant.1 e j.ensures.value in
     (search rules, made)
 

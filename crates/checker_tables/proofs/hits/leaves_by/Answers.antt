@@ -65,4 +65,4 @@ returns-in-Sandbox c =
 pub returns-in_default : goal.returns-in_default
 returns-in_default c =
     let a = c.args in
-    no_step a.w.local (rows_in a.rows.now) a.w.policy a.w.resources a.u.now a.k a.c a.f c.in-OnStatic.keys5
+    no_step a.w.local (rows_in a.rows.now) a.w.policy a.w.resources a.u.now a.k a.c a.f c.in_default.in_default-own

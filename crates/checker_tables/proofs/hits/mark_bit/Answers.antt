@@ -22,4 +22,4 @@ returns-in-OnName c =
     rw c.in-OnName.is (shifted c.in-OnName.action (omega (arith, s)))
 
 pub returns-in_default : goal.returns-in_default
-returns-in_default c = no-mark c.args.f c.in-OnStatic.keys5
+returns-in_default c = no-mark c.args.f c.in_default.in_default-own

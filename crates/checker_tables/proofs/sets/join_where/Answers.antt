@@ -13,27 +13,26 @@ use Rattle.checker_tables.proofs.ByStateLaws.{InPlace, place_none, place-more, p
 use Rattle.checker_tables.proofs.sets.join_where.Reads as reads
 use borrow.Author.Rules.{rules}
 use Rattle.checker_tables.proofs.sets.join_where.Goals as goal
+use Rattle.checker_tables.proofs.sets.join_where.Goals.{else-v-q-eq1, then-v-q-eq1}
 use Rattle.checker_tables.proofs.sets.join_where.Invariants.{each}
 
 pub loop-q-init : goal.loop-q-init
 loop-q-init c =
     let a = c.args in
-    let e : length a.t1 ≡ states = search rules in
-    (search rules, place_none (each a.s a.e a.t1 a.t2) a.t1 e)
+    let e : length a.w ≡ states = search rules in
+    (search rules, place_none (each a.s a.e a.w a.v) a.w e)
 
 pub loop-q-preserved : goal.loop-q-preserved
 loop-q-preserved c =
     let a = c.args in
     let l = c.loop-q in
     let h = c.loop-q-test.true in
-    let v = get_or a.t2 l.q 0 in
+    let v = get_or a.v l.q 0 in
     let more : c.if-v-q-eq1.more ≡ cond (has v a.s) a.e 0 =
-    by_cases c.if-v-q-eq1.branch
-    (λ w. w.1 ∙ ap (λ (b : Bool). cond b a.e 0) (sym (test_in (λ j. 0) v a.s w.0.taken)))
-    (λ w. w.1 ∙ ap (λ (b : Bool). cond b a.e 0) (sym (test-out (λ j. 0) v a.s w.0.left))) in
+    elim c.if-v-q-eq1.branch [ then-v-q-eq1 w ↦ w.more-is ∙ ap (λ (b : Bool). cond b a.e 0) (sym (test_in (λ j. 0) v a.s w.if-v-q-eq1.true)) | else-v-q-eq1 w ↦ w.more-is ∙ ap (λ (b : Bool). cond b a.e 0) (sym (test-out (λ j. 0) v a.s w.if-v-q-eq1.false)) ] in
     let still = l.invariant.1.left l.q (omega arith) in (
       search rules,
-      place-more (each a.s a.e a.t1 a.t2) a.t1 l.q l.w _ (omega arith) (ap₂ (λ (x y : ℕ). bit_or x y) still more)
+      place-more (each a.s a.e a.w a.v) a.w l.q l.w _ (omega arith) (ap₂ (λ (x y : ℕ). bit_or x y) still more)
           l.invariant.1,
     )
 
@@ -41,4 +40,4 @@ pub returns : goal.returns
 returns c =
     let a = c.args in
     let l = c.loop-q in
-    place-all (each a.s a.e a.t1 a.t2) a.t1 l.q l.w (omega arith) l.invariant.1
+    place-all (each a.s a.e a.w a.v) a.w l.q l.w (omega arith) l.invariant.1

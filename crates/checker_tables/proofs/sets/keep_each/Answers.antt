@@ -15,8 +15,8 @@ use Rattle.checker_tables.proofs.sets.keep_each.Invariants.{each}
 pub loop-q-init : goal.loop-q-init
 loop-q-init c =
     let a = c.args in
-    let e : length a.t2 ≡ states = search rules in
-    (search rules, place_none (each a.m a.t2) a.t2 e)
+    let e : length a.v ≡ states = search rules in
+    (search rules, place_none (each a.m a.v) a.v e)
 
 pub loop-q-preserved : goal.loop-q-preserved
 loop-q-preserved c =
@@ -25,7 +25,7 @@ loop-q-preserved c =
     let h = c.loop-q-test.true in
     let still = l.invariant.1.left l.q (omega arith) in (
       search rules,
-      place-more (each a.m a.t2) a.t2 l.q l.v _
+      place-more (each a.m a.v) a.v l.q l.v _
           (omega arith) (c.keep.ensures ∙ ap (kept a.m) still) l.invariant.1,
     )
 
@@ -33,4 +33,4 @@ pub returns : goal.returns
 returns c =
     let a = c.args in
     let l = c.loop-q in
-    place-all (each a.m a.t2) a.t2 l.q l.v (omega arith) l.invariant.1
+    place-all (each a.m a.v) a.v l.q l.v (omega arith) l.invariant.1

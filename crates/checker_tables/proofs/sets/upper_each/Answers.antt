@@ -13,8 +13,8 @@ use Rattle.checker_tables.proofs.sets.upper_each.Invariants.{each}
 pub loop-q-init : goal.loop-q-init
 loop-q-init c =
     let a = c.args in
-    let e : length a.t1 ≡ states = search rules in
-    (search rules, place_none (each a.t1) a.t1 e)
+    let e : length a.v ≡ states = search rules in
+    (search rules, place_none (each a.v) a.v e)
 
 pub loop-q-preserved : goal.loop-q-preserved
 loop-q-preserved c =
@@ -22,10 +22,10 @@ loop-q-preserved c =
     let l = c.loop-q in
     let h = c.loop-q-test.true in
     let still = l.invariant.1.left l.q (omega arith) in
-    (search rules, place-more (each a.t1) a.t1 l.q l.v _ (omega arith) (ap (λ (n : ℕ). n / 256) still) l.invariant.1)
+    (search rules, place-more (each a.v) a.v l.q l.v _ (omega arith) (ap (λ (n : ℕ). n / 256) still) l.invariant.1)
 
 pub returns : goal.returns
 returns c =
     let a = c.args in
     let l = c.loop-q in
-    place-all (each a.t1) a.t1 l.q l.v (omega arith) l.invariant.1
+    place-all (each a.v) a.v l.q l.v (omega arith) l.invariant.1

@@ -38,7 +38,7 @@ loop-k-preserved c =
     let h = c.loop-k-test.true in
     let e = c.note_parts.ensures ∙ ap (λ (d : Option Form). noted l.k d l.masks) (c.form-f.ensures ∙ form-at
     a.nodes.now l.k h) in
-    (search rules, repeat-more (steps a.nodes.now) l.k (replicate most_nodes 0) l.masks c.note_parts.new.0 l.invariant.1 e)
+    (search rules, repeat-more (steps a.nodes.now) l.k (replicate most_nodes 0) l.masks c.note_parts.new.masks l.invariant.1 e)
 
 pub returns : goal.returns
 unfolding readers_of

@@ -12,7 +12,7 @@ note-requires-2 c =
     let a = c.args in
     let p = c.requires in
     let e = c.note.ensures in
-    record { masks_len = (grows-joined a.masks.now c.note.new.0 a.a (2 ^ a.k) e).len ∙ p.masks_len; j_lt_most_nodes = p.b_lt_most_nodes; k_lt_most_nodes = p.k_lt_most_nodes }
+    record { masks_len = (grows-joined a.masks.now c.note.new.masks a.a (2 ^ a.k) e).len ∙ p.masks_len; j_lt_most_nodes = p.b_lt_most_nodes; k_lt_most_nodes = p.k_lt_most_nodes }
 
 pub returns : goal.returns
 returns c =

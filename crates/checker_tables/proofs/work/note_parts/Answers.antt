@@ -67,4 +67,4 @@ unfolding noted
 returns-in-Sandbox c = rw c.in-Sandbox.is c.note-in-Sandbox.ensures
 
 pub returns-in_default : goal.returns-in_default
-returns-in_default c = let a = c.args in no-noted a.k a.masks.now a.f c.in-Sequence.keys7
+returns-in_default c = let a = c.args in no-noted a.k a.masks.now a.f c.in_default.in_default-own

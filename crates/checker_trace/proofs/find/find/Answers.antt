@@ -22,6 +22,7 @@ use Rattle.checker_trace.proofs.find.has.Reads as has-reads
 use Rattle.checker_trace.proofs.find.rule.Reads as rule-reads
 use borrow.Author.Rules.{rules}
 use Rattle.checker_trace.proofs.find.find.Goals as goal
+use Rattle.checker_trace.proofs.find.find.Goals.{else-has, then-has}
 
 pub closure-s-requires : goal.closure-s-requires
 closure-s-requires c = c.requires
@@ -60,15 +61,12 @@ loop-k-preserved c =
       omega arith,
       below_more (λ (j : ℕ). has s j ≡ true → (i : ℕ) → i < ways_of (form_here nodes j)
           → offer_below a.w a.rows.now a.t.now (form_here nodes j) (at_node a.e j) a.n i ≡ a.n → ⊥) l.k l.invariant.1
-          (by_cases c.if-has.branch
-          (λ v h.
-          let r = subst (λ (f : Option Form). RuleIs a.w a.rows.now a.t.now f (at_node a.e l.k) a.n v.3.result)
+          (elim c.if-has.branch [ then-has v ↦ let r = subst (λ (f : Option Form). RuleIs a.w a.rows.now a.t.now f (at_node a.e l.k) a.n v.3.result)
           v.1.ensures
           (subst (λ (y : Entry). RuleIs a.w a.rows.now a.t.now (said_by v.1.result) y a.n v.3.result) v.2.ensures
           v.3.ensures) in
           let g : v.4.result ≡ ways_of (form_here nodes l.k) = v.4.ensures ∙ ap ways_of v.1.ensures in
-          r.none_there (subst (λ (i : ℕ). i ≤ v.3.result) g v.5.left))
-          (λ v h. not-both c.has.result (c.has.ensures ∙ h) v.left)),
+          r.none_there (subst (λ (i : ℕ). i ≤ v.3.result) g v.5.left) | else-has v ↦ not-both c.has.result (c.has.ensures ∙ h) v.left ]),
     )
 
 pub returns : goal.returns

@@ -24,4 +24,4 @@ unfolding leads_of
 returns-in-Back c = rw c.in-Back.is c.bit-in-Back.ensures
 
 pub returns-in_default : goal.returns-in_default
-returns-in_default c = let a = c.args in no-leads a.t.now a.e a.f c.in-Sequence.keys5
+returns-in_default c = let a = c.args in no-leads a.t.now a.e a.f c.in_default.in_default-own

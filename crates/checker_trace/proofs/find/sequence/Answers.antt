@@ -12,6 +12,7 @@ use Rattle.checker_trace.proofs.find.bit_if.Reads as bit-if-reads
 use Rattle.checker_trace.proofs.find.idle.Reads as idle-reads
 use Rattle.checker_trace.proofs.find.idle_after.Reads as idle-after-reads
 use Rattle.checker_trace.proofs.find.sequence.Goals as goal
+use Rattle.checker_trace.proofs.find.sequence.Goals.{else-e-eq-BROKEN, then-e-eq-BROKEN}
 
 pub returns : goal.returns
 unfolding sequence_leads
@@ -19,8 +20,6 @@ returns c =
     let a = c.args in
     let then : ℕ → Bool = λ (k : ℕ). idle_after_lem a.t.now a.e k in
     let first : c.if-e-eq-BROKEN.first ≡ (eqb a.e.aim 16 || then a.b) =
-    by_cases c.if-e-eq-BROKEN.branch
-    (λ v. v.1 ∙ sym (ap (λ (z : Bool). z || then a.b) (eq-eqb a.e.aim 16 v.0.taken)))
-    (λ v. v.2 ∙ v.1.ensures ∙ sym (ap (λ (z : Bool). z || then a.b) (ne_eqb a.e.aim 16 v.0.left))) in
+    elim c.if-e-eq-BROKEN.branch [ then-e-eq-BROKEN v ↦ v.first-is ∙ sym (ap (λ (z : Bool). z || then a.b) (eq-eqb a.e.aim 16 v.if-e-eq-BROKEN.true)) | else-e-eq-BROKEN v ↦ v.first-is ∙ v.1.ensures ∙ sym (ap (λ (z : Bool). z || then a.b) (ne_eqb a.e.aim 16 v.if-e-eq-BROKEN.false)) ] in
     ap₂ bit_or (c.bit_if.ensures ∙ ap (λ (z : Bool). bit_if_lem z a.a) first)
     (c.bit_if-2.ensures ∙ ap (λ (z : Bool). bit_if_lem z a.b) c.idle.ensures)

@@ -18,6 +18,7 @@ use Rattle.checker_trace.proofs.find.has.Reads as has-reads
 use Rattle.checker_trace.proofs.find.leads.Reads as leads-reads
 use borrow.Author.Rules.{rules}
 use Rattle.checker_trace.proofs.find.spread.Goals as goal
+use Rattle.checker_trace.proofs.find.spread.Goals.{else-has, then-has}
 
 pub loop-k-init : goal.loop-k-init
 unfolding spread_to
@@ -33,11 +34,9 @@ loop-k-preserved c =
     let h : has u l.k ≡ c.has.result = sym (c.has.ensures ∙ ap (λ (v : ℕ). has v l.k) l.invariant.1) in (
       omega arith,
       rw (add-one l.k)
-          (by_cases c.if-has.branch
-          (λ v. v.3 ∙ ap₂ bit_or l.invariant.1 (v.2.ensures ∙ ap (leads_from a.t.now a.e) v.1.ensures)
-          ∙ sym (ap (λ (b : Bool). join_if b u (leads_from a.t.now a.e (form_here a.nodes.now l.k))) (h ∙ v.0.taken)))
-          (λ v. v.1 ∙ l.invariant.1 ∙ sym (ap (λ (b : Bool). join_if b u (leads_from a.t.now a.e (form_here a.nodes.now l.k)))
-          (h ∙ v.0.left)))),
+          (elim c.if-has.branch [ then-has v ↦ v.3 ∙ ap₂ bit_or l.invariant.1 (v.2.ensures ∙ ap (leads_from a.t.now a.e) v.1.ensures)
+          ∙ sym (ap (λ (b : Bool). join_if b u (leads_from a.t.now a.e (form_here a.nodes.now l.k))) (h ∙ v.if-has.true)) | else-has v ↦ v.1 ∙ l.invariant.1 ∙ sym (ap (λ (b : Bool). join_if b u (leads_from a.t.now a.e (form_here a.nodes.now l.k)))
+          (h ∙ v.if-has.false)) ]),
     )
 
 pub returns : goal.returns

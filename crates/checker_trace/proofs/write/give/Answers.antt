@@ -11,8 +11,8 @@ use borrow.Author.Rules.{rules}
 use Rattle.checker_trace.proofs.write.give.Goals as goal
 
 pub returns-then-k-lt-NAMES : goal.returns-then-k-lt-NAMES
-returns-then-k-lt-NAMES c = let k : length c.args.t1.numbers ≡ 4 = search rules in
-    record { value = refl; numbers_len = length-set c.args.t1.numbers c.args.i c.args.v ∙ k }
+returns-then-k-lt-NAMES c = let k : length c.args.g.numbers ≡ 4 = search rules in
+    record { value = refl; numbers_len = length-set c.args.g.numbers c.args.i c.args.v ∙ k }
 
 pub returns-else-k-lt-NAMES : goal.returns-else-k-lt-NAMES
-returns-else-k-lt-NAMES c = let k : length c.args.t1.numbers ≡ 4 = search rules in record { value = ap (λ (l : List ℕ). names_of l) (sym (set_out c.args.t1.numbers c.args.i c.args.v (omega arith))); numbers_len = k }
+returns-else-k-lt-NAMES c = let k : length c.args.g.numbers ≡ 4 = search rules in record { value = ap (λ (l : List ℕ). names_of l) (sym (set_out c.args.g.numbers c.args.i c.args.v (omega arith))); numbers_len = k }

@@ -46,6 +46,6 @@ returns-in-Stored c =
     let p = c.requires in
     let t = c.read_policies-r in
     let s = c.store_policies in
-    policies-loaded a.text.now a.b.now p.desk_bytes_in_bounds p.b_value p.b_value_2 c.in-Stored.n c.in-Stored.local t.new.1.0 s.new.0
+    policies-loaded a.text.now a.b.now p.desk_bytes_in_bounds p.b_value p.b_value_2 c.in-Stored.n c.in-Stored.local t.new.1.0 s.new.b
     (policies-held a.text.now t.new.1.0 c.in-Stored.n c.in-Stored.local (rw c.in-Stored.is at t.ensures.result_value) t.ensures.table_after)
     (policies-choice a.text.now c.in-Stored.n c.in-Stored.local (rw c.in-Stored.is at t.ensures.result_value)) s.ensures.encodes s.ensures.within

@@ -5,7 +5,8 @@ use Prim.Native.Nat.{ℕ, suc, ◌+◌, ◌-◌, ◌≤◌, ◌<◌}
 use lib.ListN.{length, get_or, take, drop, set}
 use Rattle.desk.proofs.loads.policies_head.Reads as reads
 use Rattle.desk.proofs.loads.policies_head.Goals as goal
+use Rattle.desk.proofs.loads.policies_head.Goals.{else-local, then-local}
 
 -- src/loads.rt:102:1
 pub returns : goal.returns
-returns c = by_cases c.if-local.branch (λ w. rw (w.1, w.0.taken)) (λ w. rw (w.1, w.0.left))
+returns c = elim c.if-local.branch [ then-local w ↦ rw (w.1, w.if-local.true) | else-local w ↦ rw (w.1, w.if-local.false) ]

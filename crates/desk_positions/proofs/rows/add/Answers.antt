@@ -25,5 +25,5 @@ returns c =
     let s = c.store in
     let k : length a.r.cells ≡ 81 = search rules in
     new (sym c.find.ensures ∙ c.if-find.false) (omega arith) s.ensures.long
-    (written-rows a.t.now a.r.cells a.n s.new.0 s.ensures k a.n refl)
-    (λ i h. written-other a.t.now a.r.cells a.n s.new.0 s.ensures i (λ e. omega arith))
+    (written-rows a.t.now a.r.cells a.n s.new.t s.ensures k a.n refl)
+    (λ i h. written-other a.t.now a.r.cells a.n s.new.t s.ensures i (λ e. omega arith))

@@ -21,17 +21,17 @@ use Rattle.desk_positions.proofs.silent.silent.Goals as goal
 pub returns-then-depth-eq0 : goal.returns-then-depth-eq0
 returns-then-depth-eq0 c = record { grown = (λ ch ls ok fine is w.
       let a = c.args in
-      empty-grown a.nodes.now a.t4.cells ch fine is w c.if-depth-eq0.true); t_len_2 = c.requires.t_len }
+      empty-grown a.nodes.now a.r.cells ch fine is w c.if-depth-eq0.true); t_len_2 = c.requires.t_len }
 
 -- src/lib.rt:326:9
 pub returns-then-depth-gt-MOST_PARTS : goal.returns-then-depth-gt-MOST_PARTS
-returns-then-depth-gt-MOST_PARTS c = record { grown = (λ ch ls ok fine is w. absurd (not-deep c.args.t4.cells ch fine is c.if-depth-gt-MOST_PARTS.true)); t_len_2 = c.requires.t_len }
+returns-then-depth-gt-MOST_PARTS c = record { grown = (λ ch ls ok fine is w. absurd (not-deep c.args.r.cells ch fine is c.if-depth-gt-MOST_PARTS.true)); t_len_2 = c.requires.t_len }
 
 -- src/lib.rt:331:9
 pub returns-then-code-ge-MOST_NODES : goal.returns-then-code-ge-MOST_NODES
 returns-then-code-ge-MOST_NODES c = record { grown = (λ ch ls ok fine is w.
       let a = c.args in
-      let row = a.t4.cells in
+      let row = a.r.cells in
       let d : ℕ = get_or row 0 0 - 1 in
       closing-grown a.nodes.now row ch fine is w d (get_or row (base d) 0) (omega arith) refl c.if-code-ge-MOST_NODES.true); t_len_2 = c.requires.t_len }
 
@@ -39,7 +39,7 @@ returns-then-code-ge-MOST_NODES c = record { grown = (λ ch ls ok fine is w.
 pub returns-then-nodes-code : goal.returns-then-nodes-code
 returns-then-nodes-code c = record { grown = (λ ch ls ok fine is w.
       let a = c.args in
-      let row = a.t4.cells in
+      let row = a.r.cells in
       let d : ℕ = get_or row 0 0 - 1 in
       past-grown a.nodes.now row ch fine is w d (get_or row (base d) 0) (omega arith) refl c.if-code-ge-MOST_NODES.false c.if-nodes-code.true); t_len_2 = c.requires.t_len }
 
@@ -47,11 +47,11 @@ returns-then-nodes-code c = record { grown = (λ ch ls ok fine is w.
 pub returns : goal.returns
 returns c = record { grown = (λ ch ls ok fine is w.
       let a = c.args in
-      let row = a.t4.cells in
+      let row = a.r.cells in
       let d : ℕ = get_or row 0 0 - 1 in
       node-grown a.nodes.now row ch fine is w d (get_or row (base d) 0) (omega arith) refl c.if-code-ge-MOST_NODES.false
       c.if-nodes-code.false (λ l rest top.
       subst (λ (f : Node). NodeOk f
-      → Grown (added_all same_position ls (silent_by (form_of f) l rest)) c.silent_at.result c.silent_at.new.0)
+      → Grown (added_all same_position ls (silent_by (form_of f) l rest)) c.silent_at.result c.silent_at.new.t)
       c.node-f.ensures (c.silent_at.ensures.by_index (get_or row (base d) 0) l rest ls top w)
       (node-is-ok a.nodes.now ok (get_or row (base d) 0) c.if-nodes-code.false))); t_len_2 = c.silent_at.ensures.t_len_2 }

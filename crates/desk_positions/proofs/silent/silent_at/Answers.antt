@@ -33,7 +33,7 @@ returns-in-3 c = record { by_index = (λ k l rest ls top w ok.
       let a = c.args in
       let key = c.in-3.is in
       let (ha, hb) = both-nodes a.f l rest ok (inl key) in
-      subst (λ (x : List Position). Grown (added_all same_position ls x) c.then.result c.then.new.0) (sym (silent-then a.f l rest key))
+      subst (λ (x : List Position). Grown (added_all same_position ls x) c.then.result c.then.new.t) (sym (silent-then a.f l rest key))
       (c.then.ensures.by_index k l rest ls top w ha hb)); t_len_2 = c.then.ensures.t_len_2 }
 
 -- src/lib.rt:278:1
@@ -42,7 +42,7 @@ returns-in-4 c = record { by_index = (λ k l rest ls top w ok.
       let a = c.args in
       let key = c.in-4.is in
       let (ha, hb) = both-nodes a.f l rest ok (inr key) in
-      subst (λ (x : List Position). Grown (added_all same_position ls x) c.either.result c.either.new.0) (sym (silent-either a.f l rest key))
+      subst (λ (x : List Position). Grown (added_all same_position ls x) c.either.result c.either.new.t) (sym (silent-either a.f l rest key))
       (c.either.ensures.by_index k l rest ls top w ha hb)); t_len_2 = c.either.ensures.t_len_2 }
 
 -- src/lib.rt:278:1
@@ -65,5 +65,5 @@ returns-in-6 c = record { by_index = (λ k l rest ls top w ok.
 pub returns-in_default : goal.returns-in_default
 returns-in_default c = record { by_index = (λ k l rest ls top w ok.
       let a = c.args in
-      let n = c.in-0.rest in
+      let n = c.in_default.in_default-own in
       none-grown w _ (silent-none a.f l rest n.0.0.0.0.1 n.0.0.0.1 n.0.0.1 n.0.1 n.1)); t_len_2 = c.requires.t_len }

@@ -24,7 +24,7 @@ returns-then-d-ge-MOST_PARTS c = record { by_index = (λ k l rest ls top w ha hb
 pub returns : goal.returns
 returns c = record { by_index = (λ k l rest ls top w ha hb.
       let a = c.args in
-      one-grown w _ _ refl (fine-two a.t3.cells a.d k l rest top a.a a.b ha hb (omega arith))
+      one-grown w _ _ refl (fine-two a.r.cells a.d k l rest top a.a a.b ha hb (omega arith))
       (c.push-u.ensures
-      ∙ rw c.replace-s.ensures (then-row a.t3.cells a.d k l rest top a.a a.b (base a.d) refl))
+      ∙ rw c.replace-s.ensures (then-row a.r.cells a.d k l rest top a.a a.b (base a.d) refl))
       c.add.ensures); t_len_2 = adds-long c.add.ensures ∙ c.requires.t_len }

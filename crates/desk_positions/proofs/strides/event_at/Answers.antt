@@ -27,5 +27,5 @@ returns-in-7 c = record { by_index = λ k l rest ls top w ok. c.fresh.ensures.by
 pub returns-in_default : goal.returns-in_default
 returns-in_default c = record { by_index = λ k l rest ls top w ok.
       let a = c.args in
-      let n = c.in-1.rest in
+      let n = c.in_default.in_default-own in
       none-grown w _ (event-none a.f l rest a.action a.res n.0.0.1 n.0.1 n.1); rows_kept = kept-none _ _ }

@@ -34,12 +34,12 @@ returns-then-name-ge-MOST_NAMES c = record { by_index = λ k l rest ls top w ok 
 pub returns-then-r-i : goal.returns-then-r-i
 returns-then-r-i c = record { by_index = λ k l rest ls top w ok kind.
       let a = c.args in
-      none-grown w _ (name-other a.f l rest kind a.action a.res (λ e. c.if-r-i.true (name-read a.t3.cells a.d k l rest top a.f.b (name-named a.f l rest kind ok) ∙ e))); rows_kept = kept-none _ _ }
+      none-grown w _ (name-other a.f l rest kind a.action a.res (λ e. c.if-r-i.true (name-read a.r.cells a.d k l rest top a.f.b (name-named a.f l rest kind ok) ∙ e))); rows_kept = kept-none _ _ }
 
 -- src/lib.rt:384:1
 pub returns : goal.returns
 returns c = record { by_index = λ k l rest ls top w ok kind.
       let a = c.args in
       one-grown w _ _ (name-taken a.f l rest kind a.action a.res c.if-f-action.false
-      (sym (name-read a.t3.cells a.d k l rest top a.f.b (name-named a.f l rest kind ok)) ∙ c.if-r-i.false) c.if-res-eq0.false) (below a.t3.cells a.d k l rest top)
-      (c.pop.ensures ∙ pop-row a.t3.cells a.d k l rest top) c.add.ensures; rows_kept = adds-kept c.add.ensures }
+      (sym (name-read a.r.cells a.d k l rest top a.f.b (name-named a.f l rest kind ok)) ∙ c.if-r-i.false) c.if-res-eq0.false) (below a.r.cells a.d k l rest top)
+      (c.pop.ensures ∙ pop-row a.r.cells a.d k l rest top) c.add.ensures; rows_kept = adds-kept c.add.ensures }

@@ -29,6 +29,6 @@ pub returns : goal.returns
 returns c = record { by_index = λ k l rest ls top w ok kind.
       let a = c.args in
       one-grown w _ _ (sandbox-taken a.f l rest kind a.p c.if-f-p.false)
-      (fine-sandbox a.t3.cells a.d k l rest top a.f.b a.f.a (sandbox-node a.f l rest kind ok) (omega (arith, c.if-d-ge-MOST_PARTS.false)))
+      (fine-sandbox a.r.cells a.d k l rest top a.f.b a.f.a (sandbox-node a.f l rest kind ok) (omega (arith, c.if-d-ge-MOST_PARTS.false)))
       (c.push.ensures ∙ rw (c.push-s.ensures, c.pop.ensures)
-      (sandbox-row a.t3.cells a.d k l rest top a.f.b a.f.a)) c.add.ensures; rows_kept = adds-kept c.add.ensures }
+      (sandbox-row a.r.cells a.d k l rest top a.f.b a.f.a)) c.add.ensures; rows_kept = adds-kept c.add.ensures }

@@ -20,14 +20,14 @@ pub returns-in-0 : goal.returns-in-0
 returns-in-0 c = record { by_index = λ k l rest ls top w ok.
       let a = c.args in
       subst (λ (x : ℕ). Grown (added_all same_position ls (stride_by (form_of a.f) l rest (step_from x a.a a.b))) c.event_at.result
-      c.event_at.new.0) (sym c.in-0.is) (c.event_at.ensures.by_index k l rest ls top w ok); rows_kept = c.event_at.ensures.rows_kept }
+      c.event_at.new.t) (sym c.in-0.is) (c.event_at.ensures.by_index k l rest ls top w ok); rows_kept = c.event_at.ensures.rows_kept }
 
 -- src/lib.rt:489:1
 pub returns-then-f-eq-SANDBOX : goal.returns-then-f-eq-SANDBOX
 returns-then-f-eq-SANDBOX c = record { by_index = λ k l rest ls top w ok.
       let a = c.args in
       subst (λ (x : ℕ). Grown (added_all same_position ls (stride_by (form_of a.f) l rest (step_from x a.a a.b))) c.sandbox.result
-      c.sandbox.new.0) (sym c.in-1.is) (c.sandbox.ensures.by_index k l rest ls top w ok c.if-f-eq-SANDBOX.true); rows_kept = c.sandbox.ensures.rows_kept }
+      c.sandbox.new.t) (sym c.in-1.is) (c.sandbox.ensures.by_index k l rest ls top w ok c.if-f-eq-SANDBOX.true); rows_kept = c.sandbox.ensures.rows_kept }
 
 -- src/lib.rt:489:1
 pub returns-else-f-eq-SANDBOX : goal.returns-else-f-eq-SANDBOX
@@ -40,5 +40,5 @@ returns-else-f-eq-SANDBOX c = record { by_index = λ k l rest ls top w ok.
 pub returns-in_default : goal.returns-in_default
 returns-in_default c = record { by_index = λ k l rest ls top w ok.
       let a = c.args in
-      let n = c.in-0.rest in
+      let n = c.in_default.in_default-own in
       none-grown w _ (others-none (form_of a.f) l rest a.kind a.a a.b n.0.1 n.1); rows_kept = kept-none _ _ }

@@ -30,7 +30,7 @@ returns c =
     let e : length l ≡ pair_sets = c.if-pairs-ne-PAIR_SETS.false in
     let one = c.reset_policy.ensures in
     let two = c.reset_policy-2.ensures in
-    let same = upper-lent l c.reset_policy.new.0 e one.sets_len_2 in
-    both-back l c.reset_policy.new.0 e one.sets_len_2 c.reset_policy-2.new.0
+    let same = upper-lent l c.reset_policy.new.sets e one.sets_len_2 in
+    both-back l c.reset_policy.new.sets e one.sets_len_2 c.reset_policy-2.new.sets
     ∙ ap₂ (λ (u v : List ℕ). u ++ v) one.sets_value (two.sets_value ∙ ap (λ (u : List ℕ). of_policy a.which.second (λ p sets. cond (eqb p a.s) (reset_pairs a.n sets) sets) u) same)
     ∙ sym (simp (eq-eqb _ _ e, le-leb _ _ c.if-n-gt-INSTANCES.false))

@@ -38,7 +38,7 @@ returns c =
     let e : length l ≡ pair_sets = c.if-pairs-ne-PAIR_SETS.false in
     let one = c.retire_policy.ensures in
     let two = c.retire_policy-2.ensures in
-    let same = upper-lent l c.retire_policy.new.0 e one.sets_len_2 in
-    both-back l c.retire_policy.new.0 e one.sets_len_2 c.retire_policy-2.new.0
+    let same = upper-lent l c.retire_policy.new.sets e one.sets_len_2 in
+    both-back l c.retire_policy.new.sets e one.sets_len_2 c.retire_policy-2.new.sets
     ∙ ap₂ (λ (u v : List ℕ). u ++ v) one.sets_after (two.sets_after ∙ ap (λ (u : List ℕ). of_policy a.which.second (λ p. retire_pairs a.at a.n) u) same)
     ∙ sym (simp (eq-eqb _ _ e, le-leb _ _ c.if-n-gt-INSTANCES.false, lt-ltb _ _ c.if-n-at.false, le-leb _ _ c.if-at-lt-FIRST_CREATED.false))

@@ -28,7 +28,7 @@ pub take-requires-2 : goal.take-requires-2
 take-requires-2 c =
     let l = c.args.pairs.now in
     let e : length l ≡ pair_sets = c.if-pairs-ne-PAIR_SETS.false in
-    let same = upper-lent l c.take.new.0 e c.take.ensures.sets_len_2 in record { sets_len = ap length same ∙ upper-size l e; by_index = λ k. subst (λ (u : List ℕ). get_or u k 0 < 256) (sym same) (upper-below l e (λ k. omega (arith, c.type_inv.pairs k)) k); n_le_instances = c.if-turn-gt-INSTANCES.false; at_lt_n = c.if-turn.false }
+    let same = upper-lent l c.take.new.sets e c.take.ensures.sets_len_2 in record { sets_len = ap length same ∙ upper-size l e; by_index = λ k. subst (λ (u : List ℕ). get_or u k 0 < 256) (sym same) (upper-below l e (λ k. omega (arith, c.type_inv.pairs k)) k); n_le_instances = c.if-turn-gt-INSTANCES.false; at_lt_n = c.if-turn.false }
 
 pub returns : goal.returns
 unfolding turned_blocks
@@ -38,8 +38,8 @@ returns c =
     let e : length l ≡ pair_sets = c.if-pairs-ne-PAIR_SETS.false in
     let one = c.take.ensures in
     let two = c.take-2.ensures in
-    let same = upper-lent l c.take.new.0 e one.sets_len_2 in
-    both-back l c.take.new.0 e one.sets_len_2 c.take-2.new.0
+    let same = upper-lent l c.take.new.sets e one.sets_len_2 in
+    both-back l c.take.new.sets e one.sets_len_2 c.take-2.new.sets
     ∙ ap₂ (λ (u v : List ℕ). u ++ v) one.sets_after
     (two.sets_after ∙ ap (λ (u : List ℕ). of_policy a.which.second (λ p. turned a.turn a.upper) u) same)
     ∙ sym (simp (eq-eqb _ _ e, le-leb _ _ c.if-turn-gt-INSTANCES.false, lt-ltb _ _ c.if-turn.false))

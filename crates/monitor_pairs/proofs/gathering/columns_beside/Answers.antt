@@ -10,6 +10,7 @@ use Rattle.monitor_pairs.proofs.gathering.columns_beside.Reads as reads
 use Rattle.monitor_pairs.proofs.gathering.join_row.Reads as join-row-reads
 use borrow.Author.Rules.{rules}
 use Rattle.monitor_pairs.proofs.gathering.columns_beside.Goals as goal
+use Rattle.monitor_pairs.proofs.gathering.columns_beside.Goals.{else-i-at, then-i-at}
 
 pub loop-i-init : goal.loop-i-init
 loop-i-init c = (search rules, beside_none c.args.at c.args.sets.now)
@@ -25,10 +26,8 @@ loop-i-preserved c =
     let a = c.args in
     let t = c.loop-i in (
       search rules,
-      by_cases c.if-i-at.branch
-          (λ w. w.3 ∙ w.2.ensures.1 ∙ ap (row_joined (t.i * instances) a.sets.now) t.invariant.1
-          ∙ beside-row a.at a.sets.now t.i w.0.taken)
-          (λ w. w.1 ∙ t.invariant.1 ∙ beside-own a.at a.sets.now t.i w.0.left),
+      elim c.if-i-at.branch [ then-i-at w ↦ w.3 ∙ w.2.ensures.1 ∙ ap (row_joined (t.i * instances) a.sets.now) t.invariant.1
+          ∙ beside-row a.at a.sets.now t.i w.if-i-at.true | else-i-at w ↦ w.1 ∙ t.invariant.1 ∙ beside-own a.at a.sets.now t.i w.if-i-at.false ],
     )
 
 pub returns : goal.returns

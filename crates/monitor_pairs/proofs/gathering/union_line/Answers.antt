@@ -15,7 +15,7 @@ loop-j-init c = (search rules, refl)
 pub loop-j-preserved : goal.loop-j-preserved
 loop-j-preserved c =
     let t = c.loop-j in
-    (search rules, rw t.invariant.1 (union_more t.j (λ j. get_or c.args.t1 j 0)))
+    (search rules, rw t.invariant.1 (union_more t.j (λ j. get_or c.args.line j 0)))
 
 pub returns : goal.returns
 returns c =

@@ -19,7 +19,7 @@ move_up-requires c = (
 
 pub shape_of-sets : goal.shape_of-sets
 shape_of-sets c =
-    length-set c.move_up.new.0 _ _ ∙ c.move_up.ensures.sets_len_2 ∙ sym c.requires.sets_len
+    length-set c.move_up.new.sets _ _ ∙ c.move_up.ensures.sets_len_2 ∙ sym c.requires.sets_len
 
 pub returns : goal.returns
 returns c =

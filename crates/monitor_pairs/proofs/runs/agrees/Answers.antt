@@ -23,7 +23,7 @@ loop-q-preserved c =
     let f : ℕ → ℕ = two_moved w.keep w.low w.lows w.high w.highs in
     let l : t.q < 8 = omega arith in (
       search rules,
-      below_more (λ (j : ℕ). f (2 ^ j) ≡ get_or a.t2 j 0) t.q t.invariant.1
+      below_more (λ (j : ℕ). f (2 ^ j) ≡ get_or a.rows j 0) t.q t.invariant.1
           (ap f (sym (bit_shifted t.q l)) ∙ sym c.move_by_two.ensures ∙ c.if-move_by_two-rows.false),
     )
 

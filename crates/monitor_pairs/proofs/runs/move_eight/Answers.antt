@@ -17,14 +17,14 @@ use Rattle.monitor_pairs.proofs.runs.move_eight.Goals as goal
 
 pub loop-k-init : goal.loop-k-init
 loop-k-init c =
-    let w = c.args.t3 in
+    let w = c.args.rows in
     let rows : List ℕ = get_or w 0 0 ∷ get_or w 1 0 ∷ get_or w 2 0 ∷ get_or w 3 0 ∷ get_or w 4 0 ∷ get_or w 5 0 ∷ get_or w 6 0 ∷ get_or w 7 0 ∷ [] in
     let l = c.args.sets.now in
     (search rules, (c.requires.sets_len, filled_none (λ k. move_by rows 0 (get_or l k 0)) (λ k. get_or l k 0) pair_places l c.requires.sets_len (λ k b. refl)))
 
 pub loop-k-preserved : goal.loop-k-preserved
 loop-k-preserved c =
-    let w = c.args.t3 in
+    let w = c.args.rows in
     let rows : List ℕ = get_or w 0 0 ∷ get_or w 1 0 ∷ get_or w 2 0 ∷ get_or w 3 0 ∷ get_or w 4 0 ∷ get_or w 5 0 ∷ get_or w 6 0 ∷ get_or w 7 0 ∷ [] in
     let l = c.args.sets.now in
     let t = c.loop-k in
@@ -44,7 +44,7 @@ loop-k-preserved c =
 pub returns : goal.returns
 unfolding run_moved
 returns c =
-    let w = c.args.t3 in
+    let w = c.args.rows in
     let rows : List ℕ = get_or w 0 0 ∷ get_or w 1 0 ∷ get_or w 2 0 ∷ get_or w 3 0 ∷ get_or w 4 0 ∷ get_or w 5 0 ∷ get_or w 6 0 ∷ get_or w 7 0 ∷ [] in
     let l = c.args.sets.now in
     let t = c.loop-k in

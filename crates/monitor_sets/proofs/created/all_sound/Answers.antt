@@ -18,6 +18,7 @@ use Rattle.monitor_sets.proofs.CreatedLaws.{
 }
 use borrow.Author.Rules.{rules}
 use Rattle.monitor_sets.proofs.created.all_sound.Goals as goal
+use Rattle.monitor_sets.proofs.created.all_sound.Goals.{else-seen-e, then-seen-e}
 
 pub loop-i-init : goal.loop-i-init
 loop-i-init c = (
@@ -58,9 +59,8 @@ loop-i-preserved c =
     let seen = t.invariant.1.1 in (
       search rules,
       (
-        by_cases c.if-seen-e.branch (λ w. next (sym w.1.ensures ∙ w.2.left))
-            (λ w. next (unseen-unlisted l a.count (omega arith) t.seen t.i (get_or l (t.i - 1) 0) (omega arith) seen.1
-            w.left)),
+        elim c.if-seen-e.branch [ then-seen-e w ↦ next (sym w.1.ensures ∙ w.2.left) | else-seen-e w ↦ next (unseen-unlisted l a.count (omega arith) t.seen t.i (get_or l (t.i - 1) 0) (omega arith) seen.1
+            w.left) ],
         (
           length-set t.seen (get_or l (t.i - 1) 0 % endings) true ∙ seen.0,
           seen_more l a.count (omega arith) t.seen t.i (omega arith) seen.0 seen.1,

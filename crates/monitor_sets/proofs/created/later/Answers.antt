@@ -8,6 +8,7 @@ use Rattle.monitor_sets.specs.Created.{listed}
 use Rattle.monitor_sets.proofs.CreatedLaws.{or-false, listed_here, listed_more, listed-end}
 use borrow.Author.Rules.{rules}
 use Rattle.monitor_sets.proofs.created.later.Goals as goal
+use Rattle.monitor_sets.proofs.created.later.Goals.{else-created-i, then-created-i}
 
 pub loop-i-init : goal.loop-i-init
 loop-i-init c = (search rules, (search rules, refl))
@@ -19,13 +20,11 @@ loop-i-preserved c =
       search rules,
       (
         search rules,
-        by_cases c.if-created-i.branch
-            (λ w. rw w.1
-            (sym (or_right t.found _ (listed_here a.created.now a.count (omega arith) a.x t.i (omega arith) w.0.taken))
-            ∙ t.invariant.1.1))
-            (λ w. rw w.1
-            (ap (λ b. t.found || b) (sym (listed_more a.created.now a.count (omega arith) a.x t.i (omega arith) w.0.left))
-            ∙ t.invariant.1.1)),
+        elim c.if-created-i.branch [ then-created-i w ↦ rw w.1
+            (sym (or_right t.found _ (listed_here a.created.now a.count (omega arith) a.x t.i (omega arith) w.if-created-i.true))
+            ∙ t.invariant.1.1) | else-created-i w ↦ rw w.1
+            (ap (λ b. t.found || b) (sym (listed_more a.created.now a.count (omega arith) a.x t.i (omega arith) w.if-created-i.false))
+            ∙ t.invariant.1.1) ],
       ),
     )
 

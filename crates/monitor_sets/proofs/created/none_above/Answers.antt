@@ -7,6 +7,7 @@ use Rattle.monitor_sets.specs.Created.{highest_ok}
 use Rattle.monitor_sets.proofs.HighestLaws.{highest-none, highest-above, highest-below}
 use borrow.Author.Rules.{rules}
 use Rattle.monitor_sets.proofs.created.none_above.Goals as goal
+use Rattle.monitor_sets.proofs.created.none_above.Goals.{else-highest-created, then-highest-created}
 
 twice : (b : Bool) → not (not b) ≡ b
 twice true = refl
@@ -21,9 +22,7 @@ loop-i-preserved c =
     let t = c.loop-i in
     let l = a.created.now in (
       search rules,
-      by_cases c.if-highest-created.branch
-          (λ w. w.1 ∙ sym (ap not (highest-above a.highest l t.i (omega arith) w.0.taken)))
-          (λ w. w.1 ∙ t.invariant.1 ∙ sym (ap not (highest-below a.highest l t.i (omega arith) w.0.left))),
+      elim c.if-highest-created.branch [ then-highest-created w ↦ w.1 ∙ sym (ap not (highest-above a.highest l t.i (omega arith) w.if-highest-created.true)) | else-highest-created w ↦ w.1 ∙ t.invariant.1 ∙ sym (ap not (highest-below a.highest l t.i (omega arith) w.if-highest-created.false)) ],
     )
 
 pub returns : goal.returns

@@ -7,6 +7,7 @@ use Rattle.monitor_sets.specs.Code.{rises}
 use Rattle.monitor_sets.proofs.CreatedLaws.{rises-less, rises-more}
 use borrow.Author.Rules.{rules}
 use Rattle.monitor_sets.proofs.created.rising.Goals as goal
+use Rattle.monitor_sets.proofs.created.rising.Goals.{else-created-i, then-created-i}
 
 twice : (b : Bool) → not (not b) ≡ b
 twice true = refl
@@ -25,9 +26,7 @@ loop-i-preserved c =
       search rules,
       (
         omega arith,
-        rw k (by_cases c.if-created-i.branch
-            (λ w. w.1 ∙ sym (ap not (rises-less l a.count (omega arith) t.i t.invariant.0 w.0.taken)))
-            (λ w. w.1 ∙ t.invariant.1.1 ∙ sym (ap not (rises-more l a.count (omega arith) t.i t.invariant.0 w.0.left)))),
+        rw k (elim c.if-created-i.branch [ then-created-i w ↦ w.1 ∙ sym (ap not (rises-less l a.count (omega arith) t.i t.invariant.0 w.if-created-i.true)) | else-created-i w ↦ w.1 ∙ t.invariant.1.1 ∙ sym (ap not (rises-more l a.count (omega arith) t.i t.invariant.0 w.if-created-i.false)) ]),
       ),
     )
 

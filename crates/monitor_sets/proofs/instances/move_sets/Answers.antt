@@ -13,14 +13,13 @@ use Rattle.monitor_sets.proofs.MovedLaws.{all_moved_lem}
 use Rattle.monitor_sets.proofs.EventLaws.{begun, begun-length}
 use borrow.Author.Rules.{rules}
 use Rattle.monitor_sets.proofs.instances.move_sets.Goals as goal
+use Rattle.monitor_sets.proofs.instances.move_sets.Goals.{else-action-eq0, then-action-eq0}
 
 pub move_all-requires : goal.move_all-requires
 move_all-requires c =
     let a = c.args in
     let e : c.if-action-eq0.sets ≡ begun (eqb a.action 0) a.sets.now a.at =
-    by_cases c.if-action-eq0.branch
-    (λ w. w.3 ∙ w.2.ensures ∙ sym (ap (λ (b : Bool). begun b a.sets.now a.at) (eq-eqb _ _ w.0.taken)))
-    (λ w. w.1 ∙ sym (ap (λ (b : Bool). begun b a.sets.now a.at) (ne_eqb _ _ w.0.left))) in record { sets_len = ap (λ (l : List ℕ). length l) e
+    elim c.if-action-eq0.branch [ then-action-eq0 w ↦ w.sets-is ∙ w.2.ensures ∙ sym (ap (λ (b : Bool). begun b a.sets.now a.at) (eq-eqb _ _ w.if-action-eq0.true)) | else-action-eq0 w ↦ w.sets-is ∙ sym (ap (λ (b : Bool). begun b a.sets.now a.at) (ne_eqb _ _ w.if-action-eq0.false)) ] in record { sets_len = ap (λ (l : List ℕ). length l) e
           ∙ begun-length (eqb a.action 0) a.sets.now a.at c.requires.sets_len; n_le_instances = search rules; at_lt_n = search rules }
 
 pub returns : goal.returns
@@ -29,9 +28,7 @@ returns c =
     let a = c.args in
     let rows = c.rows in
     let e : c.if-action-eq0.sets ≡ begun (eqb a.action 0) a.sets.now a.at =
-    by_cases c.if-action-eq0.branch
-    (λ w. w.3 ∙ w.2.ensures ∙ sym (ap (λ (b : Bool). begun b a.sets.now a.at) (eq-eqb _ _ w.0.taken)))
-    (λ w. w.1 ∙ sym (ap (λ (b : Bool). begun b a.sets.now a.at) (ne_eqb _ _ w.0.left))) in record { sets_after = c.move_all.ensures.sets_after ∙ rw (rows.ensures.own_after, rows.ensures.other_after, e)
+    elim c.if-action-eq0.branch [ then-action-eq0 w ↦ w.sets-is ∙ w.2.ensures ∙ sym (ap (λ (b : Bool). begun b a.sets.now a.at) (eq-eqb _ _ w.if-action-eq0.true)) | else-action-eq0 w ↦ w.sets-is ∙ sym (ap (λ (b : Bool). begun b a.sets.now a.at) (ne_eqb _ _ w.if-action-eq0.false)) ] in record { sets_after = c.move_all.ensures.sets_after ∙ rw (rows.ensures.own_after, rows.ensures.other_after, e)
           (all_moved_lem (edges_of a.edges.now) a.action a.r a.n a.at _); value = c.move_all.ensures.value
           ∙ ap (gathered a.n) (rw (rows.ensures.own_after, rows.ensures.other_after, e)
           (all_moved_lem (edges_of a.edges.now) a.action a.r a.n a.at _)) }

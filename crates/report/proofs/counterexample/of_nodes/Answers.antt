@@ -15,8 +15,8 @@ rows-requires c =
     let s = c.steps_written in
     let f = explained-held k.ensures in
     let l = length-trace-names in
-    let e = first-end a.out.now trace_names_line w.result w.new.0 w.ensures.value w.ensures.out_after (omega arith) in
-    let m = first-length a.out.now trace_names_line w.result w.new.0 w.ensures.value w.ensures.out_after (omega arith) in
+    let e = first-end a.out.now trace_names_line w.result w.new.out w.ensures.value w.ensures.out_after (omega arith) in
+    let m = first-length a.out.now trace_names_line w.result w.new.out w.ensures.value w.ensures.out_after (omega arith) in
     let p = f.places in
     let q = f.few in
     let short = held-short f in
@@ -32,7 +32,7 @@ returns c =
     let f = explained-held k.ensures in
     let l = length-trace-names in
     let short = held-short f in
-    let z = then-stored a.out.now trace_names_line w.result w.new.0 w.ensures.value w.ensures.out_after (omega arith)
+    let z = then-stored a.out.now trace_names_line w.result w.new.out w.ensures.value w.ensures.out_after (omega arith)
     (step_rows (from (step_at_lem k.new.1.1.1.0) 0 s.result))
     (rw s.ensures (omega arith)) t.ensures.value t.ensures.out_after in
     let y = rw s.ensures at z in

@@ -10,6 +10,6 @@ returns c =
     let w = c.names-at in
     let r = c.row in
     let k = length-names in
-    then-put a.out.now names_line w.result w.new.0 w.ensures.value w.ensures.out_after (omega arith)
+    then-put a.out.now names_line w.result w.new.out w.ensures.value w.ensures.out_after (omega arith)
     (row a.line a.sheet a.number)
     (omega arith) r.ensures.value r.ensures.out_after

@@ -11,8 +11,8 @@ rows-requires c =
     let a = c.args in
     let w = c.node_names-at in
     let l = length-node-names in
-    let e = first-end a.out.now node_names_line w.result w.new.0 w.ensures.value w.ensures.out_after (omega arith) in
-    let m = first-length a.out.now node_names_line w.result w.new.0 w.ensures.value w.ensures.out_after (omega arith) in
+    let e = first-end a.out.now node_names_line w.result w.new.out w.ensures.value w.ensures.out_after (omega arith) in
+    let m = first-length a.out.now node_names_line w.result w.new.out w.ensures.value w.ensures.out_after (omega arith) in
     omega arith
 
 pub returns : goal.returns
@@ -22,5 +22,5 @@ returns c =
     let w = c.node_names-at in
     let r = c.rows in
     let l = length-node-names in
-    then-stored a.out.now node_names_line w.result w.new.0 w.ensures.value w.ensures.out_after (omega arith)
+    then-stored a.out.now node_names_line w.result w.new.out w.ensures.value w.ensures.out_after (omega arith)
     (numbered_nodes 0 (nodes_of a.nodes.now)) (omega arith) r.ensures.value r.ensures.out_after

@@ -40,7 +40,7 @@ returns-in-Stored c =
     let k = c.check-a in
     let room = c.requires in
     let b : Fits w8 d.result = search rules in
-    put-checked a.local a.edges.now a.text.now a.out.now w.new.0 a.at w.result room r.new.1.0 n h
+    put-checked a.local a.edges.now a.text.now a.out.now w.new.out a.at w.result room r.new.1.0 n h
     (outcome_verdict k.result) m.result d.result k.ensures m.ensures d.ensures b.fits w.ensures.value w.ensures.out_after
 
 pub returns-in-Refused : goal.returns-in-Refused
@@ -50,5 +50,5 @@ returns-in-Refused c =
     let w = c.row-in-Refused in
     let z = outline-refused-as a.text.now c.in-Refused.line c.in-Refused.number (rw c.in-Refused.is at r.ensures.result_value) in
     put_refused a.local a.edges.now a.text.now a.out.now
-    w.new.0 a.at w.result (omega arith) c.in-Refused.line c.in-Refused.number z
+    w.new.out a.at w.result (omega arith) c.in-Refused.line c.in-Refused.number z
     allowed w.ensures.value w.ensures.out_after

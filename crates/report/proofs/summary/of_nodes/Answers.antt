@@ -12,8 +12,8 @@ all_rows-requires c =
     let k = c.summary in
     let w = c.mark_names-at in
     let l = length-mark-names in
-    let e = first-end a.out.now mark_names_line w.result w.new.0 w.ensures.value w.ensures.out_after (omega arith) in
-    let m = first-length a.out.now mark_names_line w.result w.new.0 w.ensures.value w.ensures.out_after (omega arith) in
+    let e = first-end a.out.now mark_names_line w.result w.new.out w.ensures.value w.ensures.out_after (omega arith) in
+    let m = first-length a.out.now mark_names_line w.result w.new.out w.ensures.value w.ensures.out_after (omega arith) in
     let short = marks-short k.new.1.1.1.0 in
     omega arith
 
@@ -25,7 +25,7 @@ returns c =
     let t = c.all_rows in
     let l = length-mark-names in
     let short = marks-short k.new.1.1.1.0 in
-    let z = then-stored a.out.now mark_names_line w.result w.new.0 w.ensures.value w.ensures.out_after (omega arith)
+    let z = then-stored a.out.now mark_names_line w.result w.new.out w.ensures.value w.ensures.out_after (omega arith)
     (marks_text k.new.1.1.1.0) (omega arith) t.ensures.value t.ensures.out_after in
     let p = c.requires in
     record { summary = k.new.1.1.1.0; right = summarized-exact p.edge_table p.node_table k.ensures; told = z.0; holds = z.1 }

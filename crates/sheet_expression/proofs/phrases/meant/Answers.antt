@@ -8,17 +8,17 @@ use Rattle.sheet_expression.proofs.phrases.meant.Goals as goal
 pub returns-then-l-ge-LABELS : goal.returns-then-l-ge-LABELS
 returns-then-l-ge-LABELS c =
     let a = c.args in
-    let n : length a.t1 ≡ 10 = search rules in
-    λ l. meant-past a.t1 a.label a.own n c.if-l-ge-LABELS.true
+    let n : length a.loops ≡ 10 = search rules in
+    λ l. meant-past a.loops a.label a.own n c.if-l-ge-LABELS.true
 
 pub returns-then-x-lt-NO_LOOP : goal.returns-then-x-lt-NO_LOOP
 returns-then-x-lt-NO_LOOP c =
     let a = c.args in
-    let n : length a.t1 ≡ 10 = search rules in
-    λ l. meant-loop a.t1 a.label a.own (omega arith) c.if-x-lt-NO_LOOP.true
+    let n : length a.loops ≡ 10 = search rules in
+    λ l. meant-loop a.loops a.label a.own (omega arith) c.if-x-lt-NO_LOOP.true
 
 pub returns : goal.returns
 returns c =
     let a = c.args in
-    let n : length a.t1 ≡ 10 = search rules in
-    λ l. meant-none a.t1 a.label a.own (omega arith) c.if-x-lt-NO_LOOP.false
+    let n : length a.loops ≡ 10 = search rules in
+    λ l. meant-none a.loops a.label a.own (omega arith) c.if-x-lt-NO_LOOP.false

@@ -10,6 +10,7 @@ use Rattle.sheet_fields.proofs.blocks.block_faults.Reads as block-faults-reads
 use Rattle.sheet_fields.proofs.edges.more_tested.Reads as more-tested-reads
 use borrow.Author.Rules.{rules}
 use Rattle.sheet_fields.proofs.blocks.blocks_tested.Goals as goal
+use Rattle.sheet_fields.proofs.blocks.blocks_tested.Goals.{else-block_faults-ne0, then-block_faults-ne0}
 
 pub loop-i-init : goal.loop-i-init
 loop-i-init c = (search rules, tested-none c.args.edges.now)
@@ -25,8 +26,7 @@ loop-i-preserved c =
     let a = c.args in
     let t = c.loop-i in (
       search rules,
-      by_cases c.if-block_faults-ne0.branch (λ w. w.2 ∙ w.1.ensures)
-          (λ w. w.1 ∙ t.invariant.1 ∙ block-plain a.edges.now t.i (sym c.block_faults.ensures ∙ w.0.left)),
+      elim c.if-block_faults-ne0.branch [ then-block_faults-ne0 w ↦ w.2 ∙ w.1.ensures | else-block_faults-ne0 w ↦ w.1 ∙ t.invariant.1 ∙ block-plain a.edges.now t.i (sym c.block_faults.ensures ∙ w.if-block_faults-ne0.false) ],
     )
 
 pub returns : goal.returns

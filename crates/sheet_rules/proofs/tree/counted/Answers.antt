@@ -11,13 +11,13 @@ use Rattle.sheet_rules.proofs.tree.counted.Goals as goal
 pub returns-then-not-child : goal.returns-then-not-child
 returns-then-not-child c = λ k h.
     let a = c.args in
-    count_none a.t1 k a.child a.x c.if-not-child.true-raw
+    count_none a.counts k a.child a.x c.if-not-child.true-raw
 
 -- src/tree.rt:171:9
 pub returns-then-c-ge-MOST_NODES : goal.returns-then-c-ge-MOST_NODES
 returns-then-c-ge-MOST_NODES c = λ k h.
     let a = c.args in
-    count-far a.t1 k a.child a.x c.if-not-child.false-raw (λ q. let z = c.if-c-ge-MOST_NODES.true in omega arith)
+    count-far a.counts k a.child a.x c.if-not-child.false-raw (λ q. let z = c.if-c-ge-MOST_NODES.true in omega arith)
 
 -- src/tree.rt:173:17
 pub overflow_add-counts : goal.overflow_add-counts
@@ -27,6 +27,6 @@ overflow_add-counts c = let h = c.requires c.args.x c.if-c-ge-MOST_NODES.false i
 pub returns : goal.returns
 returns c = λ k h.
     let a = c.args in
-    let l : length a.t1 ≡ 64 = search rules in
+    let l : length a.counts ≡ 64 = search rules in
     let z = c.if-c-ge-MOST_NODES.false in
-    count-one a.t1 k a.child a.x c.if-not-child.false-raw (omega arith)
+    count-one a.counts k a.child a.x c.if-not-child.false-raw (omega arith)

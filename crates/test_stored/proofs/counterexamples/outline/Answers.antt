@@ -1,0 +1,24 @@
+-- What a reader has stored has room in its table.
+use Prim.Native.Nat.{◌≤◌}
+use Rattle.usage.specs.Limits.{most_nodes}
+use Rattle.sheet_reader.proofs.AnswerLaws.{outline-held}
+use borrow.Author.Rules.{rules}
+use Rattle.test_stored.proofs.counterexamples.outline.Goals as goal
+
+pub overflow_mul-k : goal.overflow_mul-k
+overflow_mul-k c =
+    let a = c.args in
+    let r = c.read_outline-reading in
+    let n = c.in-Stored.k in
+    let h = outline-held a.text.now r.new.1.0 n (rw c.in-Stored.is at r.ensures.result_value) r.ensures.table_after in
+    let f : n ≤ most_nodes = h.few in
+    search rules
+
+pub slice_bounds-explained-end : goal.slice_bounds-explained-end
+slice_bounds-explained-end c =
+    let a = c.args in
+    let r = c.read_outline-reading in
+    let n = c.in-Stored.k in
+    let h = outline-held a.text.now r.new.1.0 n (rw c.in-Stored.is at r.ensures.result_value) r.ensures.table_after in
+    let f : n ≤ most_nodes = h.few in
+    search rules

@@ -1,0 +1,8 @@
+use Prim.Native.Nat.{◌-◌}
+use Rattle.test_stored.proofs.desk_cases.all.Goals as goal
+
+pub loop-n-init : goal.loop-n-init
+loop-n-init c = tt
+
+pub loop-n-preserved : goal.loop-n-preserved
+loop-n-preserved c = tt

@@ -1,0 +1,24 @@
+-- What a reader has stored has room in its table.
+use Prim.Native.Nat.{◌≤◌}
+use Rattle.usage.specs.Limits.{most_edges}
+use Rattle.sheet_reader.proofs.AnswerLaws.{policies-held}
+use borrow.Author.Rules.{rules}
+use Rattle.test_stored.proofs.lean.sheets.Goals as goal
+
+pub overflow_mul-k : goal.overflow_mul-k
+overflow_mul-k c =
+    let a = c.args in
+    let r = c.read_policies-reading in
+    let n = c.in-Stored.k in
+    let h = policies-held a.policies.now r.new.1.0 n c.in-Stored.local (rw c.in-Stored.is at r.ensures.result_value) r.ensures.table_after in
+    let f : n ≤ most_edges = h.few in
+    search rules
+
+pub slice_bounds-steps-end : goal.slice_bounds-steps-end
+slice_bounds-steps-end c =
+    let a = c.args in
+    let r = c.read_policies-reading in
+    let n = c.in-Stored.k in
+    let h = policies-held a.policies.now r.new.1.0 n c.in-Stored.local (rw c.in-Stored.is at r.ensures.result_value) r.ensures.table_after in
+    let f : n ≤ most_edges = h.few in
+    search rules

@@ -1,0 +1,24 @@
+-- What a reader has stored has room in its table.
+use Prim.Native.Nat.{◌≤◌}
+use Rattle.usage.specs.Limits.{most_steps}
+use Rattle.sheet_reader.proofs.AnswerLaws.{trace-held}
+use borrow.Author.Rules.{rules}
+use Rattle.test_stored.proofs.lean.steps.Goals as goal
+
+pub overflow_mul-k : goal.overflow_mul-k
+overflow_mul-k c =
+    let a = c.args in
+    let r = c.read_trace-reading in
+    let n = c.in-Stored.k in
+    let h = trace-held a.trace-text.now r.new.1.0 n (rw c.in-Stored.is at r.ensures.result_value) r.ensures.table_after in
+    let f : n ≤ most_steps = h.few in
+    search rules
+
+pub slice_bounds-outline-end : goal.slice_bounds-outline-end
+slice_bounds-outline-end c =
+    let a = c.args in
+    let r = c.read_trace-reading in
+    let n = c.in-Stored.k in
+    let h = trace-held a.trace-text.now r.new.1.0 n (rw c.in-Stored.is at r.ensures.result_value) r.ensures.table_after in
+    let f : n ≤ most_steps = h.few in
+    search rules

@@ -1,0 +1,9 @@
+use native.Mathlib.Omega.{arith}
+use Prim.Native.Nat.{◌-◌, ◌≤◌}
+use lib.ListN.{length}
+use Rattle.usage.proofs.Logic.{by_cases}
+use Rattle.test_stored.proofs.trace_calls.kept.Goals as goal
+use Rattle.test_stored.proofs.trace_calls.kept.Goals.{else-trace-i, then-trace-i}
+
+pub loop-i-preserved : goal.loop-i-preserved
+loop-i-preserved c = elim c.if-trace-i.branch [ then-trace-i u ↦ (omega arith, omega arith) | else-trace-i u ↦ (omega arith, omega arith) ]
