@@ -1,25 +1,25 @@
 -- A place that is closed up one element at a time, and a retiring one policy at a time (02, L8).
-use Prim.Native.Nat.{ℕ, suc, ◌+◌, ◌-◌, ◌*◌, ◌/◌, ◌%◌, ◌<◌, ◌≤◌}
+use Prim.Native.Nat.{ℕ, ◌+◌, ◌*◌, ◌/◌, ◌%◌, ◌<◌, ◌≤◌}
 use mathlib.Core.Path.{◌≡◌, refl, sym, ap, ap₂, ◌∙◌}
 use mathlib.Core.Bool.{Bool, true, false, ◌&&◌, cond}
 use mathlib.Core.List.{List}
 use mathlib.Core.Logic.{◌⊎◌, inl, inr}
-use native.Mathlib.Nat.{zero-add, eq-or-lt_of_le}
+use native.Mathlib.Nat.{zero-add}
 use native.Mathlib.Omega.{arith}
 use lib.Bits.{bit_or}
-use lib.Dec.{eqb, leb, ltb, lit<}
-use lib.ListN.{length, get_or, set, length-set}
+use lib.Dec.{eqb, leb, ltb}
+use lib.ListN.{length, get_or, set}
 use lib.Seq.{get_or-set_same, get_or-set_other}
-use borrow.Author.Tests.{eq-eqb, ne_eqb, eqb-true, eqb-false, le-leb, lt-leb, leb-true, leb-false, lt-ltb, le-ltb, ltb-true, ltb-false}
-use Rattle.usage.specs.Limits.{policies, most_created}
+use borrow.Author.Tests.{eqb-true, eqb-false, le-leb, lt-leb, leb-true, leb-false, lt-ltb, le-ltb, ltb-true, ltb-false}
+use Rattle.usage.specs.Limits.{policies}
 use Rattle.usage.specs.Tables.{from}
-use Rattle.usage.proofs.Logic.{by_cases, and-false}
-use Rattle.usage.proofs.TableLaws.{length_from, get_d-from, is-from, from-ext}
+use Rattle.usage.proofs.Logic.{and-false}
+use Rattle.usage.proofs.TableLaws.{get_d-from, is-from, from-ext}
 use Rattle.monitor_sets.specs.Instances.{retirees, first_created_lem, instances, set_places}
-use Rattle.monitor_sets.specs.Created.{behind, closed_up}
+use Rattle.monitor_sets.specs.Created.{behind}
 use Rattle.monitor_sets.specs.Sets.{retired_sets}
 use Rattle.monitor_sets.specs.Code.{row_closed, retired_to, retired_below}
-use Rattle.monitor_sets.proofs.PlaceLaws.{table, table_at, table-length, table_same, is-table, from-set, ltb_next}
+use Rattle.monitor_sets.proofs.PlaceLaws.{table_at, table-length, table_same, is-table, from-set, ltb_next}
 
 module _ (size i : ℕ) (l : List ℕ) where
   -- the places from i to below k have what stood behind them

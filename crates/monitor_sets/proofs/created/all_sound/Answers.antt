@@ -1,12 +1,9 @@
-use Prim.Native.Nat.{ℕ, ◌-◌, ◌%◌, ◌<◌, ◌≤◌}
-use mathlib.Core.Bool.{true, false, ◌&&◌}
+use Prim.Native.Nat.{◌-◌, ◌%◌}
+use mathlib.Core.Bool.{true}
 use mathlib.Core.Path.{◌≡◌, sym, ◌∙◌}
 use native.Mathlib.Omega.{arith}
-use lib.ListN.{length, get_or, take, drop, length-set}
-use Rattle.usage.specs.Tests.{every}
-use Rattle.monitor_sets.specs.Created.{dynamic, distinct}
+use lib.ListN.{get_or, length-set}
 use Rattle.monitor_sets.specs.Code.{endings}
-use Rattle.usage.proofs.Logic.{by_cases}
 use Rattle.monitor_sets.proofs.CreatedLaws.{
   sound-end,
   low-unsound,
@@ -18,7 +15,7 @@ use Rattle.monitor_sets.proofs.CreatedLaws.{
 }
 use borrow.Author.Rules.{rules}
 use Rattle.monitor_sets.proofs.created.all_sound.Goals as goal
-use Rattle.monitor_sets.proofs.created.all_sound.Goals.{else-seen-e, then-seen-e}
+use Rattle.monitor_sets.proofs.created.all_sound.Goals.{else-seen-e, then-seen-e+else-later}
 
 pub loop-i-init : goal.loop-i-init
 loop-i-init c = (
@@ -59,8 +56,11 @@ loop-i-preserved c =
     let seen = t.invariant.1.1 in (
       search rules,
       (
-        elim c.if-seen-e.branch [ then-seen-e w ↦ next (sym w.1.ensures ∙ w.2.left) | else-seen-e w ↦ next (unseen-unlisted l a.count (omega arith) t.seen t.i (get_or l (t.i - 1) 0) (omega arith) seen.1
-            w.left) ],
+        elim c.if-seen-e.branch [
+          | then-seen-e+else-later w ↦ next (sym w.later.ensures ∙ w.if-later.false)
+          | else-seen-e w ↦ next (unseen-unlisted l a.count (omega arith) t.seen t.i (get_or l (t.i - 1) 0) (omega arith) seen.1
+              w.if-seen-e.false)
+        ],
         (
           length-set t.seen (get_or l (t.i - 1) 0 % endings) true ∙ seen.0,
           seen_more l a.count (omega arith) t.seen t.i (omega arith) seen.0 seen.1,

@@ -1,22 +1,11 @@
 -- `all_sound` meets its contract. The invariant: the numbers from i on are sound, and the endings of all of them are seen.
-use Prim.Native.Nat.{ℕ, ◌-◌, ◌%◌, ◌<◌, ◌≤◌}
+use Prim.Native.Nat.{ℕ, ◌%◌, ◌<◌, ◌≤◌}
 use mathlib.Core.Bool.{true, false, ◌&&◌}
-use mathlib.Core.Path.{◌≡◌, sym, ◌∙◌}
-use native.Mathlib.Omega.{arith}
-use lib.ListN.{length, get_or, take, drop, length-set}
+use mathlib.Core.Path.{◌≡◌}
+use lib.ListN.{length, get_or, take, drop}
 use Rattle.usage.specs.Tests.{every}
 use Rattle.monitor_sets.specs.Created.{dynamic, distinct}
 use Rattle.monitor_sets.specs.Code.{endings}
-use Rattle.usage.proofs.Logic.{by_cases}
-use Rattle.monitor_sets.proofs.CreatedLaws.{
-  sound-end,
-  low-unsound,
-  high-unsound,
-  sound-again,
-  sound-next,
-  unseen-unlisted,
-  seen_more,
-}
 use Rattle.monitor_sets.proofs.created.all_sound.Given as goal
 
 abbrev pub invariant-loop-i : goal.invariant-loop-i

@@ -1,10 +1,7 @@
-use Prim.Native.Nat.{◌-◌, ◌≤◌}
 use mathlib.Core.Bool.{◌||◌}
-use mathlib.Core.Path.{◌≡◌, refl, sym, ap, ◌∙◌}
+use mathlib.Core.Path.{refl, sym, ap, ◌∙◌}
 use native.Mathlib.Omega.{arith}
-use lib.ListN.{take, drop}
-use Rattle.usage.proofs.Logic.{or_right, by_cases}
-use Rattle.monitor_sets.specs.Created.{listed}
+use Rattle.usage.proofs.Logic.{or_right}
 use Rattle.monitor_sets.proofs.CreatedLaws.{or-false, listed_here, listed_more, listed-end}
 use borrow.Author.Rules.{rules}
 use Rattle.monitor_sets.proofs.created.later.Goals as goal
@@ -20,11 +17,14 @@ loop-i-preserved c =
       search rules,
       (
         search rules,
-        elim c.if-created-i.branch [ then-created-i w ↦ rw w.1
-            (sym (or_right t.found _ (listed_here a.created.now a.count (omega arith) a.x t.i (omega arith) w.if-created-i.true))
-            ∙ t.invariant.1.1) | else-created-i w ↦ rw w.1
-            (ap (λ b. t.found || b) (sym (listed_more a.created.now a.count (omega arith) a.x t.i (omega arith) w.if-created-i.false))
-            ∙ t.invariant.1.1) ],
+        elim c.if-created-i.branch [
+          | then-created-i w ↦ rw w.found-is
+              (sym (or_right t.found _ (listed_here a.created.now a.count (omega arith) a.x t.i (omega arith) w.if-created-i.true))
+              ∙ t.invariant.1.1)
+          | else-created-i w ↦ rw w.found-is
+              (ap (λ b. t.found || b) (sym (listed_more a.created.now a.count (omega arith) a.x t.i (omega arith) w.if-created-i.false))
+              ∙ t.invariant.1.1)
+        ],
       ),
     )
 

@@ -1,11 +1,8 @@
 use Prim.Native.Nat.{◌-◌, ◌≤◌}
 use mathlib.Core.Bool.{◌||◌}
-use mathlib.Core.Path.{◌≡◌, refl, sym, ap, ◌∙◌}
-use native.Mathlib.Omega.{arith}
+use mathlib.Core.Path.{◌≡◌}
 use lib.ListN.{take, drop}
-use Rattle.usage.proofs.Logic.{or_right, by_cases}
 use Rattle.monitor_sets.specs.Created.{listed}
-use Rattle.monitor_sets.proofs.CreatedLaws.{or-false, listed_here, listed_more, listed-end}
 use Rattle.monitor_sets.proofs.created.later.Given as goal
 
 abbrev pub invariant-loop-i : goal.invariant-loop-i

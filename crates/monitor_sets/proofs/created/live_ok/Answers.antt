@@ -43,8 +43,11 @@ last_not_above-requires c =
 
 pub returns-then-rising : goal.returns-then-rising
 returns-then-rising c =
-    let r = c.rising_sound in record { value = sound _ _ _ _ c.if-count-gt-MOST_CREATED.false (sym r.ensures ∙ not-false r.result c.if-not-rising_sound.false-raw)
-          c.last_not_above.ensures; created_len = c.created_length.ensures }
+    let r = c.rising_sound in record {
+      value = sound _ _ _ _ c.if-count-gt-MOST_CREATED.false (sym r.ensures ∙ not-false r.result c.if-not-rising_sound.false-raw)
+          c.last_not_above.ensures;
+      created_len = c.created_length.ensures;
+    }
 
 pub all_sound-requires : goal.all_sound-requires
 all_sound-requires c = record { created_len = c.created_length.ensures; count_le_most_created = search rules }
@@ -58,5 +61,8 @@ none_above-requires c = record { created_len = c.created_length.ensures; count_l
 
 pub returns : goal.returns
 returns c =
-    let r = c.all_sound in record { value = sound _ _ _ _ c.if-count-gt-MOST_CREATED.false (sym r.ensures ∙ not-false r.result c.if-not-all_sound.false-raw)
-          c.none_above.ensures; created_len = c.created_length.ensures }
+    let r = c.all_sound in record {
+      value = sound _ _ _ _ c.if-count-gt-MOST_CREATED.false (sym r.ensures ∙ not-false r.result c.if-not-all_sound.false-raw)
+          c.none_above.ensures;
+      created_len = c.created_length.ensures;
+    }

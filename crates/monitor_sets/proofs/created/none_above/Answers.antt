@@ -1,8 +1,6 @@
-use Prim.Native.Nat.{◌+◌, ◌-◌, ◌≤◌}
 use mathlib.Core.Bool.{Bool, true, false, not}
 use mathlib.Core.Path.{◌≡◌, refl, sym, ap, ◌∙◌}
 use native.Mathlib.Omega.{arith}
-use Rattle.usage.proofs.Logic.{by_cases}
 use Rattle.monitor_sets.specs.Created.{highest_ok}
 use Rattle.monitor_sets.proofs.HighestLaws.{highest-none, highest-above, highest-below}
 use borrow.Author.Rules.{rules}
@@ -22,7 +20,7 @@ loop-i-preserved c =
     let t = c.loop-i in
     let l = a.created.now in (
       search rules,
-      elim c.if-highest-created.branch [ then-highest-created w ↦ w.1 ∙ sym (ap not (highest-above a.highest l t.i (omega arith) w.if-highest-created.true)) | else-highest-created w ↦ w.1 ∙ t.invariant.1 ∙ sym (ap not (highest-below a.highest l t.i (omega arith) w.if-highest-created.false)) ],
+      elim c.if-highest-created.branch [ then-highest-created w ↦ w.above-is ∙ sym (ap not (highest-above a.highest l t.i (omega arith) w.if-highest-created.true)) | else-highest-created w ↦ w.above-is ∙ t.invariant.1 ∙ sym (ap not (highest-below a.highest l t.i (omega arith) w.if-highest-created.false)) ],
     )
 
 pub returns : goal.returns

@@ -1,11 +1,8 @@
 -- `none_above` meets its contract. The invariant: whether one of the first i numbers is above the highest one.
-use Prim.Native.Nat.{◌+◌, ◌-◌, ◌≤◌}
-use mathlib.Core.Bool.{Bool, true, false, not}
-use mathlib.Core.Path.{◌≡◌, refl, sym, ap, ◌∙◌}
-use native.Mathlib.Omega.{arith}
-use Rattle.usage.proofs.Logic.{by_cases}
+use Prim.Native.Nat.{◌-◌, ◌≤◌}
+use mathlib.Core.Bool.{not}
+use mathlib.Core.Path.{◌≡◌}
 use Rattle.monitor_sets.specs.Created.{highest_ok}
-use Rattle.monitor_sets.proofs.HighestLaws.{highest-none, highest-above, highest-below}
 use Rattle.monitor_sets.proofs.created.none_above.Given as goal
 
 abbrev pub invariant-loop-i : goal.invariant-loop-i

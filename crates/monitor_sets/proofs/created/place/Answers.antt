@@ -1,9 +1,7 @@
-use Prim.Native.Nat.{◌+◌, ◌-◌, ◌≤◌}
-use mathlib.Core.Path.{◌≡◌, refl, sym, ◌∙◌}
+use Prim.Native.Nat.{◌+◌}
+use mathlib.Core.Path.{refl, sym, ◌∙◌}
 use native.Mathlib.Omega.{arith}
-use lib.ListN.{take, drop}
 use Rattle.monitor_sets.specs.Instances.{first_created_lem}
-use Rattle.monitor_sets.specs.Created.{place_from}
 use Rattle.monitor_sets.proofs.CreatedLaws.{place_here, place-more, place_end}
 use borrow.Author.Rules.{rules}
 use Rattle.monitor_sets.proofs.created.place.Goals as goal

@@ -1,10 +1,8 @@
 use Prim.Native.Nat.{◌+◌, ◌-◌, ◌≤◌}
-use mathlib.Core.Path.{◌≡◌, refl, sym, ◌∙◌}
-use native.Mathlib.Omega.{arith}
+use mathlib.Core.Path.{◌≡◌}
 use lib.ListN.{take, drop}
 use Rattle.monitor_sets.specs.Instances.{first_created_lem}
 use Rattle.monitor_sets.specs.Created.{place_from}
-use Rattle.monitor_sets.proofs.CreatedLaws.{place_here, place-more, place_end}
 use Rattle.monitor_sets.proofs.created.place.Given as goal
 
 abbrev pub invariant-loop-i : goal.invariant-loop-i

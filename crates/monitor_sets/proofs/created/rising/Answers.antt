@@ -1,8 +1,7 @@
-use Prim.Native.Nat.{◌+◌, ◌-◌, ◌≤◌}
+use Prim.Native.Nat.{◌+◌, ◌-◌}
 use mathlib.Core.Bool.{Bool, true, false, not}
 use mathlib.Core.Path.{◌≡◌, refl, sym, ap, ◌∙◌}
 use native.Mathlib.Omega.{arith}
-use Rattle.usage.proofs.Logic.{by_cases}
 use Rattle.monitor_sets.specs.Code.{rises}
 use Rattle.monitor_sets.proofs.CreatedLaws.{rises-less, rises-more}
 use borrow.Author.Rules.{rules}
@@ -26,7 +25,7 @@ loop-i-preserved c =
       search rules,
       (
         omega arith,
-        rw k (elim c.if-created-i.branch [ then-created-i w ↦ w.1 ∙ sym (ap not (rises-less l a.count (omega arith) t.i t.invariant.0 w.if-created-i.true)) | else-created-i w ↦ w.1 ∙ t.invariant.1.1 ∙ sym (ap not (rises-more l a.count (omega arith) t.i t.invariant.0 w.if-created-i.false)) ]),
+        rw k (elim c.if-created-i.branch [ then-created-i w ↦ w.falls-is ∙ sym (ap not (rises-less l a.count (omega arith) t.i t.invariant.0 w.if-created-i.true)) | else-created-i w ↦ w.falls-is ∙ t.invariant.1.1 ∙ sym (ap not (rises-more l a.count (omega arith) t.i t.invariant.0 w.if-created-i.false)) ]),
       ),
     )
 

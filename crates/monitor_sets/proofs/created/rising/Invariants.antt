@@ -1,11 +1,8 @@
 -- `rising` meets its contract. The invariant: whether the first i numbers rise.
 use Prim.Native.Nat.{◌+◌, ◌-◌, ◌≤◌}
-use mathlib.Core.Bool.{Bool, true, false, not}
-use mathlib.Core.Path.{◌≡◌, refl, sym, ap, ◌∙◌}
-use native.Mathlib.Omega.{arith}
-use Rattle.usage.proofs.Logic.{by_cases}
+use mathlib.Core.Bool.{not}
+use mathlib.Core.Path.{◌≡◌}
 use Rattle.monitor_sets.specs.Code.{rises}
-use Rattle.monitor_sets.proofs.CreatedLaws.{rises-less, rises-more}
 use Rattle.monitor_sets.proofs.created.rising.Given as goal
 
 abbrev pub invariant-loop-i : goal.invariant-loop-i

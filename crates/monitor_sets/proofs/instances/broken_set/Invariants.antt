@@ -1,11 +1,9 @@
 use Prim.Native.Nat.{◌-◌, ◌≤◌}
-use mathlib.Core.Path.{◌≡◌, refl, sym}
-use native.Mathlib.Omega.{arith}
+use mathlib.Core.Path.{◌≡◌}
 use lib.ListN.{get_or}
 use Rattle.usage.specs.Limits.{policies}
 use Rattle.automaton.specs.Mask.{union}
-use Rattle.monitor_sets.specs.Code.{broken_bit_lem, broken_in}
-use Rattle.monitor_sets.proofs.SetLaws.{union_more, none-looked}
+use Rattle.monitor_sets.specs.Code.{broken_bit_lem}
 use Rattle.monitor_sets.proofs.instances.broken_set.Given as goal
 
 abbrev pub invariant-loop-p : goal.invariant-loop-p

@@ -1,8 +1,7 @@
-use Prim.Native.Nat.{◌-◌, ◌≤◌}
 use mathlib.Core.Path.{◌≡◌, ◌∙◌}
 use native.Mathlib.Omega.{arith}
 use Rattle.usage.specs.Limits.{policies}
-use Rattle.monitor_sets.proofs.PlaceLaws.{table, copied_to, copied_none, copied_all, copied_source, copied_more}
+use Rattle.monitor_sets.proofs.PlaceLaws.{copied_none, copied_all, copied_source, copied_more}
 use borrow.Author.Rules.{rules}
 use Rattle.monitor_sets.proofs.instances.copy_unseen.Goals as goal
 

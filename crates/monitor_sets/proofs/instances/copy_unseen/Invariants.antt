@@ -1,8 +1,7 @@
 use Prim.Native.Nat.{◌-◌, ◌≤◌}
-use mathlib.Core.Path.{◌≡◌, ◌∙◌}
-use native.Mathlib.Omega.{arith}
+use mathlib.Core.Path.{◌≡◌}
 use Rattle.usage.specs.Limits.{policies}
-use Rattle.monitor_sets.proofs.PlaceLaws.{table, copied_to, copied_none, copied_all, copied_source, copied_more}
+use Rattle.monitor_sets.proofs.PlaceLaws.{table, copied_to}
 use Rattle.monitor_sets.proofs.instances.copy_unseen.Given as goal
 
 abbrev pub invariant-loop-p : goal.invariant-loop-p

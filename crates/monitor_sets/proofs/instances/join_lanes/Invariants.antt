@@ -1,10 +1,8 @@
 -- `join_lanes` meets its contract. The invariant: the places below i are joined.
 use Prim.Native.Nat.{◌+◌, ◌-◌, ◌≤◌}
-use mathlib.Core.Path.{◌≡◌, ◌∙◌}
-use native.Mathlib.Omega.{arith}
 use lib.ListN.{get_or}
 use Rattle.monitor_sets.specs.Code.{lanes}
-use Rattle.monitor_sets.proofs.LaneLaws.{Joining, joining-none, joining-more, joined-all}
+use Rattle.monitor_sets.proofs.LaneLaws.{Joining}
 use Rattle.monitor_sets.proofs.instances.join_lanes.Given as goal
 
 abbrev pub invariant-loop-i : goal.invariant-loop-i

@@ -1,13 +1,7 @@
-use Prim.Native.Nat.{◌-◌, ◌≤◌}
 use mathlib.Core.Path.{◌≡◌, ap, ◌∙◌}
 use native.Mathlib.Omega.{arith}
-use mathlib.Core.Bool.{cond}
-use lib.Dec.{ltb}
 use lib.ListN.{length}
 use Rattle.usage.specs.Limits.{policies}
-use Rattle.usage.specs.Tables.{from}
-use Rattle.monitor_sets.specs.Sets.{gathered_at}
-use Rattle.monitor_sets.specs.Code.{all_moved}
 use Rattle.monitor_sets.proofs.MovedLaws.{all_none, all-length, all_more, gathered_none, gathered-more, gathered-all}
 use borrow.Author.Rules.{rules}
 use Rattle.monitor_sets.proofs.instances.move_all.Goals as goal
@@ -25,8 +19,13 @@ loop-p-init c = let a = c.args in (
 pub move_policy-requires : goal.move_policy-requires
 move_policy-requires c =
     let a = c.args in
-    let t = c.loop-p in record { sets_len = ap length t.invariant.1.0
-          ∙ all-length a.own.now a.other.now a.n a.at a.sets.now t.p; p_lt_policies = search rules; n_le_instances = search rules; at_lt_n = search rules }
+    let t = c.loop-p in record {
+      sets_len = ap length t.invariant.1.0
+          ∙ all-length a.own.now a.other.now a.n a.at a.sets.now t.p;
+      p_lt_policies = search rules;
+      n_le_instances = search rules;
+      at_lt_n = search rules;
+    }
 
 pub loop-p-preserved : goal.loop-p-preserved
 loop-p-preserved c =

@@ -1,14 +1,11 @@
 use Prim.Native.Nat.{◌-◌, ◌≤◌}
-use mathlib.Core.Path.{◌≡◌, ap, ◌∙◌}
-use native.Mathlib.Omega.{arith}
+use mathlib.Core.Path.{◌≡◌}
 use mathlib.Core.Bool.{cond}
 use lib.Dec.{ltb}
-use lib.ListN.{length}
 use Rattle.usage.specs.Limits.{policies}
 use Rattle.usage.specs.Tables.{from}
 use Rattle.monitor_sets.specs.Sets.{gathered_at}
 use Rattle.monitor_sets.specs.Code.{all_moved}
-use Rattle.monitor_sets.proofs.MovedLaws.{all_none, all-length, all_more, gathered_none, gathered-more, gathered-all}
 use Rattle.monitor_sets.proofs.instances.move_all.Given as goal
 
 abbrev pub invariant-loop-p : goal.invariant-loop-p

@@ -9,6 +9,9 @@ pub returns-then-n-at : goal.returns-then-n-at
 returns-then-n-at c = record { sets_after = simp (le-leb _ _ c.if-n-gt-INSTANCES.false, le-ltb _ _ c.if-n-at.true); value = simp (le-leb _ _ c.if-n-gt-INSTANCES.false, le-ltb _ _ c.if-n-at.true) }
 
 pub returns : goal.returns
-returns c = record { sets_after = c.move_sets.ensures.sets_after
-      ∙ sym (simp (le-leb _ _ c.if-n-gt-INSTANCES.false, lt-ltb _ _ c.if-n-at.false)); value = c.move_sets.ensures.value
-      ∙ sym (simp (le-leb _ _ c.if-n-gt-INSTANCES.false, lt-ltb _ _ c.if-n-at.false)) }
+returns c = record {
+  sets_after = c.move_sets.ensures.sets_after
+      ∙ sym (simp (le-leb _ _ c.if-n-gt-INSTANCES.false, lt-ltb _ _ c.if-n-at.false));
+  value = c.move_sets.ensures.value
+      ∙ sym (simp (le-leb _ _ c.if-n-gt-INSTANCES.false, lt-ltb _ _ c.if-n-at.false));
+}

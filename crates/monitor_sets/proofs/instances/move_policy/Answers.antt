@@ -24,8 +24,11 @@ returns c =
     let l : place < length a.sets.now = omega arith in
     let kept : (k : ℕ) → (k ≡ place → ⊥) → get_or (set a.sets.now place 0) k 0 ≡ get_or a.sets.now k 0 =
     λ k d. get_or-set_other {A = ℕ} a.sets.now place k 0 0 d in
-    let own = m.ensures ∙ moved-policy a.own.now a.p _ (omega arith) in record { sets_after = rw row.ensures.sets_after
+    let own = m.ensures ∙ moved-policy a.own.now a.p _ (omega arith) in record {
+      sets_after = rw row.ensures.sets_after
           (policy-moved a.own.now a.other.now a.n a.at a.sets.now a.p (set a.sets.now place 0) _ m.result
-          (omega arith) (omega arith) (omega arith) kept (move_by-held a.other.now (a.p * states)) own); value = policy-gathered a.own.now a.other.now a.n a.at a.sets.now a.p (set a.sets.now place 0) _ m.result
+          (omega arith) (omega arith) (omega arith) kept (move_by-held a.other.now (a.p * states)) own);
+      value = policy-gathered a.own.now a.other.now a.n a.at a.sets.now a.p (set a.sets.now place 0) _ m.result
           (omega arith) (omega arith) (omega arith) kept (move_by-held a.other.now (a.p * states)) own
-          (get_or-set_same {A = ℕ} a.sets.now place 0 0 l) row.result row.ensures.value }
+          (get_or-set_same {A = ℕ} a.sets.now place 0 0 l) row.result row.ensures.value;
+    }

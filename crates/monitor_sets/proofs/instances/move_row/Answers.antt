@@ -1,4 +1,4 @@
-use Prim.Native.Nat.{ℕ, ◌+◌, ◌-◌, ◌≤◌, ◌<◌}
+use Prim.Native.Nat.{ℕ, ◌+◌, ◌<◌}
 use mathlib.Core.List.{List, [], ◌∷◌}
 use mathlib.Core.Path.{◌≡◌, refl, sym, ◌∙◌}
 use native.Mathlib.Omega.{arith}
@@ -8,7 +8,6 @@ use Rattle.automaton.specs.Mask.{union}
 use Rattle.automaton.specs.Move.{move_by}
 use Rattle.automaton.proofs.RowLaws.{changed-none}
 use Rattle.monitor_sets.specs.Instances.{set_places}
-use Rattle.monitor_sets.specs.Code.{row_moved}
 use Rattle.monitor_sets.proofs.MovedLaws.{row-none, row_stays, union-stays, row_next, row_more}
 use Rattle.monitor_sets.proofs.SetLaws.{union_more}
 use borrow.Author.Rules.{rules}

@@ -1,10 +1,10 @@
-use Prim.Native.Nat.{ℕ, ◌+◌, ◌-◌, ◌*◌, ◌≤◌}
+use Prim.Native.Nat.{ℕ, ◌+◌, ◌*◌}
 use mathlib.Core.Path.{◌≡◌, refl, ap, ◌∙◌}
 use mathlib.Core.List.{List}
 use native.Mathlib.Omega.{arith}
-use lib.ListN.{length, set, length-set}
-use Rattle.monitor_sets.specs.Instances.{instances, set_places}
-use Rattle.monitor_sets.specs.Sets.{start_set, reset_sets}
+use lib.ListN.{set, length-set}
+use Rattle.monitor_sets.specs.Instances.{instances}
+use Rattle.monitor_sets.specs.Sets.{start_set}
 use Rattle.monitor_sets.proofs.PlaceLaws.{reset-none, reset-more}
 use borrow.Author.Rules.{rules}
 use Rattle.monitor_sets.proofs.instances.reset_policy.Goals as goal

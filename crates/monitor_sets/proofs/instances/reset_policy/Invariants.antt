@@ -1,11 +1,8 @@
-use Prim.Native.Nat.{ℕ, ◌+◌, ◌-◌, ◌*◌, ◌≤◌}
-use mathlib.Core.Path.{◌≡◌, refl, ap, ◌∙◌}
-use mathlib.Core.List.{List}
-use native.Mathlib.Omega.{arith}
-use lib.ListN.{length, set, length-set}
+use Prim.Native.Nat.{◌-◌, ◌*◌, ◌≤◌}
+use mathlib.Core.Path.{◌≡◌}
+use lib.ListN.{length}
 use Rattle.monitor_sets.specs.Instances.{instances, set_places}
-use Rattle.monitor_sets.specs.Sets.{start_set, reset_sets}
-use Rattle.monitor_sets.proofs.PlaceLaws.{reset-none, reset-more}
+use Rattle.monitor_sets.specs.Sets.{reset_sets}
 use Rattle.monitor_sets.proofs.instances.reset_policy.Given as goal
 
 abbrev pub invariant-loop-i : goal.invariant-loop-i

@@ -2,7 +2,6 @@ use Prim.Native.Nat.{ℕ}
 use lib.ListN.{get_or}
 use mir.Val.{Fits}
 use mir.Syntax.{w8}
-use Rattle.monitor_sets.proofs.instances.sets_known.Reads as reads
 use borrow.Author.Rules.{rules}
 use Rattle.monitor_sets.proofs.instances.sets_known.Goals as goal
 

@@ -1,12 +1,9 @@
 -- `union_from` meets its contract. The invariant: the first sets, sixteen for each turn, are joined.
-use Prim.Native.Nat.{ℕ, ◌+◌, ◌-◌, ◌*◌, ◌≤◌}
-use mathlib.Core.Path.{◌≡◌, refl, ap₂, ◌∙◌}
-use native.Mathlib.Omega.{arith}
-use lib.Bits.{bit_or}
+use Prim.Native.Nat.{◌+◌, ◌-◌, ◌*◌, ◌≤◌}
+use mathlib.Core.Path.{◌≡◌}
 use lib.ListN.{length, get_or}
 use Rattle.automaton.specs.Mask.{union}
 use Rattle.monitor_sets.specs.Code.{lanes}
-use Rattle.monitor_sets.proofs.LaneLaws.{union-shift, union-next, union-back}
 use Rattle.monitor_sets.proofs.instances.union_from.Given as goal
 
 abbrev pub invariant-loop-i : goal.invariant-loop-i

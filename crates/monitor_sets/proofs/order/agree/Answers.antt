@@ -1,10 +1,9 @@
 use native.Mathlib.Omega.{arith}
 use mathlib.Core.Path.{◌≡◌, refl, sym}
-use Prim.Native.Nat.{ℕ, ◌-◌, ◌≤◌, ◌<◌}
+use Prim.Native.Nat.{ℕ}
 use lib.ListN.{get_or}
 use Rattle.usage.proofs.Logic.{by_cases, false-true, last-or-lower}
 use mathlib.Core.Path.{subst}
-use Rattle.monitor_sets.proofs.order.agree.Reads as reads
 use borrow.Author.Rules.{rules}
 use Rattle.monitor_sets.proofs.order.agree.Goals as goal
 

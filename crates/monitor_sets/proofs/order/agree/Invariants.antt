@@ -1,10 +1,6 @@
-use native.Mathlib.Omega.{arith}
-use mathlib.Core.Path.{◌≡◌, refl, sym}
+use mathlib.Core.Path.{◌≡◌}
 use Prim.Native.Nat.{ℕ, ◌-◌, ◌≤◌, ◌<◌}
 use lib.ListN.{get_or}
-use Rattle.usage.proofs.Logic.{by_cases, false-true, last-or-lower}
-use mathlib.Core.Path.{subst}
-use Rattle.monitor_sets.proofs.order.agree.Reads as reads
 use Rattle.monitor_sets.proofs.order.agree.Given as goal
 
 abbrev pub invariant-loop-p : goal.invariant-loop-p

@@ -21,7 +21,10 @@ returns c =
     let a = c.args in
     let t = c.tally in
     let w = not-false t.result c.if-not-tally.false-raw in
-    let e = sym t.ensures.value ∙ w in record { value = simp (le-leb _ _ c.if-depth-gt-MOST_UNCLOSED.false, e)
+    let e = sym t.ensures.value ∙ w in record {
+      value = simp (le-leb _ _ c.if-depth-gt-MOST_UNCLOSED.false, e)
           (agrees (stack_in a.depth a.order.now) a.unclosed.now c.agree.result
           (λ h. c.agree.ensures.by_index (λ p l. t.ensures.p_after w p l ∙ h p l))
-          (λ e p l. sym (t.ensures.p_after w p l) ∙ c.agree.ensures.p_value e p l)); order_len = c.order_length.ensures }
+          (λ e p l. sym (t.ensures.p_after w p l) ∙ c.agree.ensures.p_value e p l));
+      order_len = c.order_length.ensures;
+    }

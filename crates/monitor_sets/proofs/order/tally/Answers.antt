@@ -1,14 +1,12 @@
 use native.Mathlib.Omega.{arith}
 use mathlib.Core.Path.{◌≡◌, refl, sym, ap, ◌∙◌}
-use Prim.Native.Nat.{◌+◌, ◌-◌, ◌≤◌, ◌<◌}
+use Prim.Native.Nat.{◌+◌, ◌<◌}
 use lib.ListN.{length, get_or, length-set}
-use mathlib.Core.Bool.{true}
 use Rattle.usage.specs.Limits.{policies}
 use Rattle.usage.specs.Tests.{every}
 use Rattle.usage.proofs.Logic.{false-true}
-use Rattle.monitor_sets.specs.Order.{stack_in, is_policy}
-use Rattle.monitor_sets.proofs.OrderLaws.{Counts, counts-none, counts-more, entry-fails, more-pass, stack-most}
-use Rattle.monitor_sets.proofs.order.tally.Reads as reads
+use Rattle.monitor_sets.specs.Order.{stack_in}
+use Rattle.monitor_sets.proofs.OrderLaws.{counts-none, counts-more, entry-fails, more-pass, stack-most}
 use borrow.Author.Rules.{rules}
 use Rattle.monitor_sets.proofs.order.tally.Goals as goal
 

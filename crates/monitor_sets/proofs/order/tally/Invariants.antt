@@ -1,14 +1,11 @@
-use native.Mathlib.Omega.{arith}
-use mathlib.Core.Path.{◌≡◌, refl, sym, ap, ◌∙◌}
-use Prim.Native.Nat.{◌+◌, ◌-◌, ◌≤◌, ◌<◌}
-use lib.ListN.{length, get_or, length-set}
+use mathlib.Core.Path.{◌≡◌}
+use Prim.Native.Nat.{◌-◌, ◌≤◌}
+use lib.ListN.{length}
 use mathlib.Core.Bool.{true}
 use Rattle.usage.specs.Limits.{policies}
 use Rattle.usage.specs.Tests.{every}
-use Rattle.usage.proofs.Logic.{false-true}
 use Rattle.monitor_sets.specs.Order.{stack_in, is_policy}
-use Rattle.monitor_sets.proofs.OrderLaws.{Counts, counts-none, counts-more, entry-fails, more-pass, stack-most}
-use Rattle.monitor_sets.proofs.order.tally.Reads as reads
+use Rattle.monitor_sets.proofs.OrderLaws.{Counts}
 use Rattle.monitor_sets.proofs.order.tally.Given as goal
 
 abbrev pub invariant-loop-i : goal.invariant-loop-i

@@ -1,8 +1,8 @@
-use Prim.Native.Nat.{ℕ, ◌+◌, ◌-◌, ◌<◌, ◌≤◌}
-use mathlib.Core.Path.{◌≡◌, refl, ap, ◌∙◌}
+use Prim.Native.Nat.{ℕ, ◌+◌}
+use mathlib.Core.Path.{ap, ◌∙◌}
 use mathlib.Core.List.{List}
 use native.Mathlib.Omega.{arith}
-use lib.ListN.{length, set, length-set, get_or}
+use lib.ListN.{set, length-set, get_or}
 use Rattle.usage.specs.Limits.{most_created}
 use Rattle.usage.specs.Tables.{from}
 use Rattle.monitor_sets.specs.Created.{closed_up}

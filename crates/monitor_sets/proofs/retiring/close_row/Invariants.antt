@@ -1,13 +1,10 @@
 -- `close_row` meets its contract. The invariant: the places from k + at to below j have what stood behind them.
-use Prim.Native.Nat.{ℕ, ◌+◌, ◌-◌, ◌<◌, ◌≤◌}
-use mathlib.Core.Path.{◌≡◌, refl, ap, ◌∙◌}
-use mathlib.Core.List.{List}
-use native.Mathlib.Omega.{arith}
-use lib.ListN.{length, set, length-set, get_or}
+use Prim.Native.Nat.{◌+◌, ◌-◌, ◌<◌, ◌≤◌}
+use mathlib.Core.Path.{◌≡◌}
+use lib.ListN.{length}
 use Rattle.usage.specs.Tables.{from}
 use Rattle.monitor_sets.specs.Instances.{set_places}
-use Rattle.monitor_sets.specs.Code.{row_closed}
-use Rattle.monitor_sets.proofs.ClosingLaws.{closed_to, closed_none, closed-source, closed-more, closed_all}
+use Rattle.monitor_sets.proofs.ClosingLaws.{closed_to}
 use Rattle.monitor_sets.proofs.retiring.close_row.Given as goal
 
 abbrev pub invariant-loop-j : goal.invariant-loop-j

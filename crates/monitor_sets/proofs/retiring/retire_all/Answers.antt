@@ -1,14 +1,14 @@
-use Prim.Native.Nat.{ℕ, ◌+◌, ◌-◌, ◌*◌, ◌<◌, ◌≤◌}
+use Prim.Native.Nat.{ℕ, ◌+◌, ◌*◌, ◌<◌}
 use mathlib.Core.Path.{◌≡◌, ap, ap₂, ◌∙◌}
 use mathlib.Core.List.{List}
 use native.Mathlib.Omega.{arith}
 use lib.Bits.{bit_or}
 use lib.Dec.{lit<}
-use lib.ListN.{length, set, length-set, get_or}
+use lib.ListN.{set, length-set, get_or}
 use Rattle.usage.specs.Limits.{policies}
-use Rattle.monitor_sets.specs.Instances.{retirees, instances, set_places}
+use Rattle.monitor_sets.specs.Instances.{retirees, instances}
 use Rattle.monitor_sets.specs.Code.{row_closed, retired_below}
-use Rattle.monitor_sets.proofs.ClosingLaws.{below_none, below_all, below_length, below_at, below_more}
+use Rattle.monitor_sets.proofs.ClosingLaws.{below_none, below_all, below_at, below_more}
 use borrow.Author.Rules.{rules}
 use Rattle.monitor_sets.proofs.retiring.retire_all.Goals as goal
 
