@@ -1,5 +1,5 @@
 -- What some run comes to (`Comes`, `Hits`) and what the root can come to (`Goes`) are the same.
-use Prim.Native.Nat.{ℕ, ◌+◌}
+use Prim.Native.Nat.{ℕ, suc, ◌+◌}
 use mathlib.Core.Path.{◌≡◌, subst}
 use mathlib.Core.Bool.{Bool, false}
 use mathlib.Core.Option.{Option}
@@ -48,18 +48,18 @@ module _ (local : Bool) (es : List Edge) (ns : List Node) (p : ℕ) (S : Sight) 
 
   to-hits : {n m : ℕ} {o : Bool} {k : ℕ} {w : S.Meaning} {c : S.Left} {q : ℕ} {u : Option Last} → Breaks local es ns p S m o k w c q u
       → Comes local es ns p S n o k w c q → Hit (n + m) u
-  to-hits {n} (Goes.sequences {n₁ = n₁} {n₂ = n₂} i f d) e = hit-in (omega arith) (to-hits d (Comes.second i e f))
+  to-hits {n} (Goes.sequences {n₁ = n₁} {n₂ = n₂} i f d) e = hit-in (omega arith) (to-hits {n = n + n₁} d (Comes.second i e f))
   to-hits (Goes.chooses_left i d) e = to-hits d (Comes.left i e)
   to-hits (Goes.chooses_right i d) e = to-hits d (Comes.right i e)
   to-hits (Goes.enters i d) e = to-hits d (Comes.body i e)
   to-hits (Goes.repeats i d) e = to-hits d (Comes.again i e)
-  to-hits (Goes.makes i y v d) e = hit-in (omega arith) (to-hits d (Comes.created i y e v))
+  to-hits {n} (Goes.makes i y v d) e = hit-in (omega arith) (to-hits {n = suc n} d (Comes.created i y e v))
   to-hits (Goes.breaks_static {a = a} i v f z) e = hit-in (omega arith) (by_action a, z, Hits.at_static i e v f)
   to-hits (Goes.breaks_name {a = a} i v f z) e = hit-in (omega arith) (by_action a, z, Hits.at_name i e v f)
   to-hits (Goes.breaks_fresh i y v f z) e = hit-in (omega arith) (by_action create, z, Hits.at_fresh i y e v f)
   to-hits (Goes.breaks_opening i f z) e = hit-in (omega arith) (by_opening, z, Hits.at_opening i e f)
   to-hits (Goes.breaks_first i d) e = to-hits d (Comes.first i e)
-  to-hits (Goes.breaks_inside i d) e = hit-in (omega arith) (to-hits d (Comes.inside i e))
+  to-hits {n} (Goes.breaks_inside i d) e = hit-in (omega arith) (to-hits {n = suc n} d (Comes.inside i e))
 
   pub hits-exact : (n : ℕ) (u : Option Last) → Hit n u ↔ Root n u
   hits-exact n u = (λ h. hits-root u h.1 h.2, λ d. hit-in (omega arith) (to-hits d Comes.begins))

@@ -1,20 +1,13 @@
 -- What the code's tests say of a start, and the bounds of the places that it reads.
-use Prim.Native.Nat.{ℕ, zero, suc, ◌+◌, ◌*◌, ◌%◌, ◌<◌, ◌≤◌}
+use Prim.Native.Nat.{ℕ, zero, suc, ◌+◌, ◌*◌, ◌%◌, ◌<◌}
 use mathlib.Core.Path.{◌≡◌, refl, ap, ◌∙◌}
 use mathlib.Core.Bool.{Bool, true, false, ◌||◌, cond}
-use mathlib.Core.Option.{none}
-use mathlib.Core.List.{List, []}
 use native.Mathlib.Numerals.{add-one}
 use native.Mathlib.Omega.{arith}
 use lib.Dec.{eqb}
-use borrow.Author.Tests.{lt-ltb, le-ltb}
-use Rattle.usage.specs.Limits.{statics, most_nodes}
-use Rattle.usage.specs.Outline.{form_of}
 use Rattle.usage.specs.Tests.{some_below}
-use Rattle.checker_account.specs.Tables.{least, made, forgotten, meaning_after, kept, place, Rows, arrivals, leaves, places, unnamed}
+use Rattle.checker_account.specs.Tables.{made, forgotten, meaning_after, kept, unnamed}
 use Rattle.checker_account.specs.Tables.{meanings}
-use Rattle.checker_account.specs.Filling.{arrivals_of, leaves_of}
-use Rattle.checker_account.specs.RowTable.{EventTables, node_rows}
 
 -- ── A meaning that is 0, and one that is not ──
 

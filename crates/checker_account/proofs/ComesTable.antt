@@ -1,6 +1,6 @@
 -- The table of what is come to: what the rules add to a sound table is come to, and a table to which they add nothing has all that is come
 -- to.
-use Prim.Native.Nat.{ℕ, ◌+◌, ◌<◌, ◌≤◌}
+use Prim.Native.Nat.{ℕ, ◌+◌, ◌<◌}
 use mathlib.Core.Path.{◌≡◌, refl, sym, ◌∙◌, subst}
 use mathlib.Core.Bool.{Bool, true, false, ◌||◌, cond, true≢false}
 use mathlib.Core.List.{List, [], ◌∷◌}
@@ -127,7 +127,7 @@ module _ (local : Bool) (es : List Edge) (ns : List Node) (p : ℕ) (x : Resourc
     inside-right {r} {b} i q l g =
         let (j, lj, hv, e) = restarted-found (is_reset local p r o) v q l g in
         subst (λ (j : ℕ). ComesAt local es ns p x b (o || eqb r p) c j) e
-        (led b (o || eqb r p) c (reopened local p r o j) (Leads.to_Inner i s (h j lj hv)))
+        (led b (o || eqb r p) c (reopened local p r o j) (Leads.to_inner i s (h j lj hv)))
 
   pub arrivals-right : (k : ℕ) (o : Bool) (c v : ℕ) (f : Form) → Is ns k f → Start x c
       → ((q : ℕ) → q < states → has v q ≡ true → ComesAt local es ns p x k o c q)
@@ -158,15 +158,15 @@ module _ (local : Bool) (es : List Edge) (ns : List Node) (p : ℕ) (x : Resourc
     pick b o d v rest false q l e g = e.0 q l g
     pick b o d v rest true q l e g = e.1.0 q l g
 
-    second-in : {k a b : ℕ} (o : Bool) (c f d q : ℕ) (z : Bool) (q₁ : ℕ) → Is ns k (sequence a b) → Start x c → q < states → q₁ < states
+    second-in : {k a b : ℕ} (o : Bool) (c f : ℕ) (z : Bool) (d q q₁ : ℕ) → Is ns k (sequence a b) → Start x c → q < states → q₁ < states
         → HasCome u k o c q → CodeThen c f z d → HasEnd (t o) a f q z q₁ → HasCome u b o d q₁
     unfolding arrivals second_arrivals
-    second-in {k} {a} {b} o c f d q z q₁ i s l l₁ e (CodeThen.as_before keep) g =
+    second-in {k} {a} {b} o c f z d q q₁ i s l l₁ e (CodeThen.as_before keep) g =
         let v = get_or u (place k o c) 0 in
         let more = halves b o (in_group_lem 0 c) (begun (t o) a (in_group_lem late_group c) v) [] in
         pick b o c (begun (t o) a c v) (cond (waits c) more []) z q₁ l₁ (closed.step k o c (sequence a b) i s).1
         (half_in a o c v q z q₁ l l₁ e g)
-    second-in {k} {a} {b} o c f d q z q₁ i s l l₁ e (CodeThen.made_first w keep) g =
+    second-in {k} {a} {b} o c f z d q q₁ i s l l₁ e (CodeThen.made_first w keep) g =
         let v = get_or u (place k o c) 0 in
         let more = halves b o (in_group_lem 0 c) (begun (t o) a (in_group_lem late_group c) v) [] in
         pick b o (in_group_lem 0 c) (begun (t o) a (in_group_lem late_group c) v) [] z q₁ l₁
@@ -194,7 +194,7 @@ module _ (local : Bool) (es : List Edge) (ns : List Node) (p : ℕ) (x : Resourc
     rules-closed k o c q l (Leads.to_first {k = j} {a = a} {b = b} i s (lk, (l₀, e))) =
         ((targets.sequence i).0, (l, (closed.step j o c (sequence a b) i s).0 q l e))
     rules-closed k o d q l (Leads.to_second {q = q₀} {h = z} {c = c} {f = f} i s (lk, (l₀, e)) then v (la, (l₁, (l₂, y)))) =
-        ((targets.sequence i).1, (l, second-in o c f d q₀ z q i s l₀ l e then y))
+        ((targets.sequence i).1, (l, second-in o c f z d q₀ q i s l₀ l e then y))
     rules-closed k o c q l (Leads.to_one {k = j} {a = a} {b = b} i s (lk, (l₀, e))) =
         ((targets.choice i).0, (l, (closed.step j o c (choice a b) i s).0 q l e))
     rules-closed k o c q l (Leads.to_other {k = j} {a = a} {b = b} i s (lk, (l₀, e))) =
@@ -203,7 +203,7 @@ module _ (local : Bool) (es : List Edge) (ns : List Node) (p : ℕ) (x : Resourc
     rules-closed k o c q l (Leads.to_loop {k = j} {a = a} i s (lk, (l₀, e))) = (targets.back i, (l, (closed.step j o c (back a) i s).0 q l e))
     rules-closed k o d q l (Leads.to_new {r = r} {q = q₀} {c = c} i s (lk, (l₀, e)) gives v) =
         (targets.fresh i, (l, new_in o c r d q₀ q i s l₀ l e gives v))
-    rules-closed k o c q l (Leads.to_Inner {k = j} {s = r} {b = b} {q = q₀} {o = a} i s (lk, (l₀, e))) = (
+    rules-closed k o c q l (Leads.to_inner {k = j} {s = r} {b = b} {q = q₀} {o = a} i s (lk, (l₀, e))) = (
       targets.sandbox i,
       (
         l,

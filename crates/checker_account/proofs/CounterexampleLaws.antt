@@ -64,8 +64,8 @@ module _ (local : Bool) (es : List Edge) (ns : List Node) (p : ℕ) (S : Sight) 
   leads-written t (Leads.body i) d = Written.enters i d
   leads-written t (Leads.again i) d = Written.repeats i d
 
-  pub passes-written : {n : ℕ} {o : Bool} {k j : ℕ} {names : Names} {w : S.Meaning} {c : S.Left} {q : ℕ} {past : Past} {after : Past}
-      (t : Aim S.Left)
+  pub passes-written : (t : Aim S.Left) {n : ℕ} {o : Bool} {k j : ℕ} {names : Names} {w : S.Meaning} {c : S.Left} {q : ℕ} {past : Past}
+      {after : Past}
       → PassesAll ns (ending t) k j
       → Written local es ns p S n o j names w c q past t after → Written local es ns p S n o k names w c q past t after
   passes-written t PassesAll.here d = d

@@ -1,8 +1,8 @@
 -- The table of ends: what the rules add to a sound table are ends, and a table to which they add nothing has every end.
-use Prim.Native.Nat.{ℕ, zero, suc, ◌+◌, ◌^◌, ◌<◌, ◌≤◌}
+use Prim.Native.Nat.{ℕ, ◌+◌, ◌^◌, ◌<◌, ◌≤◌}
 use mathlib.Core.Path.{◌≡◌, refl, sym, ap, ◌∙◌, subst}
-use mathlib.Core.Bool.{Bool, true, false, ◌&&◌, cond, true≢false}
-use mathlib.Core.List.{List, [], ◌∷◌}
+use mathlib.Core.Bool.{Bool, true, false, ◌&&◌, cond}
+use mathlib.Core.List.{List}
 use mathlib.Core.Logic.{◌⊎◌, inl, inr, ◌↔◌}
 use native.Mathlib.Omega.{arith}
 use lib.Dec.{eqb}
@@ -28,7 +28,7 @@ use Rattle.checker_account.specs.Filling.{Asked}
 use Rattle.checker_account.specs.Holds.{InUse, names_in, StaysMade, EntrySplits, EntryGives, table_lens, StandsFor, RowsOk, NamesOk}
 use Rattle.checker_account.specs.Holds.{TargetsOk, EndsAt, HasEnd, SoundEnds, ClosedEnds, HoldsEnds}
 use Rattle.checker_account.specs.Holds.{ResetsOk, where_open, where_not}
-use Rattle.checker_account.proofs.MaskLaws.{has_left, has_right, has_either, has_none, over-found, over-at, has-half, kept-in-found}
+use Rattle.checker_account.proofs.MaskLaws.{has_left, has_right, has_either, over-found, over-at, has-half, kept-in-found}
 use Rattle.checker_account.proofs.MaskLaws.{kept-in-at, has-if, has-unless, has-where, has-where-not}
 use Rattle.checker_account.specs.Lens.{EndTable, Adds}
 use Rattle.checker_account.proofs.LensEnds.{Served, Sound, Whole, ends-later, adds-sound, closed-whole}
@@ -251,40 +251,40 @@ module _ (local : Bool) (es : List Edge) (ns : List Node) (p : ℕ) (x : Resourc
         go false r = has_left (begun t b (entry_after g false) (half false v)) (begun t b (entry_after g true) (half true v)) (at h q') r
         go true r = has_right (begun t b (entry_after g false) (half false v)) (begun t b (entry_after g true) (half true v)) (at h q') r
 
-    in-sequence : (a b e f g q : ℕ) (d : Bool) (j : ℕ) (h : Bool) (q' : ℕ) → j < states → EntrySplits e f d g → HasEnd t a f q d j
+    in-sequence : (a b e f : ℕ) (d : Bool) (g q j : ℕ) (h : Bool) (q' : ℕ) → j < states → EntrySplits e f d g → HasEnd t a f q d j
         → HasEnd t b g j h q' → has (sequence_ends_lem t a b e q) (at h q') ≡ true
     unfolding sequence_ends_lem
-    in-sequence a b e f g q d j h q' lj (EntrySplits.is_in_turn late keep) r s =
+    in-sequence a b e f d g q j h q' lj (EntrySplits.is_in_turn late keep) r s =
         ap (λ (z : Bool). has (cond z (bit_or (in_turn t a b (in_group_lem waiting_group e) e q) (in_turn t a b e (in_group_lem 0 e) q))
         (in_turn t a b e e q)) (at h q')) late
         ∙ in_turns a b e e q d j h q' lj r s
-    in-sequence a b e f g q d j h q' lj (EntrySplits.made_second late keep) r s =
+    in-sequence a b e f d g q j h q' lj (EntrySplits.made_second late keep) r s =
         ap (λ (z : Bool). has (cond z (bit_or (in_turn t a b (in_group_lem waiting_group e) e q) (in_turn t a b e (in_group_lem 0 e) q))
         (in_turn t a b e e q)) (at h q')) late
         ∙ has_left (in_turn t a b (in_group_lem waiting_group e) e q) (in_turn t a b e (in_group_lem 0 e) q) (at h q')
         (in_turns a b (in_group_lem waiting_group e) e q d j h q' lj r s)
-    in-sequence a b e f g q d j h q' lj (EntrySplits.made_first late keep) r s =
+    in-sequence a b e f d g q j h q' lj (EntrySplits.made_first late keep) r s =
         ap (λ (z : Bool). has (cond z (bit_or (in_turn t a b (in_group_lem waiting_group e) e q) (in_turn t a b e (in_group_lem 0 e) q))
         (in_turn t a b e e q)) (at h q')) late
         ∙ has_right (in_turn t a b (in_group_lem waiting_group e) e q) (in_turn t a b e (in_group_lem 0 e) q) (at h q')
         (in_turns a b e (in_group_lem 0 e) q d j h q' lj r s)
 
-    new_in : {k n b d g q₁ : ℕ} (e q : ℕ) (h : Bool) (q' : ℕ) → Is ns k (fresh n b) → q < states
+    new_in : (e : ℕ) {k n b d g q₁ : ℕ} (q : ℕ) (h : Bool) (q' : ℕ) → Is ns k (fresh n b) → q < states
         → EntryGives is_late_lem e n d g → Moves es p create (Sees (watched_by x) d) q q₁ → Held t b g q₁ h q'
         → has (fresh_ends_lem rows x t k n b e q) (at h q') ≡ true
     unfolding fresh_ends_lem
-    new_in {k} {n} {b} {d} {g} {q₁} e q h q' i l EntryGives.other v (lk, (l₁, (l', s))) =
+    new_in e {k} {n} {b} {d} {g} {q₁} q h q' i l EntryGives.other v (lk, (l₁, (l', s))) =
         let r = (ok.created i others others-stands q q₁ l l₁).1 v in
         let a = begun-at b (forgotten_in e n) (row_on rows x k others q) (at h q') q₁ l₁ r s in
         has_left _ _ (at h q') (has_left _ _ (at h q') a)
-    new_in {k} {n} {b} {d} {g} {q₁} e q h q' i l (EntryGives.first em) v (lk, (l₁, (l', s))) =
+    new_in e {k} {n} {b} {d} {g} {q₁} q h q' i l (EntryGives.first em) v (lk, (l₁, (l', s))) =
         let r = (ok.created i watched first-stands q q₁ l l₁).1 v in
         let a = begun-at b (first_named_lem e n) (row_on rows x k watched q) (at h q') q₁ l₁ r s in
         let a₁ = has-where-not (made (meaning_in e)) (begun t b (first_named_lem e n) (row_on rows x k watched q)) (at h q') em a in
         has_left _ _ (at h q')
         (has_right (begun t b (forgotten_in e n) (row_on rows x k others q))
         (cond (made (meaning_in e)) 0 (begun t b (first_named_lem e n) (row_on rows x k watched q))) (at h q') a₁)
-    new_in {k} {n} {b} {d} {g} {q₁} e q h q' i l (EntryGives.second late) v (lk, (l₁, (l', s))) =
+    new_in e {k} {n} {b} {d} {g} {q₁} q h q' i l (EntryGives.second late) v (lk, (l₁, (l', s))) =
         let r = (ok.created i watched_too second-stands q q₁ l l₁).1 v in
         let a = begun-at b (second_named_lem e n) (row_on rows x k watched_too q) (at h q') q₁ l₁ r s in
         let a₁ = has-where (is_late_lem e) (begun t b (second_named_lem e n) (row_on rows x k watched_too q)) (at h q') late a in
@@ -306,7 +306,7 @@ module _ (local : Bool) (es : List Edge) (ns : List Node) (p : ℕ) (x : Resourc
           (targets.own i, (l, (l', closed k e q (named_event a n) i u l h q' l' (kept-in-at e (row_on rows x k (meant_at e n) q) h q' l' still v₁))))
       rules-closed k e q h q' u l l'
           (Adds.is_in_turn {a = a} {b = b} {q₁ = j} {f = f} {g = g} {d = d} i splits (la, (l₁, (lj, r))) (lb, (l₂, (l₃, s)))) =
-          (targets.own i, (l, (l', closed k e q (sequence a b) i u l h q' l' (in-sequence a b e f g q d j h q' lj splits r s))))
+          (targets.own i, (l, (l', closed k e q (sequence a b) i u l h q' l' (in-sequence a b e f d g q j h q' lj splits r s))))
       rules-closed k m q c q' s l l' (Adds.by_one {a = a} {b = b} i (lk, (l₁, (l₂, h)))) =
           (targets.own i, (l, (l', closed k m q (choice a b) i s l c q' l' (has_left _ _ (at c q') h))))
       rules-closed k m q c q' s l l' (Adds.by_other {a = a} {b = b} i (lk, (l₁, (l₂, h)))) =

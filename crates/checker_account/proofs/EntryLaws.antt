@@ -1,7 +1,7 @@
 -- The numbers of entries: what they are made of, which occur, and which follow on which.
-use Prim.Native.Nat.{ℕ, zero, suc, ◌+◌, ◌-◌, ◌*◌, ◌/◌, ◌%◌, ◌<◌, ◌≤◌}
+use Prim.Native.Nat.{ℕ, suc, ◌+◌, ◌-◌, ◌<◌, ◌≤◌}
 use mathlib.Core.Path.{◌≡◌, refl, sym, ap, ap₂, ◌∙◌, subst}
-use mathlib.Core.Bool.{Bool, true, false, not, ◌||◌, cond, true≢false}
+use mathlib.Core.Bool.{Bool, true, false, ◌||◌, cond}
 use mathlib.Core.List.{List, [], ◌∷◌}
 use native.Mathlib.Omega.{arith}
 use lib.Dec.{eqb}
@@ -9,17 +9,17 @@ use borrow.Author.Tests.{eqb-true, eqb-false, eq-eqb, ne_eqb}
 use Rattle.usage.specs.Tests.{some_of}
 use Rattle.usage.proofs.Logic.{false-true}
 use Rattle.checker_account.specs.Account.{watched, watched_too, others}
-use Rattle.checker_account.specs.Single.{no_name, forget}
+use Rattle.checker_account.specs.Single.{no_name}
 use Rattle.checker_account.specs.Pairs.{which, is_watched}
 use Rattle.checker_account.specs.declared.Resources.{Resources}
-use Rattle.checker_account.specs.Tables.{one_resource, two_resources, nothing, watched_by, unnamed, meanings, name_of, made, forgotten}
-use Rattle.checker_account.specs.Tables.{meaning_after, numbered, meaning_in, group_in, waiting_group, late_group, waits, is_late_lem, in_group_lem}
-use Rattle.checker_account.specs.Tables.{group_forgotten_lem, forgotten_in, first_named_lem, second_named_lem, entry_after, meant_at, least, entries_of_lem}
+use Rattle.checker_account.specs.Tables.{two_resources, nothing, watched_by, unnamed, meanings, name_of, made, forgotten}
+use Rattle.checker_account.specs.Tables.{meaning_after, numbered, meaning_in, group_in, waiting_group, late_group, in_group_lem}
+use Rattle.checker_account.specs.Tables.{group_forgotten_lem, entry_after, meant_at, least, entries_of_lem}
 use Rattle.checker_account.specs.Tables.{codes_of, first_code_lem}
 use Rattle.checker_account.specs.Filling.{Asked, one, two, apart}
-use Rattle.checker_account.specs.Holds.{InUse, Start, second_in, names_in, made_in, StaysMade}
+use Rattle.checker_account.specs.Holds.{InUse, Start, names_in, made_in, StaysMade}
 use Rattle.checker_account.proofs.CodeLaws.{forgotten-lt, after-lt}
-use Rattle.checker_account.proofs.Starts.{same_name, forgotten-name, forgotten-made}
+use Rattle.checker_account.proofs.Starts.{same_name}
 
 pub both : {A B : Type 0} {a a' : A} {b b' : B} → a ≡ a' → b ≡ b' → ◌≡◌ {A = A × B} (a, b) (a', b')
 both e f = ap₂ (λ a b. (a, b)) e f

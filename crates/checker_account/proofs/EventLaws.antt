@@ -1,5 +1,5 @@
 -- The tables of an event that the moves of sets of states are made of tell the moves of each instance.
-use Prim.Native.Nat.{ℕ, ◌+◌, ◌*◌, ◌/◌, ◌%◌, ◌<◌}
+use Prim.Native.Nat.{ℕ, ◌+◌, ◌/◌, ◌%◌, ◌<◌}
 use mathlib.Core.Path.{◌≡◌, refl, sym, ap, ◌∙◌, subst}
 use mathlib.Core.Bool.{Bool, true, false, cond}
 use mathlib.Core.List.{List}
@@ -15,7 +15,7 @@ use Rattle.usage.proofs.Logic.{not-both}
 use Rattle.usage.specs.Tables.{from}
 use Rattle.usage.proofs.TableLaws.{length_from, get_d-from}
 use Rattle.usage.proofs.PlacedLaws.{SeesAt}
-use Rattle.automaton.specs.Mask.{has, single, union}
+use Rattle.automaton.specs.Mask.{has, single}
 use Rattle.automaton.specs.Move.{image, move, fires_at, row_places, rows_at}
 use Rattle.automaton.proofs.MaskLaws.{some_at, some-found, has-zero, union-has, has-single}
 use Rattle.automaton.proofs.MoveLaws.{image-lt, moved-found, moved_at, ends_of}

@@ -17,7 +17,7 @@ use Rattle.usage.specs.Outline.{Form, form_of, form_at, Is, end, static_event, n
 use Rattle.usage.specs.Check.{Leaves}
 use Rattle.usage.proofs.Logic.{clash}
 use Rattle.checker_account.specs.Account.{Comes, by_action, Hits}
-use Rattle.checker_account.specs.Views.{Watched, Chosen, stand_in, keep_if, New, awaited, views, given}
+use Rattle.checker_account.specs.Views.{Watched, Chosen, stand_in, keep_if, awaited, views, given}
 use Rattle.checker_account.proofs.Scoped.{Scoped}
 use Rattle.checker_account.proofs.Exact.{exact, shortest-sound}
 

@@ -18,10 +18,10 @@ use Rattle.checker_account.specs.Account.{watched, watched_too, others}
 use Rattle.checker_account.specs.declared.Arrival.{Arrival}
 use Rattle.checker_account.specs.declared.Resources.{Resources}
 use Rattle.checker_account.specs.Tables.{made, meaning_in, late_group, waits, in_group_lem, least, codes_of, first_code_lem}
-use Rattle.checker_account.specs.Tables.{places_of, places, Rows, row_on, Resets, never, opening_of, place, base, begun, over, half}
+use Rattle.checker_account.specs.Tables.{places_of, places, Rows, row_on, Resets, never, opening_of, place, base, begun, over}
 use Rattle.checker_account.specs.Tables.{halves, second_arrivals, fresh_arrivals, arrivals, restarted, is_reset, joined_at, way_of, row_at, rows_in}
 use Rattle.checker_account.specs.Holds.{Each}
-use Rattle.checker_account.specs.Filling.{repeat, total, grown, Forms, Wide, Derived, start, Filled, EndsRule, settle_node_lem, settle_round}
+use Rattle.checker_account.specs.Filling.{total, grown, Forms, Wide, start, Filled, EndsRule, settle_node_lem, settle_round}
 use Rattle.checker_account.specs.Filling.{ShutFilled, by_open, entered, arrivals_of, ComesRule, pass, odd, pass_node_lem, pass_round_lem, begins}
 use Rattle.checker_account.specs.Filling.{hit_any, Asked, Searched, SearchedAll, found, none_found}
 use Rattle.checker_account.specs.Choices.{choice_count, choice_at}

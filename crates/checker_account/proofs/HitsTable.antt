@@ -1,9 +1,9 @@
 -- The account's hits, read from the table of what is come to.
-use Prim.Native.Nat.{ℕ, zero, suc, ◌<◌, ◌≤◌}
+use Prim.Native.Nat.{ℕ, ◌<◌}
 use mathlib.Core.Path.{◌≡◌, refl, sym, ap, ◌∙◌, subst}
-use mathlib.Core.Bool.{Bool, true, false, cond, true≢false}
+use mathlib.Core.Bool.{Bool, true, false, cond}
 use mathlib.Core.Option.{Option, some}
-use mathlib.Core.List.{List, [], ◌∷◌}
+use mathlib.Core.List.{List}
 use mathlib.Core.Logic.{◌⊎◌, inl, inr, ◌↔◌}
 use native.Mathlib.Omega.{arith}
 use lib.Dec.{eqb}
@@ -13,7 +13,7 @@ use borrow.Author.Tests.{eqb-true, eq-eqb}
 use Rattle.usage.specs.declared.Edge.{Edge}
 use Rattle.usage.specs.declared.Node.{Node}
 use Rattle.usage.specs.Limits.{create, states, most_nodes}
-use Rattle.usage.specs.Policy.{Sees, Moves, Offending, EdgesOk}
+use Rattle.usage.specs.Policy.{Offending, EdgesOk}
 use Rattle.usage.specs.Past.{reopened}
 use Rattle.usage.specs.Outline.{Form, Is, end, static_event, named_event, sequence, choice, loop, back, fresh, sandbox}
 use Rattle.usage.proofs.Logic.{none-some}
@@ -21,7 +21,7 @@ use Rattle.automaton.specs.Mask.{has}
 use Rattle.checker_account.specs.Account.{watched, watched_too, others, Last, by_action, by_opening}
 use Rattle.checker_account.specs.Pairs.{numbers}
 use Rattle.checker_account.specs.declared.Resources.{Resources}
-use Rattle.checker_account.specs.Tables.{watched_by, made, meaning_in, group_in, late_group, waits, meant_at, Rows, row_on, is_reset, restarted}
+use Rattle.checker_account.specs.Tables.{watched_by, made, meaning_in, waits, meant_at, Rows, row_on, is_reset, restarted}
 use Rattle.checker_account.specs.Tables.{first_created_lem, second_created_lem, place, leaves, last_of, over}
 use Rattle.checker_account.specs.Filling.{Asked}
 use Rattle.checker_account.specs.Holds.{Start, HitsFrom, EntryGives, table_lens, table_codes, StandsFor, RowsOk, NamesOk, TargetsOk}

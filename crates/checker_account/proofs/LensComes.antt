@@ -1,11 +1,10 @@
 -- The table of what is come to through any lens, and the hits that it shows: what the rules add to a sound table is come to, a table to
 -- which they add nothing has all, and it strikes exactly where the account hits.
 use Prim.Native.Nat.{ℕ, ◌<◌}
-use mathlib.Core.Path.{◌≡◌, refl, sym, ap, ◌∙◌, subst}
+use mathlib.Core.Path.{◌≡◌, sym, ◌∙◌, subst}
 use mathlib.Core.Bool.{Bool, true, false, ◌||◌}
 use mathlib.Core.List.{List}
-use mathlib.Core.Logic.{◌⊎◌, inl, inr, ◌↔◌}
-use native.Mathlib.Omega.{arith}
+use mathlib.Core.Logic.{◌↔◌}
 use lib.Dec.{eqb, lit<}
 use Rattle.usage.specs.declared.Edge.{Edge}
 use Rattle.usage.specs.declared.Node.{Node}
@@ -80,7 +79,7 @@ module _ (local : Bool) (es : List Edge) (ns : List Node) (p : ℕ) (S : Sight) 
     leads-sound ends sound k o c q (Leads.to_loop {k = j} i u x) = (_, Comes.again i (sound j o c q u x).1)
     leads-sound ends sound k o d q (Leads.to_new {k = j} {n = n} {r = r} {q = q₀} {c = c} i u x t v) =
         (_, Comes.created i (ok.new_right c n r d u (names.given i) t).makes (sound j o c q₀ u x).1 v)
-    leads-sound ends sound k o c q (Leads.to_Inner {k = j} {q = q₀} {o = a} i u x) = (_, Comes.inside i (sound j a c q₀ u x).1)
+    leads-sound ends sound k o c q (Leads.to_inner {k = j} {q = q₀} {o = a} i u x) = (_, Comes.inside i (sound j a c q₀ u x).1)
 
     -- ── A table to which they add nothing ──
 
@@ -150,7 +149,7 @@ module _ (local : Bool) (es : List Edge) (ns : List Node) (p : ℕ) (S : Sight) 
       full-come (Comes.inside {q = q} {s = s} {b = b} {o = o} i e) =
           let h = full-come e in
           let l = reopened-states local p s o q h.state in
-          met-child h l (closed b (o || eqb s p) h.code (reopened local p s o q) l (Leads.to_Inner i h.occurs h.entered))
+          met-child h l (closed b (o || eqb s p) h.code (reopened local p s o q) l (Leads.to_inner i h.occurs h.entered))
 
       pub closed-come : WholeCome U
       closed-come = record { full = full-come }

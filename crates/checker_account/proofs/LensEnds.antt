@@ -1,17 +1,17 @@
 -- The table of ends through any lens: what the rules add to a sound table are ends, and a table to which they add nothing has every end.
 use Prim.Native.Nat.{ℕ, ◌<◌}
 use mathlib.Core.Path.{◌≡◌, refl, sym, ap, ◌∙◌, subst}
-use mathlib.Core.Bool.{Bool, true, false, not, ◌&&◌, ◌||◌, cond}
+use mathlib.Core.Bool.{Bool, true, false, ◌&&◌, ◌||◌, cond}
 use mathlib.Core.List.{List}
 use mathlib.Core.Logic.{◌⊎◌, inl, inr}
 use lib.Dec.{eqb, lit<}
 use Rattle.usage.specs.declared.Edge.{Edge}
 use Rattle.usage.specs.declared.Node.{Node}
-use Rattle.usage.specs.Limits.{states, create}
+use Rattle.usage.specs.Limits.{states}
 use Rattle.usage.specs.Policy.{Sees, Moves, EdgesOk}
 use Rattle.usage.specs.Outline.{Is, sandbox}
 use Rattle.usage.specs.Past.{reopened}
-use Rattle.usage.proofs.Logic.{and-false, false-true}
+use Rattle.usage.proofs.Logic.{false-true}
 use Rattle.automaton.proofs.MoveLaws.{moves-lt, ends_of}
 use Rattle.checker_account.specs.Account.{Sight, Goes, ended, Ends}
 use Rattle.checker_account.specs.Tables.{is_reset}

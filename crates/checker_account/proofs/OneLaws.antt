@@ -1,5 +1,5 @@
 -- The tables for one watched resource, as those who keep it by two numbers (Single.antt) read them: an entry is a meaning.
-use Prim.Native.Nat.{ℕ, suc, ◌+◌, ◌-◌, ◌/◌, ◌%◌, ◌<◌, ◌≤◌}
+use Prim.Native.Nat.{ℕ, ◌<◌, ◌≤◌}
 use mathlib.Core.Path.{◌≡◌, refl, sym, ap, ◌∙◌, subst}
 use mathlib.Core.Bool.{Bool, true, false, not, ◌||◌, cond, true≢false}
 use mathlib.Core.List.{List, [], ◌∷◌}
@@ -21,9 +21,8 @@ use Rattle.checker_account.specs.Single.{no_name, meant, forget, MakesOne, OneOc
 use Rattle.checker_account.specs.Pairs.{which, MakesTwo, is_watched, numbers}
 use Rattle.checker_account.specs.Tables.{nothing, one_resource, watched_by, unnamed, meanings, name_of, made, meaning_in, least, codes_of}
 use Rattle.checker_account.specs.Tables.{Rows}
-use Rattle.checker_account.specs.Filling.{Forms, FormsOf, Asked, one, Searched}
-use Rattle.checker_account.specs.Holds.{Start, names_in, made_in, RowsOk, NamesOk, TargetsOk, HasCome, HoldsComes}
-use Rattle.checker_account.proofs.BegunLaws.{Keeps}
+use Rattle.checker_account.specs.Filling.{Forms, FormsOf, one, Searched}
+use Rattle.checker_account.specs.Holds.{Start, RowsOk, NamesOk, TargetsOk, HasCome, HoldsComes}
 use Rattle.checker_account.proofs.RendersLaws.{Renders, to-comes, hits-rendered}
 use Rattle.checker_account.proofs.SingleLaws.{watching-keeps}
 use Rattle.checker_account.proofs.EntryLaws.{both}

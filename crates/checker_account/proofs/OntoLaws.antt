@@ -97,7 +97,7 @@ module _ (local : Bool) (es : List Edge) (ns : List Node) (p : ℕ) (S : Sight) 
   leads_goes t (Leads.body i) d = Goes.enters i d
   leads_goes t (Leads.again i) d = Goes.repeats i d
 
-  passes-goes : {n : ℕ} {o : Bool} {k j : ℕ} {w : S.Meaning} {c : S.Left} {q : ℕ} (t : Aim S.Left) → PassesAll ns (ending t) k j
+  passes-goes : (t : Aim S.Left) {n : ℕ} {o : Bool} {k j : ℕ} {w : S.Meaning} {c : S.Left} {q : ℕ} → PassesAll ns (ending t) k j
       → Goes local es ns p S n o j w c q t
       → Goes local es ns p S n o k w c q t
   passes-goes t PassesAll.here d = d
@@ -196,7 +196,7 @@ module _ (local : Bool) (es : List Edge) (ns : List Node) (p : ℕ) (S : Sight) 
     passes-among b (PassesAll.on l s) = passes-among (leads-among b l) s
 
     -- What holds of k holds of a node that k leads to, where each move keeps it from a start of the set to a node that comes to the aim.
-    pub passes-toward : {n : ℕ} {o : Bool} {k j : ℕ} {w : S.Meaning} {c : S.Left} {q : ℕ} (t : Aim S.Left) (P : ℕ → Type 0)
+    pub passes-toward : (t : Aim S.Left) {n : ℕ} {o : Bool} {k j : ℕ} {w : S.Meaning} {c : S.Left} {q : ℕ} (P : ℕ → Type 0)
         → ((i y : ℕ) → P i → A o i w c q → Leads ns (ending t) i y → Goes local es ns p S n o y w c q t → P y) → P k → A o k w c q
         → PassesAll ns (ending t) k j → Goes local es ns p S n o j w c q t → P j
     passes-toward t P f h b PassesAll.here d = h

@@ -13,7 +13,6 @@ use lib.Seq.{get_or-set_same, get_or-set_other, ext_get_or}
 use borrow.Author.Tests.{eq-eqb, ne_eqb}
 use Rattle.usage.specs.declared.Edge.{Edge}
 use Rattle.usage.specs.Limits.{most_names}
-use Rattle.usage.specs.Tests.{some_of}
 use Rattle.usage.proofs.Logic.{false-true, by_cases}
 use Rattle.checker_account.specs.Account.{watched, watched_too, others}
 use Rattle.checker_account.specs.Single.{no_name, forget}

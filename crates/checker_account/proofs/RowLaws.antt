@@ -1,6 +1,6 @@
 -- A table of rows is right for every choice of watched resources, where each row is the set of states that one state moves to by the
 -- node's event: an event on a static resource, or, for a name and a creation, on resource 18, which no edge names.
-use Prim.Native.Nat.{ℕ, suc, ◌<◌, ◌≤◌}
+use Prim.Native.Nat.{ℕ, ◌<◌, ◌≤◌}
 use mathlib.Core.Path.{◌≡◌, refl, sym, ap, ◌∙◌, subst}
 use mathlib.Core.Bool.{Bool, true, false, cond}
 use mathlib.Core.List.{List, [], ◌∷◌}

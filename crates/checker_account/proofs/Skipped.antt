@@ -1,5 +1,5 @@
 -- Statics that no event node names need not be watched: they never occur, and a dynamic resource that is never created stands for them.
-use Prim.Native.Nat.{ℕ, suc, ◌<◌, ◌≤◌}
+use Prim.Native.Nat.{ℕ, ◌<◌, ◌≤◌}
 use mathlib.Core.Path.{◌≡◌, sym, ◌∙◌, subst}
 use mathlib.Core.Bool.{Bool}
 use mathlib.Core.Option.{some, none-ne-some}
@@ -14,7 +14,7 @@ use Rattle.usage.specs.declared.Node.{Node}
 use Rattle.usage.specs.Limits.{statics, create}
 use Rattle.usage.specs.Policy.{EdgesOk}
 use Rattle.usage.specs.Past.{event, Past, Occurs, Violates}
-use Rattle.usage.specs.Outline.{Is, static_event, Names, no_names, give, Part, node, close, Run, Advance, Runs, IsTrace}
+use Rattle.usage.specs.Outline.{Is, static_event, Names, give, Part, node, close, Run, Advance, Runs, IsTrace}
 use Rattle.usage.proofs.PastLaws.{Told, more, broken-among}
 use Rattle.usage.proofs.TraceLaws.{Given, give-cases}
 use Rattle.usage.proofs.ProgressLaws.{bound, bound-dynamic, bound-new}

@@ -1,7 +1,7 @@
 -- The stand-ins of resources: a static resource stands for itself, the watched dynamic ones have one each, and all others one.
 use Prim.Native.Nat.{ℕ, ◌<◌, ◌≤◌}
 use mathlib.Core.Path.{◌≡◌, refl, sym, ◌∙◌, subst}
-use mathlib.Core.Bool.{Bool, true, false, cond}
+use mathlib.Core.Bool.{cond}
 use mathlib.Core.List.Memᴰ
 use mathlib.Core.List.{List, [], ◌∷◌, map, Memᴰ}
 use mathlib.Core.Logic.{◌⊎◌, inl, inr}
@@ -15,7 +15,7 @@ use Rattle.usage.specs.Policy.{Instance, single, pair, Place}
 use Rattle.usage.specs.Tests.{some_of}
 use Rattle.usage.proofs.Logic.{by_cases}
 use Rattle.usage.proofs.Decides.{d-eq, d-some}
-use Rattle.usage.proofs.SeesLaws.{place_map, place-unmap, place-listed, instance-map}
+use Rattle.usage.proofs.SeesLaws.{place_map, place-unmap, place-listed}
 use Rattle.checker_account.specs.Account.{watched, watched_too, others}
 use Rattle.checker_account.specs.Views.{Watched, one, two, apart, Chosen, dynamics}
 use Rattle.checker_account.proofs.Carry.{Same}

@@ -13,6 +13,10 @@ use Rattle.checker_account.specs.Single.{no_name, meant, forget, MakesOne, watch
 use Rattle.checker_account.specs.Tables.{unnamed, name_of, made, forgotten, meaning_after}
 
 -- what is made stays made
+makes-made : {x m d w w' : ℕ} {c c' : Bool} → MakesOne x m d w c w' c' → c ≡ true → c' ≡ true
+makes-made MakesOne.other e = e
+makes-made MakesOne.own e = refl
+
 pub stays-made : {local : Bool} {es : List Edge} {ns : List Node} {p x n k w q q' : ℕ} {o c c' : Bool}
     → Ends local es ns p (watching x) n o k w c q c' q' → c ≡ true → c' ≡ true
 stays-made (Goes.ends i) e = e
@@ -23,8 +27,7 @@ stays-made (Goes.chooses_left i f) e = stays-made f e
 stays-made (Goes.chooses_right i f) e = stays-made f e
 stays-made (Goes.enters i f) e = stays-made f e
 stays-made (Goes.repeats i f) e = stays-made f e
-stays-made (Goes.makes i MakesOne.other v f) e = stays-made f e
-stays-made (Goes.makes i MakesOne.own v f) e = stays-made f refl
+stays-made (Goes.makes i y v f) e = stays-made f (makes-made y e)
 stays-made (Goes.sandboxes i f) e = stays-made f e
 
 -- ── What a meaning says ──

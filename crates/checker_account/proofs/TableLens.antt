@@ -1,29 +1,27 @@
 -- The lens of the tables is right: its rules are those of the account.
-use Prim.Native.Nat.{ℕ, zero, suc, ◌+◌, ◌-◌, ◌*◌, ◌/◌, ◌%◌, ◌<◌, ◌≤◌}
+use Prim.Native.Nat.{ℕ, zero, suc, ◌-◌, ◌<◌, ◌≤◌}
 use mathlib.Core.Path.{◌≡◌, refl, sym, ap, ap₂, ◌∙◌, subst}
 use mathlib.Core.Bool.{Bool, true, false, not, ◌||◌, cond, true≢false}
-use mathlib.Core.List.{List}
 use mathlib.Core.Logic.{◌⊎◌, inl, inr}
 use native.Mathlib.Omega.{arith}
 use lib.Dec.{eqb}
 use borrow.Author.Tests.{eqb-true, eq-eqb, ne_eqb}
-use Rattle.usage.proofs.Logic.{false-true}
 use Rattle.checker_account.specs.Account.{watched, watched_too, others}
 use Rattle.checker_account.specs.Single.{no_name, forget}
-use Rattle.checker_account.specs.Pairs.{MakesTwo, numbers, is_watched}
+use Rattle.checker_account.specs.Pairs.{MakesTwo, numbers}
 use Rattle.checker_account.specs.declared.Resources.{Resources}
 use Rattle.checker_account.specs.Tables.{watched_by, unnamed, meanings, name_of, made, forgotten, meaning_after, numbered, meaning_in}
 use Rattle.checker_account.specs.Tables.{group_in, waiting_group, late_group, waits, is_late_lem, in_group_lem, group_forgotten_lem, forgotten_in}
 use Rattle.checker_account.specs.Tables.{first_named_lem, second_named_lem, entry_after, first_code_lem}
 use Rattle.checker_account.specs.Lens.{LensOk, SplitRight, GiveRight, Split, Given, CodesOk, ThenRight, NewRight, Onward, Anew}
 use Rattle.checker_account.specs.Filling.{Asked}
-use Rattle.checker_account.specs.Holds.{InUse, Start, second_in, names_in, made_in, StaysMade, EntrySplits, EntryGives, table_lens}
+use Rattle.checker_account.specs.Holds.{InUse, Start, second_in, names_in, made_in, EntrySplits, EntryGives, table_lens}
 use Rattle.checker_account.specs.Holds.{CodeThen, table_codes}
 use Rattle.checker_account.proofs.CodeLaws.{forgotten-lt, after-lt}
 use Rattle.checker_account.proofs.Starts.{after-name, after-made, forgotten-name, forgotten-made}
-use Rattle.checker_account.proofs.EntryLaws.{both, meaning-lt, meaning-numbered, group-numbered, numbered-parts, names-numbered}
+use Rattle.checker_account.proofs.EntryLaws.{both, meaning-lt, group-numbered, names-numbered}
 use Rattle.checker_account.proofs.EntryLaws.{made-numbered, after-in, after-group, second-forgotten, late-forgotten, Watches, watches}
-use Rattle.checker_account.proofs.EntryLaws.{Fits, in-use-fits, start_fits, start-group, fits-in-use, fits-start, fits_after}
+use Rattle.checker_account.proofs.EntryLaws.{in-use-fits, start_fits, start-group, fits-in-use, fits-start, fits_after}
 use Rattle.checker_account.proofs.EntryLaws.{start-in-use, fits-group, group-forgotten-le, fits-forgotten, fits-first, fits-second}
 
 or-none : (b : Bool) → b ≡ (b || false)

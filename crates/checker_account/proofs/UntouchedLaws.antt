@@ -9,7 +9,7 @@ use lib.Dec.{eqb}
 use borrow.Author.Tests.{lt-ltb}
 use Rattle.usage.specs.declared.Edge.{Edge}
 use Rattle.usage.specs.declared.Node.{Node}
-use Rattle.usage.specs.Limits.{statics}
+use Rattle.usage.specs.Limits.{create, statics}
 use Rattle.usage.specs.Policy.{Sees, Moves, EdgesOk}
 use Rattle.usage.specs.Outline.{Is, static_event, named_event}
 use Rattle.usage.proofs.Logic.{false-true}
@@ -56,6 +56,19 @@ module _ (local : Bool) (es : List Edge) (ns : List Node) (p x : ℕ) (scope : �
       subst (λ (r : ℕ). Moves es p a (Sees (watched ∷ []) r) q q') (sym (meant-other watched no_name m d))
       (carry edges other-same (subst (λ (r : ℕ). Moves es p a (Sees (x ∷ []) r) q q') own v))
 
+  -- a new resource where x counts as made is another than x
+  record Another (w m d w' : ℕ) (c c' : Bool) : Type 0 where
+    new : d ≡ others
+    meaning : w' ≡ forget w m
+    left : c' ≡ c
+
+  another : {m d w w' : ℕ} {c c' : Bool} → MakesOne x m d w c w' c' → c ≡ true → Another w m d w' c c'
+  another MakesOne.other e = record { new = refl; meaning = refl; left = refl }
+  another MakesOne.own e = false-true e
+
+  new-moves : {d q q' : ℕ} → d ≡ others → Moves es p create (Sees (x ∷ []) d) q q' → Moves es p create (Sees (watched ∷ []) others) q q'
+  new-moves {d} {q} {q'} e v = carry edges other-same (subst (λ (r : ℕ). Moves es p create (Sees (x ∷ []) r) q q') e v)
+
   -- ── The account of x is one of the watched dynamic resource, in as many steps ──
 
   forgets : {w : ℕ} (m : ℕ) → w ≡ no_name → forget w m ≡ no_name
@@ -72,16 +85,15 @@ module _ (local : Bool) (es : List Edge) (ns : List Node) (p x : ℕ) (scope : �
   goes-watched (Goes.chooses_right i f) e d = Goes.chooses_right i (goes-watched f e d)
   goes-watched (Goes.enters i f) e d = Goes.enters i (goes-watched f e d)
   goes-watched (Goes.repeats i f) e d = Goes.repeats i (goes-watched f e d)
-  goes-watched (Goes.makes {n = n} {m = m} {b = b} {q₁ = q₁} {o = o} {t = t} i MakesOne.other v f) e d =
-      Goes.makes i MakesOne.other (carry edges other-same v)
+  goes-watched (Goes.makes {n = n} {m = m} {b = b} {q₁ = q₁} {o = o} {t = t} i y v f) e d =
+      let a = another y d in
+      Goes.makes i MakesOne.other (new-moves a.new v)
       (subst (λ (w : ℕ). Goes local es ns p (watching watched) n o b w false q₁ (never_made t)) (sym (forget-none m))
-      (goes-watched f (forgets m e) d))
-  goes-watched (Goes.makes i MakesOne.own v f) e d = false-true d
+      (goes-watched f (a.meaning ∙ forgets m e) (a.left ∙ d)))
   goes-watched (Goes.sandboxes i f) e d = Goes.sandboxes i (goes-watched f e d)
   goes-watched (Goes.breaks_static i v f z) e d = Goes.breaks_static i (carry edges (static-same i) v) f z
   goes-watched (Goes.breaks_name i v f z) e d = Goes.breaks_name i (name-moves i e v) f z
-  goes-watched (Goes.breaks_fresh i MakesOne.other v f z) e d = Goes.breaks_fresh i MakesOne.other (carry edges other-same v) f z
-  goes-watched (Goes.breaks_fresh i MakesOne.own v f z) e d = false-true d
+  goes-watched (Goes.breaks_fresh i y v f z) e d = Goes.breaks_fresh i MakesOne.other (new-moves (another y d).new v) f z
   goes-watched (Goes.breaks_opening i f z) e d = Goes.breaks_opening i f z
   goes-watched (Goes.breaks_first i f) e d = Goes.breaks_first i (goes-watched f e d)
   goes-watched (Goes.breaks_inside i f) e d = Goes.breaks_inside i (goes-watched f e d)
@@ -98,19 +110,19 @@ module _ (local : Bool) (es : List Edge) (ns : List Node) (p x : ℕ) (scope : �
   comes-watched (Comes.right i h) = let (e, d, g) = comes-watched h in (e, d, Comes.right i g)
   comes-watched (Comes.body i h) = let (e, d, g) = comes-watched h in (e, d, Comes.body i g)
   comes-watched (Comes.again i h) = let (e, d, g) = comes-watched h in (e, d, Comes.again i g)
-  comes-watched (Comes.created {n = n} {m = m} {b = b} {q₁ = q₁} {o = o} i MakesOne.other h v) =
-      let (e, d, g) = comes-watched h in (
-        forgets m e,
-        d,
+  comes-watched (Comes.created {n = n} {m = m} {b = b} {q₁ = q₁} {o = o} i y h v) =
+      let (e, d, g) = comes-watched h in
+      let a = another y d in (
+        a.meaning ∙ forgets m e,
+        a.left ∙ d,
         subst (λ (w : ℕ). Comes local es ns p (watching watched) (suc n) o b w false q₁) (forget-none m)
-            (Comes.created i MakesOne.other g (carry edges other-same v)),
+            (Comes.created i MakesOne.other g (new-moves a.new v)),
       )
-  comes-watched (Comes.created i MakesOne.own h v) = false-true (comes-watched h).1
   comes-watched (Comes.inside i h) = let (e, d, g) = comes-watched h in (e, d, Comes.inside i g)
 
   pub hits-watched : {n : ℕ} {last : Last} → Hits local es ns p (watching x) n last → Hits local es ns p (watching watched) n last
   hits-watched (Hits.at_static i h v f) = Hits.at_static i (comes-watched h).2 (carry edges (static-same i) v) f
   hits-watched (Hits.at_name i h v f) = let (e, d, g) = comes-watched h in Hits.at_name i g (name-moves i e v) f
-  hits-watched (Hits.at_fresh i MakesOne.other h v f) = Hits.at_fresh i MakesOne.other (comes-watched h).2 (carry edges other-same v) f
-  hits-watched (Hits.at_fresh i MakesOne.own h v f) = false-true (comes-watched h).1
+  hits-watched (Hits.at_fresh i y h v f) =
+      let (e, d, g) = comes-watched h in Hits.at_fresh i MakesOne.other g (new-moves (another y d).new v) f
   hits-watched (Hits.at_opening i h f) = Hits.at_opening i (comes-watched h).2 f

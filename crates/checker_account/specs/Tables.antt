@@ -6,10 +6,10 @@
 -- which tells the same of 17, the second one: 0 that it cannot be created and no name means it, 4 - n that name n means it, 5 that it can
 -- be; and 6 that it can be at the start and is created by the end. Of one resource that is not watched it is told that it cannot be created:
 -- where 17 is not watched, the group is 0, and an entry is a meaning of 16.
-use Rattle.std.specs.Prelude.{ℕ, zero, suc, ◌+◌, ◌-◌, ◌*◌, ◌/◌, ◌%◌, ◌^◌, Bool, true, false, not, ◌&&◌, ◌||◌, cond, List, [], ◌∷◌, eqb, ltb, get_or, set}
+use Rattle.std.specs.Prelude.{ℕ, zero, suc, ◌+◌, ◌-◌, ◌*◌, ◌/◌, ◌%◌, ◌^◌, Bool, true, false, not, ◌&&◌, ◌||◌, cond, List, [], ◌∷◌, eqb, get_or, set}
 use Rattle.std.proofs.Math.Option.{Option, none, some}
 use Rattle.std.specs.Int.Bits.{bit_or}
-use Rattle.usage.specs.Limits.{statics, create, states, most_nodes}
+use Rattle.usage.specs.Limits.{create, states, most_nodes}
 use Rattle.usage.specs.Outline.{Form, end, static_event, named_event, sequence, choice, loop, back, fresh, sandbox}
 use Rattle.automaton.specs.Mask.{has, union}
 use Rattle.checker_account.specs.Account.{watched, watched_too, others, Last, by_action, by_opening}

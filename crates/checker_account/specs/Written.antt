@@ -1,5 +1,5 @@
 -- A trace written down along the account: `Goes`, with the steps that are taken. Fresh resources are numbered 16, 17 and on.
-use Rattle.std.specs.Prelude.{ℕ, suc, ◌+◌, ◌≡◌, Bool, true, false, ◌||◌, List, ◌∷◌, eqb}
+use Rattle.std.specs.Prelude.{ℕ, suc, ◌+◌, ◌≡◌, Bool, true, ◌||◌, List, ◌∷◌, eqb}
 use Rattle.std.proofs.Math.Option.{Option, some}
 use Rattle.usage.specs.declared.Edge.{Edge}
 use Rattle.usage.specs.declared.Node.{Node}

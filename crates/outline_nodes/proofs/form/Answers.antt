@@ -1,7 +1,5 @@
 use mathlib.Core.Path.{sym, ◌∙◌}
 use Rattle.outline_nodes.proofs.SaidLaws.{form-at, form-past}
-use Rattle.outline_nodes.proofs.form.Reads as reads
-use Rattle.outline_nodes.proofs.form_of.Reads as form-of-reads
 use Rattle.outline_nodes.proofs.form.Goals as goal
 
 pub returns-then-nodes-k : goal.returns-then-nodes-k

@@ -1,6 +1,5 @@
 use mathlib.Core.Path.{sym}
 use Rattle.outline_nodes.proofs.SaidLaws.{form-by, no-form}
-use Rattle.outline_nodes.proofs.form_of.Reads as reads
 use Rattle.outline_nodes.proofs.form_of.Goals as goal
 
 pub returns-in-0 : goal.returns-in-0
@@ -33,6 +32,6 @@ returns-in-8 c = form-by c.args.n 8 c.in-8.is
 pub returns-in_default : goal.returns-in_default
 returns-in_default c =
     let f = c.args.n in
-    let n = c.in_default.in_default-own in
+    let n = c.in_default.in_default-own.rest in
     sym (no-form f.kind f.a f.b n.0.0.0.0.0.0.0.0.1 n.0.0.0.0.0.0.0.1 n.0.0.0.0.0.0.1
     n.0.0.0.0.0.1 n.0.0.0.0.1 n.0.0.0.1 n.0.0.1 n.0.1 n.1)
