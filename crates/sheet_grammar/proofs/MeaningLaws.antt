@@ -128,6 +128,7 @@ module _ (ns : List Node) where
   by-label : {loops : Loops} {around outer : List LabelledLoop} {l : ℕ} {t : Tree} → Numbers loops around → MeansLoop l around t outer
       → Meaning l loops t outer
   unfolding give
+  by-label {outer = outer} {l = l} {t = t} no_loop x4 = elim x4 [ ]
   by-label {l = l} (one_more {loops} {k = k} n a) MeansLoop.innermost =
       record { number = k; inner = _; is = rw (eq-eqb l l refl); numbers = n; stands = a }
   by-label {l = l} (one_more {l = m} n a) (MeansLoop.further x d) =
@@ -221,6 +222,7 @@ module _ (ns : List Node) where
   follows x (same (part (same-node n a) s)) (Advance.repeats i) = then-again n s a (standing a i) x
   follows x (same (part (same-node n a) s)) (Advance.creates i l o) = then-given n s (standing a i) x l o
   follows x (same (part (same-node n a) s)) (Advance.opens i) = then-opened n s (standing a i) x
+  follows {root = root} x (same {past = past} no_part) x15 = elim x15 [ ]
   follows x (same (part same-close s)) Advance.closes = follow (TreeRuns.moved x TreeAdvance.closes) (same s)
 
   -- ── A move of the tree's run ──
@@ -287,6 +289,7 @@ module _ (ns : List Node) where
   shows x (same (part (same-node n a) s)) (TreeAdvance.repeats m) = let z = found a in shown-again x n s z.stands z.is m
   shows x (same (part (same-node n a) s)) (TreeAdvance.creates l o) = let z = found a in shown-given x n s z.stands z.is l o
   shows x (same (part (same-node n a) s)) TreeAdvance.opens = let z = found a in shown-opened x n s z.stands z.is
+  shows x (same {past = past} no_part) x15 = elim x15 [ ]
   shows x (same (part same-close s)) TreeAdvance.closes = show (moved x Advance.closes) (same s)
 
 -- ── The traces ──
