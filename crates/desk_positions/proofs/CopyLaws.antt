@@ -4,14 +4,13 @@ use mathlib.Core.Path.{◌≡◌, refl, sym, ap, ap₂, ◌∙◌, subst}
 use mathlib.Core.List.{List, [], ◌∷◌, ◌++◌}
 use mathlib.Core.Logic.{◌⊎◌, inl, inr}
 use native.Mathlib.Omega.{arith}
-use native.Mathlib.Nat.{mul-suc, zero-add, add-zero}
+use native.Mathlib.Nat.{mul-suc, add-zero}
 use native.Mathlib.Numerals.{add-one}
 use native.Mathlib.Decide.{ℕ_discrete}
 use lib.ListN.{length, get_or, set, take, drop, length-set, length-drop, length-append, get_or-append}
-use lib.Seq.{get_or-set_same, get_or-set_other, ext_get_or, length-take-le, get_or-take, get_or-drop, get_or-append-add}
-use Rattle.usage.specs.Tables.{from}
+use lib.Seq.{get_or-set_same, get_or-set_other, length-take-le, get_or-take, get_or-drop, get_or-append-add}
 use Rattle.usage.proofs.Logic.{by_cases, last-or-lower}
-use Rattle.usage.proofs.TableLaws.{length_from, get_d-from, from-ext, is-from}
+use Rattle.usage.proofs.TableLaws.{from-ext, is-from}
 use Rattle.desk_positions.specs.Bytes.{Read, byte_at, word_at, wide_at, numbers_in, Got, Put}
 
 -- ── Places ──

@@ -1,10 +1,10 @@
 -- The positions that are listed are exactly the lists of parts that runs with the steps so far can hold, or a limit is exceeded.
-use Prim.Native.Nat.{ℕ, zero, suc, ◌+◌, ◌<◌, ◌≤◌}
+use Prim.Native.Nat.{ℕ, zero, suc, ◌<◌, ◌≤◌}
 use mathlib.Core.Path.{◌≡◌, refl, sym, ap, ap₂, ◌∙◌, subst, fun_ext}
-use mathlib.Core.Bool.{Bool, true, false, not, ◌&&◌, cond}
+use mathlib.Core.Bool.{Bool, true, false, not, ◌&&◌}
 use mathlib.Core.Option.{Option, none, some, some-injective}
 use mathlib.Core.List.Memᴰ
-use mathlib.Core.List.{List, [], ◌∷◌, ◌++◌, map, Memᴰ}
+use mathlib.Core.List.{List, [], ◌∷◌, map, Memᴰ}
 use mathlib.Core.Logic.{◌⊎◌, inl, inr}
 use native.Mathlib.Omega.{arith}
 use lib.Dec.{eqb, leb}
@@ -13,19 +13,18 @@ use lib.Seq.{get_or-set_same, get_or-set_other, ext_get_or}
 use borrow.Author.Tests.{eq-eqb, ne_eqb, eqb-true, eqb-false, leb-true, leb-false, le-leb}
 use Rattle.usage.specs.declared.Node.{Node}
 use Rattle.usage.specs.Limits.{statics, create, most_names}
-use Rattle.usage.specs.Past.{Step, event, opening, closing, retiring, Past, Occurs}
+use Rattle.usage.specs.Past.{Step, event, opening, closing, retiring, Past}
 use Rattle.usage.specs.Outline.{Form, end, static_event, named_event, sequence, choice, loop, back, fresh, sandbox, form_at, Is}
 use Rattle.usage.specs.Outline.{Names, no_names, give, Part, node, close, Run, start_run, Runs, started, moved, IsTrace}
 use Rattle.usage.specs.Outline as outline
 use Rattle.usage.specs.Tests.{Decides}
 use Rattle.usage.specs.Valid.{OutlineOk}
-use Rattle.usage.proofs.Logic.{by_cases, clash, none-some, false-true, not-both, and_left, and_right, and_both}
+use Rattle.usage.proofs.Logic.{by_cases, clash, none-some, false-true, and_left, and_right, and_both}
 use Rattle.usage.proofs.FormLaws.{form-ok}
 use Rattle.usage.proofs.TraceLaws.{give-same, give-other}
-use Rattle.desk_positions.specs.Closure.{Different, reached}
 use Rattle.desk_positions.specs.Positions.{most_positions, most_parts, Held, Exceeds, too_many, too_long, Meanings, meaning_of, names_in}
 use Rattle.desk_positions.specs.Positions.{nothing_meant, Item, at, shut, Position, part_of, parts_of, ItemOk, PositionOk, same_meanings}
-use Rattle.desk_positions.specs.Positions.{same_item, same_position, silent_by, silent_next, on_event, on_opening, on_closing, if, means}
+use Rattle.desk_positions.specs.Positions.{same_item, same_position, silent_by, silent_next, on_closing, if, means}
 use Rattle.desk_positions.specs.Positions.{stride_by, stride_next, Fresh, short, stride_all, settled_from, start_position, start_positions}
 use Rattle.desk_positions.specs.Positions.{next_positions, Lists, Told}
 use Rattle.desk_positions.proofs.ClosureLaws.{at_most, different-map, All, Beyond, many, large, Spreads, reached-is}

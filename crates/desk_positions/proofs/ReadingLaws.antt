@@ -1,9 +1,9 @@
 -- Rows that are read: one that passes is the row of the position that is read from it, and the row of a position passes and tells it.
-use Prim.Native.Nat.{ℕ, zero, suc, ◌+◌, ◌-◌, ◌*◌, ◌/◌, ◌%◌, ◌<◌, ◌≤◌}
+use Prim.Native.Nat.{ℕ, zero, suc, ◌+◌, ◌-◌, ◌/◌, ◌%◌, ◌<◌, ◌≤◌}
 use mathlib.Core.Path.{◌≡◌, refl, sym, ap, ap₂, ◌∙◌, subst}
 use mathlib.Core.Bool.{Bool, true, false, ◌&&◌, cond}
-use mathlib.Core.Option.{Option, some, some-injective}
-use mathlib.Core.List.{List, [], ◌∷◌, map, Memᴰ}
+use mathlib.Core.Option.{some, some-injective}
+use mathlib.Core.List.{List, [], ◌∷◌, map}
 use mathlib.Core.Logic.{◌⊎◌, inl, inr}
 use native.Mathlib.Omega.{arith}
 use native.Mathlib.Nat.{zero-add}
@@ -13,13 +13,13 @@ use lib.Dec.{lit<, leb, ltb}
 use lib.ListN.{length, get_or, get_elem?}
 use lib.Seq.{ext_get_or}
 use borrow.Author.Tests.{ltb-true, ltb-false, lt-ltb, le-ltb, leb-true, le-leb}
-use Rattle.usage.specs.Limits.{most_nodes, most_names}
+use Rattle.usage.specs.Limits.{most_nodes}
 use Rattle.usage.specs.Tables.{from}
 use Rattle.usage.proofs.Logic.{and_left, and_right, and_both, none-some, last-or-lower}
 use Rattle.usage.proofs.TableLaws.{length_from, from-ext, member-from, is-from}
 use Rattle.desk_positions.specs.Positions.{most_positions, most_parts, Item, at, shut, Position, same_meanings}
-use Rattle.desk_positions.specs.Rows.{row_width, table_bytes, base, part_code, meant_in, pushed, row_of, row_in, rows_in, Coded, AllCoded}
-use Rattle.desk_positions.specs.Growth.{Fine, Tabled, Settles}
+use Rattle.desk_positions.specs.Rows.{row_width, base, part_code, meant_in, pushed, row_of, row_in, Coded, AllCoded}
+use Rattle.desk_positions.specs.Growth.{Fine, Tabled}
 use Rattle.desk_positions.specs.Reading.{item_in, parts_in, position_in, PartFits, ZerosFrom, row_ok, rows_ok_lem, positions_in}
 use Rattle.desk_positions.proofs.RowLaws.{cell, length-row, row-depth, row-behind, row-top, row_under}
 use Rattle.desk_positions.proofs.PositionLaws.{same-meanings}
@@ -176,8 +176,15 @@ item-fits row j f m k e q = go (ltb (get_or row (base j) 0) most_nodes) refl k e
 -- a closing is written without meanings
 item-closing : (row : List ℕ) (j : ℕ) → most_nodes ≤ get_or row (base j) 0 → (k : ℕ) → k < 4
     → cell (part_code (item_in row j)) (meant_in (item_in row j) 0) (meant_in (item_in row j) 1) (meant_in (item_in row j) 2) (meant_in (item_in row j) 3) (suc k) ≡ 0
-item-closing row j h k q = rw (le-ltb (get_or row (base j) 0) most_nodes h) (go k q)
+item-closing row j h k q =
+    subst (λ (b : Bool). cell (part_code (item b)) (meant_in (item b) 0) (meant_in (item b) 1) (meant_in (item b) 2) (meant_in (item b) 3) (suc k) ≡ 0)
+    (sym (le-ltb (get_or row (base j) 0) most_nodes h)) (go k q)
   where
+    item : Bool → Item
+    item b = cond b
+        (at (get_or row (base j) 0) (get_or row (base j + 1) 0 ∷ get_or row (base j + 2) 0 ∷ get_or row (base j + 3) 0 ∷ get_or row (base j + 4) 0 ∷ []))
+        (shut (get_or row (base j) 0 - most_nodes))
+
     go : (k : ℕ) → k < 4 → cell (most_nodes + (get_or row (base j) 0 - most_nodes)) 0 0 0 0 (suc k) ≡ 0
     go zero q = refl
     go (suc zero) q = refl

@@ -1,10 +1,8 @@
 -- Where a step leads, by its kind and by what is on top.
-use Prim.Native.Nat.{ℕ, zero, suc, ◌+◌, ◌-◌, ◌/◌, ◌<◌, ◌≤◌}
-use mathlib.Core.Path.{◌≡◌, refl, sym, ap, ap₂, ◌∙◌, subst}
+use Prim.Native.Nat.{ℕ, zero, suc, ◌+◌, ◌/◌, ◌<◌, ◌≤◌}
+use mathlib.Core.Path.{◌≡◌, refl, sym, ap, ◌∙◌, subst}
 use mathlib.Core.Option.{Option, none, some}
 use mathlib.Core.List.{List, [], ◌∷◌}
-use native.Mathlib.Omega.{arith}
-use lib.Dec.{eqb}
 use lib.ListN.{length, get_or, get_elem?}
 use borrow.Author.Tests.{eq-eqb, ne_eqb}
 use Rattle.usage.specs.declared.Node.{Node}
@@ -13,11 +11,11 @@ use Rattle.usage.specs.Past.{Step, event, opening, closing, retiring}
 use Rattle.usage.specs.Outline.{Form, end, static_event, named_event, sequence, choice, loop, back, fresh, sandbox, node_kinds, form_of}
 use Rattle.usage.specs.Tables.{node_at_lem, nodes_of}
 use Rattle.desk_positions.specs.Closure.{added_all}
-use Rattle.desk_positions.specs.Positions.{Meanings, Item, at, shut, Position, same_position, if, stride_by, stride_next}
+use Rattle.desk_positions.specs.Positions.{Meanings, shut, Position, same_position, if, stride_by, stride_next}
 use Rattle.desk_positions.specs.Rows.{base, row_of}
 use Rattle.desk_positions.specs.Growth.{Fine, Tabled, Grown, OnTop, step_from}
 use Rattle.desk_positions.proofs.GrowthLaws.{none-grown}
-use Rattle.desk_positions.proofs.TopLaws.{NodeOn, ClosingOn, empty-is, node-on, closing-on, node-form, no-form}
+use Rattle.desk_positions.proofs.TopLaws.{empty-is, node-on, closing-on, node-form, no-form}
 
 module _ (f : Node) (l : Meanings) (rest : Position) where
   event-others : (k a r : ℕ) → (k ≡ 1 → ⊥) → (k ≡ 2 → ⊥) → (k ≡ 7 → ⊥)

@@ -1,6 +1,6 @@
 -- A table of rows that holds a list of positions, while positions are added to it.
 use Rattle.std.specs.Prelude.{ℕ, zero, suc, ◌<◌, ◌≤◌, ◌≡◌, false, ◌⊎◌, length}
-use mathlib.Core.List.{List, [], ◌∷◌, map, Memᴰ}
+use mathlib.Core.List.{List, ◌∷◌, map, Memᴰ}
 use Rattle.std.proofs.Math.Option.{Option, none, some}
 use Rattle.usage.specs.Past.{Step, event, opening, closing, retiring}
 use Rattle.desk_positions.specs.Closure.{in_limits}

@@ -5,8 +5,8 @@ use mathlib.Core.List.{List, [], ◌∷◌, ◌++◌, map, Memᴰ}
 use Rattle.usage.specs.declared.Node.{Node}
 use Rattle.usage.specs.Limits.{statics, create, most_names}
 use Rattle.usage.specs.Past.{Step, event, opening, closing, retiring, Past, Occurs}
-use Rattle.usage.specs.Outline.{Form, end, static_event, named_event, sequence, choice, loop, back, fresh, sandbox, form_at, Is}
-use Rattle.usage.specs.Outline.{Names, Part, node, close, Run, Runs}
+use Rattle.usage.specs.Outline.{Form, end, static_event, named_event, sequence, choice, loop, back, fresh, sandbox, form_at}
+use Rattle.usage.specs.Outline.{Names, Part, node, close, Runs}
 use Rattle.desk_positions.specs.Closure.{Different, reached}
 
 -- ── The papers' positions ──

@@ -1,10 +1,6 @@
 use Rattle.usage.proofs.Logic.{by_cases}
 use native.Mathlib.Omega.{arith}
-use mathlib.Core.Path.{◌≡◌, refl, sym, ap, ◌∙◌}
-use Prim.Native.Nat.{ℕ, suc, ◌+◌, ◌-◌, ◌≤◌, ◌<◌}
-use lib.ListN.{length, get_or, take, drop, set}
-use Rattle.desk_positions.proofs.leads.Reads as reads
-use Rattle.desk_positions.proofs.strides.leads_from.Reads as leads-from-reads
+use mathlib.Core.Path.{refl}
 use Rattle.desk_positions.proofs.leads.Goals as goal
 
 -- src/lib.rt:617:9

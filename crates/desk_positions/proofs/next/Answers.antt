@@ -7,12 +7,8 @@ use Rattle.desk_positions.specs.Positions.{most_positions, same_position, stride
 use Rattle.desk_positions.specs.Growth.{Settles, step_from}
 use Rattle.desk_positions.proofs.NextLaws.{next-settles, next-beyond, grown_tabled}
 use native.Mathlib.Omega.{arith}
-use mathlib.Core.Path.{◌≡◌, refl, sym, ap, ◌∙◌}
-use Prim.Native.Nat.{ℕ, suc, ◌+◌, ◌-◌, ◌≤◌, ◌<◌}
-use lib.ListN.{length, get_or, take, drop, set}
-use Rattle.desk_positions.proofs.next.Reads as reads
-use Rattle.desk_positions.proofs.strides.collect.Reads as collect-reads
-use Rattle.desk_positions.proofs.silent.spread.Reads as spread-reads
+use mathlib.Core.Path.{◌≡◌, refl}
+use Prim.Native.Nat.{ℕ, suc}
 use Rattle.desk_positions.proofs.next.Goals as goal
 
 -- src/lib.rt:634:9
@@ -30,8 +26,12 @@ returns-then-m-gt-MOST_POSITIONS c =
     let s = c.collect-m in
     let ns = nodes_of a.nodes.now in
     let step = step_from a.kind a.a a.b in
-    let e : suc most_positions ≡ s.result = let k = s.ensures.rows_counted.1 in let q = c.if-m-gt-MOST_POSITIONS.true in omega arith in record { settles = λ ls ok l w. subst (λ (m : ℕ). Settles (next_positions ns step ls) m s.new.1.0) e
-          (next-beyond ns step ls (s.ensures.grown ls ok w) c.if-m-gt-MOST_POSITIONS.true); upper_bound = s.ensures.rows_counted.1; nothing_written = λ o. absurd (by_cases o (λ d. d c.if-t-ne-ROWS.false) (λ d. let k = c.if-n-gt-MOST_POSITIONS.false in omega arith)) }
+    let e : suc most_positions ≡ s.result = let k = s.ensures.rows_counted.1 in let q = c.if-m-gt-MOST_POSITIONS.true in omega arith in record {
+      settles = λ ls ok l w. subst (λ (m : ℕ). Settles (next_positions ns step ls) m s.new.t) e
+          (next-beyond ns step ls (s.ensures.grown ls ok w) c.if-m-gt-MOST_POSITIONS.true);
+      upper_bound = s.ensures.rows_counted.1;
+      nothing_written = λ o. absurd (by_cases o (λ d. d c.if-t-ne-ROWS.false) (λ d. let k = c.if-n-gt-MOST_POSITIONS.false in omega arith));
+    }
 
 -- src/lib.rt:627:1
 pub returns : goal.returns
@@ -40,6 +40,10 @@ returns c =
     let s = c.collect-m in
     let p = c.spread in
     let ns = nodes_of a.nodes.now in
-    let step = step_from a.kind a.a a.b in record { settles = λ ls ok l w. next-settles ns step ls p.result p.new.1.0
+    let step = step_from a.kind a.a a.b in record {
+      settles = λ ls ok l w. next-settles ns step ls p.result p.new.t
           (p.ensures.settles (added_all same_position [] (stride_all ns step ls)) ok
-          (grown_tabled ns step (s.ensures.grown ls ok w) c.if-m-gt-MOST_POSITIONS.false)); upper_bound = p.ensures.rows_counted.1; nothing_written = λ o. absurd (by_cases o (λ d. d c.if-t-ne-ROWS.false) (λ d. let k = c.if-n-gt-MOST_POSITIONS.false in omega arith)) }
+          (grown_tabled ns step (s.ensures.grown ls ok w) c.if-m-gt-MOST_POSITIONS.false));
+      upper_bound = p.ensures.rows_counted.1;
+      nothing_written = λ o. absurd (by_cases o (λ d. d c.if-t-ne-ROWS.false) (λ d. let k = c.if-n-gt-MOST_POSITIONS.false in omega arith));
+    }

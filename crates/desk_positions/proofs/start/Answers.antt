@@ -4,13 +4,8 @@ use Rattle.usage.proofs.Logic.{by_cases}
 use Rattle.desk_positions.specs.Positions.{start_position}
 use Rattle.desk_positions.proofs.NextLaws.{start-tabled, start-settles}
 use native.Mathlib.Omega.{arith}
-use mathlib.Core.Path.{◌≡◌, refl, sym, ap, ◌∙◌}
-use Prim.Native.Nat.{ℕ, suc, ◌+◌, ◌-◌, ◌≤◌, ◌<◌}
-use lib.ListN.{length, get_or, take, drop, set}
-use Rattle.desk_positions.proofs.start.Reads as reads
-use Rattle.desk_positions.proofs.rows.push.Reads as push-reads
-use Rattle.desk_positions.proofs.silent.spread.Reads as spread-reads
-use Rattle.desk_positions.proofs.rows.store.Reads as store-reads
+use mathlib.Core.Path.{◌≡◌, refl}
+use lib.ListN.{length}
 use borrow.Author.Rules.{rules}
 use Rattle.desk_positions.proofs.start.Goals as goal
 
@@ -24,6 +19,10 @@ returns c =
     let a = c.args in
     let p = c.push-r in
     let s = c.store in
-    let k : length p.result.cells ≡ 81 = search rules in record { settles = λ ok l. start-settles (nodes_of a.nodes.now) c.spread.result c.spread.new.1.0
+    let k : length p.result.cells ≡ 81 = search rules in record {
+      settles = λ ok l. start-settles (nodes_of a.nodes.now) c.spread.result c.spread.new.t
           (c.spread.ensures.settles (start_position ∷ []) ok
-          (start-tabled a.t.now p.result.cells s.new.t k p.ensures s.ensures)); upper_bound = c.spread.ensures.rows_counted.1; nothing_written = λ o. absurd (by_cases o (λ d. d c.if-t-ne-ROWS.false) (λ d. omega arith)) }
+          (start-tabled a.t.now p.result.cells s.new.t k p.ensures s.ensures));
+      upper_bound = c.spread.ensures.rows_counted.1;
+      nothing_written = λ o. absurd (by_cases o (λ d. d c.if-t-ne-ROWS.false) (λ d. omega arith));
+    }

@@ -1,10 +1,5 @@
 use Rattle.desk_positions.proofs.CellLaws.{row-cell}
-use native.Mathlib.Omega.{arith}
-use mathlib.Core.Path.{◌≡◌, refl, sym, ap, ◌∙◌}
-use Prim.Native.Nat.{ℕ, suc, ◌+◌, ◌-◌, ◌≤◌, ◌<◌}
-use lib.ListN.{length, get_or, take, drop, set}
-use Rattle.desk_positions.proofs.reading.cell.Reads as reads
-use Rattle.desk_positions.proofs.bytes.word.Reads as word-reads
+use mathlib.Core.Path.{sym, ◌∙◌}
 use Rattle.desk_positions.proofs.reading.cell.Goals as goal
 
 -- src/reading.rt:17:1

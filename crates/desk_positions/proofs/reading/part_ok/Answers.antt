@@ -1,14 +1,11 @@
 use Prim.Native.Nat.{◌*◌}
-use borrow.Author.Tests.{eqb-true, eqb-false, eq-eqb}
+use borrow.Author.Tests.{eqb-true, eqb-false}
 use Rattle.usage.proofs.Logic.{false-true}
 use Rattle.desk_positions.specs.Rows.{row_in}
 use Rattle.desk_positions.proofs.ReadingLaws.{part-fits, part-misfits}
 use native.Mathlib.Omega.{arith}
-use mathlib.Core.Path.{◌≡◌, refl, sym, ap, ◌∙◌}
-use Prim.Native.Nat.{ℕ, suc, ◌+◌, ◌-◌, ◌≤◌, ◌<◌}
-use lib.ListN.{length, get_or, take, drop, set}
-use Rattle.desk_positions.proofs.reading.part_ok.Reads as reads
-use Rattle.desk_positions.proofs.reading.cell.Reads as cell-reads
+use mathlib.Core.Path.{sym, ◌∙◌}
+use Prim.Native.Nat.{◌+◌}
 use Rattle.desk_positions.proofs.reading.part_ok.Goals as goal
 
 -- src/reading.rt:34:9
@@ -48,6 +45,9 @@ returns c =
     let a = c.args in
     let row = row_in a.t.now a.i in
     let e = c.cell.ensures in
-    let h = c.if-cell.false in record { part_fits = λ z. part-fits row a.j (sym c.cell-2.ensures ∙ c.if-cell-ne0.false) (sym c.cell-3.ensures ∙ c.if-cell-ne0-2.false)
-          (sym c.cell-4.ensures ∙ c.if-cell-ne0-3.false) (sym c.cell-5.ensures ∙ eqb-true c.cell-5.result 0 z); fact = λ z f. part-misfits row a.j 3 (1 + 5 * a.j + 4) (omega arith) (omega arith) (omega (arith, e, h))
-          (λ q. eqb-false c.cell-5.result 0 z (c.cell-5.ensures ∙ q)) f }
+    let h = c.if-cell.false in record {
+      part_fits = λ z. part-fits row a.j (sym c.cell-2.ensures ∙ c.if-cell-ne0.false) (sym c.cell-3.ensures ∙ c.if-cell-ne0-2.false)
+          (sym c.cell-4.ensures ∙ c.if-cell-ne0-3.false) (sym c.cell-5.ensures ∙ eqb-true c.cell-5.result 0 z);
+      fact = λ z f. part-misfits row a.j 3 (1 + 5 * a.j + 4) (omega arith) (omega arith) (omega (arith, e, h))
+          (λ q. eqb-false c.cell-5.result 0 z (c.cell-5.ensures ∙ q)) f;
+    }

@@ -1,13 +1,6 @@
-use Rattle.usage.proofs.Logic.{false-true, not-true, not-false}
 use Rattle.desk_positions.specs.Rows.{row_in}
 use Rattle.desk_positions.specs.Reading.{PartFits}
-use Rattle.desk_positions.proofs.ReadingLaws.{parts_more}
-use native.Mathlib.Omega.{arith}
-use mathlib.Core.Path.{◌≡◌, refl, sym, ap, ◌∙◌}
-use Prim.Native.Nat.{ℕ, suc, ◌+◌, ◌-◌, ◌≤◌, ◌<◌}
-use lib.ListN.{length, get_or, take, drop, set}
-use Rattle.desk_positions.proofs.reading.parts_ok.Reads as reads
-use Rattle.desk_positions.proofs.reading.part_ok.Reads as part-ok-reads
+use Prim.Native.Nat.{ℕ, ◌-◌, ◌≤◌, ◌<◌}
 use Rattle.desk_positions.proofs.reading.parts_ok.Given as goal
 
 abbrev pub invariant-loop-j : goal.invariant-loop-j

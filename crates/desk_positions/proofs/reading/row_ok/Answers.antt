@@ -5,14 +5,8 @@ use Rattle.desk_positions.specs.Rows.{row_in}
 use Rattle.desk_positions.specs.Reading.{row_ok}
 use Rattle.desk_positions.proofs.CellLaws.{length-row_in}
 use Rattle.desk_positions.proofs.ReadingLaws.{part-fails, row-decided}
-use native.Mathlib.Omega.{arith}
-use mathlib.Core.Path.{◌≡◌, refl, sym, ap, ◌∙◌}
-use Prim.Native.Nat.{ℕ, suc, ◌+◌, ◌-◌, ◌≤◌, ◌<◌}
-use lib.ListN.{length, get_or, take, drop, set}
-use Rattle.desk_positions.proofs.reading.row_ok.Reads as reads
-use Rattle.desk_positions.proofs.reading.cell.Reads as cell-reads
-use Rattle.desk_positions.proofs.reading.parts_ok.Reads as parts-ok-reads
-use Rattle.desk_positions.proofs.reading.zeros_from.Reads as zeros-from-reads
+use Prim.Native.Nat.{◌<◌}
+use lib.ListN.{get_or}
 use Rattle.desk_positions.proofs.reading.row_ok.Goals as goal
 
 -- src/reading.rt:88:9

@@ -1,12 +1,7 @@
-use Rattle.usage.proofs.Logic.{false-true}
 use Rattle.desk_positions.specs.Rows.{row_width, row_in}
-use Rattle.desk_positions.proofs.ReadingLaws.{zeros-more}
-use native.Mathlib.Omega.{arith}
-use mathlib.Core.Path.{◌≡◌, refl, sym, ap, ◌∙◌}
-use Prim.Native.Nat.{ℕ, suc, ◌+◌, ◌-◌, ◌≤◌, ◌<◌}
-use lib.ListN.{length, get_or, take, drop, set}
-use Rattle.desk_positions.proofs.reading.zeros_from.Reads as reads
-use Rattle.desk_positions.proofs.reading.cell.Reads as cell-reads
+use mathlib.Core.Path.{◌≡◌}
+use Prim.Native.Nat.{ℕ, ◌-◌, ◌≤◌, ◌<◌}
+use lib.ListN.{get_or}
 use Rattle.desk_positions.proofs.reading.zeros_from.Given as goal
 
 abbrev pub invariant-loop-k : goal.invariant-loop-k

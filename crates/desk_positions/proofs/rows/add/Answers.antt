@@ -1,12 +1,8 @@
 use Rattle.desk_positions.specs.Rows.{known, no_room, new}
 use Rattle.desk_positions.proofs.CellLaws.{written-rows, written-other}
 use native.Mathlib.Omega.{arith}
-use mathlib.Core.Path.{◌≡◌, refl, sym, ap, ◌∙◌}
-use Prim.Native.Nat.{ℕ, suc, ◌+◌, ◌-◌, ◌≤◌, ◌<◌}
-use lib.ListN.{length, get_or, take, drop, set}
-use Rattle.desk_positions.proofs.rows.add.Reads as reads
-use Rattle.desk_positions.proofs.rows.find.Reads as find-reads
-use Rattle.desk_positions.proofs.rows.store.Reads as store-reads
+use mathlib.Core.Path.{◌≡◌, refl, sym, ◌∙◌}
+use lib.ListN.{length}
 use borrow.Author.Rules.{rules}
 use Rattle.desk_positions.proofs.rows.add.Goals as goal
 

@@ -1,15 +1,6 @@
-use mathlib.Core.Bool.{false}
-use Rattle.desk_positions.specs.Closure.{member}
-use Rattle.desk_positions.specs.Positions.{same_meanings}
-use Rattle.desk_positions.specs.Rows.{rows_in}
 use Rattle.desk_positions.proofs.CellLaws.{member-none, member-more, member-found}
 use native.Mathlib.Omega.{arith}
-use mathlib.Core.Path.{◌≡◌, refl, sym, ap, ◌∙◌}
-use Prim.Native.Nat.{ℕ, suc, ◌+◌, ◌-◌, ◌≤◌, ◌<◌}
-use lib.ListN.{length, get_or, take, drop, set}
-use Rattle.desk_positions.proofs.rows.find.Reads as reads
-use Rattle.desk_positions.proofs.rows.same.Reads as same_Reads
-use Rattle.desk_positions.proofs.rows.top_of.Reads as top-of-reads
+use mathlib.Core.Path.{◌≡◌, sym, ◌∙◌}
 use borrow.Author.Rules.{rules}
 use Rattle.desk_positions.proofs.rows.find.Goals as goal
 

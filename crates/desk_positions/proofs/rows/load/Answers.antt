@@ -4,11 +4,9 @@ use Rattle.desk_positions.specs.Rows.{row_width, row_bytes}
 use Rattle.desk_positions.proofs.CellLaws.{row_is, cells-more}
 use lib.ListN.{length-set}
 use native.Mathlib.Omega.{arith}
-use mathlib.Core.Path.{◌≡◌, refl, sym, ap, ◌∙◌}
-use Prim.Native.Nat.{ℕ, suc, ◌+◌, ◌-◌, ◌≤◌, ◌<◌}
-use lib.ListN.{length, get_or, take, drop, set}
-use Rattle.desk_positions.proofs.rows.load.Reads as reads
-use Rattle.desk_positions.proofs.bytes.word.Reads as word-reads
+use mathlib.Core.Path.{◌≡◌, ◌∙◌}
+use Prim.Native.Nat.{◌+◌}
+use lib.ListN.{length}
 use borrow.Author.Rules.{rules}
 use Rattle.desk_positions.proofs.rows.load.Goals as goal
 

@@ -1,14 +1,9 @@
 use Prim.Native.Nat.{◌*◌}
 use Rattle.desk_positions.specs.Bytes.{word_at}
 use Rattle.desk_positions.specs.Rows.{row_width, row_bytes}
-use Rattle.desk_positions.proofs.CellLaws.{row_is, cells-more}
-use lib.ListN.{length-set}
-use native.Mathlib.Omega.{arith}
-use mathlib.Core.Path.{◌≡◌, refl, sym, ap, ◌∙◌}
-use Prim.Native.Nat.{ℕ, suc, ◌+◌, ◌-◌, ◌≤◌, ◌<◌}
-use lib.ListN.{length, get_or, take, drop, set}
-use Rattle.desk_positions.proofs.rows.load.Reads as reads
-use Rattle.desk_positions.proofs.bytes.word.Reads as word-reads
+use mathlib.Core.Path.{◌≡◌}
+use Prim.Native.Nat.{ℕ, ◌+◌, ◌-◌, ◌≤◌, ◌<◌}
+use lib.ListN.{length, get_or}
 use Rattle.desk_positions.proofs.rows.load.Given as goal
 
 abbrev pub invariant-loop-j : goal.invariant-loop-j

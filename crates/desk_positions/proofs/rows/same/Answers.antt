@@ -1,13 +1,11 @@
 use Prim.Native.Nat.{◌*◌}
 use Rattle.desk_positions.specs.Bytes.{word_at}
-use Rattle.desk_positions.specs.Rows.{row_width, row_bytes}
+use Rattle.desk_positions.specs.Rows.{row_bytes}
 use Rattle.desk_positions.proofs.CellLaws.{differ, agree, pass-more}
 use native.Mathlib.Omega.{arith}
-use mathlib.Core.Path.{◌≡◌, refl, sym, ap, ◌∙◌}
-use Prim.Native.Nat.{ℕ, suc, ◌+◌, ◌-◌, ◌≤◌, ◌<◌}
-use lib.ListN.{length, get_or, take, drop, set}
-use Rattle.desk_positions.proofs.rows.same.Reads as reads
-use Rattle.desk_positions.proofs.bytes.word.Reads as word-reads
+use mathlib.Core.Path.{sym, ◌∙◌}
+use Prim.Native.Nat.{◌+◌}
+use lib.ListN.{get_or}
 use borrow.Author.Rules.{rules}
 use Rattle.desk_positions.proofs.rows.same.Goals as goal
 

@@ -4,11 +4,9 @@ use Rattle.desk_positions.specs.Rows.{row_width, row_bytes}
 use Rattle.desk_positions.proofs.CopyLaws.{words-local, put-none, put_next}
 use mathlib.Core.Path.{subst}
 use native.Mathlib.Omega.{arith}
-use mathlib.Core.Path.{◌≡◌, refl, sym, ap, ◌∙◌}
-use Prim.Native.Nat.{ℕ, suc, ◌+◌, ◌-◌, ◌≤◌, ◌<◌}
-use lib.ListN.{length, get_or, take, drop, set}
-use Rattle.desk_positions.proofs.rows.store.Reads as reads
-use Rattle.desk_positions.proofs.bytes.put_word.Reads as put-word-reads
+use mathlib.Core.Path.{◌≡◌, refl}
+use Prim.Native.Nat.{ℕ}
+use lib.ListN.{get_or}
 use borrow.Author.Rules.{rules}
 use Rattle.desk_positions.proofs.rows.store.Goals as goal
 

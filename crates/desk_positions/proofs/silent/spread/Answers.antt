@@ -1,17 +1,7 @@
-use mathlib.Core.List.{List}
-use Rattle.usage.specs.Valid.{OutlineOk}
 use Rattle.usage.specs.Tables.{nodes_of}
-use Rattle.desk_positions.specs.Positions.{most_positions, Position}
-use Rattle.desk_positions.specs.Rows.{table_bytes}
-use Rattle.desk_positions.specs.Growth.{Tabled}
-use Rattle.desk_positions.proofs.SettleLaws.{Here, here, Under, under-start, settled, under_next, under-beyond}
+use Rattle.desk_positions.proofs.SettleLaws.{here, under-start, settled, under_next, under-beyond}
 use native.Mathlib.Omega.{arith}
-use mathlib.Core.Path.{◌≡◌, refl, sym, ap, ◌∙◌}
-use Prim.Native.Nat.{ℕ, suc, ◌+◌, ◌-◌, ◌≤◌, ◌<◌}
-use lib.ListN.{length, get_or, take, drop, set}
-use Rattle.desk_positions.proofs.silent.spread.Reads as reads
-use Rattle.desk_positions.proofs.rows.load.Reads as load-reads
-use Rattle.desk_positions.proofs.silent.silent.Reads as silent-reads
+use mathlib.Core.Path.{◌∙◌}
 use borrow.Author.Rules.{rules}
 use Rattle.desk_positions.proofs.silent.spread.Goals as goal
 
@@ -31,7 +21,8 @@ loop-i-init c = (
 
 -- src/lib.rt:355:13
 pub returns-then-m-gt-MOST_POSITIONS : goal.returns-then-m-gt-MOST_POSITIONS
-returns-then-m-gt-MOST_POSITIONS c = record { settles = λ ls ok w.
+returns-then-m-gt-MOST_POSITIONS c = record {
+  settles = λ ls ok w.
       let a = c.args in
       let t = c.loop-i in
       let h = c.loop-i-test.true in
@@ -39,7 +30,9 @@ returns-then-m-gt-MOST_POSITIONS c = record { settles = λ ls ok w.
       let u = t.invariant.1.1.1 ls ok w in
       let x = here u.table t.i h in
       let g = c.silent-m.ensures.grown x.position u.list ok x.fine (c.load-r.ensures ∙ x.row) u.table in
-      under-beyond ns ls t.i t.m t.t u h g c.if-m-gt-MOST_POSITIONS.true; rows_counted = (c.silent-m.ensures.t_len_2, omega arith) }
+      under-beyond ns ls t.i t.m t.t u h g c.if-m-gt-MOST_POSITIONS.true;
+  rows_counted = (c.silent-m.ensures.t_len_2, omega arith);
+}
 
 -- src/lib.rt:351:5
 pub loop-i-preserved : goal.loop-i-preserved
@@ -65,5 +58,8 @@ loop-i-preserved c =
 -- src/lib.rt:341:1
 pub returns : goal.returns
 returns c =
-    let t = c.loop-i in record { settles = λ ls ok w. settled (nodes_of c.args.nodes.now) ls t.i t.m t.t (t.invariant.1.1.1 ls ok w) t.invariant.0
-          c.loop-i-test.false; rows_counted = (t.invariant.1.1.0, (let k = t.invariant.1.0 in omega arith)) }
+    let t = c.loop-i in record {
+      settles = λ ls ok w. settled (nodes_of c.args.nodes.now) ls t.i t.m t.t (t.invariant.1.1.1 ls ok w) t.invariant.0
+          c.loop-i-test.false;
+      rows_counted = (t.invariant.1.1.0, (let k = t.invariant.1.0 in omega arith));
+    }

@@ -4,14 +4,10 @@ use Rattle.usage.specs.Tables.{nodes_of}
 use Rattle.desk_positions.specs.Positions.{most_positions, Position}
 use Rattle.desk_positions.specs.Rows.{table_bytes}
 use Rattle.desk_positions.specs.Growth.{Tabled}
-use Rattle.desk_positions.proofs.SettleLaws.{Here, here, Under, under-start, settled, under_next, under-beyond}
-use native.Mathlib.Omega.{arith}
-use mathlib.Core.Path.{◌≡◌, refl, sym, ap, ◌∙◌}
-use Prim.Native.Nat.{ℕ, suc, ◌+◌, ◌-◌, ◌≤◌, ◌<◌}
-use lib.ListN.{length, get_or, take, drop, set}
-use Rattle.desk_positions.proofs.silent.spread.Reads as reads
-use Rattle.desk_positions.proofs.rows.load.Reads as load-reads
-use Rattle.desk_positions.proofs.silent.silent.Reads as silent-reads
+use Rattle.desk_positions.proofs.SettleLaws.{Under}
+use mathlib.Core.Path.{◌≡◌}
+use Prim.Native.Nat.{◌-◌, ◌≤◌}
+use lib.ListN.{length}
 use Rattle.desk_positions.proofs.silent.spread.Given as goal
 
 abbrev pub invariant-loop-i : goal.invariant-loop-i

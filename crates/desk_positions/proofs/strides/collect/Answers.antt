@@ -1,19 +1,11 @@
-use mathlib.Core.List.{List}
-use Rattle.usage.specs.Valid.{OutlineOk}
 use Rattle.usage.specs.Tables.{nodes_of}
 use Rattle.usage.proofs.Logic.{by_cases}
-use Rattle.desk_positions.specs.Positions.{most_positions, Position}
-use Rattle.desk_positions.specs.Rows.{table_bytes, row_in}
-use Rattle.desk_positions.specs.Growth.{Tabled, step_from}
-use Rattle.desk_positions.proofs.SettleLaws.{Here, here}
+use Rattle.desk_positions.specs.Growth.{step_from}
+use Rattle.desk_positions.proofs.SettleLaws.{here}
 use Rattle.desk_positions.proofs.NextLaws.{led, led-none, led-next, led-beyond, led-all}
 use native.Mathlib.Omega.{arith}
-use mathlib.Core.Path.{◌≡◌, refl, sym, ap, ◌∙◌}
-use Prim.Native.Nat.{ℕ, suc, ◌+◌, ◌-◌, ◌≤◌, ◌<◌}
-use lib.ListN.{length, get_or, take, drop, set}
-use Rattle.desk_positions.proofs.strides.collect.Reads as reads
-use Rattle.desk_positions.proofs.rows.load.Reads as load-reads
-use Rattle.desk_positions.proofs.strides.stride.Reads as stride-reads
+use mathlib.Core.Path.{refl, ◌∙◌}
+use Prim.Native.Nat.{◌+◌, ◌≤◌}
 use borrow.Author.Rules.{rules}
 use Rattle.desk_positions.proofs.strides.collect.Goals as goal
 
@@ -38,13 +30,16 @@ returns-then-m-gt-MOST_POSITIONS c =
     let t = c.loop-i in
     let h = c.loop-i-test.true in
     let s = c.stride-m in
-    let l = c.load-r in record { grown = λ ls ok w.
+    let l = c.load-r in record {
+      grown = λ ls ok w.
           let ns = nodes_of a.nodes.now in
           let step = step_from a.kind a.a a.b in
           let x = here w t.i h in
           let g = s.ensures.grown x.position (led ns step ls t.i) ok x.fine (l.ensures ∙ t.invariant.1.1.1.0 t.i (omega arith) ∙ x.row)
           (t.invariant.1.1.1.1 ls ok w) in
-          led-beyond ns step ls a.n a.t.now w t.i h g c.if-m-gt-MOST_POSITIONS.true; rows_counted = (search rules, omega arith) }
+          led-beyond ns step ls a.n a.t.now w t.i h g c.if-m-gt-MOST_POSITIONS.true;
+      rows_counted = (search rules, omega arith);
+    }
 
 -- src/lib.rt:599:5
 pub loop-i-preserved : goal.loop-i-preserved
@@ -79,5 +74,8 @@ pub returns : goal.returns
 returns c =
     let a = c.args in
     let p = c.requires in
-    let t = c.loop-i in record { grown = λ ls ok w. led-all (nodes_of a.nodes.now) (step_from a.kind a.a a.b) ls a.n a.t.now w t.i c.loop-i-test.false
-          (t.invariant.1.1.1.1 ls ok w); rows_counted = (t.invariant.1.1.0, (let j = t.invariant.0 in let k = t.invariant.1.0 in let q = p.n_le_most_positions in omega arith)) }
+    let t = c.loop-i in record {
+      grown = λ ls ok w. led-all (nodes_of a.nodes.now) (step_from a.kind a.a a.b) ls a.n a.t.now w t.i c.loop-i-test.false
+          (t.invariant.1.1.1.1 ls ok w);
+      rows_counted = (t.invariant.1.1.0, (let j = t.invariant.0 in let k = t.invariant.1.0 in let q = p.n_le_most_positions in omega arith));
+    }

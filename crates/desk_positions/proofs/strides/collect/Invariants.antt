@@ -1,19 +1,13 @@
 use mathlib.Core.List.{List}
 use Rattle.usage.specs.Valid.{OutlineOk}
 use Rattle.usage.specs.Tables.{nodes_of}
-use Rattle.usage.proofs.Logic.{by_cases}
-use Rattle.desk_positions.specs.Positions.{most_positions, Position}
+use Rattle.desk_positions.specs.Positions.{Position}
 use Rattle.desk_positions.specs.Rows.{table_bytes, row_in}
 use Rattle.desk_positions.specs.Growth.{Tabled, step_from}
-use Rattle.desk_positions.proofs.SettleLaws.{Here, here}
-use Rattle.desk_positions.proofs.NextLaws.{led, led-none, led-next, led-beyond, led-all}
-use native.Mathlib.Omega.{arith}
-use mathlib.Core.Path.{◌≡◌, refl, sym, ap, ◌∙◌}
-use Prim.Native.Nat.{ℕ, suc, ◌+◌, ◌-◌, ◌≤◌, ◌<◌}
-use lib.ListN.{length, get_or, take, drop, set}
-use Rattle.desk_positions.proofs.strides.collect.Reads as reads
-use Rattle.desk_positions.proofs.rows.load.Reads as load-reads
-use Rattle.desk_positions.proofs.strides.stride.Reads as stride-reads
+use Rattle.desk_positions.proofs.NextLaws.{led}
+use mathlib.Core.Path.{◌≡◌}
+use Prim.Native.Nat.{ℕ, ◌-◌, ◌≤◌}
+use lib.ListN.{length}
 use Rattle.desk_positions.proofs.strides.collect.Given as goal
 
 abbrev pub invariant-loop-i : goal.invariant-loop-i

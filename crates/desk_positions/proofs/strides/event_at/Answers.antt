@@ -1,14 +1,6 @@
-use Rattle.desk_positions.proofs.CellLaws.{adds-kept, kept-none}
+use Rattle.desk_positions.proofs.CellLaws.{kept-none}
 use Rattle.desk_positions.proofs.GrowthLaws.{none-grown}
 use Rattle.desk_positions.proofs.StepLaws.{event-none}
-use native.Mathlib.Omega.{arith}
-use mathlib.Core.Path.{◌≡◌, refl, sym, ap, ◌∙◌}
-use Prim.Native.Nat.{ℕ, suc, ◌+◌, ◌-◌, ◌≤◌, ◌<◌}
-use lib.ListN.{length, get_or, take, drop, set}
-use Rattle.desk_positions.proofs.strides.event_at.Reads as reads
-use Rattle.desk_positions.proofs.strides.fresh.Reads as fresh-reads
-use Rattle.desk_positions.proofs.strides.on_name.Reads as on-name-reads
-use Rattle.desk_positions.proofs.strides.on_static.Reads as on-static-reads
 use Rattle.desk_positions.proofs.strides.event_at.Goals as goal
 
 -- src/lib.rt:470:1
@@ -25,7 +17,10 @@ returns-in-7 c = record { by_index = λ k l rest ls top w ok. c.fresh.ensures.by
 
 -- src/lib.rt:470:1
 pub returns-in_default : goal.returns-in_default
-returns-in_default c = record { by_index = λ k l rest ls top w ok.
+returns-in_default c = record {
+  by_index = λ k l rest ls top w ok.
       let a = c.args in
-      let n = c.in_default.in_default-own in
-      none-grown w _ (event-none a.f l rest a.action a.res n.0.0.1 n.0.1 n.1); rows_kept = kept-none _ _ }
+      let n = c.in_default.in_default-own.rest in
+      none-grown w _ (event-none a.f l rest a.action a.res n.0.0.1 n.0.1 n.1);
+  rows_kept = kept-none _ _;
+}

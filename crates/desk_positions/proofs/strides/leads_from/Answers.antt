@@ -1,17 +1,11 @@
-use mathlib.Core.List.{List, []}
-use Rattle.usage.specs.Valid.{OutlineOk}
+use mathlib.Core.List.{[]}
 use Rattle.usage.specs.Tables.{nodes_of}
-use Rattle.desk_positions.specs.Positions.{Position, stride_all, stride_next}
-use Rattle.desk_positions.specs.Growth.{Tabled, step_from}
-use Rattle.desk_positions.proofs.SettleLaws.{Here, here}
+use Rattle.desk_positions.specs.Positions.{stride_next}
+use Rattle.desk_positions.specs.Growth.{step_from}
+use Rattle.desk_positions.proofs.SettleLaws.{here}
 use Rattle.desk_positions.proofs.NextLaws.{empty-tabled, no-row-none, none-no-row, lead-none, lead-more, lead-found, lead-all}
 use native.Mathlib.Omega.{arith}
-use mathlib.Core.Path.{◌≡◌, refl, sym, ap, ◌∙◌}
-use Prim.Native.Nat.{ℕ, suc, ◌+◌, ◌-◌, ◌≤◌, ◌<◌}
-use lib.ListN.{length, get_or, take, drop, set}
-use Rattle.desk_positions.proofs.strides.leads_from.Reads as reads
-use Rattle.desk_positions.proofs.rows.load.Reads as load-reads
-use Rattle.desk_positions.proofs.strides.stride.Reads as stride-reads
+use mathlib.Core.Path.{◌∙◌}
 use borrow.Author.Rules.{rules}
 use Rattle.desk_positions.proofs.strides.leads_from.Goals as goal
 
