@@ -2,26 +2,24 @@
 use Prim.Native.Nat.{ℕ}
 use mathlib.Core.Path.{◌≡◌, refl}
 use mathlib.Core.Bool.{Bool}
-use mathlib.Core.List.{List, [], ◌∷◌}
-use types.Run.{OneOf, miss}
+use mathlib.Core.List.{List}
 use Rattle.outline_nodes.specs.declared.NodeForm.{NodeForm}
 use Rattle.outline_nodes.specs.declared.NodeForm.TheVariants.{End, OnStatic, OnName, Sequence, Choice}
 use Rattle.outline_nodes.specs.declared.NodeForm.TheVariants.{Loop, Back, Fresh, Sandbox, Nothing}
 use Rattle.outline_nodes.specs.Said.{said_by}
-use Rattle.outline_nodes.proofs.SaidLaws.{tag}
 use Rattle.checker_account.specs.RowTable.{EventTables, node_rows}
 
 -- they have no event
-pub no_rows : (tables : EventTables) (pair : Bool) (p k : ℕ) (r : List ℕ) (f : NodeForm) → OneOf (0 ∷ 3 ∷ 4 ∷ 5 ∷ 6 ∷ 8 ∷ 9 ∷ []) (tag f)
-    → r ≡ node_rows tables pair p k (said_by f) r
+pub no_rows : (tables : EventTables) (pair : Bool) (p k : ℕ) (r : List ℕ) (f : NodeForm) → ((a s : ℕ) → f ≡ OnStatic a s → ⊥)
+    → ((a n : ℕ) → f ≡ OnName a n → ⊥) → ((n b : ℕ) → f ≡ Fresh n b → ⊥) → r ≡ node_rows tables pair p k (said_by f) r
 unfolding node_rows
-no_rows tables pair p k r End h = refl
-no_rows tables pair p k r (OnStatic a s) h = absurd (miss (0 ∷ 3 ∷ 4 ∷ 5 ∷ 6 ∷ 8 ∷ 9 ∷ []) 1 tt h)
-no_rows tables pair p k r (OnName a n) h = absurd (miss (0 ∷ 3 ∷ 4 ∷ 5 ∷ 6 ∷ 8 ∷ 9 ∷ []) 2 tt h)
-no_rows tables pair p k r (Sequence a b) h = refl
-no_rows tables pair p k r (Choice a b) h = refl
-no_rows tables pair p k r (Loop a) h = refl
-no_rows tables pair p k r (Back a) h = refl
-no_rows tables pair p k r (Fresh n b) h = absurd (miss (0 ∷ 3 ∷ 4 ∷ 5 ∷ 6 ∷ 8 ∷ 9 ∷ []) 7 tt h)
-no_rows tables pair p k r (Sandbox s b) h = refl
-no_rows tables pair p k r Nothing h = refl
+no_rows tables pair p k r End h g e = refl
+no_rows tables pair p k r (OnStatic a s) h g e = absurd (h a s refl)
+no_rows tables pair p k r (OnName a n) h g e = absurd (g a n refl)
+no_rows tables pair p k r (Sequence a b) h g e = refl
+no_rows tables pair p k r (Choice a b) h g e = refl
+no_rows tables pair p k r (Loop a) h g e = refl
+no_rows tables pair p k r (Back a) h g e = refl
+no_rows tables pair p k r (Fresh n b) h g e = absurd (e n b refl)
+no_rows tables pair p k r (Sandbox s b) h g e = refl
+no_rows tables pair p k r Nothing h g e = refl

@@ -1,14 +1,7 @@
 use native.Mathlib.Omega.{arith}
-use mathlib.Core.Path.{◌≡◌, refl, sym, ap, ◌∙◌}
-use Prim.Native.Nat.{ℕ, suc, ◌+◌, ◌-◌, ◌≤◌, ◌<◌}
-use lib.ListN.{length, get_or, take, drop, set}
 use mathlib.Core.Bool.{true, false}
 use Rattle.usage.specs.Tables.{edges_of}
 use Rattle.checker_rows.proofs.SideLaws.{one-bytes, second-bytes, first-side, second-side, one_side, both-sides, stored-length}
-use Rattle.checker_rows.proofs.event_rows.Reads as reads
-use Rattle.automaton.proofs.moves.rows.Reads as rows-reads
-use Rattle.automaton.proofs.moves.rows_second.Reads as rows-second-reads
-use Rattle.checker_rows.proofs.store.Reads as store-reads
 use Rattle.checker_rows.proofs.event_rows.Goals as goal
 
 -- src/lib.rt:75:5

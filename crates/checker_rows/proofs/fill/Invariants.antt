@@ -1,23 +1,12 @@
-use native.Mathlib.Omega.{arith}
-use mathlib.Core.Path.{◌≡◌, refl, sym, ap, ◌∙◌}
-use Prim.Native.Nat.{ℕ, ◌-◌, ◌≤◌, ◌/◌}
-use lib.ListN.{length, replicate}
+use mathlib.Core.Path.{◌≡◌}
+use Prim.Native.Nat.{ℕ, ◌-◌, ◌≤◌}
+use lib.ListN.{replicate}
 use mathlib.Core.Bool.{Bool}
 use mathlib.Core.List.{List}
-use Rattle.usage.specs.Limits.{most_nodes, node_fields}
-use mathlib.Core.Option.{Option}
-use Rattle.usage.specs.Outline.{Form}
-use Rattle.outline_nodes.proofs.SaidLaws.{form-at}
 use Rattle.usage.specs.Tables.{edges_of}
 use Rattle.automaton.specs.Move.{rows_at}
 use Rattle.checker_account.specs.Filling.{repeat, forms_in}
-use Rattle.checker_account.specs.RowTable.{node_rows, fill_rows}
-use Rattle.checker_account.proofs.GrowsLaws.{repeat-more}
-use Rattle.checker_account.proofs.RowTableLaws.{filled-length}
-use Rattle.checker_rows.proofs.WholeLaws.{whole_in, no-policy, no_room}
-use Rattle.checker_rows.proofs.fill.Reads as reads
-use Rattle.outline_nodes.proofs.form.Reads as form-reads
-use Rattle.checker_rows.proofs.of_node.Reads as of-node-reads
+use Rattle.checker_account.specs.RowTable.{node_rows}
 use Rattle.checker_account.specs.Tables.{places}
 use Rattle.checker_rows.proofs.fill.Given as goal
 

@@ -2,8 +2,6 @@ use Rattle.usage.specs.Tables.{edges_of}
 use Rattle.automaton.specs.Move.{rows_at}
 use Rattle.checker_account.specs.RowTable.{node_rows}
 use Rattle.checker_rows.proofs.OtherLaws.{no_rows}
-use Rattle.checker_rows.proofs.of_node.Reads as reads
-use Rattle.checker_rows.proofs.event_rows.Reads as event-rows-reads
 use Rattle.checker_rows.proofs.of_node.Goals as goal
 
 pub returns-in-OnStatic : goal.returns-in-OnStatic
@@ -21,4 +19,5 @@ returns-in-Fresh c = rw c.in-Fresh.is c.event_rows-in-Fresh.ensures
 pub returns-in_default : goal.returns-in_default
 returns-in_default c =
     let a = c.args in
-    no_rows (rows_at (edges_of a.edges.now)) a.s.pair a.s.policy a.s.node a.rows.now a.f c.in_default.in_default-own
+    let d = c.in_default in
+    no_rows (rows_at (edges_of a.edges.now)) a.s.pair a.s.policy a.s.node a.rows.now a.f d.not-OnStatic d.not-OnName d.not-Fresh

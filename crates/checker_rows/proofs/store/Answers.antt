@@ -1,14 +1,13 @@
 use native.Mathlib.Omega.{arith}
-use mathlib.Core.Path.{◌≡◌, refl, sym, ap, ◌∙◌}
-use Prim.Native.Nat.{ℕ, suc, ◌+◌, ◌-◌, ◌*◌, ◌≤◌, ◌<◌}
+use mathlib.Core.Path.{◌≡◌, refl, ap}
+use Prim.Native.Nat.{ℕ, ◌+◌, ◌*◌}
 use Rattle.usage.specs.Limits.{states}
 use Rattle.checker_account.specs.Filling.{repeat}
 use Rattle.checker_account.specs.RowTable.{store_row, rows_stored}
 use Rattle.checker_account.proofs.GrowsLaws.{repeat-more}
-use lib.ListN.{length, get_or, take, drop, set}
+use lib.ListN.{get_or, set}
 use native.Mathlib.Numerals.{add-one}
 use Rattle.checker_account.specs.Tables.{row_at}
-use Rattle.checker_rows.proofs.store.Reads as reads
 use borrow.Author.Rules.{rules}
 use Rattle.checker_rows.proofs.store.Goals as goal
 
