@@ -1,19 +1,17 @@
 -- Where a block of eight edges has no fault each of its edges is in range and none is on 3.
-use Prim.Native.Nat.{ℕ, zero, suc, ◌+◌, ◌-◌, ◌*◌, ◌/◌, ◌%◌, ◌<◌, ◌≤◌, min}
-use mathlib.Core.Path.{◌≡◌, refl, sym, ap, subst, ◌∙◌}
-use mathlib.Core.Bool.{Bool, true, false}
+use Prim.Native.Nat.{ℕ, zero, suc, ◌+◌, ◌-◌, ◌*◌, ◌<◌, ◌≤◌, min}
+use mathlib.Core.Path.{◌≡◌, refl, sym, ap, ◌∙◌}
+use mathlib.Core.Bool.{true}
 use mathlib.Core.List.{List}
 use mathlib.Core.Logic.{◌⊎◌, inl, inr}
 use native.Mathlib.Omega.{arith}
-use native.Mathlib.Nat.{min-zero, zero-min, suc-min-suc, min-le_left}
-use lib.Dec.{eqb, leb}
-use lib.Bits.{bit_and, bit_or, and_mask, and_zero_l, and_zero_r, and_le_l, and_le_r, or_add_and}
+use native.Mathlib.Nat.{suc-min-suc, min-le_left}
+use lib.Dec.{eqb}
+use lib.Bits.{bit_and, bit_or, and_mask, and_le_l, and_le_r, or_add_and}
 use lib.ListN.{get_or}
-use borrow.Author.Tests.{eqb-true, leb-true, leb-false}
+use borrow.Author.Tests.{eqb-true}
 use Rattle.usage.specs.Limits.{policies, states, actions, statics, edge_fields}
-use Rattle.usage.specs.declared.Edge.{Edge}
-use Rattle.usage.specs.Policy.{EdgeOk}
-use Rattle.usage.specs.Tests.{every, edge_ok}
+use Rattle.usage.specs.Tests.{every}
 use Rattle.usage.specs.Tables.{from, edge_at}
 use Rattle.usage.proofs.Logic.{by_cases, last-or-lower}
 use Rattle.usage.proofs.ValidLaws.{decides-edge}

@@ -15,7 +15,7 @@ use Rattle.usage.specs.Tests.{every, edge_ok, three_pairs, edges_ok}
 use Rattle.usage.specs.Tables.{from, edge_at, edges_of, is_edge_table}
 use Rattle.usage.proofs.Logic.{and-false}
 use Rattle.usage.proofs.TableLaws.{edges-length, from-snoc}
-use Rattle.automaton.specs.PairSet.{pair_set, with_pair, with_edge, many_in}
+use Rattle.automaton.specs.PairSet.{pair_set, with_pair, many_in}
 use Rattle.automaton.proofs.PairSetLaws.{set-none, with-edge, many-three}
 use Rattle.sheet_fields.specs.declared.edges.Tested.{Tested}
 use Rattle.sheet_fields.specs.TableTest.{no_table_lem, table_tested}

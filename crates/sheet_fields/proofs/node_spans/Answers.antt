@@ -30,4 +30,4 @@ pub returns-in-8 : goal.returns-in-8
 returns-in-8 c = kind-spans node_kinds _ _ 8 c.in-8.is c.both-in-8.ensures
 
 pub returns-in_default : goal.returns-in_default
-returns-in_default c = no_kind node_kinds _ _ c.in_default.in_default-own c.no_spans.ensures
+returns-in_default c = no_kind node_kinds _ _ c.in_default.in_default-own.rest c.no_spans.ensures

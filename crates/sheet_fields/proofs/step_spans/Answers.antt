@@ -15,4 +15,4 @@ pub returns-in-3 : goal.returns-in-3
 returns-in-3 c = kind-spans step_kinds _ _ 3 c.in-3.is c.both-in-3.ensures
 
 pub returns-in_default : goal.returns-in_default
-returns-in_default c = no_kind step_kinds _ _ c.in_default.in_default-own c.no_spans.ensures
+returns-in_default c = no_kind step_kinds _ _ c.in_default.in_default-own.rest c.no_spans.ensures

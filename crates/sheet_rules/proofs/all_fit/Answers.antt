@@ -2,11 +2,10 @@ use native.Mathlib.Omega.{arith}
 use Rattle.usage.specs.Limits.{node_fields}
 use Rattle.usage.specs.Tables.{node_at_lem, nodes_of}
 use Rattle.usage.specs.Tests.{node_ok}
-use Prim.Native.Nat.{ℕ, ◌/◌, ◌*◌, ◌+◌, ◌-◌, ◌≤◌, ◌<◌}
+use Prim.Native.Nat.{◌/◌, ◌*◌, ◌+◌}
 use borrow.Author.Count.{below_more}
 use Rattle.sheet_fields.proofs.EveryLaws.{one-fails, one_passes, all_pass}
-use mathlib.Core.Bool.{true}
-use mathlib.Core.Path.{◌≡◌, sym}
+use mathlib.Core.Path.{sym}
 use lib.ListN.{length}
 use borrow.Author.Rules.{rules}
 use Rattle.sheet_rules.proofs.all_fit.Goals as goal

@@ -1,13 +1,8 @@
-use native.Mathlib.Omega.{arith}
-use Rattle.usage.specs.Limits.{node_fields}
-use Rattle.usage.specs.Tables.{node_at_lem, nodes_of}
+use Rattle.usage.specs.Tables.{node_at_lem}
 use Rattle.usage.specs.Tests.{node_ok}
-use Prim.Native.Nat.{ℕ, ◌/◌, ◌*◌, ◌+◌, ◌-◌, ◌≤◌, ◌<◌}
-use borrow.Author.Count.{below_more}
-use Rattle.sheet_fields.proofs.EveryLaws.{one-fails, one_passes, all_pass}
+use Prim.Native.Nat.{ℕ, ◌-◌, ◌≤◌, ◌<◌}
 use mathlib.Core.Bool.{true}
-use mathlib.Core.Path.{◌≡◌, sym}
-use lib.ListN.{length}
+use mathlib.Core.Path.{◌≡◌}
 use Rattle.sheet_rules.proofs.all_fit.Given as goal
 
 abbrev pub invariant-loop-k : goal.invariant-loop-k

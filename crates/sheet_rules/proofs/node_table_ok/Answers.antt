@@ -3,14 +3,7 @@ use Rattle.usage.specs.Tables.{nodes_of}
 use Rattle.usage.specs.Tests.{tree_ok_lem, is_none}
 use borrow.Author.Tests.{not-true, not-false}
 use Rattle.sheet_rules.proofs.FaultLaws.{part_left, too-many-nodes, no-fit, fit, no_node, at-seven, at-eight, clean, six-none, six-some}
-use native.Mathlib.Omega.{arith}
-use mathlib.Core.Path.{◌≡◌, refl, sym, ap, ◌∙◌}
-use Prim.Native.Nat.{ℕ, suc, ◌+◌, ◌-◌, ◌≤◌, ◌<◌}
-use lib.ListN.{length, get_or, take, drop, set}
-use Rattle.sheet_rules.proofs.node_table_ok.Reads as reads
-use Rattle.sheet_rules.proofs.all_fit.Reads as all-fit-reads
-use Rattle.sheet_rules.proofs.node_rules.lowest.Reads as lowest-reads
-use Rattle.sheet_rules.proofs.tree.trees_ok.Reads as trees-ok-reads
+use mathlib.Core.Path.{sym, ap, ◌∙◌}
 use Rattle.sheet_rules.proofs.node_table_ok.Goals as goal
 
 -- src/lib.rt:85:9

@@ -2,12 +2,9 @@ use native.Mathlib.Omega.{arith}
 use native.Mathlib.Numerals.{add-one}
 use lib.Bits.{bit_and, bit_or}
 use mathlib.Core.Path.{◌≡◌, refl, ap₂}
-use Prim.Native.Nat.{ℕ, ◌-◌, ◌≤◌}
+use Prim.Native.Nat.{ℕ}
 use lib.ListN.{get_or}
 use Rattle.sheet_fields.specs.Code.{block_bytes, faults}
-use Rattle.sheet_fields.proofs.blocks.block_faults.Reads as reads
-use Rattle.sheet_fields.proofs.blocks.above.Reads as above-reads
-use Rattle.sheet_fields.proofs.blocks.lesser.Reads as lesser-reads
 use borrow.Author.Rules.{rules}
 use Rattle.sheet_fields.proofs.blocks.block_faults.Goals as goal
 

@@ -1,13 +1,8 @@
-use Prim.Native.Nat.{◌*◌, ◌-◌, ◌≤◌}
 use mathlib.Core.Path.{◌≡◌, sym, ◌∙◌}
 use native.Mathlib.Omega.{arith}
-use Rattle.usage.proofs.Logic.{by_cases}
-use Rattle.sheet_fields.specs.Code.{tested_in, block_edges, repeated}
+use Rattle.sheet_fields.specs.Code.{repeated}
 use Rattle.sheet_fields.proofs.EdgeLaws.{tested-none}
 use Rattle.sheet_fields.proofs.BlockLaws.{block-plain}
-use Rattle.sheet_fields.proofs.blocks.blocks_tested.Reads as reads
-use Rattle.sheet_fields.proofs.blocks.block_faults.Reads as block-faults-reads
-use Rattle.sheet_fields.proofs.edges.more_tested.Reads as more-tested-reads
 use borrow.Author.Rules.{rules}
 use Rattle.sheet_fields.proofs.blocks.blocks_tested.Goals as goal
 use Rattle.sheet_fields.proofs.blocks.blocks_tested.Goals.{else-block_faults-ne0, then-block_faults-ne0}
@@ -26,7 +21,7 @@ loop-i-preserved c =
     let a = c.args in
     let t = c.loop-i in (
       search rules,
-      elim c.if-block_faults-ne0.branch [ then-block_faults-ne0 w ↦ w.2 ∙ w.1.ensures | else-block_faults-ne0 w ↦ w.1 ∙ t.invariant.1 ∙ block-plain a.edges.now t.i (sym c.block_faults.ensures ∙ w.if-block_faults-ne0.false) ],
+      elim c.if-block_faults-ne0.branch [ then-block_faults-ne0 w ↦ w.s-is ∙ w.more_tested-s.ensures | else-block_faults-ne0 w ↦ w.s-is ∙ t.invariant.1 ∙ block-plain a.edges.now t.i (sym c.block_faults.ensures ∙ w.if-block_faults-ne0.false) ],
     )
 
 pub returns : goal.returns

@@ -1,11 +1,7 @@
-use Prim.Native.Nat.{◌-◌, ◌≤◌}
 use mathlib.Core.Path.{◌≡◌, refl, ◌∙◌}
 use native.Mathlib.Omega.{arith}
 use borrow.Author.Tests.{not-false}
 use Rattle.usage.proofs.Logic.{false-true}
-use Rattle.sheet_fields.specs.Code.{tested_in}
-use Rattle.sheet_fields.proofs.edges.all_plain.Reads as reads
-use Rattle.sheet_fields.proofs.edges.is_plain.Reads as is-plain-reads
 use borrow.Author.Rules.{rules}
 use Rattle.sheet_fields.proofs.edges.all_plain.Goals as goal
 

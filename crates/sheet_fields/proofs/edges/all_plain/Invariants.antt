@@ -1,11 +1,6 @@
 use Prim.Native.Nat.{◌-◌, ◌≤◌}
-use mathlib.Core.Path.{◌≡◌, refl, ◌∙◌}
-use native.Mathlib.Omega.{arith}
-use borrow.Author.Tests.{not-false}
-use Rattle.usage.proofs.Logic.{false-true}
+use mathlib.Core.Path.{◌≡◌}
 use Rattle.sheet_fields.specs.Code.{tested_in}
-use Rattle.sheet_fields.proofs.edges.all_plain.Reads as reads
-use Rattle.sheet_fields.proofs.edges.is_plain.Reads as is-plain-reads
 use Rattle.sheet_fields.proofs.edges.all_plain.Given as goal
 
 abbrev pub invariant-loop-i : goal.invariant-loop-i

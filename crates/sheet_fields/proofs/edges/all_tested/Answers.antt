@@ -1,9 +1,5 @@
 use mathlib.Core.Path.{◌∙◌}
 use Rattle.sheet_fields.proofs.EdgeLaws.{tested-none}
-use Rattle.sheet_fields.proofs.edges.all_tested.Reads as reads
-use Rattle.sheet_fields.proofs.blocks.blocks_tested.Reads as blocks-tested-reads
-use Rattle.sheet_fields.proofs.edges.all_plain.Reads as all-plain-reads
-use Rattle.sheet_fields.proofs.edges.more_tested.Reads as more-tested-reads
 use Rattle.sheet_fields.proofs.edges.all_tested.Goals as goal
 
 pub returns-then-n-eq0 : goal.returns-then-n-eq0

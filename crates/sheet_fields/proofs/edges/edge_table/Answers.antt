@@ -1,10 +1,6 @@
 use mathlib.Core.Path.{sym, ◌∙◌}
 use borrow.Author.Tests.{not-true, not-false}
 use Rattle.sheet_fields.proofs.EdgeLaws.{not-whole, too_long, out_of_range, too-many-pairs, good-table}
-use Rattle.sheet_fields.proofs.edges.edge_table.Reads as reads
-use Rattle.automaton.proofs.pairs.many.Reads as many-reads
-use Rattle.sheet_fields.proofs.edges.all_tested.Reads as all-tested-reads
-use Rattle.sheet_fields.proofs.edges.no_table.Reads as no-table-reads
 use Rattle.sheet_fields.proofs.edges.edge_table.Goals as goal
 
 pub returns-then-edges-ne0 : goal.returns-then-edges-ne0

@@ -1,8 +1,6 @@
 use mathlib.Core.Path.{ap, ◌∙◌}
 use Rattle.sheet_fields.specs.declared.edges.Tested.{Tested}
 use Rattle.sheet_fields.proofs.EdgeLaws.{table_fits}
-use Rattle.sheet_fields.proofs.edges.edge_table_ok.Reads as reads
-use Rattle.sheet_fields.proofs.edges.edge_table.Reads as edge-table-reads
 use Rattle.sheet_fields.proofs.edges.edge_table_ok.Goals as goal
 
 pub returns : goal.returns

@@ -4,8 +4,6 @@ use native.Mathlib.Omega.{arith}
 use Rattle.usage.specs.Limits.{edge_fields}
 use Rattle.usage.proofs.Logic.{false-true}
 use Rattle.sheet_fields.proofs.EdgeLaws.{tested-one}
-use Rattle.sheet_fields.proofs.edges.is_plain.Reads as reads
-use Rattle.sheet_fields.proofs.edge_fits.Reads as edge-fits-reads
 use Rattle.sheet_fields.proofs.edges.is_plain.Goals as goal
 
 pub overflow_cast-on : goal.overflow_cast-on

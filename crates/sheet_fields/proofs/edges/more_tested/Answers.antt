@@ -1,10 +1,6 @@
-use Prim.Native.Nat.{◌-◌, ◌≤◌}
 use mathlib.Core.Path.{◌≡◌, ◌∙◌}
 use native.Mathlib.Omega.{arith}
-use Rattle.sheet_fields.specs.Code.{tested_in}
 use Rattle.sheet_fields.proofs.EdgeLaws.{tested-more}
-use Rattle.sheet_fields.proofs.edges.more_tested.Reads as reads
-use Rattle.sheet_fields.proofs.edges.with_edge.Reads as with-edge-reads
 use borrow.Author.Rules.{rules}
 use Rattle.sheet_fields.proofs.edges.more_tested.Goals as goal
 

@@ -1,10 +1,6 @@
 use Prim.Native.Nat.{◌-◌, ◌≤◌}
-use mathlib.Core.Path.{◌≡◌, ◌∙◌}
-use native.Mathlib.Omega.{arith}
+use mathlib.Core.Path.{◌≡◌}
 use Rattle.sheet_fields.specs.Code.{tested_in}
-use Rattle.sheet_fields.proofs.EdgeLaws.{tested-more}
-use Rattle.sheet_fields.proofs.edges.more_tested.Reads as reads
-use Rattle.sheet_fields.proofs.edges.with_edge.Reads as with-edge-reads
 use Rattle.sheet_fields.proofs.edges.more_tested.Given as goal
 
 abbrev pub invariant-loop-i : goal.invariant-loop-i

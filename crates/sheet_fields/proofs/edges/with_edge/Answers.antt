@@ -3,9 +3,6 @@ use mathlib.Core.Path.{refl, sym, ◌∙◌}
 use native.Mathlib.Omega.{arith}
 use borrow.Author.Tests.{not-true, not-false}
 use Rattle.usage.specs.Limits.{edge_fields}
-use Rattle.sheet_fields.proofs.edges.with_edge.Reads as reads
-use Rattle.automaton.proofs.pairs.joined.Reads as joined-reads
-use Rattle.sheet_fields.proofs.edge_fits.Reads as edge-fits-reads
 use Rattle.sheet_fields.proofs.edges.with_edge.Goals as goal
 
 pub overflow_cast-policy : goal.overflow_cast-policy

@@ -1,6 +1,5 @@
 use Rattle.sheet_rules.proofs.RuleLaws.{back_by}
 use mathlib.Core.Path.{sym, ◌∙◌}
-use Rattle.sheet_rules.proofs.node_rules.back_ok.Reads as reads
 use Rattle.sheet_rules.proofs.node_rules.back_ok.Goals as goal
 
 pub returns : goal.returns

@@ -3,7 +3,6 @@ use Rattle.usage.specs.Tables.{nodes_of}
 use Rattle.usage.specs.Tests.{some_below, gives_name_lem}
 use Rattle.sheet_rules.proofs.NodeLaws.{found_below, on_below}
 use mathlib.Core.Path.{◌≡◌, refl, sym, ◌∙◌}
-use Prim.Native.Nat.{◌≤◌}
 use borrow.Author.Rules.{rules}
 use Rattle.sheet_rules.proofs.node_rules.given_below.Goals as goal
 

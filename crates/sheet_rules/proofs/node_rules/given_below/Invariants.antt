@@ -1,8 +1,6 @@
-use native.Mathlib.Omega.{arith}
 use Rattle.usage.specs.Tables.{nodes_of}
 use Rattle.usage.specs.Tests.{some_below, gives_name_lem}
-use Rattle.sheet_rules.proofs.NodeLaws.{found_below, on_below}
-use mathlib.Core.Path.{◌≡◌, refl, sym, ◌∙◌}
+use mathlib.Core.Path.{◌≡◌}
 use Prim.Native.Nat.{◌≤◌}
 use Rattle.sheet_rules.proofs.node_rules.given_below.Given as goal
 

@@ -4,7 +4,6 @@ use Rattle.usage.specs.Tables.{nodes_of}
 use Rattle.usage.specs.Tests.{above}
 use Rattle.sheet_rules.proofs.NodeLaws.{found-above, up_above, on-above}
 use mathlib.Core.Path.{◌≡◌, refl, sym, ◌∙◌}
-use Prim.Native.Nat.{◌≤◌}
 use borrow.Author.Rules.{rules}
 use Rattle.sheet_rules.proofs.node_rules.inside.Goals as goal
 

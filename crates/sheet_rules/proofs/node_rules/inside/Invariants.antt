@@ -1,9 +1,7 @@
-use native.Mathlib.Omega.{arith}
 use Rattle.sheet_rules.specs.Code.{sought}
 use Rattle.usage.specs.Tables.{nodes_of}
 use Rattle.usage.specs.Tests.{above}
-use Rattle.sheet_rules.proofs.NodeLaws.{found-above, up_above, on-above}
-use mathlib.Core.Path.{◌≡◌, refl, sym, ◌∙◌}
+use mathlib.Core.Path.{◌≡◌}
 use Prim.Native.Nat.{◌≤◌}
 use Rattle.sheet_rules.proofs.node_rules.inside.Given as goal
 

@@ -1,11 +1,10 @@
 use Rattle.sheet_rules.specs.Rules.{passes}
 use Rattle.usage.specs.Limits.{node_fields}
 use Rattle.usage.specs.Tables.{nodes_of}
-use Rattle.usage.specs.Tests.{lowest_failing}
-use Prim.Native.Nat.{◌/◌, ◌-◌, ◌≤◌}
+use Prim.Native.Nat.{◌/◌}
 use borrow.Author.Tests.{not-true, not-false}
 use Rattle.sheet_rules.proofs.RuleLaws.{lowest-begin, lowest-here, lowest-more, lowest-end}
-use mathlib.Core.Path.{◌≡◌, sym, ◌∙◌}
+use mathlib.Core.Path.{sym, ◌∙◌}
 use lib.ListN.{length}
 use borrow.Author.Rules.{rules}
 use Rattle.sheet_rules.proofs.node_rules.lowest.Goals as goal

@@ -1,7 +1,6 @@
 use mathlib.Core.Bool.{not}
 use Rattle.sheet_rules.proofs.RuleLaws.{name-outside, gives_none, gives_one}
 use mathlib.Core.Path.{sym, ap, ◌∙◌}
-use Rattle.sheet_rules.proofs.node_rules.name_ok.Reads as reads
 use Rattle.sheet_rules.proofs.node_rules.name_ok.Goals as goal
 
 pub returns-then-not-named_above : goal.returns-then-not-named_above

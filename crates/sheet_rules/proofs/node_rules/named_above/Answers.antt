@@ -3,7 +3,6 @@ use Rattle.usage.specs.Tests.{all_of, above}
 use Rattle.sheet_rules.specs.Code.{sought}
 use Rattle.sheet_rules.proofs.NodeLaws.{other-kind, this-kind}
 use mathlib.Core.Path.{sym, ap, ◌∙◌}
-use Rattle.sheet_rules.proofs.node_rules.named_above.Reads as reads
 use Rattle.sheet_rules.proofs.node_rules.named_above.Goals as goal
 
 pub returns-then-nodes-k : goal.returns-then-nodes-k

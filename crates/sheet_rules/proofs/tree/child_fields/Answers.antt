@@ -25,5 +25,5 @@ returns-in-8 c = λ a b. rw c.in-8.is refl
 
 pub returns-in_default : goal.returns-in_default
 returns-in_default c =
-    λ a b. no-children a b c.args.kind c.in_default.in_default-own.0.0.0.0.1 c.in_default.in_default-own.0.0.0.1 c.in_default.in_default-own.0.0.1
-    c.in_default.in_default-own.0.1 c.in_default.in_default-own.1
+    λ a b. no-children a b c.args.kind c.in_default.in_default-own.rest.0.0.0.0.1 c.in_default.in_default-own.rest.0.0.0.1 c.in_default.in_default-own.rest.0.0.1
+    c.in_default.in_default-own.rest.0.1 c.in_default.in_default-own.rest.1

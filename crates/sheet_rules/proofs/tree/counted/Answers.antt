@@ -1,9 +1,7 @@
 use Rattle.sheet_rules.proofs.CountLaws.{count_none, count-far, count-one}
 use native.Mathlib.Omega.{arith}
-use mathlib.Core.Path.{◌≡◌, refl, sym, ap, ◌∙◌}
-use Prim.Native.Nat.{ℕ, suc, ◌+◌, ◌-◌, ◌≤◌, ◌<◌}
-use lib.ListN.{length, get_or, take, drop, set}
-use Rattle.sheet_rules.proofs.tree.counted.Reads as reads
+use mathlib.Core.Path.{◌≡◌}
+use lib.ListN.{length}
 use borrow.Author.Rules.{rules}
 use Rattle.sheet_rules.proofs.tree.counted.Goals as goal
 

@@ -1,11 +1,9 @@
 use native.Mathlib.Omega.{arith}
 use Rattle.usage.specs.Limits.{node_fields}
-use Rattle.usage.specs.Tables.{from, node_at_lem, nodes_of}
-use Rattle.usage.specs.Valid.{times_child_lem}
 use native.Mathlib.Nat.{zero-add}
-use Prim.Native.Nat.{◌*◌, ◌/◌, ◌+◌, ◌-◌, ◌≤◌}
+use Prim.Native.Nat.{◌/◌}
 use Rattle.sheet_rules.proofs.NodeLaws.{times-begin, times_more, times-end}
-use mathlib.Core.Path.{◌≡◌, ◌∙◌}
+use mathlib.Core.Path.{◌∙◌}
 use lib.ListN.{length}
 use borrow.Author.Rules.{rules}
 use Rattle.sheet_rules.proofs.tree.times_child.Goals as goal

@@ -1,11 +1,6 @@
 use lib.Dec.{eqb}
 use Rattle.sheet_rules.proofs.ChildLaws.{tree-no, tree-root, tree-inner}
-use native.Mathlib.Omega.{arith}
-use mathlib.Core.Path.{◌≡◌, refl, sym, ap, ◌∙◌}
-use Prim.Native.Nat.{ℕ, suc, ◌+◌, ◌-◌, ◌≤◌, ◌<◌}
-use lib.ListN.{length, get_or, take, drop, set}
-use Rattle.sheet_rules.proofs.tree.tree_by.Reads as reads
-use Rattle.sheet_rules.proofs.tree.children_between.Reads as children-between-reads
+use mathlib.Core.Path.{sym, ap, ◌∙◌}
 use Rattle.sheet_rules.proofs.tree.tree_by.Goals as goal
 
 -- src/tree.rt:30:9

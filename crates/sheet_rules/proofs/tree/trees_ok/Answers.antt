@@ -1,17 +1,13 @@
 use Prim.Native.Nat.{◌/◌}
 use Rattle.usage.specs.Limits.{node_fields}
 use Rattle.usage.specs.Tables.{nodes_of}
-use Rattle.usage.specs.Tests.{tree_ok_lem, lowest_failing}
+use Rattle.usage.specs.Tests.{tree_ok_lem}
 use borrow.Author.Tests.{not-true, not-false}
 use Rattle.sheet_rules.specs.Code.{is_nothing}
 use Rattle.sheet_rules.proofs.RuleLaws.{lowest-begin, lowest-here, lowest-more, lowest-end}
 use native.Mathlib.Omega.{arith}
-use mathlib.Core.Path.{◌≡◌, refl, sym, ap, ◌∙◌}
-use Prim.Native.Nat.{ℕ, suc, ◌+◌, ◌-◌, ◌≤◌, ◌<◌}
-use lib.ListN.{length, get_or, take, drop, set}
-use Rattle.sheet_rules.proofs.tree.trees_ok.Reads as reads
-use Rattle.sheet_rules.proofs.tree.children_counted.Reads as children-counted-reads
-use Rattle.sheet_rules.proofs.tree.tree_by.Reads as tree-by-reads
+use mathlib.Core.Path.{sym, ap, ◌∙◌}
+use lib.ListN.{length}
 use borrow.Author.Rules.{rules}
 use Rattle.sheet_rules.proofs.tree.trees_ok.Goals as goal
 
