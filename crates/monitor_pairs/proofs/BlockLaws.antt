@@ -2,16 +2,16 @@
 use Prim.Native.Nat.{ℕ, ◌+◌, ◌-◌, ◌*◌, ◌/◌, ◌%◌, ◌<◌, ◌≤◌}
 use mathlib.Core.Path.{◌≡◌, refl, sym, ap, ap₂, subst, ◌∙◌}
 use mathlib.Core.Bool.{Bool, true, false, ◌&&◌, cond}
-use mathlib.Core.List.{List, [], ◌∷◌, ◌++◌, append-nil}
+use mathlib.Core.List.{List, [], ◌++◌, append-nil}
 use native.Mathlib.Omega.{arith}
-use borrow.Author.Tests.{eqb-true, eqb-false, lt-ltb, le-ltb, ltb-true, ltb-false}
+use borrow.Author.Tests.{eqb-true, ltb-true, ltb-false}
 use lib.Dec.{eqb, ltb, leb, lit<}
-use lib.ListN.{length, get_or, take, drop, length-append, length-drop, take-append-drop, drop_of_length-le, get_or-eq_default}
-use lib.Seq.{length-take-le, take_at, drop_at, drop-drop, get_or-take, get_or-drop}
+use lib.ListN.{length, get_or, take, drop, length-drop, take-append-drop, drop_of_length-le, get_or-eq_default}
+use lib.Seq.{length-take-le, take_at, drop_at, get_or-take, get_or-drop}
 use Rattle.usage.specs.Tables.{from}
-use Rattle.usage.proofs.TableLaws.{from-below, is-from, length_from}
+use Rattle.usage.proofs.TableLaws.{from-below, is-from}
 use Rattle.monitor_sets.specs.Instances.{unseen, instances}
-use Rattle.monitor_pairs.specs.Pairs.{pair_places, pair_at, row_copied, create_pairs, event_pairs, reset_pairs, retire_pairs}
+use Rattle.monitor_pairs.specs.Pairs.{pair_places, pair_at, row_copied, create_pairs}
 use Rattle.monitor_pairs.specs.Blocks.{pair_sets, lower_block, upper_block}
 use Rattle.monitor_pairs.specs.Code.{pair_row, row_put}
 use Rattle.monitor_pairs.proofs.RunLaws.{at_from, row-places}

@@ -11,19 +11,18 @@ use lib.ListN.{length, get_or, get_or-append}
 use lib.Seq.{get_or-append-add}
 use Rattle.usage.specs.declared.Edge.{Edge}
 use Rattle.usage.specs.Limits.{policies}
-use Rattle.usage.specs.Tables.{from}
 use Rattle.usage.proofs.TableLaws.{from-below}
 use Rattle.automaton.specs.Mask.{union}
-use Rattle.automaton.specs.Move.{move_by, move, fires_at}
+use Rattle.automaton.specs.Move.{move_by, fires_at}
 use Rattle.automaton.proofs.MaskLaws.{union-lt}
 use Rattle.automaton.proofs.MoveLaws.{move-lt}
 use Rattle.monitor_sets.specs.Instances.{unseen, retirees, instances}
 use Rattle.monitor_sets.specs.Sets.{start_set}
 use Rattle.monitor_pairs.specs.declared.which.Blocks.{Blocks}
-use Rattle.monitor_pairs.specs.Pairs.{pair_places, pair_at, way_of, event_pairs, gather_pairs, create_pairs, reset_pairs, retire_pairs, taken}
+use Rattle.monitor_pairs.specs.Pairs.{pair_places, pair_at, way_of, event_pairs, gather_pairs, reset_pairs, retire_pairs, taken}
 use Rattle.monitor_pairs.specs.Tracked.{event_ways}
 use Rattle.monitor_pairs.specs.Blocks.{pair_sets, lower_block, upper_block, of_policy, each_block}
-use Rattle.monitor_pairs.proofs.BlockLaws.{lower-below, upper-below, lower-size}
+use Rattle.monitor_pairs.proofs.BlockLaws.{lower-below, upper-below}
 use Rattle.monitor_pairs.proofs.EachLaws.{Sized, first-size}
 use Rattle.monitor_pairs.proofs.TrackedLaws.{moved-way}
 

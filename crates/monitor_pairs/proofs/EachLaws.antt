@@ -1,14 +1,13 @@
 -- Each block changed as its policy's, and what is gathered of both.
-use Prim.Native.Nat.{ℕ, zero, suc, ◌+◌, ◌*◌, ◌<◌, ◌≤◌}
-use mathlib.Core.Path.{◌≡◌, refl, sym, ap, ap₂, subst, ◌∙◌}
-use mathlib.Core.Bool.{Bool, true, false, not, ◌&&◌, ◌||◌, cond}
-use mathlib.Core.List.{List, ◌∷◌, ◌++◌}
-use mathlib.Core.Logic.{◌⊎◌, inl, inr, ◌↔◌}
+use Prim.Native.Nat.{ℕ, zero, suc, ◌+◌, ◌<◌, ◌≤◌}
+use mathlib.Core.Path.{◌≡◌, refl, ap, ap₂, ◌∙◌}
+use mathlib.Core.Bool.{Bool, true, false, not, ◌||◌, cond}
+use mathlib.Core.List.{List, ◌∷◌}
+use mathlib.Core.Logic.{◌⊎◌, inl, inr}
 use native.Mathlib.Nat.{zero-add, suc-add}
 use native.Mathlib.Omega.{arith}
-use borrow.Author.Tests.{eq-eqb, eqb-true, eqb-false, lt-ltb, le-ltb, leb-true}
+use borrow.Author.Tests.{eq-eqb, eqb-true, lt-ltb, le-ltb, leb-true}
 use lib.Count.{count_trailing_zeros}
-use lib.Bits.{bit_and}
 use lib.Dec.{eqb, ltb, leb}
 use lib.ListN.{length, get_or, take, drop, set, replicate, take-append-drop, length-append, length-set}
 use lib.Seq.{take_at, drop_at, set_out, get_or-set_same, get_or-set_other}
@@ -30,7 +29,7 @@ use Rattle.monitor_pairs.specs.Pairs.{pair_places, event_pairs, gather_pairs, cr
 use Rattle.monitor_pairs.specs.Which.{blocks_of}
 use Rattle.monitor_pairs.specs.Blocks.{pair_sets, lower_block, upper_block, pairs_of, of_policy, each_block, with_gathered}
 use Rattle.monitor_pairs.proofs.BlockLaws.{lower-size, upper-size}
-use Rattle.monitor_pairs.proofs.WhichLaws.{is_first, is_second, first_block, second_block}
+use Rattle.monitor_pairs.proofs.WhichLaws.{first_block, second_block}
 
 -- ── Sizes ──
 

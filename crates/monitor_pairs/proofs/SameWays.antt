@@ -1,13 +1,12 @@
 -- The ways of an event, and the pair policies, by the edges as a set; and by the static resources that edges name.
-use Prim.Native.Nat.{ℕ, ◌^◌, ◌<◌}
+use Prim.Native.Nat.{ℕ, ◌^◌}
 use mathlib.Core.Path.{◌≡◌, refl, sym, ap, ◌∙◌}
 use mathlib.Core.Bool.{Bool, true, false, cond}
 use mathlib.Core.List.{List, Memᴰ}
 use lib.Dec.{eqb}
 use Rattle.usage.specs.declared.Edge.{Edge}
 use Rattle.usage.specs.Limits.{policies, states}
-use Rattle.usage.specs.Policy.{PairPolicy, SameEdges}
-use Rattle.usage.specs.Tables.{from}
+use Rattle.usage.specs.Policy.{SameEdges}
 use Rattle.usage.specs.Tests.{is_pair}
 use Rattle.usage.proofs.EdgeSetLaws.{pair-among}
 use Rattle.usage.proofs.ValidLaws.{decides-pair}

@@ -1,6 +1,6 @@
 -- The sets of the two pair policies of a sheet (02, L10: "At most two policies may be such"), the lower policy's block first. Which policies
 -- they are is read off the edges; a block that no policy has stays as it is.
-use Rattle.std.specs.Prelude.{ℕ, ◌*◌, Bool, cond, List, ◌++◌, eqb, ltb, take, drop, set}
+use Rattle.std.specs.Prelude.{ℕ, ◌*◌, cond, List, ◌++◌, eqb, ltb, take, drop, set}
 use Rattle.usage.specs.declared.Edge.{Edge}
 use Rattle.usage.specs.Limits.{policies}
 use Rattle.monitor_pairs.specs.declared.which.Blocks.{Blocks}

@@ -1,10 +1,8 @@
 use native.Mathlib.Omega.{arith}
-use mathlib.Core.Path.{◌≡◌, refl, sym, ap, ap₂, subst, ◌∙◌}
-use Prim.Native.Nat.{ℕ, suc, ◌+◌, ◌-◌, ◌≤◌, ◌<◌}
+use mathlib.Core.Path.{◌≡◌, refl, sym, ap}
+use Prim.Native.Nat.{ℕ}
 use lib.Seq.{set_out}
-use lib.ListN.{length, get_or, take, drop, set}
-use Rattle.monitor_pairs.proofs.blocks.lead_policy.Reads as reads
-use Rattle.monitor_pairs.proofs.blocks.lead.Reads as lead-reads
+use lib.ListN.{length, set}
 use borrow.Author.Rules.{rules}
 use Rattle.monitor_pairs.proofs.blocks.lead_policy.Goals as goal
 

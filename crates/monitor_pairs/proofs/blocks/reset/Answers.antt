@@ -1,16 +1,13 @@
-use Prim.Native.Nat.{ℕ, ◌<◌}
-use mathlib.Core.Path.{◌≡◌, refl, sym, ap, ap₂, subst, ◌∙◌}
+use Prim.Native.Nat.{ℕ}
+use mathlib.Core.Path.{◌≡◌, sym, ap, ap₂, ◌∙◌}
 use mathlib.Core.List.{List, ◌++◌}
-use native.Mathlib.Omega.{arith}
-use borrow.Author.Tests.{eq-eqb, ne_eqb, le-leb, lt-leb, lt-ltb, le-ltb}
-use lib.ListN.{length, get_or, set}
+use borrow.Author.Tests.{eq-eqb, ne_eqb, le-leb, lt-leb}
+use lib.ListN.{length}
 use mathlib.Core.Bool.{cond}
 use lib.Dec.{eqb}
 use Rattle.monitor_pairs.specs.Pairs.{reset_pairs}
 use Rattle.monitor_pairs.specs.Blocks.{pair_sets, of_policy, each_block}
 use Rattle.monitor_pairs.proofs.BlockLaws.{upper-lent, both-back}
-use Rattle.monitor_pairs.proofs.blocks.reset.Reads as reads
-use Rattle.monitor_pairs.proofs.blocks.reset_policy.Reads as reset-policy-reads
 use Rattle.monitor_pairs.proofs.blocks.reset.Goals as goal
 
 -- src/blocks.rt:183:9

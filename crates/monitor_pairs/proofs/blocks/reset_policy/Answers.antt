@@ -1,11 +1,6 @@
-use native.Mathlib.Omega.{arith}
-use mathlib.Core.Path.{◌≡◌, refl, sym, ap, ap₂, subst, ◌∙◌}
-use Prim.Native.Nat.{ℕ, suc, ◌+◌, ◌-◌, ◌≤◌, ◌<◌}
+use mathlib.Core.Path.{sym, ◌∙◌}
 use borrow.Author.Tests.{eq-eqb, ne_eqb, lt-ltb, le-ltb}
 use Rattle.monitor_pairs.specs.Blocks.{of_policy}
-use lib.ListN.{length, get_or, take, drop, set}
-use Rattle.monitor_pairs.proofs.blocks.reset_policy.Reads as reads
-use Rattle.monitor_pairs.proofs.places.reset.Reads as reset-reads
 use borrow.Author.Rules.{rules}
 use Rattle.monitor_pairs.proofs.blocks.reset_policy.Goals as goal
 

@@ -1,16 +1,11 @@
-use Prim.Native.Nat.{ℕ, ◌<◌}
-use mathlib.Core.Path.{◌≡◌, refl, sym, ap, ap₂, subst, ◌∙◌}
+use Prim.Native.Nat.{ℕ}
+use mathlib.Core.Path.{◌≡◌, sym, ap, ap₂, ◌∙◌}
 use mathlib.Core.List.{List, ◌++◌}
-use native.Mathlib.Omega.{arith}
 use borrow.Author.Tests.{eq-eqb, ne_eqb, le-leb, lt-leb, lt-ltb, le-ltb}
-use lib.ListN.{length, get_or, set}
-use mathlib.Core.Bool.{cond}
-use lib.Dec.{eqb}
+use lib.ListN.{length}
 use Rattle.monitor_pairs.specs.Pairs.{retire_pairs}
 use Rattle.monitor_pairs.specs.Blocks.{pair_sets, of_policy, each_block}
 use Rattle.monitor_pairs.proofs.BlockLaws.{upper-lent, both-back}
-use Rattle.monitor_pairs.proofs.blocks.retire.Reads as reads
-use Rattle.monitor_pairs.proofs.blocks.retire_policy.Reads as retire-policy-reads
 use Rattle.monitor_pairs.proofs.blocks.retire.Goals as goal
 
 -- src/blocks.rt:215:9

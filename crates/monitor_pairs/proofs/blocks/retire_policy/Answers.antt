@@ -1,11 +1,6 @@
-use native.Mathlib.Omega.{arith}
-use mathlib.Core.Path.{◌≡◌, refl, sym, ap, ap₂, subst, ◌∙◌}
-use Prim.Native.Nat.{ℕ, suc, ◌+◌, ◌-◌, ◌≤◌, ◌<◌}
-use borrow.Author.Tests.{eq-eqb, ne_eqb, lt-ltb, le-ltb}
+use mathlib.Core.Path.{sym, ◌∙◌}
+use borrow.Author.Tests.{lt-ltb, le-ltb}
 use Rattle.monitor_pairs.specs.Blocks.{of_policy}
-use lib.ListN.{length, get_or, take, drop, set}
-use Rattle.monitor_pairs.proofs.blocks.retire_policy.Reads as reads
-use Rattle.monitor_pairs.proofs.retiring.retire.Reads as retire-reads
 use borrow.Author.Rules.{rules}
 use Rattle.monitor_pairs.proofs.blocks.retire_policy.Goals as goal
 

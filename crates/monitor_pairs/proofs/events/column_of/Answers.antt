@@ -1,11 +1,9 @@
-use Prim.Native.Nat.{◌-◌, ◌≤◌}
 use mathlib.Core.Path.{◌≡◌, refl}
 use native.Mathlib.Omega.{arith}
 use Rattle.monitor_sets.specs.Instances.{instances}
 use Rattle.monitor_pairs.specs.Pairs.{pair_at}
 use Rattle.monitor_pairs.specs.Code.{column_of_lem}
-use Rattle.monitor_pairs.proofs.RunLaws.{filled, filled-zeros, filled_more, column}
-use Rattle.monitor_pairs.proofs.events.column_of.Reads as reads
+use Rattle.monitor_pairs.proofs.RunLaws.{filled-zeros, filled_more}
 use borrow.Author.Rules.{rules}
 use Rattle.monitor_pairs.proofs.events.column_of.Goals as goal
 

@@ -1,5 +1,5 @@
-use Prim.Native.Nat.{ℕ, ◌-◌, ◌≤◌}
-use mathlib.Core.Path.{◌≡◌, refl, sym, ◌∙◌}
+use Prim.Native.Nat.{ℕ}
+use mathlib.Core.Path.{refl, sym, ◌∙◌}
 use mathlib.Core.List.{List, [], ◌∷◌}
 use native.Mathlib.Omega.{arith}
 use lib.ListN.{get_or}
@@ -7,7 +7,7 @@ use Rattle.automaton.specs.Move.{move_by}
 use Rattle.automaton.proofs.RowLaws.{move_by-held}
 use Rattle.monitor_sets.specs.Instances.{instances}
 use Rattle.monitor_pairs.specs.Code.{line_moved}
-use Rattle.monitor_pairs.proofs.RunLaws.{filled, filled-zeros, filled_more, filled-all, same_from}
+use Rattle.monitor_pairs.proofs.RunLaws.{filled-zeros, filled_more, filled-all, same_from}
 use borrow.Author.Rules.{rules}
 use Rattle.monitor_pairs.proofs.events.move_line.Goals as goal
 

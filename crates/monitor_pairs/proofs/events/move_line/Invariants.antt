@@ -1,13 +1,10 @@
-use Prim.Native.Nat.{ℕ, ◌-◌, ◌≤◌}
-use mathlib.Core.Path.{◌≡◌, refl, sym, ◌∙◌}
-use mathlib.Core.List.{List, [], ◌∷◌}
-use native.Mathlib.Omega.{arith}
+use Prim.Native.Nat.{◌-◌, ◌≤◌}
+use mathlib.Core.Path.{◌≡◌}
+use mathlib.Core.List.{[], ◌∷◌}
 use lib.ListN.{get_or}
 use Rattle.automaton.specs.Move.{move_by}
-use Rattle.automaton.proofs.RowLaws.{move_by-held}
 use Rattle.monitor_sets.specs.Instances.{instances}
-use Rattle.monitor_pairs.specs.Code.{line_moved}
-use Rattle.monitor_pairs.proofs.RunLaws.{filled, filled-zeros, filled_more, filled-all, same_from}
+use Rattle.monitor_pairs.proofs.RunLaws.{filled}
 use Rattle.monitor_pairs.proofs.events.move_line.Given as goal
 
 abbrev pub invariant-loop-i : goal.invariant-loop-i

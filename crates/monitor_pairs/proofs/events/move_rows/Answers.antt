@@ -2,18 +2,9 @@ use Prim.Native.Nat.{ℕ, ◌*◌}
 use mathlib.Core.Path.{ap, ap₂, ◌∙◌}
 use mathlib.Core.List.{List}
 use lib.ListN.{set}
-use native.Mathlib.Omega.{arith}
 use Rattle.monitor_sets.specs.Instances.{instances}
 use Rattle.monitor_pairs.specs.Code.{line_moved, row_put, column_put}
 use Rattle.monitor_pairs.proofs.EventLaws.{event-made}
-use Rattle.monitor_pairs.proofs.events.move_rows.Reads as reads
-use Rattle.monitor_pairs.proofs.events.column_of.Reads as column-of-reads
-use Rattle.monitor_pairs.proofs.events.move_line.Reads as move-line-reads
-use Rattle.monitor_pairs.proofs.events.moved.Reads as moved-reads
-use Rattle.monitor_pairs.proofs.events.put_column.Reads as put-column-reads
-use Rattle.monitor_pairs.proofs.events.put_row.Reads as put-row-reads
-use Rattle.monitor_pairs.proofs.events.row_of.Reads as row-of-reads
-use Rattle.monitor_pairs.proofs.runs.move_run.Reads as move-run-reads
 use borrow.Author.Rules.{rules}
 use Rattle.monitor_pairs.proofs.events.move_rows.Goals as goal
 
@@ -27,8 +18,11 @@ returns c =
     let k : ℕ = a.at * instances in
     let row = c.move_line-row.ensures ∙ ap (line_moved a.ways.first) c.row_of.ensures in
     let line = c.move_line-column.ensures ∙ ap (line_moved a.ways.second) c.column_of.ensures in
-    let own = c.moved-own.ensures in record { sets_after = c.put_column.ensures.sets_after
+    let own = c.moved-own.ensures in record {
+      sets_after = c.put_column.ensures.sets_after
           ∙ ap₂ (λ (u v : List ℕ). column_put a.at u a.n v) (ap₂ (λ (u : List ℕ) (v : ℕ). set u a.at v) line own)
           (c.put_row.ensures.sets_after
           ∙ ap₂ (λ (u v : List ℕ). row_put k u instances v) row c.move_run.ensures.sets_after)
-          ∙ event-made a.ways a.at a.n l c.requires.n_le_instances c.requires.at_lt_n; sets_len_2 = c.put_column.ensures.sets_len_2 }
+          ∙ event-made a.ways a.at a.n l c.requires.n_le_instances c.requires.at_lt_n;
+      sets_len_2 = c.put_column.ensures.sets_len_2;
+    }

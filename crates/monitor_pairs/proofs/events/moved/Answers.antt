@@ -1,4 +1,3 @@
-use Prim.Native.Nat.{◌-◌}
 use mathlib.Core.Path.{sym, ◌∙◌}
 use Rattle.automaton.proofs.RowLaws.{move_by-held}
 use Rattle.monitor_pairs.proofs.events.moved.Goals as goal

@@ -1,13 +1,11 @@
-use Prim.Native.Nat.{ℕ, ◌+◌, ◌-◌, ◌*◌, ◌/◌, ◌≤◌}
+use Prim.Native.Nat.{ℕ, ◌+◌, ◌*◌, ◌/◌}
 use mathlib.Core.Path.{◌≡◌, refl, sym, ap, ◌∙◌}
 use mathlib.Core.List.{List}
 use native.Mathlib.Omega.{arith}
-use lib.ListN.{length, get_or, set, length-set}
+use lib.ListN.{get_or, set, length-set}
 use Rattle.monitor_sets.specs.Instances.{instances}
-use Rattle.monitor_pairs.specs.Pairs.{pair_places}
 use Rattle.monitor_pairs.specs.Code.{column_put}
-use Rattle.monitor_pairs.proofs.RunLaws.{column, column-none, column-more}
-use Rattle.monitor_pairs.proofs.events.put_column.Reads as reads
+use Rattle.monitor_pairs.proofs.RunLaws.{column-none, column-more}
 use borrow.Author.Rules.{rules}
 use Rattle.monitor_pairs.proofs.events.put_column.Goals as goal
 

@@ -1,11 +1,10 @@
-use Prim.Native.Nat.{◌+◌, ◌-◌, ◌≤◌}
-use mathlib.Core.Path.{◌≡◌, refl, ◌∙◌}
+use Prim.Native.Nat.{◌+◌}
+use mathlib.Core.Path.{refl, ◌∙◌}
 use native.Mathlib.Omega.{arith}
 use lib.ListN.{get_or}
 use Rattle.monitor_sets.specs.Instances.{instances}
 use Rattle.monitor_pairs.specs.Code.{pair_row}
-use Rattle.monitor_pairs.proofs.RunLaws.{filled, filled-zeros, filled_more, filled-all}
-use Rattle.monitor_pairs.proofs.events.row_of.Reads as reads
+use Rattle.monitor_pairs.proofs.RunLaws.{filled-zeros, filled_more, filled-all}
 use borrow.Author.Rules.{rules}
 use Rattle.monitor_pairs.proofs.events.row_of.Goals as goal
 

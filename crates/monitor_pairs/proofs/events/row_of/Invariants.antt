@@ -1,11 +1,8 @@
 use Prim.Native.Nat.{◌+◌, ◌-◌, ◌≤◌}
-use mathlib.Core.Path.{◌≡◌, refl, ◌∙◌}
-use native.Mathlib.Omega.{arith}
+use mathlib.Core.Path.{◌≡◌}
 use lib.ListN.{get_or}
 use Rattle.monitor_sets.specs.Instances.{instances}
-use Rattle.monitor_pairs.specs.Code.{pair_row}
-use Rattle.monitor_pairs.proofs.RunLaws.{filled, filled-zeros, filled_more, filled-all}
-use Rattle.monitor_pairs.proofs.events.row_of.Reads as reads
+use Rattle.monitor_pairs.proofs.RunLaws.{filled}
 use Rattle.monitor_pairs.proofs.events.row_of.Given as goal
 
 abbrev pub invariant-loop-j : goal.invariant-loop-j

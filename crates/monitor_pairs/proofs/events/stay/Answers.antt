@@ -1,4 +1,3 @@
-use Prim.Native.Nat.{◌-◌}
 use Rattle.monitor_pairs.specs.Code.{stays_by}
 use borrow.Author.Rules.{rules}
 use Rattle.monitor_pairs.proofs.events.stay.Goals as goal

@@ -1,8 +1,5 @@
 use mathlib.Core.Path.{sym, ◌∙◌}
 use Rattle.monitor_pairs.proofs.GatherLaws.{stays-event}
-use Rattle.monitor_pairs.proofs.events.take_event.Reads as reads
-use Rattle.monitor_pairs.proofs.events.move_rows.Reads as move-rows-reads
-use Rattle.monitor_pairs.proofs.gathering.all_stay.Reads as all-stay-reads
 use Rattle.monitor_pairs.proofs.events.take_event.Goals as goal
 
 pub returns-then-all_stay : goal.returns-then-all_stay

@@ -1,13 +1,8 @@
-use Prim.Native.Nat.{◌-◌}
 use mathlib.Core.Path.{sym, ◌∙◌}
 use native.Mathlib.Omega.{arith}
 use lib.ListN.{get_or}
 use Rattle.monitor_pairs.specs.Pairs.{gather_pairs}
 use Rattle.monitor_pairs.proofs.GatherLaws.{union-rows, stays-gathered}
-use Rattle.monitor_pairs.proofs.gathering.after_event.Reads as reads
-use Rattle.monitor_pairs.proofs.gathering.after_rows.Reads as after-rows-reads
-use Rattle.monitor_pairs.proofs.gathering.all_stay.Reads as all-stay-reads
-use Rattle.monitor_pairs.proofs.gathering.union_run.Reads as union-run-reads
 use Rattle.monitor_pairs.proofs.gathering.after_event.Goals as goal
 
 pub returns-then-all_stay : goal.returns-then-all_stay

@@ -1,4 +1,4 @@
-use Prim.Native.Nat.{ℕ, ◌-◌, ◌≤◌, ◌<◌}
+use Prim.Native.Nat.{ℕ, ◌≤◌, ◌<◌}
 use mathlib.Core.Path.{sym, ap, ap₂, ◌∙◌}
 use mathlib.Core.List.{List}
 use native.Mathlib.Omega.{arith}
@@ -8,11 +8,6 @@ use Rattle.automaton.specs.Mask.{union}
 use Rattle.monitor_sets.specs.Instances.{instances}
 use Rattle.automaton.specs.Move.{move_by}
 use Rattle.monitor_pairs.proofs.GatherLaws.{four-parts, neither-joined, first-joined, second-joined, both-joined}
-use Rattle.monitor_pairs.proofs.gathering.after_rows.Reads as reads
-use Rattle.monitor_pairs.proofs.events.moved.Reads as moved-reads
-use Rattle.monitor_pairs.proofs.events.row_of.Reads as row-of-reads
-use Rattle.monitor_pairs.proofs.gathering.columns_beside.Reads as columns-beside-reads
-use Rattle.monitor_pairs.proofs.gathering.union_line.Reads as union-line-reads
 use Rattle.monitor_pairs.proofs.gathering.after_rows.Goals as goal
 
 pub returns : goal.returns

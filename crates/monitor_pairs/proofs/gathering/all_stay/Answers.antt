@@ -1,5 +1,4 @@
 use Rattle.usage.proofs.Logic.{not-true, not-false}
-use Prim.Native.Nat.{◌-◌}
 use mathlib.Core.Path.{refl, sym, ◌∙◌}
 use Rattle.monitor_pairs.specs.Code.{stays_all}
 use Rattle.monitor_pairs.proofs.gathering.all_stay.Goals as goal

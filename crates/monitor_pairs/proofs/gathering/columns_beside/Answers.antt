@@ -1,13 +1,10 @@
-use Prim.Native.Nat.{◌-◌, ◌*◌, ◌≤◌}
+use Prim.Native.Nat.{◌*◌}
 use mathlib.Core.Path.{◌≡◌, ap, ◌∙◌}
 use native.Mathlib.Omega.{arith}
 use lib.ListN.{length}
 use Rattle.monitor_sets.specs.Instances.{instances}
-use Rattle.monitor_pairs.specs.Code.{row_joined, beside_columns}
-use Rattle.usage.proofs.Logic.{by_cases}
+use Rattle.monitor_pairs.specs.Code.{row_joined}
 use Rattle.monitor_pairs.proofs.GatherLaws.{beside_none, beside-length, beside-row, beside-own}
-use Rattle.monitor_pairs.proofs.gathering.columns_beside.Reads as reads
-use Rattle.monitor_pairs.proofs.gathering.join_row.Reads as join-row-reads
 use borrow.Author.Rules.{rules}
 use Rattle.monitor_pairs.proofs.gathering.columns_beside.Goals as goal
 use Rattle.monitor_pairs.proofs.gathering.columns_beside.Goals.{else-i-at, then-i-at}
@@ -19,15 +16,18 @@ pub join_row-requires : goal.join_row-requires
 join_row-requires c =
     let a = c.args in
     let t = c.loop-i in
-    (ap length t.invariant.1 ∙ beside-length a.at a.sets.now t.i, search rules)
+    record { line_len = ap length t.invariant.1 ∙ beside-length a.at a.sets.now t.i; instances_bound = search rules; sets_len = search rules }
 
 pub loop-i-preserved : goal.loop-i-preserved
 loop-i-preserved c =
     let a = c.args in
     let t = c.loop-i in (
       search rules,
-      elim c.if-i-at.branch [ then-i-at w ↦ w.3 ∙ w.2.ensures.1 ∙ ap (row_joined (t.i * instances) a.sets.now) t.invariant.1
-          ∙ beside-row a.at a.sets.now t.i w.if-i-at.true | else-i-at w ↦ w.1 ∙ t.invariant.1 ∙ beside-own a.at a.sets.now t.i w.if-i-at.false ],
+      elim c.if-i-at.branch [
+        | then-i-at w ↦ w.line-is ∙ w.join_row.ensures.line_after ∙ ap (row_joined (t.i * instances) a.sets.now) t.invariant.1
+            ∙ beside-row a.at a.sets.now t.i w.if-i-at.true
+        | else-i-at w ↦ w.line-is ∙ t.invariant.1 ∙ beside-own a.at a.sets.now t.i w.if-i-at.false
+      ],
     )
 
 pub returns : goal.returns

@@ -1,10 +1,7 @@
 use Prim.Native.Nat.{◌+◌, ◌-◌, ◌≤◌}
-use mathlib.Core.Path.{◌≡◌, ◌∙◌}
-use native.Mathlib.Omega.{arith}
 use lib.ListN.{get_or}
 use Rattle.monitor_sets.specs.Code.{lanes}
-use Rattle.monitor_sets.proofs.LaneLaws.{Joining, joining-none, joining-more, joined-all}
-use Rattle.monitor_pairs.proofs.gathering.join_lanes.Reads as reads
+use Rattle.monitor_sets.proofs.LaneLaws.{Joining}
 -- `join_lanes` meets its contract. The invariant: the places below i are joined.
 use Rattle.monitor_pairs.proofs.gathering.join_lanes.Given as goal
 

@@ -1,13 +1,12 @@
-use Prim.Native.Nat.{ℕ, ◌+◌, ◌-◌, ◌≤◌, ◌<◌}
+use Prim.Native.Nat.{ℕ, ◌+◌, ◌<◌}
 use mathlib.Core.Path.{◌≡◌, refl, ap, ◌∙◌}
 use mathlib.Core.List.{List}
 use native.Mathlib.Omega.{arith}
 use lib.Bits.{bit_or}
-use lib.ListN.{length, get_or, set, length-set}
+use lib.ListN.{get_or, set, length-set}
 use Rattle.monitor_sets.specs.Instances.{instances}
 use Rattle.monitor_pairs.specs.Code.{row_joined}
-use Rattle.monitor_pairs.proofs.RunLaws.{filled, filled_none, filled_next, filled_more, filled-all}
-use Rattle.monitor_pairs.proofs.gathering.join_row.Reads as reads
+use Rattle.monitor_pairs.proofs.RunLaws.{filled_none, filled_next, filled_more, filled-all}
 use borrow.Author.Rules.{rules}
 use Rattle.monitor_pairs.proofs.gathering.join_row.Goals as goal
 
@@ -51,5 +50,8 @@ returns c =
     let t = c.loop-j in
     let l = a.line.now in
     let s = a.sets.now in
-    let k = a.k in record { line_len_2 = t.invariant.1.0; line_after = t.invariant.1.1 ∙ filled-all (λ j. bit_or (get_or l j 0) (get_or s (k + j) 0)) (λ j. get_or l j 0) instances t.j (omega
-          arith) }
+    let k = a.k in record {
+      line_len_2 = t.invariant.1.0;
+      line_after = t.invariant.1.1 ∙ filled-all (λ j. bit_or (get_or l j 0) (get_or s (k + j) 0)) (λ j. get_or l j 0) instances t.j (omega
+          arith);
+    }

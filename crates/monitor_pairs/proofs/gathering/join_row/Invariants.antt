@@ -1,13 +1,9 @@
-use Prim.Native.Nat.{ℕ, ◌+◌, ◌-◌, ◌≤◌, ◌<◌}
-use mathlib.Core.Path.{◌≡◌, refl, ap, ◌∙◌}
-use mathlib.Core.List.{List}
-use native.Mathlib.Omega.{arith}
+use Prim.Native.Nat.{◌+◌, ◌-◌, ◌≤◌}
+use mathlib.Core.Path.{◌≡◌}
 use lib.Bits.{bit_or}
-use lib.ListN.{length, get_or, set, length-set}
+use lib.ListN.{length, get_or}
 use Rattle.monitor_sets.specs.Instances.{instances}
-use Rattle.monitor_pairs.specs.Code.{row_joined}
-use Rattle.monitor_pairs.proofs.RunLaws.{filled, filled_none, filled_next, filled_more, filled-all}
-use Rattle.monitor_pairs.proofs.gathering.join_row.Reads as reads
+use Rattle.monitor_pairs.proofs.RunLaws.{filled}
 use Rattle.monitor_pairs.proofs.gathering.join_row.Given as goal
 
 abbrev pub invariant-loop-j : goal.invariant-loop-j

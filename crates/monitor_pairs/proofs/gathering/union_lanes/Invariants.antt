@@ -1,11 +1,9 @@
 -- `union_lanes` meets its contract.
 use Prim.Native.Nat.{◌-◌, ◌≤◌}
-use mathlib.Core.Path.{◌≡◌, refl}
-use native.Mathlib.Omega.{arith}
+use mathlib.Core.Path.{◌≡◌}
 use lib.ListN.{get_or}
 use Rattle.automaton.specs.Mask.{union}
 use Rattle.monitor_sets.specs.Code.{lanes}
-use Rattle.monitor_sets.proofs.SetLaws.{union_more}
 use Rattle.monitor_pairs.proofs.gathering.union_lanes.Given as goal
 
 abbrev pub invariant-loop-i : goal.invariant-loop-i

@@ -1,14 +1,11 @@
-use Prim.Native.Nat.{ℕ, ◌+◌, ◌-◌, ◌*◌, ◌≤◌}
-use mathlib.Core.Path.{◌≡◌, refl, ap, ◌∙◌}
+use Prim.Native.Nat.{ℕ, ◌+◌, ◌-◌, ◌*◌}
+use mathlib.Core.Path.{refl, ap, ◌∙◌}
 use native.Mathlib.Omega.{arith}
 use lib.Bits.{bit_or}
-use lib.ListN.{length, get_or}
+use lib.ListN.{get_or}
 use Rattle.automaton.specs.Mask.{union}
 use Rattle.monitor_sets.specs.Code.{lanes}
 use Rattle.monitor_sets.proofs.LaneLaws.{union-next, union-back}
-use Rattle.monitor_pairs.proofs.gathering.union_run.Reads as reads
-use Rattle.monitor_pairs.proofs.gathering.join_lanes.Reads as join-lanes-reads
-use Rattle.monitor_pairs.proofs.gathering.union_lanes.Reads as union-lanes-reads
 use borrow.Author.Rules.{rules}
 use Rattle.monitor_pairs.proofs.gathering.union_run.Goals as goal
 

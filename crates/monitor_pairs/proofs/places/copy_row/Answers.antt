@@ -1,12 +1,9 @@
-use Prim.Native.Nat.{ℕ, ◌-◌, ◌*◌}
+use Prim.Native.Nat.{ℕ, ◌*◌}
 use mathlib.Core.Path.{ap, ◌∙◌}
 use mathlib.Core.List.{List}
 use Rattle.monitor_sets.specs.Instances.{instances}
 use Rattle.monitor_pairs.specs.Code.{row_put}
 use Rattle.monitor_pairs.proofs.RetireLaws.{row_copied_lem}
-use Rattle.monitor_pairs.proofs.places.copy_row.Reads as reads
-use Rattle.monitor_pairs.proofs.events.put_row.Reads as put-row-reads
-use Rattle.monitor_pairs.proofs.events.row_of.Reads as row-of-reads
 use Rattle.monitor_pairs.proofs.places.copy_row.Goals as goal
 
 pub returns : goal.returns

@@ -1,6 +1,4 @@
 use Rattle.monitor_pairs.specs.Pairs.{create_pairs}
-use Rattle.monitor_pairs.proofs.places.create.Reads as reads
-use Rattle.monitor_pairs.proofs.places.copy_row.Reads as copy-row-reads
 use Rattle.monitor_pairs.proofs.places.create.Goals as goal
 
 pub returns : goal.returns

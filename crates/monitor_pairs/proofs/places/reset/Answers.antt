@@ -1,15 +1,14 @@
-use Prim.Native.Nat.{ℕ, ◌-◌, ◌*◌, ◌/◌, ◌≤◌}
+use Prim.Native.Nat.{ℕ, ◌*◌, ◌/◌}
 use mathlib.Core.Path.{◌≡◌, refl, ap, ◌∙◌}
 use mathlib.Core.Bool.{Bool, cond}
 use mathlib.Core.List.{List}
 use native.Mathlib.Omega.{arith}
 use lib.Dec.{ltb}
-use lib.ListN.{length, get_or, set, length-set}
+use lib.ListN.{get_or, set, length-set}
 use Rattle.monitor_sets.specs.Instances.{instances}
 use Rattle.monitor_pairs.specs.Pairs.{pair_places, reset_pairs}
-use Rattle.monitor_pairs.proofs.RunLaws.{filled, filled_none, filled_more, same_from, rows-places}
+use Rattle.monitor_pairs.proofs.RunLaws.{filled_none, filled_more, same_from, rows-places}
 use Rattle.monitor_sets.specs.Sets.{start_set}
-use Rattle.monitor_pairs.proofs.places.reset.Reads as reads
 use borrow.Author.Rules.{rules}
 use Rattle.monitor_pairs.proofs.places.reset.Goals as goal
 
@@ -39,5 +38,8 @@ returns c =
     let t = c.loop-k in
     let a = c.args in
     let l = a.sets.now in
-    let e : t.k ≡ a.n * instances = omega arith in record { sets_after = rw e at t.invariant.1.1.0 ∙ same_from (λ k. cond (ltb k (a.n * instances)) start_set (get_or l k 0)) (λ k. cond (ltb (k / instances) a.n) start_set (get_or l k 0)) pair_places
-          (λ k b. ap (λ (u : Bool). cond u start_set (get_or l k 0)) (rows-places k a.n)); sets_len_2 = t.invariant.1.1.1 }
+    let e : t.k ≡ a.n * instances = omega arith in record {
+      sets_after = rw e at t.invariant.1.1.0 ∙ same_from (λ k. cond (ltb k (a.n * instances)) start_set (get_or l k 0)) (λ k. cond (ltb (k / instances) a.n) start_set (get_or l k 0)) pair_places
+          (λ k b. ap (λ (u : Bool). cond u start_set (get_or l k 0)) (rows-places k a.n));
+      sets_len_2 = t.invariant.1.1.1;
+    }

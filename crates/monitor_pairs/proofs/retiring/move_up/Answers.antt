@@ -1,12 +1,11 @@
-use Prim.Native.Nat.{ℕ, ◌+◌, ◌-◌, ◌≤◌}
+use Prim.Native.Nat.{ℕ, ◌+◌}
 use mathlib.Core.Path.{◌≡◌, refl, ap, ◌∙◌}
 use mathlib.Core.List.{List}
 use native.Mathlib.Omega.{arith}
-use lib.ListN.{length, get_or, set, length-set}
+use lib.ListN.{get_or, set, length-set}
 use Rattle.monitor_pairs.specs.Pairs.{pair_places}
 use Rattle.monitor_pairs.specs.Code.{moved_up}
-use Rattle.monitor_pairs.proofs.RunLaws.{span, span_none, span-ahead, span_more}
-use Rattle.monitor_pairs.proofs.retiring.move_up.Reads as reads
+use Rattle.monitor_pairs.proofs.RunLaws.{span_none, span-ahead, span_more}
 use borrow.Author.Rules.{rules}
 use Rattle.monitor_pairs.proofs.retiring.move_up.Goals as goal
 

@@ -1,12 +1,8 @@
-use Prim.Native.Nat.{ℕ, ◌+◌, ◌-◌, ◌≤◌}
-use mathlib.Core.Path.{◌≡◌, refl, ap, ◌∙◌}
-use mathlib.Core.List.{List}
-use native.Mathlib.Omega.{arith}
-use lib.ListN.{length, get_or, set, length-set}
+use Prim.Native.Nat.{◌+◌, ◌-◌, ◌≤◌}
+use mathlib.Core.Path.{◌≡◌}
+use lib.ListN.{length, get_or}
 use Rattle.monitor_pairs.specs.Pairs.{pair_places}
-use Rattle.monitor_pairs.specs.Code.{moved_up}
-use Rattle.monitor_pairs.proofs.RunLaws.{span, span_none, span-ahead, span_more}
-use Rattle.monitor_pairs.proofs.retiring.move_up.Reads as reads
+use Rattle.monitor_pairs.proofs.RunLaws.{span}
 use Rattle.monitor_pairs.proofs.retiring.move_up.Given as goal
 
 abbrev pub invariant-loop-i : goal.invariant-loop-i

@@ -6,13 +6,6 @@ use Rattle.monitor_sets.specs.Instances.{instances, unseen, retirees}
 use Rattle.monitor_pairs.specs.Pairs.{row_copied}
 use Rattle.monitor_pairs.specs.Code.{pair_row, row_put, row_joined, moved_up}
 use Rattle.monitor_pairs.proofs.RetireLaws.{retired-both}
-use Rattle.monitor_pairs.proofs.retiring.retire.Reads as reads
-use Rattle.monitor_pairs.proofs.events.put_row.Reads as put-row-reads
-use Rattle.monitor_pairs.proofs.events.row_of.Reads as row-of-reads
-use Rattle.monitor_pairs.proofs.gathering.join_row.Reads as join-row-reads
-use Rattle.monitor_pairs.proofs.places.copy_row.Reads as copy-row-reads
-use Rattle.monitor_pairs.proofs.retiring.move_up.Reads as move-up-reads
-use Rattle.monitor_pairs.proofs.retiring.retire_columns.Reads as retire-columns-reads
 use Rattle.monitor_pairs.proofs.retiring.retire.Goals as goal
 
 pub returns : goal.returns
@@ -23,5 +16,8 @@ returns c =
     let row = c.join_row.ensures.line_after
     ∙ ap₂ (λ (u v : List ℕ). row_joined (a.at * instances) u v) cols (c.row_of-row.ensures ∙ ap (pair_row (retirees * instances)) cols) in
     let put = c.put_row.ensures.sets_after ∙ ap₂ (λ (u v : List ℕ). row_put (retirees * instances) u instances v) row cols in
-    let rows = c.move_up.ensures.sets_after ∙ ap (moved_up (a.at * instances) ((a.n - 1 - a.at) * instances) instances) put in record { sets_after = c.copy_row.ensures.sets_after ∙ ap (row_copied unseen (a.n - 1)) rows
-          ∙ retired-both a.at a.n l (omega arith) (omega arith) (omega arith); sets_len_2 = c.copy_row.ensures.sets_len_2 }
+    let rows = c.move_up.ensures.sets_after ∙ ap (moved_up (a.at * instances) ((a.n - 1 - a.at) * instances) instances) put in record {
+      sets_after = c.copy_row.ensures.sets_after ∙ ap (row_copied unseen (a.n - 1)) rows
+          ∙ retired-both a.at a.n l (omega arith) (omega arith) (omega arith);
+      sets_len_2 = c.copy_row.ensures.sets_len_2;
+    }

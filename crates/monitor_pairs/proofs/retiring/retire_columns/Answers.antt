@@ -1,13 +1,9 @@
-use Prim.Native.Nat.{◌-◌, ◌*◌, ◌≤◌}
+use Prim.Native.Nat.{◌*◌}
 use mathlib.Core.Path.{◌≡◌, ap, ◌∙◌}
 use native.Mathlib.Omega.{arith}
-use lib.ListN.{length}
 use Rattle.monitor_sets.specs.Instances.{instances}
-use Rattle.monitor_pairs.specs.Pairs.{pair_places}
-use Rattle.monitor_pairs.specs.Code.{line_retired, columns_retired}
+use Rattle.monitor_pairs.specs.Code.{line_retired}
 use Rattle.monitor_pairs.proofs.RetireLaws.{columns-none, columns-more}
-use Rattle.monitor_pairs.proofs.retiring.retire_columns.Reads as reads
-use Rattle.monitor_pairs.proofs.retiring.retire_line.Reads as retire-line-reads
 use borrow.Author.Rules.{rules}
 use Rattle.monitor_pairs.proofs.retiring.retire_columns.Goals as goal
 

@@ -5,17 +5,15 @@ use mathlib.Core.List.{List}
 use native.Mathlib.Omega.{arith}
 use lib.ListN.{length, get_or, set, length-set}
 use Rattle.monitor_sets.specs.Instances.{instances, unseen}
-use Rattle.monitor_pairs.proofs.retiring.retire_line.Reads as reads
-use Rattle.monitor_pairs.proofs.retiring.move_up.Reads as move-up-reads
 use borrow.Author.Rules.{rules}
 use Rattle.monitor_pairs.proofs.retiring.retire_line.Goals as goal
 
 pub move_up-requires : goal.move_up-requires
-move_up-requires c = (
-  length-set c.args.sets.now _ _
-      ∙ c.requires.sets_len,
-  search rules,
-)
+move_up-requires c = record {
+  sets_len = length-set c.args.sets.now _ _ ∙ c.requires.sets_len;
+  by_bound = search rules;
+  by_nonzero = search rules;
+}
 
 pub shape_of-sets : goal.shape_of-sets
 shape_of-sets c =

@@ -1,10 +1,10 @@
-use Prim.Native.Nat.{ℕ, ◌+◌, ◌-◌, ◌*◌, ◌≤◌}
-use mathlib.Core.Path.{◌≡◌, refl, ◌∙◌}
+use Prim.Native.Nat.{◌+◌, ◌*◌}
+use mathlib.Core.Path.{refl, ◌∙◌}
 use native.Mathlib.Omega.{arith}
 use lib.ListN.{get_or}
 use Rattle.usage.specs.Limits.{states}
 use Rattle.monitor_pairs.specs.Code.{policy_rows_lem}
-use Rattle.monitor_pairs.proofs.RunLaws.{filled, filled-zeros, filled_more, filled-all}
+use Rattle.monitor_pairs.proofs.RunLaws.{filled-zeros, filled_more, filled-all}
 use borrow.Author.Rules.{rules}
 use Rattle.monitor_pairs.proofs.rows.policy_rows.Goals as goal
 

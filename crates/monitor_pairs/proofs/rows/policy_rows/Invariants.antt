@@ -1,10 +1,8 @@
-use Prim.Native.Nat.{ℕ, ◌+◌, ◌-◌, ◌*◌, ◌≤◌}
-use mathlib.Core.Path.{◌≡◌, refl, ◌∙◌}
-use native.Mathlib.Omega.{arith}
+use Prim.Native.Nat.{◌+◌, ◌-◌, ◌*◌, ◌≤◌}
+use mathlib.Core.Path.{◌≡◌}
 use lib.ListN.{get_or}
 use Rattle.usage.specs.Limits.{states}
-use Rattle.monitor_pairs.specs.Code.{policy_rows_lem}
-use Rattle.monitor_pairs.proofs.RunLaws.{filled, filled-zeros, filled_more, filled-all}
+use Rattle.monitor_pairs.proofs.RunLaws.{filled}
 use Rattle.monitor_pairs.proofs.rows.policy_rows.Given as goal
 
 abbrev pub invariant-loop-q : goal.invariant-loop-q

@@ -1,10 +1,6 @@
 use Prim.Native.Nat.{ℕ, ◌-◌, ◌^◌, ◌≤◌, ◌<◌}
-use mathlib.Core.Path.{◌≡◌, sym, ap, ◌∙◌}
-use native.Mathlib.Omega.{arith}
-use borrow.Author.Count.{below_more}
+use mathlib.Core.Path.{◌≡◌}
 use lib.ListN.{get_or}
-use Rattle.usage.proofs.Logic.{false-true}
-use Rattle.automaton.proofs.MaskLaws.{bit_shifted}
 use Rattle.monitor_pairs.specs.Code.{two_moved}
 use Rattle.monitor_pairs.proofs.runs.agrees.Given as goal
 

@@ -1,4 +1,4 @@
-use Prim.Native.Nat.{◌-◌, ◌≤◌}
+use Prim.Native.Nat.{◌≤◌}
 use Rattle.monitor_pairs.proofs.runs.last_change.Given as goal
 
 abbrev pub invariant-loop-q : goal.invariant-loop-q

@@ -1,17 +1,15 @@
-use Prim.Native.Nat.{ℕ, ◌-◌, ◌≤◌, ◌<◌}
+use Prim.Native.Nat.{ℕ, ◌<◌}
 use mathlib.Core.Path.{◌≡◌, refl, sym, ap, ◌∙◌}
 use mathlib.Core.Bool.{cond}
 use mathlib.Core.List.{List, [], ◌∷◌}
 use native.Mathlib.Omega.{arith}
 use lib.Dec.{ltb}
-use lib.ListN.{length, get_or, set, length-set}
+use lib.ListN.{get_or, set, length-set}
 use Rattle.automaton.specs.Move.{move_by}
 use Rattle.automaton.proofs.RowLaws.{move_by-held}
 use Rattle.monitor_pairs.specs.Pairs.{pair_places}
 use Rattle.monitor_pairs.specs.Code.{run_moved}
-use Rattle.monitor_pairs.proofs.RunLaws.{filled, filled_none, filled_next, filled_more, same_from}
-use Rattle.monitor_pairs.proofs.runs.move_eight.Reads as reads
-use Rattle.automaton.proofs.move_by_rows.Reads as move-by-rows-reads
+use Rattle.monitor_pairs.proofs.RunLaws.{filled_none, filled_next, filled_more, same_from}
 use borrow.Author.Rules.{rules}
 use Rattle.monitor_pairs.proofs.runs.move_eight.Goals as goal
 
@@ -48,6 +46,9 @@ returns c =
     let rows : List ℕ = get_or w 0 0 ∷ get_or w 1 0 ∷ get_or w 2 0 ∷ get_or w 3 0 ∷ get_or w 4 0 ∷ get_or w 5 0 ∷ get_or w 6 0 ∷ get_or w 7 0 ∷ [] in
     let l = c.args.sets.now in
     let t = c.loop-k in
-    let e : t.k ≡ c.args.n = omega arith in record { sets_after = rw e at t.invariant.1.1 ∙ same_from (λ k. cond (ltb k c.args.n) (move_by rows 0 (get_or l k 0)) (get_or l k 0))
+    let e : t.k ≡ c.args.n = omega arith in record {
+      sets_after = rw e at t.invariant.1.1 ∙ same_from (λ k. cond (ltb k c.args.n) (move_by rows 0 (get_or l k 0)) (get_or l k 0))
           (λ k. cond (ltb k c.args.n) (move_by w 0 (get_or l k 0)) (get_or l k 0)) pair_places
-          (λ k b. ap (λ (m : ℕ). cond (ltb k c.args.n) m (get_or l k 0)) (sym (move_by-held w 0 (get_or l k 0)))); sets_len_2 = t.invariant.1.0 }
+          (λ k b. ap (λ (m : ℕ). cond (ltb k c.args.n) m (get_or l k 0)) (sym (move_by-held w 0 (get_or l k 0))));
+      sets_len_2 = t.invariant.1.0;
+    }

@@ -1,13 +1,6 @@
 use mathlib.Core.Path.{sym, ◌∙◌}
 use Rattle.monitor_pairs.proofs.GatherLaws.{stays_moved}
 use Rattle.monitor_pairs.proofs.TwoLaws.{two_run, stays-run}
-use Rattle.monitor_pairs.proofs.runs.move_run.Reads as reads
-use Rattle.monitor_pairs.proofs.events.stay.Reads as stay-reads
-use Rattle.monitor_pairs.proofs.runs.agrees.Reads as agrees-reads
-use Rattle.monitor_pairs.proofs.runs.first_change.Reads as first-change-reads
-use Rattle.monitor_pairs.proofs.runs.last_change.Reads as last-change-reads
-use Rattle.monitor_pairs.proofs.runs.move_eight.Reads as move-eight-reads
-use Rattle.monitor_pairs.proofs.runs.move_two.Reads as move-two-reads
 use Rattle.monitor_pairs.proofs.runs.move_run.Goals as goal
 
 pub returns-then-stay : goal.returns-then-stay

@@ -1,13 +1,11 @@
-use Prim.Native.Nat.{ℕ, ◌-◌, ◌≤◌, ◌<◌}
+use Prim.Native.Nat.{ℕ, ◌<◌}
 use mathlib.Core.Path.{◌≡◌, refl, ap, ◌∙◌}
 use mathlib.Core.List.{List}
 use native.Mathlib.Omega.{arith}
-use lib.ListN.{length, get_or, set, length-set}
+use lib.ListN.{get_or, set, length-set}
 use Rattle.monitor_pairs.specs.Pairs.{pair_places}
 use Rattle.monitor_pairs.specs.Code.{two_moved, run_by_two}
-use Rattle.monitor_pairs.proofs.RunLaws.{filled, filled_none, filled_next, filled_more}
-use Rattle.monitor_pairs.proofs.runs.move_two.Reads as reads
-use Rattle.monitor_pairs.proofs.runs.move_by_two.Reads as move-by-two-reads
+use Rattle.monitor_pairs.proofs.RunLaws.{filled_none, filled_next, filled_more}
 use borrow.Author.Rules.{rules}
 use Rattle.monitor_pairs.proofs.runs.move_two.Goals as goal
 
