@@ -1,6 +1,6 @@
 /* The monitor and the checker for programs in C: the functions that the proved code exports.
  *
- *   rt staticlib api_c    proves all functions and writes them to target/staticlib/libapi_c.a
+ *   tests/archives api_c  proves all functions and writes them to target/staticlib/libapi_c.a
  *   cc -Iapi program.c target/staticlib/libapi_c.a
  *
  * They are for x86-64 Linux. No function keeps anything between calls, allocates, reads or writes anything but what it is lent, or has a

@@ -1,4 +1,4 @@
-// Links the archive that `rt staticlib api_c` writes: that of this repository, or of the folder that WIFOREKUN_ARCHIVES names.
+// Links the archive that `tests/archives api_c` writes: that of this repository, or of the folder that WIFOREKUN_ARCHIVES names.
 use std::env;
 use std::path::PathBuf;
 
@@ -8,7 +8,7 @@ fn main() {
     let archives = env::var("WIFOREKUN_ARCHIVES").unwrap_or_else(|_| format!("{here}/../../target/staticlib"));
     let archive = PathBuf::from(format!("{archives}/libapi_c.a"));
     if !archive.exists() {
-        panic!("{} is not there: `rt staticlib api_c`, at the top of the repository, writes it", archive.display());
+        panic!("{} is not there: `tests/archives api_c`, at the top of the repository, writes it", archive.display());
     }
     println!("cargo:rustc-link-search=native={archives}");
     println!("cargo:rustc-link-lib=static=api_c");

@@ -30,8 +30,7 @@ fn read_code(r: Reading) -> usize
 // The nodes of an expression into a table, three bytes to a node: how many there are, 1 to 64; or 512 and the number of the refusal, and
 // 65,536 more where its line is 1 and not 0. The table needs room for 64 nodes (else 40); what comes after the nodes is left as it was, and
 // all of it by a refusal.
-#[unsafe(no_mangle)]
-pub extern "C" fn wiforekun_read_expression(text: &[u8], table: &mut [u8]) -> usize
+pub fn wiforekun_read_expression(text: &[u8], table: &mut [u8]) -> usize
     ensures value { result ≡ read_code (answered (expression_into (length table.old) text.now)) }
     ensures table_after { table.new ≡ stored (expression_into (length table.old) text.now) table.old }
 {
@@ -40,8 +39,7 @@ pub extern "C" fn wiforekun_read_expression(text: &[u8], table: &mut [u8]) -> us
 }
 
 // What the program that reads an expression prints, from the bytes of `outline.expr`: its length, and 0 where `out` lacks the room.
-#[unsafe(no_mangle)]
-pub extern "C" fn wiforekun_report_expression(text: &[u8], out: &mut [u8]) -> usize
+pub fn wiforekun_report_expression(text: &[u8], out: &mut [u8]) -> usize
     ensures value { result ≡ length_put expression_room out.old (expression_printed text.now) }
     ensures out_after { out.new ≡ output_put expression_room out.old (expression_printed text.now) }
 {

@@ -24,8 +24,7 @@ fn summary_code(n: u8) -> u32
 // The exact summary of an outline, as a flat table of nodes, under a flat table of edges and the choice of past `local`: for each policy a
 // number of 33 bits. Bits 0 to 31 are the actions, and bit 32 is its opening, that can be the last step of a trace that leaves it open and
 // not respected. The table needs room for eight numbers (else 40); what comes after them is left as it was.
-#[unsafe(no_mangle)]
-pub extern "C" fn wiforekun_summary(
+pub fn wiforekun_summary(
     edges: &[u8],
     local: u32,
     nodes: &[u8],
@@ -45,8 +44,7 @@ pub extern "C" fn wiforekun_summary(
 
 // One step of the lean judge: as `wiforekun_judge_parts`, but that a step is judged by the policies alone that the lent summary marks at it.
 // Any eight numbers are a summary.
-#[unsafe(no_mangle)]
-pub extern "C" fn wiforekun_judge_lean_parts(
+pub fn wiforekun_judge_lean_parts(
     marks: &[u64; POLICIES],
     edges: &[u8],
     local: u32,

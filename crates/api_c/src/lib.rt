@@ -70,7 +70,7 @@ fn no_state(edges: &[u8]) -> u32
 const MOST_CHOICE: u32 = 1;
 
 // How many numbers a state has beside its arrays.
-const NUMBERS: usize = 4;
+pub const NUMBERS: usize = 4;
 
 // The greatest number that a resource can have: one above it is the highest of no state.
 const MOST_NUMBER: u64 = 4294967295;
@@ -79,8 +79,7 @@ const MOST_NUMBER: u64 = 4294967295;
 // resources, of which none can be written yet, what each policy may be in, the numbers of the live resources, the counts of unclosed openings and their order, and in `numbers` how many resources are live, a flag, 1
 // where the state is halted and 0 where it is not, how many openings are not closed, and the highest number that was created. All of them
 // then hold the state that the judge returns; after a refusal they are as they were lent.
-#[unsafe(no_mangle)]
-pub extern "C" fn wiforekun_judge_parts(
+pub fn wiforekun_judge_parts(
     edges: &[u8],
     local: u32,
     sets: &mut [u8; SETS],
@@ -168,8 +167,7 @@ fn outcome_code(o: Outcome) -> u32
 }
 
 // The check of an outline, as a flat table of nodes, under a flat table of edges and the choice of past `local`.
-#[unsafe(no_mangle)]
-pub extern "C" fn wiforekun_check(edges: &[u8], local: u32, nodes: &[u8]) -> u32
+pub fn wiforekun_check(edges: &[u8], local: u32, nodes: &[u8]) -> u32
     ensures { Answers local edges.now nodes.now result }
 {
     if MOST_CHOICE < local {
@@ -194,8 +192,7 @@ fn explanation_code(e: Explanation) -> u32
 // The check of an outline, and where it names a policy a shortest trace that leaves that policy open and not respected: three numbers to
 // a step, the oldest first. Answers 65536 times the number of steps written, which is 0 where none are, and document 01's two numbers as
 // `wiforekun_check` does. The table needs room for 200 steps, 600 numbers (else 40); what comes after the trace is left as it was.
-#[unsafe(no_mangle)]
-pub extern "C" fn wiforekun_counterexample(
+pub fn wiforekun_counterexample(
     edges: &[u8],
     local: u32,
     nodes: &[u8],

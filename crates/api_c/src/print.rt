@@ -10,8 +10,7 @@ ghost use Rattle.report.specs.Summary.{RightSummary, summary_printed, summary_ro
 ghost use Rattle.checker.specs.Summary.{Summary};
 
 // What the first program prints, from the bytes of `policies.txt` and `trace.txt`.
-#[unsafe(no_mangle)]
-pub extern "C" fn wiforekun_report_trace(policies: &[u8], trace: &[u8], out: &mut [u8]) -> usize
+pub fn wiforekun_report_trace(policies: &[u8], trace: &[u8], out: &mut [u8]) -> usize
     ensures value { result ≡ length_put trace_room out.old (trace_printed policies.now trace.now) }
     ensures out_after { out.new ≡ output_put trace_room out.old
         (trace_printed policies.now trace.now) }
@@ -21,8 +20,7 @@ pub extern "C" fn wiforekun_report_trace(policies: &[u8], trace: &[u8], out: &mu
 
 // What the second program prints, from the bytes of `policies.txt` and `outline.txt`. It is told by whichever verdict is right; where
 // anything is printed, one is.
-#[unsafe(no_mangle)]
-pub extern "C" fn wiforekun_report_outline(policies: &[u8], outline: &[u8], out: &mut [u8]) -> usize
+pub fn wiforekun_report_outline(policies: &[u8], outline: &[u8], out: &mut [u8]) -> usize
     ensures value { (v : Verdict) → RightTexts policies.now outline.now v
         → result ≡ length_put outline_room out.old (outline_printed policies.now outline.now v) }
     ensures out_after { (v : Verdict) → RightTexts policies.now outline.now v
@@ -34,8 +32,7 @@ pub extern "C" fn wiforekun_report_outline(policies: &[u8], outline: &[u8], out:
 }
 
 // What the third program prints, from the bytes of `policies.txt` and `outline.txt`: a shortest counterexample as a trace sheet.
-#[unsafe(no_mangle)]
-pub extern "C" fn wiforekun_report_counterexample(
+pub fn wiforekun_report_counterexample(
     policies: &[u8],
     outline: &[u8],
     out: &mut [u8],
@@ -51,8 +48,7 @@ pub extern "C" fn wiforekun_report_counterexample(
 
 // What the program of summaries prints, from the bytes of `policies.txt` and `outline.txt`: a line for each mark. It is the text of whichever
 // summary is right, and there is one only; where anything is printed, one is right.
-#[unsafe(no_mangle)]
-pub extern "C" fn wiforekun_report_summary(policies: &[u8], outline: &[u8], out: &mut [u8]) -> usize
+pub fn wiforekun_report_summary(policies: &[u8], outline: &[u8], out: &mut [u8]) -> usize
     ensures value { (m : Summary) → RightSummary policies.now outline.now m
         → result ≡ length_put summary_room out.old (summary_printed policies.now outline.now m) }
     ensures out_after { (m : Summary) → RightSummary policies.now outline.now m

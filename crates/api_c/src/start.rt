@@ -9,8 +9,7 @@ use monitor_state::PAIR_SETS;
 use usage::{MOST_CREATED, MOST_UNCLOSED, POLICIES};
 
 // The lent parts are made those of the start, whatever they held.
-#[unsafe(no_mangle)]
-pub extern "C" fn wiforekun_start_parts(
+pub fn wiforekun_start_parts(
     sets: &mut [u8; SETS],
     pairs: &mut [u8; PAIR_SETS],
     possible: &mut [u8; POLICIES],

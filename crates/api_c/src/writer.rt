@@ -6,12 +6,11 @@ ghost use Rattle.api_c.specs.Writing.{length_in, told_in};
 use sheet_writer::Writing;
 
 // How many numbers tell a refusal: its line and its number.
-const REFUSAL_LENGTH: usize = 2;
+pub const REFUSAL_LENGTH: usize = 2;
 
 // The sheet of policies in `text` is written to `out`: its length; or 0 where the sheet is refused, with the refusal's line and number told
 // in `refusal`, and nothing written.
-#[unsafe(no_mangle)]
-pub extern "C" fn wiforekun_write_policies(
+pub fn wiforekun_write_policies(
     text: &[u8],
     out: &mut [u8],
     refusal: &mut [u64; REFUSAL_LENGTH],
