@@ -10,7 +10,7 @@ use native.Mathlib.Omega.{arith}
 use native.Mathlib.Decide.{dec_lt}
 use lib.Dec.{eqb, leb, ltb, lit<}
 use lib.ListN.{get_or, get_elem?, take, set, replicate, get_or-map}
-use borrow.Author.Tests.{eq-eqb, ne_eqb, eqb-true, lt-leb, le-leb, leb-true, leb-false, le-ltb, ltb-true, ltb-false}
+use borrow.Author.Tests.{eq-eqb, ne_eqb, lt-leb, le-leb, leb-true, leb-false, le-ltb, ltb-true, ltb-false}
 use Rattle.usage.specs.declared.Edge.{Edge}
 use Rattle.usage.specs.declared.RawStep.{RawStep}
 use Rattle.usage.specs.Limits.{statics, resources, actions, policies, most_created, within, ◌until◌, unused}
@@ -41,7 +41,7 @@ use Rattle.monitor_state.specs.Tracked.{moved_sets, moved_in}
 use Rattle.monitor_state.specs.Judge.{start_state, unclosed_ok, state_ok_lem, with_tracked, creating, moving, entering, leaving, releasing, after}
 use Rattle.monitor_state.specs.Judge.{broken, refusal, refuse, halt, settle}
 use Rattle.monitor_state.specs.Judge.{judge_step, judge_read, judge_of, answers_of}
-use Rattle.monitor_state.specs.Renamed.{event_kind, retiring_kind, Names, Occurring, Renaming, renamed, renamed_step, SameAnswers}
+use Rattle.monitor_state.specs.Renamed.{Names, Occurring, renamed, renamed_step, SameAnswers}
 
 -- ── Lists whose elements are renamed ──
 

@@ -7,7 +7,7 @@ use mathlib.Core.List.{List, [], ◌∷◌, ◌++◌}
 use native.Mathlib.Numerals.{add-one}
 use native.Mathlib.Omega.{arith}
 use lib.Dec.{eqb, leb, ltb}
-use lib.ListN.{length, get_or, take, set, length-set}
+use lib.ListN.{length, take, set, length-set}
 use lib.Seq.{take-suc-set}
 use borrow.Author.Tests.{eq-eqb, ne_eqb, eqb-true, eqb-false, lt-ltb, le-ltb, ltb-true, ltb-false, le-leb, leb-true}
 use Rattle.usage.specs.Limits.{statics, resources, most_created}
@@ -15,15 +15,15 @@ use Rattle.usage.specs.Past.{Step, event, retiring, Past, without, Occurs, Retir
 use Rattle.usage.specs.Tests.{every}
 use Rattle.usage.proofs.Logic.{by_cases, clash, or_right, and_both}
 use Rattle.usage.proofs.TableLaws.{length_from}
-use Rattle.monitor_sets.specs.Instances.{unseen, retirees, first_created_lem}
+use Rattle.monitor_sets.specs.Instances.{unseen, first_created_lem}
 use Rattle.monitor_sets.proofs.RetiredLaws.{lowered}
 use Rattle.monitor_state.specs.declared.Created.{Created}
 use Rattle.monitor_state.specs.Created.{live, listed, distinct, dynamic, place_from, closed_up, place_of, used, with_new, with_retired}
 use Rattle.monitor_state.specs.Represents.{ListsLive}
 use Rattle.monitor_state.proofs.ListLaws.{listed-snoc, every-snoc, every_more, distinct_snoc, place-absent, place_other, place-new}
 use Rattle.monitor_state.proofs.WithoutLaws.{without_gone, every-without, distinct_without, place-from, place-without, closed-up}
-use Rattle.monitor_state.proofs.Places.{place-static, place-dynamic, known, place-own, LiveParts, live-parts, parts-live, live-length}
-use Rattle.monitor_state.proofs.Places.{range_at, top-at, above_new}
+use Rattle.monitor_state.proofs.Places.{place-static, place-dynamic, known, place-own, LiveParts, parts-live, live-length}
+use Rattle.monitor_state.proofs.Places.{range_at, top-at}
 
 -- a step that does not retire x
 pub retired-before : {x : ℕ} {step : Step} {past : Past} → (retiring x ≡ step → ⊥) → Retired x (step ∷ past) → Retired x past

@@ -1,6 +1,6 @@
 -- The judge answers, and leaves the state, by the edges as a set (02, L12), from every state at all.
 use Prim.Native.Nat.{ℕ, zero, suc, ◌+◌, ◌/◌, ◌%◌}
-use mathlib.Core.Path.{◌≡◌, refl, sym, ap, ap₂, ◌∙◌}
+use mathlib.Core.Path.{◌≡◌, refl, ap, ◌∙◌}
 use mathlib.Core.Bool.{Bool, cond}
 use mathlib.Core.List.{List, [], ◌∷◌}
 use mathlib.Core.Option.{Option, none, some}
@@ -11,12 +11,12 @@ use Rattle.usage.specs.declared.RawStep.{RawStep}
 use Rattle.usage.specs.Policy.{SameEdges}
 use Rattle.usage.specs.Past.{Step, event, opening, closing, retiring}
 use Rattle.usage.specs.Judge.{step_of}
-use Rattle.usage.specs.Tables.{edges_of, EdgeTable, is_edge_table}
+use Rattle.usage.specs.Tables.{edges_of, EdgeTable}
 use Rattle.usage.proofs.TableLaws.{from-ext, decides-edge-table}
 use Rattle.automaton.specs.Move.{move_mask}
 use Rattle.automaton.proofs.EdgeSetLaws.{move_mask-set}
 use Rattle.monitor_sets.specs.Instances.{instances, set_places}
-use Rattle.monitor_sets.specs.Sets.{moved_sets, gathered}
+use Rattle.monitor_sets.specs.Sets.{moved_sets}
 use Rattle.monitor_state.specs.declared.State.{State}
 use Rattle.monitor_state.specs.declared.Answer.{Answer}
 use Rattle.monitor_state.specs.declared.Judgement.{Judgement}

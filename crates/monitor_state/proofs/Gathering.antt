@@ -5,13 +5,12 @@ use mathlib.Core.Bool.{Bool, true, false}
 use mathlib.Core.List.{List, [], ◌∷◌}
 use mathlib.Core.Logic.{◌⊎◌, inl, inr, ◌↔◌}
 use native.Mathlib.Nat.{zero-add}
-use native.Mathlib.Omega.{arith}
 use lib.Dec.{eqb, ltb, lit<}
 use lib.ListN.{length, get_or, set}
 use lib.Seq.{set_out, get_or-set_same, get_or-set_other}
 use borrow.Author.Tests.{eqb-true, eqb-false, ltb-true, ltb-false}
 use Rattle.usage.specs.declared.Edge.{Edge}
-use Rattle.usage.specs.Limits.{policies, states, most_created}
+use Rattle.usage.specs.Limits.{policies, states}
 use Rattle.usage.specs.Policy.{PairPolicy, Instance, pair, Sees, EdgesOk}
 use Rattle.usage.specs.Past.{Past, May}
 use Rattle.usage.specs.Placed.{Placed, none_placed, next_placed, At}
@@ -22,7 +21,7 @@ use Rattle.usage.proofs.PlacedLaws.{one_placed}
 use Rattle.usage.proofs.TableLaws.{get_d-from, from-below, length_from}
 use Rattle.automaton.specs.Mask.{has}
 use Rattle.automaton.proofs.MaskLaws.{some_at, some-found, union-has, union-lt}
-use Rattle.monitor_sets.specs.Instances.{unseen, retirees, instances}
+use Rattle.monitor_sets.specs.Instances.{instances}
 use Rattle.monitor_sets.specs.Sets.{gathered_at}
 use Rattle.monitor_pairs.specs.Pairs.{gather_pairs}
 use Rattle.monitor_pairs.specs.Tracked.{TracksPairs}
@@ -33,7 +32,7 @@ use Rattle.monitor_pairs.proofs.ByteLaws.{gather-byte}
 use Rattle.monitor_pairs.proofs.EachLaws.{lower-pair, upper-pair, blocks-differ, has_block, gathered-first, gathered-second, gathered-other}
 use Rattle.monitor_state.specs.declared.Tracked.{Tracked}
 use Rattle.monitor_state.specs.declared.Created.{Created}
-use Rattle.monitor_state.specs.Created.{place_of, used}
+use Rattle.monitor_state.specs.Created.{used}
 use Rattle.monitor_state.specs.Tracked.{set_at, possible_in, gathered}
 use Rattle.monitor_state.specs.Represents.{Stands, Tracks, TracksBlock, Gathers}
 use Rattle.monitor_state.proofs.StandsLaws.{stands-used}

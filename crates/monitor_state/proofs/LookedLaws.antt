@@ -15,7 +15,7 @@ use Rattle.usage.specs.Past.{Step}
 use Rattle.usage.specs.Judge.{step_of}
 use Rattle.usage.specs.Tables.{edges_of, is_edge_table}
 use Rattle.usage.proofs.Logic.{and_both, and-false}
-use Rattle.automaton.specs.Mask.{has, union}
+use Rattle.automaton.specs.Mask.{has}
 use Rattle.automaton.proofs.RowLaws.{union-ext}
 use Rattle.monitor_state.specs.declared.State.{State}
 use Rattle.monitor_state.specs.declared.Judgement.{Judgement}

@@ -19,7 +19,7 @@ use Rattle.usage.proofs.PastLaws.{may-some}
 use Rattle.usage.proofs.PlacedLaws.{at_more, one_placed, at-closing, at_same, at-reset}
 use Rattle.automaton.specs.Mask.{has}
 use Rattle.automaton.proofs.MaskLaws.{has-pow}
-use Rattle.monitor_sets.specs.Instances.{unseen, retirees, instances, set_places}
+use Rattle.monitor_sets.specs.Instances.{instances, set_places}
 use Rattle.monitor_sets.proofs.PlaceLaws.{reset-at, reset-length, reset-below}
 use Rattle.monitor_pairs.specs.Pairs.{pair_places, reset_pairs}
 use Rattle.monitor_pairs.specs.Tracked.{TracksPairs}
@@ -30,7 +30,7 @@ use Rattle.monitor_pairs.proofs.ByteLaws.{reset-bytes, each-bytes}
 use Rattle.monitor_state.specs.declared.State.{State}
 use Rattle.monitor_state.specs.declared.Tracked.{Tracked}
 use Rattle.monitor_state.specs.Tracked.{set_at, possible_in, reset_sets, start_set, reset_in}
-use Rattle.monitor_state.specs.Created.{place_of, used}
+use Rattle.monitor_state.specs.Created.{used}
 use Rattle.monitor_state.specs.Unclosed.{openings_of, anew}
 use Rattle.monitor_state.specs.Represents.{Stands, Tracks, Gathers, HoldsStates, Represents}
 use Rattle.monitor_state.proofs.Places.{LiveParts, live-parts, used-most}

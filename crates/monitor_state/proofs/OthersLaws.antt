@@ -2,7 +2,7 @@
 use Prim.Native.Nat.{ℕ}
 use mathlib.Core.Path.{◌≡◌, refl, sym, ap, subst}
 use mathlib.Core.Bool.{Bool, true, false}
-use mathlib.Core.List.{List, [], ◌∷◌, map}
+use mathlib.Core.List.{List, ◌∷◌, map}
 use Rattle.usage.specs.declared.RawStep.{RawStep}
 use Rattle.usage.specs.Answers.{Verdict, refused}
 use Rattle.usage.specs.Tables.{edges_of, is_edge_table}
@@ -10,7 +10,7 @@ use Rattle.usage.specs.Retirings.{Between, none_between, other_step, one_between
 use Rattle.usage.proofs.ThinnedLaws.{others_same}
 use Rattle.monitor_state.specs.declared.State.{State}
 use Rattle.monitor_state.specs.declared.Judgement.{Judgement}
-use Rattle.monitor_state.specs.Judge.{verdict_of, state_ok_lem, refuse, judge_of, answers_of, start_state}
+use Rattle.monitor_state.specs.Judge.{verdict_of, refuse, judge_of, answers_of, start_state}
 use Rattle.monitor_state.specs.Others.{OthersKept}
 use Rattle.monitor_state.proofs.Verdict.{all-judged-begin}
 

@@ -1,25 +1,22 @@
 -- The sets of the pair policies hold what their instances may be in: the laws of `monitor_pairs` over the places of a state, one block and
 -- then both.
-use Prim.Native.Nat.{ℕ, zero, suc, ◌+◌, ◌-◌, ◌*◌, ◌<◌, ◌≤◌}
-use mathlib.Core.Path.{◌≡◌, refl, sym, ap, ap₂, subst, ◌∙◌}
-use mathlib.Core.Bool.{Bool, true, false, cond}
+use Prim.Native.Nat.{ℕ, ◌+◌, ◌-◌, ◌<◌, ◌≤◌}
+use mathlib.Core.Path.{◌≡◌, sym, subst, ◌∙◌}
+use mathlib.Core.Bool.{Bool, true, false}
 use mathlib.Core.List.{List, [], ◌∷◌}
-use mathlib.Core.Logic.{◌⊎◌, inl, inr, ◌↔◌}
+use mathlib.Core.Logic.{◌↔◌}
 use native.Mathlib.Omega.{arith}
-use lib.Dec.{eqb, lit<}
-use lib.ListN.{length, get_or, take, drop, replicate}
-use borrow.Author.Tests.{eqb-true}
+use lib.ListN.{length}
 use Rattle.usage.specs.declared.Edge.{Edge}
-use Rattle.usage.specs.Limits.{statics, resources, policies, states, most_created}
+use Rattle.usage.specs.Limits.{statics, resources, policies, most_created}
 use Rattle.usage.specs.Policy.{PairPolicy}
 use Rattle.usage.specs.Past.{Past, event, retiring}
 use Rattle.usage.specs.Placed.{At}
 use Rattle.usage.proofs.Logic.{clash, not-both}
 use Rattle.usage.proofs.PlacedLaws.{Has, at_more, at-retiring}
 use Rattle.automaton.proofs.MoveLaws.{Ends}
-use Rattle.monitor_sets.specs.Instances.{unseen, first_created_lem, instances}
-use Rattle.monitor_sets.specs.Sets.{start_set}
-use Rattle.monitor_pairs.specs.Pairs.{pair_places, event_pairs, create_pairs, retire_pairs}
+use Rattle.monitor_sets.specs.Instances.{unseen, first_created_lem}
+use Rattle.monitor_pairs.specs.Pairs.{event_pairs, create_pairs, retire_pairs}
 use Rattle.monitor_pairs.specs.Tracked.{seat_in, TracksPairs, event_ways}
 use Rattle.monitor_pairs.specs.Blocks.{pair_sets, lower_block, upper_block, pairs_of, each_block}
 use Rattle.monitor_pairs.proofs.TrackedLaws.{event-tracks, create-tracks}
@@ -27,7 +24,7 @@ use Rattle.monitor_pairs.proofs.SideLaws.{retire-tracks}
 use Rattle.monitor_pairs.proofs.EachLaws.{Sized, of-policy, each-lower, each-upper, lower-pair, upper-pair}
 use Rattle.monitor_state.specs.declared.Created.{Created}
 use Rattle.monitor_state.specs.Created.{live, listed, place_of, used, with_new, with_retired}
-use Rattle.monitor_state.specs.Represents.{Stands, TracksBlock, ListsLive}
+use Rattle.monitor_state.specs.Represents.{Stands, ListsLive}
 use Rattle.monitor_state.proofs.Places.{known, not_known, place-lt, LiveParts, live-parts, used-most}
 use Rattle.monitor_state.proofs.CreatedLaws.{retired-from}
 use Rattle.monitor_state.proofs.StandsLaws.{stands-alone, stands_after, stands-before, stands-fresh, created-stands, retired-stands, beyond}

@@ -2,8 +2,7 @@
 use Prim.Native.Nat.{ℕ, zero, suc, ◌<◌, ◌≤◌}
 use mathlib.Core.Path.{◌≡◌, refl, ap, ◌∙◌}
 use mathlib.Core.Bool.{Bool, true, false}
-use mathlib.Core.List.{List, [], ◌∷◌}
-use native.Mathlib.Omega.{arith}
+use mathlib.Core.List.{List, ◌∷◌}
 use lib.ListN.{length, get_or}
 use Rattle.usage.specs.declared.Edge.{Edge}
 use Rattle.usage.specs.Policy.{PairPolicy, EdgesOk}
@@ -19,7 +18,7 @@ use Rattle.monitor_sets.specs.Instances.{unseen, set_places}
 use Rattle.monitor_sets.proofs.RetiredLaws.{retired-length, retired-below}
 use Rattle.monitor_pairs.specs.Pairs.{event_pairs, create_pairs, retire_pairs}
 use Rattle.monitor_pairs.specs.Tracked.{TracksPairs, event_ways}
-use Rattle.monitor_pairs.specs.Blocks.{lower_block, upper_block, pairs_of, with_gathered}
+use Rattle.monitor_pairs.specs.Blocks.{lower_block, upper_block, pairs_of}
 use Rattle.monitor_pairs.proofs.BlockLaws.{created-below}
 use Rattle.monitor_pairs.proofs.EachLaws.{Sized, event-size, create-size, retire-size, each-size, gathered-size}
 use Rattle.monitor_pairs.proofs.ByteLaws.{event-bytes, retire-bytes, each-bytes}

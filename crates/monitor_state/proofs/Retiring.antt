@@ -1,27 +1,27 @@
 -- The sets after a retiring (02, L8): the place of the retired resource's instance is closed up, and its states have joined those of the
 -- retired ones.
 use Prim.Native.Nat.{ℕ, ◌+◌, ◌-◌, ◌<◌, ◌≤◌}
-use mathlib.Core.Path.{◌≡◌, refl, sym, ap, ◌∙◌, subst}
+use mathlib.Core.Path.{◌≡◌, refl, sym, ap, ◌∙◌}
 use mathlib.Core.Bool.{Bool, true, false, ◌||◌, cond}
 use mathlib.Core.List.{List, [], ◌∷◌}
-use mathlib.Core.Logic.{◌⊎◌, inl, inr, ◌↔◌}
+use mathlib.Core.Logic.{inl, inr, ◌↔◌}
 use native.Mathlib.Omega.{arith}
-use lib.Dec.{eqb, leb, ltb}
-use lib.ListN.{length, get_or, take}
+use lib.Dec.{eqb, ltb}
+use lib.ListN.{length}
 use borrow.Author.Tests.{eqb-true, eqb-false, lt-ltb, le-ltb, ltb-true, ltb-false}
 use Rattle.usage.specs.declared.Edge.{Edge}
-use Rattle.usage.specs.Limits.{statics, policies, most_created}
+use Rattle.usage.specs.Limits.{policies, most_created}
 use Rattle.usage.specs.Past.{retiring, Past}
 use Rattle.usage.specs.Placed.{At}
 use Rattle.usage.proofs.Logic.{by_cases, or_left, or_right, or_cases}
 use Rattle.usage.proofs.PlacedLaws.{at-retiring, Takes, none-taken, next-taken, at-taken}
 use Rattle.automaton.specs.Mask.{has}
 use Rattle.automaton.proofs.MaskLaws.{has-or}
-use Rattle.monitor_sets.specs.Instances.{unseen, retirees, first_created_lem, instances}
-use Rattle.monitor_sets.proofs.RetiredLaws.{lowered, retired-joined, retired-other, retired-below}
+use Rattle.monitor_sets.specs.Instances.{retirees, first_created_lem}
+use Rattle.monitor_sets.proofs.RetiredLaws.{lowered, retired-joined, retired-other}
 use Rattle.monitor_state.specs.declared.Tracked.{Tracked}
 use Rattle.monitor_state.specs.declared.Created.{Created}
-use Rattle.monitor_state.specs.Created.{live, listed, distinct, dynamic, place_from, place_of, used, with_retired}
+use Rattle.monitor_state.specs.Created.{live, listed, place_of, used, with_retired}
 use Rattle.monitor_state.specs.Tracked.{set_at, retired_in}
 use Rattle.monitor_state.specs.Represents.{Stands, Tracks, ListsLive}
 use Rattle.monitor_state.proofs.Places.{place-lt, LiveParts, live-parts, used-most}

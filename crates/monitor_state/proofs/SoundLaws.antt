@@ -1,15 +1,15 @@
 -- The judge's test of a state (42) decides the rule.
-use Prim.Native.Nat.{ℕ, ◌<◌, ◌≤◌}
+use Prim.Native.Nat.{ℕ, ◌<◌}
 use mathlib.Core.Path.{◌≡◌, refl, sym}
-use mathlib.Core.Bool.{Bool, true, false, not, ◌&&◌, ◌||◌, true≢false}
+use mathlib.Core.Bool.{true≢false}
 use mathlib.Core.List.Memᴰ
 use mathlib.Core.List.{List, [], ◌∷◌, Memᴰ}
 use mathlib.Core.Logic.{◌⊎◌, inl, inr}
-use lib.Dec.{eqb, leb, ltb}
+use lib.Dec.{leb}
 use lib.ListN.{get_or}
 use Rattle.usage.specs.Limits.{statics, resources, policies, most_created, most_unclosed}
 use Rattle.usage.specs.Past.{occurrences}
-use Rattle.usage.specs.Tests.{Decides, every}
+use Rattle.usage.specs.Tests.{Decides}
 use Rattle.usage.proofs.Decides.{d-eq, d-le, d-lt, d-and, d-or, d-not, d-map, d-every}
 use Rattle.monitor_sets.specs.Order.{is_policy}
 use Rattle.monitor_sets.proofs.OrderLaws.{agree-below, below-agree}
@@ -17,7 +17,7 @@ use Rattle.monitor_state.specs.declared.State.{State}
 use Rattle.monitor_state.specs.declared.Created.{Created}
 use Rattle.monitor_state.specs.declared.Unclosed.{Unclosed}
 use Rattle.monitor_state.specs.Created.{live, listed, distinct, dynamic, created_ok, highest_ok, live_ok}
-use Rattle.monitor_state.specs.Unclosed.{agree_below, order_ok_lem, unclosed_ok, openings_of, remembered}
+use Rattle.monitor_state.specs.Unclosed.{agree_below, order_ok_lem, unclosed_ok, remembered}
 use Rattle.monitor_state.specs.Judge.{state_ok_lem}
 use Rattle.monitor_state.specs.Sound.{Distinct, LiveOk, UnclosedOk, StateOk}
 

@@ -10,7 +10,7 @@ use lib.Dec.{eqb}
 use lib.ListN.{length}
 use borrow.Author.Tests.{eq-eqb, ne_eqb, eqb-true, eqb-false}
 use Rattle.usage.specs.declared.Edge.{Edge}
-use Rattle.usage.specs.Policy.{PairPolicy, Instance, single, pair}
+use Rattle.usage.specs.Policy.{Instance, single, pair}
 use Rattle.usage.specs.Tests.{is_pair}
 use Rattle.usage.specs.Placed.{Placed, none_placed, next_placed, At}
 use Rattle.usage.specs.Limits.{statics, resources, most_created}

@@ -8,10 +8,10 @@ use mathlib.Core.Logic.{◌↔◌}
 use native.Mathlib.Nat.{zero-add}
 use native.Mathlib.Omega.{arith}
 use lib.Dec.{eqb, lit<}
-use lib.ListN.{length, get_or, replicate, length-replicate, get_or-replicate}
+use lib.ListN.{get_or, replicate, length-replicate, get_or-replicate}
 use borrow.Author.Tests.{eq-eqb, eqb-true}
 use Rattle.usage.specs.declared.Edge.{Edge}
-use Rattle.usage.specs.Limits.{statics, policies, states, most_created}
+use Rattle.usage.specs.Limits.{policies, states}
 use Rattle.usage.specs.Policy.{PairPolicy, Sees, Moves}
 use Rattle.usage.specs.Placed.{At}
 use Rattle.usage.proofs.PlacedLaws.{one_placed}
@@ -23,7 +23,7 @@ use Rattle.automaton.proofs.MoveLaws.{Ends, moves-lt}
 use Rattle.monitor_sets.specs.Instances.{instances, set_places}
 use Rattle.monitor_sets.specs.Order.{agree_below}
 use Rattle.monitor_state.specs.Tracked.{pair_sets, set_at, possible_in, start_tracked}
-use Rattle.monitor_state.specs.Created.{distinct, created_ok, highest_ok, live_ok, place_of, used, start_created}
+use Rattle.monitor_state.specs.Created.{distinct, created_ok, highest_ok, live_ok, used, start_created}
 use Rattle.monitor_state.specs.Unclosed.{stack_in, order_ok_lem, unclosed_ok, start_unclosed}
 use Rattle.monitor_state.specs.Judge.{start_state}
 use Rattle.monitor_state.specs.Represents.{Stands, Tracks, TracksBlock, Gathers, HoldsStates, ListsLive, CountsOpenings, Represents}

@@ -6,9 +6,7 @@ use mathlib.Core.Option.{Option, none, some}
 use mathlib.Core.List.{List}
 use lib.Dec.{eqb}
 use Rattle.usage.specs.declared.Edge.{Edge}
-use Rattle.usage.specs.declared.RawStep.{RawStep}
 use Rattle.usage.specs.Past.{Step, event, opening, closing, retiring}
-use Rattle.usage.specs.Judge.{step_of}
 use Rattle.usage.specs.Tables.{edges_of, is_edge_table}
 use Rattle.automaton.specs.Mask.{lowest_in}
 use Rattle.monitor_state.specs.declared.State.{State}

@@ -1,32 +1,28 @@
 -- The sets of states after an event and after a create hold what the instances may be in.
 use Prim.Native.Nat.{ℕ, ◌+◌, ◌*◌, ◌/◌, ◌%◌, ◌<◌, ◌≤◌}
 use mathlib.Core.Path.{◌≡◌, refl, sym, ap, ap₂, ◌∙◌, subst}
-use mathlib.Core.Bool.{Bool, true, false, ◌||◌, cond}
+use mathlib.Core.Bool.{Bool, true, false, cond}
 use mathlib.Core.List.{List, [], ◌∷◌}
-use mathlib.Core.Logic.{◌↔◌}
 use native.Mathlib.Nat.{zero-add}
-use native.Mathlib.Numerals.{add-one}
 use native.Mathlib.Omega.{arith}
 use lib.Arith.{digits_div, digits_mod}
-use lib.Dec.{eqb, leb, ltb, lit<}
-use lib.ListN.{length, get_or, take, set}
-use lib.Seq.{take-suc-set}
-use borrow.Author.Tests.{eq-eqb, ne_eqb, eqb-true, eqb-false, lt-ltb, ltb-true, ltb-false, le-leb, leb-true}
+use lib.Dec.{eqb, ltb, lit<}
+use lib.ListN.{length, get_or}
+use borrow.Author.Tests.{eqb-false, lt-ltb}
 use Rattle.usage.specs.declared.Edge.{Edge}
-use Rattle.usage.specs.Limits.{statics, resources, policies, states, most_created}
+use Rattle.usage.specs.Limits.{statics, resources, policies, most_created}
 use Rattle.usage.specs.Past.{Past, event}
 use Rattle.usage.specs.Tables.{from}
-use Rattle.usage.specs.Tests.{every}
 use Rattle.usage.proofs.Logic.{clash}
 use Rattle.usage.proofs.PlacedLaws.{at_more, at-create}
 use Rattle.automaton.specs.Mask.{has}
 use Rattle.automaton.specs.Move.{move, fires_at, move_mask}
 use Rattle.automaton.proofs.MoveLaws.{Ends, move_mask-lt}
 use Rattle.automaton.proofs.PlaceLaws.{moved-one, one-seat, Holds, holds-event}
-use Rattle.monitor_sets.specs.Instances.{unseen, retirees, first_created_lem, instances, set_places}
+use Rattle.monitor_sets.specs.Instances.{unseen, instances, set_places}
 use Rattle.monitor_state.specs.declared.Tracked.{Tracked}
 use Rattle.monitor_state.specs.declared.Created.{Created}
-use Rattle.monitor_state.specs.Created.{live, listed, distinct, dynamic, place_from, place_of, used, with_new}
+use Rattle.monitor_state.specs.Created.{live, listed, place_of, used, with_new}
 use Rattle.monitor_state.specs.Tracked.{set_at, copied, copied_in, moved_sets, moved_in}
 use Rattle.monitor_state.specs.Represents.{Stands, Tracks, ListsLive}
 use Rattle.usage.proofs.TableLaws.{get_d-from, from-below}

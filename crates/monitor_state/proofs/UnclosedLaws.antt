@@ -5,7 +5,7 @@ use mathlib.Core.Bool.{Bool, true, false}
 use mathlib.Core.List.{List, ◌∷◌}
 use native.Mathlib.Omega.{arith}
 use lib.Dec.{eqb}
-use lib.ListN.{length, get_or, set, length-set}
+use lib.ListN.{get_or, set, length-set}
 use lib.Seq.{get_or-set_same, get_or-set_other}
 use borrow.Author.Tests.{eq-eqb, ne_eqb, eqb-true, eqb-false}
 use Rattle.usage.specs.Limits.{policies, most_unclosed}
@@ -13,7 +13,7 @@ use Rattle.usage.specs.Past.{Step, opening, closing, Past, add_if, count, openin
 use Rattle.usage.proofs.StackLaws.{without-first}
 use Rattle.monitor_sets.proofs.OrderLaws.{OrderOk, order-parts, parts-order, order-some, opened-ok, closed-ok, stack-more, stack_top}
 use Rattle.monitor_state.specs.declared.Unclosed.{Unclosed}
-use Rattle.monitor_state.specs.Unclosed.{openings_of, last_opened, remembered, stack_in, unclosed_ok, with_opening, with_closing}
+use Rattle.monitor_state.specs.Unclosed.{openings_of, last_opened, stack_in, unclosed_ok, with_opening, with_closing}
 use Rattle.monitor_state.specs.Represents.{CountsOpenings}
 
 pub unclosed-parts : (u : Unclosed) → unclosed_ok u ≡ true → OrderOk u.depth u.order u.counts

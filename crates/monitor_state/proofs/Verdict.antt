@@ -135,7 +135,8 @@ unfolding answers_of
 all-judged t p local past h s R [] = done
 all-judged t p local past h s R (raw ∷ raws) =
     let k = judge-promised t p local past h s R raw in
-    next k.answer (all-judged t p local _ _ (judge_of t local s raw).state k.state raws)
+    let v = verdict_of (judge_of t local s raw).answer in
+    next k.answer (all-judged t p local (past_after past raw v) (halted_after h v) (judge_of t local s raw).state k.state raws)
 
 -- in particular from the start
 pub all-judged-begin : (t : List ℕ) → is_edge_table t ≡ true → (local : Bool) (raws : List RawStep)

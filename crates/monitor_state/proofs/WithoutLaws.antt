@@ -15,13 +15,13 @@ use borrow.Author.Tests.{eq-eqb, ne_eqb, eqb-true, eqb-false, le-leb, lt-leb, le
 use Rattle.usage.specs.Limits.{most_created}
 use Rattle.usage.specs.Past.{without}
 use Rattle.usage.specs.Tests.{every}
-use Rattle.usage.proofs.Logic.{false-true, not-both, or_left, or_right, or_cases, and_left, and_right, and_both}
+use Rattle.usage.proofs.Logic.{false-true, or_left, or_right, or_cases, and_left, and_right, and_both}
 use Rattle.usage.proofs.TableLaws.{length_from, get_d-from}
 use Rattle.monitor_sets.specs.Instances.{unseen}
 use Rattle.monitor_sets.specs.Created.{behind}
 use Rattle.monitor_sets.proofs.RetiredLaws.{lowered}
 use Rattle.monitor_state.specs.Judge.{listed, distinct, place_from, closed_up}
-use Rattle.monitor_state.proofs.ListLaws.{Place, place-absent, place-present}
+use Rattle.monitor_state.proofs.ListLaws.{place-absent, place-present}
 
 -- ── What is listed ──
 

@@ -1,5 +1,5 @@
 -- What the judge's own functions compute, where Judge.antt has no name for it.
-use Rattle.std.specs.Prelude.{ℕ, ◌+◌, Bool, true, false, cond, List, eqb, get_or, set}
+use Rattle.std.specs.Prelude.{ℕ, ◌+◌, Bool, true, cond, List, eqb, get_or, set}
 use Rattle.std.proofs.Math.Option.{Option, none, some}
 use Rattle.usage.specs.declared.Edge.{Edge}
 use Rattle.usage.specs.Past.{Step, event, opening, closing, retiring}

@@ -32,5 +32,5 @@ returns-in-3 c =
 pub returns-in_default : goal.returns-in_default
 unfolding step_of
 returns-in_default c =
-    rw (no_kind c.args.step.kind c.in_default.in_default-own.0.0.0.1 c.in_default.in_default-own.0.0.1 c.in_default.in_default-own.0.1
-    c.in_default.in_default-own.1)
+    let h = c.in_default.in_default-own.rest in
+    rw (no_kind c.args.step.kind h.0.0.0.1 h.0.0.1 h.0.1 h.1)
