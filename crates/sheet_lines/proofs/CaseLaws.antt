@@ -1,19 +1,19 @@
 -- A sheet is refused in the stated case of its refusal's number, and in no other.
-use Prim.Native.Nat.{ℕ, zero, suc, ◌+◌, ◌-◌, ◌<◌, ◌≤◌}
+use Prim.Native.Nat.{ℕ, zero, suc, ◌+◌, ◌<◌, ◌≤◌}
 use mathlib.Core.Path.{◌≡◌, refl, sym, ap, ap₂, subst, ◌∙◌}
-use mathlib.Core.Bool.{Bool, true, false, cond, ◌&&◌}
-use mathlib.Core.Option.{Option, none, some}
+use mathlib.Core.Bool.{Bool, true, false, cond}
+use mathlib.Core.Option.{some}
 use mathlib.Core.List.{List, [], ◌∷◌, ◌++◌}
 use mathlib.Core.Logic.{◌↔◌, ◌⊎◌, inl, inr}
 use native.Mathlib.Omega.{arith}
 use lib.Dec.{eqb, ltb}
 use lib.ListN.{length, take, drop, get_elem?}
-use borrow.Author.Tests.{eqb-true, eq-eqb, ltb-true, ltb-false, lt-ltb}
+use borrow.Author.Tests.{eqb-true, eq-eqb, ltb-true, ltb-false}
 use Rattle.usage.specs.Limits.{longest_sheet}
 use Rattle.usage.specs.Answers.{Refusal}
-use Rattle.usage.proofs.Logic.{clash, false-true, not-both, by_cases, and_left, and_right}
+use Rattle.usage.proofs.Logic.{clash, false-true, not-both, and_left, and_right}
 use Rattle.sheet_bytes.specs.Line.{Line, lines_of}
-use Rattle.sheet_bytes.specs.Fault.{WellFormed, LineFault, LineRead, has_values, has_fault, read_line}
+use Rattle.sheet_bytes.specs.Fault.{WellFormed, LineRead, has_values, has_fault, read_line}
 use Rattle.sheet_bytes.proofs.FaultLaws.{decides-fault, decides-values}
 use Rattle.sheet_lines.specs.Sheet.{Sheet, after_line, Result, accepted, refused, refuse_at, followed, entry, value_lines, starts_with, sheet}
 use Rattle.sheet_lines.specs.Cases.{lines_after, HaveValues, no_lines, further_line}

@@ -19,7 +19,7 @@ use Rattle.automaton.proofs.PairSetLaws.{with-edge, many-three}
 use Rattle.sheet_fields.specs.declared.Kind.{Kind}
 use Rattle.sheet_fields.specs.declared.Kind.TheVariants.{Policies, Trace, Outline}
 use Rattle.sheet_fields.specs.Fields.{edge_of}
-use Rattle.sheet_lines.specs.Sheet.{Sheet, after_line}
+use Rattle.sheet_lines.specs.Sheet.{after_line}
 use Rattle.sheet_lines.specs.Sheets.{has_few_pairs, policy_sheet, sheet_of}
 use Rattle.sheet_lines.specs.Code.{pairs_with, pairs_over, sheet_after}
 use Rattle.sheet_lines.proofs.AcceptLaws.{Together}

@@ -6,7 +6,7 @@ use mathlib.Core.Option.{Option, none, some}
 use mathlib.Core.List.{List, [], ◌∷◌, ◌++◌}
 use native.Mathlib.Omega.{arith}
 use lib.Dec.{eqb, ltb}
-use lib.ListN.{length, get_or, take, length-append}
+use lib.ListN.{length, take, length-append}
 use lib.Seq.{take_at, take_all}
 use borrow.Author.Tests.{eqb-true, eqb-false, ltb-true, ltb-false, lt-ltb, le-ltb}
 use Rattle.sheet_bytes.specs.declared.Part.{Part}
@@ -16,7 +16,7 @@ use Rattle.sheet_bytes.specs.Class.{class_of}
 use Rattle.sheet_bytes.specs.Line.{Progress, nothing, further, byte, read, complete, counted, values_of}
 use Rattle.sheet_bytes.specs.Fault.{has_other, has_overlong, LineRead, has_values, has_fault, told, read_line}
 use Rattle.sheet_bytes.specs.Code.{safe_digits, value_room, of_range, of_form, of_length, of_byte, fault_number, with_fault_lem, with_digit, last_digit_lem}
-use Rattle.sheet_bytes.specs.Code.{digit_step, space_step, is_complete, fault_end, end_step, part_step, byte_step}
+use Rattle.sheet_bytes.specs.Code.{digit_step, space_step, is_complete, end_step, part_step, byte_step}
 use Rattle.usage.specs.Limits.{most_digits}
 use Rattle.usage.proofs.Logic.{clash, or_right, and_right}
 use Rattle.sheet_bytes.proofs.ByteLaws.{digit-byte, other-class, ten-le, safe-value, one_more}

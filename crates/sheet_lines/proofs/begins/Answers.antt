@@ -1,8 +1,5 @@
-use Rattle.sheet_lines.specs.Sheet.{starts_with}
 use Rattle.sheet_lines.proofs.BeginLaws.{all_same, too_short, differs, equal}
-use mathlib.Core.Path.{◌≡◌, refl, sym, ◌∙◌}
-use Prim.Native.Nat.{◌-◌, ◌≤◌}
-use lib.ListN.{length, drop}
+use mathlib.Core.Path.{refl, sym, ◌∙◌}
 use borrow.Author.Rules.{rules}
 use Rattle.sheet_lines.proofs.begins.Goals as goal
 

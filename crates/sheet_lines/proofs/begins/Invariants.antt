@@ -1,6 +1,5 @@
 use Rattle.sheet_lines.specs.Sheet.{starts_with}
-use Rattle.sheet_lines.proofs.BeginLaws.{all_same, too_short, differs, equal}
-use mathlib.Core.Path.{◌≡◌, refl, sym, ◌∙◌}
+use mathlib.Core.Path.{◌≡◌}
 use Prim.Native.Nat.{◌-◌, ◌≤◌}
 use lib.ListN.{length, drop}
 use Rattle.sheet_lines.proofs.begins.Given as goal

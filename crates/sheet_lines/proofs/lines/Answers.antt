@@ -1,11 +1,9 @@
 use Rattle.sheet_bytes.specs.declared.Next.TheVariants.{Ends}
 use Rattle.sheet_bytes.specs.Code.{byte_step}
 use Rattle.sheet_lines.specs.Answer.{most_values}
-use Rattle.sheet_fields.specs.declared.Kind.{Kind}
 use Rattle.sheet_lines.specs.Sheet.{Sheet}
 use Rattle.sheet_lines.specs.Sheets.{sheet_of}
-use Rattle.sheet_lines.specs.Code.{pairs_over, sheet_after, Held}
-use Rattle.usage.proofs.Logic.{by_cases}
+use Rattle.sheet_lines.specs.Code.{pairs_over, sheet_after}
 use borrow.Author.Tests.{not-true, not-false}
 use Rattle.sheet_lines.proofs.LargeLaws.{bounded}
 use Rattle.sheet_lines.proofs.LinesLaws as laws
@@ -14,90 +12,19 @@ use Rattle.sheet_lines.proofs.PairsLaws.{sheet-start}
 use native.Mathlib.Omega.{arith}
 use mathlib.Core.Path.{◌≡◌, refl, sym, ap, subst, ◌∙◌}
 use mathlib.Core.Bool.{not}
-use mathlib.Core.List.{List}
-use Prim.Native.Nat.{ℕ, ◌-◌, ◌≤◌, ◌<◌}
+use Prim.Native.Nat.{◌<◌}
 use lib.ListN.{length, get_or, drop}
 use borrow.Author.Rules.{rules}
 use Rattle.sheet_lines.proofs.lines.Goals as goal
-use Rattle.sheet_lines.proofs.lines.Invariants.{goal}
-
--- the six ways out of the loops meet here
-answered : (c : tie.Left-lines invariant-bytes decreases-bytes invariant-lines decreases-lines)
-    → laws.Answers (sheet_after c.before.before.before.before.before.args.kind c.before.lines.pairs)
-    c.before.before.before.before.before.args.text.now
-    (goal c.before.before.before.before.before.args.kind c.before.before.before.before.before.args.from
-    c.before.before.before.before.before.args.text.now)
-    c.before.before.before.before.before.args.buffer.now c.lines-test.buffer c.before.lines.n c.lines-test.number
-unfolding pairs_over
-answered c =
-    let a = c.before.before.before.before.before.args in
-    let t = c.before.lines in
-    let s = sheet_after a.kind t.pairs in
-    let g = goal a.kind a.from a.text.now in
-    let n = t.n in
-    let f = c.before.before.before.fields.ensures in
-    by_cases c.lines-test.branch
-    (λ w.
-    rw (w.1, w.3 ∙ t.invariant.0) (record {
-      gives =
-          laws.line-end s a.text.now g a.buffer.now t.buffer t.i n t.invariant.1 w.0.left;
-      after = t.invariant.1.rest;
-    }))
-    (λ v.
-    by_cases v
-    (λ w.
-    rw w.4 (record {
-      gives =
-          laws.too_many s a.text.now g a.buffer.now t.buffer t.i n t.invariant.1 w.0.taken
-          (w.1.taken ∙ c.before.before.most.ensures);
-      after =
-          refl;
-    }))
-    (λ v.
-    by_cases v
-    (λ w.
-    let b = w.3 in
-    let inv = b.inv.1.1 in
-    let h = places a.kind n inv.room in
-    rw w.7 (record {
-      gives =
-          laws.unended s a.text.now g t.buffer b.buffer b.i n b.p inv h w.4.taken;
-      after = refl;
-    }))
-    (λ v.
-    by_cases v
-    (λ w.
-    let b = w.3 in
-    let inv = b.inv.1.1 in
-    let h = places a.kind n inv.room in
-    rw w.14
-    (laws.malformed s a.text.now g t.buffer b.buffer b.i n b.p inv h w.4.left (bounded a.kind) _
-    (rw f at (sym w.8.ensures ∙ w.10.given.1)) a.buffer.now c.lines-test.buffer))
-    (λ v.
-    by_cases v
-    (λ w.
-    let b = w.3 in
-    let inv = b.inv.1.1 in
-    let h = places a.kind n inv.room in
-    rw w.16 (record {
-      gives =
-          laws.outside s a.text.now g t.buffer b.buffer b.i n b.p inv h w.4.left (bounded a.kind)
-          (rw f at (sym w.8.ensures ∙ w.10.given.1)) (rw f at (sym w.12.ensures ∙ not-true w.12.result w.13.taken));
-      after =
-          refl;
-    }))
-    (λ w.
-    let b = w.3 in
-    let inv = b.inv.1.1 in
-    let h = places a.kind n inv.room in
-    rw w.20 (record {
-      gives =
-          laws.crowded s a.text.now g t.buffer b.buffer b.i n b.p inv h w.4.left (bounded a.kind)
-          (rw f at (sym w.8.ensures ∙ w.10.given.1)) (rw f at (sym w.12.ensures ∙ not-false w.12.result w.13.left))
-          (rw (w.15.ensures, f) at (ap not (sym w.16.ensures ∙ w.17.taken)));
-      after =
-          refl;
-    }))))))
+use Rattle.sheet_lines.proofs.lines.Goals.{
+  else-lines-test,
+  then-lines-test+then-n-most,
+  then-lines-test+else-n-most+then-text-i,
+  then-lines-test+else-n-most+else-text-i+in-Malformed,
+  then-lines-test+else-n-most+else-text-i+in-Ends+then-not-in_range,
+  then-lines-test+else-n-most+else-text-i+in-Ends+else-not-in_range+then-many,
+}
+use Rattle.sheet_lines.proofs.lines.Invariants.{whole_text}
 
 pub lines-init : goal.lines-init
 lines-init c =
@@ -130,7 +57,7 @@ bytes-init c =
       (
         t.invariant.0,
         rw c.nothing-p.ensures
-            (laws.enter (sheet_after a.kind t.pairs) a.text.now (goal a.kind a.from a.text.now)
+            (laws.enter (sheet_after a.kind t.pairs) a.text.now (whole_text a.kind a.from a.text.now)
             a.buffer.now t.buffer t.i t.n t.invariant.1
             (some-field a.kind)
             c.lines-test.true r),
@@ -196,7 +123,7 @@ bytes-preserved c =
       (
         t.invariant.1.0,
         rw f
-            (laws.goes (sheet_after a.kind u.pairs) a.text.now (goal a.kind a.from a.text.now)
+            (laws.goes (sheet_after a.kind u.pairs) a.text.now (whole_text a.kind a.from a.text.now)
             first t.buffer t.i n t.p inv h
             c.if-text-i.false _ g),
       ),
@@ -242,7 +169,7 @@ lines-preserved c =
     rw f at (sym c.step-next.ensures ∙ c.in-Ends.is) in (
       t.invariant.1.0,
       rw (c.with_line-pairs.ensures, f) (laws.next-line (sheet_after a.kind u.pairs) a.text.now
-          (goal a.kind a.from a.text.now) first t.buffer t.i n t.p inv h
+          (whole_text a.kind a.from a.text.now) first t.buffer t.i n t.p inv h
           c.if-text-i.false (bounded a.kind) e
           (rw f at (sym c.in_range.ensures ∙ not-false c.in_range.result c.if-not-in_range.false-raw))
           (rw (c.with_line-pairs.ensures, f) at (ap not (sym c.many.ensures ∙ c.if-many.false))) a.buffer.now
@@ -256,4 +183,65 @@ answer_after-requires c =
     search rules
 
 pub returns : goal.returns
-returns c = let h = answered c in rw c.answer_after.ensures (record { buffer_after = h.gives; buffer_unchanged = h.after })
+unfolding pairs_over
+returns c =
+    let a = c.args in
+    let t = c.lines in
+    let s = sheet_after a.kind t.pairs in
+    let g = whole_text a.kind a.from a.text.now in
+    let n = t.n in
+    let f = c.fields-fields.ensures in
+    -- the six ways out of the loops meet here
+    let h : laws.Answers s a.text.now g a.buffer.now c.lines-test.buffer n c.lines-test.number = elim c.lines-test.branch [
+      | else-lines-test w ↦
+          rw (w.buffer-is, w.number-is ∙ t.invariant.0) (record {
+            gives = laws.line-end s a.text.now g a.buffer.now t.buffer t.i n t.invariant.1 w.lines-test.false;
+            after = t.invariant.1.rest;
+          })
+      | then-lines-test+then-n-most w ↦
+          rw w.number-is (record {
+            gives =
+                laws.too_many s a.text.now g a.buffer.now t.buffer t.i n t.invariant.1 w.lines-test.true
+                (w.if-n-most.true ∙ c.most-most.ensures);
+            after = refl;
+          })
+      | then-lines-test+else-n-most+then-text-i w ↦
+          let b = w.bytes in
+          let inv = b.invariant.1.1 in
+          let p = places a.kind n inv.room in
+          rw w.number-is (record {
+            gives = laws.unended s a.text.now g t.buffer b.buffer b.i n b.p inv p w.if-text-i.true;
+            after = refl;
+          })
+      | then-lines-test+else-n-most+else-text-i+in-Malformed w ↦
+          let b = w.bytes in
+          let inv = b.invariant.1.1 in
+          let p = places a.kind n inv.room in
+          rw w.number-is
+          (laws.malformed s a.text.now g t.buffer b.buffer b.i n b.p inv p w.if-text-i.false (bounded a.kind) _
+          (rw f at (sym w.step-next.ensures ∙ w.in-Malformed.is)) a.buffer.now c.lines-test.buffer)
+      | then-lines-test+else-n-most+else-text-i+in-Ends+then-not-in_range w ↦
+          let b = w.bytes in
+          let inv = b.invariant.1.1 in
+          let p = places a.kind n inv.room in
+          rw w.number-is (record {
+            gives =
+                laws.outside s a.text.now g t.buffer b.buffer b.i n b.p inv p w.if-text-i.false (bounded a.kind)
+                (rw f at (sym w.step-next.ensures ∙ w.in-Ends.is))
+                (rw f at (sym w.in_range.ensures ∙ not-true w.in_range.result w.if-not-in_range.true-raw));
+            after = refl;
+          })
+      | then-lines-test+else-n-most+else-text-i+in-Ends+else-not-in_range+then-many w ↦
+          let b = w.bytes in
+          let inv = b.invariant.1.1 in
+          let p = places a.kind n inv.room in
+          rw w.number-is (record {
+            gives =
+                laws.crowded s a.text.now g t.buffer b.buffer b.i n b.p inv p w.if-text-i.false (bounded a.kind)
+                (rw f at (sym w.step-next.ensures ∙ w.in-Ends.is))
+                (rw f at (sym w.in_range.ensures ∙ not-false w.in_range.result w.if-not-in_range.false-raw))
+                (rw (w.with_line-pairs.ensures, f) at (ap not (sym w.many.ensures ∙ w.if-many.true)));
+            after = refl;
+          })
+    ] in
+    rw c.answer_after.ensures (record { buffer_after = h.gives; buffer_unchanged = h.after })

@@ -21,10 +21,13 @@ returns-then-not-named c =
 
 pub lines-r-requires : goal.lines-r-requires
 lines-r-requires c =
-    let a = c.args in record { from_in_bounds = rw c.names_length.ensures
+    let a = c.args in record {
+      from_in_bounds = rw c.names_length.ensures
           (begins-length (sheet_of a.kind).names a.text.now
           (sym c.named.ensures ∙ not-false c.named.result
-          c.if-not-named.false-raw)); buffer_len = search rules }
+          c.if-not-named.false-raw));
+      buffer_len = search rules;
+    }
 
 pub returns-then-is_stored : goal.returns-then-is_stored
 returns-then-is_stored c =

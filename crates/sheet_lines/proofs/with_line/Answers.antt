@@ -4,8 +4,6 @@ use native.Mathlib.Omega.{arith}
 use Rattle.usage.specs.Limits.{edge_fields}
 use Rattle.sheet_lines.specs.Answer.{most_values}
 use Rattle.sheet_lines.proofs.PairsLaws.{line-pair}
-use Rattle.sheet_lines.proofs.with_line.Reads as reads
-use Rattle.automaton.proofs.pairs.joined.Reads as joined-reads
 use Rattle.sheet_lines.proofs.with_line.Goals as goal
 
 pub bounds-buffer-base : goal.bounds-buffer-base
