@@ -6,8 +6,8 @@ stale() {
     for name in $programs; do
         bin=$here/target/bin/$name
         [ -x "$bin" ] || return 0
-        newer=$(find "$here/crates" "$here/crates.txt" -newer "$bin" -type f \
-            \( -name '*.rt' -o -name '*.antt' -o -name crates.txt \)) || return 0
+        newer=$(find "$here/crates" "$here/crates.txt" -name out -prune -o -newer "$bin" -type f \
+            \( -name '*.rt' -o -name '*.antt' -o -name crates.txt \) -print) || return 0
         [ -z "$newer" ] || return 0
     done
     return 1
@@ -30,11 +30,11 @@ crates_to_prove() {
         }' "$here/crates.txt"
 }
 
-# progress: shows the lines of rt on its standard input, those that tell of a crate with a count before them; ends with the status that
-# the last of them tells
+# progress: tells of each crate that rt, on standard input, says is proved, with a count before it, once for all programs; ends with the
+# status that the last line tells
 progress() {
     total=$(crates_to_prove)
-    proved=0
+    crate=
     code=2
     while IFS= read -r line; do
         case $line in
@@ -42,11 +42,17 @@ progress() {
                 code=${line#wiforekun status }
                 continue
                 ;;
-            'rt: '*' proved ('*)
-                proved=$((proved + 1))
-                say "[$proved of $total] ${line#rt: }"
+            'crate '*': '*)
+                crate=${line#crate }
+                crate=${crate%%:*}
                 ;;
-            'rt: '*) say "${line#rt: }" ;;
+            'logic=proved '*)
+                if [ -n "$crate" ] && ! grep -qxF -- "$crate" "$told"; then
+                    printf '%s\n' "$crate" >>"$told"
+                    say "[$(grep -c . "$told") of $total] $crate proved"
+                fi
+                crate=
+                ;;
         esac
         printf '%s\n' "$line" >>"$log"
     done
@@ -61,24 +67,27 @@ build() {
     fi
     log=$here/target/build.log
     start=$here/target/build.start
-    if ! (mkdir -p "$here/target" && : >"$log" && : >"$start") 2>/dev/null; then
+    told=$here/target/build.told
+    if ! (mkdir -p "$here/target/bin" && : >"$log" && : >"$start" && : >"$told") 2>/dev/null; then
         say "the programs are not built, or are older than a source file, and $here/target can't be written to:" \
             "run this once where the checkout can be written to"
         exit 2
     fi
     say "building the programs. The proofs of all that they use are checked first: some four minutes on two processors, less where" \
         "parts were checked before"
-    # shellcheck disable=SC2086
-    if ! { (cd "$here" && rt check $programs 2>&1) && code=0 || code=$?; echo "wiforekun status $code"; } | progress; then
-        say "the programs could not be built; what the kit said ends in:"
-        tail -n 20 "$log" >&2
-        say "all of it is in $log"
-        exit 2
-    fi
     for name in $programs; do
+        crate=$here/crates/$name
+        if ! { (cd "$crate" && rt check 2>&1) && code=0 || code=$?; echo "wiforekun status $code"; } | progress; then
+            say "the programs could not be built; what the kit said ends in:"
+            tail -n 20 "$log" >&2
+            say "all of it is in $log"
+            exit 2
+        fi
+        # rt links a program only to run it: here, where no sheets are, and how it ends is nothing to the build
+        (cd "$crate" && rt run) </dev/null >>"$log" 2>&1 || true
         bin=$here/target/bin/$name
-        if [ ! -x "$bin" ]; then
-            say "the kit says that all is proved, but $bin is not there: remove $here/target and run this again"
+        if ! cp "$crate/out/$name" "$bin" 2>>"$log"; then
+            say "the kit says that all is proved, but $crate/out/$name is not there: remove $crate/out and run this again"
             exit 2
         fi
         # as old as the build's start, so that a file changed since then is seen
