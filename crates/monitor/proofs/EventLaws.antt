@@ -1,6 +1,6 @@
 -- What an event makes of the blocks of the pair policies, by the ways that are made of the rows; and where there is no pair policy.
-use Prim.Native.Nat.{ℕ, zero, suc, ◌+◌, ◌<◌, ◌≤◌}
-use mathlib.Core.Path.{◌≡◌, refl, sym, ap, ap₂, subst, ◌∙◌}
+use Prim.Native.Nat.{ℕ, ◌<◌, ◌≤◌}
+use mathlib.Core.Path.{◌≡◌, refl, sym, ap, ap₂, ◌∙◌}
 use mathlib.Core.Bool.{Bool, true, false, ◌&&◌, cond}
 use mathlib.Core.List.{List, ◌++◌}
 use native.Mathlib.Omega.{arith}
@@ -20,7 +20,7 @@ use Rattle.monitor_pairs.specs.declared.which.Blocks.{Blocks}
 use Rattle.monitor_pairs.specs.declared.blocks.Turn.{Turn}
 use Rattle.monitor_pairs.specs.Pairs.{event_pairs, create_pairs, gather_pairs}
 use Rattle.monitor_pairs.specs.Tracked.{event_ways}
-use Rattle.monitor_pairs.specs.Blocks.{pair_sets, lower_block, upper_block, pairs_of, of_policy, each_block, blocks_moved, blocks_created, with_gathered}
+use Rattle.monitor_pairs.specs.Blocks.{pair_sets, lower_block, upper_block, pairs_of, of_policy, each_block, blocks_created, with_gathered}
 use Rattle.monitor_pairs.specs.Code.{ways_in, turned, turned_blocks, led_blocks, takes_turn}
 use Rattle.monitor_pairs.proofs.WaysLaws.{ways-in}
 use Rattle.monitor_pairs.proofs.EachLaws.{create-size, each-lower, each-upper, none_each, none-gathered, no_second, event-size, each-size}

@@ -19,7 +19,7 @@ use Rattle.usage.specs.Tables.{edges_of, is_edge_table}
 use Rattle.automaton.specs.PairSet.{pair_set}
 use Rattle.sheet_fields.specs.TableTest.{table_tested, no_table_lem}
 use Rattle.monitor_pairs.specs.Which.{blocks_of}
-use Rattle.usage.proofs.Logic.{and_left, and_right, and_both}
+use Rattle.usage.proofs.Logic.{and_left, and_right}
 use Rattle.automaton.specs.Mask.{lowest_in}
 use Rattle.monitor_state.specs.declared.Created.{Created}
 use Rattle.monitor_state.specs.declared.State.{State}

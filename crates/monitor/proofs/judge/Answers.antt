@@ -10,5 +10,8 @@ pub returns : goal.returns
 returns c =
     let a = c.args in
     let t = a.edges.now in
-    let is = c.state_of.ensures ∙ c.judge_lent-t.ensures in record { value = is; keeps = λ past h ok R. subst (Promised a.local (edges_of t) past h a.s a.step) (sym is)
-          (judge-promised t ((decides-edge-table t).1 ok) a.local past h a.s R a.step) }
+    let is = c.state_of.ensures ∙ c.judge_lent-t.ensures in record {
+      value = is;
+      keeps = λ past h ok R. subst (Promised a.local (edges_of t) past h a.s a.step) (sym is)
+          (judge-promised t ((decides-edge-table t).1 ok) a.local past h a.s R a.step);
+    }

@@ -21,9 +21,12 @@ returns-then-not-tested c =
     let a = c.args in
     let l = lent_of a.sets.now a.pairs.now a.possible.now a.created.now a.unclosed.now a.order.now in
     let s = state_of l a.sizes in
-    let table = c.edge_table-tested in record { order_after = refused-parts l a.sizes 41 c.refused-then-not-tested.result c.refused-then-not-tested.ensures
+    let table = c.edge_table-tested in record {
+      order_after = refused-parts l a.sizes 41 c.refused-then-not-tested.result c.refused-then-not-tested.ensures
           ∙ sym (table-refused a.looked a.edges.now a.local s a.step (sym (fits-is a.edges.now) ∙ ap (λ (u : Tested). u.fits) (sym table.ensures) ∙ not-true table.result.fits c.if-not-tested.true))
-          ∙ sym (sized-by (looked_at a.looked) a.edges.now a.local s a.step c.if-pairs-ne-PAIR_SETS.false); pairs_len_unchanged = refl }
+          ∙ sym (sized-by (looked_at a.looked) a.edges.now a.local s a.step c.if-pairs-ne-PAIR_SETS.false);
+      pairs_len_unchanged = refl;
+    }
 
 pub returns-then-not-live_ok : goal.returns-then-not-live_ok
 returns-then-not-live_ok c =
@@ -31,11 +34,14 @@ returns-then-not-live_ok c =
     let l = lent_of a.sets.now a.pairs.now a.possible.now a.created.now a.unclosed.now a.order.now in
     let s = state_of l a.sizes in
     let table = c.edge_table-tested in
-    let made = c.live_ok in record { order_after = refused-parts l a.sizes 42 c.refused-then-not-live_ok.result c.refused-then-not-live_ok.ensures
+    let made = c.live_ok in record {
+      order_after = refused-parts l a.sizes 42 c.refused-then-not-live_ok.result c.refused-then-not-live_ok.ensures
           ∙ sym (state-refused a.looked a.edges.now a.local s a.step
           (sym (fits-is a.edges.now) ∙ ap (λ (u : Tested). u.fits) (sym table.ensures) ∙ not-false table.result.fits c.if-not-tested.false)
           (live-bad l a.sizes (sym made.ensures.value ∙ not-true made.result c.if-not-live_ok.true-raw)))
-          ∙ sym (sized-by (looked_at a.looked) a.edges.now a.local s a.step c.if-pairs-ne-PAIR_SETS.false); pairs_len_unchanged = refl }
+          ∙ sym (sized-by (looked_at a.looked) a.edges.now a.local s a.step c.if-pairs-ne-PAIR_SETS.false);
+      pairs_len_unchanged = refl;
+    }
 
 pub returns-then-not-order_ok : goal.returns-then-not-order_ok
 returns-then-not-order_ok c =
@@ -44,12 +50,15 @@ returns-then-not-order_ok c =
     let s = state_of l a.sizes in
     let table = c.edge_table-tested in
     let made = c.live_ok in
-    let order = c.order_ok in record { order_after = refused-parts l a.sizes 42 c.refused-then-not-order_ok.result c.refused-then-not-order_ok.ensures
+    let order = c.order_ok in record {
+      order_after = refused-parts l a.sizes 42 c.refused-then-not-order_ok.result c.refused-then-not-order_ok.ensures
           ∙ sym (state-refused a.looked a.edges.now a.local s a.step
           (sym (fits-is a.edges.now) ∙ ap (λ (u : Tested). u.fits) (sym table.ensures) ∙ not-false table.result.fits c.if-not-tested.false)
           (order-bad l a.sizes (sym made.ensures.value ∙ not-false made.result c.if-not-live_ok.false-raw)
           (sym order.ensures.value ∙ not-true order.result c.if-not-order_ok.true-raw)))
-          ∙ sym (sized-by (looked_at a.looked) a.edges.now a.local s a.step c.if-pairs-ne-PAIR_SETS.false); pairs_len_unchanged = refl }
+          ∙ sym (sized-by (looked_at a.looked) a.edges.now a.local s a.step c.if-pairs-ne-PAIR_SETS.false);
+      pairs_len_unchanged = refl;
+    }
 
 pub returns-then-sizes : goal.returns-then-sizes
 returns-then-sizes c =
@@ -58,13 +67,16 @@ returns-then-sizes c =
     let s = state_of l a.sizes in
     let table = c.edge_table-tested in
     let made = c.live_ok in
-    let order = c.order_ok in record { order_after = refused-parts l a.sizes 20 c.refused-then-sizes.result c.refused-then-sizes.ensures
+    let order = c.order_ok in record {
+      order_after = refused-parts l a.sizes 20 c.refused-then-sizes.result c.refused-then-sizes.ensures
           ∙ sym (halted-refused a.looked a.edges.now a.local s a.step
           (sym (fits-is a.edges.now) ∙ ap (λ (u : Tested). u.fits) (sym table.ensures) ∙ not-false table.result.fits c.if-not-tested.false)
           (parts-ok l a.sizes (sym made.ensures.value ∙ not-false made.result c.if-not-live_ok.false-raw)
           (sym order.ensures.value ∙ not-false order.result c.if-not-order_ok.false-raw))
           c.if-sizes.true)
-          ∙ sym (sized-by (looked_at a.looked) a.edges.now a.local s a.step c.if-pairs-ne-PAIR_SETS.false); pairs_len_unchanged = refl }
+          ∙ sym (sized-by (looked_at a.looked) a.edges.now a.local s a.step c.if-pairs-ne-PAIR_SETS.false);
+      pairs_len_unchanged = refl;
+    }
 
 pub judge_read-requires : goal.judge_read-requires
 judge_read-requires c =
@@ -86,10 +98,13 @@ returns c =
     let table = c.edge_table-tested in
     let made = c.live_ok in
     let order = c.order_ok in
-    let h = c.if-sizes.false in record { order_after = c.judge_read.ensures.order_after
+    let h = c.if-sizes.false in record {
+      order_after = c.judge_read.ensures.order_after
           ∙ sym (judged a.looked a.edges.now a.local s a.step
           (sym (fits-is a.edges.now) ∙ ap (λ (u : Tested). u.fits) (sym table.ensures) ∙ not-false table.result.fits c.if-not-tested.false)
           (parts-ok l a.sizes (sym made.ensures.value ∙ not-false made.result c.if-not-live_ok.false-raw)
           (sym order.ensures.value ∙ not-false order.result c.if-not-order_ok.false-raw))
           h)
-          ∙ sym (sized-by (looked_at a.looked) a.edges.now a.local s a.step c.if-pairs-ne-PAIR_SETS.false); pairs_len_unchanged = c.judge_read.ensures.pairs_len_unchanged }
+          ∙ sym (sized-by (looked_at a.looked) a.edges.now a.local s a.step c.if-pairs-ne-PAIR_SETS.false);
+      pairs_len_unchanged = c.judge_read.ensures.pairs_len_unchanged;
+    }

@@ -1,5 +1,5 @@
 use mathlib.Core.List.{List}
-use mathlib.Core.Bool.{Bool, cond}
+use mathlib.Core.Bool.{cond}
 use lib.Dec.{eqb}
 use Rattle.usage.specs.Limits.{policies}
 use Rattle.usage.specs.Tables.{edges_of}
@@ -8,13 +8,8 @@ use Rattle.monitor_pairs.specs.declared.which.Blocks.{Blocks}
 use Rattle.monitor_pairs.specs.Blocks.{pairs_of}
 use Rattle.monitor.proofs.LentLaws.{cond_same, taken, taken-sets}
 use Rattle.monitor.proofs.EventLaws.{none-moved, none-possible}
-use native.Mathlib.Omega.{arith}
-use mathlib.Core.Path.{◌≡◌, refl, sym, ap, ap₂, subst, ◌∙◌}
-use Prim.Native.Nat.{ℕ, suc, ◌+◌, ◌-◌, ◌≤◌, ◌<◌}
-use lib.ListN.{length, get_or, take, drop, set}
-use Rattle.monitor.proofs.events.take_event.Reads as reads
-use Rattle.monitor.proofs.events.take_pairs.Reads as take-pairs-reads
-use Rattle.monitor_sets.proofs.instances.take_event.Reads as take-event-reads
+use mathlib.Core.Path.{refl, sym, ap, subst, ◌∙◌}
+use Prim.Native.Nat.{ℕ, ◌≤◌}
 use Rattle.monitor.proofs.events.take_event.Goals as goal
 
 pub returns-then-which-ge8 : goal.returns-then-which-ge8
@@ -25,9 +20,14 @@ returns-then-which-ge8 c =
     let e = c.take_event.ensures in
     let bad = c.take_event.result in
     let none : policies ≤ (pairs_of es).first = subst (λ (b : Blocks). 8 ≤ b.first) pre.which_value c.if-which-ge8.true in
-    let possible = sym (none-possible es none a.action a.r a.at a.n a.sets.now a.pairs.now) in record { value = e.value ∙ taken a.n a.at _ _ pre.n_le_instances pre.at_lt_n ∙ ap (λ (l : List ℕ). broken_in a.looked l a.unclosed.now) possible; sets_after = e.sets_after ∙ taken-sets a.n a.at bad _ _ pre.n_le_instances pre.at_lt_n; pairs_after = sym (ap (λ (l : List ℕ). cond (eqb bad 0) l a.pairs.now) (none-moved es none a.action a.r a.at a.n a.pairs.now)
-              ∙ cond_same (eqb bad 0) a.pairs.now); possible_after = e.possible_after ∙ taken-sets a.n a.at bad _ _ pre.n_le_instances pre.at_lt_n
-              ∙ ap (λ (l : List ℕ). cond (eqb bad 0) l a.possible.now) possible }
+    let possible = sym (none-possible es none a.action a.r a.at a.n a.sets.now a.pairs.now) in record {
+      value = e.value ∙ taken a.n a.at _ _ pre.n_le_instances pre.at_lt_n ∙ ap (λ (l : List ℕ). broken_in a.looked l a.unclosed.now) possible;
+      sets_after = e.sets_after ∙ taken-sets a.n a.at bad _ _ pre.n_le_instances pre.at_lt_n;
+      pairs_after = sym (ap (λ (l : List ℕ). cond (eqb bad 0) l a.pairs.now) (none-moved es none a.action a.r a.at a.n a.pairs.now)
+          ∙ cond_same (eqb bad 0) a.pairs.now);
+      possible_after = e.possible_after ∙ taken-sets a.n a.at bad _ _ pre.n_le_instances pre.at_lt_n
+          ∙ ap (λ (l : List ℕ). cond (eqb bad 0) l a.possible.now) possible;
+    }
 
 pub take_pairs-requires : goal.take_pairs-requires
 take_pairs-requires c =

@@ -9,16 +9,8 @@ use Rattle.monitor_pairs.specs.Code.{turned_blocks, led_blocks, takes_turn}
 use Rattle.monitor_state.specs.Code.{event_blocks, event_possible}
 use Rattle.monitor.proofs.LentLaws.{taken}
 use Rattle.monitor.proofs.EventLaws.{gathered-length, turn-taken, blocks-led, blocks-turned}
-use native.Mathlib.Omega.{arith}
-use mathlib.Core.Path.{◌≡◌, refl, sym, ap, ap₂, subst, ◌∙◌}
-use Prim.Native.Nat.{ℕ, suc, ◌+◌, ◌-◌, ◌≤◌, ◌<◌}
-use lib.ListN.{length, get_or, take, drop, set}
-use Rattle.monitor.proofs.events.take_pairs.Reads as reads
-use Rattle.monitor.proofs.events.ways_of.Reads as ways-of-reads
-use Rattle.monitor_pairs.proofs.blocks.lead_event.Reads as lead-event-reads
-use Rattle.monitor_pairs.proofs.blocks.take_event.Reads as take-event-reads
-use Rattle.monitor_sets.proofs.instances.broken_set.Reads as broken-set-reads
-use Rattle.monitor_sets.proofs.instances.move_event.Reads as move-event-reads
+use mathlib.Core.Path.{◌≡◌, sym, ap, ◌∙◌}
+use Prim.Native.Nat.{ℕ}
 use Rattle.monitor.proofs.events.take_pairs.Goals as goal
 
 pub returns-then-bad-ne0 : goal.returns-then-bad-ne0
@@ -55,8 +47,13 @@ returns c =
     ∙ ap (λ (l : List ℕ). led_blocks a.which t lower upper a.pairs.now l) moved
     ∙ blocks-led es a.action a.r t pre.creates_value a.pairs.now pre.pairs_len a.which pre.which_value lower upper ways.lower_value ways.upper_value all (gathered-length t.n _) in
     let bad = c.broken_set-bad.result in
-    let on : eqb bad 0 ≡ true = eq-eqb bad 0 c.if-bad-ne0.false in record { value = c.broken_set-bad.ensures ∙ ap (λ (l : List ℕ). broken_in a.looked l a.unclosed.now) after; sets_after = c.move_event-moved.ensures.sets_after ∙ taken t.n t.at _ _ pre.n_le_instances pre.at_lt_n ∙ sym (ap (λ (b : Bool). cond b (event_sets es a.action a.r t.at t.n a.sets.now) a.sets.now) on); pairs_after = c.take_event.ensures
-              ∙ ap (λ (l : List ℕ). cond (takes_turn t l) (turned_blocks a.which t lower upper l) l) c.lead_event-after.ensures.pairs_unchanged
-              ∙ turn-taken t a.pairs.now _ _ pre.pairs_len pre.n_le_instances pre.at_lt_n
-              ∙ blocks-turned es a.action a.r t pre.creates_value a.pairs.now pre.pairs_len a.which pre.which_value lower upper ways.lower_value ways.upper_value
-              ∙ sym (ap (λ (b : Bool). cond b (event_blocks es a.action a.r t.at t.n a.pairs.now) a.pairs.now) on); possible_after = after ∙ sym (ap (λ (b : Bool). cond b (event_possible es a.action a.r t.at t.n a.sets.now a.pairs.now) a.possible.now) on) }
+    let on : eqb bad 0 ≡ true = eq-eqb bad 0 c.if-bad-ne0.false in record {
+      value = c.broken_set-bad.ensures ∙ ap (λ (l : List ℕ). broken_in a.looked l a.unclosed.now) after;
+      sets_after = c.move_event-moved.ensures.sets_after ∙ taken t.n t.at _ _ pre.n_le_instances pre.at_lt_n ∙ sym (ap (λ (b : Bool). cond b (event_sets es a.action a.r t.at t.n a.sets.now) a.sets.now) on);
+      pairs_after = c.take_event.ensures
+          ∙ ap (λ (l : List ℕ). cond (takes_turn t l) (turned_blocks a.which t lower upper l) l) c.lead_event-after.ensures.pairs_unchanged
+          ∙ turn-taken t a.pairs.now _ _ pre.pairs_len pre.n_le_instances pre.at_lt_n
+          ∙ blocks-turned es a.action a.r t pre.creates_value a.pairs.now pre.pairs_len a.which pre.which_value lower upper ways.lower_value ways.upper_value
+          ∙ sym (ap (λ (b : Bool). cond b (event_blocks es a.action a.r t.at t.n a.pairs.now) a.pairs.now) on);
+      possible_after = after ∙ sym (ap (λ (b : Bool). cond b (event_possible es a.action a.r t.at t.n a.sets.now a.pairs.now) a.possible.now) on);
+    }

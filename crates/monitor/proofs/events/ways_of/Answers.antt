@@ -1,17 +1,8 @@
 use mathlib.Core.Bool.{true, false}
-use mathlib.Core.List.{List}
 use Rattle.usage.specs.Tables.{edges_of}
-use Rattle.automaton.specs.Move.{rows_at}
 use Rattle.automaton.proofs.PlaceLaws.{rows-one}
 use Rattle.monitor.proofs.EventLaws.{ways-same}
-use native.Mathlib.Omega.{arith}
-use mathlib.Core.Path.{◌≡◌, refl, sym, ap, ap₂, subst, ◌∙◌}
-use Prim.Native.Nat.{ℕ, suc, ◌+◌, ◌-◌, ◌≤◌, ◌<◌}
-use lib.ListN.{length, get_or, take, drop, set}
-use Rattle.monitor.proofs.events.ways_of.Reads as reads
-use Rattle.automaton.proofs.moves.rows.Reads as rows-reads
-use Rattle.automaton.proofs.moves.rows_second.Reads as rows-second-reads
-use Rattle.monitor_pairs.proofs.rows.ways_of.Reads as ways-of-reads
+use mathlib.Core.Path.{sym, ◌∙◌}
 use Rattle.monitor.proofs.events.ways_of.Goals as goal
 
 pub returns : goal.returns

@@ -1,25 +1,17 @@
-use Prim.Native.Nat.{ℕ, ◌+◌, ◌-◌, ◌<◌, ◌≤◌}
+use Prim.Native.Nat.{ℕ, ◌+◌, ◌-◌}
 use mathlib.Core.Path.{◌≡◌, refl, sym, ap, ◌∙◌, ap₂}
 use mathlib.Core.Bool.{Bool, true, false, cond}
-use mathlib.Core.List.{List, []}
+use mathlib.Core.List.{[]}
 use native.Mathlib.Omega.{arith}
 use borrow.Author.Tests.{eq-eqb, ne_eqb}
 use lib.Dec.{eqb}
 use Rattle.usage.specs.Past.{retiring}
-use Rattle.monitor_sets.specs.Instances.{first_created_lem, instances}
+use Rattle.monitor_sets.specs.Instances.{first_created_lem}
 use Rattle.monitor_sets.specs.Created.{closed_up}
 use Rattle.monitor_sets.specs.Sets.{retired_sets}
 use Rattle.monitor_state.specs.Judge.{place_of, retired_in, with_retired, releasing, after}
 use Rattle.monitor_state.specs.Code.{lent_of, state_of}
 use Rattle.monitor.proofs.LentLaws.{refused-step, parts-place, retiring-low, retiring-taken, retiring-used, settled-step, kept, retire-done, close-done}
-use Rattle.monitor.proofs.retiring.judge_retiring.Reads as reads
-use Rattle.monitor_pairs.proofs.blocks.retire.Reads as blocks-retire-reads
-use Rattle.monitor_sets.proofs.created.place_of.Reads as place-of-reads
-use Rattle.monitor_sets.proofs.instances.broken_set.Reads as broken-set-reads
-use Rattle.monitor_sets.proofs.retiring.close_up.Reads as close-up-reads
-use Rattle.monitor_sets.proofs.retiring.retire.Reads as retiring-retire-reads
-use Rattle.monitor_state.proofs.refused.Reads as refused-reads
-use Rattle.monitor_state.proofs.settled.Reads as settled-reads
 use Rattle.monitor_pairs.specs.declared.which.Blocks.{Blocks}
 use Rattle.monitor_pairs.specs.Pairs.{retire_pairs}
 use Rattle.monitor_pairs.specs.Blocks.{each_block}
@@ -30,11 +22,14 @@ use Rattle.monitor.proofs.retiring.judge_retiring.Goals as goal
 pub returns-then-at-lt-FIRST_CREATED : goal.returns-then-at-lt-FIRST_CREATED
 returns-then-at-lt-FIRST_CREATED c =
     let a = c.args in
-    let place = c.place_of-at in record { order_after = λ local es order same.
+    let place = c.place_of-at in record {
+      order_after = λ local es order same.
           let l = lent_of a.sets.now a.pairs.now a.possible.now a.created.now a.unclosed.now order in
           let s = state_of l a.sizes in
           refused-step a.looked local es l a.sizes (retiring a.r) 28 c.refused.result c.refused.ensures
-          (retiring-low s a.r place.result place.ensures c.if-at-lt-FIRST_CREATED.true); pairs_len_unchanged = refl }
+          (retiring-low s a.r place.result place.ensures c.if-at-lt-FIRST_CREATED.true);
+      pairs_len_unchanged = refl;
+    }
 
 pub overflow_sub-fewer : goal.overflow_sub-fewer
 overflow_sub-fewer c =
@@ -50,14 +45,17 @@ returns-then-bad-ne0 c =
     let place = c.place_of-at in
     let e = c.broken_set-bad in
     let bad = e.result in
-    let off : eqb bad 0 ≡ false = ne_eqb bad 0 c.if-bad-ne0.true in record { order_after = λ local es order same.
+    let off : eqb bad 0 ≡ false = ne_eqb bad 0 c.if-bad-ne0.true in record {
+      order_after = λ local es order same.
           let l = lent_of a.sets.now a.pairs.now a.possible.now a.created.now a.unclosed.now order in
           let s = state_of l a.sizes in
           let t = releasing es s a.r in
           settled-step s t bad a.looked local es (retiring a.r) c.settled.result e.ensures
           (retiring-taken s a.r place.result place.ensures c.if-at-lt-FIRST_CREATED.false) refl c.settled.ensures
           (sym (ap (λ (b : Bool). cond b t.tracked.sets a.sets.now) off)) (sym (ap (λ (b : Bool). cond b t.tracked.pairs a.pairs.now) off)) (kept s t bad a.possible.now)
-          (sym (ap (λ (b : Bool). cond b t.created.numbers a.created.now) off)) (kept s t bad a.unclosed.now) (kept s t bad order); pairs_len_unchanged = refl }
+          (sym (ap (λ (b : Bool). cond b t.created.numbers a.created.now) off)) (kept s t bad a.unclosed.now) (kept s t bad order);
+      pairs_len_unchanged = refl;
+    }
 
 pub returns : goal.returns
 unfolding releasing retired_in with_retired after
@@ -70,7 +68,8 @@ returns c =
     let e = c.broken_set-bad in
     let bad = e.result in
     let on : eqb bad 0 ≡ true = eq-eqb bad 0 c.if-bad-ne0.false in
-    let n = first_created_lem + a.sizes.count in record { order_after = λ local es order same.
+    let n = first_created_lem + a.sizes.count in record {
+      order_after = λ local es order same.
           let l = lent_of a.sets.now a.pairs.now a.possible.now a.created.now a.unclosed.now order in
           let s = state_of l a.sizes in
           let used = retiring-used s a.r at place.ensures in
@@ -87,4 +86,6 @@ returns c =
           settled-step s t bad a.looked local es (retiring a.r) c.settled-2.result e.ensures
           (retiring-taken s a.r at place.ensures low) refl c.settled-2.ensures
           (sets ∙ sym (ap (λ (b : Bool). cond b t.tracked.sets a.sets.now) on)) (pairs ∙ sym (ap (λ (b : Bool). cond b t.tracked.pairs a.pairs.now) on)) (kept s t bad a.possible.now)
-          (created ∙ sym (ap (λ (b : Bool). cond b t.created.numbers a.created.now) on)) (kept s t bad a.unclosed.now) (kept s t bad order); pairs_len_unchanged = search rules }
+          (created ∙ sym (ap (λ (b : Bool). cond b t.created.numbers a.created.now) on)) (kept s t bad a.unclosed.now) (kept s t bad order);
+      pairs_len_unchanged = search rules;
+    }

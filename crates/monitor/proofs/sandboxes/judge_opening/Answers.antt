@@ -1,21 +1,12 @@
-use Prim.Native.Nat.{ℕ, ◌+◌}
+use Prim.Native.Nat.{◌+◌}
 use mathlib.Core.Path.{refl, sym, ap, ◌∙◌}
 use mathlib.Core.Bool.{Bool, true, false, cond}
 use native.Mathlib.Omega.{arith}
-use lib.ListN.{set}
 use Rattle.usage.specs.Past.{opening}
-use Rattle.monitor_state.specs.declared.State.{State}
 use Rattle.monitor_state.specs.Judge.{reset_in, with_opening, entering, after}
 use Rattle.monitor_state.specs.Code.{lent_of, state_of}
 use Rattle.monitor.proofs.JudgeLaws.{opening-deep, opening-free}
 use Rattle.monitor.proofs.LentLaws.{refused-step, settled-step, kept}
-use Rattle.monitor.proofs.sandboxes.judge_opening.Reads as reads
-use Rattle.monitor.proofs.sandboxes.enter.Reads as enter-reads
-use Rattle.monitor.proofs.sandboxes.enter_anew.Reads as enter-anew-reads
-use Rattle.monitor.proofs.sandboxes.is_anew.Reads as is-anew-reads
-use Rattle.monitor.proofs.sandboxes.put_back.Reads as put-back-reads
-use Rattle.monitor_state.proofs.refused.Reads as refused-reads
-use Rattle.monitor_state.proofs.settled.Reads as settled-reads
 use Rattle.monitor_pairs.specs.declared.which.Blocks.{Blocks}
 use Rattle.monitor_pairs.specs.Pairs.{reset_pairs}
 use Rattle.monitor_pairs.specs.Blocks.{each_block}
@@ -26,11 +17,14 @@ use Rattle.monitor.proofs.sandboxes.judge_opening.Goals as goal
 
 pub returns-then-depth-ge-MOST_UNCLOSED : goal.returns-then-depth-ge-MOST_UNCLOSED
 returns-then-depth-ge-MOST_UNCLOSED c =
-    let a = c.args in record { order_after = λ es created same.
+    let a = c.args in record {
+      order_after = λ es created same.
           let l = lent_of a.sets.now a.pairs.now a.possible.now created a.unclosed.now a.order.now in
           let s = state_of l a.sizes in
           refused-step a.looked a.local es l a.sizes (opening a.p) 32 c.refused.result
-          c.refused.ensures (opening-deep s a.p c.if-depth-ge-MOST_UNCLOSED.true); pairs_len_unchanged = refl }
+          c.refused.ensures (opening-deep s a.p c.if-depth-ge-MOST_UNCLOSED.true);
+      pairs_len_unchanged = refl;
+    }
 
 pub enter_anew-broken-requires : goal.enter_anew-broken-requires
 enter_anew-broken-requires c =
@@ -45,14 +39,17 @@ returns-then-is_anew c =
     let e = c.enter_anew-broken in
     let bad = e.result in
     let is = sym c.is_anew.ensures
-    ∙ c.if-is_anew.true in record { order_after = λ es created same.
+    ∙ c.if-is_anew.true in record {
+      order_after = λ es created same.
           let l = lent_of a.sets.now a.pairs.now a.possible.now created a.unclosed.now a.order.now in
           let s = state_of l a.sizes in
           let t = entering es true s a.p in
           settled-step s t bad a.looked a.local es (opening a.p) c.settled.result e.ensures.value
           (opening-free s a.p c.if-depth-ge-MOST_UNCLOSED.false)
           (ap (λ (b : Bool). entering es b s a.p) (sym is)) c.settled.ensures
-          e.ensures.sets_after (c.put_back.ensures ∙ ap (λ (b : Blocks). cond (eqb bad 0) (each_block b (λ q sets. cond (eqb q a.p) (reset_pairs (first_created_lem + a.sizes.count) sets) sets) a.pairs.now) a.pairs.now) same) e.ensures.possible_after (kept s t bad created) e.ensures.unclosed_after e.ensures.order_after; pairs_len_unchanged = search rules }
+          e.ensures.sets_after (c.put_back.ensures ∙ ap (λ (b : Blocks). cond (eqb bad 0) (each_block b (λ q sets. cond (eqb q a.p) (reset_pairs (first_created_lem + a.sizes.count) sets) sets) a.pairs.now) a.pairs.now) same) e.ensures.possible_after (kept s t bad created) e.ensures.unclosed_after e.ensures.order_after;
+      pairs_len_unchanged = search rules;
+    }
 
 pub enter-broken-requires : goal.enter-broken-requires
 enter-broken-requires c =
@@ -66,11 +63,14 @@ returns c =
     let e = c.enter-broken in
     let bad = e.result in
     let is = sym c.is_anew.ensures
-    ∙ c.if-is_anew.false in record { order_after = λ es created same.
+    ∙ c.if-is_anew.false in record {
+      order_after = λ es created same.
           let l = lent_of a.sets.now a.pairs.now a.possible.now created a.unclosed.now a.order.now in
           let s = state_of l a.sizes in
           let t = entering es false s a.p in
           settled-step s t bad a.looked a.local es (opening a.p) c.settled-2.result e.ensures.value
           (opening-free s a.p c.if-depth-ge-MOST_UNCLOSED.false)
           (ap (λ (b : Bool). entering es b s a.p) (sym is)) c.settled-2.ensures
-          (kept s t bad a.sets.now) (kept s t bad a.pairs.now) (kept s t bad a.possible.now) (kept s t bad created) e.ensures.unclosed_after e.ensures.order_after; pairs_len_unchanged = refl }
+          (kept s t bad a.sets.now) (kept s t bad a.pairs.now) (kept s t bad a.possible.now) (kept s t bad created) e.ensures.unclosed_after e.ensures.order_after;
+      pairs_len_unchanged = refl;
+    }
