@@ -43,7 +43,11 @@ enters-as g h u v a e s = subst (λ (i : Arrival). Enters (i ∷ []) u v a) e s
 
 -- it has a place in a table of n places
 abbrev pub Room : ℕ → Arrival → Type 0
-Room n g = (g.to < most_nodes) × ((group_in g.meaning ≤ late_group) × (group_end (group_in g.meaning) ≤ n))
+Room n g = record {
+  to_lt_most_nodes : g.to < most_nodes;
+  meaning_bound : group_in g.meaning ≤ late_group;
+  meaning_in_bounds : group_end (group_in g.meaning) ≤ n;
+}
 
 pub room_as : (n : ℕ) (g h : Arrival) → g ≡ h → Room n h → Room n g
 room_as n g h e i = subst (Room n) (sym e) i

@@ -10,7 +10,6 @@ use lib.Dec.{lit<}
 use lib.Pow.{shl_exact}
 use lib.ListN.{length}
 use Rattle.usage.specs.Limits.{most_nodes, node_fields}
-use Rattle.usage.specs.Outline.{form_of}
 use Rattle.usage.specs.Tests.{some_below}
 use Rattle.usage.proofs.Logic.{false-true, or_left}
 use Rattle.automaton.specs.Mask.{union}

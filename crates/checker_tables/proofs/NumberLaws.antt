@@ -1,15 +1,14 @@
 -- The numbers of entries as the code computes them, and the places of a table up to a group.
-use Prim.Native.Nat.{ℕ, suc, ◌+◌, ◌-◌, ◌*◌, ◌/◌, ◌%◌, ◌<◌, ◌≤◌}
-use mathlib.Core.Path.{◌≡◌, refl, sym, ap, ap₂, ◌∙◌, subst}
-use mathlib.Core.Bool.{Bool, true, false, ◌||◌, cond}
+use Prim.Native.Nat.{ℕ, suc, ◌*◌, ◌<◌, ◌≤◌}
+use mathlib.Core.Path.{◌≡◌, ap}
+use mathlib.Core.Bool.{Bool, true, false, cond}
 use native.Mathlib.Omega.{arith}
 use lib.Dec.{eqb}
 use borrow.Author.Tests.{eqb-true, eq-eqb, ne_eqb}
-use Rattle.usage.specs.Limits.{states, most_nodes}
-use Rattle.checker_account.specs.Account.{watched, watched_too}
-use Rattle.checker_account.specs.Single.{no_name}
+use Rattle.usage.specs.Limits.{most_nodes}
+use Rattle.checker_account.specs.Account.{watched_too}
 use Rattle.checker_account.specs.declared.Resources.{Resources}
-use Rattle.checker_account.specs.Tables.{unnamed, meanings, numbered, meaning_in, group_in, waiting_group, late_group, waits, layer, places_of}
+use Rattle.checker_account.specs.Tables.{unnamed, meanings, numbered, group_in, waiting_group, late_group, waits, layer, places_of}
 use Rattle.checker_account.specs.Tables.{places, entries_of_lem, codes_of, place}
 use Rattle.checker_tables.specs.Search.{lost, group_end, pair_places}
 

@@ -1,11 +1,11 @@
 -- The rules of the table of ends, eight starts at once: what the code computes is what they say.
-use Prim.Native.Nat.{ℕ, zero, suc, ◌+◌, ◌*◌, ◌/◌, ◌%◌, ◌<◌, ◌≤◌}
-use mathlib.Core.Path.{◌≡◌, refl, sym, ap, ap₂, ◌∙◌, subst}
+use Prim.Native.Nat.{ℕ, zero, suc, ◌+◌, ◌/◌, ◌%◌}
+use mathlib.Core.Path.{◌≡◌, refl, sym, ap, ap₂, ◌∙◌}
 use mathlib.Core.Bool.{Bool, true, false, cond}
 use mathlib.Core.List.{List}
 use native.Mathlib.Omega.{arith}
 use lib.Bits.{bit_or, or_zero_r}
-use lib.ListN.{length, get_or, replicate, get_or-replicate, length-replicate}
+use lib.ListN.{get_or, replicate, get_or-replicate}
 use Rattle.usage.specs.Limits.{states}
 use Rattle.checker_account.specs.Account.{watched, watched_too, others}
 use Rattle.checker_account.specs.declared.Resources.{Resources}

@@ -16,12 +16,10 @@ use lib.ListN.{length, get_or, replicate, length-replicate}
 use lib.Seq.{get_or-set_same}
 use borrow.Author.Tests.{leb-true, leb-false}
 use Rattle.usage.specs.Limits.{most_nodes, node_fields}
-use Rattle.usage.specs.Tables.{node_at_lem}
-use Rattle.usage.specs.Outline.{Form, end, static_event, named_event, sequence, choice, loop, back, fresh, sandbox, form_of}
+use Rattle.usage.specs.Outline.{Form, end, static_event, named_event, sequence, choice, loop, back, fresh, sandbox}
 use Rattle.usage.proofs.Logic.{last-or-lower, not-both, false-true}
 use Rattle.automaton.specs.Mask.{has}
 use Rattle.automaton.proofs.MaskLaws.{all-below, all-below-at, has-or, has-zero}
-use Rattle.checker_account.specs.Single.{no_name}
 use Rattle.checker_account.specs.declared.Resources.{Resources}
 use Rattle.checker_account.specs.Tables.{base, Rows, Resets, joined_at, places_of}
 use Rattle.checker_account.specs.Filling.{
@@ -229,6 +227,10 @@ module _ (forms : Forms) where
 -- ── The loop ──
 
 small-placed : (f : Option Form) → Small f → Placed f
+small-placed none h j x = elim x [ ]
+small-placed (some end) h j x = elim x [ ]
+small-placed (some (static_event _ _)) h j x = elim x [ ]
+small-placed (some (named_event _ _)) h j x = elim x [ ]
 small-placed (some (sequence a b)) h j first = h.0
 small-placed (some (sequence a b)) h j second = h.1
 small-placed (some (choice a b)) h j left = h.0

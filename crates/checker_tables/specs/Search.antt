@@ -1,9 +1,9 @@
 -- What the functions compute beside the tables of checker_account: meanings that are lost, what the tables have room for, and the
 -- answers for inputs for which they have none.
-use Rattle.std.specs.Prelude.{ℕ, suc, ◌+◌, ◌*◌, ◌/◌, ◌<◌, ◌≤◌, ◌≡◌, Bool, true, false, not, ◌&&◌, ◌||◌, cond, List, [], ◌∷◌, eqb, ltb, leb, length, get_or, replicate}
+use Rattle.std.specs.Prelude.{ℕ, suc, ◌*◌, ◌/◌, ◌<◌, ◌≤◌, ◌≡◌, Bool, true, false, not, ◌&&◌, ◌||◌, cond, List, [], ◌∷◌, eqb, ltb, leb, length, get_or, replicate}
 use Rattle.std.proofs.Math.Option.{Option, none, some}
 use Rattle.std.specs.Int.Bits.{bit_or}
-use Rattle.usage.specs.Limits.{actions, policies, most_nodes, node_fields}
+use Rattle.usage.specs.Limits.{actions, most_nodes, node_fields}
 use Rattle.usage.specs.Outline.{Form, end, static_event, named_event, sequence, choice, loop, back, fresh, sandbox}
 use Rattle.usage.specs.Tests.{some_below}
 use Rattle.checker_account.specs.Account.{watched, others}

@@ -1,9 +1,9 @@
 use native.Mathlib.Omega.{arith}
 use mathlib.Core.Path.{◌≡◌, refl, sym, ap, ◌∙◌}
-use mathlib.Core.Bool.{Bool, false, not}
+use mathlib.Core.Bool.{Bool, not}
 use mathlib.Core.Option.{Option}
 use mathlib.Core.List.{List}
-use Prim.Native.Nat.{ℕ, ◌/◌, ◌-◌, ◌<◌, ◌≤◌}
+use Prim.Native.Nat.{ℕ, ◌/◌, ◌<◌, ◌≤◌}
 use lib.ListN.{length}
 use borrow.Author.Tests.{le-leb, lt-leb}
 use Rattle.usage.specs.Limits.{most_nodes, node_fields}
@@ -16,9 +16,6 @@ use Rattle.outline_nodes.proofs.SaidLaws.{form-at}
 use Rattle.checker_account.specs.Filling.{forms_in}
 use Rattle.checker_account.proofs.CodeLaws.{none_more}
 use Rattle.checker_tables.specs.Search.{small, has_room}
-use Rattle.checker_tables.proofs.fits.Reads as reads
-use Rattle.checker_tables.proofs.small.Reads as small-reads
-use Rattle.outline_nodes.proofs.form.Reads as form-reads
 use borrow.Author.Rules.{rules}
 use Rattle.checker_tables.proofs.fits.Goals as goal
 use Rattle.checker_tables.proofs.fits.Invariants.{big}

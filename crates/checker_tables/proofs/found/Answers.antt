@@ -1,30 +1,9 @@
-use mathlib.Core.Path.{◌≡◌, refl, sym, ap, ap₂, ◌∙◌, subst}
-use mathlib.Core.Bool.{Bool, true, false, not, ◌&&◌, ◌||◌, cond}
-use mathlib.Core.List.{List, [], ◌∷◌}
-use Prim.Native.Nat.{ℕ, suc, ◌+◌, ◌-◌, ◌*◌, ◌/◌, ◌%◌, ◌<◌, ◌≤◌}
-use native.Mathlib.Omega.{arith}
-use lib.ListN.{length, get_or, replicate}
-use lib.Bits.{bit_or}
-use lib.Dec.{eqb}
-use mathlib.Core.Option.{Option}
-use Rattle.usage.specs.Limits.{most_nodes, node_fields}
-use Rattle.usage.specs.Outline.{Form}
-use Rattle.usage.specs.Tests.{some_below}
-use Rattle.outline_nodes.specs.declared.NodeForm.{NodeForm}
-use Rattle.outline_nodes.specs.Said.{said_by}
-use Rattle.outline_nodes.proofs.SaidLaws.{form-at}
-use Rattle.checker_account.specs.declared.Resources.{Resources}
-use Rattle.checker_account.specs.declared.Watch.{Watch}
-use Rattle.usage.proofs.Logic.{false-true}
+use mathlib.Core.Path.{sym, ap, ◌∙◌}
+use Prim.Native.Nat.{ℕ}
+use lib.ListN.{length}
 use Rattle.checker_account.specs.Tables.{places_of}
-use Rattle.checker_tables.specs.Search.{has_room, resets_if, EndsBy, ArrivesIf}
-use Rattle.checker_account.specs.Filling.{Filled}
-use Rattle.checker_tables.proofs.FitLaws.{fits-rule}
-use Rattle.checker_tables.proofs.AnswerLaws.{whole-answer, local-answer, filled-length, arrived-length, arrives-length, arrives-searched}
+use Rattle.checker_tables.proofs.AnswerLaws.{arrived-length}
 use lib.ListN.{length-replicate}
-use Rattle.checker_tables.proofs.found.Reads as reads
-use Rattle.checker_tables.proofs.arrivals.fill.Reads as fill-reads
-use Rattle.checker_tables.proofs.hits.any.Reads as any-reads
 use Rattle.checker_tables.proofs.found.Goals as goal
 
 pub fill-requires : goal.fill-requires

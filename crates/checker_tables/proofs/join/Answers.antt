@@ -1,10 +1,7 @@
 use mathlib.Core.Path.{refl, sym}
-use Prim.Native.Nat.{◌<◌}
-use lib.ListN.{length}
 use Rattle.checker_account.specs.Tables.{joined_at}
 use Rattle.checker_account.proofs.GrowsLaws.{grown-joined}
 use Rattle.checker_account.proofs.SettleLaws.{joined-wide}
-use Rattle.checker_tables.proofs.join.Reads as reads
 use Rattle.checker_tables.proofs.join.Goals as goal
 
 pub returns : goal.returns

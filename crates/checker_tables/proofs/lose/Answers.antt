@@ -1,6 +1,5 @@
 use borrow.Author.Tests.{eq-eqb, ne_eqb}
 use Rattle.checker_tables.specs.Search.{lost}
-use Rattle.checker_tables.proofs.lose.Reads as reads
 use Rattle.checker_tables.proofs.lose.Goals as goal
 
 pub returns-then-m-n : goal.returns-then-m-n

@@ -4,7 +4,6 @@ use Prim.Native.Nat.{◌%◌}
 use borrow.Author.Tests.{eq-eqb, ne_eqb}
 use Rattle.usage.proofs.Logic.{not-true, not-false}
 use Rattle.checker_account.specs.Tables.{restarted}
-use Rattle.checker_tables.proofs.restarted.Reads as reads
 use Rattle.checker_tables.proofs.restarted.Goals as goal
 
 pub returns-then-not-reset : goal.returns-then-not-reset

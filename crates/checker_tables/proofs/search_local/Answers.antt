@@ -1,51 +1,33 @@
-use mathlib.Core.Path.{◌≡◌, refl, sym, ap, ap₂, ◌∙◌, subst}
-use mathlib.Core.Bool.{Bool, true, false, not, ◌&&◌, ◌||◌, cond}
-use mathlib.Core.List.{List, [], ◌∷◌}
-use Prim.Native.Nat.{ℕ, suc, ◌+◌, ◌-◌, ◌*◌, ◌/◌, ◌%◌, ◌<◌, ◌≤◌}
-use native.Mathlib.Omega.{arith}
-use lib.ListN.{length, get_or, replicate}
-use lib.Bits.{bit_or}
-use lib.Dec.{eqb}
-use mathlib.Core.Option.{Option}
-use Rattle.usage.specs.Limits.{most_nodes, node_fields}
-use Rattle.usage.specs.Outline.{Form}
-use Rattle.usage.specs.Tests.{some_below}
-use Rattle.outline_nodes.specs.declared.NodeForm.{NodeForm}
-use Rattle.outline_nodes.specs.Said.{said_by}
-use Rattle.outline_nodes.proofs.SaidLaws.{form-at}
-use Rattle.checker_account.specs.declared.Resources.{Resources}
-use Rattle.checker_account.specs.declared.Watch.{Watch}
+use mathlib.Core.Path.{refl, sym, ap, ◌∙◌, subst}
+use mathlib.Core.Bool.{Bool, false}
+use Prim.Native.Nat.{ℕ}
+use lib.ListN.{length}
 use Rattle.usage.proofs.Logic.{false-true}
 use Rattle.checker_account.specs.Tables.{places_of}
-use Rattle.checker_tables.specs.Search.{has_room, resets_if, EndsBy, ArrivesIf}
-use Rattle.checker_account.specs.Filling.{Filled}
+use Rattle.checker_tables.specs.Search.{ArrivesIf}
 use Rattle.checker_tables.proofs.FitLaws.{fits-rule}
-use Rattle.checker_tables.proofs.AnswerLaws.{whole-answer, local-answer, filled-length, arrived-length, arrives-length, arrives-searched}
+use Rattle.checker_tables.proofs.AnswerLaws.{local-answer, filled-length, arrived-length}
 use lib.ListN.{length-replicate}
-use Rattle.checker_tables.proofs.search_local.Reads as reads
-use Rattle.checker_tables.proofs.ends.fill.Reads as fill-reads
-use Rattle.checker_tables.proofs.fits.Reads as fits-reads
-use Rattle.checker_tables.proofs.found.Reads as found-reads
 use Rattle.checker_tables.proofs.search_local.Goals as goal
 
 pub fill-requires : goal.fill-requires
 fill-requires c =
     let a = c.args in
     let p = c.requires in
-    record { nodes_fit = fits-rule a.nodes.now (sym c.fits2.ensures ∙ c.if-fits.true); wide = (λ e. false-true e); opened_len = (λ e. false-true e); t_value = p.opened_value }
+    record { nodes_fit = fits-rule a.nodes.now (sym c.fits.ensures ∙ c.if-fits.true); wide = (λ e. false-true e); opened_len = (λ e. false-true e); t_value = p.opened_value }
 
 pub fill-requires-then-fits : goal.fill-requires-then-fits
 fill-requires-then-fits c =
     let a = c.args in
     let p = c.requires in
     let t = c.fill in
-    record { nodes_fit = fits-rule a.nodes.now (sym c.fits2.ensures ∙ c.if-fits.true); wide = (λ e. t.ensures.wide_2); opened_len = (λ e. filled-length t.ensures.filled); t_value = p.shut_value }
+    record { nodes_fit = fits-rule a.nodes.now (sym c.fits.ensures ∙ c.if-fits.true); wide = (λ e. t.ensures.wide_2); opened_len = (λ e. filled-length t.ensures.filled); t_value = p.shut_value }
 
 pub found-requires : goal.found-requires
 found-requires c =
     let a = c.args in
     let p = c.requires in
-    record { nodes_fit = fits-rule a.nodes.now (sym c.fits2.ensures ∙ c.if-fits.true); opened_len = filled-length c.fill.ensures.filled; shut_len = filled-length c.fill-then-fits.ensures.filled; u_value = p.u_value }
+    record { nodes_fit = fits-rule a.nodes.now (sym c.fits.ensures ∙ c.if-fits.true); opened_len = filled-length c.fill.ensures.filled; shut_len = filled-length c.fill-then-fits.ensures.filled; u_value = p.u_value }
 
 pub shape_of-opened-then-fits : goal.shape_of-opened-then-fits
 shape_of-opened-then-fits c =
@@ -72,12 +54,12 @@ returns-then-fits c =
     let p = c.requires in
     let t = c.fill in
     let s = c.fill-then-fits in
-    local-answer a.nodes.now a.rows.now a.w.policy a.w.resources (sym c.fits2.ensures ∙ c.if-fits.true)
-    t.new.1.1.1.1.0 t.ensures.filled a.w.local c.found.result c.found.new.1.1.1.1.1.0 p.local_value
-    s.new.1.1.1.1.0 s.ensures.filled c.found.ensures
+    local-answer a.nodes.now a.rows.now a.w.policy a.w.resources (sym c.fits.ensures ∙ c.if-fits.true)
+    t.new.t t.ensures.filled a.w.local c.found.result c.found.new.u p.local_value
+    s.new.t s.ensures.filled c.found.ensures
 
 pub returns : goal.returns
 returns c =
     let a = c.args in
     subst (λ (b : Bool). ArrivesIf b a.nodes.now a.w.local a.rows.now a.w.policy a.w.resources a.u.now false)
-    (sym (sym c.fits2.ensures ∙ c.if-fits.false)) (refl, c.requires.u_value)
+    (sym (sym c.fits.ensures ∙ c.if-fits.false)) (refl, c.requires.u_value)

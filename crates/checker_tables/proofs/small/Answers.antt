@@ -4,8 +4,6 @@ use lib.Dec.{ltb}
 use Rattle.checker_account.specs.Single.{no_name}
 use Rattle.checker_tables.specs.Search.{small}
 use Rattle.checker_tables.proofs.OtherLaws.{no_number}
-use Rattle.checker_tables.proofs.small.Reads as reads
-use Rattle.checker_tables.proofs.in_room.Reads as in-room-reads
 use Rattle.checker_tables.proofs.small.Goals as goal
 
 pub returns-in-OnStatic : goal.returns-in-OnStatic
@@ -41,4 +39,4 @@ unfolding small
 returns-in-Sandbox c = rw c.in-Sandbox.is c.in_room-in-Sandbox.ensures
 
 pub returns-in_default : goal.returns-in_default
-returns-in_default c = no_number c.args.f c.in_default.in_default-own
+returns-in_default c = no_number c.args.f c.in_default.not-OnStatic c.in_default.not-OnName c.in_default.not-Sequence c.in_default.not-Choice c.in_default.not-Loop c.in_default.not-Back c.in_default.not-Fresh c.in_default.not-Sandbox

@@ -3,7 +3,7 @@ use mathlib.Core.Path.{◌≡◌, refl, sym, ap, ap₂, ◌∙◌}
 use mathlib.Core.Bool.{Bool, false, ◌||◌}
 use mathlib.Core.Option.{Option}
 use mathlib.Core.List.{List}
-use Prim.Native.Nat.{ℕ, ◌/◌, ◌-◌, ◌<◌, ◌≤◌}
+use Prim.Native.Nat.{ℕ, ◌/◌, ◌<◌}
 use lib.Dec.{leb}
 use lib.ListN.{length}
 use borrow.Author.Tests.{le-leb, lt-leb}
@@ -15,12 +15,8 @@ use Rattle.usage.proofs.Logic.{or_left, or_right}
 use Rattle.automaton.proofs.MaskLaws.{some_at}
 use Rattle.outline_nodes.proofs.SaidLaws.{form-at}
 use Rattle.checker_account.specs.Account.{watched}
-use Rattle.checker_account.specs.Filling.{forms_in}
 use Rattle.checker_account.proofs.CodeLaws.{none_more}
 use Rattle.checker_tables.specs.Search.{is_on_lem, touched}
-use Rattle.checker_tables.proofs.touched.Reads as reads
-use Rattle.checker_tables.proofs.is_on.Reads as is-on-reads
-use Rattle.outline_nodes.proofs.form.Reads as form-reads
 use borrow.Author.Rules.{rules}
 use Rattle.checker_tables.proofs.touched.Goals as goal
 use Rattle.checker_tables.proofs.touched.Invariants.{on}

@@ -1,14 +1,11 @@
 use lib.Bits.{bit_or, or_zero_r}
 use Rattle.usage.specs.Limits.{states}
-use Rattle.usage.proofs.Logic.{by_cases}
-use Rattle.automaton.specs.Mask.{has, union}
+use Rattle.automaton.specs.Mask.{union}
 use Rattle.checker_account.proofs.MaskLaws.{over-in, over-out}
-use mathlib.Core.Bool.{cond}
 use native.Mathlib.Omega.{arith}
-use mathlib.Core.Path.{◌≡◌, refl, ap, ap₂, ◌∙◌}
-use Prim.Native.Nat.{ℕ, ◌+◌, ◌-◌, ◌≤◌}
+use mathlib.Core.Path.{◌≡◌, refl, ap₂, ◌∙◌}
+use Prim.Native.Nat.{ℕ, ◌+◌}
 use lib.ListN.{get_or}
-use Rattle.checker_tables.proofs.union_over.Reads as reads
 use Rattle.checker_account.specs.Tables.{over}
 use borrow.Author.Rules.{rules}
 use Rattle.checker_tables.proofs.union_over.Goals as goal
@@ -23,10 +20,13 @@ loop-q-preserved c =
     let a = c.args in
     let l = c.loop-q in
     let f : ℕ → ℕ = λ (j : ℕ). get_or a.t.now (a.i + j) 0 in
-    elim c.if-v-q-eq1.branch [ then-v-q-eq1 w ↦ (search rules, ap₂ (λ (n m : ℕ). bit_or n m) l.invariant.1 w.1 ∙ over-in f a.v l.q w.if-v-q-eq1.true) | else-v-q-eq1 w ↦ (
-      search rules,
-      ap₂ (λ (n m : ℕ). bit_or n m) l.invariant.1 w.1 ∙ or_zero_r _ ∙ over-out f a.v l.q w.if-v-q-eq1.false,
-    ) ]
+    elim c.if-v-q-eq1.branch [
+      | then-v-q-eq1 w ↦ (search rules, ap₂ (λ (n m : ℕ). bit_or n m) l.invariant.1 w.more-is ∙ over-in f a.v l.q w.if-v-q-eq1.true)
+      | else-v-q-eq1 w ↦ (
+        search rules,
+        ap₂ (λ (n m : ℕ). bit_or n m) l.invariant.1 w.more-is ∙ or_zero_r _ ∙ over-out f a.v l.q w.if-v-q-eq1.false,
+      )
+    ]
 
 pub returns : goal.returns
 unfolding over

@@ -11,8 +11,6 @@ use Rattle.usage.proofs.Logic.{and-false}
 use Rattle.checker_account.specs.Tables.{meanings, place}
 use Rattle.checker_tables.specs.Search.{come_to_lem}
 use Rattle.checker_tables.proofs.EnterLaws.{come-to-in}
-use Rattle.checker_tables.proofs.arrivals.come_to.Reads as reads
-use Rattle.checker_tables.proofs.arrivals.states_at.Reads as states-at-reads
 use borrow.Author.Rules.{rules}
 use Rattle.checker_tables.proofs.arrivals.come_to.Goals as goal
 

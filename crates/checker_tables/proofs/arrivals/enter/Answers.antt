@@ -1,16 +1,11 @@
-use mathlib.Core.Path.{◌≡◌, refl, sym, ap, ap₂, ◌∙◌, subst}
-use mathlib.Core.Bool.{Bool, true, false, not, ◌&&◌, ◌||◌, cond}
-use mathlib.Core.List.{List, [], ◌∷◌}
-use Prim.Native.Nat.{ℕ, suc, ◌+◌, ◌-◌, ◌*◌, ◌/◌, ◌%◌, ◌<◌, ◌≤◌}
+use mathlib.Core.Path.{ap, ◌∙◌}
+use Prim.Native.Nat.{ℕ}
 use native.Mathlib.Omega.{arith}
-use lib.ListN.{length, get_or, replicate}
+use lib.ListN.{length}
 use Rattle.checker_account.specs.Tables.{joined_at}
 use Rattle.checker_account.specs.Filling.{entered}
 use Rattle.checker_account.proofs.GrowsLaws.{grows-joined}
 use Rattle.checker_tables.proofs.NumberLaws.{place-room}
-use Rattle.checker_tables.proofs.arrivals.enter.Reads as reads
-use Rattle.checker_tables.proofs.arrivals.place.Reads as place-reads
-use Rattle.checker_tables.proofs.join.Reads as join-reads
 use Rattle.checker_tables.proofs.arrivals.enter.Goals as goal
 
 pub place-i-requires : goal.place-i-requires
@@ -32,4 +27,4 @@ pub returns : goal.returns
 unfolding entered
 returns c =
     let a = c.args in
-    (c.join.ensures.t_after ∙ ap (λ (i : ℕ). joined_at a.u.now i a.g.states) c.place-i.ensures, c.join.ensures.1)
+    (c.join.ensures.t_after ∙ ap (λ (i : ℕ). joined_at a.u.now i a.g.states) c.place-i.ensures, (c.join.ensures.value, c.join.ensures.wide))

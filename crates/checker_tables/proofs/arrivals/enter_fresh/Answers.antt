@@ -1,23 +1,11 @@
-use mathlib.Core.Path.{◌≡◌, refl, sym, ap, ap₂, ◌∙◌, subst}
-use mathlib.Core.Bool.{Bool, true, false, not, ◌&&◌, ◌||◌, cond}
-use mathlib.Core.List.{List, [], ◌∷◌}
-use Prim.Native.Nat.{ℕ, suc, ◌+◌, ◌-◌, ◌*◌, ◌/◌, ◌%◌, ◌<◌, ◌≤◌}
+use mathlib.Core.Path.{ap₂, ◌∙◌}
+use mathlib.Core.List.{[], ◌∷◌}
+use Prim.Native.Nat.{ℕ}
 use native.Mathlib.Omega.{arith}
-use lib.ListN.{length, get_or, replicate}
-use Rattle.checker_account.specs.declared.Arrival.{Arrival}
 use Rattle.checker_account.specs.Tables.{◌by◌by◌with◌}
-use Rattle.checker_tables.proofs.EnterLaws.{enters-both, enters-length, enters-as, room_as, room_in}
-use Rattle.checker_account.specs.Tables.{group_in, late_group, waiting_group, in_group_lem, meaning_in, halves, second_arrivals, fresh_arrivals}
-use Rattle.checker_account.specs.Tables.{forgotten_in, first_named_lem, second_named_lem, begun, over, row_on, rows_in, first_created_lem, waits}
-use Rattle.checker_account.specs.Account.{others, watched, watched_too}
-use Rattle.checker_account.proofs.EntryLaws.{meaning-lt, group-numbered}
-use Rattle.checker_tables.specs.Search.{first_arrivals, Enters}
-use Rattle.checker_tables.proofs.arrivals.enter_fresh.Reads as reads
-use Rattle.checker_tables.proofs.arrivals.enter.Reads as enter-reads
-use Rattle.checker_tables.proofs.numbers.first_named.Reads as first-named-reads
-use Rattle.checker_tables.proofs.numbers.forgotten.Reads as forgotten-reads
-use Rattle.checker_tables.proofs.rows.first_created.Reads as first-created-reads
-use Rattle.checker_tables.proofs.rows.moved_set.Reads as moved-set-reads
+use Rattle.checker_tables.proofs.EnterLaws.{enters-both, enters-length, enters-as}
+use Rattle.checker_account.specs.Tables.{forgotten_in, first_named_lem, over, row_on, rows_in, first_created_lem}
+use Rattle.checker_account.specs.Account.{others}
 use Rattle.checker_tables.proofs.arrivals.enter_fresh.Goals as goal
 
 pub forgotten-requires : goal.forgotten-requires

@@ -1,17 +1,12 @@
-use mathlib.Core.Path.{◌≡◌, refl, sym, ap, ap₂, ◌∙◌, subst}
-use mathlib.Core.Bool.{Bool, true, false, not, ◌&&◌, ◌||◌, cond}
-use mathlib.Core.List.{List, [], ◌∷◌}
-use Prim.Native.Nat.{ℕ, suc, ◌+◌, ◌-◌, ◌*◌, ◌/◌, ◌%◌, ◌<◌, ◌≤◌}
+use mathlib.Core.Path.{sym, ap, ◌∙◌}
+use mathlib.Core.Bool.{true, false}
+use mathlib.Core.List.{[], ◌∷◌}
+use Prim.Native.Nat.{ℕ, ◌/◌, ◌%◌}
 use native.Mathlib.Omega.{arith}
-use lib.ListN.{length, get_or, replicate}
-use Rattle.checker_account.specs.declared.Arrival.{Arrival}
 use Rattle.checker_account.specs.Tables.{◌by◌by◌with◌}
-use Rattle.checker_tables.proofs.EnterLaws.{enters-both, enters-length, enters-as, room_as, room_in}
-use Rattle.checker_account.specs.Tables.{entry_after, group_in}
+use Rattle.checker_tables.proofs.EnterLaws.{enters-both, enters-length, enters-as}
+use Rattle.checker_account.specs.Tables.{entry_after}
 use Rattle.checker_tables.proofs.RuleLaws.{after_same}
-use Rattle.checker_tables.proofs.arrivals.enter_halves.Reads as reads
-use Rattle.checker_tables.proofs.arrivals.enter.Reads as enter-reads
-use Rattle.checker_tables.proofs.numbers.after.Reads as after-reads
 use Rattle.checker_tables.proofs.arrivals.enter_halves.Goals as goal
 
 pub after-requires : goal.after-requires

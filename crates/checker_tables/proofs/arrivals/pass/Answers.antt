@@ -1,20 +1,15 @@
-use mathlib.Core.Path.{◌≡◌, refl, sym, ap, ap₂, ◌∙◌, subst}
-use mathlib.Core.Bool.{Bool, true, false, not, ◌&&◌, ◌||◌, cond}
-use mathlib.Core.List.{List, [], ◌∷◌}
-use Prim.Native.Nat.{ℕ, suc, ◌+◌, ◌-◌, ◌*◌, ◌/◌, ◌%◌, ◌<◌, ◌≤◌}
+use mathlib.Core.Path.{◌≡◌, sym, ap, ◌∙◌}
+use mathlib.Core.Bool.{Bool, true, false}
+use mathlib.Core.List.{List}
+use Prim.Native.Nat.{ℕ}
 use native.Mathlib.Omega.{arith}
-use lib.ListN.{length, get_or, replicate}
-use Rattle.checker_account.specs.declared.Arrival.{Arrival}
-use Rattle.checker_account.specs.Tables.{◌by◌by◌with◌}
-use Rattle.checker_tables.proofs.EnterLaws.{enters-both, enters-length, enters-as, room_as, room_in}
+use lib.ListN.{length}
+use Rattle.checker_tables.proofs.EnterLaws.{enters-length}
 use Rattle.outline_nodes.specs.Said.{said_by}
 use Rattle.checker_account.specs.Tables.{rows_in}
 use Rattle.checker_account.specs.Filling.{entered, arrivals_of, by_open}
 use Rattle.checker_account.proofs.GrowsLaws.{grown-self}
 use Rattle.checker_account.proofs.PassLaws.{pass-none}
-use Rattle.checker_tables.proofs.arrivals.pass.Reads as reads
-use Rattle.checker_tables.proofs.arrivals.ends_for.Reads as ends-for-reads
-use Rattle.checker_tables.proofs.arrivals.pass_by.Reads as pass-by-reads
 use Rattle.checker_tables.proofs.arrivals.pass.Goals as goal
 
 -- both tables of ends are as long as the other

@@ -1,30 +1,18 @@
-use mathlib.Core.Path.{◌≡◌, refl, sym, ap, ap₂, ◌∙◌, subst}
-use mathlib.Core.Bool.{Bool, true, false, not, ◌&&◌, ◌||◌, cond}
-use mathlib.Core.List.{List, [], ◌∷◌}
-use Prim.Native.Nat.{ℕ, suc, ◌+◌, ◌-◌, ◌*◌, ◌/◌, ◌%◌, ◌<◌, ◌≤◌}
-use native.Mathlib.Omega.{arith}
-use lib.ListN.{length, get_or, replicate}
+use mathlib.Core.Path.{sym, ap}
+use mathlib.Core.List.{List}
 use Rattle.checker_account.specs.declared.Arrival.{Arrival}
-use Rattle.checker_account.specs.Tables.{◌by◌by◌with◌}
-use Rattle.checker_tables.proofs.EnterLaws.{enters-both, enters-length, enters-as, room_as, room_in}
+use Rattle.checker_tables.proofs.EnterLaws.{enters-length, enters-as, room_as}
 use Rattle.checker_account.specs.Tables.{rows_in, arrivals}
 use Rattle.checker_account.specs.Filling.{entered}
 use Rattle.checker_account.proofs.GrowsLaws.{grown-self}
 use Rattle.checker_tables.proofs.OtherLaws.{no-arrivals}
-use Rattle.checker_tables.proofs.arrivals.pass_by.Reads as reads
-use Rattle.checker_tables.proofs.arrivals.enter.Reads as enter-reads
-use Rattle.checker_tables.proofs.arrivals.enter_two.Reads as enter-two-reads
-use Rattle.checker_tables.proofs.arrivals.onto.Reads as onto-reads
-use Rattle.checker_tables.proofs.arrivals.pass_fresh.Reads as pass-fresh-reads
-use Rattle.checker_tables.proofs.arrivals.pass_sandbox.Reads as pass-sandbox-reads
-use Rattle.checker_tables.proofs.arrivals.pass_sequence.Reads as pass-sequence-reads
 use Rattle.checker_tables.proofs.arrivals.pass_by.Goals as goal
 
 pub pass_sequence-requires : goal.pass_sequence-requires
 pass_sequence-requires c =
     let p = c.requires in
     let s = rw c.in-Sequence.is at p.small in
-    (s.0, (s.1, p.1.1))
+    record { a_lt_most_nodes = s.0; b_lt_most_nodes = s.1; meaning_bound = p.meaning_bound; meaning_in_bounds = p.meaning_in_bounds; meaning_in_bounds_2 = p.meaning_in_bounds_2; late_group_in_bounds = p.late_group_in_bounds }
 
 pub enter_two-requires : goal.enter_two-requires
 enter_two-requires c =
@@ -120,5 +108,5 @@ returns-in_default c =
     let a = c.args in
     let g = a.from in
     let e = no-arrivals a.w.local (rows_in a.rows.now) a.w.policy a.w.resources a.t.now g.to g.opened g.meaning g.states
-    a.f c.in_default.in_default-own in
+    a.f c.in_default.not-Sequence c.in_default.not-Choice c.in_default.not-Loop c.in_default.not-Back c.in_default.not-Fresh c.in_default.not-Sandbox in
     (sym (ap (λ (gs : List Arrival). entered gs a.u.now) e), (sym (grown-self a.u.now), λ w. w))

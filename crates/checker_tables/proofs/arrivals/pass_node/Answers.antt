@@ -1,33 +1,19 @@
-use mathlib.Core.Path.{◌≡◌, refl, sym, ap, ap₂, ◌∙◌, subst}
-use mathlib.Core.Bool.{Bool, true, false, not, ◌&&◌, ◌||◌, cond}
-use mathlib.Core.List.{List, [], ◌∷◌}
-use Prim.Native.Nat.{ℕ, suc, ◌+◌, ◌-◌, ◌*◌, ◌/◌, ◌%◌, ◌<◌, ◌≤◌}
+use mathlib.Core.Path.{◌≡◌, refl, sym, ap, ◌∙◌}
+use mathlib.Core.Bool.{Bool, ◌||◌}
+use mathlib.Core.List.{List}
+use Prim.Native.Nat.{ℕ, ◌+◌, ◌-◌, ◌*◌, ◌/◌, ◌<◌, ◌≤◌}
 use native.Mathlib.Omega.{arith}
-use lib.ListN.{length, get_or, replicate}
-use lib.Bits.{bit_or}
-use lib.Dec.{eqb}
-use mathlib.Core.Option.{Option}
-use Rattle.usage.specs.Limits.{most_nodes, node_fields}
-use Rattle.usage.specs.Outline.{Form}
-use Rattle.usage.specs.Tests.{some_below}
 use Rattle.outline_nodes.specs.declared.NodeForm.{NodeForm}
 use Rattle.outline_nodes.specs.Said.{said_by}
-use Rattle.outline_nodes.proofs.SaidLaws.{form-at}
-use Rattle.checker_account.specs.declared.Resources.{Resources}
 use Rattle.checker_account.specs.declared.Watch.{Watch}
 use mathlib.Core.Bool.{or-false}
-use Rattle.usage.proofs.Logic.{by_cases, or_right}
+use Rattle.usage.proofs.Logic.{or_right}
 use Rattle.checker_account.specs.Tables.{codes_of, rows_in}
-use Rattle.checker_account.specs.Filling.{repeat, grown, by_open, entered, arrivals_of, pass, odd, pass_node_lem, Wide}
+use Rattle.checker_account.specs.Filling.{repeat, by_open, entered, arrivals_of, odd, pass_node_lem, Wide}
 use Rattle.checker_account.proofs.GrowsLaws.{Grows, grown-self, repeat-length, turn}
 use Rattle.checker_account.proofs.PassLaws.{pass-grows}
 use Rattle.checker_account.proofs.EntryBounds.{meanings-le}
 use Rattle.checker_tables.proofs.NumberLaws.{code-room, codes-most, waiting-room}
-use Rattle.checker_tables.proofs.arrivals.pass_node.Reads as reads
-use Rattle.checker_tables.proofs.arrivals.pass.Reads as pass-reads
-use Rattle.checker_tables.proofs.arrivals.states_at.Reads as states-at-reads
-use Rattle.checker_tables.proofs.numbers.codes_of.Reads as codes-of-reads
-use Rattle.checker_tables.proofs.numbers.least.Reads as least-reads
 use borrow.Author.Rules.{rules}
 use Rattle.checker_tables.proofs.arrivals.pass_node.Goals as goal
 use Rattle.checker_tables.proofs.arrivals.pass_node.Goals.{else-pass, then-pass}
@@ -88,8 +74,16 @@ pass-requires c =
     let i : low.result + l.i / 2 < codes_of a.w.resources = omega (arith, c.codes_of.ensures) in
     let r = code-room a.w.resources (low.result + l.i / 2) i in
     let n = repeat-length f grows l.i a.u.now l.u l.invariant.1.0 in
-    let s = sym (n ∙ p.u_len) in record { small = p.small; to_lt_most_nodes = p.k_lt_most_nodes; meaning_bound = r.0; meaning_in_bounds = omega (arith, r.1, n, p.u_len); opened_len = p.opened_len ∙ s; shut_len = p.shut_len ∙ s; late_group_in_bounds = λ d.
-                    omega (arith, waiting-room a.w.resources (low.result + l.i / 2) i d, n, p.u_len) }
+    let s = sym (n ∙ p.u_len) in record {
+      small = p.small;
+      to_lt_most_nodes = p.k_lt_most_nodes;
+      meaning_bound = r.0;
+      meaning_in_bounds = omega (arith, r.1, n, p.u_len);
+      opened_len = p.opened_len ∙ s;
+      shut_len = p.shut_len ∙ s;
+      late_group_in_bounds = λ d.
+          omega (arith, waiting-room a.w.resources (low.result + l.i / 2) i d, n, p.u_len);
+    }
 
 pub overflow_add-i : goal.overflow_add-i
 overflow_add-i c =
@@ -130,4 +124,4 @@ returns c =
     let l = c.loop-i in
     let low = c.least-l in
     let e : l.i ≡ 2 * (c.codes_of.result - low.result) = omega arith in
-    (rw (sym low.ensures.value, sym c.codes_of.ensures) (rw e at l.invariant.1.0), l.invariant.1.1)
+    record { u_after = rw (sym low.ensures.value, sym c.codes_of.ensures) (rw e at l.invariant.1.0); value = l.invariant.1.1.0; wide = l.invariant.1.1.1 }

@@ -1,27 +1,18 @@
-use mathlib.Core.Path.{◌≡◌, refl, sym, ap, ap₂, ◌∙◌, subst}
-use mathlib.Core.Bool.{Bool, true, false, not, ◌&&◌, ◌||◌, cond}
-use mathlib.Core.List.{List, [], ◌∷◌}
-use Prim.Native.Nat.{ℕ, suc, ◌+◌, ◌-◌, ◌*◌, ◌/◌, ◌%◌, ◌<◌, ◌≤◌}
+use mathlib.Core.Path.{◌≡◌, refl, sym, ap, ◌∙◌, subst}
+use mathlib.Core.List.{List}
+use Prim.Native.Nat.{ℕ, ◌/◌, ◌≤◌}
 use native.Mathlib.Omega.{arith}
-use lib.ListN.{length, get_or, replicate}
-use lib.Bits.{bit_or}
-use lib.Dec.{eqb}
+use lib.ListN.{length}
 use mathlib.Core.Option.{Option}
 use Rattle.usage.specs.Limits.{most_nodes, node_fields}
 use Rattle.usage.specs.Outline.{Form}
-use Rattle.usage.specs.Tests.{some_below}
-use Rattle.outline_nodes.specs.declared.NodeForm.{NodeForm}
-use Rattle.outline_nodes.specs.Said.{said_by}
 use Rattle.outline_nodes.proofs.SaidLaws.{form-at}
-use Rattle.checker_account.specs.declared.Resources.{Resources}
 use Rattle.checker_account.specs.declared.Watch.{Watch}
 use Rattle.checker_account.specs.Tables.{rows_in}
-use Rattle.checker_account.specs.Filling.{repeat, grown, forms_in, by_open, pass_node_lem, pass_round_lem, Wide}
+use Rattle.checker_account.specs.Filling.{repeat, forms_in, by_open, pass_node_lem, pass_round_lem, Wide}
 use Rattle.checker_account.proofs.GrowsLaws.{Grows, grown-self, repeat-length, turn}
 use Rattle.checker_account.proofs.PassLaws.{pass-node-grows}
 use Rattle.checker_tables.specs.Search.{Small}
-use Rattle.checker_tables.proofs.arrivals.pass_round.Reads as reads
-use Rattle.checker_tables.proofs.arrivals.pass_node.Reads as pass-node-reads
 use borrow.Author.Rules.{rules}
 use Rattle.checker_tables.proofs.arrivals.pass_round.Goals as goal
 use Rattle.checker_tables.proofs.arrivals.pass_round.Invariants.{steps}
@@ -76,4 +67,4 @@ unfolding pass_round_lem
 returns c =
     let l = c.loop-k in
     let e : l.k ≡ length c.args.nodes.now / node_fields = omega arith in
-    (rw e at l.invariant.1.0, l.invariant.1.1)
+    record { u_after = rw e at l.invariant.1.0; value = l.invariant.1.1.0; wide = l.invariant.1.1.1 }

@@ -1,27 +1,9 @@
-use mathlib.Core.Path.{◌≡◌, refl, sym, ap, ap₂, ◌∙◌, subst}
-use mathlib.Core.Bool.{Bool, true, false, not, ◌&&◌, ◌||◌, cond}
-use mathlib.Core.List.{List, [], ◌∷◌}
-use Prim.Native.Nat.{ℕ, suc, ◌+◌, ◌-◌, ◌*◌, ◌/◌, ◌%◌, ◌<◌, ◌≤◌}
-use native.Mathlib.Omega.{arith}
-use lib.ListN.{length, get_or, replicate}
-use lib.Bits.{bit_or}
-use lib.Dec.{eqb}
-use mathlib.Core.Option.{Option}
-use Rattle.usage.specs.Limits.{most_nodes, node_fields}
-use Rattle.usage.specs.Outline.{Form}
-use Rattle.usage.specs.Tests.{some_below}
-use Rattle.outline_nodes.specs.declared.NodeForm.{NodeForm}
-use Rattle.outline_nodes.specs.Said.{said_by}
-use Rattle.outline_nodes.proofs.SaidLaws.{form-at}
-use Rattle.checker_account.specs.declared.Resources.{Resources}
+use mathlib.Core.Path.{◌≡◌}
+use mathlib.Core.List.{List}
+use Prim.Native.Nat.{ℕ, ◌-◌, ◌≤◌}
 use Rattle.checker_account.specs.declared.Watch.{Watch}
 use Rattle.checker_account.specs.Tables.{rows_in}
-use Rattle.checker_account.specs.Filling.{repeat, grown, forms_in, by_open, pass_node_lem, pass_round_lem, Wide}
-use Rattle.checker_account.proofs.GrowsLaws.{Grows, grown-self, repeat-length, turn}
-use Rattle.checker_account.proofs.PassLaws.{pass-node-grows}
-use Rattle.checker_tables.specs.Search.{Small}
-use Rattle.checker_tables.proofs.arrivals.pass_round.Reads as reads
-use Rattle.checker_tables.proofs.arrivals.pass_node.Reads as pass-node-reads
+use Rattle.checker_account.specs.Filling.{repeat, grown, forms_in, by_open, pass_node_lem, Wide}
 use Rattle.checker_tables.proofs.arrivals.pass_round.Given as goal
 
 abbrev pub steps : List ℕ → List ℕ → List ℕ → List ℕ → Watch → ℕ → List ℕ → List ℕ

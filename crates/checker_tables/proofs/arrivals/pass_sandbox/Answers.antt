@@ -1,20 +1,14 @@
-use mathlib.Core.Path.{◌≡◌, refl, sym, ap, ap₂, ◌∙◌, subst}
-use mathlib.Core.Bool.{Bool, true, false, not, ◌&&◌, ◌||◌, cond}
-use mathlib.Core.List.{List, [], ◌∷◌}
-use Prim.Native.Nat.{ℕ, suc, ◌+◌, ◌-◌, ◌*◌, ◌/◌, ◌%◌, ◌<◌, ◌≤◌}
-use native.Mathlib.Omega.{arith}
-use lib.ListN.{length, get_or, replicate}
-use Rattle.checker_account.specs.declared.Arrival.{Arrival}
+use mathlib.Core.Path.{ap}
+use mathlib.Core.Bool.{◌||◌}
+use mathlib.Core.List.{[], ◌∷◌}
+use Prim.Native.Nat.{ℕ}
 use Rattle.checker_account.specs.Tables.{◌by◌by◌with◌}
-use Rattle.checker_tables.proofs.EnterLaws.{enters-both, enters-length, enters-as, room_as, room_in}
-use Rattle.checker_tables.proofs.arrivals.pass_sandbox.Reads as reads
-use Rattle.checker_tables.proofs.arrivals.enter.Reads as enter-reads
-use Rattle.checker_tables.proofs.restarted.Reads as restarted-reads
+use Rattle.checker_tables.proofs.EnterLaws.{enters-length, enters-as}
 use Rattle.checker_tables.proofs.arrivals.pass_sandbox.Goals as goal
 
 pub enter-requires : goal.enter-requires
 enter-requires c =
-    c.requires
+    let p = c.requires in record { to_lt_most_nodes = p.b_lt_most_nodes; meaning_bound = p.meaning_bound; meaning_in_bounds = p.meaning_in_bounds }
 
 pub shape_of-u : goal.shape_of-u
 shape_of-u c =

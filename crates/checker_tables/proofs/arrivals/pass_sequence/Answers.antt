@@ -1,21 +1,9 @@
-use mathlib.Core.Path.{◌≡◌, refl, sym, ap, ap₂, ◌∙◌, subst}
-use mathlib.Core.Bool.{Bool, true, false, not, ◌&&◌, ◌||◌, cond}
-use mathlib.Core.List.{List, [], ◌∷◌}
-use Prim.Native.Nat.{ℕ, suc, ◌+◌, ◌-◌, ◌*◌, ◌/◌, ◌%◌, ◌<◌, ◌≤◌}
+use mathlib.Core.Path.{◌∙◌}
+use mathlib.Core.List.{[], ◌∷◌}
 use native.Mathlib.Omega.{arith}
-use lib.ListN.{length, get_or, replicate}
-use Rattle.checker_account.specs.declared.Arrival.{Arrival}
 use Rattle.checker_account.specs.Tables.{◌by◌by◌with◌}
-use Rattle.checker_tables.proofs.EnterLaws.{enters-both, enters-length, enters-as, room_as, room_in}
-use Rattle.checker_account.specs.Tables.{group_in, late_group, waiting_group, in_group_lem, meaning_in, halves, second_arrivals, fresh_arrivals}
-use Rattle.checker_account.specs.Tables.{forgotten_in, first_named_lem, second_named_lem, begun, over, row_on, rows_in, first_created_lem, waits}
-use Rattle.checker_account.specs.Account.{others, watched, watched_too}
-use Rattle.checker_account.proofs.EntryLaws.{meaning-lt, group-numbered}
-use Rattle.checker_tables.specs.Search.{first_arrivals, Enters}
-use Rattle.checker_tables.proofs.arrivals.pass_sequence.Reads as reads
-use Rattle.checker_tables.proofs.arrivals.enter.Reads as enter-reads
-use Rattle.checker_tables.proofs.arrivals.enter_second.Reads as enter-second-reads
-use Rattle.checker_tables.proofs.arrivals.onto.Reads as onto-reads
+use Rattle.checker_tables.proofs.EnterLaws.{enters-both, enters-length, enters-as, room_as}
+use Rattle.checker_account.specs.Tables.{second_arrivals}
 use Rattle.checker_tables.proofs.arrivals.pass_sequence.Goals as goal
 
 pub enter-first-requires : goal.enter-first-requires
@@ -27,7 +15,7 @@ enter_second-second-requires c =
     let p = c.requires in
     let s = c.enter-first in
     let l = enters-length (c.onto.result ∷ []) c.args.u.now s.new.u s.result s.ensures in
-    (p.a_lt_most_nodes, (p.b_lt_most_nodes, (p.meaning_bound, (omega (arith, l, p.meaning_in_bounds), p.1.1.1.1))))
+    record { a_lt_most_nodes = p.a_lt_most_nodes; b_lt_most_nodes = p.b_lt_most_nodes; meaning_bound = p.meaning_bound; meaning_in_bounds = omega (arith, l, p.meaning_in_bounds); meaning_in_bounds_2 = p.meaning_in_bounds_2; late_group_in_bounds = p.late_group_in_bounds }
 
 pub shape_of-u : goal.shape_of-u
 shape_of-u c =

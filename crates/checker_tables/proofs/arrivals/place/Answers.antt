@@ -1,4 +1,3 @@
-use Rattle.checker_tables.proofs.arrivals.place.Reads as reads
 use Rattle.checker_tables.proofs.arrivals.place.Goals as goal
 
 pub returns-then-o : goal.returns-then-o

@@ -1,12 +1,8 @@
-use mathlib.Core.Path.{◌≡◌, refl, sym, ap, ap₂, ◌∙◌, subst}
-use mathlib.Core.Bool.{Bool, true, false, not, ◌&&◌, ◌||◌, cond}
-use mathlib.Core.List.{List, [], ◌∷◌}
-use Prim.Native.Nat.{ℕ, suc, ◌+◌, ◌-◌, ◌*◌, ◌/◌, ◌%◌, ◌<◌, ◌≤◌}
+use mathlib.Core.Path.{ap}
+use Prim.Native.Nat.{ℕ}
 use native.Mathlib.Omega.{arith}
-use lib.ListN.{length, get_or, replicate}
+use lib.ListN.{length, get_or}
 use Rattle.checker_tables.proofs.NumberLaws.{place-room, place-small}
-use Rattle.checker_tables.proofs.arrivals.states_at.Reads as reads
-use Rattle.checker_tables.proofs.arrivals.place.Reads as place-reads
 use Rattle.checker_tables.proofs.arrivals.states_at.Goals as goal
 
 pub place-requires : goal.place-requires

@@ -1,17 +1,9 @@
-use mathlib.Core.Path.{◌≡◌, refl, sym, ap, ap₂, ◌∙◌, subst}
-use mathlib.Core.Bool.{Bool, true, false, not, ◌&&◌, ◌||◌, cond}
-use mathlib.Core.List.{List, [], ◌∷◌}
-use Prim.Native.Nat.{ℕ, suc, ◌+◌, ◌-◌, ◌*◌, ◌/◌, ◌%◌, ◌<◌, ◌≤◌}
-use native.Mathlib.Omega.{arith}
-use lib.ListN.{length, get_or, replicate}
-use Rattle.usage.specs.Limits.{states}
-use Rattle.checker_tables.specs.ByState.{ByState}
-use Rattle.checker_account.specs.Tables.{base, row_on, rows_in, meaning_in}
+use mathlib.Core.Path.{ap₂}
+use Prim.Native.Nat.{ℕ, ◌+◌}
+use lib.ListN.{get_or}
+use Rattle.checker_account.specs.Tables.{base}
 use lib.Bits.{bit_or}
 use Rattle.checker_tables.proofs.ByStateLaws.{by_as}
-use Rattle.checker_tables.proofs.ends.either_ends.Reads as reads
-use Rattle.checker_tables.proofs.ends.held.Reads as held_reads
-use Rattle.checker_tables.proofs.sets.join_each.Reads as join-each-reads
 use Rattle.checker_tables.proofs.ends.either_ends.Goals as goal
 
 pub returns : goal.returns

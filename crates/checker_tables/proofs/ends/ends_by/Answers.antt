@@ -12,15 +12,6 @@ use Rattle.checker_tables.specs.ByState.{ByState}
 use Rattle.checker_tables.proofs.ByStateLaws.{by_as, singles}
 use Rattle.checker_tables.proofs.ResetLaws.{inside-if}
 use Rattle.checker_tables.specs.Search.{resets_if}
-use Rattle.checker_tables.proofs.ends.ends_by.Reads as reads
-use Rattle.checker_tables.proofs.ends.either_ends.Reads as either-ends-reads
-use Rattle.checker_tables.proofs.ends.event_ends.Reads as event-ends-reads
-use Rattle.checker_tables.proofs.ends.fresh_ends.Reads as fresh-ends-reads
-use Rattle.checker_tables.proofs.ends.held.Reads as held_reads
-use Rattle.checker_tables.proofs.ends.inside_ends.Reads as inside-ends-reads
-use Rattle.checker_tables.proofs.ends.sequence_ends.Reads as sequence-ends-reads
-use Rattle.checker_tables.proofs.numbers.meant.Reads as meant-reads
-use Rattle.checker_tables.proofs.sets.keep_in.Reads as keep-in-reads
 use Rattle.checker_tables.proofs.ends.ends_by.Goals as goal
 
 pub sequence_ends-requires : goal.sequence_ends-requires

@@ -1,16 +1,5 @@
-use mathlib.Core.Path.{◌≡◌, refl, sym, ap, ap₂, ◌∙◌, subst}
-use mathlib.Core.Bool.{Bool, true, false, not, ◌&&◌, ◌||◌, cond}
-use mathlib.Core.List.{List, [], ◌∷◌}
-use Prim.Native.Nat.{ℕ, suc, ◌+◌, ◌-◌, ◌*◌, ◌/◌, ◌%◌, ◌<◌, ◌≤◌}
-use native.Mathlib.Omega.{arith}
-use lib.ListN.{length, get_or, replicate}
-use Rattle.usage.specs.Limits.{states}
-use Rattle.checker_tables.specs.ByState.{ByState}
-use Rattle.checker_account.specs.Tables.{base, row_on, rows_in, meaning_in}
+use Rattle.checker_account.specs.Tables.{row_on, rows_in}
 use Rattle.checker_tables.proofs.RuleLaws.{kept-as}
-use Rattle.checker_tables.proofs.ends.event_ends.Reads as reads
-use Rattle.checker_tables.proofs.rows.moved_each.Reads as moved-each-reads
-use Rattle.checker_tables.proofs.sets.keep_in.Reads as keep-in-reads
 use Rattle.checker_tables.proofs.ends.event_ends.Goals as goal
 
 pub returns : goal.returns

@@ -17,23 +17,8 @@ use Rattle.checker_account.specs.Filling.{grown, forms_in, settle_node_lem, Wide
 use Rattle.checker_account.proofs.SettleLaws.{WideLent}
 use Rattle.checker_tables.specs.Search.{Small, NodesFit, resets_if}
 use Rattle.checker_tables.specs.Work.{readers_of}
-use Rattle.checker_tables.proofs.WorkLaws.{
-  Working,
-  left_of,
-  shl-node,
-  highest-lt,
-  placed-forms,
-  working-start,
-  working-length,
-  working-ends,
-}
+use Rattle.checker_tables.proofs.WorkLaws.{left_of, shl-node, highest-lt, placed-forms, working-start, working-length, working-ends}
 use Rattle.checker_tables.proofs.WorkLaws.{still-working, still-less, more-working, more-less}
-use Rattle.checker_tables.proofs.ends.fill.Reads as reads
-use Rattle.checker_tables.proofs.ends.settle_node.Reads as settle-node-reads
-use Rattle.checker_tables.proofs.form.Reads as form-reads
-use Rattle.checker_tables.proofs.work.all.Reads as all-reads
-use Rattle.checker_tables.proofs.work.highest.Reads as highest-reads
-use Rattle.checker_tables.proofs.work.note_all.Reads as note-all-reads
 use Rattle.checker_tables.proofs.ends.fill.Goals as goal
 use Rattle.checker_tables.proofs.ends.fill.Invariants.{Done}
 
@@ -190,10 +175,15 @@ settle_node-requires c =
     let k = inside a.nodes.now a.rows.now a.w.resources resets p.nodes_fit l.t l.left h.result
     l.invariant (h.ensures.result_bound pos)
     h.ensures.s_bound in
-    let few : length a.nodes.now / node_fields ≤ most_nodes = p.nodes_fit.few in record { t_len = working-length (rows_in a.rows.now) a.w.resources resets (length a.nodes.now / node_fields)
+    let few : length a.nodes.now / node_fields ≤ most_nodes = p.nodes_fit.few in record {
+      t_len = working-length (rows_in a.rows.now) a.w.resources resets (length a.nodes.now / node_fields)
           (forms_in a.nodes.now)
           p.nodes_fit.few
-          l.invariant; opened_len = p.opened_len; small = subst Small (sym c.form-f.ensures) (p.nodes_fit.each_small h.result k); k_lt_most_nodes = omega arith }
+          l.invariant;
+      opened_len = p.opened_len;
+      small = subst Small (sym c.form-f.ensures) (p.nodes_fit.each_small h.result k);
+      k_lt_most_nodes = omega arith;
+    }
 
 pub offset_bounds-readers-k : goal.offset_bounds-readers-k
 offset_bounds-readers-k c =
@@ -234,7 +224,7 @@ loop-left-smaller-then-settle_node c =
     more-falls a.nodes.now a.rows.now a.w.resources resets p.nodes_fit l.t l.left h.result
     l.invariant (h.ensures.result_bound pos)
     h.ensures.s_bound s.new.t d.result d.ensures s.ensures.t_after s.result s.ensures.value
-    (lent-wide a.w.local a.w.policy a.opened.now p.wide) r.new.1.0 r.ensures
+    (lent-wide a.w.local a.w.policy a.opened.now p.wide) r.new.masks r.ensures
     c.if-settle_node.true
 
 pub loop-left-preserved-then-settle_node : goal.loop-left-preserved-then-settle_node
@@ -251,7 +241,7 @@ loop-left-preserved-then-settle_node c =
     more a.nodes.now a.rows.now a.w.resources resets p.nodes_fit l.t l.left h.result l.invariant
     (h.ensures.result_bound pos)
     h.ensures.s_bound s.new.t d.result d.ensures s.ensures.t_after s.result s.ensures.value
-    (lent-wide a.w.local a.w.policy a.opened.now p.wide) r.new.1.0 r.ensures
+    (lent-wide a.w.local a.w.policy a.opened.now p.wide) r.new.masks r.ensures
     c.if-settle_node.true
 
 pub loop-left-smaller : goal.loop-left-smaller
@@ -296,8 +286,11 @@ pub returns : goal.returns
 returns c =
     let a = c.args in
     let resets = resets_if a.w.local a.w.policy a.opened.now in
-    let l = c.loop-left in record { filled = working-ends (rows_in a.rows.now) a.w.resources resets (length a.nodes.now / node_fields)
+    let l = c.loop-left in record {
+      filled = working-ends (rows_in a.rows.now) a.w.resources resets (length a.nodes.now / node_fields)
           (forms_in a.nodes.now)
           c.requires.nodes_fit.few
           (subst (Done a.nodes.now a.rows.now a.w.resources resets l.t) c.loop-left-test.false
-          l.invariant); wide_2 = l.invariant.filling.wide }
+          l.invariant);
+      wide_2 = l.invariant.filling.wide;
+    }

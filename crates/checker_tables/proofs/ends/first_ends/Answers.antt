@@ -1,19 +1,7 @@
-use mathlib.Core.Path.{◌≡◌, refl, sym, ap, ap₂, ◌∙◌, subst}
-use mathlib.Core.Bool.{Bool, true, false, not, ◌&&◌, ◌||◌, cond}
-use mathlib.Core.List.{List, [], ◌∷◌}
-use Prim.Native.Nat.{ℕ, suc, ◌+◌, ◌-◌, ◌*◌, ◌/◌, ◌%◌, ◌<◌, ◌≤◌}
+use mathlib.Core.Path.{sym, ◌∙◌}
 use native.Mathlib.Omega.{arith}
-use lib.ListN.{length, get_or, replicate}
-use Rattle.usage.specs.Limits.{states}
-use Rattle.checker_tables.specs.ByState.{ByState}
-use Rattle.checker_account.specs.Tables.{base, row_on, rows_in, meaning_in}
+use Rattle.checker_account.specs.Tables.{rows_in}
 use Rattle.checker_tables.proofs.RuleLaws.{first_made, first_unmade}
-use Rattle.checker_tables.proofs.ends.first_ends.Reads as reads
-use Rattle.checker_tables.proofs.ends.created_ends.Reads as created-ends-reads
-use Rattle.checker_tables.proofs.numbers.first_named.Reads as first-named-reads
-use Rattle.checker_tables.proofs.numbers.forgotten.Reads as forgotten-reads
-use Rattle.checker_tables.proofs.numbers.meaning.Reads as meaning-reads
-use Rattle.checker_tables.proofs.sets.join_each.Reads as join-each-reads
 use Rattle.checker_tables.proofs.ends.first_ends.Goals as goal
 
 pub forgotten-f-requires : goal.forgotten-f-requires

@@ -1,21 +1,9 @@
-use mathlib.Core.Path.{◌≡◌, refl, sym, ap, ap₂, ◌∙◌, subst}
-use mathlib.Core.Bool.{Bool, true, false, not, ◌&&◌, ◌||◌, cond}
-use mathlib.Core.List.{List, [], ◌∷◌}
-use Prim.Native.Nat.{ℕ, suc, ◌+◌, ◌-◌, ◌*◌, ◌/◌, ◌%◌, ◌<◌, ◌≤◌}
+use mathlib.Core.Path.{◌≡◌, sym, ◌∙◌}
 use native.Mathlib.Omega.{arith}
-use lib.ListN.{length, get_or, replicate}
-use Rattle.usage.specs.Limits.{states}
-use Rattle.checker_tables.specs.ByState.{ByState}
-use Rattle.checker_account.specs.Tables.{base, row_on, rows_in, meaning_in}
+use Rattle.checker_account.specs.Tables.{rows_in}
 use borrow.Author.Tests.{eqb-true}
 use Rattle.checker_account.specs.Tables.{group_in, late_group}
 use Rattle.checker_tables.proofs.RuleLaws.{fresh-late, fresh-else}
-use Rattle.checker_tables.proofs.ends.fresh_ends.Reads as reads
-use Rattle.checker_tables.proofs.ends.created_ends.Reads as created-ends-reads
-use Rattle.checker_tables.proofs.ends.first_ends.Reads as first-ends-reads
-use Rattle.checker_tables.proofs.numbers.is_late.Reads as is-late-reads
-use Rattle.checker_tables.proofs.numbers.second_named.Reads as second-named-reads
-use Rattle.checker_tables.proofs.sets.join_each.Reads as join-each-reads
 use Rattle.checker_tables.proofs.ends.fresh_ends.Goals as goal
 
 pub second_named-g-requires : goal.second_named-g-requires

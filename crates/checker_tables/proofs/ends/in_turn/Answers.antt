@@ -1,19 +1,5 @@
-use mathlib.Core.Path.{◌≡◌, refl, sym, ap, ap₂, ◌∙◌, subst}
-use mathlib.Core.Bool.{Bool, true, false, not, ◌&&◌, ◌||◌, cond}
-use mathlib.Core.List.{List, [], ◌∷◌}
-use Prim.Native.Nat.{ℕ, suc, ◌+◌, ◌-◌, ◌*◌, ◌/◌, ◌%◌, ◌<◌, ◌≤◌}
-use native.Mathlib.Omega.{arith}
-use lib.ListN.{length, get_or, replicate}
-use Rattle.usage.specs.Limits.{states}
-use Rattle.checker_tables.specs.ByState.{ByState}
-use Rattle.checker_account.specs.Tables.{base, row_on, rows_in, meaning_in}
+use mathlib.Core.Path.{sym, ◌∙◌}
 use Rattle.checker_tables.proofs.RuleLaws.{turn-unmade, turn-made}
-use Rattle.checker_tables.proofs.ends.in_turn.Reads as reads
-use Rattle.checker_tables.proofs.ends.held.Reads as held_reads
-use Rattle.checker_tables.proofs.numbers.meaning.Reads as meaning-reads
-use Rattle.checker_tables.proofs.sets.join_each.Reads as join-each-reads
-use Rattle.checker_tables.proofs.sets.union_each.Reads as union-each-reads
-use Rattle.checker_tables.proofs.sets.upper_each.Reads as upper-each-reads
 use Rattle.checker_tables.proofs.ends.in_turn.Goals as goal
 
 pub returns-then-meaning-eq0 : goal.returns-then-meaning-eq0

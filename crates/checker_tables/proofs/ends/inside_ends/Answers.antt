@@ -1,15 +1,12 @@
-use mathlib.Core.Path.{◌≡◌, refl, sym, ap, ap₂, ◌∙◌, subst}
-use mathlib.Core.Bool.{Bool, true, false, not, ◌&&◌, ◌||◌, cond}
-use mathlib.Core.List.{List, [], ◌∷◌}
-use Prim.Native.Nat.{ℕ, suc, ◌+◌, ◌-◌, ◌*◌, ◌/◌, ◌%◌, ◌<◌, ◌≤◌}
+use mathlib.Core.Path.{◌≡◌, refl, sym, ap, ◌∙◌, subst}
+use mathlib.Core.Bool.{Bool, cond}
+use Prim.Native.Nat.{ℕ, ◌+◌}
 use native.Mathlib.Omega.{arith}
 use lib.ListN.{length, get_or, replicate}
 use Rattle.usage.specs.Limits.{states}
 use Rattle.checker_tables.specs.ByState.{ByState}
-use Rattle.checker_account.specs.Tables.{base, row_on, rows_in, meaning_in}
+use Rattle.checker_account.specs.Tables.{base}
 use lib.ListN.{get_or-replicate}
-use Rattle.checker_tables.proofs.ends.inside_ends.Reads as reads
-use Rattle.checker_tables.proofs.ends.held.Reads as held_reads
 use Rattle.checker_tables.proofs.ends.inside_ends.Goals as goal
 
 pub bounds-opened-e : goal.bounds-opened-e

@@ -1,14 +1,11 @@
 use native.Mathlib.Omega.{arith}
-use mathlib.Core.Path.{◌≡◌, refl, sym, ◌∙◌}
+use mathlib.Core.Path.{◌≡◌, refl, sym}
 use mathlib.Core.List.{List}
-use Prim.Native.Nat.{ℕ, ◌+◌, ◌-◌, ◌≤◌}
+use Prim.Native.Nat.{ℕ, ◌+◌}
 use lib.ListN.{get_or}
 use Rattle.usage.specs.Limits.{states}
-use Rattle.checker_account.specs.Tables.{joined_at}
-use Rattle.checker_account.specs.Filling.{repeat, grown, joined_each}
+use Rattle.checker_account.specs.Filling.{repeat, joined_each}
 use Rattle.checker_account.proofs.GrowsLaws.{Grows, joined-grows, grown-self, repeat-length, turn}
-use Rattle.checker_tables.proofs.ends.join_sets.Reads as reads
-use Rattle.checker_tables.proofs.join.Reads as join-reads
 use borrow.Author.Rules.{rules}
 use Rattle.checker_tables.proofs.ends.join_sets.Goals as goal
 use Rattle.checker_tables.proofs.ends.join_sets.Invariants.{steps}

@@ -1,21 +1,10 @@
-use mathlib.Core.Path.{◌≡◌, refl, sym, ap, ap₂, ◌∙◌, subst}
-use mathlib.Core.Bool.{Bool, true, false, not, ◌&&◌, ◌||◌, cond}
-use mathlib.Core.List.{List, [], ◌∷◌}
-use Prim.Native.Nat.{ℕ, suc, ◌+◌, ◌-◌, ◌*◌, ◌/◌, ◌%◌, ◌<◌, ◌≤◌}
+use mathlib.Core.Path.{◌≡◌, sym, ap, ◌∙◌}
 use native.Mathlib.Omega.{arith}
-use lib.ListN.{length, get_or, replicate}
-use Rattle.usage.specs.Limits.{states}
-use Rattle.checker_tables.specs.ByState.{ByState}
-use Rattle.checker_account.specs.Tables.{base, row_on, rows_in, meaning_in}
+use Rattle.checker_account.specs.Tables.{meaning_in}
 use borrow.Author.Tests.{eqb-true}
-use Rattle.checker_account.specs.Tables.{group_in, late_group, waiting_group, in_group_lem}
+use Rattle.checker_account.specs.Tables.{group_in, late_group, waiting_group}
 use Rattle.checker_account.proofs.EntryLaws.{meaning-lt, group-numbered}
 use Rattle.checker_tables.proofs.RuleLaws.{sequence-late, sequence-else}
-use Rattle.checker_tables.proofs.ends.sequence_ends.Reads as reads
-use Rattle.checker_tables.proofs.ends.in_turn.Reads as in-turn-reads
-use Rattle.checker_tables.proofs.numbers.in_group.Reads as in-group-reads
-use Rattle.checker_tables.proofs.numbers.is_late.Reads as is-late-reads
-use Rattle.checker_tables.proofs.sets.join_each.Reads as join-each-reads
 use Rattle.checker_tables.proofs.ends.sequence_ends.Goals as goal
 
 pub in_turn-later-requires : goal.in_turn-later-requires
@@ -24,7 +13,7 @@ in_turn-later-requires c =
     let e = c.args.e in
     let late : group_in e ≡ late_group = eqb-true (group_in e) late_group (sym c.is_late.ensures ∙ c.if-is_late.true) in
     let f : group_in c.in_group-waiting.result ≡ waiting_group = ap group_in c.in_group-waiting.ensures ∙ group-numbered (meaning_in e) waiting_group (meaning-lt e) in
-    (p.a_lt_most_nodes, (p.b_lt_most_nodes, (omega (arith, f), (omega (arith, f, late, p.e_in_bounds), p.1.1))))
+    record { a_lt_most_nodes = p.a_lt_most_nodes; b_lt_most_nodes = p.b_lt_most_nodes; f_bound = omega (arith, f); f_in_bounds = omega (arith, f, late, p.e_in_bounds); e_bound = p.e_bound; e_in_bounds = p.e_in_bounds }
 
 pub in_turn-earlier-requires : goal.in_turn-earlier-requires
 in_turn-earlier-requires c =
@@ -45,7 +34,7 @@ returns-then-is_late c =
 
 pub in_turn-requires : goal.in_turn-requires
 in_turn-requires c =
-    let p = c.requires in (p.a_lt_most_nodes, (p.b_lt_most_nodes, (p.e_bound, (p.e_in_bounds, p.1.1))))
+    let p = c.requires in record { a_lt_most_nodes = p.a_lt_most_nodes; b_lt_most_nodes = p.b_lt_most_nodes; f_bound = p.e_bound; f_in_bounds = p.e_in_bounds; e_bound = p.e_bound; e_in_bounds = p.e_in_bounds }
 
 pub returns : goal.returns
 returns c =

@@ -1,23 +1,18 @@
 use native.Mathlib.Omega.{arith}
 use mathlib.Core.Path.{◌≡◌, refl, sym, ◌∙◌}
 use mathlib.Core.List.{List}
-use Prim.Native.Nat.{ℕ, ◌+◌, ◌-◌, ◌≤◌}
+use Prim.Native.Nat.{ℕ, ◌+◌, ◌-◌}
 use lib.ListN.{get_or}
 use Rattle.outline_nodes.specs.declared.NodeForm.{NodeForm}
 use Rattle.outline_nodes.specs.Said.{said_by}
 use Rattle.checker_account.specs.declared.Resources.{Resources}
 use Rattle.checker_account.specs.Tables.{rows_in, Resets, base}
 use Rattle.checker_tables.specs.Search.{resets_if}
-use Rattle.checker_account.specs.Filling.{repeat, grown, ends_of_lem, settle_entry, settle_node_lem}
+use Rattle.checker_account.specs.Filling.{repeat, ends_of_lem, settle_node_lem}
 use Rattle.checker_account.proofs.GrowsLaws.{Grows, grown-self, repeat-length, turn}
 use Rattle.checker_account.proofs.SettleLaws.{entry-grows, each_same}
 use Rattle.checker_account.proofs.EntryBounds.{least-le, meanings-le, codes-le}
 use Rattle.checker_tables.proofs.NumberLaws.{entry-room}
-use Rattle.checker_tables.proofs.ends.settle_node.Reads as reads
-use Rattle.checker_tables.proofs.ends.ends_by.Reads as ends-by-reads
-use Rattle.checker_tables.proofs.ends.join_sets.Reads as join-sets-reads
-use Rattle.checker_tables.proofs.numbers.entries_of.Reads as entries-of-reads
-use Rattle.checker_tables.proofs.numbers.least.Reads as least-reads
 use borrow.Author.Rules.{rules}
 use Rattle.checker_tables.proofs.ends.settle_node.Goals as goal
 use Rattle.checker_tables.proofs.ends.settle_node.Invariants.{settles}

@@ -1,27 +1,11 @@
-use mathlib.Core.Path.{◌≡◌, refl, sym, ap, ap₂, ◌∙◌, subst}
-use mathlib.Core.Bool.{Bool, true, false, not, ◌&&◌, ◌||◌, cond}
-use mathlib.Core.List.{List, [], ◌∷◌}
-use Prim.Native.Nat.{ℕ, suc, ◌+◌, ◌-◌, ◌*◌, ◌/◌, ◌%◌, ◌<◌, ◌≤◌}
-use native.Mathlib.Omega.{arith}
-use lib.ListN.{length, get_or, replicate}
-use lib.Bits.{bit_or}
-use lib.Dec.{eqb}
-use mathlib.Core.Option.{Option}
-use Rattle.usage.specs.Limits.{most_nodes, node_fields}
-use Rattle.usage.specs.Outline.{Form}
+use mathlib.Core.Path.{◌≡◌}
+use mathlib.Core.Bool.{Bool, false}
+use mathlib.Core.List.{List}
+use Prim.Native.Nat.{ℕ, ◌-◌, ◌≤◌}
 use Rattle.usage.specs.Tests.{some_below}
-use Rattle.outline_nodes.specs.declared.NodeForm.{NodeForm}
-use Rattle.outline_nodes.specs.Said.{said_by}
-use Rattle.outline_nodes.proofs.SaidLaws.{form-at}
 use Rattle.checker_account.specs.declared.Resources.{Resources}
-use Rattle.checker_account.specs.declared.Watch.{Watch}
-use Rattle.automaton.proofs.MaskLaws.{some_at}
 use Rattle.checker_account.specs.Tables.{rows_in}
-use Rattle.checker_account.specs.Filling.{forms_in, hit_node_lem, hit_any}
-use Rattle.checker_account.proofs.CodeLaws.{none_more}
-use Rattle.checker_tables.specs.Search.{Small}
-use Rattle.checker_tables.proofs.hits.any.Reads as reads
-use Rattle.checker_tables.proofs.hits.hit_node.Reads as hit-node-reads
+use Rattle.checker_account.specs.Filling.{forms_in, hit_node_lem}
 use Rattle.checker_tables.proofs.hits.any.Given as goal
 
 abbrev pub test : List ℕ → List ℕ → List ℕ → Bool → ℕ → Resources → ℕ → Bool

@@ -1,32 +1,16 @@
-use mathlib.Core.Path.{◌≡◌, refl, sym, ap, ap₂, ◌∙◌, subst}
-use mathlib.Core.Bool.{Bool, true, false, not, ◌&&◌, ◌||◌, cond}
-use mathlib.Core.List.{List, [], ◌∷◌}
-use Prim.Native.Nat.{ℕ, suc, ◌+◌, ◌-◌, ◌*◌, ◌/◌, ◌%◌, ◌<◌, ◌≤◌}
+use mathlib.Core.Path.{◌≡◌, refl, sym, subst}
+use mathlib.Core.Bool.{true, false}
+use Prim.Native.Nat.{ℕ, ◌+◌, ◌-◌, ◌%◌, ◌<◌, ◌≤◌}
 use native.Mathlib.Omega.{arith}
-use lib.ListN.{length, get_or, replicate}
-use lib.Bits.{bit_or}
-use lib.Dec.{eqb}
-use mathlib.Core.Option.{Option}
-use Rattle.usage.specs.Limits.{most_nodes, node_fields}
-use Rattle.usage.specs.Outline.{Form}
 use Rattle.usage.specs.Tests.{some_below}
-use Rattle.outline_nodes.specs.declared.NodeForm.{NodeForm}
-use Rattle.outline_nodes.specs.Said.{said_by}
-use Rattle.outline_nodes.proofs.SaidLaws.{form-at}
-use Rattle.checker_account.specs.declared.Resources.{Resources}
-use Rattle.checker_account.specs.declared.Watch.{Watch}
 use borrow.Author.Tests.{le-leb, lt-leb}
 use Rattle.automaton.specs.Mask.{offends}
 use Rattle.automaton.proofs.MaskLaws.{some_at}
-use Rattle.checker_account.specs.Tables.{half, rows_in}
-use Rattle.checker_account.specs.Filling.{leaves_of, hit_node_lem}
+use Rattle.checker_account.specs.Tables.{half}
+use Rattle.checker_account.specs.Filling.{hit_node_lem}
 use Rattle.checker_account.proofs.CodeLaws.{none_more}
 use Rattle.checker_account.proofs.EntryBounds.{meanings-le}
 use Rattle.checker_tables.proofs.NumberLaws.{code-room}
-use Rattle.checker_tables.proofs.hits.hit_node.Reads as reads
-use Rattle.checker_tables.proofs.hits.leaves_by.Reads as leaves-by-reads
-use Rattle.checker_tables.proofs.numbers.codes_of.Reads as codes-of-reads
-use Rattle.checker_tables.proofs.numbers.least.Reads as least-reads
 use borrow.Author.Rules.{rules}
 use Rattle.checker_tables.proofs.hits.hit_node.Goals as goal
 use Rattle.checker_tables.proofs.hits.hit_node.Invariants.{test}

@@ -1,30 +1,13 @@
-use mathlib.Core.Path.{◌≡◌, refl, sym, ap, ap₂, ◌∙◌, subst}
-use mathlib.Core.Bool.{Bool, true, false, not, ◌&&◌, ◌||◌, cond}
-use mathlib.Core.List.{List, [], ◌∷◌}
-use Prim.Native.Nat.{ℕ, suc, ◌+◌, ◌-◌, ◌*◌, ◌/◌, ◌%◌, ◌<◌, ◌≤◌}
-use native.Mathlib.Omega.{arith}
-use lib.ListN.{length, get_or, replicate}
+use mathlib.Core.Path.{ap, ap₂, ◌∙◌}
+use mathlib.Core.Bool.{true, false}
+use Prim.Native.Nat.{ℕ}
+use lib.ListN.{get_or}
 use lib.Bits.{bit_or}
 use lib.Dec.{eqb}
-use mathlib.Core.Option.{Option}
-use Rattle.usage.specs.Limits.{most_nodes, node_fields}
-use Rattle.usage.specs.Outline.{Form}
-use Rattle.usage.specs.Tests.{some_below}
-use Rattle.outline_nodes.specs.declared.NodeForm.{NodeForm}
-use Rattle.outline_nodes.specs.Said.{said_by}
-use Rattle.outline_nodes.proofs.SaidLaws.{form-at}
-use Rattle.checker_account.specs.declared.Resources.{Resources}
-use Rattle.checker_account.specs.declared.Watch.{Watch}
 use Rattle.checker_account.specs.Account.{others}
 use Rattle.checker_account.specs.Tables.{over, row_on, rows_in, first_created_lem, second_created_lem, place, leaves}
 use Rattle.checker_tables.proofs.OtherLaws.{no_step}
 use Rattle.checker_tables.proofs.ResetLaws.{opened-if}
-use Rattle.checker_tables.proofs.hits.leaves_by.Reads as reads
-use Rattle.checker_tables.proofs.arrivals.states_at.Reads as states-at-reads
-use Rattle.checker_tables.proofs.hits.opened.Reads as opened-reads
-use Rattle.checker_tables.proofs.numbers.meant.Reads as meant-reads
-use Rattle.checker_tables.proofs.rows.created.Reads as created-reads
-use Rattle.checker_tables.proofs.rows.moved_set.Reads as moved-set-reads
 use Rattle.checker_tables.proofs.hits.leaves_by.Goals as goal
 
 pub returns-in-OnStatic : goal.returns-in-OnStatic
@@ -65,4 +48,4 @@ returns-in-Sandbox c =
 pub returns-in_default : goal.returns-in_default
 returns-in_default c =
     let a = c.args in
-    no_step a.w.local (rows_in a.rows.now) a.w.policy a.w.resources a.u.now a.k a.c a.f c.in_default.in_default-own
+    no_step a.w.local (rows_in a.rows.now) a.w.policy a.w.resources a.u.now a.k a.c a.f c.in_default.not-OnStatic c.in_default.not-OnName c.in_default.not-Fresh c.in_default.not-Sandbox

@@ -1,7 +1,6 @@
 use native.Mathlib.Omega.{arith}
 use Rattle.checker_tables.proofs.OtherLaws.{no-mark}
 use Rattle.checker_tables.proofs.MarkedLaws.{shifted}
-use Rattle.checker_tables.proofs.hits.mark_bit.Reads as reads
 use borrow.Author.Rules.{rules}
 use Rattle.checker_tables.proofs.hits.mark_bit.Goals as goal
 
@@ -22,4 +21,4 @@ returns-in-OnName c =
     rw c.in-OnName.is (shifted c.in-OnName.action (omega (arith, s)))
 
 pub returns-in_default : goal.returns-in_default
-returns-in_default c = no-mark c.args.f c.in_default.in_default-own
+returns-in_default c = no-mark c.args.f c.in_default.not-OnStatic c.in_default.not-OnName c.in_default.not-Fresh c.in_default.not-Sandbox

@@ -1,10 +1,7 @@
 use mathlib.Core.Path.{ap, ap₂, ◌∙◌}
 use Rattle.checker_account.specs.Tables.{restarted}
-use Rattle.checker_tables.proofs.restarted.Reads as restarted-reads
 use Prim.Native.Nat.{ℕ}
 use lib.Bits.{bit_or}
-use Rattle.checker_tables.proofs.hits.opened.Reads as reads
-use Rattle.checker_tables.proofs.arrivals.states_at.Reads as states-at-reads
 use Rattle.checker_tables.proofs.hits.opened.Goals as goal
 
 pub returns-then-same : goal.returns-then-same

@@ -1,6 +1,5 @@
 use borrow.Author.Tests.{eq-eqb, ne_eqb}
 use Rattle.checker_account.specs.Tables as tables
-use Rattle.checker_tables.proofs.numbers.entries_of.Reads as reads
 use Rattle.checker_tables.proofs.numbers.entries_of.Goals as goal
 
 pub returns-then-x-eq-WATCHED_TOO : goal.returns-then-x-eq-WATCHED_TOO

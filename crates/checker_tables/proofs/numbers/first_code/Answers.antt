@@ -1,11 +1,9 @@
-use mathlib.Core.Path.{◌≡◌, refl, sym, ap, ap₂, ◌∙◌}
+use mathlib.Core.Path.{◌≡◌, sym, ap, ◌∙◌}
 use mathlib.Core.Bool.{Bool, cond}
-use Prim.Native.Nat.{ℕ, suc, ◌+◌, ◌*◌}
+use Prim.Native.Nat.{ℕ, ◌+◌}
 use native.Mathlib.Omega.{arith}
 use borrow.Author.Tests.{eq-eqb, ne_eqb}
 use Rattle.checker_account.specs.Tables.{least, numbered, first_code_lem}
-use Rattle.checker_tables.proofs.numbers.first_code.Reads as reads
-use Rattle.checker_tables.proofs.numbers.least.Reads as least-reads
 use Rattle.checker_tables.proofs.numbers.first_code.Goals as goal
 
 pub returns-then-x-eq-WATCHED_TOO : goal.returns-then-x-eq-WATCHED_TOO

@@ -1,13 +1,9 @@
-use mathlib.Core.Path.{◌≡◌, refl, sym, ap, ap₂, ◌∙◌, subst}
-use Prim.Native.Nat.{ℕ, suc, ◌+◌, ◌*◌, ◌-◌, ◌<◌, ◌≤◌, ◌/◌, ◌%◌}
+use mathlib.Core.Path.{ap, ap₂, ◌∙◌}
+use Prim.Native.Nat.{ℕ, ◌+◌, ◌<◌}
 use native.Mathlib.Omega.{arith}
-use Rattle.checker_account.proofs.EntryLaws.{meaning-lt, group-numbered}
-use Rattle.checker_account.specs.Tables.{numbered, meaning_in, group_in, forgotten, group_forgotten_lem, meanings, meaning_after}
+use Rattle.checker_account.proofs.EntryLaws.{group-numbered}
+use Rattle.checker_account.specs.Tables.{numbered, group_in, group_forgotten_lem, meanings}
 use native.Mathlib.Numerals.{add-one}
-use Rattle.checker_tables.proofs.numbers.first_named.Reads as reads
-use Rattle.checker_tables.proofs.numbers.group.Reads as group-Reads
-use Rattle.checker_tables.proofs.numbers.group_forgotten.Reads as group-forgotten-reads
-use Rattle.checker_tables.proofs.numbers.numbered.Reads as numbered-reads
 use Rattle.checker_tables.proofs.numbers.first_named.Goals as goal
 
 pub group_forgotten-g-requires : goal.group_forgotten-g-requires

@@ -1,6 +1,5 @@
 use borrow.Author.Tests.{eq-eqb, ne_eqb}
 use native.Mathlib.Omega.{arith}
-use Rattle.checker_tables.proofs.numbers.group_forgotten.Reads as reads
 use Rattle.checker_tables.proofs.numbers.group_forgotten.Goals as goal
 
 pub returns-then-g-n-eq-NAMES : goal.returns-then-g-n-eq-NAMES

@@ -1,7 +1,6 @@
 use borrow.Author.Tests.{eq-eqb, ne_eqb}
 use native.Mathlib.Omega.{arith}
 use Rattle.checker_account.specs.Tables as tables
-use Rattle.checker_tables.proofs.numbers.least.Reads as reads
 use Rattle.checker_tables.proofs.numbers.least.Goals as goal
 
 pub returns-then-x-eq-WATCHED : goal.returns-then-x-eq-WATCHED

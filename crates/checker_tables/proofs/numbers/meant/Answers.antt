@@ -1,12 +1,9 @@
-use mathlib.Core.Path.{◌≡◌, refl, sym, ap, ap₂, ◌∙◌, subst}
-use Prim.Native.Nat.{ℕ, suc, ◌+◌, ◌*◌, ◌-◌, ◌<◌, ◌≤◌, ◌/◌, ◌%◌}
+use mathlib.Core.Path.{sym, ap, ◌∙◌}
+use Prim.Native.Nat.{ℕ, suc, ◌+◌}
 use native.Mathlib.Omega.{arith}
 use borrow.Author.Tests.{eq-eqb, ne_eqb}
 use native.Mathlib.Numerals.{add-one}
 use Rattle.checker_account.specs.Tables.{meant_at}
-use Rattle.checker_tables.proofs.numbers.meant.Reads as reads
-use Rattle.checker_tables.proofs.numbers.group.Reads as group-Reads
-use Rattle.checker_tables.proofs.numbers.meaning.Reads as meaning-reads
 use Rattle.checker_tables.proofs.numbers.meant.Goals as goal
 
 pub returns-then-meaning-n : goal.returns-then-meaning-n

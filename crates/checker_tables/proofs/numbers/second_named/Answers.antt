@@ -1,15 +1,11 @@
-use mathlib.Core.Path.{◌≡◌, refl, sym, ap, ap₂, ◌∙◌, subst}
-use Prim.Native.Nat.{ℕ, suc, ◌+◌, ◌*◌, ◌-◌, ◌<◌, ◌≤◌, ◌/◌, ◌%◌}
+use mathlib.Core.Path.{ap, ◌∙◌}
+use Prim.Native.Nat.{ℕ, ◌+◌, ◌-◌, ◌<◌}
 use native.Mathlib.Omega.{arith}
 use Rattle.checker_account.proofs.EntryLaws.{meaning-lt, group-numbered}
-use Rattle.checker_account.specs.Tables.{numbered, meaning_in, group_in, forgotten, group_forgotten_lem, meanings, meaning_after}
-use Rattle.checker_tables.proofs.MeaningLaws.{lost-name, lost-created}
+use Rattle.checker_account.specs.Tables.{numbered, meaning_in, group_in, meanings}
+use Rattle.checker_tables.proofs.MeaningLaws.{lost-name}
 use Rattle.checker_tables.proofs.NumberLaws.{lost-lt}
 use Rattle.checker_tables.specs.Search.{lost}
-use Rattle.checker_tables.proofs.numbers.second_named.Reads as reads
-use Rattle.checker_tables.proofs.lose.Reads as lose-reads
-use Rattle.checker_tables.proofs.numbers.meaning.Reads as meaning-reads
-use Rattle.checker_tables.proofs.numbers.numbered.Reads as numbered-reads
 use Rattle.checker_tables.proofs.numbers.second_named.Goals as goal
 
 pub numbered-requires : goal.numbered-requires

@@ -1,8 +1,7 @@
-use mathlib.Core.Path.{◌≡◌, refl, sym, ap, ap₂, ◌∙◌, subst}
-use Prim.Native.Nat.{ℕ, suc, ◌+◌, ◌*◌, ◌-◌, ◌<◌, ◌≤◌, ◌/◌, ◌%◌}
+use mathlib.Core.Path.{sym}
+use Prim.Native.Nat.{◌/◌}
 use native.Mathlib.Omega.{arith}
-use borrow.Author.Tests.{eq-eqb, ne_eqb}
-use Rattle.checker_tables.proofs.numbers.waits.Reads as reads
+use borrow.Author.Tests.{ne_eqb}
 use Rattle.checker_tables.proofs.numbers.waits.Goals as goal
 
 pub returns-then-e-lt-MEANINGS : goal.returns-then-e-lt-MEANINGS

@@ -1,15 +1,8 @@
-use mathlib.Core.Path.{◌≡◌, refl, sym, ap, ap₂, ◌∙◌, subst}
-use mathlib.Core.Bool.{Bool, true, false, not, ◌&&◌, ◌||◌, cond}
-use mathlib.Core.List.{List, [], ◌∷◌}
-use Prim.Native.Nat.{ℕ, suc, ◌+◌, ◌-◌, ◌*◌, ◌/◌, ◌%◌, ◌<◌, ◌≤◌}
-use native.Mathlib.Omega.{arith}
-use lib.ListN.{length, get_or, replicate}
+use mathlib.Core.Path.{sym, ap, ◌∙◌}
+use mathlib.Core.Bool.{Bool, cond}
 use Rattle.checker_account.specs.Account.{watched}
 use Rattle.checker_account.specs.Tables.{over, row_on, rows_in, meaning_in}
 use Rattle.checker_account.proofs.CodeLaws.{made_none, made_some}
-use Rattle.checker_tables.proofs.rows.first_created.Reads as reads
-use Rattle.checker_tables.proofs.numbers.meaning.Reads as meaning-reads
-use Rattle.checker_tables.proofs.rows.moved_set.Reads as moved-set-reads
 use Rattle.checker_tables.proofs.rows.first_created.Goals as goal
 
 pub returns-then-meaning-eq0 : goal.returns-then-meaning-eq0

@@ -1,17 +1,9 @@
-use mathlib.Core.Path.{◌≡◌, refl, sym, ap, ap₂, ◌∙◌, subst}
-use mathlib.Core.Bool.{Bool, true, false, not, ◌&&◌, ◌||◌, cond}
-use mathlib.Core.List.{List, [], ◌∷◌}
-use Prim.Native.Nat.{ℕ, suc, ◌+◌, ◌-◌, ◌*◌, ◌/◌, ◌%◌, ◌<◌, ◌≤◌}
-use native.Mathlib.Omega.{arith}
-use lib.ListN.{length, get_or, replicate}
+use mathlib.Core.Path.{subst}
+use Prim.Native.Nat.{ℕ, ◌+◌}
+use lib.ListN.{get_or}
 use Rattle.usage.specs.Limits.{states}
 use Rattle.checker_tables.specs.ByState.{ByState}
-use Rattle.checker_account.specs.Tables.{base, row_on, rows_in, meaning_in}
-use lib.Dec.{eqb}
-use Rattle.checker_account.specs.Tables.{way_of}
-use Rattle.checker_tables.proofs.rows.moved_each.Reads as reads
-use Rattle.checker_tables.proofs.rows.way.Reads as way-reads
-use Rattle.checker_tables.proofs.sets.entries.Reads as entries-reads
+use Rattle.checker_account.specs.Tables.{base}
 use Rattle.checker_tables.proofs.rows.moved_each.Goals as goal
 
 pub returns : goal.returns

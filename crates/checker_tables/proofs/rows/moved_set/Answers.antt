@@ -1,13 +1,7 @@
-use mathlib.Core.Path.{◌≡◌, refl, sym, ap, ap₂, ◌∙◌, subst}
-use mathlib.Core.Bool.{Bool, true, false, not, ◌&&◌, ◌||◌, cond}
-use mathlib.Core.List.{List, [], ◌∷◌}
-use Prim.Native.Nat.{ℕ, suc, ◌+◌, ◌-◌, ◌*◌, ◌/◌, ◌%◌, ◌<◌, ◌≤◌}
-use native.Mathlib.Omega.{arith}
-use lib.ListN.{length, get_or, replicate}
+use mathlib.Core.Path.{ap, ◌∙◌}
+use Prim.Native.Nat.{ℕ, ◌+◌}
+use lib.ListN.{get_or}
 use Rattle.checker_account.specs.Tables.{base, over}
-use Rattle.checker_tables.proofs.rows.moved_set.Reads as reads
-use Rattle.checker_tables.proofs.rows.way.Reads as way-reads
-use Rattle.checker_tables.proofs.union_over.Reads as union-over-reads
 use Rattle.checker_tables.proofs.rows.moved_set.Goals as goal
 
 pub returns : goal.returns

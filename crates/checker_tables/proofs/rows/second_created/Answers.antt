@@ -1,14 +1,7 @@
-use mathlib.Core.Path.{◌≡◌, refl, sym, ap, ap₂, ◌∙◌, subst}
-use mathlib.Core.Bool.{Bool, true, false, not, ◌&&◌, ◌||◌, cond}
-use mathlib.Core.List.{List, [], ◌∷◌}
-use Prim.Native.Nat.{ℕ, suc, ◌+◌, ◌-◌, ◌*◌, ◌/◌, ◌%◌, ◌<◌, ◌≤◌}
-use native.Mathlib.Omega.{arith}
-use lib.ListN.{length, get_or, replicate}
+use mathlib.Core.Path.{sym, ap, ◌∙◌}
+use mathlib.Core.Bool.{Bool, cond}
 use Rattle.checker_account.specs.Account.{watched_too}
 use Rattle.checker_account.specs.Tables.{over, row_on, rows_in}
-use Rattle.checker_tables.proofs.rows.second_created.Reads as reads
-use Rattle.checker_tables.proofs.numbers.waits.Reads as waits-reads
-use Rattle.checker_tables.proofs.rows.moved_set.Reads as moved-set-reads
 use Rattle.checker_tables.proofs.rows.second_created.Goals as goal
 
 pub returns-then-waits : goal.returns-then-waits

@@ -1,6 +1,5 @@
 use borrow.Author.Tests.{eq-eqb, ne_eqb}
 use native.Mathlib.Omega.{arith}
-use Rattle.checker_tables.proofs.rows.way.Reads as reads
 use Rattle.checker_tables.proofs.rows.way.Goals as goal
 
 pub returns-then-r-x-2 : goal.returns-then-r-x-2

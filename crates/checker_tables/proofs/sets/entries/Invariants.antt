@@ -1,11 +1,7 @@
-use native.Mathlib.Omega.{arith}
-use mathlib.Core.Path.{◌≡◌, refl, subst}
-use Prim.Native.Nat.{ℕ, ◌+◌, ◌-◌, ◌≤◌}
+use Prim.Native.Nat.{◌+◌, ◌-◌, ◌≤◌}
 use Rattle.usage.specs.Limits.{states}
 use Rattle.checker_tables.specs.ByState.{ByState}
-use Rattle.checker_tables.proofs.ByStateLaws.{by-none, by-more}
-use lib.ListN.{get_or, replicate}
-use Rattle.checker_tables.proofs.sets.entries.Reads as reads
+use lib.ListN.{get_or}
 use Rattle.checker_tables.proofs.sets.entries.Given as goal
 
 abbrev pub invariant-loop-q : goal.invariant-loop-q

@@ -1,12 +1,9 @@
-use native.Mathlib.Omega.{arith}
-use mathlib.Core.Path.{◌≡◌, ap}
 use Prim.Native.Nat.{ℕ, ◌-◌, ◌≤◌}
 use mathlib.Core.List.{List}
-use lib.ListN.{length, get_or}
+use lib.ListN.{get_or}
 use lib.Bits.{bit_or}
 use Rattle.usage.specs.Limits.{states}
-use Rattle.checker_tables.proofs.ByStateLaws.{InPlace, place_none, place-more, place-all}
-use Rattle.checker_tables.proofs.sets.join_each.Reads as reads
+use Rattle.checker_tables.proofs.ByStateLaws.{InPlace}
 use Rattle.checker_tables.proofs.sets.join_each.Given as goal
 
 abbrev pub each : List ℕ → List ℕ → ℕ → ℕ

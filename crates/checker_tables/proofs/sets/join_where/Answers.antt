@@ -1,16 +1,13 @@
 use native.Mathlib.Omega.{arith}
 use mathlib.Core.Path.{◌≡◌, sym, ap, ap₂, ◌∙◌}
-use Prim.Native.Nat.{ℕ, ◌-◌, ◌≤◌}
-use mathlib.Core.List.{List}
+use Prim.Native.Nat.{ℕ}
 use lib.ListN.{length, get_or}
 use mathlib.Core.Bool.{Bool, cond}
 use lib.Bits.{bit_or}
 use Rattle.automaton.specs.Mask.{has}
-use Rattle.usage.proofs.Logic.{by_cases}
 use Rattle.checker_account.proofs.MaskLaws.{test_in, test-out}
 use Rattle.usage.specs.Limits.{states}
-use Rattle.checker_tables.proofs.ByStateLaws.{InPlace, place_none, place-more, place-all}
-use Rattle.checker_tables.proofs.sets.join_where.Reads as reads
+use Rattle.checker_tables.proofs.ByStateLaws.{place_none, place-more, place-all}
 use borrow.Author.Rules.{rules}
 use Rattle.checker_tables.proofs.sets.join_where.Goals as goal
 use Rattle.checker_tables.proofs.sets.join_where.Goals.{else-v-q-eq1, then-v-q-eq1}

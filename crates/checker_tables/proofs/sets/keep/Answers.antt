@@ -1,5 +1,4 @@
 use Rattle.checker_account.proofs.CodeLaws.{kept-none, kept-some}
-use Rattle.checker_tables.proofs.sets.keep.Reads as reads
 use Rattle.checker_tables.proofs.sets.keep.Goals as goal
 
 pub returns-then-m-eq0 : goal.returns-then-m-eq0

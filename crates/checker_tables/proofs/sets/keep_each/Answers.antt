@@ -1,13 +1,9 @@
 use native.Mathlib.Omega.{arith}
 use mathlib.Core.Path.{◌≡◌, ap, ◌∙◌}
-use Prim.Native.Nat.{ℕ, ◌-◌, ◌≤◌}
-use mathlib.Core.List.{List}
-use lib.ListN.{length, get_or}
+use lib.ListN.{length}
 use Rattle.checker_account.specs.Tables.{kept}
 use Rattle.usage.specs.Limits.{states}
-use Rattle.checker_tables.proofs.ByStateLaws.{InPlace, place_none, place-more, place-all}
-use Rattle.checker_tables.proofs.sets.keep_each.Reads as reads
-use Rattle.checker_tables.proofs.sets.keep.Reads as keep-reads
+use Rattle.checker_tables.proofs.ByStateLaws.{place_none, place-more, place-all}
 use borrow.Author.Rules.{rules}
 use Rattle.checker_tables.proofs.sets.keep_each.Goals as goal
 use Rattle.checker_tables.proofs.sets.keep_each.Invariants.{each}

@@ -5,10 +5,6 @@ use Rattle.usage.specs.Limits.{states}
 use Rattle.checker_account.specs.Tables.{kept}
 use Rattle.checker_tables.specs.ByState.{ByState}
 use Rattle.checker_tables.proofs.RuleLaws.{kept-late, kept-else}
-use Rattle.checker_tables.proofs.sets.keep_in.Reads as reads
-use Rattle.checker_tables.proofs.numbers.is_late.Reads as is-late-reads
-use Rattle.checker_tables.proofs.numbers.meaning.Reads as meaning-reads
-use Rattle.checker_tables.proofs.sets.keep_each.Reads as keep-each-reads
 use Rattle.checker_tables.proofs.sets.keep_in.Goals as goal
 
 pub returns-then-is_late : goal.returns-then-is_late

@@ -1,18 +1,10 @@
-use native.Mathlib.Omega.{arith}
-use mathlib.Core.Path.{◌≡◌, refl, ap, ◌∙◌, subst}
 use mathlib.Core.Bool.{cond}
 use mathlib.Core.List.{List}
 use Prim.Native.Nat.{ℕ, ◌+◌, ◌-◌, ◌≤◌}
-use lib.Bits.{bit_or}
 use lib.ListN.{get_or}
 use Rattle.usage.specs.Limits.{states}
 use Rattle.automaton.specs.Mask.{has, union}
-use Rattle.checker_account.specs.Tables.{over}
-use Rattle.checker_account.proofs.JoinLaws.{zeros}
 use Rattle.checker_tables.specs.ByState.{ByState}
-use Rattle.checker_tables.proofs.ByStateLaws.{by_as, union_more}
-use Rattle.checker_tables.proofs.sets.union_each.Reads as reads
-use Rattle.checker_tables.proofs.sets.join_where.Reads as join-where-reads
 use Rattle.checker_tables.proofs.sets.union_each.Given as goal
 
 -- what the state j adds for the set at q

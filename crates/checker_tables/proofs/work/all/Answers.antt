@@ -4,7 +4,6 @@ use Prim.Native.Nat.{ℕ, ◌-◌, ◌^◌, ◌<◌, ◌≤◌, min}
 use lib.Pow.{pow_pos}
 use Rattle.usage.specs.Limits.{most_nodes}
 use Rattle.checker_tables.proofs.WorkLaws.{shl-node}
-use Rattle.checker_tables.proofs.work.all.Reads as reads
 use Rattle.checker_tables.proofs.work.all.Goals as goal
 
 most : (n : ℕ) → most_nodes ≤ n → min n most_nodes ≡ most_nodes

@@ -3,7 +3,6 @@ use mathlib.Core.Path.{◌≡◌, refl}
 use Prim.Native.Nat.{ℕ, ◌<◌}
 use lib.Count.{leading_le}
 use Rattle.checker_tables.proofs.WorkLaws.{top-node}
-use Rattle.checker_tables.proofs.work.highest.Reads as reads
 use Rattle.checker_tables.proofs.work.highest.Goals as goal
 
 positive : (s : ℕ) → (s ≡ 0 → ⊥) → 0 < s

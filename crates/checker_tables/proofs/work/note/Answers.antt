@@ -4,7 +4,6 @@ use lib.Bits.{bit_or}
 use lib.ListN.{get_or, set}
 use Rattle.checker_account.specs.Tables.{joined_at}
 use Rattle.checker_tables.proofs.WorkLaws.{shl-node}
-use Rattle.checker_tables.proofs.work.note.Reads as reads
 use Rattle.checker_tables.proofs.work.note.Goals as goal
 
 pub returns : goal.returns

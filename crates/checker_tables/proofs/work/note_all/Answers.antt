@@ -1,7 +1,6 @@
 use native.Mathlib.Omega.{arith}
 use mathlib.Core.Path.{◌≡◌, sym, ap, ◌∙◌, subst}
-use mathlib.Core.List.{List}
-use Prim.Native.Nat.{ℕ, ◌-◌, ◌/◌, ◌≤◌}
+use Prim.Native.Nat.{ℕ, ◌/◌, ◌≤◌}
 use lib.ListN.{length, replicate, length-replicate}
 use Rattle.usage.specs.Limits.{most_nodes, node_fields}
 use mathlib.Core.Option.{Option}
@@ -12,9 +11,6 @@ use Rattle.checker_account.proofs.GrowsLaws.{repeat-more}
 use Rattle.checker_tables.specs.Search.{Small}
 use Rattle.checker_tables.specs.Work.{noted, readers_of}
 use Rattle.checker_tables.proofs.WorkLaws.{upto-length}
-use Rattle.checker_tables.proofs.work.note_all.Reads as reads
-use Rattle.outline_nodes.proofs.form.Reads as form-reads
-use Rattle.checker_tables.proofs.work.note_parts.Reads as note-parts-reads
 use borrow.Author.Rules.{rules}
 use Rattle.checker_tables.proofs.work.note_all.Goals as goal
 use Rattle.checker_tables.proofs.work.note_all.Invariants.{steps}

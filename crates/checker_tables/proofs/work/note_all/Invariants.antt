@@ -1,20 +1,10 @@
-use native.Mathlib.Omega.{arith}
-use mathlib.Core.Path.{◌≡◌, sym, ap, ◌∙◌, subst}
+use mathlib.Core.Path.{◌≡◌}
 use mathlib.Core.List.{List}
-use Prim.Native.Nat.{ℕ, ◌-◌, ◌/◌, ◌≤◌}
-use lib.ListN.{length, replicate, length-replicate}
-use Rattle.usage.specs.Limits.{most_nodes, node_fields}
-use mathlib.Core.Option.{Option}
-use Rattle.usage.specs.Outline.{Form}
-use Rattle.outline_nodes.proofs.SaidLaws.{form-at}
+use Prim.Native.Nat.{ℕ, ◌-◌, ◌≤◌}
+use lib.ListN.{replicate}
+use Rattle.usage.specs.Limits.{most_nodes}
 use Rattle.checker_account.specs.Filling.{repeat, forms_in}
-use Rattle.checker_account.proofs.GrowsLaws.{repeat-more}
-use Rattle.checker_tables.specs.Search.{Small}
-use Rattle.checker_tables.specs.Work.{noted, readers_of}
-use Rattle.checker_tables.proofs.WorkLaws.{upto-length}
-use Rattle.checker_tables.proofs.work.note_all.Reads as reads
-use Rattle.outline_nodes.proofs.form.Reads as form-reads
-use Rattle.checker_tables.proofs.work.note_parts.Reads as note-parts-reads
+use Rattle.checker_tables.specs.Work.{noted}
 use Rattle.checker_tables.proofs.work.note_all.Given as goal
 
 abbrev pub steps : List ℕ → ℕ → List ℕ → List ℕ

@@ -3,8 +3,6 @@ use mathlib.Core.List.{List}
 use Prim.Native.Nat.{ℕ, ◌^◌}
 use Rattle.checker_account.specs.Tables.{joined_at}
 use Rattle.checker_account.proofs.GrowsLaws.{grows-joined}
-use Rattle.checker_tables.proofs.work.note_both.Reads as reads
-use Rattle.checker_tables.proofs.work.note.Reads as note-reads
 use Rattle.checker_tables.proofs.work.note_both.Goals as goal
 
 pub note-requires-2 : goal.note-requires-2

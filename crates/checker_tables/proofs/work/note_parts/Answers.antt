@@ -1,8 +1,5 @@
 use Rattle.checker_tables.specs.Work.{noted}
 use Rattle.checker_tables.proofs.OtherLaws.{no-noted}
-use Rattle.checker_tables.proofs.work.note_parts.Reads as reads
-use Rattle.checker_tables.proofs.work.note.Reads as note-reads
-use Rattle.checker_tables.proofs.work.note_both.Reads as note-both-reads
 use borrow.Author.Rules.{rules}
 use Rattle.checker_tables.proofs.work.note_parts.Goals as goal
 
@@ -67,4 +64,4 @@ unfolding noted
 returns-in-Sandbox c = rw c.in-Sandbox.is c.note-in-Sandbox.ensures
 
 pub returns-in_default : goal.returns-in_default
-returns-in_default c = let a = c.args in no-noted a.k a.masks.now a.f c.in_default.in_default-own
+returns-in_default c = let a = c.args in no-noted a.k a.masks.now a.f c.in_default.not-Sequence c.in_default.not-Choice c.in_default.not-Loop c.in_default.not-Back c.in_default.not-Fresh c.in_default.not-Sandbox
