@@ -4,10 +4,10 @@
 
 use sheet_lines::SHEET_ROOM;
 
-fn main() {
+fn main(rt: HostRuntime) {
     let mut text = [0u8; SHEET_ROOM];
-    let n = files::read_sheet(b"outline.expr", &mut text);
+    let n = files::read_sheet(&rt, b"outline.expr", &mut text);
     let mut out = [0u8; report::EXPRESSION_ROOM];
     let m = report::report_expression(&text[..n], &mut out);
-    files::print(&out, m);
+    files::print(&rt, &out, m);
 }

@@ -2,37 +2,53 @@
 #![tactic(auto)]
 
 ghost use Rattle.std.specs.Prelude.{◌≡◌, leb, length};
-ghost use Rattle.io.specs.Counts.{IsPrefixLen};
+ghost use Rattle.files.specs.Counts.{IsPrefixLen};
 
-use libc::STDOUT_FILENO;
 use sheet_lines::SHEET_ROOM;
+use std::fs;
+use std::io::Read;
+use std::rt::Files;
 
 // A sheet, and no more of it than tells that it is too long.
-pub fn read_sheet(path: &[u8], buffer: &mut [u8; SHEET_ROOM]) -> usize
+pub fn read_sheet(rt: &impl Files, path: &[u8], buffer: &mut [u8; SHEET_ROOM]) -> usize
     ensures { IsPrefixLen result buffer.new }
 {
-    read_file(path, &mut buffer[..])
+    read_file(rt, path, &mut buffer[..])
 }
 
-// At most as much of a file as the buffer has room for; "A file that can't be opened reads as empty."
-pub fn read_file(path: &[u8], buffer: &mut [u8]) -> usize
+// At most as much of a file as the buffer has room for; "A file that can't be opened reads as empty." So does one whose path is no text.
+pub fn read_file(rt: &impl Files, path: &[u8], buffer: &mut [u8]) -> usize
     ensures { IsPrefixLen result buffer.new }
 {
-    let fd = os::open_read(path);
-    if fd < 0 {
+    let Ok(name) = str::from_utf8(path) else {
         return 0;
+    };
+    let Ok(mut file) = fs::open(rt, name) else {
+        return 0;
+    };
+    fill(&mut file, buffer)
+}
+
+// Reads until the buffer is full, the input ends or a read fails; how many bytes were read.
+fn fill(file: &mut impl Read, buffer: &mut [u8]) -> usize
+    ensures { IsPrefixLen result buffer.new }
+{
+    let mut n = 0;
+    while n < buffer.len() {
+        match file.read(&mut buffer[n..]) {
+            Ok(more) if 0 < more => n += more,
+            _ => break,
+        }
     }
-    let n = io::read_full(fd, buffer);
-    libc::close(fd);
     n
 }
 
 // The first n bytes of the output, in one write; whether there are so many.
-pub fn print(out: &[u8], n: usize) -> bool
+pub fn print(rt: &impl Print, out: &[u8], n: usize) -> bool
     ensures { result ≡ leb n (length out.now) }
 {
     if n <= out.len() {
-        io::write_all(STDOUT_FILENO, &out[0..n]);
+        let _ = rt.write_all(&out[0..n]);
         return true;
     }
     false

@@ -4,12 +4,12 @@
 
 use sheet_lines::SHEET_ROOM;
 
-fn main() {
+fn main(rt: HostRuntime) {
     let mut policies = [0u8; SHEET_ROOM];
     let mut outline = [0u8; SHEET_ROOM];
-    let p = files::read_sheet(b"policies.txt", &mut policies);
-    let o = files::read_sheet(b"outline.txt", &mut outline);
+    let p = files::read_sheet(&rt, b"policies.txt", &mut policies);
+    let o = files::read_sheet(&rt, b"outline.txt", &mut outline);
     let mut out = [0u8; report::OUTLINE_ROOM];
     let n = report::report_outline(&policies[..p], &outline[..o], &mut out);
-    files::print(&out, n);
+    files::print(&rt, &out, n);
 }

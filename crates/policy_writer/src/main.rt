@@ -3,10 +3,10 @@
 
 use sheet_lines::SHEET_ROOM;
 
-fn main() {
+fn main(rt: HostRuntime) {
     let mut policies = [0u8; SHEET_ROOM];
-    let p = files::read_sheet(b"policies.txt", &mut policies);
+    let p = files::read_sheet(&rt, b"policies.txt", &mut policies);
     let mut out = [0u8; report::POLICIES_ROOM];
     let n = report::report_policies(&policies[..p], &mut out);
-    files::print(&out, n);
+    files::print(&rt, &out, n);
 }

@@ -35,48 +35,61 @@ pub(crate) fn policies_code(r: PolicyReading) -> u32
 }
 
 // The readers (40) and the check (41).
-fn table_calls() -> u64
+fn table_calls(rt: &impl Print) -> u64
     ensures { result ≡ 34 }
 {
     let mut edges = [0u8; EDGE_TABLE];
     print::line(
+        rt,
         27,
         policies_code(sheet_reader::read_policies(b"policy from action on who to\n", &mut edges)),
     );
     let mut few_edges = [0u8; FEW_EDGES];
     print::line(
+        rt,
         28,
         policies_code(sheet_reader::read_policies(b"", &mut few_edges)),
     );
     let mut few_steps = [0u32; FEW_STEPS];
-    print::line(29, code_of(sheet_reader::read_trace(b"", &mut few_steps)));
-    let mut few_nodes = [0u8; FEW_NODES];
-    print::line(30, code_of(sheet_reader::read_outline(b"", &mut few_nodes)));
     print::line(
+        rt,
+        29,
+        code_of(sheet_reader::read_trace(b"", &mut few_steps)),
+    );
+    let mut few_nodes = [0u8; FEW_NODES];
+    print::line(
+        rt,
+        30,
+        code_of(sheet_reader::read_outline(b"", &mut few_nodes)),
+    );
+    print::line(
+        rt,
         31,
         api_c::wiforekun_check(&[0u8; EDGE_FIELDS], 0, &[0u8; NODE_FIELDS]),
     );
     print::line(
+        rt,
         32,
         api_c::wiforekun_check(&[0u8; 5], 0, &[0u8; NODE_FIELDS]),
     );
     print::line(
+        rt,
         33,
         api_c::wiforekun_check(&[0u8; EDGE_FIELDS], 0, &[9u8; NODE_FIELDS]),
     );
     34
 }
 
-pub(crate) fn calls() -> u64
+pub(crate) fn calls(rt: &impl Print) -> u64
     ensures { result ≡ 145 }
 {
-    judge_calls::step_calls();
-    judge_calls::flag_calls();
-    table_calls();
-    trace_calls::trace_calls();
-    trace_calls::long_calls();
-    judge_calls::kept_calls();
-    order_calls::order_calls();
-    local_calls::local_calls();
-    retire_calls::calls()
+    judge_calls::step_calls(rt);
+    judge_calls::flag_calls(rt);
+    table_calls(rt);
+    trace_calls::trace_calls(rt);
+    trace_calls::long_calls(rt);
+    judge_calls::kept_calls(rt);
+    order_calls::order_calls(rt);
+    local_calls::local_calls(rt);
+    retire_calls::calls(rt)
 }

@@ -10,6 +10,7 @@ use monitor_sets::SETS;
 use monitor_state::PAIR_SETS;
 use sheet_lines::{Reading, SHEET_ROOM};
 use sheet_reader::PolicyReading;
+use std::rt::Files;
 use usage::{
     EDGE_FIELDS, EDGE_TABLE, MOST_CREATED, MOST_UNCLOSED, NODE_FIELDS, NODE_TABLE, POLICIES,
     STEP_FIELDS,
@@ -126,91 +127,99 @@ fn stops_rightly(s: Stop, steps: u64, p: u32) -> u64
 }
 
 // The line of what the judge makes of a trace; its length is handed back.
-fn judged(edges: &[u8], local: u32, trace: &[u32; MOST_NUMBERS], steps: usize, p: u32) -> usize
+fn judged(
+    rt: &impl Print,
+    edges: &[u8],
+    local: u32,
+    trace: &[u32; MOST_NUMBERS],
+    steps: usize,
+    p: u32,
+) -> usize
     requires { steps ≤ most_shown }
     ensures { result ≡ steps }
 {
     let own = follow(edges, local, trace, steps, true, p);
-    print::number(own.past, b" ");
-    print::number(own.code as u64 / 256, b" ");
-    print::number(own.code as u64 % 256, b" ");
+    print::number(rt, own.past, b" ");
+    print::number(rt, own.code as u64 / 256, b" ");
+    print::number(rt, own.code as u64 % 256, b" ");
     let all = follow(edges, local, trace, steps, false, p);
-    print::number(stops_rightly(all, steps as u64, p), b"\n");
+    print::number(rt, stops_rightly(all, steps as u64, p), b"\n");
     steps
 }
 
 // The lines of an outline.
-fn explained(n: u64, edges: &[u8], local: u32, nodes: &[u8]) -> u64
+fn explained(rt: &impl Print, n: u64, edges: &[u8], local: u32, nodes: &[u8]) -> u64
     ensures { result ≡ n }
 {
     let mut trace = [0u32; MOST_NUMBERS];
     let code = api_c::wiforekun_counterexample(edges, local, nodes, &mut trace);
     let steps = (code / 65536) as usize;
-    print::number(code as u64 / 256 % 256, b" ");
-    print::number(code as u64 % 256, b" ");
-    print::number(steps as u64, b"\n");
+    print::number(rt, code as u64 / 256 % 256, b" ");
+    print::number(rt, code as u64 % 256, b" ");
+    print::number(rt, steps as u64, b"\n");
     if 0 < steps {
         if steps <= MOST_SHOWN {
-            judged(edges, local, &trace, steps, code % 256);
+            judged(rt, edges, local, &trace, steps, code % 256);
         }
     }
     n
 }
 
 // The line of a refused sheet.
-fn refused(n: u64, sheet: u64, number: u8) -> u64
+fn refused(rt: &impl Print, n: u64, sheet: u64, number: u8) -> u64
     ensures { result ≡ n }
 {
-    print::number(sheet, b" ");
-    print::number(number as u64, b" 0\n");
+    print::number(rt, sheet, b" ");
+    print::number(rt, number as u64, b" 0\n");
     n
 }
 
 // The lines of a sheet of an outline under these edges.
-fn outline(n: u64, edges: &[u8], local: u32, text: &[u8]) -> u64
+fn outline(rt: &impl Print, n: u64, edges: &[u8], local: u32, text: &[u8]) -> u64
     ensures { result ≡ n }
 {
     let mut nodes = [0u8; NODE_TABLE];
     let reading = sheet_reader::read_outline(text, &mut nodes);
     match reading {
-        Reading::Stored(k) => explained(n, edges, local, &nodes[0..k * NODE_FIELDS]),
-        Reading::Refused { line: _, number } => refused(n, OUTLINE_REFUSED, number),
+        Reading::Stored(k) => explained(rt, n, edges, local, &nodes[0..k * NODE_FIELDS]),
+        Reading::Refused { line: _, number } => refused(rt, n, OUTLINE_REFUSED, number),
     }
 }
 
 // The lines of both sheets.
-fn sheets(n: u64, policies: &[u8], text: &[u8]) -> u64
+fn sheets(rt: &impl Print, n: u64, policies: &[u8], text: &[u8]) -> u64
     ensures { result ≡ n }
 {
     let mut edges = [0u8; EDGE_TABLE];
     let reading = sheet_reader::read_policies(policies, &mut edges);
     match reading {
         PolicyReading::Stored { edges: k, local } => outline(
+            rt,
             n,
             &edges[0..k * EDGE_FIELDS],
             if local { 1 } else { 0 },
             text,
         ),
-        PolicyReading::Refused { line: _, number } => refused(n, POLICIES_REFUSED, number),
+        PolicyReading::Refused { line: _, number } => refused(rt, n, POLICIES_REFUSED, number),
     }
 }
 
-fn case(n: u64) -> u64
+fn case(rt: &(impl Files + Print), n: u64) -> u64
     ensures { result ≡ n }
 {
     let mut policies = [0u8; SHEET_ROOM];
     let mut text = [0u8; SHEET_ROOM];
-    let p = stored::sheet(b'c', n, b'p', &mut policies);
-    let o = stored::sheet(b'c', n, b'o', &mut text);
-    stored::announced(n);
-    sheets(n, &policies[..p], &text[..o])
+    let p = stored::sheet(rt, b'c', n, b'p', &mut policies);
+    let o = stored::sheet(rt, b'c', n, b'o', &mut text);
+    stored::announced(rt, n);
+    sheets(rt, n, &policies[..p], &text[..o])
 }
 
-pub(crate) fn all(count: u64) -> u64
+pub(crate) fn all(rt: &(impl Files + Print), count: u64) -> u64
     ensures { result ≡ count }
 {
     for n in 0..count {
-        case(n);
+        case(rt, n);
     }
     count
 }

@@ -4,45 +4,48 @@ ghost use Rattle.std.specs.Prelude.{◌≡◌};
 
 use crate::{borders, print, stored};
 use sheet_lines::SHEET_ROOM;
+use std::rt::Files;
 use usage::NODE_TABLE;
 
 // One place too few.
 const FEW_NODES: usize = NODE_TABLE - 1;
 
-fn case(n: u64) -> u64
+fn case(rt: &(impl Files + Print), n: u64) -> u64
     ensures { result ≡ n }
 {
     let mut text = [0u8; SHEET_ROOM];
     let mut out = [0u8; report::EXPRESSION_ROOM];
-    let e = stored::sheet(b'e', n, b'e', &mut text);
+    let e = stored::sheet(rt, b'e', n, b'e', &mut text);
     let k = report::report_expression(&text[..e], &mut out);
-    stored::announced(n);
-    files::print(&out, k);
+    stored::announced(rt, n);
+    files::print(rt, &out, k);
     n
 }
 
 // The number of the call, the answer and its detail: 40, and 15 where there is room.
-pub(crate) fn room_calls() -> u64
+pub(crate) fn room_calls(rt: &impl Print) -> u64
     ensures { result ≡ 2 }
 {
     let mut few_nodes = [0u8; FEW_NODES];
     print::line(
+        rt,
         0,
         borders::code_of(sheet_expression::read_expression(b"", &mut few_nodes)),
     );
     let mut nodes = [0u8; NODE_TABLE];
     print::line(
+        rt,
         1,
         borders::code_of(sheet_expression::read_expression(b"", &mut nodes)),
     );
     2
 }
 
-pub(crate) fn all(count: u64) -> u64
+pub(crate) fn all(rt: &(impl Files + Print), count: u64) -> u64
     ensures { result ≡ count }
 {
     for n in 0..count {
-        case(n);
+        case(rt, n);
     }
     count
 }

@@ -20,12 +20,12 @@ struct Left {
 }
 
 // The line of a call of the judge.
-fn show_left(call: u64, left: Left) -> u32
+fn show_left(rt: &impl Print, call: u64, left: Left) -> u32
     ensures { result ≡ left.code }
 {
-    print::told(call, left.code, b" ");
-    print::number(left.count, b" ");
-    print::number(left.flag, b"\n");
+    print::told(rt, call, left.code, b" ");
+    print::number(rt, left.count, b" ");
+    print::number(rt, left.flag, b"\n");
     left.code
 }
 
@@ -108,54 +108,54 @@ fn judged_kept(kept: u8, set: u8, kind: u32, a: u32, b: u32) -> u32
 }
 
 // The judge: the step (21), the edge (41), the created resources (42). The number of the next call is handed back.
-pub(crate) fn step_calls() -> u64
+pub(crate) fn step_calls(rt: &impl Print) -> u64
     ensures { result ≡ 17 }
 {
-    show_left(1, judged(7, 0, 0, 0, 0, 0, 31, 15));
-    show_left(2, judged(7, 0, 0, 0, 0, 0, 32, 15));
-    show_left(3, judged(7, 0, 0, 0, 0, 0, 1, 65536));
-    show_left(4, judged(7, 0, 0, 0, 0, 4, 0, 0));
-    show_left(5, judged(7, 0, 0, 0, 0, 1, 7, 0));
-    show_left(6, judged(7, 0, 0, 0, 0, 1, 8, 0));
-    show_left(7, judged(7, 0, 0, 0, 0, 1, 7, 1));
-    show_left(8, judged(7, 0, 0, 0, 0, 2, 7, 1));
-    show_left(9, judged(8, 0, 0, 0, 0, 0, 31, 15));
-    show_left(10, judged(7, 2, 0, 16, 65535, 0, 31, 15));
-    show_left(11, judged(7, 2, 0, 15, 65535, 0, 31, 15));
-    show_left(12, judged(7, 2, 0, 16, 65536, 0, 31, 15));
-    show_left(13, judged(7, 2, 0, 16, 16, 0, 31, 15));
-    show_left(14, judged(7, 65, 0, 16, 17, 0, 31, 15));
-    show_left(15, judged(8, 65, 0, 16, 16, 4, 0, 0));
-    show_left(16, judged(7, 0, 0, 0, 0, 0, 0, 16));
+    show_left(rt, 1, judged(7, 0, 0, 0, 0, 0, 31, 15));
+    show_left(rt, 2, judged(7, 0, 0, 0, 0, 0, 32, 15));
+    show_left(rt, 3, judged(7, 0, 0, 0, 0, 0, 1, 65536));
+    show_left(rt, 4, judged(7, 0, 0, 0, 0, 4, 0, 0));
+    show_left(rt, 5, judged(7, 0, 0, 0, 0, 1, 7, 0));
+    show_left(rt, 6, judged(7, 0, 0, 0, 0, 1, 8, 0));
+    show_left(rt, 7, judged(7, 0, 0, 0, 0, 1, 7, 1));
+    show_left(rt, 8, judged(7, 0, 0, 0, 0, 2, 7, 1));
+    show_left(rt, 9, judged(8, 0, 0, 0, 0, 0, 31, 15));
+    show_left(rt, 10, judged(7, 2, 0, 16, 65535, 0, 31, 15));
+    show_left(rt, 11, judged(7, 2, 0, 15, 65535, 0, 31, 15));
+    show_left(rt, 12, judged(7, 2, 0, 16, 65536, 0, 31, 15));
+    show_left(rt, 13, judged(7, 2, 0, 16, 16, 0, 31, 15));
+    show_left(rt, 14, judged(7, 65, 0, 16, 17, 0, 31, 15));
+    show_left(rt, 15, judged(8, 65, 0, 16, 16, 4, 0, 0));
+    show_left(rt, 16, judged(7, 0, 0, 0, 0, 0, 0, 16));
     17
 }
 
 // The judge: the flag, of a halted state (20) and of none (42), which it leaves as it was.
-pub(crate) fn flag_calls() -> u64
+pub(crate) fn flag_calls(rt: &impl Print) -> u64
     ensures { result ≡ 27 }
 {
-    show_left(17, judged(7, 0, 1, 0, 0, 0, 31, 15));
-    show_left(18, judged(7, 0, 1, 0, 0, 4, 0, 0));
-    show_left(19, judged(7, 65, 1, 16, 17, 0, 31, 15));
-    show_left(20, judged(7, 0, 2, 0, 0, 0, 31, 15));
-    show_left(21, judged(7, 0, 7, 0, 0, 0, 31, 15));
-    show_left(22, judged(7, 0, 7, 0, 0, 4, 0, 0));
-    show_left(23, judged(8, 0, 7, 0, 0, 0, 31, 15));
-    show_left(24, judged(7, 0, 256, 0, 0, 0, 31, 15));
-    show_left(25, judged(7, 0, 4294967296, 0, 0, 0, 31, 15));
-    show_left(26, judged(7, 0, 18446744073709551615, 0, 0, 0, 0, 16));
+    show_left(rt, 17, judged(7, 0, 1, 0, 0, 0, 31, 15));
+    show_left(rt, 18, judged(7, 0, 1, 0, 0, 4, 0, 0));
+    show_left(rt, 19, judged(7, 65, 1, 16, 17, 0, 31, 15));
+    show_left(rt, 20, judged(7, 0, 2, 0, 0, 0, 31, 15));
+    show_left(rt, 21, judged(7, 0, 7, 0, 0, 0, 31, 15));
+    show_left(rt, 22, judged(7, 0, 7, 0, 0, 4, 0, 0));
+    show_left(rt, 23, judged(8, 0, 7, 0, 0, 0, 31, 15));
+    show_left(rt, 24, judged(7, 0, 256, 0, 0, 0, 31, 15));
+    show_left(rt, 25, judged(7, 0, 4294967296, 0, 0, 0, 31, 15));
+    show_left(rt, 26, judged(7, 0, 18446744073709551615, 0, 0, 0, 0, 16));
     27
 }
 
 // What is kept of a policy against what its instances may be in, either way: an opening, a closing and an event of each.
-pub(crate) fn kept_calls() -> u64
+pub(crate) fn kept_calls(rt: &impl Print) -> u64
     ensures { result ≡ 52 }
 {
-    print::line(46, judged_kept(64, 1, 1, 0, 0));
-    print::line(47, judged_kept(64, 1, 2, 0, 0));
-    print::line(48, judged_kept(64, 1, 0, 1, 0));
-    print::line(49, judged_kept(1, 64, 1, 0, 0));
-    print::line(50, judged_kept(1, 64, 2, 0, 0));
-    print::line(51, judged_kept(1, 64, 0, 1, 0));
+    print::line(rt, 46, judged_kept(64, 1, 1, 0, 0));
+    print::line(rt, 47, judged_kept(64, 1, 2, 0, 0));
+    print::line(rt, 48, judged_kept(64, 1, 0, 1, 0));
+    print::line(rt, 49, judged_kept(1, 64, 1, 0, 0));
+    print::line(rt, 50, judged_kept(1, 64, 2, 0, 0));
+    print::line(rt, 51, judged_kept(1, 64, 0, 1, 0));
     52
 }

@@ -5,11 +5,11 @@ ghost use Rattle.std.specs.Prelude.{◌≡◌, ◌/◌, ◌+◌, length};
 ghost use Rattle.usage.specs.Limits.{policies, step_fields};
 
 use crate::{print, stored};
-use libc::STDOUT_FILENO;
 use monitor_sets::SETS;
 use monitor_state::PAIR_SETS;
 use sheet_lines::{Reading, SHEET_ROOM};
 use sheet_reader::PolicyReading;
+use std::rt::Files;
 use usage::{
     EDGE_FIELDS, EDGE_TABLE, MOST_CREATED, MOST_UNCLOSED, NODE_FIELDS, NODE_TABLE, POLICIES,
     STEP_FIELDS, STEP_TABLE,
@@ -19,31 +19,37 @@ use usage::{
 const ALL: u64 = 18446744073709551615;
 
 // Outline n of a folder, summarized.
-fn summary_case(folder: u8, n: u64) -> u64
+fn summary_case(rt: &(impl Files + Print), folder: u8, n: u64) -> u64
     ensures { result ≡ n }
 {
     let mut policies = [0u8; SHEET_ROOM];
     let mut outline = [0u8; SHEET_ROOM];
     let mut out = [0u8; report::SUMMARY_ROOM];
-    let p = stored::sheet(folder, n, b'p', &mut policies);
-    let o = stored::sheet(folder, n, b'o', &mut outline);
+    let p = stored::sheet(rt, folder, n, b'p', &mut policies);
+    let o = stored::sheet(rt, folder, n, b'o', &mut outline);
     let k = report::report_summary(&policies[..p], &outline[..o], &mut out);
-    stored::announced(n);
-    files::print(&out, k);
+    stored::announced(rt, n);
+    files::print(rt, &out, k);
     n
 }
 
-pub(crate) fn summaries(folder: u8, count: u64) -> u64
+pub(crate) fn summaries(rt: &(impl Files + Print), folder: u8, count: u64) -> u64
     ensures { result ≡ count }
 {
     for n in 0..count {
-        summary_case(folder, n);
+        summary_case(rt, folder, n);
     }
     count
 }
 
 // The lean judge along a trace, a line for each step; how many there are.
-fn follow(edges: &[u8], local: u32, trace: &[u32], marks: &[u64; POLICIES]) -> usize
+fn follow(
+    rt: &impl Print,
+    edges: &[u8],
+    local: u32,
+    trace: &[u32],
+    marks: &[u64; POLICIES],
+) -> usize
     ensures { result ≡ length trace.now / step_fields }
 {
     let mut sets = [1u8; SETS];
@@ -71,24 +77,24 @@ fn follow(edges: &[u8], local: u32, trace: &[u32], marks: &[u64; POLICIES]) -> u
             trace[STEP_FIELDS * i + 1],
             trace[STEP_FIELDS * i + 2],
         );
-        print::number(code as u64 / 256, b" ");
-        print::number(code as u64 % 256, b"\n");
+        print::number(rt, code as u64 / 256, b" ");
+        print::number(rt, code as u64 % 256, b"\n");
         i += 1;
     }
     steps
 }
 
 // The numbers of a table, each after a space, and a line feed; how many there are.
-pub(crate) fn numbers(marks: &[u64]) -> usize
+pub(crate) fn numbers(rt: &impl Print, marks: &[u64]) -> usize
     ensures { result ≡ length marks.now }
 {
     let mut i: usize = 0;
     while i < marks.len() {
-        io::write_all(STDOUT_FILENO, b" ");
-        print::number(marks[i], b"");
+        let _ = rt.write_all(b" ");
+        print::number(rt, marks[i], b"");
         i += 1;
     }
-    io::write_all(STDOUT_FILENO, b"\n");
+    let _ = rt.write_all(b"\n");
     i
 }
 
@@ -106,50 +112,51 @@ fn higher(marks: &[u64; POLICIES]) -> [u64; POLICIES]
 }
 
 // All lines of three tables.
-fn judged(n: u64, edges: &[u8], local: u32, nodes: &[u8], trace: &[u32]) -> u64
+fn judged(rt: &impl Print, n: u64, edges: &[u8], local: u32, nodes: &[u8], trace: &[u32]) -> u64
     ensures { result ≡ n }
 {
     let mut marks = [0u64; POLICIES];
     api_c::lean::wiforekun_summary(edges, local, nodes, &mut marks);
-    io::write_all(STDOUT_FILENO, b"marks");
-    numbers(&marks);
-    follow(edges, local, trace, &marks);
+    let _ = rt.write_all(b"marks");
+    numbers(rt, &marks);
+    follow(rt, edges, local, trace, &marks);
     let others = higher(&marks);
-    follow(edges, local, trace, &others);
-    follow(edges, local, trace, &[ALL; POLICIES]);
+    follow(rt, edges, local, trace, &others);
+    follow(rt, edges, local, trace, &[ALL; POLICIES]);
     n
 }
 
 // No sheet of these cases is refused.
-fn outline(n: u64, edges: &[u8], local: u32, text: &[u8], trace: &[u32]) -> u64
+fn outline(rt: &impl Print, n: u64, edges: &[u8], local: u32, text: &[u8], trace: &[u32]) -> u64
     ensures { result ≡ n }
 {
     let mut nodes = [0u8; NODE_TABLE];
     let reading = sheet_reader::read_outline(text, &mut nodes);
     match reading {
-        Reading::Stored(k) => judged(n, edges, local, &nodes[0..k * NODE_FIELDS], trace),
+        Reading::Stored(k) => judged(rt, n, edges, local, &nodes[0..k * NODE_FIELDS], trace),
         Reading::Refused { line: _, number: _ } => n,
     }
 }
 
-fn steps(n: u64, edges: &[u8], local: u32, text: &[u8], trace_text: &[u8]) -> u64
+fn steps(rt: &impl Print, n: u64, edges: &[u8], local: u32, text: &[u8], trace_text: &[u8]) -> u64
     ensures { result ≡ n }
 {
     let mut trace = [0u32; STEP_TABLE];
     let reading = sheet_reader::read_trace(trace_text, &mut trace);
     match reading {
-        Reading::Stored(k) => outline(n, edges, local, text, &trace[0..k * STEP_FIELDS]),
+        Reading::Stored(k) => outline(rt, n, edges, local, text, &trace[0..k * STEP_FIELDS]),
         Reading::Refused { line: _, number: _ } => n,
     }
 }
 
-fn sheets(n: u64, policies: &[u8], text: &[u8], trace_text: &[u8]) -> u64
+fn sheets(rt: &impl Print, n: u64, policies: &[u8], text: &[u8], trace_text: &[u8]) -> u64
     ensures { result ≡ n }
 {
     let mut edges = [0u8; EDGE_TABLE];
     let reading = sheet_reader::read_policies(policies, &mut edges);
     match reading {
         PolicyReading::Stored { edges: k, local } => steps(
+            rt,
             n,
             &edges[0..k * EDGE_FIELDS],
             if local { 1 } else { 0 },
@@ -160,24 +167,24 @@ fn sheets(n: u64, policies: &[u8], text: &[u8], trace_text: &[u8]) -> u64
     }
 }
 
-fn case(n: u64) -> u64
+fn case(rt: &(impl Files + Print), n: u64) -> u64
     ensures { result ≡ n }
 {
     let mut policies = [0u8; SHEET_ROOM];
     let mut text = [0u8; SHEET_ROOM];
     let mut trace_text = [0u8; SHEET_ROOM];
-    let p = stored::sheet(b'l', n, b'p', &mut policies);
-    let o = stored::sheet(b'l', n, b'o', &mut text);
-    let t = stored::sheet(b'l', n, b't', &mut trace_text);
-    stored::announced(n);
-    sheets(n, &policies[..p], &text[..o], &trace_text[..t])
+    let p = stored::sheet(rt, b'l', n, b'p', &mut policies);
+    let o = stored::sheet(rt, b'l', n, b'o', &mut text);
+    let t = stored::sheet(rt, b'l', n, b't', &mut trace_text);
+    stored::announced(rt, n);
+    sheets(rt, n, &policies[..p], &text[..o], &trace_text[..t])
 }
 
-pub(crate) fn all(count: u64) -> u64
+pub(crate) fn all(rt: &(impl Files + Print), count: u64) -> u64
     ensures { result ≡ count }
 {
     for n in 0..count {
-        case(n);
+        case(rt, n);
     }
     count
 }

@@ -21,40 +21,56 @@ const FEW: usize = POLICIES - 1;
 const MORE: usize = POLICIES + 3;
 
 // A summary into a lent table.
-fn summarized(call: u64, local: u32, edges: &[u8], nodes: &[u8], marks: &mut [u64]) -> u64
+fn summarized(
+    rt: &impl Print,
+    call: u64,
+    local: u32,
+    edges: &[u8],
+    nodes: &[u8],
+    marks: &mut [u64],
+) -> u64
     ensures { result ≡ call }
 {
     let code = api_c::lean::wiforekun_summary(edges, local, nodes, marks);
-    print::told(call, code, b"");
-    lean::numbers(marks);
+    print::told(rt, call, code, b"");
+    lean::numbers(rt, marks);
     call
 }
 
 // One of as many places as are needed, of one too few, and of more.
-fn enough(call: u64, local: u32, edges: &[u8], nodes: &[u8]) -> u64
+fn enough(rt: &impl Print, call: u64, local: u32, edges: &[u8], nodes: &[u8]) -> u64
     ensures { result ≡ call }
 {
     let mut marks = [UNMARKED; POLICIES];
-    summarized(call, local, edges, nodes, &mut marks)
+    summarized(rt, call, local, edges, nodes, &mut marks)
 }
 
-fn few(call: u64, local: u32, edges: &[u8], nodes: &[u8]) -> u64
+fn few(rt: &impl Print, call: u64, local: u32, edges: &[u8], nodes: &[u8]) -> u64
     ensures { result ≡ call }
 {
     let mut marks = [UNMARKED; FEW];
-    summarized(call, local, edges, nodes, &mut marks)
+    summarized(rt, call, local, edges, nodes, &mut marks)
 }
 
-fn more(call: u64, local: u32, edges: &[u8], nodes: &[u8]) -> u64
+fn more(rt: &impl Print, call: u64, local: u32, edges: &[u8], nodes: &[u8]) -> u64
     ensures { result ≡ call }
 {
     let mut marks = [UNMARKED; MORE];
-    summarized(call, local, edges, nodes, &mut marks)
+    summarized(rt, call, local, edges, nodes, &mut marks)
 }
 
 // The lean judge on a state like the start, but that policy 0 has two openings and may be in state 6, as it is kept and by resource 0's
 // instance. All policies have these marks.
-fn judged(call: u64, marks: u64, local: u32, flag: u64, kind: u32, a: u32, b: u32) -> u64
+fn judged(
+    rt: &impl Print,
+    call: u64,
+    marks: u64,
+    local: u32,
+    flag: u64,
+    kind: u32,
+    a: u32,
+    b: u32,
+) -> u64
     ensures { result ≡ call }
 {
     let mut edges = [0u8; EDGE_FIELDS];
@@ -85,53 +101,53 @@ fn judged(call: u64, marks: u64, local: u32, flag: u64, kind: u32, a: u32, b: u3
         a,
         b,
     );
-    print::line(call, code);
+    print::line(rt, call, code);
     call
 }
 
 // The table, the choice of past, and tables of edges and nodes that are none.
-fn summary_calls() -> u64
+fn summary_calls(rt: &impl Print) -> u64
     ensures { result ≡ 16 }
 {
     // action 2 on static 3 breaks policy 0, in its sandbox; and before it
     let edges = [0u8, 0, 2, 0, 3, 6];
     let nodes = [8u8, 0, 1, 1, 2, 3];
     let before = [3u8, 1, 2, 1, 2, 3, 8, 0, 3, 0, 0, 0];
-    enough(1, 0, &edges, &nodes);
-    few(2, 0, &edges, &nodes);
-    more(3, 0, &edges, &nodes);
+    enough(rt, 1, 0, &edges, &nodes);
+    few(rt, 2, 0, &edges, &nodes);
+    more(rt, 3, 0, &edges, &nodes);
     let mut none = [UNMARKED; 1];
-    summarized(4, 0, &edges, &nodes, &mut none[0..0]);
-    enough(5, 1, &edges, &nodes);
-    enough(6, 2, &edges, &nodes);
-    few(7, 2, &edges, &nodes);
-    enough(8, 4294967295, &edges, &nodes);
-    enough(9, 0, &[0u8; 5], &[0u8; NODE_FIELDS]);
-    few(10, 0, &[0u8; 5], &[0u8; NODE_FIELDS]);
-    enough(11, 0, &[0u8; EDGE_FIELDS], &[9u8; NODE_FIELDS]);
-    few(12, 0, &[0u8; EDGE_FIELDS], &[9u8; NODE_FIELDS]);
-    enough(13, 0, &[0u8; EDGE_FIELDS], &[0u8; NODE_FIELDS]);
-    enough(14, 0, &edges, &before);
-    enough(15, 1, &edges, &before);
+    summarized(rt, 4, 0, &edges, &nodes, &mut none[0..0]);
+    enough(rt, 5, 1, &edges, &nodes);
+    enough(rt, 6, 2, &edges, &nodes);
+    few(rt, 7, 2, &edges, &nodes);
+    enough(rt, 8, 4294967295, &edges, &nodes);
+    enough(rt, 9, 0, &[0u8; 5], &[0u8; NODE_FIELDS]);
+    few(rt, 10, 0, &[0u8; 5], &[0u8; NODE_FIELDS]);
+    enough(rt, 11, 0, &[0u8; EDGE_FIELDS], &[9u8; NODE_FIELDS]);
+    few(rt, 12, 0, &[0u8; EDGE_FIELDS], &[9u8; NODE_FIELDS]);
+    enough(rt, 13, 0, &[0u8; EDGE_FIELDS], &[0u8; NODE_FIELDS]);
+    enough(rt, 14, 0, &edges, &before);
+    enough(rt, 15, 1, &edges, &before);
     16
 }
 
 // What the lean judge looks at; 41, 20, 42 and 21.
-pub(crate) fn calls() -> u64
+pub(crate) fn calls(rt: &impl Print) -> u64
     ensures { result ≡ 28 }
 {
-    summary_calls();
-    judged(16, 2, 0, 0, 0, 1, 0);
-    judged(17, ALL - 2, 0, 0, 0, 1, 0);
-    judged(18, OPENING, 0, 0, 0, 1, 0);
-    judged(19, OPENING, 0, 0, 1, 0, 0);
-    judged(20, ALL - OPENING, 0, 0, 1, 0, 0);
-    judged(21, ALL, 0, 0, 1, 1, 0);
-    judged(22, ALL, 0, 0, 2, 0, 0);
-    judged(23, ALL, 1, 0, 0, 1, 0);
-    judged(24, ALL, 2, 0, 0, 1, 0);
-    judged(25, ALL, 0, 1, 0, 1, 0);
-    judged(26, ALL, 0, 2, 0, 1, 0);
-    judged(27, ALL, 0, 0, 0, 32, 0);
+    summary_calls(rt);
+    judged(rt, 16, 2, 0, 0, 0, 1, 0);
+    judged(rt, 17, ALL - 2, 0, 0, 0, 1, 0);
+    judged(rt, 18, OPENING, 0, 0, 0, 1, 0);
+    judged(rt, 19, OPENING, 0, 0, 1, 0, 0);
+    judged(rt, 20, ALL - OPENING, 0, 0, 1, 0, 0);
+    judged(rt, 21, ALL, 0, 0, 1, 1, 0);
+    judged(rt, 22, ALL, 0, 0, 2, 0, 0);
+    judged(rt, 23, ALL, 1, 0, 0, 1, 0);
+    judged(rt, 24, ALL, 2, 0, 0, 1, 0);
+    judged(rt, 25, ALL, 0, 1, 0, 1, 0);
+    judged(rt, 26, ALL, 0, 2, 0, 1, 0);
+    judged(rt, 27, ALL, 0, 0, 0, 32, 0);
     28
 }

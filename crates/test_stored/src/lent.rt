@@ -146,11 +146,19 @@ fn judged(local: u32, s: Lent, kind: u32, a: u32, b: u32) -> Left
 }
 
 // The line of such a call: its number, the answer and its detail, and how many places are changed.
-pub(crate) fn show(call: u64, local: u32, s: Lent, kind: u32, a: u32, b: u32) -> u64
+pub(crate) fn show(
+    rt: &impl Print,
+    call: u64,
+    local: u32,
+    s: Lent,
+    kind: u32,
+    a: u32,
+    b: u32,
+) -> u64
     ensures { result ≡ call }
 {
     let left = judged(local, s, kind, a, b);
-    print::told(call, left.code, b" ");
-    print::number(left.changed, b"\n");
+    print::told(rt, call, left.code, b" ");
+    print::number(rt, left.changed, b"\n");
     call
 }

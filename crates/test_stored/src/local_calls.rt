@@ -40,20 +40,20 @@ fn sandbox(of_0: u8, of_1: u8, set: u8) -> Lent
 }
 
 // Openings of policy 0, which is not open, and of policy 1, which is; with the whole past and with that of the sandbox.
-fn step_calls() -> u64
+fn step_calls(rt: &impl Print) -> u64
     ensures { result ≡ 94 }
 {
-    lent::show(83, 0, sandbox(64, 1, 2), 1, 0, 0);
-    lent::show(84, 1, sandbox(64, 1, 2), 1, 0, 0);
-    lent::show(85, 1, sandbox(64, 64, 2), 1, 0, 0);
-    lent::show(86, 1, sandbox(64, 1, 2), 1, 1, 0);
-    lent::show(87, 1, sandbox(64, 64, 2), 1, 1, 0);
-    lent::show(88, 1, sandbox(64, 1, 2), 2, 1, 0);
-    lent::show(89, 1, sandbox(64, 1, 2), 0, 1, 5);
-    lent::show(90, 1, sandbox(2, 1, 64), 1, 0, 0);
-    lent::show(91, 2, sandbox(64, 1, 2), 1, 0, 0);
-    lent::show(92, WIDEST, sandbox(64, 1, 2), 0, 1, 5);
-    lent::show(93, 2, sandbox(64, 1, 2), 3, 0, 0);
+    lent::show(rt, 83, 0, sandbox(64, 1, 2), 1, 0, 0);
+    lent::show(rt, 84, 1, sandbox(64, 1, 2), 1, 0, 0);
+    lent::show(rt, 85, 1, sandbox(64, 64, 2), 1, 0, 0);
+    lent::show(rt, 86, 1, sandbox(64, 1, 2), 1, 1, 0);
+    lent::show(rt, 87, 1, sandbox(64, 64, 2), 1, 1, 0);
+    lent::show(rt, 88, 1, sandbox(64, 1, 2), 2, 1, 0);
+    lent::show(rt, 89, 1, sandbox(64, 1, 2), 0, 1, 5);
+    lent::show(rt, 90, 1, sandbox(2, 1, 64), 1, 0, 0);
+    lent::show(rt, 91, 2, sandbox(64, 1, 2), 1, 0, 0);
+    lent::show(rt, 92, WIDEST, sandbox(64, 1, 2), 0, 1, 5);
+    lent::show(rt, 93, 2, sandbox(64, 1, 2), 3, 0, 0);
     94
 }
 
@@ -64,48 +64,52 @@ const INSIDE: [u8; 6] = [8, 0, 1, 1, 2, 3];
 
 const BEFORE: [u8; 12] = [3, 1, 2, 1, 2, 3, 8, 0, 3, 0, 0, 0];
 
-fn check_calls() -> u64
+fn check_calls(rt: &impl Print) -> u64
     ensures { result ≡ 99 }
 {
     print::line(
+        rt,
         94,
         api_c::wiforekun_check(&[0u8; EDGE_FIELDS], 1, &[0u8; NODE_FIELDS]),
     );
     print::line(
+        rt,
         95,
         api_c::wiforekun_check(&[0u8; EDGE_FIELDS], 2, &[0u8; NODE_FIELDS]),
     );
     print::line(
+        rt,
         96,
         api_c::wiforekun_check(&[0u8; EDGE_FIELDS], WIDEST, &[0u8; NODE_FIELDS]),
     );
     let edges = OFFENDING;
     let nodes = BEFORE;
-    print::line(97, api_c::wiforekun_check(&edges, 0, &nodes));
-    print::line(98, api_c::wiforekun_check(&edges, 1, &nodes));
+    print::line(rt, 97, api_c::wiforekun_check(&edges, 0, &nodes));
+    print::line(rt, 98, api_c::wiforekun_check(&edges, 1, &nodes));
     99
 }
 
-fn explain_calls() -> u64
+fn explain_calls(rt: &impl Print) -> u64
     ensures { result ≡ 104 }
 {
     let edges = OFFENDING;
     let inside = INSIDE;
     let before = BEFORE;
-    trace_calls::explain_room(99, 1, &edges, &inside);
-    trace_calls::explain_room(100, 2, &edges, &inside);
-    trace_calls::explain_few(101, 2, &edges, &inside);
-    trace_calls::explain_room(102, 0, &edges, &before);
-    trace_calls::explain_room(103, 1, &edges, &before);
+    trace_calls::explain_room(rt, 99, 1, &edges, &inside);
+    trace_calls::explain_room(rt, 100, 2, &edges, &inside);
+    trace_calls::explain_few(rt, 101, 2, &edges, &inside);
+    trace_calls::explain_room(rt, 102, 0, &edges, &before);
+    trace_calls::explain_room(rt, 103, 1, &edges, &before);
     104
 }
 
 // The reader of policies: a local sheet, too small a table (40), and names lines that are neither (1).
-fn read_calls() -> u64
+fn read_calls(rt: &impl Print) -> u64
     ensures { result ≡ 108 }
 {
     let mut edges = [0u8; EDGE_TABLE];
     print::line(
+        rt,
         104,
         borders::policies_code(sheet_reader::read_policies(
             b"local from action on who to\n",
@@ -114,6 +118,7 @@ fn read_calls() -> u64
     );
     let mut few_edges = [0u8; FEW_EDGES];
     print::line(
+        rt,
         105,
         borders::policies_code(sheet_reader::read_policies(
             b"local from action on who to\n",
@@ -121,6 +126,7 @@ fn read_calls() -> u64
         )),
     );
     print::line(
+        rt,
         106,
         borders::policies_code(sheet_reader::read_policies(
             b"local from action on who to",
@@ -128,6 +134,7 @@ fn read_calls() -> u64
         )),
     );
     print::line(
+        rt,
         107,
         borders::policies_code(sheet_reader::read_policies(
             b"Local from action on who to\n",
@@ -137,11 +144,11 @@ fn read_calls() -> u64
     108
 }
 
-pub(crate) fn local_calls() -> u64
+pub(crate) fn local_calls(rt: &impl Print) -> u64
     ensures { result ≡ 108 }
 {
-    step_calls();
-    check_calls();
-    explain_calls();
-    read_calls()
+    step_calls(rt);
+    check_calls(rt);
+    explain_calls(rt);
+    read_calls(rt)
 }

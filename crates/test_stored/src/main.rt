@@ -19,19 +19,19 @@ mod rewritings;
 mod stored;
 mod trace_calls;
 
-fn main() {
-    stored::traces(1050);
-    stored::outlines(1000);
-    counterexamples::all(320);
-    rewritings::all(450);
-    borders::calls();
-    rewritings::calls();
-    expressions::all(900);
-    expressions::room_calls();
-    lean::summaries(b'o', 1000);
-    lean::summaries(b'c', 320);
-    lean::all(240);
-    lean_calls::calls();
-    desk_cases::all(300);
-    desk_calls::calls();
+fn main(rt: HostRuntime) {
+    stored::traces(&rt, 1050);
+    stored::outlines(&rt, 1000);
+    counterexamples::all(&rt, 320);
+    rewritings::all(&rt, 450);
+    borders::calls(&rt);
+    rewritings::calls(&rt);
+    expressions::all(&rt, 900);
+    expressions::room_calls(&rt);
+    lean::summaries(&rt, b'o', 1000);
+    lean::summaries(&rt, b'c', 320);
+    lean::all(&rt, 240);
+    lean_calls::calls(&rt);
+    desk_cases::all(&rt, 300);
+    desk_calls::calls(&rt);
 }

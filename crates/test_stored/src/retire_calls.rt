@@ -49,20 +49,21 @@ fn opened(mut s: Lent) -> Lent
 }
 
 // A highest number below, at and above a live one, in order and in none; with none live; and above 32 bits.
-fn highest_calls() -> u64
+fn highest_calls(rt: &impl Print) -> u64
     ensures { result ≡ 119 }
 {
-    lent::show(108, 0, living(2, 16, 40, 40), 0, 1, 5);
-    lent::show(109, 0, living(2, 16, 40, 39), 0, 1, 5);
-    lent::show(110, 0, living(2, 16, 40, 41), 0, 1, 5);
-    lent::show(111, 0, living(2, 40, 16, 40), 0, 1, 5);
-    lent::show(112, 0, living(2, 40, 16, 39), 0, 1, 5);
-    lent::show(113, 0, living(0, 40, 16, 0), 0, 1, 5);
-    lent::show(114, 0, living(0, 40, 16, 4294967295), 0, 1, 5);
-    lent::show(115, 0, living(0, 40, 16, 4294967296), 0, 1, 5);
-    lent::show(116, 0, living(2, 16, 40, 4294967336), 0, 1, 5);
-    lent::show(117, 0, living(2, 16, 40, 18446744073709551615), 0, 1, 5);
+    lent::show(rt, 108, 0, living(2, 16, 40, 40), 0, 1, 5);
+    lent::show(rt, 109, 0, living(2, 16, 40, 39), 0, 1, 5);
+    lent::show(rt, 110, 0, living(2, 16, 40, 41), 0, 1, 5);
+    lent::show(rt, 111, 0, living(2, 40, 16, 40), 0, 1, 5);
+    lent::show(rt, 112, 0, living(2, 40, 16, 39), 0, 1, 5);
+    lent::show(rt, 113, 0, living(0, 40, 16, 0), 0, 1, 5);
+    lent::show(rt, 114, 0, living(0, 40, 16, 4294967295), 0, 1, 5);
+    lent::show(rt, 115, 0, living(0, 40, 16, 4294967296), 0, 1, 5);
+    lent::show(rt, 116, 0, living(2, 16, 40, 4294967336), 0, 1, 5);
+    lent::show(rt, 117, 0, living(2, 16, 40, 18446744073709551615), 0, 1, 5);
     lent::show(
+        rt,
         118,
         0,
         order_calls::halted(living(0, 40, 16, 4294967296)),
@@ -74,46 +75,63 @@ fn highest_calls() -> u64
 }
 
 // Creates above the highest number, equal to it and below it.
-fn create_calls() -> u64
+fn create_calls(rt: &impl Print) -> u64
     ensures { result ≡ 128 }
 {
-    lent::show(119, 0, living(2, 16, 40, 40), 0, 0, 41);
-    lent::show(120, 0, living(2, 16, 40, 40), 0, 0, 40);
-    lent::show(121, 0, living(2, 16, 40, 40), 0, 0, 39);
-    lent::show(122, 0, living(2, 16, 40, 40), 0, 0, 16);
-    lent::show(123, 0, living(2, 16, 40, 41), 0, 0, 41);
-    lent::show(124, 0, living(0, 40, 16, 20), 0, 0, 20);
-    lent::show(125, 0, living(0, 40, 16, 20), 0, 0, 21);
-    lent::show(126, 0, living(0, 40, 16, 65535), 0, 0, 65535);
-    lent::show(127, 0, living(0, 40, 16, 4294967295), 0, 0, 65535);
+    lent::show(rt, 119, 0, living(2, 16, 40, 40), 0, 0, 41);
+    lent::show(rt, 120, 0, living(2, 16, 40, 40), 0, 0, 40);
+    lent::show(rt, 121, 0, living(2, 16, 40, 40), 0, 0, 39);
+    lent::show(rt, 122, 0, living(2, 16, 40, 40), 0, 0, 16);
+    lent::show(rt, 123, 0, living(2, 16, 40, 41), 0, 0, 41);
+    lent::show(rt, 124, 0, living(0, 40, 16, 20), 0, 0, 20);
+    lent::show(rt, 125, 0, living(0, 40, 16, 20), 0, 0, 21);
+    lent::show(rt, 126, 0, living(0, 40, 16, 65535), 0, 0, 65535);
+    lent::show(rt, 127, 0, living(0, 40, 16, 4294967295), 0, 0, 65535);
     128
 }
 
 // What a retiring joins and closes up, and what is refused.
-fn retire_calls() -> u64
+fn retire_calls(rt: &impl Print) -> u64
     ensures { result ≡ 141 }
 {
-    lent::show(128, 0, apart(living(2, 16, 40, 40)), 3, 16, 0);
-    lent::show(129, 0, apart(living(2, 16, 40, 40)), 3, 40, 0);
-    lent::show(130, 1, apart(living(2, 16, 40, 40)), 3, 16, 0);
-    lent::show(131, 0, living(2, 16, 40, 40), 3, 3, 0);
-    lent::show(132, 0, living(2, 16, 40, 40), 3, 17, 0);
-    lent::show(133, 0, living(1, 16, 40, 40), 3, 40, 0);
-    lent::show(134, 0, living(2, 16, 40, 40), 3, 65535, 0);
-    lent::show(135, 0, living(2, 16, 40, 40), 3, 65536, 0);
-    lent::show(136, 0, living(2, 16, 40, 40), 3, 16, 1);
-    lent::show(137, 0, living(2, 16, 40, 40), 4, 16, 0);
-    lent::show(138, 0, order_calls::halted(living(2, 16, 40, 40)), 3, 16, 0);
-    lent::show(139, 0, order_calls::halted(living(2, 16, 40, 39)), 3, 16, 0);
-    lent::show(140, 0, living(1, 16, 40, 40), 0, 1, 40);
+    lent::show(rt, 128, 0, apart(living(2, 16, 40, 40)), 3, 16, 0);
+    lent::show(rt, 129, 0, apart(living(2, 16, 40, 40)), 3, 40, 0);
+    lent::show(rt, 130, 1, apart(living(2, 16, 40, 40)), 3, 16, 0);
+    lent::show(rt, 131, 0, living(2, 16, 40, 40), 3, 3, 0);
+    lent::show(rt, 132, 0, living(2, 16, 40, 40), 3, 17, 0);
+    lent::show(rt, 133, 0, living(1, 16, 40, 40), 3, 40, 0);
+    lent::show(rt, 134, 0, living(2, 16, 40, 40), 3, 65535, 0);
+    lent::show(rt, 135, 0, living(2, 16, 40, 40), 3, 65536, 0);
+    lent::show(rt, 136, 0, living(2, 16, 40, 40), 3, 16, 1);
+    lent::show(rt, 137, 0, living(2, 16, 40, 40), 4, 16, 0);
+    lent::show(
+        rt,
+        138,
+        0,
+        order_calls::halted(living(2, 16, 40, 40)),
+        3,
+        16,
+        0,
+    );
+    lent::show(
+        rt,
+        139,
+        0,
+        order_calls::halted(living(2, 16, 40, 39)),
+        3,
+        16,
+        0,
+    );
+    lent::show(rt, 140, 0, living(1, 16, 40, 40), 0, 1, 40);
     141
 }
 
 // It is judged by what is kept, of a policy that is open; and an opening resets the set of the retired.
-fn kept_calls() -> u64
+fn kept_calls(rt: &impl Print) -> u64
     ensures { result ≡ 145 }
 {
     lent::show(
+        rt,
         141,
         0,
         order_calls::broken(opened(living(2, 16, 40, 40))),
@@ -121,17 +139,25 @@ fn kept_calls() -> u64
         16,
         0,
     );
-    lent::show(142, 0, order_calls::broken(living(2, 16, 40, 40)), 3, 16, 0);
-    lent::show(143, 0, apart(living(2, 16, 40, 40)), 1, 0, 0);
-    lent::show(144, 1, apart(living(2, 16, 40, 40)), 1, 0, 0);
+    lent::show(
+        rt,
+        142,
+        0,
+        order_calls::broken(living(2, 16, 40, 40)),
+        3,
+        16,
+        0,
+    );
+    lent::show(rt, 143, 0, apart(living(2, 16, 40, 40)), 1, 0, 0);
+    lent::show(rt, 144, 1, apart(living(2, 16, 40, 40)), 1, 0, 0);
     145
 }
 
-pub(crate) fn calls() -> u64
+pub(crate) fn calls(rt: &impl Print) -> u64
     ensures { result ≡ 145 }
 {
-    highest_calls();
-    create_calls();
-    retire_calls();
-    kept_calls()
+    highest_calls(rt);
+    create_calls(rt);
+    retire_calls(rt);
+    kept_calls(rt)
 }

@@ -1,11 +1,11 @@
 // The stored cases of the two programs: of trace n the sheets t/np and t/nt, of outline n the sheets o/np and o/no, four digits to a
 // number. What is printed is compared with what the reference program printed for them.
 ghost use Rattle.std.specs.Prelude.{◌≡◌, [], ◌∷◌, ◌+◌, ◌%◌, ◌/◌};
-ghost use Rattle.io.specs.Counts.{IsPrefixLen};
+ghost use Rattle.files.specs.Counts.{IsPrefixLen};
 
 use crate::print;
-use libc::STDOUT_FILENO;
 use sheet_lines::SHEET_ROOM;
+use std::rt::Files;
 
 // the last digit of n
 fn digit(n: u64) -> u8
@@ -37,64 +37,64 @@ fn name(folder: u8, n: u64, which: u8) -> Path
 }
 
 // The line before a case, printed; its number is handed back.
-pub(crate) fn announced(n: u64) -> u64
+pub(crate) fn announced(rt: &impl Print, n: u64) -> u64
     ensures { result ≡ n }
 {
-    io::write_all(STDOUT_FILENO, b"case ");
-    print::number(n, b"\n")
+    let _ = rt.write_all(b"case ");
+    print::number(rt, n, b"\n")
 }
 
 // A sheet of case n, read; how many bytes it has.
-pub(crate) fn sheet(folder: u8, n: u64, which: u8, text: &mut [u8]) -> usize
+pub(crate) fn sheet(rt: &impl Files, folder: u8, n: u64, which: u8, text: &mut [u8]) -> usize
     ensures { IsPrefixLen result text.new }
 {
     let path = name(folder, n, which);
     let bytes = path.bytes;
-    files::read_file(&bytes, text)
+    files::read_file(rt, &bytes, text)
 }
 
-fn trace_case(n: u64) -> u64
+fn trace_case(rt: &(impl Files + Print), n: u64) -> u64
     ensures { result ≡ n }
 {
     let mut policies = [0u8; SHEET_ROOM];
     let mut trace = [0u8; SHEET_ROOM];
     let mut out = [0u8; report::TRACE_ROOM];
-    let p = sheet(b't', n, b'p', &mut policies);
-    let t = sheet(b't', n, b't', &mut trace);
+    let p = sheet(rt, b't', n, b'p', &mut policies);
+    let t = sheet(rt, b't', n, b't', &mut trace);
     let k = report::report_trace(&policies[..p], &trace[..t], &mut out);
-    announced(n);
-    files::print(&out, k);
+    announced(rt, n);
+    files::print(rt, &out, k);
     n
 }
 
-fn outline_case(n: u64) -> u64
+fn outline_case(rt: &(impl Files + Print), n: u64) -> u64
     ensures { result ≡ n }
 {
     let mut policies = [0u8; SHEET_ROOM];
     let mut outline = [0u8; SHEET_ROOM];
     let mut out = [0u8; report::OUTLINE_ROOM];
-    let p = sheet(b'o', n, b'p', &mut policies);
-    let o = sheet(b'o', n, b'o', &mut outline);
+    let p = sheet(rt, b'o', n, b'p', &mut policies);
+    let o = sheet(rt, b'o', n, b'o', &mut outline);
     let k = report::report_outline(&policies[..p], &outline[..o], &mut out);
-    announced(n);
-    files::print(&out, k);
+    announced(rt, n);
+    files::print(rt, &out, k);
     n
 }
 
-pub(crate) fn traces(count: u64) -> u64
+pub(crate) fn traces(rt: &(impl Files + Print), count: u64) -> u64
     ensures { result ≡ count }
 {
     for n in 0..count {
-        trace_case(n);
+        trace_case(rt, n);
     }
     count
 }
 
-pub(crate) fn outlines(count: u64) -> u64
+pub(crate) fn outlines(rt: &(impl Files + Print), count: u64) -> u64
     ensures { result ≡ count }
 {
     for n in 0..count {
-        outline_case(n);
+        outline_case(rt, n);
     }
     count
 }

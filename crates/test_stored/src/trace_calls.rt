@@ -46,57 +46,70 @@ fn kept(trace: &[u32]) -> usize
 
 // The line of a call of the check with a counterexample: after the detail the length, how many numbers are written from the first on,
 // and how many are kept.
-pub(crate) fn explain(call: u64, local: u32, edges: &[u8], nodes: &[u8], trace: &mut [u32]) -> u64
+pub(crate) fn explain(
+    rt: &impl Print,
+    call: u64,
+    local: u32,
+    edges: &[u8],
+    nodes: &[u8],
+    trace: &mut [u32],
+) -> u64
     ensures { result ≡ call }
 {
     let code = api_c::wiforekun_counterexample(edges, local, nodes, trace);
-    print::told(call, code % 65536, b" ");
-    print::number(code as u64 / 65536, b" ");
-    print::number(written(trace) as u64, b" ");
-    print::number(kept(trace) as u64, b"\n");
+    print::told(rt, call, code % 65536, b" ");
+    print::number(rt, code as u64 / 65536, b" ");
+    print::number(rt, written(trace) as u64, b" ");
+    print::number(rt, kept(trace) as u64, b"\n");
     call
 }
 
 // It, lent as many numbers as are needed, one too few, and one more.
-pub(crate) fn explain_room(call: u64, local: u32, edges: &[u8], nodes: &[u8]) -> u64
+pub(crate) fn explain_room(
+    rt: &impl Print,
+    call: u64,
+    local: u32,
+    edges: &[u8],
+    nodes: &[u8],
+) -> u64
     ensures { result ≡ call }
 {
     let mut trace = [MARK; MOST_NUMBERS];
-    explain(call, local, edges, nodes, &mut trace)
+    explain(rt, call, local, edges, nodes, &mut trace)
 }
 
-pub(crate) fn explain_few(call: u64, local: u32, edges: &[u8], nodes: &[u8]) -> u64
+pub(crate) fn explain_few(rt: &impl Print, call: u64, local: u32, edges: &[u8], nodes: &[u8]) -> u64
     ensures { result ≡ call }
 {
     let mut trace = [MARK; FEW_NUMBERS];
-    explain(call, local, edges, nodes, &mut trace)
+    explain(rt, call, local, edges, nodes, &mut trace)
 }
 
-fn explain_more(call: u64, local: u32, edges: &[u8], nodes: &[u8]) -> u64
+fn explain_more(rt: &impl Print, call: u64, local: u32, edges: &[u8], nodes: &[u8]) -> u64
     ensures { result ≡ call }
 {
     let mut trace = [MARK; MORE_NUMBERS];
-    explain(call, local, edges, nodes, &mut trace)
+    explain(rt, call, local, edges, nodes, &mut trace)
 }
 
 // The lent trace table: 40 before 41, and what is left in it.
-pub(crate) fn trace_calls() -> u64
+pub(crate) fn trace_calls(rt: &impl Print) -> u64
     ensures { result ≡ 44 }
 {
     // action 2 on static 3 breaks policy 0, in its sandbox
     let edges = [0u8, 0, 2, 0, 3, 6];
     let nodes = [8u8, 0, 1, 1, 2, 3];
-    explain_room(34, 0, &edges, &nodes);
-    explain_more(35, 0, &edges, &nodes);
-    explain_few(36, 0, &edges, &nodes);
+    explain_room(rt, 34, 0, &edges, &nodes);
+    explain_more(rt, 35, 0, &edges, &nodes);
+    explain_few(rt, 36, 0, &edges, &nodes);
     let mut none = [MARK; 1];
-    explain(37, 0, &edges, &nodes, &mut none[0..0]);
-    explain_few(38, 0, &[0u8; 5], &[0u8; NODE_FIELDS]);
-    explain_room(39, 0, &[0u8; 5], &[0u8; NODE_FIELDS]);
-    explain_room(40, 0, &[0u8; EDGE_FIELDS], &[9u8; NODE_FIELDS]);
-    explain_few(41, 0, &[0u8; EDGE_FIELDS], &[9u8; NODE_FIELDS]);
-    explain_room(42, 0, &[0u8; EDGE_FIELDS], &[0u8; NODE_FIELDS]);
-    explain_few(43, 0, &[0u8; EDGE_FIELDS], &[0u8; NODE_FIELDS]);
+    explain(rt, 37, 0, &edges, &nodes, &mut none[0..0]);
+    explain_few(rt, 38, 0, &[0u8; 5], &[0u8; NODE_FIELDS]);
+    explain_room(rt, 39, 0, &[0u8; 5], &[0u8; NODE_FIELDS]);
+    explain_room(rt, 40, 0, &[0u8; EDGE_FIELDS], &[9u8; NODE_FIELDS]);
+    explain_few(rt, 41, 0, &[0u8; EDGE_FIELDS], &[9u8; NODE_FIELDS]);
+    explain_room(rt, 42, 0, &[0u8; EDGE_FIELDS], &[0u8; NODE_FIELDS]);
+    explain_few(rt, 43, 0, &[0u8; EDGE_FIELDS], &[0u8; NODE_FIELDS]);
     44
 }
 
@@ -115,15 +128,15 @@ const ROUNDS: [u8; 75] = [
 ];
 
 // Traces of 200 and 201 steps: openings, and six rounds of 33 steps. A loop in the place of the second opening takes no step.
-pub(crate) fn long_calls() -> u64
+pub(crate) fn long_calls(rt: &impl Print) -> u64
     ensures { result ≡ 46 }
 {
     let edges = SIXTH;
     let mut nodes = ROUNDS;
-    explain_room(44, 0, &edges, &nodes);
+    explain_room(rt, 44, 0, &edges, &nodes);
     nodes[3] = 8;
     nodes[4] = 1;
     nodes[5] = 2;
-    explain_room(45, 0, &edges, &nodes);
+    explain_room(rt, 45, 0, &edges, &nodes);
     46
 }

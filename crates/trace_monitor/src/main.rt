@@ -4,12 +4,12 @@
 
 use sheet_lines::SHEET_ROOM;
 
-fn main() {
+fn main(rt: HostRuntime) {
     let mut policies = [0u8; SHEET_ROOM];
     let mut trace = [0u8; SHEET_ROOM];
-    let p = files::read_sheet(b"policies.txt", &mut policies);
-    let t = files::read_sheet(b"trace.txt", &mut trace);
+    let p = files::read_sheet(&rt, b"policies.txt", &mut policies);
+    let t = files::read_sheet(&rt, b"trace.txt", &mut trace);
     let mut out = [0u8; report::TRACE_ROOM];
     let n = report::report_trace(&policies[..p], &trace[..t], &mut out);
-    files::print(&out, n);
+    files::print(&rt, &out, n);
 }

@@ -5,7 +5,7 @@ use lib.ListN.{length}
 use Rattle.test_stored.proofs.desk_cases.take.Given as goal
 
 abbrev pub invariant-loop-i : goal.invariant-loop-i
-invariant-loop-i l = (l.i ≤ 2000) × (length l.state ≡ length l.initial.state)
+invariant-loop-i g l = (l.i ≤ 2000) × (length l.state ≡ length l.initial.state)
 
 abbrev pub decreases-loop-i : goal.decreases-loop-i
-decreases-loop-i l = 2000 - l.i
+decreases-loop-i g l = 2000 - l.i

@@ -5,7 +5,7 @@ use Rattle.usage.specs.Limits.{step_fields}
 use Rattle.test_stored.proofs.lean.follow.Given as goal
 
 abbrev pub invariant-loop-i : goal.invariant-loop-i
-invariant-loop-i l = (l.steps ≡ length l.trace / step_fields) × (l.i ≤ l.steps)
+invariant-loop-i g l = (l.steps ≡ length l.trace / step_fields) × (l.i ≤ l.steps)
 
 abbrev pub decreases-loop-i : goal.decreases-loop-i
-decreases-loop-i l = l.steps - l.i
+decreases-loop-i g l = l.steps - l.i

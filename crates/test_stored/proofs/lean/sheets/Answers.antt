@@ -6,7 +6,7 @@ use borrow.Author.Rules.{rules}
 use Rattle.test_stored.proofs.lean.sheets.Goals as goal
 
 pub overflow_mul-k : goal.overflow_mul-k
-overflow_mul-k c =
+overflow_mul-k g c =
     let a = c.args in
     let r = c.read_policies-reading in
     let n = c.in-Stored.k in
@@ -15,7 +15,7 @@ overflow_mul-k c =
     search rules
 
 pub slice_bounds-steps-end : goal.slice_bounds-steps-end
-slice_bounds-steps-end c =
+slice_bounds-steps-end g c =
     let a = c.args in
     let r = c.read_policies-reading in
     let n = c.in-Stored.k in

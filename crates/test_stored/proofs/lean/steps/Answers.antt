@@ -6,7 +6,7 @@ use borrow.Author.Rules.{rules}
 use Rattle.test_stored.proofs.lean.steps.Goals as goal
 
 pub overflow_mul-k : goal.overflow_mul-k
-overflow_mul-k c =
+overflow_mul-k g c =
     let a = c.args in
     let r = c.read_trace-reading in
     let n = c.in-Stored.k in
@@ -15,7 +15,7 @@ overflow_mul-k c =
     search rules
 
 pub slice_bounds-outline-end : goal.slice_bounds-outline-end
-slice_bounds-outline-end c =
+slice_bounds-outline-end g c =
     let a = c.args in
     let r = c.read_trace-reading in
     let n = c.in-Stored.k in

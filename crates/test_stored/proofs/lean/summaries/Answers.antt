@@ -2,7 +2,7 @@ use Prim.Native.Nat.{◌-◌}
 use Rattle.test_stored.proofs.lean.summaries.Goals as goal
 
 pub loop-n-init : goal.loop-n-init
-loop-n-init c = tt
+loop-n-init g c = tt
 
 pub loop-n-preserved : goal.loop-n-preserved
-loop-n-preserved c = tt
+loop-n-preserved g c = tt

@@ -1,0 +1,2 @@
+-- What the contracts of the reading of files cite.
+pub mod Counts
