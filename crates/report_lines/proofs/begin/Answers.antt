@@ -1,11 +1,10 @@
-use lib.Seq.{sets}
 use native.Mathlib.Numerals.{add-one}
 use Rattle.report_lines.proofs.PutLaws.{sets-further}
 use Rattle.report_lines.proofs.FitLaws.{put-fits, end_fits, put-lacks, end-lacks}
 use native.Mathlib.Omega.{arith}
 use mathlib.Core.Path.{◌≡◌, sym, ◌∙◌}
-use Prim.Native.Nat.{◌+◌, ◌-◌, ◌≤◌, ◌<◌}
-use lib.ListN.{length, take}
+use Prim.Native.Nat.{◌+◌, ◌≤◌, ◌<◌}
+use lib.ListN.{length}
 use lib.Seq.{take-length}
 use borrow.Author.Rules.{rules}
 use Rattle.report_lines.proofs.begin.Goals as goal

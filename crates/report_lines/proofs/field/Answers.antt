@@ -1,10 +1,10 @@
 use native.Mathlib.Omega.{arith}
-use mathlib.Core.Path.{refl, sym, ap, ◌∙◌}
+use mathlib.Core.Path.{sym, ap, ◌∙◌}
 use Prim.Native.Nat.{◌+◌, ◌<◌}
 use lib.ListN.{length, set, length-set}
 use lib.Seq.{length-sets}
 use Rattle.report_lines.specs.Decimal.{digit_byte, decimal}
-use Rattle.report_lines.proofs.DecimalLaws.{decimal-one, length-one}
+use Rattle.report_lines.proofs.DecimalLaws.{length-one}
 use Rattle.report_lines.proofs.PutLaws.{sets-field, sets-digit}
 use borrow.Author.Rules.{rules}
 use Rattle.report_lines.proofs.field.Goals as goal
@@ -28,8 +28,12 @@ pub returns-then-n-ge10 : goal.returns-then-n-ge10
 returns-then-n-ge10 c =
     let a = c.args in
     let n = c.number-last in
-    let k = ap length n.ensures.out_after ∙ length-sets _ _ (decimal a.n) in record { value = omega arith; out_after = rw (n.ensures.out_after, n.ensures.value) (sym (sets-field _ _ a.n a.end)); out_len_unchanged = length-set n.new.out n.result a.end
-            ∙ k }
+    let k = ap length n.ensures.out_after ∙ length-sets _ _ (decimal a.n) in record {
+      value = omega arith;
+      out_after = rw (n.ensures.out_after, n.ensures.value) (sym (sets-field _ _ a.n a.end));
+      out_len_unchanged = length-set n.new.out n.result a.end
+          ∙ k;
+    }
 
 pub bounds-out-at-2 : goal.bounds-out-at-2
 bounds-out-at-2 c =

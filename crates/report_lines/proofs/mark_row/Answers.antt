@@ -34,5 +34,8 @@ returns c =
     let h = c.field in
     let l : a.at + length t ≤ length a.out.now = omega arith in
     let x = f.ensures.value in
-    let y = h.ensures.value in record { value = rw (end_fits a.out.now a.at t l) (omega arith); out_after = rw (put-fits a.out.now a.at t l, h.ensures.out_after, f.ensures.out_after, f.ensures.value)
-          (sym (sets-mark _ _ a.policy a.action)) }
+    let y = h.ensures.value in record {
+      value = rw (end_fits a.out.now a.at t l) (omega arith);
+      out_after = rw (put-fits a.out.now a.at t l, h.ensures.out_after, f.ensures.out_after, f.ensures.value)
+          (sym (sets-mark _ _ a.policy a.action));
+    }

@@ -37,5 +37,8 @@ returns c =
     let i = f.ensures.value in
     let l : a.at + length t ≤ length a.out.now = omega arith in
     let z = stored_at _ f.result (row a.kind a.a a.b) (omega arith) h.ensures.value h.ensures.out_after in
-    let x = z.0 in record { value = rw (end_fits a.out.now a.at t l) (omega arith); out_after = rw (put-fits a.out.now a.at t l, z.1, f.ensures.out_after, f.ensures.value)
-          (sym (sets-numbered _ _ a.number a.kind a.a a.b)) }
+    let x = z.0 in record {
+      value = rw (end_fits a.out.now a.at t l) (omega arith);
+      out_after = rw (put-fits a.out.now a.at t l, z.1, f.ensures.out_after, f.ensures.value)
+          (sym (sets-numbered _ _ a.number a.kind a.a a.b));
+    }

@@ -1,6 +1,5 @@
 use native.Mathlib.Omega.{arith}
 use mathlib.Core.Path.{sym}
-use Prim.Native.Nat.{◌+◌, ◌<◌}
 use Rattle.report_lines.proofs.PutLaws.{length_three, sets-three}
 use Rattle.report_lines.proofs.three.Goals as goal
 
@@ -22,5 +21,8 @@ returns c =
     let e = length_three a.a a.b a.c a.end in
     let f = c.field-second in
     let g = c.field-third in
-    let h = c.field in record { value = omega arith; out_after = rw (h.ensures.out_after, g.ensures.out_after, g.ensures.value, f.ensures.out_after, f.ensures.value)
-          (sym (sets-three _ _ a.a a.b a.c a.end)) }
+    let h = c.field in record {
+      value = omega arith;
+      out_after = rw (h.ensures.out_after, g.ensures.out_after, g.ensures.value, f.ensures.out_after, f.ensures.value)
+          (sym (sets-three _ _ a.a a.b a.c a.end));
+    }

@@ -51,6 +51,9 @@ returns c =
     let z = c.three.ensures in
     let six : length a.v ≡ 6 = search rules in
     let text : first ++ second ≡ values_line a.v = sym (six-threes a.v six) in
-    let l : a.at + values_room ≤ length a.out.now = omega arith in record { value = z.value ∙ omega (arith, w.value, length-append first second) ∙ ap (λ (t : List ℕ). a.at + length t) text
-          ∙ sym (end-within-fits values_room a.out.now a.at (values_line a.v) l); out_after = z.out_after ∙ ap₂ (λ (o : List ℕ) (i : ℕ). sets o i second) w.out_after w.value ∙ sym (sets-append a.out.now a.at first second)
-          ∙ ap (sets a.out.now a.at) text ∙ sym (within-fits values_room a.out.now a.at (values_line a.v) l) }
+    let l : a.at + values_room ≤ length a.out.now = omega arith in record {
+      value = z.value ∙ omega (arith, w.value, length-append first second) ∙ ap (λ (t : List ℕ). a.at + length t) text
+          ∙ sym (end-within-fits values_room a.out.now a.at (values_line a.v) l);
+      out_after = z.out_after ∙ ap₂ (λ (o : List ℕ) (i : ℕ). sets o i second) w.out_after w.value ∙ sym (sets-append a.out.now a.at first second)
+          ∙ ap (sets a.out.now a.at) text ∙ sym (within-fits values_room a.out.now a.at (values_line a.v) l);
+    }

@@ -1,0 +1,4 @@
+use Rattle.report_lines.proofs.+width.Given as goal
+
+abbrev pub decreases-width : goal.decreases-width
+decreases-width l = l.n
