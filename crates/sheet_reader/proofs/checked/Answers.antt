@@ -7,7 +7,6 @@ use Rattle.sheet_reader.specs.Code.{picked}
 use Rattle.sheet_reader.proofs.OutlineLaws.{front}
 use mathlib.Core.Path.{sym, ◌∙◌}
 use Prim.Native.Nat.{◌-◌}
-use Rattle.sheet_reader.proofs.checked.Reads as reads
 use Rattle.sheet_reader.proofs.checked.Goals as goal
 
 pub returns : goal.returns

@@ -4,7 +4,6 @@ use Rattle.sheet_lines.proofs.SheetLaws.{refused-fills}
 use Rattle.sheet_reader.specs.Readers.{roomy}
 use Rattle.sheet_reader.specs.Code.{needed}
 use Rattle.sheet_reader.proofs.ReaderLaws.{too_small, has_room}
-use Rattle.sheet_reader.proofs.read.Reads as reads
 use Rattle.sheet_reader.proofs.read.Goals as goal
 
 pub returns-then-places-largest : goal.returns-then-places-largest

@@ -9,17 +9,7 @@ use Rattle.sheet_reader.proofs.OutlineLaws.{outline-refused, outline-stores, ref
 use native.Mathlib.Omega.{arith}
 use mathlib.Core.Path.{sym, ap, ◌∙◌}
 use lib.ListN.{length}
-use Rattle.sheet_reader.proofs.read_outline.Reads as reads
 use Rattle.sheet_reader.proofs.read_outline.Goals as goal
-
--- what stands in the buffer after an accepted sheet
-held : (c : tie.After-known-told)
-    → Kept outline_sheet (length c.before.before.before.before.before.before.before.args.table.now) node_places
-    c.before.before.before.before.before.before.before.args.text.now c.before.before.before.read.new.1.1.1.0
-    c.before.r.given.0.0
-held c =
-    kept outline_sheet _ node_places _ _ _ _ (rw c.before.r.given.1 at c.before.before.before.read.ensures.0)
-    c.before.before.before.read.ensures.1
 
 pub returns-in_default : goal.returns-in_default
 unfolding outline_into
@@ -33,12 +23,12 @@ returns-in_default c =
 
 pub checked-f-requires : goal.checked-f-requires
 checked-f-requires c =
-    let k = held c in
+    let k : Kept outline_sheet (length c.args.table.now) node_places c.args.text.now c.read-r.new.buffer c.in-Stored.n = kept outline_sheet _ node_places _ _ _ _ (rw c.in-Stored.is at c.read-r.ensures.result_value) c.read-r.ensures.buffer_after in
     record { n_le_most_nodes = few outline_sheet _ _ _ _ _ k; by_index = bounded outline_sheet _ _ _ _ _ k 256 (omega arith) (nodes-below k.ok.each) }
 
 pub store_bytes-requires : goal.store_bytes-requires
 store_bytes-requires c =
-    let k = held c in
+    let k : Kept outline_sheet (length c.args.table.now) node_places c.args.text.now c.read-r.new.buffer c.in-Stored.n = kept outline_sheet _ node_places _ _ _ _ (rw c.in-Stored.is at c.read-r.ensures.result_value) c.read-r.ensures.buffer_after in
     let f = few outline_sheet _ _ _ _ _ k in
     let l = k.room in
     record { n_le_most_edges = omega arith; pick_in_bounds = omega arith; by_index = bounded outline_sheet _ _ _ _ _ k 256 (omega arith) (nodes-below k.ok.each) }
@@ -47,7 +37,7 @@ pub returns-in-Refused : goal.returns-in-Refused
 unfolding outline_into
 returns-in-Refused c =
     let a = c.args in
-    let k = held c in
+    let k : Kept outline_sheet (length c.args.table.now) node_places c.args.text.now c.read-r.new.buffer c.in-Stored.n = kept outline_sheet _ node_places _ _ _ _ (rw c.in-Stored.is at c.read-r.ensures.result_value) c.read-r.ensures.buffer_after in
     let e = outline-refused _ _ _ _ _ k c.in-Refused.line c.in-Refused.number
     (sym c.checked-f.ensures ∙ ap fault c.in-Refused.is) in
     let h = refused-reads (roomy (length a.table.now) node_places (ruled_result (sheet outline_sheet a.text.now)))
@@ -57,7 +47,8 @@ returns-in-Refused c =
 pub returns-in-Clean : goal.returns-in-Clean
 unfolding outline_into
 returns-in-Clean c =
+    let k : Kept outline_sheet (length c.args.table.now) node_places c.args.text.now c.read-r.new.buffer c.in-Stored.n = kept outline_sheet _ node_places _ _ _ _ (rw c.in-Stored.is at c.read-r.ensures.result_value) c.read-r.ensures.buffer_after in
     let t = c.args.table.now in
-    let h = outline-stores _ _ _ _ _ (held c) t
+    let h = outline-stores _ _ _ _ _ k t
     (sym c.checked-f.ensures ∙ ap fault c.in-Clean.is) in
     record { result_value = h.answers; table_after = c.store_bytes.ensures ∙ h.table }

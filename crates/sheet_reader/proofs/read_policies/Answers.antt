@@ -9,20 +9,9 @@ use mathlib.Core.Path.{◌∙◌}
 use lib.ListN.{length}
 use Rattle.sheet_reader.proofs.read_policies.Goals as goal
 
--- what stands in the buffer after an accepted sheet
-held : (c : tie.After-known-told2)
-    → Kept (policy_sheet (is_local c.before.before.before.before.before.before.before.before.args.text.now))
-    (length c.before.before.before.before.before.before.before.before.args.table.now) edge_places
-    c.before.before.before.before.before.before.before.before.args.text.now
-    c.before.before.before.read.new.1.1.1.0 c.before.r2.given.0.0
-held c =
-    let local = c.before.before.before.before.before.is-local in
-    policies-kept _ _ local.result local.ensures _ _ _ (rw c.before.r2.given.1 at c.before.before.before.read.ensures.0)
-    c.before.before.before.read.ensures.1
-
 pub store_bytes-requires : goal.store_bytes-requires
 store_bytes-requires c =
-    let k = held c in
+    let k : Kept (policy_sheet (is_local c.args.text.now)) (length c.args.table.now) edge_places c.args.text.now c.read-r.new.buffer c.in-Stored.edges = policies-kept _ _ c.is_local-local.result c.is_local-local.ensures _ _ _ (rw c.in-Stored.is at c.read-r.ensures.result_value) c.read-r.ensures.buffer_after in
     let local = is_local c.args.text.now in
     let f = few (policy_sheet local) _ _ _ _ _ k in
     let l = k.room in
@@ -42,5 +31,6 @@ returns-in-Refused c =
 pub returns-in-Stored : goal.returns-in-Stored
 unfolding policies_into
 returns-in-Stored c =
+    let k : Kept (policy_sheet (is_local c.args.text.now)) (length c.args.table.now) edge_places c.args.text.now c.read-r.new.buffer c.in-Stored.edges = policies-kept _ _ c.is_local-local.result c.is_local-local.ensures _ _ _ (rw c.in-Stored.is at c.read-r.ensures.result_value) c.read-r.ensures.buffer_after in
     let a = c.args in
-    let h = stores (policy_sheet (is_local a.text.now)) _ _ _ _ _ (held c) a.table.now in record { result_value = answered-edges (is_local a.text.now) _ _ _ c.is_local-local.ensures h.answers; table_after = c.store_bytes.ensures ∙ h.table }
+    let h = stores (policy_sheet (is_local a.text.now)) _ _ _ _ _ k a.table.now in record { result_value = answered-edges (is_local a.text.now) _ _ _ c.is_local-local.ensures h.answers; table_after = c.store_bytes.ensures ∙ h.table }

@@ -6,17 +6,7 @@ use Rattle.sheet_reader.proofs.ReaderLaws.{refused-reads, refusal-result, Kept, 
 use native.Mathlib.Omega.{arith}
 use mathlib.Core.Path.{◌∙◌}
 use lib.ListN.{length}
-use Rattle.sheet_reader.proofs.read_trace.Reads as reads
 use Rattle.sheet_reader.proofs.read_trace.Goals as goal
-
--- what stands in the buffer after an accepted sheet
-held : (c : tie.After-known-told)
-    → Kept trace_sheet (length c.before.before.before.before.before.before.before.args.table.now) step_places
-    c.before.before.before.before.before.before.before.args.text.now c.before.before.before.read.new.1.1.1.0
-    c.before.r.given.0.0
-held c =
-    kept trace_sheet _ step_places _ _ _ _ (rw c.before.r.given.1 at c.before.before.before.read.ensures.0)
-    c.before.before.before.read.ensures.1
 
 pub returns-in_default : goal.returns-in_default
 unfolding trace_into
@@ -29,7 +19,7 @@ returns-in_default c =
 
 pub store_numbers-requires : goal.store_numbers-requires
 store_numbers-requires c =
-    let k = held c in
+    let k : Kept trace_sheet (length c.args.table.now) step_places c.args.text.now c.read-r.new.buffer c.in-Stored.n = kept trace_sheet _ step_places _ _ _ _ (rw c.in-Stored.is at c.read-r.ensures.result_value) c.read-r.ensures.buffer_after in
     let f = few trace_sheet _ _ _ _ _ k in
     let l = k.room in
     record { n_le_most_steps = omega arith; step_fields_in_bounds = omega arith }
@@ -37,6 +27,7 @@ store_numbers-requires c =
 pub returns : goal.returns
 unfolding trace_into
 returns c =
-    let h = stores trace_sheet _ _ _ _ _ (held c)
+    let k : Kept trace_sheet (length c.args.table.now) step_places c.args.text.now c.read-r.new.buffer c.in-Stored.n = kept trace_sheet _ step_places _ _ _ _ (rw c.in-Stored.is at c.read-r.ensures.result_value) c.read-r.ensures.buffer_after in
+    let h = stores trace_sheet _ _ _ _ _ k
     c.args.table.now in
     record { result_value = h.answers; table_after = c.store_numbers.ensures ∙ h.table }

@@ -1,10 +1,9 @@
 use Prim.Native.Nat.{◌*◌}
 use Rattle.sheet_reader.specs.Code.{buffer_place}
-use Rattle.sheet_reader.proofs.StoreLaws.{Filled, none_filled, one-filled, all-filled, place-fits, few_bytes}
+use Rattle.sheet_reader.proofs.StoreLaws.{none_filled, one-filled, all-filled, place-fits, few_bytes}
 use native.Mathlib.Omega.{arith}
-use Prim.Native.Nat.{◌-◌, ◌≤◌}
+use Prim.Native.Nat.{◌≤◌}
 use lib.ListN.{length, get_or}
-use Rattle.sheet_reader.proofs.store_bytes.Reads as reads
 use borrow.Author.Rules.{rules}
 use Rattle.sheet_reader.proofs.store_bytes.Goals as goal
 

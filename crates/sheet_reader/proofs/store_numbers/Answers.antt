@@ -1,7 +1,6 @@
 use Prim.Native.Nat.{◌*◌}
 use Rattle.usage.specs.Limits.{step_fields}
-use Rattle.sheet_reader.proofs.StoreLaws.{Filled, none_filled, one-filled, all-filled}
-use Prim.Native.Nat.{◌-◌}
+use Rattle.sheet_reader.proofs.StoreLaws.{none_filled, one-filled, all-filled}
 use lib.ListN.{get_or}
 use Rattle.sheet_reader.proofs.store_numbers.Goals as goal
 
