@@ -10,7 +10,7 @@ use lib.ListN.{length, get_or, set, replicate, length-replicate, length-set, get
 use lib.Seq.{get_or-set_same, get_or-set_other}
 use Rattle.usage.specs.declared.Edge.{Edge}
 use Rattle.usage.specs.Limits.{most_shown}
-use Rattle.usage.specs.Outline.{Form, form_of, Is}
+use Rattle.usage.specs.Outline.{Form, Is}
 use Rattle.usage.specs.Valid.{Scope}
 use Rattle.usage.specs.Tables.{nodes_of}
 use Rattle.usage.proofs.Logic.{false-true}

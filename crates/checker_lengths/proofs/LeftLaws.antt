@@ -1,5 +1,5 @@
 -- Filling node by node: the nodes that are left, and what those that do not read a node keep.
-use Prim.Native.Nat.{ℕ, suc, ◌+◌, ◌-◌, ◌*◌, ◌/◌, ◌^◌, ◌<◌, ◌≤◌}
+use Prim.Native.Nat.{ℕ, ◌+◌, ◌-◌, ◌*◌, ◌/◌, ◌^◌, ◌<◌, ◌≤◌}
 use mathlib.Core.Path.{◌≡◌, refl, sym, ap, ◌∙◌, subst}
 use mathlib.Core.Bool.{Bool, true, false, cond}
 use mathlib.Core.Option.{Option, none, some}
@@ -11,7 +11,7 @@ use lib.Bits.{bit_or, or_lt}
 use lib.Pow.{pow_pos, ones_lt}
 use lib.ListN.{length, get_or, replicate, length-replicate}
 use Rattle.usage.specs.Limits.{most_nodes, node_fields}
-use Rattle.usage.specs.Outline.{Form, end, static_event, named_event, sequence, choice, loop, back, fresh, sandbox, form_of}
+use Rattle.usage.specs.Outline.{Form, end, static_event, named_event, sequence, choice, loop, back, fresh, sandbox}
 use Rattle.usage.proofs.Logic.{not-both}
 use Rattle.automaton.specs.Mask.{has}
 use Rattle.automaton.proofs.MaskLaws.{has-zero}
@@ -22,14 +22,13 @@ use Rattle.checker_tables.specs.Work.{readers_of}
 use Rattle.checker_tables.proofs.WorkLaws.{all_left, neither, reader-in, readers-below}
 use Rattle.checker_lengths.specs.declared.Entry.{Entry}
 use Rattle.checker_lengths.specs.declared.WatchOne.{WatchOne}
-use Rattle.checker_lengths.specs.Entries.{size, no_length, all_lengths, in_table, below, held}
+use Rattle.checker_lengths.specs.Entries.{size, no_length, all_lengths, held}
 use Rattle.checker_lengths.specs.Offers.{at_node, first_entry, second_entry, body_entry}
 use Rattle.checker_lengths.specs.Offers.{inner_entry, sequence_of, fresh_of, sandbox_of, offer_of}
 use Rattle.checker_lengths.specs.Filling.{form_here, Reach, start, NodeSettled, Full}
 use Rattle.checker_lengths.specs.Code.{Fell, Apart, Pass}
 use Rattle.outline_nodes.proofs.SaidLaws.{form-at}
 use Rattle.checker_lengths.proofs.MemberLaws.{member-le, member-lt, member-taken}
-use Rattle.checker_lengths.proofs.EntryLaws.{held_in, held_out}
 use Rattle.checker_lengths.proofs.PassLaws.{same-held, node-lasts}
 
 -- ── A node that is not read ──

@@ -1,6 +1,6 @@
 -- Sets of nodes, from which any member is taken.
 use Prim.Native.Nat.{ℕ, suc, ◌+◌, ◌-◌, ◌*◌, ◌/◌, ◌%◌, ◌^◌, ◌<◌, ◌≤◌}
-use mathlib.Core.Path.{◌≡◌, refl, sym, ap, ◌∙◌, subst}
+use mathlib.Core.Path.{◌≡◌, refl, sym, ap, ◌∙◌}
 use mathlib.Core.Bool.{Bool, true, false}
 use mathlib.Core.Logic.{◌⊎◌, inl, inr}
 use native.Mathlib.Nat.{div-eq_of_lt, pow-suc, add-mul-div_right, add-mul-mod_self_right}
@@ -9,7 +9,7 @@ use native.Mathlib.Decide.{ℕ_discrete, dec_lt}
 use lib.Dec.{eqb, leb}
 use lib.Pow.{pow_pos, pow_mono, shr-shr}
 use borrow.Author.Tests.{eqb-true, leb-true, leb-false}
-use Rattle.usage.proofs.Logic.{not-both, false-true}
+use Rattle.usage.proofs.Logic.{not-both}
 use Rattle.automaton.specs.Mask.{has}
 use Rattle.checker_tables.proofs.WorkLaws.{has-low, has-high}
 

@@ -19,24 +19,7 @@ use Rattle.checker_tables.proofs.MeaningLaws.{lost-name}
 use Rattle.checker_lengths.specs.declared.Entry.{Entry}
 use Rattle.checker_lengths.specs.declared.WatchOne.{WatchOne}
 use Rattle.checker_lengths.specs.Entries.{no_length, entry_of, plus}
-use Rattle.checker_lengths.specs.Offers.{
-  low_end_lem,
-  one_if,
-  toward,
-  moved,
-  born,
-  ending_of,
-  breaking,
-  still_of,
-  heir,
-  named,
-  sequence_of,
-  fresh_of,
-  sandbox_of,
-  second_entry,
-  body_entry,
-  inner_entry,
-}
+use Rattle.checker_lengths.specs.Offers.{low_end_lem, one_if, moved, born, ending_of, breaking, still_of, heir, named, sequence_of, fresh_of, sandbox_of, second_entry, body_entry, inner_entry}
 use Rattle.checker_lengths.proofs.EntryLaws.{plus_none}
 
 -- ── Sets of states ──

@@ -28,29 +28,7 @@ use Rattle.checker_account.proofs.NodeLaws.{names-ok}
 use Rattle.checker_account.proofs.BegunLaws.{moves-states}
 use Rattle.checker_lengths.specs.declared.Entry.{Entry}
 use Rattle.checker_lengths.specs.Entries.{entry_of, plus, aims}
-use Rattle.checker_lengths.specs.Offers.{
-  low_end_lem,
-  one_if,
-  moved,
-  born,
-  ending_of,
-  breaking,
-  event_of,
-  heir,
-  named,
-  first_entry,
-  second_entry,
-  body_entry,
-  inner_entry,
-  state_in,
-  around,
-  still_of,
-  sequence_of,
-  fresh_of,
-  sandbox_of,
-  offer_of,
-  ways,
-}
+use Rattle.checker_lengths.specs.Offers.{low_end_lem, one_if, moved, born, ending_of, breaking, event_of, heir, named, first_entry, second_entry, body_entry, around, offer_of, ways}
 use Rattle.checker_lengths.specs.Held.{aim_at, meaning_of, watch_of, Source}
 use Rattle.checker_lengths.proofs.EntryLaws.{plus-some}
 use Rattle.checker_lengths.proofs.OfferLaws.{
@@ -63,20 +41,7 @@ use Rattle.checker_lengths.proofs.OfferLaws.{
   sandbox-on,
   sandbox-hits,
 }
-use Rattle.checker_lengths.proofs.Numbers.{
-  aim-ended,
-  at_lt,
-  aim-end,
-  aim-state,
-  aim-break,
-  name-of,
-  own-watched,
-  made_of,
-  heir-of,
-  at-made,
-  at-state,
-  forgotten-of,
-}
+use Rattle.checker_lengths.proofs.Numbers.{aim-ended, at_lt, aim-end, aim-state, aim-break, name-of, own-watched, heir-of, at-made, at-state, forgotten-of}
 
 -- ── One step ──
 
@@ -192,6 +157,75 @@ module _ (local : Bool) (es : List Edge) (ns : List Node) (p x : ℕ) (rows : Li
     break-aim : {u : Option Last} → Aimed {L = Bool} (broken u) → aim_at (broken u) ≡ 16
     break-aim {u} a = aim-break (broken u) a u refl
 
+    -- a fresh node, by what it makes
+    offered-made : {m w : ℕ} {c : Bool} {d' w₁ : ℕ} {c₁ : Bool} {n k : ℕ} {o : Bool} {q : ℕ} {t : Aim Bool} {b₁ q₁ : ℕ} → Begun (watching x) w c q
+        → Is ns k (fresh m b₁) → MakesOne x m d' w c w₁ c₁ → Moves es p create (Sees (x ∷ []) d') q q₁ → E n o b₁ w₁ c₁ q₁ t
+        → suc n ≤ most_shown → Offered (suc n) o k w c q t
+    unfolding offer_of event_of
+    offered-made {m = m} {w = w} {c = c} {n = n} {k = k} {o = o} {q = q} {t = t} {b₁ = b₁} {q₁ = q₁} b i MakesOne.other v d l =
+        let here = entry_of k o (meaning_of w c) q (aim_at t) in
+        let s : q₁ < 8 = state-lt v b.state in
+        let small = (form-ok src.outline i).0 in
+        let own : leb 8 q₁ ≡ false = lt-leb 8 q₁ s in
+        let st : q₁ % 8 ≡ q₁ = omega arith in
+        let is : has (born rows here (leb 8 q₁)) (q₁ % 8) ≡ true = ap₂ (λ (z : Bool) (j : ℕ). has (born rows here z) j) own st
+        ∙ other_row k o (aim_at t) b i v in
+        let body : look (body_entry here m b₁ q₁) ≡ n =
+        ap₂ (λ (j u : ℕ). look (entry_of b₁ o j u (aim_at t)))
+        (named-low (meaning_of w c) m q₁ s ∙ forgotten-of w m c small b.view.unmade) st ∙ (reads.read d).0 in
+        record {
+          form = fresh m b₁;
+          is = i;
+          rule = q₁;
+          in_range_lem = (reads.read d).2;
+          listed = omega arith;
+          gives = sym (fresh_on rows look here m b₁ q₁ (omega arith) is) ∙ ap (plus 1) body ∙ one_more n l;
+        }
+    offered-made {m = m} {w = w} {n = n} {k = k} {o = o} {q = q} {t = t} {b₁ = b₁} {q₁ = q₁} b i MakesOne.own v d l =
+        let here = entry_of k o 0 q (aim_at t) in
+        let s : q₁ < 8 = state-lt v b.state in
+        let own : leb 8 (8 + q₁) ≡ true = le-leb 8 (8 + q₁) (omega arith) in
+        let st : (8 + q₁) % 8 ≡ q₁ = omega arith in
+        let is : has (born rows here (leb 8 (8 + q₁))) ((8 + q₁) % 8) ≡ true = ap₂ (λ (z : Bool) (j : ℕ). has (born rows here z) j) own st
+        ∙ own_row o (aim_at t) b i v in
+        let body : look (body_entry here m b₁ (8 + q₁)) ≡ n =
+        ap₂ (λ (j u : ℕ). look (entry_of b₁ o j u (aim_at t))) (named-high 0 m (8 + q₁) (omega arith)) st ∙ (reads.read d).0 in
+        record {
+          form = fresh m b₁;
+          is = i;
+          rule = 8 + q₁;
+          in_range_lem = (reads.read d).2;
+          listed = omega arith;
+          gives = sym (fresh_on rows look here m b₁ (8 + q₁) (omega arith) is) ∙ ap (plus 1) body ∙ one_more n l;
+        }
+
+    offered-broken : {m w : ℕ} {c : Bool} {d' w₁ : ℕ} {c₁ : Bool} {k q : ℕ} {u : Option Last} {b₁ q' : ℕ} → Begun (watching x) w c q
+        → Aimed {L = Bool} (broken u) → Is ns k (fresh m b₁) → MakesOne x m d' w c w₁ c₁ → Moves es p create (Sees (x ∷ []) d') q q'
+        → Offending q' → Offered 1 true k w c q (broken u)
+    unfolding offer_of event_of
+    offered-broken {m = m} {w = w} {c = c} {k = k} {q = q} {u = u} {b₁ = b₁} {q' = q'} b a i MakesOne.other v f =
+        let here = entry_of k true (meaning_of w c) q (aim_at (broken u)) in
+        record {
+          form = fresh m b₁;
+          is = i;
+          rule = 16;
+          in_range_lem = omega (arith, break-aim a);
+          listed = lit< tt;
+          gives = sym (fresh-breaks rows look here m b₁ 16 (omega arith))
+              ∙ breaking-at (born rows here false) here (break-aim a) refl (has-offends _ q' f (other_row k true (aim_at (broken u)) b i v));
+        }
+    offered-broken {m = m} {w = w} {k = k} {q = q} {u = u} {b₁ = b₁} {q' = q'} b a i MakesOne.own v f =
+        let here = entry_of k true 0 q (aim_at (broken u)) in
+        record {
+          form = fresh m b₁;
+          is = i;
+          rule = 17;
+          in_range_lem = omega (arith, break-aim a);
+          listed = lit< tt;
+          gives = sym (fresh-breaks rows look here m b₁ 17 (omega arith))
+              ∙ breaking-at (born rows here true) here (break-aim a) refl (has-offends _ q' f (own_row true (aim_at (broken u)) b i v));
+        }
+
     pub offered : {n : ℕ} {o : Bool} {k w : ℕ} {c : Bool} {q : ℕ} {t : Aim Bool} → Begun (watching x) w c q → Aimed t
         → Rule local es ns p (watching x) E n o k w c q t
         → n ≤ most_shown → Offered n o k w c q t
@@ -275,42 +309,7 @@ module _ (local : Bool) (es : List Edge) (ns : List Node) (p x : ℕ) (rows : Li
       listed = lit< tt;
       gives = (reads.read d).0;
     }
-    offered {o = o} {k} {w} {c} {q} {t} b a (Rule.makes {n = n} {m = m} {b = b₁} {q₁ = q₁} i MakesOne.other v d) l =
-        let here = entry_of k o (meaning_of w c) q (aim_at t) in
-        let s : q₁ < 8 = state-lt v b.state in
-        let small = (form-ok src.outline i).0 in
-        let own : leb 8 q₁ ≡ false = lt-leb 8 q₁ s in
-        let st : q₁ % 8 ≡ q₁ = omega arith in
-        let is : has (born rows here (leb 8 q₁)) (q₁ % 8) ≡ true = ap₂ (λ (z : Bool) (j : ℕ). has (born rows here z) j) own st
-        ∙ other_row k o (aim_at t) b i v in
-        let body : look (body_entry here m b₁ q₁) ≡ n =
-        ap₂ (λ (j u : ℕ). look (entry_of b₁ o j u (aim_at t)))
-        (named-low (meaning_of w c) m q₁ s ∙ forgotten-of w m c small b.view.unmade) st ∙ (reads.read d).0 in
-        record {
-          form = fresh m b₁;
-          is = i;
-          rule = q₁;
-          in_range_lem = (reads.read d).2;
-          listed = omega arith;
-          gives = sym (fresh_on rows look here m b₁ q₁ (omega arith) is) ∙ ap (plus 1) body ∙ one_more n l;
-        }
-    offered {o = o} {k} {w} {c} {q} {t} b a (Rule.makes {n = n} {m = m} {b = b₁} {q₁ = q₁} i MakesOne.own v d) l =
-        let here = entry_of k o 0 q (aim_at t) in
-        let s : q₁ < 8 = state-lt v b.state in
-        let own : leb 8 (8 + q₁) ≡ true = le-leb 8 (8 + q₁) (omega arith) in
-        let st : (8 + q₁) % 8 ≡ q₁ = omega arith in
-        let is : has (born rows here (leb 8 (8 + q₁))) ((8 + q₁) % 8) ≡ true = ap₂ (λ (z : Bool) (j : ℕ). has (born rows here z) j) own st
-        ∙ own_row o (aim_at t) b i v in
-        let body : look (body_entry here m b₁ (8 + q₁)) ≡ n =
-        ap₂ (λ (j u : ℕ). look (entry_of b₁ o j u (aim_at t))) (named-high 0 m (8 + q₁) (omega arith)) st ∙ (reads.read d).0 in
-        record {
-          form = fresh m b₁;
-          is = i;
-          rule = 8 + q₁;
-          in_range_lem = (reads.read d).2;
-          listed = omega arith;
-          gives = sym (fresh_on rows look here m b₁ (8 + q₁) (omega arith) is) ∙ ap (plus 1) body ∙ one_more n l;
-        }
+    offered b a (Rule.makes i y v d) l = offered-made b i y v d l
     offered {o = o} {k} {w} {c} {q} {t} b a (Rule.sandboxes {n = n} {s = s} {b = b₁} {q₂ = q₂} {c₂ = c₂} i d) l =
         let here = entry_of k o (meaning_of w c) q (aim_at (ended c₂ q₂)) in
         let (e, few, h) = reads.read d in
@@ -343,28 +342,7 @@ module _ (local : Bool) (es : List Edge) (ns : List Node) (p x : ℕ) (rows : Li
       gives = breaking-at _ (entry_of k true (meaning_of w c) q (aim_at (broken u))) (break-aim a) refl
           (has-offends _ q' f (name-row k true (aim_at (broken u)) b i v));
     }
-    offered {o = o} {k} {w} {c} {q} b a (Rule.breaks_fresh {m = m} {b = b₁} {q' = q'} {u = u} i MakesOne.other v f z) l =
-        let here = entry_of k true (meaning_of w c) q (aim_at (broken u)) in
-        record {
-          form = fresh m b₁;
-          is = i;
-          rule = 16;
-          in_range_lem = omega (arith, break-aim a);
-          listed = lit< tt;
-          gives = sym (fresh-breaks rows look here m b₁ 16 (omega arith))
-              ∙ breaking-at (born rows here false) here (break-aim a) refl (has-offends _ q' f (other_row k true (aim_at (broken u)) b i v));
-        }
-    offered {o = o} {k} {w} {c} {q} b a (Rule.breaks_fresh {m = m} {b = b₁} {q' = q'} {u = u} i MakesOne.own v f z) l =
-        let here = entry_of k true 0 q (aim_at (broken u)) in
-        record {
-          form = fresh m b₁;
-          is = i;
-          rule = 17;
-          in_range_lem = omega (arith, break-aim a);
-          listed = lit< tt;
-          gives = sym (fresh-breaks rows look here m b₁ 17 (omega arith))
-              ∙ breaking-at (born rows here true) here (break-aim a) refl (has-offends _ q' f (own_row true (aim_at (broken u)) b i v));
-        }
+    offered b a (Rule.breaks_fresh i y v f z) l = offered-broken b a i y v f
     offered {o = o} {k} {w} {c} {q} b a (Rule.breaks_opening {b = b₁} {u = u} i f z) l =
         let here = entry_of k o (meaning_of w c) q (aim_at (broken u)) in
         record {

@@ -29,38 +29,10 @@ use Rattle.checker_account.proofs.NodeLaws.{names-ok}
 use Rattle.checker_account.proofs.BegunLaws.{begun_opened}
 use Rattle.checker_lengths.specs.declared.Entry.{Entry}
 use Rattle.checker_lengths.specs.Entries.{entry_of, aims}
-use Rattle.checker_lengths.specs.Offers.{
-  low_end_lem,
-  moved,
-  born,
-  ending_of,
-  breaking,
-  event_of,
-  first_entry,
-  second_entry,
-  body_entry,
-  inner_entry,
-  state_in,
-  around,
-  sequence_of,
-  fresh_of,
-  sandbox_of,
-  offer_of,
-}
+use Rattle.checker_lengths.specs.Offers.{low_end_lem, moved, born, ending_of, breaking, first_entry, second_entry, body_entry, inner_entry, state_in, around, offer_of}
 use Rattle.checker_lengths.specs.Held.{aim_at, meaning_of, watch_of, Source}
 use Rattle.checker_lengths.proofs.Inversion.{still-inv, ending-inv, breaking-inv, event-inv, sequence-inv, fresh-inv, sandbox-inv}
-use Rattle.checker_lengths.proofs.Numbers.{
-  aim-ended,
-  at_lt,
-  aim-end,
-  aim-state,
-  aim-one,
-  name-of,
-  own-watched,
-  heir-of,
-  way-aim,
-  forgotten-of,
-}
+use Rattle.checker_lengths.proofs.Numbers.{aim-end, aim-one, name-of, own-watched, heir-of, way-aim, forgotten-of}
 use Rattle.checker_lengths.proofs.RuleLaws.{moved_in, born-in, small-node, dynamic, named-low, named-high}
 
 pub offending-small : (q : ℕ) → Offending q → q < states

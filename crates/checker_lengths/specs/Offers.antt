@@ -1,5 +1,5 @@
 -- What the rules of `Goes` give for an entry, by the lengths of other entries: `look` tells those. Each rule of a node has a number, c.
-use Rattle.std.specs.Prelude.{ℕ, suc, ◌+◌, ◌-◌, ◌%◌, Bool, true, false, ◌&&◌, ◌||◌, cond, List, eqb, ltb, leb}
+use Rattle.std.specs.Prelude.{ℕ, suc, ◌+◌, ◌-◌, ◌%◌, Bool, false, ◌&&◌, ◌||◌, cond, List, eqb, ltb, leb}
 use Rattle.std.proofs.Math.Option.{Option, none, some}
 use Rattle.usage.specs.Limits.{most_nodes, states}
 use Rattle.usage.specs.Past.{reopened}

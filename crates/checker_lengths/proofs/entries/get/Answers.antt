@@ -2,9 +2,6 @@ use Rattle.checker_lengths.proofs.EntryLaws.{linear-lt, held_out, held-less, hel
 use Rattle.usage.proofs.Logic.{not-true, not-false}
 use native.Mathlib.Omega.{arith}
 use mathlib.Core.Path.{sym, ◌∙◌}
-use Rattle.checker_lengths.proofs.entries.get.Reads as reads
-use Rattle.checker_lengths.proofs.entries.inside.Reads as inside-reads
-use Rattle.checker_lengths.proofs.entries.place.Reads as place-reads
 use Rattle.checker_lengths.proofs.entries.get.Goals as goal
 
 pub returns-then-not-inside : goal.returns-then-not-inside

@@ -1,6 +1,5 @@
 use borrow.Author.Tests.{lt-ltb, le-ltb}
 use Rattle.checker_lengths.specs.Entries.{in_table}
-use Rattle.checker_lengths.proofs.entries.inside.Reads as reads
 use Rattle.checker_lengths.proofs.entries.inside.Goals as goal
 
 pub returns-then-e-ge-MOST_NODES : goal.returns-then-e-ge-MOST_NODES

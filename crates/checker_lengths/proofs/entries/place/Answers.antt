@@ -1,6 +1,5 @@
 use Rattle.checker_lengths.proofs.EntryLaws.{bounds}
 use native.Mathlib.Omega.{arith}
-use Rattle.checker_lengths.proofs.entries.place.Reads as reads
 use Rattle.checker_lengths.proofs.entries.place.Goals as goal
 
 pub overflow_add-result : goal.overflow_add-result

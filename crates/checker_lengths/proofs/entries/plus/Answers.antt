@@ -1,6 +1,5 @@
 use Rattle.checker_lengths.proofs.EntryLaws.{plus_none, plus-some}
 use native.Mathlib.Omega.{arith}
-use Rattle.checker_lengths.proofs.entries.plus.Reads as reads
 use Rattle.checker_lengths.proofs.entries.plus.Goals as goal
 
 pub returns-then-a-gt-MOST : goal.returns-then-a-gt-MOST

@@ -1,14 +1,12 @@
 use mathlib.Core.Path.{◌≡◌, sym, ap, ◌∙◌}
 use mathlib.Core.Bool.{true}
-use Prim.Native.Nat.{ℕ, ◌+◌, ◌*◌, ◌%◌, ◌^◌, ◌<◌, ◌≤◌}
+use Prim.Native.Nat.{ℕ, ◌*◌, ◌%◌, ◌^◌, ◌<◌}
 use native.Mathlib.Omega.{arith}
 use native.Mathlib.Nat.{mod-lt}
 use lib.Pow.{pow_pos}
 use Rattle.automaton.specs.Mask.{has}
 use Rattle.checker_tables.proofs.WorkLaws.{shl-node, has-low}
 use Rattle.checker_lengths.proofs.MemberLaws.{highest-in, member-lt}
-use Rattle.checker_lengths.proofs.fill.next.Reads as reads
-use Rattle.checker_tables.proofs.work.highest.Reads as highest-reads
 use Rattle.checker_lengths.proofs.fill.next.Goals as goal
 
 -- a member of the part below k is one of the whole

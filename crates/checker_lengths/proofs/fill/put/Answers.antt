@@ -1,8 +1,6 @@
 use Rattle.checker_lengths.proofs.PassLaws.{pass_kept, pass-falls}
 use Rattle.checker_lengths.proofs.EntryLaws.{linear-lt}
 use native.Mathlib.Omega.{arith}
-use Rattle.checker_lengths.proofs.fill.put.Reads as reads
-use Rattle.checker_lengths.proofs.entries.place.Reads as place-reads
 use Rattle.checker_lengths.proofs.fill.put.Goals as goal
 
 pub place-at-requires : goal.place-at-requires

@@ -1,7 +1,4 @@
 use Rattle.outline_nodes.specs.Said.{said_by}
-use Rattle.checker_lengths.proofs.fill.settle.Reads as reads
-use Rattle.checker_lengths.proofs.fill.put.Reads as put_reads
-use Rattle.checker_lengths.proofs.offers.offer.Reads as offer-reads
 use Rattle.checker_lengths.proofs.fill.settle.Goals as goal
 
 pub put-requires : goal.put-requires

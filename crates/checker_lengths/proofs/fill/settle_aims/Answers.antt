@@ -3,7 +3,7 @@ use mathlib.Core.Bool.{true}
 use mathlib.Core.Logic.{inl, inr}
 use borrow.Author.Count.{below_more}
 use Rattle.outline_nodes.specs.Said.{said_by}
-use Rattle.usage.proofs.Logic.{by_cases, not-true}
+use Rattle.usage.proofs.Logic.{not-true}
 use Rattle.checker_lengths.specs.declared.Entry.{Entry}
 use Rattle.checker_lengths.specs.Entries.{in_table}
 use Rattle.checker_lengths.specs.Offers.{toward, low_end_lem}
@@ -13,12 +13,7 @@ use Rattle.checker_lengths.proofs.PassLaws.{pass-then, pass-none, pass-map, sett
 use Rattle.checker_lengths.proofs.EntryLaws.{toward-in, low-end-le}
 use native.Mathlib.Omega.{arith}
 use mathlib.Core.Path.{◌≡◌, sym, ◌∙◌}
-use Prim.Native.Nat.{ℕ, ◌-◌, ◌≤◌, ◌<◌}
-use Rattle.checker_lengths.proofs.fill.settle_aims.Reads as reads
-use Rattle.checker_lengths.proofs.fill.settle.Reads as settle-reads
-use Rattle.checker_lengths.proofs.offers.gives.Reads as gives-reads
-use Rattle.checker_lengths.proofs.offers.low_end.Reads as low-end-reads
-use Rattle.checker_lengths.proofs.offers.toward.Reads as toward-reads
+use Prim.Native.Nat.{ℕ, ◌≤◌}
 use Rattle.checker_lengths.proofs.fill.settle_aims.Goals as goal
 use Rattle.checker_lengths.proofs.fill.settle_aims.Goals.{else-settle, then-settle}
 
@@ -33,9 +28,12 @@ loop-i-init c = let g = c.low_end-i.ensures in let m = low-end-le c.args.s.meani
     (omega arith, pass-none (λ j k l. absurd (omega arith)))
 
 pub settle-requires : goal.settle-requires
-settle-requires c = let l = c.loop-i in record { t_len = l.invariant.1.same_size ∙ c.requires.t_len; e_value = subst (λ (e : Entry). in_table e ≡ true) (sym c.toward.ensures)
+settle-requires c = let l = c.loop-i in record {
+  t_len = l.invariant.1.same_size ∙ c.requires.t_len;
+  e_value = subst (λ (e : Entry). in_table e ≡ true) (sym c.toward.ensures)
       (toward-in c.args.s l.i
-      c.requires.s_value c.loop-i-test.true) }
+      c.requires.s_value c.loop-i-test.true);
+}
 
 pub loop-i-preserved : goal.loop-i-preserved
 loop-i-preserved c =
@@ -50,7 +48,7 @@ loop-i-preserved c =
           (λ u x y. below_more (λ (j : ℕ). low_end_lem a.s.meaning ≤ j → Settled a.w a.rows.now f u (toward a.s j) a.c)
           l.i x (λ _. y))
           (λ z g h j b low. settled-lasts a.w a.rows.now a.s.node f z g (toward a.s j) a.c (h j b low))
-          l.invariant.1 p (elim c.if-settle.branch [ then-settle u ↦ inl (u.if-settle.true, u.1) | else-settle u ↦ inr (u.if-settle.false, u.1) ]),
+          l.invariant.1 p (elim c.if-settle.branch [ then-settle u ↦ inl (u.if-settle.true, u.changed-is) | else-settle u ↦ inr (u.if-settle.false, u.changed-is) ]),
     )
 
 pub returns : goal.returns

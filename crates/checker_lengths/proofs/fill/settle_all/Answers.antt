@@ -7,12 +7,12 @@ use lib.Dec.{lit<}
 use lib.Bits.{bit_or}
 use lib.Pow.{pow_mono}
 use lib.ListN.{length, get_or}
-use Prim.Native.Nat.{ℕ, suc, ◌-◌, ◌*◌, ◌/◌, ◌%◌, ◌^◌, ◌<◌, ◌≤◌, min}
+use Prim.Native.Nat.{ℕ, ◌-◌, ◌*◌, ◌/◌, ◌%◌, ◌^◌, ◌<◌, ◌≤◌, min}
 use Rattle.usage.specs.Limits.{most_nodes, node_fields}
 use Rattle.usage.specs.Outline.{Form}
 use Rattle.outline_nodes.specs.declared.NodeForm.{NodeForm}
 use Rattle.outline_nodes.specs.Said.{said_by}
-use Rattle.checker_account.specs.Tables.{one_resource, meanings, least}
+use Rattle.checker_account.specs.Tables.{meanings}
 use Rattle.checker_account.specs.Filling.{forms_in}
 use Rattle.automaton.specs.Mask.{has}
 use Rattle.checker_tables.specs.Search.{NodesFit}
@@ -22,24 +22,8 @@ use Rattle.checker_tables.proofs.FitLaws.{readers-fit}
 use Rattle.checker_lengths.specs.declared.WatchOne.{WatchOne}
 use Rattle.checker_lengths.specs.Filling.{form_here, NodeSettled}
 use Rattle.checker_lengths.specs.Code.{Pass}
-use Rattle.checker_lengths.proofs.LeftLaws.{
-  Working,
-  left_of,
-  working-start,
-  working-full,
-  still-working,
-  still-less,
-  more-working,
-  more-less,
-}
+use Rattle.checker_lengths.proofs.LeftLaws.{left_of, working-start, working-full, still-working, still-less, more-working, more-less}
 use Rattle.checker_lengths.proofs.MemberLaws.{member-le, member-lt}
-use Rattle.checker_lengths.proofs.fill.settle_all.Reads as reads
-use Rattle.checker_lengths.proofs.fill.settle_node.Reads as settle-node-reads
-use Rattle.outline_nodes.proofs.form.Reads as form-reads
-use Rattle.checker_tables.proofs.numbers.least.Reads as least-reads
-use Rattle.checker_tables.proofs.work.all.Reads as all-reads
-use Rattle.checker_lengths.proofs.fill.next.Reads as next-reads
-use Rattle.checker_tables.proofs.work.readers.Reads as readers-reads
 use Rattle.checker_lengths.proofs.fill.settle_all.Goals as goal
 use Rattle.checker_lengths.proofs.fill.settle_all.Invariants.{Left}
 
@@ -156,8 +140,12 @@ settle_node-requires c =
     let l = c.least-l.result in
     let i = c.loop-left in
     let h = c.next-k in
-    let low : l < meanings = omega (arith, c.least-l.ensures.upper_bound) in record { t_len = i.invariant.1.size_is; l_lt_meanings = low; k_lt_most_nodes = small a.w a.rows.now a.nodes.now a.u.now l p i.t i.left h.result i.invariant.1
-            h.ensures }
+    let low : l < meanings = omega (arith, c.least-l.ensures.upper_bound) in record {
+      t_len = i.invariant.1.size_is;
+      l_lt_meanings = low;
+      k_lt_most_nodes = small a.w a.rows.now a.nodes.now a.u.now l p i.t i.left h.result i.invariant.1
+          h.ensures;
+    }
 
 pub offset_bounds-readers-k : goal.offset_bounds-readers-k
 offset_bounds-readers-k c =
@@ -190,7 +178,7 @@ loop-left-smaller-then-settle_node c =
     let r = c.readers in
     more-falls a.w a.rows.now a.nodes.now a.u.now l p i.t i.left h.result i.invariant.1 h.ensures
     s.new.t d.result d.ensures s.result s.ensures
-    r.new.1.0 (r.ensures ∙ readers-fit a.nodes.now p) c.if-settle_node.true
+    r.new.masks (r.ensures ∙ readers-fit a.nodes.now p) c.if-settle_node.true
 
 pub loop-left-preserved-then-settle_node : goal.loop-left-preserved-then-settle_node
 loop-left-preserved-then-settle_node c =
@@ -206,7 +194,7 @@ loop-left-preserved-then-settle_node c =
       b,
       more a.w a.rows.now a.nodes.now a.u.now l p i.t i.left h.result i.invariant.1 h.ensures
           s.new.t d.result d.ensures s.result s.ensures
-          r.new.1.0 (r.ensures ∙ readers-fit a.nodes.now p) c.if-settle_node.true,
+          r.new.masks (r.ensures ∙ readers-fit a.nodes.now p) c.if-settle_node.true,
     )
 
 pub loop-left-smaller : goal.loop-left-smaller

@@ -1,7 +1,5 @@
 use Rattle.usage.proofs.Logic.{not-both}
 use Rattle.checker_lengths.proofs.PassLaws.{pass-none, pass-map}
-use Rattle.checker_lengths.proofs.fill.settle_if.Reads as reads
-use Rattle.checker_lengths.proofs.fill.settle_start.Reads as settle-start-reads
 use Rattle.checker_lengths.proofs.fill.settle_if.Goals as goal
 
 pub returns-then-there : goal.returns-then-there

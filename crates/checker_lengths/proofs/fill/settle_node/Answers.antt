@@ -5,7 +5,6 @@ use lib.Dec.{eqb}
 use lib.ListN.{get_or}
 use borrow.Author.Count.{below_more}
 use Rattle.outline_nodes.specs.Said.{said_by}
-use Rattle.usage.proofs.Logic.{by_cases}
 use Rattle.checker_account.specs.Tables.{place}
 use Rattle.checker_tables.proofs.EnterLaws.{come-to-in}
 use Rattle.checker_lengths.specs.Code.{Pass}
@@ -14,10 +13,7 @@ use Rattle.checker_lengths.proofs.PassLaws.{pass-then, pass-none, pass-map, stat
 use Rattle.checker_lengths.proofs.EntryLaws.{meaning-turn}
 use native.Mathlib.Omega.{arith}
 use mathlib.Core.Path.{◌∙◌}
-use Prim.Native.Nat.{ℕ, ◌+◌, ◌-◌, ◌/◌, ◌%◌, ◌≤◌, ◌<◌}
-use Rattle.checker_lengths.proofs.fill.settle_node.Reads as reads
-use Rattle.checker_lengths.proofs.fill.settle_states.Reads as settle-states-reads
-use Rattle.checker_tables.proofs.arrivals.come_to.Reads as come-to-reads
+use Prim.Native.Nat.{ℕ, ◌+◌, ◌/◌, ◌%◌}
 use borrow.Author.Rules.{rules}
 use Rattle.checker_lengths.proofs.fill.settle_node.Goals as goal
 use Rattle.checker_lengths.proofs.fill.settle_node.Goals.{else-settle_states, then-settle_states}
@@ -50,7 +46,7 @@ loop-i-preserved c =
           (get_or a.u.now (place a.k (eqb (j % 2) 1) (a.l + j / 2)) 0)) l.i u v)
           (λ z g h j b. states-last a.w a.rows.now a.k f z g a.k (eqb (j % 2) 1) (a.l + j / 2)
           (get_or a.u.now (place a.k (eqb (j % 2) 1) (a.l + j / 2)) 0) (h j b))
-          l.invariant.1 here (elim c.if-settle_states.branch [ then-settle_states u ↦ inl (u.if-settle_states.true, u.1) | else-settle_states u ↦ inr (u.if-settle_states.false, u.1) ]),
+          l.invariant.1 here (elim c.if-settle_states.branch [ then-settle_states u ↦ inl (u.if-settle_states.true, u.changed-is) | else-settle_states u ↦ inr (u.if-settle_states.false, u.changed-is) ]),
     )
 
 pub returns : goal.returns

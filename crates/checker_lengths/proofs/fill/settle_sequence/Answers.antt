@@ -1,30 +1,21 @@
-use mathlib.Core.Path.{◌≡◌, sym, ap, ap₂, ◌∙◌, subst}
+use mathlib.Core.Path.{◌≡◌, sym, ap, ◌∙◌, subst}
 use mathlib.Core.Bool.{Bool, true, false}
 use mathlib.Core.Option.{some}
 use mathlib.Core.List.{List, []}
 use mathlib.Core.Logic.{inl, inr}
-use Prim.Native.Nat.{ℕ, ◌+◌, ◌-◌, ◌≤◌, ◌<◌}
+use Prim.Native.Nat.{ℕ, ◌+◌, ◌≤◌, ◌<◌}
 use native.Mathlib.Omega.{arith}
 use borrow.Author.Count.{below_more}
 use Rattle.usage.specs.Outline.{sequence}
-use Rattle.usage.proofs.Logic.{by_cases}
 use Rattle.checker_lengths.specs.declared.Entry.{Entry}
 use Rattle.checker_lengths.specs.declared.WatchOne.{WatchOne}
 use Rattle.checker_lengths.specs.Entries.{all_lengths, in_table, held, plus}
-use Rattle.checker_lengths.specs.Offers.{toward, low_end_lem, first_entry, second_entry, sequence_of, offer_of}
-use Rattle.checker_lengths.specs.Code.{Pass, Puts}
+use Rattle.checker_lengths.specs.Offers.{toward, low_end_lem, first_entry, second_entry, offer_of}
+use Rattle.checker_lengths.specs.Code.{Puts}
 use Rattle.checker_lengths.specs.Filling.{Settled}
 use Rattle.checker_lengths.proofs.PassLaws.{Either, same-held, pass-then, pass-none, pass-map, settled-lasts}
 use Rattle.checker_lengths.proofs.OfferLaws.{sequence-both, sequence-dead}
 use Rattle.checker_lengths.proofs.EntryLaws.{toward-in, low-end-le}
-use Rattle.checker_lengths.proofs.fill.settle_sequence.Reads as reads
-use Rattle.checker_lengths.proofs.entries.get.Reads as get-reads
-use Rattle.checker_lengths.proofs.entries.plus.Reads as plus-reads
-use Rattle.checker_lengths.proofs.fill.put.Reads as put_reads
-use Rattle.checker_lengths.proofs.offers.first.Reads as first_reads
-use Rattle.checker_lengths.proofs.offers.low_end.Reads as low-end-reads
-use Rattle.checker_lengths.proofs.offers.second.Reads as second_reads
-use Rattle.checker_lengths.proofs.offers.toward.Reads as toward-reads
 use Rattle.checker_lengths.proofs.fill.settle_sequence.Goals as goal
 use Rattle.checker_lengths.proofs.fill.settle_sequence.Goals.{else-put, then-put}
 use Rattle.checker_lengths.proofs.fill.settle_sequence.Invariants.{Below}
@@ -70,8 +61,11 @@ pub put-requires : goal.put-requires
 put-requires c =
     let l = c.loop-i in
     let a = c.args in
-    let p = c.requires in record { t_len = (l.invariant.1 (record { local = false; policy = 0; resource = 0 }) []).same_size ∙ p.t_len; e_value = subst (λ (e : Entry). in_table e ≡ true) (sym c.toward-in-loop-i.ensures)
-          (toward-in a.s l.i p.s_value c.loop-i-test.true) }
+    let p = c.requires in record {
+      t_len = (l.invariant.1 (record { local = false; policy = 0; resource = 0 }) []).same_size ∙ p.t_len;
+      e_value = subst (λ (e : Entry). in_table e ≡ true) (sym c.toward-in-loop-i.ensures)
+          (toward-in a.s l.i p.s_value c.loop-i-test.true);
+    }
 
 pub loop-i-preserved : goal.loop-i-preserved
 loop-i-preserved c =

@@ -1,16 +1,11 @@
 use mathlib.Core.Logic.{inl, inr}
 use borrow.Author.Count.{below_more}
 use Rattle.outline_nodes.specs.Said.{said_by}
-use Rattle.usage.proofs.Logic.{by_cases}
-use Rattle.checker_lengths.specs.Code.{Pass}
 use Rattle.checker_lengths.specs.Filling.{RuleSettled}
 use Rattle.checker_lengths.proofs.PassLaws.{pass-then, pass-none, pass-map, rule-lasts}
 use native.Mathlib.Omega.{arith}
 use mathlib.Core.Path.{◌∙◌}
-use Prim.Native.Nat.{ℕ, ◌-◌, ◌≤◌, ◌<◌}
-use Rattle.checker_lengths.proofs.fill.settle_start.Reads as reads
-use Rattle.checker_lengths.proofs.fill.settle_rule.Reads as settle-rule-reads
-use Rattle.checker_lengths.proofs.offers.ways.Reads as ways-reads
+use Prim.Native.Nat.{ℕ}
 use borrow.Author.Rules.{rules}
 use Rattle.checker_lengths.proofs.fill.settle_start.Goals as goal
 use Rattle.checker_lengths.proofs.fill.settle_start.Goals.{else-settle_rule, then-settle_rule}
@@ -32,7 +27,7 @@ loop-c-preserved c =
           (λ u x y. below_more (λ (j : ℕ). RuleSettled a.w a.rows.now f u a.s j) l.c x y)
           (λ z g h j b. rule-lasts a.w a.rows.now a.s.node f z g a.s j (h j b))
           l.invariant.1 c.settle_rule.ensures
-          (elim c.if-settle_rule.branch [ then-settle_rule u ↦ inl (u.if-settle_rule.true, u.1) | else-settle_rule u ↦ inr (u.if-settle_rule.false, u.1) ]),
+          (elim c.if-settle_rule.branch [ then-settle_rule u ↦ inl (u.if-settle_rule.true, u.changed-is) | else-settle_rule u ↦ inr (u.if-settle_rule.false, u.changed-is) ]),
     )
 
 pub returns : goal.returns

@@ -1,16 +1,7 @@
-use mathlib.Core.Logic.{inl, inr}
-use borrow.Author.Count.{below_more}
 use Rattle.outline_nodes.specs.Said.{said_by}
-use Rattle.usage.proofs.Logic.{by_cases}
 use Rattle.checker_lengths.specs.Code.{Pass}
 use Rattle.checker_lengths.specs.Filling.{RuleSettled}
-use Rattle.checker_lengths.proofs.PassLaws.{pass-then, pass-none, pass-map, rule-lasts}
-use native.Mathlib.Omega.{arith}
-use mathlib.Core.Path.{◌∙◌}
 use Prim.Native.Nat.{ℕ, ◌-◌, ◌≤◌, ◌<◌}
-use Rattle.checker_lengths.proofs.fill.settle_start.Reads as reads
-use Rattle.checker_lengths.proofs.fill.settle_rule.Reads as settle-rule-reads
-use Rattle.checker_lengths.proofs.offers.ways.Reads as ways-reads
 use Rattle.checker_lengths.proofs.fill.settle_start.Given as goal
 
 abbrev pub invariant-loop-c : goal.invariant-loop-c

@@ -2,7 +2,6 @@ use mathlib.Core.Bool.{true}
 use mathlib.Core.Logic.{inl, inr}
 use borrow.Author.Count.{below_more}
 use Rattle.outline_nodes.specs.Said.{said_by}
-use Rattle.usage.proofs.Logic.{by_cases}
 use Rattle.automaton.specs.Mask.{has}
 use Rattle.checker_lengths.specs.Entries.{entry_of}
 use Rattle.checker_lengths.specs.Offers.{toward}
@@ -12,10 +11,7 @@ use Rattle.checker_lengths.proofs.PassLaws.{pass-then, pass-none, pass-map, star
 use Rattle.checker_lengths.proofs.EntryLaws.{in-table}
 use native.Mathlib.Omega.{arith}
 use mathlib.Core.Path.{◌≡◌, ◌∙◌}
-use Prim.Native.Nat.{ℕ, ◌-◌, ◌≤◌, ◌<◌}
-use Rattle.checker_lengths.proofs.fill.settle_states.Reads as reads
-use Rattle.checker_lengths.proofs.fill.settle_if.Reads as settle-if-reads
-use Rattle.checker_lengths.proofs.offers.has.Reads as has-reads
+use Prim.Native.Nat.{ℕ}
 use borrow.Author.Rules.{rules}
 use Rattle.checker_lengths.proofs.fill.settle_states.Goals as goal
 use Rattle.checker_lengths.proofs.fill.settle_states.Goals.{else-settle_if, then-settle_if}
@@ -27,9 +23,12 @@ pub settle_if-requires : goal.settle_if-requires
 settle_if-requires c =
     let a = c.args in
     let p = c.requires in
-    let l = c.loop-q in record { t_len = l.invariant.1.same_size ∙ p.t_len; s_value = in-table (toward (entry_of a.g.to a.g.opened a.g.meaning l.q 0) 0) p.to_lt_most_nodes p.meaning_lt_meanings
+    let l = c.loop-q in record {
+      t_len = l.invariant.1.same_size ∙ p.t_len;
+      s_value = in-table (toward (entry_of a.g.to a.g.opened a.g.meaning l.q 0) 0) p.to_lt_most_nodes p.meaning_lt_meanings
           c.loop-q-test.true
-          (omega arith) }
+          (omega arith);
+    }
 
 pub loop-q-preserved : goal.loop-q-preserved
 loop-q-preserved c =
@@ -48,7 +47,7 @@ loop-q-preserved c =
           → StartSettled a.w a.rows.now f u (entry_of a.g.to a.g.opened a.g.meaning j 0)) l.q x y)
           (λ z g h j b e. start-lasts a.w a.rows.now a.g.to f z g (entry_of a.g.to a.g.opened a.g.meaning j 0)
           (h j b e))
-          l.invariant.1 here (elim c.if-settle_if.branch [ then-settle_if u ↦ inl (u.if-settle_if.true, u.1) | else-settle_if u ↦ inr (u.if-settle_if.false, u.1) ]),
+          l.invariant.1 here (elim c.if-settle_if.branch [ then-settle_if u ↦ inl (u.if-settle_if.true, u.changed-is) | else-settle_if u ↦ inr (u.if-settle_if.false, u.changed-is) ]),
     )
 
 pub returns : goal.returns

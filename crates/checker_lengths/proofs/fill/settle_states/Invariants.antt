@@ -1,21 +1,11 @@
 use mathlib.Core.Bool.{true}
-use mathlib.Core.Logic.{inl, inr}
-use borrow.Author.Count.{below_more}
 use Rattle.outline_nodes.specs.Said.{said_by}
-use Rattle.usage.proofs.Logic.{by_cases}
 use Rattle.automaton.specs.Mask.{has}
 use Rattle.checker_lengths.specs.Entries.{entry_of}
-use Rattle.checker_lengths.specs.Offers.{toward}
 use Rattle.checker_lengths.specs.Code.{Pass}
 use Rattle.checker_lengths.specs.Filling.{StartSettled}
-use Rattle.checker_lengths.proofs.PassLaws.{pass-then, pass-none, pass-map, start-lasts}
-use Rattle.checker_lengths.proofs.EntryLaws.{in-table}
-use native.Mathlib.Omega.{arith}
-use mathlib.Core.Path.{◌≡◌, ◌∙◌}
+use mathlib.Core.Path.{◌≡◌}
 use Prim.Native.Nat.{ℕ, ◌-◌, ◌≤◌, ◌<◌}
-use Rattle.checker_lengths.proofs.fill.settle_states.Reads as reads
-use Rattle.checker_lengths.proofs.fill.settle_if.Reads as settle-if-reads
-use Rattle.checker_lengths.proofs.offers.has.Reads as has-reads
 use Rattle.checker_lengths.proofs.fill.settle_states.Given as goal
 
 abbrev pub invariant-loop-q : goal.invariant-loop-q

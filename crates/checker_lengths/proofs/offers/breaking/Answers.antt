@@ -1,7 +1,6 @@
 use borrow.Author.Tests.{le-leb, lt-leb, eq-eqb, ne_eqb}
 use Rattle.usage.proofs.Logic.{not-true, not-false}
 use Rattle.checker_lengths.specs.Offers as spec
-use Rattle.checker_lengths.proofs.offers.breaking.Reads as reads
 use Rattle.checker_lengths.proofs.offers.breaking.Goals as goal
 
 pub returns-then-e-ne-BROKEN : goal.returns-then-e-ne-BROKEN

@@ -1,9 +1,6 @@
 use Rattle.checker_lengths.proofs.OfferLaws as laws
 use mathlib.Core.Bool.{true, false}
 use mathlib.Core.Path.{sym, ◌∙◌}
-use Rattle.checker_lengths.proofs.offers.ending.Reads as reads
-use Rattle.checker_lengths.proofs.offers.has.Reads as has-reads
-use Rattle.checker_lengths.proofs.offers.low_end.Reads as low-end-reads
 use Rattle.checker_lengths.proofs.offers.ending.Goals as goal
 
 pub returns-then-e-low : goal.returns-then-e-low

@@ -1,8 +1,5 @@
 use borrow.Author.Tests.{eq-eqb, ne_eqb}
 use Rattle.checker_lengths.specs.Offers as spec
-use Rattle.checker_lengths.proofs.offers.event.Reads as reads
-use Rattle.checker_lengths.proofs.offers.breaking.Reads as breaking-reads
-use Rattle.checker_lengths.proofs.offers.ending.Reads as ending-reads
 use Rattle.checker_lengths.proofs.offers.event.Goals as goal
 
 pub returns-then-c-eq0 : goal.returns-then-c-eq0

@@ -6,13 +6,6 @@ use Rattle.usage.proofs.Logic.{not-true, not-false}
 use Rattle.checker_lengths.specs.Offers.{breaking}
 use mathlib.Core.Path.{sym, ap, ◌∙◌}
 use Prim.Native.Nat.{ℕ}
-use Rattle.checker_lengths.proofs.offers.fresh.Reads as reads
-use Rattle.checker_lengths.proofs.entries.get.Reads as get-reads
-use Rattle.checker_lengths.proofs.entries.plus.Reads as plus-reads
-use Rattle.checker_lengths.proofs.offers.body.Reads as body-Reads
-use Rattle.checker_lengths.proofs.offers.born.Reads as born-reads
-use Rattle.checker_lengths.proofs.offers.breaking.Reads as breaking-reads
-use Rattle.checker_lengths.proofs.offers.has.Reads as has-reads
 use Rattle.checker_lengths.proofs.offers.fresh.Goals as goal
 
 pub returns-then-c-ge-BROKEN : goal.returns-then-c-ge-BROKEN

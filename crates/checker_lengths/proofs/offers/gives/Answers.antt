@@ -8,11 +8,6 @@ use Rattle.automaton.specs.Mask.{has}
 use Rattle.checker_lengths.specs.Entries.{all_lengths, held}
 use Rattle.checker_lengths.specs.Offers as spec
 use Rattle.checker_lengths.proofs.OfferLaws as laws
-use Rattle.checker_lengths.proofs.offers.gives.Reads as reads
-use Rattle.checker_lengths.proofs.entries.get.Reads as get-reads
-use Rattle.checker_lengths.proofs.offers.born.Reads as born-reads
-use Rattle.checker_lengths.proofs.offers.first.Reads as first_reads
-use Rattle.checker_lengths.proofs.offers.has.Reads as has-reads
 use Rattle.checker_lengths.proofs.offers.gives.Goals as goal
 
 pub returns-then-c-ge-BROKEN : goal.returns-then-c-ge-BROKEN

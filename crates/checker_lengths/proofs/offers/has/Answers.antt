@@ -1,5 +1,4 @@
 use Rattle.checker_lengths.proofs.OfferLaws as laws
-use Rattle.checker_lengths.proofs.offers.has.Reads as reads
 use Rattle.checker_lengths.proofs.offers.has.Goals as goal
 
 pub returns : goal.returns

@@ -1,5 +1,4 @@
 use Rattle.checker_account.proofs.CodeLaws.{made_some}
-use Rattle.checker_lengths.proofs.offers.low_end.Reads as reads
 use Rattle.checker_lengths.proofs.offers.low_end.Goals as goal
 
 pub returns-else-m-eq0 : goal.returns-else-m-eq0

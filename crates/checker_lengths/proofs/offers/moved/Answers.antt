@@ -1,7 +1,6 @@
 use borrow.Author.Tests.{lt-ltb, le-ltb}
 use Rattle.checker_lengths.specs.Offers as spec
 use native.Mathlib.Nat.{zero-add}
-use Rattle.checker_lengths.proofs.offers.moved.Reads as reads
 use Rattle.checker_lengths.proofs.offers.moved.Goals as goal
 
 pub returns-then-k-ge-MOST_NODES : goal.returns-then-k-ge-MOST_NODES

@@ -4,18 +4,8 @@ use Prim.Native.Nat.{ℕ}
 use native.Mathlib.Numerals.{add-one}
 use lib.Dec.{eqb}
 use borrow.Author.Tests.{eq-eqb, ne_eqb}
-use Rattle.usage.proofs.Logic.{by_cases}
 use Rattle.checker_lengths.specs.Entries.{held}
 use Rattle.checker_lengths.specs.Offers as spec
-use Rattle.checker_lengths.proofs.offers.offer.Reads as reads
-use Rattle.checker_lengths.proofs.entries.get.Reads as get-reads
-use Rattle.checker_lengths.proofs.offers.at.Reads as at_reads
-use Rattle.checker_lengths.proofs.offers.event.Reads as event-reads
-use Rattle.checker_lengths.proofs.offers.fresh.Reads as fresh-reads
-use Rattle.checker_lengths.proofs.offers.moved.Reads as moved-reads
-use Rattle.checker_lengths.proofs.offers.sandbox.Reads as sandbox-reads
-use Rattle.checker_lengths.proofs.offers.sequence.Reads as sequence-reads
-use Rattle.checker_lengths.proofs.offers.still.Reads as still-reads
 use Rattle.checker_lengths.proofs.offers.offer.Goals as goal
 use Rattle.checker_lengths.proofs.offers.offer.Goals.{else-c-eq0, then-c-eq0}
 
@@ -50,7 +40,7 @@ returns-after-c-eq0 c =
     let look = held a.t.now a.most in
     rw c.in-Choice.is
     (c.get.ensures ∙ ap look (c.at.ensures
-    ∙ ap (spec.at_node a.e) (elim c.if-c-eq0.branch [ then-c-eq0 u ↦ u.1 ∙ sym (ap (λ (b : Bool). cond b c.in-Choice.one c.in-Choice.other) (eq-eqb a.c 0 u.if-c-eq0.true)) | else-c-eq0 u ↦ u.1 ∙ sym (ap (λ (b : Bool). cond b c.in-Choice.one c.in-Choice.other) (ne_eqb a.c 0 u.if-c-eq0.false)) ])))
+    ∙ ap (spec.at_node a.e) (elim c.if-c-eq0.branch [ then-c-eq0 u ↦ u.at-is ∙ sym (ap (λ (b : Bool). cond b c.in-Choice.one c.in-Choice.other) (eq-eqb a.c 0 u.if-c-eq0.true)) | else-c-eq0 u ↦ u.at-is ∙ sym (ap (λ (b : Bool). cond b c.in-Choice.one c.in-Choice.other) (ne_eqb a.c 0 u.if-c-eq0.false)) ])))
 
 pub returns-in-Loop : goal.returns-in-Loop
 unfolding spec.offer_of

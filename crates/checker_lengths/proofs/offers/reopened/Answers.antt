@@ -1,6 +1,5 @@
 use borrow.Author.Tests.{eq-eqb, ne_eqb}
 use Rattle.usage.proofs.Logic.{not-true, not-false}
-use Rattle.checker_lengths.proofs.offers.reopened.Reads as reads
 use Rattle.checker_lengths.proofs.offers.reopened.Goals as goal
 
 pub returns-then-not-w : goal.returns-then-not-w

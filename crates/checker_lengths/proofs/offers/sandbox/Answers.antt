@@ -2,22 +2,16 @@ use Rattle.checker_lengths.specs.Entries.{held, plus}
 use mathlib.Core.Bool.{Bool, cond}
 use mathlib.Core.Path.{ap₂}
 use Rattle.checker_lengths.proofs.OfferLaws as laws
-use Rattle.usage.proofs.Logic.{by_cases}
 use borrow.Author.Tests.{eq-eqb, ne_eqb}
 use mathlib.Core.Bool.{false}
 use mathlib.Core.Path.{sym, ap, ◌∙◌}
-use Rattle.checker_lengths.proofs.offers.sandbox.Reads as reads
-use Rattle.checker_lengths.proofs.entries.get.Reads as get-reads
-use Rattle.checker_lengths.proofs.entries.plus.Reads as plus-reads
-use Rattle.checker_lengths.proofs.offers.inner.Reads as inner-reads
-use Rattle.checker_lengths.proofs.offers.reopened.Reads as reopened-reads
 use Rattle.checker_lengths.proofs.offers.sandbox.Goals as goal
 use Rattle.checker_lengths.proofs.offers.sandbox.Goals.{else-e-eq-BROKEN, then-e-eq-BROKEN}
 
 pub returns-then-c-eq0 : goal.returns-then-c-eq0
 returns-then-c-eq0 c = let a = c.args in let look = held a.t.now a.most in
     c.plus.ensures
-    ∙ ap₂ plus (elim c.if-e-eq-BROKEN.branch [ then-e-eq-BROKEN u ↦ u.1 ∙ sym (ap (λ (b : Bool). cond b 1 2) (eq-eqb a.e.aim 16 u.if-e-eq-BROKEN.true)) | else-e-eq-BROKEN u ↦ u.1 ∙ sym (ap (λ (b : Bool). cond b 1 2) (ne_eqb a.e.aim 16 u.if-e-eq-BROKEN.false)) ])
+    ∙ ap₂ plus (elim c.if-e-eq-BROKEN.branch [ then-e-eq-BROKEN u ↦ u.around-is ∙ sym (ap (λ (b : Bool). cond b 1 2) (eq-eqb a.e.aim 16 u.if-e-eq-BROKEN.true)) | else-e-eq-BROKEN u ↦ u.around-is ∙ sym (ap (λ (b : Bool). cond b 1 2) (ne_eqb a.e.aim 16 u.if-e-eq-BROKEN.false)) ])
     (c.get.ensures ∙ ap look c.inner.ensures)
     ∙ laws.sandbox-on a.w look a.e a.s a.b a.c c.if-c-eq0.true
 

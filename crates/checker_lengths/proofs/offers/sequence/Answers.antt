@@ -3,12 +3,6 @@ use mathlib.Core.Path.{ap₂}
 use Rattle.checker_lengths.proofs.OfferLaws as laws
 use native.Mathlib.Omega.{arith}
 use mathlib.Core.Path.{ap, ◌∙◌}
-use Rattle.checker_lengths.proofs.offers.sequence.Reads as reads
-use Rattle.checker_lengths.proofs.entries.get.Reads as get-reads
-use Rattle.checker_lengths.proofs.entries.plus.Reads as plus-reads
-use Rattle.checker_lengths.proofs.offers.at.Reads as at_reads
-use Rattle.checker_lengths.proofs.offers.first.Reads as first_reads
-use Rattle.checker_lengths.proofs.offers.second.Reads as second_reads
 use Rattle.checker_lengths.proofs.offers.sequence.Goals as goal
 
 pub returns-then-e-ne-BROKEN : goal.returns-then-e-ne-BROKEN

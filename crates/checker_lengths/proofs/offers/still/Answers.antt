@@ -1,6 +1,4 @@
 use Rattle.checker_lengths.proofs.OfferLaws as laws
-use Rattle.checker_lengths.proofs.offers.still.Reads as reads
-use Rattle.checker_lengths.proofs.offers.low_end.Reads as low-end-reads
 use Rattle.checker_lengths.proofs.offers.still.Goals as goal
 
 pub returns-then-e-low : goal.returns-then-e-low
