@@ -1,8 +1,6 @@
 -- That the flat table holds the edges of the records.
 pub mod LoopLaws
 pub mod FlatLaws
--- What a caller by hand is told.
-pub mod CallFlatten
 -- That the judge and the check over records answer as over their flat table.
 pub mod TableLaws
 pub mod Promises

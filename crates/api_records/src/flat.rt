@@ -42,7 +42,7 @@ fn add(mut f: Flat, e: Edge) -> Flat
     f
 }
 
-// The table of the records. (Proved by hand, as is each function over a slice of records.)
+// The table of the records.
 pub(crate) fn flatten(edges: &[Edge]) -> Flat
     ensures { result ≡ flat_of zeros edges.now }
 {
