@@ -11,6 +11,8 @@ use Rattle.sheet_expression.proofs.TextLaws.{
   high_digit,
 }
 use mathlib.Core.Path.{◌∙◌}
+use native.Mathlib.Omega.{arith}
+use lib.ListN.{get_or}
 use Rattle.sheet_expression.proofs.items.begins.Goals as goal
 
 pub returns-then-text-at : goal.returns-then-text-at
@@ -51,19 +53,18 @@ pub returns-in-48-to-57 : goal.returns-in-48-to-57
 returns-in-48-to-57 c =
     let a = c.args in
     c.event.ensures ∙ rw c.number-in-48-to-57.ensures (head-number a.text.now a.at
-    c.if-text-at.false c.if-b-lt48.false
-    c.if-b-lt58.true)
+    c.if-text-at.false (omega arith) (omega arith))
 
 pub returns-in_default : goal.returns-in_default
 returns-in_default c =
     let a = c.args in
-    head-other a.text.now a.at c.if-text-at.false c.in-40.rest.0.0.0.0.1
-    c.in-40.rest.0.0.0.1 c.in-40.rest.0.0.1 c.in-40.rest.0.1 c.in-40.rest.1
-    (low_digit a.text.now _ c.if-b-lt48.true)
+    let n = c.in_default.in_default-own.rest in
+    head-other a.text.now a.at c.if-text-at.false n.0.0.0.0.1 n.0.0.0.1 n.0.0.1 n.0.1 n.1
+    (low_digit a.text.now (get_or a.text.now a.at 0) (omega arith))
 
 pub returns-in_default-2 : goal.returns-in_default-2
 returns-in_default-2 c =
     let a = c.args in
-    head-other a.text.now a.at c.if-text-at.false c.in-40.rest.0.0.0.0.1
-    c.in-40.rest.0.0.0.1 c.in-40.rest.0.0.1 c.in-40.rest.0.1
-    c.in-40.rest.1 (high_digit a.text.now _ c.if-b-lt58.false)
+    let n = c.in_default.in_default-own.rest in
+    head-other a.text.now a.at c.if-text-at.false n.0.0.0.0.1 n.0.0.0.1 n.0.0.1 n.0.1 n.1
+    (high_digit a.text.now (get_or a.text.now a.at 0) (omega arith))
