@@ -407,17 +407,17 @@ fresh-fit d e F = record {
   replies = λ raws. steps-replied raws d [] false F;
 }
 
-load-policies-fit : {d d' : Desk} {text : List ℕ} {a : LoadAnswer} → DeskFit d → LoadsPolicies d text a d' → DeskFit d'
+load-policies-fit : {d : Desk} {text : List ℕ} {a : LoadAnswer} {d' : Desk} → DeskFit d → LoadsPolicies d text a d' → DeskFit d'
 load-policies-fit f (LoadsPolicies.busy b) = f
 load-policies-fit f (LoadsPolicies.no_sheet b e) = f
 load-policies-fit {text = text} f (LoadsPolicies.loads {rows} b e) =
     ([], false, policies-fit (flatten rows) (is_local text) (policies-valid edge_places text rows e))
 
-load-outline-fit : {d d' : Desk} {text : List ℕ} {a : LoadAnswer} → DeskFit d → LoadsOutline text d a d' → DeskFit d'
-load-outline-fit f LoadsOutline.no_policies = tt
-load-outline-fit f (LoadsOutline.busy b) = f
-load-outline-fit f (LoadsOutline.no_sheet b e) = f
-load-outline-fit {text = text} (past, h, F) (LoadsOutline.loads {d} {rows} {v} {m} b e c x) =
+load-outline-fit : {text : List ℕ} {d : Desk} {a : LoadAnswer} {d' : Desk} → LoadsOutline text d a d' → DeskFit d → DeskFit d'
+load-outline-fit LoadsOutline.no_policies f = tt
+load-outline-fit (LoadsOutline.busy b) f = f
+load-outline-fit (LoadsOutline.no_sheet b e) f = f
+load-outline-fit {text = text} (LoadsOutline.loads {d} {rows} {v} {m} b e c x) (past, h, F) =
     ([], false, outline-fits d.edges d.local F.edges (flatten rows) (outline-valid node_places text rows e) m x)
 
 step-fit : (d : Desk) (raw : RawStep) → DeskFit d → DeskFit (step_desk d raw).desk
@@ -428,24 +428,24 @@ step-fit (some d) raw (past, h, F) =
 pub reached-fit : {d : Desk} → Reached d → DeskFit d
 reached-fit zero = tt
 reached-fit (by_policies r l) = load-policies-fit (reached-fit r) l
-reached-fit (by_outline r l) = load-outline-fit (reached-fit r) l
+reached-fit (by_outline r l) = load-outline-fit l (reached-fit r)
 reached-fit (by_step {d} raw r) = step-fit d raw (reached-fit r)
 
 -- ── The promise ──
 
-fresh-policies : {d d' : Desk} {text : List ℕ} {a : LoadAnswer} → LoadsPolicies d text a d' → a ≡ has_policies → FreshDesk d'
+fresh-policies : {d : Desk} {text : List ℕ} {a : LoadAnswer} {d' : Desk} → LoadsPolicies d text a d' → a ≡ has_policies → FreshDesk d'
 fresh-policies (LoadsPolicies.busy b) e = clash (cc)
 fresh-policies (LoadsPolicies.no_sheet b f) e = clash (cc)
 fresh-policies {text = text} (LoadsPolicies.loads {rows} b f) e =
     fresh-fit (record { edges = flatten rows; local = is_local text; outline = none; judge = start_state }) refl
     (policies-fit (flatten rows) (is_local text) (policies-valid edge_places text rows f))
 
-fresh-outline : {d d' : Desk} {text : List ℕ} {a : LoadAnswer} → DeskFit d → LoadsOutline text d a d' → (v : Verdict) → a ≡ has_outline v
-    → FreshDesk d'
-fresh-outline f LoadsOutline.no_policies v e = clash (cc)
-fresh-outline f (LoadsOutline.busy b) v e = clash (cc)
-fresh-outline f (LoadsOutline.no_sheet b g) v e = clash (cc)
-fresh-outline {text = text} (past, h, F) (LoadsOutline.loads {d} {rows} {m = m} b g c x) v e =
+fresh-outline : {text : List ℕ} {d : Desk} {a : LoadAnswer} {d' : Desk} → LoadsOutline text d a d' → DeskFit d → (v : Verdict)
+    → a ≡ has_outline v → FreshDesk d'
+fresh-outline LoadsOutline.no_policies f v e = clash (cc)
+fresh-outline (LoadsOutline.busy b) f v e = clash (cc)
+fresh-outline (LoadsOutline.no_sheet b g) f v e = clash (cc)
+fresh-outline {text = text} (LoadsOutline.loads {d} {rows} {m = m} b g c x) (past, h, F) v e =
     fresh-fit (record {
       edges = d.edges;
       local = d.local;
@@ -457,5 +457,5 @@ fresh-outline {text = text} (past, h, F) (LoadsOutline.loads {d} {rows} {m = m} 
 pub desk-promise : DeskPromise
 desk-promise = record {
   policies = λ d d' text r l. fresh-policies l refl;
-  outline = λ d d' text v r l. fresh-outline (reached-fit r) l v refl;
+  outline = λ d d' text v r l. fresh-outline l (reached-fit r) v refl;
 }

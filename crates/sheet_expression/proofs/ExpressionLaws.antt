@@ -47,7 +47,7 @@ outcome-line (Outcome.is_line l) = l
 module _ (text : List ℕ) where
   ruled-by : {t : Tree} → FewNodes text t → NodesOk (tree_nodes t) → {o : Option Refusal} → Ruled (tree_nodes t) (TreeOk (tree_nodes t)) o
       → ReadAs text (by_rule o (tree_nodes t))
-  ruled-by {t} a d (Ruled.no_Node e) =
+  ruled-by {t} a d (Ruled.no_node e) =
       absurd (let h = nodes-some t in let z : length (tree_nodes t) ≡ 0 = ap length e in let y : ⊥ = omega arith in y)
   ruled-by {t} a d (Ruled.bad_tree h w) = absurd (w.fails (nodes-tree t _ w.is_node))
   ruled-by a d (Ruled.bad_back h x w) = ReadAs.bad_back a d w

@@ -120,7 +120,7 @@ module _ (s : List ℕ) (a : NodeList) (none_yet : a.count ≡ 0) (r : Read) (x 
 -- ── The number of a fault ──
 
 not-nought : {ns : List Node} {P : ℕ → Type 0} {o : Option Refusal} {r : Refusal} → Ruled ns P o → o ≡ some r → r.number ≡ 0 → ⊥
-not-nought (Ruled.no_Node e) p h = let k = ap rule_number p in omega arith
+not-nought (Ruled.no_node e) p h = let k = ap rule_number p in omega arith
 not-nought (Ruled.bad_tree a w) p h = let k = ap rule_number p in omega arith
 not-nought (Ruled.bad_back a b w) p h = let k = ap rule_number p in omega arith
 not-nought (Ruled.bad_name a b c w) p h = let k = ap rule_number p in omega arith

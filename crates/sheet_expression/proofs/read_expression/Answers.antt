@@ -10,9 +10,6 @@ use mathlib.Core.Path.{◌≡◌, sym, ◌∙◌}
 use borrow.Author.Rules.{rules}
 use Rattle.sheet_expression.proofs.read_expression.Goals as goal
 
-long : (c : tie.After-line) → length c.line.result.nodes.table ≡ node_places
-long c = search rules
-
 pub returns-then-table-lt-NODE_TABLE : goal.returns-then-table-lt-NODE_TABLE
 returns-then-table-lt-NODE_TABLE c =
     let a = c.args in
@@ -48,21 +45,24 @@ returns-then-n-gt-MOST_NODES c =
 
 pub slice_bounds-bytes-end : goal.slice_bounds-bytes-end
 slice_bounds-bytes-end c =
+    let long : length c.line-r.result.nodes.table ≡ node_places = search rules in
     let few = c.if-n-gt-MOST_NODES.false in
-    omega (arith, long c)
+    omega (arith, long)
 
 pub slice_bounds-checked-end : goal.slice_bounds-checked-end
 slice_bounds-checked-end c =
+    let long : length c.line-r.result.nodes.table ≡ node_places = search rules in
     let nodes = c.line-r.result.nodes in
     let few = c.if-n-gt-MOST_NODES.false in
-    sym (length-take-le (node_fields * nodes.count) nodes.table (omega (arith, long c)))
+    sym (length-take-le (node_fields * nodes.count) nodes.table (omega (arith, long)))
 
 pub returns-then-number-ne0 : goal.returns-then-number-ne0
 returns-then-number-ne0 c =
+    let long : length c.line-r.result.nodes.table ≡ node_places = search rules in
     let a = c.args in
     let p = length a.table.now in
     let e = into-fault p a.text.now c.if-table-lt-NODE_TABLE.false c.if-text-gt-LONGEST_SHEET.false c.line-r.result c.line-r.ensures
-    c.if-r-ne0.false c.if-n-gt-MOST_NODES.false (long c) _ c.checked-number.ensures c.if-number-ne0.true in
+    c.if-r-ne0.false c.if-n-gt-MOST_NODES.false long _ c.checked-number.ensures c.if-number-ne0.true in
     let h = refused-reads (expression_into p a.text.now) a.table.now 1 _ e in
     record { result_value = h.answers; table_after = h.table }
 
@@ -74,8 +74,9 @@ store-requires c =
 
 pub returns : goal.returns
 returns c =
+    let long : length c.line-r.result.nodes.table ≡ node_places = search rules in
     let a = c.args in
     let h = into-stored (length a.table.now) a.text.now c.if-table-lt-NODE_TABLE.false c.if-text-gt-LONGEST_SHEET.false c.line-r.result
-    c.line-r.ensures c.if-r-ne0.false c.if-n-gt-MOST_NODES.false (long c) a.table.now
+    c.line-r.ensures c.if-r-ne0.false c.if-n-gt-MOST_NODES.false long a.table.now
     (sym c.if-number-ne0.false ∙ c.checked-number.ensures) in
     record { result_value = h.answers; table_after = c.store.ensures ∙ h.table }
