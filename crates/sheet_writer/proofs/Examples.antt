@@ -1,8 +1,7 @@
 -- A sheet written again, shown from the definitions.
 use mathlib.Core.Path.{◌≡◌, refl}
-use mathlib.Core.Bool.{true, false}
-use mathlib.Core.List.{[], flatten}
-use Rattle.usage.specs.Tests.{every, some_of, some_below, edge_ok, is_pair, three_pairs}
+use mathlib.Core.List.{flatten}
+use Rattle.usage.specs.Tests.{some_of, some_below, edge_ok, is_pair, three_pairs}
 use Rattle.usage.specs.Tables.{from, edges_of}
 use Rattle.sheet_bytes.specs.Class.{class_of}
 use Rattle.sheet_bytes.specs.Line.{lines_of, read, values_of}

@@ -29,7 +29,7 @@ use Rattle.sheet_fields.proofs.BelowLaws.{Below, one_below, more-below, edge-bel
 use Rattle.sheet_reader.proofs.WrittenLaws.{nothing_left, names-read}
 use Rattle.report_lines.specs.Decimal.{decimal}
 use Rattle.report_lines.specs.Lines.{field, values_text, values_line, values_room}
-use Rattle.report_lines.proofs.DecimalLaws.{tens, length-below}
+use Rattle.report_lines.proofs.DecimalLaws.{length-below}
 use Rattle.report_lines.proofs.PutLaws.{length-field}
 use Rattle.sheet_writer.specs.Order.{edge_values, earlier, sorted}
 use Rattle.sheet_writer.specs.Text.{edge_text, edges_text, sheet_text}

@@ -19,7 +19,7 @@ pub sort-n-requires : goal.sort-n-requires
 sort-n-requires c =
     let a = c.args in
     let p = c.read_policies-r in
-    let h = policies-held a.text.now p.new.1.0 c.in-Stored.edges c.in-Stored.local (rw c.in-Stored.is at p.ensures.result_value) p.ensures.table_after in
+    let h = policies-held a.text.now p.new.table c.in-Stored.edges c.in-Stored.local (rw c.in-Stored.is at p.ensures.result_value) p.ensures.table_after in
     record { n_le_most_edges = h.few; keys_len = search rules }
 
 pub write-requires : goal.write-requires
@@ -27,7 +27,7 @@ write-requires c =
     let a = c.args in
     let p = c.read_policies-r in
     let s = c.sort-n.ensures in
-    let h = policies-held a.text.now p.new.1.0 c.in-Stored.edges c.in-Stored.local (rw c.in-Stored.is at p.ensures.result_value) p.ensures.table_after in
+    let h = policies-held a.text.now p.new.table c.in-Stored.edges c.in-Stored.local (rw c.in-Stored.is at p.ensures.result_value) p.ensures.table_after in
     let f = h.few in
     let room = c.if-out-lt-LONGEST_SHEET.false in
     record { n_le_most_edges = omega (arith, s.upper_bound); keys_len = s.keys_len_2; longest_sheet_in_bounds = room }
@@ -47,9 +47,9 @@ returns-in-Stored c =
     let s = c.sort-n.ensures in
     let t = c.write.ensures in
     let told = rw c.in-Stored.is at p.ensures.result_value in
-    let h = policies-held a.text.now p.new.1.0 c.in-Stored.edges c.in-Stored.local told p.ensures.table_after in
+    let h = policies-held a.text.now p.new.table c.in-Stored.edges c.in-Stored.local told p.ensures.table_after in
     let choice = policies-choice a.text.now c.in-Stored.edges c.in-Stored.local told in
-    let size : length p.new.1.0 ≡ edge_places = search rules in
-    let e = held-sheet a.text.now p.new.1.0 c.in-Stored.edges c.in-Stored.local _ h size choice s.keys_after in
+    let size : length p.new.table ≡ edge_places = search rules in
+    let e = held-sheet a.text.now p.new.table c.in-Stored.edges c.in-Stored.local _ h size choice s.keys_after in
     let w = accepted-writes a.text.now a.out.now c.if-out-lt-LONGEST_SHEET.false h.rows _ h.result e in
     record { result_value = ap has_length t.value ∙ w.answers; out_after = t.out_after ∙ w.sheet-is }

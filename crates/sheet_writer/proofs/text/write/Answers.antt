@@ -1,8 +1,6 @@
 use native.Mathlib.Omega.{arith}
-use mathlib.Core.Path.{◌≡◌, refl}
-use Prim.Native.Nat.{◌-◌, ◌≤◌}
-use lib.ListN.{length}
-use Rattle.sheet_writer.proofs.LineLaws.{Lines, no_lines, lines-length, one_line, named-lines, names-end}
+use mathlib.Core.Path.{refl}
+use Rattle.sheet_writer.proofs.LineLaws.{no_lines, lines-length, one_line, named-lines, names-end}
 use borrow.Author.Rules.{rules}
 use Rattle.sheet_writer.proofs.text.write.Goals as goal
 
@@ -33,5 +31,6 @@ returns c =
     let t = c.loop-i in
     let p = c.policy_names-at.ensures in
     let room = c.requires.longest_sheet_in_bounds in
-    named-lines c.args.local c.args.out.now c.args.keys.now c.args.n t.i (omega arith) (omega arith) p.value p.out_after
-    t.invariant.1.1
+    let h = named-lines c.args.local c.args.out.now c.args.keys.now c.args.n t.i (omega arith) (omega arith) p.value p.out_after
+    t.invariant.1.1 in
+    record { value = h.0; out_after = h.1 }

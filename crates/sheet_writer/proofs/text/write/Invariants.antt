@@ -1,8 +1,7 @@
-use native.Mathlib.Omega.{arith}
-use mathlib.Core.Path.{◌≡◌, refl}
+use mathlib.Core.Path.{◌≡◌}
 use Prim.Native.Nat.{◌-◌, ◌≤◌}
 use lib.ListN.{length}
-use Rattle.sheet_writer.proofs.LineLaws.{Lines, no_lines, lines-length, one_line, named-lines, names-end}
+use Rattle.sheet_writer.proofs.LineLaws.{Lines}
 use Rattle.sheet_writer.proofs.text.write.Given as goal
 
 abbrev pub invariant-loop-i : goal.invariant-loop-i
