@@ -1,5 +1,5 @@
 -- What an accepted expression stores is a table of nodes that may be lent to be used (else 41), and it is that of its tree.
-use Prim.Native.Nat.{ℕ, zero, suc, ◌+◌, ◌*◌, ◌/◌, ◌%◌, ◌<◌}
+use Prim.Native.Nat.{ℕ, zero, suc, ◌+◌, ◌*◌, ◌/◌, ◌<◌}
 use mathlib.Core.Path.{◌≡◌, refl, sym, ap, subst, ◌∙◌}
 use mathlib.Core.List.{List, [], ◌∷◌, flatten}
 use native.Mathlib.Omega.{arith}
@@ -12,7 +12,7 @@ use Rattle.usage.proofs.TableLaws.{is-from}
 use Rattle.sheet_lines.specs.Sheet.{accepted}
 use Rattle.sheet_grammar.specs.Nodes.{node_with, tree_nodes}
 use Rattle.sheet_expression.specs.Expression.{table_rows, expression_of}
-use Rattle.sheet_expression.proofs.ExpressionLaws.{Accepted, accepted-line}
+use Rattle.sheet_expression.proofs.ExpressionLaws.{accepted-line}
 
 pub rows-length : (ns : List Node) → length (flatten (table_rows ns)) ≡ node_fields * length ns
 unfolding flatten

@@ -1,5 +1,4 @@
-use Rattle.sheet_reader.proofs.StoreLaws.{Filled, none_filled, one-filled, all-filled}
-use Prim.Native.Nat.{◌-◌}
+use Rattle.sheet_reader.proofs.StoreLaws.{none_filled, one-filled, all-filled}
 use lib.ListN.{get_or}
 use Rattle.sheet_expression.proofs.store.Goals as goal
 

@@ -1,4 +1,4 @@
-use Rattle.sheet_reader.proofs.StoreLaws.{Filled, none_filled, one-filled, all-filled}
+use Rattle.sheet_reader.proofs.StoreLaws.{Filled}
 use Prim.Native.Nat.{◌-◌}
 use lib.ListN.{get_or}
 use Rattle.sheet_expression.proofs.store.Given as goal

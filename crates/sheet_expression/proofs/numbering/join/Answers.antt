@@ -1,6 +1,6 @@
 use Rattle.usage.specs.Tables.{node_at_lem}
 use Rattle.usage.specs.declared.Node.{Node}
-use Prim.Native.Nat.{◌*◌, suc, ◌+◌, ◌-◌, ◌≤◌, ◌<◌}
+use Prim.Native.Nat.{◌*◌, suc, ◌+◌, ◌-◌}
 use mathlib.Core.List.{List, [], ◌∷◌, ◌++◌}
 use mathlib.Core.Path.{ap₂, ◌≡◌, refl, ap, ◌∙◌}
 use Rattle.sheet_grammar.specs.Nodes.{node_with}
@@ -45,5 +45,8 @@ returns c =
     let a = c.args in
     let j = c.loop-j.j in
     let i = c.loop-j.invariant in
-    let e : j ≡ a.n.count = omega arith in record { count_value = omega arith; result_value = λ l. i.1.1.1.1.1 ∙ between-all a.n.table a.start (node_with a.kind (a.start + 1) (a.right + 1))
-          a.n.count (j - a.start) (omega arith) }
+    let e : j ≡ a.n.count = omega arith in record {
+      count_value = omega arith;
+      result_value = λ l. i.1.1.1.1.1 ∙ between-all a.n.table a.start (node_with a.kind (a.start + 1) (a.right + 1))
+          a.n.count (j - a.start) (omega arith);
+    }

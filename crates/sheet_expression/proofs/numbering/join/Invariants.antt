@@ -1,13 +1,8 @@
-use Rattle.usage.specs.Tables.{node_at_lem}
-use Rattle.usage.specs.declared.Node.{Node}
-use Prim.Native.Nat.{◌*◌, suc, ◌+◌, ◌-◌, ◌≤◌, ◌<◌}
-use mathlib.Core.List.{List, [], ◌∷◌, ◌++◌}
-use mathlib.Core.Path.{ap₂, ◌≡◌, refl, ap, ◌∙◌}
+use Prim.Native.Nat.{◌+◌, ◌-◌, ◌≤◌, ◌<◌}
+use mathlib.Core.Path.{◌≡◌}
 use Rattle.sheet_grammar.specs.Nodes.{node_with}
-use Rattle.sheet_expression.specs.Code.{listed_nodes, shifted}
-use Rattle.sheet_expression.proofs.ListingLaws.{between, between_none, between_more, between-all}
-use native.Mathlib.Omega.{arith}
-use lib.ListN.{get_or}
+use Rattle.sheet_expression.specs.Code.{listed_nodes}
+use Rattle.sheet_expression.proofs.ListingLaws.{between}
 use Rattle.sheet_expression.proofs.numbering.join.Given as goal
 
 abbrev pub invariant-loop-j : goal.invariant-loop-j
