@@ -22,7 +22,7 @@ use Rattle.usage.specs.Outline.{IsTrace}
 use Rattle.usage.specs.Valid.{OutlineOk}
 use Rattle.usage.specs.Check.{Leaves}
 use Rattle.usage.specs.Tables.{edges_of, is_edge_table}
-use Rattle.usage.proofs.Logic.{clash, by_cases}
+use Rattle.usage.proofs.Logic.{by_cases}
 use Rattle.usage.proofs.PastLaws.{member-event, member-opening, member-closing}
 use Rattle.usage.proofs.JudgeLaws.{Fits, CaseOf, case-of}
 use Rattle.usage.proofs.RetiringLaws.{created-live}
@@ -84,6 +84,7 @@ step_fits (event a r) past (inl t) low = (let e = t.0 in omega arith, low.low a 
 step_fits (event a r) past (inr t) low = (t.1, low.low a r (Memᴰ.head refl))
 step_fits (opening p) past h low = h
 step_fits (closing p) past h low = h.2
+step_fits (retiring _) past h low = elim h [ ]
 
 step-read : (step : Step) → Fits step → step_of (raw_of step) ≡ some step
 unfolding step_of

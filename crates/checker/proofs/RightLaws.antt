@@ -1,7 +1,7 @@
 -- Some verdict is right, whatever the tables are: so what is promised of the right one is never promised of nothing. A policy that it names
 -- is one of the eight.
 use Prim.Native.Nat.{ℕ, zero, suc, ◌/◌, ◌<◌, ◌≤◌}
-use mathlib.Core.Path.{◌≡◌, refl, subst, sym}
+use mathlib.Core.Path.{◌≡◌, refl, subst}
 use mathlib.Core.Bool.{Bool, true, false}
 use mathlib.Core.List.{List}
 use mathlib.Core.Logic.{◌⊎◌, inl, inr}
@@ -93,3 +93,4 @@ pub right-number : (local : Bool) (t n : List ℕ) (k : ℕ) → RightVerdict lo
     → (k ≡ 41) × ((EdgeTable t → ⊥) ⊎ (NodeTable n → ⊥))
 right-number local t n k (no_edges f) = (refl, inl f)
 right-number local t n k (no_nodes f) = (refl, inr f)
+right-number local t n k (checked _ _ x) = elim x [ ]

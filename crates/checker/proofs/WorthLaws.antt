@@ -1,12 +1,11 @@
 -- A choice that is not worth a search has a static resource that no event is on.
 use Prim.Native.Nat.{ℕ, ◌/◌}
-use mathlib.Core.Path.{◌≡◌, refl, sym}
+use mathlib.Core.Path.{◌≡◌, refl}
 use mathlib.Core.Bool.{Bool, true, false, ◌&&◌}
 use mathlib.Core.List.{List}
 use mathlib.Core.Logic.{◌⊎◌, inl, inr}
 use lib.ListN.{length}
 use Rattle.usage.specs.Limits.{node_fields}
-use Rattle.usage.proofs.Logic.{false-true}
 use Rattle.checker_account.specs.declared.Resources.{Resources}
 use Rattle.checker_account.specs.Filling.{forms_in, Skips}
 use Rattle.checker_tables.specs.Search.{touched}

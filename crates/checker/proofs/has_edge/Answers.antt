@@ -1,7 +1,4 @@
-use lib.Dec.{eqb}
-use mathlib.Core.Bool.{Bool, false}
-use mathlib.Core.List.{List}
-use Prim.Native.Nat.{◌*◌, ◌/◌, ℕ, ◌-◌, ◌≤◌}
+use Prim.Native.Nat.{◌*◌, ◌/◌}
 use borrow.Author.Tests.{eq-eqb, ne_eqb}
 use Rattle.usage.specs.Tests.{some_below}
 use Rattle.automaton.proofs.MaskLaws.{some_at}

@@ -1,19 +1,18 @@
 use lib.Dec.{eqb}
-use mathlib.Core.Bool.{Bool, false, ◌&&◌}
-use mathlib.Core.List.{List}
+use mathlib.Core.Bool.{Bool, ◌&&◌}
 use mathlib.Core.Path.{◌≡◌, refl, sym, ap}
-use Prim.Native.Nat.{◌*◌, ◌/◌, ℕ, ◌+◌, ◌-◌, ◌≤◌}
+use Prim.Native.Nat.{◌*◌, ◌/◌, ◌+◌}
 use native.Mathlib.Omega.{arith}
 use lib.ListN.{length, get_or}
 use borrow.Author.Tests.{eq-eqb, ne_eqb}
 use Rattle.usage.specs.Tests.{some_below}
-use Rattle.usage.proofs.Logic.{by_cases, and_both, and-false}
+use Rattle.usage.proofs.Logic.{and_both, and-false}
 use Rattle.automaton.proofs.MaskLaws.{some_at}
 use Rattle.checker_account.proofs.CodeLaws.{none_more}
 use Rattle.checker.specs.Code.{pair_in}
 use borrow.Author.Rules.{rules}
 use Rattle.checker.proofs.is_pair.Goals as goal
-use Rattle.checker.proofs.is_pair.Goals.{else-edges-i, then-edges-i}
+use Rattle.checker.proofs.is_pair.Goals.{else-edges-i, then-edges-i+else-edges-i-eq-ON_SECOND}
 use Rattle.checker.proofs.is_pair.Invariants.{test}
 
 pub loop-i-init : goal.loop-i-init
@@ -39,13 +38,16 @@ loop-i-preserved c =
     let l = c.loop-i in
     let x = get_or a.edges.now (6 * l.i) 0 in
     let y = get_or a.edges.now (6 * l.i + 3) 0 in
-    elim c.if-edges-i.branch [ then-edges-i w ↦ (
-      search rules,
-      none_more (test a.edges.now a.p) l.i l.invariant.1 (and-false (eqb x a.p) (eqb y 3) (ne_eqb y 3 w.2.left)),
-    ) | else-edges-i w ↦ (
-      search rules,
-      none_more (test a.edges.now a.p) l.i l.invariant.1 (ap (λ (b : Bool). b && eqb y 3) (ne_eqb x a.p w.left)),
-    ) ]
+    elim c.if-edges-i.branch [
+      | then-edges-i+else-edges-i-eq-ON_SECOND w ↦ (
+        search rules,
+        none_more (test a.edges.now a.p) l.i l.invariant.1 (and-false (eqb x a.p) (eqb y 3) (ne_eqb y 3 w.if-edges-i-eq-ON_SECOND.false)),
+      )
+      | else-edges-i w ↦ (
+        search rules,
+        none_more (test a.edges.now a.p) l.i l.invariant.1 (ap (λ (b : Bool). b && eqb y 3) (ne_eqb x a.p w.if-edges-i.false)),
+      )
+    ]
 
 pub returns : goal.returns
 unfolding pair_in

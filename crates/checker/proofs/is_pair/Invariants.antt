@@ -1,16 +1,10 @@
 use lib.Dec.{eqb}
 use mathlib.Core.Bool.{Bool, false, ◌&&◌}
 use mathlib.Core.List.{List}
-use mathlib.Core.Path.{◌≡◌, refl, sym, ap}
-use Prim.Native.Nat.{◌*◌, ◌/◌, ℕ, ◌+◌, ◌-◌, ◌≤◌}
-use native.Mathlib.Omega.{arith}
-use lib.ListN.{length, get_or}
-use borrow.Author.Tests.{eq-eqb, ne_eqb}
+use mathlib.Core.Path.{◌≡◌}
+use Prim.Native.Nat.{◌*◌, ℕ, ◌+◌, ◌-◌, ◌≤◌}
+use lib.ListN.{get_or}
 use Rattle.usage.specs.Tests.{some_below}
-use Rattle.usage.proofs.Logic.{by_cases, and_both, and-false}
-use Rattle.automaton.proofs.MaskLaws.{some_at}
-use Rattle.checker_account.proofs.CodeLaws.{none_more}
-use Rattle.checker.specs.Code.{pair_in}
 use Rattle.checker.proofs.is_pair.Given as goal
 
 abbrev pub test : List ℕ → ℕ → ℕ → Bool

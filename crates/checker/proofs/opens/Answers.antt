@@ -1,10 +1,9 @@
 use lib.Dec.{eqb}
-use mathlib.Core.Bool.{Bool, false, ◌&&◌}
-use mathlib.Core.List.{List}
-use Prim.Native.Nat.{◌*◌, ◌/◌, ℕ, ◌+◌, ◌-◌, ◌≤◌}
+use mathlib.Core.Bool.{Bool, ◌&&◌}
+use Prim.Native.Nat.{◌*◌, ◌/◌, ◌+◌}
 use borrow.Author.Tests.{eq-eqb, ne_eqb}
 use Rattle.usage.specs.Tests.{some_below}
-use Rattle.usage.proofs.Logic.{by_cases, and_both, and-false}
+use Rattle.usage.proofs.Logic.{and_both, and-false}
 use Rattle.automaton.proofs.MaskLaws.{some_at}
 use Rattle.checker.specs.Code.{opens}
 use Rattle.checker_account.proofs.CodeLaws.{none_more}
@@ -13,7 +12,7 @@ use mathlib.Core.Path.{◌≡◌, refl, sym, ap}
 use lib.ListN.{length, get_or}
 use borrow.Author.Rules.{rules}
 use Rattle.checker.proofs.opens.Goals as goal
-use Rattle.checker.proofs.opens.Goals.{else-nodes-k-eq-SANDBOX, then-nodes-k-eq-SANDBOX}
+use Rattle.checker.proofs.opens.Goals.{else-nodes-k-eq-SANDBOX, then-nodes-k-eq-SANDBOX+else-nodes-k}
 use Rattle.checker.proofs.opens.Invariants.{test}
 
 pub loop-k-init : goal.loop-k-init
@@ -39,15 +38,18 @@ loop-k-preserved c =
     let l = c.loop-k in
     let x = get_or a.nodes.now (3 * l.k) 0 in
     let y = get_or a.nodes.now (3 * l.k + 1) 0 in
-    elim c.if-nodes-k-eq-SANDBOX.branch [ then-nodes-k-eq-SANDBOX w ↦ (
-      search rules,
-      none_more (test a.nodes.now a.p) l.k l.invariant.1
-          (and-false (eqb x 8) (eqb y a.p) (ne_eqb y a.p w.2.left)),
-    ) | else-nodes-k-eq-SANDBOX w ↦ (
-      search rules,
-      none_more (test a.nodes.now a.p) l.k l.invariant.1
-          (ap (λ (b : Bool). b && eqb y a.p) (ne_eqb x 8 w.left)),
-    ) ]
+    elim c.if-nodes-k-eq-SANDBOX.branch [
+      | then-nodes-k-eq-SANDBOX+else-nodes-k w ↦ (
+        search rules,
+        none_more (test a.nodes.now a.p) l.k l.invariant.1
+            (and-false (eqb x 8) (eqb y a.p) (ne_eqb y a.p w.if-nodes-k.false)),
+      )
+      | else-nodes-k-eq-SANDBOX w ↦ (
+        search rules,
+        none_more (test a.nodes.now a.p) l.k l.invariant.1
+            (ap (λ (b : Bool). b && eqb y a.p) (ne_eqb x 8 w.if-nodes-k-eq-SANDBOX.false)),
+      )
+    ]
 
 pub returns : goal.returns
 unfolding opens

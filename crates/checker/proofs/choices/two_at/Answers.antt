@@ -1,4 +1,4 @@
-use mathlib.Core.Path.{◌≡◌, sym, ap}
+use mathlib.Core.Path.{sym, ap}
 use mathlib.Core.Bool.{Bool, cond}
 use Prim.Native.Nat.{◌/◌, ◌%◌}
 use borrow.Author.Tests.{eq-eqb, ne_eqb}

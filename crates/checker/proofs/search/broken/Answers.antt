@@ -1,18 +1,17 @@
-use mathlib.Core.Path.{◌≡◌, sym, ap, ◌∙◌, subst}
+use mathlib.Core.Path.{◌≡◌, sym, ◌∙◌, subst}
 use mathlib.Core.Bool.{Bool, true, false}
 use mathlib.Core.List.{List}
 use mathlib.Core.Logic.{◌⊎◌, inl, inr}
 use native.Mathlib.Nat.{not-suc-le-zero}
 use native.Mathlib.Omega.{arith}
-use Prim.Native.Nat.{ℕ, ◌-◌, ◌/◌, ◌≤◌, ◌<◌}
+use Prim.Native.Nat.{ℕ, ◌/◌, ◌<◌}
 use lib.ListN.{length}
 use borrow.Author.Count.{below_more}
 use Rattle.usage.specs.Limits.{node_fields}
 use Rattle.usage.specs.Valid.{OutlineOk}
 use Rattle.usage.specs.Tables.{nodes_of}
-use Rattle.usage.proofs.Logic.{by_cases}
 use Rattle.checker_account.specs.declared.Resources.{Resources}
-use Rattle.checker_account.specs.Filling.{forms_in, Asked, Skips, found, none_found}
+use Rattle.checker_account.specs.Filling.{forms_in, Skips, found, none_found}
 use Rattle.checker_account.specs.Choices.{choice_count, choice_at}
 use Rattle.checker_account.proofs.ChoiceLaws.{choice-asked, asked-numbered}
 use Rattle.checker_tables.specs.Search.{has_room, SearchedIn, SearchedIf}
@@ -21,7 +20,7 @@ use Rattle.checker.specs.Code.{worth_of}
 use Rattle.checker.proofs.WorthLaws.{not-worth}
 use borrow.Author.Rules.{rules}
 use Rattle.checker.proofs.search.broken.Goals as goal
-use Rattle.checker.proofs.search.broken.Goals.{else-worth, then-worth}
+use Rattle.checker.proofs.search.broken.Goals.{else-worth, then-worth+else-breaks}
 use Rattle.checker.proofs.search.broken.Invariants.{Clear}
 
 -- the nodes of an accepted outline fit
@@ -58,9 +57,12 @@ loop-i-preserved c =
     let x = c.at-x in
     let t = c.worth in
     let clear : Clear a.nodes.now a.local a.rows.now a.p a.pair l.i =
-    elim c.if-worth.branch [ then-worth w ↦ inr (told a.nodes.now a.local a.rows.now a.p x.result (choice_at a.pair l.i) w.1.result false p
-    x.ensures w.1.ensures w.2.left) | else-worth w ↦ skipped a.nodes.now a.local a.rows.now a.p a.pair l.i x.result t.result x.ensures t.ensures
-    w.left ] in
+    elim c.if-worth.branch [
+      | then-worth+else-breaks w ↦ inr (told a.nodes.now a.local a.rows.now a.p x.result (choice_at a.pair l.i) w.breaks.result false p
+          x.ensures w.breaks.ensures w.if-breaks.false)
+      | else-worth w ↦ skipped a.nodes.now a.local a.rows.now a.p a.pair l.i x.result t.result x.ensures t.ensures
+          w.if-worth.false
+    ] in
     (search rules, below_more (Clear a.nodes.now a.local a.rows.now a.p a.pair) l.i l.invariant.1 clear)
 
 pub returns : goal.returns

@@ -1,24 +1,12 @@
-use mathlib.Core.Path.{◌≡◌, sym, ap, ◌∙◌, subst}
-use mathlib.Core.Bool.{Bool, true, false}
+use mathlib.Core.Bool.{Bool, false}
 use mathlib.Core.List.{List}
-use mathlib.Core.Logic.{◌⊎◌, inl, inr}
-use native.Mathlib.Nat.{not-suc-le-zero}
-use native.Mathlib.Omega.{arith}
+use mathlib.Core.Logic.{◌⊎◌}
 use Prim.Native.Nat.{ℕ, ◌-◌, ◌/◌, ◌≤◌, ◌<◌}
 use lib.ListN.{length}
-use borrow.Author.Count.{below_more}
 use Rattle.usage.specs.Limits.{node_fields}
-use Rattle.usage.specs.Valid.{OutlineOk}
-use Rattle.usage.specs.Tables.{nodes_of}
-use Rattle.usage.proofs.Logic.{by_cases}
-use Rattle.checker_account.specs.declared.Resources.{Resources}
-use Rattle.checker_account.specs.Filling.{forms_in, Asked, Skips, found, none_found}
-use Rattle.checker_account.specs.Choices.{choice_count, choice_at}
-use Rattle.checker_account.proofs.ChoiceLaws.{choice-asked, asked-numbered}
-use Rattle.checker_tables.specs.Search.{has_room, SearchedIn, SearchedIf}
-use Rattle.checker_tables.proofs.FitLaws.{outline-fits}
-use Rattle.checker.specs.Code.{worth_of}
-use Rattle.checker.proofs.WorthLaws.{not-worth}
+use Rattle.checker_account.specs.Filling.{forms_in, Skips}
+use Rattle.checker_account.specs.Choices.{choice_at}
+use Rattle.checker_tables.specs.Search.{SearchedIn}
 use Rattle.checker.proofs.search.broken.Given as goal
 
 -- nothing is found with the j-th choice watched, or it need not be

@@ -33,5 +33,5 @@ returns c =
     f.ensures ∙ whole_in (rows_at (edges_of a.edges.now)) k.result a.p a.nodes.now p.p_lt_policies
     (few_nodes a.local a.edges.now a.nodes.now p.edges_ok p.outline_ok) in
     looked-by a.local a.edges.now a.nodes.now p.edges_ok p.outline_ok a.p p.p_lt_policies k.result k.ensures
-    f.new.1.1.1.1.0 e c.broken.result
+    f.new.rows e c.broken.result
     c.broken.ensures

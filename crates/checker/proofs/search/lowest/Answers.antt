@@ -7,7 +7,7 @@ use Rattle.usage.proofs.Logic.{not-both}
 use Rattle.checker.proofs.PolicyLaws.{named-lowest, all-good}
 use native.Mathlib.Omega.{arith}
 use mathlib.Core.Path.{◌≡◌}
-use Prim.Native.Nat.{ℕ, ◌-◌, ◌≤◌, ◌<◌}
+use Prim.Native.Nat.{ℕ}
 use borrow.Author.Rules.{rules}
 use Rattle.checker.proofs.search.lowest.Goals as goal
 

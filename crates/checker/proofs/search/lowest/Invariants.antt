@@ -1,12 +1,6 @@
-use native.Mathlib.Nat.{not-suc-le-zero}
-use borrow.Author.Count.{below_more}
 use Rattle.usage.specs.Limits.{policies}
 use Rattle.usage.specs.Tables.{edges_of, nodes_of}
 use Rattle.usage.specs.Check.{Leaves}
-use Rattle.usage.proofs.Logic.{not-both}
-use Rattle.checker.proofs.PolicyLaws.{named-lowest, all-good}
-use native.Mathlib.Omega.{arith}
-use mathlib.Core.Path.{◌≡◌}
 use Prim.Native.Nat.{ℕ, ◌-◌, ◌≤◌, ◌<◌}
 use Rattle.checker.proofs.search.lowest.Given as goal
 

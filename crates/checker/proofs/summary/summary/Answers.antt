@@ -1,7 +1,5 @@
 use mathlib.Core.Path.{◌≡◌, sym, ◌∙◌}
-use mathlib.Core.Bool.{true, false}
-use native.Mathlib.Omega.{arith}
-use lib.Dec.{lit<}
+use mathlib.Core.Bool.{false}
 use Rattle.usage.specs.Tables.{is_edge_table, is_node_table}
 use Rattle.usage.proofs.Logic.{not-true, not-false, not-both}
 use Rattle.usage.proofs.TableLaws.{decides-edge-table, decides-node-table}
@@ -38,7 +36,7 @@ returns c =
     let a = c.args in
     let e = c.edge_table_ok in
     let n = c.node_table_ok in
-    marks-told a.local a.edges.now a.nodes.now a.marks.now c.write.new.1.1.1.0
+    marks-told a.local a.edges.now a.nodes.now a.marks.now c.write.new.marks
     c.if-marks-lt-POLICIES.false
     ((decides-edge-table a.edges.now).0 (sym e.ensures
     ∙ not-false e.result c.if-not-edge_table_ok.false-raw))

@@ -1,9 +1,8 @@
-use mathlib.Core.Path.{◌≡◌, refl, sym, ◌∙◌, subst}
-use Prim.Native.Nat.{ℕ, ◌-◌, ◌≤◌}
-use native.Mathlib.Omega.{arith}
-use lib.ListN.{length, length-set}
+use mathlib.Core.Path.{◌≡◌}
+use Prim.Native.Nat.{◌-◌, ◌≤◌}
+use lib.ListN.{length}
 use Rattle.usage.specs.Limits.{policies}
-use Rattle.checker.proofs.SummaryLaws.{Writing, writing-none, writing_more, writing-all}
+use Rattle.checker.proofs.SummaryLaws.{Writing}
 use Rattle.checker.proofs.summary.write.Given as goal
 
 abbrev pub invariant-loop-p : goal.invariant-loop-p
