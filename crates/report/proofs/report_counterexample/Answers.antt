@@ -16,7 +16,7 @@ overflow_mul-n c =
     let a = c.args in
     let p = c.read_policies-reading in
     let n = c.in-Stored.n in
-    let h = policies-held a.policies.now p.new.1.0 n c.in-Stored.local (rw c.in-Stored.is at p.ensures.result_value) p.ensures.table_after in
+    let h = policies-held a.policies.now p.new.table n c.in-Stored.local (rw c.in-Stored.is at p.ensures.result_value) p.ensures.table_after in
     let f : n ≤ most_edges = h.few in
     search rules
 
@@ -25,7 +25,7 @@ slice_bounds-of_text-end c =
     let a = c.args in
     let p = c.read_policies-reading in
     let n = c.in-Stored.n in
-    let h = policies-held a.policies.now p.new.1.0 n c.in-Stored.local (rw c.in-Stored.is at p.ensures.result_value) p.ensures.table_after in
+    let h = policies-held a.policies.now p.new.table n c.in-Stored.local (rw c.in-Stored.is at p.ensures.result_value) p.ensures.table_after in
     let f : n ≤ most_edges = h.few in
     search rules
 
@@ -42,8 +42,8 @@ returns-in-Stored c =
     let a = c.args in
     let p = c.read_policies-reading in
     let n = c.in-Stored.n in
-    let h = policies-held a.policies.now p.new.1.0 n c.in-Stored.local (rw c.in-Stored.is at p.ensures.result_value) p.ensures.table_after in
-    let choice = policies-choice a.policies.now n c.in-Stored.local (rw c.in-Stored.is at p.ensures.result_value) in record { value = (λ l. absurd (omega arith)); prints = (λ l. edges-held a.policies.now a.outline.now a.out.now p.new.1.0 n h
+    let h = policies-held a.policies.now p.new.table n c.in-Stored.local (rw c.in-Stored.is at p.ensures.result_value) p.ensures.table_after in
+    let choice = policies-choice a.policies.now n c.in-Stored.local (rw c.in-Stored.is at p.ensures.result_value) in record { value = (λ l. absurd (omega arith)); prints = (λ l. edges-held a.policies.now a.outline.now a.out.now p.new.table n h
           (rw choice at c.of_text.ensures)) }
 
 pub returns-in-Refused : goal.returns-in-Refused

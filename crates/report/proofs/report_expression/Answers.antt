@@ -11,14 +11,15 @@ use Rattle.report.proofs.report_expression.Goals as goal
 pub returns-then-out-lt-EXPRESSION_ROOM : goal.returns-then-out-lt-EXPRESSION_ROOM
 returns-then-out-lt-EXPRESSION_ROOM c =
     let a = c.args in
-    no_room expression_room a.out.now (expression_printed a.text.now) c.if-out-lt-EXPRESSION_ROOM.true
+    let y = no_room expression_room a.out.now (expression_printed a.text.now) c.if-out-lt-EXPRESSION_ROOM.true in
+    record { value = y.0; out_after = y.1 }
 
 pub overflow_mul-n : goal.overflow_mul-n
 overflow_mul-n c =
     let a = c.args in
     let p = c.read_expression-reading in
     let n = c.in-Stored.n in
-    let h = expression-held a.text.now p.new.1.0 n (rw c.in-Stored.is at p.ensures.result_value) p.ensures.table_after in
+    let h = expression-held a.text.now p.new.table n (rw c.in-Stored.is at p.ensures.result_value) p.ensures.table_after in
     let f : n ≤ most_nodes = h.few in
     search rules
 
@@ -27,7 +28,7 @@ slice_bounds-sheet-end c =
     let a = c.args in
     let p = c.read_expression-reading in
     let n = c.in-Stored.n in
-    let h = expression-held a.text.now p.new.1.0 n (rw c.in-Stored.is at p.ensures.result_value) p.ensures.table_after in
+    let h = expression-held a.text.now p.new.table n (rw c.in-Stored.is at p.ensures.result_value) p.ensures.table_after in
     let f : n ≤ most_nodes = h.few in
     search rules
 
@@ -36,8 +37,8 @@ sheet-requires c =
     let a = c.args in
     let p = c.read_expression-reading in
     let n = c.in-Stored.n in
-    let h = expression-held a.text.now p.new.1.0 n (rw c.in-Stored.is at p.ensures.result_value) p.ensures.table_after in
-    let l = held-short a.text.now p.new.1.0 n h in
+    let h = expression-held a.text.now p.new.table n (rw c.in-Stored.is at p.ensures.result_value) p.ensures.table_after in
+    let l = held-short a.text.now p.new.table n h in
     omega arith
 
 pub refused-requires : goal.refused-requires
@@ -53,13 +54,15 @@ returns-in-Stored c =
     let a = c.args in
     let p = c.read_expression-reading in
     let n = c.in-Stored.n in
-    let h = expression-held a.text.now p.new.1.0 n (rw c.in-Stored.is at p.ensures.result_value) p.ensures.table_after in
+    let h = expression-held a.text.now p.new.table n (rw c.in-Stored.is at p.ensures.result_value) p.ensures.table_after in
     let s = c.sheet in
-    printed-nodes a.text.now p.new.1.0 n h a.out.now c.if-out-lt-EXPRESSION_ROOM.false s.ensures.value s.ensures.out_after
+    let y = printed-nodes a.text.now p.new.table n h a.out.now c.if-out-lt-EXPRESSION_ROOM.false s.ensures.value s.ensures.out_after in
+    record { value = y.0; out_after = y.1 }
 
 pub returns-in-Refused : goal.returns-in-Refused
 returns-in-Refused c =
     let a = c.args in
     let p = c.read_expression-reading in
     let z = expression-refused-as a.text.now c.in-Refused.line c.in-Refused.number (rw c.in-Refused.is at p.ensures.result_value) in
-    printed-refusal a.text.now c.in-Refused.line c.in-Refused.number z a.out.now c.if-out-lt-EXPRESSION_ROOM.false c.refused.ensures
+    let y = printed-refusal a.text.now c.in-Refused.line c.in-Refused.number z a.out.now c.if-out-lt-EXPRESSION_ROOM.false c.refused.ensures in
+    record { value = y.0; out_after = y.1 }

@@ -21,14 +21,15 @@ rest text v edges = nodes_row (ruled_result (sheet outline_sheet text)) v
 pub returns-then-out-lt-OUTLINE_ROOM : goal.returns-then-out-lt-OUTLINE_ROOM
 returns-then-out-lt-OUTLINE_ROOM c =
     let a = c.args in
-    outline-no-room a.policies.now a.outline.now a.out.now (omega arith)
+    let y = outline-no-room a.policies.now a.outline.now a.out.now (omega arith) in
+    record { value = y.0; out_after = y.1.0; right_texts = y.1.1 }
 
 pub overflow_mul-n : goal.overflow_mul-n
 overflow_mul-n c =
     let a = c.args in
     let p = c.read_policies-reading in
     let n = c.in-Stored.n in
-    let h = policies-held a.policies.now p.new.1.0 n c.in-Stored.local (rw c.in-Stored.is at p.ensures.result_value) p.ensures.table_after in
+    let h = policies-held a.policies.now p.new.table n c.in-Stored.local (rw c.in-Stored.is at p.ensures.result_value) p.ensures.table_after in
     let f : n ≤ most_edges = h.few in
     search rules
 
@@ -37,7 +38,7 @@ slice_bounds-row-end c =
     let a = c.args in
     let p = c.read_policies-reading in
     let n = c.in-Stored.n in
-    let h = policies-held a.policies.now p.new.1.0 n c.in-Stored.local (rw c.in-Stored.is at p.ensures.result_value) p.ensures.table_after in
+    let h = policies-held a.policies.now p.new.table n c.in-Stored.local (rw c.in-Stored.is at p.ensures.result_value) p.ensures.table_after in
     let f : n ≤ most_edges = h.few in
     search rules
 
@@ -57,17 +58,20 @@ returns-in-Stored c =
     let p = c.read_policies-reading in
     let t = c.row in
     let n = c.in-Stored.n in
-    let h = policies-held a.policies.now p.new.1.0 n c.in-Stored.local (rw c.in-Stored.is at p.ensures.result_value) p.ensures.table_after in
-    let right = right-held a.policies.now a.outline.now p.new.1.0 n h in
+    let h = policies-held a.policies.now p.new.table n c.in-Stored.local (rw c.in-Stored.is at p.ensures.result_value) p.ensures.table_after in
+    let right = right-held a.policies.now a.outline.now p.new.table n h in
     let choice = policies-choice a.policies.now n c.in-Stored.local (rw c.in-Stored.is at p.ensures.result_value) in
-    let told = rw choice at t.ensures in
-    let w₀ = told.1.1.0.0 in
-    outline-put a.policies.now a.outline.now a.out.now t.result _ w₀ ((right w₀).1 told.1.1.0.1) (λ v l.
-    let r = told.0 v ((right v).0 l) in
-    let b = told.1.1.1 in
+    let value = rw choice at t.ensures.value in
+    let after = rw choice at t.ensures.out_after in
+    let one = rw choice at t.ensures.right_nodes in
+    let w₀ = one.0 in
+    let y = outline-put a.policies.now a.outline.now a.out.now t.result _ w₀ ((right w₀).1 one.1) (λ v l.
+    let r = value v ((right v).0 l) in
+    let b = t.ensures.upper_bound in
     printed-held a.out.now (omega arith) w.result w.new.out w.ensures.value w.ensures.out_after outline_room a.policies.now
     (rest a.outline.now v)
-    (omega arith) (omega arith) p.new.1.0 n h r (told.1.0 v ((right v).0 l)) (omega arith))
+    (omega arith) (omega arith) p.new.table n h r (after v ((right v).0 l)) (omega arith)) in
+    record { value = y.0; out_after = y.1.0; right_texts = y.1.1 }
 
 pub returns-in-Refused : goal.returns-in-Refused
 unfolding outline_printed
@@ -78,7 +82,8 @@ returns-in-Refused c =
     let t = c.row-in-Refused in
     let z = policies-refused a.policies.now c.in-Refused.line c.in-Refused.number (rw c.in-Refused.is at p.ensures.result_value) in
     let right = right-refused a.policies.now a.outline.now c.in-Refused.line c.in-Refused.number z in
-    outline-put a.policies.now a.outline.now a.out.now t.result _ allowed (right allowed) (λ v l.
+    let y = outline-put a.policies.now a.outline.now a.out.now t.result _ allowed (right allowed) (λ v l.
     printed-refused a.out.now (omega arith) w.result w.new.out w.ensures.value w.ensures.out_after outline_room a.policies.now
     (rest a.outline.now v)
-    (omega arith) (omega arith) c.in-Refused.line c.in-Refused.number z t.ensures.value t.ensures.out_after)
+    (omega arith) (omega arith) c.in-Refused.line c.in-Refused.number z t.ensures.value t.ensures.out_after) in
+    record { value = y.0; out_after = y.1.0; right_texts = y.1.1 }

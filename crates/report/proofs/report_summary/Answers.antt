@@ -10,14 +10,15 @@ use Rattle.report.proofs.report_summary.Goals as goal
 pub returns-then-out-lt-SUMMARY_ROOM : goal.returns-then-out-lt-SUMMARY_ROOM
 returns-then-out-lt-SUMMARY_ROOM c =
     let a = c.args in
-    summary-no-room a.policies.now a.outline.now a.out.now (omega arith)
+    let y = summary-no-room a.policies.now a.outline.now a.out.now (omega arith) in
+    record { value = y.0; out_after = y.1.0; right_summary = y.1.1 }
 
 pub overflow_mul-n : goal.overflow_mul-n
 overflow_mul-n c =
     let a = c.args in
     let p = c.read_policies-reading in
     let n = c.in-Stored.n in
-    let h = policies-held a.policies.now p.new.1.0 n c.in-Stored.local (rw c.in-Stored.is at p.ensures.result_value) p.ensures.table_after in
+    let h = policies-held a.policies.now p.new.table n c.in-Stored.local (rw c.in-Stored.is at p.ensures.result_value) p.ensures.table_after in
     let f : n ≤ most_edges = h.few in
     search rules
 
@@ -26,7 +27,7 @@ slice_bounds-of_text-end c =
     let a = c.args in
     let p = c.read_policies-reading in
     let n = c.in-Stored.n in
-    let h = policies-held a.policies.now p.new.1.0 n c.in-Stored.local (rw c.in-Stored.is at p.ensures.result_value) p.ensures.table_after in
+    let h = policies-held a.policies.now p.new.table n c.in-Stored.local (rw c.in-Stored.is at p.ensures.result_value) p.ensures.table_after in
     let f : n ≤ most_edges = h.few in
     search rules
 
@@ -35,8 +36,8 @@ of_text-requires c =
     let a = c.args in
     let p = c.read_policies-reading in
     let n = c.in-Stored.n in
-    let h = policies-held a.policies.now p.new.1.0 n c.in-Stored.local (rw c.in-Stored.is at p.ensures.result_value) p.ensures.table_after in
-    record { edge_table = edges-table a.policies.now p.new.1.0 n h; summary_room_in_bounds = search rules }
+    let h = policies-held a.policies.now p.new.table n c.in-Stored.local (rw c.in-Stored.is at p.ensures.result_value) p.ensures.table_after in
+    record { edge_table = edges-table a.policies.now p.new.table n h; summary_room_in_bounds = search rules }
 
 pub refused-requires : goal.refused-requires
 refused-requires c =
@@ -51,16 +52,18 @@ returns-in-Stored c =
     let a = c.args in
     let p = c.read_policies-reading in
     let n = c.in-Stored.n in
-    let h = policies-held a.policies.now p.new.1.0 n c.in-Stored.local (rw c.in-Stored.is at p.ensures.result_value) p.ensures.table_after in
+    let h = policies-held a.policies.now p.new.table n c.in-Stored.local (rw c.in-Stored.is at p.ensures.result_value) p.ensures.table_after in
     let choice = policies-choice a.policies.now n c.in-Stored.local (rw c.in-Stored.is at p.ensures.result_value) in
-    summary-put a.policies.now a.outline.now a.out.now (omega arith)
-    (edges-marks a.policies.now a.outline.now a.out.now p.new.1.0 n h
-    (rw choice at c.of_text.ensures))
+    let y = summary-put a.policies.now a.outline.now a.out.now (omega arith)
+    (edges-marks a.policies.now a.outline.now a.out.now p.new.table n h
+    (rw choice at c.of_text.ensures)) in
+    record { value = y.0; out_after = y.1.0; right_summary = y.1.1 }
 
 pub returns-in-Refused : goal.returns-in-Refused
 returns-in-Refused c =
     let a = c.args in
     let p = c.read_policies-reading in
     let z = policies-refused a.policies.now c.in-Refused.line c.in-Refused.number (rw c.in-Refused.is at p.ensures.result_value) in
-    summary-put a.policies.now a.outline.now a.out.now (omega arith)
-    (edges-no-marks a.policies.now a.outline.now a.out.now c.in-Refused.line c.in-Refused.number z c.refused.ensures)
+    let y = summary-put a.policies.now a.outline.now a.out.now (omega arith)
+    (edges-no-marks a.policies.now a.outline.now a.out.now c.in-Refused.line c.in-Refused.number z c.refused.ensures) in
+    record { value = y.0; out_after = y.1.0; right_summary = y.1.1 }

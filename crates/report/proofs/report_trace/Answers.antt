@@ -21,14 +21,15 @@ rest local text edges = trace_rows edges local (sheet trace_sheet text)
 pub returns-then-out-lt-TRACE_ROOM : goal.returns-then-out-lt-TRACE_ROOM
 returns-then-out-lt-TRACE_ROOM c =
     let a = c.args in
-    no_room trace_room a.out.now (trace_printed a.policies.now a.trace.now) (omega arith)
+    let y = no_room trace_room a.out.now (trace_printed a.policies.now a.trace.now) (omega arith) in
+    record { value = y.0; out_after = y.1 }
 
 pub overflow_mul-n : goal.overflow_mul-n
 overflow_mul-n c =
     let a = c.args in
     let p = c.read_policies-reading in
     let n = c.in-Stored.n in
-    let h = policies-held a.policies.now p.new.1.0 n c.in-Stored.local (rw c.in-Stored.is at p.ensures.result_value) p.ensures.table_after in
+    let h = policies-held a.policies.now p.new.table n c.in-Stored.local (rw c.in-Stored.is at p.ensures.result_value) p.ensures.table_after in
     let f : n ≤ most_edges = h.few in
     search rules
 
@@ -37,7 +38,7 @@ slice_bounds-rows-end c =
     let a = c.args in
     let p = c.read_policies-reading in
     let n = c.in-Stored.n in
-    let h = policies-held a.policies.now p.new.1.0 n c.in-Stored.local (rw c.in-Stored.is at p.ensures.result_value) p.ensures.table_after in
+    let h = policies-held a.policies.now p.new.table n c.in-Stored.local (rw c.in-Stored.is at p.ensures.result_value) p.ensures.table_after in
     let f : n ≤ most_edges = h.few in
     search rules
 
@@ -57,12 +58,13 @@ returns-in-Stored c =
     let p = c.read_policies-reading in
     let t = c.rows in
     let n = c.in-Stored.n in
-    let h = policies-held a.policies.now p.new.1.0 n c.in-Stored.local (rw c.in-Stored.is at p.ensures.result_value) p.ensures.table_after in
+    let h = policies-held a.policies.now p.new.table n c.in-Stored.local (rw c.in-Stored.is at p.ensures.result_value) p.ensures.table_after in
     let choice = policies-choice a.policies.now n c.in-Stored.local (rw c.in-Stored.is at p.ensures.result_value) in
-    let l = rows_fit (take (n * 6 - 0) p.new.1.0) (is_local a.policies.now) a.trace.now in
-    printed-held a.out.now (omega arith) w.result w.new.out w.ensures.value w.ensures.out_after trace_room a.policies.now
+    let l = rows_fit (take (n * 6 - 0) p.new.table) (is_local a.policies.now) a.trace.now in
+    let y = printed-held a.out.now (omega arith) w.result w.new.out w.ensures.value w.ensures.out_after trace_room a.policies.now
     (rest (is_local a.policies.now) a.trace.now)
-    (omega arith) (omega arith) p.new.1.0 n h (rw choice at t.ensures.value) (rw choice at t.ensures.out_after) (omega arith)
+    (omega arith) (omega arith) p.new.table n h (rw choice at t.ensures.value) (rw choice at t.ensures.out_after) (omega arith) in
+    record { value = y.0; out_after = y.1 }
 
 pub returns-in-Refused : goal.returns-in-Refused
 unfolding trace_printed
@@ -72,6 +74,7 @@ returns-in-Refused c =
     let p = c.read_policies-reading in
     let t = c.row in
     let z = policies-refused a.policies.now c.in-Refused.line c.in-Refused.number (rw c.in-Refused.is at p.ensures.result_value) in
-    printed-refused a.out.now (omega arith) w.result w.new.out w.ensures.value w.ensures.out_after trace_room a.policies.now
+    let y = printed-refused a.out.now (omega arith) w.result w.new.out w.ensures.value w.ensures.out_after trace_room a.policies.now
     (rest (is_local a.policies.now) a.trace.now)
-    (omega arith) (omega arith) c.in-Refused.line c.in-Refused.number z t.ensures.value t.ensures.out_after
+    (omega arith) (omega arith) c.in-Refused.line c.in-Refused.number z t.ensures.value t.ensures.out_after in
+    record { value = y.0; out_after = y.1 }

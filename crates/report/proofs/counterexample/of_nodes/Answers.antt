@@ -33,7 +33,7 @@ returns c =
     let l = length-trace-names in
     let short = held-short f in
     let z = then-stored a.out.now trace_names_line w.result w.new.out w.ensures.value w.ensures.out_after (omega arith)
-    (step_rows (from (step_at_lem k.new.1.1.1.0) 0 s.result))
+    (step_rows (from (step_at_lem k.new.trace) 0 s.result))
     (rw s.ensures (omega arith)) t.ensures.value t.ensures.out_after in
     let y = rw s.ensures at z in
-    record { explanation = k.result; trace = k.new.1.1.1.0; right = k.ensures; told = y.0; holds = y.1 }
+    record { explanation = k.result; trace = k.new.trace; right = k.ensures; told = y.0; holds = y.1 }

@@ -10,6 +10,7 @@ returns c =
     let w = c.names-at in
     let r = c.row in
     let k = length-names in
-    then-put a.out.now names_line w.result w.new.out w.ensures.value w.ensures.out_after (omega arith)
+    let y = then-put a.out.now names_line w.result w.new.out w.ensures.value w.ensures.out_after (omega arith)
     (row a.line a.sheet a.number)
-    (omega arith) r.ensures.value r.ensures.out_after
+    (omega arith) r.ensures.value r.ensures.out_after in
+    record { value = y.0; out_after = y.1 }

@@ -22,5 +22,6 @@ returns c =
     let w = c.node_names-at in
     let r = c.rows in
     let l = length-node-names in
-    then-stored a.out.now node_names_line w.result w.new.out w.ensures.value w.ensures.out_after (omega arith)
-    (numbered_nodes 0 (nodes_of a.nodes.now)) (omega arith) r.ensures.value r.ensures.out_after
+    let y = then-stored a.out.now node_names_line w.result w.new.out w.ensures.value w.ensures.out_after (omega arith)
+    (numbered_nodes 0 (nodes_of a.nodes.now)) (omega arith) r.ensures.value r.ensures.out_after in
+    record { value = y.0; out_after = y.1 }

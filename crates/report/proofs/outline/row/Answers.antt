@@ -15,7 +15,7 @@ overflow_mul-n c =
     let a = c.args in
     let r = c.read_outline-reading in
     let n = c.in-Stored.n in
-    let h = outline-held a.text.now r.new.1.0 n (rw c.in-Stored.is at r.ensures.result_value) r.ensures.table_after in
+    let h = outline-held a.text.now r.new.table n (rw c.in-Stored.is at r.ensures.result_value) r.ensures.table_after in
     let f : n ≤ most_nodes = h.few in
     search rules
 
@@ -24,7 +24,7 @@ slice_bounds-check-end c =
     let a = c.args in
     let r = c.read_outline-reading in
     let n = c.in-Stored.n in
-    let h = outline-held a.text.now r.new.1.0 n (rw c.in-Stored.is at r.ensures.result_value) r.ensures.table_after in
+    let h = outline-held a.text.now r.new.table n (rw c.in-Stored.is at r.ensures.result_value) r.ensures.table_after in
     let f : n ≤ most_nodes = h.few in
     search rules
 
@@ -33,15 +33,16 @@ returns-in-Stored c =
     let a = c.args in
     let r = c.read_outline-reading in
     let n = c.in-Stored.n in
-    let h = outline-held a.text.now r.new.1.0 n (rw c.in-Stored.is at r.ensures.result_value) r.ensures.table_after in
+    let h = outline-held a.text.now r.new.table n (rw c.in-Stored.is at r.ensures.result_value) r.ensures.table_after in
     let w = c.row in
     let m = c.outcome_number in
     let d = c.outcome_detail in
     let k = c.check-a in
     let room = c.requires in
     let b : Fits w8 d.result = search rules in
-    put-checked a.local a.edges.now a.text.now a.out.now w.new.out a.at w.result room r.new.1.0 n h
-    (outcome_verdict k.result) m.result d.result k.ensures m.ensures d.ensures b.fits w.ensures.value w.ensures.out_after
+    let y = put-checked a.local a.edges.now a.text.now a.out.now w.new.out a.at w.result room r.new.table n h
+    (outcome_verdict k.result) m.result d.result k.ensures m.ensures d.ensures b.fits w.ensures.value w.ensures.out_after in
+    record { value = y.0; out_after = y.1.0; right_nodes = y.1.1.0; upper_bound = y.1.1.1 }
 
 pub returns-in-Refused : goal.returns-in-Refused
 returns-in-Refused c =
@@ -49,6 +50,7 @@ returns-in-Refused c =
     let r = c.read_outline-reading in
     let w = c.row-in-Refused in
     let z = outline-refused-as a.text.now c.in-Refused.line c.in-Refused.number (rw c.in-Refused.is at r.ensures.result_value) in
-    put_refused a.local a.edges.now a.text.now a.out.now
+    let y = put_refused a.local a.edges.now a.text.now a.out.now
     w.new.out a.at w.result (omega arith) c.in-Refused.line c.in-Refused.number z
-    allowed w.ensures.value w.ensures.out_after
+    allowed w.ensures.value w.ensures.out_after in
+    record { value = y.0; out_after = y.1.0; right_nodes = y.1.1.0; upper_bound = y.1.1.1 }

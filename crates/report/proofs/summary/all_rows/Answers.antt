@@ -36,4 +36,5 @@ unfolding marks_text
 returns c =
     let a = c.args in
     let t = c.loop-p in
-    writing-done (of a.marks.now) policies a.out.now a.at t.out t.next t.p t.invariant.1 c.loop-p-test.false
+    let y = writing-done (of a.marks.now) policies a.out.now a.at t.out t.next t.p t.invariant.1 c.loop-p-test.false in
+    record { value = y.0; out_after = y.1 }

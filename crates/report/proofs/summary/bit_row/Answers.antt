@@ -18,10 +18,11 @@ returns-then-n-i-eq1 c =
     let r = c.mark_row in
     let e = bit-set a.n a.p a.i (sym (has-bit a.n a.i) ∙ eq-eqb _ _ c.if-n-i-eq1.true) in
     let k = ap length e in
-    rw e (stored_at a.out.now a.at (mark_row_lem a.p a.i) (omega arith) r.ensures.value r.ensures.out_after)
+    let y = stored_at a.out.now a.at (mark_row_lem a.p a.i) (omega arith) r.ensures.value r.ensures.out_after in
+    rw e (record { value = y.0; out_after = y.1 })
 
 pub returns : goal.returns
 returns c =
     let a = c.args in
     let e = bit-clear a.n a.p a.i (sym (has-bit a.n a.i) ∙ ne_eqb _ _ c.if-n-i-eq1.false) in
-    rw e (search rules)
+    rw e (record { value = search rules; out_after = search rules })

@@ -14,7 +14,7 @@ all_rows-requires c =
     let l = length-mark-names in
     let e = first-end a.out.now mark_names_line w.result w.new.out w.ensures.value w.ensures.out_after (omega arith) in
     let m = first-length a.out.now mark_names_line w.result w.new.out w.ensures.value w.ensures.out_after (omega arith) in
-    let short = marks-short k.new.1.1.1.0 in
+    let short = marks-short k.new.marks in
     omega arith
 
 pub returns : goal.returns
@@ -24,8 +24,8 @@ returns c =
     let w = c.mark_names-at in
     let t = c.all_rows in
     let l = length-mark-names in
-    let short = marks-short k.new.1.1.1.0 in
+    let short = marks-short k.new.marks in
     let z = then-stored a.out.now mark_names_line w.result w.new.out w.ensures.value w.ensures.out_after (omega arith)
-    (marks_text k.new.1.1.1.0) (omega arith) t.ensures.value t.ensures.out_after in
+    (marks_text k.new.marks) (omega arith) t.ensures.value t.ensures.out_after in
     let p = c.requires in
-    record { summary = k.new.1.1.1.0; right = summarized-exact p.edge_table p.node_table k.ensures; told = z.0; holds = z.1 }
+    record { summary = k.new.marks; right = summarized-exact p.edge_table p.node_table k.ensures; told = z.0; holds = z.1 }

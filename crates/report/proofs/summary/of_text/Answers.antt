@@ -12,7 +12,7 @@ overflow_mul-n c =
     let a = c.args in
     let r = c.read_outline-reading in
     let n = c.in-Stored.n in
-    let h = outline-held a.text.now r.new.1.0 n (rw c.in-Stored.is at r.ensures.result_value) r.ensures.table_after in
+    let h = outline-held a.text.now r.new.table n (rw c.in-Stored.is at r.ensures.result_value) r.ensures.table_after in
     let f : n ≤ most_nodes = h.few in
     search rules
 
@@ -21,7 +21,7 @@ slice_bounds-of_nodes-end c =
     let a = c.args in
     let r = c.read_outline-reading in
     let n = c.in-Stored.n in
-    let h = outline-held a.text.now r.new.1.0 n (rw c.in-Stored.is at r.ensures.result_value) r.ensures.table_after in
+    let h = outline-held a.text.now r.new.table n (rw c.in-Stored.is at r.ensures.result_value) r.ensures.table_after in
     let f : n ≤ most_nodes = h.few in
     search rules
 
@@ -30,8 +30,8 @@ of_nodes-requires c =
     let a = c.args in
     let r = c.read_outline-reading in
     let n = c.in-Stored.n in
-    let h = outline-held a.text.now r.new.1.0 n (rw c.in-Stored.is at r.ensures.result_value) r.ensures.table_after in
-    record { edge_table = search rules; node_table = nodes-table a.text.now r.new.1.0 n h; summary_room_in_bounds = search rules }
+    let h = outline-held a.text.now r.new.table n (rw c.in-Stored.is at r.ensures.result_value) r.ensures.table_after in
+    record { edge_table = search rules; node_table = nodes-table a.text.now r.new.table n h; summary_room_in_bounds = search rules }
 
 pub refused-requires : goal.refused-requires
 refused-requires c =
@@ -46,8 +46,8 @@ returns-in-Stored c =
     let a = c.args in
     let r = c.read_outline-reading in
     let n = c.in-Stored.n in
-    let h = outline-held a.text.now r.new.1.0 n (rw c.in-Stored.is at r.ensures.result_value) r.ensures.table_after in
-    nodes-marks a.local a.edges.now a.text.now r.new.1.0 n a.out.now h c.of_nodes.ensures
+    let h = outline-held a.text.now r.new.table n (rw c.in-Stored.is at r.ensures.result_value) r.ensures.table_after in
+    nodes-marks a.local a.edges.now a.text.now r.new.table n a.out.now h c.of_nodes.ensures
 
 pub returns-in-Refused : goal.returns-in-Refused
 returns-in-Refused c =

@@ -32,4 +32,5 @@ unfolding policy_text
 returns c =
     let a = c.args in
     let t = c.loop-i in
-    writing-done (bit_text a.n a.p) mark_bits a.out.now a.at t.out t.next t.i t.invariant.1 c.loop-i-test.false
+    let y = writing-done (bit_text a.n a.p) mark_bits a.out.now a.at t.out t.next t.i t.invariant.1 c.loop-i-test.false in
+    record { value = y.0; out_after = y.1 }

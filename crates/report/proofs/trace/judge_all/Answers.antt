@@ -32,8 +32,7 @@ loop-i-preserved c =
     let k = c.judge_lent-t in
     let r = c.row-next in
     going_on c.loop-i.invariant
-    (judgement_of k.result (lent_of k.new.pairs.1.0 k.new.pairs.1.1.0
-    k.new.pairs.1.1.1.0 k.new.pairs.1.1.1.1.0 k.new.pairs.1.1.1.1.1.0 k.new.pairs.1.1.1.1.1.1.0))
+    (judgement_of k.result (lent_of k.new.sets k.new.pairs k.new.possible k.new.created k.new.unclosed k.new.order))
     c.step_at.ensures
     k.ensures c.number_of.ensures c.detail_of.ensures
     r.ensures.value r.ensures.out_after

@@ -17,7 +17,7 @@ overflow_mul-n c =
     let a = c.args in
     let r = c.read_trace-reading in
     let n = c.in-Stored.n in
-    let h = trace-held a.text.now r.new.1.0 n (rw c.in-Stored.is at r.ensures.result_value) r.ensures.table_after in
+    let h = trace-held a.text.now r.new.table n (rw c.in-Stored.is at r.ensures.result_value) r.ensures.table_after in
     let f : n ≤ most_steps = h.few in
     search rules
 
@@ -26,7 +26,7 @@ slice_bounds-judge_all-end c =
     let a = c.args in
     let r = c.read_trace-reading in
     let n = c.in-Stored.n in
-    let h = trace-held a.text.now r.new.1.0 n (rw c.in-Stored.is at r.ensures.result_value) r.ensures.table_after in
+    let h = trace-held a.text.now r.new.table n (rw c.in-Stored.is at r.ensures.result_value) r.ensures.table_after in
     let f : n ≤ most_steps = h.few in
     search rules
 
@@ -35,9 +35,9 @@ judge_all-requires c =
     let a = c.args in
     let r = c.read_trace-reading in
     let n = c.in-Stored.n in
-    let h = trace-held a.text.now r.new.1.0 n (rw c.in-Stored.is at r.ensures.result_value) r.ensures.table_after in
+    let h = trace-held a.text.now r.new.table n (rw c.in-Stored.is at r.ensures.result_value) r.ensures.table_after in
     let f : n ≤ most_steps = h.few in
-    let k = length-take (n * 3 - 0) r.new.1.0 in
+    let k = length-take (n * 3 - 0) r.new.table in
     record { steps_len_bound = omega arith; step_fields_in_bounds = omega arith }
 
 pub returns-in-Stored : goal.returns-in-Stored
@@ -45,9 +45,9 @@ returns-in-Stored c =
     let a = c.args in
     let r = c.read_trace-reading in
     let n = c.in-Stored.n in
-    let h = trace-held a.text.now r.new.1.0 n (rw c.in-Stored.is at r.ensures.result_value) r.ensures.table_after in
+    let h = trace-held a.text.now r.new.table n (rw c.in-Stored.is at r.ensures.result_value) r.ensures.table_after in
     let j = c.judge_all in
-    let e = rows-held a.edges.now a.local a.text.now r.new.1.0 n h in
+    let e = rows-held a.edges.now a.local a.text.now r.new.table n h in
     record { value = rw e j.ensures.value; out_after = rw e j.ensures.out_after }
 
 pub returns-in-Refused : goal.returns-in-Refused
@@ -56,7 +56,7 @@ returns-in-Refused c =
     let r = c.read_trace-reading in
     let w = c.row in
     let z = trace-refused a.text.now c.in-Refused.line c.in-Refused.number (rw c.in-Refused.is at r.ensures.result_value) in
-    let e = row-refused a.edges.now a.local a.text.now r.new.1.0 c.in-Refused.line c.in-Refused.number z in
+    let e = row-refused a.edges.now a.local a.text.now r.new.table c.in-Refused.line c.in-Refused.number z in
     let l : Fits w64 c.in-Refused.line = search rules in
     let m : Fits w8 c.in-Refused.number = search rules in
     let k = row_fits c.in-Refused.line 4 c.in-Refused.number l.fits (omega arith) m.fits in
