@@ -332,6 +332,11 @@ agree-all-answers looks t local s (raw ∷ raws) (both e a) =
 
 -- ── The exact summary ──
 
+-- a retiring is no last step
+none_made : (last : Last) {p r : ℕ} → Made p last (retiring r) → ⊥
+none_made (by_action a) h = elim h [ ]
+none_made by_opening h = elim h [ ]
+
 module _ (t : List ℕ) (ok : is_edge_table t ≡ true) (local : Bool) (ns : List Node) (outline : OutlineOk ns) (m : Summary)
     (exact : Exact local (edges_of t) ns m) where
   pub exact-covers : (step : Step) (past : Past) → IsTrace ns (step ∷ past) → Covered local (edges_of t) m step past
@@ -348,10 +353,7 @@ module _ (t : List ℕ) (ok : is_edge_table t ≡ true) (local : Bool) (ns : Lis
       exact-covers (opening s) (thinned past) tr p l last made ((thinned-violates local (edges_of t) p (opening s ∷ past)).1 v)
   thinned-covers (closing s) past tr p l last made v =
       exact-covers (closing s) (thinned past) tr p l last made ((thinned-violates local (edges_of t) p (closing s ∷ past)).1 v)
-  thinned-covers (retiring r) past tr p l last made v = absurd (none_made made)
-    where
-      none_made : Made p last (retiring r) → ⊥
-      none_made = elim [ ]
+  thinned-covers (retiring r) past tr p l last made v = absurd (none_made last made)
 
   thinned-tail : (step : Step) (past : Past) → IsTrace ns (thinned (step ∷ past)) → IsTrace ns (thinned past)
   unfolding thinned

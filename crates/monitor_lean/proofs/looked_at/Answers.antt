@@ -39,14 +39,14 @@ mark_bit-requires c = record { i_le_opening_bit = search rules; p_lt_policies = 
       (sym c.read_step-read.ensures ∙ ap (λ (x : Read). says x) c.in-Opening.is) }
 
 pub returns-in-Event : goal.returns-in-Event
-returns-in-Event c =
+returns-in-Event c read e p l =
     let a = c.args in
     let is = sym c.read_step-read.ensures ∙ ap (λ (x : Read). says x) c.in-Event.is in
     subst (λ (s : Step). has c.marked_at.result p ≡ marked a.marks.now s p) (step_same is e)
     (ap (λ (n : ℕ). has n p) c.marked_at.ensures ∙ event-set a.marks.now _ p l)
 
 pub returns-in-Opening : goal.returns-in-Opening
-returns-in-Opening c =
+returns-in-Opening c read e p l =
     let a = c.args in
     let is = sym c.read_step-read.ensures
     ∙ ap (λ (x : Read). says x) c.in-Opening.is in
@@ -54,19 +54,19 @@ returns-in-Opening c =
     (ap (λ (n : ℕ). has n p) c.mark_bit.ensures ∙ opening-set a.marks.now _ p (step_fits a.step (opening _) is) l _ refl)
 
 pub returns-in-Closing : goal.returns-in-Closing
-returns-in-Closing c =
+returns-in-Closing c read e p l =
     let a = c.args in
     let is : step_of a.step ≡ some (closing _) =
     sym c.read_step-read.ensures ∙ ap (λ (x : Read). says x) c.in-Closing.is in
     subst (λ (s : Step). has 0 p ≡ marked a.marks.now s p) (step_same is e) (has-zero p)
 
 pub returns-in-Retiring : goal.returns-in-Retiring
-returns-in-Retiring c =
+returns-in-Retiring c read e p l =
     let a = c.args in
     let is : step_of a.step ≡ some (retiring _) =
     sym c.read_step-read.ensures ∙ ap (λ (x : Read). says x) c.in-Retiring.is in
     subst (λ (s : Step). has 0 p ≡ marked a.marks.now s p) (step_same is e) (has-zero p)
 
 pub returns-in-Nothing : goal.returns-in-Nothing
-returns-in-Nothing c =
+returns-in-Nothing c read e p l =
     none-some (sym (sym c.read_step-read.ensures ∙ ap (λ (x : Read). says x) c.in-Nothing.is) ∙ e)
