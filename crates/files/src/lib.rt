@@ -20,13 +20,16 @@ pub fn read_sheet(rt: &impl Files, path: &[u8], buffer: &mut [u8; SHEET_ROOM]) -
 pub fn read_file(rt: &impl Files, path: &[u8], buffer: &mut [u8]) -> usize
     ensures { IsPrefixLen result buffer.new }
 {
-    let Ok(name) = str::from_utf8(path) else {
-        return 0;
-    };
-    let Ok(mut file) = fs::open(rt, name) else {
+    let Some(mut file) = opened(rt, path) else {
         return 0;
     };
     fill(&mut file, buffer)
+}
+
+// The file at this path, where the path is text and the file can be opened.
+fn opened<R: Files>(rt: &R, path: &[u8]) -> Option<R::File> {
+    let name = str::from_utf8(path).ok()?;
+    fs::open(rt, name).ok()
 }
 
 // Reads until the buffer is full, the input ends or a read fails; how many bytes were read.
