@@ -1,16 +1,13 @@
 -- With a summary that marks what can go wrong, the lean judge answers as the full judge.
-use Prim.Native.Nat.{ℕ, zero, suc, ◌^◌, ◌<◌}
-use mathlib.Core.Path.{◌≡◌, refl, sym, ap, ap₂, ◌∙◌, subst}
+use Prim.Native.Nat.{ℕ, ◌<◌}
+use mathlib.Core.Path.{◌≡◌, refl, sym, ap, ◌∙◌, subst}
 use mathlib.Core.Bool.{Bool, true, false, not, ◌&&◌, cond}
 use mathlib.Core.List.{List, [], ◌∷◌, map}
 use mathlib.Core.Option.{Option, none, some, some-injective}
-use mathlib.Core.Logic.{◌⊎◌, inl, inr}
 use native.Mathlib.Omega.{arith}
 use native.Mathlib.Decide.{ℕ_discrete}
-use lib.Dec.{eqb, ltb, lit<}
-use lib.ListN.{get_or}
-use lib.Bits.{bit_or}
-use borrow.Author.Tests.{eq-eqb, ne_eqb, ltb-true}
+use lib.Dec.{eqb, ltb}
+use borrow.Author.Tests.{eq-eqb, ltb-true}
 use Rattle.usage.specs.declared.Edge.{Edge}
 use Rattle.usage.specs.declared.Node.{Node}
 use Rattle.usage.specs.declared.RawStep.{RawStep}
@@ -27,18 +24,17 @@ use Rattle.usage.specs.Tables.{edges_of, is_edge_table}
 use Rattle.usage.proofs.Logic.{none-some, false-true, and_left, and_right, and_both}
 use Rattle.usage.proofs.PastLaws.{violates-opening, violates-closing, violates-retiring}
 use Rattle.usage.proofs.ThinnedLaws.{thinned-violates}
-use Rattle.usage.proofs.JudgeLaws.{Fits, step_fits, step_same}
+use Rattle.usage.proofs.JudgeLaws.{step_fits}
 use Rattle.usage.proofs.TraceLaws.{trace-tail}
-use Rattle.automaton.specs.Mask.{has, union, offends}
+use Rattle.automaton.specs.Mask.{offends}
 use Rattle.usage.proofs.TableLaws.{decides-edge-table}
 use Rattle.monitor_state.specs.declared.State.{State}
 use Rattle.monitor_state.specs.declared.Answer.{Answer}
 use Rattle.monitor_state.specs.declared.Answer.TheVariants.{Allowed, Violated, Refused}
 use Rattle.monitor_state.specs.declared.Judgement.{Judgement}
 use Rattle.monitor_state.specs.Judge.{verdict_of, state_ok_lem, openings_of, possible_in, after, broken, refusal, refuse, settle, judge_step, judge_read}
-use Rattle.monitor_state.specs.Judge.{halt, judge_of, answers_of, start_state}
+use Rattle.monitor_state.specs.Judge.{judge_of, answers_of, start_state}
 use Rattle.monitor_state.specs.Represents.{Represents}
-use Rattle.monitor_state.specs.Promise.{Promised, Kept}
 use Rattle.monitor_state.proofs.StartLaws.{begin-represents}
 use Rattle.monitor_state.proofs.UnclosedLaws.{count-pos-open}
 use Rattle.monitor_state.proofs.BrokenLaws.{offends-broken}
@@ -49,8 +45,8 @@ use Rattle.monitor_state.proofs.Verdict.{state-well, judge-promised}
 use Rattle.checker.specs.Accepted.{raw_of, onto}
 use Rattle.checker.specs.Summary.{marks, Exact}
 use Rattle.checker.proofs.SummaryLaws.{in-table}
-use Rattle.monitor_lean.specs.Lean.{Looks, at_all, breaks_in, broken_among, judge_step_by, judge_read_by, judge_by, answers_by, marked}
-use Rattle.monitor_lean.specs.Lean.{Summary, opening_bit, mark_at, cut_at, up_to_refusal, Agree, done, stops, next, lean_answers}
+use Rattle.monitor_lean.specs.Lean.{Looks, breaks_in, broken_among, judge_step_by, judge_read_by, judge_by, answers_by, marked}
+use Rattle.monitor_lean.specs.Lean.{Summary, opening_bit, mark_at, cut_at, up_to_refusal, Agree, done, stops, next}
 use Rattle.monitor_lean.specs.Lean.{AgreeAll, none_left, both, unless_refused, not_refused}
 use Rattle.monitor_lean.specs.Promise.{LeanAgrees, LeanAnswers, LeanAgreesAll, LeanAnswersAll, LeanPromise}
 

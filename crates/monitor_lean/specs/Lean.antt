@@ -1,6 +1,6 @@
 -- The lean judge: at each step it looks at the policies that a summary marks there. The full judge looks at all of them.
-use Rattle.std.specs.Prelude.{ℕ, suc, ◌≡◌, Bool, true, false, ◌&&◌, List, [], ◌∷◌, eqb}
-use Rattle.std.proofs.Math.Option.{Option, none, some}
+use Rattle.std.specs.Prelude.{ℕ, ◌≡◌, Bool, false, ◌&&◌, List, [], ◌∷◌, eqb}
+use Rattle.std.proofs.Math.Option.{Option}
 use Rattle.usage.specs.declared.RawStep.{RawStep}
 use Rattle.usage.specs.Past.{Step, event, opening, closing, retiring, Past}
 use Rattle.usage.specs.Judge.{step_of, then}

@@ -1,8 +1,7 @@
-use Prim.Native.Nat.{ℕ, ◌<◌}
+use Prim.Native.Nat.{ℕ}
 use mathlib.Core.Path.{◌≡◌, refl, sym, ap, ◌∙◌, subst}
-use mathlib.Core.Option.{Option, none, some}
+use mathlib.Core.Option.{some}
 use native.Mathlib.Omega.{arith}
-use Rattle.usage.specs.Limits.{policies}
 use Rattle.usage.specs.Past.{Step, event, opening, closing, retiring}
 use Rattle.usage.specs.Judge.{step_of}
 use Rattle.usage.proofs.Logic.{none-some}
@@ -35,8 +34,11 @@ bounds-marks-p c =
     omega (arith, f)
 
 pub mark_bit-requires : goal.mark_bit-requires
-mark_bit-requires c = record { i_le_opening_bit = search rules; p_lt_policies = step_fits c.args.step (opening _)
-      (sym c.read_step-read.ensures ∙ ap (λ (x : Read). says x) c.in-Opening.is) }
+mark_bit-requires c = record {
+  i_le_opening_bit = search rules;
+  p_lt_policies = step_fits c.args.step (opening _)
+      (sym c.read_step-read.ensures ∙ ap (λ (x : Read). says x) c.in-Opening.is);
+}
 
 pub returns-in-Event : goal.returns-in-Event
 returns-in-Event c read e p l =

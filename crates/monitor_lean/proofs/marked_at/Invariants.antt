@@ -1,10 +1,8 @@
 use Prim.Native.Nat.{◌-◌, ◌≤◌, ◌^◌}
-use mathlib.Core.Path.{◌≡◌, refl}
+use mathlib.Core.Path.{◌≡◌}
 use mathlib.Core.Bool.{cond}
-use native.Mathlib.Omega.{arith}
 use Rattle.usage.specs.Limits.{policies}
 use Rattle.automaton.specs.Mask.{union}
-use Rattle.monitor_sets.proofs.SetLaws.{union_more}
 use Rattle.monitor_lean.specs.Lean.{mark_at}
 use Rattle.monitor_lean.proofs.marked_at.Given as goal
 
