@@ -51,4 +51,4 @@ returns-in-Refused c =
     let a = c.args in
     let p = c.read_policies-reading in
     let z = policies-refused a.policies.now c.in-Refused.line c.in-Refused.number (rw c.in-Refused.is at p.ensures.result_value) in record { value = (λ l. absurd (omega arith)); prints = (λ l.
-          edges_none a.policies.now a.outline.now a.out.now c.in-Refused.line c.in-Refused.number z c.refused.ensures) }
+          edges_none a.policies.now a.outline.now a.out.now c.in-Refused.line c.in-Refused.number z (c.refused.ensures.value, c.refused.ensures.out_after)) }

@@ -64,5 +64,5 @@ returns-in-Refused c =
     let a = c.args in
     let p = c.read_expression-reading in
     let z = expression-refused-as a.text.now c.in-Refused.line c.in-Refused.number (rw c.in-Refused.is at p.ensures.result_value) in
-    let y = printed-refusal a.text.now c.in-Refused.line c.in-Refused.number z a.out.now c.if-out-lt-EXPRESSION_ROOM.false c.refused.ensures in
+    let y = printed-refusal a.text.now c.in-Refused.line c.in-Refused.number z a.out.now c.if-out-lt-EXPRESSION_ROOM.false (c.refused.ensures.value, c.refused.ensures.out_after) in
     record { value = y.0; out_after = y.1 }

@@ -65,5 +65,5 @@ returns-in-Refused c =
     let p = c.read_policies-reading in
     let z = policies-refused a.policies.now c.in-Refused.line c.in-Refused.number (rw c.in-Refused.is at p.ensures.result_value) in
     let y = summary-put a.policies.now a.outline.now a.out.now (omega arith)
-    (edges-no-marks a.policies.now a.outline.now a.out.now c.in-Refused.line c.in-Refused.number z c.refused.ensures) in
+    (edges-no-marks a.policies.now a.outline.now a.out.now c.in-Refused.line c.in-Refused.number z (c.refused.ensures.value, c.refused.ensures.out_after)) in
     record { value = y.0; out_after = y.1.0; right_summary = y.1.1 }

@@ -54,4 +54,4 @@ returns-in-Refused c =
     let a = c.args in
     let r = c.read_outline-reading in
     let z = outline-refused-as a.text.now c.in-Refused.line c.in-Refused.number (rw c.in-Refused.is at r.ensures.result_value) in
-    nodes-no-marks a.local a.edges.now a.text.now c.in-Refused.line c.in-Refused.number a.out.now z c.refused.ensures
+    nodes-no-marks a.local a.edges.now a.text.now c.in-Refused.line c.in-Refused.number a.out.now z (c.refused.ensures.value, c.refused.ensures.out_after)
