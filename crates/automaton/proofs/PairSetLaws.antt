@@ -1,14 +1,14 @@
 -- The set of pair policies: one edge after the other, and whether there are more than two.
 use Prim.Native.Nat.{ℕ, zero, suc, ◌+◌, ◌^◌, ◌<◌}
 use mathlib.Core.Path.{◌≡◌, refl, sym, ap, ap₂, ◌∙◌}
-use mathlib.Core.Bool.{Bool, true, false, not, ◌&&◌, ◌||◌, cond, beq}
+use mathlib.Core.Bool.{Bool, true, false, ◌&&◌, ◌||◌, cond, beq}
 use mathlib.Core.List.{List, [], ◌∷◌, ◌++◌}
 use mathlib.Core.Logic.{◌↔◌}
 use native.Mathlib.Nat.{zero-add}
 use native.Mathlib.Numerals.{add-one}
 use native.Mathlib.Omega.{arith}
 use borrow.Author.Tests.{eqb-true, ne_eqb, ltb-true, ltb-false}
-use lib.Bits.{bit_and, bit_or, or_lt}
+use lib.Bits.{bit_or, or_lt}
 use lib.Dec.{eqb, ltb}
 use Rattle.usage.specs.declared.Edge.{Edge}
 use Rattle.usage.specs.Limits.{policies}
@@ -18,7 +18,7 @@ use Rattle.usage.specs.Tests.{some_of, some_below, is_pair, three_pairs}
 use Rattle.usage.proofs.TableLaws.{from-snoc}
 use Rattle.usage.proofs.ValidLaws.{decides-pair}
 use Rattle.automaton.specs.Mask.{has, union}
-use Rattle.automaton.specs.PairSet.{pair_set, with_pair, with_edge, without_lowest, many_in}
+use Rattle.automaton.specs.PairSet.{pair_set, with_pair, with_edge, many_in}
 use Rattle.automaton.proofs.MaskLaws.{mask_of-has, mask_of-lt, same_test, all-below, all-below-at, has-or, has-pow, pow-byte}
 use Rattle.automaton.proofs.RowLaws.{union-ext}
 

@@ -1,8 +1,8 @@
 -- The set that is kept for the instances at some places, moved by an event: it holds what they may be in after it. Over the list of places,
 -- for policies about one resource and about two alike.
 use Prim.Native.Nat.{ℕ, zero, suc, ◌+◌, ◌*◌, ◌/◌, ◌%◌, ◌<◌}
-use mathlib.Core.Path.{◌≡◌, refl, sym, ap, subst, ◌∙◌}
-use mathlib.Core.Bool.{Bool, true, false, not, ◌&&◌, cond}
+use mathlib.Core.Path.{◌≡◌, refl, ap, subst, ◌∙◌}
+use mathlib.Core.Bool.{Bool, true, false, ◌&&◌}
 use mathlib.Core.List.{List, [], ◌∷◌}
 use mathlib.Core.Logic.{◌↔◌}
 use mathlib.Core.Option.{Option, some, some-injective}
@@ -12,7 +12,7 @@ use lib.ListN.{get_or}
 use borrow.Author.Tests.{eq-eqb, eqb-true}
 use Rattle.usage.specs.declared.Edge.{Edge}
 use Rattle.usage.specs.Limits.{policies, states}
-use Rattle.usage.specs.Policy.{Place, Moves}
+use Rattle.usage.specs.Policy.{Place}
 use Rattle.usage.specs.Past.{event, Past}
 use Rattle.usage.proofs.Logic.{none-some, false-true, and_left, and_right, and_both}
 use Rattle.usage.specs.Placed.{At}
@@ -21,7 +21,7 @@ use Rattle.usage.proofs.PlacedLaws.{SeesAt, named, own, other, second, Alone, at
 use Rattle.automaton.specs.Mask.{has}
 use Rattle.automaton.specs.Move.{image, move, labelled, fires, labelled_at, fires_at, move_mask, row_places, rows_of, rows_at}
 use Rattle.automaton.proofs.SameLaws.{image-same, move_same}
-use Rattle.automaton.proofs.MoveLaws.{Ends, Matches, moved-found, moved_at, moves-lt}
+use Rattle.automaton.proofs.MoveLaws.{Ends, Matches, moved-found, moved_at}
 
 -- with one place, these are the labels of `labelled`
 pub labelled-one : (k who : ℕ) (mine : Bool) (r : ℕ) → labelled_at k who mine false r ≡ labelled k who mine r

@@ -1,6 +1,5 @@
 -- Facts that a wrong definition of what a step leaves would break: an allowed step is part of the past, a violated or refused one is not; a
 -- violation halts, and nothing else changes whether the state is halted.
-use Prim.Native.Nat.{ℕ}
 use mathlib.Core.Path.{◌≡◌, refl}
 use mathlib.Core.Bool.{true, false}
 use mathlib.Core.List.{[], ◌∷◌}

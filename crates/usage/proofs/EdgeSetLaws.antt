@@ -1,5 +1,5 @@
 -- Every verdict depends on the edges as a set only (02, L12: "the same edges as a set and hence the same verdicts").
-use Prim.Native.Nat.{ℕ, ◌<◌}
+use Prim.Native.Nat.{ℕ}
 use mathlib.Core.Path.{◌≡◌}
 use mathlib.Core.Bool.{Bool, true, not}
 use mathlib.Core.Option.{Option}
@@ -8,7 +8,7 @@ use mathlib.Core.Logic.{◌↔◌}
 use Rattle.usage.specs.declared.Edge.{Edge}
 use Rattle.usage.specs.declared.Node.{Node}
 use Rattle.usage.specs.declared.RawStep.{RawStep}
-use Rattle.usage.specs.Policy.{PairPolicy, FewPairs, Instance, single, pair, Fires, Moves, along, stays, SameEdges}
+use Rattle.usage.specs.Policy.{PairPolicy, FewPairs, Instance, single, pair, Moves, along, stays, SameEdges}
 use Rattle.usage.specs.Past.{Past, May, start, moved, opened, closed, retired, Broken, Violates, Valid, empty, further}
 use Rattle.usage.specs.Answers.{Verdict}
 use Rattle.usage.specs.Tests.{three_pairs}

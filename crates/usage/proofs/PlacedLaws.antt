@@ -1,7 +1,7 @@
 -- The laws of instances by the places of their resources. Each says what one step makes of the states that the instances at some places may
 -- be in. None asks how many resources an instance has.
 use Prim.Native.Nat.{ℕ, zero, suc}
-use mathlib.Core.Path.{◌≡◌, refl, sym, ap, subst, ◌∙◌}
+use mathlib.Core.Path.{◌≡◌, refl, sym, ap, subst}
 use mathlib.Core.Bool.{Bool, true, false, cond}
 use mathlib.Core.Option.{Option, some, some-injective}
 use mathlib.Core.List.{List, [], ◌∷◌, map}
@@ -12,7 +12,7 @@ use borrow.Author.Tests.{eq-eqb, ne_eqb}
 use Rattle.usage.specs.declared.Edge.{Edge}
 use Rattle.usage.specs.Policy.{PairPolicy, Instance, single, pair, Place, Sees, Moves, Offending}
 use Rattle.usage.specs.Placed.{Placed, none_placed, next_placed, At}
-use Rattle.usage.specs.Past.{event, opening, closing, retiring, Past, Open, May, moved, opened, closed, retired, Broken, Occurs}
+use Rattle.usage.specs.Past.{event, opening, closing, retiring, Past, Open, May, moved, closed, retired, Broken, Occurs}
 use Rattle.usage.proofs.SeesLaws.{place-nowhere, moves-alike}
 use Rattle.usage.proofs.PastLaws.{before-event, before-closing, before-retiring, may-some, may-anew, may-same, Unseen, none_left}
 use Rattle.usage.proofs.PastLaws.{same, swapped, unseen}

@@ -8,8 +8,8 @@ use mathlib.Core.Logic.{inl}
 use native.Mathlib.Omega.{arith}
 use Rattle.usage.specs.declared.Edge.{Edge}
 use Rattle.usage.specs.declared.RawStep.{RawStep}
-use Rattle.usage.specs.Policy.{single, Sees, own, other, along}
-use Rattle.usage.specs.Past.{Step, event, opening, closing, retiring, Past, count, without, open_stack, live_in, Live, highest}
+use Rattle.usage.specs.Policy.{single, own, other, along}
+use Rattle.usage.specs.Past.{Step, event, opening, retiring, count, without, open_stack, live_in, Live, highest}
 use Rattle.usage.specs.Past.{start, moved, opened, retired, Retired, Violates}
 use Rattle.usage.specs.Judge.{step_of, Case, not_above, retires_static, not_live, not_created}
 use Rattle.usage.specs.Retirings.{thinned, Added, all_added, step_kept, retiring_added}

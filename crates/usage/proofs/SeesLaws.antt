@@ -1,14 +1,13 @@
 -- How instances see events, over the list of an instance's resources: no law here asks how many there are.
-use Prim.Native.Nat.{ℕ, zero, suc, ◌<◌, ◌≤◌}
-use mathlib.Core.Path.{◌≡◌, refl, sym, ap, subst, ◌∙◌}
+use Prim.Native.Nat.{ℕ, zero, suc, ◌≤◌}
+use mathlib.Core.Path.{◌≡◌, refl, sym, ap, subst}
 use mathlib.Core.Option.{Option, some, some-injective}
 use mathlib.Core.List.{List, [], ◌∷◌, map, Memᴰ}
 use mathlib.Core.Logic.{◌↔◌}
 use native.Mathlib.Omega.{arith}
 use native.Mathlib.Decide.{ℕ_discrete}
-use lib.ListN.{get_elem?}
 use Rattle.usage.specs.declared.Edge.{Edge}
-use Rattle.usage.specs.Policy.{PairPolicy, Instance, single, pair, Place, Sees, named, own, other, second, Fires, Moves, along, stays}
+use Rattle.usage.specs.Policy.{Instance, single, pair, Place, Sees, named, own, other, second, Moves, along, stays}
 use Rattle.usage.proofs.Logic.{none-some}
 
 -- ── Places ──

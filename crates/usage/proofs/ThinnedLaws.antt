@@ -1,12 +1,12 @@
 -- A past without its retirings differs only in what is live; so retirings after the last event on what they retire change no other answer
 -- before the first 30 (02, L8).
-use Prim.Native.Nat.{ℕ, zero, suc, ◌<◌, ◌≤◌, max}
+use Prim.Native.Nat.{ℕ, zero, suc, ◌≤◌, max}
 use mathlib.Core.Path.{◌≡◌, refl, sym, ap, ◌∙◌, subst}
-use mathlib.Core.Bool.{Bool, true, false}
+use mathlib.Core.Bool.{Bool, false}
 use mathlib.Core.Option.{Option, none, some}
 use mathlib.Core.List.Memᴰ
-use mathlib.Core.List.{List, [], ◌∷◌, ◌++◌, Memᴰ}
-use mathlib.Core.Logic.{◌⊎◌, inl, inr, ◌↔◌}
+use mathlib.Core.List.{List, [], ◌∷◌, Memᴰ}
+use mathlib.Core.Logic.{◌↔◌}
 use native.Mathlib.Omega.{arith}
 use native.Mathlib.Decide.{ℕ_discrete}
 use lib.Dec.{ltb}
@@ -14,16 +14,16 @@ use lib.ListN.{length, length-append, get_elem?}
 use Rattle.usage.specs.declared.Edge.{Edge}
 use Rattle.usage.specs.declared.RawStep.{RawStep}
 use Rattle.usage.specs.Past.{Step, event, opening, closing, retiring, Past, add_if, count, is_opening, is_closing, openings, closings}
-use Rattle.usage.specs.Past.{Open, is_open, without, open_stack, live_in, Live, highest, reopened, May, start, moved, opened, closed}
-use Rattle.usage.specs.Past.{retired, Created, Retired, Violates}
+use Rattle.usage.specs.Past.{Open, is_open, without, open_stack, live_in, Live, highest, reopened, May, moved, opened, closed}
+use Rattle.usage.specs.Past.{retired, Retired, Violates}
 use Rattle.usage.specs.Answers.{Verdict, allowed, violated, refused}
 use Rattle.usage.specs.Judge.{step_of, Case, is_halted, no_step, creates_static, not_above, retires_static, not_live, not_created}
-use Rattle.usage.specs.Judge.{not_open, not_last, too_many, too_deep, Refuses, Taken, Judged, is_refused_with, is_violated, is_allowed}
+use Rattle.usage.specs.Judge.{not_open, not_last, too_many, too_deep, Judged, is_refused_with, is_violated, is_allowed}
 use Rattle.usage.specs.Judge.{then, past_after, halted_after, JudgedAll, done, next}
 use Rattle.usage.specs.Retirings.{thinned, DoneWith, Between, none_between, other_step, one_between, SameOthers}
 use Rattle.usage.specs.Retirings.{none_other, same_answer, first_30, passed_over}
-use Rattle.usage.proofs.Logic.{clash, by_cases, none-some}
-use Rattle.usage.proofs.PastLaws.{before-event, before-opening, before-closing, before-retiring, member-event, member-opening}
+use Rattle.usage.proofs.Logic.{clash, by_cases}
+use Rattle.usage.proofs.PastLaws.{before-event, before-opening, before-closing, before-retiring, member-opening}
 use Rattle.usage.proofs.PastLaws.{member-closing, member-retiring}
 use Rattle.usage.proofs.JudgeLaws.{step_same, judged-unique}
 use Rattle.usage.proofs.RetiringLaws.{live-created, created-live, without-shorter}

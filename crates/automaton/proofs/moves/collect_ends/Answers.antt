@@ -1,11 +1,10 @@
-use Prim.Native.Nat.{ℕ, ◌/◌, ◌-◌, ◌<◌, ◌≤◌}
+use Prim.Native.Nat.{ℕ, ◌/◌, ◌<◌}
 use mathlib.Core.Bool.{true, false}
 use mathlib.Core.Path.{◌≡◌, ◌∙◌}
 use native.Mathlib.Omega.{arith}
 use lib.ListN.{length, get_or}
 use Rattle.usage.specs.Limits.{edge_fields}
-use Rattle.usage.specs.Tables.{from, edge_at, edges_of}
-use Rattle.automaton.specs.Code.{edge_ends}
+use Rattle.usage.specs.Tables.{edges_of}
 use Rattle.automaton.proofs.RowLaws.{ends_more, ends-wide}
 use borrow.Author.Rules.{rules}
 use Rattle.automaton.proofs.moves.collect_ends.Goals as goal

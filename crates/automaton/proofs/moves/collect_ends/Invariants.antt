@@ -1,13 +1,9 @@
 -- `collect_ends` meets its contract. The invariant: each table holds the ends of the edges before i.
-use Prim.Native.Nat.{ℕ, ◌/◌, ◌-◌, ◌<◌, ◌≤◌}
+use Prim.Native.Nat.{◌-◌, ◌≤◌}
 use mathlib.Core.Bool.{true, false}
-use mathlib.Core.Path.{◌≡◌, ◌∙◌}
-use native.Mathlib.Omega.{arith}
-use lib.ListN.{length, get_or}
-use Rattle.usage.specs.Limits.{edge_fields}
-use Rattle.usage.specs.Tables.{from, edge_at, edges_of}
+use mathlib.Core.Path.{◌≡◌}
+use Rattle.usage.specs.Tables.{from, edge_at}
 use Rattle.automaton.specs.Code.{edge_ends}
-use Rattle.automaton.proofs.RowLaws.{ends_more, ends-wide}
 use Rattle.automaton.proofs.moves.collect_ends.Given as goal
 
 abbrev pub invariant-loop-i : goal.invariant-loop-i

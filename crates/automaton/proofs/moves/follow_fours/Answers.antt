@@ -1,9 +1,6 @@
-use Prim.Native.Nat.{◌*◌, ◌-◌, ◌≤◌}
 use mathlib.Core.Bool.{true, false}
 use mathlib.Core.Path.{◌≡◌, ◌∙◌}
 use native.Mathlib.Omega.{arith}
-use Rattle.usage.specs.Tables.{from, edge_at}
-use Rattle.automaton.specs.Code.{edge_ends}
 use Rattle.automaton.proofs.RowLaws.{ends-none, ends-four}
 use borrow.Author.Rules.{rules}
 use Rattle.automaton.proofs.moves.follow_fours.Goals as goal

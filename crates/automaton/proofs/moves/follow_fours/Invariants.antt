@@ -1,11 +1,9 @@
 -- `follow_fours` meets its contract. The invariant: each table holds the ends of the first 4 * i edges.
 use Prim.Native.Nat.{◌*◌, ◌-◌, ◌≤◌}
 use mathlib.Core.Bool.{true, false}
-use mathlib.Core.Path.{◌≡◌, ◌∙◌}
-use native.Mathlib.Omega.{arith}
+use mathlib.Core.Path.{◌≡◌}
 use Rattle.usage.specs.Tables.{from, edge_at}
 use Rattle.automaton.specs.Code.{edge_ends}
-use Rattle.automaton.proofs.RowLaws.{ends-none, ends-four}
 use Rattle.automaton.proofs.moves.follow_fours.Given as goal
 
 abbrev pub invariant-loop-i : goal.invariant-loop-i

@@ -1,9 +1,8 @@
-use Prim.Native.Nat.{◌-◌, ◌≤◌}
 use mathlib.Core.Path.{◌≡◌}
 use native.Mathlib.Omega.{arith}
 use lib.ListN.{length}
 use Rattle.automaton.specs.Move.{row_places}
-use Rattle.automaton.proofs.RowLaws.{Staying, staying-none, staying-all, staying-more}
+use Rattle.automaton.proofs.RowLaws.{staying-none, staying-all, staying-more}
 use borrow.Author.Rules.{rules}
 use Rattle.automaton.proofs.moves.stay.Goals as goal
 

@@ -1,10 +1,7 @@
 -- `stay` meets its contract. The invariant: the places below k are as they are to be, the others as they were.
 use Prim.Native.Nat.{◌-◌, ◌≤◌}
-use mathlib.Core.Path.{◌≡◌}
-use native.Mathlib.Omega.{arith}
-use lib.ListN.{length}
 use Rattle.automaton.specs.Move.{row_places}
-use Rattle.automaton.proofs.RowLaws.{Staying, staying-none, staying-all, staying-more}
+use Rattle.automaton.proofs.RowLaws.{Staying}
 use Rattle.automaton.proofs.moves.stay.Given as goal
 
 abbrev pub invariant-loop-k : goal.invariant-loop-k

@@ -3,7 +3,6 @@ use borrow.Author.Tests.{eq-eqb, ne_eqb, lt-ltb, le-ltb}
 use lib.Bits.{bit_or}
 use Rattle.automaton.specs.PairSet.{with_pair}
 use Rattle.automaton.proofs.MaskLaws.{bit_shifted}
-use Rattle.automaton.proofs.pairs.joined.Reads as reads
 use Rattle.automaton.proofs.pairs.joined.Goals as goal
 
 -- src/pairs.rt:11:9

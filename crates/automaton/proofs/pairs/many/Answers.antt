@@ -1,7 +1,6 @@
 use mathlib.Core.Path.{sym}
 use borrow.Author.Tests.{eq-eqb, ne_eqb}
 use Rattle.automaton.specs.PairSet.{many_in}
-use Rattle.automaton.proofs.pairs.many.Reads as reads
 use Rattle.automaton.proofs.pairs.many.Goals as goal
 
 -- src/pairs.rt:24:9
