@@ -2,7 +2,7 @@
 use Prim.Native.Nat.{ℕ, zero, suc, ◌*◌, ◌/◌, ◌%◌, ◌^◌, ◌<◌, ◌≤◌}
 use mathlib.Core.Path.{◌≡◌, refl, sym, ap, ◌∙◌, subst}
 use mathlib.Core.Bool.{Bool, true, false, cond, beq}
-use mathlib.Core.List.{List, [], ◌∷◌}
+use mathlib.Core.List.{List}
 use mathlib.Core.Logic.{◌⊎◌, inl, inr}
 use native.Mathlib.Omega.{arith}
 use native.Mathlib.Nat.{one-mul}
@@ -12,12 +12,10 @@ use lib.Pow.{shl_exact}
 use lib.ListN.{length}
 use borrow.Author.Tests.{eqb-true, eq-eqb, lt-ltb, le-ltb}
 use Rattle.usage.specs.Limits.{most_nodes, node_fields}
-use types.Run.{OneOf, miss}
 use Rattle.outline_nodes.specs.declared.NodeForm.{NodeForm}
 use Rattle.outline_nodes.specs.declared.NodeForm.TheVariants.{End, OnStatic, OnName, Sequence, Choice}
 use Rattle.outline_nodes.specs.declared.NodeForm.TheVariants.{Loop, Back, Fresh, Sandbox, Nothing}
 use Rattle.outline_nodes.specs.Said.{said_by}
-use Rattle.outline_nodes.proofs.SaidLaws.{tag}
 use Rattle.usage.proofs.Logic.{by_cases, last-or-lower}
 use Rattle.automaton.specs.Mask.{has}
 use Rattle.checker_account.proofs.MaskLaws.{has_left, has_right, has_either, has_none}
@@ -150,15 +148,15 @@ module _ (t nodes : List ℕ) (e : Entry) where
   spreads-node (further {s = s} d) l = spread-has (length nodes / node_fields) s e.node (spreads-node d l)
 
 -- a node of another form leads nowhere
-pub no-leads : (t : List ℕ) (e : Entry) (f : NodeForm) → OneOf (0 ∷ 1 ∷ 2 ∷ 7 ∷ 8 ∷ 9 ∷ []) (tag f) → 0 ≡ leads_from t e (said_by f)
+pub no-leads : (t : List ℕ) (e : Entry) (f : NodeForm) → ((a b : ℕ) → f ≡ Sequence a b → ⊥) → ((a b : ℕ) → f ≡ Choice a b → ⊥) → ((a : ℕ) → f ≡ Loop a → ⊥) → ((a : ℕ) → f ≡ Back a → ⊥) → 0 ≡ leads_from t e (said_by f)
 unfolding leads_of
-no-leads t e End h = refl
-no-leads t e (OnStatic a s) h = refl
-no-leads t e (OnName a n) h = refl
-no-leads t e (Sequence a b) h = absurd (miss (0 ∷ 1 ∷ 2 ∷ 7 ∷ 8 ∷ 9 ∷ []) 3 tt h)
-no-leads t e (Choice a b) h = absurd (miss (0 ∷ 1 ∷ 2 ∷ 7 ∷ 8 ∷ 9 ∷ []) 4 tt h)
-no-leads t e (Loop a) h = absurd (miss (0 ∷ 1 ∷ 2 ∷ 7 ∷ 8 ∷ 9 ∷ []) 5 tt h)
-no-leads t e (Back a) h = absurd (miss (0 ∷ 1 ∷ 2 ∷ 7 ∷ 8 ∷ 9 ∷ []) 6 tt h)
-no-leads t e (Fresh n b) h = refl
-no-leads t e (Sandbox s b) h = refl
-no-leads t e Nothing h = refl
+no-leads t e End h3 h4 h5 h6 = refl
+no-leads t e (OnStatic a s) h3 h4 h5 h6 = refl
+no-leads t e (OnName a n) h3 h4 h5 h6 = refl
+no-leads t e (Sequence a b) h3 h4 h5 h6 = absurd (h3 a b refl)
+no-leads t e (Choice a b) h3 h4 h5 h6 = absurd (h4 a b refl)
+no-leads t e (Loop a) h3 h4 h5 h6 = absurd (h5 a refl)
+no-leads t e (Back a) h3 h4 h5 h6 = absurd (h6 a refl)
+no-leads t e (Fresh n b) h3 h4 h5 h6 = refl
+no-leads t e (Sandbox s b) h3 h4 h5 h6 = refl
+no-leads t e Nothing h3 h4 h5 h6 = refl

@@ -1,7 +1,7 @@
 -- What each of the writer's functions promises, way by way: its part is written where those that it calls have written theirs, and there
 -- is room for them.
 use Prim.Native.Nat.{ℕ, ◌+◌, ◌-◌, ◌*◌, ◌<◌, ◌≤◌}
-use mathlib.Core.Path.{◌≡◌, refl, sym, ap, ◌∙◌, subst}
+use mathlib.Core.Path.{◌≡◌, refl, ap, ◌∙◌, subst}
 use mathlib.Core.Option.{some}
 use mathlib.Core.List.{List}
 use native.Mathlib.Omega.{arith}
@@ -18,10 +18,10 @@ use Rattle.checker_trace.specs.declared.Part.{Part}
 use Rattle.checker_trace.specs.declared.Spot.{Spot}
 use Rattle.checker_trace.specs.declared.Way.{Way}
 use Rattle.checker_trace.specs.Code.{OntoIs, stored_step, onward, created, first_part_lem, second_part_lem, body_part_lem, inner_part_lem}
-use Rattle.checker_trace.specs.Code.{Writes, WithinSteps, Room, Picked, PartWritten}
+use Rattle.checker_trace.specs.Code.{Writes, Room, Picked, PartWritten}
 use Rattle.checker_trace.proofs.StepLaws.{stored-length}
 use Rattle.checker_trace.proofs.WriteLaws as laws
-use Rattle.checker_trace.proofs.PartLaws.{chosen-sequence, chosen-fresh, chosen-sandbox, around-break, around-end}
+use Rattle.checker_trace.proofs.PartLaws.{chosen-sequence, chosen-sandbox, around-end}
 use Rattle.checker_trace.proofs.PartLaws.{wrote-sequence, wrote-opening, wrote-inside, wrote-sandbox}
 use Rattle.checker_trace.proofs.FreshLaws.{wrote-born, wrote-fresh}
 

@@ -13,7 +13,6 @@ use Rattle.usage.specs.Limits.{create, statics, step_fields}
 use Rattle.usage.specs.Past.{Step, event, opening, closing, retiring, Past, count, add_if, creates}
 use Rattle.usage.specs.Outline as outline
 use Rattle.usage.proofs.TraceLaws.{give-same, give-other}
-use Rattle.checker_account.specs.Written.{next}
 use Rattle.checker_trace.specs.declared.Spot.{Spot}
 use Rattle.checker_trace.specs.declared.Names.{Names}
 use Rattle.checker_trace.specs.Steps.{three, numbers, laid}

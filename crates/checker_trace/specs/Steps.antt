@@ -1,5 +1,5 @@
 -- A trace as numbers: three to a step, as in a trace sheet, the oldest first.
-use Rattle.std.specs.Prelude.{ℕ, ◌+◌, ◌*◌, List, [], ◌∷◌, ◌++◌, length, drop}
+use Rattle.std.specs.Prelude.{ℕ, ◌*◌, List, [], ◌∷◌, ◌++◌, length, drop}
 use Rattle.usage.specs.Limits.{step_fields}
 use Rattle.usage.specs.Past.{Step, event, opening, closing, retiring, Past}
 

@@ -138,7 +138,7 @@ fn inner_part(w: WatchOne, p: Part, y: Way, n: u8, begun: Spot) -> Part
 // ── Writing ──
 
 // By a rule of a sequence: its first node, to end in the way that the rule says, and then its second.
-#[cycle(write_write_fresh_write_sandbox_write_sequence)]
+#[cycle(writing)]
 fn write_sequence(
     t: &Lengths,
     nodes: &[u8],
@@ -159,7 +159,7 @@ fn write_sequence(
 }
 
 // By a rule of a fresh node: its creation, and then its body.
-#[cycle(write_write_fresh_write_sandbox_write_sequence)]
+#[cycle(writing)]
 fn write_fresh(
     t: &Lengths,
     nodes: &[u8],
@@ -182,7 +182,7 @@ fn write_fresh(
 }
 
 // By a rule of a sandbox: its opening, its body, and where that ends its closing.
-#[cycle(write_write_fresh_write_sandbox_write_sequence)]
+#[cycle(writing)]
 fn write_sandbox(
     t: &Lengths,
     nodes: &[u8],
@@ -209,7 +209,7 @@ fn write_sandbox(
 }
 
 // The part: where its entry is gone on from, by the rule that is found there.
-#[cycle(write_write_fresh_write_sandbox_write_sequence)]
+#[cycle(writing)]
 pub(crate) fn write(
     t: &Lengths,
     nodes: &[u8],

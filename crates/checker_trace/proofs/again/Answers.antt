@@ -1,5 +1,3 @@
-use Rattle.checker_trace.proofs.again.Reads as reads
-use Rattle.checker_trace.proofs.table.Reads as table-reads
 use Rattle.checker_trace.proofs.again.Goals as goal
 
 pub returns-then-kept : goal.returns-then-kept

@@ -16,12 +16,6 @@ use native.Mathlib.Omega.{arith}
 use mathlib.Core.Path.{◌≡◌, sym, ◌∙◌}
 use Prim.Native.Nat.{ℕ}
 use lib.ListN.{length}
-use Rattle.checker_trace.proofs.counterexample.Reads as reads
-use Rattle.checker_rows.proofs.fill.Reads as fill-reads
-use Rattle.checker_trace.proofs.least.Reads as least-reads
-use Rattle.checker_trace.proofs.show.Reads as show-reads
-use Rattle.sheet_fields.proofs.edges.edge_table_ok.Reads as edge-table-ok-reads
-use Rattle.sheet_rules.proofs.node_table_ok.Reads as node-table-ok-reads
 use Rattle.checker_trace.proofs.counterexample.Goals as goal
 
 pub returns-then-trace-lt-MOST_NUMBERS : goal.returns-then-trace-lt-MOST_NUMBERS
@@ -58,7 +52,7 @@ returns-then-n-gt-MOST c = let a = c.args in
     (sym c.node_table_ok.ensures
     ∙ not-false c.node_table_ok.result
     c.if-not-node_table_ok.false-raw) in
-    let rows = c.fill.new.1.1.1.1.0 in
+    let rows = c.fill.new.rows in
     let src = laws.source_of a.edges.now a.nodes.now et.edges nt.outline a.p
     c.if-p-ge-POLICIES.false rows c.fill.ensures in
     let few_nodes = laws.few_nodes a.edges.now a.nodes.now et.edges nt.outline a.p
@@ -77,7 +71,7 @@ show-requires c = let a = c.args in
     (sym c.node_table_ok.ensures
     ∙ not-false c.node_table_ok.result
     c.if-not-node_table_ok.false-raw) in
-    let rows = c.fill.new.1.1.1.1.0 in
+    let rows = c.fill.new.rows in
     let src = laws.source_of a.edges.now a.nodes.now et.edges nt.outline a.p
     c.if-p-ge-POLICIES.false rows
     c.fill.ensures in
@@ -97,7 +91,7 @@ returns c = let a = c.args in
     (sym c.node_table_ok.ensures
     ∙ not-false c.node_table_ok.result
     c.if-not-node_table_ok.false-raw) in
-    let rows = c.fill.new.1.1.1.1.0 in
+    let rows = c.fill.new.rows in
     let src = laws.source_of a.edges.now a.nodes.now et.edges nt.outline a.p
     c.if-p-ge-POLICIES.false rows
     c.fill.ensures in

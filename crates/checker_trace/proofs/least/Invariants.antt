@@ -1,14 +1,9 @@
-use Prim.Native.Nat.{ℕ, ◌+◌, ◌-◌, ◌≤◌}
-use mathlib.Core.Path.{◌≡◌, sym, ◌∙◌, subst}
-use mathlib.Core.Bool.{true, not, ◌&&◌}
-use native.Mathlib.Omega.{arith}
-use lib.ListN.{length}
-use Rattle.usage.proofs.Logic.{by_cases, false-true, not-true, and_left, and_right}
+use Prim.Native.Nat.{◌-◌, ◌≤◌}
+use mathlib.Core.Path.{◌≡◌}
+use mathlib.Core.Bool.{true}
 use Rattle.checker_lengths.specs.Held.{watch_of}
 use Rattle.checker_trace.specs.Code.{TableOf}
 use Rattle.checker_trace.proofs.ShownLaws as laws
-use Rattle.checker_trace.proofs.least.Reads as reads
-use Rattle.checker_trace.proofs.steps.Reads as steps-reads
 use Rattle.checker_trace.proofs.least.Given as goal
 
 abbrev pub invariant-loop-x : goal.invariant-loop-x

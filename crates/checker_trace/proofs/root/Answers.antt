@@ -2,8 +2,6 @@ use mathlib.Core.Bool.{false}
 use Rattle.checker_lengths.specs.Entries.{at_break, entry_of}
 use mathlib.Core.Path.{ap}
 use Prim.Native.Nat.{ℕ}
-use Rattle.checker_trace.proofs.root.Reads as reads
-use Rattle.checker_tables.proofs.numbers.least.Reads as least-reads
 use Rattle.checker_trace.proofs.root.Goals as goal
 
 pub returns : goal.returns

@@ -1,6 +1,5 @@
 use Rattle.checker_trace.proofs.BitLaws as laws
 use mathlib.Core.Path.{sym}
-use Rattle.checker_trace.proofs.find.bit.Reads as reads
 use Rattle.checker_trace.proofs.find.bit.Goals as goal
 
 pub returns-then-k-lt-MOST_NODES : goal.returns-then-k-lt-MOST_NODES

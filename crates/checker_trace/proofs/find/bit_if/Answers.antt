@@ -1,5 +1,3 @@
-use Rattle.checker_trace.proofs.find.bit_if.Reads as reads
-use Rattle.checker_trace.proofs.find.bit.Reads as bit-reads
 use Rattle.checker_trace.proofs.find.bit_if.Goals as goal
 
 pub returns-then-b : goal.returns-then-b

@@ -7,11 +7,7 @@ use mir.Syntax.{w64}
 use Rattle.checker_trace.specs.Code.{Spreads, begins, further}
 use native.Mathlib.Omega.{arith}
 use mathlib.Core.Path.{sym, ◌∙◌}
-use Prim.Native.Nat.{◌-◌}
 use lib.ListN.{length}
-use Rattle.checker_trace.proofs.find.closure.Reads as reads
-use Rattle.checker_trace.proofs.find.bit.Reads as bit-reads
-use Rattle.checker_trace.proofs.find.spread.Reads as spread-reads
 use borrow.Author.Rules.{rules}
 use Rattle.checker_trace.proofs.find.closure.Goals as goal
 

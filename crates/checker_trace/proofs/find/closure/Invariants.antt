@@ -1,17 +1,5 @@
-use Rattle.usage.specs.Limits.{node_fields}
-use Rattle.checker_trace.proofs.BitLaws as laws
-use mathlib.Core.Path.{subst}
-use Prim.Native.Nat.{◌/◌}
-use mir.Val.{Fits}
-use mir.Syntax.{w64}
-use Rattle.checker_trace.specs.Code.{Spreads, begins, further}
-use native.Mathlib.Omega.{arith}
-use mathlib.Core.Path.{sym, ◌∙◌}
+use Rattle.checker_trace.specs.Code.{Spreads}
 use Prim.Native.Nat.{◌-◌}
-use lib.ListN.{length}
-use Rattle.checker_trace.proofs.find.closure.Reads as reads
-use Rattle.checker_trace.proofs.find.bit.Reads as bit-reads
-use Rattle.checker_trace.proofs.find.spread.Reads as spread-reads
 use Rattle.checker_trace.proofs.find.closure.Given as goal
 
 abbrev pub invariant-loop-s : goal.invariant-loop-s

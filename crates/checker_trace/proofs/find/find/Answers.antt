@@ -4,7 +4,7 @@ use borrow.Author.Count.{below_more}
 use mathlib.Core.Option.{Option}
 use Rattle.usage.specs.Outline.{Form}
 use Rattle.outline_nodes.specs.Said.{said_by}
-use Rattle.usage.proofs.Logic.{by_cases, not-both}
+use Rattle.usage.proofs.Logic.{not-both}
 use Rattle.automaton.specs.Mask.{has}
 use Rattle.checker_lengths.specs.declared.Entry.{Entry}
 use Rattle.checker_lengths.specs.Offers.{at_node, ways_of}
@@ -12,17 +12,10 @@ use Rattle.checker_lengths.specs.Filling.{form_here}
 use Rattle.checker_trace.specs.Code.{offer_below, RuleIs}
 use native.Mathlib.Omega.{arith}
 use mathlib.Core.Path.{◌≡◌, sym, ap, ◌∙◌}
-use Prim.Native.Nat.{ℕ, ◌-◌, ◌≤◌, ◌<◌}
-use Rattle.checker_trace.proofs.find.find.Reads as reads
-use Rattle.checker_lengths.proofs.offers.ways.Reads as ways-reads
-use Rattle.outline_nodes.proofs.form.Reads as form-reads
-use Rattle.checker_trace.proofs.find.at.Reads as at_reads
-use Rattle.checker_trace.proofs.find.closure.Reads as closure-reads
-use Rattle.checker_trace.proofs.find.has.Reads as has-reads
-use Rattle.checker_trace.proofs.find.rule.Reads as rule-reads
+use Prim.Native.Nat.{ℕ, ◌≤◌, ◌<◌}
 use borrow.Author.Rules.{rules}
 use Rattle.checker_trace.proofs.find.find.Goals as goal
-use Rattle.checker_trace.proofs.find.find.Goals.{else-has, then-has}
+use Rattle.checker_trace.proofs.find.find.Goals.{else-has, then-has+else-c-ways}
 
 pub closure-s-requires : goal.closure-s-requires
 closure-s-requires c = c.requires
@@ -61,12 +54,15 @@ loop-k-preserved c =
       omega arith,
       below_more (λ (j : ℕ). has s j ≡ true → (i : ℕ) → i < ways_of (form_here nodes j)
           → offer_below a.w a.rows.now a.t.now (form_here nodes j) (at_node a.e j) a.n i ≡ a.n → ⊥) l.k l.invariant.1
-          (elim c.if-has.branch [ then-has v ↦ let r = subst (λ (f : Option Form). RuleIs a.w a.rows.now a.t.now f (at_node a.e l.k) a.n v.3.result)
-          v.1.ensures
-          (subst (λ (y : Entry). RuleIs a.w a.rows.now a.t.now (said_by v.1.result) y a.n v.3.result) v.2.ensures
-          v.3.ensures) in
-          let g : v.4.result ≡ ways_of (form_here nodes l.k) = v.4.ensures ∙ ap ways_of v.1.ensures in
-          r.none_there (subst (λ (i : ℕ). i ≤ v.3.result) g v.5.left) | else-has v ↦ not-both c.has.result (c.has.ensures ∙ h) v.left ]),
+          (elim c.if-has.branch [
+            | then-has+else-c-ways v ↦ λ h. let r = subst (λ (f : Option Form). RuleIs a.w a.rows.now a.t.now f (at_node a.e l.k) a.n v.rule-c.result)
+                v.form-f.ensures
+                (subst (λ (y : Entry). RuleIs a.w a.rows.now a.t.now (said_by v.form-f.result) y a.n v.rule-c.result) v.at.ensures
+                v.rule-c.ensures) in
+                let g : v.ways.result ≡ ways_of (form_here nodes l.k) = v.ways.ensures ∙ ap ways_of v.form-f.ensures in
+                r.none_there (subst (λ (i : ℕ). i ≤ v.rule-c.result) g v.if-c-ways.false)
+            | else-has v ↦ λ h i. not-both c.has.result (c.has.ensures ∙ h) v.if-has.false
+          ]),
     )
 
 pub returns : goal.returns

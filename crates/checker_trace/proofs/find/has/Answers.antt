@@ -1,5 +1,4 @@
 use Rattle.checker_lengths.proofs.OfferLaws.{has-bit}
-use Rattle.checker_trace.proofs.find.has.Reads as reads
 use Rattle.checker_trace.proofs.find.has.Goals as goal
 
 pub returns : goal.returns

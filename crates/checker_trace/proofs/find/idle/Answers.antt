@@ -6,9 +6,6 @@ use Prim.Native.Nat.{◌%◌}
 use native.Mathlib.Omega.{arith}
 use mathlib.Core.Path.{ap, ◌∙◌}
 use Prim.Native.Nat.{ℕ, ◌+◌}
-use Rattle.checker_trace.proofs.find.idle.Reads as reads
-use Rattle.checker_lengths.proofs.entries.get.Reads as get-reads
-use Rattle.checker_lengths.proofs.offers.low_end.Reads as low-end-reads
 use Rattle.checker_trace.proofs.find.idle.Goals as goal
 
 pub overflow_add-same : goal.overflow_add-same

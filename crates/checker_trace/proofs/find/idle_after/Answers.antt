@@ -3,9 +3,6 @@ use mathlib.Core.Path.{ap, ◌∙◌}
 use lib.Dec.{eqb}
 use Rattle.checker_lengths.specs.Entries.{held}
 use Rattle.checker_trace.specs.Code.{idle_after_lem}
-use Rattle.checker_trace.proofs.find.idle_after.Reads as reads
-use Rattle.checker_lengths.proofs.entries.get.Reads as get-reads
-use Rattle.checker_lengths.proofs.offers.second.Reads as second_reads
 use Rattle.checker_trace.proofs.find.idle_after.Goals as goal
 
 pub returns : goal.returns

@@ -2,9 +2,6 @@ use mathlib.Core.Path.{ap₂}
 use lib.Bits.{bit_or}
 use Rattle.checker_trace.specs.Code.{leads_of}
 use Rattle.checker_trace.proofs.BitLaws.{no-leads}
-use Rattle.checker_trace.proofs.find.leads.Reads as reads
-use Rattle.checker_trace.proofs.find.bit.Reads as bit-reads
-use Rattle.checker_trace.proofs.find.sequence.Reads as sequence-reads
 use Rattle.checker_trace.proofs.find.leads.Goals as goal
 
 pub returns-in-Sequence : goal.returns-in-Sequence
@@ -24,4 +21,4 @@ unfolding leads_of
 returns-in-Back c = rw c.in-Back.is c.bit-in-Back.ensures
 
 pub returns-in_default : goal.returns-in_default
-returns-in_default c = let a = c.args in no-leads a.t.now a.e a.f c.in_default.in_default-own
+returns-in_default c = let a = c.args in no-leads a.t.now a.e a.f c.in_default.not-Sequence c.in_default.not-Choice c.in_default.not-Loop c.in_default.not-Back

@@ -3,10 +3,7 @@ use Rattle.outline_nodes.specs.Said.{said_by}
 use Rattle.checker_trace.specs.Code.{offer_below}
 use native.Mathlib.Omega.{arith}
 use mathlib.Core.Path.{◌≡◌, sym, ◌∙◌}
-use Prim.Native.Nat.{ℕ, ◌-◌, ◌≤◌, ◌<◌}
-use Rattle.checker_trace.proofs.find.rule.Reads as reads
-use Rattle.checker_lengths.proofs.offers.offer.Reads as offer-reads
-use Rattle.checker_lengths.proofs.offers.ways.Reads as ways-reads
+use Prim.Native.Nat.{ℕ}
 use borrow.Author.Rules.{rules}
 use Rattle.checker_trace.proofs.find.rule.Goals as goal
 

@@ -1,5 +1,4 @@
 use Rattle.usage.specs.Limits.{node_fields}
-use Rattle.usage.proofs.Logic.{by_cases}
 use Prim.Native.Nat.{◌/◌}
 use native.Mathlib.Numerals.{add-one}
 use mathlib.Core.Path.{ap₂}
@@ -10,12 +9,8 @@ use Rattle.checker_lengths.specs.Filling.{form_here}
 use Rattle.checker_trace.specs.Code.{spread_to, join_if, leads_from}
 use native.Mathlib.Omega.{arith}
 use mathlib.Core.Path.{◌≡◌, refl, sym, ap, ◌∙◌}
-use Prim.Native.Nat.{ℕ, ◌-◌, ◌≤◌}
+use Prim.Native.Nat.{ℕ}
 use lib.ListN.{length}
-use Rattle.checker_trace.proofs.find.spread.Reads as reads
-use Rattle.outline_nodes.proofs.form.Reads as form-reads
-use Rattle.checker_trace.proofs.find.has.Reads as has-reads
-use Rattle.checker_trace.proofs.find.leads.Reads as leads-reads
 use borrow.Author.Rules.{rules}
 use Rattle.checker_trace.proofs.find.spread.Goals as goal
 use Rattle.checker_trace.proofs.find.spread.Goals.{else-has, then-has}
@@ -34,9 +29,12 @@ loop-k-preserved c =
     let h : has u l.k ≡ c.has.result = sym (c.has.ensures ∙ ap (λ (v : ℕ). has v l.k) l.invariant.1) in (
       omega arith,
       rw (add-one l.k)
-          (elim c.if-has.branch [ then-has v ↦ v.3 ∙ ap₂ bit_or l.invariant.1 (v.2.ensures ∙ ap (leads_from a.t.now a.e) v.1.ensures)
-          ∙ sym (ap (λ (b : Bool). join_if b u (leads_from a.t.now a.e (form_here a.nodes.now l.k))) (h ∙ v.if-has.true)) | else-has v ↦ v.1 ∙ l.invariant.1 ∙ sym (ap (λ (b : Bool). join_if b u (leads_from a.t.now a.e (form_here a.nodes.now l.k)))
-          (h ∙ v.if-has.false)) ]),
+          (elim c.if-has.branch [
+            | then-has v ↦ v.r-is ∙ ap₂ bit_or l.invariant.1 (v.leads-r.ensures ∙ ap (leads_from a.t.now a.e) v.form.ensures)
+                ∙ sym (ap (λ (b : Bool). join_if b u (leads_from a.t.now a.e (form_here a.nodes.now l.k))) (h ∙ v.if-has.true))
+            | else-has v ↦ v.r-is ∙ l.invariant.1 ∙ sym (ap (λ (b : Bool). join_if b u (leads_from a.t.now a.e (form_here a.nodes.now l.k)))
+                (h ∙ v.if-has.false))
+          ]),
     )
 
 pub returns : goal.returns

@@ -1,6 +1,3 @@
-use Rattle.checker_trace.proofs.write.body_part.Reads as reads
-use Rattle.checker_lengths.proofs.offers.body.Reads as body-Reads
-use Rattle.checker_trace.proofs.write.give.Reads as give-reads
 use Rattle.checker_trace.proofs.write.body_part.Goals as goal
 
 pub returns : goal.returns

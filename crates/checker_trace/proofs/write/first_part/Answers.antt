@@ -1,5 +1,3 @@
-use Rattle.checker_trace.proofs.write.first_part.Reads as reads
-use Rattle.checker_lengths.proofs.offers.first.Reads as first_reads
 use Rattle.checker_trace.proofs.write.first_part.Goals as goal
 
 pub returns : goal.returns

@@ -6,7 +6,6 @@ use native.Mathlib.Omega.{arith}
 use mathlib.Core.Path.{◌≡◌, refl, sym, ap, ◌∙◌}
 use Prim.Native.Nat.{ℕ}
 use lib.ListN.{length}
-use Rattle.checker_trace.proofs.write.give.Reads as reads
 use borrow.Author.Rules.{rules}
 use Rattle.checker_trace.proofs.write.give.Goals as goal
 

@@ -1,5 +1,3 @@
-use Rattle.checker_trace.proofs.write.inner_part.Reads as reads
-use Rattle.checker_lengths.proofs.offers.inner.Reads as inner-reads
 use Rattle.checker_trace.proofs.write.inner_part.Goals as goal
 
 pub returns : goal.returns

@@ -1,8 +1,7 @@
 use lib.ListN.{get_or-eq_default}
 use native.Mathlib.Omega.{arith}
 use mathlib.Core.Path.{◌≡◌, sym}
-use lib.ListN.{length, get_or}
-use Rattle.checker_trace.proofs.write.name.Reads as reads
+use lib.ListN.{length}
 use borrow.Author.Rules.{rules}
 use Rattle.checker_trace.proofs.write.name.Goals as goal
 

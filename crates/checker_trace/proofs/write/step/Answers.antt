@@ -1,6 +1,5 @@
 use lib.ListN.{length-set}
 use native.Mathlib.Omega.{arith}
-use Rattle.checker_trace.proofs.write.step.Reads as reads
 use Rattle.checker_trace.proofs.write.step.Goals as goal
 
 pub bounds-trace-i-2 : goal.bounds-trace-i-2
