@@ -22,13 +22,13 @@ returns-then-is_refusal c =
     ∙ judged-by a.b.now a.h a.step a.lean c.looked_at-looked.result _ _ _ _ c.looked_at-looked.ensures n c.held_in-k.ensures lent
     c.sizes_in.ensures in
     let k : Held = record {
-      sets = x.new.pairs.1.1.0;
-      possible = x.new.pairs.1.1.1.1.0;
-      numbers = x.new.pairs.1.1.1.1.1.0;
-      counts = x.new.pairs.1.1.1.1.1.1.0;
-      order = x.new.pairs.1.1.1.1.1.1.1.0;
+      sets = x.new.sets;
+      possible = x.new.possible;
+      numbers = x.new.created;
+      counts = x.new.unclosed;
+      order = x.new.order;
     } in
-    let pairs = x.new.pairs.1.1.1.0 in record { judged_in = judged-refused a.b.now p.desk_bytes_in_bounds _ x.result k pairs l is a.h
+    let pairs = x.new.pairs in record { judged_in = judged-refused a.b.now p.desk_bytes_in_bounds _ x.result k pairs l is a.h
           (by-refused-kept (looks_of a.lean (summary_in a.b.now)) (edges_in a.b.now a.h) (local_in a.h) (judge_in a.b.now a.h) a.step)
           (sym c.is_refusal.ensures ∙ c.if-is_refusal.true); b_len_unchanged = (pairs-back a.b.now pairs p.desk_bytes_in_bounds l).0.long }
 
@@ -38,7 +38,7 @@ held_out-requires c =
     let p = c.requires in
     let x = c.judge_looked-t in
     let l = x.ensures.pairs_len_unchanged ∙ ap length (pairs-lent a.b.now p.desk_bytes_in_bounds) ∙ pairs-long a.b.now in
-    rw (pairs-back a.b.now x.new.pairs.1.1.1.0 p.desk_bytes_in_bounds l).0.long p.desk_bytes_in_bounds
+    rw (pairs-back a.b.now x.new.pairs p.desk_bytes_in_bounds l).0.long p.desk_bytes_in_bounds
 
 pub shape_of-b : goal.shape_of-b
 shape_of-b c =
@@ -46,7 +46,7 @@ shape_of-b c =
     let p = c.requires in
     let x = c.judge_looked-t in
     let l = x.ensures.pairs_len_unchanged ∙ ap length (pairs-lent a.b.now p.desk_bytes_in_bounds) ∙ pairs-long a.b.now in
-    c.held_out.ensures.within.long ∙ (pairs-back a.b.now x.new.pairs.1.1.1.0 p.desk_bytes_in_bounds l).0.long
+    c.held_out.ensures.within.long ∙ (pairs-back a.b.now x.new.pairs p.desk_bytes_in_bounds l).0.long
 
 pub returns : goal.returns
 returns c =
@@ -60,11 +60,11 @@ returns c =
     ∙ judged-by a.b.now a.h a.step a.lean c.looked_at-looked.result _ _ _ _ c.looked_at-looked.ensures n c.held_in-k.ensures lent
     c.sizes_in.ensures in
     let k : Held = record {
-      sets = x.new.pairs.1.1.0;
-      possible = x.new.pairs.1.1.1.1.0;
-      numbers = x.new.pairs.1.1.1.1.1.0;
-      counts = x.new.pairs.1.1.1.1.1.1.0;
-      order = x.new.pairs.1.1.1.1.1.1.1.0;
+      sets = x.new.sets;
+      possible = x.new.possible;
+      numbers = x.new.created;
+      counts = x.new.unclosed;
+      order = x.new.order;
     } in
-    let pairs = x.new.pairs.1.1.1.0 in
+    let pairs = x.new.pairs in
     let o = c.held_out.ensures in record { judged_in = judged-taken a.b.now p.desk_bytes_in_bounds _ x.result k pairs l is _ (sym c.is_refusal.ensures ∙ c.if-is_refusal.false) o; b_len_unchanged = o.within.long ∙ (pairs-back a.b.now pairs p.desk_bytes_in_bounds l).0.long }

@@ -11,7 +11,7 @@ use Rattle.desk.proofs.heading.is_listed.Reads as is-listed-reads
 use Rattle.desk.proofs.loads.is_sound.Reads as is-sound-reads
 use Rattle.desk.proofs.loads.rows_fit.Reads as rows-fit-reads
 use Rattle.desk.proofs.loads.is_desk.Goals as goal
-use Rattle.desk.proofs.loads.is_desk.Goals.{else-is_listed, then-is_listed}
+use Rattle.desk.proofs.loads.is_desk.Goals.{then-is_listed+else-not-rows_fit, else-is_listed}
 
 -- src/loads.rt:66:9
 pub returns-then-h-eq0 : goal.returns-then-h-eq0
@@ -60,4 +60,7 @@ returns c =
     let k = c.is_listed in
     c.is_sound.ensures
     ∙ desk-sound a.b.now a.h c.if-h-eq0.false (sym o.ensures ∙ not-false o.result c.if-not-head_ok.false-raw)
-    (elim c.if-is_listed.branch [ then-is_listed w ↦ rows_on a.b.now a.h (sym k.ensures ∙ w.if-is_listed.true) (sym w.1.ensures ∙ not-false w.1.result w.2.left) | else-is_listed w ↦ rows-off a.b.now a.h (sym k.ensures ∙ w.left) ])
+    (elim c.if-is_listed.branch [
+      then-is_listed+else-not-rows_fit w ↦ rows_on a.b.now a.h (sym k.ensures ∙ w.if-is_listed.true) (sym w.rows_fit.ensures ∙ w.if-not-rows_fit.false)
+      | else-is_listed w ↦ rows-off a.b.now a.h (sym k.ensures ∙ w.if-is_listed.false)
+    ])

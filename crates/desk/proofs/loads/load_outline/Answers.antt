@@ -25,7 +25,7 @@ pub overflow_mul-m : goal.overflow_mul-m
 overflow_mul-m c =
     let a = c.args in
     let t = c.read_outline-r in
-    let h = outline-held a.text.now t.new.1.0 c.in-Stored.n (rw c.in-Stored.is at t.ensures.result_value) t.ensures.table_after in
+    let h = outline-held a.text.now t.new.table c.in-Stored.n (rw c.in-Stored.is at t.ensures.result_value) t.ensures.table_after in
     let f : c.in-Stored.n ≤ 64 = h.few in
     search rules
 
@@ -34,7 +34,7 @@ pub slice_bounds-keep_outline-end : goal.slice_bounds-keep_outline-end
 slice_bounds-keep_outline-end c =
     let a = c.args in
     let t = c.read_outline-r in
-    let h = outline-held a.text.now t.new.1.0 c.in-Stored.n (rw c.in-Stored.is at t.ensures.result_value) t.ensures.table_after in
+    let h = outline-held a.text.now t.new.table c.in-Stored.n (rw c.in-Stored.is at t.ensures.result_value) t.ensures.table_after in
     let f : c.in-Stored.n ≤ 64 = h.few in
     search rules
 
@@ -44,8 +44,8 @@ keep_outline-requires c =
     let a = c.args in
     let p = c.requires in
     let t = c.read_outline-r in
-    let h = outline-held a.text.now t.new.1.0 c.in-Stored.n (rw c.in-Stored.is at t.ensures.result_value) t.ensures.table_after in
-    let v = nodes-valid a.text.now t.new.1.0 c.in-Stored.n h in
+    let h = outline-held a.text.now t.new.table c.in-Stored.n (rw c.in-Stored.is at t.ensures.result_value) t.ensures.table_after in
+    let v = nodes-valid a.text.now t.new.table c.in-Stored.n h in
     record { desk_bytes_in_bounds = p.desk_bytes_in_bounds; h_value = p.h_value; fact = p.fact; h_value_2 = p.h_value_2; nodes_value = v; nodes_len_bound = node-room _ v }
 
 -- src/loads.rt:258:1
@@ -64,6 +64,6 @@ returns-in-Stored c =
     let a = c.args in
     let p = c.requires in
     let t = c.read_outline-r in
-    let h = outline-held a.text.now t.new.1.0 c.in-Stored.n (rw c.in-Stored.is at t.ensures.result_value) t.ensures.table_after in
+    let h = outline-held a.text.now t.new.table c.in-Stored.n (rw c.in-Stored.is at t.ensures.result_value) t.ensures.table_after in
     outline-loaded a.text.now a.b.now a.h p.desk_bytes_in_bounds p.b_value p.h_value_3 _ h.rows _ _ h.result
-    (nodes-read a.text.now t.new.1.0 c.in-Stored.n h) c.keep_outline.ensures
+    (nodes-read a.text.now t.new.table c.in-Stored.n h) c.keep_outline.ensures

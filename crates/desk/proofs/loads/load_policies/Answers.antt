@@ -25,7 +25,7 @@ store_policies-requires c =
     let a = c.args in
     let p = c.requires in
     let t = c.read_policies-r in
-    let h = policies-held a.text.now t.new.1.0 c.in-Stored.n c.in-Stored.local (rw c.in-Stored.is at t.ensures.result_value) t.ensures.table_after in
+    let h = policies-held a.text.now t.new.table c.in-Stored.n c.in-Stored.local (rw c.in-Stored.is at t.ensures.result_value) t.ensures.table_after in
     let f : c.in-Stored.n ≤ 256 = h.few in
     record { desk_bytes_in_bounds = p.desk_bytes_in_bounds; n_le_most_edges = f; n_in_bounds = omega arith }
 
@@ -46,6 +46,6 @@ returns-in-Stored c =
     let p = c.requires in
     let t = c.read_policies-r in
     let s = c.store_policies in
-    policies-loaded a.text.now a.b.now p.desk_bytes_in_bounds p.b_value p.b_value_2 c.in-Stored.n c.in-Stored.local t.new.1.0 s.new.b
-    (policies-held a.text.now t.new.1.0 c.in-Stored.n c.in-Stored.local (rw c.in-Stored.is at t.ensures.result_value) t.ensures.table_after)
+    policies-loaded a.text.now a.b.now p.desk_bytes_in_bounds p.b_value p.b_value_2 c.in-Stored.n c.in-Stored.local t.new.table s.new.b
+    (policies-held a.text.now t.new.table c.in-Stored.n c.in-Stored.local (rw c.in-Stored.is at t.ensures.result_value) t.ensures.table_after)
     (policies-choice a.text.now c.in-Stored.n c.in-Stored.local (rw c.in-Stored.is at t.ensures.result_value)) s.ensures.encodes s.ensures.within

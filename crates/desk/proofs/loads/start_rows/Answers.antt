@@ -14,6 +14,6 @@ returns c =
     let p = c.requires in
     let x = c.start-k in
     let t = table-lent a.b.now (p) in
-    let l = x.auto.1.0 ∙ ap length t ∙ table-long a.b.now in
-    let w = within-back a.b.now x.new.1.0 p l in record { settled_in = λ ok. rows_settled _ x.new.1.0 _ _ (table-back a.b.now x.new.1.0 p l) x.ensures.upper_bound
+    let l = x.auto.t ∙ ap length t ∙ table-long a.b.now in
+    let w = within-back a.b.now x.new.t p l in record { settled_in = λ ok. rows_settled _ x.new.t _ _ (table-back a.b.now x.new.t p l) x.ensures.upper_bound
           (x.ensures.settles ok (ap length t ∙ table-long a.b.now)); within = w; b_len_unchanged = w.long }

@@ -34,7 +34,8 @@ pub returns : goal.returns
 returns c =
     let a = c.args in
     let p = c.requires in
-    outline-kept a.b.now _ _ _ _ a.nodes.now a.marks a.h c.start_rows-k.result p.h_value p.fact p.nodes_value p.nodes_len_bound
+    let q = outline-kept a.b.now _ _ _ _ a.nodes.now a.marks a.h c.start_rows-k.result p.h_value p.fact p.nodes_value p.nodes_len_bound
     c.bytes_out.ensures c.summary_out.ensures.put c.summary_out.ensures.marks_len c.start_rows-k.ensures.within
     (c.start_rows-k.ensures.settled_in ((decides-node-table a.nodes.now).0 p.nodes_value).outline) _ _ c.outline_head-g.ensures c.start.ensures.value
-    c.judge_out.ensures
+    c.judge_out.ensures in
+    record { encodes = q.0; within = q.1 }

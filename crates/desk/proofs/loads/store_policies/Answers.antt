@@ -22,5 +22,6 @@ pub returns : goal.returns
 returns c =
     let a = c.args in
     let p = c.requires in
-    policies-stored a.b.now _ _ a.edges.now a.n a.local _ _ p.n_le_most_edges p.n_in_bounds c.bytes_out.ensures c.policies_head-h.ensures
-    c.start.ensures.value c.judge_out.ensures
+    let q = policies-stored a.b.now _ _ a.edges.now a.n a.local _ _ p.n_le_most_edges p.n_in_bounds c.bytes_out.ensures c.policies_head-h.ensures
+    c.start.ensures.value c.judge_out.ensures in
+    record { encodes = q.0; within = q.1 }

@@ -24,7 +24,7 @@ returns c =
     let x = c.next-k in
     let n = nodes-got a.b.now a.h _ _ (3 * a.h.nodes - 0) refl p.nodes_le_most_nodes c.bytes_in.ensures (omega arith) in
     let t = table-lent a.b.now p.desk_bytes_in_bounds in
-    let l = x.auto.1.0 ∙ ap length t ∙ table-long a.b.now in record { settled_in = λ ls ok w. rows_settled _ x.new.1.0 _ _ (table-back a.b.now x.new.1.0 p.desk_bytes_in_bounds l) x.ensures.upper_bound
-          (subst (λ (ns : List ℕ). Settles (next_positions (nodes_of ns) (step_from a.step.kind a.step.a a.step.b) ls) x.result x.new.1.0) n
+    let l = x.auto.t ∙ ap length t ∙ table-long a.b.now in record { settled_in = λ ls ok w. rows_settled _ x.new.t _ _ (table-back a.b.now x.new.t p.desk_bytes_in_bounds l) x.ensures.upper_bound
+          (subst (λ (ns : List ℕ). Settles (next_positions (nodes_of ns) (step_from a.step.kind a.step.a a.step.b) ls) x.result x.new.t) n
           (x.ensures.settles ls (subst (λ (ns : List ℕ). OutlineOk (nodes_of ns)) (sym n) ok) (ap length t ∙ table-long a.b.now)
-          (subst (λ (y : List ℕ). Tabled ls a.h.positions y) (sym t) w))); within = within-back a.b.now x.new.1.0 p.desk_bytes_in_bounds l }
+          (subst (λ (y : List ℕ). Tabled ls a.h.positions y) (sym t) w))); within = within-back a.b.now x.new.t p.desk_bytes_in_bounds l }
