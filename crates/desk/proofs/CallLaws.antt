@@ -1,41 +1,32 @@
 -- A call, from what was written: which desk the bytes encode before it and after it.
-use Prim.Native.Nat.{ℕ, suc, ◌+◌, ◌-◌, ◌*◌, ◌<◌, ◌≤◌}
+use Prim.Native.Nat.{ℕ, ◌+◌, ◌≤◌}
 use mathlib.Core.Path.{◌≡◌, refl, sym, ap, ap₂, ◌∙◌, subst}
-use mathlib.Core.Bool.{Bool, true, false, not, ◌&&◌, cond}
-use mathlib.Core.Option.{Option, none, some}
-use mathlib.Core.List.{List, [], ◌∷◌}
-use mathlib.Core.Logic.{inl, inr}
+use mathlib.Core.Bool.{Bool, true, false, ◌&&◌, cond}
+use mathlib.Core.Option.{none, some}
+use mathlib.Core.List.{List}
 use native.Mathlib.Omega.{arith}
-use lib.Dec.{eqb, leb, ltb}
-use lib.ListN.{length, get_or}
-use borrow.Author.Tests.{eq-eqb, ne_eqb, eqb-true, leb-true, le-leb, ltb-true}
+use lib.ListN.{length}
+use borrow.Author.Tests.{ne_eqb}
 use Rattle.usage.specs.declared.RawStep.{RawStep}
-use Rattle.usage.specs.Limits.{policies, most_edges, most_nodes, edge_fields, node_fields}
-use Rattle.usage.specs.Past.{Step}
 use Rattle.usage.specs.Answers.{Verdict, allowed, violated, refused}
 use Rattle.usage.specs.Judge.{step_of}
-use Rattle.usage.specs.Tables.{is_edge_table, is_node_table}
-use Rattle.usage.proofs.Logic.{and_left, and_right, and_both, and-false, false-true}
-use Rattle.monitor_state.specs.declared.State.{State}
+use Rattle.usage.specs.Tables.{is_edge_table}
+use Rattle.usage.proofs.Logic.{and-false, false-true}
 use Rattle.monitor_state.specs.declared.Answer.{Answer}
 use Rattle.monitor_state.specs.declared.Answer.TheVariants.{Allowed, Violated, Refused}
 use Rattle.monitor_state.specs.declared.Judgement.{Judgement}
 use Rattle.monitor_state.specs.Judge.{verdict_of, state_ok_lem, refuse}
 use Rattle.monitor_lean.specs.Lean.{judge_by}
-use Rattle.desk_positions.specs.Positions.{Position, most_positions}
-use Rattle.desk_positions.specs.Rows.{table_bytes}
-use Rattle.desk_positions.specs.Reading.{rows_ok_lem}
 use Rattle.desk.specs.declared.Head.{Head}
-use Rattle.desk.specs.Layout.{desk_bytes, edges_at, nodes_at, summary_at, created_at, rows_at, byte_at, word_at, wide_at, head_in_lem}
-use Rattle.desk.specs.JudgeBytes.{judge_in, head_with, Stored}
-use Rattle.desk.specs.State.{local_in, edges_in, nodes_in, summary_in, table_in, listed_in, outlined_in, loaded_in, desk_by, desk_in, head_ok_lem}
-use Rattle.desk.specs.State.{is_listed_lem, rows_fit, encoded_by, is_encoded, is_sound_lem, desk_of, Encodes, looks_of, exceeded}
-use Rattle.desk.specs.Desk.{Outlined, Loaded, Desk, stays_on, looks_by, outline_for, Reply, reply_with, step_loaded, step_desk}
+use Rattle.desk.specs.Layout.{desk_bytes, head_in_lem}
+use Rattle.desk.specs.JudgeBytes.{judge_in}
+use Rattle.desk.specs.State.{local_in, edges_in, summary_in, loaded_in, desk_by, desk_in, head_ok_lem}
+use Rattle.desk.specs.State.{rows_fit, encoded_by, is_encoded, is_sound_lem, desk_of, looks_of}
+use Rattle.desk.specs.Desk.{Loaded, Desk, stays_on, looks_by, outline_for, reply_with, step_loaded, step_desk}
 use Rattle.desk.specs.Promise.{is_refusal_lem}
-use Rattle.desk.specs.Calls.{Given, desk_code, is_refused, plain, given_by, given_step, LeavesBytes, Called, too_short, no_desk, called, ByStep}
+use Rattle.desk.specs.Calls.{Given, desk_code, is_refused, plain, given_by, given_step, LeavesBytes, Called, no_desk, called, ByStep}
 use Rattle.desk.specs.Calls.{replied}
 use Rattle.desk.specs.Code.{told}
-use Rattle.desk_positions.proofs.CopyLaws.{bytes-local, words-local, wides-local, numbers-kept}
 use Rattle.desk.proofs.JudgedLaws.{judge-41, judge-42, taken-ok, not-41}
 
 -- ── An answer as one number ──

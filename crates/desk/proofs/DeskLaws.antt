@@ -1,5 +1,5 @@
 -- The desk answers as a full judge that is started at the load, and tells which judge answered.
-use Prim.Native.Nat.{ℕ, zero, suc, ◌<◌, ◌≤◌}
+use Prim.Native.Nat.{ℕ, zero, ◌<◌, ◌≤◌}
 use mathlib.Core.Path.{◌≡◌, refl, sym, ap, ap₂, ◌∙◌, subst}
 use mathlib.Core.Bool.{Bool, true, false}
 use mathlib.Core.Option.{Option, none, some}
@@ -11,7 +11,7 @@ use Rattle.usage.specs.declared.Edge.{Edge}
 use Rattle.usage.specs.declared.Node.{Node}
 use Rattle.usage.specs.declared.RawStep.{RawStep}
 use Rattle.usage.specs.Limits.{statics, create, edge_places, node_places}
-use Rattle.usage.specs.Past.{Step, event, opening, closing, retiring, Past, highest, Occurs, Created}
+use Rattle.usage.specs.Past.{Step, event, opening, closing, retiring, Past, Occurs, Created}
 use Rattle.usage.specs.Answers.{Verdict, allowed, violated, refused}
 use Rattle.usage.specs.Judge.{step_of, then, Taken, creates_static, not_above, Judged, past_after, halted_after}
 use Rattle.usage.specs.Judge as judge
@@ -19,16 +19,14 @@ use Rattle.usage.specs.Retirings.{thinned}
 use Rattle.usage.specs.Outline.{IsTrace}
 use Rattle.usage.specs.Valid.{OutlineOk}
 use Rattle.usage.specs.Tests.{every}
-use Rattle.usage.specs.Tables.{edges_of, nodes_of, is_edge_table, is_node_table, NodeTable}
-use Rattle.usage.proofs.Logic.{clash, by_cases, false-true, none-some}
+use Rattle.usage.specs.Tables.{edges_of, nodes_of, is_edge_table, is_node_table}
+use Rattle.usage.proofs.Logic.{clash, false-true}
 use Rattle.usage.proofs.PastLaws.{occurs-none, occurs-event, occurs-opening, occurs-closing}
 use Rattle.usage.proofs.RetiringLaws.{created-below}
 use Rattle.usage.proofs.ThinnedLaws.{thinned-highest}
 use Rattle.usage.proofs.TraceLaws.{StepOk, PastOk, trace-tail, trace-ok}
 use Rattle.usage.proofs.TableLaws.{decides-node-table}
-use Rattle.sheet_lines.specs.Sheet.{Result, accepted}
 use Rattle.sheet_lines.specs.Sheets.{is_local}
-use Rattle.sheet_reader.specs.Readers.{policies_into, outline_into}
 use Rattle.sheet_reader.proofs.TableLaws.{policies-valid, outline-valid}
 use Rattle.monitor_state.specs.declared.State.{State}
 use Rattle.monitor_state.specs.declared.Answer.{Answer}
@@ -40,17 +38,17 @@ use Rattle.monitor_state.specs.Promise.{Promised}
 use Rattle.monitor_state.proofs.StartLaws.{begin-represents}
 use Rattle.monitor_state.proofs.Verdict.{judge-promised}
 use Rattle.monitor_state.proofs.KeptLaws.{refused-kept}
-use Rattle.monitor_lean.specs.Lean.{Looks, at_all, Summary, marked, judge_by}
+use Rattle.monitor_lean.specs.Lean.{Summary, judge_by}
 use Rattle.checker.specs.Summary.{Exact}
 use Rattle.monitor_state.proofs.LookedLaws.{full-looks-at-all}
-use Rattle.monitor_lean.proofs.LeanLaws.{Clean, Covered, lean-step, clean-next, clean-start, thinned-covers}
+use Rattle.monitor_lean.proofs.LeanLaws.{Clean, lean-step, clean-next, clean-start, thinned-covers}
 use Rattle.desk_positions.specs.Closure.{added_all, spread}
-use Rattle.desk_positions.specs.Positions.{Held, Exceeds, Position, Fresh, stride_all, settled_from, start_positions, next_positions, Lists, Told}
+use Rattle.desk_positions.specs.Positions.{Position, Fresh, stride_all, settled_from, start_positions, next_positions, Lists, Told}
 use Rattle.desk_positions.proofs.PositionLaws.{told-start, told-next, trace-strides, strides-trace, lists-trace, lists-stray, lists-within}
 use Rattle.desk_positions.specs.Positions.{is_any}
 use Rattle.desk.specs.Desk.{Outlined, Loaded, Desk, on_positions, stays_on, looks_by, positions_after, outline_after, outline_for}
 use Rattle.desk.specs.Desk.{Reply, reply_with, step_loaded, step_desk, replies_of, Reached, zero, by_policies, by_outline, by_step}
-use Rattle.desk.specs.Desk.{LoadAnswer, has_policies, has_outline, LoadsPolicies, LoadsOutline, with_policies, with_outline}
+use Rattle.desk.specs.Desk.{LoadAnswer, has_policies, has_outline, LoadsPolicies, LoadsOutline}
 use Rattle.desk.specs.Promise.{Exceeded, NeverExceeded, Lean, is_refusal_lem, TellsWhich, Replies, done, next, outline_in, FreshDesk}
 use Rattle.desk.specs.Promise.{DeskPromise}
 use Rattle.desk.specs.Calls.{is_refused}

@@ -1,6 +1,6 @@
 -- The judge's state as it is written into the bytes and read from them.
 use Prim.Native.Nat.{ℕ, ◌+◌, ◌*◌, ◌-◌, ◌<◌, ◌≤◌}
-use mathlib.Core.Path.{◌≡◌, refl, sym, ap, ap₂, ◌∙◌, subst}
+use mathlib.Core.Path.{◌≡◌, refl, sym, ap, ◌∙◌, subst}
 use mathlib.Core.Bool.{Bool, true, false, cond}
 use mathlib.Core.List.{List, ◌++◌}
 use mathlib.Core.Logic.{◌⊎◌, inl, inr}
@@ -10,7 +10,7 @@ use borrow.Author.Tests.{ltb-true, ltb-false}
 use lib.ListN.{length, get_or, take, drop}
 use lib.Seq.{ext_get_or}
 use Rattle.usage.specs.Limits.{policies, most_created, most_unclosed}
-use Rattle.usage.proofs.Logic.{by_cases, false-true}
+use Rattle.usage.proofs.Logic.{false-true}
 use Rattle.usage.proofs.TableLaws.{length_from, get_d-from}
 use Rattle.monitor_sets.specs.Instances.{set_places}
 use Rattle.monitor_state.specs.declared.State.{State}
@@ -25,8 +25,8 @@ use Rattle.desk.specs.Promise.{is_refusal_lem}
 use Rattle.desk.specs.declared.Head.{Head}
 use Rattle.desk.specs.declared.Held.{Held}
 use Rattle.desk.specs.Layout.{desk_bytes, edges_at, created_at, possible_at, unclosed_at, order_at, sets_at, pairs_at, rows_at, byte_at, word_at, numbers_in}
-use Rattle.desk.specs.Layout.{bytes_in, words_in, head_in_lem, Got, Put, Within}
-use Rattle.desk.specs.JudgeBytes.{held_in_lem, pairs_in, judge_in, lent_by, sizes_in_lem, head_for, head_with, held_of, Copied, Arrays, JudgedIn, Stored}
+use Rattle.desk.specs.Layout.{bytes_in, head_in_lem, Got, Put, Within}
+use Rattle.desk.specs.JudgeBytes.{held_in_lem, pairs_in, judge_in, lent_by, sizes_in_lem, head_with, held_of, Copied, Arrays, JudgedIn, Stored}
 use Rattle.desk_positions.proofs.CopyLaws.{bytes-local, words-local, got-all, put_all, numbers-kept, slice_is, part-put}
 use Rattle.desk.proofs.HeadLaws.{put-within}
 

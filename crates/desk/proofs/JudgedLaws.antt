@@ -1,12 +1,11 @@
 -- What any judge answers from any state at all: the numbers that the head must hold, and which number refuses.
-use Prim.Native.Nat.{ℕ, zero, suc, ◌+◌, ◌-◌, ◌<◌, ◌≤◌}
+use Prim.Native.Nat.{ℕ, zero, suc, ◌≤◌}
 use mathlib.Core.Path.{◌≡◌, refl, sym, ap, ◌∙◌, subst}
 use mathlib.Core.Bool.{Bool, true, false, not, ◌&&◌, ◌||◌, cond}
 use mathlib.Core.Option.{Option, none, some}
 use mathlib.Core.List.{List}
 use native.Mathlib.Omega.{arith}
 use lib.Dec.{eqb, leb, ltb}
-use lib.ListN.{get_or}
 use borrow.Author.Tests.{leb-true}
 use Rattle.usage.specs.declared.Edge.{Edge}
 use Rattle.usage.specs.declared.RawStep.{RawStep}
@@ -21,7 +20,7 @@ use Rattle.monitor_state.specs.declared.Answer.TheVariants.{Allowed, Violated, R
 use Rattle.monitor_state.specs.declared.Judgement.{Judgement}
 use Rattle.monitor_state.specs.Judge.{state_ok_lem, live_ok, unclosed_ok, created_ok, order_ok_lem, with_new, with_retired, with_opening, with_closing, with_tracked, creating, moving, entering, leaving, releasing, after}
 use Rattle.monitor_state.specs.Judge.{listed, live, openings_of, last_opened, refusal, refuse, halt, settle}
-use Rattle.monitor_lean.specs.Lean.{Looks, broken_among, judge_step_by, judge_read_by, judge_by}
+use Rattle.monitor_lean.specs.Lean.{Looks, judge_step_by, judge_read_by, judge_by}
 use Rattle.desk.specs.Promise.{is_refusal_lem}
 use Rattle.desk.specs.JudgeBytes.{Small}
 

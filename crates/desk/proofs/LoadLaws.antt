@@ -1,40 +1,38 @@
 -- Loads, from what the functions tell.
-use Prim.Native.Nat.{ℕ, suc, ◌+◌, ◌*◌, ◌<◌, ◌≤◌}
+use Prim.Native.Nat.{ℕ, ◌+◌, ◌*◌, ◌<◌, ◌≤◌}
 use mathlib.Core.Path.{◌≡◌, refl, sym, ap, ap₂, ◌∙◌, subst}
 use mathlib.Core.Bool.{Bool, true, false, not, ◌&&◌, cond}
-use mathlib.Core.Option.{Option, none, some}
+use mathlib.Core.Option.{none, some}
 use mathlib.Core.List.{List, flatten}
 use mathlib.Core.Logic.{◌⊎◌, inl, inr}
 use native.Mathlib.Omega.{arith}
-use lib.Dec.{eqb, leb, ltb}
+use lib.Dec.{eqb}
 use lib.ListN.{length, get_or, take}
 use lib.Seq.{length-take-le, get_or-take}
-use borrow.Author.Tests.{ne_eqb, lt-ltb, le-leb}
+use borrow.Author.Tests.{ne_eqb, lt-ltb}
 use Rattle.usage.specs.Limits.{most_edges, edge_fields, edge_places}
-use Rattle.usage.specs.Answers.{allowed, refused, Refusal}
+use Rattle.usage.specs.Answers.{refused}
 use Rattle.usage.specs.Tables.{is_edge_table, is_node_table}
-use Rattle.usage.proofs.Logic.{and_left, and_right, and_both, and-false}
+use Rattle.usage.proofs.Logic.{and_left, and_right, and-false}
 use Rattle.usage.proofs.TableLaws.{is-from}
-use Rattle.sheet_lines.specs.Sheet.{Result, accepted, refused as sheet-refused}
+use Rattle.sheet_lines.specs.Sheet.{Result, refused as sheet-refused}
 use Rattle.sheet_lines.specs.Sheets.{is_local, policy_sheet}
 use Rattle.sheet_reader.specs.Readers.{policies_read, policies_into}
-use Rattle.sheet_reader.proofs.RefusalLaws.{Low, sheet-low}
+use Rattle.sheet_reader.proofs.RefusalLaws.{sheet-low}
 use Rattle.sheet_reader.proofs.AnswerLaws.{Holds}
 use Rattle.monitor_state.specs.declared.State.{State}
 use Rattle.monitor_state.specs.Judge.{state_ok_lem, live_ok, unclosed_ok, created_ok, highest_ok, order_ok_lem, start_state, start_created, start_unclosed}
-use Rattle.desk_positions.specs.Positions.{most_positions}
 use Rattle.desk_positions.specs.Reading.{rows_ok_lem}
 use Rattle.desk.specs.declared.Head.{Head}
-use Rattle.desk.specs.Layout.{Read, desk_bytes, edges_at, created_at, rows_at, byte_at, numbers_in, head_in_lem, Put, Within}
+use Rattle.desk.specs.Layout.{Read, desk_bytes, edges_at, byte_at, numbers_in, head_in_lem, Put, Within}
 use Rattle.desk.specs.JudgeBytes.{judge_in, head_with, Small, Stored}
 use Rattle.desk.specs.State.{local_in, edges_in, nodes_in, table_in, outlined_in, loaded_in, desk_by, desk_in, head_ok_lem, is_listed_lem, rows_fit}
-use Rattle.desk.specs.State.{encoded_by, is_encoded, is_sound_lem, desk_of, Encodes, exceeded}
-use Rattle.desk.specs.Desk.{Desk, is_busy_lem, with_policies, LoadsPolicies, by_number, is_refused_with, has_policies}
-use Rattle.desk.specs.Calls.{desk_code, plain, given_load, Called, no_desk, called, ByPolicies, loaded}
+use Rattle.desk.specs.State.{encoded_by, is_encoded, is_sound_lem, desk_of, Encodes}
+use Rattle.desk.specs.Desk.{is_busy_lem, with_policies, LoadsPolicies}
+use Rattle.desk.specs.Calls.{desk_code, plain, Called, called, ByPolicies, loaded}
 use Rattle.desk.specs.Code.{most_line}
-use Rattle.desk_positions.proofs.CopyLaws.{bytes-local, numbers-kept}
 use Rattle.desk.proofs.CallLaws.{desk-is}
-use Rattle.desk.proofs.StepLaws.{HeadParts, parts-head, left-encodes}
+use Rattle.desk.proofs.StepLaws.{parts-head, left-encodes}
 
 -- ── 42 ──
 

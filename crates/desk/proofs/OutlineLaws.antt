@@ -1,28 +1,27 @@
 -- The outline that the bytes hold, off it and on it, and what a step makes of it.
-use Prim.Native.Nat.{ℕ, zero, suc, ◌+◌, ◌-◌, ◌*◌, ◌<◌, ◌≤◌}
-use mathlib.Core.Path.{◌≡◌, refl, sym, ap, ap₂, ◌∙◌, subst}
-use mathlib.Core.Bool.{Bool, true, false, not, ◌&&◌, cond}
+use Prim.Native.Nat.{ℕ, zero, suc, ◌+◌, ◌-◌, ◌*◌, ◌≤◌}
+use mathlib.Core.Path.{◌≡◌, refl, sym, ap, ap₂, ◌∙◌}
+use mathlib.Core.Bool.{Bool, true, false, ◌&&◌, cond}
 use mathlib.Core.Option.{Option, none, some}
-use mathlib.Core.List.{List, [], ◌∷◌, ◌++◌}
+use mathlib.Core.List.{List, [], ◌++◌}
 use mathlib.Core.Logic.{◌⊎◌, inl, inr}
 use native.Mathlib.Omega.{arith}
-use native.Mathlib.Nat.{zero-add}
 use native.Mathlib.Decide.{ℕ_discrete}
-use lib.Dec.{eqb, leb, ltb}
+use lib.Dec.{eqb}
 use lib.ListN.{length, get_elem?, take, drop}
-use borrow.Author.Tests.{eq-eqb, ne_eqb, eqb-true, eqb-false, leb-true, leb-false, le-leb, lt-leb, lt-ltb, ltb-true, ltb-false}
+use borrow.Author.Tests.{eq-eqb, ne_eqb, le-leb, lt-ltb}
 use Rattle.usage.specs.declared.Node.{Node}
 use Rattle.usage.specs.declared.RawStep.{RawStep}
-use Rattle.usage.specs.Limits.{policies, most_nodes, node_fields}
+use Rattle.usage.specs.Limits.{policies}
 use Rattle.usage.specs.Past.{Step, event, opening, closing, retiring}
 use Rattle.usage.specs.Judge.{step_of, guard, in_range, step_kinds}
 use Rattle.usage.specs.Limits.{within, Kind, ◌until◌, unused, actions, resources}
 use Rattle.usage.specs.Tables.{from, nodes_of}
-use Rattle.usage.proofs.Logic.{and_left, and_right, and_both, false-true, none-some}
+use Rattle.usage.proofs.Logic.{false-true, none-some}
 use Rattle.usage.proofs.TableLaws.{length_from}
 use Rattle.monitor_state.specs.declared.Answer.{Answer}
 use Rattle.monitor_state.specs.declared.Answer.TheVariants.{Allowed, Violated, Refused}
-use Rattle.monitor_lean.specs.Lean.{at_all, marked}
+use Rattle.monitor_lean.specs.Lean.{at_all}
 use Rattle.desk_positions.specs.Positions.{Position, most_positions, stride_all}
 use Rattle.desk_positions.specs.Rows.{table_bytes}
 use Rattle.desk_positions.specs.Growth.{Settles, step_from}
@@ -30,7 +29,7 @@ use Rattle.desk_positions.specs.Reading.{rows_ok_lem, positions_in}
 use Rattle.desk_positions.proofs.ReadingLaws.{tabled-passes, tabled-reads}
 use Rattle.desk.specs.declared.Head.{Head}
 use Rattle.desk.specs.Layout.{desk_bytes, rows_at, byte_at, numbers_in, Put, Within}
-use Rattle.desk.specs.State.{nodes_in, summary_in, table_in, listed_in, outlined_in, head_ok_lem, is_listed_lem, exceeded, looks_of}
+use Rattle.desk.specs.State.{nodes_in, summary_in, table_in, listed_in, outlined_in, is_listed_lem, exceeded, looks_of}
 use Rattle.desk_positions.specs.Positions.{is_any}
 use Rattle.desk.specs.Desk.{Outlined, on_positions, stays_on, looks_by, positions_after, outline_after, outline_for}
 use Rattle.desk.specs.Code.{SettledIn}

@@ -1,22 +1,21 @@
 -- An outline that is loaded, from what the functions tell.
-use Prim.Native.Nat.{ℕ, suc, ◌+◌, ◌-◌, ◌*◌, ◌/◌, ◌%◌, ◌<◌, ◌≤◌}
+use Prim.Native.Nat.{ℕ, ◌+◌, ◌-◌, ◌*◌, ◌/◌, ◌<◌, ◌≤◌}
 use mathlib.Core.Path.{◌≡◌, refl, sym, ap, ap₂, ◌∙◌, subst}
-use mathlib.Core.Bool.{Bool, true, false, not, ◌&&◌, cond}
+use mathlib.Core.Bool.{Bool, true, false, ◌&&◌, cond}
 use mathlib.Core.Option.{Option, none, some}
 use mathlib.Core.List.{List, [], ◌∷◌, ◌++◌, flatten}
 use mathlib.Core.Logic.{◌⊎◌, inl, inr}
 use native.Mathlib.Omega.{arith}
-use lib.Dec.{eqb, leb, ltb}
+use lib.Dec.{eqb}
 use lib.ListN.{length, get_or, take, drop, drop_of_length-le}
 use borrow.Author.Tests.{ne_eqb}
 use Rattle.usage.specs.declared.Edge.{Edge}
 use Rattle.usage.specs.declared.Node.{Node}
-use Rattle.usage.specs.Limits.{policies, most_nodes, edge_fields, node_fields, node_places}
-use Rattle.usage.specs.Answers.{Verdict, allowed, violated, refused, Refusal}
-use Rattle.usage.specs.Valid.{OutlineOk}
+use Rattle.usage.specs.Limits.{policies, edge_fields, node_fields, node_places}
+use Rattle.usage.specs.Answers.{Verdict, allowed, violated, refused}
 use Rattle.usage.specs.Check.{Checked}
-use Rattle.usage.specs.Tables.{edges_of, nodes_of, is_edge_table, is_node_table, EdgeTable, NodeTable}
-use Rattle.usage.proofs.Logic.{and_left, and_right, and_both}
+use Rattle.usage.specs.Tables.{edges_of, nodes_of, is_edge_table, is_node_table, NodeTable}
+use Rattle.usage.proofs.Logic.{and_both}
 use Rattle.usage.proofs.TableLaws.{nodes-length, decides-edge-table, decides-node-table}
 use Rattle.sheet_lines.specs.Sheet.{Result, accepted, sheet, refused as sheet-refused}
 use Rattle.sheet_lines.specs.Sheets.{outline_sheet}
@@ -25,21 +24,20 @@ use Rattle.sheet_reader.proofs.RefusalLaws.{outline-low}
 use Rattle.sheet_reader.proofs.AnswerLaws.{HoldsNodes, accepted-nodes}
 use Rattle.monitor_state.specs.declared.State.{State}
 use Rattle.monitor_state.specs.Judge.{start_state}
-use Rattle.checker.specs.declared.Outcome.{Outcome}
-use Rattle.checker.specs.Promise.{outcome_verdict, RightVerdict, CheckPromise}
+use Rattle.checker.specs.Promise.{RightVerdict, CheckPromise}
 use Rattle.checker.specs.Summary.{Summary, Exact, Summarized}
 use Rattle.desk_positions.specs.Positions.{Position, most_positions, start_positions}
 use Rattle.desk_positions.specs.Reading.{rows_ok_lem}
 use Rattle.desk.specs.declared.Head.{Head}
-use Rattle.desk.specs.Layout.{desk_bytes, edges_at, nodes_at, summary_at, created_at, rows_at, byte_at, wide_at, numbers_in, Put, Within}
+use Rattle.desk.specs.Layout.{desk_bytes, edges_at, nodes_at, summary_at, rows_at, byte_at, wide_at, numbers_in, Put, Within}
 use Rattle.desk.specs.JudgeBytes.{head_with, Stored}
 use Rattle.desk.specs.State.{local_in, edges_in, nodes_in, summary_in, table_in, listed_in, outlined_in, loaded_in, head_ok_lem, is_listed_lem, rows_fit, Encodes}
-use Rattle.desk.specs.State.{exceeded, desk_of}
-use Rattle.desk.specs.Desk.{Outlined, Desk, is_busy_lem, with_outline, LoadsOutline}
+use Rattle.desk.specs.State.{desk_of}
+use Rattle.desk.specs.Desk.{is_busy_lem, with_outline, LoadsOutline}
 use Rattle.desk.specs.Calls.{desk_code, plain, is_refused, LeavesBytes, Called, called, ByOutline, loaded}
 use Rattle.desk.specs.Code.{most_line, SettledIn, with_nodes, KeptOutline}
 use Rattle.desk_positions.proofs.CopyLaws.{bytes-local, wides-local, numbers-kept, put_all}
-use Rattle.desk.proofs.StepLaws.{HeadParts, head-parts, parts-head, listed-parts, positions-is, nodes-same, table_same, outlined-is, left-encodes}
+use Rattle.desk.proofs.StepLaws.{head-parts, parts-head, listed-parts, positions-is, nodes-same, table_same, outlined-is, left-encodes}
 
 -- ── What is left ──
 

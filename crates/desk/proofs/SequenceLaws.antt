@@ -1,24 +1,22 @@
 -- What calls one after the other lead to and answer.
 use Prim.Native.Nat.{ℕ, zero, suc, ◌+◌, ◌*◌, ◌<◌, ◌≤◌}
 use mathlib.Core.Path.{◌≡◌, refl, sym, ap, ap₂, ◌∙◌, subst}
-use mathlib.Core.Bool.{Bool, true, false, not, ◌&&◌, cond}
-use mathlib.Core.Option.{Option, none, some, some-injective}
-use mathlib.Core.List.{List, [], ◌∷◌, map, flatten}
+use mathlib.Core.Bool.{Bool, true, false, cond}
+use mathlib.Core.Option.{none, some, some-injective}
+use mathlib.Core.List.{List, ◌∷◌, map, flatten}
 use native.Mathlib.Omega.{arith}
-use lib.Dec.{eqb}
 use lib.ListN.{length, get_or, replicate, length-replicate}
 use Rattle.usage.specs.declared.RawStep.{RawStep}
-use Rattle.usage.specs.Answers.{Verdict, allowed, violated, refused}
 use Rattle.usage.specs.Tables.{is_edge_table}
-use Rattle.usage.proofs.Logic.{and_both, none-some, false-true, clash}
+use Rattle.usage.proofs.Logic.{and_both, none-some}
 use Rattle.sheet_lines.specs.Sheets.{is_local}
 use Rattle.monitor_state.specs.Judge.{verdict_of, state_ok_lem, live_ok, unclosed_ok}
 use Rattle.desk.specs.Desk.{Loaded, Desk, LoadAnswer, is_refused_with, has_policies, has_outline, LoadsPolicies, LoadsOutline, with_policies, with_outline, Reply, step_desk, replies_of, Reached}
 use Rattle.desk.specs.Desk as desk
-use Rattle.desk.specs.Promise.{Fresh, FreshDesk}
+use Rattle.desk.specs.Promise.{FreshDesk}
 use Rattle.desk.specs.Layout.{desk_bytes, word_at, head_in_lem}
-use Rattle.desk.specs.State.{desk_in, is_encoded, is_sound_lem, desk_of, Encodes}
-use Rattle.desk.specs.Calls.{Given, desk_code, plain, given_step, given_load, is_refused, LeavesBytes, Called, too_short, no_desk, called, ByPolicies, ByOutline}
+use Rattle.desk.specs.State.{is_sound_lem, desk_of, Encodes}
+use Rattle.desk.specs.Calls.{Given, desk_code, given_step, is_refused, LeavesBytes, Called, too_short, no_desk, called, ByPolicies, ByOutline}
 use Rattle.desk.specs.Calls.{ByStep, replied}
 use Rattle.desk.specs.Sequences.{refusals, Written, zeros, by_policies, by_outline, by_step, Stepped, done, next, Served, CallsPromise}
 use Rattle.desk.proofs.DeskLaws.{DeskFit, reached-fit, refused-keeps, desk-promise}

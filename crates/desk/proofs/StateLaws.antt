@@ -1,12 +1,11 @@
 -- The desk that bytes encode, part by part.
-use Prim.Native.Nat.{ℕ, suc, ◌+◌, ◌-◌, ◌*◌, ◌<◌, ◌≤◌}
-use mathlib.Core.Path.{◌≡◌, refl, sym, ap, ap₂, ◌∙◌, subst}
-use mathlib.Core.Bool.{Bool, true, false, not, ◌&&◌, cond}
-use mathlib.Core.Option.{Option, none, some}
+use Prim.Native.Nat.{ℕ, ◌+◌, ◌-◌, ◌*◌, ◌<◌, ◌≤◌}
+use mathlib.Core.Path.{◌≡◌, refl, ◌∙◌}
+use mathlib.Core.Bool.{Bool}
+use mathlib.Core.Option.{some}
 use mathlib.Core.List.{List}
 use native.Mathlib.Omega.{arith}
-use lib.Dec.{eqb, leb, ltb}
-use lib.ListN.{length, get_or, take, drop}
+use lib.ListN.{length, take, drop}
 use lib.Seq.{length-take-le, get_or-take}
 use Rattle.usage.specs.declared.RawStep.{RawStep}
 use Rattle.usage.specs.Limits.{policies, most_edges, most_nodes, edge_fields, node_fields, edge_places, node_places}
@@ -19,7 +18,7 @@ use Rattle.monitor_state.specs.Lent.{state_of}
 use Rattle.monitor_state.specs.Looked.{judge_by, judge_sized, looked_at}
 use Rattle.monitor_state.proofs.LookedLaws.{sized-by, sized-alike}
 use Rattle.desk.specs.declared.Head.{Head}
-use Rattle.desk.specs.Layout.{desk_bytes, edges_at, nodes_at, summary_at, numbers_in, byte_at, wide_at, head_in_lem, Got}
+use Rattle.desk.specs.Layout.{desk_bytes, edges_at, nodes_at, numbers_in, byte_at, Got}
 use Rattle.desk.specs.declared.Held.{Held}
 use Rattle.desk.specs.JudgeBytes.{held_in_lem, pairs_in, lent_by, sizes_in_lem, judge_in}
 use Rattle.desk.specs.State.{edges_in, nodes_in, local_in, summary_in, looks_of}

@@ -1,14 +1,14 @@
 -- A step, from what the functions tell: off the outline and on it.
-use Prim.Native.Nat.{ℕ, zero, suc, ◌+◌, ◌-◌, ◌*◌, ◌<◌, ◌≤◌}
+use Prim.Native.Nat.{ℕ, zero, suc, ◌*◌, ◌<◌, ◌≤◌}
 use mathlib.Core.Path.{◌≡◌, refl, sym, ap, ap₂, ◌∙◌, subst}
 use mathlib.Core.Bool.{Bool, true, false, not, ◌&&◌, cond}
 use mathlib.Core.Option.{Option, none, some}
 use mathlib.Core.List.{List, [], ◌∷◌}
-use mathlib.Core.Logic.{◌⊎◌, inl, inr}
+use mathlib.Core.Logic.{inl, inr}
 use native.Mathlib.Omega.{arith}
 use lib.Dec.{eqb, leb, ltb}
 use lib.ListN.{length, get_or}
-use borrow.Author.Tests.{eq-eqb, ne_eqb, leb-true, leb-false, le-leb, ltb-true, lt-ltb}
+use borrow.Author.Tests.{eq-eqb, ne_eqb, leb-true, le-leb, ltb-true}
 use Rattle.usage.specs.declared.RawStep.{RawStep}
 use Rattle.usage.specs.Limits.{policies, most_edges, most_nodes, edge_fields, node_fields}
 use Rattle.usage.specs.declared.Node.{Node}
@@ -34,15 +34,15 @@ use Rattle.monitor_lean.specs.Lean.{Looks, judge_by}
 use Rattle.desk_positions.specs.Positions.{most_positions}
 use Rattle.desk_positions.specs.Rows.{table_bytes}
 use Rattle.desk.specs.declared.Head.{Head}
-use Rattle.desk.specs.Layout.{desk_bytes, edges_at, nodes_at, summary_at, created_at, rows_at, byte_at, word_at, wide_at, head_in_lem, Within}
+use Rattle.desk.specs.Layout.{desk_bytes, edges_at, nodes_at, summary_at, created_at, rows_at, byte_at, wide_at, head_in_lem, Within}
 use Rattle.desk.specs.JudgeBytes.{judge_in, head_with, Small, Stored}
 use Rattle.desk.specs.State.{local_in, edges_in, nodes_in, summary_in, table_in, listed_in, outlined_in, loaded_in, desk_by, desk_in, head_ok_lem}
 use Rattle.desk.specs.State.{is_listed_lem, rows_fit, encoded_by, is_encoded, Encodes, looks_of, exceeded}
-use Rattle.desk.specs.Desk.{Outlined, Loaded, stays_on, looks_by, outline_for}
+use Rattle.desk.specs.Desk.{Outlined, stays_on, looks_by, outline_for}
 use Rattle.desk.specs.Promise.{is_refusal_lem}
-use Rattle.desk.specs.Calls.{desk_code, given_by, LeavesBytes, Called, ByStep}
+use Rattle.desk.specs.Calls.{desk_code, given_by, Called, ByStep}
 use Rattle.desk.specs.Code.{told, moves, SettledIn}
-use Rattle.desk_positions.proofs.CopyLaws.{bytes-local, words-local, wides-local, numbers-kept}
+use Rattle.desk_positions.proofs.CopyLaws.{bytes-local, wides-local, numbers-kept}
 use Rattle.desk.proofs.CallLaws.{encoded-is, desk-is, step-refused, step-stored}
 use Rattle.desk.proofs.JudgedLaws.{taken-small, none-refused}
 use Rattle.desk.proofs.OutlineLaws.{off-stays, off-for, looks-off, off_head}

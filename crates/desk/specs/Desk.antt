@@ -1,5 +1,5 @@
 -- The desk: what it keeps, and what it answers to a load and to a step.
-use Rattle.std.specs.Prelude.{ℕ, ◌≡◌, Bool, true, false, not, ◌&&◌, cond, ltb}
+use Rattle.std.specs.Prelude.{ℕ, ◌≡◌, Bool, true, false, not, ◌&&◌, ltb}
 use Rattle.std.proofs.Math.Option.{Option, none, some}
 use mathlib.Core.List.{List, [], ◌∷◌, flatten}
 use Rattle.usage.specs.declared.Node.{Node}
@@ -10,7 +10,7 @@ use Rattle.usage.specs.Answers.{Verdict, Refusal}
 use Rattle.usage.specs.Judge.{step_of}
 use Rattle.usage.specs.Check.{Checked}
 use Rattle.usage.specs.Tables.{edges_of, nodes_of}
-use Rattle.sheet_lines.specs.Sheet.{Result, accepted, refused}
+use Rattle.sheet_lines.specs.Sheet.{accepted, refused}
 use Rattle.sheet_lines.specs.Sheets.{is_local}
 use Rattle.sheet_reader.specs.Readers.{policies_into, outline_into}
 use Rattle.monitor_state.specs.declared.State.{State}

@@ -1,5 +1,5 @@
 -- The judge's state in the desk's bytes. This file, src/judge.rt and proofs/JudgeByteLaws alone know what that state is made of.
-use Rattle.std.specs.Prelude.{ℕ, ◌<◌, ◌≤◌, ◌≡◌, Bool, true, false, cond, List, ◌⊎◌, eqb, length, get_or}
+use Rattle.std.specs.Prelude.{ℕ, ◌<◌, ◌≤◌, ◌≡◌, true, false, cond, List, eqb, length, get_or}
 use Rattle.usage.specs.Limits.{policies, most_created, most_unclosed}
 use Rattle.monitor_sets.specs.Instances.{set_places}
 use Rattle.monitor_state.specs.declared.State.{State}

@@ -1,5 +1,5 @@
 -- The bytes of the desk's state: where each part stands. How numbers are read from bytes stands in desk_positions/specs/Bytes.
-use Rattle.std.specs.Prelude.{ℕ, ◌+◌, ◌*◌, ◌<◌, ◌≤◌, ◌≡◌, List, ◌⊎◌, length, get_or}
+use Rattle.std.specs.Prelude.{ℕ, ◌<◌, ◌≤◌, ◌≡◌, List, ◌⊎◌, length, get_or}
 use Rattle.desk.specs.declared.Head.{Head}
 pub use Rattle.desk_positions.specs.Bytes.{Read, bytes_in, words_in, wides_in, Got, Put}
 unfoldable pub use Rattle.desk_positions.specs.Bytes.{byte_at, word_at, wide_at, numbers_in}

@@ -5,16 +5,8 @@ use Rattle.desk.specs.Calls.{Called, too_short, no_desk, called, ByOutline, load
 use Rattle.desk.proofs.CallLaws.{nothing-loaded}
 use Rattle.desk.proofs.LoadLaws.{no-desk-of, loaded-desk}
 use Rattle.desk.proofs.OutlineLoadLaws.{outline_busy}
-use native.Mathlib.Omega.{arith}
-use mathlib.Core.Path.{◌≡◌, refl, sym, ap, ◌∙◌}
-use Prim.Native.Nat.{ℕ, suc, ◌+◌, ◌-◌, ◌≤◌, ◌<◌}
-use lib.ListN.{length, get_or, take, drop, set}
-use Rattle.desk.proofs.outline.Reads as reads
-use Rattle.desk.proofs.heading.head_in.Reads as head-in-reads
-use Rattle.desk.proofs.loads.is_busy.Reads as is-busy-reads
-use Rattle.desk.proofs.loads.is_desk.Reads as is-desk-reads
-use Rattle.desk.proofs.loads.load_outline.Reads as load-outline-reads
-use Rattle.desk.proofs.refused.Reads as refused-reads
+use mathlib.Core.Path.{refl, sym, ap, ◌∙◌}
+use Prim.Native.Nat.{ℕ}
 use Rattle.desk.proofs.outline.Goals as goal
 
 -- src/lib.rt:72:9

@@ -3,16 +3,8 @@ use Rattle.usage.proofs.Logic.{not-true, not-false}
 use Rattle.desk.specs.Desk.{is_busy_lem}
 use Rattle.desk.specs.Calls.{Called, too_short, no_desk, ByPolicies}
 use Rattle.desk.proofs.LoadLaws.{no-desk-of, desk-of, desk-by, policies_busy}
-use native.Mathlib.Omega.{arith}
-use mathlib.Core.Path.{◌≡◌, refl, sym, ap, ◌∙◌}
-use Prim.Native.Nat.{ℕ, suc, ◌+◌, ◌-◌, ◌≤◌, ◌<◌}
-use lib.ListN.{length, get_or, take, drop, set}
-use Rattle.desk.proofs.policies.Reads as reads
-use Rattle.desk.proofs.heading.head_in.Reads as head-in-reads
-use Rattle.desk.proofs.loads.is_busy.Reads as is-busy-reads
-use Rattle.desk.proofs.loads.is_desk.Reads as is-desk-reads
-use Rattle.desk.proofs.loads.load_policies.Reads as load-policies-reads
-use Rattle.desk.proofs.refused.Reads as refused-reads
+use mathlib.Core.Path.{sym, ap, ◌∙◌}
+use Prim.Native.Nat.{ℕ}
 use Rattle.desk.proofs.policies.Goals as goal
 
 -- src/lib.rt:52:9

@@ -2,17 +2,8 @@ use mathlib.Core.Path.{subst}
 use Rattle.usage.proofs.Logic.{not-true, not-false}
 use Rattle.desk.specs.Calls.{Called, too_short, no_desk, called, ByStep, replied}
 use Rattle.desk.proofs.CallLaws.{nothing-loaded, bad-head}
-use native.Mathlib.Omega.{arith}
-use mathlib.Core.Path.{◌≡◌, refl, sym, ap, ◌∙◌}
-use Prim.Native.Nat.{ℕ, suc, ◌+◌, ◌-◌, ◌≤◌, ◌<◌}
-use lib.ListN.{length, get_or, take, drop, set}
-use Rattle.desk.proofs.step.Reads as reads
-use Rattle.desk.proofs.heading.head_in.Reads as head-in-reads
-use Rattle.desk.proofs.heading.head_ok.Reads as head-ok-reads
-use Rattle.desk.proofs.heading.is_listed.Reads as is-listed-reads
-use Rattle.desk.proofs.refused.Reads as refused-reads
-use Rattle.desk.proofs.steps.off_outline.Reads as off-outline-reads
-use Rattle.desk.proofs.steps.on_outline.Reads as on-outline-reads
+use mathlib.Core.Path.{refl, sym, ◌∙◌}
+use Prim.Native.Nat.{ℕ}
 use Rattle.desk.proofs.step.Goals as goal
 
 -- src/lib.rt:51:9

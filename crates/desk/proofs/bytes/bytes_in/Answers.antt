@@ -1,10 +1,9 @@
-use Rattle.desk.specs.Layout.{byte_at, word_at, wide_at, Got, Put}
-use Rattle.desk_positions.proofs.CopyLaws.{bytes-local, words-local, wides-local, got-none, got-next, put-none, put_next, byte-here, byte-at}
+use Rattle.desk.specs.Layout.{byte_at}
+use Rattle.desk_positions.proofs.CopyLaws.{got-none, got-next, byte-here}
 use native.Mathlib.Omega.{arith}
-use mathlib.Core.Path.{◌≡◌, refl, sym, ap, ◌∙◌}
-use Prim.Native.Nat.{ℕ, suc, ◌+◌, ◌-◌, ◌≤◌, ◌<◌}
-use lib.ListN.{length, get_or, take, drop, set}
-use Rattle.desk.proofs.bytes.bytes_in.Reads as reads
+use mathlib.Core.Path.{◌≡◌, refl}
+use Prim.Native.Nat.{◌+◌}
+use lib.ListN.{get_or}
 use borrow.Author.Rules.{rules}
 use Rattle.desk.proofs.bytes.bytes_in.Goals as goal
 

@@ -1,11 +1,7 @@
-use Rattle.desk.specs.Layout.{byte_at, word_at, wide_at, Got, Put}
-use Rattle.desk_positions.proofs.CopyLaws.{bytes-local, words-local, wides-local, got-none, got-next, put-none, put_next, byte_put}
+use Rattle.desk.specs.Layout.{wide_at}
+use Rattle.desk_positions.proofs.CopyLaws.{got-none, got-next}
 use native.Mathlib.Omega.{arith}
-use mathlib.Core.Path.{◌≡◌, refl, sym, ap, ◌∙◌}
-use Prim.Native.Nat.{ℕ, suc, ◌+◌, ◌-◌, ◌≤◌, ◌<◌}
-use lib.ListN.{length, get_or, take, drop, set}
-use Rattle.desk.proofs.bytes.longs_in.Reads as reads
-use Rattle.desk.proofs.bytes.long.Reads as long-reads
+use mathlib.Core.Path.{◌≡◌, refl}
 use borrow.Author.Rules.{rules}
 use Rattle.desk.proofs.bytes.longs_in.Goals as goal
 

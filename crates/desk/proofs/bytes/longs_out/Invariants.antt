@@ -1,11 +1,7 @@
-use Rattle.desk.specs.Layout.{byte_at, word_at, wide_at, Got, Put}
-use Rattle.desk_positions.proofs.CopyLaws.{bytes-local, words-local, wides-local, got-none, got-next, put-none, put_next, byte_put}
-use native.Mathlib.Omega.{arith}
-use mathlib.Core.Path.{◌≡◌, refl, sym, ap, ◌∙◌}
-use Prim.Native.Nat.{ℕ, suc, ◌+◌, ◌-◌, ◌≤◌, ◌<◌}
-use lib.ListN.{length, get_or, take, drop, set}
-use Rattle.desk.proofs.bytes.longs_out.Reads as reads
-use Rattle.desk.proofs.bytes.put_long.Reads as put-long-reads
+use Rattle.desk.specs.Layout.{wide_at, Put}
+use mathlib.Core.Path.{◌≡◌}
+use Prim.Native.Nat.{◌-◌, ◌≤◌}
+use lib.ListN.{length}
 use Rattle.desk.proofs.bytes.longs_out.Given as goal
 
 abbrev pub invariant-loop-i : goal.invariant-loop-i

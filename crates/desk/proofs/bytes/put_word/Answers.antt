@@ -3,12 +3,9 @@ use mathlib.Core.List.{List, [], ◌∷◌}
 use Prim.Native.Nat.{◌/◌, ◌%◌}
 use Rattle.desk.specs.Layout.{word_at, Put}
 use Rattle.desk_positions.proofs.CopyLaws.{word-put}
-use native.Mathlib.Omega.{arith}
-use mathlib.Core.Path.{◌≡◌, refl, sym, ap, ◌∙◌}
-use Prim.Native.Nat.{ℕ, suc, ◌+◌, ◌-◌, ◌≤◌, ◌<◌}
-use lib.ListN.{length, get_or, take, drop, set}
-use Rattle.desk.proofs.bytes.put_word.Reads as reads
-use Rattle.desk.proofs.bytes.put_byte.Reads as put-byte-reads
+use mathlib.Core.Path.{sym, ap, ◌∙◌}
+use Prim.Native.Nat.{ℕ, ◌+◌}
+use lib.ListN.{set}
 use Rattle.desk.proofs.bytes.put_word.Goals as goal
 
 -- src/bytes.rt:91:1

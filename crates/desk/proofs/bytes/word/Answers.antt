@@ -1,10 +1,4 @@
-use Rattle.desk.specs.Layout.{word_at, wide_at}
-use native.Mathlib.Omega.{arith}
-use mathlib.Core.Path.{◌≡◌, refl, sym, ap, ◌∙◌}
-use Prim.Native.Nat.{ℕ, suc, ◌+◌, ◌-◌, ◌≤◌, ◌<◌}
-use lib.ListN.{length, get_or, take, drop, set}
-use Rattle.desk.proofs.bytes.word.Reads as reads
-use Rattle.desk.proofs.bytes.joined.Reads as joined-reads
+use Rattle.desk.specs.Layout.{word_at}
 use borrow.Author.Rules.{rules}
 use Rattle.desk.proofs.bytes.word.Goals as goal
 

@@ -1,11 +1,8 @@
-use Rattle.desk.specs.Layout.{byte_at, word_at, wide_at, Got, Put}
-use Rattle.desk_positions.proofs.CopyLaws.{bytes-local, words-local, wides-local, got-none, got-next, put-none, put_next, byte_put}
+use Rattle.desk.specs.Layout.{word_at}
+use Rattle.desk_positions.proofs.CopyLaws.{words-local, put-none, put_next}
 use native.Mathlib.Omega.{arith}
-use mathlib.Core.Path.{◌≡◌, refl, sym, ap, ◌∙◌}
-use Prim.Native.Nat.{ℕ, suc, ◌+◌, ◌-◌, ◌≤◌, ◌<◌}
-use lib.ListN.{length, get_or, take, drop, set}
-use Rattle.desk.proofs.bytes.words_out.Reads as reads
-use Rattle.desk.proofs.bytes.put_word.Reads as put-word-reads
+use mathlib.Core.Path.{◌≡◌, refl}
+use lib.ListN.{get_or}
 use borrow.Author.Rules.{rules}
 use Rattle.desk.proofs.bytes.words_out.Goals as goal
 

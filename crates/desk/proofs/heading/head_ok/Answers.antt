@@ -2,11 +2,7 @@ use mathlib.Core.Bool.{true}
 use lib.Dec.{leb}
 use borrow.Author.Tests.{le-leb, lt-leb}
 use Rattle.desk.specs.State.{head_ok_lem}
-use native.Mathlib.Omega.{arith}
-use mathlib.Core.Path.{◌≡◌, refl, sym, ap, ◌∙◌}
-use Prim.Native.Nat.{ℕ, suc, ◌+◌, ◌-◌, ◌≤◌, ◌<◌}
-use lib.ListN.{length, get_or, take, drop, set}
-use Rattle.desk.proofs.heading.head_ok.Reads as reads
+use mathlib.Core.Path.{◌≡◌}
 use Rattle.desk.proofs.heading.head_ok.Goals as goal
 
 -- src/heading.rt:33:9

@@ -1,11 +1,6 @@
 use borrow.Author.Tests.{lt-ltb}
 use Rattle.desk.specs.State.{is_listed_lem}
 use Rattle.desk_positions.proofs.CopyLaws.{pos}
-use native.Mathlib.Omega.{arith}
-use mathlib.Core.Path.{◌≡◌, refl, sym, ap, ◌∙◌}
-use Prim.Native.Nat.{ℕ, suc, ◌+◌, ◌-◌, ◌≤◌, ◌<◌}
-use lib.ListN.{length, get_or, take, drop, set}
-use Rattle.desk.proofs.heading.is_listed.Reads as reads
 use Rattle.desk.proofs.heading.is_listed.Goals as goal
 
 -- src/heading.rt:52:9

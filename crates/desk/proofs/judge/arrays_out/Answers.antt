@@ -1,5 +1,3 @@
-use mathlib.Core.Path.{◌≡◌, refl, sym, ap, ◌∙◌}
-use native.Mathlib.Omega.{arith}
 use Rattle.desk.proofs.JudgeByteLaws.{pairs-put, arrays-left}
 use Rattle.desk.proofs.judge.arrays_out.Goals as goal
 

@@ -1,11 +1,5 @@
 use Rattle.desk.proofs.JudgeByteLaws.{held-got}
-use native.Mathlib.Omega.{arith}
-use mathlib.Core.Path.{◌≡◌, refl, sym, ap, ◌∙◌}
-use Prim.Native.Nat.{ℕ, suc, ◌+◌, ◌-◌, ◌≤◌, ◌<◌}
-use lib.ListN.{length, get_or, take, drop, set}
-use Rattle.desk.proofs.judge.held_in.Reads as reads
-use Rattle.desk.proofs.bytes.bytes_in.Reads as bytes-in-reads
-use Rattle.desk.proofs.bytes.words_in.Reads as words-in-reads
+use mathlib.Core.Path.{refl}
 use Rattle.desk.proofs.judge.held_in.Goals as goal
 
 -- src/judge.rt:30:1

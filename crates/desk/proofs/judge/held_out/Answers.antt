@@ -1,14 +1,4 @@
 use Rattle.desk.proofs.JudgeByteLaws.{held-put}
-use native.Mathlib.Omega.{arith}
-use mathlib.Core.Path.{◌≡◌, refl, sym, ap, ◌∙◌}
-use Prim.Native.Nat.{ℕ, suc, ◌+◌, ◌-◌, ◌≤◌, ◌<◌}
-use lib.ListN.{length, get_or, take, drop, set}
-use Rattle.desk.proofs.judge.held_out.Reads as reads
-use Rattle.desk.proofs.judge.created_out.Reads as created-out-reads
-use Rattle.desk.proofs.judge.order_out.Reads as order-out-reads
-use Rattle.desk.proofs.judge.possible_out.Reads as possible-out-reads
-use Rattle.desk.proofs.judge.sets_out.Reads as sets-out-reads
-use Rattle.desk.proofs.judge.unclosed_out.Reads as unclosed-out-reads
 use Rattle.desk.proofs.judge.held_out.Goals as goal
 
 -- src/judge.rt:109:1

@@ -1,5 +1,3 @@
-use mathlib.Core.Path.{◌≡◌, refl, sym, ap, ◌∙◌}
-use native.Mathlib.Omega.{arith}
 use Rattle.desk.specs.JudgeBytes.{head_with}
 use Rattle.desk.proofs.JudgeByteLaws.{all-stored}
 use Rattle.desk.proofs.judge.judge_out.Goals as goal

@@ -1,5 +1,5 @@
-use Prim.Native.Nat.{ℕ, ◌*◌, ◌-◌}
-use mathlib.Core.Path.{◌≡◌, refl, sym, ap, ◌∙◌, subst}
+use Prim.Native.Nat.{◌*◌, ◌-◌}
+use mathlib.Core.Path.{refl, sym, ap, ◌∙◌}
 use native.Mathlib.Omega.{arith}
 use lib.ListN.{length}
 use Rattle.desk.proofs.StateLaws.{edges-got, judged-by}
@@ -28,9 +28,12 @@ returns-then-is_refusal c =
       counts = x.new.unclosed;
       order = x.new.order;
     } in
-    let pairs = x.new.pairs in record { judged_in = judged-refused a.b.now p.desk_bytes_in_bounds _ x.result k pairs l is a.h
+    let pairs = x.new.pairs in record {
+      judged_in = judged-refused a.b.now p.desk_bytes_in_bounds _ x.result k pairs l is a.h
           (by-refused-kept (looks_of a.lean (summary_in a.b.now)) (edges_in a.b.now a.h) (local_in a.h) (judge_in a.b.now a.h) a.step)
-          (sym c.is_refusal.ensures ∙ c.if-is_refusal.true); b_len_unchanged = (pairs-back a.b.now pairs p.desk_bytes_in_bounds l).0.long }
+          (sym c.is_refusal.ensures ∙ c.if-is_refusal.true);
+      b_len_unchanged = (pairs-back a.b.now pairs p.desk_bytes_in_bounds l).0.long;
+    }
 
 pub held_out-requires : goal.held_out-requires
 held_out-requires c =

@@ -1,5 +1,4 @@
-use mathlib.Core.Path.{◌≡◌, refl, sym, ap, ◌∙◌}
-use native.Mathlib.Omega.{arith}
+use mathlib.Core.Path.{refl, sym}
 use Rattle.usage.specs.Limits.{policies}
 use Rattle.monitor_state.proofs.LookedLaws.{has_all}
 use Rattle.desk.specs.Layout.{summary_at, wide_at}

@@ -1,6 +1,4 @@
-use mathlib.Core.Path.{◌≡◌, refl, sym, ap, ◌∙◌}
-use native.Mathlib.Omega.{arith}
-use Rattle.desk.specs.JudgeBytes.{head_for}
+use mathlib.Core.Path.{◌∙◌}
 use Rattle.desk.proofs.judge.sizes_out.Goals as goal
 
 pub returns : goal.returns

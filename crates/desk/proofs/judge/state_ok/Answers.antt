@@ -5,13 +5,7 @@ use Rattle.monitor_state.specs.Lent.{state_of}
 use Rattle.desk.specs.JudgeBytes.{pairs_in, lent_by}
 use Rattle.desk.proofs.JudgeByteLaws.{judge-is}
 use Rattle.desk.proofs.LoadLaws.{state-parts}
-use native.Mathlib.Omega.{arith}
-use mathlib.Core.Path.{◌≡◌, refl, sym, ap, ◌∙◌}
-use Prim.Native.Nat.{ℕ, suc, ◌+◌, ◌-◌, ◌≤◌, ◌<◌}
-use lib.ListN.{length, get_or, take, drop, set}
-use Rattle.desk.proofs.judge.state_ok.Reads as reads
-use Rattle.monitor_sets.proofs.created.live_ok.Reads as live-ok-reads
-use Rattle.monitor_sets.proofs.order.order_ok.Reads as order-ok-reads
+use mathlib.Core.Path.{refl, sym, ap, ◌∙◌}
 use Rattle.desk.proofs.judge.state_ok.Goals as goal
 
 pub returns-then-not-live_ok : goal.returns-then-not-live_ok

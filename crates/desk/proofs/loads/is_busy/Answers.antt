@@ -1,10 +1,5 @@
 use Rattle.desk_positions.proofs.CopyLaws.{pos}
 use Rattle.desk.proofs.LoadLaws.{busy-none, busy-closed, busy-open}
-use native.Mathlib.Omega.{arith}
-use mathlib.Core.Path.{◌≡◌, refl, sym, ap, ◌∙◌}
-use Prim.Native.Nat.{ℕ, suc, ◌+◌, ◌-◌, ◌≤◌, ◌<◌}
-use lib.ListN.{length, get_or, take, drop, set}
-use Rattle.desk.proofs.loads.is_busy.Reads as reads
 use Rattle.desk.proofs.loads.is_busy.Goals as goal
 
 -- src/loads.rt:84:9

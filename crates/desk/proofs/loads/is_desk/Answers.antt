@@ -1,15 +1,7 @@
-use Rattle.usage.proofs.Logic.{not-true, not-false, by_cases}
+use Rattle.usage.proofs.Logic.{not-true, not-false}
 use Rattle.desk.proofs.StepLaws.{head-parts, listed-parts}
 use Rattle.desk.proofs.LoadLaws.{desk-none, desk-head, desk-rows, desk-sound, rows_on, rows-off}
-use native.Mathlib.Omega.{arith}
-use mathlib.Core.Path.{◌≡◌, refl, sym, ap, ◌∙◌}
-use Prim.Native.Nat.{ℕ, suc, ◌+◌, ◌-◌, ◌≤◌, ◌<◌}
-use lib.ListN.{length, get_or, take, drop, set}
-use Rattle.desk.proofs.loads.is_desk.Reads as reads
-use Rattle.desk.proofs.heading.head_ok.Reads as head-ok-reads
-use Rattle.desk.proofs.heading.is_listed.Reads as is-listed-reads
-use Rattle.desk.proofs.loads.is_sound.Reads as is-sound-reads
-use Rattle.desk.proofs.loads.rows_fit.Reads as rows-fit-reads
+use mathlib.Core.Path.{sym, ◌∙◌}
 use Rattle.desk.proofs.loads.is_desk.Goals as goal
 use Rattle.desk.proofs.loads.is_desk.Goals.{then-is_listed+else-not-rows_fit, else-is_listed}
 
@@ -61,6 +53,6 @@ returns c =
     c.is_sound.ensures
     ∙ desk-sound a.b.now a.h c.if-h-eq0.false (sym o.ensures ∙ not-false o.result c.if-not-head_ok.false-raw)
     (elim c.if-is_listed.branch [
-      then-is_listed+else-not-rows_fit w ↦ rows_on a.b.now a.h (sym k.ensures ∙ w.if-is_listed.true) (sym w.rows_fit.ensures ∙ w.if-not-rows_fit.false)
+      | then-is_listed+else-not-rows_fit w ↦ rows_on a.b.now a.h (sym k.ensures ∙ w.if-is_listed.true) (sym w.rows_fit.ensures ∙ w.if-not-rows_fit.false)
       | else-is_listed w ↦ rows-off a.b.now a.h (sym k.ensures ∙ w.if-is_listed.false)
     ])

@@ -4,13 +4,7 @@ use Rattle.usage.proofs.Logic.{not-true, not-false}
 use Rattle.monitor_state.specs.Judge.{state_ok_lem}
 use Rattle.desk.specs.JudgeBytes.{judge_in}
 use Rattle.desk.proofs.StateLaws.{edges_lent}
-use native.Mathlib.Omega.{arith}
-use mathlib.Core.Path.{◌≡◌, refl, sym, ap, ◌∙◌}
-use Prim.Native.Nat.{ℕ, suc, ◌+◌, ◌-◌, ◌≤◌, ◌<◌}
-use lib.ListN.{length, get_or, take, drop, set}
-use Rattle.desk.proofs.loads.is_sound.Reads as reads
-use Rattle.desk.proofs.judge.state_ok.Reads as state-ok-reads
-use Rattle.sheet_fields.proofs.edges.edge_table_ok.Reads as edge-table-ok-reads
+use mathlib.Core.Path.{sym, ap, ◌∙◌}
 use Rattle.desk.proofs.loads.is_sound.Goals as goal
 
 -- src/loads.rt:55:9

@@ -1,15 +1,7 @@
 use Rattle.desk.proofs.StateLaws.{edges_lent}
 use Rattle.desk.proofs.StepLaws.{head-parts}
 use Rattle.desk.proofs.OutlineLoadLaws.{kept-outline}
-use native.Mathlib.Omega.{arith}
-use mathlib.Core.Path.{◌≡◌, refl, sym, ap, ◌∙◌}
-use Prim.Native.Nat.{ℕ, suc, ◌+◌, ◌-◌, ◌≤◌, ◌<◌}
-use lib.ListN.{length, get_or, take, drop, set}
-use Rattle.desk.proofs.loads.keep_outline.Reads as reads
-use Rattle.checker.proofs.check.Reads as check-reads
-use Rattle.checker.proofs.summary.summary.Reads as summary-reads
-use Rattle.desk.proofs.loads.outcome_code.Reads as outcome-code-reads
-use Rattle.desk.proofs.loads.store_outline.Reads as store-outline-reads
+use mathlib.Core.Path.{refl}
 use borrow.Author.Rules.{rules}
 use Rattle.desk.proofs.loads.keep_outline.Goals as goal
 

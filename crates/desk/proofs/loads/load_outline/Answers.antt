@@ -2,14 +2,8 @@ use mathlib.Core.Path.{subst}
 use Rattle.sheet_reader.proofs.AnswerLaws.{outline-held, outline-refused-as}
 use Rattle.desk.specs.Calls.{Called, ByOutline}
 use Rattle.desk.proofs.OutlineLoadLaws.{outline-line, outline-no-sheet, outline-loaded, nodes-read, nodes-valid, node-room}
-use native.Mathlib.Omega.{arith}
-use mathlib.Core.Path.{◌≡◌, refl, sym, ap, ◌∙◌}
-use Prim.Native.Nat.{ℕ, suc, ◌+◌, ◌-◌, ◌≤◌, ◌<◌}
-use lib.ListN.{length, get_or, take, drop, set}
-use Rattle.desk.proofs.loads.load_outline.Reads as reads
-use Rattle.desk.proofs.loads.keep_outline.Reads as keep-outline-reads
-use Rattle.desk.proofs.loads.refused_at.Reads as refused-at-reads
-use Rattle.sheet_reader.proofs.read_outline.Reads as read-outline-reads
+use mathlib.Core.Path.{sym}
+use Prim.Native.Nat.{ℕ, ◌≤◌}
 use borrow.Author.Rules.{rules}
 use Rattle.desk.proofs.loads.load_outline.Goals as goal
 

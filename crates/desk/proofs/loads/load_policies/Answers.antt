@@ -3,13 +3,8 @@ use Rattle.sheet_reader.proofs.AnswerLaws.{policies-held, policies-choice, polic
 use Rattle.desk.specs.Calls.{Called, ByPolicies}
 use Rattle.desk.proofs.LoadLaws.{policies-line, policies-no-sheet, policies-loaded}
 use native.Mathlib.Omega.{arith}
-use mathlib.Core.Path.{◌≡◌, refl, sym, ap, ◌∙◌}
-use Prim.Native.Nat.{ℕ, suc, ◌+◌, ◌-◌, ◌≤◌, ◌<◌}
-use lib.ListN.{length, get_or, take, drop, set}
-use Rattle.desk.proofs.loads.load_policies.Reads as reads
-use Rattle.desk.proofs.loads.refused_at.Reads as refused-at-reads
-use Rattle.desk.proofs.loads.store_policies.Reads as store-policies-reads
-use Rattle.sheet_reader.proofs.read_policies.Reads as read-policies-reads
+use mathlib.Core.Path.{sym}
+use Prim.Native.Nat.{ℕ, ◌≤◌}
 use Rattle.desk.proofs.loads.load_policies.Goals as goal
 
 -- src/loads.rt:142:52

@@ -2,11 +2,7 @@ use Rattle.checker.specs.declared.Outcome.{Outcome}
 use Rattle.checker.specs.Promise.{outcome_verdict}
 use Rattle.desk.specs.Calls.{desk_code, plain}
 use Rattle.desk.proofs.OutlineLoadLaws.{named-code, number-code}
-use native.Mathlib.Omega.{arith}
-use mathlib.Core.Path.{◌≡◌, refl, sym, ap, ◌∙◌}
-use Prim.Native.Nat.{ℕ, suc, ◌+◌, ◌-◌, ◌≤◌, ◌<◌}
-use lib.ListN.{length, get_or, take, drop, set}
-use Rattle.desk.proofs.loads.outcome_code.Reads as reads
+use mathlib.Core.Path.{sym, ap, ◌∙◌}
 use Rattle.desk.proofs.loads.outcome_code.Goals as goal
 
 -- src/loads.rt:168:1

@@ -1,9 +1,3 @@
-use Rattle.usage.proofs.Logic.{by_cases}
-use native.Mathlib.Omega.{arith}
-use mathlib.Core.Path.{◌≡◌, refl, sym, ap, ◌∙◌}
-use Prim.Native.Nat.{ℕ, suc, ◌+◌, ◌-◌, ◌≤◌, ◌<◌}
-use lib.ListN.{length, get_or, take, drop, set}
-use Rattle.desk.proofs.loads.policies_head.Reads as reads
 use Rattle.desk.proofs.loads.policies_head.Goals as goal
 use Rattle.desk.proofs.loads.policies_head.Goals.{else-local, then-local}
 

@@ -6,13 +6,9 @@ use Rattle.desk.specs.State.{table_in}
 use Rattle.desk.proofs.StateLaws.{nodes-lent}
 use mathlib.Core.List.{List}
 use Rattle.desk.proofs.OutlineLaws.{table-lent, table-long}
-use native.Mathlib.Omega.{arith}
-use mathlib.Core.Path.{◌≡◌, refl, sym, ap, ◌∙◌}
-use Prim.Native.Nat.{ℕ, suc, ◌+◌, ◌-◌, ◌≤◌, ◌<◌}
-use lib.ListN.{length, get_or, take, drop, set}
-use Rattle.desk.proofs.loads.rows_fit.Reads as reads
-use Rattle.desk_positions.proofs.rows_ok.Reads as rows-ok-reads
-use Rattle.sheet_rules.proofs.node_table_ok.Reads as node-table-ok-reads
+use mathlib.Core.Path.{sym, ap, ◌∙◌}
+use Prim.Native.Nat.{ℕ}
+use lib.ListN.{length}
 use Rattle.desk.proofs.loads.rows_fit.Goals as goal
 
 -- src/loads.rt:43:9

@@ -3,17 +3,8 @@ use Rattle.usage.proofs.TableLaws.{decides-node-table}
 use Rattle.desk.specs.Layout.{desk_bytes}
 use Rattle.desk.proofs.LoadLaws.{start_small}
 use Rattle.desk.proofs.OutlineLoadLaws.{outline-kept}
-use native.Mathlib.Omega.{arith}
-use mathlib.Core.Path.{◌≡◌, refl, sym, ap, ◌∙◌}
-use Prim.Native.Nat.{ℕ, suc, ◌+◌, ◌-◌, ◌≤◌, ◌<◌}
-use lib.ListN.{length, get_or, take, drop, set}
-use Rattle.desk.proofs.loads.store_outline.Reads as reads
-use Rattle.desk.proofs.bytes.bytes_out.Reads as bytes-out-reads
-use Rattle.desk.proofs.judge.judge_out.Reads as judge-out-reads
-use Rattle.desk.proofs.loads.outline_head.Reads as outline-head-reads
-use Rattle.desk.proofs.loads.start_rows.Reads as start-rows-reads
-use Rattle.desk.proofs.loads.summary_out.Reads as summary-out-reads
-use Rattle.monitor.proofs.start.Reads as start-reads
+use mathlib.Core.Path.{sym, ◌∙◌}
+use Prim.Native.Nat.{ℕ, ◌≤◌}
 use Rattle.desk.proofs.loads.store_outline.Goals as goal
 
 -- src/loads.rt:236:5

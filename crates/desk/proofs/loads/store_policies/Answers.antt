@@ -1,13 +1,4 @@
 use Rattle.desk.proofs.LoadLaws.{start_small, policies-stored}
-use native.Mathlib.Omega.{arith}
-use mathlib.Core.Path.{◌≡◌, refl, sym, ap, ◌∙◌}
-use Prim.Native.Nat.{ℕ, suc, ◌+◌, ◌-◌, ◌≤◌, ◌<◌}
-use lib.ListN.{length, get_or, take, drop, set}
-use Rattle.desk.proofs.loads.store_policies.Reads as reads
-use Rattle.desk.proofs.bytes.bytes_out.Reads as bytes-out-reads
-use Rattle.desk.proofs.judge.judge_out.Reads as judge-out-reads
-use Rattle.desk.proofs.loads.policies_head.Reads as policies-head-reads
-use Rattle.monitor.proofs.start.Reads as start-reads
 use Rattle.desk.proofs.loads.store_policies.Goals as goal
 
 -- src/loads.rt:130:5

@@ -1,10 +1,6 @@
 use Rattle.monitor_state.specs.declared.Answer.{Answer}
 use Rattle.desk.specs.Code.{moves}
-use native.Mathlib.Omega.{arith}
-use mathlib.Core.Path.{◌≡◌, refl, sym, ap, ◌∙◌}
-use Prim.Native.Nat.{ℕ, suc, ◌+◌, ◌-◌, ◌≤◌, ◌<◌}
-use lib.ListN.{length, get_or, take, drop, set}
-use Rattle.desk.proofs.steps.moves.Reads as reads
+use mathlib.Core.Path.{sym, ap}
 use Rattle.desk.proofs.steps.moves.Goals as goal
 
 -- src/steps.rt:61:1

@@ -1,4 +1,4 @@
-use mathlib.Core.Path.{◌≡◌, refl, sym, ap, ◌∙◌}
+use mathlib.Core.Path.{refl, sym, ◌∙◌}
 use Rattle.desk.proofs.StepLaws.{head-parts, off-refused, off_small, off-stored}
 use Rattle.desk.proofs.ToldLaws.{told-refusal, told-small, called-refused, called-taken, told-stored}
 use Rattle.desk.proofs.steps.off_outline.Goals as goal
@@ -23,9 +23,12 @@ sizes_out-requires c =
     let p = c.requires in
     let j = c.judged-t in
     let q = j.ensures.judged_in in
-    let e = sym c.is_refusal.ensures ∙ c.if-is_refusal.false in record { desk_bytes_in_bounds = rw j.ensures.b_len_unchanged p.desk_bytes_in_bounds; small_sizes = told-small a.b.now _ _ j.result q
+    let e = sym c.is_refusal.ensures ∙ c.if-is_refusal.false in record {
+      desk_bytes_in_bounds = rw j.ensures.b_len_unchanged p.desk_bytes_in_bounds;
+      small_sizes = told-small a.b.now _ _ j.result q
           (off_small a.b.now a.h a.step p.desk_bytes_in_bounds p.b_value p.fact p.h_value p.h_value_2 _ refl
-          (told-refusal a.b.now _ _ j.result q e)) }
+          (told-refusal a.b.now _ _ j.result q e));
+    }
 
 pub shape_of-b : goal.shape_of-b
 shape_of-b c = c.sizes_out.ensures.within.long ∙ c.judged-t.ensures.b_len_unchanged

@@ -10,15 +10,9 @@ use Rattle.desk.proofs.CallLaws.{bad-rows}
 use Rattle.desk.proofs.StateLaws.{nodes-lent}
 use Rattle.desk.proofs.OutlineLaws.{table-lent, table-long}
 use Rattle.desk.proofs.StepLaws.{head-parts, listed-parts, rows-unfit, rows-encoded}
-use native.Mathlib.Omega.{arith}
-use mathlib.Core.Path.{◌≡◌, refl, sym, ap, ◌∙◌}
-use Prim.Native.Nat.{ℕ, suc, ◌+◌, ◌-◌, ◌≤◌, ◌<◌}
-use lib.ListN.{length, get_or, take, drop, set}
-use Rattle.desk.proofs.steps.on_outline.Reads as reads
-use Rattle.desk.proofs.steps.on_rows.Reads as on-rows-reads
-use Rattle.desk.proofs.steps.reply_code.Reads as reply-code-reads
-use Rattle.desk_positions.proofs.rows_ok.Reads as rows-ok-reads
-use Rattle.sheet_rules.proofs.node_table_ok.Reads as node-table-ok-reads
+use mathlib.Core.Path.{◌≡◌, sym, ap, ◌∙◌}
+use Prim.Native.Nat.{ℕ}
+use lib.ListN.{length}
 use borrow.Author.Rules.{rules}
 use Rattle.desk.proofs.steps.on_outline.Goals as goal
 

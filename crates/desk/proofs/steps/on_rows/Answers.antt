@@ -1,11 +1,4 @@
-use mathlib.Core.Path.{◌≡◌, refl, sym, ap, ◌∙◌, subst}
-use mathlib.Core.List.{List}
-use Prim.Native.Nat.{ℕ}
-use Rattle.usage.specs.Valid.{OutlineOk}
-use Rattle.usage.specs.Tables.{nodes_of}
-use Rattle.desk_positions.specs.Positions.{next_positions}
-use Rattle.desk_positions.specs.Growth.{Tabled, step_from}
-use Rattle.desk.specs.Code.{SettledIn}
+use mathlib.Core.Path.{refl, sym, ◌∙◌}
 use Rattle.desk.proofs.StepLaws.{head-parts, encoded-head, on-refused, on-small, on-moved, on-kept}
 use Rattle.desk.proofs.ToldLaws.{told-refusal, told-small, called-refused, called-taken, told-stored, moved-stored, moved-within, told-settles}
 use Rattle.desk.proofs.ToldLaws.{told-moves}
@@ -46,8 +39,11 @@ sizes_out-requires c =
     let p = c.requires in
     let j = c.judged-t in
     let q = j.ensures.judged_in in
-    let e = sym c.is_refusal.ensures ∙ c.if-is_refusal.false in record { desk_bytes_in_bounds = rw (c.move_rows-k.ensures.within.long ∙ j.ensures.b_len_unchanged) p.desk_bytes_in_bounds; small_sizes = told-small a.b.now _ _ j.result q (on-small a.b.now a.h a.step p.desk_bytes_in_bounds p.b_value p.fact p.h_value p.h_value_2
-          c.stays-lean.result c.stays-lean.ensures.value c.stays-lean.ensures.value_2 _ refl (told-refusal a.b.now _ _ j.result q e)) }
+    let e = sym c.is_refusal.ensures ∙ c.if-is_refusal.false in record {
+      desk_bytes_in_bounds = rw (c.move_rows-k.ensures.within.long ∙ j.ensures.b_len_unchanged) p.desk_bytes_in_bounds;
+      small_sizes = told-small a.b.now _ _ j.result q (on-small a.b.now a.h a.step p.desk_bytes_in_bounds p.b_value p.fact p.h_value p.h_value_2
+          c.stays-lean.result c.stays-lean.ensures.value c.stays-lean.ensures.value_2 _ refl (told-refusal a.b.now _ _ j.result q e));
+    }
 
 pub shape_of-b-then-moves : goal.shape_of-b-then-moves
 shape_of-b-then-moves c = c.sizes_out.ensures.within.long ∙ c.move_rows-k.ensures.within.long ∙ c.judged-t.ensures.b_len_unchanged
@@ -75,8 +71,11 @@ sizes_out-requires-2 c =
     let p = c.requires in
     let j = c.judged-t in
     let q = j.ensures.judged_in in
-    let e = sym c.is_refusal.ensures ∙ c.if-is_refusal.false in record { desk_bytes_in_bounds = rw j.ensures.b_len_unchanged p.desk_bytes_in_bounds; small_sizes = told-small a.b.now _ _ j.result q (on-small a.b.now a.h a.step p.desk_bytes_in_bounds p.b_value p.fact p.h_value p.h_value_2
-          c.stays-lean.result c.stays-lean.ensures.value c.stays-lean.ensures.value_2 _ refl (told-refusal a.b.now _ _ j.result q e)) }
+    let e = sym c.is_refusal.ensures ∙ c.if-is_refusal.false in record {
+      desk_bytes_in_bounds = rw j.ensures.b_len_unchanged p.desk_bytes_in_bounds;
+      small_sizes = told-small a.b.now _ _ j.result q (on-small a.b.now a.h a.step p.desk_bytes_in_bounds p.b_value p.fact p.h_value p.h_value_2
+          c.stays-lean.result c.stays-lean.ensures.value c.stays-lean.ensures.value_2 _ refl (told-refusal a.b.now _ _ j.result q e));
+    }
 
 pub shape_of-b : goal.shape_of-b
 shape_of-b c = c.sizes_out-2.ensures.within.long ∙ c.judged-t.ensures.b_len_unchanged

@@ -2,13 +2,8 @@ use Rattle.monitor_state.specs.declared.Answer.{Answer}
 use Rattle.desk.specs.Calls.{desk_code, given_by}
 use Rattle.desk.specs.Code.{told}
 use Rattle.desk.proofs.CallLaws.{plain-bit, violated-bit, refused-bit}
-use native.Mathlib.Omega.{arith}
-use mathlib.Core.Path.{◌≡◌, refl, sym, ap, ◌∙◌}
-use Prim.Native.Nat.{ℕ, suc, ◌+◌, ◌-◌, ◌≤◌, ◌<◌}
-use lib.ListN.{length, get_or, take, drop, set}
-use Rattle.desk.proofs.steps.reply_code.Reads as reads
-use Rattle.desk.proofs.steps.lean_bit.Reads as lean-bit-reads
-use Rattle.desk.proofs.steps.shown.Reads as shown-reads
+use mathlib.Core.Path.{sym, ap, ◌∙◌}
+use Prim.Native.Nat.{ℕ, ◌+◌}
 use Rattle.desk.proofs.steps.reply_code.Goals as goal
 
 -- src/steps.rt:55:1
