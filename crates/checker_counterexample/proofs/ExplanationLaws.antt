@@ -1,7 +1,7 @@
 -- What holds of every explanation that is promised: its verdict is the check's, no two of the same tables differ but in the trace, and what
 -- is written is a shortest trace, else nothing.
 use Prim.Native.Nat.{ℕ, ◌<◌, ◌≤◌}
-use mathlib.Core.Path.{◌≡◌, refl, sym, ap, ap₂, subst, ◌∙◌}
+use mathlib.Core.Path.{◌≡◌, refl, sym, ap, ap₂, subst}
 use mathlib.Core.Bool.{Bool}
 use mathlib.Core.List.{List, [], ◌∷◌}
 use native.Mathlib.Omega.{arith}
@@ -17,7 +17,7 @@ use Rattle.usage.proofs.Logic.{clash}
 use Rattle.checker_trace.specs.Answer.{most_numbers}
 use Rattle.checker_trace.specs.Steps.{numbers, laid}
 use Rattle.checker_counterexample.specs.declared.Explanation.{Explanation}
-use Rattle.checker_counterexample.specs.declared.Explanation.TheVariants.{Accepted, Shown, Longer, Refused}
+use Rattle.checker_counterexample.specs.declared.Explanation.TheVariants.{Shown, Longer, Refused}
 use Rattle.checker.specs.Promise.{CheckPromise}
 use Rattle.checker_counterexample.specs.Explained.{Explained, explanation_verdict, steps_written_lem}
 use Rattle.checker.proofs.PromiseLaws.{promised-right}

@@ -3,7 +3,7 @@ use Rattle.std.specs.Prelude.{ℕ, ◌<◌, ◌≤◌, Bool, List, length}
 use Rattle.std.proofs.Math.Option.{none, some}
 use Rattle.usage.specs.Past.{Past}
 use Rattle.usage.specs.Check as usage
-use Rattle.usage.specs.Tables.{edges_of, nodes_of, EdgeTable, NodeTable}
+use Rattle.usage.specs.Tables.{edges_of, nodes_of}
 use Rattle.checker_trace.specs.Steps.{laid}
 use Rattle.checker_trace.specs.Answer.{most_numbers}
 use Rattle.checker_trace.specs.Answer as trace

@@ -1,5 +1,5 @@
 -- Document 01's cases A to L: each is right.
-use mathlib.Core.List.{List, [], ◌∷◌, Memᴰ}
+use mathlib.Core.List.{[], ◌∷◌, Memᴰ}
 use Rattle.test_cases.specs.Cases.{LetterCase, checked, only_empty, Right, nodes_l, case_i, case_j, case_k, case_l, cases}
 use Rattle.test_cases.proofs.JudgeRight.{Each, among, right-AH, valid-A}
 use Rattle.test_cases.proofs.Others.{right-others-F}

@@ -3,9 +3,6 @@ use Rattle.checker.specs.declared.Outcome.{Outcome}
 use Rattle.checker.specs.Promise.{outcome_verdict, CheckPromise}
 use Rattle.checker_counterexample.specs.Explained.{Explained}
 use Rattle.checker_counterexample.proofs.ExplainedLaws.{named-explained}
-use Rattle.checker_counterexample.proofs.check_with_counterexample.Reads as reads
-use Rattle.checker.proofs.check.Reads as check-reads
-use Rattle.checker_counterexample.proofs.named.Reads as named-reads
 use Rattle.checker_counterexample.proofs.check_with_counterexample.Goals as goal
 
 pub returns-then-trace-lt-MOST_NUMBERS : goal.returns-then-trace-lt-MOST_NUMBERS
