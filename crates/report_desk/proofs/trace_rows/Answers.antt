@@ -19,7 +19,7 @@ overflow_mul-n c =
     let a = c.args in
     let r = c.read_trace-reading in
     let n = c.in-Stored.n in
-    let h = trace-held a.trace.now r.new.1.0 n (rw c.in-Stored.is at r.ensures.result_value) r.ensures.table_after in
+    let h = trace-held a.trace.now r.new.table n (rw c.in-Stored.is at r.ensures.result_value) r.ensures.table_after in
     let f : n ≤ most_steps = h.few in
     search rules
 
@@ -28,7 +28,7 @@ slice_bounds-judged_rows-end c =
     let a = c.args in
     let r = c.read_trace-reading in
     let n = c.in-Stored.n in
-    let h = trace-held a.trace.now r.new.1.0 n (rw c.in-Stored.is at r.ensures.result_value) r.ensures.table_after in
+    let h = trace-held a.trace.now r.new.table n (rw c.in-Stored.is at r.ensures.result_value) r.ensures.table_after in
     let f : n ≤ most_steps = h.few in
     search rules
 
@@ -37,9 +37,9 @@ judged_rows-requires c =
     let a = c.args in
     let r = c.read_trace-reading in
     let n = c.in-Stored.n in
-    let h = trace-held a.trace.now r.new.1.0 n (rw c.in-Stored.is at r.ensures.result_value) r.ensures.table_after in
+    let h = trace-held a.trace.now r.new.table n (rw c.in-Stored.is at r.ensures.result_value) r.ensures.table_after in
     let f : n ≤ most_steps = h.few in
-    let k = length-take (n * 3 - 0) r.new.1.0 in
+    let k = length-take (n * 3 - 0) r.new.table in
     record { steps_len_bound = omega arith; rows_room_in_bounds = omega arith }
 
 pub returns-in-Stored : goal.returns-in-Stored
@@ -47,9 +47,9 @@ returns-in-Stored c =
     let a = c.args in
     let r = c.read_trace-reading in
     let n = c.in-Stored.n in
-    let h = trace-held a.trace.now r.new.1.0 n (rw c.in-Stored.is at r.ensures.result_value) r.ensures.table_after in
+    let h = trace-held a.trace.now r.new.table n (rw c.in-Stored.is at r.ensures.result_value) r.ensures.table_after in
     let f : n ≤ most_steps = h.few in
-    rows_right (trace-judged a.trace.now r.new.1.0 a.state.now n a.verdict h) c.judged_rows.ensures
+    rows_right (trace-judged a.trace.now r.new.table a.state.now n a.verdict h) c.judged_rows.ensures
 
 pub returns-in-Refused : goal.returns-in-Refused
 returns-in-Refused c =
