@@ -1,4 +1,4 @@
-use Rattle.std.proofs.Common.{◌≡◌, ◌+◌, drop, ap, sym, ◌∙◌, arith}
+use Rattle.std.proofs.Common.{◌+◌, drop, ap, sym, ◌∙◌, arith}
 use Rattle.api_records.specs.declared.flat.Flat.{Flat}
 use Rattle.api_records.specs.Code.{flat_of}
 use Rattle.api_records.proofs.LoopLaws.{flat-more, flat-end}
