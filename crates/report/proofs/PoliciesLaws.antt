@@ -5,7 +5,6 @@ use mathlib.Core.Path.{◌≡◌, refl, ap, ◌∙◌}
 use mathlib.Core.List.{List, ◌++◌}
 use lib.ListN.{length}
 use borrow.Author.Tests.{le-ltb}
-use Rattle.usage.specs.Limits.{longest_sheet}
 use Rattle.usage.specs.Answers.{Refusal}
 use Rattle.usage.proofs.Logic.{clash}
 use Rattle.report_lines.specs.Lines.{names_line, names_room, row}

@@ -2,11 +2,11 @@
 use Prim.Native.Nat.{ℕ, zero, suc, ◌+◌, ◌-◌, ◌*◌, ◌<◌, ◌≤◌}
 use mathlib.Core.Path.{◌≡◌, refl, sym, ap, subst, ◌∙◌}
 use mathlib.Core.Bool.{Bool, true, false}
-use mathlib.Core.List.{List, [], ◌∷◌, ◌++◌, flatten, append-nil}
+use mathlib.Core.List.{List, [], ◌++◌, flatten, append-nil}
 use native.Mathlib.Omega.{arith}
 use native.Mathlib.Numerals.{add-one}
 use native.Mathlib.Nat.{sub-zero}
-use lib.ListN.{length, get_or, take, drop, replicate, length-append, length-replicate}
+use lib.ListN.{length, get_or, take, replicate, length-append, length-replicate}
 use lib.Seq.{sets, length-sets}
 use borrow.Author.Tests.{le-ltb}
 use Rattle.usage.specs.Limits.{policies}
@@ -24,7 +24,7 @@ use Rattle.report_lines.proofs.RowLaws.{mark-five}
 use Rattle.report.specs.Output.{fronted, length_put, put}
 use Rattle.report.specs.Summary.{RightMarks, RightMarksOf, RightSummary, text_if, bit_text, policy_text, marks_text, summary_text}
 use Rattle.report.specs.Summary.{nodes_summary, sheets_summary, summary_printed, longest_mark_row, summary_room, PrintsMarks}
-use Rattle.report.proofs.OutputLaws.{Printed, no_room}
+use Rattle.report.proofs.OutputLaws.{no_room}
 
 -- ── Texts f 0, f 1 and on, one after the other ──
 

@@ -43,12 +43,18 @@ returns-in-Stored c =
     let p = c.read_policies-reading in
     let n = c.in-Stored.n in
     let h = policies-held a.policies.now p.new.table n c.in-Stored.local (rw c.in-Stored.is at p.ensures.result_value) p.ensures.table_after in
-    let choice = policies-choice a.policies.now n c.in-Stored.local (rw c.in-Stored.is at p.ensures.result_value) in record { value = (λ l. absurd (omega arith)); prints = (λ l. edges-held a.policies.now a.outline.now a.out.now p.new.table n h
-          (rw choice at c.of_text.ensures)) }
+    let choice = policies-choice a.policies.now n c.in-Stored.local (rw c.in-Stored.is at p.ensures.result_value) in record {
+      value = (λ l. absurd (omega arith));
+      prints = (λ l. edges-held a.policies.now a.outline.now a.out.now p.new.table n h
+          (rw choice at c.of_text.ensures));
+    }
 
 pub returns-in-Refused : goal.returns-in-Refused
 returns-in-Refused c =
     let a = c.args in
     let p = c.read_policies-reading in
-    let z = policies-refused a.policies.now c.in-Refused.line c.in-Refused.number (rw c.in-Refused.is at p.ensures.result_value) in record { value = (λ l. absurd (omega arith)); prints = (λ l.
-          edges_none a.policies.now a.outline.now a.out.now c.in-Refused.line c.in-Refused.number z (c.refused.ensures.value, c.refused.ensures.out_after)) }
+    let z = policies-refused a.policies.now c.in-Refused.line c.in-Refused.number (rw c.in-Refused.is at p.ensures.result_value) in record {
+      value = (λ l. absurd (omega arith));
+      prints = (λ l.
+          edges_none a.policies.now a.outline.now a.out.now c.in-Refused.line c.in-Refused.number z (c.refused.ensures.value, c.refused.ensures.out_after));
+    }

@@ -1,12 +1,11 @@
 use native.Mathlib.Omega.{arith}
-use mathlib.Core.Path.{◌≡◌, refl, sym, ap, ◌∙◌}
-use Prim.Native.Nat.{◌+◌, ◌-◌, ◌≤◌}
+use mathlib.Core.Path.{refl, sym, ap, ◌∙◌}
 use lib.ListN.{length, length-append}
 use lib.Seq.{sets, length-sets}
 use Rattle.report_lines.proofs.PutLaws.{sets-append}
 use Rattle.report_lines.proofs.FitLaws.{stored_at}
 use Rattle.report.specs.Counterexample.{step_row}
-use Rattle.report.proofs.CounterexampleLaws.{rows_left, all-rows-left, no-row-left, next-row-left}
+use Rattle.report.proofs.CounterexampleLaws.{all-rows-left, no-row-left, next-row-left}
 use Rattle.report.proofs.counterexample.rows.Goals as goal
 
 pub loop-i-init : goal.loop-i-init

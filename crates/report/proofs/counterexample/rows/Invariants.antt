@@ -1,12 +1,8 @@
-use native.Mathlib.Omega.{arith}
-use mathlib.Core.Path.{◌≡◌, refl, sym, ap, ◌∙◌}
+use mathlib.Core.Path.{◌≡◌}
 use Prim.Native.Nat.{◌+◌, ◌-◌, ◌≤◌}
-use lib.ListN.{length, length-append}
-use lib.Seq.{sets, length-sets}
-use Rattle.report_lines.proofs.PutLaws.{sets-append}
-use Rattle.report_lines.proofs.FitLaws.{stored_at}
-use Rattle.report.specs.Counterexample.{step_row}
-use Rattle.report.proofs.CounterexampleLaws.{rows_left, all-rows-left, no-row-left, next-row-left}
+use lib.ListN.{length}
+use lib.Seq.{sets}
+use Rattle.report.proofs.CounterexampleLaws.{rows_left}
 use Rattle.report.proofs.counterexample.rows.Given as goal
 
 -- what is stored and what is left make the whole, and the whole has room

@@ -1,12 +1,11 @@
 use native.Mathlib.Omega.{arith}
-use mathlib.Core.Path.{◌≡◌, refl, sym, ap, ◌∙◌}
-use Prim.Native.Nat.{◌+◌, ◌-◌, ◌≤◌}
+use mathlib.Core.Path.{refl, sym, ap, ◌∙◌}
 use lib.ListN.{length, length-append}
 use lib.Seq.{sets, length-sets}
 use Rattle.report_lines.proofs.PutLaws.{sets-append}
 use Rattle.report_lines.proofs.FitLaws.{stored_at}
 use Rattle.report.specs.Expression.{numbered_node}
-use Rattle.report.proofs.ExpressionLaws.{nodes_left, all-nodes-left, no-node-left, next-node-left}
+use Rattle.report.proofs.ExpressionLaws.{all-nodes-left, no-node-left, next-node-left}
 use Rattle.report.proofs.expression.rows.Goals as goal
 
 pub loop-i-init : goal.loop-i-init

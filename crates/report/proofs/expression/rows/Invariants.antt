@@ -1,12 +1,8 @@
-use native.Mathlib.Omega.{arith}
-use mathlib.Core.Path.{◌≡◌, refl, sym, ap, ◌∙◌}
+use mathlib.Core.Path.{◌≡◌}
 use Prim.Native.Nat.{◌+◌, ◌-◌, ◌≤◌}
-use lib.ListN.{length, length-append}
-use lib.Seq.{sets, length-sets}
-use Rattle.report_lines.proofs.PutLaws.{sets-append}
-use Rattle.report_lines.proofs.FitLaws.{stored_at}
-use Rattle.report.specs.Expression.{numbered_node}
-use Rattle.report.proofs.ExpressionLaws.{nodes_left, all-nodes-left, no-node-left, next-node-left}
+use lib.ListN.{length}
+use lib.Seq.{sets}
+use Rattle.report.proofs.ExpressionLaws.{nodes_left}
 use Rattle.report.proofs.expression.rows.Given as goal
 
 -- what is stored and what is left make the whole, and the whole has room

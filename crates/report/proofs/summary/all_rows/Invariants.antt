@@ -1,10 +1,9 @@
-use native.Mathlib.Omega.{arith}
 use Prim.Native.Nat.{ℕ, ◌-◌, ◌≤◌}
 use mathlib.Core.List.{List}
 use lib.ListN.{get_or}
 use Rattle.usage.specs.Limits.{policies}
-use Rattle.report.specs.Summary.{policy_text, marks_text}
-use Rattle.report.proofs.SummaryLaws.{Writing, writing-begun, writing-fits, writing_more, writing-done}
+use Rattle.report.specs.Summary.{policy_text}
+use Rattle.report.proofs.SummaryLaws.{Writing}
 use Rattle.report.proofs.summary.all_rows.Given as goal
 
 -- the lines of policy p

@@ -1,13 +1,10 @@
 use native.Mathlib.Omega.{arith}
-use mathlib.Core.Path.{◌≡◌, refl, sym, ap, ◌∙◌}
-use mathlib.Core.Bool.{true, false}
+use mathlib.Core.Path.{sym, ap, ◌∙◌}
 use lib.ListN.{length}
 use borrow.Author.Tests.{eq-eqb, ne_eqb}
-use Rattle.automaton.specs.Mask.{has}
 use Rattle.monitor_sets.proofs.SetLaws.{has-bit}
 use Rattle.report_lines.specs.Lines.{mark_row_lem}
 use Rattle.report_lines.proofs.FitLaws.{stored_at}
-use Rattle.report.specs.Summary.{bit_text}
 use Rattle.report.proofs.SummaryLaws.{bit-set, bit-clear}
 use borrow.Author.Rules.{rules}
 use Rattle.report.proofs.summary.bit_row.Goals as goal

@@ -1,8 +1,7 @@
-use native.Mathlib.Omega.{arith}
 use Prim.Native.Nat.{◌-◌, ◌≤◌}
 use Rattle.checker.specs.Summary.{mark_bits}
-use Rattle.report.specs.Summary.{bit_text, policy_text}
-use Rattle.report.proofs.SummaryLaws.{Writing, writing-begun, writing-fits, writing_more, writing-done}
+use Rattle.report.specs.Summary.{bit_text}
+use Rattle.report.proofs.SummaryLaws.{Writing}
 use Rattle.report.proofs.summary.policy_rows.Given as goal
 
 abbrev pub invariant-loop-i : goal.invariant-loop-i

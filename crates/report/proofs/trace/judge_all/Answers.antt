@@ -1,10 +1,10 @@
 use native.Mathlib.Omega.{arith}
 use mathlib.Core.Path.{refl, sym, ap, ◌∙◌}
-use Prim.Native.Nat.{◌-◌, ◌/◌}
+use Prim.Native.Nat.{◌/◌}
 use lib.ListN.{length}
 use lib.Seq.{sets}
 use Rattle.monitor_state.specs.Lent.{lent_of, state_of, judgement_of}
-use Rattle.report.proofs.TraceLaws.{Going, going_on, all_left, none_left}
+use Rattle.report.proofs.TraceLaws.{going_on, all_left, none_left}
 use Rattle.report.proofs.trace.judge_all.Goals as goal
 
 pub loop-i-init : goal.loop-i-init

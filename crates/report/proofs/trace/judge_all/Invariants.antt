@@ -1,10 +1,6 @@
-use native.Mathlib.Omega.{arith}
-use mathlib.Core.Path.{refl, sym, ap, ◌∙◌}
-use Prim.Native.Nat.{◌-◌, ◌/◌}
-use lib.ListN.{length}
-use lib.Seq.{sets}
-use Rattle.monitor_state.specs.Lent.{lent_of, state_of, judgement_of}
-use Rattle.report.proofs.TraceLaws.{Going, going_on, all_left, none_left}
+use Prim.Native.Nat.{◌-◌}
+use Rattle.monitor_state.specs.Lent.{lent_of, state_of}
+use Rattle.report.proofs.TraceLaws.{Going}
 use Rattle.report.proofs.trace.judge_all.Given as goal
 
 -- the state lies in its arrays, and in what it has beside them
