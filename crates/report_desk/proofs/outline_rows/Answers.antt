@@ -1,5 +1,4 @@
 -- `outline_rows` meets its contract.
-use native.Mathlib.Omega.{arith}
 use Rattle.report_desk.specs.Printed.{sheet_row, no_outline, has_outline}
 use Rattle.report_desk.proofs.PrintedLaws.{rows_right, one-row}
 use Rattle.report_desk.proofs.outline_rows.Goals as goal

@@ -26,8 +26,11 @@ returns-then-code-ne0 c =
     let w = c.desk_names-at in
     let t = c.if-out-lt-DESK_ROOM.false in
     let k = c.policies-code in
-    let r = c.refused in record { value = λ h. absurd (omega arith); prints_desk = λ h. after-names h w.ensures.value w.ensures.out_after
-          (one-row (sheet_row 3 k.result) (no_policies k.ensures c.if-code-ne0.true) r.ensures.code_len_bound r.ensures.value r.ensures.out_after) }
+    let r = c.refused in record {
+      value = λ h. absurd (omega arith);
+      prints_desk = λ h. after-names h w.ensures.value w.ensures.out_after
+          (one-row (sheet_row 3 k.result) (no_policies k.ensures c.if-code-ne0.true) r.ensures.code_len_bound r.ensures.value r.ensures.out_after);
+    }
 
 pub outline_rows-requires : goal.outline_rows-requires
 outline_rows-requires c =

@@ -1,7 +1,6 @@
 use native.Mathlib.Omega.{arith}
 use mathlib.Core.Path.{refl}
-use Prim.Native.Nat.{◌-◌}
-use Rattle.report_desk.proofs.PrintedLaws.{Going, going-none, going-length, going_on, gone}
+use Rattle.report_desk.proofs.PrintedLaws.{going-none, going-length, going_on, gone}
 use borrow.Author.Rules.{rules}
 use Rattle.report_desk.proofs.step_rows.Goals as goal
 

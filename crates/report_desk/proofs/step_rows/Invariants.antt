@@ -1,9 +1,7 @@
 -- `step_rows` meets its contract. The invariant: the lines of the first i steps stand in the buffer, and whatever steps follow, the numbers
 -- of all of them are those of the calls one after the other.
-use native.Mathlib.Omega.{arith}
-use mathlib.Core.Path.{refl}
 use Prim.Native.Nat.{◌-◌}
-use Rattle.report_desk.proofs.PrintedLaws.{Going, going-none, going-length, going_on, gone}
+use Rattle.report_desk.proofs.PrintedLaws.{Going}
 use Rattle.report_desk.proofs.step_rows.Given as goal
 
 abbrev pub invariant-loop-i : goal.invariant-loop-i
