@@ -13,10 +13,14 @@ use Rattle.api_c.specs.Parts.{Parts, Answered, refuse_parts, lean_parts}
 
 module _ (m : Summary) (t : List ℕ) (choice : ℕ) (p : Parts) (raw : RawStep) (r : ℕ) (p' : Parts) where
   abbrev pub Owed : Type 0
-  Owed = (r ≡ code_of (lean_parts m t choice p raw).verdict) × ((p' ≡ (lean_parts m t choice p raw).parts) × LeanPromise t (choice_of choice) m)
+  Owed = record {
+    value : r ≡ code_of (lean_parts m t choice p raw).verdict;
+    numbers_after : p' ≡ (lean_parts m t choice p raw).parts;
+    lean_promise : LeanPromise t (choice_of choice) m;
+  }
 
   pub parts-told : r ≡ code_of (lean_parts m t choice p raw).verdict → p' ≡ (lean_parts m t choice p raw).parts → Owed
-  parts-told e f = (e, (f, lean-promise t (choice_of choice) m))
+  parts-told e f = record { value = e; numbers_after = f; lean_promise = lean-promise t (choice_of choice) m }
 
 -- a refusal leaves the arrays as they were lent
 pub refused-told : (m : Summary) (t : List ℕ) (choice : ℕ) (p : Parts) (raw : RawStep) (n r : ℕ)

@@ -90,11 +90,15 @@ module _ (t : List ℕ) (choice : ℕ) (p : Parts) (raw : RawStep) (r : ℕ) (p'
 
   -- what a function owes of a call
   abbrev pub Owed : Type 0
-  Owed = (r ≡ code_of (judge_parts t choice p raw).verdict) × ((p' ≡ (judge_parts t choice p raw).parts) × KeepsIn t choice p raw r p')
+  Owed = record {
+    value : r ≡ code_of (judge_parts t choice p raw).verdict;
+    numbers_after : p' ≡ (judge_parts t choice p raw).parts;
+    keeps_in : KeepsIn t choice p raw r p';
+  }
 
   pub owed : r ≡ code_of (judge_parts t choice p raw).verdict → p' ≡ (judge_parts t choice p raw).parts
       → (is_held p ≡ true → highest_in p' ≤ most_number) → Owed
-  owed e f b = (e, (f, keeps-past e f b))
+  owed e f b = record { value = e; numbers_after = f; keeps_in = keeps-past e f b }
 
 -- a refusal leaves the arrays as they were lent
 pub refused-owed : (t : List ℕ) (choice : ℕ) (p : Parts) (raw : RawStep) (n r : ℕ) → judge_parts t choice p raw ≡ refuse_parts n p

@@ -24,12 +24,7 @@ fn summary_code(n: u8) -> u32
 // The exact summary of an outline, as a flat table of nodes, under a flat table of edges and the choice of past `local`: for each policy a
 // number of 33 bits. Bits 0 to 31 are the actions, and bit 32 is its opening, that can be the last step of a trace that leaves it open and
 // not respected. The table needs room for eight numbers (else 40); what comes after them is left as it was.
-pub fn wiforekun_summary(
-    edges: &[u8],
-    local: u32,
-    nodes: &[u8],
-    marks: &mut [u64],
-) -> u32
+pub fn wiforekun_summary(edges: &[u8], local: u32, nodes: &[u8], marks: &mut [u64]) -> u32
     ensures { Summarizes local edges.now nodes.now marks.old result marks.new }
 {
     if crate::MOST_CHOICE < local {

@@ -192,12 +192,7 @@ fn explanation_code(e: Explanation) -> u32
 // The check of an outline, and where it names a policy a shortest trace that leaves that policy open and not respected: three numbers to
 // a step, the oldest first. Answers 65536 times the number of steps written, which is 0 where none are, and document 01's two numbers as
 // `wiforekun_check` does. The table needs room for 200 steps, 600 numbers (else 40); what comes after the trace is left as it was.
-pub fn wiforekun_counterexample(
-    edges: &[u8],
-    local: u32,
-    nodes: &[u8],
-    trace: &mut [u32],
-) -> u32
+pub fn wiforekun_counterexample(edges: &[u8], local: u32, nodes: &[u8], trace: &mut [u32]) -> u32
     ensures { Explains local edges.now nodes.now trace.old result trace.new }
 {
     if MOST_CHOICE < local {

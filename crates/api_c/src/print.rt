@@ -32,11 +32,7 @@ pub fn wiforekun_report_outline(policies: &[u8], outline: &[u8], out: &mut [u8])
 }
 
 // What the third program prints, from the bytes of `policies.txt` and `outline.txt`: a shortest counterexample as a trace sheet.
-pub fn wiforekun_report_counterexample(
-    policies: &[u8],
-    outline: &[u8],
-    out: &mut [u8],
-) -> usize
+pub fn wiforekun_report_counterexample(policies: &[u8], outline: &[u8], out: &mut [u8]) -> usize
     ensures value { length out.old < counterexample_room → (result ≡ 0) × (out.new ≡ out.old) }
     ensures prints { counterexample_room ≤ length out.old → Prints
         (RightExplanation policies.now outline.now)

@@ -61,12 +61,18 @@ returns c =
     let r = c.is_refusal in
     owed a.edges.now a.local p raw _ _
     (c.code-2.ensures ∙ ap code_of (told-verdict judge_of a.edges.now a.local p raw f k h j.result _ _ _ _ _ _ j.ensures))
-    (elim c.if-not-is_refusal.branch [ then-not-is_refusal w ↦ ap (λ (l : List ℕ). parts_of j.new.pairs.1.0 j.new.pairs.1.1.0 j.new.pairs.1.1.1.0 j.new.pairs.1.1.1.1.0
-    j.new.pairs.1.1.1.1.1.0 j.new.pairs.1.1.1.1.1.1.0 l) w.5
-    ∙ taken-left judge_of a.edges.now a.local p raw f k h j.result _ _ _ _ _ _ j.ensures w.2.result
-    (sym r.ensures ∙ not-true r.result w.if-not-is_refusal.true) w.2.ensures | else-not-is_refusal w ↦ ap (λ (l : List ℕ). parts_of j.new.pairs.1.0 j.new.pairs.1.1.0 j.new.pairs.1.1.1.0 j.new.pairs.1.1.1.1.0
-    j.new.pairs.1.1.1.1.1.0 j.new.pairs.1.1.1.1.1.1.0 l) w.1
-    ∙ refused-left judge_of a.edges.now a.local p raw f k h j.result _ _ _ _ _ _
-    j.ensures (sym r.ensures ∙ not-false r.result w.if-not-is_refusal.false) ])
-    (λ held. elim c.if-not-is_refusal.branch [ then-not-is_refusal w ↦ let fits : Fits w32 j.result.sizes.highest = search rules in
-    subst (λ (l : List ℕ). get_or l 3 0 ≤ most_number) (sym w.5) (omega (arith, fits.fits)) | else-not-is_refusal w ↦ subst (λ (l : List ℕ). get_or l 3 0 ≤ most_number) (sym w.1) (held-highest p held) ])
+    (elim c.if-not-is_refusal.branch [
+      then-not-is_refusal w ↦ ap (λ (l : List ℕ). parts_of j.new.sets j.new.pairs j.new.possible j.new.created
+          j.new.unclosed j.new.order l) w.numbers-is
+          ∙ taken-left judge_of a.edges.now a.local p raw f k h j.result _ _ _ _ _ _ j.ensures w.flag_of-h.result
+          (sym r.ensures ∙ w.if-not-is_refusal.true) w.flag_of-h.ensures
+      | else-not-is_refusal w ↦ ap (λ (l : List ℕ). parts_of j.new.sets j.new.pairs j.new.possible j.new.created
+          j.new.unclosed j.new.order l) w.numbers-is
+          ∙ refused-left judge_of a.edges.now a.local p raw f k h j.result _ _ _ _ _ _
+          j.ensures (sym r.ensures ∙ w.if-not-is_refusal.false)
+    ])
+    (λ held. elim c.if-not-is_refusal.branch [
+      then-not-is_refusal w ↦ let fits : Fits w32 j.result.sizes.highest = search rules in
+          subst (λ (l : List ℕ). get_or l 3 0 ≤ most_number) (sym w.numbers-is) (omega (arith, fits.fits))
+      | else-not-is_refusal w ↦ subst (λ (l : List ℕ). get_or l 3 0 ≤ most_number) (sym w.numbers-is) (held-highest p held)
+    ])

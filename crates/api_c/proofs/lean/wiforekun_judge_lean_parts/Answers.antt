@@ -60,10 +60,13 @@ returns c =
     let r = c.is_refusal in
     parts-told a.marks.now a.edges.now a.local p raw _ _
     (c.code-2.ensures ∙ ap code_of (told-verdict (lean_of a.marks.now) a.edges.now a.local p raw f k h j.result _ _ _ _ _ _ is))
-    (elim c.if-not-is_refusal.branch [ then-not-is_refusal w ↦ ap (λ (l : List ℕ). parts_of j.new.pairs.1.1.0 j.new.pairs.1.1.1.0 j.new.pairs.1.1.1.1.0 j.new.pairs.1.1.1.1.1.0
-    j.new.pairs.1.1.1.1.1.1.0 j.new.pairs.1.1.1.1.1.1.1.0 l) w.5
-    ∙ taken-left (lean_of a.marks.now) a.edges.now a.local p raw f k h j.result _ _ _ _ _ _ is w.2.result
-    (sym r.ensures ∙ not-true r.result w.if-not-is_refusal.true) w.2.ensures | else-not-is_refusal w ↦ ap (λ (l : List ℕ). parts_of j.new.pairs.1.1.0 j.new.pairs.1.1.1.0 j.new.pairs.1.1.1.1.0 j.new.pairs.1.1.1.1.1.0
-    j.new.pairs.1.1.1.1.1.1.0 j.new.pairs.1.1.1.1.1.1.1.0 l) w.1
-    ∙ refused-left (lean_of a.marks.now) a.edges.now a.local p raw f k h j.result _ _ _ _ _ _
-    is (sym r.ensures ∙ not-false r.result w.if-not-is_refusal.false) ])
+    (elim c.if-not-is_refusal.branch [
+      then-not-is_refusal w ↦ ap (λ (l : List ℕ). parts_of j.new.sets j.new.pairs j.new.possible j.new.created
+          j.new.unclosed j.new.order l) w.numbers-is
+          ∙ taken-left (lean_of a.marks.now) a.edges.now a.local p raw f k h j.result _ _ _ _ _ _ is w.flag_of-h.result
+          (sym r.ensures ∙ w.if-not-is_refusal.true) w.flag_of-h.ensures
+      | else-not-is_refusal w ↦ ap (λ (l : List ℕ). parts_of j.new.sets j.new.pairs j.new.possible j.new.created
+          j.new.unclosed j.new.order l) w.numbers-is
+          ∙ refused-left (lean_of a.marks.now) a.edges.now a.local p raw f k h j.result _ _ _ _ _ _
+          is (sym r.ensures ∙ w.if-not-is_refusal.false)
+    ])
