@@ -83,12 +83,16 @@ none-42 Does b r b' (called l f does leaves) q e = none-some (sym e ∙ f)
 bytes-refuse : (Does : Desk → Given → Desk → Type 0) → BytesRefuse Does
 bytes-refuse Does = record { too_short = short-40 Does; no_desk = none-42 Does }
 
+stepped-50 : (raw : RawStep) (b b' : List ℕ) (d : Desk) {g : Given} {d' : Desk} → desk_of b ≡ some none → desk_of b ≡ some d → ByStep raw d g d'
+    → LeavesBytes (is_refused g.verdict) b d' b' → (desk_code g ≡ refused_by 50) × (b' ≡ b)
+stepped-50 raw b b' none e f replied leaves = (refl, leaves)
+stepped-50 raw b b' (some d) e f replied leaves = none-some (same-desk b e f)
+
 step-50 : (raw : RawStep) (b : List ℕ) (r : ℕ) (b' : List ℕ) → Called (ByStep raw) b r b' → desk_bytes ≤ length b
     → desk_of b ≡ some none → (r ≡ refused_by 50) × (b' ≡ b)
 step-50 raw b r b' (too_short l) q e = absurd (omega arith)
 step-50 raw b r b' (no_desk l f) q e = none-some (sym f ∙ e)
-step-50 raw b r b' (called {d = none} l f replied leaves) q e = (refl, leaves)
-step-50 raw b r b' (called {d = some d} l f replied leaves) q e = none-some (same-desk b e f)
+step-50 raw b r b' (called {d = d} l f does leaves) q e = stepped-50 raw b b' d e f does leaves
 
 outline-51 : (text b : List ℕ) (r : ℕ) (b' : List ℕ) → Called (ByOutline text) b r b' → desk_bytes ≤ length b
     → desk_of b ≡ some none → (r ≡ refused_by 51) × (b' ≡ b)
