@@ -1,23 +1,21 @@
 -- What is printed of a sheet is what is printed of the bytes that a program reads of it: one more than the longest sheet has.
-use Prim.Native.Nat.{ℕ, zero, suc, ◌<◌, ◌≤◌}
-use mathlib.Core.Path.{◌≡◌, refl, ap, subst, sym, ◌∙◌}
-use mathlib.Core.Bool.{Bool, true, false, cond, ◌&&◌}
+use Prim.Native.Nat.{ℕ, zero, suc, ◌≤◌}
+use mathlib.Core.Path.{◌≡◌, refl, ap, sym, ◌∙◌}
+use mathlib.Core.Bool.{Bool, true, false, ◌&&◌}
 use mathlib.Core.List.{List, [], ◌∷◌}
 use native.Mathlib.Omega.{arith}
-use lib.Dec.{eqb, leb, ltb}
-use lib.ListN.{length, take, length-take}
+use lib.Dec.{eqb, leb}
+use lib.ListN.{length, take}
 use lib.Seq.{take_all, length-take-le}
 use borrow.Author.Tests.{leb-true, leb-false, lt-ltb}
 use Rattle.usage.specs.Limits.{longest_sheet, edge_places, node_places}
-use Rattle.sheet_lines.specs.Sheet.{Sheet, refuse_at, starts_with, sheet}
+use Rattle.sheet_lines.specs.Sheet.{Sheet, starts_with, sheet}
 use Rattle.sheet_lines.specs.Sheets.{policy_names_lem, is_local, trace_sheet, policy_sheet, outline_sheet}
 use Rattle.sheet_reader.specs.Readers.{policies_read, ruled_result, roomy, policies_into, outline_into}
 use Rattle.report_desk.proofs.ReadLaws.{desk-alike}
-use Rattle.report.specs.Output.{sheet_room, printed}
-use Rattle.report.specs.Trace.{trace_rows, trace_printed}
-use Rattle.report.specs.Outline.{RightSheets, RightTexts, outline_printed}
-use Rattle.report.specs.Counterexample.{RightTraceOf, RightExplanation, counterexample_printed}
-use Rattle.report.specs.Summary.{RightSummary, summary_printed}
+use Rattle.report.specs.Output.{sheet_room}
+use Rattle.report.specs.Trace.{trace_printed}
+use Rattle.report.specs.Outline.{outline_printed}
 use Rattle.promises.specs.Demands.{seen, ReadEnough}
 
 -- a longer sheet is longer also by the bytes that are read of it

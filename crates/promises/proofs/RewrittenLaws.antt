@@ -1,10 +1,8 @@
 -- A policy sheet that is written again has the verdicts of the sheet that it was.
 use Prim.Native.Nat.{ℕ}
-use mathlib.Core.Path.{◌≡◌, refl, sym, ap, subst, ◌∙◌}
+use mathlib.Core.Path.{◌≡◌, ap}
 use mathlib.Core.Bool.{Bool}
 use mathlib.Core.List.{List, flatten}
-use mathlib.Core.Logic.{◌↔◌}
-use Rattle.usage.specs.declared.RawStep.{RawStep}
 use Rattle.usage.specs.Answers.{Verdict}
 use Rattle.usage.specs.Policy.{SameEdges}
 use Rattle.usage.specs.Tables.{edges_of, nodes_of, EdgeTable}
@@ -13,13 +11,10 @@ use Rattle.sheet_lines.specs.Sheet.{accepted}
 use Rattle.sheet_lines.specs.Sheets.{is_local}
 use Rattle.sheet_reader.specs.Readers.{policies_read}
 use Rattle.sheet_reader.proofs.AnswerLaws.{accepted-edges}
-use Rattle.monitor_state.specs.declared.State.{State}
-use Rattle.monitor_state.specs.Judge.{judge_of}
 use Rattle.monitor_state.proofs.EdgeSetLaws.{judge-set}
 use Rattle.checker.specs.Promise.{RightVerdict, no_edges, no_nodes, checked}
 use Rattle.sheet_writer.specs.Writer.{is_written, written_again, result_edges, edges_in}
-use Rattle.sheet_writer.specs.Promise.{OneWriting}
-use Rattle.sheet_writer.proofs.WriterLaws.{Tidied, tidied, one-writing, one_way}
+use Rattle.sheet_writer.proofs.WriterLaws.{tidied, one-writing, one_way}
 use Rattle.promises.specs.Demands.{Verdicts, Rewritten}
 
 -- the right verdict goes by the edges as a set

@@ -5,7 +5,7 @@
 -- sheet writer answers and writes `written_into` (`sheet_writer`), the programs print `trace_printed`, `outline_printed`,
 -- `counterexample_printed` and `summary_printed` (`report`), and callers in C and Rust are told `code_of` a verdict (`api_c`). proofs/ has the
 -- proof of each. That no function reads outside its memory or runs on without end is what the language asks of each before it is built.
-use Rattle.std.specs.Prelude.{ℕ, suc, ◌<◌, ◌≤◌, ◌≡◌, Bool, true, false, ◌↔◌, ◌⊎◌, length, take, replicate}
+use Rattle.std.specs.Prelude.{ℕ, ◌<◌, ◌≤◌, ◌≡◌, Bool, true, false, ◌↔◌, ◌⊎◌, length, take, replicate}
 use Rattle.std.proofs.Math.Option.{none, some}
 use mathlib.Core.List.{List, [], ◌∷◌, ◌++◌, map, flatten, Memᴰ}
 use Rattle.usage.specs.declared.Node.{Node}
