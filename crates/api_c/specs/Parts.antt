@@ -1,5 +1,5 @@
 -- The judge over a state that lies in the arrays that a caller lends.
-use Rattle.std.specs.Prelude.{ℕ, ◌+◌, Bool, true, false, not, ◌&&◌, cond, List, [], ◌∷◌, eqb, leb, get_or}
+use Rattle.std.specs.Prelude.{ℕ, Bool, not, ◌&&◌, cond, List, [], ◌∷◌, eqb, leb, get_or}
 use Rattle.usage.specs.declared.RawStep.{RawStep}
 use Rattle.usage.specs.Answers.{Verdict, refused}
 use Rattle.usage.specs.Tables.{is_edge_table}

@@ -1,6 +1,6 @@
 -- A reader's answer as one number.
 use Rattle.std.specs.Prelude.{ℕ, ◌+◌, cond, eqb}
-use Rattle.usage.specs.Answers.{Refusal, refused}
+use Rattle.usage.specs.Answers.{refused}
 use Rattle.sheet_lines.specs.Answer.{Answer, count, refusal}
 use Rattle.api_c.specs.Codes.{code_of}
 

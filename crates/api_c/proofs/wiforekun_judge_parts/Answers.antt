@@ -4,11 +4,9 @@ use mathlib.Core.List.{List}
 use lib.ListN.{get_or}
 use mir.Val.{Fits}
 use mir.Syntax.{w32}
-use borrow.Author.Tests.{not-true, not-false}
 use native.Mathlib.Omega.{arith}
 use Prim.Native.Nat.{ℕ, ◌≤◌}
 use Rattle.usage.specs.declared.RawStep.{RawStep}
-use Rattle.usage.proofs.Logic.{by_cases}
 use Rattle.monitor_state.specs.Judge.{judge_of}
 use Rattle.api_c.specs.Codes.{code_of}
 use Rattle.api_c.specs.Parts.{parts_of, most_number, held_in_lem}
@@ -62,7 +60,7 @@ returns c =
     owed a.edges.now a.local p raw _ _
     (c.code-2.ensures ∙ ap code_of (told-verdict judge_of a.edges.now a.local p raw f k h j.result _ _ _ _ _ _ j.ensures))
     (elim c.if-not-is_refusal.branch [
-      then-not-is_refusal w ↦ ap (λ (l : List ℕ). parts_of j.new.sets j.new.pairs j.new.possible j.new.created
+      | then-not-is_refusal w ↦ ap (λ (l : List ℕ). parts_of j.new.sets j.new.pairs j.new.possible j.new.created
           j.new.unclosed j.new.order l) w.numbers-is
           ∙ taken-left judge_of a.edges.now a.local p raw f k h j.result _ _ _ _ _ _ j.ensures w.flag_of-h.result
           (sym r.ensures ∙ w.if-not-is_refusal.true) w.flag_of-h.ensures
@@ -72,7 +70,7 @@ returns c =
           j.ensures (sym r.ensures ∙ w.if-not-is_refusal.false)
     ])
     (λ held. elim c.if-not-is_refusal.branch [
-      then-not-is_refusal w ↦ let fits : Fits w32 j.result.sizes.highest = search rules in
+      | then-not-is_refusal w ↦ let fits : Fits w32 j.result.sizes.highest = search rules in
           subst (λ (l : List ℕ). get_or l 3 0 ≤ most_number) (sym w.numbers-is) (omega (arith, fits.fits))
       | else-not-is_refusal w ↦ subst (λ (l : List ℕ). get_or l 3 0 ≤ most_number) (sym w.numbers-is) (held-highest p held)
     ])

@@ -1,11 +1,9 @@
 -- The answer is the definition's, and the arrays hold what it says.
 use mathlib.Core.Path.{sym, ap, ◌∙◌}
 use mathlib.Core.List.{List}
-use borrow.Author.Tests.{not-true, not-false}
 use native.Mathlib.Omega.{arith}
 use Prim.Native.Nat.{ℕ}
 use Rattle.usage.specs.declared.RawStep.{RawStep}
-use Rattle.usage.proofs.Logic.{by_cases}
 use Rattle.monitor_state.proofs.LookedLaws.{sized-by}
 use Rattle.monitor_lean.specs.Lean.{marked, lean_of}
 use Rattle.api_c.specs.Choice.{choice_of}
@@ -61,7 +59,7 @@ returns c =
     parts-told a.marks.now a.edges.now a.local p raw _ _
     (c.code-2.ensures ∙ ap code_of (told-verdict (lean_of a.marks.now) a.edges.now a.local p raw f k h j.result _ _ _ _ _ _ is))
     (elim c.if-not-is_refusal.branch [
-      then-not-is_refusal w ↦ ap (λ (l : List ℕ). parts_of j.new.sets j.new.pairs j.new.possible j.new.created
+      | then-not-is_refusal w ↦ ap (λ (l : List ℕ). parts_of j.new.sets j.new.pairs j.new.possible j.new.created
           j.new.unclosed j.new.order l) w.numbers-is
           ∙ taken-left (lean_of a.marks.now) a.edges.now a.local p raw f k h j.result _ _ _ _ _ _ is w.flag_of-h.result
           (sym r.ensures ∙ w.if-not-is_refusal.true) w.flag_of-h.ensures
