@@ -10,7 +10,7 @@ overflow_mul-k g c =
     let a = c.args in
     let r = c.read_policies-reading in
     let n = c.in-Stored.k in
-    let h = policies-held a.policies.now r.new.1.0 n c.in-Stored.local (rw c.in-Stored.is at r.ensures.result_value) r.ensures.table_after in
+    let h = policies-held a.policies.now r.new.table n c.in-Stored.local (rw c.in-Stored.is at r.ensures.result_value) r.ensures.table_after in
     let f : n ≤ most_edges = h.few in
     search rules
 
@@ -19,6 +19,6 @@ slice_bounds-outline-end g c =
     let a = c.args in
     let r = c.read_policies-reading in
     let n = c.in-Stored.k in
-    let h = policies-held a.policies.now r.new.1.0 n c.in-Stored.local (rw c.in-Stored.is at r.ensures.result_value) r.ensures.table_after in
+    let h = policies-held a.policies.now r.new.table n c.in-Stored.local (rw c.in-Stored.is at r.ensures.result_value) r.ensures.table_after in
     let f : n ≤ most_edges = h.few in
     search rules

@@ -10,7 +10,7 @@ overflow_mul-k g c =
     let a = c.args in
     let r = c.read_outline-reading in
     let n = c.in-Stored.k in
-    let h = outline-held a.text.now r.new.1.0 n (rw c.in-Stored.is at r.ensures.result_value) r.ensures.table_after in
+    let h = outline-held a.text.now r.new.table n (rw c.in-Stored.is at r.ensures.result_value) r.ensures.table_after in
     let f : n ≤ most_nodes = h.few in
     search rules
 
@@ -19,6 +19,6 @@ slice_bounds-judged-end g c =
     let a = c.args in
     let r = c.read_outline-reading in
     let n = c.in-Stored.k in
-    let h = outline-held a.text.now r.new.1.0 n (rw c.in-Stored.is at r.ensures.result_value) r.ensures.table_after in
+    let h = outline-held a.text.now r.new.table n (rw c.in-Stored.is at r.ensures.result_value) r.ensures.table_after in
     let f : n ≤ most_nodes = h.few in
     search rules
