@@ -54,5 +54,7 @@ pub extern "C" fn wiforekun_judge_lean_parts(
         (record { kind = kind; a = a; b = b })).parts }
     ensures lean_promise { LeanPromise edges.now (choice_of local) marks.now }
 {
-    api_c::lean::wiforekun_judge_lean_parts(marks, edges, local, sets, pairs, possible, created, unclosed, order, numbers, kind, a, b)
+    api_c::lean::wiforekun_judge_lean_parts(
+        marks, edges, local, sets, pairs, possible, created, unclosed, order, numbers, kind, a, b,
+    )
 }

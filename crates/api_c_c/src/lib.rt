@@ -53,7 +53,9 @@ pub extern "C" fn wiforekun_judge_parts(
         (parts_of sets.new pairs.new possible.new created.new
         unclosed.new order.new numbers.new) }
 {
-    api_c::wiforekun_judge_parts(edges, local, sets, pairs, possible, created, unclosed, order, numbers, kind, a, b)
+    api_c::wiforekun_judge_parts(
+        edges, local, sets, pairs, possible, created, unclosed, order, numbers, kind, a, b,
+    )
 }
 
 // As `api_c::wiforekun_check`.

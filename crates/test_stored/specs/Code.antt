@@ -1,5 +1,5 @@
 -- What the border calls are made on, and a reader's answer as one number.
-use Rattle.std.specs.Prelude.{ℕ, ◌+◌, cond, List, [], ◌∷◌, replicate, set}
+use Rattle.std.specs.Prelude.{ℕ, cond, List, [], ◌∷◌, replicate, set}
 use Rattle.usage.specs.Limits.{policies, most_created, most_unclosed, edge_fields}
 use Rattle.usage.specs.Answers.{allowed, refused}
 use Rattle.sheet_lines.specs.declared.Reading.{Reading}

@@ -1,4 +1,3 @@
-use Prim.Native.Nat.{◌-◌}
 use Rattle.test_stored.proofs.desk_cases.all.Goals as goal
 
 pub loop-n-init : goal.loop-n-init

@@ -1,6 +1,4 @@
 use native.Mathlib.Omega.{arith}
-use Prim.Native.Nat.{◌-◌, ◌≤◌}
-use Rattle.usage.proofs.Logic.{by_cases}
 use Rattle.test_stored.proofs.desk_cases.changed.Goals as goal
 use Rattle.test_stored.proofs.desk_cases.changed.Goals.{else-a-i, then-a-i}
 

@@ -1,7 +1,5 @@
 -- At most one of the bytes that were passed, each.
-use native.Mathlib.Omega.{arith}
 use Prim.Native.Nat.{◌-◌, ◌≤◌}
-use Rattle.usage.proofs.Logic.{by_cases}
 use Rattle.test_stored.proofs.desk_cases.changed.Given as goal
 
 abbrev pub invariant-loop-i : goal.invariant-loop-i

@@ -1,4 +1,3 @@
-use Prim.Native.Nat.{◌-◌}
 use Rattle.test_stored.proofs.expressions.all.Goals as goal
 
 pub loop-n-init : goal.loop-n-init

@@ -1,7 +1,4 @@
 use native.Mathlib.Omega.{arith}
-use Prim.Native.Nat.{◌-◌, ◌≤◌}
-use lib.ListN.{length}
-use Rattle.usage.proofs.Logic.{by_cases}
 use Rattle.test_stored.proofs.rewritings.kept.Goals as goal
 use Rattle.test_stored.proofs.rewritings.kept.Goals.{else-lent-i, then-lent-i}
 

@@ -1,7 +1,4 @@
 use native.Mathlib.Omega.{arith}
-use Prim.Native.Nat.{◌-◌, ◌≤◌}
-use lib.ListN.{length}
-use Rattle.usage.proofs.Logic.{by_cases}
 use Rattle.test_stored.proofs.trace_calls.kept.Goals as goal
 use Rattle.test_stored.proofs.trace_calls.kept.Goals.{else-trace-i, then-trace-i}
 

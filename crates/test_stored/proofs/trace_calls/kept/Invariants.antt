@@ -1,8 +1,6 @@
 -- At most one of the numbers that were passed, each.
-use native.Mathlib.Omega.{arith}
 use Prim.Native.Nat.{◌-◌, ◌≤◌}
 use lib.ListN.{length}
-use Rattle.usage.proofs.Logic.{by_cases}
 use Rattle.test_stored.proofs.trace_calls.kept.Given as goal
 
 abbrev pub invariant-loop-i : goal.invariant-loop-i
