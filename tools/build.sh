@@ -84,6 +84,7 @@ build() {
             exit 2
         fi
         # rt links a program only to run it: here, where no sheets are, and how it ends is nothing to the build
+        rm -f "$crate/out/$name"
         (cd "$crate" && rt run) </dev/null >>"$log" 2>&1 || true
         bin=$here/target/bin/$name
         if ! cp "$crate/out/$name" "$bin" 2>>"$log"; then
