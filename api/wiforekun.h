@@ -11,8 +11,8 @@
  * painted stack on all stored cases. Three calls go deep: a counterexample is written by a function that calls itself once for each of at
  * most 200 steps, with less than 640 bytes each time, and tests/api/deepest goes as deep as that; the readers of an expression call each
  * other once for each of at most 32 brackets, with less than 3,400 bytes each time, and the stored cases go as deep as that; and a number is
- * printed digit by digit, at most 20. Of what the check of an outline takes, 129,024 bytes are the three tables for two watched resources, which
- * no policy asks for yet.
+ * printed digit by digit, at most 20. Of what the check of an outline takes, 129,024 bytes are the three tables for two watched resources, and of
+ * what a counterexample takes, 731,136 are the table of lengths for both dynamic resources; a call takes them whatever its policies are.
  *
  * Asked of every call, and not tested: a pointer is not null and points to as many elements as is told, also where that is 0; it has its
  * type's alignment; and an array that is lent to be changed overlaps no other.
@@ -29,10 +29,10 @@
 #define WIFOREKUN_START_STACK 512
 #define WIFOREKUN_JUDGE_STACK 4096
 #define WIFOREKUN_CHECK_STACK 163840
-#define WIFOREKUN_COUNTEREXAMPLE_STACK 262144
+#define WIFOREKUN_COUNTEREXAMPLE_STACK 1179648
 #define WIFOREKUN_REPORT_TRACE_STACK 131072
 #define WIFOREKUN_REPORT_OUTLINE_STACK 163840
-#define WIFOREKUN_REPORT_COUNTEREXAMPLE_STACK 262144
+#define WIFOREKUN_REPORT_COUNTEREXAMPLE_STACK 1179648
 #define WIFOREKUN_SUMMARY_STACK 163840
 #define WIFOREKUN_JUDGE_LEAN_STACK 4096
 #define WIFOREKUN_REPORT_SUMMARY_STACK 163840
@@ -78,7 +78,7 @@ extern "C" {
 
 struct wiforekun_state {
     uint8_t sets[WIFOREKUN_SETS_LENGTH];         /* the states that each instance may be in, as bits */
-    uint8_t pairs[WIFOREKUN_PAIRS_LENGTH];       /* sets of the policies about two resources; none can be written yet */
+    uint8_t pairs[WIFOREKUN_PAIRS_LENGTH];       /* the same of each two resources, for the policies about two */
     uint8_t possible[WIFOREKUN_POSSIBLE_LENGTH]; /* for each policy the states that any of its instances may be in, as bits */
     uint32_t created[WIFOREKUN_CREATED_LENGTH];  /* the live dynamic resources, in the order of their creation */
     uint8_t unclosed[WIFOREKUN_UNCLOSED_LENGTH]; /* for each policy its openings that are not closed */
@@ -113,8 +113,13 @@ static inline void wiforekun_start(struct wiforekun_state *state) {
  * `created` from the count on, and of `order` from its length on, are not looked at.
  * Of each policy `sets` has 82 places in turn: the static resources, one that never occurs, the retired ones in one set, and the live ones in
  * the order of `created`. A retiring joins the resource's set to that of the retired; the live ones behind it move up by one place, in
- * `created` and in `sets`, and the last place keeps what it held. `pairs` has two blocks of 82 times 82 places; one that no policy has, as none can yet, is
- * left as it was. */
+ * `created` and in `sets`, and the last place keeps what it held.
+ * Of each policy about two resources, the lower one first, `pairs` has a block of 82 rows of 82 places: the row is that of x and the place
+ * in it that of y, counted as in `sets`. The rows in use are the first 18 and one for each live resource; in them a place of y that no live
+ * resource has holds what that of the one which never occurs holds. 42 asks nothing of `pairs`. An event gathers `possible` of these policies
+ * from their rows in use; their own part of `sets` moves on and is not looked at. A retiring joins the resource's row and place to those of the
+ * retired, those behind it move up, and what they leave is made that of the one which never occurs. A block that no policy has is left as
+ * it was. */
 uint32_t wiforekun_judge_parts(const uint8_t *edges, size_t edges_length, uint32_t local, uint8_t *sets, uint8_t *pairs,
                                uint8_t *possible, uint32_t *created, uint8_t *unclosed, uint8_t *order, uint64_t *numbers,
                                uint32_t kind, uint32_t a, uint32_t b);

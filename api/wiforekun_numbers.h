@@ -24,6 +24,7 @@
 #define WIFOREKUN_ON_STATIC 0u
 #define WIFOREKUN_ON_X 1u
 #define WIFOREKUN_ON_OTHERS 2u
+#define WIFOREKUN_ON_Y 3u
 
 /* an answer */
 #define WIFOREKUN_ALLOWED 0u
@@ -43,7 +44,7 @@
 #define WIFOREKUN_REFUSED_OTHER_BYTE 11u /* a byte in a line is no digit, space or line feed */
 #define WIFOREKUN_REFUSED_OVERLONG 12u /* a value has more than ten digits */
 #define WIFOREKUN_REFUSED_NO_LINE_FEED 13u /* the last line feed is missing */
-#define WIFOREKUN_REFUSED_THIRD_PAIR 14u /* an edge on y makes a third policy about two resources; no sheet can have one yet */
+#define WIFOREKUN_REFUSED_THIRD_PAIR 14u /* an edge on y makes a third policy about two resources */
 #define WIFOREKUN_REFUSED_EXPRESSION_BYTE 15u /* a byte, or the end, that no line could have there */
 #define WIFOREKUN_REFUSED_NESTED_TOO_DEEP 16u /* brackets nest more than 32 deep */
 #define WIFOREKUN_REFUSED_TOO_MANY_NODES 17u /* there are more than 64 nodes */

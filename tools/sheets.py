@@ -25,9 +25,9 @@ DIGITS = 10
 EVENT, OPEN, CLOSE, RETIRE = range(4)
 # the kinds of a node
 END, STATIC, NAMED, THEN, EITHER, LOOP, BACK, FRESH, SANDBOX = range(9)
-# on what an edge is. "on" is below KINDS_OF_ON in every sheet: with 4 there are policies about two resources, x and y
+# on what an edge is; one on y makes its policy one about two resources, x and y
 ON_STATIC, ON_X, ON_OTHERS, ON_Y = range(4)
-KINDS_OF_ON = 3
+KINDS_OF_ON = 4
 MOST_PAIRS = 2
 
 # the numbers of a malformed line, by what is wrong with it, in the order in which they are looked for

@@ -35,6 +35,9 @@ pub fn verify(rng: &mut Rng) -> [usize; 3] {
     for round in 0..3000 {
         let (nodes, edges) = (rng.between(2, 40) as usize, rng.below(60) as usize);
         let mut outline = inputs::grown(rng, nodes, edges, false);
+        if round % 2 == 0 {
+            outline.edges = inputs::with_pairs(rng, outline.edges);
+        }
         outline.local = [0, 1, 1, 0, 1, 0, 0, 1, 2][round % 9];
         if round % 4 == 0 {
             let at = rng.below(outline.nodes.len() as u64) as usize;
@@ -133,6 +136,25 @@ pub fn summary_rows(chosen: impl Fn(&str) -> bool) {
             }
         });
         println!("{}\t2\t{name}", outlines.len());
+    }
+}
+
+/// A counterexample of a pair policy beside its check, both proved.
+pub fn pair_trace_rows(chosen: impl Fn(&str) -> bool) {
+    for statics in [4, 16] {
+        let name = format!("counterexample beside the check, pair policy, {statics} statics");
+        if !chosen(&name) {
+            continue;
+        }
+        let Outline { edges, local, nodes } = inputs::paired(&mut Rng::new(4), statics, true);
+        let mut trace = [0; COUNTEREXAMPLE_ROOM];
+        measured(&mut || {
+            black_box(proved_explain(black_box(&edges), local, black_box(&nodes), &mut trace));
+        });
+        measured(&mut || {
+            black_box(proved_check(black_box(&edges), local, black_box(&nodes)));
+        });
+        println!("1\t2\t{name}");
     }
 }
 

@@ -26,6 +26,30 @@ pub fn quiet_edges(rng: &mut Rng, count: usize, actions: u64) -> Vec<u8> {
     edges
 }
 
+/// Actions of the edges of `pair_edges`, and what an event with each makes of the pair policies.
+pub const PAIR_ACTIONS: [(u32, &str); 5] = [
+    (9, "no edge has its action"),
+    (10, "edges on x and y"),
+    (11, "and on others, one state moves"),
+    (12, "and on others, two states move"),
+    (13, "and on others, all states move"),
+];
+
+/// Policies 0 and 1 are pair policies, with edges of those actions; 48 more edges are of the others, with actions 0 to 7.
+pub fn pair_edges(rng: &mut Rng) -> Vec<u8> {
+    let mut edges = quiet_edges(rng, 48, 8);
+    edges.chunks_exact_mut(6).for_each(|edge| edge[0] = 2 + edge[0] % 6);
+    for policy in [0, 1] {
+        for action in 10..=13 {
+            edges.extend([policy, 0, action, 1, 0, 1, policy, 1, action, 3, 0, 2]);
+        }
+        edges.extend([policy, 1, 11, 2, 0, 2]);
+        edges.extend([policy, 0, 12, 2, 0, 1, policy, 1, 12, 2, 0, 2]);
+        (0..8).for_each(|state| edges.extend([policy, state, 13, 2, 0, (state + 1) % 6]));
+    }
+    edges
+}
+
 /// Edges of which some lead to offending states.
 pub fn loud_edges(rng: &mut Rng, count: usize) -> Vec<u8> {
     let palette = Palette { actions: (1..6).collect(), statics: (0..4).collect(), policies: (0..8).collect() };
@@ -179,4 +203,33 @@ pub fn hard_refused(rng: &mut Rng, nodes: usize, policy: u8) -> Outline {
     let last = |edge: &&mut [u8]| edge[0] == policy && edge[1] == 5;
     outline.edges.chunks_exact_mut(6).filter(last).for_each(|edge| edge[5] = 6);
     outline
+}
+
+/// A pair policy opened twice around the loop, with so many statics named by its events, two in three of which are on statics: 64 nodes and 256 edges. It
+/// comes to no offending state, or, by its last edge, to one.
+pub fn paired(rng: &mut Rng, statics: u64, refused: bool) -> Outline {
+    let mut tree = Tree::Back(0);
+    for n in 0..27 {
+        let event = if n % 3 == 0 { Tree::Named(1 + n % 4, n / 3 % 4) } else { Tree::Static(1 + n % 4, (n - n / 3 - 1) % statics) };
+        tree = if n % 2 == 0 { sequence(event, tree) } else { sequence(tree, event) };
+    }
+    let named = (0..4).fold(tree, |tree, name| fresh(name, tree));
+    let nodes = table(&number(rng, &sandbox(0, sandbox(0, looped(0, choice(Tree::End, named))))));
+    let mut edges = Vec::new();
+    for _ in 0..255 {
+        let on = rng.below(4);
+        let who = if on == 0 { rng.below(statics) } else { 0 };
+        edges.extend([0, rng.below(6), rng.below(5), on, who, rng.below(6)].map(|n| n as u8));
+    }
+    edges.extend([0, 5, 1, 3, 0, if refused { 6 } else { 5 }]);
+    Outline { edges, local: 0, nodes }
+}
+
+/// Edges, but that two of their policies are about two resources.
+pub fn with_pairs(rng: &mut Rng, mut edges: Vec<u8>) -> Vec<u8> {
+    let pair = [rng.below(8) as u8, rng.below(8) as u8];
+    for edge in edges.chunks_exact_mut(6).filter(|edge| edge[3] > 0 && pair.contains(&edge[0])) {
+        edge[3] = rng.between(1, 3) as u8;
+    }
+    edges
 }

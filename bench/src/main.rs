@@ -14,6 +14,8 @@ mod judging;
 mod modelcheck;
 mod monitor;
 mod outlines;
+mod paircheck;
+mod pairs;
 mod reading;
 mod rules;
 mod shortest;
@@ -56,6 +58,7 @@ fn rows(only: &str) {
     judging::lean_rows(chosen);
     checking::rows(chosen);
     checking::summary_rows(chosen);
+    checking::pair_trace_rows(chosen);
     reading::rows(chosen);
     writing::rows(chosen);
     expressions::rows(chosen);

@@ -1,6 +1,7 @@
 //! Plain Rust: the check of an outline, as crates/checker has it.
 
-use crate::automaton::{edge_table_ok, rows};
+use crate::automaton::{edge_table, rows};
+use crate::paircheck;
 use crate::rules::node_table_ok;
 
 /// 48 sets to a node. Of what a node ends in: eight starts to each of six meanings. Of the rows: eight for others' events and eight for
@@ -293,8 +294,9 @@ fn pass_node(u: &mut Table, ends: Ends, rows: &Table, watch: Watch, node: Node) 
 
 fn pass_round(u: &mut Table, ends: Ends, nodes: &[u8], rows: &Table, watch: Watch) -> bool {
     let mut changed = false;
-    for k in 0..nodes.len() / 3 {
-        changed |= pass_node(u, ends, rows, watch, node(nodes, k));
+    // events and ends lead to no other node
+    for node in (0..nodes.len() / 3).map(|k| node(nodes, k)).filter(|node| node.kind >= 3) {
+        changed |= pass_node(u, ends, rows, watch, node);
     }
     changed
 }
@@ -371,12 +373,15 @@ fn touched(nodes: &[u8], x: usize) -> bool {
     x == 16 || nodes.chunks_exact(3).any(|node| node[0] == 1 && usize::from(node[2]) == x)
 }
 
-fn leaves(edges: &[u8], local: bool, nodes: &[u8], policy: usize) -> bool {
+fn leaves(edges: &[u8], local: bool, nodes: &[u8], policy: usize, pair: bool) -> bool {
     if !nodes.chunks_exact(3).any(|node| node[0] == 8 && usize::from(node[1]) == policy) {
         return false;
     }
     if !edges.chunks_exact(6).any(|edge| usize::from(edge[0]) == policy) {
         return false;
+    }
+    if pair {
+        return paircheck::broken(edges, local, nodes, policy);
     }
     let mut table = [0; 3072];
     fill_rows(&mut table, edges, nodes, policy);
@@ -388,8 +393,6 @@ fn leaves(edges: &[u8], local: bool, nodes: &[u8], policy: usize) -> bool {
 /// 0 where the outline is accepted, 256 + the lowest policy that some trace leaves open and not respected, or 512 + a refusal. `local` is
 /// 0 where the whole past counts, and 1 where that of the sandbox does.
 pub fn check(edges: &[u8], local: u32, nodes: &[u8]) -> u32 {
-    if local > 1 || !edge_table_ok(edges) || !node_table_ok(nodes) {
-        return 512 + 41;
-    }
-    (0..8).find(|p| leaves(edges, local == 1, nodes, *p)).map_or(0, |p| 256 + p as u32)
+    let Some(pairs) = edge_table(edges).filter(|_| local <= 1 && node_table_ok(nodes)) else { return 512 + 41 };
+    (0..8).find(|p| leaves(edges, local == 1, nodes, *p, pairs >> p & 1 == 1)).map_or(0, |p| 256 + p as u32)
 }

@@ -1,6 +1,7 @@
 //! Plain Rust: one step of the judge, as crates/monitor has it.
 
-use crate::automaton::{edge_table_ok, image, rows};
+use crate::automaton::{edge_table, image, rows, rows_by_place};
+use crate::pairs::{self, Sets, Ways};
 
 const INSTANCES: usize = 82;
 const NEVER_OCCURRED: usize = 16;
@@ -10,6 +11,8 @@ const FIRST_LIVE: usize = 18;
 #[derive(Clone, PartialEq, Eq)]
 pub struct State {
     pub sets: [u8; 656],
+    /// Those of the two pair policies, the lower one's first.
+    pub pairs: [Sets; 2],
     /// For each policy what any of its instances may be in.
     pub possible: [u8; 8],
     pub created: [u32; 64],
@@ -41,6 +44,7 @@ impl Answer {
 
 pub const START: State = State {
     sets: [1; 656],
+    pairs: [[1; 6724]; 2],
     possible: [1; 8],
     created: [0; 64],
     count: 0,
@@ -104,7 +108,7 @@ impl State {
         (bad != 0).then(|| bad.trailing_zeros() as u8)
     }
 
-    fn event(&mut self, edges: &[u8], action: u32, resource: u32) -> Answer {
+    fn event(&mut self, edges: &[u8], which: [usize; 2], action: u32, resource: u32) -> Answer {
         let before = self.count;
         let mut at = self.place(resource);
         if action == 0 {
@@ -129,11 +133,24 @@ impl State {
                 sets[at] = sets[NEVER_OCCURRED];
             }
         }
-        let (own, other) = rows(edges, action, resource);
+        let (own, other, ways) = if which[0] < 8 {
+            let tables @ [neither, first, ..] = rows_by_place(edges, action, resource);
+            (first, neither, Some(which.map(|policy| ways_of(&tables, policy))))
+        } else {
+            let (own, other) = rows(edges, action, resource);
+            (own, other, None)
+        };
         let mut possible = [0; 8];
         let policies = self.sets.chunks_exact_mut(INSTANCES).zip(own.chunks_exact(8)).zip(other.chunks_exact(8));
         for (((sets, own), other), possible) in policies.zip(&mut possible) {
             *possible = move_policy(&mut sets[..FIRST_LIVE + self.count], at, own.try_into().unwrap(), other.try_into().unwrap());
+        }
+        let (n, creates) = (FIRST_LIVE + self.count, action == 0);
+        // what the event leads to is known before any of these sets is moved, so that nothing of them is put back
+        for (i, ways) in ways.iter().flatten().enumerate() {
+            if which[i] < 8 {
+                possible[which[i]] = pairs::lead(&mut self.pairs[i], n, at, creates, ways);
+            }
         }
         if let Some(policy) = self.broken(&possible) {
             self.sets = sets_before;
@@ -142,6 +159,11 @@ impl State {
             return Answer::Violated(policy);
         }
         self.possible = possible;
+        for (i, ways) in ways.iter().flatten().enumerate() {
+            if which[i] < 8 {
+                pairs::take(&mut self.pairs[i], n, at, creates, ways);
+            }
+        }
         if action == 0 {
             self.created[before] = resource;
             self.highest = resource;
@@ -149,7 +171,7 @@ impl State {
         Answer::Allowed
     }
 
-    fn opening(&mut self, local: bool, policy: u8) -> Answer {
+    fn opening(&mut self, which: [usize; 2], local: bool, policy: u8) -> Answer {
         let at = usize::from(policy);
         if self.depth >= 64 {
             return Answer::Refused(32);
@@ -169,6 +191,9 @@ impl State {
             // only now: nothing is to be put back
             self.possible = possible;
             self.sets[INSTANCES * at..][..FIRST_LIVE + self.count].fill(1);
+            for (sets, _) in self.pairs.iter_mut().zip(which).filter(|(_, policy)| *policy == at) {
+                pairs::reset(sets, FIRST_LIVE + self.count);
+            }
         }
         self.order[self.depth] = policy;
         self.depth += 1;
@@ -193,7 +218,7 @@ impl State {
         Answer::Allowed
     }
 
-    fn retiring(&mut self, resource: u32) -> Answer {
+    fn retiring(&mut self, which: [usize; 2], resource: u32) -> Answer {
         let at = self.place(resource);
         if at < FIRST_LIVE {
             return Answer::Refused(28);
@@ -205,6 +230,9 @@ impl State {
         for sets in self.sets.chunks_exact_mut(INSTANCES) {
             sets[RETIRED] |= sets[at];
             sets.copy_within(at + 1..FIRST_LIVE + self.count, at);
+        }
+        for (sets, _) in self.pairs.iter_mut().zip(which).filter(|(_, policy)| *policy < 8) {
+            pairs::retire(sets, FIRST_LIVE + self.count, at);
         }
         self.created.copy_within(at - FIRST_LIVE + 1..self.count, at - FIRST_LIVE);
         self.count -= 1;
@@ -251,22 +279,28 @@ fn move_policy(sets: &mut [u8], at: usize, own: &[u8; 8], other: &[u8; 8]) -> u8
     all | moved
 }
 
+/// The ways of a policy out of the rows of all; those that leave every state where it is for a number that is none.
+fn ways_of(tables: &[[u8; 64]; 4], policy: usize) -> Ways {
+    let [neither, first, second, both] = tables.each_ref().map(|table| table.get(8 * policy..8 * policy + 8).map_or(STAY, |rows| rows.try_into().unwrap()));
+    Ways { neither, first, second, both }
+}
+
 /// One step. `local` is 0 where the whole past counts, and 1 where that of the sandbox does.
 pub fn judge(edges: &[u8], local: u32, state: &mut State, kind: u32, a: u32, b: u32) -> Answer {
-    if local > 1 || !edge_table_ok(edges) {
-        return Answer::Refused(41);
-    }
+    let Some(pairs) = edge_table(edges).filter(|_| local <= 1) else { return Answer::Refused(41) };
     if !state.ok() {
         return Answer::Refused(42);
     }
     if state.halted {
         return Answer::Refused(20);
     }
+    // the two lowest pair policies, 8 where there is none
+    let which = [pairs, pairs & pairs.wrapping_sub(1)].map(|pairs| pairs.trailing_zeros() as usize);
     match (kind, a, b) {
-        (0, 0..=31, _) => state.event(edges, a, b),
-        (1, 0..=7, 0) => state.opening(local == 1, a as u8),
+        (0, 0..=31, _) => state.event(edges, which, a, b),
+        (1, 0..=7, 0) => state.opening(which, local == 1, a as u8),
         (2, 0..=7, 0) => state.closing(a as u8),
-        (3, _, 0) => state.retiring(a),
+        (3, _, 0) => state.retiring(which, a),
         _ => Answer::Refused(21),
     }
 }

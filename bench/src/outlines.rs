@@ -1,6 +1,6 @@
 //! Outlines that are measured: random ones, hard ones, and the dearest that were found.
 
-use crate::inputs::{grown, hard, hard_with, Outline};
+use crate::inputs::{grown, hard, hard_with, paired, Outline};
 use crate::modelcheck::check;
 use reference::rng::Rng;
 
@@ -19,7 +19,15 @@ pub fn cases() -> Vec<Case> {
     cases.push(offending(1));
     cases.extend(single(1));
     cases.extend(growth());
+    cases.extend([(4, 0), (16, 0), (4, 1), (16, 1)].map(|(statics, local)| pair(statics, local)));
     cases
+}
+
+/// One pair policy, with so many statics named.
+fn pair(statics: u64, local: u32) -> Case {
+    let outline = Outline { local, ..paired(&mut Rng::new(4), statics, false) };
+    let words = sizes(local, outline.nodes.len() / 3, outline.edges.len() / 6);
+    (format!("pair policy, {statics} statics: {words}"), vec![outline])
 }
 
 /// The words of a row: which past, and how many nodes and edges.

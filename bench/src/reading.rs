@@ -18,16 +18,18 @@ pub struct Sheet {
     most: usize,
     fields: usize,
     fits: fn(&[u32]) -> bool,
+    /// The policy of an edge on y; none for any other row.
+    pair: fn(&[u32]) -> Option<u32>,
 }
 
 const WHOLE: &[u8] = b"policy from action on who to\n";
 const LOCAL: &[u8] = b"local from action on who to\n";
-pub const POLICIES: Sheet = Sheet { names: &[WHOLE, LOCAL], most: 256, fields: 6, fits: edge_fits };
-const TRACE: Sheet = Sheet { names: &[b"kind a b\n"], most: 2_000, fields: 3, fits: step_fits };
+pub const POLICIES: Sheet = Sheet { names: &[WHOLE, LOCAL], most: 256, fields: 6, fits: edge_fits, pair: |row| (row[3] == 3).then_some(row[0]) };
+const TRACE: Sheet = Sheet { names: &[b"kind a b\n"], most: 2_000, fields: 3, fits: step_fits, pair: |_| None };
 
 fn edge_fits(row: &[u32]) -> bool {
     let who = if row[3] == 0 { 15 } else { 0 };
-    row[0] < 8 && row[1] < 8 && row[2] < 32 && row[3] < 3 && row[4] <= who && row[5] < 8
+    row[0] < 8 && row[1] < 8 && row[2] < 32 && row[3] < 4 && row[4] <= who && row[5] < 8
 }
 
 fn step_fits(row: &[u32]) -> bool {
@@ -50,6 +52,7 @@ pub fn read(text: &[u8], sheet: &Sheet, table: &mut [u32]) -> Result<usize, (usi
     };
     let mut i = names.len();
     let mut lines = 0;
+    let mut pairs = 0_u32;
     while i < text.len() {
         if lines == sheet.most {
             return Err((lines + 2, 4));
@@ -93,6 +96,12 @@ pub fn read(text: &[u8], sheet: &Sheet, table: &mut [u32]) -> Result<usize, (usi
         row[count] = value as u32;
         if large || !(sheet.fits)(row) {
             return Err((lines + 2, 3));
+        }
+        if let Some(policy) = (sheet.pair)(row) {
+            pairs |= 1 << policy;
+            if pairs.count_ones() > 2 {
+                return Err((lines + 2, 14));
+            }
         }
         lines += 1;
     }

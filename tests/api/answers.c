@@ -72,6 +72,38 @@ static void either_past(enum place place, uint32_t local, uint32_t answer) {
     give_back(table);
 }
 
+/* A policy about two resources has its states in the first block, x by row and y by place, and the second block keeps what it held. */
+static void two_resources(enum place place) {
+    static const uint8_t edges[] = {5, 0, 1, WIFOREKUN_ON_X, 0, 1, 5, 1, 2, WIFOREKUN_ON_Y, 0, 2, 5, 2, 3, WIFOREKUN_ON_OTHERS, 0, 6};
+    static const uint32_t allowed[4][3] = {{1, 5, 0}, {0, 1, 3}, {0, 2, 4}, {0, 3, 4}}, other[3] = {0, 3, 7};
+    enum { ROW = 82, BLOCK = ROW * ROW, UNUSED = 16 };
+    struct wiforekun_state plain;
+    wiforekun_start(&plain);
+    memset(plain.pairs + BLOCK, 200, BLOCK);
+    struct lent table = lend_to_read(edges, sizeof edges);
+    struct parts parts = lend_state(&plain, place);
+    for (size_t i = 0; i < sizeof allowed / sizeof *allowed; i++) REQUIRE(judge(&parts, table, allowed[i]) == 0);
+    const uint8_t *pairs = parts.pairs.bytes;
+    REQUIRE(pairs[ROW * 3 + 4] == 4 && pairs[ROW * 3 + 3] == 2 && pairs[ROW * 4 + 3] == 1);
+    REQUIRE(pairs[ROW * 3 + UNUSED] == 2 && pairs[ROW * 3 + ROW - 1] == 2);
+    REQUIRE(parts.possible.bytes[5] == 7);
+    REQUIRE(!memcmp(pairs + BLOCK, plain.pairs + BLOCK, BLOCK));
+    REQUIRE(judge(&parts, table, other) == 256 + 5);
+    REQUIRE(pairs[ROW * 3 + 4] == 4);
+    give_state_back(&parts);
+    give_back(table);
+}
+
+/* Three policies about two resources are refused with 41, two are not. */
+static void third_pair(void) {
+    static uint8_t edges[] = {0, 0, 1, WIFOREKUN_ON_Y, 0, 1, 7, 0, 1, WIFOREKUN_ON_Y, 0, 1, 3, 0, 1, WIFOREKUN_ON_X, 0, 1};
+    static const uint8_t end[WIFOREKUN_NODE_BYTES] = {0, 0, 0};
+    edges[15] = WIFOREKUN_ON_X;
+    REQUIRE(wiforekun_check(edges, sizeof edges, WIFOREKUN_WHOLE, end, sizeof end) == 0);
+    edges[15] = WIFOREKUN_ON_Y;
+    REQUIRE(wiforekun_check(edges, sizeof edges, WIFOREKUN_WHOLE, end, sizeof end) == 512 + WIFOREKUN_REFUSED_TABLE);
+}
+
 /* A past that is neither is refused with 41, before a state with 42. */
 static void neither_past(void) {
     static const uint8_t edges[] = {0, 0, 1, 1, 0, 1};
@@ -210,10 +242,12 @@ int main(void) {
         retiring(place);
         either_past(place, WIFOREKUN_WHOLE, 256);
         either_past(place, WIFOREKUN_LOCAL, 0);
+        two_resources(place);
     }
     refusals();
     orders();
     neither_past();
+    third_pair();
     puts("tests/api/answers: all as they must be");
     return 0;
 }

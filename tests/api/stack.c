@@ -10,7 +10,7 @@
 #include <sys/mman.h>
 #include <ucontext.h>
 
-#define SIZE ((size_t)1 << 20)
+#define SIZE ((size_t)1 << 21)
 #define PAINT 0xa5
 #define MOST 40000
 

@@ -310,7 +310,7 @@ impl fmt::Debug for Trace {
 pub struct State {
     /// The states that each instance may be in, as bits.
     pub sets: [u8; SETS_LENGTH],
-    /// The sets of the policies about two resources; none can be written yet.
+    /// The states that each instance of the policies about two resources may be in, as bits; the lower policy first.
     pub pairs: [u8; PAIRS_LENGTH],
     /// For each policy the states that any of its instances may be in, as bits: what each event gathers anew, and what openings, closings
     /// and retirings are judged by.

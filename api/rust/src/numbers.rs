@@ -26,7 +26,7 @@ impl Refusal {
     pub const OVERLONG: Refusal = Refusal(12);
     /// 13: the last line feed is missing.
     pub const NO_LINE_FEED: Refusal = Refusal(13);
-    /// 14: an edge on y makes a third policy about two resources; no sheet can have one yet.
+    /// 14: an edge on y makes a third policy about two resources.
     pub const THIRD_PAIR: Refusal = Refusal(14);
     /// 15: a byte, or the end, that no line could have there.
     pub const EXPRESSION_BYTE: Refusal = Refusal(15);
@@ -83,7 +83,7 @@ impl Refusal {
             11 => Some("a byte in a line is no digit, space or line feed"),
             12 => Some("a value has more than ten digits"),
             13 => Some("the last line feed is missing"),
-            14 => Some("an edge on y makes a third policy about two resources; no sheet can have one yet"),
+            14 => Some("an edge on y makes a third policy about two resources"),
             15 => Some("a byte, or the end, that no line could have there"),
             16 => Some("brackets nest more than 32 deep"),
             17 => Some("there are more than 64 nodes"),

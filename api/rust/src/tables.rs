@@ -9,8 +9,10 @@ pub enum On {
     Static(u8),
     /// x, the resource that the instance belongs to.
     X,
-    /// Any resource other than x.
+    /// Any resource other than x; in a policy about two resources, any that is neither x nor y.
     Others,
+    /// y, the second resource of the instance. An edge on it makes its policy one about two resources, of which a table has at most two.
+    Y,
 }
 
 /// An edge of a policy: six bytes, in the order of the sheet. Values out of their range are refused where the table is lent, with
@@ -24,7 +26,7 @@ pub struct Edge {
     pub from: u8,
     /// The action, 0 to 31.
     pub action: u8,
-    /// 0 the static resource `who`, 1 x, 2 others than x.
+    /// 0 the static resource `who`, 1 x, 2 others than x (and y), 3 y.
     pub on: u8,
     /// The static resource where `on` is 0, else 0.
     pub who: u8,
@@ -40,6 +42,7 @@ impl Edge {
             On::Static(who) => (0, who),
             On::X => (1, 0),
             On::Others => (2, 0),
+            On::Y => (3, 0),
         };
         Edge { policy, from, action, on, who, to }
     }

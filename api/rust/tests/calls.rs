@@ -291,6 +291,30 @@ fn records_are_the_same_bytes() {
     assert_eq!(check(&[Edge::new(0, 0, 4, On::Others, 6)], Past::Whole, &[Node::sandbox(0, 1), Node::on_static(4, 3)]), Outcome::Named(0));
 }
 
+/// After reading one reference and driving from one, use no others.
+#[test]
+fn policies_about_two_resources() {
+    let no_others = [Edge::new(2, 0, 2, On::X, 1), Edge::new(2, 1, 3, On::Y, 2), Edge::new(2, 2, 4, On::Others, 6)];
+    assert_eq!(no_others[1], Edge { policy: 2, from: 1, action: 3, on: 3, who: 0, to: 2 });
+    let mut state = State::start();
+    let creates = [Step::event(0, 16), Step::event(0, 17), Step::event(0, 18)];
+    let allowed = [Step::open(2), Step::event(2, 16), Step::event(3, 17), Step::event(4, 16), Step::event(4, 17)];
+    for step in creates.into_iter().chain(allowed) {
+        assert_eq!(state.judge(&no_others, Past::Whole, step), Answer::Allowed);
+    }
+    assert_eq!(state.judge(&no_others, Past::Whole, Step::event(4, 18)), Answer::Violated(2));
+    let used = |last: u8| {
+        let nodes = [Node::sandbox(2, 1), Node::then(2, 3), Node::on_static(2, 1), Node::then(4, 5), Node::on_static(3, 4), Node::on_static(4, last)];
+        check(&no_others, Past::Whole, &nodes)
+    };
+    assert_eq!([used(1), used(4), used(5)], [Outcome::Accepted, Outcome::Accepted, Outcome::Named(2)]);
+    // two policies may be about two resources, and no third
+    let on_y = |policy: u8| Edge::new(policy, 0, 1, On::Y, 1);
+    let tables = [vec![on_y(0), on_y(7), on_y(0)], vec![on_y(0), on_y(7), on_y(3)]];
+    let told = tables.map(|edges| check(&edges[..], Past::Whole, &[Node::END]));
+    assert_eq!(told, [Outcome::Accepted, Outcome::Refused(Refusal::TABLE)]);
+}
+
 #[test]
 fn refusals_in_words() {
     assert_eq!(Refusal::HALTED.to_string(), "20: the run is halted already");

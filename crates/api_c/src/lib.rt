@@ -74,9 +74,9 @@ const NUMBERS: usize = 4;
 const MOST_NUMBER: u64 = 4294967295;
 
 // One step of the judge, under the choice of past `local`. The state lies in the lent parts: the sets, those of the policies about two
-// resources, of which none can be written yet, what each policy may be in, the numbers of the live resources, the counts of unclosed openings and their order, and in `numbers` how many resources are live, a flag, 1
-// where the state is halted and 0 where it is not, how many openings are not closed, and the highest number that was created. All of them
-// then hold the state that the judge returns; after a refusal they are as they were lent.
+// resources, what each policy may be in, the numbers of the live resources, the counts of unclosed openings and their order, and in
+// `numbers` how many resources are live, a flag, 1 where the state is halted and 0 where it is not, how many openings are not closed, and
+// the highest number that was created. All of them then hold the state that the judge returns; after a refusal they are as they were lent.
 #[unsafe(no_mangle)]
 pub extern "C" fn wiforekun_judge_parts(
     edges: &[u8],

@@ -1,6 +1,6 @@
 // The routine desk (02, L14) for callers in C and Rust: loads and steps over the bytes of its state (docs/DESK.md).
 ghost use Rattle.usage.specs.declared.RawStep.{RawStep};
-ghost use Rattle.desk.specs.Calls.{Called, ByPolicies, ByOutline, ByStep};
+ghost use Rattle.desk_state.specs.Calls.{Called, ByPolicies, ByOutline, ByStep};
 
 #[unsafe(no_mangle)]
 pub extern "C" fn wiforekun_desk_policies(state: &mut [u8], text: &[u8]) -> u32

@@ -7,7 +7,7 @@ use native.Mathlib.Nat.{zero-div, mod-lt, one-mul, mod-eq_of_lt}
 use native.Mathlib.Omega.{arith}
 use lib.Arith.{bin_ind, digits_mod}
 use lib.Dec.{eqb, ltb, leb, lit<}
-use lib.Bits.{bit_or, or_step, or_shr, or_mod, or_lt, or_add_and, and_le_l, and_le_r}
+use lib.Bits.{bit_and, bit_or, and_mask, or_step, or_shr, or_mod, or_lt, or_add_and, and_le_l, and_le_r}
 use lib.Count.{count_trailing_zeros}
 use lib.Pow.{pow-lt}
 use borrow.Author.Tests.{eq-eqb, eqb-true, leb-true, lt-ltb}
@@ -76,6 +76,11 @@ has-or a b q =
 pub has-zero : (q : ℕ) → has 0 q ≡ false
 unfolding has
 has-zero q = ap (λ (n : ℕ). eqb (n % 2) 1) (zero-div (2 ^ q))
+
+-- whether a number is in a set, as code asks it
+pub has-bit : (v j : ℕ) → eqb (bit_and (v / 2 ^ j) 1) 1 ≡ has v j
+unfolding has
+has-bit v j = ap (λ (n : ℕ). eqb n 1) (and_mask (v / 2 ^ j) 1)
 
 -- the power of two with one bit
 pow-test : all-below 8 (λ t. all-below 8 (λ q. beq (has (2 ^ t) q) (eqb t q))) ≡ true

@@ -16,13 +16,16 @@ use Rattle.usage.specs.declared.Node.{Node}
 use Rattle.usage.specs.Limits.{policies, most_nodes, node_fields, actions}
 use Rattle.usage.specs.Policy.{PairPolicy, EdgesOk}
 use Rattle.usage.specs.Outline.{Form, Is, end, static_event, named_event, sequence, choice, loop, back, fresh, sandbox}
-use Rattle.usage.specs.Tests.{Decides}
+use Rattle.usage.specs.Tests.{Decides, is_pair}
 use Rattle.usage.specs.Valid.{Scope, OutlineOk}
 use Rattle.usage.specs.Tables.{edges_of, nodes_of}
 use Rattle.usage.specs.Check.{Last, by_action, by_opening, CanBeLast, Leaves}
 use Rattle.usage.proofs.Logic.{not-both, none-some, false-true}
 use Rattle.usage.proofs.FormLaws.{form-ok}
 use Rattle.automaton.specs.Mask.{has, union, offends}
+use Rattle.automaton.specs.PairSet.{pair_set}
+use Rattle.automaton.proofs.PairSetLaws.{set-has}
+use Rattle.usage.proofs.ValidLaws.{decides-pair}
 use Rattle.automaton.proofs.MaskLaws.{same_test, all-below, all-below-at, some_at, some-found, union-has, has-zero}
 use Rattle.checker_account.specs.Account.{Hits}
 use Rattle.checker_account.specs.Pairs.{numbers}
@@ -40,9 +43,8 @@ use Rattle.checker_account.proofs.HitsTable.{hits-exact}
 use Rattle.checker_account.proofs.SearchLaws.{comes-held}
 use Rattle.checker_account.proofs.NodeLaws.{names-ok, targets-ok, forms-of}
 use Rattle.checker_tables.specs.Marks.{last_in, mark_bit_lem, hit_marks, MarkedBy, MarkedWith, MarkedAll}
-use Rattle.checker.specs.Code.{pair_in}
 use Rattle.checker.specs.Summary.{mark_bits, InTable, bit_of, MarksExact}
-use Rattle.checker.proofs.PolicyLaws.{few_nodes, pair-decides, rows_by, rows_for, rows_right}
+use Rattle.checker.proofs.PolicyLaws.{few_nodes, rows_by, rows_for, rows_right}
 
 -- ── Bits ──
 
@@ -248,19 +250,20 @@ module _ (local : Bool) (es : List Edge) (ns : List Node) (p : ℕ) (rows : Rows
 
 module _ (local : Bool) (e t : List ℕ) (edges : EdgesOk (edges_of e)) (ok : OutlineOk (nodes_of t)) where
   pub policy-exact : (p : ℕ) → p < policies → (r : List ℕ) → r ≡ rows_for local e t edges ok p
-      → (marks : ℕ) → MarkedAll local (rows_in r) p (pair_in e p) (length t / 3) (forms_in t) marks
+      → (marks : ℕ) → MarkedAll local (rows_in r) p (is_pair (edges_of e) p) (length t / 3) (forms_in t) marks
       → MarksExact local (edges_of e) (nodes_of t) p marks
   policy-exact p small r er marks h =
       let es = edges_of e in
       let ns = nodes_of t in
-      let all = subst (λ (u : List ℕ). MarkedAll local (rows_in u) p (pair_in e p) (length t / 3) (forms_in t) marks) er h in
-      marks-exact local es ns p (rows_in (rows_for local e t edges ok p)) (pair-decides local e t edges ok p) edges ok
+      let all = subst (λ (u : List ℕ). MarkedAll local (rows_in u) p (is_pair (edges_of e) p) (length t / 3) (forms_in t) marks) er h in
+      marks-exact local es ns p (rows_in (rows_for local e t edges ok p)) (decides-pair (edges_of e) p) edges ok
       (rows_right local e t edges ok p small) (names-ok ns ok) (targets-ok ns ok) (length t / 3) (forms_in t)
       (few_nodes local e t edges ok) (forms-of t) (Scope ns) (scoped ns ok) marks all
 
-  pub policy-exact-by : (p : ℕ) → p < policies → (pair : Bool) → pair ≡ pair_in e p → (r : List ℕ) → r ≡ rows_by local e t edges ok pair p
+  pub policy-exact-by : (p : ℕ) → p < policies → (pair : Bool) → pair ≡ has (pair_set (edges_of e)) p → (r : List ℕ) → r ≡ rows_by local e t edges ok pair p
       → (marks : ℕ) → MarkedAll local (rows_in r) p pair (length t / 3) (forms_in t) marks → MarksExact local (edges_of e) (nodes_of t) p marks
-  policy-exact-by p small pair same r er marks h =
+  policy-exact-by p small pair is r er marks h =
+      let same = is ∙ set-has (edges_of e) p small in
       policy-exact p small r (er ∙ ap (λ (b : Bool). rows_by local e t edges ok b p) same) marks
       (subst (λ (b : Bool). MarkedAll local (rows_in r) p b (length t / 3) (forms_in t) marks) same h)
 

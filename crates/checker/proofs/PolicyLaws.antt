@@ -13,10 +13,18 @@ use Rattle.usage.specs.Policy.{PairPolicy, EdgesOk}
 use Rattle.usage.specs.Valid.{Scope, OutlineOk}
 use Rattle.usage.specs.Tables.{edge_at, edges_of, nodes_of}
 use Rattle.usage.specs.Check.{Leaves, Checked, accepts, names}
-use Rattle.usage.specs.Tests.{Decides, some_below}
+use Rattle.usage.specs.Tests.{Decides, some_below, is_pair}
 use Rattle.usage.proofs.Logic.{false-true, and_left, and_right, and_both}
 use Rattle.automaton.specs.Move.{rows_at}
+use Rattle.automaton.specs.Mask.{has}
+use Rattle.automaton.specs.PairSet.{pair_set}
 use Rattle.automaton.proofs.MaskLaws.{some_at, some-found}
+use Rattle.automaton.proofs.PairSetLaws.{set-has}
+use Rattle.usage.proofs.ValidLaws.{decides-pair}
+use Rattle.usage.specs.Tables.{is_edge_table}
+use Rattle.sheet_fields.specs.declared.edges.Tested.{Tested}
+use Rattle.sheet_fields.specs.TableTest.{table_tested}
+use Rattle.sheet_fields.proofs.EdgeLaws.{table_fits}
 use Rattle.usage.proofs.TableLaws.{nodes-length, edges-member}
 use Rattle.checker_account.specs.Views.{views}
 use Rattle.checker_account.specs.Tables.{places, rows_in}
@@ -24,7 +32,7 @@ use Rattle.checker_account.specs.declared.Resources.{Resources}
 use Rattle.checker_account.specs.Filling.{forms_in, Asked, SearchedAll}
 use Rattle.checker_account.specs.Holds.{RowsOk}
 use Rattle.checker_account.specs.RowTable.{image_in, fill_rows}
-use Rattle.checker.specs.Code.{opens, has_edge_lem, policy_verdict, pair_in}
+use Rattle.checker.specs.Code.{opens, has_edge_lem, policy_verdict}
 use Rattle.checker_account.proofs.Exact.{exact}
 use Rattle.checker_account.proofs.RowLaws.{rows_ok}
 use Rattle.checker_account.proofs.RowTableLaws.{rows-from}
@@ -49,57 +57,35 @@ module _ (local : Bool) (e t : List ℕ) (edges : EdgesOk (edges_of e)) (ok : Ou
   pub bare : (p : ℕ) → has_edge_lem e p ≡ false → Decides false (Leaves local (edges_of e) (nodes_of t) p)
   bare p h = refuted p (bare-leaves local e (nodes_of t) p h)
 
-  -- a pair policy has an edge on the second resource
-  pub pair-decides : (p : ℕ) → Decides (pair_in e p) (PairPolicy (edges_of e) p)
-  unfolding pair_in
-  pair-decides p = (to, back)
-    where
-      to : some_below (λ i. eqb (get_or e (6 * i) 0) p && eqb (get_or e (6 * i + 3) 0) 3) (length e / 6) ≡ true → PairPolicy (edges_of e) p
-      to h =
-          let (i, l, f) = some-found (length e / 6) (λ i. eqb (get_or e (6 * i) 0) p && eqb (get_or e (6 * i + 3) 0) 3) h in
-          record {
-            edge = edge_at e i;
-            listed = (edges-member e (edge_at e i)).1 (i, l, refl);
-            policy = eqb-true (get_or e (6 * i) 0) p (and_left (eqb (get_or e (6 * i) 0) p) (eqb (get_or e (6 * i + 3) 0) 3) f);
-            second = eqb-true (get_or e (6 * i + 3) 0) 3 (and_right (eqb (get_or e (6 * i) 0) p) (eqb (get_or e (6 * i + 3) 0) 3) f);
-          }
-
-      back : PairPolicy (edges_of e) p → some_below (λ i. eqb (get_or e (6 * i) 0) p && eqb (get_or e (6 * i + 3) 0) 3) (length e / 6) ≡ true
-      back h =
-          let (i, l, f) = (edges-member e h.edge).0 h.listed in
-          some_at (length e / 6) (λ i. eqb (get_or e (6 * i) 0) p && eqb (get_or e (6 * i + 3) 0) 3) i l
-          (and_both (eqb (get_or e (6 * i) 0) p) (eqb (get_or e (6 * i + 3) 0) 3)
-          (eq-eqb (get_or e (6 * i) 0) p (ap (λ (g : Edge). g.policy) (sym f) ∙ h.policy))
-          (eq-eqb (get_or e (6 * i + 3) 0) 3 (ap (λ (g : Edge). g.on) (sym f) ∙ h.second)))
-
   -- the table of rows of a policy
   abbrev pub rows_by : Bool → ℕ → List ℕ
   rows_by pair p = fill_rows (rows_at (edges_of e)) pair p (length t / 3) (forms_in t) (replicate places 0)
 
   abbrev pub rows_for : ℕ → List ℕ
-  rows_for p = rows_by (pair_in e p) p
+  rows_for p = rows_by (is_pair (edges_of e) p) p
 
-  pub rows_right : (p : ℕ) → p < policies → (x : Resources) → Asked (pair_in e p) x
+  pub rows_right : (p : ℕ) → p < policies → (x : Resources) → Asked (is_pair (edges_of e) p) x
       → RowsOk (edges_of e) (nodes_of t) p x (rows_in (rows_for p))
   rows_right p small x asked =
       let es = edges_of e in
       let ns = nodes_of t in
-      let made = rows-from (rows_at es) (pair_in e p) p (forms_in t) (replicate places 0) refl ns (length t / 3) few_nodes (forms-of t) in
+      let made = rows-from (rows_at es) (is_pair (edges_of e) p) p (forms_in t) (replicate places 0) refl ns (length t / 3) few_nodes (forms-of t) in
       rows_ok es ns p x asked (rows_in (rows_for p)) (image_in (rows_at es) p) edges (names-ok ns ok) (event-image es edges p small) made
 
   pub looked : (p : ℕ) → p < policies → (r : List ℕ) → r ≡ rows_for p → (answer : Bool)
-      → SearchedAll local (rows_in r) p (pair_in e p) (length t / 3) (forms_in t) answer → Decides answer (Leaves local (edges_of e) (nodes_of t) p)
+      → SearchedAll local (rows_in r) p (is_pair (edges_of e) p) (length t / 3) (forms_in t) answer → Decides answer (Leaves local (edges_of e) (nodes_of t) p)
   looked p small r er answer h =
       let es = edges_of e in
       let ns = nodes_of t in
-      let rows = subst (λ (u : List ℕ). SearchedAll local (rows_in u) p (pair_in e p) (length t / 3) (forms_in t) answer) er h in
-      broken-exact local es ns p (rows_in (rows_for p)) (pair-decides p) edges (rows_right p small) (names-ok ns ok) (targets-ok ns ok)
+      let rows = subst (λ (u : List ℕ). SearchedAll local (rows_in u) p (is_pair (edges_of e) p) (length t / 3) (forms_in t) answer) er h in
+      broken-exact local es ns p (rows_in (rows_for p)) (decides-pair (edges_of e) p) edges (rows_right p small) (names-ok ns ok) (targets-ok ns ok)
       (length t / 3) (forms_in t) few_nodes (forms-of t) (Scope ns) (scoped ns ok) answer rows
 
   -- the same by what the code was told of the policy
-  pub looked-by : (p : ℕ) → p < policies → (pair : Bool) → pair ≡ pair_in e p → (r : List ℕ) → r ≡ rows_by pair p → (answer : Bool)
+  pub looked-by : (p : ℕ) → p < policies → (pair : Bool) → pair ≡ has (pair_set (edges_of e)) p → (r : List ℕ) → r ≡ rows_by pair p → (answer : Bool)
       → SearchedAll local (rows_in r) p pair (length t / 3) (forms_in t) answer → Decides answer (Leaves local (edges_of e) (nodes_of t) p)
-  looked-by p small pair same r er answer h =
+  looked-by p small pair is r er answer h =
+      let same = is ∙ set-has (edges_of e) p small in
       looked p small r (er ∙ ap (λ (b : Bool). rows_by b p) same) answer
       (subst (λ (b : Bool). SearchedAll local (rows_in r) p b (length t / 3) (forms_in t) answer) same h)
 
@@ -122,3 +108,14 @@ module _ (local : Bool) (e t : List ℕ) (edges : EdgesOk (edges_of e)) (ok : Ou
       go : (s : ℕ) → Leaves local (edges_of e) (nodes_of t) s → (b : Bool) → leb policies s ≡ b → ⊥
       go s l true f = none-higher s (leb-true policies s f) l
       go s l false f = h s (leb-false policies s f) l
+
+-- a table that passes 41 tells its pair policies
+pairs-told : (t : List ℕ) → is_edge_table t ≡ true → (table_tested t).pairs ≡ pair_set (edges_of t)
+unfolding table_tested
+pairs-told t e = rw e refl
+
+pub edge-told : (t : List ℕ) (s : Tested) → s ≡ table_tested t → is_edge_table t ≡ s.fits
+edge-told t s e = sym (table_fits t) ∙ ap (λ (s : Tested). s.fits) (sym e)
+
+pub pairs-are : (t : List ℕ) (s : Tested) → s ≡ table_tested t → s.fits ≡ true → s.pairs ≡ pair_set (edges_of t)
+pairs-are t s e h = ap (λ (s : Tested). s.pairs) e ∙ pairs-told t (edge-told t s e ∙ h)

@@ -15,13 +15,12 @@ use Rattle.usage.specs.Policy.{EdgesOk}
 use Rattle.usage.specs.Valid.{OutlineOk}
 use Rattle.usage.specs.Tables.{edges_of, nodes_of, EdgeTable, NodeTable, is_edge_table, is_node_table}
 use Rattle.usage.specs.Check.{Leaves, Checked, accepts, names}
-use Rattle.usage.specs.Tests.{Decides}
+use Rattle.usage.specs.Tests.{Decides, is_pair}
 use Rattle.usage.proofs.Logic.{by_cases, last-or-lower, false-true}
 use Rattle.usage.proofs.TableLaws.{decides-edge-table, decides-node-table}
 use Rattle.checker_account.specs.Tables.{rows_in}
 use Rattle.checker_account.specs.Filling.{forms_in}
 use Rattle.checker_account.proofs.FilledLaws.{searched-exists, rows-wide}
-use Rattle.checker.specs.Code.{pair_in}
 use Rattle.checker.specs.Promise.{RightVerdict, no_edges, no_nodes, checked, CheckPromise}
 use Rattle.checker.proofs.PolicyLaws.{rows_for, looked, none-higher}
 use Rattle.checker.proofs.PromiseLaws.{edges-refused, nodes-refused, right-promised}
@@ -33,7 +32,7 @@ module _ (local : Bool) (e t : List ℕ) (edges : EdgesOk (edges_of e)) (ok : Ou
   answer-exists : (p : ℕ) → p < policies → (answer : Bool) × Decides answer (Left p)
   answer-exists p small =
       let r = rows_for local e t edges ok p in
-      let (answer, s) = searched-exists local (rows_in r) p (rows-wide (edges_of e) (pair_in e p) p (length t / 3) (forms_in t)) (pair_in e p)
+      let (answer, s) = searched-exists local (rows_in r) p (rows-wide (edges_of e) (is_pair (edges_of e) p) p (length t / 3) (forms_in t)) (is_pair (edges_of e) p)
       (length t / 3) (forms_in t) in
       (answer, looked local e t edges ok p small r refl answer s)
 

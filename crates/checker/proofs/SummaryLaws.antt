@@ -36,8 +36,9 @@ use Rattle.checker_tables.specs.Search.{has_room}
 use Rattle.checker_tables.specs.Marks.{MarkedAll, MarkedIf}
 use Rattle.checker_tables.proofs.FitLaws.{outline-fits}
 use Rattle.checker_tables.proofs.ByStateLaws.{union_more}
-use Rattle.checker.specs.Code.{worth_of, MarkedIn, MarksWritten}
-use Rattle.checker.proofs.WorthLaws.{not-worth}
+use Rattle.checker_tables.specs.Search.{worth_of}
+use Rattle.checker.specs.Code.{MarkedIn, MarksWritten}
+use Rattle.checker_tables.proofs.WorthLaws.{not_worth}
 use Rattle.checker.specs.Summary.{mark_bits, InTable, bit_of, MarksExact, Exact, Summarized, told}
 
 module _ (nodes : List ℕ) (local : Bool) (rows : List ℕ) (p : ℕ) where
@@ -47,7 +48,7 @@ module _ (nodes : List ℕ) (local : Bool) (rows : List ℕ) (p : ℕ) where
   with-room x r ok h = inr (subst (λ (b : Bool). MarkedIf b nodes local rows p x r) (outline-fits nodes ok) h)
 
   pub with_none : (x : Resources) → worth_of nodes x ≡ false → MarkedIn nodes local rows p x 0
-  with_none x e = inl (not-worth nodes x e, refl)
+  with_none x e = inl (not_worth nodes x e, refl)
 
   module _ (pair : Bool) where
     -- the choices below i are watched, and their marks joined
@@ -192,14 +193,14 @@ last-at i l = go (leb actions i) refl
     go false e = (by_action i, leb-false actions i e, refl)
 
 -- an event of a trace has an action of the table
-pub in-table : (ns : List Node) → OutlineOk ns → (last : Last) (p : ℕ) (step : Step) (past : Past) → Made p last step
+pub in_table : (ns : List Node) → OutlineOk ns → (last : Last) (p : ℕ) (step : Step) (past : Past) → Made p last step
     → IsTrace ns (step ∷ past) → InTable last
-in-table ns ok (by_action a) p _ past (an_event {r = r}) tr = go (trace-ok ns ok tr).0
+in_table ns ok (by_action a) p _ past (an_event {r = r}) tr = go (trace-ok ns ok tr).0
   where
     go : StepOk (event a r) past → a < actions
     go (inl k) = let e = k.0 in omega arith
     go (inr k) = k.1
-in-table ns ok by_opening p step past made tr = tt
+in_table ns ok by_opening p step past made tr = tt
 
 module _ (local : Bool) (es : List Edge) (ns : List Node) where
   marks-unique : (p m n : ℕ) → MarksExact local es ns p m → MarksExact local es ns p n → m ≡ n
@@ -235,5 +236,5 @@ module _ (local : Bool) (es : List Edge) (ns : List Node) where
   pub zeros-accepted : OutlineOk ns → Exact local es ns (replicate policies 0) → (p : ℕ) → p < policies → Leaves local es ns p → ⊥
   zeros-accepted ok h p l (past, t, v) =
       let (n, k, last, b) = brought-about local es ns p past t v in
-      not-both (has (get_or (replicate policies 0) p 0) (bit_of last)) (((h.each p l).tells last (in-table ns ok last p b.step b.past b.made b.trace)).1 (n, b))
+      not-both (has (get_or (replicate policies 0) p 0) (bit_of last)) (((h.each p l).tells last (in_table ns ok last p b.step b.past b.made b.trace)).1 (n, b))
       (ap (λ (n : ℕ). has n (bit_of last)) (zeros policies p) ∙ has-zero (bit_of last))

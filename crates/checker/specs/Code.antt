@@ -7,7 +7,6 @@ use Rattle.usage.specs.Tables.{edges_of, nodes_of}
 use Rattle.checker_account.specs.declared.Resources.{Resources}
 use Rattle.checker_account.specs.Tables.{rows_in}
 use Rattle.checker_account.specs.Filling.{forms_in}
-use Rattle.checker_tables.specs.Search.{touched}
 use Rattle.checker_tables.specs.Marks.{MarkedWith}
 use Rattle.checker.specs.Summary.{MarksExact}
 
@@ -26,17 +25,6 @@ has_edge_lem t p = some_below (λ i. eqb (get_or t (edge_fields * i) 0) p) (leng
 -- "The check accepts, or refuses with the lowest policy": a number that is no policy stands for acceptance
 unfoldable pub policy_verdict : ℕ → Verdict
 policy_verdict p = cond (ltb p policies) (violated p) allowed
-
--- ── Which policies are pair policies ──
-
--- some edge of policy p in the flat table is on the second resource (on 3)
-unfoldable pub pair_in : List ℕ → ℕ → Bool
-pair_in t p = some_below (λ i. eqb (get_or t (edge_fields * i) 0) p && eqb (get_or t (edge_fields * i + 3) 0) 3) (length t / edge_fields)
-
--- ── Choices of watched resources that need no search: a static one that no event is on is among them ──
-
-abbrev pub worth_of : List ℕ → Resources → Bool
-worth_of nodes x = touched nodes x.first && touched nodes x.second
 
 -- ── The marks of a policy ──
 

@@ -2,11 +2,10 @@
 // the account and looks for a violation in them.
 ghost use Rattle.std.specs.Prelude.{◌≡◌, ℕ};
 ghost use Rattle.checker.specs.Promise.{outcome_verdict, CheckPromise};
-ghost use Rattle.checker.specs.Code.{opens, has_edge_lem, pair_in};
+ghost use Rattle.checker.specs.Code.{opens, has_edge_lem};
 
 use usage::{EDGE_FIELDS, NODE_FIELDS};
 
-mod choices;
 mod search;
 pub mod summary;
 
@@ -48,28 +47,6 @@ fn has_edge(edges: &[u8], p: usize) -> bool
     while i < n {
         if edges[EDGE_FIELDS * i] as usize == p {
             return true;
-        }
-        i += 1;
-    }
-    false
-}
-
-// The place of an edge's kind of resource, and the kind that is the second resource.
-const ON_FIELD: usize = 3;
-
-const ON_SECOND: u8 = 3;
-
-// Is policy p a pair policy: does it have an edge on the second resource?
-fn is_pair(edges: &[u8], p: usize) -> bool
-    ensures { result ≡ pair_in edges.now p }
-{
-    let n = edges.len() / EDGE_FIELDS;
-    let mut i: usize = 0;
-    while i < n {
-        if edges[EDGE_FIELDS * i] as usize == p {
-            if edges[EDGE_FIELDS * i + ON_FIELD] == ON_SECOND {
-                return true;
-            }
         }
         i += 1;
     }

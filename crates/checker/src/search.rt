@@ -6,6 +6,7 @@ ghost use Rattle.usage.specs.Valid.{OutlineOk};
 ghost use Rattle.usage.specs.Tables.{edges_of, nodes_of};
 ghost use Rattle.usage.specs.Check.{Leaves, Checked};
 ghost use Rattle.usage.specs.Tests.{Decides};
+ghost use Rattle.automaton.specs.PairSet.{pair_set};
 ghost use Rattle.checker_account.specs.Tables.{rows_in};
 ghost use Rattle.checker_account.specs.Filling.{forms_in, SearchedAll};
 ghost use Rattle.checker.specs.Promise.{outcome_verdict, RightVerdict};
@@ -22,11 +23,11 @@ fn broken(nodes: &[u8], rows: &Table, local: bool, p: usize, pair: bool) -> bool
     ensures { SearchedAll local (rows_in rows.now) p pair
         (length nodes.now / node_fields) (forms_in nodes.now) result }
 {
-    let n = crate::choices::count(pair);
+    let n = checker_tables::choices::count(pair);
     let mut i: usize = 0;
     while i < n {
-        let x = crate::choices::at(pair, i);
-        if crate::choices::worth(nodes, x) {
+        let x = checker_tables::choices::at(pair, i);
+        if checker_tables::choices::worth(nodes, x) {
             let w = Watch {
                 local,
                 policy: p,
@@ -41,11 +42,12 @@ fn broken(nodes: &[u8], rows: &Table, local: bool, p: usize, pair: bool) -> bool
     false
 }
 
-// Does some trace leave policy p open and not respected?
-fn leaves(edges: &[u8], local: bool, nodes: &[u8], p: usize) -> bool
+// Does some trace leave policy p open and not respected? `pairs` has the pair policies, here and below.
+fn leaves(edges: &[u8], pairs: u8, local: bool, nodes: &[u8], p: usize) -> bool
     requires edges_ok { EdgesOk (edges_of edges.now) }
     requires outline_ok { OutlineOk (nodes_of nodes.now) }
     requires p_lt_policies { p < policies }
+    requires pairs_value { pairs ≡ pair_set (edges_of edges.now) }
     ensures { Decides result (Leaves local (edges_of edges.now) (nodes_of nodes.now) p) }
 {
     if !crate::opens(nodes, p) {
@@ -55,20 +57,21 @@ fn leaves(edges: &[u8], local: bool, nodes: &[u8], p: usize) -> bool
         return false;
     }
     let mut table = [0u16; PLACES];
-    let pair = crate::is_pair(edges, p);
+    let pair = checker_tables::choices::is_pair(pairs, p);
     checker_rows::fill(edges, nodes, p, pair, &mut table);
     broken(nodes, &table, local, p, pair)
 }
 
 // The lowest policy that some trace leaves open and not respected, or POLICIES where there is none.
-fn lowest(edges: &[u8], local: bool, nodes: &[u8]) -> usize
+fn lowest(edges: &[u8], pairs: u8, local: bool, nodes: &[u8]) -> usize
     requires edges_ok { EdgesOk (edges_of edges.now) }
     requires outline_ok { OutlineOk (nodes_of nodes.now) }
+    requires pairs_value { pairs ≡ pair_set (edges_of edges.now) }
     ensures { Checked local (edges_of edges.now) (nodes_of nodes.now) (policy_verdict result) }
 {
     let mut p: usize = 0;
     while p < POLICIES {
-        if leaves(edges, local, nodes, p) {
+        if leaves(edges, pairs, local, nodes, p) {
             return p;
         }
         p += 1;
@@ -80,13 +83,14 @@ fn lowest(edges: &[u8], local: bool, nodes: &[u8]) -> usize
 pub(crate) fn checked(edges: &[u8], local: bool, nodes: &[u8]) -> Outcome
     ensures { RightVerdict local edges.now nodes.now (outcome_verdict result) }
 {
-    if !sheet_fields::edges::edge_table_ok(edges) {
+    let tested = sheet_fields::edges::edge_table(edges);
+    if !tested.fits {
         return Outcome::Refused(41);
     }
     if !sheet_rules::node_table_ok(nodes) {
         return Outcome::Refused(41);
     }
-    let p = lowest(edges, local, nodes);
+    let p = lowest(edges, tested.pairs, local, nodes);
     if POLICIES <= p {
         return Outcome::Accepted;
     }

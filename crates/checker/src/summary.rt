@@ -5,6 +5,7 @@ ghost use Rattle.usage.specs.Limits.{policies, node_fields};
 ghost use Rattle.usage.specs.Policy.{EdgesOk};
 ghost use Rattle.usage.specs.Valid.{OutlineOk};
 ghost use Rattle.usage.specs.Tables.{edges_of, nodes_of};
+ghost use Rattle.automaton.specs.PairSet.{pair_set};
 ghost use Rattle.checker_account.specs.Tables.{rows_in};
 ghost use Rattle.checker_account.specs.Filling.{forms_in};
 ghost use Rattle.checker_tables.specs.Marks.{MarkedAll};
@@ -20,7 +21,7 @@ fn marks_with(nodes: &[u8], rows: &Table, w: Watch) -> u64
     ensures { MarkedIn nodes.now w.local rows.now w.policy w.resources result }
 {
     let x = w.resources;
-    if crate::choices::worth(nodes, x) {
+    if checker_tables::choices::worth(nodes, x) {
         return checker_tables::marks_of(nodes, rows, w);
     }
     0
@@ -32,14 +33,14 @@ fn policy_marks(nodes: &[u8], rows: &Table, local: bool, p: usize, pair: bool) -
     ensures { MarkedAll local (rows_in rows.now) p pair (length nodes.now / node_fields)
         (forms_in nodes.now) result }
 {
-    let n = crate::choices::count(pair);
+    let n = checker_tables::choices::count(pair);
     let mut m: u64 = 0;
     let mut i: usize = 0;
     while i < n {
         let w = Watch {
             local,
             policy: p,
-            resources: crate::choices::at(pair, i),
+            resources: checker_tables::choices::at(pair, i),
         };
         m = m | marks_with(nodes, rows, w);
         i += 1;
@@ -47,11 +48,13 @@ fn policy_marks(nodes: &[u8], rows: &Table, local: bool, p: usize, pair: bool) -
     m
 }
 
-// Which actions, and whether its opening, can be the last step of a trace that leaves policy p open and not respected.
-fn exact_marks(edges: &[u8], local: bool, nodes: &[u8], p: usize) -> u64
+// Which actions, and whether its opening, can be the last step of a trace that leaves policy p open and not respected. `pairs` has the pair
+// policies, here and below.
+fn exact_marks(edges: &[u8], pairs: u8, local: bool, nodes: &[u8], p: usize) -> u64
     requires edges_ok { EdgesOk (edges_of edges.now) }
     requires outline_ok { OutlineOk (nodes_of nodes.now) }
     requires p_lt_policies { p < policies }
+    requires pairs_value { pairs ≡ pair_set (edges_of edges.now) }
     ensures { MarksExact local (edges_of edges.now) (nodes_of nodes.now) p result }
 {
     if !crate::opens(nodes, p) {
@@ -61,21 +64,22 @@ fn exact_marks(edges: &[u8], local: bool, nodes: &[u8], p: usize) -> u64
         return 0;
     }
     let mut table = [0u16; PLACES];
-    let pair = crate::is_pair(edges, p);
+    let pair = checker_tables::choices::is_pair(pairs, p);
     checker_rows::fill(edges, nodes, p, pair, &mut table);
     policy_marks(nodes, &table, local, p, pair)
 }
 
 // The numbers of all policies, one after the other.
-fn write(edges: &[u8], local: bool, nodes: &[u8], marks: &mut [u64])
+fn write(edges: &[u8], pairs: u8, local: bool, nodes: &[u8], marks: &mut [u64])
     requires edges_ok { EdgesOk (edges_of edges.now) }
     requires outline_ok { OutlineOk (nodes_of nodes.now) }
     requires policies_in_bounds { policies ≤ length marks.old }
+    requires pairs_value { pairs ≡ pair_set (edges_of edges.now) }
     ensures { MarksWritten local edges.now nodes.now marks.old marks.new }
 {
     let mut p: usize = 0;
     while p < POLICIES {
-        marks[p] = exact_marks(edges, local, nodes, p);
+        marks[p] = exact_marks(edges, pairs, local, nodes, p);
         p += 1;
     }
 }
@@ -88,12 +92,13 @@ pub fn summary(edges: &[u8], local: bool, nodes: &[u8], marks: &mut [u64]) -> u8
     if marks.len() < POLICIES {
         return 40;
     }
-    if !sheet_fields::edges::edge_table_ok(edges) {
+    let tested = sheet_fields::edges::edge_table(edges);
+    if !tested.fits {
         return 41;
     }
     if !sheet_rules::node_table_ok(nodes) {
         return 41;
     }
-    write(edges, local, nodes, marks);
+    write(edges, tested.pairs, local, nodes, marks);
     0
 }

@@ -31,7 +31,7 @@ unfolding watched_by
 one-is a = refl
 
 module _ (es : List Edge) (p : ℕ) where
-  asked-chosen : {pair : Bool} {x : Resources} → Decides pair (PairPolicy es p) → Asked pair x → Chosen es p (watched_by x)
+  pub asked-chosen : {pair : Bool} {x : Resources} → Decides pair (PairPolicy es p) → Asked pair x → Chosen es p (watched_by x)
   asked-chosen kind (one {x = a} l) =
       subst (Chosen es p) (sym (one-is a)) (record { watches = Watched.one l; fits = single (λ q. false-true (kind.1 q)) })
   asked-chosen kind (two {x = a} {y = b} l k) =

@@ -1,12 +1,10 @@
 -- A policy tells resources apart only by the places that they have in an instance and by the static ones: a move of the instance of xs on r
 -- is one of the instance of ys on s, where (xs, r) and (ys, s) look the same.
-use Prim.Native.Nat.{ℕ, zero, suc, ◌<◌}
-use mathlib.Core.Path.{◌≡◌, refl, sym, ap, subst}
-use mathlib.Core.Option.{Option, some}
-use mathlib.Core.List.{List, [], ◌∷◌}
+use Prim.Native.Nat.{ℕ, ◌<◌}
+use mathlib.Core.Path.{◌≡◌, refl, subst}
+use mathlib.Core.List.{List}
 use Rattle.usage.specs.declared.Edge.{Edge}
 use Rattle.usage.specs.Limits.{statics}
-use Rattle.usage.proofs.SeesLaws.{place-nowhere, place-one}
 use Rattle.usage.specs.Policy.{Place, Sees, named, own, other, second, Moves, EdgesOk}
 use Rattle.usage.proofs.SeesLaws.{moves-alike}
 
@@ -29,17 +27,3 @@ sees-carry h small (second e) = second (h.to 1 e)
 pub carry : {es : List Edge} → EdgesOk es → {p a q q' r s : ℕ} {xs ys : List ℕ} → Same xs r ys s → Moves es p a (Sees xs r) q q'
     → Moves es p a (Sees ys s) q q'
 carry ok h v = moves-alike (λ e m. (sees-carry h (ok.each e m).who_static, sees-carry (turn h) (ok.each e m).who_static)) v
-
--- of one resource each
-pub same-one : {x r y s : ℕ} → (r ≡ x → s ≡ y) → (s ≡ y → r ≡ x) → ((v : ℕ) → v < statics → r ≡ v → s ≡ v)
-    → ((v : ℕ) → v < statics → s ≡ v → r ≡ v) → Same (x ∷ []) r (y ∷ []) s
-same-one {x} {r} {y} {s} to back static-to static-from =
-    record { to = there; «from» = here; static-to = static-to; static-from = static-from }
-  where
-    there : (i : ℕ) → Place (x ∷ []) i r → Place (y ∷ []) i s
-    there zero e = ap {B = Option ℕ} some (sym (to (sym (place-one x 0 r e))))
-    there (suc i) e = absurd (place-nowhere i r e)
-
-    here : (i : ℕ) → Place (y ∷ []) i s → Place (x ∷ []) i r
-    here zero e = ap {B = Option ℕ} some (sym (back (sym (place-one y 0 s e))))
-    here (suc i) e = absurd (place-nowhere i s e)

@@ -8,7 +8,7 @@ use borrow.Author.Tests.{eqb-true}
 use Rattle.usage.specs.Limits.{states, most_nodes}
 use Rattle.usage.proofs.Logic.{false-true}
 use Rattle.checker_account.specs.Account.{watched, watched_too}
-use Rattle.checker_account.specs.Single.{no_name}
+use Rattle.checker_account.specs.Pairs.{no_name}
 use Rattle.checker_account.specs.declared.Resources.{Resources}
 use Rattle.checker_account.specs.Tables.{unnamed, meanings, numbered, meaning_in, group_in, waiting_group, late_group, waits, is_late_lem, in_group_lem}
 use Rattle.checker_account.specs.Tables.{meaning_after, forgotten, group_forgotten_lem, forgotten_in, first_named_lem, second_named_lem, entry_after, least}

@@ -9,8 +9,7 @@ use borrow.Author.Tests.{eqb-true, eqb-false, eq-eqb, ne_eqb}
 use Rattle.usage.specs.Tests.{some_of}
 use Rattle.usage.proofs.Logic.{false-true}
 use Rattle.checker_account.specs.Account.{watched, watched_too, others}
-use Rattle.checker_account.specs.Single.{no_name, forget}
-use Rattle.checker_account.specs.Pairs.{which, is_watched}
+use Rattle.checker_account.specs.Pairs.{no_name, forget, which, is_watched}
 use Rattle.checker_account.specs.declared.Resources.{Resources}
 use Rattle.checker_account.specs.Tables.{one_resource, two_resources, nothing, watched_by, unnamed, meanings, name_of, made, forgotten}
 use Rattle.checker_account.specs.Tables.{meaning_after, numbered, meaning_in, group_in, waiting_group, late_group, waits, is_late_lem, in_group_lem}

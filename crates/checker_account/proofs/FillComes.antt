@@ -17,8 +17,7 @@ use Rattle.usage.specs.Outline.{Form, end, static_event, named_event, sequence, 
 use Rattle.automaton.specs.Mask.{has}
 use Rattle.automaton.proofs.MaskLaws.{has-pow}
 use Rattle.checker_account.specs.Account.{Comes}
-use Rattle.checker_account.specs.Single.{no_name}
-use Rattle.checker_account.specs.Pairs.{numbers}
+use Rattle.checker_account.specs.Pairs.{no_name, numbers}
 use Rattle.checker_account.specs.declared.Arrival.{Arrival}
 use Rattle.checker_account.specs.declared.Resources.{Resources}
 use Rattle.checker_account.specs.Tables.{watched_by, late_group, waits, in_group_lem, codes_of, first_code_lem, places_of, base, begun, Rows, place}

@@ -14,7 +14,6 @@ pub mod ViolationLaws
 pub mod WrittenTrace
 pub mod Exact
 pub mod RendersLaws
-pub mod SingleLaws
 pub mod SightsLaws
 pub mod CounterexampleLaws
 pub mod ViewLaws
@@ -46,6 +45,4 @@ pub mod ChoiceLaws
 pub mod AskedLaws
 pub mod SearchLaws
 pub mod FilledLaws
-pub mod OneLaws
-pub mod UntouchedLaws
 pub mod NodeLaws

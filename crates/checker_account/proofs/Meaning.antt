@@ -19,18 +19,10 @@ use Rattle.usage.proofs.Logic.{false-true}
 use Rattle.usage.proofs.PastLaws.{occurs-later}
 use Rattle.usage.proofs.TraceLaws.{give-same, give-other}
 use Rattle.checker_account.specs.Account.{others}
-use Rattle.checker_account.specs.Single.{no_name, meant, forget}
+use Rattle.checker_account.specs.Pairs.{no_name, forget}
 use Rattle.checker_account.specs.Views.{no_meaning, stand_in, means_now, keep_if, left_after}
 
 -- where one resource is watched: the tests, by the fact tested
-
-pub meant-own : (x w n : ℕ) → w ≡ n → meant x w n ≡ x
-unfolding meant
-meant-own x w n e = rw (eq-eqb w n e)
-
-pub meant-other : (x w n : ℕ) → (w ≡ n → ⊥) → meant x w n ≡ others
-unfolding meant
-meant-other x w n d = rw (ne_eqb w n d)
 
 pub forget-same : (w n : ℕ) → w ≡ n → forget w n ≡ no_name
 unfolding forget

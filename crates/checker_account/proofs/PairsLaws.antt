@@ -16,10 +16,9 @@ use Rattle.usage.specs.Limits.{most_names}
 use Rattle.usage.specs.Tests.{some_of}
 use Rattle.usage.proofs.Logic.{false-true, by_cases}
 use Rattle.checker_account.specs.Account.{watched, watched_too, others}
-use Rattle.checker_account.specs.Single.{no_name, forget}
+use Rattle.checker_account.specs.Pairs.{no_name, forget, which, MakesTwo, other, first, second, is_watched, TwoOccur, numbers}
 use Rattle.checker_account.specs.Views.{Chosen, no_meaning, stand_in, means_now, keep_if, dynamics, left_after, New, another, awaited}
 use Rattle.checker_account.specs.Views.{MakesAny, given, views}
-use Rattle.checker_account.specs.Pairs.{which, MakesTwo, other, first, second, is_watched, TwoOccur, numbers}
 use Rattle.checker_account.proofs.Meaning.{forget-same, forget-other}
 use Rattle.checker_account.proofs.BegunLaws.{Keeps}
 use Rattle.checker_account.proofs.RendersLaws.{Renders}

@@ -139,7 +139,7 @@ module _ (local : Bool) (es : List Edge) (ns : List Node) (p : ℕ) (S T : Sight
   comes-as {n} {o} {k} {w} {v} {c} {d} {q} e f g =
       subst (λ (a : T.Left). Comes local es ns p T n o k v a q) f (subst (λ (a : T.Meaning). Comes local es ns p T n o k a c q) e g)
 
-  pub to-comes : {n : ℕ} {o : Bool} {k : ℕ} {w : S.Meaning} {c : S.Left} {q : ℕ} → Comes local es ns p S n o k w c q
+  to-comes : {n : ℕ} {o : Bool} {k : ℕ} {w : S.Meaning} {c : S.Left} {q : ℕ} → Comes local es ns p S n o k w c q
       → Comes local es ns p T n o k (h.meaning w) (h.left c) q
   to-comes Comes.begins = comes-as (sym h.first_meaning) (sym h.first_left) Comes.begins
   to-comes (Comes.first i e) = Comes.first i (to-comes e)

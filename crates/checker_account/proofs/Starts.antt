@@ -2,30 +2,11 @@
 use Prim.Native.Nat.{ℕ, zero, suc, ◌<◌}
 use mathlib.Core.Path.{◌≡◌, refl, sym, ap, ◌∙◌}
 use mathlib.Core.Bool.{Bool, true, false, cond}
-use mathlib.Core.List.{List}
 use native.Mathlib.Omega.{arith}
 use lib.Dec.{eqb}
 use borrow.Author.Tests.{eqb-true, eqb-false, eq-eqb, ne_eqb}
-use Rattle.usage.specs.declared.Edge.{Edge}
-use Rattle.usage.specs.declared.Node.{Node}
-use Rattle.checker_account.specs.Account.{others, Goes, Ends}
-use Rattle.checker_account.specs.Single.{no_name, meant, forget, MakesOne, watching}
+use Rattle.checker_account.specs.Pairs.{no_name, forget}
 use Rattle.checker_account.specs.Tables.{unnamed, name_of, made, forgotten, meaning_after}
-
--- what is made stays made
-pub stays-made : {local : Bool} {es : List Edge} {ns : List Node} {p x n k w q q' : ℕ} {o c c' : Bool}
-    → Ends local es ns p (watching x) n o k w c q c' q' → c ≡ true → c' ≡ true
-stays-made (Goes.ends i) e = e
-stays-made (Goes.fires_static i v) e = e
-stays-made (Goes.fires_name i v) e = e
-stays-made (Goes.sequences i f g) e = stays-made g (stays-made f e)
-stays-made (Goes.chooses_left i f) e = stays-made f e
-stays-made (Goes.chooses_right i f) e = stays-made f e
-stays-made (Goes.enters i f) e = stays-made f e
-stays-made (Goes.repeats i f) e = stays-made f e
-stays-made (Goes.makes i MakesOne.other v f) e = stays-made f e
-stays-made (Goes.makes i MakesOne.own v f) e = stays-made f refl
-stays-made (Goes.sandboxes i f) e = stays-made f e
 
 -- ── What a meaning says ──
 
@@ -46,10 +27,6 @@ same_name (suc m) n h = go (eqb m n) refl
     go : (b : Bool) → eqb m n ≡ b → eqb m n ≡ eqb (suc m) (suc n)
     go true e = e ∙ sym (eq-eqb (suc m) (suc n) (ap suc (eqb-true m n e)))
     go false e = e ∙ sym (ne_eqb (suc m) (suc n) (λ f. eqb-false m n e (omega arith)))
-
-pub meant_is : (x m n : ℕ) → n < no_name → meant x (name_of m) n ≡ cond (eqb m (suc n)) x others
-unfolding meant
-meant_is x m n h = ap (λ (b : Bool). cond b x others) (same_name m n h)
 
 pub forgotten-name : (m n : ℕ) → n < no_name → name_of (forgotten m n) ≡ forget (name_of m) n
 unfolding forgotten forget

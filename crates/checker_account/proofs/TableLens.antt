@@ -9,8 +9,7 @@ use lib.Dec.{eqb}
 use borrow.Author.Tests.{eqb-true, eq-eqb, ne_eqb}
 use Rattle.usage.proofs.Logic.{false-true}
 use Rattle.checker_account.specs.Account.{watched, watched_too, others}
-use Rattle.checker_account.specs.Single.{no_name, forget}
-use Rattle.checker_account.specs.Pairs.{MakesTwo, numbers, is_watched}
+use Rattle.checker_account.specs.Pairs.{no_name, forget, MakesTwo, numbers, is_watched}
 use Rattle.checker_account.specs.declared.Resources.{Resources}
 use Rattle.checker_account.specs.Tables.{watched_by, unnamed, meanings, name_of, made, forgotten, meaning_after, numbered, meaning_in}
 use Rattle.checker_account.specs.Tables.{group_in, waiting_group, late_group, waits, is_late_lem, in_group_lem, group_forgotten_lem, forgotten_in}

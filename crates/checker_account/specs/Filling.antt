@@ -169,7 +169,7 @@ pub data Asked : Bool → Resources → Type 0 where
   two : {x y : ℕ} → x ≤ watched → y ≤ watched → Asked true (two_resources x y)
   apart : Asked true (two_resources watched watched_too)
 
--- a static resource that no event is on: watching a dynamic one shows all that watching this one would (proofs/UntouchedLaws)
+-- a static resource that no event is on: watching a dynamic one shows all that watching this one would (proofs/Skipped, AskedLaws)
 pub record Untouched (n : ℕ) (forms : Forms) (x : ℕ) : Type 0 where
   pub static : x < statics
   pub no_event : (k a : ℕ) → k < n → forms k ≡ some (static_event a x) → ⊥

@@ -8,8 +8,7 @@ use Rattle.usage.specs.Policy.{Sees, Moves}
 use Rattle.usage.specs.Outline.{Form, Is, static_event, named_event, sequence, choice, loop, back, fresh, sandbox}
 use Rattle.automaton.specs.Mask.{has, offends}
 use Rattle.checker_account.specs.Account.{watched, watched_too, others, Ends, Comes, Last, Hits}
-use Rattle.checker_account.specs.Single.{no_name}
-use Rattle.checker_account.specs.Pairs.{numbers}
+use Rattle.checker_account.specs.Pairs.{no_name, numbers}
 use Rattle.checker_account.specs.Lens.{Lens, Codes}
 use Rattle.checker_account.specs.declared.Arrival.{Arrival}
 use Rattle.checker_account.specs.declared.Resources.{Resources}

@@ -10,7 +10,7 @@ use Rattle.usage.specs.Policy.{Sees, Moves, Offending}
 use Rattle.usage.specs.Past.{reopened}
 use Rattle.usage.specs.Outline.{Is, end, static_event, named_event, sequence, choice, loop, back, fresh, sandbox}
 use Rattle.checker_account.specs.Account.{Sight, Last, by_action, by_opening}
-use Rattle.checker_account.specs.Single.{no_name}
+use Rattle.checker_account.specs.Pairs.{no_name}
 
 pub record Lens (S : Sight) : Type 1 where
   pub Entry : Type 0

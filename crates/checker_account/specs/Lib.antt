@@ -1,7 +1,6 @@
 -- The finite account of an outline, as relations, one watched resource at a time.
 pub mod Account
--- One watched resource by two numbers; any number by stand-ins; two by numbers.
-pub mod Single
+-- Any number of watched resources by stand-ins; one or two by numbers.
 pub mod Views
 pub mod Pairs
 -- A trace written down along the account.

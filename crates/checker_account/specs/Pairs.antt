@@ -1,10 +1,16 @@
 -- Any watched resources, one or two, viewed by numbers, as the tables hold it: of each of the stand-ins 16 and 17 the name
--- that means it, 0 to 3, or 4 where none does, and whether it can no longer be created. Where 17 is not watched, this is Single.antt's
--- view.
+-- that means it, 0 to 3, or 4 where none does, and whether it can no longer be created.
 use Rattle.std.specs.Prelude.{ℕ, ◌≤◌, ◌≡◌, Bool, true, false, not, cond, List, eqb}
 use Rattle.usage.specs.Tests.{some_of}
 use Rattle.checker_account.specs.Account.{watched, watched_too, others, Sight}
-use Rattle.checker_account.specs.Single.{no_name, forget}
+
+-- in the place of a name: none means the resource
+abbrev pub no_name : ℕ
+no_name = 4
+
+-- the name that means it once n is given to another resource
+unfoldable pub forget : ℕ → ℕ → ℕ
+forget w n = cond (eqb w n) no_name w
 
 -- what name n means where a is the name of 16 and b that of 17
 unfoldable pub which : ℕ × ℕ → ℕ → ℕ

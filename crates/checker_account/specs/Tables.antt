@@ -13,7 +13,7 @@ use Rattle.usage.specs.Limits.{statics, create, states, most_nodes}
 use Rattle.usage.specs.Outline.{Form, end, static_event, named_event, sequence, choice, loop, back, fresh, sandbox}
 use Rattle.automaton.specs.Mask.{has, union}
 use Rattle.checker_account.specs.Account.{watched, watched_too, others, Last, by_action, by_opening}
-use Rattle.checker_account.specs.Single.{no_name}
+use Rattle.checker_account.specs.Pairs.{no_name}
 use Rattle.checker_account.specs.declared.Arrival.{Arrival}
 use Rattle.checker_account.specs.declared.Resources.{Resources}
 

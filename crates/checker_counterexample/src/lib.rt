@@ -31,7 +31,7 @@ fn named(edges: &[u8], local: bool, nodes: &[u8], p: u8, trace: &mut [u32]) -> E
 }
 
 // The check of an outline, as a flat table of nodes, under a flat table of edges and a choice of past, with room for the steps of a trace.
-// It needs some 212 KB of stack (`checker_trace::counterexample`).
+// It needs some 1.1 MB of stack, nearly all of it for the tables of lengths (`checker_trace::counterexample`).
 pub fn check_with_counterexample(
     edges: &[u8],
     local: bool,

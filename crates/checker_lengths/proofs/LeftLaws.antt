@@ -12,30 +12,29 @@ use lib.Pow.{pow_pos, ones_lt}
 use lib.ListN.{length, get_or, replicate, length-replicate}
 use Rattle.usage.specs.Limits.{most_nodes, node_fields}
 use Rattle.usage.specs.Outline.{Form, end, static_event, named_event, sequence, choice, loop, back, fresh, sandbox, form_of}
-use Rattle.usage.proofs.Logic.{not-both}
+use Rattle.usage.proofs.Logic.{not-both, false-true}
 use Rattle.automaton.specs.Mask.{has}
 use Rattle.automaton.proofs.MaskLaws.{has-zero}
-use Rattle.checker_account.specs.Tables.{one_resource, least}
+use Rattle.checker_account.specs.Tables.{least}
 use Rattle.checker_account.specs.Filling.{total, forms_in}
 use Rattle.checker_account.proofs.SettledLaws.{PartOf, first, second, left, right, body, again, given, inside, Reads}
 use Rattle.checker_tables.specs.Work.{readers_of}
 use Rattle.checker_tables.proofs.WorkLaws.{all_left, neither, reader-in, readers-below}
 use Rattle.checker_lengths.specs.declared.Entry.{Entry}
-use Rattle.checker_lengths.specs.declared.WatchOne.{WatchOne}
-use Rattle.checker_lengths.specs.Entries.{size, no_length, all_lengths, in_table, below, held}
+use Rattle.checker_account.specs.declared.Watch.{Watch}
+use Rattle.checker_lengths.specs.Entries.{size_of, no_length, all_lengths, held}
 use Rattle.checker_lengths.specs.Offers.{at_node, first_entry, second_entry, body_entry}
 use Rattle.checker_lengths.specs.Offers.{inner_entry, sequence_of, fresh_of, sandbox_of, offer_of}
-use Rattle.checker_lengths.specs.Filling.{form_here, Reach, start, NodeSettled, Full}
+use Rattle.checker_lengths.specs.Filling.{form_here, Reach, start, NodeSettled, Full, FullIf}
 use Rattle.checker_lengths.specs.Code.{Fell, Apart, Pass}
 use Rattle.outline_nodes.proofs.SaidLaws.{form-at}
 use Rattle.checker_lengths.proofs.MemberLaws.{member-le, member-lt, member-taken}
-use Rattle.checker_lengths.proofs.EntryLaws.{held_in, held_out}
 use Rattle.checker_lengths.proofs.PassLaws.{same-held, node-lasts}
 
 -- ── A node that is not read ──
 
 module _ {k : ℕ} {t u : List ℕ} (g : Fell k t u) where
-  module _ (w : WatchOne) (rows : List ℕ) where
+  module _ (w : Watch) (rows : List ℕ) where
     offer-same : (f : Form) → (PartOf f k → ⊥) → (e : Entry) (c : ℕ)
         → offer_of w rows (held u all_lengths) e c f ≡ offer_of w rows (held t all_lengths) e c f
     unfolding offer_of sequence_of fresh_of sandbox_of
@@ -56,15 +55,15 @@ module _ {k : ℕ} {t u : List ℕ} (g : Fell k t u) where
     offer-same (fresh n b) d e c = rw (same-held g (body_entry e n b c) (λ z. d (subst (PartOf (fresh n b)) z given)))
     offer-same (sandbox s b) d e c = rw (same-held g (inner_entry w e s b) (λ z. d (subst (PartOf (sandbox s b)) z inside)))
 
-pub apart : (w : WatchOne) (rows : List ℕ) (k : ℕ) (f : Option Form) → (Reads f k → ⊥) → Apart w rows k f
+pub apart : (w : Watch) (rows : List ℕ) (k : ℕ) (f : Option Form) → (Reads f k → ⊥) → Apart w rows k f
 apart w rows k none d t u g e c = refl
 apart w rows k (some f) d t u g e c = offer-same g w rows f d e c
 
 -- ── The loop ──
 
 -- the table so far, and the nodes that are left: no rule gives less for the entries of the others
-pub record Working (w : WatchOne) (rows nodes come : List ℕ) (l n : ℕ) (t : List ℕ) (s : ℕ) : Type 0 where
-  pub size_is : length t ≡ size
+pub record Working (w : Watch) (rows nodes come : List ℕ) (l n : ℕ) (t : List ℕ) (s : ℕ) : Type 0 where
+  pub size_is : length t ≡ size_of w.resources
   pub reach : Reach w rows nodes t
   pub left : s < 2 ^ n
   pub settled : (k : ℕ) → k < n → has s k ≡ false → NodeSettled w rows (form_here nodes k) come t l k
@@ -73,19 +72,19 @@ pub record Working (w : WatchOne) (rows nodes come : List ℕ) (l n : ℕ) (t : 
 abbrev pub left_of : List ℕ → ℕ → ℕ
 left_of t s = total t * 18446744073709551616 + s
 
-module _ (w : WatchOne) (rows nodes come : List ℕ) (l : ℕ) (few : length nodes / node_fields ≤ most_nodes) where
+module _ (w : Watch) (rows nodes come : List ℕ) (l : ℕ) (few : length nodes / node_fields ≤ most_nodes) where
   abbrev n : ℕ
   n = length nodes / node_fields
 
-  pub working-start : Working w rows nodes come l n (replicate size no_length) (2 ^ n - 1)
+  pub working-start : Working w rows nodes come l n (replicate (size_of w.resources) no_length) (2 ^ n - 1)
   working-start = record {
-    size_is = length-replicate {A = ℕ} size no_length;
+    size_is = length-replicate {A = ℕ} (size_of w.resources) no_length;
     reach = start;
     left = ones_lt n;
     settled = λ k b h. not-both (has (2 ^ n - 1) k) (all_left n k few b) h;
   }
 
-  pub working-full : {t : List ℕ} → l ≡ least (one_resource w.resource) → Working w rows nodes come l n t 0 → Full w rows nodes come t
+  pub working-full : {t : List ℕ} → l ≡ least w.resources → Working w rows nodes come l n t 0 → Full w rows nodes come t
   working-full {t} e h = record {
     reach = h.reach;
     settled = λ k b. subst (λ (m : ℕ). NodeSettled w rows (form_here nodes k) come t m k) e (h.settled k b (has-zero k));
@@ -149,3 +148,14 @@ module _ (w : WatchOne) (rows nodes come : List ℕ) (l : ℕ) (few : length nod
 
       pub more-less : (s' : ℕ) → s' < 18446744073709551616 → left_of u s' < left_of t s
       more-less s' b = let m = p.lower changed in omega arith
+
+-- ── The answer for all inputs ──
+
+module _ (w : Watch) (rows nodes come : List ℕ) where
+  pub full-if : (b : Bool) → b ≡ true → (t : List ℕ) → Full w rows nodes come t → FullIf b w rows nodes come t
+  full-if true e t h = h
+  full-if false e t h = false-true e
+
+  pub empty-if : (b : Bool) → b ≡ false → (t : List ℕ) (n : ℕ) → t ≡ replicate n no_length → FullIf b w rows nodes come t
+  empty-if true e t n h = false-true (sym e)
+  empty-if false e t n h = h ∙ ap (λ (m : ℕ). replicate m no_length) (sym (ap length h ∙ length-replicate {A = ℕ} n no_length))

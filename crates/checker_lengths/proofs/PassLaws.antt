@@ -14,12 +14,13 @@ use Rattle.usage.specs.Outline.{Form}
 use Rattle.usage.proofs.Logic.{not-both, false-true}
 use Rattle.checker_account.specs.Filling.{total}
 use Rattle.checker_lengths.specs.declared.Entry.{Entry}
-use Rattle.checker_lengths.specs.declared.WatchOne.{WatchOne}
+use Rattle.checker_account.specs.declared.Watch.{Watch}
 use Rattle.checker_lengths.specs.Entries.{all_lengths, entry_of, linear, in_table, below, held}
 use Rattle.checker_lengths.specs.Offers.{toward, offer_from}
-use Rattle.checker_lengths.specs.Filling.{Reach, falls, Settled, RuleSettled, StartSettled, StatesSettled, NodeSettled}
+use Rattle.checker_account.specs.Tables.{waits, late_group, in_group_lem, place}
+use Rattle.checker_lengths.specs.Filling.{Reach, falls, Settled, RuleSettled, StartSettled, StatesSettled, CodeSettled, NodeSettled}
 use Rattle.checker_lengths.specs.Code.{Fell, Apart, Pass}
-use Rattle.checker_lengths.proofs.EntryLaws.{linear-one, held_in, held_out}
+use Rattle.checker_lengths.proofs.EntryLaws.{table-entry, linear-one, held_in, held_out}
 
 -- ── Sums ──
 
@@ -42,22 +43,29 @@ abbrev pub Either : Bool → Bool → Bool → Type 0
 Either r s z = ((s ≡ true) × (z ≡ true)) ⊎ ((s ≡ false) × (z ≡ r))
 
 pub fell-none : {k : ℕ} {t : List ℕ} → Fell k t t
-fell-none {t = t} = record { beside = λ e h d. refl; down = λ i. le-self (get_or t i 0) }
+fell-none {t = t} = record { same_size = refl; beside = λ e h d. refl; down = λ i. le-self (get_or t i 0) }
 
 pub fell-then : {k : ℕ} {t u v : List ℕ} → Fell k t u → Fell k u v → Fell k t v
-fell-then p q = record { beside = λ e h d. q.beside e h d ∙ p.beside e h d; down = λ i. le-both (q.down i) (p.down i) }
+fell-then {t = t} {u = u} p q = record {
+  same_size = q.same_size ∙ p.same_size;
+  beside = λ e h d. q.beside e (ap (λ (n : ℕ). in_table n e) p.same_size ∙ h) d ∙ p.beside e h d;
+  down = λ i. le-both (q.down i) (p.down i);
+}
 
 -- what stands for another node
 module _ {k : ℕ} {t u : List ℕ} (g : Fell k t u) where
   pub same-held : (e : Entry) → (e.node ≡ k → ⊥) → held u all_lengths e ≡ held t all_lengths e
-  same-held e d = go (in_table e) refl
+  same-held e d = go (in_table (length t) e) refl
     where
-      go : (b : Bool) → in_table e ≡ b → held u all_lengths e ≡ held t all_lengths e
-      go true h = held_in u all_lengths e h ∙ ap (below all_lengths) (g.beside e h d) ∙ sym (held_in t all_lengths e h)
-      go false h = sym (held_out u all_lengths e h) ∙ held_out t all_lengths e h
+      as_before : {b : Bool} → in_table (length t) e ≡ b → in_table (length u) e ≡ b
+      as_before h = ap (λ (n : ℕ). in_table n e) g.same_size ∙ h
+
+      go : (b : Bool) → in_table (length t) e ≡ b → held u all_lengths e ≡ held t all_lengths e
+      go true h = held_in u all_lengths e (as_before h) ∙ ap (below all_lengths) (g.beside e h d) ∙ sym (held_in t all_lengths e h)
+      go false h = sym (held_out u all_lengths e (as_before h)) ∙ held_out t all_lengths e h
 
 -- what was settled stays so, where the node does not read its own entries; and so it is with those of another node that does not read them
-module _ (w : WatchOne) (rows : List ℕ) (k : ℕ) (f : Option Form) (apart : Apart w rows k f) {t u : List ℕ} (g : Fell k t u) where
+module _ (w : Watch) (rows : List ℕ) (k : ℕ) (f : Option Form) (apart : Apart w rows k f) {t u : List ℕ} (g : Fell k t u) where
   pub settled-lasts : (e : Entry) (c : ℕ) → Settled w rows f t e c → Settled w rows f u e c
   settled-lasts e c h few =
       let same = apart t u g e c in
@@ -74,10 +82,13 @@ module _ (w : WatchOne) (rows : List ℕ) (k : ℕ) (f : Option Form) (apart : A
   pub states-last : (j : ℕ) (o : Bool) (m v : ℕ) → StatesSettled w rows f t j o m v → StatesSettled w rows f u j o m v
   states-last j o m v h q l b = start-lasts (entry_of j o m q 0) (h q l b)
 
-  pub node-lasts : (come : List ℕ) (l j : ℕ) → NodeSettled w rows f come t l j → NodeSettled w rows f come u l j
-  node-lasts come l j h o m q low high small b = start-lasts (entry_of j o m q 0) (h o m q low high small b)
+  pub code-lasts : (j : ℕ) (o : Bool) (m v : ℕ) → CodeSettled w rows f t j o m v → CodeSettled w rows f u j o m v
+  code-lasts j o m v h = (states-last j o m v h.0, λ y. states-last j o (in_group_lem late_group m) v (h.1 y))
 
-module _ {w : WatchOne} {rows : List ℕ} {k : ℕ} {f : Option Form} where
+  pub node-lasts : (come : List ℕ) (l j : ℕ) → NodeSettled w rows f come t l j → NodeSettled w rows f come u l j
+  node-lasts come l j h o m low high = code-lasts j o m (get_or come (place j o m) 0) (h o m low high)
+
+module _ {w : Watch} {rows : List ℕ} {k : ℕ} {f : Option Form} where
   less-or-same : {C : List ℕ → Type 0} {t u : List ℕ} (r : Bool) → Pass w rows k f C t u r → total u ≤ total t
   less-or-same {t = t} {u = u} true p = let l = p.lower refl in omega arith
   less-or-same {t = t} {u = u} false p = let e : total u ≡ total t = ap total (p.kept refl) in omega arith
@@ -129,17 +140,19 @@ module _ {w : WatchOne} {rows : List ℕ} {k : ℕ} {f : Option Form} where
 
 -- ── A single entry ──
 
-module _ (w : WatchOne) (rows : List ℕ) (f : Option Form) (e : Entry) (c : ℕ) (t : List ℕ) (at v : ℕ) (place : at ≡ linear e)
+module _ (w : Watch) (rows : List ℕ) (f : Option Form) (e : Entry) (c : ℕ) (t : List ℕ) (at v : ℕ) (place : at ≡ linear e)
     (offered : v ≡ offer_from w rows (held t all_lengths) e c f) where
   pub pass_kept : get_or t at 0 ≤ v → Pass w rows e.node f (λ u. Settled w rows f u e c) t t false
   pass_kept l =
       pass-none (λ _. subst (λ (i : ℕ). get_or t i 0 ≤ offer_from w rows (held t all_lengths) e c f) place
       (subst (λ (n : ℕ). get_or t at 0 ≤ n) offered l))
 
-  module _ (small : at < length t) (inside : in_table e ≡ true) (l : v < get_or t at 0) where
+  module _ (small : at < length t) (inside : in_table (length t) e ≡ true) (l : v < get_or t at 0) where
     fallen : Fell e.node t (set t at v)
     fallen = record {
-      beside = λ e' h d. get_or-set_other t at (linear e') v 0 (λ z. d (ap (λ (y : Entry). y.node) (linear-one e' e h inside (z ∙ place))));
+      same_size = length-set t at v;
+      beside = λ e' h d. get_or-set_other t at (linear e') v 0 (λ z. d (ap (λ (y : Entry). y.node)
+          (linear-one e' e (table-entry (length t) e' h) (table-entry (length t) e inside) (z ∙ place))));
       down = λ i. go i (ℕ_discrete i at);
     }
       where

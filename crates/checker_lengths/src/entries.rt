@@ -1,19 +1,19 @@
 // Single entries of a table of lengths.
 ghost use Rattle.std.specs.Prelude.{◌≡◌, true};
-ghost use Rattle.checker_lengths.specs.Entries.{in_table, linear, held, plus};
+ghost use Rattle.checker_lengths.specs.Entries.{is_entry, linear, held, plus};
 
-use crate::{AIMS, Entry, Lengths, MOST, NONE, STARTS};
-use checker_account::MEANINGS;
+use crate::{AIMS, Entry, MOST, NONE};
+use checker_account::PAIR_ENTRIES;
 use usage::{MOST_NODES, STATES};
 
-// Is there such an entry?
+// Is there such an entry in the greatest table?
 pub(crate) fn inside(e: Entry) -> bool
-    ensures { result ≡ in_table e }
+    ensures { result ≡ is_entry e }
 {
     if MOST_NODES <= e.node {
         return false;
     }
-    if MEANINGS <= e.meaning {
+    if PAIR_ENTRIES <= e.meaning {
         return false;
     }
     if STATES <= e.state {
@@ -24,24 +24,25 @@ pub(crate) fn inside(e: Entry) -> bool
 
 // Its place.
 pub(crate) fn place(e: Entry) -> usize
-    requires { in_table e ≡ true }
+    requires { is_entry e ≡ true }
     ensures { result ≡ linear e }
 {
-    if e.opened {
-        ((MOST_NODES + e.node) * STARTS + (STATES * e.meaning + e.state)) * AIMS + e.aim
-    } else {
-        (e.node * STARTS + (STATES * e.meaning + e.state)) * AIMS + e.aim
-    }
+    let before = if e.opened { MOST_NODES } else { 0 };
+    ((2 * MOST_NODES * e.meaning + before + e.node) * STATES + e.state) * AIMS + e.aim
 }
 
 // The length that stands there, if it is less than `most`.
-pub fn get(t: &Lengths, most: u8, e: Entry) -> u8
+pub fn get(t: &[u8], most: u8, e: Entry) -> u8
     ensures { result ≡ held t.now most e }
 {
     if !inside(e) {
         return NONE;
     }
-    let v = t[place(e)];
+    let at = place(e);
+    if t.len() <= at {
+        return NONE;
+    }
+    let v = t[at];
     if v < most { v } else { NONE }
 }
 

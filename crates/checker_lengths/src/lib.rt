@@ -1,30 +1,33 @@
-// Tables of least lengths, for one policy and one watched resource: in how many steps, at least, each node can come to each aim. A
-// shortest trace is read from them (`checker_trace`). entries: single entries. offers: what the rules give by the entries that
-// stand. fill: the table, in rounds.
+// Tables of least lengths, for one policy and the watched resources, one or two: in how many steps, at least, each node can come to each
+// aim. A shortest trace is read from them (`checker_trace`). entries: single entries. numbers: the meanings that a rule leads to.
+// offers: what the rules give by the entries that stand. fill: the table, in rounds.
 pub mod entries;
 pub mod fill;
+pub mod numbers;
 pub mod offers;
 
-use checker_account::{MEANINGS, PLACES};
+use checker_account::{LAYER, MEANINGS, PAIR_ENTRIES};
 use usage::STATES;
 
-// The aims of a node: to end in a state, the watched resource being created or not, or to break the policy.
+// The aims of a node: to end in a state, the first dynamic resource being created or not, or to break the policy.
 pub const BROKEN: usize = 2 * STATES;
 
 pub const AIMS: usize = BROKEN + 1;
 
-// The rules of a fresh node: one for each end of its creation; it breaks the policy; and that of the watched resource does.
-pub const OWN_BREAK: usize = BROKEN + 1;
+// The rules of a fresh node for each kind of new resource: one for each state after its creation, and it breaks the policy.
+pub const KIND_RULES: usize = STATES + 1;
 
-pub const FRESH_RULES: usize = OWN_BREAK + 1;
+// The places of one meaning: a byte for each aim of each state of each node, the policy being open or not.
+pub const ENTRY_PLACES: usize = 2 * LAYER * AIMS;
 
-// The starts of a node: a meaning and a state.
-pub const STARTS: usize = MEANINGS * STATES;
+// A table with one dynamic resource watched at most, and with both.
+pub const SIZE: usize = ENTRY_PLACES * MEANINGS;
 
-// A byte for each aim of each start of each node, the policy being open or not.
-pub const SIZE: usize = 2 * PLACES * AIMS;
+pub const PAIR_SIZE: usize = ENTRY_PLACES * PAIR_ENTRIES;
 
 pub type Lengths = [u8; SIZE];
+
+pub type PairLengths = [u8; PAIR_SIZE];
 
 // The greatest length that counts, the number that all are less than, and what stands where there is none.
 pub const MOST: u8 = 200;
@@ -33,15 +36,8 @@ pub const ALL: u8 = MOST + 1;
 
 pub const NONE: u8 = 255;
 
-// What a table is for: whether only the past since the opening counts, the policy, and the one watched resource.
-#[derive(Drop)]
-pub struct WatchOne {
-    pub local: bool,
-    pub policy: usize,
-    pub resource: usize,
-}
-
-// Which entry: the node, whether the policy is open, the meaning (what is known of the watched resource), the state, and the aim.
+// Which entry: the node, whether the policy is open, the meaning (what is known of the watched resources: the number of an entry of the
+// tables of ends), the state, and the aim.
 #[derive(Drop)]
 pub struct Entry {
     pub node: usize,

@@ -1,20 +1,19 @@
 // What the rules give for an entry by the entries that stand. Each rule of a node has a number, c: a sequence has one for each end of
 // its first node, a fresh node one for each state after its creation, and so on.
-ghost use Rattle.std.specs.Prelude.{◌≡◌, Bool, false, ◌||◌, ℕ, ◌<◌};
+ghost use Rattle.std.specs.Prelude.{◌≡◌, Bool, ◌||◌, ℕ, ◌<◌};
 ghost use Rattle.outline_nodes.specs.Said.{said_by};
 ghost use Rattle.usage.specs.Past.{reopened};
 ghost use Rattle.automaton.specs.Mask.{has};
-ghost use Rattle.checker_lengths.specs.declared.WatchOne.{WatchOne};
 ghost use Rattle.usage.specs.Limits.{states};
-ghost use Rattle.checker_lengths.specs.Entries.{no_length, all_lengths, held};
-ghost use Rattle.checker_lengths.specs.Offers.{at_node, toward, low_end_lem, moved, born, ending_of, breaking, event_of, still_of};
+ghost use Rattle.checker_lengths.specs.declared.Entry.{Entry};
+ghost use Rattle.checker_lengths.specs.Entries.{held};
+ghost use Rattle.checker_lengths.specs.Offers.{at_node, toward, moved, born, ending_of, breaking, event_of, still_of};
 ghost use Rattle.checker_lengths.specs.Offers.{first_entry, second_entry, body_entry, inner_entry, sequence_of, fresh_of, sandbox_of};
-ghost use Rattle.checker_lengths.specs.Offers.{offer_from, ways_of};
+ghost use Rattle.checker_lengths.specs.Offers.{new_kind, new_state, offer_from, ways_of};
+ghost use Rattle.checker_lengths.specs.Code.{low_rule_lem, GivesFrom, goes_on_lem};
 
-use crate::{
-    AIMS, ALL, BROKEN, Entry, FRESH_RULES, Lengths, MOST, NONE, OWN_BREAK, WatchOne, entries,
-};
-use checker_account::{LAYER, Table, UNNAMED};
+use crate::{AIMS, BROKEN, Entry, KIND_RULES, MOST, NONE, entries, numbers};
+use checker_account::{LAYER, Table, Watch};
 use outline_nodes::NodeForm;
 use usage::{MOST_NODES, STATES};
 
@@ -44,13 +43,6 @@ pub(crate) fn toward(e: Entry, i: usize) -> Entry
     }
 }
 
-// Where the ends begin that a start with this meaning can come to.
-pub fn low_end(m: usize) -> usize
-    ensures { result ≡ low_end_lem m }
-{
-    if m == 0 { 0 } else { STATES }
-}
-
 // Is state j in the set v?
 pub(crate) fn has(v: u16, j: usize) -> bool
     requires { j < states }
@@ -59,9 +51,9 @@ pub(crate) fn has(v: u16, j: usize) -> bool
     (v >> (j as u32)) & 1 == 1
 }
 
-// The states after the event of the entry's node, which is on the watched resource or not.
-fn moved(rows: &Table, e: Entry, own: bool) -> u16
-    ensures { result ≡ moved rows.now e own }
+// The states after the event of the entry's node, which is on r.
+fn moved(rows: &Table, w: Watch, e: Entry, r: usize) -> u16
+    ensures { result ≡ moved rows.now w.resources e r }
 {
     let k = e.node;
     let q = e.state;
@@ -71,30 +63,28 @@ fn moved(rows: &Table, e: Entry, own: bool) -> u16
     if STATES <= q {
         return 0;
     }
-    if own {
-        rows[LAYER + STATES * k + q]
-    } else {
-        rows[STATES * k + q]
-    }
+    rows[LAYER * checker_tables::rows::way(w.resources, r) + STATES * k + q]
 }
 
-// The states after a creation: none for that of the watched resource where it can no longer be created.
-fn born(rows: &Table, e: Entry, own: bool) -> u16
-    ensures { result ≡ born rows.now e own }
+// The states after the creation of a resource of kind g: none where it can no longer be created.
+fn born(rows: &Table, w: Watch, e: Entry, g: usize) -> u16
+    ensures { result ≡ born rows.now w.resources e g }
 {
-    if own {
-        if 0 < e.meaning {
-            return 0;
-        }
+    if numbers::creatable(e.meaning, g) {
+        moved(rows, w, e, numbers::new_resource(g))
+    } else {
+        0
     }
-    moved(rows, e, own)
 }
 
 // One step, after which the node has ended in a state of v.
 fn ending(v: u16, e: Entry) -> u8
     ensures { result ≡ ending_of v e }
 {
-    let low = low_end(e.meaning);
+    if checker_tables::numbers::is_late(e.meaning) {
+        return NONE;
+    }
+    let low = numbers::low_end(e.meaning);
     if e.aim < low {
         return NONE;
     }
@@ -129,7 +119,10 @@ fn event(v: u16, e: Entry, c: usize) -> u8
 fn still(e: Entry) -> u8
     ensures { result ≡ still_of e }
 {
-    let low = low_end(e.meaning);
+    if checker_tables::numbers::is_late(e.meaning) {
+        return NONE;
+    }
+    let low = numbers::low_end(e.meaning);
     if e.aim < low {
         return NONE;
     }
@@ -145,9 +138,9 @@ pub fn first(e: Entry, a: u8, c: usize) -> Entry
     Entry {
         node: a as usize,
         opened: e.opened,
-        meaning: e.meaning,
+        meaning: numbers::first(e.meaning, c),
         state: e.state,
-        aim: c,
+        aim: numbers::way_end(c),
     }
 }
 
@@ -155,39 +148,30 @@ pub fn first(e: Entry, a: u8, c: usize) -> Entry
 pub fn second(e: Entry, b: u8, c: usize) -> Entry
     ensures { result ≡ second_entry e b c }
 {
-    let mut m: usize = 0;
-    if STATES <= c {
-        m = if e.meaning == 0 { UNNAMED } else { e.meaning };
-    }
     Entry {
         node: b as usize,
         opened: e.opened,
-        meaning: m,
-        state: c % STATES,
+        meaning: numbers::second(e.meaning, c),
+        state: numbers::way_end(c) % STATES,
         aim: e.aim,
     }
 }
 
-// The body of a fresh node for name n, after the creation of another resource or of the watched one, in state c % 8.
+// The body of a fresh node for name n, after the creation that rule c says.
 pub fn body(e: Entry, n: u8, b: u8, c: usize) -> Entry
     ensures { result ≡ body_entry e n b c }
 {
-    let own = n as usize + 1;
-    let mut m = own;
-    if c < STATES {
-        m = checker_tables::lose(e.meaning, own);
-    }
     Entry {
         node: b as usize,
         opened: e.opened,
-        meaning: m,
-        state: c % STATES,
+        meaning: checker_tables::numbers::given(e.meaning, n, c / KIND_RULES),
+        state: c % KIND_RULES,
         aim: e.aim,
     }
 }
 
 // The state after an opening of policy s.
-fn reopened(w: WatchOne, s: u8, o: bool, q: usize) -> usize
+fn reopened(w: Watch, s: u8, o: bool, q: usize) -> usize
     ensures { result ≡ reopened w.local w.policy s o q }
 {
     if !w.local {
@@ -200,7 +184,7 @@ fn reopened(w: WatchOne, s: u8, o: bool, q: usize) -> usize
 }
 
 // The body of a sandbox of policy s.
-pub fn inner(w: WatchOne, e: Entry, s: u8, b: u8) -> Entry
+pub fn inner(w: Watch, e: Entry, s: u8, b: u8) -> Entry
     ensures { result ≡ inner_entry w e s b }
 {
     let q = reopened(w, s, e.opened, e.state);
@@ -221,14 +205,19 @@ pub fn inner(w: WatchOne, e: Entry, s: u8, b: u8) -> Entry
 // ── Rules ──
 
 // A sequence: its first node ends in way c, and its second comes to the aim; or the first breaks the policy.
-fn sequence(t: &Lengths, most: u8, e: Entry, a: u8, b: u8, c: usize) -> u8
+fn sequence(t: &[u8], most: u8, e: Entry, a: u8, b: u8, c: usize) -> u8
     ensures { result ≡ sequence_of (held t.now most) e a b c }
 {
-    if BROKEN <= c {
+    if BROKEN <= numbers::way_end(c) {
         if e.aim != BROKEN {
             return NONE;
         }
         return entries::get(t, most, at(e, a));
+    }
+    if AIMS <= c {
+        if !numbers::awaits(e) {
+            return NONE;
+        }
     }
     let v = entries::get(t, most, first(e, a, c));
     if MOST < v {
@@ -238,20 +227,29 @@ fn sequence(t: &Lengths, most: u8, e: Entry, a: u8, b: u8, c: usize) -> u8
 }
 
 // A fresh node for name n: its creation leads to a state, and its body from there to the aim; or the creation breaks the policy.
-fn fresh(t: &Lengths, rows: &Table, most: u8, e: Entry, n: u8, b: u8, c: usize) -> u8
-    ensures { result ≡ fresh_of rows.now (held t.now most) e n b c }
+fn fresh(t: &[u8], rows: &Table, w: Watch, most: u8, e: Entry, n: u8, b: u8, c: usize) -> u8
+    ensures { result ≡ fresh_of rows.now w.resources (held t.now most) e n b c }
 {
-    if BROKEN <= c {
-        return breaking(born(rows, e, OWN_BREAK <= c), e);
+    let g = c / KIND_RULES;
+    let q = c % KIND_RULES;
+    if 2 <= g {
+        if !numbers::awaits(e) {
+            return NONE;
+        }
     }
-    if !has(born(rows, e, STATES <= c), c % STATES) {
-        return NONE;
+    let v = born(rows, w, e, g);
+    if q == STATES {
+        return breaking(v, e);
     }
-    entries::plus(1, entries::get(t, most, body(e, n, b, c)))
+    if has(v, q) {
+        entries::plus(1, entries::get(t, most, body(e, n, b, c)))
+    } else {
+        NONE
+    }
 }
 
 // A sandbox of policy s: its body comes to the aim, and where it ends there is the closing; or its opening breaks the policy.
-fn sandbox(t: &Lengths, w: WatchOne, most: u8, e: Entry, s: u8, b: u8, c: usize) -> u8
+fn sandbox(t: &[u8], w: Watch, most: u8, e: Entry, s: u8, b: u8, c: usize) -> u8
     ensures { result ≡ sandbox_of w (held t.now most) e s b c }
 {
     if c == 0 {
@@ -272,15 +270,7 @@ fn sandbox(t: &Lengths, w: WatchOne, most: u8, e: Entry, s: u8, b: u8, c: usize)
 }
 
 // What rule c of the entry's node gives, f being that node, by the lengths below `most`.
-pub fn offer(
-    t: &Lengths,
-    rows: &Table,
-    w: WatchOne,
-    most: u8,
-    f: NodeForm,
-    e: Entry,
-    c: usize,
-) -> u8
+pub fn offer(t: &[u8], rows: &Table, w: Watch, most: u8, f: NodeForm, e: Entry, c: usize) -> u8
     ensures { result ≡ offer_from w rows.now (held t.now most) e c (said_by f) }
 {
     match f {
@@ -288,9 +278,14 @@ pub fn offer(
         NodeForm::OnStatic {
             action: _,
             resource,
-        } => event(moved(rows, e, resource as usize == w.resource), e, c),
+        } => event(moved(rows, w, e, resource as usize), e, c),
         NodeForm::OnName { action: _, name } => event(
-            moved(rows, e, e.meaning == name as usize + 1),
+            moved(
+                rows,
+                w,
+                e,
+                checker_tables::numbers::meant_by(e.meaning, name),
+            ),
             e,
             c,
         ),
@@ -302,34 +297,75 @@ pub fn offer(
         ),
         NodeForm::Loop { body } => entries::get(t, most, at(e, body)),
         NodeForm::Back { to } => entries::get(t, most, at(e, to)),
-        NodeForm::Fresh { name, body } => fresh(t, rows, most, e, name, body, c),
+        NodeForm::Fresh { name, body } => fresh(t, rows, w, most, e, name, body, c),
         NodeForm::Sandbox { policy, body } => sandbox(t, w, most, e, policy, body, c),
         NodeForm::Nothing => NONE,
     }
 }
 
-// Can rule c of node f give anything from this start, whatever the aim? It cannot where the first node of a sequence has no such end,
-// or where a creation leads to no such state.
-pub(crate) fn gives(t: &Lengths, rows: &Table, f: NodeForm, s: Entry, c: usize) -> bool
-    ensures { result ≡ false → (w : WatchOne) (i : ℕ)
-        → offer_from w rows.now (held t.now all_lengths) (toward s i) c (said_by f) ≡ no_length }
+// The lowest aim that a rule can come to from a start with meaning m: some rules only break the policy.
+fn low_rule(m: usize, breaks: bool) -> usize
+    ensures { result ≡ low_rule_lem m breaks }
 {
-    if BROKEN <= c {
-        return true;
+    if breaks { BROKEN } else { numbers::low_end(m) }
+}
+
+// Does rule c of a fresh node go on to its body, after the creation of another resource than the second?
+pub(crate) fn goes_on(c: usize) -> bool
+    ensures { result ≡ goes_on_lem c }
+{
+    if 2 * KIND_RULES <= c {
+        return false;
     }
-    match f {
-        NodeForm::Sequence {
-            first: a,
-            second: _,
-        } => entries::get(t, ALL, first(s, a, c)) <= MOST,
-        NodeForm::Fresh { name: _, body: _ } => has(born(rows, s, STATES <= c), c % STATES),
-        _ => true,
+    c % KIND_RULES < STATES
+}
+
+// Does the creation that rule c of a fresh node says lead to the state that it says?
+pub(crate) fn comes(rows: &Table, w: Watch, s: Entry, c: usize) -> bool
+    requires { new_state c < states }
+    ensures { result ≡ has (born rows.now w.resources s (new_kind c)) (new_state c) }
+{
+    has(born(rows, w, s, c / KIND_RULES), c % KIND_RULES)
+}
+
+// The lowest that rule c of a fresh node can come to; none where the creation leads to no such state.
+fn low_fresh(rows: &Table, w: Watch, s: Entry, c: usize) -> usize
+    ensures { (n b : ℕ) → GivesFrom s.meaning result
+        (λ look i. fresh_of rows.now w.resources look (toward s i) n b c) }
+{
+    if c % KIND_RULES == STATES {
+        return BROKEN;
+    }
+    if comes(rows, w, s, c) {
+        numbers::low_end(s.meaning)
+    } else {
+        AIMS
     }
 }
 
-// How many rules a node of this kind has.
-pub fn ways(f: NodeForm) -> usize
-    ensures { result ≡ ways_of (said_by f) }
+// The lowest that rule c of node f can come to.
+pub(crate) fn low_given(rows: &Table, w: Watch, f: NodeForm, s: Entry, c: usize) -> usize
+    ensures { GivesFrom s.meaning result (λ look i. offer_from w rows.now look (toward s i) c (said_by f)) }
+{
+    match f {
+        NodeForm::OnStatic {
+            action: _,
+            resource: _,
+        } => low_rule(s.meaning, 0 < c),
+        NodeForm::OnName { action: _, name: _ } => low_rule(s.meaning, 0 < c),
+        NodeForm::Sequence {
+            first: _,
+            second: _,
+        } => low_rule(s.meaning, BROKEN <= numbers::way_end(c)),
+        NodeForm::Fresh { name: _, body: _ } => low_fresh(rows, w, s, c),
+        NodeForm::Sandbox { policy: _, body: _ } => low_rule(s.meaning, 0 < c),
+        _ => numbers::low_end(s.meaning),
+    }
+}
+
+// How many rules a node of this kind has at a start with meaning m.
+pub fn ways(f: NodeForm, m: usize) -> usize
+    ensures { result ≡ ways_of m (said_by f) }
 {
     match f {
         NodeForm::End => 1,
@@ -341,11 +377,19 @@ pub fn ways(f: NodeForm) -> usize
         NodeForm::Sequence {
             first: _,
             second: _,
-        } => AIMS,
+        } => if numbers::seconds(m) {
+            AIMS + BROKEN
+        } else {
+            AIMS
+        },
         NodeForm::Choice { one: _, other: _ } => 2,
         NodeForm::Loop { body: _ } => 1,
         NodeForm::Back { to: _ } => 1,
-        NodeForm::Fresh { name: _, body: _ } => FRESH_RULES,
+        NodeForm::Fresh { name: _, body: _ } => if numbers::seconds(m) {
+            3 * KIND_RULES
+        } else {
+            2 * KIND_RULES
+        },
         NodeForm::Sandbox { policy: _, body: _ } => 2,
         NodeForm::Nothing => 0,
     }

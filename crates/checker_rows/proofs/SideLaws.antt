@@ -20,11 +20,11 @@ module _ (es : List Edge) (a s : ℕ) where
   one-bytes mine t e i =
       subst (λ (t : List ℕ). get_or t i 0 < 256) (rows-one es a s mine ∙ sym e) (rows-at-lt es a s mine false i)
 
-  pub second-bytes : (mine : Bool) (t : List ℕ) → t ≡ rows_at es a s mine true → Bytes t
-  second-bytes mine t e i = subst (λ (t : List ℕ). get_or t i 0 < 256) (sym e) (rows-at-lt es a s mine true i)
+  pub place-bytes : (first second : Bool) (t : List ℕ) → t ≡ rows_at es a s first second → Bytes t
+  place-bytes first second t e i = subst (λ (t : List ℕ). get_or t i 0 < 256) (sym e) (rows-at-lt es a s first second i)
 
   module _ (p k : ℕ) (own other r r₁ : List ℕ) where
-    side-is : (second : Bool) → own ≡ rows_at es a s true second → other ≡ rows_at es a s false second
+    pub side-is : (second : Bool) → own ≡ rows_at es a s true second → other ≡ rows_at es a s false second
         → r₁ ≡ rows_stored k (way_of false second) p own other r → r₁ ≡ side_rows (rows_at es) second p k a s r
     side-is second e f h = h ∙ ap₂ (λ (own other : List ℕ). rows_stored k (way_of false second) p own other r) e f
 
@@ -32,20 +32,19 @@ module _ (es : List Edge) (a s : ℕ) where
         → r₁ ≡ side_rows (rows_at es) false p k a s r
     first-side e f h = side-is false (e ∙ sym (rows-one es a s true)) (f ∙ sym (rows-one es a s false)) h
 
-    pub second-side : own ≡ rows_at es a s true true → other ≡ rows_at es a s false true → r₁ ≡ rows_stored k 2 p own other r
-        → r₁ ≡ side_rows (rows_at es) true p k a s r
-    second-side e f h = side-is true e f h
-
   -- one side, and both
   pub one_side : (pair : Bool) (p k : ℕ) (r r₁ : List ℕ) → pair ≡ false → r₁ ≡ side_rows (rows_at es) false p k a s r
       → r₁ ≡ event_rows_lem (rows_at es) pair p k a s r
   one_side pair p k r r₁ e h =
       h ∙ sym (ap (λ (b : Bool). event_rows_lem (rows_at es) b p k a s r) e)
 
-  pub both-sides : (pair : Bool) (p k : ℕ) (r r₁ r₂ : List ℕ) → pair ≡ true → r₁ ≡ side_rows (rows_at es) false p k a s r
-      → r₂ ≡ side_rows (rows_at es) true p k a s r₁ → r₂ ≡ event_rows_lem (rows_at es) pair p k a s r
-  both-sides pair p k r r₁ r₂ e f h =
-      h ∙ ap (side_rows (rows_at es) true p k a s) f ∙ sym (ap (λ (b : Bool). event_rows_lem (rows_at es) b p k a s r) e)
+  pub both-sides : (p k : ℕ) (r r₁ r₂ : List ℕ) → r₁ ≡ side_rows (rows_at es) false p k a s r → r₂ ≡ side_rows (rows_at es) true p k a s r₁
+      → r₂ ≡ event_rows_lem (rows_at es) true p k a s r
+  both-sides p k r r₁ r₂ f h = h ∙ ap (side_rows (rows_at es) true p k a s) f
+
+  pub of_pair : (pair : Bool) (p k : ℕ) (r r₁ : List ℕ) → pair ≡ true → r₁ ≡ event_rows_lem (rows_at es) true p k a s r
+      → r₁ ≡ event_rows_lem (rows_at es) pair p k a s r
+  of_pair pair p k r r₁ e h = h ∙ sym (ap (λ (b : Bool). event_rows_lem (rows_at es) b p k a s r) e)
 
 pub stored-length : (k p : ℕ) (own other r r₁ : List ℕ) → k < most_nodes → length r ≡ places → r₁ ≡ rows_stored k 0 p own other r
     → length r₁ ≡ places

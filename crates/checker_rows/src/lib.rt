@@ -1,6 +1,6 @@
 // The table of rows: of each node with an event, the states that each state of policy p moves to by it, which is on the first watched resource
 // or not, and for a pair policy on the second or not.
-ghost use Rattle.std.specs.Prelude.{◌≡◌, ◌<◌, length};
+ghost use Rattle.std.specs.Prelude.{◌≡◌, true, ◌<◌, length};
 ghost use Rattle.usage.specs.Limits.{policies, most_nodes};
 ghost use Rattle.outline_nodes.specs.Said.{said_by};
 ghost use Rattle.usage.specs.Tables.{edges_of};
@@ -55,6 +55,31 @@ fn store(
     }
 }
 
+// Those of a pair policy's event, in one pass over the edges.
+fn pair_rows(rows: &mut Table, edges: &[u8], s: Slot, action: u32, resource: u32)
+    requires rows_len { length rows.old ≡ places }
+    requires node_lt_most_nodes { s.node < most_nodes }
+    requires policy_lt_policies { s.policy < policies }
+    ensures { rows.new
+        ≡ event_rows_lem (rows_at (edges_of edges.now)) true s.policy s.node action resource rows.old }
+{
+    let mut neither = [0u8; EVENT_TABLE];
+    let mut first = [0u8; EVENT_TABLE];
+    let mut second = [0u8; EVENT_TABLE];
+    let mut both = [0u8; EVENT_TABLE];
+    automaton::moves::rows_by_place(
+        edges,
+        action,
+        resource,
+        &mut neither,
+        &mut first,
+        &mut second,
+        &mut both,
+    );
+    store(rows, s.node, 0, s.policy, &first, &neither);
+    store(rows, s.node, SECOND, s.policy, &both, &second);
+}
+
 // Those of the node's event: where it is not on the second watched resource, and, for a pair policy, where it is.
 fn event_rows(rows: &mut Table, edges: &[u8], s: Slot, action: u32, resource: u32)
     requires rows_len { length rows.old ≡ places }
@@ -63,14 +88,14 @@ fn event_rows(rows: &mut Table, edges: &[u8], s: Slot, action: u32, resource: u3
     ensures { rows.new
         ≡ event_rows_lem (rows_at (edges_of edges.now)) s.pair s.policy s.node action resource rows.old }
 {
+    if s.pair {
+        pair_rows(rows, edges, s, action, resource);
+        return;
+    }
     let mut own = [0u8; EVENT_TABLE];
     let mut other = [0u8; EVENT_TABLE];
     automaton::moves::rows(edges, action, resource, &mut own, &mut other);
     store(rows, s.node, 0, s.policy, &own, &other);
-    if s.pair {
-        automaton::moves::rows_second(edges, action, resource, &mut own, &mut other);
-        store(rows, s.node, SECOND, s.policy, &own, &other);
-    }
 }
 
 // Those of the node, if it has an event. A name and a creation are on a resource that no edge names.

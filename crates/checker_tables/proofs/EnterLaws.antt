@@ -54,8 +54,8 @@ room_in g e i = subst (λ (k : ℕ). Room k g) (sym e) i
 -- ── Reading it ──
 
 -- where there is such a place
-pub come-to-in : (u : List ℕ) (k : ℕ) (o : Bool) (m : ℕ) → k < most_nodes → m < meanings → come_to_lem u k o m ≡ get_or u (place k o m) 0
+pub come-to-in : (u : List ℕ) (k : ℕ) (o : Bool) (m : ℕ) → k < most_nodes → m < 42 → come_to_lem u k o m ≡ get_or u (place k o m) 0
 unfolding come_to_lem
 come-to-in u k o m h l =
     ap (λ (b : Bool). cond b (get_or u (place k o m) 0) 0)
-    (and_both (ltb k most_nodes) (ltb m meanings) (lt-ltb k most_nodes h) (lt-ltb m meanings l))
+    (and_both (ltb k most_nodes) (ltb m 42) (lt-ltb k most_nodes h) (lt-ltb m 42 l))

@@ -17,7 +17,7 @@ use Rattle.usage.proofs.Logic.{and_left, and_right, and_both, false-true, not-tr
 use Rattle.usage.proofs.FormLaws.{FormOk, formed}
 use Rattle.usage.proofs.TableLaws.{nodes-length, nodes-member}
 use Rattle.automaton.proofs.MaskLaws.{some_at, some-found}
-use Rattle.checker_account.specs.Single.{no_name}
+use Rattle.checker_account.specs.Pairs.{no_name}
 use Rattle.checker_account.specs.Filling.{forms_in}
 use Rattle.checker_tables.specs.Search.{Small, small, NodesFit, has_room}
 use Rattle.checker_tables.specs.Work.{readers_of, readers_in}

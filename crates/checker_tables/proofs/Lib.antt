@@ -14,6 +14,9 @@ pub mod OtherLaws
 pub mod WorkLaws
 -- Resources that need not be watched.
 pub mod TouchedLaws
+pub mod WorthLaws
+-- Nodes that are passed over.
+pub mod PassedLaws
 -- Arrivals that are entered one after the other.
 pub mod EnterLaws
 -- Openings that reset.

@@ -1,17 +1,19 @@
 -- The numbers of entries as the code computes them, and the places of a table up to a group.
-use Prim.Native.Nat.{ℕ, suc, ◌+◌, ◌-◌, ◌*◌, ◌/◌, ◌%◌, ◌<◌, ◌≤◌}
+use Prim.Native.Nat.{ℕ, zero, suc, ◌+◌, ◌-◌, ◌*◌, ◌/◌, ◌%◌, ◌<◌, ◌≤◌}
 use mathlib.Core.Path.{◌≡◌, refl, sym, ap, ap₂, ◌∙◌, subst}
-use mathlib.Core.Bool.{Bool, true, false, ◌||◌, cond}
+use mathlib.Core.Bool.{Bool, true, false, ◌&&◌, ◌||◌, cond}
+use mathlib.Core.Logic.{◌⊎◌, inl, inr}
 use native.Mathlib.Omega.{arith}
-use lib.Dec.{eqb}
-use borrow.Author.Tests.{eqb-true, eq-eqb, ne_eqb}
+use lib.Dec.{eqb, ltb}
+use borrow.Author.Tests.{eqb-true, lt-ltb, le-ltb, eq-eqb, ne_eqb}
 use Rattle.usage.specs.Limits.{states, most_nodes}
+use Rattle.usage.proofs.Logic.{and_both, and-false}
 use Rattle.checker_account.specs.Account.{watched, watched_too}
-use Rattle.checker_account.specs.Single.{no_name}
+use Rattle.checker_account.specs.Pairs.{no_name}
 use Rattle.checker_account.specs.declared.Resources.{Resources}
 use Rattle.checker_account.specs.Tables.{unnamed, meanings, numbered, meaning_in, group_in, waiting_group, late_group, waits, layer, places_of}
-use Rattle.checker_account.specs.Tables.{places, entries_of_lem, codes_of, place}
-use Rattle.checker_tables.specs.Search.{lost, group_end, pair_places}
+use Rattle.checker_account.specs.Tables.{meaning_after, one_resource, nothing, places, entries_of_lem, codes_of, place, forgotten_in, first_named_lem, second_named_lem}
+use Rattle.checker_tables.specs.Search.{lost, group_end, pair_places, given_by, given_in, without_second}
 
 -- ── Losing a meaning ──
 
@@ -22,6 +24,11 @@ lost-lt m n l = go (eqb m n)
     go : (b : Bool) → cond b unnamed m < meanings
     go true = omega arith
     go false = l
+
+-- a meaning other than that the resource can still be created stays
+pub after-other : (m : ℕ) → (m ≡ 0 → ⊥) → meaning_after m true ≡ m
+after-other zero h = absurd (h refl)
+after-other (suc m) h = refl
 
 -- ── A table has the groups of its entries and codes ──
 
@@ -74,3 +81,40 @@ place-room k true c n l h = omega arith
 pub place-small : (k : ℕ) (o : Bool) (c : ℕ) → k < most_nodes → group_in c ≤ late_group → place k o c < pair_places
 place-small k false c l h = omega arith
 place-small k true c l h = omega arith
+
+-- ── Given names, for any numbers ──
+
+module _ (e n kind : ℕ) where
+  pub given_out : (numbered 0 (suc late_group) ≤ e) ⊎ (no_name ≤ n) → e ≡ given_in e n kind
+  unfolding given_in
+  given_out (inl h) = sym (ap (λ (b : Bool). cond (b && ltb n no_name) (given_by e n kind) e) (le-ltb e 42 h))
+  given_out (inr h) = sym (ap (λ (b : Bool). cond b (given_by e n kind) e) (and-false (ltb e 42) (ltb n no_name) (le-ltb n no_name h)))
+
+  pub given-in : e < numbered 0 (suc late_group) → n < no_name → given_in e n kind ≡ given_by e n kind
+  unfolding given_in
+  given-in h l = ap (λ (b : Bool). cond b (given_by e n kind) e)
+      (and_both (ltb e 42) (ltb n no_name) (lt-ltb e 42 h) (lt-ltb n no_name l))
+
+  pub given-other : kind ≡ 0 → forgotten_in e n ≡ given_by e n kind
+  given-other h = sym (ap (λ (b : Bool). cond b (forgotten_in e n) (cond (eqb kind 1) (first_named_lem e n) (second_named_lem e n))) (eq-eqb kind 0 h))
+
+  module _ (d : kind ≡ 0 → ⊥) where
+    not-other : cond (eqb kind 1) (first_named_lem e n) (second_named_lem e n) ≡ given_by e n kind
+    not-other = sym (ap (λ (b : Bool). cond b (forgotten_in e n) (cond (eqb kind 1) (first_named_lem e n) (second_named_lem e n))) (ne_eqb kind 0 d))
+
+    pub given-first : kind ≡ 1 → first_named_lem e n ≡ given_by e n kind
+    given-first h = sym (ap (λ (b : Bool). cond b (first_named_lem e n) (second_named_lem e n)) (eq-eqb kind 1 h)) ∙ not-other
+
+    pub given-second : (kind ≡ 1 → ⊥) → second_named_lem e n ≡ given_by e n kind
+    given-second h = sym (ap (λ (b : Bool). cond b (first_named_lem e n) (second_named_lem e n)) (ne_eqb kind 1 h)) ∙ not-other
+
+-- ── 17 left out ──
+
+module _ (x : Resources) where
+  pub without_is : x.second ≡ watched_too → one_resource x.first ≡ without_second x
+  unfolding without_second
+  without_is e = sym (ap (λ (b : Bool). cond b (one_resource x.first) x) (eq-eqb x.second watched_too e))
+
+  pub without-same : (x.second ≡ watched_too → ⊥) → x ≡ without_second x
+  unfolding without_second
+  without-same d = sym (ap (λ (b : Bool). cond b (one_resource x.first) x) (ne_eqb x.second watched_too d))

@@ -21,7 +21,7 @@ use Rattle.usage.specs.Outline.{Form, end, static_event, named_event, sequence, 
 use Rattle.usage.proofs.Logic.{last-or-lower, not-both, false-true}
 use Rattle.automaton.specs.Mask.{has}
 use Rattle.automaton.proofs.MaskLaws.{all-below, all-below-at, has-or, has-zero}
-use Rattle.checker_account.specs.Single.{no_name}
+use Rattle.checker_account.specs.Pairs.{no_name}
 use Rattle.checker_account.specs.declared.Resources.{Resources}
 use Rattle.checker_account.specs.Tables.{base, Rows, Resets, joined_at, places_of}
 use Rattle.checker_account.specs.Filling.{

@@ -6,11 +6,12 @@ use Rattle.std.specs.Int.Bits.{bit_or}
 use Rattle.usage.specs.Limits.{actions, policies, most_nodes, node_fields}
 use Rattle.usage.specs.Outline.{Form, end, static_event, named_event, sequence, choice, loop, back, fresh, sandbox}
 use Rattle.usage.specs.Tests.{some_below}
-use Rattle.checker_account.specs.Account.{watched, others}
-use Rattle.checker_account.specs.Single.{no_name}
+use Rattle.checker_account.specs.Account.{watched, watched_too, others}
+use Rattle.checker_account.specs.Pairs.{no_name}
 use Rattle.checker_account.specs.declared.Arrival.{Arrival}
 use Rattle.checker_account.specs.declared.Resources.{Resources}
-use Rattle.checker_account.specs.Tables.{unnamed, meanings, made, numbered, meaning_in, late_group, forgotten_in, first_named_lem}
+use Rattle.checker_account.specs.Tables.{one_resource, two_resources, unnamed, meanings, made, numbered, meaning_in, late_group, forgotten_in}
+use Rattle.checker_account.specs.Tables.{first_named_lem, second_named_lem}
 use Rattle.checker_account.specs.Tables.{layer, places_of, Rows, row_on, rows_in, begun, over, first_created_lem, place, ◌by◌by◌with◌}
 use Rattle.checker_account.specs.Tables.{Resets, never, opening_of}
 use Rattle.checker_account.specs.Filling.{grown, Wide, entered, forms_in, EndsRule, EndsFilled, ComesRule, pass_round_lem}
@@ -38,6 +39,10 @@ is_on_lem x (some (sandbox s b)) = false
 -- x is the dynamic resource, or some node of the flat table is an event on it
 unfoldable pub touched : List ℕ → ℕ → Bool
 touched t x = leb watched x || some_below (λ k. is_on_lem x (forms_in t k)) (length t / node_fields)
+
+-- an event is on each static resource of a choice: where not, another choice shows what this one would
+abbrev pub worth_of : List ℕ → Resources → Bool
+worth_of nodes x = touched nodes x.first && touched nodes x.second
 
 -- ── What the tables have room for ──
 
@@ -147,7 +152,22 @@ SearchedIn nodes local rows p x answer = Searched local (rows_in rows) p x (leng
 
 -- the states in which node k is come to: none where the table has no such place
 unfoldable pub come_to_lem : List ℕ → ℕ → Bool → ℕ → ℕ
-come_to_lem u k o m = cond (ltb k most_nodes && ltb m meanings) (get_or u (place k o m) 0) 0
+come_to_lem u k o m = cond (ltb k most_nodes && ltb m (numbered 0 (suc late_group))) (get_or u (place k o m) 0) 0
+
+-- the entry of the body of a fresh node that gives name n to another resource, kind 0, to 16, kind 1, or to 17; a number that no table has
+-- stays
+abbrev pub given_by : ℕ → ℕ → ℕ → ℕ
+given_by e n kind = cond (eqb kind 0) (forgotten_in e n) (cond (eqb kind 1) (first_named_lem e n) (second_named_lem e n))
+
+unfoldable pub given_in : ℕ → ℕ → ℕ → ℕ
+given_in e n kind = cond (ltb e (numbered 0 (suc late_group)) && ltb n no_name) (given_by e n kind) e
+
+-- the watched resources with 17 left out; and both dynamic ones
+unfoldable pub without_second : Resources → Resources
+without_second x = cond (eqb x.second watched_too) (one_resource x.first) x
+
+abbrev pub both_dynamic : Resources
+both_dynamic = two_resources watched watched_too
 
 -- a policy is not broken where the tables have no room for the nodes
 abbrev pub SearchedIf : Bool → List ℕ → Bool → List ℕ → ℕ → Resources → Bool → Type 0

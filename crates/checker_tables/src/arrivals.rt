@@ -3,14 +3,16 @@
 ghost use Rattle.std.specs.Prelude.{◌≡◌, Bool, true, false, not, ◌&&◌, ◌||◌, List, [], ◌∷◌, ℕ, ◌<◌, ◌≤◌, length, get_or, replicate};
 ghost use Rattle.usage.specs.Limits.{most_nodes};
 ghost use Rattle.outline_nodes.specs.Said.{said_by};
-ghost use Rattle.checker_account.specs.Single.{no_name};
-ghost use Rattle.checker_account.specs.Tables.{late_group, group_in, waits, in_group_lem, places_of, begun, rows_in, restarted, place, ◌by◌by◌with◌};
+ghost use Rattle.checker_account.specs.Pairs.{no_name};
+ghost use Rattle.checker_account.specs.declared.Resources.{Resources};
+ghost use Rattle.checker_account.specs.Tables.{Rows, late_group, group_in, waits, in_group_lem, places_of, begun, rows_in, restarted, place};
+ghost use Rattle.checker_account.specs.Tables.{◌by◌by◌with◌};
 ghost use Rattle.checker_account.specs.Tables.{halves, second_arrivals, fresh_arrivals};
 ghost use Rattle.checker_account.specs.Filling.{grown, by_open, arrivals_of, pass_node_lem, begins, Wide, Filled};
 ghost use Rattle.checker_tables.specs.Search.{group_end, first_arrivals, Small, NodesFit, Enters, come_to_lem, comes_round, ComesBy};
 
 use checker_account::{
-    Arrival, LATE, LAYER, MEANINGS, OTHERS, Resources, Table, WATCHED_TOO, Watch,
+    Arrival, LATE, LAYER, OTHERS, PAIR_ENTRIES, Resources, Table, WATCHED_TOO, Watch,
 };
 use outline_nodes::NodeForm;
 use usage::{MOST_NODES, NODE_FIELDS, STATES};
@@ -38,17 +40,21 @@ pub(crate) fn states_at(u: &[u16], k: usize, o: bool, c: usize) -> u16
     u[place(k, o, c)]
 }
 
-// The same for other crates, with one dynamic resource watched at most: none where the table has no such place.
-pub fn come_to(u: &Table, k: usize, o: bool, m: usize) -> u16
+// The same for other crates: none where the table has no such place.
+pub fn come_to(u: &[u16], k: usize, o: bool, m: usize) -> u16
     ensures { result ≡ come_to_lem u.now k o m }
 {
     if MOST_NODES <= k {
         return 0;
     }
-    if MEANINGS <= m {
+    if PAIR_ENTRIES <= m {
         return 0;
     }
-    states_at(u, k, o, m)
+    let i = place(k, o, m);
+    if u.len() <= i {
+        return 0;
+    }
+    u[i]
 }
 
 // The same arrival at another node.
@@ -325,7 +331,7 @@ fn pass<'a>(
 }
 
 // Node k with every code that occurs, the policy being open or not. Is anything new?
-fn pass_node<'a>(
+fn pass_codes<'a>(
     u: &mut [u16],
     opened: &'a [u16],
     shut: &'a [u16],
@@ -364,6 +370,52 @@ fn pass_node<'a>(
         i += 1;
     }
     changed
+}
+
+// Can a node of this form lead to another? Events and ends cannot, which are half of most outlines.
+fn leads(f: NodeForm) -> bool
+    ensures { result ≡ false → (local : Bool) (rows : Rows) (p : ℕ) (x : Resources) (t : List ℕ) (k : ℕ) (o : Bool) (c v : ℕ)
+        → arrivals_of local rows p x t k o c v (said_by f) ≡ [] }
+{
+    match f {
+        NodeForm::Sequence {
+            first: _,
+            second: _,
+        } => true,
+        NodeForm::Choice { one: _, other: _ } => true,
+        NodeForm::Loop { body: _ } => true,
+        NodeForm::Back { to: _ } => true,
+        NodeForm::Fresh { name: _, body: _ } => true,
+        NodeForm::Sandbox { policy: _, body: _ } => true,
+        _ => false,
+    }
+}
+
+// The same, where a node that leads to no other is passed over.
+fn pass_node<'a>(
+    u: &mut [u16],
+    opened: &'a [u16],
+    shut: &'a [u16],
+    rows: &Table,
+    w: Watch,
+    k: usize,
+    f: NodeForm,
+) -> bool
+    requires u_len { length u.old ≡ places_of w.resources }
+    requires opened_len { length opened.now ≡ places_of w.resources }
+    requires shut_len { length shut.now ≡ places_of w.resources }
+    requires small { Small (said_by f) }
+    requires k_lt_most_nodes { k < most_nodes }
+    ensures u_after { u.new
+        ≡ pass_node_lem w.local (rows_in rows.now) w.policy w.resources (by_open opened.now shut.now)
+        k (said_by f) u.old }
+    ensures value { result ≡ grown u.old u.new }
+    ensures wide { Wide u.old → Wide u.new }
+{
+    if leads(f) {
+        return pass_codes(u, opened, shut, rows, w, k, f);
+    }
+    false
 }
 
 // Every node, from the lowest to the highest. Is anything new?

@@ -5,7 +5,7 @@ ghost use Rattle.std.specs.Int.Bits.{bit_or};
 ghost use Rattle.usage.specs.Limits.{states, most_nodes};
 ghost use Rattle.outline_nodes.specs.Said.{said_by};
 ghost use Rattle.automaton.specs.Mask.{has};
-ghost use Rattle.checker_account.specs.Single.{no_name};
+ghost use Rattle.checker_account.specs.Pairs.{no_name};
 ghost use Rattle.checker_account.specs.Tables.{late_group, group_in, places_of, over, base, kept_in, begun, row_on, rows_in, in_turn};
 ghost use Rattle.checker_account.specs.Tables.{sequence_ends_lem, fresh_ends_lem};
 ghost use Rattle.checker_account.specs.Filling.{grown, ends_of_lem, joined_each, settle_node_lem, Filled, Wide};

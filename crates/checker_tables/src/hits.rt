@@ -1,9 +1,10 @@
 // The search for a violation: a node whose step leaves the policy open with an offending state, by the table of what is come to.
-ghost use Rattle.std.specs.Prelude.{◌≡◌, Bool, true, false, cond, ℕ, ◌<◌, ◌≤◌, length, get_or};
+ghost use Rattle.std.specs.Prelude.{◌≡◌, Bool, true, false, cond, List, ℕ, ◌<◌, ◌≤◌, length, get_or};
 ghost use Rattle.std.specs.Int.Bits.{bit_or};
 ghost use Rattle.usage.specs.Limits.{most_nodes};
 ghost use Rattle.outline_nodes.specs.Said.{said_by};
-ghost use Rattle.checker_account.specs.Tables.{late_group, group_in, places_of, rows_in, restarted, place};
+ghost use Rattle.checker_account.specs.declared.Resources.{Resources};
+ghost use Rattle.checker_account.specs.Tables.{Rows, late_group, group_in, places_of, rows_in, restarted, place};
 ghost use Rattle.checker_account.specs.Filling.{leaves_of, hit_node_lem};
 ghost use Rattle.checker_tables.specs.Search.{group_end, Small, NodesFit, hit_in};
 ghost use Rattle.checker_tables.specs.Marks.{last_in, mark_bit_lem, marks_in};
@@ -59,7 +60,7 @@ fn leaves_by(u: &[u16], rows: &Table, w: Watch, k: usize, f: NodeForm, c: usize)
 }
 
 // Does the step of node k leave an offending state, with some code that occurs?
-fn hit_node(u: &[u16], rows: &Table, w: Watch, k: usize, f: NodeForm) -> bool
+fn hit_codes(u: &[u16], rows: &Table, w: Watch, k: usize, f: NodeForm) -> bool
     requires u_len { length u.now ≡ places_of w.resources }
     requires small { Small (said_by f) }
     requires k_lt_most_nodes { k < most_nodes }
@@ -74,6 +75,36 @@ fn hit_node(u: &[u16], rows: &Table, w: Watch, k: usize, f: NodeForm) -> bool
             return true;
         }
         i += 1;
+    }
+    false
+}
+
+// Does a node of this form take a step of its own?
+fn steps(f: NodeForm) -> bool
+    ensures { result ≡ false → (local : Bool) (rows : Rows) (p : ℕ) (x : Resources) (u : List ℕ) (k c : ℕ)
+        → leaves_of local rows p x u k c (said_by f) ≡ 0 }
+{
+    match f {
+        NodeForm::OnStatic {
+            action: _,
+            resource: _,
+        } => true,
+        NodeForm::OnName { action: _, name: _ } => true,
+        NodeForm::Fresh { name: _, body: _ } => true,
+        NodeForm::Sandbox { policy: _, body: _ } => true,
+        _ => false,
+    }
+}
+
+// The same, where a node without a step is passed over.
+fn hit_node(u: &[u16], rows: &Table, w: Watch, k: usize, f: NodeForm) -> bool
+    requires u_len { length u.now ≡ places_of w.resources }
+    requires small { Small (said_by f) }
+    requires k_lt_most_nodes { k < most_nodes }
+    ensures { result ≡ hit_node_lem w.local (rows_in rows.now) w.policy w.resources u.now k (said_by f) }
+{
+    if steps(f) {
+        return hit_codes(u, rows, w, k, f);
     }
     false
 }

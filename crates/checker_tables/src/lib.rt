@@ -9,7 +9,7 @@ ghost use Rattle.checker_account.specs.Tables.{over, joined_at, one_resource, pl
 ghost use Rattle.checker_account.specs.Filling.{grown, by_open, forms_in, Wide};
 ghost use Rattle.checker_tables.specs.Marks.{MarkedIf};
 ghost use Rattle.checker_tables.specs.Search.{lost, is_on_lem, touched, small, NodesFit, has_room, pair_places, ArrivesBy, ArrivesIf};
-ghost use Rattle.checker_tables.specs.Search.{SearchedIf};
+ghost use Rattle.checker_tables.specs.Search.{SearchedIf, without_second, both_dynamic};
 
 use checker_account::{
     NAMES, NOTHING, PAIR_PLACES, PLACES, PairTable, Resources, Table, UNNAMED, WATCHED,
@@ -19,10 +19,11 @@ use outline_nodes::NodeForm;
 use usage::{ACTIONS, MOST_NODES, NODE_FIELDS, Node, STATES};
 
 pub mod arrivals;
+pub mod choices;
 mod ends;
 mod hits;
 pub mod numbers;
-mod rows;
+pub mod rows;
 mod sets;
 pub mod work;
 
@@ -257,23 +258,45 @@ fn search_both(nodes: &[u8], rows: &Table, w: Watch, u: &mut PairTable) -> bool
     search_whole(nodes, rows, w, &mut opened, u)
 }
 
-// Is the policy, whose moves the table of rows has, broken with the first resource watched alone? u becomes the table of what is come to.
-// Where the tables have no room for the nodes, it is not, and u is empty.
+// Is the policy, whose moves the table of rows has, broken with the resources watched, the second dynamic one left out? u becomes the table
+// of what is come to. Where the tables have no room for the nodes, it is not, and u is empty.
 pub fn arrive(nodes: &[u8], rows: &Table, w: Watch, u: &mut Table) -> bool
     ensures { ArrivesIf (has_room nodes.now) nodes.now w.local rows.now
-        w.policy (one_resource w.resources.first) u.new result }
+        w.policy (without_second w.resources) u.new result }
 {
     *u = [0u16; PLACES];
-    let one = Resources {
+    let mut second = w.resources.second;
+    if second == WATCHED_TOO {
+        second = NOTHING;
+    }
+    let x = Resources {
         first: w.resources.first,
-        second: NOTHING,
+        second,
     };
-    let alone = Watch {
+    let watch = Watch {
         local: w.local,
         policy: w.policy,
-        resources: one,
+        resources: x,
     };
-    search_one(nodes, rows, alone, u)
+    search_one(nodes, rows, watch, u)
+}
+
+// With both dynamic resources watched, whatever w names.
+pub fn arrive_both(nodes: &[u8], rows: &Table, w: Watch, u: &mut PairTable) -> bool
+    ensures { ArrivesIf (has_room nodes.now) nodes.now w.local rows.now
+        w.policy both_dynamic u.new result }
+{
+    *u = [0u16; PAIR_PLACES];
+    let both = Resources {
+        first: WATCHED,
+        second: WATCHED_TOO,
+    };
+    let watch = Watch {
+        local: w.local,
+        policy: w.policy,
+        resources: both,
+    };
+    search_both(nodes, rows, watch, u)
 }
 
 // The answer alone, with the resources watched.

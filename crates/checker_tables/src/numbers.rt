@@ -1,10 +1,11 @@
 // The numbers of entries: e % 6 is what the names mean of the first dynamic resource, and the group e / 6 tells of the second. An entry
 // that a rule leads to lies in the same group or a lower one.
 ghost use Rattle.std.specs.Prelude.{◌≡◌, true, ℕ, suc, ◌*◌, ◌/◌, ◌<◌, ◌≤◌};
-ghost use Rattle.checker_account.specs.Single.{no_name};
+ghost use Rattle.checker_account.specs.Pairs.{no_name};
 ghost use Rattle.checker_account.specs.Tables.{unnamed, meanings, late_group, numbered, meaning_in, group_in, waits, is_late_lem, in_group_lem, entry_after};
 ghost use Rattle.checker_account.specs.Tables.{group_forgotten_lem, forgotten_in, first_named_lem, second_named_lem, meant_at};
 ghost use Rattle.checker_account.specs.Tables.{least, entries_of_lem, codes_of, first_code_lem};
+ghost use Rattle.checker_tables.specs.Search.{given_in};
 
 use checker_account::{
     LATE, MEANINGS, NAMES, OTHERS, PAIR_CODES, PAIR_ENTRIES, Resources, UNNAMED, WAITING, WATCHED,
@@ -24,7 +25,7 @@ fn numbered(m: usize, g: usize) -> usize
 
 // What the names mean of the first dynamic resource. Where the second is not watched, as mostly, the entry is that meaning: nothing is
 // divided, here and below.
-pub(crate) fn meaning(e: usize) -> usize
+pub fn meaning(e: usize) -> usize
     ensures { result ≡ meaning_in e }
 {
     if e < MEANINGS {
@@ -34,7 +35,7 @@ pub(crate) fn meaning(e: usize) -> usize
 }
 
 // The group, which tells of the second.
-fn group(e: usize) -> usize
+pub fn group(e: usize) -> usize
     ensures { result ≡ group_in e }
 {
     if e < MEANINGS {
@@ -44,7 +45,7 @@ fn group(e: usize) -> usize
 }
 
 // Can the second still be created?
-pub(crate) fn waits(e: usize) -> bool
+pub fn waits(e: usize) -> bool
     ensures { result ≡ waits e }
 {
     if e < MEANINGS {
@@ -54,7 +55,7 @@ pub(crate) fn waits(e: usize) -> bool
 }
 
 // Is it created by the end?
-pub(crate) fn is_late(e: usize) -> bool
+pub fn is_late(e: usize) -> bool
     ensures { result ≡ is_late_lem e }
 {
     if e < MEANINGS {
@@ -77,8 +78,7 @@ pub(crate) fn after(e: usize) -> usize
     ensures value { result ≡ entry_after e true }
     ensures result_value { group_in result ≡ group_in e }
 {
-    let m = crate::lose(meaning(e), 0);
-    numbered(m, group(e))
+    if e % MEANINGS == 0 { e + UNNAMED } else { e }
 }
 
 // The group once name n is given to another resource than the second.
@@ -124,7 +124,36 @@ pub(crate) fn second_named(e: usize, n: usize) -> usize
     numbered(m, NAMES - n)
 }
 
+// The entry of the body of a fresh node that gives name n to another resource, kind 0, to the first dynamic one, kind 1, or to the second.
+// A number that no table has stays.
+pub fn given(e: usize, n: u8, kind: usize) -> usize
+    ensures { result ≡ given_in e n kind }
+{
+    let name = n as usize;
+    if PAIR_ENTRIES <= e {
+        return e;
+    }
+    if NAMES <= name {
+        return e;
+    }
+    if kind == 0 {
+        return forgotten(e, name);
+    }
+    if kind == 1 {
+        first_named(e, name)
+    } else {
+        second_named(e, name)
+    }
+}
+
 // The resource that name n means.
+pub fn meant_by(e: usize, n: u8) -> usize
+    ensures { result ≡ meant_at e n }
+{
+    meant(e, n as usize)
+}
+
+// The same for a name that is a size.
 pub(crate) fn meant(e: usize, n: usize) -> usize
     requires { n < 256 }
     ensures { result ≡ meant_at e n }
@@ -155,7 +184,7 @@ pub fn least(x: Resources) -> usize
 }
 
 // How many entries there are, up to the greatest.
-pub(crate) fn entries_of(x: Resources) -> usize
+pub fn entries_of(x: Resources) -> usize
     ensures { result ≡ entries_of_lem x }
 {
     if x.second == WATCHED_TOO {
@@ -166,7 +195,7 @@ pub(crate) fn entries_of(x: Resources) -> usize
 }
 
 // How many codes.
-pub(crate) fn codes_of(x: Resources) -> usize
+pub fn codes_of(x: Resources) -> usize
     ensures { result ≡ codes_of x }
 {
     if x.second == WATCHED_TOO {
@@ -177,7 +206,7 @@ pub(crate) fn codes_of(x: Resources) -> usize
 }
 
 // The code of the whole outline: what is watched can still be created.
-pub(crate) fn first_code(x: Resources) -> usize
+pub fn first_code(x: Resources) -> usize
     ensures { result ≡ first_code_lem x }
 {
     if x.second == WATCHED_TOO {

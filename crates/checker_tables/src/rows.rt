@@ -11,7 +11,7 @@ use checker_account::{LAYER, OTHERS, Resources, Table, WATCHED, WATCHED_TOO};
 use usage::STATES;
 
 // The way of an event on r: on neither of the watched resources, on the first, on the second, on both.
-fn way(x: Resources, r: usize) -> usize
+pub fn way(x: Resources, r: usize) -> usize
     ensures value { result ≡ way_of (eqb r x.first) (eqb r x.second) }
     ensures upper_bound { result < 4 }
 {

@@ -1,14 +1,12 @@
 -- What is written for a fresh node: its creation, and then what is written for its body.
-use Prim.Native.Nat.{ℕ, suc, ◌-◌, ◌/◌, ◌%◌, ◌<◌, ◌≤◌}
+use Prim.Native.Nat.{ℕ, suc, ◌-◌, ◌/◌, ◌<◌, ◌≤◌}
 use mathlib.Core.Path.{◌≡◌, refl, sym, ap, ◌∙◌, subst}
-use mathlib.Core.Bool.{Bool, true, false}
+use mathlib.Core.Bool.{Bool, true}
+use mathlib.Core.Logic.{◌⊎◌}
 use mathlib.Core.Option.{none, some}
 use mathlib.Core.List.{List, ◌∷◌}
 use native.Mathlib.Omega.{arith}
-use native.Mathlib.Decide.{dec_le}
-use lib.Dec.{leb}
 use lib.ListN.{length}
-use borrow.Author.Tests.{le-leb, lt-leb}
 use Rattle.usage.specs.declared.Edge.{Edge}
 use Rattle.usage.specs.Limits.{most_shown, create, most_nodes, node_fields}
 use Rattle.usage.specs.Past.{event, Past}
@@ -16,81 +14,76 @@ use Rattle.usage.specs.Outline as outline
 use Rattle.usage.specs.Outline.{Is, fresh, give}
 use Rattle.usage.specs.Valid.{Scope}
 use Rattle.usage.specs.Tables.{nodes_of}
-use Rattle.usage.proofs.Logic.{by_cases, false-true}
+use Rattle.usage.proofs.Logic.{by_cases}
 use Rattle.usage.proofs.FormLaws.{form-ok}
 use Rattle.automaton.specs.Mask.{has}
 use Rattle.checker_account.specs.Account.{Aim, broken, each}
-use Rattle.checker_account.specs.Single.{forget, MakesOne, watching}
+use Rattle.checker_account.specs.declared.Watch.{Watch}
+use Rattle.checker_account.specs.Pairs.{numbers}
+use Rattle.checker_account.specs.Tables.{watched_by}
+use Rattle.checker_tables.specs.Search.{given_in}
 use Rattle.checker_account.specs.Written.{next, Written}
 use Rattle.checker_account.specs.Least.{Begun}
 use Rattle.checker_account.proofs.MaskLaws.{offends-has}
 use Rattle.checker_account.proofs.ScopedLaws.{scoped}
-use Rattle.checker_account.proofs.SingleLaws.{watching-keeps}
+use Rattle.checker_account.proofs.PairsLaws.{numbers-keeps}
 use Rattle.checker_account.proofs.BegunLaws.{begun-new}
 use Rattle.checker_account.proofs.Writing.{given-fresh}
 use Rattle.checker_lengths.specs.declared.Entry.{Entry}
-use Rattle.checker_lengths.specs.declared.WatchOne.{WatchOne}
 use Rattle.checker_lengths.specs.Entries.{all_lengths, entry_of, held}
-use Rattle.checker_lengths.specs.Offers.{body_entry, named, born, breaking, offer_of}
-use Rattle.checker_lengths.specs.Held.{aim_at, meaning_of}
+use Rattle.checker_lengths.specs.Offers.{awaits, new_kind, new_state, body_entry, born, breaking, offer_of}
+use Rattle.checker_lengths.specs.Held.{Left, aim_at, entry_at}
 use Rattle.checker_lengths.proofs.FullLaws.{run-followed}
 use Rattle.checker_lengths.proofs.Inversion.{fresh-inv, breaking-inv}
-use Rattle.checker_lengths.proofs.Numbers.{forgotten-of}
-use Rattle.checker_lengths.proofs.RuleLaws.{named-low, named-high}
-use Rattle.checker_lengths.proofs.RuledLaws.{offending-small, break-is, born-first, other-moves, own-moves}
+use Rattle.checker_lengths.proofs.NumberLaws.{break-is, InRange}
+use Rattle.checker_lengths.proofs.RuledLaws.{offending-small, made_by}
 use Rattle.checker_trace.specs.declared.Spot.{Spot}
 use Rattle.checker_trace.specs.declared.Names.{Names}
 use Rattle.checker_trace.specs.Code.{stored_step, created, given, Spotted, Ready, Coming, Tells, Agree, Writes, Chosen}
 use Rattle.checker_trace.proofs.LeadLaws.{held_cut}
 use Rattle.checker_trace.proofs.StepLaws.{laid_more, spotted-create, agree-give}
 use Rattle.checker_trace.proofs.PartLaws.{Run, run_in, back_to, chosen-fresh}
-use Rattle.checker_trace.proofs.WriteLaws.{arrive, passes-names}
+use Rattle.checker_trace.proofs.WriteLaws.{range_at, arrive, passes-names}
 
-module _ (w : WatchOne) (rows nodes t : List ℕ) (e : Entry) (n r : ℕ)
+module _ (w : Watch) (rows nodes t : List ℕ) (e : Entry) (n r : ℕ)
     (few_nodes : length nodes / node_fields ≤ most_nodes) (few : n ≤ most_shown) where
-  abbrev Here : List Edge → ℕ → Bool → ℕ → outline.Names → ℕ → Bool → ℕ → Past → Aim Bool → Past → Type 0
+  abbrev Here : List Edge → ℕ → Bool → ℕ → outline.Names → ℕ × ℕ → Left → ℕ → Past → Aim Left → Past → Type 0
   Here es i o k names m c q past aim after = Run w rows nodes t e n r few_nodes few es i o k names m c q past aim after
+
+  -- the entry at the fresh node, and that what is created there may be
+  abbrev at-node : ℕ → ℕ × ℕ → Left → Aim Left → Entry
+  at-node j m c aim = entry_of j e.opened (entry_at m c aim) e.state (aim_at aim)
+
+  abbrev May : Entry → Type 0
+  May y = (new_kind r < 2) ⊎ (awaits y ≡ true)
 
   -- ── A creation that breaks the policy ──
 
-  born-run : {es : List Edge} (j i b : ℕ) (names : outline.Names) (m : ℕ) (c : Bool) (past : Past) (aim : Aim Bool)
+  born-run : {es : List Edge} (j a b : ℕ) (names : outline.Names) (m : ℕ × ℕ) (c : Left) (past : Past) (aim : Aim Left)
       → Ready w es rows nodes t
-      → Begun (watching w.resource) m c e.state → Is (nodes_of nodes) j (fresh i b) → (own : Bool)
-      → breaking (born rows (entry_of j e.opened (meaning_of m c) e.state (aim_at aim)) own)
-      (entry_of j e.opened (meaning_of m c) e.state (aim_at aim)) ≡ n
+      → Begun (numbers (watched_by w.resources)) m c e.state → InRange c aim → Is (nodes_of nodes) j (fresh a b)
+      → May (at-node j m c aim) → breaking (born rows w.resources (at-node j m c aim) (new_kind r)) (at-node j m c aim) ≡ n
       → Here es 1 true j names m c e.state past (broken none) (event create (next past) ∷ past)
-  born-run {es} j i b names m c past aim ready begun is false h =
-      let y = entry_of j e.opened (meaning_of m c) e.state (aim_at aim) in
-      let (z, f, o, v) = breaking-inv y n few (born rows y false) h in
-      let (q, off, g) = offends-has (born rows y false) v in
-      Written.breaks_fresh is MakesOne.other
-      (other-moves w.local es (nodes_of nodes) w.policy w.resource rows ready.source j e.opened
-      (aim_at aim) q begun (offending-small q off) is g) off each
-  born-run {es} j i b names m true past aim ready begun is true h =
-      let y = entry_of j e.opened (suc m) e.state (aim_at aim) in
-      let (z, f, o, v) = breaking-inv y n few (born rows y true) h in
-      let (q, off, g) = offends-has (born rows y true) v in
-      false-true (sym (born-first rows y q g))
-  born-run {es} j i b names m false past aim ready begun is true h =
-      let y = entry_of j e.opened 0 e.state (aim_at aim) in
-      let (z, f, o, v) = breaking-inv y n few (born rows y true) h in
-      let (q, off, g) = offends-has (born rows y true) v in
-      Written.breaks_fresh is MakesOne.own
-      (own-moves w.local es (nodes_of nodes) w.policy w.resource rows ready.source j e.opened
-      (aim_at aim) q begun (offending-small q off) is g) off each
+  born-run {es} j a b names m c past aim ready begun range is may h =
+      let v = born rows w.resources (at-node j m c aim) (new_kind r) in
+      let (q, off, g) = offends-has v (breaking-inv (at-node j m c aim) n few v h).3 in
+      let d = made_by w.local es (nodes_of nodes) w.policy w.resources rows ready.source j e.opened aim begun range
+      (new_kind r) is (offending-small q off) g may in
+      Written.breaks_fresh is d.makes d.moves off each
 
-  pub wrote-born : (a b : ℕ) → Chosen w rows nodes t e n (some (fresh a b)) r → 16 ≤ r → (g : Names) (s : Spot) (trace : List ℕ) (r' : Spot)
-      → r' ≡ created s → (trace' : List ℕ)
+  pub wrote-born : (a b : ℕ) → Chosen w rows nodes t e n (some (fresh a b)) r → new_state r ≡ 8 → (g : Names) (s : Spot) (trace : List ℕ)
+      (r' : Spot) → r' ≡ created s → (trace' : List ℕ)
       → trace' ≡ stored_step trace s.at 0 0 s.next → Writes w rows nodes t e n g s trace r' trace'
   unfolding offer_of
   wrote-born a b ch big g s trace r' er trace' et es m c aim names t₀ past ready tells h named agree spotted same room =
       let u = arrive w rows nodes t e n ch.0 r (fresh a b) few_nodes ch.1 ch.2 ready tells few h in
-      let y = entry_of ch.0 e.opened (meaning_of m c) e.state (aim_at aim) in
-      by_cases (fresh-inv y n few rows (held t n) a b r u.gives)
+      let y = at-node ch.0 m c aim in
+      let (may, way) = fresh-inv y n few rows w.resources (held t n) a b r u.gives in
+      by_cases way
       (λ v. let z = v.0 in absurd (omega arith))
       (λ v.
-      let (z, f, o, k) = breaking-inv y n few (born rows y (leb 17 r)) v.1 in
-      let d = born-run ch.0 a b names m c past aim ready tells.begun u.is (leb 17 r) v.1 in
+      let (z, f, o, k) = breaking-inv y n few (born rows w.resources y (new_kind r)) v.1 in
+      let d = born-run ch.0 a b names m c past aim ready tells.begun (range_at w rows nodes t e n tells h few) u.is may v.1 in
       let d' = subst (λ (x : Bool). Here es 1 x ch.0 names m c e.state past (broken none) (event create (next past) ∷ past))
       (sym o) d in (
         event create (next past) ∷ past,
@@ -104,86 +97,37 @@ module _ (w : WatchOne) (rows nodes t : List ℕ) (e : Entry) (n r : ℕ)
   -- ── A creation, and the body ──
 
   -- how the body is told, and the run that begins with the creation
-  pub record Body (es : List Edge) (a b j : ℕ) (names : outline.Names) (m : ℕ) (c : Bool) (past : Past) (aim : Aim Bool) : Type 0 where
-    pub name : ℕ
-    pub made : Bool
+  pub record Body (es : List Edge) (a b j : ℕ) (names : outline.Names) (m : ℕ × ℕ) (c : Left) (past : Past) (aim : Aim Left) : Type 0 where
+    pub name : ℕ × ℕ
+    pub made : Left
     pub tells : Tells w es nodes (body_entry e a b r) name made aim
-    pub run : (after : Past) → Here es (n - 1) e.opened b (give names a (next past)) name made (r % 8)
+    pub run : (after : Past) → Here es (n - 1) e.opened b (give names a (next past)) name made (new_state r)
         (event create (next past) ∷ past) aim after → Here es n e.opened j names m c e.state past aim after
 
-  body-other : {es : List Edge} (a b j : ℕ) (names : outline.Names) (m : ℕ) (c : Bool) (past : Past) (aim : Aim Bool)
-      → Ready w es rows nodes t
-      → Tells w es nodes e m c aim → Is (nodes_of nodes) j (fresh a b) → Coming w es nodes e.opened j m c e.state → r < 8 → 1 ≤ n
-      → has (born rows (entry_of j e.opened (meaning_of m c) e.state (aim_at aim)) (leb 8 r)) (r % 8) ≡ true
+  body_of : {es : List Edge} (a b j : ℕ) (names : outline.Names) (m : ℕ × ℕ) (c : Left) (past : Past) (aim : Aim Left)
+      → Ready w es rows nodes t → Tells w es nodes e m c aim → InRange c aim → Is (nodes_of nodes) j (fresh a b)
+      → Coming w es nodes e.opened j m c e.state → 1 ≤ n → May (at-node j m c aim) → new_state r < 8
+      → has (born rows w.resources (at-node j m c aim) (new_kind r)) (new_state r) ≡ true
       → Body es a b j names m c past aim
-  body-other {es} a b j names m c past aim ready tells is come low one h =
-      let y = entry_of j e.opened (meaning_of m c) e.state (aim_at aim) in
-      let hs : has (born rows y false) (r % 8) ≡ true = sym (ap (λ (z : Bool). has (born rows y z) (r % 8)) (lt-leb 8 r low)) ∙ h in
+  body_of {es} a b j names m c past aim ready tells range is come one may low h =
+      let d = made_by w.local es (nodes_of nodes) w.policy w.resources rows ready.source j e.opened aim tells.begun range
+      (new_kind r) is low h may in
       let small = (form-ok ready.source.outline is).0 in
-      let l : r % 8 < 8 = omega arith in
       let all : suc (n - 1) ≡ n = omega arith in
       record {
-        name = forget m a;
-        made = c;
+        name = d.names;
+        made = d.left;
         tells = record {
-          meaning = ap (λ (i : ℕ). named i a r) tells.meaning ∙ named-low (meaning_of m c) a r low
-              ∙ forgotten-of m a c small tells.begun.view.unmade;
+          meaning = ap (λ (i : ℕ). given_in i a (new_kind r)) tells.meaning ∙ d.body;
           number = tells.number;
-          come = (run-followed w.local es nodes w.policy w.resource rows ready.source).created is MakesOne.other
-              (other-moves w.local es (nodes_of nodes) w.policy w.resource rows ready.source j
-              e.opened (aim_at aim) (r % 8) tells.begun l is hs) come;
-          begun = begun-new (watching-keeps w.resource) tells.begun (r % 8) small MakesOne.other l;
+          come = (run-followed w.local es nodes w.policy w.resources rows ready.source).created is d.makes d.moves come;
+          begun = begun-new (numbers-keeps (watched_by w.resources)) tells.begun (new_state r) small d.makes low;
           aimed = tells.aimed;
         };
-        run = λ after d. run_in w rows nodes t e n r few_nodes few all refl
-            (Written.makes is MakesOne.other (other-moves w.local es (nodes_of nodes) w.policy w.resource rows ready.source j
-            e.opened (aim_at aim) (r % 8) tells.begun l is hs) d);
+        run = λ after u. run_in w rows nodes t e n r few_nodes few all refl (Written.makes is d.makes d.moves u);
       }
 
-  body_own : {es : List Edge} (a b j : ℕ) (names : outline.Names) (m : ℕ) (c : Bool) (past : Past) (aim : Aim Bool)
-      → Ready w es rows nodes t
-      → Tells w es nodes e m c aim → Is (nodes_of nodes) j (fresh a b) → Coming w es nodes e.opened j m c e.state → 8 ≤ r → r < 16
-      → 1 ≤ n
-      → has (born rows (entry_of j e.opened (meaning_of m c) e.state (aim_at aim)) (leb 8 r)) (r % 8) ≡ true
-      → Body es a b j names m c past aim
-  body_own {es} a b j names m true past aim ready tells is come low high one h =
-      let y = entry_of j e.opened (suc m) e.state (aim_at aim) in
-      false-true (sym (born-first rows y (r % 8) (sym (ap (λ (z : Bool). has (born rows y z) (r % 8)) (le-leb 8 r low)) ∙ h)))
-  body_own {es} a b j names m false past aim ready tells is come low high one h =
-      let y = entry_of j e.opened 0 e.state (aim_at aim) in
-      let hs : has (born rows y true) (r % 8) ≡ true = sym (ap (λ (z : Bool). has (born rows y z) (r % 8)) (le-leb 8 r low)) ∙ h in
-      let small = (form-ok ready.source.outline is).0 in
-      let l : r % 8 < 8 = omega arith in
-      let all : suc (n - 1) ≡ n = omega arith in
-      record {
-        name = a;
-        made = true;
-        tells = record {
-          meaning = named-high e.meaning a r low;
-          number = tells.number;
-          come = (run-followed w.local es nodes w.policy w.resource rows ready.source).created is MakesOne.own
-              (own-moves w.local es (nodes_of nodes) w.policy w.resource rows ready.source j
-              e.opened (aim_at aim) (r % 8) tells.begun l is hs) come;
-          begun = begun-new (watching-keeps w.resource) tells.begun (r % 8) small MakesOne.own l;
-          aimed = tells.aimed;
-        };
-        run = λ after d. run_in w rows nodes t e n r few_nodes few all refl
-            (Written.makes is MakesOne.own
-            (own-moves w.local es (nodes_of nodes) w.policy w.resource rows ready.source j e.opened
-            (aim_at aim) (r % 8) tells.begun l is hs) d);
-      }
-
-  body_of : {es : List Edge} (a b j : ℕ) (names : outline.Names) (m : ℕ) (c : Bool) (past : Past) (aim : Aim Bool) → Ready w es rows nodes t
-      → Tells w es nodes e m c aim → Is (nodes_of nodes) j (fresh a b) → Coming w es nodes e.opened j m c e.state → r < 16 → 1 ≤ n
-      → has (born rows (entry_of j e.opened (meaning_of m c) e.state (aim_at aim)) (leb 8 r)) (r % 8) ≡ true
-      → Body es a b j names m c past aim
-  body_of {es} a b j names m c past aim ready tells is come high one h = go (dec_le 8 r)
-    where
-      go : Dec (8 ≤ r) → Body es a b j names m c past aim
-      go (yes l) = body_own a b j names m c past aim ready tells is come l high one h
-      go (no l) = body-other a b j names m c past aim ready tells is come (omega arith) one h
-
-  pub wrote-fresh : (a b : ℕ) → Chosen w rows nodes t e n (some (fresh a b)) r → r < 16 → (g : Names) → length g.numbers ≡ 4
+  pub wrote-fresh : (a b : ℕ) → Chosen w rows nodes t e n (some (fresh a b)) r → (new_state r ≡ 8 → ⊥) → (g : Names) → length g.numbers ≡ 4
       → (s : Spot) (trace : List ℕ) (r' : Spot) (trace' : List ℕ)
       → Writes w rows nodes t (body_entry e a b r) (n - 1) (given g a s.next) (created s)
       (stored_step trace s.at 0 0 s.next) r' trace' → Writes w rows nodes t e n g s trace r' trace'
@@ -191,14 +135,16 @@ module _ (w : WatchOne) (rows nodes t : List ℕ) (e : Entry) (n r : ℕ)
   wrote-fresh a b ch low g four s trace r' trace' inside es m c aim names t₀ past ready tells h named agree spotted same room =
       let sum = chosen-fresh w rows nodes t e n r few a b ch low in
       let u = arrive w rows nodes t e n ch.0 r (fresh a b) few_nodes ch.1 ch.2 ready tells few h in
-      let y = entry_of ch.0 e.opened (meaning_of m c) e.state (aim_at aim) in
+      let y = at-node ch.0 m c aim in
       let small = (form-ok ready.source.outline u.is).0 in
-      let hs : has (born rows y (leb 8 r)) (r % 8) ≡ true =
-      by_cases (fresh-inv y n few rows (held t n) a b r u.gives) (λ v. v.1) (λ v. let z = v.0 in absurd (omega arith)) in
-      let body = body_of a b ch.0 names m c past aim ready tells u.is u.come low (omega arith) hs in
+      let (may, way) = fresh-inv y n few rows w.resources (held t n) a b r u.gives in
+      let inner : (new_state r < 8) × (has (born rows w.resources y (new_kind r)) (new_state r) ≡ true) =
+      by_cases way (λ v. (v.0, v.1)) (λ v. absurd (low v.0)) in
+      let body = body_of a b ch.0 names m c past aim ready tells (range_at w rows nodes t e n tells h few) u.is u.come (omega arith)
+      may inner.0 inner.1 in
       let v : held t n (body_entry e a b r) ≡ n - 1 = omega arith in
       let at_j = passes-names w rows nodes t e ready u.passes named in
-      let given-b = given-fresh w.local es (nodes_of nodes) w.policy (watching w.resource) (Scope (nodes_of nodes))
+      let given-b = given-fresh w.local es (nodes_of nodes) w.policy (numbers (watched_by w.resources)) (Scope (nodes_of nodes))
       (scoped (nodes_of nodes) ready.source.outline) ch.0 a (next past) b
       ((scoped (nodes_of nodes) ready.source.outline).given u.is) at_j in
       let agrees : Agree (give names a (next past)) (given g a s.next) =

@@ -9,4 +9,5 @@ pub mod FreshLaws
 pub mod PartWrittenLaws
 pub mod OtherLaws
 -- What is shown.
+pub mod ChoiceLaws
 pub mod ShownLaws

@@ -10,12 +10,12 @@ use Rattle.outline_nodes.specs.declared.NodeForm.TheVariants.{Loop, Back, Fresh,
 use Rattle.outline_nodes.specs.Said.{said_by}
 use Rattle.outline_nodes.proofs.SaidLaws.{tag}
 use Rattle.checker_lengths.specs.declared.Entry.{Entry}
-use Rattle.checker_lengths.specs.declared.WatchOne.{WatchOne}
+use Rattle.checker_account.specs.declared.Watch.{Watch}
 use Rattle.checker_trace.specs.Code.{Chosen}
 use Rattle.checker_trace.proofs.PartLaws.{chosen-end, chosen_none, chosen-choice, chosen-loop, chosen-back}
 
 -- they give no step from entries of fewer steps
-module _ (w : WatchOne) (rows nodes t : List ℕ) (e : Entry) (n r : ℕ) (few : n ≤ most_shown) (one : 1 ≤ n) where
+module _ (w : Watch) (rows nodes t : List ℕ) (e : Entry) (n r : ℕ) (few : n ≤ most_shown) (one : 1 ≤ n) where
   pub chosen-other : (f : NodeForm) → OneOf (0 ∷ 4 ∷ 5 ∷ 6 ∷ 9 ∷ []) (tag f) → Chosen w rows nodes t e n (said_by f) r → ⊥
   chosen-other End h ch = let z = chosen-end w rows nodes t e n r few ch in omega arith
   chosen-other (OnStatic a s) h ch = miss (0 ∷ 4 ∷ 5 ∷ 6 ∷ 9 ∷ []) 1 tt h

@@ -8,10 +8,10 @@ use native.Mathlib.Omega.{arith}
 use lib.ListN.{length, get_or}
 use Rattle.usage.specs.Limits.{step_fields}
 use Rattle.usage.specs.Outline.{static_event, named_event, sequence, fresh, sandbox}
-use Rattle.checker_account.specs.Single.{no_name}
-use Rattle.checker_lengths.specs.declared.WatchOne.{WatchOne}
+use Rattle.checker_account.specs.Pairs.{no_name}
+use Rattle.checker_account.specs.declared.Watch.{Watch}
 use Rattle.checker_lengths.specs.Entries.{at_break, held}
-use Rattle.checker_lengths.specs.Offers.{first_entry}
+use Rattle.checker_lengths.specs.Offers.{new_state, first_entry}
 use Rattle.checker_lengths.specs.Filling.{form_here}
 use Rattle.checker_trace.specs.declared.Onto.TheVariants.{By, Nothing}
 use Rattle.checker_trace.specs.declared.Part.{Part}
@@ -25,7 +25,7 @@ use Rattle.checker_trace.proofs.PartLaws.{chosen-sequence, chosen-fresh, chosen-
 use Rattle.checker_trace.proofs.PartLaws.{wrote-sequence, wrote-opening, wrote-inside, wrote-sandbox}
 use Rattle.checker_trace.proofs.FreshLaws.{wrote-born, wrote-fresh}
 
-module _ (w : WatchOne) (rows nodes t : List ℕ) (p : Part) (trace : List ℕ) (room : Room nodes p trace) where
+module _ (w : Watch) (rows nodes t : List ℕ) (p : Part) (trace : List ℕ) (room : Room nodes p trace) where
   abbrev Whole : Spot → List ℕ → Type 0
   Whole r trace' = PartWritten w rows nodes t p trace r trace'
 
@@ -139,7 +139,7 @@ module _ (w : WatchOne) (rows nodes t : List ℕ) (p : Part) (trace : List ℕ) 
     kept : length trace₁ ≡ length trace
     kept = ap length stored ∙ stored-length trace p.spot.at 0 0 p.spot.next
 
-    pub born-written : at_break ≤ y.rule → Whole made trace₁
+    pub born-written : new_state y.rule ≡ 8 → Whole made trace₁
     born-written big =
         let one = picked.one in
         let at = ap (λ (z : Spot). z.at) is in
@@ -163,7 +163,7 @@ module _ (w : WatchOne) (rows nodes t : List ℕ) (p : Part) (trace : List ℕ) 
         let e = kept in
         record { few_nodes = room.few_nodes; few = omega arith; long = omega arith; numbered = omega arith }
 
-    pub fresh-written : y.rule < at_break → length p.names.numbers ≡ no_name → (r : Spot) (trace₂ : List ℕ)
+    pub fresh-written : (new_state y.rule ≡ 8 → ⊥) → length p.names.numbers ≡ no_name → (r : Spot) (trace₂ : List ℕ)
         → PartWritten w rows nodes t (body_part_lem p y made) trace₁ r trace₂ → Whole r trace₂
     fresh-written low four r trace₂ body =
         let one = picked.one in

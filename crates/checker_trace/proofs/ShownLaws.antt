@@ -1,126 +1,131 @@
 -- The least length of all watched resources, and the trace of that length, are what is to be shown.
-use Prim.Native.Nat.{ℕ, ◌/◌, ◌+◌, ◌<◌, ◌≤◌}
+use Prim.Native.Nat.{ℕ, ◌/◌, ◌<◌, ◌≤◌}
 use mathlib.Core.Path.{◌≡◌, refl, sym, ap, ◌∙◌, subst}
 use mathlib.Core.Bool.{Bool, true, false, not, ◌&&◌, cond}
 use mathlib.Core.Option.{none, some}
 use mathlib.Core.List.{List, [], ◌∷◌}
-use mathlib.Core.Logic.{◌⊎◌, inl, inr}
+use mathlib.Core.Logic.{inl, inr}
 use native.Mathlib.Omega.{arith}
 use native.Mathlib.Decide.{dec_le}
-use borrow.Author.Count.{below_more}
-use lib.Dec.{eqb, ltb}
+use lib.Dec.{eqb}
 use lib.ListN.{length, replicate}
-use Rattle.checker_trace.specs.Answer.{most_numbers}
 use Rattle.usage.specs.declared.Edge.{Edge}
-use Rattle.usage.specs.Limits.{statics, most_shown, most_nodes, node_fields}
+use Rattle.usage.specs.Limits.{most_shown, most_nodes, node_fields}
 use Rattle.usage.specs.Policy.{PairPolicy, Sees, Moves, along, stays, Offending, EdgesOk}
 use Rattle.usage.specs.Past.{Past, count, is_open, May, start, moved, opened, closed, retired}
-use Rattle.usage.specs.Outline.{static_event, no_names}
+use Rattle.usage.specs.Outline.{no_names}
 use Rattle.usage.specs.Valid.{Scope, OutlineOk}
-use Rattle.usage.specs.Tables.{edges_of, nodes_of}
+use Rattle.usage.specs.Answers.{violated}
+use Rattle.usage.specs.Tables.{edges_of, nodes_of, is_edge_table, EdgeTable, NodeTable}
+use Rattle.usage.specs.Tests.{Decides}
 use Rattle.usage.specs.Check.{Shown, longer}
 use Rattle.usage.proofs.Logic.{false-true}
 use Rattle.usage.proofs.TableLaws.{nodes-length}
+use Rattle.automaton.specs.Mask.{has}
 use Rattle.automaton.specs.Move.{rows_at}
-use Rattle.checker_account.specs.Account.{watched, each, broken}
-use Rattle.checker_account.specs.Single.{no_name, watching}
+use Rattle.automaton.specs.PairSet.{pair_set}
+use Rattle.automaton.proofs.PairSetLaws.{pair_set_lem}
+use Rattle.sheet_fields.specs.declared.edges.Tested.{Tested}
+use Rattle.sheet_fields.specs.TableTest.{no_table_lem, table_tested}
+use Rattle.checker_account.specs.Account.{each, broken}
+use Rattle.checker_account.specs.Pairs.{no_name, numbers}
+use Rattle.checker_account.specs.Views.{Chosen}
 use Rattle.checker_account.specs.Written.{Written}
 use Rattle.checker_account.specs.declared.Resources.{Resources}
-use Rattle.checker_account.specs.Tables.{one_resource, unnamed, least, rows_in, places}
-use Rattle.checker_account.specs.Filling.{forms_in, one}
+use Rattle.checker_account.specs.declared.Watch.{Watch}
+use Rattle.checker_account.specs.Tables.{watched_by, rows_in, places}
+use Rattle.checker_account.specs.Choices.{choice_count}
+use Rattle.checker_account.specs.Filling.{Asked, one, two, apart, forms_in}
 use Rattle.checker_account.specs.RowTable.{image_in, fill_rows}
 use Rattle.checker_account.specs.Least.{at_break}
-use Rattle.checker_account.proofs.SingleLaws.{watching-keeps, singles}
+use Rattle.checker_account.proofs.EntryLaws.{watches}
 use Rattle.checker_account.proofs.Ahead.{Root, hits-exact}
+use Rattle.checker_account.proofs.AskedLaws.{asked-chosen, leaves-shown, skips-worth}
 use Rattle.checker_account.proofs.BegunLaws.{begun-root, come-root}
-use Rattle.checker_account.proofs.EventLaws.{event-image}
-use Rattle.checker_account.proofs.SightsLaws.{all-longer-sights}
-use Rattle.checker_account.proofs.NodeLaws.{forms-of, names-ok, targets-ok}
-use Rattle.checker_account.proofs.OneLaws.{one-least, one-searched}
+use Rattle.checker_account.proofs.ChoiceLaws.{asked-numbered}
 use Rattle.checker_account.proofs.CounterexampleLaws.{written-shown}
+use Rattle.checker_account.proofs.EventLaws.{event-image}
+use Rattle.checker_account.proofs.NodeLaws.{forms-of, names-ok, targets-ok}
+use Rattle.checker_account.proofs.PairsLaws.{numbers-keeps, by_numbers}
 use Rattle.checker_account.proofs.RowLaws.{rows_ok}
 use Rattle.checker_account.proofs.RowTableLaws.{rows-from}
 use Rattle.checker_account.proofs.ScopedLaws.{scoped}
-use borrow.Author.Tests.{lt-ltb}
-use Rattle.checker_account.proofs.UntouchedLaws.{goes-watched}
+use Rattle.checker_account.proofs.SearchLaws.{searched}
+use Rattle.checker_account.proofs.Writing.{written-length}
+use Rattle.checker_account.proofs.SightsLaws.{exact-by-sights, all-longer-sights}
 use Rattle.checker_rows.specs.Rows.{row_table}
-use Rattle.checker_tables.specs.Search.{touched, has_room, SearchedIf, ArrivesIf, Arrived as Came}
+use Rattle.checker_rows.proofs.WholeLaws.{whole_in}
+use Rattle.checker_tables.specs.Search.{worth_of, has_room, SearchedIf, ArrivesIf, Arrived as Came}
 use Rattle.checker_tables.proofs.FitLaws.{outline-fits}
 use Rattle.checker_tables.proofs.AnswerLaws.{arrives-searched}
-use Rattle.checker_tables.proofs.TouchedLaws.{untouched, dynamic-touched}
-use Rattle.checker_rows.proofs.WholeLaws.{whole_in}
-use Rattle.checker_lengths.specs.declared.WatchOne.{WatchOne}
-use Rattle.checker_lengths.specs.Entries.{no_length, all_lengths, entry_of, held}
-use Rattle.checker_lengths.specs.Held.{aim_at, meaning_of, watch_of, Source}
+use Rattle.checker_tables.proofs.WorthLaws.{not_worth as skips}
+use Rattle.checker_lengths.specs.Entries.{all_lengths, held}
+use Rattle.checker_lengths.specs.Held.{watch_of, Source}
 use Rattle.checker_lengths.proofs.FullLaws.{full-least}
-use Rattle.checker_trace.specs.declared.Shortest.{Shortest}
 use Rattle.checker_trace.specs.declared.Spot.{Spot}
 use Rattle.checker_trace.specs.declared.Names.{Names}
-use Rattle.checker_trace.specs.Code.{
-  Spotted,
-  Writes,
-  root_of,
-  TableOf,
-  TableIf,
-  NeverHits,
-  StepsIs,
-  Sought,
-  not_touched,
-  not_hit,
-  sought,
-  ShortestIs,
-  Shows,
-}
+use Rattle.checker_trace.specs.declared.Length.{Length}
+use Rattle.checker_trace.specs.declared.Length.TheVariants.{Of, Longer, Refused}
+use Rattle.checker_trace.specs.Answer.{most_numbers, ToldAs, Told}
+use Rattle.checker_trace.specs.Code.{Spotted, Writes, root_of, TableOf, TableIf, NeverHits, StepsIs, AtLeast, AllAtLeast}
+use Rattle.checker_trace.specs.Code.{Shows, Answered}
+use Rattle.checker_trace.proofs.ChoiceLaws.{first_left, root-meaning, root_is}
 use Rattle.checker_trace.proofs.StepLaws.{laid_none}
-
--- the entry of the root, as the account tells it
-pub root-meaning : (x : ℕ) → x ≤ watched → least (one_resource x) ≡ meaning_of no_name (ltb x statics)
-root-meaning x small = one-least x small ∙ go (ltb x statics)
-  where
-    go : (b : Bool) → cond b unnamed 0 ≡ meaning_of no_name b
-    go true = refl
-    go false = refl
-
-pub root_is : (x : ℕ) → x ≤ watched → root_of x ≡ entry_of 0 false (meaning_of no_name (ltb x statics)) 0 (aim_at (broken none))
-root_is x small = ap (λ (m : ℕ). entry_of 0 false m 0 16) (root-meaning x small)
 
 -- ── From the flat tables ──
 
-module _ (e t : List ℕ) (edges : EdgesOk (edges_of e)) (ok : OutlineOk (nodes_of t)) (p : ℕ) (policy : p < 8) (rows : List ℕ)
-    (filled : rows ≡ row_table (rows_at (edges_of e)) false p t) where
+module _ (e t : List ℕ) (edges : EdgesOk (edges_of e)) (ok : OutlineOk (nodes_of t)) (p : ℕ) (policy : p < 8) (pair : Bool) (rows : List ℕ)
+    (filled : rows ≡ row_table (rows_at (edges_of e)) pair p t) where
   pub few_nodes : length t / node_fields ≤ most_nodes
   few_nodes = let l = ok.few in let n = nodes-length t in omega arith
 
-  pub source_of : (x : ℕ) → x ≤ watched → Source (edges_of e) (nodes_of t) p x rows
-  source_of x l =
+  pub source_of : (x : Resources) → Asked pair x → Source (edges_of e) (nodes_of t) p pair x rows
+  source_of x asked =
       let es = edges_of e in
-      let made = rows-from (rows_at es) false p (forms_in t) (replicate places 0) refl (nodes_of t) (length t / node_fields) few_nodes
+      let made = rows-from (rows_at es) pair p (forms_in t) (replicate places 0) refl (nodes_of t) (length t / node_fields) few_nodes
       (forms-of t) in
-      let right = rows_ok es (nodes_of t) p (one_resource x) (one l)
-      (rows_in (fill_rows (rows_at es) false p (length t / node_fields) (forms_in t) (replicate places 0))) (image_in (rows_at es) p) edges
+      let right = rows_ok es (nodes_of t) p x asked
+      (rows_in (fill_rows (rows_at es) pair p (length t / node_fields) (forms_in t) (replicate places 0))) (image_in (rows_at es) p) edges
       (names-ok (nodes_of t) ok) (event-image es edges p policy) made in
-      subst (λ (r : List ℕ). Source es (nodes_of t) p x r) (sym (filled ∙ whole_in (rows_at es) false p t policy few_nodes))
-      (record { edges = edges; outline = ok; small = l; moves = right })
+      subst (λ (r : List ℕ). Source es (nodes_of t) p pair x r) (sym (filled ∙ whole_in (rows_at es) pair p t policy few_nodes))
+      (record { edges = edges; outline = ok; asked = asked; moves = right })
 
-module _ (local : Bool) (es : List Edge) (nodes : List ℕ) (p : ℕ) (rows : List ℕ) where
+-- the set of pair policies that the test tells
+pub pair-decides : (e : List ℕ) (p : ℕ) (s : Tested) (b : Bool) → p < 8 → s ≡ table_tested e → s.fits ≡ true → b ≡ has s.pairs p
+    → Decides b (PairPolicy (edges_of e) p)
+unfolding table_tested
+pair-decides e p s b l is fits h = go (is_edge_table e) refl is
+  where
+    right : s.pairs ≡ pair_set (edges_of e) → Decides b (PairPolicy (edges_of e) p)
+    right f =
+        let same : b ≡ has (pair_set (edges_of e)) p = h ∙ ap (λ (m : ℕ). has m p) f in
+        ((λ g. (pair_set_lem (edges_of e) p l).0 (sym same ∙ g)), (λ q. same ∙ (pair_set_lem (edges_of e) p l).1 q))
+
+    go : (d : Bool) → is_edge_table e ≡ d → s ≡ cond d record { fits = true; pairs = pair_set (edges_of e) } no_table_lem
+        → Decides b (PairPolicy (edges_of e) p)
+    go true f g = right (ap (λ (s : Tested). s.pairs) g)
+    go false f g = false-true (sym (ap (λ (s : Tested). s.fits) g) ∙ fits)
+
+module _ (local : Bool) (es : List Edge) (nodes : List ℕ) (p : ℕ) (rows : List ℕ) {pair : Bool} where
   -- a run of m steps that breaks the policy is not shorter than the least length
-  pub steps-least : (x : ℕ) → Source es (nodes_of nodes) p x rows → (v : ℕ) → StepsIs (watch_of local p x) rows nodes v → (m : ℕ)
-      → Root local es (nodes_of nodes) p (watching x) m none → m ≤ most_shown → v ≤ m
+  pub steps-least : (x : Resources) → Source es (nodes_of nodes) p pair x rows → (v : ℕ) → StepsIs (watch_of local p x) rows nodes v → (m : ℕ)
+      → Root local es (nodes_of nodes) p (numbers (watched_by x)) m none → m ≤ most_shown → v ≤ m
   steps-least x src v (t, (u, come, full), h) m d l =
       let f = full-least local es nodes p x rows src u t come full in
       let (i, k, g) = f.full come-root at_break d l in
-      let same : v ≡ i = h ∙ ap (held t all_lengths) (root_is x src.small) ∙ g.0 in
+      let same : v ≡ i = h ∙ ap (held t all_lengths) (root_is src.asked) ∙ g.0 in
       omega arith
 
   -- the least length is one
-  pub steps-goes : (x : ℕ) → Source es (nodes_of nodes) p x rows → (v : ℕ) → StepsIs (watch_of local p x) rows nodes v → v ≤ most_shown
-      → Root local es (nodes_of nodes) p (watching x) v none
+  pub steps-goes : (x : Resources) → Source es (nodes_of nodes) p pair x rows → (v : ℕ) → StepsIs (watch_of local p x) rows nodes v
+      → v ≤ most_shown → Root local es (nodes_of nodes) p (numbers (watched_by x)) v none
   steps-goes x src v (t, (u, come, full), h) l =
       let f = full-least local es nodes p x rows src u t come full in
-      f.lengths.sound (begun-root (watching-keeps x)) at_break (sym (h ∙ ap (held t all_lengths) (root_is x src.small)), l)
+      f.lengths.sound (begun-root (numbers-keeps (watched_by x))) at_break
+      (sym (h ∙ ap (held t all_lengths) (root_is src.asked)), l)
 
   -- two full tables tell the same length
-  pub steps-one : (x : ℕ) → Source es (nodes_of nodes) p x rows → (v u : ℕ) → StepsIs (watch_of local p x) rows nodes v
+  pub steps-one : (x : Resources) → Source es (nodes_of nodes) p pair x rows → (v u : ℕ) → StepsIs (watch_of local p x) rows nodes v
       → StepsIs (watch_of local p x) rows nodes u → v ≤ most_shown → u ≡ v
   steps-one x src v u hv hu l =
       let a = steps-least x src u hu v (steps-goes x src v hv l) l in
@@ -128,64 +133,71 @@ module _ (local : Bool) (es : List Edge) (nodes : List ℕ) (p : ℕ) (rows : Li
       omega arith
 
   -- where the search hits nothing, no run breaks the policy
-  pub never-root : (x : ℕ) → Source es (nodes_of nodes) p x rows → NeverHits (watch_of local p x) rows nodes → (m : ℕ)
-      → Root local es (nodes_of nodes) p (watching x) m none → ⊥
+  pub never-root : (x : Resources) → Source es (nodes_of nodes) p pair x rows → NeverHits (watch_of local p x) rows nodes → (m : ℕ)
+      → Root local es (nodes_of nodes) p (numbers (watched_by x)) m none → ⊥
   never-root x src (u, never) m d =
       let ok = src.outline in
       let few = ok.few in
       let count = nodes-length nodes in
       let room = outline-fits nodes ok in
-      let answer = subst (λ (b : Bool). SearchedIf b nodes local rows p (one_resource x) false) room
-      (arrives-searched (has_room nodes) nodes local rows p (one_resource x) u false never) in
-      let (last, z, k) = (hits-exact local es (nodes_of nodes) p (watching x) m none).1 d in
-      false-true ((one-searched x src.small local es (nodes_of nodes) p src.edges (names-ok (nodes_of nodes) ok) (rows_in rows) src.moves
-      (targets-ok (nodes_of nodes) ok) (length nodes / node_fields) (forms_in nodes) (omega arith) (forms-of nodes) false answer).1
-      (last, m, k))
+      let answer = subst (λ (b : Bool). SearchedIf b nodes local rows p x false) room
+      (arrives-searched (has_room nodes) nodes local rows p x u false never) in
+      let (last, z, k) = (hits-exact local es (nodes_of nodes) p (numbers (watched_by x)) m none).1 d in
+      false-true ((searched local es (nodes_of nodes) p x src.asked (rows_in rows) src.edges src.moves
+      (names-ok (nodes_of nodes) ok) (targets-ok (nodes_of nodes) ok) (length nodes / node_fields) (forms_in nodes) (omega arith)
+      (forms-of nodes) false answer).1 (last, (m, k)))
 
-module _ (local : Bool) (es : List Edge) (nodes : List ℕ) (p : ℕ) (rows : List ℕ)
-    (src : (x : ℕ) → x ≤ watched → Source es (nodes_of nodes) p x rows) (r : Shortest) (h : ShortestIs local p rows nodes r)
-    (alone : PairPolicy es p → ⊥) where
-  at_least : (y m : ℕ) (l : y ≤ watched) → touched nodes y ≡ true → Root local es (nodes_of nodes) p (watching y) m none → m ≤ most_shown
-      → r.length ≤ m
-  at_least y m l w d few = go (h.least y l w)
+module _ (local : Bool) (es : List Edge) (nodes : List ℕ) (p : ℕ) (rows : List ℕ) {pair : Bool} (kind : Decides pair (PairPolicy es p))
+    (edges : EdgesOk es) (ok : OutlineOk (nodes_of nodes))
+    (src : (x : Resources) → Asked pair x → Source es (nodes_of nodes) p pair x rows)
+    (n : ℕ) (all : AllAtLeast local p pair rows nodes (choice_count pair) n) where
+  at_least : (x : Resources) → Asked pair x → worth_of nodes x ≡ true → AtLeast (watch_of local p x) rows nodes n
+  at_least x asked worth =
+      let i = asked-numbered asked in
+      subst (λ (y : Resources). worth_of nodes y ≡ true → AtLeast (watch_of local p y) rows nodes n) i.same (all i.number i.small) worth
+
+  -- whatever is watched: another choice, which is worth a search, shows what a static that no event is on would
+  none-shorter : (us : List ℕ) → Chosen es p us → (m : ℕ) → Root local es (nodes_of nodes) p (numbers us) m none → m ≤ most_shown → n ≤ m
+  none-shorter us chosen m d few =
+      let (last, z, k) = (hits-exact local es (nodes_of nodes) p (numbers us) m none).1 d in
+      let by = (exact-by-sights local es (nodes_of nodes) (Scope (nodes_of nodes)) p edges (scoped (nodes_of nodes) ok) (by_numbers es p) m last).1
+      ((us, chosen), k) in
+      let (x, asked, worth, h) = leaves-shown local es (nodes_of nodes) p edges (names-ok (nodes_of nodes) ok) (Scope (nodes_of nodes))
+      (scoped (nodes_of nodes) ok) kind m last by in
+      let root = (hits-exact local es (nodes_of nodes) p (numbers (watched_by x)) m none).0 (last, each, h) in
+      least x asked root (at_least x asked (touches (worth_of nodes x) refl
+      (λ e. skips-worth (nodes_of nodes) (length nodes / node_fields) (forms_in nodes) (forms-of nodes) asked (skips nodes x e) worth)))
     where
-      go : NeverHits (watch_of local p y) rows nodes ⊎ ((v : ℕ) × StepsIs (watch_of local p y) rows nodes v × (r.length ≤ v)) → r.length ≤ m
-      go (inl never) = absurd (never-root local es nodes p rows y (src y l) never m d)
-      go (inr (v, s, k)) = let g = steps-least local es nodes p rows y (src y l) v s m d few in omega arith
+      touches : (b : Bool) {c : Bool} → c ≡ b → (c ≡ false → ⊥) → c ≡ true
+      touches true e h = e
+      touches false e h = absurd (h e)
 
-  -- of a static that need not be watched, the dynamic resource tells
-  none-shorter : (y m : ℕ) → y ≤ watched → Root local es (nodes_of nodes) p (watching y) m none → m ≤ most_shown → r.length ≤ m
-  none-shorter y m l d few = go (touched nodes y) refl
-    where
-      go : (b : Bool) → touched nodes y ≡ b → r.length ≤ m
-      go true e = at_least y m l e d few
-      go false e =
-          let u = untouched nodes y e in
-          let s = src y l in
-          at_least watched m (omega arith) (dynamic-touched nodes)
-          (goes-watched local es (nodes_of nodes) p y (Scope (nodes_of nodes)) s.edges (scoped (nodes_of nodes) s.outline) u.static
-          (λ k a i. let (b, f) = (forms-of nodes).has k (static_event a y) i in u.no_event k a b f) d refl (lt-ltb y statics u.static)) few
+      least : (x : Resources) → Asked pair x → Root local es (nodes_of nodes) p (numbers (watched_by x)) m none
+          → AtLeast (watch_of local p x) rows nodes n → n ≤ m
+      least x asked root (inl never) = absurd (never-root local es nodes p rows x (src x asked) never m root)
+      least x asked root (inr (v, s, l)) = let g = steps-least local es nodes p rows x (src x asked) v s m root few in omega arith
 
-  pub shown-some : (x : ℕ) → x ≤ watched → (edges : EdgesOk es) (ok : OutlineOk (nodes_of nodes)) → r.length ≤ most_shown → (after : Past)
-      → Written local es (nodes_of nodes) p (watching x) r.length false 0 no_names no_name (ltb x statics) 0 [] (broken none) after
+  pub shown-some : (x : Resources) → Asked pair x → n ≤ most_shown → (after : Past)
+      → Written local es (nodes_of nodes) p (numbers (watched_by x)) n false 0 no_names (no_name, no_name) (first_left x) 0 [] (broken none) after
       → Shown local es (nodes_of nodes) p (some after)
-  shown-some x small edges ok few after d =
-      written-shown local es (nodes_of nodes) (Scope (nodes_of nodes)) p edges (scoped (nodes_of nodes) ok) (singles es p alone)
-      (x, small) d few
-      (λ i m g. go i.0 m i.1 g (dec_le m most_shown))
+  shown-some x asked few after d =
+      written-shown local es (nodes_of nodes) (Scope (nodes_of nodes)) p edges (scoped (nodes_of nodes) ok) (by_numbers es p)
+      (watched_by x, asked-chosen es p kind asked) d few
+      (λ i m g. go i.0 i.1 m g (dec_le m most_shown))
     where
-      go : (y m : ℕ) → y ≤ watched → Root local es (nodes_of nodes) p (watching y) m none → Dec (m ≤ most_shown) → r.length ≤ m
-      go y m l g (yes k) = none-shorter y m l g k
-      go y m l g (no k) = omega arith
+      go : (us : List ℕ) → Chosen es p us → (m : ℕ) → Root local es (nodes_of nodes) p (numbers us) m none → Dec (m ≤ most_shown) → n ≤ m
+      go us c m g (yes k) = none-shorter us c m g k
+      go us c m g (no k) = omega arith
 
-  pub shown-none : (edges : EdgesOk es) (ok : OutlineOk (nodes_of nodes)) → most_shown < r.length → Shown local es (nodes_of nodes) p none
-  shown-none edges ok big =
-      all-longer-sights local es (nodes_of nodes) (Scope (nodes_of nodes)) p edges (scoped (nodes_of nodes) ok) (singles es p alone)
-      (λ i m by k. go i.0 m i.1 ((hits-exact local es (nodes_of nodes) p (watching i.0) m none).0 (by, each, k)) (dec_le m most_shown))
+  pub shown-none : most_shown < n → Shown local es (nodes_of nodes) p none
+  shown-none big =
+      all-longer-sights local es (nodes_of nodes) (Scope (nodes_of nodes)) p edges (scoped (nodes_of nodes) ok) (by_numbers es p)
+      (λ i m by k. go i.0 i.1 m ((hits-exact local es (nodes_of nodes) p (numbers i.0) m none).0 (by, each, k)) (dec_le m most_shown))
     where
-      go : (y m : ℕ) → y ≤ watched → Root local es (nodes_of nodes) p (watching y) m none → Dec (m ≤ most_shown) → most_shown < m
-      go y m l d (yes k) = let g = none-shorter y m l d k in absurd (omega arith)
-      go y m l d (no k) = omega arith
+      go : (us : List ℕ) → Chosen es p us → (m : ℕ) → Root local es (nodes_of nodes) p (numbers us) m none → Dec (m ≤ most_shown)
+          → most_shown < m
+      go us c m d (yes k) = let g = none-shorter us c m d k in absurd (omega arith)
+      go us c m d (no k) = omega arith
 
 -- ── A number that is no policy ──
 
@@ -212,73 +224,20 @@ module _ (local : Bool) (es : List Edge) (edges : EdgesOk es) (p : ℕ) (big : 8
   pub no-policy-shown : (nodes : List ℕ) → Shown local es (nodes_of nodes) p none
   no-policy-shown nodes = longer (λ past t v. absurd (start-good (at-start v.1.3) v.1.4))
 
--- ── The table of one watched resource ──
+-- ── The table of the watched resources ──
 
 pub arrives-room : (b : Bool) (nodes : List ℕ) (local : Bool) (rows : List ℕ) (p : ℕ) (x : Resources) (u : List ℕ) (r : Bool)
     → ArrivesIf b nodes local rows p x u r → r ≡ true → (b ≡ true) × Came nodes local rows p x u
 arrives-room true nodes local rows p x u r h e = (refl, h.arrived)
 arrives-room false nodes local rows p x u r h e = false-true (sym h.0 ∙ e)
 
-pub table_of : (b : Bool) (w : WatchOne) (rows nodes t : List ℕ) → TableIf b w rows nodes t → b ≡ true → TableOf w rows nodes t
+pub table_of : (b : Bool) (w : Watch) (rows nodes t : List ℕ) → TableIf b w rows nodes t → b ≡ true → TableOf w rows nodes t
 table_of true w rows nodes t h e = h
 table_of false w rows nodes t h e = false-true e
 
-pub table_none : (b : Bool) (w : WatchOne) (rows nodes t : List ℕ) → TableIf b w rows nodes t → b ≡ false → NeverHits w rows nodes
+pub table_none : (b : Bool) (w : Watch) (rows nodes t : List ℕ) → TableIf b w rows nodes t → b ≡ false → NeverHits w rows nodes
 table_none true w rows nodes t h e = false-true (sym e)
 table_none false w rows nodes t h e = h
-
--- ── The watched resources in turn ──
-
-module _ (local : Bool) (p : ℕ) (rows nodes : List ℕ) where
-  -- a resource of which a length that is `length` or more is known, or that none is
-  abbrev Known : ℕ → ℕ → Type 0
-  Known length y = touched nodes y ≡ true
-      → NeverHits (watch_of local p y) rows nodes ⊎ ((v : ℕ) × StepsIs (watch_of local p y) rows nodes v × (length ≤ v))
-
-  -- the least of those below x that are watched
-  pub record Least-below (x resource length : ℕ) : Type 0 where
-    pub fits : length ≤ no_length
-    pub told : length < no_length → (resource ≤ watched) × StepsIs (watch_of local p resource) rows nodes length
-    pub least : (y : ℕ) → y < x → Known length y
-
-  sought-known : {x v : ℕ} (length : ℕ) → Sought (watch_of local p x) rows nodes v → length ≤ v → Known length x
-  sought-known {x} length (not_touched h) l e = false-true (sym h ∙ e)
-  sought-known {x} length (not_hit h) l e = inl h
-  sought-known {x} {v} length (sought h) l e = inr (v, h, l)
-
-  sought-steps : {x v : ℕ} → Sought (watch_of local p x) rows nodes v → v < no_length → StepsIs (watch_of local p x) rows nodes v
-  sought-steps (not_touched h) l = absurd (omega arith)
-  sought-steps (not_hit h) l = absurd (omega arith)
-  sought-steps (sought h) l = h
-
-  known-less : {length v : ℕ} {y : ℕ} → v ≤ length → Known length y → Known v y
-  known-less {length} {v} {y} l h e = go (h e)
-    where
-      at_most : {u : ℕ} → length ≤ u → v ≤ u
-      at_most z = omega arith
-
-      go : NeverHits (watch_of local p y) rows nodes ⊎ ((u : ℕ) × StepsIs (watch_of local p y) rows nodes u × (length ≤ u))
-          → NeverHits (watch_of local p y) rows nodes ⊎ ((u : ℕ) × StepsIs (watch_of local p y) rows nodes u × (v ≤ u))
-      go (inl g) = inl g
-      go (inr (u, g, z)) = inr (u, g, at_most z)
-
-  pub least-take : {x resource length : ℕ} → Least-below x resource length → x ≤ watched → (v : ℕ)
-      → Sought (watch_of local p x) rows nodes v → v < length → Least-below (x + 1) x v
-  least-take {x} {resource} {length} h l v s k =
-      let f = h.fits in
-      record {
-        fits = omega arith;
-        told = λ m. (l, sought-steps s m);
-        least = below_more (Known v) x (λ y m. known-less (omega arith) (h.least y m)) (sought-known v s (omega arith));
-      }
-
-  pub least-keep : {x resource length : ℕ} → Least-below x resource length → (v : ℕ)
-      → Sought (watch_of local p x) rows nodes v → length ≤ v → Least-below (x + 1) resource length
-  least-keep {x} {resource} {length} h v s k = record {
-    fits = h.fits;
-    told = h.told;
-    least = below_more (Known length) x h.least (sought-known length s k);
-  }
 
 -- ── The root ──
 
@@ -299,27 +258,48 @@ unfolding count
 first-spot = record { at = refl; next = refl }
 
 -- nothing is shown where the search hits nothing: there is no such length
-pub never-shows : (w : WatchOne) (rows nodes : List ℕ) (n : ℕ) (trace trace' : List ℕ) → NeverHits w rows nodes → n ≤ most_shown
+pub never-shows : (w : Watch) (rows nodes : List ℕ) (n : ℕ) (trace trace' : List ℕ) → NeverHits w rows nodes → n ≤ most_shown
     → Shows w rows nodes n trace trace'
-never-shows w rows nodes n trace trace' never few es src steps =
-    absurd (never-root w.local es nodes w.policy rows w.resource src never n
-    (steps-goes w.local es nodes w.policy rows w.resource src n steps few))
+never-shows w rows nodes n trace trace' never few es pair src steps =
+    absurd (never-root w.local es nodes w.policy rows w.resources src never n
+    (steps-goes w.local es nodes w.policy rows w.resources src n steps few))
 
-pub root-shows : (w : WatchOne) (rows nodes t : List ℕ) (n : ℕ) (trace : List ℕ) (r : Spot) (trace' : List ℕ) → TableOf w rows nodes t
+pub root-shows : (w : Watch) (rows nodes t : List ℕ) (n : ℕ) (trace : List ℕ) (r : Spot) (trace' : List ℕ) → TableOf w rows nodes t
     → n ≤ most_shown → most_numbers ≤ length trace
-    → Writes w rows nodes t (root_of w.resource) n none-given at_first trace r trace' → Shows w rows nodes n trace trace'
-root-shows w rows nodes t n trace r trace' (u, come, full) few room d es src steps =
-    let x = w.resource in
+    → Writes w rows nodes t (root_of w.resources) n none-given at_first trace r trace' → Shows w rows nodes n trace trace'
+root-shows w rows nodes t n trace r trace' (u, come, full) few room d es pair src steps =
+    let x = w.resources in
     let least-is = full-least w.local es nodes w.policy x rows src u t come full in
     let same : held t all_lengths (root_of x) ≡ n = steps-one w.local es nodes w.policy rows x src n
     (held t all_lengths (root_of x)) steps (t, (u, come, full), refl) few in
-    let (after, run, spot, laid-is) = d es no_name (ltb x statics) (broken none) no_names trace [] (record { source = src; least = least-is })
+    let (after, run, spot, laid-is) = d es (no_name, no_name) (first_left x) (broken none) no_names trace []
+    (record { pair = pair; source = src; least = least-is })
     (record {
-      meaning = root-meaning x src.small;
+      meaning = root-meaning src.asked;
       number = refl;
       come = come-root;
-      begun = begun-root (watching-keeps x);
+      begun = begun-root (numbers-keeps (watched_by x));
       aimed = at_break;
     }) same
     (λ m s. absurd ((scoped (nodes_of nodes) src.outline).root s)) (λ m v e. none-some e) first-spot (laid_none trace) (omega arith) in
     (after, run, laid-is)
+
+-- ── The answer ──
+
+pub told-by : (local : Bool) (e nodes : List ℕ) (p : ℕ) (t : List ℕ) (r : Length) (t' : List ℕ) (pair : Bool) (rows : List ℕ)
+    → most_numbers ≤ length t → EdgeTable e → NodeTable nodes → p < 8 → Decides pair (PairPolicy (edges_of e) p)
+    → rows ≡ row_table (rows_at (edges_of e)) pair p nodes → Answered local p pair rows nodes t r t' → Told local e nodes p t r t'
+told-by local e nodes p t (Of n) t' pair rows room et nt policy kind filled h =
+    let es = edges_of e in
+    let src = source_of e nodes et.edges nt.outline p policy pair rows filled in
+    let (after, d, is) = h.shows es pair (src h.resources h.asked) h.told in
+    let long : length after ≡ n = written-length local es (nodes_of nodes) p (numbers (watched_by h.resources)) d ∙ omega arith in
+    let shown = shown-some local es nodes p rows kind et.edges nt.outline src n h.least h.resources h.asked h.few after d in
+    subst (λ (k : ℕ). ToldAs local e nodes p t (violated p) (some k) t') long
+    (subst (ToldAs local e nodes p t (violated p) (some (length after))) (sym is) (ToldAs.this_long room et nt shown))
+told-by local e nodes p t Longer t' pair rows room et nt policy kind filled h =
+    let src = source_of e nodes et.edges nt.outline p policy pair rows filled in
+    subst (ToldAs local e nodes p t (violated p) none) (sym h.1)
+    (ToldAs.longer room et nt
+    (shown-none local (edges_of e) nodes p rows kind et.edges nt.outline src all_lengths h.0 (omega arith)))
+told-by local e nodes p t (Refused k) t' pair rows room et nt policy kind filled h = absurd h

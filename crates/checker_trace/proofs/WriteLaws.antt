@@ -1,12 +1,11 @@
 -- What each way of writing an entry writes.
-use Prim.Native.Nat.{ℕ, suc, ◌/◌, ◌<◌, ◌≤◌}
+use Prim.Native.Nat.{ℕ, ◌+◌, ◌/◌, ◌<◌, ◌≤◌}
 use mathlib.Core.Path.{◌≡◌, refl, sym, ap, ap₂, ◌∙◌, subst}
-use mathlib.Core.Bool.{Bool, true}
+use mathlib.Core.Bool.{Bool, true, false}
 use mathlib.Core.Option.{Option, none, some}
 use mathlib.Core.List.{List, ◌∷◌}
 use mathlib.Core.Logic.{◌⊎◌, inl, inr}
 use native.Mathlib.Omega.{arith}
-use lib.Dec.{eqb}
 use lib.ListN.{length, get_or}
 use Rattle.usage.specs.declared.Edge.{Edge}
 use Rattle.usage.specs.Limits.{most_shown, most_nodes, node_fields}
@@ -15,7 +14,8 @@ use Rattle.usage.specs.Outline as outline
 use Rattle.usage.specs.Outline.{Form, Is, static_event, named_event}
 use Rattle.usage.specs.Valid.{Scope}
 use Rattle.usage.specs.Tables.{nodes_of}
-use Rattle.checker_account.specs.Single.{watching}
+use Rattle.checker_account.specs.Pairs.{numbers}
+use Rattle.checker_account.specs.Tables.{watched_by, is_late_lem, meant_at}
 use Rattle.checker_account.specs.Account.{Aim, ended, broken, each, Goes}
 use Rattle.checker_account.specs.Written.{Written}
 use Rattle.checker_account.specs.Least.{Begun, Leads, PassesAll, ending}
@@ -23,17 +23,18 @@ use Rattle.checker_account.proofs.MaskLaws.{offends-has}
 use Rattle.checker_account.proofs.ScopedLaws.{scoped}
 use Rattle.checker_account.proofs.OntoLaws.{goes-still, passes-all, passes-among}
 use Rattle.checker_account.proofs.BegunLaws.{begun-ended}
-use Rattle.checker_account.proofs.SingleLaws.{watching-keeps}
+use Rattle.checker_account.proofs.PairsLaws.{numbers-keeps}
 use Rattle.checker_account.proofs.CounterexampleLaws.{idle-written, passes-written}
 use Rattle.checker_lengths.specs.declared.Entry.{Entry}
-use Rattle.checker_lengths.specs.declared.WatchOne.{WatchOne}
+use Rattle.checker_account.specs.declared.Watch.{Watch}
 use Rattle.checker_lengths.specs.Entries.{all_lengths, entry_of, held}
-use Rattle.checker_lengths.specs.Offers.{offer_of, offer_from, moved, ending_of as ends_by, breaking}
+use Rattle.checker_lengths.specs.Offers.{low_end, offer_of, offer_from, moved, ending_of as ends_by, breaking}
 use Rattle.checker_lengths.specs.Filling.{form_here}
-use Rattle.checker_lengths.specs.Held.{aim_at, meaning_of}
+use Rattle.checker_lengths.specs.Held.{Left, aim_at, entry_at}
 use Rattle.checker_lengths.proofs.Inversion.{ending-inv, breaking-inv, event-inv}
-use Rattle.checker_lengths.proofs.RuledLaws.{offending-small, break-is, end_is, static-moves, name-moves}
-use Rattle.checker_lengths.proofs.EntryLaws.{bounds, held-is}
+use Rattle.checker_lengths.proofs.NumberLaws.{aim-end, break-is, end_is, early-same, InRange, range-of}
+use Rattle.checker_lengths.proofs.RuledLaws.{offending-small, static-moves, name-moves}
+use Rattle.checker_lengths.proofs.EntryLaws.{table-entry, held-is}
 use Rattle.checker_lengths.proofs.FullLaws.{here-form, run-followed}
 use Rattle.checker_trace.specs.declared.Spot.{Spot}
 use Rattle.checker_trace.specs.declared.Names.{Names}
@@ -42,49 +43,57 @@ use Rattle.checker_trace.specs.Code.{OntoIs, stored_step, onward, Spotted, Comin
 use Rattle.checker_trace.proofs.LeadLaws.{closure-passes, never-nothing}
 use Rattle.checker_trace.proofs.StepLaws.{laid_more, spotted-event}
 
-module _ (w : WatchOne) (rows nodes t : List ℕ) (e : Entry) where
+module _ (w : Watch) (rows nodes t : List ℕ) (e : Entry) where
   -- the entry, as the account tells it
-  abbrev told : ℕ → Bool → Aim Bool → Entry
-  told m c aim = entry_of e.node e.opened (meaning_of m c) e.state (aim_at aim)
+  abbrev told : ℕ × ℕ → Left → Aim Left → Entry
+  told m c aim = entry_of e.node e.opened (entry_at m c aim) e.state (aim_at aim)
 
-  pub tells_is : {es : List Edge} {m : ℕ} {c : Bool} {aim : Aim Bool} → Tells w es nodes e m c aim → e ≡ told m c aim
+  pub tells_is : {es : List Edge} {m : ℕ × ℕ} {c : Left} {aim : Aim Left} → Tells w es nodes e m c aim → e ≡ told m c aim
   tells_is h = ap₂ (λ (i j : ℕ). entry_of e.node e.opened i e.state j) h.meaning h.number
 
   -- where the entry is an end, that end occurs
-  end-occurs : {es : List Edge} (n m : ℕ) (c : Bool) (aim : Aim Bool) → Ready w es rows nodes t → Tells w es nodes e m c aim
-      → held t all_lengths e ≡ n → n ≤ most_shown → (c' : Bool) (q' : ℕ) → aim ≡ ended c' q' → Begun (watching w.resource) m c' q'
+  end-occurs : {es : List Edge} (n : ℕ) (m : ℕ × ℕ) (c : Left) (aim : Aim Left) → Ready w es rows nodes t → Tells w es nodes e m c aim
+      → held t all_lengths e ≡ n → n ≤ most_shown → (c' : Left) (q' : ℕ) → aim ≡ ended c' q' → Begun (numbers (watched_by w.resources)) m c' q'
   end-occurs {es} n m c aim ready tells h few c' q' f =
       let here : held t all_lengths (told m c aim) ≡ n = sym (ap (held t all_lengths) (tells_is tells)) ∙ h in
-      begun-ended w.local es (nodes_of nodes) w.policy (watching w.resource) ready.source.edges (watching-keeps w.resource)
+      begun-ended w.local es (nodes_of nodes) w.policy (numbers (watched_by w.resources)) ready.source.edges (numbers-keeps (watched_by w.resources))
       tells.begun
-      (subst (λ (u : Aim Bool). Goes w.local es (nodes_of nodes) w.policy (watching w.resource) n e.opened e.node m c
+      (subst (λ (u : Aim Left). Goes w.local es (nodes_of nodes) w.policy (numbers (watched_by w.resources)) n e.opened e.node m c
       e.state u) f
       (ready.least.lengths.sound tells.begun tells.aimed (here, few)))
 
+  -- it is in the table, so that its aim has a number
+  pub range_at : {es : List Edge} {m : ℕ × ℕ} {c : Left} {aim : Aim Left} (n : ℕ) → Tells w es nodes e m c aim → held t all_lengths e ≡ n
+      → n ≤ most_shown → InRange c aim
+  range_at {m = m} {c} {aim} n tells h few =
+      let (i, y, l) = held-is t all_lengths (told m c aim) n (sym (ap (held t all_lengths) (tells_is tells)) ∙ h) (omega arith) in
+      range-of e.opened e.node m c e.state aim (table-entry (length t) (told m c aim) i)
+
   -- ── The node to go on at ──
 
-  pub record Arrived (es : List Edge) (n m : ℕ) (c : Bool) (aim : Aim Bool) (j r : ℕ) (f : Form) : Type 0 where
+  pub record Arrived (es : List Edge) (n : ℕ) (m : ℕ × ℕ) (c : Left) (aim : Aim Left) (j r : ℕ) (f : Form) : Type 0 where
     pub passes : PassesAll (nodes_of nodes) (ending aim) e.node j
     pub is : Is (nodes_of nodes) j f
     pub come : Coming w es nodes e.opened j m c e.state
-    pub gives : offer_of w rows (held t n) (entry_of j e.opened (meaning_of m c) e.state (aim_at aim)) r f ≡ n
+    pub gives : offer_of w rows (held t n) (entry_of j e.opened (entry_at m c aim) e.state (aim_at aim)) r f ≡ n
 
   pub arrive : (n j r : ℕ) (f : Form) → length nodes / node_fields ≤ most_nodes
       → OntoIs w rows nodes t e n (By j r) → form_here nodes j ≡ some f
-      → {es : List Edge} {m : ℕ} {c : Bool} {aim : Aim Bool} → Ready w es rows nodes t
+      → {es : List Edge} {m : ℕ × ℕ} {c : Left} {aim : Aim Left} → Ready w es rows nodes t
       → Tells w es nodes e m c aim → n ≤ most_shown → held t all_lengths e ≡ n → Arrived es n m c aim j r f
   arrive n j r f few on g {es} {m} {c} {aim} ready tells steps there =
       let (s, closed, l, h, offer) = subst (λ (y : Entry). OntoIs w rows nodes t y n (By j r)) (tells_is tells) on in
-      let passes = closure-passes w.local es nodes w.policy w.resource rows t ready.source ready.least e.opened
-      e.node m c e.state aim tells.begun tells.aimed (end-occurs n m c aim ready tells there steps) s closed j
+      let passes = closure-passes w.local es nodes w.policy w.resources rows t ready.source ready.least e.opened
+      e.node m c e.state aim tells.begun tells.aimed (range_at n tells there steps)
+      (end-occurs n m c aim ready tells there steps) s closed j
       (omega arith) h in
       record {
         passes = passes;
-        come = passes-among w.local es (nodes_of nodes) w.policy (watching w.resource) (Coming w es nodes)
-            (run-followed w.local es nodes w.policy w.resource rows ready.source) tells.come passes;
-        is = here-form w.local es nodes w.policy w.resource rows ready.source j f l g;
+        come = passes-among w.local es (nodes_of nodes) w.policy (numbers (watched_by w.resources)) (Coming w es nodes)
+            (run-followed w.local es nodes w.policy w.resources rows ready.source) tells.come passes;
+        is = here-form w.local es nodes w.policy w.resources rows ready.source j f l g;
         gives = subst (λ (y : Option Form). offer_from w rows (held t n)
-            (entry_of j e.opened (meaning_of m c) e.state (aim_at aim)) r y ≡ n) g offer;
+            (entry_of j e.opened (entry_at m c aim) e.state (aim_at aim)) r y ≡ n) g offer;
       }
 
   -- the names that are in scope where a node leads to
@@ -111,16 +120,16 @@ module _ (w : WatchOne) (rows nodes t : List ℕ) (e : Entry) where
     wrote_none z es m c aim names t₀ past ready tells h named agree spotted same room =
         let L = ready.least.lengths in
         let here : held t all_lengths (told m c aim) ≡ n = sym (ap (held t all_lengths) (tells_is tells)) ∙ h in
-        let d = goes-still w.local es (nodes_of nodes) w.policy (watching w.resource)
+        let d = goes-still w.local es (nodes_of nodes) w.policy (numbers (watched_by w.resources))
         (L.sound tells.begun tells.aimed (here, omega arith)) z in (
           past,
-          subst (λ (u : Aim Bool). Written w.local es (nodes_of nodes) w.policy (watching w.resource) n e.opened
+          subst (λ (u : Aim Left). Written w.local es (nodes_of nodes) w.policy (numbers (watched_by w.resources)) n e.opened
               e.node names m c
               e.state past u past) (sym d.same)
-              (subst (λ (i : ℕ). Written w.local es (nodes_of nodes) w.policy (watching w.resource) i e.opened
+              (subst (λ (i : ℕ). Written w.local es (nodes_of nodes) w.policy (numbers (watched_by w.resources)) i e.opened
               e.node names m c
               e.state past (ended c e.state) past) (sym z)
-              (idle-written w.local es (nodes_of nodes) w.policy (watching w.resource) d.idle)),
+              (idle-written w.local es (nodes_of nodes) w.policy (numbers (watched_by w.resources)) d.idle)),
           spotted,
           same,
         )
@@ -128,88 +137,87 @@ module _ (w : WatchOne) (rows nodes t : List ℕ) (e : Entry) where
     -- there always is a rule
     pub wrote-nowhere : OntoIs w rows nodes t e n Nothing → n ≤ most_shown → 1 ≤ n → (r : Spot) (trace' : List ℕ) → Wrote r trace'
     wrote-nowhere on few one r trace' es m c aim names t₀ past ready tells h named agree spotted same room =
-        absurd (never-nothing w.local es nodes w.policy w.resource rows t ready.source ready.least e.opened e.node m c
-        e.state aim tells.begun tells.aimed (end-occurs n m c aim ready tells h few) tells.come n
+        absurd (never-nothing w.local es nodes w.policy w.resources rows t ready.source ready.least e.opened e.node m c
+        e.state aim tells.begun tells.aimed (range_at n tells h few) (end-occurs n m c aim ready tells h few) tells.come n
         (sym (ap (held t all_lengths) (tells_is tells)) ∙ h) few one
         (subst (λ (y : Entry). OntoIs w rows nodes t y n Nothing) (tells_is tells) on))
 
     module _ (few_nodes : length nodes / node_fields ≤ most_nodes) (few : n ≤ most_shown)
         (j r : ℕ) (on : OntoIs w rows nodes t e n (By j r)) where
-      abbrev at-node : Bool → ℕ → Aim Bool → ℕ → Entry
-      at-node c m aim k = entry_of k e.opened (meaning_of m c) e.state (aim_at aim)
-
-      -- the aim has a number, since the entry is in the table
-      pub range-of : {es : List Edge} {m : ℕ} {c : Bool} {aim : Aim Bool} → held t all_lengths e ≡ n → Tells w es nodes e m c aim
-          → aim_at aim < 17
-      range-of h tells = let (i, y, l) = held-is t all_lengths e n h (omega arith) in
-          subst (λ (y : ℕ). y < 17) tells.number (bounds e i).aim
+      abbrev at-node : Left → ℕ × ℕ → Aim Left → ℕ → Entry
+      at-node c m aim k = entry_of k e.opened (entry_at m c aim) e.state (aim_at aim)
 
       -- the number of steps of an event
       event-steps : (z : ℕ) (y : Entry) → (ends_by z y ≡ n) ⊎ (breaking z y ≡ n) → n ≡ 1
       event-steps z y (inl g) = (ending-inv y n few z g).0
       event-steps z y (inr g) = (breaking-inv y n few z g).0
 
-      module _ (es : List Edge) (m : ℕ) (c : Bool) (aim : Aim Bool) (names : outline.Names) (past : Past) (ready : Ready w es rows nodes t)
-          (tells : Tells w es nodes e m c aim) (range : aim_at aim < 17) where
+      module _ (es : List Edge) (m : ℕ × ℕ) (c : Left) (aim : Aim Left) (names : outline.Names) (past : Past) (ready : Ready w es rows nodes t)
+          (tells : Tells w es nodes e m c aim) (range : InRange c aim) where
         abbrev Here : Past → Type 0
         Here after =
-            Written w.local es (nodes_of nodes) w.policy (watching w.resource) n e.opened j names m c e.state past aim after
+            Written w.local es (nodes_of nodes) w.policy (numbers (watched_by w.resources)) n e.opened j names m c e.state past aim after
 
         written-end : (q : ℕ) (after : Past) → n ≡ 1 → aim ≡ ended c q
-            → Written w.local es (nodes_of nodes) w.policy (watching w.resource) 1 e.opened j names m c e.state past
+            → Written w.local es (nodes_of nodes) w.policy (numbers (watched_by w.resources)) 1 e.opened j names m c e.state past
             (ended c q) after
             → Here after
         written-end q after z f d =
-            subst (λ (u : Aim Bool). Written w.local es (nodes_of nodes) w.policy (watching w.resource) n e.opened j names m c
+            subst (λ (u : Aim Left). Written w.local es (nodes_of nodes) w.policy (numbers (watched_by w.resources)) n e.opened j names m c
             e.state past u after) (sym f)
-            (subst (λ (i : ℕ). Written w.local es (nodes_of nodes) w.policy (watching w.resource) i e.opened j names m c
+            (subst (λ (i : ℕ). Written w.local es (nodes_of nodes) w.policy (numbers (watched_by w.resources)) i e.opened j names m c
             e.state past
             (ended c q) after) (sym z) d)
 
         written-break : (after : Past) → n ≡ 1 → e.opened ≡ true → aim ≡ broken none
-            → Written w.local es (nodes_of nodes) w.policy (watching w.resource) 1 true j names m c e.state past
+            → Written w.local es (nodes_of nodes) w.policy (numbers (watched_by w.resources)) 1 true j names m c e.state past
             (broken none) after
             → Here after
         written-break after z o f d =
-            subst (λ (u : Aim Bool). Written w.local es (nodes_of nodes) w.policy (watching w.resource) n e.opened j names m c
+            subst (λ (u : Aim Left). Written w.local es (nodes_of nodes) w.policy (numbers (watched_by w.resources)) n e.opened j names m c
             e.state past u after) (sym f)
-            (subst (λ (i : ℕ). Written w.local es (nodes_of nodes) w.policy (watching w.resource) i e.opened j names m c
+            (subst (λ (i : ℕ). Written w.local es (nodes_of nodes) w.policy (numbers (watched_by w.resources)) i e.opened j names m c
             e.state past
             (broken none) after) (sym z)
-            (subst (λ (y : Bool). Written w.local es (nodes_of nodes) w.policy (watching w.resource) 1 y j names m c e.state past
+            (subst (λ (y : Bool). Written w.local es (nodes_of nodes) w.policy (numbers (watched_by w.resources)) 1 y j names m c e.state past
             (broken none) after) (sym o) d))
 
+        end_of : (y : ℕ) → y < 8 → is_late_lem (entry_at m c aim) ≡ false → aim_at aim ≡ low_end (entry_at m c aim) + y → aim ≡ ended c y
+        end_of y l early f =
+            end_is aim c y tells.aimed range.aim l (f ∙ sym (aim-end tells.begun.view aim y l))
+            (early-same tells.begun.view aim range early)
+
         at_static : (d i : ℕ) → Is (nodes_of nodes) j (static_event d i)
-            → (ends_by (moved rows (at-node c m aim j) (eqb i w.resource)) (at-node c m aim j) ≡ n)
-            ⊎ (breaking (moved rows (at-node c m aim j) (eqb i w.resource)) (at-node c m aim j) ≡ n)
+            → (ends_by (moved rows w.resources (at-node c m aim j) i) (at-node c m aim j) ≡ n)
+            ⊎ (breaking (moved rows w.resources (at-node c m aim j) i) (at-node c m aim j) ≡ n)
             → Here (event d i ∷ past)
         at_static d i is (inl g) =
-            let (z, y, l, h, f) = ending-inv (at-node c m aim j) n few (moved rows (at-node c m aim j) (eqb i w.resource)) g in
-            written-end y (event d i ∷ past) z (end_is aim m c y tells.aimed range l f)
-            (Written.fires_static is (static-moves w.local es (nodes_of nodes) w.policy w.resource rows ready.source j
-            e.opened (aim_at aim) y tells.begun l is h))
+            let (z, early, y, l, h, f) = ending-inv (at-node c m aim j) n few (moved rows w.resources (at-node c m aim j) i) g in
+            written-end y (event d i ∷ past) z (end_of y l early f)
+            (Written.fires_static is (static-moves w.local es (nodes_of nodes) w.policy w.resources rows ready.source j
+            e.opened aim tells.begun range y l is h))
         at_static d i is (inr g) =
-            let (z, f, o, v) = breaking-inv (at-node c m aim j) n few (moved rows (at-node c m aim j) (eqb i w.resource)) g in
-            let (y, off, h) = offends-has (moved rows (at-node c m aim j) (eqb i w.resource)) v in
+            let (z, f, o, v) = breaking-inv (at-node c m aim j) n few (moved rows w.resources (at-node c m aim j) i) g in
+            let (y, off, h) = offends-has (moved rows w.resources (at-node c m aim j) i) v in
             written-break (event d i ∷ past) z o (break-is aim tells.aimed f)
-            (Written.breaks_static is (static-moves w.local es (nodes_of nodes) w.policy w.resource rows ready.source j
-            e.opened (aim_at aim) y tells.begun (offending-small y off) is h) off each)
+            (Written.breaks_static is (static-moves w.local es (nodes_of nodes) w.policy w.resources rows ready.source j
+            e.opened aim tells.begun range y (offending-small y off) is h) off each)
 
         at_name : (d i v : ℕ) → Is (nodes_of nodes) j (named_event d i) → names i ≡ some v
-            → (ends_by (moved rows (at-node c m aim j) (eqb (meaning_of m c) (suc i))) (at-node c m aim j) ≡ n)
-            ⊎ (breaking (moved rows (at-node c m aim j) (eqb (meaning_of m c) (suc i))) (at-node c m aim j) ≡ n)
+            → (ends_by (moved rows w.resources (at-node c m aim j) (meant_at (entry_at m c aim) i)) (at-node c m aim j) ≡ n)
+            ⊎ (breaking (moved rows w.resources (at-node c m aim j) (meant_at (entry_at m c aim) i)) (at-node c m aim j) ≡ n)
             → Here (event d v ∷ past)
         at_name d i v is nm (inl g) =
-            let (z, y, l, h, f) = ending-inv (at-node c m aim j) n few (moved rows (at-node c m aim j) (eqb (meaning_of m c) (suc i))) g in
-            written-end y (event d v ∷ past) z (end_is aim m c y tells.aimed range l f)
-            (Written.fires_name is nm (name-moves w.local es (nodes_of nodes) w.policy w.resource rows ready.source j e.opened
-            (aim_at aim) y tells.begun l is h))
+            let (z, early, y, l, h, f) = ending-inv (at-node c m aim j) n few (moved rows w.resources (at-node c m aim j) (meant_at (entry_at m c aim) i)) g in
+            written-end y (event d v ∷ past) z (end_of y l early f)
+            (Written.fires_name is nm (name-moves w.local es (nodes_of nodes) w.policy w.resources rows ready.source j e.opened
+            aim tells.begun range y l is h))
         at_name d i v is nm (inr g) =
-            let (z, f, o, u) = breaking-inv (at-node c m aim j) n few (moved rows (at-node c m aim j) (eqb (meaning_of m c) (suc i))) g in
-            let (y, off, h) = offends-has (moved rows (at-node c m aim j) (eqb (meaning_of m c) (suc i))) u in
+            let (z, f, o, u) = breaking-inv (at-node c m aim j) n few (moved rows w.resources (at-node c m aim j) (meant_at (entry_at m c aim) i)) g in
+            let (y, off, h) = offends-has (moved rows w.resources (at-node c m aim j) (meant_at (entry_at m c aim) i)) u in
             written-break (event d v ∷ past) z o (break-is aim tells.aimed f)
-            (Written.breaks_name is nm (name-moves w.local es (nodes_of nodes) w.policy w.resource rows ready.source j
-            e.opened (aim_at aim) y tells.begun (offending-small y off) is h) off each)
+            (Written.breaks_name is nm (name-moves w.local es (nodes_of nodes) w.policy w.resources rows ready.source j
+            e.opened aim tells.begun range y (offending-small y off) is h) off each)
 
       -- an event on a static resource
       pub wrote_static : (d i : ℕ) → form_here nodes j ≡ some (static_event d i) → (r' : Spot) → r' ≡ onward s → (trace' : List ℕ)
@@ -217,11 +225,11 @@ module _ (w : WatchOne) (rows nodes t : List ℕ) (e : Entry) where
       unfolding offer_of
       wrote_static d i form r' er trace' et es m c aim names t₀ past ready tells h named agree spotted same room =
           let v = arrive n j r (static_event d i) few_nodes on form ready tells few h in
-          let u = event-inv (at-node c m aim j) n few (moved rows (at-node c m aim j) (eqb i w.resource)) r v.gives in
-          let z = event-steps (moved rows (at-node c m aim j) (eqb i w.resource)) (at-node c m aim j) u in (
+          let u = event-inv (at-node c m aim j) n few (moved rows w.resources (at-node c m aim j) i) r v.gives in
+          let z = event-steps (moved rows w.resources (at-node c m aim j) i) (at-node c m aim j) u in (
             event d i ∷ past,
-            passes-written w.local es (nodes_of nodes) w.policy (watching w.resource) aim v.passes
-                (at_static es m c aim names past ready tells (range-of h tells) d i v.is u),
+            passes-written w.local es (nodes_of nodes) w.policy (numbers (watched_by w.resources)) aim v.passes
+                (at_static es m c aim names past ready tells (range_at n tells h few) d i v.is u),
             subst (Spotted (event d i ∷ past)) (sym er)
                 (spotted-event past s d i ((scoped (nodes_of nodes) ready.source.outline).static-acts v.is) spotted),
             et ∙ laid_more t₀ past (event d i) 0 d i s.at trace refl spotted.at same (omega arith),
@@ -233,12 +241,12 @@ module _ (w : WatchOne) (rows nodes t : List ℕ) (e : Entry) where
       unfolding offer_of
       wrote-name d i form r' er trace' et es m c aim names t₀ past ready tells h named agree spotted same room =
           let v = arrive n j r (named_event d i) few_nodes on form ready tells few h in
-          let u = event-inv (at-node c m aim j) n few (moved rows (at-node c m aim j) (eqb (meaning_of m c) (suc i))) r v.gives in
-          let z = event-steps (moved rows (at-node c m aim j) (eqb (meaning_of m c) (suc i))) (at-node c m aim j) u in
+          let u = event-inv (at-node c m aim j) n few (moved rows w.resources (at-node c m aim j) (meant_at (entry_at m c aim) i)) r v.gives in
+          let z = event-steps (moved rows w.resources (at-node c m aim j) (meant_at (entry_at m c aim) i)) (at-node c m aim j) u in
           let (x, nm) = passes-names ready v.passes named i ((scoped (nodes_of nodes) ready.source.outline).used v.is) in (
             event d x ∷ past,
-            passes-written w.local es (nodes_of nodes) w.policy (watching w.resource) aim v.passes
-                (at_name es m c aim names past ready tells (range-of h tells) d i x v.is nm u),
+            passes-written w.local es (nodes_of nodes) w.policy (numbers (watched_by w.resources)) aim v.passes
+                (at_name es m c aim names past ready tells (range_at n tells h few) d i x v.is nm u),
             subst (Spotted (event d x ∷ past)) (sym er)
                 (spotted-event past s d x ((scoped (nodes_of nodes) ready.source.outline).name-acts v.is) spotted),
             et ∙ ap (λ (y : ℕ). stored_step trace s.at 0 d y) (agree i x nm)

@@ -1,15 +1,16 @@
 -- What the crate's own functions compute and write.
-use Rattle.std.specs.Prelude.{ℕ, zero, suc, ◌+◌, ◌-◌, ◌/◌, ◌%◌, ◌^◌, ◌<◌, ◌≤◌, ◌*◌, ◌≡◌, Bool, true, ◌||◌, cond, false, List, [], eqb, ltb, length, set, get_or, ◌⊎◌}
+use Rattle.std.specs.Prelude.{ℕ, zero, suc, ◌+◌, ◌-◌, ◌/◌, ◌%◌, ◌^◌, ◌<◌, ◌≤◌, ◌*◌, ◌≡◌, Bool, true, ◌||◌, ◌&&◌, cond, false, List, [], eqb, ltb, length, set, get_or, ◌⊎◌}
 use Rattle.std.proofs.Math.Option.{Option, none, some}
 use Rattle.std.specs.Int.Bits.{bit_or}
-use Rattle.usage.specs.Limits.{most_nodes, states, node_fields, step_fields, most_shown, statics, resources}
+use Rattle.usage.specs.Limits.{most_nodes, states, node_fields, step_fields, most_shown, resources}
 use Rattle.usage.specs.Outline.{Form, end, static_event, named_event, sequence, choice, loop, back, fresh, sandbox, no_names}
 use Rattle.automaton.specs.Mask.{has}
-use Rattle.checker_tables.specs.Search.{touched, has_room, Arrived, ArrivesIf}
+use Rattle.checker_tables.specs.Search.{worth_of, has_room, Arrived, ArrivesIf}
 use Rattle.checker_lengths.specs.declared.Entry.{Entry}
-use Rattle.checker_lengths.specs.declared.WatchOne.{WatchOne}
-use Rattle.checker_lengths.specs.Entries.{at_break, entry_of, held, all_lengths, no_length}
-use Rattle.checker_lengths.specs.Offers.{at_node, low_end_lem, first_entry, second_entry, body_entry, inner_entry, offer_from, ways_of}
+use Rattle.checker_account.specs.declared.Resources.{Resources}
+use Rattle.checker_account.specs.declared.Watch.{Watch}
+use Rattle.checker_lengths.specs.Entries.{at_break, aims, entry_places, entry_of, held, all_lengths, no_length}
+use Rattle.checker_lengths.specs.Offers.{at_node, low_end, first_entry, second_entry, body_entry, inner_entry, offer_from, ways_of}
 use Rattle.checker_lengths.specs.Filling.{form_here, Full}
 use Rattle.checker_trace.specs.declared.Onto.{Onto}
 use Rattle.checker_trace.specs.declared.Onto.TheVariants.{By, Nothing}
@@ -24,27 +25,35 @@ use Rattle.usage.specs.declared.Node.{Node}
 use Rattle.usage.specs.Outline as outline
 use Rattle.usage.specs.Valid.{Scope}
 use Rattle.usage.specs.Tables.{nodes_of}
-use Rattle.checker_account.specs.Account.{Aim, watched, broken}
-use Rattle.checker_account.specs.Single.{no_name, watching}
+use Rattle.checker_account.specs.Account.{Aim, watched_too, broken}
+use Rattle.checker_account.specs.Pairs.{no_name, numbers}
+use Rattle.checker_account.specs.Filling.{Asked}
+use Rattle.checker_account.specs.Choices.{single_count, grid_count, choice_count, choice_at}
 use Rattle.checker_account.specs.Least.{Begun, ComeTo, Aimed, Least}
-use Rattle.checker_lengths.specs.Held.{aim_at, meaning_of, entries_in, Source, watch_of}
-use Rattle.checker_account.specs.Tables.{one_resource, least}
+use Rattle.checker_lengths.specs.Held.{Left, aim_at, entry_at, entries_in, Source, watch_of}
+use Rattle.checker_account.specs.Tables.{meanings, watched_by, is_late_lem, first_code_lem}
+use Rattle.checker_trace.specs.declared.Length.{Length}
+use Rattle.checker_trace.specs.declared.Length.TheVariants.{Of, Longer, Refused}
 use Rattle.checker_trace.specs.declared.Shortest.{Shortest}
 use Rattle.checker_trace.specs.Steps.{laid}
 
 -- ── Where to go on: the nodes that a node leads to with no step, and the rule that is found there ──
 
--- node k can end with no step, from the entry's start: `t` is the table of lengths
+-- node k can end with no step, from the entry's start, 17 not being created: `t` is the table of lengths
 abbrev pub end_in : Entry → ℕ → Entry
-end_in e k = entry_of k e.opened e.meaning e.state (low_end_lem e.meaning + e.state % states)
+end_in e k = first_entry e k (low_end e.meaning + e.state % states)
 
 unfoldable pub idle_in : List ℕ → Entry → ℕ → Bool
 idle_in t e k = eqb (held t 1 (end_in e k)) 0
 
+-- the way in which a node comes to the entry's end: 17 is created by it, or not
+abbrev pub way_to : Entry → ℕ
+way_to e = cond (is_late_lem e.meaning) (aims + e.aim) e.aim
+
 -- node k can end with no step where the entry's node is to end: asked at the start that its aim is, which is come to if the node before k
 -- comes to the aim
 unfoldable pub idle_after_lem : List ℕ → Entry → ℕ → Bool
-idle_after_lem t e k = eqb (held t 1 (second_entry e k e.aim)) 0
+idle_after_lem t e k = ltb e.aim at_break && eqb (held t 1 (second_entry e k (way_to e))) 0
 
 -- sets of nodes, as bit masks
 
@@ -91,22 +100,22 @@ pub record Closure (t nodes : List ℕ) (e : Entry) (s : ℕ) : Type 0 where
   pub still : spread_to t nodes e (length nodes / node_fields) s ≡ s
 
 -- what rule c of a node of this form gives, by the entries of fewer steps than n
-abbrev pub offer_below : WatchOne → List ℕ → List ℕ → Option Form → Entry → ℕ → ℕ → ℕ
+abbrev pub offer_below : Watch → List ℕ → List ℕ → Option Form → Entry → ℕ → ℕ → ℕ
 offer_below w rows t f e n c = offer_from w rows (held t n) e c f
 
 -- r is a rule that gives n, or as many as there are and none does
-pub record RuleIs (w : WatchOne) (rows t : List ℕ) (f : Option Form) (e : Entry) (n r : ℕ) : Type 0 where
-  pub here : r < ways_of f → offer_below w rows t f e n r ≡ n
-  pub none_there : ways_of f ≤ r → (c : ℕ) → c < ways_of f → offer_below w rows t f e n c ≡ n → ⊥
+pub record RuleIs (w : Watch) (rows t : List ℕ) (f : Option Form) (e : Entry) (n r : ℕ) : Type 0 where
+  pub here : r < ways_of e.meaning f → offer_below w rows t f e n r ≡ n
+  pub none_there : ways_of e.meaning f ≤ r → (c : ℕ) → c < ways_of e.meaning f → offer_below w rows t f e n c ≡ n → ⊥
 
 -- where to go on from an entry of n steps
-abbrev pub OntoIs : WatchOne → List ℕ → List ℕ → List ℕ → Entry → ℕ → Onto → Type 0
+abbrev pub OntoIs : Watch → List ℕ → List ℕ → List ℕ → Entry → ℕ → Onto → Type 0
 OntoIs w rows nodes t e n (By k c) =
     (s : ℕ) × Closure t nodes e s × (k < length nodes / node_fields) × (has s k ≡ true)
     × (offer_below w rows t (form_here nodes k) (at_node e k) n c ≡ n)
 OntoIs w rows nodes t e n Nothing =
     (s : ℕ) × Closure t nodes e s
-    × ((k : ℕ) → k < length nodes / node_fields → has s k ≡ true → (c : ℕ) → c < ways_of (form_here nodes k)
+    × ((k : ℕ) → k < length nodes / node_fields → has s k ≡ true → (c : ℕ) → c < ways_of e.meaning (form_here nodes k)
     → offer_below w rows t (form_here nodes k) (at_node e k) n c ≡ n → ⊥)
 
 -- ── Places and names ──
@@ -131,21 +140,23 @@ pub record Spotted (past : Past) (s : Spot) : Type 0 where
 -- ── What is written for an entry of a full table: a part of a run that comes to the aim in its number of steps ──
 
 -- the starts that some run comes to
-abbrev pub Coming : WatchOne → List Edge → List ℕ → Bool → ℕ → ℕ → Bool → ℕ → Type 0
-Coming w es nodes = ComeTo w.local es (nodes_of nodes) w.policy (watching w.resource)
+abbrev pub Coming : Watch → List Edge → List ℕ → Bool → ℕ → ℕ × ℕ → Left → ℕ → Type 0
+Coming w es nodes = ComeTo w.local es (nodes_of nodes) w.policy (numbers (watched_by w.resources))
 
 -- the table is full at them, for these edges
-pub record Ready (w : WatchOne) (es : List Edge) (rows nodes t : List ℕ) : Type 0 where
-  pub source : Source es (nodes_of nodes) w.policy w.resource rows
-  pub least : Least w.local es (nodes_of nodes) w.policy (watching w.resource) (Coming w es nodes) most_shown
+pub record Ready (w : Watch) (es : List Edge) (rows nodes t : List ℕ) : Type 0 where
+  pub pair : Bool
+  pub source : Source es (nodes_of nodes) w.policy pair w.resources rows
+  pub least : Least w.local es (nodes_of nodes) w.policy (numbers (watched_by w.resources)) (Coming w es nodes) most_shown
       (entries_in t all_lengths)
 
--- what an entry's numbers say: name n means the watched resource, c tells whether it was created, and the aim; and some run comes to it
-pub record Tells (w : WatchOne) (es : List Edge) (nodes : List ℕ) (e : Entry) (n : ℕ) (c : Bool) (aim : Aim Bool) : Type 0 where
-  pub meaning : e.meaning ≡ meaning_of n c
+-- what an entry's numbers say: the names m mean the watched resources, c tells whether they were created, and the aim; and some run comes
+-- to it
+pub record Tells (w : Watch) (es : List Edge) (nodes : List ℕ) (e : Entry) (m : ℕ × ℕ) (c : Left) (aim : Aim Left) : Type 0 where
+  pub meaning : e.meaning ≡ entry_at m c aim
   pub number : e.aim ≡ aim_at aim
-  pub come : Coming w es nodes e.opened e.node n c e.state
-  pub begun : Begun (watching w.resource) n c e.state
+  pub come : Coming w es nodes e.opened e.node m c e.state
+  pub begun : Begun (numbers (watched_by w.resources)) m c e.state
   pub aimed : Aimed aim
 
 -- each name in scope at node k means something; and the code's numbers are what names mean
@@ -161,13 +172,13 @@ pub record WithinSteps (s : Spot) (n : ℕ) (r : Spot) : Type 0 where
   pub next : r.next ≤ s.next + n
 
 -- The steps are those of a part of a run, whatever past there is in the table t₀ before them. t is the table of lengths.
-abbrev pub Writes : WatchOne → List ℕ → List ℕ → List ℕ → Entry → ℕ → Names → Spot → List ℕ → Spot → List ℕ → Type 0
+abbrev pub Writes : Watch → List ℕ → List ℕ → List ℕ → Entry → ℕ → Names → Spot → List ℕ → Spot → List ℕ → Type 0
 Writes w rows nodes t e n g s trace r trace' =
-    (es : List Edge) (m : ℕ) (c : Bool) (aim : Aim Bool) (names : outline.Names) (t₀ : List ℕ) (past : Past)
+    (es : List Edge) (m : ℕ × ℕ) (c : Left) (aim : Aim Left) (names : outline.Names) (t₀ : List ℕ) (past : Past)
     → Ready w es rows nodes t → Tells w es nodes e m c aim
     → held t all_lengths e ≡ n → NamesAt (nodes_of nodes) e.node names → Agree names g → Spotted past s → trace ≡ laid t₀ past
     → step_fields * (length past + n) ≤ length t₀
-    → (after : Past) × Written w.local es (nodes_of nodes) w.policy (watching w.resource) n e.opened e.node names m c
+    → (after : Past) × Written w.local es (nodes_of nodes) w.policy (numbers (watched_by w.resources)) n e.opened e.node names m c
     e.state past aim after
     × Spotted after r × (trace' ≡ laid t₀ after)
 
@@ -180,17 +191,17 @@ pub record Room (nodes : List ℕ) (p : Part) (trace : List ℕ) : Type 0 where
   pub numbered : p.spot.next + p.steps < resources
 
 -- The trace keeps its length, no more is written, and it is what is to be.
-pub record PartWritten (w : WatchOne) (rows nodes t : List ℕ) (p : Part) (trace : List ℕ) (r : Spot) (trace' : List ℕ) : Type 0 where
+pub record PartWritten (w : Watch) (rows nodes t : List ℕ) (p : Part) (trace : List ℕ) (r : Spot) (trace' : List ℕ) : Type 0 where
   pub length_kept : length trace' ≡ length trace
   pub within : WithinSteps p.spot p.steps r
   pub writes : Writes w rows nodes t p.entry p.steps p.names p.spot trace r trace'
 
 -- rule c of a node of this form is where to go on from an entry of n steps
-abbrev pub Chosen : WatchOne → List ℕ → List ℕ → List ℕ → Entry → ℕ → Option Form → ℕ → Type 0
+abbrev pub Chosen : Watch → List ℕ → List ℕ → List ℕ → Entry → ℕ → Option Form → ℕ → Type 0
 Chosen w rows nodes t e n f c = (k : ℕ) × OntoIs w rows nodes t e n (By k c) × (form_here nodes k ≡ f)
 
 -- it is where to go on from a part, and there is a step to write
-pub record Picked (w : WatchOne) (rows nodes t : List ℕ) (p : Part) (f : Option Form) (c : ℕ) : Type 0 where
+pub record Picked (w : Watch) (rows nodes t : List ℕ) (p : Part) (f : Option Form) (c : ℕ) : Type 0 where
   pub chosen : Chosen w rows nodes t p.entry p.steps f c
   pub one : 1 ≤ p.steps
 
@@ -210,45 +221,84 @@ body_part_lem p y made = record {
   spot = made;
 }
 
-abbrev pub inner_part_lem : WatchOne → Part → Way → ℕ → Spot → Part
+abbrev pub inner_part_lem : Watch → Part → Way → ℕ → Spot → Part
 inner_part_lem w p y n begun = record { entry = inner_entry w p.entry y.a y.b; steps = p.steps - n; names = p.names; spot = begun }
 
 -- ── The whole outline ──
 
-abbrev pub root_of : ℕ → Entry
-root_of x = entry_of 0 false (least (one_resource x)) 0 at_break
+abbrev pub root_of : Resources → Entry
+root_of x = entry_of 0 false (first_code_lem x) 0 at_break
 
--- t is the table of one watched resource; and the search for it hits nothing
-abbrev pub TableOf : WatchOne → List ℕ → List ℕ → List ℕ → Type 0
-TableOf w rows nodes t = (u : List ℕ) × Arrived nodes w.local rows w.policy (one_resource w.resource) u × Full w rows nodes u t
+-- the places of a table with one dynamic resource watched at most
+abbrev pub table_size : ℕ
+table_size = entry_places * meanings
 
-abbrev pub NeverHits : WatchOne → List ℕ → List ℕ → Type 0
-NeverHits w rows nodes = (u : List ℕ) × ArrivesIf (has_room nodes) nodes w.local rows w.policy (one_resource w.resource) u false
+-- t is the table of the watched resources; and the search for them hits nothing
+abbrev pub TableOf : Watch → List ℕ → List ℕ → List ℕ → Type 0
+TableOf w rows nodes t = (u : List ℕ) × Arrived nodes w.local rows w.policy w.resources u × Full w rows nodes u t
 
-abbrev pub TableIf : Bool → WatchOne → List ℕ → List ℕ → List ℕ → Type 0
+abbrev pub NeverHits : Watch → List ℕ → List ℕ → Type 0
+NeverHits w rows nodes = (u : List ℕ) × ArrivesIf (has_room nodes) nodes w.local rows w.policy w.resources u false
+
+abbrev pub TableIf : Bool → Watch → List ℕ → List ℕ → List ℕ → Type 0
 TableIf true w rows nodes t = TableOf w rows nodes t
 TableIf false w rows nodes t = NeverHits w rows nodes
 
--- the least length with one resource watched, by such a table
-abbrev pub StepsIs : WatchOne → List ℕ → List ℕ → ℕ → Type 0
-StepsIs w rows nodes r = (t : List ℕ) × TableOf w rows nodes t × (r ≡ held t all_lengths (root_of w.resource))
+-- the least length with these resources watched, by such a table
+abbrev pub StepsIs : Watch → List ℕ → List ℕ → ℕ → Type 0
+StepsIs w rows nodes r = (t : List ℕ) × TableOf w rows nodes t × (r ≡ held t all_lengths (root_of w.resources))
 
--- no length, where the resource need not be watched or is not hit; and else the least
-pub data Sought (w : WatchOne) (rows nodes : List ℕ) : ℕ → Type 0 where
-  not_touched : touched nodes w.resource ≡ false → Sought w rows nodes no_length
+-- it is n at least, or there is none
+abbrev pub AtLeast : Watch → List ℕ → List ℕ → ℕ → Type 0
+AtLeast w rows nodes n = NeverHits w rows nodes ⊎ ((v : ℕ) × StepsIs w rows nodes v × (n ≤ v))
+
+-- no length, where the resources need not be watched or the search hits nothing; and else the least
+pub data Sought (w : Watch) (rows nodes : List ℕ) : ℕ → Type 0 where
+  not_worth : worth_of nodes w.resources ≡ false → Sought w rows nodes no_length
   not_hit : NeverHits w rows nodes → Sought w rows nodes no_length
   sought : {v : ℕ} → StepsIs w rows nodes v → Sought w rows nodes v
 
--- of all watched resources
-pub record ShortestIs (local : Bool) (p : ℕ) (rows nodes : List ℕ) (r : Shortest) : Type 0 where
-  pub told : r.length < no_length → (r.resource ≤ watched) × StepsIs (watch_of local p r.resource) rows nodes r.length
-  pub least : (x : ℕ) → x ≤ watched → touched nodes x ≡ true
-      → NeverHits (watch_of local p x) rows nodes ⊎ ((v : ℕ) × StepsIs (watch_of local p x) rows nodes v × (r.length ≤ v))
+-- the first k choices have a least length of n at least, where they are worth a search
+abbrev pub AllAtLeast : Bool → ℕ → Bool → List ℕ → List ℕ → ℕ → ℕ → Type 0
+AllAtLeast local p pair rows nodes k n =
+    (i : ℕ) → i < k → worth_of nodes (choice_at pair i) ≡ true → AtLeast (watch_of local p (choice_at pair i)) rows nodes n
+
+-- the choices with one dynamic resource at most
+abbrev pub small_choices : Bool → ℕ
+small_choices false = single_count
+small_choices true = grid_count
+
+-- of all of those
+pub record ShortestIs (local : Bool) (p : ℕ) (pair : Bool) (rows nodes : List ℕ) (r : Shortest) : Type 0 where
+  pub asked : Asked pair r.resources
+  pub small : r.resources.second ≡ watched_too → ⊥
+  pub told : r.length < no_length → StepsIs (watch_of local p r.resources) rows nodes r.length
+  pub least : AllAtLeast local p pair rows nodes (small_choices pair) r.length
 
 -- what is written where n is that length
-abbrev pub Shows : WatchOne → List ℕ → List ℕ → ℕ → List ℕ → List ℕ → Type 0
+abbrev pub Shows : Watch → List ℕ → List ℕ → ℕ → List ℕ → List ℕ → Type 0
 Shows w rows nodes n trace trace' =
-    (es : List Edge) → Source es (nodes_of nodes) w.policy w.resource rows → StepsIs w rows nodes n
-    → (after : Past) × Written w.local es (nodes_of nodes) w.policy (watching w.resource) n false 0 no_names no_name
-    (ltb w.resource statics) 0 [] (broken none) after
+    (es : List Edge) (pair : Bool) → Source es (nodes_of nodes) w.policy pair w.resources rows → StepsIs w rows nodes n
+    → (after : Past) × Written w.local es (nodes_of nodes) w.policy (numbers (watched_by w.resources)) n false 0 no_names
+    (no_name, no_name) (numbers (watched_by w.resources)).first_left 0 [] (broken none) after
     × (trace' ≡ laid trace after)
+
+-- of both dynamic resources: r steps are written, fewer than `best`; or nothing is, and the least length is not less
+pub record BothShown (w : Watch) (rows nodes : List ℕ) (best : ℕ) (trace : List ℕ) (r : ℕ) (trace' : List ℕ) : Type 0 where
+  pub less : r < best → (r ≤ most_shown) × StepsIs w rows nodes r × Shows w rows nodes r trace trace'
+  pub no_less : best ≤ r → (trace' ≡ trace) × AtLeast w rows nodes best
+
+-- of all choices
+pub record Chose (local : Bool) (p : ℕ) (pair : Bool) (rows nodes : List ℕ) (n : ℕ) (trace trace' : List ℕ) : Type 0 where
+  pub resources : Resources
+  pub asked : Asked pair resources
+  pub few : n ≤ most_shown
+  pub told : StepsIs (watch_of local p resources) rows nodes n
+  pub least : AllAtLeast local p pair rows nodes (choice_count pair) n
+  pub shows : Shows (watch_of local p resources) rows nodes n trace trace'
+
+abbrev pub Answered : Bool → ℕ → Bool → List ℕ → List ℕ → List ℕ → Length → List ℕ → Type 0
+Answered local p pair rows nodes trace (Of n) trace' = Chose local p pair rows nodes n trace trace'
+Answered local p pair rows nodes trace Longer trace' =
+    AllAtLeast local p pair rows nodes (choice_count pair) all_lengths × (trace' ≡ trace)
+Answered local p pair rows nodes trace (Refused k) trace' = ⊥

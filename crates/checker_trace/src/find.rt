@@ -9,30 +9,32 @@ ghost use Rattle.checker_trace.specs.Code.{idle_in, idle_after_lem, bit_of, bit_
 ghost use Rattle.checker_trace.specs.Code.{leads_from, spread_to, Closure, RuleIs, OntoIs};
 
 use crate::Onto;
-use checker_account::Table;
-use checker_lengths::{BROKEN, Entry, Lengths, WatchOne};
+use checker_account::{Table, Watch};
+use checker_lengths::{AIMS, BROKEN, Entry};
 use outline_nodes::NodeForm;
 use usage::{MOST_NODES, NODE_FIELDS, STATES};
 
-// Can node k end with no step, from the entry's start?
-fn idle(t: &Lengths, e: Entry, k: u8) -> bool
+// Can node k end with no step, from the entry's start? Then the second dynamic resource is not created by it.
+fn idle(t: &[u8], e: Entry, k: u8) -> bool
     ensures { result ≡ idle_in t.now e k }
 {
-    let same = Entry {
-        node: k as usize,
-        opened: e.opened,
-        meaning: e.meaning,
-        state: e.state,
-        aim: checker_lengths::offers::low_end(e.meaning) + e.state % STATES,
-    };
-    checker_lengths::entries::get(t, 1, same) == 0
+    let end = checker_lengths::numbers::low_end(e.meaning) + e.state % STATES;
+    checker_lengths::entries::get(t, 1, checker_lengths::offers::first(e, k, end)) == 0
 }
 
 // Can node k end with no step, from where the entry's node is to end?
-fn idle_after(t: &Lengths, e: Entry, k: u8) -> bool
+fn idle_after(t: &[u8], e: Entry, k: u8) -> bool
     ensures { result ≡ idle_after_lem t.now e k }
 {
-    checker_lengths::entries::get(t, 1, checker_lengths::offers::second(e, k, e.aim)) == 0
+    if BROKEN <= e.aim {
+        return false;
+    }
+    let way = if checker_tables::numbers::is_late(e.meaning) {
+        AIMS + e.aim
+    } else {
+        e.aim
+    };
+    checker_lengths::entries::get(t, 1, checker_lengths::offers::second(e, k, way)) == 0
 }
 
 // The same start and aim at node k.
@@ -75,7 +77,7 @@ fn has(s: u64, k: usize) -> bool
 }
 
 // The nodes of a sequence that it leads to: the first, where nothing but an idle node is left after it, and the second after an idle one.
-fn sequence(t: &Lengths, e: Entry, a: u8, b: u8) -> u64
+fn sequence(t: &[u8], e: Entry, a: u8, b: u8) -> u64
     ensures { result ≡ sequence_leads t.now e a b }
 {
     let first = if e.aim == BROKEN {
@@ -87,7 +89,7 @@ fn sequence(t: &Lengths, e: Entry, a: u8, b: u8) -> u64
 }
 
 // The nodes that node f leads to with no step.
-fn leads(t: &Lengths, e: Entry, f: NodeForm) -> u64
+fn leads(t: &[u8], e: Entry, f: NodeForm) -> u64
     ensures { result ≡ leads_from t.now e (said_by f) }
 {
     match f {
@@ -100,7 +102,7 @@ fn leads(t: &Lengths, e: Entry, f: NodeForm) -> u64
 }
 
 // The set with all that its nodes lead to.
-fn spread(t: &Lengths, nodes: &[u8], e: Entry, s: u64) -> u64
+fn spread(t: &[u8], nodes: &[u8], e: Entry, s: u64) -> u64
     requires { length nodes.now / node_fields ≤ most_nodes }
     ensures { result ≡ spread_to t.now nodes.now e (length nodes.now / node_fields) s }
 {
@@ -117,7 +119,7 @@ fn spread(t: &Lengths, nodes: &[u8], e: Entry, s: u64) -> u64
 }
 
 // All nodes that the entry's node leads to.
-fn closure(t: &Lengths, nodes: &[u8], e: Entry) -> u64
+fn closure(t: &[u8], nodes: &[u8], e: Entry) -> u64
     requires { length nodes.now / node_fields ≤ most_nodes }
     ensures { Closure t.now nodes.now e result }
 {
@@ -132,10 +134,10 @@ fn closure(t: &Lengths, nodes: &[u8], e: Entry) -> u64
 }
 
 // The first rule of node f that gives n, or as many as there are.
-fn rule(t: &Lengths, rows: &Table, w: WatchOne, f: NodeForm, e: Entry, n: u8) -> usize
+fn rule(t: &[u8], rows: &Table, w: Watch, f: NodeForm, e: Entry, n: u8) -> usize
     ensures { RuleIs w rows.now t.now (said_by f) e n result }
 {
-    let ways = checker_lengths::offers::ways(f);
+    let ways = checker_lengths::offers::ways(f, e.meaning);
     let mut c: usize = 0;
     while c < ways {
         if checker_lengths::offers::offer(t, rows, w, n, f, e, c) == n {
@@ -147,7 +149,7 @@ fn rule(t: &Lengths, rows: &Table, w: WatchOne, f: NodeForm, e: Entry, n: u8) ->
 }
 
 // Where to go on from an entry of n steps.
-pub(crate) fn find(t: &Lengths, nodes: &[u8], rows: &Table, w: WatchOne, e: Entry, n: u8) -> Onto
+pub(crate) fn find(t: &[u8], nodes: &[u8], rows: &Table, w: Watch, e: Entry, n: u8) -> Onto
     requires { length nodes.now / node_fields ≤ most_nodes }
     ensures { OntoIs w rows.now nodes.now t.now e n result }
 {
@@ -158,7 +160,7 @@ pub(crate) fn find(t: &Lengths, nodes: &[u8], rows: &Table, w: WatchOne, e: Entr
         if has(s, k) {
             let f = outline_nodes::form(nodes, k);
             let c = rule(t, rows, w, f, at(e, k), n);
-            if c < checker_lengths::offers::ways(f) {
+            if c < checker_lengths::offers::ways(f, e.meaning) {
                 return Onto::By { node: k, rule: c };
             }
         }

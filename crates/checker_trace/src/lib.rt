@@ -2,13 +2,16 @@
 // find: where to go on from an entry. write: the steps.
 ghost use Rattle.std.specs.Prelude.{◌≡◌, Bool, true, false, ℕ, ◌/◌, ◌<◌, ◌≤◌, length};
 ghost use Rattle.usage.specs.Limits.{most_nodes, node_fields, most_shown};
+ghost use Rattle.checker_account.specs.Account.{watched_too};
+ghost use Rattle.checker_tables.specs.Search.{both_dynamic};
 ghost use Rattle.checker_trace.specs.Answer.{most_numbers, Told};
-ghost use Rattle.checker_trace.specs.Code.{root_of, TableOf, TableIf, Sought, ShortestIs, Shows};
-ghost use Rattle.checker_lengths.specs.Entries.{no_length};
+ghost use Rattle.checker_trace.specs.Code.{root_of, table_size, TableOf, TableIf, Sought, ShortestIs, Shows, BothShown, Answered};
+ghost use Rattle.checker_lengths.specs.Entries.{size_of, no_length};
 ghost use Rattle.checker_lengths.specs.Held.{watch_of};
 
-use checker_account::{NAMES, NOTHING, PLACES, Resources, Table, WATCHED, Watch};
-use checker_lengths::{ALL, BROKEN, Entry, Lengths, MOST, NONE, SIZE, WatchOne};
+use checker_account::{NAMES, PAIR_PLACES, PLACES, Resources, Table, WATCHED, WATCHED_TOO, Watch};
+use checker_lengths::{ALL, BROKEN, Entry, MOST, NONE, PAIR_SIZE, SIZE};
+use checker_tables::choices::{GRID, SINGLES};
 use usage::{POLICIES, STATICS, STEP_FIELDS};
 
 mod find;
@@ -26,15 +29,15 @@ pub enum Length {
     Refused(u8),
 }
 
-// The watched resource with the least length, and that length, 255 where there is none; and whether the table is still its own.
+// The watched resources with the least length, and that length, 255 where there is none; and whether the table is still their own.
 #[derive(Drop)]
 pub struct Shortest {
-    pub resource: usize,
+    pub resources: Resources,
     pub length: u8,
     pub kept: bool,
 }
 
-// The least length with one resource watched, 255 where there is none, and whether the table was filled for it.
+// The least length with these resources watched, 255 where there is none, and whether the table was filled for them.
 #[derive(Drop)]
 pub struct Found {
     pub length: u8,
@@ -79,49 +82,77 @@ pub struct Way {
 }
 
 // The entry of the whole outline: to break the policy.
-fn root(x: usize) -> Entry
+fn root(x: Resources) -> Entry
     ensures { result ≡ root_of x }
 {
     Entry {
         node: 0,
         opened: false,
-        meaning: checker_tables::numbers::least(Resources {
-            first: x,
-            second: NOTHING,
-        }),
+        meaning: checker_tables::numbers::first_code(x),
         state: 0,
         aim: BROKEN,
     }
 }
 
-// The table for one watched resource, where the search hits. Does it?
-fn table(nodes: &[u8], rows: &Table, w: WatchOne, t: &mut Lengths) -> bool
+// ── Tables ──
+
+// The table with one dynamic resource watched at most, where the search hits. Does it?
+fn table(nodes: &[u8], rows: &Table, w: Watch, t: &mut [u8]) -> bool
+    requires fact { w.resources.second ≡ watched_too → ⊥ }
+    requires t_len { length t.old ≡ size_of w.resources }
+    ensures t_len_unchanged { length t.new ≡ length t.old }
     ensures table_if { TableIf result w rows.now nodes.now t.new }
     ensures t_unchanged { result ≡ false → t.new ≡ t.old }
 {
-    let one = Watch {
-        local: w.local,
-        policy: w.policy,
-        resources: Resources {
-            first: w.resource,
-            second: NOTHING,
-        },
-    };
     let mut u = [0u16; PLACES];
-    if !checker_tables::arrive(nodes, rows, one, &mut u) {
+    if !checker_tables::arrive(nodes, rows, w, &mut u) {
         return false;
     }
     checker_lengths::fill::fill(nodes, rows, &u, w, t);
     true
 }
 
-// The least length with one resource watched; none where it need not be or is not hit.
-fn steps(nodes: &[u8], rows: &Table, w: WatchOne, t: &mut Lengths) -> Found
+// With both.
+fn table_both(nodes: &[u8], rows: &Table, w: Watch, t: &mut [u8]) -> bool
+    requires resources_value { w.resources ≡ both_dynamic }
+    requires t_len { length t.old ≡ size_of w.resources }
+    ensures t_len_unchanged { length t.new ≡ length t.old }
+    ensures table_if { TableIf result w rows.now nodes.now t.new }
+{
+    let mut u = [0u16; PAIR_PLACES];
+    if !checker_tables::arrive_both(nodes, rows, w, &mut u) {
+        return false;
+    }
+    checker_lengths::fill::fill(nodes, rows, &u, w, t);
+    true
+}
+
+// The table with one dynamic resource watched at most, where it is not that already.
+fn again(nodes: &[u8], rows: &Table, w: Watch, kept: bool, t: &mut [u8]) -> bool
+    requires fact { w.resources.second ≡ watched_too → ⊥ }
+    requires t_len { length t.old ≡ size_of w.resources }
+    requires table_of { kept ≡ true → TableOf w rows.now nodes.now t.old }
+    ensures t_len_unchanged { length t.new ≡ length t.old }
+    ensures table_if { TableIf result w rows.now nodes.now t.new }
+{
+    if kept {
+        return true;
+    }
+    table(nodes, rows, w, t)
+}
+
+// ── The least length ──
+
+// With these resources watched, one dynamic one at most; none where they need not be or the search hits nothing.
+fn steps(nodes: &[u8], rows: &Table, w: Watch, t: &mut [u8]) -> Found
+    requires fact { w.resources.second ≡ watched_too → ⊥ }
+    requires t_len { length t.old ≡ size_of w.resources }
+    ensures t_len_unchanged { length t.new ≡ length t.old }
     ensures sought { Sought w rows.now nodes.now result.length }
     ensures t_unchanged { result.filled ≡ false → t.new ≡ t.old }
     ensures table_of { result.length < no_length → TableOf w rows.now nodes.now t.new }
 {
-    if !checker_tables::touched(nodes, w.resource) {
+    if !checker_tables::choices::worth(nodes, w.resources) {
         return Found {
             length: NONE,
             filled: false,
@@ -133,77 +164,61 @@ fn steps(nodes: &[u8], rows: &Table, w: WatchOne, t: &mut Lengths) -> Found
             filled: false,
         };
     }
-    let length = checker_lengths::entries::get(t, ALL, root(w.resource));
+    let length = checker_lengths::entries::get(t, ALL, root(w.resources));
     Found {
         length,
         filled: true,
     }
 }
 
-// The least of all watched resources.
-fn least(nodes: &[u8], rows: &Table, local: bool, p: usize, t: &mut Lengths) -> Shortest
-    ensures shortest_is { ShortestIs local p rows.now nodes.now result }
+// Of the choices with one dynamic resource at most: all of one resource, or for a pair policy all but the last.
+fn least(nodes: &[u8], rows: &Table, local: bool, p: usize, pair: bool, t: &mut [u8]) -> Shortest
+    requires { length t.old ≡ table_size }
+    ensures t_len_unchanged { length t.new ≡ length t.old }
+    ensures shortest_is { ShortestIs local p pair rows.now nodes.now result }
     ensures table_of { result.kept ≡ true
-        → TableOf (watch_of local p result.resource) rows.now nodes.now t.new }
+        → TableOf (watch_of local p result.resources) rows.now nodes.now t.new }
 {
-    let mut resource: usize = 0;
+    let mut resources = checker_tables::choices::at(pair, 0);
     let mut length: u8 = NONE;
     let mut kept = false;
-    let mut x: usize = 0;
-    while x <= WATCHED {
-        let w = WatchOne {
+    let mut i: usize = 0;
+    let n = if pair { GRID } else { SINGLES };
+    while i < n {
+        let x = checker_tables::choices::at(pair, i);
+        let w = Watch {
             local,
             policy: p,
-            resource: x,
+            resources: x,
         };
         let v = steps(nodes, rows, w, t);
         if v.length < length {
-            resource = x;
+            resources = x;
             length = v.length;
             kept = true;
         } else {
             kept = kept & !v.filled;
         }
-        x += 1;
+        i += 1;
     }
     Shortest {
-        resource,
+        resources,
         length,
         kept,
     }
 }
 
-// The table for one watched resource, where it is not that already.
-fn again(nodes: &[u8], rows: &Table, w: WatchOne, kept: bool, t: &mut Lengths) -> bool
-    requires { kept ≡ true → TableOf w rows.now nodes.now t.old }
-    ensures { TableIf result w rows.now nodes.now t.new }
-{
-    if kept {
-        return true;
-    }
-    table(nodes, rows, w, t)
-}
+// ── The trace ──
 
-// The trace of n steps. `kept`: the table is that of the watched resource.
-fn show(
-    nodes: &[u8],
-    rows: &Table,
-    w: WatchOne,
-    n: u8,
-    kept: bool,
-    t: &mut Lengths,
-    trace: &mut [u32],
-)
+// The trace of n steps, from a table that has its length at the root.
+fn write_whole(nodes: &[u8], rows: &Table, w: Watch, n: u8, t: &[u8], trace: &mut [u32])
     requires node_fields_len_bound { length nodes.now / node_fields ≤ most_nodes }
     requires n_le_most_shown { n ≤ most_shown }
-    requires table_of { kept ≡ true → TableOf w rows.now nodes.now t.old }
+    requires table_of { TableOf w rows.now nodes.now t.now }
     requires most_numbers_in_bounds { most_numbers ≤ length trace.old }
     ensures trace_len_unchanged { length trace.new ≡ length trace.old }
     ensures shows { Shows w rows.now nodes.now n trace.old trace.new }
 {
-    if !again(nodes, rows, w, kept, t) {
-        return;
-    }
     let names = Names {
         numbers: [0u32; NAMES],
     };
@@ -212,7 +227,7 @@ fn show(
         next: STATICS,
     };
     let whole = Part {
-        entry: root(w.resource),
+        entry: root(w.resources),
         steps: n,
         names,
         spot,
@@ -220,9 +235,104 @@ fn show(
     write::write(t, nodes, rows, w, trace, whole);
 }
 
+// The trace of n steps with one dynamic resource watched at most. `kept`: the table is that of the watched resources.
+fn show(nodes: &[u8], rows: &Table, w: Watch, n: u8, kept: bool, t: &mut [u8], trace: &mut [u32])
+    requires node_fields_len_bound { length nodes.now / node_fields ≤ most_nodes }
+    requires n_le_most_shown { n ≤ most_shown }
+    requires fact { w.resources.second ≡ watched_too → ⊥ }
+    requires t_len { length t.old ≡ size_of w.resources }
+    requires table_of { kept ≡ true → TableOf w rows.now nodes.now t.old }
+    requires most_numbers_in_bounds { most_numbers ≤ length trace.old }
+    ensures trace_len_unchanged { length trace.new ≡ length trace.old }
+    ensures shows { Shows w rows.now nodes.now n trace.old trace.new }
+{
+    if again(nodes, rows, w, kept, t) {
+        write_whole(nodes, rows, w, n, t, trace);
+    }
+}
+
+// With both dynamic resources watched, by a table for them: the trace, where it has fewer steps than `best`, and their number; else 255.
+fn show_both_in(
+    nodes: &[u8],
+    rows: &Table,
+    w: Watch,
+    best: u8,
+    t: &mut [u8],
+    trace: &mut [u32],
+) -> u8
+    requires node_fields_len_bound { length nodes.now / node_fields ≤ most_nodes }
+    requires resources_value { w.resources ≡ both_dynamic }
+    requires t_len { length t.old ≡ size_of w.resources }
+    requires most_numbers_in_bounds { most_numbers ≤ length trace.old }
+    ensures t_len_unchanged { length t.new ≡ length t.old }
+    ensures trace_len_unchanged { length trace.new ≡ length trace.old }
+    ensures both_shown { BothShown w rows.now nodes.now best trace.old result trace.new }
+{
+    if !table_both(nodes, rows, w, t) {
+        return NONE;
+    }
+    let n = checker_lengths::entries::get(t, ALL, root(w.resources));
+    if best <= n {
+        return NONE;
+    }
+    write_whole(nodes, rows, w, n, t, trace);
+    n
+}
+
+// The same in a table of its own: its frame is needed for a pair policy alone.
+fn show_both(nodes: &[u8], rows: &Table, local: bool, p: usize, best: u8, trace: &mut [u32]) -> u8
+    requires node_fields_len_bound { length nodes.now / node_fields ≤ most_nodes }
+    requires most_numbers_in_bounds { most_numbers ≤ length trace.old }
+    ensures trace_len_unchanged { length trace.new ≡ length trace.old }
+    ensures both_shown { BothShown (watch_of local p both_dynamic) rows.now nodes.now best
+        trace.old result trace.new }
+{
+    let both = Resources {
+        first: WATCHED,
+        second: WATCHED_TOO,
+    };
+    let w = Watch {
+        local,
+        policy: p,
+        resources: both,
+    };
+    let mut t = [NONE; PAIR_SIZE];
+    show_both_in(nodes, rows, w, best, &mut t, trace)
+}
+
+// The shortest of all choices, by the rows of a policy, a pair policy or not.
+fn tell(nodes: &[u8], rows: &Table, local: bool, p: usize, pair: bool, trace: &mut [u32]) -> Length
+    requires node_fields_len_bound { length nodes.now / node_fields ≤ most_nodes }
+    requires most_numbers_in_bounds { most_numbers ≤ length trace.old }
+    ensures trace_len_unchanged { length trace.new ≡ length trace.old }
+    ensures answered { Answered local p pair rows.now nodes.now trace.old result trace.new }
+{
+    let mut t = [NONE; SIZE];
+    let found = least(nodes, rows, local, p, pair, &mut t);
+    let n = found.length;
+    if pair {
+        let m = show_both(nodes, rows, local, p, n, trace);
+        if m < n {
+            return Length::Of(m);
+        }
+    }
+    if MOST < n {
+        return Length::Longer;
+    }
+    let resources = found.resources;
+    let w = Watch {
+        local,
+        policy: p,
+        resources,
+    };
+    show(nodes, rows, w, n, found.kept, &mut t, trace);
+    Length::Of(n)
+}
+
 // A shortest trace of the outline that leaves policy p open and not respected, written into the lent table, three numbers to a step;
-// `local` is the choice of past. 40 and 41 as in document 01. It needs some 212 KB of stack: the table of lengths, 102 KB, and the
-// writer's recursion, 528 bytes for each step of the trace, of which there are at most 200.
+// `local` is the choice of past. 40 and 41 as in document 01. It needs some 1.1 MB of stack: the tables of lengths, 102 KB and, with both
+// dynamic resources of a pair policy watched, 714 KB, which a compiler may put into one frame; the tables of what is come to; and the
+// writer's recursion, some 600 bytes for each step of the trace, of which there are at most 200.
 pub fn counterexample(
     edges: &[u8],
     local: bool,
@@ -235,7 +345,8 @@ pub fn counterexample(
     if trace.len() < MOST_NUMBERS {
         return Length::Refused(40);
     }
-    if !sheet_fields::edges::edge_table_ok(edges) {
+    let tested = sheet_fields::edges::edge_table(edges);
+    if !tested.fits {
         return Length::Refused(41);
     }
     if !sheet_rules::node_table_ok(nodes) {
@@ -244,19 +355,8 @@ pub fn counterexample(
     if POLICIES <= p {
         return Length::Longer;
     }
+    let pair = checker_tables::choices::is_pair(tested.pairs, p);
     let mut rows = [0u16; PLACES];
-    checker_rows::fill(edges, nodes, p, false, &mut rows);
-    let mut t = [NONE; SIZE];
-    let found = least(nodes, &rows, local, p, &mut t);
-    let n = found.length;
-    if MOST < n {
-        return Length::Longer;
-    }
-    let w = WatchOne {
-        local,
-        policy: p,
-        resource: found.resource,
-    };
-    show(nodes, &rows, w, n, found.kept, &mut t, trace);
-    Length::Of(n)
+    checker_rows::fill(edges, nodes, p, pair, &mut rows);
+    tell(nodes, &rows, local, p, pair, trace)
 }

@@ -5,15 +5,15 @@ ghost use Rattle.std.specs.Prelude.{◌≡◌, ℕ, ◌+◌, ◌*◌, ◌<◌, �
 ghost use Rattle.std.proofs.Math.Option.{some};
 ghost use Rattle.usage.specs.Limits.{step_fields, resources};
 ghost use Rattle.usage.specs.Outline.{sequence, fresh, sandbox};
-ghost use Rattle.checker_account.specs.Single.{no_name};
+ghost use Rattle.checker_account.specs.Pairs.{no_name};
 ghost use Rattle.checker_trace.specs.Code.{stored_step, onward, created, given};
 ghost use Rattle.checker_trace.specs.Code.{first_part_lem, second_part_lem, body_part_lem, inner_part_lem, Room, Picked, PartWritten};
 
 use crate::{Names, Onto, Part, Spot, Way, find};
-use checker_account::{NAMES, Table};
-use checker_lengths::{BROKEN, Lengths, WatchOne, offers};
+use checker_account::{NAMES, Table, Watch};
+use checker_lengths::{BROKEN, KIND_RULES, offers};
 use outline_nodes::NodeForm;
-use usage::STEP_FIELDS;
+use usage::{STATES, STEP_FIELDS};
 
 // The kinds of a step.
 const EVENT: u32 = 0;
@@ -122,7 +122,7 @@ fn body_part(p: Part, y: Way, made: Spot) -> Part
 }
 
 // The body of a sandbox, n steps being around it, after its opening.
-fn inner_part(w: WatchOne, p: Part, y: Way, n: u8, begun: Spot) -> Part
+fn inner_part(w: Watch, p: Part, y: Way, n: u8, begun: Spot) -> Part
     requires { n ≤ p.steps }
     ensures { result ≡ inner_part_lem w p y n begun }
 {
@@ -140,10 +140,10 @@ fn inner_part(w: WatchOne, p: Part, y: Way, n: u8, begun: Spot) -> Part
 // By a rule of a sequence: its first node, to end in the way that the rule says, and then its second.
 #[cycle(write_write_fresh_write_sandbox_write_sequence)]
 fn write_sequence(
-    t: &Lengths,
+    t: &[u8],
     nodes: &[u8],
     rows: &Table,
-    w: WatchOne,
+    w: Watch,
     trace: &mut [u32],
     p: Part,
     y: Way,
@@ -161,10 +161,10 @@ fn write_sequence(
 // By a rule of a fresh node: its creation, and then its body.
 #[cycle(write_write_fresh_write_sandbox_write_sequence)]
 fn write_fresh(
-    t: &Lengths,
+    t: &[u8],
     nodes: &[u8],
     rows: &Table,
-    w: WatchOne,
+    w: Watch,
     trace: &mut [u32],
     p: Part,
     y: Way,
@@ -175,7 +175,7 @@ fn write_fresh(
         trace.old result trace.new }
 {
     let made = create(trace, p.spot);
-    if BROKEN <= y.rule {
+    if y.rule % KIND_RULES == STATES {
         return made;
     }
     write(t, nodes, rows, w, trace, body_part(p, y, made))
@@ -184,10 +184,10 @@ fn write_fresh(
 // By a rule of a sandbox: its opening, its body, and where that ends its closing.
 #[cycle(write_write_fresh_write_sandbox_write_sequence)]
 fn write_sandbox(
-    t: &Lengths,
+    t: &[u8],
     nodes: &[u8],
     rows: &Table,
-    w: WatchOne,
+    w: Watch,
     trace: &mut [u32],
     p: Part,
     y: Way,
@@ -211,10 +211,10 @@ fn write_sandbox(
 // The part: where its entry is gone on from, by the rule that is found there.
 #[cycle(write_write_fresh_write_sandbox_write_sequence)]
 pub(crate) fn write(
-    t: &Lengths,
+    t: &[u8],
     nodes: &[u8],
     rows: &Table,
-    w: WatchOne,
+    w: Watch,
     trace: &mut [u32],
     p: Part,
 ) -> Spot

@@ -24,16 +24,16 @@ use Rattle.monitor_state.specs.declared.State.{State}
 use Rattle.monitor_state.specs.Judge.{state_ok_lem, live_ok, unclosed_ok, created_ok, highest_ok, order_ok_lem, start_state, start_created, start_unclosed}
 use Rattle.desk_positions.specs.Positions.{most_positions}
 use Rattle.desk_positions.specs.Reading.{rows_ok_lem}
-use Rattle.desk.specs.declared.Head.{Head}
-use Rattle.desk.specs.Layout.{Read, desk_bytes, edges_at, created_at, rows_at, byte_at, numbers_in, head_in_lem, Put, Within}
-use Rattle.desk.specs.JudgeBytes.{judge_in, head_with, Small, Stored}
-use Rattle.desk.specs.State.{local_in, edges_in, nodes_in, table_in, outlined_in, loaded_in, desk_by, desk_in, head_ok_lem, is_listed_lem, rows_fit}
-use Rattle.desk.specs.State.{encoded_by, is_encoded, is_sound_lem, desk_of, Encodes, exceeded}
-use Rattle.desk.specs.Desk.{Desk, is_busy_lem, with_policies, LoadsPolicies, by_number, is_refused_with, has_policies}
-use Rattle.desk.specs.Calls.{desk_code, plain, given_load, Called, no_desk, called, ByPolicies, loaded}
+use Rattle.desk_state.specs.declared.Head.{Head}
+use Rattle.desk_state.specs.Layout.{Read, desk_bytes, edges_at, created_at, rows_at, byte_at, numbers_in, head_in_lem, Put, Within}
+use Rattle.desk_state.specs.JudgeBytes.{judge_in, head_with, Small, Stored}
+use Rattle.desk_state.specs.State.{local_in, edges_in, nodes_in, table_in, outlined_in, loaded_in, desk_by, desk_in, head_ok_lem, is_listed_lem, rows_fit}
+use Rattle.desk_state.specs.State.{encoded_by, is_encoded, is_sound_lem, desk_of, Encodes, exceeded}
+use Rattle.desk_state.specs.Desk.{Desk, is_busy_lem, with_policies, LoadsPolicies, by_number, is_refused_with, has_policies}
+use Rattle.desk_state.specs.Calls.{desk_code, plain, given_load, Called, no_desk, called, ByPolicies, loaded}
 use Rattle.desk.specs.Code.{most_line}
 use Rattle.desk_positions.proofs.CopyLaws.{bytes-local, numbers-kept}
-use Rattle.desk.proofs.CallLaws.{desk-is}
+use Rattle.desk_state.proofs.CallLaws.{desk-is}
 use Rattle.desk.proofs.StepLaws.{HeadParts, parts-head, left-encodes}
 
 -- ── 42 ──

@@ -30,14 +30,16 @@ use Rattle.checker.specs.Promise.{outcome_verdict, RightVerdict, CheckPromise}
 use Rattle.checker.specs.Summary.{Summary, Exact, Summarized}
 use Rattle.desk_positions.specs.Positions.{Position, most_positions, start_positions}
 use Rattle.desk_positions.specs.Reading.{rows_ok_lem}
-use Rattle.desk.specs.declared.Head.{Head}
-use Rattle.desk.specs.Layout.{desk_bytes, edges_at, nodes_at, summary_at, created_at, rows_at, byte_at, wide_at, numbers_in, Put, Within}
-use Rattle.desk.specs.JudgeBytes.{head_with, Stored}
-use Rattle.desk.specs.State.{local_in, edges_in, nodes_in, summary_in, table_in, listed_in, outlined_in, loaded_in, head_ok_lem, is_listed_lem, rows_fit, Encodes}
-use Rattle.desk.specs.State.{exceeded, desk_of}
-use Rattle.desk.specs.Desk.{Outlined, Desk, is_busy_lem, with_outline, LoadsOutline}
-use Rattle.desk.specs.Calls.{desk_code, plain, is_refused, LeavesBytes, Called, called, ByOutline, loaded}
-use Rattle.desk.specs.Code.{most_line, SettledIn, with_nodes, KeptOutline}
+use Rattle.desk_state.specs.declared.Head.{Head}
+use Rattle.desk_state.specs.Layout.{desk_bytes, edges_at, nodes_at, summary_at, created_at, rows_at, byte_at, wide_at, numbers_in, Put, Within}
+use Rattle.desk_state.specs.JudgeBytes.{head_with, Stored}
+use Rattle.desk_state.specs.State.{local_in, edges_in, nodes_in, summary_in, table_in, listed_in, outlined_in, loaded_in, head_ok_lem, is_listed_lem, rows_fit, Encodes}
+use Rattle.desk_state.specs.State.{exceeded, desk_of}
+use Rattle.desk_state.specs.Desk.{Outlined, Desk, is_busy_lem, with_outline, LoadsOutline}
+use Rattle.desk_state.specs.Calls.{desk_code, plain, is_refused, LeavesBytes, Called, called, ByOutline, loaded}
+use Rattle.desk_state.specs.State.{SettledIn}
+use Rattle.desk_state.proofs.CallLaws.{plain-verdict}
+use Rattle.desk.specs.Code.{most_line, with_nodes, KeptOutline}
 use Rattle.desk_positions.proofs.CopyLaws.{bytes-local, wides-local, numbers-kept, put_all}
 use Rattle.desk.proofs.StepLaws.{HeadParts, head-parts, parts-head, listed-parts, positions-is, nodes-same, table_same, outlined-is, left-encodes}
 
@@ -186,15 +188,6 @@ module _ (local : Bool) (edges nodes : List ℕ) (e : is_edge_table edges ≡ tr
       append-nil : (m : List ℕ) → m ++ [] ≡ m
       append-nil [] = refl
       append-nil (x ∷ m) = ap (λ (r : List ℕ). x ∷ r) (append-nil m)
-
--- a verdict of the check is no refusal
-pub plain-verdict : {local : Bool} {es : List Edge} {ns : List Node} (v : Verdict) → Checked local es ns v → is_refused v ≡ false
-plain-verdict allowed c = refl
-plain-verdict (violated p) c = refl
-plain-verdict (refused n) c = absurd (none-refused c)
-  where
-    none-refused : {local : Bool} {es : List Edge} {ns : List Node} {n : ℕ} → Checked local es ns (refused n) → ⊥
-    none-refused = elim [ ]
 
 pub kept-outline : (b : List ℕ) (h : Head) (nodes : List ℕ) (r : ℕ) (b' : List ℕ) (v : Verdict) (m : Summary) (edges : List ℕ) → edges ≡ edges_in b h
     → is_edge_table (edges_in b h) ≡ true → is_node_table nodes ≡ true → CheckPromise (local_in h) edges nodes v → (t : List ℕ) (z : ℕ) → length t ≡ policies

@@ -21,9 +21,9 @@ use Rattle.desk_positions.specs.Positions.{Position, stride_all, next_positions}
 use Rattle.desk_positions.specs.Growth.{Tabled, step_from}
 use Rattle.desk_positions.specs.Reading.{rows_ok_lem, positions_in}
 use Rattle.desk_positions.proofs.ReadingLaws.{reads-tabled}
-use Rattle.desk.specs.Desk.{on_positions, outline_after}
+use Rattle.desk_state.specs.Desk.{on_positions, outline_after}
 use Rattle.desk_positions.specs.Positions.{is_any}
-use Rattle.desk.proofs.OutlineLaws.{step_from_lem, kind-low, looks_on, listed-few}
+use Rattle.desk_state.proofs.OutlineLaws.{step_from_lem, kind-low, looks_on, listed-few}
 use Rattle.usage.proofs.Logic.{and_left, and_right, and_both, false-true, none-some}
 use Rattle.monitor_state.specs.declared.State.{State}
 use Rattle.monitor_state.specs.declared.Answer.{Answer}
@@ -33,19 +33,21 @@ use Rattle.monitor_state.proofs.LookedLaws.{looks-alike}
 use Rattle.monitor_lean.specs.Lean.{Looks, judge_by}
 use Rattle.desk_positions.specs.Positions.{most_positions}
 use Rattle.desk_positions.specs.Rows.{table_bytes}
-use Rattle.desk.specs.declared.Head.{Head}
-use Rattle.desk.specs.Layout.{desk_bytes, edges_at, nodes_at, summary_at, created_at, rows_at, byte_at, word_at, wide_at, head_in_lem, Within}
-use Rattle.desk.specs.JudgeBytes.{judge_in, head_with, Small, Stored}
-use Rattle.desk.specs.State.{local_in, edges_in, nodes_in, summary_in, table_in, listed_in, outlined_in, loaded_in, desk_by, desk_in, head_ok_lem}
-use Rattle.desk.specs.State.{is_listed_lem, rows_fit, encoded_by, is_encoded, Encodes, looks_of, exceeded}
-use Rattle.desk.specs.Desk.{Outlined, Loaded, stays_on, looks_by, outline_for}
-use Rattle.desk.specs.Promise.{is_refusal_lem}
-use Rattle.desk.specs.Calls.{desk_code, given_by, LeavesBytes, Called, ByStep}
-use Rattle.desk.specs.Code.{told, moves, SettledIn}
+use Rattle.desk_state.specs.declared.Head.{Head}
+use Rattle.desk_state.specs.Layout.{desk_bytes, edges_at, nodes_at, summary_at, created_at, rows_at, byte_at, word_at, wide_at, head_in_lem, Within}
+use Rattle.desk_state.specs.JudgeBytes.{judge_in, head_with, Small, Stored}
+use Rattle.desk_state.specs.State.{local_in, edges_in, nodes_in, summary_in, table_in, listed_in, outlined_in, loaded_in, desk_by, desk_in, head_ok_lem}
+use Rattle.desk_state.specs.State.{is_listed_lem, rows_fit, encoded_by, is_encoded, Encodes, looks_of, exceeded}
+use Rattle.desk_state.specs.Desk.{Outlined, Loaded, stays_on, looks_by, outline_for}
+use Rattle.desk_state.specs.Promise.{is_refusal_lem}
+use Rattle.desk_state.specs.Calls.{desk_code, given_by, LeavesBytes, Called, ByStep}
+use Rattle.desk_state.specs.State.{SettledIn}
+use Rattle.desk_state.specs.Calls.{told}
+use Rattle.desk.specs.Code.{moves}
 use Rattle.desk_positions.proofs.CopyLaws.{bytes-local, words-local, wides-local, numbers-kept}
-use Rattle.desk.proofs.CallLaws.{encoded-is, desk-is, step-refused, step-stored}
-use Rattle.desk.proofs.JudgedLaws.{taken-small, none-refused}
-use Rattle.desk.proofs.OutlineLaws.{off-stays, off-for, looks-off, off_head}
+use Rattle.desk_state.proofs.CallLaws.{encoded-is, desk-is, step-refused, step-stored}
+use Rattle.desk_state.proofs.JudgedLaws.{taken-small, none-refused}
+use Rattle.desk_state.proofs.OutlineLaws.{off-stays, off-for, looks-off, off_head}
 
 -- ── The head ──
 

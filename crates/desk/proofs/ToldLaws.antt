@@ -19,14 +19,16 @@ use Rattle.desk_positions.specs.Positions.{Position, next_positions}
 use Rattle.desk_positions.specs.Growth.{Tabled}
 use Rattle.desk_positions.specs.Rows.{table_bytes}
 use Rattle.desk_positions.proofs.CopyLaws.{bytes-local, numbers-kept}
-use Rattle.desk.specs.declared.Head.{Head}
-use Rattle.desk.specs.Layout.{desk_bytes, edges_at, nodes_at, created_at, rows_at, byte_at, head_in_lem, Within}
-use Rattle.desk.specs.JudgeBytes.{head_for, head_with, SmallSizes, Small, JudgedIn, Stored}
-use Rattle.desk.specs.State.{nodes_in, table_in}
-use Rattle.desk.specs.Promise.{is_refusal_lem}
-use Rattle.desk.specs.Calls.{desk_code, given_by, Called, ByStep}
-use Rattle.desk.specs.Code.{told, moves, SettledIn}
-use Rattle.desk.proofs.JudgeByteLaws.{all-stored, arrays-kept}
+use Rattle.desk_state.specs.declared.Head.{Head}
+use Rattle.desk_state.specs.Layout.{desk_bytes, edges_at, nodes_at, created_at, rows_at, byte_at, head_in_lem, Within}
+use Rattle.desk_state.specs.JudgeBytes.{head_for, head_with, SmallSizes, Small, JudgedIn, Stored}
+use Rattle.desk_state.specs.State.{nodes_in, table_in}
+use Rattle.desk_state.specs.Promise.{is_refusal_lem}
+use Rattle.desk_state.specs.Calls.{desk_code, given_by, Called, ByStep}
+use Rattle.desk_state.specs.State.{SettledIn}
+use Rattle.desk_state.specs.Calls.{told}
+use Rattle.desk.specs.Code.{moves}
+use Rattle.desk_state.proofs.JudgeByteLaws.{all-stored, arrays-kept}
 
 module _ (b b₁ : List ℕ) (j : Judgement) (t : Told) (q : JudgedIn j b t b₁) where
   pub told-refusal : {x : Bool} → is_refusal_lem t.answer ≡ x → is_refusal_lem j.answer ≡ x

@@ -1,37 +1,22 @@
 -- What the desk's own functions compute, where Calls.antt has no name for it.
-use Rattle.std.specs.Prelude.{ℕ, suc, ◌≤◌, ◌≡◌, Bool, true, false, not, cond, List, eqb}
-use Rattle.std.proofs.Math.Option.{Option}
-use Rattle.desk_positions.specs.Positions.{Position, most_positions}
-use Rattle.desk_positions.specs.Reading.{rows_ok_lem}
+use Rattle.std.specs.Prelude.{ℕ, ◌≡◌, Bool, false, not, List, eqb}
 use Rattle.usage.specs.Check.{Checked}
 use Rattle.usage.specs.Tables.{edges_of, nodes_of}
 use Rattle.checker.specs.Summary.{Summary, Exact}
-use Rattle.desk.specs.declared.Head.{Head}
-use Rattle.desk.specs.Layout.{desk_bytes, Within}
-use Rattle.desk.specs.Desk.{with_outline}
-use Rattle.desk.specs.State.{local_in, edges_in, loaded_in, table_in, listed_in, Encodes}
-use Rattle.desk.specs.Calls.{desk_code, plain, is_refused}
-use Rattle.usage.specs.Answers.{Verdict, allowed, violated, refused}
+use Rattle.desk_state.specs.declared.Head.{Head}
+use Rattle.desk_state.specs.Layout.{desk_bytes, Within}
+use Rattle.desk_state.specs.Desk.{with_outline}
+use Rattle.desk_state.specs.State.{local_in, edges_in, loaded_in, Encodes}
+use Rattle.desk_state.specs.Calls.{desk_code, plain, is_refused}
+use Rattle.usage.specs.Answers.{Verdict}
 use Rattle.monitor_state.specs.declared.Answer.{Answer}
 use Rattle.monitor_state.specs.declared.Answer.TheVariants.{Allowed, Violated, Refused}
-
--- what is told of the judge's answer: a table of edges that the judge refuses is 42 at the desk, whose caller lends none
-abbrev pub told : Answer → Verdict
-told Allowed = allowed
-told (Violated p) = violated p
-told (Refused n) = refused (cond (eqb n 41) 42 n)
 
 -- whether an answer to a step of this kind moves the positions
 abbrev pub moves : Answer → ℕ → Bool
 moves Allowed kind = not (eqb kind 3)
 moves (Violated p) kind = false
 moves (Refused n) kind = false
-
--- the bytes list these positions, or tell that a limit is exceeded
-pub record SettledIn (o : Option (List Position)) (k : ℕ) (b : List ℕ) : Type 0 where
-  pub few : k ≤ suc most_positions
-  pub lists : listed_in (table_in b) k ≡ o
-  pub rows : k ≤ most_positions → rows_ok_lem (table_in b) k ≡ true
 
 -- the greatest line that an answer has room for; a sheet's refusal has a much lower one
 abbrev pub most_line : ℕ

@@ -1,6 +1,6 @@
 // Numbers in bytes, little endian: copied out of the state and into it.
 ghost use Rattle.std.specs.Prelude.{ℕ, ◌+◌, ◌*◌, ◌<◌, ◌≤◌, ◌≡◌, [], ◌∷◌, length, set};
-ghost use Rattle.desk.specs.Layout.{byte_at, word_at, wide_at, Got, Put};
+ghost use Rattle.desk_state.specs.Layout.{byte_at, word_at, wide_at, Got, Put};
 
 // Four bytes as a number.
 fn joined(a: u8, b: u8, c: u8, d: u8) -> u32

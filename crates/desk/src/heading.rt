@@ -1,10 +1,10 @@
 // The head of the state.
 ghost use Rattle.std.specs.Prelude.{ℕ, ◌≤◌, ◌≡◌, length};
-ghost use Rattle.desk.specs.Layout.{desk_bytes, edges_at, head_in_lem, Within};
-ghost use Rattle.desk.specs.State.{head_ok_lem, is_listed_lem};
+ghost use Rattle.desk_state.specs.Layout.{desk_bytes, edges_at, head_in_lem, Within};
+ghost use Rattle.desk_state.specs.State.{head_ok_lem, is_listed_lem};
 
-use crate::Head;
 use desk_positions::MOST_POSITIONS;
+use desk_state::{Head, LOCAL};
 use usage::{MOST_EDGES, MOST_NODES};
 
 pub(crate) fn head_in(b: &[u8]) -> Head
@@ -27,7 +27,7 @@ pub(crate) fn head_in(b: &[u8]) -> Head
 pub(crate) fn head_ok(h: Head) -> bool
     ensures { result ≡ head_ok_lem h }
 {
-    if crate::LOCAL < h.policies {
+    if LOCAL < h.policies {
         return false;
     }
     if (MOST_EDGES as u32) < h.edges {

@@ -8,28 +8,17 @@ ghost use Rattle.automaton.specs.Mask.{has};
 ghost use Rattle.monitor_sets.specs.Instances.{set_places};
 ghost use Rattle.monitor_state.specs.Judge.{state_ok_lem, pair_sets};
 ghost use Rattle.monitor_lean.specs.Lean.{judge_by};
-ghost use Rattle.desk.specs.Layout.{desk_bytes, edges_at, created_at, possible_at, unclosed_at, order_at, sets_at, pairs_at, byte_at, word_at, head_in_lem, Put, Within};
-ghost use Rattle.desk.specs.JudgeBytes.{held_in_lem, judge_in, sizes_in_lem, head_for, SmallSizes, Small, Copied, Arrays, JudgedIn, Stored};
-ghost use Rattle.desk.specs.State.{edges_in, local_in, summary_in, looks_of};
+ghost use Rattle.desk_state.specs.Layout.{desk_bytes, edges_at, created_at, possible_at, unclosed_at, order_at, sets_at, pairs_at, byte_at, word_at, head_in_lem, Put, Within};
+ghost use Rattle.desk_state.specs.JudgeBytes.{held_in_lem, judge_in, sizes_in_lem, head_for, SmallSizes, Small, Copied, Arrays, JudgedIn, Stored};
+ghost use Rattle.desk_state.specs.State.{edges_in, local_in, summary_in, looks_of};
 
-use crate::{Head, Held};
+use desk_state::{
+    CREATED_AT, EDGES_AT, Head, Held, LOCAL, ORDER_AT, PAIRS_AT, POSSIBLE_AT, ROWS_AT, SETS_AT,
+    SUMMARY_AT, UNCLOSED_AT,
+};
 use monitor_sets::SETS;
 use monitor_state::{PAIR_SETS, Sizes, State, Told};
 use usage::{EDGE_FIELDS, EDGE_TABLE, MOST_CREATED, MOST_UNCLOSED, POLICIES, RawStep};
-
-// Where each part stands, as specs/Layout has it.
-const CREATED_AT: usize = 1824;
-
-const POSSIBLE_AT: usize = 2080;
-
-const UNCLOSED_AT: usize = 2088;
-
-const ORDER_AT: usize = 2096;
-
-const SETS_AT: usize = 2160;
-
-// The sets of the policies about two resources; none can be written yet.
-const PAIRS_AT: usize = 2816;
 
 fn held_in(b: &[u8]) -> Held
     requires { desk_bytes ≤ length b.now }
@@ -228,7 +217,7 @@ fn looked_at(b: &[u8], lean: bool, step: RawStep) -> u8
 {
     if lean {
         let mut marks = [0u64; POLICIES];
-        crate::bytes::longs_in(b, crate::SUMMARY_AT, POLICIES, &mut marks);
+        crate::bytes::longs_in(b, SUMMARY_AT, POLICIES, &mut marks);
         return monitor_lean::looked_at(&marks, step);
     }
     monitor::ALL_POLICIES
@@ -246,7 +235,7 @@ pub(crate) fn judged(b: &mut [u8], h: Head, lean: bool, step: RawStep) -> Told
     let looked = looked_at(b, lean, step);
     let e = EDGE_FIELDS * h.edges as usize;
     let mut edges = [0u8; EDGE_TABLE];
-    crate::bytes::bytes_in(b, crate::EDGES_AT, e, &mut edges);
+    crate::bytes::bytes_in(b, EDGES_AT, e, &mut edges);
     let k = held_in(b);
     let mut sets = k.sets;
     let mut possible = k.possible;
@@ -256,9 +245,9 @@ pub(crate) fn judged(b: &mut [u8], h: Head, lean: bool, step: RawStep) -> Told
     let t = monitor::judge_looked(
         looked,
         &edges[0..e],
-        h.policies == crate::LOCAL,
+        h.policies == LOCAL,
         &mut sets,
-        &mut b[PAIRS_AT..crate::ROWS_AT],
+        &mut b[PAIRS_AT..ROWS_AT],
         &mut possible,
         &mut numbers,
         &mut counts,

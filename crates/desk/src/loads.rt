@@ -9,15 +9,16 @@ ghost use Rattle.checker.specs.Promise.{outcome_verdict};
 ghost use Rattle.monitor_state.specs.Judge.{state_ok_lem};
 ghost use Rattle.desk_positions.specs.Positions.{most_positions, start_positions};
 ghost use Rattle.desk_positions.specs.Reading.{rows_ok_lem};
-ghost use Rattle.desk.specs.Desk.{is_busy_lem, with_policies, with_outline};
-ghost use Rattle.desk.specs.Layout.{desk_bytes, summary_at, rows_at, wide_at, head_in_lem, Put, Within};
-ghost use Rattle.desk.specs.JudgeBytes.{judge_in};
-ghost use Rattle.desk.specs.State.{edges_in, nodes_in, table_in, loaded_in, desk_by, desk_in, head_ok_lem, encoded_by, is_sound_lem, desk_of, Encodes};
-ghost use Rattle.desk.specs.Calls.{desk_code, plain, Called, ByPolicies, ByOutline};
-ghost use Rattle.desk.specs.Code.{most_line, SettledIn, with_nodes, KeptOutline};
+ghost use Rattle.desk_state.specs.Desk.{is_busy_lem, with_policies, with_outline};
+ghost use Rattle.desk_state.specs.Layout.{desk_bytes, summary_at, rows_at, wide_at, head_in_lem, Put, Within};
+ghost use Rattle.desk_state.specs.JudgeBytes.{judge_in};
+ghost use Rattle.desk_state.specs.State.{edges_in, nodes_in, table_in, loaded_in, desk_by, desk_in, head_ok_lem, encoded_by, is_sound_lem, desk_of, Encodes};
+ghost use Rattle.desk_state.specs.Calls.{desk_code, plain, Called, ByPolicies, ByOutline};
+ghost use Rattle.desk_state.specs.State.{SettledIn};
+ghost use Rattle.desk.specs.Code.{most_line, with_nodes, KeptOutline};
 
-use crate::Head;
 use checker::Outcome;
+use desk_state::{DESK_BYTES, EDGES_AT, Head, LOCAL, NODES_AT, ROWS_AT, SUMMARY_AT};
 use sheet_lines::Reading;
 use sheet_reader::PolicyReading;
 use usage::{EDGE_FIELDS, EDGE_TABLE, NODE_FIELDS, NODE_TABLE, POLICIES};
@@ -31,12 +32,12 @@ fn rows_fit(b: &[u8], h: Head) -> bool
     requires positions_le_most_positions { h.positions ≤ most_positions }
     ensures { result ≡ (is_node_table (nodes_in b.now h) && rows_ok_lem (table_in b.now) h.positions) }
 {
-    let e = crate::NODES_AT + NODE_FIELDS * h.nodes as usize;
-    if !sheet_rules::node_table_ok(&b[crate::NODES_AT..e]) {
+    let e = NODES_AT + NODE_FIELDS * h.nodes as usize;
+    if !sheet_rules::node_table_ok(&b[NODES_AT..e]) {
         return false;
     }
     let n = h.positions as usize;
-    desk_positions::rows_ok(&b[crate::ROWS_AT..crate::DESK_BYTES], n)
+    desk_rows::rows_ok(&b[ROWS_AT..DESK_BYTES], n)
 }
 
 // Are the edges a policy sheet's, and does the judge take its state?
@@ -45,8 +46,8 @@ fn is_sound(b: &[u8], h: Head) -> bool
     requires edges_le_most_edges { h.edges ≤ most_edges }
     ensures { result ≡ (is_edge_table (edges_in b.now h) && state_ok_lem (judge_in b.now h)) }
 {
-    let e = crate::EDGES_AT + EDGE_FIELDS * h.edges as usize;
-    if !sheet_fields::edges::edge_table_ok(&b[crate::EDGES_AT..e]) {
+    let e = EDGES_AT + EDGE_FIELDS * h.edges as usize;
+    if !sheet_fields::edges::edge_table_ok(&b[EDGES_AT..e]) {
         return false;
     }
     crate::judge::state_ok(b, h)
@@ -128,7 +129,7 @@ fn store_policies(b: &mut [u8], edges: &[u8], n: usize, local: bool)
     ensures encodes { Encodes b.new (with_policies (take (edge_fields * n) edges.now) local) }
     ensures within { Within b.old 0 desk_bytes b.new }
 {
-    crate::bytes::bytes_out(b, crate::EDGES_AT, EDGE_FIELDS * n, edges);
+    crate::bytes::bytes_out(b, EDGES_AT, EDGE_FIELDS * n, edges);
     let h = policies_head(n, local);
     crate::judge::judge_out(b, h, monitor::start(), 0);
 }
@@ -170,7 +171,7 @@ fn summary_out(b: &mut [u8], marks: [u64; POLICIES])
     ensures marks_len { length marks ≡ policies }
     ensures b_len_unchanged { length b.new ≡ length b.old }
 {
-    crate::bytes::longs_out(b, crate::SUMMARY_AT, POLICIES, &marks);
+    crate::bytes::longs_out(b, SUMMARY_AT, POLICIES, &marks);
 }
 
 // The positions at the load are written: how many there are, or 65.
@@ -181,7 +182,7 @@ fn start_rows(b: &mut [u8], nodes: &[u8]) -> u32
     ensures within { Within b.old rows_at desk_bytes b.new }
     ensures b_len_unchanged { length b.new ≡ length b.old }
 {
-    let k = desk_positions::start(nodes, &mut b[crate::ROWS_AT..crate::DESK_BYTES]);
+    let k = desk_rows::start(nodes, &mut b[ROWS_AT..DESK_BYTES]);
     k as u32
 }
 
@@ -212,7 +213,7 @@ fn store_outline(b: &mut [u8], h: Head, nodes: &[u8], marks: [u64; POLICIES])
     ensures within { Within b.old 0 desk_bytes b.new }
 {
     let m = nodes.len();
-    crate::bytes::bytes_out(b, crate::NODES_AT, m, nodes);
+    crate::bytes::bytes_out(b, NODES_AT, m, nodes);
     summary_out(b, marks);
     let k = start_rows(b, nodes);
     let g = outline_head(h, m / NODE_FIELDS);
@@ -229,11 +230,11 @@ fn keep_outline(b: &mut [u8], h: Head, nodes: &[u8]) -> u32
     requires nodes_len_bound { length nodes.now ≤ node_places }
     ensures { KeptOutline b.old h nodes.now result b.new }
 {
-    let local = h.policies == crate::LOCAL;
-    let e = crate::EDGES_AT + EDGE_FIELDS * h.edges as usize;
-    let o = checker::check(&b[crate::EDGES_AT..e], local, nodes);
+    let local = h.policies == LOCAL;
+    let e = EDGES_AT + EDGE_FIELDS * h.edges as usize;
+    let o = checker::check(&b[EDGES_AT..e], local, nodes);
     let mut marks = [0u64; POLICIES];
-    checker::summary::summary(&b[crate::EDGES_AT..e], local, nodes, &mut marks);
+    checker::summary::summary(&b[EDGES_AT..e], local, nodes, &mut marks);
     store_outline(b, h, nodes, marks);
     outcome_code(o)
 }

@@ -5,13 +5,15 @@ ghost use Rattle.usage.specs.Valid.{OutlineOk};
 ghost use Rattle.usage.specs.Tables.{nodes_of};
 ghost use Rattle.desk_positions.specs.Positions.{Position, stride_all, is_any, next_positions};
 ghost use Rattle.desk_positions.specs.Growth.{Tabled, step_from};
-ghost use Rattle.desk.specs.Layout.{desk_bytes, rows_at, Within, head_in_lem};
-ghost use Rattle.desk.specs.State.{nodes_in, table_in, head_ok_lem, is_listed_lem, encoded_by};
-ghost use Rattle.desk.specs.Calls.{desk_code, given_by, Called, ByStep};
-ghost use Rattle.desk.specs.Promise.{is_refusal_lem};
-ghost use Rattle.desk.specs.Code.{told, moves, SettledIn};
+ghost use Rattle.desk_state.specs.Layout.{desk_bytes, rows_at, Within, head_in_lem};
+ghost use Rattle.desk_state.specs.State.{nodes_in, table_in, head_ok_lem, is_listed_lem, encoded_by};
+ghost use Rattle.desk_state.specs.Calls.{desk_code, given_by, Called, ByStep};
+ghost use Rattle.desk_state.specs.Promise.{is_refusal_lem};
+ghost use Rattle.desk_state.specs.State.{SettledIn};
+ghost use Rattle.desk_state.specs.Calls.{told};
+ghost use Rattle.desk.specs.Code.{moves};
 
-use crate::Head;
+use desk_state::{DESK_BYTES, Head, NODES_AT, ROWS_AT};
 use monitor_state::Answer;
 use usage::{NODE_FIELDS, NODE_TABLE, RawStep};
 
@@ -104,10 +106,10 @@ fn stays(b: &[u8], h: Head, step: RawStep) -> bool
         return true;
     }
     let n = h.positions as usize;
-    let e = crate::NODES_AT + NODE_FIELDS * h.nodes as usize;
-    desk_positions::leads(
-        &b[crate::NODES_AT..e],
-        &b[crate::ROWS_AT..crate::DESK_BYTES],
+    let e = NODES_AT + NODE_FIELDS * h.nodes as usize;
+    desk_rows::leads(
+        &b[NODES_AT..e],
+        &b[ROWS_AT..DESK_BYTES],
         n,
         step.kind,
         step.a,
@@ -127,10 +129,10 @@ fn move_rows(b: &mut [u8], h: Head, step: RawStep) -> u32
     let n = h.positions as usize;
     let e = NODE_FIELDS * h.nodes as usize;
     let mut nodes = [0u8; NODE_TABLE];
-    crate::bytes::bytes_in(b, crate::NODES_AT, e, &mut nodes);
-    let k = desk_positions::next(
+    crate::bytes::bytes_in(b, NODES_AT, e, &mut nodes);
+    let k = desk_rows::next(
         &nodes[0..e],
-        &mut b[crate::ROWS_AT..crate::DESK_BYTES],
+        &mut b[ROWS_AT..DESK_BYTES],
         n,
         step.kind,
         step.a,
@@ -173,12 +175,12 @@ pub(crate) fn on_outline(b: &mut [u8], h: Head, step: RawStep) -> u32
     requires h_value_2 { is_listed_lem h ≡ true }
     ensures { Called (ByStep step) b.old result b.new }
 {
-    let e = crate::NODES_AT + NODE_FIELDS * h.nodes as usize;
-    if !sheet_rules::node_table_ok(&b[crate::NODES_AT..e]) {
+    let e = NODES_AT + NODE_FIELDS * h.nodes as usize;
+    if !sheet_rules::node_table_ok(&b[NODES_AT..e]) {
         return reply_code(Answer::Refused(42), false);
     }
     let n = h.positions as usize;
-    if !desk_positions::rows_ok(&b[crate::ROWS_AT..crate::DESK_BYTES], n) {
+    if !desk_rows::rows_ok(&b[ROWS_AT..DESK_BYTES], n) {
         return reply_code(Answer::Refused(42), false);
     }
     on_rows(b, h, step)

@@ -11,13 +11,15 @@ use lib.Seq.{set_out}
 use Rattle.usage.specs.declared.Edge.{Edge}
 use Rattle.usage.specs.Limits.{policies}
 use Rattle.usage.proofs.TableLaws.{length_from}
-use Rattle.automaton.specs.Move.{rows_at}
+use Rattle.automaton.specs.Move.{rows_of, rows_at}
+use Rattle.automaton.proofs.PlaceLaws.{rows-one}
 use Rattle.monitor_sets.specs.Instances.{first_created_lem, instances}
 use Rattle.monitor_sets.specs.Sets.{gathered}
-use Rattle.monitor_sets.specs.Code.{event_sets}
+use Rattle.monitor_sets.specs.Code.{moved_by_rows, event_sets}
+use Rattle.monitor_sets.proofs.EventLaws.{rows-moved}
 use Rattle.monitor_pairs.specs.declared.Ways.{Ways}
 use Rattle.monitor_pairs.specs.declared.which.Blocks.{Blocks}
-use Rattle.monitor_pairs.specs.declared.blocks.Turn.{Turn}
+use Rattle.monitor_pairs.specs.declared.Turn.{Turn}
 use Rattle.monitor_pairs.specs.Pairs.{event_pairs, create_pairs, gather_pairs}
 use Rattle.monitor_pairs.specs.Tracked.{event_ways}
 use Rattle.monitor_pairs.specs.Blocks.{pair_sets, lower_block, upper_block, pairs_of, of_policy, each_block, blocks_moved, blocks_created, with_gathered}
@@ -182,3 +184,11 @@ blocks-reset pairs n x y e h = simp (eq-eqb (length pairs) pair_sets e, le-leb n
 
 pub ways-same : {n u f v s w b x : List ℕ} (p : ℕ) → n ≡ u → f ≡ v → s ≡ w → b ≡ x → ways_in n f s b p ≡ ways_in u v w x p
 ways-same p i j k l = rw (i, j, k, l) refl
+
+-- an event's rows, by place, move the sets of the policies about one resource as the event does
+pub by_rows : (es : List Edge) (a r : ℕ) (own other : List ℕ) (creates : Bool) (at n : ℕ) (sets : List ℕ) → own ≡ rows_at es a r true false
+    → other ≡ rows_at es a r false false → creates ≡ eqb a 0 → moved_by_rows own other creates at n sets ≡ event_sets es a r at n sets
+by_rows es a r own other creates at n sets e f k =
+    ap₂ (λ (own other : List ℕ). moved_by_rows own other creates at n sets) (e ∙ rows-one es a r true) (f ∙ rows-one es a r false)
+    ∙ ap (λ (b : Bool). moved_by_rows (rows_of es a r true) (rows_of es a r false) b at n sets) k
+    ∙ rows-moved es a r at n sets

@@ -1,47 +1,16 @@
 // What an event makes of the sets: of those of the policies about one resource, and where a sheet has policies about two, of theirs.
-ghost use Rattle.std.specs.Prelude.{◌<◌, ◌≤◌, ◌≡◌, true, false, cond, eqb, length};
+ghost use Rattle.std.specs.Prelude.{◌<◌, ◌≤◌, ◌≡◌, cond, eqb, length};
 ghost use Rattle.usage.specs.Tables.{edges_of};
-ghost use Rattle.automaton.specs.Move.{rows_at};
 ghost use Rattle.monitor_sets.specs.Instances.{instances};
 ghost use Rattle.monitor_sets.specs.Code.{broken_in, event_sets};
 ghost use Rattle.monitor_pairs.specs.Blocks.{pair_sets, pairs_of};
-ghost use Rattle.monitor_pairs.specs.Code.{ways_in};
 ghost use Rattle.monitor_state.specs.Code.{event_blocks, event_possible};
 
 use automaton::ROWS;
-use monitor_pairs::Ways;
-use monitor_pairs::blocks::Turn;
+use monitor_pairs::Turn;
 use monitor_pairs::which::Blocks;
 use monitor_sets::SETS;
 use usage::POLICIES;
-
-// The ways of an event for the two pair policies.
-#[derive(Drop)]
-struct BothWays {
-    lower: Ways,
-    upper: Ways,
-}
-
-fn ways_of(edges: &[u8], which: Blocks, action: u32, r: u32) -> BothWays
-    ensures lower_value { result.lower ≡ ways_in (rows_at (edges_of edges.now) action r false false)
-        (rows_at (edges_of edges.now) action r true false) (rows_at (edges_of edges.now) action r false true)
-        (rows_at (edges_of edges.now) action r true true) which.first }
-    ensures upper_value { result.upper ≡ ways_in (rows_at (edges_of edges.now) action r false false)
-        (rows_at (edges_of edges.now) action r true false) (rows_at (edges_of edges.now) action r false true)
-        (rows_at (edges_of edges.now) action r true true) which.second }
-{
-    let mut neither = [0u8; ROWS];
-    let mut first = [0u8; ROWS];
-    let mut second = [0u8; ROWS];
-    let mut both = [0u8; ROWS];
-    automaton::moves::rows(edges, action, r, &mut first, &mut neither);
-    automaton::moves::rows_second(edges, action, r, &mut both, &mut second);
-    let p = which.first as usize;
-    let q = which.second as usize;
-    let lower = monitor_pairs::rows::ways_of(&neither, &first, &second, &both, p);
-    let upper = monitor_pairs::rows::ways_of(&neither, &first, &second, &both, q);
-    BothWays { lower, upper }
-}
 
 // Where there is a pair policy: what the event leads to is known before any of their sets is moved, so nothing of them is put back.
 fn take_pairs(
@@ -70,19 +39,40 @@ fn take_pairs(
     ensures possible_after { possible.new ≡ cond (eqb result 0) (event_possible (edges_of edges.now) action r turn.at turn.n
         sets.old pairs.old) possible.old }
 {
-    let ways = ways_of(edges, which, action, r);
-    let lower = ways.lower;
-    let upper = ways.upper;
+    let mut neither = [0u8; ROWS];
+    let mut first = [0u8; ROWS];
+    let mut second = [0u8; ROWS];
+    let mut both = [0u8; ROWS];
+    automaton::moves::rows_by_place(
+        edges,
+        action,
+        r,
+        &mut neither,
+        &mut first,
+        &mut second,
+        &mut both,
+    );
+    let p = which.first as usize;
+    let q = which.second as usize;
+    let lower = monitor_blocks::rows::ways_of(&neither, &first, &second, &both, p);
+    let upper = monitor_blocks::rows::ways_of(&neither, &first, &second, &both, q);
     let old = *sets;
-    let moved = monitor_sets::instances::move_event(edges, sets, turn.n, turn.at, action, r);
-    let after = monitor_pairs::blocks::lead_event(pairs, which, turn, lower, upper, moved);
+    let moved = monitor_sets::instances::move_event(
+        &first,
+        &neither,
+        sets,
+        turn.n,
+        turn.at,
+        turn.creates,
+    );
+    let after = monitor_blocks::blocks::lead_event(pairs, which, turn, lower, upper, moved);
     let bad = monitor_sets::instances::broken_set(looked, &after, unclosed);
     if bad != 0 {
         *sets = old;
         return bad;
     }
     *possible = after;
-    monitor_pairs::blocks::take_event(pairs, which, turn, lower, upper);
+    monitor_blocks::blocks::take_event(pairs, which, turn, lower, upper);
     bad
 }
 

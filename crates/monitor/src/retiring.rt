@@ -53,7 +53,7 @@ pub(crate) fn judge_retiring(
     }
     let n = FIRST_CREATED + count;
     monitor_sets::retiring::retire(sets, n, at);
-    monitor_pairs::blocks::retire(pairs, which, n, at);
+    monitor_blocks::blocks::retire(pairs, which, n, at);
     let i = at - FIRST_CREATED;
     monitor_sets::retiring::close_up(created, count, i);
     monitor_state::settled(bad, sizes, after)

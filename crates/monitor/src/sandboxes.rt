@@ -106,7 +106,7 @@ fn put_back(pairs: &mut [u8], which: Blocks, n: usize, p: usize, violated: u8)
         pairs.old }
 {
     if violated == 0 {
-        monitor_pairs::blocks::reset(pairs, which, n, p as u32);
+        monitor_blocks::blocks::reset(pairs, which, n, p as u32);
         return;
     }
 }

@@ -48,7 +48,7 @@ use Rattle.monitor_state.proofs.LookedLaws.{broken-among-all}
 use Rattle.monitor_state.proofs.Verdict.{state-well, judge-promised}
 use Rattle.checker.specs.Accepted.{raw_of, onto}
 use Rattle.checker.specs.Summary.{marks, Exact}
-use Rattle.checker.proofs.SummaryLaws.{in-table}
+use Rattle.checker.proofs.SummaryLaws.{in_table}
 use Rattle.monitor_lean.specs.Lean.{Looks, at_all, breaks_in, broken_among, judge_step_by, judge_read_by, judge_by, answers_by, marked}
 use Rattle.monitor_lean.specs.Lean.{Summary, opening_bit, mark_at, cut_at, up_to_refusal, Agree, done, stops, next, lean_answers}
 use Rattle.monitor_lean.specs.Lean.{AgreeAll, none_left, both, unless_refused, not_refused}
@@ -336,7 +336,7 @@ module _ (t : List ℕ) (ok : is_edge_table t ≡ true) (local : Bool) (ns : Lis
     (exact : Exact local (edges_of t) ns m) where
   pub exact-covers : (step : Step) (past : Past) → IsTrace ns (step ∷ past) → Covered local (edges_of t) m step past
   exact-covers step past tr p l last made v =
-      ((exact.each p l).tells last (in-table ns outline last p step past made tr)).1
+      ((exact.each p l).tells last (in_table ns outline last p step past made tr)).1
       (_, record { step = step; past = past; made = made; trace = tr; violates = v; steps = refl })
 
   -- the same where retirings stand among the steps: they change neither what is open nor what is broken

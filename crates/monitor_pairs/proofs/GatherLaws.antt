@@ -1,5 +1,5 @@
 -- Unions over two places, and moving a union: what an event leads to is the four unions of the sets that see it alike, each moved.
-use Prim.Native.Nat.{ℕ, zero, suc, ◌+◌, ◌*◌, ◌/◌, ◌%◌, ◌<◌, ◌≤◌}
+use Prim.Native.Nat.{ℕ, zero, suc, ◌+◌, ◌-◌, ◌*◌, ◌/◌, ◌%◌, ◌<◌, ◌≤◌}
 use mathlib.Core.Path.{◌≡◌, refl, sym, ap, ap₂, ◌∙◌}
 use mathlib.Core.Bool.{Bool, true, false, ◌&&◌, ◌||◌, cond}
 use mathlib.Core.List.{List}
@@ -8,7 +8,7 @@ use native.Mathlib.Omega.{arith}
 use borrow.Author.Tests.{eq-eqb, ne_eqb, eqb-true, eqb-false, lt-ltb}
 use lib.Bits.{bit_or, or_zero_l, or_zero_r, or_self}
 use lib.Dec.{eqb, ltb}
-use lib.ListN.{length, get_or, set, replicate, length-replicate}
+use lib.ListN.{length, get_or, set}
 use lib.Seq.{get_or-set_same, get_or-set_other}
 use Rattle.usage.specs.Limits.{states}
 use Rattle.usage.proofs.Logic.{and_left, and_right}
@@ -21,11 +21,11 @@ use Rattle.automaton.proofs.RowLaws.{union-ext, move_by-held, changed-none, stay
 use Rattle.monitor_sets.specs.Instances.{instances}
 use Rattle.monitor_sets.proofs.LaneLaws.{union-add, union-or}
 use Rattle.monitor_sets.proofs.MovedLaws.{moved-empty}
-use Rattle.monitor_sets.proofs.SetLaws.{union_more, union-with}
+use Rattle.monitor_sets.proofs.SetLaws.{union-with}
 use Rattle.monitor_pairs.specs.declared.Ways.{Ways}
 use Rattle.monitor_pairs.specs.Pairs.{pair_places, pair_at, way_of, event_pairs, gather_pairs}
-use Rattle.monitor_pairs.specs.Code.{stays_by, stays_all, pair_row, row_joined, beside_columns}
-use Rattle.monitor_pairs.proofs.RunLaws.{at_from, same_from, at-replicate}
+use Rattle.monitor_pairs.specs.Code.{stays_by, stays_all, pair_row, beside_columns}
+use Rattle.monitor_pairs.proofs.RunLaws.{at_from}
 
 -- ── Unions ──
 
@@ -33,6 +33,10 @@ pub union-none : (n : ℕ) (f : ℕ → ℕ) → ((i : ℕ) → i < n → f i �
 unfolding union
 union-none zero f h = refl
 union-none (suc n) f h = ap₂ (λ (u v : ℕ). bit_or u v) (union-none n f (λ i l. h i (omega arith))) (h n (omega arith)) ∙ or_self 0
+
+-- each set is the join of two
+pub union-joined : (n : ℕ) (f g h : ℕ → ℕ) → ((j : ℕ) → j < n → h j ≡ bit_or (f j) (g j)) → union n h ≡ bit_or (union n f) (union n g)
+union-joined n f g h e = union-ext n h (λ j. bit_or (f j) (g j)) e ∙ union-or n f g
 
 none : (t : Bool) → ◌≡◌ {A = ℕ} (cond t 0 0) 0
 none true = refl
@@ -232,36 +236,76 @@ module _ (w : Ways) (at n : ℕ) (sets : List ℕ) (h : n ≤ instances) (l : at
       ∙ ap (λ (t : Bool). cond t (pair_at sets at j) 0) (ne_eqb j at d))
       ∙ ap (λ (t : Bool). cond t (cond t (pair_at sets at at) 0) 0) (eq-eqb at at refl))
 
--- ── Columns, one row after the other ──
+-- ── Columns, one strip after the other ──
 
 module _ (at : ℕ) (sets : List ℕ) where
   abbrev beside_to : ℕ → ℕ → ℕ
   beside_to n j = union n (λ i. cond (eqb i at) 0 (pair_at sets i j))
 
-  pub beside_none : replicate instances 0 ≡ beside_columns 0 at sets
-  unfolding beside_columns union
-  beside_none = is-from (beside_to 0) 0 instances (replicate instances 0) (length-replicate {A = ℕ} instances 0) (λ k b. at-replicate
-      instances 0 k b)
+  -- column q of rows of which none is row `at`
+  clear : (n q : ℕ) (row place : ℕ → ℕ) → ((i : ℕ) → i < n → (row i ≡ at → ⊥)) → ((i : ℕ) → place i ≡ row i * instances + q)
+      → union n (λ i. get_or sets (place i) 0) ≡ union n (λ i. cond (eqb (row i) at) 0 (pair_at sets (row i) q))
+  clear n q row place d e =
+      union-ext n (λ i. get_or sets (place i) 0) (λ i. cond (eqb (row i) at) 0 (pair_at sets (row i) q))
+      (λ i b. ap (λ (k : ℕ). get_or sets k 0) (e i) ∙ sym (ap (λ (t : Bool). cond t 0 (pair_at sets (row i) q)) (ne_eqb (row i) at (d i b))))
 
-  pub beside-length : (n : ℕ) → length (beside_columns n at sets) ≡ instances
+  beside_at : (n j : ℕ) → j < instances → beside_to n j ≡ get_or (beside_columns n at sets) j 0
   unfolding beside_columns
-  beside-length n = length_from (beside_to n) 0 instances
+  beside_at n j b = sym (at_from (beside_to n) instances j b)
 
-  next : (n j v : ℕ) → v ≡ cond (eqb n at) 0 (pair_at sets n j) → bit_or (beside_to n j) v ≡ beside_to (n + 1) j
-  next n j v e = ap (bit_or (beside_to n j)) e ∙ union_more n (λ i. cond (eqb i at) 0 (pair_at sets i j))
+  -- element j of a strip that starts at column c: row `at` is none of the first n
+  pub strip-before : (n c j : ℕ) → n ≤ at → c + j < instances
+      → union n (λ i. get_or sets (c + i * instances + j) 0) ≡ get_or (beside_columns n at sets) (c + j) 0
+  strip-before n c j h b =
+      clear n (c + j) (λ i. i) (λ i. c + i * instances + j) (λ i l e. omega arith) (λ i. place i) ∙ beside_at n (c + j) b
+    where
+      place : (i : ℕ) → c + i * instances + j ≡ i * instances + (c + j)
+      place i = omega arith
 
-  pub beside-row : (n : ℕ) → (n ≡ at → ⊥) → row_joined (n * instances) sets (beside_columns n at sets) ≡ beside_columns (n + 1) at sets
-  unfolding row_joined beside_columns
-  beside-row n d =
-      same_from (λ j. bit_or (get_or (from (beside_to n) 0 instances) j 0) (get_or sets (n * instances + j) 0)) (beside_to (n + 1)) instances
-      (λ j b. ap (λ (u : ℕ). bit_or u (pair_at sets n j)) (at_from (beside_to n) instances j b)
-      ∙ next n j (pair_at sets n j) (sym (ap (λ (t : Bool). cond t 0 (pair_at sets n j)) (ne_eqb n at d))))
+  -- it is one of them, and those before and behind it are joined
+  pub strip-around : (n c j : ℕ) → at < n → c + j < instances
+      → bit_or (union at (λ i. get_or sets (c + i * instances + j) 0))
+      (union (n - 1 - at) (λ i. get_or sets ((at + 1) * instances + c + i * instances + j) 0))
+      ≡ get_or (beside_columns n at sets) (c + j) 0
+  strip-around n c j h b =
+      ap₂ (λ (u v : ℕ). bit_or u v)
+      (clear at q (λ i. i) (λ i. c + i * instances + j) (λ i l e. omega arith) (λ i. before i))
+      (clear m q (λ i. at + (1 + i)) (λ i. (at + 1) * instances + c + i * instances + j) (λ i l e. omega arith) (λ i. behind i)
+      ∙ sym (or_zero_l (union m (λ i. f (at + (1 + i)))))
+      ∙ ap (λ (u : ℕ). bit_or u (union m (λ i. f (at + (1 + i))))) (sym own)
+      ∙ sym (union-add 1 m (λ i. f (at + i))))
+      ∙ sym (union-add at (1 + m) f)
+      ∙ ap (λ (k : ℕ). union k f) all
+      ∙ beside_at n q b
+    where
+      m : ℕ
+      m = n - 1 - at
 
-  pub beside-own : (n : ℕ) → n ≡ at → beside_columns n at sets ≡ beside_columns (n + 1) at sets
+      q : ℕ
+      q = c + j
+
+      f : ℕ → ℕ
+      f i = cond (eqb i at) 0 (pair_at sets i q)
+
+      all : at + (1 + m) ≡ n
+      all = omega arith
+
+      before : (i : ℕ) → c + i * instances + j ≡ i * instances + q
+      before i = omega arith
+
+      behind : (i : ℕ) → (at + 1) * instances + c + i * instances + j ≡ (at + (1 + i)) * instances + q
+      behind i = omega arith
+
+      own : union 1 (λ i. f (at + i)) ≡ 0
+      own =
+          union-none 1 (λ i. f (at + i))
+          (λ i l. ap (λ (t : Bool). cond t 0 (pair_at sets (at + i) q)) (eq-eqb (at + i) at (omega arith)))
+
+  -- a line that has all columns
+  pub beside-whole : (n : ℕ) (l : List ℕ) → length l ≡ instances
+      → ((j : ℕ) → j < instances → get_or l j 0 ≡ get_or (beside_columns n at sets) j 0) → l ≡ beside_columns n at sets
   unfolding beside_columns
-  beside-own n e =
-      same_from (beside_to n) (beside_to (n + 1)) instances
-      (λ j b. sym (or_zero_r (beside_to n j)) ∙ next n j 0 (sym (ap (λ (t : Bool). cond t 0 (pair_at sets n j)) (eq-eqb n at e))))
+  beside-whole n l e h = is-from (beside_to n) 0 instances l e (λ j b. h j b ∙ at_from (beside_to n) instances j b)
 
 -- ── Rows that leave every state where it is ──
 

@@ -5,11 +5,12 @@ use mathlib.Core.Bool.{Bool, true, false, ◌&&◌, cond}
 use mathlib.Core.List.{List}
 use native.Mathlib.Nat.{zero-add}
 use native.Mathlib.Omega.{arith}
-use borrow.Author.Tests.{eq-eqb, eqb-true, lt-ltb, le-ltb, ltb-true, le-leb, leb-true}
+use borrow.Author.Tests.{eq-eqb, eqb-true, lt-ltb, le-ltb, ltb-true, ltb-false, le-leb, leb-true}
 use lib.Dec.{eqb, ltb, leb}
 use lib.ListN.{length, get_or, set, replicate, length-replicate}
+use lib.Seq.{get_or-set_same, get_or-set_other}
 use Rattle.usage.specs.Tables.{from}
-use Rattle.usage.proofs.Logic.{and-false, both_ways, and_left, and_right, and_both}
+use Rattle.usage.proofs.Logic.{by_cases, last-or-lower, and-false, both_ways, and_left, and_right, and_both}
 use Rattle.usage.proofs.TableLaws.{length_from, get_d-from, is-from, from-ext}
 use Rattle.monitor_sets.specs.Instances.{instances}
 use Rattle.monitor_sets.proofs.PlaceLaws.{from-set, ltb_next}
@@ -90,6 +91,26 @@ module _ (s : ℕ) (f g : ℕ → ℕ) (m : ℕ) where
   span-ahead i k b h =
       at_from (span_at i) m k b
       ∙ ap (λ (t : Bool). cond t (f k) (g k)) (and-false (leb s k) (ltb k (s + i)) (le-ltb k (s + i) h))
+
+-- one more of the places from s on has what f says
+pub put_next : (f : ℕ → ℕ) (l : List ℕ) (s i : ℕ) → s + i < length l → ((j : ℕ) → j < i → get_or l (s + j) 0 ≡ f j)
+    → (j : ℕ) → j < i + 1 → get_or (set l (s + i) (f i)) (s + j) 0 ≡ f j
+put_next f l s i h d j b =
+    by_cases (last-or-lower j i (omega arith))
+    (λ e. rw e (get_or-set_same l (s + i) (f i) 0 h))
+    (λ b. get_or-set_other l (s + i) (s + j) (f i) 0 (λ z. omega arith) ∙ d j b)
+
+-- what agrees below s and in the n places from there on
+pub agree-more : (f g : ℕ → ℕ) (s n : ℕ) → ((j : ℕ) → j < s → f j ≡ g j) → ((j : ℕ) → j < n → f (s + j) ≡ g (s + j))
+    → (j : ℕ) → j < s + n → f j ≡ g j
+agree-more f g s n a b j h = go (ltb j s) refl
+  where
+    go : (t : Bool) → ltb j s ≡ t → f j ≡ g j
+    go true q = a j (ltb-true j s q)
+    go false q =
+        let k = ltb-false j s q in
+        let e : s + (j - s) ≡ j = omega arith in
+        ap f (sym e) ∙ b (j - s) (omega arith) ∙ ap g e
 
 -- ── Column `at` ──
 

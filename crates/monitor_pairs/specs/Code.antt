@@ -9,7 +9,7 @@ use Rattle.automaton.specs.Code.{changed}
 use Rattle.monitor_sets.specs.Instances.{instances}
 use Rattle.monitor_pairs.specs.declared.Ways.{Ways}
 use Rattle.monitor_pairs.specs.declared.which.Blocks.{Blocks}
-use Rattle.monitor_pairs.specs.declared.blocks.Turn.{Turn}
+use Rattle.monitor_pairs.specs.declared.Turn.{Turn}
 use Rattle.monitor_pairs.specs.Pairs.{pair_places, pair_at, taken, event_pairs, gather_pairs, create_pairs}
 use Rattle.monitor_pairs.specs.Blocks.{pair_sets, lower_block, upper_block, of_policy}
 

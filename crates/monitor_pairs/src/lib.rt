@@ -1,14 +1,8 @@
-// The sets of states that the judge keeps for a policy about two resources (02, L10): one for each two places, x's and then y's. The
-// places are those of `monitor_sets`: the static resources', that of the unseen ones, that of the retired ones, and the live ones'.
+// The sets of states that the judge keeps for a policy about two resources (02, L10), as definitions: one for each two places, x's and then
+// y's. The places are those of `monitor_sets`: the static resources', that of the unseen ones, that of the retired ones, and the live ones'.
+// The functions that move them are in monitor_blocks.
 use monitor_sets::INSTANCES;
 
-pub mod blocks;
-mod events;
-mod gathering;
-mod places;
-mod retiring;
-pub mod rows;
-mod runs;
 pub mod which;
 
 // The sets of one policy: that of places i and j is at i * INSTANCES + j.
@@ -25,4 +19,12 @@ pub struct Ways {
     pub first: [u8; 8],
     pub second: [u8; 8],
     pub both: [u8; 8],
+}
+
+// An event on the resource at place `at` of the first n, which it creates, or not.
+#[derive(Drop)]
+pub struct Turn {
+    pub n: usize,
+    pub at: usize,
+    pub creates: bool,
 }

@@ -45,11 +45,6 @@ union-with (suc n) at v f g h a b e = go (last-or-lower at n h) (λ l. union-wit
     go (inr l) ih =
         or-exchange (union n f) (f n) v ∙ ap₂ (λ (m k : ℕ). bit_or m k) (ih l) (e n (omega arith) (λ z. lower at n l (sym z)))
 
--- whether a number is in a set, as code asks it
-pub has-bit : (v j : ℕ) → eqb (bit_and (v / 2 ^ j) 1) 1 ≡ has v j
-unfolding has
-has-bit v j = ap (λ (n : ℕ). eqb n 1) (and_mask (v / 2 ^ j) 1)
-
 -- a set of one number, where a set has it
 bit-of : (r n : ℕ) → r < 2 → r * n ≡ cond (eqb r 1) n 0
 bit-of zero n h = zero-mul n

@@ -55,6 +55,10 @@ unfoldable pub all_moved : List ℕ → List ℕ → ℕ → ℕ → ℕ → Lis
 all_moved own other n at m sets =
     from (λ k. cond (ltb (k / instances) m && ltb (k % instances) n) (moved_at own other at sets k) (get_or sets k 0)) 0 set_places
 
+-- the sets after an event with these rows: where it creates a resource, its instance is first what that of a resource that never occurred is
+unfoldable pub moved_by_rows : List ℕ → List ℕ → Bool → ℕ → ℕ → List ℕ → List ℕ
+moved_by_rows own other creates at n sets = all_moved own other n at policies (cond creates (copied sets at) sets)
+
 -- the sets after the event a(r): where it creates r, r's instance is first what that of a resource that never occurred is
 unfoldable pub event_sets : List Edge → ℕ → ℕ → ℕ → ℕ → List ℕ → List ℕ
 event_sets es a r at n sets = moved_sets es a r at n (cond (eqb a 0) (copied sets at) sets)

@@ -13,20 +13,22 @@ use usage::{LAST_RESOURCE, MOST_CREATED, STATICS};
 // How many endings of numbers are told apart where numbers are compared.
 const ENDINGS: usize = 1024;
 
-// The place of x's instance among those of the created resources; that of the unseen ones where x is none of them.
+// The place of x's instance among those of the created resources; that of the unseen ones where x is none of them. From the last to the
+// first, and without an early exit: so the place is no counter of the loop, from which all addresses that use it would be counted along.
 fn place(created: &[u32; MOST_CREATED], count: usize, x: u32) -> usize
     requires created_len { length created.now ≡ most_created }
     requires count_le_most_created { count ≤ most_created }
     ensures { result ≡ place_from x first_created_lem (take count created.now) }
 {
-    let mut i: usize = 0;
-    while i < count {
+    let mut at = UNSEEN;
+    let mut i = count;
+    while 0 < i {
+        i -= 1;
         if created[i] == x {
-            return FIRST_CREATED + i;
+            at = FIRST_CREATED + i;
         }
-        i += 1;
     }
-    UNSEEN
+    at
 }
 
 // Is x one of the created resources from number k on? No early exit, so that several are compared at once.

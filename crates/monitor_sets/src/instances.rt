@@ -10,7 +10,7 @@ ghost use Rattle.automaton.specs.Mask.{union};
 ghost use Rattle.automaton.specs.Move.{move_by};
 ghost use Rattle.monitor_sets.specs.Instances.{instances, set_places};
 ghost use Rattle.monitor_sets.specs.Sets.{copied, reset_sets, gathered_at, gathered};
-ghost use Rattle.monitor_sets.specs.Code.{lanes, broken_bit_lem, broken_in, row_moved, policy_moved, all_moved, event_sets};
+ghost use Rattle.monitor_sets.specs.Code.{lanes, broken_bit_lem, broken_in, row_moved, policy_moved, all_moved, moved_by_rows, event_sets};
 
 use crate::{INSTANCES, SETS, START_SET, UNSEEN};
 use automaton::ROWS;
@@ -228,8 +228,29 @@ fn move_all(
     possible
 }
 
-// The sets after the event: the first n instances of each policy move, instance `at` by the rows of its own events. A created
+// The sets after an event with these rows: the first n instances of each policy move, instance `at` by the rows of its own events. A created
 // resource's instance is first what that of a resource that never occurred is. What each policy may then be in is handed back.
+fn move_begun(
+    sets: &mut [u8; SETS],
+    n: usize,
+    at: usize,
+    creates: bool,
+    own: &[u8; ROWS],
+    other: &[u8; ROWS],
+) -> [u8; POLICIES]
+    requires sets_len { length sets.old ≡ set_places }
+    requires n_le_instances { n ≤ instances }
+    requires at_lt_n { at < n }
+    ensures sets_after { sets.new ≡ moved_by_rows own.now other.now creates at n sets.old }
+    ensures value { result ≡ gathered n (moved_by_rows own.now other.now creates at n sets.old) }
+{
+    if creates {
+        copy_unseen(sets, at);
+    }
+    move_all(sets, n, at, own, other)
+}
+
+// The same, of the event's rows.
 fn move_sets(
     edges: &[u8],
     sets: &mut [u8; SETS],
@@ -244,13 +265,10 @@ fn move_sets(
     ensures sets_after { sets.new ≡ event_sets (edges_of edges.now) action r at n sets.old }
     ensures value { result ≡ gathered n (event_sets (edges_of edges.now) action r at n sets.old) }
 {
-    if action == 0 {
-        copy_unseen(sets, at);
-    }
     let mut own = [0u8; ROWS];
     let mut other = [0u8; ROWS];
     automaton::moves::rows(edges, action, r, &mut own, &mut other);
-    move_all(sets, n, at, &own, &other)
+    move_begun(sets, n, at, action == 0, &own, &other)
 }
 
 fn take(
@@ -350,20 +368,22 @@ pub fn take_event(
     take(looked, edges, sets, possible, unclosed, n, at, action, r)
 }
 
-// Moves the sets of the first n instances on an event, instance `at` as that of its resource, and hands back what each policy may then be
-// in. Where there are not n instances, or n is not above `at`, nothing happens, and nothing is possible.
+// Moves the sets of the first n instances on an event with these rows, instance `at` as that of its resource, which it creates or not, and
+// hands back what each policy may then be in. Where there are not n instances, or n is not above `at`, nothing happens, and nothing is
+// possible.
 pub fn move_event(
-    edges: &[u8],
+    own: &[u8; ROWS],
+    other: &[u8; ROWS],
     sets: &mut [u8; SETS],
     n: usize,
     at: usize,
-    action: u32,
-    r: u32,
+    creates: bool,
 ) -> [u8; POLICIES]
     ensures sets_after { sets.new
-        ≡ cond (leb n instances && ltb at n) (event_sets (edges_of edges.now) action r at n sets.old) sets.old }
-    ensures value { result ≡ cond (leb n instances && ltb at n) (gathered n (event_sets (edges_of edges.now) action r at n sets.old))
-        (replicate policies 0) }
+        ≡ cond (leb n instances && ltb at n) (moved_by_rows own.now other.now creates at n sets.old)
+        sets.old }
+    ensures value { result ≡ cond (leb n instances && ltb at n)
+        (gathered n (moved_by_rows own.now other.now creates at n sets.old)) (replicate policies 0) }
 {
     if INSTANCES < n {
         return [0u8; POLICIES];
@@ -373,5 +393,5 @@ pub fn move_event(
     }
     let old = *sets;
     sets_known(old);
-    move_sets(edges, sets, n, at, action, r)
+    move_begun(sets, n, at, creates, own, other)
 }

@@ -21,7 +21,7 @@ pub mod KeptLaws
 pub mod StoredLaws
 pub mod StepLaws
 -- That it answers the same where the dynamic numbers are renamed.
-pub mod AlikeLaws
+pub mod RenamedLaws
 pub mod RenamedExamples
 -- That it answers the same to other steps where retirings are added.
 pub mod OthersLaws

@@ -13,7 +13,7 @@ use usage::{MOST_CREATED, MOST_UNCLOSED, POLICIES, RawStep};
 pub const PAIR_SETS: usize = monitor_pairs::PAIR_SETS;
 
 // What is tracked: the sets of states of the instances, as `monitor_sets::instances` lays them out, those of the policies about two
-// resources, of which none can be written yet, and for each policy the set of states that any of its instances may be in.
+// resources, and for each policy the set of states that any of its instances may be in.
 #[derive(Drop)]
 pub struct Tracked {
     pub sets: [u8; SETS],

@@ -11,7 +11,7 @@ use Rattle.sheet_reader.specs.Readers.{policies_read}
 use Rattle.monitor_state.specs.declared.Answer.{Answer}
 use Rattle.monitor_state.specs.Judge.{verdict_of, start_state}
 use Rattle.monitor_state.specs.Renamed.{Renaming, renamed_step}
-use Rattle.monitor_state.proofs.AlikeLaws.{start-same}
+use Rattle.monitor_state.proofs.RenamedLaws.{start-same}
 use Rattle.report_lines.specs.Lines.{names_line, rows}
 use Rattle.report.specs.Output.{printed}
 use Rattle.report.specs.Trace.{judged_rows, trace_rows, trace_printed}

@@ -44,12 +44,12 @@ use Rattle.sheet_writer.specs.Writer.{is_written, written_again}
 use Rattle.sheet_writer.specs.Promise.{OneWay}
 use Rattle.checker.specs.Summary.{Exact}
 use Rattle.monitor_lean.specs.Promise.{LeanAnswers, LeanAnswersAll}
-use Rattle.desk.specs.Desk.{Loaded, Desk, is_busy_lem}
-use Rattle.desk.specs.Promise.{outline_in}
-use Rattle.desk.specs.Layout.{desk_bytes}
-use Rattle.desk.specs.State.{desk_of}
-use Rattle.desk.specs.Calls.{Given, desk_code, plain, Called, ByPolicies, ByOutline, ByStep}
-use Rattle.desk.specs.Sequences.{Written, CallsPromise}
+use Rattle.desk_state.specs.Desk.{Loaded}
+use Rattle.desk_state.specs.Promise.{outline_in}
+use Rattle.desk_state.specs.State.{desk_of}
+use Rattle.desk_state.specs.Calls.{Called, ByOutline}
+use Rattle.desk_state.specs.Sequences.{Written, CallsPromise}
+use Rattle.desk_state.specs.Refusals.{DeskRefuses}
 use Rattle.report.specs.Output.{sheet_room}
 use Rattle.report.specs.Trace.{trace_printed}
 use Rattle.report.specs.Outline.{RightTexts, outline_printed}
@@ -301,31 +301,6 @@ pub record RunsFree (b : List ℕ) : Type 0 where
 -- the desk's own numbers: "in this order, after 40 to 42 and ahead of 5 and 20"
 abbrev pub desk_numbers : List ℕ
 desk_numbers = 40 ∷ 42 ∷ 50 ∷ 51 ∷ 52 ∷ []
-
--- a refusal that has no line, as the number that a call returns
-abbrev pub refused_by : ℕ → ℕ
-refused_by n = desk_code (plain (refused n))
-
--- of a call on any bytes at all: "40 also covers a shorter state, and 42 bytes that encode no desk state"
-pub record BytesRefuse (Does : Desk → Given → Desk → Type 0) : Type 0 where
-  pub too_short : (b : List ℕ) (r : ℕ) (b' : List ℕ) → Called Does b r b' → length b < desk_bytes → (r ≡ refused_by 40) × (b' ≡ b)
-  pub no_desk : (b : List ℕ) (r : ℕ) (b' : List ℕ) → Called Does b r b' → desk_bytes ≤ length b → desk_of b ≡ none
-      → (r ≡ refused_by 42) × (b' ≡ b)
-
--- then, each in its case, "50 a step before policies are loaded, 51 an outline loaded before policies, 52 a load while a sandbox is open and
--- the judge is not halted"
-pub record DeskRefuses : Type 0 where
-  pub policies_bytes : (text : List ℕ) → BytesRefuse (ByPolicies text)
-  pub outline_bytes : (text : List ℕ) → BytesRefuse (ByOutline text)
-  pub step_bytes : (raw : RawStep) → BytesRefuse (ByStep raw)
-  pub step_first : (raw : RawStep) (b : List ℕ) (r : ℕ) (b' : List ℕ) → Called (ByStep raw) b r b' → desk_bytes ≤ length b
-      → desk_of b ≡ some none → (r ≡ refused_by 50) × (b' ≡ b)
-  pub outline_first : (text b : List ℕ) (r : ℕ) (b' : List ℕ) → Called (ByOutline text) b r b' → desk_bytes ≤ length b
-      → desk_of b ≡ some none → (r ≡ refused_by 51) × (b' ≡ b)
-  pub policies_busy : (text b : List ℕ) (r : ℕ) (b' : List ℕ) → Called (ByPolicies text) b r b' → desk_bytes ≤ length b
-      → (d : Desk) → desk_of b ≡ some d → is_busy_lem d ≡ true → (r ≡ refused_by 52) × (b' ≡ b)
-  pub outline_busy : (text b : List ℕ) (r : ℕ) (b' : List ℕ) → Called (ByOutline text) b r b' → desk_bytes ≤ length b
-      → (d : Desk) → desk_of b ≡ some d → is_busy_lem d ≡ true → (r ≡ refused_by 52) × (b' ≡ b)
 
 pub record RoutineDesk : Type 0 where
   pub refuses : DeskRefuses

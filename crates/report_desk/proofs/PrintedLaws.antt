@@ -18,8 +18,8 @@ use Rattle.report_lines.specs.Put.{put_at, end_at}
 use Rattle.report_lines.proofs.PutLaws.{sets-append}
 use Rattle.report_lines.proofs.RowLaws.{length-desk-names}
 use Rattle.report.proofs.OutputLaws.{then-stored}
-use Rattle.desk.specs.Calls.{Called, ByStep}
-use Rattle.desk.specs.Sequences.{Stepped, done, next}
+use Rattle.desk_state.specs.Calls.{Called, ByStep}
+use Rattle.desk_state.specs.Sequences.{Stepped, done, next}
 use Rattle.report_desk.specs.Printed.{code_row, code_rows, TraceRows, judged, DeskRows, longest_desk_row, rows_room, desk_room, PrintsDesk}
 use Rattle.report_desk.specs.Code.{PutRows, StepRows, of_codes, JudgedRows, of_verdict}
 

@@ -7,9 +7,9 @@ use Rattle.usage.specs.Limits.{edge_places, node_places}
 use Rattle.sheet_lines.specs.Sheet.{sheet}
 use Rattle.sheet_lines.specs.Sheets.{is_local, trace_sheet}
 use Rattle.sheet_reader.specs.Readers.{policies_into, outline_into}
-use Rattle.desk.specs.Desk.{Desk, LoadAnswer, with_policies, LoadsPolicies, LoadsOutline}
-use Rattle.desk.specs.Desk as desk
-use Rattle.desk.specs.Calls.{Given, Called, too_short, no_desk, called, ByPolicies, ByOutline}
+use Rattle.desk_state.specs.Desk.{Desk, LoadAnswer, with_policies, LoadsPolicies, LoadsOutline}
+use Rattle.desk_state.specs.Desk as desk
+use Rattle.desk_state.specs.Calls.{Given, Called, too_short, no_desk, called, ByPolicies, ByOutline}
 use Rattle.report_desk.specs.Printed.{TraceRows, OutlineRows, DeskRows}
 
 -- two ways to answer that agree are called alike

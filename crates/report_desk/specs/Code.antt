@@ -2,7 +2,7 @@
 use Rattle.std.specs.Prelude.{ℕ, ◌+◌, ◌≤◌, ◌≡◌, List, ◌++◌, length}
 use Rattle.std.proofs.lemmas.List.Edits.{sets}
 use Rattle.usage.specs.declared.RawStep.{RawStep}
-use Rattle.desk.specs.Sequences.{Stepped}
+use Rattle.desk_state.specs.Sequences.{Stepped}
 use Rattle.report_desk.specs.Printed.{code_row, code_rows}
 
 -- right rows stand from `at` on, and r is the place after them; they have so much room at most

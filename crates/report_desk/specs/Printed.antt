@@ -8,9 +8,9 @@ use Rattle.sheet_lines.specs.Sheet.{accepted, refused, sheet}
 use Rattle.sheet_lines.specs.Sheets.{trace_sheet}
 use Rattle.report_lines.specs.Lines.{desk_names_line, desk_names_room, numbered_row_lem}
 use Rattle.report.specs.Output.{fronted}
-use Rattle.desk.specs.Layout.{desk_bytes}
-use Rattle.desk.specs.Calls.{Called, ByPolicies, ByOutline}
-use Rattle.desk.specs.Sequences.{Stepped}
+use Rattle.desk_state.specs.Layout.{desk_bytes}
+use Rattle.desk_state.specs.Calls.{Called, ByPolicies, ByOutline}
+use Rattle.desk_state.specs.Sequences.{Stepped}
 
 -- ── A returned number: detail + 256 * answer + 65536 * lean + 131072 * line ──
 

@@ -7,7 +7,7 @@ ghost use Rattle.report_desk.specs.Printed.{answer_in, detail_in, lean_in, code_
 ghost use Rattle.report_desk.specs.Printed.{longest_desk_row, rows_room, desk_room, PrintsDesk};
 ghost use Rattle.report_desk.specs.Code.{PutRows, StepRows, JudgedRows};
 
-use desk::DESK_BYTES;
+use desk_state::DESK_BYTES;
 use report_lines::DESK_NAMES;
 use sheet_lines::Reading;
 use usage::{MOST_STEPS, STEP_FIELDS, STEP_TABLE};

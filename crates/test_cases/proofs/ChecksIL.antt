@@ -24,7 +24,7 @@ use Rattle.automaton.specs.Move.{rows_at}
 use Rattle.checker_account.specs.Tables.{one_resource, places, rows_in}
 use Rattle.checker_account.specs.Filling.{forms_in, one, SearchedAll, found}
 use Rattle.checker_account.specs.RowTable.{fill_rows}
-use Rattle.checker.specs.Code.{opens, pair_in}
+use Rattle.checker.specs.Code.{opens}
 use Rattle.checker.proofs.PolicyLaws.{shut, looked}
 use Rattle.test_cases.specs.JudgeCases.{P}
 use Rattle.test_cases.specs.Cases.{CheckRight, edges_j, edges_k, nodes_i, nodes_j, nodes_l, case_i, case_j, case_k, case_l}
@@ -37,7 +37,7 @@ module _ (local : Bool) (e t : List ℕ) (edges : EdgeTable e) (nodes : NodeTabl
   pub not_left : (p : ℕ) → opens t p ≡ false → Leaves local (edges_of e) (nodes_of t) p → ⊥
   not_left p h = refutes (shut local e t edges.edges nodes.outline p h) refl
 
-  module _ (alone : pair_in e 0 ≡ false) where
+  module _ (alone : is_pair (edges_of e) 0 ≡ false) where
     searched : (answer : Bool) → SearchedAll local (rows_in (row_table e t 0)) 0 false (length t / node_fields) (forms_in t) answer
         → Decides answer (Leaves local (edges_of e) (nodes_of t) 0)
     unfolding row_table
@@ -64,7 +64,7 @@ module _ (local : Bool) (e t : List ℕ) (edges : EdgeTable e) (nodes : NodeTabl
   zero-or-more (suc p) = inr (omega arith)
 
   -- so many rounds show that no policy is, where no sandbox is but that of policy 0
-  pub none-broken : pair_in e 0 ≡ false → (j : List ℕ) (k : ℕ) → any_static t ≡ false → stays_at local e t 0 (one_resource watched) j k ≡ true → tells_at local e t 0 (one_resource watched) j k false ≡ true
+  pub none-broken : is_pair (edges_of e) 0 ≡ false → (j : List ℕ) (k : ℕ) → any_static t ≡ false → stays_at local e t 0 (one_resource watched) j k ≡ true → tells_at local e t 0 (one_resource watched) j k false ≡ true
       → ((p : ℕ) → 0 < p → opens t p ≡ false) → (p : ℕ) → Leaves local (edges_of e) (nodes_of t) p → ⊥
   none-broken alone j k h g d s p l =
       by_cases (zero-or-more p) (λ z. not-broken alone j k h g d (subst (Leaves local (edges_of e) (nodes_of t)) z l))
@@ -148,16 +148,16 @@ unfolding row_table tells-by tells_at
 broken-K = refl
 
 -- their policies are about one resource
-alone-P : pair_in P 0 ≡ false
-unfolding pair_in some_below
+alone-P : is_pair (edges_of P) 0 ≡ false
+unfolding is_pair some_of edges_of from
 alone-P = refl
 
-alone-J : pair_in edges_j 0 ≡ false
-unfolding pair_in some_below
+alone-J : is_pair (edges_of edges_j) 0 ≡ false
+unfolding is_pair some_of edges_of from
 alone-J = refl
 
-alone-K : pair_in edges_k 0 ≡ false
-unfolding pair_in some_below
+alone-K : is_pair (edges_of edges_k) 0 ≡ false
+unfolding is_pair some_of edges_of from
 alone-K = refl
 
 -- no sandbox but that of policy 0

@@ -3,7 +3,7 @@
 ghost use Rattle.std.specs.Prelude.{◌≡◌};
 ghost use Rattle.test_stored.specs.Code.{reading_code, policies_code_lem};
 
-use crate::{judge_calls, local_calls, order_calls, print, retire_calls, trace_calls};
+use crate::{judge_calls, local_calls, order_calls, pair_calls, print, retire_calls, trace_calls};
 use sheet_lines::Reading;
 use sheet_reader::PolicyReading;
 use usage::{EDGE_FIELDS, EDGE_TABLE, NODE_FIELDS, NODE_TABLE, STEP_TABLE};
@@ -68,7 +68,7 @@ fn table_calls() -> u64
 }
 
 pub(crate) fn calls() -> u64
-    ensures { result ≡ 145 }
+    ensures { result ≡ 151 }
 {
     judge_calls::step_calls();
     judge_calls::flag_calls();
@@ -78,5 +78,6 @@ pub(crate) fn calls() -> u64
     judge_calls::kept_calls();
     order_calls::order_calls();
     local_calls::local_calls();
-    retire_calls::calls()
+    retire_calls::calls();
+    pair_calls::calls()
 }

@@ -4,7 +4,7 @@ ghost use Rattle.std.specs.Prelude.{◌≡◌};
 
 use crate::rewritings::kept;
 use crate::{desk_cases, print};
-use desk::DESK_BYTES;
+use desk_state::DESK_BYTES;
 
 // States of one byte less and of three bytes more than are asked for.
 const TOO_SHORT: usize = DESK_BYTES - 1;

@@ -5,7 +5,7 @@
 ghost use Rattle.std.specs.Prelude.{◌≡◌, ◌≤◌, length};
 
 use crate::{print, stored};
-use desk::DESK_BYTES;
+use desk_state::DESK_BYTES;
 use sheet_lines::{Reading, SHEET_ROOM};
 use usage::{MOST_STEPS, STEP_FIELDS, STEP_TABLE};
 

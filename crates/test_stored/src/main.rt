@@ -11,6 +11,7 @@ mod lean_calls;
 mod lent;
 mod local_calls;
 mod order_calls;
+mod pair_calls;
 mod print;
 mod retire_calls;
 mod rewritings;
@@ -18,16 +19,16 @@ mod stored;
 mod trace_calls;
 
 fn main() {
-    stored::traces(1050);
+    stored::traces(1200);
     stored::outlines(1000);
-    counterexamples::all(320);
-    rewritings::all(450);
+    counterexamples::all(400);
+    rewritings::all(480);
     borders::calls();
     rewritings::calls();
     expressions::all(900);
     expressions::room_calls();
     lean::summaries(b'o', 1000);
-    lean::summaries(b'c', 320);
+    lean::summaries(b'c', 400);
     lean::all(240);
     lean_calls::calls();
     desk_cases::all(300);

@@ -1,7 +1,7 @@
 //! Calls of the functions themselves: at the borders of the refusals that no sheet can bring about, 21, 40, 41 and 42; what the check with a
 //! counterexample leaves in the table that it is lent; on states whose kept sets disagree with their instance sets; on orders of
-//! unclosed openings, right and damaged, and what is left of them; with the number that tells which past the policies see; and about the
-//! highest number and retirings.
+//! unclosed openings, right and damaged, and what is left of them; with the number that tells which past the policies see; about the
+//! highest number and retirings; and about pair policies in a table.
 
 use crate::counterexample::counterexample_tables;
 use crate::judge::Step;
@@ -247,6 +247,21 @@ fn retiring_lines() -> Vec<String> {
     ]
 }
 
+/// "At most two policies may be such": two of them, with a further edge of one; that edge with a resource named, and on more than y; an edge
+/// of a third policy, on x and on y.
+fn pair_lines() -> Vec<String> {
+    let table = |policy: u64, on: u64, who: u64| [[0, 0, 0, 3, 0, 0], [5, 0, 0, 3, 0, 0], [policy, 0, 0, on, who, 0]].concat();
+    let end = [0; 3];
+    vec![
+        checked(&table(5, 3, 0), 0, &end),
+        checked(&table(5, 3, 1), 0, &end),
+        checked(&table(5, 4, 0), 0, &end),
+        checked(&table(7, 1, 0), 0, &end),
+        checked(&table(7, 3, 0), 0, &end),
+        explained(&table(7, 3, 0), 0, &end, 600),
+    ]
+}
+
 fn told((answer, detail): Line) -> String {
     format!("{answer} {detail}")
 }
@@ -435,5 +450,6 @@ pub fn lines() -> String {
         kept(1, 64, [0, 1, 0]),
     ];
     let lines = lines.into_iter().chain(order_lines()).chain(local_lines()).chain(highest_lines()).chain(retiring_lines());
+    let lines = lines.chain(pair_lines());
     lines.enumerate().map(|(number, line)| format!("{} {line}\n", number + 1)).collect()
 }

@@ -10,10 +10,8 @@ pub const ON_OWN: u64 = 1;
 pub const ON_OTHER: u64 = 2;
 pub const ON_SECOND: u64 = 3;
 
-/// "on" is below this in every sheet. With 4, sheets have pair policies: "An edge may have on 3".
-pub const KINDS_OF_ON: u64 = 3;
-/// Do sheets have pair policies?
-pub const PAIRS_ALLOWED: bool = ON_SECOND < KINDS_OF_ON;
+/// "on" is below this in every sheet: "An edge may have on 3", and "3 now means on above 3".
+pub const KINDS_OF_ON: u64 = 4;
 /// "At most two policies may be such."
 pub const MOST_PAIRS: usize = 2;
 

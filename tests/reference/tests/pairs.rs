@@ -1,5 +1,5 @@
 //! Pair policies: the definition by hand, and the check, the shortest counterexamples and the summary against explicit runs. The policies are
-//! handed over as edges, since no sheet has them while `KINDS_OF_ON` is 3.
+//! handed over as edges.
 
 mod held;
 
@@ -12,7 +12,7 @@ use reference::generate::{cases, Kind};
 use reference::judge::{Answer, Judge, Step, RETIRE};
 use reference::least::{shortest_length, shortest_run};
 use reference::policy::{
-    pair_policies, Edge, Policies, Policy, Sight, ON_OTHER, ON_OWN, ON_SECOND, PAIRS_ALLOWED, POLICIES,
+    pair_policies, Edge, Policies, Policy, Sight, ON_OTHER, ON_OWN, ON_SECOND, POLICIES,
 };
 use reference::pushdown::{breaks, replay, witness, Witness};
 use reference::rng::Rng;
@@ -100,8 +100,8 @@ fn pair_policies_are_told_by_an_edge_on_y() {
     let on = |policy, on| Edge::new([policy, 0, 1, on, 0, 1]);
     let edges = [on(5, ON_OWN), on(3, ON_SECOND), on(1, ON_OTHER), on(3, ON_SECOND), on(0, ON_SECOND)];
     assert_eq!(pair_policies(&edges), [3, 0]);
-    // an edge on y is in range exactly where sheets have it
-    assert_eq!(on(3, ON_SECOND).fits(), PAIRS_ALLOWED);
+    assert!(on(3, ON_SECOND).fits());
+    assert!(!on(3, ON_SECOND + 1).fits());
     assert!(!Edge::new([3, 0, 1, ON_SECOND, 1, 1]).fits());
 }
 
@@ -180,8 +180,7 @@ fn a_third_pair_policy_is_refused() {
     let on = |policy| Edge::new([policy, 0, 1, ON_SECOND, 0, 1]);
     let asked = |edges: &[Edge]| judge_state(edges, 0, &State { halted: 1, ..State::start() }, Step::open(0)).0;
     assert_eq!(asked(&[on(7), on(0), on(3)]), Answer::Refused(41));
-    let told = Answer::Refused(if PAIRS_ALLOWED { 20 } else { 41 });
-    assert_eq!(asked(&[on(7), on(0), on(7)]), told);
+    assert_eq!(asked(&[on(7), on(0), on(7)]), Answer::Refused(20));
 }
 
 /// Some edges on x and on others become ones on y.

@@ -3,7 +3,6 @@
 use reference::damage::{crowded, padded};
 use reference::generate::fixed::{outline, policies, trace, OUTLINE_I, TRACE};
 use reference::generate::malformed;
-use reference::policy::PAIRS_ALLOWED;
 use reference::sheet::{
     read_outline, read_policies, read_trace, Refusal, OUTLINE_NAMES, POLICY_NAMES, TRACE_NAMES,
 };
@@ -160,17 +159,15 @@ fn ranges() {
     ] {
         assert_eq!(read_policies(&policies(line)).err(), Some(refused(3, 2)), "{line}");
     }
-    // an edge on y, where sheets have it
-    let second = read_policies(&policies("0 0 0 3 0 0")).err();
-    assert_eq!(second, if PAIRS_ALLOWED { None } else { Some(refused(3, 2)) });
+    assert_eq!(read_policies(&policies("0 0 0 3 0 0")).err(), None);
 }
 
-/// Where sheets have pair policies: 14 at the line of the third, after 3 there and before what is wrong further down.
+/// 14 at the line of the third, after 3 there and before what is wrong further down.
 #[test]
 fn a_third_pair_policy() {
     let told = |values: &str| read_policies(&policies(&format!("1 0 1 3 0 1; 5 0 1 3 0 1; 1 0 2 3 0 1; {values}"))).err();
-    let at = |number: u32, line: usize| Some(if PAIRS_ALLOWED { refused(number, line) } else { refused(3, 2) });
-    assert_eq!(told(""), if PAIRS_ALLOWED { None } else { at(3, 2) });
+    let at = |number: u32, line: usize| Some(refused(number, line));
+    assert_eq!(told(""), None);
     assert_eq!(told("3 0 1 3 0 1"), at(14, 5));
     assert_eq!(told("3 0 1 1 0 1; 3 0 1 3 0 1; 0 0 1 3 0 1"), at(14, 6));
     assert_eq!(told("3 0 1 3 0 1; x"), at(14, 5));

@@ -2,7 +2,7 @@
 
 use reference::borders;
 use reference::least::shortest_length;
-use reference::policy::{Policy, PAIRS_ALLOWED};
+use reference::policy::Policy;
 use reference::program::{check, monitor, shown, tables, write};
 use reference::pushdown::{self, replay, witness, Witness};
 use reference::sheet::{read_outline, read_policies};
@@ -166,8 +166,7 @@ fn rewritings() {
         let refused = text.strip_prefix("line answer detail\n");
         seen.insert(refused.map_or(0, |line| numbers(line.trim_end())[2]));
     }
-    let third = PAIRS_ALLOWED.then_some(14);
-    assert_eq!(seen, [0, 1, 2, 3, 4, 5, 11, 12, 13].into_iter().chain(third).collect());
+    assert_eq!(seen, [0, 1, 2, 3, 4, 5, 11, 12, 13, 14].into_iter().collect());
 }
 
 fn numbers(line: &str) -> Vec<u64> {

@@ -1,7 +1,7 @@
 use mathlib.Core.Path.{ap, ap₂}
 use mathlib.Core.Bool.{◌&&◌}
 use lib.Dec.{ltb}
-use Rattle.checker_account.specs.Single.{no_name}
+use Rattle.checker_account.specs.Pairs.{no_name}
 use Rattle.checker_tables.specs.Search.{small}
 use Rattle.checker_tables.proofs.OtherLaws.{no_number}
 use borrow.Author.Rules.{rules}

@@ -1,8 +1,8 @@
 use mathlib.Core.Path.{subst}
 use Rattle.usage.proofs.Logic.{not-true, not-false}
-use Rattle.desk.specs.Desk.{is_busy_lem, LoadsOutline}
-use Rattle.desk.specs.Calls.{Called, too_short, no_desk, called, ByOutline, loaded}
-use Rattle.desk.proofs.CallLaws.{nothing-loaded}
+use Rattle.desk_state.specs.Desk.{is_busy_lem, LoadsOutline}
+use Rattle.desk_state.specs.Calls.{Called, too_short, no_desk, called, ByOutline, loaded}
+use Rattle.desk_state.proofs.CallLaws.{nothing-loaded}
 use Rattle.desk.proofs.LoadLaws.{no-desk-of, loaded-desk}
 use Rattle.desk.proofs.OutlineLoadLaws.{outline_busy}
 use native.Mathlib.Omega.{arith}

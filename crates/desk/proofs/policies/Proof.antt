@@ -1,7 +1,7 @@
 use mathlib.Core.Path.{subst}
 use Rattle.usage.proofs.Logic.{not-true, not-false}
-use Rattle.desk.specs.Desk.{is_busy_lem}
-use Rattle.desk.specs.Calls.{Called, too_short, no_desk, ByPolicies}
+use Rattle.desk_state.specs.Desk.{is_busy_lem}
+use Rattle.desk_state.specs.Calls.{Called, too_short, no_desk, ByPolicies}
 use Rattle.desk.proofs.LoadLaws.{no-desk-of, desk-of, desk-by, policies_busy}
 use native.Mathlib.Omega.{arith}
 use mathlib.Core.Path.{◌≡◌, refl, sym, ap, ◌∙◌}

@@ -1,7 +1,7 @@
 use mathlib.Core.Path.{subst}
 use Rattle.usage.proofs.Logic.{not-true, not-false}
-use Rattle.desk.specs.Calls.{Called, too_short, no_desk, called, ByStep, replied}
-use Rattle.desk.proofs.CallLaws.{nothing-loaded, bad-head}
+use Rattle.desk_state.specs.Calls.{Called, too_short, no_desk, called, ByStep, replied}
+use Rattle.desk_state.proofs.CallLaws.{nothing-loaded, bad-head}
 use native.Mathlib.Omega.{arith}
 use mathlib.Core.Path.{◌≡◌, refl, sym, ap, ◌∙◌}
 use Prim.Native.Nat.{ℕ, suc, ◌+◌, ◌-◌, ◌≤◌, ◌<◌}

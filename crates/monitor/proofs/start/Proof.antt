@@ -3,7 +3,7 @@
 use mathlib.Core.Path.{refl}
 use Rattle.monitor_state.specs.Judge.{start_state, start_tracked, start_created, start_unclosed}
 use Rattle.monitor_state.proofs.StartLaws.{begin-represents}
-use Rattle.monitor_state.proofs.AlikeLaws.{start-same}
+use Rattle.monitor_state.proofs.RenamedLaws.{start-same}
 use Rattle.monitor_state.proofs.OthersLaws.{others-kept}
 use Rattle.monitor.proofs.start.Statement.{statement}
 use Rattle.monitor.proofs.start.Tie as tie

@@ -14,7 +14,7 @@ use super::trees::{choice, fresh, looped, number, sandbox, sequence, Tree};
 use super::Case;
 use crate::damage::rows;
 use crate::outline::Node;
-use crate::policy::{ON_OTHER, ON_OWN, ON_STATIC, PAIRS_ALLOWED};
+use crate::policy::{ON_OTHER, ON_OWN, ON_STATIC};
 use crate::rng::Rng;
 use crate::sheet::{OUTLINE_NAMES, POLICY_NAMES};
 
@@ -29,9 +29,7 @@ pub fn fixed_cases() -> Vec<Case> {
     cases.extend(accepted_cases());
     cases.extend(refused_cases());
     cases.extend(local_cases());
-    if PAIRS_ALLOWED {
-        cases.extend(both(verdict_cases()));
-    }
+    cases.extend(both(verdict_cases()));
     cases
 }
 

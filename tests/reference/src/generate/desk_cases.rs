@@ -10,7 +10,7 @@ use crate::desk_bytes::{
     PAIRS, POSITION_COUNT, POSSIBLE, ROWS, ROW_BYTES, SETS, STATE_BYTES, UNCLOSED,
 };
 use crate::judge::Step;
-use crate::policy::{Sight, KINDS_OF_ON, PAIRS_ALLOWED, STATICS};
+use crate::policy::{Sight, KINDS_OF_ON, STATICS};
 use crate::positions::next_steps;
 use crate::sheet::{LONGEST, OUTLINE_NAMES, POLICY_NAMES, TRACE_NAMES};
 use crate::state::INSTANCES;
@@ -40,9 +40,7 @@ pub fn fixed() -> Vec<Session> {
     sessions.extend(limits().iter().map(|nodes| walked(nodes_sheet(nodes))));
     sessions.extend(many());
     sessions.extend(pokes());
-    if PAIRS_ALLOWED {
-        sessions.extend(paired());
-    }
+    sessions.extend(paired());
     sessions
 }
 

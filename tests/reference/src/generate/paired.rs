@@ -1,4 +1,4 @@
-//! Fixed calls of the judge under pair policies, where sheets have such, on states that need not have been reached: which block is whose,
+//! Fixed calls of the judge under pair policies, on states that need not have been reached: which block is whose,
 //! what each step makes of it, what is gathered, and three pair policies in a table.
 
 use crate::judge::{Step, CREATE};

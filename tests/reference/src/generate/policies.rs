@@ -1,6 +1,6 @@
 //! Random policies over a small choice of actions, statics and policies.
 
-use crate::policy::{Edge, Policies, Sight, MOST_PAIRS, ON_OTHER, ON_OWN, ON_SECOND, ON_STATIC, PAIRS_ALLOWED};
+use crate::policy::{Edge, Policies, Sight, MOST_PAIRS, ON_OTHER, ON_OWN, ON_SECOND, ON_STATIC};
 use crate::rng::Rng;
 
 /// What a case is about. The actions do not hold create.
@@ -55,21 +55,24 @@ pub fn sighted(rng: &mut Rng, edges: Vec<Edge>) -> Policies {
     Policies { sight: rng.pick(&Sight::BOTH), edges }
 }
 
-/// These edges, in half of the sheets with pair policies, where sheets have such.
+/// These edges, in half of the sheets with pair policies; a few have no edge that could be on y.
 pub fn paired(rng: &mut Rng, edges: Vec<Edge>) -> Vec<Edge> {
-    if PAIRS_ALLOWED && rng.percent(50) { with_pairs(rng, edges) } else { edges }
+    if rng.percent(55) { with_pairs(rng, edges) } else { edges }
 }
 
-/// One or two of the policies become pair policies, if they have edges on x or on others: some of these are on y instead.
+/// One or two of the policies that have edges on x or on others become pair policies: some of these edges, or one of them, are on y instead.
 pub fn with_pairs(rng: &mut Rng, mut edges: Vec<Edge>) -> Vec<Edge> {
-    let mut policies: Vec<u64> = edges.iter().map(|edge| edge.policy).collect();
+    let mut policies: Vec<u64> = edges.iter().filter(|edge| edge.on != ON_STATIC).map(|edge| edge.policy).collect();
     policies.sort_unstable();
     policies.dedup();
     for _ in 0..rng.between(1, MOST_PAIRS as u64).min(policies.len() as u64) {
         let policy = policies.remove(rng.below(policies.len() as u64) as usize);
-        for edge in edges.iter_mut().filter(|edge| edge.policy == policy && edge.on != ON_STATIC) {
-            if rng.percent(if edge.on == ON_OWN { 50 } else { 15 }) {
-                edge.on = ON_SECOND;
+        let places: Vec<usize> = (0..edges.len()).filter(|at| edges[*at].policy == policy && edges[*at].on != ON_STATIC).collect();
+        let one = rng.pick(&places);
+        for at in places {
+            let often = if edges[at].on == ON_OWN { 45 } else { 10 };
+            if at == one || rng.percent(often) {
+                edges[at].on = ON_SECOND;
             }
         }
     }

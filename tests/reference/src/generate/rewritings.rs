@@ -4,7 +4,7 @@
 use super::fixed::paired::third_pairs;
 use super::malformed;
 use crate::damage::{crowded, damaged, edit_line, random_damage, respaced, rows, sheet, Text};
-use crate::policy::{Sight, MOST_PAIRS, ON_SECOND, PAIRS_ALLOWED, STATICS};
+use crate::policy::{Sight, MOST_PAIRS, ON_SECOND, STATICS};
 use crate::rng::Rng;
 use crate::sheet::{policy_names, MOST_DIGITS, MOST_EDGES};
 
@@ -32,9 +32,7 @@ pub fn fixed_cases() -> Vec<Text> {
         let full = full_rows();
         let falling: Vec<Row> = full.iter().rev().copied().collect();
         cases.extend(SHORT.iter().map(|values| sheet(names, values)));
-        if PAIRS_ALLOWED {
-            cases.extend(PAIRED.iter().map(|values| sheet(names, values)));
-        }
+        cases.extend(PAIRED.iter().map(|values| sheet(names, values)));
         cases.extend([
             rows(names, full.clone()),
             rows(names, falling.clone()),
@@ -47,13 +45,11 @@ pub fn fixed_cases() -> Vec<Text> {
         cases.extend(damaged(&sheet(names, "7 6 31 0 15 7; 0 0 2 1 0 6; 0 0 10 1 0 1")));
     }
     cases.extend(malformed::policies());
-    if PAIRS_ALLOWED {
-        cases.extend(third_pairs());
-    }
+    cases.extend(third_pairs());
     cases
 }
 
-/// With edges on y, where sheets have such: in order and out of it, twice, of two policies.
+/// With edges on y: in order and out of it, twice, of two policies.
 const PAIRED: [&str; 4] = [
     "3 3 3 3 0 3; 3 3 3 2 0 3; 3 3 3 0 15 3; 3 3 3 1 0 3",
     "7 7 31 3 0 7; 0 0 0 3 0 0; 7 7 31 2 0 7; 0 0 0 0 0 0",
@@ -136,7 +132,7 @@ pub fn random_case(rng: &mut Rng) -> Text {
     let most = if rng.percent(15) { MOST_EDGES as u64 } else { rng.pick(&[3, 8, 30]) };
     let count = if rng.percent(10) { most } else { rng.below(most + 1) };
     let few = rng.percent(40);
-    let pairs = if PAIRS_ALLOWED && rng.percent(50) { pair_numbers(rng, few) } else { vec![] };
+    let pairs = if rng.percent(65) { pair_numbers(rng, few) } else { vec![] };
     let mut edges: Vec<Row> = Vec::new();
     for _ in 0..count {
         edges.push(if !edges.is_empty() && rng.percent(20) {
@@ -169,6 +165,9 @@ fn random_row(rng: &mut Rng, few: bool, pairs: &[u64]) -> Row {
     let mut row = LARGEST.map(|largest| rng.below(if few { 2 } else { largest + 1 }));
     if few && rng.percent(50) {
         row[2] = rng.pick(&[1, 2, 10, 11, 20]);
+    }
+    if !pairs.is_empty() && rng.percent(30) {
+        row[0] = rng.pick(pairs);
     }
     if pairs.contains(&row[0]) && rng.percent(40) {
         row[3] = ON_SECOND;

@@ -7,7 +7,7 @@ use super::policies::{paired, random_edges, Palette};
 use super::retirings;
 use crate::judge::{Step, CREATE, LARGEST_RESOURCE, MOST_CREATED};
 use crate::pair_sets::{union, Block};
-use crate::policy::{pair_policies, Edge, KINDS_OF_ON, MOST_PAIRS, ON_SECOND, PAIRS_ALLOWED, POLICIES, STATICS};
+use crate::policy::{pair_policies, Edge, KINDS_OF_ON, MOST_PAIRS, ON_SECOND, POLICIES, STATICS};
 use crate::rng::Rng;
 use crate::state::{Call, State, FIRST_LIVE, INSTANCES, NEVER};
 
@@ -18,8 +18,7 @@ pub fn calls(seed: u64, count: usize) -> Vec<Call> {
 }
 
 pub fn fixed_calls() -> Vec<Call> {
-    let paired = if PAIRS_ALLOWED { paired::fixed_calls() } else { vec![] };
-    [kept_calls(), orders::fixed_calls(), sandboxes::fixed_calls(), retirings::fixed_calls(), paired].concat()
+    [kept_calls(), orders::fixed_calls(), sandboxes::fixed_calls(), retirings::fixed_calls(), paired::fixed_calls()].concat()
 }
 
 pub fn random_calls(seed: u64, count: usize) -> Vec<Call> {
@@ -298,7 +297,7 @@ fn damage_edges(rng: &mut Rng, edges: &mut Vec<Edge>) {
         0 => edge.policy = 8,
         1 => edge.from = 8,
         2 => edge.action = 32,
-        3 if PAIRS_ALLOWED && rng.percent(60) => *edges = three_pairs(rng),
+        3 if rng.percent(60) => *edges = three_pairs(rng),
         3 => edge.on = KINDS_OF_ON,
         4 if edge.on == 0 => edge.who = 16,
         4 => edge.who = 1,

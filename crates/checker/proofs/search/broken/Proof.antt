@@ -18,8 +18,8 @@ use Rattle.checker_account.specs.Choices.{choice_count, choice_at}
 use Rattle.checker_account.proofs.ChoiceLaws.{choice-asked, asked-numbered}
 use Rattle.checker_tables.specs.Search.{has_room, SearchedIn, SearchedIf}
 use Rattle.checker_tables.proofs.FitLaws.{outline-fits}
-use Rattle.checker.specs.Code.{worth_of}
-use Rattle.checker.proofs.WorthLaws.{not-worth}
+use Rattle.checker_tables.specs.Search.{worth_of}
+use Rattle.checker_tables.proofs.WorthLaws.{not_worth}
 use Rattle.checker.proofs.search.broken.Statement.{statement}
 use Rattle.checker.proofs.search.broken.Tie as tie
 
@@ -38,7 +38,7 @@ Clear nodes local rows p pair j =
 skipped : (nodes : List ℕ) (local : Bool) (rows : List ℕ) (p : ℕ) (pair : Bool) (j : ℕ) (x : Resources) (r : Bool) → x ≡ choice_at pair j
     → r ≡ worth_of nodes x → r ≡ false → Clear nodes local rows p pair j
 skipped nodes local rows p pair j x r same h e =
-    inl (subst (Skips (length nodes / node_fields) (forms_in nodes)) same (not-worth nodes x (sym h ∙ e)))
+    inl (subst (Skips (length nodes / node_fields) (forms_in nodes)) same (not_worth nodes x (sym h ∙ e)))
 
 abbrev invariant-loop : tie.invariant-loop
 invariant-loop nodes rows local p pair n i₀ i = (i ≤ n) × ((j : ℕ) → j < i → Clear nodes local rows p pair j)

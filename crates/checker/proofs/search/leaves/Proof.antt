@@ -1,6 +1,8 @@
-use mathlib.Core.Path.{sym, ◌∙◌}
+use Prim.Native.Nat.{ℕ}
+use mathlib.Core.Path.{sym, ap, ◌∙◌}
 use Rattle.usage.specs.Tables.{edges_of}
 use Rattle.usage.proofs.Logic.{not-true}
+use Rattle.automaton.specs.Mask.{has}
 use Rattle.automaton.specs.Move.{rows_at}
 use Rattle.checker.proofs.PolicyLaws.{few_nodes, shut, bare, looked-by}
 use borrow.Author.Rules.{rules}
@@ -44,9 +46,10 @@ returns-3 c =
     let f = c.before.before.fill in
     let k = c.before.before.before.before.is-pair in
     let e =
-    f.ensures ∙ whole_in (rows_at (edges_of a.edges.now)) k.result a.p a.nodes.now p.1.1
+    f.ensures ∙ whole_in (rows_at (edges_of a.edges.now)) k.result a.p a.nodes.now p.1.1.0
     (few_nodes a.local a.edges.now a.nodes.now p.0 p.1.0) in
-    looked-by a.local a.edges.now a.nodes.now p.0 p.1.0 a.p p.1.1 k.result k.ensures
+    looked-by a.local a.edges.now a.nodes.now p.0 p.1.0 a.p p.1.1.0 k.result
+    (k.ensures ∙ ap (λ (m : ℕ). has m a.p) p.1.1.1)
     f.new.1.1.1.1.0 e c.broken.result
     c.broken.ensures
 

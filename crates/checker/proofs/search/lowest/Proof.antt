@@ -13,19 +13,18 @@ use Rattle.checker.proofs.search.lowest.Statement.{statement}
 use Rattle.checker.proofs.search.lowest.Tie as tie
 
 abbrev invariant-loop : tie.invariant-loop
-invariant-loop edges local nodes p₀ p = (p ≤ policies) × ((s : ℕ) → s < p → Leaves local (edges_of edges) (nodes_of nodes) s → ⊥)
+invariant-loop edges pairs local nodes p₀ p = (p ≤ policies) × ((s : ℕ) → s < p → Leaves local (edges_of edges) (nodes_of nodes) s → ⊥)
 
 abbrev decreases-loop : tie.decreases-loop
-decreases-loop edges local nodes p₀ p = policies - p
+decreases-loop edges pairs local nodes p₀ p = policies - p
 
 loop-holds : tie.Need-loop-init invariant-loop decreases-loop
 loop-holds c = (search rules, λ s h l. not-suc-le-zero h)
 
 leaves-requires : tie.Need-leaves-requires invariant-loop decreases-loop
-leaves-requires c κs = (
-  c.before.before.before.before.requires.0,
-  (c.before.before.before.before.requires.1, (let h = c.loop-test.true in omega arith)),
-)
+leaves-requires c κs =
+    let p = c.before.before.before.before.requires in
+    (p.0, (p.1.0, ((let h = c.loop-test.true in omega arith), p.1.1)))
 
 returns : tie.Need-returns invariant-loop decreases-loop
 returns c =
@@ -33,7 +32,7 @@ returns c =
     let h = c.before.before.before.before.before.before.requires in
     let l = c.before.before.before.loop in
     let k = c.before.before.loop-test.true in
-    named-lowest a.local a.edges.now a.nodes.now h.0 h.1 l.p (omega arith)
+    named-lowest a.local a.edges.now a.nodes.now h.0 h.1.0 l.p (omega arith)
     (c.before.leaves.ensures.0 c.if1.true)
     l.invariant.1
 
@@ -58,7 +57,7 @@ returns-2 c =
     let h = c.before.before.before.before.requires in
     let l = c.before.loop in
     let e : l.p ≡ policies = omega arith in
-    all-good a.local a.edges.now a.nodes.now h.0 h.1 (λ s k. l.invariant.1 s (omega arith))
+    all-good a.local a.edges.now a.nodes.now h.0 h.1.0 (λ s k. l.invariant.1 s (omega arith))
 
 pub lowest-spec : {M : Type 1} → statement M
 lowest-spec =

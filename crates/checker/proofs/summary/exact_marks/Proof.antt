@@ -1,7 +1,9 @@
-use mathlib.Core.Path.{sym, ◌∙◌}
+use Prim.Native.Nat.{ℕ}
+use mathlib.Core.Path.{sym, ap, ◌∙◌}
 use borrow.Author.Rules.{rules}
 use Rattle.usage.specs.Tables.{edges_of}
 use Rattle.usage.proofs.Logic.{not-true}
+use Rattle.automaton.specs.Mask.{has}
 use Rattle.automaton.specs.Move.{rows_at}
 use Rattle.checker_rows.proofs.WholeLaws.{whole_in}
 use Rattle.checker.proofs.PolicyLaws.{few_nodes, shut, bare}
@@ -47,9 +49,10 @@ returns-3 c =
     let f = c.before.before.fill in
     let k = c.before.before.before.before.is-pair in
     let e =
-    f.ensures ∙ whole_in (rows_at (edges_of a.edges.now)) k.result a.p a.nodes.now p.1.1
+    f.ensures ∙ whole_in (rows_at (edges_of a.edges.now)) k.result a.p a.nodes.now p.1.1.0
     (few_nodes a.local a.edges.now a.nodes.now p.0 p.1.0) in
-    policy-exact-by a.local a.edges.now a.nodes.now p.0 p.1.0 a.p p.1.1 k.result k.ensures
+    policy-exact-by a.local a.edges.now a.nodes.now p.0 p.1.0 a.p p.1.1.0 k.result
+    (k.ensures ∙ ap (λ (m : ℕ). has m a.p) p.1.1.1)
     f.new.1.1.1.1.0 e c.policy-marks.result
     c.policy-marks.ensures
 

@@ -9,11 +9,11 @@ use Rattle.checker.proofs.summary.write.Statement.{statement}
 use Rattle.checker.proofs.summary.write.Tie as tie
 
 abbrev invariant-loop : tie.invariant-loop
-invariant-loop edges local nodes marks₀ p₀ marks p =
+invariant-loop edges pairs local nodes marks₀ p₀ marks p =
     (p ≤ policies) × ((length marks ≡ length marks₀) × Writing local edges nodes marks₀ p marks)
 
 abbrev decreases-loop : tie.decreases-loop
-decreases-loop edges local nodes marks₀ p₀ marks p = policies - p
+decreases-loop edges pairs local nodes marks₀ p₀ marks p = policies - p
 
 loop-holds : tie.Need-loop-init invariant-loop decreases-loop
 loop-holds c =
@@ -23,7 +23,7 @@ loop-holds c =
 exact-marks-requires : tie.Need-exact-marks-requires invariant-loop decreases-loop
 exact-marks-requires c κs =
     let p = c.before.before.before.before.before.requires in
-    (p.0, (p.1.0, search rules))
+    (p.0, (p.1.0, (search rules, p.1.1.1)))
 
 mul-marks : tie.Need-overflow-mul-marks invariant-loop decreases-loop
 mul-marks c = search rules
@@ -40,7 +40,7 @@ loop-less c = search rules
 loop-again : tie.Need-loop-preserved invariant-loop decreases-loop
 loop-again c =
     let a = c.before.before.before.before.before.before.args in
-    let room = c.before.before.before.before.before.before.requires.1.1 in
+    let room = c.before.before.before.before.before.before.requires.1.1.0 in
     let t = c.before.before.loop in
     let few : policies ≤ length t.marks = subst (λ (n : ℕ). policies ≤ n) (sym t.invariant.1.0) room in (
       search rules,

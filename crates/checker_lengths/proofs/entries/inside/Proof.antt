@@ -1,20 +1,20 @@
 use borrow.Author.Tests.{lt-ltb, le-ltb}
-use Rattle.checker_lengths.specs.Entries.{in_table}
+use Rattle.checker_lengths.specs.Entries.{is_entry}
 use Rattle.checker_lengths.proofs.entries.inside.Statement.{statement}
 use Rattle.checker_lengths.proofs.entries.inside.Tie as tie
 use Rattle.checker_lengths.proofs.entries.inside.Reads as reads
 use Rattle.checker_lengths.proofs.entries.inside.Lts as lts
 
 returns : tie.Need-returns
-unfolding in_table
+unfolding is_entry
 returns c = simp (le-ltb _ _ c.if1.true)
 
 returns-2 : tie.Need-returns-2
-unfolding in_table
+unfolding is_entry
 returns-2 c = simp (lt-ltb _ _ c.before.before.if1.false, le-ltb _ _ c.if2.true)
 
 returns-3 : tie.Need-returns-3
-unfolding in_table
+unfolding is_entry
 returns-3 c = simp (
   lt-ltb _ _ c.before.before.before.before.if1.false,
   lt-ltb _ _ c.before.before.if2.false,
@@ -22,7 +22,7 @@ returns-3 c = simp (
 )
 
 returns-4 : tie.Need-returns-4
-unfolding in_table
+unfolding is_entry
 returns-4 c = rw (
   lt-ltb _ _ c.before.before.before.before.before.if1.false,
   lt-ltb _ _ c.before.before.before.if2.false,

@@ -1,3 +1,5 @@
+use lib.ListN.{length-replicate, replicate}
+use Rattle.checker_lengths.specs.Entries.{size_of}
 use mathlib.Core.Path.{◌≡◌, sym, ap, ap₂, ◌∙◌, subst}
 use mathlib.Core.Bool.{Bool, true, false}
 use mathlib.Core.Option.{Option}
@@ -12,14 +14,14 @@ use Rattle.usage.specs.Limits.{most_nodes, node_fields}
 use Rattle.usage.specs.Outline.{Form}
 use Rattle.outline_nodes.specs.declared.NodeForm.{NodeForm}
 use Rattle.outline_nodes.specs.Said.{said_by}
-use Rattle.checker_account.specs.Tables.{one_resource, meanings, least}
+use Rattle.checker_account.specs.Tables.{meanings, least}
 use Rattle.checker_account.specs.Filling.{forms_in}
 use Rattle.automaton.specs.Mask.{has}
 use Rattle.checker_tables.specs.Search.{NodesFit}
 use Rattle.checker_tables.specs.Work.{readers_of}
 use Rattle.checker_tables.proofs.WorkLaws.{shl-node}
 use Rattle.checker_tables.proofs.FitLaws.{readers-fit}
-use Rattle.checker_lengths.specs.declared.WatchOne.{WatchOne}
+use Rattle.checker_account.specs.declared.Watch.{Watch}
 use Rattle.checker_lengths.specs.Filling.{form_here, NodeSettled}
 use Rattle.checker_lengths.specs.Code.{Pass}
 use Rattle.checker_lengths.proofs.LeftLaws.{
@@ -38,14 +40,14 @@ use Rattle.checker_lengths.proofs.fill.settle_all.Statement.{statement}
 use Rattle.checker_lengths.proofs.fill.settle_all.Tie as tie
 use Rattle.checker_lengths.proofs.fill.settle_all.Reads as reads
 use Rattle.checker_lengths.proofs.fill.settle_all.Lts as lts
-use Rattle.checker_lengths.proofs.fill.settle_node.Reads as settle-node-reads
-use Rattle.outline_nodes.proofs.form.Reads as form-reads
 use Rattle.checker_tables.proofs.numbers.least.Reads as least-reads
 use Rattle.checker_tables.proofs.work.all.Reads as all-reads
-use Rattle.checker_lengths.proofs.fill.next.Reads as next-reads
 use Rattle.checker_tables.proofs.work.readers.Reads as readers-reads
+use Rattle.checker_lengths.proofs.fill.next.Reads as next-reads
+use Rattle.outline_nodes.proofs.form.Reads as form-reads
+use Rattle.checker_lengths.proofs.fill.settle_node.Reads as settle-node-reads
 
-abbrev Left : WatchOne → List ℕ → List ℕ → List ℕ → ℕ → List ℕ → ℕ → Type 0
+abbrev Left : Watch → List ℕ → List ℕ → List ℕ → ℕ → List ℕ → ℕ → Type 0
 Left w rows nodes come l = Working w rows nodes come l (length nodes / node_fields)
 
 fewer : (n : ℕ) → n ≤ most_nodes → min n most_nodes ≡ n
@@ -55,7 +57,7 @@ positive : (s : ℕ) → (s ≡ 0 → ⊥) → 0 < s
 positive s d = omega arith
 
 -- a node that is left
-module _ (w : WatchOne) (rows nodes come : List ℕ) (l : ℕ) (fit : NodesFit nodes) (t : List ℕ) (s k : ℕ) (h : Left w rows nodes come l t s)
+module _ (w : Watch) (rows nodes come : List ℕ) (l : ℕ) (fit : NodesFit nodes) (t : List ℕ) (s k : ℕ) (h : Left w rows nodes come l t s)
     (in-s : has s k ≡ true) where
   abbrev n : ℕ
   n = length nodes / node_fields
@@ -118,13 +120,14 @@ all-requires c κs = search rules
 
 loop-holds : tie.Need-loop-init invariant-loop decreases-loop
 loop-holds c =
-    let a = c.before.before.before.before.before.before.args in
-    let p = c.before.before.before.before.before.before.requires in
-    let l = c.before.before.before.least.result in (
+    let a = c.before.before.before.before.before.before.before.args in
+    let p = c.before.before.before.before.before.before.before.requires in
+    let l = c.before.before.before.least.result in
+    let s = c.all.ensures ∙ ap (λ (n : ℕ). 2 ^ n - 1) (fewer (length a.nodes.now / node_fields) p.0.few) in (
       lit< tt,
-      subst (Left a.w a.rows.now a.nodes.now a.u.now l _) (sym (c.all.ensures ∙ ap (λ (n : ℕ). 2 ^ n - 1) (fewer
-          (length a.nodes.now / node_fields) p.few)))
-          (working-start a.w a.rows.now a.nodes.now a.u.now l p.few),
+      subst (λ (t : List ℕ). Left a.w a.rows.now a.nodes.now a.u.now l t c.all.result) (sym p.1)
+          (subst (Left a.w a.rows.now a.nodes.now a.u.now l (replicate (size_of a.w.resources) 255)) (sym s)
+          (working-start a.w a.rows.now a.nodes.now a.u.now l p.0.few)),
     )
 
 next-requires : tie.Need-next-requires invariant-loop decreases-loop
@@ -132,8 +135,8 @@ next-requires c κs = (positive c.before.loop.left c.loop-test.true, c.before.lo
 
 cast-left : tie.Need-overflow-cast-left invariant-loop decreases-loop
 cast-left c =
-    let a = c.before.before.before.before.before.before.before.before.before.args in
-    let p = c.before.before.before.before.before.before.before.before.before.requires in
+    let a = c.before.before.before.before.before.before.before.before.before.before.args in
+    let p = c.before.before.before.before.before.before.before.before.before.before.requires.0 in
     let l = c.before.before.before.before.before.before.least.result in
     let i = c.before.before.loop in
     let h = c.next in
@@ -142,8 +145,8 @@ cast-left c =
 
 cast-left-2 : tie.Need-overflow-cast-left-2 invariant-loop decreases-loop
 cast-left-2 c =
-    let a = c.before.before.before.before.before.before.before.before.before.args in
-    let p = c.before.before.before.before.before.before.before.before.before.requires in
+    let a = c.before.before.before.before.before.before.before.before.before.before.args in
+    let p = c.before.before.before.before.before.before.before.before.before.before.requires.0 in
     let l = c.before.before.before.before.before.before.least.result in
     let i = c.before.before.loop in
     let h = c.next in
@@ -152,8 +155,8 @@ cast-left-2 c =
 
 shl-left : tie.Need-overflow-shl-left invariant-loop decreases-loop
 shl-left c =
-    let a = c.before.before.before.before.before.before.before.before.before.args in
-    let p = c.before.before.before.before.before.before.before.before.before.requires in
+    let a = c.before.before.before.before.before.before.before.before.before.before.args in
+    let p = c.before.before.before.before.before.before.before.before.before.before.requires.0 in
     let l = c.before.before.before.before.before.before.least.result in
     let i = c.before.before.loop in
     let h = c.next in
@@ -162,8 +165,8 @@ shl-left c =
 
 sub-left : tie.Need-overflow-sub-left invariant-loop decreases-loop
 sub-left c =
-    let a = c.before.before.before.before.before.before.before.before.before.args in
-    let p = c.before.before.before.before.before.before.before.before.before.requires in
+    let a = c.before.before.before.before.before.before.before.before.before.before.args in
+    let p = c.before.before.before.before.before.before.before.before.before.before.requires.0 in
     let l = c.before.before.before.before.before.before.least.result in
     let i = c.before.before.loop in
     let h = c.next in
@@ -174,65 +177,58 @@ form-requires c κs = search rules
 
 settle-node-requires : tie.Need-settle-node-requires invariant-loop decreases-loop
 settle-node-requires c κs =
-    let a = c.before.before.before.before.before.before.before.before.before.before.before.args in
-    let p = c.before.before.before.before.before.before.before.before.before.before.before.requires in
+    let a = c.before.before.before.before.before.before.before.before.before.before.before.before.args in
+    let p = c.before.before.before.before.before.before.before.before.before.before.before.before.requires.0 in
     let l = c.before.before.before.before.before.before.before.before.least.result in
     let i = c.before.before.before.before.loop in
     let h = c.before.before.next in
-    let low : l < meanings = omega (arith, c.before.before.before.before.before.before.before.before.least.ensures.1) in (
-      i.invariant.1.size_is,
-      (
-        low,
-        small a.w a.rows.now a.nodes.now a.u.now l p i.t i.left h.result i.invariant.1
-            h.ensures,
-      ),
-    )
+    let low : l < meanings = omega (arith, c.before.before.before.before.before.before.before.before.least.ensures.1) in
+    (i.invariant.1.size_is, (low, small a.w a.rows.now a.nodes.now a.u.now l p i.t i.left h.result i.invariant.1 h.ensures))
 
 mul_left : tie.Need-overflow-mul-left invariant-loop decreases-loop
 mul_left c =
-    let a = c.before.before.before.before.before.before.before.before.before.before.before.before.before.args in
-    let p = c.before.before.before.before.before.before.before.before.before.before.before.before.before.requires in
-    let l = c.before.before.before.before.before.before.before.before.before.before.least.result in
-    let i = c.before.before.before.before.before.before.loop in
-    let h = c.before.before.before.before.next in
+    let a = c.before.before.before.before.before.before.before.before.before.before.before.before.before.before.before.before.args in
+    let p = c.before.before.before.before.before.before.before.before.before.before.before.before.before.before.before.before.requires.0 in
+    let l = c.before.before.before.before.before.before.before.before.before.before.before.before.least.result in
+    let i = c.before.before.before.before.before.before.before.before.loop in
+    let h = c.before.before.before.before.before.before.next in
     let k = small a.w a.rows.now a.nodes.now a.u.now l p i.t i.left h.result i.invariant.1 h.ensures in
     omega arith
 
 array-read-left : tie.Need-array-read-left invariant-loop decreases-loop
 array-read-left c =
-    let a = c.before.before.before.before.before.before.before.before.before.before.before.before.before.args in
-    let p = c.before.before.before.before.before.before.before.before.before.before.before.before.before.requires in
-    let l = c.before.before.before.before.before.before.before.before.before.before.least.result in
-    let i = c.before.before.before.before.before.before.loop in
-    let h = c.before.before.before.before.next in
+    let a = c.before.before.before.before.before.before.before.before.before.before.before.before.before.before.before.before.args in
+    let p = c.before.before.before.before.before.before.before.before.before.before.before.before.before.before.before.before.requires.0 in
+    let l = c.before.before.before.before.before.before.before.before.before.before.before.before.least.result in
+    let i = c.before.before.before.before.before.before.before.before.loop in
+    let h = c.before.before.before.before.before.before.next in
     small a.w a.rows.now a.nodes.now a.u.now l p i.t i.left h.result i.invariant.1 h.ensures
 
 loop-less : tie.Need-loop-smaller invariant-loop decreases-loop
 loop-less c =
-    let a = c.before.before.before.before.before.before.before.before.before.before.before.before.before.args in
-    let p = c.before.before.before.before.before.before.before.before.before.before.before.before.before.requires in
-    let l = c.before.before.before.before.before.before.before.before.before.before.least.result in
-    let i = c.before.before.before.before.before.before.loop in
-    let h = c.before.before.before.before.next in
-    let s = c.before.settle-node in
-    let d = c.before.before.before.form in
-    let r = c.before.before.before.before.before.before.before.before.readers2 in
+    let a = c.before.before.before.before.before.before.before.before.before.before.before.before.before.before.before.before.args in
+    let p = c.before.before.before.before.before.before.before.before.before.before.before.before.before.before.before.before.requires.0 in
+    let l = c.before.before.before.before.before.before.before.before.before.before.before.before.least.result in
+    let i = c.before.before.before.before.before.before.before.before.loop in
+    let h = c.before.before.before.before.before.before.next in
+    let s = c.before.before.before.settle-node in
+    let d = c.before.before.before.before.before.form in
+    let r = c.before.before.before.before.before.before.before.before.before.before.readers2 in
     more-falls a.w a.rows.now a.nodes.now a.u.now l p i.t i.left h.result i.invariant.1 h.ensures
     s.new.0 d.result d.ensures s.result s.ensures
     r.new.1.0 (r.ensures ∙ readers-fit a.nodes.now p) c.if1.true
 
 loop-again : tie.Need-loop-preserved invariant-loop decreases-loop
 loop-again c =
-    let a = c.before.before.before.before.before.before.before.before.before.before.before.before.before.args in
-    let p = c.before.before.before.before.before.before.before.before.before.before.before.before.before.requires in
-    let l = c.before.before.before.before.before.before.before.before.before.before.least.result in
-    let i = c.before.before.before.before.before.before.loop in
-    let h = c.before.before.before.before.next in
-    let s = c.before.settle-node in
-    let d = c.before.before.before.form in
-    let r = c.before.before.before.before.before.before.before.before.readers2 in
-    let b = small a.w a.rows.now a.nodes.now a.u.now l p i.t i.left h.result i.invariant.1 h.ensures in (
-      b,
+    let a = c.before.before.before.before.before.before.before.before.before.before.before.before.before.before.before.before.args in
+    let p = c.before.before.before.before.before.before.before.before.before.before.before.before.before.before.before.before.requires.0 in
+    let l = c.before.before.before.before.before.before.before.before.before.before.before.before.least.result in
+    let i = c.before.before.before.before.before.before.before.before.loop in
+    let h = c.before.before.before.before.before.before.next in
+    let s = c.before.before.before.settle-node in
+    let d = c.before.before.before.before.before.form in
+    let r = c.before.before.before.before.before.before.before.before.before.before.readers2 in (
+      small a.w a.rows.now a.nodes.now a.u.now l p i.t i.left h.result i.invariant.1 h.ensures,
       more a.w a.rows.now a.nodes.now a.u.now l p i.t i.left h.result i.invariant.1 h.ensures
           s.new.0 d.result d.ensures s.result s.ensures
           r.new.1.0 (r.ensures ∙ readers-fit a.nodes.now p) c.if1.true,
@@ -240,41 +236,46 @@ loop-again c =
 
 loop-less-2 : tie.Need-loop-smaller-2 invariant-loop decreases-loop
 loop-less-2 c =
-    let a = c.before.before.before.before.before.before.before.before.before.before.before.before.before.args in
-    let p = c.before.before.before.before.before.before.before.before.before.before.before.before.before.requires in
-    let l = c.before.before.before.before.before.before.before.before.before.before.least.result in
-    let i = c.before.before.before.before.before.before.loop in
-    let h = c.before.before.before.before.next in
-    let s = c.before.settle-node in
-    let d = c.before.before.before.form in
+    let a = c.before.before.before.before.before.before.before.before.before.before.before.before.before.before.before.before.args in
+    let p = c.before.before.before.before.before.before.before.before.before.before.before.before.before.before.before.before.requires.0 in
+    let l = c.before.before.before.before.before.before.before.before.before.before.before.before.least.result in
+    let i = c.before.before.before.before.before.before.before.before.loop in
+    let h = c.before.before.before.before.before.before.next in
+    let s = c.before.before.before.settle-node in
+    let d = c.before.before.before.before.before.form in
     still-falls a.w a.rows.now a.nodes.now a.u.now l p i.t i.left h.result i.invariant.1 h.ensures
-    s.new.0 d.result d.ensures s.result s.ensures
-    c.if1.false
+    s.new.0 d.result d.ensures s.result s.ensures c.if1.false
 
 loop-again-2 : tie.Need-loop-preserved-2 invariant-loop decreases-loop
 loop-again-2 c =
-    let a = c.before.before.before.before.before.before.before.before.before.before.before.before.before.args in
-    let p = c.before.before.before.before.before.before.before.before.before.before.before.before.before.requires in
-    let l = c.before.before.before.before.before.before.before.before.before.before.least.result in
-    let i = c.before.before.before.before.before.before.loop in
-    let h = c.before.before.before.before.next in
-    let s = c.before.settle-node in
-    let d = c.before.before.before.form in
-    let b = small a.w a.rows.now a.nodes.now a.u.now l p i.t i.left h.result i.invariant.1 h.ensures in (
-      b,
+    let a = c.before.before.before.before.before.before.before.before.before.before.before.before.before.before.before.before.args in
+    let p = c.before.before.before.before.before.before.before.before.before.before.before.before.before.before.before.before.requires.0 in
+    let l = c.before.before.before.before.before.before.before.before.before.before.before.before.least.result in
+    let i = c.before.before.before.before.before.before.before.before.loop in
+    let h = c.before.before.before.before.before.before.next in
+    let s = c.before.before.before.settle-node in
+    let d = c.before.before.before.before.before.form in (
+      small a.w a.rows.now a.nodes.now a.u.now l p i.t i.left h.result i.invariant.1 h.ensures,
       still a.w a.rows.now a.nodes.now a.u.now l p i.t i.left h.result i.invariant.1 h.ensures
-          s.new.0 d.result d.ensures s.result s.ensures
-          c.if1.false,
+          s.new.0 d.result d.ensures s.result s.ensures c.if1.false,
     )
+
+same_length : tie.Need-same-length invariant-loop decreases-loop
+same_length c =
+    let i = c.before.loop in
+    let p = c.before.before.before.before.before.before.before.before.before.requires in
+    i.invariant.1.size_is ∙ sym (ap length p.1 ∙ length-replicate {A = ℕ} (size_of c.before.before.before.before.before.before.before.before.before.args.w.resources) 255)
 
 returns : tie.Need-returns invariant-loop decreases-loop
 returns c =
-    let a = c.before.before.before.before.before.before.before.before.args in
+    let a = c.before.before.before.before.before.before.before.before.before.args in
+    let p = c.before.before.before.before.before.before.before.before.before.requires in
     let l = c.before.before.before.before.before.least in
-    let i = c.before.loop in
-    working-full a.w a.rows.now a.nodes.now a.u.now l.result
-    c.before.before.before.before.before.before.before.before.requires.few l.ensures.0
-    (subst (Left a.w a.rows.now a.nodes.now a.u.now l.result i.t) c.loop-test.false i.invariant.1)
+    let i = c.before.loop in (
+      i.invariant.1.size_is ∙ sym (ap length p.1 ∙ length-replicate {A = ℕ} (size_of a.w.resources) 255),
+      working-full a.w a.rows.now a.nodes.now a.u.now l.result p.0.few l.ensures.0
+          (subst (Left a.w a.rows.now a.nodes.now a.u.now l.result i.t) c.loop-test.false i.invariant.1),
+    )
 
 pub settle-all-spec : {M : Type 1} → statement M
 settle-all-spec =
@@ -299,4 +300,5 @@ settle-all-spec =
     loop-again
     loop-less-2
     loop-again-2
+    same_length
     returns)

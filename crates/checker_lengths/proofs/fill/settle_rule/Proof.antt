@@ -1,53 +1,49 @@
-use mathlib.Core.Path.{◌≡◌, sym, subst, ◌∙◌}
-use Rattle.usage.proofs.Logic.{by_cases}
-use Rattle.outline_nodes.specs.declared.NodeForm.{NodeForm}
-use Rattle.outline_nodes.specs.Said.{said_by}
-use Rattle.checker_lengths.specs.Code.{Pass}
-use Rattle.checker_lengths.specs.Filling.{RuleSettled}
+use mathlib.Core.Path.{sym, ◌∙◌}
 use borrow.Author.Rules.{rules}
 use Rattle.checker_lengths.proofs.fill.settle_rule.Statement.{statement}
 use Rattle.checker_lengths.proofs.fill.settle_rule.Tie as tie
 use Rattle.checker_lengths.proofs.fill.settle_rule.Reads as reads
 use Rattle.checker_lengths.proofs.fill.settle_rule.Lts as lts
-use Rattle.checker_lengths.proofs.fill.settle_aims.Reads as settle-aims-reads
-use Rattle.checker_lengths.proofs.fill.settle_sequence.Reads as settle-sequence-reads
+use Rattle.checker_lengths.proofs.fill.settle_fresh.Reads as settle-fresh-reads
+use Rattle.checker_lengths.proofs.fill.settle_other.Reads as settle-other-reads
+use Rattle.checker_lengths.proofs.offers.goes_on.Reads as goes-on-reads
+
+goes-on-requires : tie.Need-goes-on-requires
+goes-on-requires c κs = search rules
 
 enum-known-f : tie.Need-enum-known-f
 enum-known-f c = search rules
 
-cast-if2 : tie.Need-overflow-cast-if2
-cast-if2 c = search rules
+settle-fresh-requires : tie.Need-settle-fresh-requires
+settle-fresh-requires c κs = (
+  c.before.before.before.before.before.before.before.requires,
+  sym c.before.before.before.before.before.goes_on.ensures ∙ c.before.before.before.before.if1.true,
+)
 
-settle-sequence-requires : tie.Need-settle-sequence-requires
-settle-sequence-requires c κs =
-    let p = c.before.before.before.before.before.before.before.requires in
-    (search rules, (p.1, (c.before.before.before.before.before.before.if1.true, c.before.if2.true)))
+same_length : tie.Need-same-length
+same_length c = c.before.before.settle-fresh.ensures.same_size
 
 returns : tie.Need-returns
-returns c =
-    let a = c.before.before.before.before.before.before.before.before.args in
-    let r = c.settle-sequence in
-    rw c.before.before.before.before.before.f.given.1 (r.ensures a.w a.rows.now)
+returns c = rw c.before.before.before.before.before.f.given.1 c.before.before.settle-fresh.ensures
 
-settle-aims-requires : tie.Need-settle-aims-requires
-settle-aims-requires c κs = search rules
+settle-other-requires : tie.Need-settle-other-requires
+settle-other-requires c κs = search rules
+
+same-length-2 : tie.Need-same-length-2
+same-length-2 c = c.before.before.settle_other.ensures.same_size
 
 returns-2 : tie.Need-returns-2
-returns-2 c =
-    let a = c.before.before.before.args in
-    let r = c.settle-aims in
-    let same : c.before.before.if1.f ≡ a.f =
-    by_cases c.before.before.if1.branch (λ w. w.6 ∙ sym w.2.given.1) (λ v. by_cases v (λ w. w.2) (λ w. w.1)) in
-    subst (λ (f : NodeForm). Pass a.w a.rows.now a.s.node (said_by f)
-    (λ u. RuleSettled a.w a.rows.now (said_by f) u a.s a.c) a.t.now r.new.0 r.result) same r.ensures
+returns-2 c = c.before.before.settle_other.ensures
 
 pub settle-rule-spec : {M : Type 1} → statement M
 settle-rule-spec =
     tie.close
     (tie.spec
+    goes-on-requires
     enum-known-f
-    cast-if2
-    settle-sequence-requires
+    settle-fresh-requires
+    same_length
     returns
-    settle-aims-requires
+    settle-other-requires
+    same-length-2
     returns-2)

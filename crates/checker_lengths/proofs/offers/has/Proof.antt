@@ -1,4 +1,4 @@
-use Rattle.checker_lengths.proofs.OfferLaws as laws
+use Rattle.automaton.proofs.MaskLaws.{has-bit}
 use borrow.Author.Rules.{rules}
 use Rattle.checker_lengths.proofs.offers.has.Statement.{statement}
 use Rattle.checker_lengths.proofs.offers.has.Tie as tie
@@ -15,7 +15,7 @@ shr-result : tie.Need-overflow-shr-result
 shr-result c = search rules
 
 returns : tie.Need-returns
-returns c = laws.has-bit _ _
+returns c = has-bit _ _
 
 pub has-spec : {M : Type 1} → statement M
 has-spec = tie.close (tie.spec cast-result cast-result-2 shr-result returns)

@@ -42,11 +42,8 @@ event-requires c κs = search rules
 enum-known-f-2 : tie.Need-enum-known-f-2
 enum-known-f-2 c = search rules
 
-cast-moved-2 : tie.Need-overflow-cast-moved-2
-cast-moved-2 c = search rules
-
-add-moved : tie.Need-overflow-add-moved
-add-moved c = search rules
+meant-by-requires : tie.Need-meant-by-requires
+meant-by-requires c κs = search rules
 
 moved-requires-2 : tie.Need-moved-requires-2
 moved-requires-2 c κs = search rules
@@ -109,18 +106,17 @@ returns c = rw c.before.enum_told.given.1 c.still.ensures
 returns-2 : tie.Need-returns-2
 unfolding spec.offer_of
 returns-2 c =
-    let a = c.before.before.before.before.before.args in
+    let a = c.before.before.before.before.before.before.args in
     rw c.before.before.before.f.given.1 (c.event.ensures ∙ ap (λ (v : ℕ). spec.event_of v a.e a.c)
     c.before.moved.ensures)
 
 returns-3 : tie.Need-returns-3
 unfolding spec.offer_of
 returns-3 c =
-    let a = c.before.before.before.before.before.args in
-    rw c.before.before.before.f2.given.1
+    let a = c.before.before.before.before.before.before.before.args in
+    rw c.before.before.before.before.f2.given.1
     (c.event2.ensures ∙ ap (λ (v : ℕ). spec.event_of v a.e a.c)
-    (c.before.moved2.ensures ∙ ap (λ (j : ℕ). spec.moved a.rows.now a.e (eqb a.e.meaning j))
-    (add-one c.before.before.before.f2.given.0.1.0)))
+    (c.before.moved2.ensures ∙ ap (spec.moved a.rows.now a.w.resources a.e) c.before.before.meant-by.ensures))
 
 returns-4 : tie.Need-returns-4
 unfolding spec.offer_of
@@ -129,7 +125,7 @@ returns-4 c = rw c.before.before.f3.given.1 c.sequence.ensures
 returns-5 : tie.Need-returns-5
 unfolding spec.offer_of
 returns-5 c =
-    let a = c.before.before.before.before.before.before.args in
+    let a = c.before.before.before.before.before.before.before.args in
     let look = held a.t.now a.most in
     let f = c.before.before.before.before.f4.given in
     rw f.1
@@ -141,13 +137,13 @@ returns-5 c =
 returns-6 : tie.Need-returns-6
 unfolding spec.offer_of
 returns-6 c =
-    let a = c.before.before.before.before.before.args in
+    let a = c.before.before.before.before.before.before.args in
     rw c.before.before.before.f5.given.1 (c.get2.ensures ∙ ap (held a.t.now a.most) c.before.at2.ensures)
 
 returns-7 : tie.Need-returns-7
 unfolding spec.offer_of
 returns-7 c =
-    let a = c.before.before.before.before.before.args in
+    let a = c.before.before.before.before.before.before.args in
     rw c.before.before.before.f6.given.1 (c.get3.ensures ∙ ap (held a.t.now a.most) c.before.at3.ensures)
 
 returns-8 : tie.Need-returns-8
@@ -172,8 +168,7 @@ offer-spec =
     moved-requires
     event-requires
     enum-known-f-2
-    cast-moved-2
-    add-moved
+    meant-by-requires
     moved-requires-2
     event-requires-2
     enum-known-f-3

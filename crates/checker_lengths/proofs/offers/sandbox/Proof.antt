@@ -26,7 +26,7 @@ plus-requires : tie.Need-plus-requires
 plus-requires c κs = search rules
 
 returns : tie.Need-returns
-returns c = let a = c.before.before.before.before.before.before.args in let look = held a.t.now a.most in
+returns c = let a = c.before.before.before.before.before.before.before.args in let look = held a.t.now a.most in
     c.plus.ensures
     ∙ ap₂ plus (by_cases c.before.before.before.if2.branch
     (λ u. u.1 ∙ sym (ap (λ (b : Bool). cond b 1 2) (eq-eqb a.e.aim 16 u.0.taken)))
@@ -45,12 +45,12 @@ reopened-requires : tie.Need-reopened-requires
 reopened-requires c κs = search rules
 
 returns-4 : tie.Need-returns-4
-returns-4 c = let a = c.before.before.before.before.before.before.before.args in let look = held a.t.now a.most in
+returns-4 c = let a = c.before.before.before.before.before.before.before.before.args in let look = held a.t.now a.most in
     laws.sandbox-hits a.w look a.e a.s a.b a.c _ c.before.before.before.before.before.before.if1.false
     c.before.before.before.before.if3.false c.before.before.if4.false c.before.reopened.ensures c.if5.true
 
 returns-5 : tie.Need-returns-5
-returns-5 c = let a = c.before.before.before.before.before.before.before.args in let look = held a.t.now a.most in
+returns-5 c = let a = c.before.before.before.before.before.before.before.before.args in let look = held a.t.now a.most in
     laws.sandbox-safe a.w look a.e a.s a.b a.c _ c.before.before.before.before.before.before.if1.false
     c.before.before.before.before.if3.false c.before.before.if4.false c.before.reopened.ensures c.if5.false
 

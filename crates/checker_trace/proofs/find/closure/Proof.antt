@@ -27,7 +27,7 @@ bit-requires : tie.Need-bit-requires invariant-loop decreases-loop
 bit-requires c κs = search rules
 
 loop-holds : tie.Need-loop-init invariant-loop decreases-loop
-loop-holds c = subst (Spreads c.before.before.args.t.now c.before.before.args.nodes.now c.before.before.args.e)
+loop-holds c = subst (Spreads c.before.before.before.args.t.now c.before.before.before.args.nodes.now c.before.before.before.args.e)
     (sym c.bit.ensures) begins
 
 spread-requires : tie.Need-spread-requires invariant-loop decreases-loop
@@ -38,14 +38,14 @@ returns c = record { spreads = c.before.before.loop.invariant; still = sym c.bef
 
 loop-less : tie.Need-loop-smaller invariant-loop decreases-loop
 loop-less c =
-    let a = c.before.before.before.before.before.args in
+    let a = c.before.before.before.before.before.before.args in
     let h : Fits w64 c.before.spread.result = search rules in
     let g = laws.spread-ge a.t.now a.nodes.now a.e (length a.nodes.now / node_fields) c.before.before.loop.s in
     omega (arith, h.fits, c.before.spread.ensures, c.if1.false)
 
 loop-again : tie.Need-loop-preserved invariant-loop decreases-loop
-loop-again c = subst (Spreads c.before.before.before.before.before.args.t.now
-    c.before.before.before.before.before.args.nodes.now c.before.before.before.before.before.args.e)
+loop-again c = subst (Spreads c.before.before.before.before.before.before.args.t.now
+    c.before.before.before.before.before.before.args.nodes.now c.before.before.before.before.before.before.args.e)
     (sym c.before.spread.ensures) (further c.before.before.loop.invariant)
 
 pub closure-spec : {M : Type 1} → statement M

@@ -27,20 +27,20 @@ use Rattle.checker_trace.proofs.find.rule.Reads as rule-reads
 
 abbrev invariant-loop : tie.invariant-loop
 invariant-loop t nodes rows w e n s count k₀ k = (k ≤ count)
-    × ((j : ℕ) → j < k → has s j ≡ true → (i : ℕ) → i < ways_of (form_here nodes j)
+    × ((j : ℕ) → j < k → has s j ≡ true → (i : ℕ) → i < ways_of e.meaning (form_here nodes j)
     → offer_below w rows t (form_here nodes j) (at_node e j) n i ≡ n → ⊥)
 
 abbrev decreases-loop : tie.decreases-loop
 decreases-loop t nodes rows w e n s count k₀ k = count - k
 
 closure-requires : tie.Need-closure-requires invariant-loop decreases-loop
-closure-requires c κs = c.before.requires
+closure-requires c κs = c.before.before.requires
 
 loop-holds : tie.Need-loop-init invariant-loop decreases-loop
 loop-holds c = (search rules, λ j l. absurd (omega arith))
 
 has-requires : tie.Need-has-requires invariant-loop decreases-loop
-has-requires c κs = let p = c.before.before.before.before.requires in omega arith
+has-requires c κs = let p = c.before.before.before.before.before.requires in omega arith
 
 form-requires : tie.Need-form-requires invariant-loop decreases-loop
 form-requires c κs = search rules
@@ -56,15 +56,15 @@ ways-requires c κs = search rules
 
 returns : tie.Need-returns invariant-loop decreases-loop
 returns c =
-    let a = c.before.before.before.before.before.before.before.before.before.before.before.args in
+    let a = c.before.before.before.before.before.before.before.before.before.before.before.before.args in
     let l = c.before.before.before.before.before.before.before.before.loop in
     let k = c.before.before.before.before.before.before.before.loop-test.true in
     let r = subst (λ (f : Option Form). RuleIs a.w a.rows.now a.t.now f (at_node a.e l.k) a.n
     c.before.before.rule.result) c.before.before.before.before.form.ensures
     (subst (λ (y : Entry). RuleIs a.w a.rows.now a.t.now (said_by c.before.before.before.before.form.result) y a.n
     c.before.before.rule.result) c.before.before.before.at.ensures c.before.before.rule.ensures) in
-    let g : c.before.ways.result ≡ ways_of (form_here a.nodes.now l.k) = c.before.ways.ensures
-    ∙ ap ways_of c.before.before.before.before.form.ensures in (
+    let g : c.before.ways.result ≡ ways_of a.e.meaning (form_here a.nodes.now l.k) = c.before.ways.ensures
+    ∙ ap (ways_of a.e.meaning) c.before.before.before.before.form.ensures in (
       c.before.before.before.before.before.before.before.before.before.closure.result,
       c.before.before.before.before.before.before.before.before.before.closure.ensures,
       omega arith,
@@ -80,13 +80,13 @@ loop-less c = search rules
 
 loop-again : tie.Need-loop-preserved invariant-loop decreases-loop
 loop-again c =
-    let a = c.before.before.before.before.before.before.args in
+    let a = c.before.before.before.before.before.before.before.args in
     let l = c.before.before.before.loop in
     let k = c.before.before.loop-test.true in
     let nodes = a.nodes.now in
     let s = c.before.before.before.before.closure.result in (
       omega arith,
-      below_more (λ (j : ℕ). has s j ≡ true → (i : ℕ) → i < ways_of (form_here nodes j)
+      below_more (λ (j : ℕ). has s j ≡ true → (i : ℕ) → i < ways_of a.e.meaning (form_here nodes j)
           → offer_below a.w a.rows.now a.t.now (form_here nodes j) (at_node a.e j) a.n i ≡ a.n → ⊥) l.k l.invariant.1
           (by_cases c.if1.branch
           (λ v h.
@@ -94,7 +94,7 @@ loop-again c =
           v.1.ensures
           (subst (λ (y : Entry). RuleIs a.w a.rows.now a.t.now (said_by v.1.result) y a.n v.3.result) v.2.ensures
           v.3.ensures) in
-          let g : v.4.result ≡ ways_of (form_here nodes l.k) = v.4.ensures ∙ ap ways_of v.1.ensures in
+          let g : v.4.result ≡ ways_of a.e.meaning (form_here nodes l.k) = v.4.ensures ∙ ap (ways_of a.e.meaning) v.1.ensures in
           r.none_there (subst (λ (i : ℕ). i ≤ v.3.result) g v.5.left))
           (λ v h. not-both c.before.has.result (c.before.has.ensures ∙ h) v.left)),
     )

@@ -1,4 +1,4 @@
-use Rattle.checker_lengths.proofs.OfferLaws.{has-bit}
+use Rattle.automaton.proofs.MaskLaws.{has-bit}
 use borrow.Author.Rules.{rules}
 use Rattle.checker_trace.proofs.find.has.Statement.{statement}
 use Rattle.checker_trace.proofs.find.has.Tie as tie

@@ -66,7 +66,7 @@ unfolding leads_of
 returns-4 c = rw c.before.before.f4.given.1 c.bit4.ensures
 
 returns-5 : tie.Need-returns-5
-returns-5 c = let a = c.before.args in no-leads a.t.now a.e a.f c.match.keys5
+returns-5 c = let a = c.before.before.args in no-leads a.t.now a.e a.f c.match.keys5
 
 pub leads-spec : {M : Type 1} → statement M
 leads-spec =

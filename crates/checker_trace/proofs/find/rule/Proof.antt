@@ -29,7 +29,7 @@ offer-requires c κs = search rules
 
 returns : tie.Need-returns invariant-loop decreases-loop
 returns c =
-    let a = c.before.before.before.before.before.args in
+    let a = c.before.before.before.before.before.before.args in
     let l = c.before.before.before.loop in
     let e = c.before.before.before.before.ways.ensures in
     let k = c.before.before.loop-test.true in
@@ -43,7 +43,7 @@ loop-less c = search rules
 
 loop-again : tie.Need-loop-preserved invariant-loop decreases-loop
 loop-again c =
-    let a = c.before.before.before.before.before.args in
+    let a = c.before.before.before.before.before.before.args in
     let l = c.before.before.before.loop in (
       search rules,
       below_more (λ (i : ℕ). offer_below a.w a.rows.now a.t.now (said_by a.f) a.e a.n i ≡ a.n → ⊥) l.c

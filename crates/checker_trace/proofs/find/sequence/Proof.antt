@@ -31,7 +31,7 @@ bit-if-requires-2 c κs = search rules
 returns : tie.Need-returns
 unfolding sequence_leads
 returns c =
-    let a = c.before.before.before.before.before.args in
+    let a = c.before.before.before.before.before.before.args in
     let then : ℕ → Bool = λ (k : ℕ). idle_after_lem a.t.now a.e k in
     let first : c.before.before.before.if1.first ≡ (eqb a.e.aim 16 || then a.b) =
     by_cases c.before.before.before.if1.branch

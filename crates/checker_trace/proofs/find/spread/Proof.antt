@@ -49,7 +49,7 @@ loop-less c = search rules
 loop-again : tie.Need-loop-preserved invariant-loop decreases-loop
 unfolding spread_to join_if
 loop-again c =
-    let a = c.before.before.before.before.before.args in
+    let a = c.before.before.before.before.before.before.args in
     let l = c.before.before.before.loop in
     let k = c.before.before.loop-test.true in
     let u = spread_to a.t.now a.nodes.now a.e l.k a.s in
@@ -64,7 +64,7 @@ loop-again c =
     )
 
 returns : tie.Need-returns invariant-loop decreases-loop
-returns c = let l = c.before.loop in let e : l.k ≡ length c.before.before.before.args.nodes.now / node_fields = omega arith in
+returns c = let l = c.before.loop in let e : l.k ≡ length c.before.before.before.before.args.nodes.now / node_fields = omega arith in
     rw e at l.invariant.1
 
 pub spread-spec : {M : Type 1} → statement M

@@ -166,12 +166,12 @@ write-sequence-known t = (
 
 write-returns : (t : ℕ) → write-lts.Need-returns (write_known t) (write-at t) write.Post
 write-returns t c =
-    let a = c.before.before.before.before.before.args in
-    let p = c.before.before.before.before.before.requires.1 in
+    let a = c.before.before.before.before.before.before.args in
+    let p = c.before.before.before.before.before.before.requires.1 in
     none_written a.w a.rows.now a.nodes.now a.t.now a.p a.trace.now p c.before.if1.true
 
 write-find-requires : (t : ℕ) → write-lts.Need-find-requires (write_known t) (write-at t) write.Post
-write-find-requires t c κs = c.before.before.before.before.requires.1.few_nodes
+write-find-requires t c κs = c.before.before.before.before.before.requires.1.few_nodes
 
 write-enum-known-o : (t : ℕ) → write-lts.Need-enum-known-o (write_known t) (write-at t) write.Post
 write-enum-known-o t c = search rules
@@ -181,8 +181,8 @@ write-enum-told t c = search rules
 
 write-returns-2 : (t : ℕ) → write-lts.Need-returns-2 (write_known t) (write-at t) write.Post
 write-returns-2 t c =
-    let a = c.before.before.before.before.before.before.before.before.args in
-    let p = c.before.before.before.before.before.before.before.before.requires.1 in
+    let a = c.before.before.before.before.before.before.before.before.before.args in
+    let p = c.before.before.before.before.before.before.before.before.before.requires.1 in
     let on = subst (OntoIs a.w a.rows.now a.nodes.now a.t.now a.p.entry a.p.steps) c.before.enum_told.given.1
     c.before.before.before.find.ensures in
     nowhere-written a.w a.rows.now a.nodes.now a.t.now a.p a.trace.now p on (pos _
@@ -206,8 +206,8 @@ write-step-requires t c κs =
     let o = k.before.before in
     let d = o.before.before in
     let z = d.before.before.before.before.before in
-    let a = z.args in
-    let p = z.requires.1 in
+    let a = z.before.args in
+    let p = z.before.requires.1 in
     step_room a.w a.rows.now a.nodes.now a.t.now a.p a.trace.now p (pos _ d.before.if1.false)
 
 write-enum-known-f-2 : (t : ℕ) → write-lts.Need-enum-known-f-2 (write_known t) (write-at t) write.Post
@@ -225,8 +225,8 @@ write-step-requires-2 t c κs =
     let o = k.before.before in
     let d = o.before.before in
     let z = d.before.before.before.before.before in
-    let a = z.args in
-    let p = z.requires.1 in
+    let a = z.before.args in
+    let p = z.before.requires.1 in
     step_room a.w a.rows.now a.nodes.now a.t.now a.p a.trace.now p (pos _ d.before.if1.false)
 
 write-enum-known-f-3 : (t : ℕ) → write-lts.Need-enum-known-f-3 (write_known t) (write-at t) write.Post
@@ -238,9 +238,9 @@ write-write-sequence-requires t c κs =
     let o = k.before.before in
     let d = o.before.before in
     let z = d.before.before.before.before.before in
-    let a = z.args in
-    let p = z.requires.1 in
-    let m = z.requires.0 in
+    let a = z.before.args in
+    let p = z.before.requires.1 in
+    let m = z.before.requires.0 in
     let on = subst (OntoIs a.w a.rows.now a.nodes.now a.t.now a.p.entry a.p.steps) o.o.given.1
     d.find.ensures in
     let form = sym k.form.ensures ∙ ap said_by c.before.before.f3.given.1 in
@@ -255,9 +255,9 @@ write-write-fresh-requires t c κs =
     let o = k.before.before in
     let d = o.before.before in
     let z = d.before.before.before.before.before in
-    let a = z.args in
-    let p = z.requires.1 in
-    let m = z.requires.0 in
+    let a = z.before.args in
+    let p = z.before.requires.1 in
+    let m = z.before.requires.0 in
     let on = subst (OntoIs a.w a.rows.now a.nodes.now a.t.now a.p.entry a.p.steps) o.o.given.1
     d.find.ensures in
     let form = sym k.form.ensures ∙ ap said_by c.before.before.f4.given.1 in
@@ -272,9 +272,9 @@ write-write-sandbox-requires t c κs =
     let o = k.before.before in
     let d = o.before.before in
     let z = d.before.before.before.before.before in
-    let a = z.args in
-    let p = z.requires.1 in
-    let m = z.requires.0 in
+    let a = z.before.args in
+    let p = z.before.requires.1 in
+    let m = z.before.requires.0 in
     let on = subst (OntoIs a.w a.rows.now a.nodes.now a.t.now a.p.entry a.p.steps) o.o.given.1
     d.find.ensures in
     let form = sym k.form.ensures ∙ ap said_by c.before.before.f5.given.1 in
@@ -283,7 +283,7 @@ write-write-sandbox-requires t c κs =
 write-same-length : (t : ℕ) → write-lts.Need-same-length (write_known t) (write-at t) write.Post
 write-same-length t c =
     let b = c.before.before.before.before.before.before.before.before.before.before.before.before in
-    let a = b.before.before.before.before.args in
+    let a = b.before.before.before.before.before.args in
     let f = c.before.before.before.before.before.f.given.0 in
     ap length c.before.before.step.ensures.0 ∙ stored-length a.trace.now a.p.spot.at 0 f.0 f.1.0
 
@@ -293,8 +293,8 @@ write-returns-3 t c =
     let o = k.before.before in
     let d = o.before.before in
     let z = d.before.before.before.before.before in
-    let a = z.args in
-    let p = z.requires.1 in
+    let a = z.before.args in
+    let p = z.before.requires.1 in
     let on = subst (OntoIs a.w a.rows.now a.nodes.now a.t.now a.p.entry a.p.steps) o.o.given.1
     d.find.ensures in
     let f = c.before.before.before.before.before.f.given in
@@ -306,7 +306,7 @@ write-returns-3 t c =
 write-same-length-2 : (t : ℕ) → write-lts.Need-same-length-2 (write_known t) (write-at t) write.Post
 write-same-length-2 t c =
     let b = c.before.before.before.before.before.before.before.before.before.before.before.before in
-    let a = b.before.before.before.before.before.args in
+    let a = b.before.before.before.before.before.before.args in
     ap length c.before.before.step2.ensures.0
     ∙ stored-length a.trace.now a.p.spot.at 0 c.before.before.before.before.before.before.f2.given.0.0
     c.before.before.before.name.result
@@ -317,8 +317,8 @@ write-returns-4 t c =
     let o = k.before.before in
     let d = o.before.before in
     let z = d.before.before.before.before.before in
-    let a = z.args in
-    let p = z.requires.1 in
+    let a = z.before.args in
+    let p = z.before.requires.1 in
     let on = subst (OntoIs a.w a.rows.now a.nodes.now a.t.now a.p.entry a.p.steps) o.o.given.1
     d.find.ensures in
     let f = c.before.before.before.before.before.before.f2.given in
@@ -353,8 +353,8 @@ write-returns-8 t c =
     let o = k.before.before in
     let d = o.before.before in
     let z = d.before.before.before.before.before in
-    let a = z.args in
-    let p = z.requires.1 in
+    let a = z.before.args in
+    let p = z.before.requires.1 in
     let on = subst (OntoIs a.w a.rows.now a.nodes.now a.t.now a.p.entry a.p.steps) o.o.given.1
     d.find.ensures in
     absurd (chosen-other a.w a.rows.now a.nodes.now a.t.now a.p.entry a.p.steps o.o.given.0.1.0 p.few
@@ -364,39 +364,39 @@ write-returns-8 t c =
 
 write-fresh-create-requires : (t : ℕ) → write-fresh-lts.Need-create-requires (write-fresh-known t) (write-fresh-at t) write-fresh.Post
 write-fresh-create-requires t c κs =
-    let a = c.before.before.before.args in
-    let p = c.before.before.before.requires.1 in
+    let a = c.before.before.before.before.args in
+    let p = c.before.before.before.before.requires.1 in
     let one = p.1.one in
     let n = p.0.numbered in
     (step_room a.w a.rows.now a.nodes.now a.t.now a.p a.trace.now p.0 one, omega arith)
 
 write-fresh-same-length : (t : ℕ) → write-fresh-lts.Need-same-length (write-fresh-known t) (write-fresh-at t) write-fresh.Post
 write-fresh-same-length t c =
-    let a = c.before.before.before.before.before.before.before.before.args in
+    let a = c.before.before.before.before.before.before.before.before.before.args in
     ap length c.before.before.before.before.create.ensures.0 ∙ stored-length a.trace.now a.p.spot.at 0 0
     a.p.spot.next
 
 write-fresh-returns : (t : ℕ) → write-fresh-lts.Need-returns (write-fresh-known t) (write-fresh-at t) write-fresh.Post
 write-fresh-returns t c =
-    let a = c.before.before.before.before.before.before.before.before.args in
+    let a = c.before.before.before.before.before.before.before.before.before.args in
     let k = c.before.before.before.before.create in
-    let p = c.before.before.before.before.before.before.before.before.requires.1 in
+    let p = c.before.before.before.before.before.before.before.before.before.requires.1 in
     born-written a.w a.rows.now a.nodes.now a.t.now a.p a.trace.now p.0 a.y p.1 k.result
     k.ensures.1 k.new.0 k.ensures.0 c.if1.true
 
 write-fresh-body-part-requires : (t : ℕ) → write-fresh-lts.Need-body-part-requires (write-fresh-known t)
     (write-fresh-at t) write-fresh.Post
-write-fresh-body-part-requires t c κs = c.before.before.before.before.before.before.before.before.before.requires.1.1.one
+write-fresh-body-part-requires t c κs = c.before.before.before.before.before.before.before.before.before.before.requires.1.1.one
 
 write-fresh-write-requires : (t : ℕ) → write-fresh-lts.Need-write-requires (write-fresh-known t) (write-fresh-at t) write-fresh.Post
 write-fresh-write-requires t c κs =
-    let a = c.before.before.before.before.before.before.before.before.before.before.args in
+    let a = c.before.before.before.before.before.before.before.before.before.before.before.args in
     let k = c.before.before.before.before.before.before.create in
-    let p = c.before.before.before.before.before.before.before.before.before.before.requires.1 in
+    let p = c.before.before.before.before.before.before.before.before.before.before.before.requires.1 in
     let one = p.1.one in
     let same = c.body-part.ensures.0 in
     let n = ap (λ (q : Part). q.steps) same in
-    let m = c.before.before.before.before.before.before.before.before.before.before.requires.0 in (
+    let m = c.before.before.before.before.before.before.before.before.before.before.before.requires.0 in (
       omega arith,
       subst (λ (q : Part). Room a.nodes.now q k.new.0) (sym same) (body-room a.w a.rows.now a.nodes.now
           a.t.now a.p a.trace.now p.0 a.y p.1 k.result k.ensures.1 k.new.0 k.ensures.0),
@@ -405,7 +405,7 @@ write-fresh-write-requires t c κs =
 write-fresh-same-length-2 : (t : ℕ) → write-fresh-lts.Need-same-length-2 (write-fresh-known t) (write-fresh-at t) write-fresh.Post
 write-fresh-same-length-2 t c =
     let b = c.before.before.before.before.before.before.before.before.before.before.before.before in
-    let a = b.before.args in
+    let a = b.before.before.args in
     c.before.before.write.ensures.length_kept ∙ ap length
     c.before.before.before.before.before.before.before.before.before.create.ensures.0
     ∙ stored-length a.trace.now a.p.spot.at 0 0 a.p.spot.next
@@ -413,9 +413,9 @@ write-fresh-same-length-2 t c =
 write-fresh-returns-2 : (t : ℕ) → write-fresh-lts.Need-returns-2 (write-fresh-known t) (write-fresh-at t) write-fresh.Post
 write-fresh-returns-2 t c =
     let b = c.before.before.before.before.before.before.before.before.before.before.before.before in
-    let a = b.before.args in
+    let a = b.before.before.args in
     let k = c.before.before.before.before.before.before.before.before.before.create in
-    let p = b.before.requires.1 in
+    let p = b.before.before.requires.1 in
     let same = c.before.before.before.body-part.ensures.0 in
     let four = sym (length-set a.p.names.numbers a.y.a a.p.spot.next) ∙ sym (ap (λ (q : Part). length
     q.names.numbers) same)
@@ -435,39 +435,39 @@ write-sandbox-cast-step t c = search rules
 write-sandbox-step-requires : (t : ℕ) → write-sandbox-lts.Need-step-requires (write-sandbox-known t)
     (write-sandbox-at t) write-sandbox.Post
 write-sandbox-step-requires t c κs =
-    let a = c.before.before.before.before.args in
-    let p = c.before.before.before.before.requires.1 in
+    let a = c.before.before.before.before.before.args in
+    let p = c.before.before.before.before.before.requires.1 in
     step_room a.w a.rows.now a.nodes.now a.t.now a.p a.trace.now p.0 p.1.one
 
 write-sandbox-same-length : (t : ℕ) → write-sandbox-lts.Need-same-length (write-sandbox-known t) (write-sandbox-at t) write-sandbox.Post
 write-sandbox-same-length t c =
-    let a = c.before.before.before.before.before.before.before.before.before.args in
+    let a = c.before.before.before.before.before.before.before.before.before.before.args in
     ap length c.before.before.before.before.step.ensures.0 ∙ stored-length a.trace.now a.p.spot.at 1 a.y.a 0
 
 write-sandbox-returns : (t : ℕ) → write-sandbox-lts.Need-returns (write-sandbox-known t) (write-sandbox-at t) write-sandbox.Post
 write-sandbox-returns t c =
-    let a = c.before.before.before.before.before.before.before.before.before.args in
+    let a = c.before.before.before.before.before.before.before.before.before.before.args in
     let k = c.before.before.before.before.step in
-    let p = c.before.before.before.before.before.before.before.before.before.requires.1 in
+    let p = c.before.before.before.before.before.before.before.before.before.before.requires.1 in
     opening-written a.w a.rows.now a.nodes.now a.t.now a.p a.trace.now p.0 a.y p.1 k.result
     k.ensures.1 k.new.0 k.ensures.0 c.if1.true
 
 write-sandbox-inner-part-requires : (t : ℕ) → write-sandbox-lts.Need-inner-part-requires (write-sandbox-known t)
     (write-sandbox-at t) write-sandbox.Post
 write-sandbox-inner-part-requires t c κs =
-    c.before.before.before.before.before.before.before.before.before.before.before.before.requires.1.1.one
+    c.before.before.before.before.before.before.before.before.before.before.before.before.before.requires.1.1.one
 
 write-sandbox-write-requires : (t : ℕ) → write-sandbox-lts.Need-write-requires (write-sandbox-known t)
     (write-sandbox-at t) write-sandbox.Post
 write-sandbox-write-requires t c κs =
     let b = c.before.before.before.before.before.before.before.before.before.before.before.before in
-    let a = b.before.args in
+    let a = b.before.before.args in
     let k = c.before.before.before.before.before.before.before.before.step in
-    let p = b.before.requires.1 in
+    let p = b.before.before.requires.1 in
     let one = p.1.one in
     let same = c.inner-part.ensures in
     let n = ap (λ (q : Part). q.steps) same in
-    let m = b.before.requires.0 in (
+    let m = b.before.before.requires.0 in (
       omega arith,
       subst (λ (q : Part). Room a.nodes.now q k.new.0) (sym same) (inside-room a.w a.rows.now
           a.nodes.now a.t.now a.p a.trace.now p.0 a.y p.1 k.result k.ensures.1 k.new.0 k.ensures.0 1
@@ -478,7 +478,7 @@ write-sandbox-same-length-2 : (t : ℕ) → write-sandbox-lts.Need-same-length-2
     (write-sandbox-at t) write-sandbox.Post
 write-sandbox-same-length-2 t c =
     let b = c.before.before.before.before.before.before.before.before.before.before.before.before in
-    let a = b.before.before.before.before.args in
+    let a = b.before.before.before.before.before.args in
     c.before.before.write.ensures.length_kept ∙ ap length
     c.before.before.before.before.before.before.before.before.before.before.before.step.ensures.0 ∙ stored-length
     a.trace.now a.p.spot.at 1 a.y.a 0
@@ -486,9 +486,9 @@ write-sandbox-same-length-2 t c =
 write-sandbox-returns-2 : (t : ℕ) → write-sandbox-lts.Need-returns-2 (write-sandbox-known t) (write-sandbox-at t) write-sandbox.Post
 write-sandbox-returns-2 t c =
     let b = c.before.before.before.before.before.before.before.before.before.before.before.before in
-    let a = b.before.before.before.before.args in
+    let a = b.before.before.before.before.before.args in
     let k = c.before.before.before.before.before.before.before.before.before.before.before.step in
-    let p = b.before.before.before.before.requires.1 in
+    let p = b.before.before.before.before.before.requires.1 in
     let r = c.before.before.write in
     inside-written a.w a.rows.now a.nodes.now a.t.now a.p a.trace.now p.0 a.y p.1 k.result
     k.ensures.1 k.new.0 k.ensures.0 (none_below _ c.before.before.before.before.before.before.before.if1.false)
@@ -499,9 +499,9 @@ write-sandbox-returns-2 t c =
 write-sandbox-inner-part-requires-2 : (t : ℕ) → write-sandbox-lts.Need-inner-part-requires-2 (write-sandbox-known t)
     (write-sandbox-at t) write-sandbox.Post
 write-sandbox-inner-part-requires-2 t c κs =
-    let a = c.before.before.before.before.before.before.before.before.before.before.before.before.args in
+    let a = c.before.before.before.before.before.before.before.before.before.before.before.before.before.args in
     let k = c.before.before.before.before.before.before.before.step in
-    let p = c.before.before.before.before.before.before.before.before.before.before.before.before.requires.1 in
+    let p = c.before.before.before.before.before.before.before.before.before.before.before.before.before.requires.1 in
     two_steps a.w a.rows.now a.nodes.now a.t.now a.p a.trace.now p.0 a.y p.1 k.result k.ensures.1
     k.new.0 k.ensures.0 (none_below _ c.before.before.before.if1.false) c.before.if2.false
 
@@ -509,15 +509,15 @@ write-sandbox-write-requires-2 : (t : ℕ) → write-sandbox-lts.Need-write-requ
     (write-sandbox-at t) write-sandbox.Post
 write-sandbox-write-requires-2 t c κs =
     let b = c.before.before.before.before.before.before.before.before.before.before.before.before in
-    let a = b.before.args in
+    let a = b.before.before.args in
     let k = c.before.before.before.before.before.before.before.before.step in
-    let p = b.before.requires.1 in
+    let p = b.before.before.requires.1 in
     let two = two_steps a.w a.rows.now a.nodes.now a.t.now a.p a.trace.now p.0 a.y p.1 k.result
     k.ensures.1 k.new.0 k.ensures.0 (none_below _ c.before.before.before.before.if1.false)
     c.before.before.if2.false in
     let same = c.inner-part2.ensures in
     let n = ap (λ (q : Part). q.steps) same in
-    let m = b.before.requires.0 in (
+    let m = b.before.before.requires.0 in (
       omega arith,
       subst (λ (q : Part). Room a.nodes.now q k.new.0) (sym same) (inside-room a.w a.rows.now
           a.nodes.now a.t.now a.p a.trace.now p.0 a.y p.1 k.result k.ensures.1 k.new.0 k.ensures.0 2
@@ -531,9 +531,9 @@ write-sandbox-step-requires-2 : (t : ℕ) → write-sandbox-lts.Need-step-requir
     (write-sandbox-at t) write-sandbox.Post
 write-sandbox-step-requires-2 t c κs =
     let b = c.before.before.before.before.before.before.before.before.before.before.before.before in
-    let a = b.before.before.before.before.before.before.args in
+    let a = b.before.before.before.before.before.before.before.args in
     let k = b.before.step in
-    let p = b.before.before.before.before.before.before.requires.1 in
+    let p = b.before.before.before.before.before.before.before.requires.1 in
     let r = c.before.before.before.before.write2 in
     closing-room a.w a.rows.now a.nodes.now a.t.now a.p a.trace.now p.0 a.y p.1 k.result
     k.ensures.1 k.new.0 k.ensures.0 (none_below _
@@ -546,7 +546,7 @@ write-sandbox-same-length-3 : (t : ℕ) → write-sandbox-lts.Need-same-length-3
     (write-sandbox-at t) write-sandbox.Post
 write-sandbox-same-length-3 t c =
     let b = c.before.before.before.before.before.before.before.before.before.before.before.before in
-    let a = b.before.before.before.before.before.before.before.before.before.args in
+    let a = b.before.before.before.before.before.before.before.before.before.before.args in
     let r = c.before.before.before.before.before.before.before.write2 in
     ap length c.before.before.step2.ensures.0 ∙ stored-length r.new.1.1.1.1.0 r.result.at 2 a.y.a 0
     ∙ r.ensures.length_kept
@@ -555,9 +555,9 @@ write-sandbox-same-length-3 t c =
 write-sandbox-returns-3 : (t : ℕ) → write-sandbox-lts.Need-returns-3 (write-sandbox-known t) (write-sandbox-at t) write-sandbox.Post
 write-sandbox-returns-3 t c =
     let b = c.before.before.before.before.before.before.before.before.before.before.before.before in
-    let a = b.before.before.before.before.before.before.before.before.before.args in
+    let a = b.before.before.before.before.before.before.before.before.before.before.args in
     let k = b.before.before.before.before.step in
-    let p = b.before.before.before.before.before.before.before.before.before.requires.1 in
+    let p = b.before.before.before.before.before.before.before.before.before.before.requires.1 in
     let r = c.before.before.before.before.before.before.before.write2 in
     sandbox-written a.w a.rows.now a.nodes.now a.t.now a.p a.trace.now p.0 a.y p.1 k.result
     k.ensures.1 k.new.0 k.ensures.0 (none_below _ b.if1.false)
@@ -584,14 +584,14 @@ write-sequence-first-part-requires t c κs = search rules
 write-sequence-write-requires : (t : ℕ) → write-sequence-lts.Need-write-requires (write-sequence-known t)
     (write-sequence-at t) write-sequence.Post
 write-sequence-write-requires t c κs =
-    let a = c.before.before.before.before.before.before.args in
+    let a = c.before.before.before.before.before.before.before.args in
     let g = c.before.before.get in
-    let p = c.before.before.before.before.before.before.requires.1 in
+    let p = c.before.before.before.before.before.before.before.requires.1 in
     let l = first-fewer a.w a.rows.now a.nodes.now a.t.now a.p a.trace.now p.0 a.y p.1 g.result
     (g.ensures ∙ ap (held a.t.now a.p.steps) c.before.before.before.first.ensures) in
     let same = c.first_part.ensures in
     let n = ap (λ (q : Part). q.steps) same in
-    let m = c.before.before.before.before.before.before.requires.0 in (
+    let m = c.before.before.before.before.before.before.before.requires.0 in (
       omega arith,
       subst (λ (q : Part). Room a.nodes.now q a.trace.now) (sym same) (first-room a.w a.rows.now
           a.nodes.now a.t.now a.p a.trace.now p.0 a.y p.1 g.result (g.ensures ∙ ap (held a.t.now
@@ -601,9 +601,9 @@ write-sequence-write-requires t c κs =
 write-sequence-second-part-requires : (t : ℕ) → write-sequence-lts.Need-second-part-requires (write-sequence-known t)
     (write-sequence-at t) write-sequence.Post
 write-sequence-second-part-requires t c κs =
-    let a = c.before.before.before.before.before.before.before.before.before.before.args in
+    let a = c.before.before.before.before.before.before.before.before.before.before.before.args in
     let g = c.before.before.before.before.before.before.get in
-    let p = c.before.before.before.before.before.before.before.before.before.before.requires.1 in
+    let p = c.before.before.before.before.before.before.before.before.before.before.before.requires.1 in
     let l = first-fewer a.w a.rows.now a.nodes.now a.t.now a.p a.trace.now p.0 a.y p.1 g.result
     (g.ensures ∙ ap (held a.t.now a.p.steps) c.before.before.before.before.before.before.before.first.ensures) in
     omega arith
@@ -611,16 +611,16 @@ write-sequence-second-part-requires t c κs =
 write-sequence-write-requires-2 : (t : ℕ) → write-sequence-lts.Need-write-requires-2 (write-sequence-known t)
     (write-sequence-at t) write-sequence.Post
 write-sequence-write-requires-2 t c κs =
-    let a = c.before.before.before.before.before.before.before.before.before.before.before.args in
+    let a = c.before.before.before.before.before.before.before.before.before.before.before.before.args in
     let g = c.before.before.before.before.before.before.before.get in
     let u = c.before.before.before.before.write in
-    let p = c.before.before.before.before.before.before.before.before.before.before.before.requires.1 in
+    let p = c.before.before.before.before.before.before.before.before.before.before.before.before.requires.1 in
     let l = second-fewer a.w a.rows.now a.nodes.now a.t.now a.p a.trace.now p.0 a.y p.1 g.result
     (g.ensures ∙ ap (held a.t.now a.p.steps)
     c.before.before.before.before.before.before.before.before.first.ensures) in
     let same = c.second-part.ensures in
     let n = ap (λ (q : Part). q.steps) same in
-    let m = c.before.before.before.before.before.before.before.before.before.before.before.requires.0 in (
+    let m = c.before.before.before.before.before.before.before.before.before.before.before.before.requires.0 in (
       omega arith,
       subst (λ (q : Part). Room a.nodes.now q u.new.1.1.1.1.0) (sym same)
           (second-room a.w a.rows.now a.nodes.now a.t.now a.p a.trace.now p.0 a.y p.1 g.result (g.ensures
@@ -638,10 +638,10 @@ write-sequence-same-length t c = c.before.before.write2.ensures.length_kept
 write-sequence-returns : (t : ℕ) → write-sequence-lts.Need-returns (write-sequence-known t) (write-sequence-at t) write-sequence.Post
 write-sequence-returns t c =
     let b = c.before.before.before.before.before.before.before.before.before.before.before.before in
-    let a = b.before.before.args in
+    let a = b.before.before.before.args in
     let g = c.before.before.before.before.before.before.before.before.before.before.get in
     let u = c.before.before.before.before.before.before.before.write in
-    let p = b.before.before.requires.1 in
+    let p = b.before.before.before.requires.1 in
     let r = c.before.before.write2 in
     sequence-written a.w a.rows.now a.nodes.now a.t.now a.p a.trace.now p.0 a.y p.1 g.result
     (g.ensures ∙ ap (held a.t.now a.p.steps)

@@ -1,4 +1,4 @@
-use Rattle.desk.specs.Layout.{byte_at, word_at, wide_at, Got, Put}
+use Rattle.desk_state.specs.Layout.{byte_at, word_at, wide_at, Got, Put}
 use Rattle.desk_positions.proofs.CopyLaws.{bytes-local, words-local, wides-local, got-none, got-next, put-none, put_next, byte_put}
 use native.Mathlib.Omega.{arith}
 use mathlib.Core.Path.{◌≡◌, refl, sym, ap, ◌∙◌}

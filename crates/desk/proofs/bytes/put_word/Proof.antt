@@ -1,7 +1,7 @@
 use mathlib.Core.Path.{subst}
 use mathlib.Core.List.{List, [], ◌∷◌}
 use Prim.Native.Nat.{◌/◌, ◌%◌}
-use Rattle.desk.specs.Layout.{word_at, Put}
+use Rattle.desk_state.specs.Layout.{word_at, Put}
 use Rattle.desk_positions.proofs.CopyLaws.{word-put}
 use native.Mathlib.Omega.{arith}
 use mathlib.Core.Path.{◌≡◌, refl, sym, ap, ◌∙◌}

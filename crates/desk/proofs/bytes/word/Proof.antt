@@ -1,4 +1,4 @@
-use Rattle.desk.specs.Layout.{word_at, wide_at}
+use Rattle.desk_state.specs.Layout.{word_at, wide_at}
 use native.Mathlib.Omega.{arith}
 use mathlib.Core.Path.{◌≡◌, refl, sym, ap, ◌∙◌}
 use Prim.Native.Nat.{ℕ, suc, ◌+◌, ◌-◌, ◌≤◌, ◌<◌}

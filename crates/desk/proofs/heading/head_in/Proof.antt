@@ -1,4 +1,4 @@
-use Rattle.desk.specs.Layout.{head_in_lem}
+use Rattle.desk_state.specs.Layout.{head_in_lem}
 use native.Mathlib.Omega.{arith}
 use mathlib.Core.Path.{◌≡◌, refl, sym, ap, ◌∙◌}
 use Prim.Native.Nat.{ℕ, suc, ◌+◌, ◌-◌, ◌≤◌, ◌<◌}

@@ -1,5 +1,5 @@
-use Rattle.desk.specs.Layout.{edges_at}
-use Rattle.desk.proofs.HeadLaws.{head-put, put-within}
+use Rattle.desk_state.specs.Layout.{edges_at}
+use Rattle.desk_state.proofs.HeadLaws.{head-put, put-within}
 use native.Mathlib.Omega.{arith}
 use mathlib.Core.Path.{◌≡◌, refl, sym, ap, ◌∙◌}
 use Prim.Native.Nat.{ℕ, suc, ◌+◌, ◌-◌, ◌≤◌, ◌<◌}

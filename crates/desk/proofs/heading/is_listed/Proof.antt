@@ -1,5 +1,5 @@
 use borrow.Author.Tests.{lt-ltb}
-use Rattle.desk.specs.State.{is_listed_lem}
+use Rattle.desk_state.specs.State.{is_listed_lem}
 use Rattle.desk_positions.proofs.CopyLaws.{pos}
 use native.Mathlib.Omega.{arith}
 use mathlib.Core.Path.{◌≡◌, refl, sym, ap, ◌∙◌}

@@ -1,7 +1,7 @@
 use mathlib.Core.Path.{◌≡◌, refl, sym, ap, ◌∙◌}
 use native.Mathlib.Omega.{arith}
 use borrow.Author.Rules.{rules}
-use Rattle.desk.proofs.JudgeByteLaws.{pairs-put, arrays-left}
+use Rattle.desk_state.proofs.JudgeByteLaws.{pairs-put, arrays-left}
 use Rattle.desk.proofs.judge.arrays_out.Statement.{statement}
 use Rattle.desk.proofs.judge.arrays_out.Tie as tie
 

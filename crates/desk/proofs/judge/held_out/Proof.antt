@@ -1,4 +1,4 @@
-use Rattle.desk.proofs.JudgeByteLaws.{held-put}
+use Rattle.desk_state.proofs.JudgeByteLaws.{held-put}
 use native.Mathlib.Omega.{arith}
 use mathlib.Core.Path.{◌≡◌, refl, sym, ap, ◌∙◌}
 use Prim.Native.Nat.{ℕ, suc, ◌+◌, ◌-◌, ◌≤◌, ◌<◌}

@@ -1,8 +1,8 @@
 use mathlib.Core.Path.{◌≡◌, refl, sym, ap, ◌∙◌}
 use native.Mathlib.Omega.{arith}
 use borrow.Author.Rules.{rules}
-use Rattle.desk.specs.JudgeBytes.{head_with}
-use Rattle.desk.proofs.JudgeByteLaws.{all-stored}
+use Rattle.desk_state.specs.JudgeBytes.{head_with}
+use Rattle.desk_state.proofs.JudgeByteLaws.{all-stored}
 use Rattle.desk.proofs.judge.judge_out.Statement.{statement}
 use Rattle.desk.proofs.judge.judge_out.Tie as tie
 

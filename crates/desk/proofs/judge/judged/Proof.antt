@@ -3,12 +3,12 @@ use mathlib.Core.Path.{◌≡◌, refl, sym, ap, ◌∙◌, subst}
 use native.Mathlib.Omega.{arith}
 use lib.ListN.{length}
 use borrow.Author.Rules.{rules}
-use Rattle.desk.proofs.StateLaws.{edges-got, judged-by}
+use Rattle.desk_state.proofs.StateLaws.{edges-got, judged-by}
 use Rattle.monitor_lean.proofs.KeptLaws.{by-refused-kept}
-use Rattle.desk.specs.declared.Held.{Held}
-use Rattle.desk.specs.JudgeBytes.{judge_in}
-use Rattle.desk.specs.State.{edges_in, local_in, summary_in, looks_of}
-use Rattle.desk.proofs.JudgeByteLaws.{pairs-lent, pairs-long, pairs-back, judged-refused, judged-taken}
+use Rattle.desk_state.specs.declared.Held.{Held}
+use Rattle.desk_state.specs.JudgeBytes.{judge_in}
+use Rattle.desk_state.specs.State.{edges_in, local_in, summary_in, looks_of}
+use Rattle.desk_state.proofs.JudgeByteLaws.{pairs-lent, pairs-long, pairs-back, judged-refused, judged-taken}
 use Rattle.desk.proofs.judge.judged.Statement.{statement}
 use Rattle.desk.proofs.judge.judged.Tie as tie
 

@@ -3,8 +3,8 @@ use native.Mathlib.Omega.{arith}
 use borrow.Author.Rules.{rules}
 use Rattle.usage.specs.Limits.{policies}
 use Rattle.monitor_state.proofs.LookedLaws.{has_all}
-use Rattle.desk.specs.Layout.{summary_at, wide_at}
-use Rattle.desk.specs.State.{summary_in}
+use Rattle.desk_state.specs.Layout.{summary_at, wide_at}
+use Rattle.desk_state.specs.State.{summary_in}
 use Rattle.desk_positions.proofs.CopyLaws.{got-all}
 use Rattle.desk.proofs.judge.looked_at.Statement.{statement}
 use Rattle.desk.proofs.judge.looked_at.Tie as tie

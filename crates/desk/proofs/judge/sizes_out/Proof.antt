@@ -1,7 +1,7 @@
 use mathlib.Core.Path.{◌≡◌, refl, sym, ap, ◌∙◌}
 use native.Mathlib.Omega.{arith}
 use borrow.Author.Rules.{rules}
-use Rattle.desk.specs.JudgeBytes.{head_for}
+use Rattle.desk_state.specs.JudgeBytes.{head_for}
 use Rattle.desk.proofs.judge.sizes_out.Statement.{statement}
 use Rattle.desk.proofs.judge.sizes_out.Tie as tie
 

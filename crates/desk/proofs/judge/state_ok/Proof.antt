@@ -2,8 +2,8 @@ use mathlib.Core.Bool.{◌&&◌}
 use Rattle.usage.proofs.Logic.{not-true, not-false}
 use Rattle.monitor_state.specs.Judge.{state_ok_lem, order_ok_lem}
 use Rattle.monitor_state.specs.Lent.{state_of}
-use Rattle.desk.specs.JudgeBytes.{pairs_in, lent_by}
-use Rattle.desk.proofs.JudgeByteLaws.{judge-is}
+use Rattle.desk_state.specs.JudgeBytes.{pairs_in, lent_by}
+use Rattle.desk_state.proofs.JudgeByteLaws.{judge-is}
 use Rattle.desk.proofs.LoadLaws.{state-parts}
 use native.Mathlib.Omega.{arith}
 use mathlib.Core.Path.{◌≡◌, refl, sym, ap, ◌∙◌}

@@ -2,8 +2,8 @@ use mathlib.Core.Bool.{◌&&◌}
 use Rattle.usage.specs.Tables.{is_edge_table}
 use Rattle.usage.proofs.Logic.{not-true, not-false}
 use Rattle.monitor_state.specs.Judge.{state_ok_lem}
-use Rattle.desk.specs.JudgeBytes.{judge_in}
-use Rattle.desk.proofs.StateLaws.{edges_lent}
+use Rattle.desk_state.specs.JudgeBytes.{judge_in}
+use Rattle.desk_state.proofs.StateLaws.{edges_lent}
 use native.Mathlib.Omega.{arith}
 use mathlib.Core.Path.{◌≡◌, refl, sym, ap, ◌∙◌}
 use Prim.Native.Nat.{ℕ, suc, ◌+◌, ◌-◌, ◌≤◌, ◌<◌}

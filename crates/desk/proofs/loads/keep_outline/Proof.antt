@@ -1,4 +1,4 @@
-use Rattle.desk.proofs.StateLaws.{edges_lent}
+use Rattle.desk_state.proofs.StateLaws.{edges_lent}
 use Rattle.desk.proofs.StepLaws.{head-parts}
 use Rattle.desk.proofs.OutlineLoadLaws.{kept-outline}
 use native.Mathlib.Omega.{arith}

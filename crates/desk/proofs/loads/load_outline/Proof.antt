@@ -1,6 +1,6 @@
 use mathlib.Core.Path.{subst}
 use Rattle.sheet_reader.proofs.AnswerLaws.{outline-held, outline-refused-as}
-use Rattle.desk.specs.Calls.{Called, ByOutline}
+use Rattle.desk_state.specs.Calls.{Called, ByOutline}
 use Rattle.desk.proofs.OutlineLoadLaws.{outline-line, outline-no-sheet, outline-loaded, nodes-read, nodes-valid, node-room}
 use native.Mathlib.Omega.{arith}
 use mathlib.Core.Path.{◌≡◌, refl, sym, ap, ◌∙◌}

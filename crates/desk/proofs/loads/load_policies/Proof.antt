@@ -1,6 +1,6 @@
 use mathlib.Core.Path.{subst}
 use Rattle.sheet_reader.proofs.AnswerLaws.{policies-held, policies-choice, policies-refused}
-use Rattle.desk.specs.Calls.{Called, ByPolicies}
+use Rattle.desk_state.specs.Calls.{Called, ByPolicies}
 use Rattle.desk.proofs.LoadLaws.{policies-line, policies-no-sheet, policies-loaded}
 use native.Mathlib.Omega.{arith}
 use mathlib.Core.Path.{◌≡◌, refl, sym, ap, ◌∙◌}

@@ -1,6 +1,6 @@
 use Rattle.checker.specs.declared.Outcome.{Outcome}
 use Rattle.checker.specs.Promise.{outcome_verdict}
-use Rattle.desk.specs.Calls.{desk_code, plain}
+use Rattle.desk_state.specs.Calls.{desk_code, plain}
 use Rattle.desk.proofs.OutlineLoadLaws.{named-code, number-code}
 use native.Mathlib.Omega.{arith}
 use mathlib.Core.Path.{◌≡◌, refl, sym, ap, ◌∙◌}

@@ -2,10 +2,10 @@ use mathlib.Core.Bool.{◌&&◌}
 use Rattle.usage.specs.Tables.{is_node_table}
 use Rattle.usage.proofs.Logic.{not-true, not-false}
 use Rattle.desk_positions.specs.Reading.{rows_ok_lem}
-use Rattle.desk.specs.State.{table_in}
-use Rattle.desk.proofs.StateLaws.{nodes-lent}
+use Rattle.desk_state.specs.State.{table_in}
+use Rattle.desk_state.proofs.StateLaws.{nodes-lent}
 use mathlib.Core.List.{List}
-use Rattle.desk.proofs.OutlineLaws.{table-lent, table-long}
+use Rattle.desk_state.proofs.OutlineLaws.{table-lent, table-long}
 use native.Mathlib.Omega.{arith}
 use mathlib.Core.Path.{◌≡◌, refl, sym, ap, ◌∙◌}
 use Prim.Native.Nat.{ℕ, suc, ◌+◌, ◌-◌, ◌≤◌, ◌<◌}
@@ -15,7 +15,7 @@ use Rattle.desk.proofs.loads.rows_fit.Statement.{statement}
 use Rattle.desk.proofs.loads.rows_fit.Tie as tie
 use Rattle.desk.proofs.loads.rows_fit.Reads as reads
 use Rattle.desk.proofs.loads.rows_fit.Lts as lts
-use Rattle.desk_positions.proofs.rows_ok.Reads as rows-ok-reads
+use Rattle.desk_rows.proofs.rows_ok.Reads as rows-ok-reads
 use Rattle.sheet_rules.proofs.node_table_ok.Reads as node-table-ok-reads
 
 -- src/loads.rt:41:45

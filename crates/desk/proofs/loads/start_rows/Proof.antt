@@ -1,4 +1,4 @@
-use Rattle.desk.proofs.OutlineLaws.{table-lent, table-long, table-back, within-back, rows_settled}
+use Rattle.desk_state.proofs.OutlineLaws.{table-lent, table-long, table-back, within-back, rows_settled}
 use native.Mathlib.Omega.{arith}
 use mathlib.Core.Path.{◌≡◌, refl, sym, ap, ◌∙◌}
 use Prim.Native.Nat.{ℕ, suc, ◌+◌, ◌-◌, ◌≤◌, ◌<◌}
@@ -8,7 +8,7 @@ use Rattle.desk.proofs.loads.start_rows.Statement.{statement}
 use Rattle.desk.proofs.loads.start_rows.Tie as tie
 use Rattle.desk.proofs.loads.start_rows.Reads as reads
 use Rattle.desk.proofs.loads.start_rows.Lts as lts
-use Rattle.desk_positions.proofs.start.Reads as start-reads
+use Rattle.desk_rows.proofs.start.Reads as start-reads
 
 -- src/loads.rt:191:42
 sub-start : tie.Need-overflow-sub-start

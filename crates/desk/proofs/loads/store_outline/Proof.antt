@@ -1,6 +1,6 @@
 use mathlib.Core.Path.{subst}
 use Rattle.usage.proofs.TableLaws.{decides-node-table}
-use Rattle.desk.specs.Layout.{desk_bytes}
+use Rattle.desk_state.specs.Layout.{desk_bytes}
 use Rattle.desk.proofs.LoadLaws.{start_small}
 use Rattle.desk.proofs.OutlineLoadLaws.{outline-kept}
 use native.Mathlib.Omega.{arith}

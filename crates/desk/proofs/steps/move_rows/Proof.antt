@@ -5,8 +5,8 @@ use Rattle.usage.specs.Valid.{OutlineOk}
 use Rattle.usage.specs.Tables.{nodes_of}
 use Rattle.desk_positions.specs.Positions.{next_positions}
 use Rattle.desk_positions.specs.Growth.{Tabled, Settles, step_from}
-use Rattle.desk.proofs.StateLaws.{nodes-got}
-use Rattle.desk.proofs.OutlineLaws.{table-lent, table-long, table-back, within-back, rows_settled}
+use Rattle.desk_state.proofs.StateLaws.{nodes-got}
+use Rattle.desk_state.proofs.OutlineLaws.{table-lent, table-long, table-back, within-back, rows_settled}
 use native.Mathlib.Omega.{arith}
 use mathlib.Core.Path.{◌≡◌, refl, sym, ap, ◌∙◌}
 use Prim.Native.Nat.{ℕ, suc, ◌+◌, ◌-◌, ◌≤◌, ◌<◌}
@@ -17,7 +17,7 @@ use Rattle.desk.proofs.steps.move_rows.Tie as tie
 use Rattle.desk.proofs.steps.move_rows.Reads as reads
 use Rattle.desk.proofs.steps.move_rows.Lts as lts
 use Rattle.desk.proofs.bytes.bytes_in.Reads as bytes-in-reads
-use Rattle.desk_positions.proofs.next.Reads as next-reads
+use Rattle.desk_rows.proofs.next.Reads as next-reads
 
 -- src/steps.rt:133:13
 cast-n : tie.Need-overflow-cast-n

@@ -4,11 +4,11 @@ use mathlib.Core.List.{List}
 use Rattle.usage.specs.Tables.{is_node_table}
 use Rattle.usage.proofs.Logic.{not-true, not-false, and-false}
 use Rattle.desk_positions.specs.Reading.{rows_ok_lem}
-use Rattle.desk.specs.State.{nodes_in, table_in}
-use Rattle.desk.specs.Calls.{Called, no_desk, ByStep}
-use Rattle.desk.proofs.CallLaws.{bad-rows}
-use Rattle.desk.proofs.StateLaws.{nodes-lent}
-use Rattle.desk.proofs.OutlineLaws.{table-lent, table-long}
+use Rattle.desk_state.specs.State.{nodes_in, table_in}
+use Rattle.desk_state.specs.Calls.{Called, no_desk, ByStep}
+use Rattle.desk_state.proofs.CallLaws.{bad-rows}
+use Rattle.desk_state.proofs.StateLaws.{nodes-lent}
+use Rattle.desk_state.proofs.OutlineLaws.{table-lent, table-long}
 use Rattle.desk.proofs.StepLaws.{head-parts, listed-parts, rows-unfit, rows-encoded}
 use native.Mathlib.Omega.{arith}
 use mathlib.Core.Path.{◌≡◌, refl, sym, ap, ◌∙◌}
@@ -21,7 +21,7 @@ use Rattle.desk.proofs.steps.on_outline.Reads as reads
 use Rattle.desk.proofs.steps.on_outline.Lts as lts
 use Rattle.desk.proofs.steps.on_rows.Reads as on-rows-reads
 use Rattle.desk.proofs.steps.reply_code.Reads as reply-code-reads
-use Rattle.desk_positions.proofs.rows_ok.Reads as rows-ok-reads
+use Rattle.desk_rows.proofs.rows_ok.Reads as rows-ok-reads
 use Rattle.sheet_rules.proofs.node_table_ok.Reads as node-table-ok-reads
 
 -- src/steps.rt:182:45

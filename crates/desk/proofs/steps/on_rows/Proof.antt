@@ -5,7 +5,7 @@ use Rattle.usage.specs.Valid.{OutlineOk}
 use Rattle.usage.specs.Tables.{nodes_of}
 use Rattle.desk_positions.specs.Positions.{next_positions}
 use Rattle.desk_positions.specs.Growth.{Tabled, step_from}
-use Rattle.desk.specs.Code.{SettledIn}
+use Rattle.desk_state.specs.State.{SettledIn}
 use Rattle.desk.proofs.StepLaws.{head-parts, encoded-head, on-refused, on-small, on-moved, on-kept}
 use Rattle.desk.proofs.ToldLaws.{told-refusal, told-small, called-refused, called-taken, told-stored, moved-stored, moved-within, told-settles}
 use Rattle.desk.proofs.ToldLaws.{told-moves}

@@ -1,7 +1,7 @@
 use Rattle.monitor_state.specs.declared.Answer.{Answer}
-use Rattle.desk.specs.Calls.{desk_code, given_by}
-use Rattle.desk.specs.Code.{told}
-use Rattle.desk.proofs.CallLaws.{plain-bit, violated-bit, refused-bit}
+use Rattle.desk_state.specs.Calls.{desk_code, given_by}
+use Rattle.desk_state.specs.Calls.{told}
+use Rattle.desk_state.proofs.CallLaws.{plain-bit, violated-bit, refused-bit}
 use native.Mathlib.Omega.{arith}
 use mathlib.Core.Path.{◌≡◌, refl, sym, ap, ◌∙◌}
 use Prim.Native.Nat.{ℕ, suc, ◌+◌, ◌-◌, ◌≤◌, ◌<◌}

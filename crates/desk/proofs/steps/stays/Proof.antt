@@ -4,8 +4,8 @@ use Rattle.usage.specs.Valid.{OutlineOk}
 use Rattle.usage.specs.Tables.{nodes_of}
 use Rattle.desk_positions.specs.Positions.{stride_all, is_any}
 use Rattle.desk_positions.specs.Growth.{Tabled, step_from}
-use Rattle.desk.proofs.StateLaws.{nodes-lent}
-use Rattle.desk.proofs.OutlineLaws.{table-lent, table-long}
+use Rattle.desk_state.proofs.StateLaws.{nodes-lent}
+use Rattle.desk_state.proofs.OutlineLaws.{table-lent, table-long}
 use native.Mathlib.Omega.{arith}
 use mathlib.Core.Path.{◌≡◌, refl, sym, ap, ◌∙◌}
 use Prim.Native.Nat.{ℕ, suc, ◌+◌, ◌-◌, ◌≤◌, ◌<◌}
@@ -15,7 +15,7 @@ use Rattle.desk.proofs.steps.stays.Statement.{statement}
 use Rattle.desk.proofs.steps.stays.Tie as tie
 use Rattle.desk.proofs.steps.stays.Reads as reads
 use Rattle.desk.proofs.steps.stays.Lts as lts
-use Rattle.desk_positions.proofs.leads.Reads as leads-reads
+use Rattle.desk_rows.proofs.leads.Reads as leads-reads
 
 -- src/steps.rt:110:9
 returns : tie.Need-returns

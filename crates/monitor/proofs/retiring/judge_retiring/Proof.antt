@@ -17,7 +17,7 @@ use Rattle.monitor.proofs.retiring.judge_retiring.Statement.{statement}
 use Rattle.monitor.proofs.retiring.judge_retiring.Tie as tie
 use Rattle.monitor.proofs.retiring.judge_retiring.Reads as reads
 use Rattle.monitor.proofs.retiring.judge_retiring.Lts as lts
-use Rattle.monitor_pairs.proofs.blocks.retire.Reads as blocks-retire-reads
+use Rattle.monitor_blocks.proofs.blocks.retire.Reads as blocks-retire-reads
 use Rattle.monitor_sets.proofs.created.place_of.Reads as place-of-reads
 use Rattle.monitor_sets.proofs.instances.broken_set.Reads as broken-set-reads
 use Rattle.monitor_sets.proofs.retiring.close_up.Reads as close-up-reads

@@ -8,7 +8,7 @@ use Rattle.monitor.proofs.sandboxes.put_back.Statement.{statement}
 use Rattle.monitor.proofs.sandboxes.put_back.Tie as tie
 use Rattle.monitor.proofs.sandboxes.put_back.Reads as reads
 use Rattle.monitor.proofs.sandboxes.put_back.Lts as lts
-use Rattle.monitor_pairs.proofs.blocks.reset.Reads as reset-reads
+use Rattle.monitor_blocks.proofs.blocks.reset.Reads as reset-reads
 
 cast-reset : tie.Need-overflow-cast-reset
 cast-reset c = search rules

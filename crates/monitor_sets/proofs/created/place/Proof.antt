@@ -1,5 +1,6 @@
-use Prim.Native.Nat.{◌+◌, ◌-◌, ◌≤◌}
-use mathlib.Core.Path.{◌≡◌, refl, sym, ◌∙◌}
+-- `place` meets its contract. The invariant: what is found among the numbers from i on.
+use Prim.Native.Nat.{ℕ, ◌+◌, ◌-◌, ◌≤◌}
+use mathlib.Core.Path.{◌≡◌, sym, ap, ◌∙◌}
 use native.Mathlib.Omega.{arith}
 use borrow.Author.Rules.{rules}
 use lib.ListN.{take, drop}
@@ -10,14 +11,18 @@ use Rattle.monitor_sets.proofs.created.place.Statement.{statement}
 use Rattle.monitor_sets.proofs.created.place.Tie as tie
 
 abbrev invariant-loop : tie.invariant-loop
-invariant-loop created count x i₀ i =
-    (i ≤ count) × (place_from x (first_created_lem + i) (drop i (take count created)) ≡ place_from x first_created_lem (take count created))
+invariant-loop created count x at₀ i₀ at i = (i ≤ count) × (at ≡ place_from x (first_created_lem + i) (drop i (take count created)))
 
 abbrev decreases-loop : tie.decreases-loop
-decreases-loop created count x i₀ i = count - i
+decreases-loop created count x at₀ i₀ at i = i
 
 loop-holds : tie.Need-loop-init invariant-loop decreases-loop
-loop-holds c = (search rules, refl)
+loop-holds c =
+    let a = c.args in
+    (search rules, sym (place_end a.created.now a.count (omega arith) a.x (first_created_lem + a.count) a.count (omega arith)))
+
+sub-i : tie.Need-overflow-sub-i invariant-loop decreases-loop
+sub-i c = search rules
 
 mul-if1 : tie.Need-overflow-mul-if1 invariant-loop decreases-loop
 mul-if1 c = search rules
@@ -25,18 +30,8 @@ mul-if1 c = search rules
 element-copy-out-if1 : tie.Need-element-copy-out-if1 invariant-loop decreases-loop
 element-copy-out-if1 c = search rules
 
-add-result : tie.Need-overflow-add-result invariant-loop decreases-loop
-add-result c = search rules
-
-returns : tie.Need-returns invariant-loop decreases-loop
-returns c =
-    let a = c.before.before.before.before.args in
-    let t = c.before.before.before.loop in
-    sym (place_here a.created.now a.count (omega arith) a.x (first_created_lem + t.i) t.i (omega arith) c.if1.true)
-    ∙ t.invariant.1
-
-add-i : tie.Need-overflow-add-i invariant-loop decreases-loop
-add-i c = search rules
+add_at : tie.Need-overflow-add-at invariant-loop decreases-loop
+add_at c = search rules
 
 loop-less : tie.Need-loop-smaller invariant-loop decreases-loop
 loop-less c = search rules
@@ -44,17 +39,28 @@ loop-less c = search rules
 loop-again : tie.Need-loop-preserved invariant-loop decreases-loop
 loop-again c =
     let a = c.before.before.before.before.args in
-    let t = c.before.before.before.loop in (
+    let i = c.before.before.before.loop.i in (
       search rules,
-      sym (place-more a.created.now a.count (omega arith) a.x first_created_lem t.i (omega arith) c.if1.false)
-          ∙ t.invariant.1,
+      sym (place_here a.created.now a.count (omega arith) a.x (first_created_lem + (i - 1)) (i - 1) (omega arith) c.if1.true),
     )
 
-returns-2 : tie.Need-returns-2 invariant-loop decreases-loop
-returns-2 c =
-    let a = c.before.before.args in
-    let t = c.before.loop in
-    sym (place_end a.created.now a.count (omega arith) a.x (first_created_lem + t.i) t.i (omega arith)) ∙ t.invariant.1
+loop-less-2 : tie.Need-loop-smaller-2 invariant-loop decreases-loop
+loop-less-2 c = search rules
+
+loop-again-2 : tie.Need-loop-preserved-2 invariant-loop decreases-loop
+loop-again-2 c =
+    let a = c.before.before.before.before.args in
+    let u = c.before.before.before.loop in
+    let e : u.i ≡ u.i - 1 + 1 = omega arith in (
+      search rules,
+      u.invariant.1 ∙ ap (λ (k : ℕ). place_from a.x (first_created_lem + k) (drop k (take a.count a.created.now))) e
+          ∙ sym (place-more a.created.now a.count (omega arith) a.x first_created_lem (u.i - 1) (omega arith) c.if1.false),
+    )
+
+returns : tie.Need-returns invariant-loop decreases-loop
+returns c =
+    let e : c.before.loop.i ≡ 0 = omega arith in
+    rw e at c.before.loop.invariant.1
 
 pub place-spec : {M : Type 1} → statement M
 place-spec =
@@ -63,11 +69,12 @@ place-spec =
     invariant-loop
     decreases-loop
     loop-holds
+    sub-i
     mul-if1
     element-copy-out-if1
-    add-result
-    returns
-    add-i
+    add_at
     loop-less
     loop-again
-    returns-2)
+    loop-less-2
+    loop-again-2
+    returns)

@@ -16,17 +16,17 @@ returns-2 c = (
 sets-known-requires : tie.Need-sets-known-requires
 sets-known-requires c κs = search rules
 
-move-sets-requires : tie.Need-move-sets-requires
-move-sets-requires c κs = search rules
+move-begun-requires : tie.Need-move-begun-requires
+move-begun-requires c κs = search rules
 
 returns-3 : tie.Need-returns-3
 returns-3 c = (
-  c.move_sets.ensures.0
+  c.move-begun.ensures.0
       ∙ sym (simp (le-leb _ _ c.before.before.before.before.before.if1.false, lt-ltb _ _ c.before.before.before.before.if2.false)),
-  c.move_sets.ensures.1
+  c.move-begun.ensures.1
       ∙ sym (simp (le-leb _ _ c.before.before.before.before.before.if1.false, lt-ltb _ _ c.before.before.before.before.if2.false)),
 )
 
 pub move-event-spec : {M : Type 1} → statement M
 move-event-spec =
-    tie.close (tie.spec returns returns-2 sets-known-requires move-sets-requires returns-3)
+    tie.close (tie.spec returns returns-2 sets-known-requires move-begun-requires returns-3)

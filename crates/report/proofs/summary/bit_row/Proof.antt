@@ -5,7 +5,7 @@ use lib.ListN.{length}
 use borrow.Author.Rules.{rules}
 use borrow.Author.Tests.{eq-eqb, ne_eqb}
 use Rattle.automaton.specs.Mask.{has}
-use Rattle.monitor_sets.proofs.SetLaws.{has-bit}
+use Rattle.automaton.proofs.MaskLaws.{has-bit}
 use Rattle.report_lines.specs.Lines.{mark_row_lem}
 use Rattle.report_lines.proofs.FitLaws.{stored_at}
 use Rattle.report.specs.Summary.{bit_text}

@@ -12,7 +12,6 @@ mod verdicts;
 use super::malformed;
 use super::Case;
 use crate::damage::{crowded, damaged, rows, sheet, Text};
-use crate::policy::PAIRS_ALLOWED;
 use crate::sheet::{MOST_EDGES, MOST_NODES, MOST_STEPS, OUTLINE_NAMES, POLICY_NAMES, TRACE_NAMES};
 use fields::{edge_borders, node_borders, step_borders};
 use judged::{judged_borders, trace_examples};
@@ -87,9 +86,7 @@ pub fn trace_cases() -> Vec<Case> {
     cases.extend(order_cases());
     cases.extend(retired_cases());
     cases.extend(local_traces());
-    if PAIRS_ALLOWED {
-        cases.extend(paired_traces());
-    }
+    cases.extend(paired_traces());
     cases
 }
 
@@ -111,9 +108,7 @@ pub fn outline_cases() -> Vec<Case> {
     cases.extend(both_refused(&outline(OUTLINE_I)));
     cases.extend(with_other(&policies(P), malformed::outlines()));
     cases.extend(local_outlines());
-    if PAIRS_ALLOWED {
-        cases.extend(paired_outlines());
-    }
+    cases.extend(paired_outlines());
     cases
 }
 

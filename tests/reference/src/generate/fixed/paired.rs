@@ -1,4 +1,4 @@
-//! Pair policies, where sheets have such: which two resources an instance has, what becomes of retired ones, verdicts that hang on y, and
+//! Pair policies: which two resources an instance has, what becomes of retired ones, verdicts that hang on y, and
 //! 14.
 
 use super::judged::creates;

@@ -1,0 +1,10 @@
+pub mod DeskLaws
+pub mod HeadLaws
+pub mod JudgeByteLaws
+pub mod StateLaws
+pub mod JudgedLaws
+pub mod CallLaws
+pub mod OutlineLaws
+pub mod SequenceLaws
+pub mod RefusalLaws
+pub mod NumberLaws
