@@ -1,7 +1,7 @@
 // What the programs do with files. No contract can say what is read or written.
 #![tactic(auto)]
 
-ghost use Rattle.std.specs.Prelude.{◌≡◌, leb, length};
+ghost use Rattle.std.specs.Prelude.{IsSome, IsUtf8, ◌≡◌, leb, length};
 ghost use Rattle.files.specs.Counts.{IsPrefixLen};
 
 use sheet_lines::SHEET_ROOM;
@@ -26,8 +26,10 @@ pub fn read_file(rt: &impl Files, path: &[u8], buffer: &mut [u8]) -> usize
     fill(&mut file, buffer)
 }
 
-// The file at this path, where the path is text and the file can be opened.
-fn opened<R: Files>(rt: &R, path: &[u8]) -> Option<R::File> {
+// The file at this path, where it can be opened; a path that is no text opens none.
+fn opened<R: Files>(rt: &R, path: &[u8]) -> Option<R::File>
+    ensures { IsSome result → IsUtf8 path.now }
+{
     let name = str::from_utf8(path).ok()?;
     fs::open(rt, name).ok()
 }
