@@ -73,8 +73,8 @@ build() {
             "run this once where the checkout can be written to"
         exit 2
     fi
-    say "building the programs. The proofs of all that they use are checked first: some four minutes on two processors, less where" \
-        "parts were checked before"
+    say "building the programs. The proofs of all that they use are checked first, which takes some minutes, less where parts were" \
+        "checked before"
     for name in $programs; do
         crate=$here/crates/$name
         if ! { (cd "$crate" && rt check 2>&1) && code=0 || code=$?; echo "wiforekun status $code"; } | progress; then
