@@ -8,7 +8,8 @@ use borrow.Author.Tests.{lt-ltb, le-ltb}
 use lib.ListN.{length}
 use Rattle.usage.specs.Limits.{policies}
 use Rattle.checker_trace.specs.Answer.{most_numbers}
-use Rattle.checker_counterexample.specs.declared.Explanation.TheVariants.{Refused}
+use Rattle.std.specs.Prelude.{Err}
+use Rattle.usage.specs.declared.Reason.TheVariants.{Room, Table}
 use Rattle.api_c.specs.Choice.{choice_of}
 use Rattle.api_c.specs.Check.{Chosen, no_choice, chosen, refusal_without_choice}
 use Rattle.api_c.specs.Summary.{number_without_choice}
@@ -22,11 +23,11 @@ module _ {A : Type 0} {choice : ℕ} {other : A} {Right : Bool → A → Type 0}
   right-chosen h (no_choice k) = absurd (omega arith)
   right-chosen h (chosen k r) = r
 
-pub refusal-small : (t : List ℕ) → length t < most_numbers → Refused 40 ≡ refusal_without_choice t
+pub refusal-small : (t : List ℕ) → length t < most_numbers → Err Room ≡ refusal_without_choice t
 unfolding refusal_without_choice
 refusal-small t l = simp (lt-ltb (length t) most_numbers l)
 
-pub refusal-roomy : (t : List ℕ) → most_numbers ≤ length t → Refused 41 ≡ refusal_without_choice t
+pub refusal-roomy : (t : List ℕ) → most_numbers ≤ length t → Err Table ≡ refusal_without_choice t
 unfolding refusal_without_choice
 refusal-roomy t l = simp (le-ltb (length t) most_numbers l)
 

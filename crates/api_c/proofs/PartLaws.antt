@@ -2,14 +2,18 @@
 use Prim.Native.Nat.{ℕ, ◌<◌, ◌≤◌}
 use mathlib.Core.Path.{◌≡◌, refl, sym, ap, ◌∙◌}
 use mathlib.Core.Bool.{Bool, true, false, not, ◌&&◌, cond}
-use mathlib.Core.List.{List, [], ◌∷◌}
+use mathlib.Core.List.{List}
 use borrow.Author.Tests.{le-leb, lt-leb, leb-true}
 use lib.Dec.{leb}
 use Rattle.usage.specs.declared.RawStep.{RawStep}
 use Rattle.usage.specs.Answers.{refused}
+use Rattle.usage.specs.declared.Reason.{Reason}
+use Rattle.usage.specs.declared.Reason.TheVariants.{Table}
 use Rattle.usage.specs.Tables.{is_edge_table}
 use Rattle.usage.proofs.Logic.{clash, false-true, and_right}
+use Rattle.std.specs.Prelude.{Option, Some, None}
 use Rattle.monitor_state.specs.declared.State.{State}
+use Rattle.monitor_state.specs.declared.Sizes.{Sizes}
 use Rattle.monitor_state.specs.declared.Answer.{Answer}
 use Rattle.monitor_state.specs.declared.Answer.TheVariants.{Allowed, Violated, Refused}
 use Rattle.monitor_state.specs.declared.Judgement.{Judgement}
@@ -20,7 +24,7 @@ use Rattle.monitor_state.proofs.KeptLaws.{refused-kept}
 use Rattle.monitor_lean.specs.Lean.{Looks, judge_by}
 use Rattle.monitor_lean.proofs.KeptLaws.{by-refused-kept, by-table-refused}
 use Rattle.api_c.specs.Parts.{Parts, parts_of, flag, highest_in, most_number, is_held, held_in_lem, holding, Answered, refuse_parts, answered_in}
-use Rattle.api_c.specs.Parts.{Judges, parts_by}
+use Rattle.api_c.specs.Parts.{Judges, parts_by, sizes_by, sizes_held, numbers_told}
 use Rattle.api_c.specs.Choice.{is_choice, choice_of}
 use Rattle.api_c.specs.Code.{is_refusal_lem}
 
@@ -58,15 +62,19 @@ answered-verdict p (Refused n) s = refl
 
 -- ── Whether the arrays hold a state ──
 
--- a flag that is none
-pub flag-above : (p : Parts) → 1 < flag p → is_held p ≡ false
-unfolding is_held
-flag-above p h = simp (lt-leb (flag p) 1 h)
+by_test : (b : Bool) (y : Sizes) (o : Option Sizes) → o ≡ cond b (Some y) None
+    → ((z : Sizes) → o ≡ Some z → (b ≡ true) × (z ≡ y)) × (((z : Sizes) → o ≡ Some z → ⊥) → b ≡ false)
+by_test true y o e = (λ z f. (refl, cc), λ n. absurd (n y e))
+by_test false y o e = (λ z f. clash (cc), λ n. refl)
 
--- a highest number that is none
-pub highest-above : (p : Parts) → flag p ≤ 1 → most_number < highest_in p → is_held p ≡ false
-unfolding is_held
-highest-above p f h = simp (le-leb (flag p) 1 f) (lt-leb (highest_in p) most_number h)
+module _ (p : Parts) (o : Option Sizes) (e : o ≡ sizes_held p.numbers) where
+  pub held-sizes : (z : Sizes) → o ≡ Some z → (is_held p ≡ true) × (z ≡ sizes_by p.numbers)
+  unfolding is_held
+  held-sizes = (by_test (leb (flag p) 1 && leb (highest_in p) most_number) (sizes_by p.numbers) o e).0
+
+  pub none-held : ((z : Sizes) → o ≡ Some z → ⊥) → is_held p ≡ false
+  unfolding is_held
+  none-held = (by_test (leb (flag p) 1 && leb (highest_in p) most_number) (sizes_by p.numbers) o e).1
 
 -- and the highest number of arrays that hold one
 pub held-highest : (p : Parts) → is_held p ≡ true → highest_in p ≤ most_number
@@ -97,8 +105,8 @@ module _ (judge : Judges) (edges : List ℕ) (choice : ℕ) (p : Parts) (raw : R
 
   -- of a table that no sheet gives, and of a refusal
   pub record Refusing : Type 0 where
-    pub table : is_edge_table edges ≡ false → judge edges (choice_of choice) (held_in_lem p) raw ≡ refuse 41 (held_in_lem p)
-    pub kept : (n : ℕ) → (judge edges (choice_of choice) (held_in_lem p) raw).answer ≡ Refused n
+    pub table : is_edge_table edges ≡ false → judge edges (choice_of choice) (held_in_lem p) raw ≡ refuse Table (held_in_lem p)
+    pub kept : (n : Reason) → (judge edges (choice_of choice) (held_in_lem p) raw).answer ≡ Refused n
         → (judge edges (choice_of choice) (held_in_lem p) raw).state ≡ held_in_lem p
 
   -- else the answer is the judge's, 41 too
@@ -151,13 +159,10 @@ module _ (judge : Judges) (edges : List ℕ) (choice : ℕ) (p : Parts) (raw : R
             p.numbers) same
 
     -- otherwise the numbers are those of the new state
-    pub taken-left : (flag : ℕ) → is_refusal_lem t.answer ≡ false → flag ≡ cond t.sizes.halted 1 0
-        → parts_of sets pairs possible created unclosed order (t.sizes.count ∷ flag ∷ t.sizes.depth ∷ t.sizes.highest ∷ [])
-        ≡ (parts_by judge edges choice p raw).parts
+    pub taken-left : is_refusal_lem t.answer ≡ false
+        → parts_of sets pairs possible created unclosed order (numbers_told t.sizes) ≡ (parts_by judge edges choice p raw).parts
     unfolding holding
-    taken-left flag r e = left
-        (ap (λ (n : ℕ). parts_of sets pairs possible created unclosed order (t.sizes.count ∷ n ∷ t.sizes.depth ∷ t.sizes.highest ∷ [])) e
-        ∙ by_answer t.answer r)
+    taken-left r = left (by_answer t.answer r)
       where
         by_answer : (a : Answer) → is_refusal_lem a ≡ false
             → holding (judgement_of t (lent_of sets pairs possible created unclosed order)).state ≡ (answered_in p a

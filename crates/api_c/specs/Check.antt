@@ -4,7 +4,9 @@ use Rattle.usage.specs.Answers.{Verdict, refused}
 use Rattle.checker_trace.specs.Answer.{most_numbers}
 use Rattle.checker.specs.Promise.{RightVerdict, CheckPromise}
 use Rattle.checker_counterexample.specs.declared.Explanation.{Explanation}
-use Rattle.checker_counterexample.specs.declared.Explanation.TheVariants.{Refused}
+use Rattle.std.specs.Prelude.{Result, Err}
+use Rattle.usage.specs.declared.Reason.{Reason}
+use Rattle.usage.specs.declared.Reason.TheVariants.{Room, Table}
 use Rattle.checker_counterexample.specs.Explained.{Explained}
 use Rattle.api_c.specs.Choice.{choice_of}
 use Rattle.api_c.specs.Codes.{code_of, explanation_code_lem}
@@ -33,17 +35,17 @@ pub record Answers (choice : ℕ) (edges nodes : List ℕ) (r : ℕ) : Type 0 wh
 -- ── With a counterexample ──
 
 -- its table is looked at first: 40, then 41
-unfoldable pub refusal_without_choice : List ℕ → Explanation
-refusal_without_choice t = Refused (cond (ltb (length t) most_numbers) 40 41)
+unfoldable pub refusal_without_choice : List ℕ → Result Explanation Reason
+refusal_without_choice t = Err (cond (ltb (length t) most_numbers) Room Table)
 
 -- the explanation, and what the lent table then holds
-abbrev pub ExplainedFor : ℕ → List ℕ → List ℕ → List ℕ → Explanation × List ℕ → Type 0
+abbrev pub ExplainedFor : ℕ → List ℕ → List ℕ → List ℕ → Result Explanation Reason × List ℕ → Type 0
 ExplainedFor choice edges nodes t =
     Chosen choice (refusal_without_choice t, t) (λ local (x, t'). Explained local edges nodes t x t')
 
 -- The number that is answered where a trace is asked for too: that of an explanation that the check with a counterexample promises, with
 -- what the lent table then holds. Which of several shortest traces is written is left free, and nothing else.
 pub record Explains (choice : ℕ) (edges nodes t : List ℕ) (r : ℕ) (t' : List ℕ) : Type 0 where
-  pub explanation : Explanation
+  pub explanation : Result Explanation Reason
   pub explained : ExplainedFor choice edges nodes t (explanation, t')
   pub told : r ≡ explanation_code_lem explanation

@@ -1,9 +1,11 @@
 -- The judge over a state that lies in the arrays that a caller lends.
-use Rattle.std.specs.Prelude.{ℕ, Bool, not, ◌&&◌, cond, List, [], ◌∷◌, eqb, leb, get_or}
+use Rattle.std.specs.Prelude.{ℕ, Bool, not, ◌&&◌, cond, List, [], ◌∷◌, eqb, leb, get_or, Option, Some, None}
 use Rattle.usage.specs.declared.RawStep.{RawStep}
 use Rattle.usage.specs.Answers.{Verdict, refused}
+use Rattle.usage.specs.Reasons.{number_of}
 use Rattle.usage.specs.Tables.{is_edge_table}
 use Rattle.monitor_state.specs.declared.State.{State}
+use Rattle.monitor_state.specs.declared.Sizes.{Sizes}
 use Rattle.monitor_state.specs.declared.Answer.{Answer}
 use Rattle.monitor_state.specs.declared.Answer.TheVariants.{Allowed, Violated, Refused}
 use Rattle.monitor_state.specs.declared.Judgement.{Judgement}
@@ -42,10 +44,18 @@ unfoldable pub is_held : Parts → Bool
 is_held p = leb (flag p) 1 && leb (highest_in p) most_number
 
 -- that state
+abbrev pub sizes_by : List ℕ → Sizes
+sizes_by l = record { count = get_or l 0 0; highest = get_or l 3 0; depth = get_or l 2 0; halted = eqb (get_or l 1 0) 1 }
+
 unfoldable pub held_in_lem : Parts → State
-held_in_lem p =
-    state_of (lent_of p.sets p.pairs p.possible p.created p.unclosed p.order)
-    (record { count = get_or p.numbers 0 0; highest = highest_in p; depth = get_or p.numbers 2 0; halted = eqb (flag p) 1 })
+held_in_lem p = state_of (lent_of p.sets p.pairs p.possible p.created p.unclosed p.order) (sizes_by p.numbers)
+
+-- its numbers, where the lent ones are a state's
+abbrev pub sizes_held : List ℕ → Option Sizes
+sizes_held l = cond (leb (get_or l 1 0) 1 && leb (get_or l 3 0) most_number) (Some (sizes_by l)) None
+
+abbrev pub numbers_told : Sizes → List ℕ
+numbers_told z = z.count ∷ cond z.halted 1 0 ∷ z.depth ∷ z.highest ∷ []
 
 -- the arrays that hold a state
 unfoldable pub holding : State → Parts
@@ -66,7 +76,7 @@ refuse_parts n p = record { verdict = refused n; parts = p }
 abbrev pub answered_in : Parts → Answer → State → Answered
 answered_in p Allowed s = record { verdict = verdict_of Allowed; parts = holding s }
 answered_in p (Violated q) s = record { verdict = verdict_of (Violated q); parts = holding s }
-answered_in p (Refused n) s = refuse_parts n p
+answered_in p (Refused r) s = refuse_parts (number_of r) p
 
 -- A judge, over the arrays. A number that is no choice of past is 41. A flag that is neither 0 nor 1 is that of no state, and so is a
 -- highest number of more than 32 bits: 42, after 41 and before 20.

@@ -7,19 +7,19 @@ ghost use Rattle.report.specs.Output.{length_put, put as output_put};
 ghost use Rattle.report.specs.Expression.{expression_printed, expression_room};
 ghost use Rattle.api_c.specs.Reading.{read_code};
 
-use sheet_lines::Reading;
+use usage::SheetRefusal;
 
 // What is more where a refusal has a line.
 const ON_A_LINE: usize = 65536;
 
-fn read_code(r: Reading) -> usize
+fn read_code(r: Result<usize, SheetRefusal>) -> usize
     ensures { result ≡ read_code (reading_answer r) }
 {
     match r {
-        Reading::Stored(n) => n,
-        Reading::Refused { line, number } => {
-            let told = 512 + number as usize;
-            if line == 0 {
+        Ok(n) => n,
+        Err(r) => {
+            let told = 512 + u8::from(r.reason) as usize;
+            if r.line == 0 {
                 return told;
             }
             ON_A_LINE + told
@@ -34,8 +34,7 @@ pub fn wiforekun_read_expression(text: &[u8], table: &mut [u8]) -> usize
     ensures value { result ≡ read_code (answered (expression_into (length table.old) text.now)) }
     ensures table_after { table.new ≡ stored (expression_into (length table.old) text.now) table.old }
 {
-    let r = sheet_expression::read_expression(text, table);
-    read_code(r)
+    read_code(sheet_expression::read_expression(text, table))
 }
 
 // What the program that reads an expression prints, from the bytes of `outline.expr`: its length, and 0 where `out` lacks the room.

@@ -2,23 +2,24 @@
 ghost use Rattle.std.specs.Prelude.{◌≡◌};
 ghost use Rattle.usage.specs.declared.RawStep.{RawStep};
 ghost use Rattle.monitor_lean.specs.Promise.{LeanPromise};
+ghost use Rattle.checker.specs.Summary.{summary_number};
 ghost use Rattle.api_c.specs.Choice.{choice_of};
 ghost use Rattle.api_c.specs.Codes.{code_of};
 ghost use Rattle.api_c.specs.Parts.{parts_of, lean_parts};
 ghost use Rattle.api_c.specs.Summary.{summary_code_lem, Summarizes};
 
 use monitor_sets::SETS;
-use monitor_state::{Answer, PAIR_SETS, Sizes, Told};
-use usage::{MOST_CREATED, MOST_UNCLOSED, POLICIES, RawStep};
+use monitor_state::PAIR_SETS;
+use usage::{MOST_CREATED, MOST_UNCLOSED, POLICIES, RawStep, Reason};
 
 // What is answered for a summary: 0, or a refusal as `wiforekun_check` answers it.
-fn summary_code(n: u8) -> u32
-    ensures { result ≡ summary_code_lem n }
+fn summary_code(r: Result<(), Reason>) -> u32
+    ensures { result ≡ summary_code_lem (summary_number r) }
 {
-    if n == 0 {
-        return 0;
+    match r {
+        Ok(()) => 0,
+        Err(reason) => crate::refused(reason),
     }
-    512 + n as u32
 }
 
 // The exact summary of an outline, as a flat table of nodes, under a flat table of edges and the choice of past `local`: for each policy a
@@ -29,12 +30,11 @@ pub fn wiforekun_summary(edges: &[u8], local: u32, nodes: &[u8], marks: &mut [u6
 {
     if crate::MOST_CHOICE < local {
         if marks.len() < POLICIES {
-            return summary_code(40);
+            return summary_code(Err(Reason::Room));
         }
-        return summary_code(41);
+        return summary_code(Err(Reason::Table));
     }
-    let n = checker::summary::summary(edges, local == 1, nodes, marks);
-    summary_code(n)
+    summary_code(checker::summary::summary(edges, local == 1, nodes, marks))
 }
 
 // One step of the lean judge: as `wiforekun_judge_parts`, but that a step is judged by the policies alone that the lent summary marks at it.
@@ -67,28 +67,12 @@ pub fn wiforekun_judge_lean_parts(
         (record { kind = kind; a = a; b = b })).parts }
     ensures lean_promise { LeanPromise edges.now (choice_of local) marks.now }
 {
-    let count = numbers[0] as usize;
-    let flag = numbers[1];
-    let depth = numbers[2] as usize;
-    let highest = numbers[3];
     if crate::MOST_CHOICE < local {
-        return crate::code(Answer::Refused(41));
+        return crate::refused(Reason::Table);
     }
-    if 1 < flag {
+    let Some(sizes) = crate::sizes_in(numbers) else {
         return crate::no_state(edges);
-    }
-    if crate::MOST_NUMBER < highest {
-        return crate::no_state(edges);
-    }
-    let top = highest as u32;
-    let sizes = Sizes {
-        count,
-        highest: top,
-        depth,
-        halted: flag == 1,
     };
-    let lent = *pairs;
-    monitor_state::known(lent);
     let t = monitor_lean::judge_lean(
         marks,
         edges,
@@ -102,14 +86,8 @@ pub fn wiforekun_judge_lean_parts(
         sizes,
         RawStep { kind, a, b },
     );
-    let answer = t.answer;
-    if !crate::is_refusal(answer) {
-        let after = t.sizes;
-        let n = after.count as u64;
-        let h = crate::flag_of(after.halted);
-        let d = after.depth as u64;
-        let m = after.highest as u64;
-        *numbers = [n, h, d, m];
+    if !crate::is_refusal(t.answer) {
+        *numbers = crate::numbers_of(t.sizes);
     }
-    crate::code(answer)
+    crate::code(t.answer)
 }

@@ -4,11 +4,12 @@
 ghost use Rattle.std.specs.Prelude.{◌≡◌, cond};
 ghost use Rattle.usage.specs.declared.RawStep.{RawStep};
 ghost use Rattle.usage.specs.Answers.{refused};
+ghost use Rattle.usage.specs.Reasons.{number_of};
 ghost use Rattle.usage.specs.Tables.{is_edge_table};
 ghost use Rattle.monitor_state.specs.Judge.{verdict_of};
 ghost use Rattle.checker.specs.Promise.{outcome_verdict};
 ghost use Rattle.api_c.specs.Codes.{code_of, explanation_code_lem};
-ghost use Rattle.api_c.specs.Parts.{parts_of, judge_parts};
+ghost use Rattle.api_c.specs.Parts.{parts_of, judge_parts, sizes_held, numbers_told};
 ghost use Rattle.api_c.specs.Code.{is_refusal_lem};
 ghost use Rattle.api_c.specs.Past.{KeepsIn};
 ghost use Rattle.api_c.specs.Check.{Answers, Explains};
@@ -17,8 +18,8 @@ use checker::Outcome;
 use checker_counterexample::Explanation;
 use checker_trace::MOST_NUMBERS;
 use monitor_sets::SETS;
-use monitor_state::{Answer, PAIR_SETS, Sizes, Told};
-use usage::{MOST_CREATED, MOST_UNCLOSED, POLICIES, RawStep};
+use monitor_state::{Answer, PAIR_SETS, Sizes};
+use usage::{MOST_CREATED, MOST_UNCLOSED, POLICIES, RawStep, Reason};
 
 pub mod expression;
 pub mod lean;
@@ -27,14 +28,21 @@ pub mod routine;
 pub mod start;
 pub mod writer;
 
-// document 01's two numbers for an answer, as 256 * answer + detail
+// The number for a refusal.
+fn refused(reason: Reason) -> u32
+    ensures { result ≡ code_of (refused (number_of reason)) }
+{
+    512 + u8::from(reason) as u32
+}
+
+// document 01's two numbers for an answer, as 256 * answer + detail. Kept: `From` between types of other crates is not for this one to write.
 fn code(a: Answer) -> u32
     ensures { result ≡ code_of (verdict_of a) }
 {
     match a {
         Answer::Allowed => 0,
         Answer::Violated(p) => 256 + p as u32,
-        Answer::Refused(n) => 512 + n as u32,
+        Answer::Refused(reason) => refused(reason),
     }
 }
 
@@ -42,18 +50,7 @@ fn code(a: Answer) -> u32
 fn is_refusal(a: Answer) -> bool
     ensures { result ≡ is_refusal_lem a }
 {
-    match a {
-        Answer::Allowed => false,
-        Answer::Violated(_) => false,
-        Answer::Refused(_) => true,
-    }
-}
-
-// 1 where it is so, else 0
-fn flag_of(b: bool) -> u64
-    ensures { result ≡ cond b 1 0 }
-{
-    if b { 1 } else { 0 }
+    matches!(a, Answer::Refused(_))
 }
 
 // The refusal where the arrays hold no state. A table of edges that no sheet gives comes first.
@@ -61,9 +58,9 @@ fn no_state(edges: &[u8]) -> u32
     ensures { result ≡ code_of (refused (cond (is_edge_table edges.now) 42 41)) }
 {
     if sheet_fields::edges::edge_table_ok(edges) {
-        return code(Answer::Refused(42));
+        return refused(Reason::State);
     }
-    code(Answer::Refused(41))
+    refused(Reason::Table)
 }
 
 // The greatest number that is a choice of past: 0 where the whole past counts, 1 where only that since the opening does.
@@ -74,6 +71,40 @@ pub const NUMBERS: usize = 4;
 
 // The greatest number that a resource can have: one above it is the highest of no state.
 const MOST_NUMBER: u64 = 4294967295;
+
+// The numbers of a state, where they are those of one.
+fn sizes_in(numbers: &[u64; NUMBERS]) -> Option<Sizes>
+    ensures { result ≡ sizes_held numbers.now }
+{
+    let flag = numbers[1];
+    let highest = numbers[3];
+    if 1 < flag {
+        return None;
+    }
+    if MOST_NUMBER < highest {
+        return None;
+    }
+    Some(Sizes {
+        count: numbers[0] as usize,
+        highest: highest as u32,
+        depth: numbers[2] as usize,
+        halted: flag == 1,
+    })
+}
+
+// The numbers that tell a state's.
+fn numbers_of(z: Sizes) -> [u64; NUMBERS]
+    ensures { result ≡ numbers_told z }
+{
+    [
+        z.count as u64,
+        u64::from(z.halted),
+        z.depth as u64,
+        u64::from(z.highest),
+    ]
+}
+
+// Kept: the C interface needs the arrays, and the numbers of a step, as parameters of their own; in `start` and `lean` too.
 
 // One step of the judge, under the choice of past `local`. The state lies in the lent parts: the sets, those of the policies about two
 // resources, of which none can be written yet, what each policy may be in, the numbers of the live resources, the counts of unclosed openings and their order, and in `numbers` how many resources are live, a flag, 1
@@ -111,25 +142,11 @@ pub fn wiforekun_judge_parts(
         (parts_of sets.new pairs.new possible.new created.new
         unclosed.new order.new numbers.new) }
 {
-    let count = numbers[0] as usize;
-    let flag = numbers[1];
-    let depth = numbers[2] as usize;
-    let highest = numbers[3];
     if MOST_CHOICE < local {
-        return code(Answer::Refused(41));
+        return refused(Reason::Table);
     }
-    if 1 < flag {
+    let Some(sizes) = sizes_in(numbers) else {
         return no_state(edges);
-    }
-    if MOST_NUMBER < highest {
-        return no_state(edges);
-    }
-    let top = highest as u32;
-    let sizes = Sizes {
-        count,
-        highest: top,
-        depth,
-        halted: flag == 1,
     };
     let t = monitor::judge_lent(
         edges,
@@ -143,26 +160,20 @@ pub fn wiforekun_judge_parts(
         sizes,
         RawStep { kind, a, b },
     );
-    let answer = t.answer;
-    if !is_refusal(answer) {
-        let after = t.sizes;
-        let n = after.count as u64;
-        let h = flag_of(after.halted);
-        let d = after.depth as u64;
-        let m = after.highest as u64;
-        *numbers = [n, h, d, m];
+    if !is_refusal(t.answer) {
+        *numbers = numbers_of(t.sizes);
     }
-    code(answer)
+    code(t.answer)
 }
 
 // the same for an outcome of the check
-fn outcome_code(o: Outcome) -> u32
+fn outcome_code(o: Result<Outcome, Reason>) -> u32
     ensures { result ≡ code_of (outcome_verdict o) }
 {
     match o {
-        Outcome::Accepted => 0,
-        Outcome::Named(policy) => 256 + policy as u32,
-        Outcome::Refused(number) => 512 + number as u32,
+        Ok(Outcome::Accepted) => 0,
+        Ok(Outcome::Named(policy)) => 256 + policy as u32,
+        Err(reason) => refused(reason),
     }
 }
 
@@ -171,21 +182,21 @@ pub fn wiforekun_check(edges: &[u8], local: u32, nodes: &[u8]) -> u32
     ensures { Answers local edges.now nodes.now result }
 {
     if MOST_CHOICE < local {
-        return outcome_code(Outcome::Refused(41));
+        return refused(Reason::Table);
     }
     let o = checker::check(edges, local == 1, nodes);
     outcome_code(o)
 }
 
 // the same for an explanation, with the number of steps that were written
-fn explanation_code(e: Explanation) -> u32
+fn explanation_code(e: Result<Explanation, Reason>) -> u32
     ensures { result ≡ explanation_code_lem e }
 {
     match e {
-        Explanation::Accepted => 0,
-        Explanation::Shown { policy, steps } => 65536 * steps as u32 + (256 + policy as u32),
-        Explanation::Longer { policy } => 256 + policy as u32,
-        Explanation::Refused(number) => 512 + number as u32,
+        Ok(Explanation::Accepted) => 0,
+        Ok(Explanation::Shown { policy, steps }) => 65536 * steps as u32 + (256 + policy as u32),
+        Ok(Explanation::Longer { policy }) => 256 + policy as u32,
+        Err(reason) => refused(reason),
     }
 }
 
@@ -197,9 +208,9 @@ pub fn wiforekun_counterexample(edges: &[u8], local: u32, nodes: &[u8], trace: &
 {
     if MOST_CHOICE < local {
         if trace.len() < MOST_NUMBERS {
-            return explanation_code(Explanation::Refused(40));
+            return explanation_code(Err(Reason::Room));
         }
-        return explanation_code(Explanation::Refused(41));
+        return explanation_code(Err(Reason::Table));
     }
     let e = checker_counterexample::check_with_counterexample(edges, local == 1, nodes, trace);
     explanation_code(e)

@@ -24,15 +24,12 @@ pub fn wiforekun_start_parts(
         numbers.new) }
 {
     let s = monitor::start();
-    let first_tracked = s.tracked;
-    let first_created = s.created;
-    let first_unclosed = s.unclosed;
-    let first_sets = first_tracked.sets;
-    let first_pairs = first_tracked.pairs;
-    let first_possible = first_tracked.possible;
-    let first_numbers = first_created.numbers;
-    let first_counts = first_unclosed.counts;
-    let first_order = first_unclosed.order;
+    let first_sets = s.tracked.sets;
+    let first_pairs = s.tracked.pairs;
+    let first_possible = s.tracked.possible;
+    let first_numbers = s.created.numbers;
+    let first_counts = s.unclosed.counts;
+    let first_order = s.unclosed.order;
     *sets = first_sets;
     *pairs = first_pairs;
     *possible = first_possible;

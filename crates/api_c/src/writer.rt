@@ -3,8 +3,6 @@ ghost use Rattle.std.specs.Prelude.{◌≡◌, length};
 ghost use Rattle.sheet_writer.specs.Writer.{written_into, rewritten_in};
 ghost use Rattle.api_c.specs.Writing.{length_in, told_in};
 
-use sheet_writer::Writing;
-
 // How many numbers tell a refusal: its line and its number.
 pub const REFUSAL_LENGTH: usize = 2;
 
@@ -19,12 +17,11 @@ pub fn wiforekun_write_policies(
     ensures out_after { out.new ≡ rewritten_in (written_into (length out.old) text.now) out.old }
     ensures refusal_after { refusal.new ≡ told_in (written_into (length out.old) text.now) refusal.old }
 {
-    let w = sheet_writer::write_policies(text, out);
-    match w {
-        Writing::Written(n) => n,
-        Writing::Refused { line, number } => {
-            refusal[0] = line as u64;
-            refusal[1] = number as u64;
+    match sheet_writer::write_policies(text, out) {
+        Ok(n) => n,
+        Err(r) => {
+            refusal[0] = r.line as u64;
+            refusal[1] = u8::from(r.reason) as u64;
             0
         }
     }

@@ -1,10 +1,9 @@
 -- The flat table of a list of edges: the table that the loop leaves, and the edges that are read from it.
 use Prim.Native.Nat.{ℕ, zero, suc, ◌+◌, ◌*◌, ◌/◌, ◌%◌, ◌<◌, ◌≤◌}
 use mathlib.Core.Path.{◌≡◌, refl, sym, ap, ◌∙◌}
-use mathlib.Core.Bool.{Bool, true, false, cond}
+use mathlib.Core.Bool.{false}
 use mathlib.Core.List.{List, [], ◌∷◌, ◌++◌, append_assoc, append-nil}
 use native.Mathlib.Omega.{arith}
-use lib.Dec.{leb}
 use lib.ListN.{length, get_or, take, set, length-set}
 use lib.Seq.{take-suc-set}
 use borrow.Author.Tests.{lt-leb, eq-eqb}
@@ -101,49 +100,29 @@ written (v ∷ vs) t k m e h =
     ∙ ap (λ (l : List ℕ). l ++ vs) (take-suc-set t k v (omega arith))
     ∙ append_assoc (take k t) (v ∷ []) vs
 
-abbrev added : Flat → Edge → Flat
-added f e = record { bytes = record_stored f.bytes (6 * f.count) e; count = f.count + 1 }
-
-add-few : (f : Flat) (e : Edge) → f.count < most_edges → add_of f e ≡ added f e
-unfolding add_of
-add-few f e h = rw (lt-leb most_edges f.count h)
-
 -- g holds what f does, and the edges after it
 pub record Holds (f : Flat) (es : List Edge) (g : Flat) : Type 0 where
   count : g.count ≡ f.count + length es
   bytes : flat_held g ≡ flat_held f ++ flat es
 
-added-table : (f : Flat) (e : Edge) → f.count < most_edges → length f.bytes ≡ edge_places → flat_held (added f e) ≡ flat_held f ++ fields e
+added-table : (f : Flat) (e : Edge) → f.count < most_edges → length f.bytes ≡ edge_places → flat_held (add_of f e) ≡ flat_held f ++ fields e
 added-table f e h l =
     ap (take (6 * (f.count + 1))) (stored-written f.bytes (6 * f.count) e)
     ∙ written (fields e) f.bytes (6 * f.count) (6 * (f.count + 1)) (omega arith) (omega arith)
 
-added-length : (f : Flat) (e : Edge) → length (added f e).bytes ≡ length f.bytes
+added-length : (f : Flat) (e : Edge) → length (add_of f e).bytes ≡ length f.bytes
 added-length f e = simp (length-set)
 
 few : (es : List Edge) (f : Flat) → f.count + length es ≤ most_edges → length f.bytes ≡ edge_places → Holds f es (flat_of f es)
 unfolding flat_of flat
 few [] f h l = record { count = omega arith; bytes = sym (append-nil (flat_held f)) }
 few (e ∷ es) f h l =
-    let k : Holds (added f e) es (flat_of (added f e) es) = few es (added f e) (omega arith) (added-length f e ∙ l) in
-    rw (add-few f e (omega arith)) (record {
+    let k : Holds (add_of f e) es (flat_of (add_of f e) es) = few es (add_of f e) (omega arith) (added-length f e ∙ l) in
+    record {
       count = omega (arith, k.count);
       bytes = k.bytes ∙ ap (λ (t : List ℕ). t ++ flat es) (added-table f e (omega arith) l)
           ∙ append_assoc (flat_held f) (fields e) (flat es);
-    })
-
-add-counts : (f : Flat) (e : Edge) (n : ℕ) → most_edges < f.count + suc n → most_edges < (add_of f e).count + n
-unfolding add_of
-add-counts f e n h = go (leb most_edges f.count)
-  where
-    go : (b : Bool) → most_edges < (cond b (record { bytes = f.bytes; count = most_edges + 1 }) (added f e)).count + n
-    go true = omega arith
-    go false = omega arith
-
-many : (es : List Edge) (f : Flat) → most_edges < f.count + length es → most_edges < (flat_of f es).count
-unfolding flat_of
-many [] f h = omega arith
-many (e ∷ es) f h = many es (add_of f e) (add-counts f e (length es) h)
+    }
 
 -- of at most 256 edges the loop leaves the flat table
 pub loop-few : (es : List Edge) → length es ≤ most_edges → Holds zeros es (flat_of zeros es)
@@ -154,8 +133,3 @@ pub few-flat : (es : List Edge) → Holds zeros es (flat_of zeros es) → ((flat
     × (flat_held (flat_of zeros es) ≡ flat es)
 unfolding zeros
 few-flat es k = (omega (arith, k.count), k.bytes)
-
--- and of more than 256 a count above 256
-pub loop-many : (es : List Edge) → most_edges < length es → most_edges < (flat_of zeros es).count
-unfolding zeros
-loop-many es h = many es zeros (omega arith)

@@ -6,6 +6,7 @@ use mathlib.Core.Logic.{◌↔◌}
 use mathlib.Core.List.{List}
 use Rattle.usage.specs.declared.Edge.{Edge}
 use Rattle.usage.specs.declared.RawStep.{RawStep}
+use Rattle.usage.specs.declared.Reason.TheVariants.{Table}
 use Rattle.usage.specs.Policy.{EdgesOk}
 use Rattle.usage.specs.Answers.{Verdict}
 use Rattle.usage.specs.Check.{Checked}
@@ -38,7 +39,7 @@ records-promised es local s raw past h ok R =
 
 -- "41 a table lent to be used that, taken whole, no accepted sheet gives": and the state is returned as it was
 pub records-refused : (es : List Edge) → (EdgesOk es → ⊥) → (local : Bool) (s : State) (raw : RawStep)
-    → judge_records_lem es local s raw ≡ refuse 41 s
+    → judge_records_lem es local s raw ≡ refuse Table s
 unfolding judge_records_lem
 records-refused es no_sheet local s raw = flat-refused es local s raw (refuted (edges_ok es) (decides-edges es) no_sheet)
 

@@ -1,17 +1,41 @@
 // A slice of records, each an edge, copied into a flat table: six bytes to an edge.
-ghost use Rattle.std.specs.Prelude.{◌≡◌};
-ghost use Rattle.api_records.specs.Code.{zeros, add_of, flat_of};
+ghost use Rattle.std.specs.Prelude.{◌≡◌, ◌<◌, ◌≤◌};
+ghost use Rattle.usage.specs.Limits.{most_edges};
+ghost use Rattle.api_records.specs.Code.{zeros, add_of, flat_held, Flattened};
 
 use usage::{EDGE_FIELDS, EDGE_TABLE, Edge, MOST_EDGES};
 
-// The count of records that are more than a sheet has, however many they are.
-const TOO_MANY: usize = MOST_EDGES + 1;
-
-// The edges as a flat table: those of the first `count` records. Where `count` is TOO_MANY the bytes say nothing.
+// The edges as a flat table: those of the first `count` records.
 #[derive(Clone, Copy)]
 pub(crate) struct Flat {
     pub(crate) bytes: [u8; EDGE_TABLE],
     pub(crate) count: usize,
+}
+
+impl Flat {
+    // The part of the table that holds records.
+    pub(crate) fn held(&self) -> &[u8]
+        requires { self.now.count ≤ most_edges }
+        ensures { result.now ≡ flat_held self.now }
+    {
+        &self.bytes[..EDGE_FIELDS * self.count]
+    }
+
+    // One record more: its six fields at the end of the table.
+    fn add(&mut self, e: Edge)
+        requires { self.old.count < most_edges }
+        ensures { self.new ≡ add_of self.old e }
+    {
+        let n = self.count;
+        let k = EDGE_FIELDS * n;
+        self.bytes[k] = e.policy;
+        self.bytes[k + 1] = e.from;
+        self.bytes[k + 2] = e.action;
+        self.bytes[k + 3] = e.on;
+        self.bytes[k + 4] = e.who;
+        self.bytes[k + 5] = e.to;
+        self.count = n + 1;
+    }
 }
 
 // No record yet.
@@ -22,35 +46,16 @@ fn empty() -> Flat
     Flat { bytes, count: 0 }
 }
 
-// One record more: its six fields at the end of the table.
-fn add(mut f: Flat, e: Edge) -> Flat
-    ensures { result ≡ add_of f e }
+// The table of the records; none where they are more than a sheet has.
+pub(crate) fn flatten(edges: &[Edge]) -> Option<Flat>
+    ensures { Flattened edges.now result }
 {
-    let n = f.count;
-    if MOST_EDGES <= n {
-        f.count = TOO_MANY;
-        return f;
+    if MOST_EDGES < edges.len() {
+        return None;
     }
-    let k = EDGE_FIELDS * n;
-    f.bytes[k] = e.policy;
-    f.bytes[k + 1] = e.from;
-    f.bytes[k + 2] = e.action;
-    f.bytes[k + 3] = e.on;
-    f.bytes[k + 4] = e.who;
-    f.bytes[k + 5] = e.to;
-    f.count = n + 1;
-    f
-}
-
-// The table of the records.
-pub(crate) fn flatten(edges: &[Edge]) -> Flat
-    ensures { result ≡ flat_of zeros edges.now }
-{
     let mut f = empty();
-    let mut i: usize = 0;
-    while i < edges.len() {
-        f = add(f, edges[i]);
-        i += 1;
+    for i in 0..edges.len() {
+        f.add(edges[i]);
     }
-    f
+    Some(f)
 }

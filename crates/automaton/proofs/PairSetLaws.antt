@@ -9,6 +9,7 @@ use native.Mathlib.Numerals.{add-one}
 use native.Mathlib.Omega.{arith}
 use borrow.Author.Tests.{eqb-true, ne_eqb, ltb-true, ltb-false}
 use lib.Bits.{bit_or, or_lt}
+use lib.Count.{ones}
 use lib.Dec.{eqb, ltb}
 use Rattle.usage.specs.declared.Edge.{Edge}
 use Rattle.usage.specs.Limits.{policies}
@@ -50,6 +51,18 @@ whole-test = refl
 pub set_is : (m : ℕ) → m < 256 → union 8 (λ i. cond (has m i) (2 ^ i) 0) ≡ m
 unfolding whole
 set_is m l = eqb-true _ m (all-below-at 256 whole whole-test m l)
+
+-- more than two numbers are in a set
+more : ℕ → Bool
+more m = beq (ltb 2 (ones m)) (many_in m)
+
+more-test : all-below 256 more ≡ true
+unfolding all-below more many_in ones
+more-test = refl
+
+pub many-ones : (m : ℕ) → m < 256 → ltb 2 (ones m) ≡ many_in m
+unfolding more
+many-ones m l = same_test (ltb 2 (ones m)) (many_in m) (all-below-at 256 more more-test m l)
 
 some-snoc : {A : Type 0} (t : A → Bool) (l : List A) (x : A) → some_of t (l ++ (x ∷ [])) ≡ (some_of t l || t x)
 unfolding some_of

@@ -18,7 +18,7 @@ use Rattle.usage.proofs.Logic.{false-true, by_cases, last-or-lower}
 use Rattle.usage.proofs.TableLaws.{length_from, get_d-from, from-snoc, from-ext, is-from}
 use Rattle.automaton.specs.Mask.{has, single, union}
 use Rattle.automaton.specs.Move.{part, targets, image, move, labelled_at, fires, fires_at, move_mask, row_places, rows_of, rows_at, move_by}
-use Rattle.automaton.specs.Code.{end_of, joined, followed, edge_ends, stayed, changed, move_by_policy}
+use Rattle.automaton.specs.Code.{end_of, joined, followed, edge_ends, stayed, changed, stays_by, policy_rows_lem, stay_rows_lem, rows_in, move_by_policy}
 use Rattle.automaton.proofs.MaskLaws.{or_assoc, bit_shifted, single-is, left_le, right_le, all-below, all-below-at}
 use Rattle.automaton.proofs.MoveLaws.{image-lt}
 
@@ -46,19 +46,7 @@ pub move_by-held : (s : List ℕ) (k m : ℕ)
 unfolding move_by union
 move_by-held s k m = rw (add-zero k)
 
--- so of a policy
-pub moved_by-held : (s : List ℕ) (p m r : ℕ) → p < policies
-    → r ≡ move_by
-    (get_or s (p * states) 0 ∷ get_or s (p * states + 1) 0 ∷ get_or s (p * states + 2) 0 ∷ get_or s (p * states + 3) 0 ∷ get_or s
-    (p * states + 4) 0 ∷ get_or s (p * states + 5) 0 ∷ get_or s (p * states + 6) 0 ∷ get_or s (p * states + 7) 0 ∷ []) 0 m
-    → r ≡ move_by_policy s p m
-unfolding move_by_policy
-moved_by-held s p m r h e = e ∙ sym (move_by-held s (p * states) m) ∙ sym (ap (λ b. cond b (move_by s (p * states) m) m) (lt-ltb p policies h))
-
 -- ── Rows that leave every state where it is ──
-
-abbrev pub stay_rows_lem : List ℕ
-stay_rows_lem = 1 ∷ 2 ∷ 4 ∷ 8 ∷ 16 ∷ 32 ∷ 64 ∷ 128 ∷ []
 
 differ-none : (a b : ℕ) → bit_xor a b ≡ 0 → a ≡ b
 differ-none a b e = omega (arith, xor_add_and a b, and_le_l a b, and_le_r a b)
@@ -93,27 +81,50 @@ stay-test = refl
 pub stay-moves : (m : ℕ) → m < 256 → move_by stay_rows_lem 0 m ≡ m
 stay-moves m l = eqb-true (move_by stay_rows_lem 0 m) m (all-below-at 256 (λ m. eqb (move_by stay_rows_lem 0 m) m) stay-test m l)
 
--- so of a policy whose rows change nothing
-pub stays-held : (s : List ℕ) (p m : ℕ) → p < policies → m < 256
-    → changed (get_or s (p * states) 0) (get_or s (p * states + 1) 0) (get_or s (p * states + 2) 0) (get_or s (p * states + 3) 0)
-    (get_or s (p * states + 4) 0) (get_or s (p * states + 5) 0) (get_or s (p * states + 6) 0) (get_or s (p * states + 7) 0) ≡ 0
-    → m ≡ move_by_policy s p m
-stays-held s p m h l z =
-    moved_by-held s p m m h
-    (sym (ap (λ r. move_by r 0 m) (changed-none (get_or s (p * states) 0) (get_or s (p * states + 1) 0) (get_or s (p * states + 2) 0)
-    (get_or s (p * states + 3) 0) (get_or s (p * states + 4) 0) (get_or s (p * states + 5) 0) (get_or s (p * states + 6) 0)
-    (get_or s (p * states + 7) 0) z) ∙ stay-moves m l))
+pub stays_moved : (rows : List ℕ) → stays_by rows ≡ true → (m : ℕ) → m < 256 → move_by rows 0 m ≡ m
+unfolding stays_by
+stays_moved rows e m l =
+    move_by-held rows 0 m
+    ∙ ap (λ (r : List ℕ). move_by r 0 m)
+    (changed-none (get_or rows 0 0) (get_or rows 1 0) (get_or rows 2 0) (get_or rows 3 0) (get_or rows 4 0) (get_or rows 5 0) (get_or rows 6 0)
+    (get_or rows 7 0) (eqb-true _ 0 e))
+    ∙ stay-moves m l
+
+-- the rows of a policy, as they are handed on
+pub rows-held : (t : List ℕ) (p : ℕ)
+    → policy_rows_lem t p
+    ≡ get_or t (p * states) 0 ∷ get_or t (p * states + 1) 0 ∷ get_or t (p * states + 2) 0 ∷ get_or t (p * states + 3) 0 ∷ get_or t
+    (p * states + 4) 0 ∷ get_or t (p * states + 5) 0 ∷ get_or t (p * states + 6) 0 ∷ get_or t (p * states + 7) 0 ∷ []
+unfolding policy_rows_lem from
+rows-held t p = rw (add-zero (p * states)) refl
+
+pub rows-policy : (t : List ℕ) (p m : ℕ) → move_by (policy_rows_lem t p) 0 m ≡ move_by t (p * states) m
+rows-policy t p m = ap (λ (r : List ℕ). move_by r 0 m) (rows-held t p) ∙ sym (move_by-held t (p * states) m)
+
+pub policy-held : (t : List ℕ) (p m : ℕ) → p < policies → move_by t (p * states) m ≡ move_by (rows_in t p) 0 m
+unfolding rows_in
+policy-held t p m h =
+    sym (rows-policy t p m) ∙ sym (ap (λ b. move_by (cond b (policy_rows_lem t p) stay_rows_lem) 0 m) (lt-ltb p policies h))
+
+pub rows-move : (t : List ℕ) (p m : ℕ) → m < 256 → move_by (rows_in t p) 0 m ≡ move_by_policy t p m
+unfolding rows_in move_by_policy
+rows-move t p m l = go (ltb p policies)
+  where
+    go : (b : Bool) → move_by (cond b (policy_rows_lem t p) stay_rows_lem) 0 m ≡ cond b (move_by t (p * states) m) m
+    go true = rows-policy t p m
+    go false = stay-moves m l
 
 -- the eight parts of a moved set, joined in order
 or-both : {u v s t : ℕ} → u ≡ v → s ≡ t → bit_or u s ≡ bit_or v t
 or-both d e = ap₂ (λ (m n : ℕ). bit_or m n) d e
 
-module _ (x a b c d e f g h : ℕ) where
+module _ (x : ℕ) (rows : List ℕ) where
   pub move_by-parts : (p1 p2 p3 p4 p5 p6 p7 p8 : ℕ)
-      → p1 ≡ cond (eqb (x / 1 % 2) 1) a 0 → p2 ≡ cond (eqb (x / 2 % 2) 1) b 0 → p3 ≡ cond (eqb (x / 4 % 2) 1) c 0
-      → p4 ≡ cond (eqb (x / 8 % 2) 1) d 0 → p5 ≡ cond (eqb (x / 16 % 2) 1) e 0 → p6 ≡ cond (eqb (x / 32 % 2) 1) f 0
-      → p7 ≡ cond (eqb (x / 64 % 2) 1) g 0 → p8 ≡ cond (eqb (x / 128 % 2) 1) h 0
-      → bit_or (bit_or (bit_or (bit_or (bit_or (bit_or (bit_or p1 p2) p3) p4) p5) p6) p7) p8 ≡ move_by (a ∷ b ∷ c ∷ d ∷ e ∷ f ∷ g ∷ h ∷ []) 0 x
+      → p1 ≡ cond (eqb (x / 1 % 2) 1) (get_or rows 0 0) 0 → p2 ≡ cond (eqb (x / 2 % 2) 1) (get_or rows 1 0) 0
+      → p3 ≡ cond (eqb (x / 4 % 2) 1) (get_or rows 2 0) 0 → p4 ≡ cond (eqb (x / 8 % 2) 1) (get_or rows 3 0) 0
+      → p5 ≡ cond (eqb (x / 16 % 2) 1) (get_or rows 4 0) 0 → p6 ≡ cond (eqb (x / 32 % 2) 1) (get_or rows 5 0) 0
+      → p7 ≡ cond (eqb (x / 64 % 2) 1) (get_or rows 6 0) 0 → p8 ≡ cond (eqb (x / 128 % 2) 1) (get_or rows 7 0) 0
+      → bit_or (bit_or (bit_or (bit_or (bit_or (bit_or (bit_or p1 p2) p3) p4) p5) p6) p7) p8 ≡ move_by rows 0 x
   unfolding move_by union has
   move_by-parts p1 p2 p3 p4 p5 p6 p7 p8 e1 e2 e3 e4 e5 e6 e7 e8 =
       or-both (or-both (or-both (or-both (or-both (or-both (or-both (e1 ∙ sym (or_zero_l _)) e2) e3) e4) e5) e6) e7) e8

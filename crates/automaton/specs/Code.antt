@@ -1,5 +1,5 @@
 -- What the leaf functions leave in a table of rows, place p * states + q being that of state q of policy p.
-use Rattle.std.specs.Prelude.{ℕ, ◌+◌, ◌*◌, ◌/◌, ◌%◌, Bool, ◌&&◌, cond, List, eqb, ltb, get_or, set}
+use Rattle.std.specs.Prelude.{ℕ, ◌+◌, ◌*◌, ◌/◌, ◌%◌, Bool, ◌&&◌, cond, List, [], ◌∷◌, eqb, ltb, get_or, set}
 use Rattle.std.specs.Int.Bits.{bit_or, bit_xor}
 use Rattle.usage.specs.declared.Edge.{Edge}
 use Rattle.usage.specs.Limits.{policies, states}
@@ -33,6 +33,23 @@ abbrev pub changed : ℕ → ℕ → ℕ → ℕ → ℕ → ℕ → ℕ → ℕ
 changed a b c d e f g h =
     bit_or (bit_or (bit_or (bit_or (bit_or (bit_or (bit_or (bit_xor a 1) (bit_xor b 2)) (bit_xor c 4)) (bit_xor d 8)) (bit_xor e 16)) (bit_xor f 32))
     (bit_xor g 64)) (bit_xor h 128)
+
+-- eight rows leave every state where it is
+unfoldable pub stays_by : List ℕ → Bool
+stays_by l =
+    eqb (changed (get_or l 0 0) (get_or l 1 0) (get_or l 2 0) (get_or l 3 0) (get_or l 4 0) (get_or l 5 0) (get_or l 6 0) (get_or l 7 0)) 0
+
+-- the eight rows of policy p in a table of all policies' rows
+unfoldable pub policy_rows_lem : List ℕ → ℕ → List ℕ
+policy_rows_lem table p = from (λ q. get_or table (p * states + q) 0) 0 states
+
+-- rows that leave every state where it is
+abbrev pub stay_rows_lem : List ℕ
+stay_rows_lem = 1 ∷ 2 ∷ 4 ∷ 8 ∷ 16 ∷ 32 ∷ 64 ∷ 128 ∷ []
+
+-- the same of a number that may be no policy
+unfoldable pub rows_in : List ℕ → ℕ → List ℕ
+rows_in table p = cond (ltb p policies) (policy_rows_lem table p) stay_rows_lem
 
 -- the set m moved by the rows of policy p; there is no other policy than the eight, and nothing moves
 unfoldable pub move_by_policy : List ℕ → ℕ → ℕ → ℕ

@@ -1,7 +1,6 @@
 // The rows of an event: where each state of each policy goes by it (document 01: "On an event, each state the instance may be in moves
 // along every matching edge, to all their ends; with no matching edge from that state it stays").
 ghost use Rattle.std.specs.Prelude.{◌/◌, ◌*◌, ◌+◌, ◌<◌, ◌≤◌, ◌≡◌, Bool, true, false, cond, eqb, length, replicate};
-ghost use Rattle.usage.specs.declared.Edge.{Edge};
 ghost use Rattle.usage.specs.Limits.{states, edge_fields};
 ghost use Rattle.usage.specs.Tables.{from, edge_at, edges_of};
 ghost use Rattle.automaton.specs.Mask.{single};
@@ -10,6 +9,16 @@ ghost use Rattle.automaton.specs.Code.{end_of, joined, followed, edge_ends, stay
 
 use crate::ROWS;
 use usage::{EDGE_FIELDS, STATES};
+
+// What an edge's label is about, as its `on` says: a static resource, the policy's own (the first of two), any but it (neither of two),
+// or the second of two.
+const ON_STATIC: u8 = 0;
+
+const ON_FIRST: u8 = 1;
+
+const ON_OTHER: u8 = 2;
+
+pub(crate) const ON_SECOND: u8 = 3;
 
 // The resource of an event, and whether it is the second one of the instances that look at it. Of a policy about one resource it never is.
 #[derive(Clone, Copy)]
@@ -25,25 +34,26 @@ fn join(table: &mut [u8; ROWS], policy: u8, from: u8, to: u8)
 {
     if (policy | from | to) < 8 {
         let k = policy as usize * STATES + from as usize;
-        table[k] = table[k] | 1u8 << (to as u32);
+        table[k] |= 1u8 << (to as u32);
     }
 }
 
 // Is an edge's label, which is about no first resource, about the event's resource?
 fn matches_both(on: u8, who: u8, seen: Seen) -> bool
-    requires fact { on ≡ 1 → ⊥ }
-    requires fact_2 { on ≡ 2 → ⊥ }
+    requires not_first { on ≡ 1 → ⊥ }
+    requires not_other { on ≡ 2 → ⊥ }
     ensures { (first : Bool) → result ≡ labelled_at on who first seen.second seen.resource }
 {
-    if on == 0 {
+    if on == ON_STATIC {
         return seen.resource == who as u32;
     }
-    if on == 3 {
+    if on == ON_SECOND {
         return seen.second;
     }
     false
 }
 
+// Kept: tried: one match over the kinds, with the edge in one value, takes 3 to 13 instructions more for each edge.
 // The end of an edge that an event on the resource may match, joined to the two tables: `own` is that of the instances whose first
 // resource the event is on, `other` that of the other instances.
 fn follow(
@@ -59,11 +69,11 @@ fn follow(
     ensures own_after { own.new ≡ joined own.old policy from (end_of on who to true seen.second seen.resource) }
     ensures other_after { other.new ≡ joined other.old policy from (end_of on who to false seen.second seen.resource) }
 {
-    if on == 1 {
+    if on == ON_FIRST {
         join(own, policy, from, to);
         return;
     }
-    if on == 2 {
+    if on == ON_OTHER {
         if seen.second {
             return;
         }
@@ -77,6 +87,7 @@ fn follow(
 }
 
 // The end of edge i, joined to the two tables where its action is a.
+// Kept: the two tables side by side: a struct of both would be taken apart and lent again at each call.
 fn follow_edge(
     edges: &[u8],
     i: usize,
@@ -119,13 +130,11 @@ fn follow_fours(
     ensures own_after { own.new ≡ edge_ends (from (edge_at edges.now) 0 (4 * n)) a seen.resource true seen.second }
     ensures other_after { other.new ≡ edge_ends (from (edge_at edges.now) 0 (4 * n)) a seen.resource false seen.second }
 {
-    let mut i: usize = 0;
-    while i < n {
+    for i in 0..n {
         follow_edge(edges, 4 * i, a, seen, own, other);
         follow_edge(edges, 4 * i + 1, a, seen, own, other);
         follow_edge(edges, 4 * i + 2, a, seen, own, other);
         follow_edge(edges, 4 * i + 3, a, seen, own, other);
-        i += 1;
     }
 }
 
@@ -143,18 +152,9 @@ fn collect_ends(edges: &[u8], action: u32, seen: Seen, own: &mut [u8; ROWS], oth
     let n = edges.len() / EDGE_FIELDS;
     let fours = n / 4;
     follow_fours(edges, fours, a, seen, own, other);
-    let mut i = 4 * fours;
-    while i < n {
+    for i in 4 * fours..n {
         follow_edge(edges, i, a, seen, own, other);
-        i += 1;
     }
-}
-
-// The table of empty sets, whatever was there.
-fn clear(table: &mut [u8; ROWS])
-    ensures { table.new ≡ replicate row_places 0 }
-{
-    *table = [0u8; ROWS];
 }
 
 // The set, or the state q alone where it is empty.
@@ -167,13 +167,10 @@ fn or_state(v: u8, q: u32) -> u8
 
 // Where no edge leads out of a state, the state stays. A value is stored at every place, so that several are at once.
 fn stay(table: &mut [u8; ROWS])
-    requires { length table.old ≡ row_places }
     ensures { table.new ≡ stayed table.old }
 {
-    let mut k: usize = 0;
-    while k < ROWS {
+    for k in 0..ROWS {
         table[k] = or_state(table[k], (k % STATES) as u32);
-        k += 1;
     }
 }
 
@@ -182,8 +179,8 @@ fn fill(edges: &[u8], action: u32, seen: Seen, own: &mut [u8; ROWS], other: &mut
     ensures own_after { own.new ≡ rows_at (edges_of edges.now) action seen.resource true seen.second }
     ensures other_after { other.new ≡ rows_at (edges_of edges.now) action seen.resource false seen.second }
 {
-    clear(own);
-    clear(other);
+    *own = [0; ROWS];
+    *other = [0; ROWS];
     collect_ends(edges, action, seen, own, other);
     stay(own);
     stay(other);

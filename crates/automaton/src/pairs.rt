@@ -2,16 +2,14 @@
 ghost use Rattle.std.specs.Prelude.{◌≡◌};
 ghost use Rattle.automaton.specs.PairSet.{with_pair, many_in};
 
+use crate::moves::ON_SECOND;
 use usage::POLICIES;
 
 // An edge's policy joined to a set of policies, where the edge is about the second resource.
 pub fn joined(m: u8, policy: u32, on: u32) -> u8
     ensures { result ≡ with_pair m policy on }
 {
-    if on != 3 {
-        return m;
-    }
-    if POLICIES as u32 <= policy {
+    if on != ON_SECOND as u32 || POLICIES as u32 <= policy {
         return m;
     }
     m | 1u8 << policy
@@ -21,12 +19,5 @@ pub fn joined(m: u8, policy: u32, on: u32) -> u8
 pub fn many(m: u8) -> bool
     ensures { result ≡ many_in m }
 {
-    if m == 0 {
-        return false;
-    }
-    let rest = m & (m - 1);
-    if rest == 0 {
-        return false;
-    }
-    rest & (rest - 1) != 0
+    2 < m.count_ones()
 }

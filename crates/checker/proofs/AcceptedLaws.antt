@@ -11,6 +11,10 @@ use native.Mathlib.Omega.{arith}
 use native.Mathlib.Decide.{dec_le}
 use borrow.Author.Tests.{le-leb}
 use lib.ListN.{length, get_elem?}
+use Rattle.usage.specs.declared.Reason.{Reason}
+use Rattle.usage.specs.declared.Reason.TheVariants.{TooManyLive, TooManyOpen}
+use Rattle.usage.specs.Reasons.{number_of}
+use Rattle.checker.proofs.ReasonLaws.{reason-one}
 use Rattle.usage.specs.declared.Node.{Node}
 use Rattle.usage.specs.declared.RawStep.{RawStep}
 use Rattle.usage.specs.Limits.{statics, resources, create, most_created, most_unclosed}
@@ -173,17 +177,22 @@ beyond? (retiring r) past = inr none_other
 
 -- ── The judgement of a refused step ──
 
-refused-is : (a : Answer) (n : ℕ) → verdict_of a ≡ refused n → a ≡ Refused n
-refused-is Allowed n e = cc
-refused-is (Violated p) n e = cc
-refused-is (Refused m) n e = ap Refused (cc)
+refused-is : (a : Answer) (r : Reason) → verdict_of a ≡ refused (number_of r) → a ≡ Refused r
+refused-is Allowed r e = cc
+refused-is (Violated p) r e = cc
+refused-is (Refused m) r e = let same : number_of m ≡ number_of r = cc in ap Refused (reason-one same)
 
-kept-refused : (s t : State) (a : Answer) (n : ℕ) → a ≡ Refused n → Kept s a t → t ≡ s
-kept-refused s t a n e k = subst (λ (b : Answer). Kept s b t) e k
+kept-refused : (s t : State) (a : Answer) (r : Reason) → a ≡ Refused r → Kept s a t → t ≡ s
+kept-refused s t a r e k = subst (λ (b : Answer). Kept s b t) e k
 
-refused-whole : (j : Judgement) (s : State) (n : ℕ) → j.answer ≡ Refused n → j.state ≡ s → j ≡ refuse n s
+-- a step beyond the judge's limits is refused with one of two reasons
+reason-of : {past : Past} {step : Step} {n : ℕ} → Beyond past step n → (r : Reason) × (number_of r ≡ n)
+reason-of (create_beyond l) = (TooManyLive, refl)
+reason-of (opening_beyond l) = (TooManyOpen, refl)
+
+refused-whole : (j : Judgement) (s : State) (r : Reason) → j.answer ≡ Refused r → j.state ≡ s → j ≡ refuse r s
 unfolding refuse
-refused-whole j s n e k = λ i. record { answer = e i; state = k i }
+refused-whole j s r e k = λ i. record { answer = e i; state = k i }
 
 -- ── The theorem ──
 
@@ -246,15 +255,15 @@ module _ (t : List ℕ) (table : is_edge_table t ≡ true) (local : Bool) (ns : 
         )
 
     module _ (s : State) (R : Represents local (edges_of t) past false s) where
-      stopped : (more : List Step) (n : ℕ) → Beyond past step n → Passes t local past s (step ∷ more)
+      stopped : (more : List Step) (n : Reason) → Beyond past step (number_of n) → Passes t local past s (step ∷ more)
       stopped more n b =
-          let r : Refuses past false (raw_of step) n = record {
+          let r : Refuses past false (raw_of step) (number_of n) = record {
             stated = beyond-case reads b;
             first = λ m l c. absurd (let e = beyond-once b (limits m (case-of reads c)) in omega arith);
           } in
           let a = refused-is (judge_of t local s (raw_of step)).answer n
           (judged-is t table local past false s R (raw_of step) (is_refused_with r)) in
-          beyond b (refused-whole (judge_of t local s (raw_of step)) s n a
+          beyond n b (refused-whole (judge_of t local s (raw_of step)) s n a
           (kept-refused s _ (judge_of t local s (raw_of step)).answer n a (judge-promised t table local past false s R (raw_of step)).kept))
 
       goes_on : (more : List Step) → ((u : State) → Represents local (edges_of t) (step ∷ past) false u → Passes t local (step ∷ past) u more)
@@ -262,7 +271,7 @@ module _ (t : List ℕ) (table : is_edge_table t ≡ true) (local : Bool) (ns : 
       goes_on more rest = go (beyond? step past)
         where
           go : ((n : ℕ) × Beyond past step n) ⊎ ((n : ℕ) → Beyond past step n → ⊥) → Passes t local past s (step ∷ more)
-          go (inl (n, b)) = stopped more n b
+          go (inl (n, b)) = let (r, e) = reason-of b in stopped more r (subst (Beyond past step) (sym e) b)
           go (inr d) =
               let k = allowed-next t table local past false s R (raw_of step) step reads (λ n c. d n (limits n (case-of reads c))) respected in
               allowed d k.0 (rest (judge_of t local s (raw_of step)).state k.1)

@@ -2,6 +2,7 @@
 pub mod SkipLaws
 pub mod WorthLaws
 pub mod PolicyLaws
+pub mod ReasonLaws
 pub mod AcceptedLaws
 pub mod PromiseLaws
 pub mod RightLaws

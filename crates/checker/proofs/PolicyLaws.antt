@@ -3,9 +3,10 @@ use Prim.Native.Nat.{ℕ, ◌+◌, ◌*◌, ◌/◌, ◌<◌, ◌≤◌}
 use mathlib.Core.Path.{◌≡◌, refl, sym, ap, ◌∙◌, subst}
 use mathlib.Core.Bool.{Bool, true, false, ◌&&◌}
 use mathlib.Core.List.{List}
+use mathlib.Core.Logic.{◌⊎◌, inl, inr}
 use native.Mathlib.Omega.{arith}
 use lib.Dec.{eqb, leb}
-use borrow.Author.Tests.{eqb-true, eq-eqb, lt-ltb, leb-true, leb-false}
+use borrow.Author.Tests.{eqb-true, eq-eqb, leb-true, leb-false}
 use lib.ListN.{length, get_or, replicate}
 use Rattle.usage.specs.Limits.{policies, most_nodes, node_fields}
 use Rattle.usage.specs.declared.Edge.{Edge}
@@ -24,6 +25,7 @@ use Rattle.checker_account.specs.declared.Resources.{Resources}
 use Rattle.checker_account.specs.Filling.{forms_in, Asked, SearchedAll}
 use Rattle.checker_account.specs.Holds.{RowsOk}
 use Rattle.checker_account.specs.RowTable.{image_in, fill_rows}
+use Rattle.std.specs.Prelude.{Some, None}
 use Rattle.checker.specs.Code.{opens, has_edge_lem, policy_verdict, pair_in}
 use Rattle.checker_account.proofs.Exact.{exact}
 use Rattle.checker_account.proofs.RowLaws.{rows_ok}
@@ -41,13 +43,18 @@ module _ (local : Bool) (e t : List ℕ) (edges : EdgesOk (edges_of e)) (ok : Ou
   refuted : (p : ℕ) → (Leaves local (edges_of e) (nodes_of t) p → ⊥) → Decides false (Leaves local (edges_of e) (nodes_of t) p)
   refuted p h = ((λ b. false-true b), (λ l. absurd (h l)))
 
-  pub shut : (p : ℕ) → opens t p ≡ false → Decides false (Leaves local (edges_of e) (nodes_of t) p)
+  shut : (p : ℕ) → opens t p ≡ false → Decides false (Leaves local (edges_of e) (nodes_of t) p)
   shut p h = refuted p (λ l.
       let x = (exact local (edges_of e) (nodes_of t) (Scope (nodes_of t)) p edges (scoped (nodes_of t) ok)).0 l in
       no-hits local (edges_of e) (nodes_of t) p (views x.0) (not_opened t p h) x.4)
 
-  pub bare : (p : ℕ) → has_edge_lem e p ≡ false → Decides false (Leaves local (edges_of e) (nodes_of t) p)
+  bare : (p : ℕ) → has_edge_lem e p ≡ false → Decides false (Leaves local (edges_of e) (nodes_of t) p)
   bare p h = refuted p (bare-leaves local e (nodes_of t) p h)
+
+  -- a policy that no sandbox opens, or that has no edge
+  pub unmoved : (p : ℕ) → (opens t p ≡ false) ⊎ (has_edge_lem e p ≡ false) → Decides false (Leaves local (edges_of e) (nodes_of t) p)
+  unmoved p (inl h) = shut p h
+  unmoved p (inr h) = bare p h
 
   -- a pair policy has an edge on the second resource
   pub pair-decides : (p : ℕ) → Decides (pair_in e p) (PairPolicy (edges_of e) p)
@@ -109,14 +116,12 @@ module _ (local : Bool) (e t : List ℕ) (edges : EdgesOk (edges_of e)) (ok : Ou
   pub none-higher : (p : ℕ) → policies ≤ p → Leaves local (edges_of e) (nodes_of t) p → ⊥
   none-higher p h l = never-broken local (edges_of e) p (λ g m d. let s = (edges.each g m).policy in omega arith) l.2.1
 
-  pub named-lowest : (p : ℕ) → p < policies → Leaves local (edges_of e) (nodes_of t) p
-      → ((s : ℕ) → s < p → Leaves local (edges_of e) (nodes_of t) s → ⊥) → Checked local (edges_of e) (nodes_of t) (policy_verdict p)
-  unfolding policy_verdict
-  named-lowest p h l lower = rw (lt-ltb p policies h) (names l lower)
+  pub named-lowest : (p : ℕ) → Leaves local (edges_of e) (nodes_of t) p
+      → ((s : ℕ) → s < p → Leaves local (edges_of e) (nodes_of t) s → ⊥) → Checked local (edges_of e) (nodes_of t) (policy_verdict (Some p))
+  named-lowest p l lower = names l lower
 
   pub all-good : ((s : ℕ) → s < policies → Leaves local (edges_of e) (nodes_of t) s → ⊥)
-      → Checked local (edges_of e) (nodes_of t) (policy_verdict policies)
-  unfolding policy_verdict
+      → Checked local (edges_of e) (nodes_of t) (policy_verdict None)
   all-good h = accepts (λ s l. go s l (leb policies s) refl)
     where
       go : (s : ℕ) → Leaves local (edges_of e) (nodes_of t) s → (b : Bool) → leb policies s ≡ b → ⊥

@@ -1,13 +1,11 @@
 -- The promise of the check, from its parts.
-use Prim.Native.Nat.{ℕ, ◌<◌, ◌≤◌}
+use Prim.Native.Nat.{ℕ}
 use mathlib.Core.Path.{◌≡◌, refl, subst}
 use mathlib.Core.Bool.{Bool, true, false}
 use mathlib.Core.Logic.{◌↔◌}
 use mathlib.Core.List.{List}
-use borrow.Author.Tests.{lt-ltb, le-ltb}
 use Rattle.usage.specs.declared.Edge.{Edge}
 use Rattle.usage.specs.declared.Node.{Node}
-use Rattle.usage.specs.Limits.{policies}
 use Rattle.usage.specs.Answers.{Verdict, allowed, refused}
 use Rattle.usage.specs.Check.{Leaves, Checked, accepts, names}
 use Rattle.usage.specs.Tables.{edges_of, nodes_of, EdgeTable, NodeTable, is_edge_table, is_node_table}
@@ -15,10 +13,8 @@ use Rattle.usage.proofs.Logic.{clash}
 use Rattle.usage.proofs.CheckLaws.{checked-unique}
 use Rattle.usage.proofs.Decides.{refutes}
 use Rattle.usage.proofs.TableLaws.{decides-edge-table, decides-node-table}
-use Rattle.checker.specs.declared.Outcome.TheVariants.{Accepted, Named}
 use Rattle.checker.specs.Accepted.{NeverHalted}
-use Rattle.checker.specs.Promise.{outcome_verdict, RightVerdict, no_edges, no_nodes, checked, CheckPromise}
-use Rattle.checker.specs.Code.{policy_verdict}
+use Rattle.checker.specs.Promise.{RightVerdict, no_edges, no_nodes, checked, CheckPromise}
 use Rattle.checker.proofs.AcceptedLaws.{never_halted}
 
 -- ── The tests of the two tables ──
@@ -34,16 +30,6 @@ module _ (local : Bool) (t n : List ℕ) where
   pub answered : {v : Verdict} → is_edge_table t ≡ true → is_node_table n ≡ true → Checked local (edges_of t) (nodes_of n) v
       → RightVerdict local t n v
   answered e f c = checked ((decides-edge-table t).0 e) ((decides-node-table n).0 f) c
-
--- ── The number of a policy ──
-
-pub accepted-number : (p : ℕ) → policies ≤ p → policy_verdict p ≡ outcome_verdict Accepted
-unfolding policy_verdict
-accepted-number p h = rw (le-ltb p policies h)
-
-pub named-number : (p : ℕ) → p < policies → policy_verdict p ≡ outcome_verdict (Named p)
-unfolding policy_verdict
-named-number p h = rw (lt-ltb p policies h)
 
 -- ── What is right is promised ──
 

@@ -1,27 +1,29 @@
 -- A policy that is skipped is never left open and not respected.
-use Prim.Native.Nat.{ℕ, zero, suc, ◌+◌, ◌*◌, ◌/◌}
+use Prim.Native.Nat.{ℕ, ◌*◌, ◌/◌}
 use mathlib.Core.Path.{◌≡◌, refl, sym, ap, ◌∙◌, subst}
 use mathlib.Core.Bool.{Bool, true, false, not, ◌&&◌, ◌||◌, cond}
-use mathlib.Core.Option.{some}
 use mathlib.Core.List.{List, Memᴰ}
 use mathlib.Core.Logic.{inl, inr}
 use native.Mathlib.Omega.{arith}
 use lib.Dec.{eqb}
-use lib.ListN.{length, get_or, get_elem?}
+use lib.ListN.{length, get_or}
 use borrow.Author.Tests.{eq-eqb, ne_eqb}
 use Rattle.usage.specs.declared.Edge.{Edge}
 use Rattle.usage.specs.declared.Node.{Node}
 use Rattle.usage.specs.Policy.{Sees, Moves, along, stays, Offending}
 use Rattle.usage.specs.Past.{Past, is_open, May, start, moved, opened, closed, retired, Broken}
-use Rattle.usage.specs.Outline.{sandbox, node_kinds, form_of, Is}
-use Rattle.usage.specs.Limits.{said}
+use Rattle.usage.specs.Outline.{sandbox, Is}
 use Rattle.usage.specs.Tables.{edges_of, nodes_of}
 use Rattle.usage.specs.Check.{Leaves}
-use Rattle.usage.proofs.Logic.{clash, not-both, and_both}
+use Rattle.usage.proofs.Logic.{not-both}
 use Rattle.usage.proofs.TableLaws.{edges-member}
 use Rattle.automaton.proofs.MaskLaws.{some_at}
 use Rattle.checker_account.specs.Account.{Sight, Comes, Last, Hits}
-use Rattle.checker.specs.Code.{opens, has_edge_lem}
+use Rattle.checker.specs.Code.{is_opening_lem, opens, has_edge_lem}
+use Rattle.checker_account.specs.Filling.{forms_in}
+use Rattle.outline_nodes.specs.declared.NodeForm.{NodeForm}
+use Rattle.outline_nodes.specs.declared.NodeForm.TheVariants.{End, OnStatic, OnName, Sequence, Choice, Loop, Back, Fresh, Sandbox}
+use Rattle.outline_nodes.specs.Said.{said_by}
 use Rattle.checker_account.proofs.NodeLaws.{forms-of}
 
 -- ── No sandbox ──
@@ -45,28 +47,24 @@ module _ (local : Bool) (es : List Edge) (ns : List Node) (p : ℕ) (S : Sight) 
   no-hits (Hits.at_fresh i y c v f) = not-both true refl (never-open c)
   no-hits (Hits.at_opening {k = k} {b = b} i c f) = shut k b i
 
--- a sandbox is of kind 8
-kind-8 : (k a b p c : ℕ) → said (get_elem? node_kinds k) a b ≡ some (sandbox p c) → (k ≡ 8) × (a ≡ p)
-kind-8 zero a b p c e = clash (cc)
-kind-8 (suc zero) a b p c e = clash (cc)
-kind-8 (suc (suc zero)) a b p c e = clash (cc)
-kind-8 (suc (suc (suc zero))) a b p c e = clash (cc)
-kind-8 (suc (suc (suc (suc zero)))) a b p c e = clash (cc)
-kind-8 (suc (suc (suc (suc (suc zero))))) a b p c e = clash (cc)
-kind-8 (suc (suc (suc (suc (suc (suc zero)))))) a b p c e = clash (cc)
-kind-8 (suc (suc (suc (suc (suc (suc (suc zero))))))) a b p c e = clash (cc)
-kind-8 (suc (suc (suc (suc (suc (suc (suc (suc zero)))))))) a b p c e = (refl, cc)
-kind-8 (suc (suc (suc (suc (suc (suc (suc (suc (suc k))))))))) a b p c e = clash (cc)
-
 pub not_opened : (t : List ℕ) (p : ℕ) → opens t p ≡ false → (k b : ℕ) → Is (nodes_of t) k (sandbox p b) → ⊥
-unfolding opens form_of
+unfolding opens
 not_opened t p h k b i =
     let (l, e) = (forms-of t).has k (sandbox p b) i in
-    let (e₈, eₚ) = kind-8 (get_or t (3 * k) 0) (get_or t (3 * k + 1) 0) (get_or t (3 * k + 2) 0) p b e in
     not-both (opens t p)
-    (some_at (length t / 3) (λ k. eqb (get_or t (3 * k) 0) 8 && eqb (get_or t (3 * k + 1) 0) p) k l
-    (and_both (eqb (get_or t (3 * k) 0) 8) (eqb (get_or t (3 * k + 1) 0) p) (eq-eqb (get_or t (3 * k) 0) 8 e₈)
-    (eq-eqb (get_or t (3 * k + 1) 0) p eₚ))) h
+    (some_at (length t / 3) (λ k. is_opening_lem p (forms_in t k)) k l (ap (is_opening_lem p) e ∙ eq-eqb p p refl)) h
+
+-- a node that is no sandbox opens none
+pub not_opening : (p : ℕ) (f : NodeForm) → ((s b : ℕ) → f ≡ Sandbox s b → ⊥) → false ≡ is_opening_lem p (said_by f)
+not_opening p End h = refl
+not_opening p (OnStatic a s) h = refl
+not_opening p (OnName a n) h = refl
+not_opening p (Sequence a b) h = refl
+not_opening p (Choice a b) h = refl
+not_opening p (Loop a) h = refl
+not_opening p (Back a) h = refl
+not_opening p (Fresh n b) h = refl
+not_opening p (Sandbox s b) h = absurd (h s b refl)
 
 -- ── No edge ──
 

@@ -1,6 +1,8 @@
 -- What acceptance promises of the judge: "What the check accepts, the judge never halts", over the whole trace, whichever past counts.
 use Rattle.std.specs.Prelude.{ℕ, ◌<◌, ◌≤◌, ◌≡◌, Bool, length}
 use mathlib.Core.List.{List, [], ◌∷◌, Memᴰ}
+use Rattle.usage.specs.declared.Reason.{Reason}
+use Rattle.usage.specs.Reasons.{number_of}
 use Rattle.usage.specs.declared.Node.{Node}
 use Rattle.usage.specs.declared.RawStep.{RawStep}
 use Rattle.usage.specs.Limits.{resources, create, most_created, most_unclosed}
@@ -39,8 +41,8 @@ pub data Passes (t : List ℕ) (local : Bool) : Past → State → List Step →
   allowed : {past : Past} {s : State} {step : Step} {steps : List Step} → ((n : ℕ) → Beyond past step n → ⊥)
       → (judge_of t local s (raw_of step)).answer ≡ Allowed → Passes t local (step ∷ past) (judge_of t local s (raw_of step)).state steps
       → Passes t local past s (step ∷ steps)
-  beyond : {past : Past} {s : State} {step : Step} {steps : List Step} {n : ℕ} → Beyond past step n
-      → judge_of t local s (raw_of step) ≡ refuse n s → Passes t local past s (step ∷ steps)
+  beyond : {past : Past} {s : State} {step : Step} {steps : List Step} (r : Reason) → Beyond past step (number_of r)
+      → judge_of t local s (raw_of step) ≡ refuse r s → Passes t local past s (step ∷ steps)
 
 -- Every trace of the outline whose numbers the judge takes, from the judge's start: "for traces that create in rising order, with at most
 -- one retiring added for each created resource, after the last step on it" (02, L8), and so with none.

@@ -1,9 +1,14 @@
 -- What the check's own functions compute.
-use Rattle.std.specs.Prelude.{ℕ, ◌+◌, ◌*◌, ◌/◌, ◌<◌, ◌≡◌, Bool, ◌&&◌, cond, List, eqb, ltb, length, get_or, drop}
+use Rattle.std.specs.Prelude.{ℕ, ◌+◌, ◌*◌, ◌/◌, ◌<◌, ◌≡◌, Bool, ◌&&◌, List, ◌⊎◌, eqb, false, length, get_or, drop}
 use Rattle.usage.specs.Limits.{policies, edge_fields, node_fields}
+use Rattle.std.specs.Prelude.{Option as Maybe, Some, None}
 use Rattle.usage.specs.Answers.{Verdict, allowed, violated}
+use Rattle.std.proofs.Math.Option.{Option, none, some}
+use Rattle.usage.specs.Outline.{Form, end, static_event, named_event, sequence, choice, loop, back, fresh, sandbox}
 use Rattle.usage.specs.Tests.{some_below}
 use Rattle.usage.specs.Tables.{edges_of, nodes_of}
+use Rattle.automaton.specs.Move.{rows_at}
+use Rattle.checker_rows.specs.Rows.{row_table}
 use Rattle.checker_account.specs.declared.Resources.{Resources}
 use Rattle.checker_account.specs.Tables.{rows_in}
 use Rattle.checker_account.specs.Filling.{forms_in}
@@ -13,25 +18,42 @@ use Rattle.checker.specs.Summary.{MarksExact}
 
 -- ── Policies that need no search: one that no sandbox opens is never open, and one that has no edge is never broken ──
 
--- some node of the flat table is a sandbox of policy p (kind 8)
+-- a node of this form is a sandbox of policy p
+abbrev pub is_opening_lem : ℕ → Option Form → Bool
+is_opening_lem p none = false
+is_opening_lem p (some end) = false
+is_opening_lem p (some (static_event a s)) = false
+is_opening_lem p (some (named_event a n)) = false
+is_opening_lem p (some (sequence a b)) = false
+is_opening_lem p (some (choice a b)) = false
+is_opening_lem p (some (loop a)) = false
+is_opening_lem p (some (back a)) = false
+is_opening_lem p (some (fresh n b)) = false
+is_opening_lem p (some (sandbox s b)) = eqb s p
+
+-- some node of the flat table is one
 unfoldable pub opens : List ℕ → ℕ → Bool
-opens t p = some_below (λ k. eqb (get_or t (node_fields * k) 0) 8 && eqb (get_or t (node_fields * k + 1) 0) p) (length t / node_fields)
+opens t p = some_below (λ k. is_opening_lem p (forms_in t k)) (length t / node_fields)
 
 -- some edge of the flat table is of policy p
 unfoldable pub has_edge_lem : List ℕ → ℕ → Bool
 has_edge_lem t p = some_below (λ i. eqb (get_or t (edge_fields * i) 0) p) (length t / edge_fields)
 
--- ── The lowest policy that was found ──
-
--- "The check accepts, or refuses with the lowest policy": a number that is no policy stands for acceptance
-unfoldable pub policy_verdict : ℕ → Verdict
-policy_verdict p = cond (ltb p policies) (violated p) allowed
-
--- ── Which policies are pair policies ──
-
 -- some edge of policy p in the flat table is on the second resource (on 3)
 unfoldable pub pair_in : List ℕ → ℕ → Bool
 pair_in t p = some_below (λ i. eqb (get_or t (edge_fields * i) 0) p && eqb (get_or t (edge_fields * i + 3) 0) 3) (length t / edge_fields)
+
+-- r tells whether a policy that needs a search is a pair policy, and then rows are its moves
+abbrev pub MovesOf : List ℕ → List ℕ → ℕ → Maybe Bool → List ℕ → Type 0
+MovesOf edges nodes p None rows = (opens nodes p ≡ false) ⊎ (has_edge_lem edges p ≡ false)
+MovesOf edges nodes p (Some pair) rows = (pair ≡ pair_in edges p) × (rows ≡ row_table (rows_at (edges_of edges)) pair p nodes)
+
+-- ── The lowest policy that was found ──
+
+-- "The check accepts, or refuses with the lowest policy"
+abbrev pub policy_verdict : Maybe ℕ → Verdict
+policy_verdict None = allowed
+policy_verdict (Some p) = violated p
 
 -- ── Choices of watched resources that need no search: a static one that no event is on is among them ──
 

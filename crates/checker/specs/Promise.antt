@@ -4,14 +4,17 @@ use Rattle.usage.specs.Answers.{Verdict, allowed, violated, refused}
 use Rattle.usage.specs.Check.{Checked}
 use Rattle.usage.specs.Tables.{edges_of, nodes_of, EdgeTable, NodeTable}
 use Rattle.checker.specs.declared.Outcome.{Outcome}
-use Rattle.checker.specs.declared.Outcome.TheVariants.{Accepted, Named, Refused}
+use Rattle.checker.specs.declared.Outcome.TheVariants.{Accepted, Named}
+use Rattle.std.specs.Prelude.{Result, Ok, Err}
+use Rattle.usage.specs.declared.Reason.{Reason}
+use Rattle.usage.specs.Reasons.{number_of}
 use Rattle.checker.specs.Accepted.{NeverHalted}
 
 -- document 01's numbers for each answer
-abbrev pub outcome_verdict : Outcome → Verdict
-outcome_verdict Accepted = allowed
-outcome_verdict (Named p) = violated p
-outcome_verdict (Refused n) = refused n
+abbrev pub outcome_verdict : Result Outcome Reason → Verdict
+outcome_verdict (Ok Accepted) = allowed
+outcome_verdict (Ok (Named p)) = violated p
+outcome_verdict (Err r) = refused (number_of r)
 
 -- The right verdict of two lent tables and a choice of past: "41 a table lent to be used that, taken whole, no accepted sheet gives"; else
 -- that of the outline under the edges. No two are right (`right_unique` of proofs/PromiseLaws).

@@ -1,5 +1,8 @@
 -- The exact summary of an outline under a choice of past (02, L11), and what is told of it.
 use Rattle.std.specs.Prelude.{ℕ, ◌^◌, ◌<◌, ◌≤◌, ◌≡◌, Bool, List, ◌++◌, length, get_or, drop}
+use Rattle.std.specs.Prelude.{Result, Ok, Err}
+use Rattle.usage.specs.declared.Reason.{Reason}
+use Rattle.usage.specs.Reasons.{number_of}
 use Rattle.usage.specs.declared.Edge.{Edge}
 use Rattle.usage.specs.declared.Node.{Node}
 use Rattle.usage.specs.Limits.{policies, actions}
@@ -44,6 +47,11 @@ pub record MarksExact (local : Bool) (es : List Edge) (ns : List Node) (p n : �
 pub record Exact (local : Bool) (es : List Edge) (ns : List Node) (m : Summary) : Type 0 where
   pub numbers : length m ≡ policies
   pub each : (p : ℕ) → p < policies → MarksExact local es ns p (get_or m p 0)
+
+-- the number that is told: 0, or that of a refusal
+abbrev pub summary_number : Result (Unit {0}) Reason → ℕ
+summary_number (Ok u) = 0
+summary_number (Err r) = number_of r
 
 -- The answer of whoever writes the exact summary into a lent table, and what the table then holds: 40 where it has less than eight places,
 -- then 41 as for the check. Places behind the eighth keep their contents, and so do all where a number refuses.

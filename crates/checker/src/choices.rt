@@ -50,8 +50,5 @@ pub(crate) fn at(pair: bool, i: usize) -> Resources
 pub(crate) fn worth(nodes: &[u8], x: Resources) -> bool
     ensures { result ≡ worth_of nodes.now x }
 {
-    if checker_tables::touched(nodes, x.first) {
-        return checker_tables::touched(nodes, x.second);
-    }
-    false
+    checker_tables::touched(nodes, x.first) && checker_tables::touched(nodes, x.second)
 }

@@ -9,11 +9,11 @@ ghost use Rattle.usage.specs.Tests.{Decides};
 ghost use Rattle.checker_account.specs.Tables.{rows_in};
 ghost use Rattle.checker_account.specs.Filling.{forms_in, SearchedAll};
 ghost use Rattle.checker.specs.Promise.{outcome_verdict, RightVerdict};
-ghost use Rattle.checker.specs.Code.{policy_verdict};
+ghost use Rattle.checker.specs.Code.{policy_verdict, MovesOf};
 
 use crate::Outcome;
 use checker_account::{PLACES, Table, Watch};
-use usage::POLICIES;
+use usage::{POLICIES, Reason};
 
 // Is policy p, a pair policy or not, whose moves the table of rows has, broken with some resources watched? `local` is the choice of past,
 // here and below.
@@ -22,23 +22,29 @@ fn broken(nodes: &[u8], rows: &Table, local: bool, p: usize, pair: bool) -> bool
     ensures { SearchedAll local (rows_in rows.now) p pair
         (length nodes.now / node_fields) (forms_in nodes.now) result }
 {
-    let n = crate::choices::count(pair);
-    let mut i: usize = 0;
-    while i < n {
-        let x = crate::choices::at(pair, i);
-        if crate::choices::worth(nodes, x) {
-            let w = Watch {
-                local,
-                policy: p,
-                resources: x,
-            };
-            if checker_tables::breaks(nodes, rows, w) {
-                return true;
-            }
+    for i in 0..crate::choices::count(pair) {
+        let w = Watch {
+            local,
+            policy: p,
+            resources: crate::choices::at(pair, i),
+        };
+        if crate::choices::worth(nodes, w.resources) && checker_tables::breaks(nodes, rows, w) {
+            return true;
         }
-        i += 1;
     }
     false
+}
+
+// The moves of policy p, and whether it is a pair policy; none where no sandbox opens it or it has no edge, so that no trace breaks it.
+pub(crate) fn moves(edges: &[u8], nodes: &[u8], p: usize, rows: &mut Table) -> Option<bool>
+    ensures { MovesOf edges.now nodes.now p result rows.new }
+{
+    if !crate::opens(nodes, p) || !crate::has_edge(edges, p) {
+        return None;
+    }
+    let pair = crate::is_pair(edges, p);
+    checker_rows::fill(edges, nodes, p, pair, rows);
+    Some(pair)
 }
 
 // Does some trace leave policy p open and not respected?
@@ -48,47 +54,39 @@ fn leaves(edges: &[u8], local: bool, nodes: &[u8], p: usize) -> bool
     requires p_lt_policies { p < policies }
     ensures { Decides result (Leaves local (edges_of edges.now) (nodes_of nodes.now) p) }
 {
-    if !crate::opens(nodes, p) {
-        return false;
+    let mut rows = [0u16; PLACES];
+    match moves(edges, nodes, p, &mut rows) {
+        Some(pair) => broken(nodes, &rows, local, p, pair),
+        None => false,
     }
-    if !crate::has_edge(edges, p) {
-        return false;
-    }
-    let mut table = [0u16; PLACES];
-    let pair = crate::is_pair(edges, p);
-    checker_rows::fill(edges, nodes, p, pair, &mut table);
-    broken(nodes, &table, local, p, pair)
 }
 
-// The lowest policy that some trace leaves open and not respected, or POLICIES where there is none.
-fn lowest(edges: &[u8], local: bool, nodes: &[u8]) -> usize
+// The lowest policy that some trace leaves open and not respected.
+fn lowest(edges: &[u8], local: bool, nodes: &[u8]) -> Option<u8>
     requires edges_ok { EdgesOk (edges_of edges.now) }
     requires outline_ok { OutlineOk (nodes_of nodes.now) }
     ensures { Checked local (edges_of edges.now) (nodes_of nodes.now) (policy_verdict result) }
 {
-    let mut p: usize = 0;
-    while p < POLICIES {
+    for p in 0..POLICIES {
         if leaves(edges, local, nodes, p) {
-            return p;
+            return Some(p as u8);
         }
-        p += 1;
     }
-    POLICIES
+    None
 }
 
 // The check of two lent tables.
-pub(crate) fn checked(edges: &[u8], local: bool, nodes: &[u8]) -> Outcome
+pub(crate) fn checked(edges: &[u8], local: bool, nodes: &[u8]) -> Result<Outcome, Reason>
     ensures { RightVerdict local edges.now nodes.now (outcome_verdict result) }
 {
     if !sheet_fields::edges::edge_table_ok(edges) {
-        return Outcome::Refused(41);
+        return Err(Reason::Table);
     }
     if !sheet_rules::node_table_ok(nodes) {
-        return Outcome::Refused(41);
+        return Err(Reason::Table);
     }
-    let p = lowest(edges, local, nodes);
-    if POLICIES <= p {
-        return Outcome::Accepted;
+    match lowest(edges, local, nodes) {
+        Some(p) => Ok(Outcome::Named(p)),
+        None => Ok(Outcome::Accepted),
     }
-    Outcome::Named(p as u8)
 }

@@ -8,22 +8,23 @@ ghost use Rattle.usage.specs.Tables.{edges_of, nodes_of};
 ghost use Rattle.checker_account.specs.Tables.{rows_in};
 ghost use Rattle.checker_account.specs.Filling.{forms_in};
 ghost use Rattle.checker_tables.specs.Marks.{MarkedAll};
-ghost use Rattle.checker.specs.Summary.{MarksExact, Summarized};
+ghost use Rattle.checker.specs.Summary.{MarksExact, Summarized, summary_number};
 ghost use Rattle.checker.specs.Code.{MarkedIn, MarksWritten};
 
+use crate::search;
 use checker_account::{PLACES, Table, Watch};
-use usage::POLICIES;
+use usage::{POLICIES, Reason};
 
 // The marks with some resources watched: none where no event is on a static one of them.
 fn marks_with(nodes: &[u8], rows: &Table, w: Watch) -> u64
     requires { OutlineOk (nodes_of nodes.now) }
     ensures { MarkedIn nodes.now w.local rows.now w.policy w.resources result }
 {
-    let x = w.resources;
-    if crate::choices::worth(nodes, x) {
-        return checker_tables::marks_of(nodes, rows, w);
+    if crate::choices::worth(nodes, w.resources) {
+        checker_tables::marks_of(nodes, rows, w)
+    } else {
+        0
     }
-    0
 }
 
 // The marks of policy p, a pair policy or not, whose moves the table of rows has.
@@ -32,17 +33,14 @@ fn policy_marks(nodes: &[u8], rows: &Table, local: bool, p: usize, pair: bool) -
     ensures { MarkedAll local (rows_in rows.now) p pair (length nodes.now / node_fields)
         (forms_in nodes.now) result }
 {
-    let n = crate::choices::count(pair);
     let mut m: u64 = 0;
-    let mut i: usize = 0;
-    while i < n {
+    for i in 0..crate::choices::count(pair) {
         let w = Watch {
             local,
             policy: p,
             resources: crate::choices::at(pair, i),
         };
-        m = m | marks_with(nodes, rows, w);
-        i += 1;
+        m |= marks_with(nodes, rows, w);
     }
     m
 }
@@ -54,16 +52,11 @@ fn exact_marks(edges: &[u8], local: bool, nodes: &[u8], p: usize) -> u64
     requires p_lt_policies { p < policies }
     ensures { MarksExact local (edges_of edges.now) (nodes_of nodes.now) p result }
 {
-    if !crate::opens(nodes, p) {
-        return 0;
+    let mut rows = [0u16; PLACES];
+    match search::moves(edges, nodes, p, &mut rows) {
+        Some(pair) => policy_marks(nodes, &rows, local, p, pair),
+        None => 0,
     }
-    if !crate::has_edge(edges, p) {
-        return 0;
-    }
-    let mut table = [0u16; PLACES];
-    let pair = crate::is_pair(edges, p);
-    checker_rows::fill(edges, nodes, p, pair, &mut table);
-    policy_marks(nodes, &table, local, p, pair)
 }
 
 // The numbers of all policies, one after the other.
@@ -73,27 +66,25 @@ fn write(edges: &[u8], local: bool, nodes: &[u8], marks: &mut [u64])
     requires policies_in_bounds { policies ≤ length marks.old }
     ensures { MarksWritten local edges.now nodes.now marks.old marks.new }
 {
-    let mut p: usize = 0;
-    while p < POLICIES {
+    for p in 0..POLICIES {
         marks[p] = exact_marks(edges, local, nodes, p);
-        p += 1;
     }
 }
 
 // The exact summary of an outline, as a flat table of nodes, under a flat table of edges and a choice of past, into a table with room for
-// eight numbers. The answer is 0, or the number of a refusal, which writes nothing.
-pub fn summary(edges: &[u8], local: bool, nodes: &[u8], marks: &mut [u64]) -> u8
-    ensures { Summarized local edges.now nodes.now marks.old result marks.new }
+// eight numbers. A refusal writes nothing.
+pub fn summary(edges: &[u8], local: bool, nodes: &[u8], marks: &mut [u64]) -> Result<(), Reason>
+    ensures { Summarized local edges.now nodes.now marks.old (summary_number result) marks.new }
 {
     if marks.len() < POLICIES {
-        return 40;
+        return Err(Reason::Room);
     }
     if !sheet_fields::edges::edge_table_ok(edges) {
-        return 41;
+        return Err(Reason::Table);
     }
     if !sheet_rules::node_table_ok(nodes) {
-        return 41;
+        return Err(Reason::Table);
     }
     write(edges, local, nodes, marks);
-    0
+    Ok(())
 }

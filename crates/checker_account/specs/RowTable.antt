@@ -1,5 +1,5 @@
 -- The table of rows of one policy: of each node with an event, the states that each state moves to by it.
-use Rattle.std.specs.Prelude.{ℕ, suc, ◌+◌, ◌*◌, ◌<◌, Bool, true, false, cond, List, get_or, set}
+use Rattle.std.specs.Prelude.{ℕ, suc, ◌+◌, ◌*◌, Bool, true, false, cond, List, get_or, set}
 use Rattle.std.proofs.Math.Option.{Option, none, some}
 use Rattle.usage.specs.Limits.{create, states}
 use Rattle.usage.specs.Outline.{Form, end, static_event, named_event, sequence, choice, loop, back, fresh, sandbox}
@@ -11,9 +11,6 @@ use Rattle.checker_account.specs.Filling.{repeat, Forms}
 -- a(r), for the instance whose first resource is r or not, and whose second one is or not.
 abbrev pub EventTables : Type 0
 EventTables = ℕ → ℕ → Bool → Bool → List ℕ
-
-abbrev pub Bytes : List ℕ → Type 0
-Bytes t = (i : ℕ) → get_or t i 0 < 256
 
 abbrev pub image_in : EventTables → ℕ → ℕ → ℕ → Bool → Bool → ℕ → ℕ
 image_in tables p a r first second q = get_or (tables a r first second) (p * states + q) 0

@@ -33,6 +33,7 @@ pub const LAYER: usize = MOST_NODES * STATES;
 // With one dynamic resource watched at most, an entry is a meaning: a set for each of them and each state of each node.
 pub const PLACES: usize = MEANINGS * LAYER;
 
+// Kept: groups are numbers and no enum, since an entry's number is computed from them, and the number is its place in a table.
 // The groups of entries by what is told of the second dynamic resource: no name means it, four names, it can still be created; and, of the
 // table of ends alone, it is created by the end.
 pub const WAITING: usize = UNNAMED;
@@ -51,6 +52,7 @@ pub type Table = [u16; PLACES];
 pub type PairTable = [u16; PAIR_PLACES];
 
 // The watched resources: the second is NOTHING where the policy is about one.
+// Kept: no Option, since the definitions of specs/ (way_of, places_of, Asked) compare the second as a number, as the first.
 #[derive(Clone, Copy)]
 pub struct Resources {
     pub first: usize,

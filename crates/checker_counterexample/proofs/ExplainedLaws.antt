@@ -17,6 +17,8 @@ use Rattle.usage.specs.Answers.{Verdict, violated, refused}
 use Rattle.checker_trace.specs.Steps.{laid}
 use Rattle.checker_counterexample.specs.declared.Explanation.{Explanation}
 use Rattle.checker_counterexample.specs.declared.Explanation.TheVariants.{Shown, Longer}
+use Rattle.std.specs.Prelude.{Result, Ok}
+use Rattle.usage.specs.declared.Reason.{Reason}
 use Rattle.checker.specs.Promise.{CheckPromise, no_edges, no_nodes}
 use Rattle.checker_counterexample.specs.Explained.{NamedBy, Explained}
 
@@ -53,13 +55,13 @@ module _ (local : Bool) (e n t : List ℕ) (p : ℕ) where
   refused-told (trace.ToldAs.longer k a b s) v l h = no-refusal v
   refused-told (trace.ToldAs.this_long k a b s) v l h = no-refusal v
 
-pub named-explained : {local : Bool} {e n t t' : List ℕ} {p : ℕ} {r : Explanation} → most_numbers ≤ length t
+pub named-explained : {local : Bool} {e n t t' : List ℕ} {p : ℕ} {r : Result Explanation Reason} → most_numbers ≤ length t
     → CheckPromise local e n (violated p) → NamedBy local e n p t r t' → Explained local e n t r t'
 named-explained {local} {e} {n} {t} {t'} {p} l h (NamedBy.told_shown a) =
     let (past, k, u, s) = shown-told local e n t p a refl refl in
-    subst (λ (k : ℕ). Explained local e n t (Shown p k) t') k
-    (subst (λ (u : List ℕ). Explained local e n t (Shown p (length past)) u) u (Explained.this_long l h s))
+    subst (λ (k : ℕ). Explained local e n t (Ok (Shown p k)) t') k
+    (subst (λ (u : List ℕ). Explained local e n t (Ok (Shown p (length past))) u) u (Explained.this_long l h s))
 named-explained {local} {e} {n} {t} {t'} {p} l h (NamedBy.told_longer a) =
     let (u, s) = longer-told local e n t p a refl refl in
-    subst (λ (u : List ℕ). Explained local e n t (Longer p) u) u (Explained.longer l h s)
+    subst (λ (u : List ℕ). Explained local e n t (Ok (Longer p)) u) u (Explained.longer l h s)
 named-explained {local} {e} {n} {t} {t'} {p} l h (NamedBy.told_refused a) = absurd (refused-told local e n t p a refl l h)

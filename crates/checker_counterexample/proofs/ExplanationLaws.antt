@@ -17,7 +17,11 @@ use Rattle.usage.proofs.Logic.{clash}
 use Rattle.checker_trace.specs.Answer.{most_numbers}
 use Rattle.checker_trace.specs.Steps.{numbers, laid}
 use Rattle.checker_counterexample.specs.declared.Explanation.{Explanation}
-use Rattle.checker_counterexample.specs.declared.Explanation.TheVariants.{Shown, Longer, Refused}
+use Rattle.checker_counterexample.specs.declared.Explanation.TheVariants.{Shown, Longer}
+use Rattle.std.specs.Prelude.{Result, Ok, Err}
+use Rattle.usage.specs.declared.Reason.{Reason}
+use Rattle.usage.specs.Reasons.{number_of}
+use Rattle.checker.proofs.ReasonLaws.{reason-one}
 use Rattle.checker.specs.Promise.{CheckPromise}
 use Rattle.checker_counterexample.specs.Explained.{Explained, explanation_verdict, steps_written_lem}
 use Rattle.checker.proofs.PromiseLaws.{promised-right}
@@ -34,7 +38,7 @@ module _ {local : Bool} {e n : List ℕ} where
 
 module _ {local : Bool} {e n t : List ℕ} where
   -- the verdict is the check's, where the lent table has the room
-  pub explained-verdict : {x : Explanation} {t' : List ℕ} → Explained local e n t x t' → most_numbers ≤ length t
+  pub explained-verdict : {x : Result Explanation Reason} {t' : List ℕ} → Explained local e n t x t' → most_numbers ≤ length t
       → CheckPromise local e n (explanation_verdict x)
   explained-verdict (Explained.too_small l) h = absurd (omega arith)
   explained-verdict (Explained.refused_with l c) h = c
@@ -43,7 +47,7 @@ module _ {local : Bool} {e n t : List ℕ} where
   explained-verdict (Explained.this_long l c s) h = c
 
   -- and 40 where it has not
-  pub explained-small : {x : Explanation} {t' : List ℕ} → Explained local e n t x t' → length t < most_numbers
+  pub explained-small : {x : Result Explanation Reason} {t' : List ℕ} → Explained local e n t x t' → length t < most_numbers
       → explanation_verdict x ≡ refused 40
   explained-small (Explained.too_small l) h = refl
   explained-small (Explained.refused_with l c) h = absurd (omega arith)
@@ -52,7 +56,7 @@ module _ {local : Bool} {e n t : List ℕ} where
   explained-small (Explained.this_long l c s) h = absurd (omega arith)
 
   -- where no step is written, the lent table is as it was
-  pub explained-nothing : {x : Explanation} {t' : List ℕ} → Explained local e n t x t' → steps_written_lem x ≡ 0 → t' ≡ t
+  pub explained-nothing : {x : Result Explanation Reason} {t' : List ℕ} → Explained local e n t x t' → steps_written_lem x ≡ 0 → t' ≡ t
   unfolding laid numbers
   explained-nothing (Explained.too_small l) h = refl
   explained-nothing (Explained.refused_with l c) h = refl
@@ -65,45 +69,47 @@ module _ {local : Bool} {e n t : List ℕ} where
       go (s ∷ past) k = absurd (omega arith)
 
   -- a trace that is written is a shortest one, and the table holds it
-  pub explained-shown : (p s : ℕ) (t' : List ℕ) → Explained local e n t (Shown p s) t'
+  pub explained-shown : (p s : ℕ) (t' : List ℕ) → Explained local e n t (Ok (Shown p s)) t'
       → (past : Past) × Shortest local (edges_of e) (nodes_of n) p past × (length past ≡ s) × (s ≤ most_shown) × (t' ≡ laid t past)
   explained-shown p s t' (Explained.this_long {past = past} l c (this h few)) = (past, h, refl, few, refl)
 
   -- else every such trace is longer
-  pub explained-longer : (p : ℕ) (t' : List ℕ) → Explained local e n t (Longer p) t' → (past : Past) → IsTrace (nodes_of n) past
+  pub explained-longer : (p : ℕ) (t' : List ℕ) → Explained local e n t (Ok (Longer p)) t' → (past : Past) → IsTrace (nodes_of n) past
       → Violates local (edges_of e) p past → most_shown < length past
   explained-longer p t' (Explained.longer l c (longer f)) = f
 
   -- no two explanations of the same tables differ but in the trace
-  pub explained-unique : {x y : Explanation} {t' u' : List ℕ} → Explained local e n t x t' → Explained local e n t y u' → x ≡ y
+  pub explained-unique : {x y : Result Explanation Reason} {t' u' : List ℕ} → Explained local e n t x t' → Explained local e n t y u' → x ≡ y
   explained-unique (Explained.too_small l) (Explained.too_small m) = refl
   explained-unique (Explained.too_small l) (Explained.refused_with m d) = absurd (omega arith)
   explained-unique (Explained.too_small l) (Explained.accepted m d) = absurd (omega arith)
   explained-unique (Explained.too_small l) (Explained.longer m d s) = absurd (omega arith)
   explained-unique (Explained.too_small l) (Explained.this_long m d s) = absurd (omega arith)
   explained-unique (Explained.refused_with l c) (Explained.too_small m) = absurd (omega arith)
-  explained-unique (Explained.refused_with {k} l c) (Explained.refused_with {k = j} m d) =
-      let h : refused k ≡ refused j = same-verdict c d in let q : k ≡ j = cc in ap Refused q
-  explained-unique (Explained.refused_with {k} l c) (Explained.accepted m d) = let h : refused k ≡ allowed = same-verdict c d in clash (cc)
-  explained-unique (Explained.refused_with {k} l c) (Explained.longer {p} m d s) =
-      let h : refused k ≡ violated p = same-verdict c d in clash (cc)
-  explained-unique (Explained.refused_with {k} l c) (Explained.this_long {p} m d s) =
-      let h : refused k ≡ violated p = same-verdict c d in clash (cc)
+  explained-unique (Explained.refused_with {r} l c) (Explained.refused_with {r = s} m d) =
+      let h : refused (number_of r) ≡ refused (number_of s) = same-verdict c d in
+      let q : number_of r ≡ number_of s = cc in
+      ap Err (reason-one q)
+  explained-unique (Explained.refused_with {r = u} l c) (Explained.accepted m d) = let h : refused (number_of u) ≡ allowed = same-verdict c d in clash (cc)
+  explained-unique (Explained.refused_with {r = u} l c) (Explained.longer {p} m d s) =
+      let h : refused (number_of u) ≡ violated p = same-verdict c d in clash (cc)
+  explained-unique (Explained.refused_with {r = u} l c) (Explained.this_long {p} m d s) =
+      let h : refused (number_of u) ≡ violated p = same-verdict c d in clash (cc)
   explained-unique (Explained.accepted l c) (Explained.too_small m) = absurd (omega arith)
-  explained-unique (Explained.accepted l c) (Explained.refused_with {k = j} m d) = let h : allowed ≡ refused j = same-verdict c d in clash (cc)
+  explained-unique (Explained.accepted l c) (Explained.refused_with {r = u} m d) = let h : allowed ≡ refused (number_of u) = same-verdict c d in clash (cc)
   explained-unique (Explained.accepted l c) (Explained.accepted m d) = refl
   explained-unique (Explained.accepted l c) (Explained.longer {p} m d s) = let h : allowed ≡ violated p = same-verdict c d in clash (cc)
   explained-unique (Explained.accepted l c) (Explained.this_long {p} m d s) = let h : allowed ≡ violated p = same-verdict c d in clash (cc)
   explained-unique (Explained.longer l c r) (Explained.too_small m) = absurd (omega arith)
-  explained-unique (Explained.longer {p} l c r) (Explained.refused_with {k = j} m d) =
-      let h : violated p ≡ refused j = same-verdict c d in clash (cc)
+  explained-unique (Explained.longer {p} l c r) (Explained.refused_with {r = u} m d) =
+      let h : violated p ≡ refused (number_of u) = same-verdict c d in clash (cc)
   explained-unique (Explained.longer {p} l c r) (Explained.accepted m d) = let h : violated p ≡ allowed = same-verdict c d in clash (cc)
-  explained-unique (Explained.longer l c r) (Explained.longer m d s) = ap Longer (same-policy c d)
+  explained-unique (Explained.longer l c r) (Explained.longer m d s) = ap (λ (p : ℕ). Ok (Longer p)) (same-policy c d)
   explained-unique (Explained.longer {p} l c (longer f)) (Explained.this_long {p = q} {past} m d (this h few)) =
       let k = f past h.trace (policy-violates (sym (same-policy c d)) h.violates) in absurd (omega arith)
   explained-unique (Explained.this_long l c r) (Explained.too_small m) = absurd (omega arith)
-  explained-unique (Explained.this_long {p} l c r) (Explained.refused_with {k = j} m d) =
-      let h : violated p ≡ refused j = same-verdict c d in clash (cc)
+  explained-unique (Explained.this_long {p} l c r) (Explained.refused_with {r = u} m d) =
+      let h : violated p ≡ refused (number_of u) = same-verdict c d in clash (cc)
   explained-unique (Explained.this_long {p} l c r) (Explained.accepted m d) = let h : violated p ≡ allowed = same-verdict c d in clash (cc)
   explained-unique (Explained.this_long {p = q} {past} l c (this h few)) (Explained.longer {p} m d (longer f)) =
       let k = f past h.trace (policy-violates (same-policy c d) h.violates) in absurd (omega arith)
@@ -112,4 +118,4 @@ module _ {local : Bool} {e n t : List ℕ} where
       let a = h.least another k.trace (policy-violates (sym s) k.violates) in
       let b = k.least past h.trace (policy-violates s h.violates) in
       let long : length past ≡ length another = omega arith in
-      ap₂ Shown s long
+      ap₂ (λ (p k : ℕ). Ok (Shown p k)) s long

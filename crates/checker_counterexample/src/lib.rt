@@ -5,30 +5,34 @@ ghost use Rattle.checker_counterexample.specs.Explained.{NamedBy, Explained};
 
 use checker::Outcome;
 use checker_trace::{Length, MOST_NUMBERS};
+use usage::Reason;
 
 // The answer of the check with a counterexample: accepted; refused with the lowest policy that some trace leaves open and not
-// respected, and the number of steps of the trace that was written; the same where every such trace has more than 200 steps; or a
-// refusal with its number.
-#[derive(Clone, Copy)]
+// respected, and the number of steps of the trace that was written; or the same where every such trace has more than 200 steps.
+#[derive(Clone, Copy, PartialEq, Eq, Debug)]
 pub enum Explanation {
     Accepted,
     Shown { policy: u8, steps: u8 },
     Longer { policy: u8 },
-    Refused(u8),
 }
 
 // The counterexample to policy p.
-fn named(edges: &[u8], local: bool, nodes: &[u8], p: u8, trace: &mut [u32]) -> Explanation
+fn named(
+    edges: &[u8],
+    local: bool,
+    nodes: &[u8],
+    p: u8,
+    trace: &mut [u32],
+) -> Result<Explanation, Reason>
     ensures { NamedBy local edges.now nodes.now p trace.old result trace.new }
 {
-    let l = checker_trace::counterexample(edges, local, nodes, p as usize, trace);
+    let l = checker_trace::counterexample(edges, local, nodes, p as usize, trace)?;
     match l {
-        Length::Of(n) => Explanation::Shown {
+        Length::Of(n) => Ok(Explanation::Shown {
             policy: p,
             steps: n,
-        },
-        Length::Longer => Explanation::Longer { policy: p },
-        Length::Refused(n) => Explanation::Refused(n),
+        }),
+        Length::Longer => Ok(Explanation::Longer { policy: p }),
     }
 }
 
@@ -39,16 +43,15 @@ pub fn check_with_counterexample(
     local: bool,
     nodes: &[u8],
     trace: &mut [u32],
-) -> Explanation
+) -> Result<Explanation, Reason>
     ensures { Explained local edges.now nodes.now trace.old result trace.new }
 {
     if trace.len() < MOST_NUMBERS {
-        return Explanation::Refused(40);
+        return Err(Reason::Room);
     }
-    let o = checker::check(edges, local, nodes);
+    let o = checker::check(edges, local, nodes)?;
     match o {
-        Outcome::Accepted => Explanation::Accepted,
+        Outcome::Accepted => Ok(Explanation::Accepted),
         Outcome::Named(p) => named(edges, local, nodes, p, trace),
-        Outcome::Refused(n) => Explanation::Refused(n),
     }
 }

@@ -1,25 +1,19 @@
 -- Entries: their bounds and places, and what the code on them computes.
-use Prim.Native.Nat.{ℕ, suc, ◌+◌, ◌-◌, ◌*◌, ◌/◌, ◌%◌, ◌<◌, ◌≤◌}
+use Prim.Native.Nat.{ℕ, suc, ◌+◌, ◌<◌, ◌≤◌}
 use mathlib.Core.Path.{◌≡◌, refl, sym, ap, ◌∙◌}
 use mathlib.Core.Bool.{Bool, true, false, ◌&&◌, cond}
 use mathlib.Core.List.{List}
 use native.Mathlib.Omega.{arith}
 use native.Mathlib.Decide.{dec_le}
-use lib.Dec.{eqb, ltb}
+use lib.Dec.{ltb}
 use lib.ListN.{get_or}
-use borrow.Author.Tests.{ltb-true, lt-ltb, le-ltb, le-leb, lt-leb, eq-eqb, ne_eqb}
+use borrow.Author.Tests.{ltb-true, lt-ltb, le-ltb, le-leb, lt-leb}
 use Rattle.usage.specs.Limits.{states, most_nodes, most_shown}
 use Rattle.usage.proofs.Logic.{and_left, and_right}
 use Rattle.checker_lengths.specs.declared.Entry.{Entry}
 use Rattle.checker_account.specs.Tables.{made, meanings}
 use Rattle.checker_lengths.specs.Offers.{toward, low_end_lem}
-use Rattle.checker_lengths.specs.Entries.{no_length, entry_of, nodes_before, linear, in_table, below, held, plus, aims}
-
-pub record Bounds (e : Entry) : Type 0 where
-  pub node : e.node < most_nodes
-  pub meaning : e.meaning < meanings
-  pub state : e.state < states
-  pub aim : e.aim < aims
+use Rattle.checker_lengths.specs.Entries.{no_length, entry_of, nodes_before, linear, in_table, Bounds, below, held, plus, aims}
 
 pub bounds : (e : Entry) → in_table e ≡ true → Bounds e
 unfolding in_table
@@ -49,7 +43,7 @@ low-end-le m = go (made m)
     go true = omega arith
     go false = omega arith
 
-half_le : (o : Bool) → nodes_before o ≤ most_nodes
+pub half_le : (o : Bool) → nodes_before o ≤ most_nodes
 half_le true = omega arith
 half_le false = omega arith
 
@@ -132,24 +126,3 @@ plus-is a b n h l = go (dec_le (a + b) most_shown)
     go : Dec (a + b ≤ most_shown) → a + b ≡ n
     go (yes f) = plus-some a b f ∙ h
     go (no f) = let g = plus_none a b (omega arith) in absurd (omega arith)
-
--- ── The meanings of a node's starts, in the order in which they are settled ──
-
-abbrev odd : Bool → ℕ
-odd false = 0
-odd true = 1
-
-odd_is : (o : Bool) (n : ℕ) → eqb ((2 * n + odd o) % 2) 1 ≡ o
-odd_is false n = ne_eqb ((2 * n + 0) % 2) 1 (λ e. absurd (omega arith))
-odd_is true n = eq-eqb ((2 * n + 1) % 2) 1 (omega arith)
-
-odd-lt : (o : Bool) → odd o < 2
-odd-lt false = omega arith
-odd-lt true = omega arith
-
--- every meaning has its turn
-pub meaning-turn : (l : ℕ) (o : Bool) (m : ℕ) → l ≤ m → m < meanings
-    → (i : ℕ) × (i < 2 * (meanings - l)) × (eqb (i % 2) 1 ≡ o) × (l + i / 2 ≡ m)
-meaning-turn l o m low high =
-    let b = odd-lt o in
-    (2 * (m - l) + odd o, omega arith, odd_is o (m - l), omega arith)

@@ -1,7 +1,7 @@
 -- What the code on single rules computes is what the definitions say.
 use Prim.Native.Nat.{ℕ, zero, suc, ◌+◌, ◌-◌, ◌/◌, ◌%◌, ◌^◌, ◌<◌, ◌≤◌}
 use mathlib.Core.Path.{◌≡◌, refl, sym, ap, ◌∙◌}
-use mathlib.Core.Bool.{Bool, true, false, ◌&&◌, ◌||◌, cond}
+use mathlib.Core.Bool.{Bool, true, false, ◌&&◌, cond}
 use mathlib.Core.List.{List}
 use mathlib.Core.Logic.{◌⊎◌, inl, inr}
 use native.Mathlib.Omega.{arith}
@@ -13,7 +13,6 @@ use Rattle.usage.specs.Limits.{most_shown}
 use Rattle.usage.specs.Past.{reopened}
 use Rattle.automaton.specs.Mask.{has}
 use Rattle.checker_account.specs.Tables.{made}
-use Rattle.checker_account.proofs.CodeLaws.{made_some}
 use Rattle.checker_tables.specs.Search.{lost}
 use Rattle.checker_tables.proofs.MeaningLaws.{lost-name}
 use Rattle.checker_lengths.specs.declared.Entry.{Entry}
@@ -31,37 +30,17 @@ has-bit v j = ap (λ (n : ℕ). eqb n 1) (and_mask (v / 2 ^ j) 1)
 -- ── One step, or none ──
 
 module _ (v : ℕ) (e : Entry) (low : ℕ) (h : low ≡ low_end_lem e.meaning) where
-  pub ending-low : e.aim < low → no_length ≡ ending_of v e
-  unfolding ending_of
-  ending-low l = rw (← h) (rw (lt-ltb e.aim low l))
-
-  pub ending-past : low ≤ e.aim → 8 ≤ e.aim - low → no_length ≡ ending_of v e
-  unfolding ending_of
-  ending-past l k = rw (← h) (rw (le-ltb e.aim low l) (rw (le-ltb (e.aim - low) 8 k)))
-
   pub ending-by : (b : Bool) → low ≤ e.aim → e.aim - low < 8 → has v (e.aim - low) ≡ b → one_if b ≡ ending_of v e
   unfolding ending_of
   ending-by b l k g = rw (← h) (rw (le-ltb e.aim low l) (rw (lt-ltb (e.aim - low) 8 k) (rw g)))
-
-  pub still-low : e.aim < low → no_length ≡ still_of e
-  unfolding still_of
-  still-low l = rw (← h) (rw (ne_eqb e.aim (low + e.state) (λ f. absurd (omega arith))))
 
   pub still-here : low ≤ e.aim → e.aim - low ≡ e.state → 0 ≡ still_of e
   unfolding still_of
   still-here l k = rw (← h) (rw (eq-eqb e.aim (low + e.state) (omega arith)))
 
-  pub still-other : low ≤ e.aim → (e.aim - low ≡ e.state → ⊥) → no_length ≡ still_of e
-  unfolding still_of
-  still-other l k = rw (← h) (rw (ne_eqb e.aim (low + e.state) (λ f. k (omega arith))))
-
 -- ── Creations ──
 
 module _ (rows : List ℕ) (e : Entry) (own : Bool) where
-  pub born-none : own ≡ true → 0 < e.meaning → 0 ≡ born rows e own
-  unfolding born
-  born-none h l = rw (h, made_some e.meaning (λ f. absurd (omega arith)))
-
   pub born-some : (e.meaning ≤ 0) ⊎ (own ≡ false) → moved rows e own ≡ born rows e own
   unfolding born
   born-some (inl l) = go e.meaning refl own
@@ -73,14 +52,6 @@ module _ (rows : List ℕ) (e : Entry) (own : Bool) where
   born-some (inr h) = ap (λ (b : Bool). cond (b && made e.meaning) 0 (moved rows e own)) (sym h)
 
 -- ── Meanings ──
-
-pub heir-low : (m c : ℕ) → c < 8 → 0 ≡ heir m c
-unfolding heir
-heir-low m c l = rw (lt-leb 8 c l)
-
-pub heir-new : (m c : ℕ) → 8 ≤ c → m ≡ 0 → 5 ≡ heir m c
-unfolding heir
-heir-new m c l e = rw (le-leb 8 c l, e)
 
 pub heir-old : (m c : ℕ) → 8 ≤ c → (m ≡ 0 → ⊥) → m ≡ heir m c
 unfolding heir
@@ -95,16 +66,8 @@ pub named-own : (m n c : ℕ) → 8 ≤ c → n + 1 ≡ named m n c
 unfolding named
 named-own m n c l = add-one n ∙ rw (le-ltb c 8 l)
 
-pub second_is : (e : Entry) (b c m : ℕ) → m ≡ heir e.meaning c → entry_of b e.opened m (c % 8) e.aim ≡ second_entry e b c
-second_is e b c m h = ap (λ (i : ℕ). entry_of b e.opened i (c % 8) e.aim) h
-
 pub body_is : (e : Entry) (n b c m : ℕ) → m ≡ named e.meaning n c → entry_of b e.opened m (c % 8) e.aim ≡ body_entry e n b c
 body_is e n b c m h = ap (λ (i : ℕ). entry_of b e.opened i (c % 8) e.aim) h
-
-pub inner-is : (w : WatchOne) (e : Entry) (s b q : ℕ) (o : Bool) → o ≡ (e.opened || eqb s w.policy)
-    → q ≡ reopened w.local w.policy s e.opened e.state
-    → entry_of b o e.meaning q e.aim ≡ inner_entry w e s b
-inner-is w e s b q o f g = rw (f, g)
 
 -- ── Rules ──
 
@@ -162,6 +125,3 @@ module _ (w : WatchOne) (look : Entry → ℕ) (e : Entry) (s b c : ℕ) where
 
     pub sandbox-hits : 6 ≤ q → 1 ≡ sandbox_of w look e s b c
     sandbox-hits l = sandbox-breaks true h (hits true (le-leb 6 q l))
-
-    pub sandbox-safe : q < 6 → no_length ≡ sandbox_of w look e s b c
-    sandbox-safe l = sandbox-breaks false h (hits false (lt-leb 6 q l))

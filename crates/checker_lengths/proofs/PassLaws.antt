@@ -1,17 +1,16 @@
 -- One pass over some entries after another, and the pass over a single entry.
 use Prim.Native.Nat.{ℕ, zero, suc, ◌+◌, ◌<◌, ◌≤◌}
 use mathlib.Core.Path.{◌≡◌, refl, sym, ap, ◌∙◌, subst}
-use mathlib.Core.Bool.{Bool, true, false}
+use mathlib.Core.Bool.{Bool, true, false, ◌||◌}
 use mathlib.Core.Option.{Option}
 use mathlib.Core.List.{List, [], ◌∷◌}
-use mathlib.Core.Logic.{◌⊎◌, inl, inr}
 use native.Mathlib.Omega.{arith}
 use native.Mathlib.Nat.{not-suc-le-zero, le_of_suc-le-suc}
 use native.Mathlib.Decide.{ℕ_discrete}
 use lib.ListN.{length, get_or, set, length-set}
 use lib.Seq.{get_or-set_same, get_or-set_other}
 use Rattle.usage.specs.Outline.{Form}
-use Rattle.usage.proofs.Logic.{not-both, false-true}
+use Rattle.usage.proofs.Logic.{false-true}
 use Rattle.checker_account.specs.Filling.{total}
 use Rattle.checker_lengths.specs.declared.Entry.{Entry}
 use Rattle.checker_lengths.specs.declared.WatchOne.{WatchOne}
@@ -36,10 +35,6 @@ le-self n = omega arith
 
 le-both : {a b c : ℕ} → a ≤ b → b ≤ c → a ≤ c
 le-both h k = omega arith
-
--- what two passes tell, one after the other: z is true where the second changed something, and else what the first told
-abbrev pub Either : Bool → Bool → Bool → Type 0
-Either r s z = ((s ≡ true) × (z ≡ true)) ⊎ ((s ≡ false) × (z ≡ r))
 
 pub fell-none : {k : ℕ} {t : List ℕ} → Fell k t t
 fell-none {t = t} = record { beside = λ e h d. refl; down = λ i. le-self (get_or t i 0) }
@@ -82,24 +77,25 @@ module _ {w : WatchOne} {rows : List ℕ} {k : ℕ} {f : Option Form} where
   less-or-same {t = t} {u = u} true p = let l = p.lower refl in omega arith
   less-or-same {t = t} {u = u} false p = let e : total u ≡ total t = ap total (p.kept refl) in omega arith
 
-  pub pass-then : {C D F : List ℕ → Type 0} {t u v : List ℕ} {r s z : Bool} → ((y : List ℕ) → C y → D y → F y)
+  -- one pass after another
+  pub pass-then : {C D F : List ℕ → Type 0} {t u v : List ℕ} {r s : Bool} → ((y : List ℕ) → C y → D y → F y)
       → (Apart w rows k f → Fell k u v → C u → C v)
-      → Pass w rows k f C t u r → Pass w rows k f D u v s → Either r s z → Pass w rows k f F t v z
-  pass-then {t = t} {u = u} {v = v} {r = r} {z = z} join lasts p q (inl (e, g)) = record {
+      → Pass w rows k f C t u r → Pass w rows k f D u v s → Pass w rows k f F t v (r || s)
+  pass-then {t = t} {u = u} {v = v} {r = true} {s = s} join lasts p q = record {
     same_size = q.same_size ∙ p.same_size;
     changes = λ nodes l h d. q.changes nodes l h (p.changes nodes l h d);
-    kept = λ y. not-both z g y;
-    settled = λ y. not-both z g y;
-    lower = λ y. let l = q.lower e in let k = less-or-same r p in omega arith;
+    kept = λ y. false-true (sym y);
+    settled = λ y. false-true (sym y);
+    lower = λ y. let l = p.lower refl in let k = less-or-same s q in omega arith;
     fell = fell-then p.fell q.fell;
     done = λ a. join v (lasts a q.fell (p.done a)) (q.done a);
   }
-  pass-then {D = D} {t = t} {u = u} {v = v} {r = r} {z = z} join lasts p q (inr (e, g)) = record {
+  pass-then {D = D} {t = t} {u = u} {v = v} {r = false} join lasts p q = record {
     same_size = q.same_size ∙ p.same_size;
     changes = λ nodes l h d. q.changes nodes l h (p.changes nodes l h d);
-    kept = λ y. q.kept e ∙ p.kept (sym g ∙ y);
-    settled = λ y. join t (p.settled (sym g ∙ y)) (subst D (p.kept (sym g ∙ y)) (q.settled e));
-    lower = λ y. let l = p.lower (sym g ∙ y) in let k : total v ≡ total u = ap total (q.kept e) in omega arith;
+    kept = λ y. q.kept y ∙ p.kept refl;
+    settled = λ y. join t (p.settled refl) (subst D (p.kept refl) (q.settled y));
+    lower = λ y. let l = q.lower y in let k : total u ≡ total t = ap total (p.kept refl) in omega arith;
     fell = fell-then p.fell q.fell;
     done = λ a. join v (lasts a q.fell (p.done a)) (q.done a);
   }

@@ -1,5 +1,5 @@
 -- The layout of a table of lengths, and single entries of it.
-use Rattle.std.specs.Prelude.{ℕ, suc, ◌+◌, ◌*◌, Bool, true, false, ◌&&◌, cond, List, ltb, leb, get_or}
+use Rattle.std.specs.Prelude.{ℕ, suc, ◌+◌, ◌*◌, ◌<◌, Bool, true, false, ◌&&◌, cond, List, ltb, leb, get_or}
 use Rattle.usage.specs.Limits.{most_nodes, states, most_shown}
 use Rattle.checker_account.specs.Tables.{meanings, places}
 use Rattle.checker_lengths.specs.declared.Entry.{Entry}
@@ -38,6 +38,13 @@ linear e = ((nodes_before e.opened + e.node) * starts + (states * e.meaning + e.
 
 unfoldable pub in_table : Entry → Bool
 in_table e = ltb e.node most_nodes && (ltb e.meaning meanings && (ltb e.state states && ltb e.aim aims))
+
+-- the same, number by number
+pub record Bounds (e : Entry) : Type 0 where
+  pub node : e.node < most_nodes
+  pub meaning : e.meaning < meanings
+  pub state : e.state < states
+  pub aim : e.aim < aims
 
 -- v, if it is less than `most`
 unfoldable pub below : ℕ → ℕ → ℕ

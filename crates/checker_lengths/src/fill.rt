@@ -1,7 +1,7 @@
 // The table, filled node by node until none is left. An entry only ever falls, to what a rule gives, and only entries of starts that are
 // come to are looked at.
-ghost use Rattle.std.specs.Prelude.{◌≡◌, Bool, true, List, ℕ, ◌<◌, length};
-ghost use Rattle.checker_account.specs.Tables.{meanings};
+ghost use Rattle.std.specs.Prelude.{◌≡◌, true, ◌<◌, get_or};
+ghost use Rattle.checker_account.specs.Tables.{meanings, place};
 ghost use Rattle.checker_tables.specs.Search.{NodesFit, has_room};
 ghost use Rattle.usage.specs.Limits.{most_nodes};
 ghost use Rattle.outline_nodes.specs.Said.{said_by};
@@ -12,14 +12,21 @@ ghost use Rattle.checker_lengths.specs.Code.{Pass, Puts, SettlesSequence};
 ghost use Rattle.checker_lengths.specs.Filling.{Settled, RuleSettled, StartSettled, StatesSettled, NodeSettled, Full, FullIf};
 
 use crate::{AIMS, ALL, BROKEN, Entry, Lengths, MOST, NONE, SIZE, WatchOne, entries, offers};
-use checker_account::{Arrival, MEANINGS, NOTHING, Resources, Table};
+use checker_account::{Arrival, MEANINGS, Table};
 use outline_nodes::NodeForm;
 use usage::{MOST_NODES, NODE_FIELDS, STATES};
 
+// By what the lengths of a node fall: the moves of the policy, what is watched, and what the node says.
+#[derive(Clone, Copy)]
+struct Rules<'a> {
+    rows: &'a Table,
+    watch: WatchOne,
+    form: NodeForm,
+}
+
 // The entry set to v, if that is less. Is it? v is what some rule of its node gives.
 fn put(t: &mut Lengths, e: Entry, v: u8) -> bool
-    requires t_len { length t.old ≡ size }
-    requires e_value { in_table e ≡ true }
+    requires { in_table e ≡ true }
     ensures { Puts e v t.old t.new result }
 {
     let at = entries::place(e);
@@ -31,24 +38,22 @@ fn put(t: &mut Lengths, e: Entry, v: u8) -> bool
     }
 }
 
-// The entry set to what rule c of its node gives, f being that node, if it is less. Is it?
-fn settle(t: &mut Lengths, rows: &Table, w: WatchOne, f: NodeForm, e: Entry, c: usize) -> bool
-    requires t_len { length t.old ≡ size }
-    requires e_value { in_table e ≡ true }
-    ensures { Pass w rows.now e.node (said_by f)
-        (λ u. Settled w rows.now (said_by f) u e c) t.old t.new result }
+// The entry set to what rule c of its node gives, if that is less. Is it?
+fn settle(t: &mut Lengths, r: Rules, e: Entry, c: usize) -> bool
+    requires { in_table e ≡ true }
+    ensures { Pass r.entry.watch r.entry.rows.now e.node (said_by r.entry.form)
+        (λ u. Settled r.entry.watch r.entry.rows.now (said_by r.entry.form) u e c) t.old t.new result }
 {
-    let v = offers::offer(t, rows, w, ALL, f, e, c);
+    let v = offers::offer(t, r.rows, r.watch, ALL, r.form, e, c);
     put(t, e, v)
 }
 
 // Every aim of one start by rule c of a sequence: what its first node takes to its end is asked once. It is another node, so that its
 // length stays. Did that change the table?
 fn settle_sequence(t: &mut Lengths, s: Entry, a: u8, b: u8, c: usize) -> bool
-    requires t_len { length t.old ≡ size }
     requires s_value { in_table (toward s 0) ≡ true }
     requires c_lt_at_break { c < at_break }
-    requires fact { a ≡ s.node → ⊥ }
+    requires first_elsewhere { a ≡ s.node → ⊥ }
     ensures { SettlesSequence s a b c t.old t.new result }
 {
     let v = entries::get(t, ALL, offers::first(s, a, c));
@@ -57,148 +62,111 @@ fn settle_sequence(t: &mut Lengths, s: Entry, a: u8, b: u8, c: usize) -> bool
     }
     let from = offers::second(s, b, c);
     let mut changed = false;
-    let mut i: usize = offers::low_end(s.meaning);
-    while i < AIMS {
+    for i in offers::low_end(s.meaning)..AIMS {
         let sum = entries::plus(v, entries::get(t, ALL, offers::toward(from, i)));
-        if put(t, offers::toward(s, i), sum) {
-            changed = true;
-        }
-        i += 1;
+        changed |= put(t, offers::toward(s, i), sum);
     }
     changed
 }
 
 // Every aim of one start by rule c. Ends before the first that is tried leave it open whether the watched resource can be created,
 // which the node's start has settled. Did that change the table?
-fn settle_aims(t: &mut Lengths, rows: &Table, w: WatchOne, f: NodeForm, s: Entry, c: usize) -> bool
-    requires t_len { length t.old ≡ size }
-    requires s_value { in_table (toward s 0) ≡ true }
-    ensures { Pass w rows.now s.node (said_by f)
-        (λ u. RuleSettled w rows.now (said_by f) u s c) t.old t.new result }
+fn settle_aims(t: &mut Lengths, r: Rules, s: Entry, c: usize) -> bool
+    requires { in_table (toward s 0) ≡ true }
+    ensures { Pass r.entry.watch r.entry.rows.now s.node (said_by r.entry.form)
+        (λ u. RuleSettled r.entry.watch r.entry.rows.now (said_by r.entry.form) u s c) t.old t.new result }
 {
-    if !offers::gives(t, rows, f, s, c) {
+    if !offers::gives(t, r.rows, r.form, s, c) {
         return false;
     }
     let mut changed = false;
-    let mut i: usize = offers::low_end(s.meaning);
-    while i < AIMS {
-        if settle(t, rows, w, f, offers::toward(s, i), c) {
-            changed = true;
-        }
-        i += 1;
+    for i in offers::low_end(s.meaning)..AIMS {
+        changed |= settle(t, r, offers::toward(s, i), c);
     }
     changed
 }
 
 // The same, a sequence's in the shorter way.
-fn settle_rule(t: &mut Lengths, rows: &Table, w: WatchOne, f: NodeForm, s: Entry, c: usize) -> bool
-    requires t_len { length t.old ≡ size }
-    requires s_value { in_table (toward s 0) ≡ true }
-    ensures { Pass w rows.now s.node (said_by f)
-        (λ u. RuleSettled w rows.now (said_by f) u s c) t.old t.new result }
+fn settle_rule(t: &mut Lengths, r: Rules, s: Entry, c: usize) -> bool
+    requires { in_table (toward s 0) ≡ true }
+    ensures { Pass r.entry.watch r.entry.rows.now s.node (said_by r.entry.form)
+        (λ u. RuleSettled r.entry.watch r.entry.rows.now (said_by r.entry.form) u s c) t.old t.new result }
 {
     if c < BROKEN {
-        if let NodeForm::Sequence { first, second } = f {
+        if let NodeForm::Sequence { first, second } = r.form {
             if first as usize != s.node {
                 return settle_sequence(t, s, first, second, c);
             }
         }
     }
-    settle_aims(t, rows, w, f, s, c)
+    settle_aims(t, r, s, c)
 }
 
 // Every rule of one start. Did that change the table?
-fn settle_start(t: &mut Lengths, rows: &Table, w: WatchOne, f: NodeForm, s: Entry) -> bool
-    requires t_len { length t.old ≡ size }
-    requires s_value { in_table (toward s 0) ≡ true }
-    ensures { Pass w rows.now s.node (said_by f)
-        (λ u. StartSettled w rows.now (said_by f) u s) t.old t.new result }
+fn settle_start(t: &mut Lengths, r: Rules, s: Entry) -> bool
+    requires { in_table (toward s 0) ≡ true }
+    ensures { Pass r.entry.watch r.entry.rows.now s.node (said_by r.entry.form)
+        (λ u. StartSettled r.entry.watch r.entry.rows.now (said_by r.entry.form) u s) t.old t.new result }
 {
-    let n = offers::ways(f);
     let mut changed = false;
-    let mut c: usize = 0;
-    while c < n {
-        if settle_rule(t, rows, w, f, s, c) {
-            changed = true;
-        }
-        c += 1;
+    for c in 0..offers::ways(r.form) {
+        changed |= settle_rule(t, r, s, c);
     }
     changed
-}
-
-// The same if it is to be settled.
-fn settle_if(t: &mut Lengths, rows: &Table, w: WatchOne, f: NodeForm, s: Entry, there: bool) -> bool
-    requires t_len { length t.old ≡ size }
-    requires s_value { in_table (toward s 0) ≡ true }
-    ensures { Pass w rows.now s.node (said_by f)
-        (λ u. there ≡ true → StartSettled w rows.now (said_by f) u s) t.old t.new result }
-{
-    if there {
-        settle_start(t, rows, w, f, s)
-    } else {
-        false
-    }
 }
 
 // The starts in which a node is come to. Did that change the table?
-fn settle_states(t: &mut Lengths, rows: &Table, w: WatchOne, f: NodeForm, g: Arrival) -> bool
-    requires t_len { length t.old ≡ size }
+fn settle_states(t: &mut Lengths, r: Rules, g: Arrival) -> bool
     requires to_lt_most_nodes { g.to < most_nodes }
     requires meaning_lt_meanings { g.meaning < meanings }
-    ensures { Pass w rows.now g.to (said_by f)
-        (λ u. StatesSettled w rows.now (said_by f) u g.to g.opened g.meaning g.states)
+    ensures { Pass r.entry.watch r.entry.rows.now g.to (said_by r.entry.form)
+        (λ u. StatesSettled r.entry.watch r.entry.rows.now (said_by r.entry.form) u g.to g.opened g.meaning g.states)
         t.old t.new result }
 {
     let mut changed = false;
-    let mut q: usize = 0;
-    while q < STATES {
-        let s = Entry {
-            node: g.to,
-            opened: g.opened,
-            meaning: g.meaning,
-            state: q,
-            aim: 0,
-        };
-        if settle_if(t, rows, w, f, s, offers::has(g.states, q)) {
-            changed = true;
+    for q in 0..STATES {
+        if offers::has(g.states as u64, q) {
+            let s = Entry {
+                node: g.to,
+                opened: g.opened,
+                meaning: g.meaning,
+                state: q,
+                aim: 0,
+            };
+            changed |= settle_start(t, r, s);
         }
-        q += 1;
     }
     changed
 }
 
+// The starts of node k with meaning m that are come to, the policy being open or not. Did that change the table?
+fn settle_meaning(t: &mut Lengths, r: Rules, u: &Table, k: usize, o: bool, m: usize) -> bool
+    requires k_lt_most_nodes { k < most_nodes }
+    requires m_lt_meanings { m < meanings }
+    ensures { Pass r.entry.watch r.entry.rows.now k (said_by r.entry.form)
+        (λ x. StatesSettled r.entry.watch r.entry.rows.now (said_by r.entry.form) x k o m (get_or u.now (place k o m) 0))
+        t.old t.new result }
+{
+    let g = Arrival {
+        to: k,
+        opened: o,
+        meaning: m,
+        states: checker_tables::arrivals::come_to(u, k, o, m),
+    };
+    settle_states(t, r, g)
+}
+
 // Every start of node k that is come to, with a meaning from l on. Did that change the table?
-fn settle_node(
-    t: &mut Lengths,
-    rows: &Table,
-    u: &Table,
-    w: WatchOne,
-    f: NodeForm,
-    l: usize,
-    k: usize,
-) -> bool
-    requires t_len { length t.old ≡ size }
+fn settle_node(t: &mut Lengths, r: Rules, u: &Table, l: usize, k: usize) -> bool
     requires l_lt_meanings { l < meanings }
     requires k_lt_most_nodes { k < most_nodes }
-    ensures { Pass w rows.now k (said_by f)
-        (λ x. NodeSettled w rows.now (said_by f) u.now x l k) t.old t.new result }
+    ensures { Pass r.entry.watch r.entry.rows.now k (said_by r.entry.form)
+        (λ x. NodeSettled r.entry.watch r.entry.rows.now (said_by r.entry.form) u.now x l k) t.old t.new result }
 {
-    let n = 2 * (MEANINGS - l);
     let mut changed = false;
-    let mut i: usize = 0;
-    while i < n {
-        let m = l + i / 2;
-        let o = i % 2 == 1;
-        let g = Arrival {
-            to: k,
-            opened: o,
-            meaning: m,
-            states: checker_tables::arrivals::come_to(u, k, o, m),
-        };
-        if settle_states(t, rows, w, f, g) {
-            changed = true;
-        }
-        i += 1;
+    for m in l..MEANINGS {
+        changed |= settle_meaning(t, r, u, k, false, m);
+        changed |= settle_meaning(t, r, u, k, true, m);
     }
     changed
 }
@@ -226,10 +194,7 @@ fn settle_all(nodes: &[u8], rows: &Table, u: &Table, w: WatchOne, t: &mut Length
     ensures { Full w rows.now nodes.now u.now t.new }
 {
     *t = [NONE; SIZE];
-    let l = checker_tables::numbers::least(Resources {
-        first: w.resource,
-        second: NOTHING,
-    });
+    let l = checker_tables::numbers::least(w.resources());
     let n = nodes.len() / NODE_FIELDS;
     let mut readers = [0u64; MOST_NODES];
     checker_tables::work::readers(nodes, &mut readers);
@@ -238,9 +203,15 @@ fn settle_all(nodes: &[u8], rows: &Table, u: &Table, w: WatchOne, t: &mut Length
     while left != 0 {
         k = next(left, k);
         left -= 1u64 << (k as u32);
-        let f = outline_nodes::form(nodes, k);
-        if settle_node(t, rows, u, w, f, l, k) {
-            left |= readers[k];
+        if let Some(form) = outline_nodes::form(nodes, k) {
+            let r = Rules {
+                rows,
+                watch: w,
+                form,
+            };
+            if settle_node(t, r, u, l, k) {
+                left |= readers[k];
+            }
         }
     }
 }

@@ -3,11 +3,14 @@
 // stand. fill: the table, in rounds.
 #![tactic(auto)]
 
+ghost use Rattle.std.specs.Prelude.{◌≡◌};
+ghost use Rattle.checker_account.specs.Tables.{one_resource};
+
 pub mod entries;
 pub mod fill;
 pub mod offers;
 
-use checker_account::{MEANINGS, PLACES};
+use checker_account::{MEANINGS, NOTHING, PLACES, Resources, Watch};
 use usage::STATES;
 
 // The aims of a node: to end in a state, the watched resource being created or not, or to break the policy.
@@ -28,19 +31,45 @@ pub const SIZE: usize = 2 * PLACES * AIMS;
 
 pub type Lengths = [u8; SIZE];
 
-// The greatest length that counts, the number that all are less than, and what stands where there is none.
+// The greatest length that counts, the number that all are less than, and what stands where there is none. Kept: a byte in the place of an
+// Option, since the table has a byte for each entry, and its definition (`held` in specs/Entries) reckons with this one.
 pub const MOST: u8 = 200;
 
 pub const ALL: u8 = MOST + 1;
 
 pub const NONE: u8 = 255;
 
-// What a table is for: whether only the past since the opening counts, the policy, and the one watched resource.
+// What a table is for: whether only the past since the opening counts, the policy, and the one watched resource. Kept beside `Watch`,
+// which has two: a trace is read for one resource, so that each definition here would have to leave the second out.
 #[derive(Clone, Copy)]
 pub struct WatchOne {
     pub local: bool,
     pub policy: usize,
     pub resource: usize,
+}
+
+impl WatchOne {
+    // The watched resources: there is no second.
+    pub fn resources(self) -> Resources
+        ensures { result ≡ one_resource self.resource }
+    {
+        Resources {
+            first: self.resource,
+            second: NOTHING,
+        }
+    }
+
+    // The same for those who watch one resource or two.
+    pub fn watch(self) -> Watch
+        ensures { result
+            ≡ record { local = self.local; policy = self.policy; resources = one_resource self.resource } }
+    {
+        Watch {
+            local: self.local,
+            policy: self.policy,
+            resources: self.resources(),
+        }
+    }
 }
 
 // Which entry: the node, whether the policy is open, the meaning (what is known of the watched resource), the state, and the aim.

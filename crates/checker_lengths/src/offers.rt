@@ -1,15 +1,15 @@
 // What the rules give for an entry by the entries that stand. Each rule of a node has a number, c: a sequence has one for each end of
-// its first node, a fresh node one for each state after its creation, and so on.
+// its first node, a fresh node one for each state after its creation, and so on. Kept: they are numbers because `offer_of` (specs/Offers)
+// has them so; an enum would have as many cases.
 ghost use Rattle.std.specs.Prelude.{◌≡◌, Bool, false, ◌||◌, ℕ, ◌<◌};
 ghost use Rattle.outline_nodes.specs.Said.{said_by};
 ghost use Rattle.usage.specs.Past.{reopened};
 ghost use Rattle.automaton.specs.Mask.{has};
 ghost use Rattle.checker_lengths.specs.declared.WatchOne.{WatchOne};
-ghost use Rattle.usage.specs.Limits.{states};
 ghost use Rattle.checker_lengths.specs.Entries.{no_length, all_lengths, held};
 ghost use Rattle.checker_lengths.specs.Offers.{at_node, toward, low_end_lem, moved, born, ending_of, breaking, event_of, still_of};
 ghost use Rattle.checker_lengths.specs.Offers.{first_entry, second_entry, body_entry, inner_entry, sequence_of, fresh_of, sandbox_of};
-ghost use Rattle.checker_lengths.specs.Offers.{offer_from, ways_of};
+ghost use Rattle.checker_lengths.specs.Offers.{one_if, offer_from, ways_of};
 
 use crate::{
     AIMS, ALL, BROKEN, Entry, FRESH_RULES, Lengths, MOST, NONE, OWN_BREAK, WatchOne, entries,
@@ -19,29 +19,17 @@ use outline_nodes::NodeForm;
 use usage::{MOST_NODES, STATES};
 
 // The same start and aim at node k.
-fn at(e: Entry, k: u8) -> Entry
+pub fn at(e: Entry, k: usize) -> Entry
     ensures { result ≡ at_node e k }
 {
-    Entry {
-        node: k as usize,
-        opened: e.opened,
-        meaning: e.meaning,
-        state: e.state,
-        aim: e.aim,
-    }
+    Entry { node: k, ..e }
 }
 
 // The same start with aim i.
 pub(crate) fn toward(e: Entry, i: usize) -> Entry
     ensures { result ≡ toward e i }
 {
-    Entry {
-        node: e.node,
-        opened: e.opened,
-        meaning: e.meaning,
-        state: e.state,
-        aim: i,
-    }
+    Entry { aim: i, ..e }
 }
 
 // Where the ends begin that a start with this meaning can come to.
@@ -51,46 +39,48 @@ pub fn low_end(m: usize) -> usize
     if m == 0 { 0 } else { STATES }
 }
 
-// Is state j in the set v?
-pub(crate) fn has(v: u16, j: usize) -> bool
-    requires { j < states }
+// Is j in the set v of numbers below 64?
+pub fn has(v: u64, j: usize) -> bool
     ensures { result ≡ has v j }
 {
+    if 64 <= j {
+        return false;
+    }
     (v >> (j as u32)) & 1 == 1
 }
 
 // The states after the event of the entry's node, which is on the watched resource or not.
+#[tactic(auto, unfolding(crate::specs::Offers::moved))]
 fn moved(rows: &Table, e: Entry, own: bool) -> u16
     ensures { result ≡ moved rows.now e own }
 {
-    let k = e.node;
-    let q = e.state;
-    if MOST_NODES <= k {
+    if MOST_NODES <= e.node || STATES <= e.state {
         return 0;
     }
-    if STATES <= q {
-        return 0;
-    }
-    if own {
-        rows[LAYER + STATES * k + q]
-    } else {
-        rows[STATES * k + q]
-    }
+    let layer = if own { LAYER } else { 0 };
+    rows[layer + STATES * e.node + e.state]
 }
 
 // The states after a creation: none for that of the watched resource where it can no longer be created.
+#[tactic(auto, unfolding(crate::specs::Offers::born))]
 fn born(rows: &Table, e: Entry, own: bool) -> u16
     ensures { result ≡ born rows.now e own }
 {
-    if own {
-        if 0 < e.meaning {
-            return 0;
-        }
+    if own && 0 < e.meaning {
+        return 0;
     }
     moved(rows, e, own)
 }
 
+// One step, where b holds.
+fn one_if(b: bool) -> u8
+    ensures { result ≡ one_if b }
+{
+    if b { 1 } else { NONE }
+}
+
 // One step, after which the node has ended in a state of v.
+#[tactic(auto, unfolding(crate::specs::Offers::ending_of))]
 fn ending(v: u16, e: Entry) -> u8
     ensures { result ≡ ending_of v e }
 {
@@ -99,26 +89,19 @@ fn ending(v: u16, e: Entry) -> u8
         return NONE;
     }
     let j = e.aim - low;
-    if STATES <= j {
-        return NONE;
-    }
-    if has(v, j) { 1 } else { NONE }
+    one_if(j < STATES && has(v as u64, j))
 }
 
 // One step that leaves the policy open in an offending state of v.
+#[tactic(auto, unfolding(crate::specs::Offers::breaking))]
 fn breaking(v: u16, e: Entry) -> u8
     ensures { result ≡ breaking v e }
 {
-    if e.aim != BROKEN {
-        return NONE;
-    }
-    if !e.opened {
-        return NONE;
-    }
-    if 64 <= v % 256 { 1 } else { NONE }
+    one_if(e.aim == BROKEN && e.opened && 64 <= v % 256)
 }
 
 // An event, by which the states v are moved to.
+#[tactic(auto, unfolding(crate::specs::Offers::event_of))]
 fn event(v: u16, e: Entry, c: usize) -> u8
     ensures { result ≡ event_of v e c }
 {
@@ -126,14 +109,16 @@ fn event(v: u16, e: Entry, c: usize) -> u8
 }
 
 // The end, which takes no step.
+#[tactic(auto, unfolding(crate::specs::Offers::still_of))]
 fn still(e: Entry) -> u8
     ensures { result ≡ still_of e }
 {
     let low = low_end(e.meaning);
-    if e.aim < low {
-        return NONE;
+    if low <= e.aim && e.aim - low == e.state {
+        0
+    } else {
+        NONE
     }
-    if e.aim - low == e.state { 0 } else { NONE }
 }
 
 // ── The entries that a rule leads to ──
@@ -144,27 +129,28 @@ pub fn first(e: Entry, a: u8, c: usize) -> Entry
 {
     Entry {
         node: a as usize,
-        opened: e.opened,
-        meaning: e.meaning,
-        state: e.state,
         aim: c,
+        ..e
     }
 }
 
 // The second, after an end in way c.
+#[tactic(auto, unfolding(crate::specs::Offers::heir))]
 pub fn second(e: Entry, b: u8, c: usize) -> Entry
     ensures { result ≡ second_entry e b c }
 {
-    let mut m: usize = 0;
-    if STATES <= c {
-        m = if e.meaning == 0 { UNNAMED } else { e.meaning };
-    }
+    let meaning = if c < STATES {
+        0
+    } else if e.meaning == 0 {
+        UNNAMED
+    } else {
+        e.meaning
+    };
     Entry {
         node: b as usize,
-        opened: e.opened,
-        meaning: m,
+        meaning,
         state: c % STATES,
-        aim: e.aim,
+        ..e
     }
 }
 
@@ -173,16 +159,16 @@ pub fn body(e: Entry, n: u8, b: u8, c: usize) -> Entry
     ensures { result ≡ body_entry e n b c }
 {
     let own = n as usize + 1;
-    let mut m = own;
-    if c < STATES {
-        m = checker_tables::lose(e.meaning, own);
-    }
+    let meaning = if STATES <= c {
+        own
+    } else {
+        checker_tables::lose(e.meaning, own)
+    };
     Entry {
         node: b as usize,
-        opened: e.opened,
-        meaning: m,
+        meaning,
         state: c % STATES,
-        aim: e.aim,
+        ..e
     }
 }
 
@@ -190,37 +176,29 @@ pub fn body(e: Entry, n: u8, b: u8, c: usize) -> Entry
 fn reopened(w: WatchOne, s: u8, o: bool, q: usize) -> usize
     ensures { result ≡ reopened w.local w.policy s o q }
 {
-    if !w.local {
-        return q;
+    if w.local && s as usize == w.policy && !o {
+        0
+    } else {
+        q
     }
-    if s as usize != w.policy {
-        return q;
-    }
-    if o { q } else { 0 }
 }
 
 // The body of a sandbox of policy s.
 pub fn inner(w: WatchOne, e: Entry, s: u8, b: u8) -> Entry
     ensures { result ≡ inner_entry w e s b }
 {
-    let q = reopened(w, s, e.opened, e.state);
-    let o = if e.opened {
-        true
-    } else {
-        s as usize == w.policy
-    };
     Entry {
         node: b as usize,
-        opened: o,
-        meaning: e.meaning,
-        state: q,
-        aim: e.aim,
+        opened: e.opened || s as usize == w.policy,
+        state: reopened(w, s, e.opened, e.state),
+        ..e
     }
 }
 
 // ── Rules ──
 
 // A sequence: its first node ends in way c, and its second comes to the aim; or the first breaks the policy.
+#[tactic(auto, unfolding(crate::specs::Offers::sequence_of))]
 fn sequence(t: &Lengths, most: u8, e: Entry, a: u8, b: u8, c: usize) -> u8
     ensures { result ≡ sequence_of (held t.now most) e a b c }
 {
@@ -228,7 +206,7 @@ fn sequence(t: &Lengths, most: u8, e: Entry, a: u8, b: u8, c: usize) -> u8
         if e.aim != BROKEN {
             return NONE;
         }
-        return entries::get(t, most, at(e, a));
+        return entries::get(t, most, at(e, a as usize));
     }
     let v = entries::get(t, most, first(e, a, c));
     if MOST < v {
@@ -238,19 +216,21 @@ fn sequence(t: &Lengths, most: u8, e: Entry, a: u8, b: u8, c: usize) -> u8
 }
 
 // A fresh node for name n: its creation leads to a state, and its body from there to the aim; or the creation breaks the policy.
+#[tactic(auto, unfolding(crate::specs::Offers::fresh_of))]
 fn fresh(t: &Lengths, rows: &Table, most: u8, e: Entry, n: u8, b: u8, c: usize) -> u8
     ensures { result ≡ fresh_of rows.now (held t.now most) e n b c }
 {
     if BROKEN <= c {
         return breaking(born(rows, e, OWN_BREAK <= c), e);
     }
-    if !has(born(rows, e, STATES <= c), c % STATES) {
+    if !has(born(rows, e, STATES <= c) as u64, c % STATES) {
         return NONE;
     }
     entries::plus(1, entries::get(t, most, body(e, n, b, c)))
 }
 
 // A sandbox of policy s: its body comes to the aim, and where it ends there is the closing; or its opening breaks the policy.
+#[tactic(auto, unfolding(crate::specs::Offers::sandbox_of))]
 fn sandbox(t: &Lengths, w: WatchOne, most: u8, e: Entry, s: u8, b: u8, c: usize) -> u8
     ensures { result ≡ sandbox_of w (held t.now most) e s b c }
 {
@@ -258,20 +238,12 @@ fn sandbox(t: &Lengths, w: WatchOne, most: u8, e: Entry, s: u8, b: u8, c: usize)
         let around = if e.aim == BROKEN { 1 } else { 2 };
         return entries::plus(around, entries::get(t, most, inner(w, e, s, b)));
     }
-    if e.aim != BROKEN {
-        return NONE;
-    }
-    if s as usize != w.policy {
-        return NONE;
-    }
-    if 6 <= reopened(w, s, e.opened, e.state) {
-        1
-    } else {
-        NONE
-    }
+    let state = reopened(w, s, e.opened, e.state);
+    one_if(e.aim == BROKEN && s as usize == w.policy && 6 <= state)
 }
 
 // What rule c of the entry's node gives, f being that node, by the lengths below `most`.
+#[tactic(auto, unfolding(crate::specs::Offers::offer_of))]
 pub fn offer(
     t: &Lengths,
     rows: &Table,
@@ -285,11 +257,12 @@ pub fn offer(
 {
     match f {
         NodeForm::End => still(e),
-        NodeForm::OnStatic {
-            action: _,
-            resource,
-        } => event(moved(rows, e, resource as usize == w.resource), e, c),
-        NodeForm::OnName { action: _, name } => event(
+        NodeForm::OnStatic { resource, .. } => event(
+            moved(rows, e, resource as usize == w.resource),
+            e,
+            c,
+        ),
+        NodeForm::OnName { name, .. } => event(
             moved(rows, e, e.meaning == name as usize + 1),
             e,
             c,
@@ -298,18 +271,18 @@ pub fn offer(
         NodeForm::Choice { one, other } => entries::get(
             t,
             most,
-            at(e, if c == 0 { one } else { other }),
+            at(e, if c == 0 { one as usize } else { other as usize }),
         ),
-        NodeForm::Loop { body } => entries::get(t, most, at(e, body)),
-        NodeForm::Back { to } => entries::get(t, most, at(e, to)),
+        NodeForm::Loop { body } => entries::get(t, most, at(e, body as usize)),
+        NodeForm::Back { to } => entries::get(t, most, at(e, to as usize)),
         NodeForm::Fresh { name, body } => fresh(t, rows, most, e, name, body, c),
         NodeForm::Sandbox { policy, body } => sandbox(t, w, most, e, policy, body, c),
-        NodeForm::Nothing => NONE,
     }
 }
 
 // Can rule c of node f give anything from this start, whatever the aim? It cannot where the first node of a sequence has no such end,
 // or where a creation leads to no such state.
+#[tactic(auto, unfolding(crate::specs::Offers::offer_of, crate::specs::Offers::sequence_of, crate::specs::Offers::fresh_of))]
 pub(crate) fn gives(t: &Lengths, rows: &Table, f: NodeForm, s: Entry, c: usize) -> bool
     ensures { result ≡ false → (w : WatchOne) (i : ℕ)
         → offer_from w rows.now (held t.now all_lengths) (toward s i) c (said_by f) ≡ no_length }
@@ -318,11 +291,8 @@ pub(crate) fn gives(t: &Lengths, rows: &Table, f: NodeForm, s: Entry, c: usize) 
         return true;
     }
     match f {
-        NodeForm::Sequence {
-            first: a,
-            second: _,
-        } => entries::get(t, ALL, first(s, a, c)) <= MOST,
-        NodeForm::Fresh { name: _, body: _ } => has(born(rows, s, STATES <= c), c % STATES),
+        NodeForm::Sequence { first: a, .. } => entries::get(t, ALL, first(s, a, c)) <= MOST,
+        NodeForm::Fresh { .. } => has(born(rows, s, STATES <= c) as u64, c % STATES),
         _ => true,
     }
 }
@@ -332,21 +302,10 @@ pub fn ways(f: NodeForm) -> usize
     ensures { result ≡ ways_of (said_by f) }
 {
     match f {
-        NodeForm::End => 1,
-        NodeForm::OnStatic {
-            action: _,
-            resource: _,
-        } => 2,
-        NodeForm::OnName { action: _, name: _ } => 2,
-        NodeForm::Sequence {
-            first: _,
-            second: _,
-        } => AIMS,
-        NodeForm::Choice { one: _, other: _ } => 2,
-        NodeForm::Loop { body: _ } => 1,
-        NodeForm::Back { to: _ } => 1,
-        NodeForm::Fresh { name: _, body: _ } => FRESH_RULES,
-        NodeForm::Sandbox { policy: _, body: _ } => 2,
-        NodeForm::Nothing => 0,
+        NodeForm::End | NodeForm::Loop { .. } | NodeForm::Back { .. } => 1,
+        NodeForm::OnStatic { .. } | NodeForm::OnName { .. } => 2,
+        NodeForm::Choice { .. } | NodeForm::Sandbox { .. } => 2,
+        NodeForm::Sequence { .. } => AIMS,
+        NodeForm::Fresh { .. } => FRESH_RULES,
     }
 }

@@ -5,7 +5,7 @@ use mathlib.Core.Bool.{Bool}
 use mathlib.Core.List.{List}
 use Rattle.outline_nodes.specs.declared.NodeForm.{NodeForm}
 use Rattle.outline_nodes.specs.declared.NodeForm.TheVariants.{End, OnStatic, OnName, Sequence, Choice}
-use Rattle.outline_nodes.specs.declared.NodeForm.TheVariants.{Loop, Back, Fresh, Sandbox, Nothing}
+use Rattle.outline_nodes.specs.declared.NodeForm.TheVariants.{Loop, Back, Fresh, Sandbox}
 use Rattle.outline_nodes.specs.Said.{said_by}
 use Rattle.checker_account.specs.RowTable.{EventTables, node_rows}
 
@@ -22,4 +22,3 @@ no_rows tables pair p k r (Loop a) h g e = refl
 no_rows tables pair p k r (Back a) h g e = refl
 no_rows tables pair p k r (Fresh n b) h g e = absurd (e n b refl)
 no_rows tables pair p k r (Sandbox s b) h g e = refl
-no_rows tables pair p k r Nothing h g e = refl

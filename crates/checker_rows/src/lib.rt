@@ -8,7 +8,7 @@ ghost use Rattle.outline_nodes.specs.Said.{said_by};
 ghost use Rattle.usage.specs.Tables.{edges_of};
 ghost use Rattle.automaton.specs.Move.{rows_at};
 ghost use Rattle.checker_account.specs.Tables.{places};
-ghost use Rattle.checker_account.specs.RowTable.{Bytes, rows_stored, event_rows_lem, node_rows};
+ghost use Rattle.checker_account.specs.RowTable.{rows_stored, event_rows_lem, node_rows};
 ghost use Rattle.checker_rows.specs.Rows.{row_table};
 
 use checker_account::{LAYER, OTHERS, PLACES, Table};
@@ -30,56 +30,39 @@ struct Slot {
     node: usize,
     policy: usize,
     pair: bool,
+    ghost node_in: { node < most_nodes },
+    ghost policy_in: { policy < policies },
 }
 
-// The rows of policy p out of two tables of an event, stored for node k, from this way on.
-fn store(
-    rows: &mut Table,
-    k: usize,
-    way: usize,
-    p: usize,
-    own: &[u8; EVENT_TABLE],
-    other: &[u8; EVENT_TABLE],
-)
-    requires rows_len { length rows.old ≡ places }
-    requires k_lt_most_nodes { k < most_nodes }
-    requires way_bound { way < 3 }
-    requires p_lt_policies { p < policies }
-    requires bytes { Bytes own.now }
-    requires bytes_2 { Bytes other.now }
-    ensures { rows.new ≡ rows_stored k way p own.now other.now rows.old }
+// The rows of the slot's policy out of two tables of an event, stored for its node, from this way on.
+fn store(rows: &mut Table, s: Slot, way: usize, own: &[u8; EVENT_TABLE], other: &[u8; EVENT_TABLE])
+    requires { way < 3 }
+    ensures { rows.new ≡ rows_stored s.node way s.policy own.now other.now rows.old }
 {
-    let mut q: usize = 0;
-    while q < STATES {
-        rows[LAYER * way + STATES * k + q] = other[p * STATES + q] as u16;
-        rows[LAYER * (way + 1) + STATES * k + q] = own[p * STATES + q] as u16;
-        q += 1;
+    let Slot { node, policy, .. } = s;
+    for q in 0..STATES {
+        rows[LAYER * way + STATES * node + q] = other[policy * STATES + q] as u16;
+        rows[LAYER * (way + 1) + STATES * node + q] = own[policy * STATES + q] as u16;
     }
 }
 
 // Those of the node's event: where it is not on the second watched resource, and, for a pair policy, where it is.
 fn event_rows(rows: &mut Table, edges: &[u8], s: Slot, action: u32, resource: u32)
-    requires rows_len { length rows.old ≡ places }
-    requires node_lt_most_nodes { s.node < most_nodes }
-    requires policy_lt_policies { s.policy < policies }
     ensures { rows.new
         ≡ event_rows_lem (rows_at (edges_of edges.now)) s.pair s.policy s.node action resource rows.old }
 {
     let mut own = [0u8; EVENT_TABLE];
     let mut other = [0u8; EVENT_TABLE];
     automaton::moves::rows(edges, action, resource, &mut own, &mut other);
-    store(rows, s.node, 0, s.policy, &own, &other);
+    store(rows, s, 0, &own, &other);
     if s.pair {
         automaton::moves::rows_second(edges, action, resource, &mut own, &mut other);
-        store(rows, s.node, SECOND, s.policy, &own, &other);
+        store(rows, s, SECOND, &own, &other);
     }
 }
 
 // Those of the node, if it has an event. A name and a creation are on a resource that no edge names.
 fn of_node(rows: &mut Table, edges: &[u8], s: Slot, f: NodeForm)
-    requires rows_len { length rows.old ≡ places }
-    requires node_lt_most_nodes { s.node < most_nodes }
-    requires policy_lt_policies { s.policy < policies }
     ensures { rows.new
         ≡ node_rows (rows_at (edges_of edges.now)) s.pair s.policy s.node (said_by f) rows.old }
 {
@@ -91,8 +74,8 @@ fn of_node(rows: &mut Table, edges: &[u8], s: Slot, f: NodeForm)
             action as u32,
             resource as u32,
         ),
-        NodeForm::OnName { action, name: _ } => event_rows(rows, edges, s, action as u32, OTHERS),
-        NodeForm::Fresh { name: _, body: _ } => event_rows(rows, edges, s, CREATE, OTHERS),
+        NodeForm::OnName { action, .. } => event_rows(rows, edges, s, action as u32, OTHERS),
+        NodeForm::Fresh { .. } => event_rows(rows, edges, s, CREATE, OTHERS),
         _ => {}
     }
 }
@@ -109,15 +92,14 @@ pub fn fill(edges: &[u8], nodes: &[u8], p: usize, pair: bool, rows: &mut Table)
     if MOST_NODES < n {
         return;
     }
-    let mut k: usize = 0;
-    while k < n {
-        let f = outline_nodes::form(nodes, k);
-        let s = Slot {
-            node: k,
-            policy: p,
-            pair,
-        };
-        of_node(rows, edges, s, f);
-        k += 1;
+    for k in 0..n {
+        if let Some(f) = outline_nodes::form(nodes, k) {
+            let s = Slot {
+                node: k,
+                policy: p,
+                pair,
+            };
+            of_node(rows, edges, s, f);
+        }
     }
 }

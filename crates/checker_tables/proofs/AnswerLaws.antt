@@ -1,45 +1,14 @@
--- The answer of the search, from the tables that were filled.
-use Prim.Native.Nat.{ℕ, ◌/◌}
-use mathlib.Core.Path.{◌≡◌, refl, sym, ap, ◌∙◌, subst}
+-- The answer of the search, and the lengths of the tables that were filled.
+use Prim.Native.Nat.{ℕ}
+use mathlib.Core.Path.{◌≡◌, ap, ◌∙◌}
 use mathlib.Core.Bool.{Bool, true, false}
 use mathlib.Core.List.{List}
 use lib.ListN.{length, replicate, length-replicate}
-use Rattle.usage.specs.Limits.{node_fields}
 use Rattle.checker_account.specs.declared.Resources.{Resources}
-use Rattle.checker_account.specs.Tables.{places_of, rows_in, place, first_code_lem, never}
-use Rattle.checker_account.specs.Filling.{forms_in, Filled, ShutFilled, by_open, begins}
+use Rattle.checker_account.specs.Tables.{places_of, place, first_code_lem}
+use Rattle.checker_account.specs.Filling.{Filled, begins}
 use Rattle.checker_account.proofs.GrowsLaws.{joined-grows, derived-grows}
-use Rattle.checker_tables.specs.Search.{has_room, resets_if, EndsBy, ArrivesBy, ArrivesIf, SearchedIf}
-
-module _ (nodes rows : List ℕ) (p : ℕ) (x : Resources) (room : has_room nodes ≡ true) (opened : List ℕ)
-    (filled : Filled (EndsBy nodes rows x never) (replicate (places_of x) 0) opened) where
-  answered : (local : Bool) (shut u : List ℕ) (answer : Bool)
-      → ShutFilled local (rows_in rows) p x (length nodes / node_fields) (forms_in nodes) opened shut
-      → ArrivesBy nodes local rows (by_open opened shut) p x u answer → ArrivesIf (has_room nodes) nodes local rows p x u answer
-  answered local shut u answer s f = subst (λ (b : Bool). ArrivesIf b nodes local rows p x u answer) (sym room) (record {
-    arrived = record {
-      ends = by_open opened shut;
-      ends_filled = record { opened_filled = filled; shut_filled = s };
-      comes_filled = f.comes_filled;
-    };
-    told = f.told;
-  })
-
-  -- where the whole past counts, by the one table
-  pub whole-answer : (local answer : Bool) (u : List ℕ) → local ≡ false
-      → ArrivesBy nodes local rows (by_open opened opened) p x u answer
-      → ArrivesIf (has_room nodes) nodes local rows p x u answer
-  whole-answer local answer u d f = answered local opened u answer
-      (subst (λ (b : Bool). ShutFilled b (rows_in rows) p x (length nodes / node_fields) (forms_in nodes) opened opened) (sym d) refl) f
-
-  -- under the local meaning, by both
-  pub local-answer : (local answer : Bool) (u : List ℕ) → local ≡ true → (shut : List ℕ)
-      → Filled (EndsBy nodes rows x (resets_if local p opened)) (replicate (places_of x) 0) shut
-      → ArrivesBy nodes local rows (by_open opened shut) p x u answer → ArrivesIf (has_room nodes) nodes local rows p x u answer
-  local-answer local answer u d shut s f =
-      let t = subst (λ (b : Bool). Filled (EndsBy nodes rows x (resets_if b p opened)) (replicate (places_of x) 0) shut) d s in
-      answered local shut u answer
-      (subst (λ (b : Bool). ShutFilled b (rows_in rows) p x (length nodes / node_fields) (forms_in nodes) opened shut) (sym d) t) f
+use Rattle.checker_tables.specs.Search.{ArrivesIf, SearchedIf}
 
 -- the answer alone
 pub arrives-searched : (room : Bool) (nodes : List ℕ) (local : Bool) (rows : List ℕ) (p : ℕ) (x : Resources) (u : List ℕ) (answer : Bool)

@@ -17,6 +17,8 @@ use Rattle.usage.proofs.Logic.{and_left, and_right, and_both, false-true, not-tr
 use Rattle.usage.proofs.FormLaws.{FormOk, formed}
 use Rattle.usage.proofs.TableLaws.{nodes-length, nodes-member}
 use Rattle.automaton.proofs.MaskLaws.{some_at, some-found}
+use Rattle.outline_nodes.specs.declared.NodeForm.{NodeForm}
+use Rattle.outline_nodes.specs.Said.{said_by}
 use Rattle.checker_account.specs.Single.{no_name}
 use Rattle.checker_account.specs.Filling.{forms_in}
 use Rattle.checker_tables.specs.Search.{Small, small, NodesFit, has_room}
@@ -56,6 +58,11 @@ small-test (some (loop a)) h = lt-ltb a most_nodes h
 small-test (some (back a)) h = lt-ltb a most_nodes h
 small-test (some (fresh n b)) h = lt_both n no_name b most_nodes h
 small-test (some (sandbox s b)) h = lt-ltb b most_nodes h
+
+-- a node of nodes that fit
+pub form-small : {t : List ℕ} → NodesFit t → (k : ℕ) → k < length t / node_fields → (f : NodeForm) → said_by f ≡ forms_in t k
+    → small (said_by f) ≡ true
+form-small {t} fit k l f e = ap small e ∙ small-test (forms_in t k) (fit.each_small k l)
 
 -- ── All of them ──
 

@@ -22,3 +22,5 @@ pub mod ResetLaws
 pub mod AnswerLaws
 -- A policy's marks, from filled tables.
 pub mod MarkedLaws
+-- A node without a form.
+pub mod NoneLaws

@@ -64,6 +64,14 @@ pub places-both : (x : Resources) → x.second ≡ watched_too → places_of x �
 unfolding entries_of_lem
 places-both x e = ap (λ (b : Bool). cond b (numbered 0 (suc late_group)) meanings * layer) (eq-eqb x.second watched_too e)
 
+pub places-most : (x : Resources) → places_of x ≤ pair_places
+unfolding entries_of_lem
+places-most x = go (eqb x.second watched_too)
+  where
+    go : (b : Bool) → cond b (numbered 0 (suc late_group)) meanings * layer ≤ pair_places
+    go true = omega arith
+    go false = omega arith
+
 -- ── Places of the table of what is come to ──
 
 pub place-room : (k : ℕ) (o : Bool) (c n : ℕ) → k < most_nodes → group_end (group_in c) ≤ n → place k o c < n

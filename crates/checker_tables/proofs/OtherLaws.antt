@@ -5,7 +5,7 @@ use mathlib.Core.Bool.{Bool, true, false}
 use mathlib.Core.List.{List, []}
 use Rattle.outline_nodes.specs.declared.NodeForm.{NodeForm}
 use Rattle.outline_nodes.specs.declared.NodeForm.TheVariants.{End, OnStatic, OnName, Sequence, Choice}
-use Rattle.outline_nodes.specs.declared.NodeForm.TheVariants.{Loop, Back, Fresh, Sandbox, Nothing}
+use Rattle.outline_nodes.specs.declared.NodeForm.TheVariants.{Loop, Back, Fresh, Sandbox}
 use Rattle.outline_nodes.specs.Said.{said_by}
 use Rattle.checker_account.specs.declared.Resources.{Resources}
 use Rattle.checker_account.specs.Tables.{Rows, arrivals, leaves}
@@ -25,7 +25,6 @@ not_on x (Loop a) h1 = refl
 not_on x (Back a) h1 = refl
 not_on x (Fresh n b) h1 = refl
 not_on x (Sandbox s b) h1 = refl
-not_on x Nothing h1 = refl
 
 -- they have no number
 pub no_number : (f : NodeForm) → ((a s : ℕ) → f ≡ OnStatic a s → ⊥) → ((a n : ℕ) → f ≡ OnName a n → ⊥) → ((a b : ℕ) → f ≡ Sequence a b → ⊥) → ((a b : ℕ) → f ≡ Choice a b → ⊥) → ((a : ℕ) → f ≡ Loop a → ⊥) → ((a : ℕ) → f ≡ Back a → ⊥) → ((n b : ℕ) → f ≡ Fresh n b → ⊥) → ((s b : ℕ) → f ≡ Sandbox s b → ⊥) → true ≡ small (said_by f)
@@ -39,7 +38,6 @@ no_number (Loop a) h1 h2 h3 h4 h5 h6 h7 h8 = absurd (h5 a refl)
 no_number (Back a) h1 h2 h3 h4 h5 h6 h7 h8 = absurd (h6 a refl)
 no_number (Fresh n b) h1 h2 h3 h4 h5 h6 h7 h8 = absurd (h7 n b refl)
 no_number (Sandbox s b) h1 h2 h3 h4 h5 h6 h7 h8 = absurd (h8 s b refl)
-no_number Nothing h1 h2 h3 h4 h5 h6 h7 h8 = refl
 
 -- they take no step
 pub no_step : (local : Bool) (rows : Rows) (p : ℕ) (x : Resources) (u : List ℕ) (k m : ℕ) (f : NodeForm)
@@ -54,7 +52,6 @@ no_step local rows p x u k m (Loop a) h1 h2 h7 h8 = refl
 no_step local rows p x u k m (Back a) h1 h2 h7 h8 = refl
 no_step local rows p x u k m (Fresh n b) h1 h2 h7 h8 = absurd (h7 n b refl)
 no_step local rows p x u k m (Sandbox s b) h1 h2 h7 h8 = absurd (h8 s b refl)
-no_step local rows p x u k m Nothing h1 h2 h7 h8 = refl
 
 -- so that they have no mark
 pub no-mark : (f : NodeForm) → ((a s : ℕ) → f ≡ OnStatic a s → ⊥) → ((a n : ℕ) → f ≡ OnName a n → ⊥) → ((n b : ℕ) → f ≡ Fresh n b → ⊥) → ((s b : ℕ) → f ≡ Sandbox s b → ⊥) → 0 ≡ mark_bit_lem (last_in (said_by f))
@@ -67,7 +64,6 @@ no-mark (Loop a) h1 h2 h7 h8 = refl
 no-mark (Back a) h1 h2 h7 h8 = refl
 no-mark (Fresh n b) h1 h2 h7 h8 = absurd (h7 n b refl)
 no-mark (Sandbox s b) h1 h2 h7 h8 = absurd (h8 s b refl)
-no-mark Nothing h1 h2 h7 h8 = refl
 
 -- they lead to nothing
 pub no-arrivals : (local : Bool) (rows : Rows) (p : ℕ) (x : Resources) (t : List ℕ) (k : ℕ) (o : Bool) (m v : ℕ) (f : NodeForm)
@@ -82,7 +78,6 @@ no-arrivals local rows p x t k o m v (Loop a) h3 h4 h5 h6 h7 h8 = absurd (h5 a r
 no-arrivals local rows p x t k o m v (Back a) h3 h4 h5 h6 h7 h8 = absurd (h6 a refl)
 no-arrivals local rows p x t k o m v (Fresh n b) h3 h4 h5 h6 h7 h8 = absurd (h7 n b refl)
 no-arrivals local rows p x t k o m v (Sandbox s b) h3 h4 h5 h6 h7 h8 = absurd (h8 s b refl)
-no-arrivals local rows p x t k o m v Nothing h3 h4 h5 h6 h7 h8 = refl
 
 -- they read no other node
 pub no-noted : (k : ℕ) (u : List ℕ) (f : NodeForm) → ((a b : ℕ) → f ≡ Sequence a b → ⊥) → ((a b : ℕ) → f ≡ Choice a b → ⊥) → ((a : ℕ) → f ≡ Loop a → ⊥) → ((a : ℕ) → f ≡ Back a → ⊥) → ((n b : ℕ) → f ≡ Fresh n b → ⊥) → ((s b : ℕ) → f ≡ Sandbox s b → ⊥) → u ≡ noted k (said_by f) u
@@ -96,4 +91,3 @@ no-noted k u (Loop a) h3 h4 h5 h6 h7 h8 = absurd (h5 a refl)
 no-noted k u (Back a) h3 h4 h5 h6 h7 h8 = absurd (h6 a refl)
 no-noted k u (Fresh n b) h3 h4 h5 h6 h7 h8 = absurd (h7 n b refl)
 no-noted k u (Sandbox s b) h3 h4 h5 h6 h7 h8 = absurd (h8 s b refl)
-no-noted k u Nothing h3 h4 h5 h6 h7 h8 = refl

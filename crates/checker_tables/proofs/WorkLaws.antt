@@ -11,7 +11,6 @@ use native.Mathlib.Decide.{ℕ_discrete, dec_lt}
 use lib.Dec.{eqb, leb, lit<}
 use lib.Bits.{bit_or, or_lt}
 use lib.Pow.{pow_pos, pow-lt, pow_mono, ones_lt, low, field, mod-mod-pow, shl-shr, shl_exact}
-use lib.Count.{count_leading_zeros, leading_top}
 use lib.ListN.{length, get_or, replicate, length-replicate}
 use lib.Seq.{get_or-set_same}
 use borrow.Author.Tests.{leb-true, leb-false}
@@ -78,15 +77,7 @@ pub all_left : (n k : ℕ) → n ≤ most_nodes → k < n → has (2 ^ n - 1) k 
 all_left n k h l =
     all-below-at n (λ k. has (2 ^ n - 1) k) (all-below-at 65 (λ n. all-below n (λ k. has (2 ^ n - 1) k)) all-test n (omega arith)) k l
 
--- the highest member
-pub top-node : (s : ℕ) → 0 < s → s < 2 ^ 64
-    → (count_leading_zeros 64 s ≤ 63) × (2 ^ (63 - count_leading_zeros 64 s) ≤ s) × (s < 2 ^ suc (63 - count_leading_zeros 64 s))
-top-node s p h =
-    let (j, e, a, b) = leading_top 64 s p h in
-    let f : j ≡ 63 - count_leading_zeros 64 s = omega arith in
-    (omega arith, subst (λ (i : ℕ). 2 ^ i ≤ s) f a, subst (λ (i : ℕ). s < 2 ^ suc i) f b)
-
--- that one taken away, the others are left
+-- the highest member taken away, the others are left
 module _ (s k : ℕ) (low-is : 2 ^ k ≤ s) (high_is : s < 2 ^ suc k) where
   rest-small : s - 2 ^ k < 2 ^ k
   rest-small = omega (arith, pow-suc 2 k)

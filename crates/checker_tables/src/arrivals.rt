@@ -9,9 +9,8 @@ ghost use Rattle.checker_account.specs.Tables.{halves, second_arrivals, fresh_ar
 ghost use Rattle.checker_account.specs.Filling.{grown, by_open, arrivals_of, pass_node_lem, begins, Wide, Filled};
 ghost use Rattle.checker_tables.specs.Search.{group_end, first_arrivals, Small, NodesFit, Enters, come_to_lem, comes_round, ComesBy};
 
-use checker_account::{
-    Arrival, LATE, LAYER, MEANINGS, OTHERS, Resources, Table, WATCHED_TOO, Watch,
-};
+use crate::rows::Site;
+use checker_account::{Arrival, LATE, LAYER, MEANINGS, OTHERS, Table, WATCHED_TOO, Watch};
 use outline_nodes::NodeForm;
 use usage::{MOST_NODES, NODE_FIELDS, STATES};
 
@@ -146,7 +145,7 @@ fn enter_second(u: &mut [u16], t: &[u16], a: usize, b: usize, from: Arrival) -> 
     requires b_lt_most_nodes { b < most_nodes }
     requires meaning_bound { group_in from.meaning ≤ late_group }
     requires meaning_in_bounds { group_end (group_in from.meaning) ≤ length u.old }
-    requires meaning_in_bounds_2 { group_end (group_in from.meaning) ≤ length t.now }
+    requires meaning_in_t { group_end (group_in from.meaning) ≤ length t.now }
     requires late_group_in_bounds { waits from.meaning ≡ true → group_end late_group ≤ length t.now }
     ensures { Enters
         (second_arrivals t.now a b from.opened from.meaning from.states)
@@ -172,7 +171,7 @@ fn pass_sequence(u: &mut [u16], t: &[u16], a: usize, b: usize, from: Arrival) ->
     requires b_lt_most_nodes { b < most_nodes }
     requires meaning_bound { group_in from.meaning ≤ late_group }
     requires meaning_in_bounds { group_end (group_in from.meaning) ≤ length u.old }
-    requires meaning_in_bounds_2 { group_end (group_in from.meaning) ≤ length t.now }
+    requires meaning_in_t { group_end (group_in from.meaning) ≤ length t.now }
     requires late_group_in_bounds { waits from.meaning ≡ true → group_end late_group ≤ length t.now }
     ensures { Enters
         ((a by from.opened by from.meaning with from.states)
@@ -185,27 +184,26 @@ fn pass_sequence(u: &mut [u16], t: &[u16], a: usize, b: usize, from: Arrival) ->
 }
 
 // A fresh node leads to its body, another resource or the first one being created.
-fn enter_fresh(u: &mut [u16], rows: &Table, x: Resources, n: usize, b: usize, from: Arrival) -> bool
+fn enter_fresh(u: &mut [u16], s: Site, n: usize, b: usize, from: Arrival) -> bool
     requires n_lt_no_name { n < no_name }
     requires b_lt_most_nodes { b < most_nodes }
-    requires to_lt_most_nodes { from.to < most_nodes }
     requires meaning_bound { group_in from.meaning ≤ late_group }
     requires meaning_in_bounds { group_end (group_in from.meaning) ≤ length u.old }
     ensures { Enters
-        (first_arrivals (rows_in rows.now) x from.to n b from.opened from.meaning from.states)
+        (first_arrivals (rows_in s.entry.rows.now) s.entry.resources s.entry.node n b from.opened from.meaning from.states)
         u.old u.new result }
 {
     let other = Arrival {
         to: b,
         opened: from.opened,
         meaning: crate::numbers::forgotten(from.meaning, n),
-        states: crate::rows::moved_set(rows, x, from.to, OTHERS as usize, from.states),
+        states: s.moved_set(OTHERS as usize, from.states),
     };
     let own = Arrival {
         to: b,
         opened: from.opened,
         meaning: crate::numbers::first_named(from.meaning, n),
-        states: crate::rows::first_created(rows, x, from.to, from.meaning, from.states),
+        states: s.first_created(from.meaning, from.states),
     };
     let one = enter(u, other);
     let two = enter(u, own);
@@ -213,23 +211,22 @@ fn enter_fresh(u: &mut [u16], rows: &Table, x: Resources, n: usize, b: usize, fr
 }
 
 // Or the second one, where it can still be created.
-fn pass_fresh(u: &mut [u16], rows: &Table, x: Resources, n: usize, b: usize, from: Arrival) -> bool
+fn pass_fresh(u: &mut [u16], s: Site, n: usize, b: usize, from: Arrival) -> bool
     requires n_lt_no_name { n < no_name }
     requires b_lt_most_nodes { b < most_nodes }
-    requires to_lt_most_nodes { from.to < most_nodes }
     requires meaning_bound { group_in from.meaning ≤ late_group }
     requires meaning_in_bounds { group_end (group_in from.meaning) ≤ length u.old }
     ensures { Enters
-        (fresh_arrivals (rows_in rows.now) x from.to n b from.opened from.meaning from.states)
+        (fresh_arrivals (rows_in s.entry.rows.now) s.entry.resources s.entry.node n b from.opened from.meaning from.states)
         u.old u.new result }
 {
-    let new = enter_fresh(u, rows, x, n, b, from);
+    let new = enter_fresh(u, s, n, b, from);
     if crate::numbers::waits(from.meaning) {
         let second = Arrival {
             to: b,
             opened: from.opened,
             meaning: crate::numbers::second_named(from.meaning, n),
-            states: crate::rows::moved_set(rows, x, from.to, WATCHED_TOO, from.states),
+            states: s.moved_set(WATCHED_TOO, from.states),
         };
         let more = enter(u, second);
         return new | more;
@@ -258,28 +255,24 @@ fn pass_sandbox(u: &mut [u16], local: bool, same: bool, b: usize, from: Arrival)
 }
 
 // What a node that is come to leads to; t is the table of ends where the policy is open or not, as it is there. Is anything of it new?
-fn pass_by(u: &mut [u16], t: &[u16], rows: &Table, w: Watch, f: NodeForm, from: Arrival) -> bool
-    requires small { Small (said_by f) }
-    requires to_lt_most_nodes { from.to < most_nodes }
+fn pass_by(u: &mut [u16], t: &[u16], s: Site, w: Watch, from: Arrival) -> bool
     requires meaning_bound { group_in from.meaning ≤ late_group }
     requires meaning_in_bounds { group_end (group_in from.meaning) ≤ length u.old }
-    requires meaning_in_bounds_2 { group_end (group_in from.meaning) ≤ length t.now }
+    requires meaning_in_t { group_end (group_in from.meaning) ≤ length t.now }
     requires late_group_in_bounds { waits from.meaning ≡ true → group_end late_group ≤ length t.now }
     ensures { Enters
-        (arrivals_of w.local (rows_in rows.now) w.policy w.resources t.now from.to from.opened
-        from.meaning from.states (said_by f))
+        (arrivals_of w.local (rows_in s.entry.rows.now) w.policy s.entry.resources t.now
+        s.entry.node from.opened from.meaning from.states (said_by s.entry.form))
         u.old u.new result }
 {
-    match f {
+    match s.form {
         NodeForm::Sequence { first, second } => {
             pass_sequence(u, t, first as usize, second as usize, from)
         }
         NodeForm::Choice { one, other } => enter_two(u, one as usize, other as usize, from),
         NodeForm::Loop { body } => enter(u, onto(from, body as usize)),
         NodeForm::Back { to } => enter(u, onto(from, to as usize)),
-        NodeForm::Fresh { name, body } => {
-            pass_fresh(u, rows, w.resources, name as usize, body as usize, from)
-        }
+        NodeForm::Fresh { name, body } => { pass_fresh(u, s, name as usize, body as usize, from) }
         NodeForm::Sandbox { policy, body } => {
             pass_sandbox(u, w.local, policy as usize == w.policy, body as usize, from)
         }
@@ -287,130 +280,106 @@ fn pass_by(u: &mut [u16], t: &[u16], rows: &Table, w: Watch, f: NodeForm, from: 
     }
 }
 
-// The table of ends where the policy is open or not.
-fn ends_for<'a>(opened: &'a [u16], shut: &'a [u16], o: bool) -> &'a [u16]
-    ensures { result.now ≡ by_open opened.now shut.now o }
-{
-    if o { opened } else { shut }
+// The tables of ends: where the policy is open, and where it is not.
+#[derive(Clone, Copy)]
+pub(crate) struct Ends<'a> {
+    pub(crate) opened: &'a [u16],
+    pub(crate) shut: &'a [u16],
+    ghost alike: { length shut.now ≡ length opened.now },
+}
+
+impl<'a> Ends<'a> {
+    // The one where the policy is open or not.
+    fn where_open(self, o: bool) -> &'a [u16]
+        ensures { result.now ≡ by_open self.entry.opened.now self.entry.shut.now o }
+    {
+        if o { self.opened } else { self.shut }
+    }
 }
 
 // The same by the tables of ends. A node that is not come to leads to nothing: most of the table is empty and passed over by one test. Is
 // anything of it new?
-fn pass<'a>(
-    u: &mut [u16],
-    opened: &'a [u16],
-    shut: &'a [u16],
-    rows: &Table,
-    w: Watch,
-    f: NodeForm,
-    from: Arrival,
-) -> bool
-    requires small { Small (said_by f) }
-    requires to_lt_most_nodes { from.to < most_nodes }
+fn pass(u: &mut [u16], ends: Ends, s: Site, w: Watch, from: Arrival) -> bool
     requires meaning_bound { group_in from.meaning ≤ late_group }
     requires meaning_in_bounds { group_end (group_in from.meaning) ≤ length u.old }
-    requires opened_len { length opened.now ≡ length u.old }
-    requires shut_len { length shut.now ≡ length u.old }
+    requires ends_len { length ends.opened.now ≡ length u.old }
     requires late_group_in_bounds { waits from.meaning ≡ true → group_end late_group ≤ length u.old }
     ensures { Enters
-        (arrivals_of w.local (rows_in rows.now) w.policy w.resources (by_open opened.now shut.now
-        from.opened) from.to from.opened from.meaning from.states (said_by f))
+        (arrivals_of w.local (rows_in s.entry.rows.now) w.policy s.entry.resources
+        (by_open ends.entry.opened.now ends.entry.shut.now from.opened)
+        s.entry.node from.opened from.meaning from.states (said_by s.entry.form))
         u.old u.new result }
 {
     if from.states == 0 {
         return false;
     }
-    let t = ends_for(opened, shut, from.opened);
-    pass_by(u, t, rows, w, f, from)
+    let t = ends.where_open(from.opened);
+    pass_by(u, t, s, w, from)
 }
 
 // Node k with every code that occurs, the policy being open or not. Is anything new?
-fn pass_node<'a>(
-    u: &mut [u16],
-    opened: &'a [u16],
-    shut: &'a [u16],
-    rows: &Table,
-    w: Watch,
-    k: usize,
-    f: NodeForm,
-) -> bool
-    requires u_len { length u.old ≡ places_of w.resources }
-    requires opened_len { length opened.now ≡ places_of w.resources }
-    requires shut_len { length shut.now ≡ places_of w.resources }
-    requires small { Small (said_by f) }
-    requires k_lt_most_nodes { k < most_nodes }
+fn pass_node(u: &mut [u16], ends: Ends, s: Site, w: Watch) -> bool
+    requires u_len { length u.old ≡ places_of s.resources }
+    requires ends_len { length ends.opened.now ≡ places_of s.resources }
     ensures u_after { u.new
-        ≡ pass_node_lem w.local (rows_in rows.now) w.policy w.resources (by_open opened.now shut.now)
-        k (said_by f) u.old }
+        ≡ pass_node_lem w.local (rows_in s.entry.rows.now) w.policy s.entry.resources
+        (by_open ends.entry.opened.now ends.entry.shut.now) s.entry.node (said_by s.entry.form) u.old }
     ensures value { result ≡ grown u.old u.new }
     ensures wide { Wide u.old → Wide u.new }
 {
-    let l = crate::numbers::least(w.resources);
-    let n = 2 * (crate::numbers::codes_of(w.resources) - l);
+    let l = crate::numbers::least(s.resources);
+    let n = 2 * (crate::numbers::codes_of(s.resources) - l);
     let mut changed = false;
-    let mut i: usize = 0;
-    while i < n {
+    for i in 0..n {
         let c = l + i / 2;
         let o = i % 2 == 1;
         let from = Arrival {
-            to: k,
+            to: s.node,
             opened: o,
             meaning: c,
-            states: states_at(u, k, o, c),
+            states: states_at(u, s.node, o, c),
         };
-        if pass(u, opened, shut, rows, w, f, from) {
+        if pass(u, ends, s, w, from) {
             changed = true;
         }
-        i += 1;
     }
     changed
 }
 
 // Every node, from the lowest to the highest. Is anything new?
-fn pass_round<'a>(
-    u: &mut [u16],
-    opened: &'a [u16],
-    shut: &'a [u16],
-    nodes: &[u8],
-    rows: &Table,
-    w: Watch,
-) -> bool
+fn pass_round(u: &mut [u16], ends: Ends, nodes: &[u8], rows: &Table, w: Watch) -> bool
     requires u_len { length u.old ≡ places_of w.resources }
-    requires opened_len { length opened.now ≡ places_of w.resources }
-    requires shut_len { length shut.now ≡ places_of w.resources }
+    requires ends_len { length ends.opened.now ≡ places_of w.resources }
     requires nodes_fit { NodesFit nodes.now }
     ensures u_after { u.new
-        ≡ comes_round nodes.now w.local rows.now (by_open opened.now shut.now)
+        ≡ comes_round nodes.now w.local rows.now (by_open ends.entry.opened.now ends.entry.shut.now)
         w.policy w.resources u.old }
     ensures value { result ≡ grown u.old u.new }
     ensures wide { Wide u.old → Wide u.new }
 {
     let n = nodes.len() / NODE_FIELDS;
     let mut changed = false;
-    let mut k: usize = 0;
-    while k < n {
-        let f = outline_nodes::form(nodes, k);
-        changed |= pass_node(u, opened, shut, rows, w, k, f);
-        k += 1;
+    for k in 0..n {
+        if let Some(f) = outline_nodes::form(nodes, k) {
+            let s = Site {
+                rows,
+                resources: w.resources,
+                node: k,
+                form: f,
+            };
+            changed |= pass_node(u, ends, s, w);
+        }
     }
     changed
 }
 
 // The table, by the tables of ends where the policy is open and where it is not; u is empty at first.
-pub(crate) fn fill<'a>(
-    nodes: &[u8],
-    rows: &Table,
-    opened: &'a [u16],
-    shut: &'a [u16],
-    w: Watch,
-    u: &mut [u16],
-)
+pub(crate) fn fill(nodes: &[u8], rows: &Table, ends: Ends, w: Watch, u: &mut [u16])
     requires nodes_fit { NodesFit nodes.now }
-    requires opened_len { length opened.now ≡ places_of w.resources }
-    requires shut_len { length shut.now ≡ places_of w.resources }
+    requires ends_len { length ends.opened.now ≡ places_of w.resources }
     requires u_value { u.old ≡ replicate (places_of w.resources) 0 }
     ensures { Filled
-        (ComesBy nodes.now w.local rows.now (by_open opened.now shut.now)
+        (ComesBy nodes.now w.local rows.now (by_open ends.entry.opened.now ends.entry.shut.now)
         w.policy w.resources)
         (begins w.resources) u.new }
 {
@@ -418,7 +387,7 @@ pub(crate) fn fill<'a>(
     let i = place(0, false, c);
     crate::join(u, i, 1);
     loop {
-        if !pass_round(u, opened, shut, nodes, rows, w) {
+        if !pass_round(u, ends, nodes, rows, w) {
             return;
         }
     }

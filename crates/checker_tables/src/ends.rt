@@ -12,10 +12,9 @@ ghost use Rattle.checker_account.specs.Filling.{grown, ends_of_lem, joined_each,
 ghost use Rattle.checker_tables.specs.Search.{group_end, first_ends_lem, Small, NodesFit, resets_if, EndsBy};
 ghost use Rattle.checker_tables.specs.ByState.{ByState};
 
+use crate::rows::Site;
 use crate::sets::PerState;
-use checker_account::{
-    LAYER, OTHERS, Resources, Table, UNNAMED, WAITING, WATCHED, WATCHED_TOO, Watch,
-};
+use checker_account::{LAYER, OTHERS, Table, UNNAMED, WAITING, WATCHED, WATCHED_TOO, Watch};
 use outline_nodes::NodeForm;
 use usage::{MOST_NODES, NODE_FIELDS, STATES};
 
@@ -81,74 +80,50 @@ fn sequence_ends(t: &[u16], a: usize, b: usize, e: usize) -> PerState
 }
 
 // By creating r, and then node b with entry e.
-fn created_ends(
-    t: &[u16],
-    rows: &Table,
-    x: Resources,
-    k: usize,
-    r: usize,
-    b: usize,
-    e: usize,
-) -> PerState
-    requires k_lt_most_nodes { k < most_nodes }
+fn created_ends(t: &[u16], s: Site, r: usize, b: usize, e: usize) -> PerState
     requires b_lt_most_nodes { b < most_nodes }
     requires e_bound { group_in e ≤ late_group }
     requires e_in_bounds { group_end (group_in e) ≤ length t.now }
-    ensures { ByState states (λ q. begun t.now b e (row_on (rows_in rows.now) x k r q)) result }
+    ensures { ByState states (λ q. begun t.now b e
+        (row_on (rows_in s.entry.rows.now) s.entry.resources s.entry.node r q)) result }
 {
-    let v = crate::rows::moved_each(rows, x, k, r);
+    let v = s.moved_each(r);
     crate::sets::union_each(t, LAYER * e + STATES * b, v)
 }
 
 // By creating another resource or the first one, and then node b.
-fn first_ends(
-    t: &[u16],
-    rows: &Table,
-    x: Resources,
-    k: usize,
-    n: usize,
-    b: usize,
-    e: usize,
-) -> PerState
-    requires k_lt_most_nodes { k < most_nodes }
+fn first_ends(t: &[u16], s: Site, n: usize, b: usize, e: usize) -> PerState
     requires n_lt_no_name { n < no_name }
     requires b_lt_most_nodes { b < most_nodes }
     requires e_bound { group_in e ≤ late_group }
     requires e_in_bounds { group_end (group_in e) ≤ length t.now }
-    ensures { ByState states (first_ends_lem (rows_in rows.now) x t.now k n b e) result }
+    ensures { ByState states
+        (first_ends_lem (rows_in s.entry.rows.now) s.entry.resources t.now s.entry.node n b e) result }
 {
     let f = crate::numbers::forgotten(e, n);
-    let other = created_ends(t, rows, x, k, OTHERS as usize, b, f);
-    let m = crate::numbers::meaning(e);
-    if m == 0 {
+    let other = created_ends(t, s, OTHERS as usize, b, f);
+    let meaning = crate::numbers::meaning(e);
+    if meaning == 0 {
         let g = crate::numbers::first_named(e, n);
-        let first = created_ends(t, rows, x, k, WATCHED, b, g);
+        let first = created_ends(t, s, WATCHED, b, g);
         return crate::sets::join_each(other, first);
     }
     other
 }
 
 // Or the second one, where it is created by the end.
-fn fresh_ends(
-    t: &[u16],
-    rows: &Table,
-    x: Resources,
-    k: usize,
-    n: usize,
-    b: usize,
-    e: usize,
-) -> PerState
-    requires k_lt_most_nodes { k < most_nodes }
+fn fresh_ends(t: &[u16], s: Site, n: usize, b: usize, e: usize) -> PerState
     requires n_lt_no_name { n < no_name }
     requires b_lt_most_nodes { b < most_nodes }
     requires e_bound { group_in e ≤ late_group }
     requires e_in_bounds { group_end (group_in e) ≤ length t.now }
-    ensures { ByState states (fresh_ends_lem (rows_in rows.now) x t.now k n b e) result }
+    ensures { ByState states
+        (fresh_ends_lem (rows_in s.entry.rows.now) s.entry.resources t.now s.entry.node n b e) result }
 {
-    let first = first_ends(t, rows, x, k, n, b, e);
+    let first = first_ends(t, s, n, b, e);
     if crate::numbers::is_late(e) {
         let g = crate::numbers::second_named(e, n);
-        let second = created_ends(t, rows, x, k, WATCHED_TOO, b, g);
+        let second = created_ends(t, s, WATCHED_TOO, b, g);
         return crate::sets::join_each(first, second);
     }
     first
@@ -168,11 +143,11 @@ fn either_ends(t: &[u16], a: usize, b: usize, e: usize) -> PerState
 }
 
 // By an event on r.
-fn event_ends(rows: &Table, x: Resources, k: usize, r: usize, e: usize) -> PerState
-    requires { k < most_nodes }
-    ensures { ByState states (λ q. kept_in e (row_on (rows_in rows.now) x k r q)) result }
+fn event_ends(s: Site, r: usize, e: usize) -> PerState
+    ensures { ByState states (λ q. kept_in e
+        (row_on (rows_in s.entry.rows.now) s.entry.resources s.entry.node r q)) result }
 {
-    let v = crate::rows::moved_each(rows, x, k, r);
+    let v = s.moved_each(r);
     crate::sets::keep_in(e, v)
 }
 
@@ -194,33 +169,20 @@ fn inside_ends(t: &[u16], opened: &[u16], reset: bool, b: usize, e: usize) -> Pe
 
 // By one rule: what node k ends in from the starts with entry e. `w.local`: an opening of the policy resets, since it is not open; then
 // `opened` is the table of ends where it is.
-fn ends_by(
-    t: &[u16],
-    rows: &Table,
-    opened: &[u16],
-    w: Watch,
-    k: usize,
-    f: NodeForm,
-    e: usize,
-) -> PerState
-    requires small { Small (said_by f) }
-    requires k_lt_most_nodes { k < most_nodes }
+fn ends_by(t: &[u16], s: Site, opened: &[u16], w: Watch, e: usize) -> PerState
     requires e_bound { group_in e ≤ late_group }
     requires e_in_bounds { group_end (group_in e) ≤ length t.now }
     requires opened_len { w.local ≡ true → length opened.now ≡ length t.now }
     ensures { ByState states
-        (λ q. ends_of_lem (rows_in rows.now) w.resources (resets_if w.local w.policy opened.now) t.now
-        k e q (said_by f)) result }
+        (λ q. ends_of_lem (rows_in s.entry.rows.now) s.entry.resources
+        (resets_if w.local w.policy opened.now) t.now s.entry.node e q (said_by s.entry.form)) result }
 {
-    match f {
+    match s.form {
         NodeForm::End => crate::sets::keep_in(e, [1u16, 2, 4, 8, 16, 32, 64, 128]),
-        NodeForm::OnStatic {
-            action: _,
-            resource,
-        } => event_ends(rows, w.resources, k, resource as usize, e),
-        NodeForm::OnName { action: _, name } => {
+        NodeForm::OnStatic { resource, .. } => event_ends(s, resource as usize, e),
+        NodeForm::OnName { name, .. } => {
             let r = crate::numbers::meant(e, name as usize);
-            event_ends(rows, w.resources, k, r, e)
+            event_ends(s, r, e)
         }
         NodeForm::Sequence { first, second } => {
             sequence_ends(t, first as usize, second as usize, e)
@@ -228,9 +190,7 @@ fn ends_by(
         NodeForm::Choice { one, other } => either_ends(t, one as usize, other as usize, e),
         NodeForm::Loop { body } => held(t, body as usize, e),
         NodeForm::Back { to } => held(t, to as usize, e),
-        NodeForm::Fresh { name, body } => {
-            fresh_ends(t, rows, w.resources, k, name as usize, body as usize, e)
-        }
+        NodeForm::Fresh { name, body } => { fresh_ends(t, s, name as usize, body as usize, e) }
         NodeForm::Sandbox { policy, body } => {
             inside_ends(
                 t,
@@ -240,7 +200,6 @@ fn ends_by(
                 e,
             )
         }
-        NodeForm::Nothing => [0u16; STATES],
     }
 }
 
@@ -253,34 +212,28 @@ fn join_sets(t: &mut [u16], i: usize, v: PerState) -> bool
     ensures value { result ≡ grown t.old t.new }
 {
     let mut changed = false;
-    let mut q: usize = 0;
-    while q < STATES {
+    for q in 0..STATES {
         changed |= crate::join(t, i + q, v[q]);
-        q += 1;
     }
     changed
 }
 
 // Every start of node k with an entry that occurs. Did that change the table?
-fn settle_node(t: &mut [u16], rows: &Table, opened: &[u16], w: Watch, k: usize, f: NodeForm) -> bool
-    requires t_len { length t.old ≡ places_of w.resources }
-    requires opened_len { w.local ≡ true → length opened.now ≡ places_of w.resources }
-    requires small { Small (said_by f) }
-    requires k_lt_most_nodes { k < most_nodes }
+fn settle_node(t: &mut [u16], s: Site, opened: &[u16], w: Watch) -> bool
+    requires t_len { length t.old ≡ places_of s.resources }
+    requires opened_len { w.local ≡ true → length opened.now ≡ places_of s.resources }
     ensures t_after { t.new
-        ≡ settle_node_lem (rows_in rows.now) w.resources (resets_if w.local w.policy opened.now)
-        k (said_by f) t.old }
+        ≡ settle_node_lem (rows_in s.entry.rows.now) s.entry.resources
+        (resets_if w.local w.policy opened.now) s.entry.node (said_by s.entry.form) t.old }
     ensures value { result ≡ grown t.old t.new }
 {
-    let l = crate::numbers::least(w.resources);
-    let n = crate::numbers::entries_of(w.resources) - l;
+    let l = crate::numbers::least(s.resources);
+    let n = crate::numbers::entries_of(s.resources) - l;
     let mut changed = false;
-    let mut i: usize = 0;
-    while i < n {
+    for i in 0..n {
         let e = l + i;
-        let v = ends_by(t, rows, opened, w, k, f, e);
-        changed |= join_sets(t, LAYER * e + STATES * k, v);
-        i += 1;
+        let v = ends_by(t, s, opened, w, e);
+        changed |= join_sets(t, LAYER * e + STATES * s.node, v);
     }
     changed
 }
@@ -290,13 +243,13 @@ fn settle_node(t: &mut [u16], rows: &Table, opened: &[u16], w: Watch, k: usize, 
 // policy is not open, so that its opening resets; `opened` is the one where it is, and is not looked at but then.
 pub(crate) fn fill(nodes: &[u8], rows: &Table, opened: &[u16], w: Watch, t: &mut [u16])
     requires nodes_fit { NodesFit nodes.now }
-    requires wide { w.local ≡ true → Wide opened.now }
+    requires opened_wide { w.local ≡ true → Wide opened.now }
     requires opened_len { w.local ≡ true → length opened.now ≡ places_of w.resources }
     requires t_value { t.old ≡ replicate (places_of w.resources) 0 }
     ensures filled { Filled
         (EndsBy nodes.now rows.now w.resources (resets_if w.local w.policy opened.now))
         (replicate (places_of w.resources) 0) t.new }
-    ensures wide_2 { Wide t.new }
+    ensures wide { Wide t.new }
 {
     let n = nodes.len() / NODE_FIELDS;
     let mut readers = [0u64; MOST_NODES];
@@ -305,9 +258,16 @@ pub(crate) fn fill(nodes: &[u8], rows: &Table, opened: &[u16], w: Watch, t: &mut
     while left != 0 {
         let k = crate::work::highest(left);
         left -= 1u64 << (k as u32);
-        let f = crate::form(nodes, k);
-        if settle_node(t, rows, opened, w, k, f) {
-            left |= readers[k];
+        if let Some(f) = outline_nodes::form(nodes, k) {
+            let s = Site {
+                rows,
+                resources: w.resources,
+                node: k,
+                form: f,
+            };
+            if settle_node(t, s, opened, w) {
+                left |= readers[k];
+            }
         }
     }
 }

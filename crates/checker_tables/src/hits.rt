@@ -8,6 +8,7 @@ ghost use Rattle.checker_account.specs.Filling.{leaves_of, hit_node_lem};
 ghost use Rattle.checker_tables.specs.Search.{group_end, Small, NodesFit, hit_in};
 ghost use Rattle.checker_tables.specs.Marks.{last_in, mark_bit_lem, marks_in};
 
+use crate::rows::Site;
 use checker_account::{Table, Watch};
 use outline_nodes::NodeForm;
 use usage::NODE_FIELDS;
@@ -29,28 +30,24 @@ fn opened(u: &[u16], local: bool, k: usize, c: usize, same: bool) -> u16
 }
 
 // The states that the step of node k leaves, the policy being open.
-fn leaves_by(u: &[u16], rows: &Table, w: Watch, k: usize, f: NodeForm, c: usize) -> u16
-    requires small { Small (said_by f) }
-    requires k_lt_most_nodes { k < most_nodes }
+fn leaves_by(u: &[u16], s: Site, w: Watch, c: usize) -> u16
     requires c_bound { group_in (c) ≤ late_group }
     requires c_in_bounds { group_end (group_in (c)) ≤ length u.now }
-    ensures { result ≡ leaves_of w.local (rows_in rows.now) w.policy w.resources u.now k c (said_by f) }
+    ensures { result ≡ leaves_of w.local (rows_in s.entry.rows.now) w.policy s.entry.resources
+        u.now s.entry.node c (said_by s.entry.form) }
 {
-    let v = crate::arrivals::states_at(u, k, true, c);
-    match f {
-        NodeForm::OnStatic {
-            action: _,
-            resource,
-        } => { crate::rows::moved_set(rows, w.resources, k, resource as usize, v) }
-        NodeForm::OnName { action: _, name } => {
+    let v = crate::arrivals::states_at(u, s.node, true, c);
+    match s.form {
+        NodeForm::OnStatic { resource, .. } => { s.moved_set(resource as usize, v) }
+        NodeForm::OnName { name, .. } => {
             let r = crate::numbers::meant(c, name as usize);
-            crate::rows::moved_set(rows, w.resources, k, r, v)
+            s.moved_set(r, v)
         }
-        NodeForm::Fresh { name: _, body: _ } => { crate::rows::created(rows, w.resources, k, c, v) }
-        NodeForm::Sandbox { policy, body: _ } => opened(
+        NodeForm::Fresh { .. } => { s.created(c, v) }
+        NodeForm::Sandbox { policy, .. } => opened(
             u,
             w.local,
-            k,
+            s.node,
             c,
             policy as usize == w.policy,
         ),
@@ -59,21 +56,18 @@ fn leaves_by(u: &[u16], rows: &Table, w: Watch, k: usize, f: NodeForm, c: usize)
 }
 
 // Does the step of node k leave an offending state, with some code that occurs?
-fn hit_node(u: &[u16], rows: &Table, w: Watch, k: usize, f: NodeForm) -> bool
-    requires u_len { length u.now ≡ places_of w.resources }
-    requires small { Small (said_by f) }
-    requires k_lt_most_nodes { k < most_nodes }
-    ensures { result ≡ hit_node_lem w.local (rows_in rows.now) w.policy w.resources u.now k (said_by f) }
+fn hit_node(u: &[u16], s: Site, w: Watch) -> bool
+    requires { length u.now ≡ places_of s.resources }
+    ensures { result ≡ hit_node_lem w.local (rows_in s.entry.rows.now) w.policy s.entry.resources
+        u.now s.entry.node (said_by s.entry.form) }
 {
-    let l = crate::numbers::least(w.resources);
-    let n = crate::numbers::codes_of(w.resources) - l;
-    let mut i: usize = 0;
-    while i < n {
-        let v = leaves_by(u, rows, w, k, f, l + i);
+    let l = crate::numbers::least(s.resources);
+    let n = crate::numbers::codes_of(s.resources) - l;
+    for i in 0..n {
+        let v = leaves_by(u, s, w, l + i);
         if 64 <= v % 256 {
             return true;
         }
-        i += 1;
     }
     false
 }
@@ -85,13 +79,18 @@ pub(crate) fn any(nodes: &[u8], rows: &Table, u: &[u16], w: Watch) -> bool
     ensures { result ≡ hit_in nodes.now w.local rows.now u.now w.policy w.resources }
 {
     let n = nodes.len() / NODE_FIELDS;
-    let mut k: usize = 0;
-    while k < n {
-        let f = outline_nodes::form(nodes, k);
-        if hit_node(u, rows, w, k, f) {
-            return true;
+    for k in 0..n {
+        if let Some(f) = outline_nodes::form(nodes, k) {
+            let s = Site {
+                rows,
+                resources: w.resources,
+                node: k,
+                form: f,
+            };
+            if hit_node(u, s, w) {
+                return true;
+            }
         }
-        k += 1;
     }
     false
 }
@@ -101,29 +100,24 @@ pub(crate) fn any(nodes: &[u8], rows: &Table, u: &[u16], w: Watch) -> bool
 // The bit of an opening; those below it are the actions'.
 const OPENING_BIT: u64 = 4294967296;
 
-// The step of node f as a bit: an event by its action, a create by action 0.
-fn mark_bit(f: NodeForm) -> u64
-    requires { Small (said_by f) }
-    ensures { result ≡ mark_bit_lem (last_in (said_by f)) }
+// The step of a node as a bit: an event by its action, a create by action 0.
+fn mark_bit(s: Site) -> u64
+    ensures { result ≡ mark_bit_lem (last_in (said_by s.entry.form)) }
 {
-    match f {
-        NodeForm::OnStatic {
-            action,
-            resource: _,
-        } => 1u64 << (action as u32),
-        NodeForm::OnName { action, name: _ } => 1u64 << (action as u32),
-        NodeForm::Fresh { name: _, body: _ } => 1,
-        NodeForm::Sandbox { policy: _, body: _ } => OPENING_BIT,
+    match s.form {
+        NodeForm::OnStatic { action, .. } => 1u64 << (action as u32),
+        NodeForm::OnName { action, .. } => 1u64 << (action as u32),
+        NodeForm::Fresh { .. } => 1,
+        NodeForm::Sandbox { .. } => OPENING_BIT,
         _ => 0,
     }
 }
 
 // It, or none.
-fn mark_if(b: bool, f: NodeForm) -> u64
-    requires { Small (said_by f) }
-    ensures { result ≡ cond b (mark_bit_lem (last_in (said_by f))) 0 }
+fn mark_if(b: bool, s: Site) -> u64
+    ensures { result ≡ cond b (mark_bit_lem (last_in (said_by s.entry.form))) 0 }
 {
-    if b { mark_bit(f) } else { 0 }
+    if b { mark_bit(s) } else { 0 }
 }
 
 // The steps of all nodes that leave an offending state.
@@ -134,11 +128,16 @@ pub(crate) fn marks(nodes: &[u8], rows: &Table, u: &[u16], w: Watch) -> u64
 {
     let n = nodes.len() / NODE_FIELDS;
     let mut m: u64 = 0;
-    let mut k: usize = 0;
-    while k < n {
-        let f = outline_nodes::form(nodes, k);
-        m = m | mark_if(hit_node(u, rows, w, k, f), f);
-        k += 1;
+    for k in 0..n {
+        if let Some(f) = outline_nodes::form(nodes, k) {
+            let s = Site {
+                rows,
+                resources: w.resources,
+                node: k,
+                form: f,
+            };
+            m |= mark_if(hit_node(u, s, w), s);
+        }
     }
     m
 }

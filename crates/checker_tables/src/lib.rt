@@ -13,12 +13,13 @@ ghost use Rattle.checker_tables.specs.Marks.{MarkedIf};
 ghost use Rattle.checker_tables.specs.Search.{lost, is_on_lem, touched, small, NodesFit, has_room, pair_places, ArrivesBy, ArrivesIf};
 ghost use Rattle.checker_tables.specs.Search.{SearchedIf};
 
+use arrivals::Ends;
 use checker_account::{
     NAMES, NOTHING, PAIR_PLACES, PLACES, PairTable, Resources, Table, UNNAMED, WATCHED,
     WATCHED_TOO, Watch,
 };
 use outline_nodes::NodeForm;
-use usage::{ACTIONS, MOST_NODES, NODE_FIELDS, Node, STATES};
+use usage::{ACTIONS, MOST_NODES, NODE_FIELDS, STATES};
 
 pub mod arrivals;
 mod ends;
@@ -34,12 +35,10 @@ fn union_over(t: &[u16], i: usize, v: u16) -> u16
     ensures { result ≡ over (λ q. get_or t.now (i + q) 0) v }
 {
     let mut r: u16 = 0;
-    let mut q: usize = 0;
-    while q < STATES {
+    for q in 0..STATES {
         let e = t[i + q];
         let more = if (v >> (q as u32)) & 1 == 1 { e } else { 0 };
         r |= more;
-        q += 1;
     }
     r
 }
@@ -79,10 +78,7 @@ fn is_on(f: NodeForm, x: usize) -> bool
     ensures { result ≡ is_on_lem x (said_by f) }
 {
     match f {
-        NodeForm::OnStatic {
-            action: _,
-            resource,
-        } => resource as usize == x,
+        NodeForm::OnStatic { resource, .. } => resource as usize == x,
         _ => false,
     }
 }
@@ -96,27 +92,14 @@ pub fn touched(nodes: &[u8], x: usize) -> bool
         return true;
     }
     let n = nodes.len() / NODE_FIELDS;
-    let mut k: usize = 0;
-    while k < n {
-        if is_on(outline_nodes::form(nodes, k), x) {
-            return true;
+    for k in 0..n {
+        if let Some(f) = outline_nodes::form(nodes, k) {
+            if is_on(f, x) {
+                return true;
+            }
         }
-        k += 1;
     }
     false
-}
-
-// What node k says, where there is such a node: the loop that settles knows that there is, and does not ask again.
-fn form(nodes: &[u8], k: usize) -> NodeForm
-    requires { k < length nodes.now / node_fields }
-    ensures { said_by result ≡ forms_in nodes.now k }
-{
-    let i = NODE_FIELDS * k;
-    outline_nodes::form_of(Node {
-        kind: nodes[i],
-        a: nodes[i + 1],
-        b: nodes[i + 2],
-    })
 }
 
 // Is there room for a node of this number?
@@ -131,17 +114,14 @@ fn small(f: NodeForm) -> bool
     ensures { result ≡ small (said_by f) }
 {
     match f {
-        NodeForm::OnStatic {
-            action,
-            resource: _,
-        } => (action as u32) < ACTIONS,
-        NodeForm::OnName { action, name: _ } => (action as u32) < ACTIONS,
+        NodeForm::OnStatic { action, .. } => (action as u32) < ACTIONS,
+        NodeForm::OnName { action, .. } => (action as u32) < ACTIONS,
         NodeForm::Sequence { first, second } => in_room(first) & in_room(second),
         NodeForm::Choice { one, other } => in_room(one) & in_room(other),
         NodeForm::Loop { body } => in_room(body),
         NodeForm::Back { to } => in_room(to),
         NodeForm::Fresh { name, body } => ((name as usize) < NAMES) & in_room(body),
-        NodeForm::Sandbox { policy: _, body } => in_room(body),
+        NodeForm::Sandbox { body, .. } => in_room(body),
         _ => true,
     }
 }
@@ -154,109 +134,56 @@ pub fn fits(nodes: &[u8]) -> bool
     if MOST_NODES < n {
         return false;
     }
-    let mut k: usize = 0;
-    while k < n {
-        if !small(outline_nodes::form(nodes, k)) {
-            return false;
+    for k in 0..n {
+        if let Some(f) = outline_nodes::form(nodes, k) {
+            if !small(f) {
+                return false;
+            }
         }
-        k += 1;
     }
     true
 }
 
 // Is the policy broken, by the tables of ends where it is open and where it is not? u becomes the table of what is come to.
-fn found<'a>(
-    nodes: &[u8],
-    rows: &Table,
-    opened: &'a [u16],
-    shut: &'a [u16],
-    w: Watch,
-    u: &mut [u16],
-) -> bool
+fn found(nodes: &[u8], rows: &Table, ends: Ends, w: Watch, u: &mut [u16]) -> bool
     requires nodes_fit { NodesFit nodes.now }
-    requires opened_len { length opened.now ≡ places_of w.resources }
-    requires shut_len { length shut.now ≡ places_of w.resources }
+    requires ends_len { length ends.opened.now ≡ places_of w.resources }
     requires u_value { u.old ≡ replicate (places_of w.resources) 0 }
     ensures { ArrivesBy nodes.now w.local rows.now
-        (by_open opened.now shut.now) w.policy w.resources u.new result }
+        (by_open ends.entry.opened.now ends.entry.shut.now) w.policy w.resources u.new result }
 {
-    arrivals::fill(nodes, rows, opened, shut, w, u);
+    arrivals::fill(nodes, rows, ends, w, u);
     hits::any(nodes, rows, u, w)
 }
 
-// The same by the nodes, where the whole past counts; the tables are empty at first. One table of ends serves: no opening resets anything.
-fn search_whole(nodes: &[u8], rows: &Table, w: Watch, opened: &mut [u16], u: &mut [u16]) -> bool
-    requires local_value { w.local ≡ false }
-    requires opened_value { opened.old ≡ replicate (places_of w.resources) 0 }
-    requires u_value { u.old ≡ replicate (places_of w.resources) 0 }
+// The same by the nodes, with N places in each table; u is empty at first. Where the policy is open, no opening resets anything; where the
+// whole past counts, none does at all, and one table of ends serves.
+fn search<const N: usize>(nodes: &[u8], rows: &Table, w: Watch, u: &mut [u16; N]) -> bool
+    requires places_value { N ≡ places_of w.resources }
+    requires u_value { u.old ≡ replicate N 0 }
     ensures { ArrivesIf (has_room nodes.now) nodes.now w.local rows.now
         w.policy w.resources u.new result }
 {
-    if fits(nodes) {
-        ends::fill(nodes, rows, rows, w, opened);
-        return found(nodes, rows, opened, opened, w, u);
+    if !fits(nodes) {
+        return false;
     }
-    false
-}
-
-// Where only the past since the opening counts. Where the policy is open, no opening resets anything.
-fn search_local(
-    nodes: &[u8],
-    rows: &Table,
-    w: Watch,
-    opened: &mut [u16],
-    shut: &mut [u16],
-    u: &mut [u16],
-) -> bool
-    requires local_value { w.local ≡ true }
-    requires opened_value { opened.old ≡ replicate (places_of w.resources) 0 }
-    requires shut_value { shut.old ≡ replicate (places_of w.resources) 0 }
-    requires u_value { u.old ≡ replicate (places_of w.resources) 0 }
-    ensures { ArrivesIf (has_room nodes.now) nodes.now w.local rows.now
-        w.policy w.resources u.new result }
-{
-    if fits(nodes) {
-        let x = w.resources;
-        let open = Watch {
-            local: false,
-            policy: w.policy,
-            resources: x,
+    let mut opened = [0u16; N];
+    let open = Watch { local: false, ..w };
+    ends::fill(nodes, rows, rows, open, &mut opened);
+    if w.local {
+        let mut shut = [0u16; N];
+        ends::fill(nodes, rows, &opened, w, &mut shut);
+        let ends = Ends {
+            opened: &opened,
+            shut: &shut,
         };
-        ends::fill(nodes, rows, rows, open, opened);
-        ends::fill(nodes, rows, opened, w, shut);
-        return found(nodes, rows, opened, shut, w, u);
+        return found(nodes, rows, ends, w, u);
     }
-    false
-}
-
-// With one dynamic resource watched at most.
-fn search_one(nodes: &[u8], rows: &Table, w: Watch, u: &mut Table) -> bool
-    requires fact { w.resources.second ≡ watched_too → ⊥ }
-    requires u_value { u.old ≡ replicate places 0 }
-    ensures { ArrivesIf (has_room nodes.now) nodes.now w.local rows.now
-        w.policy w.resources u.new result }
-{
-    let mut opened = [0u16; PLACES];
-    if w.local {
-        let mut shut = [0u16; PLACES];
-        return search_local(nodes, rows, w, &mut opened, &mut shut, u);
-    }
-    search_whole(nodes, rows, w, &mut opened, u)
-}
-
-// With both.
-fn search_both(nodes: &[u8], rows: &Table, w: Watch, u: &mut PairTable) -> bool
-    requires second_value { w.resources.second ≡ watched_too }
-    requires u_value { u.old ≡ replicate pair_places 0 }
-    ensures { ArrivesIf (has_room nodes.now) nodes.now w.local rows.now
-        w.policy w.resources u.new result }
-{
-    let mut opened = [0u16; PAIR_PLACES];
-    if w.local {
-        let mut shut = [0u16; PAIR_PLACES];
-        return search_local(nodes, rows, w, &mut opened, &mut shut, u);
-    }
-    search_whole(nodes, rows, w, &mut opened, u)
+    let ends = Ends {
+        opened: &opened,
+        shut: &opened,
+    };
+    found(nodes, rows, ends, w, u)
 }
 
 // Is the policy, whose moves the table of rows has, broken with the first resource watched alone? u becomes the table of what is come to.
@@ -270,12 +197,15 @@ pub fn arrive(nodes: &[u8], rows: &Table, w: Watch, u: &mut Table) -> bool
         first: w.resources.first,
         second: NOTHING,
     };
-    let alone = Watch {
-        local: w.local,
-        policy: w.policy,
-        resources: one,
-    };
-    search_one(nodes, rows, alone, u)
+    search(
+        nodes,
+        rows,
+        Watch {
+            resources: one,
+            ..w
+        },
+        u,
+    )
 }
 
 // The answer alone, with the resources watched.
@@ -285,33 +215,20 @@ pub fn breaks(nodes: &[u8], rows: &Table, w: Watch) -> bool
 {
     if w.resources.second == WATCHED_TOO {
         let mut u = [0u16; PAIR_PLACES];
-        return search_both(nodes, rows, w, &mut u);
+        return search(nodes, rows, w, &mut u);
     }
     let mut u = [0u16; PLACES];
-    search_one(nodes, rows, w, &mut u)
+    search(nodes, rows, w, &mut u)
 }
 
-// The marks of the policy with one dynamic resource watched at most: the search, and where it finds something, gone through to the end.
-fn marks_one(nodes: &[u8], rows: &Table, w: Watch) -> u64
-    requires { w.resources.second ≡ watched_too → ⊥ }
+// The marks of the policy, with N places in each table: the search, and where it finds something, gone through to the end.
+fn marks_in<const N: usize>(nodes: &[u8], rows: &Table, w: Watch) -> u64
+    requires { N ≡ places_of w.resources }
     ensures { MarkedIf (has_room nodes.now) nodes.now w.local rows.now
         w.policy w.resources result }
 {
-    let mut u = [0u16; PLACES];
-    if search_one(nodes, rows, w, &mut u) {
-        return hits::marks(nodes, rows, &u, w);
-    }
-    0
-}
-
-// With both.
-fn marks_both(nodes: &[u8], rows: &Table, w: Watch) -> u64
-    requires { w.resources.second ≡ watched_too }
-    ensures { MarkedIf (has_room nodes.now) nodes.now w.local rows.now
-        w.policy w.resources result }
-{
-    let mut u = [0u16; PAIR_PLACES];
-    if search_both(nodes, rows, w, &mut u) {
+    let mut u = [0u16; N];
+    if search(nodes, rows, w, &mut u) {
         return hits::marks(nodes, rows, &u, w);
     }
     0
@@ -323,8 +240,8 @@ pub fn marks_of(nodes: &[u8], rows: &Table, w: Watch) -> u64
         w.policy w.resources result }
 {
     if w.resources.second == WATCHED_TOO {
-        marks_both(nodes, rows, w)
+        marks_in::<PAIR_PLACES>(nodes, rows, w)
     } else {
-        marks_one(nodes, rows, w)
+        marks_in::<PLACES>(nodes, rows, w)
     }
 }

@@ -1,5 +1,7 @@
 // The numbers of entries: e % 6 is what the names mean of the first dynamic resource, and the group e / 6 tells of the second. An entry
 // that a rule leads to lies in the same group or a lower one.
+// Kept: an entry is its number and no struct, since the number is its place in the tables, and each rule makes other entries of one; so its
+// bound stands in the contracts.
 ghost use Rattle.std.specs.Prelude.{◌≡◌, true, ℕ, suc, ◌*◌, ◌/◌, ◌<◌, ◌≤◌};
 ghost use Rattle.checker_account.specs.Single.{no_name};
 ghost use Rattle.checker_account.specs.Tables.{unnamed, meanings, late_group, numbered, meaning_in, group_in, waits, is_late_lem, in_group_lem, entry_after};

@@ -1,4 +1,5 @@
 // Eight sets at once, one for each state of a start: loops without a branch, which the processor takes eight numbers at a time.
+// Kept: a loop for each operation and no closure that says it, so that each is known to be taken so.
 ghost use Rattle.std.specs.Prelude.{◌≡◌, cond, ℕ, ◌+◌, ◌<◌, ◌≤◌, ◌/◌, length, get_or};
 ghost use Rattle.std.specs.Int.Bits.{bit_or};
 ghost use Rattle.usage.specs.Limits.{states};
@@ -16,10 +17,8 @@ pub(crate) fn entries(t: &[u16], i: usize) -> PerState
     ensures { ByState states (λ q. get_or t.now (i + q) 0) result }
 {
     let mut r = [0u16; STATES];
-    let mut q: usize = 0;
-    while q < STATES {
+    for q in 0..STATES {
         r[q] = t[i + q];
-        q += 1;
     }
     r
 }
@@ -36,10 +35,8 @@ fn keep(m: usize, v: u16) -> u16
 fn keep_each(m: usize, mut v: PerState) -> PerState
     ensures { ByState states (λ q. kept m (get_or v q 0)) result }
 {
-    let mut q: usize = 0;
-    while q < STATES {
+    for q in 0..STATES {
         v[q] = keep(m, v[q]);
-        q += 1;
     }
     v
 }
@@ -58,10 +55,8 @@ pub(crate) fn keep_in(e: usize, v: PerState) -> PerState
 pub(crate) fn upper_each(mut v: PerState) -> PerState
     ensures { ByState states (λ q. get_or v q 0 / 256) result }
 {
-    let mut q: usize = 0;
-    while q < STATES {
+    for q in 0..STATES {
         v[q] /= 256;
-        q += 1;
     }
     v
 }
@@ -70,10 +65,8 @@ pub(crate) fn upper_each(mut v: PerState) -> PerState
 pub(crate) fn join_each(mut v: PerState, w: PerState) -> PerState
     ensures { ByState states (λ q. bit_or (get_or v q 0) (get_or w q 0)) result }
 {
-    let mut q: usize = 0;
-    while q < STATES {
+    for q in 0..STATES {
         v[q] |= w[q];
-        q += 1;
     }
     v
 }
@@ -83,11 +76,9 @@ fn join_where(mut w: PerState, v: PerState, s: u32, e: u16) -> PerState
     requires { s < states }
     ensures { ByState states (λ q. bit_or (get_or w q 0) (cond (has (get_or v q 0) s) e 0)) result }
 {
-    let mut q: usize = 0;
-    while q < STATES {
+    for q in 0..STATES {
         let more = if (v[q] >> s) & 1 == 1 { e } else { 0 };
         w[q] |= more;
-        q += 1;
     }
     w
 }
@@ -98,12 +89,10 @@ pub(crate) fn union_each(t: &[u16], i: usize, v: PerState) -> PerState
     ensures { ByState states (λ q. over (λ j. get_or t.now (i + j) 0) (get_or v q 0)) result }
 {
     let mut r = [0u16; STATES];
-    let mut s: usize = 0;
-    while s < STATES {
+    for s in 0..STATES {
         let e = t[i + s];
         let next = join_where(r, v, s as u32, e);
         r = next;
-        s += 1;
     }
     r
 }

@@ -1,5 +1,6 @@
 // Which nodes are left to settle, as bits of a number, and which are to be settled again once the ends of a node have changed: those whose
 // rules read them.
+// Kept: sets of nodes are bits of a number: no heap, and the highest is found at once.
 ghost use Rattle.std.specs.Prelude.{◌≡◌, ℕ, suc, ◌-◌, ◌/◌, ◌^◌, ◌<◌, ◌≤◌, min, length, replicate};
 ghost use Rattle.usage.specs.Limits.{most_nodes, node_fields};
 ghost use Rattle.outline_nodes.specs.Said.{said_by};
@@ -16,18 +17,15 @@ pub type Masks = [u64; MOST_NODES];
 
 // Node k joined to the set of node j.
 fn note(masks: &mut Masks, j: usize, k: usize)
-    requires masks_len { length masks.old ≡ most_nodes }
     requires j_lt_most_nodes { j < most_nodes }
     requires k_lt_most_nodes { k < most_nodes }
     ensures { masks.new ≡ joined_at masks.old j (2 ^ k) }
 {
-    let old = masks[j];
-    masks[j] = old | (1u64 << (k as u32));
+    masks[j] |= 1u64 << (k as u32);
 }
 
 // The same of two nodes.
 fn note_both(masks: &mut Masks, a: usize, b: usize, k: usize)
-    requires masks_len { length masks.old ≡ most_nodes }
     requires a_lt_most_nodes { a < most_nodes }
     requires b_lt_most_nodes { b < most_nodes }
     requires k_lt_most_nodes { k < most_nodes }
@@ -39,7 +37,6 @@ fn note_both(masks: &mut Masks, a: usize, b: usize, k: usize)
 
 // The same of the nodes that the rule of node k reads.
 fn note_parts(masks: &mut Masks, k: usize, f: NodeForm)
-    requires masks_len { length masks.old ≡ most_nodes }
     requires small { Small (said_by f) }
     requires k_lt_most_nodes { k < most_nodes }
     ensures { masks.new ≡ noted k (said_by f) masks.old }
@@ -54,8 +51,8 @@ fn note_parts(masks: &mut Masks, k: usize, f: NodeForm)
         NodeForm::Choice { one, other } => note_both(masks, one as usize, other as usize, k),
         NodeForm::Loop { body } => note(masks, body as usize, k),
         NodeForm::Back { to } => note(masks, to as usize, k),
-        NodeForm::Fresh { name: _, body } => note(masks, body as usize, k),
-        NodeForm::Sandbox { policy: _, body } => note(masks, body as usize, k),
+        NodeForm::Fresh { body, .. } => note(masks, body as usize, k),
+        NodeForm::Sandbox { body, .. } => note(masks, body as usize, k),
         _ => {}
     }
 }
@@ -67,11 +64,10 @@ pub(crate) fn note_all(nodes: &[u8], masks: &mut Masks)
     ensures { masks.new ≡ readers_of (length nodes.now / node_fields) (forms_in nodes.now) }
 {
     let n = nodes.len() / NODE_FIELDS;
-    let mut k: usize = 0;
-    while k < n {
-        let f = outline_nodes::form(nodes, k);
-        note_parts(masks, k, f);
-        k += 1;
+    for k in 0..n {
+        if let Some(f) = outline_nodes::form(nodes, k) {
+            note_parts(masks, k, f);
+        }
     }
 }
 
@@ -90,7 +86,7 @@ pub fn all(n: usize) -> u64
     ensures { result ≡ 2 ^ min n most_nodes - 1 }
 {
     if MOST_NODES <= n {
-        18446744073709551615
+        u64::MAX
     } else {
         (1u64 << (n as u32)) - 1
     }
@@ -105,5 +101,5 @@ pub fn highest(s: u64) -> usize
     if s == 0 {
         return 0;
     }
-    63 - u64::leading_zeros(s) as usize
+    s.ilog2() as usize
 }

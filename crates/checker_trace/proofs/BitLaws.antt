@@ -14,7 +14,7 @@ use borrow.Author.Tests.{eqb-true, eq-eqb, lt-ltb, le-ltb}
 use Rattle.usage.specs.Limits.{most_nodes, node_fields}
 use Rattle.outline_nodes.specs.declared.NodeForm.{NodeForm}
 use Rattle.outline_nodes.specs.declared.NodeForm.TheVariants.{End, OnStatic, OnName, Sequence, Choice}
-use Rattle.outline_nodes.specs.declared.NodeForm.TheVariants.{Loop, Back, Fresh, Sandbox, Nothing}
+use Rattle.outline_nodes.specs.declared.NodeForm.TheVariants.{Loop, Back, Fresh, Sandbox}
 use Rattle.outline_nodes.specs.Said.{said_by}
 use Rattle.usage.proofs.Logic.{by_cases, last-or-lower}
 use Rattle.automaton.specs.Mask.{has}
@@ -159,4 +159,3 @@ no-leads t e (Loop a) h3 h4 h5 h6 = absurd (h5 a refl)
 no-leads t e (Back a) h3 h4 h5 h6 = absurd (h6 a refl)
 no-leads t e (Fresh n b) h3 h4 h5 h6 = refl
 no-leads t e (Sandbox s b) h3 h4 h5 h6 = refl
-no-leads t e Nothing h3 h4 h5 h6 = refl

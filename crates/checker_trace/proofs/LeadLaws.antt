@@ -38,7 +38,7 @@ use Rattle.checker_lengths.proofs.RuleLaws.{Reads, offered}
 use Rattle.checker_lengths.proofs.RuledLaws.{break-is}
 use Rattle.checker_lengths.proofs.FullLaws.{form-here, here-form, Run, run-followed}
 use Rattle.checker_trace.specs.Code.{idle_in, idle_after_lem, end_in, bit_of, bit_if_lem, sequence_leads, leads_of, leads_from, Closure, OntoIs}
-use Rattle.checker_trace.specs.declared.Onto.TheVariants.{Nothing}
+use Rattle.std.specs.Prelude.{None}
 use Rattle.checker_trace.proofs.BitLaws.{bit_at, bit_is, spread-still, spreads-all, spreads-node}
 
 -- a length that the table holds, read with another bound
@@ -232,7 +232,7 @@ module _ (local : Bool) (es : List Edge) (nodes : List ℕ) (p x : ℕ) (rows t 
 
   -- an entry of a step or more is not without a rule
   pub never-nothing : At o k m c q → (n : ℕ) → held t all_lengths here ≡ n → n ≤ most_shown → 1 ≤ n
-      → OntoIs (watch_of local p x) rows nodes t here n Nothing → ⊥
+      → OntoIs (watch_of local p x) rows nodes t here n None → ⊥
   never-nothing come n h few one (s, closed, dead) =
       let on = found local es (nodes_of nodes) p (watching x) At (run-followed local es nodes p x rows src) most_shown
       (entries_in t all_lengths) least come a (h, few) one in

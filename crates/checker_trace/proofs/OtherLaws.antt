@@ -6,12 +6,12 @@ use native.Mathlib.Omega.{arith}
 use Rattle.usage.specs.Limits.{most_shown}
 use Rattle.outline_nodes.specs.declared.NodeForm.{NodeForm}
 use Rattle.outline_nodes.specs.declared.NodeForm.TheVariants.{End, OnStatic, OnName, Sequence, Choice}
-use Rattle.outline_nodes.specs.declared.NodeForm.TheVariants.{Loop, Back, Fresh, Sandbox, Nothing}
+use Rattle.outline_nodes.specs.declared.NodeForm.TheVariants.{Loop, Back, Fresh, Sandbox}
 use Rattle.outline_nodes.specs.Said.{said_by}
 use Rattle.checker_lengths.specs.declared.Entry.{Entry}
 use Rattle.checker_lengths.specs.declared.WatchOne.{WatchOne}
 use Rattle.checker_trace.specs.Code.{Chosen}
-use Rattle.checker_trace.proofs.PartLaws.{chosen-end, chosen_none, chosen-choice, chosen-loop, chosen-back}
+use Rattle.checker_trace.proofs.PartLaws.{chosen-end, chosen-choice, chosen-loop, chosen-back}
 
 -- they give no step from entries of fewer steps
 module _ (w : WatchOne) (rows nodes t : List ℕ) (e : Entry) (n r : ℕ) (few : n ≤ most_shown) (one : 1 ≤ n) where
@@ -27,4 +27,3 @@ module _ (w : WatchOne) (rows nodes t : List ℕ) (e : Entry) (n r : ℕ) (few :
   chosen-other (Back a) h1 h2 h3 h7 h8 ch = chosen-back w rows nodes t e n r few a ch
   chosen-other (Fresh i b) h1 h2 h3 h7 h8 ch = h7 i b refl
   chosen-other (Sandbox s b) h1 h2 h3 h7 h8 ch = h8 s b refl
-  chosen-other Nothing h1 h2 h3 h7 h8 ch = chosen_none w rows nodes t e n r few ch

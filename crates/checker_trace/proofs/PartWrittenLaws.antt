@@ -13,11 +13,11 @@ use Rattle.checker_lengths.specs.declared.WatchOne.{WatchOne}
 use Rattle.checker_lengths.specs.Entries.{at_break, held}
 use Rattle.checker_lengths.specs.Offers.{first_entry}
 use Rattle.checker_lengths.specs.Filling.{form_here}
-use Rattle.checker_trace.specs.declared.Onto.TheVariants.{By, Nothing}
+use Rattle.std.specs.Prelude.{None}
 use Rattle.checker_trace.specs.declared.Part.{Part}
 use Rattle.checker_trace.specs.declared.Spot.{Spot}
 use Rattle.checker_trace.specs.declared.Way.{Way}
-use Rattle.checker_trace.specs.Code.{OntoIs, stored_step, onward, created, first_part_lem, second_part_lem, body_part_lem, inner_part_lem}
+use Rattle.checker_trace.specs.Code.{OntoIs, onto, stored_step, onward, created, first_part_lem, second_part_lem, body_part_lem, inner_part_lem}
 use Rattle.checker_trace.specs.Code.{Writes, Room, Picked, PartWritten}
 use Rattle.checker_trace.proofs.StepLaws.{stored-length}
 use Rattle.checker_trace.proofs.WriteLaws as laws
@@ -42,7 +42,7 @@ module _ (w : WatchOne) (rows nodes t : List ℕ) (p : Part) (trace : List ℕ) 
     writes = laws.wrote_none w rows nodes t p.entry p.steps p.names p.spot trace h;
   }
 
-  pub nowhere-written : OntoIs w rows nodes t p.entry p.steps Nothing → 1 ≤ p.steps → Whole p.spot trace
+  pub nowhere-written : OntoIs w rows nodes t p.entry p.steps None → 1 ≤ p.steps → Whole p.spot trace
   nowhere-written on one = record {
     length_kept = refl;
     within = record { at = omega arith; next = omega arith };
@@ -66,7 +66,7 @@ module _ (w : WatchOne) (rows nodes t : List ℕ) (p : Part) (trace : List ℕ) 
           writes = h;
         }
 
-  module _ (one : 1 ≤ p.steps) (k c : ℕ) (on : OntoIs w rows nodes t p.entry p.steps (By k c)) (r : Spot)
+  module _ (one : 1 ≤ p.steps) (k c : ℕ) (on : OntoIs w rows nodes t p.entry p.steps (onto k c)) (r : Spot)
       (is : r ≡ onward p.spot) (trace' : List ℕ) (d i : ℕ) where
     pub static-written : form_here nodes k ≡ some (static_event d i) → trace' ≡ stored_step trace p.spot.at 0 d i → Whole r trace'
     static-written form stored =

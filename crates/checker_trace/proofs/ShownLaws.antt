@@ -3,13 +3,14 @@ use Prim.Native.Nat.{ℕ, ◌/◌, ◌+◌, ◌<◌, ◌≤◌}
 use mathlib.Core.Path.{◌≡◌, refl, sym, ap, ◌∙◌, subst}
 use mathlib.Core.Bool.{Bool, true, false, not, ◌&&◌, cond}
 use mathlib.Core.Option.{none, some}
+use Rattle.std.specs.Prelude.{Option as Maybe, Some, None}
 use mathlib.Core.List.{List, [], ◌∷◌}
 use mathlib.Core.Logic.{◌⊎◌, inl, inr}
 use native.Mathlib.Omega.{arith}
-use native.Mathlib.Decide.{dec_le}
+use native.Mathlib.Decide.{dec_le, dec_lt}
 use borrow.Author.Count.{below_more}
-use lib.Dec.{eqb, ltb}
-use lib.ListN.{length, replicate}
+use lib.Dec.{eqb, ltb, leb}
+use lib.ListN.{length, replicate, get_or}
 use Rattle.checker_trace.specs.Answer.{most_numbers}
 use Rattle.usage.specs.declared.Edge.{Edge}
 use Rattle.usage.specs.Limits.{statics, most_shown, most_nodes, node_fields}
@@ -41,7 +42,7 @@ use Rattle.checker_account.proofs.CounterexampleLaws.{written-shown}
 use Rattle.checker_account.proofs.RowLaws.{rows_ok}
 use Rattle.checker_account.proofs.RowTableLaws.{rows-from}
 use Rattle.checker_account.proofs.ScopedLaws.{scoped}
-use borrow.Author.Tests.{lt-ltb}
+use borrow.Author.Tests.{lt-ltb, le-ltb, leb-true, leb-false}
 use Rattle.checker_account.proofs.UntouchedLaws.{goes-watched}
 use Rattle.checker_rows.specs.Rows.{row_table}
 use Rattle.checker_tables.specs.Search.{touched, has_room, SearchedIf, ArrivesIf, Arrived as Came}
@@ -50,7 +51,8 @@ use Rattle.checker_tables.proofs.AnswerLaws.{arrives-searched}
 use Rattle.checker_tables.proofs.TouchedLaws.{untouched, dynamic-touched}
 use Rattle.checker_rows.proofs.WholeLaws.{whole_in}
 use Rattle.checker_lengths.specs.declared.WatchOne.{WatchOne}
-use Rattle.checker_lengths.specs.Entries.{no_length, all_lengths, entry_of, held}
+use Rattle.checker_lengths.specs.declared.Entry.{Entry}
+use Rattle.checker_lengths.specs.Entries.{no_length, all_lengths, entry_of, linear, in_table, below, held}
 use Rattle.checker_lengths.specs.Held.{aim_at, meaning_of, watch_of, Source}
 use Rattle.checker_lengths.proofs.FullLaws.{full-least}
 use Rattle.checker_trace.specs.declared.Shortest.{Shortest}
@@ -64,10 +66,10 @@ use Rattle.checker_trace.specs.Code.{
   TableIf,
   NeverHits,
   StepsIs,
-  Sought,
-  not_touched,
-  not_hit,
-  sought,
+  shorter_of,
+  length_in,
+  Told,
+  Kept,
   ShortestIs,
   Shows,
 }
@@ -143,21 +145,21 @@ module _ (local : Bool) (es : List Edge) (nodes : List ℕ) (p : ℕ) (rows : Li
       (last, m, k))
 
 module _ (local : Bool) (es : List Edge) (nodes : List ℕ) (p : ℕ) (rows : List ℕ)
-    (src : (x : ℕ) → x ≤ watched → Source es (nodes_of nodes) p x rows) (r : Shortest) (h : ShortestIs local p rows nodes r)
+    (src : (x : ℕ) → x ≤ watched → Source es (nodes_of nodes) p x rows) (r : Maybe Shortest) (h : ShortestIs local p rows nodes r)
     (alone : PairPolicy es p → ⊥) where
   at_least : (y m : ℕ) (l : y ≤ watched) → touched nodes y ≡ true → Root local es (nodes_of nodes) p (watching y) m none → m ≤ most_shown
-      → r.length ≤ m
+      → length_in r ≤ m
   at_least y m l w d few = go (h.least y l w)
     where
-      go : NeverHits (watch_of local p y) rows nodes ⊎ ((v : ℕ) × StepsIs (watch_of local p y) rows nodes v × (r.length ≤ v)) → r.length ≤ m
+      go : NeverHits (watch_of local p y) rows nodes ⊎ ((v : ℕ) × StepsIs (watch_of local p y) rows nodes v × (length_in r ≤ v)) → length_in r ≤ m
       go (inl never) = absurd (never-root local es nodes p rows y (src y l) never m d)
       go (inr (v, s, k)) = let g = steps-least local es nodes p rows y (src y l) v s m d few in omega arith
 
   -- of a static that need not be watched, the dynamic resource tells
-  none-shorter : (y m : ℕ) → y ≤ watched → Root local es (nodes_of nodes) p (watching y) m none → m ≤ most_shown → r.length ≤ m
+  none-shorter : (y m : ℕ) → y ≤ watched → Root local es (nodes_of nodes) p (watching y) m none → m ≤ most_shown → length_in r ≤ m
   none-shorter y m l d few = go (touched nodes y) refl
     where
-      go : (b : Bool) → touched nodes y ≡ b → r.length ≤ m
+      go : (b : Bool) → touched nodes y ≡ b → length_in r ≤ m
       go true e = at_least y m l e d few
       go false e =
           let u = untouched nodes y e in
@@ -166,19 +168,19 @@ module _ (local : Bool) (es : List Edge) (nodes : List ℕ) (p : ℕ) (rows : Li
           (goes-watched local es (nodes_of nodes) p y (Scope (nodes_of nodes)) s.edges (scoped (nodes_of nodes) s.outline) u.static
           (λ k a i. let (b, f) = (forms-of nodes).has k (static_event a y) i in u.no_event k a b f) d refl (lt-ltb y statics u.static)) few
 
-  pub shown-some : (x : ℕ) → x ≤ watched → (edges : EdgesOk es) (ok : OutlineOk (nodes_of nodes)) → r.length ≤ most_shown → (after : Past)
-      → Written local es (nodes_of nodes) p (watching x) r.length false 0 no_names no_name (ltb x statics) 0 [] (broken none) after
+  pub shown-some : (x : ℕ) → x ≤ watched → (edges : EdgesOk es) (ok : OutlineOk (nodes_of nodes)) → length_in r ≤ most_shown → (after : Past)
+      → Written local es (nodes_of nodes) p (watching x) (length_in r) false 0 no_names no_name (ltb x statics) 0 [] (broken none) after
       → Shown local es (nodes_of nodes) p (some after)
   shown-some x small edges ok few after d =
       written-shown local es (nodes_of nodes) (Scope (nodes_of nodes)) p edges (scoped (nodes_of nodes) ok) (singles es p alone)
       (x, small) d few
       (λ i m g. go i.0 m i.1 g (dec_le m most_shown))
     where
-      go : (y m : ℕ) → y ≤ watched → Root local es (nodes_of nodes) p (watching y) m none → Dec (m ≤ most_shown) → r.length ≤ m
+      go : (y m : ℕ) → y ≤ watched → Root local es (nodes_of nodes) p (watching y) m none → Dec (m ≤ most_shown) → length_in r ≤ m
       go y m l g (yes k) = none-shorter y m l g k
       go y m l g (no k) = omega arith
 
-  pub shown-none : (edges : EdgesOk es) (ok : OutlineOk (nodes_of nodes)) → most_shown < r.length → Shown local es (nodes_of nodes) p none
+  pub shown-none : (edges : EdgesOk es) (ok : OutlineOk (nodes_of nodes)) → most_shown < length_in r → Shown local es (nodes_of nodes) p none
   shown-none edges ok big =
       all-longer-sights local es (nodes_of nodes) (Scope (nodes_of nodes)) p edges (scoped (nodes_of nodes) ok) (singles es p alone)
       (λ i m by k. go i.0 m i.1 ((hits-exact local es (nodes_of nodes) p (watching i.0) m none).0 (by, each, k)) (dec_le m most_shown))
@@ -229,6 +231,19 @@ table_none false w rows nodes t h e = h
 
 -- ── The watched resources in turn ──
 
+-- a length that is held fits in a byte
+pub held-fits : (t : List ℕ) (e : Entry) → held t all_lengths e ≤ no_length
+unfolding held below
+held-fits t e = go (in_table e)
+  where
+    least-of : (v : ℕ) → Dec (v < all_lengths) → below all_lengths v ≤ no_length
+    least-of v (yes h) = rw (lt-ltb v all_lengths h) (omega arith)
+    least-of v (no h) = rw (le-ltb v all_lengths (omega arith)) (omega arith)
+
+    go : (b : Bool) → cond b (below all_lengths (get_or t (linear e) 0)) no_length ≤ no_length
+    go true = least-of (get_or t (linear e) 0) (dec_lt (get_or t (linear e) 0) all_lengths)
+    go false = omega arith
+
 module _ (local : Bool) (p : ℕ) (rows nodes : List ℕ) where
   -- a resource of which a length that is `length` or more is known, or that none is
   abbrev Known : ℕ → ℕ → Type 0
@@ -236,20 +251,9 @@ module _ (local : Bool) (p : ℕ) (rows nodes : List ℕ) where
       → NeverHits (watch_of local p y) rows nodes ⊎ ((v : ℕ) × StepsIs (watch_of local p y) rows nodes v × (length ≤ v))
 
   -- the least of those below x that are watched
-  pub record Least-below (x resource length : ℕ) : Type 0 where
-    pub fits : length ≤ no_length
-    pub told : length < no_length → (resource ≤ watched) × StepsIs (watch_of local p resource) rows nodes length
-    pub least : (y : ℕ) → y < x → Known length y
-
-  sought-known : {x v : ℕ} (length : ℕ) → Sought (watch_of local p x) rows nodes v → length ≤ v → Known length x
-  sought-known {x} length (not_touched h) l e = false-true (sym h ∙ e)
-  sought-known {x} length (not_hit h) l e = inl h
-  sought-known {x} {v} length (sought h) l e = inr (v, h, l)
-
-  sought-steps : {x v : ℕ} → Sought (watch_of local p x) rows nodes v → v < no_length → StepsIs (watch_of local p x) rows nodes v
-  sought-steps (not_touched h) l = absurd (omega arith)
-  sought-steps (not_hit h) l = absurd (omega arith)
-  sought-steps (sought h) l = h
+  pub record Least-below (x : ℕ) (r : Maybe Shortest) : Type 0 where
+    pub told : Told local p rows nodes r
+    pub least : (y : ℕ) → y < x → Known (length_in r) y
 
   known-less : {length v : ℕ} {y : ℕ} → v ≤ length → Known length y → Known v y
   known-less {length} {v} {y} l h e = go (h e)
@@ -262,23 +266,50 @@ module _ (local : Bool) (p : ℕ) (rows nodes : List ℕ) where
       go (inl g) = inl g
       go (inr (u, g, z)) = inr (u, g, at_most z)
 
-  pub least-take : {x resource length : ℕ} → Least-below x resource length → x ≤ watched → (v : ℕ)
-      → Sought (watch_of local p x) rows nodes v → v < length → Least-below (x + 1) x v
-  least-take {x} {resource} {length} h l v s k =
-      let f = h.fits in
-      record {
-        fits = omega arith;
-        told = λ m. (l, sought-steps s m);
-        least = below_more (Known v) x (λ y m. known-less (omega arith) (h.least y m)) (sought-known v s (omega arith));
-      }
+  -- where the next one need not be watched or is not hit
+  pub least-past : {x : ℕ} {r : Maybe Shortest} → Least-below x r
+      → (touched nodes x ≡ false) ⊎ NeverHits (watch_of local p x) rows nodes → Least-below (x + 1) r
+  least-past {x} {r} h g = record { told = h.told; least = below_more (Known (length_in r)) x h.least (go g) }
+    where
+      go : (touched nodes x ≡ false) ⊎ NeverHits (watch_of local p x) rows nodes → Known (length_in r) x
+      go (inl n) e = false-true (sym n ∙ e)
+      go (inr n) e = inl n
 
-  pub least-keep : {x resource length : ℕ} → Least-below x resource length → (v : ℕ)
-      → Sought (watch_of local p x) rows nodes v → length ≤ v → Least-below (x + 1) resource length
-  least-keep {x} {resource} {length} h v s k = record {
-    fits = h.fits;
-    told = h.told;
-    least = below_more (Known length) x h.least (sought-known length s k);
+  le-self : (n : ℕ) → n ≤ n
+  le-self n = omega arith
+
+  -- where its least length is v
+  pub least-next : {x : ℕ} (r : Maybe Shortest) → Least-below x r → x ≤ watched → (v : ℕ) → v ≤ no_length
+      → StepsIs (watch_of local p x) rows nodes v → Least-below (x + 1) (Some (shorter_of r x v))
+  least-next {x} None h l v f g = record {
+    told = (l, g);
+    least = below_more (Known v) x (λ y m. known-less f (h.least y m)) (λ _. inr (v, g, le-self v));
   }
+  least-next {x} (Some s) h l v f g = go (leb s.length v) refl
+    where
+      go : (b : Bool) → leb s.length v ≡ b
+          → Least-below (x + 1)
+          (Some (cond b (record { resource = s.resource; length = s.length; kept = false }) (record { resource = x; length = v; kept = true })))
+      go true e = record { told = h.told; least = below_more (Known s.length) x h.least (λ _. inr (v, g, leb-true s.length v e)) }
+      go false e =
+          let k = leb-false s.length v e in
+          record {
+            told = (l, g);
+            least = below_more (Known v) x (λ y m. known-less (omega arith) (h.least y m)) (λ _. inr (v, g, le-self v));
+          }
+
+  -- the table is that of the next one now
+  pub kept-next : (r : Maybe Shortest) (x v : ℕ) (t : List ℕ) → TableOf (watch_of local p x) rows nodes t
+      → Kept local p rows nodes (Some (shorter_of r x v)) t
+  kept-next None x v t g = λ _. g
+  kept-next (Some s) x v t g = go (leb s.length v)
+    where
+      go : (b : Bool)
+          → Kept local p rows nodes
+          (Some (cond b (record { resource = s.resource; length = s.length; kept = false }) (record { resource = x; length = v; kept = true })))
+          t
+      go true = λ e. false-true e
+      go false = λ _. g
 
 -- ── The root ──
 

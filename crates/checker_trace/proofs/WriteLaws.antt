@@ -37,8 +37,8 @@ use Rattle.checker_lengths.proofs.EntryLaws.{bounds, held-is}
 use Rattle.checker_lengths.proofs.FullLaws.{here-form, run-followed}
 use Rattle.checker_trace.specs.declared.Spot.{Spot}
 use Rattle.checker_trace.specs.declared.Names.{Names}
-use Rattle.checker_trace.specs.declared.Onto.TheVariants.{By, Nothing}
-use Rattle.checker_trace.specs.Code.{OntoIs, stored_step, onward, Spotted, Coming, Ready, Tells, NamesAt, Writes}
+use Rattle.std.specs.Prelude.{None}
+use Rattle.checker_trace.specs.Code.{OntoIs, onto, stored_step, onward, Spotted, Coming, Ready, Tells, NamesAt, Writes}
 use Rattle.checker_trace.proofs.LeadLaws.{closure-passes, never-nothing}
 use Rattle.checker_trace.proofs.StepLaws.{laid_more, spotted-event}
 
@@ -70,11 +70,11 @@ module _ (w : WatchOne) (rows nodes t : List ℕ) (e : Entry) where
     pub gives : offer_of w rows (held t n) (entry_of j e.opened (meaning_of m c) e.state (aim_at aim)) r f ≡ n
 
   pub arrive : (n j r : ℕ) (f : Form) → length nodes / node_fields ≤ most_nodes
-      → OntoIs w rows nodes t e n (By j r) → form_here nodes j ≡ some f
+      → OntoIs w rows nodes t e n (onto j r) → form_here nodes j ≡ some f
       → {es : List Edge} {m : ℕ} {c : Bool} {aim : Aim Bool} → Ready w es rows nodes t
       → Tells w es nodes e m c aim → n ≤ most_shown → held t all_lengths e ≡ n → Arrived es n m c aim j r f
   arrive n j r f few on g {es} {m} {c} {aim} ready tells steps there =
-      let (s, closed, l, h, offer) = subst (λ (y : Entry). OntoIs w rows nodes t y n (By j r)) (tells_is tells) on in
+      let (s, closed, l, h, offer) = subst (λ (y : Entry). OntoIs w rows nodes t y n (onto j r)) (tells_is tells) on in
       let passes = closure-passes w.local es nodes w.policy w.resource rows t ready.source ready.least e.opened
       e.node m c e.state aim tells.begun tells.aimed (end-occurs n m c aim ready tells there steps) s closed j
       (omega arith) h in
@@ -126,15 +126,15 @@ module _ (w : WatchOne) (rows nodes t : List ℕ) (e : Entry) where
         )
 
     -- there always is a rule
-    pub wrote-nowhere : OntoIs w rows nodes t e n Nothing → n ≤ most_shown → 1 ≤ n → (r : Spot) (trace' : List ℕ) → Wrote r trace'
+    pub wrote-nowhere : OntoIs w rows nodes t e n None → n ≤ most_shown → 1 ≤ n → (r : Spot) (trace' : List ℕ) → Wrote r trace'
     wrote-nowhere on few one r trace' es m c aim names t₀ past ready tells h named agree spotted same room =
         absurd (never-nothing w.local es nodes w.policy w.resource rows t ready.source ready.least e.opened e.node m c
         e.state aim tells.begun tells.aimed (end-occurs n m c aim ready tells h few) tells.come n
         (sym (ap (held t all_lengths) (tells_is tells)) ∙ h) few one
-        (subst (λ (y : Entry). OntoIs w rows nodes t y n Nothing) (tells_is tells) on))
+        (subst (λ (y : Entry). OntoIs w rows nodes t y n None) (tells_is tells) on))
 
     module _ (few_nodes : length nodes / node_fields ≤ most_nodes) (few : n ≤ most_shown)
-        (j r : ℕ) (on : OntoIs w rows nodes t e n (By j r)) where
+        (j r : ℕ) (on : OntoIs w rows nodes t e n (onto j r)) where
       abbrev at-node : Bool → ℕ → Aim Bool → ℕ → Entry
       at-node c m aim k = entry_of k e.opened (meaning_of m c) e.state (aim_at aim)
 

@@ -7,7 +7,10 @@ use Rattle.usage.specs.Past.{Past}
 use Rattle.usage.specs.Check.{Shown}
 use Rattle.usage.specs.Tables.{edges_of, nodes_of, EdgeTable, NodeTable}
 use Rattle.checker_trace.specs.declared.Length.{Length}
-use Rattle.checker_trace.specs.declared.Length.TheVariants.{Of, Longer, Refused}
+use Rattle.checker_trace.specs.declared.Length.TheVariants.{Of, Longer}
+use Rattle.usage.specs.declared.Reason.{Reason}
+use Rattle.usage.specs.Reasons.{number_of}
+use Rattle.std.specs.Prelude.{Result, Ok, Err}
 use Rattle.checker_trace.specs.Steps.{laid}
 
 -- "a lent trace table below 200 places": the numbers of that many steps
@@ -16,15 +19,14 @@ most_numbers = most_shown * step_fields
 
 -- Document 01's verdict for each answer to a call for policy p, and the length that is told with it: "The answer tells its length; if every
 -- such trace is longer it says so".
-abbrev pub length_verdict : ℕ → Length → Verdict
-length_verdict p (Of n) = violated p
-length_verdict p Longer = violated p
-length_verdict p (Refused k) = refused k
+abbrev pub length_verdict : ℕ → Result Length Reason → Verdict
+length_verdict p (Ok l) = violated p
+length_verdict p (Err r) = refused (number_of r)
 
-abbrev pub length_told : Length → Option ℕ
-length_told (Of n) = some n
-length_told Longer = none
-length_told (Refused k) = none
+abbrev pub length_told : Result Length Reason → Option ℕ
+length_told (Ok (Of n)) = some n
+length_told (Ok Longer) = none
+length_told (Err r) = none
 
 -- "a shortest trace that breaks the named policy while open, if one of at most 200 steps exists"; "The answer tells its length; if every
 -- such trace is longer it says so, and then .. nothing is written"; "Places after the trace keep their contents"; "40 also covers a lent
@@ -39,5 +41,5 @@ pub data ToldAs (local : Bool) (e n : List ℕ) (p : ℕ) (t : List ℕ) : Verdi
       → ToldAs local e n p t (violated p) (some (length past)) (laid t past)
 
 -- by the answer of the code
-abbrev pub Told : Bool → List ℕ → List ℕ → ℕ → List ℕ → Length → List ℕ → Type 0
+abbrev pub Told : Bool → List ℕ → List ℕ → ℕ → List ℕ → Result Length Reason → List ℕ → Type 0
 Told local e n p t l = ToldAs local e n p t (length_verdict p l) (length_told l)

@@ -1,6 +1,7 @@
 -- What the crate's own functions compute and write.
-use Rattle.std.specs.Prelude.{ℕ, zero, suc, ◌+◌, ◌-◌, ◌/◌, ◌%◌, ◌^◌, ◌<◌, ◌≤◌, ◌*◌, ◌≡◌, Bool, true, ◌||◌, cond, false, List, [], eqb, ltb, length, set, get_or, ◌⊎◌}
+use Rattle.std.specs.Prelude.{ℕ, zero, suc, ◌+◌, ◌-◌, ◌/◌, ◌%◌, ◌^◌, ◌<◌, ◌≤◌, ◌*◌, ◌≡◌, Bool, true, ◌||◌, cond, false, List, [], eqb, ltb, leb, length, set, get_or, ◌⊎◌}
 use Rattle.std.proofs.Math.Option.{Option, none, some}
+use Rattle.std.specs.Prelude.{Option as Maybe, Some, None}
 use Rattle.std.specs.Int.Bits.{bit_or}
 use Rattle.usage.specs.Limits.{most_nodes, states, node_fields, step_fields, most_shown, statics, resources}
 use Rattle.usage.specs.Outline.{Form, end, static_event, named_event, sequence, choice, loop, back, fresh, sandbox, no_names}
@@ -12,7 +13,6 @@ use Rattle.checker_lengths.specs.Entries.{at_break, entry_of, held, all_lengths,
 use Rattle.checker_lengths.specs.Offers.{at_node, low_end_lem, first_entry, second_entry, body_entry, inner_entry, offer_from, ways_of}
 use Rattle.checker_lengths.specs.Filling.{form_here, Full}
 use Rattle.checker_trace.specs.declared.Onto.{Onto}
-use Rattle.checker_trace.specs.declared.Onto.TheVariants.{By, Nothing}
 use Rattle.usage.specs.Past.{Past}
 use Rattle.checker_account.specs.Written.{next, Written}
 use Rattle.checker_trace.specs.declared.Spot.{Spot}
@@ -94,20 +94,25 @@ pub record Closure (t nodes : List ℕ) (e : Entry) (s : ℕ) : Type 0 where
 abbrev pub offer_below : WatchOne → List ℕ → List ℕ → Option Form → Entry → ℕ → ℕ → ℕ
 offer_below w rows t f e n c = offer_from w rows (held t n) e c f
 
--- r is a rule that gives n, or as many as there are and none does
-pub record RuleIs (w : WatchOne) (rows t : List ℕ) (f : Option Form) (e : Entry) (n r : ℕ) : Type 0 where
-  pub here : r < ways_of f → offer_below w rows t f e n r ≡ n
-  pub none_there : ways_of f ≤ r → (c : ℕ) → c < ways_of f → offer_below w rows t f e n c ≡ n → ⊥
+-- no rule gives n; and a rule that does, or that none does
+abbrev pub NoRule : WatchOne → List ℕ → List ℕ → Option Form → Entry → ℕ → Type 0
+NoRule w rows t f e n = (c : ℕ) → c < ways_of f → offer_below w rows t f e n c ≡ n → ⊥
+
+abbrev pub RuleIs : WatchOne → List ℕ → List ℕ → Option Form → Entry → ℕ → Maybe ℕ → Type 0
+RuleIs w rows t f e n (Some c) = offer_below w rows t f e n c ≡ n
+RuleIs w rows t f e n None = NoRule w rows t f e n
+
+abbrev pub onto : ℕ → ℕ → Maybe Onto
+onto k c = Some (record { node = k; rule = c })
 
 -- where to go on from an entry of n steps
-abbrev pub OntoIs : WatchOne → List ℕ → List ℕ → List ℕ → Entry → ℕ → Onto → Type 0
-OntoIs w rows nodes t e n (By k c) =
-    (s : ℕ) × Closure t nodes e s × (k < length nodes / node_fields) × (has s k ≡ true)
-    × (offer_below w rows t (form_here nodes k) (at_node e k) n c ≡ n)
-OntoIs w rows nodes t e n Nothing =
+abbrev pub OntoIs : WatchOne → List ℕ → List ℕ → List ℕ → Entry → ℕ → Maybe Onto → Type 0
+OntoIs w rows nodes t e n (Some o) =
+    (s : ℕ) × Closure t nodes e s × (o.node < length nodes / node_fields) × (has s o.node ≡ true)
+    × (offer_below w rows t (form_here nodes o.node) (at_node e o.node) n o.rule ≡ n)
+OntoIs w rows nodes t e n None =
     (s : ℕ) × Closure t nodes e s
-    × ((k : ℕ) → k < length nodes / node_fields → has s k ≡ true → (c : ℕ) → c < ways_of (form_here nodes k)
-    → offer_below w rows t (form_here nodes k) (at_node e k) n c ≡ n → ⊥)
+    × ((k : ℕ) → k < length nodes / node_fields → has s k ≡ true → NoRule w rows t (form_here nodes k) (at_node e k) n)
 
 -- ── Places and names ──
 
@@ -187,7 +192,7 @@ pub record PartWritten (w : WatchOne) (rows nodes t : List ℕ) (p : Part) (trac
 
 -- rule c of a node of this form is where to go on from an entry of n steps
 abbrev pub Chosen : WatchOne → List ℕ → List ℕ → List ℕ → Entry → ℕ → Option Form → ℕ → Type 0
-Chosen w rows nodes t e n f c = (k : ℕ) × OntoIs w rows nodes t e n (By k c) × (form_here nodes k ≡ f)
+Chosen w rows nodes t e n f c = (k : ℕ) × OntoIs w rows nodes t e n (onto k c) × (form_here nodes k ≡ f)
 
 -- it is where to go on from a part, and there is a step to write
 pub record Picked (w : WatchOne) (rows nodes t : List ℕ) (p : Part) (f : Option Form) (c : ℕ) : Type 0 where
@@ -233,17 +238,37 @@ TableIf false w rows nodes t = NeverHits w rows nodes
 abbrev pub StepsIs : WatchOne → List ℕ → List ℕ → ℕ → Type 0
 StepsIs w rows nodes r = (t : List ℕ) × TableOf w rows nodes t × (r ≡ held t all_lengths (root_of w.resource))
 
--- no length, where the resource need not be watched or is not hit; and else the least
-pub data Sought (w : WatchOne) (rows nodes : List ℕ) : ℕ → Type 0 where
-  not_touched : touched nodes w.resource ≡ false → Sought w rows nodes no_length
-  not_hit : NeverHits w rows nodes → Sought w rows nodes no_length
-  sought : {v : ℕ} → StepsIs w rows nodes v → Sought w rows nodes v
+-- With one resource watched, t' being the table afterwards: its own and the least length by it; or none, where the resource need not be
+-- watched or is not hit, and then the table is as it was.
+abbrev pub Sought : WatchOne → List ℕ → List ℕ → List ℕ → Maybe ℕ → List ℕ → Type 0
+Sought w rows nodes t (Some v) t' = TableOf w rows nodes t' × (v ≡ held t' all_lengths (root_of w.resource))
+Sought w rows nodes t None t' = ((touched nodes w.resource ≡ false) ⊎ NeverHits w rows nodes) × (t' ≡ t)
+
+-- the shorter of what was found and v steps with resource x watched, for which the table was filled since
+abbrev pub shorter_of : Maybe Shortest → ℕ → ℕ → Shortest
+shorter_of None x v = record { resource = x; length = v; kept = true }
+shorter_of (Some s) x v =
+    cond (leb s.length v) (record { resource = s.resource; length = s.length; kept = false }) (record { resource = x; length = v; kept = true })
+
+abbrev pub length_in : Maybe Shortest → ℕ
+length_in None = no_length
+length_in (Some s) = s.length
+
+-- what is found is a least length
+abbrev pub Told : Bool → ℕ → List ℕ → List ℕ → Maybe Shortest → Type 0
+Told local p rows nodes None = Unit {0}
+Told local p rows nodes (Some s) = (s.resource ≤ watched) × StepsIs (watch_of local p s.resource) rows nodes s.length
+
+-- and the table is still its own, where that is said
+abbrev pub Kept : Bool → ℕ → List ℕ → List ℕ → Maybe Shortest → List ℕ → Type 0
+Kept local p rows nodes None t = Unit {0}
+Kept local p rows nodes (Some s) t = s.kept ≡ true → TableOf (watch_of local p s.resource) rows nodes t
 
 -- of all watched resources
-pub record ShortestIs (local : Bool) (p : ℕ) (rows nodes : List ℕ) (r : Shortest) : Type 0 where
-  pub told : r.length < no_length → (r.resource ≤ watched) × StepsIs (watch_of local p r.resource) rows nodes r.length
+pub record ShortestIs (local : Bool) (p : ℕ) (rows nodes : List ℕ) (r : Maybe Shortest) : Type 0 where
+  pub told : Told local p rows nodes r
   pub least : (x : ℕ) → x ≤ watched → touched nodes x ≡ true
-      → NeverHits (watch_of local p x) rows nodes ⊎ ((v : ℕ) × StepsIs (watch_of local p x) rows nodes v × (r.length ≤ v))
+      → NeverHits (watch_of local p x) rows nodes ⊎ ((v : ℕ) × StepsIs (watch_of local p x) rows nodes v × (length_in r ≤ v))
 
 -- what is written where n is that length
 abbrev pub Shows : WatchOne → List ℕ → List ℕ → ℕ → List ℕ → List ℕ → Type 0

@@ -1,16 +1,13 @@
 // Where to go on from an entry: a node that its node leads to with no step, and a rule there that gives its length from entries of
 // fewer steps.
-ghost use Rattle.std.specs.Prelude.{◌≡◌, ℕ, ◌/◌, ◌<◌, ◌≤◌, length};
+ghost use Rattle.std.specs.Prelude.{◌≡◌, ◌/◌, ◌≤◌, length};
 ghost use Rattle.usage.specs.Limits.{most_nodes, node_fields};
 ghost use Rattle.outline_nodes.specs.Said.{said_by};
-ghost use Rattle.automaton.specs.Mask.{has};
-ghost use Rattle.checker_lengths.specs.Offers.{at_node};
 ghost use Rattle.checker_trace.specs.Code.{idle_in, idle_after_lem, bit_of, bit_if_lem, sequence_leads};
 ghost use Rattle.checker_trace.specs.Code.{leads_from, spread_to, Closure, RuleIs, OntoIs};
 
-use crate::Onto;
-use checker_account::Table;
-use checker_lengths::{BROKEN, Entry, Lengths, WatchOne};
+use crate::{Onto, Tables};
+use checker_lengths::{BROKEN, Entry, Lengths, entries, offers};
 use outline_nodes::NodeForm;
 use usage::{MOST_NODES, NODE_FIELDS, STATES};
 
@@ -20,32 +17,17 @@ fn idle(t: &Lengths, e: Entry, k: u8) -> bool
 {
     let same = Entry {
         node: k as usize,
-        opened: e.opened,
-        meaning: e.meaning,
-        state: e.state,
-        aim: checker_lengths::offers::low_end(e.meaning) + e.state % STATES,
+        aim: offers::low_end(e.meaning) + e.state % STATES,
+        ..e
     };
-    checker_lengths::entries::get(t, 1, same) == 0
+    entries::get(t, 1, same) == 0
 }
 
 // Can node k end with no step, from where the entry's node is to end?
 fn idle_after(t: &Lengths, e: Entry, k: u8) -> bool
     ensures { result ≡ idle_after_lem t.now e k }
 {
-    checker_lengths::entries::get(t, 1, checker_lengths::offers::second(e, k, e.aim)) == 0
-}
-
-// The same start and aim at node k.
-fn at(e: Entry, k: usize) -> Entry
-    ensures { result ≡ at_node e k }
-{
-    Entry {
-        node: k,
-        opened: e.opened,
-        meaning: e.meaning,
-        state: e.state,
-        aim: e.aim,
-    }
+    entries::get(t, 1, offers::second(e, k, e.aim)) == 0
 }
 
 // The set of one node.
@@ -66,24 +48,12 @@ fn bit_if(b: bool, k: u8) -> u64
     if b { bit(k as usize) } else { 0 }
 }
 
-// Is node k in the set?
-fn has(s: u64, k: usize) -> bool
-    requires { k < most_nodes }
-    ensures { result ≡ has s k }
-{
-    (s >> (k as u32)) & 1 == 1
-}
-
 // The nodes of a sequence that it leads to: the first, where nothing but an idle node is left after it, and the second after an idle one.
+#[tactic(auto, unfolding(crate::specs::Code::sequence_leads))]
 fn sequence(t: &Lengths, e: Entry, a: u8, b: u8) -> u64
     ensures { result ≡ sequence_leads t.now e a b }
 {
-    let first = if e.aim == BROKEN {
-        true
-    } else {
-        idle_after(t, e, b)
-    };
-    bit_if(first, a) | bit_if(idle(t, e, a), b)
+    bit_if(e.aim == BROKEN || idle_after(t, e, b), a) | bit_if(idle(t, e, a), b)
 }
 
 // The nodes that node f leads to with no step.
@@ -104,14 +74,13 @@ fn spread(t: &Lengths, nodes: &[u8], e: Entry, s: u64) -> u64
     requires { length nodes.now / node_fields ≤ most_nodes }
     ensures { result ≡ spread_to t.now nodes.now e (length nodes.now / node_fields) s }
 {
-    let n = nodes.len() / NODE_FIELDS;
     let mut r = s;
-    let mut k: usize = 0;
-    while k < n {
-        if has(r, k) {
-            r |= leads(t, e, outline_nodes::form(nodes, k));
+    for k in 0..nodes.len() / NODE_FIELDS {
+        if offers::has(r, k) {
+            if let Some(f) = outline_nodes::form(nodes, k) {
+                r |= leads(t, e, f);
+            }
         }
-        k += 1;
     }
     r
 }
@@ -131,38 +100,33 @@ fn closure(t: &Lengths, nodes: &[u8], e: Entry) -> u64
     }
 }
 
-// The first rule of node f that gives n, or as many as there are.
-fn rule(t: &Lengths, rows: &Table, w: WatchOne, f: NodeForm, e: Entry, n: u8) -> usize
-    ensures { RuleIs w rows.now t.now (said_by f) e n result }
+// The first rule of node f that gives n.
+fn rule(x: &Tables, f: NodeForm, e: Entry, n: u8) -> Option<usize>
+    ensures { RuleIs x.now.watch x.now.rows.now x.now.lengths.now (said_by f) e n result }
 {
-    let ways = checker_lengths::offers::ways(f);
-    let mut c: usize = 0;
-    while c < ways {
-        if checker_lengths::offers::offer(t, rows, w, n, f, e, c) == n {
-            return c;
+    for c in 0..offers::ways(f) {
+        if offers::offer(x.lengths, x.rows, x.watch, n, f, e, c) == n {
+            return Some(c);
         }
-        c += 1;
     }
-    c
+    None
 }
 
 // Where to go on from an entry of n steps.
-pub(crate) fn find(t: &Lengths, nodes: &[u8], rows: &Table, w: WatchOne, e: Entry, n: u8) -> Onto
-    requires { length nodes.now / node_fields ≤ most_nodes }
-    ensures { OntoIs w rows.now nodes.now t.now e n result }
+#[inline(never)] // its work takes no room on the stack of the writer, which calls itself
+pub(crate) fn find(x: &Tables, e: Entry, n: u8) -> Option<Onto>
+    requires { length x.now.nodes.now / node_fields ≤ most_nodes }
+    ensures { OntoIs x.now.watch x.now.rows.now x.now.nodes.now x.now.lengths.now e n result }
 {
-    let s = closure(t, nodes, e);
-    let count = nodes.len() / NODE_FIELDS;
-    let mut k: usize = 0;
-    while k < count {
-        if has(s, k) {
-            let f = outline_nodes::form(nodes, k);
-            let c = rule(t, rows, w, f, at(e, k), n);
-            if c < checker_lengths::offers::ways(f) {
-                return Onto::By { node: k, rule: c };
+    let s = closure(x.lengths, x.nodes, e);
+    for k in 0..x.nodes.len() / NODE_FIELDS {
+        if offers::has(s, k) {
+            if let Some(f) = outline_nodes::form(x.nodes, k) {
+                if let Some(c) = rule(x, f, offers::at(e, k), n) {
+                    return Some(Onto { node: k, rule: c });
+                }
             }
         }
-        k += 1;
     }
-    Onto::Nothing
+    None
 }

@@ -5,13 +5,11 @@
 ghost use Rattle.std.specs.Prelude.{◌≡◌, Bool, true, false, ℕ, ◌/◌, ◌<◌, ◌≤◌, length};
 ghost use Rattle.usage.specs.Limits.{most_nodes, node_fields, most_shown};
 ghost use Rattle.checker_trace.specs.Answer.{most_numbers, Told};
-ghost use Rattle.checker_trace.specs.Code.{root_of, TableOf, TableIf, Sought, ShortestIs, Shows};
-ghost use Rattle.checker_lengths.specs.Entries.{no_length};
-ghost use Rattle.checker_lengths.specs.Held.{watch_of};
+ghost use Rattle.checker_trace.specs.Code.{root_of, TableOf, TableIf, Sought, shorter_of, ShortestIs, Kept, Shows};
 
-use checker_account::{NAMES, NOTHING, PLACES, Resources, Table, WATCHED, Watch};
+use checker_account::{NAMES, PLACES, Table, WATCHED};
 use checker_lengths::{ALL, BROKEN, Entry, Lengths, MOST, NONE, SIZE, WatchOne};
-use usage::{POLICIES, STATICS, STEP_FIELDS};
+use usage::{POLICIES, Reason, STATICS, STEP_FIELDS};
 
 mod find;
 mod write;
@@ -19,16 +17,14 @@ mod write;
 // The room of the lent table: that of 200 steps, the most that are shown.
 pub const MOST_NUMBERS: usize = MOST as usize * STEP_FIELDS;
 
-// The answer: a trace of this many steps was written; every such trace is longer than 200 steps, also where there is none; or a
-// refusal with its number.
-#[derive(Clone, Copy)]
+// The answer: a trace of this many steps was written; or every such trace is longer than 200 steps, also where there is none.
+#[derive(Clone, Copy, PartialEq, Eq, Debug)]
 pub enum Length {
     Of(u8),
     Longer,
-    Refused(u8),
 }
 
-// The watched resource with the least length, and that length, 255 where there is none; and whether the table is still its own.
+// The watched resource with the least length, and that length; and whether the table is still its own.
 #[derive(Clone, Copy)]
 pub struct Shortest {
     pub resource: usize,
@@ -36,18 +32,21 @@ pub struct Shortest {
     pub kept: bool,
 }
 
-// The least length with one resource watched, 255 where there is none, and whether the table was filled for it.
+// Where to go on: by which rule of which node. Kept: a rule is a number, since the definitions number them (`offer_of` in
+// checker_lengths/specs/Offers), and a sequence has one for each end of its first node.
 #[derive(Clone, Copy)]
-pub struct Found {
-    pub length: u8,
-    pub filled: bool,
+pub struct Onto {
+    pub node: usize,
+    pub rule: usize,
 }
 
-// Where to go on: by a rule of a node, or nowhere.
+// What a trace is read from: the full table of lengths, the nodes, the moves of the policy, and what is watched.
 #[derive(Clone, Copy)]
-pub enum Onto {
-    By { node: usize, rule: usize },
-    Nothing,
+struct Tables<'a> {
+    lengths: &'a Lengths,
+    nodes: &'a [u8],
+    rows: &'a Table,
+    watch: WatchOne,
 }
 
 // How many steps are written, and the number of the next fresh resource.
@@ -57,7 +56,8 @@ pub struct Spot {
     pub next: u32,
 }
 
-// The number of the resource that each name means; 0 where none is given.
+// The number of the resource that each name means; 0 where none is given. Kept: what a name means is asked only where it is given
+// (`Agree` in specs/Code), so that an Option would be taken apart at each use and never be empty.
 #[derive(Clone, Copy)]
 pub struct Names {
     pub numbers: [u32; NAMES],
@@ -81,16 +81,13 @@ pub struct Way {
 }
 
 // The entry of the whole outline: to break the policy.
-fn root(x: usize) -> Entry
-    ensures { result ≡ root_of x }
+fn root(w: WatchOne) -> Entry
+    ensures { result ≡ root_of w.resource }
 {
     Entry {
         node: 0,
         opened: false,
-        meaning: checker_tables::numbers::least(Resources {
-            first: x,
-            second: NOTHING,
-        }),
+        meaning: checker_tables::numbers::least(w.resources()),
         state: 0,
         aim: BROKEN,
     }
@@ -101,78 +98,55 @@ fn table(nodes: &[u8], rows: &Table, w: WatchOne, t: &mut Lengths) -> bool
     ensures table_if { TableIf result w rows.now nodes.now t.new }
     ensures t_unchanged { result ≡ false → t.new ≡ t.old }
 {
-    let one = Watch {
-        local: w.local,
-        policy: w.policy,
-        resources: Resources {
-            first: w.resource,
-            second: NOTHING,
-        },
-    };
     let mut u = [0u16; PLACES];
-    if !checker_tables::arrive(nodes, rows, one, &mut u) {
+    if !checker_tables::arrive(nodes, rows, w.watch(), &mut u) {
         return false;
     }
     checker_lengths::fill::fill(nodes, rows, &u, w, t);
     true
 }
 
-// The least length with one resource watched; none where it need not be or is not hit.
-fn steps(nodes: &[u8], rows: &Table, w: WatchOne, t: &mut Lengths) -> Found
-    ensures sought { Sought w rows.now nodes.now result.length }
-    ensures t_unchanged { result.filled ≡ false → t.new ≡ t.old }
-    ensures table_of { result.length < no_length → TableOf w rows.now nodes.now t.new }
+// The least length with one resource watched, for which the table is filled then; none where it need not be or is not hit.
+fn steps(nodes: &[u8], rows: &Table, w: WatchOne, t: &mut Lengths) -> Option<u8>
+    ensures { Sought w rows.now nodes.now t.old result t.new }
 {
-    if !checker_tables::touched(nodes, w.resource) {
-        return Found {
-            length: NONE,
-            filled: false,
-        };
+    if !checker_tables::touched(nodes, w.resource) || !table(nodes, rows, w, t) {
+        return None;
     }
-    if !table(nodes, rows, w, t) {
-        return Found {
-            length: NONE,
-            filled: false,
-        };
-    }
-    let length = checker_lengths::entries::get(t, ALL, root(w.resource));
-    Found {
-        length,
-        filled: true,
+    Some(checker_lengths::entries::get(t, ALL, root(w)))
+}
+
+// The shorter of what was found and v steps with resource x watched, for which the table was filled since.
+fn shorter(found: Option<Shortest>, x: usize, v: u8) -> Shortest
+    ensures { result ≡ shorter_of found x v }
+{
+    match found {
+        Some(s) if s.length <= v => Shortest { kept: false, ..s },
+        _ => Shortest {
+            resource: x,
+            length: v,
+            kept: true,
+        },
     }
 }
 
-// The least of all watched resources.
-fn least(nodes: &[u8], rows: &Table, local: bool, p: usize, t: &mut Lengths) -> Shortest
+// The least of all watched resources; none where none is hit.
+fn least(nodes: &[u8], rows: &Table, local: bool, p: usize, t: &mut Lengths) -> Option<Shortest>
     ensures shortest_is { ShortestIs local p rows.now nodes.now result }
-    ensures table_of { result.kept ≡ true
-        → TableOf (watch_of local p result.resource) rows.now nodes.now t.new }
+    ensures kept { Kept local p rows.now nodes.now result t.new }
 {
-    let mut resource: usize = 0;
-    let mut length: u8 = NONE;
-    let mut kept = false;
-    let mut x: usize = 0;
-    while x <= WATCHED {
+    let mut found: Option<Shortest> = None;
+    for x in 0..=WATCHED {
         let w = WatchOne {
             local,
             policy: p,
             resource: x,
         };
-        let v = steps(nodes, rows, w, t);
-        if v.length < length {
-            resource = x;
-            length = v.length;
-            kept = true;
-        } else {
-            kept = kept & !v.filled;
+        if let Some(v) = steps(nodes, rows, w, t) {
+            found = Some(shorter(found, x, v));
         }
-        x += 1;
     }
-    Shortest {
-        resource,
-        length,
-        kept,
-    }
+    found
 }
 
 // The table for one watched resource, where it is not that already.
@@ -180,10 +154,7 @@ fn again(nodes: &[u8], rows: &Table, w: WatchOne, kept: bool, t: &mut Lengths) -
     requires { kept ≡ true → TableOf w rows.now nodes.now t.old }
     ensures { TableIf result w rows.now nodes.now t.new }
 {
-    if kept {
-        return true;
-    }
-    table(nodes, rows, w, t)
+    kept || table(nodes, rows, w, t)
 }
 
 // The trace of n steps. `kept`: the table is that of the watched resource.
@@ -214,12 +185,18 @@ fn show(
         next: STATICS,
     };
     let whole = Part {
-        entry: root(w.resource),
+        entry: root(w),
         steps: n,
         names,
         spot,
     };
-    write::write(t, nodes, rows, w, trace, whole);
+    let tables = Tables {
+        lengths: t,
+        nodes,
+        rows,
+        watch: w,
+    };
+    write::write(&tables, trace, whole);
 }
 
 // A shortest trace of the outline that leaves policy p open and not respected, written into the lent table, three numbers to a step;
@@ -231,28 +208,30 @@ pub fn counterexample(
     nodes: &[u8],
     p: usize,
     trace: &mut [u32],
-) -> Length
+) -> Result<Length, Reason>
     ensures { Told local edges.now nodes.now p trace.old result trace.new }
 {
     if trace.len() < MOST_NUMBERS {
-        return Length::Refused(40);
+        return Err(Reason::Room);
     }
     if !sheet_fields::edges::edge_table_ok(edges) {
-        return Length::Refused(41);
+        return Err(Reason::Table);
     }
     if !sheet_rules::node_table_ok(nodes) {
-        return Length::Refused(41);
+        return Err(Reason::Table);
     }
     if POLICIES <= p {
-        return Length::Longer;
+        return Ok(Length::Longer);
     }
     let mut rows = [0u16; PLACES];
     checker_rows::fill(edges, nodes, p, false, &mut rows);
     let mut t = [NONE; SIZE];
-    let found = least(nodes, &rows, local, p, &mut t);
+    let Some(found) = least(nodes, &rows, local, p, &mut t) else {
+        return Ok(Length::Longer);
+    };
     let n = found.length;
     if MOST < n {
-        return Length::Longer;
+        return Ok(Length::Longer);
     }
     let w = WatchOne {
         local,
@@ -260,5 +239,5 @@ pub fn counterexample(
         resource: found.resource,
     };
     show(nodes, &rows, w, n, found.kept, &mut t, trace);
-    Length::Of(n)
+    Ok(Length::Of(n))
 }

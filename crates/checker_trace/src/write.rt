@@ -5,13 +5,12 @@ ghost use Rattle.std.specs.Prelude.{◌≡◌, ℕ, ◌+◌, ◌*◌, ◌<◌, �
 ghost use Rattle.std.proofs.Math.Option.{some};
 ghost use Rattle.usage.specs.Limits.{step_fields, resources};
 ghost use Rattle.usage.specs.Outline.{sequence, fresh, sandbox};
-ghost use Rattle.checker_account.specs.Single.{no_name};
 ghost use Rattle.checker_trace.specs.Code.{stored_step, onward, created, given};
 ghost use Rattle.checker_trace.specs.Code.{first_part_lem, second_part_lem, body_part_lem, inner_part_lem, Room, Picked, PartWritten};
 
-use crate::{Names, Onto, Part, Spot, Way, find};
-use checker_account::{NAMES, Table};
-use checker_lengths::{BROKEN, Lengths, WatchOne, offers};
+use crate::{Names, Part, Spot, Tables, Way, find};
+use checker_account::NAMES;
+use checker_lengths::{BROKEN, WatchOne, entries, offers};
 use outline_nodes::NodeForm;
 use usage::STEP_FIELDS;
 
@@ -37,8 +36,7 @@ fn name(g: Names, i: u8) -> u32
 
 // The names once name i means v.
 fn give(mut g: Names, i: u8, v: u32) -> Names
-    ensures value { result ≡ given g i v }
-    ensures numbers_len { length result.numbers ≡ no_name }
+    ensures { result ≡ given g i v }
 {
     let k = i as usize;
     if k < NAMES {
@@ -83,13 +81,10 @@ fn create(trace: &mut [u32], s: Spot) -> Spot
 fn first_part(p: Part, y: Way, v: u8) -> Part
     ensures { result ≡ first_part_lem p y v }
 {
-    let names = p.names;
-    let spot = p.spot;
     Part {
         entry: offers::first(p.entry, y.a, y.rule),
         steps: v,
-        names,
-        spot,
+        ..p
     }
 }
 
@@ -98,20 +93,18 @@ fn second_part(p: Part, y: Way, v: u8, mid: Spot) -> Part
     requires { v ≤ p.steps }
     ensures { result ≡ second_part_lem p y v mid }
 {
-    let names = p.names;
     Part {
         entry: offers::second(p.entry, y.b, y.rule),
         steps: p.steps - v,
-        names,
         spot: mid,
+        ..p
     }
 }
 
 // The body of a fresh node, after its creation: its name means the resource that was created.
 fn body_part(p: Part, y: Way, made: Spot) -> Part
     requires { 1 ≤ p.steps }
-    ensures value { result ≡ body_part_lem p y made }
-    ensures numbers_len { length result.names.numbers ≡ no_name }
+    ensures { result ≡ body_part_lem p y made }
 {
     Part {
         entry: offers::body(p.entry, y.a, y.b, y.rule),
@@ -126,12 +119,11 @@ fn inner_part(w: WatchOne, p: Part, y: Way, n: u8, begun: Spot) -> Part
     requires { n ≤ p.steps }
     ensures { result ≡ inner_part_lem w p y n begun }
 {
-    let names = p.names;
     Part {
         entry: offers::inner(w, p.entry, y.a, y.b),
         steps: p.steps - n,
-        names,
         spot: begun,
+        ..p
     }
 }
 
@@ -139,62 +131,38 @@ fn inner_part(w: WatchOne, p: Part, y: Way, n: u8, begun: Spot) -> Part
 
 // By a rule of a sequence: its first node, to end in the way that the rule says, and then its second.
 #[cycle(writing)]
-fn write_sequence(
-    t: &Lengths,
-    nodes: &[u8],
-    rows: &Table,
-    w: WatchOne,
-    trace: &mut [u32],
-    p: Part,
-    y: Way,
-) -> Spot
-    requires room { Room nodes.now p trace.old }
-    requires picked { Picked w rows.now nodes.now t.now p (some (sequence y.a y.b)) y.rule }
-    ensures { PartWritten w rows.now nodes.now t.now p
+fn write_sequence(x: &Tables, trace: &mut [u32], p: Part, y: Way) -> Spot
+    requires room { Room x.now.nodes.now p trace.old }
+    requires picked { Picked x.now.watch x.now.rows.now x.now.nodes.now x.now.lengths.now p (some (sequence y.a y.b)) y.rule }
+    ensures { PartWritten x.now.watch x.now.rows.now x.now.nodes.now x.now.lengths.now p
         trace.old result trace.new }
 {
-    let v = checker_lengths::entries::get(t, p.steps, offers::first(p.entry, y.a, y.rule));
-    let mid = write(t, nodes, rows, w, trace, first_part(p, y, v));
-    write(t, nodes, rows, w, trace, second_part(p, y, v, mid))
+    let v = entries::get(x.lengths, p.steps, offers::first(p.entry, y.a, y.rule));
+    let mid = write(x, trace, first_part(p, y, v));
+    write(x, trace, second_part(p, y, v, mid))
 }
 
 // By a rule of a fresh node: its creation, and then its body.
 #[cycle(writing)]
-fn write_fresh(
-    t: &Lengths,
-    nodes: &[u8],
-    rows: &Table,
-    w: WatchOne,
-    trace: &mut [u32],
-    p: Part,
-    y: Way,
-) -> Spot
-    requires room { Room nodes.now p trace.old }
-    requires picked { Picked w rows.now nodes.now t.now p (some (fresh y.a y.b)) y.rule }
-    ensures { PartWritten w rows.now nodes.now t.now p
+fn write_fresh(x: &Tables, trace: &mut [u32], p: Part, y: Way) -> Spot
+    requires room { Room x.now.nodes.now p trace.old }
+    requires picked { Picked x.now.watch x.now.rows.now x.now.nodes.now x.now.lengths.now p (some (fresh y.a y.b)) y.rule }
+    ensures { PartWritten x.now.watch x.now.rows.now x.now.nodes.now x.now.lengths.now p
         trace.old result trace.new }
 {
     let made = create(trace, p.spot);
     if BROKEN <= y.rule {
         return made;
     }
-    write(t, nodes, rows, w, trace, body_part(p, y, made))
+    write(x, trace, body_part(p, y, made))
 }
 
 // By a rule of a sandbox: its opening, its body, and where that ends its closing.
 #[cycle(writing)]
-fn write_sandbox(
-    t: &Lengths,
-    nodes: &[u8],
-    rows: &Table,
-    w: WatchOne,
-    trace: &mut [u32],
-    p: Part,
-    y: Way,
-) -> Spot
-    requires room { Room nodes.now p trace.old }
-    requires picked { Picked w rows.now nodes.now t.now p (some (sandbox y.a y.b)) y.rule }
-    ensures { PartWritten w rows.now nodes.now t.now p
+fn write_sandbox(x: &Tables, trace: &mut [u32], p: Part, y: Way) -> Spot
+    requires room { Room x.now.nodes.now p trace.old }
+    requires picked { Picked x.now.watch x.now.rows.now x.now.nodes.now x.now.lengths.now p (some (sandbox y.a y.b)) y.rule }
+    ensures { PartWritten x.now.watch x.now.rows.now x.now.nodes.now x.now.lengths.now p
         trace.old result trace.new }
 {
     let begun = step(trace, p.spot, OPENING, y.a as u32, 0);
@@ -202,34 +170,28 @@ fn write_sandbox(
         return begun;
     }
     if p.entry.aim == BROKEN {
-        return write(t, nodes, rows, w, trace, inner_part(w, p, y, 1, begun));
+        return write(x, trace, inner_part(x.watch, p, y, 1, begun));
     }
-    let done = write(t, nodes, rows, w, trace, inner_part(w, p, y, 2, begun));
+    let done = write(x, trace, inner_part(x.watch, p, y, 2, begun));
     step(trace, done, CLOSING, y.a as u32, 0)
 }
 
 // The part: where its entry is gone on from, by the rule that is found there.
 #[cycle(writing)]
-pub(crate) fn write(
-    t: &Lengths,
-    nodes: &[u8],
-    rows: &Table,
-    w: WatchOne,
-    trace: &mut [u32],
-    p: Part,
-) -> Spot
-    requires { Room nodes.now p trace.old }
-    ensures { PartWritten w rows.now nodes.now t.now p
+pub(crate) fn write(x: &Tables, trace: &mut [u32], p: Part) -> Spot
+    requires { Room x.now.nodes.now p trace.old }
+    ensures { PartWritten x.now.watch x.now.rows.now x.now.nodes.now x.now.lengths.now p
         trace.old result trace.new }
 {
     if p.steps == 0 {
         return p.spot;
     }
-    let o = find::find(t, nodes, rows, w, p.entry, p.steps);
-    let Onto::By { node: k, rule } = o else {
+    let Some(o) = find::find(x, p.entry, p.steps) else {
         return p.spot;
     };
-    let f = outline_nodes::form(nodes, k);
+    let Some(f) = outline_nodes::form(x.nodes, o.node) else {
+        return p.spot;
+    };
     match f {
         NodeForm::OnStatic { action, resource } => {
             step(trace, p.spot, EVENT, action as u32, resource as u32)
@@ -244,25 +206,16 @@ pub(crate) fn write(
         NodeForm::Sequence {
             first: a,
             second: b,
-        } => write_sequence(t, nodes, rows, w, trace, p, Way { a, b, rule }),
+        } => write_sequence(x, trace, p, Way { a, b, rule: o.rule }),
         NodeForm::Fresh { name: a, body: b } => write_fresh(
-            t,
-            nodes,
-            rows,
-            w,
+            x,
             trace,
             p,
-            Way { a, b, rule },
+            Way { a, b, rule: o.rule },
         ),
-        NodeForm::Sandbox { policy: a, body: b } => write_sandbox(
-            t,
-            nodes,
-            rows,
-            w,
-            trace,
-            p,
-            Way { a, b, rule },
-        ),
+        NodeForm::Sandbox { policy: a, body: b } => {
+            write_sandbox(x, trace, p, Way { a, b, rule: o.rule })
+        }
         _ => p.spot,
     }
 }

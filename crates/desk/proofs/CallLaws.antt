@@ -13,6 +13,7 @@ use Rattle.usage.specs.Judge.{step_of}
 use Rattle.usage.specs.Tables.{is_edge_table}
 use Rattle.usage.proofs.Logic.{and-false, false-true}
 use Rattle.monitor_state.specs.declared.Answer.{Answer}
+use Rattle.usage.specs.Reasons.{number_of}
 use Rattle.monitor_state.specs.declared.Answer.TheVariants.{Allowed, Violated, Refused}
 use Rattle.monitor_state.specs.declared.Judgement.{Judgement}
 use Rattle.monitor_state.specs.Judge.{verdict_of, state_ok_lem, refuse}
@@ -128,10 +129,10 @@ module _ (b : List ℕ) (h : Head) (raw : RawStep) (l : desk_bytes ≤ length b)
           (no_desk l (not_sound b h is pol (bad p s)))
       go (Refused n) q r true p true s =
           let f : (asked lean).answer ≡ Refused n = ap (λ (k : Judgement). k.answer) (sym e) ∙ q in
-          let apart : n ≡ 41 → ⊥ = not-41 (looks_of lean (summary_in b)) (edges_in b h) (local_in h) (judge_in b h) raw p s n f in
-          let shown : told j.answer ≡ refused n = ap told q ∙ ap (λ x. refused (cond x 42 n)) (ne_eqb n 41 apart) in
+          let apart : number_of n ≡ 41 → ⊥ = not-41 (looks_of lean (summary_in b)) (edges_in b h) (local_in h) (judge_in b h) raw p s n f in
+          let shown : told j.answer ≡ refused (number_of n) = ap told q ∙ ap (λ x. refused (cond x 42 (number_of n))) (ne_eqb (number_of n) 41 apart) in
           subst (λ (v : Verdict). Called (ByStep raw) b (desk_code (given_by v lean)) b) (sym shown)
-          (called-step (ap₂ (λ x y. x && y) p s) (plain (refused n)) _ b
+          (called-step (ap₂ (λ x y. x && y) p s) (plain (refused (number_of n))) _ b
           (ap given_step (reply-is lean same) ∙ ap (λ (a : Answer). given_by (verdict_of a) (stays_on d.outline (step_of raw))) f) refl refl)
 
   -- the desk after a step that is not refused

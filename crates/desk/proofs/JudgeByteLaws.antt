@@ -16,6 +16,7 @@ use Rattle.monitor_sets.specs.Instances.{set_places}
 use Rattle.monitor_state.specs.declared.State.{State}
 use Rattle.monitor_state.specs.declared.Sizes.{Sizes}
 use Rattle.monitor_state.specs.Judge.{pair_sets}
+use Rattle.usage.specs.declared.Reason.{Reason}
 use Rattle.monitor_state.specs.declared.Answer.{Answer}
 use Rattle.monitor_state.specs.declared.Answer.TheVariants.{Allowed, Violated, Refused}
 use Rattle.monitor_state.specs.declared.Judgement.{Judgement}
@@ -25,29 +26,12 @@ use Rattle.desk.specs.Promise.{is_refusal_lem}
 use Rattle.desk.specs.declared.Head.{Head}
 use Rattle.desk.specs.declared.Held.{Held}
 use Rattle.desk.specs.Layout.{desk_bytes, edges_at, created_at, possible_at, unclosed_at, order_at, sets_at, pairs_at, rows_at, byte_at, word_at, numbers_in}
-use Rattle.desk.specs.Layout.{bytes_in, head_in_lem, Got, Put, Within}
+use Rattle.desk.specs.Layout.{bytes_in, head_in_lem, Put, Within}
 use Rattle.desk.specs.JudgeBytes.{held_in_lem, pairs_in, judge_in, lent_by, sizes_in_lem, head_with, held_of, Copied, Arrays, JudgedIn, Stored}
-use Rattle.desk_positions.proofs.CopyLaws.{bytes-local, words-local, got-all, put_all, numbers-kept, slice_is, part-put}
+use Rattle.desk_positions.proofs.CopyLaws.{bytes-local, words-local, put_all, numbers-kept, slice_is, part-put}
 use Rattle.desk.proofs.HeadLaws.{put-within}
 
 -- ── Out of the bytes ──
-
-pub held-got : (b z₁ z₂ z₃ z₄ z₅ sets possible numbers counts order : List ℕ)
-    → Got byte_at 1 b sets_at set_places z₁ sets → length z₁ ≡ set_places
-    → Got byte_at 1 b possible_at policies z₂ possible → length z₂ ≡ policies
-    → Got word_at 4 b created_at most_created z₃ numbers → length z₃ ≡ most_created
-    → Got byte_at 1 b unclosed_at policies z₄ counts → length z₄ ≡ policies
-    → Got byte_at 1 b order_at most_unclosed z₅ order → length z₅ ≡ most_unclosed
-    → record { sets = sets; possible = possible; numbers = numbers; counts = counts; order = order } ≡ held_in_lem b
-unfolding held_in_lem
-held-got b z₁ z₂ z₃ z₄ z₅ sets possible numbers counts order g₁ l₁ g₂ l₂ g₃ l₃ g₄ l₄ g₅ l₅ =
-    rw (
-      got-all byte_at 1 b sets_at set_places z₁ sets g₁ l₁,
-      got-all byte_at 1 b possible_at policies z₂ possible g₂ l₂,
-      got-all word_at 4 b created_at most_created z₃ numbers g₃ l₃,
-      got-all byte_at 1 b unclosed_at policies z₄ counts g₄ l₄,
-      got-all byte_at 1 b order_at most_unclosed z₅ order g₅ l₅,
-    )
 
 pub judge-is : (b : List ℕ) (h : Head) (k : Held) (z : Sizes) → k ≡ held_in_lem b → z ≡ sizes_in_lem h → state_of (lent_by k (pairs_in b)) z ≡ judge_in b h
 unfolding judge_in
@@ -208,14 +192,14 @@ arrays-kept b b₁ b₂ s a w = record {
 
 -- ── One step ──
 
-refused-by : (a : Answer) → is_refusal_lem a ≡ true → (n : ℕ) × (a ≡ Refused n)
+refused-by : (a : Answer) → is_refusal_lem a ≡ true → (n : Reason) × (a ≡ Refused n)
 refused-by Allowed e = false-true e
 refused-by (Violated p) e = false-true e
 refused-by (Refused n) e = (n, refl)
 
 module _ (b : List ℕ) (l : desk_bytes ≤ length b) (j : Judgement) (t : Told) (k : Held) (pairs : List ℕ) (n : length pairs ≡ pair_sets)
     (is : judgement_of t (lent_by k pairs) ≡ j) where
-  pub judged-refused : (h : Head) → ((m : ℕ) → j.answer ≡ Refused m → j.state ≡ judge_in b h) → is_refusal_lem t.answer ≡ true
+  pub judged-refused : (h : Head) → ((m : Reason) → j.answer ≡ Refused m → j.state ≡ judge_in b h) → is_refusal_lem t.answer ≡ true
       → JudgedIn j b t (take pairs_at b ++ (pairs ++ drop (rows_at - pairs_at) (drop pairs_at b)))
   unfolding judge_in
   judged-refused h kept r = record {

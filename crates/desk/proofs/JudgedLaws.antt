@@ -14,6 +14,9 @@ use Rattle.usage.specs.Past.{Step, event, opening, closing, retiring}
 use Rattle.usage.specs.Judge.{step_of}
 use Rattle.usage.specs.Tables.{edges_of, is_edge_table}
 use Rattle.usage.proofs.Logic.{and_left, and_right, false-true}
+use Rattle.usage.specs.declared.Reason.{Reason}
+use Rattle.usage.specs.declared.Reason.TheVariants.{Halted, NoStep, CreateStatic, NotLive, NotOpen, NotNewest, NotAbove, RetireNotLive, TooManyLive, TooManyOpen, Table, State as Unfit}
+use Rattle.usage.specs.Reasons.{number_of}
 use Rattle.monitor_state.specs.declared.State.{State}
 use Rattle.monitor_state.specs.declared.Answer.{Answer}
 use Rattle.monitor_state.specs.declared.Answer.TheVariants.{Allowed, Violated, Refused}
@@ -42,7 +45,7 @@ after-near local es s (retiring r) = (omega arith, omega arith)
 unfoldable GoodFor : State → Answer → State → Type 0
 GoodFor s Allowed t = Near s t
 GoodFor s (Violated p) t = Near s t
-GoodFor s (Refused n) t = n ≡ 41 → ⊥
+GoodFor s (Refused n) t = number_of n ≡ 41 → ⊥
 
 unfoldable Good : State → Judgement → Type 0
 Good s j = GoodFor s j.answer j.state
@@ -51,7 +54,7 @@ either-good : (s : State) (b : Bool) (j k : Judgement) → Good s j → Good s k
 either-good s true j k x y = x
 either-good s false j k x y = y
 
-refuse-good : (n : ℕ) (s : State) → (n ≡ 41 → ⊥) → Good s (refuse n s)
+refuse-good : (n : Reason) (s : State) → (number_of n ≡ 41 → ⊥) → Good s (refuse n s)
 unfolding refuse Good GoodFor
 refuse-good n s h = h
 
@@ -62,27 +65,27 @@ settle-good bad s t h =
 
 -- ── The numbers of a step that was read ──
 
-unfoldable NotTable : Option ℕ → Type 0
+unfoldable NotTable : Option Reason → Type 0
 NotTable none = Unit {0}
-NotTable (some n) = n ≡ 41 → ⊥
+NotTable (some n) = number_of n ≡ 41 → ⊥
 
-either-not : (b : Bool) (x y : Option ℕ) → NotTable x → NotTable y → NotTable (cond b x y)
+either-not : (b : Bool) (x y : Option Reason) → NotTable x → NotTable y → NotTable (cond b x y)
 either-not true x y f g = f
 either-not false x y f g = g
 
 refusal-not : (s : State) (step : Step) → NotTable (refusal s step)
 unfolding refusal NotTable
 refusal-not s (event zero r) =
-    either-not (ltb r statics) (some 22) (cond (leb r s.created.highest) (some 27) (cond (leb most_created s.created.count) (some 30) none)) (λ e. omega arith)
-    (either-not (leb r s.created.highest) (some 27) (cond (leb most_created s.created.count) (some 30) none) (λ e. omega arith) (either-not (leb most_created s.created.count) (some 30) none (λ e. omega arith) tt))
-refusal-not s (event (suc a) r) = either-not (ltb r statics || listed r (live s.created)) none (some 24) tt (λ e. omega arith)
-refusal-not s (opening p) = either-not (leb most_unclosed s.unclosed.depth) (some 32) none (λ e. omega arith) tt
+    either-not (ltb r statics) (some CreateStatic) (cond (leb r s.created.highest) (some NotAbove) (cond (leb most_created s.created.count) (some TooManyLive) none)) (λ e. omega arith)
+    (either-not (leb r s.created.highest) (some NotAbove) (cond (leb most_created s.created.count) (some TooManyLive) none) (λ e. omega arith) (either-not (leb most_created s.created.count) (some TooManyLive) none (λ e. omega arith) tt))
+refusal-not s (event (suc a) r) = either-not (ltb r statics || listed r (live s.created)) none (some NotLive) tt (λ e. omega arith)
+refusal-not s (opening p) = either-not (leb most_unclosed s.unclosed.depth) (some TooManyOpen) none (λ e. omega arith) tt
 refusal-not s (closing p) =
-    either-not (ltb 0 (openings_of s.unclosed p)) (cond (eqb (last_opened s.unclosed) p) none (some 26)) (some 25)
-    (either-not (eqb (last_opened s.unclosed) p) none (some 26) tt (λ e. omega arith)) (λ e. omega arith)
-refusal-not s (retiring r) = either-not (not (ltb r statics) && listed r (live s.created)) none (some 28) tt (λ e. omega arith)
+    either-not (ltb 0 (openings_of s.unclosed p)) (cond (eqb (last_opened s.unclosed) p) none (some NotNewest)) (some NotOpen)
+    (either-not (eqb (last_opened s.unclosed) p) none (some NotNewest) tt (λ e. omega arith)) (λ e. omega arith)
+refusal-not s (retiring r) = either-not (not (ltb r statics) && listed r (live s.created)) none (some RetireNotLive) tt (λ e. omega arith)
 
-step-good : (looks : Looks) (local : Bool) (es : List Edge) (s : State) (step : Step) (o : Option ℕ) → NotTable o
+step-good : (looks : Looks) (local : Bool) (es : List Edge) (s : State) (step : Step) (o : Option Reason) → NotTable o
     → Good s (judge_step_by looks local es s step o)
 unfolding judge_step_by NotTable
 step-good looks local es s step none h = settle-good _ s (after local es s step) (after-near local es s step)
@@ -90,24 +93,24 @@ step-good looks local es s step (some n) h = refuse-good n s h
 
 read-good : (looks : Looks) (local : Bool) (es : List Edge) (s : State) (o : Option Step) → Good s (judge_read_by looks local es s o)
 unfolding judge_read_by
-read-good looks local es s none = refuse-good 21 s (λ e. omega arith)
+read-good looks local es s none = refuse-good NoStep s (λ e. omega arith)
 read-good looks local es s (some step) = step-good looks local es s step (refusal s step) (refusal-not s step)
 
 -- ── The judge ──
 
 module _ (looks : Looks) (t : List ℕ) (local : Bool) (s : State) (raw : RawStep) where
-  pub judge-41 : is_edge_table t ≡ false → judge_by looks t local s raw ≡ refuse 41 s
+  pub judge-41 : is_edge_table t ≡ false → judge_by looks t local s raw ≡ refuse Table s
   unfolding judge_by
   judge-41 p = rw p
 
-  pub judge-42 : is_edge_table t ≡ true → state_ok_lem s ≡ false → judge_by looks t local s raw ≡ refuse 42 s
+  pub judge-42 : is_edge_table t ≡ true → state_ok_lem s ≡ false → judge_by looks t local s raw ≡ refuse Unfit s
   unfolding judge_by
   judge-42 p q = rw (p, q)
 
   judge-good : is_edge_table t ≡ true → state_ok_lem s ≡ true → Good s (judge_by looks t local s raw)
   unfolding judge_by
   judge-good p q =
-      rw (p, q) (either-good s s.halted (refuse 20 s) _ (refuse-good 20 s (λ e. omega arith)) (read-good looks local (edges_of t) s (step_of raw)))
+      rw (p, q) (either-good s s.halted (refuse Halted s) _ (refuse-good Halted s (λ e. omega arith)) (read-good looks local (edges_of t) s (step_of raw)))
 
   -- a step that is not refused had a good table and a good state
   pub taken-ok : is_refusal_lem (judge_by looks t local s raw).answer ≡ false → (is_edge_table t ≡ true) × (state_ok_lem s ≡ true)
@@ -119,7 +122,7 @@ module _ (looks : Looks) (t : List ℕ) (local : Bool) (s : State) (raw : RawSte
       go true p false q = false-true (sym e ∙ ap (λ (j : Judgement). is_refusal_lem j.answer) (judge-42 p q))
       go true p true q = (p, q)
 
-  pub not-41 : is_edge_table t ≡ true → state_ok_lem s ≡ true → (n : ℕ) → (judge_by looks t local s raw).answer ≡ Refused n → n ≡ 41 → ⊥
+  pub not-41 : is_edge_table t ≡ true → state_ok_lem s ≡ true → (n : Reason) → (judge_by looks t local s raw).answer ≡ Refused n → number_of n ≡ 41 → ⊥
   unfolding Good GoodFor
   not-41 p q n e = subst (λ (a : Answer). GoodFor s a (judge_by looks t local s raw).state) e (judge-good p q)
 
@@ -152,7 +155,7 @@ module _ (looks : Looks) (t : List ℕ) (local : Bool) (s : State) (raw : RawSte
   none-refused e = rw e (go (is_edge_table t) (state_ok_lem s) s.halted)
     where
       go : (x y z : Bool)
-          → is_refusal_lem (cond (not x) (refuse 41 s) (cond (not y) (refuse 42 s) (cond z (refuse 20 s) (refuse 21 s)))).answer ≡ true
+          → is_refusal_lem (cond (not x) (refuse Table s) (cond (not y) (refuse Unfit s) (cond z (refuse Halted s) (refuse NoStep s)))).answer ≡ true
       go false y z = refl
       go true false z = refl
       go true true true = refl

@@ -1,20 +1,18 @@
 -- Loads, from what the functions tell.
-use Prim.Native.Nat.{ℕ, ◌+◌, ◌*◌, ◌<◌, ◌≤◌}
+use Prim.Native.Nat.{ℕ, ◌*◌, ◌<◌, ◌≤◌}
 use mathlib.Core.Path.{◌≡◌, refl, sym, ap, ap₂, ◌∙◌, subst}
 use mathlib.Core.Bool.{Bool, true, false, not, ◌&&◌, cond}
 use mathlib.Core.Option.{none, some}
 use mathlib.Core.List.{List, flatten}
 use mathlib.Core.Logic.{◌⊎◌, inl, inr}
 use native.Mathlib.Omega.{arith}
-use lib.Dec.{eqb}
+use lib.Dec.{eqb, ltb}
 use lib.ListN.{length, get_or, take}
-use lib.Seq.{length-take-le, get_or-take}
-use borrow.Author.Tests.{ne_eqb, lt-ltb}
+use borrow.Author.Tests.{ne_eqb}
 use Rattle.usage.specs.Limits.{most_edges, edge_fields, edge_places}
 use Rattle.usage.specs.Answers.{refused}
 use Rattle.usage.specs.Tables.{is_edge_table, is_node_table}
 use Rattle.usage.proofs.Logic.{and_left, and_right, and-false}
-use Rattle.usage.proofs.TableLaws.{is-from}
 use Rattle.sheet_lines.specs.Sheet.{Result, refused as sheet-refused}
 use Rattle.sheet_lines.specs.Sheets.{is_local, policy_sheet}
 use Rattle.sheet_reader.specs.Readers.{policies_read, policies_into}
@@ -24,13 +22,14 @@ use Rattle.monitor_state.specs.declared.State.{State}
 use Rattle.monitor_state.specs.Judge.{state_ok_lem, live_ok, unclosed_ok, created_ok, highest_ok, order_ok_lem, start_state, start_created, start_unclosed}
 use Rattle.desk_positions.specs.Reading.{rows_ok_lem}
 use Rattle.desk.specs.declared.Head.{Head}
-use Rattle.desk.specs.Layout.{Read, desk_bytes, edges_at, byte_at, numbers_in, head_in_lem, Put, Within}
+use Rattle.desk.specs.Layout.{desk_bytes, edges_at, byte_at, head_in_lem, Put, Within}
 use Rattle.desk.specs.JudgeBytes.{judge_in, head_with, Small, Stored}
 use Rattle.desk.specs.State.{local_in, edges_in, nodes_in, table_in, outlined_in, loaded_in, desk_by, desk_in, head_ok_lem, is_listed_lem, rows_fit}
 use Rattle.desk.specs.State.{encoded_by, is_encoded, is_sound_lem, desk_of, Encodes}
 use Rattle.desk.specs.Desk.{is_busy_lem, with_policies, LoadsPolicies}
 use Rattle.desk.specs.Calls.{desk_code, plain, Called, called, ByPolicies, loaded}
 use Rattle.desk.specs.Code.{most_line}
+use Rattle.desk_positions.proofs.CopyLaws.{put_all}
 use Rattle.desk.proofs.CallLaws.{desk-is}
 use Rattle.desk.proofs.StepLaws.{parts-head, left-encodes}
 
@@ -100,29 +99,19 @@ module _ (b : List ℕ) (h : Head) (is : head_in_lem b ≡ h) where
 -- ── 52 ──
 
 module _ (h : Head) (b : List ℕ) where
-  pub busy-none : h.policies ≡ 0 → false ≡ is_busy_lem (desk_by b h)
-  unfolding desk_by
-  busy-none e = rw e
-
-  pub busy-closed : (h.policies ≡ 0 → ⊥) → h.depth ≡ 0 → false ≡ is_busy_lem (desk_by b h)
+  pub busy-is : (not (eqb h.policies 0) && (ltb 0 h.depth && not (eqb h.halted 1))) ≡ is_busy_lem (desk_by b h)
   unfolding desk_by loaded_in judge_in
-  busy-closed p e = rw (ne_eqb _ _ p, e)
-
-  pub busy-open : (h.policies ≡ 0 → ⊥) → 0 < h.depth → not (eqb h.halted 1) ≡ is_busy_lem (desk_by b h)
-  unfolding desk_by loaded_in judge_in
-  busy-open p e = rw (ne_eqb _ _ p, lt-ltb _ _ e)
+  busy-is = go (eqb h.policies 0)
+    where
+      go : (x : Bool) → (not x && (ltb 0 h.depth && not (eqb h.halted 1))) ≡ is_busy_lem (cond x none (some (loaded_in b h)))
+      go true = refl
+      go false = refl
 
 -- ── Policies ──
 
 pub start_small : (s : State) → s ≡ start_state → Small s
 unfolding start_state start_created start_unclosed
 start_small s e = rw e (omega arith, omega arith)
-
-put-take : (read : Read) (w : ℕ) (b₀ : List ℕ) (place n : ℕ) (l b : List ℕ) → Put read w b₀ place n l b → n ≤ length l
-    → numbers_in read w place n b ≡ take n l
-unfolding numbers_in
-put-take read w b₀ place n l b p h =
-    sym (is-from (λ i. read b (place + w * i)) 0 n (take n l) (length-take-le n l h) (λ i k. get_or-take n l i 0 k ∙ sym (p.inside i k)))
 
 abbrev policies_head : ℕ → Bool → Head
 policies_head n local =
@@ -148,15 +137,15 @@ no_outline : (n : ℕ) (local : Bool) (s : State) (b : List ℕ) → outlined_in
 unfolding outlined_in head_with
 no_outline n local s b = refl
 
-edges-put : (b b₁ edges : List ℕ) (n : ℕ) (local : Bool) → Put byte_at 1 b edges_at (edge_fields * n) edges b₁ → edge_fields * n ≤ length edges
-    → edges_in b₁ (policies_head n local) ≡ take (edge_fields * n) edges
+edges-put : (b b₁ rows : List ℕ) (n : ℕ) (local : Bool) → Put byte_at 1 b edges_at (edge_fields * n) rows b₁ → length rows ≡ edge_fields * n
+    → edges_in b₁ (policies_head n local) ≡ rows
 unfolding edges_in
-edges-put b b₁ edges n local p l = put-take byte_at 1 b edges_at (edge_fields * n) edges b₁ p l
+edges-put b b₁ rows n local p l = put_all byte_at 1 b edges_at (edge_fields * n) rows b₁ p l
 
-pub policies-stored : (b b₁ b' edges : List ℕ) (n : ℕ) (local : Bool) (h : Head) (s : State) → n ≤ most_edges → edge_fields * n ≤ length edges
-    → Put byte_at 1 b edges_at (edge_fields * n) edges b₁ → h ≡ policies_head n local → s ≡ start_state → Stored b₁ h s 0 b'
-    → Encodes b' (with_policies (take (edge_fields * n) edges) local) × Within b 0 desk_bytes b'
-policies-stored b b₁ b' edges n local h s few l p e f st = (encodes, record { long = st.long ∙ p.long; outside = outside })
+pub policies-stored : (b b₁ b' rows : List ℕ) (n : ℕ) (local : Bool) (h : Head) (s : State) → n ≤ most_edges → length rows ≡ edge_fields * n
+    → Put byte_at 1 b edges_at (edge_fields * n) rows b₁ → h ≡ policies_head n local → s ≡ start_state → Stored b₁ h s 0 b'
+    → Encodes b' (with_policies rows local) × Within b 0 desk_bytes b'
+policies-stored b b₁ b' rows n local h s few l p e f st = (encodes, record { long = st.long ∙ p.long; outside = outside })
   where
     st₁ : Stored b₁ (policies_head n local) start_state 0 b'
     st₁ = subst (λ (s : State). Stored b₁ (policies_head n local) s 0 b') f (subst (λ (h : Head). Stored b₁ h s 0 b') e st)
@@ -170,10 +159,10 @@ policies-stored b b₁ b' edges n local h s few l p e f st = (encodes, record { 
       halted = omega arith;
     })
 
-    encodes : Encodes b' (with_policies (take (edge_fields * n) edges) local)
+    encodes : Encodes b' (with_policies rows local)
     encodes =
-        subst (λ (x : Bool). Encodes b' (with_policies (take (edge_fields * n) edges) x)) (local-again local)
-        (subst (λ (t : List ℕ). Encodes b' (with_policies t (local_in (policies_head n local)))) (edges-put b b₁ edges n local p l)
+        subst (λ (x : Bool). Encodes b' (with_policies rows x)) (local-again local)
+        (subst (λ (t : List ℕ). Encodes b' (with_policies t (local_in (policies_head n local)))) (edges-put b b₁ rows n local p l)
         (left-encodes b₁ b₁ b' (policies_head n local) start_state 0 good st₁ (λ m x y. refl) (some-policies local) (omega arith)
         (no-list n local start_state b') none (no_outline n local start_state b')))
 

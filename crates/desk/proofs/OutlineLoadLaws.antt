@@ -152,14 +152,6 @@ module _ (b b₁ b₂ b₃ b' nodes marks : List ℕ) (h : Head) (k : ℕ) (ok :
   outline-kept g' s e f st =
       outline-stored (subst (λ (s : State). Stored b₃ g s k b') f (subst (λ (g : Head). Stored b₃ g s k b') e st))
 
--- ── An answer as one number ──
-
-pub named-code : (p : ℕ) → p + 256 ≡ desk_code (plain (violated p))
-named-code p = omega arith
-
-pub number-code : (n : ℕ) → n + 512 ≡ desk_code (plain (refused n))
-number-code n = omega arith
-
 -- ── The check and the summary ──
 
 module _ (local : Bool) (edges nodes : List ℕ) (e : is_edge_table edges ≡ true) (n : is_node_table nodes ≡ true) where

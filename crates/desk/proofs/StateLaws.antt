@@ -1,6 +1,6 @@
 -- The desk that bytes encode, part by part.
 use Prim.Native.Nat.{ℕ, ◌+◌, ◌-◌, ◌*◌, ◌<◌, ◌≤◌}
-use mathlib.Core.Path.{◌≡◌, refl, ◌∙◌}
+use mathlib.Core.Path.{◌≡◌, refl, ap, ◌∙◌}
 use mathlib.Core.Bool.{Bool}
 use mathlib.Core.Option.{some}
 use mathlib.Core.List.{List}
@@ -9,7 +9,7 @@ use lib.ListN.{length, take, drop}
 use lib.Seq.{length-take-le, get_or-take}
 use Rattle.usage.specs.declared.RawStep.{RawStep}
 use Rattle.usage.specs.Limits.{policies, most_edges, most_nodes, edge_fields, node_fields, edge_places, node_places}
-use Rattle.usage.proofs.TableLaws.{is-from}
+use Rattle.usage.proofs.TableLaws.{is-from, length_from, get_d-from}
 use Rattle.usage.specs.Past.{Step}
 use Rattle.usage.specs.Judge.{step_of}
 use Rattle.automaton.specs.Mask.{has}
@@ -18,7 +18,7 @@ use Rattle.monitor_state.specs.Lent.{state_of}
 use Rattle.monitor_state.specs.Looked.{judge_by, judge_sized, looked_at}
 use Rattle.monitor_state.proofs.LookedLaws.{sized-by, sized-alike}
 use Rattle.desk.specs.declared.Head.{Head}
-use Rattle.desk.specs.Layout.{desk_bytes, edges_at, nodes_at, numbers_in, byte_at, Got}
+use Rattle.desk.specs.Layout.{desk_bytes, edges_at, nodes_at, numbers_in, bytes_in, byte_at}
 use Rattle.desk.specs.declared.Held.{Held}
 use Rattle.desk.specs.JudgeBytes.{held_in_lem, pairs_in, lent_by, sizes_in_lem, judge_in}
 use Rattle.desk.specs.State.{edges_in, nodes_in, local_in, summary_in, looks_of}
@@ -37,23 +37,24 @@ pub nodes-lent : (b : List ℕ) (h : Head) → desk_bytes ≤ length b → h.nod
 unfolding nodes_in
 nodes-lent b h l k = slice_is b nodes_at (node_fields * h.nodes) (nodes_at + node_fields * h.nodes) refl (omega arith)
 
--- the nodes copied to a table of their own
-pub nodes-got : (b : List ℕ) (h : Head) (zeros t : List ℕ) (m : ℕ) → length zeros ≡ node_places → h.nodes ≤ most_nodes
-    → Got byte_at 1 b nodes_at (node_fields * h.nodes) zeros t → m ≡ node_fields * h.nodes → take m (drop 0 t) ≡ nodes_in b h
-unfolding nodes_in numbers_in
-nodes-got b h zeros t m l k g e =
-    is-from (λ i. byte_at b (nodes_at + 1 * i)) 0 (node_fields * h.nodes) (take m (drop 0 t))
-    (length-take-le m (drop 0 t) (let z = g.long in omega arith) ∙ e)
-    (λ i x. get_or-take m (drop 0 t) i 0 (omega arith) ∙ g.inside i x)
+-- the nodes and the edges in tables of their own
+first-of : (b : List ℕ) (place n m k : ℕ) → n ≤ m → k ≡ n → take k (drop 0 (bytes_in place m b)) ≡ bytes_in place n b
+unfolding numbers_in
+first-of b place n m k h e =
+    is-from (λ i. byte_at b (place + 1 * i)) 0 n (take k (drop 0 (bytes_in place m b)))
+    (length-take-le k (bytes_in place m b) (let z = length_from (λ i. byte_at b (place + 1 * i)) 0 m in omega arith) ∙ e)
+    (λ i x. get_or-take k (bytes_in place m b) i 0 (omega arith) ∙ get_d-from (λ i. byte_at b (place + 1 * i)) 0 m i 0 (omega arith)
+    ∙ ap (λ (j : ℕ). byte_at b (place + 1 * j)) (let z : 0 + i ≡ i = omega arith in z))
 
--- the edges copied to a table of their own
-pub edges-got : (b : List ℕ) (h : Head) (zeros t : List ℕ) (m : ℕ) → length zeros ≡ edge_places → h.edges ≤ most_edges
-    → Got byte_at 1 b edges_at (edge_fields * h.edges) zeros t → m ≡ edge_fields * h.edges → take m (drop 0 t) ≡ edges_in b h
-unfolding edges_in numbers_in
-edges-got b h zeros t m l k g e =
-    is-from (λ i. byte_at b (edges_at + 1 * i)) 0 (edge_fields * h.edges) (take m (drop 0 t))
-    (length-take-le m (drop 0 t) (let z = g.long in omega arith) ∙ e)
-    (λ i x. get_or-take m (drop 0 t) i 0 (omega arith) ∙ g.inside i x)
+pub nodes-got : (b : List ℕ) (h : Head) (t : List ℕ) (k : ℕ) → h.nodes ≤ most_nodes → t ≡ bytes_in nodes_at node_places b
+    → k ≡ node_fields * h.nodes → take k (drop 0 t) ≡ nodes_in b h
+unfolding nodes_in
+nodes-got b h t k l f e = rw f (first-of b nodes_at (node_fields * h.nodes) node_places k (omega arith) e)
+
+pub edges-got : (b : List ℕ) (h : Head) (t : List ℕ) (k : ℕ) → h.edges ≤ most_edges → t ≡ bytes_in edges_at edge_places b
+    → k ≡ edge_fields * h.edges → take k (drop 0 t) ≡ edges_in b h
+unfolding edges_in
+edges-got b h t k l f e = rw f (first-of b edges_at (edge_fields * h.edges) edge_places k (omega arith) e)
 
 -- ── The judge that is asked ──
 

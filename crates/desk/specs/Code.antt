@@ -11,6 +11,7 @@ use Rattle.desk.specs.Layout.{desk_bytes, Within}
 use Rattle.desk.specs.Desk.{with_outline}
 use Rattle.desk.specs.State.{local_in, edges_in, loaded_in, table_in, listed_in, Encodes}
 use Rattle.desk.specs.Calls.{desk_code, plain, is_refused}
+use Rattle.usage.specs.Reasons.{number_of}
 use Rattle.usage.specs.Answers.{Verdict, allowed, violated, refused}
 use Rattle.monitor_state.specs.declared.Answer.{Answer}
 use Rattle.monitor_state.specs.declared.Answer.TheVariants.{Allowed, Violated, Refused}
@@ -19,7 +20,7 @@ use Rattle.monitor_state.specs.declared.Answer.TheVariants.{Allowed, Violated, R
 abbrev pub told : Answer → Verdict
 told Allowed = allowed
 told (Violated p) = violated p
-told (Refused n) = refused (cond (eqb n 41) 42 n)
+told (Refused r) = refused (cond (eqb (number_of r) 41) 42 (number_of r))
 
 -- whether an answer to a step of this kind moves the positions
 abbrev pub moves : Answer → ℕ → Bool

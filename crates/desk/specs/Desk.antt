@@ -15,6 +15,7 @@ use Rattle.sheet_lines.specs.Sheets.{is_local}
 use Rattle.sheet_reader.specs.Readers.{policies_into, outline_into}
 use Rattle.monitor_state.specs.declared.State.{State}
 use Rattle.monitor_state.specs.declared.Answer.{Answer}
+use Rattle.usage.specs.declared.Reason.TheVariants.{StepBeforePolicies}
 use Rattle.monitor_state.specs.declared.Answer.TheVariants.{Allowed, Violated, Refused}
 use Rattle.monitor_state.specs.declared.Judgement.{Judgement}
 use Rattle.monitor_state.specs.Judge.{start_state}
@@ -156,7 +157,7 @@ step_loaded d raw =
 
 -- "50 a step before policies are loaded"
 abbrev pub step_desk : Desk → RawStep → Reply
-step_desk none raw = record { answer = Refused 50; lean = false; desk = none }
+step_desk none raw = record { answer = Refused StepBeforePolicies; lean = false; desk = none }
 step_desk (some d) raw = step_loaded d raw
 
 -- a list of steps, each with the desk that the last one left

@@ -7,6 +7,9 @@ use crate::Head;
 use desk_positions::MOST_POSITIONS;
 use usage::{MOST_EDGES, MOST_NODES};
 
+// The number of positions that tells that a limit was exceeded.
+const EXCEEDED: u32 = MOST_POSITIONS as u32 + 1;
+
 pub(crate) fn head_in(b: &[u8]) -> Head
     requires { desk_bytes ≤ length b.now }
     ensures { result ≡ head_in_lem b.now }
@@ -27,35 +30,19 @@ pub(crate) fn head_in(b: &[u8]) -> Head
 pub(crate) fn head_ok(h: Head) -> bool
     ensures { result ≡ head_ok_lem h }
 {
-    if crate::LOCAL < h.policies {
-        return false;
-    }
-    if (MOST_EDGES as u32) < h.edges {
-        return false;
-    }
-    if (MOST_NODES as u32) < h.nodes {
-        return false;
-    }
-    if (MOST_POSITIONS as u32) + 1 < h.positions {
-        return false;
-    }
-    h.halted <= 1
+    h.policies <= crate::LOCAL
+        && h.edges <= MOST_EDGES as u32
+        && h.nodes <= MOST_NODES as u32
+        && h.positions <= EXCEEDED
+        && h.halted <= 1
 }
 
 // Is a position listed?
 pub(crate) fn is_listed(h: Head) -> bool
     ensures { result ≡ is_listed_lem h }
 {
-    if h.nodes == 0 {
-        return false;
-    }
-    if h.positions == 0 {
-        return false;
-    }
-    h.positions <= MOST_POSITIONS as u32
+    h.nodes != 0 && h.positions != 0 && h.positions <= MOST_POSITIONS as u32
 }
-
-const HEAD_WORDS: usize = 8;
 
 pub(crate) fn head_out(b: &mut [u8], h: Head)
     requires { desk_bytes ≤ length b.old }
@@ -72,5 +59,5 @@ pub(crate) fn head_out(b: &mut [u8], h: Head)
         h.highest,
         h.depth,
     ];
-    crate::bytes::words_out(b, 0, HEAD_WORDS, &l);
+    crate::bytes::words_out(b, 0, &l);
 }

@@ -35,22 +35,12 @@ fn held_in(b: &[u8]) -> Held
     requires { desk_bytes ≤ length b.now }
     ensures { result ≡ held_in_lem b.now }
 {
-    let mut sets = [0u8; SETS];
-    crate::bytes::bytes_in(b, SETS_AT, SETS, &mut sets);
-    let mut possible = [0u8; POLICIES];
-    crate::bytes::bytes_in(b, POSSIBLE_AT, POLICIES, &mut possible);
-    let mut numbers = [0u32; MOST_CREATED];
-    crate::bytes::words_in(b, CREATED_AT, MOST_CREATED, &mut numbers);
-    let mut counts = [0u8; POLICIES];
-    crate::bytes::bytes_in(b, UNCLOSED_AT, POLICIES, &mut counts);
-    let mut order = [0u8; MOST_UNCLOSED];
-    crate::bytes::bytes_in(b, ORDER_AT, MOST_UNCLOSED, &mut order);
     Held {
-        sets,
-        possible,
-        numbers,
-        counts,
-        order,
+        sets: crate::bytes::bytes_at(b, SETS_AT),
+        possible: crate::bytes::bytes_at(b, POSSIBLE_AT),
+        numbers: crate::bytes::words_at(b, CREATED_AT),
+        counts: crate::bytes::bytes_at(b, UNCLOSED_AT),
+        order: crate::bytes::bytes_at(b, ORDER_AT),
     }
 }
 
@@ -72,114 +62,36 @@ pub(crate) fn state_ok(b: &[u8], h: Head) -> bool
 {
     let k = held_in(b);
     let z = sizes_in(h);
-    let numbers = k.numbers;
-    if !monitor_sets::created::live_ok(&numbers, z.count, z.highest) {
+    if !monitor_sets::created::live_ok(&k.numbers, z.count, z.highest) {
         return false;
     }
-    let order = k.order;
-    let counts = k.counts;
-    monitor_sets::order::order_ok(&order, z.depth, &counts)
+    monitor_sets::order::order_ok(&k.order, z.depth, &k.counts)
 }
 
-fn flag_of(x: bool) -> u32
-    ensures { result ≡ cond x 1 0 }
-{
-    if x { 1 } else { 0 }
-}
-
-// Each array of the state is written. A proof is told the length of an array that is passed by value.
-fn sets_out(b: &mut [u8], sets: [u8; SETS])
+fn held_out(b: &mut [u8], k: &Held)
     requires { desk_bytes ≤ length b.old }
-    ensures put { Put byte_at 1 b.old sets_at set_places sets b.new }
-    ensures sets_len { length sets ≡ set_places }
-    ensures b_len_unchanged { length b.new ≡ length b.old }
+    ensures { Copied b.old k.now b.new }
 {
-    crate::bytes::bytes_out(b, SETS_AT, SETS, &sets);
-}
-
-fn pairs_out(b: &mut [u8], pairs: [u8; PAIR_SETS])
-    requires { desk_bytes ≤ length b.old }
-    ensures put { Put byte_at 1 b.old pairs_at pair_sets pairs b.new }
-    ensures pairs_len { length pairs ≡ pair_sets }
-    ensures b_len_unchanged { length b.new ≡ length b.old }
-{
-    crate::bytes::bytes_out(b, PAIRS_AT, PAIR_SETS, &pairs);
-}
-
-fn possible_out(b: &mut [u8], possible: [u8; POLICIES])
-    requires { desk_bytes ≤ length b.old }
-    ensures put { Put byte_at 1 b.old possible_at policies possible b.new }
-    ensures possible_len { length possible ≡ policies }
-    ensures b_len_unchanged { length b.new ≡ length b.old }
-{
-    crate::bytes::bytes_out(b, POSSIBLE_AT, POLICIES, &possible);
-}
-
-fn created_out(b: &mut [u8], created: [u32; MOST_CREATED])
-    requires { desk_bytes ≤ length b.old }
-    ensures put { Put word_at 4 b.old created_at most_created created b.new }
-    ensures created_len { length created ≡ most_created }
-    ensures b_len_unchanged { length b.new ≡ length b.old }
-{
-    crate::bytes::words_out(b, CREATED_AT, MOST_CREATED, &created);
-}
-
-fn unclosed_out(b: &mut [u8], unclosed: [u8; POLICIES])
-    requires { desk_bytes ≤ length b.old }
-    ensures put { Put byte_at 1 b.old unclosed_at policies unclosed b.new }
-    ensures unclosed_len { length unclosed ≡ policies }
-    ensures b_len_unchanged { length b.new ≡ length b.old }
-{
-    crate::bytes::bytes_out(b, UNCLOSED_AT, POLICIES, &unclosed);
-}
-
-fn order_out(b: &mut [u8], order: [u8; MOST_UNCLOSED])
-    requires { desk_bytes ≤ length b.old }
-    ensures put { Put byte_at 1 b.old order_at most_unclosed order b.new }
-    ensures order_len { length order ≡ most_unclosed }
-    ensures b_len_unchanged { length b.new ≡ length b.old }
-{
-    crate::bytes::bytes_out(b, ORDER_AT, MOST_UNCLOSED, &order);
-}
-
-fn held_out(b: &mut [u8], k: Held)
-    requires { desk_bytes ≤ length b.old }
-    ensures { Copied b.old k b.new }
-{
-    let sets = k.sets;
-    sets_out(b, sets);
-    let possible = k.possible;
-    possible_out(b, possible);
-    let numbers = k.numbers;
-    created_out(b, numbers);
-    let counts = k.counts;
-    unclosed_out(b, counts);
-    let order = k.order;
-    order_out(b, order);
+    crate::bytes::bytes_out(b, SETS_AT, &k.sets);
+    crate::bytes::bytes_out(b, POSSIBLE_AT, &k.possible);
+    crate::bytes::words_out(b, CREATED_AT, &k.numbers);
+    crate::bytes::bytes_out(b, UNCLOSED_AT, &k.counts);
+    crate::bytes::bytes_out(b, ORDER_AT, &k.order);
 }
 
 fn arrays_out(b: &mut [u8], s: State)
     requires { desk_bytes ≤ length b.old }
     ensures { Arrays b.old s b.new }
 {
-    let tracked = s.tracked;
-    let listed = s.created;
-    let opened = s.unclosed;
-    let pairs = tracked.pairs;
-    pairs_out(b, pairs);
-    let sets = tracked.sets;
-    let possible = tracked.possible;
-    let numbers = listed.numbers;
-    let counts = opened.counts;
-    let order = opened.order;
+    crate::bytes::bytes_out(b, PAIRS_AT, &s.tracked.pairs);
     let k = Held {
-        sets,
-        possible,
-        numbers,
-        counts,
-        order,
+        sets: s.tracked.sets,
+        possible: s.tracked.possible,
+        numbers: s.created.numbers,
+        counts: s.unclosed.counts,
+        order: s.unclosed.order,
     };
-    held_out(b, k);
+    held_out(b, &k);
 }
 
 // The head is written, with these numbers of the judge.
@@ -190,14 +102,12 @@ pub(crate) fn sizes_out(b: &mut [u8], h: Head, z: Sizes, positions: u32)
     ensures within { Within b.old 0 edges_at b.new }
 {
     let g = Head {
-        policies: h.policies,
-        edges: h.edges,
-        nodes: h.nodes,
         positions,
-        halted: flag_of(z.halted),
+        halted: u32::from(z.halted),
         count: z.count as u32,
         highest: z.highest,
         depth: z.depth as u32,
+        ..h
     };
     crate::heading::head_out(b, g);
 }
@@ -208,12 +118,10 @@ pub(crate) fn judge_out(b: &mut [u8], h: Head, s: State, positions: u32)
     requires small { Small s }
     ensures { Stored b.old h s positions b.new }
 {
-    let listed = s.created;
-    let opened = s.unclosed;
     let z = Sizes {
-        count: listed.count,
-        highest: listed.highest,
-        depth: opened.depth,
+        count: s.created.count,
+        highest: s.created.highest,
+        depth: s.unclosed.depth,
         halted: s.halted,
     };
     arrays_out(b, s);
@@ -227,8 +135,7 @@ fn looked_at(b: &[u8], lean: bool, step: RawStep) -> u8
         → has result p ≡ looks_of lean (summary_in b.now) read p }
 {
     if lean {
-        let mut marks = [0u64; POLICIES];
-        crate::bytes::longs_in(b, crate::SUMMARY_AT, POLICIES, &mut marks);
+        let marks: [u64; POLICIES] = crate::bytes::longs_at(b, crate::SUMMARY_AT);
         return monitor_lean::looked_at(&marks, step);
     }
     monitor::ALL_POLICIES
@@ -245,38 +152,24 @@ pub(crate) fn judged(b: &mut [u8], h: Head, lean: bool, step: RawStep) -> Told
 {
     let looked = looked_at(b, lean, step);
     let e = EDGE_FIELDS * h.edges as usize;
-    let mut edges = [0u8; EDGE_TABLE];
-    crate::bytes::bytes_in(b, crate::EDGES_AT, e, &mut edges);
-    let k = held_in(b);
-    let mut sets = k.sets;
-    let mut possible = k.possible;
-    let mut numbers = k.numbers;
-    let mut counts = k.counts;
-    let mut order = k.order;
+    let edges: [u8; EDGE_TABLE] = crate::bytes::bytes_at(b, crate::EDGES_AT);
+    let mut k = held_in(b);
     let t = monitor::judge_looked(
         looked,
         &edges[0..e],
         h.policies == crate::LOCAL,
-        &mut sets,
+        &mut k.sets,
         &mut b[PAIRS_AT..crate::ROWS_AT],
-        &mut possible,
-        &mut numbers,
-        &mut counts,
-        &mut order,
+        &mut k.possible,
+        &mut k.numbers,
+        &mut k.counts,
+        &mut k.order,
         sizes_in(h),
         step,
     );
-    let answer = t.answer;
-    if crate::steps::is_refusal(answer) {
+    if crate::steps::is_refusal(t.answer) {
         return t;
     }
-    let left = Held {
-        sets,
-        possible,
-        numbers,
-        counts,
-        order,
-    };
-    held_out(b, left);
+    held_out(b, &k);
     t
 }

@@ -4,6 +4,7 @@ ghost use Rattle.std.proofs.Math.Option.{some};
 ghost use Rattle.usage.specs.Limits.{policies, most_edges, most_nodes, edge_fields, node_places};
 ghost use Rattle.usage.specs.Valid.{OutlineOk};
 ghost use Rattle.usage.specs.Answers.{refused};
+ghost use Rattle.usage.specs.Reasons.{number_of};
 ghost use Rattle.usage.specs.Tables.{nodes_of, is_edge_table, is_node_table};
 ghost use Rattle.checker.specs.Promise.{outcome_verdict};
 ghost use Rattle.monitor_state.specs.Judge.{state_ok_lem};
@@ -18,9 +19,7 @@ ghost use Rattle.desk.specs.Code.{most_line, SettledIn, with_nodes, KeptOutline}
 
 use crate::Head;
 use checker::Outcome;
-use sheet_lines::Reading;
-use sheet_reader::PolicyReading;
-use usage::{EDGE_FIELDS, EDGE_TABLE, NODE_FIELDS, NODE_TABLE, POLICIES};
+use usage::{EDGE_FIELDS, EDGE_TABLE, NODE_FIELDS, NODE_TABLE, POLICIES, Reason, SheetRefusal};
 
 // ── 42 ──
 
@@ -75,23 +74,17 @@ pub(crate) fn is_desk(b: &[u8], h: Head) -> bool
 pub(crate) fn is_busy(h: Head) -> bool
     ensures { (b : List ℕ) → result ≡ is_busy_lem (desk_by b h) }
 {
-    if h.policies == 0 {
-        return false;
-    }
-    if h.depth == 0 {
-        return false;
-    }
-    h.halted != 1
+    h.policies != 0 && h.depth != 0 && h.halted != 1
 }
 
 // ── Sheets ──
 
 // The number for a sheet's refusal, with its line.
-fn refused_at(line: usize, number: u8) -> u32
-    requires { line ≤ most_line }
-    ensures { result ≡ desk_code (record { verdict = refused number; lean = false; line = line }) }
+fn refused_at(r: SheetRefusal) -> u32
+    requires { r.line ≤ most_line }
+    ensures { result ≡ desk_code (record { verdict = refused (number_of r.reason); lean = false; line = r.line }) }
 {
-    number as u32 + 512 + 131072 * line as u32
+    crate::refused(r.reason) + 131072 * r.line as u32
 }
 
 fn policies_head(n: usize, local: bool) -> Head
@@ -128,23 +121,23 @@ fn store_policies(b: &mut [u8], edges: &[u8], n: usize, local: bool)
     ensures encodes { Encodes b.new (with_policies (take (edge_fields * n) edges.now) local) }
     ensures within { Within b.old 0 desk_bytes b.new }
 {
-    crate::bytes::bytes_out(b, crate::EDGES_AT, EDGE_FIELDS * n, edges);
+    let e = EDGE_FIELDS * n;
+    b[crate::EDGES_AT..crate::EDGES_AT + e].copy_from_slice(&edges[..e]);
     let h = policies_head(n, local);
     crate::judge::judge_out(b, h, monitor::start(), 0);
 }
 
 pub(crate) fn load_policies(b: &mut [u8], text: &[u8]) -> u32
     requires desk_bytes_in_bounds { desk_bytes ≤ length b.old }
-    requires b_value { desk_of b.old ≡ some (desk_in b.old) }
-    requires b_value_2 { is_busy_lem (desk_in b.old) ≡ false }
+    requires is_desk { desk_of b.old ≡ some (desk_in b.old) }
+    requires is_free { is_busy_lem (desk_in b.old) ≡ false }
     ensures { Called (ByPolicies text.now) b.old result b.new }
 {
     let mut edges = [0u8; EDGE_TABLE];
-    let r = sheet_reader::read_policies(text, &mut edges);
-    match r {
-        PolicyReading::Refused { line, number } => refused_at(line, number),
-        PolicyReading::Stored { edges: n, local } => {
-            store_policies(b, &edges, n, local);
+    match sheet_reader::read_policies(text, &mut edges) {
+        Err(r) => refused_at(r),
+        Ok(sheet) => {
+            store_policies(b, &edges, sheet.edges, sheet.local);
             0
         }
     }
@@ -153,24 +146,14 @@ pub(crate) fn load_policies(b: &mut [u8], text: &[u8]) -> u32
 // ── An outline ──
 
 // The check's verdict as a number.
-fn outcome_code(o: Outcome) -> u32
+fn outcome_code(o: Result<Outcome, Reason>) -> u32
     ensures { result ≡ desk_code (plain (outcome_verdict o)) }
 {
     match o {
-        Outcome::Accepted => 0,
-        Outcome::Named(p) => p as u32 + 256,
-        Outcome::Refused(n) => n as u32 + 512,
+        Ok(Outcome::Accepted) => 0,
+        Ok(Outcome::Named(p)) => p as u32 + 256,
+        Err(reason) => crate::refused(reason),
     }
-}
-
-// The summary is written; a proof is told the length of an array that is passed by value.
-fn summary_out(b: &mut [u8], marks: [u64; POLICIES])
-    requires { desk_bytes ≤ length b.old }
-    ensures put { Put wide_at 8 b.old summary_at policies marks b.new }
-    ensures marks_len { length marks ≡ policies }
-    ensures b_len_unchanged { length b.new ≡ length b.old }
-{
-    crate::bytes::longs_out(b, crate::SUMMARY_AT, POLICIES, &marks);
 }
 
 // The positions at the load are written: how many there are, or 65.
@@ -190,42 +173,40 @@ fn outline_head(h: Head, n: usize) -> Head
     ensures { result ≡ with_nodes h n }
 {
     Head {
-        policies: h.policies,
-        edges: h.edges,
         nodes: n as u32,
         positions: 0,
         halted: 0,
         count: 0,
         highest: 0,
         depth: 0,
+        ..h
     }
 }
 
 // An outline is written with its summary and its positions, and the judge starts afresh.
-fn store_outline(b: &mut [u8], h: Head, nodes: &[u8], marks: [u64; POLICIES])
+fn store_outline(b: &mut [u8], h: Head, nodes: &[u8], marks: &[u64; POLICIES])
     requires desk_bytes_in_bounds { desk_bytes ≤ length b.old }
-    requires h_value { head_ok_lem h ≡ true }
-    requires fact { h.policies ≡ 0 → ⊥ }
-    requires nodes_value { is_node_table nodes.now ≡ true }
+    requires head_is_ok { head_ok_lem h ≡ true }
+    requires policies_loaded { h.policies ≡ 0 → ⊥ }
+    requires nodes_valid { is_node_table nodes.now ≡ true }
     requires nodes_len_bound { length nodes.now ≤ node_places }
-    ensures encodes { Encodes b.new (with_outline (loaded_in b.old h) nodes.now marks) }
+    ensures encodes { Encodes b.new (with_outline (loaded_in b.old h) nodes.now marks.now) }
     ensures within { Within b.old 0 desk_bytes b.new }
 {
-    let m = nodes.len();
-    crate::bytes::bytes_out(b, crate::NODES_AT, m, nodes);
-    summary_out(b, marks);
+    b[crate::NODES_AT..crate::NODES_AT + nodes.len()].copy_from_slice(nodes);
+    crate::bytes::longs_out(b, crate::SUMMARY_AT, marks);
     let k = start_rows(b, nodes);
-    let g = outline_head(h, m / NODE_FIELDS);
+    let g = outline_head(h, nodes.len() / NODE_FIELDS);
     crate::judge::judge_out(b, g, monitor::start(), k);
 }
 
 // "answers an outline, kept either way, with the check's verdict"
 fn keep_outline(b: &mut [u8], h: Head, nodes: &[u8]) -> u32
     requires desk_bytes_in_bounds { desk_bytes ≤ length b.old }
-    requires h_value { head_ok_lem h ≡ true }
-    requires fact { h.policies ≡ 0 → ⊥ }
-    requires h_value_2 { is_edge_table (edges_in b.old h) ≡ true }
-    requires nodes_value { is_node_table nodes.now ≡ true }
+    requires head_is_ok { head_ok_lem h ≡ true }
+    requires policies_loaded { h.policies ≡ 0 → ⊥ }
+    requires edges_valid { is_edge_table (edges_in b.old h) ≡ true }
+    requires nodes_valid { is_node_table nodes.now ≡ true }
     requires nodes_len_bound { length nodes.now ≤ node_places }
     ensures { KeptOutline b.old h nodes.now result b.new }
 {
@@ -233,25 +214,24 @@ fn keep_outline(b: &mut [u8], h: Head, nodes: &[u8]) -> u32
     let e = crate::EDGES_AT + EDGE_FIELDS * h.edges as usize;
     let o = checker::check(&b[crate::EDGES_AT..e], local, nodes);
     let mut marks = [0u64; POLICIES];
-    checker::summary::summary(&b[crate::EDGES_AT..e], local, nodes, &mut marks);
-    store_outline(b, h, nodes, marks);
+    let _ = checker::summary::summary(&b[crate::EDGES_AT..e], local, nodes, &mut marks);
+    store_outline(b, h, nodes, &marks);
     outcome_code(o)
 }
 
 pub(crate) fn load_outline(b: &mut [u8], h: Head, text: &[u8]) -> u32
     requires desk_bytes_in_bounds { desk_bytes ≤ length b.old }
-    requires h_value { head_ok_lem h ≡ true }
-    requires fact { h.policies ≡ 0 → ⊥ }
-    requires h_value_2 { is_edge_table (edges_in b.old h) ≡ true }
-    requires b_value { desk_of b.old ≡ some (some (loaded_in b.old h)) }
-    requires h_value_3 { is_busy_lem (some (loaded_in b.old h)) ≡ false }
+    requires head_is_ok { head_ok_lem h ≡ true }
+    requires policies_loaded { h.policies ≡ 0 → ⊥ }
+    requires edges_valid { is_edge_table (edges_in b.old h) ≡ true }
+    requires is_loaded { desk_of b.old ≡ some (some (loaded_in b.old h)) }
+    requires is_free { is_busy_lem (some (loaded_in b.old h)) ≡ false }
     ensures { Called (ByOutline text.now) b.old result b.new }
 {
     let mut nodes = [0u8; NODE_TABLE];
-    let r = sheet_reader::read_outline(text, &mut nodes);
-    match r {
-        Reading::Refused { line, number } => refused_at(line, number),
-        Reading::Stored(n) => {
+    match sheet_reader::read_outline(text, &mut nodes) {
+        Err(r) => refused_at(r),
+        Ok(n) => {
             let m = NODE_FIELDS * n;
             keep_outline(b, h, &nodes[0..m])
         }

@@ -9,6 +9,10 @@ use native.Mathlib.Numerals.{add-one}
 use native.Mathlib.Decide.{ℕ_discrete}
 use lib.ListN.{length, get_or, set, take, drop, length-set, length-drop, length-append, get_or-append}
 use lib.Seq.{get_or-set_same, get_or-set_other, length-take-le, get_or-take, get_or-drop, get_or-append-add}
+use borrow.Author.Rules.{rules}
+use borrow.Rule.Slice.PartMut.{put_mid}
+use Rattle.std.specs.Int.{w32, to_le_bytes}
+use Rattle.std.proofs.lemmas.List.{places}
 use Rattle.usage.proofs.Logic.{by_cases, last-or-lower}
 use Rattle.usage.proofs.TableLaws.{from-ext, is-from}
 use Rattle.desk_positions.specs.Bytes.{Read, byte_at, word_at, wide_at, numbers_in, Got, Put}
@@ -224,6 +228,45 @@ word-put b i x h = record {
         (let z : i + 4 * k ≡ i = omega arith in z)
         ∙ rw (g0, g1, g2, g3) whole
         ∙ ap (λ (j : ℕ). get_or (x ∷ []) j 0) (sym e)
+
+-- the four bytes of a number, written over four
+pub word-written : (b ys : List ℕ) (i k x : ℕ) → i + 4 ≤ length b → k ≡ i + 4 - i → ys ≡ to_le_bytes w32 x → x < 4294967296
+    → Put word_at 4 b i 1 (x ∷ []) (put_mid i k b ys)
+unfolding word_at
+word-written b ys i k x h e f u = record {
+  long = search (rules, places);
+  inside = λ j l. at j (let z : j ≡ 0 = omega arith in z);
+  outside = λ m o. other m o;
+}
+  where
+    long : length ys ≡ 4
+    long = ap length f
+
+    whole : x % 256 + 256 * (x / 256 % 256) + 65536 * (x / 65536 % 256) + 16777216 * (x / 16777216 % 256) ≡ x
+    whole = omega arith
+
+    other : (m : ℕ) → (m < i) ⊎ (i + 4 * 1 ≤ m) → get_or (put_mid i k b ys) m 0 ≡ get_or b m 0
+    other m (inl l) = search (rules, places)
+    other m (inr l) = search (rules, places)
+
+    own : (j : ℕ) → j < 4 → get_or (put_mid i k b ys) (i + j) 0 ≡ get_or ys j 0
+    own j l = search (rules, places)
+
+    at : (j : ℕ) → j ≡ 0
+        → get_or (put_mid i k b ys) (i + 4 * j) 0 + 256 * get_or (put_mid i k b ys) (i + 4 * j + 1) 0
+        + 65536 * get_or (put_mid i k b ys) (i + 4 * j + 2) 0 + 16777216 * get_or (put_mid i k b ys) (i + 4 * j + 3) 0
+        ≡ get_or (x ∷ []) j 0
+    at j z =
+        ap (λ (m : ℕ). get_or (put_mid i k b ys) m 0 + 256 * get_or (put_mid i k b ys) (m + 1) 0 + 65536 * get_or (put_mid i k b ys) (m + 2) 0
+        + 16777216 * get_or (put_mid i k b ys) (m + 3) 0)
+        (let q : i + 4 * j ≡ i = omega arith in q)
+        ∙ rw (
+          ap (λ (m : ℕ). get_or (put_mid i k b ys) m 0) (sym (add-zero i)) ∙ own 0 (omega arith) ∙ ap (λ (l : List ℕ). get_or l 0 0) f,
+          own 1 (omega arith) ∙ ap (λ (l : List ℕ). get_or l 1 0) f,
+          own 2 (omega arith) ∙ ap (λ (l : List ℕ). get_or l 2 0) f,
+          own 3 (omega arith) ∙ ap (λ (l : List ℕ). get_or l 3 0) f,
+        ) whole
+        ∙ ap (λ (m : ℕ). get_or (x ∷ []) m 0) (sym z)
 
 -- two words one after the other
 pub wide-put : (b b' b'' : List ℕ) (i x : ℕ) → Put word_at 4 b i 1 (x % 4294967296 ∷ []) b'

@@ -2,6 +2,8 @@
 use Rattle.std.specs.Prelude.{ℕ, zero, suc, ◌<◌, ◌≤◌, ◌≡◌, false, ◌⊎◌, length}
 use mathlib.Core.List.{List, ◌∷◌, map, Memᴰ}
 use Rattle.std.proofs.Math.Option.{Option, none, some}
+use Rattle.usage.specs.Limits.{most_nodes, most_names}
+use Rattle.usage.specs.Outline.{Form, end, static_event, named_event, sequence, choice, loop, back, fresh, sandbox}
 use Rattle.usage.specs.Past.{Step, event, opening, closing, retiring}
 use Rattle.desk_positions.specs.Closure.{in_limits}
 use Rattle.desk_positions.specs.Positions.{most_positions, most_parts, Meanings, at, Position, short}
@@ -52,3 +54,16 @@ step_from zero a b = event a b
 step_from (suc zero) a b = opening a
 step_from (suc (suc zero)) a b = closing a
 step_from (suc (suc (suc k))) a b = retiring a
+
+-- the nodes and names that a form has are some that a row can hold
+abbrev pub Within : Option Form → Type 0
+Within none = Unit {0}
+Within (some end) = Unit {0}
+Within (some (static_event a s)) = Unit {0}
+Within (some (named_event a n)) = n < most_names
+Within (some (sequence a b)) = (a < most_nodes) × (b < most_nodes)
+Within (some (choice a b)) = (a < most_nodes) × (b < most_nodes)
+Within (some (loop a)) = a < most_nodes
+Within (some (back a)) = a < most_nodes
+Within (some (fresh n b)) = (n < most_names) × (b < most_nodes)
+Within (some (sandbox p b)) = b < most_nodes

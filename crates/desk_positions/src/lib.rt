@@ -2,17 +2,15 @@
 // and short. A position is a row of numbers, a stack whose top is the first part still to run; the positions are a table of rows.
 #![tactic(auto)]
 
-ghost use Rattle.std.specs.Prelude.{◌≡◌, List, suc, ◌/◌, ◌<◌, ◌≤◌, length, false};
-ghost use Rattle.usage.specs.Limits.{node_fields};
+ghost use Rattle.std.specs.Prelude.{◌≡◌, List, suc, ◌≤◌, length, false};
 ghost use Rattle.usage.specs.Valid.{OutlineOk};
-ghost use Rattle.usage.specs.Tables.{node_at_lem, nodes_of};
+ghost use Rattle.usage.specs.Tables.{nodes_of};
 ghost use Rattle.desk_positions.specs.Positions.{most_positions, Position};
 ghost use Rattle.desk_positions.specs.Positions.{stride_all, is_any, start_positions, next_positions};
 ghost use Rattle.desk_positions.specs.Growth.{Tabled, Settles, NoTable, NothingWritten, step_from};
+ghost use Rattle.desk_positions.specs.Moves.{step_of};
 ghost use Rattle.desk_positions.specs.Rows.{table_bytes};
 ghost use Rattle.desk_positions.specs.Reading.{rows_ok_lem};
-
-use usage::{NODE_FIELDS, Node};
 
 mod bytes;
 mod reading;
@@ -32,11 +30,6 @@ const MOST_NAMES: usize = 4;
 
 const CREATE: u32 = 0;
 
-// The kind of a node that is a sandbox.
-const SANDBOX: u8 = 8;
-// The kind of a closing among the steps.
-const CLOSING: u32 = 2;
-
 // How many parts there are, and the parts.
 pub const ROW: usize = 81;
 
@@ -54,16 +47,25 @@ pub struct Row {
     pub cells: [u32; ROW],
 }
 
-// Node k of a flat table.
-fn node(nodes: &[u8], k: usize) -> Node
-    requires { k < length nodes.now / node_fields }
-    ensures { result ≡ node_at_lem nodes.now k }
+// A step as it moves positions, and its numbers: an event's action and resource, the policy of an opening or a closing, and the resource of
+// a retiring.
+#[derive(Clone, Copy)]
+enum Move {
+    Event(u32, u32),
+    Opening(u32),
+    Closing(u32),
+    Retiring(u32),
+}
+
+// The step of a kind and two numbers.
+fn move_from(kind: u32, a: u32, b: u32) -> Move
+    ensures { step_of result ≡ step_from kind a b }
 {
-    let i = NODE_FIELDS * k;
-    Node {
-        kind: nodes[i],
-        a: nodes[i + 1],
-        b: nodes[i + 2],
+    match kind {
+        0 => Move::Event(a, b),
+        1 => Move::Opening(a),
+        2 => Move::Closing(a),
+        _ => Move::Retiring(a),
     }
 }
 
@@ -71,7 +73,7 @@ fn node(nodes: &[u8], k: usize) -> Node
 pub fn leads(nodes: &[u8], t: &[u8], n: usize, kind: u32, a: u32, b: u32) -> bool
     ensures value { (ls : List Position) → OutlineOk (nodes_of nodes.now) → length t.now ≡ table_bytes
         → Tabled ls n t.now → result ≡ is_any (stride_all (nodes_of nodes.now) (step_from kind a b) ls) }
-    ensures value_2 { NoTable n t.now → result ≡ false }
+    ensures nowhere { NoTable n t.now → result ≡ false }
 {
     if t.len() != ROWS {
         return false;
@@ -79,7 +81,7 @@ pub fn leads(nodes: &[u8], t: &[u8], n: usize, kind: u32, a: u32, b: u32) -> boo
     if MOST_POSITIONS < n {
         return false;
     }
-    crate::strides::leads_from(nodes, t, n, kind, a, b)
+    crate::strides::leads_from(nodes, t, n, move_from(kind, a, b))
 }
 
 // The positions after a step, from the first n of a table, in their place: how many there are then, or 65 where a limit is exceeded. No
@@ -96,7 +98,7 @@ pub fn next(nodes: &[u8], t: &mut [u8], n: usize, kind: u32, a: u32, b: u32) -> 
     if MOST_POSITIONS < n {
         return MOST_POSITIONS + 1;
     }
-    let m = crate::strides::collect(nodes, t, n, kind, a, b);
+    let m = crate::strides::collect(nodes, t, n, move_from(kind, a, b));
     if MOST_POSITIONS < m {
         return m;
     }
@@ -123,7 +125,7 @@ pub fn start(nodes: &[u8], t: &mut [u8]) -> usize
 // Are the first n rows those of positions? No table has any, and no table has more rows than 64.
 pub fn rows_ok(t: &[u8], n: usize) -> bool
     ensures value { length t.now ≡ table_bytes → n ≤ most_positions → result ≡ rows_ok_lem t.now n }
-    ensures value_2 { NoTable n t.now → result ≡ false }
+    ensures no_table { NoTable n t.now → result ≡ false }
 {
     if t.len() != ROWS {
         return false;
@@ -131,9 +133,7 @@ pub fn rows_ok(t: &[u8], n: usize) -> bool
     if MOST_POSITIONS < n {
         return false;
     }
-    let mut i = n;
-    while 0 < i {
-        i -= 1;
+    for i in (0..n).rev() {
         if !crate::reading::row_ok(t, i) {
             return false;
         }

@@ -21,7 +21,7 @@ fn part_ok(t: &[u8], i: usize, j: usize) -> bool
     requires row_bytes_in_bounds { row_bytes * i + row_bytes ≤ length t.now }
     requires j_lt_most_parts { j < most_parts }
     ensures part_fits { result ≡ true → PartFits (row_in t.now i) j }
-    ensures fact { result ≡ false → PartFits (row_in t.now i) j → ⊥ }
+    ensures part_misfits { result ≡ false → PartFits (row_in t.now i) j → ⊥ }
 {
     let at = 1 + PART * j;
     if cell(t, i, at) < MOST_NODES as u32 {
@@ -44,14 +44,12 @@ fn parts_ok(t: &[u8], i: usize, n: usize) -> bool
     requires row_bytes_in_bounds { row_bytes * i + row_bytes ≤ length t.now }
     requires n_le_most_parts { n ≤ most_parts }
     ensures part_fits { result ≡ true → (j : ℕ) → j < n → PartFits (row_in t.now i) j }
-    ensures fact { result ≡ false → ((j : ℕ) → j < n → PartFits (row_in t.now i) j) → ⊥ }
+    ensures some_misfits { result ≡ false → ((j : ℕ) → j < n → PartFits (row_in t.now i) j) → ⊥ }
 {
-    let mut j: usize = 0;
-    while j < n {
+    for j in 0..n {
         if !part_ok(t, i, j) {
             return false;
         }
-        j += 1;
     }
     true
 }
@@ -60,14 +58,12 @@ fn parts_ok(t: &[u8], i: usize, n: usize) -> bool
 fn zeros_from(t: &[u8], i: usize, n: usize) -> bool
     requires { row_bytes * i + row_bytes ≤ length t.now }
     ensures zeros_from { result ≡ true → ZerosFrom (row_in t.now i) n }
-    ensures fact { result ≡ false → ZerosFrom (row_in t.now i) n → ⊥ }
+    ensures no_zeros { result ≡ false → ZerosFrom (row_in t.now i) n → ⊥ }
 {
-    let mut k = n;
-    while k < ROW {
+    for k in n..ROW {
         if cell(t, i, k) != 0 {
             return false;
         }
-        k += 1;
     }
     true
 }

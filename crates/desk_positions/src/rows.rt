@@ -8,6 +8,52 @@ ghost use Rattle.desk_positions.specs.Rows.{row_width, row_bytes, base, pushed, 
 
 use crate::{CELL, MOST_PARTS, MOST_POSITIONS, PART, ROW, ROW_BYTES, Row};
 
+// A row that has a part on top, and how many are below it.
+#[derive(Clone, Copy)]
+pub(crate) struct Top {
+    pub row: Row,
+    pub below: usize,
+    pub ghost inside: { below < most_parts },
+}
+
+impl Top {
+    // The top taken away.
+    pub(crate) fn pop(self) -> Row
+        ensures { result.cells ≡ popped self.row.cells self.below }
+    {
+        let mut r = self.row;
+        let i = 1 + PART * self.below;
+        r.cells[i] = 0;
+        r.cells[i + 1] = 0;
+        r.cells[i + 2] = 0;
+        r.cells[i + 3] = 0;
+        r.cells[i + 4] = 0;
+        r.cells[0] = self.below as u32;
+        r
+    }
+
+    // Another node on top, with the same meanings.
+    pub(crate) fn replace(self, code: u32) -> Row
+        ensures { result.cells ≡ set self.row.cells (base self.below) code }
+    {
+        let mut r = self.row;
+        let i = 1 + PART * self.below;
+        r.cells[i] = code;
+        r
+    }
+
+    // What name n of the top means.
+    pub(crate) fn rename(self, name: usize, res: u32) -> Row
+        requires { name < most_names }
+        ensures { result.cells ≡ set self.row.cells (base self.below + (name + 1)) res }
+    {
+        let mut r = self.row;
+        let i = 1 + PART * self.below;
+        r.cells[i + (name + 1)] = res;
+        r
+    }
+}
+
 // A part on top of a stack of so many.
 pub(crate) fn push(mut r: Row, depth: usize, code: u32, a: u32, b: u32, c: u32, d: u32) -> Row
     requires { depth < most_parts }
@@ -23,31 +69,6 @@ pub(crate) fn push(mut r: Row, depth: usize, code: u32, a: u32, b: u32, c: u32, 
     r
 }
 
-// The top taken away, so many being left.
-pub(crate) fn pop(mut r: Row, depth: usize) -> Row
-    requires { depth < most_parts }
-    ensures { result.cells ≡ popped r.cells depth }
-{
-    let i = 1 + PART * depth;
-    r.cells[i] = 0;
-    r.cells[i + 1] = 0;
-    r.cells[i + 2] = 0;
-    r.cells[i + 3] = 0;
-    r.cells[i + 4] = 0;
-    r.cells[0] = depth as u32;
-    r
-}
-
-// Another node on top, with the same meanings.
-pub(crate) fn replace(mut r: Row, depth: usize, code: u32) -> Row
-    requires { depth < most_parts }
-    ensures { result.cells ≡ set r.cells (base depth) code }
-{
-    let i = 1 + PART * depth;
-    r.cells[i] = code;
-    r
-}
-
 // Row i of the table.
 pub(crate) fn load(t: &[u8], i: usize) -> Row
     requires { row_bytes * i + row_bytes ≤ length t.now }
@@ -55,10 +76,8 @@ pub(crate) fn load(t: &[u8], i: usize) -> Row
 {
     let mut cells = [0u32; ROW];
     let place = ROW_BYTES * i;
-    let mut j: usize = 0;
-    while j < ROW {
+    for j in 0..ROW {
         cells[j] = crate::bytes::word(t, place + CELL * j);
-        j += 1;
     }
     Row { cells }
 }
@@ -66,7 +85,6 @@ pub(crate) fn load(t: &[u8], i: usize) -> Row
 // Is row i of the table this one? Number `top` of the rows is asked first.
 pub(crate) fn same(t: &[u8], i: usize, r: &[u32; ROW], top: usize) -> bool
     requires row_bytes_in_bounds { row_bytes * i + row_bytes ≤ length t.now }
-    requires r_len { length r.now ≡ row_width }
     requires top_lt_row_width { top < row_width }
     ensures { result ≡ same_meanings r.now (row_in t.now i) }
 {
@@ -74,12 +92,10 @@ pub(crate) fn same(t: &[u8], i: usize, r: &[u32; ROW], top: usize) -> bool
     if r[top] != crate::bytes::word(t, place + CELL * top) {
         return false;
     }
-    let mut j: usize = 0;
-    while j < ROW {
+    for j in 0..ROW {
         if r[j] != crate::bytes::word(t, place + CELL * j) {
             return false;
         }
-        j += 1;
     }
     true
 }
@@ -90,10 +106,8 @@ pub(crate) fn store(t: &mut [u8], i: usize, r: &[u32; ROW])
     ensures { Put word_at 4 t.old (row_bytes * i) row_width r.now t.new }
 {
     let place = ROW_BYTES * i;
-    let mut j: usize = 0;
-    while j < ROW {
+    for j in 0..ROW {
         crate::bytes::put_word(t, place + CELL * j, r[j]);
-        j += 1;
     }
 }
 
@@ -112,17 +126,14 @@ fn top_of(depth: u32) -> usize
 
 // Is one of the first n rows this one?
 fn find(t: &[u8], n: usize, r: &[u32; ROW]) -> bool
-    requires n_in_bounds { row_bytes * n ≤ length t.now }
-    requires r_len { length r.now ≡ row_width }
+    requires { row_bytes * n ≤ length t.now }
     ensures { result ≡ member same_meanings r.now (rows_in t.now n) }
 {
     let top = top_of(r[0]);
-    let mut i: usize = 0;
-    while i < n {
+    for i in 0..n {
         if same(t, i, r, top) {
             return true;
         }
-        i += 1;
     }
     false
 }
@@ -142,15 +153,4 @@ pub(crate) fn add(t: &mut [u8], n: usize, r: Row) -> usize
     }
     store(t, n, &cells);
     n + 1
-}
-
-// What name n of the top means.
-pub(crate) fn rename(mut r: Row, d: usize, name: usize, res: u32) -> Row
-    requires d_lt_most_parts { d < most_parts }
-    requires name_lt_most_names { name < most_names }
-    ensures { result.cells ≡ set r.cells (base d + (name + 1)) res }
-{
-    let i = 1 + PART * d;
-    r.cells[i + (name + 1)] = res;
-    r
 }

@@ -2,12 +2,11 @@
 // outline sheet.
 #![tactic(auto)]
 
-use sheet_lines::SHEET_ROOM;
+use files::Sheet;
 
 fn main(rt: HostRuntime) {
-    let mut text = [0u8; SHEET_ROOM];
-    let n = files::read_sheet(&rt, b"outline.expr", &mut text);
+    let outline = Sheet::read(&rt, b"outline.expr");
     let mut out = [0u8; report::EXPRESSION_ROOM];
-    let m = report::report_expression(&text[..n], &mut out);
-    files::print(&rt, &out, m);
+    let n = report::report_expression(outline.text(), &mut out);
+    files::print(&rt, &out, n);
 }

@@ -1,7 +1,7 @@
 // What the programs do with files. No contract can say what is read or written.
 #![tactic(auto)]
 
-ghost use Rattle.std.specs.Prelude.{IsSome, IsUtf8, ◌≡◌, leb, length};
+ghost use Rattle.std.specs.Prelude.{IsSome, IsUtf8, ◌≡◌, ◌≤◌, leb, length, take};
 ghost use Rattle.files.specs.Counts.{IsPrefixLen};
 
 use sheet_lines::SHEET_ROOM;
@@ -9,11 +9,26 @@ use std::fs;
 use std::io::Read;
 use std::rt::Files;
 
-// A sheet, and no more of it than tells that it is too long.
-pub fn read_sheet(rt: &impl Files, path: &[u8], buffer: &mut [u8; SHEET_ROOM]) -> usize
-    ensures { IsPrefixLen result buffer.new }
-{
-    read_file(rt, path, &mut buffer[..])
+// A sheet that was read, and no more of it than tells that it is too long.
+#[derive(Drop)]
+pub struct Sheet {
+    bytes: [u8; SHEET_ROOM],
+    count: usize,
+    ghost in_range: { count ≤ length bytes },
+}
+
+impl Sheet {
+    pub fn read(rt: &impl Files, path: &[u8]) -> Sheet {
+        let mut bytes = [0u8; SHEET_ROOM];
+        let count = read_file(rt, path, &mut bytes);
+        Sheet { bytes, count }
+    }
+
+    pub fn text(&self) -> &[u8]
+        ensures { result.now ≡ take self.now.count self.now.bytes }
+    {
+        &self.bytes[..self.count]
+    }
 }
 
 // At most as much of a file as the buffer has room for; "A file that can't be opened reads as empty." So does one whose path is no text.

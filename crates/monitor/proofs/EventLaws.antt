@@ -17,7 +17,7 @@ use Rattle.monitor_sets.specs.Sets.{gathered}
 use Rattle.monitor_sets.specs.Code.{event_sets}
 use Rattle.monitor_pairs.specs.declared.Ways.{Ways}
 use Rattle.monitor_pairs.specs.declared.which.Blocks.{Blocks}
-use Rattle.monitor_pairs.specs.declared.blocks.Turn.{Turn}
+use Rattle.monitor_sets.specs.declared.Turn.{Turn}
 use Rattle.monitor_pairs.specs.Pairs.{event_pairs, create_pairs, gather_pairs}
 use Rattle.monitor_pairs.specs.Tracked.{event_ways}
 use Rattle.monitor_pairs.specs.Blocks.{pair_sets, lower_block, upper_block, pairs_of, of_policy, each_block, blocks_created, with_gathered}
@@ -51,7 +51,7 @@ module _ (es : List Edge) (none : policies ≤ (pairs_of es).first) (a r at n : 
 
 -- ── By the ways ──
 
-module _ (es : List Edge) (a r : ℕ) (t : Turn) (c : t.creates ≡ eqb a 0) where
+module _ (es : List Edge) (a r : ℕ) (t : Turn) (c : eqb t.action 0 ≡ eqb a 0) where
   abbrev move : ℕ → List ℕ → List ℕ
   move p = event_pairs (event_ways es p a r) t.at t.n
 
@@ -77,7 +77,7 @@ module _ (es : List Edge) (a r : ℕ) (t : Turn) (c : t.creates ≡ eqb a 0) whe
       off false = refl
 
       go : (b : Bool) → ltb p policies ≡ b
-          → cond b (event_pairs w t.at t.n (cond t.creates (create_pairs t.at sets) sets)) sets
+          → cond b (event_pairs w t.at t.n (cond (eqb t.action 0) (create_pairs t.at sets) sets)) sets
           ≡ cond b (move p (cond (eqb a 0) (cond b (create_pairs t.at sets) sets) sets)) (cond (eqb a 0) (cond b (create_pairs t.at sets) sets) sets)
       go true q =
           ap₂ (λ (v : Ways) (b : Bool). event_pairs v t.at t.n (cond b (create_pairs t.at sets) sets)) (same (ltb-true p policies q)) c

@@ -14,6 +14,8 @@ use Rattle.usage.specs.Past.{Step, event, opening, closing, retiring}
 use Rattle.usage.specs.Judge.{step_of}
 use Rattle.usage.specs.Tables.{edges_of, is_edge_table}
 use Rattle.usage.proofs.Logic.{false-true}
+use Rattle.usage.specs.declared.Reason.{Reason}
+use Rattle.usage.specs.declared.Reason.TheVariants.{Halted, CreateStatic, NotLive, NotOpen, NotNewest, NotAbove, RetireNotLive, TooManyLive, TooManyOpen, Table, State as Unfit}
 use Rattle.monitor_state.specs.declared.State.{State}
 use Rattle.monitor_state.specs.Judge.{live, listed, openings_of, last_opened, state_ok_lem, after, refusal, refuse, settle}
 use Rattle.monitor_state.specs.Looked.{broken_among, judge_step_by, judge_read_by, judge_by, looked_at}
@@ -23,7 +25,7 @@ use Rattle.monitor_state.proofs.Places.{known}
 -- ── A step that was read ──
 
 module _ (looked : ℕ) (local : Bool) (es : List Edge) (s : State) (step : Step) where
-  pub step-refused : (n : ℕ) → refusal s step ≡ some n → stepped looked local es s step ≡ refuse n s
+  pub step-refused : (n : Reason) → refusal s step ≡ some n → stepped looked local es s step ≡ refuse n s
   unfolding judge_step_by
   step-refused n e = rw e
 
@@ -35,7 +37,7 @@ module _ (looked : ℕ) (local : Bool) (es : List Edge) (s : State) (step : Step
 -- ── The number that refuses it ──
 
 module _ (s : State) (p : ℕ) where
-  pub opening-deep : most_unclosed ≤ s.unclosed.depth → refusal s (opening p) ≡ some 32
+  pub opening-deep : most_unclosed ≤ s.unclosed.depth → refusal s (opening p) ≡ some TooManyOpen
   unfolding refusal
   opening-deep h = simp (le-leb most_unclosed s.unclosed.depth h)
 
@@ -43,11 +45,11 @@ module _ (s : State) (p : ℕ) where
   unfolding refusal
   opening-free h = simp (lt-leb most_unclosed s.unclosed.depth h)
 
-  pub closing-closed : openings_of s.unclosed p ≡ 0 → refusal s (closing p) ≡ some 25
+  pub closing-closed : openings_of s.unclosed p ≡ 0 → refusal s (closing p) ≡ some NotOpen
   unfolding refusal
   closing-closed h = simp (le-ltb 0 (openings_of s.unclosed p) (omega arith))
 
-  pub closing-not-last : 0 < openings_of s.unclosed p → (last_opened s.unclosed ≡ p → ⊥) → refusal s (closing p) ≡ some 26
+  pub closing-not-last : 0 < openings_of s.unclosed p → (last_opened s.unclosed ≡ p → ⊥) → refusal s (closing p) ≡ some NotNewest
   unfolding refusal
   closing-not-last h n = simp (lt-ltb 0 (openings_of s.unclosed p) h, ne_eqb (last_opened s.unclosed) p n)
 
@@ -56,15 +58,15 @@ module _ (s : State) (p : ℕ) where
   closing-free h e = simp (lt-ltb 0 (openings_of s.unclosed p) h, eq-eqb (last_opened s.unclosed) p e)
 
 module _ (s : State) (r : ℕ) where
-  pub create-static : r < statics → refusal s (event 0 r) ≡ some 22
+  pub create-static : r < statics → refusal s (event 0 r) ≡ some CreateStatic
   unfolding refusal
   create-static h = simp (lt-ltb r statics h)
 
-  pub create-low : statics ≤ r → r ≤ s.created.highest → refusal s (event 0 r) ≡ some 27
+  pub create-low : statics ≤ r → r ≤ s.created.highest → refusal s (event 0 r) ≡ some NotAbove
   unfolding refusal
   create-low h l = simp (le-ltb r statics h, le-leb r s.created.highest l)
 
-  pub create-full : statics ≤ r → s.created.highest < r → most_created ≤ s.created.count → refusal s (event 0 r) ≡ some 30
+  pub create-full : statics ≤ r → s.created.highest < r → most_created ≤ s.created.count → refusal s (event 0 r) ≡ some TooManyLive
   unfolding refusal
   create-full h l f = simp (le-ltb r statics h, lt-leb r s.created.highest l, le-leb most_created s.created.count f)
 
@@ -73,16 +75,16 @@ module _ (s : State) (r : ℕ) where
   create-free h l f = simp (le-ltb r statics h, lt-leb r s.created.highest l, lt-leb most_created s.created.count f)
 
   -- a retiring
-  pub retiring-unknown : known s.created r ≡ false → refusal s (retiring r) ≡ some 28
+  pub retiring-unknown : known s.created r ≡ false → refusal s (retiring r) ≡ some RetireNotLive
   unfolding refusal
   retiring-unknown k = go (ltb r statics) (listed r (live s.created)) k
     where
-      go : (b c : Bool) → (b || c) ≡ false → cond {A = Option ℕ} (not b && c) none (some 28) ≡ some 28
+      go : (b c : Bool) → (b || c) ≡ false → cond {A = Option Reason} (not b && c) none (some RetireNotLive) ≡ some RetireNotLive
       go true c e = refl
       go false true e = false-true (sym e)
       go false false e = refl
 
-  pub retiring-static : r < statics → refusal s (retiring r) ≡ some 28
+  pub retiring-static : r < statics → refusal s (retiring r) ≡ some RetireNotLive
   unfolding refusal
   retiring-static h = simp (lt-ltb r statics h)
 
@@ -91,7 +93,7 @@ module _ (s : State) (r : ℕ) where
   retiring-free h l = simp (le-ltb r statics h, l)
 
   -- another event
-  pub use-unknown : (a : ℕ) → (a ≡ 0 → ⊥) → known s.created r ≡ false → refusal s (event a r) ≡ some 24
+  pub use-unknown : (a : ℕ) → (a ≡ 0 → ⊥) → known s.created r ≡ false → refusal s (event a r) ≡ some NotLive
   unfolding refusal
   use-unknown zero h k = absurd (h refl)
   use-unknown (suc a) h k = simp k
@@ -104,17 +106,17 @@ module _ (s : State) (r : ℕ) where
 -- ── The step as it is handed over ──
 
 module _ (looked : ℕ) (edges : List ℕ) (local : Bool) (s : State) (raw : RawStep) where
-  pub table-refused : is_edge_table edges ≡ false → judge_by (looked_at looked) edges local s raw ≡ refuse 41 s
+  pub table-refused : is_edge_table edges ≡ false → judge_by (looked_at looked) edges local s raw ≡ refuse Table s
   unfolding judge_by
   table-refused e = simp e
 
   module _ (t : is_edge_table edges ≡ true) where
-    pub state-refused : state_ok_lem s ≡ false → judge_by (looked_at looked) edges local s raw ≡ refuse 42 s
+    pub state-refused : state_ok_lem s ≡ false → judge_by (looked_at looked) edges local s raw ≡ refuse Unfit s
     unfolding judge_by
     state-refused e = simp (t, e)
 
     module _ (w : state_ok_lem s ≡ true) where
-      pub halted-refused : s.halted ≡ true → judge_by (looked_at looked) edges local s raw ≡ refuse 20 s
+      pub halted-refused : s.halted ≡ true → judge_by (looked_at looked) edges local s raw ≡ refuse Halted s
       unfolding judge_by
       halted-refused e = simp (t, w, e)
 

@@ -15,11 +15,13 @@ use Rattle.usage.specs.declared.RawStep.{RawStep}
 use Rattle.usage.specs.Limits.{statics, most_created}
 use Rattle.usage.specs.Past.{Step, event, retiring}
 use Rattle.usage.specs.Judge.{step_of}
-use Rattle.usage.specs.Tables.{edges_of, is_edge_table}
-use Rattle.automaton.specs.PairSet.{pair_set}
-use Rattle.sheet_fields.specs.TableTest.{table_tested, no_table_lem}
+use Rattle.usage.specs.Tables.{edges_of}
+use Rattle.sheet_fields.specs.TableTest.{table_tested}
+use Rattle.sheet_fields.proofs.EdgeLaws.{some-table}
 use Rattle.monitor_pairs.specs.Which.{blocks_of}
 use Rattle.usage.proofs.Logic.{and_left, and_right}
+use Rattle.usage.specs.declared.Reason.{Reason}
+use Rattle.usage.specs.declared.Reason.TheVariants.{NoStep, RetireNotLive}
 use Rattle.automaton.specs.Mask.{lowest_in}
 use Rattle.monitor_state.specs.declared.Created.{Created}
 use Rattle.monitor_state.specs.declared.State.{State}
@@ -36,10 +38,13 @@ use Rattle.monitor_sets.specs.Order.{order_ok_lem}
 use Rattle.monitor_sets.specs.Code.{broken_bit_lem, broken_in, event_sets}
 use Rattle.monitor_pairs.specs.Blocks.{pairs_of, blocks_moved, blocks_created, with_gathered}
 use Rattle.monitor_state.specs.Code.{event_blocks, event_possible}
-use Rattle.monitor_state.specs.Code.{Lent, lent_of, state_of, judgement_of, sizes_of, halted_sizes, stepped, told_of}
+use Rattle.monitor_state.specs.Code.{Lent, lent_of, state_of, judgement_of, sizes_of, halted_sizes, told_of}
+use Rattle.std.specs.Prelude.{Some}
 use Rattle.monitor_state.proofs.ListLaws.{every-at, place-absent, place-new}
 use Rattle.monitor_state.proofs.WithoutLaws.{place-from}
 use Rattle.monitor_state.proofs.Places.{place-static, place-dynamic, place-lt, is_known}
+use Rattle.monitor.specs.declared.lent.Rules.{Rules}
+use Rattle.monitor.specs.Loans.{stepped_by}
 use Rattle.monitor.proofs.JudgeLaws.{step-refused, step-taken, use-known, retiring-unknown, retiring-static, retiring-free}
 
 -- ── A state by its parts ──
@@ -91,16 +96,16 @@ unfolding place_of place_in
 parts-place c x = refl
 
 -- a refusal
-pub refused-parts : (l : Lent) (z : Sizes) (n : ℕ) (t : Told) → t ≡ record { answer = Refused n; sizes = z }
+pub refused-parts : (l : Lent) (z : Sizes) (n : Reason) (t : Told) → t ≡ record { answer = Refused n; sizes = z }
     → judgement_of t l ≡ refuse n (state_of l z)
 unfolding refuse
 refused-parts l z n t e = rw e
 
 -- a step that was read and is refused
-pub refused-step : (looked : ℕ) (local : Bool) (es : List Edge) (l : Lent) (z : Sizes) (step : Step) (n : ℕ) (t : Told)
+pub refused-step : (by : Rules) (l : Lent) (z : Sizes) (step : Step) (n : Reason) (t : Told)
     → t ≡ record { answer = Refused n; sizes = z } → refusal (state_of l z) step ≡ some n
-    → judgement_of t l ≡ stepped looked local es (state_of l z) step
-refused-step looked local es l z step n t e f = refused-parts l z n t e ∙ sym (step-refused looked local es (state_of l z) step n f)
+    → judgement_of t l ≡ stepped_by by (state_of l z) step
+refused-step by l z step n t e f = refused-parts l z n t e ∙ sym (step-refused by.looked by.local (edges_of by.edges.now) (state_of l z) step n f)
 
 -- the answer from the states before and after a step: an array is that of the one after it where nothing is broken
 module _ (s t : State) (bad : ℕ) where
@@ -128,18 +133,18 @@ module _ (s t : State) (bad : ℕ) where
       go false = refl
 
   -- a step that is taken
-  pub settled-step : (looked : ℕ) (local : Bool) (es : List Edge) (step : Step) (u : Told)
+  pub settled-step : (by : Rules) (step : Step) (u : Told)
       {sets pairs possible numbers counts order : List ℕ}
-      → bad ≡ broken_in looked t.tracked.possible t.unclosed.counts → refusal s step ≡ none
-      → t ≡ after local es s step → u ≡ told_of bad (sizes_of s) (sizes_of t)
+      → bad ≡ broken_in by.looked t.tracked.possible t.unclosed.counts → refusal s step ≡ none
+      → t ≡ after by.local (edges_of by.edges.now) s step → u ≡ told_of bad (sizes_of s) (sizes_of t)
       → Left t.tracked.sets s.tracked.sets sets → Left t.tracked.pairs s.tracked.pairs pairs
       → Left t.tracked.possible s.tracked.possible possible
       → Left t.created.numbers s.created.numbers numbers
       → Left t.unclosed.counts s.unclosed.counts counts → Left t.unclosed.order s.unclosed.order order
-      → judgement_of u (lent_of sets pairs possible numbers counts order) ≡ stepped looked local es s step
-  settled-step looked local es step u b n e told p o q r v w =
-      rw (told, p, o, q, r, v, w) settle-parts ∙ ap (λ (k : ℕ). settle k s t) (b ∙ sym (parts-broken looked step t))
-      ∙ sym (step-taken looked local es s step t n e)
+      → judgement_of u (lent_of sets pairs possible numbers counts order) ≡ stepped_by by s step
+  settled-step by step u b n e told p o q r v w =
+      rw (told, p, o, q, r, v, w) settle-parts ∙ ap (λ (k : ℕ). settle k s t) (b ∙ sym (parts-broken by.looked step t))
+      ∙ sym (step-taken by.looked by.local (edges_of by.edges.now) s step t n e)
 
   -- an array that the step does not change
   pub kept : (l : List ℕ) → Left l l l
@@ -219,10 +224,10 @@ module _ (s : State) (r at : ℕ) (p : at ≡ place_in r (live s.created)) where
   at-dynamic : statics ≤ r → at ≡ place_from r first_created_lem (live s.created)
   at-dynamic d = p ∙ sym (parts-place s.created r) ∙ place-dynamic s.created r d
 
-  pub retiring-low : at < first_created_lem → refusal s (retiring r) ≡ some 28
+  pub retiring-low : at < first_created_lem → refusal s (retiring r) ≡ some RetireNotLive
   retiring-low h = go (ltb r statics) refl (listed r (live s.created)) refl
     where
-      go : (b : Bool) → ltb r statics ≡ b → (c : Bool) → listed r (live s.created) ≡ c → refusal s (retiring r) ≡ some 28
+      go : (b : Bool) → ltb r statics ≡ b → (c : Bool) → listed r (live s.created) ≡ c → refusal s (retiring r) ≡ some RetireNotLive
       go true b c m = retiring-static s r (ltb-true r statics b)
       go false b true m =
           absurd (let z = at-dynamic (ltb-false r statics b) in omega (arith, place-from r first_created_lem (live s.created) m))
@@ -251,25 +256,16 @@ module _ (s : State) (r at : ℕ) (p : at ≡ place_in r (live s.created)) where
 
 -- ── The step as it is handed over ──
 
-pub read_is : (looked : ℕ) (local : Bool) (es : List Edge) (s : State) (step : Step) (raw : RawStep) → step_of raw ≡ some step
-    → stepped looked local es s step ≡ judge_read_by (looked_at looked) local es s (step_of raw)
+pub read_is : (by : Rules) (s : State) (step : Step) (raw : RawStep) → step_of raw ≡ some step
+    → stepped_by by s step ≡ judge_read_by (looked_at by.looked) by.local (edges_of by.edges.now) s (step_of raw)
 unfolding judge_read_by
-read_is looked local es s step raw e = rw e
+read_is by s step raw e = rw e
 
 pub unread-is : (looked : ℕ) (local : Bool) (es : List Edge) (s : State) (raw : RawStep)
-    → step_of raw ≡ none → refuse 21 s ≡ judge_read_by (looked_at looked) local es s (step_of raw)
+    → step_of raw ≡ none → refuse NoStep s ≡ judge_read_by (looked_at looked) local es s (step_of raw)
 unfolding judge_read_by
 unread-is looked local es s raw e = rw e
 
 -- a table that passes 41 tells its pair policies
-pub fits-is : (t : List ℕ) → (table_tested t).fits ≡ is_edge_table t
-unfolding table_tested
-fits-is t = go (is_edge_table t)
-  where
-    go : (b : Bool) → (cond b record { fits = true; pairs = pair_set (edges_of t) } no_table_lem).fits ≡ b
-    go true = refl
-    go false = refl
-
-pub pairs-told : (t : List ℕ) → is_edge_table t ≡ true → blocks_of (table_tested t).pairs ≡ pairs_of (edges_of t)
-unfolding table_tested
-pairs-told t e = rw e refl
+pub pairs-told : (t : List ℕ) (m : ℕ) → table_tested t ≡ Some m → blocks_of m ≡ pairs_of (edges_of t)
+pairs-told t m e = ap blocks_of (some-table t m e).1

@@ -1,6 +1,5 @@
 // Openings and closings of sandboxes: the counts, the order, and under a local sheet the sets that an opening puts back.
 ghost use Rattle.std.specs.Prelude.{ℕ, ◌<◌, ◌≤◌, ◌≡◌, List, Bool, true, false, ◌&&◌, cond, eqb, length, get_or, set};
-ghost use Rattle.usage.specs.declared.Edge.{Edge};
 ghost use Rattle.usage.specs.Limits.{policies, most_created, most_unclosed};
 ghost use Rattle.usage.specs.Past.{opening, closing};
 ghost use Rattle.monitor_sets.specs.Instances.{instances};
@@ -10,12 +9,14 @@ ghost use Rattle.monitor_sets.specs.Order.{order_ok_lem};
 ghost use Rattle.monitor_pairs.specs.Pairs.{reset_pairs};
 ghost use Rattle.monitor_pairs.specs.Blocks.{pairs_of, each_block};
 ghost use Rattle.monitor_state.specs.Judge.{pair_sets};
-ghost use Rattle.monitor_state.specs.Code.{one_more, lent_of, state_of, judgement_of, stepped};
+ghost use Rattle.monitor_state.specs.Code.{one_more, state_of, judgement_of};
+ghost use Rattle.monitor.specs.Loans.{held, SameLoans, stepped_by};
 
+use crate::lent::{Lent, Rules};
 use monitor_pairs::which::Blocks;
 use monitor_sets::{FIRST_CREATED, SETS, START_SET};
 use monitor_state::{Sizes, Told};
-use usage::{MOST_UNCLOSED, POLICIES};
+use usage::{MOST_UNCLOSED, POLICIES, Reason};
 
 // Policy p has n openings that are not closed. Which open policies are then not respected? Where one is not, the count stays as it was.
 fn recount(
@@ -48,7 +49,6 @@ fn enter(
     p: usize,
 ) -> u8
     requires p_lt_policies { p < policies }
-    requires order_len { length order.old ≡ most_unclosed }
     requires unclosed_value { order_ok_lem depth order.old unclosed.old ≡ true }
     requires depth_lt_most_unclosed { depth < most_unclosed }
     ensures value { result ≡ broken_in looked possible.now (one_more unclosed.old p) }
@@ -64,6 +64,7 @@ fn enter(
 }
 
 // The same, where it puts the instances of p back to state 0: the first n, and what is kept of p.
+// Kept: the arrays stand one by one: so the types say which of them such an opening leaves alone.
 fn enter_anew(
     looked: u8,
     sets: &mut [u8; SETS],
@@ -75,7 +76,6 @@ fn enter_anew(
     p: usize,
 ) -> u8
     requires p_lt_policies { p < policies }
-    requires order_len { length order.old ≡ most_unclosed }
     requires unclosed_value { order_ok_lem depth order.old unclosed.old ≡ true }
     requires depth_lt_most_unclosed { depth < most_unclosed }
     requires n_le_instances { n ≤ instances }
@@ -105,10 +105,10 @@ fn put_back(pairs: &mut [u8], which: Blocks, n: usize, p: usize, violated: u8)
         ≡ cond (eqb violated 0) (each_block which (λ q sets. cond (eqb q p) (reset_pairs n sets) sets) pairs.old)
         pairs.old }
 {
-    if violated == 0 {
-        monitor_pairs::blocks::reset(pairs, which, n, p as u32);
+    if violated != 0 {
         return;
     }
+    monitor_pairs::blocks::reset(pairs, which, n, p as u32);
 }
 
 // "At an opening of a policy that is not open, all its instances go back to state 0", where the sheet is local.
@@ -116,93 +116,71 @@ fn is_anew(local: bool, unclosed: &[u8; POLICIES], p: usize) -> bool
     requires { p < policies }
     ensures { result ≡ (local && eqb (get_or unclosed.now p 0) 0) }
 {
-    if local {
-        return unclosed[p] == 0;
-    }
-    false
+    local && unclosed[p] == 0
 }
 
-// An opening creates nothing and moves no state but those that it puts back; so the answer is the same whatever the edges and the created
-// resources are.
-pub(crate) fn judge_opening(
-    looked: u8,
-    local: bool,
-    which: Blocks,
-    sets: &mut [u8; SETS],
-    pairs: &mut [u8],
-    possible: &mut [u8; POLICIES],
-    unclosed: &mut [u8; POLICIES],
-    order: &mut [u8; MOST_UNCLOSED],
-    sizes: Sizes,
-    p: usize,
-) -> Told
+// An opening creates nothing and moves no state but those that it puts back.
+pub(crate) fn judge_opening(by: &Rules, lent: &mut Lent, sizes: Sizes, p: usize) -> Told
     requires p_lt_policies { p < policies }
     requires count_le_most_created { sizes.count ≤ most_created }
-    requires pairs_len { length pairs.old ≡ pair_sets }
-    requires order_len { length order.old ≡ most_unclosed }
-    requires unclosed_value { order_ok_lem sizes.depth order.old unclosed.old ≡ true }
-    ensures order_after { (es : List Edge) (created : List ℕ) → which ≡ pairs_of es
-        → judgement_of result (lent_of sets.new pairs.new possible.new created
-        unclosed.new order.new)
-        ≡ stepped looked local es
-        (state_of (lent_of sets.old pairs.old possible.old created
-        unclosed.old order.old) sizes)
-        (opening p) }
-    ensures pairs_len_unchanged { length pairs.new ≡ length pairs.old }
+    requires unclosed_value { order_ok_lem sizes.depth lent.old.order.now lent.old.unclosed.now ≡ true }
+    ensures same_loans { SameLoans lent.old lent.new }
+    ensures judged { judgement_of result (held lent.new) ≡ stepped_by by.now (state_of (held lent.old) sizes) (opening p) }
 {
     let depth = sizes.depth;
     if MOST_UNCLOSED <= depth {
-        return monitor_state::refused(32, sizes);
+        return monitor_state::refused(Reason::TooManyOpen, sizes);
     }
-    let deeper = depth + 1;
     let after = Sizes {
-        count: sizes.count,
-        highest: sizes.highest,
-        depth: deeper,
-        halted: sizes.halted,
+        depth: depth + 1,
+        ..sizes
     };
-    if is_anew(local, unclosed, p) {
+    if is_anew(by.local, lent.unclosed, p) {
         let n = FIRST_CREATED + sizes.count;
-        let broken = enter_anew(looked, sets, possible, unclosed, order, n, depth, p);
-        put_back(pairs, which, n, p, broken);
+        let broken = enter_anew(
+            by.looked,
+            lent.sets,
+            lent.possible,
+            lent.unclosed,
+            lent.order,
+            n,
+            depth,
+            p,
+        );
+        put_back(lent.pairs, by.which, n, p, broken);
         return monitor_state::settled(broken, sizes, after);
     }
-    let broken = enter(looked, possible, unclosed, order, depth, p);
+    let broken = enter(
+        by.looked,
+        lent.possible,
+        lent.unclosed,
+        lent.order,
+        depth,
+        p,
+    );
     monitor_state::settled(broken, sizes, after)
 }
 
 // A closing puts nothing back.
-pub(crate) fn leave(
-    looked: u8,
-    possible: &[u8; POLICIES],
-    unclosed: &mut [u8; POLICIES],
-    order: &[u8; MOST_UNCLOSED],
-    sizes: Sizes,
-    p: usize,
-) -> Told
+pub(crate) fn leave(by: &Rules, lent: &mut Lent, sizes: Sizes, p: usize) -> Told
     requires p_lt_policies { p < policies }
-    requires order_len { length order.now ≡ most_unclosed }
-    requires unclosed_value { order_ok_lem sizes.depth order.now unclosed.old ≡ true }
-    ensures { (local : Bool) (es : List Edge) (sets pairs created : List ℕ)
-        → judgement_of result (lent_of sets pairs possible.now created unclosed.new order.now)
-        ≡ stepped looked local es
-        (state_of (lent_of sets pairs possible.now created unclosed.old order.now) sizes) (closing p) }
+    requires unclosed_value { order_ok_lem sizes.depth lent.old.order.now lent.old.unclosed.now ≡ true }
+    ensures same_loans { SameLoans lent.old lent.new }
+    ensures judged { judgement_of result (held lent.new) ≡ stepped_by by.now (state_of (held lent.old) sizes) (closing p) }
 {
     let depth = sizes.depth;
-    let n = unclosed[p];
+    let n = lent.unclosed[p];
     if n == 0 {
-        return monitor_state::refused(25, sizes);
+        return monitor_state::refused(Reason::NotOpen, sizes);
     }
-    if monitor_sets::order::wide(order[depth - 1]) != p {
-        return monitor_state::refused(26, sizes);
+    if usize::from(lent.order[depth - 1]) != p {
+        return monitor_state::refused(Reason::NotNewest, sizes);
     }
-    let bad = recount(looked, possible, unclosed, p, n - 1);
+    let bad = recount(by.looked, lent.possible, lent.unclosed, p, n - 1);
     let left = depth - 1;
     let after = Sizes {
-        count: sizes.count,
-        highest: sizes.highest,
         depth: left,
-        halted: sizes.halted,
+        ..sizes
     };
     monitor_state::settled(bad, sizes, after)
 }

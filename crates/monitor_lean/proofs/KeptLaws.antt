@@ -9,6 +9,8 @@ use Rattle.usage.specs.declared.RawStep.{RawStep}
 use Rattle.usage.specs.Past.{Step}
 use Rattle.usage.specs.Judge.{step_of}
 use Rattle.usage.specs.Tables.{edges_of, is_edge_table}
+use Rattle.usage.specs.declared.Reason.{Reason}
+use Rattle.usage.specs.declared.Reason.TheVariants.{Halted, NoStep, Table, State as Unfit}
 use Rattle.automaton.specs.Mask.{lowest_in}
 use Rattle.monitor_state.specs.declared.State.{State}
 use Rattle.monitor_state.specs.declared.Answer.{Answer}
@@ -25,7 +27,7 @@ either-kept : (s : State) (b : Bool) (j k : Judgement) → KeptBy s j → KeptBy
 either-kept s true j k x y = x
 either-kept s false j k x y = y
 
-refuse-kept : (n : ℕ) (s : State) → KeptBy s (refuse n s)
+refuse-kept : (n : Reason) (s : State) → KeptBy s (refuse n s)
 unfolding refuse
 refuse-kept n s = refl
 
@@ -35,7 +37,7 @@ settle-kept bad s t =
     either-kept s (eqb bad 0) (record { answer = Allowed; state = t }) (record { answer = Violated (lowest_in bad); state = halt s }) tt refl
 
 module _ (looks : Looks) (t : List ℕ) (local : Bool) (s : State) (raw : RawStep) where
-  step_kept : (step : Step) (o : Option ℕ) → KeptBy s (judge_step_by looks local (edges_of t) s step o)
+  step_kept : (step : Step) (o : Option Reason) → KeptBy s (judge_step_by looks local (edges_of t) s step o)
   unfolding judge_step_by
   step_kept step none =
       settle-kept (broken_among (looks step) (after local (edges_of t) s step)) s (after local (edges_of t) s step)
@@ -43,23 +45,23 @@ module _ (looks : Looks) (t : List ℕ) (local : Bool) (s : State) (raw : RawSte
 
   read_kept : (o : Option Step) → KeptBy s (judge_read_by looks local (edges_of t) s o)
   unfolding judge_read_by
-  read_kept none = refuse-kept 21 s
+  read_kept none = refuse-kept NoStep s
   read_kept (some step) = step_kept step (refusal s step)
 
   abbrev rest : Judgement
-  rest = cond s.halted (refuse 20 s) (judge_read_by looks local (edges_of t) s (step_of raw))
+  rest = cond s.halted (refuse Halted s) (judge_read_by looks local (edges_of t) s (step_of raw))
 
   judge-kept : KeptBy s (judge_by looks t local s raw)
   unfolding judge_by
   judge-kept =
-      either-kept s (not (is_edge_table t)) (refuse 41 s) (cond (not (state_ok_lem s)) (refuse 42 s) rest) (refuse-kept 41 s)
-      (either-kept s (not (state_ok_lem s)) (refuse 42 s) rest (refuse-kept 42 s)
-      (either-kept s s.halted (refuse 20 s) (judge_read_by looks local (edges_of t) s (step_of raw)) (refuse-kept 20 s)
+      either-kept s (not (is_edge_table t)) (refuse Table s) (cond (not (state_ok_lem s)) (refuse Unfit s) rest) (refuse-kept Table s)
+      (either-kept s (not (state_ok_lem s)) (refuse Unfit s) rest (refuse-kept Unfit s)
+      (either-kept s s.halted (refuse Halted s) (judge_read_by looks local (edges_of t) s (step_of raw)) (refuse-kept Halted s)
       (read_kept (step_of raw))))
 
-  pub by-refused-kept : (n : ℕ) → (judge_by looks t local s raw).answer ≡ Refused n → (judge_by looks t local s raw).state ≡ s
+  pub by-refused-kept : (n : Reason) → (judge_by looks t local s raw).answer ≡ Refused n → (judge_by looks t local s raw).state ≡ s
   by-refused-kept n e = subst (λ (a : Answer). Kept s a (judge_by looks t local s raw).state) e judge-kept
 
-  pub by-table-refused : is_edge_table t ≡ false → judge_by looks t local s raw ≡ refuse 41 s
+  pub by-table-refused : is_edge_table t ≡ false → judge_by looks t local s raw ≡ refuse Table s
   unfolding judge_by
   by-table-refused e = simp e

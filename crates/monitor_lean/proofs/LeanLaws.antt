@@ -28,6 +28,9 @@ use Rattle.usage.proofs.JudgeLaws.{step_fits}
 use Rattle.usage.proofs.TraceLaws.{trace-tail}
 use Rattle.automaton.specs.Mask.{offends}
 use Rattle.usage.proofs.TableLaws.{decides-edge-table}
+use Rattle.usage.specs.Reasons.{number_of}
+use Rattle.usage.specs.declared.Reason.{Reason}
+use Rattle.usage.specs.declared.Reason.TheVariants.{Halted, Table, State as Unfit}
 use Rattle.monitor_state.specs.declared.State.{State}
 use Rattle.monitor_state.specs.declared.Answer.{Answer}
 use Rattle.monitor_state.specs.declared.Answer.TheVariants.{Allowed, Violated, Refused}
@@ -87,7 +90,7 @@ module _ (local : Bool) (es : List Edge) (m : Summary) (past : Past) (clean : Cl
           offends-broken local es (step ∷ past) false t T v p l (and_right (ltb 0 (openings_of t.unclosed p)) (offends (possible_in t.tracked p)) b),
         )
 
-    step-same-by : (step : Step) → step_of raw ≡ some step → (Taken past false raw → Covered local es m step past) → (o : Option ℕ)
+    step-same-by : (step : Step) → step_of raw ≡ some step → (Taken past false raw → Covered local es m step past) → (o : Option Reason)
         → Settled past s raw step o
         → judge_step_by (marked m) local es s step o ≡ judge_step local es s step o
     unfolding judge_step_by judge_step
@@ -110,14 +113,14 @@ pub lean-step : (t : List ℕ) → is_edge_table t ≡ true → (local : Bool) (
     → judge_by (marked m) t local s raw ≡ judge_of t local s raw
 unfolding judge_by judge_of
 lean-step t ok local m past h s R clean raw cover =
-    ap (λ (j : Judgement). cond (not (is_edge_table t)) (refuse 41 s) (cond (not (state_ok_lem s)) (refuse 42 s) j)) (go h R clean)
+    ap (λ (j : Judgement). cond (not (is_edge_table t)) (refuse Table s) (cond (not (state_ok_lem s)) (refuse Unfit s) j)) (go h R clean)
   where
     go : (h : Bool) → Represents local (edges_of t) past h s → (h ≡ false → Clean local (edges_of t) past)
-        → cond s.halted (refuse 20 s) (judge_read_by (marked m) local (edges_of t) s (step_of raw))
-        ≡ cond s.halted (refuse 20 s) (judge_read local (edges_of t) s (step_of raw))
+        → cond s.halted (refuse Halted s) (judge_read_by (marked m) local (edges_of t) s (step_of raw))
+        ≡ cond s.halted (refuse Halted s) (judge_read local (edges_of t) s (step_of raw))
     go true R clean = rw R.halted refl
     go false R clean =
-        ap (λ (j : Judgement). cond s.halted (refuse 20 s) j)
+        ap (λ (j : Judgement). cond s.halted (refuse Halted s) j)
         (read-same-by local (edges_of t) m past (clean refl) ((decides-edge-table t).0 ok).edges s R raw (step_of raw) refl cover)
 
 -- what is clean stays so: an allowed step breaks no open policy, and a refused or violated one is no part of the past
@@ -168,12 +171,12 @@ module _ (t : List ℕ) (ok : is_edge_table t ≡ true) (local : Bool) (m : Summ
   halted-agree : (s : State) → s.halted ≡ true → state_ok_lem s ≡ true → (raws : List RawStep) → Agree (marked m) t local s raws
   unfolding judge_of judge_by refuse
   halted-agree s h w [] = done
-  halted-agree s h w (raw ∷ raws) = stops {n = 20} (by-halted ∙ sym full-halted) (ap (λ (j : Judgement). j.answer) full-halted)
+  halted-agree s h w (raw ∷ raws) = stops {n = Halted} (by-halted ∙ sym full-halted) (ap (λ (j : Judgement). j.answer) full-halted)
     where
-      full-halted : judge_of t local s raw ≡ refuse 20 s
+      full-halted : judge_of t local s raw ≡ refuse Halted s
       full-halted = rw (ok, w, h) refl
 
-      by-halted : judge_by (marked m) t local s raw ≡ refuse 20 s
+      by-halted : judge_by (marked m) t local s raw ≡ refuse Halted s
       by-halted = rw (ok, w, h) refl
 
   agree-from : (raws : List RawStep) (past : Past) (s : State) → Represents local (edges_of t) past false s → Clean local (edges_of t) past
@@ -232,10 +235,10 @@ module _ (t : List ℕ) (ok : is_edge_table t ≡ true) (local : Bool) (m : Summ
       both (by-halted ∙ sym full-halted)
       (subst (λ (j : Judgement). AgreeAll (marked m) t local j.state raws) (sym full-halted) (halted-agree-all raws s h w))
     where
-      full-halted : judge_of t local s raw ≡ refuse 20 s
+      full-halted : judge_of t local s raw ≡ refuse Halted s
       full-halted = rw (ok, w, h) refl
 
-      by-halted : judge_by (marked m) t local s raw ≡ refuse 20 s
+      by-halted : judge_by (marked m) t local s raw ≡ refuse Halted s
       by-halted = rw (ok, w, h) refl
 
   -- a step that was taken is not refused
@@ -243,7 +246,7 @@ module _ (t : List ℕ) (ok : is_edge_table t ≡ true) (local : Bool) (m : Summ
       → (step : Step) → step_of raw ≡ some step → On (unless_refused a (step_of raw) past) → On (step ∷ past)
   taken-kept past h raw Allowed j k step e on = subst (λ (o : Option Step). On (then o past)) e on
   taken-kept past h raw (Violated p) j k step e on = subst (λ (o : Option Step). On (then o past)) e on
-  taken-kept past h raw (Refused n) (is_refused_with r) k step e on = absurd (k n r.stated)
+  taken-kept past h raw (Refused n) (is_refused_with r) k step e on = absurd (k (number_of n) r.stated)
 
   agree-all-from : (raws : List RawStep) (past : Past) (s : State) → Represents local (edges_of t) past false s → Clean local (edges_of t) past
       → On (not_refused t local s raws past) → AgreeAll (marked m) t local s raws

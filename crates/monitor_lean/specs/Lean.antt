@@ -4,6 +4,7 @@ use Rattle.std.proofs.Math.Option.{Option}
 use Rattle.usage.specs.declared.RawStep.{RawStep}
 use Rattle.usage.specs.Past.{Step, event, opening, closing, retiring, Past}
 use Rattle.usage.specs.Judge.{step_of, then}
+use Rattle.usage.specs.declared.Reason.{Reason}
 use Rattle.monitor_state.specs.declared.State.{State}
 use Rattle.monitor_state.specs.declared.Answer.{Answer}
 use Rattle.monitor_state.specs.declared.Answer.TheVariants.{Allowed, Violated, Refused}
@@ -55,7 +56,7 @@ up_to_refusal (a ∷ answers) = a ∷ cut_at a (up_to_refusal answers)
 -- Two judges agree on these steps: at each one the whole judgement, answer and state, is the same, up to and including the first refusal.
 pub data Agree (looks : Looks) (t : List ℕ) (local : Bool) : State → List RawStep → Type 0 where
   done : {s : State} → Agree looks t local s []
-  stops : {s : State} {raw : RawStep} {raws : List RawStep} {n : ℕ} → judge_by looks t local s raw ≡ judge_of t local s raw
+  stops : {s : State} {raw : RawStep} {raws : List RawStep} {n : Reason} → judge_by looks t local s raw ≡ judge_of t local s raw
       → (judge_of t local s raw).answer ≡ Refused n → Agree looks t local s (raw ∷ raws)
   next : {s : State} {raw : RawStep} {raws : List RawStep} → judge_by looks t local s raw ≡ judge_of t local s raw
       → Agree looks t local (judge_of t local s raw).state raws → Agree looks t local s (raw ∷ raws)

@@ -5,7 +5,7 @@
 ghost use Rattle.std.specs.Prelude.{ℕ, ◌<◌, ◌≤◌, ◌^◌, ◌≡◌, cond, length};
 ghost use Rattle.std.proofs.Math.Option.{some};
 ghost use Rattle.usage.specs.Limits.{policies};
-ghost use Rattle.usage.specs.Past.{Step};
+ghost use Rattle.usage.specs.Past.{Step as Read};
 ghost use Rattle.usage.specs.Judge.{step_of};
 ghost use Rattle.automaton.specs.Mask.{has, union};
 ghost use Rattle.monitor_state.specs.Lent.{lent_of, state_of, judgement_of};
@@ -13,7 +13,7 @@ ghost use Rattle.monitor_lean.specs.Lean.{opening_bit, mark_at, marked, lean_siz
 ghost use Rattle.monitor_lean.specs.Promise.{LeanPromise};
 
 use monitor_sets::SETS;
-use monitor_state::{Read, Sizes, Told};
+use monitor_state::{Sizes, Step, Told};
 use usage::{MOST_CREATED, MOST_UNCLOSED, POLICIES, RawStep};
 
 // The bit of a policy's opening; those below it are its actions'.
@@ -36,30 +36,33 @@ fn marked_at(marks: &[u64; POLICIES], i: u32) -> u8
     ensures { result ≡ union policies (λ p. cond (mark_at marks.now p i) (2 ^ p) 0) }
 {
     let mut s: u8 = 0;
-    let mut p: usize = 0;
-    while p < POLICIES {
-        s = s | mark_bit(marks[p], i, p);
-        p += 1;
+    for p in 0..POLICIES {
+        s |= mark_bit(marks[p], i, p);
     }
     s
 }
 
 // The policies that a step is judged by.
 pub fn looked_at(marks: &[u64; POLICIES], step: RawStep) -> u8
-    ensures { (read : Step) → step_of step ≡ some read → (p : ℕ) → p < policies → has result p ≡ marked marks.now read p }
+    ensures { (read : Read) → step_of step ≡ some read → (p : ℕ) → p < policies → has result p ≡ marked marks.now read p }
 {
-    let read = monitor_state::read_step(step);
+    let Some(read) = monitor_state::read_step(step) else {
+        return 0;
+    };
     match read {
-        Read::Event(action, _r) => marked_at(marks, action),
-        Read::Opening(p) => mark_bit(marks[p], OPENING, p),
-        Read::Closing(_p) => 0,
-        Read::Retiring(_r) => 0,
-        Read::Nothing => 0,
+        Step::Event {
+            action,
+            resource: _r,
+        } => marked_at(marks, action),
+        Step::Opening { policy } => mark_bit(marks[policy], OPENING, policy),
+        Step::Closing { policy: _p } => 0,
+        Step::Retiring { resource: _r } => 0,
     }
 }
 
 // One step of the lean judge, over a state whose arrays are lent, with any marks at all. A slice of another length than that of the sets of
 // pairs is 42.
+// Kept: the arrays stand one by one: the C interface needs it.
 pub fn judge_lean(
     marks: &[u64; POLICIES],
     edges: &[u8],

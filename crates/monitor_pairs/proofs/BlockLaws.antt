@@ -1,13 +1,13 @@
--- The two blocks: a slice of both is lent block by block, and a place that was taken in use for a creation is given back.
+-- The two blocks: a slice of both is lent as two arrays, and a place that was taken in use for a creation is given back.
 use Prim.Native.Nat.{ℕ, ◌+◌, ◌-◌, ◌*◌, ◌/◌, ◌%◌, ◌<◌, ◌≤◌}
 use mathlib.Core.Path.{◌≡◌, refl, sym, ap, ap₂, subst, ◌∙◌}
 use mathlib.Core.Bool.{Bool, true, false, ◌&&◌, cond}
-use mathlib.Core.List.{List, [], ◌++◌, append-nil}
+use mathlib.Core.List.{List, ◌++◌}
 use native.Mathlib.Omega.{arith}
-use borrow.Author.Tests.{eqb-true, ltb-true, ltb-false}
+use borrow.Author.Tests.{eq-eqb, ne_eqb, eqb-true, ltb-true, ltb-false}
 use lib.Dec.{eqb, ltb, leb, lit<}
-use lib.ListN.{length, get_or, take, drop, length-drop, take-append-drop, drop_of_length-le, get_or-eq_default}
-use lib.Seq.{length-take-le, take_at, drop_at, get_or-take, get_or-drop}
+use lib.ListN.{length, get_or, length-drop, take-append-drop, get_or-eq_default}
+use lib.Seq.{length-take-le, get_or-take, get_or-drop}
 use Rattle.usage.specs.Tables.{from}
 use Rattle.usage.proofs.TableLaws.{from-below, is-from}
 use Rattle.monitor_sets.specs.Instances.{unseen, instances}
@@ -16,35 +16,24 @@ use Rattle.monitor_pairs.specs.Blocks.{pair_sets, lower_block, upper_block}
 use Rattle.monitor_pairs.specs.Code.{pair_row, row_put}
 use Rattle.monitor_pairs.proofs.RunLaws.{at_from, row-places}
 
-take_all : (l : List ℕ) (n : ℕ) → length l ≡ n → take n l ≡ l
-take_all l n e = ap (take n) (sym (append-nil l)) ∙ take_at l [] n e
+-- ── Lent as two arrays ──
+
+-- a slice is two blocks exactly where the rest behind the first is one
+module _ (l x y : List ℕ) (low : x ≡ lower_block l) (high : y ≡ upper_block l) (size : length y + pair_places ≡ length l) where
+  pub both-same : x ++ y ≡ l
+  both-same = ap₂ (λ (u v : List ℕ). u ++ v) low high ∙ take-append-drop pair_places l
+
+  pub two-blocks : length y ≡ pair_places → eqb (length l) pair_sets ≡ true
+  two-blocks e = eq-eqb (length l) pair_sets (omega arith)
+
+  pub no-blocks : (length y ≡ pair_places → ⊥) → eqb (length l) pair_sets ≡ false
+  no-blocks d = ne_eqb (length l) pair_sets (λ e. d (omega (arith, size, e)))
 
 pub lower-size : (l : List ℕ) → length l ≡ pair_sets → length (lower_block l) ≡ pair_places
 lower-size l h = length-take-le pair_places l (omega arith)
 
 pub upper-size : (l : List ℕ) → length l ≡ pair_sets → length (upper_block l) ≡ pair_places
 upper-size l h = length-drop pair_places l ∙ omega arith
-
--- ── Lent one after the other ──
-
-module _ (l x : List ℕ) (h : length l ≡ pair_sets) (e : length x ≡ pair_places) where
-  -- once the first has become x
-  abbrev pub half : List ℕ
-  half = x ++ drop pair_places (drop 0 l)
-
-  pub upper-lent : take pair_places (drop pair_places half) ≡ upper_block l
-  upper-lent = ap (take pair_places) (drop_at x (drop pair_places l) pair_places e) ∙ take_all (upper_block l) pair_places (upper-size l h)
-
-  pub both-back : (y : List ℕ) → take pair_places half ++ (y ++ drop pair_places (drop pair_places half)) ≡ x ++ y
-  both-back y =
-      ap₂ (λ (u v : List ℕ). u ++ (y ++ drop pair_places v)) (take_at x (drop pair_places l) pair_places e)
-      (drop_at x (drop pair_places l) pair_places e)
-      ∙ ap (λ (v : List ℕ). x ++ (y ++ v)) (drop_of_length-le (upper_block l) {i = pair_places} (omega (arith, upper-size l h)))
-      ∙ ap (λ (v : List ℕ). x ++ v) (append-nil y)
-
--- where the first is as it was, both are
-pub both-same : (l : List ℕ) → length l ≡ pair_sets → lower_block l ++ upper_block l ≡ l
-both-same l h = take-append-drop pair_places l
 
 module _ (l : List ℕ) (h : length l ≡ pair_sets) (small : (k : ℕ) → get_or l k 0 < 256) where
   pub lower-below : (k : ℕ) → get_or (lower_block l) k 0 < 256

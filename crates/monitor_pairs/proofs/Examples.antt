@@ -8,7 +8,7 @@ use Rattle.usage.specs.declared.Edge.{Edge}
 use Rattle.usage.specs.Tables.{from}
 use Rattle.automaton.specs.Mask.{has, single, union}
 use Rattle.automaton.specs.Move.{targets, image, move_by}
-use Rattle.automaton.proofs.RowLaws.{stay_rows_lem}
+use Rattle.automaton.specs.Code.{stay_rows_lem}
 use Rattle.monitor_sets.specs.Instances.{unseen, instances}
 use Rattle.monitor_pairs.specs.Pairs.{pair_places, pair_at, event_pairs}
 use Rattle.monitor_pairs.specs.Tracked.{rows_for, event_ways}

@@ -8,8 +8,8 @@ use native.Mathlib.Omega.{arith}
 use borrow.Author.Tests.{eq-eqb, ne_eqb, eqb-true, eqb-false, lt-ltb}
 use lib.Bits.{bit_or, or_zero_l, or_zero_r, or_self}
 use lib.Dec.{eqb, ltb}
-use lib.ListN.{length, get_or, set, replicate, length-replicate}
-use lib.Seq.{get_or-set_same, get_or-set_other}
+use lib.ListN.{length, get_or, set, take, replicate, length-replicate}
+use lib.Seq.{length-take-le, get_or-take, get_or-set_same, get_or-set_other}
 use Rattle.usage.specs.Limits.{states}
 use Rattle.usage.proofs.Logic.{and_left, and_right}
 use Rattle.usage.specs.Tables.{from}
@@ -17,14 +17,15 @@ use Rattle.usage.proofs.TableLaws.{length_from, is-from}
 use Rattle.automaton.specs.Mask.{has, union}
 use Rattle.automaton.specs.Move.{move_by}
 use Rattle.automaton.proofs.MaskLaws.{has-or}
-use Rattle.automaton.proofs.RowLaws.{union-ext, move_by-held, changed-none, stay-moves}
+use Rattle.automaton.proofs.RowLaws.{union-ext, stays_moved}
 use Rattle.monitor_sets.specs.Instances.{instances}
 use Rattle.monitor_sets.proofs.LaneLaws.{union-add, union-or}
 use Rattle.monitor_sets.proofs.MovedLaws.{moved-empty}
 use Rattle.monitor_sets.proofs.SetLaws.{union_more, union-with}
 use Rattle.monitor_pairs.specs.declared.Ways.{Ways}
 use Rattle.monitor_pairs.specs.Pairs.{pair_places, pair_at, way_of, event_pairs, gather_pairs}
-use Rattle.monitor_pairs.specs.Code.{stays_by, stays_all, pair_row, row_joined, beside_columns}
+use Rattle.automaton.specs.Code.{stays_by}
+use Rattle.monitor_pairs.specs.Code.{stays_all, pair_row, row_joined, beside_columns}
 use Rattle.monitor_pairs.proofs.RunLaws.{at_from, same_from, at-replicate}
 
 -- ── Unions ──
@@ -263,16 +264,13 @@ module _ (at : ℕ) (sets : List ℕ) where
       same_from (beside_to n) (beside_to (n + 1)) instances
       (λ j b. sym (or_zero_r (beside_to n j)) ∙ next n j 0 (sym (ap (λ (t : Bool). cond t 0 (pair_at sets n j)) (eq-eqb n at e))))
 
--- ── Rows that leave every state where it is ──
+-- the first n sets, lent as a part
+pub union-front : (l : List ℕ) (n : ℕ) → n ≤ length l → union (length (take n l)) (λ i. get_or (take n l) i 0) ≡ union n (λ i. get_or l i 0)
+union-front l n h =
+    ap (λ (m : ℕ). union m (λ i. get_or (take n l) i 0)) (length-take-le n l h)
+    ∙ union-ext n (λ i. get_or (take n l) i 0) (λ i. get_or l i 0) (λ i b. get_or-take n l i 0 b)
 
-pub stays_moved : (rows : List ℕ) → stays_by rows ≡ true → (m : ℕ) → m < 256 → move_by rows 0 m ≡ m
-unfolding stays_by
-stays_moved rows e m l =
-    move_by-held rows 0 m
-    ∙ ap (λ (u : List ℕ). move_by u 0 m)
-    (changed-none (get_or rows 0 0) (get_or rows 1 0) (get_or rows 2 0) (get_or rows 3 0) (get_or rows 4 0) (get_or rows 5 0) (get_or rows 6 0)
-    (get_or rows 7 0) (eqb-true _ 0 e))
-    ∙ stay-moves m l
+-- ── Rows that leave every state where it is ──
 
 module _ (w : Ways) (e : stays_all w ≡ true) where
   pub stays-way : (x y : Bool) (m : ℕ) → m < 256 → move_by (way_of w x y) 0 m ≡ m

@@ -15,7 +15,8 @@ use Rattle.usage.proofs.TableLaws.{is-from}
 use Rattle.automaton.specs.Mask.{has, union}
 use Rattle.automaton.specs.Move.{move_by}
 use Rattle.automaton.proofs.MaskLaws.{left_le, right_le, all-below, all-below-at}
-use Rattle.automaton.proofs.RowLaws.{union-ext, stay_rows_lem, stay-moves}
+use Rattle.automaton.specs.Code.{stay_rows_lem}
+use Rattle.automaton.proofs.RowLaws.{union-ext, stay-moves}
 use Rattle.monitor_sets.proofs.LaneLaws.{shuffle}
 use Rattle.monitor_pairs.specs.Pairs.{pair_places}
 use Rattle.monitor_pairs.specs.Code.{row_where, two_moved, run_moved, run_by_two}

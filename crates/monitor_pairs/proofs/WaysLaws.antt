@@ -8,9 +8,10 @@ use lib.ListN.{get_or}
 use Rattle.usage.specs.declared.Edge.{Edge}
 use Rattle.usage.specs.Limits.{policies, states}
 use Rattle.automaton.specs.Move.{image, fires_at, rows_at}
+use Rattle.automaton.specs.Code.{policy_rows_lem, rows_in}
 use Rattle.automaton.proofs.PlaceLaws.{row-placed}
 use Rattle.monitor_pairs.specs.Tracked.{rows_for, event_ways}
-use Rattle.monitor_pairs.specs.Code.{policy_rows_lem, ways_in}
+use Rattle.monitor_pairs.specs.Code.{ways_in}
 use Rattle.monitor_pairs.proofs.RunLaws.{same_from}
 
 module _ (es : List Edge) (p a r : ℕ) (h : p < policies) where
@@ -22,5 +23,5 @@ module _ (es : List Edge) (p a r : ℕ) (h : p < policies) where
 
   pub ways-in : ways_in (rows_at es a r false false) (rows_at es a r true false) (rows_at es a r false true) (rows_at es a r true true) p
       ≡ event_ways es p a r
-  unfolding ways_in event_ways
+  unfolding ways_in rows_in event_ways
   ways-in = rw (lt-ltb p policies h, rows-for false false, rows-for true false, rows-for false true, rows-for true true)

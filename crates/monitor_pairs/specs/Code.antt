@@ -1,24 +1,18 @@
 -- What the functions compute on the way.
-use Rattle.std.specs.Prelude.{ℕ, ◌+◌, ◌-◌, ◌*◌, ◌/◌, ◌%◌, Bool, ◌&&◌, cond, List, [], ◌∷◌, ◌++◌, eqb, ltb, leb, length, get_or, set}
+use Rattle.std.specs.Prelude.{ℕ, ◌+◌, ◌-◌, ◌/◌, ◌%◌, Bool, ◌&&◌, cond, List, ◌++◌, eqb, ltb, leb, length, get_or, set}
 use Rattle.std.specs.Int.Bits.{bit_and, bit_or}
-use Rattle.usage.specs.Limits.{policies, states}
 use Rattle.usage.specs.Tables.{from}
 use Rattle.automaton.specs.Mask.{union}
 use Rattle.automaton.specs.Move.{move_by}
-use Rattle.automaton.specs.Code.{changed}
+use Rattle.automaton.specs.Code.{stays_by, rows_in}
 use Rattle.monitor_sets.specs.Instances.{instances}
 use Rattle.monitor_pairs.specs.declared.Ways.{Ways}
 use Rattle.monitor_pairs.specs.declared.which.Blocks.{Blocks}
-use Rattle.monitor_pairs.specs.declared.blocks.Turn.{Turn}
+use Rattle.monitor_sets.specs.declared.Turn.{Turn}
 use Rattle.monitor_pairs.specs.Pairs.{pair_places, pair_at, taken, event_pairs, gather_pairs, create_pairs}
 use Rattle.monitor_pairs.specs.Blocks.{pair_sets, lower_block, upper_block, of_policy}
 
--- eight rows leave every state where it is
-unfoldable pub stays_by : List ℕ → Bool
-stays_by l =
-    eqb (changed (get_or l 0 0) (get_or l 1 0) (get_or l 2 0) (get_or l 3 0) (get_or l 4 0) (get_or l 5 0) (get_or l 6 0) (get_or l 7 0)) 0
-
--- all four ways do
+-- all four ways leave every state where it is
 unfoldable pub stays_all : Ways → Bool
 stays_all w = stays_by w.neither && (stays_by w.first && (stays_by w.second && stays_by w.both))
 
@@ -84,26 +78,15 @@ columns_retired at n sets =
     from (λ k. cond (ltb (k / instances) n) (taken at (instances - 1) (pair_at sets (k / instances)) (k % instances)) (get_or sets k 0)) 0
     pair_places
 
--- the eight rows of policy p in a table of all policies' rows
-unfoldable pub policy_rows_lem : List ℕ → ℕ → List ℕ
-policy_rows_lem table p = from (λ q. get_or table (p * states + q) 0) 0 states
-
--- rows that leave every state where it is
-abbrev pub stay_rows_lem : List ℕ
-stay_rows_lem = 1 ∷ 2 ∷ 4 ∷ 8 ∷ 16 ∷ 32 ∷ 64 ∷ 128 ∷ []
-
--- The four ways of policy p, out of four such tables; there is no other policy than the eight, and nothing moves.
+-- the four ways of policy p, out of four tables of all policies' rows
 unfoldable pub ways_in : List ℕ → List ℕ → List ℕ → List ℕ → ℕ → Ways
-ways_in neither first second both p =
-    cond (ltb p policies)
-    record { neither = policy_rows_lem neither p; first = policy_rows_lem first p; second = policy_rows_lem second p; both = policy_rows_lem both p }
-    record { neither = stay_rows_lem; first = stay_rows_lem; second = stay_rows_lem; both = stay_rows_lem }
+ways_in neither first second both p = record { neither = rows_in neither p; first = rows_in first p; second = rows_in second p; both = rows_in both p }
 
 -- ── Both blocks ──
 
 -- a block after an event, whose resource is first created where it creates one
 unfoldable pub turned : Turn → Ways → List ℕ → List ℕ
-turned t w sets = event_pairs w t.at t.n (cond t.creates (create_pairs t.at sets) sets)
+turned t w sets = event_pairs w t.at t.n (cond (eqb t.action 0) (create_pairs t.at sets) sets)
 
 -- there are two blocks, so many places, and the event's is among them
 abbrev pub takes_turn : Turn → List ℕ → Bool

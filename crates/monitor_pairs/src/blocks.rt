@@ -7,30 +7,20 @@ ghost use Rattle.monitor_pairs.specs.Code.{turned, turned_blocks, led_blocks, ta
 
 use crate::which::Blocks;
 use crate::{PAIR_SETS, PAIRS, Ways, events, gathering, places, retiring};
-use monitor_sets::{FIRST_CREATED, INSTANCES};
+use monitor_sets::{FIRST_CREATED, INSTANCES, Turn};
 use usage::POLICIES;
-
-// An event on the resource at place `at` of the first n, which it creates, or not.
-#[derive(Clone, Copy)]
-pub struct Turn {
-    pub n: usize,
-    pub at: usize,
-    pub creates: bool,
-}
 
 // ── What an event leads to ──
 
 // In one block; the sets stay as they were. The place of a created resource is taken in use for it, and then given back.
-fn lead(sets: &mut [u8], turn: Turn, ways: Ways) -> u8
-    requires sets_len { length sets.old ≡ pair_places }
-    requires by_index { (k : ℕ) → get_or sets.old k 0 < 256 }
+fn lead(sets: &mut [u8; PAIRS], turn: Turn, ways: Ways) -> u8
     requires n_le_instances { turn.n ≤ instances }
     requires at_lt_n { turn.at < turn.n }
     ensures sets_unchanged { sets.new ≡ sets.old }
     ensures value { result ≡ gather_pairs turn.n (turned turn ways sets.old) }
 {
     let at = turn.at;
-    if turn.creates {
+    if turn.action == 0 {
         let k = at * INSTANCES;
         let row = events::row_of(sets, k);
         places::create(sets, at);
@@ -43,14 +33,12 @@ fn lead(sets: &mut [u8], turn: Turn, ways: Ways) -> u8
 
 // In the block of policy p, put among what all policies are led to.
 fn lead_policy(
-    sets: &mut [u8],
+    sets: &mut [u8; PAIRS],
     p: u32,
     turn: Turn,
     ways: Ways,
     after: [u8; POLICIES],
 ) -> [u8; POLICIES]
-    requires sets_len { length sets.old ≡ pair_places }
-    requires by_index { (k : ℕ) → get_or sets.old k 0 < 256 }
     requires n_le_instances { turn.n ≤ instances }
     requires at_lt_n { turn.at < turn.n }
     ensures sets_unchanged { sets.new ≡ sets.old }
@@ -78,39 +66,33 @@ pub fn lead_event(
     ensures pairs_unchanged { pairs.new ≡ pairs.old }
     ensures value { result ≡ cond (takes_turn turn pairs.old) (led_blocks which turn lower upper pairs.old after) after }
 {
-    if pairs.len() != PAIR_SETS {
+    if INSTANCES < turn.n || turn.n <= turn.at {
         return after;
     }
-    if INSTANCES < turn.n {
+    let Some((one, rest)) = pairs.split_first_chunk_mut::<PAIRS>() else {
         return after;
-    }
-    if turn.n <= turn.at {
+    };
+    let Some(two) = rest.as_mut_array::<PAIRS>() else {
         return after;
-    }
-    let led = lead_policy(&mut pairs[0..PAIRS], which.first, turn, lower, after);
-    lead_policy(&mut pairs[PAIRS..PAIR_SETS], which.second, turn, upper, led)
+    };
+    let led = lead_policy(one, which.first, turn, lower, after);
+    lead_policy(two, which.second, turn, upper, led)
 }
 
 // ── The event ──
 
-fn take(sets: &mut [u8], p: u32, turn: Turn, ways: Ways)
-    requires sets_len { length sets.old ≡ pair_places }
-    requires by_index { (k : ℕ) → get_or sets.old k 0 < 256 }
+fn take(sets: &mut [u8; PAIRS], p: u32, turn: Turn, ways: Ways)
     requires n_le_instances { turn.n ≤ instances }
     requires at_lt_n { turn.at < turn.n }
-    ensures sets_after { sets.new ≡ of_policy p (λ p. turned turn ways) sets.old }
-    ensures sets_len_2 { length sets.new ≡ pair_places }
+    ensures { sets.new ≡ of_policy p (λ p. turned turn ways) sets.old }
 {
     if 8 <= p {
         return;
     }
-    let at = turn.at;
-    if turn.creates {
-        places::create(sets, at);
-        events::take_event(sets, turn.n, at, ways);
-        return;
+    if turn.action == 0 {
+        places::create(sets, turn.at);
     }
-    events::take_event(sets, turn.n, at, ways);
+    events::take_event(sets, turn.n, turn.at, ways);
 }
 
 // The sets of either block after the event; where there are not n places, or n is not above `at`, or there are not two blocks, nothing
@@ -119,34 +101,28 @@ pub fn take_event(pairs: &mut [u8], which: Blocks, turn: Turn, lower: Ways, uppe
     ensures { pairs.new
         ≡ cond (takes_turn turn pairs.old) (turned_blocks which turn lower upper pairs.old) pairs.old }
 {
-    if pairs.len() != PAIR_SETS {
+    if INSTANCES < turn.n || turn.n <= turn.at {
         return;
     }
-    if INSTANCES < turn.n {
+    let Some((one, rest)) = pairs.split_first_chunk_mut::<PAIRS>() else {
         return;
-    }
-    if turn.n <= turn.at {
+    };
+    let Some(two) = rest.as_mut_array::<PAIRS>() else {
         return;
-    }
-    take(&mut pairs[0..PAIRS], which.first, turn, lower);
-    take(&mut pairs[PAIRS..PAIR_SETS], which.second, turn, upper);
+    };
+    take(one, which.first, turn, lower);
+    take(two, which.second, turn, upper);
 }
 
 // ── Openings and retirings ──
 
-fn reset_policy(sets: &mut [u8], p: u32, n: usize, s: u32)
-    requires sets_len { length sets.old ≡ pair_places }
+fn reset_policy(sets: &mut [u8; PAIRS], p: u32, n: usize, s: u32)
     requires n_le_instances { n ≤ instances }
-    ensures sets_value { sets.exit.now ≡ of_policy p (λ p sets. cond (eqb p s) (reset_pairs n sets) sets) sets.entry.now }
-    ensures sets_len_2 { length sets.new ≡ pair_places }
+    ensures { sets.new ≡ of_policy p (λ p sets. cond (eqb p s) (reset_pairs n sets) sets) sets.old }
 {
-    if 8 <= p {
-        return;
+    if p < 8 && p == s {
+        places::reset(sets, n);
     }
-    if p != s {
-        return;
-    }
-    places::reset(sets, n);
 }
 
 // The first n places of policy s are in state 0; where there are not so many, or not two blocks, nothing happens.
@@ -155,28 +131,28 @@ pub fn reset(pairs: &mut [u8], which: Blocks, n: usize, s: u32)
         ≡ cond (eqb (length pairs.old) pair_sets && leb n instances)
         (each_block which (λ p sets. cond (eqb p s) (reset_pairs n sets) sets) pairs.old) pairs.old }
 {
-    if pairs.len() != PAIR_SETS {
-        return;
-    }
     if INSTANCES < n {
         return;
     }
-    reset_policy(&mut pairs[0..PAIRS], which.first, n, s);
-    reset_policy(&mut pairs[PAIRS..PAIR_SETS], which.second, n, s);
+    let Some((one, rest)) = pairs.split_first_chunk_mut::<PAIRS>() else {
+        return;
+    };
+    let Some(two) = rest.as_mut_array::<PAIRS>() else {
+        return;
+    };
+    reset_policy(one, which.first, n, s);
+    reset_policy(two, which.second, n, s);
 }
 
-fn retire_policy(sets: &mut [u8], p: u32, n: usize, at: usize)
-    requires sets_len { length sets.old ≡ pair_places }
+fn retire_policy(sets: &mut [u8; PAIRS], p: u32, n: usize, at: usize)
     requires n_le_instances { n ≤ instances }
     requires first_created_le_at { first_created_lem ≤ at }
     requires at_lt_n { at < n }
-    ensures sets_after { sets.new ≡ of_policy p (λ p. retire_pairs at n) sets.old }
-    ensures sets_len_2 { length sets.new ≡ pair_places }
+    ensures { sets.new ≡ of_policy p (λ p. retire_pairs at n) sets.old }
 {
-    if 8 <= p {
-        return;
+    if p < 8 {
+        retiring::retire(sets, n, at);
     }
-    retiring::retire(sets, n, at);
 }
 
 // Place `at` of the first n is retired; where there are not so many, or it is not that of a live resource, or there are not two blocks,
@@ -186,18 +162,15 @@ pub fn retire(pairs: &mut [u8], which: Blocks, n: usize, at: usize)
         ≡ cond (eqb (length pairs.old) pair_sets && (leb n instances && (ltb at n && leb first_created_lem at)))
         (each_block which (λ p. retire_pairs at n) pairs.old) pairs.old }
 {
-    if pairs.len() != PAIR_SETS {
+    if INSTANCES < n || n <= at || at < FIRST_CREATED {
         return;
     }
-    if INSTANCES < n {
+    let Some((one, rest)) = pairs.split_first_chunk_mut::<PAIRS>() else {
         return;
-    }
-    if n <= at {
+    };
+    let Some(two) = rest.as_mut_array::<PAIRS>() else {
         return;
-    }
-    if at < FIRST_CREATED {
-        return;
-    }
-    retire_policy(&mut pairs[0..PAIRS], which.first, n, at);
-    retire_policy(&mut pairs[PAIRS..PAIR_SETS], which.second, n, at);
+    };
+    retire_policy(one, which.first, n, at);
+    retire_policy(two, which.second, n, at);
 }

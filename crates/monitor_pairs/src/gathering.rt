@@ -8,157 +8,69 @@ ghost use Rattle.monitor_sets.specs.Code.{lanes};
 ghost use Rattle.monitor_pairs.specs.Pairs.{pair_places, event_pairs, gather_pairs};
 ghost use Rattle.monitor_pairs.specs.Code.{stays_all, row_joined, beside_columns};
 
-use crate::{Ways, events};
-use monitor_sets::INSTANCES;
-
-// How many sets one instruction joins.
-const LANES: usize = 16;
-
-// As many sets from place k on, joined to as many others.
-fn join_lanes(all: &mut [u8; LANES], sets: &[u8], k: usize)
-    requires all_len { length all.old ≡ lanes }
-    requires lanes_bound { k + lanes ≤ pair_places }
-    requires sets_len { length sets.now ≡ pair_places }
-    ensures all_len_2 { length all.new ≡ lanes }
-    ensures i_after { union lanes (λ i. get_or all.new i 0)
-        ≡ bit_or (union lanes (λ i. get_or all.old i 0)) (union lanes (λ i. get_or sets.now (k + i) 0)) }
-{
-    let mut i: usize = 0;
-    while i < LANES {
-        all[i] = all[i] | sets[k + i];
-        i += 1;
-    }
-}
-
-// The union of all of them.
-fn union_lanes(all: &[u8; LANES]) -> u8
-    ensures { result ≡ union lanes (λ i. get_or all.now i 0) }
-{
-    let mut m: u8 = 0;
-    let mut i: usize = 0;
-    while i < LANES {
-        m = m | all[i];
-        i += 1;
-    }
-    m
-}
-
-// The union of the first n sets, many at once. The last ones reach back over some that are joined already, which changes nothing.
-fn union_run(sets: &[u8], n: usize) -> u8
-    requires sets_len { length sets.now ≡ pair_places }
-    requires lanes_le_n { lanes ≤ n }
-    requires n_le_pair_places { n ≤ pair_places }
-    ensures { result ≡ union n (λ i. get_or sets.now i 0) }
-{
-    let mut all = [0u8; LANES];
-    let whole = n / LANES;
-    let mut i: usize = 0;
-    while i < whole {
-        join_lanes(&mut all, sets, LANES * i);
-        i += 1;
-    }
-    join_lanes(&mut all, sets, n - LANES);
-    union_lanes(&all)
-}
+use crate::{PAIRS, Ways, events};
+use monitor_sets::{INSTANCES, unions};
 
 // The row that starts at place k, joined to a line.
-pub(crate) fn join_row(line: &mut [u8; INSTANCES], sets: &[u8], k: usize)
-    requires line_len { length line.old ≡ instances }
+pub(crate) fn join_row(line: &mut [u8; INSTANCES], sets: &[u8; PAIRS], k: usize)
     requires instances_bound { k + instances ≤ pair_places }
-    requires sets_len { length sets.now ≡ pair_places }
-    ensures line_len_2 { length line.new ≡ instances }
-    ensures line_after { line.new ≡ row_joined k sets.now line.old }
+    ensures { line.new ≡ row_joined k sets.now line.old }
 {
-    let mut j: usize = 0;
-    while j < INSTANCES {
+    for j in 0..INSTANCES {
         line[j] = line[j] | sets[k + j];
-        j += 1;
     }
 }
 
 // The union of each column in the first n rows, without row `at`.
-fn columns_beside(sets: &[u8], n: usize, at: usize) -> [u8; INSTANCES]
-    requires sets_len { length sets.now ≡ pair_places }
+fn columns_beside(sets: &[u8; PAIRS], n: usize, at: usize) -> [u8; INSTANCES]
     requires n_le_instances { n ≤ instances }
     ensures { result ≡ beside_columns n at sets.now }
 {
     let mut line = [0u8; INSTANCES];
-    let mut i: usize = 0;
-    while i < n {
+    for i in 0..n {
         if i != at {
             join_row(&mut line, sets, i * INSTANCES);
         }
-        i += 1;
     }
     line
 }
 
-// The union of a line.
-fn union_line(line: [u8; INSTANCES]) -> u8
-    ensures { result ≡ union instances (λ j. get_or line j 0) }
-{
-    let mut m: u8 = 0;
-    let mut j: usize = 0;
-    while j < INSTANCES {
-        m = m | line[j];
-        j += 1;
-    }
-    m
-}
-
 // What the event leads to: the sets that see it alike are joined first, and each of the four unions is moved.
-fn after_rows(sets: &[u8], n: usize, at: usize, ways: Ways) -> u8
-    requires sets_len { length sets.now ≡ pair_places }
+fn after_rows(sets: &[u8; PAIRS], n: usize, at: usize, ways: Ways) -> u8
     requires n_le_instances { n ≤ instances }
     requires at_lt_n { at < n }
     ensures { result ≡ gather_pairs n (event_pairs ways at n sets.now) }
 {
-    let neither = ways.neither;
-    let first = ways.first;
-    let second = ways.second;
-    let both = ways.both;
     let mut others = columns_beside(sets, n, at);
     let mut row = events::row_of(sets, at * INSTANCES);
     let column = others[at];
     let own = row[at];
     others[at] = 0;
     row[at] = 0;
-    events::moved(union_line(others), neither)
-        | events::moved(union_line(row), first)
-        | events::moved(column, second)
-        | events::moved(own, both)
+    automaton::move_by_rows(unions::union_all(&others), ways.neither)
+        | automaton::move_by_rows(unions::union_all(&row), ways.first)
+        | automaton::move_by_rows(column, ways.second)
+        | automaton::move_by_rows(own, ways.both)
 }
 
 // Do all four ways leave every state where it is?
 pub(crate) fn all_stay(ways: Ways) -> bool
     ensures { result ≡ stays_all ways }
 {
-    let neither = ways.neither;
-    let first = ways.first;
-    let second = ways.second;
-    let both = ways.both;
-    if !events::stay(neither) {
-        return false;
-    }
-    if !events::stay(first) {
-        return false;
-    }
-    if !events::stay(second) {
-        return false;
-    }
-    events::stay(both)
+    automaton::stays(ways.neither)
+        && automaton::stays(ways.first)
+        && automaton::stays(ways.second)
+        && automaton::stays(ways.both)
 }
 
 // Which states some two of the first n places may be in after an event on the resource at place `at`.
-pub(crate) fn after_event(sets: &[u8], n: usize, at: usize, ways: Ways) -> u8
-    requires sets_len { length sets.now ≡ pair_places }
-    requires by_index { (k : ℕ) → get_or sets.now k 0 < 256 }
+pub(crate) fn after_event(sets: &[u8; PAIRS], n: usize, at: usize, ways: Ways) -> u8
     requires n_le_instances { n ≤ instances }
     requires at_lt_n { at < n }
     ensures { result ≡ gather_pairs n (event_pairs ways at n sets.now) }
 {
     if all_stay(ways) {
-        return union_run(sets, n * INSTANCES);
+        return unions::union_all(&sets[..n * INSTANCES]);
     }
     after_rows(sets, n, at, ways)
 }

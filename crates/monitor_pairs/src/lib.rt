@@ -3,6 +3,7 @@
 #![tactic(auto)]
 
 use monitor_sets::INSTANCES;
+use usage::STATES;
 
 pub mod blocks;
 mod events;
@@ -23,8 +24,8 @@ pub const PAIR_SETS: usize = 2 * PAIRS;
 // the second, or both.
 #[derive(Clone, Copy)]
 pub struct Ways {
-    pub neither: [u8; 8],
-    pub first: [u8; 8],
-    pub second: [u8; 8],
-    pub both: [u8; 8],
+    pub neither: [u8; STATES],
+    pub first: [u8; STATES],
+    pub second: [u8; STATES],
+    pub both: [u8; STATES],
 }

@@ -5,63 +5,51 @@ ghost use Rattle.monitor_sets.specs.Instances.{first_created_lem, instances};
 ghost use Rattle.monitor_pairs.specs.Pairs.{pair_places, retire_pairs};
 ghost use Rattle.monitor_pairs.specs.Code.{moved_up, line_retired, columns_retired};
 
-use crate::{events, gathering, places};
+use crate::{PAIRS, events, gathering, places};
 use monitor_sets::{FIRST_CREATED, INSTANCES, RETIREES, UNSEEN};
 
 // Each of the n sets from place s on becomes the one that is so far behind it.
-fn move_up(sets: &mut [u8], s: usize, n: usize, by: usize)
-    requires sets_len { length sets.old ≡ pair_places }
+fn move_up(sets: &mut [u8; PAIRS], s: usize, n: usize, by: usize)
     requires by_bound { s + n + by ≤ pair_places }
     requires by_nonzero { 0 < by }
-    ensures sets_after { sets.new ≡ moved_up s n by sets.old }
-    ensures sets_len_2 { length sets.new ≡ pair_places }
+    ensures { sets.new ≡ moved_up s n by sets.old }
 {
-    let mut i: usize = 0;
-    while i < n {
+    for i in 0..n {
         sets[s + i] = sets[s + i + by];
-        i += 1;
     }
 }
 
 // In the row that starts at place k, the second place `at` is retired.
-fn retire_line(sets: &mut [u8], k: usize, at: usize)
-    requires sets_len { length sets.old ≡ pair_places }
+fn retire_line(sets: &mut [u8; PAIRS], k: usize, at: usize)
     requires instances_bound { k + instances ≤ pair_places }
     requires first_created_le_at { first_created_lem ≤ at }
     requires at_lt_instances { at < instances }
-    ensures sets_after { sets.new ≡ line_retired k at sets.old }
-    ensures sets_len_2 { length sets.new ≡ pair_places }
+    ensures { sets.new ≡ line_retired k at sets.old }
 {
     let unused = sets[k + UNSEEN];
-    sets[k + RETIREES] = sets[k + RETIREES] | sets[k + at];
+    sets[k + RETIREES] |= sets[k + at];
     move_up(sets, k + at, INSTANCES - 1 - at, 1);
     sets[k + (INSTANCES - 1)] = unused;
 }
 
 // In the first n rows, the second place `at` is retired.
-fn retire_columns(sets: &mut [u8], n: usize, at: usize)
-    requires sets_len { length sets.old ≡ pair_places }
+fn retire_columns(sets: &mut [u8; PAIRS], n: usize, at: usize)
     requires n_le_instances { n ≤ instances }
     requires first_created_le_at { first_created_lem ≤ at }
     requires at_lt_instances { at < instances }
-    ensures sets_after { sets.new ≡ columns_retired at n sets.old }
-    ensures sets_len_2 { length sets.new ≡ pair_places }
+    ensures { sets.new ≡ columns_retired at n sets.old }
 {
-    let mut i: usize = 0;
-    while i < n {
+    for i in 0..n {
         retire_line(sets, i * INSTANCES, at);
-        i += 1;
     }
 }
 
 // Place `at` of the first n is retired, as second place and then as first.
-pub(crate) fn retire(sets: &mut [u8], n: usize, at: usize)
-    requires sets_len { length sets.old ≡ pair_places }
+pub(crate) fn retire(sets: &mut [u8; PAIRS], n: usize, at: usize)
     requires n_le_instances { n ≤ instances }
     requires first_created_le_at { first_created_lem ≤ at }
     requires at_lt_n { at < n }
-    ensures sets_after { sets.new ≡ retire_pairs at n sets.old }
-    ensures sets_len_2 { length sets.new ≡ pair_places }
+    ensures { sets.new ≡ retire_pairs at n sets.old }
 {
     retire_columns(sets, n, at);
     let mut row = events::row_of(sets, RETIREES * INSTANCES);

@@ -6,7 +6,8 @@ ghost use Rattle.usage.specs.Limits.{states};
 ghost use Rattle.monitor_pairs.specs.Pairs.{pair_places};
 ghost use Rattle.monitor_pairs.specs.Code.{run_moved, row_where, two_moved, run_by_two};
 
-use crate::events;
+use crate::PAIRS;
+use usage::STATES;
 
 // The states that are kept, and two more, as bits, with where they go.
 #[derive(Clone, Copy)]
@@ -19,31 +20,27 @@ pub struct Two {
 }
 
 // The lowest state that does not stay; the last one where there is none.
-fn first_change(rows: [u8; 8]) -> usize
+fn first_change(rows: [u8; STATES]) -> usize
     ensures { result < states }
 {
-    let mut q: usize = 0;
-    while q < 7 {
+    for q in 0..STATES - 1 {
         if rows[q] != 1u8 << (q as u32) {
             return q;
         }
-        q += 1;
     }
-    q
+    STATES - 1
 }
 
 // The highest state that does not stay; the first one where there is none.
-fn last_change(rows: [u8; 8]) -> usize
+fn last_change(rows: [u8; STATES]) -> usize
     ensures { result < states }
 {
-    let mut q: usize = 7;
-    while 0 < q {
+    for q in (1..STATES).rev() {
         if rows[q] != 1u8 << (q as u32) {
             return q;
         }
-        q -= 1;
     }
-    q
+    0
 }
 
 // The row of the states m, where one of them is in the set x.
@@ -54,85 +51,51 @@ fn pick_any(x: u8, m: u8, row: u8) -> u8
 }
 
 // The set x, moved by two states.
-fn move_by_two(x: u8, keep: u8, low: u8, lows: u8, high: u8, highs: u8) -> u8
-    ensures { result ≡ two_moved keep low lows high highs x }
+fn move_by_two(x: u8, two: Two) -> u8
+    ensures { result ≡ two_moved two.keep two.low two.lows two.high two.highs x }
 {
-    (x & keep) | pick_any(x, low, lows) | pick_any(x, high, highs)
+    (x & two.keep) | pick_any(x, two.low, two.lows) | pick_any(x, two.high, two.highs)
 }
 
 // Do the two states move each state as the eight rows do?
-fn agrees(two: Two, rows: [u8; 8]) -> bool
+fn agrees(two: Two, rows: [u8; STATES]) -> bool
     ensures { result ≡ true → (q : ℕ) → q < states
         → two_moved two.keep two.low two.lows two.high two.highs (2 ^ q) ≡ get_or rows q 0 }
 {
-    let mut q: usize = 0;
-    while q < 8 {
-        if move_by_two(
-            1u8 << (q as u32),
-            two.keep,
-            two.low,
-            two.lows,
-            two.high,
-            two.highs,
-        ) != rows[q]
-        {
+    for q in 0..STATES {
+        if move_by_two(1u8 << (q as u32), two) != rows[q] {
             return false;
         }
-        q += 1;
     }
     true
 }
 
 // Moves the first n sets by two states.
-fn move_two(sets: &mut [u8], n: usize, two: Two)
-    requires sets_len { length sets.old ≡ pair_places }
+fn move_two(sets: &mut [u8; PAIRS], n: usize, two: Two)
     requires n_le_pair_places { n ≤ pair_places }
-    ensures sets_after { sets.new ≡ run_by_two two.keep two.low two.lows two.high two.highs n sets.old }
-    ensures sets_len_2 { length sets.new ≡ pair_places }
+    ensures { sets.new ≡ run_by_two two.keep two.low two.lows two.high two.highs n sets.old }
 {
-    let keep = two.keep;
-    let low = two.low;
-    let lows = two.lows;
-    let high = two.high;
-    let highs = two.highs;
-    let mut k: usize = 0;
-    while k < n {
-        sets[k] = move_by_two(sets[k], keep, low, lows, high, highs);
-        k += 1;
+    for k in 0..n {
+        sets[k] = move_by_two(sets[k], two);
     }
 }
 
-// Moves the first n sets by eight rows, which are held as numbers so that several sets are moved at once.
-fn move_eight(sets: &mut [u8], n: usize, rows: [u8; 8])
-    requires sets_len { length sets.old ≡ pair_places }
+// Moves the first n sets by eight rows.
+fn move_eight(sets: &mut [u8; PAIRS], n: usize, rows: [u8; STATES])
     requires n_le_pair_places { n ≤ pair_places }
-    ensures sets_after { sets.new ≡ run_moved rows n sets.old }
-    ensures sets_len_2 { length sets.new ≡ pair_places }
+    ensures { sets.new ≡ run_moved rows n sets.old }
 {
-    let a = rows[0];
-    let b = rows[1];
-    let c = rows[2];
-    let d = rows[3];
-    let e = rows[4];
-    let f = rows[5];
-    let g = rows[6];
-    let h = rows[7];
-    let mut k: usize = 0;
-    while k < n {
-        sets[k] = automaton::move_by_rows(sets[k], a, b, c, d, e, f, g, h);
-        k += 1;
+    for k in 0..n {
+        sets[k] = automaton::move_by_rows(sets[k], rows);
     }
 }
 
 // The same, in the short way where there is one.
-pub(crate) fn move_run(sets: &mut [u8], n: usize, rows: [u8; 8])
-    requires sets_len { length sets.old ≡ pair_places }
-    requires by_index { (k : ℕ) → get_or sets.old k 0 < 256 }
+pub(crate) fn move_run(sets: &mut [u8; PAIRS], n: usize, rows: [u8; STATES])
     requires n_le_pair_places { n ≤ pair_places }
-    ensures sets_after { sets.new ≡ run_moved rows n sets.old }
-    ensures sets_len_2 { length sets.new ≡ pair_places }
+    ensures { sets.new ≡ run_moved rows n sets.old }
 {
-    if events::stay(rows) {
+    if automaton::stays(rows) {
         return;
     }
     let s = first_change(rows);

@@ -3,6 +3,7 @@ ghost use Rattle.std.specs.Prelude.{◌≡◌};
 ghost use Rattle.monitor_pairs.specs.Which.{blocks_of};
 
 // The two lowest of the pair policies, the lowest first; POLICIES where there is none.
+// Kept: no Option: the lowest number of an empty set is POLICIES already, and each use tests for it.
 #[derive(Clone, Copy)]
 pub struct Blocks {
     pub first: u32,

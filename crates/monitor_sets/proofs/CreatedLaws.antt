@@ -7,9 +7,9 @@ use native.Mathlib.Nat.{add-zero, zero-add}
 use native.Mathlib.Numerals.{add-one}
 use native.Mathlib.Omega.{arith}
 use borrow.Author.Tests.{eq-eqb, ne_eqb, lt-ltb, le-ltb, le-leb, lt-leb, ltb-true, ltb-false, leb-true, leb-false, eqb-true, eqb-false}
-use lib.ListN.{length, take, drop, get_or, set, drop_of_length-le}
+use lib.ListN.{length, take, drop, get_or, set, drop_of_length-le, length-drop}
 use lib.Dec.{eqb, leb, ltb}
-use lib.Seq.{take_all, drop-cons, length-take-le, get_or-take, get_or-set_same, get_or-set_other}
+use lib.Seq.{take_all, drop-cons, get_or-set_same, get_or-set_other}
 use Rattle.usage.specs.Limits.{statics, resources, most_created}
 use Rattle.usage.specs.Tests.{every}
 use Rattle.usage.proofs.Logic.{and-false, and_left, and_right, not-both, by_cases, last-or-lower}
@@ -31,49 +31,54 @@ take-most l count n e m = go (ltb count most_created) refl
 
 -- ── Loops ──
 
--- the first n elements of l, from number i on
-module _ (l : List ℕ) (n : ℕ) (long : n ≤ length l) where
-  rest : (i : ℕ) → i < n → drop i (take n l) ≡ get_or l i 0 ∷ drop (i + 1) (take n l)
-  rest i h =
-      let k : length (take n l) ≡ n = length-take-le n l long in
-      let b : i < length (take n l) = omega arith in
-      rw (drop-cons (take n l) i 0 b, add-one i, get_or-take n l i 0 h)
+-- the numbers from number i on
+module _ (l : List ℕ) where
+  abbrev n : ℕ
+  n = length l
 
-  rest_end : (i : ℕ) → n ≤ i → drop i (take n l) ≡ []
-  rest_end i h = let k : length (take n l) ≡ n = length-take-le n l long in let b : length (take n l) ≤ i = omega arith in
-      drop_of_length-le (take n l) b
+  rest : (i : ℕ) → i < n → drop i l ≡ get_or l i 0 ∷ drop (i + 1) l
+  rest i h = rw (drop-cons l i 0 h, add-one i)
+
+  rest_end : (i : ℕ) → n ≤ i → drop i l ≡ []
+  rest_end i h = drop_of_length-le l h
+
+  -- those behind number i - 1, as a part
+  pub behind-part : (i : ℕ) → 0 < i → take (n - (i - 1 + 1)) (drop (i - 1 + 1) l) ≡ drop i l
+  behind-part i h =
+      let k : i - 1 + 1 ≡ i = omega arith in
+      rw k (take_all (n - i) (drop i l) (omega (arith, length-drop i l)))
 
   -- a search for x: found at i, or one further
-  pub place_here : (x m i : ℕ) → i < n → get_or l i 0 ≡ x → place_from x m (drop i (take n l)) ≡ m
+  pub place_here : (x m i : ℕ) → i < n → get_or l i 0 ≡ x → place_from x m (drop i l) ≡ m
   unfolding place_from
   place_here x m i h e = rw (rest i h) (simp (eq-eqb _ _ e))
 
   pub place-more : (x m i : ℕ) → i < n → (get_or l i 0 ≡ x → ⊥)
-      → place_from x (m + i) (drop i (take n l)) ≡ place_from x (m + (i + 1)) (drop (i + 1) (take n l))
+      → place_from x (m + i) (drop i l) ≡ place_from x (m + (i + 1)) (drop (i + 1) l)
   unfolding place_from
   place-more x m i h e =
       let k : suc (m + i) ≡ m + (i + 1) = omega arith in
       rw (rest i h) (simp (ne_eqb _ _ e, k))
 
-  pub place_end : (x m i : ℕ) → n ≤ i → place_from x m (drop i (take n l)) ≡ unseen
+  pub place_end : (x m i : ℕ) → n ≤ i → place_from x m (drop i l) ≡ unseen
   unfolding place_from
   place_end x m i h = rw (rest_end i h)
 
-  pub listed-end : (x i : ℕ) → n ≤ i → listed x (drop i (take n l)) ≡ false
+  pub listed-end : (x i : ℕ) → n ≤ i → listed x (drop i l) ≡ false
   unfolding listed
   listed-end x i h = rw (rest_end i h)
 
-  pub listed_here : (x i : ℕ) → i < n → get_or l i 0 ≡ x → listed x (drop i (take n l)) ≡ true
+  pub listed_here : (x i : ℕ) → i < n → get_or l i 0 ≡ x → listed x (drop i l) ≡ true
   unfolding listed
   listed_here x i h e = rw (rest i h) (simp (eq-eqb _ _ e))
 
-  pub listed_more : (x i : ℕ) → i < n → (get_or l i 0 ≡ x → ⊥) → listed x (drop i (take n l)) ≡ listed x (drop (i + 1) (take n l))
+  pub listed_more : (x i : ℕ) → i < n → (get_or l i 0 ≡ x → ⊥) → listed x (drop i l) ≡ listed x (drop (i + 1) l)
   unfolding listed
   listed_more x i h e = rw (rest i h) (simp (ne_eqb _ _ e))
 
   -- what is asked of the created resources, of those from number i on
   abbrev sound : ℕ → Bool
-  sound i = every dynamic (drop i (take n l)) && distinct (drop i (take n l))
+  sound i = every dynamic (drop i l) && distinct (drop i l)
 
   pub sound-end : (i : ℕ) → n ≤ i → sound i ≡ true
   unfolding every distinct
@@ -90,19 +95,19 @@ module _ (l : List ℕ) (n : ℕ) (long : n ≤ length l) where
       sound-high b = rw (rest i h) (simp (le-leb _ _ a, le-ltb _ _ b))
 
       module _ (b : get_or l i 0 < resources) where
-        pub sound-twice : listed (get_or l i 0) (drop (i + 1) (take n l)) ≡ true → sound i ≡ false
+        pub sound-twice : listed (get_or l i 0) (drop (i + 1) l) ≡ true → sound i ≡ false
         unfolding distinct
-        sound-twice e = and-false (every dynamic (drop i (take n l))) (distinct (drop i (take n l))) (rw (rest i h) (simp e))
+        sound-twice e = and-false (every dynamic (drop i l)) (distinct (drop i l)) (rw (rest i h) (simp e))
 
-        pub sound_more : listed (get_or l i 0) (drop (i + 1) (take n l)) ≡ false → sound i ≡ sound (i + 1)
+        pub sound_more : listed (get_or l i 0) (drop (i + 1) l) ≡ false → sound i ≡ sound (i + 1)
         unfolding every distinct
         sound_more e = rw (rest i h) (simp (le-leb _ _ a, lt-ltb _ _ b, e))
 
   -- what fails from number i on fails from the first on
   sound-one : (i : ℕ) → i < n → sound (i + 1) ≡ false → sound i ≡ false
   unfolding every distinct
-  sound-one i h e = rw (rest i h) (shift (dynamic (get_or l i 0)) (every dynamic (drop (i + 1) (take n l)))
-      (not (listed (get_or l i 0) (drop (i + 1) (take n l)))) (distinct (drop (i + 1) (take n l))) e)
+  sound-one i h e = rw (rest i h) (shift (dynamic (get_or l i 0)) (every dynamic (drop (i + 1) l))
+      (not (listed (get_or l i 0) (drop (i + 1) l))) (distinct (drop (i + 1) l)) e)
     where
       shift : (a b c d : Bool) → (b && d) ≡ false → ((a && b) && (c && d)) ≡ false
       shift false b c d q = refl
@@ -119,10 +124,10 @@ module _ (l : List ℕ) (n : ℕ) (long : n ≤ length l) where
       go false q f = not-both (sound (suc i)) (sound-end (suc i) (omega (arith, ltb-false i n q))) e
 
   -- x is none of the numbers from k on
-  pub listed-none : (x k : ℕ) → k ≤ n → ((j : ℕ) → k ≤ j → j < n → get_or l j 0 ≡ x → ⊥) → listed x (drop k (take n l)) ≡ false
+  pub listed-none : (x k : ℕ) → k ≤ n → ((j : ℕ) → k ≤ j → j < n → get_or l j 0 ≡ x → ⊥) → listed x (drop k l) ≡ false
   listed-none x k b h = down (n - k) k (omega arith) h
     where
-      down : (d k : ℕ) → k + d ≡ n → ((j : ℕ) → k ≤ j → j < n → get_or l j 0 ≡ x → ⊥) → listed x (drop k (take n l)) ≡ false
+      down : (d k : ℕ) → k + d ≡ n → ((j : ℕ) → k ≤ j → j < n → get_or l j 0 ≡ x → ⊥) → listed x (drop k l) ≡ false
       down zero k e h = listed-end x k (omega arith)
       down (suc d) k e h = listed_more x k (omega arith) (h k (omega arith) (omega arith))
           ∙ down d (k + 1) (omega arith) (λ j a c. h j (omega arith) c)
@@ -203,18 +208,18 @@ module _ (l : List ℕ) (n : ℕ) (long : n ≤ length l) where
   -- ── From the last number to the first ──
 
   pub sound-next : (i : ℕ) → 0 < i → i ≤ n → sound i ≡ true → statics ≤ get_or l (i - 1) 0 → get_or l (i - 1) 0 < resources
-      → listed (get_or l (i - 1) 0) (drop i (take n l)) ≡ false → sound (i - 1) ≡ true
+      → listed (get_or l (i - 1) 0) (drop i l) ≡ false → sound (i - 1) ≡ true
   sound-next i h b e low high none =
       let k : i - 1 + 1 ≡ i = omega arith in
-      sound_more (i - 1) (omega arith) low high (subst (λ (j : ℕ). listed (get_or l (i - 1) 0) (drop j (take n l)) ≡ false) (sym k) none)
+      sound_more (i - 1) (omega arith) low high (subst (λ (j : ℕ). listed (get_or l (i - 1) 0) (drop j l) ≡ false) (sym k) none)
       ∙ subst (λ (j : ℕ). sound j ≡ true) (sym k) e
 
   pub sound-again : (i : ℕ) → 0 < i → i ≤ n → statics ≤ get_or l (i - 1) 0 → get_or l (i - 1) 0 < resources
-      → listed (get_or l (i - 1) 0) (drop i (take n l)) ≡ true → sound 0 ≡ false
+      → listed (get_or l (i - 1) 0) (drop i l) ≡ true → sound 0 ≡ false
   sound-again i h b low high twice =
       let k : i - 1 + 1 ≡ i = omega arith in
       sound-before (i - 1) (sound-twice (i - 1) (omega arith) low high
-      (subst (λ (j : ℕ). listed (get_or l (i - 1) 0) (drop j (take n l)) ≡ true) (sym k) twice))
+      (subst (λ (j : ℕ). listed (get_or l (i - 1) 0) (drop j l) ≡ true) (sym k) twice))
 
   -- the endings of the numbers from i on are seen
   abbrev pub Seen : List Bool → ℕ → Type 0
@@ -222,7 +227,7 @@ module _ (l : List ℕ) (n : ℕ) (long : n ≤ length l) where
 
   -- a number whose ending is not seen is none of them
   pub unseen-unlisted : (seen : List Bool) (i x : ℕ) → i ≤ n → Seen seen i → get_or seen (x % endings) false ≡ false
-      → listed x (drop i (take n l)) ≡ false
+      → listed x (drop i l) ≡ false
   unseen-unlisted seen i x b s u = listed-none x i b (λ j g h e.
       not-both (get_or seen (x % endings) false) (subst (λ (v : ℕ). get_or seen (v % endings) false ≡ true) e (s j g h)) u)
 

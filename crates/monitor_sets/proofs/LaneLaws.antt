@@ -5,8 +5,8 @@ use mathlib.Core.List.{List}
 use native.Mathlib.Nat.{add-zero, add-suc}
 use native.Mathlib.Omega.{arith}
 use lib.Bits.{bit_or, or_zero_r, or_comm, or_self}
-use lib.ListN.{length, get_or, set, length-set}
-use lib.Seq.{get_or-set_same, get_or-set_other}
+use lib.ListN.{length, get_or, set, length-set, take, drop, length-drop}
+use lib.Seq.{length-take-le, get_or-take, get_or-drop, get_or-set_same, get_or-set_other}
 use Rattle.usage.proofs.Logic.{by_cases, last-or-lower}
 use Rattle.automaton.specs.Mask.{union}
 use Rattle.automaton.proofs.MaskLaws.{or_assoc}
@@ -81,13 +81,17 @@ union-next f i = sym (union-add (lanes * i) lanes f) ∙ ap (λ (m : ℕ). union
     next : (i : ℕ) → lanes * i + lanes ≡ lanes * (i + 1)
     next i = omega arith
 
--- the same places, counted from k
-pub union-shift : (sets : List ℕ) (k a : ℕ) → union lanes (λ j. get_or sets (k + a + j) 0) ≡ union lanes (λ j. get_or sets (k + (a + j)) 0)
-union-shift sets k a =
-    union-ext lanes (λ j. get_or sets (k + a + j) 0) (λ j. get_or sets (k + (a + j)) 0) (λ j l. ap (λ (i : ℕ). get_or sets i 0) (assoc j))
+-- a part of the sets
+pub union-part : (l : List ℕ) (k m n : ℕ) → m ≡ n → k + n ≤ length l
+    → union (length (take m (drop k l))) (λ i. get_or (take m (drop k l)) i 0) ≡ union n (λ i. get_or l (k + i) 0)
+union-part l k m n e h =
+    ap (λ (u : ℕ). union (length (take u (drop k l))) (λ i. get_or (take u (drop k l)) i 0)) e
+    ∙ ap (λ (u : ℕ). union u (λ i. get_or (take n (drop k l)) i 0)) size
+    ∙ union-ext n (λ i. get_or (take n (drop k l)) i 0) (λ i. get_or l (k + i) 0)
+    (λ i b. get_or-take n (drop k l) i 0 b ∙ get_or-drop k l i 0)
   where
-    assoc : (j : ℕ) → k + a + j ≡ k + (a + j)
-    assoc j = omega arith
+    size : length (take n (drop k l)) ≡ n
+    size = length-take-le n (drop k l) (omega (arith, length-drop k l))
 
 -- ── One place after the other ──
 

@@ -15,7 +15,7 @@ use Rattle.usage.proofs.Logic.{and_left, and_right, and_both, both_ways}
 use Rattle.automaton.specs.Mask.{has, union}
 use Rattle.automaton.specs.Move.{move_by, move_mask, rows_of}
 use Rattle.automaton.specs.Code.{move_by_policy}
-use Rattle.automaton.proofs.RowLaws.{union-ext, move_by-rows, stay_rows_lem, stay-moves}
+use Rattle.automaton.proofs.RowLaws.{union-ext, move_by-rows}
 use Rattle.monitor_sets.specs.Instances.{instances, set_places}
 use Rattle.monitor_sets.specs.Sets.{moved_sets, gathered_at, gathered}
 use Rattle.monitor_sets.specs.Code.{row_moved, moved_at, policy_moved, all_moved}
@@ -46,21 +46,22 @@ module _ (rows : List ℕ) (k : ℕ) (sets : List ℕ) where
       go j false q = refl
 
   -- rows that leave every state where it is move nothing
-  pub row_stays : (n : ℕ) → length sets ≡ set_places → ((j : ℕ) → get_or sets j 0 < 256) → rows ≡ stay_rows_lem → sets ≡ row_moved rows k n sets
+  pub row_stays : (n : ℕ) → length sets ≡ set_places → ((j : ℕ) → get_or sets j 0 < 256)
+      → ((m : ℕ) → m < 256 → move_by rows 0 m ≡ m) → sets ≡ row_moved rows k n sets
   unfolding row_moved
   row_stays n e b r =
       is-table (λ j. cond (leb k j && ltb j (k + n)) (move_by rows 0 (get_or sets j 0)) (get_or sets j 0)) sets e
-      (λ j l. sym (same (leb k j && ltb j (k + n)) (ap (λ u. move_by u 0 (get_or sets j 0)) r ∙ stay-moves (get_or sets j 0) (b j))))
+      (λ j l. sym (same (leb k j && ltb j (k + n)) (r (get_or sets j 0) (b j))))
     where
       same : {u v : ℕ} (t : Bool) → u ≡ v → cond t u v ≡ v
       same true q = q
       same false q = refl
 
-  pub union-stays : (n : ℕ) → ((j : ℕ) → get_or sets j 0 < 256) → rows ≡ stay_rows_lem
+  pub union-stays : (n : ℕ) → ((j : ℕ) → get_or sets j 0 < 256) → ((m : ℕ) → m < 256 → move_by rows 0 m ≡ m)
       → union n (λ i. get_or sets (k + i) 0) ≡ union n (λ i. move_by rows 0 (get_or sets (k + i) 0))
   union-stays n b r =
       union-ext n (λ i. get_or sets (k + i) 0) (λ i. move_by rows 0 (get_or sets (k + i) 0))
-      (λ i l. sym (ap (λ u. move_by u 0 (get_or sets (k + i) 0)) r ∙ stay-moves (get_or sets (k + i) 0) (b (k + i))))
+      (λ i l. sym (r (get_or sets (k + i) 0) (b (k + i))))
 
   module _ (i : ℕ) (h : k + i < set_places) where
     -- the set at the next place has not moved

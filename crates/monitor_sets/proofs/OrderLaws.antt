@@ -6,8 +6,9 @@ use mathlib.Core.List.{List, ◌∷◌}
 use native.Mathlib.Numerals.{add-one}
 use native.Mathlib.Omega.{arith}
 use lib.Dec.{eqb, leb}
-use lib.ListN.{length, get_or, set, replicate, get_or-replicate}
-use lib.Seq.{get_or-set_same, get_or-set_other}
+use lib.ListN.{length, get_or, set, take, replicate, get_or-replicate}
+use Rattle.std.proofs.lemmas.List.{ext_get_or}
+use lib.Seq.{length-take-le, get_or-take, get_or-set_same, get_or-set_other}
 use borrow.Author.Tests.{eqb-true, eqb-false, eq-eqb, leb-true, le-leb, le-ltb, lt-ltb}
 use Rattle.usage.specs.Limits.{policies, most_unclosed}
 use Rattle.usage.specs.Past.{add_if, occurrences}
@@ -110,6 +111,22 @@ pub agrees : (stack unclosed : List ℕ) (r : Bool) → (((p : ℕ) → p < poli
 agrees stack unclosed r to back =
     both_ways r (agree_below stack unclosed policies) (λ e. agree-below stack unclosed policies (back e))
     (λ e. to (below-agree stack unclosed policies e))
+
+-- the order lent as a part of its array
+pub stack-part : (n depth : ℕ) (order : List ℕ) → n ≤ depth → stack_in n (take depth order) ≡ stack_in n order
+unfolding stack_in
+stack-part zero depth order h = refl
+stack-part (suc n) depth order h =
+    ap₂ (λ (p : ℕ) (l : List ℕ). p ∷ l) (get_or-take depth order n 0 (omega arith)) (stack-part n depth order (omega arith))
+
+pub stack-front : (depth : ℕ) (order : List ℕ) → depth ≤ length order
+    → stack_in (length (take depth order)) (take depth order) ≡ stack_in depth order
+stack-front depth order h = rw (length-take-le depth order h) (stack-part depth depth order (omega arith))
+
+-- two lists of counts are the same exactly where each count is
+pub counts-same : (c d : List ℕ) → length c ≡ policies → length d ≡ policies → ((p : ℕ) → p < policies → get_or c p 0 ≡ get_or d p 0)
+    → c ≡ d
+counts-same c d n m h = ext_get_or 0 c d (n ∙ sym m) (λ i l. h i (omega arith))
 
 -- ── An opening and a closing ──
 

@@ -7,6 +7,7 @@ pub mod created;
 pub mod instances;
 pub mod order;
 pub mod retiring;
+pub mod unions;
 
 // The instance of every resource that never occurred; those below are the static resources'.
 pub const UNSEEN: usize = STATICS as usize;
@@ -22,6 +23,15 @@ pub const INSTANCES: usize = FIRST_CREATED + MOST_CREATED;
 
 // The places of the table of sets: instance i of policy p has its set at p * INSTANCES + i.
 pub const SETS: usize = POLICIES * INSTANCES;
+
+// An event on the resource whose instance is at place `at` of the first n of each policy.
+#[derive(Clone, Copy)]
+pub struct Turn {
+    pub n: usize,
+    pub at: usize,
+    pub action: u32,
+    pub resource: u32,
+}
 
 // The set of state 0 alone.
 pub const START_SET: u8 = 1;

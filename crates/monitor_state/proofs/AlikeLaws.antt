@@ -20,6 +20,8 @@ use Rattle.usage.specs.Tables.{from, edges_of, is_edge_table}
 use Rattle.usage.specs.Tests.{every}
 use Rattle.usage.proofs.Logic.{by_cases, false-true, and_left, and_right, and_both}
 use Rattle.usage.proofs.TableLaws.{from-ext, decides-edge-table}
+use Rattle.usage.specs.declared.Reason.{Reason}
+use Rattle.usage.specs.declared.Reason.TheVariants.{Halted, NoStep, CreateStatic, NotLive, NotAbove, RetireNotLive, TooManyLive, Table, State as Unfit}
 use Rattle.automaton.specs.Mask.{lowest_in}
 use Rattle.automaton.proofs.SameLaws.{move_mask-same}
 use Rattle.monitor_sets.specs.Instances.{first_created_lem, instances, set_places}
@@ -438,14 +440,14 @@ module _ (f : ℕ → ℕ) (N : ℕ → Type 0) (R : Orders f N) where
   refusal-renamed : (s : State) → StateIn s → (step : Step) → StepIn step → refusal (renamed_state f s) (renamed_read f step) ≡ refusal s step
   unfolding refusal
   refusal-renamed s i (event zero r) j =
-      ap₂ (λ (b c : Bool). cond b (some 22) (cond c (some 27) (cond (leb most_created s.created.count) (some 30) none))) (static-same r j)
+      ap₂ (λ (b c : Bool). cond b (some CreateStatic) (cond c (some NotAbove) (cond (leb most_created s.created.count) (some TooManyLive) none))) (static-same r j)
       (order_same r s.created.highest j i.top)
-  refusal-renamed s i (event (suc a) r) j = ap₂ (λ (b c : Bool). cond (b || c) none (some 24)) (static-same r j) (listed-renamed s.created i r j)
+  refusal-renamed s i (event (suc a) r) j = ap₂ (λ (b c : Bool). cond (b || c) none (some NotLive)) (static-same r j) (listed-renamed s.created i r j)
   refusal-renamed s i (opening p) j = refl
   refusal-renamed s i (closing p) j = refl
-  refusal-renamed s i (retiring r) j = ap₂ (λ (b c : Bool). cond (not b && c) none (some 28)) (static-same r j) (listed-renamed s.created i r j)
+  refusal-renamed s i (retiring r) j = ap₂ (λ (b c : Bool). cond (not b && c) none (some RetireNotLive)) (static-same r j) (listed-renamed s.created i r j)
 
-  refuse-renamed : (n : ℕ) (s : State) → refuse n (renamed_state f s) ≡ renamed_judgement f (refuse n s)
+  refuse-renamed : (n : Reason) (s : State) → refuse n (renamed_state f s) ≡ renamed_judgement f (refuse n s)
   unfolding refuse
   refuse-renamed n s = refl
 
@@ -465,7 +467,7 @@ module _ (f : ℕ → ℕ) (N : ℕ → Type 0) (R : Orders f N) where
   either-in true j k p q = p
   either-in false j k p q = q
 
-  refuse-in : (n : ℕ) (s : State) → StateIn s → StateIn (refuse n s).state
+  refuse-in : (n : Reason) (s : State) → StateIn s → StateIn (refuse n s).state
   unfolding refuse
   refuse-in n s i = i
 
@@ -476,7 +478,7 @@ module _ (f : ℕ → ℕ) (N : ℕ → Type 0) (R : Orders f N) where
       i
 
   module _ (local : Bool) (es : List Edge) (names : Named es) (s : State) (i : StateIn s) where
-    judge-step : (step : Step) → StepIn step → (o : Option ℕ)
+    judge-step : (step : Step) → StepIn step → (o : Option Reason)
         → judge_step local es (renamed_state f s) (renamed_read f step) o ≡ renamed_judgement f (judge_step local es s step o)
     unfolding judge_step
     judge-step step j (some n) = refuse-renamed n s
@@ -488,11 +490,11 @@ module _ (f : ℕ → ℕ) (N : ℕ → Type 0) (R : Orders f N) where
     judge-read : (o : Option Step) → OptionIn o
         → judge_read local es (renamed_state f s) (renamed_option f o) ≡ renamed_judgement f (judge_read local es s o)
     unfolding judge_read
-    judge-read none j = refuse-renamed 21 s
+    judge-read none j = refuse-renamed NoStep s
     judge-read (some step) j =
         ap (judge_step local es (renamed_state f s) (renamed_read f step)) (refusal-renamed s i step j) ∙ judge-step step j (refusal s step)
 
-  step-kept-in : (local : Bool) (es : List Edge) (s : State) → StateIn s → (step : Step) → StepIn step → (o : Option ℕ)
+  step-kept-in : (local : Bool) (es : List Edge) (s : State) → StateIn s → (step : Step) → StepIn step → (o : Option Reason)
       → StateIn (judge_step local es s step o).state
   unfolding judge_step
   step-kept-in local es s i step j (some n) = refuse-in n s i
@@ -500,19 +502,19 @@ module _ (f : ℕ → ℕ) (N : ℕ → Type 0) (R : Orders f N) where
 
   read-in : (local : Bool) (es : List Edge) (s : State) → StateIn s → (o : Option Step) → OptionIn o → StateIn (judge_read local es s o).state
   unfolding judge_read
-  read-in local es s i none j = refuse-in 21 s i
+  read-in local es s i none j = refuse-in NoStep s i
   read-in local es s i (some step) j = step-kept-in local es s i step j (refusal s step)
 
   judge-in : (t : List ℕ) (local : Bool) (s : State) → StateIn s → (raw : RawStep) → RawIn raw → StateIn (judge_of t local s raw).state
   unfolding judge_of
   judge-in t local s i raw h =
-      either-in (not (is_edge_table t)) (refuse 41 s) (cond (not (state_ok_lem s)) (refuse 42 s) rest) (refuse-in 41 s i)
-      (either-in (not (state_ok_lem s)) (refuse 42 s) rest (refuse-in 42 s i)
-      (either-in s.halted (refuse 20 s) (judge_read local (edges_of t) s (step_of raw)) (refuse-in 20 s i)
+      either-in (not (is_edge_table t)) (refuse Table s) (cond (not (state_ok_lem s)) (refuse Unfit s) rest) (refuse-in Table s i)
+      (either-in (not (state_ok_lem s)) (refuse Unfit s) rest (refuse-in Unfit s i)
+      (either-in s.halted (refuse Halted s) (judge_read local (edges_of t) s (step_of raw)) (refuse-in Halted s i)
       (read-in local (edges_of t) s i (step_of raw) (step_in raw h))))
     where
       rest : Judgement
-      rest = cond s.halted (refuse 20 s) (judge_read local (edges_of t) s (step_of raw))
+      rest = cond s.halted (refuse Halted s) (judge_read local (edges_of t) s (step_of raw))
 
   -- Every step keeps two states alike, and answers the same of both.
   judge-renamed : (t : List ℕ) (local : Bool) (s : State) → StateIn s → (raw : RawStep) → RawIn raw
@@ -524,19 +526,19 @@ module _ (f : ℕ → ℕ) (N : ℕ → Type 0) (R : Orders f N) where
       u = renamed_state f s
 
       inner : State → RawStep → Bool → Judgement
-      inner v r ok = cond (not ok) (refuse 42 v) (cond v.halted (refuse 20 v) (judge_read local (edges_of t) v (step_of r)))
+      inner v r ok = cond (not ok) (refuse Unfit v) (cond v.halted (refuse Halted v) (judge_read local (edges_of t) v (step_of r)))
 
       go : (b : Bool) → is_edge_table t ≡ b
-          → cond (not b) (refuse 41 u) (inner u (renamed_step f raw) (state_ok_lem u))
-          ≡ renamed_judgement f (cond (not b) (refuse 41 s) (inner s raw (state_ok_lem s)))
+          → cond (not b) (refuse Table u) (inner u (renamed_step f raw) (state_ok_lem u))
+          ≡ renamed_judgement f (cond (not b) (refuse Table s) (inner s raw (state_ok_lem s)))
       go true e =
           ap (inner u (renamed_step f raw)) (state-renamed s i)
-          ∙ either-renamed (not (state_ok_lem s)) (refuse 42 s) (cond s.halted (refuse 20 s) (judge_read local (edges_of t) s (step_of raw)))
-          (refuse-renamed 42 s)
-          (either-renamed s.halted (refuse 20 s) (judge_read local (edges_of t) s (step_of raw)) (refuse-renamed 20 s)
+          ∙ either-renamed (not (state_ok_lem s)) (refuse Unfit s) (cond s.halted (refuse Halted s) (judge_read local (edges_of t) s (step_of raw)))
+          (refuse-renamed Unfit s)
+          (either-renamed s.halted (refuse Halted s) (judge_read local (edges_of t) s (step_of raw)) (refuse-renamed Halted s)
           (ap (judge_read local (edges_of t) u) (step-renamed raw h)
           ∙ judge-read local (edges_of t) (λ d m o. (((decides-edge-table t).0 e).edges.each d m).who_static o) s i (step_of raw) (step_in raw h)))
-      go false e = refuse-renamed 41 s
+      go false e = refuse-renamed Table s
 
   answers-renamed : (t : List ℕ) (local : Bool) (s : State) → StateIn s → (raws : List RawStep)
       → ((raw : RawStep) → Memᴰ raw raws → RawIn raw) → answers_of t local (renamed_state f s) (map (renamed_step f) raws) ≡ answers_of t local s raws

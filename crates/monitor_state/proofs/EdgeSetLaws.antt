@@ -13,6 +13,7 @@ use Rattle.usage.specs.Past.{Step, event, opening, closing, retiring}
 use Rattle.usage.specs.Judge.{step_of}
 use Rattle.usage.specs.Tables.{edges_of, EdgeTable}
 use Rattle.usage.proofs.TableLaws.{from-ext, decides-edge-table}
+use Rattle.usage.specs.declared.Reason.{Reason}
 use Rattle.automaton.specs.Move.{move_mask}
 use Rattle.automaton.proofs.EdgeSetLaws.{move_mask-set}
 use Rattle.monitor_sets.specs.Instances.{instances, set_places}
@@ -67,7 +68,7 @@ module _ (es fs : List Edge) (h : SameEdges es fs) where
   after-set local s (closing p) = refl
   after-set local s (retiring r) = rw blocks-set refl
 
-  step_set : (local : Bool) (s : State) (step : Step) (o : Option ℕ) → judge_step local es s step o ≡ judge_step local fs s step o
+  step_set : (local : Bool) (s : State) (step : Step) (o : Option Reason) → judge_step local es s step o ≡ judge_step local fs s step o
   unfolding judge_step
   step_set local s step none = ap (λ (t : State). settle (broken t) s t) (after-set local s step)
   step_set local s step (some n) = refl

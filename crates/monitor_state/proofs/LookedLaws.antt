@@ -15,6 +15,8 @@ use Rattle.usage.specs.Past.{Step}
 use Rattle.usage.specs.Judge.{step_of}
 use Rattle.usage.specs.Tables.{edges_of, is_edge_table}
 use Rattle.usage.proofs.Logic.{and_both, and-false}
+use Rattle.usage.specs.declared.Reason.{Reason}
+use Rattle.usage.specs.declared.Reason.TheVariants.{Halted, Table, State as Unfit}
 use Rattle.automaton.specs.Mask.{has}
 use Rattle.automaton.proofs.RowLaws.{union-ext}
 use Rattle.monitor_state.specs.declared.State.{State}
@@ -28,7 +30,7 @@ pub broken-all : (s : State) → broken_among (λ p. true) s ≡ broken s
 unfolding broken_among broken
 broken-all s = refl
 
-step-all : (local : Bool) (es : List Edge) (s : State) (step : Step) (o : Option ℕ)
+step-all : (local : Bool) (es : List Edge) (s : State) (step : Step) (o : Option Reason)
     → judge_step_by at_all local es s step o ≡ judge_step local es s step o
 unfolding judge_step_by judge_step broken_among broken
 step-all local es s step none = refl
@@ -42,7 +44,7 @@ read_all local es s (some step) = step-all local es s step (refusal s step)
 pub full-looks-at-all : (t : List ℕ) (local : Bool) (s : State) (raw : RawStep) → judge_by at_all t local s raw ≡ judge_of t local s raw
 unfolding judge_by judge_of
 full-looks-at-all t local s raw =
-    ap (λ (j : Judgement). cond (not (is_edge_table t)) (refuse 41 s) (cond (not (state_ok_lem s)) (refuse 42 s) (cond s.halted (refuse 20 s) j)))
+    ap (λ (j : Judgement). cond (not (is_edge_table t)) (refuse Table s) (cond (not (state_ok_lem s)) (refuse Unfit s) (cond s.halted (refuse Halted s) j)))
     (read_all local (edges_of t) s (step_of raw))
 
 -- ── A slice of the right length for the sets of pairs ──
@@ -74,7 +76,7 @@ module _ (looks others : Looks) where
   among_same step s h =
       union-ext policies _ _ (λ p l. ap (λ (b : Bool). cond (b && breaks_in s p) (2 ^ p) 0) (h p l))
 
-  step-alike : (local : Bool) (es : List Edge) (s : State) (step : Step) (o : Option ℕ) → Alike step
+  step-alike : (local : Bool) (es : List Edge) (s : State) (step : Step) (o : Option Reason) → Alike step
       → judge_step_by looks local es s step o ≡ judge_step_by others local es s step o
   unfolding judge_step_by
   step-alike local es s step none h = ap (λ (bad : ℕ). settle bad s (after local es s step)) (among_same step (after local es s step) h)
@@ -91,14 +93,14 @@ module _ (looks others : Looks) where
       → judge_by looks t local s raw ≡ judge_by others t local s raw
   unfolding judge_by
   looks-alike t local s raw h =
-      ap (λ (j : Judgement). cond (not (is_edge_table t)) (refuse 41 s) (cond (not (state_ok_lem s)) (refuse 42 s) (cond s.halted (refuse 20 s) j)))
+      ap (λ (j : Judgement). cond (not (is_edge_table t)) (refuse Table s) (cond (not (state_ok_lem s)) (refuse Unfit s) (cond s.halted (refuse Halted s) j)))
       (read_alike local (edges_of t) s (step_of raw) h)
 
   pub sized-alike : (t : List ℕ) (local : Bool) (s : State) (raw : RawStep) → ((step : Step) → step_of raw ≡ some step → Alike step)
       → judge_sized looks t local s raw ≡ judge_sized others t local s raw
   unfolding judge_sized
   sized-alike t local s raw h =
-      ap (λ (j : Judgement). cond (eqb (length s.tracked.pairs) pair_sets) j (refuse 42 s)) (looks-alike t local s raw h)
+      ap (λ (j : Judgement). cond (eqb (length s.tracked.pairs) pair_sets) j (refuse Unfit s)) (looks-alike t local s raw h)
 
 -- every policy is one of all
 pub has_all : (p : ℕ) → p < policies → has all_policies p ≡ true

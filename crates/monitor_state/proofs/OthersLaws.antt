@@ -8,6 +8,7 @@ use Rattle.usage.specs.Answers.{Verdict, refused}
 use Rattle.usage.specs.Tables.{edges_of, is_edge_table}
 use Rattle.usage.specs.Retirings.{Between, none_between, other_step, one_between, SameOthers, none_other, same_answer, passed_over}
 use Rattle.usage.proofs.ThinnedLaws.{others_same}
+use Rattle.usage.specs.declared.Reason.TheVariants.{Table}
 use Rattle.monitor_state.specs.declared.State.{State}
 use Rattle.monitor_state.specs.declared.Judgement.{Judgement}
 use Rattle.monitor_state.specs.Judge.{verdict_of, refuse, judge_of, answers_of, start_state}
@@ -16,7 +17,7 @@ use Rattle.monitor_state.proofs.Verdict.{all-judged-begin}
 
 -- under a table that no accepted sheet gives every answer is 41
 module _ (t : List ℕ) (bad : is_edge_table t ≡ false) (local : Bool) (s : State) where
-  judge-bad : (raw : RawStep) → judge_of t local s raw ≡ refuse 41 s
+  judge-bad : (raw : RawStep) → judge_of t local s raw ≡ refuse Table s
   unfolding judge_of
   judge-bad raw = rw bad
 

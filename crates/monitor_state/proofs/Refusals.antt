@@ -18,6 +18,9 @@ use Rattle.usage.specs.Judge.{not_last, too_many, too_deep}
 use Rattle.usage.specs.Judge.{Refuses, Taken}
 use Rattle.usage.proofs.Logic.{by_cases, false-true, not-both, or_left, or_right}
 use Rattle.usage.proofs.JudgeLaws.{CaseOf, case-of, step_fits}
+use Rattle.usage.specs.Reasons.{number_of}
+use Rattle.usage.specs.declared.Reason.{Reason}
+use Rattle.usage.specs.declared.Reason.TheVariants.{CreateStatic, NotLive, NotOpen, NotNewest, NotAbove, RetireNotLive, TooManyLive, TooManyOpen}
 use Rattle.monitor_sets.proofs.OrderLaws.{length-stack, stack_top, order-some}
 use Rattle.monitor_state.specs.declared.State.{State}
 use Rattle.monitor_state.specs.Judge.{live, listed, openings_of, last_opened, refusal}
@@ -54,8 +57,8 @@ refuses-unread past raw none_read =
 -- ── A step that was read ──
 
 -- what the judge's definition finds: a number, with the step's case and none below it, or none and the step can be taken
-pub data Settled (past : Past) (s : State) (raw : RawStep) (step : Step) : Option ℕ → Type 0 where
-  refuses : {n : ℕ} → Refuses past false raw n → Settled past s raw step (some n)
+pub data Settled (past : Past) (s : State) (raw : RawStep) (step : Step) : Option Reason → Type 0 where
+  refuses : {r : Reason} → Refuses past false raw (number_of r) → Settled past s raw step (some r)
   takes : Taken past false raw → Ready s step → Settled past s raw step none
 
 module _ (local : Bool) (es : List Edge) (past : Past) (h : Bool) (s : State) (R : Represents local es past h s) (raw : RawStep) where
@@ -71,7 +74,7 @@ module _ (local : Bool) (es : List Edge) (past : Past) (h : Bool) (s : State) (R
 
   settled-create : (r : ℕ) → step_of raw ≡ some (event 0 r) → (b : Bool) → ltb r statics ≡ b → (c : Bool) → leb r s.created.highest ≡ c
       → (d : Bool) → leb most_created s.created.count ≡ d
-      → Settled past s raw (event 0 r) (cond b (some 22) (cond c (some 27) (cond d (some 30) none)))
+      → Settled past s raw (event 0 r) (cond b (some CreateStatic) (cond c (some NotAbove) (cond d (some TooManyLive) none)))
   settled-create r e true b c m d f =
       refuses (record { stated = creates_static e (ltb-true r statics b); first = λ n l k. low n l (case-of e k) })
     where
@@ -108,7 +111,7 @@ module _ (local : Bool) (es : List Edge) (past : Past) (h : Bool) (s : State) (R
       none-holds n (inr (inr k)) = omega (arith, k.1, number, leb-false most_created s.created.count f)
 
   settled-event : (a r : ℕ) → step_of raw ≡ some (event (suc a) r) → (b : Bool) → ltb r statics ≡ b → (c : Bool) → listed r (live s.created) ≡ c
-      → Settled past s raw (event (suc a) r) (cond (b || c) none (some 24))
+      → Settled past s raw (event (suc a) r) (cond (b || c) none (some NotLive))
   settled-event a r e true b c m =
       takes (λ n k. let l : statics ≤ r = (case-of e k).1 in omega (arith, ltb-true r statics b))
       (or_left (ltb r statics) (listed r (live s.created)) b)
@@ -125,7 +128,7 @@ module _ (local : Bool) (es : List Edge) (past : Past) (h : Bool) (s : State) (R
   stack-length = ap length (sym R.unclosed.stack) ∙ length-stack s.unclosed.depth s.unclosed.order
 
   settled-opening : (p : ℕ) → step_of raw ≡ some (opening p) → (b : Bool) → leb most_unclosed s.unclosed.depth ≡ b
-      → Settled past s raw (opening p) (cond b (some 32) none)
+      → Settled past s raw (opening p) (cond b (some TooManyOpen) none)
   settled-opening p e true b =
       refuses (record {
         stated = too_deep e (omega (arith, leb-true most_unclosed s.unclosed.depth b, stack-length));
@@ -144,7 +147,7 @@ module _ (local : Bool) (es : List Edge) (past : Past) (h : Bool) (s : State) (R
 
   settled-closing : (p : ℕ) → step_of raw ≡ some (closing p) → (b : Bool) → ltb 0 (openings_of s.unclosed p) ≡ b
       → (c : Bool) → eqb (last_opened s.unclosed) p ≡ c
-      → Settled past s raw (closing p) (cond b (cond c none (some 26)) (some 25))
+      → Settled past s raw (closing p) (cond b (cond c none (some NotNewest)) (some NotOpen))
   settled-closing p e true b true c =
       let l : 0 < openings_of s.unclosed p = ltb-true 0 (openings_of s.unclosed p) b in
       let last : last_opened s.unclosed ≡ p = eqb-true (last_opened s.unclosed) p c in
@@ -165,7 +168,7 @@ module _ (local : Bool) (es : List Edge) (past : Past) (h : Bool) (s : State) (R
       })
 
   settled-retiring : (r : ℕ) → step_of raw ≡ some (retiring r) → (b : Bool) → ltb r statics ≡ b → (c : Bool) → listed r (live s.created) ≡ c
-      → Settled past s raw (retiring r) (cond (not b && c) none (some 28))
+      → Settled past s raw (retiring r) (cond (not b && c) none (some RetireNotLive))
   settled-retiring r e true b c m =
       refuses (record { stated = retires_static e (ltb-true r statics b); first = λ n l k. let z : n ≡ 28 = (case-of e k).0 in omega arith })
   settled-retiring r e false b true m =

@@ -1,6 +1,7 @@
 -- The laws of reading a step.
 use Prim.Native.Nat.{ℕ, zero, suc}
-use mathlib.Core.Path.{◌≡◌, refl}
+use mathlib.Core.Path.{◌≡◌, refl, sym, ap, ◌∙◌}
+use Rattle.std.specs.Prelude.{Some}
 use mathlib.Core.Bool.{true, false}
 use mathlib.Core.Option.{Option, none, some}
 use lib.ListN.{get_elem?}
@@ -10,6 +11,8 @@ use Rattle.usage.specs.Past.{Step}
 use Rattle.usage.specs.Judge.{step_kinds, in_range, step_of}
 use Rattle.usage.specs.Tests.{fits}
 use Rattle.sheet_fields.specs.Fields.{step_ok}
+use Rattle.monitor_state.specs.Code.{said, says}
+use Rattle.monitor_state.specs.declared.Step.{Step as Read}
 
 -- three numbers that are not those of a step, and three that are
 pub not-read : (raw : RawStep) → step_ok raw ≡ false → step_of raw ≡ none
@@ -32,3 +35,7 @@ no_kind (suc zero) a b c d = absurd (b refl)
 no_kind (suc (suc zero)) a b c d = absurd (c refl)
 no_kind (suc (suc (suc zero))) a b c d = absurd (d refl)
 no_kind (suc (suc (suc (suc k)))) a b c d = refl
+
+-- what is read is a step
+pub step-said : (raw : RawStep) {read r : Read} → says (Some read) ≡ step_of raw → read ≡ r → step_of raw ≡ some (said r)
+step-said raw e is = sym e ∙ ap (λ (x : Read). some (said x)) is

@@ -8,6 +8,7 @@ use lib.Dec.{eqb}
 use Rattle.usage.specs.declared.Edge.{Edge}
 use Rattle.usage.specs.Past.{Step, event, opening, closing, retiring}
 use Rattle.usage.specs.Tables.{edges_of, is_edge_table}
+use Rattle.usage.specs.declared.Reason.{Reason}
 use Rattle.automaton.specs.Mask.{lowest_in}
 use Rattle.monitor_state.specs.declared.State.{State}
 use Rattle.monitor_state.specs.declared.Judgement.{Judgement}
@@ -32,7 +33,7 @@ module _ (s : State) (sets pairs : List ℕ) where
   other = with_tracked s (record { sets = sets; pairs = pairs; possible = s.tracked.possible })
 
   step_same : (local : Bool) (es : List Edge) (step : Step) → broken (after local es other step) ≡ broken (after local es s step)
-      → (o : Option ℕ) → (judge_step local es other step o).answer ≡ (judge_step local es s step o).answer
+      → (o : Option Reason) → (judge_step local es other step o).answer ≡ (judge_step local es s step o).answer
   unfolding judge_step refuse
   step_same local es step e (some n) = refl
   step_same local es step e none =

@@ -16,6 +16,8 @@ use Rattle.usage.specs.Tables.{edges_of, is_edge_table}
 use Rattle.usage.proofs.Logic.{and_both}
 use Rattle.usage.proofs.TableLaws.{decides-edge-table}
 use Rattle.usage.proofs.JudgeLaws.{step_fits, judged-unique}
+use Rattle.usage.specs.declared.Reason.{Reason}
+use Rattle.usage.specs.declared.Reason.TheVariants.{Halted}
 use Rattle.automaton.specs.Mask.{lowest_in}
 use Rattle.monitor_state.specs.declared.State.{State}
 use Rattle.monitor_state.specs.declared.Answer.{Answer}
@@ -60,7 +62,7 @@ module _ (local : Bool) (es : List Edge) (v : EdgesOk es) (past : Past)
           let x = first-violated local es (step ∷ past) false t T v b in
           record { answer = is_violated k e x.is x.least; state = halt-represents local es past false s R; kept = refl }
 
-  step-promised : (step : Step) → step_of raw ≡ some step → (o : Option ℕ) → Settled past s raw step o
+  step-promised : (step : Step) → step_of raw ≡ some step → (o : Option Reason) → Settled past s raw step o
       → Promised local es past false s raw (judge_step local es s step o)
   unfolding judge_step refuse
   step-promised step e _ (refuses r) = record { answer = is_refused_with r; state = R; kept = refl }
@@ -75,7 +77,7 @@ module _ (local : Bool) (es : List Edge) (v : EdgesOk es) (past : Past)
 
 -- where the calling program lent a table and a state as they should be, the tests before the step's own pass
 judge-is : (t : List ℕ) (local : Bool) (s : State) (raw : RawStep) → is_edge_table t ≡ true → state_ok_lem s ≡ true
-    → judge_of t local s raw ≡ cond s.halted (refuse 20 s) (judge_read local (edges_of t) s (step_of raw))
+    → judge_of t local s raw ≡ cond s.halted (refuse Halted s) (judge_read local (edges_of t) s (step_of raw))
 unfolding judge_of
 judge-is t local s raw p q = rw (p, q)
 
@@ -89,14 +91,14 @@ judge-promised t p local past h s R raw = subst (Promised local (edges_of t) pas
     (sym (judge-is t local s raw p (state-well R))) (go h R)
   where
     go : (h : Bool) → Represents local (edges_of t) past h s
-        → Promised local (edges_of t) past h s raw (cond s.halted (refuse 20 s) (judge_read local (edges_of t) s (step_of raw)))
+        → Promised local (edges_of t) past h s raw (cond s.halted (refuse Halted s) (judge_read local (edges_of t) s (step_of raw)))
     go true R =
-        subst (λ (b : Bool). Promised local (edges_of t) past true s raw (cond b (refuse 20 s) (judge_read local (edges_of t) s (step_of raw))))
+        subst (λ (b : Bool). Promised local (edges_of t) past true s raw (cond b (refuse Halted s) (judge_read local (edges_of t) s (step_of raw))))
         (sym R.halted)
         (record { answer = is_refused_with (refuses-halted past raw); state = R; kept = refl })
     go false R =
         subst (λ (b : Bool). Promised local (edges_of t) past false s raw
-        (cond b (refuse 20 s) (judge_read local (edges_of t) s (step_of raw))))
+        (cond b (refuse Halted s) (judge_read local (edges_of t) s (step_of raw))))
         (sym R.halted)
         (read-promised local (edges_of t) ((decides-edge-table t).0 p).edges past s R raw (step_of raw) refl)
 

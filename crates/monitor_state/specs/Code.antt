@@ -1,6 +1,7 @@
 -- What the judge's own functions compute, where Judge.antt has no name for it.
 use Rattle.std.specs.Prelude.{ℕ, ◌+◌, Bool, true, cond, List, eqb, get_or, set}
 use Rattle.std.proofs.Math.Option.{Option, none, some}
+use Rattle.std.specs.Prelude.{Option as Maybe, Some, None}
 use Rattle.usage.specs.declared.Edge.{Edge}
 use Rattle.usage.specs.Past.{Step, event, opening, closing, retiring}
 use Rattle.automaton.specs.Mask.{lowest_in}
@@ -15,16 +16,20 @@ use Rattle.monitor_state.specs.declared.Answer.TheVariants.{Allowed, Violated}
 use Rattle.monitor_state.specs.Judge.{refusal}
 use Rattle.monitor_state.specs.Looked.{looked_at, judge_step_by}
 pub use Rattle.monitor_state.specs.Lent.{Lent, lent_of, state_of, judgement_of, arrays_of, sizes_of}
-use Rattle.monitor_state.specs.declared.Read.{Read}
-use Rattle.monitor_state.specs.declared.Read.TheVariants.{Event, Opening, Closing, Retiring, Nothing}
+use Rattle.monitor_state.specs.declared.Step.{Step as Read}
+use Rattle.monitor_state.specs.declared.Step.TheVariants.{Event, Opening, Closing, Retiring}
 
 -- the step that was read
-abbrev pub says : Read → Option Step
-says (Event a r) = some (event a r)
-says (Opening p) = some (opening p)
-says (Closing p) = some (closing p)
-says (Retiring r) = some (retiring r)
-says Nothing = none
+abbrev pub said : Read → Step
+said (Event a r) = event a r
+said (Opening p) = opening p
+said (Closing p) = closing p
+said (Retiring r) = retiring r
+
+-- if one was
+abbrev pub says : Maybe Read → Option Step
+says None = none
+says (Some r) = some (said r)
 
 -- ── A state by its parts ──
 

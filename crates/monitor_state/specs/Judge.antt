@@ -8,6 +8,9 @@ use Rattle.usage.specs.Past.{Step, event, opening, closing, retiring}
 use Rattle.usage.specs.Answers.{Verdict, allowed, violated, refused}
 use Rattle.usage.specs.Judge.{step_of}
 use Rattle.usage.specs.Tables.{edges_of, is_edge_table}
+use Rattle.usage.specs.Reasons.{number_of}
+use Rattle.usage.specs.declared.Reason.{Reason}
+use Rattle.usage.specs.declared.Reason.TheVariants.{Halted, NoStep, CreateStatic, NotLive, NotOpen, NotNewest, NotAbove, RetireNotLive, TooManyLive, TooManyOpen, Table, State as Unfit}
 use Rattle.automaton.specs.Mask.{union, offends, lowest_in}
 unfoldable pub use Rattle.monitor_state.specs.Tracked.{copied, retired_sets, moved_sets, reset_sets, gathered, start_tracked, copied_in, moved_in, retired_in, reset_in}
 pub use Rattle.monitor_state.specs.Tracked.{start_set, pair_sets, set_at, possible_in}
@@ -26,7 +29,7 @@ use Rattle.monitor_state.specs.declared.Judgement.{Judgement}
 abbrev pub verdict_of : Answer → Verdict
 verdict_of Allowed = allowed
 verdict_of (Violated p) = violated p
-verdict_of (Refused n) = refused n
+verdict_of (Refused r) = refused (number_of r)
 
 -- "The state starts with each instance in state 0, nothing created and nothing open."
 unfoldable pub start_state : State
@@ -87,17 +90,17 @@ broken s = union policies (λ p. cond (ltb 0 (openings_of s.unclosed p) && offen
 
 -- The number that refuses a step, if any. In a state that passes 42 no live number is above the highest one, so a create that is not refused
 -- with 27 is of a resource that is not live.
-unfoldable pub refusal : State → Step → Option ℕ
+unfoldable pub refusal : State → Step → Option Reason
 refusal s (event zero r) =
-    cond (ltb r statics) (some 22)
-    (cond (leb r s.created.highest) (some 27) (cond (leb most_created s.created.count) (some 30) none))
-refusal s (event (suc a) r) = cond (ltb r statics || listed r (live s.created)) none (some 24)
-refusal s (opening p) = cond (leb most_unclosed s.unclosed.depth) (some 32) none
+    cond (ltb r statics) (some CreateStatic)
+    (cond (leb r s.created.highest) (some NotAbove) (cond (leb most_created s.created.count) (some TooManyLive) none))
+refusal s (event (suc a) r) = cond (ltb r statics || listed r (live s.created)) none (some NotLive)
+refusal s (opening p) = cond (leb most_unclosed s.unclosed.depth) (some TooManyOpen) none
 refusal s (closing p) =
-    cond (ltb 0 (openings_of s.unclosed p)) (cond (eqb (last_opened s.unclosed) p) none (some 26)) (some 25)
-refusal s (retiring r) = cond (not (ltb r statics) && listed r (live s.created)) none (some 28)
+    cond (ltb 0 (openings_of s.unclosed p)) (cond (eqb (last_opened s.unclosed) p) none (some NotNewest)) (some NotOpen)
+refusal s (retiring r) = cond (not (ltb r statics) && listed r (live s.created)) none (some RetireNotLive)
 
-unfoldable pub refuse : ℕ → State → Judgement
+unfoldable pub refuse : Reason → State → Judgement
 refuse n s = record { answer = Refused n; state = s }
 
 -- "a halted state that is otherwise the one before the step"
@@ -108,20 +111,20 @@ halt s = record { tracked = s.tracked; created = s.created; unclosed = s.unclose
 unfoldable pub settle : ℕ → State → State → Judgement
 settle bad s t = cond (eqb bad 0) (record { answer = Allowed; state = t }) (record { answer = Violated (lowest_in bad); state = halt s })
 
-unfoldable pub judge_step : Bool → List Edge → State → Step → Option ℕ → Judgement
+unfoldable pub judge_step : Bool → List Edge → State → Step → Option Reason → Judgement
 judge_step local es s step (some n) = refuse n s
 judge_step local es s step none = settle (broken (after local es s step)) s (after local es s step)
 
 unfoldable pub judge_read : Bool → List Edge → State → Option Step → Judgement
-judge_read local es s none = refuse 21 s
+judge_read local es s none = refuse NoStep s
 judge_read local es s (some step) = judge_step local es s step (refusal s step)
 
 -- "The calling program, before all others, in this order": 41, 42; then 20, 21 and the rest. The choice of past goes with the edges.
 unfoldable pub judge_of : List ℕ → Bool → State → RawStep → Judgement
 judge_of t local s raw =
-    cond (not (is_edge_table t)) (refuse 41 s)
-    (cond (not (state_ok_lem s)) (refuse 42 s)
-    (cond s.halted (refuse 20 s)
+    cond (not (is_edge_table t)) (refuse Table s)
+    (cond (not (state_ok_lem s)) (refuse Unfit s)
+    (cond s.halted (refuse Halted s)
     (judge_read local (edges_of t) s (step_of raw))))
 
 -- a list of steps, each with the state that the last one returned

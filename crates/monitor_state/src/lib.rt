@@ -2,14 +2,13 @@
 // read, and the answer to it. The definition of the judge stands in specs/, and proofs/ has that it answers as the whole past says.
 #![tactic(auto)]
 
-ghost use Rattle.std.specs.Prelude.{ℕ, ◌≡◌, length};
+ghost use Rattle.std.specs.Prelude.{◌≡◌};
 ghost use Rattle.usage.specs.Judge.{step_of};
 ghost use Rattle.monitor_state.specs.declared.Answer.TheVariants.{Refused};
-ghost use Rattle.monitor_state.specs.Tracked.{pair_sets};
 ghost use Rattle.monitor_state.specs.Code.{says, told_of};
 
 use monitor_sets::SETS;
-use usage::{MOST_CREATED, MOST_UNCLOSED, POLICIES, RawStep};
+use usage::{MOST_CREATED, MOST_UNCLOSED, POLICIES, RawStep, Reason};
 
 // The sets of the policies about two resources, as `monitor_pairs` lays them out.
 pub const PAIR_SETS: usize = monitor_pairs::PAIR_SETS;
@@ -59,11 +58,11 @@ pub struct Sizes {
     pub halted: bool,
 }
 
-#[derive(Clone, Copy)]
+#[derive(Clone, Copy, PartialEq, Eq, Debug)]
 pub enum Answer {
     Allowed,
     Violated(u8),
-    Refused(u8),
+    Refused(Reason),
 }
 
 #[derive(Clone, Copy)]
@@ -79,46 +78,41 @@ pub struct Told {
     pub sizes: Sizes,
 }
 
-// A step whose numbers are in their ranges, or nothing.
-#[derive(Clone, Copy)]
-pub enum Read {
-    Event(u32, u32),
-    Opening(usize),
-    Closing(usize),
-    Retiring(u32),
-    Nothing,
+// A step whose numbers are in their ranges.
+#[derive(Clone, Copy, PartialEq, Eq, Debug)]
+pub enum Step {
+    Event { action: u32, resource: u32 },
+    Opening { policy: usize },
+    Closing { policy: usize },
+    Retiring { resource: u32 },
 }
 
-// A proof is told the length of an array that is passed by value, and not of a lent one. Compiled, it copies nothing.
-pub fn known(pairs: [u8; PAIR_SETS])
-    ensures { length pairs ≡ pair_sets }
-{}
-
-// A step as it is handed over; what refusal 21 is for reads as nothing.
-pub fn read_step(step: RawStep) -> Read
+// A step as it is handed over; none where its numbers are those of no step.
+pub fn read_step(step: RawStep) -> Option<Step>
     ensures { says result ≡ step_of step }
 {
-    let kind = step.kind;
-    let a = step.a;
-    let b = step.b;
+    let RawStep { kind, a, b } = step;
     if !sheet_fields::step_fits(kind, a, b) {
-        return Read::Nothing;
+        return None;
     }
-    match kind {
-        0 => Read::Event(a, b),
-        1 => Read::Opening(a as usize),
-        2 => Read::Closing(a as usize),
-        3 => Read::Retiring(a),
-        _ => Read::Nothing,
-    }
+    Some(match kind {
+        0 => Step::Event {
+            action: a,
+            resource: b,
+        },
+        1 => Step::Opening { policy: a as usize },
+        2 => Step::Closing { policy: a as usize },
+        3 => Step::Retiring { resource: a },
+        _ => return None,
+    })
 }
 
 // A refused step: nothing is changed.
-pub fn refused(n: u8, sizes: Sizes) -> Told
-    ensures { result ≡ record { answer = Refused n; sizes = sizes } }
+pub fn refused(reason: Reason, sizes: Sizes) -> Told
+    ensures { result ≡ record { answer = Refused reason; sizes = sizes } }
 {
     Told {
-        answer: Answer::Refused(n),
+        answer: Answer::Refused(reason),
         sizes,
     }
 }
@@ -137,10 +131,8 @@ pub fn settled(broken: u8, before: Sizes, after: Sizes) -> Told
     let lowest = u8::trailing_zeros(broken);
     let p = lowest as u8;
     let sizes = Sizes {
-        count: before.count,
-        highest: before.highest,
-        depth: before.depth,
         halted: true,
+        ..before
     };
     Told {
         answer: Answer::Violated(p),

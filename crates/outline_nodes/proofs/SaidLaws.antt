@@ -1,15 +1,18 @@
 -- What a node of a flat table says.
 use Prim.Native.Nat.{ℕ, zero, suc, ◌/◌, ◌<◌, ◌≤◌}
 use mathlib.Core.Path.{◌≡◌, refl, sym, ap}
-use mathlib.Core.Option.{none}
-use mathlib.Core.List.{List}
+use mathlib.Core.Option.{Option, none}
+use mathlib.Core.List.{List, [], ◌∷◌}
 use lib.ListN.{length, get_elem?}
+use Rattle.std.specs.Prelude.{Option as Maybe, Some, None}
 use Rattle.usage.specs.declared.Node.{Node}
-use Rattle.usage.specs.Limits.{node_fields, said}
-use Rattle.usage.specs.Outline.{node_kinds, form_of, form_in, form_at}
+use native.Mathlib.Nat.{le_of_suc-le-suc, not-suc-le-zero}
+use Rattle.usage.specs.Limits.{node_fields, said, Kind}
+use Rattle.usage.specs.Outline.{Form, node_kinds, form_of, form_in, form_at}
 use Rattle.usage.specs.Tables.{node_at_lem, nodes_of}
 use denote.Enum.Declared.{tag_of}
 use Rattle.outline_nodes.specs.declared.NodeForm.{NodeForm}
+use Rattle.outline_nodes.specs.Said.{said_by, said_if}
 use Rattle.outline_nodes.specs.contracts.NodeForm.{the_type}
 use Rattle.usage.proofs.TableLaws.{nodes-at, nodes-past}
 
@@ -25,22 +28,26 @@ pub form-by : (n : Node) (k : ℕ) → n.kind ≡ k → said (get_elem? node_kin
 unfolding form_of
 form-by n k e = sym (ap (λ (j : ℕ). said (get_elem? node_kinds j) n.a n.b) e)
 
+past : (ks : List (Kind Form)) (k : ℕ) → length ks ≤ k → get_elem? ks k ≡ none
+past [] k h = refl
+past (x ∷ ks) zero h = absurd (not-suc-le-zero h)
+past (x ∷ ks) (suc k) h = past ks k (le_of_suc-le-suc h)
+
 -- a kind above 8 says nothing
-pub no-form : (n a b : ℕ) → (n ≡ 0 → ⊥) → (n ≡ 1 → ⊥) → (n ≡ 2 → ⊥) → (n ≡ 3 → ⊥) → (n ≡ 4 → ⊥) → (n ≡ 5 → ⊥) → (n ≡ 6 → ⊥) → (n ≡ 7 → ⊥)
-    → (n ≡ 8 → ⊥) → form_of (record { kind = n; a = a; b = b }) ≡ none
+pub no-form : (n : Node) → 8 < n.kind → form_of n ≡ none
 unfolding form_of
-no-form zero a b d₀ d₁ d₂ d₃ d₄ d₅ d₆ d₇ d₈ = absurd (d₀ refl)
-no-form (suc zero) a b d₀ d₁ d₂ d₃ d₄ d₅ d₆ d₇ d₈ = absurd (d₁ refl)
-no-form (suc (suc zero)) a b d₀ d₁ d₂ d₃ d₄ d₅ d₆ d₇ d₈ = absurd (d₂ refl)
-no-form (suc (suc (suc zero))) a b d₀ d₁ d₂ d₃ d₄ d₅ d₆ d₇ d₈ = absurd (d₃ refl)
-no-form (suc (suc (suc (suc zero)))) a b d₀ d₁ d₂ d₃ d₄ d₅ d₆ d₇ d₈ = absurd (d₄ refl)
-no-form (suc (suc (suc (suc (suc zero))))) a b d₀ d₁ d₂ d₃ d₄ d₅ d₆ d₇ d₈ = absurd (d₅ refl)
-no-form (suc (suc (suc (suc (suc (suc zero)))))) a b d₀ d₁ d₂ d₃ d₄ d₅ d₆ d₇ d₈ = absurd (d₆ refl)
-no-form (suc (suc (suc (suc (suc (suc (suc zero))))))) a b d₀ d₁ d₂ d₃ d₄ d₅ d₆ d₇ d₈ = absurd (d₇ refl)
-no-form (suc (suc (suc (suc (suc (suc (suc (suc zero)))))))) a b d₀ d₁ d₂ d₃ d₄ d₅ d₆ d₇ d₈ = absurd (d₈ refl)
-no-form (suc (suc (suc (suc (suc (suc (suc (suc (suc n))))))))) a b d₀ d₁ d₂ d₃ d₄ d₅ d₆ d₇ d₈ = refl
+no-form n h = ap (λ (o : Option (Kind Form)). said o n.a n.b) (past node_kinds n.kind h)
 
--- ── A match: the variants by their places ──
+-- ── A match ──
 
+-- what is said by a node that has a form, and by one that has none
+pub said-some : {o : Maybe NodeForm} {f : NodeForm} → o ≡ Some f → said_if o ≡ said_by f
+said-some e = ap said_if e
+
+pub said-none : (o : Maybe NodeForm) → ((f : NodeForm) → o ≡ Some f → ⊥) → said_if o ≡ none
+said-none None h = refl
+said-none (Some f) h = absurd (h f refl)
+
+-- the variants by their places
 abbrev pub tag : NodeForm → ℕ
 tag f = tag_of the_type f

@@ -4,12 +4,12 @@
 ghost use Rattle.std.specs.Prelude.{◌≡◌};
 ghost use Rattle.usage.specs.Outline.{form_of, form_at};
 ghost use Rattle.usage.specs.Tables.{nodes_of};
-ghost use Rattle.outline_nodes.specs.Said.{said_by};
+ghost use Rattle.outline_nodes.specs.Said.{said_if};
 
 use usage::{NODE_FIELDS, Node};
 
-// What a node says, as document 01 has the kinds, 0 to 8 in order; or nothing.
-#[derive(Clone, Copy)]
+// What a node says, as document 01 has the kinds, 0 to 8 in order.
+#[derive(Clone, Copy, PartialEq, Eq, Debug)]
 pub enum NodeForm {
     End,
     OnStatic { action: u8, resource: u8 },
@@ -20,17 +20,14 @@ pub enum NodeForm {
     Back { to: u8 },
     Fresh { name: u8, body: u8 },
     Sandbox { policy: u8, body: u8 },
-    Nothing,
 }
 
-// What a node says by its numbers: nothing where there is none of its kind.
-pub fn form_of(n: Node) -> NodeForm
-    ensures { said_by result ≡ form_of n }
+// What a node says by its numbers; none where they have no kind.
+pub fn form_of(n: Node) -> Option<NodeForm>
+    ensures { said_if result ≡ form_of n }
 {
-    let kind = n.kind;
-    let a = n.a;
-    let b = n.b;
-    match kind {
+    let Node { kind, a, b } = n;
+    Some(match kind {
         0 => NodeForm::End,
         1 => NodeForm::OnStatic {
             action: a,
@@ -46,16 +43,16 @@ pub fn form_of(n: Node) -> NodeForm
         6 => NodeForm::Back { to: a },
         7 => NodeForm::Fresh { name: a, body: b },
         8 => NodeForm::Sandbox { policy: a, body: b },
-        _ => NodeForm::Nothing,
-    }
+        _ => return None,
+    })
 }
 
-// What node k of a flat table says: nothing where there is no such node.
-pub fn form(nodes: &[u8], k: usize) -> NodeForm
-    ensures { said_by result ≡ form_at (nodes_of nodes.now) k }
+// What node k of a flat table says; none where there is no such node.
+pub fn form(nodes: &[u8], k: usize) -> Option<NodeForm>
+    ensures { said_if result ≡ form_at (nodes_of nodes.now) k }
 {
     if nodes.len() / NODE_FIELDS <= k {
-        return NodeForm::Nothing;
+        return None;
     }
     let i = NODE_FIELDS * k;
     form_of(Node {

@@ -14,7 +14,9 @@ use Rattle.usage.specs.Tables.{EdgeTable, NodeTable}
 use Rattle.usage.proofs.Logic.{clash}
 use Rattle.checker_trace.specs.Answer.{most_numbers}
 use Rattle.checker_counterexample.specs.declared.Explanation.{Explanation}
-use Rattle.checker_counterexample.specs.declared.Explanation.TheVariants.{Accepted, Shown, Longer, Refused}
+use Rattle.checker_counterexample.specs.declared.Explanation.TheVariants.{Accepted, Shown, Longer}
+use Rattle.std.specs.Prelude.{Result, Ok, Err}
+use Rattle.usage.specs.declared.Reason.{Reason}
 use Rattle.checker.specs.Promise.{RightVerdict, CheckPromise}
 use Rattle.checker_counterexample.specs.Explained.{Explained, explanation_verdict, steps_written_lem}
 use Rattle.checker.proofs.PromiseLaws.{promised-right, promise-no-edges, promise-no-nodes}
@@ -44,7 +46,7 @@ module _ (local : Bool) (e n : List ℕ) where
       back (inl f) = promise-no-edges c f
       back (inr f) = promise-no-nodes c f
 
-  module _ (t : List ℕ) (x : Explanation) (t' : List ℕ) (h : Explained local e n t x t') where
+  module _ (t : List ℕ) (x : Result Explanation Reason) (t' : List ℕ) (h : Explained local e n t x t') where
     explained_listed : Listed explanation_numbers (explanation_verdict x)
     explained_listed = go (ltb (length t) most_numbers) refl
       where
@@ -69,11 +71,11 @@ module _ (local : Bool) (e n : List ℕ) where
     keeps : (k : ℕ) → explanation_verdict x ≡ refused k → t' ≡ t
     keeps k q = explained-nothing h (none x q)
       where
-        none : (x : Explanation) → explanation_verdict x ≡ refused k → steps_written_lem x ≡ 0
-        none Accepted q = refl
-        none (Shown p s) q = clash (cc)
-        none (Longer p) q = refl
-        none (Refused j) q = refl
+        none : (x : Result Explanation Reason) → explanation_verdict x ≡ refused k → steps_written_lem x ≡ 0
+        none (Ok Accepted) q = refl
+        none (Ok (Shown p s)) q = clash (cc)
+        none (Ok (Longer p)) q = refl
+        none (Err j) q = refl
 
 pub check-refuses : CheckRefuses
 check-refuses = record {

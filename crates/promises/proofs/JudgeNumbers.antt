@@ -19,6 +19,9 @@ use Rattle.usage.proofs.Decides.{refuted}
 use Rattle.usage.proofs.TableLaws.{decides-edge-table}
 use Rattle.automaton.specs.Mask.{lowest_in}
 use Rattle.automaton.proofs.MaskLaws.{lowest-is}
+use Rattle.usage.specs.declared.Reason.{Reason}
+use Rattle.usage.specs.declared.Reason.TheVariants.{Halted, NoStep, Table, State as Unfit}
+use Rattle.usage.specs.Reasons.{number_of}
 use Rattle.monitor_state.specs.declared.State.{State}
 use Rattle.monitor_state.specs.declared.Answer.{Answer}
 use Rattle.monitor_state.specs.declared.Answer.TheVariants.{Allowed, Violated, Refused}
@@ -36,13 +39,13 @@ use Rattle.promises.specs.Demands.{judge_numbers, Listed, JudgeRefuses}
 -- apart from 41 and 42, which only the tests of the table and of the state give.
 pub record Fine (s : State) (j : Judgement) : Type 0 where
   pub listed : Listed judge_numbers (verdict_of j.answer)
-  pub keeps : (n : ℕ) → j.answer ≡ Refused n → j.state ≡ s
+  pub keeps : (n : Reason) → j.answer ≡ Refused n → j.state ≡ s
   pub halts : (p : ℕ) → j.answer ≡ Violated p → j.state ≡ halt s
 
 -- the number of a refusal is one that the routine can bring about
-abbrev Routine : Option ℕ → Type 0
+abbrev Routine : Option Reason → Type 0
 Routine none = Unit {0}
-Routine (some n) = Memᴰ n judge_numbers × (n < 40)
+Routine (some n) = Memᴰ (number_of n) judge_numbers × (number_of n < 40)
 
 pub nth : {n : ℕ} (i : ℕ) (l : List ℕ) → get_elem? l i ≡ some n → Memᴰ n l
 nth i [] e = none-some e
@@ -52,26 +55,26 @@ nth {n} zero (m ∷ l) e = Memᴰ.head (same e)
     same e = cc
 nth (suc i) (m ∷ l) e = Memᴰ.tail (nth i l e)
 
-no-violation : {n p : ℕ} {A : Type 0} → Refused n ≡ Violated p → A
+no-violation : {n : Reason} {p : ℕ} {A : Type 0} → Refused n ≡ Violated p → A
 no-violation e = clash (cc)
 
-no-refusal : {n p : ℕ} {A : Type 0} → Violated p ≡ Refused n → A
+no-refusal : {n : Reason} {p : ℕ} {A : Type 0} → Violated p ≡ Refused n → A
 no-refusal e = clash (cc)
 
-allows : {n : ℕ} {A : Type 0} → Allowed ≡ Refused n → A
+allows : {n : Reason} {A : Type 0} → Allowed ≡ Refused n → A
 allows e = clash (cc)
 
 allows-all : {p : ℕ} {A : Type 0} → Allowed ≡ Violated p → A
 allows-all e = clash (cc)
 
-abbrev number_of : Answer → ℕ
-number_of Allowed = 0
-number_of (Violated p) = 0
-number_of (Refused n) = n
+abbrev number_in : Answer → ℕ
+number_in Allowed = 0
+number_in (Violated p) = 0
+number_in (Refused n) = number_of n
 
 -- ── Each judgement ──
 
-refuse-fine : (s : State) (n : ℕ) → Memᴰ n judge_numbers → Fine s (refuse n s)
+refuse-fine : (s : State) (n : Reason) → Memᴰ (number_of n) judge_numbers → Fine s (refuse n s)
 unfolding refuse
 refuse-fine s n m = record { listed = m; keeps = λ k e. refl; halts = λ p e. no-violation e }
 
@@ -90,7 +93,7 @@ settle-fine s t bad l = go (eqb bad 0) refl
 
 -- ── The numbers of a step that was read ──
 
-cond-routine : (b : Bool) (x y : Option ℕ) → Routine x → Routine y → Routine (cond b x y)
+cond-routine : (b : Bool) (x y : Option Reason) → Routine x → Routine y → Routine (cond b x y)
 cond-routine true x y f g = f
 cond-routine false x y f g = g
 
@@ -109,11 +112,11 @@ refusal-routine s (retiring r) = cond-routine (not (ltb r statics) && listed r (
 
 -- a refusal that comes after the tests of the table and of the state
 abbrev Low : Judgement → Type 0
-Low j = (n : ℕ) → j.answer ≡ Refused n → n < 40
+Low j = (n : Reason) → j.answer ≡ Refused n → number_of n < 40
 
-refuse-low : (s : State) (n : ℕ) → n < 40 → Low (refuse n s)
+refuse-low : (s : State) (n : Reason) → number_of n < 40 → Low (refuse n s)
 unfolding refuse
-refuse-low s n l k e = subst (λ (m : ℕ). m < 40) (ap number_of e) l
+refuse-low s n l k e = subst (λ (m : ℕ). m < 40) (ap number_in e) l
 
 cond-low : (b : Bool) (x y : Judgement) → Low x → Low y → Low (cond b x y)
 cond-low true x y f g = f
@@ -124,7 +127,7 @@ unfolding settle
 settle-low s t bad = cond-low (eqb bad 0) _ _ (λ n e. allows e) (λ n e. no-refusal e)
 
 module _ (local : Bool) (es : List Edge) (s : State) where
-  step-fine : (step : Step) (o : Option ℕ) → Routine o → Fine s (judge_step local es s step o) × Low (judge_step local es s step o)
+  step-fine : (step : Step) (o : Option Reason) → Routine o → Fine s (judge_step local es s step o) × Low (judge_step local es s step o)
   unfolding judge_step
   step-fine step none r = (
     settle-fine s (after local es s step) (broken (after local es s step)) (broken-lt (after local es s step)),
@@ -134,32 +137,32 @@ module _ (local : Bool) (es : List Edge) (s : State) where
 
   read-fine : (o : Option Step) → Fine s (judge_read local es s o) × Low (judge_read local es s o)
   unfolding judge_read
-  read-fine none = (refuse-fine s 21 (nth 1 judge_numbers refl), refuse-low s 21 (lit< tt))
+  read-fine none = (refuse-fine s NoStep (nth 1 judge_numbers refl), refuse-low s NoStep (lit< tt))
   read-fine (some step) = step-fine step (refusal s step) (refusal-routine s step)
 
 -- ── The judge ──
 
 module _ (t : List ℕ) (local : Bool) (s : State) (raw : RawStep) where
   abbrev inner : Judgement
-  inner = cond s.halted (refuse 20 s) (judge_read local (edges_of t) s (step_of raw))
+  inner = cond s.halted (refuse Halted s) (judge_read local (edges_of t) s (step_of raw))
 
   inner-fine : Fine s inner
-  inner-fine = cond-fine s.halted _ _ (refuse-fine s 20 (nth 0 judge_numbers refl)) (read-fine local (edges_of t) s (step_of raw)).0
+  inner-fine = cond-fine s.halted _ _ (refuse-fine s Halted (nth 0 judge_numbers refl)) (read-fine local (edges_of t) s (step_of raw)).0
 
   inner-low : Low inner
-  inner-low = cond-low s.halted _ _ (refuse-low s 20 (lit< tt)) (read-fine local (edges_of t) s (step_of raw)).1
+  inner-low = cond-low s.halted _ _ (refuse-low s Halted (lit< tt)) (read-fine local (edges_of t) s (step_of raw)).1
 
   pub judge-fine : Fine s (judge_of t local s raw)
   unfolding judge_of
   judge-fine =
-      cond-fine (not (is_edge_table t)) _ _ (refuse-fine s 41 (nth 10 judge_numbers refl))
-      (cond-fine (not (state_ok_lem s)) _ _ (refuse-fine s 42 (nth 11 judge_numbers refl)) inner-fine)
+      cond-fine (not (is_edge_table t)) _ _ (refuse-fine s Table (nth 10 judge_numbers refl))
+      (cond-fine (not (state_ok_lem s)) _ _ (refuse-fine s Unfit (nth 11 judge_numbers refl)) inner-fine)
 
-  is-41 : is_edge_table t ≡ false → judge_of t local s raw ≡ refuse 41 s
+  is-41 : is_edge_table t ≡ false → judge_of t local s raw ≡ refuse Table s
   unfolding judge_of
   is-41 p = rw p
 
-  is-42 : is_edge_table t ≡ true → state_ok_lem s ≡ false → judge_of t local s raw ≡ refuse 42 s
+  is-42 : is_edge_table t ≡ true → state_ok_lem s ≡ false → judge_of t local s raw ≡ refuse Unfit s
   unfolding judge_of
   is-42 p q = rw (p, q)
 
@@ -168,26 +171,27 @@ module _ (t : List ℕ) (local : Bool) (s : State) (raw : RawStep) where
   is-inner p q = rw (p, q)
 
   -- the number where the table is one that a sheet gives
-  with-table : is_edge_table t ≡ true → (n : ℕ) → (judge_of t local s raw).answer ≡ Refused n → ((n ≡ 42) × (state_ok_lem s ≡ false)) ⊎ (n < 40)
+  with-table : is_edge_table t ≡ true → (n : Reason) → (judge_of t local s raw).answer ≡ Refused n
+      → ((number_of n ≡ 42) × (state_ok_lem s ≡ false)) ⊎ (number_of n < 40)
   unfolding refuse
   with-table p n e = go (state_ok_lem s) refl
     where
-      go : (b : Bool) → state_ok_lem s ≡ b → ((n ≡ 42) × (state_ok_lem s ≡ false)) ⊎ (n < 40)
+      go : (b : Bool) → state_ok_lem s ≡ b → ((number_of n ≡ 42) × (state_ok_lem s ≡ false)) ⊎ (number_of n < 40)
       go true q = inr (inner-low n (sym (ap (λ (j : Judgement). j.answer) (is-inner p q)) ∙ e))
-      go false q = inl (ap number_of (sym e ∙ ap (λ (j : Judgement). j.answer) (is-42 p q)), q)
+      go false q = inl (ap number_in (sym e ∙ ap (λ (j : Judgement). j.answer) (is-42 p q)), q)
 
-  pub at-41 : ((judge_of t local s raw).answer ≡ Refused 41) ↔ (EdgeTable t → ⊥)
+  pub at-41 : ((judge_of t local s raw).answer ≡ Refused Table) ↔ (EdgeTable t → ⊥)
   unfolding refuse
-  at-41 = (λ e edges. neither (with-table ((decides-edge-table t).1 edges) 41 e), back)
+  at-41 = (λ e edges. neither (with-table ((decides-edge-table t).1 edges) Table e), back)
     where
       neither : ((◌≡◌ {A = ℕ} 41 42) × (state_ok_lem s ≡ false)) ⊎ (41 < 40) → ⊥
       neither (inl x) = let h = x.0 in omega arith
       neither (inr x) = omega arith
 
-      back : (EdgeTable t → ⊥) → (judge_of t local s raw).answer ≡ Refused 41
+      back : (EdgeTable t → ⊥) → (judge_of t local s raw).answer ≡ Refused Table
       back f = ap (λ (j : Judgement). j.answer) (is-41 (refuted (is_edge_table t) (decides-edge-table t) f))
 
-  pub at-42 : ((judge_of t local s raw).answer ≡ Refused 42) ↔ (EdgeTable t × (state_ok_lem s ≡ false))
+  pub at-42 : ((judge_of t local s raw).answer ≡ Refused Unfit) ↔ (EdgeTable t × (state_ok_lem s ≡ false))
   unfolding refuse
   at-42 = (λ e. go (is_edge_table t) refl e, λ x. back x.0 x.1)
     where
@@ -195,19 +199,19 @@ module _ (t : List ℕ) (local : Bool) (s : State) (raw : RawStep) where
       only (inl x) = x.1
       only (inr x) = absurd (omega arith)
 
-      go : (b : Bool) → is_edge_table t ≡ b → (judge_of t local s raw).answer ≡ Refused 42 → EdgeTable t × (state_ok_lem s ≡ false)
-      go true p e = ((decides-edge-table t).0 p, only (with-table p 42 e))
-      go false p e = absurd (differ (ap number_of (sym e ∙ ap (λ (j : Judgement). j.answer) (is-41 p))))
+      go : (b : Bool) → is_edge_table t ≡ b → (judge_of t local s raw).answer ≡ Refused Unfit → EdgeTable t × (state_ok_lem s ≡ false)
+      go true p e = ((decides-edge-table t).0 p, only (with-table p Unfit e))
+      go false p e = absurd (differ (ap number_in (sym e ∙ ap (λ (j : Judgement). j.answer) (is-41 p))))
         where
           differ : ◌≡◌ {A = ℕ} 42 41 → ⊥
           differ h = omega arith
 
-      back : EdgeTable t → state_ok_lem s ≡ false → (judge_of t local s raw).answer ≡ Refused 42
+      back : EdgeTable t → state_ok_lem s ≡ false → (judge_of t local s raw).answer ≡ Refused Unfit
       back edges q = ap (λ (j : Judgement). j.answer) (is-42 ((decides-edge-table t).1 edges) q)
 
 -- 42, by the rule that its test decides
 ruled-42 : (t : List ℕ) (local : Bool) (s : State) (raw : RawStep)
-    → ((judge_of t local s raw).answer ≡ Refused 42) ↔ (EdgeTable t × (StateOk s → ⊥))
+    → ((judge_of t local s raw).answer ≡ Refused Unfit) ↔ (EdgeTable t × (StateOk s → ⊥))
 ruled-42 t local s raw =
     let a = at-42 t local s raw in
     let d = decides-state s in

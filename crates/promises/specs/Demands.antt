@@ -5,7 +5,7 @@
 -- sheet writer answers and writes `written_into` (`sheet_writer`), the programs print `trace_printed`, `outline_printed`,
 -- `counterexample_printed` and `summary_printed` (`report`), and callers in C and Rust are told `code_of` a verdict (`api_c`). proofs/ has the
 -- proof of each. That no function reads outside its memory or runs on without end is what the language asks of each before it is built.
-use Rattle.std.specs.Prelude.{ℕ, ◌<◌, ◌≤◌, ◌≡◌, Bool, true, false, ◌↔◌, ◌⊎◌, length, take, replicate}
+use Rattle.std.specs.Prelude.{ℕ, Result as Returned, Ok, ◌<◌, ◌≤◌, ◌≡◌, Bool, true, false, ◌↔◌, ◌⊎◌, length, take, replicate}
 use Rattle.std.proofs.Math.Option.{none, some}
 use mathlib.Core.List.{List, [], ◌∷◌, ◌++◌, map, flatten, Memᴰ}
 use Rattle.usage.specs.declared.Node.{Node}
@@ -18,6 +18,8 @@ use Rattle.usage.specs.Outline.{IsTrace}
 use Rattle.usage.specs.Check.{Checked, Shortest}
 use Rattle.usage.specs.Tables.{edges_of, nodes_of, steps_of, EdgeTable, NodeTable}
 use Rattle.monitor_state.specs.declared.State.{State}
+use Rattle.usage.specs.declared.Reason.{Reason}
+use Rattle.usage.specs.declared.Reason.TheVariants.{Table, State as Unfit}
 use Rattle.monitor_state.specs.declared.Answer.TheVariants.{Violated, Refused}
 use Rattle.monitor_state.specs.Judge.{verdict_of, halt, judge_of, answers_of, start_state}
 use Rattle.monitor_state.specs.Sound.{StateOk}
@@ -92,15 +94,15 @@ Listed numbers (refused n) = Memᴰ n numbers
 -- edges, every state and every step at all, whichever past counts.
 pub record JudgeRefuses : Type 0 where
   pub listed : (t : List ℕ) (local : Bool) (s : State) (raw : RawStep) → Listed judge_numbers (verdict_of (judge_of t local s raw).answer)
-  pub keeps : (t : List ℕ) (local : Bool) (s : State) (raw : RawStep) (n : ℕ) → (judge_of t local s raw).answer ≡ Refused n
+  pub keeps : (t : List ℕ) (local : Bool) (s : State) (raw : RawStep) (n : Reason) → (judge_of t local s raw).answer ≡ Refused n
       → (judge_of t local s raw).state ≡ s
   -- "a halted state that is otherwise the one before the step"
   pub halts : (t : List ℕ) (local : Bool) (s : State) (raw : RawStep) (p : ℕ)
       → (judge_of t local s raw).answer ≡ Violated p → (judge_of t local s raw).state ≡ halt s
   -- the cases of the numbers that no past tells; those of the others are in demand 2
-  pub no_table : (t : List ℕ) (local : Bool) (s : State) (raw : RawStep) → ((judge_of t local s raw).answer ≡ Refused 41) ↔ (EdgeTable t → ⊥)
+  pub no_table : (t : List ℕ) (local : Bool) (s : State) (raw : RawStep) → ((judge_of t local s raw).answer ≡ Refused Table) ↔ (EdgeTable t → ⊥)
   pub no_state : (t : List ℕ) (local : Bool) (s : State) (raw : RawStep)
-      → ((judge_of t local s raw).answer ≡ Refused 42) ↔ (EdgeTable t × (StateOk s → ⊥))
+      → ((judge_of t local s raw).answer ≡ Refused Unfit) ↔ (EdgeTable t × (StateOk s → ⊥))
 
 -- The same of a reader, which is lent a table of so many places to fill and the bytes of a sheet. `Case` has the stated case of each number.
 pub record ReaderRefuses (numbers : List ℕ) (needed : ℕ) (into : ℕ → List ℕ → Result) (Case : ℕ → List ℕ → Refusal → Type 0) : Type 0
@@ -129,12 +131,12 @@ pub record CheckRefuses : Type 0 where
   pub listed : (local : Bool) (e n : List ℕ) (v : Verdict) → CheckPromise local e n v → Listed check_numbers v
   pub no_table : (local : Bool) (e n : List ℕ) (v : Verdict) → CheckPromise local e n v
       → (v ≡ refused 41) ↔ ((EdgeTable e → ⊥) ⊎ (NodeTable n → ⊥))
-  pub explained_listed : (local : Bool) (e n t : List ℕ) (x : Explanation) (t' : List ℕ) → Explained local e n t x t'
+  pub explained_listed : (local : Bool) (e n t : List ℕ) (x : Returned Explanation Reason) (t' : List ℕ) → Explained local e n t x t'
       → Listed explanation_numbers (explanation_verdict x)
   -- "40 also covers a lent trace table below 200 places" (02, L1)
-  pub no_room : (local : Bool) (e n t : List ℕ) (x : Explanation) (t' : List ℕ) → Explained local e n t x t'
+  pub no_room : (local : Bool) (e n t : List ℕ) (x : Returned Explanation Reason) (t' : List ℕ) → Explained local e n t x t'
       → (explanation_verdict x ≡ refused 40) ↔ (length t < most_numbers)
-  pub keeps : (local : Bool) (e n t : List ℕ) (x : Explanation) (t' : List ℕ) (k : ℕ) → Explained local e n t x t'
+  pub keeps : (local : Bool) (e n t : List ℕ) (x : Returned Explanation Reason) (t' : List ℕ) (k : ℕ) → Explained local e n t x t'
       → explanation_verdict x ≡ refused k → t' ≡ t
 
 -- "41 a table lent to be used that, taken whole, no accepted sheet gives": some sheet, read into a table of so many places, gives this
@@ -184,20 +186,20 @@ pub record Demand3 : Type 0 where
 -- Of every explanation that the check with a counterexample may give of the tables e and n, with the lent table t before and t' after.
 pub record Counterexamples : Type 0 where
   -- the verdict is the check's, where the table has the room
-  pub verdict : (local : Bool) (e n t : List ℕ) (x : Explanation) (t' : List ℕ) → Explained local e n t x t' → most_numbers ≤ length t
+  pub verdict : (local : Bool) (e n t : List ℕ) (x : Returned Explanation Reason) (t' : List ℕ) → Explained local e n t x t' → most_numbers ≤ length t
       → CheckPromise local e n (explanation_verdict x)
   -- "Any of several equally short traces will do: which one is left free", and nothing else is
-  pub one_answer : (local : Bool) (e n t : List ℕ) (x y : Explanation) (t' u' : List ℕ) → Explained local e n t x t'
+  pub one_answer : (local : Bool) (e n t : List ℕ) (x y : Returned Explanation Reason) (t' u' : List ℕ) → Explained local e n t x t'
       → Explained local e n t y u' → x ≡ y
   -- "it is a trace of the outline, numbered so, that breaks the named policy while open, and no trace of the outline that does so has fewer
   -- steps"; "Places after the trace keep their contents"
-  pub shown : (local : Bool) (e n t : List ℕ) (p s : ℕ) (t' : List ℕ) → Explained local e n t (Shown p s) t'
+  pub shown : (local : Bool) (e n t : List ℕ) (p s : ℕ) (t' : List ℕ) → Explained local e n t (Ok (Shown p s)) t'
       → (past : Past) × Shortest local (edges_of e) (nodes_of n) p past × (length past ≡ s) × (s ≤ most_shown) × (t' ≡ laid t past)
   -- "if every such trace is longer it says so"
-  pub longer : (local : Bool) (e n t : List ℕ) (p : ℕ) (t' : List ℕ) → Explained local e n t (Longer p) t'
+  pub longer : (local : Bool) (e n t : List ℕ) (p : ℕ) (t' : List ℕ) → Explained local e n t (Ok (Longer p)) t'
       → (past : Past) → IsTrace (nodes_of n) past → Violates local (edges_of e) p past → most_shown < length past
   -- "and then, as on acceptance, nothing is written"
-  pub nothing : (local : Bool) (e n t : List ℕ) (x : Explanation) (t' : List ℕ) → Explained local e n t x t' → steps_written_lem x ≡ 0
+  pub nothing : (local : Bool) (e n t : List ℕ) (x : Returned Explanation Reason) (t' : List ℕ) → Explained local e n t x t' → steps_written_lem x ≡ 0
       → t' ≡ t
 
 -- ── The numbers for callers in C and Rust ──
@@ -207,7 +209,7 @@ pub record Counterexamples : Type 0 where
 pub record ToldByCodes : Type 0 where
   pub judge : (v w : Verdict) → Listed judge_numbers v → Listed judge_numbers w → code_of v ≡ code_of w → v ≡ w
   pub check : (v w : Verdict) → Listed check_numbers v → Listed check_numbers w → code_of v ≡ code_of w → v ≡ w
-  pub counterexample : (x y : Explanation) → Listed explanation_numbers (explanation_verdict x) → Listed explanation_numbers (explanation_verdict y)
+  pub counterexample : (x y : Returned Explanation Reason) → Listed explanation_numbers (explanation_verdict x) → Listed explanation_numbers (explanation_verdict y)
       → explanation_code_lem x ≡ explanation_code_lem y → (steps_written_lem x ≡ steps_written_lem y) × (explanation_verdict x ≡ explanation_verdict y)
 
 -- ── Renumbered channels (02, L3, and L8) ──
@@ -348,9 +350,9 @@ pub record ReadEnough : Type 0 where
       → outline_printed (seen policies-text) (seen outline-text) v ≡ outline_printed policies-text outline-text v
   pub outline_right : (policies-text outline-text : List ℕ) (v : Verdict)
       → RightTexts (seen policies-text) (seen outline-text) v ↔ RightTexts policies-text outline-text v
-  pub counterexample : (policies-text outline-text : List ℕ) (x : Explanation) (t : List ℕ)
+  pub counterexample : (policies-text outline-text : List ℕ) (x : Returned Explanation Reason) (t : List ℕ)
       → counterexample_printed (seen policies-text) (seen outline-text) x t ≡ counterexample_printed policies-text outline-text x t
-  pub counterexample_right : (policies-text outline-text : List ℕ) (x : Explanation) (t : List ℕ)
+  pub counterexample_right : (policies-text outline-text : List ℕ) (x : Returned Explanation Reason) (t : List ℕ)
       → RightExplanation (seen policies-text) (seen outline-text) x t ↔ RightExplanation policies-text outline-text x t
   pub summary : (policies-text outline-text : List ℕ) (m : List ℕ)
       → summary_printed (seen policies-text) (seen outline-text) m ≡ summary_printed policies-text outline-text m

@@ -26,6 +26,9 @@ use Rattle.sheet_reader.proofs.AnswerLaws.{Holds, HoldsNodes}
 use Rattle.checker_trace.specs.Steps.{three, numbers, laid}
 use Rattle.checker_trace.specs.Answer.{most_numbers}
 use Rattle.checker_trace.proofs.StepLaws.{numbers_length, laid-length}
+use Rattle.std.specs.Prelude.{Result as Returned, Ok, Err}
+use Rattle.usage.specs.declared.Reason.{Reason}
+use Rattle.usage.specs.declared.Reason.TheVariants.{Room}
 use Rattle.checker_counterexample.specs.declared.Explanation.{Explanation}
 use Rattle.checker_counterexample.specs.declared.Explanation.TheVariants as told
 use Rattle.checker.specs.Accepted.{raw_of}
@@ -173,7 +176,7 @@ named-nodes (no_nodes f) e = clash (cc)
 named-nodes (checked edges nodes c) e = nodes
 
 -- the steps that are shown are in the table, and are those of a past with low numbers
-pub record HoldsSteps (x : Explanation) (t : List ℕ) : Type 0 where
+pub record HoldsSteps (x : Returned Explanation Reason) (t : List ℕ) : Type 0 where
   pub places : length t ≡ most_numbers
   pub few : steps_written_lem x ≤ most_shown
   pub past : Past
@@ -181,7 +184,7 @@ pub record HoldsSteps (x : Explanation) (t : List ℕ) : Type 0 where
   pub count : length past ≡ steps_written_lem x
   pub steps : from (step_at_lem t) 0 (steps_written_lem x) ≡ raws_of past
 
-none-held : (x : Explanation) → steps_written_lem x ≡ 0 → HoldsSteps x no_steps
+none-held : (x : Returned Explanation Reason) → steps_written_lem x ≡ 0 → HoldsSteps x no_steps
 unfolding from raws_of
 none-held x e = record {
   places = length-replicate {A = ℕ} most_numbers 0;
@@ -194,7 +197,7 @@ none-held x e = record {
 
 shown-held : {local : Bool} {e n : List ℕ} {p : ℕ} {past : Past}
     → CheckPromise local e n (violated p) → Shortest local (edges_of e) (nodes_of n) p past
-    → length past ≤ most_shown → HoldsSteps (told.Shown p (length past)) (laid no_steps past)
+    → length past ≤ most_shown → HoldsSteps (Ok (told.Shown p (length past))) (laid no_steps past)
 shown-held {n = n} {past = past} h s few =
     let l = length-replicate {A = ℕ} most_numbers 0 in
     let ok = trace-ok (nodes_of n) (named-nodes (promised-right h) refl).outline s.trace in
@@ -207,15 +210,15 @@ shown-held {n = n} {past = past} h s few =
       steps = shown-steps no_steps past;
     }
 
-pub explained-held : {local : Bool} {e n t : List ℕ} {x : Explanation} → Explained local e n no_steps x t → HoldsSteps x t
-explained-held (Explained.too_small l) = none-held (told.Refused 40) refl
-explained-held (Explained.refused_with {k} l h) = none-held (told.Refused k) refl
-explained-held (Explained.accepted l h) = none-held told.Accepted refl
-explained-held (Explained.longer {p} l h s) = none-held (told.Longer p) refl
+pub explained-held : {local : Bool} {e n t : List ℕ} {x : Returned Explanation Reason} → Explained local e n no_steps x t → HoldsSteps x t
+explained-held (Explained.too_small l) = none-held (Err Room) refl
+explained-held (Explained.refused_with {r} l h) = none-held (Err r) refl
+explained-held (Explained.accepted l h) = none-held (Ok told.Accepted) refl
+explained-held (Explained.longer {p} l h s) = none-held (Ok (told.Longer p)) refl
 explained-held (Explained.this_long l h (this s few)) = shown-held h s few
 
 -- their lines are short enough
-pub held-short : {x : Explanation} {t : List ℕ} → HoldsSteps x t
+pub held-short : {x : Returned Explanation Reason} {t : List ℕ} → HoldsSteps x t
     → length (step_rows (from (step_at_lem t) 0 (steps_written_lem x))) ≤ most_shown * longest_shown_row
 held-short h =
     let k = low-short h.low in
@@ -241,7 +244,7 @@ pub nodes-none : (local : Bool) (edges text : List ℕ) (line number : ℕ) (buf
     (nodes_sheet (ruled_result (sheet outline_sheet text))) buffer r after
 unfolding RightTrace nodes_sheet
 nodes-none local edges text line number buffer e (er, eo) =
-    rw e (record { explanation = told.Accepted; trace = []; right = tt; told = er; holds = eo })
+    rw e (record { explanation = Ok told.Accepted; trace = []; right = tt; told = er; holds = eo })
 
 module _ (policies-text outline-text buffer : List ℕ) where
   -- the edges of an accepted sheet of policies
@@ -258,4 +261,4 @@ module _ (policies-text outline-text buffer : List ℕ) where
       → Prints (RightExplanation policies-text outline-text) (counterexample_printed policies-text outline-text) buffer r after
   unfolding RightTraceOf sheets_sheet
   edges_none line number e (er, eo) =
-      rw e (record { explanation = told.Accepted; trace = []; right = tt; told = er; holds = eo })
+      rw e (record { explanation = Ok told.Accepted; trace = []; right = tt; told = er; holds = eo })

@@ -23,6 +23,8 @@ use Rattle.sheet_lines.specs.Sheets.{trace_sheet, outline_sheet, is_local}
 use Rattle.sheet_lines.proofs.ScanLaws.{fed}
 use Rattle.sheet_reader.specs.Readers.{policies_read, ruled_result}
 use Rattle.sheet_reader.proofs.WrittenLaws.{nothing_left, names-read}
+use Rattle.std.specs.Prelude.{Result as Returned}
+use Rattle.usage.specs.declared.Reason.{Reason}
 use Rattle.checker_counterexample.specs.declared.Explanation.{Explanation}
 use Rattle.checker.specs.Accepted.{raw_of}
 use Rattle.checker_counterexample.specs.Explained.{Explained, steps_written_lem}
@@ -139,7 +141,7 @@ raws-length [] = refl
 raws-length (s ∷ past) = omega (arith, length-append (raws_of past) (raw_of s ∷ []), raws-length past)
 
 -- The text of a counterexample is a trace sheet that is accepted, and its values are the steps of the table.
-pub shown_read : {local : Bool} {e n t : List ℕ} {x : Explanation} → Explained local e n no_steps x t
+pub shown_read : {local : Bool} {e n t : List ℕ} {x : Returned Explanation Reason} → Explained local e n no_steps x t
     → sheet trace_sheet (shown_sheet x t) ≡ accepted (map step_values (from (step_at_lem t) 0 (steps_written_lem x)))
 unfolding trace_names_line
 shown_read {t = t} {x = x} d =
@@ -156,7 +158,7 @@ shown_read {t = t} {x = x} d =
 -- the same of what is printed for two accepted sheets: the first program can judge it as it is
 pub counterexample-read : (policies-text outline-text : List ℕ) (edges nodes : List (List ℕ))
     → policies_read policies-text ≡ accepted edges
-    → ruled_result (sheet outline_sheet outline-text) ≡ accepted nodes → (x : Explanation) (t : List ℕ)
+    → ruled_result (sheet outline_sheet outline-text) ≡ accepted nodes → (x : Returned Explanation Reason) (t : List ℕ)
     → RightExplanation policies-text outline-text x t
     → sheet trace_sheet (counterexample_printed policies-text outline-text x t) ≡ accepted
     (map step_values (from (step_at_lem t) 0 (steps_written_lem x)))

@@ -8,6 +8,9 @@ use lib.Dec.{eqb, ltb, leb}
 use lib.Count.{count_trailing_zeros, trailing_le}
 use Rattle.usage.specs.declared.Edge.{Edge}
 use Rattle.usage.specs.declared.RawStep.{RawStep}
+use Rattle.usage.specs.declared.Reason.{Reason}
+use Rattle.usage.specs.declared.Reason.TheVariants.{Halted, NoStep, CreateStatic, NotLive, NotOpen, NotNewest, NotAbove, RetireNotLive, TooManyLive, TooManyOpen, Table, State as Unfit}
+use Rattle.usage.specs.Reasons.{number_of}
 use Rattle.usage.specs.Limits.{statics, most_created, most_unclosed}
 use Rattle.usage.specs.Past.{Step, event, opening, closing, retiring}
 use Rattle.usage.specs.Answers.{detail}
@@ -26,7 +29,7 @@ either : (b : Bool) (x y : Judgement) → Short x → Short y → Short (cond b 
 either true x y h k = h
 either false x y h k = k
 
-refuse-short : (n : ℕ) (s : State) → n < 100 → Short (refuse n s)
+refuse-short : (n : Reason) (s : State) → number_of n < 100 → Short (refuse n s)
 unfolding refuse
 refuse-short n s h = h
 
@@ -39,43 +42,43 @@ settle-short bad s t =
 
 -- ── The numbers of the refusals ──
 
-abbrev Number : Option ℕ → Type 0
+abbrev Number : Option Reason → Type 0
 Number none = Unit {0}
-Number (some n) = n < 100
+Number (some n) = number_of n < 100
 
-number : (b : Bool) (x y : Option ℕ) → Number x → Number y → Number (cond b x y)
+number : (b : Bool) (x y : Option Reason) → Number x → Number y → Number (cond b x y)
 number true x y h k = h
 number false x y h k = k
 
 refusal-number : (s : State) (step : Step) → Number (refusal s step)
 unfolding refusal
 refusal-number s (event zero r) =
-    number (ltb r statics) (some 22) (cond (leb r s.created.highest) (some 27) (cond (leb most_created s.created.count) (some 30) none)) (omega arith)
-    (number (leb r s.created.highest) (some 27) (cond (leb most_created s.created.count) (some 30) none) (omega arith)
-    (number (leb most_created s.created.count) (some 30) none (omega arith) tt))
-refusal-number s (event (suc a) r) = number (ltb r statics || listed r (live s.created)) none (some 24) tt (omega arith)
-refusal-number s (opening p) = number (leb most_unclosed s.unclosed.depth) (some 32) none (omega arith) tt
+    number (ltb r statics) (some CreateStatic) (cond (leb r s.created.highest) (some NotAbove) (cond (leb most_created s.created.count) (some TooManyLive) none)) (omega arith)
+    (number (leb r s.created.highest) (some NotAbove) (cond (leb most_created s.created.count) (some TooManyLive) none) (omega arith)
+    (number (leb most_created s.created.count) (some TooManyLive) none (omega arith) tt))
+refusal-number s (event (suc a) r) = number (ltb r statics || listed r (live s.created)) none (some NotLive) tt (omega arith)
+refusal-number s (opening p) = number (leb most_unclosed s.unclosed.depth) (some TooManyOpen) none (omega arith) tt
 refusal-number s (closing p) =
-    number (ltb 0 (openings_of s.unclosed p)) (cond (eqb (last_opened s.unclosed) p) none (some 26)) (some 25)
-    (number (eqb (last_opened s.unclosed) p) none (some 26) tt (omega arith)) (omega arith)
-refusal-number s (retiring r) = number (not (ltb r statics) && listed r (live s.created)) none (some 28) tt (omega arith)
+    number (ltb 0 (openings_of s.unclosed p)) (cond (eqb (last_opened s.unclosed) p) none (some NotNewest)) (some NotOpen)
+    (number (eqb (last_opened s.unclosed) p) none (some NotNewest) tt (omega arith)) (omega arith)
+refusal-number s (retiring r) = number (not (ltb r statics) && listed r (live s.created)) none (some RetireNotLive) tt (omega arith)
 
-step-short : (local : Bool) (es : List Edge) (s : State) (step : Step) (o : Option ℕ) → Number o → Short (judge_step local es s step o)
+step-short : (local : Bool) (es : List Edge) (s : State) (step : Step) (o : Option Reason) → Number o → Short (judge_step local es s step o)
 unfolding judge_step
 step-short local es s step none h = settle-short (broken (after local es s step)) s (after local es s step)
 step-short local es s step (some n) h = refuse-short n s h
 
 read_short : (local : Bool) (es : List Edge) (s : State) (o : Option Step) → Short (judge_read local es s o)
 unfolding judge_read
-read_short local es s none = refuse-short 21 s (omega arith)
+read_short local es s none = refuse-short NoStep s (omega arith)
 read_short local es s (some step) = step-short local es s step (refusal s step) (refusal-number s step)
 
 pub detail-small : (t : List ℕ) (local : Bool) (s : State) (raw : RawStep) → detail (verdict_of (judge_of t local s raw).answer) < 100
 unfolding judge_of
 detail-small t local s raw =
     let read = judge_read local (edges_of t) s (step_of raw) in
-    let going = cond s.halted (refuse 20 s) read in
-    let known = cond (not (state_ok_lem s)) (refuse 42 s) going in
-    either (not (is_edge_table t)) (refuse 41 s) known (refuse-short 41 s (omega arith))
-    (either (not (state_ok_lem s)) (refuse 42 s) going (refuse-short 42 s (omega arith))
-    (either s.halted (refuse 20 s) read (refuse-short 20 s (omega arith)) (read_short local (edges_of t) s (step_of raw))))
+    let going = cond s.halted (refuse Halted s) read in
+    let known = cond (not (state_ok_lem s)) (refuse Unfit s) going in
+    either (not (is_edge_table t)) (refuse Table s) known (refuse-short Table s (omega arith))
+    (either (not (state_ok_lem s)) (refuse Unfit s) going (refuse-short Unfit s (omega arith))
+    (either s.halted (refuse Halted s) read (refuse-short Halted s (omega arith)) (read_short local (edges_of t) s (step_of raw))))

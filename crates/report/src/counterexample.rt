@@ -1,5 +1,5 @@
 // What the third program prints of two sheets, put into a lent buffer: a trace sheet.
-ghost use Rattle.std.specs.Prelude.{◌≡◌, ◌++◌, ◌+◌, ◌≤◌, ◌*◌, length};
+ghost use Rattle.std.specs.Prelude.{◌≡◌, ◌+◌, ◌≤◌, ◌*◌, length};
 ghost use Rattle.std.proofs.lemmas.List.Edits.{sets};
 ghost use Rattle.usage.specs.Limits.{step_fields};
 ghost use Rattle.usage.specs.Tables.{from, step_at_lem};
@@ -7,14 +7,11 @@ ghost use Rattle.sheet_lines.specs.Sheet.{sheet};
 ghost use Rattle.sheet_lines.specs.Sheets.{outline_sheet};
 ghost use Rattle.sheet_reader.specs.Readers.{ruled_result};
 ghost use Rattle.checker_counterexample.specs.Explained.{Explained, steps_written_lem};
-ghost use Rattle.report_lines.specs.Lines.{names_line, names_room, row};
-ghost use Rattle.report.specs.Output.{fronted};
 ghost use Rattle.report.specs.Counterexample.{no_steps, RightTrace, step_rows, shown_sheet, nodes_sheet, counterexample_room, Prints};
 
 use checker_counterexample::Explanation;
 use checker_trace::MOST_NUMBERS;
-use sheet_lines::Reading;
-use usage::{NODE_FIELDS, NODE_TABLE};
+use usage::{NODE_FIELDS, NODE_TABLE, Reason};
 
 // The counterexample of an outline that is checked with the edges, or the refusal of the outline: the length of the text.
 pub(crate) fn of_text(edges: &[u8], local: bool, text: &[u8], out: &mut [u8]) -> usize
@@ -23,21 +20,10 @@ pub(crate) fn of_text(edges: &[u8], local: bool, text: &[u8], out: &mut [u8]) ->
         (nodes_sheet (ruled_result (sheet outline_sheet text.now))) out.old result out.new }
 {
     let mut nodes = [0u8; NODE_TABLE];
-    let reading = sheet_reader::read_outline(text, &mut nodes);
-    match reading {
-        Reading::Stored(n) => of_nodes(edges, local, &nodes[0..n * NODE_FIELDS], out),
-        Reading::Refused { line, number } => refused(out, line, 5, number),
+    match sheet_reader::read_outline(text, &mut nodes) {
+        Ok(n) => of_nodes(edges, local, &nodes[0..n * NODE_FIELDS], out),
+        Err(r) => crate::refused(out, 5, r),
     }
-}
-
-// A refused sheet, as the second program prints it: the length of the text.
-pub(crate) fn refused(out: &mut [u8], line: usize, sheet: usize, number: u8) -> usize
-    requires { names_room + length (row line sheet number) ≤ length out.old }
-    ensures value { result ≡ length (names_line ++ row line sheet number) }
-    ensures out_after { out.new ≡ fronted out.old (names_line ++ row line sheet number) }
-{
-    let at = report_lines::names(out);
-    report_lines::row(out, at, line, sheet, number as usize)
 }
 
 // The trace sheet of what the check explains.
@@ -53,30 +39,28 @@ fn of_nodes(edges: &[u8], local: bool, nodes: &[u8], out: &mut [u8]) -> usize
 }
 
 // How many steps were written.
-fn steps_written(e: Explanation) -> usize
+fn steps_written(e: Result<Explanation, Reason>) -> usize
     ensures { result ≡ steps_written_lem e }
 {
     match e {
-        Explanation::Accepted => 0,
-        Explanation::Shown { policy: _, steps } => steps as usize,
-        Explanation::Longer { policy: _ } => 0,
-        Explanation::Refused(_) => 0,
+        Ok(Explanation::Accepted) => 0,
+        Ok(Explanation::Shown { policy: _, steps }) => steps as usize,
+        Ok(Explanation::Longer { policy: _ }) => 0,
+        Err(_) => 0,
     }
 }
 
 // The lines of the first n steps of a table, from `at` on: the place after them.
 fn rows(trace: &[u32], n: usize, out: &mut [u8], at: usize) -> usize
     requires n_in_bounds { step_fields * n ≤ length trace.now }
-    requires n_in_bounds_2 { at + length (step_rows (from (step_at_lem trace.now) 0 n)) ≤ length out.old }
+    requires rows_in_bounds { at + length (step_rows (from (step_at_lem trace.now) 0 n)) ≤ length out.old }
     ensures value { result ≡ at + length (step_rows (from (step_at_lem trace.now) 0 n)) }
     ensures out_after { out.new ≡ sets out.old at (step_rows (from (step_at_lem trace.now) 0 n)) }
 {
     let mut next = at;
-    let mut i: usize = 0;
-    while i < n {
+    for i in 0..n {
         let s = crate::trace::step_at(trace, i);
         next = report_lines::row(out, next, s.kind as usize, s.a as usize, s.b as usize);
-        i += 1;
     }
     next
 }

@@ -27,8 +27,7 @@ fn rows(nodes: &[u8], out: &mut [u8], at: usize) -> usize
 {
     let n = nodes.len() / NODE_FIELDS;
     let mut next = at;
-    let mut i: usize = 0;
-    while i < n {
+    for i in 0..n {
         let m = node_at(nodes, i);
         next = report_lines::numbered_row(
             out,
@@ -38,7 +37,6 @@ fn rows(nodes: &[u8], out: &mut [u8], at: usize) -> usize
             m.a as usize,
             m.b as usize,
         );
-        i += 1;
     }
     next
 }

@@ -1,9 +1,12 @@
 // What the programs print: the bytes of the sheets in, the bytes of the printed lines out.
 #![tactic(auto)]
 
-ghost use Rattle.std.specs.Prelude.{◌<◌, ◌≤◌, ◌≡◌, length};
+ghost use Rattle.std.specs.Prelude.{◌+◌, ◌++◌, ◌<◌, ◌≤◌, ◌≡◌, length};
 ghost use Rattle.usage.specs.Answers.{Verdict};
-ghost use Rattle.report.specs.Output.{trace_room, outline_room, length_put, put as output_put};
+ghost use Rattle.usage.specs.Reasons.{refusal_of};
+ghost use Rattle.report_lines.specs.Lines.{names_line, names_room, refusal_row as lines_refusal};
+ghost use Rattle.report_lines.specs.Put.{put_at, end_at};
+ghost use Rattle.report.specs.Output.{fronted, trace_room, outline_room, length_put, put as output_put};
 ghost use Rattle.report.specs.Trace.{trace_printed};
 ghost use Rattle.report.specs.Outline.{RightTexts, outline_printed};
 ghost use Rattle.report.specs.Counterexample.{RightExplanation, counterexample_printed, counterexample_room, Prints};
@@ -14,11 +17,11 @@ ghost use Rattle.checker.specs.Summary.{Summary};
 
 use checker_trace::MOST_NUMBERS;
 use report_lines::{MARK_NAMES, NAMES, NODE_NAMES, TRACE_NAMES};
-use sheet_lines::{LONGEST_SHEET, Reading};
-use sheet_reader::PolicyReading;
-use sheet_writer::Writing;
+use sheet_lines::LONGEST_SHEET;
+use sheet_reader::PolicySheet;
 use usage::{
-    EDGE_FIELDS, EDGE_TABLE, MOST_NODES, MOST_STEPS, NODE_FIELDS, NODE_TABLE, POLICIES, STEP_FIELDS,
+    EDGE_FIELDS, EDGE_TABLE, MOST_NODES, MOST_STEPS, NODE_FIELDS, NODE_TABLE, POLICIES,
+    STEP_FIELDS, SheetRefusal,
 };
 
 mod counterexample;
@@ -58,6 +61,26 @@ pub const EXPRESSION_ROOM: usize = NODE_NAMES + MOST_NODES * LONGEST_NODE_ROW;
 pub const SUMMARY_ROOM: usize = MARK_NAMES
     + POLICIES * (summary::MARK_BITS as usize * LONGEST_MARK_ROW);
 
+// The line of a refused sheet, from `at` on: the place after it. `sheet` tells which: 3 policies, 4 a trace, 5 an outline.
+fn refusal_row(out: &mut [u8], at: usize, sheet: usize, r: SheetRefusal) -> usize
+    ensures value { result ≡ end_at out.old at (lines_refusal sheet (refusal_of r)) }
+    ensures out_after { out.new ≡ put_at out.old at (lines_refusal sheet (refusal_of r)) }
+{
+    report_lines::row(out, at, r.line, sheet, u8::from(r.reason) as usize)
+}
+
+// A refused sheet, as the second program prints it: the length of the text.
+fn refused(out: &mut [u8], sheet: usize, r: SheetRefusal) -> usize
+    requires { names_room + length (lines_refusal sheet (refusal_of r)) ≤ length out.old }
+    ensures value { result ≡ length (names_line ++ lines_refusal sheet (refusal_of r)) }
+    ensures out_after { out.new ≡ fronted out.old (names_line ++ lines_refusal sheet (refusal_of r)) }
+{
+    let at = report_lines::names(out);
+    refusal_row(out, at, sheet, r)
+}
+
+// Kept: each program reads its policies itself: with a closure for what follows, each contract would be one of the closure.
+
 // What the first program prints, from the bytes of `policies.txt` and `trace.txt`: its length, and 0 where `out` lacks the room.
 pub fn report_trace(policies: &[u8], trace: &[u8], out: &mut [u8]) -> usize
     ensures value { result ≡ length_put trace_room out.old (trace_printed policies.now trace.now) }
@@ -69,14 +92,11 @@ pub fn report_trace(policies: &[u8], trace: &[u8], out: &mut [u8]) -> usize
     }
     let at = report_lines::names(out);
     let mut edges = [0u8; EDGE_TABLE];
-    let reading = sheet_reader::read_policies(policies, &mut edges);
-    match reading {
-        PolicyReading::Stored { edges: n, local } => {
+    match sheet_reader::read_policies(policies, &mut edges) {
+        Ok(PolicySheet { edges: n, local }) => {
             crate::trace::rows(&edges[0..n * EDGE_FIELDS], local, trace, out, at)
         }
-        PolicyReading::Refused { line, number } => {
-            report_lines::row(out, at, line, 3, number as usize)
-        }
+        Err(r) => refusal_row(out, at, 3, r),
     }
 }
 
@@ -95,14 +115,11 @@ pub fn report_outline(policies: &[u8], outline: &[u8], out: &mut [u8]) -> usize
     }
     let next = report_lines::names(out);
     let mut edges = [0u8; EDGE_TABLE];
-    let reading = sheet_reader::read_policies(policies, &mut edges);
-    match reading {
-        PolicyReading::Stored { edges: n, local } => {
+    match sheet_reader::read_policies(policies, &mut edges) {
+        Ok(PolicySheet { edges: n, local }) => {
             crate::outline::row(&edges[0..n * EDGE_FIELDS], local, outline, out, next)
         }
-        PolicyReading::Refused { line, number } => {
-            report_lines::row(out, next, line, 3, number as usize)
-        }
+        Err(r) => refusal_row(out, next, 3, r),
     }
 }
 
@@ -119,14 +136,11 @@ pub fn report_counterexample(policies: &[u8], outline: &[u8], out: &mut [u8]) ->
         return 0;
     }
     let mut edges = [0u8; EDGE_TABLE];
-    let reading = sheet_reader::read_policies(policies, &mut edges);
-    match reading {
-        PolicyReading::Stored { edges: n, local } => {
+    match sheet_reader::read_policies(policies, &mut edges) {
+        Ok(PolicySheet { edges: n, local }) => {
             crate::counterexample::of_text(&edges[0..n * EDGE_FIELDS], local, outline, out)
         }
-        PolicyReading::Refused { line, number } => {
-            crate::counterexample::refused(out, line, 3, number)
-        }
+        Err(r) => refused(out, 3, r),
     }
 }
 
@@ -139,10 +153,9 @@ pub fn report_policies(policies: &[u8], out: &mut [u8]) -> usize
     if out.len() < POLICIES_ROOM {
         return 0;
     }
-    let w = sheet_writer::write_policies(policies, out);
-    match w {
-        Writing::Written(n) => n,
-        Writing::Refused { line, number } => crate::counterexample::refused(out, line, 3, number),
+    match sheet_writer::write_policies(policies, out) {
+        Ok(n) => n,
+        Err(refusal) => refused(out, 3, refusal),
     }
 }
 
@@ -156,10 +169,9 @@ pub fn report_expression(text: &[u8], out: &mut [u8]) -> usize
         return 0;
     }
     let mut nodes = [0u8; NODE_TABLE];
-    let reading = sheet_expression::read_expression(text, &mut nodes);
-    match reading {
-        Reading::Stored(n) => crate::expression::sheet(&nodes[0..n * NODE_FIELDS], out),
-        Reading::Refused { line, number } => crate::counterexample::refused(out, line, 5, number),
+    match sheet_expression::read_expression(text, &mut nodes) {
+        Ok(n) => crate::expression::sheet(&nodes[0..n * NODE_FIELDS], out),
+        Err(r) => refused(out, 5, r),
     }
 }
 
@@ -177,13 +189,10 @@ pub fn report_summary(policies: &[u8], outline: &[u8], out: &mut [u8]) -> usize
         return 0;
     }
     let mut edges = [0u8; EDGE_TABLE];
-    let reading = sheet_reader::read_policies(policies, &mut edges);
-    match reading {
-        PolicyReading::Stored { edges: n, local } => {
+    match sheet_reader::read_policies(policies, &mut edges) {
+        Ok(PolicySheet { edges: n, local }) => {
             crate::summary::of_text(&edges[0..n * EDGE_FIELDS], local, outline, out)
         }
-        PolicyReading::Refused { line, number } => {
-            crate::counterexample::refused(out, line, 3, number)
-        }
+        Err(r) => refused(out, 3, r),
     }
 }

@@ -10,8 +10,7 @@ ghost use Rattle.report.specs.Output.{longest_outline_row};
 ghost use Rattle.report.specs.Outline.{RightNodes, nodes_row};
 
 use checker::Outcome;
-use sheet_lines::Reading;
-use usage::{NODE_FIELDS, NODE_TABLE};
+use usage::{NODE_FIELDS, NODE_TABLE, Reason};
 
 // The line of an outline that is checked with the edges, or of its refusal, from `at` on: the place after it. It is told by whichever
 // verdict is right, and one is.
@@ -25,33 +24,32 @@ pub(crate) fn row(edges: &[u8], local: bool, text: &[u8], out: &mut [u8], at: us
     ensures upper_bound { result ≤ at + longest_outline_row }
 {
     let mut nodes = [0u8; NODE_TABLE];
-    let reading = sheet_reader::read_outline(text, &mut nodes);
-    match reading {
-        Reading::Stored(n) => {
+    match sheet_reader::read_outline(text, &mut nodes) {
+        Ok(n) => {
             let a = checker::check(edges, local, &nodes[0..n * NODE_FIELDS]);
             report_lines::row(out, at, 0, outcome_number(a), outcome_detail(a) as usize)
         }
-        Reading::Refused { line, number } => report_lines::row(out, at, line, 5, number as usize),
+        Err(r) => crate::refusal_row(out, at, 5, r),
     }
 }
 
 // Document 01's two numbers for an outcome.
-fn outcome_number(a: Outcome) -> usize
+fn outcome_number(a: Result<Outcome, Reason>) -> usize
     ensures { result ≡ answer (outcome_verdict a) }
 {
     match a {
-        Outcome::Accepted => 0,
-        Outcome::Named(_) => 1,
-        Outcome::Refused(_) => 2,
+        Ok(Outcome::Accepted) => 0,
+        Ok(Outcome::Named(_)) => 1,
+        Err(_) => 2,
     }
 }
 
-fn outcome_detail(a: Outcome) -> u8
+fn outcome_detail(a: Result<Outcome, Reason>) -> u8
     ensures { result ≡ detail (outcome_verdict a) }
 {
     match a {
-        Outcome::Accepted => 0,
-        Outcome::Named(p) => p,
-        Outcome::Refused(n) => n,
+        Ok(Outcome::Accepted) => 0,
+        Ok(Outcome::Named(p)) => p,
+        Err(r) => u8::from(r),
     }
 }

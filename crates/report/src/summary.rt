@@ -9,7 +9,6 @@ ghost use Rattle.checker.specs.Summary.{Exact, mark_bits};
 ghost use Rattle.report.specs.Summary.{RightMarks, bit_text, policy_text, marks_text, summary_text, nodes_summary};
 ghost use Rattle.report.specs.Summary.{summary_room, PrintsMarks};
 
-use sheet_lines::Reading;
 use usage::{NODE_FIELDS, NODE_TABLE, POLICIES};
 
 // The bits of a policy's number: its actions, and its opening.
@@ -23,10 +22,9 @@ pub(crate) fn of_text(edges: &[u8], local: bool, text: &[u8], out: &mut [u8]) ->
         (nodes_summary (ruled_result (sheet outline_sheet text.now))) out.old result out.new }
 {
     let mut nodes = [0u8; NODE_TABLE];
-    let reading = sheet_reader::read_outline(text, &mut nodes);
-    match reading {
-        Reading::Stored(n) => of_nodes(edges, local, &nodes[0..n * NODE_FIELDS], out),
-        Reading::Refused { line, number } => crate::counterexample::refused(out, line, 5, number),
+    match sheet_reader::read_outline(text, &mut nodes) {
+        Ok(n) => of_nodes(edges, local, &nodes[0..n * NODE_FIELDS], out),
+        Err(r) => crate::refused(out, 5, r),
     }
 }
 
@@ -39,7 +37,7 @@ fn of_nodes(edges: &[u8], local: bool, nodes: &[u8], out: &mut [u8]) -> usize
         out.old result out.new }
 {
     let mut marks = [0u64; POLICIES];
-    checker::summary::summary(edges, local, nodes, &mut marks);
+    let _ = checker::summary::summary(edges, local, nodes, &mut marks);
     let at = report_lines::mark_names(out);
     all_rows(&marks, out, at)
 }
@@ -51,10 +49,8 @@ fn all_rows(marks: &[u64; POLICIES], out: &mut [u8], at: usize) -> usize
     ensures out_after { out.new ≡ sets out.old at (marks_text marks.now) }
 {
     let mut next = at;
-    let mut p: usize = 0;
-    while p < POLICIES {
+    for p in 0..POLICIES {
         next = policy_rows(marks[p], p, out, next);
-        p += 1;
     }
     next
 }
@@ -66,10 +62,8 @@ fn policy_rows(n: u64, p: usize, out: &mut [u8], at: usize) -> usize
     ensures out_after { out.new ≡ sets out.old at (policy_text n p) }
 {
     let mut next = at;
-    let mut i: u32 = 0;
-    while i < MARK_BITS {
+    for i in 0..MARK_BITS {
         next = bit_row(n, p, i, out, next);
-        i += 1;
     }
     next
 }

@@ -11,7 +11,6 @@ ghost use Rattle.report.specs.Output.{longest_step_row, steps_room};
 ghost use Rattle.report.specs.Trace.{judged_rows, trace_rows};
 
 use monitor_state::{Answer, Sizes};
-use sheet_lines::Reading;
 use usage::{RawStep, STEP_FIELDS, STEP_TABLE};
 
 // The rows of a trace, or of its refusal, from `at` on: the place after them.
@@ -22,10 +21,9 @@ pub(crate) fn rows(edges: &[u8], local: bool, text: &[u8], out: &mut [u8], at: u
         ≡ sets out.old at (trace_rows edges.now local (sheet trace_sheet text.now)) }
 {
     let mut steps = [0u32; STEP_TABLE];
-    let reading = sheet_reader::read_trace(text, &mut steps);
-    match reading {
-        Reading::Stored(n) => judge_all(edges, local, &steps[0..n * STEP_FIELDS], out, at),
-        Reading::Refused { line, number } => report_lines::row(out, at, line, 4, number as usize),
+    match sheet_reader::read_trace(text, &mut steps) {
+        Ok(n) => judge_all(edges, local, &steps[0..n * STEP_FIELDS], out, at),
+        Err(r) => crate::refusal_row(out, at, 4, r),
     }
 }
 
@@ -38,46 +36,36 @@ fn judge_all(edges: &[u8], local: bool, steps: &[u32], out: &mut [u8], at: usize
         (judged_rows edges.now local start_state 2 (steps_of steps.now)) }
 {
     let n = steps.len() / STEP_FIELDS;
-    let s = monitor::start();
-    let tracked = s.tracked;
-    let created = s.created;
-    let unclosed = s.unclosed;
-    let mut sets = tracked.sets;
-    let mut pairs = tracked.pairs;
-    let mut possible = tracked.possible;
-    let mut numbers = created.numbers;
-    let mut counts = unclosed.counts;
-    let mut order = unclosed.order;
+    let mut s = monitor::start();
     let mut sizes = Sizes {
-        count: created.count,
-        highest: created.highest,
-        depth: unclosed.depth,
+        count: s.created.count,
+        highest: s.created.highest,
+        depth: s.unclosed.depth,
         halted: s.halted,
     };
     let mut next = at;
-    let mut i: usize = 0;
-    while i < n {
+    for i in 0..n {
         let t = monitor::judge_lent(
             edges,
             local,
-            &mut sets,
-            &mut pairs,
-            &mut possible,
-            &mut numbers,
-            &mut counts,
-            &mut order,
+            &mut s.tracked.sets,
+            &mut s.tracked.pairs,
+            &mut s.tracked.possible,
+            &mut s.created.numbers,
+            &mut s.unclosed.counts,
+            &mut s.unclosed.order,
             sizes,
             step_at(steps, i),
         );
         let a = t.answer;
         next = report_lines::row(out, next, i + 2, number_of(a), detail_of(a));
         sizes = t.sizes;
-        i += 1;
     }
     next
 }
 
 // Document 01's two numbers for an answer.
+// Kept: two functions, as for an outcome: a pair would have to be taken apart at its one call.
 fn number_of(a: Answer) -> usize
     ensures { result ≡ answer (verdict_of a) }
 {
@@ -94,7 +82,7 @@ fn detail_of(a: Answer) -> usize
     match a {
         Answer::Allowed => 0,
         Answer::Violated(p) => p as usize,
-        Answer::Refused(n) => n as usize,
+        Answer::Refused(r) => u8::from(r) as usize,
     }
 }
 

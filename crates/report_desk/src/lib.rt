@@ -11,7 +11,6 @@ ghost use Rattle.report_desk.specs.Code.{PutRows, StepRows, JudgedRows};
 
 use desk::DESK_BYTES;
 use report_lines::DESK_NAMES;
-use sheet_lines::Reading;
 use usage::{MOST_STEPS, STEP_FIELDS, STEP_TABLE};
 
 // The bytes of a line at most, as specs/Printed has it, and of all.
@@ -61,8 +60,7 @@ fn step_rows(state: &mut [u8], steps: &[u32], out: &mut [u8], at: usize) -> usiz
 {
     let n = steps.len() / STEP_FIELDS;
     let mut next = at;
-    let mut i: usize = 0;
-    while i < n {
+    for i in 0..n {
         let code = desk::step(
             state,
             steps[STEP_FIELDS * i],
@@ -70,7 +68,6 @@ fn step_rows(state: &mut [u8], steps: &[u32], out: &mut [u8], at: usize) -> usiz
             steps[STEP_FIELDS * i + 2],
         );
         next = called(out, next, i + 2, code);
-        i += 1;
     }
     next
 }
@@ -93,12 +90,16 @@ fn trace_rows(state: &mut [u8], verdict: u32, trace: &[u8], out: &mut [u8], at: 
         out.old at result out.new }
 {
     let mut steps = [0u32; STEP_TABLE];
-    let reading = sheet_reader::read_trace(trace, &mut steps);
-    match reading {
-        Reading::Stored(n) => judged_rows(state, verdict, &steps[0..n * STEP_FIELDS], out, at),
-        Reading::Refused { line, number } => {
-            report_lines::numbered_row(out, at, line, TRACE_REFUSED, number as usize, 0)
-        }
+    match sheet_reader::read_trace(trace, &mut steps) {
+        Ok(n) => judged_rows(state, verdict, &steps[0..n * STEP_FIELDS], out, at),
+        Err(r) => report_lines::numbered_row(
+            out,
+            at,
+            r.line,
+            TRACE_REFUSED,
+            u8::from(r.reason) as usize,
+            0,
+        ),
     }
 }
 

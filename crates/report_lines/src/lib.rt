@@ -25,6 +25,7 @@ pub const DESK_NAMES: usize = 24;
 pub const VALUES_ROOM: usize = 66;
 
 // The line of names, at the start: the place after it, and 0 where `out` lacks the room.
+// Kept: a function for each names line: each is one call of `begin`, and its contract names its line.
 pub fn names(out: &mut [u8]) -> usize
     ensures value { result ≡ end_at out.old 0 names_line }
     ensures out_after { out.new ≡ put_at out.old 0 names_line }
@@ -83,24 +84,18 @@ fn begin(out: &mut [u8], text: &[u8]) -> usize
     if out.len() < text.len() {
         return 0;
     }
-    let mut i: usize = 0;
-    while i < text.len() {
-        out[i] = text[i];
-        i += 1;
-    }
-    i
+    out[..text.len()].copy_from_slice(text);
+    text.len()
 }
 
 // One printed line, from `at` on: the place after it, and `at` where `out` lacks the room.
+// Kept: a function for each number of fields: one for all would loop twice over a list, where these are calls of `width` and `field`.
 pub fn row(out: &mut [u8], at: usize, line: usize, answer: usize, detail: usize) -> usize
     ensures value { result ≡ end_at out.old at (lines_row line answer detail) }
     ensures out_after { out.new ≡ put_at out.old at (lines_row line answer detail) }
 {
-    if out.len() < at {
-        return at;
-    }
     let needed = width(line) + width(answer) + width(detail) + 3;
-    if out.len() - at < needed {
+    if out.len().saturating_sub(at) < needed {
         return at;
     }
     three(out, at, line, answer, detail, b'\n')
@@ -112,10 +107,7 @@ pub fn values(out: &mut [u8], at: usize, v: [u32; 6]) -> usize
     ensures value { result ≡ end_within values_room out.old at (values_line v) }
     ensures out_after { out.new ≡ put_within values_room out.old at (values_line v) }
 {
-    if out.len() < at {
-        return at;
-    }
-    if out.len() - at < VALUES_ROOM {
+    if out.len().saturating_sub(at) < VALUES_ROOM {
         return at;
     }
     let fourth = three(out, at, v[0] as usize, v[1] as usize, v[2] as usize, b' ');
@@ -152,11 +144,8 @@ pub fn numbered_row(
     ensures value { result ≡ end_at out.old at (numbered_row_lem number kind a b) }
     ensures out_after { out.new ≡ put_at out.old at (numbered_row_lem number kind a b) }
 {
-    if out.len() < at {
-        return at;
-    }
     let needed = width(number) + width(kind) + width(a) + width(b) + 4;
-    if out.len() - at < needed {
+    if out.len().saturating_sub(at) < needed {
         return at;
     }
     let next = field(out, at, number, b' ');
@@ -168,11 +157,8 @@ pub fn mark_row(out: &mut [u8], at: usize, policy: usize, action: usize) -> usiz
     ensures value { result ≡ end_at out.old at (mark_row_lem policy action) }
     ensures out_after { out.new ≡ put_at out.old at (mark_row_lem policy action) }
 {
-    if out.len() < at {
-        return at;
-    }
     let needed = width(policy) + width(action) + 2;
-    if out.len() - at < needed {
+    if out.len().saturating_sub(at) < needed {
         return at;
     }
     let next = field(out, at, policy, b' ');

@@ -1,6 +1,10 @@
 -- What only the functions compute: one more byte of a line of n fields.
 use Rattle.std.specs.Prelude.{ℕ, ◌+◌, ◌-◌, ◌*◌, ◌%◌, ◌^◌, Bool, cond, not, ◌&&◌, eqb, ltb}
 use Rattle.usage.specs.Limits.{most_digits, resources}
+use Rattle.usage.specs.declared.Reason.{Reason}
+use Rattle.usage.specs.declared.Reason.TheVariants.{Form, Range, OtherByte, Overlong}
+use Rattle.sheet_bytes.specs.declared.class.Class.{Class}
+use Rattle.sheet_bytes.specs.declared.class.Class.TheVariants.{Digit, Space, LineFeed, Other}
 use Rattle.sheet_bytes.specs.declared.Part.{Part}
 use Rattle.sheet_bytes.specs.declared.Next.{Next}
 use Rattle.sheet_bytes.specs.declared.Next.TheVariants.{Goes, Ends, Malformed}
@@ -18,6 +22,13 @@ safe_digits = most_digits - 1
 abbrev pub value_room : ℕ
 value_room = resources
 
+-- the class of a byte, as `class_of` numbers it
+abbrev pub class_number : Class → ℕ
+class_number Digit = 0
+class_number Space = 1
+class_number LineFeed = 2
+class_number Other = 3
+
 -- ── The gravest fault of a line so far ──
 
 -- none is 0, and of two the greater is told: the reverse of "11, 12, 2", and 3 after it
@@ -33,8 +44,8 @@ of_length = 3
 abbrev pub of_byte : ℕ
 of_byte = 4
 
-abbrev pub fault_number : ℕ → ℕ
-fault_number f = cond (eqb f of_form) 2 (cond (eqb f of_byte) 11 12)
+abbrev pub fault_reason : ℕ → Reason
+fault_reason f = cond (eqb f of_form) Form (cond (eqb f of_byte) OtherByte Overlong)
 
 abbrev pub with_fault_lem : Part → ℕ → Part
 with_fault_lem p f =
@@ -71,10 +82,10 @@ is_complete n p = not (eqb p.digits 0) && eqb (p.count + 1) n
 
 -- a value out of range counts only in a line that is well formed
 abbrev pub fault_end : ℕ → Part → Next
-fault_end n p = cond (eqb p.fault of_range) (cond (is_complete n p) (Malformed 3) (Malformed 2)) (Malformed (fault_number p.fault))
+fault_end n p = cond (eqb p.fault of_range) (cond (is_complete n p) (Malformed Range) (Malformed Form)) (Malformed (fault_reason p.fault))
 
 abbrev pub end_step : ℕ → Part → Next
-end_step n p = cond (eqb p.fault 0) (cond (is_complete n p) Ends (Malformed 2)) (fault_end n p)
+end_step n p = cond (eqb p.fault 0) (cond (is_complete n p) Ends (Malformed Form)) (fault_end n p)
 
 -- of a byte other than a line feed
 abbrev pub part_step : ℕ → Part → ℕ → Part

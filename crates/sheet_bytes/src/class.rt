@@ -1,21 +1,25 @@
-// The class of a byte: 0 a digit, 1 a space, 2 a line feed, 3 any other.
+// The class of a byte.
 ghost use Rattle.std.specs.Prelude.{◌≡◌};
 ghost use Rattle.sheet_bytes.specs.Class.{class_of};
+ghost use Rattle.sheet_bytes.specs.Code.{class_number};
 
-pub(crate) fn class(b: u8) -> u8
-    ensures { result ≡ class_of b }
+// What a byte is in a line of values.
+#[derive(Clone, Copy, PartialEq, Eq, Debug)]
+pub(crate) enum Class {
+    Digit,
+    Space,
+    LineFeed,
+    Other,
+}
+
+#[tactic(auto, unfolding(crate::specs::Class::class_of))]
+pub(crate) fn of(b: u8) -> Class
+    ensures { class_number result ≡ class_of b }
 {
-    if b < 48 {
-        if b == 32 {
-            return 1;
-        }
-        if b == 10 {
-            return 2;
-        }
-        return 3;
+    match b {
+        b'0'..=b'9' => Class::Digit,
+        b' ' => Class::Space,
+        b'\n' => Class::LineFeed,
+        _ => Class::Other,
     }
-    if b < 58 {
-        return 0;
-    }
-    3
 }

@@ -3,8 +3,11 @@
 
 ghost use Rattle.std.specs.Prelude.{◌≡◌};
 ghost use Rattle.sheet_bytes.specs.Class.{class_of};
-ghost use Rattle.sheet_bytes.specs.Code.{with_fault_lem, fault_number, value_with, digit_step, last_digit_lem, space_step, is_complete};
+ghost use Rattle.sheet_bytes.specs.Code.{with_fault_lem, fault_reason, value_with, digit_step, last_digit_lem, space_step, is_complete};
 ghost use Rattle.sheet_bytes.specs.Code.{fault_end, end_step, byte_step};
+
+use crate::class::Class;
+use usage::Reason;
 
 mod class;
 
@@ -17,7 +20,8 @@ const SAFE_DIGITS: usize = MOST_DIGITS - 1;
 // No field goes beyond the last resource: what it may hold is below this.
 const VALUES: u64 = usage::LAST_RESOURCE as u64 + 1;
 
-// What may be wrong with a line, the gravest last. 02, L2: "within a line in the order 13, 11, 12, 2", and 3 after it.
+// What may be wrong with a line, the gravest last. 02, L2: "within a line in the order 13, 11, 12, 2", and 3 after it. Kept: numbers,
+// since an enum beside the other fields of `Part` was tried and takes a third more instructions for each byte that is read.
 const RANGE: usize = 1;
 
 const FORM: usize = 2;
@@ -36,29 +40,25 @@ pub struct Part {
     pub fault: usize,
 }
 
-// The line goes on, ends with its last value read, or is refused, with the number of its fault.
+// The line goes on, ends with its last value read, or is refused.
 #[derive(Clone, Copy)]
 pub enum Next {
     Goes(Part),
     Ends,
-    Malformed(u8),
+    Malformed(Reason),
 }
 
 // One more byte of a line of n fields. A fault is told at the end of its line: a graver one may follow.
+#[tactic(auto, unfolding(crate::specs::Code::byte_step))]
 pub fn step(n: usize, p: Part, b: u8) -> Next
     ensures { result ≡ byte_step n p b }
 {
-    let k = class::class(b);
-    if k == 0 {
-        return Next::Goes(digit(p, b));
+    match class::of(b) {
+        Class::Digit => Next::Goes(digit(p, b)),
+        Class::Space => Next::Goes(space(n, p)),
+        Class::LineFeed => end(n, p),
+        Class::Other => Next::Goes(with_fault(p, BYTE)),
     }
-    if k == 1 {
-        return Next::Goes(space(n, p));
-    }
-    if k == 2 {
-        return end(n, p);
-    }
-    Next::Goes(with_fault(p, BYTE))
 }
 
 // The gravest fault of a line is kept.
@@ -68,22 +68,17 @@ fn with_fault(p: Part, fault: usize) -> Part
     if fault <= p.fault {
         return p;
     }
-    Part {
-        count: p.count,
-        digits: p.digits,
-        value: p.value,
-        fault,
-    }
+    Part { fault, ..p }
 }
 
-// The number of a fault.
-fn number(fault: usize) -> u8
-    ensures { result ≡ fault_number fault }
+// Why a line with this fault is refused.
+fn reason(fault: usize) -> Reason
+    ensures { result ≡ fault_reason fault }
 {
     match fault {
-        FORM => 2,
-        BYTE => 11,
-        _ => 12,
+        FORM => Reason::Form,
+        BYTE => Reason::OtherByte,
+        _ => Reason::Overlong,
     }
 }
 
@@ -104,10 +99,9 @@ fn digit(p: Part, b: u8) -> Part
         return last_digit(p, b);
     }
     Part {
-        count: p.count,
         digits: p.digits + 1,
         value: grown(p.value, b),
-        fault: p.fault,
+        ..p
     }
 }
 
@@ -124,19 +118,13 @@ fn last_digit(p: Part, b: u8) -> Part
     let digits = p.digits + 1;
     if VALUES <= value {
         let far = Part {
-            count: p.count,
             digits,
             value: 0,
-            fault: p.fault,
+            ..p
         };
         return with_fault(far, RANGE);
     }
-    Part {
-        count: p.count,
-        digits,
-        value,
-        fault: p.fault,
-    }
+    Part { digits, value, ..p }
 }
 
 // Document 01: "parted by one or more spaces, none at either end of a line".
@@ -150,10 +138,9 @@ fn space(n: usize, p: Part) -> Part
         return p;
     }
     let last = Part {
-        count: p.count,
         digits: 0,
         value: 0,
-        fault: p.fault,
+        ..p
     };
     if n <= p.count {
         return with_fault(last, FORM);
@@ -162,25 +149,14 @@ fn space(n: usize, p: Part) -> Part
     if n <= count {
         return with_fault(last, FORM);
     }
-    Part {
-        count,
-        digits: 0,
-        value: 0,
-        fault: p.fault,
-    }
+    Part { count, ..last }
 }
 
 // The last of n values is being read.
 fn is_complete(n: usize, p: Part) -> bool
     ensures { result ≡ is_complete n p }
 {
-    if p.digits == 0 {
-        return false;
-    }
-    if n <= p.count {
-        return false;
-    }
-    p.count + 1 == n
+    p.digits != 0 && p.count < n && p.count + 1 == n
 }
 
 // The end of a line with a fault. A value out of range counts only in a line that is well formed.
@@ -188,12 +164,12 @@ fn faulty(n: usize, p: Part) -> Next
     ensures { result ≡ fault_end n p }
 {
     if p.fault != RANGE {
-        return Next::Malformed(number(p.fault));
+        return Next::Malformed(reason(p.fault));
     }
     if is_complete(n, p) {
-        return Next::Malformed(3);
+        return Next::Malformed(Reason::Range);
     }
-    Next::Malformed(2)
+    Next::Malformed(Reason::Form)
 }
 
 // At the line feed the last value must have been read.
@@ -206,5 +182,5 @@ fn end(n: usize, p: Part) -> Next
     if is_complete(n, p) {
         return Next::Ends;
     }
-    Next::Malformed(2)
+    Next::Malformed(Reason::Form)
 }

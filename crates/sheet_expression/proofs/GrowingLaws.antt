@@ -1,16 +1,18 @@
 -- Laws of what the readers answer: of nodes that are added, of what a sign joins, and of what a bracket holds.
 use Prim.Native.Nat.{ℕ, zero, suc, ◌+◌, ◌-◌, ◌<◌, ◌≤◌}
 use mathlib.Core.Path.{◌≡◌, refl, sym, ap, ap₂, subst, subst₂, fun_ext, ◌∙◌}
-use mathlib.Core.Bool.{Bool, true, false}
+use mathlib.Core.Bool.{Bool, true, false, cond}
 use mathlib.Core.List.{List, [], ◌∷◌, ◌++◌, map, append_assoc, append-nil}
-use mathlib.Core.Logic.{inl, inr}
 use native.Mathlib.Omega.{arith}
 use native.Mathlib.Nat.{add-zero}
 use native.Mathlib.Numerals.{add-one}
 use lib.ListN.{get_elem?, length, take, drop}
 use lib.Seq.{take_at, drop_at}
 use borrow.Author.Tests.{lt-ltb}
+use Rattle.std.specs.Prelude.{Option as Maybe, Result, Ok, Err}
 use Rattle.usage.specs.declared.Node.{Node}
+use Rattle.usage.specs.declared.Reason.{Reason}
+use Rattle.usage.specs.declared.Reason.TheVariants.{ExpressionByte, NestedTooDeep}
 use Rattle.usage.specs.Tables.{node_at_lem}
 use Rattle.usage.specs.Outline.{give}
 use Rattle.usage.proofs.TableLaws.{length_from}
@@ -20,7 +22,6 @@ use Rattle.sheet_grammar.specs.Outcome.{Out, ok, bad}
 use Rattle.sheet_grammar.specs.Reader.{byte_is, head_at, Head, opens, read, more}
 use Rattle.sheet_grammar.specs.Rules.{Reads}
 use Rattle.sheet_grammar.specs.Nodes.{tree_size, Loops, LoopsBelow, node_with, nodes_from}
-use Rattle.sheet_grammar.proofs.RuleLaws.{codes}
 use Rattle.sheet_grammar.proofs.NodeLaws.{size-pos}
 use Rattle.sheet_grammar.proofs.SizeLaws.{sized, joined-size, opens-label}
 use Rattle.sheet_expression.specs.declared.numbering.NodeList.{NodeList}
@@ -34,9 +35,7 @@ use Rattle.sheet_expression.specs.Code.{
   Opened,
   LabelOk,
   Bound,
-  ClosedBy,
-  closed_at,
-  refused_by,
+  closed_by,
   Joined,
   Fits,
   PhraseAnswer,
@@ -65,10 +64,6 @@ opened_one {b} {a} {r} n e f g =
 
 -- ── What a sign joins ──
 
--- a refusal is not 0
-not-nought : {s : List ℕ} {p : Phrase} {at n c i : ℕ} → Reads s (read p) at n (bad c i) → c ≡ 0 → ⊥
-not-nought p e = elim (codes p) [ inl f ↦ omega arith | inr f ↦ omega arith ]
-
 -- the nodes before, and then those of two trees, with a node put between
 listing : (a : NodeList) (loops : Loops) (l : Sign) (t u : Tree) (ns : List Node)
     → ns ≡ listed_nodes a ++ (nodes_from loops a.count t ++ nodes_from loops (a.count + tree_size t) u)
@@ -88,67 +83,66 @@ listing a loops l t u ns e h b =
     count-is : (a : NodeList) → length (listed_nodes a) ≡ a.count
     count-is a = unfold listed_nodes in length_from (node_at_lem a.table) 0 a.count
 
-module _ (l : Sign) (s : List ℕ) (at nest : ℕ) (loops : List ℕ) (a : NodeList) where
+module _ (l : Sign) (s : List ℕ) (at nest : ℕ) (loops : List (Maybe ℕ)) (a : NodeList) where
   -- r is what was read so far
   pub record Going (r : Read) : Type 0 where
     pub tree : Tree
     pub came : (out : Out) → Reads s (more l tree) r.at nest out → Reads s (read (many l)) at nest out
-    pub going : r.refused ≡ 0
     pub grown : Grown (loops_of loops) a r.nodes tree
     pub past : at + tree_size tree ≤ r.at
     pub within : r.at ≤ length s
 
-  pub going-first : {r : Read} → PhraseAnswer (each l) s at nest loops a r → r.refused ≡ 0 → Going r
-  going-first {r} x z = go x.out x.reads x.fits
+  pub going-first : {r : Read} → PhraseAnswer (each l) s at nest loops a (Ok r) → Going r
+  going-first {r} x = go x.out x.reads x.fits
     where
-      go : (out : Out) → Reads s (read (each l)) at nest out → Fits (loops_of loops) a out r → Going r
-      go (ok t e) p (u, (v, g)) =
+      go : (out : Out) → Reads s (read (each l)) at nest out → Fits (loops_of loops) a out (Ok r) → Going r
+      go (ok t e) p (v, g) =
           let h = sized p in
           let i = h.0 in
           let j = h.1 in
           record {
             tree = t;
             came = λ out q. Reads.first p (subst (λ (k : ℕ). Reads s (more l t) k nest out) v q);
-            going = u;
             grown = g;
             past = omega arith;
             within = omega arith;
           }
-      go (bad c i) p (u, v) = absurd (not-nought p (sym u ∙ z))
+      go (bad c i) p f = absurd f
 
-  pub first-refused : {r : Read} → PhraseAnswer (each l) s at nest loops a r → (r.refused ≡ 0 → ⊥)
-      → PhraseAnswer (many l) s at nest loops a r
-  first-refused {r} x z = go x.out x.reads x.fits
+  pub first-refused : {c : Reason} → PhraseAnswer (each l) s at nest loops a (Err c) → PhraseAnswer (many l) s at nest loops a (Err c)
+  first-refused {c} x = go x.out x.reads x.fits
     where
-      go : (out : Out) → Reads s (read (each l)) at nest out → Fits (loops_of loops) a out r → PhraseAnswer (many l) s at nest loops a r
-      go (ok t e) p (u, v) = absurd (z u)
-      go (bad c i) p f = record { out = bad c i; reads = Reads.first_bad p; fits = f }
+      go : (out : Out) → Reads s (read (each l)) at nest out → Fits (loops_of loops) a out (Err c)
+          → PhraseAnswer (many l) s at nest loops a (Err c)
+      go (ok t e) p f = absurd f
+      go (bad d i) p f = record { out = bad d i; reads = Reads.first_bad p; fits = f }
 
-  pub going_done : {r : Read} → Going r → byte_is (get_elem? s r.at) (sign_byte l) ≡ false → PhraseAnswer (many l) s at nest loops a r
-  going_done {r} g x = record { out = ok g.tree r.at; reads = g.came _ (Reads.done x); fits = (g.going, (refl, g.grown)) }
+  pub going_done : {r : Read} → Going r → byte_is (get_elem? s r.at) (sign_byte l) ≡ false → PhraseAnswer (many l) s at nest loops a (Ok r)
+  going_done {r} g x = record { out = ok g.tree r.at; reads = g.came _ (Reads.done x); fits = (refl, g.grown) }
 
-  pub next-refused : {r n : Read} → Going r → byte_is (get_elem? s r.at) (sign_byte l) ≡ true
-      → PhraseAnswer (each l) s (r.at + 1) nest loops r.nodes n → (n.refused ≡ 0 → ⊥) → PhraseAnswer (many l) s at nest loops a n
-  next-refused {r} {n} g x y z = go y.out y.reads y.fits
+  pub next-refused : {r : Read} {c : Reason} → Going r → byte_is (get_elem? s r.at) (sign_byte l) ≡ true
+      → PhraseAnswer (each l) s (r.at + 1) nest loops r.nodes (Err c) → PhraseAnswer (many l) s at nest loops a (Err c)
+  next-refused {r} {c} g x y = go y.out y.reads y.fits
     where
-      go : (out : Out) → Reads s (read (each l)) (r.at + 1) nest out → Fits (loops_of loops) r.nodes out n
-          → PhraseAnswer (many l) s at nest loops a n
-      go (ok t e) p (u, v) = absurd (z u)
-      go (bad c i) p f =
+      go : (out : Out) → Reads s (read (each l)) (r.at + 1) nest out → Fits (loops_of loops) r.nodes out (Err c)
+          → PhraseAnswer (many l) s at nest loops a (Err c)
+      go (ok t e) p f = absurd f
+      go (bad d i) p f =
           record {
-            out = bad c i;
+            out = bad d i;
             reads = g.came _ (Reads.next_bad x
-                (subst (λ (k : ℕ). Reads s (read (each l)) k nest (bad c i)) (add-one r.at) p));
+                (subst (λ (k : ℕ). Reads s (read (each l)) k nest (bad d i)) (add-one r.at) p));
             fits = f;
           }
 
-  pub going_next : {r n q : Read} → Going r → byte_is (get_elem? s r.at) (sign_byte l) ≡ true → LoopsBelow (loops_of loops) a.count
-      → PhraseAnswer (each l) s (r.at + 1) nest loops r.nodes n → n.refused ≡ 0 → Joined (kind_of l) a.count r.nodes.count n q
-      → Going q
-  going_next {r} {n} {q} g x b y z j = go y.out y.reads y.fits
+  pub going_next : {r n : Read} {q : NodeList} → Going r → byte_is (get_elem? s r.at) (sign_byte l) ≡ true
+      → LoopsBelow (loops_of loops) a.count → PhraseAnswer (each l) s (r.at + 1) nest loops r.nodes (Ok n)
+      → Joined (kind_of l) a.count r.nodes.count n.nodes q → Going (record { nodes = q; at = n.at })
+  going_next {r} {n} {q} g x b y j = go y.out y.reads y.fits
     where
-      go : (out : Out) → Reads s (read (each l)) (r.at + 1) nest out → Fits (loops_of loops) r.nodes out n → Going q
-      go (ok u e) p (w, (v, h)) =
+      go : (out : Out) → Reads s (read (each l)) (r.at + 1) nest out → Fits (loops_of loops) r.nodes out (Ok n)
+          → Going (record { nodes = q; at = n.at })
+      go (ok u e) p (v, h) =
           let t = g.tree in
           let i = sized p in
           let i₀ = i.0 in
@@ -160,18 +154,16 @@ module _ (l : Sign) (s : List ℕ) (at nest : ℕ) (loops : List ℕ) (a : NodeL
           let m = joined-size l t u in
           let p' : Reads s (read (each l)) (suc r.at) nest (ok u e) = subst (λ (k : ℕ). Reads s (read (each l)) k nest (ok u e))
           (add-one r.at) p in
-          let d : e ≡ q.at = sym v ∙ sym j.at in
           record {
             tree = joined_by l t u;
-            came = λ out o. g.came out (Reads.next x p' (subst (λ (k : ℕ). Reads s (more l (joined_by l t u)) k nest out) (sym d) o));
-            going = j.refused;
+            came = λ out o. g.came out (Reads.next x p' (subst (λ (k : ℕ). Reads s (more l (joined_by l t u)) k nest out) v o));
             grown = record { count = omega arith; nodes = λ f. grew u h (omega arith) };
             past = omega arith;
             within = omega arith;
           }
         where
           grew : (u : Tree) → Grown (loops_of loops) r.nodes n.nodes u → n.nodes.count < 64
-              → listed_nodes q.nodes ≡ listed_nodes a ++ nodes_from (loops_of loops) a.count (joined_by l g.tree u)
+              → listed_nodes q ≡ listed_nodes a ++ nodes_from (loops_of loops) a.count (joined_by l g.tree u)
           grew u h f =
               let c₁ = g.grown.count in
               let c₂ = h.count in
@@ -185,7 +177,7 @@ module _ (l : Sign) (s : List ℕ) (at nest : ℕ) (loops : List ℕ) (a : NodeL
               ∙ append_assoc (listed_nodes a) (nodes_from (loops_of loops) a.count g.tree)
               (nodes_from (loops_of loops) (a.count + tree_size g.tree) u))
               (omega arith) b
-      go (bad c i) p (u, v) = absurd (not-nought p (sym u ∙ z))
+      go (bad c i) p f = absurd f
 
 -- ── What a bracket holds ──
 
@@ -210,7 +202,7 @@ bracket-small (Bracket.loop l) k = omega arith
 bracket-small (Bracket.fresh n) k = omega arith
 bracket-small (Bracket.sandbox p) k = omega arith
 
-grown-around : {b : Bracket} {loops around' : List ℕ} {a inner r : NodeList} {t : Tree} → Opened b a inner
+grown-around : {b : Bracket} {loops around' : List (Maybe ℕ)} {a inner r : NodeList} {t : Tree} → Opened b a inner
     → Bound b loops a.count around' → LabelOk b → Grown (loops_of around') inner r t → Grown (loops_of loops) a r (bracketed b t)
 grown-around {b} {loops} {around'} {a} {inner} {r} {t} o d k g =
     let c₁ = o.count in
@@ -233,80 +225,66 @@ less : (P : ℕ → Type 0) (n : ℕ) → (n ≡ 0 → ⊥) → ((m : ℕ) → n
 less P zero h f = absurd (h refl)
 less P (suc m) h f = f m (omega arith)
 
-module _ (s : List ℕ) (at nest : ℕ) (loops : List ℕ) (a : NodeList) where
-  pub item-wrong : {i : ℕ} → head_at s at ≡ Head.wrong i → PhraseAnswer item s at nest loops a (record { nodes = a; at = i; refused = 15 })
-  item-wrong {i} x = record { out = bad 15 i; reads = Reads.wrong x; fits = (refl, refl) }
+module _ (s : List ℕ) (at nest : ℕ) (loops : List (Maybe ℕ)) (a : NodeList) where
+  pub item-wrong : {i : ℕ} → head_at s at ≡ Head.wrong i → PhraseAnswer item s at nest loops a (Err ExpressionByte)
+  item-wrong {i} x = record { out = bad 15 i; reads = Reads.wrong x; fits = refl }
 
   pub item-atom : {t : Tree} {e : ℕ} {n : NodeList} → head_at s at ≡ Head.atom t e → Grown (loops_of loops) a n t
-      → PhraseAnswer item s at nest loops a (record { nodes = n; at = e; refused = 0 })
-  item-atom {t} {e} x g = record { out = ok t e; reads = Reads.atom x; fits = (refl, (refl, g)) }
+      → PhraseAnswer item s at nest loops a (Ok (record { nodes = n; at = e }))
+  item-atom {t} {e} x g = record { out = ok t e; reads = Reads.atom x; fits = (refl, g) }
 
-  pub item-deep : {b : Bracket} {i : ℕ} → head_at s at ≡ opens b i → nest ≡ 0
-      → PhraseAnswer item s at nest loops a (record { nodes = a; at = i; refused = 16 })
+  pub item-deep : {b : Bracket} {i : ℕ} → head_at s at ≡ opens b i → nest ≡ 0 → PhraseAnswer item s at nest loops a (Err NestedTooDeep)
   item-deep {b} {i} x e =
-      record { out = bad 16 i; reads = subst (λ (n : ℕ). Reads s (read item) at n (bad 16 i)) (sym e) (Reads.deep x); fits = (refl, refl) }
+      record { out = bad 16 i; reads = subst (λ (n : ℕ). Reads s (read item) at n (bad 16 i)) (sym e) (Reads.deep x); fits = refl }
 
-  module _ (b : Bracket) (i : ℕ) (x : head_at s at ≡ opens b i) (h : nest ≡ 0 → ⊥) (around' : List ℕ) (inner : NodeList) (r : Read) where
+  module _ (b : Bracket) (i : ℕ) (x : head_at s at ≡ opens b i) (h : nest ≡ 0 → ⊥) (around' : List (Maybe ℕ)) (inner : NodeList) where
     deeper : (out out' : Out) → ((m : ℕ) → Reads s (read choice_phrase) (suc i) m out → Reads s (read item) at (suc m) out')
         → Reads s (read choice_phrase) (i + 1) (nest - 1) out → Reads s (read item) at nest out'
     deeper out out' f p =
         less (λ (n : ℕ). Reads s (read item) at n out') nest h (λ m e. f m
         (subst₂ (λ (j k : ℕ). Reads s (read choice_phrase) j k out) (add-one i) e p))
 
-    pub inner-refused : PhraseAnswer choice_phrase s (i + 1) (nest - 1) around' inner r → (r.refused ≡ 0 → ⊥)
-        → PhraseAnswer item s at nest loops a r
-    inner-refused y z = go y.out y.reads y.fits
+    pub inner-refused : {c : Reason} → PhraseAnswer choice_phrase s (i + 1) (nest - 1) around' inner (Err c)
+        → PhraseAnswer item s at nest loops a (Err c)
+    inner-refused {c} y = go y.out y.reads y.fits
       where
-        go : (out : Out) → Reads s (read choice_phrase) (i + 1) (nest - 1) out → Fits (loops_of around') inner out r
-            → PhraseAnswer item s at nest loops a r
-        go (ok t e) p (u, v) = absurd (z u)
-        go (bad c j) p f = record { out = bad c j; reads = deeper (bad c j) (bad c j) (λ m q. Reads.inner_bad x q) p; fits = f }
+        go : (out : Out) → Reads s (read choice_phrase) (i + 1) (nest - 1) out → Fits (loops_of around') inner out (Err c)
+            → PhraseAnswer item s at nest loops a (Err c)
+        go (ok t e) p f = absurd f
+        go (bad d j) p f = record { out = bad d j; reads = deeper (bad d j) (bad d j) (λ m q. Reads.inner_bad x q) p; fits = f }
 
-    -- where the choice in it ends
-    pub inner-end : PhraseAnswer choice_phrase s (i + 1) (nest - 1) around' inner r → r.refused ≡ 0 → r.at ≤ length s
-    inner-end y z = go y.out y.reads y.fits
-      where
-        go : (out : Out) → Reads s (read choice_phrase) (i + 1) (nest - 1) out → Fits (loops_of around') inner out r → r.at ≤ length s
-        go (ok t e) p (u, (v, g)) = let k = (sized p).1 in omega arith
-        go (bad c j) p (u, v) = absurd (not-nought p (sym u ∙ z))
+    module _ (r : Read) (y : PhraseAnswer choice_phrase s (i + 1) (nest - 1) around' inner (Ok r)) where
+      by-inner : (Q : Type 0) → ((t : Tree) → Reads s (read choice_phrase) (i + 1) (nest - 1) (ok t r.at)
+          → Grown (loops_of around') inner r.nodes t → Q) → Q
+      by-inner Q f = go y.out y.reads y.fits
+        where
+          go : (out : Out) → Reads s (read choice_phrase) (i + 1) (nest - 1) out → Fits (loops_of around') inner out (Ok r) → Q
+          go (ok t e) p (v, g) = f t (subst (λ (j : ℕ). Reads s (read choice_phrase) (i + 1) (nest - 1) (ok t j)) (sym v) p) g
+          go (bad c j) p u = absurd u
 
-    pub item-bracket : {q : Read} → Opened b a inner → Bound b loops a.count around' → LabelOk b
-        → PhraseAnswer choice_phrase s (i + 1) (nest - 1) around' inner r → r.refused ≡ 0 → ClosedBy s b r q
-        → PhraseAnswer item s at nest loops a q
-    unfolding ClosedBy
-    item-bracket {q} o d k y z w = go y.out y.reads y.fits
-      where
-        closes : (t : Tree) (e : ℕ) → Reads s (read choice_phrase) (i + 1) (nest - 1) (ok t e) → r.at ≡ e
-            → Grown (loops_of around') inner r.nodes t → (c : Bool) → byte_is (get_elem? s r.at) (closer b) ≡ c
-            → q.at ≡ closed_at c r.at → q.refused ≡ refused_by c → PhraseAnswer item s at nest loops a q
-        closes t e p v g true c f₁ f₂ =
-            record {
-              out = ok (bracketed b t) (suc e);
-              reads =
-                  deeper (ok t e) (ok (bracketed b t) (suc e)) (λ m n. Reads.bracket x n
-                  (subst (λ (j : ℕ). byte_is (get_elem? s j) (closer b) ≡ true) v c)) p;
-              fits = (
-                f₂,
-                (
-                  f₁ ∙ add-one r.at ∙ ap suc v,
-                  subst (λ (n : NodeList). Grown (loops_of loops) a n (bracketed b t)) (sym w.0)
-                      (grown-around o d k g),
-                ),
-              );
-            }
-        closes t e p v g false c f₁ f₂ =
-            record {
-              out = bad 15 e;
-              reads =
-                  deeper (ok t e) (bad 15 e) (λ m n. Reads.unclosed x n (subst
-                  (λ (j : ℕ). byte_is (get_elem? s j) (closer b) ≡ false) v c)) p;
-              fits = (f₂, f₁ ∙ v);
-            }
+      -- where the choice in it ends
+      pub inner-end : r.at ≤ length s
+      inner-end = by-inner _ (λ t p g. let k = (sized p).1 in omega arith)
 
-        go : (out : Out) → Reads s (read choice_phrase) (i + 1) (nest - 1) out → Fits (loops_of around') inner out r
-            → PhraseAnswer item s at nest loops a q
-        go (ok t e) p (u, (v, g)) = closes t e p v g (byte_is (get_elem? s r.at) (closer b)) refl w.1.0 w.1.1
-        go (bad c j) p (u, v) = absurd (not-nought p (sym u ∙ z))
+      pub item-bracket : {q : Result Read Reason} → Opened b a inner → Bound b loops a.count around' → LabelOk b → q ≡ closed_by s b r
+          → PhraseAnswer item s at nest loops a q
+      item-bracket {q} o d k w = by-inner _ (λ t p g. closes t p g (byte_is (get_elem? s r.at) (closer b)) refl w)
+        where
+          closes : (t : Tree) → Reads s (read choice_phrase) (i + 1) (nest - 1) (ok t r.at) → Grown (loops_of around') inner r.nodes t
+              → (c : Bool) → byte_is (get_elem? s r.at) (closer b) ≡ c
+              → q ≡ cond c (Ok (record { nodes = r.nodes; at = r.at + 1 })) (Err ExpressionByte) → PhraseAnswer item s at nest loops a q
+          closes t p g true c f =
+              rw f (record {
+                out = ok (bracketed b t) (suc r.at);
+                reads = deeper (ok t r.at) (ok (bracketed b t) (suc r.at)) (λ m n. Reads.bracket x n c) p;
+                fits = (add-one r.at, grown-around o d k g);
+              })
+          closes t p g false c f =
+              rw f (record {
+                out = bad 15 r.at;
+                reads = deeper (ok t r.at) (bad 15 r.at) (λ m n. Reads.unclosed x n c) p;
+                fits = refl;
+              })
 
 -- ── How far ──
 
@@ -318,17 +296,17 @@ pub record Far (s : List ℕ) (at : ℕ) (a : NodeList) (r : Read) : Type 0 wher
   pub within : r.at ≤ length s
 
 -- how far an answer that is no refusal goes
-pub far : {p : Phrase} {s : List ℕ} {at n : ℕ} {loops : List ℕ} {a : NodeList} {r : Read} → PhraseAnswer p s at n loops a r → r.refused ≡ 0
-    → Far s at a r
-far {p} {s} {at} {n} {loops} {a} {r} x z = go x.out x.reads x.fits
+pub far : {p : Phrase} {s : List ℕ} {at n : ℕ} {loops : List (Maybe ℕ)} {a : NodeList} {r : Read}
+    → PhraseAnswer p s at n loops a (Ok r) → Far s at a r
+far {p} {s} {at} {n} {loops} {a} {r} x = go x.out x.reads x.fits
   where
-    go : (out : Out) → Reads s (read p) at n out → Fits (loops_of loops) a out r → Far s at a r
-    go (ok t e) q (u, (v, g)) =
+    go : (out : Out) → Reads s (read p) at n out → Fits (loops_of loops) a out (Ok r) → Far s at a r
+    go (ok t e) q (v, g) =
         let h = sized q in
         let i = h.0 in
         let j = h.1 in
         record { tree = t; some_node = size-pos t; count = g.count; past = omega arith; within = omega arith }
-    go (bad c i) q (u, v) = absurd (not-nought q (sym u ∙ z))
+    go (bad c i) q f = absurd f
 
 pub label-ok : (s : List ℕ) (at i : ℕ) (b : Bracket) → head_at s at ≡ opens b i → LabelOk b
 label-ok s at i Bracket.round x = tt

@@ -22,7 +22,7 @@ use Rattle.sheet_expression.proofs.ListingLaws.{map-append}
 
 up_suc : (x : ℕ) → x < 255 → up_one x ≡ suc x
 unfolding up_one
-up_suc x l = rw (lt-ltb x 255 l)
+up_suc x l = omega arith
 
 -- the number of a loop that moves, or not
 moved : ℕ → ℕ → ℕ

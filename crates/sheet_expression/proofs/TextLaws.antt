@@ -8,6 +8,8 @@ use native.Mathlib.Omega.{arith}
 use native.Mathlib.Numerals.{add-one, add-two}
 use lib.ListN.{get_elem?, get_or, length}
 use borrow.Author.Tests.{lt-ltb, le-ltb, eq-eqb, ne_eqb}
+use mathlib.Core.Logic.{inl, inr}
+use Rattle.std.specs.Char.{IsNotAsciiDigit}
 use Rattle.sheet_grammar.specs.Tree.{Tree}
 use Rattle.sheet_grammar.specs.Grammar.{Bracket}
 use Rattle.sheet_grammar.specs.Reader.{
@@ -44,6 +46,12 @@ over [] i l = refl
 over (b ∷ s) zero l = absurd (let z : ⊥ = omega arith in z)
 over (b ∷ s) (suc i) l = over s i (omega arith)
 
+-- within a list the default is not read
+pub same : {A : Type 0} (xs : List A) (i : ℕ) (d e : A) → i < length xs → get_or xs i d ≡ get_or xs i e
+same [] i d e n = absurd (let z : ⊥ = omega arith in z)
+same (x ∷ xs) zero d e n = refl
+same (x ∷ xs) (suc i) d e n = same xs i d e (omega arith)
+
 -- where a byte, or a digit, is found, the text goes on
 pub is-in : (s : List ℕ) (i b : ℕ) → byte_is (get_elem? s i) b ≡ true → i < length s
 is-in s i b e = in_text s i b (is_true _ _ e)
@@ -51,19 +59,24 @@ is-in s i b e = in_text s i b (is_true _ _ e)
 pub digit-in : (s : List ℕ) (i d : ℕ) → digit_value (get_elem? s i) ≡ some d → (i < length s) × (d < 10)
 digit-in s i d e = let h = digit-byte (get_elem? s i) d e in (in_text s i (48 + d) h.byte, h.small)
 
--- the four ways to a digit
+-- a digit, or none
 module _ (s : List ℕ) (i : ℕ) where
-  pub digit-over : length s ≤ i → digit_value (get_elem? s i) ≡ none
+  pub digit-over : length s ≤ i → none ≡ digit_value (get_elem? s i)
   digit-over l = rw (over s i l)
 
-  pub digit_low : i < length s → get_or s i 0 < 48 → digit_value (get_elem? s i) ≡ none
-  digit_low l h = rw (here s i l, lt-ltb (get_or s i 0) 48 h)
+  module _ (b : ℕ) (l : i < length s) (o : b ≡ get_or s i b) where
+    e : b ≡ get_or s i 0
+    e = o ∙ same s i b 0 l
 
-  pub digit-is : i < length s → 48 ≤ get_or s i 0 → get_or s i 0 < 58 → digit_value (get_elem? s i) ≡ some (get_or s i 0 - 48)
-  digit-is l h g = rw (here s i l, le-ltb (get_or s i 0) 48 h, lt-ltb (get_or s i 0) 58 g)
+    pub digit-is : 48 ≤ b → b ≤ 57 → some (b - 48) ≡ digit_value (get_elem? s i)
+    digit-is h g = rw (here s i l, ← e, le-ltb b 48 h, lt-ltb b 58 (omega arith))
 
-  pub digit-high : i < length s → 48 ≤ get_or s i 0 → 58 ≤ get_or s i 0 → digit_value (get_elem? s i) ≡ none
-  digit-high l h g = rw (here s i l, le-ltb (get_or s i 0) 48 h, le-ltb (get_or s i 0) 58 g)
+    pub digit-not : IsNotAsciiDigit b → none ≡ digit_value (get_elem? s i)
+    digit-not x =
+        elim x [
+          | inl h ↦ rw (here s i l, ← e, lt-ltb b 48 h)
+          | inr h ↦ rw (here s i l, ← e, le-ltb b 48 (omega arith), le-ltb b 58 (omega arith))
+        ]
 
 -- ── Labels and numbers ──
 

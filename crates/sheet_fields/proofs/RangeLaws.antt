@@ -2,6 +2,7 @@
 use Prim.Native.Nat.{ℕ, zero, suc, ◌+◌, ◌≤◌, ◌<◌}
 use mathlib.Core.Path.{◌≡◌, refl, sym, ap, ◌∙◌}
 use mathlib.Core.Option.{Option, none, some}
+use Rattle.std.specs.Prelude as o
 use mathlib.Core.List.{List, [], ◌∷◌}
 use native.Mathlib.Omega.{arith}
 use native.Mathlib.Nat.{le_of_suc-le-suc, not-suc-le-zero, add-zero}
@@ -20,8 +21,7 @@ past_end (x ∷ l) zero h = absurd (not-suc-le-zero h)
 past_end (x ∷ l) (suc n) h = past_end l n (le_of_suc-le-suc h)
 
 -- the functions' test of a kind's fields is the definition's
-pub spans_fit : {A : Type 0} (k : Option (Kind A)) (s : Spans) (a b : ℕ) → s ≡ spans_of k → in_spans s a b ≡ fits k a b
-unfolding in_spans
+pub spans_fit : {A : Type 0} (k : Option (Kind A)) (s : o.Option Spans) (a b : ℕ) → s ≡ spans_of k → in_spans s a b ≡ fits k a b
 spans_fit {A = A} k s a b e = ap (λ t. in_spans t a b) e ∙ go k
   where
     go : (o : Option (Kind A)) → in_spans (spans_of o) a b ≡ fits o a b
@@ -38,7 +38,7 @@ past_all zero k h = omega arith
 past_all (suc n) k h = let l = past_all n k h.0 in let e = h.1 in omega arith
 
 -- one arm of the match on a kind, and what is left after it
-module _ {A : Type 0} (ks : List (Kind A)) (k : ℕ) (s : Spans) where
+module _ {A : Type 0} (ks : List (Kind A)) (k : ℕ) (s : o.Option Spans) where
   pub kind-spans : (n : ℕ) → k ≡ n → s ≡ spans_of (get_elem? ks n) → s ≡ spans_of (get_elem? ks k)
   kind-spans n e h = h ∙ ap (λ i. spans_of (get_elem? ks i)) (sym e)
 

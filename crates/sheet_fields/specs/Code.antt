@@ -1,41 +1,38 @@
 -- The ranges of a kind as the functions hold them.
-use Rattle.std.specs.Prelude.{ℕ, zero, suc, ◌+◌, ◌-◌, ◌*◌, min, Bool, true, false, ◌&&◌, cond, List, [], ◌∷◌, ◌++◌, get_or}
-use Rattle.std.proofs.Math.Option.{Option, none, some}
+use Rattle.std.specs.Prelude.{ℕ, zero, suc, ◌+◌, ◌-◌, ◌*◌, min, Bool, false, ◌&&◌, cond, Option, None, Some, List, [], ◌∷◌, ◌++◌, get_or}
+use Rattle.std.proofs.Math.Option as math
 use Rattle.std.specs.Int.Bits.{bit_and, bit_or}
 use Rattle.usage.specs.declared.Edge.{Edge}
 use Rattle.usage.specs.Limits.{policies, states, actions, statics, edge_fields, Kind, ◌to◌, within}
 use Rattle.usage.specs.Tests.{every, edge_ok}
 use Rattle.usage.specs.Tables.{from, edge_at}
 use Rattle.automaton.specs.PairSet.{pair_set, with_edge}
-use Rattle.sheet_fields.specs.declared.edges.Tested.{Tested}
 use Rattle.sheet_fields.specs.declared.Span.{Span}
 use Rattle.sheet_fields.specs.declared.Spans.{Spans}
 
-abbrev pub spans_of : {A : Type 0} → Option (Kind A) → Spans
-spans_of none = record { known = false; a = record { least = 0; most = 0 }; b = record { least = 0; most = 0 } }
-spans_of (some k) = record {
-  known = true;
-  a = record { least = k.a.least; most = k.a.most };
-  b = record { least = k.b.least; most = k.b.most };
-}
+abbrev pub spans_of : {A : Type 0} → math.Option (Kind A) → Option Spans
+spans_of math.none = None
+spans_of (math.some k) = Some (record { a = record { least = k.a.least; most = k.a.most }; b = record { least = k.b.least; most = k.b.most } })
 
 abbrev pub in_span : Span → ℕ → Bool
 in_span s v = within (s.least to s.most) v
 
-unfoldable pub in_spans : Spans → ℕ → ℕ → Bool
-in_spans s a b = s.known && (in_span s.a a && in_span s.b b)
+abbrev pub in_spans : Option Spans → ℕ → ℕ → Bool
+in_spans None a b = false
+in_spans (Some s) a b = in_span s.a a && in_span s.b b
 
 -- ── Edges tested one after the other ──
 
--- what the test says of these edges, and with one more
-unfoldable pub tested : List Edge → Tested
-tested es = record { fits = every edge_ok es; pairs = pair_set es }
+-- which policies of these edges are pair policies, where each edge is in range; and with one more
+unfoldable pub tested : List Edge → Option ℕ
+tested es = cond (every edge_ok es) (Some (pair_set es)) None
 
-abbrev pub tested_with : Tested → Edge → Tested
-tested_with s e = record { fits = cond (edge_ok e) s.fits false; pairs = with_edge s.pairs e }
+abbrev pub tested_with : Option ℕ → Edge → Option ℕ
+tested_with None e = None
+tested_with (Some m) e = cond (edge_ok e) (Some (with_edge m e)) None
 
 -- of the first n edges of a table
-abbrev pub tested_in : List ℕ → ℕ → Tested
+abbrev pub tested_in : List ℕ → ℕ → Option ℕ
 tested_in t n = tested (from (edge_at t) 0 n)
 
 -- ── Edges tested eight at a time ──

@@ -1,8 +1,7 @@
 // Edges tested eight at a time and without a branch, so that one instruction compares sixteen bytes: a block is three times that.
-ghost use Rattle.std.specs.Prelude.{◌≡◌, ◌+◌, ◌*◌, ◌-◌, ◌≤◌, ◌<◌, min, length};
+ghost use Rattle.std.specs.Prelude.{◌≡◌, ◌+◌, ◌*◌, ◌-◌, ◌≤◌, ◌<◌, length};
 ghost use Rattle.sheet_fields.specs.Code.{tested_in, block_edges, block_bytes, faults};
 
-use crate::edges::Tested;
 use usage::EDGE_FIELDS;
 
 // The edges of a block, and its bytes.
@@ -22,55 +21,40 @@ const PAIRED: [u8; BLOCK_BYTES] = [
     0, 0, 0, 0, 0, 255, 0, 0, 0, 0, 0, 255, 0, 0, 0, 0, 0, 255, 0, 0,
 ];
 
-// How far x is above m.
-fn above(x: u8, m: u8) -> u8
-    ensures { result ≡ x - m }
-{
-    if m < x { x - m } else { 0 }
-}
-
-fn lesser(x: u8, y: u8) -> u8
-    ensures { result ≡ min x y }
-{
-    if x < y { x } else { y }
-}
-
 // What is out of range in the block from place k on: 0 where nothing is. One byte beyond the block is read.
 fn block_faults(edges: &[u8], k: usize, most: &[u8; BLOCK_BYTES], paired: &[u8; BLOCK_BYTES]) -> u8
     requires { k + block_bytes < length edges.now }
     ensures { result ≡ faults edges.now k most.now paired.now block_bytes }
 {
     let mut bad: u8 = 0;
-    let mut j: usize = 0;
-    while j < BLOCK_BYTES {
+    for j in 0..BLOCK_BYTES {
         let x = edges[k + j];
         let y = edges[k + j + 1];
-        let over = above(x, most[j]);
-        let both = lesser(x, y);
-        bad = bad | (over | (both & paired[j]));
-        j += 1;
+        let over = x.saturating_sub(most[j]);
+        let both = x.min(y);
+        bad |= over | (both & paired[j]);
     }
     bad
 }
 
 // The edges of the first n blocks. One byte beyond them is read. A block with a fault is tested edge by edge: it may be that an
 // edge is on 3.
-pub(crate) fn blocks_tested(edges: &[u8], n: usize) -> Tested
+pub(crate) fn blocks_tested(edges: &[u8], n: usize) -> Option<u8>
     requires { block_bytes * n ≤ length edges.now - 1 }
     ensures { result ≡ tested_in edges.now (block_edges * n) }
 {
     let most = MOST;
     let paired = PAIRED;
-    let mut s = Tested {
-        fits: true,
-        pairs: 0,
-    };
-    let mut i: usize = 0;
-    while i < n {
+    let mut pairs: u8 = 0;
+    for i in 0..n {
         if block_faults(edges, BLOCK_BYTES * i, &most, &paired) != 0 {
-            s = crate::edges::more_tested(s, edges, BLOCK_EDGES * i, BLOCK_EDGES * (i + 1));
+            pairs = crate::edges::more_tested(
+                pairs,
+                edges,
+                BLOCK_EDGES * i,
+                BLOCK_EDGES * (i + 1),
+            )?;
         }
-        i += 1;
     }
-    s
+    Some(pairs)
 }

@@ -52,10 +52,9 @@ struct Span {
     pub most: u32,
 }
 
-// The ranges of the fields a and b of a kind; not known where there is no such kind.
+// The ranges of the fields a and b of a kind.
 #[derive(Clone, Copy)]
 struct Spans {
-    pub known: bool,
     pub a: Span,
     pub b: Span,
 }
@@ -63,48 +62,34 @@ struct Spans {
 fn within(v: u32, s: Span) -> bool
     ensures { result ≡ in_span s v }
 {
-    if v < s.least {
-        return false;
-    }
-    v <= s.most
+    s.least <= v && v <= s.most
 }
 
-fn fit(s: Spans, a: u32, b: u32) -> bool
+// Where there is no such kind no values fit.
+fn fit(s: Option<Spans>, a: u32, b: u32) -> bool
     ensures { result ≡ in_spans s a b }
 {
-    if !s.known {
+    let Some(s) = s else {
         return false;
-    }
-    let first = s.a;
-    if !within(a, first) {
-        return false;
-    }
-    let second = s.b;
-    within(b, second)
+    };
+    within(a, s.a) && within(b, s.b)
 }
 
 // From least to most, and from low to high.
-fn both(least: u32, most: u32, low: u32, high: u32) -> Spans
-    ensures { result ≡ record { known = true; a = record { least = least; most = most }; b = record { least = low; most = high } } }
+fn both(least: u32, most: u32, low: u32, high: u32) -> Option<Spans>
+    ensures { result ≡ Some (record { a = record { least = least; most = most }; b = record { least = low; most = high } }) }
 {
-    let a = Span { least, most };
-    let b = Span {
-        least: low,
-        most: high,
-    };
-    Spans { known: true, a, b }
-}
-
-fn no_spans() -> Spans
-    ensures { result ≡ record { known = false; a = record { least = 0; most = 0 }; b = record { least = 0; most = 0 } } }
-{
-    let a = Span { least: 0, most: 0 };
-    let b = Span { least: 0, most: 0 };
-    Spans { known: false, a, b }
+    Some(Spans {
+        a: Span { least, most },
+        b: Span {
+            least: low,
+            most: high,
+        },
+    })
 }
 
 // Document 01: "The kinds, with fields a and b (0 when unused)".
-fn node_spans(kind: u32) -> Spans
+fn node_spans(kind: u32) -> Option<Spans>
     ensures { result ≡ spans_of (get_elem? node_kinds kind) }
 {
     match kind {
@@ -117,13 +102,13 @@ fn node_spans(kind: u32) -> Spans
         6 => both(0, LAST_NODE, 0, 0),
         7 => both(0, LAST_NAME, 0, LAST_NODE),
         8 => both(0, LAST_POLICY, 0, LAST_NODE),
-        _ => no_spans(),
+        _ => None,
     }
 }
 
 // Document 01: "kind 0 event (action 0 to 31, resource ..), 1 open (policy 0 to 7, 0), 2 close (policy 0 to 7, 0)"; 02, L8: "step kind 3,
 // retire (a the resource, b 0)"; L9: "a resource go to 4,294,967,295".
-fn step_spans(kind: u32) -> Spans
+fn step_spans(kind: u32) -> Option<Spans>
     ensures { result ≡ spans_of (get_elem? step_kinds kind) }
 {
     match kind {
@@ -131,7 +116,7 @@ fn step_spans(kind: u32) -> Spans
         1 => both(0, LAST_POLICY, 0, 0),
         2 => both(0, LAST_POLICY, 0, 0),
         3 => both(0, LAST_RESOURCE, 0, 0),
-        _ => no_spans(),
+        _ => None,
     }
 }
 

@@ -12,6 +12,8 @@ use lib.ListN.{length, take, drop, set, get_or, length-take, length-drop, length
 use lib.Seq.{take-set-le, drop-set-add, drop-set-lt, drop-drop, take-suc-set, take-take, take-add}
 use borrow.Author.Tests.{eq-eqb}
 use Rattle.usage.specs.Limits.{most_steps}
+use Rattle.usage.specs.declared.Reason.{Reason}
+use Rattle.usage.specs.Reasons.{number_of}
 use Rattle.usage.proofs.Logic.{clash}
 use Rattle.sheet_bytes.specs.declared.Part.{Part}
 use Rattle.sheet_bytes.specs.declared.Next.TheVariants.{Goes, Ends, Malformed}
@@ -26,7 +28,7 @@ use Rattle.sheet_lines.specs.Answer.{most_values}
 use Rattle.sheet_lines.specs.Sheet.{Sheet, after_line, Result, accepted, refused, refuse_at, followed, entry, value_lines}
 use Rattle.sheet_bytes.specs.Code.{end_step, byte_step}
 use Rattle.sheet_lines.specs.Sheets.{sheet_of}
-use Rattle.sheet_lines.specs.Code.{empty_part, answer_after_lem, Held, held, refusing, held_by, rest_after, held_onto}
+use Rattle.sheet_lines.specs.Code.{empty_part, Held, held, refusing, held_onto}
 use Rattle.sheet_lines.proofs.LargeLaws.{Bounded}
 use Rattle.sheet_lines.proofs.ScanLaws.{in-line, starts, cut_off, ends, more}
 use Rattle.sheet_lines.proofs.StepLaws.{Sound, Said, all-well, moved, says, read-end, said-end, ends-well, ends-malformed}
@@ -256,20 +258,11 @@ module _ (s : Sheet) (text : List ℕ) (goal : Held) (first buffer : List ℕ) (
           line : n + 1 + 2 ≡ suc (n + 2)
           line = omega arith
 
--- what the loops leave: the answer, and the places after the values as they were
-pub record Answers (s : Sheet) (text : List ℕ) (goal : Held) (lent buffer : List ℕ) (n number : ℕ) : Type 0 where
-  pub gives : held_by s.fields (answer_after_lem n number) buffer ≡ goal
-  pub after : rest_after s.fields (answer_after_lem n number) buffer ≡ rest_after s.fields (answer_after_lem n number) lent
-
 -- "11 byte that is no digit, space or line feed", 12, 2, and 3 where no field has such a value
 pub malformed : (s : Sheet) (text : List ℕ) (goal : Held) (first buffer : List ℕ) (i n : ℕ) (p : Part)
     → InLine s text goal first buffer i n p → n * s.fields + s.fields ≤ most_values → i < length text → Bounded s
-    → (number : ℕ) → byte_step s.fields p (get_or text i 0) ≡ Malformed number → (lent left : List ℕ)
-    → Answers s text goal lent left n number
-malformed s text goal first buffer i n p inv fits h far number q lent left =
-    let f = at-feed s.fields p (get_or text i 0) (Malformed number) q (λ q e. clash (cc)) in
-    let m = ends-malformed s.fields (before s buffer n p) p number f.1 in
-    record {
-      gives = rw m.1 (closed s text goal first buffer i n p inv fits h far (has_fault number) f.0 m.0);
-      after = rw m.1 refl;
-    }
+    → (reason : Reason) → byte_step s.fields p (get_or text i 0) ≡ Malformed reason → refusing (n + 2) (number_of reason) ≡ goal
+malformed s text goal first buffer i n p inv fits h far reason q =
+    let f = at-feed s.fields p (get_or text i 0) (Malformed reason) q (λ q e. clash (cc)) in
+    closed s text goal first buffer i n p inv fits h far (has_fault (number_of reason)) f.0
+    (ends-malformed s.fields (before s buffer n p) p reason f.1)

@@ -6,13 +6,12 @@ use mathlib.Core.List.{List, [], ◌++◌, flatten}
 use lib.ListN.{length, take, drop, replicate, take-append-drop}
 use borrow.Author.Tests.{lt-ltb, le-ltb}
 use Rattle.usage.specs.Limits.{longest_sheet}
-use Rattle.usage.proofs.Logic.{clash}
 use Rattle.sheet_bytes.specs.Line.{lines_of}
-use Rattle.sheet_lines.specs.declared.Reading.{Reading}
-use Rattle.sheet_lines.specs.declared.Reading.TheVariants.{Stored, Refused}
+use Rattle.usage.specs.declared.SheetRefusal.{SheetRefusal}
+use Rattle.usage.specs.Reasons.{number_of, refusal_of}
 use Rattle.sheet_lines.specs.Sheet.{Sheet, Result, refuse_at, value_lines, starts_with, sheet}
-use Rattle.sheet_lines.specs.Answer.{most_values, Answer, count, refusal, reading_answer, answered, filled}
-use Rattle.sheet_lines.specs.Code.{is_stored_lem, held, held_by, rest_after, held_onto}
+use Rattle.sheet_lines.specs.Answer.{most_values, Answer, count, refusal, answered, filled}
+use Rattle.sheet_lines.specs.Code.{held, refusing, held_onto}
 use Rattle.sheet_lines.proofs.AcceptLaws.{sheet-accepted, flat-length, held_rows, refusing-result}
 
 -- what must be answered, and left in the buffer
@@ -45,7 +44,8 @@ module _ (s : Sheet) (text : List ℕ) where
     after-names e = simp (le-ltb _ _ h, e)
 
   module _ (first last : List ℕ) where
-    values-stored : (n : ℕ) → held n (take (n * s.fields) last) ≡ held_onto 0 [] (sheet s text)
+    -- the buffer is kept where lines were stored
+    pub values-stored : (n : ℕ) → held n (take (n * s.fields) last) ≡ held_onto 0 [] (sheet s text)
         → drop (n * s.fields) last ≡ drop (n * s.fields) zeros → Fills (sheet s text) (count n) first last
     unfolding answered filled
     values-stored n e d =
@@ -60,14 +60,7 @@ module _ (s : Sheet) (text : List ℕ) where
               ∙ ap (λ m. flatten k.rows ++ drop m zeros) (sym size) ∙ sym (ap (λ r. filled r first) k.result);
         }
 
-    -- the buffer is kept where lines were stored, and else left as it was
-    pub keeps : (r : Reading) → is_stored_lem r ≡ true → held_by s.fields r last ≡ held_onto 0 [] (sheet s text)
-        → rest_after s.fields r last ≡ rest_after s.fields r zeros
-        → Fills (sheet s text) (reading_answer r) first last
-    keeps (Stored n) q e d = values-stored n e d
-    keeps (Refused line number) q e d = clash (cc)
-
-    pub leaves : (r : Reading) → is_stored_lem r ≡ false → held_by s.fields r last ≡ held_onto 0 [] (sheet s text)
-        → Fills (sheet s text) (reading_answer r) first first
-    leaves (Stored n) q e = clash (cc)
-    leaves (Refused line number) q e = refused-fills (sheet s text) line number first (refusing-result (sheet s text) line number e)
+    -- a refusal leaves the buffer as it was
+    pub leaves : (r : SheetRefusal) → refusing r.line (number_of r.reason) ≡ held_onto 0 [] (sheet s text)
+        → Fills (sheet s text) (refusal (refusal_of r)) first first
+    leaves r e = refused-fills (sheet s text) r.line (number_of r.reason) first (refusing-result (sheet s text) r.line (number_of r.reason) e)

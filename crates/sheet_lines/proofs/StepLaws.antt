@@ -15,9 +15,12 @@ use Rattle.sheet_bytes.specs.declared.Next.TheVariants.{Goes, Ends, Malformed}
 use Rattle.sheet_bytes.specs.Class.{class_of}
 use Rattle.sheet_bytes.specs.Line.{Progress, nothing, further, byte, read, complete, counted, values_of}
 use Rattle.sheet_bytes.specs.Fault.{has_other, has_overlong, LineRead, has_values, has_fault, told, read_line}
-use Rattle.sheet_bytes.specs.Code.{safe_digits, value_room, of_range, of_form, of_length, of_byte, fault_number, with_fault_lem, with_digit, last_digit_lem}
+use Rattle.sheet_bytes.specs.Code.{safe_digits, value_room, of_range, of_form, of_length, of_byte, fault_reason, with_fault_lem, with_digit, last_digit_lem}
 use Rattle.sheet_bytes.specs.Code.{digit_step, space_step, is_complete, end_step, part_step, byte_step}
 use Rattle.usage.specs.Limits.{most_digits}
+use Rattle.usage.specs.declared.Reason.{Reason}
+use Rattle.usage.specs.declared.Reason.TheVariants.{Form, Range}
+use Rattle.usage.specs.Reasons.{number_of}
 use Rattle.usage.proofs.Logic.{clash, or_right, and_right}
 use Rattle.sheet_bytes.proofs.ByteLaws.{digit-byte, other-class, ten-le, safe-value, one_more}
 use Rattle.sheet_bytes.proofs.MoreLaws.{last-run, run-snoc, other-snoc, overlong-snoc, read-snoc, Full, byte_full, ends-full}
@@ -390,7 +393,7 @@ module _ (n : ℕ) (done vs : List ℕ) (p : Part) (b : ℕ) (len : length vs �
 abbrev pub read-end : ℕ → List ℕ → Part → LineRead
 read-end n vs p =
     cond (eqb p.fault 0) (cond (is_complete n p) (has_values (vs ++ (p.value ∷ []))) (has_fault 2))
-    (cond (eqb p.fault of_range) (cond (is_complete n p) (has_fault 3) (has_fault 2)) (has_fault (fault_number p.fault)))
+    (cond (eqb p.fault of_range) (cond (is_complete n p) (has_fault 3) (has_fault 2)) (has_fault (number_of (fault_reason p.fault))))
 
 module _ (n : ℕ) (p : Part) where
   completes : (vs : List ℕ) (v : ℕ) → length vs ≡ p.count
@@ -461,10 +464,10 @@ module _ (n : ℕ) (vs : List ℕ) (p : Part) where
   ends-well e = go (eqb p.fault 0) (eqb p.fault of_range) (eqb p.digits 0) (eqb (p.count + 1) n) refl e
     where
       go : (x r y z : Bool) → eqb (p.count + 1) n ≡ z
-          → cond x (cond (not y && z) Ends (Malformed 2))
-          (cond r (cond (not y && z) (Malformed 3) (Malformed 2)) (Malformed (fault_number p.fault))) ≡ Ends
+          → cond x (cond (not y && z) Ends (Malformed Form))
+          (cond r (cond (not y && z) (Malformed Range) (Malformed Form)) (Malformed (fault_reason p.fault))) ≡ Ends
           → (cond x (cond (not y && z) (has_values (vs ++ (p.value ∷ []))) (has_fault 2))
-          (cond r (cond (not y && z) (has_fault 3) (has_fault 2)) (has_fault (fault_number p.fault)))
+          (cond r (cond (not y && z) (has_fault 3) (has_fault 2)) (has_fault (number_of (fault_reason p.fault))))
           ≡ has_values (vs ++ (p.value ∷ []))) × (p.count + 1 ≡ n)
       go true r true z q e = clash (cc)
       go true r false true q e = (refl, eqb-true (p.count + 1) n q)
@@ -474,25 +477,19 @@ module _ (n : ℕ) (vs : List ℕ) (p : Part) where
       go false true false false q e = clash (cc)
       go false false y z q e = clash (cc)
 
-  pub ends-malformed : (k : ℕ) → end_step n p ≡ Malformed k → (read-end n vs p ≡ has_fault k) × (eqb k 0 ≡ false)
+  pub ends-malformed : (k : Reason) → end_step n p ≡ Malformed k → read-end n vs p ≡ has_fault (number_of k)
   ends-malformed k e = go (eqb p.fault 0) (eqb p.fault of_range) (is_complete n p) e
     where
-      some_number : (x y : Bool) → eqb (cond x 2 (cond y 11 12)) 0 ≡ false
-      some_number true y = refl
-      some_number false true = refl
-      some_number false false = refl
-
       go : (x r y : Bool)
-          → cond x (cond y Ends (Malformed 2)) (cond r (cond y (Malformed 3) (Malformed 2)) (Malformed (fault_number p.fault))) ≡ Malformed k
+          → cond x (cond y Ends (Malformed Form)) (cond r (cond y (Malformed Range) (Malformed Form)) (Malformed (fault_reason p.fault))) ≡ Malformed k
           → (cond x (cond y (has_values (vs ++ (p.value ∷ []))) (has_fault 2))
-          (cond r (cond y (has_fault 3) (has_fault 2)) (has_fault (fault_number p.fault))) ≡ has_fault k)
-          × (eqb k 0 ≡ false)
+          (cond r (cond y (has_fault 3) (has_fault 2)) (has_fault (number_of (fault_reason p.fault)))) ≡ has_fault (number_of k))
       go true r true e = clash (cc)
-      go true r false e = let q : 2 ≡ k = cc in rw (← q) (refl, refl)
-      go false true true e = let q : 3 ≡ k = cc in rw (← q) (refl, refl)
-      go false true false e = let q : 2 ≡ k = cc in rw (← q) (refl, refl)
+      go true r false e = let q : Form ≡ k = cc in rw (← q) refl
+      go false true true e = let q : Range ≡ k = cc in rw (← q) refl
+      go false true false e = let q : Form ≡ k = cc in rw (← q) refl
       go false false y e =
-          let q : fault_number p.fault ≡ k = cc in rw (← q) (refl, some_number (eqb p.fault of_form) (eqb p.fault of_byte))
+          let q : fault_reason p.fault ≡ k = cc in rw (← q) refl
 
 -- ── Which way a step goes ──
 
@@ -503,7 +500,7 @@ module _ (n : ℕ) (p : Part) (b : ℕ) where
   goes_on q e = go (eqb (class_of b) 2) (eqb p.fault 0) (eqb p.fault of_range) (is_complete n p) refl e
     where
       go : (x y r z : Bool) → eqb (class_of b) 2 ≡ x
-          → cond x (cond y (cond z Ends (Malformed 2)) (cond r (cond z (Malformed 3) (Malformed 2)) (Malformed (fault_number p.fault))))
+          → cond x (cond y (cond z Ends (Malformed Form)) (cond r (cond z (Malformed Range) (Malformed Form)) (Malformed (fault_reason p.fault))))
           (Goes (part_step n p b)) ≡ Goes q
           → (class_of b ≡ 2 → ⊥) × (part_step n p b ≡ q)
       go true true r true f e = clash (cc)

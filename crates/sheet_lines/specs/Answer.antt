@@ -1,10 +1,10 @@
 -- Document 01's numbers for an answer, and what the buffer holds.
-use Rattle.std.specs.Prelude.{ℕ, length, drop, replicate}
+use Rattle.std.specs.Prelude.{ℕ, Result as Returned, Ok, Err, length, drop, replicate}
 use mathlib.Core.List.{List, ◌++◌, flatten}
 use Rattle.usage.specs.Limits.{step_places}
 use Rattle.usage.specs.Answers.{Refusal}
-use Rattle.sheet_lines.specs.declared.Reading.{Reading}
-use Rattle.sheet_lines.specs.declared.Reading.TheVariants.{Stored, Refused}
+use Rattle.usage.specs.declared.SheetRefusal.{SheetRefusal}
+use Rattle.usage.specs.Reasons.{refusal_of}
 use Rattle.sheet_lines.specs.Sheet.{Result, accepted, refused}
 
 -- how many value lines were stored, or the refusal's line and number
@@ -12,9 +12,9 @@ pub data Answer : Type 0 where
   count : ℕ → Answer
   refusal : Refusal → Answer
 
-abbrev pub reading_answer : Reading → Answer
-reading_answer (Stored n) = count n
-reading_answer (Refused line number) = refusal record { line = line; number = number }
+abbrev pub reading_answer : Returned ℕ SheetRefusal → Answer
+reading_answer (Ok n) = count n
+reading_answer (Err r) = refusal (refusal_of r)
 
 unfoldable pub answered : Result → Answer
 answered (accepted rows) = count (length rows)

@@ -1,25 +1,17 @@
 -- What only the functions behind `sheet` compute.
-use Rattle.std.specs.Prelude.{ℕ, ◌+◌, ◌*◌, Bool, true, false, not, cond, eqb, length, get_or, take, drop}
+use Rattle.std.specs.Prelude.{Result as Returned, Ok, Err, ℕ, ◌+◌, ◌*◌, not, length, get_or, take, drop}
 use mathlib.Core.List.{List, [], ◌∷◌, ◌++◌, flatten}
+use Rattle.usage.specs.declared.SheetRefusal.{SheetRefusal}
+use Rattle.usage.specs.Reasons.{number_of}
 use Rattle.automaton.specs.PairSet.{with_pair, many_in}
 use Rattle.sheet_fields.specs.declared.Kind.{Kind}
 use Rattle.sheet_fields.specs.declared.Kind.TheVariants.{Policies, Trace, Outline}
 use Rattle.sheet_bytes.specs.declared.Part.{Part}
-use Rattle.sheet_lines.specs.declared.Reading.{Reading}
-use Rattle.sheet_lines.specs.declared.Reading.TheVariants.{Stored, Refused}
 use Rattle.sheet_lines.specs.Sheet.{Sheet, Result, accepted, refused}
 use Rattle.sheet_lines.specs.Sheets.{sheet_of}
 
 abbrev pub empty_part : Part
 empty_part = record { count = 0; digits = 0; value = 0; fault = 0 }
-
--- the answer after n accepted lines; number 0 is no refusal
-abbrev pub answer_after_lem : ℕ → ℕ → Reading
-answer_after_lem n number = cond (eqb number 0) (Stored n) (Refused (n + 2) number)
-
-abbrev pub is_stored_lem : Reading → Bool
-is_stored_lem (Stored count) = true
-is_stored_lem (Refused line number) = false
 
 -- ── The pair policies of the lines so far, as a bit set ──
 
@@ -52,14 +44,14 @@ pub data Held : Type 0 where
   refusing : ℕ → ℕ → Held
 
 -- the answer of the code with what stands in its buffer, n values to a line; after a refusal the buffer does not count
-abbrev pub held_by : ℕ → Reading → List ℕ → Held
-held_by n (Stored count) buffer = held count (take (count * n) buffer)
-held_by n (Refused line number) buffer = refusing line number
+abbrev pub held_by : ℕ → Returned ℕ SheetRefusal → List ℕ → Held
+held_by n (Ok count) buffer = held count (take (count * n) buffer)
+held_by n (Err r) buffer = refusing r.line (number_of r.reason)
 
 -- what stands in the buffer after the values
-abbrev pub rest_after : ℕ → Reading → List ℕ → List ℕ
-rest_after n (Stored count) buffer = drop (count * n) buffer
-rest_after n (Refused line number) buffer = []
+abbrev pub rest_after : ℕ → Returned ℕ SheetRefusal → List ℕ → List ℕ
+rest_after n (Ok count) buffer = drop (count * n) buffer
+rest_after n (Err r) buffer = []
 
 -- a result after so many lines with these values
 abbrev pub held_onto : ℕ → List ℕ → Result → Held

@@ -7,12 +7,14 @@ ghost use Rattle.sheet_bytes.specs.Line.{lines_of};
 ghost use Rattle.sheet_lines.specs.Sheet.{value_lines, starts_with, sheet as sheet-of};
 ghost use Rattle.sheet_lines.specs.Sheets.{policy_names_lem, is_local as local-text, sheet_of};
 ghost use Rattle.sheet_lines.specs.Answer.{reading_answer, answered, most_values, filled};
-ghost use Rattle.sheet_lines.specs.Code.{empty_part as nothing_read, answer_after_lem, is_stored_lem as stored-in, pairs_with};
+ghost use Rattle.sheet_lines.specs.Code.{empty_part as nothing_read, pairs_with};
 ghost use Rattle.sheet_lines.specs.Code.{held_by, rest_after, held_onto};
 
 use sheet_bytes::{Next, Part};
 use sheet_fields::{Kind, NODE_LINE_FIELDS};
-use usage::{EDGE_FIELDS, MOST_EDGES, MOST_NODES, MOST_STEPS, STEP_FIELDS, STEP_TABLE};
+use usage::{
+    EDGE_FIELDS, MOST_EDGES, MOST_NODES, MOST_STEPS, Reason, STEP_FIELDS, STEP_TABLE, SheetRefusal,
+};
 
 // How many values a sheet has at most: a trace has the most.
 pub const MOST_VALUES: usize = STEP_TABLE;
@@ -23,30 +25,32 @@ pub const LONGEST_SHEET: usize = 32768;
 // A program reads one byte more, which tells a longer one.
 pub const SHEET_ROOM: usize = LONGEST_SHEET + 1;
 
-// The answer of a reader: how many value lines it stored, or the refusal.
-#[derive(Clone, Copy)]
-pub enum Reading {
-    Stored(usize),
-    Refused { line: usize, number: u8 },
-}
-
-// A sheet is read into the buffer; a refusal leaves the buffer as it was. Document 01: "Order: 5, 1, then line by line 4, 2, 3".
-pub fn sheet(text: &[u8], kind: Kind, buffer: &mut [u32; MOST_VALUES]) -> Reading
+// A sheet is read into the buffer; the answer is how many value lines it has. A refusal leaves the buffer as it was. Document 01:
+// "Order: 5, 1, then line by line 4, 2, 3".
+pub fn sheet(
+    text: &[u8],
+    kind: Kind,
+    buffer: &mut [u32; MOST_VALUES],
+) -> Result<usize, SheetRefusal>
     ensures result_value { reading_answer result ≡ answered (sheet-of (sheet_of kind) text.now) }
     ensures buffer_after { buffer.new ≡ filled (sheet-of (sheet_of kind) text.now) buffer.old }
 {
     if LONGEST_SHEET < text.len() {
-        return Reading::Refused { line: 0, number: 5 };
+        return Err(SheetRefusal {
+            line: 0,
+            reason: Reason::TooLong,
+        });
     }
     if !named(text, kind) {
-        return Reading::Refused { line: 1, number: 1 };
+        return Err(SheetRefusal {
+            line: 1,
+            reason: Reason::NamesLine,
+        });
     }
     let mut local = [0u32; MOST_VALUES];
-    let r = lines(text, names_length(kind), kind, &mut local);
-    if is_stored(r) {
-        *buffer = local;
-    }
-    r
+    let count = lines(text, names_length(kind), kind, &mut local)?;
+    *buffer = local;
+    Ok(count)
 }
 
 // How many values are on a line.
@@ -82,28 +86,11 @@ fn names_length(kind: Kind) -> usize
     }
 }
 
-// The text begins with these bytes.
-fn begins(text: &[u8], names: &[u8]) -> bool
-    ensures { result ≡ starts_with names.now text.now }
-{
-    let mut i: usize = 0;
-    while i < names.len() {
-        if text.len() <= i {
-            return false;
-        }
-        if names[i] != text[i] {
-            return false;
-        }
-        i += 1;
-    }
-    true
-}
-
 // The text is a sheet of local policies (02, L7).
 pub fn is_local(text: &[u8]) -> bool
     ensures { result ≡ local-text text.now }
 {
-    begins(text, b"local from action on who to\n")
+    text.starts_with(b"local from action on who to\n")
 }
 
 // The names line is that of policies that see the past of their sandbox, or the whole past.
@@ -113,7 +100,7 @@ fn policies_named(text: &[u8], local: bool) -> bool
     if local {
         return is_local(text);
     }
-    begins(text, b"policy from action on who to\n")
+    text.starts_with(b"policy from action on who to\n")
 }
 
 // The names line is that of the sheet.
@@ -122,8 +109,8 @@ fn named(text: &[u8], kind: Kind) -> bool
 {
     match kind {
         Kind::Policies { local } => policies_named(text, local),
-        Kind::Trace => begins(text, b"kind a b\n"),
-        Kind::Outline => begins(text, b"node kind a b\n"),
+        Kind::Trace => text.starts_with(b"kind a b\n"),
+        Kind::Outline => text.starts_with(b"node kind a b\n"),
     }
 }
 
@@ -141,19 +128,16 @@ fn nothing() -> Part
 
 // The values of a line, which stand in the buffer from base on, are in the ranges of their fields.
 fn in_range(kind: Kind, buffer: &[u32; MOST_VALUES], base: usize) -> bool
-    requires kind_bound { base + (sheet_of kind).fields ≤ most_values }
-    requires buffer_len { length buffer.now ≡ most_values }
+    requires { base + (sheet_of kind).fields ≤ most_values }
     ensures { result ≡ (sheet_of kind).in_range_lem (take (sheet_of kind).fields (drop base buffer.now)) }
 {
     let end = base + fields(kind);
-    let all = &buffer[..];
-    sheet_fields::line_fits(kind, &all[base..end])
+    sheet_fields::line_fits(kind, &buffer[base..end])
 }
 
 // The pair policies of the lines so far, as a bit set, with those of the line whose values stand in the buffer from base on (02, L10).
 fn with_line(kind: Kind, buffer: &[u32; MOST_VALUES], base: usize, pairs: u8) -> u8
-    requires kind_bound { base + (sheet_of kind).fields ≤ most_values }
-    requires buffer_len { length buffer.now ≡ most_values }
+    requires { base + (sheet_of kind).fields ≤ most_values }
     ensures { result ≡ pairs_with kind pairs (take (sheet_of kind).fields (drop base buffer.now)) }
 {
     match kind {
@@ -167,34 +151,27 @@ fn with_line(kind: Kind, buffer: &[u32; MOST_VALUES], base: usize, pairs: u8) ->
     }
 }
 
-// The answer after n lines that were accepted.
-fn answer_after(n: usize, number: u8) -> Reading
+// The line after n value lines is refused.
+fn refusal(n: usize, reason: Reason) -> SheetRefusal
     requires { n ≤ most_steps }
-    ensures { result ≡ answer_after_lem n number }
+    ensures { result ≡ record { line = n + 2; reason = reason } }
 {
-    if number == 0 {
-        return Reading::Stored(n);
-    }
-    Reading::Refused {
+    SheetRefusal {
         line: n + 2,
-        number,
-    }
-}
-
-fn is_stored(r: Reading) -> bool
-    ensures { result ≡ stored-in r }
-{
-    match r {
-        Reading::Stored(_) => true,
-        Reading::Refused { line: _, number: _ } => false,
+        reason,
     }
 }
 
 // The value lines of a text from `from` on are read into the buffer, the values one after the other. Document 01: "then line by
 // line 4, 2, 3", 02, L2: "13, 11, 12, 2, where 2 stood", and L10: 14 "after 3". The first line that is refused ends both loops, at its end.
-fn lines(text: &[u8], from: usize, kind: Kind, buffer: &mut [u32; MOST_VALUES]) -> Reading
-    requires from_in_bounds { from ≤ length text.now }
-    requires buffer_len { length buffer.old ≡ most_values }
+// Kept: counted by hand, since one index runs through both loops (the form that docs/CONVENTIONS.md names).
+fn lines(
+    text: &[u8],
+    from: usize,
+    kind: Kind,
+    buffer: &mut [u32; MOST_VALUES],
+) -> Result<usize, SheetRefusal>
+    requires { from ≤ length text.now }
     ensures buffer_after { held_by (sheet_of kind).fields result buffer.new
         ≡ held_onto 0 [] (value_lines (sheet_of kind) 2 (sheet_of kind).most (lines_of (drop from text.now))) }
     ensures buffer_unchanged { rest_after (sheet_of kind).fields result buffer.new
@@ -204,19 +181,16 @@ fn lines(text: &[u8], from: usize, kind: Kind, buffer: &mut [u32; MOST_VALUES]) 
     let most = most(kind);
     let mut i = from;
     let mut n: usize = 0;
-    let mut number: u8 = 0;
     let mut pairs: u8 = 0;
     'lines: while i < text.len() {
         if n == most {
-            number = 4;
-            break 'lines;
+            return Err(refusal(n, Reason::TooManyLines));
         }
         let base = n * fields;
         let mut p = nothing();
         'bytes: loop {
             if text.len() <= i {
-                number = 13;
-                break 'lines;
+                return Err(refusal(n, Reason::NoLineFeed));
             }
             let at = base + p.count;
             buffer[at] = p.value as u32;
@@ -225,22 +199,17 @@ fn lines(text: &[u8], from: usize, kind: Kind, buffer: &mut [u32; MOST_VALUES]) 
             match next {
                 Next::Goes(q) => p = q,
                 Next::Ends => break 'bytes,
-                Next::Malformed(fault) => {
-                    number = fault;
-                    break 'lines;
-                }
+                Next::Malformed(reason) => return Err(refusal(n, reason)),
             }
         }
         if !in_range(kind, buffer, base) {
-            number = 3;
-            break 'lines;
+            return Err(refusal(n, Reason::Range));
         }
         pairs = with_line(kind, buffer, base, pairs);
         if automaton::pairs::many(pairs) {
-            number = 14;
-            break 'lines;
+            return Err(refusal(n, Reason::ThirdPair));
         }
         n += 1;
     }
-    answer_after(n, number)
+    Ok(n)
 }

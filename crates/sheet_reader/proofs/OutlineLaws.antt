@@ -18,9 +18,8 @@ use Rattle.sheet_lines.specs.Sheet.{Result, refuse_at, sheet}
 use Rattle.sheet_lines.specs.Sheets.{outline_sheet}
 use Rattle.sheet_lines.specs.Answer.{count}
 use Rattle.sheet_lines.proofs.AcceptLaws.{Rows, no_row, row}
-use Rattle.sheet_reader.specs.declared.Pick.TheVariants.{Numbers, Nodes}
 use Rattle.sheet_reader.specs.Readers.{ruled_result, ruled_rows, roomy}
-use Rattle.sheet_reader.specs.Code.{buffer_place, picked}
+use Rattle.sheet_reader.specs.Code.{number_place, node_place, picked}
 use Rattle.sheet_reader.proofs.ReaderLaws.{Kept, Reads, accepted-reads, has_room}
 
 -- a line of four values
@@ -39,34 +38,34 @@ abbrev pub first : List ℕ → ℕ
 first vs = get_or vs 0 0
 
 place-cell : {rows : List (List ℕ)} → Rows outline_sheet rows → (i : ℕ) → i < length rows
-    → get_or (map first rows) i 0 ≡ get_or (flatten rows) (buffer_place Numbers i) 0
+    → get_or (map first rows) i 0 ≡ get_or (flatten rows) (number_place i) 0
 unfolding flatten
 place-cell no_row i h = absurd (omega arith)
 place-cell (row {vs} {rows} k m r) i h = go (place-cell r) vs (is-four vs k) i h
   where
-    go : ((j : ℕ) → j < length rows → get_or (map first rows) j 0 ≡ get_or (flatten rows) (buffer_place Numbers j) 0) → (us : List ℕ) → Four us
-        → (i : ℕ) → i < suc (length rows) → get_or (first us ∷ map first rows) i 0 ≡ get_or (us ++ flatten rows) (buffer_place Numbers i) 0
+    go : ((j : ℕ) → j < length rows → get_or (map first rows) j 0 ≡ get_or (flatten rows) (number_place j) 0) → (us : List ℕ) → Four us
+        → (i : ℕ) → i < suc (length rows) → get_or (first us ∷ map first rows) i 0 ≡ get_or (us ++ flatten rows) (number_place i) 0
     go ih us (four a b c d) zero h = refl
     go ih us (four a b c d) (suc i) h = ih i (omega arith) ∙ ap (λ j. get_or (a ∷ b ∷ c ∷ d ∷ flatten rows) j 0) next
       where
-        next : suc (suc (suc (suc (buffer_place Numbers i)))) ≡ buffer_place Numbers (suc i)
+        next : suc (suc (suc (suc (number_place i)))) ≡ number_place (suc i)
         next = omega arith
 
 node-cell : {rows : List (List ℕ)} → Rows outline_sheet rows → (i : ℕ) → i < length rows * node_fields
-    → get_or (flatten (map tail rows)) i 0 ≡ get_or (flatten rows) (buffer_place Nodes i) 0
+    → get_or (flatten (map tail rows)) i 0 ≡ get_or (flatten rows) (node_place i) 0
 unfolding flatten
 node-cell no_row i h = absurd (omega arith)
 node-cell (row {vs} {rows} k m r) i h = go (node-cell r) vs (is-four vs k) i h
   where
-    go : ((j : ℕ) → j < length rows * node_fields → get_or (flatten (map tail rows)) j 0 ≡ get_or (flatten rows) (buffer_place Nodes j) 0)
+    go : ((j : ℕ) → j < length rows * node_fields → get_or (flatten (map tail rows)) j 0 ≡ get_or (flatten rows) (node_place j) 0)
         → (us : List ℕ) → Four us → (i : ℕ) → i < suc (length rows) * node_fields → get_or (tail us ++ flatten (map tail rows)) i 0 ≡ get_or
-        (us ++ flatten rows) (buffer_place Nodes i) 0
+        (us ++ flatten rows) (node_place i) 0
     go ih us (four a b c d) zero h = refl
     go ih us (four a b c d) (suc zero) h = refl
     go ih us (four a b c d) (suc (suc zero)) h = refl
     go ih us (four a b c d) (suc (suc (suc i))) h = ih i (omega arith) ∙ ap (λ j. get_or (a ∷ b ∷ c ∷ d ∷ flatten rows) j 0) next
       where
-        next : suc (suc (suc (suc (buffer_place Nodes i)))) ≡ buffer_place Nodes (suc (suc (suc i)))
+        next : suc (suc (suc (suc (node_place i)))) ≡ node_place (suc (suc (suc i)))
         next = omega arith
 
 pub nodes-size : {rows : List (List ℕ)} → Rows outline_sheet rows → length (flatten (map tail rows)) ≡ length rows * node_fields
@@ -84,20 +83,20 @@ module _ (places needed : ℕ) (text buffer : List ℕ) (n : ℕ) (k : Kept outl
   cell : (j : ℕ) → j < n * node_line_fields → get_or (flatten k.rows) j 0 ≡ get_or buffer j 0
   cell j h = let z = k.size in sym (ap (λ l. get_or l j 0) k.values ∙ get_or-append (flatten k.rows) _ 0 j (omega arith))
 
-  pub numbers-picked : picked Numbers buffer n ≡ map first k.rows
+  pub numbers-picked : picked number_place buffer n ≡ map first k.rows
   numbers-picked =
-      sym (is-from (λ i. get_or buffer (buffer_place Numbers i) 0) 0 n (map first k.rows) (length-map k.rows first ∙ sym k.number)
-      (λ i h. let c = k.number in place-cell k.ok.each i (omega arith) ∙ cell (buffer_place Numbers i) (omega arith)))
+      sym (is-from (λ i. get_or buffer (number_place i) 0) 0 n (map first k.rows) (length-map k.rows first ∙ sym k.number)
+      (λ i h. let c = k.number in place-cell k.ok.each i (omega arith) ∙ cell (number_place i) (omega arith)))
 
-  pub nodes-picked : picked Nodes buffer (n * node_fields) ≡ flatten (map tail k.rows)
-  nodes-picked = sym (is-from (λ i. get_or buffer (buffer_place Nodes i) 0) 0 (n * node_fields) (flatten (map tail k.rows))
+  pub nodes-picked : picked node_place buffer (n * node_fields) ≡ flatten (map tail k.rows)
+  nodes-picked = sym (is-from (λ i. get_or buffer (node_place i) 0) 0 (n * node_fields) (flatten (map tail k.rows))
       (nodes-size k.ok.each ∙ ap (λ m. m * node_fields) (sym k.number))
-      (λ i h. let c = k.number in node-cell k.ok.each i (omega arith) ∙ cell (buffer_place Nodes i) (omega arith)))
+      (λ i h. let c = k.number in node-cell k.ok.each i (omega arith) ∙ cell (node_place i) (omega arith)))
 
   -- ── The reader of outlines ──
 
   abbrev pub Rule-answer : Option Refusal
-  Rule-answer = ruled_sheet (picked Numbers buffer n) (nodes_of (picked Nodes buffer (n * node_fields)))
+  Rule-answer = ruled_sheet (picked number_place buffer n) (nodes_of (picked node_place buffer (n * node_fields)))
 
   checks : roomy places needed (ruled_result (sheet outline_sheet text)) ≡ ruled_rows Rule-answer k.rows
   unfolding ruled_result
@@ -109,7 +108,7 @@ module _ (places needed : ℕ) (text buffer : List ℕ) (n : ℕ) (k : Kept outl
 
   pub outline-stores : (t : List ℕ) → Rule-answer ≡ none
       → Reads (roomy places needed (ruled_result (sheet outline_sheet text))) (count n) t
-      (picked Nodes buffer (n * node_fields) ++ drop (n * node_fields) t)
+      (picked node_place buffer (n * node_fields) ++ drop (n * node_fields) t)
   outline-stores t e =
       let long : n * node_fields ≡ length (flatten (map tail k.rows)) = ap (λ m. m * node_fields) k.number
       ∙ sym (nodes-size k.ok.each) in

@@ -1,5 +1,5 @@
 -- A table that is filled from the front with what a function gives at 0, 1, 2 and on: what holds in the loop, for numbers and for bytes.
-use Prim.Native.Nat.{ℕ, suc, ◌+◌, ◌*◌, ◌<◌, ◌≤◌}
+use Prim.Native.Nat.{ℕ, suc, ◌+◌, ◌<◌, ◌≤◌}
 use mathlib.Core.Path.{◌≡◌, refl, sym, ap, ◌∙◌}
 use mathlib.Core.List.{List, [], ◌∷◌, ◌++◌}
 use native.Mathlib.Omega.{arith}
@@ -7,13 +7,8 @@ use native.Mathlib.Nat.{zero-add}
 use native.Mathlib.Numerals.{add-one}
 use lib.ListN.{length, get_or, drop, set, length-set, get_or-append}
 use lib.Seq.{drop-cons, set_at, append_snoc}
-use Rattle.usage.specs.Limits.{most_edges}
 use Rattle.usage.specs.Tables.{from}
 use Rattle.usage.proofs.TableLaws.{length_from, from-snoc, is-from}
-use Rattle.sheet_lines.specs.Answer.{most_values}
-use Rattle.sheet_reader.specs.declared.Pick.{Pick}
-use Rattle.sheet_reader.specs.declared.Pick.TheVariants.{Edges, Numbers, Nodes}
-use Rattle.sheet_reader.specs.Code.{width_of, buffer_place}
 
 -- the first i of m places are filled, and the others are as they were before
 abbrev pub Filled : (ℕ → ℕ) → List ℕ → ℕ → List ℕ → ℕ → Type 0
@@ -42,14 +37,3 @@ module _ (f : ℕ → ℕ) (before : List ℕ) (m : ℕ) where
 pub from_front : (l p q : List ℕ) (n : ℕ) → l ≡ p ++ q → length p ≡ n → from (λ i. get_or l i 0) 0 n ≡ p
 from_front l p q n e h =
     sym (is-from (λ i. get_or l i 0) 0 n p h (λ i k. sym (ap (λ s. get_or s i 0) e ∙ get_or-append p q 0 i (omega arith))))
-
--- what is picked of n lines stands in the buffer
-pub place-fits : (pick : Pick) (n i : ℕ) → n ≤ most_edges → i < n * width_of pick → buffer_place pick i < most_values
-place-fits Edges n i h l = omega arith
-place-fits Numbers n i h l = omega arith
-place-fits Nodes n i h l = omega arith
-
-pub few_bytes : (pick : Pick) (n : ℕ) → n ≤ most_edges → n * width_of pick ≤ most_values
-few_bytes Edges n h = omega arith
-few_bytes Numbers n h = omega arith
-few_bytes Nodes n h = omega arith

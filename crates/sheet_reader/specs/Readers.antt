@@ -1,15 +1,16 @@
 -- What the three readers answer and store.
-use Rattle.std.specs.Prelude.{ℕ, Bool, cond, ltb, length, get_or, drop}
+use Rattle.std.specs.Prelude.{Result as Returned, Ok, Err, ℕ, Bool, cond, ltb, length, get_or, drop}
 use Rattle.std.proofs.Math.Option.{Option, none, some}
 use mathlib.Core.List.{List, ◌++◌, map, tail, flatten}
 use Rattle.usage.specs.Limits.{edge_places, node_places, step_places}
 use Rattle.usage.specs.Answers.{Refusal}
+use Rattle.usage.specs.declared.SheetRefusal.{SheetRefusal}
+use Rattle.usage.specs.Reasons.{refusal_of}
 use Rattle.usage.specs.Tests.{ruled_sheet}
 use Rattle.usage.specs.Tables.{nodes_of}
 use Rattle.sheet_lines.specs.Sheet.{Result, accepted, refused, refuse_at, sheet}
 use Rattle.sheet_lines.specs.Sheets.{policy_sheet, is_local, trace_sheet, outline_sheet}
-use Rattle.sheet_reader.specs.declared.PolicyReading.{PolicyReading}
-use Rattle.sheet_reader.specs.declared.PolicyReading.TheVariants.{Stored, Refused}
+use Rattle.sheet_reader.specs.declared.PolicySheet.{PolicySheet}
 
 -- A text is read as a sheet of local policies where it has their names line, else as one of policies that see the whole past: "Refusal
 -- 1 now means neither names line" (02, L7). Which one it is, `is_local` says.
@@ -48,9 +49,9 @@ pub data PolicyAnswer : Type 0 where
   has_edges : ℕ → Bool → PolicyAnswer
   has_refusal : Refusal → PolicyAnswer
 
-abbrev pub policy_answer : PolicyReading → PolicyAnswer
-policy_answer (Stored n local) = has_edges n local
-policy_answer (Refused line number) = has_refusal record { line = line; number = number }
+abbrev pub policy_answer : Returned PolicySheet SheetRefusal → PolicyAnswer
+policy_answer (Ok s) = has_edges s.edges s.local
+policy_answer (Err r) = has_refusal (refusal_of r)
 
 unfoldable pub policies_answered : Bool → Result → PolicyAnswer
 policies_answered local (accepted rows) = has_edges (length rows) local

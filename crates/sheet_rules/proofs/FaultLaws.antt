@@ -1,5 +1,5 @@
 -- The laws of a whole table of nodes: every node in range, and the refusal by what is found.
-use Prim.Native.Nat.{ℕ, suc, ◌+◌, ◌-◌, ◌/◌, ◌%◌, ◌<◌, ◌≤◌}
+use Prim.Native.Nat.{ℕ, suc, ◌-◌, ◌/◌, ◌%◌, ◌<◌, ◌≤◌}
 use mathlib.Core.Path.{◌≡◌, refl, sym, ap, ◌∙◌}
 use mathlib.Core.Bool.{Bool, true, false, ◌&&◌}
 use mathlib.Core.Option.{Option, none, some}
@@ -15,33 +15,38 @@ use Rattle.usage.specs.Tables.{from, nodes_of, is_node_table}
 use Rattle.usage.proofs.TableLaws.{nodes-length}
 use Rattle.usage.proofs.Logic.{false-true}
 use Rattle.sheet_rules.specs.Code.{is_nothing}
+use Rattle.sheet_rules.specs.Faults.{fault}
+use Rattle.std.specs.Prelude.{Result as Returned, Ok, Err}
+use Rattle.std.specs.Result.{is_ok}
+use Rattle.usage.specs.declared.SheetRefusal.{SheetRefusal}
 
 -- ── The refusal ──
 
-module _ (t : List ℕ) (test : ℕ → Bool) where
-  pub no_node : length t < node_fields → ruled_by test (nodes_of t) ≡ some record { line = 2; number = 9 }
-  unfolding ruled_by nodes_of from
-  no_node h = rw empty refl
+module _ (t : List ℕ) where
+  pub no-nodes : length t < node_fields → no_nodes (nodes_of t) ≡ some record { line = 2; number = 9 }
+  unfolding nodes_of from
+  no-nodes h = rw empty refl
     where
       empty : length t / node_fields ≡ 0
       empty = omega arith
 
-  some_node : (m : ℕ) → length t / node_fields ≡ suc m → no_nodes (nodes_of t) ≡ none
+  pub some-nodes : node_fields ≤ length t → no_nodes (nodes_of t) ≡ none
   unfolding nodes_of from
-  some_node m e = rw e refl
-
-  -- after 9
-  abbrev pub after-nine : Option Refusal
-  after-nine = or_else (numbered 6 (lowest_failing test 0 (length t / node_fields)))
-      (or_else (numbered 7 (lowest_failing (back_ok_lem (nodes_of t)) 0 (length t / node_fields)))
-      (numbered 8 (lowest_failing (name_ok_lem (nodes_of t)) 0 (length t / node_fields))))
-
-  pub ruled-nodes : node_fields ≤ length t → ruled_by test (nodes_of t) ≡ after-nine
-  unfolding ruled_by
-  ruled-nodes h = rw (some_node (length t / node_fields - 1) one, nodes-length t) refl
+  some-nodes h = rw one refl
     where
       one : length t / node_fields ≡ suc (length t / node_fields - 1)
       one = omega arith
+
+  -- 7 and then 8
+  abbrev pub later : Option Refusal
+  later = or_else (numbered 7 (lowest_failing (back_ok_lem (nodes_of t)) 0 (length t / node_fields)))
+      (numbered 8 (lowest_failing (name_ok_lem (nodes_of t)) 0 (length t / node_fields)))
+
+  -- by what each part says
+  pub by-parts : (test : ℕ → Bool) {a b : Option Refusal} → a ≡ no_nodes (nodes_of t)
+      → b ≡ numbered 6 (lowest_failing test 0 (length t / node_fields)) → or_else a (or_else b later) ≡ ruled_by test (nodes_of t)
+  unfolding ruled_by
+  by-parts test e f = rw (e, f, nodes-length t) refl
 
 -- ── A table that is lent to be used ──
 
@@ -76,37 +81,40 @@ module _ (t : List ℕ) where
       pub fit : every node_ok (nodes_of t) ≡ true → is_node_table t ≡ is_none (ruled_by (tree_ok_lem (nodes_of t)) (nodes_of t))
       fit q = few_nodes ∙ ap (λ z. z && is_none (ruled_by (tree_ok_lem (nodes_of t)) (nodes_of t))) q
 
--- ── The refusal, by what is found ──
+-- ── A table whose nodes are in their ranges ──
 
-module _ (t : List ℕ) (test : ℕ → Bool) (h : node_fields ≤ length t) where
-  pub at-six : (k : ℕ) → lowest_failing test 0 (length t / node_fields) ≡ some k
-      → ruled_by test (nodes_of t) ≡ some record { line = k + 2; number = 6 }
-  at-six k e = ruled-nodes t test h ∙ rw e refl
-
-  module _ (e : lowest_failing test 0 (length t / node_fields) ≡ none) where
-    pub at-seven : (k : ℕ) → lowest_failing (back_ok_lem (nodes_of t)) 0 (length t / node_fields) ≡ some k
-        → ruled_by test (nodes_of t) ≡ some record { line = k + 2; number = 7 }
-    at-seven k f = ruled-nodes t test h ∙ rw (e, f) refl
-
-    module _ (f : lowest_failing (back_ok_lem (nodes_of t)) 0 (length t / node_fields) ≡ none) where
-      pub at-eight : (k : ℕ) → lowest_failing (name_ok_lem (nodes_of t)) 0 (length t / node_fields) ≡ some k
-          → ruled_by test (nodes_of t) ≡ some record { line = k + 2; number = 8 }
-      at-eight k g = ruled-nodes t test h ∙ rw (e, f, g) refl
-
-      pub clean : lowest_failing (name_ok_lem (nodes_of t)) 0 (length t / node_fields) ≡ none → ruled_by test (nodes_of t) ≡ none
-      clean g = ruled-nodes t test h ∙ rw (e, f, g) refl
-
-  -- whether a node fails the test for 6
-  pub six-none : is_nothing (lowest_failing test 0 (length t / node_fields)) ≡ true → lowest_failing test 0 (length t / node_fields) ≡ none
-  six-none e = go (lowest_failing test 0 (length t / node_fields)) e
+module _ (t : List ℕ) where
+  -- the rule for 6 holds of every node where none fails it
+  pub six-none : is_nothing (lowest_failing (tree_ok_lem (nodes_of t)) 0 (length t / node_fields)) ≡ true
+      → numbered 6 (lowest_failing (tree_ok_lem (nodes_of t)) 0 (length t / node_fields)) ≡ none
+  six-none e = go (lowest_failing (tree_ok_lem (nodes_of t)) 0 (length t / node_fields)) e
     where
-      go : (o : Option ℕ) → is_nothing o ≡ true → o ≡ none
+      go : (o : Option ℕ) → is_nothing o ≡ true → numbered 6 o ≡ none
       go (some k) e = false-true e
       go none e = refl
 
-  pub six-some : is_nothing (lowest_failing test 0 (length t / node_fields)) ≡ false → is_none (ruled_by test (nodes_of t)) ≡ false
-  six-some e = go (lowest_failing test 0 (length t / node_fields)) refl e
-    where
-      go : (o : Option ℕ) → lowest_failing test 0 (length t / node_fields) ≡ o → is_nothing o ≡ false → is_none (ruled_by test (nodes_of t)) ≡ false
-      go (some k) q e = ap is_none (at-six k q)
-      go none q e = false-true (sym e)
+  pub few-nodes : length t < node_fields → is_none (ruled_by (tree_ok_lem (nodes_of t)) (nodes_of t)) ≡ false
+  few-nodes h = sym (ap is_none (by-parts t (tree_ok_lem (nodes_of t)) (sym (no-nodes t h)) refl))
+
+  module _ (h : node_fields ≤ length t) where
+    ruled-six : (b : Option Refusal) → b ≡ numbered 6 (lowest_failing (tree_ok_lem (nodes_of t)) 0 (length t / node_fields))
+        → ruled_by (tree_ok_lem (nodes_of t)) (nodes_of t) ≡ or_else b (later t)
+    ruled-six b e = sym (by-parts t (tree_ok_lem (nodes_of t)) (sym (some-nodes t h)) e)
+
+    pub six-fails : is_nothing (lowest_failing (tree_ok_lem (nodes_of t)) 0 (length t / node_fields)) ≡ false
+        → is_none (ruled_by (tree_ok_lem (nodes_of t)) (nodes_of t)) ≡ false
+    six-fails e = go (lowest_failing (tree_ok_lem (nodes_of t)) 0 (length t / node_fields)) refl e
+      where
+        go : (o : Option ℕ) → lowest_failing (tree_ok_lem (nodes_of t)) 0 (length t / node_fields) ≡ o → is_nothing o ≡ false
+            → is_none (ruled_by (tree_ok_lem (nodes_of t)) (nodes_of t)) ≡ false
+        go (some k) q e = ap is_none (ruled-six _ (ap (numbered 6) (sym q)))
+        go none q e = false-true (sym e)
+
+    pub six-holds : is_nothing (lowest_failing (tree_ok_lem (nodes_of t)) 0 (length t / node_fields)) ≡ true
+        → is_none (ruled_by (tree_ok_lem (nodes_of t)) (nodes_of t)) ≡ is_none (later t)
+    six-holds e = ap is_none (ruled-six none (sym (six-none e)))
+
+-- a result is fine where it is no refusal
+pub fine : (r : Returned (Unit {0}) SheetRefusal) → is_ok r ≡ is_none (fault r)
+fine (Ok u) = refl
+fine (Err r) = refl

@@ -1,7 +1,7 @@
 -- Laws of the rules of an outline over a flat table of nodes, one for each way of the code.
 use Prim.Native.Nat.{ℕ, zero, suc, ◌+◌, ◌-◌, ◌*◌, ◌/◌, ◌<◌, ◌≤◌}
 use mathlib.Core.Path.{◌≡◌, refl, sym, ap, ◌∙◌}
-use mathlib.Core.Bool.{Bool, true, false, not, ◌&&◌}
+use mathlib.Core.Bool.{Bool, true, false, not, ◌&&◌, and-true}
 use mathlib.Core.Option.{none, some}
 use mathlib.Core.List.{List, [], ◌∷◌}
 use native.Mathlib.Omega.{arith}
@@ -9,46 +9,48 @@ use native.Mathlib.Nat.{sub-zero}
 use native.Mathlib.Numerals.{add-one}
 use lib.Dec.{eqb}
 use lib.ListN.{length, get_or, get_elem?}
-use borrow.Author.Tests.{not-true, not-false}
 use Rattle.usage.specs.Limits.{node_fields}
-use Rattle.usage.specs.Tests.{back_ok_lem, name_ok_lem, place_ok, is_some, all_of, above, some_below, gives_name_lem, first_of, lowest_failing}
+use Rattle.usage.specs.Outline.{form_at}
+use Rattle.usage.specs.Tests.{back_ok_lem, name_ok_lem, place_ok, is_some, loop_at, above, some_below, gives_name_lem, first_of, lowest_failing}
 use Rattle.usage.specs.Tables.{nodes_of}
 use Rattle.usage.proofs.Logic.{clash}
 use Rattle.sheet_fields.proofs.RangeLaws.{past_end}
-use Rattle.sheet_rules.specs.declared.node_rules.Ancestor.TheVariants.{Loop, Giver}
-use Rattle.sheet_rules.specs.Code.{sought, field_of}
 use Rattle.sheet_rules.proofs.NodeLaws.{target_at, uses-at, gives_at, other-kind, this-kind}
 
 -- ── One node ──
 
 module _ (t : List ℕ) (k : ℕ) (h : k < length t / node_fields) where
-  pub back_by : back_ok_lem (nodes_of t) k ≡ all_of (λ a. above (nodes_of t) (sought Loop (nodes_of t) a) k k) (field_of t k 6 1)
+  -- node k lies inside the loop that its back names
+  pub back-none : (get_or t (node_fields * k) 0 ≡ 6 → ⊥) → back_ok_lem (nodes_of t) k ≡ true
   unfolding back_ok_lem
-  back_by = ap (all_of (λ a. above (nodes_of t) (sought Loop (nodes_of t) a) k k)) (target_at t k h)
+  back-none e = rw (target_at t k h, other-kind t k 6 1 e) refl
 
-  -- no lower node gives the name that node k gives
-  abbrev Given-once : Bool
-  Given-once = all_of (λ n. not (some_below (gives_name_lem (nodes_of t) n) k)) (field_of t k 7 1)
+  pub back-some : get_or t (node_fields * k) 0 ≡ 6
+      → back_ok_lem (nodes_of t) k ≡ above (nodes_of t) (λ j. eqb j (get_or t (node_fields * k + 1) 0) && loop_at (form_at (nodes_of t) j)) k k
+  unfolding back_ok_lem
+  back-some e = rw (target_at t k h, this-kind t k 6 1 e) refl
 
-  -- r is whether a name that node k uses is given above it
-  module _ (r : Bool) (e : r ≡ all_of (λ n. above (nodes_of t) (sought Giver (nodes_of t) n) k k) (field_of t k 2 2)) where
-    name_by : name_ok_lem (nodes_of t) k ≡ r && Given-once
-    unfolding name_ok_lem
-    name_by = rw (uses-at t k h, gives_at t k h, e) refl
+  -- by the kind: a node uses a name, or gives one, or does neither
+  pub name-used : get_or t (node_fields * k) 0 ≡ 2
+      → name_ok_lem (nodes_of t) k ≡ above (nodes_of t) (gives_name_lem (nodes_of t) (get_or t (node_fields * k + 2) 0)) k k
+  unfolding name_ok_lem
+  name-used e = rw (uses-at t k h, gives_at t k h, this-kind t k 2 2 e, other-kind t k 7 1 (λ q. absurd (two-seven e q)))
+      (and-true (above (nodes_of t) (gives_name_lem (nodes_of t) (get_or t (node_fields * k + 2) 0)) k k))
+    where
+      two-seven : {n : ℕ} → n ≡ 2 → n ≡ 7 → ⊥
+      two-seven e q = omega arith
 
-    pub name-outside : not r ≡ true → name_ok_lem (nodes_of t) k ≡ false
-    name-outside q = name_by ∙ ap (λ z. z && Given-once) (not-true r q)
+  pub name-given : get_or t (node_fields * k) 0 ≡ 7
+      → name_ok_lem (nodes_of t) k ≡ not (some_below (gives_name_lem (nodes_of t) (get_or t (node_fields * k + 1) 0)) k)
+  unfolding name_ok_lem
+  name-given e = rw (uses-at t k h, gives_at t k h, other-kind t k 2 2 (λ q. absurd (seven-two e q)), this-kind t k 7 1 e) refl
+    where
+      seven-two : {n : ℕ} → n ≡ 7 → n ≡ 2 → ⊥
+      seven-two e q = omega arith
 
-    module _ (q : not r ≡ false) where
-      name-inside : name_ok_lem (nodes_of t) k ≡ Given-once
-      name-inside = name_by ∙ ap (λ z. z && Given-once) (not-false r q)
-
-      pub gives_none : (get_or t (node_fields * k) 0 ≡ 7 → ⊥) → name_ok_lem (nodes_of t) k ≡ true
-      gives_none z = name-inside ∙ ap (all_of (λ n. not (some_below (gives_name_lem (nodes_of t) n) k))) (other-kind t k 7 1 z)
-
-      pub gives_one : get_or t (node_fields * k) 0 ≡ 7
-          → name_ok_lem (nodes_of t) k ≡ not (some_below (gives_name_lem (nodes_of t) (get_or t (node_fields * k + 1) 0)) k)
-      gives_one z = name-inside ∙ ap (all_of (λ n. not (some_below (gives_name_lem (nodes_of t) n) k))) (this-kind t k 7 1 z)
+  pub no-name : (get_or t (node_fields * k) 0 ≡ 2 → ⊥) → (get_or t (node_fields * k) 0 ≡ 7 → ⊥) → name_ok_lem (nodes_of t) k ≡ true
+  unfolding name_ok_lem
+  no-name d e = rw (uses-at t k h, gives_at t k h, other-kind t k 2 2 d, other-kind t k 7 1 e) refl
 
 element : (l : List ℕ) (k : ℕ) → k < length l → get_elem? l k ≡ some (get_or l k 0)
 element [] k h = absurd (omega arith)

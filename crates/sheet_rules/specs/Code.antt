@@ -1,14 +1,7 @@
 -- What only the functions compute: the fields of a node in a flat table, and the rules of a node (refusals 6, 7, 8).
-use Rattle.std.specs.Prelude.{ℕ, ◌+◌, ◌*◌, Bool, true, false, cond, ◌&&◌, List, ◌∷◌, eqb, get_or}
+use Rattle.std.specs.Prelude.{ℕ, ◌+◌, ◌*◌, Bool, true, false, cond, List, ◌∷◌, eqb, get_or}
 use Rattle.std.proofs.Math.Option.{Option, none, some}
-use Rattle.usage.specs.declared.Node.{Node}
 use Rattle.usage.specs.Limits.{node_fields}
-use Rattle.usage.specs.Outline.{form_at}
-use Rattle.usage.specs.Tests.{loop_at, gives_name_lem}
-use Rattle.sheet_rules.specs.declared.node_rules.Ancestor.{Ancestor}
-use Rattle.sheet_rules.specs.declared.node_rules.Ancestor.TheVariants.{Loop, Giver}
-use Rattle.sheet_rules.specs.declared.node_rules.Found.{Found}
-use Rattle.sheet_rules.specs.declared.node_rules.Found.TheVariants.{At, Nothing}
 
 -- x at the front where it is a child number
 abbrev pub child_if : Bool → ℕ → List ℕ → List ℕ
@@ -18,15 +11,6 @@ child_if false x l = l
 -- a field of node k, where the node is of that kind
 abbrev pub field_of : List ℕ → ℕ → ℕ → ℕ → Option ℕ
 field_of t k kind field = cond (eqb (get_or t (node_fields * k) 0) kind) (some (get_or t (node_fields * k + field) 0)) none
-
--- the ancestor that is sought: the loop of that number, or a node that gives that name
-abbrev pub sought : Ancestor → List Node → ℕ → ℕ → Bool
-sought Loop ns x j = eqb j x && loop_at (form_at ns j)
-sought Giver ns x j = gives_name_lem ns x j
-
-abbrev pub found : Found → Option ℕ
-found (At k) = some k
-found Nothing = none
 
 -- no node was found
 abbrev pub is_nothing : Option ℕ → Bool

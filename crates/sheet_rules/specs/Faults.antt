@@ -1,9 +1,10 @@
 -- The refusal of a table of nodes, as document 01's line and number.
+use Rattle.std.specs.Prelude.{Result as Returned, Ok, Err}
 use Rattle.std.proofs.Math.Option.{Option, none, some}
 use Rattle.usage.specs.Answers.{Refusal}
-use Rattle.sheet_rules.specs.declared.Fault.{Fault}
-use Rattle.sheet_rules.specs.declared.Fault.TheVariants.{Clean, Refused}
+use Rattle.usage.specs.declared.SheetRefusal.{SheetRefusal}
+use Rattle.usage.specs.Reasons.{refusal_of}
 
-abbrev pub fault : Fault → Option Refusal
-fault Clean = none
-fault (Refused line number) = some record { line = line; number = number }
+abbrev pub fault : Returned (Unit {0}) SheetRefusal → Option Refusal
+fault (Ok u) = none
+fault (Err r) = some (refusal_of r)

@@ -2,73 +2,72 @@
 // lent (41).
 #![tactic(auto)]
 
-ghost use Rattle.std.specs.Prelude.{◌≡◌};
+ghost use Rattle.std.specs.Prelude.{◌≡◌, ℕ, Bool, ◌/◌, ◌<◌, length};
+ghost use Rattle.usage.specs.Limits.{node_fields};
 ghost use Rattle.usage.specs.Tables.{nodes_of, is_node_table};
-ghost use Rattle.usage.specs.Tests.{every, node_ok, ruled_by};
-ghost use Rattle.sheet_rules.specs.Rules.{passes as passes_of};
+ghost use Rattle.usage.specs.Tests.{every, node_ok, back_ok_lem, name_ok_lem, lowest_failing, or_else, numbered, no_nodes, ruled_by, ruled as ruled_nodes, ruled_sheet as ruled_lines};
 ghost use Rattle.sheet_rules.specs.Faults.{fault};
 
-use crate::node_rules::Found;
-use usage::{NODE_FIELDS, NODE_TABLE};
+use crate::node_rules::{back_ok, each, name_ok, place_and_tree_ok};
+use crate::tree::{tree_ok, trees_ok};
+use usage::{NODE_FIELDS, NODE_TABLE, Reason, SheetRefusal};
 
 mod node_rules;
 mod tree;
 
-// The refusal of a table of nodes.
-#[derive(Clone, Copy)]
-pub enum Fault {
-    Clean,
-    Refused { line: usize, number: u8 },
+// The rules of a table of nodes, where what 6 asks of node k is handed in. Document 01: "then 9, 6, 7, 8, each over all nodes".
+pub fn ruled_where<F: Fn(usize) -> bool>(table: &[u8], passes: F) -> Result<(), SheetRefusal>
+    ghost test: { ℕ → Bool }
+    requires callable { (k : ℕ) → k < length table.now / node_fields → F.pre passes k }
+    requires tells { (k : ℕ) (r : Bool) → k < length table.now / node_fields → F.post passes k r → r ≡ test k }
+    ensures { fault result ≡ ruled_by test (nodes_of table.now) }
+{
+    some_node(table)?;
+    each(table, Reason::Tree, passes)?;
+    loops_and_names(table)
 }
 
-// One rule, asked of a node. `Place` is refusal 6 of a sheet, whose lines hold node numbers of their own, and `Tree` that of a table.
-#[derive(Clone, Copy)]
-pub enum Rule {
-    Place,
-    Tree,
-    Back,
-    Name,
+// Those of a sheet of nodes, whose lines hold these numbers.
+pub fn ruled_sheet(table: &[u8], places: &[u8]) -> Result<(), SheetRefusal>
+    ensures { fault result ≡ ruled_lines places.now (nodes_of table.now) }
+{
+    ruled_where(table, |k| { place_and_tree_ok(table, places, k) })
 }
 
-// Document 01: "then 9, 6, 7, 8, each over all nodes". The first rule is the one for 6.
-pub fn ruled(table: &[u8], places: &[u8], first: Rule) -> Fault
-    ensures { fault result
-        ≡ ruled_by (passes_of first places.now (nodes_of table.now)) (nodes_of table.now) }
+// Those of a table that is lent.
+pub fn ruled(table: &[u8]) -> Result<(), SheetRefusal>
+    ensures { fault result ≡ ruled_nodes (nodes_of table.now) }
+{
+    ruled_where(table, |k| tree_ok(table, k))
+}
+
+fn some_node(table: &[u8]) -> Result<(), SheetRefusal>
+    ensures { fault result ≡ no_nodes (nodes_of table.now) }
 {
     if table.len() < NODE_FIELDS {
-        return Fault::Refused { line: 2, number: 9 };
+        return Err(SheetRefusal {
+            line: 2,
+            reason: Reason::NoNodes,
+        });
     }
-    let six = crate::node_rules::lowest(table, places, first);
-    if let Found::At(k) = six {
-        return Fault::Refused {
-            line: k + 2,
-            number: 6,
-        };
-    }
-    let seven = crate::node_rules::lowest(table, places, Rule::Back);
-    if let Found::At(k) = seven {
-        return Fault::Refused {
-            line: k + 2,
-            number: 7,
-        };
-    }
-    let eight = crate::node_rules::lowest(table, places, Rule::Name);
-    if let Found::At(k) = eight {
-        return Fault::Refused {
-            line: k + 2,
-            number: 8,
-        };
-    }
-    Fault::Clean
+    Ok(())
+}
+
+// 7 and then 8.
+fn loops_and_names(table: &[u8]) -> Result<(), SheetRefusal>
+    ensures { fault result
+        ≡ or_else (numbered 7 (lowest_failing (back_ok_lem (nodes_of table.now)) 0 (length table.now / node_fields)))
+        (numbered 8 (lowest_failing (name_ok_lem (nodes_of table.now)) 0 (length table.now / node_fields))) }
+{
+    each(table, Reason::Back, |k| back_ok(table, k))?;
+    each(table, Reason::Name, |k| name_ok(table, k))
 }
 
 // The fields of every node are in their ranges.
 pub fn all_fit(table: &[u8]) -> bool
     ensures { result ≡ every node_ok (nodes_of table.now) }
 {
-    let n = table.len() / NODE_FIELDS;
-    let mut k: usize = 0;
-    while k < n {
+    for k in 0..table.len() / NODE_FIELDS {
         if !sheet_fields::node_fits(
             table[NODE_FIELDS * k] as u32,
             table[NODE_FIELDS * k + 1] as u32,
@@ -76,7 +75,6 @@ pub fn all_fit(table: &[u8]) -> bool
         ) {
             return false;
         }
-        k += 1;
     }
     true
 }
@@ -97,16 +95,8 @@ pub fn node_table_ok(table: &[u8]) -> bool
     if table.len() < NODE_FIELDS {
         return false;
     }
-    if !crate::tree::trees_ok(table) {
+    if !trees_ok(table) {
         return false;
     }
-    let seven = crate::node_rules::lowest(table, b"", Rule::Back);
-    if let Found::At(_k) = seven {
-        return false;
-    }
-    let eight = crate::node_rules::lowest(table, b"", Rule::Name);
-    match eight {
-        Found::At(_k) => false,
-        Found::Nothing => true,
-    }
+    loops_and_names(table).is_ok()
 }

@@ -1,54 +1,61 @@
 // Refusals 6, 7 and 8 over a flat table of nodes, three numbers to a node: the lowest node that breaks a rule.
-ghost use Rattle.std.specs.Prelude.{◌≡◌, ◌/◌, ◌<◌, ◌≤◌, length};
+ghost use Rattle.std.specs.Prelude.{◌≡◌, ℕ, Bool, ◌/◌, ◌<◌, ◌≤◌, ◌&&◌, eqb, length};
 ghost use Rattle.usage.specs.Limits.{node_fields};
+ghost use Rattle.usage.specs.Reasons.{number_of};
 ghost use Rattle.usage.specs.Tables.{nodes_of};
-ghost use Rattle.usage.specs.Tests.{back_ok_lem, name_ok_lem, place_ok, lowest_failing as lowest-of, all_of, above, some_below, gives_name_lem};
-ghost use Rattle.sheet_rules.specs.Rules.{passes as passes_of};
-ghost use Rattle.sheet_rules.specs.Code.{found, sought, field_of};
+ghost use Rattle.usage.specs.Outline.{form_at};
+ghost use Rattle.usage.specs.Tests.{tree_ok_lem, back_ok_lem, name_ok_lem, place_ok, lowest_failing, numbered, above, some_below, loop_at, gives_name_lem};
+ghost use Rattle.sheet_rules.specs.Faults.{fault};
 
-use crate::Rule;
-use usage::NODE_FIELDS;
+use usage::{NODE_FIELDS, Reason, SheetRefusal};
 
-// The lowest node that breaks a rule.
-#[derive(Clone, Copy)]
-pub(crate) enum Found {
-    At(usize),
-    Nothing,
-}
-
-// Where node k is of that kind, it lies inside the node that a field of it names: by its number, or by the name that it gives.
-fn named_above(nodes: &[u8], what: Ancestor, kind: u8, field: usize, k: usize) -> bool
-    requires k_in_bounds { k < length nodes.now / node_fields }
-    requires field_lt_node_fields { field < node_fields }
-    ensures { result ≡ all_of (λ x. above (nodes_of nodes.now) (sought what (nodes_of nodes.now) x) k k)
-        (field_of nodes.now k kind field) }
+// The lowest node that does not pass is refused.
+pub(crate) fn each<F: Fn(usize) -> bool>(
+    table: &[u8],
+    reason: Reason,
+    passes: F,
+) -> Result<(), SheetRefusal>
+    ghost test: { ℕ → Bool }
+    requires callable { (k : ℕ) → k < length table.now / node_fields → F.pre passes k }
+    requires tells { (k : ℕ) (r : Bool) → k < length table.now / node_fields → F.post passes k r → r ≡ test k }
+    ensures { fault result ≡ numbered (number_of reason) (lowest_failing test 0 (length table.now / node_fields)) }
 {
-    if nodes[NODE_FIELDS * k] != kind {
-        return true;
+    for k in 0..table.len() / NODE_FIELDS {
+        if !passes(k) {
+            return Err(SheetRefusal {
+                line: k + 2,
+                reason,
+            });
+        }
     }
-    inside(nodes, what, nodes[NODE_FIELDS * k + field], k)
+    Ok(())
 }
 
 // Document 01: "lowest back not inside a loop node of that number".
-fn back_ok(table: &[u8], k: usize) -> bool
+pub(crate) fn back_ok(table: &[u8], k: usize) -> bool
     requires { k < length table.now / node_fields }
     ensures { result ≡ back_ok_lem (nodes_of table.now) k }
 {
-    named_above(table, Ancestor::Loop, 6, 1, k)
+    if table[NODE_FIELDS * k] != 6 {
+        return true;
+    }
+    let x = table[NODE_FIELDS * k + 1];
+    inside(table, k, |j| is_loop(table, x as usize, j))
 }
 
 // Document 01: "uses a name outside its fresh node, or gives one that a lower node gives".
-fn name_ok(table: &[u8], k: usize) -> bool
+pub(crate) fn name_ok(table: &[u8], k: usize) -> bool
     requires { k < length table.now / node_fields }
     ensures { result ≡ name_ok_lem (nodes_of table.now) k }
 {
-    if !named_above(table, Ancestor::Giver, 2, 2, k) {
-        return false;
+    match table[NODE_FIELDS * k] {
+        2 => {
+            let x = table[NODE_FIELDS * k + 2];
+            inside(table, k, |j| gives_name(table, x, j))
+        }
+        7 => !given_below(table, table[NODE_FIELDS * k + 1], k),
+        _ => true,
     }
-    if table[NODE_FIELDS * k] != 7 {
-        return true;
-    }
-    !given_below(table, table[NODE_FIELDS * k + 1], k)
 }
 
 // Document 01: "whose number is not its place".
@@ -61,9 +68,10 @@ fn placed(places: &[u8], k: usize) -> bool
     places[k] as usize == k
 }
 
-fn place_and_tree_ok(table: &[u8], places: &[u8], k: usize) -> bool
+// What refusal 6 asks of a node of a sheet.
+pub(crate) fn place_and_tree_ok(table: &[u8], places: &[u8], k: usize) -> bool
     requires { k < length table.now / node_fields }
-    ensures { result ≡ passes_of Rule.Place places.now (nodes_of table.now) k }
+    ensures { result ≡ (place_ok places.now k && tree_ok_lem (nodes_of table.now) k) }
 {
     if !placed(places, k) {
         return false;
@@ -71,45 +79,10 @@ fn place_and_tree_ok(table: &[u8], places: &[u8], k: usize) -> bool
     crate::tree::tree_ok(table, k)
 }
 
-fn passes(table: &[u8], places: &[u8], rule: Rule, k: usize) -> bool
-    requires { k < length table.now / node_fields }
-    ensures { result ≡ passes_of rule places.now (nodes_of table.now) k }
-{
-    match rule {
-        Rule::Place => place_and_tree_ok(table, places, k),
-        Rule::Tree => crate::tree::tree_ok(table, k),
-        Rule::Back => back_ok(table, k),
-        Rule::Name => name_ok(table, k),
-    }
-}
-
-// The lowest node that breaks a rule.
-pub(crate) fn lowest(table: &[u8], places: &[u8], rule: Rule) -> Found
-    ensures { found result
-        ≡ lowest-of (passes_of rule places.now (nodes_of table.now)) 0 (length table.now / node_fields) }
-{
-    let n = table.len() / NODE_FIELDS;
-    let mut k: usize = 0;
-    while k < n {
-        if !passes(table, places, rule, k) {
-            return Found::At(k);
-        }
-        k += 1;
-    }
-    Found::Nothing
-}
-
-// What is sought among the nodes that a node lies inside: a loop by its number, or a fresh node by its name.
-#[derive(Clone, Copy)]
-enum Ancestor {
-    Loop,
-    Giver,
-}
-
-// Node j is a loop.
+// Node j is a loop, and node x.
 fn is_loop(nodes: &[u8], x: usize, j: usize) -> bool
     requires { j < length nodes.now / node_fields }
-    ensures { result ≡ sought Ancestor.Loop (nodes_of nodes.now) x j }
+    ensures { result ≡ (eqb j x && loop_at (form_at (nodes_of nodes.now) j)) }
 {
     if j != x {
         return false;
@@ -128,28 +101,19 @@ fn gives_name(nodes: &[u8], x: u8, j: usize) -> bool
     nodes[NODE_FIELDS * j + 1] == x
 }
 
-fn is_sought(nodes: &[u8], what: Ancestor, x: u8, j: usize) -> bool
-    requires { j < length nodes.now / node_fields }
-    ensures { result ≡ sought what (nodes_of nodes.now) x j }
-{
-    match what {
-        Ancestor::Loop => is_loop(nodes, x as usize, j),
-        Ancestor::Giver => gives_name(nodes, x, j),
-    }
-}
-
 // Node k lies inside a node that is sought. Every parent is lower than its child, so one way down from k meets all of them; `at` is
 // the highest met so far.
-fn inside(nodes: &[u8], what: Ancestor, x: u8, k: usize) -> bool
-    requires { k < length nodes.now / node_fields }
-    ensures { result ≡ above (nodes_of nodes.now) (sought what (nodes_of nodes.now) x) k k }
+fn inside<F: Fn(usize) -> bool>(nodes: &[u8], k: usize, sought: F) -> bool
+    ghost test: { ℕ → Bool }
+    requires k_in_bounds { k < length nodes.now / node_fields }
+    requires callable { (j : ℕ) → j < k → F.pre sought j }
+    requires tells { (j : ℕ) (r : Bool) → j < k → F.post sought j r → r ≡ test j }
+    ensures { result ≡ above (nodes_of nodes.now) test k k }
 {
     let mut at = k;
-    let mut j = k;
-    while 0 < j {
-        j -= 1;
+    for j in (0..k).rev() {
         if crate::tree::is_child(nodes, j, at) {
-            if is_sought(nodes, what, x, j) {
+            if sought(j) {
                 return true;
             }
             at = j;
@@ -163,9 +127,7 @@ fn given_below(nodes: &[u8], x: u8, k: usize) -> bool
     requires { k ≤ length nodes.now / node_fields }
     ensures { result ≡ some_below (gives_name_lem (nodes_of nodes.now) x) k }
 {
-    let mut j = k;
-    while 0 < j {
-        j -= 1;
+    for j in (0..k).rev() {
         if gives_name(nodes, x, j) {
             return true;
         }

@@ -46,12 +46,10 @@ pub(crate) fn trees_ok(table: &[u8]) -> bool
 {
     let n = table.len() / NODE_FIELDS;
     let counts = children_counted(table);
-    let mut k: usize = 0;
-    while k < n {
+    for k in 0..n {
         if !tree_by(table, k, counts[k] as usize) {
             return false;
         }
-        k += 1;
     }
     true
 }
@@ -70,7 +68,7 @@ pub(crate) fn is_child(nodes: &[u8], p: usize, c: usize) -> bool
     0 < times
 }
 
-// Which fields of a kind are child numbers.
+// Which fields of a kind are child numbers. Kept: two flags, which the kind alone decides; an option of each field is no plainer.
 #[derive(Clone, Copy)]
 struct ChildFields {
     pub a: bool,
@@ -143,15 +141,13 @@ fn times_child(nodes: &[u8], c: usize) -> usize
 {
     let n = nodes.len() / NODE_FIELDS;
     let mut count: usize = 0;
-    let mut j: usize = 0;
-    while j < n {
+    for j in 0..n {
         count += names_child(
             nodes[NODE_FIELDS * j],
             nodes[NODE_FIELDS * j + 1],
             nodes[NODE_FIELDS * j + 2],
             c,
         );
-        j += 1;
     }
     count
 }
@@ -168,7 +164,7 @@ fn counted(mut counts: [u8; MOST_NODES], child: bool, x: u8) -> [u8; MOST_NODES]
     if MOST_NODES <= c {
         return counts;
     }
-    counts[c] = counts[c] + 1;
+    counts[c] += 1;
     counts
 }
 
@@ -179,12 +175,10 @@ fn children_counted(table: &[u8]) -> [u8; MOST_NODES]
 {
     let n = table.len() / NODE_FIELDS;
     let mut counts = [0u8; MOST_NODES];
-    let mut j: usize = 0;
-    while j < n {
+    for j in 0..n {
         let f = child_fields(table[NODE_FIELDS * j]);
         let once = counted(counts, f.a, table[NODE_FIELDS * j + 1]);
         counts = counted(once, f.b, table[NODE_FIELDS * j + 2]);
-        j += 1;
     }
     counts
 }

@@ -7,7 +7,7 @@ use native.Mathlib.Nat.{zero-add}
 use native.Mathlib.Numerals.{add-one}
 use native.Mathlib.Omega.{arith}
 use lib.ListN.{length, get_or, take, length-append}
-use lib.Seq.{sets, length-sets, take-suc}
+use lib.Seq.{sets, length-sets, take-suc, take-length}
 use Rattle.usage.specs.declared.Edge.{Edge}
 use Rattle.sheet_lines.specs.Sheets.{policy_names_lem}
 use Rattle.sheet_lines.proofs.NamesLaws.{names-short}
@@ -102,20 +102,20 @@ one_line {out} {at} {ks} {i} l h k e t =
     }
 
 -- a names line before all lines
-pub named-lines : {a : ℕ} {named : List ℕ} {r : ℕ} {after : List ℕ} (local : Bool) (out ks : List ℕ) (n i : ℕ)
-    → i ≡ n → 29 ≤ length out → a ≡ end_at out 0 (policy_names_lem local) → named ≡ put_at out 0 (policy_names_lem local) → Lines named a ks i r after
-    → (r ≡ length (keys_text local (take n ks))) × (after ≡ sets out 0 (keys_text local (take n ks)))
+pub named-lines : {a : ℕ} {named : List ℕ} {r : ℕ} {after : List ℕ} (local : Bool) (out ks : List ℕ) (i : ℕ)
+    → i ≡ length ks → 29 ≤ length out → a ≡ end_at out 0 (policy_names_lem local) → named ≡ put_at out 0 (policy_names_lem local) → Lines named a ks i r after
+    → (r ≡ length (keys_text local ks)) × (after ≡ sets out 0 (keys_text local ks))
 unfolding keys_text
-named-lines {r = r} {after = after} local out ks n i same room e t l =
+named-lines {r = r} {after = after} local out ks i same room e t l =
     let names = policy_names_lem local in
     let z = begin-stored out names (omega (arith, names-short local)) e t in
     let p = z.0 in
     let q = l.end in
-    let f = ap (λ (j : ℕ). keys_lines (take j ks)) same in (
-      omega (arith, ap length f, length-append names (keys_lines (take n ks))),
+    let f = ap (λ (j : ℕ). keys_lines (take j ks)) same ∙ ap keys_lines (take-length ks) in (
+      omega (arith, ap length f, length-append names (keys_lines ks)),
       l.holds ∙ ap (sets _ _) f
-          ∙ ap₂ (λ (m : List ℕ) (j : ℕ). sets m j (keys_lines (take n ks))) z.1 (z.0 ∙ sym (zero-add (length names)))
-          ∙ sym (sets-append out 0 names (keys_lines (take n ks))),
+          ∙ ap₂ (λ (m : List ℕ) (j : ℕ). sets m j (keys_lines ks)) z.1 (z.0 ∙ sym (zero-add (length names)))
+          ∙ sym (sets-append out 0 names (keys_lines ks)),
     )
 
 -- how long the names line is

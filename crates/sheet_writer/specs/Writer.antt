@@ -1,15 +1,15 @@
 -- "Write any accepted policy sheet again" (02, L12): what is answered, and what the lent sheet holds.
-use Rattle.std.specs.Prelude.{ℕ, Bool, cond, ltb, length, drop}
+use Rattle.std.specs.Prelude.{ℕ, Bool, Result as Returned, Ok, Err, cond, ltb, length, drop}
 use mathlib.Core.List.{List, [], ◌++◌, flatten}
 use Rattle.usage.specs.declared.Edge.{Edge}
 use Rattle.usage.specs.Limits.{longest_sheet}
 use Rattle.usage.specs.Answers.{Refusal}
+use Rattle.usage.specs.declared.SheetRefusal.{SheetRefusal}
+use Rattle.usage.specs.Reasons.{refusal_of}
 use Rattle.usage.specs.Tables.{edges_of}
 use Rattle.sheet_lines.specs.Sheet.{Result, accepted, refused}
 use Rattle.sheet_lines.specs.Sheets.{is_local}
 use Rattle.sheet_reader.specs.Readers.{policies_read}
-use Rattle.sheet_writer.specs.declared.Writing.{Writing}
-use Rattle.sheet_writer.specs.declared.Writing.TheVariants.{Written, Refused}
 use Rattle.sheet_writer.specs.Text.{sheet_text}
 
 -- the sheet written again; or the refusal of one that is not accepted
@@ -36,9 +36,9 @@ pub data WritingAnswer : Type 0 where
   has_length : ℕ → WritingAnswer
   has_none : Refusal → WritingAnswer
 
-abbrev pub writing_answer : Writing → WritingAnswer
-writing_answer (Written n) = has_length n
-writing_answer (Refused line number) = has_none record { line = line; number = number }
+abbrev pub writing_answer : Returned ℕ SheetRefusal → WritingAnswer
+writing_answer (Ok n) = has_length n
+writing_answer (Err r) = has_none (refusal_of r)
 
 unfoldable pub rewriting_answer : Rewriting → WritingAnswer
 rewriting_answer (is_written t) = has_length (length t)

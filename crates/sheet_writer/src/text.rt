@@ -1,26 +1,21 @@
 // The text of edges, which are given by their keys.
-ghost use Rattle.std.specs.Prelude.{◌≡◌, ◌+◌, ◌≤◌, length, take};
+ghost use Rattle.std.specs.Prelude.{◌≡◌, ◌+◌, ◌≤◌, length};
 ghost use Rattle.std.proofs.lemmas.List.Edits.{sets};
 ghost use Rattle.usage.specs.Limits.{most_edges, longest_sheet};
 ghost use Rattle.report_lines.specs.Lines.{values_room};
 ghost use Rattle.sheet_writer.specs.Text.{edge_text};
 ghost use Rattle.sheet_writer.specs.Code.{edge_of_key, keys_text};
 
-use usage::MOST_EDGES;
-
-// The sheet of the edges with the first n keys, at the start of `out`: its length.
-pub(crate) fn write(keys: &[u32; MOST_EDGES], n: usize, local: bool, out: &mut [u8]) -> usize
-    requires n_le_most_edges { n ≤ most_edges }
-    requires keys_len { length keys.now ≡ most_edges }
+// The sheet of the edges with these keys, at the start of `out`: its length.
+pub(crate) fn write(keys: &[u32], local: bool, out: &mut [u8]) -> usize
+    requires keys_le_most_edges { length keys.now ≤ most_edges }
     requires longest_sheet_in_bounds { longest_sheet ≤ length out.old }
-    ensures value { result ≡ length (keys_text local (take n keys.now)) }
-    ensures out_after { out.new ≡ sets out.old 0 (keys_text local (take n keys.now)) }
+    ensures value { result ≡ length (keys_text local keys.now) }
+    ensures out_after { out.new ≡ sets out.old 0 (keys_text local keys.now) }
 {
     let mut at = report_lines::policy_names(out, local);
-    let mut i: usize = 0;
-    while i < n {
-        at = edge(out, at, keys[i]);
-        i += 1;
+    for k in keys {
+        at = edge(out, at, *k);
     }
     at
 }

@@ -17,6 +17,7 @@ use Rattle.usage.specs.Tests.{above, back_ok_lem, gives_name_lem, name_ok_lem, l
 use Rattle.usage.specs.Answers.{violated}
 use Rattle.usage.specs.Check.{Leaves, Checked, accepts, names}
 use Rattle.usage.proofs.Decides.{refutes}
+use mathlib.Core.Logic.{inl}
 use Rattle.usage.proofs.Logic.{by_cases}
 use Rattle.usage.proofs.TableLaws.{decides-edge-table, decides-node-table}
 use Rattle.checker_account.specs.Account.{watched}
@@ -25,7 +26,7 @@ use Rattle.checker_account.specs.Tables.{one_resource, places, rows_in}
 use Rattle.checker_account.specs.Filling.{forms_in, one, SearchedAll, found}
 use Rattle.checker_account.specs.RowTable.{fill_rows}
 use Rattle.checker.specs.Code.{opens, pair_in}
-use Rattle.checker.proofs.PolicyLaws.{shut, looked}
+use Rattle.checker.proofs.PolicyLaws.{unmoved, looked}
 use Rattle.test_cases.specs.JudgeCases.{P}
 use Rattle.test_cases.specs.Cases.{CheckRight, edges_j, edges_k, nodes_i, nodes_j, nodes_l, case_i, case_j, case_k, case_l}
 use Rattle.test_cases.proofs.Searches.{any_static, row_table, stays_by, stays_at, tells-by, tells_at, told_at, none_told}
@@ -35,7 +36,7 @@ use Rattle.test_cases.proofs.Searches.{any_static, row_table, stays_by, stays_at
 module _ (local : Bool) (e t : List ℕ) (edges : EdgeTable e) (nodes : NodeTable t) where
   -- a policy that no sandbox opens is never left open
   pub not_left : (p : ℕ) → opens t p ≡ false → Leaves local (edges_of e) (nodes_of t) p → ⊥
-  not_left p h = refutes (shut local e t edges.edges nodes.outline p h) refl
+  not_left p h = refutes (unmoved local e t edges.edges nodes.outline p (inl h)) refl
 
   module _ (alone : pair_in e 0 ≡ false) where
     searched : (answer : Bool) → SearchedAll local (rows_in (row_table e t 0)) 0 false (length t / node_fields) (forms_in t) answer
@@ -162,15 +163,15 @@ alone-K = refl
 
 -- no sandbox but that of policy 0
 shut-I : (p : ℕ) → 0 < p → opens nodes_i p ≡ false
-unfolding opens some_below
+unfolding opens some_below form_of
 shut-I p l = ap (λ (b : Bool). b || false) (ne_eqb 0 p (λ e. omega arith))
 
 shut-J : (p : ℕ) → 0 < p → opens nodes_j p ≡ false
-unfolding opens some_below
+unfolding opens some_below form_of
 shut-J p l = ap (λ (b : Bool). b || false) (ne_eqb 0 p (λ e. omega arith))
 
 shut-L : (p : ℕ) → opens nodes_l p ≡ false
-unfolding opens some_below
+unfolding opens some_below form_of
 shut-L p = refl
 
 -- ── The cases ──

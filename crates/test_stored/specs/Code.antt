@@ -1,11 +1,10 @@
 -- What the border calls are made on, and a reader's answer as one number.
-use Rattle.std.specs.Prelude.{ℕ, cond, List, [], ◌∷◌, replicate, set}
+use Rattle.std.specs.Prelude.{Result, Ok, Err, ℕ, cond, List, [], ◌∷◌, replicate, set}
 use Rattle.usage.specs.Limits.{policies, most_created, most_unclosed, edge_fields}
 use Rattle.usage.specs.Answers.{allowed, refused}
-use Rattle.sheet_lines.specs.declared.Reading.{Reading}
-use Rattle.sheet_lines.specs.declared.Reading.TheVariants.{Stored, Refused}
-use Rattle.sheet_reader.specs.declared.PolicyReading.{PolicyReading}
-use Rattle.sheet_reader.specs.declared.PolicyReading.TheVariants.{Stored as StoredEdges, Refused as RefusedPolicies}
+use Rattle.usage.specs.declared.SheetRefusal.{SheetRefusal}
+use Rattle.usage.specs.Reasons.{number_of}
+use Rattle.sheet_reader.specs.declared.PolicySheet.{PolicySheet}
 use Rattle.monitor_sets.specs.Instances.{retirees, first_created_lem, set_places}
 use Rattle.monitor_state.specs.Judge.{pair_sets}
 use Rattle.api_c.specs.Codes.{code_of}
@@ -13,14 +12,14 @@ use Rattle.api_c.specs.Parts.{Parts, parts_of}
 use Rattle.test_stored.specs.declared.lent.Lent.{Lent}
 
 -- as the judge's answer is told: refused with the number, or allowed where the sheet was accepted
-abbrev pub reading_code : Reading → ℕ
-reading_code (Stored n) = code_of allowed
-reading_code (Refused line number) = code_of (refused number)
+abbrev pub reading_code : Result ℕ SheetRefusal → ℕ
+reading_code (Ok n) = code_of allowed
+reading_code (Err r) = code_of (refused (number_of r.reason))
 
 -- the same of policies, with 1 where the accepted sheet is local
-abbrev pub policies_code_lem : PolicyReading → ℕ
-policies_code_lem (StoredEdges n local) = cond local 1 (code_of allowed)
-policies_code_lem (RefusedPolicies line number) = code_of (refused number)
+abbrev pub policies_code_lem : Result PolicySheet SheetRefusal → ℕ
+policies_code_lem (Ok s) = cond s.local 1 (code_of allowed)
+policies_code_lem (Err r) = code_of (refused (number_of r.reason))
 
 -- one edge of zeros, but for its end
 abbrev pub edge_to : ℕ → List ℕ

@@ -4,9 +4,8 @@ ghost use Rattle.std.specs.Prelude.{◌≡◌};
 ghost use Rattle.test_stored.specs.Code.{reading_code, policies_code_lem};
 
 use crate::{judge_calls, local_calls, order_calls, print, retire_calls, trace_calls};
-use sheet_lines::Reading;
-use sheet_reader::PolicyReading;
-use usage::{EDGE_FIELDS, EDGE_TABLE, NODE_FIELDS, NODE_TABLE, STEP_TABLE};
+use sheet_reader::PolicySheet;
+use usage::{EDGE_FIELDS, EDGE_TABLE, NODE_FIELDS, NODE_TABLE, STEP_TABLE, SheetRefusal};
 
 // One place too few.
 const FEW_EDGES: usize = EDGE_TABLE - 1;
@@ -15,22 +14,22 @@ const FEW_NODES: usize = NODE_TABLE - 1;
 
 const FEW_STEPS: usize = STEP_TABLE - 1;
 
-pub(crate) fn code_of(r: Reading) -> u32
+pub(crate) fn code_of(r: Result<usize, SheetRefusal>) -> u32
     ensures { result ≡ reading_code r }
 {
     match r {
-        Reading::Stored(_) => 0,
-        Reading::Refused { line: _, number } => 512 + number as u32,
+        Ok(_) => 0,
+        Err(r) => 512 + u8::from(r.reason) as u32,
     }
 }
 
 // The same of the reader of policies; the detail of an accepted sheet is 1 where it is local.
-pub(crate) fn policies_code(r: PolicyReading) -> u32
+pub(crate) fn policies_code(r: Result<PolicySheet, SheetRefusal>) -> u32
     ensures { result ≡ policies_code_lem r }
 {
     match r {
-        PolicyReading::Stored { edges: _, local } => if local { 1 } else { 0 },
-        PolicyReading::Refused { line: _, number } => 512 + number as u32,
+        Ok(sheet) => if sheet.local { 1 } else { 0 },
+        Err(r) => 512 + u8::from(r.reason) as u32,
     }
 }
 

@@ -8,12 +8,10 @@ use crate::{print, stored};
 use checker_trace::MOST_NUMBERS;
 use monitor_sets::SETS;
 use monitor_state::PAIR_SETS;
-use sheet_lines::{Reading, SHEET_ROOM};
-use sheet_reader::PolicyReading;
 use std::rt::Files;
 use usage::{
     EDGE_FIELDS, EDGE_TABLE, MOST_CREATED, MOST_UNCLOSED, NODE_FIELDS, NODE_TABLE, POLICIES,
-    STEP_FIELDS,
+    Reason, STEP_FIELDS,
 };
 
 // The steps that a table has room for.
@@ -40,13 +38,7 @@ pub struct Stop {
 fn is_judged(kind: u32, a: u32, alone: bool, p: u32) -> bool
     ensures { result ≡ cond (eqb kind 0) true (cond (eqb a p) true (not alone)) }
 {
-    if kind == 0 {
-        return true;
-    }
-    if a == p {
-        return true;
-    }
-    !alone
+    kind == 0 || a == p || !alone
 }
 
 // The judge along the first steps of a trace. Where policy p is to be judged alone, openings and closings of others are passed over.
@@ -68,8 +60,7 @@ fn follow(
     let mut unclosed = [0u8; POLICIES];
     let mut order = [0u8; MOST_UNCLOSED];
     let mut numbers = [0u64, 0, 0, 0];
-    let mut i: usize = 0;
-    while i < steps {
+    for i in 0..steps {
         let kind = trace[STEP_FIELDS * i];
         let a = trace[STEP_FIELDS * i + 1];
         let b = trace[STEP_FIELDS * i + 2];
@@ -95,7 +86,6 @@ fn follow(
                 };
             }
         }
-        i += 1;
     }
     Stop {
         past: steps as u64,
@@ -108,22 +98,17 @@ fn follow(
 fn stops_rightly(s: Stop, steps: u64, p: u32) -> u64
     ensures { result ≤ 1 }
 {
-    if s.code == BEYOND_CREATED {
-        return 1;
-    }
-    if s.code == BEYOND_UNCLOSED {
+    if s.code == BEYOND_CREATED || s.code == BEYOND_UNCLOSED {
         return 1;
     }
     if s.code / 256 != 1 {
         return 0;
     }
     let named = s.code % 256;
-    if s.past < steps {
-        if steps - s.past == 1 {
-            return if named == p { 1 } else { 0 };
-        }
+    if s.past < steps && steps - s.past == 1 {
+        return u64::from(named == p);
     }
-    if p < named { 1 } else { 0 }
+    u64::from(p < named)
 }
 
 // The line of what the judge makes of a trace; its length is handed back.
@@ -157,20 +142,18 @@ fn explained(rt: &impl Print, n: u64, edges: &[u8], local: u32, nodes: &[u8]) ->
     print::number(rt, code as u64 / 256 % 256, b" ");
     print::number(rt, code as u64 % 256, b" ");
     print::number(rt, steps as u64, b"\n");
-    if 0 < steps {
-        if steps <= MOST_SHOWN {
-            judged(rt, edges, local, &trace, steps, code % 256);
-        }
+    if 0 < steps && steps <= MOST_SHOWN {
+        judged(rt, edges, local, &trace, steps, code % 256);
     }
     n
 }
 
 // The line of a refused sheet.
-fn refused(rt: &impl Print, n: u64, sheet: u64, number: u8) -> u64
+fn refused(rt: &impl Print, n: u64, sheet: u64, reason: Reason) -> u64
     ensures { result ≡ n }
 {
     print::number(rt, sheet, b" ");
-    print::number(rt, number as u64, b" 0\n");
+    print::number(rt, u8::from(reason) as u64, b" 0\n");
     n
 }
 
@@ -179,10 +162,9 @@ fn outline(rt: &impl Print, n: u64, edges: &[u8], local: u32, text: &[u8]) -> u6
     ensures { result ≡ n }
 {
     let mut nodes = [0u8; NODE_TABLE];
-    let reading = sheet_reader::read_outline(text, &mut nodes);
-    match reading {
-        Reading::Stored(k) => explained(rt, n, edges, local, &nodes[0..k * NODE_FIELDS]),
-        Reading::Refused { line: _, number } => refused(rt, n, OUTLINE_REFUSED, number),
+    match sheet_reader::read_outline(text, &mut nodes) {
+        Ok(k) => explained(rt, n, edges, local, &nodes[0..k * NODE_FIELDS]),
+        Err(r) => refused(rt, n, OUTLINE_REFUSED, r.reason),
     }
 }
 
@@ -191,35 +173,29 @@ fn sheets(rt: &impl Print, n: u64, policies: &[u8], text: &[u8]) -> u64
     ensures { result ≡ n }
 {
     let mut edges = [0u8; EDGE_TABLE];
-    let reading = sheet_reader::read_policies(policies, &mut edges);
-    match reading {
-        PolicyReading::Stored { edges: k, local } => outline(
+    match sheet_reader::read_policies(policies, &mut edges) {
+        Ok(sheet) => outline(
             rt,
             n,
-            &edges[0..k * EDGE_FIELDS],
-            if local { 1 } else { 0 },
+            &edges[0..sheet.edges * EDGE_FIELDS],
+            u32::from(sheet.local),
             text,
         ),
-        PolicyReading::Refused { line: _, number } => refused(rt, n, POLICIES_REFUSED, number),
+        Err(r) => refused(rt, n, POLICIES_REFUSED, r.reason),
     }
 }
 
 fn case(rt: &(impl Files + Print), n: u64) -> u64
     ensures { result ≡ n }
 {
-    let mut policies = [0u8; SHEET_ROOM];
-    let mut text = [0u8; SHEET_ROOM];
-    let p = stored::sheet(rt, b'c', n, b'p', &mut policies);
-    let o = stored::sheet(rt, b'c', n, b'o', &mut text);
+    let policies = stored::sheet(rt, b'c', n, b'p');
+    let outline = stored::sheet(rt, b'c', n, b'o');
     stored::announced(rt, n);
-    sheets(rt, n, &policies[..p], &text[..o])
+    sheets(rt, n, policies.text(), outline.text())
 }
 
 pub(crate) fn all(rt: &(impl Files + Print), count: u64) -> u64
     ensures { result ≡ count }
 {
-    for n in 0..count {
-        case(rt, n);
-    }
-    count
+    stored::each(count, |n| case(rt, n))
 }

@@ -4,9 +4,9 @@
 // the sheet's line; after a changed byte also how many bytes a refusal changes.
 ghost use Rattle.std.specs.Prelude.{◌≡◌, ◌≤◌, length};
 
+use crate::lent::differing;
 use crate::{print, stored};
 use desk::DESK_BYTES;
-use sheet_lines::{Reading, SHEET_ROOM};
 use std::rt::Files;
 use usage::{MOST_STEPS, STEP_FIELDS, STEP_TABLE};
 
@@ -28,22 +28,22 @@ pub(crate) fn told(rt: &impl Print, code: u32, after: &[u8]) -> u32
 fn load(rt: &(impl Files + Print), state: &mut [u8], n: u64, which: u8, outline: bool) -> u64
     ensures { result ≡ n }
 {
-    let mut text = [0u8; SHEET_ROOM];
-    let k = stored::sheet(rt, b'd', n, which, &mut text);
-    if k == 0 {
+    let sheet = stored::sheet(rt, b'd', n, which);
+    let text = sheet.text();
+    if text.is_empty() {
         return n;
     }
     if outline {
         told(
             rt,
-            api_c::routine::wiforekun_desk_outline(state, &text[..k]),
+            api_c::routine::wiforekun_desk_outline(state, text),
             b"\n",
         );
         return n;
     }
     told(
         rt,
-        api_c::routine::wiforekun_desk_policies(state, &text[..k]),
+        api_c::routine::wiforekun_desk_policies(state, text),
         b"\n",
     );
     n
@@ -53,11 +53,7 @@ fn load(rt: &(impl Files + Print), state: &mut [u8], n: u64, which: u8, outline:
 fn take(rt: &impl Print, state: &mut [u8], n: u64, table: &[u32; STEP_TABLE], steps: usize) -> u64
     ensures { result ≡ n }
 {
-    let mut i: usize = 0;
-    while i < MOST_STEPS {
-        if i == steps {
-            return n;
-        }
+    for i in 0..usize::min(steps, MOST_STEPS) {
         let kind = table[STEP_FIELDS * i];
         let a = table[STEP_FIELDS * i + 1];
         let b = table[STEP_FIELDS * i + 2];
@@ -66,7 +62,6 @@ fn take(rt: &impl Print, state: &mut [u8], n: u64, table: &[u32; STEP_TABLE], st
             api_c::routine::wiforekun_desk_step(state, kind, a, b),
             b"\n",
         );
-        i += 1;
     }
     n
 }
@@ -75,13 +70,8 @@ fn take(rt: &impl Print, state: &mut [u8], n: u64, table: &[u32; STEP_TABLE], st
 fn steps(rt: &impl Files, n: u64, which: u8, table: &mut [u32; STEP_TABLE]) -> usize
     ensures { length table.new ≡ length table.old }
 {
-    let mut text = [0u8; SHEET_ROOM];
-    let k = stored::sheet(rt, b'd', n, which, &mut text);
-    let reading = sheet_reader::read_trace(&text[..k], table);
-    match reading {
-        Reading::Stored(count) => count,
-        Reading::Refused { line: _, number: _ } => 0,
-    }
+    let sheet = stored::sheet(rt, b'd', n, which);
+    sheet_reader::read_trace(sheet.text(), table).unwrap_or(0)
 }
 
 // One round, whose sheets are these.
@@ -102,23 +92,8 @@ fn round(
     take(rt, state, n, &table, count)
 }
 
-// How many bytes are not the same.
-fn changed(a: [u8; DESK_BYTES], b: [u8; DESK_BYTES]) -> usize
-    ensures { result ≤ 37000 }
-{
-    let mut i: usize = 0;
-    let mut n: usize = 0;
-    while i < DESK_BYTES {
-        if a[i] != b[i] {
-            n += 1;
-        }
-        i += 1;
-    }
-    n
-}
-
 // A step with one byte changed: 256 times its place, and the value.
-fn poked(rt: &impl Print, mut state: [u8; DESK_BYTES], poke: u32) -> usize
+fn poked(rt: &impl Print, mut state: [u8; DESK_BYTES], poke: u32) -> u64
     ensures { result ≤ 37000 }
 {
     let place = poke as usize / 256;
@@ -136,9 +111,7 @@ fn poked(rt: &impl Print, mut state: [u8; DESK_BYTES], poke: u32) -> usize
         print::number(rt, 0, b"\n");
         return 0;
     }
-    let n = changed(before, state);
-    print::number(rt, n as u64, b"\n");
-    n
+    print::number(rt, differing(&before, &state), b"\n")
 }
 
 // The changed bytes of the case, one after the other.
@@ -147,13 +120,8 @@ fn pokes(rt: &(impl Files + Print), state: [u8; DESK_BYTES], n: u64) -> u64
 {
     let mut table = [0u32; STEP_TABLE];
     let count = steps(rt, n, b'x', &mut table);
-    let mut i: usize = 0;
-    while i < MOST_STEPS {
-        if i == count {
-            return n;
-        }
+    for i in 0..usize::min(count, MOST_STEPS) {
         poked(rt, state, table[STEP_FIELDS * i + 2]);
-        i += 1;
     }
     n
 }
@@ -172,8 +140,5 @@ fn case(rt: &(impl Files + Print), n: u64) -> u64
 pub(crate) fn all(rt: &(impl Files + Print), count: u64) -> u64
     ensures { result ≡ count }
 {
-    for n in 0..count {
-        case(rt, n);
-    }
-    count
+    stored::each(count, |n| case(rt, n))
 }

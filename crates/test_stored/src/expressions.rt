@@ -3,7 +3,6 @@
 ghost use Rattle.std.specs.Prelude.{◌≡◌};
 
 use crate::{borders, print, stored};
-use sheet_lines::SHEET_ROOM;
 use std::rt::Files;
 use usage::NODE_TABLE;
 
@@ -13,10 +12,9 @@ const FEW_NODES: usize = NODE_TABLE - 1;
 fn case(rt: &(impl Files + Print), n: u64) -> u64
     ensures { result ≡ n }
 {
-    let mut text = [0u8; SHEET_ROOM];
+    let expression = stored::sheet(rt, b'e', n, b'e');
     let mut out = [0u8; report::EXPRESSION_ROOM];
-    let e = stored::sheet(rt, b'e', n, b'e', &mut text);
-    let k = report::report_expression(&text[..e], &mut out);
+    let k = report::report_expression(expression.text(), &mut out);
     stored::announced(rt, n);
     files::print(rt, &out, k);
     n
@@ -44,8 +42,5 @@ pub(crate) fn room_calls(rt: &impl Print) -> u64
 pub(crate) fn all(rt: &(impl Files + Print), count: u64) -> u64
     ensures { result ≡ count }
 {
-    for n in 0..count {
-        case(rt, n);
-    }
-    count
+    stored::each(count, |n| case(rt, n))
 }

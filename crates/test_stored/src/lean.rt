@@ -7,8 +7,6 @@ ghost use Rattle.usage.specs.Limits.{policies, step_fields};
 use crate::{print, stored};
 use monitor_sets::SETS;
 use monitor_state::PAIR_SETS;
-use sheet_lines::{Reading, SHEET_ROOM};
-use sheet_reader::PolicyReading;
 use std::rt::Files;
 use usage::{
     EDGE_FIELDS, EDGE_TABLE, MOST_CREATED, MOST_UNCLOSED, NODE_FIELDS, NODE_TABLE, POLICIES,
@@ -22,12 +20,10 @@ const ALL: u64 = 18446744073709551615;
 fn summary_case(rt: &(impl Files + Print), folder: u8, n: u64) -> u64
     ensures { result ≡ n }
 {
-    let mut policies = [0u8; SHEET_ROOM];
-    let mut outline = [0u8; SHEET_ROOM];
+    let policies = stored::sheet(rt, folder, n, b'p');
+    let outline = stored::sheet(rt, folder, n, b'o');
     let mut out = [0u8; report::SUMMARY_ROOM];
-    let p = stored::sheet(rt, folder, n, b'p', &mut policies);
-    let o = stored::sheet(rt, folder, n, b'o', &mut outline);
-    let k = report::report_summary(&policies[..p], &outline[..o], &mut out);
+    let k = report::report_summary(policies.text(), outline.text(), &mut out);
     stored::announced(rt, n);
     files::print(rt, &out, k);
     n
@@ -36,10 +32,7 @@ fn summary_case(rt: &(impl Files + Print), folder: u8, n: u64) -> u64
 pub(crate) fn summaries(rt: &(impl Files + Print), folder: u8, count: u64) -> u64
     ensures { result ≡ count }
 {
-    for n in 0..count {
-        summary_case(rt, folder, n);
-    }
-    count
+    stored::each(count, |n| summary_case(rt, folder, n))
 }
 
 // The lean judge along a trace, a line for each step; how many there are.
@@ -60,8 +53,7 @@ fn follow(
     let mut order = [0u8; MOST_UNCLOSED];
     let mut numbers = [0u64, 0, 0, 0];
     let steps = trace.len() / STEP_FIELDS;
-    let mut i: usize = 0;
-    while i < steps {
+    for i in 0..steps {
         let code = api_c::lean::wiforekun_judge_lean_parts(
             marks,
             edges,
@@ -79,7 +71,6 @@ fn follow(
         );
         print::number(rt, code as u64 / 256, b" ");
         print::number(rt, code as u64 % 256, b"\n");
-        i += 1;
     }
     steps
 }
@@ -88,27 +79,19 @@ fn follow(
 pub(crate) fn numbers(rt: &impl Print, marks: &[u64]) -> usize
     ensures { result ≡ length marks.now }
 {
-    let mut i: usize = 0;
-    while i < marks.len() {
+    for m in marks {
         let _ = rt.write_all(b" ");
-        print::number(rt, marks[i], b"");
-        i += 1;
+        print::number(rt, *m, b"");
     }
     let _ = rt.write_all(b"\n");
-    i
+    marks.len()
 }
 
 // The same marks, one bit higher.
 fn higher(marks: &[u64; POLICIES]) -> [u64; POLICIES]
     ensures { length result ≡ policies }
 {
-    let mut others = [0u64; POLICIES];
-    let mut p: usize = 0;
-    while p < POLICIES {
-        others[p] = marks[p] << 1;
-        p += 1;
-    }
-    others
+    marks.map(|m| m << 1)
 }
 
 // All lines of three tables.
@@ -131,10 +114,9 @@ fn outline(rt: &impl Print, n: u64, edges: &[u8], local: u32, text: &[u8], trace
     ensures { result ≡ n }
 {
     let mut nodes = [0u8; NODE_TABLE];
-    let reading = sheet_reader::read_outline(text, &mut nodes);
-    match reading {
-        Reading::Stored(k) => judged(rt, n, edges, local, &nodes[0..k * NODE_FIELDS], trace),
-        Reading::Refused { line: _, number: _ } => n,
+    match sheet_reader::read_outline(text, &mut nodes) {
+        Ok(k) => judged(rt, n, edges, local, &nodes[0..k * NODE_FIELDS], trace),
+        Err(_) => n,
     }
 }
 
@@ -142,10 +124,9 @@ fn steps(rt: &impl Print, n: u64, edges: &[u8], local: u32, text: &[u8], trace_t
     ensures { result ≡ n }
 {
     let mut trace = [0u32; STEP_TABLE];
-    let reading = sheet_reader::read_trace(trace_text, &mut trace);
-    match reading {
-        Reading::Stored(k) => outline(rt, n, edges, local, text, &trace[0..k * STEP_FIELDS]),
-        Reading::Refused { line: _, number: _ } => n,
+    match sheet_reader::read_trace(trace_text, &mut trace) {
+        Ok(k) => outline(rt, n, edges, local, text, &trace[0..k * STEP_FIELDS]),
+        Err(_) => n,
     }
 }
 
@@ -153,38 +134,31 @@ fn sheets(rt: &impl Print, n: u64, policies: &[u8], text: &[u8], trace_text: &[u
     ensures { result ≡ n }
 {
     let mut edges = [0u8; EDGE_TABLE];
-    let reading = sheet_reader::read_policies(policies, &mut edges);
-    match reading {
-        PolicyReading::Stored { edges: k, local } => steps(
+    match sheet_reader::read_policies(policies, &mut edges) {
+        Ok(sheet) => steps(
             rt,
             n,
-            &edges[0..k * EDGE_FIELDS],
-            if local { 1 } else { 0 },
+            &edges[0..sheet.edges * EDGE_FIELDS],
+            u32::from(sheet.local),
             text,
             trace_text,
         ),
-        PolicyReading::Refused { line: _, number: _ } => n,
+        Err(_) => n,
     }
 }
 
 fn case(rt: &(impl Files + Print), n: u64) -> u64
     ensures { result ≡ n }
 {
-    let mut policies = [0u8; SHEET_ROOM];
-    let mut text = [0u8; SHEET_ROOM];
-    let mut trace_text = [0u8; SHEET_ROOM];
-    let p = stored::sheet(rt, b'l', n, b'p', &mut policies);
-    let o = stored::sheet(rt, b'l', n, b'o', &mut text);
-    let t = stored::sheet(rt, b'l', n, b't', &mut trace_text);
+    let policies = stored::sheet(rt, b'l', n, b'p');
+    let outline = stored::sheet(rt, b'l', n, b'o');
+    let trace = stored::sheet(rt, b'l', n, b't');
     stored::announced(rt, n);
-    sheets(rt, n, &policies[..p], &text[..o], &trace_text[..t])
+    sheets(rt, n, policies.text(), outline.text(), trace.text())
 }
 
 pub(crate) fn all(rt: &(impl Files + Print), count: u64) -> u64
     ensures { result ≡ count }
 {
-    for n in 0..count {
-        case(rt, n);
-    }
-    count
+    stored::each(count, |n| case(rt, n))
 }

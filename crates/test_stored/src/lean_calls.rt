@@ -1,6 +1,6 @@
 // Calls of the summary and of the lean judge. Of the summary each line has the number of the call, the answer and its detail, and what the
 // lent table then holds; of the judge the answer and its detail.
-ghost use Rattle.std.specs.Prelude.{◌≡◌};
+ghost use Rattle.std.specs.Prelude.{◌≡◌, ◌≤◌};
 
 use crate::{lean, print};
 use monitor_sets::SETS;
@@ -37,25 +37,12 @@ fn summarized(
     call
 }
 
-// One of as many places as are needed, of one too few, and of more.
-fn enough(rt: &impl Print, call: u64, local: u32, edges: &[u8], nodes: &[u8]) -> u64
+// One of so many places.
+fn lent<const N: usize>(rt: &impl Print, call: u64, local: u32, edges: &[u8], nodes: &[u8]) -> u64
+    requires { N ≤ 65536 }
     ensures { result ≡ call }
 {
-    let mut marks = [UNMARKED; POLICIES];
-    summarized(rt, call, local, edges, nodes, &mut marks)
-}
-
-fn few(rt: &impl Print, call: u64, local: u32, edges: &[u8], nodes: &[u8]) -> u64
-    ensures { result ≡ call }
-{
-    let mut marks = [UNMARKED; FEW];
-    summarized(rt, call, local, edges, nodes, &mut marks)
-}
-
-fn more(rt: &impl Print, call: u64, local: u32, edges: &[u8], nodes: &[u8]) -> u64
-    ensures { result ≡ call }
-{
-    let mut marks = [UNMARKED; MORE];
+    let mut marks = [UNMARKED; N];
     summarized(rt, call, local, edges, nodes, &mut marks)
 }
 
@@ -113,22 +100,22 @@ fn summary_calls(rt: &impl Print) -> u64
     let edges = [0u8, 0, 2, 0, 3, 6];
     let nodes = [8u8, 0, 1, 1, 2, 3];
     let before = [3u8, 1, 2, 1, 2, 3, 8, 0, 3, 0, 0, 0];
-    enough(rt, 1, 0, &edges, &nodes);
-    few(rt, 2, 0, &edges, &nodes);
-    more(rt, 3, 0, &edges, &nodes);
+    lent::<POLICIES>(rt, 1, 0, &edges, &nodes);
+    lent::<FEW>(rt, 2, 0, &edges, &nodes);
+    lent::<MORE>(rt, 3, 0, &edges, &nodes);
     let mut none = [UNMARKED; 1];
     summarized(rt, 4, 0, &edges, &nodes, &mut none[0..0]);
-    enough(rt, 5, 1, &edges, &nodes);
-    enough(rt, 6, 2, &edges, &nodes);
-    few(rt, 7, 2, &edges, &nodes);
-    enough(rt, 8, 4294967295, &edges, &nodes);
-    enough(rt, 9, 0, &[0u8; 5], &[0u8; NODE_FIELDS]);
-    few(rt, 10, 0, &[0u8; 5], &[0u8; NODE_FIELDS]);
-    enough(rt, 11, 0, &[0u8; EDGE_FIELDS], &[9u8; NODE_FIELDS]);
-    few(rt, 12, 0, &[0u8; EDGE_FIELDS], &[9u8; NODE_FIELDS]);
-    enough(rt, 13, 0, &[0u8; EDGE_FIELDS], &[0u8; NODE_FIELDS]);
-    enough(rt, 14, 0, &edges, &before);
-    enough(rt, 15, 1, &edges, &before);
+    lent::<POLICIES>(rt, 5, 1, &edges, &nodes);
+    lent::<POLICIES>(rt, 6, 2, &edges, &nodes);
+    lent::<FEW>(rt, 7, 2, &edges, &nodes);
+    lent::<POLICIES>(rt, 8, 4294967295, &edges, &nodes);
+    lent::<POLICIES>(rt, 9, 0, &[0u8; 5], &[0u8; NODE_FIELDS]);
+    lent::<FEW>(rt, 10, 0, &[0u8; 5], &[0u8; NODE_FIELDS]);
+    lent::<POLICIES>(rt, 11, 0, &[0u8; EDGE_FIELDS], &[9u8; NODE_FIELDS]);
+    lent::<FEW>(rt, 12, 0, &[0u8; EDGE_FIELDS], &[9u8; NODE_FIELDS]);
+    lent::<POLICIES>(rt, 13, 0, &[0u8; EDGE_FIELDS], &[0u8; NODE_FIELDS]);
+    lent::<POLICIES>(rt, 14, 0, &edges, &before);
+    lent::<POLICIES>(rt, 15, 1, &edges, &before);
     16
 }
 

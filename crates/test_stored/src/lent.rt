@@ -22,79 +22,29 @@ pub struct Lent {
     pub numbers: [u64; 4],
 }
 
-// 1 where the two are not the same, else 0.
-fn differ(a: u64, b: u64) -> u64
-    ensures { result ≤ 1 }
+// How many places of two tables are not the same.
+pub(crate) fn differing<T: Copy + PartialEq, const N: usize>(a: &[T; N], b: &[T; N]) -> u64
+    ensures { result ≤ N }
 {
-    if a == b { 0 } else { 1 }
-}
-
-// How many of the sets are not the same.
-fn changed_sets(a: [u8; SETS], b: [u8; SETS]) -> u64
-    ensures { result ≤ set_places }
-{
-    let mut i: usize = 0;
     let mut n: u64 = 0;
-    while i < SETS {
-        n += differ(a[i] as u64, b[i] as u64);
-        i += 1;
-    }
-    n
-}
-
-// The same of what there is for each policy.
-fn changed_policies(a: Lent, b: Lent) -> u64
-    ensures { result ≤ 2 * policies }
-{
-    let mut i: usize = 0;
-    let mut n: u64 = 0;
-    while i < POLICIES {
-        n += differ(a.possible[i] as u64, b.possible[i] as u64);
-        n += differ(a.unclosed[i] as u64, b.unclosed[i] as u64);
-        i += 1;
-    }
-    n
-}
-
-// The same of the created numbers.
-fn changed_created(a: [u32; MOST_CREATED], b: [u32; MOST_CREATED]) -> u64
-    ensures { result ≤ most_created }
-{
-    let mut i: usize = 0;
-    let mut n: u64 = 0;
-    while i < MOST_CREATED {
-        n += differ(a[i] as u64, b[i] as u64);
-        i += 1;
-    }
-    n
-}
-
-// The same of the order.
-fn changed_order(a: [u8; MOST_UNCLOSED], b: [u8; MOST_UNCLOSED]) -> u64
-    ensures { result ≤ most_unclosed }
-{
-    let mut i: usize = 0;
-    let mut n: u64 = 0;
-    while i < MOST_UNCLOSED {
-        n += differ(a[i] as u64, b[i] as u64);
-        i += 1;
+    for i in 0..N {
+        if a[i] != b[i] {
+            n += 1;
+        }
     }
     n
 }
 
 // How many places of all arrays are not the same.
-fn changed(a: Lent, b: Lent) -> u64
+fn changed(a: &Lent, b: &Lent) -> u64
     ensures { result ≤ 1000 }
 {
-    let sets = changed_sets(a.sets, b.sets);
-    let policies = changed_policies(a, b);
-    let created = changed_created(a.created, b.created);
-    let order = changed_order(a.order, b.order);
-    let count = differ(a.numbers[0], b.numbers[0]);
-    let flag = differ(a.numbers[1], b.numbers[1]);
-    let depth = differ(a.numbers[2], b.numbers[2]);
-    let highest = differ(a.numbers[3], b.numbers[3]);
-    sets + policies + created + order + count + flag + depth + highest
+    differing(&a.sets, &b.sets)
+        + differing(&a.possible, &b.possible)
+        + differing(&a.created, &b.created)
+        + differing(&a.unclosed, &b.unclosed)
+        + differing(&a.order, &b.order)
+        + differing(&a.numbers, &b.numbers)
 }
 
 // What a call answers, and how many places of the arrays are then not as they were lent.
@@ -141,7 +91,7 @@ fn judged(local: u32, s: Lent, kind: u32, a: u32, b: u32) -> Left
     };
     Left {
         code,
-        changed: changed(s, after),
+        changed: changed(&s, &after),
     }
 }
 

@@ -4,7 +4,9 @@ ghost use Rattle.std.specs.Prelude.{◌≡◌};
 ghost use Rattle.test_stored.specs.Code.{lent_parts, sandboxing};
 
 use crate::lent::Lent;
+use crate::trace_calls::FEW_NUMBERS;
 use crate::{borders, lent, print, trace_calls};
+use checker_trace::MOST_NUMBERS;
 use monitor_sets::{FIRST_CREATED, SETS};
 use usage::{EDGE_FIELDS, EDGE_TABLE, MOST_CREATED, MOST_UNCLOSED, NODE_FIELDS, POLICIES};
 
@@ -95,11 +97,11 @@ fn explain_calls(rt: &impl Print) -> u64
     let edges = OFFENDING;
     let inside = INSIDE;
     let before = BEFORE;
-    trace_calls::explain_room(rt, 99, 1, &edges, &inside);
-    trace_calls::explain_room(rt, 100, 2, &edges, &inside);
-    trace_calls::explain_few(rt, 101, 2, &edges, &inside);
-    trace_calls::explain_room(rt, 102, 0, &edges, &before);
-    trace_calls::explain_room(rt, 103, 1, &edges, &before);
+    trace_calls::explain_lent::<MOST_NUMBERS>(rt, 99, 1, &edges, &inside);
+    trace_calls::explain_lent::<MOST_NUMBERS>(rt, 100, 2, &edges, &inside);
+    trace_calls::explain_lent::<FEW_NUMBERS>(rt, 101, 2, &edges, &inside);
+    trace_calls::explain_lent::<MOST_NUMBERS>(rt, 102, 0, &edges, &before);
+    trace_calls::explain_lent::<MOST_NUMBERS>(rt, 103, 1, &edges, &before);
     104
 }
 

@@ -3,7 +3,7 @@
 ghost use Rattle.std.specs.Prelude.{◌≡◌, ◌≤◌, length};
 
 use crate::{print, stored};
-use sheet_lines::{LONGEST_SHEET, SHEET_ROOM};
+use sheet_lines::LONGEST_SHEET;
 use std::rt::Files;
 
 // Lent sheets of one byte less and of one byte more than are asked for; a byte that no sheet has.
@@ -16,10 +16,9 @@ const MARK: u8 = 7;
 fn case(rt: &(impl Files + Print), n: u64) -> u64
     ensures { result ≡ n }
 {
-    let mut policies = [0u8; SHEET_ROOM];
+    let policies = stored::sheet(rt, b'p', n, b'p');
     let mut out = [0u8; report::POLICIES_ROOM];
-    let p = stored::sheet(rt, b'p', n, b'p', &mut policies);
-    let k = report::report_policies(&policies[..p], &mut out);
+    let k = report::report_policies(policies.text(), &mut out);
     stored::announced(rt, n);
     files::print(rt, &out, k);
     n
@@ -28,23 +27,18 @@ fn case(rt: &(impl Files + Print), n: u64) -> u64
 pub(crate) fn all(rt: &(impl Files + Print), count: u64) -> u64
     ensures { result ≡ count }
 {
-    for n in 0..count {
-        case(rt, n);
-    }
-    count
+    stored::each(count, |n| case(rt, n))
 }
 
 // How many bytes hold the mark.
 pub(crate) fn kept(lent: &[u8], mark: u8) -> usize
     ensures { result ≤ length lent.now }
 {
-    let mut i: usize = 0;
     let mut n: usize = 0;
-    while i < lent.len() {
-        if lent[i] == mark {
+    for x in lent {
+        if *x == mark {
             n += 1;
         }
-        i += 1;
     }
     n
 }
@@ -61,37 +55,15 @@ fn told(rt: &impl Print, n: u64, length: usize, line: u64, number: u64, left: us
     n
 }
 
-// One call that is lent one byte less than is asked for.
-fn short(rt: &impl Print, n: u64, text: &[u8]) -> u64
+// One call that is lent so many bytes.
+fn lent<const N: usize>(rt: &impl Print, n: u64, text: &[u8]) -> u64
+    requires { N ≤ 65536 }
     ensures { result ≡ n }
 {
-    let mut lent = [MARK; TOO_SHORT];
+    let mut out = [MARK; N];
     let mut refusal = [0u64, 0];
-    let length = api_c::writer::wiforekun_write_policies(text, &mut lent, &mut refusal);
-    let left = kept(&lent, MARK);
-    told(rt, n, length, refusal[0], refusal[1], left)
-}
-
-// One call that is lent as many bytes as are asked for.
-fn enough(rt: &impl Print, n: u64, text: &[u8]) -> u64
-    ensures { result ≡ n }
-{
-    let mut lent = [MARK; LONGEST_SHEET];
-    let mut refusal = [0u64, 0];
-    let length = api_c::writer::wiforekun_write_policies(text, &mut lent, &mut refusal);
-    let left = kept(&lent, MARK);
-    told(rt, n, length, refusal[0], refusal[1], left)
-}
-
-// One call that is lent one byte more than is asked for.
-fn longer(rt: &impl Print, n: u64, text: &[u8]) -> u64
-    ensures { result ≡ n }
-{
-    let mut lent = [MARK; MOST_LENT];
-    let mut refusal = [0u64, 0];
-    let length = api_c::writer::wiforekun_write_policies(text, &mut lent, &mut refusal);
-    let left = kept(&lent, MARK);
-    told(rt, n, length, refusal[0], refusal[1], left)
+    let length = api_c::writer::wiforekun_write_policies(text, &mut out, &mut refusal);
+    told(rt, n, length, refusal[0], refusal[1], kept(&out, MARK))
 }
 
 pub(crate) fn calls(rt: &impl Print) -> u64
@@ -100,12 +72,12 @@ pub(crate) fn calls(rt: &impl Print) -> u64
     let names = b"policy from action on who to\n";
     let edges = b"policy from action on who to\n0 0 2 1 0 6\n0 0 1 1 0 1\n";
     let broken = b"policy from action on who to\n0 0 2 1 0 6\n0 0 1 4 0 1\n";
-    short(rt, 0, names);
-    enough(rt, 1, names);
-    enough(rt, 2, b"local from action on who to\n");
-    short(rt, 3, edges);
-    enough(rt, 4, edges);
-    longer(rt, 5, edges);
-    short(rt, 6, broken);
-    enough(rt, 7, broken)
+    lent::<TOO_SHORT>(rt, 0, names);
+    lent::<LONGEST_SHEET>(rt, 1, names);
+    lent::<LONGEST_SHEET>(rt, 2, b"local from action on who to\n");
+    lent::<TOO_SHORT>(rt, 3, edges);
+    lent::<LONGEST_SHEET>(rt, 4, edges);
+    lent::<MOST_LENT>(rt, 5, edges);
+    lent::<TOO_SHORT>(rt, 6, broken);
+    lent::<LONGEST_SHEET>(rt, 7, broken)
 }

@@ -7,7 +7,7 @@ use checker_trace::MOST_NUMBERS;
 use usage::{EDGE_FIELDS, NODE_FIELDS};
 
 // One too few.
-const FEW_NUMBERS: usize = MOST_NUMBERS - 1;
+pub(crate) const FEW_NUMBERS: usize = MOST_NUMBERS - 1;
 
 // One more than is needed.
 const MORE_NUMBERS: usize = MOST_NUMBERS + 1;
@@ -19,27 +19,18 @@ const MARK: u32 = 4294967295;
 fn written(trace: &[u32]) -> usize
     ensures { result ≤ length trace.now }
 {
-    let mut i: usize = 0;
-    while i < trace.len() {
-        if trace[i] == MARK {
-            return i;
-        }
-        i += 1;
-    }
-    i
+    trace.iter().position(|x| *x == MARK).unwrap_or(trace.len())
 }
 
 // How many hold it.
 fn kept(trace: &[u32]) -> usize
     ensures { result ≤ length trace.now }
 {
-    let mut i: usize = 0;
     let mut n: usize = 0;
-    while i < trace.len() {
-        if trace[i] == MARK {
+    for x in trace {
+        if *x == MARK {
             n += 1;
         }
-        i += 1;
     }
     n
 }
@@ -64,31 +55,18 @@ pub(crate) fn explain(
     call
 }
 
-// It, lent as many numbers as are needed, one too few, and one more.
-pub(crate) fn explain_room(
+// It, lent so many numbers.
+pub(crate) fn explain_lent<const N: usize>(
     rt: &impl Print,
     call: u64,
     local: u32,
     edges: &[u8],
     nodes: &[u8],
 ) -> u64
+    requires { N ≤ 65536 }
     ensures { result ≡ call }
 {
-    let mut trace = [MARK; MOST_NUMBERS];
-    explain(rt, call, local, edges, nodes, &mut trace)
-}
-
-pub(crate) fn explain_few(rt: &impl Print, call: u64, local: u32, edges: &[u8], nodes: &[u8]) -> u64
-    ensures { result ≡ call }
-{
-    let mut trace = [MARK; FEW_NUMBERS];
-    explain(rt, call, local, edges, nodes, &mut trace)
-}
-
-fn explain_more(rt: &impl Print, call: u64, local: u32, edges: &[u8], nodes: &[u8]) -> u64
-    ensures { result ≡ call }
-{
-    let mut trace = [MARK; MORE_NUMBERS];
+    let mut trace = [MARK; N];
     explain(rt, call, local, edges, nodes, &mut trace)
 }
 
@@ -99,17 +77,17 @@ pub(crate) fn trace_calls(rt: &impl Print) -> u64
     // action 2 on static 3 breaks policy 0, in its sandbox
     let edges = [0u8, 0, 2, 0, 3, 6];
     let nodes = [8u8, 0, 1, 1, 2, 3];
-    explain_room(rt, 34, 0, &edges, &nodes);
-    explain_more(rt, 35, 0, &edges, &nodes);
-    explain_few(rt, 36, 0, &edges, &nodes);
+    explain_lent::<MOST_NUMBERS>(rt, 34, 0, &edges, &nodes);
+    explain_lent::<MORE_NUMBERS>(rt, 35, 0, &edges, &nodes);
+    explain_lent::<FEW_NUMBERS>(rt, 36, 0, &edges, &nodes);
     let mut none = [MARK; 1];
     explain(rt, 37, 0, &edges, &nodes, &mut none[0..0]);
-    explain_few(rt, 38, 0, &[0u8; 5], &[0u8; NODE_FIELDS]);
-    explain_room(rt, 39, 0, &[0u8; 5], &[0u8; NODE_FIELDS]);
-    explain_room(rt, 40, 0, &[0u8; EDGE_FIELDS], &[9u8; NODE_FIELDS]);
-    explain_few(rt, 41, 0, &[0u8; EDGE_FIELDS], &[9u8; NODE_FIELDS]);
-    explain_room(rt, 42, 0, &[0u8; EDGE_FIELDS], &[0u8; NODE_FIELDS]);
-    explain_few(rt, 43, 0, &[0u8; EDGE_FIELDS], &[0u8; NODE_FIELDS]);
+    explain_lent::<FEW_NUMBERS>(rt, 38, 0, &[0u8; 5], &[0u8; NODE_FIELDS]);
+    explain_lent::<MOST_NUMBERS>(rt, 39, 0, &[0u8; 5], &[0u8; NODE_FIELDS]);
+    explain_lent::<MOST_NUMBERS>(rt, 40, 0, &[0u8; EDGE_FIELDS], &[9u8; NODE_FIELDS]);
+    explain_lent::<FEW_NUMBERS>(rt, 41, 0, &[0u8; EDGE_FIELDS], &[9u8; NODE_FIELDS]);
+    explain_lent::<MOST_NUMBERS>(rt, 42, 0, &[0u8; EDGE_FIELDS], &[0u8; NODE_FIELDS]);
+    explain_lent::<FEW_NUMBERS>(rt, 43, 0, &[0u8; EDGE_FIELDS], &[0u8; NODE_FIELDS]);
     44
 }
 
@@ -133,10 +111,10 @@ pub(crate) fn long_calls(rt: &impl Print) -> u64
 {
     let edges = SIXTH;
     let mut nodes = ROUNDS;
-    explain_room(rt, 44, 0, &edges, &nodes);
+    explain_lent::<MOST_NUMBERS>(rt, 44, 0, &edges, &nodes);
     nodes[3] = 8;
     nodes[4] = 1;
     nodes[5] = 2;
-    explain_room(rt, 45, 0, &edges, &nodes);
+    explain_lent::<MOST_NUMBERS>(rt, 45, 0, &edges, &nodes);
     46
 }

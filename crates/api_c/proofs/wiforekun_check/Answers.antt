@@ -9,7 +9,7 @@ use Rattle.api_c.proofs.wiforekun_check.Goals as goal
 
 pub returns-then-local-gt-MOST_CHOICE : goal.returns-then-local-gt-MOST_CHOICE
 returns-then-local-gt-MOST_CHOICE c = record {
-  told = λ v h. c.outcome_code.ensures ∙ ap code_of (right-none c.if-local-gt-MOST_CHOICE.true h);
+  told = λ v h. c.refused.ensures ∙ ap code_of (right-none c.if-local-gt-MOST_CHOICE.true h);
   verdict = refused 41;
   promised = no_choice c.if-local-gt-MOST_CHOICE.true;
 }
@@ -19,7 +19,7 @@ returns c =
     let k = c.check-o in
     let l = c.if-local-gt-MOST_CHOICE.false in
     record {
-      told = λ v h. c.outcome_code-2.ensures ∙ ap code_of ((k.ensures.exact v).0 (right-chosen l h));
+      told = λ v h. c.outcome_code.ensures ∙ ap code_of ((k.ensures.exact v).0 (right-chosen l h));
       verdict = outcome_verdict k.result;
       promised = chosen l k.ensures;
     }

@@ -5,7 +5,7 @@ use Rattle.automaton.proofs.move_by_rows.Goals as goal
 pub returns : goal.returns
 returns c =
     let a = c.args in
-    move_by-parts a.x a.a a.b a.c a.d a.e a.f a.g a.h _ _ _ _ _ _ _ _
+    move_by-parts a.x a.rows _ _ _ _ _ _ _ _
     c.pick.ensures
     c.pick-2.ensures c.pick-3.ensures
     c.pick-4.ensures c.pick-5.ensures c.pick-6.ensures

@@ -7,16 +7,12 @@ use Rattle.checker_account.proofs.CodeLaws.{none_more}
 use native.Mathlib.Omega.{arith}
 use mathlib.Core.Path.{◌≡◌, refl, sym}
 use lib.ListN.{length, get_or}
-use borrow.Author.Rules.{rules}
 use Rattle.checker.proofs.has_edge.Goals as goal
 use Rattle.checker.proofs.has_edge.Invariants.{test}
 
 pub loop-i-init : goal.loop-i-init
 unfolding some_below
-loop-i-init c = (search rules, refl)
-
-pub overflow_cast-edges : goal.overflow_cast-edges
-overflow_cast-edges c = omega (arith, c.type_inv.edges (6 * c.loop-i.i))
+loop-i-init c = refl
 
 pub returns-then-edges-i : goal.returns-then-edges-i
 unfolding has_edge_lem
@@ -29,15 +25,12 @@ returns-then-edges-i c =
 pub loop-i-preserved : goal.loop-i-preserved
 loop-i-preserved c =
     let a = c.args in
-    let l = c.loop-i in (
-      search rules,
-      none_more (test a.edges.now a.p) l.i l.invariant.1
-          (ne_eqb (get_or a.edges.now (6 * l.i) 0) a.p c.if-edges-i.false),
-    )
+    let l = c.loop-i in
+    none_more (test a.edges.now a.p) l.i l.invariant (ne_eqb (get_or a.edges.now (6 * l.i) 0) a.p c.if-edges-i.false)
 
 pub returns : goal.returns
 unfolding has_edge_lem
 returns c =
     let l = c.loop-i in
     let e : l.i ≡ length c.args.edges.now / 6 = omega arith in
-    sym (rw e at l.invariant.1)
+    sym (rw e at l.invariant)

@@ -1,5 +1,5 @@
 use mathlib.Core.Path.{◌≡◌}
-use Prim.Native.Nat.{ℕ, ◌-◌, ◌≤◌}
+use Prim.Native.Nat.{ℕ}
 use lib.ListN.{replicate}
 use mathlib.Core.Bool.{Bool}
 use mathlib.Core.List.{List}
@@ -14,7 +14,4 @@ abbrev pub steps : List ℕ → List ℕ → ℕ → Bool → ℕ → List ℕ �
 steps edges nodes p pair k = node_rows (rows_at (edges_of edges)) pair p k (forms_in nodes k)
 
 abbrev pub invariant-loop-k : goal.invariant-loop-k
-invariant-loop-k l = (l.k ≤ l.n) × (l.rows ≡ repeat (steps l.edges l.nodes l.p l.pair) l.k (replicate places 0))
-
-abbrev pub decreases-loop-k : goal.decreases-loop-k
-decreases-loop-k l = l.n - l.k
+invariant-loop-k l = l.rows ≡ repeat (steps l.edges l.nodes l.p l.pair) l.k (replicate places 0)

@@ -1,7 +1,7 @@
 use mathlib.Core.Path.{◌≡◌}
 use mathlib.Core.Bool.{Bool, false}
 use mathlib.Core.List.{List}
-use Prim.Native.Nat.{ℕ, ◌-◌, ◌≤◌}
+use Prim.Native.Nat.{ℕ}
 use Rattle.usage.specs.Tests.{some_below}
 use Rattle.checker_account.specs.Filling.{forms_in}
 use Rattle.checker_tables.specs.Search.{is_on_lem}
@@ -11,7 +11,5 @@ abbrev pub on : List ℕ → ℕ → ℕ → Bool
 on t x k = is_on_lem x (forms_in t k)
 
 abbrev pub invariant-loop-k : goal.invariant-loop-k
-invariant-loop-k l = (l.k ≤ l.n) × (some_below (on l.nodes l.x) l.k ≡ false)
-
-abbrev pub decreases-loop-k : goal.decreases-loop-k
-decreases-loop-k l = l.n - l.k
+invariant-loop-k l =
+    some_below (on l.nodes l.x) l.k ≡ false

@@ -1,52 +1,36 @@
+use mathlib.Core.Path.{sym, ap, ◌∙◌, subst}
 use Prim.Native.Nat.{ℕ, ◌+◌}
-use mathlib.Core.Path.{◌≡◌, sym, ◌∙◌, subst}
-use mathlib.Core.Bool.{true, not, ◌&&◌}
 use native.Mathlib.Omega.{arith}
-use Rattle.usage.proofs.Logic.{false-true, not-true, and_left, and_right}
+use Rattle.std.specs.Prelude.{Option as Maybe, Some}
 use Rattle.checker_lengths.specs.Held.{watch_of}
-use Rattle.checker_trace.specs.Code.{TableOf}
+use Rattle.checker_trace.specs.declared.Shortest.{Shortest}
+use Rattle.checker_trace.specs.Code.{root_of, Sought, Kept}
 use Rattle.checker_trace.proofs.ShownLaws as laws
-use borrow.Author.Rules.{rules}
 use Rattle.checker_trace.proofs.least.Goals as goal
-use Rattle.checker_trace.proofs.least.Goals.{else-v-length, then-v-length}
-
-pub loop-x-init : goal.loop-x-init
-loop-x-init c = (
-  search rules,
-  record { fits = omega arith; told = λ h. absurd (omega arith); least = λ y l w. absurd (omega arith) },
-  λ e. false-true e,
-)
+use Rattle.checker_trace.proofs.least.Goals.{in-Some, in_default}
 
 pub loop-x-preserved : goal.loop-x-preserved
 loop-x-preserved c =
     let a = c.args in
+    let rows = a.rows.now in
+    let nodes = a.nodes.now in
     let l = c.loop-x in
-    let k = c.loop-x-test.true in
-    let s = c.steps-v in
-    let v = s.result.length in
-    let t = s.new.t in
-    let below = laws.Least-below a.local a.p a.rows.now a.nodes.now (l.x + 1) in
-    let fits = l.invariant.1.fits in
-    elim c.if-v-length.branch [
-      | then-v-length u ↦ let low = u.if-v-length.true in (
-        omega arith,
-        subst (λ (i : ℕ). below c.if-v-length.resource i) (sym u.length-is) (subst (λ (i : ℕ). below i v) (sym u.resource-is)
-            (laws.least-take a.local a.p a.rows.now a.nodes.now l.invariant.1 (omega arith) v s.ensures.sought low)),
-        λ e. subst (λ (i : ℕ). TableOf (watch_of a.local a.p i) a.rows.now a.nodes.now t) (sym u.resource-is)
-            (s.ensures.table_of (omega arith)),
-      )
-      | else-v-length u ↦ (
-        omega arith,
-        subst (λ (i : ℕ). below c.if-v-length.resource i) (sym u.length-is) (subst (λ (i : ℕ). below i l.length) (sym u.resource-is)
-            (laws.least-keep a.local a.p a.rows.now a.nodes.now l.invariant.1 v s.ensures.sought u.if-v-length.false)),
-        λ e.
-            let h : (l.kept && not s.result.filled) ≡ true = sym u.kept-is ∙ e in
-            let same = s.ensures.t_unchanged (not-true s.result.filled (and_right l.kept (not s.result.filled) h)) in
-            subst (λ (i : ℕ). TableOf (watch_of a.local a.p i) a.rows.now a.nodes.now t) (sym u.resource-is)
-            (subst (TableOf (watch_of a.local a.p l.resource) a.rows.now a.nodes.now) (sym same)
-            (l.invariant.2 (and_left l.kept (not s.result.filled) h))),
-      )
+    let s = c.steps in
+    let w = watch_of a.local a.p l.x in
+    let P : Maybe Shortest → Type 0 = λ q. laws.Least-below a.local a.p rows nodes (l.x + 1) q × Kept a.local a.p rows nodes q s.new.t in
+    elim c.match-steps.branch [
+      | in-Some b ↦
+          let v = b.in-Some.v in
+          let h = subst (λ (q : Maybe ℕ). Sought w rows nodes l.t q s.new.t) b.in-Some.is s.ensures in
+          let fits = laws.held-fits s.new.t (root_of l.x) in
+          subst P (sym (b.found-is ∙ ap Some b.shorter.ensures)) (
+            laws.least-next a.local a.p rows nodes l.found l.invariant.0 (omega arith) v (omega (arith, h.1)) (s.new.t, h.0, h.1),
+            laws.kept-next a.local a.p rows nodes l.found l.x v s.new.t h.0,
+          )
+      | in_default b ↦
+          let h = subst (λ (q : Maybe ℕ). Sought w rows nodes l.t q s.new.t) b.in_default.is s.ensures in
+          subst P (sym b.found-is) (
+            laws.least-past a.local a.p rows nodes l.invariant.0 h.0,
+            subst (Kept a.local a.p rows nodes l.found) (sym h.1) l.invariant.1,
+          )
     ]
-
-pub returns : goal.returns
-returns c = let l = c.loop-x in record { shortest_is = record { told = l.invariant.1.told; least = λ y k w. l.invariant.1.least y (omega arith) w }; table_of = l.invariant.2 }

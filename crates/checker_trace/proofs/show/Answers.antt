@@ -1,13 +1,9 @@
 use mathlib.Core.Path.{refl, subst}
-use native.Mathlib.Omega.{arith}
 use Rattle.usage.proofs.Logic.{not-true, not-false}
 use Rattle.checker_lengths.specs.declared.Entry.{Entry}
 use Rattle.checker_trace.specs.Code.{Writes}
 use Rattle.checker_trace.proofs.ShownLaws as laws
 use Rattle.checker_trace.proofs.show.Goals as goal
-
-pub again-requires : goal.again-requires
-again-requires c = c.requires.table_of
 
 pub returns-then-not-again : goal.returns-then-not-again
 returns-then-not-again c =
@@ -19,13 +15,6 @@ returns-then-not-again c =
           (laws.table_none r.result a.w a.rows.now a.nodes.now r.new.t r.ensures
           (not-true r.result c.if-not-again.true-raw)) p.n_le_most_shown;
     }
-
-pub write-requires : goal.write-requires
-write-requires c = let p = c.requires in
-    record { few_nodes = p.node_fields_len_bound; few = p.n_le_most_shown; long = omega arith; numbered = omega arith }
-
-pub shape_of-trace : goal.shape_of-trace
-shape_of-trace c = c.write.ensures.length_kept
 
 pub returns : goal.returns
 returns c =

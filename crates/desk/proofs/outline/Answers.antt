@@ -47,4 +47,4 @@ load_outline-requires c =
     let a = c.args in
     let d = c.is_desk in
     let k = c.head_in-h in
-    let q = loaded-desk a.state.now k.result (sym k.ensures) c.if-h-eq0.false (sym d.ensures ∙ not-false d.result c.if-not-is_desk.false-raw) in record { desk_bytes_in_bounds = c.if-state-lt-DESK_BYTES.false; h_value = q.2; fact = c.if-h-eq0.false; h_value_2 = q.3; b_value = q.0; h_value_3 = ap is_busy_lem (sym q.1) ∙ sym (c.is_busy.ensures a.state.now) ∙ c.if-is_busy.false }
+    let q = loaded-desk a.state.now k.result (sym k.ensures) c.if-h-eq0.false (sym d.ensures ∙ not-false d.result c.if-not-is_desk.false-raw) in record { desk_bytes_in_bounds = c.if-state-lt-DESK_BYTES.false; head_is_ok = q.2; policies_loaded = c.if-h-eq0.false; edges_valid = q.3; is_loaded = q.0; is_free = ap is_busy_lem (sym q.1) ∙ sym (c.is_busy.ensures a.state.now) ∙ c.if-is_busy.false }

@@ -37,4 +37,4 @@ pub load_policies-requires : goal.load_policies-requires
 load_policies-requires c =
     let a = c.args in
     let d = c.is_desk in
-    let h = sym c.head_in-h.ensures in record { desk_bytes_in_bounds = c.if-state-lt-DESK_BYTES.false; b_value = desk-of a.state.now _ h (sym d.ensures ∙ not-false d.result c.if-not-is_desk.false-raw); b_value_2 = ap is_busy_lem (sym (desk-by a.state.now _ h)) ∙ sym (c.is_busy.ensures a.state.now) ∙ c.if-is_busy.false }
+    let h = sym c.head_in-h.ensures in record { desk_bytes_in_bounds = c.if-state-lt-DESK_BYTES.false; is_desk = desk-of a.state.now _ h (sym d.ensures ∙ not-false d.result c.if-not-is_desk.false-raw); is_free = ap is_busy_lem (sym (desk-by a.state.now _ h)) ∙ sym (c.is_busy.ensures a.state.now) ∙ c.if-is_busy.false }

@@ -1,5 +1,5 @@
 use mathlib.Core.Path.{subst}
-use Rattle.usage.proofs.Logic.{not-true, not-false}
+use Rattle.usage.proofs.Logic.{not-true}
 use Rattle.desk.specs.Calls.{Called, too_short, no_desk, called, ByStep, replied}
 use Rattle.desk.proofs.CallLaws.{nothing-loaded, bad-head}
 use mathlib.Core.Path.{refl, sym, ◌∙◌}
@@ -28,11 +28,3 @@ returns-then-not-head_ok c =
     let h = sym c.head_in-h.ensures in
     subst (λ (r : ℕ). Called (ByStep (record { kind = a.kind; a = a.a; b = a.b })) a.state.now r a.state.now) (sym c.refused-then-not-head_ok.ensures)
     (no_desk c.if-state-lt-DESK_BYTES.false (bad-head a.state.now _ h c.if-h-eq0.false (sym c.head_ok.ensures ∙ e)))
-
--- src/lib.rt:62:9
-pub on_outline-requires : goal.on_outline-requires
-on_outline-requires c = record { desk_bytes_in_bounds = c.if-state-lt-DESK_BYTES.false; b_value = sym c.head_in-h.ensures; fact = c.if-h-eq0.false; h_value = sym c.head_ok.ensures ∙ not-false c.head_ok.result c.if-not-head_ok.false-raw; h_value_2 = sym c.is_listed.ensures ∙ c.if-is_listed.true }
-
--- src/lib.rt:64:5
-pub off_outline-requires : goal.off_outline-requires
-off_outline-requires c = record { desk_bytes_in_bounds = c.if-state-lt-DESK_BYTES.false; b_value = sym c.head_in-h.ensures; fact = c.if-h-eq0.false; h_value = sym c.head_ok.ensures ∙ not-false c.head_ok.result c.if-not-head_ok.false-raw; h_value_2 = sym c.is_listed.ensures ∙ c.if-is_listed.false }

@@ -7,17 +7,9 @@ use Rattle.desk_positions.specs.Positions.{most_positions, same_position, stride
 use Rattle.desk_positions.specs.Growth.{Settles, step_from}
 use Rattle.desk_positions.proofs.NextLaws.{next-settles, next-beyond, grown_tabled}
 use native.Mathlib.Omega.{arith}
-use mathlib.Core.Path.{◌≡◌, refl}
+use mathlib.Core.Path.{◌≡◌}
 use Prim.Native.Nat.{ℕ, suc}
 use Rattle.desk_positions.proofs.next.Goals as goal
-
--- src/lib.rt:634:9
-pub returns-then-t-ne-ROWS : goal.returns-then-t-ne-ROWS
-returns-then-t-ne-ROWS c = record { settles = λ ls ok l w. absurd (c.if-t-ne-ROWS.true l); upper_bound = omega arith; nothing_written = λ o. (refl, refl) }
-
--- src/lib.rt:637:9
-pub returns-then-n-gt-MOST_POSITIONS : goal.returns-then-n-gt-MOST_POSITIONS
-returns-then-n-gt-MOST_POSITIONS c = record { settles = λ ls ok l w. absurd (let k = w.few in let e = w.number in omega arith); upper_bound = omega arith; nothing_written = λ o. (refl, refl) }
 
 -- src/lib.rt:641:9
 pub returns-then-m-gt-MOST_POSITIONS : goal.returns-then-m-gt-MOST_POSITIONS
@@ -28,7 +20,7 @@ returns-then-m-gt-MOST_POSITIONS c =
     let step = step_from a.kind a.a a.b in
     let e : suc most_positions ≡ s.result = let k = s.ensures.rows_counted.1 in let q = c.if-m-gt-MOST_POSITIONS.true in omega arith in record {
       settles = λ ls ok l w. subst (λ (m : ℕ). Settles (next_positions ns step ls) m s.new.t) e
-          (next-beyond ns step ls (s.ensures.grown ls ok w) c.if-m-gt-MOST_POSITIONS.true);
+          (next-beyond ns step ls (rw c.move_from.ensures at s.ensures.grown ls ok w) c.if-m-gt-MOST_POSITIONS.true);
       upper_bound = s.ensures.rows_counted.1;
       nothing_written = λ o. absurd (by_cases o (λ d. d c.if-t-ne-ROWS.false) (λ d. let k = c.if-n-gt-MOST_POSITIONS.false in omega arith));
     }
@@ -43,7 +35,7 @@ returns c =
     let step = step_from a.kind a.a a.b in record {
       settles = λ ls ok l w. next-settles ns step ls p.result p.new.t
           (p.ensures.settles (added_all same_position [] (stride_all ns step ls)) ok
-          (grown_tabled ns step (s.ensures.grown ls ok w) c.if-m-gt-MOST_POSITIONS.false));
+          (grown_tabled ns step (rw c.move_from.ensures at s.ensures.grown ls ok w) c.if-m-gt-MOST_POSITIONS.false));
       upper_bound = p.ensures.rows_counted.1;
       nothing_written = λ o. absurd (by_cases o (λ d. d c.if-t-ne-ROWS.false) (λ d. let k = c.if-n-gt-MOST_POSITIONS.false in omega arith));
     }

@@ -4,23 +4,11 @@ use native.Mathlib.Omega.{arith}
 use mathlib.Core.Path.{refl, sym, ◌∙◌}
 use Rattle.desk_positions.proofs.rows_ok.Goals as goal
 
--- src/lib.rt:718:9
-pub returns-then-t-ne-ROWS : goal.returns-then-t-ne-ROWS
-returns-then-t-ne-ROWS c = record { value = λ l h. absurd (c.if-t-ne-ROWS.true l); value_2 = λ o. refl }
-
--- src/lib.rt:721:9
-pub returns-then-n-gt-MOST_POSITIONS : goal.returns-then-n-gt-MOST_POSITIONS
-returns-then-n-gt-MOST_POSITIONS c = record { value = λ l h. absurd (omega arith); value_2 = λ o. refl }
-
--- src/lib.rt:724:5
-pub loop-i-init : goal.loop-i-init
-loop-i-init c = (c.if-n-gt-MOST_POSITIONS.false, refl)
-
 -- src/lib.rt:727:13
 pub returns-then-not-row_ok : goal.returns-then-not-row_ok
 returns-then-not-row_ok c =
     let a = c.args in
-    let t = c.loop-i in record { value = λ l h. sym (t.invariant.1 ∙ test-fails a.t.now t.i c.loop-i-test.true (sym c.row_ok.ensures ∙ not-true _ c.if-not-row_ok.true-raw)); value_2 = λ o. refl }
+    let t = c.loop-i in record { value = λ l h. sym (t.invariant.1 ∙ test-fails a.t.now t.i c.loop-i-test.true (sym c.row_ok.ensures ∙ not-true _ c.if-not-row_ok.true-raw)); no_table = λ o. refl }
 
 -- src/lib.rt:724:5
 pub loop-i-preserved : goal.loop-i-preserved
@@ -35,4 +23,4 @@ loop-i-preserved c =
 pub returns : goal.returns
 returns c =
     let a = c.args in
-    let t = c.loop-i in record { value = λ l h. sym (t.invariant.1 ∙ test-ends a.t.now t.i c.loop-i-test.false); value_2 = λ o. absurd (by_cases o (λ d. d c.if-t-ne-ROWS.false) (λ d. let k = c.if-n-gt-MOST_POSITIONS.false in omega arith)) }
+    let t = c.loop-i in record { value = λ l h. sym (t.invariant.1 ∙ test-ends a.t.now t.i c.loop-i-test.false); no_table = λ o. absurd (by_cases o (λ d. d c.if-t-ne-ROWS.false) (λ d. let k = c.if-n-gt-MOST_POSITIONS.false in omega arith)) }

@@ -6,6 +6,3 @@ use Rattle.desk_positions.proofs.rows_ok.Given as goal
 
 abbrev pub invariant-loop-i : goal.invariant-loop-i
 invariant-loop-i l = (l.i ≤ most_positions) × (rows_ok_lem l.t l.n ≡ rows_ok_lem l.t l.i)
-
-abbrev pub decreases-loop-i : goal.decreases-loop-i
-decreases-loop-i l = l.i

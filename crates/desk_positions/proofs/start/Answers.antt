@@ -4,14 +4,10 @@ use Rattle.usage.proofs.Logic.{by_cases}
 use Rattle.desk_positions.specs.Positions.{start_position}
 use Rattle.desk_positions.proofs.NextLaws.{start-tabled, start-settles}
 use native.Mathlib.Omega.{arith}
-use mathlib.Core.Path.{◌≡◌, refl}
+use mathlib.Core.Path.{◌≡◌}
 use lib.ListN.{length}
 use borrow.Author.Rules.{rules}
 use Rattle.desk_positions.proofs.start.Goals as goal
-
--- src/lib.rt:654:9
-pub returns-then-t-ne-ROWS : goal.returns-then-t-ne-ROWS
-returns-then-t-ne-ROWS c = record { settles = λ ok l. absurd (c.if-t-ne-ROWS.true l); upper_bound = omega arith; nothing_written = λ o. (refl, refl) }
 
 -- src/lib.rt:647:1
 pub returns : goal.returns

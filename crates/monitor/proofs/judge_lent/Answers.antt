@@ -6,4 +6,4 @@ use Rattle.monitor.proofs.judge_lent.Goals as goal
 pub returns : goal.returns
 returns c =
     c.judge_looked.ensures.order_after
-    ∙ sized-by _ _ _ _ _ c.known.ensures ∙ all-looked-at _ _ _ _
+    ∙ sized-by _ _ _ _ _ c.told-pairs ∙ all-looked-at _ _ _ _

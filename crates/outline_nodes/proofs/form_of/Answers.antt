@@ -1,3 +1,4 @@
+use native.Mathlib.Omega.{arith}
 use mathlib.Core.Path.{sym}
 use Rattle.outline_nodes.proofs.SaidLaws.{form-by, no-form}
 use Rattle.outline_nodes.proofs.form_of.Goals as goal
@@ -30,8 +31,4 @@ pub returns-in-8 : goal.returns-in-8
 returns-in-8 c = form-by c.args.n 8 c.in-8.is
 
 pub returns-in_default : goal.returns-in_default
-returns-in_default c =
-    let f = c.args.n in
-    let n = c.in_default.in_default-own.rest in
-    sym (no-form f.kind f.a f.b n.0.0.0.0.0.0.0.0.1 n.0.0.0.0.0.0.0.1 n.0.0.0.0.0.0.1
-    n.0.0.0.0.0.1 n.0.0.0.0.1 n.0.0.0.1 n.0.0.1 n.0.1 n.1)
+returns-in_default c = sym (no-form c.args.n (omega arith))

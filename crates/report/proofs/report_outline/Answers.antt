@@ -1,6 +1,7 @@
 use native.Mathlib.Omega.{arith}
 use Prim.Native.Nat.{ℕ, ◌≤◌}
 use mathlib.Core.List.{List}
+use Rattle.usage.specs.Reasons.{number_of}
 use Rattle.usage.specs.Limits.{most_edges}
 use Rattle.usage.specs.Answers.{Verdict, allowed}
 use Rattle.sheet_lines.specs.Sheet.{sheet}
@@ -27,18 +28,18 @@ returns-then-out-lt-OUTLINE_ROOM c =
 pub overflow_mul-n : goal.overflow_mul-n
 overflow_mul-n c =
     let a = c.args in
-    let p = c.read_policies-reading in
-    let n = c.in-Stored.n in
-    let h = policies-held a.policies.now p.new.table n c.in-Stored.local (rw c.in-Stored.is at p.ensures.result_value) p.ensures.table_after in
+    let p = c.read_policies in
+    let n = c.in-Ok.field-0.edges in
+    let h = policies-held a.policies.now p.new.table n c.in-Ok.field-0.local c.in-Ok.ensures.result_value p.ensures.table_after in
     let f : n ≤ most_edges = h.few in
     search rules
 
 pub slice_bounds-row-end : goal.slice_bounds-row-end
 slice_bounds-row-end c =
     let a = c.args in
-    let p = c.read_policies-reading in
-    let n = c.in-Stored.n in
-    let h = policies-held a.policies.now p.new.table n c.in-Stored.local (rw c.in-Stored.is at p.ensures.result_value) p.ensures.table_after in
+    let p = c.read_policies in
+    let n = c.in-Ok.field-0.edges in
+    let h = policies-held a.policies.now p.new.table n c.in-Ok.field-0.local c.in-Ok.ensures.result_value p.ensures.table_after in
     let f : n ≤ most_edges = h.few in
     search rules
 
@@ -50,17 +51,17 @@ row-requires c =
     let l = names-length a.out.now (omega arith) w.result w.new.out w.ensures.value w.ensures.out_after in
     omega arith
 
-pub returns-in-Stored : goal.returns-in-Stored
+pub returns-in-Ok : goal.returns-in-Ok
 unfolding outline_printed
-returns-in-Stored c =
+returns-in-Ok c =
     let a = c.args in
     let w = c.names-next in
-    let p = c.read_policies-reading in
+    let p = c.read_policies in
     let t = c.row in
-    let n = c.in-Stored.n in
-    let h = policies-held a.policies.now p.new.table n c.in-Stored.local (rw c.in-Stored.is at p.ensures.result_value) p.ensures.table_after in
+    let n = c.in-Ok.field-0.edges in
+    let h = policies-held a.policies.now p.new.table n c.in-Ok.field-0.local c.in-Ok.ensures.result_value p.ensures.table_after in
     let right = right-held a.policies.now a.outline.now p.new.table n h in
-    let choice = policies-choice a.policies.now n c.in-Stored.local (rw c.in-Stored.is at p.ensures.result_value) in
+    let choice = policies-choice a.policies.now n c.in-Ok.field-0.local c.in-Ok.ensures.result_value in
     let value = rw choice at t.ensures.value in
     let after = rw choice at t.ensures.out_after in
     let one = rw choice at t.ensures.right_nodes in
@@ -73,17 +74,17 @@ returns-in-Stored c =
     (omega arith) (omega arith) p.new.table n h r (after v ((right v).0 l)) (omega arith)) in
     record { value = y.0; out_after = y.1.0; right_texts = y.1.1 }
 
-pub returns-in-Refused : goal.returns-in-Refused
+pub returns-in-Err : goal.returns-in-Err
 unfolding outline_printed
-returns-in-Refused c =
+returns-in-Err c =
     let a = c.args in
     let w = c.names-next in
-    let p = c.read_policies-reading in
-    let t = c.row-in-Refused in
-    let z = policies-refused a.policies.now c.in-Refused.line c.in-Refused.number (rw c.in-Refused.is at p.ensures.result_value) in
-    let right = right-refused a.policies.now a.outline.now c.in-Refused.line c.in-Refused.number z in
+    let p = c.read_policies in
+    let t = c.refusal_row in
+    let z = policies-refused a.policies.now c.in-Err.r.line (number_of c.in-Err.r.reason) (rw c.in-Err.is at p.ensures.result_value) in
+    let right = right-refused a.policies.now a.outline.now c.in-Err.r.line (number_of c.in-Err.r.reason) z in
     let y = outline-put a.policies.now a.outline.now a.out.now t.result _ allowed (right allowed) (λ v l.
     printed-refused a.out.now (omega arith) w.result w.new.out w.ensures.value w.ensures.out_after outline_room a.policies.now
     (rest a.outline.now v)
-    (omega arith) (omega arith) c.in-Refused.line c.in-Refused.number z t.ensures.value t.ensures.out_after) in
+    (omega arith) (omega arith) c.in-Err.r.line (number_of c.in-Err.r.reason) z t.ensures.value t.ensures.out_after) in
     record { value = y.0; out_after = y.1.0; right_texts = y.1.1 }

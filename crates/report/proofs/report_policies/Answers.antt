@@ -1,3 +1,4 @@
+use Rattle.usage.specs.Reasons.{number_of}
 use Rattle.report.specs.Policies.{policies_printed, policies_room}
 use Rattle.report.proofs.OutputLaws.{no_room}
 use Rattle.report.proofs.PoliciesLaws.{sheet-printed, refusal-printed, refusal-fits}
@@ -12,23 +13,23 @@ returns-then-out-lt-POLICIES_ROOM c =
 pub refused-requires : goal.refused-requires
 refused-requires c =
     let a = c.args in
-    let w = c.write_policies-w in
+    let w = c.write_policies in
     let room = c.if-out-lt-POLICIES_ROOM.false in
-    refusal-fits a.out.now room a.policies.now c.in-Refused.line c.in-Refused.number (rw c.in-Refused.is at w.ensures.result_value) w.ensures.out_after
+    refusal-fits a.out.now room a.policies.now c.in-Err.refusal.line (number_of c.in-Err.refusal.reason) (rw c.in-Err.is at w.ensures.result_value) w.ensures.out_after
 
-pub returns-in-Written : goal.returns-in-Written
-returns-in-Written c =
+pub returns-in-Ok : goal.returns-in-Ok
+returns-in-Ok c =
     let a = c.args in
-    let w = c.write_policies-w.ensures in
+    let w = c.write_policies.ensures in
     let room = c.if-out-lt-POLICIES_ROOM.false in
-    let y = sheet-printed a.out.now room a.policies.now c.in-Written.n (rw c.in-Written.is at w.result_value) w.out_after in
+    let y = sheet-printed a.out.now room a.policies.now c.in-Ok.n (rw c.in-Ok.is at w.result_value) w.out_after in
     record { value = y.0; out_after = y.1 }
 
-pub returns-in-Refused : goal.returns-in-Refused
-returns-in-Refused c =
+pub returns-in-Err : goal.returns-in-Err
+returns-in-Err c =
     let a = c.args in
-    let w = c.write_policies-w.ensures in
+    let w = c.write_policies.ensures in
     let room = c.if-out-lt-POLICIES_ROOM.false in
     let r = c.refused.ensures in
-    let y = refusal-printed a.out.now room a.policies.now c.in-Refused.line c.in-Refused.number (rw c.in-Refused.is at w.result_value) w.out_after r.value r.out_after in
+    let y = refusal-printed a.out.now room a.policies.now c.in-Err.refusal.line (number_of c.in-Err.refusal.reason) (rw c.in-Err.is at w.result_value) w.out_after r.value r.out_after in
     record { value = y.0; out_after = y.1 }

@@ -3,6 +3,7 @@ use Prim.Native.Nat.{ℕ, ◌-◌, ◌*◌, ◌≤◌}
 use mathlib.Core.Bool.{Bool}
 use mathlib.Core.List.{List}
 use lib.ListN.{take}
+use Rattle.usage.specs.Reasons.{number_of}
 use Rattle.usage.specs.Limits.{most_edges}
 use Rattle.sheet_lines.specs.Sheet.{sheet}
 use Rattle.sheet_lines.specs.Sheets.{trace_sheet, is_local}
@@ -27,18 +28,18 @@ returns-then-out-lt-TRACE_ROOM c =
 pub overflow_mul-n : goal.overflow_mul-n
 overflow_mul-n c =
     let a = c.args in
-    let p = c.read_policies-reading in
-    let n = c.in-Stored.n in
-    let h = policies-held a.policies.now p.new.table n c.in-Stored.local (rw c.in-Stored.is at p.ensures.result_value) p.ensures.table_after in
+    let p = c.read_policies in
+    let n = c.in-Ok.field-0.edges in
+    let h = policies-held a.policies.now p.new.table n c.in-Ok.field-0.local c.in-Ok.ensures.result_value p.ensures.table_after in
     let f : n ≤ most_edges = h.few in
     search rules
 
 pub slice_bounds-rows-end : goal.slice_bounds-rows-end
 slice_bounds-rows-end c =
     let a = c.args in
-    let p = c.read_policies-reading in
-    let n = c.in-Stored.n in
-    let h = policies-held a.policies.now p.new.table n c.in-Stored.local (rw c.in-Stored.is at p.ensures.result_value) p.ensures.table_after in
+    let p = c.read_policies in
+    let n = c.in-Ok.field-0.edges in
+    let h = policies-held a.policies.now p.new.table n c.in-Ok.field-0.local c.in-Ok.ensures.result_value p.ensures.table_after in
     let f : n ≤ most_edges = h.few in
     search rules
 
@@ -50,31 +51,31 @@ rows-requires c =
     let l = names-length a.out.now (omega arith) w.result w.new.out w.ensures.value w.ensures.out_after in
     omega arith
 
-pub returns-in-Stored : goal.returns-in-Stored
+pub returns-in-Ok : goal.returns-in-Ok
 unfolding trace_printed
-returns-in-Stored c =
+returns-in-Ok c =
     let a = c.args in
     let w = c.names-at in
-    let p = c.read_policies-reading in
+    let p = c.read_policies in
     let t = c.rows in
-    let n = c.in-Stored.n in
-    let h = policies-held a.policies.now p.new.table n c.in-Stored.local (rw c.in-Stored.is at p.ensures.result_value) p.ensures.table_after in
-    let choice = policies-choice a.policies.now n c.in-Stored.local (rw c.in-Stored.is at p.ensures.result_value) in
+    let n = c.in-Ok.field-0.edges in
+    let h = policies-held a.policies.now p.new.table n c.in-Ok.field-0.local c.in-Ok.ensures.result_value p.ensures.table_after in
+    let choice = policies-choice a.policies.now n c.in-Ok.field-0.local c.in-Ok.ensures.result_value in
     let l = rows_fit (take (n * 6 - 0) p.new.table) (is_local a.policies.now) a.trace.now in
     let y = printed-held a.out.now (omega arith) w.result w.new.out w.ensures.value w.ensures.out_after trace_room a.policies.now
     (rest (is_local a.policies.now) a.trace.now)
     (omega arith) (omega arith) p.new.table n h (rw choice at t.ensures.value) (rw choice at t.ensures.out_after) (omega arith) in
     record { value = y.0; out_after = y.1 }
 
-pub returns-in-Refused : goal.returns-in-Refused
+pub returns-in-Err : goal.returns-in-Err
 unfolding trace_printed
-returns-in-Refused c =
+returns-in-Err c =
     let a = c.args in
     let w = c.names-at in
-    let p = c.read_policies-reading in
-    let t = c.row in
-    let z = policies-refused a.policies.now c.in-Refused.line c.in-Refused.number (rw c.in-Refused.is at p.ensures.result_value) in
+    let p = c.read_policies in
+    let t = c.refusal_row in
+    let z = policies-refused a.policies.now c.in-Err.r.line (number_of c.in-Err.r.reason) (rw c.in-Err.is at p.ensures.result_value) in
     let y = printed-refused a.out.now (omega arith) w.result w.new.out w.ensures.value w.ensures.out_after trace_room a.policies.now
     (rest (is_local a.policies.now) a.trace.now)
-    (omega arith) (omega arith) c.in-Refused.line c.in-Refused.number z t.ensures.value t.ensures.out_after in
+    (omega arith) (omega arith) c.in-Err.r.line (number_of c.in-Err.r.reason) z t.ensures.value t.ensures.out_after in
     record { value = y.0; out_after = y.1 }

@@ -7,19 +7,11 @@ use Rattle.report_lines.proofs.PutLaws.{length-mark, sets-mark}
 use Rattle.report_lines.proofs.FitLaws.{put-fits, end_fits, put-lacks, end-lacks}
 use Rattle.report_lines.proofs.mark_row.Goals as goal
 
-pub returns-then-out-at : goal.returns-then-out-at
-returns-then-out-at c =
+pub returns-then-saturating_sub-needed : goal.returns-then-saturating_sub-needed
+returns-then-saturating_sub-needed c =
     let a = c.args in
     let t = mark_row_lem a.policy a.action in
-    let l : length a.out.now < a.at + length t = omega arith in
-    record { value = sym (end-lacks a.out.now a.at t l); out_after = sym (put-lacks a.out.now a.at t l) }
-
-pub returns-then-out-at-2 : goal.returns-then-out-at-2
-returns-then-out-at-2 c =
-    let a = c.args in
-    let t = mark_row_lem a.policy a.action in
-    let e = length-mark a.policy a.action in
-    let l : length a.out.now < a.at + length t = omega arith in
+    let l : length a.out.now < a.at + length t = omega (arith, length-mark a.policy a.action) in
     record { value = sym (end-lacks a.out.now a.at t l); out_after = sym (put-lacks a.out.now a.at t l) }
 
 pub field-requires : goal.field-requires

@@ -7,21 +7,11 @@ use Rattle.report_lines.proofs.PutLaws.{length-field, length-row, length-numbere
 use Rattle.report_lines.proofs.FitLaws.{put-fits, end_fits, put-lacks, end-lacks, stored_at}
 use Rattle.report_lines.proofs.numbered_row.Goals as goal
 
-pub returns-then-out-at : goal.returns-then-out-at
-returns-then-out-at c =
+pub returns-then-saturating_sub-needed : goal.returns-then-saturating_sub-needed
+returns-then-saturating_sub-needed c =
     let a = c.args in
     let t = numbered_row_lem a.number a.kind a.a a.b in
-    let l : length a.out.now < a.at + length t = omega arith in
-    record { value = sym (end-lacks a.out.now a.at t l); out_after = sym (put-lacks a.out.now a.at t l) }
-
-pub returns-then-out-at-2 : goal.returns-then-out-at-2
-returns-then-out-at-2 c =
-    let a = c.args in
-    let t = numbered_row_lem a.number a.kind a.a a.b in
-    let e = length-numbered a.number a.kind a.a a.b in
-    let f = length-field a.number 32 in
-    let d = length-row a.kind a.a a.b in
-    let l : length a.out.now < a.at + length t = omega arith in
+    let l : length a.out.now < a.at + length t = omega (arith, length-numbered a.number a.kind a.a a.b, length-field a.number 32, length-row a.kind a.a a.b) in
     record { value = sym (end-lacks a.out.now a.at t l); out_after = sym (put-lacks a.out.now a.at t l) }
 
 pub returns : goal.returns

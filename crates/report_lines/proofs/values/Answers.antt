@@ -14,15 +14,14 @@ use Rattle.report_lines.proofs.FitLaws.{within-fits, end-within-fits, within-lac
 use borrow.Author.Rules.{rules}
 use Rattle.report_lines.proofs.values.Goals as goal
 
-pub returns-then-out-at : goal.returns-then-out-at
-returns-then-out-at c =
+pub returns-then-saturating_sub-lt-VALUES_ROOM : goal.returns-then-saturating_sub-lt-VALUES_ROOM
+returns-then-saturating_sub-lt-VALUES_ROOM c =
     let a = c.args in
-    let l : length a.out.now < a.at + values_room = omega arith in record { value = sym (end-within-lacks values_room a.out.now a.at (values_line a.v) l); out_after = sym (within-lacks values_room a.out.now a.at (values_line a.v) l) }
-
-pub returns-then-out-at-lt-VALUES_ROOM : goal.returns-then-out-at-lt-VALUES_ROOM
-returns-then-out-at-lt-VALUES_ROOM c =
-    let a = c.args in
-    let l : length a.out.now < a.at + values_room = omega arith in record { value = sym (end-within-lacks values_room a.out.now a.at (values_line a.v) l); out_after = sym (within-lacks values_room a.out.now a.at (values_line a.v) l) }
+    let l : length a.out.now < a.at + values_room = omega arith in
+    record {
+      value = sym (end-within-lacks values_room a.out.now a.at (values_line a.v) l);
+      out_after = sym (within-lacks values_room a.out.now a.at (values_line a.v) l);
+    }
 
 pub three-fourth-requires : goal.three-fourth-requires
 three-fourth-requires c =

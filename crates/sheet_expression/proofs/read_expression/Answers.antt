@@ -1,12 +1,12 @@
-use Prim.Native.Nat.{◌*◌}
-use lib.ListN.{length}
-use lib.Seq.{length-take-le}
+use Prim.Native.Nat.{ℕ, ◌*◌}
+use mathlib.Core.List.{List, ◌++◌}
+use lib.ListN.{length, drop}
 use Rattle.usage.specs.Limits.{node_fields, node_places}
+use Rattle.usage.specs.Reasons.{number_of}
 use Rattle.sheet_reader.proofs.ReaderLaws.{refused-reads}
 use Rattle.sheet_expression.specs.Expression.{expression_into}
-use Rattle.sheet_expression.proofs.ReadLaws.{into-small, into-long, into-refused, into-many, into-fault, into-stored}
-use native.Mathlib.Omega.{arith}
-use mathlib.Core.Path.{◌≡◌, sym, ◌∙◌}
+use Rattle.sheet_expression.proofs.ReadLaws.{into-small, into-long, with-room, into-stored}
+use mathlib.Core.Path.{◌≡◌, ap, ◌∙◌}
 use borrow.Author.Rules.{rules}
 use Rattle.sheet_expression.proofs.read_expression.Goals as goal
 
@@ -25,58 +25,22 @@ returns-then-text-gt-LONGEST_SHEET c =
     let h = refused-reads (expression_into p a.text.now) a.table.now 0 5 e in
     record { result_value = h.answers; table_after = h.table }
 
-pub returns-then-r-ne0 : goal.returns-then-r-ne0
-returns-then-r-ne0 c =
+pub returns-in-Err : goal.returns-in-Err
+returns-in-Err c =
     let a = c.args in
     let p = length a.table.now in
-    let e = into-refused p a.text.now c.if-table-lt-NODE_TABLE.false c.if-text-gt-LONGEST_SHEET.false c.line-r.result c.line-r.ensures
-    c.if-r-ne0.true in
-    let h = refused-reads (expression_into p a.text.now) a.table.now 1 c.line-r.result.refused e in
+    let e = with-room p a.text.now c.if-table-lt-NODE_TABLE.false ∙ c.in-Err.ensures in
+    let h = refused-reads (expression_into p a.text.now) a.table.now 1 (number_of c.in-Err.reason) e in
     record { result_value = h.answers; table_after = h.table }
 
-pub returns-then-n-gt-MOST_NODES : goal.returns-then-n-gt-MOST_NODES
-returns-then-n-gt-MOST_NODES c =
+pub returns-in-Ok : goal.returns-in-Ok
+returns-in-Ok c =
     let a = c.args in
-    let p = length a.table.now in
-    let e = into-many p a.text.now c.if-table-lt-NODE_TABLE.false c.if-text-gt-LONGEST_SHEET.false c.line-r.result c.line-r.ensures
-    c.if-r-ne0.false c.if-n-gt-MOST_NODES.true in
-    let h = refused-reads (expression_into p a.text.now) a.table.now 1 17 e in
-    record { result_value = h.answers; table_after = h.table }
-
-pub slice_bounds-bytes-end : goal.slice_bounds-bytes-end
-slice_bounds-bytes-end c =
-    let long : length c.line-r.result.nodes.table ≡ node_places = search rules in
-    let few = c.if-n-gt-MOST_NODES.false in
-    omega (arith, long)
-
-pub slice_bounds-checked-end : goal.slice_bounds-checked-end
-slice_bounds-checked-end c =
-    let long : length c.line-r.result.nodes.table ≡ node_places = search rules in
-    let nodes = c.line-r.result.nodes in
-    let few = c.if-n-gt-MOST_NODES.false in
-    sym (length-take-le (node_fields * nodes.count) nodes.table (omega (arith, long)))
-
-pub returns-then-number-ne0 : goal.returns-then-number-ne0
-returns-then-number-ne0 c =
-    let long : length c.line-r.result.nodes.table ≡ node_places = search rules in
-    let a = c.args in
-    let p = length a.table.now in
-    let e = into-fault p a.text.now c.if-table-lt-NODE_TABLE.false c.if-text-gt-LONGEST_SHEET.false c.line-r.result c.line-r.ensures
-    c.if-r-ne0.false c.if-n-gt-MOST_NODES.false long _ c.checked-number.ensures c.if-number-ne0.true in
-    let h = refused-reads (expression_into p a.text.now) a.table.now 1 _ e in
-    record { result_value = h.answers; table_after = h.table }
-
-pub store-requires : goal.store-requires
-store-requires c =
-    let few = c.if-n-gt-MOST_NODES.false in
-    let room = c.if-table-lt-NODE_TABLE.false in
-    record { n_le_node_places = omega arith; n_in_bounds = omega arith }
-
-pub returns : goal.returns
-returns c =
-    let long : length c.line-r.result.nodes.table ≡ node_places = search rules in
-    let a = c.args in
-    let h = into-stored (length a.table.now) a.text.now c.if-table-lt-NODE_TABLE.false c.if-text-gt-LONGEST_SHEET.false c.line-r.result
-    c.line-r.ensures c.if-r-ne0.false c.if-n-gt-MOST_NODES.false long a.table.now
-    (sym c.if-number-ne0.false ∙ c.checked-number.ensures) in
-    record { result_value = h.answers; table_after = c.store.ensures ∙ h.table }
+    let n = c.in-Ok.nodes in
+    let long : length n.table ≡ node_places = search rules in
+    let y = c.in-Ok.ensures in
+    let h = into-stored (length a.table.now) a.text.now c.if-table-lt-NODE_TABLE.false n y.0 long y.1 a.table.now in
+    record {
+      result_value = h.answers;
+      table_after = ap (λ (s : List ℕ). s ++ drop (node_fields * n.count) a.table.now) c.copy_from_slice.ensures.after ∙ h.table;
+    }

@@ -1,4 +1,6 @@
 use Rattle.usage.specs.Outline.{node_kinds}
+use mathlib.Core.Path.{refl}
+use borrow.Author.Rules.{rules}
 use Rattle.sheet_fields.proofs.RangeLaws.{kind-spans, no_kind}
 use Rattle.sheet_fields.proofs.node_spans.Goals as goal
 
@@ -30,4 +32,4 @@ pub returns-in-8 : goal.returns-in-8
 returns-in-8 c = kind-spans node_kinds _ _ 8 c.in-8.is c.both-in-8.ensures
 
 pub returns-in_default : goal.returns-in_default
-returns-in_default c = no_kind node_kinds _ _ c.in_default.in_default-own.rest c.no_spans.ensures
+returns-in_default c = no_kind node_kinds _ _ (search rules) refl

@@ -1,4 +1,6 @@
 use Rattle.usage.specs.Judge.{step_kinds}
+use mathlib.Core.Path.{refl}
+use borrow.Author.Rules.{rules}
 use Rattle.sheet_fields.proofs.RangeLaws.{kind-spans, no_kind}
 use Rattle.sheet_fields.proofs.step_spans.Goals as goal
 
@@ -15,4 +17,4 @@ pub returns-in-3 : goal.returns-in-3
 returns-in-3 c = kind-spans step_kinds _ _ 3 c.in-3.is c.both-in-3.ensures
 
 pub returns-in_default : goal.returns-in_default
-returns-in_default c = no_kind step_kinds _ _ c.in_default.in_default-own.rest c.no_spans.ensures
+returns-in_default c = no_kind step_kinds _ _ (search rules) refl

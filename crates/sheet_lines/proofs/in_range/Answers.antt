@@ -17,8 +17,8 @@ returns c =
       arith,
       length-take n (drop a.base a.buffer.now),
       length-drop a.base a.buffer.now,
-      pre.kind_bound,
-      pre.buffer_len,
+      pre,
+      c.told-buffer,
     ) in
     let size : a.base + n - a.base ≡ n = omega arith in
     rw (f, size) at c.line_fits.ensures ∙ fits-in-range a.kind vs long

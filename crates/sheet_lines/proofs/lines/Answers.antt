@@ -10,38 +10,28 @@ use Rattle.sheet_lines.proofs.LinesLaws as laws
 use Rattle.sheet_lines.proofs.LinesLaws.{whole, AtLine, InLine, places, few-lines, some-field}
 use Rattle.sheet_lines.proofs.PairsLaws.{sheet-start}
 use native.Mathlib.Omega.{arith}
-use mathlib.Core.Path.{◌≡◌, refl, sym, ap, subst, ◌∙◌}
+use mathlib.Core.Path.{◌≡◌, sym, ap, subst, ◌∙◌}
 use mathlib.Core.Bool.{not}
 use Prim.Native.Nat.{◌<◌}
 use lib.ListN.{length, get_or, drop}
 use borrow.Author.Rules.{rules}
 use Rattle.sheet_lines.proofs.lines.Goals as goal
-use Rattle.sheet_lines.proofs.lines.Goals.{
-  else-lines-test,
-  then-lines-test+then-n-most,
-  then-lines-test+else-n-most+then-text-i,
-  then-lines-test+else-n-most+else-text-i+in-Malformed,
-  then-lines-test+else-n-most+else-text-i+in-Ends+then-not-in_range,
-  then-lines-test+else-n-most+else-text-i+in-Ends+else-not-in_range+then-many,
-}
 use Rattle.sheet_lines.proofs.lines.Invariants.{whole_text}
 
 pub lines-init : goal.lines-init
 lines-init c =
     let a = c.args in
-    let pre = c.requires in (
-      refl,
-      subst (λ (s : Sheet). AtLine (sheet_after a.kind 0) a.text.now (whole s (drop a.from a.text.now)) a.buffer.now
-          a.buffer.now a.from 0) (sheet-start a.kind)
-          (laws.begin (sheet_after a.kind 0) a.text.now a.from a.buffer.now pre.buffer_len pre.from_in_bounds),
-    )
+    let pre = c.requires in
+    subst (λ (s : Sheet). AtLine (sheet_after a.kind 0) a.text.now (whole s (drop a.from a.text.now)) a.buffer.now
+    a.buffer.now a.from 0) (sheet-start a.kind)
+    (laws.begin (sheet_after a.kind 0) a.text.now a.from a.buffer.now c.told-buffer pre)
 
 pub overflow_mul-base : goal.overflow_mul-base
 overflow_mul-base c =
     let a = c.args in
     let t = c.lines in
     let most = c.most-most.ensures in
-    let few = t.invariant.1.few in
+    let few = t.invariant.few in
     let r : t.n < (sheet_of a.kind).most = omega (arith, most, few) in
     let h = places a.kind t.n r in
     rw c.fields-fields.ensures (search rules)
@@ -51,17 +41,14 @@ bytes-init c =
     let a = c.args in
     let t = c.lines in
     let most = c.most-most.ensures in
-    let few = t.invariant.1.few in
+    let few = t.invariant.few in
     let r : t.n < (sheet_of a.kind).most = omega (arith, most, few) in (
       search rules,
-      (
-        t.invariant.0,
-        rw c.nothing-p.ensures
-            (laws.enter (sheet_after a.kind t.pairs) a.text.now (whole_text a.kind a.from a.text.now)
-            a.buffer.now t.buffer t.i t.n t.invariant.1
-            (some-field a.kind)
-            c.lines-test.true r),
-      ),
+      rw c.nothing-p.ensures
+          (laws.enter (sheet_after a.kind t.pairs) a.text.now (whole_text a.kind a.from a.text.now)
+          a.buffer.now t.buffer t.i t.n t.invariant
+          (some-field a.kind)
+          c.lines-test.true r),
     )
 
 pub overflow_add-at : goal.overflow_add-at
@@ -69,7 +56,7 @@ overflow_add-at c =
     let a = c.args in
     let n = c.lines.n in
     let t = c.bytes in
-    let inv = t.invariant.1.1 in
+    let inv = t.invariant.1 in
     let first = c.lines.buffer in
     let f = c.fields-fields.ensures in
     let h = places a.kind n inv.room in
@@ -79,7 +66,7 @@ overflow_add-at c =
 pub overflow_cast-buffer : goal.overflow_cast-buffer
 overflow_cast-buffer c =
     let t = c.bytes in
-    let s = t.invariant.1.1.sound in
+    let s = t.invariant.1.sound in
     let v = s.fits in
     search rules
 
@@ -88,7 +75,7 @@ offset_bounds-buffer-at c =
     let a = c.args in
     let n = c.lines.n in
     let t = c.bytes in
-    let inv = t.invariant.1.1 in
+    let inv = t.invariant.1 in
     let first = c.lines.buffer in
     let f = c.fields-fields.ensures in
     let h = places a.kind n inv.room in
@@ -100,7 +87,7 @@ bounds-buffer-at c =
     let a = c.args in
     let n = c.lines.n in
     let t = c.bytes in
-    let inv = t.invariant.1.1 in
+    let inv = t.invariant.1 in
     let first = c.lines.buffer in
     let f = c.fields-fields.ensures in
     let h = places a.kind n inv.room in
@@ -113,20 +100,17 @@ bytes-preserved c =
     let u = c.lines in
     let n = u.n in
     let t = c.bytes in
-    let inv = t.invariant.1.1 in
+    let inv = t.invariant.1 in
     let first = u.buffer in
     let f = c.fields-fields.ensures in
     let h = places a.kind n inv.room in
     let g : byte_step (sheet_of a.kind).fields t.p (get_or a.text.now t.i 0)
     ≡ _ = rw f at (sym c.step-next.ensures ∙ c.in-Goes.is) in (
       search rules,
-      (
-        t.invariant.1.0,
-        rw f
-            (laws.goes (sheet_after a.kind u.pairs) a.text.now (whole_text a.kind a.from a.text.now)
-            first t.buffer t.i n t.p inv h
-            c.if-text-i.false _ g),
-      ),
+      rw f
+          (laws.goes (sheet_after a.kind u.pairs) a.text.now (whole_text a.kind a.from a.text.now)
+          first t.buffer t.i n t.p inv h
+          c.if-text-i.false _ g),
     )
 
 pub in_range-requires : goal.in_range-requires
@@ -134,24 +118,24 @@ in_range-requires c =
     let a = c.args in
     let n = c.lines.n in
     let t = c.bytes in
-    let inv = t.invariant.1.1 in
+    let inv = t.invariant.1 in
     let first = c.lines.buffer in
     let f = c.fields-fields.ensures in
     let h = places a.kind n inv.room in
     let l : length t.buffer ≡ most_values = inv.size in
-    record { kind_bound = rw f h; buffer_len = search rules }
+    rw f h
 
 pub with_line-pairs-requires : goal.with_line-pairs-requires
 with_line-pairs-requires c =
     let a = c.args in
     let n = c.lines.n in
     let t = c.bytes in
-    let inv = t.invariant.1.1 in
+    let inv = t.invariant.1 in
     let first = c.lines.buffer in
     let f = c.fields-fields.ensures in
     let h = places a.kind n inv.room in
     let l : length t.buffer ≡ most_values = inv.size in
-    record { kind_bound = rw f h; buffer_len = search rules }
+    rw f h
 
 pub lines-preserved : goal.lines-preserved
 unfolding pairs_over
@@ -160,88 +144,98 @@ lines-preserved c =
     let u = c.lines in
     let n = u.n in
     let t = c.bytes in
-    let inv = t.invariant.1.1 in
+    let inv = t.invariant.1 in
     let first = u.buffer in
     let f = c.fields-fields.ensures in
     let h = places a.kind n inv.room in
     let e : byte_step (sheet_of a.kind).fields t.p (get_or a.text.now t.i 0)
     ≡ Ends =
-    rw f at (sym c.step-next.ensures ∙ c.in-Ends.is) in (
-      t.invariant.1.0,
-      rw (c.with_line-pairs.ensures, f) (laws.next-line (sheet_after a.kind u.pairs) a.text.now
-          (whole_text a.kind a.from a.text.now) first t.buffer t.i n t.p inv h
-          c.if-text-i.false (bounded a.kind) e
-          (rw f at (sym c.in_range.ensures ∙ not-false c.in_range.result c.if-not-in_range.false-raw))
-          (rw (c.with_line-pairs.ensures, f) at (ap not (sym c.many.ensures ∙ c.if-many.false))) a.buffer.now
-          u.invariant.1.rest),
-    )
+    rw f at (sym c.step-next.ensures ∙ c.in-Ends.is) in
+    rw (c.with_line-pairs.ensures, f) (laws.next-line (sheet_after a.kind u.pairs) a.text.now
+    (whole_text a.kind a.from a.text.now) first t.buffer t.i n t.p inv h
+    c.if-text-i.false (bounded a.kind) e
+    (rw f at (sym c.in_range.ensures ∙ not-false c.in_range.result c.if-not-in_range.false-raw))
+    (rw (c.with_line-pairs.ensures, f) at (ap not (sym c.many.ensures ∙ c.if-many.false))) a.buffer.now
+    u.invariant.rest)
 
-pub answer_after-requires : goal.answer_after-requires
-answer_after-requires c =
-    let few = c.lines.invariant.1.few in
-    let most = few-lines c.args.kind in
-    search rules
+-- the six ways out of the loops
+pub returns-then-n-most-clause-buffer_after : goal.returns-then-n-most-clause-buffer_after
+returns-then-n-most-clause-buffer_after c =
+    let a = c.args in
+    let t = c.lines in
+    let s = sheet_after a.kind t.pairs in
+    let g = whole_text a.kind a.from a.text.now in
+    let n = t.n in
+    rw c.refusal.ensures
+    (laws.too_many s a.text.now g a.buffer.now t.buffer t.i n t.invariant c.lines-test.true (c.if-n-most.true ∙ c.most-most.ensures))
 
-pub returns : goal.returns
-unfolding pairs_over
-returns c =
+pub returns-then-text-i-clause-buffer_after : goal.returns-then-text-i-clause-buffer_after
+returns-then-text-i-clause-buffer_after c =
     let a = c.args in
     let t = c.lines in
     let s = sheet_after a.kind t.pairs in
     let g = whole_text a.kind a.from a.text.now in
     let n = t.n in
     let f = c.fields-fields.ensures in
-    -- the six ways out of the loops meet here
-    let h : laws.Answers s a.text.now g a.buffer.now c.lines-test.buffer n c.lines-test.number = elim c.lines-test.branch [
-      | else-lines-test w ↦
-          rw (w.buffer-is, w.number-is ∙ t.invariant.0) (record {
-            gives = laws.line-end s a.text.now g a.buffer.now t.buffer t.i n t.invariant.1 w.lines-test.false;
-            after = t.invariant.1.rest;
-          })
-      | then-lines-test+then-n-most w ↦
-          rw w.number-is (record {
-            gives =
-                laws.too_many s a.text.now g a.buffer.now t.buffer t.i n t.invariant.1 w.lines-test.true
-                (w.if-n-most.true ∙ c.most-most.ensures);
-            after = refl;
-          })
-      | then-lines-test+else-n-most+then-text-i w ↦
-          let b = w.bytes in
-          let inv = b.invariant.1.1 in
-          let p = places a.kind n inv.room in
-          rw w.number-is (record {
-            gives = laws.unended s a.text.now g t.buffer b.buffer b.i n b.p inv p w.if-text-i.true;
-            after = refl;
-          })
-      | then-lines-test+else-n-most+else-text-i+in-Malformed w ↦
-          let b = w.bytes in
-          let inv = b.invariant.1.1 in
-          let p = places a.kind n inv.room in
-          rw w.number-is
-          (laws.malformed s a.text.now g t.buffer b.buffer b.i n b.p inv p w.if-text-i.false (bounded a.kind) _
-          (rw f at (sym w.step-next.ensures ∙ w.in-Malformed.is)) a.buffer.now c.lines-test.buffer)
-      | then-lines-test+else-n-most+else-text-i+in-Ends+then-not-in_range w ↦
-          let b = w.bytes in
-          let inv = b.invariant.1.1 in
-          let p = places a.kind n inv.room in
-          rw w.number-is (record {
-            gives =
-                laws.outside s a.text.now g t.buffer b.buffer b.i n b.p inv p w.if-text-i.false (bounded a.kind)
-                (rw f at (sym w.step-next.ensures ∙ w.in-Ends.is))
-                (rw f at (sym w.in_range.ensures ∙ not-true w.in_range.result w.if-not-in_range.true-raw));
-            after = refl;
-          })
-      | then-lines-test+else-n-most+else-text-i+in-Ends+else-not-in_range+then-many w ↦
-          let b = w.bytes in
-          let inv = b.invariant.1.1 in
-          let p = places a.kind n inv.room in
-          rw w.number-is (record {
-            gives =
-                laws.crowded s a.text.now g t.buffer b.buffer b.i n b.p inv p w.if-text-i.false (bounded a.kind)
-                (rw f at (sym w.step-next.ensures ∙ w.in-Ends.is))
-                (rw f at (sym w.in_range.ensures ∙ not-false w.in_range.result w.if-not-in_range.false-raw))
-                (rw (w.with_line-pairs.ensures, f) at (ap not (sym w.many.ensures ∙ w.if-many.true)));
-            after = refl;
-          })
-    ] in
-    rw c.answer_after.ensures (record { buffer_after = h.gives; buffer_unchanged = h.after })
+    let b = c.bytes in
+    let inv = b.invariant.1 in
+    let p = places a.kind n inv.room in
+    rw c.refusal-then-text-i.ensures (laws.unended s a.text.now g t.buffer b.buffer b.i n b.p inv p c.if-text-i.true)
+
+pub returns-in-Malformed-clause-buffer_after : goal.returns-in-Malformed-clause-buffer_after
+returns-in-Malformed-clause-buffer_after c =
+    let a = c.args in
+    let t = c.lines in
+    let s = sheet_after a.kind t.pairs in
+    let g = whole_text a.kind a.from a.text.now in
+    let n = t.n in
+    let f = c.fields-fields.ensures in
+    let b = c.bytes in
+    let inv = b.invariant.1 in
+    let p = places a.kind n inv.room in
+    rw c.refusal-in-Malformed.ensures (laws.malformed s a.text.now g t.buffer b.buffer b.i n b.p inv p c.if-text-i.false (bounded a.kind) _
+    (rw f at (sym c.step-next.ensures ∙ c.in-Malformed.is)))
+
+pub returns-then-not-in_range-clause-buffer_after : goal.returns-then-not-in_range-clause-buffer_after
+returns-then-not-in_range-clause-buffer_after c =
+    let a = c.args in
+    let t = c.lines in
+    let s = sheet_after a.kind t.pairs in
+    let g = whole_text a.kind a.from a.text.now in
+    let n = t.n in
+    let f = c.fields-fields.ensures in
+    let b = c.bytes in
+    let inv = b.invariant.1 in
+    let p = places a.kind n inv.room in
+    rw c.refusal-then-not-in_range.ensures (laws.outside s a.text.now g t.buffer b.buffer b.i n b.p inv p c.if-text-i.false (bounded a.kind)
+    (rw f at (sym c.step-next.ensures ∙ c.in-Ends.is))
+    (rw f at (sym c.in_range.ensures ∙ not-true c.in_range.result c.if-not-in_range.true-raw)))
+
+pub returns-then-many-clause-buffer_after : goal.returns-then-many-clause-buffer_after
+unfolding pairs_over
+returns-then-many-clause-buffer_after c =
+    let a = c.args in
+    let t = c.lines in
+    let s = sheet_after a.kind t.pairs in
+    let g = whole_text a.kind a.from a.text.now in
+    let n = t.n in
+    let f = c.fields-fields.ensures in
+    let b = c.bytes in
+    let inv = b.invariant.1 in
+    let p = places a.kind n inv.room in
+    rw c.refusal-then-many.ensures (laws.crowded s a.text.now g t.buffer b.buffer b.i n b.p inv p c.if-text-i.false (bounded a.kind)
+    (rw f at (sym c.step-next.ensures ∙ c.in-Ends.is))
+    (rw f at (sym c.in_range.ensures ∙ not-false c.in_range.result c.if-not-in_range.false-raw))
+    (rw (c.with_line-pairs.ensures, f) at (ap not (sym c.many.ensures ∙ c.if-many.true))))
+
+pub returns : goal.returns
+returns c =
+    let a = c.args in
+    let t = c.lines in
+    let s = sheet_after a.kind t.pairs in
+    let g = whole_text a.kind a.from a.text.now in
+    let n = t.n in
+    record {
+      buffer_after = laws.line-end s a.text.now g a.buffer.now t.buffer t.i n t.invariant c.lines-test.false;
+      buffer_unchanged = t.invariant.rest;
+    }

@@ -9,13 +9,13 @@ use Rattle.sheet_lines.proofs.with_line.Goals as goal
 pub bounds-buffer-base : goal.bounds-buffer-base
 bounds-buffer-base c =
     let a = c.args in
-    let h : a.base + edge_fields ≤ most_values = rw c.in-Policies.is at c.requires.kind_bound in
+    let h : a.base + edge_fields ≤ most_values = rw c.in-Policies.is at c.requires in
     omega arith
 
 pub bounds-buffer-base-in-Policies : goal.bounds-buffer-base-in-Policies
 bounds-buffer-base-in-Policies c =
     let a = c.args in
-    let h : a.base + edge_fields ≤ most_values = rw c.in-Policies.is at c.requires.kind_bound in
+    let h : a.base + edge_fields ≤ most_values = rw c.in-Policies.is at c.requires in
     omega arith
 
 pub returns-in-Policies : goal.returns-in-Policies

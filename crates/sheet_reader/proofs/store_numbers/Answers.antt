@@ -1,21 +1,18 @@
 use Prim.Native.Nat.{◌*◌}
+use mathlib.Core.Path.{◌≡◌, sym, ap, ◌∙◌}
+use mathlib.Core.List.{List, ◌++◌}
+use Prim.Native.Nat.{ℕ}
+use native.Mathlib.Omega.{arith}
+use lib.ListN.{length, take, drop, length-take, take-append-drop}
 use Rattle.usage.specs.Limits.{step_fields}
-use Rattle.sheet_reader.proofs.StoreLaws.{none_filled, one-filled, all-filled}
-use lib.ListN.{get_or}
+use Rattle.sheet_reader.proofs.StoreLaws.{from_front}
 use Rattle.sheet_reader.proofs.store_numbers.Goals as goal
-
-pub loop-i-init : goal.loop-i-init
-loop-i-init c = none_filled _ _ _
-
-pub loop-i-preserved : goal.loop-i-preserved
-loop-i-preserved c =
-    let a = c.args in
-    let t = c.loop-i in
-    one-filled (λ i. get_or a.buffer.now i 0) a.table.now (a.n * step_fields) t.table t.i t.invariant
-    c.loop-i-test.true c.requires.step_fields_in_bounds
 
 pub returns : goal.returns
 returns c =
     let a = c.args in
-    let t = c.loop-i in
-    all-filled (λ i. get_or a.buffer.now i 0) a.table.now (a.n * step_fields) t.table t.i t.invariant c.loop-i-test.false
+    let l = a.buffer.now in
+    let m = a.n * step_fields in
+    let long : length (take m l) ≡ m = omega (arith, length-take m l, c.told-buffer) in
+    let copied = from_front l (take m l) (drop m l) m (sym (take-append-drop m l)) long in
+    ap (λ (s : List ℕ). s ++ drop m a.table.now) (c.copy_from_slice.ensures.after ∙ sym copied)

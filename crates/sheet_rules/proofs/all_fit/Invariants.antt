@@ -1,12 +1,9 @@
 use Rattle.usage.specs.Tables.{node_at_lem}
 use Rattle.usage.specs.Tests.{node_ok}
-use Prim.Native.Nat.{ℕ, ◌-◌, ◌≤◌, ◌<◌}
+use Prim.Native.Nat.{ℕ, ◌<◌}
 use mathlib.Core.Bool.{true}
 use mathlib.Core.Path.{◌≡◌}
 use Rattle.sheet_rules.proofs.all_fit.Given as goal
 
 abbrev pub invariant-loop-k : goal.invariant-loop-k
-invariant-loop-k l = (l.k ≤ l.n) × ((i : ℕ) → i < l.k → node_ok (node_at_lem l.table i) ≡ true)
-
-abbrev pub decreases-loop-k : goal.decreases-loop-k
-decreases-loop-k l = l.n - l.k
+invariant-loop-k l = ((i : ℕ) → i < l.k → node_ok (node_at_lem l.table i) ≡ true)

@@ -1,11 +1,11 @@
-use borrow.Author.Tests.{eq-eqb, ne_eqb}
 use Rattle.api_c.specs.Summary.{summary_code_lem}
+use Rattle.api_c.proofs.LeanLaws.{some_number}
 use Rattle.api_c.proofs.lean.summary_code.Goals as goal
 
-pub returns-then-n-eq0 : goal.returns-then-n-eq0
+pub returns-in-Ok : goal.returns-in-Ok
 unfolding summary_code_lem
-returns-then-n-eq0 c = simp (eq-eqb c.args.n 0 c.if-n-eq0.true)
+returns-in-Ok c = rw c.in-Ok.is
 
-pub returns : goal.returns
+pub returns-in-Err : goal.returns-in-Err
 unfolding summary_code_lem
-returns c = simp (ne_eqb c.args.n 0 c.if-n-eq0.false)
+returns-in-Err c = rw (c.in-Err.is, some_number c.in-Err.reason) c.refused.ensures

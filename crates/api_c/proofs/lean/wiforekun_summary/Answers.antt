@@ -1,5 +1,6 @@
 -- The number is that of what the check's summary answers.
 use mathlib.Core.Path.{ap, ◌∙◌}
+use Rattle.checker.specs.Summary.{summary_number}
 use Rattle.api_c.specs.Check.{no_choice, chosen}
 use Rattle.api_c.specs.Summary.{summary_code_lem, number_without_choice}
 use Rattle.api_c.proofs.ChoiceLaws.{number_small, number-roomy}
@@ -21,9 +22,9 @@ returns-then-local-gt-MOST_CHOICE c = record {
 
 pub returns : goal.returns
 returns c =
-    let k = c.summary-n in
+    let k = c.summary in
     record {
-      number = k.result;
+      number = summary_number k.result;
       summarized = chosen c.if-local-gt-MOST_CHOICE.false k.ensures;
       told = c.summary_code-2.ensures;
     }

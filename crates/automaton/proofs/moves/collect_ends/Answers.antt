@@ -16,9 +16,6 @@ returns-then-action-gt255 c =
     let t = a.edges.now in
     let wide : (k : ℕ) → get_or t k 0 < a.action = λ k. omega (arith, c.type_inv.edges k, c.if-action-gt255.true) in record { own_after = c.requires.own_value ∙ ends-wide t a.action a.seen.resource true a.seen.second (length t / edge_fields) wide; other_after = c.requires.other_value ∙ ends-wide t a.action a.seen.resource false a.seen.second (length t / edge_fields) wide }
 
-pub loop-i-init : goal.loop-i-init
-loop-i-init c = (omega arith, (c.follow_fours.ensures.own_after, c.follow_fours.ensures.other_after))
-
 pub loop-i-preserved : goal.loop-i-preserved
 loop-i-preserved c =
     let a = c.args in

@@ -1,15 +1,8 @@
 -- `fill` meets its contract. The tables are cleared, then hold the ends of the matching edges, then the rows.
 use mathlib.Core.Path.{ap, ◌∙◌}
-use lib.ListN.{length}
 use Rattle.automaton.specs.Code.{stayed}
-use Rattle.automaton.proofs.RowLaws.{ends-length, stayed-rows}
+use Rattle.automaton.proofs.RowLaws.{stayed-rows}
 use Rattle.automaton.proofs.moves.fill.Goals as goal
-
-pub stay-requires : goal.stay-requires
-stay-requires c = ap length c.collect_ends.ensures.own_after ∙ ends-length _ _ _ _ _
-
-pub stay-requires-2 : goal.stay-requires-2
-stay-requires-2 c = ap length c.collect_ends.ensures.other_after ∙ ends-length _ _ _ _ _
 
 pub returns : goal.returns
 returns c =

@@ -4,18 +4,18 @@ use mathlib.Core.Path.{◌≡◌, sym, ◌∙◌}
 use Rattle.automaton.proofs.RowLaws.{joined-none}
 use Rattle.automaton.proofs.moves.follow.Goals as goal
 
-pub returns-then-on-eq1 : goal.returns-then-on-eq1
-returns-then-on-eq1 c = rw c.if-on-eq1.true (record { own_after = c.join.ensures; other_after = sym (joined-none _ _ _) })
+pub returns-then-on-eq-ON_FIRST : goal.returns-then-on-eq-ON_FIRST
+returns-then-on-eq-ON_FIRST c = rw c.if-on-eq-ON_FIRST.true (record { own_after = c.join.ensures; other_after = sym (joined-none _ _ _) })
 
 pub returns-then-seen : goal.returns-then-seen
 returns-then-seen c =
     let second : c.before.before.before.args.seen.second ≡ true = c.if-seen.true in
-    rw c.if-on-eq2.true (rw second (record { own_after = sym (joined-none _ _ _); other_after = sym (joined-none _ _ _) }))
+    rw c.if-on-eq-ON_OTHER.true (rw second (record { own_after = sym (joined-none _ _ _); other_after = sym (joined-none _ _ _) }))
 
-pub returns-then-on-eq2 : goal.returns-then-on-eq2
-returns-then-on-eq2 c =
+pub returns-then-on-eq-ON_OTHER : goal.returns-then-on-eq-ON_OTHER
+returns-then-on-eq-ON_OTHER c =
     let apart : c.before.before.before.before.before.args.seen.second ≡ false = c.if-seen.false in
-    rw c.if-on-eq2.true (rw apart (record { own_after = sym (joined-none _ _ _); other_after = c.join-then-on-eq2.ensures }))
+    rw c.if-on-eq-ON_OTHER.true (rw apart (record { own_after = sym (joined-none _ _ _); other_after = c.join-then-on-eq-ON_OTHER.ensures }))
 
 pub returns-then-matches_both : goal.returns-then-matches_both
 returns-then-matches_both c =

@@ -1,6 +1,5 @@
 use mathlib.Core.Bool.{true, false}
-use mathlib.Core.Path.{◌≡◌, ◌∙◌}
-use native.Mathlib.Omega.{arith}
+use mathlib.Core.Path.{◌∙◌}
 use Rattle.automaton.proofs.RowLaws.{ends-none, ends-four}
 use borrow.Author.Rules.{rules}
 use Rattle.automaton.proofs.moves.follow_fours.Goals as goal
@@ -29,8 +28,3 @@ loop-i-preserved c =
         ends-four a.edges.now a.a a.seen.resource false a.seen.second t.i _ _ _ _ _ t.invariant.1.1 first.other_after second.other_after third.other_after fourth.other_after,
       ),
     )
-
-pub returns : goal.returns
-returns c =
-    let e : c.loop-i.i ≡ c.args.n = omega arith in
-    record { own_after = rw (← e) c.loop-i.invariant.1.0; other_after = rw (← e) c.loop-i.invariant.1.1 }

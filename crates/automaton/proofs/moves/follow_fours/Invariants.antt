@@ -1,5 +1,5 @@
 -- `follow_fours` meets its contract. The invariant: each table holds the ends of the first 4 * i edges.
-use Prim.Native.Nat.{◌*◌, ◌-◌, ◌≤◌}
+use Prim.Native.Nat.{◌*◌, ◌≤◌}
 use mathlib.Core.Bool.{true, false}
 use mathlib.Core.Path.{◌≡◌}
 use Rattle.usage.specs.Tables.{from, edge_at}
@@ -10,6 +10,3 @@ abbrev pub invariant-loop-i : goal.invariant-loop-i
 invariant-loop-i l =
     (l.i ≤ l.n) ×
     ((l.own ≡ edge_ends (from (edge_at l.edges) 0 (4 * l.i)) l.a l.seen.resource true l.seen.second) × (l.other ≡ edge_ends (from (edge_at l.edges) 0 (4 * l.i)) l.a l.seen.resource false l.seen.second))
-
-abbrev pub decreases-loop-i : goal.decreases-loop-i
-decreases-loop-i l = l.n - l.i

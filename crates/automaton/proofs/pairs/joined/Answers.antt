@@ -4,20 +4,18 @@ use lib.Bits.{bit_or}
 use Rattle.automaton.specs.PairSet.{with_pair}
 use Rattle.automaton.proofs.MaskLaws.{bit_shifted}
 use Rattle.automaton.proofs.pairs.joined.Goals as goal
+use Rattle.automaton.proofs.pairs.joined.Goals.{then-on-via-then-on, then-on-via-else-on+then-policy}
 
--- src/pairs.rt:11:9
-pub returns-then-on-ne3 : goal.returns-then-on-ne3
+pub returns-then-on : goal.returns-then-on
 unfolding with_pair
-returns-then-on-ne3 c = sym (simp (ne_eqb _ _ c.if-on-ne3.true))
+returns-then-on c =
+    elim c.then-on.branch [
+      | then-on-via-then-on w ↦ sym (simp (ne_eqb _ _ w.if-on.true))
+      | then-on-via-else-on+then-policy w ↦ sym (simp (eq-eqb _ _ w.if-on.false, le-ltb _ _ w.if-policy.true))
+    ]
 
--- src/pairs.rt:14:9
-pub returns-then-policy : goal.returns-then-policy
-unfolding with_pair
-returns-then-policy c = sym (simp (eq-eqb _ _ c.if-on-ne3.false, le-ltb _ _ c.if-policy.true))
-
--- src/pairs.rt:7:1
 pub returns : goal.returns
 unfolding with_pair
 returns c =
     let a = c.args in
-    ap (bit_or a.m) (bit_shifted _ c.if-policy.false) ∙ sym (simp (eq-eqb _ _ c.if-on-ne3.false, lt-ltb _ _ c.if-policy.false))
+    ap (bit_or a.m) (bit_shifted _ c.if-policy.false) ∙ sym (simp (eq-eqb _ _ c.if-on.false, lt-ltb _ _ c.if-policy.false))

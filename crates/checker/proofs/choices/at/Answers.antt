@@ -1,12 +1,7 @@
-use mathlib.Core.Path.{sym, ap, ◌∙◌}
+use mathlib.Core.Path.{sym, ap}
 use mathlib.Core.Bool.{Bool}
 use Rattle.checker_account.specs.Choices.{choice_at}
 use Rattle.checker.proofs.choices.at.Goals as goal
-
-pub returns-then-pair : goal.returns-then-pair
-returns-then-pair c =
-    let a = c.args in
-    c.two_at.ensures ∙ sym (ap (λ (b : Bool). choice_at b a.i) c.if-pair.true)
 
 pub returns : goal.returns
 unfolding choice_at

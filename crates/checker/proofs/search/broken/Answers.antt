@@ -2,7 +2,6 @@ use mathlib.Core.Path.{◌≡◌, sym, ◌∙◌, subst}
 use mathlib.Core.Bool.{Bool, true, false}
 use mathlib.Core.List.{List}
 use mathlib.Core.Logic.{◌⊎◌, inl, inr}
-use native.Mathlib.Nat.{not-suc-le-zero}
 use native.Mathlib.Omega.{arith}
 use Prim.Native.Nat.{ℕ, ◌/◌, ◌<◌}
 use lib.ListN.{length}
@@ -18,9 +17,8 @@ use Rattle.checker_tables.specs.Search.{has_room, SearchedIn, SearchedIf}
 use Rattle.checker_tables.proofs.FitLaws.{outline-fits}
 use Rattle.checker.specs.Code.{worth_of}
 use Rattle.checker.proofs.WorthLaws.{not-worth}
-use borrow.Author.Rules.{rules}
 use Rattle.checker.proofs.search.broken.Goals as goal
-use Rattle.checker.proofs.search.broken.Goals.{else-worth, then-worth+else-breaks}
+use Rattle.checker.proofs.search.broken.Goals.{else-worth-via-then-worth+else-breaks as unbroken, else-worth-via-else-worth as unworthy}
 use Rattle.checker.proofs.search.broken.Invariants.{Clear}
 
 -- the nodes of an accepted outline fit
@@ -35,15 +33,12 @@ skipped : (nodes : List ℕ) (local : Bool) (rows : List ℕ) (p : ℕ) (pair : 
 skipped nodes local rows p pair j x r same h e =
     inl (subst (Skips (length nodes / node_fields) (forms_in nodes)) same (not-worth nodes x (sym h ∙ e)))
 
-pub loop-i-init : goal.loop-i-init
-loop-i-init c = (search rules, λ j h. absurd (not-suc-le-zero h))
-
 pub returns-then-breaks : goal.returns-then-breaks
 returns-then-breaks c =
     let a = c.args in
     let i = c.loop-i.i in
-    let n = c.count-n in
-    let x = c.at-x in
+    let n = c.count-i-end in
+    let x = c.at in
     let l : i < choice_count a.pair = omega (arith, c.loop-i-test.true, n.ensures) in
     found (choice-asked a.pair i l)
     (told a.nodes.now a.local a.rows.now a.p x.result (choice_at a.pair i) c.breaks.result true
@@ -52,27 +47,24 @@ returns-then-breaks c =
 pub loop-i-preserved : goal.loop-i-preserved
 loop-i-preserved c =
     let a = c.args in
-    let p = c.requires in
     let l = c.loop-i in
-    let x = c.at-x in
-    let t = c.worth in
-    let clear : Clear a.nodes.now a.local a.rows.now a.p a.pair l.i =
-    elim c.if-worth.branch [
-      | then-worth+else-breaks w ↦ inr (told a.nodes.now a.local a.rows.now a.p x.result (choice_at a.pair l.i) w.breaks.result false p
+    let x = c.at in
+    below_more (Clear a.nodes.now a.local a.rows.now a.p a.pair) l.i l.invariant
+    (elim c.else-worth.branch [
+      | unbroken w ↦ inr (told a.nodes.now a.local a.rows.now a.p x.result (choice_at a.pair l.i) w.breaks.result false c.requires
           x.ensures w.breaks.ensures w.if-breaks.false)
-      | else-worth w ↦ skipped a.nodes.now a.local a.rows.now a.p a.pair l.i x.result t.result x.ensures t.ensures
+      | unworthy w ↦ skipped a.nodes.now a.local a.rows.now a.p a.pair l.i x.result c.worth.result x.ensures c.worth.ensures
           w.if-worth.false
-    ] in
-    (search rules, below_more (Clear a.nodes.now a.local a.rows.now a.p a.pair) l.i l.invariant.1 clear)
+    ])
 
 pub returns : goal.returns
 returns c =
     let a = c.args in
     let l = c.loop-i in
-    let n = c.count-n in
+    let n = c.count-i-end in
     let e : l.i ≡ choice_count a.pair = omega (arith, n.ensures) in
     none_found (λ y h.
     let k = asked-numbered h in
     subst (λ (y : Resources). Skips (length a.nodes.now / node_fields) (forms_in a.nodes.now) y
     ⊎ SearchedIn a.nodes.now a.local a.rows.now a.p y false) k.same
-    (l.invariant.1 k.number (subst (λ (m : ℕ). k.number < m) (sym e) k.small)))
+    (l.invariant k.number (subst (λ (m : ℕ). k.number < m) (sym e) k.small)))

@@ -1,7 +1,7 @@
 use mathlib.Core.Bool.{Bool, false}
 use mathlib.Core.List.{List}
 use mathlib.Core.Logic.{◌⊎◌}
-use Prim.Native.Nat.{ℕ, ◌-◌, ◌/◌, ◌≤◌, ◌<◌}
+use Prim.Native.Nat.{ℕ, ◌/◌, ◌<◌}
 use lib.ListN.{length}
 use Rattle.usage.specs.Limits.{node_fields}
 use Rattle.checker_account.specs.Filling.{forms_in, Skips}
@@ -15,7 +15,4 @@ Clear nodes local rows p pair j =
     Skips (length nodes / node_fields) (forms_in nodes) (choice_at pair j) ⊎ SearchedIn nodes local rows p (choice_at pair j) false
 
 abbrev pub invariant-loop-i : goal.invariant-loop-i
-invariant-loop-i l = (l.i ≤ l.n) × ((j : ℕ) → j < l.i → Clear l.nodes l.local l.rows l.p l.pair j)
-
-abbrev pub decreases-loop-i : goal.decreases-loop-i
-decreases-loop-i l = l.n - l.i
+invariant-loop-i l = (j : ℕ) → j < l.i → Clear l.nodes l.local l.rows l.p l.pair j

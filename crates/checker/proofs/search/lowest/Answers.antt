@@ -1,4 +1,3 @@
-use native.Mathlib.Nat.{not-suc-le-zero}
 use borrow.Author.Count.{below_more}
 use Rattle.usage.specs.Limits.{policies}
 use Rattle.usage.specs.Tables.{edges_of, nodes_of}
@@ -8,33 +7,21 @@ use Rattle.checker.proofs.PolicyLaws.{named-lowest, all-good}
 use native.Mathlib.Omega.{arith}
 use mathlib.Core.Path.{◌≡◌}
 use Prim.Native.Nat.{ℕ}
-use borrow.Author.Rules.{rules}
 use Rattle.checker.proofs.search.lowest.Goals as goal
-
-pub loop-p-init : goal.loop-p-init
-loop-p-init c = (search rules, λ s h l. not-suc-le-zero h)
-
-pub leaves-requires : goal.leaves-requires
-leaves-requires c = record { edges_ok = c.requires.edges_ok; outline_ok = c.requires.outline_ok; p_lt_policies = (let h = c.loop-p-test.true in omega arith) }
 
 pub returns-then-leaves : goal.returns-then-leaves
 returns-then-leaves c =
     let a = c.args in
     let h = c.requires in
     let l = c.loop-p in
-    let k = c.loop-p-test.true in
-    named-lowest a.local a.edges.now a.nodes.now h.edges_ok h.outline_ok l.p (omega arith)
-    (c.leaves.ensures.0 c.if-leaves.true)
-    l.invariant.1
+    named-lowest a.local a.edges.now a.nodes.now h.edges_ok h.outline_ok l.p (c.leaves.ensures.0 c.if-leaves.true) l.invariant
 
 pub loop-p-preserved : goal.loop-p-preserved
 loop-p-preserved c =
     let a = c.args in
-    let l = c.loop-p in (
-      search rules,
-      below_more (λ (s : ℕ). Leaves a.local (edges_of a.edges.now) (nodes_of a.nodes.now) s → ⊥) l.p l.invariant.1
-          (λ b. not-both c.leaves.result (c.leaves.ensures.1 b) c.if-leaves.false),
-    )
+    let l = c.loop-p in
+    below_more (λ (s : ℕ). Leaves a.local (edges_of a.edges.now) (nodes_of a.nodes.now) s → ⊥) l.p l.invariant
+    (λ b. not-both c.leaves.result (c.leaves.ensures.1 b) c.if-leaves.false)
 
 pub returns : goal.returns
 returns c =
@@ -42,4 +29,4 @@ returns c =
     let h = c.requires in
     let l = c.loop-p in
     let e : l.p ≡ policies = omega arith in
-    all-good a.local a.edges.now a.nodes.now h.edges_ok h.outline_ok (λ s k. l.invariant.1 s (omega arith))
+    all-good a.local a.edges.now a.nodes.now h.edges_ok h.outline_ok (λ s k. l.invariant s (omega arith))

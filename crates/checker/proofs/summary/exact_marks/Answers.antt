@@ -1,40 +1,31 @@
-use mathlib.Core.Path.{sym, ◌∙◌}
+use mathlib.Core.Path.{◌∙◌, subst}
+use mathlib.Core.Bool.{Bool}
+use Rattle.std.specs.Prelude.{Option as Maybe}
 use Rattle.usage.specs.Tables.{edges_of}
-use Rattle.usage.proofs.Logic.{not-true}
 use Rattle.automaton.specs.Move.{rows_at}
 use Rattle.checker_rows.proofs.WholeLaws.{whole_in}
-use Rattle.checker.proofs.PolicyLaws.{few_nodes, shut, bare}
+use Rattle.checker.specs.Code.{MovesOf}
+use Rattle.checker.proofs.PolicyLaws.{few_nodes, unmoved}
 use Rattle.checker.proofs.MarkLaws.{policy-exact-by, unmarked}
 use Rattle.checker.proofs.summary.exact_marks.Goals as goal
 
-pub returns-then-not-opens : goal.returns-then-not-opens
-returns-then-not-opens c =
+pub returns-in-Some : goal.returns-in-Some
+returns-in-Some c =
     let a = c.args in
     let p = c.requires in
-    let o = c.opens in
-    unmarked a.local a.edges.now a.nodes.now p.edges_ok p.outline_ok a.p
-    (shut a.local a.edges.now a.nodes.now p.edges_ok p.outline_ok a.p (sym o.ensures ∙ not-true o.result c.if-not-opens.true-raw))
-
-pub returns-then-not-has_edge : goal.returns-then-not-has_edge
-returns-then-not-has_edge c =
-    let a = c.args in
-    let p = c.requires in
-    let o = c.has_edge in
-    unmarked a.local a.edges.now a.nodes.now p.edges_ok p.outline_ok a.p
-    (bare a.local a.edges.now a.nodes.now p.edges_ok p.outline_ok a.p (sym o.ensures ∙ not-true o.result c.if-not-has_edge.true-raw))
-
-pub policy_marks-requires : goal.policy_marks-requires
-policy_marks-requires c = c.requires.outline_ok
-
-pub returns : goal.returns
-returns c =
-    let a = c.args in
-    let p = c.requires in
-    let f = c.fill in
-    let k = c.is_pair-pair in
-    let e =
-    f.ensures ∙ whole_in (rows_at (edges_of a.edges.now)) k.result a.p a.nodes.now p.p_lt_policies
-    (few_nodes a.local a.edges.now a.nodes.now p.edges_ok p.outline_ok) in
-    policy-exact-by a.local a.edges.now a.nodes.now p.edges_ok p.outline_ok a.p p.p_lt_policies k.result k.ensures
-    f.new.rows e c.policy_marks.result
+    let m = c.moves in
+    let h = subst (λ (q : Maybe Bool). MovesOf a.edges.now a.nodes.now a.p q m.new.rows) c.in-Some.is m.ensures in
+    let pair = c.in-Some.pair in
+    policy-exact-by a.local a.edges.now a.nodes.now p.edges_ok p.outline_ok a.p p.p_lt_policies pair h.0 m.new.rows
+    (h.1 ∙ whole_in (rows_at (edges_of a.edges.now)) pair a.p a.nodes.now p.p_lt_policies
+    (few_nodes a.local a.edges.now a.nodes.now p.edges_ok p.outline_ok)) c.policy_marks.result
     c.policy_marks.ensures
+
+pub returns-in-None : goal.returns-in-None
+returns-in-None c =
+    let a = c.args in
+    let p = c.requires in
+    let m = c.moves in
+    unmarked a.local a.edges.now a.nodes.now p.edges_ok p.outline_ok a.p
+    (unmoved a.local a.edges.now a.nodes.now p.edges_ok p.outline_ok a.p
+    (subst (λ (q : Maybe Bool). MovesOf a.edges.now a.nodes.now a.p q m.new.rows) c.in-None.is m.ensures))

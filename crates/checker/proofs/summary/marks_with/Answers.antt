@@ -8,8 +8,8 @@ returns-then-worth c =
     with-room a.nodes.now a.w.local a.rows.now a.w.policy a.w.resources c.marks_of.result c.requires
     c.marks_of.ensures
 
-pub returns : goal.returns
-returns c =
+pub returns-else-worth : goal.returns-else-worth
+returns-else-worth c =
     let a = c.args in
     let t = c.worth in
     with_none a.nodes.now a.w.local a.rows.now a.w.policy a.w.resources (sym t.ensures ∙ c.if-worth.false)

@@ -1,4 +1,4 @@
-use Rattle.checker_lengths.proofs.EntryLaws.{linear-lt, held_out, held-less, held_more}
+use Rattle.checker_lengths.proofs.EntryLaws.{bounds, linear-lt, held_out, held-less, held_more}
 use Rattle.usage.proofs.Logic.{not-true, not-false}
 use native.Mathlib.Omega.{arith}
 use mathlib.Core.Path.{sym, ◌∙◌}
@@ -8,7 +8,7 @@ pub returns-then-not-inside : goal.returns-then-not-inside
 returns-then-not-inside c = held_out _ _ _ (sym c.inside.ensures ∙ not-true _ c.if-not-inside.true-raw)
 
 pub place-requires : goal.place-requires
-place-requires c = sym c.inside.ensures ∙ not-false _ c.if-not-inside.false-raw
+place-requires c = bounds c.args.e (sym c.inside.ensures ∙ not-false _ c.if-not-inside.false-raw)
 
 pub bounds-t-place : goal.bounds-t-place
 bounds-t-place c = let h = linear-lt c.args.e

@@ -5,8 +5,5 @@ use Rattle.checker_lengths.proofs.entries.plus.Goals as goal
 pub returns-then-a-gt-MOST : goal.returns-then-a-gt-MOST
 returns-then-a-gt-MOST c = plus_none _ _ (omega arith)
 
-pub returns-then-a-b : goal.returns-then-a-b
-returns-then-a-b c = plus_none _ _ (omega arith)
-
 pub returns : goal.returns
 returns c = plus-some _ _ (omega arith)

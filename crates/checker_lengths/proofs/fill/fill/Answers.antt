@@ -19,10 +19,3 @@ settle_all-requires c =
     let a = c.args in
     let f = c.fits in
     fits-rule a.nodes.now (sym f.ensures ∙ not-false f.result c.if-not-fits.false-raw)
-
-pub returns : goal.returns
-returns c =
-    let a = c.args in
-    let f = c.fits in
-    subst (λ (b : Bool). FullIf b a.w a.rows.now a.nodes.now a.u.now c.settle_all.new.t)
-    (sym (sym f.ensures ∙ not-false f.result c.if-not-fits.false-raw)) c.settle_all.ensures

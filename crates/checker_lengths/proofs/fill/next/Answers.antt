@@ -19,9 +19,6 @@ of_part s k r b h =
 positive : (s : ℕ) → (s ≡ 0 → ⊥) → 0 < s
 positive s d = omega arith
 
-pub nonzero_rem-below : goal.nonzero_rem-below
-nonzero_rem-below c = let b = pow_pos c.args.k in omega (arith, shl-node c.args.k c.requires.k_lt_most_nodes)
-
 pub returns-then-below-eq0 : goal.returns-then-below-eq0
 returns-then-below-eq0 c =
     highest-in c.args.left c.highest.result

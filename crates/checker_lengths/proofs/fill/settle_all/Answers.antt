@@ -1,8 +1,9 @@
-use mathlib.Core.Path.{◌≡◌, sym, ap, ap₂, ◌∙◌, subst}
+use mathlib.Core.Path.{◌≡◌, refl, sym, ap, ap₂, ◌∙◌, subst}
 use mathlib.Core.Bool.{Bool, true, false}
-use mathlib.Core.Option.{Option}
+use mathlib.Core.Option.{Option, none}
 use mathlib.Core.List.{List}
 use native.Mathlib.Omega.{arith}
+use native.Mathlib.Nat.{not-suc-le-zero}
 use lib.Dec.{lit<}
 use lib.Bits.{bit_or}
 use lib.Pow.{pow_mono}
@@ -10,9 +11,9 @@ use lib.ListN.{length, get_or}
 use Prim.Native.Nat.{ℕ, ◌-◌, ◌*◌, ◌/◌, ◌%◌, ◌^◌, ◌<◌, ◌≤◌, min}
 use Rattle.usage.specs.Limits.{most_nodes, node_fields}
 use Rattle.usage.specs.Outline.{Form}
-use Rattle.outline_nodes.specs.declared.NodeForm.{NodeForm}
 use Rattle.outline_nodes.specs.Said.{said_by}
-use Rattle.checker_account.specs.Tables.{meanings}
+use Rattle.outline_nodes.proofs.SaidLaws.{said-some, said-none}
+use Rattle.checker_account.specs.Tables.{meanings, least}
 use Rattle.checker_account.specs.Filling.{forms_in}
 use Rattle.automaton.specs.Mask.{has}
 use Rattle.checker_tables.specs.Search.{NodesFit}
@@ -22,6 +23,7 @@ use Rattle.checker_tables.proofs.FitLaws.{readers-fit}
 use Rattle.checker_lengths.specs.declared.WatchOne.{WatchOne}
 use Rattle.checker_lengths.specs.Filling.{form_here, NodeSettled}
 use Rattle.checker_lengths.specs.Code.{Pass}
+use Rattle.checker_lengths.proofs.PassLaws.{pass-none}
 use Rattle.checker_lengths.proofs.LeftLaws.{left_of, working-start, working-full, still-working, still-less, more-working, more-less}
 use Rattle.checker_lengths.proofs.MemberLaws.{member-le, member-lt}
 use Rattle.checker_lengths.proofs.fill.settle_all.Goals as goal
@@ -51,9 +53,9 @@ module _ (w : WatchOne) (rows nodes come : List ℕ) (l : ℕ) (fit : NodesFit n
   bit-low : bit ≤ s
   bit-low = let m = member-le s k in-s in omega (arith, shl-node k small)
 
-  -- it was settled, as d says; r: did that change the table?
-  module _ (u : List ℕ) (d : NodeForm) (at : said_by d ≡ form_here nodes k) (r : Bool)
-      (p : Pass w rows k (said_by d) (λ y. NodeSettled w rows (said_by d) come y l k) t u r) where
+  -- it was settled, having the form f; r: did that change the table?
+  module _ (u : List ℕ) (f : Option Form) (at : f ≡ form_here nodes k) (r : Bool)
+      (p : Pass w rows k f (λ y. NodeSettled w rows f come y l k) t u r) where
     here : Pass w rows k (form_here nodes k) (λ y. NodeSettled w rows (form_here nodes k) come y l k) t u r
     here = subst (λ (f : Option Form). Pass w rows k f (λ y. NodeSettled w rows f come y l k) t u r) at p
 
@@ -91,21 +93,8 @@ loop-left-init c =
           (working-start a.w a.rows.now a.nodes.now a.u.now l p.few),
     )
 
-pub next-k-requires : goal.next-k-requires
-next-k-requires c = record { left_nonzero = positive c.loop-left.left c.loop-left-test.true; k_lt_most_nodes = c.loop-left.invariant.0 }
-
 pub overflow_cast-left : goal.overflow_cast-left
 overflow_cast-left c =
-    let a = c.args in
-    let p = c.requires in
-    let l = c.least-l.result in
-    let i = c.loop-left in
-    let h = c.next-k in
-    let k = small a.w a.rows.now a.nodes.now a.u.now l p i.t i.left h.result i.invariant.1 h.ensures in
-    omega arith
-
-pub overflow_cast-left-in-loop-left : goal.overflow_cast-left-in-loop-left
-overflow_cast-left-in-loop-left c =
     let a = c.args in
     let p = c.requires in
     let l = c.least-l.result in
@@ -141,7 +130,6 @@ settle_node-requires c =
     let i = c.loop-left in
     let h = c.next-k in
     let low : l < meanings = omega (arith, c.least-l.ensures.upper_bound) in record {
-      t_len = i.invariant.1.size_is;
       l_lt_meanings = low;
       k_lt_most_nodes = small a.w a.rows.now a.nodes.now a.u.now l p i.t i.left h.result i.invariant.1
           h.ensures;
@@ -174,10 +162,11 @@ loop-left-smaller-then-settle_node c =
     let i = c.loop-left in
     let h = c.next-k in
     let s = c.settle_node in
-    let d = c.form-f in
+    let d = c.in-Some.form in
+    let at = sym (said-some c.in-Some.is) ∙ c.form.ensures in
     let r = c.readers in
     more-falls a.w a.rows.now a.nodes.now a.u.now l p i.t i.left h.result i.invariant.1 h.ensures
-    s.new.t d.result d.ensures s.result s.ensures
+    s.new.t (said_by d) at s.result s.ensures
     r.new.masks (r.ensures ∙ readers-fit a.nodes.now p) c.if-settle_node.true
 
 pub loop-left-preserved-then-settle_node : goal.loop-left-preserved-then-settle_node
@@ -188,42 +177,66 @@ loop-left-preserved-then-settle_node c =
     let i = c.loop-left in
     let h = c.next-k in
     let s = c.settle_node in
-    let d = c.form-f in
+    let d = c.in-Some.form in
+    let at = sym (said-some c.in-Some.is) ∙ c.form.ensures in
     let r = c.readers in
     let b = small a.w a.rows.now a.nodes.now a.u.now l p i.t i.left h.result i.invariant.1 h.ensures in (
       b,
       more a.w a.rows.now a.nodes.now a.u.now l p i.t i.left h.result i.invariant.1 h.ensures
-          s.new.t d.result d.ensures s.result s.ensures
+          s.new.t (said_by d) at s.result s.ensures
           r.new.masks (r.ensures ∙ readers-fit a.nodes.now p) c.if-settle_node.true,
     )
 
-pub loop-left-smaller : goal.loop-left-smaller
-loop-left-smaller c =
+pub loop-left-smaller-else-settle_node : goal.loop-left-smaller-else-settle_node
+loop-left-smaller-else-settle_node c =
     let a = c.args in
     let p = c.requires in
     let l = c.least-l.result in
     let i = c.loop-left in
     let h = c.next-k in
     let s = c.settle_node in
-    let d = c.form-f in
+    let d = c.in-Some.form in
+    let at = sym (said-some c.in-Some.is) ∙ c.form.ensures in
     still-falls a.w a.rows.now a.nodes.now a.u.now l p i.t i.left h.result i.invariant.1 h.ensures
-    s.new.t d.result d.ensures s.result s.ensures
+    s.new.t (said_by d) at s.result s.ensures
     c.if-settle_node.false
+
+pub loop-left-preserved-else-settle_node : goal.loop-left-preserved-else-settle_node
+loop-left-preserved-else-settle_node c =
+    let a = c.args in
+    let p = c.requires in
+    let l = c.least-l.result in
+    let i = c.loop-left in
+    let h = c.next-k in
+    let s = c.settle_node in
+    let d = c.in-Some.form in
+    let at = sym (said-some c.in-Some.is) ∙ c.form.ensures in
+    let b = small a.w a.rows.now a.nodes.now a.u.now l p i.t i.left h.result i.invariant.1 h.ensures in (
+      b,
+      still a.w a.rows.now a.nodes.now a.u.now l p i.t i.left h.result i.invariant.1 h.ensures
+          s.new.t (said_by d) at s.result s.ensures
+          c.if-settle_node.false,
+    )
+
+-- a node without a form has no rule
+pub loop-left-smaller : goal.loop-left-smaller
+loop-left-smaller c =
+    let a = c.args in
+    let i = c.loop-left in
+    let at = sym (said-none c.form.result c.in_default.not-Some) ∙ c.form.ensures in
+    still-falls a.w a.rows.now a.nodes.now a.u.now c.least-l.result c.requires i.t i.left c.next-k.result i.invariant.1 c.next-k.ensures
+    i.t none at false (pass-none (λ o m q low high few come r less. absurd (not-suc-le-zero less))) refl
 
 pub loop-left-preserved : goal.loop-left-preserved
 loop-left-preserved c =
     let a = c.args in
-    let p = c.requires in
-    let l = c.least-l.result in
     let i = c.loop-left in
+    let l = c.least-l.result in
     let h = c.next-k in
-    let s = c.settle_node in
-    let d = c.form-f in
-    let b = small a.w a.rows.now a.nodes.now a.u.now l p i.t i.left h.result i.invariant.1 h.ensures in (
-      b,
-      still a.w a.rows.now a.nodes.now a.u.now l p i.t i.left h.result i.invariant.1 h.ensures
-          s.new.t d.result d.ensures s.result s.ensures
-          c.if-settle_node.false,
+    let at = sym (said-none c.form.result c.in_default.not-Some) ∙ c.form.ensures in (
+      small a.w a.rows.now a.nodes.now a.u.now l c.requires i.t i.left h.result i.invariant.1 h.ensures,
+      still a.w a.rows.now a.nodes.now a.u.now l c.requires i.t i.left h.result i.invariant.1 h.ensures
+          i.t none at false (pass-none (λ o m q low high few come r less. absurd (not-suc-le-zero less))) refl,
     )
 
 pub returns : goal.returns
@@ -232,5 +245,5 @@ returns c =
     let l = c.least-l in
     let i = c.loop-left in
     working-full a.w a.rows.now a.nodes.now a.u.now l.result
-    c.requires.few l.ensures.value
+    c.requires.few (l.ensures.value ∙ ap least c.resources.ensures)
     (subst (Left a.w a.rows.now a.nodes.now a.u.now l.result i.t) c.loop-left-test.false i.invariant.1)

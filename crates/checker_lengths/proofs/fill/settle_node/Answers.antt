@@ -1,62 +1,31 @@
-use mathlib.Core.Path.{subst}
-use mathlib.Core.Bool.{Bool}
-use mathlib.Core.Logic.{inl, inr}
-use lib.Dec.{eqb}
+use mathlib.Core.Bool.{Bool, true, false}
+use mathlib.Core.List.{List}
 use lib.ListN.{get_or}
 use borrow.Author.Count.{below_more}
+use Prim.Native.Nat.{ℕ, ◌≤◌, ◌<◌}
 use Rattle.outline_nodes.specs.Said.{said_by}
 use Rattle.checker_account.specs.Tables.{place}
-use Rattle.checker_tables.proofs.EnterLaws.{come-to-in}
-use Rattle.checker_lengths.specs.Code.{Pass}
 use Rattle.checker_lengths.specs.Filling.{StatesSettled}
-use Rattle.checker_lengths.proofs.PassLaws.{pass-then, pass-none, pass-map, states-last}
-use Rattle.checker_lengths.proofs.EntryLaws.{meaning-turn}
-use native.Mathlib.Omega.{arith}
-use mathlib.Core.Path.{◌∙◌}
-use Prim.Native.Nat.{ℕ, ◌+◌, ◌/◌, ◌%◌}
-use borrow.Author.Rules.{rules}
+use Rattle.checker_lengths.proofs.PassLaws.{pass-then, states-last}
 use Rattle.checker_lengths.proofs.fill.settle_node.Goals as goal
-use Rattle.checker_lengths.proofs.fill.settle_node.Goals.{else-settle_states, then-settle_states}
 
-pub loop-i-init : goal.loop-i-init
-loop-i-init c = (search rules, pass-none (λ j k. absurd (omega arith)))
+both : (C : Bool → Type 0) → C false → C true → (o : Bool) → C o
+both C f t false = f
+both C f t true = t
 
-pub settle_states-requires : goal.settle_states-requires
-settle_states-requires c =
-    let p = c.requires in
-    let l = c.loop-i in
-    let i = c.loop-i-test.true in
-    record { t_len = l.invariant.1.same_size ∙ p.t_len; to_lt_most_nodes = p.k_lt_most_nodes; meaning_lt_meanings = omega arith }
-
-pub loop-i-preserved : goal.loop-i-preserved
-loop-i-preserved c =
+pub loop-m-preserved : goal.loop-m-preserved
+loop-m-preserved c =
     let a = c.args in
-    let l = c.loop-i in
-    let i = c.loop-i-test.true in
-    let f = said_by a.f in
-    let o = eqb (l.i % 2) 1 in
-    let m = a.l + l.i / 2 in
-    let here = subst (λ (v : ℕ). Pass a.w a.rows.now a.k f (λ y. StatesSettled a.w a.rows.now f y a.k o m v) l.t
-    c.settle_states.new.t c.settle_states.result) (c.come_to.ensures
-    ∙ come-to-in a.u.now a.k o m c.requires.k_lt_most_nodes (omega arith))
-    c.settle_states.ensures in (
-      omega arith,
-      pass-then
-          (λ y u v. below_more (λ (j : ℕ). StatesSettled a.w a.rows.now f y a.k (eqb (j % 2) 1) (a.l + j / 2)
-          (get_or a.u.now (place a.k (eqb (j % 2) 1) (a.l + j / 2)) 0)) l.i u v)
-          (λ z g h j b. states-last a.w a.rows.now a.k f z g a.k (eqb (j % 2) 1) (a.l + j / 2)
-          (get_or a.u.now (place a.k (eqb (j % 2) 1) (a.l + j / 2)) 0) (h j b))
-          l.invariant.1 here (elim c.if-settle_states.branch [ then-settle_states u ↦ inl (u.if-settle_states.true, u.changed-is) | else-settle_states u ↦ inr (u.if-settle_states.false, u.changed-is) ]),
-    )
-
-pub returns : goal.returns
-returns c =
-    let a = c.args in
-    let l = c.loop-i in
-    let f = said_by a.f in
-    pass-map (λ y h o m q low high small come.
-    let (i, b, eo, em) = meaning-turn a.l o m low high in
-    let s = subst (λ (m' : ℕ). StatesSettled a.w a.rows.now f y a.k o m' (get_or a.u.now (place a.k o m') 0)) em
-    (subst (λ (o' : Bool). StatesSettled a.w a.rows.now f y a.k o' (a.l + i / 2)
-    (get_or a.u.now (place a.k o' (a.l + i / 2)) 0)) eo (h i (omega arith))) in
-    s q small come) l.invariant.1
+    let l = c.loop-m in
+    let f = said_by a.r.form in
+    let D : ℕ → Bool → List ℕ → Type 0 = λ j o y. StatesSettled a.r.watch a.r.rows.now f y a.k o j (get_or a.u.now (place a.k o j) 0) in
+    let v : Bool → ℕ → ℕ = λ o j. get_or a.u.now (place a.k o j) 0 in
+    pass-then
+    (λ y (x, p) q. below_more (λ (j : ℕ). a.l ≤ j → (o : Bool) → D j o y) l.m x (λ _. both (λ (o : Bool). D l.m o y) p q))
+    (λ z g (h, p). (
+      λ j b low o. states-last a.r.watch a.r.rows.now a.k f z g a.k o j (v o j) (h j b low o),
+      states-last a.r.watch a.r.rows.now a.k f z g a.k false l.m (v false l.m) p,
+    ))
+    (pass-then {F = λ y. ((j : ℕ) → j < l.m → a.l ≤ j → (o : Bool) → D j o y) × D l.m false y} (λ _ x p. (x, p))
+    (λ z g h j b low o. states-last a.r.watch a.r.rows.now a.k f z g a.k o j (v o j) (h j b low o)) l.invariant c.settle_meaning-changed.ensures)
+    c.settle_meaning-changed-in-loop-m.ensures

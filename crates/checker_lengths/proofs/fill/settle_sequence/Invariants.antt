@@ -1,7 +1,7 @@
 use mathlib.Core.Bool.{Bool}
 use mathlib.Core.Option.{some}
 use mathlib.Core.List.{List}
-use Prim.Native.Nat.{ℕ, ◌-◌, ◌≤◌, ◌<◌}
+use Prim.Native.Nat.{ℕ, ◌≤◌, ◌<◌}
 use Rattle.usage.specs.Outline.{sequence}
 use Rattle.checker_lengths.specs.declared.Entry.{Entry}
 use Rattle.checker_lengths.specs.declared.WatchOne.{WatchOne}
@@ -16,7 +16,4 @@ Below s a b c i t₀ t r = (w : WatchOne) (rows : List ℕ) → Pass w rows s.no
     (λ u. (j : ℕ) → j < i → low_end_lem s.meaning ≤ j → Settled w rows (some (sequence a b)) u (toward s j) c) t₀ t r
 
 abbrev pub invariant-loop-i : goal.invariant-loop-i
-invariant-loop-i l = (l.i ≤ 17) × Below l.s l.a l.b l.c l.i l.initial.t l.t l.changed
-
-abbrev pub decreases-loop-i : goal.decreases-loop-i
-decreases-loop-i l = 17 - l.i
+invariant-loop-i l = Below l.s l.a l.b l.c l.i l.initial.t l.t l.changed

@@ -3,15 +3,11 @@ use mathlib.Core.Path.{sym, ap, ◌∙◌}
 use native.Mathlib.Omega.{arith}
 use borrow.Author.Tests.{leb-false}
 use Rattle.usage.specs.Limits.{most_shown}
-use Rattle.usage.proofs.Logic.{false-true}
 use Rattle.automaton.specs.Mask.{has}
 use Rattle.checker_lengths.specs.Entries.{all_lengths, held}
 use Rattle.checker_lengths.specs.Offers as spec
 use Rattle.checker_lengths.proofs.OfferLaws as laws
 use Rattle.checker_lengths.proofs.offers.gives.Goals as goal
-
-pub returns-then-c-ge-BROKEN : goal.returns-then-c-ge-BROKEN
-returns-then-c-ge-BROKEN c = λ e. false-true (sym e)
 
 pub returns-in-Sequence : goal.returns-in-Sequence
 unfolding spec.offer_of
@@ -32,6 +28,3 @@ returns-in-Fresh c = λ g w i.
     let s = spec.toward a.s i in
     rw c.in-Fresh.is (sym (laws.fresh-dead a.rows.now look s c.in-Fresh.name c.in-Fresh.body a.c c.if-c-ge-BROKEN.false
     (sym (ap (λ (v : ℕ). has v (a.c % 8)) c.born.ensures) ∙ sym c.has.ensures ∙ g)))
-
-pub returns-in_default : goal.returns-in_default
-returns-in_default c = λ e. false-true (sym e)

@@ -1,6 +1,3 @@
-use native.Mathlib.Omega.{arith}
-use mathlib.Core.Path.{◌≡◌}
-use lib.ListN.{length}
 use mathlib.Core.Path.{sym, ap, ◌∙◌}
 use mathlib.Core.Bool.{Bool, ◌&&◌, cond}
 use lib.Dec.{ltb}
@@ -11,7 +8,6 @@ use Rattle.usage.proofs.Logic.{and-false}
 use Rattle.checker_account.specs.Tables.{meanings, place}
 use Rattle.checker_tables.specs.Search.{come_to_lem}
 use Rattle.checker_tables.proofs.EnterLaws.{come-to-in}
-use borrow.Author.Rules.{rules}
 use Rattle.checker_tables.proofs.arrivals.come_to.Goals as goal
 
 pub returns-then-k-ge-MOST_NODES : goal.returns-then-k-ge-MOST_NODES
@@ -27,13 +23,6 @@ returns-then-m-ge-MEANINGS c =
     let a = c.args in
     sym (ap (λ (b : Bool). cond b (get_or a.u.now (place a.k a.o a.m) 0) 0)
     (and-false (ltb a.k most_nodes) (ltb a.m meanings) (le-ltb a.m meanings c.if-m-ge-MEANINGS.true)))
-
-pub states_at-requires : goal.states_at-requires
-states_at-requires c =
-    let a = c.args in
-    let l : length a.u.now ≡ 3072 = search rules in
-    let h = c.if-m-ge-MEANINGS.false in
-    record { k_lt_most_nodes = c.if-k-ge-MOST_NODES.false; c_bound = omega arith; c_in_bounds = omega arith }
 
 pub returns : goal.returns
 returns c =

@@ -41,39 +41,17 @@ join-requires c =
 pub loop-w-init : goal.loop-w-init
 loop-w-init c =
     let a = c.args in
-    let t = by_open a.opened.now a.shut.now in
+    let t = by_open a.ends.opened.now a.ends.shut.now in
     let r = ComesBy a.nodes.now a.w.local a.rows.now t a.w.policy a.w.resources in
     let m : c.join.new.t ≡ begins a.w.resources =
     c.join.ensures.t_after ∙ ap₂ (λ (u : List ℕ) (i : ℕ). joined_at u i 1) c.requires.u_value
     (c.place-i.ensures ∙ ap (place 0 false) c.first_code-c.ensures) in
     subst (Filling r (begins a.w.resources)) (sym m) (record { derived = start; wide = begins-wide a.w.resources })
 
-pub pass_round-requires : goal.pass_round-requires
-pass_round-requires c =
-    let a = c.args in
-    let t = by_open a.opened.now a.shut.now in
-    let p = c.requires in
-    let r = ComesBy a.nodes.now a.w.local a.rows.now t a.w.policy a.w.resources in
-    let l = c.loop-w in
-    record { u_len = filling-length (places_of a.w.resources) r (begins a.w.resources) l.u (begins-length a.w.resources) l.invariant; opened_len = p.opened_len; shut_len = p.shut_len; nodes_fit = p.nodes_fit }
-
-pub shape_of-u-then-not-pass_round : goal.shape_of-u-then-not-pass_round
-shape_of-u-then-not-pass_round c =
-    let a = c.args in
-    let p = c.requires in
-    let l = c.loop-w in
-    let s = c.pass_round in
-    let t = by_open a.opened.now a.shut.now in
-    let r = ComesBy a.nodes.now a.w.local a.rows.now t a.w.policy a.w.resources in
-    let g = grows t a.nodes.now a.rows.now a.w.local a.w.policy a.w.resources in
-    (subst (Grows l.u) (sym s.ensures.u_after) (g l.u)).len
-    ∙ filling-length (places_of a.w.resources) r (begins a.w.resources) l.u (begins-length a.w.resources) l.invariant
-    ∙ sym (ap length p.u_value ∙ length-replicate {A = ℕ} (places_of a.w.resources) 0)
-
 pub returns-then-not-pass_round : goal.returns-then-not-pass_round
 returns-then-not-pass_round c =
     let a = c.args in
-    let t = by_open a.opened.now a.shut.now in
+    let t = by_open a.ends.opened.now a.ends.shut.now in
     let g = grows t a.nodes.now a.rows.now a.w.local a.w.policy a.w.resources in
     let l = c.loop-w in
     let s = c.pass_round in
@@ -91,7 +69,7 @@ returns-then-not-pass_round c =
 pub loop-w-smaller : goal.loop-w-smaller
 loop-w-smaller c =
     let a = c.args in
-    let t = by_open a.opened.now a.shut.now in
+    let t = by_open a.ends.opened.now a.ends.shut.now in
     let r = ComesBy a.nodes.now a.w.local a.rows.now t a.w.policy a.w.resources in
     let g = grows t a.nodes.now a.rows.now a.w.local a.w.policy a.w.resources in
     let l = c.loop-w in
@@ -103,7 +81,7 @@ loop-w-smaller c =
 pub loop-w-preserved : goal.loop-w-preserved
 loop-w-preserved c =
     let a = c.args in
-    let t = by_open a.opened.now a.shut.now in
+    let t = by_open a.ends.opened.now a.ends.shut.now in
     let l = c.loop-w in
     let s = c.pass_round in
     record {

@@ -7,7 +7,7 @@ use Rattle.checker_tables.proofs.arrivals.fill.Given as goal
 
 abbrev pub invariant-loop-w : goal.invariant-loop-w
 invariant-loop-w l =
-    Filling (ComesBy l.nodes l.w.local l.rows (by_open l.opened l.shut) l.w.policy l.w.resources) (begins l.w.resources) l.u
+    Filling (ComesBy l.nodes l.w.local l.rows (by_open l.ends.opened.now l.ends.shut.now) l.w.policy l.w.resources) (begins l.w.resources) l.u
 
 abbrev pub decreases-loop-w : goal.decreases-loop-w
 decreases-loop-w l = most (places_of l.w.resources) - total l.u

@@ -1,6 +1,6 @@
 use mathlib.Core.Path.{◌≡◌}
 use mathlib.Core.List.{List}
-use Prim.Native.Nat.{ℕ, ◌-◌, ◌≤◌}
+use Prim.Native.Nat.{ℕ}
 use Rattle.checker_account.specs.declared.Watch.{Watch}
 use Rattle.checker_account.specs.Tables.{rows_in}
 use Rattle.checker_account.specs.Filling.{repeat, grown, forms_in, by_open, pass_node_lem, Wide}
@@ -12,7 +12,4 @@ steps opened shut nodes rows w k =
 
 abbrev pub invariant-loop-k : goal.invariant-loop-k
 invariant-loop-k l =
-    (l.k ≤ l.n) × ((l.u ≡ repeat (steps l.opened l.shut l.nodes l.rows l.w) l.k l.initial.u) × ((l.changed ≡ grown l.initial.u l.u) × (Wide l.initial.u → Wide l.u)))
-
-abbrev pub decreases-loop-k : goal.decreases-loop-k
-decreases-loop-k l = l.n - l.k
+    (l.u ≡ repeat (steps l.ends.opened.now l.ends.shut.now l.nodes l.rows l.w) l.k l.initial.u) × ((l.changed ≡ grown l.initial.u l.u) × (Wide l.initial.u → Wide l.u))

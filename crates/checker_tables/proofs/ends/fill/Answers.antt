@@ -7,19 +7,22 @@ use lib.Bits.{bit_or}
 use lib.Pow.{pow_mono}
 use lib.ListN.{length, get_or, length-replicate}
 use Rattle.usage.specs.Limits.{most_nodes, node_fields}
-use mathlib.Core.Option.{Option}
+use mathlib.Core.Option.{Option, none}
 use Rattle.usage.specs.Outline.{Form}
-use Rattle.outline_nodes.specs.declared.NodeForm.{NodeForm}
 use Rattle.outline_nodes.specs.Said.{said_by}
 use Rattle.checker_account.specs.declared.Resources.{Resources}
 use Rattle.checker_account.specs.Tables.{places_of, rows_in, Resets}
 use Rattle.checker_account.specs.Filling.{grown, forms_in, settle_node_lem, Wide}
 use Rattle.checker_account.proofs.SettleLaws.{WideLent}
-use Rattle.checker_tables.specs.Search.{Small, NodesFit, resets_if}
+use Rattle.checker_tables.specs.Search.{NodesFit, resets_if}
 use Rattle.checker_tables.specs.Work.{readers_of}
+use Rattle.checker_tables.proofs.FitLaws.{form-small}
 use Rattle.checker_tables.proofs.WorkLaws.{left_of, shl-node, highest-lt, placed-forms, working-start, working-length, working-ends}
 use Rattle.checker_tables.proofs.WorkLaws.{still-working, still-less, more-working, more-less}
 use Rattle.checker_tables.proofs.ends.fill.Goals as goal
+use Rattle.outline_nodes.proofs.SaidLaws.{form-at, said-some, said-none}
+use Rattle.checker_tables.proofs.NoneLaws.{none-settled}
+use Rattle.checker_account.proofs.GrowsLaws.{grown-self}
 use Rattle.checker_tables.proofs.ends.fill.Invariants.{Done}
 
 -- what is lent is a table of 16 bits
@@ -53,8 +56,8 @@ module _ (nodes rows : List ℕ) (x : Resources) (resets : Resets) (fit : NodesF
   bit-low = omega (arith, shl-node k small)
 
   -- it was settled, as d says; grew: did that change the table?
-  module _ (u : List ℕ) (d : NodeForm) (at : said_by d ≡ forms_in nodes k)
-      (made : u ≡ settle_node_lem (rows_in rows) x resets k (said_by d) t) (grew : Bool) (tells : grew ≡ grown t u) where
+  module _ (u : List ℕ) (d : Option Form) (at : d ≡ forms_in nodes k)
+      (made : u ≡ settle_node_lem (rows_in rows) x resets k d t) (grew : Bool) (tells : grew ≡ grown t u) where
     e : u ≡ settle_node_lem (rows_in rows) x resets k (forms_in nodes k) t
     e = made ∙ ap (λ (f : Option Form). settle_node_lem (rows_in rows) x resets k f t) at
 
@@ -152,37 +155,30 @@ overflow_sub-left c =
     (h.ensures.result_bound pos)
     h.ensures.s_bound
 
-pub form-f-requires : goal.form-f-requires
-form-f-requires c =
+pub invariant_of-s : goal.invariant_of-s
+invariant_of-s c =
     let a = c.args in
     let resets = resets_if a.w.local a.w.policy a.opened.now in
-    let p = c.requires in
+    let fit = c.requires.nodes_fit in
     let l = c.loop-left in
     let pos = positive l.left c.loop-left-test.true in
     let h = c.highest-k in
-    inside a.nodes.now a.rows.now a.w.resources resets p.nodes_fit l.t l.left h.result l.invariant
-    (h.ensures.result_bound pos)
-    h.ensures.s_bound
+    let k = inside a.nodes.now a.rows.now a.w.resources resets fit l.t l.left h.result
+    l.invariant (h.ensures.result_bound pos)
+    h.ensures.s_bound in
+    record { node_in = omega (arith, k, fit.few); form_small = form-small fit h.result k _ (sym (said-some c.in-Some.is) ∙ c.form.ensures ∙ form-at a.nodes.now h.result k) }
 
 pub settle_node-requires : goal.settle_node-requires
 settle_node-requires c =
     let a = c.args in
     let resets = resets_if a.w.local a.w.policy a.opened.now in
     let p = c.requires in
-    let l = c.loop-left in
-    let pos = positive l.left c.loop-left-test.true in
-    let h = c.highest-k in
-    let k = inside a.nodes.now a.rows.now a.w.resources resets p.nodes_fit l.t l.left h.result
-    l.invariant (h.ensures.result_bound pos)
-    h.ensures.s_bound in
-    let few : length a.nodes.now / node_fields ≤ most_nodes = p.nodes_fit.few in record {
+    record {
       t_len = working-length (rows_in a.rows.now) a.w.resources resets (length a.nodes.now / node_fields)
           (forms_in a.nodes.now)
           p.nodes_fit.few
-          l.invariant;
+          c.loop-left.invariant;
       opened_len = p.opened_len;
-      small = subst Small (sym c.form-f.ensures) (p.nodes_fit.each_small h.result k);
-      k_lt_most_nodes = omega arith;
     }
 
 pub offset_bounds-readers-k : goal.offset_bounds-readers-k
@@ -219,12 +215,14 @@ loop-left-smaller-then-settle_node c =
     let l = c.loop-left in
     let pos = positive l.left c.loop-left-test.true in
     let h = c.highest-k in
+    let here = inside a.nodes.now a.rows.now a.w.resources resets p.nodes_fit l.t l.left h.result l.invariant (h.ensures.result_bound pos)
+    h.ensures.s_bound in
     let s = c.settle_node in
-    let d = c.form-f in
+    let d = c.in-Some in
     more-falls a.nodes.now a.rows.now a.w.resources resets p.nodes_fit l.t l.left h.result
     l.invariant (h.ensures.result_bound pos)
-    h.ensures.s_bound s.new.t d.result d.ensures s.ensures.t_after s.result s.ensures.value
-    (lent-wide a.w.local a.w.policy a.opened.now p.wide) r.new.masks r.ensures
+    h.ensures.s_bound s.new.t (said_by d.f) (sym (said-some d.is) ∙ c.form.ensures ∙ form-at a.nodes.now h.result here) s.ensures.t_after s.result s.ensures.value
+    (lent-wide a.w.local a.w.policy a.opened.now p.opened_wide) r.new.masks r.ensures
     c.if-settle_node.true
 
 pub loop-left-preserved-then-settle_node : goal.loop-left-preserved-then-settle_node
@@ -236,27 +234,47 @@ loop-left-preserved-then-settle_node c =
     let l = c.loop-left in
     let pos = positive l.left c.loop-left-test.true in
     let h = c.highest-k in
+    let here = inside a.nodes.now a.rows.now a.w.resources resets p.nodes_fit l.t l.left h.result l.invariant (h.ensures.result_bound pos)
+    h.ensures.s_bound in
     let s = c.settle_node in
-    let d = c.form-f in
+    let d = c.in-Some in
     more a.nodes.now a.rows.now a.w.resources resets p.nodes_fit l.t l.left h.result l.invariant
     (h.ensures.result_bound pos)
-    h.ensures.s_bound s.new.t d.result d.ensures s.ensures.t_after s.result s.ensures.value
-    (lent-wide a.w.local a.w.policy a.opened.now p.wide) r.new.masks r.ensures
+    h.ensures.s_bound s.new.t (said_by d.f) (sym (said-some d.is) ∙ c.form.ensures ∙ form-at a.nodes.now h.result here) s.ensures.t_after s.result s.ensures.value
+    (lent-wide a.w.local a.w.policy a.opened.now p.opened_wide) r.new.masks r.ensures
     c.if-settle_node.true
 
-pub loop-left-smaller : goal.loop-left-smaller
-loop-left-smaller c =
+pub loop-left-smaller-else-settle_node : goal.loop-left-smaller-else-settle_node
+loop-left-smaller-else-settle_node c =
     let a = c.args in
     let resets = resets_if a.w.local a.w.policy a.opened.now in
     let p = c.requires in
     let l = c.loop-left in
     let pos = positive l.left c.loop-left-test.true in
     let h = c.highest-k in
+    let here = inside a.nodes.now a.rows.now a.w.resources resets p.nodes_fit l.t l.left h.result l.invariant (h.ensures.result_bound pos)
+    h.ensures.s_bound in
     let s = c.settle_node in
-    let d = c.form-f in
+    let d = c.in-Some in
     still-falls a.nodes.now a.rows.now a.w.resources resets p.nodes_fit l.t l.left h.result
     l.invariant (h.ensures.result_bound pos)
-    h.ensures.s_bound s.new.t d.result d.ensures s.ensures.t_after s.result s.ensures.value c.if-settle_node.false
+    h.ensures.s_bound s.new.t (said_by d.f) (sym (said-some d.is) ∙ c.form.ensures ∙ form-at a.nodes.now h.result here) s.ensures.t_after s.result s.ensures.value c.if-settle_node.false
+
+pub loop-left-preserved-else-settle_node : goal.loop-left-preserved-else-settle_node
+loop-left-preserved-else-settle_node c =
+    let a = c.args in
+    let resets = resets_if a.w.local a.w.policy a.opened.now in
+    let p = c.requires in
+    let l = c.loop-left in
+    let pos = positive l.left c.loop-left-test.true in
+    let h = c.highest-k in
+    let here = inside a.nodes.now a.rows.now a.w.resources resets p.nodes_fit l.t l.left h.result l.invariant (h.ensures.result_bound pos)
+    h.ensures.s_bound in
+    let s = c.settle_node in
+    let d = c.in-Some in
+    still a.nodes.now a.rows.now a.w.resources resets p.nodes_fit l.t l.left h.result l.invariant
+    (h.ensures.result_bound pos)
+    h.ensures.s_bound s.new.t (said_by d.f) (sym (said-some d.is) ∙ c.form.ensures ∙ form-at a.nodes.now h.result here) s.ensures.t_after s.result s.ensures.value c.if-settle_node.false
 
 pub loop-left-preserved : goal.loop-left-preserved
 loop-left-preserved c =
@@ -266,11 +284,12 @@ loop-left-preserved c =
     let l = c.loop-left in
     let pos = positive l.left c.loop-left-test.true in
     let h = c.highest-k in
-    let s = c.settle_node in
-    let d = c.form-f in
-    still a.nodes.now a.rows.now a.w.resources resets p.nodes_fit l.t l.left h.result l.invariant
-    (h.ensures.result_bound pos)
-    h.ensures.s_bound s.new.t d.result d.ensures s.ensures.t_after s.result s.ensures.value c.if-settle_node.false
+    let here = inside a.nodes.now a.rows.now a.w.resources resets p.nodes_fit l.t l.left h.result l.invariant (h.ensures.result_bound pos)
+    h.ensures.s_bound in
+    still a.nodes.now a.rows.now a.w.resources resets p.nodes_fit l.t l.left h.result
+    l.invariant (h.ensures.result_bound pos)
+    h.ensures.s_bound l.t none (sym (said-none _ c.in_default.not-Some) ∙ c.form.ensures ∙ form-at a.nodes.now h.result here)
+    (sym (none-settled (rows_in a.rows.now) a.w.resources h.result resets l.t)) false (sym (grown-self l.t)) refl
 
 pub shape_of-t : goal.shape_of-t
 shape_of-t c =
@@ -292,5 +311,5 @@ returns c =
           c.requires.nodes_fit.few
           (subst (Done a.nodes.now a.rows.now a.w.resources resets l.t) c.loop-left-test.false
           l.invariant);
-      wide_2 = l.invariant.filling.wide;
+      wide = l.invariant.filling.wide;
     }

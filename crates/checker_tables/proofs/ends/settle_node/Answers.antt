@@ -13,7 +13,6 @@ use Rattle.checker_account.proofs.GrowsLaws.{Grows, grown-self, repeat-length, t
 use Rattle.checker_account.proofs.SettleLaws.{entry-grows, each_same}
 use Rattle.checker_account.proofs.EntryBounds.{least-le, meanings-le, codes-le}
 use Rattle.checker_tables.proofs.NumberLaws.{entry-room}
-use borrow.Author.Rules.{rules}
 use Rattle.checker_tables.proofs.ends.settle_node.Goals as goal
 use Rattle.checker_tables.proofs.ends.settle_node.Invariants.{settles}
 
@@ -23,58 +22,29 @@ settles-grow rows x resets l k f i t = entry-grows (rows_in rows) x resets k (sa
 
 pub overflow_sub-n : goal.overflow_sub-n
 overflow_sub-n c =
-    let b = least-le c.args.w.resources in
-    let m = meanings-le c.args.w.resources in
-    let k = codes-le c.args.w.resources in
+    let b = least-le c.args.s.resources in
+    let m = meanings-le c.args.s.resources in
+    let k = codes-le c.args.s.resources in
     omega (arith, c.least-l.ensures.value, c.entries_of.ensures)
 
 pub loop-i-init : goal.loop-i-init
 unfolding repeat
 loop-i-init c =
-    (search rules, (refl, sym (grown-self c.args.t.now)))
-
-pub overflow_add-e : goal.overflow_add-e
-overflow_add-e c =
-    let r = entry-room c.args.w.resources (c.least-l.result + c.loop-i.i) (omega (arith, c.loop-i-test.true, c.entries_of.ensures)) in
-    omega (arith, r.0)
+    (refl, sym (grown-self c.args.t.now))
 
 pub ends_by-v-requires : goal.ends_by-v-requires
 ends_by-v-requires c =
     let a = c.args in
-    let x = a.w.resources in
+    let x = a.s.resources in
     let low = c.least-l in
     let l = c.loop-i in
     let h = c.loop-i-test.true in
     let resets = resets_if a.w.local a.w.policy a.opened.now in
-    let n = repeat-length (settles a.rows.now x resets low.result a.k a.f)
-    (settles-grow a.rows.now x resets low.result a.k a.f) l.i a.t.now l.t l.invariant.1.0 in
+    let n = repeat-length (settles a.s.rows.now x resets low.result a.s.node a.s.form)
+    (settles-grow a.s.rows.now x resets low.result a.s.node a.s.form) l.i a.t.now l.t l.invariant.0 in
     let p = c.requires in
     let r = entry-room x (low.result + l.i) (omega (arith, c.entries_of.ensures)) in
-    record { small = p.small; k_lt_most_nodes = p.k_lt_most_nodes; e_bound = r.0; e_in_bounds = omega (arith, r.1, n, p.t_len); opened_len = λ d. p.opened_len d ∙ sym (n ∙ p.t_len) }
-
-pub overflow_mul-e : goal.overflow_mul-e
-overflow_mul-e c =
-    let r = entry-room c.args.w.resources (c.least-l.result + c.loop-i.i) (omega (arith, c.loop-i-test.true, c.entries_of.ensures)) in
-    omega (arith, r.0)
-
-pub overflow_add-e-in-loop-i : goal.overflow_add-e-in-loop-i
-overflow_add-e-in-loop-i c =
-    let r = entry-room c.args.w.resources (c.least-l.result + c.loop-i.i) (omega (arith, c.loop-i-test.true, c.entries_of.ensures)) in
-    omega (arith, r.0, c.requires.k_lt_most_nodes)
-
-pub join_sets-changed-requires : goal.join_sets-changed-requires
-join_sets-changed-requires c =
-    let a = c.args in
-    let low = c.least-l in
-    let resets = resets_if a.w.local a.w.policy a.opened.now in
-    let f = settles a.rows.now a.w.resources resets low.result a.k a.f in
-    let grows = settles-grow a.rows.now a.w.resources resets low.result a.k a.f in
-    let p = c.requires in
-    let l = c.loop-i in
-    let h = c.loop-i-test.true in
-    let r = entry-room a.w.resources (low.result + l.i) (omega (arith, c.entries_of.ensures)) in
-    let n = repeat-length f grows l.i a.t.now l.t l.invariant.1.0 in
-    omega (arith, r.1, n, p.t_len, p.k_lt_most_nodes)
+    record { e_bound = r.0; e_in_bounds = omega (arith, r.1, n, p.t_len); opened_len = λ d. p.opened_len d ∙ sym (n ∙ p.t_len) }
 
 pub loop-i-preserved : goal.loop-i-preserved
 loop-i-preserved c =
@@ -82,27 +52,18 @@ loop-i-preserved c =
     let low = c.least-l in
     let resets = resets_if a.w.local a.w.policy a.opened.now in
     let l = c.loop-i in
-    let f = settles a.rows.now a.w.resources resets low.result a.k a.f in
-    let grows = settles-grow a.rows.now a.w.resources resets low.result a.k a.f in
+    let f = settles a.s.rows.now a.s.resources resets low.result a.s.node a.s.form in
+    let grows = settles-grow a.s.rows.now a.s.resources resets low.result a.s.node a.s.form in
     let m = low.result + l.i in
     let v = c.ends_by-v in
     let j = c.join_sets-changed in
     let e : j.new.t ≡ f l.i l.t =
     j.ensures.t_after
-    ∙ each_same l.t (base a.k m) (λ q. get_or v.result q 0)
-    (λ q. ends_of_lem (rows_in a.rows.now) a.w.resources resets l.t a.k m q (said_by a.f)) v.ensures.held in
+    ∙ each_same l.t (base a.s.node m) (λ q. get_or v.result q 0)
+    (λ q. ends_of_lem (rows_in a.s.rows.now) a.s.resources resets l.t a.s.node m q (said_by a.s.form)) v.ensures.held in
     let made = turn f grows l.i a.t.now l.t j.new.t l.changed
-    j.result l.invariant.1 e j.ensures.value in
-    (search rules, made)
-
-pub shape_of-t : goal.shape_of-t
-shape_of-t c =
-    let a = c.args in
-    let l = c.loop-i in
-    let low = c.least-l in
-    let resets = resets_if a.w.local a.w.policy a.opened.now in
-    repeat-length (settles a.rows.now a.w.resources resets low.result a.k a.f)
-    (settles-grow a.rows.now a.w.resources resets low.result a.k a.f) l.i a.t.now l.t l.invariant.1.0
+    j.result l.invariant e j.ensures.value in
+    made
 
 pub returns : goal.returns
 unfolding settle_node_lem
@@ -110,4 +71,4 @@ returns c =
     let l = c.loop-i in
     let low = c.least-l in
     let e : l.i ≡ c.entries_of.result - low.result = omega arith in
-    record { t_after = rw (sym low.ensures.value, sym c.entries_of.ensures) (rw e at l.invariant.1.0); value = l.invariant.1.1 }
+    record { t_after = rw (sym low.ensures.value, sym c.entries_of.ensures) (rw e at l.invariant.0); value = l.invariant.1 }

@@ -1,6 +1,6 @@
 use mathlib.Core.Path.{◌≡◌}
 use mathlib.Core.List.{List}
-use Prim.Native.Nat.{ℕ, ◌+◌, ◌-◌, ◌≤◌}
+use Prim.Native.Nat.{ℕ, ◌+◌}
 use Rattle.outline_nodes.specs.declared.NodeForm.{NodeForm}
 use Rattle.outline_nodes.specs.Said.{said_by}
 use Rattle.checker_account.specs.declared.Resources.{Resources}
@@ -13,8 +13,5 @@ abbrev pub settles : List ℕ → Resources → Resets → ℕ → ℕ → NodeF
 settles rows x resets l k f i = settle_entry (rows_in rows) x resets k (said_by f) (l + i)
 
 abbrev pub invariant-loop-i : goal.invariant-loop-i
-invariant-loop-i l = (l.i ≤ l.n) ×
-    ((l.t ≡ repeat (settles l.rows l.w.resources (resets_if l.w.local l.w.policy l.opened) l.l l.k l.f) l.i l.initial.t) × (l.changed ≡ grown l.initial.t l.t))
-
-abbrev pub decreases-loop-i : goal.decreases-loop-i
-decreases-loop-i l = l.n - l.i
+invariant-loop-i l =
+    (l.t ≡ repeat (settles l.s.rows.now l.s.resources (resets_if l.w.local l.w.policy l.opened) l.l l.s.node l.s.form) l.i l.initial.t) × (l.changed ≡ grown l.initial.t l.t)

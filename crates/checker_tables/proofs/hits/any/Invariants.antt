@@ -1,7 +1,7 @@
 use mathlib.Core.Path.{◌≡◌}
 use mathlib.Core.Bool.{Bool, false}
 use mathlib.Core.List.{List}
-use Prim.Native.Nat.{ℕ, ◌-◌, ◌≤◌}
+use Prim.Native.Nat.{ℕ}
 use Rattle.usage.specs.Tests.{some_below}
 use Rattle.checker_account.specs.declared.Resources.{Resources}
 use Rattle.checker_account.specs.Tables.{rows_in}
@@ -12,7 +12,5 @@ abbrev pub test : List ℕ → List ℕ → List ℕ → Bool → ℕ → Resour
 test u nodes rows local p x k = hit_node_lem local (rows_in rows) p x u k (forms_in nodes k)
 
 abbrev pub invariant-loop-k : goal.invariant-loop-k
-invariant-loop-k l = (l.k ≤ l.n) × (some_below (test l.u l.nodes l.rows l.w.local l.w.policy l.w.resources) l.k ≡ false)
-
-abbrev pub decreases-loop-k : goal.decreases-loop-k
-decreases-loop-k l = l.n - l.k
+invariant-loop-k l =
+    some_below (test l.u l.nodes l.rows l.w.local l.w.policy l.w.resources) l.k ≡ false

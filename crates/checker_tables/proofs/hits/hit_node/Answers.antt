@@ -11,7 +11,6 @@ use Rattle.checker_account.specs.Filling.{hit_node_lem}
 use Rattle.checker_account.proofs.CodeLaws.{none_more}
 use Rattle.checker_account.proofs.EntryBounds.{meanings-le}
 use Rattle.checker_tables.proofs.NumberLaws.{code-room}
-use borrow.Author.Rules.{rules}
 use Rattle.checker_tables.proofs.hits.hit_node.Goals as goal
 use Rattle.checker_tables.proofs.hits.hit_node.Invariants.{test}
 
@@ -23,22 +22,18 @@ miss v w e h = subst (λ (n : ℕ). offends (half false n) ≡ false) e (lt-leb 
 
 pub overflow_sub-n : goal.overflow_sub-n
 overflow_sub-n c =
-    let m = meanings-le c.args.w.resources in omega (arith, c.least-l.ensures.upper_bound, c.codes_of.ensures)
+    let m = meanings-le c.args.s.resources in omega (arith, c.least-l.ensures.upper_bound, c.codes_of.ensures)
 
 pub loop-i-init : goal.loop-i-init
 unfolding some_below
 loop-i-init c =
-    (search rules, refl)
-
-pub overflow_add-l : goal.overflow_add-l
-overflow_add-l c =
-    let r = code-room c.args.w.resources (c.least-l.result + c.loop-i.i) (omega (arith, c.loop-i-test.true, c.codes_of.ensures)) in omega (arith, r.0)
+    refl
 
 pub leaves_by-v-requires : goal.leaves_by-v-requires
 leaves_by-v-requires c =
     let p = c.requires in
-    let r = code-room c.args.w.resources (c.least-l.result + c.loop-i.i) (omega (arith, c.loop-i-test.true, c.codes_of.ensures)) in
-    record { small = p.small; k_lt_most_nodes = p.k_lt_most_nodes; c_bound = r.0; c_in_bounds = omega (arith, r.1, p.u_len) }
+    let r = code-room c.args.s.resources (c.least-l.result + c.loop-i.i) (omega (arith, c.loop-i-test.true, c.codes_of.ensures)) in
+    record { c_bound = r.0; c_in_bounds = omega (arith, r.1, p) }
 
 pub returns-then-v-ge64 : goal.returns-then-v-ge64
 unfolding hit_node_lem
@@ -46,7 +41,7 @@ returns-then-v-ge64 c =
     let a = c.args in
     let low = c.least-l in
     let i = c.loop-i.i in
-    let f = test a.u.now a.rows.now a.w.local a.w.policy a.w.resources low.result a.k a.f in
+    let f = test a.u.now a.s.rows.now a.w.local a.w.policy a.s.resources low.result a.s.node a.s.form in
     let v = c.leaves_by-v in
     let h : i < c.codes_of.result - low.result = omega (arith, c.loop-i-test.true) in
     let m : 64 ≤ v.result % 256 = omega (arith, c.if-v-ge64.true) in
@@ -57,10 +52,10 @@ loop-i-preserved c =
     let a = c.args in
     let low = c.least-l in
     let i = c.loop-i.i in
-    let f = test a.u.now a.rows.now a.w.local a.w.policy a.w.resources low.result a.k a.f in
+    let f = test a.u.now a.s.rows.now a.w.local a.w.policy a.s.resources low.result a.s.node a.s.form in
     let v = c.leaves_by-v in
     let m : v.result % 256 < 64 = omega (arith, c.if-v-ge64.false) in
-    (search rules, none_more f i c.loop-i.invariant.1 (miss v.result _ v.ensures m))
+    none_more f i c.loop-i.invariant (miss v.result _ v.ensures m)
 
 pub returns : goal.returns
 unfolding hit_node_lem
@@ -68,4 +63,4 @@ returns c =
     let l = c.loop-i in
     let low = c.least-l in
     let e : l.i ≡ c.codes_of.result - low.result = omega arith in
-    rw (sym low.ensures.value, sym c.codes_of.ensures) (sym (rw e at l.invariant.1))
+    rw (sym low.ensures.value, sym c.codes_of.ensures) (sym (rw e at l.invariant))

@@ -1,7 +1,7 @@
 use mathlib.Core.Path.{◌≡◌}
 use mathlib.Core.Bool.{Bool, false}
 use mathlib.Core.List.{List}
-use Prim.Native.Nat.{ℕ, ◌+◌, ◌-◌, ◌≤◌}
+use Prim.Native.Nat.{ℕ, ◌+◌}
 use Rattle.usage.specs.Tests.{some_below}
 use Rattle.outline_nodes.specs.declared.NodeForm.{NodeForm}
 use Rattle.outline_nodes.specs.Said.{said_by}
@@ -15,7 +15,5 @@ abbrev pub test : List ℕ → List ℕ → Bool → ℕ → Resources → ℕ �
 test u rows local p x l k f i = offends (half false (leaves_of local (rows_in rows) p x u k (l + i) (said_by f)))
 
 abbrev pub invariant-loop-i : goal.invariant-loop-i
-invariant-loop-i l = (l.i ≤ l.n) × (some_below (test l.u l.rows l.w.local l.w.policy l.w.resources l.l l.k l.f) l.i ≡ false)
-
-abbrev pub decreases-loop-i : goal.decreases-loop-i
-decreases-loop-i l = l.n - l.i
+invariant-loop-i l =
+    some_below (test l.u l.s.rows.now l.w.local l.w.policy l.s.resources l.l l.s.node l.s.form) l.i ≡ false

@@ -1,7 +1,7 @@
 use mathlib.Core.Path.{◌≡◌}
 use mathlib.Core.Bool.{Bool, cond}
 use mathlib.Core.List.{List}
-use Prim.Native.Nat.{ℕ, ◌-◌, ◌≤◌}
+use Prim.Native.Nat.{ℕ}
 use Rattle.checker_account.specs.declared.Resources.{Resources}
 use Rattle.automaton.specs.Mask.{union}
 use Rattle.checker_account.specs.Tables.{rows_in}
@@ -16,7 +16,5 @@ abbrev pub mark : List ℕ → List ℕ → List ℕ → Bool → ℕ → Resour
 mark u nodes rows local p x k = cond (test u nodes rows local p x k) (mark_bit_lem (last_in (forms_in nodes k))) 0
 
 abbrev pub invariant-loop-k : goal.invariant-loop-k
-invariant-loop-k l = (l.k ≤ l.n) × (l.m ≡ union l.k (mark l.u l.nodes l.rows l.w.local l.w.policy l.w.resources))
-
-abbrev pub decreases-loop-k : goal.decreases-loop-k
-decreases-loop-k l = l.n - l.k
+invariant-loop-k l =
+    l.m ≡ union l.k (mark l.u l.nodes l.rows l.w.local l.w.policy l.w.resources)

@@ -8,10 +8,6 @@ use Rattle.checker_tables.proofs.NumberLaws.{lost-lt}
 use Rattle.checker_tables.specs.Search.{lost}
 use Rattle.checker_tables.proofs.numbers.forgotten.Goals as goal
 
-pub group_forgotten-g-requires : goal.group_forgotten-g-requires
-group_forgotten-g-requires c =
-    record { g_le_late_group = omega (arith, c.group.ensures, c.requires.e_bound); n_lt_no_name = c.requires.n_lt_no_name }
-
 pub numbered-requires : goal.numbered-requires
 numbered-requires c =
     let a = c.args in

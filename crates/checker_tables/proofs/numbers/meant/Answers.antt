@@ -1,6 +1,5 @@
 use mathlib.Core.Path.{sym, ap, ◌∙◌}
 use Prim.Native.Nat.{ℕ, suc, ◌+◌}
-use native.Mathlib.Omega.{arith}
 use borrow.Author.Tests.{eq-eqb, ne_eqb}
 use native.Mathlib.Numerals.{add-one}
 use Rattle.checker_account.specs.Tables.{meant_at}
@@ -11,10 +10,6 @@ unfolding meant_at
 returns-then-meaning-n c =
     let e = sym c.meaning.ensures ∙ c.if-meaning-n.true ∙ add-one c.args.n in
     simp (eq-eqb _ (suc c.args.n) e)
-
-pub overflow_add-group : goal.overflow_add-group
-overflow_add-group c =
-    omega (arith, c.group.ensures, c.requires)
 
 pub returns-then-group-n-eq-NAMES : goal.returns-then-group-n-eq-NAMES
 unfolding meant_at

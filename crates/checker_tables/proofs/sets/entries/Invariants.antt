@@ -1,11 +1,8 @@
-use Prim.Native.Nat.{◌+◌, ◌-◌, ◌≤◌}
-use Rattle.usage.specs.Limits.{states}
+use Prim.Native.Nat.{◌+◌}
 use Rattle.checker_tables.specs.ByState.{ByState}
 use lib.ListN.{get_or}
 use Rattle.checker_tables.proofs.sets.entries.Given as goal
 
 abbrev pub invariant-loop-q : goal.invariant-loop-q
-invariant-loop-q l = (l.q ≤ states) × ByState l.q (λ j. get_or l.t (l.i + j) 0) l.r
-
-abbrev pub decreases-loop-q : goal.decreases-loop-q
-decreases-loop-q l = states - l.q
+invariant-loop-q l =
+    ByState l.q (λ j. get_or l.t (l.i + j) 0) l.r

@@ -1,23 +1,15 @@
 use native.Mathlib.Omega.{arith}
 use mathlib.Core.Path.{◌≡◌, sym, ap, ap₂, ◌∙◌}
 use Prim.Native.Nat.{ℕ}
-use lib.ListN.{length, get_or}
+use lib.ListN.{get_or}
 use mathlib.Core.Bool.{Bool, cond}
 use lib.Bits.{bit_or}
 use Rattle.automaton.specs.Mask.{has}
 use Rattle.checker_account.proofs.MaskLaws.{test_in, test-out}
-use Rattle.usage.specs.Limits.{states}
-use Rattle.checker_tables.proofs.ByStateLaws.{place_none, place-more, place-all}
-use borrow.Author.Rules.{rules}
+use Rattle.checker_tables.proofs.ByStateLaws.{place-more}
 use Rattle.checker_tables.proofs.sets.join_where.Goals as goal
 use Rattle.checker_tables.proofs.sets.join_where.Goals.{else-v-q-eq1, then-v-q-eq1}
 use Rattle.checker_tables.proofs.sets.join_where.Invariants.{each}
-
-pub loop-q-init : goal.loop-q-init
-loop-q-init c =
-    let a = c.args in
-    let e : length a.w ≡ states = search rules in
-    (search rules, place_none (each a.s a.e a.w a.v) a.w e)
 
 pub loop-q-preserved : goal.loop-q-preserved
 loop-q-preserved c =
@@ -27,14 +19,5 @@ loop-q-preserved c =
     let v = get_or a.v l.q 0 in
     let more : c.if-v-q-eq1.more ≡ cond (has v a.s) a.e 0 =
     elim c.if-v-q-eq1.branch [ then-v-q-eq1 w ↦ w.more-is ∙ ap (λ (b : Bool). cond b a.e 0) (sym (test_in (λ j. 0) v a.s w.if-v-q-eq1.true)) | else-v-q-eq1 w ↦ w.more-is ∙ ap (λ (b : Bool). cond b a.e 0) (sym (test-out (λ j. 0) v a.s w.if-v-q-eq1.false)) ] in
-    let still = l.invariant.1.left l.q (omega arith) in (
-      search rules,
-      place-more (each a.s a.e a.w a.v) a.w l.q l.w _ (omega arith) (ap₂ (λ (x y : ℕ). bit_or x y) still more)
-          l.invariant.1,
-    )
-
-pub returns : goal.returns
-returns c =
-    let a = c.args in
-    let l = c.loop-q in
-    place-all (each a.s a.e a.w a.v) a.w l.q l.w (omega arith) l.invariant.1
+    let still = l.invariant.left l.q (omega arith) in place-more (each a.s a.e a.w a.v) a.w l.q l.w _ (omega arith) (ap₂ (λ (x y : ℕ). bit_or x y) still more)
+    l.invariant

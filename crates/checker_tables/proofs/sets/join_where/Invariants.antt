@@ -1,10 +1,9 @@
-use Prim.Native.Nat.{ℕ, ◌-◌, ◌≤◌}
+use Prim.Native.Nat.{ℕ}
 use mathlib.Core.List.{List}
 use lib.ListN.{get_or}
 use mathlib.Core.Bool.{cond}
 use lib.Bits.{bit_or}
 use Rattle.automaton.specs.Mask.{has}
-use Rattle.usage.specs.Limits.{states}
 use Rattle.checker_tables.proofs.ByStateLaws.{InPlace}
 use Rattle.checker_tables.proofs.sets.join_where.Given as goal
 
@@ -12,7 +11,5 @@ abbrev pub each : ℕ → ℕ → List ℕ → List ℕ → ℕ → ℕ
 each s e w v j = bit_or (get_or w j 0) (cond (has (get_or v j 0) s) e 0)
 
 abbrev pub invariant-loop-q : goal.invariant-loop-q
-invariant-loop-q l = (l.q ≤ states) × InPlace (each l.s l.e l.initial.w l.v) l.initial.w l.q l.w
-
-abbrev pub decreases-loop-q : goal.decreases-loop-q
-decreases-loop-q l = states - l.q
+invariant-loop-q l =
+    InPlace (each l.s l.e l.initial.w l.v) l.initial.w l.q l.w

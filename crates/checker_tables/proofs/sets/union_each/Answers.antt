@@ -9,13 +9,12 @@ use Rattle.checker_account.specs.Tables.{over}
 use Rattle.checker_account.proofs.JoinLaws.{zeros}
 use Rattle.checker_tables.specs.ByState.{ByState}
 use Rattle.checker_tables.proofs.ByStateLaws.{by_as, union_more}
-use borrow.Author.Rules.{rules}
 use Rattle.checker_tables.proofs.sets.union_each.Goals as goal
 use Rattle.checker_tables.proofs.sets.union_each.Invariants.{part}
 
 pub loop-s-init : goal.loop-s-init
 unfolding union
-loop-s-init c = (search rules, record { len = refl; held = λ q l. zeros states q })
+loop-s-init c = record { len = refl; held = λ q l. zeros states q }
 
 pub loop-s-preserved : goal.loop-s-preserved
 loop-s-preserved c =
@@ -23,11 +22,8 @@ loop-s-preserved c =
     let l = c.loop-s in
     let t = a.t.now in
     let j = c.join_where-next in
-    let f = part t a.i a.v in (
-      search rules,
-      by_as (λ q. union (l.s + 1) (f q)) (λ q. bit_or (get_or l.r q 0) (f q l.s)) j.result j.ensures
-          (λ q b. ap (λ (n : ℕ). bit_or n (f q l.s)) (l.invariant.1.held q b) ∙ union_more (f q) l.s),
-    )
+    let f = part t a.i a.v in by_as (λ q. union (l.s + 1) (f q)) (λ q. bit_or (get_or l.r q 0) (f q l.s)) j.result j.ensures
+    (λ q b. ap (λ (n : ℕ). bit_or n (f q l.s)) (l.invariant.held q b) ∙ union_more (f q) l.s)
 
 pub returns : goal.returns
 unfolding over
@@ -35,4 +31,4 @@ returns c =
     let a = c.args in
     let l = c.loop-s in
     let e : l.s ≡ states = omega arith in
-    subst (λ (n : ℕ). ByState states (λ q. union n (part a.t.now a.i a.v q)) l.r) e l.invariant.1
+    subst (λ (n : ℕ). ByState states (λ q. union n (part a.t.now a.i a.v q)) l.r) e l.invariant

@@ -1,6 +1,6 @@
 use mathlib.Core.Bool.{cond}
 use mathlib.Core.List.{List}
-use Prim.Native.Nat.{ℕ, ◌+◌, ◌-◌, ◌≤◌}
+use Prim.Native.Nat.{ℕ, ◌+◌}
 use lib.ListN.{get_or}
 use Rattle.usage.specs.Limits.{states}
 use Rattle.automaton.specs.Mask.{has, union}
@@ -12,7 +12,5 @@ abbrev pub part : List ℕ → ℕ → List ℕ → ℕ → ℕ → ℕ
 part t i v q j = cond (has (get_or v q 0) j) (get_or t (i + j) 0) 0
 
 abbrev pub invariant-loop-s : goal.invariant-loop-s
-invariant-loop-s l = (l.s ≤ states) × ByState states (λ q. union l.s (part l.t l.i l.v q)) l.r
-
-abbrev pub decreases-loop-s : goal.decreases-loop-s
-decreases-loop-s l = states - l.s
+invariant-loop-s l =
+    ByState states (λ q. union l.s (part l.t l.i l.v q)) l.r

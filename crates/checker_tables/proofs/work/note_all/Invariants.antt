@@ -1,6 +1,6 @@
 use mathlib.Core.Path.{◌≡◌}
 use mathlib.Core.List.{List}
-use Prim.Native.Nat.{ℕ, ◌-◌, ◌≤◌}
+use Prim.Native.Nat.{ℕ}
 use lib.ListN.{replicate}
 use Rattle.usage.specs.Limits.{most_nodes}
 use Rattle.checker_account.specs.Filling.{repeat, forms_in}
@@ -11,7 +11,5 @@ abbrev pub steps : List ℕ → ℕ → List ℕ → List ℕ
 steps nodes k = noted k (forms_in nodes k)
 
 abbrev pub invariant-loop-k : goal.invariant-loop-k
-invariant-loop-k l = (l.k ≤ l.n) × (l.masks ≡ repeat (steps l.nodes) l.k (replicate most_nodes 0))
-
-abbrev pub decreases-loop-k : goal.decreases-loop-k
-decreases-loop-k l = l.n - l.k
+invariant-loop-k l =
+    l.masks ≡ repeat (steps l.nodes) l.k (replicate most_nodes 0)

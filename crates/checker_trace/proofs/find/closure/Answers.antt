@@ -6,7 +6,7 @@ use mir.Val.{Fits}
 use mir.Syntax.{w64}
 use Rattle.checker_trace.specs.Code.{Spreads, begins, further}
 use native.Mathlib.Omega.{arith}
-use mathlib.Core.Path.{sym, ◌∙◌}
+use mathlib.Core.Path.{sym}
 use lib.ListN.{length}
 use borrow.Author.Rules.{rules}
 use Rattle.checker_trace.proofs.find.closure.Goals as goal
@@ -14,9 +14,6 @@ use Rattle.checker_trace.proofs.find.closure.Goals as goal
 pub loop-s-init : goal.loop-s-init
 loop-s-init c = subst (Spreads c.args.t.now c.args.nodes.now c.args.e)
     (sym c.bit-s.ensures) begins
-
-pub returns-then-r-s : goal.returns-then-r-s
-returns-then-r-s c = record { spreads = c.loop-s.invariant; still = sym c.spread-r.ensures ∙ c.if-r-s.true }
 
 pub loop-s-smaller : goal.loop-s-smaller
 loop-s-smaller c =

@@ -1,15 +1,10 @@
-use Rattle.checker_lengths.proofs.EntryLaws.{low-end-le}
 use Rattle.checker_trace.specs.Code.{idle_in}
 use lib.Dec.{eqb}
 use Rattle.checker_lengths.specs.Entries.{entry_of, held}
 use Prim.Native.Nat.{◌%◌}
-use native.Mathlib.Omega.{arith}
 use mathlib.Core.Path.{ap, ◌∙◌}
 use Prim.Native.Nat.{ℕ, ◌+◌}
 use Rattle.checker_trace.proofs.find.idle.Goals as goal
-
-pub overflow_add-same : goal.overflow_add-same
-overflow_add-same c = let h = c.low_end.ensures in omega (arith, low-end-le c.args.e.meaning)
 
 pub returns : goal.returns
 unfolding idle_in

@@ -1,25 +1,11 @@
-use Rattle.desk.specs.Layout.{wide_at}
-use Rattle.desk_positions.proofs.CopyLaws.{wides-local, put-none, put_next}
-use native.Mathlib.Omega.{arith}
-use mathlib.Core.Path.{◌≡◌, refl}
+use mathlib.Core.Path.{refl}
 use lib.ListN.{get_or}
-use borrow.Author.Rules.{rules}
+use Rattle.desk.specs.Layout.{wide_at}
+use Rattle.desk_positions.proofs.CopyLaws.{wides-local, put_next}
 use Rattle.desk.proofs.bytes.longs_out.Goals as goal
 
--- src/bytes.rt:119:5
-pub loop-i-init : goal.loop-i-init
-loop-i-init c = (search rules, (refl, put-none wide_at 8 wides-local _ _ _))
-
--- src/bytes.rt:119:5
 pub loop-i-preserved : goal.loop-i-preserved
-loop-i-preserved c =
+loop-i-preserved g c =
     let a = c.args in
     let t = c.loop-i in
-    let g = put_next wide_at 8 wides-local a.b.now a.place a.l.now t.i t.b _ (get_or a.l.now t.i 0) t.invariant.1.1 c.put_long.ensures refl in
-    (omega arith, (g.long, g))
-
--- src/bytes.rt:113:1
-pub returns : goal.returns
-returns c =
-    let e : c.loop-i.i ≡ c.args.n = omega arith in
-    rw (← e) c.loop-i.invariant.1.1
+    put_next wide_at 8 wides-local a.b.now a.place a.l.now t.i t.b _ (get_or a.l.now t.i 0) t.invariant c.put_long.ensures refl

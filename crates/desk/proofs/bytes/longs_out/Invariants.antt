@@ -1,11 +1,5 @@
 use Rattle.desk.specs.Layout.{wide_at, Put}
-use mathlib.Core.Path.{◌≡◌}
-use Prim.Native.Nat.{◌-◌, ◌≤◌}
-use lib.ListN.{length}
 use Rattle.desk.proofs.bytes.longs_out.Given as goal
 
 abbrev pub invariant-loop-i : goal.invariant-loop-i
-invariant-loop-i l = (l.i ≤ l.n) × ((length l.b ≡ length l.initial.b) × Put wide_at 8 l.initial.b l.place l.i l.l l.b)
-
-abbrev pub decreases-loop-i : goal.decreases-loop-i
-decreases-loop-i l = l.n - l.i
+invariant-loop-i g l = Put wide_at 8 l.initial.b l.place l.i l.l l.b

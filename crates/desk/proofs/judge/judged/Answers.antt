@@ -1,5 +1,5 @@
 use Prim.Native.Nat.{◌*◌, ◌-◌}
-use mathlib.Core.Path.{refl, sym, ap, ◌∙◌}
+use mathlib.Core.Path.{sym, ap, ◌∙◌}
 use native.Mathlib.Omega.{arith}
 use lib.ListN.{length}
 use Rattle.desk.proofs.StateLaws.{edges-got, judged-by}
@@ -17,7 +17,7 @@ returns-then-is_refusal c =
     let x = c.judge_looked-t in
     let lent = pairs-lent a.b.now p.desk_bytes_in_bounds in
     let l = x.ensures.pairs_len_unchanged ∙ ap length lent ∙ pairs-long a.b.now in
-    let n = edges-got a.b.now a.h _ _ (6 * a.h.edges - 0) refl p.edges_le_most_edges c.bytes_in.ensures (omega arith) in
+    let n = edges-got a.b.now a.h _ (6 * a.h.edges - 0) p.edges_le_most_edges c.bytes_at-edges.ensures (omega arith) in
     let is = x.ensures.order_after
     ∙ judged-by a.b.now a.h a.step a.lean c.looked_at-looked.result _ _ _ _ c.looked_at-looked.ensures n c.held_in-k.ensures lent
     c.sizes_in.ensures in
@@ -35,22 +35,6 @@ returns-then-is_refusal c =
       b_len_unchanged = (pairs-back a.b.now pairs p.desk_bytes_in_bounds l).0.long;
     }
 
-pub held_out-requires : goal.held_out-requires
-held_out-requires c =
-    let a = c.args in
-    let p = c.requires in
-    let x = c.judge_looked-t in
-    let l = x.ensures.pairs_len_unchanged ∙ ap length (pairs-lent a.b.now p.desk_bytes_in_bounds) ∙ pairs-long a.b.now in
-    rw (pairs-back a.b.now x.new.pairs p.desk_bytes_in_bounds l).0.long p.desk_bytes_in_bounds
-
-pub shape_of-b : goal.shape_of-b
-shape_of-b c =
-    let a = c.args in
-    let p = c.requires in
-    let x = c.judge_looked-t in
-    let l = x.ensures.pairs_len_unchanged ∙ ap length (pairs-lent a.b.now p.desk_bytes_in_bounds) ∙ pairs-long a.b.now in
-    c.held_out.ensures.within.long ∙ (pairs-back a.b.now x.new.pairs p.desk_bytes_in_bounds l).0.long
-
 pub returns : goal.returns
 returns c =
     let a = c.args in
@@ -58,7 +42,7 @@ returns c =
     let x = c.judge_looked-t in
     let lent = pairs-lent a.b.now p.desk_bytes_in_bounds in
     let l = x.ensures.pairs_len_unchanged ∙ ap length lent ∙ pairs-long a.b.now in
-    let n = edges-got a.b.now a.h _ _ (6 * a.h.edges - 0) refl p.edges_le_most_edges c.bytes_in.ensures (omega arith) in
+    let n = edges-got a.b.now a.h _ (6 * a.h.edges - 0) p.edges_le_most_edges c.bytes_at-edges.ensures (omega arith) in
     let is = x.ensures.order_after
     ∙ judged-by a.b.now a.h a.step a.lean c.looked_at-looked.result _ _ _ _ c.looked_at-looked.ensures n c.held_in-k.ensures lent
     c.sizes_in.ensures in

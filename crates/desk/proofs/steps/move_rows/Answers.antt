@@ -8,7 +8,7 @@ use Rattle.desk_positions.specs.Growth.{Tabled, Settles, step_from}
 use Rattle.desk.proofs.StateLaws.{nodes-got}
 use Rattle.desk.proofs.OutlineLaws.{table-lent, table-long, table-back, within-back, rows_settled}
 use native.Mathlib.Omega.{arith}
-use mathlib.Core.Path.{refl, sym, ap, ◌∙◌}
+use mathlib.Core.Path.{sym, ap, ◌∙◌}
 use Prim.Native.Nat.{ℕ, ◌-◌}
 use lib.ListN.{length}
 use Rattle.desk.proofs.steps.move_rows.Goals as goal
@@ -19,7 +19,7 @@ returns c =
     let a = c.args in
     let p = c.requires in
     let x = c.next-k in
-    let n = nodes-got a.b.now a.h _ _ (3 * a.h.nodes - 0) refl p.nodes_le_most_nodes c.bytes_in.ensures (omega arith) in
+    let n = nodes-got a.b.now a.h _ (3 * a.h.nodes - 0) p.nodes_le_most_nodes c.bytes_at-nodes.ensures (omega arith) in
     let t = table-lent a.b.now p.desk_bytes_in_bounds in
     let l = x.auto.t ∙ ap length t ∙ table-long a.b.now in record {
       settled_in = λ ls ok w. rows_settled _ x.new.t _ _ (table-back a.b.now x.new.t p.desk_bytes_in_bounds l) x.ensures.upper_bound

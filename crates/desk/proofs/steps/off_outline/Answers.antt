@@ -4,7 +4,7 @@ use Rattle.desk.proofs.ToldLaws.{told-refusal, told-small, called-refused, calle
 use Rattle.desk.proofs.steps.off_outline.Goals as goal
 
 pub judged-t-requires : goal.judged-t-requires
-judged-t-requires c = record { desk_bytes_in_bounds = c.requires.desk_bytes_in_bounds; edges_le_most_edges = (head-parts c.args.h c.requires.h_value).edges }
+judged-t-requires c = record { desk_bytes_in_bounds = c.requires.desk_bytes_in_bounds; edges_le_most_edges = (head-parts c.args.h c.requires.head_is_ok).edges }
 
 pub returns-then-is_refusal : goal.returns-then-is_refusal
 returns-then-is_refusal c =
@@ -14,7 +14,7 @@ returns-then-is_refusal c =
     let q = j.ensures.judged_in in
     let e = sym c.is_refusal.ensures ∙ c.if-is_refusal.true in
     called-refused a.b.now _ _ j.result q a.step _ _ c.reply_code.ensures e
-    (off-refused a.b.now a.h a.step p.desk_bytes_in_bounds p.b_value p.fact p.h_value p.h_value_2 _ refl
+    (off-refused a.b.now a.h a.step p.desk_bytes_in_bounds p.head_is_in p.policies_loaded p.head_is_ok p.none_listed _ refl
     (told-refusal a.b.now _ _ j.result q e))
 
 pub sizes_out-requires : goal.sizes_out-requires
@@ -26,12 +26,9 @@ sizes_out-requires c =
     let e = sym c.is_refusal.ensures ∙ c.if-is_refusal.false in record {
       desk_bytes_in_bounds = rw j.ensures.b_len_unchanged p.desk_bytes_in_bounds;
       small_sizes = told-small a.b.now _ _ j.result q
-          (off_small a.b.now a.h a.step p.desk_bytes_in_bounds p.b_value p.fact p.h_value p.h_value_2 _ refl
+          (off_small a.b.now a.h a.step p.desk_bytes_in_bounds p.head_is_in p.policies_loaded p.head_is_ok p.none_listed _ refl
           (told-refusal a.b.now _ _ j.result q e));
     }
-
-pub shape_of-b : goal.shape_of-b
-shape_of-b c = c.sizes_out.ensures.within.long ∙ c.judged-t.ensures.b_len_unchanged
 
 pub returns : goal.returns
 returns c =
@@ -42,5 +39,5 @@ returns c =
     let o = c.sizes_out.ensures in
     let e = sym c.is_refusal.ensures ∙ c.if-is_refusal.false in
     called-taken a.b.now _ _ j.result q a.step _ _ c.reply_code-2.ensures _
-    (off-stored a.b.now a.h a.step p.desk_bytes_in_bounds p.b_value p.fact p.h_value p.h_value_2 _ refl
+    (off-stored a.b.now a.h a.step p.desk_bytes_in_bounds p.head_is_in p.policies_loaded p.head_is_ok p.none_listed _ refl
     (told-refusal a.b.now _ _ j.result q e) _ (told-stored a.b.now _ _ j.result q e _ a.h a.h.positions o.b_after o.within))

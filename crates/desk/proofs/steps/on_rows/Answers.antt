@@ -8,13 +8,13 @@ pub stays-lean-requires : goal.stays-lean-requires
 stays-lean-requires c =
     let a = c.args in
     let p = c.requires in
-    record { desk_bytes_in_bounds = p.desk_bytes_in_bounds; nodes_le_most_nodes = (head-parts a.h (encoded-head a.b.now a.h p.b_value p.fact p.h_value)).nodes }
+    record { desk_bytes_in_bounds = p.desk_bytes_in_bounds; nodes_le_most_nodes = (head-parts a.h (encoded-head a.b.now a.h p.head_is_in p.policies_loaded p.is_encoded)).nodes }
 
 pub judged-t-requires : goal.judged-t-requires
 judged-t-requires c =
     let a = c.args in
     let p = c.requires in
-    record { desk_bytes_in_bounds = p.desk_bytes_in_bounds; edges_le_most_edges = (head-parts a.h (encoded-head a.b.now a.h p.b_value p.fact p.h_value)).edges }
+    record { desk_bytes_in_bounds = p.desk_bytes_in_bounds; edges_le_most_edges = (head-parts a.h (encoded-head a.b.now a.h p.head_is_in p.policies_loaded p.is_encoded)).edges }
 
 pub returns-then-is_refusal : goal.returns-then-is_refusal
 returns-then-is_refusal c =
@@ -24,14 +24,14 @@ returns-then-is_refusal c =
     let q = j.ensures.judged_in in
     let e = sym c.is_refusal.ensures ∙ c.if-is_refusal.true in
     called-refused a.b.now _ _ j.result q a.step _ _ c.reply_code.ensures e
-    (on-refused a.b.now a.h a.step p.desk_bytes_in_bounds p.b_value p.fact p.h_value p.h_value_2
-    c.stays-lean.result c.stays-lean.ensures.value c.stays-lean.ensures.value_2 _ refl (told-refusal a.b.now _ _ j.result q e))
+    (on-refused a.b.now a.h a.step p.desk_bytes_in_bounds p.head_is_in p.policies_loaded p.is_encoded p.listed
+    c.stays-lean.result c.stays-lean.ensures.at_retiring c.stays-lean.ensures.at_others _ refl (told-refusal a.b.now _ _ j.result q e))
 
 pub move_rows-k-requires : goal.move_rows-k-requires
 move_rows-k-requires c =
     let a = c.args in
     let p = c.requires in
-    record { desk_bytes_in_bounds = rw c.judged-t.ensures.b_len_unchanged p.desk_bytes_in_bounds; nodes_le_most_nodes = (head-parts a.h (encoded-head a.b.now a.h p.b_value p.fact p.h_value)).nodes }
+    record { desk_bytes_in_bounds = rw c.judged-t.ensures.b_len_unchanged p.desk_bytes_in_bounds; nodes_le_most_nodes = (head-parts a.h (encoded-head a.b.now a.h p.head_is_in p.policies_loaded p.is_encoded)).nodes }
 
 pub sizes_out-requires : goal.sizes_out-requires
 sizes_out-requires c =
@@ -41,12 +41,9 @@ sizes_out-requires c =
     let q = j.ensures.judged_in in
     let e = sym c.is_refusal.ensures ∙ c.if-is_refusal.false in record {
       desk_bytes_in_bounds = rw (c.move_rows-k.ensures.within.long ∙ j.ensures.b_len_unchanged) p.desk_bytes_in_bounds;
-      small_sizes = told-small a.b.now _ _ j.result q (on-small a.b.now a.h a.step p.desk_bytes_in_bounds p.b_value p.fact p.h_value p.h_value_2
-          c.stays-lean.result c.stays-lean.ensures.value c.stays-lean.ensures.value_2 _ refl (told-refusal a.b.now _ _ j.result q e));
+      small_sizes = told-small a.b.now _ _ j.result q (on-small a.b.now a.h a.step p.desk_bytes_in_bounds p.head_is_in p.policies_loaded p.is_encoded p.listed
+          c.stays-lean.result c.stays-lean.ensures.at_retiring c.stays-lean.ensures.at_others _ refl (told-refusal a.b.now _ _ j.result q e));
     }
-
-pub shape_of-b-then-moves : goal.shape_of-b-then-moves
-shape_of-b-then-moves c = c.sizes_out.ensures.within.long ∙ c.move_rows-k.ensures.within.long ∙ c.judged-t.ensures.b_len_unchanged
 
 pub returns-then-moves : goal.returns-then-moves
 returns-then-moves c =
@@ -57,10 +54,10 @@ returns-then-moves c =
     let o = c.sizes_out.ensures in
     let r = c.move_rows-k.ensures in
     let e = sym c.is_refusal.ensures ∙ c.if-is_refusal.false in
-    let few = (head-parts a.h (encoded-head a.b.now a.h p.b_value p.fact p.h_value)).nodes in
+    let few = (head-parts a.h (encoded-head a.b.now a.h p.head_is_in p.policies_loaded p.is_encoded)).nodes in
     called-taken a.b.now _ _ j.result q a.step _ _ c.reply_code-then-moves.ensures _
-    (on-moved a.b.now a.h a.step p.desk_bytes_in_bounds p.b_value p.fact p.h_value p.h_value_2
-    c.stays-lean.result c.stays-lean.ensures.value c.stays-lean.ensures.value_2 _ refl (told-refusal a.b.now _ _ j.result q e)
+    (on-moved a.b.now a.h a.step p.desk_bytes_in_bounds p.head_is_in p.policies_loaded p.is_encoded p.listed
+    c.stays-lean.result c.stays-lean.ensures.at_retiring c.stays-lean.ensures.at_others _ refl (told-refusal a.b.now _ _ j.result q e)
     (told-moves a.b.now _ _ j.result q a.step (sym c.moves.ensures ∙ c.if-moves.true)) _ _ c.move_rows-k.result
     (moved-within a.b.now _ _ j.result q e _ r.within) (told-settles a.b.now _ _ j.result q e a.h few _ _ _ r.settled_in)
     (moved-stored a.b.now _ _ j.result q e _ r.within _ a.h c.move_rows-k.result o.b_after o.within))
@@ -73,12 +70,9 @@ sizes_out-requires-2 c =
     let q = j.ensures.judged_in in
     let e = sym c.is_refusal.ensures ∙ c.if-is_refusal.false in record {
       desk_bytes_in_bounds = rw j.ensures.b_len_unchanged p.desk_bytes_in_bounds;
-      small_sizes = told-small a.b.now _ _ j.result q (on-small a.b.now a.h a.step p.desk_bytes_in_bounds p.b_value p.fact p.h_value p.h_value_2
-          c.stays-lean.result c.stays-lean.ensures.value c.stays-lean.ensures.value_2 _ refl (told-refusal a.b.now _ _ j.result q e));
+      small_sizes = told-small a.b.now _ _ j.result q (on-small a.b.now a.h a.step p.desk_bytes_in_bounds p.head_is_in p.policies_loaded p.is_encoded p.listed
+          c.stays-lean.result c.stays-lean.ensures.at_retiring c.stays-lean.ensures.at_others _ refl (told-refusal a.b.now _ _ j.result q e));
     }
-
-pub shape_of-b : goal.shape_of-b
-shape_of-b c = c.sizes_out-2.ensures.within.long ∙ c.judged-t.ensures.b_len_unchanged
 
 pub returns : goal.returns
 returns c =
@@ -89,7 +83,7 @@ returns c =
     let o = c.sizes_out-2.ensures in
     let e = sym c.is_refusal.ensures ∙ c.if-is_refusal.false in
     called-taken a.b.now _ _ j.result q a.step _ _ c.reply_code-2.ensures _
-    (on-kept a.b.now a.h a.step p.desk_bytes_in_bounds p.b_value p.fact p.h_value p.h_value_2
-    c.stays-lean.result c.stays-lean.ensures.value c.stays-lean.ensures.value_2 _ refl (told-refusal a.b.now _ _ j.result q e)
+    (on-kept a.b.now a.h a.step p.desk_bytes_in_bounds p.head_is_in p.policies_loaded p.is_encoded p.listed
+    c.stays-lean.result c.stays-lean.ensures.at_retiring c.stays-lean.ensures.at_others _ refl (told-refusal a.b.now _ _ j.result q e)
     (told-moves a.b.now _ _ j.result q a.step (sym c.moves.ensures ∙ c.if-moves.false)) _
     (told-stored a.b.now _ _ j.result q e _ a.h a.h.positions o.b_after o.within))

@@ -24,7 +24,7 @@ returns-then-not-parts_ok c =
     let o = c.parts_ok in
     let d = c.cell-depth in
     part-fails (row_in a.t.now a.i) (length-row_in a.t.now a.i) d.result d.ensures
-    (o.ensures.fact (not-true o.result c.if-not-parts_ok.true-raw))
+    (o.ensures.some_misfits (not-true o.result c.if-not-parts_ok.true-raw))
 
 -- src/reading.rt:82:1
 pub returns : goal.returns
@@ -34,4 +34,4 @@ returns c =
     let d = c.cell-depth in
     let z = c.zeros_from in
     row-decided (row_in a.t.now a.i) (length-row_in a.t.now a.i) d.result d.ensures c.if-depth-gt-MOST_PARTS.false
-    (o.ensures.part_fits (not-false o.result c.if-not-parts_ok.false-raw)) z.result z.ensures.zeros_from z.ensures.fact
+    (o.ensures.part_fits (not-false o.result c.if-not-parts_ok.false-raw)) z.result z.ensures.zeros_from z.ensures.no_zeros

@@ -1,11 +1,8 @@
-use Rattle.desk_positions.specs.Rows.{row_width, row_in}
+use Rattle.desk_positions.specs.Rows.{row_in}
 use mathlib.Core.Path.{◌≡◌}
-use Prim.Native.Nat.{ℕ, ◌-◌, ◌≤◌, ◌<◌}
+use Prim.Native.Nat.{ℕ, ◌≤◌, ◌<◌}
 use lib.ListN.{get_or}
 use Rattle.desk_positions.proofs.reading.zeros_from.Given as goal
 
 abbrev pub invariant-loop-k : goal.invariant-loop-k
 invariant-loop-k l = (l.n ≤ l.k) × ((m : ℕ) → l.n ≤ m → m < l.k → get_or (row_in l.t l.i) m 0 ≡ 0)
-
-abbrev pub decreases-loop-k : goal.decreases-loop-k
-decreases-loop-k l = row_width - l.k

@@ -1,6 +1,6 @@
 use Rattle.desk_positions.proofs.CellLaws.{member-none, member-more, member-found}
 use native.Mathlib.Omega.{arith}
-use mathlib.Core.Path.{◌≡◌, sym, ◌∙◌}
+use mathlib.Core.Path.{sym, ◌∙◌}
 use borrow.Author.Rules.{rules}
 use Rattle.desk_positions.proofs.rows.find.Goals as goal
 
@@ -21,11 +21,3 @@ loop-i-preserved c =
     let a = c.args in
     let t = c.loop-i in
     (search rules, member-more a.t.now a.r.now t.i t.invariant.1 (sym c.same.ensures ∙ c.if-same.false))
-
--- src/lib.rt:201:1
-pub returns : goal.returns
-returns c =
-    let a = c.args in
-    let t = c.loop-i in
-    let e : t.i ≡ a.n = omega arith in
-    sym (rw e at t.invariant.1)

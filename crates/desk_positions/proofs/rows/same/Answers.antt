@@ -1,12 +1,6 @@
-use Prim.Native.Nat.{◌*◌}
-use Rattle.desk_positions.specs.Bytes.{word_at}
-use Rattle.desk_positions.specs.Rows.{row_bytes}
-use Rattle.desk_positions.proofs.CellLaws.{differ, agree, pass-more}
+use Rattle.desk_positions.proofs.CellLaws.{differ, agree}
 use native.Mathlib.Omega.{arith}
 use mathlib.Core.Path.{sym, ◌∙◌}
-use Prim.Native.Nat.{◌+◌}
-use lib.ListN.{get_or}
-use borrow.Author.Rules.{rules}
 use Rattle.desk_positions.proofs.rows.same.Goals as goal
 
 -- src/lib.rt:162:9
@@ -23,19 +17,8 @@ returns-then-r-j c =
     let t = c.loop-j in
     differ a.t.now a.i a.r.now t.j (omega arith) (λ e. c.if-r-j.true (e ∙ sym c.word-in-loop-j.ensures))
 
--- src/lib.rt:165:5
-pub loop-j-preserved : goal.loop-j-preserved
-loop-j-preserved c =
-    let a = c.args in
-    let t = c.loop-j in (
-      search rules,
-      pass-more (λ k. get_or a.r.now k 0) (λ k. word_at a.t.now (row_bytes * a.i + 4 * k)) t.j t.invariant.1
-          (c.if-r-j.false ∙ c.word-in-loop-j.ensures),
-    )
-
 -- src/lib.rt:154:1
 pub returns : goal.returns
 returns c =
     let a = c.args in
-    let p = c.requires in
-    agree a.t.now a.i a.r.now p.r_len (λ m l. c.loop-j.invariant.1 m (omega arith))
+    agree a.t.now a.i a.r.now c.told-r (λ m l. c.loop-j.invariant.1 m (omega arith))

@@ -2,13 +2,10 @@ use Prim.Native.Nat.{◌*◌}
 use Rattle.desk_positions.specs.Bytes.{word_at}
 use Rattle.desk_positions.specs.Rows.{row_width, row_bytes}
 use mathlib.Core.Path.{◌≡◌}
-use Prim.Native.Nat.{ℕ, ◌+◌, ◌-◌, ◌≤◌, ◌<◌}
+use Prim.Native.Nat.{ℕ, ◌+◌, ◌≤◌, ◌<◌}
 use lib.ListN.{get_or}
 use Rattle.desk_positions.proofs.rows.same.Given as goal
 
 abbrev pub invariant-loop-j : goal.invariant-loop-j
 invariant-loop-j l =
     (l.j ≤ row_width) × ((k : ℕ) → k < l.j → get_or l.r k 0 ≡ word_at l.t (row_bytes * l.i + 4 * k))
-
-abbrev pub decreases-loop-j : goal.decreases-loop-j
-decreases-loop-j l = row_width - l.j

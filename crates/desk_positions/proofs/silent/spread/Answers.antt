@@ -31,7 +31,7 @@ returns-then-m-gt-MOST_POSITIONS c = record {
       let x = here u.table t.i h in
       let g = c.silent-m.ensures.grown x.position u.list ok x.fine (c.load-r.ensures ∙ x.row) u.table in
       under-beyond ns ls t.i t.m t.t u h g c.if-m-gt-MOST_POSITIONS.true;
-  rows_counted = (c.silent-m.ensures.t_len_2, omega arith);
+  rows_counted = (c.silent-m.ensures.t_len_unchanged, omega arith);
 }
 
 -- src/lib.rt:351:5
@@ -45,7 +45,7 @@ loop-i-preserved c =
       (
         c.if-m-gt-MOST_POSITIONS.false,
         (
-          c.silent-m.ensures.t_len_2,
+          c.silent-m.ensures.t_len_unchanged,
           λ ls ok w.
               let u = t.invariant.1.1.1 ls ok w in
               let x = here u.table t.i h in

@@ -14,7 +14,7 @@ returns-then-d-ge-MOST_PARTS c = record {
       let a = c.args in
       let z = top.depth in
       long-grown w _ _ refl (omega arith));
-  t_len_2 = c.requires.t_len;
+  t_len_unchanged = c.requires.t_len;
 }
 
 -- src/lib.rt:238:1
@@ -22,9 +22,9 @@ pub returns : goal.returns
 returns c = record {
   by_index = (λ k l rest ls top w ha hb.
       let a = c.args in
-      one-grown w _ _ refl (fine-two a.r.cells a.d k l rest top a.a a.b ha hb (omega arith))
+      one-grown w _ _ refl (fine-two a.top.row.cells a.top.below k l rest top a.a a.b ha hb (omega arith))
       (c.push-u.ensures
-      ∙ rw c.replace-s.ensures (then-row a.r.cells a.d k l rest top a.a a.b (base a.d) refl))
+      ∙ rw c.replace-s.ensures (then-row a.top.row.cells a.top.below k l rest top a.a a.b (base a.top.below) refl))
       c.add.ensures);
-  t_len_2 = adds-long c.add.ensures ∙ c.requires.t_len;
+  t_len_unchanged = adds-long c.add.ensures ∙ c.requires.t_len;
 }

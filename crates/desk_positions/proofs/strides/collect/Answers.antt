@@ -1,6 +1,6 @@
 use Rattle.usage.specs.Tables.{nodes_of}
 use Rattle.usage.proofs.Logic.{by_cases}
-use Rattle.desk_positions.specs.Growth.{step_from}
+use Rattle.desk_positions.specs.Moves.{step_of}
 use Rattle.desk_positions.proofs.SettleLaws.{here}
 use Rattle.desk_positions.proofs.NextLaws.{led, led-none, led-next, led-beyond, led-all}
 use native.Mathlib.Omega.{arith}
@@ -18,7 +18,7 @@ loop-i-init c =
         search rules,
         (
           search rules,
-          (λ k h. refl, λ ls ok w. led-none (nodes_of a.nodes.now) (step_from a.kind a.a a.b) ls a.t.now),
+          (λ k h. refl, λ ls ok w. led-none (nodes_of a.nodes.now) (step_of a.step) ls a.t.now),
         ),
       ),
     )
@@ -33,7 +33,7 @@ returns-then-m-gt-MOST_POSITIONS c =
     let l = c.load-r in record {
       grown = λ ls ok w.
           let ns = nodes_of a.nodes.now in
-          let step = step_from a.kind a.a a.b in
+          let step = step_of a.step in
           let x = here w t.i h in
           let g = s.ensures.grown x.position (led ns step ls t.i) ok x.fine (l.ensures ∙ t.invariant.1.1.1.0 t.i (omega arith) ∙ x.row)
           (t.invariant.1.1.1.1 ls ok w) in
@@ -59,7 +59,7 @@ loop-i-preserved c =
             λ k q. s.ensures.rows_kept.behind k (let z = t.invariant.1.0 in omega arith) ∙ t.invariant.1.1.1.0 k (omega arith),
             λ ls ok w.
                 let ns = nodes_of a.nodes.now in
-                let step = step_from a.kind a.a a.b in
+                let step = step_of a.step in
                 let x = here w t.i h in
                 let g = s.ensures.grown x.position (led ns step ls t.i) ok x.fine
                 (l.ensures ∙ t.invariant.1.1.1.0 t.i (omega arith) ∙ x.row) (t.invariant.1.1.1.1 ls ok w) in
@@ -75,7 +75,7 @@ returns c =
     let a = c.args in
     let p = c.requires in
     let t = c.loop-i in record {
-      grown = λ ls ok w. led-all (nodes_of a.nodes.now) (step_from a.kind a.a a.b) ls a.n a.t.now w t.i c.loop-i-test.false
+      grown = λ ls ok w. led-all (nodes_of a.nodes.now) (step_of a.step) ls a.n a.t.now w t.i c.loop-i-test.false
           (t.invariant.1.1.1.1 ls ok w);
       rows_counted = (t.invariant.1.1.0, (let j = t.invariant.0 in let k = t.invariant.1.0 in let q = p.n_le_most_positions in omega arith));
     }

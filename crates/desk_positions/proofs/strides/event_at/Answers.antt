@@ -1,26 +1,24 @@
-use Rattle.desk_positions.proofs.CellLaws.{kept-none}
+use mathlib.Core.Path.{ap}
+use Rattle.usage.specs.Past.{event}
+use Rattle.outline_nodes.specs.Said.{said_by}
+use Rattle.desk_positions.specs.Positions.{stride_by}
 use Rattle.desk_positions.proofs.GrowthLaws.{none-grown}
-use Rattle.desk_positions.proofs.StepLaws.{event-none}
 use Rattle.desk_positions.proofs.strides.event_at.Goals as goal
 
--- src/lib.rt:470:1
-pub returns-in-1 : goal.returns-in-1
-returns-in-1 c = record { by_index = λ k l rest ls top w ok. c.on_static.ensures.by_index k l rest ls top w ok c.in-1.is; rows_kept = c.on_static.ensures.rows_kept }
+pub returns-in-End-clause-by_index : goal.returns-in-End-clause-by_index
+returns-in-End-clause-by_index c k l rest ls top w ok = none-grown w _ (ap (λ x. stride_by (said_by x) l rest (event c.args.action c.args.res)) c.in-End.is)
 
--- src/lib.rt:470:1
-pub returns-in-2 : goal.returns-in-2
-returns-in-2 c = record { by_index = λ k l rest ls top w ok. c.on_name.ensures.by_index k l rest ls top w ok c.in-2.is; rows_kept = c.on_name.ensures.rows_kept }
+pub returns-in-Sequence-clause-by_index : goal.returns-in-Sequence-clause-by_index
+returns-in-Sequence-clause-by_index c k l rest ls top w ok = none-grown w _ (ap (λ x. stride_by (said_by x) l rest (event c.args.action c.args.res)) c.in-Sequence.is)
 
--- src/lib.rt:470:1
-pub returns-in-7 : goal.returns-in-7
-returns-in-7 c = record { by_index = λ k l rest ls top w ok. c.fresh.ensures.by_index k l rest ls top w ok c.in-7.is; rows_kept = c.fresh.ensures.rows_kept }
+pub returns-in-Choice-clause-by_index : goal.returns-in-Choice-clause-by_index
+returns-in-Choice-clause-by_index c k l rest ls top w ok = none-grown w _ (ap (λ x. stride_by (said_by x) l rest (event c.args.action c.args.res)) c.in-Choice.is)
 
--- src/lib.rt:470:1
-pub returns-in_default : goal.returns-in_default
-returns-in_default c = record {
-  by_index = λ k l rest ls top w ok.
-      let a = c.args in
-      let n = c.in_default.in_default-own.rest in
-      none-grown w _ (event-none a.f l rest a.action a.res n.0.0.1 n.0.1 n.1);
-  rows_kept = kept-none _ _;
-}
+pub returns-in-Loop-clause-by_index : goal.returns-in-Loop-clause-by_index
+returns-in-Loop-clause-by_index c k l rest ls top w ok = none-grown w _ (ap (λ x. stride_by (said_by x) l rest (event c.args.action c.args.res)) c.in-Loop.is)
+
+pub returns-in-Back-clause-by_index : goal.returns-in-Back-clause-by_index
+returns-in-Back-clause-by_index c k l rest ls top w ok = none-grown w _ (ap (λ x. stride_by (said_by x) l rest (event c.args.action c.args.res)) c.in-Back.is)
+
+pub returns-in-Sandbox-clause-by_index : goal.returns-in-Sandbox-clause-by_index
+returns-in-Sandbox-clause-by_index c k l rest ls top w ok = none-grown w _ (ap (λ x. stride_by (said_by x) l rest (event c.args.action c.args.res)) c.in-Sandbox.is)

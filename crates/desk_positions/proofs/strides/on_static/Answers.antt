@@ -6,29 +6,29 @@ use mathlib.Core.Path.{◌∙◌}
 use Rattle.desk_positions.proofs.strides.on_static.Goals as goal
 
 -- src/lib.rt:375:9
-pub returns-then-f-action : goal.returns-then-f-action
-returns-then-f-action c = record {
-  by_index = λ k l rest ls top w ok kind.
+pub returns-then-a-action : goal.returns-then-a-action
+returns-then-a-action c = record {
+  by_index = λ k l rest ls top w.
       let a = c.args in
-      none-grown w _ (static-action a.f l rest kind a.action a.res c.if-f-action.true);
+      none-grown w _ (static-action a.a a.s l rest a.action a.res c.if-a-action.true);
   rows_kept = kept-none _ _;
 }
 
 -- src/lib.rt:378:9
-pub returns-then-f-res : goal.returns-then-f-res
-returns-then-f-res c = record {
-  by_index = λ k l rest ls top w ok kind.
+pub returns-then-s-res : goal.returns-then-s-res
+returns-then-s-res c = record {
+  by_index = λ k l rest ls top w.
       let a = c.args in
-      none-grown w _ (static-resource a.f l rest kind a.action a.res c.if-f-res.true);
+      none-grown w _ (static-resource a.a a.s l rest a.action a.res c.if-s-res.true);
   rows_kept = kept-none _ _;
 }
 
 -- src/lib.rt:365:1
 pub returns : goal.returns
 returns c = record {
-  by_index = λ k l rest ls top w ok kind.
+  by_index = λ k l rest ls top w.
       let a = c.args in
-      one-grown w _ _ (static-taken a.f l rest kind a.action a.res c.if-f-action.false c.if-f-res.false) (below a.r.cells a.d k l rest top)
-      (c.pop.ensures ∙ pop-row a.r.cells a.d k l rest top) c.add.ensures;
+      one-grown w _ _ (static-taken a.a a.s l rest a.action a.res c.if-a-action.false c.if-s-res.false) (below a.top.row.cells a.top.below k l rest top)
+      (c.pop.ensures ∙ pop-row a.top.row.cells a.top.below k l rest top) c.add.ensures;
   rows_kept = adds-kept c.add.ensures;
 }

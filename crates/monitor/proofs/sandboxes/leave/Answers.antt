@@ -6,11 +6,13 @@ use native.Mathlib.Omega.{arith}
 use lib.ListN.{get_or}
 use Rattle.usage.specs.Limits.{policies, most_unclosed}
 use Rattle.usage.specs.Past.{closing}
+use Rattle.usage.specs.declared.Reason.TheVariants.{NotOpen, NotNewest}
 use Rattle.monitor_sets.specs.Order.{order_ok_lem}
 use Rattle.monitor_sets.proofs.SetLaws.{pos}
 use Rattle.monitor_sets.proofs.OrderLaws.{order-parts, order-some}
 use Rattle.monitor_state.specs.Judge.{with_closing, leaving, after}
-use Rattle.monitor_state.specs.Code.{lent_of, state_of}
+use Rattle.monitor_state.specs.Code.{state_of}
+use Rattle.monitor.specs.Loans.{held}
 use Rattle.monitor.proofs.JudgeLaws.{closing-closed, closing-not-last, closing-free}
 use Rattle.monitor.proofs.LentLaws.{refused-step, settled-step, kept}
 use Rattle.monitor.proofs.sandboxes.leave.Goals as goal
@@ -22,58 +24,49 @@ range depth order unclosed p e l n =
     let w = order-parts depth order unclosed e in
     (order-some depth order unclosed w p l (pos _ n), w.few)
 
-pub returns-then-n-eq0 : goal.returns-then-n-eq0
-returns-then-n-eq0 c =
+pub returns-then-n-eq0-clause-judged : goal.returns-then-n-eq0-clause-judged
+returns-then-n-eq0-clause-judged c =
     let a = c.args in
-    λ local es sets pairs created.
-    let l = lent_of sets pairs a.possible.now created a.unclosed.now a.order.now in
-    let s = state_of l a.sizes in
-    refused-step a.looked local es l a.sizes (closing a.p) 25 c.refused.result c.refused.ensures (closing-closed s a.p c.if-n-eq0.true)
+    let l = held a.lent.now in
+    refused-step a.by.now l a.sizes (closing a.p) NotOpen c.refused.result c.refused.ensures (closing-closed (state_of l a.sizes) a.p c.if-n-eq0.true)
 
 pub overflow_sub-depth : goal.overflow_sub-depth
 overflow_sub-depth c =
     let a = c.args in
     let pre = c.requires in
-    omega (arith, (range a.sizes.depth a.order.now a.unclosed.now a.p pre.unclosed_value pre.p_lt_policies c.if-n-eq0.false).0)
+    omega (arith, (range a.sizes.depth a.lent.now.order.now a.lent.now.unclosed.now a.p pre.unclosed_value pre.p_lt_policies c.if-n-eq0.false).0)
 
-pub bounds-order-depth : goal.bounds-order-depth
-bounds-order-depth c =
+pub bounds-lent-depth : goal.bounds-lent-depth
+bounds-lent-depth c =
     let a = c.args in
     let pre = c.requires in
-    let r = range a.sizes.depth a.order.now a.unclosed.now a.p pre.unclosed_value pre.p_lt_policies c.if-n-eq0.false in
+    let r = range a.sizes.depth a.lent.now.order.now a.lent.now.unclosed.now a.p pre.unclosed_value pre.p_lt_policies c.if-n-eq0.false in
     omega (arith, r.0, r.1)
 
-pub returns-then-wide-p : goal.returns-then-wide-p
-returns-then-wide-p c =
+pub returns-then-from-p-clause-judged : goal.returns-then-from-p-clause-judged
+returns-then-from-p-clause-judged c =
     let a = c.args in
-    λ local es sets pairs created.
-    let l = lent_of sets pairs a.possible.now created a.unclosed.now a.order.now in
-    let s = state_of l a.sizes in
-    refused-step a.looked local es l a.sizes (closing a.p) 26 c.refused-then-wide-p.result c.refused-then-wide-p.ensures
-    (closing-not-last s a.p (pos _ c.if-n-eq0.false)
-    (λ e. c.if-wide-p.true (c.wide.ensures ∙ e)))
+    let l = held a.lent.now in
+    let told = c.refused-then-from-p in
+    refused-step a.by.now l a.sizes (closing a.p) NotNewest told.result told.ensures
+    (closing-not-last (state_of l a.sizes) a.p (pos _ c.if-n-eq0.false) (λ e. c.if-from-p.true (c.from.ensures ∙ e)))
 
 pub overflow_sub-left : goal.overflow_sub-left
 overflow_sub-left c =
     let a = c.args in
     let pre = c.requires in
-    omega (
-      arith,
-      (range a.sizes.depth a.order.now a.unclosed.now a.p pre.unclosed_value pre.p_lt_policies
-          c.if-n-eq0.false).0,
-    )
+    omega (arith, (range a.sizes.depth a.lent.now.order.now a.lent.now.unclosed.now a.p pre.unclosed_value pre.p_lt_policies c.if-n-eq0.false).0)
 
-pub returns : goal.returns
+pub returns-clause-judged : goal.returns-clause-judged
 unfolding leaving with_closing after
-returns c =
+returns-clause-judged c =
     let a = c.args in
-    let bad = c.recount-bad in
-    λ local es sets pairs created.
-    let l = lent_of sets pairs a.possible.now created a.unclosed.now a.order.now in
+    let l = held a.lent.now in
     let s = state_of l a.sizes in
+    let e = c.recount-bad in
+    let bad = e.result in
     let t = leaving s a.p in
-    settled-step s t bad.result a.looked local es (closing a.p) c.settled.result bad.ensures.value
-    (closing-free s a.p (pos _ c.if-n-eq0.false)
-    (sym c.wide.ensures ∙ c.if-wide-p.false)) refl c.settled.ensures
-    (kept s t bad.result sets) (kept s t bad.result pairs) (kept s t bad.result a.possible.now) (kept s t bad.result created) bad.ensures.unclosed_after
-    (kept s t bad.result a.order.now)
+    settled-step s t bad a.by.now (closing a.p) c.settled.result e.ensures.value
+    (closing-free s a.p (pos _ c.if-n-eq0.false) (sym c.from.ensures ∙ c.if-from-p.false)) refl c.settled.ensures
+    (kept s t bad l.sets) (kept s t bad l.pairs) (kept s t bad l.possible) (kept s t bad l.numbers) e.ensures.unclosed_after
+    (kept s t bad l.order)

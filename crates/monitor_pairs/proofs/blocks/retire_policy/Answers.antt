@@ -1,13 +1,13 @@
 use mathlib.Core.Path.{sym, ◌∙◌}
 use borrow.Author.Tests.{lt-ltb, le-ltb}
+use Rattle.usage.specs.Limits.{policies}
 use Rattle.monitor_pairs.specs.Blocks.{of_policy}
-use borrow.Author.Rules.{rules}
 use Rattle.monitor_pairs.proofs.blocks.retire_policy.Goals as goal
 
-pub returns-then-p-ge8 : goal.returns-then-p-ge8
+pub returns-then-p-lt8 : goal.returns-then-p-lt8
 unfolding of_policy
-returns-then-p-ge8 c = record { sets_after = simp (le-ltb _ _ c.if-p-ge8.true); sets_len_2 = search rules }
+returns-then-p-lt8 c = c.retire.ensures ∙ sym (simp (lt-ltb _ policies c.if-p-lt8.true))
 
-pub returns : goal.returns
+pub returns-else-p-lt8 : goal.returns-else-p-lt8
 unfolding of_policy
-returns c = record { sets_after = c.retire.ensures.sets_after ∙ sym (simp (lt-ltb _ _ c.if-p-ge8.false)); sets_len_2 = c.retire.ensures.sets_len_2 }
+returns-else-p-lt8 c = simp (le-ltb _ policies c.if-p-lt8.false)

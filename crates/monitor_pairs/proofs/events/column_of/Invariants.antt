@@ -1,4 +1,3 @@
-use Prim.Native.Nat.{◌-◌, ◌≤◌}
 use mathlib.Core.Path.{◌≡◌}
 use Rattle.monitor_sets.specs.Instances.{instances}
 use Rattle.monitor_pairs.specs.Pairs.{pair_at}
@@ -7,7 +6,4 @@ use Rattle.monitor_pairs.proofs.events.column_of.Given as goal
 
 abbrev pub invariant-loop-i : goal.invariant-loop-i
 invariant-loop-i l =
-    (l.i ≤ l.n) × (l.column ≡ filled (λ i. pair_at l.sets i l.at) (λ i. 0) instances l.i)
-
-abbrev pub decreases-loop-i : goal.decreases-loop-i
-decreases-loop-i l = l.n - l.i
+    (l.column ≡ filled (λ i. pair_at l.sets i l.at) (λ i. 0) instances l.i)

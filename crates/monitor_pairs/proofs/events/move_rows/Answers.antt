@@ -5,11 +5,7 @@ use lib.ListN.{set}
 use Rattle.monitor_sets.specs.Instances.{instances}
 use Rattle.monitor_pairs.specs.Code.{line_moved, row_put, column_put}
 use Rattle.monitor_pairs.proofs.EventLaws.{event-made}
-use borrow.Author.Rules.{rules}
 use Rattle.monitor_pairs.proofs.events.move_rows.Goals as goal
-
-pub move_run-requires : goal.move_run-requires
-move_run-requires c = record { sets_len = c.requires.sets_len; by_index = c.requires.by_index; n_le_pair_places = search rules }
 
 pub returns : goal.returns
 returns c =
@@ -18,11 +14,8 @@ returns c =
     let k : ℕ = a.at * instances in
     let row = c.move_line-row.ensures ∙ ap (line_moved a.ways.first) c.row_of.ensures in
     let line = c.move_line-column.ensures ∙ ap (line_moved a.ways.second) c.column_of.ensures in
-    let own = c.moved-own.ensures in record {
-      sets_after = c.put_column.ensures.sets_after
-          ∙ ap₂ (λ (u v : List ℕ). column_put a.at u a.n v) (ap₂ (λ (u : List ℕ) (v : ℕ). set u a.at v) line own)
-          (c.put_row.ensures.sets_after
-          ∙ ap₂ (λ (u v : List ℕ). row_put k u instances v) row c.move_run.ensures.sets_after)
-          ∙ event-made a.ways a.at a.n l c.requires.n_le_instances c.requires.at_lt_n;
-      sets_len_2 = c.put_column.ensures.sets_len_2;
-    }
+    let own = c.move_by_rows-own.ensures in c.put_column.ensures
+    ∙ ap₂ (λ (u v : List ℕ). column_put a.at u a.n v) (ap₂ (λ (u : List ℕ) (v : ℕ). set u a.at v) line own)
+    (c.put_row.ensures
+    ∙ ap₂ (λ (u v : List ℕ). row_put k u instances v) row c.move_run.ensures)
+    ∙ event-made a.ways a.at a.n l c.requires.n_le_instances c.requires.at_lt_n

@@ -1,4 +1,4 @@
-use Prim.Native.Nat.{◌-◌, ◌/◌, ◌≤◌}
+use Prim.Native.Nat.{◌/◌}
 use mathlib.Core.Path.{◌≡◌}
 use lib.ListN.{length, get_or}
 use Rattle.monitor_sets.specs.Instances.{instances}
@@ -8,7 +8,4 @@ use Rattle.monitor_pairs.proofs.events.put_column.Given as goal
 
 abbrev pub invariant-loop-i : goal.invariant-loop-i
 invariant-loop-i l =
-    (l.i ≤ l.n) × ((length l.sets ≡ pair_places) × (l.sets ≡ column l.at (λ k. get_or l.column (k / instances) 0) (λ k. get_or l.initial.sets k 0) l.i))
-
-abbrev pub decreases-loop-i : goal.decreases-loop-i
-decreases-loop-i l = l.n - l.i
+    ((length l.sets ≡ pair_places) × (l.sets ≡ column l.at (λ k. get_or l.column (k / instances) 0) (λ k. get_or l.initial.sets k 0) l.i))

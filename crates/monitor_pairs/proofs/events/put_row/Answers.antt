@@ -7,16 +7,12 @@ use Rattle.monitor_sets.specs.Instances.{instances}
 use Rattle.monitor_pairs.specs.Pairs.{pair_places}
 use Rattle.monitor_pairs.specs.Code.{row_put}
 use Rattle.monitor_pairs.proofs.RunLaws.{span_none, span_more}
-use borrow.Author.Rules.{rules}
 use Rattle.monitor_pairs.proofs.events.put_row.Goals as goal
 
 pub loop-j-init : goal.loop-j-init
 loop-j-init c = (
-  search rules,
-  (
-    c.requires.sets_len,
-    span_none c.args.k (λ l. get_or c.args.row.now (l - c.args.k) 0) (λ l. get_or c.args.sets.now l 0) pair_places _ c.requires.sets_len (λ l b. refl),
-  ),
+  c.told-sets,
+  span_none c.args.k (λ l. get_or c.args.row.now (l - c.args.k) 0) (λ l. get_or c.args.sets.now l 0) pair_places _ c.told-sets (λ l b. refl),
 )
 
 pub loop-j-preserved : goal.loop-j-preserved
@@ -24,13 +20,10 @@ loop-j-preserved c =
     let a = c.args in
     let t = c.loop-j in
     let z : a.k + t.j - a.k ≡ t.j = omega arith in (
-      search rules,
-      (
-        length-set t.sets _ _ ∙ t.invariant.1.0,
-        ap (λ (l : List ℕ). set l (a.k + t.j) (get_or a.row.now t.j 0)) t.invariant.1.1
-            ∙ span_more a.k (λ l. get_or a.row.now (l - a.k) 0) (λ l. get_or a.sets.now l 0) pair_places t.j _ (omega arith)
-            (ap (λ (i : ℕ). get_or a.row.now i 0) (sym z)),
-      ),
+      length-set t.sets _ _ ∙ t.invariant.0,
+      ap (λ (l : List ℕ). set l (a.k + t.j) (get_or a.row.now t.j 0)) t.invariant.1
+          ∙ span_more a.k (λ l. get_or a.row.now (l - a.k) 0) (λ l. get_or a.sets.now l 0) pair_places t.j _ (omega arith)
+          (ap (λ (i : ℕ). get_or a.row.now i 0) (sym z)),
     )
 
 pub returns : goal.returns
@@ -39,4 +32,4 @@ returns c =
     let a = c.args in
     let t = c.loop-j in
     let e : t.j ≡ instances = omega arith in
-    record { sets_after = rw e at t.invariant.1.1; sets_len_2 = t.invariant.1.0 }
+    rw e at t.invariant.1

@@ -1,25 +1,21 @@
-use Prim.Native.Nat.{◌+◌}
-use mathlib.Core.Path.{refl, ◌∙◌}
+use Prim.Native.Nat.{ℕ, ◌+◌, ◌-◌}
+use mathlib.Core.Path.{◌≡◌, ap, ◌∙◌}
+use mathlib.Core.List.{List}
 use native.Mathlib.Omega.{arith}
-use lib.ListN.{get_or}
+use lib.ListN.{get_or, take, drop}
+use lib.Seq.{get_or-take, get_or-drop}
+use Rattle.usage.proofs.TableLaws.{is-from}
 use Rattle.monitor_sets.specs.Instances.{instances}
 use Rattle.monitor_pairs.specs.Code.{pair_row}
-use Rattle.monitor_pairs.proofs.RunLaws.{filled-zeros, filled_more, filled-all}
-use borrow.Author.Rules.{rules}
 use Rattle.monitor_pairs.proofs.events.row_of.Goals as goal
-
-pub loop-j-init : goal.loop-j-init
-loop-j-init c = (search rules, filled-zeros (λ i. get_or c.args.sets.now (c.args.k + i) 0) (λ i. 0) instances (λ k. refl))
-
-pub loop-j-preserved : goal.loop-j-preserved
-loop-j-preserved c =
-    let a = c.args in
-    let t = c.loop-j in
-    (search rules, rw t.invariant.1 (filled_more (λ i. get_or a.sets.now (a.k + i) 0) (λ i. 0) instances t.j _ (omega arith) refl))
 
 pub returns : goal.returns
 unfolding pair_row
 returns c =
     let a = c.args in
-    let t = c.loop-j in
-    t.invariant.1 ∙ filled-all (λ i. get_or a.sets.now (a.k + i) 0) (λ i. 0) instances t.j (omega arith)
+    let l = a.sets.now in
+    let copied = c.copy_from_slice.ensures in
+    let e : a.k + instances - a.k ≡ instances = omega arith in
+    is-from (λ j. get_or l (a.k + j) 0) 0 instances c.copy_from_slice.new.self copied.len
+    (λ j b. ap (λ (u : List ℕ). get_or u j 0) (copied.after ∙ ap (λ (n : ℕ). take n (drop a.k l)) e)
+    ∙ get_or-take instances (drop a.k l) j 0 b ∙ get_or-drop a.k l j 0)

@@ -1,11 +1,7 @@
-use Prim.Native.Nat.{◌-◌, ◌≤◌}
 use mathlib.Core.Path.{◌≡◌}
 use Rattle.monitor_pairs.specs.Code.{beside_columns}
 use Rattle.monitor_pairs.proofs.gathering.columns_beside.Given as goal
 
 abbrev pub invariant-loop-i : goal.invariant-loop-i
 invariant-loop-i l =
-    (l.i ≤ l.n) × (l.line ≡ beside_columns l.i l.at l.sets)
-
-abbrev pub decreases-loop-i : goal.decreases-loop-i
-decreases-loop-i l = l.n - l.i
+    (l.line ≡ beside_columns l.i l.at l.sets)

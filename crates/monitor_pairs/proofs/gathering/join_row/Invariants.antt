@@ -1,4 +1,4 @@
-use Prim.Native.Nat.{◌+◌, ◌-◌, ◌≤◌}
+use Prim.Native.Nat.{◌+◌}
 use mathlib.Core.Path.{◌≡◌}
 use lib.Bits.{bit_or}
 use lib.ListN.{length, get_or}
@@ -8,9 +8,5 @@ use Rattle.monitor_pairs.proofs.gathering.join_row.Given as goal
 
 abbrev pub invariant-loop-j : goal.invariant-loop-j
 invariant-loop-j l =
-    (l.j ≤ instances)
-    × ((length l.line ≡ instances)
+    ((length l.line ≡ instances)
     × (l.line ≡ filled (λ i. bit_or (get_or l.initial.line i 0) (get_or l.sets (l.k + i) 0)) (λ i. get_or l.initial.line i 0) instances l.j))
-
-abbrev pub decreases-loop-j : goal.decreases-loop-j
-decreases-loop-j l = instances - l.j

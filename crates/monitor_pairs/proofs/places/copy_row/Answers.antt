@@ -9,4 +9,4 @@ use Rattle.monitor_pairs.proofs.places.copy_row.Goals as goal
 pub returns : goal.returns
 returns c =
     let a = c.args in
-    let l = a.sets.now in record { sets_after = c.put_row.ensures.sets_after ∙ ap (λ (u : List ℕ). row_put (a.to * instances) u instances l) c.row_of-row.ensures ∙ row_copied_lem a.from a.to l; sets_len_2 = c.put_row.ensures.sets_len_2 }
+    let l = a.sets.now in c.put_row.ensures ∙ ap (λ (u : List ℕ). row_put (a.to * instances) u instances l) c.row_of-row.ensures ∙ row_copied_lem a.from a.to l

@@ -9,27 +9,20 @@ use Rattle.monitor_sets.specs.Instances.{instances}
 use Rattle.monitor_pairs.specs.Pairs.{pair_places, reset_pairs}
 use Rattle.monitor_pairs.proofs.RunLaws.{filled_none, filled_more, same_from, rows-places}
 use Rattle.monitor_sets.specs.Sets.{start_set}
-use borrow.Author.Rules.{rules}
 use Rattle.monitor_pairs.proofs.places.reset.Goals as goal
 
 pub loop-k-init : goal.loop-k-init
 loop-k-init c =
     let l = c.args.sets.now in
-    (search rules, (search rules, (filled_none (λ k. start_set) (λ k. get_or l k 0) pair_places l c.requires.sets_len (λ k b. refl), c.requires.sets_len)))
+    (c.told-sets, filled_none (λ k. start_set) (λ k. get_or l k 0) pair_places l c.told-sets (λ k b. refl))
 
 pub loop-k-preserved : goal.loop-k-preserved
 loop-k-preserved c =
     let t = c.loop-k in
     let l = c.args.sets.now in (
-      search rules,
-      (
-        search rules,
-        (
-          ap (λ (u : List ℕ). set u t.k start_set) t.invariant.1.1.0
-              ∙ filled_more (λ k. start_set) (λ k. get_or l k 0) pair_places t.k start_set (omega arith) refl,
-          length-set t.sets _ _ ∙ t.invariant.1.1.1,
-        ),
-      ),
+      length-set t.sets _ _ ∙ t.invariant.0,
+      ap (λ (u : List ℕ). set u t.k start_set) t.invariant.1
+          ∙ filled_more (λ k. start_set) (λ k. get_or l k 0) pair_places t.k start_set (omega arith) refl,
     )
 
 pub returns : goal.returns
@@ -38,8 +31,6 @@ returns c =
     let t = c.loop-k in
     let a = c.args in
     let l = a.sets.now in
-    let e : t.k ≡ a.n * instances = omega arith in record {
-      sets_after = rw e at t.invariant.1.1.0 ∙ same_from (λ k. cond (ltb k (a.n * instances)) start_set (get_or l k 0)) (λ k. cond (ltb (k / instances) a.n) start_set (get_or l k 0)) pair_places
-          (λ k b. ap (λ (u : Bool). cond u start_set (get_or l k 0)) (rows-places k a.n));
-      sets_len_2 = t.invariant.1.1.1;
-    }
+    let e : t.k ≡ a.n * instances = omega arith in
+    rw e at t.invariant.1 ∙ same_from (λ k. cond (ltb k (a.n * instances)) start_set (get_or l k 0)) (λ k. cond (ltb (k / instances) a.n) start_set (get_or l k 0)) pair_places
+    (λ k b. ap (λ (u : Bool). cond u start_set (get_or l k 0)) (rows-places k a.n))

@@ -6,14 +6,13 @@ use lib.ListN.{get_or, set, length-set}
 use Rattle.monitor_pairs.specs.Pairs.{pair_places}
 use Rattle.monitor_pairs.specs.Code.{moved_up}
 use Rattle.monitor_pairs.proofs.RunLaws.{span_none, span-ahead, span_more}
-use borrow.Author.Rules.{rules}
 use Rattle.monitor_pairs.proofs.retiring.move_up.Goals as goal
 
 pub loop-i-init : goal.loop-i-init
 loop-i-init c =
     let a = c.args in
     let l = a.sets.now in
-    (search rules, (c.requires.sets_len, span_none a.s (λ k. get_or l (k + a.by) 0) (λ k. get_or l k 0) pair_places l c.requires.sets_len (λ k b. refl)))
+    (c.told-sets, span_none a.s (λ k. get_or l (k + a.by) 0) (λ k. get_or l k 0) pair_places l c.told-sets (λ k b. refl))
 
 pub loop-i-preserved : goal.loop-i-preserved
 loop-i-preserved c =
@@ -22,14 +21,11 @@ loop-i-preserved c =
     let l = a.sets.now in
     let f : ℕ → ℕ = λ k. get_or l (k + a.by) 0 in
     let g : ℕ → ℕ = λ k. get_or l k 0 in
-    let e : get_or t.sets (a.s + t.i + a.by) 0 ≡ f (a.s + t.i) = ap (λ (u : List ℕ). get_or u (a.s + t.i + a.by) 0) t.invariant.1.1
+    let e : get_or t.sets (a.s + t.i + a.by) 0 ≡ f (a.s + t.i) = ap (λ (u : List ℕ). get_or u (a.s + t.i + a.by) 0) t.invariant.1
     ∙ span-ahead a.s f g pair_places t.i (a.s + t.i + a.by) (omega arith) (omega arith) in (
-      search rules,
-      (
-        length-set t.sets _ _ ∙ t.invariant.1.0,
-        ap (λ (u : List ℕ). set u (a.s + t.i) (get_or t.sets (a.s + t.i + a.by) 0)) t.invariant.1.1
-            ∙ span_more a.s f g pair_places t.i _ (omega arith) e,
-      ),
+      length-set t.sets _ _ ∙ t.invariant.0,
+      ap (λ (u : List ℕ). set u (a.s + t.i) (get_or t.sets (a.s + t.i + a.by) 0)) t.invariant.1
+          ∙ span_more a.s f g pair_places t.i _ (omega arith) e,
     )
 
 pub returns : goal.returns
@@ -38,4 +34,4 @@ returns c =
     let a = c.args in
     let t = c.loop-i in
     let e : t.i ≡ a.n = omega arith in
-    record { sets_after = rw e at t.invariant.1.1; sets_len_2 = t.invariant.1.0 }
+    rw e at t.invariant.1

@@ -1,4 +1,4 @@
-use Prim.Native.Nat.{◌+◌, ◌-◌, ◌≤◌}
+use Prim.Native.Nat.{◌+◌}
 use mathlib.Core.Path.{◌≡◌}
 use lib.ListN.{length, get_or}
 use Rattle.monitor_pairs.specs.Pairs.{pair_places}
@@ -7,8 +7,4 @@ use Rattle.monitor_pairs.proofs.retiring.move_up.Given as goal
 
 abbrev pub invariant-loop-i : goal.invariant-loop-i
 invariant-loop-i l =
-    (l.i ≤ l.n)
-    × ((length l.sets ≡ pair_places) × (l.sets ≡ span l.s (λ k. get_or l.initial.sets (k + l.by) 0) (λ k. get_or l.initial.sets k 0) pair_places l.i))
-
-abbrev pub decreases-loop-i : goal.decreases-loop-i
-decreases-loop-i l = l.n - l.i
+    ((length l.sets ≡ pair_places) × (l.sets ≡ span l.s (λ k. get_or l.initial.sets (k + l.by) 0) (λ k. get_or l.initial.sets k 0) pair_places l.i))

@@ -12,12 +12,9 @@ pub returns : goal.returns
 returns c =
     let a = c.args in
     let l = a.sets.now in
-    let cols = c.retire_columns.ensures.sets_after in
-    let row = c.join_row.ensures.line_after
+    let cols = c.retire_columns.ensures in
+    let row = c.join_row.ensures
     ∙ ap₂ (λ (u v : List ℕ). row_joined (a.at * instances) u v) cols (c.row_of-row.ensures ∙ ap (pair_row (retirees * instances)) cols) in
-    let put = c.put_row.ensures.sets_after ∙ ap₂ (λ (u v : List ℕ). row_put (retirees * instances) u instances v) row cols in
-    let rows = c.move_up.ensures.sets_after ∙ ap (moved_up (a.at * instances) ((a.n - 1 - a.at) * instances) instances) put in record {
-      sets_after = c.copy_row.ensures.sets_after ∙ ap (row_copied unseen (a.n - 1)) rows
-          ∙ retired-both a.at a.n l (omega arith) (omega arith) (omega arith);
-      sets_len_2 = c.copy_row.ensures.sets_len_2;
-    }
+    let put = c.put_row.ensures ∙ ap₂ (λ (u v : List ℕ). row_put (retirees * instances) u instances v) row cols in
+    let rows = c.move_up.ensures ∙ ap (moved_up (a.at * instances) ((a.n - 1 - a.at) * instances) instances) put in c.copy_row.ensures ∙ ap (row_copied unseen (a.n - 1)) rows
+    ∙ retired-both a.at a.n l (omega arith) (omega arith) (omega arith)

@@ -1,4 +1,3 @@
-use Prim.Native.Nat.{◌-◌, ◌≤◌}
 use mathlib.Core.Path.{◌≡◌}
 use lib.ListN.{length}
 use Rattle.monitor_pairs.specs.Pairs.{pair_places}
@@ -7,7 +6,4 @@ use Rattle.monitor_pairs.proofs.retiring.retire_columns.Given as goal
 
 abbrev pub invariant-loop-i : goal.invariant-loop-i
 invariant-loop-i l =
-    (l.i ≤ l.n) × ((length l.sets ≡ pair_places) × (l.sets ≡ columns_retired l.at l.i l.initial.sets))
-
-abbrev pub decreases-loop-i : goal.decreases-loop-i
-decreases-loop-i l = l.n - l.i
+    ((length l.sets ≡ pair_places) × (l.sets ≡ columns_retired l.at l.i l.initial.sets))

@@ -1,4 +1,4 @@
-use Prim.Native.Nat.{ℕ, ◌-◌, ◌^◌, ◌≤◌, ◌<◌}
+use Prim.Native.Nat.{ℕ, ◌^◌, ◌<◌}
 use mathlib.Core.Path.{◌≡◌}
 use lib.ListN.{get_or}
 use Rattle.monitor_pairs.specs.Code.{two_moved}
@@ -6,8 +6,4 @@ use Rattle.monitor_pairs.proofs.runs.agrees.Given as goal
 
 abbrev pub invariant-loop-q : goal.invariant-loop-q
 invariant-loop-q l =
-    (l.q ≤ 8)
-    × ((j : ℕ) → j < l.q → two_moved l.two.keep l.two.low l.two.lows l.two.high l.two.highs (2 ^ j) ≡ get_or l.rows j 0)
-
-abbrev pub decreases-loop-q : goal.decreases-loop-q
-decreases-loop-q l = 8 - l.q
+    ((j : ℕ) → j < l.q → two_moved l.two.keep l.two.low l.two.lows l.two.high l.two.highs (2 ^ j) ≡ get_or l.rows j 0)

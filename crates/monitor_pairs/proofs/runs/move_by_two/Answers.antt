@@ -8,4 +8,4 @@ pub returns : goal.returns
 unfolding two_moved
 returns c =
     let a = c.args in
-    ap₂ (λ (u v : ℕ). bit_or (bit_or (bit_and a.x a.keep) u) v) c.pick_any.ensures c.pick_any-2.ensures
+    ap₂ (λ (u v : ℕ). bit_or (bit_or (bit_and a.x a.two.keep) u) v) c.pick_any.ensures c.pick_any-2.ensures

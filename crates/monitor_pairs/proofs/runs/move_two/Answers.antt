@@ -6,7 +6,6 @@ use lib.ListN.{get_or, set, length-set}
 use Rattle.monitor_pairs.specs.Pairs.{pair_places}
 use Rattle.monitor_pairs.specs.Code.{two_moved, run_by_two}
 use Rattle.monitor_pairs.proofs.RunLaws.{filled_none, filled_next, filled_more}
-use borrow.Author.Rules.{rules}
 use Rattle.monitor_pairs.proofs.runs.move_two.Goals as goal
 
 pub loop-k-init : goal.loop-k-init
@@ -14,7 +13,7 @@ loop-k-init c =
     let w = c.args.two in
     let l = c.args.sets.now in
     let f : ℕ → ℕ = λ k. two_moved w.keep w.low w.lows w.high w.highs (get_or l k 0) in
-    (search rules, (c.requires.sets_len, filled_none f (λ k. get_or l k 0) pair_places l c.requires.sets_len (λ k b. refl)))
+    (c.told-sets, filled_none f (λ k. get_or l k 0) pair_places l c.told-sets (λ k b. refl))
 
 pub loop-k-preserved : goal.loop-k-preserved
 loop-k-preserved c =
@@ -25,14 +24,11 @@ loop-k-preserved c =
     let f : ℕ → ℕ = λ k. m (get_or l k 0) in
     let g : ℕ → ℕ = λ k. get_or l k 0 in
     let h : t.k < pair_places = omega arith in
-    let e : get_or t.sets t.k 0 ≡ get_or l t.k 0 = ap (λ (u : List ℕ). get_or u t.k 0) t.invariant.1.1
+    let e : get_or t.sets t.k 0 ≡ get_or l t.k 0 = ap (λ (u : List ℕ). get_or u t.k 0) t.invariant.1
     ∙ filled_next f g pair_places t.k h in (
-      search rules,
-      (
-        length-set t.sets _ _ ∙ t.invariant.1.0,
-        ap (λ (u : List ℕ). set u t.k c.move_by_two.result) t.invariant.1.1
-            ∙ filled_more f g pair_places t.k _ h (c.move_by_two.ensures ∙ ap m e),
-      ),
+      length-set t.sets _ _ ∙ t.invariant.0,
+      ap (λ (u : List ℕ). set u t.k c.move_by_two.result) t.invariant.1
+          ∙ filled_more f g pair_places t.k _ h (c.move_by_two.ensures ∙ ap m e),
     )
 
 pub returns : goal.returns
@@ -40,4 +36,4 @@ unfolding run_by_two
 returns c =
     let t = c.loop-k in
     let e : t.k ≡ c.args.n = omega arith in
-    record { sets_after = rw e at t.invariant.1.1; sets_len_2 = t.invariant.1.0 }
+    rw e at t.invariant.1

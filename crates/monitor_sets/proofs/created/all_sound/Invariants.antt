@@ -2,7 +2,7 @@
 use Prim.Native.Nat.{ℕ, ◌%◌, ◌<◌, ◌≤◌}
 use mathlib.Core.Bool.{true, false, ◌&&◌}
 use mathlib.Core.Path.{◌≡◌}
-use lib.ListN.{length, get_or, take, drop}
+use lib.ListN.{length, get_or, drop}
 use Rattle.usage.specs.Tests.{every}
 use Rattle.monitor_sets.specs.Created.{dynamic, distinct}
 use Rattle.monitor_sets.specs.Code.{endings}
@@ -10,10 +10,6 @@ use Rattle.monitor_sets.proofs.created.all_sound.Given as goal
 
 abbrev pub invariant-loop-i : goal.invariant-loop-i
 invariant-loop-i l =
-    (l.i ≤ l.count)
-    × (((every dynamic (drop l.i (take l.count l.created)) && distinct (drop l.i (take l.count l.created))) ≡ true)
+    ((every dynamic (drop l.i l.live) && distinct (drop l.i l.live)) ≡ true)
     × ((length l.seen ≡ endings)
-    × ((j : ℕ) → l.i ≤ j → j < l.count → get_or l.seen (get_or l.created j 0 % endings) false ≡ true)))
-
-abbrev pub decreases-loop-i : goal.decreases-loop-i
-decreases-loop-i l = l.i
+    × ((j : ℕ) → l.i ≤ j → j < length l.live → get_or l.seen (get_or l.live j 0 % endings) false ≡ true))

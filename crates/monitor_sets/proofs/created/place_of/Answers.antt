@@ -12,9 +12,6 @@ pub returns-then-x-lt-STATICS : goal.returns-then-x-lt-STATICS
 unfolding place_in
 returns-then-x-lt-STATICS c = simp (lt-ltb _ _ c.if-x-lt-STATICS.true)
 
-pub place-requires : goal.place-requires
-place-requires c = record { created_len = c.created_length.ensures; count_le_most_created = omega (arith, c.at_most_created-n.ensures) }
-
 pub returns : goal.returns
 unfolding place_in
 returns c =
@@ -22,4 +19,4 @@ returns c =
     simp (le-ltb _ _ c.if-x-lt-STATICS.false)
     (c.place.ensures
     ∙ ap (λ (l : List ℕ). place_from a.x first_created_lem l)
-    (take-most a.created.now a.count _ c.created_length.ensures c.at_most_created-n.ensures))
+    (take-most a.created.now a.count c.min.result c.told-created (omega (arith, c.min.ensures))))

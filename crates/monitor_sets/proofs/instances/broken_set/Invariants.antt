@@ -1,13 +1,8 @@
-use Prim.Native.Nat.{◌-◌, ◌≤◌}
 use mathlib.Core.Path.{◌≡◌}
 use lib.ListN.{get_or}
-use Rattle.usage.specs.Limits.{policies}
 use Rattle.automaton.specs.Mask.{union}
 use Rattle.monitor_sets.specs.Code.{broken_bit_lem}
 use Rattle.monitor_sets.proofs.instances.broken_set.Given as goal
 
 abbrev pub invariant-loop-p : goal.invariant-loop-p
-invariant-loop-p l = (l.p ≤ policies) × (l.bad ≡ union l.p (λ q. broken_bit_lem l.looked (get_or l.possible q 0) (get_or l.unclosed q 0) q))
-
-abbrev pub decreases-loop-p : goal.decreases-loop-p
-decreases-loop-p l = policies - l.p
+invariant-loop-p l = (l.bad ≡ union l.p (λ q. broken_bit_lem l.looked (get_or l.possible q 0) (get_or l.unclosed q 0) q))

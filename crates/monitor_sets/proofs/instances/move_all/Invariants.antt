@@ -1,4 +1,3 @@
-use Prim.Native.Nat.{◌-◌, ◌≤◌}
 use mathlib.Core.Path.{◌≡◌}
 use mathlib.Core.Bool.{cond}
 use lib.Dec.{ltb}
@@ -10,8 +9,5 @@ use Rattle.monitor_sets.proofs.instances.move_all.Given as goal
 
 abbrev pub invariant-loop-p : goal.invariant-loop-p
 invariant-loop-p l =
-    (l.p ≤ policies) × ((l.sets ≡ all_moved l.own l.other l.n l.at l.p l.initial.sets)
+    ((l.sets ≡ all_moved l.own l.other l.n l.at l.p l.initial.sets)
     × (l.possible ≡ from (λ q. cond (ltb q l.p) (gathered_at l.n (all_moved l.own l.other l.n l.at policies l.initial.sets) q) 0) 0 policies))
-
-abbrev pub decreases-loop-p : goal.decreases-loop-p
-decreases-loop-p l = policies - l.p

@@ -1,5 +1,4 @@
-use Prim.Native.Nat.{◌+◌, ◌-◌, ◌≤◌}
-use mathlib.Core.List.{[], ◌∷◌}
+use Prim.Native.Nat.{◌+◌, ◌≤◌}
 use mathlib.Core.Path.{◌≡◌}
 use lib.ListN.{get_or}
 use Rattle.automaton.specs.Mask.{union}
@@ -9,8 +8,5 @@ use Rattle.monitor_sets.proofs.instances.move_row.Given as goal
 
 abbrev pub invariant-loop-i : goal.invariant-loop-i
 invariant-loop-i l =
-    let rows = l.a ∷ l.b ∷ l.c ∷ l.d ∷ l.e ∷ l.f ∷ l.g ∷ l.h ∷ [] in
+    let rows = l.rows in
     (l.i ≤ l.n) × ((l.sets ≡ row_moved rows l.k l.i l.initial.sets) × (l.all ≡ union l.i (λ j. move_by rows 0 (get_or l.initial.sets (l.k + j) 0))))
-
-abbrev pub decreases-loop-i : goal.decreases-loop-i
-decreases-loop-i l = l.n - l.i

@@ -1,5 +1,5 @@
 use Prim.Native.Nat.{ℕ, ◌+◌}
-use mathlib.Core.Path.{refl, ap, ◌∙◌}
+use mathlib.Core.Path.{ap, ◌∙◌}
 use mathlib.Core.List.{List}
 use native.Mathlib.Omega.{arith}
 use lib.ListN.{set, length-set, get_or}
@@ -10,9 +10,7 @@ use Rattle.monitor_sets.proofs.ClosingLaws.{closed_to, closed_none, closed-sourc
 use Rattle.monitor_sets.proofs.retiring.close_row.Goals as goal
 
 pub loop-j-init : goal.loop-j-init
-loop-j-init c =
-    let a = c.args in
-    (omega arith, (omega arith, (refl, (c.requires.sets_len, closed_none set_places (a.k + a.at) a.sets.now c.requires.sets_len))))
+loop-j-init c = let a = c.args in (c.told-sets, closed_none set_places (a.k + a.at) a.sets.now c.told-sets)
 
 pub loop-j-preserved : goal.loop-j-preserved
 loop-j-preserved c =
@@ -20,23 +18,15 @@ loop-j-preserved c =
     let t = c.loop-j in
     let i : ℕ = a.k + a.at in
     let all : List ℕ = from (closed_to set_places i a.sets.now t.j) 0 set_places in (
-      omega arith,
-      (
-        omega arith,
-        (
-          t.invariant.1.1.0,
-          (
-            length-set t.sets t.j (get_or t.sets (t.j + 1) 0) ∙ t.invariant.1.1.1.0,
-            ap (λ (l : List ℕ). set l t.j (get_or l (t.j + 1) 0)) t.invariant.1.1.1.1
-                ∙ ap (λ (v : ℕ). set all t.j v) (closed-source set_places i a.sets.now t.j (omega arith))
-                ∙ closed-more set_places i a.sets.now t.j t.invariant.0 (omega arith),
-          ),
-        ),
-      ),
+      length-set t.sets t.j (get_or t.sets (t.j + 1) 0) ∙ t.invariant.0,
+      ap (λ (l : List ℕ). set l t.j (get_or l (t.j + 1) 0)) t.invariant.1
+          ∙ ap (λ (v : ℕ). set all t.j v) (closed-source set_places i a.sets.now t.j (omega arith))
+          ∙ closed-more set_places i a.sets.now t.j (omega arith) (omega arith),
     )
 
 pub returns : goal.returns
 unfolding row_closed
 returns c =
     let a = c.args in
-    let t = c.loop-j in record { sets_after = t.invariant.1.1.1.1 ∙ closed_all set_places (a.k + a.at) a.sets.now (a.k + a.n) t.j (omega arith); sets_len_2 = t.invariant.1.1.1.0 }
+    let t = c.loop-j in
+    t.invariant.1 ∙ closed_all set_places (a.k + a.at) a.sets.now (a.k + a.n) t.j (omega arith)

@@ -1,5 +1,5 @@
 -- `close_row` meets its contract. The invariant: the places from k + at to below j have what stood behind them.
-use Prim.Native.Nat.{◌+◌, ◌-◌, ◌<◌, ◌≤◌}
+use Prim.Native.Nat.{◌+◌}
 use mathlib.Core.Path.{◌≡◌}
 use lib.ListN.{length}
 use Rattle.usage.specs.Tables.{from}
@@ -8,9 +8,4 @@ use Rattle.monitor_sets.proofs.ClosingLaws.{closed_to}
 use Rattle.monitor_sets.proofs.retiring.close_row.Given as goal
 
 abbrev pub invariant-loop-j : goal.invariant-loop-j
-invariant-loop-j l =
-    (l.k + l.at ≤ l.j)
-    × ((l.j < l.k + l.n) × ((l.end ≡ l.k + l.n) × ((length l.sets ≡ set_places) × (l.sets ≡ from (closed_to set_places (l.k + l.at) l.initial.sets l.j) 0 set_places))))
-
-abbrev pub decreases-loop-j : goal.decreases-loop-j
-decreases-loop-j l = l.k + l.n - l.j
+invariant-loop-j l = (length l.sets ≡ set_places) × (l.sets ≡ from (closed_to set_places (l.k + l.at) l.initial.sets l.j) 0 set_places)

@@ -20,7 +20,7 @@ rows-requires c =
     let p = f.places in
     let q = f.few in
     let short = held-short f in
-    rw s.ensures (record { n_in_bounds = omega arith; n_in_bounds_2 = omega arith })
+    rw s.ensures (record { n_in_bounds = omega arith; rows_in_bounds = omega arith })
 
 pub returns : goal.returns
 returns c =

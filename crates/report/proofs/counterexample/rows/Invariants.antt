@@ -1,5 +1,5 @@
 use mathlib.Core.Path.{◌≡◌}
-use Prim.Native.Nat.{◌+◌, ◌-◌, ◌≤◌}
+use Prim.Native.Nat.{◌+◌, ◌≤◌}
 use lib.ListN.{length}
 use lib.Seq.{sets}
 use Rattle.report.proofs.CounterexampleLaws.{rows_left}
@@ -11,6 +11,3 @@ invariant-loop-i l =
     (l.i ≤ l.n) × ((length l.out ≡ length l.initial.out) × ((l.at + length (rows_left l.trace l.n 0) ≤ length l.initial.out)
     × ((l.next + length (rows_left l.trace l.n l.i) ≡ l.at + length (rows_left l.trace l.n 0))
     × (sets l.out l.next (rows_left l.trace l.n l.i) ≡ sets l.initial.out l.at (rows_left l.trace l.n 0)))))
-
-abbrev pub decreases-loop-i : goal.decreases-loop-i
-decreases-loop-i l = l.n - l.i

@@ -1,5 +1,5 @@
 use mathlib.Core.Path.{◌≡◌}
-use Prim.Native.Nat.{◌+◌, ◌-◌, ◌≤◌}
+use Prim.Native.Nat.{◌+◌, ◌≤◌}
 use lib.ListN.{length}
 use lib.Seq.{sets}
 use Rattle.report.proofs.ExpressionLaws.{nodes_left}
@@ -11,6 +11,3 @@ invariant-loop-i l =
     (l.i ≤ l.n) × ((length l.out ≡ length l.initial.out) × ((l.at + length (nodes_left l.nodes 0) ≤ length l.initial.out)
     × ((l.next + length (nodes_left l.nodes l.i) ≡ l.at + length (nodes_left l.nodes 0))
     × (sets l.out l.next (nodes_left l.nodes l.i) ≡ sets l.initial.out l.at (nodes_left l.nodes 0)))))
-
-abbrev pub decreases-loop-i : goal.decreases-loop-i
-decreases-loop-i l = l.n - l.i

@@ -1,4 +1,4 @@
-use Prim.Native.Nat.{ℕ, ◌-◌, ◌≤◌}
+use Prim.Native.Nat.{ℕ, ◌≤◌}
 use mathlib.Core.List.{List}
 use lib.ListN.{get_or}
 use Rattle.usage.specs.Limits.{policies}
@@ -12,6 +12,3 @@ of m p = policy_text (get_or m p 0) p
 
 abbrev pub invariant-loop-p : goal.invariant-loop-p
 invariant-loop-p l = (l.p ≤ policies) × Writing (of l.marks) policies l.initial.out l.at l.out l.next l.p
-
-abbrev pub decreases-loop-p : goal.decreases-loop-p
-decreases-loop-p l = policies - l.p

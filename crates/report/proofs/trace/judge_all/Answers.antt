@@ -19,13 +19,6 @@ overflow_add-i c =
     let q = c.loop-i-test.true in
     record { fits = omega arith }
 
-pub overflow_add-i-in-loop-i : goal.overflow_add-i-in-loop-i
-overflow_add-i-in-loop-i c =
-    let p = c.requires.steps_len_bound in
-    let t = c.loop-i in
-    let q = c.loop-i-test.true in
-    record { fits = omega arith }
-
 pub loop-i-preserved : goal.loop-i-preserved
 loop-i-preserved c =
     let p = c.requires.steps_len_bound in
@@ -43,7 +36,7 @@ pub returns : goal.returns
 returns c =
     let a = c.args in
     let t = c.loop-i in
-    let s = state_of (lent_of t.sets t.pairs t.possible t.numbers t.counts t.order) t.sizes in
+    let s = state_of (lent_of t.s.tracked.sets t.s.tracked.pairs t.s.tracked.possible t.s.created.numbers t.s.unclosed.counts t.s.unclosed.order) t.sizes in
     let e = all_left a.edges.now a.local a.steps.now in
     let z = none_left a.edges.now a.local a.steps.now (length a.steps.now / 3) s t.i c.loop-i-test.false in
     let g = ap length z in

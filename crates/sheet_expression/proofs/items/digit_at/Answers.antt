@@ -1,21 +1,22 @@
-use native.Mathlib.Omega.{arith}
-use Rattle.sheet_expression.proofs.TextLaws.{digit-over, digit_low, digit-is, digit-high}
+use Rattle.sheet_expression.proofs.TextLaws.{digit-over, digit-is, digit-not}
 use mathlib.Core.Path.{sym}
+use borrow.Author.Tests.{ltb-true, ltb-false}
 use Rattle.sheet_expression.proofs.items.digit_at.Goals as goal
 
-pub returns-then-text-i : goal.returns-then-text-i
-returns-then-text-i c = let a = c.args in sym (digit-over a.text.now a.i c.if-text-i.true)
+pub returns-in_err-b : goal.returns-in_err-b
+returns-in_err-b c =
+    let a = c.args in
+    rw c.from_residual.ensures (digit-over a.text.now a.i (ltb-false _ _ (sym c.in_err-b.ensures.lookup.0)))
 
-pub returns-then-b-lt48 : goal.returns-then-b-lt48
-returns-then-b-lt48 c =
-    let a = c.args in sym (digit_low a.text.now a.i c.if-text-i.false c.if-b-lt48.true)
+pub returns-then-is_ascii_digit : goal.returns-then-is_ascii_digit
+returns-then-is_ascii_digit c =
+    let a = c.args in
+    let l = c.in_ok-b.ensures.lookup in
+    let x = c.if-is_ascii_digit.ensures.cases in
+    digit-is a.text.now a.i c.in_ok-b.field-0.now (ltb-true _ _ (sym l.0)) l.1 x.0 x.1
 
-pub returns-then-b-le57 : goal.returns-then-b-le57
-returns-then-b-le57 c =
-    let a = c.args in sym (digit-is a.text.now a.i c.if-text-i.false
-    c.if-b-lt48.false (omega (arith, c.if-b-le57.true)))
-
-pub returns : goal.returns
-returns c =
-    let a = c.args in sym (digit-high a.text.now a.i c.if-text-i.false
-    c.if-b-lt48.false (omega (arith, c.if-b-le57.false)))
+pub returns-else-is_ascii_digit : goal.returns-else-is_ascii_digit
+returns-else-is_ascii_digit c =
+    let a = c.args in
+    let l = c.in_ok-b.ensures.lookup in
+    digit-not a.text.now a.i c.in_ok-b.field-0.now (ltb-true _ _ (sym l.0)) l.1 c.if-is_ascii_digit.ensures.cases

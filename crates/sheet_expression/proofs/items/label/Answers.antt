@@ -1,30 +1,13 @@
-use native.Mathlib.Numerals.{add-one}
-use lib.ListN.{get_elem?}
-use mathlib.Core.Option.{none, some}
-use Rattle.sheet_grammar.specs.Reader.{label_at, digit_value}
-use Rattle.sheet_expression.proofs.TextLaws.{digit-in}
+use Rattle.sheet_expression.proofs.TextLaws.{digit-in, label-none, label-one}
 use native.Mathlib.Omega.{arith}
-use mathlib.Core.Path.{◌≡◌, sym, ◌∙◌}
+use mathlib.Core.Path.{sym}
 use Rattle.sheet_expression.proofs.items.label.Goals as goal
 
 pub overflow_add-result : goal.overflow_add-result
-overflow_add-result c =
-    let a = c.args in
-    let e : digit_value (get_elem? a.text.now a.i) ≡ some c.in-Is.d = sym
-    c.digit_at-d.ensures ∙ rw c.in-Is.is in
-    omega (arith, digit-in a.text.now a.i _ e)
+overflow_add-result c = omega (arith, digit-in c.args.text.now c.args.i c.in-Some.value (sym c.in-Some.ensures))
 
-pub returns-in-Nothing : goal.returns-in-Nothing
-unfolding label_at
-returns-in-Nothing c =
-    let a = c.args in
-    let e : digit_value (get_elem? a.text.now a.i) ≡ none = sym c.digit_at-d.ensures ∙ rw c.in-Nothing.is in
-    rw e
+pub returns-in-None : goal.returns-in-None
+returns-in-None c = label-none c.args.text.now c.args.i (sym c.in-None.ensures)
 
-pub returns-in-Is : goal.returns-in-Is
-unfolding label_at
-returns-in-Is c =
-    let a = c.args in
-    let e : digit_value (get_elem? a.text.now a.i) ≡ some c.in-Is.d = sym
-    c.digit_at-d.ensures ∙ rw c.in-Is.is in
-    rw (e, add-one)
+pub returns-in-Some : goal.returns-in-Some
+returns-in-Some c = label-one c.args.text.now c.args.i c.in-Some.value (sym c.in-Some.ensures)

@@ -18,5 +18,5 @@ returns-in-Name c = rw c.in-Name.is (grown-one refl c.push-in-Name.ensures.count
 pub returns-in-Back : goal.returns-in-Back
 unfolding tree_size nodes_from
 returns-in-Back c =
-    rw c.in-Back.is (grown-one refl c.push-in-Back.ensures.count_value
-    (λ l. c.push-in-Back.ensures.result_value l ∙ rw (c.meant-a.ensures l)))
+    rw c.in-Back.is
+    (grown-one refl c.push-in-Back.ensures.count_value (λ l. c.push-in-Back.ensures.result_value l ∙ rw (c.meant.ensures l)))

@@ -11,14 +11,8 @@ returns-then-l-ge-LABELS c =
     let n : length a.loops ≡ 10 = search rules in
     λ l. meant-past a.loops a.label a.own n c.if-l-ge-LABELS.true
 
-pub returns-then-x-lt-NO_LOOP : goal.returns-then-x-lt-NO_LOOP
-returns-then-x-lt-NO_LOOP c =
-    let a = c.args in
-    let n : length a.loops ≡ 10 = search rules in
-    λ l. meant-loop a.loops a.label a.own (omega arith) c.if-x-lt-NO_LOOP.true
+pub returns-in-Some : goal.returns-in-Some
+returns-in-Some c = let a = c.args in let s = c.in-Some in λ l. meant-loop a.loops a.label a.own _ (omega arith) _ s.is
 
-pub returns : goal.returns
-returns c =
-    let a = c.args in
-    let n : length a.loops ≡ 10 = search rules in
-    λ l. meant-none a.loops a.label a.own (omega arith) c.if-x-lt-NO_LOOP.false
+pub returns-in-None : goal.returns-in-None
+returns-in-None c = let a = c.args in let s = c.in-None in λ l. meant-none a.loops a.label a.own _ (omega arith) s.is

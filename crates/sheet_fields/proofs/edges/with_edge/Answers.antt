@@ -1,7 +1,5 @@
 use Prim.Native.Nat.{◌+◌, ◌*◌}
-use mathlib.Core.Path.{refl, sym, ◌∙◌}
 use native.Mathlib.Omega.{arith}
-use borrow.Author.Tests.{not-true, not-false}
 use Rattle.usage.specs.Limits.{edge_fields}
 use Rattle.sheet_fields.proofs.edges.with_edge.Goals as goal
 
@@ -23,17 +21,3 @@ overflow_cast-who c = omega (arith, c.type_inv.edges (edge_fields * c.args.i + 4
 pub overflow_cast-to : goal.overflow_cast-to
 overflow_cast-to c =
     omega (arith, c.type_inv.edges (edge_fields * c.args.i + 5))
-
-pub returns-then-not-edge_fits : goal.returns-then-not-edge_fits
-returns-then-not-edge_fits c =
-    rw (
-      ← c.joined-pairs.ensures,
-      (sym c.edge_fits.ensures ∙ not-true c.edge_fits.result c.if-not-edge_fits.true-raw),
-    ) refl
-
-pub returns-else-not-edge_fits : goal.returns-else-not-edge_fits
-returns-else-not-edge_fits c =
-    rw (
-      ← c.joined-pairs.ensures,
-      (sym c.edge_fits.ensures ∙ not-false c.edge_fits.result c.if-not-edge_fits.false-raw),
-    ) refl

@@ -1,10 +1,7 @@
-use borrow.Author.Tests.{eq-eqb, ne_eqb}
+use borrow.Author.Tests.{eq-eqb}
 use Rattle.sheet_rules.proofs.NodeLaws.{loop-at}
 use mathlib.Core.Path.{sym}
 use Rattle.sheet_rules.proofs.node_rules.is_loop.Goals as goal
-
-pub returns-then-j-x : goal.returns-then-j-x
-returns-then-j-x c = simp (ne_eqb _ _ c.if-j-x.true)
 
 pub returns : goal.returns
 returns c =

@@ -1,21 +1,14 @@
-use mathlib.Core.Bool.{not}
-use Rattle.sheet_rules.proofs.RuleLaws.{name-outside, gives_none, gives_one}
+use Rattle.sheet_rules.proofs.RuleLaws.{name-used, name-given, no-name}
 use mathlib.Core.Path.{sym, ap, ◌∙◌}
+use mathlib.Core.Bool.{not}
+use borrow.Author.Rules.{rules}
 use Rattle.sheet_rules.proofs.node_rules.name_ok.Goals as goal
 
-pub returns-then-not-named_above : goal.returns-then-not-named_above
-returns-then-not-named_above c =
-    let r = c.named_above in
-    sym (name-outside c.args.table.now c.args.k c.requires r.result r.ensures c.if-not-named_above.true-raw)
+pub returns-in-2 : goal.returns-in-2
+returns-in-2 c = c.inside.ensures ∙ sym (name-used c.args.table.now c.args.k c.requires c.in-2.is)
 
-pub returns-then-table-k-ne7 : goal.returns-then-table-k-ne7
-returns-then-table-k-ne7 c =
-    let r = c.named_above in
-    sym (gives_none c.args.table.now c.args.k c.requires r.result r.ensures c.if-not-named_above.false-raw c.if-table-k-ne7.true)
+pub returns-in-7 : goal.returns-in-7
+returns-in-7 c = ap not c.given_below.ensures ∙ sym (name-given c.args.table.now c.args.k c.requires c.in-7.is)
 
-pub returns : goal.returns
-returns c =
-    let r = c.named_above in
-    ap not c.given_below.ensures
-    ∙ sym (gives_one c.args.table.now c.args.k c.requires r.result r.ensures c.if-not-named_above.false-raw
-    c.if-table-k-ne7.false)
+pub returns-in_default : goal.returns-in_default
+returns-in_default c = sym (no-name c.args.table.now c.args.k c.requires (search rules) (search rules))

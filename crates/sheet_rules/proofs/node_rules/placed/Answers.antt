@@ -1,13 +1,9 @@
-use native.Mathlib.Omega.{arith}
 use Rattle.sheet_rules.proofs.RuleLaws.{place_none, place-some}
 use mathlib.Core.Path.{sym}
 use Rattle.sheet_rules.proofs.node_rules.placed.Goals as goal
 
 pub returns-then-places-k : goal.returns-then-places-k
 returns-then-places-k c = sym (place_none c.args.places.now c.args.k c.if-places-k.true)
-
-pub overflow_cast-result : goal.overflow_cast-result
-overflow_cast-result c = omega (arith, c.type_inv.places c.args.k)
 
 pub returns : goal.returns
 returns c = sym (place-some c.args.places.now c.args.k c.if-places-k.false)

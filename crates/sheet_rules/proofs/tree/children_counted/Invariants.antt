@@ -9,8 +9,5 @@ use Rattle.sheet_rules.proofs.tree.children_counted.Given as goal
 
 abbrev pub invariant-loop-j : goal.invariant-loop-j
 invariant-loop-j l =
-    (l.j ≤ l.n) × ((c : ℕ) → c < most_nodes → (get_or l.counts c 0 ≤ 2 * l.j)
+    ((c : ℕ) → c < most_nodes → (get_or l.counts c 0 ≤ 2 * l.j)
     × (get_or l.counts c 0 + times_child_lem c (from (node_at_lem l.table) l.j (l.n - l.j)) ≡ times_child_lem c (nodes_of l.table)))
-
-abbrev pub decreases-loop-j : goal.decreases-loop-j
-decreases-loop-j l = l.n - l.j

@@ -5,23 +5,16 @@ use lib.ListN.{length}
 use borrow.Author.Rules.{rules}
 use Rattle.sheet_rules.proofs.tree.counted.Goals as goal
 
--- src/tree.rt:167:9
 pub returns-then-not-child : goal.returns-then-not-child
 returns-then-not-child c = λ k h.
     let a = c.args in
     count_none a.counts k a.child a.x c.if-not-child.true-raw
 
--- src/tree.rt:171:9
 pub returns-then-c-ge-MOST_NODES : goal.returns-then-c-ge-MOST_NODES
 returns-then-c-ge-MOST_NODES c = λ k h.
     let a = c.args in
     count-far a.counts k a.child a.x c.if-not-child.false-raw (λ q. let z = c.if-c-ge-MOST_NODES.true in omega arith)
 
--- src/tree.rt:173:17
-pub overflow_add-counts : goal.overflow_add-counts
-overflow_add-counts c = let h = c.requires c.args.x c.if-c-ge-MOST_NODES.false in search rules
-
--- src/tree.rt:162:1
 pub returns : goal.returns
 returns c = λ k h.
     let a = c.args in

@@ -6,7 +6,4 @@ use Rattle.sheet_rules.proofs.tree.times_child.Given as goal
 
 abbrev pub invariant-loop-j : goal.invariant-loop-j
 invariant-loop-j l =
-    (l.j ≤ l.n) × ((l.count ≤ 2 * l.j) × (l.count + times_child_lem l.c (from (node_at_lem l.nodes) l.j (l.n - l.j)) ≡ times_child_lem l.c (nodes_of l.nodes)))
-
-abbrev pub decreases-loop-j : goal.decreases-loop-j
-decreases-loop-j l = l.n - l.j
+    ((l.count ≤ 2 * l.j) × (l.count + times_child_lem l.c (from (node_at_lem l.nodes) l.j (l.n - l.j)) ≡ times_child_lem l.c (nodes_of l.nodes)))

@@ -8,17 +8,17 @@ use Rattle.test_stored.proofs.counterexamples.outline.Goals as goal
 pub overflow_mul-k : goal.overflow_mul-k
 overflow_mul-k g c =
     let a = c.args in
-    let r = c.read_outline-reading in
-    let n = c.in-Stored.k in
-    let h = outline-held a.text.now r.new.table n (rw c.in-Stored.is at r.ensures.result_value) r.ensures.table_after in
+    let r = c.read_outline in
+    let n = c.in-Ok.k in
+    let h = outline-held a.text.now r.new.table n (rw c.in-Ok.is at r.ensures.result_value) r.ensures.table_after in
     let f : n ≤ most_nodes = h.few in
     search rules
 
 pub slice_bounds-explained-end : goal.slice_bounds-explained-end
 slice_bounds-explained-end g c =
     let a = c.args in
-    let r = c.read_outline-reading in
-    let n = c.in-Stored.k in
-    let h = outline-held a.text.now r.new.table n (rw c.in-Stored.is at r.ensures.result_value) r.ensures.table_after in
+    let r = c.read_outline in
+    let n = c.in-Ok.k in
+    let h = outline-held a.text.now r.new.table n (rw c.in-Ok.is at r.ensures.result_value) r.ensures.table_after in
     let f : n ≤ most_nodes = h.few in
     search rules

@@ -1,7 +1,0 @@
-use Rattle.desk_positions.specs.Rows.{popped, put}
-use borrow.Author.Rules.{rules}
-use Rattle.desk_positions.proofs.rows.pop.Goals as goal
-
-pub returns : goal.returns
-unfolding popped put
-returns c = search rules

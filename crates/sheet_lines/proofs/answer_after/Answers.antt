@@ -1,8 +1,0 @@
-use borrow.Author.Tests.{eq-eqb, ne_eqb}
-use Rattle.sheet_lines.proofs.answer_after.Goals as goal
-
-pub returns-then-number-eq0 : goal.returns-then-number-eq0
-returns-then-number-eq0 c = simp (eq-eqb _ _ c.if-number-eq0.true)
-
-pub returns : goal.returns
-returns c = simp (ne_eqb _ _ c.if-number-eq0.false)

@@ -1,0 +1,31 @@
+use Rattle.usage.specs.Limits.{node_fields}
+use Rattle.usage.specs.Reasons.{number_of}
+use Rattle.usage.specs.Tests.{numbered}
+use Prim.Native.Nat.{◌/◌}
+use borrow.Author.Tests.{not-true, not-false}
+use Rattle.sheet_rules.proofs.RuleLaws.{lowest-here, lowest-more, lowest-end}
+use mathlib.Core.Path.{sym, ap, ◌∙◌}
+use lib.ListN.{length}
+use Rattle.sheet_rules.proofs.node_rules.each.Goals as goal
+
+pub returns-then-not-passes : goal.returns-then-not-passes
+returns-then-not-passes g c =
+    let t = c.loop-k in
+    let h = c.loop-k-test.true in
+    let told = c.requires.1.1 t.k c.passes.result h c.passes.ensures in
+    ap (numbered (number_of c.args.reason)) (sym (sym t.invariant ∙ lowest-here g.test (length c.args.table.now / node_fields) t.k h
+    (sym told ∙ not-true c.passes.result c.if-not-passes.true-raw)))
+
+pub loop-k-preserved : goal.loop-k-preserved
+loop-k-preserved g c =
+    let t = c.loop-k in
+    let h = c.loop-k-test.true in
+    let told = c.requires.1.1 t.k c.passes.result h c.passes.ensures in
+    sym (lowest-more g.test (length c.args.table.now / node_fields) t.k h
+    (sym told ∙ not-false c.passes.result c.if-not-passes.false-raw)) ∙ t.invariant
+
+pub returns : goal.returns
+returns g c =
+    let t = c.loop-k in
+    ap (numbered (number_of c.args.reason))
+    (sym (sym t.invariant ∙ lowest-end g.test (length c.args.table.now / node_fields) t.k c.loop-k-test.false))

@@ -1,7 +1,0 @@
-use Rattle.test_stored.proofs.stored.traces.Goals as goal
-
-pub loop-n-init : goal.loop-n-init
-loop-n-init g c = tt
-
-pub loop-n-preserved : goal.loop-n-preserved
-loop-n-preserved g c = tt
