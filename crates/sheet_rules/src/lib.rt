@@ -6,6 +6,7 @@ ghost use Rattle.std.specs.Prelude.{◌≡◌, ℕ, Bool, ◌/◌, ◌<◌, leng
 ghost use Rattle.usage.specs.Limits.{node_fields};
 ghost use Rattle.usage.specs.Tables.{nodes_of, is_node_table};
 ghost use Rattle.usage.specs.Tests.{every, node_ok, back_ok_lem, name_ok_lem, lowest_failing, or_else, numbered, no_nodes, ruled_by, ruled as ruled_nodes, ruled_sheet as ruled_lines};
+ghost use Rattle.sheet_rules.specs.Rules.{passes as passes_of};
 ghost use Rattle.sheet_rules.specs.Faults.{fault};
 
 use crate::node_rules::{back_ok, each, name_ok, place_and_tree_ok};
@@ -15,8 +16,17 @@ use usage::{NODE_FIELDS, NODE_TABLE, Reason, SheetRefusal};
 mod node_rules;
 mod tree;
 
+// One rule, asked of a node. `Place` is refusal 6 of a sheet, whose lines hold node numbers of their own, and `Tree` that of a table.
+#[derive(Clone, Copy)]
+pub enum Rule {
+    Place,
+    Tree,
+    Back,
+    Name,
+}
+
 // The rules of a table of nodes, where what 6 asks of node k is handed in. Document 01: "then 9, 6, 7, 8, each over all nodes".
-pub fn ruled_where<F: Fn(usize) -> bool>(table: &[u8], passes: F) -> Result<(), SheetRefusal>
+fn ruled_where<F: Fn(usize) -> bool>(table: &[u8], passes: F) -> Result<(), SheetRefusal>
     ghost test: { ℕ → Bool }
     requires callable { (k : ℕ) → k < length table.now / node_fields → F.pre passes k }
     requires tells { (k : ℕ) (r : Bool) → k < length table.now / node_fields → F.post passes k r → r ≡ test k }
@@ -25,6 +35,18 @@ pub fn ruled_where<F: Fn(usize) -> bool>(table: &[u8], passes: F) -> Result<(), 
     some_node(table)?;
     each(table, Reason::Tree, passes)?;
     loops_and_names(table)
+}
+
+// Those where the first rule is the one for 6.
+pub fn ruled_first(table: &[u8], places: &[u8], first: Rule) -> Result<(), SheetRefusal>
+    ensures { fault result ≡ ruled_by (passes_of first places.now (nodes_of table.now)) (nodes_of table.now) }
+{
+    match first {
+        Rule::Place => ruled_sheet(table, places),
+        Rule::Tree => ruled(table),
+        Rule::Back => ruled_where(table, |k| back_ok(table, k)),
+        Rule::Name => ruled_where(table, |k| name_ok(table, k)),
+    }
 }
 
 // Those of a sheet of nodes, whose lines hold these numbers.
