@@ -11,6 +11,7 @@ use lib.Dec.{eqb}
 use lib.ListN.{length, take, drop, set, get_or, length-take, length-drop, length-set, drop_of_length-le}
 use lib.Seq.{take-set-le, drop-set-add, drop-set-lt, drop-drop, take-suc-set, take-take, take-add}
 use borrow.Author.Tests.{eq-eqb}
+use Rattle.std.specs.Prelude.{Result as Returned}
 use Rattle.usage.specs.Limits.{most_steps}
 use Rattle.usage.specs.declared.Reason.{Reason}
 use Rattle.usage.specs.Reasons.{number_of}
@@ -28,7 +29,7 @@ use Rattle.sheet_lines.specs.Answer.{most_values}
 use Rattle.sheet_lines.specs.Sheet.{Sheet, after_line, Result, accepted, refused, refuse_at, followed, entry, value_lines}
 use Rattle.sheet_bytes.specs.Code.{end_step, byte_step}
 use Rattle.sheet_lines.specs.Sheets.{sheet_of}
-use Rattle.sheet_lines.specs.Code.{empty_part, Held, held, refusing, held_onto}
+use Rattle.sheet_lines.specs.Code.{empty_part, answer_after_lem, Held, held, refusing, held_by, rest_after, held_onto}
 use Rattle.sheet_lines.proofs.LargeLaws.{Bounded}
 use Rattle.sheet_lines.proofs.ScanLaws.{in-line, starts, cut_off, ends, more}
 use Rattle.sheet_lines.proofs.StepLaws.{Sound, Said, all-well, moved, says, read-end, said-end, ends-well, ends-malformed}
@@ -257,6 +258,11 @@ module _ (s : Sheet) (text : List ℕ) (goal : Held) (first buffer : List ℕ) (
 
           line : n + 1 + 2 ≡ suc (n + 2)
           line = omega arith
+
+-- what the loops leave: the answer, and the places after the values as they were
+pub record Answers (s : Sheet) (text : List ℕ) (goal : Held) (lent buffer : List ℕ) (n : ℕ) (read : Returned ℕ Reason) : Type 0 where
+  pub gives : held_by s.fields (answer_after_lem n read) buffer ≡ goal
+  pub after : rest_after s.fields (answer_after_lem n read) buffer ≡ rest_after s.fields (answer_after_lem n read) lent
 
 -- "11 byte that is no digit, space or line feed", 12, 2, and 3 where no field has such a value
 pub malformed : (s : Sheet) (text : List ℕ) (goal : Held) (first buffer : List ℕ) (i n : ℕ) (p : Part)

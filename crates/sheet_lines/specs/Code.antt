@@ -1,6 +1,7 @@
 -- What only the functions behind `sheet` compute.
 use Rattle.std.specs.Prelude.{Result as Returned, Ok, Err, ℕ, ◌+◌, ◌*◌, not, length, get_or, take, drop}
 use mathlib.Core.List.{List, [], ◌∷◌, ◌++◌, flatten}
+use Rattle.usage.specs.declared.Reason.{Reason}
 use Rattle.usage.specs.declared.SheetRefusal.{SheetRefusal}
 use Rattle.usage.specs.Reasons.{number_of}
 use Rattle.automaton.specs.PairSet.{with_pair, many_in}
@@ -12,6 +13,11 @@ use Rattle.sheet_lines.specs.Sheets.{sheet_of}
 
 abbrev pub empty_part : Part
 empty_part = record { count = 0; digits = 0; value = 0; fault = 0 }
+
+-- the answer after n accepted lines: how many there are, or the reason why the next one is refused
+abbrev pub answer_after_lem : ℕ → Returned ℕ Reason → Returned ℕ SheetRefusal
+answer_after_lem n (Ok count) = Ok count
+answer_after_lem n (Err reason) = Err record { line = n + 2; reason = reason }
 
 -- ── The pair policies of the lines so far, as a bit set ──
 

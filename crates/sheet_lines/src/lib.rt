@@ -7,7 +7,7 @@ ghost use Rattle.sheet_bytes.specs.Line.{lines_of};
 ghost use Rattle.sheet_lines.specs.Sheet.{value_lines, starts_with, sheet as sheet-of};
 ghost use Rattle.sheet_lines.specs.Sheets.{policy_names_lem, is_local as local-text, sheet_of};
 ghost use Rattle.sheet_lines.specs.Answer.{reading_answer, answered, most_values, filled};
-ghost use Rattle.sheet_lines.specs.Code.{empty_part as nothing_read, pairs_with};
+ghost use Rattle.sheet_lines.specs.Code.{empty_part as nothing_read, answer_after_lem, pairs_with};
 ghost use Rattle.sheet_lines.specs.Code.{held_by, rest_after, held_onto};
 
 use sheet_bytes::{Next, Part};
@@ -151,15 +151,15 @@ fn with_line(kind: Kind, buffer: &[u32; MOST_VALUES], base: usize, pairs: u8) ->
     }
 }
 
-// The line after n value lines is refused.
-fn refusal(n: usize, reason: Reason) -> SheetRefusal
+// The answer where the lines end, or are refused at the line after n that were accepted.
+fn answer_after(n: usize, read: Result<usize, Reason>) -> Result<usize, SheetRefusal>
     requires { n ≤ most_steps }
-    ensures { result ≡ record { line = n + 2; reason = reason } }
+    ensures { result ≡ answer_after_lem n read }
 {
-    SheetRefusal {
+    read.map_err(|reason| SheetRefusal {
         line: n + 2,
         reason,
-    }
+    })
 }
 
 // The value lines of a text from `from` on are read into the buffer, the values one after the other. Document 01: "then line by
@@ -182,15 +182,18 @@ fn lines(
     let mut i = from;
     let mut n: usize = 0;
     let mut pairs: u8 = 0;
-    'lines: while i < text.len() {
+    let read = 'lines: loop {
+        if text.len() <= i {
+            break 'lines Ok(n);
+        }
         if n == most {
-            return Err(refusal(n, Reason::TooManyLines));
+            break 'lines Err(Reason::TooManyLines);
         }
         let base = n * fields;
         let mut p = nothing();
         'bytes: loop {
             if text.len() <= i {
-                return Err(refusal(n, Reason::NoLineFeed));
+                break 'lines Err(Reason::NoLineFeed);
             }
             let at = base + p.count;
             buffer[at] = p.value as u32;
@@ -199,17 +202,17 @@ fn lines(
             match next {
                 Next::Goes(q) => p = q,
                 Next::Ends => break 'bytes,
-                Next::Malformed(reason) => return Err(refusal(n, reason)),
+                Next::Malformed(reason) => break 'lines Err(reason),
             }
         }
         if !in_range(kind, buffer, base) {
-            return Err(refusal(n, Reason::Range));
+            break 'lines Err(Reason::Range);
         }
         pairs = with_line(kind, buffer, base, pairs);
         if automaton::pairs::many(pairs) {
-            return Err(refusal(n, Reason::ThirdPair));
+            break 'lines Err(Reason::ThirdPair);
         }
         n += 1;
-    }
-    Ok(n)
+    };
+    answer_after(n, read)
 }

@@ -10,12 +10,20 @@ use Rattle.sheet_lines.proofs.LinesLaws as laws
 use Rattle.sheet_lines.proofs.LinesLaws.{whole, AtLine, InLine, places, few-lines, some-field}
 use Rattle.sheet_lines.proofs.PairsLaws.{sheet-start}
 use native.Mathlib.Omega.{arith}
-use mathlib.Core.Path.{◌≡◌, sym, ap, subst, ◌∙◌}
+use mathlib.Core.Path.{◌≡◌, refl, sym, ap, subst, ◌∙◌}
 use mathlib.Core.Bool.{not}
 use Prim.Native.Nat.{◌<◌}
 use lib.ListN.{length, get_or, drop}
 use borrow.Author.Rules.{rules}
 use Rattle.sheet_lines.proofs.lines.Goals as goal
+use Rattle.sheet_lines.proofs.lines.Goals.{
+  then-text-i,
+  else-text-i+then-n-most,
+  else-text-i+else-n-most+then-text-i-2,
+  else-text-i+else-n-most+else-text-i-2+in-Malformed,
+  else-text-i+else-n-most+else-text-i-2+in-Ends+then-not-in_range,
+  else-text-i+else-n-most+else-text-i-2+in-Ends+else-not-in_range+then-many,
+}
 use Rattle.sheet_lines.proofs.lines.Invariants.{whole_text}
 
 pub lines-init : goal.lines-init
@@ -48,7 +56,7 @@ bytes-init c =
           (laws.enter (sheet_after a.kind t.pairs) a.text.now (whole_text a.kind a.from a.text.now)
           a.buffer.now t.buffer t.i t.n t.invariant
           (some-field a.kind)
-          c.lines-test.true r),
+          c.if-text-i.false r),
     )
 
 pub overflow_add-at : goal.overflow_add-at
@@ -110,7 +118,7 @@ bytes-preserved c =
       rw f
           (laws.goes (sheet_after a.kind u.pairs) a.text.now (whole_text a.kind a.from a.text.now)
           first t.buffer t.i n t.p inv h
-          c.if-text-i.false _ g),
+          c.if-text-i-2.false _ g),
     )
 
 pub in_range-requires : goal.in_range-requires
@@ -153,89 +161,80 @@ lines-preserved c =
     rw f at (sym c.step-next.ensures ∙ c.in-Ends.is) in
     rw (c.with_line-pairs.ensures, f) (laws.next-line (sheet_after a.kind u.pairs) a.text.now
     (whole_text a.kind a.from a.text.now) first t.buffer t.i n t.p inv h
-    c.if-text-i.false (bounded a.kind) e
+    c.if-text-i-2.false (bounded a.kind) e
     (rw f at (sym c.in_range.ensures ∙ not-false c.in_range.result c.if-not-in_range.false-raw))
     (rw (c.with_line-pairs.ensures, f) at (ap not (sym c.many.ensures ∙ c.if-many.false))) a.buffer.now
     u.invariant.rest)
 
--- the six ways out of the loops
-pub returns-then-n-most-clause-buffer_after : goal.returns-then-n-most-clause-buffer_after
-returns-then-n-most-clause-buffer_after c =
-    let a = c.args in
-    let t = c.lines in
-    let s = sheet_after a.kind t.pairs in
-    let g = whole_text a.kind a.from a.text.now in
-    let n = t.n in
-    rw c.refusal.ensures
-    (laws.too_many s a.text.now g a.buffer.now t.buffer t.i n t.invariant c.lines-test.true (c.if-n-most.true ∙ c.most-most.ensures))
-
-pub returns-then-text-i-clause-buffer_after : goal.returns-then-text-i-clause-buffer_after
-returns-then-text-i-clause-buffer_after c =
-    let a = c.args in
-    let t = c.lines in
-    let s = sheet_after a.kind t.pairs in
-    let g = whole_text a.kind a.from a.text.now in
-    let n = t.n in
-    let f = c.fields-fields.ensures in
-    let b = c.bytes in
-    let inv = b.invariant.1 in
-    let p = places a.kind n inv.room in
-    rw c.refusal-then-text-i.ensures (laws.unended s a.text.now g t.buffer b.buffer b.i n b.p inv p c.if-text-i.true)
-
-pub returns-in-Malformed-clause-buffer_after : goal.returns-in-Malformed-clause-buffer_after
-returns-in-Malformed-clause-buffer_after c =
-    let a = c.args in
-    let t = c.lines in
-    let s = sheet_after a.kind t.pairs in
-    let g = whole_text a.kind a.from a.text.now in
-    let n = t.n in
-    let f = c.fields-fields.ensures in
-    let b = c.bytes in
-    let inv = b.invariant.1 in
-    let p = places a.kind n inv.room in
-    rw c.refusal-in-Malformed.ensures (laws.malformed s a.text.now g t.buffer b.buffer b.i n b.p inv p c.if-text-i.false (bounded a.kind) _
-    (rw f at (sym c.step-next.ensures ∙ c.in-Malformed.is)))
-
-pub returns-then-not-in_range-clause-buffer_after : goal.returns-then-not-in_range-clause-buffer_after
-returns-then-not-in_range-clause-buffer_after c =
-    let a = c.args in
-    let t = c.lines in
-    let s = sheet_after a.kind t.pairs in
-    let g = whole_text a.kind a.from a.text.now in
-    let n = t.n in
-    let f = c.fields-fields.ensures in
-    let b = c.bytes in
-    let inv = b.invariant.1 in
-    let p = places a.kind n inv.room in
-    rw c.refusal-then-not-in_range.ensures (laws.outside s a.text.now g t.buffer b.buffer b.i n b.p inv p c.if-text-i.false (bounded a.kind)
-    (rw f at (sym c.step-next.ensures ∙ c.in-Ends.is))
-    (rw f at (sym c.in_range.ensures ∙ not-true c.in_range.result c.if-not-in_range.true-raw)))
-
-pub returns-then-many-clause-buffer_after : goal.returns-then-many-clause-buffer_after
-unfolding pairs_over
-returns-then-many-clause-buffer_after c =
-    let a = c.args in
-    let t = c.lines in
-    let s = sheet_after a.kind t.pairs in
-    let g = whole_text a.kind a.from a.text.now in
-    let n = t.n in
-    let f = c.fields-fields.ensures in
-    let b = c.bytes in
-    let inv = b.invariant.1 in
-    let p = places a.kind n inv.room in
-    rw c.refusal-then-many.ensures (laws.crowded s a.text.now g t.buffer b.buffer b.i n b.p inv p c.if-text-i.false (bounded a.kind)
-    (rw f at (sym c.step-next.ensures ∙ c.in-Ends.is))
-    (rw f at (sym c.in_range.ensures ∙ not-false c.in_range.result c.if-not-in_range.false-raw))
-    (rw (c.with_line-pairs.ensures, f) at (ap not (sym c.many.ensures ∙ c.if-many.true))))
+pub answer_after-requires : goal.answer_after-requires
+answer_after-requires c =
+    let few = c.lines.invariant.few in
+    let most = few-lines c.args.kind in
+    search rules
 
 pub returns : goal.returns
+unfolding pairs_over
 returns c =
     let a = c.args in
     let t = c.lines in
     let s = sheet_after a.kind t.pairs in
     let g = whole_text a.kind a.from a.text.now in
     let n = t.n in
-    record {
-      buffer_after = laws.line-end s a.text.now g a.buffer.now t.buffer t.i n t.invariant c.lines-test.false;
-      buffer_unchanged = t.invariant.rest;
-    }
+    let f = c.fields-fields.ensures in
+    -- the six ways out of the loops meet here
+    let h : laws.Answers s a.text.now g a.buffer.now c.if-text-i.buffer n c.if-text-i.read = elim c.if-text-i.branch [
+      | then-text-i w ↦
+          rw (w.buffer-is, w.read-is) (record {
+            gives = laws.line-end s a.text.now g a.buffer.now t.buffer t.i n t.invariant w.if-text-i.true;
+            after = t.invariant.rest;
+          })
+      | else-text-i+then-n-most w ↦
+          rw w.read-is (record {
+            gives =
+                laws.too_many s a.text.now g a.buffer.now t.buffer t.i n t.invariant w.if-text-i.false
+                (w.if-n-most.true ∙ c.most-most.ensures);
+            after = refl;
+          })
+      | else-text-i+else-n-most+then-text-i-2 w ↦
+          let b = w.bytes in
+          let inv = b.invariant.1 in
+          let p = places a.kind n inv.room in
+          rw w.read-is (record {
+            gives = laws.unended s a.text.now g t.buffer b.buffer b.i n b.p inv p w.if-text-i-2.true;
+            after = refl;
+          })
+      | else-text-i+else-n-most+else-text-i-2+in-Malformed w ↦
+          let b = w.bytes in
+          let inv = b.invariant.1 in
+          let p = places a.kind n inv.room in
+          rw w.read-is (record {
+            gives =
+                laws.malformed s a.text.now g t.buffer b.buffer b.i n b.p inv p w.if-text-i-2.false (bounded a.kind) _
+                (rw f at (sym w.step-next.ensures ∙ w.in-Malformed.is));
+            after = refl;
+          })
+      | else-text-i+else-n-most+else-text-i-2+in-Ends+then-not-in_range w ↦
+          let b = w.bytes in
+          let inv = b.invariant.1 in
+          let p = places a.kind n inv.room in
+          rw w.read-is (record {
+            gives =
+                laws.outside s a.text.now g t.buffer b.buffer b.i n b.p inv p w.if-text-i-2.false (bounded a.kind)
+                (rw f at (sym w.step-next.ensures ∙ w.in-Ends.is))
+                (rw f at (sym w.in_range.ensures ∙ not-true w.in_range.result w.if-not-in_range.true-raw));
+            after = refl;
+          })
+      | else-text-i+else-n-most+else-text-i-2+in-Ends+else-not-in_range+then-many w ↦
+          let b = w.bytes in
+          let inv = b.invariant.1 in
+          let p = places a.kind n inv.room in
+          rw w.read-is (record {
+            gives =
+                laws.crowded s a.text.now g t.buffer b.buffer b.i n b.p inv p w.if-text-i-2.false (bounded a.kind)
+                (rw f at (sym w.step-next.ensures ∙ w.in-Ends.is))
+                (rw f at (sym w.in_range.ensures ∙ not-false w.in_range.result w.if-not-in_range.false-raw))
+                (rw (w.with_line-pairs.ensures, f) at (ap not (sym w.many.ensures ∙ w.if-many.true)));
+            after = refl;
+          })
+    ] in
+    rw c.answer_after.ensures (record { buffer_after = h.gives; buffer_unchanged = h.after })
