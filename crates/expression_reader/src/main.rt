@@ -2,11 +2,12 @@
 // outline sheet.
 #![tactic(auto)]
 
-use files::Sheet;
+use sheet_lines::SHEET_ROOM;
 
 fn main(rt: HostRuntime) {
-    let outline = Sheet::read(&rt, b"outline.expr");
+    let mut text = [0u8; SHEET_ROOM];
+    let n = files::read_sheet(&rt, b"outline.expr", &mut text);
     let mut out = [0u8; report::EXPRESSION_ROOM];
-    let n = report::report_expression(outline.text(), &mut out);
-    files::print(&rt, &out, n);
+    let m = report::report_expression(&text[..n], &mut out);
+    files::print(&rt, &out, m);
 }

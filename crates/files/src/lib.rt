@@ -9,7 +9,15 @@ use std::fs;
 use std::io::Read;
 use std::rt::Files;
 
-// A sheet that was read, and no more of it than tells that it is too long.
+// A sheet, and no more of it than tells that it is too long, into a lent buffer.
+// Kept: beside `Sheet`, which by value takes up to 100 KB more of the stack and clears and copies the room again: the programs call this one.
+pub fn read_sheet(rt: &impl Files, path: &[u8], buffer: &mut [u8; SHEET_ROOM]) -> usize
+    ensures { IsPrefixLen result buffer.new }
+{
+    read_file(rt, path, &mut buffer[..])
+}
+
+// The same as a value.
 #[derive(Drop)]
 pub struct Sheet {
     bytes: [u8; SHEET_ROOM],
@@ -18,10 +26,15 @@ pub struct Sheet {
 }
 
 impl Sheet {
-    pub fn read(rt: &impl Files, path: &[u8]) -> Sheet {
-        let mut bytes = [0u8; SHEET_ROOM];
-        let count = read_file(rt, path, &mut bytes);
-        Sheet { bytes, count }
+    pub fn read(rt: &impl Files, path: &[u8]) -> Sheet
+        ensures { IsPrefixLen result.count result.bytes }
+    {
+        let mut sheet = Sheet {
+            bytes: [0u8; SHEET_ROOM],
+            count: 0,
+        };
+        sheet.count = read_sheet(rt, path, &mut sheet.bytes);
+        sheet
     }
 
     pub fn text(&self) -> &[u8]

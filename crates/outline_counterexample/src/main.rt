@@ -2,12 +2,14 @@
 // counterexample as a trace sheet, where some trace of the outline breaks a policy while it is open.
 #![tactic(auto)]
 
-use files::Sheet;
+use sheet_lines::SHEET_ROOM;
 
 fn main(rt: HostRuntime) {
-    let policies = Sheet::read(&rt, b"policies.txt");
-    let outline = Sheet::read(&rt, b"outline.txt");
+    let mut policies = [0u8; SHEET_ROOM];
+    let mut outline = [0u8; SHEET_ROOM];
+    let p = files::read_sheet(&rt, b"policies.txt", &mut policies);
+    let o = files::read_sheet(&rt, b"outline.txt", &mut outline);
     let mut out = [0u8; report::COUNTEREXAMPLE_ROOM];
-    let n = report::report_counterexample(policies.text(), outline.text(), &mut out);
+    let n = report::report_counterexample(&policies[..p], &outline[..o], &mut out);
     files::print(&rt, &out, n);
 }

@@ -1,11 +1,12 @@
 // The fourth program (02, L12): reads `policies.txt` in the folder that it is run in, and prints the sheet as there is one way to write it.
 #![tactic(auto)]
 
-use files::Sheet;
+use sheet_lines::SHEET_ROOM;
 
 fn main(rt: HostRuntime) {
-    let policies = Sheet::read(&rt, b"policies.txt");
+    let mut policies = [0u8; SHEET_ROOM];
+    let p = files::read_sheet(&rt, b"policies.txt", &mut policies);
     let mut out = [0u8; report::POLICIES_ROOM];
-    let n = report::report_policies(policies.text(), &mut out);
+    let n = report::report_policies(&policies[..p], &mut out);
     files::print(&rt, &out, n);
 }

@@ -3,13 +3,16 @@
 // front of them, with line 0, what the check says of the outline. Of refused sheets only the first is told: policies, outline, trace.
 #![tactic(auto)]
 
-use files::Sheet;
+use sheet_lines::SHEET_ROOM;
 
 fn main(rt: HostRuntime) {
-    let policies = Sheet::read(&rt, b"policies.txt");
-    let outline = Sheet::read(&rt, b"outline.txt");
-    let trace = Sheet::read(&rt, b"trace.txt");
+    let mut policies = [0u8; SHEET_ROOM];
+    let mut outline = [0u8; SHEET_ROOM];
+    let mut trace = [0u8; SHEET_ROOM];
+    let p = files::read_sheet(&rt, b"policies.txt", &mut policies);
+    let o = files::read_sheet(&rt, b"outline.txt", &mut outline);
+    let t = files::read_sheet(&rt, b"trace.txt", &mut trace);
     let mut out = [0u8; report_desk::DESK_ROOM];
-    let n = report_desk::report_desk(policies.text(), outline.text(), trace.text(), &mut out);
+    let n = report_desk::report_desk(&policies[..p], &outline[..o], &trace[..t], &mut out);
     files::print(&rt, &out, n);
 }

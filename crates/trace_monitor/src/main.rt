@@ -2,12 +2,14 @@
 // prints the answer to each step.
 #![tactic(auto)]
 
-use files::Sheet;
+use sheet_lines::SHEET_ROOM;
 
 fn main(rt: HostRuntime) {
-    let policies = Sheet::read(&rt, b"policies.txt");
-    let trace = Sheet::read(&rt, b"trace.txt");
+    let mut policies = [0u8; SHEET_ROOM];
+    let mut trace = [0u8; SHEET_ROOM];
+    let p = files::read_sheet(&rt, b"policies.txt", &mut policies);
+    let t = files::read_sheet(&rt, b"trace.txt", &mut trace);
     let mut out = [0u8; report::TRACE_ROOM];
-    let n = report::report_trace(policies.text(), trace.text(), &mut out);
+    let n = report::report_trace(&policies[..p], &trace[..t], &mut out);
     files::print(&rt, &out, n);
 }
