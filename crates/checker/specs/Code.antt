@@ -7,8 +7,6 @@ use Rattle.std.proofs.Math.Option.{Option, none, some}
 use Rattle.usage.specs.Outline.{Form, end, static_event, named_event, sequence, choice, loop, back, fresh, sandbox}
 use Rattle.usage.specs.Tests.{some_below}
 use Rattle.usage.specs.Tables.{edges_of, nodes_of}
-use Rattle.automaton.specs.Move.{rows_at}
-use Rattle.checker_rows.specs.Rows.{row_table}
 use Rattle.checker_account.specs.declared.Resources.{Resources}
 use Rattle.checker_account.specs.Tables.{rows_in}
 use Rattle.checker_account.specs.Filling.{forms_in}
@@ -43,10 +41,10 @@ has_edge_lem t p = some_below (λ i. eqb (get_or t (edge_fields * i) 0) p) (leng
 unfoldable pub pair_in : List ℕ → ℕ → Bool
 pair_in t p = some_below (λ i. eqb (get_or t (edge_fields * i) 0) p && eqb (get_or t (edge_fields * i + 3) 0) 3) (length t / edge_fields)
 
--- r tells whether a policy that needs a search is a pair policy, and then rows are its moves
-abbrev pub MovesOf : List ℕ → List ℕ → ℕ → Maybe Bool → List ℕ → Type 0
-MovesOf edges nodes p None rows = (opens nodes p ≡ false) ⊎ (has_edge_lem edges p ≡ false)
-MovesOf edges nodes p (Some pair) rows = (pair ≡ pair_in edges p) × (rows ≡ row_table (rows_at (edges_of edges)) pair p nodes)
+-- r tells whether a policy that needs a search is a pair policy
+abbrev pub SoughtOf : List ℕ → List ℕ → ℕ → Maybe Bool → Type 0
+SoughtOf edges nodes p None = (opens nodes p ≡ false) ⊎ (has_edge_lem edges p ≡ false)
+SoughtOf edges nodes p (Some pair) = pair ≡ pair_in edges p
 
 -- ── The lowest policy that was found ──
 

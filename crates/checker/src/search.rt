@@ -9,7 +9,7 @@ ghost use Rattle.usage.specs.Tests.{Decides};
 ghost use Rattle.checker_account.specs.Tables.{rows_in};
 ghost use Rattle.checker_account.specs.Filling.{forms_in, SearchedAll};
 ghost use Rattle.checker.specs.Promise.{outcome_verdict, RightVerdict};
-ghost use Rattle.checker.specs.Code.{policy_verdict, MovesOf};
+ghost use Rattle.checker.specs.Code.{policy_verdict, SoughtOf};
 
 use crate::Outcome;
 use checker_account::{PLACES, Table, Watch};
@@ -35,16 +35,15 @@ fn broken(nodes: &[u8], rows: &Table, local: bool, p: usize, pair: bool) -> bool
     false
 }
 
-// The moves of policy p, and whether it is a pair policy; none where no sandbox opens it or it has no edge, so that no trace breaks it.
-pub(crate) fn moves(edges: &[u8], nodes: &[u8], p: usize, rows: &mut Table) -> Option<bool>
-    ensures { MovesOf edges.now nodes.now p result rows.new }
+// Whether policy p is a pair policy; none where no sandbox opens it or it has no edge, so that no trace breaks it. Asked before there is a
+// table for its moves, since to clear one takes longer.
+pub(crate) fn sought(edges: &[u8], nodes: &[u8], p: usize) -> Option<bool>
+    ensures { SoughtOf edges.now nodes.now p result }
 {
     if !crate::opens(nodes, p) || !crate::has_edge(edges, p) {
         return None;
     }
-    let pair = crate::is_pair(edges, p);
-    checker_rows::fill(edges, nodes, p, pair, rows);
-    Some(pair)
+    Some(crate::is_pair(edges, p))
 }
 
 // Does some trace leave policy p open and not respected?
@@ -54,9 +53,12 @@ fn leaves(edges: &[u8], local: bool, nodes: &[u8], p: usize) -> bool
     requires p_lt_policies { p < policies }
     ensures { Decides result (Leaves local (edges_of edges.now) (nodes_of nodes.now) p) }
 {
-    let mut rows = [0u16; PLACES];
-    match moves(edges, nodes, p, &mut rows) {
-        Some(pair) => broken(nodes, &rows, local, p, pair),
+    match sought(edges, nodes, p) {
+        Some(pair) => {
+            let mut rows = [0u16; PLACES];
+            checker_rows::fill(edges, nodes, p, pair, &mut rows);
+            broken(nodes, &rows, local, p, pair)
+        }
         None => false,
     }
 }

@@ -52,9 +52,12 @@ fn exact_marks(edges: &[u8], local: bool, nodes: &[u8], p: usize) -> u64
     requires p_lt_policies { p < policies }
     ensures { MarksExact local (edges_of edges.now) (nodes_of nodes.now) p result }
 {
-    let mut rows = [0u16; PLACES];
-    match search::moves(edges, nodes, p, &mut rows) {
-        Some(pair) => policy_marks(nodes, &rows, local, p, pair),
+    match search::sought(edges, nodes, p) {
+        Some(pair) => {
+            let mut rows = [0u16; PLACES];
+            checker_rows::fill(edges, nodes, p, pair, &mut rows);
+            policy_marks(nodes, &rows, local, p, pair)
+        }
         None => 0,
     }
 }
