@@ -79,9 +79,9 @@ impl NodeList {
     }
 
     // Node j.
-    fn node(self, j: usize) -> Node
+    fn node(&self, j: usize) -> Node
         requires { j < most_nodes }
-        ensures { result ≡ node_at_lem self.table j }
+        ensures { result ≡ node_at_lem self.now.table j }
     {
         let i = NODE_FIELDS * j;
         Node {
