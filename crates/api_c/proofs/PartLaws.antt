@@ -37,7 +37,7 @@ either-keeps : (p : Parts) (n : ℕ) (b : Bool) (x y : Answered) → Keeps p n x
 either-keeps p n true x y f g = f
 either-keeps p n false x y f g = g
 
-answered-keeps : (p : Parts) (n : ℕ) (a : Answer) (s : State) → Keeps p n (answered_in p a s)
+answered-keeps : (p : Parts) (n : ℕ) (a : Answer Reason) (s : State) → Keeps p n (answered_in p a s)
 answered-keeps p n Allowed s e = clash (cc)
 answered-keeps p n (Violated q) s e = clash (cc)
 answered-keeps p n (Refused m) s e = refl
@@ -55,7 +55,7 @@ refusal-keeps judge edges choice p raw n =
     judged : Answered
     judged = answered_in p (judge edges (choice_of choice) (held_in_lem p) raw).answer (judge edges (choice_of choice) (held_in_lem p) raw).state
 
-pub answered-verdict : (p : Parts) (a : Answer) (s : State) → (answered_in p a s).verdict ≡ verdict_of a
+pub answered-verdict : (p : Parts) (a : Answer Reason) (s : State) → (answered_in p a s).verdict ≡ verdict_of a
 answered-verdict p Allowed s = refl
 answered-verdict p (Violated q) s = refl
 answered-verdict p (Refused n) s = refl
@@ -126,12 +126,12 @@ module _ (judge : Judges) (edges : List ℕ) (choice : ℕ) (p : Parts) (raw : R
 
   -- ── What is told, and what is left in the arrays ──
 
-  module _ (f : Refusing) (c : choice ≤ 1) (h : is_held p ≡ true) (t : Told) (sets pairs possible created unclosed order : List ℕ)
+  module _ (f : Refusing) (c : choice ≤ 1) (h : is_held p ≡ true) (t : Told Reason) (sets pairs possible created unclosed order : List ℕ)
       (is : judgement_of t (lent_of sets pairs possible created unclosed order) ≡ judge edges (choice_of choice) (held_in_lem p) raw) where
     pub told-verdict : verdict_of t.answer ≡ (parts_by judge edges choice p raw).verdict
     told-verdict =
         sym (answered-verdict p t.answer (judge edges (choice_of choice) (held_in_lem p) raw).state)
-        ∙ ap (λ (a : Answer). (answered_in p a (judge edges (choice_of choice) (held_in_lem p) raw).state).verdict)
+        ∙ ap (λ (a : Answer Reason). (answered_in p a (judge edges (choice_of choice) (held_in_lem p) raw).state).verdict)
         (ap (λ (j : Judgement). j.answer) is)
         ∙ sym (ap (λ (r : Answered). r.verdict) (held-judged f c h))
 
@@ -146,7 +146,7 @@ module _ (judge : Judges) (edges : List ℕ) (choice : ℕ) (p : Parts) (raw : R
     unfolding held_in_lem
     refused-left r = left (by_answer t.answer r refl)
       where
-        by_answer : (a : Answer) → is_refusal_lem a ≡ true → t.answer ≡ a
+        by_answer : (a : Answer Reason) → is_refusal_lem a ≡ true → t.answer ≡ a
             → parts_of sets pairs possible created unclosed order p.numbers
             ≡ (answered_in p a (judgement_of t (lent_of sets pairs possible created unclosed order)).state).parts
         by_answer Allowed r e = false-true r
@@ -164,7 +164,7 @@ module _ (judge : Judges) (edges : List ℕ) (choice : ℕ) (p : Parts) (raw : R
     unfolding holding
     taken-left r = left (by_answer t.answer r)
       where
-        by_answer : (a : Answer) → is_refusal_lem a ≡ false
+        by_answer : (a : Answer Reason) → is_refusal_lem a ≡ false
             → holding (judgement_of t (lent_of sets pairs possible created unclosed order)).state ≡ (answered_in p a
             (judgement_of t (lent_of sets pairs possible created unclosed order)).state).parts
         by_answer Allowed r = refl

@@ -12,6 +12,7 @@ use Rattle.usage.specs.Past.{Past}
 use Rattle.usage.specs.Judge.{past_after, halted_after}
 use Rattle.usage.specs.Tables.{edges_of}
 use Rattle.usage.proofs.TableLaws.{decides-edge-table}
+use Rattle.usage.specs.declared.Reason.{Reason}
 use Rattle.monitor_state.specs.declared.State.{State}
 use Rattle.monitor_state.specs.declared.Answer.{Answer}
 use Rattle.monitor_state.specs.declared.Answer.TheVariants.{Allowed, Violated, Refused}
@@ -62,7 +63,7 @@ module _ (local : Bool) (es : List Edge) (past : Past) (h : Bool) (raw : RawStep
   abbrev After : Verdict → Parts → Type 0
   After v = StandsFor local es (past_after past raw v) (halted_after h v)
 
-  answered-stands : (a : Answer) (s : State) → highest_in (answered_in p a s).parts ≤ most_number
+  answered-stands : (a : Answer Reason) (s : State) → highest_in (answered_in p a s).parts ≤ most_number
       → Represents local es (past_after past raw (verdict_of a)) (halted_after h (verdict_of a)) s → After (verdict_of a) (answered_in p a s).parts
   unfolding holding
   answered-stands Allowed s b R = stands-holding s b R

@@ -4,6 +4,7 @@ use Rattle.usage.specs.declared.RawStep.{RawStep}
 use Rattle.usage.specs.Answers.{Verdict, refused}
 use Rattle.usage.specs.Reasons.{number_of}
 use Rattle.usage.specs.Tables.{is_edge_table}
+use Rattle.usage.specs.declared.Reason.{Reason}
 use Rattle.monitor_state.specs.declared.State.{State}
 use Rattle.monitor_state.specs.declared.Sizes.{Sizes}
 use Rattle.monitor_state.specs.declared.Answer.{Answer}
@@ -73,7 +74,7 @@ abbrev pub refuse_parts : ℕ → Parts → Answered
 refuse_parts n p = record { verdict = refused n; parts = p }
 
 -- Otherwise they hold the state that the judge returns.
-abbrev pub answered_in : Parts → Answer → State → Answered
+abbrev pub answered_in : Parts → Answer Reason → State → Answered
 answered_in p Allowed s = record { verdict = verdict_of Allowed; parts = holding s }
 answered_in p (Violated q) s = record { verdict = verdict_of (Violated q); parts = holding s }
 answered_in p (Refused r) s = refuse_parts (number_of r) p

@@ -36,7 +36,7 @@ fn refused(reason: Reason) -> u32
 }
 
 // document 01's two numbers for an answer, as 256 * answer + detail. Kept: `From` between types of other crates is not for this one to write.
-fn code(a: Answer) -> u32
+fn code(a: Answer<Reason>) -> u32
     ensures { result ≡ code_of (verdict_of a) }
 {
     match a {
@@ -47,7 +47,7 @@ fn code(a: Answer) -> u32
 }
 
 // Is it a refusal, which stores nothing?
-fn is_refusal(a: Answer) -> bool
+fn is_refusal(a: Answer<Reason>) -> bool
     ensures { result ≡ is_refusal_lem a }
 {
     matches!(a, Answer::Refused(_))

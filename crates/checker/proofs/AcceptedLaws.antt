@@ -177,13 +177,13 @@ beyond? (retiring r) past = inr none_other
 
 -- ── The judgement of a refused step ──
 
-refused-is : (a : Answer) (r : Reason) → verdict_of a ≡ refused (number_of r) → a ≡ Refused r
+refused-is : (a : Answer Reason) (r : Reason) → verdict_of a ≡ refused (number_of r) → a ≡ Refused r
 refused-is Allowed r e = cc
 refused-is (Violated p) r e = cc
 refused-is (Refused m) r e = let same : number_of m ≡ number_of r = cc in ap Refused (reason-one same)
 
-kept-refused : (s t : State) (a : Answer) (r : Reason) → a ≡ Refused r → Kept s a t → t ≡ s
-kept-refused s t a r e k = subst (λ (b : Answer). Kept s b t) e k
+kept-refused : (s t : State) (a : Answer Reason) (r : Reason) → a ≡ Refused r → Kept s a t → t ≡ s
+kept-refused s t a r e k = subst (λ (b : Answer Reason). Kept s b t) e k
 
 -- a step beyond the judge's limits is refused with one of two reasons
 reason-of : {past : Past} {step : Step} {n : ℕ} → Beyond past step n → (r : Reason) × (number_of r ≡ n)

@@ -12,6 +12,7 @@ use Rattle.usage.specs.Answers.{Verdict, allowed, violated, refused}
 use Rattle.usage.specs.Judge.{step_of}
 use Rattle.usage.specs.Tables.{is_edge_table}
 use Rattle.usage.proofs.Logic.{and-false, false-true}
+use Rattle.usage.specs.declared.Reason.{Reason}
 use Rattle.monitor_state.specs.declared.Answer.{Answer}
 use Rattle.usage.specs.Reasons.{number_of}
 use Rattle.monitor_state.specs.declared.Answer.TheVariants.{Allowed, Violated, Refused}
@@ -111,13 +112,13 @@ module _ (b : List ℕ) (h : Head) (raw : RawStep) (l : desk_bytes ≤ length b)
   unfolding loaded_in is_sound_lem refuse
   step-refused lean same j e r = go j.answer refl r (is_edge_table (edges_in b h)) refl (state_ok_lem (judge_in b h)) refl
     where
-      Goal : Answer → Type 0
+      Goal : Answer Reason → Type 0
       Goal a = Called (ByStep raw) b (desk_code (given_by (told a) lean)) b
 
       bad : is_edge_table (edges_in b h) ≡ true → state_ok_lem (judge_in b h) ≡ false → is_sound_lem (some d) ≡ false
       bad p s = ap₂ (λ x y. x && y) p s
 
-      go : (a : Answer) → j.answer ≡ a → is_refusal_lem a ≡ true → (x : Bool) → is_edge_table (edges_in b h) ≡ x → (y : Bool)
+      go : (a : Answer Reason) → j.answer ≡ a → is_refusal_lem a ≡ true → (x : Bool) → is_edge_table (edges_in b h) ≡ x → (y : Bool)
           → state_ok_lem (judge_in b h) ≡ y → Goal j.answer
       go Allowed q r x p y s = false-true r
       go (Violated n) q r x p y s = false-true r
@@ -133,7 +134,7 @@ module _ (b : List ℕ) (h : Head) (raw : RawStep) (l : desk_bytes ≤ length b)
           let shown : told j.answer ≡ refused (number_of n) = ap told q ∙ ap (λ x. refused (cond x 42 (number_of n))) (ne_eqb (number_of n) 41 apart) in
           subst (λ (v : Verdict). Called (ByStep raw) b (desk_code (given_by v lean)) b) (sym shown)
           (called-step (ap₂ (λ x y. x && y) p s) (plain (refused (number_of n))) _ b
-          (ap given_step (reply-is lean same) ∙ ap (λ (a : Answer). given_by (verdict_of a) (stays_on d.outline (step_of raw))) f) refl refl)
+          (ap given_step (reply-is lean same) ∙ ap (λ (a : Answer Reason). given_by (verdict_of a) (stays_on d.outline (step_of raw))) f) refl refl)
 
   -- the desk after a step that is not refused
   abbrev desk_after : Judgement → Desk
@@ -155,19 +156,19 @@ module _ (b : List ℕ) (h : Head) (raw : RawStep) (l : desk_bytes ≤ length b)
           taken-ok (looks_of lean (summary_in b)) (edges_in b h) (local_in h) (judge_in b h) raw
           (ap (λ (k : Judgement). is_refusal_lem k.answer) (sym e) ∙ r)
 
-      given : (a : Answer) → j.answer ≡ a → given_step (step_desk (some d) raw) ≡ given_by (verdict_of a) lean
+      given : (a : Answer Reason) → j.answer ≡ a → given_step (step_desk (some d) raw) ≡ given_by (verdict_of a) lean
       given a q =
           ap given_step (reply-is lean same)
-          ∙ ap₂ (λ (a : Answer) (x : Bool). given_by (verdict_of a) x) (ap (λ (k : Judgement). k.answer) (sym e) ∙ q) stays
+          ∙ ap₂ (λ (a : Answer Reason) (x : Bool). given_by (verdict_of a) x) (ap (λ (k : Judgement). k.answer) (sym e) ∙ q) stays
 
       after : (step_desk (some d) raw).desk ≡ desk_after j
       after = ap (λ r. r.desk) (reply-is lean same) ∙ ap desk_after (sym e)
 
-      go : (a : Answer) → j.answer ≡ a → is_refusal_lem a ≡ false → Called (ByStep raw) b (desk_code (given_by (told j.answer) lean)) b'
+      go : (a : Answer Reason) → j.answer ≡ a → is_refusal_lem a ≡ false → Called (ByStep raw) b (desk_code (given_by (told j.answer) lean)) b'
       go Allowed q r =
-          subst (λ (a : Answer). Called (ByStep raw) b (desk_code (given_by (told a) lean)) b') (sym q)
+          subst (λ (a : Answer Reason). Called (ByStep raw) b (desk_code (given_by (told a) lean)) b') (sym q)
           (called-step (ap₂ (λ x y. x && y) ok.0 ok.1) (given_by (verdict_of Allowed) lean) (desk_after j) b' (given Allowed q) after leaves)
       go (Violated n) q r =
-          subst (λ (a : Answer). Called (ByStep raw) b (desk_code (given_by (told a) lean)) b') (sym q)
+          subst (λ (a : Answer Reason). Called (ByStep raw) b (desk_code (given_by (told a) lean)) b') (sym q)
           (called-step (ap₂ (λ x y. x && y) ok.0 ok.1) (given_by (verdict_of (Violated n)) lean) (desk_after j) b' (given (Violated n) q) after leaves)
       go (Refused n) q r = false-true (sym r)

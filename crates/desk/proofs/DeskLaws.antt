@@ -26,6 +26,7 @@ use Rattle.usage.proofs.RetiringLaws.{created-below}
 use Rattle.usage.proofs.ThinnedLaws.{thinned-highest}
 use Rattle.usage.proofs.TraceLaws.{StepOk, PastOk, trace-tail, trace-ok}
 use Rattle.usage.proofs.TableLaws.{decides-node-table}
+use Rattle.usage.specs.declared.Reason.{Reason}
 use Rattle.sheet_lines.specs.Sheets.{is_local}
 use Rattle.sheet_reader.proofs.TableLaws.{policies-valid, outline-valid}
 use Rattle.monitor_state.specs.declared.State.{State}
@@ -245,13 +246,13 @@ module _ (d : Loaded) (past : Past) (h : Bool) (F : Fit d past h) (raw : RawStep
       ap (λ (r : Reply). r.desk) reply-is
       ∙ go full.answer refl (sym (ap (λ (r : Reply). is_refused (verdict_of r.answer)) reply-is) ∙ e)
     where
-      go : (a : Answer) → full.answer ≡ a → is_refused (verdict_of a) ≡ true
+      go : (a : Answer Reason) → full.answer ≡ a → is_refused (verdict_of a) ≡ true
           → (reply_with d (step_of raw) (stays_on d.outline (step_of raw)) full).desk ≡ some d
       go Allowed q x = false-true x
       go (Violated p) q x = false-true x
       go (Refused n) q x =
           ap₂ (λ (u : Option Outlined) (s : State). some record { edges = d.edges; local = d.local; outline = u; judge = s })
-          (ap (λ (a : Answer). outline_for a d.outline (step_of raw)) q) (refused-kept d.edges d.local d.judge raw n q)
+          (ap (λ (a : Answer Reason). outline_for a d.outline (step_of raw)) q) (refused-kept d.edges d.local d.judge raw n q)
 
   -- the desk after it
   abbrev later : Loaded
@@ -271,7 +272,7 @@ module _ (d : Loaded) (past : Past) (h : Bool) (F : Fit d past h) (raw : RawStep
       subst (λ (o : Option Step). OutlineFit d.local es (then o past) (outline_after (some u) o)) (sym g)
       (ok, exact, positions-fit (nodes_of u.nodes) ok past h raw step g k u.positions fit)
 
-  outline-fit : (a : Answer) → Judged d.local es past h raw (verdict_of a)
+  outline-fit : (a : Answer Reason) → Judged d.local es past h raw (verdict_of a)
       → OutlineFit d.local es (past_after past raw (verdict_of a)) (outline_for a d.outline (step_of raw))
   outline-fit Allowed j = outline-after allowed j d.outline F.outline refl
   outline-fit (Violated p) j = F.outline
@@ -286,7 +287,7 @@ module _ (d : Loaded) (past : Past) (h : Bool) (F : Fit d past h) (raw : RawStep
   }
 
   -- a step that is not refused was taken
-  taken_of : (a : Answer) → Judged d.local es past h raw (verdict_of a) → is_refusal_lem a ≡ false → Taken past h raw
+  taken_of : (a : Answer Reason) → Judged d.local es past h raw (verdict_of a) → is_refusal_lem a ≡ false → Taken past h raw
   taken_of a j e = go (verdict_of a) j (not-refused a e)
     where
       Plain : Verdict → Type 0
@@ -294,7 +295,7 @@ module _ (d : Loaded) (past : Past) (h : Bool) (F : Fit d past h) (raw : RawStep
       Plain (violated p) = Unit {0}
       Plain (refused n) = ⊥
 
-      not-refused : (a : Answer) → is_refusal_lem a ≡ false → Plain (verdict_of a)
+      not-refused : (a : Answer Reason) → is_refusal_lem a ≡ false → Plain (verdict_of a)
       not-refused Allowed e = tt
       not-refused (Violated p) e = tt
       not-refused (Refused n) e = false-true (sym e)
@@ -323,7 +324,7 @@ module _ (d : Loaded) (past : Past) (h : Bool) (F : Fit d past h) (raw : RawStep
   step-tells plain step reads = which d.outline F.outline step reads (taken_of full.answer promised.answer plain)
 
 -- the outline stays the one that was loaded
-outline-kept : (a : Answer) (u : Option Outlined) (o : Option Step) → outline_in (outline_for a u o) ≡ outline_in u
+outline-kept : (a : Answer Reason) (u : Option Outlined) (o : Option Step) → outline_in (outline_for a u o) ≡ outline_in u
 outline-kept Allowed none o = refl
 outline-kept Allowed (some u) o = refl
 outline-kept (Violated p) u o = refl
@@ -337,7 +338,7 @@ unfolding replies_of answers_of
 steps-answered [] d past h F = refl
 steps-answered (raw ∷ raws) d past h F =
     ap (λ (r : Reply). r.answer ∷ map (λ (r : Reply). r.answer) (replies_of r.desk raws)) (reply-is d past h F raw)
-    ∙ ap (λ (as₁ : List Answer). (judge_of d.edges d.local d.judge raw).answer ∷ as₁)
+    ∙ ap (λ (as₁ : List (Answer Reason)). (judge_of d.edges d.local d.judge raw).answer ∷ as₁)
     (steps-answered raws (later d past h F raw) _ _ (later-fit d past h F raw))
 
 pub steps-replied : (raws : List RawStep) (d : Loaded) (past : Past) (h : Bool) → Fit d past h

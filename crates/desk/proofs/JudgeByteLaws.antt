@@ -192,12 +192,12 @@ arrays-kept b b₁ b₂ s a w = record {
 
 -- ── One step ──
 
-refused-by : (a : Answer) → is_refusal_lem a ≡ true → (n : Reason) × (a ≡ Refused n)
+refused-by : (a : Answer Reason) → is_refusal_lem a ≡ true → (n : Reason) × (a ≡ Refused n)
 refused-by Allowed e = false-true e
 refused-by (Violated p) e = false-true e
 refused-by (Refused n) e = (n, refl)
 
-module _ (b : List ℕ) (l : desk_bytes ≤ length b) (j : Judgement) (t : Told) (k : Held) (pairs : List ℕ) (n : length pairs ≡ pair_sets)
+module _ (b : List ℕ) (l : desk_bytes ≤ length b) (j : Judgement) (t : Told Reason) (k : Held) (pairs : List ℕ) (n : length pairs ≡ pair_sets)
     (is : judgement_of t (lent_by k pairs) ≡ j) where
   pub judged-refused : (h : Head) → ((m : Reason) → j.answer ≡ Refused m → j.state ≡ judge_in b h) → is_refusal_lem t.answer ≡ true
       → JudgedIn j b t (take pairs_at b ++ (pairs ++ drop (rows_at - pairs_at) (drop pairs_at b)))

@@ -42,7 +42,7 @@ after-near local es s (closing p) = (omega arith, omega arith)
 after-near local es s (retiring r) = (omega arith, omega arith)
 
 -- what is asked of a judgement: of a refusal, that its number is not 41
-unfoldable GoodFor : State → Answer → State → Type 0
+unfoldable GoodFor : State → Answer Reason → State → Type 0
 GoodFor s Allowed t = Near s t
 GoodFor s (Violated p) t = Near s t
 GoodFor s (Refused n) t = number_of n ≡ 41 → ⊥
@@ -124,7 +124,7 @@ module _ (looks : Looks) (t : List ℕ) (local : Bool) (s : State) (raw : RawSte
 
   pub not-41 : is_edge_table t ≡ true → state_ok_lem s ≡ true → (n : Reason) → (judge_by looks t local s raw).answer ≡ Refused n → number_of n ≡ 41 → ⊥
   unfolding Good GoodFor
-  not-41 p q n e = subst (λ (a : Answer). GoodFor s a (judge_by looks t local s raw).state) e (judge-good p q)
+  not-41 p q n e = subst (λ (a : Answer Reason). GoodFor s a (judge_by looks t local s raw).state) e (judge-good p q)
 
   pub taken-small : is_refusal_lem (judge_by looks t local s raw).answer ≡ false → Small (judge_by looks t local s raw).state
   unfolding state_ok_lem live_ok unclosed_ok created_ok order_ok_lem Good GoodFor
@@ -144,7 +144,7 @@ module _ (looks : Looks) (t : List ℕ) (local : Bool) (s : State) (raw : RawSte
       near : Near s (judge_by looks t local s raw).state → Small (judge_by looks t local s raw).state
       near (c, d) = (omega (arith, few), omega (arith, deep))
 
-      go : (a : Answer) → is_refusal_lem a ≡ false → GoodFor s a (judge_by looks t local s raw).state → Small (judge_by looks t local s raw).state
+      go : (a : Answer Reason) → is_refusal_lem a ≡ false → GoodFor s a (judge_by looks t local s raw).state → Small (judge_by looks t local s raw).state
       go Allowed e g = near g
       go (Violated p) e g = near g
       go (Refused n) e g = false-true (sym e)

@@ -19,6 +19,7 @@ use Rattle.usage.specs.Limits.{within, Kind, ◌until◌, unused, actions, resou
 use Rattle.usage.specs.Tables.{from, nodes_of}
 use Rattle.usage.proofs.Logic.{false-true, none-some}
 use Rattle.usage.proofs.TableLaws.{length_from}
+use Rattle.usage.specs.declared.Reason.{Reason}
 use Rattle.monitor_state.specs.declared.Answer.{Answer}
 use Rattle.monitor_state.specs.declared.Answer.TheVariants.{Allowed, Violated, Refused}
 use Rattle.monitor_lean.specs.Lean.{at_all}
@@ -79,7 +80,7 @@ off-after (some u) (inr e) o =
     ap (with-positions u)
     (ap (λ (p : Option (List Position)). positions_after (nodes_of u.nodes) p o) e ∙ none_after (nodes_of u.nodes) o ∙ sym e)
 
-pub off-for : (a : Answer) (u : Option Outlined) → Off u → (o : Option Step) → outline_for a u o ≡ u
+pub off-for : (a : Answer Reason) (u : Option Outlined) → Off u → (o : Option Step) → outline_for a u o ≡ u
 off-for Allowed u f o = off-after u f o
 off-for (Violated p) u f o = refl
 off-for (Refused n) u f o = refl

@@ -25,6 +25,7 @@ use Rattle.desk.specs.Desk.{on_positions, outline_after}
 use Rattle.desk_positions.specs.Positions.{is_any}
 use Rattle.desk.proofs.OutlineLaws.{step_from_lem, kind-low, looks_on, listed-few}
 use Rattle.usage.proofs.Logic.{and_left, and_right, and_both, false-true, none-some}
+use Rattle.usage.specs.declared.Reason.{Reason}
 use Rattle.monitor_state.specs.declared.State.{State}
 use Rattle.monitor_state.specs.declared.Answer.{Answer}
 use Rattle.monitor_state.specs.declared.Answer.TheVariants.{Allowed, Violated, Refused}
@@ -410,7 +411,7 @@ module _ (b : List ℕ) (h : Head) (raw : RawStep) (l : desk_bytes ≤ length b)
           retired (suc (suc zero)) z p = false-true (sym p)
           retired (suc (suc (suc k))) z p = refl
 
-          stay : (a : Answer) → moves a raw.kind ≡ false → is_refusal_lem a ≡ false → some u ≡ outline_for a (some u) (step_of raw)
+          stay : (a : Answer Reason) → moves a raw.kind ≡ false → is_refusal_lem a ≡ false → some u ≡ outline_for a (some u) (step_of raw)
           stay Allowed p x =
               sym (ap (outline_after (some u)) (read.1 ∙ ap some (step_from_lem raw read.0 read.1)) ∙ retired raw.kind refl p)
           stay (Violated n) p x = refl
@@ -429,7 +430,7 @@ module _ (b : List ℕ) (h : Head) (raw : RawStep) (l : desk_bytes ≤ length b)
           step : Step
           step = step_from raw.kind raw.a raw.b
 
-          no-retiring : (a : Answer) → moves a raw.kind ≡ true → raw.kind ≡ 3 → ⊥
+          no-retiring : (a : Answer Reason) → moves a raw.kind ≡ true → raw.kind ≡ 3 → ⊥
           no-retiring Allowed p z = false-true (sym (ap not (eq-eqb raw.kind 3 z)) ∙ p)
           no-retiring (Violated n) p z = false-true p
           no-retiring (Refused n) p z = false-true p
@@ -446,7 +447,7 @@ module _ (b : List ℕ) (h : Head) (raw : RawStep) (l : desk_bytes ≤ length b)
           plainly (suc (suc (suc zero))) z d c = absurd (d refl)
           plainly (suc (suc (suc (suc n)))) z d c = absurd (omega arith)
 
-          led : (a : Answer) → moves a raw.kind ≡ true
+          led : (a : Answer Reason) → moves a raw.kind ≡ true
               → some record { nodes = nodes_in b h; summary = summary_in b; positions = next_positions ns step ls } ≡ outline_for a (some u) (step_of raw)
           led Allowed p =
               sym (ap (outline_after (some u)) (read.1 ∙ ap some (step_from_lem raw read.0 read.1))

@@ -7,6 +7,7 @@ use mathlib.Core.Logic.{◌⊎◌, inl, inr}
 use native.Mathlib.Omega.{arith}
 use Rattle.usage.specs.declared.RawStep.{RawStep}
 use Rattle.usage.specs.Limits.{most_nodes, node_fields}
+use Rattle.usage.specs.declared.Reason.{Reason}
 use Rattle.monitor_state.specs.declared.Answer.{Answer}
 use Rattle.monitor_state.specs.declared.Sizes.{Sizes}
 use Rattle.monitor_state.specs.declared.Judgement.{Judgement}
@@ -27,7 +28,7 @@ use Rattle.desk.specs.Calls.{desk_code, given_by, Called, ByStep}
 use Rattle.desk.specs.Code.{told, moves, SettledIn}
 use Rattle.desk.proofs.JudgeByteLaws.{all-stored, arrays-kept}
 
-module _ (b b₁ : List ℕ) (j : Judgement) (t : Told) (q : JudgedIn j b t b₁) where
+module _ (b b₁ : List ℕ) (j : Judgement) (t : Told Reason) (q : JudgedIn j b t b₁) where
   pub told-refusal : {x : Bool} → is_refusal_lem t.answer ≡ x → is_refusal_lem j.answer ≡ x
   told-refusal e = ap is_refusal_lem (sym q.answer) ∙ e
 
@@ -35,11 +36,11 @@ module _ (b b₁ : List ℕ) (j : Judgement) (t : Told) (q : JudgedIn j b t b₁
   told-small s = subst SmallSizes (sym q.sizes) s
 
   pub told-moves : (raw : RawStep) {x : Bool} → moves t.answer raw.kind ≡ x → moves j.answer raw.kind ≡ x
-  told-moves raw e = ap (λ (a : Answer). moves a raw.kind) (sym q.answer) ∙ e
+  told-moves raw e = ap (λ (a : Answer Reason). moves a raw.kind) (sym q.answer) ∙ e
 
   module _ (raw : RawStep) (lean : Bool) (r : ℕ) (code : r ≡ desk_code (given_by (told t.answer) lean)) where
     is_code : desk_code (given_by (told j.answer) lean) ≡ r
-    is_code = sym (code ∙ ap (λ (a : Answer). desk_code (given_by (told a) lean)) q.answer)
+    is_code = sym (code ∙ ap (λ (a : Answer Reason). desk_code (given_by (told a) lean)) q.answer)
 
     pub called-refused : is_refusal_lem t.answer ≡ true → Called (ByStep raw) b (desk_code (given_by (told j.answer) lean)) b
         → Called (ByStep raw) b r b₁

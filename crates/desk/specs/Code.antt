@@ -13,17 +13,18 @@ use Rattle.desk.specs.State.{local_in, edges_in, loaded_in, table_in, listed_in,
 use Rattle.desk.specs.Calls.{desk_code, plain, is_refused}
 use Rattle.usage.specs.Reasons.{number_of}
 use Rattle.usage.specs.Answers.{Verdict, allowed, violated, refused}
+use Rattle.usage.specs.declared.Reason.{Reason}
 use Rattle.monitor_state.specs.declared.Answer.{Answer}
 use Rattle.monitor_state.specs.declared.Answer.TheVariants.{Allowed, Violated, Refused}
 
 -- what is told of the judge's answer: a table of edges that the judge refuses is 42 at the desk, whose caller lends none
-abbrev pub told : Answer → Verdict
+abbrev pub told : Answer Reason → Verdict
 told Allowed = allowed
 told (Violated p) = violated p
 told (Refused r) = refused (cond (eqb (number_of r) 41) 42 (number_of r))
 
 -- whether an answer to a step of this kind moves the positions
-abbrev pub moves : Answer → ℕ → Bool
+abbrev pub moves : Answer Reason → ℕ → Bool
 moves Allowed kind = not (eqb kind 3)
 moves (Violated p) kind = false
 moves (Refused n) kind = false

@@ -10,6 +10,7 @@ use Rattle.usage.specs.Answers.{Verdict, Refusal}
 use Rattle.usage.specs.Judge.{step_of}
 use Rattle.usage.specs.Check.{Checked}
 use Rattle.usage.specs.Tables.{edges_of, nodes_of}
+use Rattle.usage.specs.declared.Reason.{Reason}
 use Rattle.sheet_lines.specs.Sheet.{accepted, refused}
 use Rattle.sheet_lines.specs.Sheets.{is_local}
 use Rattle.sheet_reader.specs.Readers.{policies_into, outline_into}
@@ -132,14 +133,14 @@ outline_after (some u) o =
     some record { nodes = u.nodes; summary = u.summary; positions = positions_after (nodes_of u.nodes) u.positions o }
 
 -- "Refused steps .. move no position"; after a violated one every step is refused
-abbrev pub outline_for : Answer → Option Outlined → Option Step → Option Outlined
+abbrev pub outline_for : Answer Reason → Option Outlined → Option Step → Option Outlined
 outline_for Allowed u o = outline_after u o
 outline_for (Violated p) u o = u
 outline_for (Refused n) u o = u
 
 -- the answer to a step, which judge gave it, and the desk after it
 pub record Reply : Type 0 where
-  pub answer : Answer
+  pub answer : Answer Reason
   pub lean : Bool
   pub desk : Desk
 

@@ -1,6 +1,7 @@
 -- The judge's state in the desk's bytes. This file, src/judge.rt and proofs/JudgeByteLaws alone know what that state is made of.
 use Rattle.std.specs.Prelude.{ℕ, ◌<◌, ◌≤◌, ◌≡◌, true, false, cond, List, eqb, length, get_or}
 use Rattle.usage.specs.Limits.{policies, most_created, most_unclosed}
+use Rattle.usage.specs.declared.Reason.{Reason}
 use Rattle.monitor_sets.specs.Instances.{set_places}
 use Rattle.monitor_state.specs.declared.State.{State}
 use Rattle.monitor_state.specs.declared.Sizes.{Sizes}
@@ -81,7 +82,7 @@ pub record Arrays (b₀ : List ℕ) (s : State) (b : List ℕ) : Type 0 where
   pub pairs : pairs_in b ≡ s.tracked.pairs
 
 -- What is told of a judgement, and the bytes after it: as they were where the step is refused, else with its arrays.
-pub record JudgedIn (j : Judgement) (b₀ : List ℕ) (t : Told) (b : List ℕ) : Type 0 where
+pub record JudgedIn (j : Judgement) (b₀ : List ℕ) (t : Told Reason) (b : List ℕ) : Type 0 where
   pub answer : t.answer ≡ j.answer
   pub sizes : t.sizes ≡ sizes_of j.state
   pub refused : is_refusal_lem t.answer ≡ true → b ≡ b₀

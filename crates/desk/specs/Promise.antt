@@ -10,6 +10,7 @@ use Rattle.usage.specs.Judge.{step_of, Judged, past_after, halted_after}
 use Rattle.usage.specs.Retirings.{thinned}
 use Rattle.usage.specs.Outline.{IsTrace}
 use Rattle.usage.specs.Tables.{edges_of, nodes_of}
+use Rattle.usage.specs.declared.Reason.{Reason}
 use Rattle.monitor_state.specs.declared.Answer.{Answer}
 use Rattle.monitor_state.specs.declared.Answer.TheVariants.{Allowed, Violated, Refused}
 use Rattle.monitor_state.specs.Judge.{verdict_of, start_state, answers_of}
@@ -36,7 +37,7 @@ abbrev pub Lean : Option (List Node) → Past → Step → Type 0
 Lean none past step = ⊥
 Lean (some ns) past step = IsTrace ns (thinned (step ∷ past)) × NeverExceeded ns (thinned past)
 
-abbrev pub is_refusal_lem : Answer → Bool
+abbrev pub is_refusal_lem : Answer Reason → Bool
 is_refusal_lem Allowed = false
 is_refusal_lem (Violated p) = false
 is_refusal_lem (Refused n) = true

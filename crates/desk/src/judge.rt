@@ -15,7 +15,7 @@ ghost use Rattle.desk.specs.State.{edges_in, local_in, summary_in, looks_of};
 use crate::{Head, Held};
 use monitor_sets::SETS;
 use monitor_state::{PAIR_SETS, Sizes, State, Told};
-use usage::{EDGE_FIELDS, EDGE_TABLE, MOST_CREATED, MOST_UNCLOSED, POLICIES, RawStep};
+use usage::{EDGE_FIELDS, EDGE_TABLE, MOST_CREATED, MOST_UNCLOSED, POLICIES, RawStep, Reason};
 
 // Where each part stands, as specs/Layout has it.
 const CREATED_AT: usize = 1824;
@@ -143,7 +143,7 @@ fn looked_at(b: &[u8], lean: bool, step: RawStep) -> u8
 
 // One step, judged from the bytes: by the lean judge with the summary that they hold, or by the full one. The sets of pairs are lent where
 // they stand.
-pub(crate) fn judged(b: &mut [u8], h: Head, lean: bool, step: RawStep) -> Told
+pub(crate) fn judged(b: &mut [u8], h: Head, lean: bool, step: RawStep) -> Told<Reason>
     requires desk_bytes_in_bounds { desk_bytes ≤ length b.old }
     requires edges_le_most_edges { h.edges ≤ most_edges }
     ensures judged_in { JudgedIn (judge_by (looks_of lean (summary_in b.old)) (edges_in b.old h) (local_in h) (judge_in b.old h) step)

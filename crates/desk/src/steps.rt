@@ -38,7 +38,7 @@ fn lean_bit(lean: bool) -> u32
 }
 
 // The answer to a step as one number.
-fn reply_code(a: Answer, lean: bool) -> u32
+fn reply_code(a: Answer<Reason>, lean: bool) -> u32
     ensures { result ≡ desk_code (given_by (told a) lean) }
 {
     match a {
@@ -48,14 +48,14 @@ fn reply_code(a: Answer, lean: bool) -> u32
     }
 }
 
-pub(crate) fn is_refusal(a: Answer) -> bool
+pub(crate) fn is_refusal(a: Answer<Reason>) -> bool
     ensures { result ≡ is_refusal_lem a }
 {
     matches!(a, Answer::Refused(_))
 }
 
 // Do the positions move? "Refused steps and retirings move no position", and after a violated step every step is refused.
-fn moves(a: Answer, kind: u32) -> bool
+fn moves(a: Answer<Reason>, kind: u32) -> bool
     ensures { result ≡ moves a kind }
 {
     matches!(a, Answer::Allowed) && kind != RETIRING

@@ -96,13 +96,13 @@ unfolding place_of place_in
 parts-place c x = refl
 
 -- a refusal
-pub refused-parts : (l : Lent) (z : Sizes) (n : Reason) (t : Told) → t ≡ record { answer = Refused n; sizes = z }
+pub refused-parts : (l : Lent) (z : Sizes) (n : Reason) (t : Told Reason) → t ≡ record { answer = Refused n; sizes = z }
     → judgement_of t l ≡ refuse n (state_of l z)
 unfolding refuse
 refused-parts l z n t e = rw e
 
 -- a step that was read and is refused
-pub refused-step : (by : Rules) (l : Lent) (z : Sizes) (step : Step) (n : Reason) (t : Told)
+pub refused-step : (by : Rules) (l : Lent) (z : Sizes) (step : Step) (n : Reason) (t : Told Reason)
     → t ≡ record { answer = Refused n; sizes = z } → refusal (state_of l z) step ≡ some n
     → judgement_of t l ≡ stepped_by by (state_of l z) step
 refused-step by l z step n t e f = refused-parts l z n t e ∙ sym (step-refused by.looked by.local (edges_of by.edges.now) (state_of l z) step n f)
@@ -133,7 +133,7 @@ module _ (s t : State) (bad : ℕ) where
       go false = refl
 
   -- a step that is taken
-  pub settled-step : (by : Rules) (step : Step) (u : Told)
+  pub settled-step : (by : Rules) (step : Step) (u : Told Reason)
       {sets pairs possible numbers counts order : List ℕ}
       → bad ≡ broken_in by.looked t.tracked.possible t.unclosed.counts → refusal s step ≡ none
       → t ≡ after by.local (edges_of by.edges.now) s step → u ≡ told_of bad (sizes_of s) (sizes_of t)

@@ -69,7 +69,7 @@ pub fn start() -> State
 
 // ── One step ──
 
-fn judge_create(by: &Rules, lent: &mut Lent, sizes: Sizes, r: u32) -> Told
+fn judge_create(by: &Rules, lent: &mut Lent, sizes: Sizes, r: u32) -> Told<Reason>
     requires count_le_most_created { sizes.count ≤ most_created }
     requires created_value { highest_ok sizes.highest sizes.count lent.old.created.now ≡ true }
     ensures same_loans { SameLoans lent.old lent.new }
@@ -111,7 +111,7 @@ fn judge_create(by: &Rules, lent: &mut Lent, sizes: Sizes, r: u32) -> Told
     monitor_state::settled(bad, sizes, after)
 }
 
-fn judge_event(by: &Rules, lent: &mut Lent, sizes: Sizes, action: u32, r: u32) -> Told
+fn judge_event(by: &Rules, lent: &mut Lent, sizes: Sizes, action: u32, r: u32) -> Told<Reason>
     requires count_le_most_created { sizes.count ≤ most_created }
     requires created_value { highest_ok sizes.highest sizes.count lent.old.created.now ≡ true }
     ensures same_loans { SameLoans lent.old lent.new }
@@ -142,7 +142,7 @@ fn judge_event(by: &Rules, lent: &mut Lent, sizes: Sizes, action: u32, r: u32) -
     monitor_state::settled(bad, sizes, sizes)
 }
 
-fn judge_read(by: &Rules, lent: &mut Lent, sizes: Sizes, step: RawStep) -> Told
+fn judge_read(by: &Rules, lent: &mut Lent, sizes: Sizes, step: RawStep) -> Told<Reason>
     requires count_le_most_created { sizes.count ≤ most_created }
     requires created_value { highest_ok sizes.highest sizes.count lent.old.created.now ≡ true }
     requires unclosed_value { order_ok_lem sizes.depth lent.old.order.now lent.old.unclosed.now ≡ true }
@@ -180,7 +180,7 @@ pub fn judge_looked(
     order: &mut [u8; MOST_UNCLOSED],
     sizes: Sizes,
     step: RawStep,
-) -> Told
+) -> Told<Reason>
     ensures order_after { judgement_of result
         (lent_of sets.new pairs.new possible.new created.new
         unclosed.new order.new)
@@ -234,7 +234,7 @@ pub fn judge_lent(
     order: &mut [u8; MOST_UNCLOSED],
     sizes: Sizes,
     step: RawStep,
-) -> Told
+) -> Told<Reason>
     ensures { judgement_of result
         (lent_of sets.new pairs.new possible.new created.new
         unclosed.new order.new)

@@ -13,7 +13,7 @@ use monitor_state::{Sizes, Told};
 use usage::Reason;
 
 // It frees the place of the resource, and moves no state.
-pub(crate) fn judge_retiring(by: &Rules, lent: &mut Lent, sizes: Sizes, r: u32) -> Told
+pub(crate) fn judge_retiring(by: &Rules, lent: &mut Lent, sizes: Sizes, r: u32) -> Told<Reason>
     requires { sizes.count ≤ most_created }
     ensures same_loans { SameLoans lent.old lent.new }
     ensures judged { judgement_of result (held lent.new) ≡ stepped_by by.now (state_of (held lent.old) sizes) (retiring r) }

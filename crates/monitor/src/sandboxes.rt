@@ -120,7 +120,7 @@ fn is_anew(local: bool, unclosed: &[u8; POLICIES], p: usize) -> bool
 }
 
 // An opening creates nothing and moves no state but those that it puts back.
-pub(crate) fn judge_opening(by: &Rules, lent: &mut Lent, sizes: Sizes, p: usize) -> Told
+pub(crate) fn judge_opening(by: &Rules, lent: &mut Lent, sizes: Sizes, p: usize) -> Told<Reason>
     requires p_lt_policies { p < policies }
     requires count_le_most_created { sizes.count ≤ most_created }
     requires unclosed_value { order_ok_lem sizes.depth lent.old.order.now lent.old.unclosed.now ≡ true }
@@ -162,7 +162,7 @@ pub(crate) fn judge_opening(by: &Rules, lent: &mut Lent, sizes: Sizes, p: usize)
 }
 
 // A closing puts nothing back.
-pub(crate) fn leave(by: &Rules, lent: &mut Lent, sizes: Sizes, p: usize) -> Told
+pub(crate) fn leave(by: &Rules, lent: &mut Lent, sizes: Sizes, p: usize) -> Told<Reason>
     requires p_lt_policies { p < policies }
     requires unclosed_value { order_ok_lem sizes.depth lent.old.order.now lent.old.unclosed.now ≡ true }
     ensures same_loans { SameLoans lent.old lent.new }

@@ -60,7 +60,7 @@ module _ (looks : Looks) (t : List ℕ) (local : Bool) (s : State) (raw : RawSte
       (read_kept (step_of raw))))
 
   pub by-refused-kept : (n : Reason) → (judge_by looks t local s raw).answer ≡ Refused n → (judge_by looks t local s raw).state ≡ s
-  by-refused-kept n e = subst (λ (a : Answer). Kept s a (judge_by looks t local s raw).state) e judge-kept
+  by-refused-kept n e = subst (λ (a : Answer Reason). Kept s a (judge_by looks t local s raw).state) e judge-kept
 
   pub by-table-refused : is_edge_table t ≡ false → judge_by looks t local s raw ≡ refuse Table s
   unfolding judge_by

@@ -192,7 +192,7 @@ module _ (t : List ℕ) (ok : is_edge_table t ≡ true) (local : Bool) (m : Summ
       u : State
       u = (judge_of t local s raw).state
 
-      go : (a : Answer) → (judge_of t local s raw).answer ≡ a → Judged local (edges_of t) past false raw (verdict_of (judge_of t local s raw).answer)
+      go : (a : Answer Reason) → (judge_of t local s raw).answer ≡ a → Judged local (edges_of t) past false raw (verdict_of (judge_of t local s raw).answer)
           → Represents local (edges_of t) (past_after past raw (verdict_of (judge_of t local s raw).answer))
           (halted_after false (verdict_of (judge_of t local s raw).answer)) u
           → ((past : Past) (s : State) → Represents local (edges_of t) past false s → Clean local (edges_of t) past
@@ -200,21 +200,21 @@ module _ (t : List ℕ) (ok : is_edge_table t ≡ true) (local : Bool) (m : Summ
           → Agree (marked m) t local s (raw ∷ raws)
       go Allowed e j T rest =
           let j₁ : Judged local (edges_of t) past false raw allowed =
-          subst (λ (a : Answer). Judged local (edges_of t) past false raw (verdict_of a)) e j in
+          subst (λ (a : Answer Reason). Judged local (edges_of t) past false raw (verdict_of a)) e j in
           let T₁ : Represents local (edges_of t) (then (step_of raw) past) false u =
-          subst (λ (a : Answer). Represents local (edges_of t) (past_after past raw (verdict_of a)) (halted_after false (verdict_of a)) u) e T in
+          subst (λ (a : Answer Reason). Represents local (edges_of t) (past_after past raw (verdict_of a)) (halted_after false (verdict_of a)) u) e T in
           let (step, g) = allowed-read j₁ in
           next same (rest (then (step_of raw) past) u T₁ (clean-next t ok local past false s R (λ z. clean) raw allowed j₁ refl)
           (subst (λ (o : Option Step). Along raws (then o past)) (sym g) (along step g).1))
       go (Violated p) e j T rest =
           let T₁ : Represents local (edges_of t) past true u =
-          subst (λ (a : Answer). Represents local (edges_of t) (past_after past raw (verdict_of a)) (halted_after false (verdict_of a)) u) e T in
+          subst (λ (a : Answer Reason). Represents local (edges_of t) (past_after past raw (verdict_of a)) (halted_after false (verdict_of a)) u) e T in
           next same (halted-agree u T₁.halted (state-well T₁) raws)
       go (Refused n) e j T rest = stops same e
 
   -- ── Over all steps ──
 
-  unrefused-before : (a : Answer) (o : Option Step) (past : Past) → On (unless_refused a o past) → On past
+  unrefused-before : (a : Answer Reason) (o : Option Step) (past : Past) → On (unless_refused a o past) → On past
   unrefused-before Allowed none past on = on
   unrefused-before Allowed (some step) past on = tail step past on
   unrefused-before (Violated p) none past on = on
@@ -242,7 +242,7 @@ module _ (t : List ℕ) (ok : is_edge_table t ≡ true) (local : Bool) (m : Summ
       by-halted = rw (ok, w, h) refl
 
   -- a step that was taken is not refused
-  taken-kept : (past : Past) (h : Bool) (raw : RawStep) (a : Answer) → Judged local (edges_of t) past h raw (verdict_of a) → Taken past h raw
+  taken-kept : (past : Past) (h : Bool) (raw : RawStep) (a : Answer Reason) → Judged local (edges_of t) past h raw (verdict_of a) → Taken past h raw
       → (step : Step) → step_of raw ≡ some step → On (unless_refused a (step_of raw) past) → On (step ∷ past)
   taken-kept past h raw Allowed j k step e on = subst (λ (o : Option Step). On (then o past)) e on
   taken-kept past h raw (Violated p) j k step e on = subst (λ (o : Option Step). On (then o past)) e on
@@ -259,25 +259,25 @@ module _ (t : List ℕ) (ok : is_edge_table t ≡ true) (local : Bool) (m : Summ
       u : State
       u = (judge_of t local s raw).state
 
-      same : (a : Answer) → Judged local (edges_of t) past false raw (verdict_of a)
+      same : (a : Answer Reason) → Judged local (edges_of t) past false raw (verdict_of a)
           → On (not_refused t local u raws (unless_refused a (step_of raw) past)) → judge_by (marked m) t local s raw ≡ judge_of t local s raw
       same a j on =
           lean-step t ok local m past false s R (λ e. clean) raw
           (λ step e k. cover step past (taken-kept past false raw a j k step e
           (all-before raws u (unless_refused a (step_of raw) past) on)))
 
-      go : (a : Answer) → (judge_of t local s raw).answer ≡ a → Judged local (edges_of t) past false raw (verdict_of (judge_of t local s raw).answer)
+      go : (a : Answer Reason) → (judge_of t local s raw).answer ≡ a → Judged local (edges_of t) past false raw (verdict_of (judge_of t local s raw).answer)
           → Represents local (edges_of t) (past_after past raw (verdict_of (judge_of t local s raw).answer))
           (halted_after false (verdict_of (judge_of t local s raw).answer)) u
           → On (not_refused t local u raws (unless_refused (judge_of t local s raw).answer (step_of raw) past))
           → ((past : Past) (s : State) → Represents local (edges_of t) past false s → Clean local (edges_of t) past
           → On (not_refused t local s raws past) → AgreeAll (marked m) t local s raws)
           → AgreeAll (marked m) t local s (raw ∷ raws)
-      go a e j T on rest = later a (subst (λ (a : Answer). Judged local (edges_of t) past false raw (verdict_of a)) e j)
-          (subst (λ (a : Answer). Represents local (edges_of t) (past_after past raw (verdict_of a)) (halted_after false (verdict_of a)) u) e T)
-          (subst (λ (a : Answer). On (not_refused t local u raws (unless_refused a (step_of raw) past))) e on)
+      go a e j T on rest = later a (subst (λ (a : Answer Reason). Judged local (edges_of t) past false raw (verdict_of a)) e j)
+          (subst (λ (a : Answer Reason). Represents local (edges_of t) (past_after past raw (verdict_of a)) (halted_after false (verdict_of a)) u) e T)
+          (subst (λ (a : Answer Reason). On (not_refused t local u raws (unless_refused a (step_of raw) past))) e on)
         where
-          later : (a : Answer) → Judged local (edges_of t) past false raw (verdict_of a)
+          later : (a : Answer Reason) → Judged local (edges_of t) past false raw (verdict_of a)
               → Represents local (edges_of t) (past_after past raw (verdict_of a)) (halted_after false (verdict_of a)) u
               → On (not_refused t local u raws (unless_refused a (step_of raw) past))
               → AgreeAll (marked m) t local s (raw ∷ raws)
@@ -318,7 +318,7 @@ agree-answers looks t local s (raw ∷ raws) (stops {n = n} e r) =
     rw (b, r) refl
 agree-answers looks t local s (raw ∷ raws) (next e a) =
     ap (λ (j : Judgement). j.answer ∷ cut_at j.answer (up_to_refusal (answers_by looks t local j.state raws))) e
-    ∙ ap (λ (l : List Answer). (judge_of t local s raw).answer ∷ cut_at (judge_of t local s raw).answer l)
+    ∙ ap (λ (l : List (Answer Reason)). (judge_of t local s raw).answer ∷ cut_at (judge_of t local s raw).answer l)
     (agree-answers looks t local (judge_of t local s raw).state raws a)
 
 pub agree-all-answers : (looks : Looks) (t : List ℕ) (local : Bool) (s : State) (raws : List RawStep) → AgreeAll looks t local s raws
@@ -327,7 +327,7 @@ unfolding answers_by answers_of
 agree-all-answers looks t local s [] a = refl
 agree-all-answers looks t local s (raw ∷ raws) (both e a) =
     ap (λ (j : Judgement). j.answer ∷ answers_by looks t local j.state raws) e
-    ∙ ap (λ (l : List Answer). (judge_of t local s raw).answer ∷ l) (agree-all-answers looks t local (judge_of t local s raw).state raws a)
+    ∙ ap (λ (l : List (Answer Reason)). (judge_of t local s raw).answer ∷ l) (agree-all-answers looks t local (judge_of t local s raw).state raws a)
 
 -- ── The exact summary ──
 

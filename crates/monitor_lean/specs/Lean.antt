@@ -17,7 +17,7 @@ unfoldable pub use Rattle.monitor_state.specs.Looked.{broken_among, judge_step_b
 -- ── A list of steps ──
 
 -- a list of steps, each with the state that the last one returned
-unfoldable pub answers_by : Looks → List ℕ → Bool → State → List RawStep → List Answer
+unfoldable pub answers_by : Looks → List ℕ → Bool → State → List RawStep → List (Answer Reason)
 answers_by looks t local s [] = []
 answers_by looks t local s (raw ∷ raws) = let j = judge_by looks t local s raw in j.answer ∷ answers_by looks t local j.state raws
 
@@ -38,18 +38,18 @@ lean_of m t local s raw = judge_by (marked m) t local s raw
 abbrev pub lean_sized : Summary → List ℕ → Bool → State → RawStep → Judgement
 lean_sized m t local s raw = judge_sized (marked m) t local s raw
 
-abbrev pub lean_answers : Summary → List ℕ → Bool → State → List RawStep → List Answer
+abbrev pub lean_answers : Summary → List ℕ → Bool → State → List RawStep → List (Answer Reason)
 lean_answers m t local s raws = answers_by (marked m) t local s raws
 
 -- ── Step by step, up to and including the first refusal ──
 
-abbrev pub cut_at : Answer → List Answer → List Answer
+abbrev pub cut_at : Answer Reason → List (Answer Reason) → List (Answer Reason)
 cut_at Allowed rest = rest
 cut_at (Violated p) rest = rest
 cut_at (Refused n) rest = []
 
 -- the answers up to and including the first refusal
-unfoldable pub up_to_refusal : List Answer → List Answer
+unfoldable pub up_to_refusal : List (Answer Reason) → List (Answer Reason)
 up_to_refusal [] = []
 up_to_refusal (a ∷ answers) = a ∷ cut_at a (up_to_refusal answers)
 
@@ -70,7 +70,7 @@ pub data AgreeAll (looks : Looks) (t : List ℕ) (local : Bool) : State → List
       → AgreeAll looks t local (judge_of t local s raw).state raws → AgreeAll looks t local s (raw ∷ raws)
 
 -- the past with a step that was allowed or violated; a refused one adds nothing
-abbrev pub unless_refused : Answer → Option Step → Past → Past
+abbrev pub unless_refused : Answer Reason → Option Step → Past → Past
 unless_refused Allowed o past = then o past
 unless_refused (Violated p) o past = then o past
 unless_refused (Refused n) o past = past

@@ -14,7 +14,7 @@ ghost use Rattle.monitor_lean.specs.Promise.{LeanPromise};
 
 use monitor_sets::SETS;
 use monitor_state::{Sizes, Step, Told};
-use usage::{MOST_CREATED, MOST_UNCLOSED, POLICIES, RawStep};
+use usage::{MOST_CREATED, MOST_UNCLOSED, POLICIES, RawStep, Reason};
 
 // The bit of a policy's opening; those below it are its actions'.
 const OPENING: u32 = 32;
@@ -75,7 +75,7 @@ pub fn judge_lean(
     order: &mut [u8; MOST_UNCLOSED],
     sizes: Sizes,
     step: RawStep,
-) -> Told
+) -> Told<Reason>
     ensures order_after { judgement_of result
         (lent_of sets.new pairs.new possible.new created.new
         unclosed.new order.new)

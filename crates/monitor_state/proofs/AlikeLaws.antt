@@ -547,7 +547,7 @@ module _ (f : ℕ → ℕ) (N : ℕ → Type 0) (R : Orders f N) where
   answers-renamed t local s i (raw ∷ raws) h =
       ap (λ (j : Judgement). j.answer ∷ answers_of t local j.state (map (renamed_step f) raws))
       (judge-renamed t local s i raw (h raw (Memᴰ.head refl)))
-      ∙ ap (λ (l : List Answer). (judge_of t local s raw).answer ∷ l)
+      ∙ ap (λ (l : List (Answer Reason)). (judge_of t local s raw).answer ∷ l)
       (answers-renamed t local (judge_of t local s raw).state (judge-in t local s i raw (h raw (Memᴰ.head refl))) raws
       (λ r m. h r (Memᴰ.tail m)))
 

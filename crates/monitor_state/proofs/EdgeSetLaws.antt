@@ -90,4 +90,4 @@ module _ (t u : List ℕ) (valid : EdgeTable t) (fine : EdgeTable u) (h : SameEd
   answers_set s [] = refl
   answers_set s (raw ∷ raws) =
       ap (λ (j : Judgement). j.answer ∷ answers_of t local j.state raws) (judge-set s raw)
-      ∙ ap (λ (rest : List Answer). (judge_of u local s raw).answer ∷ rest) (answers_set (judge_of u local s raw).state raws)
+      ∙ ap (λ (rest : List (Answer Reason)). (judge_of u local s raw).answer ∷ rest) (answers_set (judge_of u local s raw).state raws)

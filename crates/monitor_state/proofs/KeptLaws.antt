@@ -60,4 +60,4 @@ judge-kept t local s raw =
 -- a refusal leaves the state as it was
 pub refused-kept : (t : List ℕ) (local : Bool) (s : State) (raw : RawStep) (n : Reason)
     → (judge_of t local s raw).answer ≡ Refused n → (judge_of t local s raw).state ≡ s
-refused-kept t local s raw n e = subst (λ (a : Answer). Kept s a (judge_of t local s raw).state) e (judge-kept t local s raw)
+refused-kept t local s raw n e = subst (λ (a : Answer Reason). Kept s a (judge_of t local s raw).state) e (judge-kept t local s raw)

@@ -111,7 +111,7 @@ pub judged-is : (t : List ℕ) → is_edge_table t ≡ true
     → Judged local (edges_of t) past h raw v → verdict_of (judge_of t local s raw).answer ≡ v
 judged-is t p local past h s R raw k = judged-unique (judge-promised t p local past h s R raw).answer k
 
-allowed-is : (a : Answer) → verdict_of a ≡ allowed → a ≡ Allowed
+allowed-is : (a : Answer Reason) → verdict_of a ≡ allowed → a ≡ Allowed
 allowed-is Allowed e = refl
 allowed-is (Violated p) e = cc
 allowed-is (Refused n) e = cc

@@ -4,6 +4,7 @@ use Rattle.std.proofs.Math.Option.{Option, none, some}
 use Rattle.std.specs.Prelude.{Option as Maybe, Some, None}
 use Rattle.usage.specs.declared.Edge.{Edge}
 use Rattle.usage.specs.Past.{Step, event, opening, closing, retiring}
+use Rattle.usage.specs.declared.Reason.{Reason}
 use Rattle.automaton.specs.Mask.{lowest_in}
 use Rattle.monitor_sets.specs.Sets.{gathered}
 use Rattle.monitor_sets.specs.Code.{event_sets}
@@ -55,6 +56,6 @@ abbrev pub halted_sizes : Sizes → Sizes
 halted_sizes z = record { count = z.count; highest = z.highest; depth = z.depth; halted = true }
 
 -- what is told of a step that leaves the policies `bad` broken
-unfoldable pub told_of : ℕ → Sizes → Sizes → Told
+unfoldable pub told_of : ℕ → Sizes → Sizes → Told Reason
 told_of bad before after =
     cond (eqb bad 0) (record { answer = Allowed; sizes = after }) (record { answer = Violated (lowest_in bad); sizes = halted_sizes before })

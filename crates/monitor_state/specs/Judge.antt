@@ -26,7 +26,7 @@ use Rattle.monitor_state.specs.declared.Answer.TheVariants.{Allowed, Violated, R
 use Rattle.monitor_state.specs.declared.Judgement.{Judgement}
 
 -- document 01's numbers for each answer
-abbrev pub verdict_of : Answer → Verdict
+abbrev pub verdict_of : Answer Reason → Verdict
 verdict_of Allowed = allowed
 verdict_of (Violated p) = violated p
 verdict_of (Refused r) = refused (number_of r)
@@ -128,6 +128,6 @@ judge_of t local s raw =
     (judge_read local (edges_of t) s (step_of raw))))
 
 -- a list of steps, each with the state that the last one returned
-unfoldable pub answers_of : List ℕ → Bool → State → List RawStep → List Answer
+unfoldable pub answers_of : List ℕ → Bool → State → List RawStep → List (Answer Reason)
 answers_of t local s [] = []
 answers_of t local s (raw ∷ raws) = let j = judge_of t local s raw in j.answer ∷ answers_of t local j.state raws

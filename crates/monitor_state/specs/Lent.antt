@@ -3,6 +3,7 @@ use Rattle.std.specs.Prelude.{ℕ, List}
 use Rattle.monitor_state.specs.declared.State.{State}
 use Rattle.monitor_state.specs.declared.Sizes.{Sizes}
 use Rattle.monitor_state.specs.declared.Judgement.{Judgement}
+use Rattle.usage.specs.declared.Reason.{Reason}
 use Rattle.monitor_state.specs.declared.Told.{Told}
 
 -- the arrays, as they are before a call or after it
@@ -27,7 +28,7 @@ state_of l z = record {
 }
 
 -- what is told, with the arrays as they were left
-abbrev pub judgement_of : Told → Lent → Judgement
+abbrev pub judgement_of : Told Reason → Lent → Judgement
 judgement_of t l = record { answer = t.answer; state = state_of l t.sizes }
 
 -- the arrays of a state, and what it has beside them

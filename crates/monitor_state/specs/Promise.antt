@@ -5,6 +5,7 @@ use Rattle.usage.specs.declared.RawStep.{RawStep}
 use Rattle.usage.specs.Past.{Past}
 use Rattle.usage.specs.Judge.{Judged, past_after, halted_after}
 use Rattle.usage.specs.Tables.{edges_of, EdgeTable}
+use Rattle.usage.specs.declared.Reason.{Reason}
 use Rattle.monitor_state.specs.declared.State.{State}
 use Rattle.monitor_state.specs.declared.Answer.{Answer}
 use Rattle.monitor_state.specs.declared.Answer.TheVariants.{Allowed, Violated, Refused}
@@ -14,7 +15,7 @@ use Rattle.monitor_state.specs.Represents.{Represents}
 
 -- What a step that is not allowed leaves: a violated one "a halted state that is otherwise the one before the step", a refused
 -- one the state before it.
-abbrev pub Kept : State → Answer → State → Type 0
+abbrev pub Kept : State → Answer Reason → State → Type 0
 Kept s Allowed t = Unit {0}
 Kept s (Violated p) t = t ≡ halt s
 Kept s (Refused n) t = t ≡ s

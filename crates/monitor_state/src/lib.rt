@@ -58,23 +58,24 @@ pub struct Sizes {
     pub halted: bool,
 }
 
+// An answer, over what a refusal says; the judge's own answers say a `Reason`.
 #[derive(Clone, Copy, PartialEq, Eq, Debug)]
-pub enum Answer {
+pub enum Answer<E> {
     Allowed,
     Violated(u8),
-    Refused(Reason),
+    Refused(E),
 }
 
 #[derive(Clone, Copy)]
 pub struct Judgement {
-    pub answer: Answer,
+    pub answer: Answer<Reason>,
     pub state: State,
 }
 
 // A judgement without the arrays of its state, which are lent.
 #[derive(Clone, Copy)]
-pub struct Told {
-    pub answer: Answer,
+pub struct Told<E> {
+    pub answer: Answer<E>,
     pub sizes: Sizes,
 }
 
@@ -107,8 +108,8 @@ pub fn read_step(step: RawStep) -> Option<Step>
     })
 }
 
-// A refused step: nothing is changed.
-pub fn refused(reason: Reason, sizes: Sizes) -> Told
+// A refused step, for whatever reason is given: nothing is changed.
+pub fn refused<E>(reason: E, sizes: Sizes) -> Told<E>
     ensures { result ≡ record { answer = Refused reason; sizes = sizes } }
 {
     Told {
@@ -119,7 +120,7 @@ pub fn refused(reason: Reason, sizes: Sizes) -> Told
 
 // The answer to a step that leaves these policies open and not respected: the lowest of them, if any. `before` and `after` are
 // the sizes before the step and after it.
-pub fn settled(broken: u8, before: Sizes, after: Sizes) -> Told
+pub fn settled(broken: u8, before: Sizes, after: Sizes) -> Told<Reason>
     ensures { result ≡ told_of broken before after }
 {
     if broken == 0 {

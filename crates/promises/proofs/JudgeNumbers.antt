@@ -64,10 +64,10 @@ no-refusal e = clash (cc)
 allows : {n : Reason} {A : Type 0} → Allowed ≡ Refused n → A
 allows e = clash (cc)
 
-allows-all : {p : ℕ} {A : Type 0} → Allowed ≡ Violated p → A
+allows-all : {p : ℕ} {A : Type 0} → ◌≡◌ {A = Answer Reason} Allowed (Violated p) → A
 allows-all e = clash (cc)
 
-abbrev number_in : Answer → ℕ
+abbrev number_in : Answer Reason → ℕ
 number_in Allowed = 0
 number_in (Violated p) = 0
 number_in (Refused n) = number_of n

@@ -5,6 +5,7 @@ use mathlib.Core.Bool.{Bool}
 use mathlib.Core.List.{List, ◌++◌, map, flatten}
 use Rattle.usage.specs.declared.RawStep.{RawStep}
 use Rattle.usage.specs.Tables.{steps_of}
+use Rattle.usage.specs.declared.Reason.{Reason}
 use Rattle.sheet_lines.specs.Sheet.{Result, accepted, refused, sheet}
 use Rattle.sheet_lines.specs.Sheets.{is_local, trace_sheet}
 use Rattle.sheet_reader.specs.Readers.{policies_read}
@@ -20,7 +21,7 @@ use Rattle.promises.specs.Demands.{Renumbered}
 rows_same : (edges : List ℕ) (local : Bool) (f : ℕ → ℕ) (line : ℕ) (steps : List RawStep) → Renaming f steps
     → judged_rows edges local start_state line (map (renamed_step f) steps) ≡ judged_rows edges local start_state line steps
 unfolding judged_rows
-rows_same edges local f line steps R = ap (λ (l : List Answer). rows line (map verdict_of l)) (start-same edges local f steps R)
+rows_same edges local f line steps R = ap (λ (l : List (Answer Reason)). rows line (map verdict_of l)) (start-same edges local f steps R)
 
 printed-same : (policies-text trace-text renamed-text : List ℕ) (rows renamed_rows : List (List ℕ)) (f : ℕ → ℕ)
     → Renaming f (steps_of (flatten rows)) → sheet trace_sheet trace-text ≡ accepted rows

@@ -11,7 +11,7 @@ ghost use Rattle.report.specs.Output.{longest_step_row, steps_room};
 ghost use Rattle.report.specs.Trace.{judged_rows, trace_rows};
 
 use monitor_state::{Answer, Sizes};
-use usage::{RawStep, STEP_FIELDS, STEP_TABLE};
+use usage::{RawStep, Reason, STEP_FIELDS, STEP_TABLE};
 
 // The rows of a trace, or of its refusal, from `at` on: the place after them.
 pub(crate) fn rows(edges: &[u8], local: bool, text: &[u8], out: &mut [u8], at: usize) -> usize
@@ -66,7 +66,7 @@ fn judge_all(edges: &[u8], local: bool, steps: &[u32], out: &mut [u8], at: usize
 
 // Document 01's two numbers for an answer.
 // Kept: two functions, as for an outcome: a pair would have to be taken apart at its one call.
-fn number_of(a: Answer) -> usize
+fn number_of(a: Answer<Reason>) -> usize
     ensures { result ≡ answer (verdict_of a) }
 {
     match a {
@@ -76,7 +76,7 @@ fn number_of(a: Answer) -> usize
     }
 }
 
-fn detail_of(a: Answer) -> usize
+fn detail_of(a: Answer<Reason>) -> usize
     ensures { result ≡ detail (verdict_of a) }
 {
     match a {
