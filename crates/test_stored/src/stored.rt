@@ -1,6 +1,7 @@
 // The stored cases of the two programs: of trace n the sheets t/np and t/nt, of outline n the sheets o/np and o/no, four digits to a
 // number. What is printed is compared with what the reference program printed for them.
 ghost use Rattle.std.specs.Prelude.{◌≡◌, [], ◌∷◌, ◌+◌, ◌%◌, ◌/◌};
+ghost use Rattle.files.specs.Counts.{IsPrefixLen};
 
 use crate::print;
 use files::Sheet;
@@ -38,7 +39,9 @@ pub(crate) fn announced(rt: &impl Print, n: u64) -> u64
 }
 
 // A sheet of case n, read.
-pub(crate) fn sheet(rt: &impl Files, folder: u8, n: u64, which: u8) -> Sheet {
+pub(crate) fn sheet(rt: &impl Files, folder: u8, n: u64, which: u8) -> Sheet
+    ensures { IsPrefixLen result.count result.bytes }
+{
     Sheet::read(rt, &name(folder, n, which))
 }
 
