@@ -11,8 +11,8 @@
  * painted stack on all stored cases. Three calls go deep: a counterexample is written by a function that calls itself once for each of at
  * most 200 steps, with less than 640 bytes each time, and tests/api/deepest goes as deep as that; the readers of an expression call each
  * other once for each of at most 32 brackets, with less than 3,400 bytes each time, and the stored cases go as deep as that; and a number is
- * printed digit by digit, at most 20. Of what the check of an outline takes, 129,024 bytes are the three tables for two watched resources, which
- * no policy asks for yet.
+ * printed digit by digit, at most 20. Of what is told for the check of an outline, 129,024 bytes are the three tables for two watched
+ * resources, which no policy asks for yet.
  *
  * Asked of every call, and not tested: a pointer is not null and points to as many elements as is told, also where that is 0; it has its
  * type's alignment; and an array that is lent to be changed overlaps no other.

@@ -31,7 +31,7 @@ fn line(text: &[u8]) -> Result<NodeList, Reason>
         nodes: NodeList::empty(),
         at: 0,
     };
-    let r = crate::phrases::choice(text, start, MOST_NESTED, [None; LABELS])?;
+    let r = crate::phrases::choice(text, &start, MOST_NESTED, [None; LABELS])?;
     if !is_at(text, r.at, b'\n') {
         return Err(Reason::ExpressionByte);
     }

@@ -58,9 +58,9 @@ fn meant(loops: Loops, label: u8, own: usize) -> u8
 
 // The nodes with that of an item that has no choice in it.
 #[inline(never)]
-fn leaf_node(leaf: Leaf, loops: Loops, nodes: NodeList) -> NodeList
-    requires { nodes.count ≤ longest_sheet }
-    ensures { Grown (loops_of loops) nodes result (leaf_of leaf) }
+fn leaf_node(leaf: Leaf, loops: Loops, nodes: &NodeList) -> NodeList
+    requires { nodes.now.count ≤ longest_sheet }
+    ensures { Grown (loops_of loops) nodes.now result (leaf_of leaf) }
 {
     match leaf {
         Leaf::End => nodes.push(Node {
@@ -99,12 +99,12 @@ fn after(count: usize) -> u8
 
 // The nodes with that of a bracket.
 #[inline(never)]
-fn opened(bracket: Bracket, nodes: NodeList) -> NodeList
-    requires { nodes.count ≤ longest_sheet }
-    ensures { Opened (bracket_of bracket) nodes result }
+fn opened(bracket: Bracket, nodes: &NodeList) -> NodeList
+    requires { nodes.now.count ≤ longest_sheet }
+    ensures { Opened (bracket_of bracket) nodes.now result }
 {
     match bracket {
-        Bracket::Round => nodes,
+        Bracket::Round => *nodes,
         Bracket::Loop(_) => nodes.push(Node {
             kind: LOOP,
             a: after(nodes.count),
@@ -177,15 +177,15 @@ fn closed(text: &[u8], bracket: Bracket, r: Read) -> Result<Read, Reason>
 // "A choice is one or more sequences joined by `+`." How often, the text tells: no range is known before.
 // Kept: a choice and a sequence are two functions: each reads its parts by a function of its own, and all three call each other.
 #[cycle(choice_item_sequence)]
-pub(crate) fn choice(text: &[u8], from: Read, nest: u8, loops: Loops) -> Result<Read, Reason>
-    requires { Readable text.now from loops }
-    ensures { PhraseAnswer choice_phrase text.now from.at nest loops from.nodes result }
+pub(crate) fn choice(text: &[u8], from: &Read, nest: u8, loops: Loops) -> Result<Read, Reason>
+    requires { Readable text.now from.now loops }
+    ensures { PhraseAnswer choice_phrase text.now from.now.at nest loops from.now.nodes result }
 {
     let mut r = sequence(text, from, nest, loops)?;
     while items::is_at(text, r.at, b'+') {
         let left = r.nodes.count;
         r.at += 1;
-        let next = sequence(text, r, nest, loops)?;
+        let next = sequence(text, &r, nest, loops)?;
         r = Read {
             nodes: next.nodes.join(CHOICE, from.nodes.count, left),
             at: next.at,
@@ -196,15 +196,15 @@ pub(crate) fn choice(text: &[u8], from: Read, nest: u8, loops: Loops) -> Result<
 
 // "A sequence is one or more items joined by `.`."
 #[cycle(choice_item_sequence)]
-pub(crate) fn sequence(text: &[u8], from: Read, nest: u8, loops: Loops) -> Result<Read, Reason>
-    requires { Readable text.now from loops }
-    ensures { PhraseAnswer sequence_phrase text.now from.at nest loops from.nodes result }
+pub(crate) fn sequence(text: &[u8], from: &Read, nest: u8, loops: Loops) -> Result<Read, Reason>
+    requires { Readable text.now from.now loops }
+    ensures { PhraseAnswer sequence_phrase text.now from.now.at nest loops from.now.nodes result }
 {
     let mut r = item(text, from, nest, loops)?;
     while items::is_at(text, r.at, b'.') {
         let left = r.nodes.count;
         r.at += 1;
-        let next = item(text, r, nest, loops)?;
+        let next = item(text, &r, nest, loops)?;
         r = Read {
             nodes: next.nodes.join(SEQUENCE, from.nodes.count, left),
             at: next.at,
@@ -215,15 +215,14 @@ pub(crate) fn sequence(text: &[u8], from: Read, nest: u8, loops: Loops) -> Resul
 
 // "An item is `0` for end, an event as `2(s3)` or `2(n0)`, `m1{choice}` for a loop labelled 1, .. or a choice in round brackets."
 #[cycle(choice_item_sequence)]
-pub(crate) fn item(text: &[u8], from: Read, nest: u8, loops: Loops) -> Result<Read, Reason>
-    requires { Readable text.now from loops }
-    ensures { PhraseAnswer item-phrase text.now from.at nest loops from.nodes result }
+pub(crate) fn item(text: &[u8], from: &Read, nest: u8, loops: Loops) -> Result<Read, Reason>
+    requires { Readable text.now from.now loops }
+    ensures { PhraseAnswer item-phrase text.now from.now.at nest loops from.now.nodes result }
 {
-    let nodes = from.nodes;
     match items::begins(text, from.at) {
         Err(_) => Err(Reason::ExpressionByte),
         Ok(Head::Atom { leaf, end }) => {
-            let nodes = leaf_node(leaf, loops, nodes);
+            let nodes = leaf_node(leaf, loops, &from.nodes);
             Ok(Read { nodes, at: end })
         }
         Ok(Head::Opens { bracket, place }) => {
@@ -231,11 +230,11 @@ pub(crate) fn item(text: &[u8], from: Read, nest: u8, loops: Loops) -> Result<Re
                 return Err(Reason::NestedTooDeep);
             }
             let inner = Read {
-                nodes: opened(bracket, nodes),
+                nodes: opened(bracket, &from.nodes),
                 at: place + 1,
             };
-            let around = bound(bracket, loops, nodes.count);
-            let r = choice(text, inner, nest - 1, around)?;
+            let around = bound(bracket, loops, from.nodes.count);
+            let r = choice(text, &inner, nest - 1, around)?;
             closed(text, bracket, r)
         }
     }
