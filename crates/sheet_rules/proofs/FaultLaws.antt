@@ -15,9 +15,12 @@ use Rattle.usage.specs.Tables.{from, nodes_of, is_node_table}
 use Rattle.usage.proofs.TableLaws.{nodes-length}
 use Rattle.usage.proofs.Logic.{false-true}
 use Rattle.sheet_rules.specs.Code.{is_nothing}
+use Rattle.sheet_rules.specs.Rules.{all_but}
 use Rattle.sheet_rules.specs.Faults.{fault}
-use Rattle.std.specs.Prelude.{Result as Returned, Ok, Err}
+use Rattle.sheet_rules.proofs.RuleLaws.{lowest-below, lowest-none, lowest-but}
+use Rattle.std.specs.Prelude.{Result as Returned, Ok, Err, Some, None}
 use Rattle.std.specs.Result.{is_ok}
+use Rattle.usage.specs.declared.Node.{Node}
 use Rattle.usage.specs.declared.SheetRefusal.{SheetRefusal}
 
 -- ── The refusal ──
@@ -47,6 +50,17 @@ module _ (t : List ℕ) where
       → b ≡ numbered 6 (lowest_failing test 0 (length t / node_fields)) → or_else a (or_else b later) ≡ ruled_by test (nodes_of t)
   unfolding ruled_by
   by-parts test e f = rw (e, f, nodes-length t) refl
+
+-- The rules by any rule for 6 are those where the lowest node that fails it fails alone: whoever finds that node needs no more than
+-- `ruled_failing`.
+module _ (test : ℕ → Bool) (ns : List Node) where
+  pub failing-at : (k : ℕ) → lowest_failing test 0 (length ns) ≡ some k → ruled_by (all_but (Some k)) ns ≡ ruled_by test ns
+  unfolding ruled_by
+  failing-at k e = rw (e, lowest-but k 0 (length ns) (omega arith) (omega (arith, lowest-below test 0 (length ns) k e))) refl
+
+  pub failing-nowhere : lowest_failing test 0 (length ns) ≡ none → ruled_by (all_but None) ns ≡ ruled_by test ns
+  unfolding ruled_by
+  failing-nowhere e = rw (e, lowest-none 0 (length ns)) refl
 
 -- ── A table that is lent to be used ──
 

@@ -6,7 +6,7 @@ ghost use Rattle.std.specs.Prelude.{◌≡◌, ℕ, Bool, ◌/◌, ◌<◌, leng
 ghost use Rattle.usage.specs.Limits.{node_fields};
 ghost use Rattle.usage.specs.Tables.{nodes_of, is_node_table};
 ghost use Rattle.usage.specs.Tests.{every, node_ok, back_ok_lem, name_ok_lem, lowest_failing, or_else, numbered, no_nodes, ruled_by, ruled as ruled_nodes, ruled_sheet as ruled_lines};
-ghost use Rattle.sheet_rules.specs.Rules.{passes as passes_of};
+ghost use Rattle.sheet_rules.specs.Rules.{passes as passes_of, all_but};
 ghost use Rattle.sheet_rules.specs.Faults.{fault};
 
 use crate::node_rules::{back_ok, each, name_ok, place_and_tree_ok};
@@ -47,6 +47,20 @@ pub fn ruled_first(table: &[u8], places: &[u8], first: Rule) -> Result<(), Sheet
         Rule::Back => ruled_where(table, |k| back_ok(table, k)),
         Rule::Name => ruled_where(table, |k| name_ok(table, k)),
     }
+}
+
+// Those where this node alone breaks the rule for 6, if any does. A caller with a rule of its own gives the lowest node that fails it, and
+// has the answer by that rule (the laws `failing-at` and `failing-nowhere`); of a closure something would have to be asked.
+pub fn ruled_failing(table: &[u8], failing: Option<usize>) -> Result<(), SheetRefusal>
+    ensures { fault result ≡ ruled_by (all_but failing) (nodes_of table.now) }
+{
+    ruled_where(table, |k| is_other(failing, k))
+}
+
+fn is_other(failing: Option<usize>, k: usize) -> bool
+    ensures { result ≡ all_but failing k }
+{
+    failing != Some(k)
 }
 
 // Those of a sheet of nodes, whose lines hold these numbers.
