@@ -1,7 +1,7 @@
 -- The laws of a whole table of nodes: every node in range, and the refusal by what is found.
 use Prim.Native.Nat.{ℕ, suc, ◌-◌, ◌/◌, ◌%◌, ◌<◌, ◌≤◌}
 use mathlib.Core.Path.{◌≡◌, refl, sym, ap, ◌∙◌}
-use mathlib.Core.Bool.{Bool, true, false, ◌&&◌}
+use mathlib.Core.Bool.{Bool, true, false, not, ◌&&◌}
 use mathlib.Core.Option.{Option, none, some}
 use mathlib.Core.List.{List}
 use native.Mathlib.Omega.{arith}
@@ -17,8 +17,8 @@ use Rattle.usage.proofs.Logic.{false-true}
 use Rattle.sheet_rules.specs.Code.{is_nothing}
 use Rattle.sheet_rules.specs.Rules.{all_but}
 use Rattle.sheet_rules.specs.Faults.{fault}
-use Rattle.sheet_rules.proofs.RuleLaws.{lowest-below, lowest-none, lowest-but}
-use Rattle.std.specs.Prelude.{Result as Returned, Ok, Err, Some, None}
+use Rattle.usage.proofs.RuledLaws.{First, none-lowest, some-lowest}
+use Rattle.std.specs.Prelude.{Result as Returned, Ok, Err, Option as Maybe, Some, None}
 use Rattle.std.specs.Result.{is_ok}
 use Rattle.usage.specs.declared.Node.{Node}
 use Rattle.usage.specs.declared.SheetRefusal.{SheetRefusal}
@@ -51,16 +51,27 @@ module _ (t : List ℕ) where
   unfolding ruled_by
   by-parts test e f = rw (e, f, nodes-length t) refl
 
+-- of n nodes the lowest that fails a test, or none does
+abbrev pub LowestFailing : (ℕ → Bool) → ℕ → Maybe ℕ → Type 0
+LowestFailing test n None = (k : ℕ) → k < n → test k ≡ true
+LowestFailing test n (Some k) = First test 0 n k
+
 -- The rules by any rule for 6 are those where the lowest node that fails it fails alone: whoever finds that node needs no more than
 -- `ruled_failing`.
-module _ (test : ℕ → Bool) (ns : List Node) where
-  pub failing-at : (k : ℕ) → lowest_failing test 0 (length ns) ≡ some k → ruled_by (all_but (Some k)) ns ≡ ruled_by test ns
-  unfolding ruled_by
-  failing-at k e = rw (e, lowest-but k 0 (length ns) (omega arith) (omega (arith, lowest-below test 0 (length ns) k e))) refl
-
-  pub failing-nowhere : lowest_failing test 0 (length ns) ≡ none → ruled_by (all_but None) ns ≡ ruled_by test ns
-  unfolding ruled_by
-  failing-nowhere e = rw (e, lowest-none 0 (length ns)) refl
+pub ruled-failing : (test : ℕ → Bool) (ns : List Node) (o : Maybe ℕ) → LowestFailing test (length ns) o
+    → ruled_by (all_but o) ns ≡ ruled_by test ns
+unfolding ruled_by
+ruled-failing test ns None f =
+    rw (none-lowest test 0 (length ns) (λ k l h. f k (omega arith)), none-lowest (all_but None) 0 (length ns) (λ k l h. refl)) refl
+ruled-failing test ns (Some k) f = rw (some-lowest test 0 (length ns) k f, some-lowest (all_but (Some k)) 0 (length ns) k alone) refl
+  where
+    alone : First (all_but (Some k)) 0 (length ns) k
+    alone = record {
+      from-k = f.from-k;
+      before = f.before;
+      failing = ap not (eq-eqb k k refl);
+      passing = λ j l h. ap not (ne_eqb k j (λ e. absurd (omega (arith, e))));
+    }
 
 -- ── A table that is lent to be used ──
 

@@ -4,12 +4,10 @@ use mathlib.Core.Path.{◌≡◌, refl, sym, ap, ◌∙◌}
 use mathlib.Core.Bool.{Bool, true, false, not, ◌&&◌, and-true}
 use mathlib.Core.Option.{none, some}
 use mathlib.Core.List.{List, [], ◌∷◌}
-use mathlib.Core.Logic.{◌⊎◌, inl, inr}
 use native.Mathlib.Omega.{arith}
 use native.Mathlib.Nat.{sub-zero}
 use native.Mathlib.Numerals.{add-one}
 use lib.Dec.{eqb}
-use Rattle.std.proofs.lemmas.Bool.Decides.{eqb_tells}
 use lib.ListN.{length, get_or, get_elem?}
 use Rattle.usage.specs.Limits.{node_fields}
 use Rattle.usage.specs.Outline.{form_at}
@@ -17,8 +15,6 @@ use Rattle.usage.specs.Tests.{back_ok_lem, name_ok_lem, place_ok, is_some, loop_
 use Rattle.usage.specs.Tables.{nodes_of}
 use Rattle.usage.proofs.Logic.{clash}
 use Rattle.sheet_fields.proofs.RangeLaws.{past_end}
-use Rattle.std.specs.Prelude.{◌≢◌, Some, None}
-use Rattle.sheet_rules.specs.Rules.{all_but}
 use Rattle.sheet_rules.proofs.NodeLaws.{target_at, uses-at, gives_at, other-kind, this-kind}
 
 -- ── One node ──
@@ -105,20 +101,3 @@ lowest-below test k (suc m) j e = go (test k) (lowest-below test (suc k) m j) e
         → j < k + suc m
     go true ih q = let l = ih q in omega arith
     go false ih q = let z : k ≡ j = cc in omega arith
-
--- of a test that one node alone fails, or none
-pub lowest-none : (k m : ℕ) → lowest_failing (all_but None) k m ≡ none
-unfolding lowest_failing
-lowest-none k zero = refl
-lowest-none k (suc m) = lowest-none (suc k) m
-
-pub lowest-but : (j k m : ℕ) → k ≤ j → j < k + m → lowest_failing (all_but (Some j)) k m ≡ some j
-unfolding lowest_failing
-lowest-but j k zero l h = absurd (omega arith)
-lowest-but j k (suc m) l h = go (λ l h. lowest-but j (suc k) m l h) (eqb_tells j k)
-  where
-    go : (suc k ≤ j → j < suc k + m → lowest_failing (all_but (Some j)) (suc k) m ≡ some j)
-        → ((eqb j k ≡ true) × (j ≡ k)) ⊎ ((eqb j k ≡ false) × (j ≢ k))
-        → first_of (not (eqb j k)) k (lowest_failing (all_but (Some j)) (suc k) m) ≡ some j
-    go ih (inl e) = rw e.0 (ap some (sym e.1))
-    go ih (inr e) = let d = e.1 in rw e.0 (ih (omega arith) (omega arith))

@@ -50,7 +50,7 @@ pub fn ruled_first(table: &[u8], places: &[u8], first: Rule) -> Result<(), Sheet
 }
 
 // Those where this node alone breaks the rule for 6, if any does. A caller with a rule of its own gives the lowest node that fails it, and
-// has the answer by that rule (the laws `failing-at` and `failing-nowhere`); of a closure something would have to be asked.
+// has the answer by that rule (the law `ruled-failing`); of a closure something would have to be asked.
 pub fn ruled_failing(table: &[u8], failing: Option<usize>) -> Result<(), SheetRefusal>
     ensures { fault result ≡ ruled_by (all_but failing) (nodes_of table.now) }
 {

@@ -1,5 +1,5 @@
 // The rules where 6 asks what a closure does, from public names alone: the caller finds the lowest node that fails.
-ghost use Rattle.std.specs.Prelude.{◌≡◌, ℕ, Bool, ◌/◌, ◌<◌, ltb, length};
+ghost use Rattle.std.specs.Prelude.{◌≡◌, ◌≢◌, ℕ, Bool, ◌/◌, ◌<◌, ltb, length};
 ghost use Rattle.usage.specs.Limits.{node_fields};
 ghost use Rattle.usage.specs.Tables.{nodes_of};
 ghost use Rattle.usage.specs.Tests.{ruled_by};
@@ -10,7 +10,7 @@ use std::test::Fail;
 use usage::{NODE_FIELDS, Reason, SheetRefusal};
 
 #[derive(Clone, Copy, Debug)]
-struct Other {
+struct Mismatch {
     got: Result<(), SheetRefusal>,
     want: Result<(), SheetRefusal>,
 }
@@ -36,20 +36,21 @@ fn below(table: &[u8], most: usize) -> Result<(), SheetRefusal>
     ruled_where(table, |k| k < most)
 }
 
-fn at(line: usize, reason: Reason) -> Result<(), SheetRefusal>
+fn refusal(line: usize, reason: Reason) -> Result<(), SheetRefusal>
     ensures { result ≡ Err record { line = line; reason = reason } }
 {
     Err(SheetRefusal { line, reason })
 }
 
 // Nothing where the answer is the one that is wanted; else both, and the test fails.
-fn is(got: Result<(), SheetRefusal>, want: Result<(), SheetRefusal>) -> Result<(), Other>
-    ensures { (u : _) → result ≡ Ok u → got ≡ want }
+fn expect(got: Result<(), SheetRefusal>, want: Result<(), SheetRefusal>) -> Result<(), Mismatch>
+    ensures right { (u : _) → result ≡ Ok u → got ≡ want }
+    ensures wrong { (r : _) → result ≡ Err r → (r ≡ record { got = got; want = want }) × (got ≢ want) }
 {
     match (got, want) {
         (Ok(()), Ok(())) => Ok(()),
         (Err(a), Err(b)) if a == b => Ok(()),
-        _ => Err(Other { got, want }),
+        _ => Err(Mismatch { got, want }),
     }
 }
 
@@ -61,27 +62,27 @@ const NAMED: [u8; 9] = [3, 1, 2, 0, 0, 0, 2, 1, 5];
 
 #[test]
 fn the_node_that_fails() -> Result<(), Fail> {
-    is(ruled_failing(&[], None), at(2, Reason::NoNodes))?;
-    is(ruled_failing(&[], Some(0)), at(2, Reason::NoNodes))?;
-    is(ruled_failing(&[0, 0, 0], None), Ok(()))?;
-    is(ruled_failing(&[0, 0, 0], Some(0)), at(2, Reason::Tree))?;
-    is(ruled_failing(&[0, 0, 0], Some(1)), Ok(()))?;
-    is(ruled_failing(&[0, 0, 0], Some(usize::MAX)), Ok(()))?;
-    is(ruled_failing(&WRONG, Some(0)), at(2, Reason::Tree))?;
-    is(ruled_failing(&WRONG, Some(2)), at(4, Reason::Tree))?;
-    is(ruled_failing(&WRONG, Some(3)), at(3, Reason::Back))?;
-    is(ruled_failing(&WRONG, None), at(3, Reason::Back))?;
-    is(ruled_failing(&NAMED, Some(1)), at(3, Reason::Tree))?;
-    is(ruled_failing(&NAMED, None), at(4, Reason::Name))?;
+    expect(ruled_failing(&[], None), refusal(2, Reason::NoNodes))?;
+    expect(ruled_failing(&[], Some(0)), refusal(2, Reason::NoNodes))?;
+    expect(ruled_failing(&[0, 0, 0], None), Ok(()))?;
+    expect(ruled_failing(&[0, 0, 0], Some(0)), refusal(2, Reason::Tree))?;
+    expect(ruled_failing(&[0, 0, 0], Some(1)), Ok(()))?;
+    expect(ruled_failing(&[0, 0, 0], Some(usize::MAX)), Ok(()))?;
+    expect(ruled_failing(&WRONG, Some(0)), refusal(2, Reason::Tree))?;
+    expect(ruled_failing(&WRONG, Some(2)), refusal(4, Reason::Tree))?;
+    expect(ruled_failing(&WRONG, Some(3)), refusal(3, Reason::Back))?;
+    expect(ruled_failing(&WRONG, None), refusal(3, Reason::Back))?;
+    expect(ruled_failing(&NAMED, Some(1)), refusal(3, Reason::Tree))?;
+    expect(ruled_failing(&NAMED, None), refusal(4, Reason::Name))?;
     Ok(())
 }
 
 #[test]
 fn a_rule_of_ones_own() -> Result<(), Fail> {
-    is(below(&[], 0), at(2, Reason::NoNodes))?;
-    is(below(&WRONG, 1), at(3, Reason::Tree))?;
-    is(below(&WRONG, 3), at(3, Reason::Back))?;
-    is(below(&NAMED, 0), at(2, Reason::Tree))?;
-    is(below(&NAMED, 3), at(4, Reason::Name))?;
+    expect(below(&[], 0), refusal(2, Reason::NoNodes))?;
+    expect(below(&WRONG, 1), refusal(3, Reason::Tree))?;
+    expect(below(&WRONG, 3), refusal(3, Reason::Back))?;
+    expect(below(&NAMED, 0), refusal(2, Reason::Tree))?;
+    expect(below(&NAMED, 3), refusal(4, Reason::Name))?;
     Ok(())
 }

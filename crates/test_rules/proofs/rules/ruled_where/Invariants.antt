@@ -1,7 +1,5 @@
-use Rattle.usage.specs.Tests.{lowest_failing}
-use Prim.Native.Nat.{◌-◌}
-use mathlib.Core.Path.{◌≡◌}
+use Rattle.std.specs.Prelude.{ℕ, ◌<◌, ◌≡◌, true}
 use Rattle.test_rules.proofs.rules.ruled_where.Given as goal
 
 abbrev pub invariant-loop-k : goal.invariant-loop-k
-invariant-loop-k g l = lowest_failing g.test l.k (l.k-end - l.k) ≡ lowest_failing g.test 0 l.k-end
+invariant-loop-k g l = (j : ℕ) → j < l.k → g.test j ≡ true
